@@ -14,6 +14,6 @@ unfoldable pub Rose : ℕ → ℕ → Type 0
 Rose old new = (old < new) ⊎ ((old ≡ last_count) × (new ≡ last_count))
 
 -- an error comes only where the count rose, and a success leaves the count
-unfoldable pub HasCause : {A E : Type 0} → ℕ → ℕ → Result A E → Type 0
+abbrev pub HasCause : {A E : Type 0} → ℕ → ℕ → Result A E → Type 0
 HasCause old new (Ok x) = new ≡ old
 HasCause old new (Err e) = Rose old new
