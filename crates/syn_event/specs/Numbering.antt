@@ -19,11 +19,11 @@ entry_at numbers e = if e == 0 then None else slice_get numbers.entries (e - 1)
 
 -- the task that owns the entry
 abbrev pub owner_of : Numbering → ℕ → ℕ
-owner_of numbers e = option_map_or (λ info. info.owner) 0 (entry_at numbers e)
+owner_of numbers e = option_map_or (λ info. info.owner) (entry_at numbers e) 0
 
 -- a rewriter added the task
 abbrev pub is_added_task : Numbering → ℕ → Bool
-is_added_task numbers t = option_map_or (λ info. info.added) false (task_at numbers t)
+is_added_task numbers t = option_map_or (λ info. info.added) (task_at numbers t) false
 
 abbrev pub is_original_task : TaskInfo → Bool
 is_original_task info = not info.added
