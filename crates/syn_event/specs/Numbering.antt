@@ -1,5 +1,5 @@
 -- The numbers of a program as plain data, and what is read off them (this project's rule).
-use Rattle.std.specs.Prelude.{ℕ, ℤ, Bool, true, false, not, ◌==◌, ◌-◌, if◌then◌else◌, List, [], ◌∷◌, slice_get, count_by, drop, Option, Some, None}
+use Rattle.std.specs.Prelude.{ℕ, ℤ, Bool, true, false, not, ◌==◌, ◌-◌, if◌then◌else◌, ◌&&◌, ◌+◌, List, [], ◌∷◌, slice_get, count_by, position, drop, Option, option_map, Some, None}
 use Rattle.std.specs.Option.{option_map_or}
 use Rattle.ada_tree.specs.declared.naming.NameId.{NameId}
 use Rattle.syn_event.specs.declared.numbering.TaskInfo.{TaskInfo}
@@ -37,3 +37,12 @@ original_tasks numbers = count_by is_original_task (drop 1 numbers.tasks)
 
 abbrev pub original_entries : Numbering → ℕ
 original_entries numbers = count_by is_original_entry numbers.entries
+
+-- the first task of that name
+abbrev pub task_named : Numbering → NameId → Option ℕ
+task_named numbers name = position (λ info. info.name.0 == name.0) numbers.tasks
+
+-- the first entry of that name among those of the owner, counted from 1
+abbrev pub entry_named : Numbering → ℕ → NameId → Option ℕ
+entry_named numbers owner name =
+    option_map (λ k. k + 1) (position (λ info. (info.owner == owner) && (info.name.0 == name.0)) numbers.entries)

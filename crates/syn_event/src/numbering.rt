@@ -1,5 +1,7 @@
 // The numbers of a program's tasks and entries.
 
+ghost use Rattle.std.specs.Prelude.{◌≡◌, ◌==◌, ◌&&◌, ◌<◌, position, length, IfSome};
+
 use ada_tree::NameId;
 use std::marker::Model;
 
@@ -15,10 +17,13 @@ pub struct Numbers {
 
 impl Model for Numbers {
     ghost use Rattle.syn_event.specs.Numbering.{Numbering};
+    ghost use Rattle.std.specs.Prelude.{◌≤◌, ◌<◌, ◌^◌, length, vec_len};
 
     ghost Value = { Numbering };
 
     ghost view = { λ n. record { main = n.main; tasks = n.tasks.items; entries = n.entries.items } };
+
+    ghost invariant = { λ n. (vec_len n.tasks < 2 ^ 32) × (vec_len n.entries < 2 ^ 32) };
 }
 
 /// A task: its name, whether a rewriter added it, and the task or task type whose body it runs. A member of an array of tasks has its index,
@@ -53,7 +58,7 @@ pub enum Mode {
 
 impl Numbers {
     ghost use Rattle.std.specs.Prelude.{◌≡◌, option_copied};
-    ghost use Rattle.syn_event.specs.Numbering.{entry_at, task_at, owner_of, is_added_task};
+    ghost use Rattle.syn_event.specs.Numbering.{entry_at, task_at, owner_of, is_added_task, task_named, entry_named};
 
     /// The entry of this number, from 1.
     pub fn entry(&self, e: u32) -> Option<&EntryInfo>
@@ -84,4 +89,42 @@ impl Numbers {
             None => false,
         }
     }
+
+    /// The number of the first task of that name, the main program among them.
+    pub fn task_named(&self, name: NameId) -> Option<u32>
+        ensures { result ≡ task_named self.now name }
+    {
+        match task_place(&self.tasks, name) {
+            Some(place) => Some(place as u32),
+            None => None,
+        }
+    }
+
+    /// The number, from 1, of the first entry of that name among those that the task `owner` has.
+    pub fn entry_named(&self, owner: u32, name: NameId) -> Option<u32>
+        ensures { result ≡ entry_named self.now owner name }
+    {
+        match entry_place(&self.entries, owner, name) {
+            Some(place) => Some(place as u32 + 1),
+            None => None,
+        }
+    }
+}
+
+// The place of the first task of that name.
+fn task_place(tasks: &[TaskInfo], name: NameId) -> Option<usize>
+    ensures place { result ≡ position (λ info. info.name.0 == name.0) tasks.now }
+    ensures within { IfSome result (λ place. place < length tasks.now) }
+{
+    tasks.iter().position(|info| info.name.0 == name.0)
+}
+
+// The place of the first entry of that name that the task owns.
+fn entry_place(entries: &[EntryInfo], owner: u32, name: NameId) -> Option<usize>
+    ensures place { result ≡ position (λ info. (info.owner == owner) && (info.name.0 == name.0)) entries.now }
+    ensures within { IfSome result (λ place. place < length entries.now) }
+{
+    entries
+        .iter()
+        .position(|info| info.owner == owner && info.name.0 == name.0)
 }
