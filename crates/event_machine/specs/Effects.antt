@@ -1,4 +1,4 @@
--- What each action does: the state after it and its event, one clause for each (9.5, 9.7, 9.10, 11.4.1, 11.5; the rules of abort are this project's).
+-- What each action does: the state after it and its event, one clause for each (9.4, 9.5, 9.7, 9.10, 11.4.1, 11.5; the rules of abort are this project's).
 use Rattle.std.specs.Prelude.{ℕ, ℤ, Bool, true, false, not, ◌==◌, if◌then◌else◌, List, [], ◌∷◌, ◌++◌, filter, Option, Some, None}
 use Rattle.event_machine.specs.declared.CallForm.{CallForm}
 use Rattle.event_machine.specs.declared.Standing.{Standing}
@@ -53,20 +53,22 @@ met rules seats c Finishes = seats
 met rules seats c Ends = seats
 met rules seats c (Aborts x) = seats
 
--- The caller as its rendezvous with this acceptor ends: an abnormal one completes, and else it is live again.
-abbrev pub parted : {L : Type 0} → Ops L → L → Seat L → Seat L
-parted ops acceptor seat =
-    if is_abnormal seat.standing then completed seat.local else live (ops.resumed acceptor seat.local)
+-- A caller as its rendezvous with the acceptor a, in this state, ends: an abnormal one completes, and else it is live again. Who is not served by a stays as it is.
+abbrev pub parted : {L : Type 0} → Ops L → ℕ → L → Seat L → Seat L
+parted ops a acceptor seat =
+    if is_served_by a seat.standing
+    then (if is_abnormal seat.standing then completed seat.local else live (ops.resumed acceptor seat.local))
+    else seat
 
--- the innermost rendezvous of an acceptor with these callers has ended for its caller
-abbrev pub released_first : {L C : Type 0} → Rules L C → L → List ℕ → C → C
-released_first rules acceptor [] seats = seats
-released_first rules acceptor (c ∷ callers) seats = rules.store.put seats c (parted rules.ops acceptor (rules.store.at seats c))
+-- the innermost rendezvous of the acceptor a, in this state and with these callers, has ended for its caller
+abbrev pub released_first : {L C : Type 0} → Rules L C → ℕ → L → List ℕ → C → C
+released_first rules a acceptor [] seats = seats
+released_first rules a acceptor (c ∷ callers) seats = rules.store.put seats c (parted rules.ops a acceptor (rules.store.at seats c))
 
 -- The innermost rendezvous of a has ended on both sides.
 abbrev pub parted_both : {L C : Type 0} → Rules L C → C → ℕ → C
 parted_both rules seats a =
-    released_first rules (rules.store.at seats a).local (rules.ops.callers (rules.store.at seats a).local)
+    released_first rules a (rules.store.at seats a).local (rules.ops.callers (rules.store.at seats a).local)
     (freed rules.store rules.ops.finished seats a)
 
 -- A task as the task x closes: a caller in a rendezvous with x gets TASKING_ERROR at its call, or completes where it is abnormal.

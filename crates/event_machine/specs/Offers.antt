@@ -13,7 +13,8 @@ pub data Offer : Type 0 where
   Nothing : Offer
   -- a call, in a form, of the member i of the entry e
   Calls : CallForm → ℕ → ℤ → Offer
-  -- a wait with its open choices
+  -- a wait with the choices that can be taken: the open accept alternatives in written order, the else part, the open delays of least
+  -- duration (each once, the earlier written ones first), and an open terminate
   Waits : List Choice → Offer
   -- it stands at the end of its innermost accept body
   Finishes : Offer
@@ -63,15 +64,6 @@ waits_with test (Waits choices) = list_any test choices
 waits_with test Finishes = false
 waits_with test Ends = false
 waits_with test (Aborts x) = false
-
--- The offer is a wait.
-abbrev pub is_wait : Offer → Bool
-is_wait Nothing = false
-is_wait (Calls form e i) = false
-is_wait (Waits choices) = true
-is_wait Finishes = false
-is_wait Ends = false
-is_wait (Aborts x) = false
 
 abbrev pub is_finish : Offer → Bool
 is_finish Nothing = false

@@ -1,14 +1,14 @@
 -- When each action applies: the conditions of the table of actions, one clause for each (9.5, 9.7, 9.10, 9.4; that a conditional call may meet
 -- a selective wait with an else part, and what abort does, are this project's rules).
-use Rattle.std.specs.Prelude.{ℕ, ℤ, Bool, true, false, not, ◌&&◌, ◌||◌, ◌==◌, ◌+◌, suc, pred, zero, List, [], ◌∷◌, ◌++◌, filter, Option, Some, None, is_some}
-use Rattle.std.specs.List.{list_any, list_all, filter_map}
+use Rattle.std.specs.Prelude.{ℕ, ℤ, Bool, true, false, not, ◌&&◌, ◌||◌, ◌==◌, suc, pred, zero, List, [], ◌∷◌, ◌++◌, filter, Option, Some, None, is_some}
+use Rattle.std.specs.List.{filter_map}
 use Rattle.event_machine.specs.declared.CallForm.{CallForm}
 use Rattle.event_machine.specs.declared.CallForm.TheVariants.{Plain, Conditional, Timed}
 use Rattle.event_machine.specs.declared.Choice.{Choice}
 use Rattle.event_machine.specs.declared.Choice.TheVariants.{Accept, Else as ElseChoice, Delay as DelayChoice, Terminate}
 use Rattle.event_machine.specs.declared.Action.{Action}
 use Rattle.event_machine.specs.declared.Action.TheVariants.{Local, Arrive, Start, Finish, Else, Delay, CallElse, Expire, Fail, Complete, Abort, End}
-use Rattle.event_machine.specs.Offers.{Offer, Nothing, Calls, Waits, Finishes, Ends, Aborts, calls_in, is_any_form, queues_up, is_conditional, is_timed, waits_with, is_wait, is_finish, is_end, aborted_by, opens, is_else, is_delay, is_terminate}
+use Rattle.event_machine.specs.Offers.{Offer, Nothing, Calls, Waits, Finishes, Ends, Aborts, calls_in, is_any_form, queues_up, is_conditional, is_timed, waits_with, is_finish, is_end, aborted_by, opens, is_else, is_delay, is_terminate}
 use Rattle.event_machine.specs.Seats.{Ops, Seat, State, Store, Rules, Seen, seen, is_live, is_waiting, is_queued, is_completed, is_closed}
 
 abbrev pub offer_at : {L : Type 0} → Ops L → Seen L → ℕ → Offer

@@ -33,7 +33,7 @@ pub enum Choice {
 pub enum Event {
     /// A rendezvous of the caller `c` at the member `i` of the entry `e` starts.
     R { c: u32, e: u32, i: i32 },
-    /// The innermost rendezvous of the acceptor `a` ends.
+    /// The innermost rendezvous of the acceptor `a` ends at the end of its body. (One that ends since `a` is aborted has no such event.)
     E { a: u32 },
     /// The task `a` takes the else part of its selective wait.
     S { a: u32 },
@@ -76,7 +76,7 @@ pub enum Action {
     Fail { c: u32 },
     /// `a` completes.
     Complete { a: u32 },
-    /// `t` aborts the next name of its abort statement.
+    /// `t` aborts the task that its abort statement names next.
     Abort { t: u32 },
     /// The program ends.
     End,
@@ -94,7 +94,7 @@ pub enum Standing {
     Queued,
     /// It is the caller in a rendezvous with the acceptor `by`; abnormal once it was aborted there.
     Served { by: u32, abnormal: bool },
-    /// It has completed, or was aborted by itself or as an abnormal caller.
+    /// It has completed: at its end, by aborting itself, or as an abnormal caller whose rendezvous has ended.
     Completed,
     /// Another task aborted it while it was neither closed nor served.
     Killed,
