@@ -1,5 +1,5 @@
 -- The plain mirror of statements, bodies, handlers, alternatives and arms, with the view of each type in it. A list of one of these is a row of the family; `row_of` and its kin make the row of a list.
-use Rattle.std.specs.Prelude.{ℕ, Bool, List, [], ◌∷◌, Option, map, option_map, string_bytes}
+use Rattle.std.specs.Prelude.{ℕ, Bool, List, [], ◌∷◌, Option, Some, None, map, option_map, string_bytes}
 use Rattle.ada_tree.specs.declared.naming.Span.{Span}
 use Rattle.ada_tree.specs.declared.naming.Word.{Word}
 use Rattle.ada_tree.specs.declared.statements.Target.{Target}
@@ -170,6 +170,11 @@ abbrev pub handlers_of : List PHandler → PHandlers
 handlers_of [] = no_handler
 handlers_of (x ∷ xs) = handler_then x (handlers_of xs)
 
+-- statements that may be left out, as an option of a list
+abbrev pub maybe_of : Option (List PStmt) → PMaybe
+maybe_of None = absent
+maybe_of (Some xs) = present (row_of xs)
+
 -- the views of the types outside the family
 abbrev pub plain_target : Target → PTarget
 plain_target x = record { name = x.name; index = option_map plain_expr x.index }
@@ -270,3 +275,7 @@ plain_stmt x = stmt_at x.kind x.span
 
 abbrev pub plain_alt : Alt → PAlt
 plain_alt x = alternative (option_map plain_expr x.guard) (plain_alt_kind x.kind) x.span
+
+-- the statements of a list of the code, as a row; and those of an optional one
+abbrev pub seen : List Stmt → PStmts
+seen xs = row_of (map plain_stmt xs)
