@@ -26,8 +26,8 @@ others_can_end-not s zero t h le stuck = absurd (omega arith)
 others_can_end-not s (suc n) t h le stuck =
     let split : (t ≡ suc n) ⊎ (t ≤ n) = grind arith in
     elim split [
-      inl e ↦ and_false (others_can_end task_ops s n) (can_end task_ops (s.tasks (suc n))) (subst (λ k. can_end task_ops (s.tasks k) ≡ false) e stuck)
-    | inr below ↦ and_false_left (others_can_end task_ops s n) (can_end task_ops (s.tasks (suc n))) (others_can_end-not s n t h below stuck)
+      | inl e ↦ and_false (others_can_end task_ops s n) (can_end task_ops (s.tasks (suc n))) (subst (λ k. can_end task_ops (s.tasks k) ≡ false) e stuck)
+      | inr below ↦ and_false_left (others_can_end task_ops s n) (can_end task_ops (s.tasks (suc n))) (others_can_end-not s n t h below stuck)
     ]
 
 -- what is below a number is at most the one before it

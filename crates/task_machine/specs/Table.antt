@@ -1,5 +1,5 @@
 -- The table of actions for the tasks of one program, kept in a list by their numbers.
-use Rattle.std.specs.Prelude.{ℕ, ℤ, Bool, List, Option, length, slice_index_or}
+use Rattle.std.specs.Prelude.{ℕ, ℤ, Bool, List, Option, if◌then◌else◌, length, slice_index_or}
 use Rattle.event_machine.specs.declared.Action.{Action}
 use Rattle.event_machine.specs.declared.Event.{Event}
 use Rattle.event_machine.specs.declared.Choice.{Choice}
@@ -7,9 +7,10 @@ use Rattle.event_machine.specs.Offers.{Offer}
 use Rattle.event_machine.specs.Seats as seats
 use Rattle.event_machine.specs.Rows as rows
 use Rattle.event_machine.specs.Effects as effects
+use Rattle.ada_value.specs.declared.Raised.{Raised}
 use Rattle.syn_event.specs.Numbering.{Numbering, owner_of}
 use Rattle.task_local.specs.Control.{Task}
-use Rattle.task_local.specs.Steps.{task_ops, nobody, offer_of}
+use Rattle.task_local.specs.Steps.{task_ops, nobody, offer_of, call_left}
 
 abbrev pub Tasks : Type 0
 Tasks = List (seats.Seat Task)
@@ -19,9 +20,13 @@ pub record Whole : Type 0 where
   pub numbers : Numbering
   pub state : seats.State Tasks
 
+-- the tasks are kept in a list
+abbrev pub store : seats.Store Task Tasks
+store = seats.on_list task_ops
+
 -- the rules of a program with these numbers
 abbrev pub rules_of : Numbering → seats.Rules Task Tasks
-rules_of numbers = record { ops = task_ops; store = seats.on_list task_ops; owner = owner_of numbers }
+rules_of numbers = record { ops = task_ops; store = store; owner = owner_of numbers }
 
 -- the task of a number, and what it offers
 abbrev pub seat_of : Tasks → ℕ → seats.Seat Task
@@ -29,6 +34,13 @@ seat_of tasks t = slice_index_or tasks t (seats.completed nobody)
 
 abbrev pub offer_in_seat : seats.Seat Task → Offer
 offer_in_seat seat = offer_of seat.local
+
+-- a caller of the acceptor a as the rendezvous ends with this exception pending, if any
+abbrev pub parted_by : ℕ → Option Raised → seats.Seat Task → seats.Seat Task
+parted_by a pending seat =
+    if seats.is_served_by a seat.standing
+    then (if seats.is_abnormal seat.standing then seats.completed seat.local else seats.live (call_left pending seat.local))
+    else seat
 
 -- what conditions read of tasks and the line of arrivals
 abbrev pub seen_in : Tasks → List ℕ → seats.Seen Task

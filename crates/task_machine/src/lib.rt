@@ -2,6 +2,7 @@
 //! (chapter 9 of ANSI/MIL-STD-1815A).
 #![tactic(auto)]
 
+mod effects;
 mod rows;
 mod seats;
 

@@ -7,4 +7,4 @@ pub returns-then-not-can_end : goal.returns-then-not-can_end
 returns-then-not-can_end c =
     let seats = c.args.seats.now in
     sym (others_can_end-not (seen_in seats c.args.line.now) (pred (length seats)) c.loop-t.t (omega arith)
-        (le_pred (length seats) c.loop-t.t (omega arith)) (sym c.can_end.ensures ∙ c.if-not-can_end.true))
+    (le_pred (length seats) c.loop-t.t (omega arith)) (sym c.can_end.ensures ∙ c.if-not-can_end.true))
