@@ -1,6 +1,6 @@
 -- Counts of faults over several calls: a rise in one of them is a rise in all.
-use Rattle.std.specs.Prelude.{◌≡◌, ◌<◌, ◌≤◌, ◌+◌, ◌⊎◌, ℕ, Result, Ok, Err, refl}
-use Rattle.std.proofs.Common.{sym, ap, ◌∙◌, subst, inl, inr, arith}
+use Rattle.std.specs.Prelude.{◌≤◌, ℕ, Ok, refl}
+use Rattle.std.proofs.Common.{inl, inr, arith}
 use Rattle.ded_io.specs.Counts.{Rose, HasCause, last_count, one_more}
 use Rattle.std.proofs.lemmas.Grind.{common_steps}
 

@@ -36,7 +36,7 @@ abbrev pub behind_load : StoredFiles → List ℕ → StoredFiles
 behind_load stored name =
     record stored {
       calls = one_more stored.calls;
-      faults = if has_fault stored name then one_more stored.faults else stored.faults
+      faults = if has_fault stored name then one_more stored.faults else stored.faults;
     }
 
 -- the next put is taken: its call is none that fails, and the room is enough
@@ -49,7 +49,7 @@ behind_put stored bytes =
     record stored {
       bytes = if takes stored bytes then stored.bytes ++ bytes else stored.bytes;
       calls = one_more stored.calls;
-      faults = if takes stored bytes then stored.faults else one_more stored.faults
+      faults = if takes stored bytes then stored.faults else one_more stored.faults;
     }
 
 -- the next number of a list of choices, and 0 behind its end

@@ -1,5 +1,5 @@
 //! Files in memory.
-ghost use Rattle.std.specs.Prelude.{◌≡◌, ◌≤◌, ◌↔◌, ◌⊎◌, Some, None, IfOk, IfErr, IsTrue, IsErrOf, vec_len};
+ghost use Rattle.std.specs.Prelude.{◌≡◌, ◌≤◌, ◌↔◌, ◌⊎◌, Some, None, [], IfOk, IfErr, IsTrue, IsErrOf, vec_len};
 ghost use Rattle.std.specs.Option.{option_copied};
 ghost use Rattle.ded_io.specs.Counts.{one_more, Rose};
 ghost use Rattle.ded_io.specs.Stored.{StoredFiles, is_failing, refuses, behind_load};
@@ -94,6 +94,7 @@ impl Files for MemoryFiles {
         ensures absent { file_bytes self.old.files name.now ≡ None → NoFile result × (self.new.faults ≡ self.old.faults) }
         ensures failed { IsErrOf result LoadError.Failed → (file_bytes self.old.files name.now ≡ None) ⊎ Rose self.old.faults self.new.faults }
         ensures too_long { IfErr result (TooLongFor (Some self.old.files) name.now limit) }
+        ensures no_fault { self.old.failing ≡ [] → self.new.faults ≡ self.old.faults }
         ensures count_never_falls { self.old.faults ≤ self.new.faults }
         ensures count_stays { IsErrOf result LoadError.Failed ⊎ (self.new.faults ≡ self.old.faults) }
     {

@@ -1,5 +1,5 @@
 //! An output in memory.
-ghost use Rattle.std.specs.Prelude.{◌≡◌, ◌≤◌, ◌↔◌, Some, [], IfOk, IsOk, IsTrue};
+ghost use Rattle.std.specs.Prelude.{◌≡◌, ◌+◌, ◌≤◌, ◌↔◌, Some, [], length, IfOk, IsOk, IsTrue};
 ghost use Rattle.ded_io.specs.Counts.{one_more, HasCause};
 ghost use Rattle.ded_io.specs.Stored.{StoredOutput, is_failing, takes, behind_put};
 ghost use Rattle.ded_io.specs.Written.{Wrote};
@@ -81,6 +81,7 @@ impl Sink for MemorySink {
         // Beside what every output promises: which calls succeed, and what each leaves.
         ensures after { self.new ≡ behind_put self.old bytes.now }
         ensures taken { IsOk result ↔ IsTrue (takes self.old bytes.now) }
+        ensures room_is_enough { self.old.failing ≡ [] → length self.old.bytes + length bytes.now ≤ self.old.room → IsOk result }
         ensures bytes { Wrote result (Some self.old.bytes) (Some self.new.bytes) bytes.now }
         ensures cause { HasCause self.old.faults self.new.faults result }
         ensures count_never_falls { self.old.faults ≤ self.new.faults }
