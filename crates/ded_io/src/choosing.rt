@@ -20,6 +20,16 @@ pub trait Chooser {
         ensures after { self.new ≡ next self.old };
 }
 
+impl<C: Chooser> Chooser for &mut C {
+    ghost word = { λ chooser. C.word chooser.now };
+
+    ghost next = { λ chooser. record chooser { now = C.next chooser.now } };
+
+    fn pick(&mut self, n: u32) -> u32 {
+        (**self).pick(n)
+    }
+}
+
 /// The words of a list one after the other, and 0 behind its end; contracts see it as the list of the words that are left.
 #[derive(Drop)]
 pub struct ListChooser {

@@ -86,3 +86,31 @@ fn errors_say_what_a_person_needs(rt: HostRuntime) -> Result<(), Fail> {
     assert_eq!(rt; sink.as_str(), "the output cannot be written");
     Ok(())
 }
+
+fn first_place<C: Chooser>(chooser: &mut C) -> u32 {
+    chooser.pick(4)
+}
+
+fn put_hello<S: Sink>(out: &mut S) -> bool {
+    out.put(b"hello").is_ok()
+}
+
+fn length_of<F: Files>(alloc: Global, files: &mut F, name: &str) -> Option<usize> {
+    files.load(alloc, name, 9).ok().map(|bytes| bytes.len())
+}
+
+#[test]
+fn a_borrowed_form_is_the_form_itself(rt: HostRuntime) -> Result<(), Fail> {
+    let alloc = rt.alloc();
+    let mut chooser = ListChooser::new(vec![in alloc; 6, 7]?);
+    assert_eq!(rt; first_place(&mut &mut chooser), 2);
+    assert_eq!(rt; chooser.pick(4), 3);
+    let mut sink = MemorySink::new(alloc, Vec::new(alloc), 5)?;
+    assert!(rt; put_hello(&mut &mut sink));
+    assert_eq!(rt; sink.bytes(), b"hello".as_slice());
+    let mut entries = Vec::new(alloc);
+    entries.push(entry(alloc, "a.ada", b"first")?)?;
+    let mut files = MemoryFiles::new(entries, Vec::new(alloc));
+    assert_eq!(rt; length_of(alloc, &mut &mut files, "a.ada"), Some(5));
+    Ok(())
+}
