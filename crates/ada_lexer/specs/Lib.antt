@@ -1,0 +1,9 @@
+pub mod Bytes
+pub mod Words
+pub mod Numbers
+pub mod Strings
+pub mod Pieces
+pub mod Verdicts
+pub mod Split
+pub mod Places
+pub mod Reading

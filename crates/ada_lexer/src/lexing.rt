@@ -1,0 +1,47 @@
+//! The tokens of a text.
+
+ghost use Rattle.std.specs.Prelude.{◌≡◌, ◌≢◌, ◌<◌, ◌-◌, ◌^◌, List, length, IfOk, IfErr, MatchResult};
+ghost use Rattle.ada_lexer.specs.declared.kinds.Token.{Token};
+ghost use Rattle.ada_lexer.specs.declared.errors.LexError.{LexError};
+ghost use Rattle.ada_lexer.specs.declared.errors.LexError.TheVariants.{Memory};
+ghost use Rattle.ada_lexer.specs.Split.{Splits, HasFirstFault};
+
+use super::errors::LexError;
+use super::kinds::Token;
+use super::pieces::{Piece, read_piece};
+use std::alloc::Global;
+
+/// The tokens of a text, in order, each with its place. White space and comments give none.
+///
+/// `Ok` comes exactly where the text splits into tokens. Otherwise the error is the first fault of the whole text. `Memory`
+/// alone may stand for either answer. The tokens take memory, and nothing else does.
+pub fn tokens(alloc: Global, src: &[u8]) -> Result<Vec<Token>, LexError>
+    requires { length src.now < 2 ^ 32 - 1 }
+    ensures split { IfOk result (λ found. Splits src.now found.items) }
+    ensures first_fault { IfErr result (λ error. error ≢ Memory → HasFirstFault src.now error) }
+    ensures only_split { (wanted : List Token) → Splits src.now wanted
+        → MatchResult result (λ found. found.items ≡ wanted) (λ error. error ≡ Memory) }
+    ensures only_fault { (fault : LexError) → HasFirstFault src.now fault
+        → MatchResult result (λ found. ⊥) (λ error. error ≢ Memory → error ≡ fault) }
+{
+    let mut found = Vec::new(alloc);
+    let mut at = 0;
+    while at < src.len() {
+        match read_piece(at as u32, &src[at..]) {
+            Piece::Gap { len } => at += len,
+            Piece::Token { kind, len } => {
+                let token = Token {
+                    kind,
+                    start: at as u32,
+                    end: (at + len) as u32,
+                };
+                if found.push(token).is_err() {
+                    return Err(LexError::Memory);
+                }
+                at += len;
+            }
+            Piece::Fault(error) => return Err(error),
+        }
+    }
+    Ok(found)
+}

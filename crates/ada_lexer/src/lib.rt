@@ -1,0 +1,18 @@
+//! The tokens of a text in Ada.
+//!
+//! A text falls into pieces, each the longest that begins at its place: white space, comments, words, numbers, strings
+//! and delimiters. `specs/Split.antt` says what the tokens of a text are, and what its first fault is.
+#![tactic(auto)]
+
+mod errors;
+mod kinds;
+mod lexing;
+mod numbers;
+mod pieces;
+mod places;
+mod words;
+
+pub use errors::LexError;
+pub use kinds::{Token, TokenKind};
+pub use lexing::tokens;
+pub use places::{LineCol, line_col};
