@@ -1,5 +1,5 @@
 -- The table of actions for the tasks of one program, kept in a list by their numbers.
-use Rattle.std.specs.Prelude.{ℕ, ℤ, Bool, List, Option, if◌then◌else◌, length, slice_index_or}
+use Rattle.std.specs.Prelude.{ℕ, ℤ, Bool, false, List, [], Option, Some, None, if◌then◌else◌, length, slice_index_or}
 use Rattle.event_machine.specs.declared.Action.{Action}
 use Rattle.event_machine.specs.declared.Event.{Event}
 use Rattle.event_machine.specs.declared.Choice.{Choice}
@@ -42,6 +42,15 @@ parted_by a pending seat =
     then (if seats.is_abnormal seat.standing then seats.completed seat.local else seats.live (call_left pending seat.local))
     else seat
 
+-- the tasks, and the line, as t aborts the task that its offer names
+abbrev pub aborted_seats : Numbering → Tasks → ℕ → Option ℕ → Tasks
+aborted_seats numbers tasks t None = tasks
+aborted_seats numbers tasks t (Some x) = effects.abort_seats (rules_of numbers) tasks t x
+
+abbrev pub aborted_line : Tasks → List ℕ → Option ℕ → List ℕ
+aborted_line tasks line None = line
+aborted_line tasks line (Some x) = if seats.is_closed (seat_of tasks x).standing then line else effects.without x line
+
 -- what conditions read of tasks and the line of arrivals
 abbrev pub seen_in : Tasks → List ℕ → seats.Seen Task
 seen_in tasks line = record { tasks = λ t. seat_of tasks t; size = length tasks; line = line }
@@ -64,3 +73,7 @@ after m action = record { numbers = m.numbers; state = effects.after (rules_of m
 
 abbrev pub event_of : Whole → Action → Option Event
 event_of m action = effects.event_of (rules_of m.numbers) m.state action
+
+-- the event of an action of these tasks; it depends on nothing else
+abbrev pub event_in : Tasks → Action → Option Event
+event_in tasks action = effects.event_of (rules_of nobody.numbers) (record { seats = tasks; line = []; ended = false }) action

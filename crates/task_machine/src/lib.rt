@@ -3,7 +3,10 @@
 #![tactic(auto)]
 
 mod effects;
+mod listing;
+mod machine;
 mod rows;
 mod seats;
 
 pub use event_machine::Action;
+pub use machine::{Machine, StepError};
