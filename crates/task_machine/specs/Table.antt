@@ -59,6 +59,10 @@ seen_in tasks line = record { tasks = λ t. seat_of tasks t; size = length tasks
 abbrev pub row_of : Numbering → Tasks → List ℕ → Action → Bool
 row_of numbers tasks line action = rows.row task_ops (owner_of numbers) (seen_in tasks line) action
 
+-- the machine of these parts
+abbrev pub whole : Numbering → Tasks → List ℕ → Bool → Whole
+whole numbers tasks line ended = record { numbers = numbers; state = record { seats = tasks; line = line; ended = ended } }
+
 -- The action applies to the machine.
 abbrev pub can : Whole → Action → Bool
 can m action = rows.can (rules_of m.numbers) m.state action

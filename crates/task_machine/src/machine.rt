@@ -1,6 +1,6 @@
 // The machine.
 
-ghost use Rattle.std.specs.Prelude.{◌≡◌, ◌++◌, ◌∷◌, [], ◌<◌, ◌^◌, true, IfOk, OnOk, OnErr, filter, length};
+ghost use Rattle.std.specs.Prelude.{◌≡◌, ◌++◌, ◌∷◌, [], ◌<◌, ◌^◌, true, IfOk, OnOk, OnErr, filter, length, vec_len};
 ghost use Rattle.ada_tree.specs.PlainProgram.{plain_program};
 ghost use Rattle.syn_event.specs.Legal.{Legal};
 ghost use Rattle.event_machine.specs.declared.Action.TheVariants.{End};
@@ -8,7 +8,7 @@ ghost use Rattle.event_machine.specs.Rows.{rows_below};
 ghost use Rattle.event_machine.specs.Seats.{live};
 ghost use Rattle.task_local.specs.Steps.{started, task_ops};
 ghost use Rattle.task_machine.specs.Opening.{opening_of, first_tasks};
-ghost use Rattle.task_machine.specs.Table.{can, enabled_of, after, event_of, row_of, seen_in, event_in};
+ghost use Rattle.task_machine.specs.Table.{can, enabled_of, after, event_of, row_of, seen_in, event_in, whole};
 
 use crate::Action;
 use crate::effects::{abort_next, arrive, fail, finish, leave_line, set_standing, start, step};
@@ -80,13 +80,10 @@ impl<'p> Machine<'p> {
     /// Makes of `out` the list of the actions that apply: by ascending tasks, for one task in the order of [`Action`], and the end of the program last.
     pub fn enabled(&self, out: &mut Vec<Action>) -> Result<(), Memory>
         ensures listed { OnOk result (out.new.items ≡ enabled_of self.now) }
+        ensures few { OnOk result (length out.new.items < 2 ^ 32) }
         ensures emptied { OnErr result (out.new.items ≡ []) }
     {
-        out.clear();
-        if self.ended {
-            return Ok(());
-        }
-        match list_all(&self.seats, &self.line, self.numbers, out) {
+        match list_enabled(&self.seats, &self.line, self.numbers, self.ended, out) {
             Ok(()) => Ok(()),
             Err(e) => {
                 out.clear();
@@ -122,6 +119,26 @@ impl<'p> Machine<'p> {
     {
         &[]
     }
+}
+
+// Makes of `out` the list of the actions that apply.
+fn list_enabled(
+    seats: &[Seat],
+    line: &[u32],
+    numbers: &Numbers,
+    ended: bool,
+    out: &mut Vec<Action>,
+) -> Result<(), Memory>
+    requires { length seats.now < 204 }
+    ensures listed { OnOk result (out.new.items ≡ enabled_of (whole numbers.now seats.now line.now ended)) }
+    ensures few { OnOk result (length out.new.items < 2 ^ 32) }
+{
+    out.clear();
+    if ended {
+        return Ok(());
+    }
+    list_all(seats, line, numbers, out)?;
+    Ok(())
 }
 
 // All actions that apply, where the program has not ended.
@@ -182,7 +199,8 @@ fn start_all<'p>(
     inputs: &Inputs,
 ) -> Result<Vec<Seat<'p>>, Memory>
     requires { length numbers.now.tasks < 204 }
-    ensures { IfOk result (λ seats. seats.items ≡ first_tasks (plain_program p.now) numbers.now (length numbers.now.tasks)) }
+    ensures started { IfOk result (λ seats. seats.items ≡ first_tasks (plain_program p.now) numbers.now (length numbers.now.tasks)) }
+    ensures few { IfOk result (λ seats. vec_len seats < 204) }
 {
     let mut seats = Vec::new(alloc);
     let count = numbers.tasks.len() as u32;
