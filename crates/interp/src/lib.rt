@@ -5,3 +5,4 @@ mod report;
 mod running;
 
 pub use report::{RunEnd, RunError, RunReport};
+pub use running::run;
