@@ -162,3 +162,24 @@ cut_within word next i n numbers m0 c0 m m' c c' action told0 told told' at turn
         lines = lines
         }
     ]
+
+-- What the code answers, as the run has ended by itself in turn i of n: the values of the run of n turns.
+pub record Stopped {C : Type 0} (word : C → ℕ) (next : C → C) (n : ℕ) (numbers : Numbering) (m0 : Whole) (c0 : C) (m : Whole) (c : C) (told0 told : Option (List ℕ)) (made : ℕ) (end : RunEnd) : Type 0 where
+  pub machine : m ≡ (picked word next n m0 c0).machine
+  pub chooser : c ≡ (picked word next n m0 c0).chooser
+  pub made_is : made ≡ (picked word next n m0 c0).made
+  pub end_is : end ≡ ending (picked word next n m0 c0)
+  pub lines : told ≡ appended told0 (lines_of numbers (picked word next n m0 c0).events)
+
+pub stopped : {C : Type 0} (word : C → ℕ) (next : C → C) (i n : ℕ) (numbers : Numbering) (m0 : Whole) (c0 : C) (m : Whole) (c c' : C) (told0 told : Option (List ℕ)) (end : RunEnd) →
+    Reached word next i numbers m0 c0 m c told0 told → i ≤ n → halted m ≡ Some end → c' ≡ c → Stopped word next n numbers m0 c0 m c' told0 told i end
+stopped word next i n numbers m0 c0 m c c' told0 told end at le h same =
+    let all : picked word next n m0 c0 ≡ picked word next i m0 c0 = picked-halted word next i n numbers m0 c0 m c told0 told end at le h in
+    record {
+      machine = at.machine ∙ ap (λ (x : Position _). x.machine) (sym all);
+      chooser = same ∙ at.chooser ∙ ap (λ (x : Position _). x.chooser) (sym all);
+      made_is = sym at.made ∙ ap (λ (x : Position _). x.made) (sym all);
+      end_is =
+          sym (ap (λ x. unwrap_or x Turns) (ap (λ x. halted x) (sym at.machine) ∙ h)) ∙ ap (λ (x : Position _). ending x) (sym all);
+      lines = at.lines ∙ ap (λ (x : Position _). appended told0 (lines_of numbers x.events)) (sym all)
+      }

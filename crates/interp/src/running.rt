@@ -148,7 +148,10 @@ pub fn run<C: Chooser, K: Sink>(
     for turn in 0..turns {
         match choose(m, choices, &mut actions) {
             Ok(Turn::Halted(end)) => return Ok(RunReport { end, made: turn }),
-            Ok(Turn::Make(action)) => make(m, action, numbers, out)?,
+            Ok(Turn::Make(action)) => match make(m, action, numbers, out) {
+                Ok(()) => {}
+                Err(e) => return Err(e),
+            },
             Err(_) => return Err(RunError::Memory),
         }
     }
