@@ -9,7 +9,9 @@ mod statements;
 mod static_types;
 mod whole;
 
-pub use declarations::{Decl, DeclKind, Drange, EntryDecl, Init, Priority, Shape, Subind, TaskUnit};
+pub use declarations::{
+    Decl, DeclKind, Drange, EntryDecl, Init, Priority, Shape, Subind, TaskUnit,
+};
 pub use expressions::{BinaryOp, Bounds, Expr, ExprKind, UnaryOp};
 pub use naming::{NameId, Names, Span, Word};
 pub use shortage::Memory;
