@@ -7,6 +7,8 @@ mod naming;
 mod shortage;
 mod statements;
 mod static_types;
+#[cfg(test)]
+mod tests;
 mod whole;
 
 pub use declarations::{
