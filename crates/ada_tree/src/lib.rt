@@ -1,6 +1,7 @@
 // The tree of an Ada 83 program, with its names.
 #![tactic(auto)]
 
+mod copying;
 mod declarations;
 mod expressions;
 mod naming;
