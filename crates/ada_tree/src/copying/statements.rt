@@ -2,12 +2,12 @@
 #![tactic(auto, using(crate::proofs::Rows::rows))]
 
 ghost use Rattle.std.specs.Prelude.{◌≡◌, IfOk, map, option_map};
-ghost use Rattle.ada_tree.specs.PlainStmt.{plain_target, plain_callee, plain_call, plain_args, plain_formal, plain_part, plain_choice, plain_scheme, plain_accept, plain_alt, plain_arm, plain_case_arm, plain_handler, plain_body, plain_stmt};
+ghost use Rattle.ada_tree.specs.PlainStmt.{plain_target, plain_callee, plain_call, plain_args, plain_formal, plain_part, plain_choice, plain_scheme, plain_accept, plain_alt, plain_arm, plain_case_arm, plain_handler, plain_body, plain_stmt, stmt_at};
 
 use super::expressions::{copy_exprs, copy_option, copy_words};
 use crate::{
     Accept, Alt, AltKind, Args, Arm, Body, Call, Callee, CaseArm, CaseChoice, Formal, Handler,
-    Memory, Part, Scheme, Stmt, StmtKind, Target,
+    Memory, Part, Scheme, Span, Stmt, StmtKind, Target,
 };
 use std::alloc::Global;
 
@@ -200,25 +200,17 @@ impl Accept {
     {
         let index = copy_option(alloc, &self.index)?;
         let formals = copy_formals(alloc, &self.formals)?;
-        match &self.stmts {
-            Some(stmts) => {
-                let stmts = copy_stmts(alloc, stmts)?;
-                Ok(Accept {
-                    entry: self.entry,
-                    index,
-                    formals,
-                    stmts: Some(stmts),
-                    span: self.span,
-                })
-            }
-            None => Ok(Accept {
-                entry: self.entry,
-                index,
-                formals,
-                stmts: None,
-                span: self.span,
-            }),
-        }
+        let stmts = match &self.stmts {
+            Some(stmts) => Some(copy_stmts(alloc, stmts)?),
+            None => None,
+        };
+        Ok(Accept {
+            entry: self.entry,
+            index,
+            formals,
+            stmts,
+            span: self.span,
+        })
     }
 }
 
@@ -311,6 +303,15 @@ impl Body {
     }
 }
 
+impl StmtKind {
+    // The statement of this kind that stands at a place.
+    fn at(self, span: Span) -> Stmt
+        ensures { plain_stmt result ≡ stmt_at self span }
+    {
+        Stmt { kind: self, span }
+    }
+}
+
 impl Stmt {
     /// A copy with the same ids and places.
     #[cycle(copy)]
@@ -319,77 +320,34 @@ impl Stmt {
     {
         let span = self.span;
         match &self.kind {
-            StmtKind::Null => Ok(Stmt {
-                kind: StmtKind::Null,
-                span,
-            }),
+            StmtKind::Null => Ok(StmtKind::Null.at(span)),
             StmtKind::Assign { target, value } => {
                 let target = target.copy(alloc)?;
                 let value = value.copy(alloc)?;
-                Ok(Stmt {
-                    kind: StmtKind::Assign { target, value },
-                    span,
-                })
+                Ok(StmtKind::Assign { target, value }.at(span))
             }
-            StmtKind::Delay { thousandths } => Ok(Stmt {
-                kind: StmtKind::Delay {
-                    thousandths: *thousandths,
-                },
-                span,
-            }),
+            StmtKind::Delay { thousandths } => {
+                let thousandths = *thousandths;
+                Ok(StmtKind::Delay { thousandths }.at(span))
+            }
             StmtKind::Exit { name, test } => {
                 let test = copy_option(alloc, test)?;
-                Ok(Stmt {
-                    kind: StmtKind::Exit { name: *name, test },
-                    span,
-                })
+                Ok(StmtKind::Exit { name: *name, test }.at(span))
             }
-            StmtKind::Raise { name } => Ok(Stmt {
-                kind: StmtKind::Raise { name: *name },
-                span,
-            }),
+            StmtKind::Raise { name } => Ok(StmtKind::Raise { name: *name }.at(span)),
             StmtKind::Abort { names } => {
                 let names = copy_callees(alloc, names)?;
-                Ok(Stmt {
-                    kind: StmtKind::Abort { names },
-                    span,
-                })
+                Ok(StmtKind::Abort { names }.at(span))
             }
-            StmtKind::Call(call) => {
-                let call = call.copy(alloc)?;
-                Ok(Stmt {
-                    kind: StmtKind::Call(call),
-                    span,
-                })
-            }
-            StmtKind::Accept(accept) => {
-                let accept = accept.copy(alloc)?;
-                Ok(Stmt {
-                    kind: StmtKind::Accept(accept),
-                    span,
-                })
-            }
+            StmtKind::Call(call) => Ok(StmtKind::Call(call.copy(alloc)?).at(span)),
+            StmtKind::Accept(accept) => Ok(StmtKind::Accept(accept.copy(alloc)?).at(span)),
             StmtKind::Wait { alts, otherwise } => {
                 let alts = copy_alts(alloc, alts)?;
-                match otherwise {
-                    Some(otherwise) => {
-                        let otherwise = copy_stmts(alloc, otherwise)?;
-                        Ok(Stmt {
-                            kind: StmtKind::Wait {
-                                alts,
-                                otherwise: Some(otherwise),
-                            },
-                            span,
-                        })
-                    }
-                    None => Ok(Stmt {
-                        kind: StmtKind::Wait {
-                            alts,
-                            otherwise: None,
-                        },
-                        span,
-                    }),
-                }
+                let otherwise = match otherwise {
+                    Some(stmts) => Some(copy_stmts(alloc, stmts)?),
+                    None => None,
+                };
+                Ok(StmtKind::Wait { alts, otherwise }.at(span))
             }
             StmtKind::Conditional {
                 call,
@@ -399,14 +357,12 @@ impl Stmt {
                 let call = call.copy(alloc)?;
                 let behind = copy_stmts(alloc, behind)?;
                 let otherwise = copy_stmts(alloc, otherwise)?;
-                Ok(Stmt {
-                    kind: StmtKind::Conditional {
-                        call,
-                        behind,
-                        otherwise,
-                    },
-                    span,
-                })
+                let kind = StmtKind::Conditional {
+                    call,
+                    behind,
+                    otherwise,
+                };
+                Ok(kind.at(span))
             }
             StmtKind::Timed {
                 call,
@@ -417,62 +373,34 @@ impl Stmt {
                 let call = call.copy(alloc)?;
                 let behind = copy_stmts(alloc, behind)?;
                 let after = copy_stmts(alloc, after)?;
-                Ok(Stmt {
-                    kind: StmtKind::Timed {
-                        call,
-                        behind,
-                        thousandths: *thousandths,
-                        after,
-                    },
-                    span,
-                })
+                let kind = StmtKind::Timed {
+                    call,
+                    behind,
+                    thousandths: *thousandths,
+                    after,
+                };
+                Ok(kind.at(span))
             }
             StmtKind::Put { parts } => {
                 let parts = copy_parts(alloc, parts)?;
-                Ok(Stmt {
-                    kind: StmtKind::Put { parts },
-                    span,
-                })
+                Ok(StmtKind::Put { parts }.at(span))
             }
             StmtKind::PutLine { parts } => {
                 let parts = copy_parts(alloc, parts)?;
-                Ok(Stmt {
-                    kind: StmtKind::PutLine { parts },
-                    span,
-                })
+                Ok(StmtKind::PutLine { parts }.at(span))
             }
-            StmtKind::NewLine => Ok(Stmt {
-                kind: StmtKind::NewLine,
-                span,
-            }),
+            StmtKind::NewLine => Ok(StmtKind::NewLine.at(span)),
             StmtKind::Get { target } => {
                 let target = target.copy(alloc)?;
-                Ok(Stmt {
-                    kind: StmtKind::Get { target },
-                    span,
-                })
+                Ok(StmtKind::Get { target }.at(span))
             }
             StmtKind::If { arms, otherwise } => {
                 let arms = copy_arms(alloc, arms)?;
-                match otherwise {
-                    Some(otherwise) => {
-                        let otherwise = copy_stmts(alloc, otherwise)?;
-                        Ok(Stmt {
-                            kind: StmtKind::If {
-                                arms,
-                                otherwise: Some(otherwise),
-                            },
-                            span,
-                        })
-                    }
-                    None => Ok(Stmt {
-                        kind: StmtKind::If {
-                            arms,
-                            otherwise: None,
-                        },
-                        span,
-                    }),
-                }
+                let otherwise = match otherwise {
+                    Some(stmts) => Some(copy_stmts(alloc, stmts)?),
+                    None => None,
+                };
+                Ok(StmtKind::If { arms, otherwise }.at(span))
             }
             StmtKind::Case {
                 selector,
@@ -481,35 +409,18 @@ impl Stmt {
             } => {
                 let selector = selector.copy(alloc)?;
                 let arms = copy_case_arms(alloc, arms)?;
-                match others {
-                    Some(others) => {
-                        let others = copy_stmts(alloc, others)?;
-                        Ok(Stmt {
-                            kind: StmtKind::Case {
-                                selector,
-                                arms,
-                                others: Some(others),
-                            },
-                            span,
-                        })
-                    }
-                    None => Ok(Stmt {
-                        kind: StmtKind::Case {
-                            selector,
-                            arms,
-                            others: None,
-                        },
-                        span,
-                    }),
-                }
+                let others = match others {
+                    Some(stmts) => Some(copy_stmts(alloc, stmts)?),
+                    None => None,
+                };
+                let kind = StmtKind::Case {
+                    selector,
+                    arms,
+                    others,
+                };
+                Ok(kind.at(span))
             }
-            StmtKind::Block(body) => {
-                let body = body.copy(alloc)?;
-                Ok(Stmt {
-                    kind: StmtKind::Block(body),
-                    span,
-                })
-            }
+            StmtKind::Block(body) => Ok(StmtKind::Block(body.copy(alloc)?).at(span)),
             StmtKind::Loop {
                 name,
                 scheme,
@@ -517,14 +428,12 @@ impl Stmt {
             } => {
                 let scheme = copy_scheme(alloc, scheme)?;
                 let stmts = copy_stmts(alloc, stmts)?;
-                Ok(Stmt {
-                    kind: StmtKind::Loop {
-                        name: *name,
-                        scheme,
-                        stmts,
-                    },
-                    span,
-                })
+                let kind = StmtKind::Loop {
+                    name: *name,
+                    scheme,
+                    stmts,
+                };
+                Ok(kind.at(span))
             }
         }
     }
