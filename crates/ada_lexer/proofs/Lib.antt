@@ -1,0 +1,5 @@
+pub mod Runs
+pub mod WordLemmas
+pub mod NumberLemmas
+pub mod PlaceLemmas
+pub mod Longest

@@ -4,7 +4,9 @@ use Rattle.ada_lexer.specs.declared.kinds.Token.{Token}
 use Rattle.ada_lexer.specs.declared.errors.LexError.{LexError}
 use Rattle.ada_lexer.specs.declared.errors.LexError.TheVariants.{BadByte, Memory}
 use Rattle.ada_lexer.specs.Pieces.{is_piece, IsLongest}
-use Rattle.ada_lexer.specs.Verdicts.{Verdict, gap, token, fault, verdict}
+use Rattle.ada_lexer.specs.declared.verdicts.Verdict.{Verdict}
+use Rattle.ada_lexer.specs.declared.verdicts.Verdict.TheVariants.{Gap, Kind, Fault}
+use Rattle.ada_lexer.specs.Verdicts.{verdict}
 
 -- the text falls into these pieces and then the rest, each piece the longest that begins at its place (2.2)
 abbrev pub FallsInto : List (List ℕ) → List ℕ → List ℕ → Type 0
@@ -13,9 +15,9 @@ FallsInto (piece ∷ pieces) rest text = IsLongest piece text × FallsInto piece
 
 -- the tokens of pieces that begin at a place: each token is the slice of its piece, and gaps are none
 abbrev pub onto_tokens : Verdict → ℕ → ℕ → List Token → List Token
-onto_tokens gap start end tokens = tokens
-onto_tokens (token kind) start end tokens = record { kind = kind; start = start; end = end } ∷ tokens
-onto_tokens (fault error) start end tokens = tokens
+onto_tokens Gap start end tokens = tokens
+onto_tokens (Kind kind) start end tokens = record { kind = kind; start = start; end = end } ∷ tokens
+onto_tokens (Fault error) start end tokens = tokens
 
 abbrev pub tokens_of : ℕ → List (List ℕ) → List Token
 tokens_of at [] = []
@@ -24,9 +26,9 @@ tokens_of at (piece ∷ pieces) =
 
 -- no piece of these has a fault
 abbrev pub IsSound : Verdict → Type 0
-IsSound gap = ⊤
-IsSound (token kind) = ⊤
-IsSound (fault error) = ⊥
+IsSound Gap = ⊤
+IsSound (Kind kind) = ⊤
+IsSound (Fault error) = ⊥
 
 abbrev pub AreSound : ℕ → List (List ℕ) → Type 0
 AreSound at [] = ⊤
@@ -48,7 +50,7 @@ BeginsNothing text = (text ≢ []) × ((n : ℕ) → n ≤ length text → IsTru
 -- the fault at the very front of a text that begins at a place
 abbrev pub FailsHere : ℕ → List ℕ → LexError → Type 0
 FailsHere at text error =
-    (BeginsNothing text × (error ≡ BadByte at)) ⊎ ((piece : List ℕ) × IsLongest piece text × (verdict at piece ≡ fault error))
+    (BeginsNothing text × (error ≡ BadByte at)) ⊎ ((piece : List ℕ) × IsLongest piece text × (verdict at piece ≡ Fault error))
 
 -- the place behind pieces that begin at a place
 abbrev pub place_behind : ℕ → List (List ℕ) → ℕ

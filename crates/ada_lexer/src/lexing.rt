@@ -6,9 +6,11 @@ ghost use Rattle.ada_lexer.specs.declared.errors.LexError.{LexError};
 ghost use Rattle.ada_lexer.specs.declared.errors.LexError.TheVariants.{Memory};
 ghost use Rattle.ada_lexer.specs.Split.{Splits, HasFirstFault};
 
+use super::bytes::{behind, front};
 use super::errors::LexError;
 use super::kinds::Token;
-use super::pieces::{Piece, read_piece};
+use super::lengths::piece_len;
+use super::verdicts::{Verdict, verdict_of};
 use std::alloc::Global;
 
 /// The tokens of a text, in order, each with its place. White space and comments give none.
@@ -27,21 +29,24 @@ pub fn tokens(alloc: Global, src: &[u8]) -> Result<Vec<Token>, LexError>
     let mut found = Vec::new(alloc);
     let mut at = 0;
     while at < src.len() {
-        match read_piece(at as u32, &src[at..]) {
-            Piece::Gap { len } => at += len,
-            Piece::Token { kind, len } => {
+        let rest = behind(src, at);
+        let len = piece_len(rest);
+        if len == 0 {
+            return Err(LexError::BadByte { at: at as u32 });
+        }
+        match verdict_of(at as u32, front(rest, len)) {
+            Verdict::Gap => {}
+            Verdict::Kind(kind) => {
                 let token = Token {
                     kind,
                     start: at as u32,
                     end: (at + len) as u32,
                 };
-                if found.push(token).is_err() {
-                    return Err(LexError::Memory);
-                }
-                at += len;
+                found.push(token).map_err(|_| LexError::Memory)?;
             }
-            Piece::Fault(error) => return Err(error),
+            Verdict::Fault(error) => return Err(error),
         }
+        at += len;
     }
     Ok(found)
 }

@@ -1,6 +1,8 @@
 //! Lines and columns.
 
-ghost use Rattle.std.specs.Prelude.{◌≡◌, ◌<◌, ◌-◌, ◌^◌, length, take};
+ghost use Rattle.std.specs.Prelude.{◌≡◌, ◌<◌, ◌≤◌, ◌-◌, ◌^◌, length, take};
+ghost use Rattle.std.specs.List.{after_last};
+ghost use Rattle.ada_lexer.specs.Bytes.{is_line_end};
 ghost use Rattle.ada_lexer.specs.Places.{line_at, column_at};
 
 /// A place in a text as people name it: the line from 1, and in it the byte from 1.
@@ -19,7 +21,7 @@ pub fn line_col(src: &[u8], at: u32) -> LineCol
 {
     let before = front(src, at as usize);
     let ends = before.iter().filter(|b| **b == b'\n').count();
-    let behind = before.iter().rev().take_while(|b| **b != b'\n').count();
+    let behind = tail_len(before);
     LineCol {
         line: ends as u32 + 1,
         col: behind as u32 + 1,
@@ -31,4 +33,17 @@ fn front(src: &[u8], len: usize) -> &[u8]
     ensures { result.now ≡ take len src.now }
 {
     if len < src.len() { &src[..len] } else { src }
+}
+
+/// How many bytes stand behind the last line feed.
+#[tactic(auto, using(crate::proofs::PlaceLemmas::tail_steps))]
+fn tail_len(text: &[u8]) -> usize
+    ensures within { result ≤ length text.now }
+    ensures is { result ≡ length (after_last is_line_end text.now) }
+{
+    let mut n = text.len();
+    while n > 0 && text[n - 1] != b'\n' {
+        n -= 1;
+    }
+    text.len() - n
 }
