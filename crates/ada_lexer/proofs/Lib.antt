@@ -3,3 +3,5 @@ pub mod WordLemmas
 pub mod NumberLemmas
 pub mod PlaceLemmas
 pub mod Longest
+pub mod Unique
+pub mod Steps

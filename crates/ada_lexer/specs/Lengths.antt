@@ -1,9 +1,18 @@
--- How long the piece at the front of a text is, as the code counts it; by proof it is the longest.
-use Rattle.std.specs.Prelude.{ℕ, Bool, true, ◌+◌, ◌&&◌, List, [], ◌∷◌, is_some, ◌==◌, if◌then◌else◌}
+-- How long the piece at the front of a text is, by the rule and as the code counts it.
+use Rattle.std.specs.Prelude.{◌≡◌, ◌<◌, ◌≤◌, ◌⊎◌, length, take, ℕ, Bool, true, ◌+◌, ◌&&◌, List, [], ◌∷◌, is_some, ◌==◌, if◌then◌else◌}
 use Rattle.ada_lexer.specs.Bytes.{is_letter, is_digit, is_white, run_len}
 use Rattle.ada_lexer.specs.Words.{kind_in, simple_delimiters, compound_delimiters}
 use Rattle.ada_lexer.specs.Strings.{string_len}
-use Rattle.ada_lexer.specs.Pieces.{word_goes_on, number_goes_on, comment_goes_on}
+use Rattle.ada_lexer.specs.Pieces.{word_goes_on, number_goes_on, comment_goes_on, IsLongest}
+use Rattle.ada_lexer.specs.Split.{BeginsNothing}
+
+-- the longest piece at the front of the text has this length
+abbrev pub HasLongest : ℕ → List ℕ → Type 0
+HasLongest n text = (n ≤ length text) × IsLongest (take n text) text
+
+-- the length is that of the longest piece, or it is 0 and the text begins with none
+abbrev pub IsMeasured : List ℕ → ℕ → Type 0
+IsMeasured text n = ((0 < n) × HasLongest n text) ⊎ ((n ≡ 0) × BeginsNothing text)
 
 -- a comment, a compound delimiter, a simple one, or nothing
 unfoldable pub mark_len : List ℕ → ℕ

@@ -4,15 +4,24 @@ ghost use Rattle.std.specs.Prelude.{◌≡◌, ◌<◌, ◌≤◌, ◌+◌, true
 ghost use Rattle.ada_lexer.specs.Bytes.{is_letter, is_digit, is_letter_or_digit, is_white, is_printable, run_len};
 ghost use Rattle.ada_lexer.specs.Strings.{string_goes_on, inside_after, string_len};
 ghost use Rattle.ada_lexer.specs.Pieces.{word_goes_on, number_goes_on, comment_goes_on};
-ghost use Rattle.ada_lexer.specs.Lengths.{piece_len, mark_len};
+ghost use Rattle.ada_lexer.specs.Lengths.{piece_len, mark_len, IsMeasured};
 
 use super::bytes::{behind, is_digit, is_letter, is_letter_or_digit, is_white};
 use super::strings::string_len;
 use super::words::{compound_delimiter, simple_delimiter};
 
 /// The length of the piece that `text` begins with, and 0 where it begins with none.
-#[tactic(auto, unfolding(crate::specs::Lengths::piece_len))]
+#[tactic(auto, using(crate::proofs::Longest::measured))]
 pub fn piece_len(text: &[u8]) -> usize
+    requires { 0 < length text.now }
+    ensures { IsMeasured text.now result }
+{
+    len_by_first(text)
+}
+
+/// The same length, by the class of the first byte.
+#[tactic(auto, unfolding(crate::specs::Lengths::piece_len))]
+fn len_by_first(text: &[u8]) -> usize
     requires { 0 < length text.now }
     ensures within { result ≤ length text.now }
     ensures is { result ≡ piece_len text.now }

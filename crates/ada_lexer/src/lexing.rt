@@ -1,10 +1,11 @@
 //! The tokens of a text.
 
-ghost use Rattle.std.specs.Prelude.{◌≡◌, ◌≢◌, ◌<◌, ◌-◌, ◌^◌, List, length, IfOk, IfErr, MatchResult};
+ghost use Rattle.std.specs.Prelude.{◌≡◌, ◌≢◌, ◌<◌, ◌-◌, ◌^◌, List, [], ◌++◌, length, OnOk, IfOk, IfErr, MatchResult};
 ghost use Rattle.ada_lexer.specs.declared.kinds.Token.{Token};
 ghost use Rattle.ada_lexer.specs.declared.errors.LexError.{LexError};
 ghost use Rattle.ada_lexer.specs.declared.errors.LexError.TheVariants.{Memory};
-ghost use Rattle.ada_lexer.specs.Split.{Splits, HasFirstFault};
+ghost use Rattle.ada_lexer.specs.declared.verdicts.Verdict.TheVariants.{Fault};
+ghost use Rattle.ada_lexer.specs.Split.{Splits, HasFirstFault, IsSound, onto_tokens};
 
 use super::bytes::{behind, front};
 use super::errors::LexError;
@@ -34,19 +35,27 @@ pub fn tokens(alloc: Global, src: &[u8]) -> Result<Vec<Token>, LexError>
         if len == 0 {
             return Err(LexError::BadByte { at: at as u32 });
         }
-        match verdict_of(at as u32, front(rest, len)) {
-            Verdict::Gap => {}
-            Verdict::Kind(kind) => {
-                let token = Token {
-                    kind,
-                    start: at as u32,
-                    end: (at + len) as u32,
-                };
-                found.push(token).map_err(|_| LexError::Memory)?;
-            }
-            Verdict::Fault(error) => return Err(error),
+        let piece = verdict_of(at as u32, front(rest, len));
+        if let Err(error) = add(&mut found, piece, at as u32, (at + len) as u32) {
+            return Err(error);
         }
         at += len;
     }
     Ok(found)
+}
+
+/// Adds the token that the piece from `start` to `end` is, if it is one.
+fn add(found: &mut Vec<Token>, piece: Verdict, start: u32, end: u32) -> Result<(), LexError>
+    ensures added { OnOk result (found.new.items ≡ found.old.items ++ onto_tokens piece start end []) }
+    ensures sound { OnOk result (IsSound piece) }
+    ensures fault { IfErr result (λ error. error ≢ Memory → piece ≡ Fault error) }
+{
+    match piece {
+        Verdict::Gap => Ok(()),
+        Verdict::Kind(kind) => match found.push(Token { kind, start, end }) {
+            Ok(()) => Ok(()),
+            Err(_) => Err(LexError::Memory),
+        },
+        Verdict::Fault(error) => Err(error),
+    }
 }
