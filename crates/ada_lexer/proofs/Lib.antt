@@ -5,3 +5,4 @@ pub mod PlaceLemmas
 pub mod Longest
 pub mod Unique
 pub mod Steps
+pub mod Slices

@@ -1,7 +1,7 @@
 -- Integer literals, by a walk over their bytes.
-use Rattle.std.proofs.Common.{◌≡◌, ℕ, ◌+◌, ◌*◌, ◌-◌, ◌<◌, ◌≤◌, Bool, true, false, cond, List, [], ◌∷◌, length, get_or, drop, refl, ap, ◌∙◌, sym, arith, Option, None, Some, leb, inl, inr}
-use Rattle.std.proofs.lemmas.List.{drop_more, at_drop_more, at_drop_all}
-use Rattle.std.proofs.lemmas.Bool.{and_parts, and_from, and_right, or_left, lt-leb, le-leb, false≢true, cases_Bool}
+use Rattle.std.proofs.Common.{◌≡◌, ℕ, ◌+◌, ◌<◌, ◌≤◌, Bool, true, false, cond, List, [], ◌∷◌, length, get_or, drop, refl, ap, ◌∙◌, sym, arith, None, Some, leb, inl, inr}
+use Rattle.std.proofs.lemmas.List.{at_drop_more}
+use Rattle.std.proofs.lemmas.Bool.{and_parts, and_from, and_right, lt-leb, le-leb, cases_Bool}
 use Rattle.std.specs.Prelude.{◌&&◌, ◌||◌, ◌==◌, ◌⊎◌}
 use Rattle.ada_lexer.specs.Bytes.{every, is_digit, begins}
 use Rattle.ada_lexer.specs.Numbers.{numeral_goes_on, value_behind, decimal_from, is_numeral, integer_value, max_integer}

@@ -1,5 +1,5 @@
 -- How many bytes stand behind the last line feed.
-use Rattle.std.proofs.Common.{◌≡◌, ℕ, ◌-◌, Bool, List, length, arith, refl}
+use Rattle.std.proofs.Common.{◌≡◌, ℕ, ◌-◌, Bool, List, length, arith}
 use Rattle.std.specs.List.{after_last, suffix_len}
 use Rattle.std.specs.Prelude.{not}
 use Rattle.std.proofs.lemmas.List.{length-drop}

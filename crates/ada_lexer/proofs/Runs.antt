@@ -1,9 +1,8 @@
 -- What is left of a run from a place on.
-use Rattle.std.proofs.Common.{◌≡◌, ℕ, ◌+◌, ◌<◌, ◌≤◌, Bool, true, false, cond, List, [], ◌∷◌, length, get_or, take, drop, refl, ap, ◌∙◌, sym, arith}
-use Rattle.std.proofs.lemmas.List.{at_drop_more, at_drop_all, take_more}
-use Rattle.std.specs.Prelude.{◌++◌, ◌&&◌, ◌==◌}
-use Rattle.ada_lexer.specs.Bytes.{run_len, every}
-use Rattle.ada_lexer.specs.Strings.{string_len, string_goes_on, inside_after, ends_inside, content}
+use Rattle.std.proofs.Common.{◌≡◌, ℕ, ◌+◌, ◌<◌, ◌≤◌, Bool, true, false, cond, List, length, get_or, drop, ap, ◌∙◌, sym}
+use Rattle.std.proofs.lemmas.List.{at_drop_more, at_drop_all}
+use Rattle.ada_lexer.specs.Bytes.{run_len}
+use Rattle.ada_lexer.specs.Strings.{string_len, string_goes_on, inside_after, ends_inside}
 
 pub run_len-yes : (go : ℕ → List ℕ → Bool) (xs : List ℕ) (n : ℕ) → n < length xs → go (get_or xs n 0) (drop (n + 1) xs) ≡ true → run_len go (drop n xs) ≡ 1 + run_len go (drop (n + 1) xs)
 run_len-yes go xs n lt h =

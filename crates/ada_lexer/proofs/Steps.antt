@@ -1,8 +1,7 @@
 -- The loop over a text: what is read so far, with what follows, is the whole.
-use Rattle.std.proofs.Common.{◌≡◌, ℕ, ◌+◌, ◌-◌, ◌<◌, ◌≤◌, List, [], ◌∷◌, ◌++◌, length, take, drop, refl, ap, ◌∙◌, sym, subst, arith, inl, inr}
+use Rattle.std.proofs.Common.{◌≡◌, ℕ, ◌+◌, ◌-◌, ◌≤◌, List, [], ◌∷◌, ◌++◌, length, take, drop, refl, ap, ◌∙◌, sym, subst, arith, inl, inr}
 use Rattle.std.proofs.lemmas.List.{length-take-le, length-drop, drop-drop, drop_all, append_assoc, append-nil}
-use Rattle.std.specs.Prelude.{◌⊎◌, ◌≢◌}
-use Rattle.ada_lexer.specs.declared.kinds.TokenKind.{TokenKind}
+use Rattle.std.specs.Prelude.{◌≢◌}
 use Rattle.ada_lexer.specs.declared.kinds.Token.{Token}
 use Rattle.ada_lexer.specs.declared.errors.LexError.{LexError}
 use Rattle.ada_lexer.specs.declared.errors.LexError.TheVariants.{BadByte, OpenString, BadNumber, TooLong, Memory}
@@ -11,7 +10,7 @@ use Rattle.ada_lexer.specs.declared.verdicts.Verdict.TheVariants.{Gap, Kind, Fau
 use Rattle.ada_lexer.specs.Pieces.{IsLongest}
 use Rattle.ada_lexer.specs.Verdicts.{verdict}
 use Rattle.ada_lexer.specs.Lengths.{HasLongest, IsMeasured}
-use Rattle.ada_lexer.proofs.Unique.{splits-unique, split-has_no_fault, first_fault-unique}
+use Rattle.ada_lexer.proofs.Unique.{split-has_no_fault, first_fault-unique}
 use Rattle.ada_lexer.specs.Split.{FallsInto, onto_tokens, tokens_of, IsSound, AreSound, SplitsAt, Splits, BeginsNothing, FailsHere, place_behind, FailsAt, HasFirstFault}
 
 -- what the whole text gives, by what the rest from a place on gives

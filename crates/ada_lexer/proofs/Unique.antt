@@ -1,22 +1,21 @@
 -- A text has one split or one first fault, and never both.
-use Rattle.std.proofs.Common.{◌≡◌, ℕ, zero, suc, ◌+◌, ◌<◌, ◌≤◌, min, true, false, List, [], ◌∷◌, length, take, drop, refl, ap, ◌∙◌, sym, subst, arith, inl, inr}
+use Rattle.std.proofs.Common.{◌≡◌, ℕ, ◌+◌, ◌<◌, ◌≤◌, true, List, [], ◌∷◌, length, take, drop, refl, ap, ◌∙◌, sym, subst, arith, inl, inr}
 use Rattle.std.proofs.lemmas.List.{length-take}
 use Rattle.std.proofs.lemmas.Bool.{false≢true}
-use Rattle.std.specs.Prelude.{◌⊎◌, IsTrue}
+use Rattle.std.specs.Prelude.{IsTrue}
 use Rattle.ada_lexer.specs.declared.kinds.Token.{Token}
 use Rattle.ada_lexer.specs.declared.errors.LexError.{LexError}
-use Rattle.ada_lexer.specs.declared.errors.LexError.TheVariants.{BadByte}
 use Rattle.ada_lexer.specs.declared.verdicts.Verdict.{Verdict}
 use Rattle.ada_lexer.specs.declared.verdicts.Verdict.TheVariants.{Gap, Kind, Fault}
 use Rattle.ada_lexer.specs.Pieces.{is_piece, IsLongest}
 use Rattle.ada_lexer.specs.Verdicts.{verdict}
-use Rattle.ada_lexer.specs.Split.{FallsInto, tokens_of, IsSound, AreSound, SplitsAt, Splits, BeginsNothing, FailsHere, place_behind, FailsAt, HasFirstFault}
+use Rattle.ada_lexer.specs.Split.{FallsInto, tokens_of, IsSound, AreSound, Splits, FailsHere, place_behind, HasFirstFault}
 
 is_piece-nil : is_piece [] ≡ true → ⊥
 unfolding is_piece
 is_piece-nil h = false≢true h
 
-longest-some : (p text : List ℕ) → IsLongest p text → 0 < length p
+pub longest-some : (p text : List ℕ) → IsLongest p text → 0 < length p
 longest-some [] text h = absurd (is_piece-nil h.is_one)
 longest-some (b ∷ p) text h = omega arith
 

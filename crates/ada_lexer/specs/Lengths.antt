@@ -1,5 +1,5 @@
 -- How long the piece at the front of a text is, by the rule and as the code counts it.
-use Rattle.std.specs.Prelude.{◌≡◌, ◌<◌, ◌≤◌, ◌⊎◌, length, take, ℕ, Bool, true, ◌+◌, ◌&&◌, List, [], ◌∷◌, is_some, ◌==◌, if◌then◌else◌}
+use Rattle.std.specs.Prelude.{◌≡◌, ◌<◌, ◌≤◌, ◌⊎◌, length, take, ℕ, true, ◌+◌, ◌&&◌, List, [], ◌∷◌, is_some, ◌==◌, if◌then◌else◌}
 use Rattle.ada_lexer.specs.Bytes.{is_letter, is_digit, is_white, run_len}
 use Rattle.ada_lexer.specs.Words.{kind_in, simple_delimiters, compound_delimiters}
 use Rattle.ada_lexer.specs.Strings.{string_len}

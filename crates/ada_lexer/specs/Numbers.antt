@@ -1,5 +1,5 @@
 -- Numbers: their form and their value.
-use Rattle.std.specs.Prelude.{ℕ, Bool, true, false, ◌+◌, ◌-◌, ◌*◌, ◌&&◌, ◌||◌, List, [], ◌∷◌, take, drop, Option, None, Some, position, nat_le, ◌==◌, if◌then◌else◌}
+use Rattle.std.specs.Prelude.{ℕ, Bool, false, ◌+◌, ◌-◌, ◌*◌, ◌&&◌, ◌||◌, List, [], ◌∷◌, take, drop, Option, None, Some, position, nat_le, ◌==◌, if◌then◌else◌}
 use Rattle.std.specs.Option.{option_map}
 use Rattle.ada_lexer.specs.declared.kinds.TokenKind.{TokenKind}
 use Rattle.ada_lexer.specs.declared.kinds.TokenKind.TheVariants.{Integer, Duration}

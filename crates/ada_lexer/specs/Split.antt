@@ -1,12 +1,12 @@
 -- The split of a text into tokens, and the first fault of a text that does not split.
-use Rattle.std.specs.Prelude.{◌≡◌, ◌≢◌, ℕ, ◌+◌, ◌≤◌, List, [], ◌∷◌, ◌++◌, length, take, drop, All, IsTrue, ⊤, ◌⊎◌}
+use Rattle.std.specs.Prelude.{◌≡◌, ◌≢◌, ℕ, ◌+◌, ◌<◌, ◌≤◌, List, [], ◌∷◌, length, take, drop, IsTrue, ⊤, ◌⊎◌, slice_range}
 use Rattle.ada_lexer.specs.declared.kinds.Token.{Token}
 use Rattle.ada_lexer.specs.declared.errors.LexError.{LexError}
-use Rattle.ada_lexer.specs.declared.errors.LexError.TheVariants.{BadByte, Memory}
+use Rattle.ada_lexer.specs.declared.errors.LexError.TheVariants.{BadByte}
 use Rattle.ada_lexer.specs.Pieces.{is_piece, IsLongest}
 use Rattle.ada_lexer.specs.declared.verdicts.Verdict.{Verdict}
 use Rattle.ada_lexer.specs.declared.verdicts.Verdict.TheVariants.{Gap, Kind, Fault}
-use Rattle.ada_lexer.specs.Verdicts.{verdict}
+use Rattle.ada_lexer.specs.Verdicts.{verdict, IsToken}
 
 -- the text falls into these pieces and then the rest, each piece the longest that begins at its place (2.2)
 abbrev pub FallsInto : List (List ℕ) → List ℕ → List ℕ → Type 0
@@ -66,3 +66,14 @@ FailsAt at text error =
 -- the first fault of the whole text
 abbrev pub HasFirstFault : List ℕ → LexError → Type 0
 HasFirstFault text error = FailsAt 0 text error
+
+-- the token is the slice of the text from its start to its end, and that slice is a token of its kind
+pub record IsTokenOf (text : List ℕ) (t : Token) : Type 0 where
+  pub some : t.start < t.end
+  pub within : t.end ≤ length text
+  pub slice : IsToken (slice_range text t.start t.end) t.kind
+
+-- each token begins at or behind the end of the one before
+abbrev pub AreInOrder : ℕ → List Token → Type 0
+AreInOrder end [] = ⊤
+AreInOrder end (t ∷ tokens) = (end ≤ t.start) × AreInOrder t.end tokens

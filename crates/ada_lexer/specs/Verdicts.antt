@@ -1,8 +1,7 @@
 -- What a piece of a text is: nothing, a token, or the fault that it has.
-use Rattle.std.specs.Prelude.{◌≡◌, ℕ, Bool, true, false, ◌+◌, ◌≤◌, ◌&&◌, ◌||◌, not, List, [], ◌∷◌, length, Option, None, Some, position, nat_le, nat_lt, ◌==◌, if◌then◌else◌}
+use Rattle.std.specs.Prelude.{◌≡◌, ℕ, true, ◌+◌, not, List, [], ◌∷◌, length, Option, None, Some, position, nat_le, nat_lt, ◌==◌, if◌then◌else◌, IsTrue}
 use Rattle.ada_lexer.specs.declared.kinds.TokenKind.{TokenKind}
 use Rattle.ada_lexer.specs.declared.kinds.TokenKind.TheVariants.{Name, Text}
-use Rattle.ada_lexer.specs.declared.errors.LexError.{LexError}
 use Rattle.ada_lexer.specs.declared.errors.LexError.TheVariants.{BadByte, OpenString, BadNumber, TooLong}
 use Rattle.ada_lexer.specs.declared.verdicts.Verdict.{Verdict}
 use Rattle.ada_lexer.specs.declared.verdicts.Verdict.TheVariants.{Gap, Kind, Fault}
@@ -10,7 +9,7 @@ use Rattle.ada_lexer.specs.Bytes.{is_letter, is_digit, is_printable, is_white}
 use Rattle.ada_lexer.specs.Words.{reserved_kind, delimiter_kind}
 use Rattle.ada_lexer.specs.Numbers.{number_kind}
 use Rattle.ada_lexer.specs.Strings.{ends_inside, content}
-use Rattle.ada_lexer.specs.Pieces.{opens_comment}
+use Rattle.ada_lexer.specs.Pieces.{opens_comment, is_piece}
 
 -- an identifier has at most this many bytes, and a string's content at most that many (this project's limits)
 abbrev pub max_name : ℕ
@@ -59,6 +58,6 @@ verdict at (b ∷ rest) =
     else (if b == 34 then string_verdict at rest
     else mark_verdict at (b ∷ rest))))
 
--- the text is a token of this kind
+-- the text is a token of this kind: it is one piece, and as such a token
 abbrev pub IsToken : List ℕ → TokenKind → Type 0
-IsToken text kind = verdict 0 text ≡ Kind kind
+IsToken text kind = IsTrue (is_piece text) × (verdict 0 text ≡ Kind kind)

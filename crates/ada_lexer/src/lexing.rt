@@ -1,11 +1,11 @@
 //! The tokens of a text.
 
-ghost use Rattle.std.specs.Prelude.{◌≡◌, ◌≢◌, ◌<◌, ◌-◌, ◌^◌, List, [], ◌++◌, length, OnOk, IfOk, IfErr, MatchResult};
+ghost use Rattle.std.specs.Prelude.{◌≡◌, ◌≢◌, ◌<◌, ◌-◌, ◌^◌, List, [], ◌++◌, length, All, OnOk, IfOk, IfErr, MatchResult};
 ghost use Rattle.ada_lexer.specs.declared.kinds.Token.{Token};
 ghost use Rattle.ada_lexer.specs.declared.errors.LexError.{LexError};
 ghost use Rattle.ada_lexer.specs.declared.errors.LexError.TheVariants.{Memory};
 ghost use Rattle.ada_lexer.specs.declared.verdicts.Verdict.TheVariants.{Fault};
-ghost use Rattle.ada_lexer.specs.Split.{Splits, HasFirstFault, IsSound, onto_tokens};
+ghost use Rattle.ada_lexer.specs.Split.{Splits, HasFirstFault, IsTokenOf, AreInOrder, IsSound, onto_tokens};
 
 use super::bytes::{behind, front};
 use super::errors::LexError;
@@ -21,6 +21,8 @@ use std::alloc::Global;
 pub fn tokens(alloc: Global, src: &[u8]) -> Result<Vec<Token>, LexError>
     requires { length src.now < 2 ^ 32 - 1 }
     ensures split { IfOk result (λ found. Splits src.now found.items) }
+    ensures slices { IfOk result (λ found. All (IsTokenOf src.now) found.items) }
+    ensures order { IfOk result (λ found. AreInOrder 0 found.items) }
     ensures first_fault { IfErr result (λ error. error ≢ Memory → HasFirstFault src.now error) }
     ensures only_split { (wanted : List Token) → Splits src.now wanted
         → MatchResult result (λ found. found.items ≡ wanted) (λ error. error ≡ Memory) }

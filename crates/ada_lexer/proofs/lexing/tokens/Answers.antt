@@ -1,6 +1,7 @@
-use Rattle.std.proofs.Common.{refl, subst, sym, arith, rules}
+use Rattle.std.proofs.Common.{subst, sym}
 use Rattle.std.specs.Prelude.{◌+◌}
 use Rattle.ada_lexer.proofs.Unique.{splits-unique, split-has_no_fault}
+use Rattle.ada_lexer.proofs.Slices.{splits-slices, splits-order}
 use Rattle.ada_lexer.proofs.Steps.{IsReadTo, read_all, turn-sound, turn-fault, turn-nothing, error-only_split, error-only_fault}
 use Rattle.ada_lexer.proofs.lexing.tokens.Goals as goal
 
@@ -8,6 +9,14 @@ use Rattle.ada_lexer.proofs.lexing.tokens.Goals as goal
 pub returns-clause-split : goal.returns-clause-split
 returns-clause-split c =
     read_all c.args.src.now c.loop-at.at c.loop-at.found.items c.loop-at-test.false c.loop-at.invariant
+
+pub returns-clause-slices : goal.returns-clause-slices
+returns-clause-slices c =
+    splits-slices c.args.src.now c.loop-at.found.items (read_all c.args.src.now c.loop-at.at c.loop-at.found.items c.loop-at-test.false c.loop-at.invariant)
+
+pub returns-clause-order : goal.returns-clause-order
+returns-clause-order c =
+    splits-order c.args.src.now c.loop-at.found.items (read_all c.args.src.now c.loop-at.at c.loop-at.found.items c.loop-at-test.false c.loop-at.invariant)
 
 pub returns-clause-only_split : goal.returns-clause-only_split
 returns-clause-only_split c wanted h =

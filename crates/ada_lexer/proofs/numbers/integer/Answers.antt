@@ -1,4 +1,4 @@
-use Rattle.std.proofs.Common.{arith, sym, ◌∙◌, rules}
+use Rattle.std.proofs.Common.{sym, ◌∙◌, rules}
 use Rattle.std.proofs.lemmas.List.{at_drop_all}
 use Rattle.ada_lexer.specs.Bytes.{every}
 use Rattle.ada_lexer.specs.Numbers.{numeral_goes_on, decimal_from}

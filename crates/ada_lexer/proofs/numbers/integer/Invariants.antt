@@ -1,4 +1,4 @@
-use Rattle.std.proofs.Common.{◌≡◌, ◌+◌, ◌-◌, ◌≤◌, true, length, drop}
+use Rattle.std.proofs.Common.{◌≡◌, ◌-◌, ◌≤◌, length, drop}
 use Rattle.ada_lexer.specs.Bytes.{every}
 use Rattle.ada_lexer.specs.Numbers.{numeral_goes_on, decimal_from}
 use Rattle.ada_lexer.proofs.numbers.integer.Given as goal

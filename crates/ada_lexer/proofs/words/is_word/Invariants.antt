@@ -1,4 +1,4 @@
-use Rattle.std.proofs.Common.{◌≡◌, length, drop, map}
+use Rattle.std.proofs.Common.{◌≡◌, drop, map}
 use Rattle.ada_lexer.specs.Bytes.{lower}
 use Rattle.ada_lexer.specs.Words.{same_text}
 use Rattle.ada_lexer.proofs.words.is_word.Given as goal
