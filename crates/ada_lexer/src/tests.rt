@@ -1,0 +1,366 @@
+//! Texts with their tokens or their fault, by hand from the rules.
+
+ghost use Rattle.std.specs.Prelude.{◌<◌, ◌-◌, ◌^◌, length};
+
+use super::{LexError, LineCol, Token, TokenKind, line_col, tokens};
+use std::alloc::{AllocError, Global};
+use std::process::Abort;
+use std::test::Fail;
+
+/// The tokens of the text have these kinds.
+fn has_kinds(rt: &impl Abort, alloc: Global, text: &[u8], want: &[TokenKind])
+    requires { length text.now < 1000 }
+{
+    match tokens(alloc, text) {
+        Ok(found) => {
+            assert_eq!(rt; found.len(), want.len(), "{text:?}");
+            for (token, kind) in found.iter().zip(want) {
+                assert_eq!(rt; token.kind, *kind, "{text:?}");
+            }
+        }
+        Err(error) => assert!(rt; false, "{text:?}: {error}"),
+    }
+}
+
+/// The text has this first fault.
+fn fails(rt: &impl Abort, alloc: Global, text: &[u8], want: LexError)
+    requires { length text.now < 1000 }
+{
+    match tokens(alloc, text) {
+        Ok(_) => assert!(rt; false, "{text:?} splits"),
+        Err(error) => assert_eq!(rt; error, want, "{text:?}"),
+    }
+}
+
+#[test]
+fn reserved_words(rt: HostRuntime) {
+    use TokenKind::*;
+    let words = [
+        Abort, Abs, Accept, Access, All, And, Array, At, Begin, Body, Case, Constant, Declare,
+        Delay, Delta, Digits, Do, Else, Elsif, End, Entry, Exception, Exit, For, Function, Generic,
+        Goto, If, In, Is, Limited, Loop, Mod, New, Not, Null, Of, Or, Others, Out, Package, Pragma,
+        Private, Procedure, Raise, Range, Record, Rem, Renames, Return, Reverse, Select, Separate,
+        Subtype, Task, Terminate, Then, Type, Use, When, While, With, Xor,
+    ];
+    let small =
+        b"abort abs accept access all and array at begin body case constant declare delay delta digits do \
+        else elsif end entry exception exit for function generic goto if in is limited loop mod new \
+        not null of or others out package pragma private procedure raise range record rem renames \
+        return reverse select separate subtype task terminate then type use when while with xor";
+    has_kinds(&rt, rt.alloc(), small, &words);
+    let mixed =
+        b"ABORT ABS ACCEPT ACCESS ALL AND ARRAY AT Begin Body Case Constant Declare Delay Delta Digits dO \
+        ELSE ELSIF END ENTRY EXCEPTION EXIT FOR FUNCTION GENERIC GOTO iF iN iS LIMITED LOOP MOD NEW \
+        NOT NULL OF OR OTHERS OUT PACKAGE PRAGMA PRIVATE PROCEDURE RAISE RANGE RECORD REM RENAMES \
+        RETURN REVERSE SELECT SEPARATE SUBTYPE TASK TERMINATE THEN TYPE USE WHEN WHILE WITH XOR";
+    has_kinds(&rt, rt.alloc(), mixed, &words);
+}
+
+#[test]
+fn kinds_of_texts(rt: HostRuntime) {
+    use TokenKind::*;
+    let rows: [(&[u8], &[TokenKind]); 44] = [
+        (b"", &[]),
+        (b" \t\r\n\x0C", &[]),
+        (b"A", &[Name]),
+        (b"x1_b2_3C", &[Name]),
+        (b"BEGINS", &[Name]),
+        (b"BE GIN", &[Name, Name]),
+        (b"END_LOOP", &[Name]),
+        (b"loop1", &[Name]),
+        (b"end;loop", &[End, Semicolon, Loop]),
+        (
+            b"; , ( ) : := => . .. | & ' = /= < <= > >= + - * /",
+            &[
+                Semicolon,
+                Comma,
+                LeftParen,
+                RightParen,
+                Colon,
+                Becomes,
+                Arrow,
+                Dot,
+                DotDot,
+                Bar,
+                Ampersand,
+                Tick,
+                Equal,
+                NotEqual,
+                Less,
+                LessEqual,
+                Greater,
+                GreaterEqual,
+                Plus,
+                Minus,
+                Star,
+                Slash,
+            ],
+        ),
+        (b"**", &[Star, Star]),
+        (b"<>", &[Less, Greater]),
+        (b"<<>>", &[Less, Less, Greater, Greater]),
+        (b"...", &[DotDot, Dot]),
+        (b"=>=", &[Arrow, Equal]),
+        (b"::=", &[Colon, Becomes]),
+        (b": =", &[Colon, Equal]),
+        (b"/==", &[NotEqual, Equal]),
+        (b"A'FIRST", &[Name, Tick, Name]),
+        (b"a-b", &[Name, Minus, Name]),
+        (b"- -", &[Minus, Minus]),
+        (b"--", &[]),
+        (b"---", &[]),
+        (b"a--b c\nd", &[Name, Name]),
+        (b"a--b\rc\x0Cd\ne", &[Name, Name]),
+        (b"--\"#\n1", &[Integer(1)]),
+        (b"0", &[Integer(0)]),
+        (b"007", &[Integer(7)]),
+        (b"1_000_0", &[Integer(10000)]),
+        (b"2147483647", &[Integer(2147483647)]),
+        (b"2_147_483_647", &[Integer(2147483647)]),
+        (b"1..2", &[Integer(1), DotDot, Integer(2)]),
+        (b"1.A", &[Integer(1), Dot, Name]),
+        (b"0.5", &[Duration(500)]),
+        (b"1.25", &[Duration(1250)]),
+        (b"00_1.007", &[Duration(1007)]),
+        (b"86400.0", &[Duration(86400000)]),
+        (b"86399.999", &[Duration(86399999)]),
+        (b"1.5..2", &[Duration(1500), DotDot, Integer(2)]),
+        (b"\"\"", &[Text]),
+        (b"\"a\"\"b\"", &[Text]),
+        (b"\"\"\"\"", &[Text]),
+        (b"\" ~--\"&\"x\"", &[Text, Ampersand, Text]),
+        (
+            b"PUT(1);",
+            &[Name, LeftParen, Integer(1), RightParen, Semicolon],
+        ),
+    ];
+    for (text, want) in rows {
+        assert!(rt; text.len() < 1000);
+        has_kinds(&rt, rt.alloc(), text, want);
+    }
+}
+
+#[test]
+fn first_faults(rt: HostRuntime) {
+    use LexError::*;
+    let rows: [(&[u8], LexError); 36] = [
+        (b"_A", BadByte { at: 0 }),
+        (b"A_", BadByte { at: 1 }),
+        (b"A__B", BadByte { at: 1 }),
+        (b"A_ B", BadByte { at: 1 }),
+        (b"A_;", BadByte { at: 1 }),
+        (b"a #", BadByte { at: 2 }),
+        (b"a # 1_", BadByte { at: 2 }),
+        (b"1a", BadNumber { at: 0 }),
+        (b" 1_", BadNumber { at: 1 }),
+        (b"1__0", BadNumber { at: 0 }),
+        (b"1_ #", BadNumber { at: 0 }),
+        (b"1e5", BadNumber { at: 0 }),
+        (b"16#FF#", BadByte { at: 2 }),
+        (b"1._0", BadByte { at: 2 }),
+        (b"2147483648", BadNumber { at: 0 }),
+        (b"99999999999999999999999", BadNumber { at: 0 }),
+        (b"1.2345", BadNumber { at: 0 }),
+        (b"1.5.2", BadNumber { at: 0 }),
+        (b"1.5_0", BadNumber { at: 0 }),
+        (b"1_.5", BadNumber { at: 0 }),
+        (b"1.5s", BadNumber { at: 0 }),
+        (b"86400.001", BadNumber { at: 0 }),
+        (b"86401.0", BadNumber { at: 0 }),
+        (b"9999999999.0", BadNumber { at: 0 }),
+        (b"\"", OpenString { at: 0 }),
+        (b"x\"a", OpenString { at: 1 }),
+        (b"\"a\nb\"", OpenString { at: 0 }),
+        (b"\"a\"\"b\n", OpenString { at: 0 }),
+        (b"\"\"\"", OpenString { at: 0 }),
+        (b"\"a\tb\"", BadByte { at: 2 }),
+        (b"\"\xE9\"", BadByte { at: 1 }),
+        (b"\"\x7F\x1F\"", BadByte { at: 1 }),
+        (b"\"\xE9", OpenString { at: 0 }),
+        (b"\"a\rb\"", BadByte { at: 2 }),
+        (b"a--b\n\x0B", BadByte { at: 5 }),
+        (b"\"a\" \x80 \"b\"", BadByte { at: 4 }),
+    ];
+    for (text, want) in rows {
+        assert!(rt; text.len() < 1000);
+        fails(&rt, rt.alloc(), text, want);
+    }
+}
+
+#[test]
+fn places_of_tokens(rt: HostRuntime) -> Result<(), Fail> {
+    let found = tokens(rt.alloc(), b"  A1:=\"x\"\"y\";--z\n1.5")?;
+    let want = [
+        Token {
+            kind: TokenKind::Name,
+            start: 2,
+            end: 4,
+        },
+        Token {
+            kind: TokenKind::Becomes,
+            start: 4,
+            end: 6,
+        },
+        Token {
+            kind: TokenKind::Text,
+            start: 6,
+            end: 12,
+        },
+        Token {
+            kind: TokenKind::Semicolon,
+            start: 12,
+            end: 13,
+        },
+        Token {
+            kind: TokenKind::Duration(1500),
+            start: 17,
+            end: 20,
+        },
+    ];
+    assert_eq!(rt; found.as_slice(), want.as_slice());
+    Ok(())
+}
+
+/// A text of one byte many times between two others.
+fn repeated(
+    alloc: Global,
+    first: &[u8],
+    middle: &[u8],
+    count: u32,
+    last: &[u8],
+) -> Result<Vec<u8>, AllocError> {
+    let mut text = Vec::new(alloc);
+    text.extend_from_slice(first)?;
+    for _ in 0..count {
+        text.extend_from_slice(middle)?;
+    }
+    text.extend_from_slice(last)?;
+    Ok(text)
+}
+
+#[test]
+fn limits_of_length(rt: HostRuntime) -> Result<(), Fail> {
+    let alloc = rt.alloc();
+    let rows: [(&[u8], &[u8], u32, &[u8], bool); 6] = [
+        (b" ", b"a", 150, b"", true),
+        (b" ", b"a", 151, b"", false),
+        (b" \"", b"a", 200, b"\"", true),
+        (b" \"", b"a", 201, b"\"", false),
+        (b" \"", b"\"\"", 200, b"\"", true),
+        (b" \"", b"\"\"", 201, b"\"", false),
+    ];
+    for (first, middle, count, last, fits) in rows {
+        let text = repeated(alloc, first, middle, count, last)?;
+        assert!(rt; text.len() < 1000);
+        if fits {
+            let found = tokens(alloc, text.as_slice())?;
+            assert_eq!(rt; found.len(), 1);
+        } else {
+            fails(&rt, alloc, text.as_slice(), LexError::TooLong { at: 1 });
+        }
+    }
+    Ok(())
+}
+
+/// What a byte alone is: a kind, nothing, or a fault.
+fn alone(b: u8) -> Result<Option<TokenKind>, LexError> {
+    use TokenKind::*;
+    match b {
+        b' ' | 9 | 10 | 12 | 13 => Ok(None),
+        b'A'..=b'Z' | b'a'..=b'z' => Ok(Some(Name)),
+        b'0'..=b'9' => Ok(Some(Integer(u32::from(b - b'0')))),
+        b'"' => Err(LexError::OpenString { at: 0 }),
+        b'&' => Ok(Some(Ampersand)),
+        b'\'' => Ok(Some(Tick)),
+        b'(' => Ok(Some(LeftParen)),
+        b')' => Ok(Some(RightParen)),
+        b'*' => Ok(Some(Star)),
+        b'+' => Ok(Some(Plus)),
+        b',' => Ok(Some(Comma)),
+        b'-' => Ok(Some(Minus)),
+        b'.' => Ok(Some(Dot)),
+        b'/' => Ok(Some(Slash)),
+        b':' => Ok(Some(Colon)),
+        b';' => Ok(Some(Semicolon)),
+        b'<' => Ok(Some(Less)),
+        b'=' => Ok(Some(Equal)),
+        b'>' => Ok(Some(Greater)),
+        b'|' => Ok(Some(Bar)),
+        _ => Err(LexError::BadByte { at: 0 }),
+    }
+}
+
+#[test]
+fn each_byte_alone(rt: HostRuntime) {
+    for b in 0..=255u8 {
+        match alone(b) {
+            Ok(None) => has_kinds(&rt, rt.alloc(), &[b], &[]),
+            Ok(Some(kind)) => has_kinds(&rt, rt.alloc(), &[b], &[kind]),
+            Err(error) => fails(&rt, rt.alloc(), &[b], error),
+        }
+    }
+}
+
+#[test]
+fn each_byte_in_a_comment(rt: HostRuntime) {
+    for b in 0..=255u8 {
+        let text = [b'-', b'-', b, b'x'];
+        if b == b'\n' {
+            has_kinds(&rt, rt.alloc(), &text, &[TokenKind::Name]);
+        } else {
+            has_kinds(&rt, rt.alloc(), &text, &[]);
+        }
+    }
+}
+
+#[test]
+fn lines_and_columns(rt: HostRuntime) {
+    let rows: [(&[u8], u32, u32, u32); 10] = [
+        (b"", 0, 1, 1),
+        (b"ab\ncd", 0, 1, 1),
+        (b"ab\ncd", 2, 1, 3),
+        (b"ab\ncd", 3, 2, 1),
+        (b"ab\ncd", 5, 2, 3),
+        (b"ab\ncd", 9, 2, 3),
+        (b"\n\n", 1, 2, 1),
+        (b"\n\n", 2, 3, 1),
+        (b"a\r\nb", 2, 1, 3),
+        (b"a\xC3\xA9b", 3, 1, 4),
+    ];
+    for (text, at, line, col) in rows {
+        assert!(rt; text.len() < 1000);
+        assert_eq!(rt;
+            line_col(text, at),
+            LineCol { line, col },
+            "{text:?} at {at}"
+        );
+    }
+}
+
+#[test]
+fn messages(rt: HostRuntime) -> Result<(), Fail> {
+    let alloc = rt.alloc();
+    let rows = [
+        (
+            LexError::BadByte { at: 7 },
+            "the byte at 7 begins no token, or may not stand in a string",
+        ),
+        (
+            LexError::OpenString { at: 7 },
+            "the string that begins at byte 7 is not closed on its line",
+        ),
+        (
+            LexError::BadNumber { at: 7 },
+            "the number that begins at byte 7 is no integer up to 2147483647 and no duration up to 86400.000 with one to three decimals",
+        ),
+        (
+            LexError::TooLong { at: 7 },
+            "the token that begins at byte 7 is too long: an identifier has at most 150 bytes, a string at most 200",
+        ),
+        (LexError::Memory, "out of memory"),
+    ];
+    for (error, want) in rows {
+        assert_eq!(rt; format!(in alloc; "{error}")?.as_str(), want);
+    }
+    Ok(())
+}
