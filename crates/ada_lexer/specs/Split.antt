@@ -13,23 +13,25 @@ abbrev pub FallsInto : List (List ℕ) → List ℕ → List ℕ → Type 0
 FallsInto [] rest text = text ≡ rest
 FallsInto (piece ∷ pieces) rest text = IsLongest piece text × FallsInto pieces rest (drop (length piece) text)
 
--- the tokens of pieces that begin at a place: each token is the slice of its piece, and gaps are none
+-- in front of other tokens, the token that a piece from start to end is, if it is one
 abbrev pub onto_tokens : Verdict → ℕ → ℕ → List Token → List Token
 onto_tokens Gap start end tokens = tokens
 onto_tokens (Kind kind) start end tokens = record { kind = kind; start = start; end = end } ∷ tokens
 onto_tokens (Fault error) start end tokens = tokens
 
+-- the tokens of pieces that begin at a place: each stands where its piece does, and gaps are none
 abbrev pub tokens_of : ℕ → List (List ℕ) → List Token
 tokens_of at [] = []
 tokens_of at (piece ∷ pieces) =
     onto_tokens (verdict at piece) at (at + length piece) (tokens_of (at + length piece) pieces)
 
--- no piece of these has a fault
+-- it is no fault
 abbrev pub IsSound : Verdict → Type 0
 IsSound Gap = ⊤
 IsSound (Kind kind) = ⊤
 IsSound (Fault error) = ⊥
 
+-- none of the pieces that begin at a place has a fault
 abbrev pub AreSound : ℕ → List (List ℕ) → Type 0
 AreSound at [] = ⊤
 AreSound at (piece ∷ pieces) = IsSound (verdict at piece) × AreSound (at + length piece) pieces

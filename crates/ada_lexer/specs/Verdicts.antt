@@ -11,10 +11,11 @@ use Rattle.ada_lexer.specs.Numbers.{number_kind}
 use Rattle.ada_lexer.specs.Strings.{ends_inside, content}
 use Rattle.ada_lexer.specs.Pieces.{opens_comment, is_piece}
 
--- an identifier has at most this many bytes, and a string's content at most that many (this project's limits)
+-- an identifier has at most this many bytes (this project's limit)
 abbrev pub max_name : ℕ
 max_name = 150
 
+-- a string's content has at most this many bytes (this project's limit)
 abbrev pub max_content : ℕ
 max_content = 200
 

@@ -1,190 +1,146 @@
 //! Texts with their tokens or their fault, by hand from the rules.
 
-ghost use Rattle.std.specs.Prelude.{◌<◌, ◌-◌, ◌^◌, length};
+ghost use Rattle.std.specs.Prelude.{◌<◌, length};
 
 use super::{LexError, LineCol, Token, TokenKind, line_col, tokens};
 use std::alloc::{AllocError, Global};
-use std::process::Abort;
 use std::test::Fail;
 
-/// The tokens of the text have these kinds.
-fn has_kinds(rt: &impl Abort, alloc: Global, text: &[u8], want: &[TokenKind])
+/// The kinds of the text's tokens with a blank between, or its fault.
+fn told(alloc: Global, text: &[u8]) -> Result<String, Fail>
     requires { length text.now < 1000 }
 {
+    let mut out = String::new(alloc);
     match tokens(alloc, text) {
         Ok(found) => {
-            assert_eq!(rt; found.len(), want.len(), "{text:?}");
-            for (token, kind) in found.iter().zip(want) {
-                assert_eq!(rt; token.kind, *kind, "{text:?}");
+            for token in found.as_slice() {
+                if !out.is_empty() {
+                    out.push_str(" ")?;
+                }
+                let kind = token.kind;
+                out.push_str(format!(in alloc; "{kind:?}")?.as_str())?;
             }
         }
-        Err(error) => assert!(rt; false, "{text:?}: {error}"),
+        Err(error) => out.push_str(format!(in alloc; "{error:?}")?.as_str())?,
     }
-}
-
-/// The text has this first fault.
-fn fails(rt: &impl Abort, alloc: Global, text: &[u8], want: LexError)
-    requires { length text.now < 1000 }
-{
-    match tokens(alloc, text) {
-        Ok(_) => assert!(rt; false, "{text:?} splits"),
-        Err(error) => assert_eq!(rt; error, want, "{text:?}"),
-    }
+    Ok(out)
 }
 
 #[test]
-fn reserved_words(rt: HostRuntime) {
-    use TokenKind::*;
-    let words = [
-        Abort, Abs, Accept, Access, All, And, Array, At, Begin, Body, Case, Constant, Declare,
-        Delay, Delta, Digits, Do, Else, Elsif, End, Entry, Exception, Exit, For, Function, Generic,
-        Goto, If, In, Is, Limited, Loop, Mod, New, Not, Null, Of, Or, Others, Out, Package, Pragma,
-        Private, Procedure, Raise, Range, Record, Rem, Renames, Return, Reverse, Select, Separate,
-        Subtype, Task, Terminate, Then, Type, Use, When, While, With, Xor,
-    ];
-    let small =
-        b"abort abs accept access all and array at begin body case constant declare delay delta digits do \
-        else elsif end entry exception exit for function generic goto if in is limited loop mod new \
-        not null of or others out package pragma private procedure raise range record rem renames \
-        return reverse select separate subtype task terminate then type use when while with xor";
-    has_kinds(&rt, rt.alloc(), small, &words);
-    let mixed =
-        b"ABORT ABS ACCEPT ACCESS ALL AND ARRAY AT Begin Body Case Constant Declare Delay Delta Digits dO \
-        ELSE ELSIF END ENTRY EXCEPTION EXIT FOR FUNCTION GENERIC GOTO iF iN iS LIMITED LOOP MOD NEW \
-        NOT NULL OF OR OTHERS OUT PACKAGE PRAGMA PRIVATE PROCEDURE RAISE RANGE RECORD REM RENAMES \
-        RETURN REVERSE SELECT SEPARATE SUBTYPE TASK TERMINATE THEN TYPE USE WHEN WHILE WITH XOR";
-    has_kinds(&rt, rt.alloc(), mixed, &words);
-}
-
-#[test]
-fn kinds_of_texts(rt: HostRuntime) {
-    use TokenKind::*;
-    let rows: [(&[u8], &[TokenKind]); 44] = [
-        (b"", &[]),
-        (b" \t\r\n\x0C", &[]),
-        (b"A", &[Name]),
-        (b"x1_b2_3C", &[Name]),
-        (b"BEGINS", &[Name]),
-        (b"BE GIN", &[Name, Name]),
-        (b"END_LOOP", &[Name]),
-        (b"loop1", &[Name]),
-        (b"end;loop", &[End, Semicolon, Loop]),
+fn texts(rt: HostRuntime) -> Result<(), Fail> {
+    let alloc = rt.alloc();
+    let rows: [(&[u8], &str); 69] = [
         (
-            b"; , ( ) : := => . .. | & ' = /= < <= > >= + - * /",
-            &[
-                Semicolon,
-                Comma,
-                LeftParen,
-                RightParen,
-                Colon,
-                Becomes,
-                Arrow,
-                Dot,
-                DotDot,
-                Bar,
-                Ampersand,
-                Tick,
-                Equal,
-                NotEqual,
-                Less,
-                LessEqual,
-                Greater,
-                GreaterEqual,
-                Plus,
-                Minus,
-                Star,
-                Slash,
-            ],
+            b"abort abs accept access all and array at begin body case constant declare delay delta digits",
+            "Abort Abs Accept Access All And Array At Begin Body Case Constant Declare Delay Delta Digits",
         ),
-        (b"**", &[Star, Star]),
-        (b"<>", &[Less, Greater]),
-        (b"<<>>", &[Less, Less, Greater, Greater]),
-        (b"...", &[DotDot, Dot]),
-        (b"=>=", &[Arrow, Equal]),
-        (b"::=", &[Colon, Becomes]),
-        (b": =", &[Colon, Equal]),
-        (b"/==", &[NotEqual, Equal]),
-        (b"A'FIRST", &[Name, Tick, Name]),
-        (b"a-b", &[Name, Minus, Name]),
-        (b"- -", &[Minus, Minus]),
-        (b"--", &[]),
-        (b"---", &[]),
-        (b"a--b c\nd", &[Name, Name]),
-        (b"a--b\rc\x0Cd\ne", &[Name, Name]),
-        (b"--\"#\n1", &[Integer(1)]),
-        (b"0", &[Integer(0)]),
-        (b"007", &[Integer(7)]),
-        (b"1_000_0", &[Integer(10000)]),
-        (b"2147483647", &[Integer(2147483647)]),
-        (b"2_147_483_647", &[Integer(2147483647)]),
-        (b"1..2", &[Integer(1), DotDot, Integer(2)]),
-        (b"1.A", &[Integer(1), Dot, Name]),
-        (b"0.5", &[Duration(500)]),
-        (b"1.25", &[Duration(1250)]),
-        (b"00_1.007", &[Duration(1007)]),
-        (b"86400.0", &[Duration(86400000)]),
-        (b"86399.999", &[Duration(86399999)]),
-        (b"1.5..2", &[Duration(1500), DotDot, Integer(2)]),
-        (b"\"\"", &[Text]),
-        (b"\"a\"\"b\"", &[Text]),
-        (b"\"\"\"\"", &[Text]),
-        (b"\" ~--\"&\"x\"", &[Text, Ampersand, Text]),
         (
-            b"PUT(1);",
-            &[Name, LeftParen, Integer(1), RightParen, Semicolon],
+            b"do else elsif end entry exception exit for function generic goto if in is limited loop",
+            "Do Else Elsif End Entry Exception Exit For Function Generic Goto If In Is Limited Loop",
         ),
+        (
+            b"mod new not null of or others out package pragma private procedure raise range record rem",
+            "Mod New Not Null Of Or Others Out Package Pragma Private Procedure Raise Range Record Rem",
+        ),
+        (
+            b"renames return reverse select separate subtype task terminate then type use when while with xor",
+            "Renames Return Reverse Select Separate Subtype Task Terminate Then Type Use When While With Xor",
+        ),
+        (
+            b"ABORT Begin cASE eLSIF pRAGMA OtherS",
+            "Abort Begin Case Elsif Pragma Others",
+        ),
+        (b"", ""),
+        (b" \t\r\n\x0C", ""),
+        (b"A", "Name"),
+        (b"x1_b2_3C", "Name"),
+        (b"BEGINS BE GIN END_LOOP loop1", "Name Name Name Name Name"),
+        (b"end;loop", "End Semicolon Loop"),
+        (
+            b"; , ( ) : := => . .. | &",
+            "Semicolon Comma LeftParen RightParen Colon Becomes Arrow Dot DotDot Bar Ampersand",
+        ),
+        (
+            b"' = /= < <= > >= + - * /",
+            "Tick Equal NotEqual Less LessEqual Greater GreaterEqual Plus Minus Star Slash",
+        ),
+        (
+            b"**<><<>>",
+            "Star Star Less Greater Less Less Greater Greater",
+        ),
+        (b"...", "DotDot Dot"),
+        (
+            b"=>=::=: =/==",
+            "Arrow Equal Colon Becomes Colon Equal NotEqual Equal",
+        ),
+        (b"A'FIRST", "Name Tick Name"),
+        (b"a-b - -", "Name Minus Name Minus Minus"),
+        (b"--", ""),
+        (b"---", ""),
+        (b"a--b c\nd", "Name Name"),
+        (b"a--b\rc\x0Cd\ne", "Name Name"),
+        (b"--\"#\n1", "Integer(1)"),
+        (b"0 007 1_000_0", "Integer(0) Integer(7) Integer(10000)"),
+        (
+            b"2147483647 2_147_483_647",
+            "Integer(2147483647) Integer(2147483647)",
+        ),
+        (b"1..2", "Integer(1) DotDot Integer(2)"),
+        (b"1.A", "Integer(1) Dot Name"),
+        (
+            b"0.5 1.25 00_1.007",
+            "Duration(500) Duration(1250) Duration(1007)",
+        ),
+        (
+            b"86400.0 86400.000 86399.999",
+            "Duration(86400000) Duration(86400000) Duration(86399999)",
+        ),
+        (b"1.5..2", "Duration(1500) DotDot Integer(2)"),
+        (b"\"\" \"a\"\"b\" \"\"\"\"", "Text Text Text"),
+        (b"\" ~--\"&\"x\"", "Text Ampersand Text"),
+        (b"PUT(1);", "Name LeftParen Integer(1) RightParen Semicolon"),
+        (b"_A", "BadByte { at: 0 }"),
+        (b"A_", "BadByte { at: 1 }"),
+        (b"A__B", "BadByte { at: 1 }"),
+        (b"A_ B", "BadByte { at: 1 }"),
+        (b"a #", "BadByte { at: 2 }"),
+        (b"a # 1_", "BadByte { at: 2 }"),
+        (b"1a", "BadNumber { at: 0 }"),
+        (b" 1_", "BadNumber { at: 1 }"),
+        (b"1__0", "BadNumber { at: 0 }"),
+        (b"1_ #", "BadNumber { at: 0 }"),
+        (b"1e5", "BadNumber { at: 0 }"),
+        (b"16#FF#", "BadByte { at: 2 }"),
+        (b"1._0", "BadByte { at: 2 }"),
+        (b"2147483648", "BadNumber { at: 0 }"),
+        (b"99999999999999999999999", "BadNumber { at: 0 }"),
+        (b"1.2345", "BadNumber { at: 0 }"),
+        (b"1.5.2", "BadNumber { at: 0 }"),
+        (b"1.5_0", "BadNumber { at: 0 }"),
+        (b"1_.5", "BadNumber { at: 0 }"),
+        (b"1.5s", "BadNumber { at: 0 }"),
+        (b"86400.001", "BadNumber { at: 0 }"),
+        (b"86401.0", "BadNumber { at: 0 }"),
+        (b"9999999999.0", "BadNumber { at: 0 }"),
+        (b"\"", "OpenString { at: 0 }"),
+        (b"x\"a", "OpenString { at: 1 }"),
+        (b"\"a\nb\"", "OpenString { at: 0 }"),
+        (b"\"a\"\"b\n", "OpenString { at: 0 }"),
+        (b"\"\"\"", "OpenString { at: 0 }"),
+        (b"\"\xE9", "OpenString { at: 0 }"),
+        (b"\"\xE9\"", "BadByte { at: 1 }"),
+        (b"\"a\tb\"", "BadByte { at: 2 }"),
+        (b"\"a\rb\"", "BadByte { at: 2 }"),
+        (b"\" ~\x7F\x1F\"", "BadByte { at: 3 }"),
+        (b"\" ~\x1F\"", "BadByte { at: 3 }"),
+        (b"\"a\" \x80 \"b\"", "BadByte { at: 4 }"),
+        (b"a--b\n\x0B", "BadByte { at: 5 }"),
     ];
     for (text, want) in rows {
         assert!(rt; text.len() < 1000);
-        has_kinds(&rt, rt.alloc(), text, want);
+        assert_eq!(rt; told(alloc, text)?.as_str(), want, "{text:?}");
     }
-}
-
-#[test]
-fn first_faults(rt: HostRuntime) {
-    use LexError::*;
-    let rows: [(&[u8], LexError); 36] = [
-        (b"_A", BadByte { at: 0 }),
-        (b"A_", BadByte { at: 1 }),
-        (b"A__B", BadByte { at: 1 }),
-        (b"A_ B", BadByte { at: 1 }),
-        (b"A_;", BadByte { at: 1 }),
-        (b"a #", BadByte { at: 2 }),
-        (b"a # 1_", BadByte { at: 2 }),
-        (b"1a", BadNumber { at: 0 }),
-        (b" 1_", BadNumber { at: 1 }),
-        (b"1__0", BadNumber { at: 0 }),
-        (b"1_ #", BadNumber { at: 0 }),
-        (b"1e5", BadNumber { at: 0 }),
-        (b"16#FF#", BadByte { at: 2 }),
-        (b"1._0", BadByte { at: 2 }),
-        (b"2147483648", BadNumber { at: 0 }),
-        (b"99999999999999999999999", BadNumber { at: 0 }),
-        (b"1.2345", BadNumber { at: 0 }),
-        (b"1.5.2", BadNumber { at: 0 }),
-        (b"1.5_0", BadNumber { at: 0 }),
-        (b"1_.5", BadNumber { at: 0 }),
-        (b"1.5s", BadNumber { at: 0 }),
-        (b"86400.001", BadNumber { at: 0 }),
-        (b"86401.0", BadNumber { at: 0 }),
-        (b"9999999999.0", BadNumber { at: 0 }),
-        (b"\"", OpenString { at: 0 }),
-        (b"x\"a", OpenString { at: 1 }),
-        (b"\"a\nb\"", OpenString { at: 0 }),
-        (b"\"a\"\"b\n", OpenString { at: 0 }),
-        (b"\"\"\"", OpenString { at: 0 }),
-        (b"\"a\tb\"", BadByte { at: 2 }),
-        (b"\"\xE9\"", BadByte { at: 1 }),
-        (b"\"\x7F\x1F\"", BadByte { at: 1 }),
-        (b"\"\xE9", OpenString { at: 0 }),
-        (b"\"a\rb\"", BadByte { at: 2 }),
-        (b"a--b\n\x0B", BadByte { at: 5 }),
-        (b"\"a\" \x80 \"b\"", BadByte { at: 4 }),
-    ];
-    for (text, want) in rows {
-        assert!(rt; text.len() < 1000);
-        fails(&rt, rt.alloc(), text, want);
-    }
+    Ok(())
 }
 
 #[test]
@@ -241,76 +197,77 @@ fn repeated(
 #[test]
 fn limits_of_length(rt: HostRuntime) -> Result<(), Fail> {
     let alloc = rt.alloc();
-    let rows: [(&[u8], &[u8], u32, &[u8], bool); 6] = [
-        (b" ", b"a", 150, b"", true),
-        (b" ", b"a", 151, b"", false),
-        (b" \"", b"a", 200, b"\"", true),
-        (b" \"", b"a", 201, b"\"", false),
-        (b" \"", b"\"\"", 200, b"\"", true),
-        (b" \"", b"\"\"", 201, b"\"", false),
+    let rows: [(&[u8], &[u8], u32, &[u8], &str); 6] = [
+        (b" ", b"a", 150, b"", "Name"),
+        (b" ", b"a", 151, b"", "TooLong { at: 1 }"),
+        (b" \"", b"a", 200, b"\"", "Text"),
+        (b" \"", b"a", 201, b"\"", "TooLong { at: 1 }"),
+        (b" \"", b"\"\"", 200, b"\"", "Text"),
+        (b" \"", b"\"\"", 201, b"\"", "TooLong { at: 1 }"),
     ];
-    for (first, middle, count, last, fits) in rows {
+    for (first, middle, count, last, want) in rows {
         let text = repeated(alloc, first, middle, count, last)?;
         assert!(rt; text.len() < 1000);
-        if fits {
-            let found = tokens(alloc, text.as_slice())?;
-            assert_eq!(rt; found.len(), 1);
+        assert_eq!(rt; told(alloc, text.as_slice())?.as_str(), want, "{count}");
+    }
+    Ok(())
+}
+
+/// What a byte alone is: the name of a kind, nothing, or a fault.
+fn alone(b: u8) -> &'static str {
+    match b {
+        b' ' | 9 | 10 | 12 | 13 => "",
+        b'A'..=b'Z' | b'a'..=b'z' => "Name",
+        b'"' => "OpenString { at: 0 }",
+        b'&' => "Ampersand",
+        b'\'' => "Tick",
+        b'(' => "LeftParen",
+        b')' => "RightParen",
+        b'*' => "Star",
+        b'+' => "Plus",
+        b',' => "Comma",
+        b'-' => "Minus",
+        b'.' => "Dot",
+        b'/' => "Slash",
+        b':' => "Colon",
+        b';' => "Semicolon",
+        b'<' => "Less",
+        b'=' => "Equal",
+        b'>' => "Greater",
+        b'|' => "Bar",
+        _ => "BadByte { at: 0 }",
+    }
+}
+
+#[test]
+fn each_byte_alone(rt: HostRuntime) -> Result<(), Fail> {
+    let alloc = rt.alloc();
+    for b in 0..=255u8 {
+        let found = told(alloc, &[b])?;
+        if b'0' <= b && b <= b'9' {
+            let value = b - b'0';
+            assert_eq!(rt;
+                found.as_str(),
+                format!(in alloc; "Integer({value})")?.as_str()
+            );
         } else {
-            fails(&rt, alloc, text.as_slice(), LexError::TooLong { at: 1 });
+            assert_eq!(rt; found.as_str(), alone(b), "byte {b}");
         }
     }
     Ok(())
 }
 
-/// What a byte alone is: a kind, nothing, or a fault.
-fn alone(b: u8) -> Result<Option<TokenKind>, LexError> {
-    use TokenKind::*;
-    match b {
-        b' ' | 9 | 10 | 12 | 13 => Ok(None),
-        b'A'..=b'Z' | b'a'..=b'z' => Ok(Some(Name)),
-        b'0'..=b'9' => Ok(Some(Integer(u32::from(b - b'0')))),
-        b'"' => Err(LexError::OpenString { at: 0 }),
-        b'&' => Ok(Some(Ampersand)),
-        b'\'' => Ok(Some(Tick)),
-        b'(' => Ok(Some(LeftParen)),
-        b')' => Ok(Some(RightParen)),
-        b'*' => Ok(Some(Star)),
-        b'+' => Ok(Some(Plus)),
-        b',' => Ok(Some(Comma)),
-        b'-' => Ok(Some(Minus)),
-        b'.' => Ok(Some(Dot)),
-        b'/' => Ok(Some(Slash)),
-        b':' => Ok(Some(Colon)),
-        b';' => Ok(Some(Semicolon)),
-        b'<' => Ok(Some(Less)),
-        b'=' => Ok(Some(Equal)),
-        b'>' => Ok(Some(Greater)),
-        b'|' => Ok(Some(Bar)),
-        _ => Err(LexError::BadByte { at: 0 }),
-    }
-}
-
 #[test]
-fn each_byte_alone(rt: HostRuntime) {
+fn each_byte_in_a_comment(rt: HostRuntime) -> Result<(), Fail> {
     for b in 0..=255u8 {
-        match alone(b) {
-            Ok(None) => has_kinds(&rt, rt.alloc(), &[b], &[]),
-            Ok(Some(kind)) => has_kinds(&rt, rt.alloc(), &[b], &[kind]),
-            Err(error) => fails(&rt, rt.alloc(), &[b], error),
-        }
+        let want = if b == b'\n' { "Name" } else { "" };
+        assert_eq!(rt;
+            told(rt.alloc(), &[b'-', b'-', b, b'x'])?.as_str(),
+            want,
+            "byte {b}"
+        );
     }
-}
-
-#[test]
-fn each_byte_in_a_comment(rt: HostRuntime) {
-    for b in 0..=255u8 {
-        let text = [b'-', b'-', b, b'x'];
-        if b == b'\n' {
-            has_kinds(&rt, rt.alloc(), &text, &[TokenKind::Name]);
-        } else {
-            has_kinds(&rt, rt.alloc(), &text, &[]);
-        }
-    }
+    Ok(())
 }
 
 #[test]
