@@ -4,7 +4,7 @@ use Rattle.ada_value.specs.declared.Raised.{Raised}
 use Rattle.ada_value.specs.declared.Raised.TheVariants.{Tasking}
 use Rattle.ada_tree.specs.declared.naming.NameId.{NameId}
 use Rattle.ada_tree.specs.PlainStmt.{PStmt, PStmts, PMaybe, PAccept, PCall, PBody, no_stmt, stmt_then, absent, present, accepting, body, SCall, SAccept}
-use Rattle.ada_tree.specs.PlainDecl.{PDecls, no_decl, decl_then, DTaskBody}
+use Rattle.ada_tree.specs.PlainDecl.{PDecl, PDecls, no_decl, decl_then, DTaskBody}
 use Rattle.ada_tree.specs.PlainProgram.{PProgram}
 use Rattle.syn_event.specs.declared.numbering.TaskInfo.{TaskInfo}
 use Rattle.syn_event.specs.Numbering.{Numbering, task_named, entry_named, task_at}
@@ -16,13 +16,13 @@ use Rattle.event_machine.specs.Offers.{Offer, Nothing, Calls, Waits, Finishes, E
 use Rattle.event_machine.specs.Seats.{Ops}
 use Rattle.task_local.specs.Control.{Around, Outermost, Opened, Part, Task}
 
--- the entry that a call names, and the task's own entry of that name; 0 where there is none, as in no accepted program
-abbrev pub entry_called : Numbering → PCall → ℕ
-entry_called numbers call =
-    unwrap_or (entry_named numbers (unwrap_or (task_named numbers call.task.name.name) 0) call.entry.name) 0
-
+-- the entry of that name that a task has; 0 where there is none, as in no accepted program
 abbrev pub entry_accepted : Numbering → ℕ → NameId → ℕ
 entry_accepted numbers number name = unwrap_or (entry_named numbers number name) 0
+
+-- the entry that a call names
+abbrev pub entry_called : Numbering → PCall → ℕ
+entry_called numbers call = entry_accepted numbers (unwrap_or (task_named numbers call.task.name.name) 0) call.entry.name
 
 -- the statements of an accept body; none where it has no body
 abbrev pub accept_body : PMaybe → PStmts
@@ -101,9 +101,12 @@ callers_in (part ∷ parts) = caller_in part.place ++ callers_in parts
 abbrev pub callers_of : Task → List ℕ
 callers_of task = caller_in task.top.place ++ callers_in task.outer
 
--- the statements of the accept at which a frame stands
+-- the statements of the body of the accept at which a frame stands
+abbrev pub accepted_body : PAccept → PStmts
+accepted_body (accepting head stmts) = accept_body stmts
+
 abbrev pub body_at : PStmt → PStmts
-body_at (SAccept (accepting head stmts) span) = accept_body stmts
+body_at (SAccept accept span) = accepted_body accept
 body_at _ = no_stmt
 
 abbrev pub body_in : PStmts → PStmts
@@ -123,29 +126,32 @@ pending_in (Opened caller pending) = pending
 abbrev pub pending_of : Task → Option Raised
 pending_of task = pending_in task.top.place
 
--- the task goes on behind its statement, or the exception is raised there
-abbrev pub goes_on : Option Raised → Task → Task
-goes_on None task = gone_on task
-goes_on (Some raised) task = raised_in raised task
+-- the frame goes on behind its first statement, or the exception is raised there
+abbrev pub part_on : Option Raised → Part → Part
+part_on None part = part_behind part
+part_on (Some raised) part = part_left raised part
 
 -- The task behind the accept whose body was the innermost frame; a pending exception is raised there.
 abbrev pub closed_in : Task → List Part → Task
 closed_in task [] = task
-closed_in task (part ∷ parts) = goes_on (pending_of task) (with_frames task part parts)
+closed_in task (part ∷ parts) = with_frames task (part_on (pending_of task) part) parts
 
 abbrev pub body_closed : Task → Task
 body_closed task = closed_in task task.outer
 
 -- The caller behind its call, as its rendezvous with this acceptor ends; a pending exception is raised there.
 abbrev pub call_ended : Task → Task → Task
-call_ended acceptor task = goes_on (pending_of acceptor) task
+call_ended acceptor task = with_top task (part_on (pending_of acceptor) task.top)
+
+-- the statements of the body that a declaration is, if it is one of that name
+abbrev pub body_of_decl : PDecl → NameId → Option PStmts
+body_of_decl (DTaskBody w objects (body stmts handlers) span) name = if w.name.0 == name.0 then Some stmts else None
+body_of_decl _ name = None
 
 -- the statements of the first body of that name among the declarations
 abbrev pub body_named : PDecls → NameId → PStmts
 body_named no_decl name = no_stmt
-body_named (decl_then (DTaskBody w objects (body stmts handlers) span) rest) name =
-    if w.name.0 == name.0 then stmts else body_named rest name
-body_named (decl_then _ rest) name = body_named rest name
+body_named (decl_then decl rest) name = unwrap_or (body_of_decl decl name) (body_named rest name)
 
 abbrev pub stmts_of_body : PBody → PStmts
 stmts_of_body (body stmts handlers) = stmts
@@ -164,8 +170,8 @@ started p numbers t = record {
   numbers = numbers;
   number = t;
   top = record { rest = stmts_of_task p numbers t; place = Outermost };
-  outer = []
-  }
+  outer = [];
+}
 
 -- a task that has nothing to do, where no task is
 abbrev pub nobody : Task
@@ -173,8 +179,8 @@ nobody = record {
   numbers = record { main = record { 0 = 0 }; tasks = []; entries = [] };
   number = 0;
   top = record { rest = no_stmt; place = Outermost };
-  outer = []
-  }
+  outer = [];
+}
 
 -- What one task does. No statement so far has an else part, a delay or a name to abort, so those three change nothing.
 abbrev pub task_ops : Ops Task
@@ -190,5 +196,5 @@ task_ops = record {
   took_else = λ task. task;
   took_delay = λ k task. task;
   passed = λ task. task;
-  nobody = nobody
-  }
+  nobody = nobody;
+}

@@ -1,15 +1,17 @@
 // One task.
 
-ghost use Rattle.std.specs.Prelude.{◌≡◌, ◌↔◌, ℕ, Bool, true, IsTrue, IfOk, OnErr, Option, Some, None};
+ghost use Rattle.std.specs.Prelude.{◌≡◌, IfOk, OnOk, OnErr, if◌then◌else◌, map, option_map, reverse, slice_get};
+ghost use Rattle.ada_tree.specs.PlainDecl.{decls_of, plain_decl};
 ghost use Rattle.ada_tree.specs.PlainProgram.{plain_program};
-ghost use Rattle.task_local.specs.Control.{Part, seen};
+ghost use Rattle.ada_tree.specs.PlainStmt.{plain_accept, plain_call, plain_stmt};
+ghost use Rattle.task_local.specs.Control.{seen};
 ghost use Rattle.task_local.specs.OfferView.{offer_as};
 ghost use Rattle.task_local.specs.Stands.{stand_as};
-ghost use Rattle.task_local.specs.Steps.{offer_in, offer_of, can_step, gone_on, opened_for, pending_of, body_closed, raised_in, callers_of, started, stmts_of_task, body_named, part_left, body_in, entry_called, entry_accepted};
+ghost use Rattle.task_local.specs.Steps.{offer_in, offer_of, can_step, gone_on, opened_for, pending_of, body_closed, raised_in, callers_of, callers_in, started, stmts_of_task, body_named, body_of_decl, accepted_body, body_at, body_in, entry_accepted, entry_called};
 
 use crate::frames::{Frame, Place};
 use crate::{CallForm, Choice, Offer};
-use ada_tree::{Call, Decl, DeclKind, Memory, NameId, Program, Stmt, StmtKind, Types};
+use ada_tree::{Accept, Call, Decl, DeclKind, Memory, NameId, Program, Stmt, StmtKind, Types};
 use ada_value::Raised;
 use std::alloc::Global;
 use std::marker::Model;
@@ -27,11 +29,13 @@ pub struct LocalTask<'p> {
 
 impl<'p> Model for LocalTask<'p> {
     ghost use Rattle.std.specs.Prelude.{◌≡◌, reverse};
-    ghost use Rattle.task_local.specs.Control.{Task, coded_task};
+    ghost use Rattle.std.specs.Coded.{codes};
+    ghost use Rattle.ada_tree.proofs.Codes.{tree_codes};
+    ghost use Rattle.task_local.specs.Control.{Task};
 
     ghost Value = { Task };
 
-    ghost coded = { coded_task };
+    ghost coded = { Prim.hlevel (codes, tree_codes) };
 
     ghost use Rattle.task_local.specs.Steps.{offer_in};
     ghost use Rattle.task_local.specs.Stands.{stand_as};
@@ -84,7 +88,7 @@ impl<'p> LocalTask<'p> {
         ensures unchanged { OnErr result (self.new ≡ self.old) }
     {
         if let Stand::Step = self.stand {
-            self.go_on();
+            self.resume();
             Ok(true)
         } else {
             Ok(false)
@@ -110,11 +114,11 @@ impl<'p> LocalTask<'p> {
 
     /// The caller of the innermost opened accept body, if one is open.
     pub fn caller(&self) -> Option<u32>
-        ensures { result ≡ first_of (callers_of self.now) }
+        ensures { result ≡ slice_get (callers_of self.now) 0 }
     {
         match self.top.place {
             Place::Opened { caller, .. } => Some(caller),
-            Place::Outermost => self.outer_caller(),
+            Place::Outermost => caller_among(&self.outer),
         }
     }
 
@@ -146,12 +150,9 @@ impl<'p> LocalTask<'p> {
     {
         let pending = self.top.pending();
         if let Some(below) = self.outer.pop() {
-            self.top = below;
-            match pending {
-                Some(raised) => self.raise(raised),
-                None => self.go_on(),
-            }
+            self.top = below.behind(pending);
         }
+        self.stand = stand_at(self.numbers, self.number, &self.top);
         pending
     }
 
@@ -159,39 +160,15 @@ impl<'p> LocalTask<'p> {
     pub fn resume(&mut self)
         ensures { self.new ≡ gone_on self.old }
     {
-        self.go_on();
+        self.top.go_on();
+        self.stand = stand_at(self.numbers, self.number, &self.top);
     }
 
     /// Raises an exception at the call at which the task stands.
     pub fn raise_at_call(&mut self, raised: Raised)
         ensures { self.new ≡ raised_in raised self.old }
     {
-        self.raise(raised);
-    }
-}
-
-impl<'p> LocalTask<'p> {
-    // Goes on behind the statement at which the task stands.
-    fn go_on(&mut self)
-        ensures { self.new ≡ gone_on self.old }
-    {
-        if let [_, rest @ ..] = self.top.rest {
-            self.top.rest = rest;
-        }
-        self.stand = stand_at(self.numbers, self.number, &self.top);
-    }
-
-    // Raises an exception where the task stands: an accept body keeps it pending at its end, and the task's own body is at its end.
-    fn raise(&mut self, raised: Raised)
-        ensures { self.new ≡ raised_in raised self.old }
-    {
-        self.top.rest = &[];
-        if let Place::Opened { caller, .. } = self.top.place {
-            self.top.place = Place::Opened {
-                caller,
-                pending: Some(raised),
-            };
-        }
+        self.top.leave(raised);
         self.stand = stand_at(self.numbers, self.number, &self.top);
     }
 }
@@ -211,7 +188,7 @@ fn stand_at(numbers: &Numbers, number: u32, top: &Frame) -> Stand
             },
             StmtKind::Accept(accept) => Stand::Accept {
                 choices: [Choice::Accept {
-                    e: numbers.entry_named(number, accept.entry.name).unwrap_or(0),
+                    e: entry_of_task(numbers, number, accept.entry.name),
                     i: 0,
                 }],
             },
@@ -225,7 +202,14 @@ fn entry_of_call(numbers: &Numbers, call: &Call) -> u32
     ensures { result ≡ entry_called numbers.now (plain_call call.now) }
 {
     let owner = numbers.task_named(call.task.name.name).unwrap_or(0);
-    numbers.entry_named(owner, call.entry.name).unwrap_or(0)
+    entry_of_task(numbers, owner, call.entry.name)
+}
+
+// The entry of that name that the task has; 0 where there is none.
+fn entry_of_task(numbers: &Numbers, owner: u32, name: NameId) -> u32
+    ensures { result ≡ entry_accepted numbers.now owner name }
+{
+    numbers.entry_named(owner, name).unwrap_or(0)
 }
 
 // The statements of the body of the accept that comes first.
@@ -233,14 +217,28 @@ fn body_of<'p>(stmts: &'p [Stmt]) -> &'p [Stmt]
     ensures { seen result.now ≡ body_in (seen stmts.now) }
 {
     match stmts {
-        [first, ..] => match &first.kind {
-            StmtKind::Accept(accept) => match &accept.stmts {
-                Some(body) => body,
-                None => &[],
-            },
-            _ => &[],
-        },
+        [first, ..] => body_of_stmt(first),
         [] => &[],
+    }
+}
+
+// The statements of the body of an accept.
+fn body_of_stmt<'p>(stmt: &'p Stmt) -> &'p [Stmt]
+    ensures { seen result.now ≡ body_at (plain_stmt stmt.now) }
+{
+    match &stmt.kind {
+        StmtKind::Accept(accept) => body_of_accept(accept),
+        _ => &[],
+    }
+}
+
+// The statements of the body of an accept.
+fn body_of_accept<'p>(accept: &'p Accept) -> &'p [Stmt]
+    ensures { seen result.now ≡ accepted_body (plain_accept accept.now) }
+{
+    match &accept.stmts {
+        Some(body) => body,
+        None => &[],
     }
 }
 
@@ -262,11 +260,38 @@ fn body_of_unit<'p>(decls: &'p [Decl], unit: NameId) -> &'p [Stmt]
     ensures { seen result.now ≡ body_named (decls_of (map plain_decl decls.now)) unit }
 {
     for decl in decls {
-        if let DeclKind::TaskBody { name, body, .. } = &decl.kind {
-            if name.name.0 == unit.0 {
-                return &body.stmts;
-            }
+        if let Some(stmts) = body_in(decl, unit) {
+            return stmts;
         }
     }
     &[]
+}
+
+// The statements of the body that the declaration is, if it is one of that name.
+fn body_in<'p>(decl: &'p Decl, unit: NameId) -> Option<&'p [Stmt]>
+    ensures { option_map (λ stmts. seen stmts.now) result ≡ body_of_decl (plain_decl decl.now) unit }
+{
+    match &decl.kind {
+        DeclKind::TaskBody { name, body, .. } => {
+            if name.name.0 == unit.0 {
+                Some(&body.stmts)
+            } else {
+                None
+            }
+        }
+        _ => None,
+    }
+}
+
+// The caller of the innermost opened accept body among these frames, the outermost first.
+fn caller_among(frames: &[Frame]) -> Option<u32>
+    ensures { result ≡ slice_get (callers_in (reverse frames.now)) 0 }
+{
+    match frames {
+        [outer @ .., last] => match last.place {
+            Place::Opened { caller, .. } => Some(caller),
+            Place::Outermost => caller_among(outer),
+        },
+        [] => None,
+    }
 }
