@@ -1,15 +1,17 @@
 //! The parser of small texts, over items.
 
-ghost use Rattle.std.specs.Prelude.{◌≡◌, ◌<◌, ◌≤◌, ◌∷◌, ◌++◌, [], map, length, All, IfOk};
+ghost use Rattle.std.specs.Prelude.{◌≡◌, ◌<◌, ◌≤◌, ◌∷◌, ◌++◌, [], false, map, length, All, IfOk};
 ghost use Rattle.std.specs.List.{flat_map};
+ghost use Rattle.ada_tree.specs.declared.naming.Span.{Span};
 ghost use Rattle.ada_tree.specs.PlainStmt.{plain_stmt, plain_body};
-ghost use Rattle.ada_tree.specs.PlainDecl.{plain_decl, plain_task, plain_entry};
-ghost use Rattle.syn_event.specs.Forms.{IsPlainStmt, IsPlainEntry, IsPlainTask, AreTasksThenBodies, IsPlainBody, AreBodies, IsPlainUnit};
-ghost use Rattle.debug_core.specs.SmallText.{signs, stmt_signs, entry_signs, LeavesEnd, LeavesBody, LeavesDecl, LeavesDecls, IsTreeOf};
+ghost use Rattle.ada_tree.specs.PlainDecl.{plain_decl, plain_entry, decl_at, DTask};
+ghost use Rattle.syn_event.specs.Units.{body_stmts};
+ghost use Rattle.syn_event.specs.Forms.{IsPlainStmt, IsPlainEntry, AreTasksThenBodies, IsPlainBody};
+ghost use Rattle.debug_core.specs.SmallText.{signs, stmt_signs, entry_signs, LeavesEnd, LeavesBody, LeavesDecl, LeavesDecls, SpellsUnit};
+ghost use Rattle.debug_core.specs.SmallForms.{IsTaskDecl, IsBodyDecl};
 
-use super::items::{Item, Sign};
+use super::items::{Item, KeyKind, Sign};
 use super::refusal::SmallRefusal;
-use ada_lexer::TokenKind;
 use ada_tree::{Accept, Body, Call, Callee, Decl, DeclKind, EntryDecl, Span, Stmt, StmtKind, TaskUnit, Word};
 use std::alloc::Global;
 
@@ -23,11 +25,13 @@ pub(crate) struct Tree {
 
 /// The program that the items spell from the first to the last.
 pub(crate) fn read_tree(alloc: Global, items: &[Item]) -> Result<Tree, SmallRefusal>
-    ensures { IfOk result (λ tree. IsTreeOf tree (signs items.now)) }
+    ensures spelled { IfOk result (λ tree. SpellsUnit tree.name.name (map plain_decl tree.decls.items) (body_stmts (plain_body tree.body)) (signs items.now)) }
+    ensures decls { IfOk result (λ tree. AreTasksThenBodies (map plain_decl tree.decls.items)) }
+    ensures body { IfOk result (λ tree. IsPlainBody (plain_body tree.body)) }
 {
-    let rest = take_key(items, TokenKind::Procedure)?;
+    let rest = take_key(items, KeyKind::Procedure)?;
     let (name, rest) = take_name(rest)?;
-    let rest = take_key(rest, TokenKind::Is)?;
+    let rest = take_key(rest, KeyKind::Is)?;
     let (decls, rest) = read_decls(alloc, rest)?;
     let (body, rest) = read_body(alloc, name, rest)?;
     if !rest.is_empty() {
@@ -37,45 +41,39 @@ pub(crate) fn read_tree(alloc: Global, items: &[Item]) -> Result<Tree, SmallRefu
 }
 
 // The tasks, and behind them the bodies.
-fn read_decls<'a>(alloc: Global, items: &'a [Item]) -> Result<(Vec<Decl>, &'a [Item]), SmallRefusal> {
+fn read_decls<'a>(alloc: Global, items: &'a [Item]) -> Result<(Vec<Decl>, &'a [Item]), SmallRefusal>
+    ensures text { IfOk result (λ r. LeavesDecls (map plain_decl r.0.items) (signs items.now) (signs r.1.now)) }
+    ensures form { IfOk result (λ r. AreTasksThenBodies (map plain_decl r.0.items)) }
+{
     let mut decls = Vec::new(alloc);
-    let rest = read_tasks(alloc, &mut decls, items)?;
-    let rest = read_bodies(alloc, &mut decls, rest)?;
-    Ok((decls, rest))
-}
-
-// The tasks that stand in front.
-fn read_tasks<'a>(alloc: Global, decls: &mut Vec<Decl>, items: &'a [Item]) -> Result<&'a [Item], SmallRefusal> {
     let mut rest = items;
-    while begins(rest, TokenKind::Task) && !begins_body(rest) {
+    'tasks: while begins_task(rest) {
         let (decl, behind) = read_task(alloc, rest)?;
         decls.push(decl)?;
         rest = behind;
     }
-    Ok(rest)
-}
-
-// The bodies that stand in front.
-fn read_bodies<'a>(alloc: Global, decls: &mut Vec<Decl>, items: &'a [Item]) -> Result<&'a [Item], SmallRefusal> {
-    let mut rest = items;
-    while begins(rest, TokenKind::Task) {
+    'bodies: while begins(rest, KeyKind::Task) {
         let (decl, behind) = read_task_body(alloc, rest)?;
         decls.push(decl)?;
         rest = behind;
     }
-    Ok(rest)
+    Ok((decls, rest))
 }
 
 // A task with its entries.
-fn read_task<'a>(alloc: Global, items: &'a [Item]) -> Result<(Decl, &'a [Item]), SmallRefusal> {
-    let rest = take_key(items, TokenKind::Task)?;
+fn read_task<'a>(alloc: Global, items: &'a [Item]) -> Result<(Decl, &'a [Item]), SmallRefusal>
+    ensures text { IfOk result (λ r. LeavesDecl (plain_decl r.0) (signs items.now) (signs r.1.now)) }
+    ensures form { IfOk result (λ r. IsTaskDecl (plain_decl r.0)) }
+    ensures shorter { IfOk result (λ r. length r.1.now < length items.now) }
+{
+    let rest = take_key(items, KeyKind::Task)?;
     let (name, rest) = take_name(rest)?;
-    if begins(rest, TokenKind::Semicolon) {
-        let behind = take_key(rest, TokenKind::Semicolon)?;
+    if begins(rest, KeyKind::Semicolon) {
+        let behind = take_key(rest, KeyKind::Semicolon)?;
         let kind = task_of(alloc, name, Vec::new(alloc));
         return Ok((Decl { kind, span: taken(items, behind) }, behind));
     }
-    let rest = take_key(rest, TokenKind::Is)?;
+    let rest = take_key(rest, KeyKind::Is)?;
     let (entries, rest) = read_entries(alloc, rest)?;
     let behind = take_end(name, rest)?;
     let kind = task_of(alloc, name, entries);
@@ -83,7 +81,9 @@ fn read_task<'a>(alloc: Global, items: &'a [Item]) -> Result<(Decl, &'a [Item]),
 }
 
 // A single task without pragmas.
-fn task_of(alloc: Global, name: Word, entries: Vec<EntryDecl>) -> DeclKind {
+fn task_of(alloc: Global, name: Word, entries: Vec<EntryDecl>) -> DeclKind
+    ensures { (span : Span) → decl_at result span ≡ DTask record { name = name; of_kind = false; entries = map plain_entry entries.items; priorities = [] } span }
+{
     DeclKind::Task(TaskUnit {
         name,
         of_kind: false,
@@ -93,10 +93,14 @@ fn task_of(alloc: Global, name: Word, entries: Vec<EntryDecl>) -> DeclKind {
 }
 
 // The entries that stand in front.
-fn read_entries<'a>(alloc: Global, items: &'a [Item]) -> Result<(Vec<EntryDecl>, &'a [Item]), SmallRefusal> {
+fn read_entries<'a>(alloc: Global, items: &'a [Item]) -> Result<(Vec<EntryDecl>, &'a [Item]), SmallRefusal>
+    ensures text { IfOk result (λ r. signs items.now ≡ flat_map entry_signs (map plain_entry r.0.items) ++ signs r.1.now) }
+    ensures form { IfOk result (λ r. All IsPlainEntry (map plain_entry r.0.items)) }
+    ensures shorter { IfOk result (λ r. length r.1.now ≤ length items.now) }
+{
     let mut entries = Vec::new(alloc);
     let mut rest = items;
-    while begins(rest, TokenKind::Entry) {
+    'entries: while begins(rest, KeyKind::Entry) {
         let (entry, behind) = read_entry(alloc, rest)?;
         entries.push(entry)?;
         rest = behind;
@@ -105,10 +109,14 @@ fn read_entries<'a>(alloc: Global, items: &'a [Item]) -> Result<(Vec<EntryDecl>,
 }
 
 // An entry without family and parameters.
-fn read_entry<'a>(alloc: Global, items: &'a [Item]) -> Result<(EntryDecl, &'a [Item]), SmallRefusal> {
-    let rest = take_key(items, TokenKind::Entry)?;
+fn read_entry<'a>(alloc: Global, items: &'a [Item]) -> Result<(EntryDecl, &'a [Item]), SmallRefusal>
+    ensures text { IfOk result (λ r. signs items.now ≡ entry_signs (plain_entry r.0) ++ signs r.1.now) }
+    ensures form { IfOk result (λ r. IsPlainEntry (plain_entry r.0)) }
+    ensures shorter { IfOk result (λ r. length r.1.now < length items.now) }
+{
+    let rest = take_key(items, KeyKind::Entry)?;
     let (name, rest) = take_name(rest)?;
-    let behind = take_key(rest, TokenKind::Semicolon)?;
+    let behind = take_key(rest, KeyKind::Semicolon)?;
     let entry = EntryDecl {
         name,
         family: None,
@@ -119,11 +127,15 @@ fn read_entry<'a>(alloc: Global, items: &'a [Item]) -> Result<(EntryDecl, &'a [I
 }
 
 // The body of a task.
-fn read_task_body<'a>(alloc: Global, items: &'a [Item]) -> Result<(Decl, &'a [Item]), SmallRefusal> {
-    let rest = take_key(items, TokenKind::Task)?;
-    let rest = take_key(rest, TokenKind::Body)?;
+fn read_task_body<'a>(alloc: Global, items: &'a [Item]) -> Result<(Decl, &'a [Item]), SmallRefusal>
+    ensures text { IfOk result (λ r. LeavesDecl (plain_decl r.0) (signs items.now) (signs r.1.now)) }
+    ensures form { IfOk result (λ r. IsBodyDecl (plain_decl r.0)) }
+    ensures shorter { IfOk result (λ r. length r.1.now < length items.now) }
+{
+    let rest = take_key(items, KeyKind::Task)?;
+    let rest = take_key(rest, KeyKind::Body)?;
     let (name, rest) = take_name(rest)?;
-    let rest = take_key(rest, TokenKind::Is)?;
+    let rest = take_key(rest, KeyKind::Is)?;
     let (body, behind) = read_body(alloc, name, rest)?;
     let kind = DeclKind::TaskBody {
         name,
@@ -134,8 +146,12 @@ fn read_task_body<'a>(alloc: Global, items: &'a [Item]) -> Result<(Decl, &'a [It
 }
 
 // The statements of a unit of that name, from `begin` to the semicolon behind its end.
-fn read_body<'a>(alloc: Global, name: Word, items: &'a [Item]) -> Result<(Body, &'a [Item]), SmallRefusal> {
-    let rest = take_key(items, TokenKind::Begin)?;
+fn read_body<'a>(alloc: Global, name: Word, items: &'a [Item]) -> Result<(Body, &'a [Item]), SmallRefusal>
+    ensures text { IfOk result (λ r. LeavesBody name.name (body_stmts (plain_body r.0)) (signs items.now) (signs r.1.now)) }
+    ensures form { IfOk result (λ r. IsPlainBody (plain_body r.0)) }
+    ensures shorter { IfOk result (λ r. length r.1.now < length items.now) }
+{
+    let rest = take_key(items, KeyKind::Begin)?;
     let (stmts, rest) = read_stmts(alloc, rest)?;
     if stmts.is_empty() {
         return Err(SmallRefusal::NotSmall);
@@ -149,10 +165,14 @@ fn read_body<'a>(alloc: Global, name: Word, items: &'a [Item]) -> Result<(Body, 
 }
 
 // The statements before the next `end`.
-fn read_stmts<'a>(alloc: Global, items: &'a [Item]) -> Result<(Vec<Stmt>, &'a [Item]), SmallRefusal> {
+fn read_stmts<'a>(alloc: Global, items: &'a [Item]) -> Result<(Vec<Stmt>, &'a [Item]), SmallRefusal>
+    ensures text { IfOk result (λ r. signs items.now ≡ flat_map stmt_signs (map plain_stmt r.0.items) ++ signs r.1.now) }
+    ensures form { IfOk result (λ r. All IsPlainStmt (map plain_stmt r.0.items)) }
+    ensures shorter { IfOk result (λ r. length r.1.now ≤ length items.now) }
+{
     let mut stmts = Vec::new(alloc);
     let mut rest = items;
-    while !begins(rest, TokenKind::End) {
+    'stmts: while !begins(rest, KeyKind::End) {
         let (stmt, behind) = read_stmt(alloc, rest)?;
         stmts.push(stmt)?;
         rest = behind;
@@ -161,19 +181,27 @@ fn read_stmts<'a>(alloc: Global, items: &'a [Item]) -> Result<(Vec<Stmt>, &'a [I
 }
 
 // One statement.
-fn read_stmt<'a>(alloc: Global, items: &'a [Item]) -> Result<(Stmt, &'a [Item]), SmallRefusal> {
-    if begins(items, TokenKind::Null) {
+fn read_stmt<'a>(alloc: Global, items: &'a [Item]) -> Result<(Stmt, &'a [Item]), SmallRefusal>
+    ensures text { IfOk result (λ r. signs items.now ≡ stmt_signs (plain_stmt r.0) ++ signs r.1.now) }
+    ensures form { IfOk result (λ r. IsPlainStmt (plain_stmt r.0)) }
+    ensures shorter { IfOk result (λ r. length r.1.now < length items.now) }
+{
+    if begins(items, KeyKind::Null) {
         read_null(items)
-    } else if begins(items, TokenKind::Accept) {
+    } else if begins(items, KeyKind::Accept) {
         read_accept(alloc, items)
     } else {
         read_call(items)
     }
 }
 
-fn read_null<'a>(items: &'a [Item]) -> Result<(Stmt, &'a [Item]), SmallRefusal> {
-    let rest = take_key(items, TokenKind::Null)?;
-    let behind = take_key(rest, TokenKind::Semicolon)?;
+fn read_null<'a>(items: &'a [Item]) -> Result<(Stmt, &'a [Item]), SmallRefusal>
+    ensures text { IfOk result (λ r. signs items.now ≡ stmt_signs (plain_stmt r.0) ++ signs r.1.now) }
+    ensures form { IfOk result (λ r. IsPlainStmt (plain_stmt r.0)) }
+    ensures shorter { IfOk result (λ r. length r.1.now < length items.now) }
+{
+    let rest = take_key(items, KeyKind::Null)?;
+    let behind = take_key(rest, KeyKind::Semicolon)?;
     let stmt = Stmt {
         kind: StmtKind::Null,
         span: taken(items, behind),
@@ -182,11 +210,15 @@ fn read_null<'a>(items: &'a [Item]) -> Result<(Stmt, &'a [Item]), SmallRefusal> 
 }
 
 // An entry call without index and arguments.
-fn read_call<'a>(items: &'a [Item]) -> Result<(Stmt, &'a [Item]), SmallRefusal> {
+fn read_call<'a>(items: &'a [Item]) -> Result<(Stmt, &'a [Item]), SmallRefusal>
+    ensures text { IfOk result (λ r. signs items.now ≡ stmt_signs (plain_stmt r.0) ++ signs r.1.now) }
+    ensures form { IfOk result (λ r. IsPlainStmt (plain_stmt r.0)) }
+    ensures shorter { IfOk result (λ r. length r.1.now < length items.now) }
+{
     let (task, rest) = take_name(items)?;
-    let rest = take_key(rest, TokenKind::Dot)?;
+    let rest = take_key(rest, KeyKind::Dot)?;
     let (entry, rest) = take_name(rest)?;
-    let behind = take_key(rest, TokenKind::Semicolon)?;
+    let behind = take_key(rest, KeyKind::Semicolon)?;
     let call = Call {
         task: Callee {
             name: task,
@@ -203,10 +235,14 @@ fn read_call<'a>(items: &'a [Item]) -> Result<(Stmt, &'a [Item]), SmallRefusal> 
 }
 
 // An accept without index, parameters and body.
-fn read_accept<'a>(alloc: Global, items: &'a [Item]) -> Result<(Stmt, &'a [Item]), SmallRefusal> {
-    let rest = take_key(items, TokenKind::Accept)?;
+fn read_accept<'a>(alloc: Global, items: &'a [Item]) -> Result<(Stmt, &'a [Item]), SmallRefusal>
+    ensures text { IfOk result (λ r. signs items.now ≡ stmt_signs (plain_stmt r.0) ++ signs r.1.now) }
+    ensures form { IfOk result (λ r. IsPlainStmt (plain_stmt r.0)) }
+    ensures shorter { IfOk result (λ r. length r.1.now < length items.now) }
+{
+    let rest = take_key(items, KeyKind::Accept)?;
     let (entry, rest) = take_name(rest)?;
-    let behind = take_key(rest, TokenKind::Semicolon)?;
+    let behind = take_key(rest, KeyKind::Semicolon)?;
     let span = taken(items, behind);
     let accept = Accept {
         entry,
@@ -223,30 +259,48 @@ fn read_accept<'a>(alloc: Global, items: &'a [Item]) -> Result<(Stmt, &'a [Item]
 }
 
 // The end of a unit, a task or a body of that name, with its name or without it.
-fn take_end<'a>(name: Word, items: &'a [Item]) -> Result<&'a [Item], SmallRefusal> {
-    let rest = take_key(items, TokenKind::End)?;
-    if begins(rest, TokenKind::Semicolon) {
-        return take_key(rest, TokenKind::Semicolon);
+fn take_end<'a>(name: Word, items: &'a [Item]) -> Result<&'a [Item], SmallRefusal>
+    ensures text { IfOk result (λ rest. LeavesEnd name.name (signs items.now) (signs rest.now)) }
+    ensures shorter { IfOk result (λ rest. length rest.now < length items.now) }
+{
+    let rest = take_key(items, KeyKind::End)?;
+    if begins(rest, KeyKind::Semicolon) {
+        return take_key(rest, KeyKind::Semicolon);
     }
     let (closing, rest) = take_name(rest)?;
     if closing.name != name.name {
         return Err(SmallRefusal::NotSmall);
     }
-    take_key(rest, TokenKind::Semicolon)
+    take_key(rest, KeyKind::Semicolon)
 }
 
 // What stands behind a token of that kind.
-fn take_key<'a>(items: &'a [Item], kind: TokenKind) -> Result<&'a [Item], SmallRefusal> {
-    match items {
-        [first, rest @ ..] if first.sign == Sign::Key(kind) => Ok(rest),
-        _ => Err(SmallRefusal::NotSmall),
+fn take_key<'a>(items: &'a [Item], key: KeyKind) -> Result<&'a [Item], SmallRefusal>
+    ensures text { IfOk result (λ rest. signs items.now ≡ Sign.Key key ∷ signs rest.now) }
+    ensures shorter { IfOk result (λ rest. length rest.now < length items.now) }
+{
+    match items.split_first() {
+        Some((first, rest)) => match first.sign {
+            Sign::Key(found) => {
+                if found == key {
+                    Ok(rest)
+                } else {
+                    Err(SmallRefusal::NotSmall)
+                }
+            }
+            Sign::Name(_) => Err(SmallRefusal::NotSmall),
+        },
+        None => Err(SmallRefusal::NotSmall),
     }
 }
 
 // The name in front, and what stands behind it.
-fn take_name<'a>(items: &'a [Item]) -> Result<(Word, &'a [Item]), SmallRefusal> {
-    match items {
-        [first, rest @ ..] => match first.sign {
+fn take_name<'a>(items: &'a [Item]) -> Result<(Word, &'a [Item]), SmallRefusal>
+    ensures text { IfOk result (λ r. signs items.now ≡ Sign.Name r.0.name ∷ signs r.1.now) }
+    ensures shorter { IfOk result (λ r. length r.1.now < length items.now) }
+{
+    match items.split_first() {
+        Some((first, rest)) => match first.sign {
             Sign::Name(name) => {
                 let word = Word {
                     name,
@@ -256,23 +310,23 @@ fn take_name<'a>(items: &'a [Item]) -> Result<(Word, &'a [Item]), SmallRefusal> 
             }
             Sign::Key(_) => Err(SmallRefusal::NotSmall),
         },
-        [] => Err(SmallRefusal::NotSmall),
+        None => Err(SmallRefusal::NotSmall),
     }
 }
 
 // Whether a token of that kind stands in front.
-fn begins(items: &[Item], kind: TokenKind) -> bool {
+fn begins(items: &[Item], key: KeyKind) -> bool {
     match items {
-        [first, ..] => first.sign == Sign::Key(kind),
+        [first, ..] => first.sign == Sign::Key(key),
         [] => false,
     }
 }
 
-// Whether the second token is `body`.
-fn begins_body(items: &[Item]) -> bool {
+// Whether a task stands in front that is no body.
+fn begins_task(items: &[Item]) -> bool {
     match items {
-        [_, second, ..] => second.sign == Sign::Key(TokenKind::Body),
-        _ => false,
+        [_, second, ..] if second.sign == Sign::Key(KeyKind::Body) => false,
+        _ => begins(items, KeyKind::Task),
     }
 }
 

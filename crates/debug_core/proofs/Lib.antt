@@ -1,0 +1,4 @@
+pub mod Spelling
+pub mod Declaring
+pub mod Rowed
+pub mod Saying
