@@ -1,5 +1,5 @@
 -- What the tests of the reader say of each part of a program, from which the static rules follow.
-use Rattle.std.specs.Prelude.{◌≡◌, ℕ, ◌<◌, ◌≤◌, List, map, count_by, nat_eq, All, ⊤}
+use Rattle.std.specs.Prelude.{◌≡◌, ℕ, ◌<◌, ◌≤◌, List, map, count_by, nat_eq, All, IsSome, ⊤}
 use Rattle.std.specs.List.{IsDistinct}
 use Rattle.std.specs.Option.{IsSomeAnd}
 use Rattle.ada_tree.specs.declared.naming.NameId.{NameId}
@@ -7,7 +7,7 @@ use Rattle.ada_tree.specs.PlainStmt.{PStmt}
 use Rattle.ada_tree.specs.PlainDecl.{PDecl, DTask, DTaskBody, PTask}
 use Rattle.syn_event.specs.declared.numbering.TaskInfo.{TaskInfo}
 use Rattle.syn_event.specs.declared.numbering.Mode.TheVariants as mode
-use Rattle.syn_event.specs.Numbering.{Numbering, task_named}
+use Rattle.syn_event.specs.Numbering.{Numbering, task_named, entry_named}
 use Rattle.syn_event.specs.Units.{text_of, body_stmts, entry_names, is_body_of}
 use Rattle.syn_event.specs.Legal.{predefined_count, IsFitName, IsKnownCall, IsOwnAccept}
 
@@ -22,6 +22,10 @@ IsNewName names name = (predefined_count ≤ name) × IsFit names name
 -- the names of numbered tasks
 abbrev pub info_names : List TaskInfo → List ℕ
 info_names tasks = map (λ info. info.name.0) tasks
+
+-- a task beside main has the first name, and it has an entry of the second
+abbrev pub NamesEntry : Numbering → NameId → NameId → Type 0
+NamesEntry numbers task entry = IsSomeAnd (task_named numbers task) (λ callee. (0 < callee) × IsSome (entry_named numbers callee entry))
 
 -- both rules on statements
 abbrev pub StmtHolds : Numbering → ℕ → PStmt → Type 0

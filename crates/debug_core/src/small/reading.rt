@@ -1,7 +1,9 @@
 //! From bytes to a legal program.
 
-ghost use Rattle.std.specs.Prelude.{IfOk};
+ghost use Rattle.std.specs.Prelude.{◌≡◌, IfOk};
+ghost use Rattle.ada_lexer.specs.Split.{Splits};
 ghost use Rattle.ada_tree.specs.PlainProgram.{plain_program};
+ghost use Rattle.syn_event.specs.FirstTypes.{first_types, first_mark};
 ghost use Rattle.syn_event.specs.Legal.{Legal};
 ghost use Rattle.debug_core.specs.SmallText.{IsSmallText};
 
@@ -34,7 +36,7 @@ pub(crate) fn read_small(alloc: Global, src: &[u8]) -> Result<SmallProgram, Smal
     if !is_legal(&program, &numbers) {
         return Err(SmallRefusal::NotSmall);
     }
-    let types = first_types(alloc)?;
+    let types = types_for(alloc)?;
     Ok(SmallProgram {
         program,
         types,
@@ -43,7 +45,9 @@ pub(crate) fn read_small(alloc: Global, src: &[u8]) -> Result<SmallProgram, Smal
 }
 
 // The program that a small text says, whether or not it meets the static rules.
-fn read_program(alloc: Global, src: &[u8]) -> Result<Program, SmallRefusal> {
+fn read_program(alloc: Global, src: &[u8]) -> Result<Program, SmallRefusal>
+    ensures { IfOk result (λ program. IsSmallText src.now (plain_program program)) }
+{
     let found = small_tokens(alloc, src)?;
     let Items { names, list } = read_items(alloc, src, &found)?;
     let Tree { name, decls, body } = read_tree(alloc, &list)?;
@@ -57,7 +61,9 @@ fn read_program(alloc: Global, src: &[u8]) -> Result<Program, SmallRefusal> {
 }
 
 // The tokens of the text; a text too long for places of 32 bits is not small.
-fn small_tokens(alloc: Global, src: &[u8]) -> Result<Vec<Token>, SmallRefusal> {
+fn small_tokens(alloc: Global, src: &[u8]) -> Result<Vec<Token>, SmallRefusal>
+    ensures { IfOk result (λ found. Splits src.now found.items) }
+{
     if src.len() >= u32::MAX as usize {
         return Err(SmallRefusal::NotSmall);
     }
@@ -69,14 +75,16 @@ fn small_tokens(alloc: Global, src: &[u8]) -> Result<Vec<Token>, SmallRefusal> {
 }
 
 // The types of a program that declares none.
-fn first_types(alloc: Global) -> Result<Types, SmallRefusal> {
+fn types_for(alloc: Global) -> Result<Types, SmallRefusal>
+    ensures { IfOk result (λ types. types ≡ first_types) }
+{
     let kinds = vec![in alloc; Kind::Integer, Kind::Truth]?;
     let marks = vec![
         in alloc;
-        first_mark(0, 0, i32::MIN, i32::MAX),
-        first_mark(1, 0, 0, i32::MAX),
-        first_mark(2, 0, 1, i32::MAX),
-        first_mark(3, 1, 0, 1)
+        mark_of(0, 0, i32::MIN, i32::MAX),
+        mark_of(1, 0, 0, i32::MAX),
+        mark_of(2, 0, 1, i32::MAX),
+        mark_of(3, 1, 0, 1)
     ]?;
     Ok(Types {
         kinds,
@@ -86,7 +94,9 @@ fn first_types(alloc: Global) -> Result<Types, SmallRefusal> {
 }
 
 // The mark of a predefined type: the id of its name, the place of its kind and its bounds.
-fn first_mark(name: u32, kind: u32, first: i32, last: i32) -> Mark {
+fn mark_of(name: u32, kind: u32, first: i32, last: i32) -> Mark
+    ensures { result ≡ first_mark name kind first last }
+{
     Mark {
         name: Some(NameId(name)),
         kind,

@@ -7,7 +7,7 @@ ghost use Rattle.ada_tree.specs.declared.statements.Body.{out-Body};
 ghost use Rattle.ada_tree.specs.PlainDecl.{plain_decl, plain_entry, plain_task};
 ghost use Rattle.syn_event.specs.Units.{body_stmts, entry_names, is_body_of};
 ghost use Rattle.syn_event.specs.Legal.{IsFreeOfMarks};
-ghost use Rattle.debug_core.specs.SmallRules.{IsFit, IsNewName, info_names, StmtHolds, TaskHolds, BodyHolds, DeclHolds};
+ghost use Rattle.debug_core.specs.SmallRules.{IsFit, IsNewName, info_names, StmtHolds, NamesEntry, TaskHolds, BodyHolds, DeclHolds};
 
 use ada_tree::{Decl, DeclKind, EntryDecl, NameId, Names, Program, Stmt, StmtKind, TaskUnit};
 use syn_event::{Numbers, TaskInfo};
@@ -21,19 +21,25 @@ const NAME_LIMIT: usize = 120;
 /// Whether the program meets the static rules but for those on forms and counts.
 pub(crate) fn is_legal(program: &Program, numbers: &Numbers) -> bool
     ensures main_differ { IsTrue result → IsDistinct nat_eq (info_names numbers.now.tasks) }
-    ensures main_new { IsTrue result → All (IsNewName program.now.names) (info_names numbers.now.tasks) }
-    ensures main_stmts { IsTrue result → All (StmtHolds numbers.now 0) (map plain_stmt (out-Body program.now.body).stmts.items) }
-    ensures decls { IsTrue result → All (DeclHolds program.now.names numbers.now (map plain_decl program.now.decls.items)) (map plain_decl program.now.decls.items) }
+    ensures main_new { IsTrue result → All (λ info. IsNewName program.now.names info.name.0) numbers.now.tasks }
+    ensures main_stmts { IsTrue result → All (λ stmt. StmtHolds numbers.now 0 (plain_stmt stmt)) (out-Body program.now.body).stmts.items }
+    ensures decls { IsTrue result → All (λ decl. DeclHolds program.now.names numbers.now (map plain_decl program.now.decls.items) (plain_decl decl)) program.now.decls.items }
 {
-    task_names_differ(&numbers.tasks)
-        && names_are_new(&program.names, &numbers.tasks)
-        && stmts_hold(numbers, 0, &program.body.stmts)
-        && decls_hold(&program.names, numbers, &program.decls)
+    if !task_names_differ(&numbers.tasks) {
+        return false;
+    }
+    if !names_are_new(&program.names, &numbers.tasks) {
+        return false;
+    }
+    if !stmts_hold(numbers, 0, &program.body.stmts) {
+        return false;
+    }
+    decls_hold(&program.names, numbers, &program.decls)
 }
 
 // Whether the names of main and its tasks are not predefined, and are fit.
 fn names_are_new(names: &Names, tasks: &[TaskInfo]) -> bool
-    ensures { IsTrue result → All (IsNewName names.now) (info_names tasks.now) }
+    ensures { IsTrue result → All (λ info. IsNewName names.now info.name.0) tasks.now }
 {
     for info in tasks {
         if !is_new_name(names, info.name) {
@@ -55,7 +61,7 @@ fn task_names_differ(tasks: &[TaskInfo]) -> bool
     ensures { IsTrue result → IsDistinct nat_eq (info_names tasks.now) }
 {
     let mut rest = tasks;
-    while let [first, others @ ..] = rest {
+    'names: while let Some((first, others)) = rest.split_first() {
         if has_task(others, first.name) {
             return false;
         }
@@ -76,7 +82,7 @@ fn entry_names_differ(entries: &[EntryDecl]) -> bool
     ensures { IsTrue result → IsDistinct nat_eq (map (λ entry. entry.name.name.0) entries.now) }
 {
     let mut rest = entries;
-    while let [first, others @ ..] = rest {
+    'names: while let Some((first, others)) = rest.split_first() {
         if has_entry(others, first.name.name) {
             return false;
         }
@@ -156,9 +162,13 @@ fn decl_holds(names: &Names, numbers: &Numbers, decls: &[Decl], decl: &Decl) -> 
 fn task_holds(names: &Names, decls: &[Decl], task: &TaskUnit) -> bool
     ensures { IsTrue result → TaskHolds names.now (map plain_decl decls.now) (plain_task task.now) }
 {
-    count_bodies(decls, task.name.name) == 1
-        && entry_names_differ(&task.entries)
-        && entries_are_fit(names, &task.entries)
+    if count_bodies(decls, task.name.name) != 1 {
+        return false;
+    }
+    if !entry_names_differ(&task.entries) {
+        return false;
+    }
+    entries_are_fit(names, &task.entries)
 }
 
 // How many bodies of the task of that name there are.
@@ -190,7 +200,7 @@ fn body_holds(numbers: &Numbers, name: NameId, stmts: &[Stmt]) -> bool
 
 // Whether each statement of the task of that number meets the rules.
 fn stmts_hold(numbers: &Numbers, number: u32, stmts: &[Stmt]) -> bool
-    ensures { IsTrue result → All (StmtHolds numbers.now number) (map plain_stmt stmts.now) }
+    ensures { IsTrue result → All (λ stmt. StmtHolds numbers.now number (plain_stmt stmt)) stmts.now }
 {
     for stmt in stmts {
         if !stmt_holds(numbers, number, stmt) {
@@ -212,7 +222,9 @@ fn stmt_holds(numbers: &Numbers, number: u32, stmt: &Stmt) -> bool
 }
 
 // Whether a task beside main has that name, and it has an entry of that name.
-fn is_known_entry(numbers: &Numbers, task: NameId, entry: NameId) -> bool {
+fn is_known_entry(numbers: &Numbers, task: NameId, entry: NameId) -> bool
+    ensures { IsTrue result → NamesEntry numbers.now task entry }
+{
     match numbers.task_named(task) {
         Some(number) => number > 0 && numbers.entry_named(number, entry).is_some(),
         None => false,
