@@ -1,5 +1,5 @@
 -- What the limits say of the numbers of a legal program.
-use Rattle.std.proofs.Common.{◌≡◌, ◌<◌, ◌≤◌, ◌+◌, length, ap, arith, ◌∷◌, map, ◌∙◌}
+use Rattle.std.proofs.Common.{◌≡◌, ◌<◌, ◌≤◌, ◌+◌, length, ap, arith, ◌∙◌}
 use Rattle.std.proofs.Math.ListN.{length-map}
 use Rattle.ada_tree.specs.PlainProgram.{PProgram}
 use Rattle.ada_tree.specs.TypeTable.{TypeTable}
@@ -8,7 +8,7 @@ use Rattle.syn_event.specs.declared.numbering.Mode.TheVariants as mode
 use Rattle.syn_event.specs.Numbering.{Numbering}
 use Rattle.syn_event.specs.Units.{tasks_of}
 use Rattle.syn_event.specs.Numbered.{numbers_of}
-use Rattle.syn_event.specs.Legal.{Legal, task_limit, CountsAreFit}
+use Rattle.syn_event.specs.Legal.{Legal, task_limit}
 
 -- no mode allows more than 202 tasks beside main
 task_limit-le : (m : Mode) → task_limit m ≤ 202

@@ -1,6 +1,6 @@
 -- The forms of declarations and statements of which the static rules speak so far: tasks with plain entries, their bodies, null, entry calls and accepts without a body.
-use Rattle.std.specs.Prelude.{◌≡◌, Bool, true, false, List, [], ◌∷◌, Option, None, All, ⊤}
-use Rattle.ada_tree.specs.PlainStmt.{PStmt, SNull, SCall, SAccept, accepting, absent, PBody, body, no_handler, PCall, PHead}
+use Rattle.std.specs.Prelude.{◌≡◌, false, List, [], ◌∷◌, None, All, ⊤}
+use Rattle.ada_tree.specs.PlainStmt.{PStmt, SNull, SCall, SAccept, accepting, absent, PBody, body, no_handler}
 use Rattle.ada_tree.specs.PlainDecl.{PDecl, no_decl, DTask, DTaskBody, PTask, PEntry}
 use Rattle.ada_tree.specs.PlainProgram.{PProgram}
 use Rattle.syn_event.specs.Units.{decl_list, body_stmts}

@@ -1,14 +1,13 @@
 -- The static rules that a program must meet (ANSI/MIL-STD-1815A and this project's limits), each rule as one definition. They speak of the forms of `Forms` so far.
-use Rattle.std.specs.Prelude.{◌≡◌, ℕ, ◌+◌, ◌<◌, ◌≤◌, Bool, true, false, List, [], ◌∷◌, ◌++◌, length, drop, count_by, nat_eq, All, Contains, ⊤, IsSome, IfSome, Option, Some, None, codes}
+use Rattle.std.specs.Prelude.{◌≡◌, ℕ, ◌<◌, ◌≤◌, false, List, length, drop, count_by, nat_eq, All, Contains, ⊤, IsSome, IfSome, codes}
 use Rattle.std.specs.List.{starts_with, IsDistinct}
 use Rattle.std.specs.Option.{IsSomeAnd}
 use Rattle.ada_tree.specs.PlainStmt.{PStmt, SCall, SAccept, accepting}
-use Rattle.ada_tree.specs.PlainDecl.{PDecl, DTaskBody, PTask}
+use Rattle.ada_tree.specs.PlainDecl.{PDecl, DTaskBody}
 use Rattle.ada_tree.specs.PlainProgram.{PProgram}
 use Rattle.ada_tree.specs.TypeTable.{TypeTable}
 use Rattle.syn_event.specs.declared.numbering.Mode.{Mode}
 use Rattle.syn_event.specs.declared.numbering.Mode.TheVariants as mode
-use Rattle.syn_event.specs.declared.numbering.EntryInfo.{EntryInfo}
 use Rattle.syn_event.specs.Numbering.{Numbering, task_named, entry_named}
 use Rattle.syn_event.specs.Units.{text_of, decl_list, body_stmts, tasks_of, task_names, main_names, entry_names, is_body_of}
 use Rattle.syn_event.specs.Numbered.{numbers_of}

@@ -1,5 +1,5 @@
 -- The numbers that a program's tasks and entries have, and what a rewriter's entries stand for (this project's rule).
-use Rattle.std.specs.Prelude.{ℕ, ℤ, pos, Bool, true, false, not, ◌==◌, ◌&&◌, ◌||◌, ◌+◌, List, [], ◌∷◌, ◌++◌, length, map, take, count_by, position, nat_eq, Option, Some, None, option_map, codes}
+use Rattle.std.specs.Prelude.{ℕ, pos, Bool, false, not, ◌==◌, ◌&&◌, ◌||◌, ◌+◌, List, [], ◌∷◌, ◌++◌, map, take, count_by, position, nat_eq, None, option_map, codes}
 use Rattle.std.specs.List.{starts_with}
 use Rattle.std.specs.Cmp.Lexicographic.{pointwise}
 use Rattle.ada_tree.specs.declared.naming.NameId.{NameId}

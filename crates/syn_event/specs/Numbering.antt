@@ -1,5 +1,5 @@
 -- The numbers of a program as plain data, and what is read off them (this project's rule).
-use Rattle.std.specs.Prelude.{ℕ, ℤ, Bool, true, false, not, ◌==◌, ◌-◌, if◌then◌else◌, ◌&&◌, ◌+◌, List, [], ◌∷◌, slice_get, count_by, position, drop, Option, option_map, Some, None}
+use Rattle.std.specs.Prelude.{ℕ, Bool, false, not, ◌==◌, ◌-◌, if◌then◌else◌, ◌&&◌, ◌+◌, List, slice_get, count_by, position, drop, Option, option_map, None}
 use Rattle.std.specs.Option.{option_map_or}
 use Rattle.ada_tree.specs.declared.naming.NameId.{NameId}
 use Rattle.syn_event.specs.declared.numbering.TaskInfo.{TaskInfo}

@@ -1,5 +1,5 @@
 -- What an event of a rewritten text stands for in the original (this project's rule).
-use Rattle.std.specs.Prelude.{ℕ, ℤ, Bool, true, false, ◌||◌, if◌then◌else◌, count_by, take, Option, Some, None, option_map}
+use Rattle.std.specs.Prelude.{ℕ, ◌||◌, if◌then◌else◌, count_by, take, Option, Some, None, option_map}
 use Rattle.event_machine.specs.declared.Event.{Event}
 use Rattle.event_machine.specs.declared.Event.TheVariants.{R, E, S, D, C, T, F, X, B, Z}
 use Rattle.syn_event.specs.declared.numbering.EntryInfo.{EntryInfo}

@@ -1,5 +1,5 @@
 -- What a program declares, as lists: its tasks, and the statements of each unit.
-use Rattle.std.specs.Prelude.{ℕ, ◌==◌, Bool, true, false, List, [], ◌∷◌, map, slice_get, unwrap_or}
+use Rattle.std.specs.Prelude.{ℕ, ◌==◌, Bool, false, List, [], ◌∷◌, map, slice_get, unwrap_or}
 use Rattle.ada_tree.specs.declared.naming.NameId.{NameId}
 use Rattle.ada_tree.specs.PlainStmt.{PStmt, PStmts, no_stmt, stmt_then, PBody, body}
 use Rattle.ada_tree.specs.PlainDecl.{PDecl, PDecls, no_decl, decl_then, DTask, DTaskBody, PTask}

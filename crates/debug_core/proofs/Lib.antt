@@ -1,0 +1,10 @@
+pub mod Spelling
+pub mod Declaring
+pub mod Rowed
+pub mod Saying
+pub mod Numbered
+pub mod Differing
+pub mod Ruling
+pub mod Originals
+pub mod Legality
+pub mod Together

@@ -1,0 +1,4 @@
+pub mod SmallText
+pub mod SmallForms
+pub mod SmallRules
+pub mod SmallNumbers
