@@ -113,20 +113,20 @@ tested_is_legal p numbers forms counted few_tasks few_entries differ new in_main
       bodies_have_tasks = All-weaker (DeclHolds p.names numbers ds) (IsBodyAmong (task_names ts)) (body_among p.names numbers p.name.name ts ds tasks) ds in_decls;
       calls_are_known = record {
         in_main = All-weaker (StmtHolds numbers 0) (IsKnownCall numbers 0) (λ stmt h. h.0) (body_stmts p.body) in_main;
-        in_bodies = All-weaker (DeclHolds p.names numbers ds) (HoldsInBody numbers (IsKnownCall numbers)) (in_body p.names numbers ds (IsKnownCall numbers) (λ t stmt h. h.0)) ds in_decls
-        };
+        in_bodies = All-weaker (DeclHolds p.names numbers ds) (HoldsInBody numbers (IsKnownCall numbers)) (in_body p.names numbers ds (IsKnownCall numbers) (λ t stmt h. h.0)) ds in_decls;
+      };
       accepts_are_own = record {
         in_main = All-weaker (StmtHolds numbers 0) (IsOwnAccept numbers 0) (λ stmt h. h.1) (body_stmts p.body) in_main;
-        in_bodies = All-weaker (DeclHolds p.names numbers ds) (HoldsInBody numbers (IsOwnAccept numbers)) (in_body p.names numbers ds (IsOwnAccept numbers) (λ t stmt h. h.1)) ds in_decls
-        };
+        in_bodies = All-weaker (DeclHolds p.names numbers ds) (HoldsInBody numbers (IsOwnAccept numbers)) (in_body p.names numbers ds (IsOwnAccept numbers) (λ t stmt h. h.1)) ds in_decls;
+      };
       names_are_fit = record {
         main = All-weaker (IsNewName p.names) (IsFit p.names) (λ name h. h.1) (main_names p) new_names;
-        entries = All-weaker (TaskHolds p.names ds) _ (λ task h. h.fit) ts each_task
-        };
+        entries = All-weaker (TaskHolds p.names ds) _ (λ task h. h.fit) ts each_task;
+      };
       counts_are_fit = record {
         tasks = omega (arith, few_tasks, count);
-        entries = subst (λ (n : Numbering). length n.entries ≤ 1000) same few_entries
-        };
+        entries = subst (λ (n : Numbering). length n.entries ≤ 1000) same few_entries;
+      };
       its_types = refl;
-      its_numbers = same
-      }
+      its_numbers = same;
+    }

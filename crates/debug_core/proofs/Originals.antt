@@ -113,9 +113,9 @@ originals_are_numbers p main_fit fit =
     let own : List EntryInfo = original_entries 1 (tasks_of p) in
     let made : List TaskInfo → List EntryInfo → Numbering = λ ts es. record { main = p.name.name; tasks = ts; entries = es } in
     let tasks : original_task p.name.name ∷ original_tasks (tasks_of p) ≡ task_info p.names p.name.name ∷ map (λ (task : PTask). task_info p.names task.name.name) (tasks_of p) =
-        ap (λ (x : TaskInfo). x ∷ original_tasks (tasks_of p)) (task_same p.names p.name.name main_fit)
-        ∙ ap (λ (xs : List TaskInfo). task_info p.names p.name.name ∷ xs) (tasks_same p.names (tasks_of p) fit) in
+    ap (λ (x : TaskInfo). x ∷ original_tasks (tasks_of p)) (task_same p.names p.name.name main_fit)
+    ∙ ap (λ (xs : List TaskInfo). task_info p.names p.name.name ∷ xs) (tasks_same p.names (tasks_of p) fit) in
     let entries : own ≡ with_origins p.names (entries_from p.names 1 (tasks_of p)) =
-        sym (origins_same p.names own 1 (tasks_of p) fit)
-        ∙ ap (λ (es : List EntryInfo). with_origins p.names es) (entries_same p.names 1 (tasks_of p) fit) in
+    sym (origins_same p.names own 1 (tasks_of p) fit)
+    ∙ ap (λ (es : List EntryInfo). with_origins p.names es) (entries_same p.names 1 (tasks_of p) fit) in
     ap (λ (ts : List TaskInfo). made ts own) tasks ∙ ap (λ (es : List EntryInfo). made (task_info p.names p.name.name ∷ map (λ (task : PTask). task_info p.names task.name.name) (tasks_of p)) es) entries

@@ -43,8 +43,8 @@ spelled_is_small bytes names tokens items name decls its splits says spelled for
       says = says;
       no_context = refl;
       forms = record { decls = subst (λ (ds : List PDecl). AreTasksThenBodies ds) same forms; body = plain };
-      spelled = subst (λ (ds : List PDecl). SpellsUnit name.name ds (body_stmts (plain_body its)) (signs items)) same spelled
-      }
+      spelled = subst (λ (ds : List PDecl). SpellsUnit name.name ds (body_stmts (plain_body its)) (signs items)) same spelled;
+    }
 
 -- a parsed program that passed the tests is legal
 pub read_is_legal :
