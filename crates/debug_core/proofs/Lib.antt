@@ -8,3 +8,5 @@ pub mod Ruling
 pub mod Originals
 pub mod Legality
 pub mod Together
+pub mod Lining
+pub mod Textual

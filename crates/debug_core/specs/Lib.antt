@@ -5,3 +5,4 @@ pub mod SmallNumbers
 pub mod Words
 pub mod RunText
 pub mod Commands
+pub mod Answers

@@ -38,7 +38,11 @@ abbrev pub task_lines : List (List ℕ) → ℕ → List TaskInfo → List ℕ
 task_lines names t [] = []
 task_lines names t (info ∷ rest) = task_line names t info ⧺ task_lines names (t + 1) rest
 
+-- what follows the events
+abbrev pub rest_of_run : List (List ℕ) → Numbering → RunEnd → ℕ → List ℕ
+rest_of_run names numbers end made = end_line end made ⧺ task_lines names 0 numbers.tasks
+
 -- The text of a run with these events, this end and this number of actions.
 abbrev pub run_text : List (List ℕ) → Numbering → List Event → RunEnd → ℕ → List ℕ
 run_text names numbers events end made =
-    header names numbers ⧺ (lines_of numbers events ⧺ (end_line end made ⧺ task_lines names 0 numbers.tasks))
+    header names numbers ⧺ (lines_of numbers events ⧺ rest_of_run names numbers end made)

@@ -2,4 +2,7 @@
 #![tactic(auto, using(ada_tree::proofs::Rows::rows))]
 
 mod command;
+mod failing;
+mod run_command;
+mod run_text;
 mod small;
