@@ -3,7 +3,7 @@ use Rattle.std.proofs.Common.{◌≡◌, ℕ, zero, suc, ◌+◌, ◌≤◌, ◌
 use Rattle.std.specs.Prelude.{Contains}
 use Rattle.std.specs.Option.{IsSomeAnd}
 use Rattle.std.specs.List.{AllByRecursion, IsDistinct}
-use Rattle.std.proofs.lemmas.Bool.{eqb-eq}
+use Rattle.std.proofs.lemmas.Bool.{eqb-true}
 use Rattle.std.proofs.lemmas.List.{length-map, get_or-map}
 use Rattle.std.proofs.lemmas.Simd.{map-map}
 use Rattle.std.proofs.lemmas.List.Quantifiers.{position-Some}
@@ -55,9 +55,9 @@ named_among main ts name zero at positive = absurd (omega arith)
 named_among main ts name (suc k) at positive =
     let found = position-Some (λ (info : TaskInfo). info.name.0 == name) (original_task main ∷ original_tasks ts) (suc k) (original_task main) at in
     let within : k < length (original_tasks ts) = omega (arith, found.0) in
-    let same : (get_or (original_tasks ts) k (original_task main)).name.0 ≡ name = eqb-eq _ _ found.1 in
+    let same : (get_or (original_tasks ts) k (original_task main)).name.0 ≡ name = eqb-true _ _ found.1 in
     let read : get_or (info_names (original_tasks ts)) k name ≡ name = get_or-map (λ (info : TaskInfo). info.name.0) (original_tasks ts) k (original_task main) name within ∙ same in
-    let stands : Contains (info_names (original_tasks ts)) (get_or (info_names (original_tasks ts)) k name) = Contains-get_or (info_names (original_tasks ts)) k name (simp length-map within) in
+    let stands : Contains (info_names (original_tasks ts)) (get_or (info_names (original_tasks ts)) k name) = Contains-get_or (info_names (original_tasks ts)) k name (rw (length-map (original_tasks ts) (λ (info : TaskInfo). info.name.0)) within) in
     subst (λ (ns : List ℕ). Contains ns name) (numbered_names ts) (subst (λ (n : ℕ). Contains (info_names (original_tasks ts)) n) read stands)
 
 among_if :
