@@ -6,4 +6,4 @@ pub mod Pieces
 pub mod Verdicts
 pub mod Split
 pub mod Places
-pub mod Reading
+pub mod Lengths

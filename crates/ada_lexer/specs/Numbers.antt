@@ -1,14 +1,15 @@
 -- Numbers: their form and their value.
-use Rattle.std.specs.Prelude.{ℕ, Bool, true, false, ◌+◌, ◌-◌, ◌*◌, ◌&&◌, ◌||◌, List, [], ◌∷◌, take, drop, Option, None, Some, position, nat_le, ◌==◌, if◌then◌else◌}
+use Rattle.std.specs.Prelude.{ℕ, Bool, false, ◌+◌, ◌-◌, ◌*◌, ◌&&◌, ◌||◌, List, [], ◌∷◌, take, drop, Option, None, Some, position, nat_le, ◌==◌, if◌then◌else◌}
 use Rattle.std.specs.Option.{option_map}
 use Rattle.ada_lexer.specs.declared.kinds.TokenKind.{TokenKind}
 use Rattle.ada_lexer.specs.declared.kinds.TokenKind.TheVariants.{Integer, Duration}
 use Rattle.ada_lexer.specs.Bytes.{is_digit, begins, every}
 
--- the largest integer literal, and the largest duration in thousandths: one day (this project's limits)
+-- the largest integer literal (this project's limit)
 abbrev pub max_integer : ℕ
 max_integer = 2147483647
 
+-- the longest duration: one day in thousandths of a second (this project's limit)
 abbrev pub max_thousandths : ℕ
 max_thousandths = 86400000
 
@@ -62,5 +63,6 @@ abbrev pub kind_by_point : List ℕ → Option ℕ → Option TokenKind
 kind_by_point text None = option_map Integer (integer_value text)
 kind_by_point text (Some point) = option_map Duration (duration_value point text)
 
+-- the integer or the duration that a text is, by its value (2.4)
 unfoldable pub number_kind : List ℕ → Option TokenKind
 number_kind text = kind_by_point text (position is_point text)

@@ -16,6 +16,11 @@ number_goes_on b rest = is_letter_or_digit b || b == 95 || (b == 46 && begins is
 abbrev pub comment_goes_on : ℕ → List ℕ → Bool
 comment_goes_on b rest = not (is_line_end b)
 
+-- two hyphens begin a comment (2.7)
+abbrev pub opens_comment : List ℕ → Bool
+opens_comment (b ∷ c ∷ rest) = b == 45 && c == 45
+opens_comment _ = false
+
 -- two hyphens and what follows them on their line (2.7)
 abbrev pub is_comment : List ℕ → Bool
 is_comment (b ∷ c ∷ rest) = b == 45 && c == 45 && every comment_goes_on rest

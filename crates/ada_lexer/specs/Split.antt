@@ -1,33 +1,37 @@
 -- The split of a text into tokens, and the first fault of a text that does not split.
-use Rattle.std.specs.Prelude.{◌≡◌, ◌≢◌, ℕ, ◌+◌, ◌≤◌, List, [], ◌∷◌, ◌++◌, length, take, drop, All, IsTrue, ⊤, ◌⊎◌}
+use Rattle.std.specs.Prelude.{◌≡◌, ◌≢◌, ℕ, ◌+◌, ◌<◌, ◌≤◌, List, [], ◌∷◌, length, take, drop, IsTrue, ⊤, ◌⊎◌, slice_range}
 use Rattle.ada_lexer.specs.declared.kinds.Token.{Token}
 use Rattle.ada_lexer.specs.declared.errors.LexError.{LexError}
-use Rattle.ada_lexer.specs.declared.errors.LexError.TheVariants.{BadByte, Memory}
+use Rattle.ada_lexer.specs.declared.errors.LexError.TheVariants.{BadByte}
 use Rattle.ada_lexer.specs.Pieces.{is_piece, IsLongest}
-use Rattle.ada_lexer.specs.Verdicts.{Verdict, gap, token, fault, verdict}
+use Rattle.ada_lexer.specs.declared.verdicts.Verdict.{Verdict}
+use Rattle.ada_lexer.specs.declared.verdicts.Verdict.TheVariants.{Gap, Kind, Fault}
+use Rattle.ada_lexer.specs.Verdicts.{verdict, IsToken}
 
 -- the text falls into these pieces and then the rest, each piece the longest that begins at its place (2.2)
 abbrev pub FallsInto : List (List ℕ) → List ℕ → List ℕ → Type 0
 FallsInto [] rest text = text ≡ rest
 FallsInto (piece ∷ pieces) rest text = IsLongest piece text × FallsInto pieces rest (drop (length piece) text)
 
--- the tokens of pieces that begin at a place: each token is the slice of its piece, and gaps are none
+-- in front of other tokens, the token that a piece from start to end is, if it is one
 abbrev pub onto_tokens : Verdict → ℕ → ℕ → List Token → List Token
-onto_tokens gap start end tokens = tokens
-onto_tokens (token kind) start end tokens = record { kind = kind; start = start; end = end } ∷ tokens
-onto_tokens (fault error) start end tokens = tokens
+onto_tokens Gap start end tokens = tokens
+onto_tokens (Kind kind) start end tokens = record { kind = kind; start = start; end = end } ∷ tokens
+onto_tokens (Fault error) start end tokens = tokens
 
+-- the tokens of pieces that begin at a place: each stands where its piece does, and gaps are none
 abbrev pub tokens_of : ℕ → List (List ℕ) → List Token
 tokens_of at [] = []
 tokens_of at (piece ∷ pieces) =
     onto_tokens (verdict at piece) at (at + length piece) (tokens_of (at + length piece) pieces)
 
--- no piece of these has a fault
+-- it is no fault
 abbrev pub IsSound : Verdict → Type 0
-IsSound gap = ⊤
-IsSound (token kind) = ⊤
-IsSound (fault error) = ⊥
+IsSound Gap = ⊤
+IsSound (Kind kind) = ⊤
+IsSound (Fault error) = ⊥
 
+-- none of the pieces that begin at a place has a fault
 abbrev pub AreSound : ℕ → List (List ℕ) → Type 0
 AreSound at [] = ⊤
 AreSound at (piece ∷ pieces) = IsSound (verdict at piece) × AreSound (at + length piece) pieces
@@ -48,7 +52,7 @@ BeginsNothing text = (text ≢ []) × ((n : ℕ) → n ≤ length text → IsTru
 -- the fault at the very front of a text that begins at a place
 abbrev pub FailsHere : ℕ → List ℕ → LexError → Type 0
 FailsHere at text error =
-    (BeginsNothing text × (error ≡ BadByte at)) ⊎ ((piece : List ℕ) × IsLongest piece text × (verdict at piece ≡ fault error))
+    (BeginsNothing text × (error ≡ BadByte at)) ⊎ ((piece : List ℕ) × IsLongest piece text × (verdict at piece ≡ Fault error))
 
 -- the place behind pieces that begin at a place
 abbrev pub place_behind : ℕ → List (List ℕ) → ℕ
@@ -64,3 +68,14 @@ FailsAt at text error =
 -- the first fault of the whole text
 abbrev pub HasFirstFault : List ℕ → LexError → Type 0
 HasFirstFault text error = FailsAt 0 text error
+
+-- the token is the slice of the text from its start to its end, and that slice is a token of its kind
+pub record IsTokenOf (text : List ℕ) (t : Token) : Type 0 where
+  pub some : t.start < t.end
+  pub within : t.end ≤ length text
+  pub slice : IsToken (slice_range text t.start t.end) t.kind
+
+-- each token begins at or behind the end of the one before
+abbrev pub AreInOrder : ℕ → List Token → Type 0
+AreInOrder end [] = ⊤
+AreInOrder end (t ∷ tokens) = (end ≤ t.start) × AreInOrder t.end tokens

@@ -1,5 +1,5 @@
 -- Strings: how far one goes, whether it is closed, and its content. A quotation mark in a string is written twice (2.6).
-use Rattle.std.specs.Prelude.{ℕ, Bool, true, false, ◌+◌, ◌&&◌, not, List, [], ◌∷◌, ◌==◌, if◌then◌else◌}
+use Rattle.std.specs.Prelude.{ℕ, Bool, true, ◌+◌, ◌&&◌, not, List, [], ◌∷◌, ◌==◌, if◌then◌else◌}
 
 -- inside, every byte but the end of the line goes on; behind a mark, only a second mark does
 abbrev pub string_goes_on : Bool → ℕ → Bool

@@ -1,5 +1,7 @@
 //! What a token is.
 
+use std::mem::size_of;
+
 /// The kind of a token: one for each reserved word of ANSI/MIL-STD-1815A 2.9, one for each
 /// delimiter of 2.2 that this project's language uses, and the kinds that have many texts.
 ///
@@ -131,3 +133,6 @@ pub struct Token {
     pub start: u32,
     pub end: u32,
 }
+
+// A list of tokens takes sixteen bytes for each.
+const _: () = prove!(size_of::<Token>() == 16);

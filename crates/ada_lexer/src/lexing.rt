@@ -1,14 +1,17 @@
 //! The tokens of a text.
 
-ghost use Rattle.std.specs.Prelude.{◌≡◌, ◌≢◌, ◌<◌, ◌-◌, ◌^◌, List, length, IfOk, IfErr, MatchResult};
+ghost use Rattle.std.specs.Prelude.{◌≡◌, ◌≢◌, ◌<◌, ◌-◌, ◌^◌, List, [], ◌++◌, length, All, OnOk, IfOk, IfErr, MatchResult};
 ghost use Rattle.ada_lexer.specs.declared.kinds.Token.{Token};
 ghost use Rattle.ada_lexer.specs.declared.errors.LexError.{LexError};
 ghost use Rattle.ada_lexer.specs.declared.errors.LexError.TheVariants.{Memory};
-ghost use Rattle.ada_lexer.specs.Split.{Splits, HasFirstFault};
+ghost use Rattle.ada_lexer.specs.declared.verdicts.Verdict.TheVariants.{Fault};
+ghost use Rattle.ada_lexer.specs.Split.{Splits, HasFirstFault, IsTokenOf, AreInOrder, IsSound, onto_tokens};
 
+use super::bytes::{behind, front};
 use super::errors::LexError;
 use super::kinds::Token;
-use super::pieces::{Piece, read_piece};
+use super::lengths::piece_len;
+use super::verdicts::{Verdict, verdict_of};
 use std::alloc::Global;
 
 /// The tokens of a text, in order, each with its place. White space and comments give none.
@@ -18,6 +21,8 @@ use std::alloc::Global;
 pub fn tokens(alloc: Global, src: &[u8]) -> Result<Vec<Token>, LexError>
     requires { length src.now < 2 ^ 32 - 1 }
     ensures split { IfOk result (λ found. Splits src.now found.items) }
+    ensures slices { IfOk result (λ found. All (IsTokenOf src.now) found.items) }
+    ensures order { IfOk result (λ found. AreInOrder 0 found.items) }
     ensures first_fault { IfErr result (λ error. error ≢ Memory → HasFirstFault src.now error) }
     ensures only_split { (wanted : List Token) → Splits src.now wanted
         → MatchResult result (λ found. found.items ≡ wanted) (λ error. error ≡ Memory) }
@@ -27,21 +32,32 @@ pub fn tokens(alloc: Global, src: &[u8]) -> Result<Vec<Token>, LexError>
     let mut found = Vec::new(alloc);
     let mut at = 0;
     while at < src.len() {
-        match read_piece(at as u32, &src[at..]) {
-            Piece::Gap { len } => at += len,
-            Piece::Token { kind, len } => {
-                let token = Token {
-                    kind,
-                    start: at as u32,
-                    end: (at + len) as u32,
-                };
-                if found.push(token).is_err() {
-                    return Err(LexError::Memory);
-                }
-                at += len;
-            }
-            Piece::Fault(error) => return Err(error),
+        let rest = behind(src, at);
+        let len = piece_len(rest);
+        if len == 0 {
+            return Err(LexError::BadByte { at: at as u32 });
         }
+        let piece = verdict_of(at as u32, front(rest, len));
+        if let Err(error) = add(&mut found, piece, at as u32, (at + len) as u32) {
+            return Err(error);
+        }
+        at += len;
     }
     Ok(found)
+}
+
+/// Adds the token that the piece from `start` to `end` is, if it is one.
+fn add(found: &mut Vec<Token>, piece: Verdict, start: u32, end: u32) -> Result<(), LexError>
+    ensures added { OnOk result (found.new.items ≡ found.old.items ++ onto_tokens piece start end []) }
+    ensures sound { OnOk result (IsSound piece) }
+    ensures fault { IfErr result (λ error. error ≢ Memory → piece ≡ Fault error) }
+{
+    match piece {
+        Verdict::Gap => Ok(()),
+        Verdict::Kind(kind) => match found.push(Token { kind, start, end }) {
+            Ok(()) => Ok(()),
+            Err(_) => Err(LexError::Memory),
+        },
+        Verdict::Fault(error) => Err(error),
+    }
 }

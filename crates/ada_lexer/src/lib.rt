@@ -4,15 +4,21 @@
 //! and delimiters. `specs/Split.antt` says what the tokens of a text are, and what its first fault is.
 #![tactic(auto)]
 
+mod bytes;
 mod errors;
 mod kinds;
+mod lengths;
 mod lexing;
 mod numbers;
-mod pieces;
 mod places;
+mod strings;
+mod verdicts;
 mod words;
 
 pub use errors::LexError;
 pub use kinds::{Token, TokenKind};
 pub use lexing::tokens;
 pub use places::{LineCol, line_col};
+
+#[cfg(test)]
+mod tests;

@@ -2,11 +2,12 @@
 
 ghost use Rattle.std.specs.Prelude.{◌≡◌, ◌∷◌, [], map, IsTrue};
 ghost use Rattle.ada_lexer.specs.Bytes.{lower};
-ghost use Rattle.ada_lexer.specs.Words.{same_text, kind_in, reserved_kind, two_letters, three_letters, four_letters, five_letters, six_letters, seven_letters, eight_letters, nine_letters, simple_delimiters, compound_delimiters};
+ghost use Rattle.ada_lexer.specs.Words.{same_text, kind_in, reserved_kind, two_letters, three_letters, four_letters, five_letters, six_letters, seven_letters, eight_letters, nine_letters, simple_delimiters, compound_delimiters, delimiter_kind};
 
 use super::kinds::TokenKind;
 
 /// The reserved word that `word` is, in any case.
+#[tactic(auto, using(crate::proofs::WordLemmas::reserved_by_length))]
 pub fn reserved(word: &[u8]) -> Option<TokenKind>
     ensures { result ≡ reserved_kind word.now }
 {
@@ -24,16 +25,29 @@ pub fn reserved(word: &[u8]) -> Option<TokenKind>
 }
 
 /// Whether `word` is the word `small`, which is in lower case.
+#[tactic(auto, using(crate::proofs::WordLemmas::same_text_steps))]
 fn is_word(word: &[u8], small: &[u8]) -> bool
     ensures { result ≡ same_text (map lower word.now) small.now }
 {
-    word.len() == small.len()
-        && word
-            .iter()
-            .zip(small)
-            .all(|(b, s)| b.to_ascii_lowercase() == *s)
+    if word.len() != small.len() {
+        return false;
+    }
+    for n in 0..word.len() {
+        if lower(word[n]) != small[n] {
+            return false;
+        }
+    }
+    true
 }
 
+/// A letter in lower case, and any other byte as it is.
+fn lower(b: u8) -> u8
+    ensures { result ≡ lower b }
+{
+    if b'A' <= b && b <= b'Z' { b + 32 } else { b }
+}
+
+#[tactic(auto, unfolding(crate::specs::Words::two_letters))]
 fn two(word: &[u8]) -> Option<TokenKind>
     ensures { result ≡ kind_in two_letters (map lower word.now) }
 {
@@ -56,6 +70,7 @@ fn two(word: &[u8]) -> Option<TokenKind>
     }
 }
 
+#[tactic(auto, unfolding(crate::specs::Words::three_letters))]
 fn three(word: &[u8]) -> Option<TokenKind>
     ensures { result ≡ kind_in three_letters (map lower word.now) }
 {
@@ -88,6 +103,7 @@ fn three(word: &[u8]) -> Option<TokenKind>
     }
 }
 
+#[tactic(auto, unfolding(crate::specs::Words::four_letters))]
 fn four(word: &[u8]) -> Option<TokenKind>
     ensures { result ≡ kind_in four_letters (map lower word.now) }
 {
@@ -120,6 +136,7 @@ fn four(word: &[u8]) -> Option<TokenKind>
     }
 }
 
+#[tactic(auto, unfolding(crate::specs::Words::five_letters))]
 fn five(word: &[u8]) -> Option<TokenKind>
     ensures { result ≡ kind_in five_letters (map lower word.now) }
 {
@@ -148,6 +165,7 @@ fn five(word: &[u8]) -> Option<TokenKind>
     }
 }
 
+#[tactic(auto, unfolding(crate::specs::Words::six_letters))]
 fn six(word: &[u8]) -> Option<TokenKind>
     ensures { result ≡ kind_in six_letters (map lower word.now) }
 {
@@ -172,6 +190,7 @@ fn six(word: &[u8]) -> Option<TokenKind>
     }
 }
 
+#[tactic(auto, unfolding(crate::specs::Words::seven_letters))]
 fn seven(word: &[u8]) -> Option<TokenKind>
     ensures { result ≡ kind_in seven_letters (map lower word.now) }
 {
@@ -196,6 +215,7 @@ fn seven(word: &[u8]) -> Option<TokenKind>
     }
 }
 
+#[tactic(auto, unfolding(crate::specs::Words::eight_letters))]
 fn eight(word: &[u8]) -> Option<TokenKind>
     ensures { result ≡ kind_in eight_letters (map lower word.now) }
 {
@@ -210,6 +230,7 @@ fn eight(word: &[u8]) -> Option<TokenKind>
     }
 }
 
+#[tactic(auto, unfolding(crate::specs::Words::nine_letters))]
 fn nine(word: &[u8]) -> Option<TokenKind>
     ensures { result ≡ kind_in nine_letters (map lower word.now) }
 {
@@ -224,7 +245,20 @@ fn nine(word: &[u8]) -> Option<TokenKind>
     }
 }
 
+/// The delimiter that the whole of `mark` is.
+#[tactic(auto, unfolding(crate::specs::Words::delimiter_kind))]
+pub fn delimiter(mark: &[u8]) -> Option<TokenKind>
+    ensures { result ≡ delimiter_kind mark.now }
+{
+    match mark {
+        [b] => simple_delimiter(*b),
+        [b, c] => compound_delimiter(*b, *c),
+        _ => None,
+    }
+}
+
 /// The delimiter that the byte alone is.
+#[tactic(auto, unfolding(crate::specs::Words::simple_delimiters))]
 pub fn simple_delimiter(b: u8) -> Option<TokenKind>
     ensures { result ≡ kind_in simple_delimiters (b ∷ []) }
 {
@@ -250,6 +284,7 @@ pub fn simple_delimiter(b: u8) -> Option<TokenKind>
 }
 
 /// The delimiter that the two bytes are together.
+#[tactic(auto, unfolding(crate::specs::Words::compound_delimiters))]
 pub fn compound_delimiter(b: u8, c: u8) -> Option<TokenKind>
     ensures { result ≡ kind_in compound_delimiters (b ∷ c ∷ []) }
 {

@@ -1,5 +1,6 @@
 pub mod BinaryCode
 pub mod ExprCode
+pub mod NameList
 pub mod PlainDecl
 pub mod PlainExpr
 pub mod PlainProgram

@@ -1,5 +1,6 @@
 -- The plain mirror of statements, bodies, handlers, alternatives and arms, with the view of each type in it. A list of one of these is a row of the family; `row_of` and its kin make the row of a list.
-use Rattle.std.specs.Prelude.{ℕ, Bool, List, [], ◌∷◌, Option, Some, None, map, option_map, string_bytes}
+use Rattle.std.specs.Prelude.{ℕ, Bool, List, [], ◌∷◌, Option, Some, None, Vec, map, option_map, string_bytes}
+use Rattle.std.specs.declared.alloc.Global.{Global}
 use Rattle.ada_tree.specs.declared.naming.Span.{Span}
 use Rattle.ada_tree.specs.declared.naming.Word.{Word}
 use Rattle.ada_tree.specs.declared.statements.Target.{Target}
@@ -276,6 +277,10 @@ plain_stmt x = stmt_at x.kind x.span
 abbrev pub plain_alt : Alt → PAlt
 plain_alt x = alternative (option_map plain_expr x.guard) (plain_alt_kind x.kind) x.span
 
--- the statements of a list of the code, as a row; and those of an optional one
+-- the statements of a list of the code, as a row
 abbrev pub seen : List Stmt → PStmts
 seen xs = row_of (map plain_stmt xs)
+
+-- the statements of a list of the code that may be left out
+abbrev pub seen_maybe : Option (Vec Stmt Global) → PMaybe
+seen_maybe o = maybe_of (option_map (λ v. map plain_stmt v.items) o)

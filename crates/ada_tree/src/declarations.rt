@@ -12,18 +12,46 @@ pub struct Decl {
 #[cycle(decl)]
 #[derive(Drop)]
 pub enum DeclKind {
-    Number { name: Word, value: Expr },
-    Object { names: Vec<Word>, constant: bool, shape: Shape, init: Option<Init> },
-    Enumeration { name: Word, literals: Vec<Word> },
-    Array { name: Word, index: Drange, part: Subind },
-    Subtype { name: Word, base: Subind },
-    Exception { names: Vec<Word> },
+    Number {
+        name: Word,
+        value: Expr,
+    },
+    Object {
+        names: Vec<Word>,
+        constant: bool,
+        shape: Shape,
+        init: Option<Init>,
+    },
+    Enumeration {
+        name: Word,
+        literals: Vec<Word>,
+    },
+    Array {
+        name: Word,
+        index: Drange,
+        part: Subind,
+    },
+    Subtype {
+        name: Word,
+        base: Subind,
+    },
+    Exception {
+        names: Vec<Word>,
+    },
     /// An instance of INTEGER_IO, with its use clause.
-    IntIo { name: Word },
+    IntIo {
+        name: Word,
+    },
     /// `pragma PRIORITY(value);`
-    Pragma { value: Expr },
+    Pragma {
+        value: Expr,
+    },
     Task(TaskUnit),
-    TaskBody { name: Word, objects: Vec<Decl>, body: Body },
+    TaskBody {
+        name: Word,
+        objects: Vec<Decl>,
+        body: Body,
+    },
 }
 
 /// What an object is: a scalar or a named array, or an array of its own type.

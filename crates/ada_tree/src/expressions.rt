@@ -16,12 +16,26 @@ pub enum ExprKind {
     Integer(u32),
     Name(NameId),
     /// A component of an array.
-    Index { name: Word, arg: Box<Expr> },
+    Index {
+        name: Word,
+        arg: Box<Expr>,
+    },
     /// `mark'word` or `mark'word(arg)`.
-    Attribute { mark: Word, word: Word, arg: Option<Box<Expr>> },
+    Attribute {
+        mark: Word,
+        word: Word,
+        arg: Option<Box<Expr>>,
+    },
     Paren(Box<Expr>),
-    Unary { op: UnaryOp, part: Box<Expr> },
-    Binary { op: BinaryOp, left: Box<Expr>, right: Box<Expr> },
+    Unary {
+        op: UnaryOp,
+        part: Box<Expr>,
+    },
+    Binary {
+        op: BinaryOp,
+        left: Box<Expr>,
+        right: Box<Expr>,
+    },
 }
 
 #[derive(Clone, Copy, Debug, PartialEq, Eq)]

@@ -1,15 +1,20 @@
 // The tree of an Ada 83 program, with its names.
 #![tactic(auto)]
 
+mod copying;
 mod declarations;
 mod expressions;
 mod naming;
 mod shortage;
 mod statements;
 mod static_types;
+#[cfg(test)]
+mod tests;
 mod whole;
 
-pub use declarations::{Decl, DeclKind, Drange, EntryDecl, Init, Priority, Shape, Subind, TaskUnit};
+pub use declarations::{
+    Decl, DeclKind, Drange, EntryDecl, Init, Priority, Shape, Subind, TaskUnit,
+};
 pub use expressions::{BinaryOp, Bounds, Expr, ExprKind, UnaryOp};
 pub use naming::{NameId, Names, Span, Word};
 pub use shortage::Memory;

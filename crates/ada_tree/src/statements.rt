@@ -31,27 +31,68 @@ pub struct Stmt {
 #[derive(Drop)]
 pub enum StmtKind {
     Null,
-    Assign { target: Target, value: Expr },
-    Delay { thousandths: u32 },
-    Exit { name: Option<Word>, test: Option<Expr> },
-    Raise { name: Option<Word> },
-    Abort { names: Vec<Callee> },
+    Assign {
+        target: Target,
+        value: Expr,
+    },
+    Delay {
+        thousandths: u32,
+    },
+    Exit {
+        name: Option<Word>,
+        test: Option<Expr>,
+    },
+    Raise {
+        name: Option<Word>,
+    },
+    Abort {
+        names: Vec<Callee>,
+    },
     Call(Call),
     Accept(Accept),
     /// A selective wait, with its else part.
-    Wait { alts: Vec<Alt>, otherwise: Option<Vec<Stmt>> },
+    Wait {
+        alts: Vec<Alt>,
+        otherwise: Option<Vec<Stmt>>,
+    },
     /// A conditional entry call: the statements behind the call, and the else part.
-    Conditional { call: Call, behind: Vec<Stmt>, otherwise: Vec<Stmt> },
+    Conditional {
+        call: Call,
+        behind: Vec<Stmt>,
+        otherwise: Vec<Stmt>,
+    },
     /// A timed entry call: the statements behind the call, and those behind the delay.
-    Timed { call: Call, behind: Vec<Stmt>, thousandths: u32, after: Vec<Stmt> },
-    Put { parts: Vec<Part> },
-    PutLine { parts: Vec<Part> },
+    Timed {
+        call: Call,
+        behind: Vec<Stmt>,
+        thousandths: u32,
+        after: Vec<Stmt>,
+    },
+    Put {
+        parts: Vec<Part>,
+    },
+    PutLine {
+        parts: Vec<Part>,
+    },
     NewLine,
-    Get { target: Target },
-    If { arms: Vec<Arm>, otherwise: Option<Vec<Stmt>> },
-    Case { selector: Expr, arms: Vec<CaseArm>, others: Option<Vec<Stmt>> },
+    Get {
+        target: Target,
+    },
+    If {
+        arms: Vec<Arm>,
+        otherwise: Option<Vec<Stmt>>,
+    },
+    Case {
+        selector: Expr,
+        arms: Vec<CaseArm>,
+        others: Option<Vec<Stmt>>,
+    },
     Block(Body),
-    Loop { name: Option<Word>, scheme: Option<Scheme>, stmts: Vec<Stmt> },
+    Loop {
+        name: Option<Word>,
+        scheme: Option<Scheme>,
+        stmts: Vec<Stmt>,
+    },
 }
 
 /// A variable or a component.
@@ -161,5 +202,9 @@ pub struct CaseChoice {
 #[derive(Drop)]
 pub enum Scheme {
     While(Expr),
-    For { name: Word, reverse: bool, range: Drange },
+    For {
+        name: Word,
+        reverse: bool,
+        range: Drange,
+    },
 }

@@ -28,8 +28,15 @@ impl Model for Types {
 pub enum Kind {
     Integer,
     Truth,
-    Enumeration { literals: Literals },
-    Array { index: u32, first: i32, last: i32, part: u32 },
+    Enumeration {
+        literals: Literals,
+    },
+    Array {
+        index: u32,
+        first: i32,
+        last: i32,
+        part: u32,
+    },
 }
 
 /// The literals of an enumeration, in order of their positions. A contract sees the list of their names.

@@ -1,7 +1,7 @@
 -- Counts of faults over several calls: a rise in one of them is a rise in all.
-use Rattle.std.specs.Prelude.{◌≡◌, ◌<◌, ◌≤◌, ◌+◌, ◌⊎◌, ℕ, Result, Ok, Err, refl}
-use Rattle.std.proofs.Common.{sym, ap, ◌∙◌, subst, inl, inr, arith}
-use Rattle.ded_io.specs.Counts.{Rose, HasCause, last_count, one_more}
+use Rattle.std.specs.Prelude.{◌≤◌, ℕ}
+use Rattle.std.proofs.Common.{inl, inr, arith}
+use Rattle.ded_io.specs.Counts.{Rose, last_count, one_more}
 use Rattle.std.proofs.lemmas.Grind.{common_steps}
 
 -- a count that rises is not smaller
@@ -23,7 +23,3 @@ rose_before old mid new h le top = grind (arith, common_steps)
 pub rose-one_more : (n : ℕ) → n ≤ last_count → Rose n (one_more n)
 unfolding Rose
 rose-one_more n top = grind (arith, common_steps)
-
--- a success leaves the count, and an error raised it
-pub cause_ok : (A E : Type 0) (x : A) (n : ℕ) → HasCause {E = E} n n (Ok x)
-cause_ok A E x n = refl

@@ -1,9 +1,8 @@
 -- Writes one after another: what was written by all of them, and that each text is the earlier ones and then the rest.
-use Rattle.std.specs.Prelude.{◌≡◌, ◌++◌, ◌+◌, ◌∷◌, [], ℕ, List, Option, Some, None, Result, Ok, Err, length, refl}
+use Rattle.std.specs.Prelude.{◌≡◌, ◌++◌, ◌+◌, [], ℕ, List, Option, Some, None, Result, Ok, Err, length, refl}
 use Rattle.std.proofs.Common.{sym, ap, ◌∙◌}
 use Rattle.std.proofs.lemmas.List.{append_assoc, append-nil, length-append}
 use Rattle.ded_io.specs.Written.{◌⧺◌, appended, Began, Wrote}
-use Rattle.ded_io.specs.Counts.{HasCause, Rose}
 
 -- `⧺` is `++`
 pub joined : (a b : List ℕ) → a ⧺ b ≡ a ++ b
@@ -33,12 +32,12 @@ appended-nil (Some old) = ap Some (append-nil old)
 
 -- a front of what comes behind a written text is a front of both
 pub began_then : (old mid new : Option (List ℕ)) (a b : List ℕ) → mid ≡ appended old a → Began mid new b → Began old new (a ++ b)
-began_then old mid new a b e (front, rest, is_front, is_new) =
-    ( a ++ front
-    , rest
-    , ap (λ t. a ++ t) is_front ∙ sym (append_assoc a front rest)
-    , is_new ∙ ap (λ t. appended t front) e ∙ appended-appended old a front
-    )
+began_then old mid new a b e (front, rest, is_front, is_new) = (
+  a ++ front,
+  rest,
+  ap (λ t. a ++ t) is_front ∙ sym (append_assoc a front rest),
+  is_new ∙ ap (λ t. appended t front) e ∙ appended-appended old a front,
+)
 
 -- a write that went well, and then another: the answer of the second is that of both
 pub wrote_then : (A B E F : Type 0) (x : A) (r : Result B F) (old mid new : Option (List ℕ)) (a b : List ℕ) → Wrote {E = E} (Ok x) old mid a → Wrote r mid new b → Wrote r old new (a ⧺ b)

@@ -1,5 +1,5 @@
 -- Counts of faults: what it means that one rose, and that a rise is the cause of an answer (this project's rule).
-use Rattle.std.specs.Prelude.{◌≡◌, ◌<◌, ◌+◌, ◌⊎◌, ℕ, cond, nat_lt, Result, Ok, Err}
+use Rattle.std.specs.Prelude.{◌≡◌, ◌<◌, ◌+◌, ◌⊎◌, ℕ, min, Result, Ok, Err}
 
 -- the last value of a count, the greatest of 64 bits; a count that stands there stays there
 abbrev pub last_count : ℕ
@@ -7,7 +7,7 @@ last_count = 18446744073709551615
 
 -- the count after one more fault
 abbrev pub one_more : ℕ → ℕ
-one_more n = cond (nat_lt n last_count) (n + 1) n
+one_more n = min (n + 1) last_count
 
 -- the count rose, or stands at its last value
 unfoldable pub Rose : ℕ → ℕ → Type 0

@@ -1,3 +1,4 @@
 pub mod Counts
+pub mod Stored
 pub mod Told
 pub mod Written

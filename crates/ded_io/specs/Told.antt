@@ -10,7 +10,7 @@ pub record ToldFile : Type 0 where
 
 -- the bytes of the first file of that name
 abbrev pub file_bytes : List ToldFile → List ℕ → Option (List ℕ)
-file_bytes files name = option_map (λ f. f.bytes) (find (λ f. bytes_eq name f.name) files)
+file_bytes files name = option_map (λ f. f.bytes) (find (λ f. bytes_eq f.name name) files)
 
 -- where the files are told, these are the bytes of that name
 abbrev pub Gives : Option (List ToldFile) → List ℕ → List ℕ → Type 0

@@ -4,8 +4,14 @@
 
 mod choosing;
 mod loading;
+mod stored_files;
+mod stored_output;
+#[cfg(test)]
+mod tests;
 mod writing;
 
-pub use choosing::Chooser;
+pub use choosing::{Chooser, ListChooser};
 pub use loading::{Files, LoadError};
+pub use stored_files::{FileEntry, MemoryFiles};
+pub use stored_output::MemorySink;
 pub use writing::{Sink, SinkError};

@@ -55,3 +55,17 @@ pub trait Files {
     fn faults(&self) -> u64
         ensures { result ≡ faults self.now };
 }
+
+impl<F: Files> Files for &mut F {
+    ghost told = { λ files. F.told files.now };
+
+    ghost faults = { λ files. F.faults files.now };
+
+    fn load(&mut self, alloc: Global, name: &str, limit: u64) -> Result<Vec<u8>, LoadError> {
+        (**self).load(alloc, name, limit)
+    }
+
+    fn faults(&self) -> u64 {
+        (**self).faults()
+    }
+}

@@ -34,3 +34,17 @@ pub trait Sink {
     fn faults(&self) -> u64
         ensures { result ≡ faults self.now };
 }
+
+impl<S: Sink> Sink for &mut S {
+    ghost told = { λ out. S.told out.now };
+
+    ghost faults = { λ out. S.faults out.now };
+
+    fn put(&mut self, bytes: &[u8]) -> Result<(), SinkError> {
+        (**self).put(bytes)
+    }
+
+    fn faults(&self) -> u64 {
+        (**self).faults()
+    }
+}

@@ -139,9 +139,13 @@ closed_in task (part ∷ parts) = with_frames task (part_on (pending_of task) pa
 abbrev pub body_closed : Task → Task
 body_closed task = closed_in task task.outer
 
--- The caller behind its call, as its rendezvous with this acceptor ends; a pending exception is raised there.
+-- The caller behind its call, or as the exception is raised there.
+abbrev pub call_left : Option Raised → Task → Task
+call_left raised task = with_top task (part_on raised task.top)
+
+-- The caller as its rendezvous with this acceptor ends: a pending exception is raised at its call.
 abbrev pub call_ended : Task → Task → Task
-call_ended acceptor task = with_top task (part_on (pending_of acceptor) task.top)
+call_ended acceptor task = call_left (pending_of acceptor) task
 
 -- the statements of the body that a declaration is, if it is one of that name
 abbrev pub body_of_decl : PDecl → NameId → Option PStmts

@@ -4,6 +4,7 @@ use crate::{CallForm, Choice};
 
 /// What a task offers to others where it stands (9.5, 9.7, 9.10). Entries are numbered from 1 over the whole program; the index of a plain
 /// entry is 0.
+#[derive(Clone, Copy)]
 pub enum Offer<'a> {
     /// Nothing: it has a local step left.
     None,

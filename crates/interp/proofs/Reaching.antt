@@ -1,0 +1,185 @@
+-- The run loop: where it stands after each turn, and what it has come to as it leaves.
+use Rattle.std.proofs.Common.{◌≡◌, ℕ, zero, suc, ◌+◌, ◌-◌, ◌<◌, ◌≤◌, List, [], ◌∷◌, ◌++◌, ap, sym, subst, ◌∙◌, refl, arith, add-one, zero-add, suc-add, append-nil, append_assoc, Option, Some, None, ◌⊎◌, inl, inr}
+use Rattle.std.specs.Prelude.{option_to_list, unwrap_or}
+use Rattle.ded_io.specs.Written.{Began, appended, each_text, ◌⧺◌}
+use Rattle.ded_io.proofs.Writes.{appended-appended, appended-nil, began_then, joined}
+use Rattle.ded_io.proofs.Members.{each_text-append}
+use Rattle.event_machine.specs.declared.Action.{Action}
+use Rattle.event_machine.specs.declared.Event.{Event}
+use Rattle.syn_event.specs.Numbering.{Numbering}
+use Rattle.task_machine.specs.Table.{Whole, after, event_of}
+use Rattle.interp.specs.declared.report.RunEnd.{RunEnd}
+use Rattle.interp.specs.declared.report.RunEnd.TheVariants.{Turns}
+use Rattle.interp.specs.Picked.{Position, at_start, halted, picked_action, went_on, turned_by, turned, after_turns, picked, ending}
+use Rattle.interp.specs.Lines.{lines_of, event_line}
+use Rattle.interp.specs.Chosen.{IsPicked, IsBroken}
+use Rattle.interp.specs.CutOff.{IsCutOff}
+
+-- After n turns, in each of which an action was made, the code's values are those of the picked run.
+pub record Reached {C : Type 0} (word : C → ℕ) (next : C → C) (n : ℕ) (numbers : Numbering) (m0 : Whole) (c0 : C) (m : Whole) (c : C) (told0 told : Option (List ℕ)) : Type 0 where
+  pub machine : m ≡ (picked word next n m0 c0).machine
+  pub chooser : c ≡ (picked word next n m0 c0).chooser
+  pub made : (picked word next n m0 c0).made ≡ n
+  pub lines : told ≡ appended told0 (lines_of numbers (picked word next n m0 c0).events)
+
+-- before the first turn
+pub reached_none : {C : Type 0} (word : C → ℕ) (next : C → C) (numbers : Numbering) (m0 : Whole) (c0 : C) (told0 : Option (List ℕ)) → Reached word next 0 numbers m0 c0 m0 c0 told0 told0
+reached_none word next numbers m0 c0 told0 = record { machine = refl; chooser = refl; made = refl; lines = sym (appended-nil told0) }
+
+-- the lines of events one behind the other
+lines_of-append : (numbers : Numbering) (es fs : List Event) → lines_of numbers (es ++ fs) ≡ lines_of numbers es ++ lines_of numbers fs
+lines_of-append numbers es fs = each_text-append Event (event_line numbers) es fs ∙ joined (lines_of numbers es) (lines_of numbers fs)
+
+-- a turn at which the run goes on
+turn_on : {C : Type 0} (word : C → ℕ) (next : C → C) (p : Position C) (o : Option RunEnd) → o ≡ None → turned_by word next p o ≡ went_on next p (picked_action p.machine (word p.chooser))
+turn_on word next p o e = ap (λ x. turned_by word next p x) e
+
+-- a turn at which it has ended by itself
+turn_off : {C : Type 0} (word : C → ℕ) (next : C → C) (p : Position C) (o : Option RunEnd) (end : RunEnd) → o ≡ Some end → turned_by word next p o ≡ p
+turn_off word next p o end e = ap (λ x. turned_by word next p x) e
+
+-- the position behind one more turn
+next_position : {C : Type 0} (word : C → ℕ) (next : C → C) (n : ℕ) (numbers : Numbering) (m0 : Whole) (c0 : C) (m : Whole) (c c' : C) (action : Action) (told0 told : Option (List ℕ)) →
+    Reached word next n numbers m0 c0 m c told0 told → IsPicked word next m c c' action →
+    picked word next (suc n) m0 c0 ≡ went_on next (picked word next n m0 c0) action
+next_position word next n numbers m0 c0 m c c' action told0 told at turn =
+    let p : Position _ = picked word next n m0 c0 in
+    let off : halted p.machine ≡ None = ap (λ x. halted x) (sym at.machine) ∙ turn.goes_on in
+    let same : action ≡ picked_action p.machine (word p.chooser)
+        = turn.picked ∙ ap (λ x. picked_action x (word c)) at.machine ∙ ap (λ x. picked_action p.machine (word x)) at.chooser in
+    turn_on word next p (halted p.machine) off ∙ ap (λ a. went_on next p a) (sym same)
+
+-- one more turn
+pub reached_more : {C : Type 0} (word : C → ℕ) (next : C → C) (n : ℕ) (numbers : Numbering) (m0 : Whole) (c0 : C) (m m' : Whole) (c c' : C) (action : Action) (told0 told told' : Option (List ℕ)) →
+    Reached word next n numbers m0 c0 m c told0 told → IsPicked word next m c c' action → m' ≡ after m action →
+    told' ≡ appended told (lines_of numbers (option_to_list (event_of m action))) →
+    Reached word next (n + 1) numbers m0 c0 m' c' told0 told'
+reached_more word next n numbers m0 c0 m m' c c' action told0 told told' at turn made line =
+    let p : Position _ = picked word next n m0 c0 in
+    let step : picked word next (suc n) m0 c0 ≡ went_on next p action = next_position word next n numbers m0 c0 m c c' action told0 told at turn in
+    let q : Reached word next (suc n) numbers m0 c0 m' c' told0 told' = record {
+        machine = made ∙ ap (λ x. after x action) at.machine ∙ ap (λ (x : Position _). x.machine) (sym step);
+        chooser = turn.chooser ∙ ap next at.chooser ∙ ap (λ (x : Position _). x.chooser) (sym step);
+        made = ap (λ (x : Position _). x.made) step ∙ ap (λ k. k + 1) at.made ∙ add-one n;
+        lines =
+            line
+            ∙ ap (λ t. appended t (lines_of numbers (option_to_list (event_of m action)))) at.lines
+            ∙ appended-appended told0 (lines_of numbers p.events) (lines_of numbers (option_to_list (event_of m action)))
+            ∙ ap (λ x. appended told0 (lines_of numbers p.events ++ lines_of numbers (option_to_list (event_of x action)))) at.machine
+            ∙ ap (λ x. appended told0 x) (sym (lines_of-append numbers p.events (option_to_list (event_of p.machine action))))
+            ∙ ap (λ (x : Position _). appended told0 (lines_of numbers x.events)) (sym step)
+        } in
+    subst (λ k. Reached word next k numbers m0 c0 m' c' told0 told') (sym (add-one n)) q
+
+-- further turns of a run that has ended by itself change nothing
+pub after_turns-halted : {C : Type 0} (word : C → ℕ) (next : C → C) (k : ℕ) (p : Position C) (end : RunEnd) → halted p.machine ≡ Some end → after_turns word next k p ≡ p
+after_turns-halted word next zero p end h = refl
+after_turns-halted word next (suc k) p end h =
+    ap (λ q. turned word next q) (after_turns-halted word next k p end h) ∙ turn_off word next p (halted p.machine) end h
+
+-- turns one behind the other
+after_turns-add : {C : Type 0} (word : C → ℕ) (next : C → C) (k n : ℕ) (p : Position C) → after_turns word next (k + n) p ≡ after_turns word next k (after_turns word next n p)
+after_turns-add word next zero n p = ap (λ x. after_turns word next x p) (zero-add n)
+after_turns-add word next (suc k) n p =
+    ap (λ x. after_turns word next x p) (suc-add k n) ∙ ap (λ q. turned word next q) (after_turns-add word next k n p)
+
+picked-upto : {C : Type 0} (word : C → ℕ) (next : C → C) (i n : ℕ) (m0 : Whole) (c0 : C) → i ≤ n → picked word next n m0 c0 ≡ after_turns word next (n - i) (picked word next i m0 c0)
+picked-upto word next i n m0 c0 le =
+    let e : n ≡ (n - i) + i = omega arith in
+    ap (λ x. after_turns word next x (at_start m0 c0)) e ∙ after_turns-add word next (n - i) i (at_start m0 c0)
+
+-- a run that has ended by itself before its turns were spent
+pub picked-halted : {C : Type 0} (word : C → ℕ) (next : C → C) (i n : ℕ) (numbers : Numbering) (m0 : Whole) (c0 : C) (m : Whole) (c : C) (told0 told : Option (List ℕ)) (end : RunEnd) →
+    Reached word next i numbers m0 c0 m c told0 told → i ≤ n → halted m ≡ Some end → picked word next n m0 c0 ≡ picked word next i m0 c0
+picked-halted word next i n numbers m0 c0 m c told0 told end at le h =
+    picked-upto word next i n m0 c0 le
+    ∙ after_turns-halted word next (n - i) (picked word next i m0 c0) end (ap (λ x. halted x) (sym at.machine) ∙ h)
+
+-- what a turn adds to the events
+turned_events : {C : Type 0} (word : C → ℕ) (next : C → C) (p : Position C) (o : Option RunEnd) → (rest : List Event) × ((turned_by word next p o).events ≡ p.events ++ rest)
+turned_events word next p (Some end) = ([], sym (append-nil p.events))
+turned_events word next p None = (option_to_list (event_of p.machine (picked_action p.machine (word p.chooser))), refl)
+
+-- more turns only add events
+more_events : {C : Type 0} (word : C → ℕ) (next : C → C) (k : ℕ) (p : Position C) → (rest : List Event) × ((after_turns word next k p).events ≡ p.events ++ rest)
+more_events word next zero p = ([], sym (append-nil p.events))
+more_events word next (suc k) p =
+    let (es, e) = more_events word next k p in
+    let (fs, f) = turned_events word next (after_turns word next k p) (halted (after_turns word next k p).machine) in
+    (es ++ fs, f ∙ ap (λ x. x ++ fs) e ∙ append_assoc p.events es fs)
+
+picked_events : {C : Type 0} (word : C → ℕ) (next : C → C) (i n : ℕ) (m0 : Whole) (c0 : C) → i ≤ n →
+    (rest : List Event) × ((picked word next n m0 c0).events ≡ (picked word next i m0 c0).events ++ rest)
+picked_events word next i n m0 c0 le =
+    let (rest, e) = more_events word next (n - i) (picked word next i m0 c0) in
+    (rest, ap (λ (x : Position _). x.events) (picked-upto word next i n m0 c0 le) ∙ e)
+
+-- a front of the lines of a front of the events is a front of all lines
+began_more : (numbers : Numbering) (told0 told : Option (List ℕ)) (es rest all : List Event) → all ≡ es ++ rest → Began told0 told (lines_of numbers es) → Began told0 told (lines_of numbers all)
+began_more numbers told0 told es rest all e (front, behind, is_front, is_new) =
+    ( front
+    , behind ++ lines_of numbers rest
+    , ap (λ x. lines_of numbers x) e ∙ lines_of-append numbers es rest ∙ ap (λ x. x ++ lines_of numbers rest) is_front ∙ append_assoc front behind (lines_of numbers rest)
+    , is_new
+    )
+
+-- the run is cut off between two turns
+pub cut_between : {C : Type 0} (word : C → ℕ) (next : C → C) (i n : ℕ) (numbers : Numbering) (m0 : Whole) (c0 : C) (m : Whole) (c : C) (told0 told : Option (List ℕ)) →
+    Reached word next i numbers m0 c0 m c told0 told → i ≤ n → IsCutOff word next n numbers m0 c0 m told0 told
+cut_between word next i n numbers m0 c0 m c told0 told at le =
+    let (rest, e) = picked_events word next i n m0 c0 le in
+    record {
+      actions = i;
+      within = le;
+      made = at.made;
+      machine = at.machine;
+      lines = (lines_of numbers (picked word next i m0 c0).events, lines_of numbers rest,
+          ap (λ x. lines_of numbers x) e ∙ lines_of-append numbers (picked word next i m0 c0).events rest, at.lines)
+      }
+
+-- the run is cut off in a turn
+pub cut_within : {C : Type 0} (word : C → ℕ) (next : C → C) (i n : ℕ) (numbers : Numbering) (m0 : Whole) (c0 : C) (m m' : Whole) (c c' : C) (action : Action) (told0 told told' : Option (List ℕ)) →
+    Reached word next i numbers m0 c0 m c told0 told → IsPicked word next m c c' action → IsBroken numbers m action m' told told' → i < n →
+    IsCutOff word next n numbers m0 c0 m' told0 told'
+cut_within word next i n numbers m0 c0 m m' c c' action told0 told told' at turn broken less =
+    let p : Position _ = picked word next i m0 c0 in
+    let step : picked word next (suc i) m0 c0 ≡ went_on next p action = next_position word next i numbers m0 c0 m c c' action told0 told at turn in
+    let (rest, e) = picked_events word next (suc i) n m0 c0 (omega arith) in
+    let es : List Event = p.events ++ option_to_list (event_of p.machine action) in
+    let lines : Began told0 told' (lines_of numbers (picked word next n m0 c0).events) =
+        began_more numbers told0 told' es rest (picked word next n m0 c0).events
+            (e ∙ ap (λ (x : Position _). x.events ++ rest) step)
+            (subst (λ x. Began told0 told' x) (sym (lines_of-append numbers p.events (option_to_list (event_of p.machine action))))
+                (began_then told0 told told' (lines_of numbers p.events) (lines_of numbers (option_to_list (event_of p.machine action))) at.lines
+                    (subst (λ x. Began told told' (lines_of numbers (option_to_list (event_of x action)))) at.machine broken.lines))) in
+    elim broken.machine [
+      inl same ↦ record { actions = i; within = omega arith; made = at.made; machine = same ∙ at.machine; lines = lines }
+    | inr made ↦ record {
+        actions = suc i;
+        within = omega arith;
+        made = ap (λ (x : Position _). x.made) step ∙ ap (λ k. k + 1) at.made ∙ add-one i;
+        machine = made ∙ ap (λ x. after x action) at.machine ∙ ap (λ (x : Position _). x.machine) (sym step);
+        lines = lines
+        }
+    ]
+
+-- What the code answers, as the run has ended by itself in turn i of n: the values of the run of n turns.
+pub record Stopped {C : Type 0} (word : C → ℕ) (next : C → C) (n : ℕ) (numbers : Numbering) (m0 : Whole) (c0 : C) (m : Whole) (c : C) (told0 told : Option (List ℕ)) (made : ℕ) (end : RunEnd) : Type 0 where
+  pub machine : m ≡ (picked word next n m0 c0).machine
+  pub chooser : c ≡ (picked word next n m0 c0).chooser
+  pub made_is : made ≡ (picked word next n m0 c0).made
+  pub end_is : end ≡ ending (picked word next n m0 c0)
+  pub lines : told ≡ appended told0 (lines_of numbers (picked word next n m0 c0).events)
+
+pub stopped : {C : Type 0} (word : C → ℕ) (next : C → C) (i n : ℕ) (numbers : Numbering) (m0 : Whole) (c0 : C) (m : Whole) (c c' : C) (told0 told : Option (List ℕ)) (end : RunEnd) →
+    Reached word next i numbers m0 c0 m c told0 told → i ≤ n → halted m ≡ Some end → c' ≡ c → Stopped word next n numbers m0 c0 m c' told0 told i end
+stopped word next i n numbers m0 c0 m c c' told0 told end at le h same =
+    let all : picked word next n m0 c0 ≡ picked word next i m0 c0 = picked-halted word next i n numbers m0 c0 m c told0 told end at le h in
+    record {
+      machine = at.machine ∙ ap (λ (x : Position _). x.machine) (sym all);
+      chooser = same ∙ at.chooser ∙ ap (λ (x : Position _). x.chooser) (sym all);
+      made_is = sym at.made ∙ ap (λ (x : Position _). x.made) (sym all);
+      end_is =
+          sym (ap (λ x. unwrap_or x Turns) (ap (λ x. halted x) (sym at.machine) ∙ h)) ∙ ap (λ (x : Position _). ending x) (sym all);
+      lines = at.lines ∙ ap (λ (x : Position _). appended told0 (lines_of numbers x.events)) (sym all)
+      }

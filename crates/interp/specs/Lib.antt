@@ -1,0 +1,4 @@
+pub mod Picked
+pub mod Lines
+pub mod CutOff
+pub mod Chosen

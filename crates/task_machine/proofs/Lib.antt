@@ -1,0 +1,4 @@
+pub mod Ending
+pub mod Mapping
+pub mod Filtered
+pub mod Listed

@@ -1,0 +1,12 @@
+//! All tasks of a program: the machine whose atomic steps are the actions of the table in `event_machine`
+//! (chapter 9 of ANSI/MIL-STD-1815A).
+#![tactic(auto)]
+
+mod effects;
+mod listing;
+mod machine;
+mod rows;
+mod seats;
+
+pub use event_machine::Action;
+pub use machine::{Machine, StepError};

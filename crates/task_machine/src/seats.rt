@@ -1,0 +1,103 @@
+// A task in the machine, and what is read of it.
+
+ghost use Rattle.std.specs.Prelude.{◌≡◌, ℕ};
+ghost use Rattle.event_machine.specs.Seats.{is_live, is_waiting, is_queued, is_completed, is_closed, is_abnormal, is_served_by};
+ghost use Rattle.task_local.specs.OfferView.{offer_as};
+ghost use Rattle.task_machine.specs.Table.{seat_of, offer_in_seat};
+
+use event_machine::Standing;
+use std::marker::Model;
+use task_local::{LocalTask, Offer};
+
+/// A task and its standing.
+#[derive(Drop)]
+pub(crate) struct Seat<'p> {
+    pub(crate) local: LocalTask<'p>,
+    pub(crate) standing: Standing,
+}
+
+impl<'p> Model for Seat<'p> {
+    ghost use Rattle.std.specs.Coded.{codes};
+    ghost use Rattle.ada_tree.proofs.Codes.{tree_codes};
+    ghost use Rattle.event_machine.specs.Seats as seats;
+    ghost use Rattle.task_local.specs.Control.{Task};
+
+    ghost Value = { seats.Seat Task };
+
+    ghost coded = { Prim.hlevel (codes, tree_codes) };
+
+    ghost view = { λ s. record { local = s.local; standing = s.standing } };
+}
+
+// How the task of this number stands; past the last task all have completed.
+pub(crate) fn standing_at(seats: &[Seat], t: u32) -> Standing
+    ensures { result ≡ (seat_of seats.now t).standing }
+{
+    match seats.get(t as usize) {
+        Some(seat) => seat.standing,
+        None => Standing::Completed,
+    }
+}
+
+// What the task of this number offers.
+pub(crate) fn offer_at<'a>(seats: &'a [Seat], t: u32) -> Offer<'a>
+    ensures { offer_as result ≡ offer_in_seat (seat_of seats.now t) }
+{
+    match seats.get(t as usize) {
+        Some(seat) => seat.local.offer(),
+        None => Offer::End,
+    }
+}
+
+pub(crate) fn is_live(standing: Standing) -> bool
+    ensures { result ≡ is_live standing }
+{
+    matches!(standing, Standing::Live)
+}
+
+pub(crate) fn is_waiting(standing: Standing) -> bool
+    ensures { result ≡ is_waiting standing }
+{
+    matches!(standing, Standing::Waiting)
+}
+
+pub(crate) fn is_queued(standing: Standing) -> bool
+    ensures { result ≡ is_queued standing }
+{
+    matches!(standing, Standing::Queued)
+}
+
+pub(crate) fn is_completed(standing: Standing) -> bool
+    ensures { result ≡ is_completed standing }
+{
+    matches!(standing, Standing::Completed | Standing::Killed)
+}
+
+// Closed: completed or abnormal.
+pub(crate) fn is_closed(standing: Standing) -> bool
+    ensures { result ≡ is_closed standing }
+{
+    match standing {
+        Standing::Served { abnormal, .. } => abnormal,
+        Standing::Completed | Standing::Killed => true,
+        _ => false,
+    }
+}
+
+pub(crate) fn is_abnormal(standing: Standing) -> bool
+    ensures { result ≡ is_abnormal standing }
+{
+    match standing {
+        Standing::Served { abnormal, .. } => abnormal,
+        _ => false,
+    }
+}
+
+pub(crate) fn is_served_by(a: u32, standing: Standing) -> bool
+    ensures { result ≡ is_served_by a standing }
+{
+    match standing {
+        Standing::Served { by, .. } => by == a,
+        _ => false,
+    }
+}
