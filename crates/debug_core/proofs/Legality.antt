@@ -1,5 +1,5 @@
 -- What the reader has tested gives the static rules.
-use Rattle.std.proofs.Common.{◌≡◌, ℕ, zero, suc, ◌+◌, ◌≤◌, ◌<◌, Bool, true, nat_eq, ◌==◌, List, [], ◌∷◌, length, map, count_by, get_or, Option, None, Some, position, IfSome, All, refl, sym, ap, ◌∙◌, subst, arith}
+use Rattle.std.proofs.Common.{◌≡◌, ℕ, zero, suc, ◌+◌, ◌≤◌, ◌<◌, nat_eq, ◌==◌, List, [], ◌∷◌, length, map, get_or, Option, None, Some, position, IfSome, All, refl, sym, ap, ◌∙◌, subst, arith}
 use Rattle.std.specs.Prelude.{Contains}
 use Rattle.std.specs.Option.{IsSomeAnd}
 use Rattle.std.specs.List.{AllByRecursion, IsDistinct}
@@ -7,13 +7,12 @@ use Rattle.std.proofs.lemmas.Bool.{eqb-true}
 use Rattle.std.proofs.lemmas.List.{length-map, get_or-map}
 use Rattle.std.proofs.lemmas.Simd.{map-map}
 use Rattle.std.proofs.lemmas.List.Quantifiers.{position-Some}
-use Rattle.std.proofs.lemmas.List.Elements.{All-map, All-weaker, All-head, All-tail, All-from_recursion, recursion_from_All, Contains-get_or}
+use Rattle.std.proofs.lemmas.List.Elements.{All-map, All-weaker, All-from_recursion, recursion_from_All, Contains-get_or}
 use Rattle.ada_tree.specs.declared.naming.NameId.{NameId}
 use Rattle.ada_tree.specs.PlainStmt.{PStmt}
 use Rattle.ada_tree.specs.PlainDecl.{PDecl, PTask, PEntry, DTask, DTaskBody}
 use Rattle.ada_tree.specs.PlainProgram.{PProgram}
 use Rattle.syn_event.specs.declared.numbering.TaskInfo.{TaskInfo}
-use Rattle.syn_event.specs.declared.numbering.EntryInfo.{EntryInfo}
 use Rattle.syn_event.specs.declared.numbering.Mode.TheVariants as mode
 use Rattle.syn_event.specs.Numbering.{Numbering, task_named}
 use Rattle.syn_event.specs.Units.{decl_list, body_stmts, tasks_in, tasks_of, task_names, main_names, entry_names}
@@ -21,7 +20,7 @@ use Rattle.syn_event.specs.Numbered.{numbers_of}
 use Rattle.syn_event.specs.FirstTypes.{first_types}
 use Rattle.syn_event.specs.Forms.{HasPlainForms}
 use Rattle.syn_event.specs.Legal.{Legal, IsBodyAmong, HoldsInBody, IsKnownCall, IsOwnAccept, predefined_count}
-use Rattle.debug_core.specs.SmallRules.{IsFit, IsNewName, info_names, StmtHolds, TaskHolds, BodyHolds, DeclHolds}
+use Rattle.debug_core.specs.SmallRules.{IsFit, IsNewName, info_names, StmtHolds, TaskHolds, DeclHolds}
 use Rattle.debug_core.specs.SmallNumbers.{original_task, original_tasks, original_numbers}
 use Rattle.debug_core.proofs.Originals.{IsFitTask, originals_are_numbers}
 
@@ -113,20 +112,20 @@ tested_is_legal p numbers forms counted few_tasks few_entries differ new in_main
       bodies_have_tasks = All-weaker (DeclHolds p.names numbers ds) (IsBodyAmong (task_names ts)) (body_among p.names numbers p.name.name ts ds tasks) ds in_decls;
       calls_are_known = record {
         in_main = All-weaker (StmtHolds numbers 0) (IsKnownCall numbers 0) (λ stmt h. h.0) (body_stmts p.body) in_main;
-        in_bodies = All-weaker (DeclHolds p.names numbers ds) (HoldsInBody numbers (IsKnownCall numbers)) (in_body p.names numbers ds (IsKnownCall numbers) (λ t stmt h. h.0)) ds in_decls
-        };
+        in_bodies = All-weaker (DeclHolds p.names numbers ds) (HoldsInBody numbers (IsKnownCall numbers)) (in_body p.names numbers ds (IsKnownCall numbers) (λ t stmt h. h.0)) ds in_decls;
+      };
       accepts_are_own = record {
         in_main = All-weaker (StmtHolds numbers 0) (IsOwnAccept numbers 0) (λ stmt h. h.1) (body_stmts p.body) in_main;
-        in_bodies = All-weaker (DeclHolds p.names numbers ds) (HoldsInBody numbers (IsOwnAccept numbers)) (in_body p.names numbers ds (IsOwnAccept numbers) (λ t stmt h. h.1)) ds in_decls
-        };
+        in_bodies = All-weaker (DeclHolds p.names numbers ds) (HoldsInBody numbers (IsOwnAccept numbers)) (in_body p.names numbers ds (IsOwnAccept numbers) (λ t stmt h. h.1)) ds in_decls;
+      };
       names_are_fit = record {
         main = All-weaker (IsNewName p.names) (IsFit p.names) (λ name h. h.1) (main_names p) new_names;
-        entries = All-weaker (TaskHolds p.names ds) _ (λ task h. h.fit) ts each_task
-        };
+        entries = All-weaker (TaskHolds p.names ds) _ (λ task h. h.fit) ts each_task;
+      };
       counts_are_fit = record {
         tasks = omega (arith, few_tasks, count);
-        entries = subst (λ (n : Numbering). length n.entries ≤ 1000) same few_entries
-        };
+        entries = subst (λ (n : Numbering). length n.entries ≤ 1000) same few_entries;
+      };
       its_types = refl;
-      its_numbers = same
-      }
+      its_numbers = same;
+    }

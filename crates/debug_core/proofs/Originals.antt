@@ -1,5 +1,5 @@
 -- The numbers of a program in which no rewriter made a name are those that `numbers_of` gives.
-use Rattle.std.proofs.Common.{◌≡◌, ℕ, ◌+◌, ◌≤◌, ◌<◌, Bool, true, false, not, ◌&&◌, ◌||◌, cond, ◌==◌, nat_eq, nat_lt, List, [], ◌∷◌, ◌++◌, length, map, take, Option, None, Some, option_map, position, refl, sym, ap, ◌∙◌, subst, true≢false, codes, arith, pos}
+use Rattle.std.proofs.Common.{◌≡◌, ℕ, ◌+◌, Bool, true, false, not, ◌&&◌, ◌||◌, cond, ◌==◌, nat_eq, nat_lt, List, [], ◌∷◌, ◌++◌, length, map, Option, None, Some, option_map, position, refl, sym, ap, ◌∙◌, subst, true≢false, codes, arith, pos}
 use Rattle.std.proofs.lemmas.Bool.Decides.{nat_tests}
 use Rattle.std.proofs.lemmas.List.{map-append}
 use Rattle.std.specs.List.{starts_with, AllByRecursion, position_or_len}
@@ -113,9 +113,9 @@ originals_are_numbers p main_fit fit =
     let own : List EntryInfo = original_entries 1 (tasks_of p) in
     let made : List TaskInfo → List EntryInfo → Numbering = λ ts es. record { main = p.name.name; tasks = ts; entries = es } in
     let tasks : original_task p.name.name ∷ original_tasks (tasks_of p) ≡ task_info p.names p.name.name ∷ map (λ (task : PTask). task_info p.names task.name.name) (tasks_of p) =
-        ap (λ (x : TaskInfo). x ∷ original_tasks (tasks_of p)) (task_same p.names p.name.name main_fit)
-        ∙ ap (λ (xs : List TaskInfo). task_info p.names p.name.name ∷ xs) (tasks_same p.names (tasks_of p) fit) in
+    ap (λ (x : TaskInfo). x ∷ original_tasks (tasks_of p)) (task_same p.names p.name.name main_fit)
+    ∙ ap (λ (xs : List TaskInfo). task_info p.names p.name.name ∷ xs) (tasks_same p.names (tasks_of p) fit) in
     let entries : own ≡ with_origins p.names (entries_from p.names 1 (tasks_of p)) =
-        sym (origins_same p.names own 1 (tasks_of p) fit)
-        ∙ ap (λ (es : List EntryInfo). with_origins p.names es) (entries_same p.names 1 (tasks_of p) fit) in
+    sym (origins_same p.names own 1 (tasks_of p) fit)
+    ∙ ap (λ (es : List EntryInfo). with_origins p.names es) (entries_same p.names 1 (tasks_of p) fit) in
     ap (λ (ts : List TaskInfo). made ts own) tasks ∙ ap (λ (es : List EntryInfo). made (task_info p.names p.name.name ∷ map (λ (task : PTask). task_info p.names task.name.name) (tasks_of p)) es) entries

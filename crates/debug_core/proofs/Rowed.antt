@@ -39,5 +39,5 @@ pub IsPlainBody-roll :
     handlers.items ≡ [] → All IsPlainStmt (map plain_stmt stmts.items) → IsPlainBody (plain_body (roll-Body record { stmts = stmts; handlers = handlers }))
 IsPlainBody-roll stmts handlers none plain =
     let parts : IsPlainBody (body (row_of (map plain_stmt stmts.items)) (handlers_of (map plain_handler handlers.items))) =
-        (subst (λ (xs : List PStmt). All IsPlainStmt xs) (sym (stmt_list-row_of (map plain_stmt stmts.items))) plain, ap (λ (hs : List Handler). handlers_of (map plain_handler hs)) none) in
+    (subst (λ (xs : List PStmt). All IsPlainStmt xs) (sym (stmt_list-row_of (map plain_stmt stmts.items))) plain, ap (λ (hs : List Handler). handlers_of (map plain_handler hs)) none) in
     subst (λ (b : PBody). IsPlainBody b) (sym (plain_body-roll stmts handlers)) parts

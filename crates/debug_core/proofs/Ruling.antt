@@ -27,8 +27,8 @@ task_rules names decls task one differ fit =
     record {
       one_body = one;
       differ = subst (λ (ns : List ℕ). IsDistinct nat_eq ns) (sym same) differ;
-      fit = subst (λ (ns : List ℕ). All (IsFit names) ns) (sym same) (All-map (IsFit names) (λ (entry : EntryDecl). entry.name.name.0) task.entries.items fit)
-      }
+      fit = subst (λ (ns : List ℕ). All (IsFit names) ns) (sym same) (All-map (IsFit names) (λ (entry : EntryDecl). entry.name.name.0) task.entries.items fit);
+    }
 
 -- a body meets the rules where its statements as the code has them do
 pub body_rules :

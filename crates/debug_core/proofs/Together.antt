@@ -20,7 +20,6 @@ use Rattle.syn_event.specs.FirstTypes.{first_types}
 use Rattle.syn_event.specs.Forms.{HasPlainForms, AreTasksThenBodies, IsPlainBody}
 use Rattle.syn_event.specs.Legal.{Legal}
 use Rattle.debug_core.specs.declared.small.items.Item.{Item}
-use Rattle.debug_core.specs.declared.small.items.Sign.{Sign}
 use Rattle.debug_core.specs.SmallText.{IsSmallText, SayAll, SpellsUnit, signs}
 use Rattle.debug_core.specs.SmallRules.{IsNewName, info_names, StmtHolds, DeclHolds}
 use Rattle.debug_core.specs.SmallNumbers.{original_numbers}
@@ -43,8 +42,8 @@ spelled_is_small bytes names tokens items name decls its splits says spelled for
       says = says;
       no_context = refl;
       forms = record { decls = subst (λ (ds : List PDecl). AreTasksThenBodies ds) same forms; body = plain };
-      spelled = subst (λ (ds : List PDecl). SpellsUnit name.name ds (body_stmts (plain_body its)) (signs items)) same spelled
-      }
+      spelled = subst (λ (ds : List PDecl). SpellsUnit name.name ds (body_stmts (plain_body its)) (signs items)) same spelled;
+    }
 
 -- a parsed program that passed the tests is legal
 pub read_is_legal :

@@ -60,7 +60,12 @@ pub(crate) fn read_items(alloc: Global, src: &[u8], tokens: &[Token]) -> Result<
 }
 
 // The item of one token; a name that is new gets its id.
-fn read_item(alloc: Global, src: &[u8], token: Token, names: &mut Names) -> Result<Item, SmallRefusal>
+fn read_item(
+    alloc: Global,
+    src: &[u8],
+    token: Token,
+    names: &mut Names,
+) -> Result<Item, SmallRefusal>
     ensures said { IfOk result (λ item. Says src.now names.new token item.sign) }
     ensures kept { OnOk result (Keeps names.old names.new) }
 {
@@ -107,7 +112,13 @@ fn key_kind(kind: TokenKind) -> Option<KeyKind>
 }
 
 // The id of the bytes from `start` up to `end` in upper case.
-fn intern_upper(alloc: Global, src: &[u8], start: usize, end: usize, names: &mut Names) -> Result<NameId, SmallRefusal>
+fn intern_upper(
+    alloc: Global,
+    src: &[u8],
+    start: usize,
+    end: usize,
+    names: &mut Names,
+) -> Result<NameId, SmallRefusal>
     ensures found { IfOk result (λ id. slice_get names.new id.0 ≡ Some (map to_ascii_uppercase (slice_range src.now start end))) }
     ensures kept { OnOk result (Keeps names.old names.new) }
 {
@@ -123,7 +134,10 @@ fn upper_text(alloc: Global, src: &[u8], start: usize, end: usize) -> Result<Str
     if start > end || end > src.len() {
         return Err(SmallRefusal::NotSmall);
     }
-    let upper: Vec<u8> = src[start..end].iter().map(|b| b.to_ascii_uppercase()).collect(alloc)?;
+    let upper: Vec<u8> = src[start..end]
+        .iter()
+        .map(|b| b.to_ascii_uppercase())
+        .collect(alloc)?;
     match String::from_utf8(upper) {
         Ok(text) => Ok(text),
         Err(_) => Err(SmallRefusal::NotSmall),

@@ -12,11 +12,16 @@ use syn_event::{EntryInfo, Numbers, TaskInfo};
 
 // The most tasks beside main, and the most entries, of an original program.
 const TASK_LIMIT: usize = 200;
+
 const ENTRY_LIMIT: usize = 1000;
 
 /// The numbers of the tasks of declarations that a rewriter has not touched. `NotSmall` comes where there are more tasks or entries
 /// than an original may have.
-pub(crate) fn numbers_for(alloc: Global, main: NameId, decls: &[Decl]) -> Result<Numbers, SmallRefusal>
+pub(crate) fn numbers_for(
+    alloc: Global,
+    main: NameId,
+    decls: &[Decl],
+) -> Result<Numbers, SmallRefusal>
     ensures numbers { IfOk result (λ numbers. numbers ≡ original_numbers main (tasks_in (map plain_decl decls.now))) }
     ensures tasks { IfOk result (λ numbers. length numbers.tasks ≤ 201) }
     ensures entries { IfOk result (λ numbers. length numbers.entries ≤ 1000) }
@@ -38,7 +43,11 @@ pub(crate) fn numbers_for(alloc: Global, main: NameId, decls: &[Decl]) -> Result
 }
 
 // Appends the task that is declared, if it is one, and its entries.
-fn push_declared(tasks: &mut Vec<TaskInfo>, entries: &mut Vec<EntryInfo>, decl: &Decl) -> Result<(), SmallRefusal>
+fn push_declared(
+    tasks: &mut Vec<TaskInfo>,
+    entries: &mut Vec<EntryInfo>,
+    decl: &Decl,
+) -> Result<(), SmallRefusal>
     ensures tasks { OnOk result (tasks.new.items ≡ tasks.old.items ++ original_tasks (tasks_in (plain_decl decl.now ∷ []))) }
     ensures entries { OnOk result (entries.new.items ≡ entries.old.items ++ original_entries (vec_len tasks.old) (tasks_in (plain_decl decl.now ∷ []))) }
     ensures fits { OnOk result (vec_len tasks.old ≤ 201 → vec_len tasks.new ≤ 201) }
@@ -57,7 +66,11 @@ fn push_declared(tasks: &mut Vec<TaskInfo>, entries: &mut Vec<EntryInfo>, decl: 
 }
 
 // Appends the entries of the task of that number.
-fn push_entries(entries: &mut Vec<EntryInfo>, owner: u32, declared: &[EntryDecl]) -> Result<(), SmallRefusal>
+fn push_entries(
+    entries: &mut Vec<EntryInfo>,
+    owner: u32,
+    declared: &[EntryDecl],
+) -> Result<(), SmallRefusal>
     ensures { OnOk result (entries.new.items ≡ entries.old.items ++ map (λ entry. original_entry owner entry.name.name) declared.now) }
 {
     for entry in declared {

@@ -12,7 +12,9 @@ ghost use Rattle.debug_core.specs.SmallForms.{IsTaskDecl, IsBodyDecl};
 
 use super::items::{Item, KeyKind, Sign};
 use super::refusal::SmallRefusal;
-use ada_tree::{Accept, Body, Call, Callee, Decl, DeclKind, EntryDecl, Span, Stmt, StmtKind, TaskUnit, Word};
+use ada_tree::{
+    Accept, Body, Call, Callee, Decl, DeclKind, EntryDecl, Span, Stmt, StmtKind, TaskUnit, Word,
+};
 use std::alloc::Global;
 
 /// A parsed program without its names.
@@ -71,13 +73,25 @@ fn read_task<'a>(alloc: Global, items: &'a [Item]) -> Result<(Decl, &'a [Item]),
     if begins(rest, KeyKind::Semicolon) {
         let behind = take_key(rest, KeyKind::Semicolon)?;
         let kind = task_of(alloc, name, Vec::new(alloc));
-        return Ok((Decl { kind, span: taken(items, behind) }, behind));
+        return Ok((
+            Decl {
+                kind,
+                span: taken(items, behind),
+            },
+            behind,
+        ));
     }
     let rest = take_key(rest, KeyKind::Is)?;
     let (entries, rest) = read_entries(alloc, rest)?;
     let behind = take_end(name, rest)?;
     let kind = task_of(alloc, name, entries);
-    Ok((Decl { kind, span: taken(items, behind) }, behind))
+    Ok((
+        Decl {
+            kind,
+            span: taken(items, behind),
+        },
+        behind,
+    ))
 }
 
 // A single task without pragmas.
@@ -93,7 +107,10 @@ fn task_of(alloc: Global, name: Word, entries: Vec<EntryDecl>) -> DeclKind
 }
 
 // The entries that stand in front.
-fn read_entries<'a>(alloc: Global, items: &'a [Item]) -> Result<(Vec<EntryDecl>, &'a [Item]), SmallRefusal>
+fn read_entries<'a>(
+    alloc: Global,
+    items: &'a [Item],
+) -> Result<(Vec<EntryDecl>, &'a [Item]), SmallRefusal>
     ensures text { IfOk result (λ r. signs items.now ≡ flat_map entry_signs (map plain_entry r.0.items) ++ signs r.1.now) }
     ensures form { IfOk result (λ r. All IsPlainEntry (map plain_entry r.0.items)) }
     ensures shorter { IfOk result (λ r. length r.1.now ≤ length items.now) }
@@ -142,11 +159,21 @@ fn read_task_body<'a>(alloc: Global, items: &'a [Item]) -> Result<(Decl, &'a [It
         objects: Vec::new(alloc),
         body,
     };
-    Ok((Decl { kind, span: taken(items, behind) }, behind))
+    Ok((
+        Decl {
+            kind,
+            span: taken(items, behind),
+        },
+        behind,
+    ))
 }
 
 // The statements of a unit of that name, from `begin` to the semicolon behind its end.
-fn read_body<'a>(alloc: Global, name: Word, items: &'a [Item]) -> Result<(Body, &'a [Item]), SmallRefusal>
+fn read_body<'a>(
+    alloc: Global,
+    name: Word,
+    items: &'a [Item],
+) -> Result<(Body, &'a [Item]), SmallRefusal>
     ensures text { IfOk result (λ r. LeavesBody name.name (body_stmts (plain_body r.0)) (signs items.now) (signs r.1.now)) }
     ensures form { IfOk result (λ r. IsPlainBody (plain_body r.0)) }
     ensures shorter { IfOk result (λ r. length r.1.now < length items.now) }

@@ -79,12 +79,11 @@ fn types_for(alloc: Global) -> Result<Types, SmallRefusal>
     ensures { IfOk result (λ types. types ≡ first_types) }
 {
     let kinds = vec![in alloc; Kind::Integer, Kind::Truth]?;
-    let marks = vec![
-        in alloc;
+    let marks = vec![in alloc;
         mark_of(0, 0, i32::MIN, i32::MAX),
         mark_of(1, 0, 0, i32::MAX),
         mark_of(2, 0, 1, i32::MAX),
-        mark_of(3, 1, 0, 1)
+        mark_of(3, 1, 0, 1),
     ]?;
     Ok(Types {
         kinds,

@@ -216,7 +216,8 @@ fn stmt_holds(numbers: &Numbers, number: u32, stmt: &Stmt) -> bool
 {
     match &stmt.kind {
         StmtKind::Call(call) => is_known_entry(numbers, call.task.name.name, call.entry.name),
-        StmtKind::Accept(accept) => number > 0 && numbers.entry_named(number, accept.entry.name).is_some(),
+        StmtKind::Accept(accept) => number > 0
+            && numbers.entry_named(number, accept.entry.name).is_some(),
         _ => true,
     }
 }

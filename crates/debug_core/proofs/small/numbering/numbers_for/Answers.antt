@@ -12,5 +12,5 @@ loop-decl-preserved c =
     record {
       tasks = tasks_grown c.args.main c.args.decls.now c.loop-decl.decl-index c.decl-item.result (omega arith) c.decl-item.is _ _ c.loop-decl.invariant.tasks c.in_ok-push_declared.ensures.tasks;
       entries = entries_grown c.args.decls.now c.loop-decl.decl-index c.decl-item.result (omega arith) c.decl-item.is _ _ _ count c.loop-decl.invariant.entries c.in_ok-push_declared.ensures.entries;
-      fits = c.in_ok-push_declared.ensures.fits c.loop-decl.invariant.fits
-      }
+      fits = c.in_ok-push_declared.ensures.fits c.loop-decl.invariant.fits;
+    }

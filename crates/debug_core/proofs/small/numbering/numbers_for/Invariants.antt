@@ -9,5 +9,5 @@ abbrev pub invariant-loop-decl : goal.invariant-loop-decl
 invariant-loop-decl l = record {
   tasks : l.tasks.items ≡ original_task l.main ∷ original_tasks (tasks_in (map plain_decl (take l.decl-index l.decls)));
   entries : l.entries.items ≡ original_entries 1 (tasks_in (map plain_decl (take l.decl-index l.decls)));
-  fits : vec_len l.tasks ≤ 201
-  }
+  fits : vec_len l.tasks ≤ 201;
+}

@@ -18,8 +18,8 @@ returns-clause-text c =
       tail = signs c.in_ok-stmts.rest.now;
       text = c.in_ok-rest.ensures.text ∙ ap (λ (s : List Sign). Key Begin ∷ s) c.in_ok-stmts.ensures.text;
       some = grind (arith, common_steps);
-      ends = c.in_ok-rest-2.ensures.text
-      }
+      ends = c.in_ok-rest-2.ensures.text;
+    }
 
 pub returns-clause-form : goal.returns-clause-form
 returns-clause-form c = IsPlainBody-roll c.in_ok-stmts.stmts c.new.result c.new.ensures.items c.in_ok-stmts.ensures.form

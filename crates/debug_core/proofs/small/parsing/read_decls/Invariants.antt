@@ -1,4 +1,4 @@
-use Rattle.std.proofs.Common.{◌≡◌, ◌≤◌, length, map}
+use Rattle.std.proofs.Common.{length, map}
 use Rattle.ada_tree.specs.PlainDecl.{plain_decl}
 use Rattle.syn_event.specs.Forms.{AreTasksThenBodies}
 use Rattle.debug_core.specs.SmallText.{signs, LeavesDecls}
@@ -9,8 +9,8 @@ use Rattle.debug_core.proofs.small.parsing.read_decls.Given as goal
 abbrev pub invariant-tasks : goal.invariant-tasks
 invariant-tasks l = record {
   text : LeavesDecls (map plain_decl l.decls.items) (signs l.items) (signs l.rest);
-  form : AreTasks (map plain_decl l.decls.items)
-  }
+  form : AreTasks (map plain_decl l.decls.items);
+}
 
 -- each turn takes items
 abbrev pub decreases-tasks : goal.decreases-tasks
@@ -20,8 +20,8 @@ decreases-tasks l = length l.rest
 abbrev pub invariant-bodies : goal.invariant-bodies
 invariant-bodies l = record {
   text : LeavesDecls (map plain_decl l.decls.items) (signs l.items) (signs l.rest);
-  form : AreTasksThenBodies (map plain_decl l.decls.items)
-  }
+  form : AreTasksThenBodies (map plain_decl l.decls.items);
+}
 
 -- each turn takes items
 abbrev pub decreases-bodies : goal.decreases-bodies

@@ -12,5 +12,5 @@ entries-preserved c =
     record {
       text = rw grown (spelled_on entry_signs plain_entry _ _ _ c.entries.entries.items c.in_ok-entry.entry c.entries.invariant.text c.in_ok-entry.ensures.text);
       form = rw grown (holds_on IsPlainEntry plain_entry c.entries.entries.items c.in_ok-entry.entry c.entries.invariant.form c.in_ok-entry.ensures.form);
-      upto = omega (arith, c.in_ok-entry.ensures.shorter)
-      }
+      upto = omega (arith, c.in_ok-entry.ensures.shorter);
+    }

@@ -10,8 +10,8 @@ abbrev pub invariant-entries : goal.invariant-entries
 invariant-entries l = record {
   text : signs l.items ≡ flat_map entry_signs (map plain_entry l.entries.items) ++ signs l.rest;
   form : All IsPlainEntry (map plain_entry l.entries.items);
-  upto : length l.rest ≤ length l.items
-  }
+  upto : length l.rest ≤ length l.items;
+}
 
 -- each turn takes items
 abbrev pub decreases-entries : goal.decreases-entries

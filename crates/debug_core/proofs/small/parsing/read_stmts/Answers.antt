@@ -12,5 +12,5 @@ stmts-preserved c =
     record {
       text = rw grown (spelled_on stmt_signs plain_stmt _ _ _ c.stmts.stmts.items c.in_ok-stmt.stmt c.stmts.invariant.text c.in_ok-stmt.ensures.text);
       form = rw grown (holds_on IsPlainStmt plain_stmt c.stmts.stmts.items c.in_ok-stmt.stmt c.stmts.invariant.form c.in_ok-stmt.ensures.form);
-      upto = omega (arith, c.in_ok-stmt.ensures.shorter)
-      }
+      upto = omega (arith, c.in_ok-stmt.ensures.shorter);
+    }

@@ -10,8 +10,8 @@ abbrev pub invariant-stmts : goal.invariant-stmts
 invariant-stmts l = record {
   text : signs l.items ≡ flat_map stmt_signs (map plain_stmt l.stmts.items) ++ signs l.rest;
   form : All IsPlainStmt (map plain_stmt l.stmts.items);
-  upto : length l.rest ≤ length l.items
-  }
+  upto : length l.rest ≤ length l.items;
+}
 
 -- each turn takes items
 abbrev pub decreases-stmts : goal.decreases-stmts
