@@ -1,0 +1,44 @@
+-- The text that a run writes (this project's format).
+use Rattle.std.specs.Prelude.{ℕ, ℤ, ◌+◌, List, [], ◌∷◌, Option, Some, None, codes, decimal, zip, length}
+use Rattle.std.specs.Fmt.{signed_decimal}
+use Rattle.ded_io.specs.Written.{◌⧺◌, each_text}
+use Rattle.event_machine.specs.declared.Event.{Event}
+use Rattle.interp.specs.declared.report.RunEnd.{RunEnd}
+use Rattle.interp.specs.declared.report.RunEnd.TheVariants.{Ended, Stuck, Turns}
+use Rattle.interp.specs.Lines.{lines_of}
+use Rattle.syn_event.specs.declared.numbering.TaskInfo.{TaskInfo}
+use Rattle.syn_event.specs.Numbering.{Numbering, original_tasks, original_entries}
+use Rattle.syn_event.specs.Units.{text_of}
+
+-- the name of the program and how many tasks beside main and entries the original has
+abbrev pub header : List (List ℕ) → Numbering → List ℕ
+header names numbers =
+    codes "ded-run 1 " ⧺ (text_of names numbers.main ⧺ (codes " " ⧺ (decimal (original_tasks numbers) ⧺ (codes " " ⧺ (decimal (original_entries numbers) ⧺ codes "\n")))))
+
+abbrev pub end_word : RunEnd → List ℕ
+end_word Ended = codes "end ended "
+end_word Stuck = codes "end stuck "
+end_word Turns = codes "end turns "
+
+-- how the run ended, and how many actions it made
+abbrev pub end_line : RunEnd → ℕ → List ℕ
+end_line end made = end_word end ⧺ (decimal made ⧺ codes "\n")
+
+-- the index of a member of an array of tasks
+abbrev pub member_text : Option ℤ → List ℕ
+member_text None = []
+member_text (Some index) = codes "(" ⧺ (signed_decimal index ⧺ codes ")")
+
+-- a task's number and its name; no task has written anything so far
+abbrev pub task_line : List (List ℕ) → ℕ → TaskInfo → List ℕ
+task_line names t info = codes "task " ⧺ (decimal t ⧺ (codes " " ⧺ (text_of names info.name ⧺ (member_text info.member ⧺ codes "\n"))))
+
+-- the lines of tasks that are numbered from t on
+abbrev pub task_lines : List (List ℕ) → ℕ → List TaskInfo → List ℕ
+task_lines names t [] = []
+task_lines names t (info ∷ rest) = task_line names t info ⧺ task_lines names (t + 1) rest
+
+-- The text of a run with these events, this end and this number of actions.
+abbrev pub run_text : List (List ℕ) → Numbering → List Event → RunEnd → ℕ → List ℕ
+run_text names numbers events end made =
+    header names numbers ⧺ (lines_of numbers events ⧺ (end_line end made ⧺ task_lines names 0 numbers.tasks))

@@ -1,0 +1,32 @@
+-- The rows of words that the program takes (this project's rule).
+use Rattle.std.specs.Prelude.{ℕ, ◌+◌, ◌-◌, ◌*◌, Bool, true, false, not, ◌&&◌, ◌||◌, nat_le, List, [], ◌∷◌, length, nat_eq, Option, Some, None, option_map, option_and_then, if◌then◌else◌, codes, bytes_eq}
+
+-- What is asked for: a run of the program in a file, with a number of turns.
+pub data Asked : Type 0 where
+  AsksRun : List ℕ → ℕ → Asked
+
+-- the value of decimal digits behind a value so far
+abbrev pub value_behind : ℕ → List ℕ → Option ℕ
+value_behind value [] = Some value
+value_behind value (digit ∷ digits) =
+    if nat_le 48 digit && nat_le digit 57 then value_behind (value * 10 + (digit - 48)) digits else None
+
+-- the digits do not begin with a zero, and there is one
+abbrev pub begins_well : List ℕ → Bool
+begins_well [] = false
+begins_well (digit ∷ digits) = not (nat_eq digit 48)
+
+-- a number from 1 to 100,000,000 in decimal without leading zeros, so of at most nine digits
+abbrev pub in_range : ℕ → Option ℕ
+in_range n = if nat_le n 100000000 then Some n else None
+
+abbrev pub turns_of : List ℕ → Option ℕ
+turns_of word = if begins_well word && nat_le (length word) 9 then option_and_then in_range (value_behind 0 word) else None
+
+-- run FILE - - TURNS
+abbrev pub asked_by : List (List ℕ) → Option Asked
+asked_by (command ∷ file ∷ inputs ∷ choices ∷ turns ∷ []) =
+    if bytes_eq command (codes "run") && (bytes_eq inputs (codes "-") && bytes_eq choices (codes "-"))
+    then option_map (AsksRun file) (turns_of turns)
+    else None
+asked_by _ = None

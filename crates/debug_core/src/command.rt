@@ -1,0 +1,78 @@
+// The words that the program is called with.
+
+ghost use Rattle.std.specs.Prelude.{◌≡◌, ◌≤◌, ◌<◌, map, option_map, string_bytes, length, IfSome};
+ghost use Rattle.debug_core.specs.Words.{AsksRun, asked_by, turns_of, value_behind, begins_well};
+ghost use Rattle.debug_core.specs.Commands.{asked_as};
+
+/// What the words ask for.
+#[derive(Clone, Copy)]
+pub(crate) enum Command<'w> {
+    /// A run of the program in a file, of at most so many turns.
+    Run { file: &'w str, turns: u64 },
+}
+
+// What the words ask for; none where they are no row of words.
+pub(crate) fn command_of<'w>(words: &'w [String]) -> Option<Command<'w>>
+    ensures { option_map asked_as result ≡ asked_by (map string_bytes words.now) }
+{
+    match words {
+        [command, file, inputs, choices, turns] => {
+            if command.as_str() == "run" && (inputs.as_str() == "-" && choices.as_str() == "-") {
+                run_of(file.as_str(), turns.as_str())
+            } else {
+                None
+            }
+        }
+        _ => None,
+    }
+}
+
+// A run of the file, where the word is a number of turns.
+fn run_of<'w>(file: &'w str, word: &str) -> Option<Command<'w>>
+    ensures { option_map asked_as result ≡ option_map (AsksRun file.now) (turns_of word.now) }
+{
+    match number_of_turns(word.as_bytes()) {
+        Some(turns) => Some(Command::Run { file, turns }),
+        None => None,
+    }
+}
+
+// The number of turns that the word gives.
+fn number_of_turns(word: &[u8]) -> Option<u64>
+    ensures { result ≡ turns_of word.now }
+{
+    if starts_well(word) && word.len() <= 9 {
+        match value_of(word) {
+            Some(n) => { if n <= 100_000_000 { Some(n) } else { None } }
+            None => None,
+        }
+    } else {
+        None
+    }
+}
+
+// The digits do not begin with a zero, and there is one.
+fn starts_well(word: &[u8]) -> bool
+    ensures { result ≡ begins_well word.now }
+{
+    match word {
+        [digit, ..] => *digit != b'0',
+        [] => false,
+    }
+}
+
+// The value of at most nine decimal digits.
+fn value_of(word: &[u8]) -> Option<u64>
+    requires { length word.now ≤ 9 }
+    ensures { result ≡ value_behind 0 word.now }
+{
+    let mut value = 0u64;
+    for digit in word {
+        if b'0' <= *digit && *digit <= b'9' {
+            value = value * 10 + (*digit - b'0') as u64;
+        } else {
+            return None;
+        }
+    }
+    Some(value)
+}
