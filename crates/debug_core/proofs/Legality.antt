@@ -1,19 +1,18 @@
 -- What the reader has tested gives the static rules.
-use Rattle.std.proofs.Common.{◌≡◌, ℕ, zero, suc, ◌+◌, ◌≤◌, ◌<◌, Bool, true, nat_eq, ◌==◌, List, [], ◌∷◌, length, map, count_by, get_or, Option, None, Some, position, IfSome, All, refl, sym, ap, ◌∙◌, subst, arith}
+use Rattle.std.proofs.Common.{◌≡◌, ℕ, zero, suc, ◌+◌, ◌≤◌, ◌<◌, nat_eq, ◌==◌, List, [], ◌∷◌, length, map, get_or, Option, None, Some, position, IfSome, All, refl, sym, ap, ◌∙◌, subst, arith}
 use Rattle.std.specs.Prelude.{Contains}
 use Rattle.std.specs.Option.{IsSomeAnd}
 use Rattle.std.specs.List.{AllByRecursion, IsDistinct}
-use Rattle.std.proofs.lemmas.Bool.{eqb-eq}
+use Rattle.std.proofs.lemmas.Bool.{eqb-true}
 use Rattle.std.proofs.lemmas.List.{length-map, get_or-map}
 use Rattle.std.proofs.lemmas.Simd.{map-map}
 use Rattle.std.proofs.lemmas.List.Quantifiers.{position-Some}
-use Rattle.std.proofs.lemmas.List.Elements.{All-map, All-weaker, All-head, All-tail, All-from_recursion, recursion_from_All, Contains-get_or}
+use Rattle.std.proofs.lemmas.List.Elements.{All-map, All-weaker, All-from_recursion, recursion_from_All, Contains-get_or}
 use Rattle.ada_tree.specs.declared.naming.NameId.{NameId}
 use Rattle.ada_tree.specs.PlainStmt.{PStmt}
 use Rattle.ada_tree.specs.PlainDecl.{PDecl, PTask, PEntry, DTask, DTaskBody}
 use Rattle.ada_tree.specs.PlainProgram.{PProgram}
 use Rattle.syn_event.specs.declared.numbering.TaskInfo.{TaskInfo}
-use Rattle.syn_event.specs.declared.numbering.EntryInfo.{EntryInfo}
 use Rattle.syn_event.specs.declared.numbering.Mode.TheVariants as mode
 use Rattle.syn_event.specs.Numbering.{Numbering, task_named}
 use Rattle.syn_event.specs.Units.{decl_list, body_stmts, tasks_in, tasks_of, task_names, main_names, entry_names}
@@ -21,7 +20,7 @@ use Rattle.syn_event.specs.Numbered.{numbers_of}
 use Rattle.syn_event.specs.FirstTypes.{first_types}
 use Rattle.syn_event.specs.Forms.{HasPlainForms}
 use Rattle.syn_event.specs.Legal.{Legal, IsBodyAmong, HoldsInBody, IsKnownCall, IsOwnAccept, predefined_count}
-use Rattle.debug_core.specs.SmallRules.{IsFit, IsNewName, info_names, StmtHolds, TaskHolds, BodyHolds, DeclHolds}
+use Rattle.debug_core.specs.SmallRules.{IsFit, IsNewName, info_names, StmtHolds, TaskHolds, DeclHolds}
 use Rattle.debug_core.specs.SmallNumbers.{original_task, original_tasks, original_numbers}
 use Rattle.debug_core.proofs.Originals.{IsFitTask, originals_are_numbers}
 
@@ -55,9 +54,9 @@ named_among main ts name zero at positive = absurd (omega arith)
 named_among main ts name (suc k) at positive =
     let found = position-Some (λ (info : TaskInfo). info.name.0 == name) (original_task main ∷ original_tasks ts) (suc k) (original_task main) at in
     let within : k < length (original_tasks ts) = omega (arith, found.0) in
-    let same : (get_or (original_tasks ts) k (original_task main)).name.0 ≡ name = eqb-eq _ _ found.1 in
+    let same : (get_or (original_tasks ts) k (original_task main)).name.0 ≡ name = eqb-true _ _ found.1 in
     let read : get_or (info_names (original_tasks ts)) k name ≡ name = get_or-map (λ (info : TaskInfo). info.name.0) (original_tasks ts) k (original_task main) name within ∙ same in
-    let stands : Contains (info_names (original_tasks ts)) (get_or (info_names (original_tasks ts)) k name) = Contains-get_or (info_names (original_tasks ts)) k name (simp length-map within) in
+    let stands : Contains (info_names (original_tasks ts)) (get_or (info_names (original_tasks ts)) k name) = Contains-get_or (info_names (original_tasks ts)) k name (rw (length-map (original_tasks ts) (λ (info : TaskInfo). info.name.0)) within) in
     subst (λ (ns : List ℕ). Contains ns name) (numbered_names ts) (subst (λ (n : ℕ). Contains (info_names (original_tasks ts)) n) read stands)
 
 among_if :

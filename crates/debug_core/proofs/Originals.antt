@@ -1,5 +1,5 @@
 -- The numbers of a program in which no rewriter made a name are those that `numbers_of` gives.
-use Rattle.std.proofs.Common.{◌≡◌, ℕ, ◌+◌, ◌≤◌, ◌<◌, Bool, true, false, not, ◌&&◌, ◌||◌, cond, ◌==◌, nat_eq, nat_lt, List, [], ◌∷◌, ◌++◌, length, map, take, Option, None, Some, option_map, position, refl, sym, ap, ◌∙◌, subst, true≢false, codes, arith, pos}
+use Rattle.std.proofs.Common.{◌≡◌, ℕ, ◌+◌, Bool, true, false, not, ◌&&◌, ◌||◌, cond, ◌==◌, nat_eq, nat_lt, List, [], ◌∷◌, ◌++◌, length, map, Option, None, Some, option_map, position, refl, sym, ap, ◌∙◌, subst, true≢false, codes, arith, pos}
 use Rattle.std.proofs.lemmas.Bool.Decides.{nat_tests}
 use Rattle.std.proofs.lemmas.List.{map-append}
 use Rattle.std.specs.List.{starts_with, AllByRecursion, position_or_len}
@@ -60,7 +60,7 @@ entries_same names t (task ∷ ts) h =
 length_if_none : {X : Type 0} (p : X → Bool) → ((x : X) → p x ≡ false) → (xs : List X) → position_or_len p xs ≡ length xs
 length_if_none p none [] = refl
 length_if_none p none (x ∷ xs) =
-    let first : position_or_len p (x ∷ xs) ≡ 1 + position_or_len p xs = ap (λ (b : Bool). cond b 0 (1 + position_or_len p xs)) (none x) in
+    let first : position_or_len p (x ∷ xs) ≡ 1 + position_or_len p xs = ap (λ (b : Bool). cond (not b) (1 + position_or_len p xs) 0) (none x) in
     omega (arith, first, length_if_none p none xs)
 
 not_below_itself : (n : ℕ) → nat_lt n n ≡ false

@@ -20,7 +20,6 @@ use Rattle.syn_event.specs.FirstTypes.{first_types}
 use Rattle.syn_event.specs.Forms.{HasPlainForms, AreTasksThenBodies, IsPlainBody}
 use Rattle.syn_event.specs.Legal.{Legal}
 use Rattle.debug_core.specs.declared.small.items.Item.{Item}
-use Rattle.debug_core.specs.declared.small.items.Sign.{Sign}
 use Rattle.debug_core.specs.SmallText.{IsSmallText, SayAll, SpellsUnit, signs}
 use Rattle.debug_core.specs.SmallRules.{IsNewName, info_names, StmtHolds, DeclHolds}
 use Rattle.debug_core.specs.SmallNumbers.{original_numbers}

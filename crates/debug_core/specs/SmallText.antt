@@ -1,5 +1,5 @@
 -- What a small text is: its tokens, and the programs that they spell (this project's first, smallest part of the language).
-use Rattle.std.specs.Prelude.{◌≡◌, ℕ, ◌+◌, ◌<◌, Bool, true, false, List, [], ◌∷◌, ◌++◌, length, map, Option, Some, slice_get, slice_range, ⊤, ◌⊎◌}
+use Rattle.std.specs.Prelude.{◌≡◌, ℕ, ◌<◌, false, List, [], ◌∷◌, ◌++◌, length, map, Some, slice_get, slice_range, ◌⊎◌}
 use Rattle.std.specs.List.{flat_map, AllZip}
 use Rattle.std.specs.Char.{to_ascii_uppercase}
 use Rattle.ada_lexer.specs.declared.kinds.Token.{Token}
@@ -7,8 +7,7 @@ use Rattle.ada_lexer.specs.declared.kinds.TokenKind.{TokenKind}
 use Rattle.ada_lexer.specs.declared.kinds.TokenKind.TheVariants as kind
 use Rattle.ada_lexer.specs.Split.{Splits}
 use Rattle.ada_tree.specs.declared.naming.NameId.{NameId}
-use Rattle.ada_tree.specs.declared.naming.Word.{Word}
-use Rattle.ada_tree.specs.PlainStmt.{PStmt, SNull, SCall, SAccept, accepting, PBody}
+use Rattle.ada_tree.specs.PlainStmt.{PStmt, SNull, SCall, SAccept, accepting}
 use Rattle.ada_tree.specs.PlainDecl.{PDecl, PEntry, DTask, DTaskBody, PTask}
 use Rattle.ada_tree.specs.PlainProgram.{PProgram}
 use Rattle.syn_event.specs.Units.{decl_list, body_stmts}

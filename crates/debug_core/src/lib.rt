@@ -1,8 +1,9 @@
 //! The program's one call, and the commands that it has.
-#![tactic(auto, using(ada_tree::proofs::Rows::rows))]
+#![tactic(auto)]
 
 mod command;
 mod failing;
 mod run_command;
 mod run_text;
+#[tactic(auto, using(ada_tree::proofs::Rows::rows))]
 mod small;

@@ -1,5 +1,8 @@
 //! Why no small program was read.
 
+ghost use Rattle.std.specs.Prelude.{◌≡◌};
+ghost use Rattle.debug_core.specs.declared.small.refusal.SmallRefusal.TheVariants as refusal;
+
 use ada_tree::Memory;
 use std::alloc::{AllocError, AllocFailed};
 
@@ -13,18 +16,24 @@ pub(crate) enum SmallRefusal {
 }
 
 impl From<AllocError> for SmallRefusal {
+    ghost from_gives = { λ _ e. e ≡ refusal.Memory };
+
     fn from(_e: AllocError) -> SmallRefusal {
         SmallRefusal::Memory
     }
 }
 
 impl<T: Drop> From<AllocFailed<T>> for SmallRefusal {
+    ghost from_gives = { λ _ e. e ≡ refusal.Memory };
+
     fn from(_e: AllocFailed<T>) -> SmallRefusal {
         SmallRefusal::Memory
     }
 }
 
 impl From<Memory> for SmallRefusal {
+    ghost from_gives = { λ _ e. e ≡ refusal.Memory };
+
     fn from(_e: Memory) -> SmallRefusal {
         SmallRefusal::Memory
     }

@@ -1,4 +1,4 @@
-use Rattle.std.proofs.Common.{ℕ, ◌<◌, get_or, map}
+use Rattle.std.proofs.Common.{ℕ, ◌<◌, get_or}
 use Rattle.ada_tree.specs.declared.declarations.EntryDecl.{EntryDecl}
 use Rattle.debug_core.specs.SmallRules.{IsFit}
 use Rattle.debug_core.proofs.small.rules.entries_are_fit.Given as goal

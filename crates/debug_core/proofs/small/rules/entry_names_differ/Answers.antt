@@ -1,6 +1,5 @@
 -- A first that has no other of its name behind it differs from them all.
-use Rattle.std.proofs.Common.{◌≡◌, ◌∙◌, [], sym, map, nat_eq, subst, List}
-use Rattle.std.specs.List.{IsDistinct}
+use Rattle.std.proofs.Common.{◌∙◌, sym}
 use Rattle.ada_tree.specs.declared.declarations.EntryDecl.{EntryDecl}
 use Rattle.debug_core.proofs.Differing.{differ_before, empty_differ}
 use Rattle.debug_core.proofs.small.rules.entry_names_differ.Goals as goal

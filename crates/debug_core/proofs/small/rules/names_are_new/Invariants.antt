@@ -1,4 +1,4 @@
-use Rattle.std.proofs.Common.{ℕ, ◌<◌, get_or, map}
+use Rattle.std.proofs.Common.{ℕ, ◌<◌, get_or}
 use Rattle.syn_event.specs.declared.numbering.TaskInfo.{TaskInfo}
 use Rattle.debug_core.specs.SmallRules.{IsNewName}
 use Rattle.debug_core.proofs.small.rules.names_are_new.Given as goal

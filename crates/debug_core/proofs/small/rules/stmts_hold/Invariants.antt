@@ -1,4 +1,4 @@
-use Rattle.std.proofs.Common.{ℕ, ◌<◌, get_or, map}
+use Rattle.std.proofs.Common.{ℕ, ◌<◌, get_or}
 use Rattle.ada_tree.specs.declared.statements.Stmt.{Stmt}
 use Rattle.ada_tree.specs.PlainStmt.{plain_stmt}
 use Rattle.debug_core.specs.SmallRules.{StmtHolds}
