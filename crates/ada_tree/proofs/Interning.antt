@@ -1,10 +1,10 @@
 -- Lemmas on lists of texts: how a text is found in the set of the code, and what is true of the names after one is interned.
-use Rattle.std.proofs.Common.{◌≡◌, ℕ, zero, suc, ◌+◌, ◌<◌, ◌≤◌, ◌^◌, Bool, true, false, ◌||◌, cond, List, [], ◌∷◌, ◌++◌, length, map, take, Option, None, Some, option_map, slice_get, position, true≢false, refl, sym, ap, ◌∙◌, ◌⊎◌, inl, inr, subst, arith, length-append, lit≤, not, ◌&&◌, fold, get_or}
+use Rattle.std.proofs.Common.{◌≡◌, ℕ, zero, suc, ◌+◌, ◌<◌, ◌≤◌, ◌^◌, Bool, true, false, ◌||◌, cond, List, [], ◌∷◌, ◌++◌, length, map, take, Some, option_map, slice_get, position, true≢false, refl, sym, ap, ◌∙◌, ◌⊎◌, inl, inr, arith, length-append, lit≤, not, ◌&&◌, fold, get_or}
 use Rattle.std.specs.List.{list_any}
 use Rattle.std.specs.Str.{bytes_eq}
 use Rattle.std.proofs.lemmas.Slice.Eq.{bytes_eq-Decides}
 use Rattle.std.proofs.lemmas.List.Quantifiers.{position-Some}
-use Rattle.std.proofs.lemmas.List.{take-append-le, length-take, map-append, take_more}
+use Rattle.std.proofs.lemmas.List.{take-append-le, length-take, map-append, take_more, append-nil, append_assoc}
 use Rattle.std.proofs.lemmas.List.Sums.{fold-append}
 use Rattle.std.proofs.lemmas.Option.{slice_get-map, slice_get-get_or, slice_get_within}
 use Rattle.indexmap.specs.IndexSet.{insert_key}
@@ -58,8 +58,8 @@ slice_get-last (y ∷ xs) x = slice_get-last xs x
 pub AreNames-added : (ts : List (List ℕ)) (t : List ℕ) → AreNames ts → list_any (bytes_eq t) ts ≡ false → length ts < 2 ^ 32 → AreNames (ts ++ t ∷ [])
 AreNames-added ts t names none room = record {
   begins =
-    let enough : length predefined ≤ length ts = omega (arith, ap length names.begins, length-take (length predefined) ts) in
-    take-append-le (length predefined) ts (t ∷ []) enough ∙ names.begins;
+      let enough : length predefined ≤ length ts = omega (arith, ap length names.begins, length-take (length predefined) ts) in
+      take-append-le (length predefined) ts (t ∷ []) enough ∙ names.begins;
   distinct = λ u i j at_i at_j. place u i j (in_longer ts t u i at_i) (in_longer ts t u j at_j);
   fits = omega (arith, length-append ts (t ∷ []));
 }
@@ -104,6 +104,43 @@ pub fold_one_more :
 fold_one_more h xs i d ts lt so_far =
     ap (λ us. interned us (h (get_or xs i d))) so_far ∙
     sym (ap (λ us. fold interned [] (map h us)) (take_more xs i d lt) ∙ ap (fold interned []) (map-append h (take i xs) (get_or xs i d ∷ [])) ∙ fold-append interned [] (map h (take i xs)) (h (get_or xs i d) ∷ []))
+
+-- a text that a test finds has a place
+somewhere : (t : List ℕ) (ts : List (List ℕ)) → list_any (bytes_eq t) ts ≡ true → (i : ℕ) × (slice_get ts i ≡ Some t)
+somewhere t [] there = absurd (true≢false (sym there))
+somewhere t (u ∷ ts) there = by (bytes_eq t u) refl (somewhere t ts)
+  where
+    by : (b : Bool) → bytes_eq t u ≡ b → (list_any (bytes_eq t) ts ≡ true → (i : ℕ) × (slice_get ts i ≡ Some t)) → (i : ℕ) × (slice_get (u ∷ ts) i ≡ Some t)
+    by true e later = (0, ap Some (sym ((bytes_eq-Decides t u).0 e)))
+    by false e later = let f = later (sym (ap (λ b. b || list_any (bytes_eq t) ts) e) ∙ there) in (suc f.0, f.1)
+
+-- what stands in a list stands there too where more follows
+slice_get-longer : {X : Type 0} (xs ys : List X) (x : X) (i : ℕ) → slice_get xs i ≡ Some x → slice_get (xs ++ ys) i ≡ Some x
+slice_get-longer [] ys x i at = cc
+slice_get-longer (y ∷ xs) ys x zero at = at
+slice_get-longer (y ∷ xs) ys x (suc i) at = slice_get-longer xs ys x i at
+
+-- interning all texts of a list in which none stands twice gives that list
+pub fold_distinct :
+    (ts us : List (List ℕ)) →
+    ((t : List ℕ) (i j : ℕ) → slice_get (ts ++ us) i ≡ Some t → slice_get (ts ++ us) j ≡ Some t → i ≡ j) →
+    fold interned ts us ≡ ts ++ us
+fold_distinct ts [] distinct = sym (append-nil ts)
+fold_distinct ts (u ∷ us) distinct =
+    ap (λ vs. fold interned vs us) (interned-new ts u (none (list_any (bytes_eq u) ts) refl)) ∙
+    fold_distinct (ts ++ u ∷ []) us (λ t i j. rw append_assoc (distinct t i j)) ∙
+    append_assoc ts (u ∷ []) us
+  where
+    at_seam : slice_get (ts ++ u ∷ us) (length ts) ≡ Some u
+    at_seam = rw append_assoc at (slice_get-longer (ts ++ u ∷ []) us u (length ts) (slice_get-last ts u))
+
+    none : (b : Bool) → list_any (bytes_eq u) ts ≡ b → list_any (bytes_eq u) ts ≡ false
+    none false e = e
+    none true e =
+        let f = somewhere u ts e in
+        let here : f.0 ≡ length ts = distinct u f.0 (length ts) (slice_get-longer ts (u ∷ us) u f.0 f.1) at_seam in
+        let inside : f.0 < length ts = slice_get_within ts f.0 u f.1 in
+        absurd (omega arith)
 
 -- whether no text of a list stands twice
 abbrev all_differ : List (List ℕ) → Bool

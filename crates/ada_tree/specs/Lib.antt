@@ -5,5 +5,6 @@ pub mod PlainDecl
 pub mod PlainExpr
 pub mod PlainProgram
 pub mod PlainStmt
+pub mod Same
 pub mod StmtCode
 pub mod TypeTable

@@ -5,6 +5,7 @@ mod copying;
 mod declarations;
 mod expressions;
 mod naming;
+mod sameness;
 mod shortage;
 mod statements;
 mod static_types;

@@ -15,29 +15,53 @@ pub struct NameId(pub u32);
 /// The predefined names and the attributes, which have the first ids in the `Names` of every program.
 impl NameId {
     pub const INTEGER: NameId = NameId(0);
+
     pub const NATURAL: NameId = NameId(1);
+
     pub const POSITIVE: NameId = NameId(2);
+
     pub const BOOLEAN: NameId = NameId(3);
+
     pub const FALSE: NameId = NameId(4);
+
     pub const TRUE: NameId = NameId(5);
+
     pub const CONSTRAINT_ERROR: NameId = NameId(6);
+
     pub const NUMERIC_ERROR: NameId = NameId(7);
+
     pub const PROGRAM_ERROR: NameId = NameId(8);
+
     pub const TASKING_ERROR: NameId = NameId(9);
+
     pub const STORAGE_ERROR: NameId = NameId(10);
+
     pub const END_ERROR: NameId = NameId(11);
+
     pub const TEXT_IO: NameId = NameId(12);
+
     pub const INTEGER_IO: NameId = NameId(13);
+
     pub const PUT: NameId = NameId(14);
+
     pub const PUT_LINE: NameId = NameId(15);
+
     pub const NEW_LINE: NameId = NameId(16);
+
     pub const GET: NameId = NameId(17);
+
     pub const FIRST: NameId = NameId(18);
+
     pub const LAST: NameId = NameId(19);
+
     pub const POS: NameId = NameId(20);
+
     pub const VAL: NameId = NameId(21);
+
     pub const SUCC: NameId = NameId(22);
+
     pub const PRED: NameId = NameId(23);
+
     pub const IMAGE: NameId = NameId(24);
 }
 
@@ -81,10 +105,31 @@ impl Names {
         let texts = with_texts(
             alloc,
             &[
-                "INTEGER", "NATURAL", "POSITIVE", "BOOLEAN", "FALSE", "TRUE", "CONSTRAINT_ERROR",
-                "NUMERIC_ERROR", "PROGRAM_ERROR", "TASKING_ERROR", "STORAGE_ERROR", "END_ERROR",
-                "TEXT_IO", "INTEGER_IO", "PUT", "PUT_LINE", "NEW_LINE", "GET", "FIRST", "LAST",
-                "POS", "VAL", "SUCC", "PRED", "IMAGE",
+                "INTEGER",
+                "NATURAL",
+                "POSITIVE",
+                "BOOLEAN",
+                "FALSE",
+                "TRUE",
+                "CONSTRAINT_ERROR",
+                "NUMERIC_ERROR",
+                "PROGRAM_ERROR",
+                "TASKING_ERROR",
+                "STORAGE_ERROR",
+                "END_ERROR",
+                "TEXT_IO",
+                "INTEGER_IO",
+                "PUT",
+                "PUT_LINE",
+                "NEW_LINE",
+                "GET",
+                "FIRST",
+                "LAST",
+                "POS",
+                "VAL",
+                "SUCC",
+                "PRED",
+                "IMAGE",
             ],
         )?;
         Ok(Names { alloc, texts })
@@ -109,13 +154,26 @@ impl Names {
         Ok(NameId(place as u32))
     }
 
+    /// A copy with the same ids.
+    pub fn copy(&self, alloc: Global) -> Result<Names, Memory>
+        ensures { IfOk result (λ names. names ≡ self.now) }
+    {
+        let mut texts = IndexSet::new(alloc);
+        for text in self.texts.as_slice() {
+            texts.insert(text.clone()?)?;
+        }
+        Ok(Names { alloc, texts })
+    }
+
     /// The text of an id, which is missing exactly where the id is not below the number of names.
     pub fn text(&self, id: NameId) -> Option<&str>
         ensures text { option_map (λ t. t.now) result ≡ slice_get self.now id.0 }
         ensures past_end { IsNone result ↔ (length self.now ≤ id.0) }
         ensures names { AreNames self.now }
     {
-        self.texts.get_index(id.0 as usize).map(|text| text.as_str())
+        self.texts
+            .get_index(id.0 as usize)
+            .map(|text| text.as_str())
     }
 }
 

@@ -28,7 +28,11 @@ impl Expr {
                     span,
                 })
             }
-            ExprKind::Attribute { mark, word, arg: None } => Ok(Expr {
+            ExprKind::Attribute {
+                mark,
+                word,
+                arg: None,
+            } => Ok(Expr {
                 kind: ExprKind::Attribute {
                     mark: *mark,
                     word: *word,
@@ -36,7 +40,11 @@ impl Expr {
                 },
                 span,
             }),
-            ExprKind::Attribute { mark, word, arg: Some(arg) } => {
+            ExprKind::Attribute {
+                mark,
+                word,
+                arg: Some(arg),
+            } => {
                 let arg = Box::new(alloc, arg.copy(alloc)?)?;
                 Ok(Expr {
                     kind: ExprKind::Attribute {
@@ -65,7 +73,11 @@ impl Expr {
                 let left = Box::new(alloc, left.copy(alloc)?)?;
                 let right = Box::new(alloc, right.copy(alloc)?)?;
                 Ok(Expr {
-                    kind: ExprKind::Binary { op: *op, left, right },
+                    kind: ExprKind::Binary {
+                        op: *op,
+                        left,
+                        right,
+                    },
                     span,
                 })
             }

@@ -130,7 +130,11 @@ impl Scheme {
     {
         match self {
             Scheme::While(test) => Ok(Scheme::While(test.copy(alloc)?)),
-            Scheme::For { name, reverse, range } => {
+            Scheme::For {
+                name,
+                reverse,
+                range,
+            } => {
                 let range = range.copy(alloc)?;
                 Ok(Scheme::For {
                     name: *name,

@@ -1,0 +1,4 @@
+// Whether two trees are the same: equal but for places, names compared by their texts. It takes no memory.
+
+mod expressions;
+mod statements;
