@@ -3,3 +3,10 @@ pub mod Seats
 pub mod Rows
 pub mod Effects
 pub mod Runs
+pub mod Lawful
+pub mod Programs
+pub mod Worlds
+pub mod Settling
+pub mod Soundness
+pub mod Tallies
+pub mod Laws
