@@ -1,0 +1,5 @@
+pub mod Basics
+pub mod Stills
+pub mod Appends
+pub mod Standings
+pub mod Erasing

@@ -49,10 +49,10 @@ abbrev pub Deterministic : {L : Type 0} → Program L → Type 0
 Deterministic {L} p = (w next other : World L) (e : Event) → Fires p w e next → Fires p w e other → next ≡ other
 
 -- What an action without an event, and one with an event, does to the bases that a state follows.
-abbrev pub Forward : {L : Type 0} → Program L → Type 0
-Forward {L} p =
+abbrev pub Forward : {L : Type 0} → Program L → (L → Type 0) → Type 0
+Forward {L} p IsProper =
     (s : State (ℕ → Seat L)) (bases : World L) (tally : ℕ → ℕ) (action : Action) →
-    IsSound p.ops s.seats → Follows p bases (world_of s) tally → can (numbered p) s action ≡ true →
+    IsSound p.ops IsProper s.seats → Follows p bases (world_of s) tally → can (numbered p) s action ≡ true →
     MatchOption (event_of (numbered p) s action)
     (Follows p bases (world_of (after (numbered p) s action)) (tallied (numbered p) s action tally))
     (λ e. (next : World L) × Fires p bases e next × Follows p next (world_of (after (numbered p) s action)) (tallied (numbered p) s action tally))
@@ -66,8 +66,8 @@ pub record HappensFrom {L : Type 0} (p : Program L) (w : World L) (e : Event) (n
   pub exact : is_last e ≡ false → end_of (numbered p) (state_of w) actions ≡ state_of next
 
 -- Each event of the machine without queues is had by a run of the table from the state of the bases, where nobody is queued.
-abbrev pub Backward : {L : Type 0} → Program L → Type 0
-Backward {L} p = (w next : World L) (e : Event) → IsStill w → IsSound p.ops w.tasks → Fires p w e next → HappensFrom p w e next
+abbrev pub Backward : {L : Type 0} → Program L → (L → Type 0) → Type 0
+Backward {L} p IsProper = (w next : World L) (e : Event) → IsStill w → IsSound p.ops IsProper w.tasks → Fires p w e next → HappensFrom p w e next
 
 -- A list of events is feasible exactly where the machine without queues has a state after it.
 abbrev pub FeasibleExactly : {L : Type 0} → Program L → State (ℕ → Seat L) → Type 0

@@ -1,0 +1,57 @@
+-- What the tests on standings, offers and lists of callers say.
+use Rattle.std.proofs.Common.{◌≡◌, ℕ, zero, suc, Bool, true, false, not, ◌&&◌, ◌||◌, ◌==◌, if◌then◌else◌, cond, List, [], ◌∷◌, refl, sym, ap, ◌∙◌, subst, filter, inl, inr, true≢false}
+use Rattle.std.proofs.lemmas.Bool.{eqb-true}
+use Rattle.event_machine.specs.declared.Standing.{Standing}
+use Rattle.event_machine.specs.declared.Standing.TheVariants.{Live, Waiting, Queued, Served, Completed, Killed}
+use Rattle.event_machine.specs.Offers.{Offer, Nothing, Calls, Waits, Finishes, Ends, Aborts, waits_with, calls_in, is_finish, is_end}
+use Rattle.event_machine.specs.Seats.{is_live, is_waiting, is_queued, is_completed, is_closed, is_served, is_served_by}
+use Rattle.event_machine.specs.Rows.{is_first}
+use Rattle.event_machine.specs.Worlds.{still}
+
+-- ---- standings
+
+pub is-Live : (s : Standing) → is_live s ≡ true → s ≡ Live
+is-Live Live h = refl
+is-Live Waiting h = absurd (true≢false (sym h))
+is-Live Queued h = absurd (true≢false (sym h))
+is-Live (Served by abnormal) h = absurd (true≢false (sym h))
+is-Live Completed h = absurd (true≢false (sym h))
+is-Live Killed h = absurd (true≢false (sym h))
+
+pub is-Waiting : (s : Standing) → is_waiting s ≡ true → s ≡ Waiting
+is-Waiting Live h = absurd (true≢false (sym h))
+is-Waiting Waiting h = refl
+is-Waiting Queued h = absurd (true≢false (sym h))
+is-Waiting (Served by abnormal) h = absurd (true≢false (sym h))
+is-Waiting Completed h = absurd (true≢false (sym h))
+is-Waiting Killed h = absurd (true≢false (sym h))
+
+pub is-Queued : (s : Standing) → is_queued s ≡ true → s ≡ Queued
+is-Queued Live h = absurd (true≢false (sym h))
+is-Queued Waiting h = absurd (true≢false (sym h))
+is-Queued Queued h = refl
+is-Queued (Served by abnormal) h = absurd (true≢false (sym h))
+is-Queued Completed h = absurd (true≢false (sym h))
+is-Queued Killed h = absurd (true≢false (sym h))
+
+-- a task that is live, waits or is queued is free
+pub still_live : (s : Standing) → is_live s ≡ true → is_live (still s) ≡ true
+still_live s h = ap (λ z. is_live (still z)) (is-Live s h)
+
+pub still_waiting : (s : Standing) → is_waiting s ≡ true → is_live (still s) ≡ true
+still_waiting s h = ap (λ z. is_live (still z)) (is-Waiting s h)
+
+pub still_queued : (s : Standing) → is_queued s ≡ true → is_live (still s) ≡ true
+still_queued s h = ap (λ z. is_live (still z)) (is-Queued s h)
+
+-- ---- queues
+
+-- the first of those that pass a test passes it
+pub first_passes : (test : ℕ → Bool) (c : ℕ) (line : List ℕ) → is_first c (filter test line) ≡ true → test c ≡ true
+first_passes test c [] h = absurd (true≢false (sym h))
+first_passes test c (x ∷ xs) h = go (test x) refl h (first_passes test c xs)
+  where
+    go : (b : Bool) → test x ≡ b → is_first c (cond b (x ∷ filter test xs) (filter test xs)) ≡ true →
+      (is_first c (filter test xs) ≡ true → test c ≡ true) → test c ≡ true
+    go true e k rest = subst (λ y. test y ≡ true) (eqb-true x c k) e
+    go false e k rest = rest k
