@@ -38,3 +38,9 @@ same_member-refl e i = both (equal_self e) ((Decides-int_eq i i).1 refl)
 
 pub same_member-true : (e f : ℕ) (i j : ℤ) → same_member e i f j ≡ true → (e ≡ f) × (i ≡ j)
 same_member-true e f i j h = let k = and_parts (e == f) (int_eq i j) h in (eqb-true e f k.0, (Decides-int_eq i j).0 k.1)
+
+pub none_some : {A : Type 0} {x : A} → ◌≡◌ {A = Option A} None (Some x) → ⊥
+none_some {A} {x} h = let e : ◌≡◌ {A = Option A} None (Some x) = h in cc
+
+pub some_path : {A : Type 0} {x y : A} → ◌≡◌ {A = Option A} (Some x) (Some y) → x ≡ y
+some_path {A} {x} {y} h = let e : ◌≡◌ {A = Option A} (Some x) (Some y) = h in cc

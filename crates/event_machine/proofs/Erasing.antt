@@ -18,7 +18,7 @@ use Rattle.event_machine.specs.Programs.{Program, numbered}
 use Rattle.event_machine.specs.Worlds.{World, still, still_seat, world_of, acted, happens, offers, others_end, aborts, changes, is_last, Move, Step, Happen, can_move, moved, AreMoves, world_after, happened, counts_after, recount}
 use Rattle.event_machine.specs.Tallies.{tallied, tallies, is_changed, is_step_of}
 use Rattle.event_machine.specs.Laws.{IsErased, Erasing}
-use Rattle.event_machine.proofs.Basics.{split, both, push_if, seat_path, same_member-refl, equal_self, not_false}
+use Rattle.event_machine.proofs.Basics.{split, both, push_if, seat_path, same_member-refl, equal_self, not_false, none_some, some_path}
 use Rattle.event_machine.proofs.Standings.{is-Live, still_live, still_waiting, still_queued, first_passes}
 use Rattle.event_machine.proofs.Stills.{still_acted, still_changes, still_freed, still_closed, still_completed}
 use Rattle.event_machine.proofs.Appends.{moves_append, world_append, happened_append, counts_append}
@@ -158,10 +158,6 @@ module _ {L : Type 0} (p : Program L) where
     (λ k. or_right _ _ (both (still_waiting (s.seats (suc n)).standing (split k).0) (split k).1))
     (or_cases _ _ (split h).1))
 
-  -- the event of an action, if it is one
-  abbrev EventOrNone : State (ℕ → Seat L) → Action → Type 0
-  EventOrNone s action = (e : Event) × IsEvent s action e
-
   simple : (s : State (ℕ → Seat L)) (action : Action) (e : Event) →
     event_of (numbered p) s action ≡ Some e → (after (numbered p) s action).seats ≡ acted (numbered p) s.seats e →
     (after (numbered p) s action).ended ≡ (is_last e || s.ended) → happens p (λ t. still_seat (s.seats t)) e ≡ true →
@@ -227,34 +223,65 @@ module _ {L : Type 0} (p : Program L) where
     counts = λ count. refl;
   }
 
-  complete_holds : (s : State (ℕ → Seat L)) (a : ℕ) → row p.ops p.owner (seen (numbered p) s) (Complete a) ≡ true → happens p (λ t. still_seat (s.seats t)) (X a) ≡ true
-  complete_holds s a h =
+  finish_row : (s : State (ℕ → Seat L)) (a : ℕ) → row p.ops p.owner (seen (numbered p) s) (Finish a) ≡ true → (e : Event) × IsEvent s (Finish a) e
+  finish_row s a h = simple s (Finish a) (E a) refl refl refl (both (still_live (s.seats a).standing (split h).0) (split h).1) (λ t. refl)
+
+  take_else_row : (s : State (ℕ → Seat L)) (a : ℕ) → row p.ops p.owner (seen (numbered p) s) (Else a) ≡ true → (e : Event) × IsEvent s (Else a) e
+  take_else_row s a h =
+    simple s (Else a) (S a) refl refl refl (both (still_waiting (s.seats a).standing (split h).0) (split (split h).1).0) (λ t. refl)
+
+  delay_row : (s : State (ℕ → Seat L)) (a k : ℕ) → row p.ops p.owner (seen (numbered p) s) (Delay a k) ≡ true → (e : Event) × IsEvent s (Delay a k) e
+  delay_row s a k h =
+    simple s (Delay a k) (D a k) refl refl refl (both (still_waiting (s.seats a).standing (split h).0) (split (split h).1).0) (λ t. refl)
+
+  complete_row : (s : State (ℕ → Seat L)) (a : ℕ) → row p.ops p.owner (seen (numbered p) s) (Complete a) ≡ true → (e : Event) × IsEvent s (Complete a) e
+  complete_row s a h =
     let k = and_parts (not (a == 0)) _ h in
     let l = and_parts (is_live (s.seats a).standing) _ k.1 in
-    both k.0 (both (still_live (s.seats a).standing l.0) l.1)
+    simple s (Complete a) (X a) refl refl refl (both k.0 (both (still_live (s.seats a).standing l.0) l.1)) (λ t. refl)
 
-  end_holds : (s : State (ℕ → Seat L)) → row p.ops p.owner (seen (numbered p) s) End ≡ true → happens p (λ t. still_seat (s.seats t)) Z ≡ true
-  end_holds s h =
+  end_row : (s : State (ℕ → Seat L)) → row p.ops p.owner (seen (numbered p) s) End ≡ true → (e : Event) × IsEvent s End e
+  end_row s h =
     let k = and_parts (is_live (s.seats 0).standing) _ h in
     let l = and_parts (is_end (p.ops.offer (s.seats 0).local)) _ k.1 in
-    both (both (still_live (s.seats 0).standing k.0) l.0) (others_row s (pred p.size) l.1)
+    simple s End Z refl refl refl (both (both (still_live (s.seats 0).standing k.0) l.0) (others_row s (pred p.size) l.1)) (λ t. refl)
+
+  rows : (s : State (ℕ → Seat L)) (action : Action) (e : Event) → row p.ops p.owner (seen (numbered p) s) action ≡ true →
+    event_of (numbered p) s action ≡ Some e → (f : Event) × IsEvent s action f
+  rows s (Local t) e h q = absurd (none_some q)
+  rows s (Arrive t) e h q = absurd (none_some q)
+  rows s (Start c) e h q = start_row s c h
+  rows s (Finish a) e h q = finish_row s a h
+  rows s (Else a) e h q = take_else_row s a h
+  rows s (Delay a k) e h q = delay_row s a k h
+  rows s (CallElse c) e h q = else_row s c h
+  rows s (Expire c) e h q = expire_row s c h
+  rows s (Fail c) e h q = fail_row s c h
+  rows s (Complete a) e h q = complete_row s a h
+  rows s (Abort t) e h q = abort_row s t h
+  rows s End e h q = end_row s h
+
+  -- the events of the actions that have one
+  pub event_row : (s : State (ℕ → Seat L)) (action : Action) (e : Event) → can (numbered p) s action ≡ true → event_of (numbered p) s action ≡ Some e →
+    IsEvent s action e
+  event_row s action e h q = the_same action (rows s action e (split h).1 q) q
+    where
+      the_same : (action : Action) → (f : Event) × IsEvent s action f → event_of (numbered p) s action ≡ Some e → IsEvent s action e
+      the_same action (f, k) q = let r : f ≡ e = some_path (sym k.event ∙ q) in subst (IsEvent s action) r k
 
   pub erased_step : (s : State (ℕ → Seat L)) (action : Action) → can (numbered p) s action ≡ true → IsErasedStep s action
   erased_step s (Local t) h = local_step s t h
   erased_step s (Arrive t) h = arrive_step s t h
   erased_step s (Start c) h = event_step s (Start c) (not_false _ (split h).0) (start_row s c (split h).1)
-  erased_step s (Finish a) h = event_step s (Finish a) (not_false _ (split h).0) (simple s (Finish a) (E a) refl refl refl
-    (both (still_live (s.seats a).standing (split (split h).1).0) (split (split h).1).1) (λ t. refl))
-  erased_step s (Else a) h = event_step s (Else a) (not_false _ (split h).0) (simple s (Else a) (S a) refl refl refl
-    (both (still_waiting (s.seats a).standing (split (split h).1).0) (split (split (split h).1).1).0) (λ t. refl))
-  erased_step s (Delay a k) h = event_step s (Delay a k) (not_false _ (split h).0) (simple s (Delay a k) (D a k) refl refl refl
-    (both (still_waiting (s.seats a).standing (split (split h).1).0) (split (split (split h).1).1).0) (λ t. refl))
+  erased_step s (Finish a) h = event_step s (Finish a) (not_false _ (split h).0) (finish_row s a (split h).1)
+  erased_step s (Else a) h = event_step s (Else a) (not_false _ (split h).0) (take_else_row s a (split h).1)
+  erased_step s (Delay a k) h = event_step s (Delay a k) (not_false _ (split h).0) (delay_row s a k (split h).1)
   erased_step s (CallElse c) h = event_step s (CallElse c) (not_false _ (split h).0) (else_row s c (split h).1)
   erased_step s (Expire c) h = event_step s (Expire c) (not_false _ (split h).0) (expire_row s c (split h).1)
   erased_step s (Fail c) h = event_step s (Fail c) (not_false _ (split h).0) (fail_row s c (split h).1)
-  erased_step s (Complete a) h = event_step s (Complete a) (not_false _ (split h).0) (simple s (Complete a) (X a) refl refl refl (complete_holds s a (split h).1) (λ t. refl))
+  erased_step s (Complete a) h = event_step s (Complete a) (not_false _ (split h).0) (complete_row s a (split h).1)
   erased_step s (Abort t) h = event_step s (Abort t) (not_false _ (split h).0) (abort_row s t (split h).1)
-  erased_step s End h = event_step s End (not_false _ (split h).0) (simple s End Z refl refl refl (end_holds s (split h).1) (λ t. refl))
+  erased_step s End h = event_step s End (not_false _ (split h).0) (end_row s (split h).1)
 
   -- ---- the moves of a run
 
