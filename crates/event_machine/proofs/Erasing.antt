@@ -167,22 +167,27 @@ module _ {L : Type 0} (p : Program L) where
 
   -- ---- the moves of an action
 
+  pub event_world : (s : State (ℕ → Seat L)) (action : Action) (e : Event) → IsEvent s action e →
+    moved p (world_of s) (Happen e) ≡ world_of (after (numbered p) s action)
+  event_world s action e k = λ i. record {
+    tasks = (sym (still_acted p s.seats e) ∙ ap {B = ℕ → Seat L} (λ (w : ℕ → Seat L) t. still_seat (w t)) (sym k.seats)) i;
+    ended = (sym k.ended) i;
+  }
+
+  pub event_counts : (s : State (ℕ → Seat L)) (action : Action) (e : Event) → IsEvent s action e → (count : ℕ → ℕ) →
+    recount p (world_of s) (Happen e) count ≡ tallied (numbered p) s action count
+  event_counts s action e k count = λ i t. (
+    ap (λ b. if b then 0 else count t) (still_changes p s.seats e t) ∙
+    (λ j. if is_changed p.ops p.owner s.seats ((sym k.event) j) t then 0 else (if (sym (k.no_step t)) j then suc (count t) else count t))) i
+
   event_step : (s : State (ℕ → Seat L)) (action : Action) → s.ended ≡ false → (e : Event) × IsEvent s action e → IsErasedStep s action
   event_step s action runs (e, k) = record {
     moves = Happen e ∷ [];
     made = (both (ap not runs) k.holds, tt);
     events = sym (ap option_to_list k.event);
-    ends = λ i. record {
-      tasks = (sym (still_acted p s.seats e) ∙ ap {B = ℕ → Seat L} (λ (w : ℕ → Seat L) t. still_seat (w t)) (sym k.seats)) i;
-      ended = (sym k.ended) i;
-    };
-    counts = λ count i t. counted count t i;
+    ends = event_world s action e k;
+    counts = event_counts s action e k;
   }
-    where
-      counted : (count : ℕ → ℕ) (t : ℕ) → recount p (world_of s) (Happen e) count t ≡ tallied (numbered p) s action count t
-      counted count t =
-        ap (λ b. if b then 0 else count t) (still_changes p s.seats e t) ∙
-        (λ i. if is_changed p.ops p.owner s.seats ((sym k.event) i) t then 0 else (if (sym (k.no_step t)) i then suc (count t) else count t))
 
   local_step : (s : State (ℕ → Seat L)) (t : ℕ) → can (numbered p) s (Local t) ≡ true → IsErasedStep s (Local t)
   local_step s t h = record {
@@ -210,18 +215,15 @@ module _ {L : Type 0} (p : Program L) where
       go true q = seat_path (ap (λ v. (seats v).local) (sym (eqb-true u t q))) (e ∙ ap (λ v. still (seats v).standing) (sym (eqb-true u t q)))
       go false q = refl
 
-  arrive_step : (s : State (ℕ → Seat L)) (t : ℕ) → can (numbered p) s (Arrive t) ≡ true → IsErasedStep s (Arrive t)
-  arrive_step s t h = record {
-    moves = [];
-    made = tt;
-    events = refl;
-    ends = λ i. record {
-      tasks = λ u. (sym (free_still s.seats t (arrived_standing (p.ops.offer (s.seats t).local))
-        (arriving (p.ops.offer (s.seats t).local) ∙ ap still (sym (is-Live (s.seats t).standing (split (split h).1).0))) u)) i;
-      ended = s.ended;
-    };
-    counts = λ count. refl;
+  pub arrive_world : (s : State (ℕ → Seat L)) (t : ℕ) → can (numbered p) s (Arrive t) ≡ true → world_of s ≡ world_of (after (numbered p) s (Arrive t))
+  arrive_world s t h = λ i. record {
+    tasks = λ u. (sym (free_still s.seats t (arrived_standing (p.ops.offer (s.seats t).local))
+      (arriving (p.ops.offer (s.seats t).local) ∙ ap still (sym (is-Live (s.seats t).standing (split (split h).1).0))) u)) i;
+    ended = s.ended;
   }
+
+  arrive_step : (s : State (ℕ → Seat L)) (t : ℕ) → can (numbered p) s (Arrive t) ≡ true → IsErasedStep s (Arrive t)
+  arrive_step s t h = record { moves = []; made = tt; events = refl; ends = arrive_world s t h; counts = λ count. refl }
 
   finish_row : (s : State (ℕ → Seat L)) (a : ℕ) → row p.ops p.owner (seen (numbered p) s) (Finish a) ≡ true → (e : Event) × IsEvent s (Finish a) e
   finish_row s a h = simple s (Finish a) (E a) refl refl refl (both (still_live (s.seats a).standing (split h).0) (split h).1) (λ t. refl)
