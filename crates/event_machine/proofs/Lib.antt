@@ -2,6 +2,8 @@ pub mod Basics
 pub mod Stills
 pub mod Appends
 pub mod Standings
+pub mod Updates
 pub mod Erasing
 pub mod Offering
+pub mod Sound
 pub mod Lifting

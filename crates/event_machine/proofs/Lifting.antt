@@ -21,7 +21,8 @@ use Rattle.event_machine.specs.Laws.{IsLifted, Lifting}
 use Rattle.event_machine.proofs.Basics.{split, both, push_if, seat_path, same_member-refl, equal_self, not_false, none_some, some_path}
 use Rattle.event_machine.proofs.Standings.{is-Live}
 use Rattle.event_machine.proofs.Stills.{still_acted, still_freed}
-use Rattle.event_machine.proofs.Offering.{calls_is, waits_is, finish_is, end_is, aborts_is, timed_queues, else_conditional, no_caller}
+use Rattle.event_machine.proofs.Updates.{stand_self, stand_local, stand_other}
+use Rattle.event_machine.proofs.Offering.{calls_is, waits_is, finish_is, end_is, aborts_is, timed_queues, else_conditional, no_caller, calls_waits}
 use Rattle.event_machine.proofs.Erasing.{IsEvent, event_row, event_world, event_counts, arrive_world}
 use Rattle.event_machine.proofs.Appends.{run_append, end_append, events_append, tallies_append, happened_append}
 
@@ -85,19 +86,6 @@ module _ {L : Type 0} (p : Program L) where
 
   -- ---- tasks that stand otherwise
 
-  stand_self : (tasks : ℕ → Seat L) (t : ℕ) (z : Standing) → stand (numbered p).store tasks t z t ≡ record { local = (tasks t).local; standing = z }
-  stand_self tasks t z = ap (λ b. if b then record { local = (tasks t).local; standing = z } else tasks t) (equal_self t)
-
-  stand_other : (tasks : ℕ → Seat L) (t u : ℕ) (z : Standing) → (u == t) ≡ false → stand (numbered p).store tasks t z u ≡ tasks u
-  stand_other tasks t u z e = ap (λ b. if b then record { local = (tasks t).local; standing = z } else tasks u) e
-
-  stand_local : (tasks : ℕ → Seat L) (t u : ℕ) (z : Standing) → (stand (numbered p).store tasks t z u).local ≡ (tasks u).local
-  stand_local tasks t u z = go (u == t) refl
-    where
-      go : (b : Bool) → (u == t) ≡ b → (if b then record { local = (tasks t).local; standing = z } else tasks u).local ≡ (tasks u).local
-      go true e = ap (λ v. (tasks v).local) (sym (eqb-true u t e))
-      go false e = refl
-
   stand_open : (tasks : ℕ → Seat L) (t u : ℕ) (z : Standing) → is_closed z ≡ false → not (is_closed (tasks u).standing) ≡ true →
     not (is_closed (stand (numbered p).store tasks t z u).standing) ≡ true
   stand_open tasks t u z open' h = go (u == t)
@@ -113,7 +101,7 @@ module _ {L : Type 0} (p : Program L) where
       go : (u : ℕ) (b : Bool) →
         (if b then live (f (stand (numbered p).store tasks t z t).local) else (if b then record { local = (tasks t).local; standing = z } else tasks u)) ≡
         (if b then live (f (tasks t).local) else tasks u)
-      go u true = ap (λ l. live (f l)) (stand_local tasks t t z)
+      go u true = ap (λ l. live (f l)) (stand_local p tasks t t z)
       go u false = refl
 
   -- who starts a rendezvous may have stood anyhow
@@ -153,8 +141,8 @@ module _ {L : Type 0} (p : Program L) where
       (both (ap not runs) (both (split h).0 (ap (arrives p.owner (seen (numbered p) (state_of w))) q.1)), tt)
       (waiting_state w a)
       (λ i. record { seats = stand (numbered p).store w.tasks a (arrived_standing (q.1 i)); line = arrived_line a (q.1 i) []; ended = w.ended })
-      (both (ap not runs) (both (ap (λ x. is_waiting x.standing) (stand_self w.tasks a Waiting))
-        (both (ap (λ x. waits_with is_else (p.ops.offer x.local)) (stand_self w.tasks a Waiting) ∙ (split h).1) (no_caller p.ops (seen (numbered p) (waiting_state w a)) refl (p.ops.offer (stand (numbered p).store w.tasks a Waiting a).local)))))
+      (both (ap not runs) (both (ap (λ x. is_waiting x.standing) (stand_self p w.tasks a Waiting))
+        (both (ap (λ x. waits_with is_else (p.ops.offer x.local)) (stand_self p w.tasks a Waiting) ∙ (split h).1) (no_caller p.ops (seen (numbered p) (waiting_state w a)) refl (p.ops.offer (stand (numbered p).store w.tasks a Waiting a).local)))))
       refl
       (λ r i. record { seats = freed_stand p.ops.took_else w.tasks a Waiting i; line = []; ended = w.ended })
 
@@ -165,8 +153,8 @@ module _ {L : Type 0} (p : Program L) where
       (both (ap not runs) (both (split h).0 (ap (arrives p.owner (seen (numbered p) (state_of w))) q.1)), tt)
       (waiting_state w a)
       (λ i. record { seats = stand (numbered p).store w.tasks a (arrived_standing (q.1 i)); line = arrived_line a (q.1 i) []; ended = w.ended })
-      (both (ap not runs) (both (ap (λ x. is_waiting x.standing) (stand_self w.tasks a Waiting))
-        (both (ap (λ x. waits_with (is_delay k) (p.ops.offer x.local)) (stand_self w.tasks a Waiting) ∙ (split h).1) (no_caller p.ops (seen (numbered p) (waiting_state w a)) refl (p.ops.offer (stand (numbered p).store w.tasks a Waiting a).local)))))
+      (both (ap not runs) (both (ap (λ x. is_waiting x.standing) (stand_self p w.tasks a Waiting))
+        (both (ap (λ x. waits_with (is_delay k) (p.ops.offer x.local)) (stand_self p w.tasks a Waiting) ∙ (split h).1) (no_caller p.ops (seen (numbered p) (waiting_state w a)) refl (p.ops.offer (stand (numbered p).store w.tasks a Waiting a).local)))))
       refl
       (λ r i. record { seats = freed_stand (p.ops.took_delay k) w.tasks a Waiting i; line = []; ended = w.ended })
 
@@ -179,11 +167,11 @@ module _ {L : Type 0} (p : Program L) where
       (both (ap not runs) (both (split (split h).0).0 (ap (arrives p.owner (seen (numbered p) (state_of w))) q ∙ both (timed_queues form timed) (split h).1)), tt)
       (record { seats = stand (numbered p).store w.tasks c Queued; line = c ∷ []; ended = w.ended })
       (λ i. record { seats = stand (numbered p).store w.tasks c (arrived_standing (q i)); line = arrived_line c (q i) []; ended = w.ended })
-      (both (ap not runs) (both (ap (λ x. is_queued x.standing) (stand_self w.tasks c Queued))
+      (both (ap not runs) (both (ap (λ x. is_queued x.standing) (stand_self p w.tasks c Queued))
         (ap (calls_owner is_timed not p.owner (record { tasks = stand (numbered p).store w.tasks c Queued; size = p.size; line = c ∷ [] }))
-          (ap p.ops.offer (stand_local w.tasks c c Queued) ∙ q) ∙
+          (ap p.ops.offer (stand_local p w.tasks c c Queued) ∙ q) ∙
           both timed (stand_open w.tasks c (p.owner e) Queued refl (split h).1))))
-      (ap (call_event (λ f i. T c f i)) (ap p.ops.offer (stand_local w.tasks c c Queued) ∙ q))
+      (ap (call_event (λ f i. T c f i)) (ap p.ops.offer (stand_local p w.tasks c c Queued) ∙ q))
       (λ r i. record { seats = freed_stand (p.ops.took_delay 1) w.tasks c Queued i; line = without_self c i; ended = w.ended })
 
   -- a rendezvous can start of a caller that is alone in its queue, or calls at a condition where nobody is queued
@@ -203,14 +191,6 @@ module _ {L : Type 0} (p : Program L) where
       conditional : (is_live (s.seats c).standing ≡ true) × (is_conditional form ≡ true) × (s.line ≡ []) →
         (is_first c (queue_of p.ops (seen (numbered p) s) e j) || ((is_live (s.seats c).standing && is_conditional form) && is_empty (queue_of p.ops (seen (numbered p) s) e j))) ≡ true
       conditional (k, l, nobody) = or_right _ _ (both (both k l) (ap (λ xs. is_empty (filter (queues_at p.ops (seen (numbered p) s) e j) xs)) nobody))
-
-  -- who calls does not wait
-  two_tasks : (w : World L) (c o e : ℕ) (j : ℤ) → calls_in is_any_form e j (p.ops.offer (w.tasks c).local) ≡ true →
-    waits_with (opens e j) (p.ops.offer (w.tasks o).local) ≡ true → c ≡ o → ⊥
-  two_tasks w c o e j h k q =
-    let (form, r, passes) = calls_is is_any_form e j (p.ops.offer (w.tasks c).local) h in
-    let wait : waits_with (opens e j) (Calls form e j) ≡ true = ap (waits_with (opens e j)) (sym r) ∙ ap (λ u. waits_with (opens e j) (p.ops.offer (w.tasks u).local)) q ∙ k in
-    true≢false (sym wait)
 
   abbrev queued_state : World L → ℕ → State (ℕ → Seat L)
   queued_state w c = record { seats = stand (numbered p).store w.tasks c Queued; line = c ∷ []; ended = w.ended }
@@ -234,11 +214,15 @@ module _ {L : Type 0} (p : Program L) where
     owner_free : is_live (w.tasks o).standing ≡ true
     owner_free = (and_parts (is_live (w.tasks o).standing) _ (and_parts (offers p.ops (calls_in is_any_form e j) (w.tasks c)) _ h).1).0
 
+    same_task : c ≡ o → ⊥
+    same_task q = calls_waits is_any_form (opens e j) e j (p.ops.offer (w.tasks c).local) called
+      (subst (λ v. waits_with (opens e j) (p.ops.offer (w.tasks v).local) ≡ true) (sym q) waited)
+
     caller_other : (c == o) ≡ false
-    caller_other = ne_eqb c o (two_tasks w c o e j called waited)
+    caller_other = ne_eqb c o same_task
 
     owner_other : (o == c) ≡ false
-    owner_other = ne_eqb o c (λ q. two_tasks w c o e j called waited (sym q))
+    owner_other = ne_eqb o c (λ q. same_task (sym q))
 
     owner_open : not (is_closed (w.tasks o).standing) ≡ true
     owner_open = ap (λ z. not (is_closed z)) (is-Live (w.tasks o).standing owner_free)
@@ -251,17 +235,17 @@ module _ {L : Type 0} (p : Program L) where
         (waiting_state w o)
         (λ i. record { seats = stand (numbered p).store w.tasks o (arrived_standing (k.1 i)); line = arrived_line o (k.1 i) []; ended = w.ended })
         (can_start (waiting_state w o) c e j form runs
-          (ap p.ops.offer (stand_local w.tasks o c Waiting) ∙ q)
-          (ap (λ x. is_waiting x.standing) (stand_self w.tasks o Waiting))
-          (ap (λ l. waits_with (opens e j) (p.ops.offer l)) (stand_local w.tasks o o Waiting) ∙ waited)
-          (inr (ap (λ x. is_live x.standing) (stand_other w.tasks o c Waiting caller_other) ∙ caller_free, conditional, refl)))
-        (ap (call_event (λ f i. R c f i)) (ap p.ops.offer (stand_local w.tasks o c Waiting) ∙ q))
+          (ap p.ops.offer (stand_local p w.tasks o c Waiting) ∙ q)
+          (ap (λ x. is_waiting x.standing) (stand_self p w.tasks o Waiting))
+          (ap (λ l. waits_with (opens e j) (p.ops.offer l)) (stand_local p w.tasks o o Waiting) ∙ waited)
+          (inr (ap (λ x. is_live x.standing) (stand_other p w.tasks o c Waiting caller_other) ∙ caller_free, conditional, refl)))
+        (ap (call_event (λ f i. R c f i)) (ap p.ops.offer (stand_local p w.tasks o c Waiting) ∙ q))
         (λ r. (λ i. record {
-          seats = met (numbered p) (stand (numbered p).store w.tasks o Waiting) c ((ap p.ops.offer (stand_local w.tasks o c Waiting) ∙ q) i);
+          seats = met (numbered p) (stand (numbered p).store w.tasks o Waiting) c ((ap p.ops.offer (stand_local p w.tasks o c Waiting) ∙ q) i);
           line = [];
           ended = w.ended;
         }) ∙ (λ i. record {
-          seats = met_same w.tasks (stand (numbered p).store w.tasks o Waiting) c e j (λ u. stand_local w.tasks o u Waiting) (λ u x y. stand_other w.tasks o u Waiting y) i;
+          seats = met_same w.tasks (stand (numbered p).store w.tasks o Waiting) c e j (λ u. stand_local p w.tasks o u Waiting) (λ u x y. stand_other p w.tasks o u Waiting y) i;
           line = [];
           ended = w.ended;
         }))
@@ -278,9 +262,9 @@ module _ {L : Type 0} (p : Program L) where
         }))
         (can_start (meeting_state w c o) c e j form runs
           (ap p.ops.offer (locals c) ∙ q)
-          (ap (λ x. is_waiting x.standing) (stand_self queued o Waiting))
+          (ap (λ x. is_waiting x.standing) (stand_self p queued o Waiting))
           (ap (λ l. waits_with (opens e j) (p.ops.offer l)) (locals o) ∙ waited)
-          (inl (ap (λ x. is_queued x.standing) (stand_other queued o c Waiting caller_other ∙ stand_self w.tasks c Queued), refl)))
+          (inl (ap (λ x. is_queued x.standing) (stand_other p queued o c Waiting caller_other ∙ stand_self p w.tasks c Queued), refl)))
         (ap (call_event (λ f i. R c f i)) (ap p.ops.offer (locals c) ∙ q))
         (λ r. (λ i. record {
           seats = met (numbered p) (stand (numbered p).store queued o Waiting) c ((ap p.ops.offer (locals c) ∙ q) i);
@@ -288,7 +272,7 @@ module _ {L : Type 0} (p : Program L) where
           ended = w.ended;
         }) ∙ (λ i. record {
           seats = met_same w.tasks (stand (numbered p).store queued o Waiting) c e j locals
-            (λ u x y. stand_other queued o u Waiting y ∙ stand_other w.tasks c u Queued x) i;
+            (λ u x y. stand_other p queued o u Waiting y ∙ stand_other p w.tasks c u Queued x) i;
           line = [];
           ended = w.ended;
         }))
@@ -300,12 +284,12 @@ module _ {L : Type 0} (p : Program L) where
         arrived : after (numbered p) (state_of w) (Arrive c) ≡ queued_state w c
         arrived = λ i. record { seats = stand (numbered p).store w.tasks c (arrived_standing (q i)); line = arrived_line c (q i) []; ended = w.ended }
         offer_there : p.ops.offer (queued o).local ≡ Waits (waits_is (opens e j) (p.ops.offer (w.tasks o).local) waited).0
-        offer_there = ap p.ops.offer (stand_local w.tasks c o Queued) ∙ (waits_is (opens e j) (p.ops.offer (w.tasks o).local) waited).1
+        offer_there = ap p.ops.offer (stand_local p w.tasks c o Queued) ∙ (waits_is (opens e j) (p.ops.offer (w.tasks o).local) waited).1
         second : can (numbered p) (queued_state w c) (Arrive o) ≡ true
-        second = both (ap not runs) (both (ap (λ x. is_live x.standing) (stand_other w.tasks c o Queued owner_other) ∙ owner_free)
+        second = both (ap not runs) (both (ap (λ x. is_live x.standing) (stand_other p w.tasks c o Queued owner_other) ∙ owner_free)
           (ap (arrives p.owner (seen (numbered p) (queued_state w c))) offer_there))
         locals : (u : ℕ) → (stand (numbered p).store queued o Waiting u).local ≡ (w.tasks u).local
-        locals u = stand_local queued o u Waiting ∙ stand_local w.tasks c u Queued
+        locals u = stand_local p queued o u Waiting ∙ stand_local p w.tasks c u Queued
 
     lift_start : IsLifted p w (Happen (R c e j) ∷ [])
     lift_start =
@@ -390,12 +374,12 @@ module _ {L : Type 0} (p : Program L) where
     ready = both
       (subst (λ z. others_can_end p.ops (seen (numbered p) z) m ≡ true) (sym ends)
         (same_others s.seats (stand (numbered p).store s.seats (suc m) Waiting) s.line m
-          (λ u l. stand_other s.seats (suc m) u Waiting (ne_eqb u (suc m) (λ e. omega arith))) r.ready))
+          (λ u l. stand_other p s.seats (suc m) u Waiting (ne_eqb u (suc m) (λ e. omega arith))) r.ready))
       (ap (λ z. can_end p.ops (z.seats (suc m))) ends ∙
-        or_right _ _ (both (ap (λ x. is_waiting x.standing) (stand_self s.seats (suc m) Waiting))
-          (ap (λ l. waits_with is_terminate (p.ops.offer l)) (stand_local s.seats (suc m) (suc m) Waiting ∙ ap (λ x. x.local) here) ∙ h)));
-    first = ap (λ z. z.seats 0) ends ∙ stand_other s.seats (suc m) 0 Waiting (ne_eqb 0 (suc m) (λ e. omega arith)) ∙ r.first;
-    later = λ u l. ap (λ z. z.seats u) ends ∙ stand_other s.seats (suc m) u Waiting (ne_eqb u (suc m) (λ e. omega arith)) ∙ r.later u (omega arith);
+        or_right _ _ (both (ap (λ x. is_waiting x.standing) (stand_self p s.seats (suc m) Waiting))
+          (ap (λ l. waits_with is_terminate (p.ops.offer l)) (stand_local p s.seats (suc m) (suc m) Waiting ∙ ap (λ x. x.local) here) ∙ h)));
+    first = ap (λ z. z.seats 0) ends ∙ stand_other p s.seats (suc m) 0 Waiting (ne_eqb 0 (suc m) (λ e. omega arith)) ∙ r.first;
+    later = λ u l. ap (λ z. z.seats u) ends ∙ stand_other p s.seats (suc m) u Waiting (ne_eqb u (suc m) (λ e. omega arith)) ∙ r.later u (omega arith);
   }
     where
       s : State (ℕ → Seat L)

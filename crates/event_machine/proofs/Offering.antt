@@ -85,3 +85,10 @@ module _ {L : Type 0} (ops : Ops L) (s : Seen L) (empty : s.line ≡ []) where
   no_caller Finishes = refl
   no_caller Ends = refl
   no_caller (Aborts x) = refl
+
+-- who calls does not wait
+pub calls_waits : (test : CallForm → Bool) (other : Choice → Bool) (e : ℕ) (i : ℤ) (o : Offer) → calls_in test e i o ≡ true → waits_with other o ≡ true → ⊥
+calls_waits test other e i o h k =
+  let (form, q, passes) = calls_is test e i o h in
+  let wait : waits_with other (Calls form e i) ≡ true = ap (waits_with other) (sym q) ∙ k in
+  true≢false (sym wait)

@@ -4,7 +4,8 @@ use Rattle.std.proofs.lemmas.Bool.{eqb-true}
 use Rattle.event_machine.specs.declared.Standing.{Standing}
 use Rattle.event_machine.specs.declared.Standing.TheVariants.{Live, Waiting, Queued, Served, Completed, Killed}
 use Rattle.event_machine.specs.Offers.{Offer, Nothing, Calls, Waits, Finishes, Ends, Aborts, waits_with, calls_in, is_finish, is_end}
-use Rattle.event_machine.specs.Seats.{is_live, is_waiting, is_queued, is_completed, is_closed, is_served, is_served_by}
+use Rattle.event_machine.specs.Seats.{is_live, is_waiting, is_queued, is_completed, is_closed, is_served, is_served_by, is_abnormal}
+use Rattle.event_machine.specs.Effects.{fallen}
 use Rattle.event_machine.specs.Rows.{is_first}
 use Rattle.event_machine.specs.Worlds.{still}
 
@@ -55,3 +56,46 @@ first_passes test c (x ∷ xs) h = go (test x) refl h (first_passes test c xs)
       (is_first c (filter test xs) ≡ true → test c ≡ true) → test c ≡ true
     go true e k rest = subst (λ y. test y ≡ true) (eqb-true x c k) e
     go false e k rest = rest k
+
+-- ---- who is served
+
+pub served_closed : (a : ℕ) (s : Standing) → is_served_by a s ≡ true → is_closed s ≡ is_abnormal s
+served_closed a Live h = refl
+served_closed a Waiting h = refl
+served_closed a Queued h = refl
+served_closed a (Served by abnormal) h = refl
+served_closed a Completed h = absurd (true≢false (sym h))
+served_closed a Killed h = absurd (true≢false (sym h))
+
+-- it is served by one alone
+pub served_one : (a b : ℕ) (s : Standing) → is_served_by a s ≡ true → is_served_by b s ≡ (a == b)
+served_one a b Live h = absurd (true≢false (sym h))
+served_one a b Waiting h = absurd (true≢false (sym h))
+served_one a b Queued h = absurd (true≢false (sym h))
+served_one a b (Served by abnormal) h = ap (λ x. x == b) (eqb-true by a h)
+served_one a b Completed h = absurd (true≢false (sym h))
+served_one a b Killed h = absurd (true≢false (sym h))
+
+pub served_served : (a : ℕ) (s : Standing) → is_served_by a s ≡ true → is_served s ≡ true
+served_served a Live h = absurd (true≢false (sym h))
+served_served a Waiting h = absurd (true≢false (sym h))
+served_served a Queued h = absurd (true≢false (sym h))
+served_served a (Served by abnormal) h = refl
+served_served a Completed h = absurd (true≢false (sym h))
+served_served a Killed h = absurd (true≢false (sym h))
+
+pub fallen_served_by : (a : ℕ) (closing s : Standing) → is_served_by a closing ≡ false → is_served_by a (fallen closing s) ≡ is_served_by a s
+fallen_served_by a closing Live h = h
+fallen_served_by a closing Waiting h = h
+fallen_served_by a closing Queued h = h
+fallen_served_by a closing (Served by abnormal) h = refl
+fallen_served_by a closing Completed h = refl
+fallen_served_by a closing Killed h = refl
+
+pub fallen_closed : (closing s : Standing) → is_closed closing ≡ true → is_closed (fallen closing s) ≡ true
+fallen_closed closing Live h = h
+fallen_closed closing Waiting h = h
+fallen_closed closing Queued h = h
+fallen_closed closing (Served by abnormal) h = refl
+fallen_closed closing Completed h = refl
+fallen_closed closing Killed h = refl
