@@ -6,4 +6,6 @@ pub mod Updates
 pub mod Erasing
 pub mod Offering
 pub mod Sound
+pub mod Agreeing
+pub mod Effected
 pub mod Lifting

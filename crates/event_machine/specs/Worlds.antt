@@ -1,6 +1,6 @@
 -- The machine without queues: no task waits or is queued, and what happens is one local step, or one event whose conditions hold of the tasks
 -- where they stand. Its effects are those of the table of actions.
-use Rattle.std.specs.Prelude.{◌≡◌, ℕ, ℤ, Bool, true, false, not, ◌&&◌, ◌||◌, ◌==◌, if◌then◌else◌, nat_lt, suc, pred, zero, List, [], ◌∷◌}
+use Rattle.std.specs.Prelude.{◌≡◌, ℕ, ℤ, Bool, true, false, not, ◌&&◌, ◌||◌, ◌==◌, if◌then◌else◌, nat_le, suc, pred, zero, List, [], ◌∷◌}
 use Rattle.event_machine.specs.declared.Standing.{Standing}
 use Rattle.event_machine.specs.declared.Standing.TheVariants.{Live, Waiting, Queued, Served, Completed, Killed}
 use Rattle.event_machine.specs.declared.Event.{Event}
@@ -95,7 +95,7 @@ needs p (T c e i) t = t == c
 needs p (F c e i) t = t == c
 needs p (X a) t = t == a
 needs p (B u x) t = t == u
-needs p Z t = nat_lt t p.size
+needs p Z t = nat_le t (pred p.size)
 
 -- The tasks that an event changes: its parties, the caller whose rendezvous ends, and, where it closes a task, that task and its callers.
 abbrev pub changes : {L : Type 0} → Ops L → (ℕ → ℕ) → (ℕ → Seat L) → Event → ℕ → Bool
