@@ -8,4 +8,6 @@ pub mod Offering
 pub mod Sound
 pub mod Agreeing
 pub mod Effected
+pub mod Stepping
+pub mod Following
 pub mod Lifting
