@@ -65,7 +65,7 @@ module _ {L : Type 0} (p : Program L) where
   served_not_live Killed h = refl
 
   -- the same seat is its own base
-  same_base : (base seat : Seat L) → base ≡ seat → IsRunOn p.ops base 0 seat
+  pub same_base : (base seat : Seat L) → base ≡ seat → IsRunOn p.ops base 0 seat
   same_base base seat e = record {
     standing = ap (λ x. x.standing) (sym e);
     steps = 0;

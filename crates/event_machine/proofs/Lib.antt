@@ -10,4 +10,5 @@ pub mod Agreeing
 pub mod Effected
 pub mod Stepping
 pub mod Following
+pub mod Walking
 pub mod Lifting
