@@ -45,14 +45,14 @@ module _ {L : Type 0} (p : Program L) where
   first_other tasks a acceptor [] u q = refl
   first_other tasks a acceptor (c ∷ callers) u q = put_other p tasks c (parted p.ops a acceptor (tasks c)) u (other_way c u q)
 
-  went_other : (tasks : ℕ → Seat L) (t x u : ℕ) → (u == t) ≡ false → went_on (numbered p) tasks t x u ≡ tasks u
+  pub went_other : (tasks : ℕ → Seat L) (t x u : ℕ) → (u == t) ≡ false → went_on (numbered p) tasks t x u ≡ tasks u
   went_other tasks t x u q = go (x == t)
     where
       go : (b : Bool) → if◌then◌else◌ {A = ℕ → Seat L} b tasks (freed (numbered p).store p.ops.passed tasks t) u ≡ tasks u
       go true = refl
       go false = freed_other p.ops.passed tasks t u q
 
-  released_other : (x : ℕ) (seat : Seat L) → is_served_by x seat.standing ≡ false → released p.ops x seat ≡ seat
+  pub released_other : (x : ℕ) (seat : Seat L) → is_served_by x seat.standing ≡ false → released p.ops x seat ≡ seat
   released_other x seat q = ap (λ b. if b then (if is_abnormal seat.standing then completed seat.local else live (p.ops.raised seat.local)) else seat) q
 
   abort_other : (tasks : ℕ → Seat L) (t x u : ℕ) → (u == t) ≡ false → (not (is_closed (tasks x).standing) && ((u == x) || is_served_by x (tasks u).standing)) ≡ false →
@@ -155,7 +155,7 @@ module _ {L : Type 0} (p : Program L) where
   fall_free closing Completed h k = absurd (true≢false h)
   fall_free closing Killed h k = absurd (true≢false h)
 
-  unserved_by : (x : ℕ) (s : Standing) → is_served s ≡ false → is_served_by x s ≡ false
+  pub unserved_by : (x : ℕ) (s : Standing) → is_served s ≡ false → is_served_by x s ≡ false
   unserved_by x Live h = refl
   unserved_by x Waiting h = refl
   unserved_by x Queued h = refl
@@ -164,7 +164,7 @@ module _ {L : Type 0} (p : Program L) where
   unserved_by x Killed h = refl
 
   -- another task that is free is killed by an abort
-  killed_at : (tasks : ℕ → Seat L) (t x : ℕ) → (x == t) ≡ false → is_closed (tasks x).standing ≡ false → is_served (tasks x).standing ≡ false →
+  pub killed_at : (tasks : ℕ → Seat L) (t x : ℕ) → (x == t) ≡ false → is_closed (tasks x).standing ≡ false → is_served (tasks x).standing ≡ false →
     abort_seats (numbered p) tasks t x x ≡ record { local = (tasks x).local; standing = Killed }
   killed_at tasks t x other open' unserved =
     ap (λ b. if◌then◌else◌ {A = ℕ → Seat L} b went (aborted (numbered p) went x (if x == t then Completed else Killed)) x) open' ∙

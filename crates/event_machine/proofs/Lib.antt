@@ -11,4 +11,5 @@ pub mod Effected
 pub mod Stepping
 pub mod Following
 pub mod Walking
+pub mod Killing
 pub mod Lifting

@@ -28,6 +28,7 @@ module _ {L : Type 0} (p : Program L) (IsProper : L → Type 0) (lawful : IsLawf
     callers = λ a c k.
       ap (times c) (keeps a (sym (ap is_closed (standing a)) ∙ k)).1 ∙ sound.callers a c (sym (ap is_closed (standing a)) ∙ k) ∙
       ap (λ z. if is_served_by a z then 1 else 0) (sym (standing c));
+    itself = λ a. ap (is_served_by a) (standing a) ∙ sound.itself a;
     proper = λ a k. (keeps a (sym (ap is_closed (standing a)) ∙ k)).0;
   }
 
@@ -63,6 +64,7 @@ module _ {L : Type 0} (p : Program L) (IsProper : L → Type 0) (lawful : IsLawf
   sound_completed tasks a sound free none = record {
     closed = λ b c k. served b c ∙ closed_before b c (b == a) refl k;
     callers = λ b c k. callers_before b c (b == a) refl k ∙ ap (λ z. if z then 1 else 0) (sym (served b c));
+    itself = λ b. served b b ∙ sound.itself b;
     proper = λ b k. proper_before b (b == a) refl k;
   }
     where
@@ -172,9 +174,14 @@ module _ {L : Type 0} (p : Program L) (IsProper : L → Type 0) (lawful : IsLawf
       closed = λ a u k. met_unchanged a u (ne_eqb o a (λ q. true≢false (sym k ∙ met_closed a ∙
         ap (λ v. is_closed (tasks v).standing) (sym q) ∙ live_open (tasks o).standing owner_free))) ∙ sound.closed a u (sym (met_closed a) ∙ k);
       callers = λ a u k. met_callers a u (sym (met_closed a) ∙ k);
+      itself = λ a. met_served a a ∙ alone a (a == c) refl;
       proper = met_each (λ a seat. is_closed seat.standing ≡ false → IsProper seat.local)
         (λ k. sound.proper c (live_open (tasks c).standing caller_free)) (λ k. accepts.0) (λ a q r k. sound.proper a k);
     }
+      where
+        alone : (a : ℕ) (b : Bool) → (a == c) ≡ b → (if b then o == a else is_served_by a (tasks a).standing) ≡ false
+        alone a true q = ne_eqb o a (λ r. eqb-false c o apart (sym (r ∙ eqb-true a c q)))
+        alone a false q = sound.itself a
 
   -- ---- a caller is let go
 
@@ -304,6 +311,7 @@ module _ {L : Type 0} (p : Program L) (IsProper : L → Type 0) (lawful : IsLawf
     sound_both = record {
       closed = λ b u k. both_unserved b u (sound.closed b u (sym (both_closed b) ∙ k));
       callers = λ b u k. both_callers b u (sym (both_closed b) ∙ k);
+      itself = λ b. both_unserved b b (sound.itself b);
       proper = λ b k. go b (a == b) refl (sym (both_closed b) ∙ k);
     }
       where
@@ -384,12 +392,16 @@ module _ {L : Type 0} (p : Program L) (IsProper : L → Type 0) (lawful : IsLawf
       callers = λ b u k. let q = open_other b k in
         ap (times u) (abort_keeps b q (sym (abort_closed b q) ∙ k)).1 ∙ sound.callers b u (sym (abort_closed b q) ∙ k) ∙
         ap (λ z. if z then 1 else 0) (sym (abort_unchanged b u q));
+      itself = λ b. alone b (b == x) refl;
       proper = λ b k. let q = open_other b k in (abort_keeps b q (sym (abort_closed b q) ∙ k)).0;
     }
       where
         closed_at : (b u : ℕ) (d : Bool) → (b == x) ≡ d → is_closed (after_abort b).standing ≡ true → is_served_by b (after_abort u).standing ≡ false
         closed_at b u true q k = subst (λ v. is_served_by v (after_abort u).standing ≡ false) (sym (eqb-true b x q)) (abort_unserved u)
         closed_at b u false q k = abort_unchanged b u q ∙ sound.closed b u (sym (abort_closed b q) ∙ k)
+        alone : (b : ℕ) (d : Bool) → (b == x) ≡ d → is_served_by b (after_abort b).standing ≡ false
+        alone b true q = subst (λ v. is_served_by v (after_abort b).standing ≡ false) (sym (eqb-true b x q)) (abort_unserved b)
+        alone b false q = abort_unchanged b b q ∙ sound.itself b
 
   sound_went : (tasks : ℕ → Seat L) (t x : ℕ) → IsSound p.ops IsProper tasks → (tasks t).standing ≡ Live → IsSound p.ops IsProper (went_on (numbered p) tasks t x)
   sound_went tasks t x sound free = go (x == t)
