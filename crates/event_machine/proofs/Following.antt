@@ -129,10 +129,10 @@ module _ {L : Type 0} (p : Program L) where
 
     module _ (bases w : World L) (count : ℕ → ℕ) (e : Event) (f : Follows p bases w count) where
       -- the free tasks that the event needs, run on by their counts
-      abbrev steps_to : ℕ → ℕ
+      abbrev pub steps_to : ℕ → ℕ
       steps_to t = if needs p e t && is_live (bases.tasks t).standing then count t else 0
 
-      abbrev found : ℕ → Seat L
+      abbrev pub found : ℕ → Seat L
       found = run_on p.ops steps_to bases.tasks
 
       steps_needed : (t : ℕ) → needs p e t ≡ true → (bases.tasks t).standing ≡ Live → steps_to t ≡ count t
@@ -141,7 +141,7 @@ module _ {L : Type 0} (p : Program L) where
       steps_none : (t : ℕ) → (needs p e t && is_live (bases.tasks t).standing) ≡ false → steps_to t ≡ 0
       steps_none t k = ap (λ b. if b then count t else 0) k
 
-      agrees : AgreesFor p e w.tasks found
+      pub agrees : AgreesFor p e w.tasks found
       agrees = record {
         standing = λ t. sym (f.each t).standing;
         needed = λ t k free. seat_path

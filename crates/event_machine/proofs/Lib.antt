@@ -12,4 +12,6 @@ pub mod Stepping
 pub mod Following
 pub mod Walking
 pub mod Killing
+pub mod Bases
+pub mod Returning
 pub mod Lifting

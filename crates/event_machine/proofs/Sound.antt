@@ -21,7 +21,7 @@ use Rattle.event_machine.proofs.Offering.{finish_is, end_is, calls_waits}
 module _ {L : Type 0} (p : Program L) (IsProper : L → Type 0) (lawful : IsLawful p.ops IsProper) where
   -- ---- tasks that stand as before, with the callers that they had
 
-  sound_same : (tasks others : ℕ → Seat L) → IsSound p.ops IsProper tasks → ((u : ℕ) → (others u).standing ≡ (tasks u).standing) →
+  pub sound_same : (tasks others : ℕ → Seat L) → IsSound p.ops IsProper tasks → ((u : ℕ) → (others u).standing ≡ (tasks u).standing) →
     ((u : ℕ) → is_closed (tasks u).standing ≡ false → Keeps p.ops IsProper (tasks u).local (others u).local) → IsSound p.ops IsProper others
   sound_same tasks others sound standing keeps = record {
     closed = λ a c k. ap (is_served_by a) (standing c) ∙ sound.closed a c (sym (ap is_closed (standing a)) ∙ k);
@@ -425,7 +425,7 @@ module _ {L : Type 0} (p : Program L) (IsProper : L → Type 0) (lawful : IsLawf
       go false = sound_aborted (went_on (numbered p) tasks t x) x (if x == t then Completed else Killed) (sound_went tasks t x sound free)
         (closes (x == t)) (λ a. serves a (x == t))
 
-  sound_acted : (tasks : ℕ → Seat L) (e : Event) → IsSound p.ops IsProper tasks → happens p tasks e ≡ true → IsSound p.ops IsProper (acted (numbered p) tasks e)
+  pub sound_acted : (tasks : ℕ → Seat L) (e : Event) → IsSound p.ops IsProper tasks → happens p tasks e ≡ true → IsSound p.ops IsProper (acted (numbered p) tasks e)
   sound_acted tasks (R c e i) sound h =
     let called = and_parts (is_live (tasks c).standing) (calls_in is_any_form e i (p.ops.offer (tasks c).local)) (split h).0 in
     let waited = and_parts (is_live (tasks (p.owner e)).standing) (waits_with (opens e i) (p.ops.offer (tasks (p.owner e)).local))
