@@ -199,3 +199,58 @@ module _ {L : Type 0} (p : Program L) (IsProper : L → Type 0) (lawful : IsLawf
       zero_counts = λ h t. ap (λ (c : ℕ → ℕ). c t) (counts_append p w walked.moves (Happen e ∷ []) (λ u. 0)) ∙ none_left (not_false (is_last e) (split h).0) t;
       numbers = subst (HasNumbers next) (sym (world_append p w walked.moves (Happen e ∷ []))) numbers_there;
     }
+
+  -- all victims on the way
+  abbrev pub CanKillAll : (events : List Event) (w last : World L) → Leads p w events last → Type 0
+  CanKillAll [] w last h = Unit {0}
+  CanKillAll (e ∷ events) w last (next, f, h) = CanKill w e × CanKillAll events next last h
+
+  -- behind the end of the program nothing happens
+  ended_nothing : (events : List Event) (w last : World L) → w.ended ≡ true → Leads p w events last → events ≡ []
+  ended_nothing [] w last e h = refl
+  ended_nothing (x ∷ events) w last e (next, f, h) = absurd (true≢false (sym e ∙ f.runs))
+
+  return_on : {w next last : World L} {events : List Event} (e : Event) (r : Return w next (e ∷ [])) → is_last e ≡ false →
+    Return (world_after p w r.moves) last events → Return w last (e ∷ events)
+  return_on {w} {next} {last} {events} e r more s = record {
+    moves = r.moves ++ s.moves;
+    made = moves_append p w r.moves s.moves r.made s.made;
+    events_are = happened_append r.moves s.moves ∙ ap₂ (λ xs ys. xs ++ ys) r.events_are s.events_are;
+    follows = subst (λ v. Follows p last v (counts_after p w (r.moves ++ s.moves) (λ t. 0))) (sym (world_append p w r.moves s.moves))
+      (subst (Follows p last (world_after p (world_after p w r.moves) s.moves)) (sym counts) s.follows);
+    zero_counts = λ h t. ap (λ (c : ℕ → ℕ). c t) counts ∙ s.zero_counts (split h).1 t;
+    numbers = subst (HasNumbers last) (sym (world_append p w r.moves s.moves)) s.numbers;
+  }
+    where
+      none : counts_after p w r.moves (λ t. 0) ≡ (λ t. 0)
+      none = λ i t. r.zero_counts (both (ap not more) refl) t i
+      counts : counts_after p w (r.moves ++ s.moves) (λ t. 0) ≡ counts_after p (world_after p w r.moves) s.moves (λ t. 0)
+      counts = counts_append p w r.moves s.moves (λ t. 0) ∙ ap (counts_after p (world_after p w r.moves) s.moves) none
+
+  -- Moves from a world at the bases that have all these events, to one at the bases behind them, with each killed task run on by its number.
+  pub lead_back : (events : List Event) (bases last w : World L) (h : Leads p bases events last) → CanKillAll events bases last h → IsBase p IsProper lawful bases →
+    Follows p bases w (λ t. 0) → IsSound p.ops IsProper w.tasks → HasNumbers bases w → Return w last events
+  lead_back [] bases last w h kill base at sound has = record {
+    moves = [];
+    made = tt;
+    events_are = refl;
+    follows = subst (λ v. Follows p v w (λ t. 0)) h at;
+    zero_counts = λ k t. refl;
+    numbers = subst (λ v. HasNumbers v w) h has;
+  }
+  lead_back (e ∷ events) bases last w (next, f, h) kill base at sound has =
+    let r : Return w next (e ∷ []) = happen_back f base w at sound has kill.0 in
+    ⊎_elim
+      (λ end'.
+        let none : events ≡ [] = ended_nothing events next last (ap (λ (v : World L). v.ended) f.becomes ∙ ap (λ b. b || bases.ended) end') h in
+        subst (λ es. Return w last (e ∷ es)) (sym none) (subst (λ v. Return w v (e ∷ [])) (subst (λ es. Leads p next es last) none h) r))
+      (λ more. return_on e r more (lead_back events next last (world_after p w r.moves) h kill.1 (base_fires p IsProper lawful f base)
+        (subst (Follows p next (world_after p w r.moves)) (λ i t. r.zero_counts (both (ap not more) refl) t i) r.follows)
+        (sound_moves p IsProper lawful r.moves w sound r.made) r.numbers))
+      (cases_Bool (is_last e))
+
+  -- while the program has not ended
+  pub leads_open : (events : List Event) (w last : World L) → HasNoEnd events → w.ended ≡ false → Leads p w events last → last.ended ≡ false
+  leads_open [] w last h runs k = ap (λ (v : World L). v.ended) (sym k) ∙ runs
+  leads_open (e ∷ events) w last h runs (next, f, k) =
+    leads_open events next last (split h).1 (ap (λ (v : World L). v.ended) f.becomes ∙ ap (λ b. b || w.ended) (not_false (is_last e) (split h).0) ∙ runs) k
