@@ -14,4 +14,5 @@ pub mod Walking
 pub mod Killing
 pub mod Bases
 pub mod Returning
+pub mod Reaching
 pub mod Lifting
