@@ -22,10 +22,15 @@ pub other_way : (m n : ℕ) → (m == n) ≡ false → (n == m) ≡ false
 other_way m n h = ne_eqb n m (λ q. eqb-false m n h (sym q))
 
 module _ {L : Type 0} (p : Program L) where
-  -- The tasks stand alike, and those that the event needs, where they are free, and those that are served are the same.
-  pub record AgreesFor (e : Event) (tasks others : ℕ → Seat L) : Type 0 where
+  -- The tasks stand alike, and those that the event needs, where they are free, are the same.
+  pub record ReadsSame (e : Event) (tasks others : ℕ → Seat L) : Type 0 where
     pub standing : (t : ℕ) → (others t).standing ≡ (tasks t).standing
     pub needed : (t : ℕ) → needs p e t ≡ true → (tasks t).standing ≡ Live → others t ≡ tasks t
+
+  -- Those that are served are the same, too.
+  pub record AgreesFor (e : Event) (tasks others : ℕ → Seat L) : Type 0 where
+    pub reads : ReadsSame e tasks others
+    pub open reads use *
     pub served : (t : ℕ) → is_served (tasks t).standing ≡ true → others t ≡ tasks t
 
   -- ---- conditions
@@ -46,7 +51,7 @@ module _ {L : Type 0} (p : Program L) where
       (ap₂ (λ a b. a || b) (ap is_completed (stand' (suc n)))
         (offers_same (waits_with is_terminate) (tasks (suc n)) (others (suc n)) (stand' (suc n)) (same' (suc n) (omega arith))))
 
-  pub happens_same : (e : Event) (tasks others : ℕ → Seat L) → AgreesFor e tasks others → happens p others e ≡ happens p tasks e
+  pub happens_same : (e : Event) (tasks others : ℕ → Seat L) → ReadsSame e tasks others → happens p others e ≡ happens p tasks e
   happens_same (R c e i) tasks others h = ap₂ (λ a b. a && b)
     (offers_same (calls_in is_any_form e i) (tasks c) (others c) (h.standing c) (h.needed c (or_left _ _ (equal_self c))))
     (offers_same (waits_with (opens e i)) (tasks (p.owner e)) (others (p.owner e)) (h.standing (p.owner e)) (h.needed (p.owner e) (or_right _ _ (equal_self (p.owner e)))))

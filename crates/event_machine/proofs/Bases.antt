@@ -18,7 +18,7 @@ use Rattle.event_machine.proofs.Stills.{still_acted}
 use Rattle.event_machine.proofs.Sound.{sound_same, sound_acted}
 use Rattle.event_machine.proofs.Effected.{unchanged}
 use Rattle.event_machine.proofs.Following.{serving}
-use Rattle.event_machine.proofs.Killing.{needs_changes, completed_stays}
+use Rattle.event_machine.proofs.Killing.{is_victim, needs_changes, completed_stays, victim_changes, victim_falls, victim_needless}
 
 module _ {L : Type 0} (p : Program L) where
   -- ---- the tasks that an event finds
@@ -124,3 +124,12 @@ module _ {L : Type 0} (p : Program L) where
     completed_leads (e ∷ events) w last (next, f, h) base t k =
       let s = completed_fires f base t k in
       completed_leads events next last h (base_fires f base) t (ap (λ (x : Seat L). is_completed x.standing) s ∙ k) ∙ s
+
+    -- the victim of an abort is killed for good, at its base
+    pub victim_killed : {w next : World L} {e : Event} (f : Fires p w e next) (t : ℕ) → is_victim e t ≡ true → (w.tasks t).standing ≡ Live →
+      next.tasks t ≡ record { local = (w.tasks t).local; standing = Killed }
+    victim_killed {w} {next} {e} f t h free = ⊎_elim
+      (λ last. absurd (true≢false (sym (victim_changes p e (run_on p.ops f.steps w.tasks) t h (ap is_closed free)) ∙ last_tasks f e (run_on p.ops f.steps w.tasks) t last)))
+      (λ more. ap (λ (g : ℕ → Seat L). g t) (next_tasks f more) ∙ victim_falls p e (run_on p.ops f.steps w.tasks) t h free ∙
+        ap (λ (x : Seat L). record { local = x.local; standing = Killed }) (found_idle f t (victim_needless p e t h)))
+      (cases_Bool (is_last e))

@@ -40,7 +40,7 @@ module _ {L : Type 0} (p : Program L) where
 
   -- ---- counts
 
-  counts_served : (s : Standing) (n m : ℕ) → is_served s ≡ true → CountsFor s n m → m ≡ 0
+  pub counts_served : (s : Standing) (n m : ℕ) → is_served s ≡ true → CountsFor s n m → m ≡ 0
   counts_served Live n m h c = absurd (true≢false (sym h))
   counts_served Waiting n m h c = absurd (true≢false (sym h))
   counts_served Queued n m h c = absurd (true≢false (sym h))
@@ -143,13 +143,15 @@ module _ {L : Type 0} (p : Program L) where
 
       pub agrees : AgreesFor p e w.tasks found
       agrees = record {
-        standing = λ t. sym (f.each t).standing;
-        needed = λ t k free. seat_path
-          (let live_base : (bases.tasks t).standing ≡ Live = sym (f.each t).standing ∙ free in
-            ap (λ n. ran p.ops n (bases.tasks t).local)
-              (steps_needed t k live_base ∙ sym (subst (λ s. CountsFor s (count t) (f.each t).steps) live_base (f.each t).counted)) ∙
-            sym (f.each t).local)
-          (sym (f.each t).standing);
+        reads = record {
+          standing = λ t. sym (f.each t).standing;
+          needed = λ t k free. seat_path
+            (let live_base : (bases.tasks t).standing ≡ Live = sym (f.each t).standing ∙ free in
+              ap (λ n. ran p.ops n (bases.tasks t).local)
+                (steps_needed t k live_base ∙ sym (subst (λ s. CountsFor s (count t) (f.each t).steps) live_base (f.each t).counted)) ∙
+              sym (f.each t).local)
+            (sym (f.each t).standing);
+        };
         served = λ t k. seat_path
           (let served_base : is_served (bases.tasks t).standing ≡ true = ap is_served (sym (f.each t).standing) ∙ k in
             ap (λ n. ran p.ops n (bases.tasks t).local)
@@ -164,7 +166,7 @@ module _ {L : Type 0} (p : Program L) where
         holds_here = (and_parts (not w.ended) (happens p w.tasks e) h).1
 
         holds_found : happens p found e ≡ true
-        holds_found = happens_same p e w.tasks found agrees ∙ holds_here
+        holds_found = happens_same p e w.tasks found agrees.reads ∙ holds_here
 
         fires : Fires p bases e (fired p steps_to bases e)
         fires = record {

@@ -1,7 +1,7 @@
 -- Which tasks an event kills, and that a completed or killed task is never changed again.
 use Rattle.std.proofs.Common.{◌≡◌, ℕ, zero, suc, Bool, true, false, not, ◌&&◌, ◌||◌, ◌==◌, if◌then◌else◌, List, [], ◌∷◌, refl, sym, ap, ◌∙◌, subst, inl, inr, ◌⊎◌, ⊎_elim, true≢false}
 use Rattle.std.specs.Prelude.{ℤ}
-use Rattle.std.proofs.lemmas.Bool.{eqb-true, ne_eqb, and_parts, or_from, or_cases, and_right, cases_Bool, false_from_ne_true}
+use Rattle.std.proofs.lemmas.Bool.{eqb-true, eqb-false, ne_eqb, and_parts, or_from, or_cases, and_right, cases_Bool, false_from_ne_true}
 use Rattle.event_machine.specs.declared.Standing.{Standing}
 use Rattle.event_machine.specs.declared.Standing.TheVariants.{Live, Waiting, Queued, Served, Completed, Killed}
 use Rattle.event_machine.specs.declared.Event.{Event}
@@ -266,3 +266,35 @@ module _ {L : Type 0} (p : Program L) where
       go false e = e
   newly_killed (B u x) tasks alone t k = abort_killed tasks u x t (alone x) k
   newly_killed Z tasks alone t k = inl k
+
+  -- The victim of an abort, where it is free, is killed where it is.
+  pub victim_falls : (e : Event) (tasks : ℕ → Seat L) (t : ℕ) → is_victim e t ≡ true → (tasks t).standing ≡ Live →
+    acted (numbered p) tasks e t ≡ record { local = (tasks t).local; standing = Killed }
+  victim_falls (R c e i) tasks t h free = absurd (true≢false (sym h))
+  victim_falls (E a) tasks t h free = absurd (true≢false (sym h))
+  victim_falls (S a) tasks t h free = absurd (true≢false (sym h))
+  victim_falls (D a j) tasks t h free = absurd (true≢false (sym h))
+  victim_falls (C c e i) tasks t h free = absurd (true≢false (sym h))
+  victim_falls (T c e i) tasks t h free = absurd (true≢false (sym h))
+  victim_falls (F c e i) tasks t h free = absurd (true≢false (sym h))
+  victim_falls (X a) tasks t h free = absurd (true≢false (sym h))
+  victim_falls (B u x) tasks t h free = subst (λ v. acted (numbered p) tasks (B u x) v ≡ record { local = (tasks v).local; standing = Killed })
+    (sym (eqb-true t x (split h).0))
+    (let here : (tasks x).standing ≡ Live = subst (λ v. (tasks v).standing ≡ Live) (eqb-true t x (split h).0) free in
+      killed_at p tasks u x (not_false (x == u) (split h).1) (ap is_closed here) (ap is_served here))
+  victim_falls Z tasks t h free = absurd (true≢false (sym h))
+
+-- the abort that has a victim
+pub victim_abort : (e : Event) (t : ℕ) → is_victim e t ≡ true → (u : ℕ) × (e ≡ B u t) × (u ≡ t → ⊥)
+victim_abort (R c e i) t h = absurd (true≢false (sym h))
+victim_abort (E a) t h = absurd (true≢false (sym h))
+victim_abort (S a) t h = absurd (true≢false (sym h))
+victim_abort (D a j) t h = absurd (true≢false (sym h))
+victim_abort (C c e i) t h = absurd (true≢false (sym h))
+victim_abort (T c e i) t h = absurd (true≢false (sym h))
+victim_abort (F c e i) t h = absurd (true≢false (sym h))
+victim_abort (X a) t h = absurd (true≢false (sym h))
+victim_abort (B u x) t h =
+  let q : t ≡ x = eqb-true t x (split h).0 in
+  (u, ap (B u) (sym q), λ r. eqb-false x u (not_false (x == u) (split h).1) (sym q ∙ sym r))
+victim_abort Z t h = absurd (true≢false (sym h))

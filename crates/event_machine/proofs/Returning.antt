@@ -120,7 +120,7 @@ module _ {L : Type 0} (p : Program L) (IsProper : L → Type 0) (lawful : IsLawf
     holds_before : happens p before.tasks e ≡ true
     holds_before =
       sym (happens_same p e before.tasks (run_on p.ops (steps_to p IsProper lawful bases before count e walked.follows) bases.tasks)
-        (agrees p IsProper lawful bases before count e walked.follows)) ∙
+        (agrees p IsProper lawful bases before count e walked.follows).reads) ∙
       ap (λ steps. happens p (run_on p.ops steps bases.tasks) e) (λ i t. same_steps t i) ∙ f.holds
 
     can_happen : can_move p before (Happen e) ≡ true
