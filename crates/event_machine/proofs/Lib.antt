@@ -15,4 +15,5 @@ pub mod Killing
 pub mod Bases
 pub mod Returning
 pub mod Reaching
+pub mod Resting
 pub mod Lifting
