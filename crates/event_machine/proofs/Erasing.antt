@@ -1,5 +1,5 @@
 -- Each run of the table is a list of moves without queues: what each action is there.
-use Rattle.std.proofs.Common.{◌≡◌, ℕ, zero, suc, pred, Bool, true, false, not, ◌&&◌, ◌||◌, ◌==◌, if◌then◌else◌, List, [], ◌∷◌, ◌++◌, Option, Some, None, option_to_list, refl, sym, ap, ap₂, ◌∙◌, subst, filter, inl, inr, ⊎_elim, true≢false, append-nil}
+use Rattle.std.proofs.Common.{◌≡◌, ℕ, zero, suc, pred, Bool, true, false, not, ◌&&◌, ◌||◌, ◌==◌, if◌then◌else◌, List, [], ◌∷◌, ◌++◌, Option, Some, None, option_to_list, refl, sym, ap, ap₂, ◌∙◌, subst, filter, inl, inr, ◌⊎◌, ⊎_elim, true≢false, append-nil}
 use Rattle.std.specs.Prelude.{ℤ, is_some}
 use Rattle.std.proofs.lemmas.Bool.{eqb-true, and_parts, or_cases, or_left, or_right}
 use Rattle.event_machine.specs.declared.CallForm.{CallForm}
@@ -22,6 +22,21 @@ use Rattle.event_machine.proofs.Basics.{split, both, push_if, seat_path, same_me
 use Rattle.event_machine.proofs.Standings.{is-Live, still_live, still_waiting, still_queued, first_passes}
 use Rattle.event_machine.proofs.Stills.{still_acted, still_changes, still_freed, still_closed, still_completed}
 use Rattle.event_machine.proofs.Appends.{moves_append, world_append, happened_append, counts_append}
+
+-- a local step, or an arrival
+abbrev pub is_silent : Action → Bool
+is_silent (Local t) = true
+is_silent (Arrive t) = true
+is_silent (Start c) = false
+is_silent (Finish a) = false
+is_silent (Else a) = false
+is_silent (Delay a k) = false
+is_silent (CallElse c) = false
+is_silent (Expire c) = false
+is_silent (Fail c) = false
+is_silent (Complete a) = false
+is_silent (Abort t) = false
+is_silent End = false
 
 module _ {L : Type 0} (p : Program L) where
   -- The action is this event, in a state.
@@ -165,6 +180,21 @@ module _ {L : Type 0} (p : Program L) where
   simple s action e event seats ended holds no_step =
     (e, record { event = event; seats = seats; ended = ended; holds = holds; no_step = no_step })
 
+  -- a local step and an arrival have no event
+  silent_event : (s : State (ℕ → Seat L)) (action : Action) → is_silent action ≡ true → event_of (numbered p) s action ≡ None
+  silent_event s (Local t) h = refl
+  silent_event s (Arrive t) h = refl
+  silent_event s (Start c) h = absurd (true≢false (sym h))
+  silent_event s (Finish a) h = absurd (true≢false (sym h))
+  silent_event s (Else a) h = absurd (true≢false (sym h))
+  silent_event s (Delay a k) h = absurd (true≢false (sym h))
+  silent_event s (CallElse c) h = absurd (true≢false (sym h))
+  silent_event s (Expire c) h = absurd (true≢false (sym h))
+  silent_event s (Fail c) h = absurd (true≢false (sym h))
+  silent_event s (Complete a) h = absurd (true≢false (sym h))
+  silent_event s (Abort t) h = absurd (true≢false (sym h))
+  silent_event s End h = absurd (true≢false (sym h))
+
   -- ---- the moves of an action
 
   pub event_world : (s : State (ℕ → Seat L)) (action : Action) (e : Event) → IsEvent s action e →
@@ -248,28 +278,29 @@ module _ {L : Type 0} (p : Program L) where
     let l = and_parts (is_end (p.ops.offer (s.seats 0).local)) _ k.1 in
     simple s End Z refl refl refl (both (both (still_live (s.seats 0).standing k.0) l.0) (others_row s (pred p.size) l.1)) (λ t. refl)
 
-  rows : (s : State (ℕ → Seat L)) (action : Action) (e : Event) → row p.ops p.owner (seen (numbered p) s) action ≡ true →
-    event_of (numbered p) s action ≡ Some e → (f : Event) × IsEvent s action f
-  rows s (Local t) e h q = absurd (none_some q)
-  rows s (Arrive t) e h q = absurd (none_some q)
-  rows s (Start c) e h q = start_row s c h
-  rows s (Finish a) e h q = finish_row s a h
-  rows s (Else a) e h q = take_else_row s a h
-  rows s (Delay a k) e h q = delay_row s a k h
-  rows s (CallElse c) e h q = else_row s c h
-  rows s (Expire c) e h q = expire_row s c h
-  rows s (Fail c) e h q = fail_row s c h
-  rows s (Complete a) e h q = complete_row s a h
-  rows s (Abort t) e h q = abort_row s t h
-  rows s End e h q = end_row s h
+  -- each action but a local step and an arrival has an event
+  pub event_or_silent : (s : State (ℕ → Seat L)) (action : Action) → row p.ops p.owner (seen (numbered p) s) action ≡ true →
+    ((e : Event) × IsEvent s action e) ⊎ (is_silent action ≡ true)
+  event_or_silent s (Local t) h = inr refl
+  event_or_silent s (Arrive t) h = inr refl
+  event_or_silent s (Start c) h = inl (start_row s c h)
+  event_or_silent s (Finish a) h = inl (finish_row s a h)
+  event_or_silent s (Else a) h = inl (take_else_row s a h)
+  event_or_silent s (Delay a k) h = inl (delay_row s a k h)
+  event_or_silent s (CallElse c) h = inl (else_row s c h)
+  event_or_silent s (Expire c) h = inl (expire_row s c h)
+  event_or_silent s (Fail c) h = inl (fail_row s c h)
+  event_or_silent s (Complete a) h = inl (complete_row s a h)
+  event_or_silent s (Abort t) h = inl (abort_row s t h)
+  event_or_silent s End h = inl (end_row s h)
 
   -- the events of the actions that have one
   pub event_row : (s : State (ℕ → Seat L)) (action : Action) (e : Event) → can (numbered p) s action ≡ true → event_of (numbered p) s action ≡ Some e →
     IsEvent s action e
-  event_row s action e h q = the_same action (rows s action e (split h).1 q) q
+  event_row s action e h q = ⊎_elim the_same (λ k. absurd (none_some (sym (silent_event s action k) ∙ q))) (event_or_silent s action (split h).1)
     where
-      the_same : (action : Action) → (f : Event) × IsEvent s action f → event_of (numbered p) s action ≡ Some e → IsEvent s action e
-      the_same action (f, k) q = let r : f ≡ e = some_path (sym k.event ∙ q) in subst (IsEvent s action) r k
+      the_same : (f : Event) × IsEvent s action f → IsEvent s action e
+      the_same (f, k) = let r : f ≡ e = some_path (sym k.event ∙ q) in subst (IsEvent s action) r k
 
   pub erased_step : (s : State (ℕ → Seat L)) (action : Action) → can (numbered p) s action ≡ true → IsErasedStep s action
   erased_step s (Local t) h = local_step s t h

@@ -16,4 +16,5 @@ pub mod Bases
 pub mod Returning
 pub mod Reaching
 pub mod Resting
+pub mod Patience
 pub mod Lifting
