@@ -17,4 +17,5 @@ pub mod Returning
 pub mod Reaching
 pub mod Resting
 pub mod Patience
+pub mod Determining
 pub mod Lifting

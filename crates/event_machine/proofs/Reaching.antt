@@ -28,13 +28,13 @@ module _ {L : Type 0} (p : Program L) (IsProper : L → Type 0) (lawful : IsLawf
   -- ---- the opening state
 
   -- each task is live and serves nobody, or has completed
-  start_each : (P : ℕ → Standing → Type 0) → ((t : ℕ) → t < p.size → P t Live) → ((t : ℕ) → p.size ≤ t → P t Completed) → (t : ℕ) → P t (s.seats t).standing
+  pub start_each : (P : ℕ → Standing → Type 0) → ((t : ℕ) → t < p.size → P t Live) → ((t : ℕ) → p.size ≤ t → P t Completed) → (t : ℕ) → P t (s.seats t).standing
   start_each P at_live at_end t = ⊎_elim
     (λ (l : t < p.size). subst (P t) (sym (opening.live t l)) (at_live t l))
     (λ (l : p.size ≤ t). subst (P t) (sym (opening.beyond t l)) (at_end t l))
     (cases_lt t p.size)
 
-  start_still : (t : ℕ) → still (s.seats t).standing ≡ (s.seats t).standing
+  pub start_still : (t : ℕ) → still (s.seats t).standing ≡ (s.seats t).standing
   start_still = start_each (λ t z. still z ≡ z) (λ t l. refl) (λ t l. refl)
 
   start_unserved : (a t : ℕ) → is_served_by a (s.seats t).standing ≡ false
