@@ -18,4 +18,5 @@ pub mod Reaching
 pub mod Resting
 pub mod Patience
 pub mod Determining
+pub mod Choosing
 pub mod Lifting
