@@ -19,4 +19,5 @@ pub mod Resting
 pub mod Patience
 pub mod Determining
 pub mod Choosing
+pub mod Listing
 pub mod Lifting
