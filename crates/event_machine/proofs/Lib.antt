@@ -20,4 +20,5 @@ pub mod Patience
 pub mod Determining
 pub mod Choosing
 pub mod Listing
+pub mod Joining
 pub mod Lifting

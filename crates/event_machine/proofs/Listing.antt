@@ -45,13 +45,13 @@ module _ {L : Type 0} (p : Program L) where
 
   -- ---- effects
 
-  view_freed : (f : L → L) (seats : List (Seat L)) (t : ℕ) → t < length seats → view (freed (listed p).store f seats t) ≡ freed (numbered p).store f (view seats) t
+  pub view_freed : (f : L → L) (seats : List (Seat L)) (t : ℕ) → t < length seats → view (freed (listed p).store f seats t) ≡ freed (numbered p).store f (view seats) t
   view_freed f seats t l = view_put seats t (live (f (view seats t).local)) (inl l)
 
-  view_stand : (seats : List (Seat L)) (t : ℕ) (z : Standing) → t < length seats → view (stand (listed p).store seats t z) ≡ stand (numbered p).store (view seats) t z
+  pub view_stand : (seats : List (Seat L)) (t : ℕ) (z : Standing) → t < length seats → view (stand (listed p).store seats t z) ≡ stand (numbered p).store (view seats) t z
   view_stand seats t z l = view_put seats t (record { local = (view seats t).local; standing = z }) (inl l)
 
-  view_met : (seats : List (Seat L)) (c e : ℕ) (i : ℤ) → c < length seats → p.owner e < length seats → view (met_at (listed p) seats c e i) ≡ met_at (numbered p) (view seats) c e i
+  pub view_met : (seats : List (Seat L)) (c e : ℕ) (i : ℤ) → c < length seats → p.owner e < length seats → view (met_at (listed p) seats c e i) ≡ met_at (numbered p) (view seats) c e i
   view_met seats c e i lc lo =
     let opened : List (Seat L) = freed (listed p).store (p.ops.accepted e i c (view seats c).local) seats (p.owner e) in
     view_stand opened c (Served (p.owner e) false) (subst (λ n. c < n) (sym (length-set seats (p.owner e) (live (p.ops.accepted e i c (view seats c).local (view seats (p.owner e)).local)))) lc) ∙
@@ -65,7 +65,7 @@ module _ {L : Type 0} (p : Program L) where
     (λ (l : length seats ≤ c). inr (ap (parted p.ops a acceptor) (get_or_past seats c gone l)))
     (cases_lt c (length seats)))
 
-  view_both : (seats : List (Seat L)) (a : ℕ) → a < length seats → view (parted_both (listed p) seats a) ≡ parted_both (numbered p) (view seats) a
+  pub view_both : (seats : List (Seat L)) (a : ℕ) → a < length seats → view (parted_both (listed p) seats a) ≡ parted_both (numbered p) (view seats) a
   view_both seats a l =
     view_first a (view seats a).local (p.ops.callers (view seats a).local) (freed (listed p).store p.ops.finished seats a) ∙
     ap (released_first (numbered p) a (view seats a).local (p.ops.callers (view seats a).local)) (view_freed p.ops.finished seats a l)
@@ -87,7 +87,7 @@ module _ {L : Type 0} (p : Program L) where
     view_stand let_go x (fallen closing (view let_go x).standing) (subst (λ n. x < n) (sym (length-map seats (released p.ops x))) l) ∙
     ap (λ (w : ℕ → Seat L). stand (numbered p).store w x (fallen closing (w x).standing)) (view_each (released p.ops x) seats refl)
 
-  view_abort : (seats : List (Seat L)) (t x : ℕ) → t < length seats → view (abort_seats (listed p) seats t x) ≡ abort_seats (numbered p) (view seats) t x
+  pub view_abort : (seats : List (Seat L)) (t x : ℕ) → t < length seats → view (abort_seats (listed p) seats t x) ≡ abort_seats (numbered p) (view seats) t x
   view_abort seats t x l =
     push_if view (is_closed (view seats x).standing) (went_on (listed p) seats t x) (aborted (listed p) (went_on (listed p) seats t x) x closing) ∙ go (is_closed (view seats x).standing) refl
     where
