@@ -21,4 +21,5 @@ pub mod Determining
 pub mod Choosing
 pub mod Listing
 pub mod Joining
+pub mod ListLaws
 pub mod Lifting
