@@ -22,4 +22,5 @@ pub mod Choosing
 pub mod Listing
 pub mod Joining
 pub mod ListLaws
+pub mod Simulating
 pub mod Lifting

@@ -1,10 +1,10 @@
 -- The laws of the machine, in the words of runs and over the machine without queues; each is proved in proofs/.
-use Rattle.std.specs.Prelude.{◌≡◌, ◌↔◌, ℕ, Bool, true, false, List, [], ◌∷◌, ◌++◌, Option, Some, None, MatchOption, length}
+use Rattle.std.specs.Prelude.{◌≡◌, ◌↔◌, ℕ, ◌≤◌, Bool, true, false, List, [], ◌∷◌, ◌++◌, Option, Some, None, MatchOption, length}
 use Rattle.event_machine.specs.declared.Standing.TheVariants.{Live, Completed, Killed}
 use Rattle.event_machine.specs.declared.Action.{Action}
 use Rattle.event_machine.specs.declared.Event.{Event}
 use Rattle.event_machine.specs.declared.Event.TheVariants.{B}
-use Rattle.event_machine.specs.Seats.{Ops, Seat, State, Rules, is_live, is_served}
+use Rattle.event_machine.specs.Seats.{Ops, Seat, State, Rules, is_live, is_served, is_completed}
 use Rattle.event_machine.specs.Rows.{can}
 use Rattle.event_machine.specs.Effects.{event_of, after}
 use Rattle.event_machine.specs.Runs.{IsRun, end_of, events_of, Feasible}
@@ -67,7 +67,9 @@ pub record HappensFrom {L : Type 0} (p : Program L) (w : World L) (e : Event) (n
 
 -- Each event of the machine without queues is had by a run of the table from the state of the bases, where nobody is queued.
 abbrev pub Backward : {L : Type 0} → Program L → (L → Type 0) → Type 0
-Backward {L} p IsProper = (w next : World L) (e : Event) → IsStill w → IsSound p.ops IsProper w.tasks → Fires p w e next → HappensFrom p w e next
+Backward {L} p IsProper =
+    (w next : World L) (e : Event) → IsStill w → IsSound p.ops IsProper w.tasks →
+    ((t : ℕ) → p.size ≤ t → is_completed (w.tasks t).standing ≡ true) → Fires p w e next → HappensFrom p w e next
 
 -- A list of events is feasible exactly where the machine without queues has a state after it.
 abbrev pub FeasibleExactly : {L : Type 0} → Program L → State (ℕ → Seat L) → Type 0
