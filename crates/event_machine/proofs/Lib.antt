@@ -23,4 +23,5 @@ pub mod Listing
 pub mod Joining
 pub mod ListLaws
 pub mod Simulating
+pub mod Extending
 pub mod Lifting

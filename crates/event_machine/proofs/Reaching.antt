@@ -159,19 +159,17 @@ module _ {L : Type 0} (p : Program L) (IsProper : L → Type 0) (lawful : IsLawf
 
     walked : Walk p last there count add
     walked = walk_all p p.size last there count add returned.follows open'
-      (λ t. ⊎_elim (λ q. inr ((returned.follows.each t).standing ∙ is-Live (last.tasks t).standing q)) (λ q. inl (add_none t q)) (cases_Bool (is_live (last.tasks t).standing)))
       (λ t. ⊎_elim
         (λ q. let free : (last.tasks t).standing ≡ Live = is-Live (last.tasks t).standing q in
-          subst (λ n. HasSteps p.ops n (last.tasks t).local) (sym (none_more (add t) (count t) (returned.zero_counts more t)) ∙ refl)
-            (subst (λ n. HasSteps p.ops n (last.tasks t).local) (sym (add_live t free)) (steps t free)))
-        (λ q. subst (λ n. HasSteps p.ops n (last.tasks t).local) (sym (both_none (add t) (count t) (add_none t q) (returned.zero_counts more t))) tt)
+          inr ((returned.follows.each t).standing ∙ free,
+            subst (λ n. HasSteps p.ops n (last.tasks t).local) (sym (none_more (add t) (count t) (returned.zero_counts more t)))
+              (subst (λ n. HasSteps p.ops n (last.tasks t).local) (sym (add_live t free)) (steps t free))))
+        (λ q. inl (add_none t q))
         (cases_Bool (is_live (last.tasks t).standing)))
       (λ t l. add_none t (idle (last.tasks t).standing (base.beyond t l)))
       where
         none_more : (a b : ℕ) → b ≡ 0 → a + b ≡ a
         none_more a b e = omega arith
-        both_none : (a b : ℕ) → a ≡ 0 → b ≡ 0 → a + b ≡ 0
-        both_none a b e k = omega arith
 
     abbrev all_moves : List Move
     all_moves = returned.moves ++ walked.moves

@@ -94,8 +94,10 @@ module _ {L : Type 0} (p : Program L) (IsProper : L → Type 0) (lawful : IsLawf
 
     walked : Walk p bases w (λ t. 0) add
     walked = walk_all p p.size bases w (λ t. 0) add at (at.ended ∙ f.runs)
-      (λ t. ⊎_elim (λ q. inr ((at.each t).standing ∙ is-Live (bases.tasks t).standing q)) (λ q. inl (add_idle t q)) (cases_Bool (is_live (bases.tasks t).standing)))
-      (λ t. subst (λ n. HasSteps p.ops n (bases.tasks t).local) (sym (plus_zero (add t))) (add_steps t))
+      (λ t. ⊎_elim
+        (λ q. inr ((at.each t).standing ∙ is-Live (bases.tasks t).standing q, subst (λ n. HasSteps p.ops n (bases.tasks t).local) (sym (plus_zero (add t))) (add_steps t)))
+        (λ q. inl (add_idle t q))
+        (cases_Bool (is_live (bases.tasks t).standing)))
       (λ t l. add_idle t (completed_idle (bases.tasks t).standing (base.beyond t l)))
 
     abbrev before : World L

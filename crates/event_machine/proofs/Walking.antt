@@ -160,8 +160,8 @@ module _ {L : Type 0} (p : Program L) where
   below_last n add = ap (λ b. if b then add n else 0) (lt-ltb n (suc n) (omega arith))
 
   pub walk_below : (n : ℕ) (bases w : World L) (count add : ℕ → ℕ) → Follows p bases w count → w.ended ≡ false →
-    ((t : ℕ) → (add t ≡ 0) ⊎ ((w.tasks t).standing ≡ Live)) → ((t : ℕ) → HasSteps p.ops (add t + count t) (bases.tasks t).local) → Walk bases w count (below n add)
-  walk_below zero bases w count add f runs free h = record {
+    ((t : ℕ) → (add t ≡ 0) ⊎ (((w.tasks t).standing ≡ Live) × HasSteps p.ops (add t + count t) (bases.tasks t).local)) → Walk bases w count (below n add)
+  walk_below zero bases w count add f runs free = record {
     moves = [];
     made = tt;
     silent = refl;
@@ -170,7 +170,7 @@ module _ {L : Type 0} (p : Program L) where
     counts = λ u. zero_more (count u) ∙ ap (λ b. (if b then add u else 0) + count u) (sym (le-ltb u 0 (omega arith)));
     others = λ u e. refl;
   }
-  walk_below (suc n) bases w count add f runs free h = more (walk_below n bases w count add f runs free h)
+  walk_below (suc n) bases w count add f runs free = more (walk_below n bases w count add f runs free)
     where
       same_sum : (u : ℕ) (b : Bool) → (u == n) ≡ b → (if b then add n else 0) + below n add u ≡ below (suc n) add u
       same_sum u true q = subst (λ v. add n + below n add v ≡ below (suc n) add v) (sym (eqb-true u n q))
@@ -185,21 +185,21 @@ module _ {L : Type 0} (p : Program L) where
       more : Walk bases w count (below n add) → Walk bases w count (below (suc n) add)
       more r = ⊎_elim
         (λ e. walk_same bases w count (below n add) (below (suc n) add) (none_here e) r)
-        (λ live_here. walk_same bases w count (λ u. only n (add n) u + below n add u) (below (suc n) add) (λ u. same_sum u (u == n) refl)
+        (λ h. walk_same bases w count (λ u. only n (add n) u + below n add u) (below (suc n) add) (λ u. same_sum u (u == n) refl)
           (walk_on bases w count (below n add) (only n (add n)) r
             (walk (add n) bases (world_after p w r.moves) (counts_after p w r.moves count) n r.follows (r.runs ∙ runs)
-              (ap (λ (x : Seat L). x.standing) (r.others n (below_none n add)) ∙ live_here)
+              (ap (λ (x : Seat L). x.standing) (r.others n (below_none n add)) ∙ h.0)
               (subst (λ k. HasSteps p.ops k (bases.tasks n).local)
                 (let e : counts_after p w r.moves count n ≡ below n add n + count n = r.counts n in let none : below n add n ≡ 0 = below_none n add in omega arith)
-                (h n)))))
+                h.1))))
         (free n)
 
   -- Each free task makes so many local steps more, where none is moved from n up.
   pub walk_all : (n : ℕ) (bases w : World L) (count add : ℕ → ℕ) → Follows p bases w count → w.ended ≡ false →
-    ((t : ℕ) → (add t ≡ 0) ⊎ ((w.tasks t).standing ≡ Live)) → ((t : ℕ) → HasSteps p.ops (add t + count t) (bases.tasks t).local) →
+    ((t : ℕ) → (add t ≡ 0) ⊎ (((w.tasks t).standing ≡ Live) × HasSteps p.ops (add t + count t) (bases.tasks t).local)) →
     ((t : ℕ) → n ≤ t → add t ≡ 0) → Walk bases w count add
-  walk_all n bases w count add f runs free h beyond =
-    walk_same bases w count (below n add) add (λ u. go u (nat_lt u n) refl) (walk_below n bases w count add f runs free h)
+  walk_all n bases w count add f runs free beyond =
+    walk_same bases w count (below n add) add (λ u. go u (nat_lt u n) refl) (walk_below n bases w count add f runs free)
     where
       go : (u : ℕ) (b : Bool) → nat_lt u n ≡ b → (if b then add u else 0) ≡ add u
       go u true q = refl
