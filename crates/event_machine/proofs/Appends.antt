@@ -1,13 +1,11 @@
 -- Runs and moves one after the other.
-use Rattle.std.proofs.Common.{◌≡◌, ℕ, zero, suc, Bool, true, false, not, List, [], ◌∷◌, ◌++◌, Option, Some, None, option_to_list, refl, sym, ap, ◌∙◌, subst, append_assoc}
+use Rattle.std.proofs.Common.{◌≡◌, ℕ, List, [], ◌∷◌, ◌++◌, option_to_list, refl, sym, ap, ◌∙◌, append_assoc}
 use Rattle.event_machine.specs.declared.Action.{Action}
-use Rattle.event_machine.specs.declared.Event.{Event}
 use Rattle.event_machine.specs.Seats.{State, Rules}
-use Rattle.event_machine.specs.Rows.{can}
 use Rattle.event_machine.specs.Effects.{after, event_of}
 use Rattle.event_machine.specs.Runs.{IsRun, end_of, events_of}
 use Rattle.event_machine.specs.Programs.{Program}
-use Rattle.event_machine.specs.Worlds.{World, Move, Step, Happen, can_move, moved, AreMoves, world_after, happened, counts_after, recount}
+use Rattle.event_machine.specs.Worlds.{World, Move, Step, Happen, moved, AreMoves, world_after, happened, counts_after, recount}
 use Rattle.event_machine.specs.Tallies.{tallies, tallied}
 
 -- ---- runs
@@ -24,11 +22,11 @@ module _ {L C : Type 0} (rules : Rules L C) where
   pub events_append : (s : State C) (xs ys : List Action) → events_of rules s (xs ++ ys) ≡ events_of rules s xs ++ events_of rules (end_of rules s xs) ys
   events_append s [] ys = refl
   events_append s (x ∷ xs) ys =
-    ap (λ es. option_to_list (event_of rules s x) ++ es) (events_append (after rules s x) xs ys) ∙
-    sym (append_assoc (option_to_list (event_of rules s x)) (events_of rules (after rules s x) xs) (events_of rules (end_of rules (after rules s x) xs) ys))
+      ap (λ es. option_to_list (event_of rules s x) ++ es) (events_append (after rules s x) xs ys) ∙
+      sym (append_assoc (option_to_list (event_of rules s x)) (events_of rules (after rules s x) xs) (events_of rules (end_of rules (after rules s x) xs) ys))
 
   pub tallies_append : (s : State C) (xs ys : List Action) (tally : ℕ → ℕ) →
-    tallies rules s (xs ++ ys) tally ≡ tallies rules (end_of rules s xs) ys (tallies rules s xs tally)
+      tallies rules s (xs ++ ys) tally ≡ tallies rules (end_of rules s xs) ys (tallies rules s xs tally)
   tallies_append s [] ys tally = refl
   tallies_append s (x ∷ xs) ys tally = tallies_append (after rules s x) xs ys (tallied rules s x tally)
 
@@ -49,6 +47,6 @@ module _ {L : Type 0} (p : Program L) where
   world_append w (x ∷ xs) ys = world_append (moved p w x) xs ys
 
   pub counts_append : (w : World L) (xs ys : List Move) (count : ℕ → ℕ) →
-    counts_after p w (xs ++ ys) count ≡ counts_after p (world_after p w xs) ys (counts_after p w xs count)
+      counts_after p w (xs ++ ys) count ≡ counts_after p (world_after p w xs) ys (counts_after p w xs count)
   counts_append w [] ys count = refl
   counts_append w (x ∷ xs) ys count = counts_append (moved p w x) xs ys (recount p w x count)

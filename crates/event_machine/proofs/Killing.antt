@@ -1,15 +1,15 @@
 -- Which tasks an event kills, and that a completed or killed task is never changed again.
-use Rattle.std.proofs.Common.{◌≡◌, ℕ, zero, suc, Bool, true, false, not, ◌&&◌, ◌||◌, ◌==◌, if◌then◌else◌, List, [], ◌∷◌, refl, sym, ap, ◌∙◌, subst, inl, inr, ◌⊎◌, ⊎_elim, true≢false}
+use Rattle.std.proofs.Common.{◌≡◌, ℕ, Bool, true, false, not, ◌&&◌, ◌||◌, ◌==◌, if◌then◌else◌, List, [], ◌∷◌, refl, sym, ap, ◌∙◌, subst, inl, inr, ◌⊎◌, ⊎_elim, true≢false}
 use Rattle.std.specs.Prelude.{ℤ}
-use Rattle.std.proofs.lemmas.Bool.{eqb-true, eqb-false, ne_eqb, and_parts, or_from, or_cases, and_right, cases_Bool, false_from_ne_true}
+use Rattle.std.proofs.lemmas.Bool.{eqb-true, eqb-false, ne_eqb, and_parts, or_from, and_right, false_from_ne_true}
 use Rattle.event_machine.specs.declared.Standing.{Standing}
 use Rattle.event_machine.specs.declared.Standing.TheVariants.{Live, Waiting, Queued, Served, Completed, Killed}
 use Rattle.event_machine.specs.declared.Event.{Event}
 use Rattle.event_machine.specs.declared.Event.TheVariants.{R, E, S, D, C, T, F, X, B, Z}
-use Rattle.event_machine.specs.Offers.{calls_in, is_any_form, is_conditional, is_timed, waits_with, opens, is_end}
-use Rattle.event_machine.specs.Seats.{Ops, Seat, live, completed, is_live, is_closed, is_completed, is_served, is_served_by, is_abnormal}
+use Rattle.event_machine.specs.Offers.{calls_in, is_any_form}
+use Rattle.event_machine.specs.Seats.{Seat, live, completed, is_live, is_closed, is_completed, is_served, is_served_by, is_abnormal}
 use Rattle.event_machine.specs.Rows.{is_first}
-use Rattle.event_machine.specs.Effects.{freed, stand, met_at, parted, released_first, parted_both, released, fallen, aborted, went_on, abort_seats}
+use Rattle.event_machine.specs.Effects.{freed, met_at, parted, released_first, released, fallen, aborted, went_on, abort_seats}
 use Rattle.event_machine.specs.Programs.{Program, numbered}
 use Rattle.event_machine.specs.Worlds.{happens, acted, offers, needs, changes, is_last}
 use Rattle.event_machine.proofs.Basics.{split, both, equal_self, not_false}
@@ -57,6 +57,7 @@ module _ {L : Type 0} (p : Program L) where
     where
       same : t ≡ x
       same = eqb-true t x (split h).0
+
       go : (b : Bool) → (b || (not (is_closed (tasks x).standing) && ((t == x) || is_served_by x (tasks t).standing))) ≡ true
       go true = refl
       go false = both (ap not (subst (λ v. is_closed (tasks v).standing ≡ false) same k)) (ap (λ b. b || is_served_by x (tasks t).standing) (split h).0)
@@ -109,14 +110,14 @@ module _ {L : Type 0} (p : Program L) where
 
   -- No event changes a task that has completed.
   pub completed_stays : (e : Event) (tasks : ℕ → Seat L) → happens p tasks e ≡ true → IsServing p tasks → (t : ℕ) → is_completed (tasks t).standing ≡ true →
-    changes p.ops p.owner tasks e t ≡ false
+      changes p.ops p.owner tasks e t ≡ false
   completed_stays (R c e i) tasks k serving t h = or_from (t == c) (t == p.owner e)
-    (other_task tasks t c (is-Live (tasks c).standing (and_parts (is_live (tasks c).standing) _ (split k).0).0) h)
-    (other_task tasks t (p.owner e) (is-Live (tasks (p.owner e)).standing
+      (other_task tasks t c (is-Live (tasks c).standing (and_parts (is_live (tasks c).standing) _ (split k).0).0) h)
+      (other_task tasks t (p.owner e) (is-Live (tasks (p.owner e)).standing
       (and_parts (is_live (tasks (p.owner e)).standing) _ (and_parts (offers p.ops (calls_in is_any_form e i) (tasks c)) _ k).1).0) h)
   completed_stays (E a) tasks k serving t h =
-    let free : (tasks a).standing ≡ Live = is-Live (tasks a).standing (split k).0 in
-    or_from (t == a) (is_first t (p.ops.callers (tasks a).local)) (other_task tasks t a free h)
+      let free : (tasks a).standing ≡ Live = is-Live (tasks a).standing (split k).0 in
+      or_from (t == a) (is_first t (p.ops.callers (tasks a).local)) (other_task tasks t a free h)
       (false_from_ne_true _ (λ q. served_completed (tasks t).standing (serving a t free q) h))
   completed_stays (S a) tasks k serving t h = other_task tasks t a (is-Live (tasks a).standing (split k).0) h
   completed_stays (D a j) tasks k serving t h = other_task tasks t a (is-Live (tasks a).standing (split k).0) h
@@ -124,7 +125,7 @@ module _ {L : Type 0} (p : Program L) where
   completed_stays (T c e i) tasks k serving t h = other_task tasks t c (is-Live (tasks c).standing (and_parts (is_live (tasks c).standing) _ (split k).0).0) h
   completed_stays (F c e i) tasks k serving t h = other_task tasks t c (is-Live (tasks c).standing (and_parts (is_live (tasks c).standing) _ (split k).0).0) h
   completed_stays (X a) tasks k serving t h =
-    other_task tasks t a (is-Live (tasks a).standing (and_parts (is_live (tasks a).standing) _ (and_parts (not (a == 0)) _ k).1).0) h
+      other_task tasks t a (is-Live (tasks a).standing (and_parts (is_live (tasks a).standing) _ (and_parts (not (a == 0)) _ k).1).0) h
   completed_stays (B u x) tasks k serving t h = or_from (t == u) _ (other_task tasks t u (is-Live (tasks u).standing (split k).0) h) (go (t == x) refl)
     where
       go : (b : Bool) → (t == x) ≡ b → (not (is_closed (tasks x).standing) && (b || is_served_by x (tasks t).standing)) ≡ false
@@ -163,8 +164,8 @@ module _ {L : Type 0} (p : Program L) where
   parted_killed a acceptor seat = go (is_served_by a seat.standing)
     where
       go : (b : Bool) →
-        (if b then (if is_abnormal seat.standing then completed seat.local else live (p.ops.resumed acceptor seat.local)) else seat).standing ≡ Killed →
-        seat.standing ≡ Killed
+          (if b then (if is_abnormal seat.standing then completed seat.local else live (p.ops.resumed acceptor seat.local)) else seat).standing ≡ Killed →
+          seat.standing ≡ Killed
       go true e = absurd (gone_killed (p.ops.resumed acceptor seat.local) seat e)
       go false e = e
 
@@ -172,13 +173,13 @@ module _ {L : Type 0} (p : Program L) where
   released_killed x seat = go (is_served_by x seat.standing)
     where
       go : (b : Bool) →
-        (if b then (if is_abnormal seat.standing then completed seat.local else live (p.ops.raised seat.local)) else seat).standing ≡ Killed →
-        seat.standing ≡ Killed
+          (if b then (if is_abnormal seat.standing then completed seat.local else live (p.ops.raised seat.local)) else seat).standing ≡ Killed →
+          seat.standing ≡ Killed
       go true e = absurd (gone_killed (p.ops.raised seat.local) seat e)
       go false e = e
 
   first_killed : (a : ℕ) (acceptor : L) (callers : List ℕ) (tasks : ℕ → Seat L) (t : ℕ) →
-    (released_first (numbered p) a acceptor callers tasks t).standing ≡ Killed → (tasks t).standing ≡ Killed
+      (released_first (numbered p) a acceptor callers tasks t).standing ≡ Killed → (tasks t).standing ≡ Killed
   first_killed a acceptor [] tasks t e = e
   first_killed a acceptor (c ∷ callers) tasks t e = go (t == c) refl e
     where
@@ -211,23 +212,26 @@ module _ {L : Type 0} (p : Program L) where
     where
       after_owner : ℕ → Seat L
       after_owner = freed (numbered p).store (p.ops.accepted e i c (tasks c).local) tasks (p.owner e)
+
       go : (b : Bool) → (if b then record { local = (after_owner c).local; standing = Served (p.owner e) false } else after_owner t).standing ≡ Killed → (tasks t).standing ≡ Killed
       go true k = let q : ◌≡◌ {A = Standing} (Served (p.owner e) false) Killed = k in absurd (cc)
       go false k = freed_killed (p.ops.accepted e i c (tasks c).local) tasks (p.owner e) t k
 
   abort_killed : (tasks : ℕ → Seat L) (u x t : ℕ) → is_served_by x (tasks x).standing ≡ false → (abort_seats (numbered p) tasks u x t).standing ≡ Killed →
-    ((tasks t).standing ≡ Killed) ⊎ IsKill (B u x) tasks t
+      ((tasks t).standing ≡ Killed) ⊎ IsKill (B u x) tasks t
   abort_killed tasks u x t alone = go (is_closed (tasks x).standing) refl
     where
       went : ℕ → Seat L
       went = went_on (numbered p) tasks u x
+
       closing : Standing
       closing = if x == u then Completed else Killed
+
       at_x : is_closed (tasks x).standing ≡ false → fallen closing (released p.ops x (went x)).standing ≡ Killed →
-        ((tasks x).standing ≡ Killed) ⊎ IsKill (B u x) tasks x
+          ((tasks x).standing ≡ Killed) ⊎ IsKill (B u x) tasks x
       at_x open' k = ⊎_elim
-        (λ r. inl (went_killed tasks u x x (released_killed x (went x) r)))
-        (λ r.
+          (λ r. inl (went_killed tasks u x x (released_killed x (went x) r)))
+          (λ r.
           let other : (x == u) ≡ false = closing_killed (x == u) r.2 in
           let stays : released p.ops x (went x) ≡ tasks x = ap (released p.ops x) (went_other p tasks u x x other) ∙ released_other p x (tasks x) alone in
           let unserved : is_served (tasks x).standing ≡ false = ap (λ (y : Seat L). is_served y.standing) (sym stays) ∙ r.1 in
@@ -237,23 +241,25 @@ module _ {L : Type 0} (p : Program L) where
             unserved = unserved;
             falls = killed_at p tasks u x other open' unserved;
           }))
-        (fallen_killed closing (released p.ops x (went x)).standing k)
+          (fallen_killed closing (released p.ops x (went x)).standing k)
+
       at : (b : Bool) → (t == x) ≡ b → is_closed (tasks x).standing ≡ false →
-        (if b then record { local = (released p.ops x (went x)).local; standing = fallen closing (released p.ops x (went x)).standing } else released p.ops x (went t)).standing ≡ Killed →
-        ((tasks t).standing ≡ Killed) ⊎ IsKill (B u x) tasks t
+          (if b then record { local = (released p.ops x (went x)).local; standing = fallen closing (released p.ops x (went x)).standing } else released p.ops x (went t)).standing ≡ Killed →
+          ((tasks t).standing ≡ Killed) ⊎ IsKill (B u x) tasks t
       at true q open' k = subst (λ v. ((tasks v).standing ≡ Killed) ⊎ IsKill (B u x) tasks v) (sym (eqb-true t x q)) (at_x open' k)
       at false q open' k = inl (went_killed tasks u x t (released_killed x (went t) k))
+
       go : (b : Bool) → is_closed (tasks x).standing ≡ b → (if◌then◌else◌ {A = ℕ → Seat L} b went (aborted (numbered p) went x closing) t).standing ≡ Killed →
-        ((tasks t).standing ≡ Killed) ⊎ IsKill (B u x) tasks t
+          ((tasks t).standing ≡ Killed) ⊎ IsKill (B u x) tasks t
       go true q k = inl (went_killed tasks u x t k)
       go false q k = at (t == x) refl q k
 
   -- A task that is killed behind an event was so before, or is killed by it.
   pub newly_killed : (e : Event) (tasks : ℕ → Seat L) → ((a : ℕ) → is_served_by a (tasks a).standing ≡ false) → (t : ℕ) →
-    (acted (numbered p) tasks e t).standing ≡ Killed → ((tasks t).standing ≡ Killed) ⊎ IsKill e tasks t
+      (acted (numbered p) tasks e t).standing ≡ Killed → ((tasks t).standing ≡ Killed) ⊎ IsKill e tasks t
   newly_killed (R c e i) tasks alone t k = inl (met_killed tasks c e i t k)
   newly_killed (E a) tasks alone t k = inl (freed_killed p.ops.finished tasks a t
-    (first_killed a (tasks a).local (p.ops.callers (tasks a).local) (freed (numbered p).store p.ops.finished tasks a) t k))
+      (first_killed a (tasks a).local (p.ops.callers (tasks a).local) (freed (numbered p).store p.ops.finished tasks a) t k))
   newly_killed (S a) tasks alone t k = inl (freed_killed p.ops.took_else tasks a t k)
   newly_killed (D a j) tasks alone t k = inl (freed_killed (p.ops.took_delay j) tasks a t k)
   newly_killed (C c e i) tasks alone t k = inl (freed_killed p.ops.took_else tasks c t k)
@@ -269,7 +275,7 @@ module _ {L : Type 0} (p : Program L) where
 
   -- The victim of an abort, where it is free, is killed where it is.
   pub victim_falls : (e : Event) (tasks : ℕ → Seat L) (t : ℕ) → is_victim e t ≡ true → (tasks t).standing ≡ Live →
-    acted (numbered p) tasks e t ≡ record { local = (tasks t).local; standing = Killed }
+      acted (numbered p) tasks e t ≡ record { local = (tasks t).local; standing = Killed }
   victim_falls (R c e i) tasks t h free = absurd (true≢false (sym h))
   victim_falls (E a) tasks t h free = absurd (true≢false (sym h))
   victim_falls (S a) tasks t h free = absurd (true≢false (sym h))
@@ -279,8 +285,8 @@ module _ {L : Type 0} (p : Program L) where
   victim_falls (F c e i) tasks t h free = absurd (true≢false (sym h))
   victim_falls (X a) tasks t h free = absurd (true≢false (sym h))
   victim_falls (B u x) tasks t h free = subst (λ v. acted (numbered p) tasks (B u x) v ≡ record { local = (tasks v).local; standing = Killed })
-    (sym (eqb-true t x (split h).0))
-    (let here : (tasks x).standing ≡ Live = subst (λ v. (tasks v).standing ≡ Live) (eqb-true t x (split h).0) free in
+      (sym (eqb-true t x (split h).0))
+      (let here : (tasks x).standing ≡ Live = subst (λ v. (tasks v).standing ≡ Live) (eqb-true t x (split h).0) free in
       killed_at p tasks u x (not_false (x == u) (split h).1) (ap is_closed here) (ap is_served here))
   victim_falls Z tasks t h free = absurd (true≢false (sym h))
 
@@ -295,6 +301,6 @@ victim_abort (T c e i) t h = absurd (true≢false (sym h))
 victim_abort (F c e i) t h = absurd (true≢false (sym h))
 victim_abort (X a) t h = absurd (true≢false (sym h))
 victim_abort (B u x) t h =
-  let q : t ≡ x = eqb-true t x (split h).0 in
-  (u, ap (B u) (sym q), λ r. eqb-false x u (not_false (x == u) (split h).1) (sym q ∙ sym r))
+    let q : t ≡ x = eqb-true t x (split h).0 in
+    (u, ap (B u) (sym q), λ r. eqb-false x u (not_false (x == u) (split h).1) (sym q ∙ sym r))
 victim_abort Z t h = absurd (true≢false (sym h))

@@ -21,7 +21,7 @@ pub mod Determining
 pub mod Choosing
 pub mod Listing
 pub mod Joining
-pub mod ListLaws
 pub mod Simulating
 pub mod Extending
 pub mod Lifting
+pub mod ListLaws

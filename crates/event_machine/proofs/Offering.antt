@@ -1,5 +1,5 @@
 -- What a test on an offer says of the offer.
-use Rattle.std.proofs.Common.{◌≡◌, ℕ, Bool, true, false, not, ◌&&◌, ◌==◌, List, [], ◌∷◌, refl, sym, ap, ◌∙◌, subst, true≢false, Option, Some, None}
+use Rattle.std.proofs.Common.{◌≡◌, ℕ, Bool, true, false, not, List, [], ◌∷◌, refl, sym, ap, ◌∙◌, true≢false}
 use Rattle.std.specs.Prelude.{ℤ}
 use Rattle.std.specs.List.{list_any}
 use Rattle.std.proofs.lemmas.Bool.{eqb-true, or_from}
@@ -17,8 +17,8 @@ use Rattle.event_machine.proofs.Basics.{split, same_member-true}
 pub calls_is : (test : CallForm → Bool) (e : ℕ) (i : ℤ) (o : Offer) → calls_in test e i o ≡ true → (form : CallForm) × (o ≡ Calls form e i) × (test form ≡ true)
 calls_is test e i Nothing h = absurd (true≢false (sym h))
 calls_is test e i (Calls form f j) h =
-  let m = same_member-true e f i j (split h).1 in
-  (form, λ k. Calls form ((sym m.0) k) ((sym m.1) k), (split h).0)
+    let m = same_member-true e f i j (split h).1 in
+    (form, λ k. Calls form ((sym m.0) k) ((sym m.1) k), (split h).0)
 calls_is test e i (Waits choices) h = absurd (true≢false (sym h))
 calls_is test e i Finishes h = absurd (true≢false (sym h))
 calls_is test e i Ends h = absurd (true≢false (sym h))
@@ -89,6 +89,6 @@ module _ {L : Type 0} (ops : Ops L) (s : Seen L) (empty : s.line ≡ []) where
 -- who calls does not wait
 pub calls_waits : (test : CallForm → Bool) (other : Choice → Bool) (e : ℕ) (i : ℤ) (o : Offer) → calls_in test e i o ≡ true → waits_with other o ≡ true → ⊥
 calls_waits test other e i o h k =
-  let (form, q, passes) = calls_is test e i o h in
-  let wait : waits_with other (Calls form e i) ≡ true = ap (waits_with other) (sym q) ∙ k in
-  true≢false (sym wait)
+    let (form, q, passes) = calls_is test e i o h in
+    let wait : waits_with other (Calls form e i) ≡ true = ap (waits_with other) (sym q) ∙ k in
+    true≢false (sym wait)

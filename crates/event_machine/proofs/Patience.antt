@@ -1,8 +1,5 @@
 -- A task that waits or is queued has no local step: it stands where it arrived.
-use Rattle.std.proofs.Common.{◌≡◌, ℕ, zero, suc, Bool, true, false, not, ◌&&◌, ◌||◌, ◌==◌, if◌then◌else◌, List, [], ◌∷◌, Option, Some, None, refl, sym, ap, ◌∙◌, subst, inl, inr, ◌⊎◌, ⊎_elim, true≢false}
-use Rattle.std.specs.Prelude.{ℤ}
-use Rattle.event_machine.specs.declared.CallForm.{CallForm}
-use Rattle.event_machine.specs.declared.Choice.{Choice}
+use Rattle.std.proofs.Common.{◌≡◌, ℕ, Bool, true, false, ◌==◌, if◌then◌else◌, List, [], ◌∷◌, refl, sym, ◌∙◌, subst, inl, inr, ◌⊎◌, ⊎_elim, true≢false}
 use Rattle.event_machine.specs.declared.Standing.{Standing}
 use Rattle.event_machine.specs.declared.Standing.TheVariants.{Live, Waiting, Queued, Served, Completed, Killed}
 use Rattle.event_machine.specs.declared.Action.{Action}
@@ -12,12 +9,12 @@ use Rattle.event_machine.specs.declared.Event.TheVariants.{R, E, S, D, C, T, F, 
 use Rattle.event_machine.specs.Offers.{Offer, Nothing, Calls, Waits, Finishes, Ends, Aborts}
 use Rattle.event_machine.specs.Seats.{Ops, Seat, State, live, completed, is_closed, is_served_by, is_abnormal}
 use Rattle.event_machine.specs.Rows.{can}
-use Rattle.event_machine.specs.Effects.{after, event_of, freed, stand, arrived_standing, met_at, parted, released_first, released, fallen, aborted, went_on, abort_seats}
+use Rattle.event_machine.specs.Effects.{after, freed, arrived_standing, parted, released_first, released, fallen, aborted, went_on, abort_seats}
 use Rattle.event_machine.specs.Runs.{IsRun, end_of}
 use Rattle.event_machine.specs.Programs.{Program, numbered}
 use Rattle.event_machine.specs.Worlds.{still, acted}
 use Rattle.event_machine.proofs.Basics.{split}
-use Rattle.event_machine.proofs.Erasing.{IsEvent, event_or_silent, is_silent}
+use Rattle.event_machine.proofs.Erasing.{event_or_silent, is_silent}
 
 -- A seat that neither waits nor is queued, or has no local step.
 abbrev pub IsPatientAt : {L : Type 0} → Ops L → Seat L → Type 0
@@ -82,21 +79,21 @@ module _ {L : Type 0} (p : Program L) (rests : (l : L) → p.ops.can_step l ≡ 
 
   aborted_patient : (seats : ℕ → Seat L) (x : ℕ) (closing : Standing) → still closing ≡ closing → IsPatient p.ops seats → IsPatient p.ops (aborted (numbered p) seats x closing)
   aborted_patient seats x closing e h =
-    put_patient (λ u. released p.ops x (seats u)) x (record { local = (released p.ops x (seats x)).local; standing = fallen closing (released p.ops x (seats x)).standing })
+      put_patient (λ u. released p.ops x (seats u)) x (record { local = (released p.ops x (seats x)).local; standing = fallen closing (released p.ops x (seats x)).standing })
       (λ u. released_patient x (seats u) (h u)) (inl (fallen_still closing (released p.ops x (seats x)).standing e))
 
   abort_patient : (seats : ℕ → Seat L) (u x : ℕ) → IsPatient p.ops seats → IsPatient p.ops (abort_seats (numbered p) seats u x)
   abort_patient seats u x h = go (is_closed (seats x).standing)
     where
       go : (b : Bool) → IsPatient p.ops
-        (if◌then◌else◌ {A = ℕ → Seat L} b (went_on (numbered p) seats u x) (aborted (numbered p) (went_on (numbered p) seats u x) x (if x == u then Completed else Killed)))
+          (if◌then◌else◌ {A = ℕ → Seat L} b (went_on (numbered p) seats u x) (aborted (numbered p) (went_on (numbered p) seats u x) x (if x == u then Completed else Killed)))
       go true = went_patient seats u x h
       go false = aborted_patient (went_on (numbered p) seats u x) x (if x == u then Completed else Killed) (closing_still (x == u)) (went_patient seats u x h)
 
   acted_patient : (e : Event) (seats : ℕ → Seat L) → IsPatient p.ops seats → IsPatient p.ops (acted (numbered p) seats e)
   acted_patient (R c e i) seats h =
-    let opened : ℕ → Seat L = freed (numbered p).store (p.ops.accepted e i c (seats c).local) seats (p.owner e) in
-    put_patient opened c (record { local = (opened c).local; standing = Served (p.owner e) false })
+      let opened : ℕ → Seat L = freed (numbered p).store (p.ops.accepted e i c (seats c).local) seats (p.owner e) in
+      put_patient opened c (record { local = (opened c).local; standing = Served (p.owner e) false })
       (freed_patient (p.ops.accepted e i c (seats c).local) seats (p.owner e) h) (inl refl)
   acted_patient (E a) seats h = first_patient a (seats a).local (p.ops.callers (seats a).local) (freed (numbered p).store p.ops.finished seats a) (freed_patient p.ops.finished seats a h)
   acted_patient (S a) seats h = freed_patient p.ops.took_else seats a h
@@ -130,7 +127,7 @@ module _ {L : Type 0} (p : Program L) (rests : (l : L) → p.ops.can_step l ≡ 
   silent_patient : (s : State (ℕ → Seat L)) (action : Action) → is_silent action ≡ true → IsPatient p.ops s.seats → IsPatient p.ops (after (numbered p) s action).seats
   silent_patient s (Local t) k h = freed_patient p.ops.stepped s.seats t h
   silent_patient s (Arrive t) k h = put_patient s.seats t (record { local = (s.seats t).local; standing = arrived_standing (p.ops.offer (s.seats t).local) }) h
-    (arrived_patient (s.seats t).local (p.ops.offer (s.seats t).local) refl)
+      (arrived_patient (s.seats t).local (p.ops.offer (s.seats t).local) refl)
   silent_patient s (Start c) k h = absurd (true≢false (sym k))
   silent_patient s (Finish a) k h = absurd (true≢false (sym k))
   silent_patient s (Else a) k h = absurd (true≢false (sym k))
@@ -144,9 +141,9 @@ module _ {L : Type 0} (p : Program L) (rests : (l : L) → p.ops.can_step l ≡ 
 
   action_patient : (s : State (ℕ → Seat L)) (action : Action) → can (numbered p) s action ≡ true → IsPatient p.ops s.seats → IsPatient p.ops (after (numbered p) s action).seats
   action_patient s action c h = ⊎_elim
-    (λ k. subst (IsPatient p.ops) (sym k.1.seats) (acted_patient k.0 s.seats h))
-    (λ k. silent_patient s action k h)
-    (event_or_silent p s action (split c).1)
+      (λ k. subst (IsPatient p.ops) (sym k.1.seats) (acted_patient k.0 s.seats h))
+      (λ k. silent_patient s action k h)
+      (event_or_silent p s action (split c).1)
 
   -- In a run from such a state each task that waits or is queued has no local step.
   pub run_patient : (actions : List Action) (s : State (ℕ → Seat L)) → IsRun (numbered p) s actions → IsPatient p.ops s.seats → IsPatient p.ops (end_of (numbered p) s actions).seats

@@ -1,16 +1,15 @@
 -- Runs from an opening state and what their events lead to: each run follows the bases, and whatever the bases allow is had by a run.
-use Rattle.std.proofs.Common.{◌≡◌, ℕ, zero, suc, ◌<◌, ◌≤◌, ◌+◌, Bool, true, false, not, ◌&&◌, ◌||◌, ◌==◌, if◌then◌else◌, List, [], ◌∷◌, ◌++◌, refl, sym, ap, ap₂, ◌∙◌, subst, inl, inr, ◌⊎◌, ⊎_elim, true≢false, append-nil, arith}
+use Rattle.std.proofs.Common.{◌≡◌, ℕ, ◌<◌, ◌≤◌, ◌+◌, true, false, if◌then◌else◌, List, [], ◌∷◌, ◌++◌, refl, sym, ap, ap₂, ◌∙◌, subst, inl, inr, ⊎_elim, true≢false, append-nil, arith}
 use Rattle.std.proofs.lemmas.Bool.{cases_lt, cases_Bool}
 use Rattle.event_machine.specs.declared.Standing.{Standing}
 use Rattle.event_machine.specs.declared.Standing.TheVariants.{Live, Waiting, Queued, Served, Completed, Killed}
-use Rattle.event_machine.specs.declared.Action.{Action}
 use Rattle.event_machine.specs.declared.Event.{Event}
-use Rattle.event_machine.specs.Seats.{Ops, Seat, State, live, is_live, is_closed, is_completed, is_served_by}
+use Rattle.event_machine.specs.Seats.{Seat, State, is_live, is_closed, is_completed, is_served_by}
 use Rattle.event_machine.specs.Lawful.{IsLawful}
 use Rattle.event_machine.specs.Runs.{IsRun, end_of, events_of, Feasible}
 use Rattle.event_machine.specs.Programs.{Program, numbered, IsOpening}
-use Rattle.event_machine.specs.Worlds.{World, Move, Step, Happen, still, still_seat, IsStill, world_of, state_of, is_last, AreMoves, world_after, happened, counts_after}
-use Rattle.event_machine.specs.Settling.{ran, HasSteps, Leads, CountsFor, IsRunOn, Follows}
+use Rattle.event_machine.specs.Worlds.{World, Move, still, still_seat, world_of, state_of, AreMoves, world_after, counts_after}
+use Rattle.event_machine.specs.Settling.{ran, HasSteps, Leads, CountsFor, IsRunOn}
 use Rattle.event_machine.specs.Soundness.{IsSound, times}
 use Rattle.event_machine.specs.Tallies.{tallies, ComesTo, HasNoEnd}
 use Rattle.event_machine.specs.Laws.{IsErased, IsLifted}
@@ -30,9 +29,9 @@ module _ {L : Type 0} (p : Program L) (IsProper : L → Type 0) (lawful : IsLawf
   -- each task is live and serves nobody, or has completed
   pub start_each : (P : ℕ → Standing → Type 0) → ((t : ℕ) → t < p.size → P t Live) → ((t : ℕ) → p.size ≤ t → P t Completed) → (t : ℕ) → P t (s.seats t).standing
   start_each P at_live at_end t = ⊎_elim
-    (λ (l : t < p.size). subst (P t) (sym (opening.live t l)) (at_live t l))
-    (λ (l : p.size ≤ t). subst (P t) (sym (opening.beyond t l)) (at_end t l))
-    (cases_lt t p.size)
+      (λ (l : t < p.size). subst (P t) (sym (opening.live t l)) (at_live t l))
+      (λ (l : p.size ≤ t). subst (P t) (sym (opening.beyond t l)) (at_end t l))
+      (cases_lt t p.size)
 
   pub start_still : (t : ℕ) → still (s.seats t).standing ≡ (s.seats t).standing
   start_still = start_each (λ t z. still z ≡ z) (λ t l. refl) (λ t l. refl)
@@ -72,7 +71,7 @@ module _ {L : Type 0} (p : Program L) (IsProper : L → Type 0) (lawful : IsLawf
   -- nobody is killed at the start
   start_numbers : (number : ℕ → ℕ) → HasNumbers p IsProper lawful number start start
   start_numbers number t killed = absurd (start_each (λ u z. still z ≡ Killed → ⊥)
-    (λ u l q. let k : ◌≡◌ {A = Standing} Live Killed = q in cc) (λ u l q. let k : ◌≡◌ {A = Standing} Completed Killed = q in cc) t killed)
+      (λ u l q. let k : ◌≡◌ {A = Standing} Live Killed = q in cc) (λ u l q. let k : ◌≡◌ {A = Standing} Completed Killed = q in cc) t killed)
 
   -- ---- runs follow the bases
 
@@ -84,14 +83,14 @@ module _ {L : Type 0} (p : Program L) (IsProper : L → Type 0) (lawful : IsLawf
 
   pub run_leads : (events : List Event) (tasks : ℕ → Seat L) (tally : ℕ → ℕ) → ComesTo (numbered p) s events tasks tally → IsLed events tasks tally
   run_leads events tasks tally run =
-    let er : IsErased p s run.actions = erasing p s run.actions run.applies in
-    let (last, leads, follows) = follow_moves p IsProper lawful er.moves start start (λ t. 0) start_base.sound (follows_self p start) er.made in
-    record {
-      last = last;
-      leads = subst (λ es. Leads p start es last) (er.events ∙ run.has_events) leads;
-      each = λ t. subst (IsRunOn p.ops (last.tasks t) (tally t)) (ap (λ (w : World L). w.tasks t) er.ends ∙ ap still_seat (run.leaves t))
-        (subst (λ n. IsRunOn p.ops (last.tasks t) n ((world_after p start er.moves).tasks t)) (ap (λ (c : ℕ → ℕ). c t) (er.counts (λ u. 0)) ∙ run.counts t) (follows.each t));
-    }
+      let er : IsErased p s run.actions = erasing p s run.actions run.applies in
+      let (last, leads, follows) = follow_moves p IsProper lawful er.moves start start (λ t. 0) start_base.sound (follows_self p start) er.made in
+      record {
+        last = last;
+        leads = subst (λ es. Leads p start es last) (er.events ∙ run.has_events) leads;
+        each = λ t. subst (IsRunOn p.ops (last.tasks t) (tally t)) (ap (λ (w : World L). w.tasks t) er.ends ∙ ap still_seat (run.leaves t))
+            (subst (λ n. IsRunOn p.ops (last.tasks t) n ((world_after p start er.moves).tasks t)) (ap (λ (c : ℕ → ℕ). c t) (er.counts (λ u. 0)) ∙ run.counts t) (follows.each t));
+      }
 
   -- ---- whatever the bases allow is had by a run
 
@@ -101,12 +100,14 @@ module _ {L : Type 0} (p : Program L) (IsProper : L → Type 0) (lawful : IsLawf
 
   pub feasible_back : (events : List Event) (last : World L) → Leads p start events last → Feasible (numbered p) s events
   feasible_back events last h =
-    let none : ℕ → ℕ = λ t. 0 in
-    let r : Return p IsProper lawful none start last events =
+      let none : ℕ → ℕ = λ t. 0 in
+      let r : Return p IsProper lawful none start last events =
       lead_back p IsProper lawful none events start last start h (no_steps events start last h) start_base (follows_self p start) start_base.sound (start_numbers none) in
-    let l : IsLifted p start r.moves = moves_run r.moves r.made in
-    (l.actions, subst (λ z. IsRun (numbered p) z l.actions) start_state l.applies,
-      subst (λ z. events_of (numbered p) z l.actions ≡ events) start_state (l.events ∙ r.events_are))
+      let l : IsLifted p start r.moves = moves_run r.moves r.made in (
+        l.actions,
+        subst (λ z. IsRun (numbered p) z l.actions) start_state l.applies,
+        subst (λ z. events_of (numbered p) z l.actions ≡ events) start_state (l.events ∙ r.events_are),
+      )
     where
       no_steps : (events : List Event) (w last : World L) (h : Leads p w events last) → CanKillAll p IsProper lawful (λ t. 0) events w last h
       no_steps [] w last h = tt
@@ -159,14 +160,16 @@ module _ {L : Type 0} (p : Program L) (IsProper : L → Type 0) (lawful : IsLawf
 
     walked : Walk p last there count add
     walked = walk_all p p.size last there count add returned.follows open'
-      (λ t. ⊎_elim
+        (λ t. ⊎_elim
         (λ q. let free : (last.tasks t).standing ≡ Live = is-Live (last.tasks t).standing q in
-          inr ((returned.follows.each t).standing ∙ free,
-            subst (λ n. HasSteps p.ops n (last.tasks t).local) (sym (none_more (add t) (count t) (returned.zero_counts more t)))
-              (subst (λ n. HasSteps p.ops n (last.tasks t).local) (sym (add_live t free)) (steps t free))))
+        inr (
+          (returned.follows.each t).standing ∙ free,
+          subst (λ n. HasSteps p.ops n (last.tasks t).local) (sym (none_more (add t) (count t) (returned.zero_counts more t)))
+              (subst (λ n. HasSteps p.ops n (last.tasks t).local) (sym (add_live t free)) (steps t free)),
+        ))
         (λ q. inl (add_none t q))
         (cases_Bool (is_live (last.tasks t).standing)))
-      (λ t l. add_none t (idle (last.tasks t).standing (base.beyond t l)))
+        (λ t l. add_none t (idle (last.tasks t).standing (base.beyond t l)))
       where
         none_more : (a b : ℕ) → b ≡ 0 → a + b ≡ a
         none_more a b e = omega arith
@@ -188,10 +191,10 @@ module _ {L : Type 0} (p : Program L) (IsProper : L → Type 0) (lawful : IsLawf
 
     number_more : (t : ℕ) → (last.tasks t).standing ≡ Live → counts_after p there walked.moves count t ≡ number t
     number_more t q =
-      let a : counts_after p there walked.moves count t ≡ add t + count t = walked.counts t in
-      let b : count t ≡ 0 = returned.zero_counts more t in
-      let c : add t ≡ number t = add_live t q in
-      omega arith
+        let a : counts_after p there walked.moves count t ≡ add t + count t = walked.counts t in
+        let b : count t ≡ 0 = returned.zero_counts more t in
+        let c : add t ≡ number t = add_live t q in
+        omega arith
 
     pub reached : IsReached events last number
     reached = record {
@@ -201,15 +204,16 @@ module _ {L : Type 0} (p : Program L) (IsProper : L → Type 0) (lawful : IsLawf
         actions = lifted.actions;
         applies = subst (λ z. IsRun (numbered p) z lifted.actions) start_state lifted.applies;
         has_events = subst (λ z. events_of (numbered p) z lifted.actions ≡ events) start_state
-          (lifted.events ∙ happened_append returned.moves walked.moves ∙ ap₂ (λ xs ys. xs ++ ys) returned.events_are walked.silent ∙ append-nil events);
+            (lifted.events ∙ happened_append returned.moves walked.moves ∙ ap₂ (λ xs ys. xs ++ ys) returned.events_are walked.silent ∙ append-nil events);
         leaves = λ t. subst (λ z. (end_of (numbered p) z lifted.actions).seats t ≡ end'.tasks t) start_state (ap (λ (z : State (ℕ → Seat L)). z.seats t) final);
         counts = λ t. subst (λ z. tallies (numbered p) z lifted.actions (λ u. 0) t ≡ counts_after p there walked.moves count t) start_state
-          (ap (λ (c : ℕ → ℕ). c t) (lifted.counts (λ u. 0) ∙ counts_append p start returned.moves walked.moves (λ u. 0)));
+            (ap (λ (c : ℕ → ℕ). c t) (lifted.counts (λ u. 0) ∙ counts_append p start returned.moves walked.moves (λ u. 0)));
       };
       standing = λ t. (walked.follows.each t).standing;
-      free = λ t q.
-        ((walked.follows.each t).local ∙ ap (λ n. ran p.ops n (last.tasks t).local)
-          (subst (λ z. CountsFor z (counts_after p there walked.moves count t) (walked.follows.each t).steps) q (walked.follows.each t).counted ∙ number_more t q),
-        number_more t q);
+      free = λ t q. (
+        (walked.follows.each t).local ∙ ap (λ n. ran p.ops n (last.tasks t).local)
+            (subst (λ z. CountsFor z (counts_after p there walked.moves count t) (walked.follows.each t).steps) q (walked.follows.each t).counted ∙ number_more t q),
+        number_more t q,
+      );
       killed = λ t q. ap (λ x. x.local) (walked.others t (add_none t (ap is_live q))) ∙ returned.numbers t q;
     }

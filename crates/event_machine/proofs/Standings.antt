@@ -1,10 +1,9 @@
 -- What the tests on standings, offers and lists of callers say.
-use Rattle.std.proofs.Common.{◌≡◌, ℕ, zero, suc, Bool, true, false, not, ◌&&◌, ◌||◌, ◌==◌, if◌then◌else◌, cond, List, [], ◌∷◌, refl, sym, ap, ◌∙◌, subst, filter, inl, inr, true≢false}
+use Rattle.std.proofs.Common.{◌≡◌, ℕ, Bool, true, false, ◌==◌, cond, List, [], ◌∷◌, refl, sym, ap, subst, filter, true≢false}
 use Rattle.std.proofs.lemmas.Bool.{eqb-true}
 use Rattle.event_machine.specs.declared.Standing.{Standing}
 use Rattle.event_machine.specs.declared.Standing.TheVariants.{Live, Waiting, Queued, Served, Completed, Killed}
-use Rattle.event_machine.specs.Offers.{Offer, Nothing, Calls, Waits, Finishes, Ends, Aborts, waits_with, calls_in, is_finish, is_end}
-use Rattle.event_machine.specs.Seats.{is_live, is_waiting, is_queued, is_completed, is_closed, is_served, is_served_by, is_abnormal}
+use Rattle.event_machine.specs.Seats.{is_live, is_waiting, is_queued, is_closed, is_served, is_served_by, is_abnormal}
 use Rattle.event_machine.specs.Effects.{fallen}
 use Rattle.event_machine.specs.Rows.{is_first}
 use Rattle.event_machine.specs.Worlds.{still}
@@ -53,7 +52,7 @@ first_passes test c [] h = absurd (true≢false (sym h))
 first_passes test c (x ∷ xs) h = go (test x) refl h (first_passes test c xs)
   where
     go : (b : Bool) → test x ≡ b → is_first c (cond b (x ∷ filter test xs) (filter test xs)) ≡ true →
-      (is_first c (filter test xs) ≡ true → test c ≡ true) → test c ≡ true
+        (is_first c (filter test xs) ≡ true → test c ≡ true) → test c ≡ true
     go true e k rest = subst (λ y. test y ≡ true) (eqb-true x c k) e
     go false e k rest = rest k
 

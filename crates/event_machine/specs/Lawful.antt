@@ -1,6 +1,6 @@
 -- What the laws use of one task: that a task with a local step offers nothing, and how its callers come and go (9.5).
-use Rattle.std.specs.Prelude.{◌≡◌, ℕ, ℤ, Bool, true, List, [], ◌∷◌}
-use Rattle.event_machine.specs.Offers.{Offer, Nothing, Finishes, Ends, waits_with, opens}
+use Rattle.std.specs.Prelude.{◌≡◌, ℕ, ℤ, true, [], ◌∷◌}
+use Rattle.event_machine.specs.Offers.{Nothing, Finishes, Ends, waits_with, opens}
 use Rattle.event_machine.specs.Seats.{Ops}
 
 -- The state is proper still, with the same callers.

@@ -1,5 +1,5 @@
 -- The laws of the machine, in the words of runs and over the machine without queues; each is proved in proofs/.
-use Rattle.std.specs.Prelude.{◌≡◌, ◌↔◌, ℕ, ◌≤◌, Bool, true, false, List, [], ◌∷◌, ◌++◌, Option, Some, None, MatchOption, length}
+use Rattle.std.specs.Prelude.{◌≡◌, ◌↔◌, ℕ, ◌≤◌, true, false, List, [], ◌∷◌, ◌++◌, MatchOption}
 use Rattle.event_machine.specs.declared.Standing.TheVariants.{Live, Completed, Killed}
 use Rattle.event_machine.specs.declared.Action.{Action}
 use Rattle.event_machine.specs.declared.Event.{Event}
@@ -8,9 +8,8 @@ use Rattle.event_machine.specs.Seats.{Ops, Seat, State, Rules, is_live, is_serve
 use Rattle.event_machine.specs.Rows.{can}
 use Rattle.event_machine.specs.Effects.{event_of, after}
 use Rattle.event_machine.specs.Runs.{IsRun, end_of, events_of, Feasible}
-use Rattle.event_machine.specs.Programs.{Program, numbered, listed, by_number, task_of}
-use Rattle.event_machine.specs.Worlds.{World, Move, still, world_of, state_of, IsStill, needs, happens, is_last, AreMoves, world_after, happened, counts_after, can_move, moved, recount}
-use Rattle.event_machine.specs.Worlds.Move.{Step, Happen}
+use Rattle.event_machine.specs.Programs.{Program, numbered, listed, by_number}
+use Rattle.event_machine.specs.Worlds.{World, Move, still, world_of, state_of, IsStill, needs, happens, is_last, AreMoves, world_after, happened, counts_after}
 use Rattle.event_machine.specs.Settling.{ran, HasSteps, Fires, Leads, Follows}
 use Rattle.event_machine.specs.Soundness.{IsSound}
 use Rattle.event_machine.specs.Tallies.{tallied, tallies, ComesTo, RestIs, StandsAfter, HasNoEnd, IsKilledIn}

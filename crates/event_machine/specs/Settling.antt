@@ -1,6 +1,6 @@
 -- The machine without queues by its bases: of each task is kept how it was after the last event that changed it, and an event happens where
 -- the free tasks that it needs come to rest by local steps. What a list of events leads to is so a function of the list.
-use Rattle.std.specs.Prelude.{◌≡◌, ℕ, Bool, true, false, ◌&&◌, ◌||◌, if◌then◌else◌, suc, zero, List, [], ◌∷◌, MatchBool}
+use Rattle.std.specs.Prelude.{◌≡◌, ℕ, true, false, ◌&&◌, ◌||◌, if◌then◌else◌, suc, zero, List, [], ◌∷◌, MatchBool}
 use Rattle.event_machine.specs.declared.Standing.{Standing}
 use Rattle.event_machine.specs.declared.Standing.TheVariants.{Live, Waiting, Queued, Served, Completed, Killed}
 use Rattle.event_machine.specs.declared.Event.{Event}

@@ -1,5 +1,5 @@
 -- Who serves whom: the callers of a task that is not closed are the tasks that it serves, each once, and a closed task serves nobody (9.5).
-use Rattle.std.specs.Prelude.{◌≡◌, ℕ, ◌+◌, Bool, true, false, ◌==◌, if◌then◌else◌, List, [], ◌∷◌}
+use Rattle.std.specs.Prelude.{◌≡◌, ℕ, ◌+◌, true, false, ◌==◌, if◌then◌else◌, List, [], ◌∷◌}
 use Rattle.event_machine.specs.Seats.{Ops, Seat, is_closed, is_served_by}
 
 -- how often c stands in the list
