@@ -7,6 +7,7 @@ use Rattle.event_machine.specs.declared.Event.{Event}
 use Rattle.event_machine.specs.declared.Event.TheVariants.{R, E, S, D, C, T, F, X, B, Z}
 use Rattle.event_machine.specs.Seats.{Seat, State, is_live, is_completed, is_served}
 use Rattle.event_machine.specs.Lawful.{IsLawful}
+use Rattle.event_machine.specs.Runs.{end_of}
 use Rattle.event_machine.specs.Programs.{Program, numbered, IsOpening}
 use Rattle.event_machine.specs.Worlds.{World, still, still_seat, world_of, is_last}
 use Rattle.event_machine.specs.Settling.{ran, HasSteps, run_on, Fires, Leads, CountsFor, IsRunOn}
@@ -18,8 +19,8 @@ use Rattle.event_machine.proofs.Stepping.{settles_once}
 use Rattle.event_machine.proofs.Following.{leads_once, counts_served}
 use Rattle.event_machine.proofs.Killing.{newly_killed, victim_abort, IsKill}
 use Rattle.event_machine.proofs.Bases.{IsBase, base_fires, base_leads, completed_leads, next_tasks, last_same, sound_found}
-use Rattle.event_machine.proofs.Patience.{IsPatientAt, IsPatient, run_patient}
-use Rattle.event_machine.proofs.Reaching.{IsLed, run_leads, start_base, start_still, start_each}
+use Rattle.event_machine.proofs.Queues.{IsPatientAt, suited_patient, run_suited}
+use Rattle.event_machine.proofs.Reaching.{IsLed, run_leads, start_base, start_suited, start_each}
 
 module _ {L : Type 0} (p : Program L) (IsProper : L → Type 0) (lawful : IsLawful p.ops IsProper) (s : State (ℕ → Seat L))
     (opening : IsOpening (numbered p) s) (proper : (t : ℕ) → t < p.size → IsProper (s.seats t).local) where
@@ -55,12 +56,12 @@ module _ {L : Type 0} (p : Program L) (IsProper : L → Type 0) (lawful : IsLawf
   settled base n seat r h = (r.has_steps, ap p.ops.can_step (sym r.local) ∙ h)
 
   -- where the live tasks rest each free one does
-  quiet_rests : (seat : Seat L) → IsPatientAt p.ops seat → (is_live seat.standing ≡ true → p.ops.can_step seat.local ≡ false) → still seat.standing ≡ Live →
+  quiet_rests : (seat : Seat L) → IsPatientAt p seat → (is_live seat.standing ≡ true → p.ops.can_step seat.local ≡ false) → still seat.standing ≡ Live →
       p.ops.can_step seat.local ≡ false
   quiet_rests seat h quiet free = ⊎_elim (λ q. quiet (ap is_live (sym q ∙ free))) (λ q. q) h
 
   quiet_same : (base : Seat L) (n m : ℕ) (seat other : Seat L) → IsRunOn p.ops base n (still_seat seat) → IsRunOn p.ops base m (still_seat other) →
-      IsPatientAt p.ops seat → IsPatientAt p.ops other →
+      IsPatientAt p seat → IsPatientAt p other →
       (is_live seat.standing ≡ true → p.ops.can_step seat.local ≡ false) → (is_live other.standing ≡ true → p.ops.can_step other.local ≡ false) →
       (z : Standing) → base.standing ≡ z → (z ≡ Killed → ⊥) → still base.standing ≡ base.standing → seat.local ≡ other.local
   quiet_same base n m seat other r q h k quiet quiet' Live e alive b =
@@ -79,9 +80,10 @@ module _ {L : Type 0} (p : Program L) (IsProper : L → Type 0) (lawful : IsLawf
 
   -- ---- two runs
 
-  patient_end : (events : List Event) (tasks : ℕ → Seat L) (tally : ℕ → ℕ) → ComesTo (numbered p) s events tasks tally → IsPatient p.ops tasks
-  patient_end events tasks tally run t = subst (IsPatientAt p.ops) (run.leaves t)
-      (run_patient p lawful.rests run.actions s run.applies (λ u. inl (start_still p IsProper lawful s opening proper u)) t)
+  patient_end : (events : List Event) (tasks : ℕ → Seat L) (tally : ℕ → ℕ) → ComesTo (numbered p) s events tasks tally → (t : ℕ) → IsPatientAt p (tasks t)
+  patient_end events tasks tally run t = subst (IsPatientAt p) (run.leaves t)
+      (suited_patient p lawful.rests ((end_of (numbered p) s run.actions).seats t)
+        (run_suited p run.actions s run.applies (start_suited p IsProper lawful s opening proper) t))
 
   pub determinacy : Determinacy (numbered p) s
   determinacy events tasks others tally others_tally run other = record {

@@ -20,7 +20,9 @@ use Rattle.event_machine.proofs.Stills.{still_closed, still_served_by}
 use Rattle.event_machine.proofs.Standings.{is-Live, still_live}
 use Rattle.event_machine.proofs.Stepping.{settles_once, settles_most}
 use Rattle.event_machine.proofs.Agreeing.{ReadsSame, happens_same}
-use Rattle.event_machine.proofs.Patience.{IsPatient}
+use Rattle.event_machine.proofs.Queues.{IsPatientAt, suited_patient}
+use Rattle.event_machine.specs.Queues.{IsSuited}
+use Rattle.event_machine.specs.Offers.{Nothing}
 use Rattle.event_machine.proofs.Erasing.{erasing}
 use Rattle.event_machine.proofs.Bases.{steps_settle}
 use Rattle.event_machine.proofs.Walking.{Walk, walk_all, leads_split, sound_moves}
@@ -52,10 +54,11 @@ module _ {L : Type 0} {ops : Ops L} {IsProper : L → Type 0} {tasks : ℕ → S
 
 -- ---- quiet ends
 
--- where nobody that waits or is queued has a local step, no live task has one exactly where no free task has
-pub quiet_still : {L : Type 0} (ops : Ops L) (seats : ℕ → Seat L) → IsPatient ops seats → IsQuiet ops seats → IsQuiet ops (λ t. still_seat (seats t))
-quiet_still ops seats patient quiet t free =
-    ⊎_elim (λ q. quiet t (ap is_live (sym q) ∙ free)) (λ q. q) (patient t)
+-- where each task offers what suits its standing, no live task has a local step exactly where no free task has one
+pub quiet_still : {L : Type 0} (p : Program L) → ((l : L) → p.ops.can_step l ≡ true → p.ops.offer l ≡ Nothing) → (seats : ℕ → Seat L) → IsSuited p.ops seats →
+  IsQuiet p.ops seats → IsQuiet p.ops (λ t. still_seat (seats t))
+quiet_still p rests seats suited quiet t free =
+    ⊎_elim (λ q. quiet t (ap is_live (sym q) ∙ free)) (λ q. q) (suited_patient p rests (seats t) (suited t))
 
 pub still_quiet : {L : Type 0} (ops : Ops L) (seats : ℕ → Seat L) → IsQuiet ops (λ t. still_seat (seats t)) → IsQuiet ops seats
 still_quiet ops seats quiet t free = quiet t (still_live (seats t).standing free)

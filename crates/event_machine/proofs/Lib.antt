@@ -16,7 +16,7 @@ pub mod Bases
 pub mod Returning
 pub mod Reaching
 pub mod Resting
-pub mod Patience
+pub mod Queues
 pub mod Determining
 pub mod Choosing
 pub mod Listing

@@ -4,13 +4,14 @@ use Rattle.std.proofs.lemmas.Bool.{cases_lt, cases_Bool}
 use Rattle.event_machine.specs.declared.Standing.{Standing}
 use Rattle.event_machine.specs.declared.Standing.TheVariants.{Live, Waiting, Queued, Served, Completed, Killed}
 use Rattle.event_machine.specs.declared.Event.{Event}
-use Rattle.event_machine.specs.Seats.{Seat, State, is_live, is_closed, is_completed, is_served_by}
+use Rattle.event_machine.specs.Seats.{Seat, State, is_live, is_closed, is_completed, is_served_by, is_queued}
 use Rattle.event_machine.specs.Lawful.{IsLawful}
 use Rattle.event_machine.specs.Runs.{IsRun, end_of, events_of, Feasible}
 use Rattle.event_machine.specs.Programs.{Program, numbered, IsOpening}
 use Rattle.event_machine.specs.Worlds.{World, Move, still, still_seat, world_of, state_of, AreMoves, world_after, counts_after}
 use Rattle.event_machine.specs.Settling.{ran, HasSteps, Leads, CountsFor, IsRunOn}
 use Rattle.event_machine.specs.Soundness.{IsSound, times}
+use Rattle.event_machine.specs.Queues.{suits, IsSuited, IsLined}
 use Rattle.event_machine.specs.Tallies.{tallies, ComesTo, HasNoEnd}
 use Rattle.event_machine.specs.Laws.{IsErased, IsLifted}
 use Rattle.event_machine.proofs.Erasing.{erasing}
@@ -35,6 +36,12 @@ module _ {L : Type 0} (p : Program L) (IsProper : L → Type 0) (lawful : IsLawf
 
   pub start_still : (t : ℕ) → still (s.seats t).standing ≡ (s.seats t).standing
   start_still = start_each (λ t z. still z ≡ z) (λ t l. refl) (λ t l. refl)
+
+  pub start_suited : IsSuited p.ops s.seats
+  start_suited t = start_each (λ u z. suits z (p.ops.offer (s.seats u).local) ≡ true) (λ u l. refl) (λ u l. refl) t
+
+  pub start_lined : IsLined s
+  start_lined t = ap (times t) opening.line ∙ start_each (λ u z. ◌≡◌ {A = ℕ} 0 (if is_queued z then 1 else 0)) (λ u l. refl) (λ u l. refl) t
 
   start_unserved : (a t : ℕ) → is_served_by a (s.seats t).standing ≡ false
   start_unserved a = start_each (λ t z. is_served_by a z ≡ false) (λ t l. refl) (λ t l. refl)

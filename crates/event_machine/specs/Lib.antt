@@ -8,5 +8,6 @@ pub mod Programs
 pub mod Worlds
 pub mod Settling
 pub mod Soundness
+pub mod Queues
 pub mod Tallies
 pub mod Laws
