@@ -12,12 +12,13 @@ use Rattle.event_machine.specs.Programs.{Program, numbered, IsOpening}
 use Rattle.event_machine.specs.Worlds.{World, world_of, needs}
 use Rattle.event_machine.specs.Settling.{ran, HasSteps, Settles, run_on, fired, Fires, Leads}
 use Rattle.event_machine.specs.Tallies.{RestIs, StandsAfter, HasNoEnd}
-use Rattle.event_machine.specs.Laws.{IsVictim, CanChoose, HasChosen, FirstLaw, IsJudged, SecondLaw}
+use Rattle.event_machine.specs.Laws.{IsVictim, CanChoose, HasChosen, FirstLaw, IsJudged, SecondLaw, FeasibleAdmitted}
 use Rattle.event_machine.proofs.Basics.{both, split, equal_self, seat_path}
 use Rattle.event_machine.proofs.Standings.{is-Live}
+use Rattle.event_machine.proofs.Admitting.{admitted}
 use Rattle.event_machine.proofs.Agreeing.{ReadsSame, happens_same}
 use Rattle.event_machine.proofs.Killing.{is_victim, victim_abort}
-use Rattle.event_machine.proofs.Bases.{IsBase, base_fires, base_leads, completed_leads, victim_killed, steps_settle}
+use Rattle.event_machine.proofs.Bases.{IsBase, base_fires, base_leads, completed_leads, victim_killed, sound_found, steps_settle}
 use Rattle.event_machine.proofs.Walking.{leads_append, leads_split}
 use Rattle.event_machine.proofs.Returning.{CanKillAll, leads_open}
 use Rattle.event_machine.proofs.Reaching.{IsLed, run_leads, IsReached, reached, feasible_back, start_base}
@@ -179,3 +180,13 @@ module _ {L : Type 0} (p : Program L) (IsProper : L → Type 0) (lawful : IsLawf
           let (tasks, tally, run, stand') = j.standing 0 in
           let led : IsLed p IsProper lawful s opening proper events tasks tally = run_leads p IsProper lawful s opening proper events tasks tally run in
           feasible_so events e more j led.last led.leads (leads_open p IsProper lawful (λ t. 0) events start led.last more opening.ended led.leads)
+
+  -- ---- what standings admit
+
+  pub feasible_admitted : FeasibleAdmitted (numbered p) s
+  feasible_admitted events e more feasible =
+      let (end', h) = feasible_leads p IsProper lawful s opening proper (events ++ e ∷ []) feasible in
+      let (w, a, (next, f, last)) = leads_split p events (e ∷ []) start end' h in
+      let base : IsBase p IsProper lawful w = base_at events w a in
+      (run_on p.ops f.steps w.tasks, (λ t. stands_there p IsProper lawful s opening proper events w more a t),
+        admitted p IsProper lawful e (run_on p.ops f.steps w.tasks) (sound_found p IsProper lawful f base.sound) base.beyond f.holds)

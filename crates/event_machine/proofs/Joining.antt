@@ -68,7 +68,7 @@ module _ {L : Type 0} (p : Program L) where
   free_in : (seats : List (Seat L)) (t : ℕ) → is_live (still (view p seats t).standing) ≡ true → t < length seats
   free_in seats t h = in_list p seats t (sym (still_completed (view p seats t).standing) ∙ ap is_completed (is-Live (still (view p seats t).standing) h))
 
-  view_acted : (e : Event) (seats : List (Seat L)) → happens p (λ t. still_seat (view p seats t)) e ≡ true → view p (acted (listed p) seats e) ≡ acted (numbered p) (view p seats) e
+  pub view_acted : (e : Event) (seats : List (Seat L)) → happens p (λ t. still_seat (view p seats t)) e ≡ true → view p (acted (listed p) seats e) ≡ acted (numbered p) (view p seats) e
   view_acted (R c e i) seats h = view_met p seats c e i
       (free_in seats c (and_parts (is_live (still (view p seats c).standing)) _ (split h).0).0)
       (free_in seats (p.owner e) (and_parts (is_live (still (view p seats (p.owner e)).standing)) _
@@ -198,7 +198,7 @@ module _ {L : Type 0} (p : Program L) where
       let let_go : List (Seat L) = map (released p.ops x) seats in
       length_stand let_go x (fallen closing (view p let_go x).standing) ∙ length-map seats (released p.ops x)
 
-  length_acted : (e : Event) (seats : List (Seat L)) → length (acted (listed p) seats e) ≡ length seats
+  pub length_acted : (e : Event) (seats : List (Seat L)) → length (acted (listed p) seats e) ≡ length seats
   length_acted (R c e i) seats =
       length_stand (freed (listed p).store (p.ops.accepted e i c (view p seats c).local) seats (p.owner e)) c (Served (p.owner e) false) ∙
       length_freed (p.ops.accepted e i c (view p seats c).local) seats (p.owner e)
@@ -273,6 +273,11 @@ module _ {L : Type 0} (p : Program L) where
     same_can s e action ∙ run.0,
     back_run actions (after (listed p) s action) (same_length s action run.0 ∙ e) (subst (λ z. IsRun (numbered p) z actions) (sym (same_after s action run.0)) run.1),
   )
+
+  -- a run of the list, as one by numbers, and its end
+  pub same_run : (actions : List Action) (s : State (List (Seat L))) → length s.seats ≡ p.size → IsRun (listed p) s actions →
+    IsRun (numbered p) (by_number p s) actions × (by_number p (end_of (listed p) s actions) ≡ end_of (numbered p) (by_number p s) actions)
+  same_run actions s e run = let j : IsJoined s actions = join_run actions s e run in (j.applies, j.ends)
 
   pub joined : (s : State (List (Seat L))) → length s.seats ≡ p.size → Joined p s
   joined s e events tasks tally = (there, back)

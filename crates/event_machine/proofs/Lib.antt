@@ -6,6 +6,7 @@ pub mod Updates
 pub mod Erasing
 pub mod Offering
 pub mod Sound
+pub mod Admitting
 pub mod Agreeing
 pub mod Effected
 pub mod Stepping

@@ -1,21 +1,24 @@
 -- The laws over tasks in a list, as the code keeps them: each is the law over tasks by their numbers, since the runs are the same.
-use Rattle.std.proofs.Common.{◌≡◌, ℕ, ◌<◌, false, List, [], ◌∷◌, ◌++◌, length, refl, ap, slice_index_or, ◌↔◌}
+use Rattle.std.proofs.Common.{sym, subst, ◌≡◌, ℕ, ◌<◌, false, List, [], ◌∷◌, ◌++◌, length, refl, ap, slice_index_or, ◌↔◌}
 use Rattle.event_machine.specs.declared.Standing.{Standing}
 use Rattle.event_machine.specs.declared.Standing.TheVariants.{Live}
 use Rattle.event_machine.specs.declared.Event.{Event}
 use Rattle.event_machine.specs.Seats.{Ops, Seat, State, completed}
 use Rattle.event_machine.specs.Lawful.{IsLawful}
-use Rattle.event_machine.specs.Runs.{Feasible, end_of}
+use Rattle.event_machine.specs.Runs.{IsRun, Feasible, end_of}
 use Rattle.event_machine.specs.Programs.{Program, numbered, listed, by_number, IsOpening}
 use Rattle.event_machine.specs.Worlds.{World, world_of}
 use Rattle.event_machine.specs.Settling.{ran, HasSteps, Leads}
 use Rattle.event_machine.specs.Tallies.{ComesTo, RestIs, StandsAfter, HasNoEnd, tallies}
-use Rattle.event_machine.specs.Laws.{Determinacy, KilledByEvents, IsVictim, FirstLaw, IsJudged, SecondLaw}
-use Rattle.event_machine.proofs.Joining.{joined}
+use Rattle.event_machine.specs.Laws.{Determinacy, KilledByEvents, IsVictim, FirstLaw, IsJudged, SecondLaw, FeasibleAdmitted}
+use Rattle.event_machine.proofs.Joining.{joined, same_run}
+use Rattle.event_machine.proofs.Queues.{run_suited, run_lined}
+use Rattle.event_machine.specs.Queues.{IsSuited, IsLined}
+use Rattle.event_machine.specs.declared.Action.{Action}
 use Rattle.event_machine.proofs.Resting.{feasible_leads, rest_leads, rest_back, run_of}
-use Rattle.event_machine.proofs.Reaching.{IsLed, run_leads, feasible_back}
+use Rattle.event_machine.proofs.Reaching.{IsLed, run_leads, feasible_back, start_suited, start_lined}
 use Rattle.event_machine.proofs.Determining.{determinacy, killed_by_events}
-use Rattle.event_machine.proofs.Choosing.{first_law, second_law}
+use Rattle.event_machine.proofs.Choosing.{first_law, second_law, feasible_admitted}
 use Rattle.event_machine.proofs.Extending.{feasible_before, comes_sound}
 use Rattle.std.proofs.lemmas.List.{get_or_past}
 use Rattle.event_machine.specs.Soundness.{IsSound}
@@ -160,3 +163,19 @@ module _ {L : Type 0} (ops : Ops L) (owner : ℕ → ℕ) (IsProper : L → Type
           rests = λ t need free. let (n, rest, none) = j.rests t need free in (n, rest_there events t n (j.views t).local rest, none);
           holds = j.holds;
         }
+
+    pub admitted_list : FeasibleAdmitted (listed program) s
+    admitted_list events e more feasible =
+        let (tasks, standing, admits) = feasible_admitted program IsProper lawful numbers opening_numbers proper events e more (feasible_there (events ++ e ∷ []) feasible) in
+        (tasks, (λ t. stands_here events t (tasks t).standing (standing t)), admits)
+
+    -- ---- waits and queues
+
+    -- behind each run of the list each task offers what suits its standing, and each queued one stands in the line once
+    pub queues_list : (actions : List Action) → IsRun (listed program) s actions →
+      IsSuited ops (by_number program (end_of (listed program) s actions)).seats × IsLined (by_number program (end_of (listed program) s actions))
+    queues_list actions run =
+        let (there, ends) = same_run program actions s refl run in
+        (subst (λ (z : State (ℕ → Seat L)). IsSuited ops z.seats) (sym ends)
+          (run_suited program actions numbers there (start_suited program IsProper lawful numbers opening_numbers proper)),
+          subst IsLined (sym ends) (run_lined program actions numbers there (start_lined program IsProper lawful numbers opening_numbers proper)))

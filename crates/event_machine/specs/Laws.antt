@@ -11,6 +11,7 @@ use Rattle.event_machine.specs.Runs.{IsRun, end_of, events_of, Feasible}
 use Rattle.event_machine.specs.Programs.{Program, numbered, listed, by_number}
 use Rattle.event_machine.specs.Worlds.{World, Move, still, world_of, state_of, IsStill, needs, happens, is_last, AreMoves, world_after, happened, counts_after}
 use Rattle.event_machine.specs.Settling.{ran, HasSteps, Fires, Leads, Follows}
+use Rattle.event_machine.specs.Admitting.{IsAdmitted}
 use Rattle.event_machine.specs.Soundness.{IsSound}
 use Rattle.event_machine.specs.Tallies.{tallied, tallies, ComesTo, RestIs, StandsAfter, HasNoEnd, IsKilledIn}
 
@@ -163,3 +164,9 @@ pub record IsJudged {L C : Type 0} (rules : Rules L C) (s : State C) (events : L
 -- Second law: an event is feasible after the events exactly where it is judged so.
 abbrev pub SecondLaw : {L C : Type 0} → Rules L C → State C → Type 0
 SecondLaw rules s = (events : List Event) (e : Event) → HasNoEnd events → Feasible rules s (events ++ e ∷ []) ↔ IsJudged rules s events e
+
+-- An event that is feasible after the events is one that the standings after them admit.
+abbrev pub FeasibleAdmitted : {L C : Type 0} → Rules L C → State C → Type 0
+FeasibleAdmitted {L} rules s =
+    (events : List Event) (e : Event) → HasNoEnd events → Feasible rules s (events ++ e ∷ []) →
+    (tasks : ℕ → Seat L) × ((t : ℕ) → StandsAfter rules s events t (tasks t).standing) × IsAdmitted rules.owner tasks e

@@ -7,6 +7,7 @@ pub mod Lawful
 pub mod Programs
 pub mod Worlds
 pub mod Settling
+pub mod Admitting
 pub mod Soundness
 pub mod Queues
 pub mod Tallies
