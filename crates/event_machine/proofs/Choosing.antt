@@ -187,6 +187,8 @@ module _ {L : Type 0} (p : Program L) (IsProper : L → Type 0) (lawful : IsLawf
   feasible_admitted events e more feasible =
       let (end', h) = feasible_leads p IsProper lawful s opening proper (events ++ e ∷ []) feasible in
       let (w, a, (next, f, last)) = leads_split p events (e ∷ []) start end' h in
-      let base : IsBase p IsProper lawful w = base_at events w a in
-      (run_on p.ops f.steps w.tasks, (λ t. stands_there p IsProper lawful s opening proper events w more a t),
-        admitted p IsProper lawful e (run_on p.ops f.steps w.tasks) (sound_found p IsProper lawful f base.sound) base.beyond f.holds)
+      let base : IsBase p IsProper lawful w = base_at events w a in (
+        run_on p.ops f.steps w.tasks,
+        (λ t. stands_there p IsProper lawful s opening proper events w more a t),
+        admitted p IsProper lawful e (run_on p.ops f.steps w.tasks) (sound_found p IsProper lawful f base.sound) base.beyond f.holds,
+      )

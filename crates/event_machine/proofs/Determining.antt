@@ -83,7 +83,7 @@ module _ {L : Type 0} (p : Program L) (IsProper : L → Type 0) (lawful : IsLawf
   patient_end : (events : List Event) (tasks : ℕ → Seat L) (tally : ℕ → ℕ) → ComesTo (numbered p) s events tasks tally → (t : ℕ) → IsPatientAt p (tasks t)
   patient_end events tasks tally run t = subst (IsPatientAt p) (run.leaves t)
       (suited_patient p lawful.rests ((end_of (numbered p) s run.actions).seats t)
-        (run_suited p run.actions s run.applies (start_suited p IsProper lawful s opening proper) t))
+      (run_suited p run.actions s run.applies (start_suited p IsProper lawful s opening proper) t))
 
   pub determinacy : Determinacy (numbered p) s
   determinacy events tasks others tally others_tally run other = record {

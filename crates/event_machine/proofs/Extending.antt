@@ -20,7 +20,7 @@ use Rattle.event_machine.proofs.Stills.{still_closed, still_served_by}
 use Rattle.event_machine.proofs.Standings.{is-Live, still_live}
 use Rattle.event_machine.proofs.Stepping.{settles_once, settles_most}
 use Rattle.event_machine.proofs.Agreeing.{ReadsSame, happens_same}
-use Rattle.event_machine.proofs.Queues.{IsPatientAt, suited_patient}
+use Rattle.event_machine.proofs.Queues.{suited_patient}
 use Rattle.event_machine.specs.Queues.{IsSuited}
 use Rattle.event_machine.specs.Offers.{Nothing}
 use Rattle.event_machine.proofs.Erasing.{erasing}
@@ -56,7 +56,7 @@ module _ {L : Type 0} {ops : Ops L} {IsProper : L → Type 0} {tasks : ℕ → S
 
 -- where each task offers what suits its standing, no live task has a local step exactly where no free task has one
 pub quiet_still : {L : Type 0} (p : Program L) → ((l : L) → p.ops.can_step l ≡ true → p.ops.offer l ≡ Nothing) → (seats : ℕ → Seat L) → IsSuited p.ops seats →
-  IsQuiet p.ops seats → IsQuiet p.ops (λ t. still_seat (seats t))
+    IsQuiet p.ops seats → IsQuiet p.ops (λ t. still_seat (seats t))
 quiet_still p rests seats suited quiet t free =
     ⊎_elim (λ q. quiet t (ap is_live (sym q) ∙ free)) (λ q. q) (suited_patient p rests (seats t) (suited t))
 

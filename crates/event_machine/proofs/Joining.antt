@@ -276,7 +276,7 @@ module _ {L : Type 0} (p : Program L) where
 
   -- a run of the list, as one by numbers, and its end
   pub same_run : (actions : List Action) (s : State (List (Seat L))) → length s.seats ≡ p.size → IsRun (listed p) s actions →
-    IsRun (numbered p) (by_number p s) actions × (by_number p (end_of (listed p) s actions) ≡ end_of (numbered p) (by_number p s) actions)
+      IsRun (numbered p) (by_number p s) actions × (by_number p (end_of (listed p) s actions) ≡ end_of (numbered p) (by_number p s) actions)
   same_run actions s e run = let j : IsJoined s actions = join_run actions s e run in (j.applies, j.ends)
 
   pub joined : (s : State (List (Seat L))) → length s.seats ≡ p.size → Joined p s

@@ -173,9 +173,10 @@ module _ {L : Type 0} (ops : Ops L) (owner : ℕ → ℕ) (IsProper : L → Type
 
     -- behind each run of the list each task offers what suits its standing, and each queued one stands in the line once
     pub queues_list : (actions : List Action) → IsRun (listed program) s actions →
-      IsSuited ops (by_number program (end_of (listed program) s actions)).seats × IsLined (by_number program (end_of (listed program) s actions))
+        IsSuited ops (by_number program (end_of (listed program) s actions)).seats × IsLined (by_number program (end_of (listed program) s actions))
     queues_list actions run =
-        let (there, ends) = same_run program actions s refl run in
-        (subst (λ (z : State (ℕ → Seat L)). IsSuited ops z.seats) (sym ends)
-          (run_suited program actions numbers there (start_suited program IsProper lawful numbers opening_numbers proper)),
-          subst IsLined (sym ends) (run_lined program actions numbers there (start_lined program IsProper lawful numbers opening_numbers proper)))
+        let (there, ends) = same_run program actions s refl run in (
+          subst (λ (z : State (ℕ → Seat L)). IsSuited ops z.seats) (sym ends)
+              (run_suited program actions numbers there (start_suited program IsProper lawful numbers opening_numbers proper)),
+          subst IsLined (sym ends) (run_lined program actions numbers there (start_lined program IsProper lawful numbers opening_numbers proper)),
+        )

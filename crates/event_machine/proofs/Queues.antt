@@ -1,7 +1,6 @@
 -- A task that waits or is queued stands where it arrived, and so has no local step; and each queued task stands in the line once.
-use Rattle.std.proofs.Common.{◌≡◌, ℕ, zero, suc, ◌+◌, Bool, true, false, not, ◌&&◌, ◌||◌, ◌==◌, if◌then◌else◌, cond, List, [], ◌∷◌, ◌++◌, filter, Option, Some, None, refl, sym, ap, ap₂, ◌∙◌, subst, inl, inr, ◌⊎◌, ⊎_elim, true≢false, arith}
-use Rattle.std.specs.Prelude.{ℤ, is_some}
-use Rattle.std.proofs.lemmas.Bool.{eqb-true, eqb-false, ne_eqb, and_parts, or_cases, cases_Bool}
+use Rattle.std.proofs.Common.{◌≡◌, ℕ, ◌+◌, Bool, true, false, not, ◌==◌, if◌then◌else◌, cond, List, [], ◌∷◌, ◌++◌, Option, Some, None, refl, sym, ap, ap₂, ◌∙◌, subst, inl, inr, ◌⊎◌, ⊎_elim, true≢false, arith}
+use Rattle.std.proofs.lemmas.Bool.{eqb-true, eqb-false, ne_eqb, and_parts}
 use Rattle.event_machine.specs.declared.Standing.{Standing}
 use Rattle.event_machine.specs.declared.Standing.TheVariants.{Live, Waiting, Queued, Served, Completed, Killed}
 use Rattle.event_machine.specs.declared.Action.{Action}
@@ -9,14 +8,14 @@ use Rattle.event_machine.specs.declared.Action.TheVariants.{Local, Arrive, Start
 use Rattle.event_machine.specs.declared.Event.{Event}
 use Rattle.event_machine.specs.declared.Event.TheVariants.{R, E, S, D, C, T, F, X, B, Z}
 use Rattle.event_machine.specs.Offers.{Offer, Nothing, Calls, Waits, Finishes, Ends, Aborts, aborted_by}
-use Rattle.event_machine.specs.Seats.{Ops, Seat, State, live, completed, seen, is_live, is_waiting, is_queued, is_closed, is_served_by, is_abnormal}
+use Rattle.event_machine.specs.Seats.{Seat, State, live, completed, seen, is_live, is_waiting, is_queued, is_closed, is_served_by, is_abnormal}
 use Rattle.event_machine.specs.Rows.{can, row, arrives, starts}
-use Rattle.event_machine.specs.Effects.{after, event_of, freed, stand, without, arrived_standing, arrived_line, met, met_at, parted, released_first, parted_both, released, fallen, aborted, went_on, abort_seats, after_abort}
+use Rattle.event_machine.specs.Effects.{after, freed, stand, without, arrived_standing, arrived_line, met, parted, released_first, released, fallen, aborted, went_on, abort_seats, after_abort}
 use Rattle.event_machine.specs.Runs.{IsRun, end_of}
 use Rattle.event_machine.specs.Programs.{Program, numbered}
 use Rattle.event_machine.specs.Worlds.{still, acted}
 use Rattle.event_machine.specs.Soundness.{times}
-use Rattle.event_machine.specs.Queues.{is_wait, is_queueing, suits, IsSuited, IsLined}
+use Rattle.event_machine.specs.Queues.{suits, IsSuited, IsLined}
 use Rattle.event_machine.proofs.Basics.{split, equal_self}
 use Rattle.event_machine.proofs.Standings.{is-Live, is-Waiting}
 use Rattle.event_machine.proofs.Erasing.{event_or_silent, is_silent}
@@ -89,9 +88,9 @@ module _ {L : Type 0} (p : Program L) where
       go false = freed_suited p.ops.passed seats u h
 
   aborted_suited : (seats : ℕ → Seat L) (x : ℕ) (closing : Standing) → ((offer : Offer) → suits closing offer ≡ true) → IsSuited p.ops seats →
-    IsSuited p.ops (aborted (numbered p) seats x closing)
+      IsSuited p.ops (aborted (numbered p) seats x closing)
   aborted_suited seats x closing e h =
-    put_suited (λ u. released p.ops x (seats u)) x (record { local = (released p.ops x (seats x)).local; standing = fallen closing (released p.ops x (seats x)).standing })
+      put_suited (λ u. released p.ops x (seats u)) x (record { local = (released p.ops x (seats x)).local; standing = fallen closing (released p.ops x (seats x)).standing })
       (λ u. released_suited x (seats u) (h u))
       (fallen_suits closing (released p.ops x (seats x)).standing (p.ops.offer (released p.ops x (seats x)).local) (e (p.ops.offer (released p.ops x (seats x)).local)))
 
@@ -99,14 +98,14 @@ module _ {L : Type 0} (p : Program L) where
   abort_suited seats u x h = go (is_closed (seats x).standing)
     where
       go : (b : Bool) → IsSuited p.ops
-        (if◌then◌else◌ {A = ℕ → Seat L} b (went_on (numbered p) seats u x) (aborted (numbered p) (went_on (numbered p) seats u x) x (if x == u then Completed else Killed)))
+          (if◌then◌else◌ {A = ℕ → Seat L} b (went_on (numbered p) seats u x) (aborted (numbered p) (went_on (numbered p) seats u x) x (if x == u then Completed else Killed)))
       go true = went_suited seats u x h
       go false = aborted_suited (went_on (numbered p) seats u x) x (if x == u then Completed else Killed) (closing_suits (x == u)) (went_suited seats u x h)
 
   acted_suited : (e : Event) (seats : ℕ → Seat L) → IsSuited p.ops seats → IsSuited p.ops (acted (numbered p) seats e)
   acted_suited (R c e i) seats h =
-    let opened : ℕ → Seat L = freed (numbered p).store (p.ops.accepted e i c (seats c).local) seats (p.owner e) in
-    put_suited opened c (record { local = (opened c).local; standing = Served (p.owner e) false })
+      let opened : ℕ → Seat L = freed (numbered p).store (p.ops.accepted e i c (seats c).local) seats (p.owner e) in
+      put_suited opened c (record { local = (opened c).local; standing = Served (p.owner e) false })
       (freed_suited (p.ops.accepted e i c (seats c).local) seats (p.owner e) h) refl
   acted_suited (E a) seats h = first_suited a (seats a).local (p.ops.callers (seats a).local) (freed (numbered p).store p.ops.finished seats a) (freed_suited p.ops.finished seats a h)
   acted_suited (S a) seats h = freed_suited p.ops.took_else seats a h
@@ -128,10 +127,10 @@ module _ {L : Type 0} (p : Program L) where
   arrived_suits s (Aborts x) h = refl
 
   silent_suited : (s : State (ℕ → Seat L)) (action : Action) → is_silent action ≡ true → can (numbered p) s action ≡ true → IsSuited p.ops s.seats →
-    IsSuited p.ops (after (numbered p) s action).seats
+      IsSuited p.ops (after (numbered p) s action).seats
   silent_suited s (Local t) k c h = freed_suited p.ops.stepped s.seats t h
   silent_suited s (Arrive t) k c h = put_suited s.seats t (record { local = (s.seats t).local; standing = arrived_standing (p.ops.offer (s.seats t).local) }) h
-    (arrived_suits s (p.ops.offer (s.seats t).local) (split (split c).1).1)
+      (arrived_suits s (p.ops.offer (s.seats t).local) (split (split c).1).1)
   silent_suited s (Start d) k c h = absurd (true≢false (sym k))
   silent_suited s (Finish a) k c h = absurd (true≢false (sym k))
   silent_suited s (Else a) k c h = absurd (true≢false (sym k))
@@ -145,9 +144,9 @@ module _ {L : Type 0} (p : Program L) where
 
   action_suited : (s : State (ℕ → Seat L)) (action : Action) → can (numbered p) s action ≡ true → IsSuited p.ops s.seats → IsSuited p.ops (after (numbered p) s action).seats
   action_suited s action c h = ⊎_elim
-    (λ k. subst (IsSuited p.ops) (sym k.1.seats) (acted_suited k.0 s.seats h))
-    (λ k. silent_suited s action k c h)
-    (event_or_silent p s action (split c).1)
+      (λ k. subst (IsSuited p.ops) (sym k.1.seats) (acted_suited k.0 s.seats h))
+      (λ k. silent_suited s action k c h)
+      (event_or_silent p s action (split c).1)
 
   -- In a run each task goes on to offer what suits its standing.
   pub run_suited : (actions : List Action) (s : State (ℕ → Seat L)) → IsRun (numbered p) s actions → IsSuited p.ops s.seats → IsSuited p.ops (end_of (numbered p) s actions).seats
@@ -174,7 +173,7 @@ module _ {L : Type 0} (p : Program L) where
 
   -- a seat that is queued exactly where the one before was
   line_put : (seats : ℕ → Seat L) (line : List ℕ) (a : ℕ) (seat : Seat L) → LineOf seats line → is_queued seat.standing ≡ is_queued (seats a).standing →
-    LineOf ((numbered p).store.put seats a seat) line
+      LineOf ((numbered p).store.put seats a seat) line
   line_put seats line a seat h e t = go (t == a) refl
     where
       go : (b : Bool) → (t == a) ≡ b → times t line ≡ (if is_queued (if b then seat else seats t).standing then 1 else 0)
@@ -182,7 +181,7 @@ module _ {L : Type 0} (p : Program L) where
       go false q = h t
 
   line_map : (seats : ℕ → Seat L) (line : List ℕ) (f : Seat L → Seat L) → LineOf seats line → ((seat : Seat L) → is_queued (f seat).standing ≡ is_queued seat.standing) →
-    LineOf (λ u. f (seats u)) line
+      LineOf (λ u. f (seats u)) line
   line_map seats line f h e t = h t ∙ ap (λ x. if x then 1 else 0) (sym (e (seats t)))
 
   times_without : (c t : ℕ) (line : List ℕ) → times t (without c line) ≡ (if t == c then 0 else times t line)
@@ -194,7 +193,7 @@ module _ {L : Type 0} (p : Program L) where
   times_without c t (x ∷ line) = go (x == c) refl (times_without c t line)
     where
       go : (b : Bool) → (x == c) ≡ b → times t (without c line) ≡ (if t == c then 0 else times t line) →
-        times t (cond (not b) (x ∷ without c line) (without c line)) ≡ (if t == c then 0 else ((if x == t then 1 else 0) + times t line))
+          times t (cond (not b) (x ∷ without c line) (without c line)) ≡ (if t == c then 0 else ((if x == t then 1 else 0) + times t line))
       go true q ih = ih ∙ here (t == c) refl
         where
           here : (d : Bool) → (t == c) ≡ d → (if d then 0 else times t line) ≡ (if d then 0 else ((if x == t then 1 else 0) + times t line))
@@ -211,7 +210,7 @@ module _ {L : Type 0} (p : Program L) where
 
   -- c has left, and stands otherwise
   line_leave : (seats : ℕ → Seat L) (line : List ℕ) (c : ℕ) (seat : Seat L) → LineOf seats line → is_queued seat.standing ≡ false →
-    LineOf ((numbered p).store.put seats c seat) (without c line)
+      LineOf ((numbered p).store.put seats c seat) (without c line)
   line_leave seats line c seat h e t = times_without c t line ∙ go (t == c)
     where
       go : (b : Bool) → (if b then 0 else times t line) ≡ (if is_queued (if b then seat else seats t).standing then 1 else 0)
@@ -230,14 +229,14 @@ module _ {L : Type 0} (p : Program L) where
 
   -- c has joined at the end
   line_join : (seats : ℕ → Seat L) (line : List ℕ) (c : ℕ) (seat : Seat L) → LineOf seats line → is_queued (seats c).standing ≡ false → is_queued seat.standing ≡ true →
-    LineOf ((numbered p).store.put seats c seat) (line ++ c ∷ [])
+      LineOf ((numbered p).store.put seats c seat) (line ++ c ∷ [])
   line_join seats line c seat h before e t = times_end t c line ∙ go (t == c) refl
     where
       go : (b : Bool) → (t == c) ≡ b → times t line + (if c == t then 1 else 0) ≡ (if is_queued (if b then seat else seats t).standing then 1 else 0)
       go true q =
-        ap₂ (λ n b. n + (if b then 1 else 0)) (h t ∙ ap (λ v. if is_queued (seats v).standing then 1 else 0) (eqb-true t c q) ∙ ap (λ x. if x then 1 else 0) before)
+          ap₂ (λ n b. n + (if b then 1 else 0)) (h t ∙ ap (λ v. if is_queued (seats v).standing then 1 else 0) (eqb-true t c q) ∙ ap (λ x. if x then 1 else 0) before)
           (ap (λ v. c == v) (eqb-true t c q) ∙ equal_self c) ∙
-        ap (λ x. if x then 1 else 0) (sym e)
+          ap (λ x. if x then 1 else 0) (sym e)
       go false q = ap (λ b. times t line + (if b then 1 else 0)) (ne_eqb c t (λ r. eqb-false t c q (sym r))) ∙ plus_none (times t line) ∙ h t
         where
           plus_none : (n : ℕ) → n + 0 ≡ n
@@ -267,7 +266,7 @@ module _ {L : Type 0} (p : Program L) where
   parted_queued a acceptor seat = go (is_served_by a seat.standing) refl
     where
       go : (b : Bool) → is_served_by a seat.standing ≡ b →
-        is_queued (if b then (if is_abnormal seat.standing then completed seat.local else live (p.ops.resumed acceptor seat.local)) else seat).standing ≡ is_queued seat.standing
+          is_queued (if b then (if is_abnormal seat.standing then completed seat.local else live (p.ops.resumed acceptor seat.local)) else seat).standing ≡ is_queued seat.standing
       go true q = gone_unqueued (p.ops.resumed acceptor seat.local) seat (is_abnormal seat.standing) ∙ sym (served_unqueued a seat.standing q)
       go false q = refl
 
@@ -275,7 +274,7 @@ module _ {L : Type 0} (p : Program L) where
   released_queued x seat = go (is_served_by x seat.standing) refl
     where
       go : (b : Bool) → is_served_by x seat.standing ≡ b →
-        is_queued (if b then (if is_abnormal seat.standing then completed seat.local else live (p.ops.raised seat.local)) else seat).standing ≡ is_queued seat.standing
+          is_queued (if b then (if is_abnormal seat.standing then completed seat.local else live (p.ops.raised seat.local)) else seat).standing ≡ is_queued seat.standing
       go true q = gone_unqueued (p.ops.raised seat.local) seat (is_abnormal seat.standing) ∙ sym (served_unqueued x seat.standing q)
       go false q = refl
 
@@ -296,22 +295,22 @@ module _ {L : Type 0} (p : Program L) where
   freed_lined f s a h e = line_put s.seats s.line a (live (f (s.seats a).local)) h (sym e)
 
   arrive_lined : (s : State (ℕ → Seat L)) (t : ℕ) → IsLined s → is_live (s.seats t).standing ≡ true → (offer : Offer) → arrives p.owner (seen (numbered p) s) offer ≡ true →
-    LineOf (stand (numbered p).store s.seats t (arrived_standing offer)) (arrived_line t offer s.line)
+      LineOf (stand (numbered p).store s.seats t (arrived_standing offer)) (arrived_line t offer s.line)
   arrive_lined s t h free Nothing c = absurd (true≢false (sym c))
   arrive_lined s t h free (Calls form e i) c =
-    line_join s.seats s.line t (record { local = (s.seats t).local; standing = Queued }) h (live_unqueued (s.seats t).standing free) refl
+      line_join s.seats s.line t (record { local = (s.seats t).local; standing = Queued }) h (live_unqueued (s.seats t).standing free) refl
   arrive_lined s t h free (Waits choices) c =
-    line_put s.seats s.line t (record { local = (s.seats t).local; standing = Waiting }) h (sym (live_unqueued (s.seats t).standing free))
+      line_put s.seats s.line t (record { local = (s.seats t).local; standing = Waiting }) h (sym (live_unqueued (s.seats t).standing free))
   arrive_lined s t h free Finishes c = absurd (true≢false (sym c))
   arrive_lined s t h free Ends c = absurd (true≢false (sym c))
   arrive_lined s t h free (Aborts x) c = absurd (true≢false (sym c))
 
   start_lined : (s : State (ℕ → Seat L)) (c : ℕ) → IsLined s → (offer : Offer) → starts p.ops p.owner (seen (numbered p) s) c offer ≡ true →
-    LineOf (met (numbered p) s.seats c offer) (without c s.line)
+      LineOf (met (numbered p) s.seats c offer) (without c s.line)
   start_lined s c h Nothing k = absurd (true≢false (sym k))
   start_lined s c h (Calls form e i) k =
-    let opened : ℕ → Seat L = freed (numbered p).store (p.ops.accepted e i c (s.seats c).local) s.seats (p.owner e) in
-    line_leave opened s.line c (record { local = (opened c).local; standing = Served (p.owner e) false })
+      let opened : ℕ → Seat L = freed (numbered p).store (p.ops.accepted e i c (s.seats c).local) s.seats (p.owner e) in
+      line_leave opened s.line c (record { local = (opened c).local; standing = Served (p.owner e) false })
       (freed_lined (p.ops.accepted e i c (s.seats c).local) s (p.owner e) h (waiting_unqueued (s.seats (p.owner e)).standing (split (split k).0).0)) refl
   start_lined s c h (Waits choices) k = absurd (true≢false (sym k))
   start_lined s c h Finishes k = absurd (true≢false (sym k))
@@ -331,16 +330,17 @@ module _ {L : Type 0} (p : Program L) where
 
   aborted_lined : (seats : ℕ → Seat L) (line : List ℕ) (x : ℕ) (closing : Standing) → is_queued closing ≡ false → LineOf seats line → LineOf (aborted (numbered p) seats x closing) (without x line)
   aborted_lined seats line x closing e h =
-    line_leave (λ u. released p.ops x (seats u)) line x (record { local = (released p.ops x (seats x)).local; standing = fallen closing (released p.ops x (seats x)).standing })
+      line_leave (λ u. released p.ops x (seats u)) line x (record { local = (released p.ops x (seats x)).local; standing = fallen closing (released p.ops x (seats x)).standing })
       (line_map seats line (released p.ops x) h (released_queued x)) (fallen_unqueued closing (released p.ops x (seats x)).standing e)
 
   abort_lined : (s : State (ℕ → Seat L)) (t : ℕ) → IsLined s → is_live (s.seats t).standing ≡ true → (o : Option ℕ) →
-    LineOf (after_abort (numbered p) s t o).seats (after_abort (numbered p) s t o).line
+      LineOf (after_abort (numbered p) s t o).seats (after_abort (numbered p) s t o).line
   abort_lined s t h free None = h
   abort_lined s t h free (Some x) = go (is_closed (s.seats x).standing)
     where
       went : ℕ → Seat L
       went = went_on (numbered p) s.seats t x
+
       go : (b : Bool) → LineOf (if◌then◌else◌ {A = ℕ → Seat L} b went (aborted (numbered p) went x (if x == t then Completed else Killed))) (if b then s.line else without x s.line)
       go true = went_lined s t x h free
       go false = aborted_lined went s.line x (if x == t then Completed else Killed) (closing_unqueued (x == t)) (went_lined s t x h free)
@@ -350,14 +350,14 @@ module _ {L : Type 0} (p : Program L) where
   action_lined s (Arrive t) c h = arrive_lined s t h (split c).0 (p.ops.offer (s.seats t).local) (split c).1
   action_lined s (Start d) c h = start_lined s d h (p.ops.offer (s.seats d).local) c
   action_lined s (Finish a) c h = first_lined a (s.seats a).local (p.ops.callers (s.seats a).local) (freed (numbered p).store p.ops.finished s.seats a) s.line
-    (freed_lined p.ops.finished s a h (live_unqueued (s.seats a).standing (split c).0))
+      (freed_lined p.ops.finished s a h (live_unqueued (s.seats a).standing (split c).0))
   action_lined s (Else a) c h = freed_lined p.ops.took_else s a h (waiting_unqueued (s.seats a).standing (split c).0)
   action_lined s (Delay a k) c h = freed_lined (p.ops.took_delay k) s a h (waiting_unqueued (s.seats a).standing (split c).0)
   action_lined s (CallElse d) c h = freed_lined p.ops.took_else s d h (live_unqueued (s.seats d).standing (split c).0)
   action_lined s (Expire d) c h = line_leave s.seats s.line d (live (p.ops.took_delay 1 (s.seats d).local)) h refl
   action_lined s (Fail d) c h = line_leave s.seats s.line d (live (p.ops.raised (s.seats d).local)) h refl
   action_lined s (Complete a) c h = line_put s.seats s.line a (record { local = (s.seats a).local; standing = Completed }) h
-    (sym (live_unqueued (s.seats a).standing (and_parts (is_live (s.seats a).standing) _ (and_parts (not (a == 0)) _ c).1).0))
+      (sym (live_unqueued (s.seats a).standing (and_parts (is_live (s.seats a).standing) _ (and_parts (not (a == 0)) _ c).1).0))
   action_lined s (Abort t) c h = abort_lined s t h (split c).0 (aborted_by (p.ops.offer (s.seats t).local))
   action_lined s End c h = h
 
