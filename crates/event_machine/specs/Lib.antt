@@ -3,3 +3,12 @@ pub mod Seats
 pub mod Rows
 pub mod Effects
 pub mod Runs
+pub mod Lawful
+pub mod Programs
+pub mod Worlds
+pub mod Settling
+pub mod Admitting
+pub mod Soundness
+pub mod Queues
+pub mod Tallies
+pub mod Laws
