@@ -2,3 +2,4 @@ pub mod Ending
 pub mod Mapping
 pub mod Filtered
 pub mod Listed
+pub mod TaskLaws

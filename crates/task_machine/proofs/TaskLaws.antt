@@ -1,0 +1,62 @@
+-- The laws of the machine for these tasks.
+use Rattle.std.proofs.Common.{◌≡◌, ℕ, zero, suc, ◌<◌, ◌≤◌, ◌+◌, Bool, true, false, List, [], ◌∷◌, ◌++◌, length, refl, sym, ap, ◌∙◌, subst, slice_index_or, inl, inr, ⊎_elim, arith, length-append}
+use Rattle.std.proofs.lemmas.Bool.{cases_lt}
+use Rattle.std.proofs.lemmas.List.{get_or_append_left, get_or_push}
+use Rattle.event_machine.specs.declared.Standing.TheVariants.{Live}
+use Rattle.event_machine.specs.Seats.{Seat, State, live, completed}
+use Rattle.event_machine.specs.Laws.{Determinacy, FirstLaw, SecondLaw, KilledByEvents, FeasibleAdmitted}
+use Rattle.event_machine.specs.Programs.{IsOpening}
+use Rattle.event_machine.proofs.ListLaws.{determinacy_list, first_law_list, second_law_list, killed_list, admitted_list, opening_list}
+use Rattle.ada_tree.specs.PlainProgram.{PProgram}
+use Rattle.syn_event.specs.Numbering.{Numbering, owner_of}
+use Rattle.task_local.specs.Control.{Task}
+use Rattle.task_local.specs.Steps.{task_ops, started, nobody}
+use Rattle.task_local.proofs.Lawful.{IsProper, lawful}
+use Rattle.task_machine.specs.Table.{Tasks, rules_of}
+use Rattle.task_machine.specs.Opening.{first_tasks, opening_of}
+
+module _ (p : PProgram) (numbers : Numbering) where
+  length_first : (n : ℕ) → length (first_tasks p numbers n) ≡ n
+  length_first zero = refl
+  length_first (suc n) =
+      let e : length (first_tasks p numbers n) ≡ n = length_first n in
+      length-append (first_tasks p numbers n) (live (started p numbers n) ∷ []) ∙ (let k : length (first_tasks p numbers n) + 1 ≡ suc n = omega arith in k)
+
+  -- each task is one that has started
+  first_at : (n t : ℕ) (P : Seat Task → Type 0) → ((u : ℕ) → P (live (started p numbers u))) → t < n → P (slice_index_or (first_tasks p numbers n) t (completed nobody))
+  first_at zero t P h l = absurd (omega arith)
+  first_at (suc n) t P h l = ⊎_elim
+      (λ (k : t < n). subst P (sym (get_or_append_left (first_tasks p numbers n) (live (started p numbers n) ∷ []) (completed nobody) t
+      (let e : length (first_tasks p numbers n) ≡ n = length_first n in omega arith))) (first_at n t P h k))
+      (λ (k : n ≤ t). let e : n ≡ t = omega arith in
+      subst P (sym (get_or_push (first_tasks p numbers n) (live (started p numbers n)) (completed nobody) t (length_first n ∙ e))) (h n))
+      (cases_lt t n)
+
+  abbrev opening : State Tasks
+  opening = (opening_of p numbers).state
+
+  below : (t : ℕ) → t < length opening.seats → t < length numbers.tasks
+  below t l = let e : length opening.seats ≡ length numbers.tasks = length_first (length numbers.tasks) in omega arith
+
+  opens : IsOpening (rules_of numbers) opening
+  opens = opening_list task_ops (owner_of numbers) IsProper lawful opening refl refl
+      (λ t l. first_at (length numbers.tasks) t (λ x. x.standing ≡ Live) (λ u. refl) (below t l))
+      (λ t l. first_at (length numbers.tasks) t (λ x. task_ops.callers x.local ≡ []) (λ u. refl) (below t l))
+
+  proper : (t : ℕ) → t < length opening.seats → IsProper (slice_index_or opening.seats t (completed nobody)).local
+  proper t l = first_at (length numbers.tasks) t (λ x. IsProper x.local) (λ u. refl) (below t l)
+
+  pub the_determinacy : Determinacy (rules_of numbers) opening
+  the_determinacy = determinacy_list task_ops (owner_of numbers) IsProper lawful opening opens proper
+
+  pub the_first_law : FirstLaw (rules_of numbers) opening
+  the_first_law = first_law_list task_ops (owner_of numbers) IsProper lawful opening opens proper
+
+  pub the_second_law : SecondLaw (rules_of numbers) opening
+  the_second_law = second_law_list task_ops (owner_of numbers) IsProper lawful opening opens proper
+
+  pub the_admitted : FeasibleAdmitted (rules_of numbers) opening
+  the_admitted = admitted_list task_ops (owner_of numbers) IsProper lawful opening opens proper
+
+  pub the_killed : KilledByEvents (rules_of numbers) opening
+  the_killed = killed_list task_ops (owner_of numbers) IsProper lawful opening opens proper
