@@ -40,9 +40,9 @@ pub fn debug_main<F: Files, O: Sink, E: Sink>(
         } result }
 {
     match command_of(words) {
-        Some(run) => {
-            let outcome = run_file(alloc, run.file, run.turns, files, out);
-            close(outcome, run.file, err)
+        Some(asked) => {
+            let outcome = run_file(alloc, asked.file, asked.turns, files, out);
+            close(outcome, asked.file, err)
         }
         None => close(Err(Failure::Usage), "", err),
     }

@@ -20,6 +20,6 @@ returns-in-Some g c =
         } in
     record {
       answer = subst (λ asked. Answers asked sides c.close.result) c.in-Some.ensures
-          (answered_run c.in-Some.run.file.now c.in-Some.run.turns sides c.close.result c.run_file-outcome.result c.run_file-outcome.ensures.ran
+          (answered_run c.in-Some.asked.file.now c.in-Some.asked.turns sides c.close.result c.run_file-outcome.result c.run_file-outcome.ensures.ran
               c.run_file-outcome.ensures.cause c.close.ensures)
       }
