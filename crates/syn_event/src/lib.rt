@@ -5,6 +5,8 @@
 mod numbering;
 mod origin;
 mod showing;
+#[cfg(test)]
+mod tests;
 
 pub use event_machine::Event;
 pub use numbering::{EntryInfo, Mode, Numbers, TaskInfo};
