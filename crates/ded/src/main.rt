@@ -1,6 +1,10 @@
 //! The program: its words, the real files and the two real outputs are handed to the one call that does its work.
 #![tactic(auto)]
 
+ghost use Rattle.std.specs.Prelude.{◌≡◌, ◌⊎◌, codes};
+ghost use Rattle.ded_io.specs.Counts.{Rose};
+ghost use Rattle.ded_io.specs.Written.{appended};
+
 mod real_files;
 mod std_sink;
 
@@ -46,7 +50,10 @@ fn status_of(rt: &HostRuntime) -> u8 {
 }
 
 // Says that there was no memory for the words.
-fn without_memory<K: Sink>(err: &mut K) -> u8 {
+#[tactic(auto, unfolding(ded_io::specs::Written::Wrote))]
+fn without_memory<K: Sink>(err: &mut K) -> u8
+    ensures { ((result ≡ 9) × (K.told err.new ≡ appended (K.told err.old) (codes "ded: out of memory\n"))) ⊎ ((result ≡ 7) × Rose (K.faults err.old) (K.faults err.new)) }
+{
     match err.put(b"ded: out of memory\n") {
         Ok(()) => OUT_OF_MEMORY,
         Err(_) => OUTPUT_FAILED,

@@ -1,5 +1,5 @@
 //! The files of the operating system.
-ghost use Rattle.std.specs.Prelude.{◌≡◌, ◌≤◌, IfOk, IfErr, None, [], vec_len};
+ghost use Rattle.std.specs.Prelude.{◌≡◌, ◌<◌, ◌≤◌, ◌-◌, ◌^◌, IfOk, IfErr, IfSome, IsErrOf, None, [], length, vec_len};
 ghost use Rattle.ded_io.specs.Told.{TooLongFor};
 
 use ded_io::{Files, LoadError};
@@ -36,9 +36,13 @@ impl<R: rt::Files + Drop> RealFiles<R> {
     }
 }
 
-// All that the reader gives, if it is at most `limit` bytes; no more than one byte beyond the limit is read.
+// All that the reader gives, if it is at most `limit` bytes; no more than one byte beyond the limit is read. The greatest limit takes no
+// byte beyond it, so that a reader with more to give is not seen there.
+#[tactic(auto, using(crate::proofs::Fronts::whole))]
 fn read_whole<F: Read + Drop>(alloc: Global, file: F, limit: u64) -> Result<Vec<u8>, LoadError>
     ensures within { IfOk result (λ bytes. vec_len bytes ≤ limit) }
+    ensures whole { limit < 2 ^ 64 - 1 → IfOk result (λ bytes. IfSome (F.remaining file) (λ given. bytes.items ≡ given)) }
+    ensures longer { IsErrOf result (LoadError.TooLong limit) → IfSome (F.remaining file) (λ given. limit < length given) }
     ensures too_long { IfErr result (TooLongFor None [] limit) }
 {
     let mut bytes = Vec::new(alloc);

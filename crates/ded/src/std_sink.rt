@@ -1,4 +1,9 @@
 //! Standard output and standard error as outputs.
+ghost use Rattle.std.specs.Prelude.{◌≡◌, ◌≤◌, None, OnOk};
+ghost use Rattle.std.specs.Io.KnownBytes.{Appends};
+ghost use Rattle.ded_io.specs.Counts.{HasCause};
+ghost use Rattle.ded_io.specs.Written.{Wrote};
+
 use ded_io::{Sink, SinkError};
 use std::io::Write;
 
@@ -28,7 +33,13 @@ impl<W: Write + Drop> Sink for StdSink<W> {
     ghost faults = { λ out. out.fault_count };
 
     #[tactic(auto, unfolding(ded_io::specs::Counts::Rose, ded_io::specs::Written::Wrote))]
-    fn put(&mut self, bytes: &[u8]) -> Result<(), SinkError> {
+    fn put(&mut self, bytes: &[u8]) -> Result<(), SinkError>
+        // Beside what every output promises: where the writer's bytes are known, a success appended all of these.
+        ensures written { OnOk result (Appends (W.contents self.old.stream) (W.contents self.new.stream) bytes.now) }
+        ensures bytes { Wrote result None None bytes.now }
+        ensures cause { HasCause self.old.fault_count self.new.fault_count result }
+        ensures count_never_falls { self.old.fault_count ≤ self.new.fault_count }
+    {
         match self.stream.write_all(bytes) {
             Ok(()) => Ok(()),
             Err(_) => {
