@@ -10,3 +10,4 @@ pub mod Legality
 pub mod Together
 pub mod Lining
 pub mod Textual
+pub mod Closing

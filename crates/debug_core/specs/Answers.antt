@@ -1,5 +1,5 @@
 -- The statuses of the program, the cause of each, and the line that goes with it (this project's rules).
-use Rattle.std.specs.Prelude.{◌≡◌, ◌≢◌, ◌<◌, ◌≤◌, ℕ, List, [], length, Option, Some, None, ◌⊎◌, codes}
+use Rattle.std.specs.Prelude.{◌≡◌, ◌≢◌, ◌<◌, ◌≤◌, ℕ, List, [], length, Option, Some, None, Result, Ok, Err, ◌⊎◌, codes}
 use Rattle.ded_io.specs.Counts.{Rose}
 use Rattle.ded_io.specs.Stored.{first_choice, behind_choice}
 use Rattle.ded_io.specs.Told.{ToldFile, file_bytes, Gives, Lacks, Longer}
@@ -71,28 +71,20 @@ pub record WasLoaded (told : Option (List ToldFile)) (file : List ℕ) : Type 0 
   pub given : Gives told file bytes
   pub within : length bytes ≤ file_limit
 
--- Why a run was not made or not written: given what is told of files, the counts of faults of the files and of the output before and behind.
-abbrev pub HasCauseOf : Option (List ToldFile) → List ℕ → ℕ → ℕ → ℕ → ℕ → Failure → Type 0
-HasCauseOf told file reads reads' writes writes' Refused = WasLoaded told file
-HasCauseOf told file reads reads' writes writes' Usage = ⊥
-HasCauseOf told file reads reads' writes writes' Unreadable = Lacks told file ⊎ Rose reads reads'
-HasCauseOf told file reads reads' writes writes' OutputFailed = Rose writes writes'
-HasCauseOf told file reads reads' writes writes' TooLong = Longer told file file_limit
-HasCauseOf told file reads reads' writes writes' Memory = Unit {0}
-
--- nothing was written before these failures
-abbrev pub WroteNothing : Option (List ℕ) → Option (List ℕ) → Failure → Type 0
-WroteNothing out out' Refused = out' ≡ out
-WroteNothing out out' Usage = out' ≡ out
-WroteNothing out out' Unreadable = out' ≡ out
-WroteNothing out out' OutputFailed = Unit {0}
-WroteNothing out out' TooLong = out' ≡ out
-WroteNothing out out' Memory = Unit {0}
+-- why a program was not read
+abbrev pub IsReadCause : Option (List ToldFile) → List ℕ → ℕ → ℕ → Failure → Type 0
+IsReadCause told file reads reads' Refused = WasLoaded told file
+IsReadCause told file reads reads' Usage = ⊥
+IsReadCause told file reads reads' Unreadable = Lacks told file ⊎ Rose reads reads'
+IsReadCause told file reads reads' OutputFailed = ⊥
+IsReadCause told file reads reads' TooLong = Longer told file file_limit
+IsReadCause told file reads reads' Memory = Unit {0}
 
 -- the file holds this legal program of the small grammar
 pub record WasRead (told : Option (List ToldFile)) (file : List ℕ) (program : PProgram) (types : TypeTable) (numbers : Numbering) : Type 0 where
   pub bytes : List ℕ
   pub given : Gives told file bytes
+  pub within : length bytes ≤ file_limit
   pub text : IsSmallText bytes program
   pub legal : Legal program types numbers Original
 
@@ -110,6 +102,15 @@ IsOutputCause writes writes' OutputFailed = Rose writes writes'
 IsOutputCause writes writes' TooLong = ⊥
 IsOutputCause writes writes' Memory = Unit {0}
 
+-- why a file's run was not made or not written; nothing is written before the file is read
+abbrev pub IsFileCause : Option (List ToldFile) → List ℕ → ℕ → ℕ → Option (List ℕ) → Option (List ℕ) → ℕ → ℕ → Failure → Type 0
+IsFileCause told file reads reads' out out' writes writes' Refused = WasLoaded told file × (out' ≡ out)
+IsFileCause told file reads reads' out out' writes writes' Usage = ⊥
+IsFileCause told file reads reads' out out' writes writes' Unreadable = (Lacks told file ⊎ Rose reads reads') × (out' ≡ out)
+IsFileCause told file reads reads' out out' writes writes' OutputFailed = Rose writes writes'
+IsFileCause told file reads reads' out out' writes writes' TooLong = Longer told file file_limit × (out' ≡ out)
+IsFileCause told file reads reads' out out' writes writes' Memory = Unit {0}
+
 -- The file holds a legal program of the small grammar, and the text of its picked run is written.
 pub record HasRun (told : Option (List ToldFile)) (file : List ℕ) (turns : ℕ) (out out' : Option (List ℕ)) (end : RunEnd) : Type 0 where
   pub program : PProgram
@@ -117,3 +118,65 @@ pub record HasRun (told : Option (List ToldFile)) (file : List ℕ) (turns : ℕ
   pub numbers : Numbering
   pub read : WasRead told file program types numbers
   pub run : RunWritten program numbers turns out out' end
+
+-- What is told and counted before and behind a call: of the files, of the output and of the error output.
+pub record Sides : Type 0 where
+  pub files : Option (List ToldFile)
+  pub reads : ℕ
+  pub reads' : ℕ
+  pub out : Option (List ℕ)
+  pub out' : Option (List ℕ)
+  pub writes : ℕ
+  pub writes' : ℕ
+  pub err : Option (List ℕ)
+  pub err' : Option (List ℕ)
+  pub lines : ℕ
+  pub lines' : ℕ
+
+-- The cause of each outcome of the command that runs a program: a run's text is written whole; and with a file that is not read nothing is written.
+abbrev pub HasRunCause : List ℕ → ℕ → Sides → Result RunEnd Failure → Type 0
+HasRunCause file turns sides (Ok end) = HasRun sides.files file turns sides.out sides.out' end
+HasRunCause file turns sides (Err Refused) = WasLoaded sides.files file × (sides.out' ≡ sides.out)
+HasRunCause file turns sides (Err Usage) = ⊥
+HasRunCause file turns sides (Err Unreadable) = (Lacks sides.files file ⊎ Rose sides.reads sides.reads') × (sides.out' ≡ sides.out)
+HasRunCause file turns sides (Err OutputFailed) = Rose sides.writes sides.writes' ⊎ Rose sides.lines sides.lines'
+HasRunCause file turns sides (Err TooLong) = Longer sides.files file file_limit × (sides.out' ≡ sides.out)
+HasRunCause file turns sides (Err Memory) = Unit {0}
+
+-- what stands on the error output: the line of the failure, and nothing for a run; where an output failed nothing is said of it
+abbrev pub HasErrorLine : List ℕ → Sides → Result RunEnd Failure → Type 0
+HasErrorLine file sides (Ok end) = sides.err' ≡ sides.err
+HasErrorLine file sides (Err Refused) = sides.err' ≡ appended sides.err (failure_line file Refused)
+HasErrorLine file sides (Err Usage) = sides.err' ≡ appended sides.err (failure_line file Usage)
+HasErrorLine file sides (Err Unreadable) = sides.err' ≡ appended sides.err (failure_line file Unreadable)
+HasErrorLine file sides (Err OutputFailed) = Unit {0}
+HasErrorLine file sides (Err TooLong) = sides.err' ≡ appended sides.err (failure_line file TooLong)
+HasErrorLine file sides (Err Memory) = sides.err' ≡ appended sides.err (failure_line file Memory)
+
+-- the status of an outcome
+abbrev pub status_of : Result RunEnd Failure → ℕ
+status_of (Ok end) = run_status end
+status_of (Err failure) = failure_status failure
+
+-- The status is that of an outcome of the command that runs a program, with its cause and its line.
+pub record AnswersRun (file : List ℕ) (turns : ℕ) (sides : Sides) (status : ℕ) : Type 0 where
+  pub outcome : Result RunEnd Failure
+  pub is : status ≡ status_of outcome
+  pub cause : HasRunCause file turns sides outcome
+  pub line : HasErrorLine file sides outcome
+
+-- Words that are no row of words: the status is 2 with its line, or 7 where that line could not be written; nothing is written on the output.
+pub record AnswersUsage (sides : Sides) (status : ℕ) : Type 0 where
+  pub nothing : sides.out' ≡ sides.out
+  pub usage : ((status ≡ 2) × (sides.err' ≡ appended sides.err (failure_line [] Usage))) ⊎ ((status ≡ 7) × Rose sides.lines sides.lines')
+
+-- The status answers what the words ask for.
+abbrev pub Answers : Option Asked → Sides → ℕ → Type 0
+Answers None sides status = AnswersUsage sides status
+Answers (Some (AsksRun file turns)) sides status = AnswersRun file turns sides status
+
+-- how a call closes with an outcome: a run writes no line; a failure has its line, or the status 7 where that could not be written
+abbrev pub Closes : Result RunEnd Failure → List ℕ → Option (List ℕ) → Option (List ℕ) → ℕ → ℕ → ℕ → Type 0
+Closes (Ok end) file err err' lines lines' status = (status ≡ run_status end) × (err' ≡ err)
+Closes (Err failure) file err err' lines lines' status =
+    ((status ≡ failure_status failure) × (err' ≡ appended err (failure_line file failure))) ⊎ ((status ≡ 7) × Rose lines lines')

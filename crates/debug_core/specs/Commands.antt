@@ -1,7 +1,6 @@
--- A command of the code, as what the words ask for.
-use Rattle.debug_core.specs.declared.command.Command.{Command}
-use Rattle.debug_core.specs.declared.command.Command.TheVariants.{Run}
+-- The words of a run, as what is asked for.
+use Rattle.debug_core.specs.declared.command.RunWords.{RunWords}
 use Rattle.debug_core.specs.Words.{Asked, AsksRun}
 
-abbrev pub asked_as : Command → Asked
-asked_as (Run file turns) = AsksRun file.now turns
+abbrev pub asked_as : RunWords → Asked
+asked_as run = AsksRun run.file.now run.turns

@@ -4,15 +4,15 @@ ghost use Rattle.std.specs.Prelude.{◌≡◌, ◌≤◌, ◌<◌, map, option_m
 ghost use Rattle.debug_core.specs.Words.{AsksRun, asked_by, turns_of, value_behind, begins_well};
 ghost use Rattle.debug_core.specs.Commands.{asked_as};
 
-/// What the words ask for.
+/// What the words ask for: a run of the program in a file, of at most so many turns.
 #[derive(Clone, Copy)]
-pub(crate) enum Command<'w> {
-    /// A run of the program in a file, of at most so many turns.
-    Run { file: &'w str, turns: u64 },
+pub(crate) struct RunWords<'w> {
+    pub(crate) file: &'w str,
+    pub(crate) turns: u64,
 }
 
 // What the words ask for; none where they are no row of words.
-pub(crate) fn command_of<'w>(words: &'w [String]) -> Option<Command<'w>>
+pub(crate) fn command_of<'w>(words: &'w [String]) -> Option<RunWords<'w>>
     ensures { option_map asked_as result ≡ asked_by (map string_bytes words.now) }
 {
     match words {
@@ -28,11 +28,11 @@ pub(crate) fn command_of<'w>(words: &'w [String]) -> Option<Command<'w>>
 }
 
 // A run of the file, where the word is a number of turns.
-fn run_of<'w>(file: &'w str, word: &str) -> Option<Command<'w>>
+fn run_of<'w>(file: &'w str, word: &str) -> Option<RunWords<'w>>
     ensures { option_map asked_as result ≡ option_map (AsksRun file.now) (turns_of word.now) }
 {
     match number_of_turns(word.as_bytes()) {
-        Some(turns) => Some(Command::Run { file, turns }),
+        Some(turns) => Some(RunWords { file, turns }),
         None => None,
     }
 }

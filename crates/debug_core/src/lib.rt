@@ -7,3 +7,6 @@ mod run_command;
 mod run_text;
 #[tactic(auto, using(ada_tree::proofs::Rows::rows))]
 mod small;
+mod top;
+
+pub use top::debug_main;

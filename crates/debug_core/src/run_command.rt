@@ -3,7 +3,7 @@
 ghost use Rattle.std.specs.Prelude.{◌≡◌, ◌≤◌, ◌⊎◌, IfOk, IfErr, IsErrOf};
 ghost use Rattle.ada_tree.specs.PlainProgram.{plain_program};
 ghost use Rattle.ded_io.specs.Told.{Lacks};
-ghost use Rattle.debug_core.specs.Answers.{HasCauseOf, HasRun, WasRead, RunWritten, IsOutputCause};
+ghost use Rattle.debug_core.specs.Answers.{HasRun, IsFileCause, IsReadCause, WasRead, RunWritten, IsOutputCause};
 ghost use Rattle.syn_event.specs.Legal.{Legal};
 
 use crate::failing::Failure;
@@ -22,8 +22,7 @@ const FILE_LIMIT: u64 = 33_554_432;
 // Reads the program that the file holds.
 fn read_program<F: Files>(alloc: Global, file: &str, files: &mut F) -> Result<SmallProgram, Failure>
     ensures read { IfOk result (λ small. WasRead (F.told files.old) file.now (plain_program small.program) small.types small.numbers) }
-    ensures cause { IfErr result (HasCauseOf (F.told files.old) file.now (F.faults files.old) (F.faults files.new) 0 0) }
-    ensures absent { Lacks (F.told files.old) file.now → IsErrOf result Failure.Unreadable ⊎ IsErrOf result Failure.Memory }
+    ensures cause { IfErr result (IsReadCause (F.told files.old) file.now (F.faults files.old) (F.faults files.new)) }
 {
     let bytes = match files.load(alloc, file, FILE_LIMIT) {
         Ok(bytes) => bytes,
@@ -35,6 +34,23 @@ fn read_program<F: Files>(alloc: Global, file: &str, files: &mut F) -> Result<Sm
         Ok(small) => Ok(small),
         Err(SmallRefusal::NotSmall) => Err(Failure::Refused),
         Err(SmallRefusal::Memory) => Err(Failure::Memory),
+    }
+}
+
+// What running a file comes to: how the run ended, or why it was not made or not written.
+pub(crate) fn run_file<F: Files, K: Sink>(
+    alloc: Global,
+    file: &str,
+    turns: u64,
+    files: &mut F,
+    out: &mut K,
+) -> Result<RunEnd, Failure>
+    ensures ran { IfOk result (HasRun (F.told files.old) file.now turns (K.told out.old) (K.told out.new)) }
+    ensures cause { IfErr result (IsFileCause (F.told files.old) file.now (F.faults files.old) (F.faults files.new) (K.told out.old) (K.told out.new) (K.faults out.old) (K.faults out.new)) }
+{
+    match read_program(alloc, file, files) {
+        Ok(small) => write_run(alloc, &small, turns, out),
+        Err(failure) => Err(failure),
     }
 }
 
