@@ -1,6 +1,8 @@
 //! The reader of small texts: programs whose tasks have plain entries, and whose statements are null, entry calls and
 //! accepts without a body. It stands in for the parser of the whole language.
 
+#[cfg(test)]
+mod choice_tests;
 mod items;
 mod numbering;
 mod parsing;

@@ -1,0 +1,8 @@
+//! Rows of words, each with the status and the texts that the program's one call gives over files and outputs in memory.
+#![tactic(auto)]
+
+mod row;
+#[cfg(test)]
+mod tests;
+
+pub use row::Row;
