@@ -1,5 +1,7 @@
 pub mod BinaryCode
+pub mod Every
 pub mod ExprCode
+pub mod Lexical
 pub mod NameList
 pub mod PlainDecl
 pub mod PlainExpr
@@ -8,3 +10,4 @@ pub mod PlainStmt
 pub mod Same
 pub mod StmtCode
 pub mod TypeTable
+pub mod WellPlaced

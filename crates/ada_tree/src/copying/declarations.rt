@@ -4,6 +4,7 @@
 ghost use Rattle.std.specs.Prelude.{◌≡◌, IfOk, map, option_map};
 ghost use Rattle.ada_tree.specs.PlainDecl.{plain_shape, plain_init, plain_priority, plain_entry, plain_task, plain_decl, decl_at};
 ghost use Rattle.ada_tree.specs.PlainProgram.{plain_program};
+ghost use Rattle.ada_tree.specs.Same.{Same};
 
 use super::expressions::{copy_exprs, copy_words};
 use super::statements::copy_formals;
@@ -226,7 +227,8 @@ pub fn copy_decls(alloc: Global, decls: &[Decl]) -> Result<Vec<Decl>, Memory>
 impl Program {
     /// A copy that differs in nothing: it has the same names under the same ids, and the same places.
     pub fn copy(&self, alloc: Global) -> Result<Program, Memory>
-        ensures { IfOk result (λ copy. plain_program copy ≡ plain_program self.now) }
+        ensures equal { IfOk result (λ copy. plain_program copy ≡ plain_program self.now) }
+        ensures same { IfOk result (λ copy. Same (plain_program self.now) (plain_program copy)) }
     {
         let names = self.names.copy(alloc)?;
         let decls = copy_decls(alloc, &self.decls)?;

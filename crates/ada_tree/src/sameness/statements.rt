@@ -6,9 +6,7 @@ ghost use Rattle.std.specs.List.{AllZip};
 ghost use Rattle.ada_tree.specs.PlainStmt.{plain_target, plain_callee, plain_call, plain_args, plain_formal, plain_part, plain_choice, plain_scheme, plain_accept, plain_alt, plain_arm, plain_case_arm, plain_handler, plain_body, plain_stmt, row_of, alts_of, arms_of, case_arms_of, handlers_of};
 ghost use Rattle.ada_tree.specs.Same.{SameWord, SameOption, SameTarget, SameCallee, SameArgs, SameCall, SameFormal, SamePart, SameChoice, SameScheme, SameStmt, SameStmts, SameAccept, SameAlt, SameAlts, SameArm, SameArms, SameCaseArm, SameCaseArms, SameBody, SameHandler, SameHandlers};
 
-use super::expressions::{
-    same_drange, same_expr, same_exprs, same_option, same_word, same_words,
-};
+use super::expressions::{same_drange, same_expr, same_exprs, same_option, same_word, same_words};
 use crate::{
     Accept, Alt, AltKind, Args, Arm, Body, Call, Callee, CaseArm, CaseChoice, Formal, Handler,
     Names, Part, Scheme, Stmt, StmtKind, Target, Word,
@@ -103,8 +101,16 @@ fn same_scheme(left: &Names, right: &Names, a: &Scheme, b: &Scheme) -> bool
             Scheme::While(b) => same_expr(left, right, a, b),
             Scheme::For { .. } => false,
         },
-        Scheme::For { name, reverse, range } => match b {
-            Scheme::For { name: n, reverse: r, range: d } => {
+        Scheme::For {
+            name,
+            reverse,
+            range,
+        } => match b {
+            Scheme::For {
+                name: n,
+                reverse: r,
+                range: d,
+            } => {
                 same_word(left, right, *name, *n)
                     && *reverse == *r
                     && same_drange(left, right, range, d)
@@ -206,15 +212,17 @@ fn same_alt(left: &Names, right: &Names, a: &Alt, b: &Alt) -> bool
     same_option(left, right, &a.guard, &b.guard)
         && match &a.kind {
             AltKind::Accept { accept, stmts } => match &b.kind {
-                AltKind::Accept { accept: c, stmts: k } => {
-                    same_accept(left, right, accept, c) && same_stmts(left, right, stmts, k)
-                }
+                AltKind::Accept {
+                    accept: c,
+                    stmts: k,
+                } => { same_accept(left, right, accept, c) && same_stmts(left, right, stmts, k) }
                 _ => false,
             },
             AltKind::Delay { thousandths, stmts } => match &b.kind {
-                AltKind::Delay { thousandths: d, stmts: k } => {
-                    *thousandths == *d && same_stmts(left, right, stmts, k)
-                }
+                AltKind::Delay {
+                    thousandths: d,
+                    stmts: k,
+                } => { *thousandths == *d && same_stmts(left, right, stmts, k) }
                 _ => false,
             },
             AltKind::Terminate => match &b.kind {
@@ -235,8 +243,7 @@ fn same_arm(left: &Names, right: &Names, a: &Arm, b: &Arm) -> bool
 fn same_case_arm(left: &Names, right: &Names, a: &CaseArm, b: &CaseArm) -> bool
     ensures { IsTrue result ↔ SameCaseArm left.now right.now (plain_case_arm a.now) (plain_case_arm b.now) }
 {
-    same_choices(left, right, &a.choices, &b.choices)
-        && same_stmts(left, right, &a.stmts, &b.stmts)
+    same_choices(left, right, &a.choices, &b.choices) && same_stmts(left, right, &a.stmts, &b.stmts)
 }
 
 #[cycle(same)]
@@ -264,9 +271,10 @@ fn same_stmt(left: &Names, right: &Names, a: &Stmt, b: &Stmt) -> bool
             _ => false,
         },
         StmtKind::Assign { target, value } => match &b.kind {
-            StmtKind::Assign { target: t, value: v } => {
-                same_target(left, right, target, t) && same_expr(left, right, value, v)
-            }
+            StmtKind::Assign {
+                target: t,
+                value: v,
+            } => { same_target(left, right, target, t) && same_expr(left, right, value, v) }
             _ => false,
         },
         StmtKind::Delay { thousandths } => match &b.kind {
@@ -296,7 +304,10 @@ fn same_stmt(left: &Names, right: &Names, a: &Stmt, b: &Stmt) -> bool
             _ => false,
         },
         StmtKind::Wait { alts, otherwise } => match &b.kind {
-            StmtKind::Wait { alts: x, otherwise: o } => {
+            StmtKind::Wait {
+                alts: x,
+                otherwise: o,
+            } => {
                 same_alts(left, right, alts, x)
                     && match otherwise {
                         Some(k) => match o {
@@ -308,16 +319,34 @@ fn same_stmt(left: &Names, right: &Names, a: &Stmt, b: &Stmt) -> bool
             }
             _ => false,
         },
-        StmtKind::Conditional { call, behind, otherwise } => match &b.kind {
-            StmtKind::Conditional { call: c, behind: k, otherwise: o } => {
+        StmtKind::Conditional {
+            call,
+            behind,
+            otherwise,
+        } => match &b.kind {
+            StmtKind::Conditional {
+                call: c,
+                behind: k,
+                otherwise: o,
+            } => {
                 same_call(left, right, call, c)
                     && same_stmts(left, right, behind, k)
                     && same_stmts(left, right, otherwise, o)
             }
             _ => false,
         },
-        StmtKind::Timed { call, behind, thousandths, after } => match &b.kind {
-            StmtKind::Timed { call: c, behind: k, thousandths: t, after: l } => {
+        StmtKind::Timed {
+            call,
+            behind,
+            thousandths,
+            after,
+        } => match &b.kind {
+            StmtKind::Timed {
+                call: c,
+                behind: k,
+                thousandths: t,
+                after: l,
+            } => {
                 same_call(left, right, call, c)
                     && same_stmts(left, right, behind, k)
                     && *thousandths == *t
@@ -342,7 +371,10 @@ fn same_stmt(left: &Names, right: &Names, a: &Stmt, b: &Stmt) -> bool
             _ => false,
         },
         StmtKind::If { arms, otherwise } => match &b.kind {
-            StmtKind::If { arms: x, otherwise: o } => {
+            StmtKind::If {
+                arms: x,
+                otherwise: o,
+            } => {
                 same_arms(left, right, arms, x)
                     && match otherwise {
                         Some(k) => match o {
@@ -354,8 +386,16 @@ fn same_stmt(left: &Names, right: &Names, a: &Stmt, b: &Stmt) -> bool
             }
             _ => false,
         },
-        StmtKind::Case { selector, arms, others } => match &b.kind {
-            StmtKind::Case { selector: e, arms: x, others: o } => {
+        StmtKind::Case {
+            selector,
+            arms,
+            others,
+        } => match &b.kind {
+            StmtKind::Case {
+                selector: e,
+                arms: x,
+                others: o,
+            } => {
                 same_expr(left, right, selector, e)
                     && same_case_arms(left, right, arms, x)
                     && match others {
@@ -372,8 +412,16 @@ fn same_stmt(left: &Names, right: &Names, a: &Stmt, b: &Stmt) -> bool
             StmtKind::Block(b) => same_body(left, right, a, b),
             _ => false,
         },
-        StmtKind::Loop { name, scheme, stmts } => match &b.kind {
-            StmtKind::Loop { name: n, scheme: c, stmts: k } => {
+        StmtKind::Loop {
+            name,
+            scheme,
+            stmts,
+        } => match &b.kind {
+            StmtKind::Loop {
+                name: n,
+                scheme: c,
+                stmts: k,
+            } => {
                 same_label(left, right, *name, *n)
                     && same_schemes(left, right, scheme, c)
                     && same_stmts(left, right, stmts, k)
