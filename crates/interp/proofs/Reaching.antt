@@ -46,7 +46,7 @@ next_position word next n numbers m0 c0 m c c' action told0 told at turn =
     let p : Position _ = picked word next n m0 c0 in
     let off : halted p.machine ≡ None = ap (λ x. halted x) (sym at.machine) ∙ turn.goes_on in
     let same : action ≡ picked_action p.machine (word p.chooser)
-        = turn.picked ∙ ap (λ x. picked_action x (word c)) at.machine ∙ ap (λ x. picked_action p.machine (word x)) at.chooser in
+    = turn.picked ∙ ap (λ x. picked_action x (word c)) at.machine ∙ ap (λ x. picked_action p.machine (word x)) at.chooser in
     turn_on word next p (halted p.machine) off ∙ ap (λ a. went_on next p a) (sym same)
 
 -- one more turn
@@ -58,17 +58,17 @@ reached_more word next n numbers m0 c0 m m' c c' action told0 told told' at turn
     let p : Position _ = picked word next n m0 c0 in
     let step : picked word next (suc n) m0 c0 ≡ went_on next p action = next_position word next n numbers m0 c0 m c c' action told0 told at turn in
     let q : Reached word next (suc n) numbers m0 c0 m' c' told0 told' = record {
-        machine = made ∙ ap (λ x. after x action) at.machine ∙ ap (λ (x : Position _). x.machine) (sym step);
-        chooser = turn.chooser ∙ ap next at.chooser ∙ ap (λ (x : Position _). x.chooser) (sym step);
-        made = ap (λ (x : Position _). x.made) step ∙ ap (λ k. k + 1) at.made ∙ add-one n;
-        lines =
-            line
-            ∙ ap (λ t. appended t (lines_of numbers (option_to_list (event_of m action)))) at.lines
-            ∙ appended-appended told0 (lines_of numbers p.events) (lines_of numbers (option_to_list (event_of m action)))
-            ∙ ap (λ x. appended told0 (lines_of numbers p.events ++ lines_of numbers (option_to_list (event_of x action)))) at.machine
-            ∙ ap (λ x. appended told0 x) (sym (lines_of-append numbers p.events (option_to_list (event_of p.machine action))))
-            ∙ ap (λ (x : Position _). appended told0 (lines_of numbers x.events)) (sym step)
-        } in
+      machine = made ∙ ap (λ x. after x action) at.machine ∙ ap (λ (x : Position _). x.machine) (sym step);
+      chooser = turn.chooser ∙ ap next at.chooser ∙ ap (λ (x : Position _). x.chooser) (sym step);
+      made = ap (λ (x : Position _). x.made) step ∙ ap (λ k. k + 1) at.made ∙ add-one n;
+      lines =
+          line
+          ∙ ap (λ t. appended t (lines_of numbers (option_to_list (event_of m action)))) at.lines
+          ∙ appended-appended told0 (lines_of numbers p.events) (lines_of numbers (option_to_list (event_of m action)))
+          ∙ ap (λ x. appended told0 (lines_of numbers p.events ++ lines_of numbers (option_to_list (event_of x action)))) at.machine
+          ∙ ap (λ x. appended told0 x) (sym (lines_of-append numbers p.events (option_to_list (event_of p.machine action))))
+          ∙ ap (λ (x : Position _). appended told0 (lines_of numbers x.events)) (sym step);
+    } in
     subst (λ k. Reached word next k numbers m0 c0 m' c' told0 told') (sym (add-one n)) q
 
 -- further turns of a run that has ended by itself change nothing
@@ -116,12 +116,12 @@ picked_events word next i n m0 c0 le =
 
 -- a front of the lines of a front of the events is a front of all lines
 began_more : (numbers : Numbering) (told0 told : Option (List ℕ)) (es rest all : List Event) → all ≡ es ++ rest → Began told0 told (lines_of numbers es) → Began told0 told (lines_of numbers all)
-began_more numbers told0 told es rest all e (front, behind, is_front, is_new) =
-    ( front
-    , behind ++ lines_of numbers rest
-    , ap (λ x. lines_of numbers x) e ∙ lines_of-append numbers es rest ∙ ap (λ x. x ++ lines_of numbers rest) is_front ∙ append_assoc front behind (lines_of numbers rest)
-    , is_new
-    )
+began_more numbers told0 told es rest all e (front, behind, is_front, is_new) = (
+  front,
+  behind ++ lines_of numbers rest,
+  ap (λ x. lines_of numbers x) e ∙ lines_of-append numbers es rest ∙ ap (λ x. x ++ lines_of numbers rest) is_front ∙ append_assoc front behind (lines_of numbers rest),
+  is_new,
+)
 
 -- the run is cut off between two turns
 pub cut_between : {C : Type 0} (word : C → ℕ) (next : C → C) (i n : ℕ) (numbers : Numbering) (m0 : Whole) (c0 : C) (m : Whole) (c : C) (told0 told : Option (List ℕ)) →
@@ -133,9 +133,13 @@ cut_between word next i n numbers m0 c0 m c told0 told at le =
       within = le;
       made = at.made;
       machine = at.machine;
-      lines = (lines_of numbers (picked word next i m0 c0).events, lines_of numbers rest,
-          ap (λ x. lines_of numbers x) e ∙ lines_of-append numbers (picked word next i m0 c0).events rest, at.lines)
-      }
+      lines = (
+        lines_of numbers (picked word next i m0 c0).events,
+        lines_of numbers rest,
+        ap (λ x. lines_of numbers x) e ∙ lines_of-append numbers (picked word next i m0 c0).events rest,
+        at.lines,
+      );
+    }
 
 -- the run is cut off in a turn
 pub cut_within : {C : Type 0} (word : C → ℕ) (next : C → C) (i n : ℕ) (numbers : Numbering) (m0 : Whole) (c0 : C) (m m' : Whole) (c c' : C) (action : Action) (told0 told told' : Option (List ℕ)) →
@@ -147,20 +151,20 @@ cut_within word next i n numbers m0 c0 m m' c c' action told0 told told' at turn
     let (rest, e) = picked_events word next (suc i) n m0 c0 (omega arith) in
     let es : List Event = p.events ++ option_to_list (event_of p.machine action) in
     let lines : Began told0 told' (lines_of numbers (picked word next n m0 c0).events) =
-        began_more numbers told0 told' es rest (picked word next n m0 c0).events
-            (e ∙ ap (λ (x : Position _). x.events ++ rest) step)
-            (subst (λ x. Began told0 told' x) (sym (lines_of-append numbers p.events (option_to_list (event_of p.machine action))))
-                (began_then told0 told told' (lines_of numbers p.events) (lines_of numbers (option_to_list (event_of p.machine action))) at.lines
-                    (subst (λ x. Began told told' (lines_of numbers (option_to_list (event_of x action)))) at.machine broken.lines))) in
+    began_more numbers told0 told' es rest (picked word next n m0 c0).events
+    (e ∙ ap (λ (x : Position _). x.events ++ rest) step)
+    (subst (λ x. Began told0 told' x) (sym (lines_of-append numbers p.events (option_to_list (event_of p.machine action))))
+    (began_then told0 told told' (lines_of numbers p.events) (lines_of numbers (option_to_list (event_of p.machine action))) at.lines
+    (subst (λ x. Began told told' (lines_of numbers (option_to_list (event_of x action)))) at.machine broken.lines))) in
     elim broken.machine [
-      inl same ↦ record { actions = i; within = omega arith; made = at.made; machine = same ∙ at.machine; lines = lines }
-    | inr made ↦ record {
+      | inl same ↦ record { actions = i; within = omega arith; made = at.made; machine = same ∙ at.machine; lines = lines }
+      | inr made ↦ record {
         actions = suc i;
         within = omega arith;
         made = ap (λ (x : Position _). x.made) step ∙ ap (λ k. k + 1) at.made ∙ add-one i;
         machine = made ∙ ap (λ x. after x action) at.machine ∙ ap (λ (x : Position _). x.machine) (sym step);
-        lines = lines
-        }
+        lines = lines;
+      }
     ]
 
 -- What the code answers, as the run has ended by itself in turn i of n: the values of the run of n turns.
@@ -181,5 +185,5 @@ stopped word next i n numbers m0 c0 m c c' told0 told end at le h same =
       made_is = sym at.made ∙ ap (λ (x : Position _). x.made) (sym all);
       end_is =
           sym (ap (λ x. unwrap_or x Turns) (ap (λ x. halted x) (sym at.machine) ∙ h)) ∙ ap (λ (x : Position _). ending x) (sym all);
-      lines = at.lines ∙ ap (λ (x : Position _). appended told0 (lines_of numbers x.events)) (sym all)
-      }
+      lines = at.lines ∙ ap (λ (x : Position _). appended told0 (lines_of numbers x.events)) (sym all);
+    }

@@ -20,7 +20,7 @@ filter_none p (x ∷ xs) h = rw (h x) (filter_none p xs h)
 pub enabled_of-ended : (numbers : Numbering) (tasks : Tasks) (line : List ℕ) (ended : Bool) → ended ≡ true → enabled_of (whole numbers tasks line ended) ≡ []
 enabled_of-ended numbers tasks line ended e =
     subst (λ b. enabled_of (whole numbers tasks line b) ≡ []) (sym e)
-        (filter_none (can (whole numbers tasks line true)) (rows_below task_ops (seen_in tasks line) (length tasks) ++ End ∷ []) (λ x. refl))
+    (filter_none (can (whole numbers tasks line true)) (rows_below task_ops (seen_in tasks line) (length tasks) ++ End ∷ []) (λ x. refl))
 
 -- where it has not, the list is that of the conditions
 pub enabled_of-open : (numbers : Numbering) (tasks : Tasks) (line : List ℕ) (ended : Bool) → ended ≡ false →

@@ -6,6 +6,6 @@ use Rattle.interp.proofs.running.choose.Goals as goal
 pub returns-in-None-clause-chosen : goal.returns-in-None-clause-chosen
 returns-in-None-clause-chosen g c =
     is_picked g.C.Chooser.word g.C.Chooser.next c.args.m.now c.args.choices.now c.pick_of.new.choices c.standing.new.actions.items c.pick_of.result
-        c.in_ok-end.field-0 c.in_ok-end.ensures.halted c.in-None.is (c.in_ok-end.ensures.listed c.in-None.is) (c.in_ok-end.ensures.some c.in-None.is)
-        (c.pick_of.ensures.action ∙ ap (λ xs. slice_index_or xs (g.C.Chooser.word c.args.choices.now % length xs) End) c.deref.ensures.value)
-        c.pick_of.ensures.after
+    c.in_ok-end.field-0 c.in_ok-end.ensures.halted c.in-None.is (c.in_ok-end.ensures.listed c.in-None.is) (c.in_ok-end.ensures.some c.in-None.is)
+    (c.pick_of.ensures.action ∙ ap (λ xs. slice_index_or xs (g.C.Chooser.word c.args.choices.now % length xs) End) c.deref.ensures.value)
+    c.pick_of.ensures.after

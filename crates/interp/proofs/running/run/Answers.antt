@@ -8,12 +8,12 @@ use Rattle.interp.proofs.running.run.Given as given
 -- the run has ended by itself in this turn
 ended : (g : given.Over) (c : goal.After-drop-actions g) →
     Stopped g.C.Chooser.word g.C.Chooser.next c.args.turns c.args.numbers.now c.args.m.now c.args.choices.now c.loop-turn.m c.choose.new.choices
-        (g.K.Sink.told c.args.out.now) (g.K.Sink.told c.loop-turn.out) c.loop-turn.turn c.in-Ok-Halted.end
+    (g.K.Sink.told c.args.out.now) (g.K.Sink.told c.loop-turn.out) c.loop-turn.turn c.in-Ok-Halted.end
 ended g c =
     let chosen = rw c.in-Ok-Halted.field-0-is at c.in-Ok-Halted.ensures.chosen in
     stopped g.C.Chooser.word g.C.Chooser.next c.loop-turn.turn c.args.turns c.args.numbers.now c.args.m.now c.args.choices.now c.loop-turn.m
-        c.loop-turn.choices c.choose.new.choices (g.K.Sink.told c.args.out.now) (g.K.Sink.told c.loop-turn.out) c.in-Ok-Halted.end
-        c.loop-turn.invariant.0 (omega arith) chosen.0 chosen.1
+    c.loop-turn.choices c.choose.new.choices (g.K.Sink.told c.args.out.now) (g.K.Sink.told c.loop-turn.out) c.in-Ok-Halted.end
+    c.loop-turn.invariant.0 (omega arith) chosen.0 chosen.1
 
 pub returns-in-Ok-Halted-clause-machine : goal.returns-in-Ok-Halted-clause-machine
 returns-in-Ok-Halted-clause-machine g c = (ended g c).machine
@@ -34,19 +34,19 @@ pub returns-in-Err-make-clause-cut_off : goal.returns-in-Err-make-clause-cut_off
 returns-in-Err-make-clause-cut_off g c =
     let chosen = rw c.in-Ok-Make.field-0-is at c.in-Ok-Make.ensures.chosen in
     cut_within g.C.Chooser.word g.C.Chooser.next c.loop-turn.turn c.args.turns c.args.numbers.now c.args.m.now c.args.choices.now c.loop-turn.m
-        c.make.new.m c.loop-turn.choices c.choose.new.choices c.in-Ok-Make.action (g.K.Sink.told c.args.out.now) (g.K.Sink.told c.loop-turn.out)
-        (g.K.Sink.told c.make.new.out) c.loop-turn.invariant.0 chosen c.in-Err-make.ensures.cut (omega arith)
+    c.make.new.m c.loop-turn.choices c.choose.new.choices c.in-Ok-Make.action (g.K.Sink.told c.args.out.now) (g.K.Sink.told c.loop-turn.out)
+    (g.K.Sink.told c.make.new.out) c.loop-turn.invariant.0 chosen c.in-Err-make.ensures.cut (omega arith)
 
 pub returns-in-Err-clause-cut_off : goal.returns-in-Err-clause-cut_off
 returns-in-Err-clause-cut_off g c =
     cut_between g.C.Chooser.word g.C.Chooser.next c.loop-turn.turn c.args.turns c.args.numbers.now c.args.m.now c.args.choices.now c.loop-turn.m
-        c.loop-turn.choices (g.K.Sink.told c.args.out.now) (g.K.Sink.told c.loop-turn.out) c.loop-turn.invariant.0 (omega arith)
+    c.loop-turn.choices (g.K.Sink.told c.args.out.now) (g.K.Sink.told c.loop-turn.out) c.loop-turn.invariant.0 (omega arith)
 
 pub loop-turn-preserved : goal.loop-turn-preserved
 loop-turn-preserved g c =
-    let chosen = rw c.in-Ok-Make.field-0-is at c.in-Ok-Make.ensures.chosen in
-    ( reached_more g.C.Chooser.word g.C.Chooser.next c.loop-turn.turn c.args.numbers.now c.args.m.now c.args.choices.now c.loop-turn.m
-        c.make.new.m c.loop-turn.choices c.choose.new.choices c.in-Ok-Make.action (g.K.Sink.told c.args.out.now) (g.K.Sink.told c.loop-turn.out)
-        (g.K.Sink.told c.make.new.out) c.loop-turn.invariant.0 chosen c.in-Ok.ensures.machine c.in-Ok.ensures.lines
-    , c.in-Ok.ensures.no_fault ∙ c.loop-turn.invariant.1
+    let chosen = rw c.in-Ok-Make.field-0-is at c.in-Ok-Make.ensures.chosen in (
+      reached_more g.C.Chooser.word g.C.Chooser.next c.loop-turn.turn c.args.numbers.now c.args.m.now c.args.choices.now c.loop-turn.m
+          c.make.new.m c.loop-turn.choices c.choose.new.choices c.in-Ok-Make.action (g.K.Sink.told c.args.out.now) (g.K.Sink.told c.loop-turn.out)
+          (g.K.Sink.told c.make.new.out) c.loop-turn.invariant.0 chosen c.in-Ok.ensures.machine c.in-Ok.ensures.lines,
+      c.in-Ok.ensures.no_fault ∙ c.loop-turn.invariant.1,
     )

@@ -6,5 +6,5 @@ use Rattle.interp.proofs.running.run.Given as goal
 abbrev pub invariant-loop-turn : goal.invariant-loop-turn
 invariant-loop-turn g l =
     Reached g.C.Chooser.word g.C.Chooser.next l.turn l.numbers l.initial.m l.initial.choices l.m l.choices
-        (g.K.Sink.told l.initial.out) (g.K.Sink.told l.out)
+    (g.K.Sink.told l.initial.out) (g.K.Sink.told l.out)
     × (g.K.Sink.faults l.out ≡ g.K.Sink.faults l.initial.out)

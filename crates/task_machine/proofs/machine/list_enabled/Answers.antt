@@ -14,7 +14,7 @@ pub returns-clause-listed : goal.returns-clause-listed
 returns-clause-listed c =
     let s = seen_in c.args.seats.now c.args.line.now in
     listed_onto (row_of c.args.numbers.now c.args.seats.now c.args.line.now) c.clear.new.self.items c.list_all.new.out.items
-        (rows_below task_ops s (length c.args.seats.now) ++ End ∷ []) c.clear.ensures.items c.in_ok-list_all.ensures
+    (rows_below task_ops s (length c.args.seats.now) ++ End ∷ []) c.clear.ensures.items c.in_ok-list_all.ensures
     ∙ sym (enabled_of-open c.args.numbers.now c.args.seats.now c.args.line.now c.args.ended c.if-ended.false)
 
 pub returns-clause-few : goal.returns-clause-few
@@ -22,5 +22,5 @@ returns-clause-few c =
     let s = seen_in c.args.seats.now c.args.line.now in
     let p = row_of c.args.numbers.now c.args.seats.now c.args.line.now in
     few_rows p s (length c.args.seats.now) c.list_all.new.out.items c.requires
-        (listed_onto p c.clear.new.self.items c.list_all.new.out.items (rows_below task_ops s (length c.args.seats.now) ++ End ∷ [])
-            c.clear.ensures.items c.in_ok-list_all.ensures)
+    (listed_onto p c.clear.new.self.items c.list_all.new.out.items (rows_below task_ops s (length c.args.seats.now) ++ End ∷ [])
+    c.clear.ensures.items c.in_ok-list_all.ensures)
