@@ -4,6 +4,7 @@ use Rattle.ded_io.specs.Counts.{Rose}
 use Rattle.ded_io.specs.Stored.{first_choice, behind_choice}
 use Rattle.ded_io.specs.Told.{ToldFile, file_bytes, Gives, Lacks, Longer}
 use Rattle.ded_io.specs.Written.{◌⧺◌, appended}
+use Rattle.ada_tree.specs.NameList.{AreNames}
 use Rattle.ada_tree.specs.PlainProgram.{PProgram}
 use Rattle.ada_tree.specs.TypeTable.{TypeTable}
 use Rattle.interp.specs.declared.report.RunEnd.{RunEnd}
@@ -111,11 +112,12 @@ IsFileCause told file reads reads' out out' writes writes' OutputFailed = Rose w
 IsFileCause told file reads reads' out out' writes writes' TooLong = Longer told file file_limit × (out' ≡ out)
 IsFileCause told file reads reads' out out' writes writes' Memory = Unit {0}
 
--- The file holds a legal program of the small grammar, and the text of its picked run is written.
+-- The file holds a legal program of the small grammar, whose names are a list without repetition, and the text of its picked run is written.
 pub record HasRun (told : Option (List ToldFile)) (file : List ℕ) (turns : ℕ) (out out' : Option (List ℕ)) (end : RunEnd) : Type 0 where
   pub program : PProgram
   pub types : TypeTable
   pub numbers : Numbering
+  pub named : AreNames program.names
   pub read : WasRead told file program types numbers
   pub run : RunWritten program numbers turns out out' end
 

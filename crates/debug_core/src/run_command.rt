@@ -1,6 +1,7 @@
 // The command that runs a program.
 
-ghost use Rattle.std.specs.Prelude.{◌≡◌, ◌≤◌, ◌⊎◌, IfOk, IfErr, IsErrOf};
+ghost use Rattle.std.specs.Prelude.{◌≡◌, ◌≤◌, ◌⊎◌, IfOk, IfErr, OnOk};
+ghost use Rattle.ada_tree.specs.NameList.{AreNames};
 ghost use Rattle.ada_tree.specs.PlainProgram.{plain_program};
 ghost use Rattle.ded_io.specs.Told.{Lacks};
 ghost use Rattle.debug_core.specs.Answers.{HasRun, IsFileCause, IsReadCause, WasRead, RunWritten, IsOutputCause};
@@ -62,6 +63,7 @@ fn write_run<K: Sink>(
     out: &mut K,
 ) -> Result<RunEnd, Failure>
     requires { Legal (plain_program small.now.program) small.now.types small.now.numbers Mode.Original }
+    ensures named { OnOk result (AreNames (plain_program small.now.program).names) }
     ensures written { IfOk result (RunWritten (plain_program small.now.program) small.now.numbers turns (K.told out.old) (K.told out.new)) }
     ensures cause { IfErr result (IsOutputCause (K.faults out.old) (K.faults out.new)) }
 {

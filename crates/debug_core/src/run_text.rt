@@ -1,6 +1,7 @@
 // The text of a run around its events.
 
-ghost use Rattle.std.specs.Prelude.{◌≡◌, ◌≤◌, decimal, count_by, length};
+ghost use Rattle.std.specs.Prelude.{◌≡◌, decimal, OnOk};
+ghost use Rattle.ada_tree.specs.NameList.{AreNames};
 ghost use Rattle.ded_io.specs.Counts.{HasCause};
 ghost use Rattle.ded_io.specs.Written.{Wrote};
 ghost use Rattle.debug_core.specs.RunText.{header, end_line, end_word, task_line, task_lines, member_text, rest_of_run};
@@ -21,6 +22,7 @@ pub(crate) fn put_header<K: Sink>(
     out: &mut K,
 ) -> Result<(), SinkError>
     ensures bytes { Wrote result (K.told out.old) (K.told out.new) (header names.now numbers.now) }
+    ensures named { OnOk result (AreNames names.now) }
     ensures cause { HasCause (K.faults out.old) (K.faults out.new) result }
 {
     out.put(b"ded-run 1 ")?;
@@ -34,7 +36,8 @@ pub(crate) fn put_header<K: Sink>(
 
 // The bytes of a name.
 fn name_of(names: &Names, id: NameId) -> &[u8]
-    ensures { result.now ≡ text_of names.now id }
+    ensures text { result.now ≡ text_of names.now id }
+    ensures named { AreNames names.now }
 {
     match names.text(id) {
         Some(text) => text.as_bytes(),
