@@ -1,0 +1,10 @@
+-- Numbers as the code keeps them: up to a cap that is larger than every number of a program.
+use Rattle.std.specs.Prelude.{ℕ, ℤ, pos, negsuc, ◌^◌, ◌-◌, ◌+◌, min}
+
+-- the number, or the cap where it is larger
+unfoldable pub capped : ℕ → ℕ
+capped n = min n (2 ^ 32)
+
+abbrev pub capped_integer : ℤ → ℤ
+capped_integer (pos n) = pos (capped n)
+capped_integer (negsuc n) = negsuc (capped (n + 1) - 1)

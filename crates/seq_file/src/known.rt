@@ -1,0 +1,54 @@
+// The numbers that a program has.
+
+ghost use Rattle.std.specs.Prelude.{◌≡◌, ◌<◌, ◌≤◌, ℕ, ℤ, min, pos, length};
+ghost use Rattle.std.specs.Option.{option_map_or};
+ghost use Rattle.syn_event.specs.Numbering.{entry_at};
+ghost use Rattle.seq_file.specs.Known.{is_task, is_task_beside_main, is_alternative, is_member, is_call, fits_entry};
+
+use syn_event::{EntryInfo, Numbers};
+
+pub(crate) fn is_task(numbers: &Numbers, t: u64) -> bool
+    ensures { result ≡ is_task numbers.now t }
+{
+    t < numbers.tasks.len() as u64
+}
+
+pub(crate) fn is_task_beside_main(numbers: &Numbers, t: u64) -> bool
+    ensures { result ≡ is_task_beside_main numbers.now t }
+{
+    0 < t && is_task(numbers, t)
+}
+
+pub(crate) fn is_alternative(k: u64) -> bool
+    ensures { result ≡ is_alternative k }
+{
+    1 <= k && k <= 32
+}
+
+pub(crate) fn is_call(numbers: &Numbers, c: u64, e: u64, i: i64) -> bool
+    ensures { result ≡ is_call numbers.now c e i }
+{
+    is_task(numbers, c) && is_member(numbers, e, i)
+}
+
+fn is_member(numbers: &Numbers, e: u64, i: i64) -> bool
+    ensures { result ≡ is_member numbers.now e i }
+{
+    if e == 0 {
+        return false;
+    }
+    match numbers.entries.get(e as usize - 1) {
+        Some(info) => fits_entry(i, info),
+        None => false,
+    }
+}
+
+fn fits_entry(i: i64, info: &EntryInfo) -> bool
+    ensures { result ≡ fits_entry i info.now }
+{
+    if info.family {
+        i64::from(info.first) <= i && i <= i64::from(info.last)
+    } else {
+        0 <= i && i <= 0
+    }
+}

@@ -1,0 +1,223 @@
+// The lines of a sequence file.
+
+ghost use Rattle.std.specs.Prelude.{◌≡◌, ◌<◌, ◌≤◌, ◌^◌, min, option_and_then, option_map, count_by, drop, length, IsTrue, Some};
+ghost use Rattle.syn_event.specs.Numbering.{original_tasks, original_entries, is_original_task, is_original_entry};
+ghost use Rattle.syn_event.specs.Units.{text_of};
+ghost use Rattle.event_machine.specs.declared.Event.{Event};
+ghost use Rattle.seq_file.specs.Numerals.{natural, integer};
+ghost use Rattle.seq_file.specs.Lines.{event_of_line, header_of_line, lone_event, task_event, pair_event, call_event, is_upper_name, goes_on_as_name, is_capital};
+ghost use Rattle.seq_file.specs.Known.{is_known};
+ghost use Rattle.seq_file.specs.Verdicts.{verdict_of};
+ghost use Rattle.seq_file.specs.Files.{fault_of_header};
+
+use super::errors::SeqError;
+use super::known::{is_alternative, is_call, is_task, is_task_beside_main};
+use super::numerals::{integer, is_digit, natural};
+use super::words::{Words, is_letter, is_text, split_words};
+use ada_tree::Names;
+use syn_event::{EntryInfo, Event, Numbers, TaskInfo};
+
+/// What a line comes to that should be an event's.
+#[derive(Clone, Copy, Debug, PartialEq, Eq)]
+pub(crate) enum Verdict {
+    Known(Event),
+    BadNumber,
+    BadLine,
+}
+
+/// The event that a line writes.
+pub(crate) fn read_event(line: &[u8], numbers: &Numbers) -> Verdict
+    ensures { result ≡ verdict_of numbers.now (event_of_line line.now) }
+{
+    match split_words(line) {
+        Words::One(letter) => read_lone(letter),
+        Words::Two(letter, a) => read_task(letter, a, numbers),
+        Words::Three(letter, a, b) => read_pair(letter, a, b, numbers),
+        Words::Four(letter, c, e, i) => read_call(letter, c, e, i, numbers),
+        _ => Verdict::BadLine,
+    }
+}
+
+fn read_lone(letter: &[u8]) -> Verdict
+    ensures { (numbers : _) → result ≡ verdict_of numbers (lone_event letter.now) }
+{
+    if is_letter(letter, b'Z') {
+        Verdict::Known(Event::Z)
+    } else {
+        Verdict::BadLine
+    }
+}
+
+fn read_task(letter: &[u8], a: &[u8], numbers: &Numbers) -> Verdict
+    ensures { result ≡ verdict_of numbers.now (task_event letter.now (natural a.now)) }
+{
+    let Some(n) = natural(a) else {
+        return Verdict::BadLine;
+    };
+    let known = is_task_beside_main(numbers, n);
+    let a = low(n);
+    if is_letter(letter, b'E') {
+        verdict_on(Event::E { a }, known)
+    } else if is_letter(letter, b'S') {
+        verdict_on(Event::S { a }, known)
+    } else if is_letter(letter, b'X') {
+        verdict_on(Event::X { a }, known)
+    } else {
+        Verdict::BadLine
+    }
+}
+
+fn read_pair(letter: &[u8], a: &[u8], b: &[u8], numbers: &Numbers) -> Verdict
+    ensures { result ≡ verdict_of numbers.now (pair_event letter.now (natural a.now) (natural b.now)) }
+{
+    let Some(m) = natural(a) else {
+        return Verdict::BadLine;
+    };
+    let Some(n) = natural(b) else {
+        return Verdict::BadLine;
+    };
+    if is_letter(letter, b'D') {
+        let known = is_task_beside_main(numbers, m) && is_alternative(n);
+        verdict_on(
+            Event::D {
+                a: low(m),
+                k: low(n),
+            },
+            known,
+        )
+    } else if is_letter(letter, b'B') {
+        let known = is_task(numbers, m) && is_task_beside_main(numbers, n);
+        verdict_on(
+            Event::B {
+                t: low(m),
+                x: low(n),
+            },
+            known,
+        )
+    } else {
+        Verdict::BadLine
+    }
+}
+
+fn read_call(letter: &[u8], c: &[u8], e: &[u8], i: &[u8], numbers: &Numbers) -> Verdict
+    ensures { result ≡ verdict_of numbers.now (call_event letter.now (natural c.now) (natural e.now) (integer i.now)) }
+{
+    let Some(caller) = natural(c) else {
+        return Verdict::BadLine;
+    };
+    let Some(entry) = natural(e) else {
+        return Verdict::BadLine;
+    };
+    let Some(index) = integer(i) else {
+        return Verdict::BadLine;
+    };
+    let known = is_call(numbers, caller, entry, index);
+    let c = low(caller);
+    let e = low(entry);
+    let i = low_integer(index);
+    if is_letter(letter, b'R') {
+        verdict_on(Event::R { c, e, i }, known)
+    } else if is_letter(letter, b'C') {
+        verdict_on(Event::C { c, e, i }, known)
+    } else if is_letter(letter, b'T') {
+        verdict_on(Event::T { c, e, i }, known)
+    } else if is_letter(letter, b'F') {
+        verdict_on(Event::F { c, e, i }, known)
+    } else {
+        Verdict::BadLine
+    }
+}
+
+fn verdict_on(event: Event, known: bool) -> Verdict {
+    if known {
+        Verdict::Known(event)
+    } else {
+        Verdict::BadNumber
+    }
+}
+
+// The number, where it fits 32 bits.
+fn low(n: u64) -> u32
+    ensures { n < 2 ^ 32 → result ≡ n }
+{
+    u32::try_from(n).unwrap_or(u32::MAX)
+}
+
+fn low_integer(n: i64) -> i32 {
+    i32::try_from(n).unwrap_or(i32::MAX)
+}
+
+/// The fault of a header, if it has one.
+pub(crate) fn header_fault(line: &[u8], numbers: &Numbers, names: &Names) -> Option<SeqError>
+    ensures { result ≡ fault_of_header names.now numbers.now (header_of_line line.now) }
+{
+    let Words::Five(format, version, main, tasks, entries) = split_words(line) else {
+        return Some(SeqError::BadLine { line: 1 });
+    };
+    let (Some(tasks), Some(entries)) = (natural(tasks), natural(entries)) else {
+        return Some(SeqError::BadLine { line: 1 });
+    };
+    if !is_text(format, b"ded-seq") || !is_text(version, b"1") || !is_upper_name(main) {
+        return Some(SeqError::BadLine { line: 1 });
+    }
+    let same_tasks = tasks == original_tasks(&numbers.tasks);
+    let same_entries = entries == original_entries(&numbers.entries);
+    if is_main(main, numbers, names) && same_tasks && same_entries {
+        None
+    } else {
+        Some(SeqError::OtherProgram { line: 1 })
+    }
+}
+
+fn is_main(word: &[u8], numbers: &Numbers, names: &Names) -> bool {
+    match names.text(numbers.main) {
+        Some(text) => is_text(word, text.as_bytes()),
+        None => word.is_empty(),
+    }
+}
+
+// How many of the tasks beside main are the original's.
+fn original_tasks(tasks: &[TaskInfo]) -> u64
+    ensures { result ≡ count_by is_original_task (drop 1 tasks.now) }
+{
+    match tasks {
+        [] => 0,
+        [_, rest @ ..] => rest.iter().filter(|info| !info.added).count() as u64,
+    }
+}
+
+fn original_entries(entries: &[EntryInfo]) -> u64
+    ensures { result ≡ count_by is_original_entry entries.now }
+{
+    entries.iter().filter(|info| !info.added).count() as u64
+}
+
+fn is_upper_name(word: &[u8]) -> bool
+    ensures { result ≡ is_upper_name word.now }
+{
+    match word {
+        [] => false,
+        [b, rest @ ..] => is_capital(*b) && goes_on_as_name(rest),
+    }
+}
+
+fn goes_on_as_name(word: &[u8]) -> bool
+    ensures { result ≡ goes_on_as_name word.now }
+{
+    let mut n = 0;
+    while n < word.len() {
+        let part = is_capital(word[n]) || is_digit(word[n]);
+        let joins = word[n] == b'_' && n + 1 < word.len() && word[n + 1] != b'_';
+        if !part && !joins {
+            return false;
+        }
+        n += 1;
+    }
+    true
+}
+
+fn is_capital(b: u8) -> bool
+    ensures { result ≡ is_capital b }
+{
+    b.is_ascii_uppercase()
+}

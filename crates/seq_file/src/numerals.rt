@@ -1,0 +1,84 @@
+// Numbers in decimal.
+
+ghost use Rattle.std.specs.Prelude.{◌≡◌, ◌≤◌, ◌^◌, ◌*◌, ◌+◌, ◌-◌, min, option_map};
+ghost use Rattle.seq_file.specs.Numerals.{is_digit, are_digits, is_natural, natural, integer, value_behind};
+ghost use Rattle.seq_file.specs.Capped.{capped, capped_integer};
+
+/// Every larger number stands as this one: no program has it.
+const CAP: u64 = 4294967296;
+
+pub(crate) fn is_digit(b: u8) -> bool
+    ensures { result ≡ is_digit b }
+{
+    b.is_ascii_digit()
+}
+
+fn are_digits(word: &[u8]) -> bool
+    ensures { result ≡ are_digits word.now }
+{
+    for b in word {
+        if !is_digit(*b) {
+            return false;
+        }
+    }
+    true
+}
+
+fn is_natural(word: &[u8]) -> bool
+    ensures { result ≡ is_natural word.now }
+{
+    match word {
+        [] => false,
+        [b] => is_digit(*b),
+        [b, rest @ ..] => b'1' <= *b && *b <= b'9' && are_digits(rest),
+    }
+}
+
+// The number that digits write, up to the cap.
+fn capped_value(word: &[u8]) -> u64
+    requires { are_digits word.now ≡ true }
+    ensures { result ≡ capped (value_behind 0 word.now) }
+{
+    let mut value: u64 = 0;
+    for b in word {
+        value = with_digit(value, *b);
+    }
+    value
+}
+
+fn with_digit(value: u64, b: u8) -> u64
+    requires digit { is_digit b ≡ true }
+    requires small { value ≤ 2 ^ 32 }
+    ensures { result ≡ capped (value * 10 + (b - 48)) }
+{
+    (value * 10 + u64::from(b - b'0')).min(CAP)
+}
+
+/// The number that a word writes, up to the cap.
+#[tactic(auto, unfolding(crate::specs::Numerals::natural))]
+pub(crate) fn natural(word: &[u8]) -> Option<u64>
+    ensures { result ≡ option_map capped (natural word.now) }
+{
+    if is_natural(word) {
+        Some(capped_value(word))
+    } else {
+        None
+    }
+}
+
+/// The number that a word writes, with a minus where it is negative, up to the cap on both sides.
+#[tactic(auto, unfolding(crate::specs::Numerals::integer))]
+pub(crate) fn integer(word: &[u8]) -> Option<i64>
+    ensures { result ≡ option_map capped_integer (integer word.now) }
+{
+    match word {
+        [b'-', rest @ ..] => match natural(rest) {
+            Some(n) if n > 0 => Some(-(n as i64)),
+            _ => None,
+        },
+        _ => match natural(word) {
+            Some(n) => Some(n as i64),
+            None => None,
+        },
+    }
+}
