@@ -70,17 +70,28 @@ event_of_line line = event_of_words (words_of line)
 abbrev pub is_capital : ℕ → Bool
 is_capital b = nat_le 65 b && nat_le b 90
 
--- letters and digits, single underscores before them, behind a part of a name (2.3)
-abbrev pub goes_on_as_name : List ℕ → Bool
-goes_on_as_name [] = true
-goes_on_as_name (b ∷ []) = is_capital b || is_digit b
-goes_on_as_name (b ∷ c ∷ rest) =
-    (is_capital b || is_digit b || (b == 95 && (is_capital c || is_digit c))) && goes_on_as_name (c ∷ rest)
+-- a letter of upper case or a digit
+abbrev pub is_name_part : ℕ → Bool
+is_name_part b = is_capital b || is_digit b
+
+-- the text begins with a byte of the class
+abbrev pub begins : (ℕ → Bool) → List ℕ → Bool
+begins class [] = false
+begins class (b ∷ rest) = class b
+
+-- each byte goes on, given the bytes behind it
+abbrev pub every : (ℕ → List ℕ → Bool) → List ℕ → Bool
+every goes_on [] = true
+every goes_on (b ∷ rest) = goes_on b rest && every goes_on rest
+
+-- a letter or a digit, or an underscore with one of these behind it (2.3)
+abbrev pub name_goes_on : ℕ → List ℕ → Bool
+name_goes_on b rest = is_name_part b || (b == 95 && begins is_name_part rest)
 
 -- an identifier in upper case: a letter, then letters, digits and single underscores between them (2.3)
 abbrev pub is_upper_name : List ℕ → Bool
 is_upper_name [] = false
-is_upper_name (b ∷ rest) = is_capital b && goes_on_as_name rest
+is_upper_name (b ∷ rest) = is_capital b && every name_goes_on rest
 
 -- What a header says: the name of a program, and how many tasks beside main and entries it has.
 pub record Header : Type 0 where

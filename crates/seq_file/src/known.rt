@@ -1,6 +1,6 @@
 // The numbers that a program has.
 
-ghost use Rattle.std.specs.Prelude.{◌≡◌, ◌<◌, ◌≤◌, ℕ, ℤ, min, pos, length};
+ghost use Rattle.std.specs.Prelude.{◌≡◌, ◌<◌, ◌≤◌, ℕ, ℤ, option_copied};
 ghost use Rattle.std.specs.Option.{option_map_or};
 ghost use Rattle.syn_event.specs.Numbering.{entry_at};
 ghost use Rattle.seq_file.specs.Known.{is_task, is_task_beside_main, is_alternative, is_member, is_call, fits_entry};
@@ -34,13 +34,20 @@ pub(crate) fn is_call(numbers: &Numbers, c: u64, e: u64, i: i64) -> bool
 fn is_member(numbers: &Numbers, e: u64, i: i64) -> bool
     ensures { result ≡ is_member numbers.now e i }
 {
-    if e == 0 {
-        return false;
-    }
-    match numbers.entries.get(e as usize - 1) {
+    match entry_at(numbers, e) {
         Some(info) => fits_entry(i, info),
         None => false,
     }
+}
+
+// The entry of this number, from 1.
+fn entry_at(numbers: &Numbers, e: u64) -> Option<&EntryInfo>
+    ensures { option_copied result ≡ entry_at numbers.now e }
+{
+    if e == 0 {
+        return None;
+    }
+    numbers.entries.get(e as usize - 1)
 }
 
 fn fits_entry(i: i64, info: &EntryInfo) -> bool

@@ -12,3 +12,6 @@ mod words;
 
 pub use errors::SeqError;
 pub use reading::read_seq;
+
+#[cfg(test)]
+mod tests;

@@ -1,11 +1,11 @@
 // The lines of a sequence file.
 
-ghost use Rattle.std.specs.Prelude.{◌≡◌, ◌<◌, ◌≤◌, ◌^◌, min, option_and_then, option_map, count_by, drop, length, IsTrue, Some};
+ghost use Rattle.std.specs.Prelude.{◌≡◌, ◌<◌, ◌≤◌, ◌^◌, min, option_and_then, option_map, count_by, drop, length, slice_index, Some, ◌+◌};
 ghost use Rattle.syn_event.specs.Numbering.{original_tasks, original_entries, is_original_task, is_original_entry};
 ghost use Rattle.syn_event.specs.Units.{text_of};
 ghost use Rattle.event_machine.specs.declared.Event.{Event};
 ghost use Rattle.seq_file.specs.Numerals.{natural, integer};
-ghost use Rattle.seq_file.specs.Lines.{event_of_line, header_of_line, lone_event, task_event, pair_event, call_event, is_upper_name, goes_on_as_name, is_capital};
+ghost use Rattle.seq_file.specs.Lines.{event_of_line, header_of_line, lone_event, task_event, pair_event, call_event, is_upper_name, every, name_goes_on, is_name_part, is_capital};
 ghost use Rattle.seq_file.specs.Known.{is_known};
 ghost use Rattle.seq_file.specs.Verdicts.{verdict_of};
 ghost use Rattle.seq_file.specs.Files.{fault_of_header};
@@ -197,23 +197,36 @@ fn is_upper_name(word: &[u8]) -> bool
 {
     match word {
         [] => false,
-        [b, rest @ ..] => is_capital(*b) && goes_on_as_name(rest),
+        [b, rest @ ..] => is_capital(*b) && every_goes_on(rest),
     }
 }
 
-fn goes_on_as_name(word: &[u8]) -> bool
-    ensures { result ≡ goes_on_as_name word.now }
+#[tactic(auto, using(crate::proofs::Walks::walks))]
+fn every_goes_on(word: &[u8]) -> bool
+    ensures { result ≡ every name_goes_on word.now }
 {
     let mut n = 0;
     while n < word.len() {
-        let part = is_capital(word[n]) || is_digit(word[n]);
-        let joins = word[n] == b'_' && n + 1 < word.len() && word[n + 1] != b'_';
-        if !part && !joins {
+        if !goes_on(word, n) {
             return false;
         }
         n += 1;
     }
     true
+}
+
+fn goes_on(word: &[u8], n: usize) -> bool
+    requires { n < length word.now }
+    ensures { result ≡ name_goes_on (slice_index word.now n) (drop (n + 1) word.now) }
+{
+    let b = word[n];
+    is_name_part(b) || (b == b'_' && n + 1 < word.len() && is_name_part(word[n + 1]))
+}
+
+fn is_name_part(b: u8) -> bool
+    ensures { result ≡ is_name_part b }
+{
+    is_capital(b) || is_digit(b)
 }
 
 fn is_capital(b: u8) -> bool

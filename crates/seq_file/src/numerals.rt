@@ -1,6 +1,6 @@
 // Numbers in decimal.
 
-ghost use Rattle.std.specs.Prelude.{◌≡◌, ◌≤◌, ◌^◌, ◌*◌, ◌+◌, ◌-◌, min, option_map};
+ghost use Rattle.std.specs.Prelude.{◌≡◌, ◌≤◌, ◌^◌, ◌*◌, ◌+◌, ◌-◌, min, option_map, true};
 ghost use Rattle.seq_file.specs.Numerals.{is_digit, are_digits, is_natural, natural, integer, value_behind};
 ghost use Rattle.seq_file.specs.Capped.{capped, capped_integer};
 
@@ -13,6 +13,7 @@ pub(crate) fn is_digit(b: u8) -> bool
     b.is_ascii_digit()
 }
 
+#[tactic(auto, using(crate::proofs::Walks::walks))]
 fn are_digits(word: &[u8]) -> bool
     ensures { result ≡ are_digits word.now }
 {
@@ -35,6 +36,7 @@ fn is_natural(word: &[u8]) -> bool
 }
 
 // The number that digits write, up to the cap.
+#[tactic(auto, using(crate::proofs::Walks::walks))]
 fn capped_value(word: &[u8]) -> u64
     requires { are_digits word.now ≡ true }
     ensures { result ≡ capped (value_behind 0 word.now) }
@@ -46,6 +48,7 @@ fn capped_value(word: &[u8]) -> u64
     value
 }
 
+#[tactic(auto, unfolding(crate::specs::Capped::capped))]
 fn with_digit(value: u64, b: u8) -> u64
     requires digit { is_digit b ≡ true }
     requires small { value ≤ 2 ^ 32 }

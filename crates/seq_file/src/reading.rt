@@ -1,6 +1,6 @@
 // Reading a sequence file.
 
-ghost use Rattle.std.specs.Prelude.{◌≡◌, ◌≢◌, ◌<◌, ◌-◌, ◌^◌, ◌++◌, List, length, IfOk, IfErr, MatchResult, ⊤};
+ghost use Rattle.std.specs.Prelude.{◌≡◌, ◌≢◌, ◌<◌, ◌-◌, ◌^◌, ◌++◌, List, length, IfOk, IfErr, MatchResult, true};
 ghost use Rattle.event_machine.specs.declared.Event.{Event};
 ghost use Rattle.seq_file.specs.declared.errors.SeqError.{SeqError};
 ghost use Rattle.seq_file.specs.declared.errors.SeqError.TheVariants.{Memory};

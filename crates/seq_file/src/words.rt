@@ -1,6 +1,7 @@
 // The words of a line.
 
-ghost use Rattle.std.specs.Prelude.{◌≡◌, ◌<◌, ◌==◌, ℕ, List, [], ◌∷◌, length, position, option_map, bytes_eq, IfSome};
+ghost use Rattle.std.specs.Prelude.{◌≡◌, ◌<◌, ◌==◌, ℕ, List, [], ◌∷◌, length, position, option_map, bytes_eq, IfSome, MatchOption};
+ghost use Rattle.std.specs.List.{slice_split};
 ghost use Rattle.seq_file.specs.Lines.{is_blank, is_line_end, words_of};
 ghost use Rattle.seq_file.specs.Verdicts.{cut};
 ghost use Rattle.seq_file.specs.WordLists.{AreWords};
@@ -17,6 +18,7 @@ pub(crate) enum Words<'a> {
 }
 
 /// The words of a line; `More` where there are more than five.
+#[tactic(auto, using(crate::proofs::Walks::walks))]
 pub(crate) fn split_words<'a>(line: &'a [u8]) -> Words<'a>
     ensures { AreWords result (words_of line.now) }
 {
@@ -39,8 +41,11 @@ pub(crate) fn split_words<'a>(line: &'a [u8]) -> Words<'a>
 }
 
 /// A text cut at the first byte that is the mark: what stands before it and what behind.
+#[tactic(auto, using(crate::proofs::Walks::walks))]
 pub(crate) fn cut_at<'a>(text: &'a [u8], mark: u8) -> Option<(&'a [u8], &'a [u8])>
-    ensures { option_map (λ x. (x.0.now, x.1.now)) result ≡ cut (λ b. b == mark) text.now }
+    ensures parts { MatchOption result (slice_split (λ b. b == mark) text.now ≡ text.now ∷ [])
+        (λ x. slice_split (λ b. b == mark) text.now ≡ x.0.now ∷ slice_split (λ b. b == mark) x.1.now) }
+    ensures cut { option_map (λ x. (x.0.now, x.1.now)) result ≡ cut (λ b. b == mark) text.now }
 {
     match place_of(text, mark) {
         Some(n) => Some((&text[..n], &text[n + 1..])),
