@@ -1,5 +1,5 @@
 -- Numbers as a file writes them: decimal of any size without leading zeros, and a minus before negative ones (this project's format).
-use Rattle.std.specs.Prelude.{ℕ, ℤ, pos, negsuc, zero, suc, Bool, true, false, ◌&&◌, ◌+◌, ◌-◌, ◌*◌, ◌==◌, nat_le, List, [], ◌∷◌, Option, Some, None, option_map, option_and_then, if◌then◌else◌}
+use Rattle.std.specs.Prelude.{ℕ, ℤ, pos, negsuc, zero, suc, Bool, true, false, not, ◌&&◌, ◌+◌, ◌-◌, ◌*◌, ◌==◌, nat_le, List, [], ◌∷◌, Option, Some, None, option_map, option_and_then, if◌then◌else◌}
 
 -- a digit of ASCII
 abbrev pub is_digit : ℕ → Bool
@@ -14,7 +14,7 @@ are_digits (b ∷ rest) = is_digit b && are_digits rest
 abbrev pub is_natural : List ℕ → Bool
 is_natural [] = false
 is_natural (b ∷ []) = is_digit b
-is_natural (b ∷ c ∷ rest) = nat_le 49 b && nat_le b 57 && are_digits (c ∷ rest)
+is_natural (b ∷ c ∷ rest) = not (b == 48) && are_digits (b ∷ c ∷ rest)
 
 -- the number that digits write behind those of a number
 abbrev pub value_behind : ℕ → List ℕ → ℕ

@@ -31,12 +31,12 @@ fn is_natural(word: &[u8]) -> bool
     match word {
         [] => false,
         [b] => is_digit(*b),
-        [b, rest @ ..] => b'1' <= *b && *b <= b'9' && are_digits(rest),
+        [b, ..] => *b != b'0' && are_digits(word),
     }
 }
 
 // The number that digits write, up to the cap.
-#[tactic(auto, using(crate::proofs::Walks::walks))]
+#[tactic(auto, using(crate::proofs::Capping::capping))]
 fn capped_value(word: &[u8]) -> u64
     requires { are_digits word.now ≡ true }
     ensures { result ≡ capped (value_behind 0 word.now) }
@@ -58,7 +58,7 @@ fn with_digit(value: u64, b: u8) -> u64
 }
 
 /// The number that a word writes, up to the cap.
-#[tactic(auto, unfolding(crate::specs::Numerals::natural))]
+#[tactic(auto, using(crate::proofs::Capping::capping), unfolding(crate::specs::Numerals::natural))]
 pub(crate) fn natural(word: &[u8]) -> Option<u64>
     ensures { result ≡ option_map capped (natural word.now) }
 {
@@ -70,7 +70,7 @@ pub(crate) fn natural(word: &[u8]) -> Option<u64>
 }
 
 /// The number that a word writes, with a minus where it is negative, up to the cap on both sides.
-#[tactic(auto, unfolding(crate::specs::Numerals::integer))]
+#[tactic(auto, using(crate::proofs::Capping::capping), unfolding(crate::specs::Numerals::integer))]
 pub(crate) fn integer(word: &[u8]) -> Option<i64>
     ensures { result ≡ option_map capped_integer (integer word.now) }
 {

@@ -1,6 +1,6 @@
 // The words of a line.
 
-ghost use Rattle.std.specs.Prelude.{◌≡◌, ◌<◌, ◌==◌, ℕ, List, [], ◌∷◌, length, position, option_map, bytes_eq, IfSome, MatchOption};
+ghost use Rattle.std.specs.Prelude.{◌≡◌, ◌<◌, ◌==◌, ℕ, List, [], ◌∷◌, length, position, option_map, bytes_eq, IfSome, MatchOption, ◌≤◌, take, drop};
 ghost use Rattle.std.specs.List.{slice_split};
 ghost use Rattle.seq_file.specs.Lines.{is_blank, is_line_end, words_of};
 ghost use Rattle.seq_file.specs.Verdicts.{cut};
@@ -48,9 +48,23 @@ pub(crate) fn cut_at<'a>(text: &'a [u8], mark: u8) -> Option<(&'a [u8], &'a [u8]
     ensures cut { option_map (λ x. (x.0.now, x.1.now)) result ≡ cut (λ b. b == mark) text.now }
 {
     match place_of(text, mark) {
-        Some(n) => Some((&text[..n], &text[n + 1..])),
+        Some(n) => Some((front(text, n), behind(text, n + 1))),
         None => None,
     }
+}
+
+fn front(text: &[u8], len: usize) -> &[u8]
+    requires { len ≤ length text.now }
+    ensures { result.now ≡ take len text.now }
+{
+    &text[..len]
+}
+
+fn behind(text: &[u8], len: usize) -> &[u8]
+    requires { len ≤ length text.now }
+    ensures { result.now ≡ drop len text.now }
+{
+    &text[len..]
 }
 
 fn place_of(text: &[u8], mark: u8) -> Option<usize>
