@@ -1,10 +1,10 @@
 -- Numbers up to the cap, by a walk over their digits.
-use Rattle.std.proofs.Common.{◌≡◌, ℕ, ◌+◌, ◌-◌, ◌*◌, ◌^◌, ◌<◌, ◌≤◌, Bool, true, false, List, [], ◌∷◌, length, get_or, drop, refl, ap, ◌∙◌, sym, arith, inl, inr, rules}
+use Rattle.std.proofs.Common.{◌≡◌, ℕ, ◌+◌, ◌-◌, ◌*◌, ◌^◌, ◌<◌, ◌≤◌, Bool, true, false, List, [], ◌∷◌, length, get_or, drop, refl, ap, ◌∙◌, sym, arith, inl, inr, rules, zero, suc, ℤ, pos, neg_ℤ, Some, None, Option, option_map, true≢false, ◌≢◌}
 use Rattle.std.proofs.lemmas.List.{at_drop_more}
 use Rattle.std.proofs.lemmas.Bool.{cases_Bool, and_parts, and_from}
-use Rattle.std.specs.Prelude.{◌&&◌, nat_le}
-use Rattle.seq_file.specs.Numerals.{are_digits, is_digit, is_natural, value_behind}
-use Rattle.seq_file.specs.Capped.{capped}
+use Rattle.std.specs.Prelude.{◌&&◌, nat_le, unwrap_or, is_some, option_and_then}
+use Rattle.seq_file.specs.Numerals.{are_digits, is_digit, is_natural, value_behind, below_zero}
+use Rattle.seq_file.specs.Capped.{capped, capped_integer}
 
 pub capped-small : (n : ℕ) → n ≤ 2 ^ 32 → capped n ≡ n
 unfolding capped
@@ -47,4 +47,36 @@ natural-digits [] h = search rules
 natural-digits (b ∷ []) h = and_from (is_digit b) true h refl
 natural-digits (b ∷ c ∷ rest) h = (and_parts _ _ h).1
 
+clash : {A : Type 0} → false ≡ true → A
+clash h = absurd (true≢false (sym h))
+
+some-is : {a b : ℕ} → Some a ≡ Some b → a ≡ b
+some-is h = ap (λ o. unwrap_or o 0) h
+
 pub ruleset capping = (capped-small, capped-large, capped-le, value-more, digit-here, digits-behind, natural-digits)
+
+-- a capped number with its sign
+pub negative-zero : (o : Option ℕ) (n : ℕ) → Some n ≡ option_map capped o → n ≡ 0 → None ≡ option_map capped_integer (option_and_then below_zero o)
+unfolding capped
+negative-zero None n h e = refl
+negative-zero (Some zero) n h e = refl
+negative-zero (Some (suc m)) n h e = absurd (omega (arith, e, some-is h))
+
+pub negative-some : (o : Option ℕ) (n : ℕ) → Some n ≡ option_map capped o → n ≢ 0 → Some (neg_ℤ (pos n)) ≡ option_map capped_integer (option_and_then below_zero o)
+negative-some None n h e = clash (sym (ap is_some h))
+negative-some (Some zero) n h e = absurd (e (some-is h ∙ capped-small 0 (omega arith)))
+negative-some (Some (suc m)) n h e = ap (λ t. Some (neg_ℤ (pos t))) (some-is h)
+
+pub never-large : (o : Option ℕ) (n : ℕ) {A : Type 0} → Some n ≡ option_map capped o → 2 ^ 32 < n → A
+never-large None n h lt = clash (sym (ap is_some h))
+never-large (Some m) n h lt = absurd (omega (arith, lt, some-is h, capped-le m))
+
+pub no-sign : (o : Option ℕ) → None ≡ option_map capped o → o ≡ None
+no-sign None h = refl
+no-sign (Some m) h = clash (ap is_some h)
+
+pub positive-some : (o : Option ℕ) (n : ℕ) → Some n ≡ option_map capped o → Some (pos n) ≡ option_map capped_integer (option_map pos o)
+positive-some None n h = clash (sym (ap is_some h))
+positive-some (Some m) n h = ap (λ t. Some (pos t)) (some-is h)
+
+pub ruleset signs = (negative-zero, negative-some, no-sign, positive-some)

@@ -1,5 +1,5 @@
 -- Numbers as the code keeps them: up to a cap that is larger than every number of a program.
-use Rattle.std.specs.Prelude.{ℕ, ℤ, pos, negsuc, ◌^◌, ◌-◌, ◌+◌, min}
+use Rattle.std.specs.Prelude.{ℕ, ℤ, pos, negsuc, neg_ℤ, suc, ◌^◌, min}
 
 -- the number, or the cap where it is larger
 unfoldable pub capped : ℕ → ℕ
@@ -7,4 +7,4 @@ capped n = min n (2 ^ 32)
 
 abbrev pub capped_integer : ℤ → ℤ
 capped_integer (pos n) = pos (capped n)
-capped_integer (negsuc n) = negsuc (capped (n + 1) - 1)
+capped_integer (negsuc n) = neg_ℤ (pos (capped (suc n)))

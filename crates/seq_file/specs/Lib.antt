@@ -5,3 +5,4 @@ pub mod Files
 pub mod Capped
 pub mod WordLists
 pub mod Verdicts
+pub mod NextEvents

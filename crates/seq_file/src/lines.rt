@@ -1,6 +1,7 @@
 // The lines of a sequence file.
 
-ghost use Rattle.std.specs.Prelude.{◌≡◌, ◌<◌, ◌≤◌, ◌^◌, min, option_and_then, option_map, count_by, drop, length, slice_index, Some, ◌+◌};
+ghost use Rattle.std.specs.Prelude.{◌≡◌, ◌<◌, ◌≤◌, ◌^◌, min, option_and_then, option_map, count_by, drop, length, slice_index, Some, ◌+◌, cond, ℕ, Option, bytes_eq, unwrap_or, slice_get, []};
+ghost use Rattle.seq_file.specs.declared.lines.Verdict.TheVariants.{Known, BadNumber};
 ghost use Rattle.syn_event.specs.Numbering.{original_tasks, original_entries, is_original_task, is_original_entry};
 ghost use Rattle.syn_event.specs.Units.{text_of};
 ghost use Rattle.event_machine.specs.declared.Event.{Event};
@@ -128,7 +129,9 @@ fn read_call(letter: &[u8], c: &[u8], e: &[u8], i: &[u8], numbers: &Numbers) -> 
     }
 }
 
-fn verdict_on(event: Event, known: bool) -> Verdict {
+fn verdict_on(event: Event, known: bool) -> Verdict
+    ensures { result ≡ cond known (Known event) BadNumber }
+{
     if known {
         Verdict::Known(event)
     } else {
@@ -169,10 +172,12 @@ pub(crate) fn header_fault(line: &[u8], numbers: &Numbers, names: &Names) -> Opt
     }
 }
 
-fn is_main(word: &[u8], numbers: &Numbers, names: &Names) -> bool {
+fn is_main(word: &[u8], numbers: &Numbers, names: &Names) -> bool
+    ensures { result ≡ bytes_eq word.now (text_of names.now numbers.now.main) }
+{
     match names.text(numbers.main) {
         Some(text) => is_text(word, text.as_bytes()),
-        None => word.is_empty(),
+        None => is_text(word, b""),
     }
 }
 

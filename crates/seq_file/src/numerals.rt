@@ -1,7 +1,7 @@
 // Numbers in decimal.
 
-ghost use Rattle.std.specs.Prelude.{◌≡◌, ◌≤◌, ◌^◌, ◌*◌, ◌+◌, ◌-◌, min, option_map, true};
-ghost use Rattle.seq_file.specs.Numerals.{is_digit, are_digits, is_natural, natural, integer, value_behind};
+ghost use Rattle.std.specs.Prelude.{◌≡◌, ◌≤◌, ◌^◌, ◌*◌, ◌+◌, ◌-◌, ℕ, pos, neg_ℤ, Option, IfSome, min, option_map, option_and_then, true};
+ghost use Rattle.seq_file.specs.Numerals.{is_digit, are_digits, is_natural, natural, integer, value_behind, below_zero};
 ghost use Rattle.seq_file.specs.Capped.{capped, capped_integer};
 
 /// Every larger number stands as this one: no program has it.
@@ -60,7 +60,8 @@ fn with_digit(value: u64, b: u8) -> u64
 /// The number that a word writes, up to the cap.
 #[tactic(auto, using(crate::proofs::Capping::capping), unfolding(crate::specs::Numerals::natural))]
 pub(crate) fn natural(word: &[u8]) -> Option<u64>
-    ensures { result ≡ option_map capped (natural word.now) }
+    ensures is { result ≡ option_map capped (natural word.now) }
+    ensures small { IfSome result (λ n. n ≤ 2 ^ 32) }
 {
     if is_natural(word) {
         Some(capped_value(word))
@@ -70,18 +71,53 @@ pub(crate) fn natural(word: &[u8]) -> Option<u64>
 }
 
 /// The number that a word writes, with a minus where it is negative, up to the cap on both sides.
-#[tactic(auto, using(crate::proofs::Capping::capping), unfolding(crate::specs::Numerals::integer))]
+#[tactic(auto, unfolding(crate::specs::Numerals::integer))]
 pub(crate) fn integer(word: &[u8]) -> Option<i64>
     ensures { result ≡ option_map capped_integer (integer word.now) }
 {
     match word {
-        [b'-', rest @ ..] => match natural(rest) {
-            Some(n) if n > 0 => Some(-(n as i64)),
-            _ => None,
-        },
-        _ => match natural(word) {
-            Some(n) => Some(n as i64),
-            None => None,
+        [] => None,
+        [b, rest @ ..] => if *b == b'-' {
+            negative(natural(rest))
+        } else {
+            positive(natural(word))
         },
     }
+}
+
+// The number with a minus; there is none for zero.
+#[tactic(auto, using(crate::proofs::Capping::signs))]
+fn negative(n: Option<u64>) -> Option<i64>
+    requires { IfSome n (λ n. n ≤ 2 ^ 32) }
+    ensures { (o : Option ℕ) → n ≡ option_map capped o → result ≡ option_map capped_integer (option_and_then below_zero o) }
+{
+    match n {
+        Some(n) => if n == 0 { None } else { Some(minus(n)) },
+        None => None,
+    }
+}
+
+#[tactic(auto, using(crate::proofs::Capping::signs))]
+fn positive(n: Option<u64>) -> Option<i64>
+    requires { IfSome n (λ n. n ≤ 2 ^ 32) }
+    ensures { (o : Option ℕ) → n ≡ option_map capped o → result ≡ option_map capped_integer (option_map pos o) }
+{
+    match n {
+        Some(n) => Some(plus(n)),
+        None => None,
+    }
+}
+
+fn minus(n: u64) -> i64
+    requires { n ≤ 2 ^ 32 }
+    ensures { result ≡ neg_ℤ (pos n) }
+{
+    -(n as i64)
+}
+
+fn plus(n: u64) -> i64
+    requires { n ≤ 2 ^ 32 }
+    ensures { result ≡ pos n }
+{
+    n as i64
 }

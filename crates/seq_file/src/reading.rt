@@ -1,12 +1,14 @@
 // Reading a sequence file.
 
-ghost use Rattle.std.specs.Prelude.{◌≡◌, ◌≢◌, ◌<◌, ◌-◌, ◌^◌, ◌++◌, List, length, IfOk, IfErr, MatchResult, true};
+ghost use Rattle.std.specs.Prelude.{◌≡◌, ◌≢◌, ◌<◌, ◌-◌, ◌^◌, ◌++◌, List, length, IfOk, IfErr, MatchResult, true, Some, None, IsSomeAnd};
 ghost use Rattle.event_machine.specs.declared.Event.{Event};
 ghost use Rattle.seq_file.specs.declared.errors.SeqError.{SeqError};
 ghost use Rattle.seq_file.specs.declared.errors.SeqError.TheVariants.{Memory};
 ghost use Rattle.syn_event.specs.Units.{text_of};
-ghost use Rattle.seq_file.specs.Lines.{is_upper_name};
-ghost use Rattle.seq_file.specs.Files.{SeqReads, HasFirstFault};
+ghost use Rattle.seq_file.specs.Lines.{is_upper_name, is_line_end};
+ghost use Rattle.seq_file.specs.Files.{SeqReads, HasFirstFault, header_fault, line_fault};
+ghost use Rattle.seq_file.specs.Verdicts.{cut};
+ghost use Rattle.seq_file.specs.NextEvents.{IsNextEvent};
 
 use super::errors::SeqError;
 use super::lines::{Verdict, header_fault, read_event};
@@ -74,6 +76,8 @@ fn next_event<'a>(
     ended: bool,
 ) -> Result<(Event, &'a [u8]), SeqError>
     requires { count < 2 ^ 32 - 2 }
+    ensures read { IfOk result (λ x. IsNextEvent numbers.now ended count rest.now x.0 x.1.now) }
+    ensures fault { IfErr result (λ error. line_fault numbers.now ended count rest.now ≡ Some error) }
 {
     let number = count as u32 + 2;
     if ended {
