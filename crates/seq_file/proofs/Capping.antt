@@ -47,10 +47,10 @@ natural-digits [] h = search rules
 natural-digits (b ∷ []) h = and_from (is_digit b) true h refl
 natural-digits (b ∷ c ∷ rest) h = (and_parts _ _ h).1
 
-clash : {A : Type 0} → false ≡ true → A
+pub clash : {A : Type 0} → false ≡ true → A
 clash h = absurd (true≢false (sym h))
 
-some-is : {a b : ℕ} → Some a ≡ Some b → a ≡ b
+pub some-is : {a b : ℕ} → Some a ≡ Some b → a ≡ b
 some-is h = ap (λ o. unwrap_or o 0) h
 
 pub ruleset capping = (capped-small, capped-large, capped-le, value-more, digit-here, digits-behind, natural-digits)

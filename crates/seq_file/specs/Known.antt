@@ -12,7 +12,7 @@ is_task numbers t = nat_lt t (length numbers.tasks)
 
 -- the number of a task beside main
 abbrev pub is_task_beside_main : Numbering → ℕ → Bool
-is_task_beside_main numbers t = nat_lt 0 t && is_task numbers t
+is_task_beside_main numbers t = is_task numbers t && nat_lt 0 t
 
 -- the index of a member: 0 for a plain entry, and from the first to the last for a family
 abbrev pub fits_entry : ℤ → EntryInfo → Bool

@@ -10,7 +10,7 @@ use Rattle.seq_file.specs.Verdicts.{cut}
 -- the rest of a file begins with the line of an event that the program has, and goes on with the bytes behind it
 pub record IsNextEvent (numbers : Numbering) (ended : Bool) (count : ℕ) (rest : List ℕ) (event : Event) (behind : List ℕ) : Type 0 where
   pub line : List ℕ
-  pub open : ended ≡ false
+  pub going : ended ≡ false
   pub few : count < most_events
   pub cuts : cut is_line_end rest ≡ Some (line, behind)
   pub writes : event_of_line line ≡ Some event

@@ -1,6 +1,6 @@
 // The numbers that a program has.
 
-ghost use Rattle.std.specs.Prelude.{◌≡◌, ◌<◌, ◌≤◌, ℕ, ℤ, option_copied};
+ghost use Rattle.std.specs.Prelude.{◌≡◌, ◌<◌, ◌≤◌, ℕ, ℤ, option_copied, length, ◌^◌};
 ghost use Rattle.std.specs.Option.{option_map_or};
 ghost use Rattle.syn_event.specs.Numbering.{entry_at};
 ghost use Rattle.seq_file.specs.Known.{is_task, is_task_beside_main, is_alternative, is_member, is_call, fits_entry};
@@ -8,15 +8,17 @@ ghost use Rattle.seq_file.specs.Known.{is_task, is_task_beside_main, is_alternat
 use syn_event::{EntryInfo, Numbers};
 
 pub(crate) fn is_task(numbers: &Numbers, t: u64) -> bool
-    ensures { result ≡ is_task numbers.now t }
+    ensures is { result ≡ is_task numbers.now t }
+    ensures within { length numbers.now.tasks < 2 ^ 32 }
 {
     t < numbers.tasks.len() as u64
 }
 
 pub(crate) fn is_task_beside_main(numbers: &Numbers, t: u64) -> bool
-    ensures { result ≡ is_task_beside_main numbers.now t }
+    ensures is { result ≡ is_task_beside_main numbers.now t }
+    ensures within { length numbers.now.tasks < 2 ^ 32 }
 {
-    0 < t && is_task(numbers, t)
+    is_task(numbers, t) && 0 < t
 }
 
 pub(crate) fn is_alternative(k: u64) -> bool
