@@ -1,13 +1,13 @@
 // The numbers that a program has.
 
-ghost use Rattle.std.specs.Prelude.{◌≡◌, ◌<◌, ◌≤◌, ℕ, ℤ, option_copied, length, ◌^◌};
+ghost use Rattle.std.specs.Prelude.{◌≡◌, ◌<◌, ◌≤◌, ℕ, ℤ, option_copied, length, ◌^◌, ◌&&◌};
 ghost use Rattle.std.specs.Option.{option_map_or};
 ghost use Rattle.syn_event.specs.Numbering.{entry_at};
 ghost use Rattle.seq_file.specs.Known.{is_task, is_task_beside_main, is_alternative, is_member, is_call, fits_entry};
 
 use syn_event::{EntryInfo, Numbers};
 
-pub(crate) fn is_task(numbers: &Numbers, t: u64) -> bool
+fn is_task(numbers: &Numbers, t: u64) -> bool
     ensures is { result ≡ is_task numbers.now t }
     ensures within { length numbers.now.tasks < 2 ^ 32 }
 {
@@ -21,10 +21,24 @@ pub(crate) fn is_task_beside_main(numbers: &Numbers, t: u64) -> bool
     is_task(numbers, t) && 0 < t
 }
 
-pub(crate) fn is_alternative(k: u64) -> bool
+fn is_alternative(k: u64) -> bool
     ensures { result ≡ is_alternative k }
 {
     1 <= k && k <= 32
+}
+
+pub(crate) fn is_wait(numbers: &Numbers, a: u64, k: u64) -> bool
+    ensures is { result ≡ (is_task_beside_main numbers.now a && is_alternative k) }
+    ensures within { length numbers.now.tasks < 2 ^ 32 }
+{
+    is_task_beside_main(numbers, a) && is_alternative(k)
+}
+
+pub(crate) fn is_abort(numbers: &Numbers, t: u64, x: u64) -> bool
+    ensures is { result ≡ (is_task numbers.now t && is_task_beside_main numbers.now x) }
+    ensures within { length numbers.now.tasks < 2 ^ 32 }
+{
+    is_task(numbers, t) && is_task_beside_main(numbers, x)
 }
 
 pub(crate) fn is_call(numbers: &Numbers, c: u64, e: u64, i: i64) -> bool

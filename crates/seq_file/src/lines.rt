@@ -12,7 +12,7 @@ ghost use Rattle.seq_file.specs.Verdicts.{verdict_of};
 ghost use Rattle.seq_file.specs.Files.{fault_of_header};
 
 use super::errors::SeqError;
-use super::known::{is_alternative, is_call, is_task, is_task_beside_main};
+use super::known::{is_abort, is_call, is_task_beside_main, is_wait};
 use super::numerals::{integer, is_digit, natural};
 use super::words::{Words, is_letter, is_text, split_words};
 use ada_tree::Names;
@@ -78,23 +78,15 @@ fn read_pair(letter: &[u8], a: &[u8], b: &[u8], numbers: &Numbers) -> Verdict
         return Verdict::BadLine;
     };
     if is_letter(letter, b'D') {
-        let known = is_task_beside_main(numbers, m) && is_alternative(n);
-        verdict_on(
-            Event::D {
-                a: low(m),
-                k: low(n),
-            },
-            known,
-        )
+        let a = low(m);
+        let k = low(n);
+        let known = is_wait(numbers, m, n);
+        verdict_on(Event::D { a, k }, known)
     } else if is_letter(letter, b'B') {
-        let known = is_task(numbers, m) && is_task_beside_main(numbers, n);
-        verdict_on(
-            Event::B {
-                t: low(m),
-                x: low(n),
-            },
-            known,
-        )
+        let t = low(m);
+        let x = low(n);
+        let known = is_abort(numbers, m, n);
+        verdict_on(Event::B { t, x }, known)
     } else {
         Verdict::BadLine
     }
