@@ -1,3 +1,4 @@
 pub mod Walks
 pub mod Capping
 pub mod Knowing
+pub mod Nexting

@@ -1,6 +1,8 @@
 // The numbers that a program has.
 
-ghost use Rattle.std.specs.Prelude.{◌≡◌, ◌<◌, ◌≤◌, ℕ, ℤ, option_copied, length, ◌^◌, ◌&&◌};
+ghost use Rattle.std.specs.Prelude.{◌≡◌, ◌<◌, ◌≤◌, ℕ, ℤ, option_copied, length, ◌^◌, ◌&&◌, true, FitsSigned};
+ghost use Rattle.std.specs.Int.{w32};
+ghost use Rattle.seq_file.specs.Capped.{capped_integer};
 ghost use Rattle.std.specs.Option.{option_map_or};
 ghost use Rattle.syn_event.specs.Numbering.{entry_at};
 ghost use Rattle.seq_file.specs.Known.{is_task, is_task_beside_main, is_alternative, is_member, is_call, fits_entry};
@@ -67,7 +69,10 @@ fn entry_at(numbers: &Numbers, e: u64) -> Option<&EntryInfo>
 }
 
 fn fits_entry(i: i64, info: &EntryInfo) -> bool
-    ensures { result ≡ fits_entry i info.now }
+    ensures is { result ≡ fits_entry i info.now }
+    ensures small { result ≡ true → FitsSigned w32 i }
+    ensures first { FitsSigned w32 info.now.first }
+    ensures last { FitsSigned w32 info.now.last }
 {
     if info.family {
         i64::from(info.first) <= i && i <= i64::from(info.last)
