@@ -74,8 +74,10 @@ fn fits_entry(i: i64, info: &EntryInfo) -> bool
     ensures first { FitsSigned w32 info.now.first }
     ensures last { FitsSigned w32 info.now.last }
 {
+    let first = i64::from(info.first);
+    let last = i64::from(info.last);
     if info.family {
-        i64::from(info.first) <= i && i <= i64::from(info.last)
+        first <= i && i <= last
     } else {
         0 <= i && i <= 0
     }
