@@ -82,3 +82,6 @@ two-read numbers P Q make tp tq is (Some x) (Some y) m n a b k h g ek ea eb =
       | inr e ↦ ap (λ t. cond t (Known (make a b)) BadNumber) (kk ∙ e)
           ∙ sym (ap (λ t. cond t (Known (make x y)) BadNumber) (is x y ∙ e))
     ]
+
+pub low-same : (m n a : ℕ) → n ≡ capped m → m < 2 ^ 32 → (n < 2 ^ 32 → a ≡ n) → a ≡ m
+low-same m n a e lt h = low-is m n a e lt h

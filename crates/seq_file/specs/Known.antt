@@ -1,5 +1,5 @@
 -- The numbers in events that a program has (this project's rule).
-use Rattle.std.specs.Prelude.{ℕ, ℤ, pos, Bool, true, false, ◌&&◌, nat_lt, nat_le, int_le, length, List, if◌then◌else◌}
+use Rattle.std.specs.Prelude.{ℕ, ℤ, pos, negsuc, Bool, true, false, ◌&&◌, nat_lt, nat_le, int_le, length, List, if◌then◌else◌}
 use Rattle.std.specs.Option.{option_map_or}
 use Rattle.event_machine.specs.declared.Event.{Event}
 use Rattle.event_machine.specs.declared.Event.TheVariants.{R, E, S, D, C, T, F, X, B, Z}
@@ -14,10 +14,14 @@ is_task numbers t = nat_lt t (length numbers.tasks)
 abbrev pub is_task_beside_main : Numbering → ℕ → Bool
 is_task_beside_main numbers t = is_task numbers t && nat_lt 0 t
 
+-- an index is a value of INTEGER, which has 32 bits (this project's rule)
+abbrev pub is_index : ℤ → Bool
+is_index i = int_le (negsuc 2147483647) i && int_le i (pos 2147483647)
+
 -- the index of a member: 0 for a plain entry, and from the first to the last for a family
 abbrev pub fits_entry : ℤ → EntryInfo → Bool
 fits_entry i info =
-    if info.family then int_le info.first i && int_le i info.last else int_le (pos 0) i && int_le i (pos 0)
+    is_index i && (if info.family then int_le info.first i && int_le i info.last else int_le (pos 0) i && int_le i (pos 0))
 
 -- the number of an entry, from 1, with the index of a member of it
 abbrev pub is_member : Numbering → ℕ → ℤ → Bool

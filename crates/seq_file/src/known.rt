@@ -1,11 +1,9 @@
 // The numbers that a program has.
 
-ghost use Rattle.std.specs.Prelude.{◌≡◌, ◌<◌, ◌≤◌, ℕ, ℤ, option_copied, length, ◌^◌, ◌&&◌, true, FitsSigned};
-ghost use Rattle.std.specs.Int.{w32};
+ghost use Rattle.std.specs.Prelude.{◌≡◌, ◌<◌, ℤ, option_copied, length, ◌^◌, ◌&&◌, true};
 ghost use Rattle.seq_file.specs.Capped.{capped_integer};
-ghost use Rattle.std.specs.Option.{option_map_or};
 ghost use Rattle.syn_event.specs.Numbering.{entry_at};
-ghost use Rattle.seq_file.specs.Known.{is_task, is_task_beside_main, is_alternative, is_member, is_call, fits_entry};
+ghost use Rattle.seq_file.specs.Known.{is_task, is_task_beside_main, is_alternative, is_member, is_call, is_index, fits_entry};
 
 use syn_event::{EntryInfo, Numbers};
 
@@ -43,14 +41,21 @@ pub(crate) fn is_abort(numbers: &Numbers, t: u64, x: u64) -> bool
     is_task(numbers, t) && is_task_beside_main(numbers, x)
 }
 
+/// Whether the numbers are those of a call. It takes each index that is beyond 32 bits for the same.
 pub(crate) fn is_call(numbers: &Numbers, c: u64, e: u64, i: i64) -> bool
-    ensures { result ≡ is_call numbers.now c e i }
+    ensures is { (z : ℤ) → i ≡ capped_integer z → result ≡ is_call numbers.now c e z }
+    ensures small { result ≡ true → is_index i ≡ true }
+    ensures tasks { length numbers.now.tasks < 2 ^ 32 }
+    ensures entries { length numbers.now.entries < 2 ^ 32 }
 {
-    is_task(numbers, c) && is_member(numbers, e, i)
+    let member = is_member(numbers, e, i);
+    is_task(numbers, c) && member
 }
 
 fn is_member(numbers: &Numbers, e: u64, i: i64) -> bool
-    ensures { result ≡ is_member numbers.now e i }
+    ensures is { (z : ℤ) → i ≡ capped_integer z → result ≡ is_member numbers.now e z }
+    ensures small { result ≡ true → is_index i ≡ true }
+    ensures within { length numbers.now.entries < 2 ^ 32 }
 {
     match entry_at(numbers, e) {
         Some(info) => fits_entry(i, info),
@@ -60,25 +65,33 @@ fn is_member(numbers: &Numbers, e: u64, i: i64) -> bool
 
 // The entry of this number, from 1.
 fn entry_at(numbers: &Numbers, e: u64) -> Option<&EntryInfo>
-    ensures { option_copied result ≡ entry_at numbers.now e }
+    ensures is { option_copied result ≡ entry_at numbers.now e }
+    ensures within { length numbers.now.entries < 2 ^ 32 }
 {
+    let entries = numbers.entries.as_slice();
     if e == 0 {
         return None;
     }
-    numbers.entries.get(e as usize - 1)
+    entries.get(e as usize - 1)
 }
 
+#[tactic(auto, using(crate::proofs::Indexing::indexing))]
 fn fits_entry(i: i64, info: &EntryInfo) -> bool
     ensures is { result ≡ fits_entry i info.now }
-    ensures small { result ≡ true → FitsSigned w32 i }
-    ensures first { FitsSigned w32 info.now.first }
-    ensures last { FitsSigned w32 info.now.last }
+    ensures small { result ≡ true → is_index i ≡ true }
 {
-    let first = i64::from(info.first);
-    let last = i64::from(info.last);
+    if !is_index(i) {
+        return false;
+    }
     if info.family {
-        first <= i && i <= last
+        i64::from(info.first) <= i && i <= i64::from(info.last)
     } else {
         0 <= i && i <= 0
     }
+}
+
+fn is_index(i: i64) -> bool
+    ensures { result ≡ is_index i }
+{
+    -2147483648 <= i && i <= 2147483647
 }

@@ -1,12 +1,14 @@
 // The lines of a sequence file.
 
-ghost use Rattle.std.specs.Prelude.{◌≡◌, ◌<◌, ◌≤◌, ◌^◌, min, option_and_then, option_map, count_by, drop, length, slice_index, Some, ◌+◌, cond, ℕ, Option, bytes_eq, unwrap_or, slice_get, []};
+ghost use Rattle.std.specs.Prelude.{◌≡◌, ◌<◌, ◌≤◌, ◌^◌, min, option_and_then, option_map, count_by, drop, length, slice_index, Some, ◌+◌, cond, ℕ, Option, bytes_eq, unwrap_or, slice_get, [], nat_eq, FitsSigned};
+ghost use Rattle.std.specs.Int.{w32};
+ghost use Rattle.seq_file.specs.Capped.{capped};
 ghost use Rattle.seq_file.specs.declared.lines.Verdict.TheVariants.{Known, BadNumber};
 ghost use Rattle.syn_event.specs.Numbering.{original_tasks, original_entries, is_original_task, is_original_entry};
 ghost use Rattle.syn_event.specs.Units.{text_of};
 ghost use Rattle.event_machine.specs.declared.Event.{Event};
 ghost use Rattle.seq_file.specs.Numerals.{natural, integer};
-ghost use Rattle.seq_file.specs.Lines.{event_of_line, header_of_line, lone_event, task_event, pair_event, call_event, is_upper_name, every, name_goes_on, is_name_part, is_capital};
+ghost use Rattle.seq_file.specs.Lines.{event_of_line, header_of_line, lone_event, task_event, pair_event, call_event, with_three, header_with, upper_name, is_upper_name, every, name_goes_on, is_name_part, is_capital};
 ghost use Rattle.seq_file.specs.Known.{is_known};
 ghost use Rattle.seq_file.specs.Verdicts.{verdict_of};
 ghost use Rattle.seq_file.specs.Files.{fault_of_header};
@@ -138,7 +140,9 @@ fn low(n: u64) -> u32
     u32::try_from(n).unwrap_or(u32::MAX)
 }
 
-fn low_integer(n: i64) -> i32 {
+fn low_integer(n: i64) -> i32
+    ensures { FitsSigned w32 n → result ≡ n }
+{
     i32::try_from(n).unwrap_or(i32::MAX)
 }
 
@@ -146,22 +150,53 @@ fn low_integer(n: i64) -> i32 {
 pub(crate) fn header_fault(line: &[u8], numbers: &Numbers, names: &Names) -> Option<SeqError>
     ensures { result ≡ fault_of_header names.now numbers.now (header_of_line line.now) }
 {
-    let Words::Five(format, version, main, tasks, entries) = split_words(line) else {
-        return Some(SeqError::BadLine { line: 1 });
-    };
-    let (Some(tasks), Some(entries)) = (natural(tasks), natural(entries)) else {
-        return Some(SeqError::BadLine { line: 1 });
-    };
-    if !is_text(format, b"ded-seq") || !is_text(version, b"1") || !is_upper_name(main) {
+    match split_words(line) {
+        Words::Five(format, version, main, tasks, entries) => {
+            if is_text(format, b"ded-seq") && is_text(version, b"1") {
+                program_fault(main, tasks, entries, numbers, names)
+            } else {
+                Some(SeqError::BadLine { line: 1 })
+            }
+        }
+        _ => Some(SeqError::BadLine { line: 1 }),
+    }
+}
+
+// The fault of the words behind the format's, if they have one.
+fn program_fault(main: &[u8], tasks: &[u8], entries: &[u8], numbers: &Numbers, names: &Names) -> Option<SeqError>
+    ensures { result ≡ fault_of_header names.now numbers.now
+        (with_three header_with (upper_name main.now) (natural tasks.now) (natural entries.now)) }
+{
+    if !is_upper_name(main) {
         return Some(SeqError::BadLine { line: 1 });
     }
-    let same_tasks = tasks == original_tasks(&numbers.tasks);
-    let same_entries = entries == original_entries(&numbers.entries);
-    if is_main(main, numbers, names) && same_tasks && same_entries {
+    let Some(tasks) = natural(tasks) else {
+        return Some(SeqError::BadLine { line: 1 });
+    };
+    let Some(entries) = natural(entries) else {
+        return Some(SeqError::BadLine { line: 1 });
+    };
+    let same_tasks = are_tasks(numbers, tasks);
+    let same_entries = are_entries(numbers, entries);
+    let same_main = is_main(main, numbers, names);
+    if same_main && same_tasks && same_entries {
         None
     } else {
         Some(SeqError::OtherProgram { line: 1 })
     }
+}
+
+// Whether the original has so many tasks beside main.
+fn are_tasks(numbers: &Numbers, n: u64) -> bool
+    ensures { (m : ℕ) → n ≡ capped m → result ≡ nat_eq m (original_tasks numbers.now) }
+{
+    n == original_tasks(&numbers.tasks)
+}
+
+fn are_entries(numbers: &Numbers, n: u64) -> bool
+    ensures { (m : ℕ) → n ≡ capped m → result ≡ nat_eq m (original_entries numbers.now) }
+{
+    n == original_entries(&numbers.entries)
 }
 
 fn is_main(word: &[u8], numbers: &Numbers, names: &Names) -> bool
@@ -175,7 +210,8 @@ fn is_main(word: &[u8], numbers: &Numbers, names: &Names) -> bool
 
 // How many of the tasks beside main are the original's.
 fn original_tasks(tasks: &[TaskInfo]) -> u64
-    ensures { result ≡ count_by is_original_task (drop 1 tasks.now) }
+    ensures is { result ≡ count_by is_original_task (drop 1 tasks.now) }
+    ensures within { result ≤ length tasks.now }
 {
     match tasks {
         [] => 0,
@@ -184,7 +220,8 @@ fn original_tasks(tasks: &[TaskInfo]) -> u64
 }
 
 fn original_entries(entries: &[EntryInfo]) -> u64
-    ensures { result ≡ count_by is_original_entry entries.now }
+    ensures is { result ≡ count_by is_original_entry entries.now }
+    ensures within { result ≤ length entries.now }
 {
     entries.iter().filter(|info| !info.added).count() as u64
 }
