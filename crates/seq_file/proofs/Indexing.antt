@@ -1,6 +1,6 @@
 -- Indices of any size, and the cap: what is beyond 32 bits is an index neither before nor behind it.
 use Rattle.std.proofs.Common.{◌≡◌, ℕ, ℤ, pos, negsuc, neg_ℤ, zero, suc, ◌+◌, ◌-◌, ◌^◌, ◌<◌, ◌≤◌, Bool, true, false, cond, length, Option, None, Some, refl, ap, ◌∙◌, sym, arith, inl, inr}
-use Rattle.std.proofs.Math.Signed.{mag}
+use Rattle.std.specs.Int.Signed.{mag}
 use Rattle.std.proofs.lemmas.Bool.{cases_Bool, cases_lt, leb-true, leb-false, and_parts}
 use Rattle.std.proofs.lemmas.Option.{slice_get_past}
 use Rattle.std.specs.Int.{w32}

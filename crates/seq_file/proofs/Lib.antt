@@ -4,3 +4,6 @@ pub mod Knowing
 pub mod Nexting
 pub mod Indexing
 pub mod Calling
+pub mod Spelling
+pub mod Marking
+pub mod Wording
