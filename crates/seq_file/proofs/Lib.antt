@@ -7,3 +7,4 @@ pub mod Calling
 pub mod Spelling
 pub mod Marking
 pub mod Wording
+pub mod Heading

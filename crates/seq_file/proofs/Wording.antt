@@ -15,6 +15,7 @@ use Rattle.event_machine.specs.declared.Event.TheVariants.{R, E, S, D, C, T, F, 
 use Rattle.syn_event.specs.declared.numbering.EntryInfo.{EntryInfo}
 use Rattle.syn_event.specs.EventText.{event_text, call_text, one_text, two_text}
 use Rattle.syn_event.specs.Numbering.{Numbering, entry_at}
+use Rattle.seq_file.specs.Capped.{IsShort}
 use Rattle.seq_file.specs.Known.{is_task, is_task_beside_main, is_alternative, is_member, is_call, is_index, is_known, fits_entry}
 use Rattle.seq_file.specs.Lines.{is_blank, words_of, with_two, with_three, lone_event, task_event, pair_event, call_event, event_of_words, event_of_line}
 use Rattle.seq_file.specs.Numerals.{natural, integer}
@@ -23,11 +24,6 @@ use Rattle.seq_file.proofs.Indexing.{fits-index, index-small, member-test}
 use Rattle.seq_file.proofs.Knowing.{IsTest, task-test, beside-test, alternative-test}
 use Rattle.seq_file.proofs.Marking.{IsFreeOf, free-cons, free-one, decimal-free, signed-free}
 use Rattle.seq_file.proofs.Spelling.{natural-of_decimal, integer-of_signed, word-of_natural, word-of_integer}
-
--- the program's lists are short enough for numbers of 32 bits
-pub record IsShort (numbers : Numbering) : Type 0 where
-  pub tasks : length numbers.tasks < 2 ^ 32
-  pub entries : length numbers.entries < 2 ^ 32
 
 abbrev wide : (n : ℕ) → n < 2 ^ 32 → n < 2 ^ 64
 wide n h = omega (arith, h)

@@ -53,19 +53,20 @@ pub record SeqReads (bytes : List ℕ) (numbers : Numbering) (names : List (List
   pub text : bytes ≡ SeqText names numbers events
   pub fit : AreFit numbers events
 
--- a header is that of the program: its name, and the original's counts
-abbrev pub is_header_of : List (List ℕ) → Numbering → Header → Bool
-is_header_of names numbers header =
-    bytes_eq header.main (text_of names numbers.main)
-    && nat_eq header.tasks (original_tasks numbers) && nat_eq header.entries (original_entries numbers)
+-- a header is that of a program with this name and these counts
+abbrev pub is_header_of : List ℕ → ℕ → ℕ → Header → Bool
+is_header_of main tasks entries header =
+    bytes_eq header.main main && (nat_eq header.tasks tasks && nat_eq header.entries entries)
 
-abbrev pub fault_of_header : List (List ℕ) → Numbering → Option Header → Option SeqError
-fault_of_header names numbers (Some header) = if is_header_of names numbers header then None else Some (OtherProgram 1)
-fault_of_header names numbers None = Some (BadLine 1)
+abbrev pub fault_of_header : List ℕ → ℕ → ℕ → Option Header → Option SeqError
+fault_of_header main tasks entries (Some header) = if is_header_of main tasks entries header then None else Some (OtherProgram 1)
+fault_of_header main tasks entries None = Some (BadLine 1)
 
--- the fault of the first line of a file, if it has one
+-- the fault of the first line of a file, if it has one: it is in the grammar, and names the program and the original's counts
 abbrev pub header_fault : List (List ℕ) → Numbering → List ℕ → Option SeqError
-header_fault names numbers bytes = fault_of_header names numbers (option_and_then header_of_line (first_line bytes))
+header_fault names numbers bytes =
+    fault_of_header (text_of names numbers.main) (original_tasks numbers) (original_entries numbers)
+        (option_and_then header_of_line (first_line bytes))
 
 abbrev pub fault_of_event : Numbering → ℕ → Option Event → Option SeqError
 fault_of_event numbers line (Some event) = if is_known numbers event then None else Some (BadNumber line)

@@ -2,7 +2,7 @@
 
 ghost use Rattle.std.specs.Prelude.{◌≡◌, ◌<◌, ◌≤◌, ◌^◌, min, option_and_then, option_map, count_by, drop, length, slice_index, Some, ◌+◌, cond, ℕ, Option, bytes_eq, unwrap_or, slice_get, [], nat_eq, FitsSigned};
 ghost use Rattle.std.specs.Int.{w32};
-ghost use Rattle.seq_file.specs.Capped.{capped};
+ghost use Rattle.seq_file.specs.Capped.{capped, IsShort};
 ghost use Rattle.seq_file.specs.declared.lines.Verdict.TheVariants.{Known, BadNumber};
 ghost use Rattle.syn_event.specs.Numbering.{original_tasks, original_entries, is_original_task, is_original_entry};
 ghost use Rattle.syn_event.specs.Units.{text_of};
@@ -146,14 +146,51 @@ fn low_integer(n: i64) -> i32
     i32::try_from(n).unwrap_or(i32::MAX)
 }
 
+/// What the header of a program's files says: its name, and how many tasks beside main and entries the original has.
+#[derive(Clone, Copy)]
+pub(crate) struct Program<'a> {
+    main: &'a [u8],
+    tasks: u64,
+    entries: u64,
+}
+
+pub(crate) fn program_of<'a>(numbers: &Numbers, names: &'a Names) -> Program<'a>
+    ensures main { result.main.now ≡ text_of names.now numbers.now.main }
+    ensures tasks { result.tasks ≡ original_tasks numbers.now }
+    ensures entries { result.entries ≡ original_entries numbers.now }
+    ensures few_tasks { result.tasks < 2 ^ 32 }
+    ensures few_entries { result.entries < 2 ^ 32 }
+    ensures short { IsShort numbers.now }
+{
+    let tasks = original_tasks(&numbers.tasks);
+    let entries = original_entries(&numbers.entries);
+    let main = text_or_empty(names.text(numbers.main));
+    Program {
+        main,
+        tasks,
+        entries,
+    }
+}
+
+fn text_or_empty<'a>(text: Option<&'a str>) -> &'a [u8]
+    ensures { result.now ≡ unwrap_or (option_map (λ t. t.now) text) [] }
+{
+    match text {
+        Some(text) => text.as_bytes(),
+        None => b"",
+    }
+}
+
 /// The fault of a header, if it has one.
-pub(crate) fn header_fault(line: &[u8], numbers: &Numbers, names: &Names) -> Option<SeqError>
-    ensures { result ≡ fault_of_header names.now numbers.now (header_of_line line.now) }
+pub(crate) fn header_fault(line: &[u8], program: &Program) -> Option<SeqError>
+    requires tasks { program.now.tasks < 2 ^ 32 }
+    requires entries { program.now.entries < 2 ^ 32 }
+    ensures { result ≡ fault_of_header program.now.main.now program.now.tasks program.now.entries (header_of_line line.now) }
 {
     match split_words(line) {
         Words::Five(format, version, main, tasks, entries) => {
             if is_text(format, b"ded-seq") && is_text(version, b"1") {
-                program_fault(main, tasks, entries, numbers, names)
+                program_fault(main, tasks, entries, program)
             } else {
                 Some(SeqError::BadLine { line: 1 })
             }
@@ -163,8 +200,10 @@ pub(crate) fn header_fault(line: &[u8], numbers: &Numbers, names: &Names) -> Opt
 }
 
 // The fault of the words behind the format's, if they have one.
-fn program_fault(main: &[u8], tasks: &[u8], entries: &[u8], numbers: &Numbers, names: &Names) -> Option<SeqError>
-    ensures { result ≡ fault_of_header names.now numbers.now
+fn program_fault(main: &[u8], tasks: &[u8], entries: &[u8], program: &Program) -> Option<SeqError>
+    requires tasks { program.now.tasks < 2 ^ 32 }
+    requires entries { program.now.entries < 2 ^ 32 }
+    ensures { result ≡ fault_of_header program.now.main.now program.now.tasks program.now.entries
         (with_three header_with (upper_name main.now) (natural tasks.now) (natural entries.now)) }
 {
     if !is_upper_name(main) {
@@ -176,9 +215,9 @@ fn program_fault(main: &[u8], tasks: &[u8], entries: &[u8], numbers: &Numbers, n
     let Some(entries) = natural(entries) else {
         return Some(SeqError::BadLine { line: 1 });
     };
-    let same_tasks = are_tasks(numbers, tasks);
-    let same_entries = are_entries(numbers, entries);
-    let same_main = is_main(main, numbers, names);
+    let same_main = is_text(main, program.main);
+    let same_tasks = is_number(tasks, program.tasks);
+    let same_entries = is_number(entries, program.entries);
     if same_main && same_tasks && same_entries {
         None
     } else {
@@ -186,26 +225,13 @@ fn program_fault(main: &[u8], tasks: &[u8], entries: &[u8], numbers: &Numbers, n
     }
 }
 
-// Whether the original has so many tasks beside main.
-fn are_tasks(numbers: &Numbers, n: u64) -> bool
-    ensures { (m : ℕ) → n ≡ capped m → result ≡ nat_eq m (original_tasks numbers.now) }
+// Whether the number is the one that is wanted.
+#[tactic(auto, using(crate::proofs::Heading::same_numbers))]
+fn is_number(n: u64, wanted: u64) -> bool
+    requires { wanted < 2 ^ 32 }
+    ensures { (m : ℕ) → n ≡ capped m → result ≡ nat_eq m wanted }
 {
-    n == original_tasks(&numbers.tasks)
-}
-
-fn are_entries(numbers: &Numbers, n: u64) -> bool
-    ensures { (m : ℕ) → n ≡ capped m → result ≡ nat_eq m (original_entries numbers.now) }
-{
-    n == original_entries(&numbers.entries)
-}
-
-fn is_main(word: &[u8], numbers: &Numbers, names: &Names) -> bool
-    ensures { result ≡ bytes_eq word.now (text_of names.now numbers.now.main) }
-{
-    match names.text(numbers.main) {
-        Some(text) => is_text(word, text.as_bytes()),
-        None => is_text(word, b""),
-    }
+    n == wanted
 }
 
 // How many of the tasks beside main are the original's.

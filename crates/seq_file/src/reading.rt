@@ -1,17 +1,18 @@
 // Reading a sequence file.
 
-ghost use Rattle.std.specs.Prelude.{◌≡◌, ◌≢◌, ◌<◌, ◌-◌, ◌^◌, ◌++◌, List, length, IfOk, IfErr, MatchResult, true, Some, None, IsSomeAnd};
+ghost use Rattle.std.specs.Prelude.{◌≡◌, ◌≢◌, ◌<◌, ◌-◌, ◌^◌, ◌++◌, [], ◌∷◌, OnOk, List, length, IfOk, IfErr, MatchResult, true, Some, None, IsSomeAnd};
 ghost use Rattle.event_machine.specs.declared.Event.{Event};
 ghost use Rattle.seq_file.specs.declared.errors.SeqError.{SeqError};
 ghost use Rattle.seq_file.specs.declared.errors.SeqError.TheVariants.{Memory};
 ghost use Rattle.syn_event.specs.Units.{text_of};
 ghost use Rattle.seq_file.specs.Lines.{is_upper_name, is_line_end};
-ghost use Rattle.seq_file.specs.Files.{SeqReads, HasFirstFault, header_fault, line_fault};
+ghost use Rattle.seq_file.specs.Files.{SeqReads, HasFirstFault, header_fault, line_fault, is_end};
 ghost use Rattle.seq_file.specs.Verdicts.{cut};
-ghost use Rattle.seq_file.specs.NextEvents.{IsNextEvent};
+ghost use Rattle.seq_file.specs.NextEvents.{IsNextEvent, IsBehindHeader};
+ghost use Rattle.seq_file.specs.Capped.{IsShort};
 
 use super::errors::SeqError;
-use super::lines::{Verdict, header_fault, read_event};
+use super::lines::{Verdict, header_fault, program_of, read_event};
 use super::words::cut_at;
 use ada_tree::Names;
 use std::alloc::Global;
@@ -44,25 +45,40 @@ pub fn read_seq(
     let mut ended = false;
     while !rest.is_empty() {
         let (event, behind) = next_event(rest, numbers, events.len(), ended)?;
-        ended = matches!(event, Event::Z);
-        if events.push(event).is_err() {
-            return Err(SeqError::Memory);
-        }
+        add(&mut events, event)?;
+        ended = is_end(&event);
         rest = behind;
     }
     Ok(events)
 }
 
+fn add(events: &mut Vec<Event>, event: Event) -> Result<(), SeqError>
+    ensures added { OnOk result (events.new.items ≡ events.old.items ++ event ∷ []) }
+    ensures memory { IfErr result (λ error. error ≡ Memory) }
+{
+    match events.push(event) {
+        Ok(()) => Ok(()),
+        Err(_) => Err(SeqError::Memory),
+    }
+}
+
+fn is_end(event: &Event) -> bool
+    ensures { result ≡ is_end event.now }
+{
+    matches!(*event, Event::Z)
+}
+
 // What stands behind the header.
-fn behind_header<'a>(
-    bytes: &'a [u8],
-    numbers: &Numbers,
-    names: &Names,
-) -> Result<&'a [u8], SeqError> {
+fn behind_header<'a>(bytes: &'a [u8], numbers: &Numbers, names: &Names) -> Result<&'a [u8], SeqError>
+    ensures read { IfOk result (λ behind. IsBehindHeader names.now numbers.now bytes.now behind.now) }
+    ensures fault { IfErr result (λ error. header_fault names.now numbers.now bytes.now ≡ Some error) }
+    ensures short { IsShort numbers.now }
+{
+    let program = program_of(numbers, names);
     let Some((line, behind)) = cut_at(bytes, b'\n') else {
         return Err(SeqError::BadLine { line: 1 });
     };
-    match header_fault(line, numbers, names) {
+    match header_fault(line, &program) {
         Some(error) => Err(error),
         None => Ok(behind),
     }
