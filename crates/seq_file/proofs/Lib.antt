@@ -8,3 +8,4 @@ pub mod Spelling
 pub mod Marking
 pub mod Wording
 pub mod Heading
+pub mod Filing
