@@ -2,7 +2,7 @@
 
 use super::{SeqError, read_seq};
 use ada_tree::{NameId, Names};
-use std::alloc::Global;
+use std::alloc::{AllocError, Global};
 use std::process::Abort;
 use std::test::Fail;
 use syn_event::{EntryInfo, Event, Numbers, TaskInfo};
@@ -184,4 +184,29 @@ fn the_first_fault_of_the_first_bad_line(rt: HostRuntime) {
         "ded-seq 1 P_1 2 2\nE\nE 0\n",
         SeqError::BadLine { line: 2 },
     );
+}
+
+// A file of so many events, and a last line behind them.
+fn long_text(alloc: Global, events: u32, last: &str) -> Result<String, AllocError> {
+    let mut text = String::from_str(alloc, "ded-seq 1 P_1 2 2\n")?;
+    for _ in 0..events {
+        text.push_str("E 1\n")?;
+    }
+    text.push_str(last)?;
+    Ok(text)
+}
+
+#[test]
+fn the_last_event_that_a_file_may_have(rt: HostRuntime) -> Result<(), Fail> {
+    let alloc = rt.alloc();
+    let last = Some(Event::E { a: 1 });
+    let whole = long_text(alloc, 200000, "")?;
+    assert!(rt; read(alloc, whole.as_str())? == (200000, last, last));
+    for behind in ["E 1\n", "?", "Z\n"] {
+        let text = long_text(alloc, 200000, behind)?;
+        refuses(&rt, alloc, text.as_str(), SeqError::TooMany { limit: 200000 });
+    }
+    let ended = long_text(alloc, 199999, "Z\nE 1\n")?;
+    refuses(&rt, alloc, ended.as_str(), SeqError::AfterEnd { line: 200002 });
+    Ok(())
 }
