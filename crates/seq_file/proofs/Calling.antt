@@ -1,8 +1,9 @@
 -- What a line of a call comes to.
-use Rattle.std.proofs.Common.{◌≡◌, ℕ, ℤ, ◌^◌, ◌<◌, Bool, true, false, cond, length, refl, ap, ◌∙◌, sym, subst, inl, inr, Some, None, Option, option_map}
+use Rattle.std.proofs.Common.{◌≡◌, ℕ, ℤ, ◌^◌, ◌<◌, arith, Bool, true, false, cond, length, refl, ap, ◌∙◌, sym, subst, inl, inr, Some, None, Option, option_map}
 use Rattle.std.proofs.lemmas.Bool.{cases_Bool, and_parts}
-use Rattle.std.specs.Int.{w32}
-use Rattle.std.specs.Prelude.{◌&&◌, is_some, unwrap_or, pos, FitsSigned}
+use Rattle.std.specs.Int.{w32, w64}
+use Rattle.std.specs.Int.Signed.{mag}
+use Rattle.std.specs.Prelude.{◌&&◌, is_some, unwrap_or, pos, negsuc, neg_ℤ, zero, suc, ◌≤◌, FitsSigned}
 use Rattle.event_machine.specs.declared.Event.{Event}
 use Rattle.syn_event.specs.Numbering.{Numbering}
 use Rattle.seq_file.specs.declared.lines.Verdict.TheVariants.{Known, BadNumber}
@@ -10,7 +11,7 @@ use Rattle.seq_file.specs.Capped.{capped, capped_integer}
 use Rattle.seq_file.specs.Known.{is_task, is_member, is_call, is_index, is_known}
 use Rattle.seq_file.specs.Lines.{with_three}
 use Rattle.seq_file.specs.Verdicts.{verdict_of}
-use Rattle.seq_file.proofs.Capping.{clash, some-is}
+use Rattle.seq_file.proofs.Capping.{clash, some-is, capped-le}
 use Rattle.seq_file.proofs.Indexing.{index-same, index-exact, index-fits, member-test}
 use Rattle.seq_file.proofs.Knowing.{IsTest, task-test, low-same}
 
@@ -34,8 +35,8 @@ three-read numbers make ht he is (Some x) (Some y) (Some z) m n j a b i k hc h' 
     let tasks : IsTest (is_task numbers) = task-test numbers ht in
     let members : IsTest (λ e. is_member numbers e z) = member-test numbers z he in
     let kk : k ≡ (is_task numbers x && is_member numbers y z) =
-        ek z ej ∙ ap (λ t. is_task numbers t && is_member numbers n z) em ∙ ap (λ t. is_task numbers (capped x) && is_member numbers t z) en
-        ∙ ap (λ t. t && is_member numbers (capped y) z) (tasks.same x) ∙ ap (λ t. is_task numbers x && t) (members.same y) in
+    ek z ej ∙ ap (λ t. is_task numbers t && is_member numbers n z) em ∙ ap (λ t. is_task numbers (capped x) && is_member numbers t z) en
+    ∙ ap (λ t. t && is_member numbers (capped y) z) (tasks.same x) ∙ ap (λ t. is_task numbers x && t) (members.same y) in
     elim (cases_Bool (is_task numbers x && is_member numbers y z)) [
       | inl e ↦
           let index : is_index j ≡ true = small (kk ∙ e) in
@@ -49,3 +50,16 @@ three-read numbers make ht he is (Some x) (Some y) (Some z) m n j a b i k hc h' 
           ap (λ t. cond t (Known (make a b i)) BadNumber) (kk ∙ e)
           ∙ sym (ap (λ t. cond t (Known (make x y z)) BadNumber) (is x y z ∙ e))
     ]
+
+neg-small : (k : ℕ) → k ≤ 2 ^ 32 → mag (neg_ℤ (pos k)) < 2 ^ 63
+neg-small zero h = omega arith
+neg-small (suc k) h = omega (arith, h)
+
+capped-fits_one : (z : ℤ) → FitsSigned w64 (capped_integer z)
+capped-fits_one (pos n) = record { sfits = omega (arith, capped-le n) }
+capped-fits_one (negsuc n) = record { sfits = neg-small (capped (suc n)) (capped-le (suc n)) }
+
+-- a capped index has 64 bits
+pub capped-fits : (o : Option ℤ) (j : ℤ) → Some j ≡ option_map capped_integer o → FitsSigned w64 j
+capped-fits None j h = clash (sym (ap is_some h))
+capped-fits (Some z) j h = subst (FitsSigned w64) (sym (some-integer h)) (capped-fits_one z)

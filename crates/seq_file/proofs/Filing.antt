@@ -22,7 +22,7 @@ use Rattle.seq_file.specs.NextEvents.{IsNextEvent, IsBehindHeader}
 use Rattle.seq_file.specs.Verdicts.{cut}
 use Rattle.seq_file.proofs.Capping.{clash}
 use Rattle.seq_file.proofs.Heading.{header-sound, header-begins}
-use Rattle.seq_file.proofs.Marking.{cut-at_mark, cut-parts, first-line_cut}
+use Rattle.seq_file.proofs.Marking.{left_of, right_of, cut-at_mark, cut-parts, first-line_cut}
 use Rattle.seq_file.proofs.Wording.{event-read, event-free, event-written}
 
 abbrev lines : List Event → List ℕ
@@ -81,9 +81,9 @@ compare numbers short (x ∷ xs) (y ∷ ys) r s kx ky h =
     let knows : is_known numbers x ≡ true = All-head P x xs kx in
     let knows' : is_known numbers y ≡ true = All-head P y ys ky in
     let same : Some (event_text x, lines xs ++ r) ≡ Some (event_text y, lines ys ++ s) =
-        sym (line-cut numbers short x xs r knows) ∙ ap (cut is_line_end) h ∙ line-cut numbers short y ys s knows' in
-    let texts : event_text x ≡ event_text y = ap (λ o. (unwrap_or o ([], [])).0) same in
-    let rests : lines xs ++ r ≡ lines ys ++ s = ap (λ o. (unwrap_or o ([], [])).1) same in
+    sym (line-cut numbers short x xs r knows) ∙ ap (cut is_line_end) h ∙ line-cut numbers short y ys s knows' in
+    let texts : event_text x ≡ event_text y = ap left_of same in
+    let rests : lines xs ++ r ≡ lines ys ++ s = ap right_of same in
     let equal : x ≡ y = ap (λ o. unwrap_or o Z) (sym (event-read numbers short x knows) ∙ ap event_of_line texts ∙ event-read numbers short y knows') in
     elim (compare numbers short xs ys r s (All-tail P x xs kx) (All-tail P y ys ky) rests) [
       | inl on ↦ inl record { more = on.more; events = ap (λ t. t ∷ ys) (sym equal) ∙ ap (λ t. x ∷ t) on.events; text = on.text }
@@ -108,8 +108,8 @@ goes-on_by numbers short xs all rest behind fit (y ∷ ys) e h =
     let known : is_known numbers y ≡ true = known-there numbers xs y ys (subst (AreKnown numbers) e fit.known) in
     let few : length xs < most_events = omega (arith, fit.few, ap length e, length-append xs (y ∷ ys)) in
     inr (ap (λ b. line_fault numbers b (length xs) rest) (not-ended xs y ys (subst NothingFollowsEnd e fit.end))
-      ∙ ap (line_fault numbers false (length xs)) h
-      ∙ line-sound numbers short y ys behind (length xs) known few)
+    ∙ ap (line_fault numbers false (length xs)) h
+    ∙ line-sound numbers short y ys behind (length xs) known few)
 
 -- where fit events go on, no line has a fault
 goes-on_sound : (numbers : Numbering) → IsShort numbers → (xs all : List Event) (rest behind : List ℕ) → AreFit numbers all → GoesOn xs all rest behind → (all ≡ xs) ⊎ (line_fault numbers (has_ended xs) (length xs) rest ≡ None)
@@ -149,9 +149,9 @@ reads-no_failure names numbers short bytes xs error reads fails =
     elim (compare numbers short xs fails.events [] fails.rest reads.fit.known fails.fit.known (behind-header names numbers bytes xs fails.events [] fails.rest (reads-all names numbers bytes xs reads) fails.text)) [
       | inl on ↦ fails.more (rest-nil on.more fails.rest (sym on.text))
       | inr on ↦ elim (goes-on_sound numbers short fails.events xs fails.rest [] reads.fit on) [
-          | inl same ↦ fails.more (on.text ∙ ap (λ t. lines t ++ []) (more-nil fails.events xs on.more on.events same))
-          | inr sound ↦ clash (ap is_some (sym sound ∙ fails.fault))
-        ]
+        | inl same ↦ fails.more (on.text ∙ ap (λ t. lines t ++ []) (more-nil fails.events xs on.more on.events same))
+        | inr sound ↦ clash (ap is_some (sym sound ∙ fails.fault))
+      ]
     ]
 
 failure-by : (names : List (List ℕ)) (numbers : Numbering) → IsShort numbers → (bytes : List ℕ) (e f : SeqError) (a : FailsBehind bytes numbers names e) (b : FailsBehind bytes numbers names f) → GoesOn a.events b.events a.rest b.rest → e ≡ f
@@ -174,7 +174,7 @@ failure-unique names numbers short bytes e f a b =
 begins-sound : (names : List (List ℕ)) (numbers : Numbering) → IsShort numbers → is_upper_name (text_of names numbers.main) ≡ true → (bytes : List ℕ) (events : List Event) (rest : List ℕ) → bytes ≡ SeqText names numbers events ++ rest → header_fault names numbers bytes ≡ None
 begins-sound names numbers short hm bytes events rest h =
     header-sound names numbers short hm bytes (lines events ++ rest)
-      (h ∙ ap (λ t. t ++ rest) (text-joined names numbers events) ∙ append_assoc (header_line names numbers) (lines events) rest)
+    (h ∙ ap (λ t. t ++ rest) (text-joined names numbers events) ∙ append_assoc (header_line names numbers) (lines events) rest)
 
 -- A file of events has no first fault.
 pub reads-no_fault : (names : List (List ℕ)) (numbers : Numbering) → IsShort numbers → is_upper_name (text_of names numbers.main) ≡ true → (bytes : List ℕ) (events : List Event) (error : SeqError) → SeqReads bytes numbers names events → HasFirstFault bytes numbers names error → ⊥
@@ -229,9 +229,9 @@ pub read-more : (bytes : List ℕ) (numbers : Numbering) (names : List (List ℕ
 read-more bytes numbers names events rest behind ended event short to next =
     let going : has_ended events ≡ false = sym to.ends ∙ next.going in
     let one : rest ≡ lines (event ∷ []) ++ behind =
-        cut-parts 10 rest next.line behind next.cuts
-        ∙ ap (λ t. t ++ (10 ∷ behind)) (event-written numbers short next.line event next.writes next.known)
-        ∙ sym (lines-cons event [] behind) in
+    cut-parts 10 rest next.line behind next.cuts
+    ∙ ap (λ t. t ++ (10 ∷ behind)) (event-written numbers short next.line event next.writes next.known)
+    ∙ sym (lines-cons event [] behind) in
     let h : List ℕ = header_line names numbers in
     record {
       text =

@@ -11,13 +11,14 @@ use Rattle.std.proofs.lemmas.Slice.Eq.{bytes_eq-Decides}
 use Rattle.ded_io.specs.Written.{◌⧺◌}
 use Rattle.syn_event.specs.Numbering.{Numbering, original_tasks, original_entries, is_original_task, is_original_entry}
 use Rattle.syn_event.specs.Units.{text_of}
+use Rattle.seq_file.specs.declared.errors.SeqError.TheVariants.{OtherProgram}
 use Rattle.seq_file.specs.Capped.{capped, IsShort}
 use Rattle.seq_file.specs.Files.{header_line, is_header_of, fault_of_header, header_fault}
 use Rattle.seq_file.specs.Lines.{Header, is_blank, is_line_end, first_line, words_of, is_capital, is_name_part, name_goes_on, every, begins, is_upper_name, upper_name, header_with, header_of_words, header_of_line, with_three}
 use Rattle.seq_file.specs.Numerals.{is_digit, natural}
 use Rattle.seq_file.specs.Verdicts.{cut}
 use Rattle.seq_file.proofs.Capping.{clash, capped-small, capped-large}
-use Rattle.seq_file.proofs.Marking.{IsFreeOf, free-cons, decimal-free, cut-at_mark, cut-parts, first-line_cut}
+use Rattle.seq_file.proofs.Marking.{IsFreeOf, free-cons, free-prefix, decimal-free, cut-at_mark, cut-parts, first-line_cut}
 use Rattle.seq_file.proofs.Spelling.{natural-of_decimal, word-of_natural}
 
 -- a number within 32 bits is not the cap
@@ -102,9 +103,9 @@ header-free : (main : List ℕ) (t e : ℕ) → is_upper_name main ≡ true → 
 header-free main t e hm ht he =
     let p : ℕ → Type 0 = λ b. (b == 10) ≡ false in
     let numbers : IsFreeOf 10 (32 ∷ (decimal t ++ (32 ∷ decimal e))) =
-        free-cons 10 32 _ refl (All-append p (decimal t) (32 ∷ decimal e) (decimal-free 10 t (omega arith) ht) (free-cons 10 32 _ refl (decimal-free 10 e (omega arith) he))) in
+    free-cons 10 32 (decimal t ++ (32 ∷ decimal e)) refl (All-append p (decimal t) (32 ∷ decimal e) (decimal-free 10 t (omega arith) ht) (free-cons 10 32 (decimal e) refl (decimal-free 10 e (omega arith) he))) in
     let named : IsFreeOf 10 (main ++ (32 ∷ (decimal t ++ (32 ∷ decimal e)))) = All-append p main (32 ∷ (decimal t ++ (32 ∷ decimal e))) (name-free 10 main (omega arith) hm) numbers in
-    free-cons 10 100 _ refl (free-cons 10 101 _ refl (free-cons 10 100 _ refl (free-cons 10 45 _ refl (free-cons 10 115 _ refl (free-cons 10 101 _ refl (free-cons 10 113 _ refl (free-cons 10 32 _ refl (free-cons 10 49 _ refl (free-cons 10 32 _ refl named)))))))))
+    free-prefix 10 (codes "ded-seq 1 ") (main ++ (32 ∷ (decimal t ++ (32 ∷ decimal e)))) refl named
 
 -- A file that begins with the header of the program has no fault there.
 pub header-sound : (names : List (List ℕ)) (numbers : Numbering) → IsShort numbers → is_upper_name (text_of names numbers.main) ≡ true → (bytes rest : List ℕ) → bytes ≡ header_line names numbers ++ rest → header_fault names numbers bytes ≡ None
@@ -115,11 +116,11 @@ header-sound names numbers short hm bytes rest h =
     let ht : t < 2 ^ 64 = tasks-small numbers short in
     let he : e < 2 ^ 64 = entries-small numbers short in
     let cuts : cut is_line_end bytes ≡ Some (header_text main t e, rest) =
-        ap (cut is_line_end) (h ∙ header-line names numbers rest) ∙ cut-at_mark 10 (header_text main t e) rest (header-free main t e hm ht he) in
+    ap (cut is_line_end) (h ∙ header-line names numbers rest) ∙ cut-at_mark 10 (header_text main t e) rest (header-free main t e hm ht he) in
     ap (λ o. fault_of_header main t e (option_and_then header_of_line o)) (first-line_cut bytes (header_text main t e) rest cuts)
     ∙ ap (fault_of_header main t e) (header-read main t e hm ht he)
-    ∙ ap (λ b. cond b None (fault_of_header main t e None))
-        (and_from (bytes_eq main main) (nat_eq t t && nat_eq e e) ((bytes_eq-Decides main main).1 refl) (and_from (nat_eq t t) (nat_eq e e) (eq-eqb t t refl) (eq-eqb e e refl)))
+    ∙ ap (λ b. cond b None (Some (OtherProgram 1)))
+    (and_from (bytes_eq main main) (nat_eq t t && nat_eq e e) ((bytes_eq-Decides main main).1 refl) (and_from (nat_eq t t) (nat_eq e e) (eq-eqb t t refl) (eq-eqb e e refl)))
 
 header-case : (o : Option (List ℕ)) (p q : Option ℕ) (header : Header) → with_three header_with o p q ≡ Some header → (o ≡ Some header.main) × (p ≡ Some header.tasks) × (q ≡ Some header.entries)
 header-case None p q header h = clash (ap is_some h)
@@ -161,7 +162,7 @@ sound-case : (main : List ℕ) (t e : ℕ) (o : Option Header) → fault_of_head
 sound-case main t e None h = clash (sym (ap is_some h))
 sound-case main t e (Some header) h = elim (cases_Bool (is_header_of main t e header)) [
   | inl yes' ↦ (header, refl, yes')
-  | inr no' ↦ clash (sym (ap is_some (sym (ap (λ b. cond b None (fault_of_header main t e None)) no') ∙ h)))
+  | inr no' ↦ clash (sym (ap is_some (sym (ap (λ b. cond b None (Some (OtherProgram 1))) no') ∙ h)))
 ]
 
 -- A file whose first line has no fault begins with the header of the program.
@@ -180,6 +181,6 @@ header-begins names numbers short bytes line rest cuts sound =
     let he : header.entries < 2 ^ 64 = subst (λ n. n < 2 ^ 64) (sym ee) (entries-small numbers short) in
     cut-parts 10 bytes line rest cuts
     ∙ ap (λ l. l ++ (10 ∷ rest))
-        (sym (join_with_byte-slice_split 32 line) ∙ header-written (words_of line) header read ht he
-          ∙ ap (λ x. header_text x header.tasks header.entries) em ∙ ap (λ x. header_text main x header.entries) et ∙ ap (λ x. header_text main t x) ee)
+    (sym (join_with_byte-slice_split 32 line) ∙ header-written (words_of line) header read ht he
+    ∙ ap (λ x. header_text x header.tasks header.entries) em ∙ ap (λ x. header_text main x header.entries) et ∙ ap (λ x. header_text main t x) ee)
     ∙ sym (header-line names numbers rest)

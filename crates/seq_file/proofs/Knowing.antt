@@ -38,7 +38,7 @@ test_by P fails = record {
   small = λ m passes. elim (cases_lt m (2 ^ 32)) [
     | inl lt ↦ lt
     | inr ge ↦ absurd (true≢false (sym passes ∙ fails m ge))
-  ]
+  ];
 }
 
 pub task-test : (numbers : Numbering) → length numbers.tasks < 2 ^ 32 → IsTest (is_task numbers)

@@ -39,12 +39,39 @@ pub signed-free : (m : ℕ) (z : ℤ) → m < 45 → mag z < 2 ^ 63 → IsFreeOf
 signed-free m (pos n) h lt = decimal-free m n h (omega (arith, lt))
 signed-free m (negsuc n) h lt = free-cons m 45 (decimal (suc n)) (ne_eqb 45 m (λ e. absurd (omega (arith, e, h)))) (decimal-free m (suc n) h (omega (arith, lt)))
 
+one-more : (n : ℕ) → 1 + n ≡ suc n
+one-more n = omega arith
+
+abbrev pub left_of : Option (List ℕ × List ℕ) → List ℕ
+left_of None = []
+left_of (Some (a, b)) = a
+
+abbrev pub right_of : Option (List ℕ × List ℕ) → List ℕ
+right_of None = []
+right_of (Some (a, b)) = b
+
+-- no byte of a text is the mark, as a test
+abbrev are_free : ℕ → List ℕ → Bool
+are_free m [] = true
+are_free m (b ∷ rest) = not (b == m) && are_free m rest
+
+not-mark : (b : Bool) → not b ≡ true → b ≡ false
+not-mark true h = clash h
+not-mark false h = refl
+
+pub free-prefix : (m : ℕ) (front back : List ℕ) → are_free m front ≡ true → IsFreeOf m back → IsFreeOf m (front ++ back)
+free-prefix m [] back h k = k
+free-prefix m (b ∷ front) back h k =
+    let both = and_parts (not (b == m)) (are_free m front) h in
+    free-cons m b (front ++ back) (not-mark (b == m) both.0) (free-prefix m front back both.1 k)
+
 -- a text in front of the first mark
 pub place-of_mark : (m : ℕ) (text rest : List ℕ) → IsFreeOf m text → position_or_len (λ b. b == m) (text ++ (m ∷ rest)) ≡ length text
 place-of_mark m [] rest free = ap (λ t. cond (not t) (1 + position_or_len (λ b. b == m) rest) 0) (eq-eqb m m refl)
 place-of_mark m (b ∷ text) rest free =
     ap (λ t. cond (not t) (1 + position_or_len (λ x. x == m) (text ++ (m ∷ rest))) 0) (All-head (λ x. (x == m) ≡ false) b text free)
     ∙ ap (λ t. 1 + t) (place-of_mark m text rest (All-tail (λ x. (x == m) ≡ false) b text free))
+    ∙ one-more (length text)
 
 pub cut-at_mark : (m : ℕ) (text rest : List ℕ) → IsFreeOf m text → cut (λ b. b == m) (text ++ (m ∷ rest)) ≡ Some (text, rest)
 cut-at_mark m text rest free =
@@ -65,15 +92,15 @@ cut-parts m text a b h =
           let lt : at < length text = ltb-true at (length text) e in
           let same : Some (take at text, drop (at + 1) text) ≡ Some (a, b) = sym (ap (λ t. option_map parts (cond t (Some at) None)) e) ∙ h in
           split_at_first p text 0 lt
-          ∙ ap (λ t. t ++ (get_or text at 0 ∷ drop (at + 1) text)) (ap (λ o. (unwrap_or o ([], [])).0) same)
+          ∙ ap (λ t. t ++ (get_or text at 0 ∷ drop (at + 1) text)) (ap left_of same)
           ∙ ap (λ t. a ++ (t ∷ drop (at + 1) text)) (eqb-true (get_or text at 0) m (passes_at_first p text 0 lt))
-          ∙ ap (λ t. a ++ (m ∷ t)) (ap (λ o. (unwrap_or o ([], [])).1) same)
+          ∙ ap (λ t. a ++ (m ∷ t)) (ap right_of same)
       | inr e ↦ clash (ap is_some (sym (ap (λ t. option_map parts (cond t (Some at) None)) e) ∙ h))
     ]
 
-first-of_cut : (text : List ℕ) (o : Option ℕ) (a b : List ℕ) → option_map (λ n. (take n text, drop (n + 1) text)) o ≡ Some (a, b) → option_map (λ n. take n text) o ≡ Some a
+first-of_cut : (text : List ℕ) (o : Option ℕ) (a b : List ℕ) → option_map {U = List ℕ × List ℕ} (λ n. (take n text, drop (n + 1) text)) o ≡ Some (a, b) → option_map (λ n. take n text) o ≡ Some a
 first-of_cut text None a b h = clash (ap is_some h)
-first-of_cut text (Some n) a b h = ap (λ o. Some (unwrap_or o ([], [])).0) h
+first-of_cut text (Some n) a b h = ap (λ o. Some (left_of o)) h
 
 -- the first line is the first part of the cut
 pub first-line_cut : (text a b : List ℕ) → cut is_line_end text ≡ Some (a, b) → first_line text ≡ Some a

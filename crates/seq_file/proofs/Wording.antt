@@ -49,7 +49,7 @@ call-small numbers short c e i h =
     record {
       caller = wide c (tasks.small c both.0);
       entry = wide e (members.small e both.1);
-      index = index-small i (member-index numbers e i both.1)
+      index = index-small i (member-index numbers e i both.1);
     }
 
 beside-small : (numbers : Numbering) → IsShort numbers → (a : ℕ) → is_task_beside_main numbers a ≡ true → a < 2 ^ 64
@@ -127,19 +127,23 @@ event-read numbers short Z h = refl
 
 -- no line feed stands in these texts
 one-free : (l n : ℕ) → (l == 10) ≡ false → n < 2 ^ 64 → IsFreeOf 10 (one_text (l ∷ 32 ∷ []) n)
-one-free l n h small = subst (IsFreeOf 10) (sym (one-text l n)) (free-cons 10 l _ h (free-cons 10 32 _ refl (decimal-free 10 n (omega arith) small)))
+one-free l n h small = subst (IsFreeOf 10) (sym (one-text l n)) (free-cons 10 l (32 ∷ decimal n) h (free-cons 10 32 (decimal n) refl (decimal-free 10 n (omega arith) small)))
 
 two-free : (l m n : ℕ) → (l == 10) ≡ false → m < 2 ^ 64 → n < 2 ^ 64 → IsFreeOf 10 (two_text (l ∷ 32 ∷ []) m n)
-two-free l m n h hm hn = subst (IsFreeOf 10) (sym (two-text l m n))
-    (free-cons 10 l _ h (free-cons 10 32 _ refl (All-append (λ b. (b == 10) ≡ false) (decimal m) (32 ∷ decimal n) (decimal-free 10 m (omega arith) hm) (free-cons 10 32 _ refl (decimal-free 10 n (omega arith) hn)))))
+two-free l m n h hm hn =
+    let last : IsFreeOf 10 (32 ∷ decimal n) = free-cons 10 32 (decimal n) refl (decimal-free 10 n (omega arith) hn) in
+    let both : IsFreeOf 10 (decimal m ++ (32 ∷ decimal n)) = All-append (λ b. (b == 10) ≡ false) (decimal m) (32 ∷ decimal n) (decimal-free 10 m (omega arith) hm) last in
+    subst (IsFreeOf 10) (sym (two-text l m n)) (free-cons 10 l (32 ∷ (decimal m ++ (32 ∷ decimal n))) h (free-cons 10 32 (decimal m ++ (32 ∷ decimal n)) refl both))
 
 call-free : (l c e : ℕ) (i : ℤ) → (l == 10) ≡ false → IsSmallCall c e i → IsFreeOf 10 (call_text (l ∷ 32 ∷ []) c e i)
-call-free l c e i h small = subst (IsFreeOf 10) (sym (call-text l c e i))
-    (free-cons 10 l _ h (free-cons 10 32 _ refl
-      (All-append (λ b. (b == 10) ≡ false) (decimal c) (32 ∷ (decimal e ++ (32 ∷ signed_decimal i))) (decimal-free 10 c (omega arith) small.caller)
-        (free-cons 10 32 _ refl
-          (All-append (λ b. (b == 10) ≡ false) (decimal e) (32 ∷ signed_decimal i) (decimal-free 10 e (omega arith) small.entry)
-            (free-cons 10 32 _ refl (signed-free 10 i (omega arith) small.index)))))))
+call-free l c e i h small =
+    let index : IsFreeOf 10 (32 ∷ signed_decimal i) = free-cons 10 32 (signed_decimal i) refl (signed-free 10 i (omega arith) small.index) in
+    let entry : IsFreeOf 10 (decimal e ++ (32 ∷ signed_decimal i)) = All-append (λ b. (b == 10) ≡ false) (decimal e) (32 ∷ signed_decimal i) (decimal-free 10 e (omega arith) small.entry) index in
+    let behind : IsFreeOf 10 (32 ∷ (decimal e ++ (32 ∷ signed_decimal i))) = free-cons 10 32 (decimal e ++ (32 ∷ signed_decimal i)) refl entry in
+    let caller : IsFreeOf 10 (decimal c ++ (32 ∷ (decimal e ++ (32 ∷ signed_decimal i)))) =
+    All-append (λ b. (b == 10) ≡ false) (decimal c) (32 ∷ (decimal e ++ (32 ∷ signed_decimal i))) (decimal-free 10 c (omega arith) small.caller) behind in
+    subst (IsFreeOf 10) (sym (call-text l c e i))
+    (free-cons 10 l (32 ∷ (decimal c ++ (32 ∷ (decimal e ++ (32 ∷ signed_decimal i))))) h (free-cons 10 32 (decimal c ++ (32 ∷ (decimal e ++ (32 ∷ signed_decimal i)))) refl caller))
 
 pub event-free : (numbers : Numbering) → IsShort numbers → (event : Event) → is_known numbers event ≡ true → IsFreeOf 10 (event_text event)
 event-free numbers short (R c e i) h = call-free 82 c e i refl (call-small numbers short c e i h)

@@ -66,7 +66,7 @@ fault_of_header main tasks entries None = Some (BadLine 1)
 abbrev pub header_fault : List (List ℕ) → Numbering → List ℕ → Option SeqError
 header_fault names numbers bytes =
     fault_of_header (text_of names numbers.main) (original_tasks numbers) (original_entries numbers)
-        (option_and_then header_of_line (first_line bytes))
+    (option_and_then header_of_line (first_line bytes))
 
 abbrev pub fault_of_event : Numbering → ℕ → Option Event → Option SeqError
 fault_of_event numbers line (Some event) = if is_known numbers event then None else Some (BadNumber line)

@@ -173,7 +173,7 @@ pub(crate) fn program_of<'a>(numbers: &Numbers, names: &'a Names) -> Program<'a>
 }
 
 fn text_or_empty<'a>(text: Option<&'a str>) -> &'a [u8]
-    ensures { result.now ≡ unwrap_or (option_map (λ t. t.now) text) [] }
+    ensures { result.now ≡ unwrap_or (option_map (λ t. t.now) text.entry) [] }
 {
     match text {
         Some(text) => text.as_bytes(),

@@ -40,11 +40,17 @@ pub fn read_seq(
     ensures only_fault { (fault : SeqError) → HasFirstFault bytes.now numbers.now names.now fault
         → MatchResult result (λ found. ⊥) (λ error. error ≢ Memory → error ≡ fault) }
 {
-    let mut rest = behind_header(bytes, numbers, names)?;
+    let mut rest = match behind_header(bytes, numbers, names) {
+        Ok(rest) => rest,
+        Err(error) => return Err(error),
+    };
     let mut events = Vec::new(alloc);
     let mut ended = false;
     while !rest.is_empty() {
-        let (event, behind) = next_event(rest, numbers, events.len(), ended)?;
+        let (event, behind) = match next_event(rest, numbers, events.len(), ended) {
+            Ok(next) => next,
+            Err(error) => return Err(error),
+        };
         add(&mut events, event)?;
         ended = is_end(&event);
         rest = behind;
@@ -69,7 +75,11 @@ fn is_end(event: &Event) -> bool
 }
 
 // What stands behind the header.
-fn behind_header<'a>(bytes: &'a [u8], numbers: &Numbers, names: &Names) -> Result<&'a [u8], SeqError>
+fn behind_header<'a>(
+    bytes: &'a [u8],
+    numbers: &Numbers,
+    names: &Names,
+) -> Result<&'a [u8], SeqError>
     ensures read { IfOk result (λ behind. IsBehindHeader names.now numbers.now bytes.now behind.now) }
     ensures fault { IfErr result (λ error. header_fault names.now numbers.now bytes.now ≡ Some error) }
     ensures short { IsShort numbers.now }

@@ -204,9 +204,19 @@ fn the_last_event_that_a_file_may_have(rt: HostRuntime) -> Result<(), Fail> {
     assert!(rt; read(alloc, whole.as_str())? == (200000, last, last));
     for behind in ["E 1\n", "?", "Z\n"] {
         let text = long_text(alloc, 200000, behind)?;
-        refuses(&rt, alloc, text.as_str(), SeqError::TooMany { limit: 200000 });
+        refuses(
+            &rt,
+            alloc,
+            text.as_str(),
+            SeqError::TooMany { limit: 200000 },
+        );
     }
     let ended = long_text(alloc, 199999, "Z\nE 1\n")?;
-    refuses(&rt, alloc, ended.as_str(), SeqError::AfterEnd { line: 200002 });
+    refuses(
+        &rt,
+        alloc,
+        ended.as_str(),
+        SeqError::AfterEnd { line: 200002 },
+    );
     Ok(())
 }

@@ -12,5 +12,5 @@ returns-in-Known-clause-read c =
       few = search rules;
       cuts = sym c.in-Some.ensures.cut;
       writes = known.0;
-      known = known.1
+      known = known.1;
     }
