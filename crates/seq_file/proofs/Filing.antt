@@ -1,8 +1,8 @@
 -- A file read event by event: what was read so far, and that one file has one list of events or one first fault.
 use Rattle.std.proofs.Common.{◌≡◌, ◌≢◌, ℕ, ◌+◌, ◌^◌, ◌<◌, ◌≤◌, Bool, true, false, cond, List, [], ◌∷◌, ◌++◌, length, drop, Option, None, Some, refl, ap, ◌∙◌, sym, subst, arith, ◌⊎◌, inl, inr, append_assoc, append-nil, length-append, All}
 use Rattle.std.specs.List.{list_any}
-use Rattle.std.specs.Prelude.{◌||◌, nat_lt, codes, is_some, unwrap_or, option_and_then}
-use Rattle.std.proofs.lemmas.Bool.{cases_Bool, lt-ltb}
+use Rattle.std.specs.Prelude.{◌||◌, ◌==◌, nat_lt, codes, is_some, unwrap_or, option_and_then}
+use Rattle.std.proofs.lemmas.Bool.{cases_Bool, lt-ltb, eqb-true, eqb-false}
 use Rattle.std.proofs.lemmas.List.Elements.{All-nil, All-head, All-tail, All-push, All-append}
 use Rattle.std.proofs.lemmas.List.Folds.{list_any-append}
 use Rattle.std.proofs.Math.Seq.{drop-append_seam}
@@ -267,3 +267,11 @@ read-fault bytes numbers names events rest ended error to more fault = inr recor
 pub next-shorter : (numbers : Numbering) (ended : Bool) (count : ℕ) (rest behind : List ℕ) (event : Event) → IsNextEvent numbers ended count rest event behind → length behind < length rest
 next-shorter numbers ended count rest behind event next =
     omega (arith, ap length (cut-parts 10 rest next.line behind next.cuts), length-append next.line (10 ∷ behind))
+
+-- a text without bytes, and one with some
+pub nil-by : (xs : List ℕ) → (length xs == 0) ≡ true → xs ≡ []
+nil-by [] h = refl
+nil-by (x ∷ xs) h = absurd (omega (arith, eqb-true (length (x ∷ xs)) 0 h))
+
+pub some-by : (xs : List ℕ) → (length xs == 0) ≡ false → xs ≢ []
+some-by xs h e = eqb-false (length xs) 0 h (ap length e)

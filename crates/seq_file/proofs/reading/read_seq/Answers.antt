@@ -1,6 +1,6 @@
-use Rattle.std.proofs.Common.{◌≡◌, ◌≢◌, sym, subst, [], length, inl, rules, Some}
+use Rattle.std.proofs.Common.{◌≡◌, ◌≢◌, sym, subst, ◌∙◌, [], ◌∷◌, ◌++◌, length, inl, rules, Some, false}
 use Rattle.seq_file.specs.Files.{line_fault}
-use Rattle.seq_file.proofs.Filing.{IsReadTo, read-start, read-more, read-end, read-fault, reads-no_fault, reads-unique, fault-unique}
+use Rattle.seq_file.proofs.Filing.{IsReadTo, read-start, read-more, read-end, read-fault, reads-no_fault, reads-unique, fault-unique, nil-by, some-by}
 use Rattle.seq_file.proofs.reading.read_seq.Goals as goal
 
 -- the header is bad
@@ -14,11 +14,25 @@ returns-in-Err-clause-only_fault c fault h ne =
 
 pub loop-rest-init : goal.loop-rest-init
 loop-rest-init c =
-    subst (λ t. IsReadTo c.args.bytes.now c.args.numbers.now c.args.names.now t _ _) (sym c.new-events.ensures.items) (read-start c.args.bytes.now c.args.numbers.now c.args.names.now _ c.behind_header.ensures.short c.in-Ok.ensures.read)
+    subst (λ t. IsReadTo c.args.bytes.now c.args.numbers.now c.args.names.now t c.in-Ok.rest.now false) (sym c.new-events.ensures.items) (read-start c.args.bytes.now c.args.numbers.now c.args.names.now c.in-Ok.rest.now c.behind_header.ensures.short c.in-Ok.ensures.read)
 
 -- all lines are read
 pub returns-clause-only_events : goal.returns-clause-only_events
-returns-clause-only_events c wanted h = ?
+returns-clause-only_events c wanted h =
+    reads-unique c.args.names.now c.args.numbers.now c.behind_header.ensures.short c.args.bytes.now c.loop-rest.events.items wanted
+      (read-end c.args.bytes.now c.args.numbers.now c.args.names.now c.loop-rest.events.items c.loop-rest.rest.now c.loop-rest.ended c.loop-rest.invariant (nil-by c.loop-rest.rest.now (sym c.is_empty.ensures ∙ c.loop-rest-test.false))) h
 
 pub returns-clause-only_fault : goal.returns-clause-only_fault
-returns-clause-only_fault c fault h = ?
+returns-clause-only_fault c fault h =
+    reads-no_fault c.args.names.now c.args.numbers.now c.behind_header.ensures.short c.requires.name c.args.bytes.now c.loop-rest.events.items fault
+      (read-end c.args.bytes.now c.args.numbers.now c.args.names.now c.loop-rest.events.items c.loop-rest.rest.now c.loop-rest.ended c.loop-rest.invariant (nil-by c.loop-rest.rest.now (sym c.is_empty.ensures ∙ c.loop-rest-test.false))) h
+
+-- the next line is bad
+pub returns-in-Err-next_event-clause-only_events : goal.returns-in-Err-next_event-clause-only_events
+returns-in-Err-next_event-clause-only_events c wanted h = ?
+
+pub returns-in-Err-next_event-clause-only_fault : goal.returns-in-Err-next_event-clause-only_fault
+returns-in-Err-next_event-clause-only_fault c fault h = ?
+
+pub loop-rest-preserved : goal.loop-rest-preserved
+loop-rest-preserved c = ?
