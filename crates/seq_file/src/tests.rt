@@ -48,7 +48,11 @@ fn read(alloc: Global, text: &str) -> Result<(usize, Option<Event>, Option<Event
         tasks,
         entries,
     };
-    let events = read_seq(alloc, text.as_bytes(), &numbers, &names)?;
+    let bytes = text.as_bytes();
+    if bytes.len() > 8388608 {
+        return Err(SeqError::Memory);
+    }
+    let events = read_seq(alloc, bytes, &numbers, &names)?;
     Ok((
         events.len(),
         events.first().copied(),
