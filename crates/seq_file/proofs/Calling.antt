@@ -1,5 +1,5 @@
 -- What a line of a call comes to.
-use Rattle.std.proofs.Common.{◌≡◌, ℕ, ℤ, ◌^◌, ◌<◌, arith, Bool, true, false, cond, length, refl, ap, ◌∙◌, sym, subst, inl, inr, Some, None, Option, option_map}
+use Rattle.std.proofs.Common.{◌≡◌, ℕ, ℤ, ◌^◌, ◌<◌, arith, Bool, true, cond, length, ap, ◌∙◌, sym, subst, inl, inr, Some, None, Option, option_map}
 use Rattle.std.proofs.lemmas.Bool.{cases_Bool, and_parts}
 use Rattle.std.specs.Int.{w32, w64}
 use Rattle.std.specs.Int.Signed.{mag}

@@ -1,8 +1,8 @@
 -- Numbers up to the cap, by a walk over their digits.
-use Rattle.std.proofs.Common.{◌≡◌, ℕ, ◌+◌, ◌-◌, ◌*◌, ◌^◌, ◌<◌, ◌≤◌, Bool, true, false, List, [], ◌∷◌, length, get_or, drop, refl, ap, ◌∙◌, sym, arith, inl, inr, rules, zero, suc, ℤ, pos, neg_ℤ, Some, None, Option, option_map, true≢false, ◌≢◌}
+use Rattle.std.proofs.Common.{◌≡◌, ℕ, ◌+◌, ◌-◌, ◌*◌, ◌^◌, ◌<◌, ◌≤◌, true, false, List, [], ◌∷◌, length, get_or, drop, refl, ap, ◌∙◌, sym, arith, rules, zero, suc, pos, neg_ℤ, Some, None, Option, option_map, true≢false, ◌≢◌}
 use Rattle.std.proofs.lemmas.List.{at_drop_more}
-use Rattle.std.proofs.lemmas.Bool.{cases_Bool, and_parts, and_from}
-use Rattle.std.specs.Prelude.{◌&&◌, nat_le, unwrap_or, is_some, option_and_then}
+use Rattle.std.proofs.lemmas.Bool.{and_parts, and_from}
+use Rattle.std.specs.Prelude.{unwrap_or, is_some, option_and_then}
 use Rattle.seq_file.specs.Numerals.{are_digits, is_digit, is_natural, value_behind, below_zero}
 use Rattle.seq_file.specs.Capped.{capped, capped_integer}
 

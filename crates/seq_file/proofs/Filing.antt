@@ -1,10 +1,8 @@
 -- A file read event by event: what was read so far, and that one file has one list of events or one first fault.
-use Rattle.std.proofs.Common.{◌≡◌, ◌≢◌, ℕ, ◌+◌, ◌^◌, ◌<◌, ◌≤◌, Bool, true, false, cond, List, [], ◌∷◌, ◌++◌, length, drop, Option, None, Some, refl, ap, ◌∙◌, sym, subst, arith, ◌⊎◌, inl, inr, append_assoc, append-nil, length-append, All}
-use Rattle.std.specs.List.{list_any}
-use Rattle.std.specs.Prelude.{◌||◌, ◌==◌, nat_lt, codes, is_some, unwrap_or, option_and_then}
+use Rattle.std.proofs.Common.{◌≡◌, ◌≢◌, ℕ, ◌+◌, ◌<◌, Bool, true, false, cond, List, [], ◌∷◌, ◌++◌, length, drop, None, Some, refl, ap, ◌∙◌, sym, subst, arith, ◌⊎◌, inl, inr, append_assoc, append-nil, length-append, All}
+use Rattle.std.specs.Prelude.{◌||◌, ◌==◌, is_some, unwrap_or, option_and_then}
 use Rattle.std.proofs.lemmas.Bool.{cases_Bool, lt-ltb, eqb-true, eqb-false}
-use Rattle.std.proofs.lemmas.List.Elements.{All-nil, All-head, All-tail, All-push, All-append}
-use Rattle.std.proofs.lemmas.List.Folds.{list_any-append}
+use Rattle.std.proofs.lemmas.List.Elements.{All-nil, All-head, All-tail, All-push}
 use Rattle.std.proofs.Math.Seq.{drop-append_seam}
 use Rattle.ded_io.specs.Written.{◌⧺◌, each_text}
 use Rattle.event_machine.specs.declared.Event.{Event}
@@ -13,7 +11,7 @@ use Rattle.syn_event.specs.EventText.{event_text}
 use Rattle.syn_event.specs.Numbering.{Numbering}
 use Rattle.syn_event.specs.Units.{text_of}
 use Rattle.seq_file.specs.declared.errors.SeqError.{SeqError}
-use Rattle.seq_file.specs.declared.errors.SeqError.TheVariants.{BadLine, BadNumber, AfterEnd, TooMany, Memory}
+use Rattle.seq_file.specs.declared.errors.SeqError.TheVariants.{BadNumber, TooMany, Memory}
 use Rattle.seq_file.specs.Capped.{IsShort}
 use Rattle.seq_file.specs.Files.{most_events, header_line, event_line, SeqText, is_end, has_ended, NothingFollowsEnd, AreFit, SeqReads, header_fault, fault_of_event, line_fault, FailsBehind, HasFirstFault}
 use Rattle.seq_file.specs.Known.{is_known}

@@ -1,7 +1,7 @@
 -- The header of a file: its text is read as what it says, and only that text.
-use Rattle.std.proofs.Common.{◌≡◌, ℕ, ◌+◌, ◌^◌, ◌<◌, ◌≤◌, Bool, true, false, cond, List, [], ◌∷◌, ◌++◌, length, drop, Option, None, Some, refl, ap, ◌∙◌, sym, subst, arith, inl, inr, decimal, append_assoc}
-use Rattle.std.specs.List.{slice_split, join_with_byte}
-use Rattle.std.specs.Prelude.{◌&&◌, ◌||◌, ◌==◌, nat_eq, nat_le, bytes_eq, codes, is_some, unwrap_or, option_and_then, count_by}
+use Rattle.std.proofs.Common.{◌≡◌, ℕ, ◌^◌, ◌<◌, ◌≤◌, Bool, true, false, cond, List, [], ◌∷◌, ◌++◌, drop, Option, None, Some, refl, ap, ◌∙◌, sym, subst, arith, inl, inr, decimal, append_assoc}
+use Rattle.std.specs.List.{join_with_byte}
+use Rattle.std.specs.Prelude.{◌&&◌, ◌||◌, ◌==◌, nat_eq, nat_le, bytes_eq, codes, is_some, unwrap_or, option_and_then}
 use Rattle.std.proofs.lemmas.Bool.{cases_Bool, cases_lt, and_parts, and_from, ne_eqb, eq-eqb, eqb-true, leb-true}
 use Rattle.std.proofs.lemmas.List.Elements.{All-nil, All-append}
 use Rattle.std.proofs.lemmas.List.Splits.{slice_split_at, slice_split_none, join_with_byte-slice_split}
@@ -14,7 +14,7 @@ use Rattle.syn_event.specs.Units.{text_of}
 use Rattle.seq_file.specs.declared.errors.SeqError.TheVariants.{OtherProgram}
 use Rattle.seq_file.specs.Capped.{capped, IsShort}
 use Rattle.seq_file.specs.Files.{header_line, is_header_of, fault_of_header, header_fault}
-use Rattle.seq_file.specs.Lines.{Header, is_blank, is_line_end, first_line, words_of, is_capital, is_name_part, name_goes_on, every, begins, is_upper_name, upper_name, header_with, header_of_words, header_of_line, with_three}
+use Rattle.seq_file.specs.Lines.{Header, is_blank, is_line_end, words_of, is_capital, is_name_part, name_goes_on, every, begins, is_upper_name, upper_name, header_with, header_of_words, header_of_line, with_three}
 use Rattle.seq_file.specs.Numerals.{is_digit, natural}
 use Rattle.seq_file.specs.Verdicts.{cut}
 use Rattle.seq_file.proofs.Capping.{clash, capped-small, capped-large}

@@ -1,14 +1,14 @@
 -- Indices of any size, and the cap: what is beyond 32 bits is an index neither before nor behind it.
-use Rattle.std.proofs.Common.{◌≡◌, ℕ, ℤ, pos, negsuc, neg_ℤ, zero, suc, ◌+◌, ◌-◌, ◌^◌, ◌<◌, ◌≤◌, Bool, true, false, cond, length, Option, None, Some, refl, ap, ◌∙◌, sym, arith, inl, inr}
+use Rattle.std.proofs.Common.{◌≡◌, ℕ, ℤ, pos, negsuc, neg_ℤ, suc, ◌-◌, ◌^◌, ◌<◌, true, false, cond, length, None, ap, ◌∙◌, sym, arith, inl, inr}
 use Rattle.std.specs.Int.Signed.{mag}
-use Rattle.std.proofs.lemmas.Bool.{cases_Bool, cases_lt, leb-true, leb-false, and_parts}
+use Rattle.std.proofs.lemmas.Bool.{cases_Bool, cases_lt, leb-true, and_parts}
 use Rattle.std.proofs.lemmas.Option.{slice_get_past}
 use Rattle.std.specs.Int.{w32}
 use Rattle.std.specs.Option.{option_map_or}
 use Rattle.std.specs.Prelude.{◌&&◌, ◌==◌, int_le, slice_get, FitsSigned}
 use Rattle.syn_event.specs.declared.numbering.EntryInfo.{EntryInfo}
 use Rattle.syn_event.specs.Numbering.{Numbering, entry_at}
-use Rattle.seq_file.specs.Capped.{capped, capped_integer}
+use Rattle.seq_file.specs.Capped.{capped_integer}
 use Rattle.seq_file.specs.Known.{is_index, is_member, fits_entry}
 use Rattle.seq_file.proofs.Capping.{capped-small, capped-large}
 use Rattle.seq_file.proofs.Knowing.{IsTest, test_by}

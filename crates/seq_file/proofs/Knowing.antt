@@ -1,7 +1,7 @@
 -- Tests of numbers that don't see the cap, and what a line comes to by them.
-use Rattle.std.proofs.Common.{◌≡◌, ℕ, ◌^◌, ◌<◌, ◌≤◌, Bool, true, false, cond, List, length, refl, ap, ◌∙◌, sym, arith, inl, inr, Some, None, Option, option_map, true≢false}
+use Rattle.std.proofs.Common.{◌≡◌, ℕ, ◌^◌, ◌<◌, ◌≤◌, Bool, true, false, cond, length, ap, ◌∙◌, sym, arith, inl, inr, Some, None, Option, option_map, true≢false}
 use Rattle.std.proofs.lemmas.Bool.{cases_Bool, cases_lt, ltb-true, leb-true, and_parts, and_right}
-use Rattle.std.specs.Prelude.{◌&&◌, nat_lt, nat_le, unwrap_or, is_some}
+use Rattle.std.specs.Prelude.{◌&&◌, nat_lt, nat_le, is_some}
 use Rattle.event_machine.specs.declared.Event.{Event}
 use Rattle.syn_event.specs.Numbering.{Numbering}
 use Rattle.seq_file.specs.declared.lines.Verdict.TheVariants.{Known, BadNumber}

@@ -1,9 +1,9 @@
 -- Texts that a mark does not stand in, and where a text is cut at its first mark.
-use Rattle.std.proofs.Common.{◌≡◌, ℕ, ℤ, pos, negsuc, suc, ◌+◌, ◌^◌, ◌<◌, ◌≤◌, Bool, true, false, not, cond, List, [], ◌∷◌, ◌++◌, length, get_or, take, drop, All, Option, None, Some, option_map, refl, ap, ◌∙◌, sym, subst, arith, decimal, length-append, inl, inr}
+use Rattle.std.proofs.Common.{◌≡◌, ℕ, ℤ, pos, negsuc, suc, ◌+◌, ◌^◌, ◌<◌, ◌≤◌, Bool, true, false, not, cond, List, [], ◌∷◌, ◌++◌, length, get_or, take, drop, All, Option, None, Some, option_map, refl, ap, ◌∙◌, sym, arith, decimal, length-append, inl, inr}
 use Rattle.std.specs.Fmt.{signed_decimal}
 use Rattle.std.specs.Int.Signed.{mag}
-use Rattle.std.specs.List.{slice_split, position_or_len}
-use Rattle.std.specs.Prelude.{◌&&◌, ◌==◌, nat_lt, position, unwrap_or, is_some}
+use Rattle.std.specs.List.{position_or_len}
+use Rattle.std.specs.Prelude.{◌&&◌, ◌==◌, nat_lt, position, is_some}
 use Rattle.std.proofs.lemmas.Bool.{cases_Bool, and_parts, ne_eqb, eq-eqb, eqb-true, leb-true, lt-ltb, ltb-true}
 use Rattle.std.proofs.lemmas.List.Elements.{All-nil, All-cons, All-head, All-tail}
 use Rattle.std.proofs.lemmas.List.Sums.{split_at_first, passes_at_first}

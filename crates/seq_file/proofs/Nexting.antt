@@ -1,5 +1,5 @@
 -- What a verdict on a line says of its event.
-use Rattle.std.proofs.Common.{◌≡◌, Bool, true, false, cond, ap, ◌∙◌, sym, inl, inr, Some, None, Option, refl}
+use Rattle.std.proofs.Common.{◌≡◌, Bool, true, false, cond, ap, ◌∙◌, sym, inl, inr, Some, None, Option}
 use Rattle.std.proofs.lemmas.Bool.{cases_Bool}
 use Rattle.event_machine.specs.declared.Event.{Event}
 use Rattle.event_machine.specs.declared.Event.TheVariants.{Z}

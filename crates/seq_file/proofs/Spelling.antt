@@ -1,8 +1,8 @@
 -- The number that a word writes is the one whose text the word is.
-use Rattle.std.proofs.Common.{◌≡◌, ℕ, ℤ, pos, negsuc, zero, suc, ◌+◌, ◌-◌, ◌^◌, ◌<◌, ◌≤◌, Bool, true, false, not, cond, List, [], ◌∷◌, length, get_or, Option, None, Some, option_map, refl, ap, ◌∙◌, sym, subst, arith, rules, ◌⊎◌, inl, inr, decimal}
+use Rattle.std.proofs.Common.{◌≡◌, ℕ, ℤ, pos, negsuc, zero, suc, ◌^◌, ◌<◌, ◌≤◌, true, not, cond, List, [], ◌∷◌, length, get_or, Option, None, Some, option_map, refl, ap, ◌∙◌, sym, subst, arith, rules, ◌⊎◌, inl, inr, decimal}
 use Rattle.std.specs.Fmt.{signed_decimal}
 use Rattle.std.specs.Int.Signed.{mag}
-use Rattle.std.specs.Prelude.{◌&&◌, ◌==◌, is_some, unwrap_or, option_and_then}
+use Rattle.std.specs.Prelude.{◌==◌, is_some, unwrap_or, option_and_then}
 use Rattle.std.proofs.lemmas.Bool.{cases_Bool, cases_lt, and_parts, and_from, ne_eqb, eq-eqb, eqb-true, leb-true}
 use Rattle.std.proofs.lemmas.Fmt.{digits_decimal, digits_value-decimal, decimal-digits_value, decimal_nonempty, first_decimal, decimal_digit}
 use Rattle.std.proofs.lemmas.Str.Parse.{IsNumeralModel, numerals_by_fold}

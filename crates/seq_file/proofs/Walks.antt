@@ -1,12 +1,12 @@
 -- Walks over the bytes of a text, and a text cut at its first mark.
-use Rattle.std.proofs.Common.{◌≡◌, ℕ, ◌+◌, ◌<◌, ◌≤◌, Bool, true, false, List, [], ◌∷◌, length, get_or, take, drop, refl, ap, ◌∙◌, sym, arith, None, Some, inl, inr, cond, rules}
-use Rattle.std.proofs.lemmas.List.{at_drop_more, at_drop_all}
+use Rattle.std.proofs.Common.{◌≡◌, ℕ, ◌+◌, ◌<◌, Bool, true, false, List, [], ◌∷◌, length, get_or, take, drop, ap, ◌∙◌, sym, arith, None, Some, inl, inr, cond, rules}
+use Rattle.std.proofs.lemmas.List.{at_drop_more}
 use Rattle.std.proofs.lemmas.Bool.{cases_Bool, ltb-true, ltb-false}
 use Rattle.std.proofs.lemmas.List.Splits.{length-slice_split, slice_split_first, slice_split_none}
 use Rattle.std.proofs.lemmas.List.Sums.{fails_before_first}
-use Rattle.std.specs.Prelude.{◌&&◌, position, nat_lt, ◌==◌, unwrap_or, is_some, All}
+use Rattle.std.specs.Prelude.{◌&&◌, position, nat_lt, ◌==◌, unwrap_or, is_some}
 use Rattle.std.specs.List.{slice_split, position_or_len}
-use Rattle.seq_file.specs.Numerals.{are_digits, is_digit, value_behind}
+use Rattle.seq_file.specs.Numerals.{are_digits, is_digit}
 use Rattle.seq_file.specs.Lines.{every}
 
 pub every-more : (go : ℕ → List ℕ → Bool) (xs : List ℕ) (n : ℕ) → n < length xs → go (get_or xs n 0) (drop (n + 1) xs) ≡ true → every go (drop (n + 1) xs) ≡ every go (drop n xs)

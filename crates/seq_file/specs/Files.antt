@@ -1,9 +1,9 @@
 -- Sequence files: the text of a list of events, which events a file is read as, and the first fault of a file (this project's format).
-use Rattle.std.specs.Prelude.{◌≡◌, ◌≢◌, ◌≤◌, ◌+◌, ℕ, Bool, true, false, ◌&&◌, ◌==◌, nat_lt, nat_eq, bytes_eq, List, [], ◌∷◌, ◌++◌, length, codes, decimal, All, IsTrue, ◌⊎◌, Option, Some, None, option_and_then, if◌then◌else◌, ⊤}
+use Rattle.std.specs.Prelude.{◌≡◌, ◌≢◌, ◌≤◌, ◌+◌, ℕ, Bool, true, false, ◌&&◌, nat_lt, nat_eq, bytes_eq, List, [], ◌∷◌, ◌++◌, length, codes, decimal, All, ◌⊎◌, Option, Some, None, option_and_then, if◌then◌else◌, ⊤}
 use Rattle.std.specs.List.{list_any}
 use Rattle.ded_io.specs.Written.{◌⧺◌, each_text}
 use Rattle.event_machine.specs.declared.Event.{Event}
-use Rattle.event_machine.specs.declared.Event.TheVariants.{R, E, S, D, C, T, F, X, B, Z}
+use Rattle.event_machine.specs.declared.Event.TheVariants.{Z}
 use Rattle.syn_event.specs.EventText.{event_text}
 use Rattle.syn_event.specs.Numbering.{Numbering, original_tasks, original_entries}
 use Rattle.syn_event.specs.Units.{text_of}

@@ -1,5 +1,5 @@
 -- What a line of an event comes to (this project's rule).
-use Rattle.std.specs.Prelude.{ℕ, Bool, ◌==◌, ◌+◌, List, take, drop, position, Option, Some, None, option_map, if◌then◌else◌}
+use Rattle.std.specs.Prelude.{ℕ, Bool, ◌+◌, List, take, drop, position, Option, Some, None, option_map, if◌then◌else◌}
 use Rattle.event_machine.specs.declared.Event.{Event}
 use Rattle.syn_event.specs.Numbering.{Numbering}
 use Rattle.seq_file.specs.declared.lines.Verdict.{Verdict}

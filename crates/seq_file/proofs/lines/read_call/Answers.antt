@@ -1,8 +1,7 @@
-use Rattle.std.proofs.Common.{◌≡◌, ℕ, ℤ, sym, ◌∙◌, ap, refl, cond, List, Option, Some, option_map, subst, true, false, to_z, of_z}
+use Rattle.std.proofs.Common.{◌≡◌, ℕ, ℤ, sym, ◌∙◌, ap, refl, List, Option, Some, option_map, subst, true, false, to_z, of_z}
 use Rattle.std.proofs.lemmas.Int.{to_z-of_z}
 use Rattle.std.specs.Int.{w32, w64}
 use Rattle.std.specs.Prelude.{bytes_eq, codes, FitsSigned}
-use Rattle.event_machine.specs.declared.Event.{Event}
 use Rattle.event_machine.specs.declared.Event.TheVariants.{R, C, T, F}
 use Rattle.seq_file.specs.Lines.{call_event, with_three}
 use Rattle.seq_file.specs.Numerals.{natural, integer}

@@ -1,6 +1,5 @@
-use Rattle.std.proofs.Common.{◌≡◌, ℕ, sym, ◌∙◌, ap, refl, cond, List, Option, option_map, true, false}
+use Rattle.std.proofs.Common.{◌≡◌, ℕ, sym, ◌∙◌, ap, refl, List, Option, true, false}
 use Rattle.std.specs.Prelude.{bytes_eq, codes}
-use Rattle.event_machine.specs.declared.Event.{Event}
 use Rattle.event_machine.specs.declared.Event.TheVariants.{D, B}
 use Rattle.seq_file.specs.Known.{is_task, is_task_beside_main, is_alternative}
 use Rattle.seq_file.specs.Lines.{pair_event, with_two}

@@ -1,6 +1,5 @@
-use Rattle.std.proofs.Common.{◌≡◌, ℕ, sym, ◌∙◌, ap, refl, cond, List, Option, option_map, true, false}
+use Rattle.std.proofs.Common.{◌≡◌, ℕ, sym, ◌∙◌, ap, refl, List, Option, option_map, true, false}
 use Rattle.std.specs.Prelude.{bytes_eq, codes}
-use Rattle.event_machine.specs.declared.Event.{Event}
 use Rattle.event_machine.specs.declared.Event.TheVariants.{E, S, X}
 use Rattle.seq_file.specs.Known.{is_task_beside_main}
 use Rattle.seq_file.specs.Lines.{task_event}
