@@ -1,0 +1,11 @@
+pub mod Walks
+pub mod Capping
+pub mod Knowing
+pub mod Nexting
+pub mod Indexing
+pub mod Calling
+pub mod Spelling
+pub mod Marking
+pub mod Wording
+pub mod Heading
+pub mod Filing

@@ -1,0 +1,30 @@
+-- What a verdict on a line says of its event.
+use Rattle.std.proofs.Common.{◌≡◌, Bool, true, false, cond, ap, ◌∙◌, sym, inl, inr, Some, None, Option}
+use Rattle.std.proofs.lemmas.Bool.{cases_Bool}
+use Rattle.event_machine.specs.declared.Event.{Event}
+use Rattle.event_machine.specs.declared.Event.TheVariants.{Z}
+use Rattle.syn_event.specs.Numbering.{Numbering}
+use Rattle.seq_file.specs.declared.lines.Verdict.{Verdict}
+use Rattle.seq_file.specs.declared.lines.Verdict.TheVariants.{Known, BadNumber, BadLine}
+use Rattle.seq_file.specs.Known.{is_known}
+use Rattle.seq_file.specs.Verdicts.{verdict_of}
+use Rattle.seq_file.proofs.Capping.{clash}
+
+abbrev event_in : Verdict → Event
+event_in (Known event) = event
+event_in BadNumber = Z
+event_in BadLine = Z
+
+abbrev has_event : Verdict → Bool
+has_event (Known event) = true
+has_event BadNumber = false
+has_event BadLine = false
+
+pub verdict-known : (numbers : Numbering) (o : Option Event) (event : Event) → Known event ≡ verdict_of numbers o → (o ≡ Some event) × (is_known numbers event ≡ true)
+verdict-known numbers None event h = clash (sym (ap has_event h))
+verdict-known numbers (Some e) event h = elim (cases_Bool (is_known numbers e)) [
+  | inl e1 ↦
+      let same : event ≡ e = ap event_in (h ∙ ap (λ t. cond t (Known e) BadNumber) e1) in
+      (ap Some (sym same), ap (is_known numbers) same ∙ e1)
+  | inr e2 ↦ clash (sym (ap has_event (h ∙ ap (λ t. cond t (Known e) BadNumber) e2)))
+]

@@ -1,0 +1,17 @@
+//! Sequence files: the events of one run, as a text with one line for each.
+//!
+//! `specs/Files.antt` says which events a file is read as, and what its first fault is.
+#![tactic(auto)]
+
+mod errors;
+mod known;
+mod lines;
+mod numerals;
+mod reading;
+mod words;
+
+pub use errors::SeqError;
+pub use reading::read_seq;
+
+#[cfg(test)]
+mod tests;

@@ -1,0 +1,123 @@
+// Numbers in decimal.
+
+ghost use Rattle.std.specs.Prelude.{◌≡◌, ◌≤◌, ◌^◌, ◌*◌, ◌+◌, ◌-◌, ℕ, pos, neg_ℤ, Option, IfSome, min, option_map, option_and_then, true};
+ghost use Rattle.seq_file.specs.Numerals.{is_digit, are_digits, is_natural, natural, integer, value_behind, below_zero};
+ghost use Rattle.seq_file.specs.Capped.{capped, capped_integer};
+
+/// Every larger number stands as this one: no program has it.
+const CAP: u64 = 4294967296;
+
+pub(crate) fn is_digit(b: u8) -> bool
+    ensures { result ≡ is_digit b }
+{
+    b.is_ascii_digit()
+}
+
+#[tactic(auto, using(crate::proofs::Walks::walks))]
+fn are_digits(word: &[u8]) -> bool
+    ensures { result ≡ are_digits word.now }
+{
+    for b in word {
+        if !is_digit(*b) {
+            return false;
+        }
+    }
+    true
+}
+
+fn is_natural(word: &[u8]) -> bool
+    ensures { result ≡ is_natural word.now }
+{
+    match word {
+        [] => false,
+        [b] => is_digit(*b),
+        [b, ..] => *b != b'0' && are_digits(word),
+    }
+}
+
+// The number that digits write, up to the cap.
+#[tactic(auto, using(crate::proofs::Capping::capping))]
+fn capped_value(word: &[u8]) -> u64
+    requires { are_digits word.now ≡ true }
+    ensures { result ≡ capped (value_behind 0 word.now) }
+{
+    let mut value: u64 = 0;
+    for b in word {
+        value = with_digit(value, *b);
+    }
+    value
+}
+
+#[tactic(auto, unfolding(crate::specs::Capped::capped))]
+fn with_digit(value: u64, b: u8) -> u64
+    requires digit { is_digit b ≡ true }
+    requires small { value ≤ 2 ^ 32 }
+    ensures { result ≡ capped (value * 10 + (b - 48)) }
+{
+    (value * 10 + u64::from(b - b'0')).min(CAP)
+}
+
+/// The number that a word writes, up to the cap.
+#[tactic(auto, using(crate::proofs::Capping::capping), unfolding(crate::specs::Numerals::natural))]
+pub(crate) fn natural(word: &[u8]) -> Option<u64>
+    ensures is { result ≡ option_map capped (natural word.now) }
+    ensures small { IfSome result (λ n. n ≤ 2 ^ 32) }
+{
+    if is_natural(word) {
+        Some(capped_value(word))
+    } else {
+        None
+    }
+}
+
+/// The number that a word writes, with a minus where it is negative, up to the cap on both sides.
+#[tactic(auto, unfolding(crate::specs::Numerals::integer))]
+pub(crate) fn integer(word: &[u8]) -> Option<i64>
+    ensures { result ≡ option_map capped_integer (integer word.now) }
+{
+    match word {
+        [] => None,
+        [b, rest @ ..] => if *b == b'-' {
+            negative(natural(rest))
+        } else {
+            positive(natural(word))
+        },
+    }
+}
+
+// The number with a minus; there is none for zero.
+#[tactic(auto, using(crate::proofs::Capping::signs))]
+fn negative(n: Option<u64>) -> Option<i64>
+    requires { IfSome n (λ n. n ≤ 2 ^ 32) }
+    ensures { (o : Option ℕ) → n ≡ option_map capped o → result ≡ option_map capped_integer (option_and_then below_zero o) }
+{
+    match n {
+        Some(n) => if n == 0 { None } else { Some(minus(n)) },
+        None => None,
+    }
+}
+
+#[tactic(auto, using(crate::proofs::Capping::signs))]
+fn positive(n: Option<u64>) -> Option<i64>
+    requires { IfSome n (λ n. n ≤ 2 ^ 32) }
+    ensures { (o : Option ℕ) → n ≡ option_map capped o → result ≡ option_map capped_integer (option_map pos o) }
+{
+    match n {
+        Some(n) => Some(plus(n)),
+        None => None,
+    }
+}
+
+fn minus(n: u64) -> i64
+    requires { n ≤ 2 ^ 32 }
+    ensures { result ≡ neg_ℤ (pos n) }
+{
+    -(n as i64)
+}
+
+fn plus(n: u64) -> i64
+    requires { n ≤ 2 ^ 32 }
+    ensures { result ≡ pos n }
+{
+    n as i64
+}
