@@ -1,0 +1,10 @@
+//! The types of a program, and the values of its static expressions.
+#![tactic(auto)]
+
+mod errors;
+mod names;
+mod operations;
+mod static_values;
+
+pub use errors::TypeError;
+pub use static_values::static_value;
