@@ -88,9 +88,19 @@ truth false = pos 0
 abbrev pub is_true : ℤ → Bool
 is_true z = not (int_eq z (pos 0))
 
--- `mod` has the sign of its right operand: where the remainder has the other sign, it is moved by that operand (4.5.5)
+-- neither is negative, or both are
+abbrev pub have_one_sign : ℤ → ℤ → Bool
+have_one_sign (pos a) (pos b) = true
+have_one_sign (negsuc a) (negsuc b) = true
+have_one_sign _ _ = false
+
+-- a remainder that has the sign of the right operand: one of the other sign is moved by that operand
+abbrev pub moved : ℤ → ℤ → ℤ
+moved r b = if int_eq r (pos 0) || have_one_sign r b then r else r +ℤ b
+
+-- `mod` has the sign of its right operand, and `rem` that of the left one (4.5.5)
 abbrev pub modulus : ℤ → ℤ → ℤ
-modulus a b = if int_eq (int_rem a b) (pos 0) || (not (int_lt (int_rem a b) (pos 0)) && int_lt (pos 0) b) || (int_lt (int_rem a b) (pos 0) && int_lt b (pos 0)) then int_rem a b else int_rem a b +ℤ b
+modulus a b = moved (int_rem a b) b
 
 -- a divisor 0 raises NUMERIC_ERROR (4.5.5)
 abbrev pub unless_zero : Span → ℤ → Result ℤ Span → Result ℤ Span

@@ -1,6 +1,6 @@
 // What names mean in the table of types.
 
-ghost use Rattle.std.specs.Prelude.{◌≡◌, pos, Option, option_map};
+ghost use Rattle.std.specs.Prelude.{◌≡◌, ◌==◌, ◌<◌, ◌^◌, position, IfSome};
 ghost use Rattle.ada_tree.specs.StaticValue.{mark_named, constant_named, position_in, literal_position, value_named};
 
 use crate::operations::position_of;
@@ -32,21 +32,28 @@ fn constant_of(types: &Types, id: NameId) -> Option<Constant>
     None
 }
 
+// The position of a name among others.
+fn place_among(names: &[NameId], id: NameId) -> Option<usize>
+    ensures place { result ≡ position (λ n. n.0 == id.0) names.now }
+    ensures fits { IfSome result (λ k. k < 2 ^ 63) }
+{
+    names.iter().position(|name| name.0 == id.0)
+}
+
 // The position of a literal in its enumeration.
 fn place_in(kind: &Kind, id: NameId) -> Option<usize>
-    ensures { result ≡ position_in id kind.now }
+    ensures place { result ≡ position_in id kind.now }
+    ensures fits { IfSome result (λ k. k < 2 ^ 63) }
 {
     match kind {
-        Kind::Enumeration { literals } => literals
-            .as_slice()
-            .iter()
-            .position(|name| name.0 == id.0),
+        Kind::Enumeration { literals } => place_among(literals.as_slice(), id),
         _ => None,
     }
 }
 
 fn literal_place(types: &Types, id: NameId) -> Option<usize>
-    ensures { result ≡ literal_position types.now.kinds id }
+    ensures place { result ≡ literal_position types.now.kinds id }
+    ensures fits { IfSome result (λ k. k < 2 ^ 63) }
 {
     for kind in &types.kinds {
         if let Some(place) = place_in(kind, id) {

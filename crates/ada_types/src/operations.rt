@@ -1,7 +1,7 @@
 // The operations on the values of static expressions (4.5). Values of BOOLEAN and of enumerations are positions, so that FALSE is 0 and TRUE is 1.
 
 ghost use Rattle.std.specs.Prelude.{◌≡◌, ◌+ℤ◌, ◌-ℤ◌, ◌*ℤ◌, neg_ℤ, pos, int_div, int_rem, int_lt, ◌≢◌, Ok, if◌then◌else◌};
-ghost use Rattle.ada_tree.specs.StaticValue.{fitted, truth, is_true, modulus, unless_zero, applied, signed};
+ghost use Rattle.ada_tree.specs.StaticValue.{fitted, truth, is_true, moved, modulus, unless_zero, applied, signed};
 
 use ada_tree::{BinaryOp, Span, UnaryOp};
 
@@ -74,17 +74,25 @@ fn remainder(left: i64, right: i64) -> i64
     if right == -1 { 0 } else { left % right }
 }
 
+// A remainder moved by the right operand where the two have different signs.
+fn move_rest(rest: i64, right: i64) -> i64
+    ensures { result ≡ moved rest right }
+{
+    if rest == 0 {
+        rest
+    } else if rest < 0 {
+        if right < 0 { rest } else { rest + right }
+    } else {
+        if right < 0 { rest + right } else { rest }
+    }
+}
+
 // `mod`, which has the sign of the right operand.
 fn modulo(left: i64, right: i64) -> i64
     requires { right ≢ pos 0 }
     ensures { result ≡ modulus left right }
 {
-    let rest = remainder(left, right);
-    if rest == 0 || (rest >= 0 && right > 0) || (rest < 0 && right < 0) {
-        rest
-    } else {
-        rest + right
-    }
+    move_rest(remainder(left, right), right)
 }
 
 fn negated(value: i64, span: Span) -> Result<i64, Span>

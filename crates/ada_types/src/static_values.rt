@@ -1,6 +1,8 @@
 // Static expressions and their values (4.9).
 
-ghost use Rattle.std.specs.Prelude.{◌≡◌, slice_get};
+ghost use Rattle.std.specs.Prelude.{◌≡◌, slice_get, FitsSigned};
+ghost use Rattle.std.specs.Bool.{OnTrue};
+ghost use Rattle.std.specs.Int.{w64};
 ghost use Rattle.ada_tree.specs.PlainExpr.{plain_expr};
 ghost use Rattle.ada_tree.specs.Attributes.{attribute_of, is_bound};
 ghost use Rattle.ada_tree.specs.StaticValue.{is_static, value_of, keeps_static, is_of_kind, of_base, attribute_at, bound_of};
@@ -48,27 +50,28 @@ fn is_fixed(e: &Expr, types: &Types) -> bool
 }
 
 // Whether a value is one of the type of a kind.
-fn is_in_type(types: &Types, mark: Mark, value: i64) -> bool
-    ensures { result ≡ is_of_kind (slice_get types.now.kinds mark.kind) value }
+fn is_in_type(types: &Types, mark: Mark, value: i128) -> bool
+    ensures test { result ≡ is_of_kind (slice_get types.now.kinds mark.kind) value }
+    ensures fits { OnTrue result (FitsSigned w64 value) }
 {
     match types.kinds.get(mark.kind as usize) {
         Some(Kind::Integer) => value >= -2147483648 && value <= 2147483647,
         Some(Kind::Truth) => value >= 0 && value <= 1,
         Some(Kind::Enumeration { literals }) => {
-            value >= 0 && value < literals.as_slice().len() as i64
+            value >= 0 && value < literals.as_slice().len() as i128
         }
         _ => false,
     }
 }
 
 // A value of the base type of a mark, or the place of the attribute, which raises.
-fn in_base(types: &Types, mark: Option<Mark>, span: Span, value: i64) -> Result<i64, Span>
+fn in_base(types: &Types, mark: Option<Mark>, span: Span, value: i128) -> Result<i64, Span>
     ensures { result ≡ of_base types.now mark span value }
 {
     match mark {
         Some(mark) => {
             if is_in_type(types, mark, value) {
-                Ok(value)
+                Ok(value as i64)
             } else {
                 Err(span)
             }
@@ -90,17 +93,11 @@ fn attribute_value(
     if word == NameId::POS {
         Ok(value)
     } else if word == NameId::VAL {
-        in_base(types, mark, span, value)
+        in_base(types, mark, span, value as i128)
     } else if word == NameId::SUCC {
-        match value.checked_add(1) {
-            Some(next) => in_base(types, mark, span, next),
-            None => Err(span),
-        }
+        in_base(types, mark, span, value as i128 + 1)
     } else if word == NameId::PRED {
-        match value.checked_sub(1) {
-            Some(last) => in_base(types, mark, span, last),
-            None => Err(span),
-        }
+        in_base(types, mark, span, value as i128 - 1)
     } else {
         Err(span)
     }
