@@ -1,19 +1,18 @@
 -- Small programs by which the first twelve static rules can be tried: what each is refused for, as the number of the rule and the first byte of the place.
-use Rattle.std.specs.Prelude.{◌≡◌, ℕ, ℤ, pos, negsuc, ◌+◌, Bool, true, false, List, [], ◌∷◌, map, Option, Some, None, Ok, Err, refl}
+use Rattle.std.specs.Prelude.{◌≡◌, ℕ, pos, negsuc, ◌+◌, true, false, List, [], ◌∷◌, map, Option, Some, None, Ok, Err, refl}
 use Rattle.ada_tree.specs.declared.naming.Span.{Span}
 use Rattle.ada_tree.specs.declared.naming.Word.{Word}
 use Rattle.ada_tree.specs.declared.expressions.UnaryOp.TheVariants as unary
 use Rattle.ada_tree.specs.declared.expressions.BinaryOp.{BinaryOp}
-use Rattle.ada_tree.specs.declared.expressions.BinaryOp.TheVariants.{And, AndThen, OrElse, Equal, Less, Plus, Minus, Times, Divide, Mod, Rem}
+use Rattle.ada_tree.specs.declared.expressions.BinaryOp.TheVariants.{AndThen, Equal, Plus, Divide, Mod, Rem}
 use Rattle.ada_tree.specs.declared.statements.ParMode.{ParMode}
-use Rattle.ada_tree.specs.declared.statements.ParMode.TheVariants.{Take, Give, Both}
-use Rattle.ada_tree.specs.PlainExpr.{PExpr, EInteger, EName, EIndex, EAttribute, EAttributeOf, EParen, EUnary, EBinary, PBounds, PSubind, PDrange, RGiven, RMarked}
-use Rattle.ada_tree.specs.PlainStmt.{PTarget, PCallee, PArgs, PCall, PFormal, PPart, PWords, PValue, PChoice, LWhile, LFor, PHead, PStmt, SNull, SAssign, SRaise, SAbort, SCall, SAccept, SPut, SPutLine, SGet, SIf, SCase, SBlock, SLoop, PStmts, no_stmt, stmt_then, absent, present, accepting, arm, no_arm, arm_then, case_arm, PCaseArms, no_case_arm, case_arm_then, PBody, body, handler, no_handler, handler_then, row_of}
-use Rattle.ada_tree.specs.PlainDecl.{OPlain, ORow, PInit, IOne, IList, IOthers, PEntry, PDecl, DNumber, DObject, DEnumeration, DArray, DSubtype, DException, DIntIo, DPragma, DTask, DTaskBody, decls_of}
+use Rattle.ada_tree.specs.declared.statements.ParMode.TheVariants.{Take, Give}
+use Rattle.ada_tree.specs.PlainExpr.{PExpr, EInteger, EName, EAttributeOf, EUnary, EBinary, PSubind, PDrange, RGiven, RMarked}
+use Rattle.ada_tree.specs.PlainStmt.{PTarget, PArgs, PFormal, PValue, PStmt, SAssign, SRaise, SCall, SAccept, SPut, SPutLine, SIf, SCase, no_stmt, absent, present, accepting, arm, no_arm, arm_then, case_arm, no_case_arm, case_arm_then, body, no_handler, row_of}
+use Rattle.ada_tree.specs.PlainDecl.{OPlain, ORow, PInit, IOne, IList, PEntry, PDecl, DObject, DEnumeration, DArray, DSubtype, DTask, DTaskBody, decls_of}
 use Rattle.ada_tree.specs.PlainProgram.{PProgram}
-use Rattle.ada_tree.specs.TypeTable.{TypeTable}
 use Rattle.ada_tree.specs.declared.static_types.Kind.TheVariants.{Integer, Truth, Enumeration, Array}
-use Rattle.ada_tree.specs.StaticValue.{is_static, value_of}
+use Rattle.ada_tree.specs.StaticValue.{value_of}
 use Rattle.ada_tree.specs.Declaring.{predefined_types}
 use Rattle.ada_tree.specs.Refusals.{refusals, types_in}
 
@@ -74,8 +73,8 @@ told p = map (λ r. (r.rule, r.span.start)) (refusals p)
 abbrev with_stmts : List PStmt → PProgram
 with_stmts ss = program
     (task 26 (entry 27 None [] ∷ entry 28 (Some (dots (lit 1 900) (lit 3 900))) [] ∷ entry 31 None (formal 29 Take 0 900 ∷ formal 32 Give 0 900 ∷ []) ∷ [])
-      ∷ task_body 26 (object 29 900 (plain 0 900) None ∷ []) ss
-      ∷ [])
+    ∷ task_body 26 (object 29 900 (plain 0 900) None ∷ []) ss
+    ∷ [])
     []
 
 abbrev target : ℕ → ℕ → PTarget
@@ -190,16 +189,16 @@ table : types_in (program (DSubtype (w 26 1) (ranged 0 2 (lit 1 3) (lit 3 4)) (a
     ≡ record {
       kinds = Integer ∷ Truth ∷ Enumeration (record { 0 = 28 } ∷ record { 0 = 29 } ∷ []) ∷ Array 2 (pos 0) (pos 1) 7 ∷ [];
       marks =
-        record { name = Some record { 0 = 0 }; kind = 0; first = negsuc 2147483647; last = pos 2147483647 }
-        ∷ record { name = Some record { 0 = 1 }; kind = 0; first = pos 0; last = pos 2147483647 }
-        ∷ record { name = Some record { 0 = 2 }; kind = 0; first = pos 1; last = pos 2147483647 }
-        ∷ record { name = Some record { 0 = 3 }; kind = 1; first = pos 0; last = pos 1 }
-        ∷ record { name = None; kind = 0; first = pos 1; last = pos 3 }
-        ∷ record { name = Some record { 0 = 26 }; kind = 0; first = pos 1; last = pos 3 }
-        ∷ record { name = Some record { 0 = 27 }; kind = 2; first = pos 0; last = pos 1 }
-        ∷ record { name = None; kind = 0; first = pos 1; last = pos 2 }
-        ∷ record { name = Some record { 0 = 30 }; kind = 3; first = pos 0; last = pos 1 }
-        ∷ [];
+          record { name = Some record { 0 = 0 }; kind = 0; first = negsuc 2147483647; last = pos 2147483647 }
+          ∷ record { name = Some record { 0 = 1 }; kind = 0; first = pos 0; last = pos 2147483647 }
+          ∷ record { name = Some record { 0 = 2 }; kind = 0; first = pos 1; last = pos 2147483647 }
+          ∷ record { name = Some record { 0 = 3 }; kind = 1; first = pos 0; last = pos 1 }
+          ∷ record { name = None; kind = 0; first = pos 1; last = pos 3 }
+          ∷ record { name = Some record { 0 = 26 }; kind = 0; first = pos 1; last = pos 3 }
+          ∷ record { name = Some record { 0 = 27 }; kind = 2; first = pos 0; last = pos 1 }
+          ∷ record { name = None; kind = 0; first = pos 1; last = pos 2 }
+          ∷ record { name = Some record { 0 = 30 }; kind = 3; first = pos 0; last = pos 1 }
+          ∷ [];
       constants = record { name = record { 0 = 31 }; mark = 5; value = pos 2 } ∷ [];
     }
 table = refl

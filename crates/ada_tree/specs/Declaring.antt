@@ -1,5 +1,5 @@
--- What can be used behind a declaration, and what it adds to the types, marks and constants of the program (3.1; this project's rule). Kinds and marks are numbered in the order in which they end in the text: each enumeration and each array adds a kind and a mark, each subtype a mark, and each subtype indication with a range of its own a mark without a name, where it stands in a declaration.
-use Rattle.std.specs.Prelude.{ℕ, ℤ, pos, negsuc, ◌+ℤ◌, ◌-ℤ◌, Bool, true, false, ◌&&◌, ◌==◌, if◌then◌else◌, List, [], ◌∷◌, ◌++◌, length, map, flat_map, position, Option, Some, None, option_map, is_some, unwrap_or}
+-- What can be used behind a declaration, and what it adds to the types, marks and constants of the program (3.1; this project's rule). Inside its own declaration a name means what it meant before it. Kinds and marks are numbered in the order in which they end in the text: each enumeration and each array adds a kind and a mark, each subtype a mark, and each subtype indication with a range of its own a mark without a name, where it stands in a declaration.
+use Rattle.std.specs.Prelude.{ℕ, ℤ, pos, negsuc, ◌-ℤ◌, Bool, true, false, ◌==◌, if◌then◌else◌, List, [], ◌∷◌, ◌++◌, length, map, flat_map, position, Option, Some, None, option_map, unwrap_or}
 use Rattle.ada_tree.specs.declared.naming.NameId.{NameId}
 use Rattle.ada_tree.specs.declared.naming.Word.{Word}
 use Rattle.ada_tree.specs.declared.statements.ParMode.{ParMode}
@@ -8,10 +8,10 @@ use Rattle.ada_tree.specs.declared.static_types.Kind.TheVariants.{Integer, Truth
 use Rattle.ada_tree.specs.declared.static_types.Mark.{Mark}
 use Rattle.ada_tree.specs.declared.static_types.Constant.{Constant}
 use Rattle.ada_tree.specs.TypeTable.{TypeTable}
-use Rattle.ada_tree.specs.PlainExpr.{PExpr, PBounds, PSubind, PDrange, RGiven, RMarked}
-use Rattle.ada_tree.specs.PlainStmt.{PFormal, PHead}
-use Rattle.ada_tree.specs.PlainDecl.{PShape, OPlain, ORow, PInit, IOne, IList, IOthers, PEntry, PTask, PDecl, DNumber, DObject, DEnumeration, DArray, DSubtype, DException, DIntIo, DPragma, DTask, DTaskBody, PDecls, no_decl, decl_then}
-use Rattle.ada_tree.specs.Scope.{Scope, Seen, Thing, TypeMark, TaskType, SingleTask, TaskObject, TaskRow, Variable, ConstantObject, Parameter, LoopParameter, Literal, AnException, MainProcedure, AnotherUnit, Unclear, Range, Family, single, family, unclear, EntryPart, FormalPart, integer_kind, truth_kind, Marking, ScalarMark, ArrayMark, TaskMark, NoMark, UnknownMark, UnclearMark, marking, scalar_kind, range_of_mark, mark_at, meaning, entries_of, and_then}
+use Rattle.ada_tree.specs.PlainExpr.{PBounds, PSubind, PDrange, RGiven, RMarked}
+use Rattle.ada_tree.specs.PlainStmt.{PFormal}
+use Rattle.ada_tree.specs.PlainDecl.{PShape, OPlain, ORow, PInit, IOne, PEntry, PTask, PDecl, DNumber, DObject, DEnumeration, DArray, DSubtype, DException, DIntIo, DPragma, DTask, DTaskBody, PDecls, no_decl, decl_then}
+use Rattle.ada_tree.specs.Scope.{Scope, Seen, Thing, TypeMark, TaskType, SingleTask, TaskObject, TaskRow, Variable, ConstantObject, Parameter, LoopParameter, Literal, AnException, MainProcedure, AnotherUnit, Unclear, Range, Family, single, family, unclear, EntryPart, FormalPart, integer_kind, truth_kind, Marking, ScalarMark, ArrayMark, TaskMark, marking, scalar_kind, range_of_mark, mark_at, meaning, entries_of, and_then}
 use Rattle.ada_tree.specs.ExprTypes.{kind_of, static_in, static_range}
 
 -- ---- before all declarations
@@ -25,11 +25,11 @@ abbrev pub predefined_types : TypeTable
 predefined_types = record {
   kinds = Integer ∷ Truth ∷ [];
   marks =
-    first_mark 0 0 (negsuc 2147483647) (pos 2147483647)
-    ∷ first_mark 1 0 (pos 0) (pos 2147483647)
-    ∷ first_mark 2 0 (pos 1) (pos 2147483647)
-    ∷ first_mark 3 1 (pos 0) (pos 1)
-    ∷ [];
+      first_mark 0 0 (negsuc 2147483647) (pos 2147483647)
+      ∷ first_mark 1 0 (pos 0) (pos 2147483647)
+      ∷ first_mark 2 0 (pos 1) (pos 2147483647)
+      ∷ first_mark 3 1 (pos 0) (pos 1)
+      ∷ [];
   constants = [];
 }
 
@@ -210,8 +210,8 @@ abbrev pub after_enumeration : Scope → Word → List Word → Scope
 after_enumeration scope name literals =
     with_names (Literal (length scope.types.kinds))
     (with_name (TypeMark (length scope.types.marks))
-      (with_types (made (add_kind scope.types (Enumeration (map (λ w. w.name) literals))) record { name = Some name.name; kind = length scope.types.kinds; first = pos 0; last = pos (length literals) -ℤ pos 1 }).types scope)
-      name)
+    (with_types (made (add_kind scope.types (Enumeration (map (λ w. w.name) literals))) record { name = Some name.name; kind = length scope.types.kinds; first = pos 0; last = pos (length literals) -ℤ pos 1 }).types scope)
+    name)
     literals
 
 -- a type or subtype, or a name whose declaration is refused

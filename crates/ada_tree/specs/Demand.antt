@@ -4,7 +4,7 @@ use Rattle.ada_tree.specs.declared.naming.Span.{Span}
 use Rattle.ada_tree.specs.declared.naming.Word.{Word}
 use Rattle.ada_tree.specs.declared.statements.ParMode.{ParMode}
 use Rattle.ada_tree.specs.PlainExpr.{PExpr}
-use Rattle.ada_tree.specs.PlainStmt.{PTarget, PCallee, PCall, PChoice, PHead, PPart}
+use Rattle.ada_tree.specs.PlainStmt.{PTarget, PCallee, PCall, PChoice, PHead}
 use Rattle.ada_tree.specs.PlainDecl.{PInit}
 use Rattle.ada_tree.specs.Scope.{Scope, Range}
 

@@ -7,9 +7,9 @@ use Rattle.ada_tree.specs.declared.expressions.BinaryOp.{BinaryOp}
 use Rattle.ada_tree.specs.declared.expressions.BinaryOp.TheVariants.{And, Or, Xor, AndThen, OrElse, Equal, NotEqual, Less, LessEqual, Greater, GreaterEqual, Plus, Minus, Times, Divide, Mod, Rem}
 use Rattle.ada_tree.specs.TypeTable.{TypeTable}
 use Rattle.ada_tree.specs.PlainExpr.{PExpr, EInteger, EName, EIndex, EAttribute, EAttributeOf, EParen, EUnary, EBinary, PBounds}
-use Rattle.ada_tree.specs.Attributes.{Attribute, First, Last, Pos, Val, Succ, Pred, Image, NoAttribute, attribute_of}
+use Rattle.ada_tree.specs.Attributes.{Attribute, First, Last, Pos, Val, Succ, Pred, attribute_of}
 use Rattle.ada_tree.specs.StaticValue.{is_static, value_of}
-use Rattle.ada_tree.specs.Scope.{Scope, integer_kind, truth_kind, Range, Reading, AsScalar, AsArray, AsNoValue, AsUnknown, AsUnclear, reading, Marking, marking, scalar_kind, kind_of_mark, and_then}
+use Rattle.ada_tree.specs.Scope.{Scope, integer_kind, truth_kind, Range, Reading, AsScalar, AsArray, reading, marking, scalar_kind, kind_of_mark, and_then}
 
 -- the place of an expression
 abbrev pub place_of : PExpr → Span

@@ -1,14 +1,13 @@
 -- Rule ArgCount: a call has another number of actuals than its entry has formals; an index is missing or too much, behind an entry, a task, a scalar or an attribute; or the formals of an accept differ from those of its entry in names, modes or marks (6.4, 9.5, 3.5.5).
-use Rattle.std.specs.Prelude.{ℕ, Bool, true, false, not, ◌||◌, ◌&&◌, ◌==◌, if◌then◌else◌, List, [], ◌∷◌, ◌++◌, length, map, flat_map, Option, Some, None, is_some, is_none}
+use Rattle.std.specs.Prelude.{ℕ, Bool, true, false, not, ◌&&◌, ◌==◌, if◌then◌else◌, List, [], ◌∷◌, length, map, flat_map, Option, Some, None, is_some, is_none}
 use Rattle.ada_tree.specs.declared.naming.Span.{Span}
-use Rattle.ada_tree.specs.declared.naming.Word.{Word}
 use Rattle.ada_tree.specs.declared.naming.NameId.{NameId}
 use Rattle.ada_tree.specs.declared.statements.ParMode.{ParMode}
 use Rattle.ada_tree.specs.declared.statements.ParMode.TheVariants.{Take, Give, Both}
 use Rattle.ada_tree.specs.PlainExpr.{PExpr, EIndex, EAttribute, EAttributeOf}
 use Rattle.ada_tree.specs.PlainStmt.{PArgs, PFormal, PHead, PTarget}
-use Rattle.ada_tree.specs.Attributes.{Attribute, attribute_of, is_bound, is_function}
-use Rattle.ada_tree.specs.Scope.{Scope, Thing, SingleTask, TaskObject, TaskRow, Family, single, family, unclear, EntryPart, FormalPart, Reading, AsScalar, reading, meaning, entry_named, entries_of}
+use Rattle.ada_tree.specs.Attributes.{attribute_of, is_bound, is_function}
+use Rattle.ada_tree.specs.Scope.{Scope, Thing, SingleTask, TaskObject, TaskRow, Family, single, family, unclear, EntryPart, FormalPart, Reading, AsScalar, reading, meaning, entry_named}
 use Rattle.ada_tree.specs.Demand.{Demand, node, writes, addresses, calls, accepts}
 
 -- an index behind a scalar

@@ -1,11 +1,11 @@
 -- Rule ArrayUse: a whole array is named outside its declaration, an array's initial value is no list of all components and no value for all, or a scalar's is one of these (3.6, 4.3; this project's rule).
-use Rattle.std.specs.Prelude.{ℕ, pos, ◌+ℤ◌, ◌-ℤ◌, Bool, true, false, not, if◌then◌else◌, List, [], ◌∷◌, length, Option, Some, None}
+use Rattle.std.specs.Prelude.{pos, ◌+ℤ◌, ◌-ℤ◌, if◌then◌else◌, List, [], ◌∷◌, length, Option, Some, None}
 use Rattle.std.specs.Ordering.{int_eq}
 use Rattle.ada_tree.specs.declared.naming.Span.{Span}
 use Rattle.ada_tree.specs.PlainExpr.{PExpr, EName}
 use Rattle.ada_tree.specs.PlainStmt.{PTarget}
 use Rattle.ada_tree.specs.PlainDecl.{PInit, IOne, IList, IOthers}
-use Rattle.ada_tree.specs.Scope.{Scope, Range, Reading, AsArray, reading}
+use Rattle.ada_tree.specs.Scope.{Scope, Reading, AsArray, reading}
 use Rattle.ada_tree.specs.ExprTypes.{place_of}
 use Rattle.ada_tree.specs.Demand.{Initialized, for_scalar, for_array, Demand, node, writes, is_actual, initializes}
 

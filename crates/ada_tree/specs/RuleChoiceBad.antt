@@ -1,10 +1,9 @@
 -- Rule ChoiceBad: two choices of a case overlap, a case over INTEGER has no others, or another case leaves out a value and has no others (5.4). The values are those of the selector's subtype where it names an object, else all of its type. A left-out value is looked for only where no choice of the case is refused.
-use Rattle.std.specs.Prelude.{ℕ, zero, suc, ℤ, pos, negsuc, ◌+ℤ◌, ◌-ℤ◌, int_lt, int_le, Bool, true, false, not, ◌||◌, ◌&&◌, ◌==◌, if◌then◌else◌, List, [], ◌∷◌, ◌++◌, length, map, flat_map, Option, Some, None, is_some, is_none, option_map}
+use Rattle.std.specs.Prelude.{ℕ, zero, suc, ℤ, pos, negsuc, ◌+ℤ◌, ◌-ℤ◌, int_le, Bool, true, false, not, ◌&&◌, ◌==◌, if◌then◌else◌, List, [], ◌∷◌, ◌++◌, length, Option, Some, None}
 use Rattle.std.specs.List.{list_any, list_all}
 use Rattle.ada_tree.specs.declared.naming.Span.{Span}
 use Rattle.ada_tree.specs.declared.static_types.Kind.{Kind}
 use Rattle.ada_tree.specs.declared.static_types.Kind.TheVariants.{Integer, Truth, Enumeration, Array}
-use Rattle.ada_tree.specs.TypeTable.{TypeTable}
 use Rattle.ada_tree.specs.PlainExpr.{PExpr, EName, EIndex}
 use Rattle.ada_tree.specs.PlainStmt.{PChoice}
 use Rattle.ada_tree.specs.Scope.{Scope, integer_kind, Range, Thing, Variable, ConstantObject, Parameter, LoopParameter, Reading, AsArray, reading, meaning, kind_at, range_of_mark, and_then}

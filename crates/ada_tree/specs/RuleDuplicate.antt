@@ -1,5 +1,5 @@
 -- Rule Duplicate: a name is declared again where it may not be, a task gets a second body, a second instance of INTEGER_IO is made, or an exception is named a second time in the handlers of one body or block (8.3, 9.1, 11.2; this project's rule). A variable of main may be hidden by a name of an inner scope, and so may the names of inner scopes. Every other name of main, and every predefined name, is declared nowhere else.
-use Rattle.std.specs.Prelude.{ℕ, Bool, true, false, ◌||◌, ◌&&◌, ◌==◌, nat_lt, if◌then◌else◌, List, [], ◌∷◌}
+use Rattle.std.specs.Prelude.{ℕ, Bool, false, ◌||◌, ◌&&◌, ◌==◌, nat_lt, if◌then◌else◌, List, [], ◌∷◌}
 use Rattle.std.specs.List.{list_any}
 use Rattle.ada_tree.specs.declared.naming.Span.{Span}
 use Rattle.ada_tree.specs.declared.naming.Word.{Word}

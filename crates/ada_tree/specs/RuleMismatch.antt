@@ -1,8 +1,7 @@
 -- Rule Mismatch: the types of operands, targets, actuals, conditions, indices or bounds do not fit; a name of another class stands for a value, a mark or a task; or a task type stands as a mark elsewhere than in an object of main, or there with `constant`, a range or an initial value (4.5, 5.2, 6.4.1, 9.5; this project's rule).
-use Rattle.std.specs.Prelude.{ℕ, Bool, true, false, not, ◌||◌, ◌&&◌, if◌then◌else◌, List, [], ◌∷◌, ◌++◌, Option, Some, None}
+use Rattle.std.specs.Prelude.{ℕ, Bool, true, false, not, ◌||◌, if◌then◌else◌, List, [], ◌∷◌, ◌++◌, Option, Some, None}
 use Rattle.ada_tree.specs.declared.naming.Span.{Span}
 use Rattle.ada_tree.specs.declared.naming.Word.{Word}
-use Rattle.ada_tree.specs.TypeTable.{TypeTable}
 use Rattle.ada_tree.specs.PlainExpr.{PExpr, EInteger, EName, EIndex, EAttribute, EAttributeOf, EParen, EUnary, EBinary}
 use Rattle.ada_tree.specs.PlainStmt.{PTarget}
 use Rattle.ada_tree.specs.Attributes.{Attribute, attribute_of, is_function}

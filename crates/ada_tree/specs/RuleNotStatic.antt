@@ -1,5 +1,5 @@
 -- Rule NotStatic: an initial value, a named number, a bound of a declared range, a case choice or a priority is not static (4.9; this project's rule). It is asked of expressions that have a kind.
-use Rattle.std.specs.Prelude.{Bool, not, ◌&&◌, if◌then◌else◌, List, [], ◌∷◌, is_some}
+use Rattle.std.specs.Prelude.{not, ◌&&◌, if◌then◌else◌, List, [], ◌∷◌, is_some}
 use Rattle.ada_tree.specs.declared.naming.Span.{Span}
 use Rattle.ada_tree.specs.StaticValue.{is_static}
 use Rattle.ada_tree.specs.Scope.{Scope}

@@ -1,8 +1,8 @@
 -- Rule NotVariable: what an assignment or GET writes, or an actual of mode out or in out, is no variable: it is a constant, a formal of mode in, a loop parameter, another thing or no name at all; or such an actual is a component (5.2, 6.4.1, 14.3; this project's rule). A whole array is for another rule.
-use Rattle.std.specs.Prelude.{Bool, true, false, List, [], ◌∷◌, if◌then◌else◌, Option, Some, None}
+use Rattle.std.specs.Prelude.{Bool, true, false, List, [], ◌∷◌, Option, Some, None}
 use Rattle.ada_tree.specs.declared.naming.Span.{Span}
 use Rattle.ada_tree.specs.declared.statements.ParMode.TheVariants.{Take, Give, Both}
-use Rattle.ada_tree.specs.PlainExpr.{PExpr, EInteger, EName, EIndex, EAttribute, EAttributeOf, EParen, EUnary, EBinary}
+use Rattle.ada_tree.specs.PlainExpr.{PExpr, EName, EIndex}
 use Rattle.ada_tree.specs.Scope.{Scope, Thing, Variable, Parameter, Unclear, Reading, AsArray, reading, meaning}
 use Rattle.ada_tree.specs.ExprTypes.{place_of}
 use Rattle.ada_tree.specs.Demand.{Demand, writes, is_actual}

@@ -1,10 +1,9 @@
 -- Rule RangeBad: a range with two static bounds is empty; a static initial value, accept index or case choice is outside its subtype, or a static index outside its array of tasks; or an operation of a static expression raises (3.5, 4.9; this project's rule).
-use Rattle.std.specs.Prelude.{ℕ, ℤ, int_lt, int_le, Bool, true, false, not, ◌||◌, ◌&&◌, if◌then◌else◌, List, [], ◌∷◌, ◌++◌, Option, Some, None, is_some, Result, Ok, Err}
+use Rattle.std.specs.Prelude.{ℕ, ℤ, int_lt, Bool, false, ◌||◌, ◌&&◌, if◌then◌else◌, List, [], ◌∷◌, ◌++◌, Option, Some, None, is_some, Result, Ok, Err}
 use Rattle.ada_tree.specs.declared.naming.Span.{Span}
-use Rattle.ada_tree.specs.TypeTable.{TypeTable}
 use Rattle.ada_tree.specs.PlainExpr.{PExpr, EInteger, EName, EIndex, EAttribute, EAttributeOf, EParen, EUnary, EBinary}
 use Rattle.ada_tree.specs.StaticValue.{is_static, value_of}
-use Rattle.ada_tree.specs.Scope.{Scope, Range, Thing, TaskRow, meaning, and_then}
+use Rattle.ada_tree.specs.Scope.{Scope, Range, Thing, TaskRow, meaning}
 use Rattle.ada_tree.specs.ExprTypes.{place_of, kind_of, static_in}
 use Rattle.ada_tree.specs.Demand.{Demand, whole, must_not_be_empty, must_lie_in, addresses}
 
@@ -17,7 +16,7 @@ abbrev pub raised : Result ℤ Span → List Span
 raised (Ok z) = []
 raised (Err s) = s ∷ []
 
--- the operations that raise in the largest static expressions of one
+-- the operations that raise in the largest static expressions of one; of an expression that is refused these are looked for in its parts
 abbrev pub raises : Scope → PExpr → List Span
 raises scope (EInteger n s) = []
 raises scope (EName id s) = []

@@ -1,7 +1,7 @@
 -- Rule ReadOut: a formal of mode out is read, or passed as in or in out (6.2).
-use Rattle.std.specs.Prelude.{List, [], ◌∷◌, Option, Some, None}
+use Rattle.std.specs.Prelude.{List, [], ◌∷◌, Option, Some}
 use Rattle.ada_tree.specs.declared.naming.Span.{Span}
-use Rattle.ada_tree.specs.declared.statements.ParMode.TheVariants.{Take, Give, Both}
+use Rattle.ada_tree.specs.declared.statements.ParMode.TheVariants.{Give, Both}
 use Rattle.ada_tree.specs.PlainExpr.{PExpr, EName}
 use Rattle.ada_tree.specs.Scope.{Scope, Thing, Parameter, meaning}
 use Rattle.ada_tree.specs.Demand.{Demand, node, is_actual}

@@ -1,7 +1,7 @@
 -- Rule TextUse: 'IMAGE stands elsewhere than as a part of what PUT or PUT_LINE writes; of several parts one is neither a string nor 'IMAGE; or PUT_LINE writes a plain expression (14.3; this project's rule).
 use Rattle.std.specs.Prelude.{Bool, true, false, ◌||◌, not, if◌then◌else◌, List, [], ◌∷◌}
 use Rattle.ada_tree.specs.declared.naming.Span.{Span}
-use Rattle.ada_tree.specs.PlainExpr.{PExpr, EInteger, EName, EIndex, EAttribute, EAttributeOf, EParen, EUnary, EBinary}
+use Rattle.ada_tree.specs.PlainExpr.{PExpr, EAttribute, EAttributeOf, EParen}
 use Rattle.ada_tree.specs.Attributes.{attribute_of, is_image}
 use Rattle.ada_tree.specs.Scope.{Scope}
 use Rattle.ada_tree.specs.ExprTypes.{place_of}

@@ -1,9 +1,9 @@
 -- Rule Unknown: a name is used that is not declared before it, an entry is named that the task has not, a word behind a tick is no attribute, or a body is that of no task that is declared before (8.2, 8.3).
-use Rattle.std.specs.Prelude.{Bool, true, false, ◌||◌, if◌then◌else◌, List, [], ◌∷◌, ◌++◌, Option, Some, None, is_some}
+use Rattle.std.specs.Prelude.{◌||◌, if◌then◌else◌, List, [], ◌∷◌, ◌++◌, Option, Some, None, is_some}
 use Rattle.ada_tree.specs.declared.naming.NameId.{NameId}
 use Rattle.ada_tree.specs.declared.naming.Span.{Span}
 use Rattle.ada_tree.specs.declared.naming.Word.{Word}
-use Rattle.ada_tree.specs.PlainExpr.{PExpr, EInteger, EName, EIndex, EAttribute, EAttributeOf, EParen, EUnary, EBinary}
+use Rattle.ada_tree.specs.PlainExpr.{PExpr, EName, EIndex, EAttribute, EAttributeOf}
 use Rattle.ada_tree.specs.Attributes.{Attribute, NoAttribute, attribute_of}
 use Rattle.ada_tree.specs.Scope.{Scope, Thing, SingleTask, TaskObject, TaskType, TaskRow, EntryPart, meaning, entry_named, is_entry_somewhere}
 use Rattle.ada_tree.specs.Demand.{Demand, gives_body, stands_as_mark, node, writes, is_actual, addresses, calls, accepts, names_exception}

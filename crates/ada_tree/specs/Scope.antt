@@ -1,11 +1,10 @@
 -- What the names of a program mean, and which of them can be used at a place (8.2, 8.3; this project's rule). The scopes are the predefined names, the declarations of main, the objects of a task body, the formal parameters of an accept, and the parameter of a for loop.
-use Rattle.std.specs.Prelude.{ℕ, ℤ, Bool, true, false, ◌&&◌, ◌==◌, if◌then◌else◌, List, [], ◌∷◌, slice_get, find, map, Option, Some, None, option_map, is_some}
+use Rattle.std.specs.Prelude.{ℕ, ℤ, Bool, ◌==◌, List, [], slice_get, find, Option, Some, None, option_map, is_some}
 use Rattle.std.specs.List.{list_any}
 use Rattle.ada_tree.specs.declared.naming.NameId.{NameId}
-use Rattle.ada_tree.specs.declared.naming.Word.{Word}
 use Rattle.ada_tree.specs.declared.statements.ParMode.{ParMode}
 use Rattle.ada_tree.specs.declared.static_types.Kind.{Kind}
-use Rattle.ada_tree.specs.declared.static_types.Kind.TheVariants.{Integer, Truth, Enumeration, Array}
+use Rattle.ada_tree.specs.declared.static_types.Kind.TheVariants.{Array}
 use Rattle.ada_tree.specs.declared.static_types.Mark.{Mark}
 use Rattle.ada_tree.specs.TypeTable.{TypeTable}
 

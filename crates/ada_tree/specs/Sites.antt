@@ -1,21 +1,21 @@
 -- The places of a program at which the static rules ask something, each with what is asked there and the names that can be used there, in the order of the text (this project's rule).
-use Rattle.std.specs.Prelude.{ℕ, Bool, true, false, not, ◌||◌, ◌&&◌, ◌==◌, if◌then◌else◌, List, [], ◌∷◌, ◌++◌, length, map, flat_map, Option, Some, None, is_some, is_none, option_map}
+use Rattle.std.specs.Prelude.{ℕ, Bool, true, false, not, ◌||◌, ◌&&◌, ◌==◌, if◌then◌else◌, List, [], ◌∷◌, ◌++◌, length, map, flat_map, Option, Some, None, is_none, option_map}
 use Rattle.ada_tree.specs.declared.naming.Word.{Word}
 use Rattle.ada_tree.specs.declared.statements.ParMode.{ParMode}
 use Rattle.ada_tree.specs.declared.statements.ParMode.TheVariants.{Take, Give, Both}
-use Rattle.ada_tree.specs.PlainExpr.{PExpr, EInteger, EName, EIndex, EAttribute, EAttributeOf, EParen, EUnary, EBinary, PBounds, PSubind, PDrange, RGiven, RMarked}
-use Rattle.ada_tree.specs.PlainStmt.{PTarget, PCallee, PArgs, PCall, PFormal, PPart, PWords, PValue, PChoice, PScheme, LWhile, LFor, PHead, PStmt, SNull, SAssign, SDelay, SExit, SRaise, SAbort, SCall, SAccept, SWait, SConditional, STimed, SPut, SPutLine, SNewLine, SGet, SIf, SCase, SBlock, SLoop, PStmts, no_stmt, stmt_then, PMaybe, absent, present, PAccept, accepting, PAlt, alternative, PAltKind, AAccept, ADelay, ATerminate, PAlts, no_alt, alt_then, PArm, arm, PArms, no_arm, arm_then, PCaseArm, case_arm, PCaseArms, no_case_arm, case_arm_then, PBody, body, PHandler, handler, PHandlers, no_handler, handler_then}
-use Rattle.ada_tree.specs.PlainDecl.{PShape, OPlain, ORow, PInit, IOne, IList, IOthers, PPriority, PEntry, PTask, PDecl, DNumber, DObject, DEnumeration, DArray, DSubtype, DException, DIntIo, DPragma, DTask, DTaskBody, PDecls, no_decl, decl_then}
+use Rattle.ada_tree.specs.PlainExpr.{PExpr, EName, PBounds, PSubind, PDrange, RGiven, RMarked}
+use Rattle.ada_tree.specs.PlainStmt.{PTarget, PCallee, PArgs, PCall, PFormal, PPart, PWords, PValue, PChoice, PScheme, LWhile, LFor, PHead, PStmt, SNull, SAssign, SDelay, SExit, SRaise, SAbort, SCall, SAccept, SWait, SConditional, STimed, SPut, SPutLine, SNewLine, SGet, SIf, SCase, SBlock, SLoop, PStmts, no_stmt, stmt_then, PMaybe, absent, present, PAccept, accepting, alternative, PAltKind, AAccept, ADelay, ATerminate, PAlts, no_alt, alt_then, arm, PArms, no_arm, arm_then, case_arm, PCaseArms, no_case_arm, case_arm_then, PBody, body, handler, PHandlers, no_handler, handler_then}
+use Rattle.ada_tree.specs.PlainDecl.{PShape, OPlain, ORow, PInit, IOne, IList, IOthers, PEntry, PTask, PDecl, DNumber, DObject, DEnumeration, DArray, DSubtype, DException, DIntIo, DPragma, DTask, DTaskBody, PDecls, no_decl, decl_then}
 use Rattle.ada_tree.specs.PlainProgram.{PProgram}
 use Rattle.ada_tree.specs.TypeTable.{TypeTable}
-use Rattle.ada_tree.specs.Scope.{Scope, integer_kind, truth_kind, Range, Thing, Variable, ConstantObject, TaskObject, TaskRow, Family, single, family, unclear, EntryPart, FormalPart, Marking, ScalarMark, ArrayMark, TaskMark, UnclearMark, marking, marking_of_mark, mark_at, scalar_kind, range_of_mark, meaning, entry_named}
+use Rattle.ada_tree.specs.Scope.{Scope, integer_kind, truth_kind, Range, Thing, Variable, ConstantObject, TaskObject, TaskRow, Family, single, family, unclear, EntryPart, FormalPart, Marking, ScalarMark, ArrayMark, UnclearMark, marking, marking_of_mark, mark_at, scalar_kind, range_of_mark, meaning, entry_named}
 use Rattle.ada_tree.specs.ExprTypes.{nodes, kind_of}
-use Rattle.ada_tree.specs.Demand.{MarkUse, scalar_only, or_array, or_task, or_array_or_task, Initialized, for_scalar, for_array, Demand, declares, declares_entry, labels, gives_body, makes_instance, stands_as_mark, whole, node, must_be_of, must_be_alike, must_be_static, must_not_be_empty, must_lie_in, writes, gets, is_actual, addresses, calls, accepts, names_exception, handles, chooses, initializes, is_written, Site}
-use Rattle.ada_tree.specs.Declaring.{before_all, first_scope, with_name, with_formals, with_loop_parameter, inside, in_body, after_decl, after_own_object, after_decls, after_objects, drange_range, drange_kind, declared_object, Declared}
+use Rattle.ada_tree.specs.Demand.{MarkUse, scalar_only, or_array, or_task, or_array_or_task, for_scalar, for_array, Demand, declares, declares_entry, labels, gives_body, makes_instance, stands_as_mark, whole, node, must_be_of, must_be_alike, must_be_static, must_not_be_empty, must_lie_in, writes, gets, is_actual, addresses, calls, accepts, names_exception, handles, chooses, initializes, is_written, Site}
+use Rattle.ada_tree.specs.Declaring.{before_all, first_scope, with_formals, with_loop_parameter, inside, in_body, after_decl, after_own_object, after_decls, after_objects, declared_object, Declared}
 use Rattle.ada_tree.specs.RuleTextUse.{is_image_of}
 use Rattle.ada_tree.specs.RuleMismatch.{target_kind}
 use Rattle.ada_tree.specs.RuleArgCount.{called_entry}
-use Rattle.ada_tree.specs.RuleChoiceBad.{selected_range, last_of}
+use Rattle.ada_tree.specs.RuleChoiceBad.{selected_range}
 
 abbrev pub site : Scope → Demand → Site
 site scope demand = record { scope = scope; demand = demand }

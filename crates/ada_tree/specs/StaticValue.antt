@@ -13,7 +13,7 @@ use Rattle.ada_tree.specs.declared.static_types.Mark.{Mark}
 use Rattle.ada_tree.specs.declared.static_types.Constant.{Constant}
 use Rattle.ada_tree.specs.TypeTable.{TypeTable}
 use Rattle.ada_tree.specs.PlainExpr.{PExpr, EInteger, EName, EIndex, EAttribute, EAttributeOf, EParen, EUnary, EBinary}
-use Rattle.ada_tree.specs.Attributes.{Attribute, First, Last, Pos, Val, Succ, Pred, Image, NoAttribute, attribute_of, is_bound, false_name, true_name}
+use Rattle.ada_tree.specs.Attributes.{Attribute, First, Last, Pos, Val, Succ, Pred, attribute_of, is_bound, false_name, true_name}
 
 -- ---- names
 
@@ -60,7 +60,7 @@ keeps_static Succ = true
 keeps_static Pred = true
 keeps_static _ = false
 
--- The expression is static.
+-- The expression is static. The names in it mean the same at every place of the program, since a name of main that is no variable is declared nowhere else; so the whole table may be asked at any place.
 abbrev pub is_static : TypeTable → PExpr → Bool
 is_static types (EInteger n s) = true
 is_static types (EName id s) = is_some (value_named types id)
