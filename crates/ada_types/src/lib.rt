@@ -5,6 +5,8 @@ mod errors;
 mod names;
 mod operations;
 mod static_values;
+#[cfg(test)]
+mod tests;
 
 pub use errors::TypeError;
 pub use static_values::static_value;

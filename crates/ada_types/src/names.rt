@@ -67,8 +67,8 @@ fn literal_place(types: &Types, id: NameId) -> Option<usize>
 pub(crate) fn value_of_name(types: &Types, id: NameId) -> Option<i64>
     ensures { result ≡ value_named types.now id }
 {
-    if id.0 == 4 || id.0 == 5 {
-        return Some(position_of(id.0 == 5));
+    if id == NameId::FALSE || id == NameId::TRUE {
+        return Some(position_of(id == NameId::TRUE));
     }
     if let Some(constant) = constant_of(types, id) {
         return Some(constant.value as i64);
