@@ -9,4 +9,5 @@ mod static_values;
 mod tests;
 
 pub use errors::TypeError;
+pub use operations::law_of_mod;
 pub use static_values::static_value;

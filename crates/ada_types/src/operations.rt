@@ -2,6 +2,7 @@
 
 ghost use Rattle.std.specs.Prelude.{◌≡◌, ◌+ℤ◌, ◌-ℤ◌, ◌*ℤ◌, neg_ℤ, pos, int_div, int_rem, int_lt, ◌≢◌, Ok, if◌then◌else◌};
 ghost use Rattle.ada_tree.specs.StaticValue.{fitted, truth, is_true, moved, modulus, unless_zero, applied, signed};
+ghost use Rattle.ada_types.specs.ModulusLaw.{ModulusLaw};
 
 use ada_tree::{BinaryOp, Span, UnaryOp};
 
@@ -94,6 +95,11 @@ fn modulo(left: i64, right: i64) -> i64
 {
     move_rest(remainder(left, right), right)
 }
+
+/// The law of `mod` (4.5.5), for every divisor but 0: it is 0 or has the sign of the right operand, it is smaller than that, signs apart, and it differs from the left operand by a multiple of the right one.
+pub fn law_of_mod()
+    ensures { ModulusLaw }
+{}
 
 fn negated(value: i64, span: Span) -> Result<i64, Span>
     ensures { result ≡ fitted span (neg_ℤ value) }
