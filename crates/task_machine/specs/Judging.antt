@@ -53,7 +53,7 @@ pub record IsHeldUp (p : PProgram) (numbers : Numbering) (bound : ℕ) (events :
   pub later : List ℕ
   pub order : needed_of numbers event ≡ earlier ++ task ∷ later
   pub none_open : NoneOpen p numbers bound before earlier
-  pub open : IsOpen p numbers before task bound
+  pub stays_open : IsOpen p numbers before task bound
 
 -- The verdict of a list of events, where a task may make so many local steps since the last event that changed it.
 abbrev pub VerdictIs : PProgram → Numbering → ℕ → List Event → Verdict → Type 0
