@@ -7,7 +7,7 @@ use Rattle.event_machine.specs.declared.Standing.TheVariants as standing
 use Rattle.event_machine.specs.Offers.{Offer}
 use Rattle.event_machine.specs.Seats.{Seat, is_completed, is_served, is_abnormal}
 use Rattle.event_machine.specs.Runs.{Feasible}
-use Rattle.event_machine.specs.Tallies.{RestIs, StandsAfter}
+use Rattle.event_machine.specs.Tallies.{RestIs, StandsAfter, before_end}
 use Rattle.syn_event.specs.Numbering.{Numbering}
 use Rattle.task_local.specs.Control.{Task}
 use Rattle.task_local.specs.Steps.{can_step, offer_of}
@@ -18,9 +18,10 @@ use Rattle.task_machine.specs.Opening.{opening_of}
 abbrev pub IsFeasible : PProgram → Numbering → List Event → Type 0
 IsFeasible p numbers events = Feasible (rules_of numbers) (opening_of p numbers).state events
 
--- In some run with these events t is free, has made n local steps since the last event that changed it, and is in this state.
+-- In some run with these events, the end of the program left out, t is free, has made n local steps since the last event that changed it, and is
+-- in this state.
 abbrev pub IsRest : PProgram → Numbering → List Event → ℕ → ℕ → Task → Type 0
-IsRest p numbers events t n task = RestIs (rules_of numbers) (opening_of p numbers).state events t n task
+IsRest p numbers events t n task = RestIs (rules_of numbers) (opening_of p numbers).state (before_end events) t n task
 
 -- In some run with these events t stands so, where one that waits or is queued is called live.
 abbrev pub Stands : PProgram → Numbering → List Event → ℕ → Standing → Type 0
