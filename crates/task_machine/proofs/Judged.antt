@@ -26,6 +26,7 @@ use Rattle.task_machine.specs.Views as views
 use Rattle.task_machine.specs.Views.{IsFeasible, IsRest, Stands, View, At, ViewIs, is_busy, view_in, view_of}
 use Rattle.task_machine.specs.Conditions.{is_closed_view, needed_of, all_hold}
 use Rattle.task_machine.specs.Judging.{AreViews}
+use Rattle.task_machine.specs.TaskLaws.{FeasibleByTable}
 use Rattle.task_machine.proofs.TaskLaws.{the_determinacy, the_second_law, the_rest, the_program, the_count, first_world}
 use Rattle.task_machine.proofs.Tabled.{sized, AreSeen, table_happens, needed_at, needed_all}
 
@@ -107,7 +108,7 @@ module _ (p : PProgram) (numbers : Numbering) where
       let same : v ≡ w = leads_once (the_program p numbers) (before_end events) (first_world p numbers) v w leads' leads in
       let settles : Settles task_ops n (w.tasks t).local = (steps, ap can_step (sym is) ∙ none) in
       let settles' : Settles task_ops m (w.tasks t).local =
-          subst (λ (u : World Task). Settles task_ops m (u.tasks t).local) same (steps', ap can_step (sym is') ∙ none') in
+      subst (λ (u : World Task). Settles task_ops m (u.tasks t).local) same (steps', ap can_step (sym is') ∙ none') in
       let count : n ≡ m = settles_once task_ops n m (w.tasks t).local settles settles' in
       is ∙ ap (λ k. ran task_ops k (w.tasks t).local) count ∙ ap (λ (u : World Task). ran task_ops m (u.tasks t).local) (sym same) ∙ sym is'
 
@@ -157,8 +158,8 @@ module _ (p : PProgram) (numbers : Numbering) where
   seats_alike events t seat other is is' =
       let same : seat.standing ≡ other.standing = stands_unique events t seat.standing other.standing is.standing is'.standing in
       view_apart seat.standing (offer_of seat.local) (offer_of other.local) (stands_still events t seat.standing is.standing)
-          (λ free. let (n, rest, none) = is.rests free in let (m, rest', none') = is'.rests (sym same ∙ free) in
-          ap offer_of (settled_unique events t n m seat.local other.local rest none rest' none'))
+      (λ free. let (n, rest, none) = is.rests free in let (m, rest', none') = is'.rests (sym same ∙ free) in
+      ap offer_of (settled_unique events t n m seat.local other.local rest none rest' none'))
       ∙ ap (λ z. view_in z (offer_of other.local)) same
 
   -- A task has one view.
@@ -260,6 +261,10 @@ module _ (p : PProgram) (numbers : Numbering) where
   feasible_views events e more feasible =
       let j = (the_second_law p numbers events e more).0 feasible in
       let seen : AreViews p numbers events e (λ t. view_of (j.views t)) =
-          views_kept events e j.views (λ t. stands_in events more t (j.views t).standing (j.standing t))
-          (needed_all numbers size count (λ t. IsSeat events t (j.views t)) e (λ t need. judged_seat events e more j t need)) in
+      views_kept events e j.views (λ t. stands_in events more t (j.views t).standing (j.standing t))
+      (needed_all numbers size count (λ t. IsSeat events t (j.views t)) e (λ t need. judged_seat events e more j t need)) in
       ((λ t. view_of (j.views t)), seen, (judged events e (λ t. view_of (j.views t)) more seen).0 feasible)
+
+  -- The second law by the table.
+  pub by_table : FeasibleByTable p numbers
+  by_table events e more = (feasible_views events e more, λ h. (judged events e h.0 more h.1).1 h.2)
