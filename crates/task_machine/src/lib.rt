@@ -5,8 +5,12 @@
 mod effects;
 mod listing;
 mod machine;
+mod program_laws;
 mod rows;
 mod seats;
+mod verdict;
 
 pub use event_machine::Action;
 pub use machine::{Machine, StepError};
+pub use program_laws::laws;
+pub use verdict::{Cause, Verdict, Why};
