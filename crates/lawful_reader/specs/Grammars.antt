@@ -66,3 +66,12 @@ Chain ops Operator First Operand (suc d) a text =
 -- some text begins so
 abbrev pub Begins : {K A : Type 0} → (A → List K → Type 0) → List K → Type 0
 Begins {K} {A} D front = (a : A) × (more : List K) × D a (front ++ more)
+
+-- what a list begins with, or the token behind it
+abbrev pub first_of : {K : Type 0} → K → List K → K
+first_of x [] = x
+first_of x (y ∷ list) = y
+
+-- Each text of the grammar begins with a token of Firsts, and so does what follows the empty text: a token of Stops.
+abbrev pub Starts : {K A : Type 0} → (A → List K → Type 0) → (Stops Firsts : K → Type 0) → Type 0
+Starts {K} {A} D Stops Firsts = (a : A) (text : List K) (x : K) → D a text → Stops x → Firsts (first_of x text)

@@ -1,5 +1,5 @@
 -- The laws that join a reader to its grammar (this project's rule).
-use Rattle.std.specs.Prelude.{◌≡◌, ℕ, ◌≤◌, Bool, true, false, ◌⊎◌, List, [], ◌∷◌, ◌++◌}
+use Rattle.std.specs.Prelude.{◌≡◌, ℕ, ◌≤◌, Bool, true, false, ◌⊎◌, List, [], ◌∷◌, ◌++◌, Option, Some, None}
 use Rattle.lawful_reader.specs.Readers.{Reader, Found, Fault}
 use Rattle.lawful_reader.specs.Grammars.{Texts, Begins}
 
@@ -27,3 +27,16 @@ pub record Careful {K A : Type 0} (d : ℕ) (p deeper : Reader K A) (D : Texts K
 pub record Lawful {K A : Type 0} (d : ℕ) (p deeper : Reader K A) (D : Texts K A) (Stops : K → Type 0) : Type 0 where
   pub careful : Careful d p deeper D Stops
   pub some_text : (e : ℕ) → d ≤ e → (a : A) × (front : List K) × D e a front
+
+-- The test takes exactly the tokens of one kind, with their content.
+pub record IsToken {K B : Type 0} (test : K → Option B) (spelled : B → K) : Type 0 where
+  pub takes : (b : B) → test (spelled b) ≡ Some b
+  pub only : (k : K) (b : B) → test k ≡ Some b → k ≡ spelled b
+
+-- It passes none of these.
+abbrev pub IsPassed : {K B : Type 0} → (K → Option B) → K → Type 0
+IsPassed test k = test k ≡ None
+
+-- each token
+abbrev pub Anything : {K : Type 0} → K → Type 0
+Anything k = Unit {0}
