@@ -49,7 +49,7 @@ law_pure {K} {A} d a S = record {
 
 module _ {K A B : Type 0} {d : ℕ} {p p' : Reader K A} {q q' : A → Reader K B} {D : Texts K A} {E : A → Texts K B} {R S : K → Type 0}
     (first : Lawful d p p' D R) (next : (a : A) → Lawful d (q a) (q' a) (E a) S)
-    (meets : (a : A) → Starts (E a d) S R) where
+    (meets : (a : A) → Starts d (E a) S R) where
 
   bind_sound : {ts : List K} {b : B} {rest : List K} → bind p q ts ≡ Found b rest → (front : List K) × (ts ≡ front ++ rest) × Then D E d b front
   bind_sound {ts} {b} {rest} e =
@@ -60,7 +60,7 @@ module _ {K A B : Type 0} {d : ℕ} {p p' : Reader K A} {q q' : A → Reader K B
 
   bind_complete : {b : B} {front : List K} (x : K) (rest : List K) → Then D E d b front → S x → bind p q (front ++ (x ∷ rest)) ≡ Found b (x ∷ rest)
   bind_complete {b} x rest (a, f, g, is, left, right) stop =
-      let one : p (f ++ (g ++ (x ∷ rest))) ≡ Found a (g ++ (x ∷ rest)) = complete_at first.careful g x rest left (meets a b g x right stop) in
+      let one : p (f ++ (g ++ (x ∷ rest))) ≡ Found a (g ++ (x ∷ rest)) = complete_at first.careful g x rest left ((meets a).begins_with b g x right stop) in
       rw is (rw (append_assoc f g (x ∷ rest)) (ap (λ answer. go_on answer q) one ∙ (next a).careful.complete x rest right stop))
 
   -- a front of the first text, and behind it some text of the second

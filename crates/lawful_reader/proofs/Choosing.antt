@@ -32,7 +32,7 @@ begins_other d L P front (a, more, text) = (a, more, inr text)
 
 module _ {K A B : Type 0} {d : ℕ} {test : K → Option B} {spelled : B → K} {next next' : B → Reader K A} {other other' : Reader K A} {E : B → Texts K A} {P : Texts K A} {S : K → Type 0}
     (kind : IsToken test spelled) (taken : (b : B) → Lawful d (next b) (next' b) (E b) S) (rest_of : Careful d other other' P S)
-    (apart : Starts (P d) S (IsPassed test)) where
+    (apart : Starts d P S (IsPassed test)) where
 
   D : Texts K A
   D = Or (Then (One spelled) E) P
@@ -52,8 +52,8 @@ module _ {K A B : Type 0} {d : ℕ} {test : K → Option B} {spelled : B → K} 
       (tested (test k))
 
   on_other : {a : A} (front : List K) (x : K) (rest : List K) → P d a front → S x → on test next other (front ++ (x ∷ rest)) ≡ Found a (x ∷ rest)
-  on_other {a} [] x rest text stop = passes rest (apart a [] x text stop) ∙ rest_of.complete x rest text stop
-  on_other {a} (y ∷ front) x rest text stop = passes (front ++ (x ∷ rest)) (apart a (y ∷ front) x text stop) ∙ rest_of.complete x rest text stop
+  on_other {a} [] x rest text stop = passes rest (apart.begins_with a [] x text stop) ∙ rest_of.complete x rest text stop
+  on_other {a} (y ∷ front) x rest text stop = passes (front ++ (x ∷ rest)) (apart.begins_with a (y ∷ front) x text stop) ∙ rest_of.complete x rest text stop
 
   on_complete : {a : A} {front : List K} (x : K) (rest : List K) → Or (Then (One spelled) E) P d a front → S x → on test next other (front ++ (x ∷ rest)) ≡ Found a (x ∷ rest)
   on_complete {a} {front} x rest (inl (b, one, back, is, one_is, text)) stop =

@@ -3,3 +3,5 @@ pub mod Basics
 -- the laws of the words that readers are put together with
 pub mod Binding
 pub mod Choosing
+pub mod Fitting
+pub mod Deepening

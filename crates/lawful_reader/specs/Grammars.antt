@@ -72,6 +72,6 @@ abbrev pub first_of : {K : Type 0} → K → List K → K
 first_of x [] = x
 first_of x (y ∷ list) = y
 
--- Each text of the grammar begins with a token of Firsts, and so does what follows the empty text: a token of Stops.
-abbrev pub Starts : {K A : Type 0} → (A → List K → Type 0) → (Stops Firsts : K → Type 0) → Type 0
-Starts {K} {A} D Stops Firsts = (a : A) (text : List K) (x : K) → D a text → Stops x → Firsts (first_of x text)
+-- At this depth each text of the grammar begins with a token of Firsts, and so does what follows its empty text: a token of Stops.
+pub record Starts {K A : Type 0} (d : ℕ) (D : Texts K A) (Stops Firsts : K → Type 0) : Type 0 where
+  pub begins_with : (a : A) (text : List K) (x : K) → D d a text → Stops x → Firsts (first_of x text)
