@@ -5,3 +5,4 @@ pub mod Binding
 pub mod Choosing
 pub mod Fitting
 pub mod Deepening
+pub mod Looking

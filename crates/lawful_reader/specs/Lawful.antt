@@ -37,6 +37,12 @@ pub record IsToken {K B : Type 0} (test : K → Option B) (spelled : B → K) : 
 abbrev pub IsPassed : {K B : Type 0} → (K → Option B) → K → Type 0
 IsPassed test k = test k ≡ None
 
+abbrev pub IsYes : {K : Type 0} → (K → Bool) → K → Type 0
+IsYes test k = test k ≡ true
+
+abbrev pub IsNo : {K : Type 0} → (K → Bool) → K → Type 0
+IsNo test k = test k ≡ false
+
 -- each token
 abbrev pub Anything : {K : Type 0} → K → Type 0
 Anything k = Unit {0}
