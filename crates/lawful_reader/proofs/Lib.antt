@@ -6,3 +6,4 @@ pub mod Choosing
 pub mod Fitting
 pub mod Deepening
 pub mod Looking
+pub mod Chaining

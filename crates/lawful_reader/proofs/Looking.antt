@@ -7,7 +7,7 @@ use Rattle.lawful_reader.specs.Grammars.{Texts, Or, Begins, first_of, Starts}
 use Rattle.lawful_reader.specs.Lawful.{Careful, Lawful, IsYes, IsNo}
 use Rattle.lawful_reader.proofs.Basics.{not_both, fault_rest, fault_deep, not_deep}
 
-decided : (b : Bool) → (b ≡ true) ⊎ (b ≡ false)
+pub decided : (b : Bool) → (b ≡ true) ⊎ (b ≡ false)
 decided true = inl refl
 decided false = inr refl
 
@@ -40,7 +40,7 @@ module _ {K A : Type 0} (test : K → Bool) {d : ℕ} {p p' : Reader K A} {D : T
 
 -- where nothing that begins so is a text at this depth, and something is deeper
 pub too_deep_where : {K A : Type 0} (test : K → Bool) {d : ℕ} {p' : Reader K A} {D : Texts K A} {S : K → Type 0} → ((a : A) (text : List K) → D d a text → ⊥) → ((k : K) → test k ≡ true → (e : ℕ) × (d ≤ e) × Begins (D e) (k ∷ [])) → CarefulWhere test d too_deep p' D S
-too_deep_where test none deep_text = record {
+too_deep_where test {D = D} none deep_text = record {
     sound = λ is e. absurd (not_both (sym e));
     complete = λ {a} {front} x rest from is text stop. absurd (none a front text);
     viable = λ is e. ([], fault_rest e, inl refl);
