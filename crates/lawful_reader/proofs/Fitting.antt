@@ -2,8 +2,8 @@
 use Rattle.std.proofs.Common.{◌≡◌, ℕ, ◌≤◌, Bool, true, false, ◌⊎◌, inl, inr, ⊎_elim, List, [], ◌∷◌, ◌++◌, refl, sym, ap, ◌∙◌, subst}
 use Rattle.std.proofs.Math.Nat.{le_refl}
 use Rattle.lawful_reader.specs.Readers.{Answer, Found, Fault, Reader}
-use Rattle.lawful_reader.specs.Grammars.{Texts, Never, Is, One, Then, Or, Begins, first_of, Starts}
-use Rattle.lawful_reader.specs.Lawful.{Careful, Lawful}
+use Rattle.lawful_reader.specs.Grammars.{Texts, Never, Is, One, Then, Or, Begins, first_of, Starts, Opens}
+use Rattle.lawful_reader.specs.Lawful.{Careful, Lawful, IsYes}
 
 begins_to : {K A : Type 0} {d : ℕ} (D E : Texts K A) → ((e : ℕ) → d ≤ e → (a : A) (text : List K) → D e a text → E e a text) → (e : ℕ) → d ≤ e → (front : List K) → Begins (D e) front → Begins (E e) front
 begins_to D E to e deep front (a, more, text) = (a, more, to e deep a (front ++ more) text)
@@ -95,3 +95,22 @@ module _ {K A : Type 0} {d : ℕ} {S R : K → Type 0} where
   pub starts_then : {B : Type 0} {T : K → Type 0} {D : Texts K B} {E : B → Texts K A} → Starts d D T R → ((b : B) → Starts d (E b) S T) → Starts d (Then D E) S R
   starts_then first next = record { begins_with = λ a text x (b, front, back, is, left, right) stop.
       rw is (subst R (sym (first_append x front back)) (first.begins_with b front (first_of x back) left ((next b).begins_with a back x right stop))) }
+
+-- What opens with such a token starts with one, whatever stands behind.
+pub starts_opens : {K A : Type 0} {d : ℕ} {D : Texts K A} {test : K → Bool} {S : K → Type 0} → Opens d D test → Starts d D S (IsYes test)
+starts_opens law = record { begins_with = λ a text x is stop. let (k, more, from, yes_is) = law.opens_with a text is in rw from yes_is }
+
+module _ {K A : Type 0} {d : ℕ} {test : K → Bool} where
+  pub opens_token : {B : Type 0} {spelled : B → K} {E : B → Texts K A} → ((b : B) → test (spelled b) ≡ true) → Opens d (Then (One spelled) E) test
+  opens_token each = record { opens_with = λ a text (b, one, back, is, one_is, more). (_, back, is ∙ ap (λ l. l ++ back) one_is, each b) }
+
+  pub opens_or : {D P : Texts K A} → Opens d D test → Opens d P test → Opens d (Or D P) test
+  opens_or one other = record { opens_with = λ a text either. ⊎_elim (λ is. one.opens_with a text is) (λ is. other.opens_with a text is) either }
+
+  pub opens_never : Opens {A = A} d Never test
+  opens_never = record { opens_with = λ a text is. absurd is }
+
+  pub opens_then : {B : Type 0} {D : Texts K B} {E : B → Texts K A} → Opens d D test → Opens d (Then D E) test
+  opens_then first = record { opens_with = λ a text (b, front, back, is, left, right).
+      let (k, more, from, yes_is) = first.opens_with b front left in
+      (k, more ++ back, is ∙ ap (λ l. l ++ back) from, yes_is) }

@@ -7,3 +7,5 @@ pub mod Fitting
 pub mod Deepening
 pub mod Looking
 pub mod Chaining
+pub mod Listing
+pub mod Exactly

@@ -1,5 +1,5 @@
 -- Grammars: which texts spell a tree with at most so many levels below it. Nothing here reads (this project's rule).
-use Rattle.std.specs.Prelude.{◌≡◌, ℕ, zero, suc, ◌≤◌, ◌⊎◌, List, [], ◌∷◌, ◌++◌}
+use Rattle.std.specs.Prelude.{◌≡◌, ℕ, zero, suc, ◌≤◌, Bool, true, ◌⊎◌, List, [], ◌∷◌, ◌++◌}
 
 -- by the number of levels that may open below it: the tree and its text
 abbrev pub Texts : Type 0 → Type 0 → Type 1
@@ -77,3 +77,7 @@ first_of x (y ∷ list) = y
 -- At this depth each text of the grammar begins with a token of Firsts, and so does what follows its empty text: a token of Stops.
 pub record Starts {K A : Type 0} (d : ℕ) (D : Texts K A) (Stops Firsts : K → Type 0) : Type 0 where
   pub begins_with : (a : A) (text : List K) (x : K) → D d a text → Stops x → Firsts (first_of x text)
+
+-- At this depth each text of the grammar has a first token, and it passes the test.
+pub record Opens {K A : Type 0} (d : ℕ) (D : Texts K A) (test : K → Bool) : Type 0 where
+  pub opens_with : (a : A) (text : List K) → D d a text → (k : K) × (more : List K) × (text ≡ k ∷ more) × (test k ≡ true)

@@ -1,5 +1,5 @@
 -- The laws that join a reader to its grammar (this project's rule).
-use Rattle.std.specs.Prelude.{◌≡◌, ℕ, suc, max, ◌≤◌, Bool, true, false, ◌⊎◌, List, [], ◌∷◌, ◌++◌, Option, Some, None}
+use Rattle.std.specs.Prelude.{◌≡◌, ℕ, suc, max, ◌<◌, ◌≤◌, Bool, true, false, ◌⊎◌, List, [], ◌∷◌, ◌++◌, length, Option, Some, None}
 use Rattle.lawful_reader.specs.Readers.{Reader, Found, Fault, Operators}
 use Rattle.lawful_reader.specs.Grammars.{Texts, Begins, Starts, Up_to, first_of}
 
@@ -37,6 +37,11 @@ pub record IsToken {K B : Type 0} (test : K → Option B) (spelled : B → K) : 
 abbrev pub IsPassed : {K B : Type 0} → (K → Option B) → K → Type 0
 IsPassed test k = test k ≡ None
 
+-- What it finds takes at least one token.
+abbrev pub Shortens : {K A : Type 0} → Reader K A → Type 0
+Shortens {K} {A} p = (ts : List K) (a : A) (rest : List K) → p ts ≡ Found a rest → length rest < length ts
+
+-- Tests of tokens as sets of tokens.
 abbrev pub IsYes : {K : Type 0} → (K → Bool) → K → Type 0
 IsYes test k = test k ≡ true
 

@@ -1,5 +1,5 @@
 -- Readers of a list of tokens, and the words that they are put together with (this project's rule). The depth of a reader is how many levels may still open below what it reads.
-use Rattle.std.specs.Prelude.{ℕ, ◌-◌, zero, suc, Bool, true, false, if◌then◌else◌, nat_le, nat_eq, List, [], ◌∷◌, length, Option, Some, None}
+use Rattle.std.specs.Prelude.{ℕ, ◌-◌, zero, suc, Bool, true, false, if◌then◌else◌, nat_le, nat_eq, List, [], ◌∷◌, ◌++◌, length, Option, Some, None}
 
 -- What a reader answers: the tree with the tokens behind it, or the rest that begins with the token which decides, and whether it is only too deep.
 pub data Answer (K A : Type 0) : Type 0 where
@@ -73,6 +73,11 @@ items_in (suc turns) begins item = look begins (bind item (λ a. bind (items_in 
 -- zero or more items, as long as the next token begins one
 abbrev pub items : {K A : Type 0} → (K → Bool) → Reader K A → Reader K (List A)
 items begins item ts = items_in (length ts) begins item ts
+
+-- the items read so far, before those of an answer
+abbrev pub fronted : {K A : Type 0} → List A → Answer K (List A) → Answer K (List A)
+fronted done (Found more rest) = Found (done ++ more) rest
+fronted done (Fault deep rest) = Fault deep rest
 
 -- one or more
 abbrev pub some_items : {K A : Type 0} → (K → Bool) → Reader K A → Reader K (List A)
