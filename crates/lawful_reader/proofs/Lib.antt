@@ -8,4 +8,5 @@ pub mod Deepening
 pub mod Looking
 pub mod Chaining
 pub mod Listing
+pub mod Turning
 pub mod Exactly

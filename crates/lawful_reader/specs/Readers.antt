@@ -99,6 +99,10 @@ chain_in ops d operand (suc turns) left =
      else bind (ops.operator left) (λ o. bind operand (λ right. chain_in ops d operand turns (ops.join left o right))))
     (pure left)
 
+-- with as many turns as there are levels, which is enough
+abbrev pub chain_more : {K A O : Type 0} → Operators K A O → ℕ → Reader K A → A → Reader K A
+chain_more ops d operand left = chain_in ops d operand d left
+
 -- a first operand, and then operators with operands one level deeper, nested to the left
 abbrev pub chain : {K A O : Type 0} → Operators K A O → ℕ → Reader K A → Reader K A → Reader K A
-chain ops d first operand = bind first (chain_in ops d operand d)
+chain ops d first operand = bind first (chain_more ops d operand)
