@@ -1,6 +1,6 @@
 -- What follows from an answer, and small facts on lists of tokens.
-use Rattle.std.proofs.Common.{◌≡◌, ℕ, Bool, true, false, ◌⊎◌, inl, inr, ⊎_elim, List, [], ◌∷◌, ◌++◌, refl, sym, ap, ◌∙◌, subst, true≢false, Option, Some, None}
-use Rattle.std.proofs.lemmas.List.{append_assoc, append_cancel_right, append-nil}
+use Rattle.std.proofs.Common.{◌≡◌, Bool, true, false, ◌⊎◌, inl, inr, ⊎_elim, List, [], ◌∷◌, ◌++◌, refl, sym, ap, ◌∙◌, subst, true≢false, Option, Some, None}
+use Rattle.std.proofs.lemmas.List.{append_assoc, append_cancel_right}
 use Rattle.lawful_reader.specs.Readers.{Answer, Found, Fault, Reader, go_on}
 
 abbrev IsFound : {K A : Type 0} → Answer K A → Type 0

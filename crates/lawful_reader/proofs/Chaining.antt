@@ -1,11 +1,10 @@
 -- The law of chains of operators, nested to the left.
-use Rattle.std.proofs.Common.{◌≡◌, ℕ, zero, suc, max, ◌+◌, ◌≤◌, ◌<◌, Bool, true, false, ◌⊎◌, inl, inr, ⊎_elim, List, [], ◌∷◌, ◌++◌, refl, sym, ap, ◌∙◌, subst, arith}
+use Rattle.std.proofs.Common.{◌≡◌, ℕ, zero, suc, max, ◌+◌, ◌≤◌, ◌<◌, Bool, true, false, inl, inr, ⊎_elim, List, [], ◌∷◌, ◌++◌, refl, sym, ap, ◌∙◌, subst, arith}
 use Rattle.std.specs.Prelude.{if◌then◌else◌, nat_le}
-use Rattle.std.proofs.Math.Nat.{le_refl}
 use Rattle.std.proofs.lemmas.List.{append_assoc, append-nil}
-use Rattle.lawful_reader.specs.Readers.{Answer, Found, Fault, Reader, Operators, pure, bind, look, too_deep, chain_in, chain}
+use Rattle.lawful_reader.specs.Readers.{Reader, Operators, pure, bind, look, too_deep, chain_in, chain}
 use Rattle.lawful_reader.specs.Grammars.{Texts, Is, Then, Or, Below, Begins, Up_to, AreChains, Joined, first_of, Starts}
-use Rattle.lawful_reader.specs.Lawful.{Careful, Lawful, LawfulOperators, IsYes, IsNo}
+use Rattle.lawful_reader.specs.Lawful.{Lawful, LawfulOperators, IsYes}
 use Rattle.lawful_reader.proofs.Binding.{law_pure, careful_bind}
 use Rattle.lawful_reader.proofs.Fitting.{first_append, starts_is, starts_then, careful_fit, law_fit}
 use Rattle.lawful_reader.proofs.Deepening.{law_shifted}
@@ -55,9 +54,17 @@ module _ {K A O : Type 0} (ops : Operators K A O) (Op : A → O → List K → T
       let low' : ops.height left < d = subst (λ l. ops.height l < d) same low in
       let sign' : Op left o s = subst (λ l. Op l o s) same sign in
       (low', (o, s, b, refl, sign', (r, b, [], sym (append-nil b), operand, (ap (λ l. ops.join l o r) same, refl)))))
-  tail_longer (suc n) left d a text o s r b (low', (o', s', g, is, sign', (r', b', m, also, operand', tail))) low sign operand =
-      (low', (o', s', g ++ (s ++ b), ap (λ l. l ++ (s ++ b)) is ∙ append_assoc s' g (s ++ b), sign',
-          (r', b', m ++ (s ++ b), ap (λ l. l ++ (s ++ b)) also ∙ append_assoc b' m (s ++ b), operand', tail_longer n (ops.join left o' r') d a m o s r b tail low sign operand)))
+  tail_longer (suc n) left d a text o s r b (low', (o', s', g, is, sign', (r', b', m, also, operand', tail))) low sign operand = (
+    low',
+    (
+      o',
+      s',
+      g ++ (s ++ b),
+      ap (λ l. l ++ (s ++ b)) is ∙ append_assoc s' g (s ++ b),
+      sign',
+      (r', b', m ++ (s ++ b), ap (λ l. l ++ (s ++ b)) also ∙ append_assoc b' m (s ++ b), operand', tail_longer n (ops.join left o' r') d a m o s r b tail low sign operand),
+    ),
+  )
 
   module _ (F G : A → List K → Type 0) (chains : AreChains ops.join Op F T G) (joined : (left : A) (o : O) (right : A) → ops.height (ops.join left o right) ≡ suc (max (ops.height left) (ops.height right))) where
     -- what follows a chain makes a longer one
@@ -66,9 +73,19 @@ module _ {K A O : Type 0} (ops : Operators K A O) (Op : A → O → List K → T
     tail_joins (suc n) left zero a f g chain_is low (low', (o, s, g', is, sign, (r, b, m, also, operand, tail))) = absurd operand
     tail_joins (suc n) left (suc d) a f g chain_is low (low', (o, s, g', is, sign, (r, b, m, also, (operand, fits), tail))) =
         let whole : f ++ g ≡ (f ++ (s ++ b)) ++ m =
-            ap (λ l. f ++ l) (is ∙ ap (λ l. s ++ l) also ∙ sym (append_assoc s b m)) ∙ sym (append_assoc f (s ++ b) m) in
+        ap (λ l. f ++ l) (is ∙ ap (λ l. s ++ l) also ∙ sym (append_assoc s b m)) ∙ sym (append_assoc f (s ++ b) m) in
         let longer : G (ops.join left o r) (f ++ (s ++ b)) = chains.closes (ops.join left o r) (f ++ (s ++ b)) (inr (record {
-          left = left; o = o; right = r; front = f; sign = s; back = b; tree_is = refl; text_is = refl; left_is = chain_is; sign_is = sign; right_is = operand;
+          left = left;
+          o = o;
+          right = r;
+          front = f;
+          sign = s;
+          back = b;
+          tree_is = refl;
+          text_is = refl;
+          left_is = chain_is;
+          sign_is = sign;
+          right_is = operand;
         })) in
         rw whole (tail_joins n (ops.join left o r) (suc d) a (f ++ (s ++ b)) m longer (rw (joined left o r) (omega (arith, low', fits))) tail)
 
@@ -84,12 +101,17 @@ module _ {K A O : Type 0} (ops : Operators K A O) (Op : A → O → List K → T
     chain_splits (suc d) a text chain_is low = ⊎_elim
         (λ first. (a, text, [], sym (append-nil text), (first, low), (zero, (refl, refl))))
         (λ more.
-            let high = height_is more in
-            let (l, f, g, is, (first, low'), (n, tail)) = chain_splits d more.left more.front more.left_is (omega (arith, low, high)) in
-            let longer = tail_longer n l (suc d) more.left g more.o more.sign more.right more.back (tail_grows n l d more.left g tail)
-                (omega (arith, low, high)) more.sign_is (more.right_is, omega (arith, low, high)) in
-            (l, f, g ++ (more.sign ++ more.back), more.text_is ∙ ap (λ t. t ++ (more.sign ++ more.back)) is ∙ append_assoc f g (more.sign ++ more.back),
-                (first, omega (arith, low')), (suc n, subst (λ t. Tail (suc n) l (suc d) t (g ++ (more.sign ++ more.back))) (sym more.tree_is) longer)))
+        let high = height_is more in
+        let (l, f, g, is, (first, low'), (n, tail)) = chain_splits d more.left more.front more.left_is (omega (arith, low, high)) in
+        let longer = tail_longer n l (suc d) more.left g more.o more.sign more.right more.back (tail_grows n l d more.left g tail)
+        (omega (arith, low, high)) more.sign_is (more.right_is, omega (arith, low, high)) in (
+          l,
+          f,
+          g ++ (more.sign ++ more.back),
+          more.text_is ∙ ap (λ t. t ++ (more.sign ++ more.back)) is ∙ append_assoc f g (more.sign ++ more.back),
+          (first, omega (arith, low')),
+          (suc n, subst (λ t. Tail (suc n) l (suc d) t (g ++ (more.sign ++ more.back))) (sym more.tree_is) longer),
+        ))
         (chains.opens a text chain_is)
 
 module _ {K A O : Type 0} {ops : Operators K A O} {Op : A → O → List K → Type 0} {T : A → List K → Type 0} {R U S : K → Type 0} (law : LawfulOperators ops Op T R U S) where
@@ -105,8 +127,10 @@ module _ {K A O : Type 0} {ops : Operators K A O} {Op : A → O → List K → T
   operand_starts d = record { begins_with = λ a text x (is, low) stop. law.before_operand a text x is stop }
 
   more_starts : (d : ℕ) (left : A) → Starts d (More ops Op T left) S (IsYes (ops.goes_on left))
-  more_starts d left = record { begins_with = λ a text x (low, (o, s, g, is, sign, next)) stop.
-      rw is (rw (first_append x s g) (law.begins_so left o s (first_of x g) sign)) }
+  more_starts d left = record {
+    begins_with = λ a text x (low, (o, s, g, is, sign, next)) stop.
+        rw is (rw (first_append x s g) (law.begins_so left o s (first_of x g) sign));
+  }
 
   -- an operator and an operand behind a tree, in a text that is deep enough
   one_operator : (left : A) (k : K) → ops.goes_on left k ≡ true → (e : ℕ) → ops.height left ≤ e → Begins (More ops Op T left (suc e)) (k ∷ [])
@@ -119,13 +143,13 @@ module _ {K A O : Type 0} {ops : Operators K A O} {Op : A → O → List K → T
   full_law : (d : ℕ) (left : A) (p' : Reader K A) → ops.height left ≡ d →
       Lawful d (look (ops.goes_on left) too_deep (pure left)) (look (ops.goes_on left) p' (pure left)) (Tails ops Op T left) S
   full_law d left p' same = record {
-      careful = careful_fit (λ e deep a text is. to_tails ops Op T left e a text is) (from_tails ops Op T left d)
-          (careful_look {p' = p'} (too_deep_where (ops.goes_on left)
-                  (λ a text (low, next). absurd (omega (arith, low, same)))
-                  (λ k is. (suc d, omega arith, one_operator left k is d (omega (arith, same)))))
-              (law_pure d left S).careful (more_starts d left) (starts_is (law.ends left)));
-      some_text = λ e deep. (left, [], (zero, (refl, refl)));
-    }
+    careful = careful_fit (λ e deep a text is. to_tails ops Op T left e a text is) (from_tails ops Op T left d)
+        (careful_look {p' = p'} (too_deep_where (ops.goes_on left)
+        (λ a text (low, next). absurd (omega (arith, low, same)))
+        (λ k is. (suc d, omega arith, one_operator left k is d (omega (arith, same)))))
+        (law_pure d left S).careful (more_starts d left) (starts_is (law.ends left)));
+    some_text = λ e deep. (left, [], (zero, (refl, refl)));
+  }
 
   -- where a level is left an operator may stand with an operand, and then more
   open_law : (d : ℕ) (left : A) {operand operand' : Reader K A} {q q' : O → A → Reader K A} → Lawful d operand operand' (Up_to ops.height T) U →
@@ -133,19 +157,19 @@ module _ {K A O : Type 0} {ops : Operators K A O} {Op : A → O → List K → T
       Lawful (suc d) (look (ops.goes_on left) (bind (ops.operator left) (λ o. bind operand (q o))) (pure left))
       (look (ops.goes_on left) (bind (ops.operator left) (λ o. bind operand' (q' o))) (pure left)) (Tails ops Op T left) S
   open_law d left operand_law next_law low = record {
-      careful = careful_fit (λ e deep a text is. to_tails ops Op T left e a text is) (from_tails ops Op T left (suc d))
-          (careful_look (careful_where (ops.goes_on left)
-                  (careful_fit (λ e deep a text is. (omega (arith, low, deep), is)) (λ a text (low', is). is)
-                      (careful_bind (law.reads (suc d) left)
-                          (λ o s sign. careful_bind (law_shifted operand_law).careful
-                              (λ right b (is, fits). (next_law o right fits).careful)
-                              (λ e deep right b is. (ops.join left o right, [], (zero, (refl, refl))))
-                              (λ right b is. tail_starts (suc d) (ops.join left o right)))
-                          (λ e deep o s sign. some_next e deep o)
-                          (λ o s sign. starts_then (operand_starts d) (λ right. tail_starts (suc d) (ops.join left o right))))))
-              (law_pure (suc d) left S).careful (more_starts (suc d) left) (starts_is (law.ends left)));
-      some_text = λ e deep. (left, [], (zero, (refl, refl)));
-    } where
+    careful = careful_fit (λ e deep a text is. to_tails ops Op T left e a text is) (from_tails ops Op T left (suc d))
+        (careful_look (careful_where (ops.goes_on left)
+        (careful_fit (λ e deep a text is. (omega (arith, low, deep), is)) (λ a text (low', is). is)
+        (careful_bind (law.reads (suc d) left)
+        (λ o s sign. careful_bind (law_shifted operand_law).careful
+        (λ right b (is, fits). (next_law o right fits).careful)
+        (λ e deep right b is. (ops.join left o right, [], (zero, (refl, refl))))
+        (λ right b is. tail_starts (suc d) (ops.join left o right)))
+        (λ e deep o s sign. some_next e deep o)
+        (λ o s sign. starts_then (operand_starts d) (λ right. tail_starts (suc d) (ops.join left o right))))))
+        (law_pure (suc d) left S).careful (more_starts (suc d) left) (starts_is (law.ends left)));
+    some_text = λ e deep. (left, [], (zero, (refl, refl)));
+  } where
     some_next : (e : ℕ) → suc d ≤ e → (o : O) → (a : A) × (g : List K) × Then (Below (Up_to ops.height T)) (λ right. Tails ops Op T (ops.join left o right)) e a g
     some_next zero deep o = absurd (omega (arith, deep))
     some_next (suc e) deep o =
@@ -189,13 +213,13 @@ module _ {K A O : Type 0} {ops : Operators K A O} {Op : A → O → List K → T
       both_full zero left (behind zero operand turns left) (turn 1 operand' (suc turns) left) (omega (arith, low)) (le_is zero (ops.height left) (omega arith))
   tail_law (suc turns) (suc d) left operand operand' below low enough = ⊎_elim
       (λ full. both_full (suc d) left (behind (suc d) operand turns left) (turn (suc (suc d)) operand' (suc turns) left)
-          (let filled = le_says (suc d) (ops.height left) full in omega (arith, low, filled)) full)
+      (let filled = le_says (suc d) (ops.height left) full in omega (arith, low, filled)) full)
       (λ less. let lower = lt_says (suc d) (ops.height left) less in
-          both_open (behind (suc d) operand turns left) (behind (suc (suc d)) operand' (suc turns) left) less (not_le (suc (suc d)) (ops.height left) (omega (arith, lower)))
-          (open_law d left (below d refl)
-              (λ o right fits. tail_law turns (suc d) (ops.join left o right) operand operand' below
-                  (rw (law.joined left o right) (omega (arith, lower, fits))) (rw (law.joined left o right) (omega (arith, enough))))
-              (omega (arith, lower))))
+      both_open (behind (suc d) operand turns left) (behind (suc (suc d)) operand' (suc turns) left) less (not_le (suc (suc d)) (ops.height left) (omega (arith, lower)))
+      (open_law d left (below d refl)
+      (λ o right fits. tail_law turns (suc d) (ops.join left o right) operand operand' below
+      (rw (law.joined left o right) (omega (arith, lower, fits))) (rw (law.joined left o right) (omega (arith, enough))))
+      (omega (arith, lower))))
       (decided (nat_le (suc d) (ops.height left)))
 
   module _ {F G : A → List K → Type 0} (chains : AreChains ops.join Op F T G) where
@@ -205,7 +229,7 @@ module _ {K A O : Type 0} {ops : Operators K A O} {Op : A → O → List K → T
         Lawful d (chain ops d first operand) (chain ops (suc d) first' operand') (Up_to ops.height G) S
     law_chain d {first} {first'} {operand} {operand'} first_law below = law_fit
         (λ e deep a text (l, f, g, is, (start, low), (n, tail)).
-            subst (Up_to ops.height G e a) (sym is) (tail_joins ops Op T F G chains law.joined n l e a f g (chains.closes l f (inl start)) low tail))
+        subst (Up_to ops.height G e a) (sym is) (tail_joins ops Op T F G chains law.joined n l e a f g (chains.closes l f (inl start)) low tail))
         (λ a text (chain_is, low). chain_splits ops Op T F G chains law.joined d a text chain_is low)
         (record {
           careful = careful_bind first_law.careful

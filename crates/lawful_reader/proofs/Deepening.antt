@@ -1,9 +1,8 @@
 -- The laws of readers of tokens that open something deeper.
-use Rattle.std.proofs.Common.{◌≡◌, ℕ, zero, suc, ◌-◌, ◌≤◌, ◌<◌, Bool, true, false, ◌⊎◌, inl, inr, ⊎_elim, List, [], ◌∷◌, ◌++◌, refl, sym, ap, ◌∙◌, subst, Option, Some, None, arith}
+use Rattle.std.proofs.Common.{◌≡◌, ℕ, zero, suc, ◌-◌, ◌≤◌, Bool, true, false, ◌⊎◌, inl, inr, ⊎_elim, List, [], ◌∷◌, ◌++◌, refl, sym, ap, ◌∙◌, Option, Some, None, arith}
 use Rattle.std.specs.Prelude.{if◌then◌else◌, nat_eq}
-use Rattle.std.proofs.Math.Nat.{le_refl}
 use Rattle.std.proofs.lemmas.List.{append_cancel_right}
-use Rattle.lawful_reader.specs.Readers.{Answer, Found, Fault, Reader, on, on_token, below, below_token}
+use Rattle.lawful_reader.specs.Readers.{Found, Fault, Reader, on, on_token, below, below_token}
 use Rattle.lawful_reader.specs.Grammars.{Texts, One, Then, Or, Below, Begins, first_of, Starts}
 use Rattle.lawful_reader.specs.Lawful.{Careful, Lawful, IsToken, IsPassed}
 use Rattle.lawful_reader.proofs.Basics.{not_both, fault_rest, fault_deep, not_deep, not_empty, tested}
@@ -22,19 +21,19 @@ module _ {K A : Type 0} {d : ℕ} {p p' : Reader K A} {D : Texts K A} {S : K →
 
   pub law_shifted : Lawful d p p' D S → Lawful (suc d) p p' (Below D) S
   law_shifted law = record {
-      careful = record {
-        sound = law.careful.sound;
-        complete = law.careful.complete;
-        viable = law.careful.viable;
-        only_deeper = λ e. let (f, is, e', deep, some) = law.careful.only_deeper e in (f, is, suc e', omega (arith, deep), some);
-        found_alike = law.careful.found_alike;
-        fault_alike = law.careful.fault_alike;
-        found_deeper = law.careful.found_deeper;
-        fault_deeper = law.careful.fault_deeper;
-        grows = grows_below law;
-      };
-      some_text = some_below law;
-    }
+    careful = record {
+      sound = law.careful.sound;
+      complete = law.careful.complete;
+      viable = law.careful.viable;
+      only_deeper = λ e. let (f, is, e', deep, some) = law.careful.only_deeper e in (f, is, suc e', omega (arith, deep), some);
+      found_alike = law.careful.found_alike;
+      fault_alike = law.careful.fault_alike;
+      found_deeper = law.careful.found_deeper;
+      fault_deeper = law.careful.fault_deeper;
+      grows = grows_below law;
+    };
+    some_text = some_below law;
+  }
 
 one_less : (d : ℕ) → suc d - 1 ≡ d
 one_less d = omega arith
@@ -83,7 +82,7 @@ module _ {K A B : Type 0} (test : K → Option B) (spelled : B → K) (next next
   zero_viable [] e = ([], fault_rest e, inl refl)
   zero_viable (k ∷ ts) e = ⊎_elim
       (λ none. let (f, is, some) = rest_of.viable (sym (passes_by ts none) ∙ e) in
-          (f, is, ⊎_elim inl (λ (a, more, text). inr (a, more, inr text)) some))
+      (f, is, ⊎_elim inl (λ (a, more, text). inr (a, more, inr text)) some))
       (λ (b, some). ([], fault_rest (sym (stops_at some) ∙ e), inl refl))
       (tested (test k))
 
@@ -93,9 +92,9 @@ module _ {K A B : Type 0} (test : K → Option B) (spelled : B → K) (next next
   zero_only_deeper (k ∷ ts) {x} {rest} e = ⊎_elim
       (λ none. let (f, is, e', deep, (a, more, text)) = rest_of.only_deeper (sym (passes_by ts none) ∙ e) in (f, is, e', deep, (a, more, inr text)))
       (λ (b, some).
-          let is : k ∷ ts ≡ x ∷ rest = fault_rest (sym (stops_at some) ∙ e) in
-          let (e', a, f, text) = deep_text b in
-          ([], is, suc e', omega arith, (a, f, inl (b, spelled b ∷ [], f, ap (λ t. t ∷ f) (sym (ap (first_of k) is) ∙ kind.only k b some), refl, text))))
+      let is : k ∷ ts ≡ x ∷ rest = fault_rest (sym (stops_at some) ∙ e) in
+      let (e', a, f, text) = deep_text b in
+      ([], is, suc e', omega arith, (a, f, inl (b, spelled b ∷ [], f, ap (λ t. t ∷ f) (sym (ap (first_of k) is) ∙ kind.only k b some), refl, text))))
       (tested (test k))
 
   zero_found_alike : (front : List K) {a : A} {x : K} {rest : List K} (more : List K) → below zero test next other (front ++ (x ∷ rest)) ≡ Found a (x ∷ rest) → below zero test next other (front ++ (x ∷ more)) ≡ Found a (x ∷ more)
@@ -138,16 +137,16 @@ module _ {K A B : Type 0} (test : K → Option B) (spelled : B → K) (next next
 
   careful_zero : Careful zero (below zero test next other) (below (suc zero) test next' other') (Or (Then (One spelled) (λ b. Below (E b))) P) S
   careful_zero = record {
-      sound = λ {ts} e. zero_sound ts e;
-      complete = zero_complete;
-      viable = λ {ts} e. zero_viable ts e;
-      only_deeper = λ {ts} e. zero_only_deeper ts e;
-      found_alike = zero_found_alike;
-      fault_alike = zero_fault_alike;
-      found_deeper = λ {ts} e. zero_found_deeper ts e;
-      fault_deeper = λ {ts} e. zero_fault_deeper ts e;
-      grows = zero_grows;
-    }
+    sound = λ {ts} e. zero_sound ts e;
+    complete = zero_complete;
+    viable = λ {ts} e. zero_viable ts e;
+    only_deeper = λ {ts} e. zero_only_deeper ts e;
+    found_alike = zero_found_alike;
+    fault_alike = zero_fault_alike;
+    found_deeper = λ {ts} e. zero_found_deeper ts e;
+    fault_deeper = λ {ts} e. zero_fault_deeper ts e;
+    grows = zero_grows;
+  }
 
 module _ {K A B : Type 0} {test : K → Option B} {spelled : B → K} {other other' : Reader K A} {E : B → Texts K A} {P : Texts K A} {S : K → Type 0}
     (next next' : ℕ → B → Reader K A) (kind : IsToken test spelled) (deep_text : (b : B) → (e : ℕ) × (a : A) × (f : List K) × E b e a f) where
@@ -160,6 +159,6 @@ module _ {K A B : Type 0} {test : K → Option B} {spelled : B → K} {other oth
   pub law_below : (d : ℕ) → ((e : ℕ) → d ≡ suc e → (b : B) → Lawful e (next e b) (next' (suc e) b) (E b) S) → Lawful d other other' P S → Starts d P S (IsPassed test) →
       Lawful d (below d test next other) (below (suc d) test next' other') (Or (Then (One spelled) (λ b. Below (E b))) P) S
   law_below d inner rest_of apart = record {
-      careful = careful_below d inner rest_of.careful apart;
-      some_text = λ e deep. let (a, f, text) = rest_of.some_text e deep in (a, f, inr text);
-    }
+    careful = careful_below d inner rest_of.careful apart;
+    some_text = λ e deep. let (a, f, text) = rest_of.some_text e deep in (a, f, inr text);
+  }

@@ -1,11 +1,11 @@
 -- What the laws say of a reader at every depth: it finds exactly the texts, each has one tree, and each fault is the first token that decides.
-use Rattle.std.proofs.Common.{◌≡◌, ◌↔◌, ℕ, zero, suc, ◌+◌, ◌≤◌, ◌<◌, Bool, true, false, true≢false, ◌⊎◌, inl, inr, ⊎_elim, List, [], ◌∷◌, ◌++◌, refl, sym, ap, ◌∙◌, subst, arith}
+use Rattle.std.proofs.Common.{◌≡◌, ℕ, zero, suc, ◌+◌, ◌≤◌, Bool, true, false, true≢false, ◌⊎◌, inl, inr, ⊎_elim, List, [], ◌∷◌, ◌++◌, sym, ap, ◌∙◌, subst, arith}
 use Rattle.std.proofs.Math.Nat.{le_refl}
 use Rattle.std.specs.Prelude.{if◌then◌else◌}
 use Rattle.std.proofs.lemmas.List.{append_assoc, append-nil, append_cancel_right}
-use Rattle.lawful_reader.specs.Readers.{Answer, Found, Fault, Reader, up_to, left_at, go_on}
+use Rattle.lawful_reader.specs.Readers.{Found, Fault, Reader, left_at, go_on}
 use Rattle.lawful_reader.specs.Grammars.{Texts, Begins, first_of}
-use Rattle.lawful_reader.specs.Lawful.{Careful, Lawful, IsYes}
+use Rattle.lawful_reader.specs.Lawful.{IsYes}
 use Rattle.lawful_reader.specs.Exactness.{LawfulAtEach, FindsExactly, IsSyntax, IsTooDeep, FaultsExactly, Whole, whole, ReadsWhole}
 use Rattle.lawful_reader.proofs.Basics.{not_both, found_tree, found_rest, fault_rest, fault_deep, not_empty, same_last, last_split, found_through, fault_through}
 use Rattle.lawful_reader.proofs.Binding.{begins_some}
@@ -71,16 +71,16 @@ module _ {K A : Type 0} (p : ℕ → Reader K A) {D : Texts K A} {S : K → Type
 
   pub finds_exactly : FindsExactly p D S
   finds_exactly = record {
-      finds = λ d a front x rest stops. (found_is d a front x rest, λ text. (laws d).careful.complete x rest text stops);
-      one_tree = one_tree;
-    }
+    finds = λ d a front x rest stops. (found_is d a front x rest, λ text. (laws d).careful.complete x rest text stops);
+    one_tree = one_tree;
+  }
 
 -- what is left at an end was found, and an end stands there
 left_found : {K A : Type 0} (ends : K → Bool) (a b : A) (ts rest : List K) → left_at ends a ts ≡ Found b rest → (a ≡ b) × (ts ≡ rest) × (x : K) × (more : List K) × (rest ≡ x ∷ more) × (ends x ≡ true)
 left_found ends a b [] rest e = absurd (not_both (sym e))
 left_found ends a b (k ∷ ts) rest e = ⊎_elim
     (λ yes_is. let is = sym (ap (λ t. if t then Found a (k ∷ ts) else Fault false (k ∷ ts)) yes_is) ∙ e in
-        (found_tree is, found_rest is, k, ts, sym (found_rest is), yes_is))
+    (found_tree is, found_rest is, k, ts, sym (found_rest is), yes_is))
     (λ no_is. absurd (not_both (sym (sym (ap (λ t. if t then Found a (k ∷ ts) else Fault false (k ∷ ts)) no_is) ∙ e))))
     (decided (ends k))
 
@@ -90,7 +90,7 @@ left_fault ends a [] deep x rest e = absurd (not_empty [] x rest (fault_rest e))
 left_fault ends a (k ∷ ts) deep x rest e = ⊎_elim
     (λ yes_is. absurd (not_both (sym (ap (λ t. if t then Found a (k ∷ ts) else Fault false (k ∷ ts)) yes_is) ∙ e)))
     (λ no_is. let is = sym (ap (λ t. if t then Found a (k ∷ ts) else Fault false (k ∷ ts)) no_is) ∙ e in
-        (sym (fault_deep is), fault_rest is, sym (ap ends (ap (first_of k) (fault_rest is))) ∙ no_is))
+    (sym (fault_deep is), fault_rest is, sym (ap ends (ap (first_of k) (fault_rest is))) ∙ no_is))
     (decided (ends k))
 
 module _ {K A : Type 0} (ends : K → Bool) (D : Texts K A) (s : K) (stop : ends s ≡ true) where
@@ -101,11 +101,11 @@ module _ {K A : Type 0} (ends : K → Bool) (D : Texts K A) (s : K) (stop : ends
   whole_begins : (e : ℕ) (front : List K) (x : K) → Begins (Whole ends D e) (front ++ (x ∷ [])) → ((a : A) × D e a front × (ends x ≡ true)) ⊎ Begins (D e) (front ++ (x ∷ []))
   whole_begins e front x (a, more, (g, y, is, end, text)) = ⊎_elim
       (λ none.
-          let (same, last) = same_last front g x y (sym (append-nil (front ++ (x ∷ []))) ∙ ap (λ l. (front ++ (x ∷ [])) ++ l) (sym none) ∙ is) in
-          inl (a, subst (D e a) (sym same) text, ap ends last ∙ end))
+      let (same, last) = same_last front g x y (sym (append-nil (front ++ (x ∷ []))) ∙ ap (λ l. (front ++ (x ∷ [])) ++ l) (sym none) ∙ is) in
+      inl (a, subst (D e a) (sym same) text, ap ends last ∙ end))
       (λ (m, l, split).
-          let (same, last) = same_last ((front ++ (x ∷ [])) ++ m) g l y (append_assoc (front ++ (x ∷ [])) m (l ∷ []) ∙ ap (λ t. (front ++ (x ∷ [])) ++ t) (sym split) ∙ is) in
-          inr (a, m, subst (D e a) (sym same) text))
+      let (same, last) = same_last ((front ++ (x ∷ [])) ++ m) g l y (append_assoc (front ++ (x ∷ [])) m (l ∷ []) ∙ ap (λ t. (front ++ (x ∷ [])) ++ t) (sym split) ∙ is) in
+      inr (a, m, subst (D e a) (sym same) text))
       (last_split more)
 
   module _ (p : ℕ → Reader K A) (laws : LawfulAtEach p D (IsYes ends)) where
@@ -124,12 +124,12 @@ module _ {K A : Type 0} (ends : K → Bool) (D : Texts K A) (s : K) (stop : ends
     goes_wrong d a front x rest one off e begins = ⊎_elim
         (λ (b, text, end). true≢false (sym end ∙ off))
         (λ (b, more, text).
-            let there : p (e + d) (((front ++ (x ∷ [])) ++ more) ++ (s ∷ [])) ≡ Found b (s ∷ []) =
-                (laws (e + d)).careful.complete s [] ((laws e).careful.grows (e + d) (omega arith) text) stop in
-            let here : p (e + d) (front ++ (x ∷ (more ++ (s ∷ [])))) ≡ Found a (x ∷ (more ++ (s ∷ []))) =
-                found_up p laws s stop d e (front ++ (x ∷ (more ++ (s ∷ [])))) a (x ∷ (more ++ (s ∷ []))) ((laws d).careful.found_alike front (more ++ (s ∷ [])) one) in
-            let same : ((front ++ (x ∷ [])) ++ more) ++ (s ∷ []) ≡ front ++ (x ∷ (more ++ (s ∷ []))) = append_assoc (front ++ (x ∷ [])) more (s ∷ []) ∙ append_assoc front (x ∷ []) (more ++ (s ∷ [])) in
-            not_empty [] x more (append_cancel_right [] (x ∷ more) (s ∷ []) (found_rest (sym there ∙ ap (p (e + d)) same ∙ here))))
+        let there : p (e + d) (((front ++ (x ∷ [])) ++ more) ++ (s ∷ [])) ≡ Found b (s ∷ []) =
+        (laws (e + d)).careful.complete s [] ((laws e).careful.grows (e + d) (omega arith) text) stop in
+        let here : p (e + d) (front ++ (x ∷ (more ++ (s ∷ [])))) ≡ Found a (x ∷ (more ++ (s ∷ []))) =
+        found_up p laws s stop d e (front ++ (x ∷ (more ++ (s ∷ [])))) a (x ∷ (more ++ (s ∷ []))) ((laws d).careful.found_alike front (more ++ (s ∷ [])) one) in
+        let same : ((front ++ (x ∷ [])) ++ more) ++ (s ∷ []) ≡ front ++ (x ∷ (more ++ (s ∷ []))) = append_assoc (front ++ (x ∷ [])) more (s ∷ []) ∙ append_assoc front (x ∷ []) (more ++ (s ∷ [])) in
+        not_empty [] x more (append_cancel_right [] (x ∷ more) (s ∷ []) (found_rest (sym there ∙ ap (p (e + d)) same ∙ here))))
         (whole_begins e front x begins)
 
     whole_syntax : (d : ℕ) (ts : List K) (x : K) (rest : List K) → whole ends p d ts ≡ Fault false (x ∷ rest) → IsSyntax (Whole ends D) d ts x rest
@@ -140,21 +140,21 @@ module _ {K A : Type 0} (ends : K → Bool) (D : Texts K A) (s : K) (stop : ends
           before = begins_whole d is.front is.before;
           never = λ e' begins. ⊎_elim
               (λ (b, text, end). not_both (
-                  sym ((laws (e' + d)).careful.complete x rest ((laws e').careful.grows (e' + d) (omega arith) text) end) ∙
-                  ap (p (e' + d)) (sym is.tokens) ∙ fault_up p laws s stop d e' ts (x ∷ rest) one))
+              sym ((laws (e' + d)).careful.complete x rest ((laws e').careful.grows (e' + d) (omega arith) text) end) ∙
+              ap (p (e' + d)) (sym is.tokens) ∙ fault_up p laws s stop d e' ts (x ∷ rest) one))
               (is.never e')
               (whole_begins e' is.front x begins);
         })
         (λ (a, middle, one, two).
-            let (shallow, is, off) = left_fault ends a middle false x rest two in
-            let (front, tokens, text) = (laws d).careful.sound one in
-            let split : ts ≡ front ++ (x ∷ rest) = tokens ∙ ap (λ l. front ++ l) is in
-            record {
-              front = front;
-              tokens = split;
-              before = begins_whole d front (a, [], subst (D d a) (sym (append-nil front)) text);
-              never = goes_wrong d a front x rest (ap (p d) (sym split) ∙ one ∙ ap (Found a) is) off;
-            })
+        let (shallow, is, off) = left_fault ends a middle false x rest two in
+        let (front, tokens, text) = (laws d).careful.sound one in
+        let split : ts ≡ front ++ (x ∷ rest) = tokens ∙ ap (λ l. front ++ l) is in
+        record {
+          front = front;
+          tokens = split;
+          before = begins_whole d front (a, [], subst (D d a) (sym (append-nil front)) text);
+          never = goes_wrong d a front x rest (ap (p d) (sym split) ∙ one ∙ ap (Found a) is) off;
+        })
         (fault_through (p d ts) (left_at ends) e)
 
     whole_too_deep : (d : ℕ) (ts : List K) (x : K) (rest : List K) → whole ends p d ts ≡ Fault true (x ∷ rest) → IsTooDeep (Whole ends D) d ts x rest
@@ -174,11 +174,11 @@ module _ {K A : Type 0} (ends : K → Bool) (D : Texts K A) (s : K) (stop : ends
 
     pub reads_whole : ReadsWhole ends p D
     reads_whole = record {
-        reads = λ d a front x rest end. (whole_reads d a front x rest end, whole_complete d a front x rest end);
-        stops = λ d ts a rest e.
-            let (b, middle, one, two) = found_through (p d ts) (left_at ends) e in
-            let (same, is, x, more, from, end) = left_found ends b a middle rest two in
-            (x, more, from, end);
-        one_tree = one_tree p laws s stop;
-        faults = record { syntax_at = whole_syntax; too_deep_at = whole_too_deep };
-      }
+      reads = λ d a front x rest end. (whole_reads d a front x rest end, whole_complete d a front x rest end);
+      stops = λ d ts a rest e.
+          let (b, middle, one, two) = found_through (p d ts) (left_at ends) e in
+          let (same, is, x, more, from, end) = left_found ends b a middle rest two in
+          (x, more, from, end);
+      one_tree = one_tree p laws s stop;
+      faults = record { syntax_at = whole_syntax; too_deep_at = whole_too_deep };
+    }

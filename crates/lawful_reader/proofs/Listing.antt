@@ -1,16 +1,15 @@
 -- The laws of single tokens and of lists of items.
-use Rattle.std.proofs.Common.{◌≡◌, ℕ, zero, suc, ◌+◌, ◌≤◌, ◌<◌, Bool, true, false, ◌⊎◌, inl, inr, ⊎_elim, List, [], ◌∷◌, ◌++◌, length, refl, sym, ap, ◌∙◌, subst, Option, arith}
+use Rattle.std.proofs.Common.{◌≡◌, ℕ, zero, suc, ◌+◌, ◌≤◌, ◌<◌, Bool, true, false, inl, inr, ⊎_elim, List, [], ◌∷◌, ◌++◌, length, refl, sym, ap, ◌∙◌, Option, arith}
 use Rattle.std.specs.Prelude.{if◌then◌else◌}
 use Rattle.std.proofs.Math.Nat.{le_refl}
 use Rattle.std.proofs.lemmas.List.{append_assoc, append-nil, length-append}
-use Rattle.lawful_reader.specs.Readers.{Answer, Found, Fault, Reader, pure, refuse, bind, go_on, on, token, look, items_in, items, some_items, fronted}
+use Rattle.lawful_reader.specs.Readers.{Answer, Found, Fault, Reader, pure, bind, go_on, token, items_in, items, some_items, fronted}
 use Rattle.lawful_reader.specs.Grammars.{Texts, Never, Is, One, Then, Or, Many, Some_of, Begins, first_of, Starts, Opens}
-use Rattle.lawful_reader.specs.Lawful.{Careful, Lawful, IsToken, IsPassed, IsYes, IsNo, Shortens}
-use Rattle.lawful_reader.proofs.Basics.{not_both, found_rest, fault_rest, found_through, fault_through}
-use Rattle.lawful_reader.proofs.Binding.{law_pure, careful_bind, law_bind}
+use Rattle.lawful_reader.specs.Lawful.{Careful, Lawful, IsToken, Shortens}
+use Rattle.lawful_reader.proofs.Binding.{law_pure, law_bind}
 use Rattle.lawful_reader.proofs.Choosing.{careful_refuse, law_on}
-use Rattle.lawful_reader.proofs.Fitting.{starts_is, starts_never, starts_then, starts_opens, opens_then, law_fit, law_same}
-use Rattle.lawful_reader.proofs.Looking.{decided, law_look}
+use Rattle.lawful_reader.proofs.Fitting.{starts_is, starts_never, starts_then, starts_opens, opens_then, law_fit}
+use Rattle.lawful_reader.proofs.Looking.{law_look}
 
 -- one token
 pub law_token : {K B : Type 0} {d : ℕ} {test : K → Option B} {spelled : B → K} {S : K → Type 0} → IsToken test spelled → B → Lawful d (token test) (token test) (One spelled) S
@@ -18,9 +17,9 @@ law_token {d = d} {spelled = spelled} {S = S} kind b = law_fit
     (λ e deep a text is. only_one spelled e a text is)
     (λ a text is. inl (a, spelled a ∷ [], [], is, refl, (refl, refl)))
     (law_on kind (λ b. law_pure d b S) (careful_refuse d S) starts_never b) where
-  only_one : {K B : Type 0} (spelled : B → K) (e : ℕ) (a : B) (text : List K) → Or (Then (One spelled) Is) Never e a text → One spelled e a text
-  only_one spelled e a text (inl (b, one, back, is, one_is, (same, none))) = rw is (rw none (rw one_is (rw same refl)))
-  only_one spelled e a text (inr none) = absurd none
+      only_one : {K B : Type 0} (spelled : B → K) (e : ℕ) (a : B) (text : List K) → Or (Then (One spelled) Is) Never e a text → One spelled e a text
+      only_one spelled e a text (inl (b, one, back, is, one_is, (same, none))) = rw is (rw none (rw one_is (rw same refl)))
+      only_one spelled e a text (inr none) = absurd none
 
 -- Turns and steps of a list of items, each of which takes a token.
 module _ {K A : Type 0} (begins : K → Bool) (item : Reader K A) (shortens : Shortens item) where
@@ -49,11 +48,11 @@ module _ {K A : Type 0} (begins : K → Bool) (item : Reader K A) (shortens : Sh
       items begins item (k ∷ ts) ≡ go_on (item (k ∷ ts)) (λ a. bind (items begins item) (λ more. pure (a ∷ more)))
   items_more k ts yes_is = ap (λ b. if b then bind item (λ a. bind (items_in (length ts) begins item) (λ more. pure (a ∷ more))) (k ∷ ts) else Found [] (k ∷ ts)) yes_is ∙
       all_turns (item (k ∷ ts)) refl where
-    all_turns : (answer : Answer K A) → item (k ∷ ts) ≡ answer →
-        go_on answer (λ a. bind (items_in (length ts) begins item) (λ more. pure (a ∷ more))) ≡ go_on answer (λ a. bind (items begins item) (λ more. pure (a ∷ more)))
-    all_turns (Found a rest) e = ap (λ answer. go_on answer (λ more. pure (a ∷ more)))
-        (turns_alike (length ts) (length rest) rest (let less = shortens (k ∷ ts) a rest e in grind (arith, less)) (le_refl (length rest)))
-    all_turns (Fault deep rest) e = refl
+        all_turns : (answer : Answer K A) → item (k ∷ ts) ≡ answer →
+            go_on answer (λ a. bind (items_in (length ts) begins item) (λ more. pure (a ∷ more))) ≡ go_on answer (λ a. bind (items begins item) (λ more. pure (a ∷ more)))
+        all_turns (Found a rest) e = ap (λ answer. go_on answer (λ more. pure (a ∷ more)))
+            (turns_alike (length ts) (length rest) rest (let less = shortens (k ∷ ts) a rest e in grind (arith, less)) (le_refl (length rest)))
+        all_turns (Fault deep rest) e = refl
 
   -- A loop: with the items so far in front, one more item, a fault in one, and the end.
   fronted_item : (done : List A) (a : A) (answer : Answer K (List A)) → fronted done (go_on answer (λ more. pure (a ∷ more))) ≡ fronted (done ++ (a ∷ [])) answer
@@ -83,7 +82,6 @@ Few n Item d list text = Many Item d list text × (length list ≤ n)
 module _ {K A : Type 0} {d : ℕ} {begins : K → Bool} {item item' : Reader K A} {Item : Texts K A} {U S : K → Type 0}
     (item_law : Lawful d item item' Item U) (opens : Opens d Item begins)
     (before_item : (k : K) → begins k ≡ true → U k) (at_end : (x : K) → S x → U x) (ends : (x : K) → S x → begins x ≡ false) where
-
   few_starts : (n : ℕ) → Starts d (Few n Item) S U
   few_starts n = record { begins_with = λ list text x (many, few) stop. many_starts list text x many stop } where
     many_starts : (list : List A) (text : List K) (x : K) → Many Item d list text → S x → U (first_of x text)
@@ -114,8 +112,8 @@ module _ {K A : Type 0} {d : ℕ} {begins : K → Bool} {item item' : Reader K A
       (law_look (careful_refuse d S) (law_pure d [] S) starts_never (starts_is ends))
   in_law (suc n) = law_fit (λ e deep list text is. to_few n e list text is) (from_few n)
       (law_look (law_bind item_law (λ a. law_bind (in_law n) (λ more. law_pure d (a ∷ more) S) (λ more. starts_is (λ x stop. stop)))
-              (λ a. starts_then (few_starts n) (λ more. starts_is (λ x stop. stop)))).careful
-          (law_pure d [] S) (starts_opens (opens_then opens)) (starts_is ends))
+      (λ a. starts_then (few_starts n) (λ more. starts_is (λ x stop. stop)))).careful
+      (law_pure d [] S) (starts_opens (opens_then opens)) (starts_is ends))
 
   -- an item takes a token
   pub item_shortens : Shortens item
@@ -142,20 +140,20 @@ module _ {K A : Type 0} {d : ℕ} {begins : K → Bool} {item item' : Reader K A
 
   items_careful : Careful d (items begins item) (items begins item') (Many Item) S
   items_careful = record {
-      sound = λ {ts} e. let (f, is, (many, few)) = (in_law (length ts)).careful.sound e in (f, is, many);
-      complete = λ {a = list} {front} x rest many stop. items_complete list front x rest many stop;
-      viable = λ {ts} e. let (f, is, some) = (in_law (length ts)).careful.viable e in (f, is, ⊎_elim inl (λ b. inr (begins_many (length ts) d f b)) some);
-      only_deeper = λ {ts} {x} e. let (f, is, e', deep, some) = (in_law (length ts)).careful.only_deeper e in (f, is, e', deep, begins_many (length ts) e' (f ++ (x ∷ [])) some);
-      found_alike = λ front {a = list} {x} {rest} other e.
-          let n = length (front ++ (x ∷ rest)) + length (front ++ (x ∷ other)) in
-          items_turns begins item item_shortens n (front ++ (x ∷ other)) (omega arith) ∙ (in_law n).careful.found_alike front other (sym (items_turns begins item item_shortens n (front ++ (x ∷ rest)) (omega arith)) ∙ e);
-      fault_alike = λ front {deep} {x} {rest} other e.
-          let n = length (front ++ (x ∷ rest)) + length (front ++ (x ∷ other)) in
-          items_turns begins item item_shortens n (front ++ (x ∷ other)) (omega arith) ∙ (in_law n).careful.fault_alike front other (sym (items_turns begins item item_shortens n (front ++ (x ∷ rest)) (omega arith)) ∙ e);
-      found_deeper = λ {ts} e. (in_law (length ts)).careful.found_deeper e;
-      fault_deeper = λ {ts} e. (in_law (length ts)).careful.fault_deeper e;
-      grows = λ {a = list} {front} e deep many. ((in_law (length list)).careful.grows e deep (many, le_refl (length list))).0;
-    }
+    sound = λ {ts} e. let (f, is, (many, few)) = (in_law (length ts)).careful.sound e in (f, is, many);
+    complete = λ {a = list} {front} x rest many stop. items_complete list front x rest many stop;
+    viable = λ {ts} e. let (f, is, some) = (in_law (length ts)).careful.viable e in (f, is, ⊎_elim inl (λ b. inr (begins_many (length ts) d f b)) some);
+    only_deeper = λ {ts} {x} e. let (f, is, e', deep, some) = (in_law (length ts)).careful.only_deeper e in (f, is, e', deep, begins_many (length ts) e' (f ++ (x ∷ [])) some);
+    found_alike = λ front {a = list} {x} {rest} other e.
+        let n = length (front ++ (x ∷ rest)) + length (front ++ (x ∷ other)) in
+        items_turns begins item item_shortens n (front ++ (x ∷ other)) (omega arith) ∙ (in_law n).careful.found_alike front other (sym (items_turns begins item item_shortens n (front ++ (x ∷ rest)) (omega arith)) ∙ e);
+    fault_alike = λ front {deep} {x} {rest} other e.
+        let n = length (front ++ (x ∷ rest)) + length (front ++ (x ∷ other)) in
+        items_turns begins item item_shortens n (front ++ (x ∷ other)) (omega arith) ∙ (in_law n).careful.fault_alike front other (sym (items_turns begins item item_shortens n (front ++ (x ∷ rest)) (omega arith)) ∙ e);
+    found_deeper = λ {ts} e. (in_law (length ts)).careful.found_deeper e;
+    fault_deeper = λ {ts} e. (in_law (length ts)).careful.fault_deeper e;
+    grows = λ {a = list} {front} e deep many. ((in_law (length list)).careful.grows e deep (many, le_refl (length list))).0;
+  }
 
   pub law_items : Lawful d (items begins item) (items begins item') (Many Item) S
   law_items = record { careful = items_careful; some_text = λ e deep. ([], [], refl) }
@@ -174,5 +172,4 @@ module _ {K A : Type 0} {d : ℕ} {begins : K → Bool} {item item' : Reader K A
   pub law_some_items : Lawful d (some_items begins item) (some_items begins item') (Some_of Item) S
   law_some_items = law_fit (λ e deep list text is. to_some e list text is) from_some
       (law_bind item_law (λ a. law_bind law_items (λ more. law_pure d (a ∷ more) S) (λ more. starts_is (λ x stop. stop)))
-          (λ a. starts_then many_starts_end (λ more. starts_is (λ x stop. stop))))
-
+      (λ a. starts_then many_starts_end (λ more. starts_is (λ x stop. stop))))

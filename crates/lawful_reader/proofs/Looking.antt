@@ -2,7 +2,7 @@
 use Rattle.std.proofs.Common.{◌≡◌, ℕ, ◌≤◌, Bool, true, false, ◌⊎◌, inl, inr, ⊎_elim, List, [], ◌∷◌, ◌++◌, refl, sym, ap, ◌∙◌, subst}
 use Rattle.std.specs.Prelude.{if◌then◌else◌}
 use Rattle.std.proofs.lemmas.List.{append_cancel_right}
-use Rattle.lawful_reader.specs.Readers.{Answer, Found, Fault, Reader, look, too_deep}
+use Rattle.lawful_reader.specs.Readers.{Found, Fault, Reader, look, too_deep}
 use Rattle.lawful_reader.specs.Grammars.{Texts, Or, Begins, first_of, Starts}
 use Rattle.lawful_reader.specs.Lawful.{Careful, Lawful, IsYes, IsNo}
 use Rattle.lawful_reader.proofs.Basics.{not_both, fault_rest, fault_deep, not_deep}
@@ -27,38 +27,37 @@ pub record CarefulWhere {K A : Type 0} (test : K → Bool) (d : ℕ) (p deeper :
 module _ {K A : Type 0} (test : K → Bool) {d : ℕ} {p p' : Reader K A} {D : Texts K A} {S : K → Type 0} where
   pub careful_where : Careful d p p' D S → CarefulWhere test d p p' D S
   careful_where law = record {
-      sound = λ is e. law.sound e;
-      complete = λ x rest from is text stop. law.complete x rest text stop;
-      viable = λ is e. law.viable e;
-      only_deeper = λ is e. law.only_deeper e;
-      found_alike = λ front other is e. law.found_alike front other e;
-      fault_alike = λ front other is e. law.fault_alike front other e;
-      found_deeper = λ is e. law.found_deeper e;
-      fault_deeper = λ is e. law.fault_deeper e;
-      grows = law.grows;
-    }
+    sound = λ is e. law.sound e;
+    complete = λ x rest from is text stop. law.complete x rest text stop;
+    viable = λ is e. law.viable e;
+    only_deeper = λ is e. law.only_deeper e;
+    found_alike = λ front other is e. law.found_alike front other e;
+    fault_alike = λ front other is e. law.fault_alike front other e;
+    found_deeper = λ is e. law.found_deeper e;
+    fault_deeper = λ is e. law.fault_deeper e;
+    grows = law.grows;
+  }
 
 -- where nothing that begins so is a text at this depth, and something is deeper
 pub too_deep_where : {K A : Type 0} (test : K → Bool) {d : ℕ} {p' : Reader K A} {D : Texts K A} {S : K → Type 0} → ((a : A) (text : List K) → D d a text → ⊥) → ((k : K) → test k ≡ true → (e : ℕ) × (d ≤ e) × Begins (D e) (k ∷ [])) → CarefulWhere test d too_deep p' D S
 too_deep_where test {D = D} none deep_text = record {
-    sound = λ is e. absurd (not_both (sym e));
-    complete = λ {a} {front} x rest from is text stop. absurd (none a front text);
-    viable = λ is e. ([], fault_rest e, inl refl);
-    only_deeper = λ {k} is e.
-        let same = fault_rest e in
-        let (e', deep, some) = deep_text k is in
-        ([], same, e', deep, subst (λ l. Begins (D e') (l ∷ [])) (ap (first_of k) same) some);
-    found_alike = λ front other is e. absurd (not_both (sym e));
-    fault_alike = λ front {deep} {x} {rest} other is e.
-        rw (append_cancel_right front [] (x ∷ rest) (fault_rest e)) (ap (λ b. Fault b (x ∷ other)) (fault_deep e));
-    found_deeper = λ is e. absurd (not_both (sym e));
-    fault_deeper = λ is e. absurd (not_deep (sym e));
-    grows = λ {a} {front} e deep text. absurd (none a front text);
-  }
+  sound = λ is e. absurd (not_both (sym e));
+  complete = λ {a} {front} x rest from is text stop. absurd (none a front text);
+  viable = λ is e. ([], fault_rest e, inl refl);
+  only_deeper = λ {k} is e.
+      let same = fault_rest e in
+      let (e', deep, some) = deep_text k is in
+      ([], same, e', deep, subst (λ l. Begins (D e') (l ∷ [])) (ap (first_of k) same) some);
+  found_alike = λ front other is e. absurd (not_both (sym e));
+  fault_alike = λ front {deep} {x} {rest} other is e.
+      rw (append_cancel_right front [] (x ∷ rest) (fault_rest e)) (ap (λ b. Fault b (x ∷ other)) (fault_deep e));
+  found_deeper = λ is e. absurd (not_both (sym e));
+  fault_deeper = λ is e. absurd (not_deep (sym e));
+  grows = λ {a} {front} e deep text. absurd (none a front text);
+}
 
 module _ {K A : Type 0} {test : K → Bool} {d : ℕ} {p p' q q' : Reader K A} {D P : Texts K A} {S : K → Type 0}
     (where_yes : CarefulWhere test d p p' D S) (where_no : Careful d q q' P S) (passing : Starts d D S (IsYes test)) (failing : Starts d P S (IsNo test)) where
-
   yes_is : {k : K} (ts : List K) → test k ≡ true → look test p q (k ∷ ts) ≡ p (k ∷ ts)
   yes_is {k} ts e = ap (λ b. if b then p (k ∷ ts) else q (k ∷ ts)) e
 
@@ -137,20 +136,20 @@ module _ {K A : Type 0} {test : K → Bool} {d : ℕ} {p p' q q' : Reader K A} {
 
   pub careful_look : Careful d (look test p q) (look test p' q') (Or D P) S
   careful_look = record {
-      sound = λ {ts} e. look_sound ts e;
-      complete = look_complete;
-      viable = λ {ts} e. look_viable ts e;
-      only_deeper = λ {ts} e. look_only_deeper ts e;
-      found_alike = look_found_alike;
-      fault_alike = look_fault_alike;
-      found_deeper = λ {ts} e. look_found_deeper ts e;
-      fault_deeper = λ {ts} e. look_fault_deeper ts e;
-      grows = look_grows;
-    }
+    sound = λ {ts} e. look_sound ts e;
+    complete = look_complete;
+    viable = λ {ts} e. look_viable ts e;
+    only_deeper = λ {ts} e. look_only_deeper ts e;
+    found_alike = look_found_alike;
+    fault_alike = look_fault_alike;
+    found_deeper = λ {ts} e. look_found_deeper ts e;
+    fault_deeper = λ {ts} e. look_fault_deeper ts e;
+    grows = look_grows;
+  }
 
 pub law_look : {K A : Type 0} {test : K → Bool} {d : ℕ} {p p' q q' : Reader K A} {D P : Texts K A} {S : K → Type 0} →
     Careful d p p' D S → Lawful d q q' P S → Starts d D S (IsYes test) → Starts d P S (IsNo test) → Lawful d (look test p q) (look test p' q') (Or D P) S
 law_look {test = test} one other passing failing = record {
-    careful = careful_look (careful_where test one) other.careful passing failing;
-    some_text = λ e deep. let (a, f, text) = other.some_text e deep in (a, f, inr text);
-  }
+  careful = careful_look (careful_where test one) other.careful passing failing;
+  some_text = λ e deep. let (a, f, text) = other.some_text e deep in (a, f, inr text);
+}

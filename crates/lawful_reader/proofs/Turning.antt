@@ -1,7 +1,7 @@
 -- One turn of a chain at a time, as a loop or a recursion in code takes it.
-use Rattle.std.proofs.Common.{◌≡◌, ℕ, zero, suc, ◌+◌, ◌≤◌, ◌<◌, Bool, true, false, ◌⊎◌, inl, inr, ⊎_elim, List, [], ◌∷◌, refl, sym, ap, ◌∙◌, subst, arith}
+use Rattle.std.proofs.Common.{◌≡◌, ℕ, zero, suc, ◌+◌, ◌≤◌, ◌<◌, true, false, ⊎_elim, List, [], ◌∷◌, refl, ap, ◌∙◌, arith}
 use Rattle.std.specs.Prelude.{if◌then◌else◌, nat_le}
-use Rattle.lawful_reader.specs.Readers.{Answer, Found, Fault, Reader, Operators, go_on, pure, bind, look, too_deep, chain_in, chain_more}
+use Rattle.lawful_reader.specs.Readers.{Answer, Found, Fault, Reader, Operators, go_on, bind, too_deep, chain_in, chain_more}
 use Rattle.lawful_reader.proofs.Looking.{decided}
 
 le_is : (a b : ℕ) → a ≤ b → nat_le a b ≡ true
@@ -31,7 +31,7 @@ module _ {K A O : Type 0} (ops : Operators K A O) (higher : (left : A) (o : O) (
   -- what stands behind a tree, where it may not fill the depth
   turn_alike : (n m : ℕ) (left : A) (ts : List K) → d ≤ suc n + ops.height left → d ≤ suc m + ops.height left →
       ((o : O) (right : A) (rest : List K) → d ≤ n + ops.height (ops.join left o right) → d ≤ m + ops.height (ops.join left o right) →
-          chain_in ops d operand n (ops.join left o right) rest ≡ chain_in ops d operand m (ops.join left o right) rest) →
+      chain_in ops d operand n (ops.join left o right) rest ≡ chain_in ops d operand m (ops.join left o right) rest) →
       (if nat_le d (ops.height left) then too_deep else behind n left) ts ≡ (if nat_le d (ops.height left) then too_deep else behind m left) ts
   turn_alike n m left ts few enough alike = ⊎_elim
       (λ full. rw full refl)

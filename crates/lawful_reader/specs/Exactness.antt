@@ -1,6 +1,6 @@
 -- What the laws come to: a reader at every depth and its grammar (this project's rule).
 use Rattle.std.specs.Prelude.{◌≡◌, ◌↔◌, ℕ, suc, Bool, true, false, List, [], ◌∷◌, ◌++◌}
-use Rattle.lawful_reader.specs.Readers.{Reader, Found, Fault, up_to}
+use Rattle.lawful_reader.specs.Readers.{Answer, Reader, Found, Fault, up_to}
 use Rattle.lawful_reader.specs.Grammars.{Texts, Begins}
 use Rattle.lawful_reader.specs.Lawful.{Lawful, IsYes}
 
@@ -47,3 +47,12 @@ pub record ReadsWhole {K A : Type 0} (ends : K → Bool) (p : ℕ → Reader K A
   pub stops : (d : ℕ) (ts : List K) (a : A) (rest : List K) → whole ends p d ts ≡ Found a rest → (x : K) × (more : List K) × (rest ≡ x ∷ more) × (ends x ≡ true)
   pub one_tree : (d e : ℕ) (a b : A) (text : List K) → D d a text → D e b text → a ≡ b
   pub faults : FaultsExactly (whole ends p) (Whole ends D)
+
+-- the texts that a test tells, at each depth and for each tree
+abbrev pub Told : {K A : Type 0} → (ℕ → A → List K → Bool) → Texts K A
+Told told d a text = told d a text ≡ true
+
+-- Readers that keep the laws of a grammar at every depth read its whole texts exactly.
+abbrev pub LawsReadWhole : Type 0 → Type 0 → Type 0
+LawsReadWhole K A = (ends : K → Bool) (p : ℕ → List K → Answer K A) (told : ℕ → A → List K → Bool) (s : K) → ends s ≡ true →
+    LawfulAtEach p (Told told) (IsYes ends) → ReadsWhole ends p (Told told)

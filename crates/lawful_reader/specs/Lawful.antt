@@ -1,7 +1,7 @@
 -- The laws that join a reader to its grammar (this project's rule).
 use Rattle.std.specs.Prelude.{◌≡◌, ℕ, suc, max, ◌<◌, ◌≤◌, Bool, true, false, ◌⊎◌, List, [], ◌∷◌, ◌++◌, length, Option, Some, None}
 use Rattle.lawful_reader.specs.Readers.{Reader, Found, Fault, Operators}
-use Rattle.lawful_reader.specs.Grammars.{Texts, Begins, Starts, Up_to, first_of}
+use Rattle.lawful_reader.specs.Grammars.{Texts, Begins, first_of}
 
 -- The reader p of depth d, with deeper as the same reader of one level more, before a token of Stops. Other branches of an alternative need no more than this.
 pub record Careful {K A : Type 0} (d : ℕ) (p deeper : Reader K A) (D : Texts K A) (Stops : K → Type 0) : Type 0 where

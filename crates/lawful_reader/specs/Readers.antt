@@ -96,7 +96,7 @@ chain_in ops d operand zero left = look (ops.goes_on left) too_deep (pure left)
 chain_in ops d operand (suc turns) left =
     look (ops.goes_on left)
     (if nat_le d (ops.height left) then too_deep
-     else bind (ops.operator left) (λ o. bind operand (λ right. chain_in ops d operand turns (ops.join left o right))))
+    else bind (ops.operator left) (λ o. bind operand (λ right. chain_in ops d operand turns (ops.join left o right))))
     (pure left)
 
 -- with as many turns as there are levels, which is enough
