@@ -1,0 +1,7 @@
+-- what follows from an answer, and small facts on lists
+pub mod Basics
+-- the laws of the words that readers are put together with
+pub mod Binding
+pub mod Choosing
+pub mod Fitting
+pub mod Deepening

@@ -1,0 +1,2 @@
+//! Readers of lists of tokens that keep the laws of their grammar, generic in tokens and trees.
+#![tactic(auto)]
