@@ -1,5 +1,5 @@
 -- The same law said otherwise: of an equal reader, with fewer tokens that stop it, or of the same texts in other words; and what texts begin with.
-use Rattle.std.proofs.Common.{◌≡◌, ℕ, ◌≤◌, Bool, true, inl, inr, ⊎_elim, List, [], ◌∷◌, ◌++◌, refl, sym, ap, ◌∙◌, subst}
+use Rattle.std.proofs.Common.{◌≡◌, ℕ, ◌≤◌, Bool, true, inl, inr, ⊎_elim, List, [], ◌∷◌, ◌++◌, refl, sym, ap, ◌∙◌, subst, Option, Some}
 use Rattle.std.proofs.Math.Nat.{le_refl}
 use Rattle.lawful_reader.specs.Readers.{Reader}
 use Rattle.lawful_reader.specs.Grammars.{Texts, Never, Is, One, Then, Or, Begins, first_of, Starts, Opens}
@@ -75,11 +75,11 @@ module _ {K A : Type 0} {d : ℕ} {S R : K → Type 0} where
   starts_is stops = record { begins_with = λ b text x (same, none) stop. rw none (stops x stop) }
 
   -- a token and anything
-  pub starts_token : {B : Type 0} {spelled : B → K} {E : B → Texts K A} → ((b : B) → R (spelled b)) → Starts d (Then (One spelled) E) S R
-  starts_token each = record { begins_with = λ a text x (b, one, back, is, one_is, more) stop. rw is (rw one_is (each b)) }
+  pub starts_token : {B : Type 0} {test : K → Option B} {E : B → Texts K A} → ((k : K) (b : B) → test k ≡ Some b → R k) → Starts d (Then (One test) E) S R
+  starts_token each = record { begins_with = λ a text x (b, one, back, is, (k, one_is, some), more) stop. rw is (rw one_is (each k b some)) }
 
-  pub starts_one : {spelled : A → K} → ((a : A) → R (spelled a)) → Starts d (One spelled) S R
-  starts_one each = record { begins_with = λ a text x is stop. rw is (each a) }
+  pub starts_one : {test : K → Option A} → ((k : K) (a : A) → test k ≡ Some a → R k) → Starts d (One test) S R
+  starts_one each = record { begins_with = λ a text x (k, is, some) stop. rw is (each k a some) }
 
   pub starts_or : {D P : Texts K A} → Starts d D S R → Starts d P S R → Starts d (Or D P) S R
   starts_or one other = record { begins_with = λ a text x either stop. ⊎_elim (λ is. one.begins_with a text x is stop) (λ is. other.begins_with a text x is stop) either }
@@ -103,8 +103,8 @@ pub starts_opens : {K A : Type 0} {d : ℕ} {D : Texts K A} {test : K → Bool} 
 starts_opens law = record { begins_with = λ a text x is stop. let (k, more, from, yes_is) = law.opens_with a text is in rw from yes_is }
 
 module _ {K A : Type 0} {d : ℕ} {test : K → Bool} where
-  pub opens_token : {B : Type 0} {spelled : B → K} {E : B → Texts K A} → ((b : B) → test (spelled b) ≡ true) → Opens d (Then (One spelled) E) test
-  opens_token each = record { opens_with = λ a text (b, one, back, is, one_is, more). (_, back, is ∙ ap (λ l. l ++ back) one_is, each b) }
+  pub opens_token : {B : Type 0} {taken : K → Option B} {E : B → Texts K A} → ((k : K) (b : B) → taken k ≡ Some b → test k ≡ true) → Opens d (Then (One taken) E) test
+  opens_token each = record { opens_with = λ a text (b, one, back, is, (k, one_is, some), more). (k, back, is ∙ ap (λ l. l ++ back) one_is, each k b some) }
 
   pub opens_or : {D P : Texts K A} → Opens d D test → Opens d P test → Opens d (Or D P) test
   opens_or one other = record { opens_with = λ a text either. ⊎_elim (λ is. one.opens_with a text is) (λ is. other.opens_with a text is) either }

@@ -1,25 +1,25 @@
 -- The laws of single tokens and of lists of items.
-use Rattle.std.proofs.Common.{◌≡◌, ℕ, zero, suc, ◌+◌, ◌≤◌, ◌<◌, Bool, true, false, inl, inr, ⊎_elim, List, [], ◌∷◌, ◌++◌, length, refl, sym, ap, ◌∙◌, Option, arith}
+use Rattle.std.proofs.Common.{◌≡◌, ℕ, zero, suc, ◌+◌, ◌≤◌, ◌<◌, Bool, true, false, inl, inr, ⊎_elim, List, [], ◌∷◌, ◌++◌, length, refl, sym, ap, ◌∙◌, Option, Some, arith}
 use Rattle.std.specs.Prelude.{if◌then◌else◌}
 use Rattle.std.proofs.Math.Nat.{le_refl}
 use Rattle.std.proofs.lemmas.List.{append_assoc, append-nil, length-append}
 use Rattle.lawful_reader.specs.Readers.{Answer, Found, Fault, Reader, pure, bind, go_on, token, items_in, items, some_items, fronted}
 use Rattle.lawful_reader.specs.Grammars.{Texts, Never, Is, One, Then, Or, Many, Some_of, Begins, first_of, Starts, Opens}
-use Rattle.lawful_reader.specs.Lawful.{Careful, Lawful, IsToken, Shortens}
+use Rattle.lawful_reader.specs.Lawful.{Careful, Lawful, Shortens}
 use Rattle.lawful_reader.proofs.Binding.{law_pure, law_bind}
 use Rattle.lawful_reader.proofs.Choosing.{careful_refuse, law_on}
 use Rattle.lawful_reader.proofs.Fitting.{starts_is, starts_never, starts_then, starts_opens, opens_then, law_fit}
 use Rattle.lawful_reader.proofs.Looking.{law_look}
 
 -- one token
-pub law_token : {K B : Type 0} {d : ℕ} {test : K → Option B} {spelled : B → K} {S : K → Type 0} → IsToken test spelled → B → Lawful d (token test) (token test) (One spelled) S
-law_token {d = d} {spelled = spelled} {S = S} kind b = law_fit
-    (λ e deep a text is. only_one spelled e a text is)
-    (λ a text is. inl (a, spelled a ∷ [], [], is, refl, (refl, refl)))
-    (law_on kind (λ b. law_pure d b S) (careful_refuse d S) starts_never b) where
-      only_one : {K B : Type 0} (spelled : B → K) (e : ℕ) (a : B) (text : List K) → Or (Then (One spelled) Is) Never e a text → One spelled e a text
-      only_one spelled e a text (inl (b, one, back, is, one_is, (same, none))) = rw is (rw none (rw one_is (rw same refl)))
-      only_one spelled e a text (inr none) = absurd none
+pub law_token : {K B : Type 0} {d : ℕ} {test : K → Option B} {S : K → Type 0} → (k : K) (b : B) → test k ≡ Some b → Lawful d (token test) (token test) (One test) S
+law_token {d = d} {test = test} {S = S} k b some = law_fit
+    (λ e deep a text is. only_one test e a text is)
+    (λ a text (x, is, same). inl (a, x ∷ [], [], is, (x, refl, same), (refl, refl)))
+    (law_on (λ c. law_pure d c S) (careful_refuse d S) starts_never k b some) where
+  only_one : {K B : Type 0} (test : K → Option B) (e : ℕ) (a : B) (text : List K) → Or (Then (One test) Is) Never e a text → One test e a text
+  only_one test e a text (inl (b, one, back, is, (x, one_is, same), (tree, none))) = (x, is ∙ ap (λ l. l ++ back) one_is ∙ ap (λ l. x ∷ l) none, same ∙ ap Some (sym tree))
+  only_one test e a text (inr none) = absurd none
 
 -- Turns and steps of a list of items, each of which takes a token.
 module _ {K A : Type 0} (begins : K → Bool) (item : Reader K A) (shortens : Shortens item) where

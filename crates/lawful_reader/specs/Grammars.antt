@@ -1,5 +1,5 @@
 -- Grammars: which texts spell a tree with at most so many levels below it. Nothing here reads (this project's rule).
-use Rattle.std.specs.Prelude.{◌≡◌, ℕ, zero, suc, ◌≤◌, Bool, true, ◌⊎◌, List, [], ◌∷◌, ◌++◌}
+use Rattle.std.specs.Prelude.{◌≡◌, ℕ, zero, suc, ◌≤◌, Bool, true, ◌⊎◌, List, [], ◌∷◌, ◌++◌, Option, Some}
 
 -- by the number of levels that may open below it: the tree and its text
 abbrev pub Texts : Type 0 → Type 0 → Type 1
@@ -13,9 +13,9 @@ Never d a text = ⊥
 abbrev pub Is : {K A : Type 0} → A → Texts K A
 Is a d tree text = (tree ≡ a) × (text ≡ [])
 
--- the one token with this content
-abbrev pub One : {K B : Type 0} → (B → K) → Texts K B
-One spelled d b text = text ≡ spelled b ∷ []
+-- one token that passes the test, with its content
+abbrev pub One : {K B : Type 0} → (K → Option B) → Texts K B
+One {K} test d b text = (k : K) × (text ≡ k ∷ []) × (test k ≡ Some b)
 
 -- a text of the one and then of the other, which may speak of the first tree
 abbrev pub Then : {K A B : Type 0} → Texts K A → (A → Texts K B) → Texts K B

@@ -1,5 +1,5 @@
 -- The laws that join a reader to its grammar (this project's rule).
-use Rattle.std.specs.Prelude.{◌≡◌, ℕ, suc, max, ◌<◌, ◌≤◌, Bool, true, false, ◌⊎◌, List, [], ◌∷◌, ◌++◌, length, Option, Some, None}
+use Rattle.std.specs.Prelude.{◌≡◌, ℕ, suc, max, ◌<◌, ◌≤◌, Bool, true, false, ◌⊎◌, List, [], ◌∷◌, ◌++◌, length, Option, None}
 use Rattle.lawful_reader.specs.Readers.{Reader, Found, Fault, Operators}
 use Rattle.lawful_reader.specs.Grammars.{Texts, Begins, first_of}
 
@@ -28,12 +28,7 @@ pub record Lawful {K A : Type 0} (d : ℕ) (p deeper : Reader K A) (D : Texts K 
   pub careful : Careful d p deeper D Stops
   pub some_text : (e : ℕ) → d ≤ e → (a : A) × (front : List K) × D e a front
 
--- The test takes exactly the tokens of one kind, with their content.
-pub record IsToken {K B : Type 0} (test : K → Option B) (spelled : B → K) : Type 0 where
-  pub takes : (b : B) → test (spelled b) ≡ Some b
-  pub only : (k : K) (b : B) → test k ≡ Some b → k ≡ spelled b
-
--- It passes none of these.
+-- The test passes none of these.
 abbrev pub IsPassed : {K B : Type 0} → (K → Option B) → K → Type 0
 IsPassed test k = test k ≡ None
 
