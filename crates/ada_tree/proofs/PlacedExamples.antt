@@ -58,7 +58,7 @@ words_are = (refl, refl, refl, refl, refl)
 
 -- pragmas before and behind the only entry of a task; the other way round, or past it, they could not be printed so
 pragmas_around : GoUp 0 1 (0 ∷ 1 ∷ [])
-pragmas_around = (omega arith, omega arith, omega arith, omega arith, tt)
+pragmas_around = (omega arith, omega arith, (omega arith, omega arith, tt))
 
 pragmas_back : GoUp 0 1 (1 ∷ 0 ∷ []) → ⊥
 pragmas_back h = let le : 1 ≤ 0 = h.2.0 in omega arith
