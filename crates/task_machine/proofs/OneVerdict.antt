@@ -1,20 +1,19 @@
 -- A list of events has one verdict: its first event that goes wrong is one, and the first condition that fails there goes by the views alone.
-use Rattle.std.proofs.Common.{◌≡◌, ℕ, zero, suc, pred, ◌+◌, ◌≤◌, ◌<◌, Bool, true, not, List, [], ◌∷◌, ◌++◌, length, if◌then◌else◌, refl, sym, ap, ◌∙◌, subst, arith, Option, Some, None, ◌⊎◌, inl, inr, ⊎_elim}
+use Rattle.std.proofs.Common.{◌≡◌, ℕ, zero, suc, pred, ◌+◌, ◌≤◌, Bool, true, not, List, [], ◌∷◌, ◌++◌, length, if◌then◌else◌, refl, sym, ap, ◌∙◌, subst, arith, Option, Some, ◌⊎◌, inl, inr, ⊎_elim}
 use Rattle.std.specs.Prelude.{All, find, option_map}
 use Rattle.std.proofs.lemmas.List.Elements.{All-contains, Contains-append_right}
 use Rattle.ada_tree.specs.PlainProgram.{PProgram}
 use Rattle.event_machine.specs.declared.Event.{Event}
 use Rattle.event_machine.specs.declared.Event.TheVariants.{R, E, S, D, C, T, F, X, B, Z}
-use Rattle.event_machine.specs.Offers.{Offer, calls_in, is_any_form, is_conditional, is_timed, waits_with, opens, is_else, is_delay, is_terminate, is_finish, is_end}
+use Rattle.event_machine.specs.Offers.{Offer, calls_in, is_any_form, is_conditional, is_timed, waits_with, opens, is_else, is_delay, is_finish, is_end}
 use Rattle.event_machine.specs.Seats.{is_closed}
-use Rattle.event_machine.specs.Worlds.{aborts, needs}
+use Rattle.event_machine.specs.Worlds.{aborts}
 use Rattle.syn_event.specs.Numbering.{Numbering, owner_of}
 use Rattle.task_machine.specs.declared.verdict.Why.{Why}
-use Rattle.task_machine.specs.declared.verdict.Verdict.{Verdict}
 use Rattle.task_machine.specs.declared.verdict.Verdict.TheVariants.{Feasible, Infeasible, Unsettled}
-use Rattle.task_machine.specs.Views.{IsFeasible, IsOpen, View, ViewIs}
-use Rattle.task_machine.specs.Conditions.{is_closed_view, is_served_view, Condition, closed, not_closed, not_served, at_offer, acts, others_may_end, may_end, is_end_of, conditions_of, tasks_to, needed_of, holds, why_of, failing_in, first_failing}
-use Rattle.task_machine.specs.Judging.{AreViews, NoneOpen, AllFeasible, IsReached, IsRefused, IsHeldUp, VerdictIs}
+use Rattle.task_machine.specs.Views.{IsFeasible, IsOpen, View}
+use Rattle.task_machine.specs.Conditions.{is_closed_view, Condition, closed, not_closed, not_served, at_offer, acts, others_may_end, may_end, is_end_of, conditions_of, needed_of, holds, why_of, failing_in, first_failing}
+use Rattle.task_machine.specs.Judging.{AreViews, NoneOpen, AllFeasible, IsReached, IsRefused, IsHeldUp}
 use Rattle.task_machine.specs.TaskLaws.{VerdictsAgree}
 use Rattle.task_machine.proofs.Tabled.{to_all}
 use Rattle.task_machine.proofs.Judged.{view_unique, stands_unique}
