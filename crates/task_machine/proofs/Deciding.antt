@@ -1,12 +1,10 @@
 -- Each list of events with nothing behind the end of the program has a verdict: what the needed tasks come to by so many steps can be tried out.
-use Rattle.std.proofs.Common.{◌≡◌, ℕ, zero, suc, ◌+◌, ◌≤◌, ◌<◌, Bool, true, false, List, [], ◌∷◌, ◌++◌, length, refl, sym, ap, ◌∙◌, subst, arith, ◌⊎◌, inl, inr, ⊎_elim, append_assoc, append-nil, not, true≢false, Some}
-use Rattle.std.specs.Prelude.{All}
+use Rattle.std.proofs.Common.{◌≡◌, ℕ, zero, suc, ◌+◌, ◌≤◌, ◌<◌, Bool, true, false, List, [], ◌∷◌, ◌++◌, length, refl, sym, ap, ◌∙◌, subst, arith, ◌⊎◌, inl, inr, ⊎_elim, append_assoc, append-nil, not, true≢false}
 use Rattle.std.specs.List.{list_all}
 use Rattle.std.proofs.lemmas.Bool.{and_parts}
 use Rattle.std.proofs.lemmas.List.Elements.{All-nil, All-cons}
 use Rattle.std.proofs.lemmas.List.Folds.{list_all-append}
 use Rattle.ada_tree.specs.PlainProgram.{PProgram}
-use Rattle.event_machine.specs.declared.Standing.{Standing}
 use Rattle.event_machine.specs.declared.Standing.TheVariants.{Live}
 use Rattle.event_machine.specs.declared.Event.{Event}
 use Rattle.event_machine.specs.Seats.{Seat, is_live}
@@ -136,10 +134,10 @@ module _ (p : PProgram) (numbers : Numbering) (bound : ℕ) where
     first_open (t ∷ tasks) = ⊎_elim
         (λ (opened : IsOpen p numbers events t bound). inl ([], tasks, t, refl, All-nil (λ u. IsOpen p numbers events u bound → ⊥), opened))
         (λ (k : (IsOpen p numbers events t bound → ⊥) × (seat : Seat Task) × IsSeat p numbers events t seat). ⊎_elim
-          (λ (r : (earlier later : List ℕ) × (task : ℕ) × (tasks ≡ (earlier ++ task ∷ later)) × NoneOpen p numbers bound events earlier × IsOpen p numbers events task bound).
-            inl (t ∷ r.0, r.1, r.2, ap (λ ts. t ∷ ts) r.3, All-cons (λ u. IsOpen p numbers events u bound → ⊥) t r.0 k.0 r.4, r.5))
-          (λ (none : NoneOpen p numbers bound events tasks). inr (All-cons (λ u. IsOpen p numbers events u bound → ⊥) t tasks k.0 none))
-          (first_open tasks))
+        (λ (r : (earlier later : List ℕ) × (task : ℕ) × (tasks ≡ (earlier ++ task ∷ later)) × NoneOpen p numbers bound events earlier × IsOpen p numbers events task bound).
+        inl (t ∷ r.0, r.1, r.2, ap (λ ts. t ∷ ts) r.3, All-cons (λ u. IsOpen p numbers events u bound → ⊥) t r.0 k.0 r.4, r.5))
+        (λ (none : NoneOpen p numbers bound events tasks). inr (All-cons (λ u. IsOpen p numbers events u bound → ⊥) t tasks k.0 none))
+        (first_open tasks))
         (found t)
 
     module _ (e : Event) where
@@ -158,7 +156,7 @@ module _ (p : PProgram) (numbers : Numbering) (bound : ℕ) where
       one_more : (verdict : Verdict) × VerdictIs p numbers bound (events ++ e ∷ []) verdict
       one_more = ⊎_elim
           (λ (r : (earlier later : List ℕ) × (task : ℕ) × (needed_of numbers e ≡ (earlier ++ task ∷ later)) × NoneOpen p numbers bound events earlier × IsOpen p numbers events task bound).
-            (Unsettled (length events + 1) r.2, verdict_held p numbers bound events e r.2 r.0 r.1 well r.3 r.4 r.5))
+          (Unsettled (length events + 1) r.2, verdict_held p numbers bound events e r.2 r.0 r.1 well r.3 r.4 r.5))
           (λ (none : NoneOpen p numbers bound events (needed_of numbers e)). settled none (all_hold numbers views e) refl)
           (first_open (needed_of numbers e))
 

@@ -1,20 +1,19 @@
 -- A list of events has one verdict: its first event that goes wrong is one, and the first condition that fails there goes by the views alone.
-use Rattle.std.proofs.Common.{◌≡◌, ℕ, zero, suc, pred, ◌+◌, ◌≤◌, ◌<◌, Bool, true, not, List, [], ◌∷◌, ◌++◌, length, if◌then◌else◌, refl, sym, ap, ◌∙◌, subst, arith, Option, Some, None, ◌⊎◌, inl, inr, ⊎_elim}
+use Rattle.std.proofs.Common.{◌≡◌, ℕ, zero, suc, pred, ◌+◌, ◌≤◌, Bool, true, not, List, [], ◌∷◌, ◌++◌, length, if◌then◌else◌, refl, sym, ap, ◌∙◌, subst, arith, Option, Some, ◌⊎◌, inl, inr, ⊎_elim}
 use Rattle.std.specs.Prelude.{All, find, option_map}
 use Rattle.std.proofs.lemmas.List.Elements.{All-contains, Contains-append_right}
 use Rattle.ada_tree.specs.PlainProgram.{PProgram}
 use Rattle.event_machine.specs.declared.Event.{Event}
 use Rattle.event_machine.specs.declared.Event.TheVariants.{R, E, S, D, C, T, F, X, B, Z}
-use Rattle.event_machine.specs.Offers.{Offer, calls_in, is_any_form, is_conditional, is_timed, waits_with, opens, is_else, is_delay, is_terminate, is_finish, is_end}
+use Rattle.event_machine.specs.Offers.{Offer, calls_in, is_any_form, is_conditional, is_timed, waits_with, opens, is_else, is_delay, is_finish, is_end}
 use Rattle.event_machine.specs.Seats.{is_closed}
-use Rattle.event_machine.specs.Worlds.{aborts, needs}
+use Rattle.event_machine.specs.Worlds.{aborts}
 use Rattle.syn_event.specs.Numbering.{Numbering, owner_of}
 use Rattle.task_machine.specs.declared.verdict.Why.{Why}
-use Rattle.task_machine.specs.declared.verdict.Verdict.{Verdict}
 use Rattle.task_machine.specs.declared.verdict.Verdict.TheVariants.{Feasible, Infeasible, Unsettled}
-use Rattle.task_machine.specs.Views.{IsFeasible, IsOpen, View, ViewIs}
-use Rattle.task_machine.specs.Conditions.{is_closed_view, is_served_view, Condition, closed, not_closed, not_served, at_offer, acts, others_may_end, may_end, is_end_of, conditions_of, tasks_to, needed_of, holds, why_of, failing_in, first_failing}
-use Rattle.task_machine.specs.Judging.{AreViews, NoneOpen, AllFeasible, IsReached, IsRefused, IsHeldUp, VerdictIs}
+use Rattle.task_machine.specs.Views.{IsFeasible, IsOpen, View}
+use Rattle.task_machine.specs.Conditions.{is_closed_view, Condition, closed, not_closed, not_served, at_offer, acts, others_may_end, may_end, is_end_of, conditions_of, needed_of, holds, why_of, failing_in, first_failing}
+use Rattle.task_machine.specs.Judging.{AreViews, NoneOpen, AllFeasible, IsReached, IsRefused, IsHeldUp}
 use Rattle.task_machine.specs.TaskLaws.{VerdictsAgree}
 use Rattle.task_machine.proofs.Tabled.{to_all}
 use Rattle.task_machine.proofs.Judged.{view_unique, stands_unique}
@@ -31,8 +30,8 @@ two_splits (a ∷ xs) [] rest others x y h = inr (inr (xs, ap (λ z. z ∷ xs) (
 two_splits (a ∷ xs) (b ∷ ys) rest others x y h = ⊎_elim
     (λ (k : (xs ≡ ys) × (x ≡ y)). inl ((λ i. cons_head h i ∷ k.0 i), k.1))
     (⊎_elim
-      (λ (k : (mid : List _) × (ys ≡ (xs ++ x ∷ mid))). inr (inl (k.0, (λ i. sym (cons_head h) i ∷ k.1 i))))
-      (λ (k : (mid : List _) × (xs ≡ (ys ++ y ∷ mid))). inr (inr (k.0, (λ i. cons_head h i ∷ k.1 i)))))
+    (λ (k : (mid : List _) × (ys ≡ (xs ++ x ∷ mid))). inr (inl (k.0, (λ i. sym (cons_head h) i ∷ k.1 i))))
+    (λ (k : (mid : List _) × (xs ≡ (ys ++ y ∷ mid))). inr (inr (k.0, (λ i. cons_head h i ∷ k.1 i)))))
     (two_splits xs ys rest others x y (cons_tail h))
 
 -- what holds of each holds of the one at a place
@@ -143,8 +142,8 @@ module _ (p : PProgram) (numbers : Numbering) where
     same_place at other_at before other e f r wrong r' wrong' = ⊎_elim
         (λ (k : (before ≡ other) × (e ≡ f)). k)
         (⊎_elim
-          (λ (k : (mid : List Event) × (other ≡ (before ++ e ∷ mid))). absurd (none_wrong other before k.0 e r'.went_well k.1 wrong))
-          (λ (k : (mid : List Event) × (before ≡ (other ++ f ∷ mid))). absurd (none_wrong before other k.0 f r.went_well k.1 wrong')))
+        (λ (k : (mid : List Event) × (other ≡ (before ++ e ∷ mid))). absurd (none_wrong other before k.0 e r'.went_well k.1 wrong))
+        (λ (k : (mid : List Event) × (before ≡ (other ++ f ∷ mid))). absurd (none_wrong before other k.0 f r.went_well k.1 wrong')))
         (two_splits before other r.rest r'.rest e f (sym r.splits ∙ r'.splits))
 
     places : (at other_at : ℕ) (before other : List Event) (e f : Event) → IsReached p numbers bound events at before e → IsReached p numbers bound events other_at other f →
@@ -159,9 +158,9 @@ module _ (p : PProgram) (numbers : Numbering) where
         let (b, e) = same_place at other_at v.before u.before v.event u.event v.reached (refused_wrong at why v) u.reached (refused_wrong other_at other u) in (
           places at other_at v.before u.before v.event u.event v.reached u.reached b,
           some_same why other (sym v.fails
-          ∙ failing_unique v.before v.event v.views u.views v.seen
+              ∙ failing_unique v.before v.event v.views u.views v.seen
               (subst (λ (es : List Event). AreViews p numbers es v.event u.views) (sym b) (subst (λ x. AreViews p numbers u.before x u.views) (sym e) u.seen))
-          ∙ ap (λ x. first_failing numbers u.views x) e ∙ u.fails),
+              ∙ ap (λ x. first_failing numbers u.views x) e ∙ u.fails),
         )
 
     held_held : (at other_at task other : ℕ) → IsHeldUp p numbers bound events at task → IsHeldUp p numbers bound events other_at other → (at ≡ other_at) × (task ≡ other)
@@ -171,10 +170,10 @@ module _ (p : PProgram) (numbers : Numbering) where
           ⊎_elim
               (λ (k : (v.earlier ≡ u.earlier) × (task ≡ other)). k.1)
               (⊎_elim
-                (λ (k : (mid : List ℕ) × (u.earlier ≡ (v.earlier ++ task ∷ mid))). absurd (at_split (λ t. IsOpen p numbers u.before t bound → ⊥) v.earlier k.0 task
-                    (subst (λ ts. NoneOpen p numbers bound u.before ts) k.1 u.none_open) (subst (λ (es : List Event). IsOpen p numbers es task bound) b v.stays_open)))
-                (λ (k : (mid : List ℕ) × (v.earlier ≡ (u.earlier ++ other ∷ mid))). absurd (at_split (λ t. IsOpen p numbers v.before t bound → ⊥) u.earlier k.0 other
-                    (subst (λ ts. NoneOpen p numbers bound v.before ts) k.1 v.none_open) (subst (λ (es : List Event). IsOpen p numbers es other bound) (sym b) u.stays_open))))
+              (λ (k : (mid : List ℕ) × (u.earlier ≡ (v.earlier ++ task ∷ mid))). absurd (at_split (λ t. IsOpen p numbers u.before t bound → ⊥) v.earlier k.0 task
+              (subst (λ ts. NoneOpen p numbers bound u.before ts) k.1 u.none_open) (subst (λ (es : List Event). IsOpen p numbers es task bound) b v.stays_open)))
+              (λ (k : (mid : List ℕ) × (v.earlier ≡ (u.earlier ++ other ∷ mid))). absurd (at_split (λ t. IsOpen p numbers v.before t bound → ⊥) u.earlier k.0 other
+              (subst (λ ts. NoneOpen p numbers bound v.before ts) k.1 v.none_open) (subst (λ (es : List Event). IsOpen p numbers es other bound) (sym b) u.stays_open))))
               (two_splits v.earlier u.earlier v.later u.later task other (sym v.order ∙ ap (needed_of numbers) e ∙ u.order)),
         )
 
