@@ -3,9 +3,9 @@
 ghost use Rattle.std.specs.Prelude.{◌≡◌, pred, length, ◌<◌, ◌^◌};
 ghost use Rattle.event_machine.specs.Offers as offers;
 ghost use Rattle.event_machine.specs.Worlds.{aborts};
-ghost use Rattle.task_machine.specs.Conditions.{first_failing, failing_in, others_can_end};
+ghost use Rattle.task_machine.specs.Conditions.{failing_in, others_can_end};
 ghost use Rattle.task_machine.specs.Table.{seat_of, offer_in_seat};
-ghost use Rattle.feasible.specs.Failing.{why, first_of, act_fails, closed_fails, open_fails, main_fails, other_fails, view_at};
+ghost use Rattle.feasible.specs.Failing.{why, first_of, act_fails, closed_fails, open_fails, main_fails, other_fails, view_at, act_asked, asked};
 
 use event_machine::{CallForm, Event, Standing};
 use syn_event::Numbers;
@@ -18,9 +18,8 @@ use task_machine::{Cause, Why};
 
 // Why the event can't happen as the tasks stand: the first of its conditions that fails.
 pub(crate) fn failing(seats: &[Seat], numbers: &Numbers, e: &Event) -> Option<Why>
-    requires few { length seats.now < 2 ^ 32 }
-    requires size { length seats.now ≡ length numbers.now.tasks }
-    ensures { result ≡ first_failing numbers.now (view_at seats.now) e.now }
+    requires { length seats.now < 2 ^ 32 }
+    ensures { result ≡ asked numbers.now seats.now e.now }
 {
     match *e {
         Event::R { c, e, i } => failing_start(seats, numbers.owner(e), c, e, i),
@@ -86,7 +85,7 @@ fn failing_act(seats: &[Seat], t: u32, passes: bool) -> Option<Why>
 
 // Why the rendezvous of the caller with the owner of the entry can't start.
 fn failing_start(seats: &[Seat], owner: u32, c: u32, e: u32, i: i32) -> Option<Why>
-    ensures { result ≡ first_of (act_fails (view_at seats.now c) c (offers.calls_in offers.is_any_form e i (offer_in_seat (seat_of seats.now c)))) (act_fails (view_at seats.now owner) owner (offers.waits_with (offers.opens e i) (offer_in_seat (seat_of seats.now owner)))) }
+    ensures { result ≡ first_of (act_asked seats.now c (offers.calls_in offers.is_any_form e i)) (act_asked seats.now owner (offers.waits_with (offers.opens e i))) }
 {
     let caller = failing_act(seats, c, calls_member(seats, c, e, i));
     let acceptor = failing_act(seats, owner, opens_member(seats, owner, e, i));
