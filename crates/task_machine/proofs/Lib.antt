@@ -3,3 +3,4 @@ pub mod Mapping
 pub mod Filtered
 pub mod Listed
 pub mod TaskLaws
+pub mod Tabled
