@@ -12,7 +12,7 @@ use Rattle.syn_event.specs.Numbering.{Numbering, owner_of}
 use Rattle.task_local.specs.Steps.{offer_of}
 use Rattle.task_machine.specs.declared.verdict.Cause.TheVariants as cause
 use Rattle.task_machine.specs.declared.verdict.Why.{Why}
-use Rattle.task_machine.specs.Conditions.{Condition, holds, why_of, failing_in, first_failing, conditions_of, acts, not_served, not_closed, closed, at_offer, can_end, others_can_end, is_end_of}
+use Rattle.task_machine.specs.Conditions.{Condition, holds, why_of, failing_in, first_failing, conditions_of, acts, not_served, not_closed, closed, at_offer, may_end, others_may_end, is_end_of}
 use Rattle.task_machine.specs.Table.{Tasks, seat_of}
 use Rattle.task_machine.specs.Views.{View, Completed, Abnormal, Busy, At, view_in, view_of}
 use Rattle.feasible.specs.Failing.{why, first_of, act_fails, closed_fails, open_fails, main_fails, other_fails, view_at, act_asked, asked}
@@ -84,13 +84,13 @@ main_asked (At offer) passes h = go (is_end offer) passes h
     go false true e = absurd (true≢false e)
     go false false e = refl
 
-pub other_asked : (v : View) (t : ℕ) (passes : Bool) → Fits v (waits_with is_terminate) passes → failing_in (λ u. v) (not_served t ∷ can_end t ∷ []) ≡ other_fails v t passes
+pub other_asked : (v : View) (t : ℕ) (passes : Bool) → Fits v (waits_with is_terminate) passes → failing_in (λ u. v) (not_served t ∷ may_end t ∷ []) ≡ other_fails v t passes
 other_asked Completed t passes h = refl
 other_asked Abnormal t passes h = refl
 other_asked Busy t passes h = refl
 other_asked (At offer) t passes h = go (waits_with is_terminate offer) passes h
   where
-    go : (b c : Bool) → c ≡ b → option_map why_of (if not b then Some (can_end t) else None) ≡ (if c then None else why cause.Offer t)
+    go : (b c : Bool) → c ≡ b → option_map why_of (if not b then Some (may_end t) else None) ≡ (if c then None else why cause.Offer t)
     go true true e = refl
     go true false e = absurd (true≢false (sym e))
     go false true e = absurd (true≢false e)
@@ -103,19 +103,19 @@ module _ (tasks : Tasks) where
   acting t test = acts_asked (view_at tasks t) t test (test (offer_of (seat_of tasks t).local)) (fits (seat_of tasks t).standing (offer_of (seat_of tasks t).local) test)
 
   -- a further task is asked whether it can end
-  pub others_more : (t : ℕ) → failing_in (view_at tasks) (others_can_end (suc t)) ≡
-      first_of (failing_in (view_at tasks) (others_can_end t)) (other_fails (view_at tasks (suc t)) (suc t) (waits_with is_terminate (offer_of (seat_of tasks (suc t)).local)))
-  others_more t = failing_append (view_at tasks) (others_can_end t) (not_served (suc t) ∷ can_end (suc t) ∷ []) ∙
-      ap (first_of (failing_in (view_at tasks) (others_can_end t)))
+  pub others_more : (t : ℕ) → failing_in (view_at tasks) (others_may_end (suc t)) ≡
+      first_of (failing_in (view_at tasks) (others_may_end t)) (other_fails (view_at tasks (suc t)) (suc t) (waits_with is_terminate (offer_of (seat_of tasks (suc t)).local)))
+  others_more t = failing_append (view_at tasks) (others_may_end t) (not_served (suc t) ∷ may_end (suc t) ∷ []) ∙
+      ap (first_of (failing_in (view_at tasks) (others_may_end t)))
       (other_asked (view_at tasks (suc t)) (suc t) (waits_with is_terminate (offer_of (seat_of tasks (suc t)).local))
       (fits (seat_of tasks (suc t)).standing (offer_of (seat_of tasks (suc t)).local) (waits_with is_terminate)))
 
   -- what fails among fewer is what fails among all
-  pub others_first : (n t : ℕ) (w : Why) → t ≤ n → failing_in (view_at tasks) (others_can_end t) ≡ Some w → failing_in (view_at tasks) (others_can_end n) ≡ Some w
-  others_first zero t w l h = let e : t ≡ 0 = omega arith in subst (λ u. failing_in (view_at tasks) (others_can_end u) ≡ Some w) e h
+  pub others_first : (n t : ℕ) (w : Why) → t ≤ n → failing_in (view_at tasks) (others_may_end t) ≡ Some w → failing_in (view_at tasks) (others_may_end n) ≡ Some w
+  others_first zero t w l h = let e : t ≡ 0 = omega arith in subst (λ u. failing_in (view_at tasks) (others_may_end u) ≡ Some w) e h
   others_first (suc n) t w l h = ⊎_elim
       (λ (k : t < suc n). others_more n ∙ ap (λ o. first_of o (other_fails (view_at tasks (suc n)) (suc n) (waits_with is_terminate (offer_of (seat_of tasks (suc n)).local)))) (others_first n t w (omega arith) h))
-      (λ (k : suc n ≤ t). let e : t ≡ suc n = omega arith in subst (λ u. failing_in (view_at tasks) (others_can_end u) ≡ Some w) e h)
+      (λ (k : suc n ≤ t). let e : t ≡ suc n = omega arith in subst (λ u. failing_in (view_at tasks) (others_may_end u) ≡ Some w) e h)
       (cases_lt t (suc n))
 
   two : (xs ys : List Condition) (a b : Option Why) → failing_in (view_at tasks) xs ≡ a → failing_in (view_at tasks) ys ≡ b → failing_in (view_at tasks) (xs ++ ys) ≡ first_of a b
@@ -136,6 +136,6 @@ module _ (tasks : Tasks) where
       (acting c (calls_in is_any_form e i)) (closed_asked (view_at tasks (owner_of numbers e)) (owner_of numbers e)))
   asked_all numbers (X a) size = sym (acting a (is_end_of a))
   asked_all numbers (B t x) size = sym (acting t (aborts x))
-  asked_all numbers Z size = sym (two (not_served 0 ∷ at_offer 0 is_end ∷ []) (others_can_end (pred (length numbers.tasks))) _ _
+  asked_all numbers Z size = sym (two (not_served 0 ∷ at_offer 0 is_end ∷ []) (others_may_end (pred (length numbers.tasks))) _ _
       (main_asked (view_at tasks 0) (is_end (offer_of (seat_of tasks 0).local)) (fits (seat_of tasks 0).standing (offer_of (seat_of tasks 0).local) is_end))
-      (ap (λ n. failing_in (view_at tasks) (others_can_end (pred n))) (sym size)))
+      (ap (λ n. failing_in (view_at tasks) (others_may_end (pred n))) (sym size)))

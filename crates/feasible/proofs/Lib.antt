@@ -1,3 +1,4 @@
 pub mod Running
 pub mod Asking
 pub mod Recounting
+pub mod Judging

@@ -1,5 +1,5 @@
 -- Counts that begin anew, one after the other and by a loop.
-use Rattle.std.proofs.Common.{◌≡◌, ℕ, zero, suc, ◌+◌, ◌<◌, ◌≤◌, Bool, true, false, not, ◌&&◌, ◌||◌, ◌==◌, if◌then◌else◌, List, [], ◌∷◌, length, refl, sym, ap, ◌∙◌, subst, ⊎_elim, true≢false, slice_set, arith, Option, Some, None}
+use Rattle.std.proofs.Common.{◌≡◌, ℕ, zero, suc, ◌+◌, ◌<◌, ◌≤◌, Bool, true, false, not, ◌&&◌, ◌||◌, ◌==◌, if◌then◌else◌, List, [], ◌∷◌, ◌++◌, length, refl, sym, ap, ◌∙◌, subst, ⊎_elim, true≢false, slice_set, arith, Option, Some, None}
 use Rattle.std.specs.Prelude.{slice_index, slice_get, nat_lt}
 use Rattle.std.proofs.lemmas.Bool.{eqb-true, eqb-false, cases_lt, lt-ltb, le-ltb}
 use Rattle.std.proofs.lemmas.List.{get_or-set_same, get_or-set_other, get_or_past, length-set}
@@ -127,3 +127,11 @@ first_is (x ∷ xs) c t h = let e : ◌≡◌ {A = Option ℕ} (Some x) (Some c)
 pub first_none : (xs : List ℕ) (t : ℕ) → slice_get xs 0 ≡ None → is_first t xs ≡ false
 first_none [] t h = refl
 first_none (x ∷ xs) t h = let e : ◌≡◌ {A = Option ℕ} (Some x) None = h in absurd (cc)
+
+-- ---- counts that are all 0
+
+pub zeros_push : (a : List ℕ) → ((t : ℕ) → slice_index a t ≡ 0) → (t : ℕ) → slice_index (a ++ 0 ∷ []) t ≡ 0
+zeros_push [] h zero = refl
+zeros_push [] h (suc t) = refl
+zeros_push (x ∷ xs) h zero = h 0
+zeros_push (x ∷ xs) h (suc t) = zeros_push xs (λ u. h (suc u)) t

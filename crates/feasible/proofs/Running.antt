@@ -62,7 +62,7 @@ module _ (bound : ℕ) where
   have_run_none tasks steps = record {
     standing = λ t. refl;
     each = λ t. has_run_none (seat_of tasks t).local (slice_index steps t);
-    others = λ t h. refl;
+    others = λ t h. (refl, refl);
     size = refl;
     counts = refl;
     within = λ h t. h t;
@@ -72,7 +72,7 @@ module _ (bound : ℕ) where
   have_run_on r s = record {
     standing = λ t. s.standing t ∙ r.standing t;
     each = λ t. has_run_on (r.each t) (s.each t);
-    others = λ t h. s.others t (ap is_live (r.standing t) ∙ h) ∙ r.others t h;
+    others = λ t h. let k = s.others t (ap is_live (r.standing t) ∙ h) in let g = r.others t h in (k.0 ∙ g.0, k.1 ∙ g.1);
     size = s.size ∙ r.size;
     counts = s.counts ∙ r.counts;
     within = λ h. s.within (r.within h);
@@ -93,7 +93,7 @@ module _ (bound : ℕ) where
         (same_or_other u);
     others = λ u idle. ⊎_elim
         (λ e. absurd (true≢false (sym free ∙ ap (λ v. is_live (seat_of tasks v).standing) e ∙ idle)))
-        (λ n. get_or-set_other tasks t u seat (completed nobody) n)
+        (λ n. (get_or-set_other tasks t u seat (completed nobody) n, get_or-set_other steps t u c 0 n))
         (same_or_other u);
     size = length-set tasks t seat;
     counts = length-set steps t c;
@@ -134,7 +134,7 @@ module _ (bound : ℕ) where
       where
         go : (z : Bool) → is_live (seat_of a t).standing ≡ z → seat_of b t ≡ seat_of a t
         go true q = seat_path (run_at_rest (r.each t) (h q)) (r.standing t)
-        go false q = r.others t q
+        go false q = (r.others t q).0
 
     pub settled_stays : (t : ℕ) → IsSettled a t → IsSettled b t
     settled_stays t h = subst (λ (x : Seat Task). is_live x.standing ≡ true → can_step x.local ≡ false) (sym (settled_same t h)) h

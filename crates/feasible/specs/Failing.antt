@@ -5,7 +5,7 @@ use Rattle.event_machine.specs.declared.Event.TheVariants.{R, E, S, D, C, T, F, 
 use Rattle.event_machine.specs.Offers.{Offer, calls_in, is_any_form, is_conditional, is_timed, waits_with, opens, is_else, is_delay, is_finish, is_end}
 use Rattle.event_machine.specs.Worlds.{aborts}
 use Rattle.syn_event.specs.Numbering.{Numbering, owner_of}
-use Rattle.task_machine.specs.Conditions.{failing_in, others_can_end, is_end_of}
+use Rattle.task_machine.specs.Conditions.{failing_in, others_may_end, is_end_of}
 use Rattle.task_machine.specs.declared.verdict.Cause.{Cause}
 use Rattle.task_machine.specs.declared.verdict.Cause.TheVariants as cause
 use Rattle.task_machine.specs.declared.verdict.Why.{Why}
@@ -64,7 +64,7 @@ abbrev pub act_asked : Tasks → ℕ → (Offer → Bool) → Option Why
 act_asked tasks t test = act_fails (view_at tasks t) t (test (offer_in_seat (seat_of tasks t)))
 
 abbrev pub end_asked : Tasks → Option Why
-end_asked tasks = first_of (main_fails (view_at tasks 0) (is_end (offer_in_seat (seat_of tasks 0)))) (failing_in (view_at tasks) (others_can_end (pred (length tasks))))
+end_asked tasks = first_of (main_fails (view_at tasks 0) (is_end (offer_in_seat (seat_of tasks 0)))) (failing_in (view_at tasks) (others_may_end (pred (length tasks))))
 
 abbrev pub asked : Numbering → Tasks → Event → Option Why
 asked numbers tasks (R c e i) = first_of (act_asked tasks c (calls_in is_any_form e i)) (act_asked tasks (owner_of numbers e) (waits_with (opens e i)))

@@ -18,7 +18,7 @@ pub record HasRun (old : Task) (steps : ℕ) (new : Task) (counted : ℕ) : Type
 pub record HaveRun (bound : ℕ) (tasks : Tasks) (steps : List ℕ) (tasks' : Tasks) (steps' : List ℕ) : Type 0 where
   pub standing : (t : ℕ) → (seat_of tasks' t).standing ≡ (seat_of tasks t).standing
   pub each : (t : ℕ) → HasRun (seat_of tasks t).local (slice_index steps t) (seat_of tasks' t).local (slice_index steps' t)
-  pub others : (t : ℕ) → is_live (seat_of tasks t).standing ≡ false → seat_of tasks' t ≡ seat_of tasks t
+  pub others : (t : ℕ) → is_live (seat_of tasks t).standing ≡ false → (seat_of tasks' t ≡ seat_of tasks t) × (slice_index steps' t ≡ slice_index steps t)
   pub size : length tasks' ≡ length tasks
   pub counts : length steps' ≡ length steps
   pub within : ((t : ℕ) → slice_index steps t ≤ bound) → (t : ℕ) → slice_index steps' t ≤ bound

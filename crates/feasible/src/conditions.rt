@@ -3,7 +3,7 @@
 ghost use Rattle.std.specs.Prelude.{◌≡◌, pred, length, ◌<◌, ◌^◌};
 ghost use Rattle.event_machine.specs.Offers as offers;
 ghost use Rattle.event_machine.specs.Worlds.{aborts};
-ghost use Rattle.task_machine.specs.Conditions.{failing_in, others_can_end};
+ghost use Rattle.task_machine.specs.Conditions.{failing_in, others_may_end};
 ghost use Rattle.task_machine.specs.Table.{seat_of, offer_in_seat};
 ghost use Rattle.feasible.specs.Failing.{why, first_of, act_fails, closed_fails, open_fails, main_fails, other_fails, view_at, act_asked, asked};
 
@@ -163,7 +163,7 @@ fn failing_other(seats: &[Seat], t: u32) -> Option<Why>
 // Why some other task can't end with the main program: the first one.
 fn failing_others(seats: &[Seat]) -> Option<Why>
     requires { length seats.now < 2 ^ 32 }
-    ensures { result ≡ failing_in (view_at seats.now) (others_can_end (pred (length seats.now))) }
+    ensures { result ≡ failing_in (view_at seats.now) (others_may_end (pred (length seats.now))) }
 {
     let count = seats.len() as u32;
     for t in 1..count {

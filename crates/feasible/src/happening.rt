@@ -87,8 +87,11 @@ fn begin_served(steps: &mut [u64], seats: &[Seat], x: u32)
     ensures { BeginAnew (λ t. is_served_by x (seat_of seats.now t).standing) steps.old steps.new }
 {
     for t in 0..steps.len() {
-        if t < seats.len() && is_served_by(x, seats[t].standing) {
-            steps[t] = 0;
+        if t < seats.len() {
+            let seat = &seats[t];
+            if is_served_by(x, seat.standing) {
+                steps[t] = 0;
+            }
         }
     }
 }

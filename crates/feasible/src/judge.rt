@@ -183,7 +183,7 @@ fn no_steps(alloc: Global, count: usize) -> Result<Vec<u64>, Memory>
     ensures size { IfOk result (λ steps. length steps.items ≡ count) }
 {
     let mut steps = Vec::new(alloc);
-    for _ in 0..count {
+    for _made in 0..count {
         steps.push(0)?;
     }
     Ok(steps)

@@ -45,12 +45,12 @@ module _ (p : PProgram) (numbers : Numbering) where
   below : (t : ℕ) → t < length opening.seats → t < length numbers.tasks
   below t l = let e : length opening.seats ≡ length numbers.tasks = length_first (length numbers.tasks) in omega arith
 
-  opens : IsOpening (rules_of numbers) opening
+  pub opens : IsOpening (rules_of numbers) opening
   opens = opening_list task_ops (owner_of numbers) IsProper lawful opening refl refl
       (λ t l. first_at (length numbers.tasks) t (λ x. x.standing ≡ Live) (λ u. refl) (below t l))
       (λ t l. first_at (length numbers.tasks) t (λ x. task_ops.callers x.local ≡ []) (λ u. refl) (below t l))
 
-  proper : (t : ℕ) → t < length opening.seats → IsProper (slice_index_or opening.seats t (completed nobody)).local
+  pub proper : (t : ℕ) → t < length opening.seats → IsProper (slice_index_or opening.seats t (completed nobody)).local
   proper t l = first_at (length numbers.tasks) t (λ x. IsProper x.local) (λ u. refl) (below t l)
 
   pub the_determinacy : Determinacy (rules_of numbers) opening
