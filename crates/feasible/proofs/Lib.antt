@@ -2,3 +2,4 @@ pub mod Running
 pub mod Asking
 pub mod Recounting
 pub mod Judging
+pub mod Continuing

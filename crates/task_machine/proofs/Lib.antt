@@ -4,3 +4,5 @@ pub mod Filtered
 pub mod Listed
 pub mod TaskLaws
 pub mod Tabled
+pub mod Judged
+pub mod Verdicts

@@ -121,22 +121,22 @@ pub table_happens : (numbers : Numbering) (size : ℕ) → size ≡ length numbe
 table_happens numbers size count (R c e i) views tasks seen =
     acts_at numbers size (R c e i) views tasks seen c (calls_in is_any_form e i) _ (or_left (c == owner_of numbers e) (same_task c))
     ∙ ap (λ b. (is_live (tasks c).standing && calls_in is_any_form e i (offer_of (tasks c).local)) && b)
-        (acts_alone numbers size (R c e i) views tasks seen (owner_of numbers e) (waits_with (opens e i)) (or_right (owner_of numbers e == c) (same_task (owner_of numbers e))))
+    (acts_alone numbers size (R c e i) views tasks seen (owner_of numbers e) (waits_with (opens e i)) (or_right (owner_of numbers e == c) (same_task (owner_of numbers e))))
 table_happens numbers size count (E a) views tasks seen = acts_alone numbers size (E a) views tasks seen a is_finish (same_task a)
 table_happens numbers size count (S a) views tasks seen = acts_alone numbers size (S a) views tasks seen a (waits_with is_else) (same_task a)
 table_happens numbers size count (D a k) views tasks seen = acts_alone numbers size (D a k) views tasks seen a (waits_with (is_delay k)) (same_task a)
 table_happens numbers size count (C c e i) views tasks seen =
     acts_at numbers size (C c e i) views tasks seen c (calls_in is_conditional e i) _ (same_task c)
     ∙ ap (λ b. (is_live (tasks c).standing && calls_in is_conditional e i (offer_of (tasks c).local)) && b)
-        (and_true (not (is_closed_view (views (owner_of numbers e)))) ∙ ap not (seen.closed (owner_of numbers e)))
+    (and_true (not (is_closed_view (views (owner_of numbers e)))) ∙ ap not (seen.closed (owner_of numbers e)))
 table_happens numbers size count (T c e i) views tasks seen =
     acts_at numbers size (T c e i) views tasks seen c (calls_in is_timed e i) _ (same_task c)
     ∙ ap (λ b. (is_live (tasks c).standing && calls_in is_timed e i (offer_of (tasks c).local)) && b)
-        (and_true (not (is_closed_view (views (owner_of numbers e)))) ∙ ap not (seen.closed (owner_of numbers e)))
+    (and_true (not (is_closed_view (views (owner_of numbers e)))) ∙ ap not (seen.closed (owner_of numbers e)))
 table_happens numbers size count (F c e i) views tasks seen =
     acts_at numbers size (F c e i) views tasks seen c (calls_in is_any_form e i) _ (same_task c)
     ∙ ap (λ b. (is_live (tasks c).standing && calls_in is_any_form e i (offer_of (tasks c).local)) && b)
-        (and_true (is_closed_view (views (owner_of numbers e))) ∙ seen.closed (owner_of numbers e))
+    (and_true (is_closed_view (views (owner_of numbers e))) ∙ seen.closed (owner_of numbers e))
 table_happens numbers size count (X a) views tasks seen =
     acts_alone numbers size (X a) views tasks seen a (is_end_of a) (same_task a)
     ∙ and_swap (is_live (tasks a).standing) (not (a == 0)) (is_end (offer_of (tasks a).local))
@@ -146,7 +146,7 @@ table_happens numbers size count Z views tasks seen =
     ∙ ends_then (tasks 0).standing (offer_of (tasks 0).local) is_end _ (seen.stills 0)
     ∙ ap (λ n. (is_live (tasks 0).standing && is_end (offer_of (tasks 0).local)) && list_all (holds views) (others_may_end (pred n))) (sym count)
     ∙ ap (λ b. (is_live (tasks 0).standing && is_end (offer_of (tasks 0).local)) && b)
-        (others_at numbers size Z views tasks seen (pred size) (λ t h. le_test t (pred size) h))
+    (others_at numbers size Z views tasks seen (pred size) (λ t h. le_test t (pred size) h))
 
 -- ---- needed tasks
 
