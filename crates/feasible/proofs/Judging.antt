@@ -8,7 +8,7 @@ use Rattle.event_machine.specs.declared.Event.{Event}
 use Rattle.event_machine.specs.declared.Standing.{Standing}
 use Rattle.event_machine.specs.declared.Standing.TheVariants.{Live, Waiting, Queued, Served, Completed, Killed}
 use Rattle.event_machine.specs.Seats.{Seat, is_live, is_closed, is_served, is_completed}
-use Rattle.event_machine.specs.Programs.{Program, numbered, listed}
+use Rattle.event_machine.specs.Programs.{Program, numbered, listed, by_number}
 use Rattle.event_machine.specs.Settling.{ran, HasSteps, CountsFor, IsRunOn, Follows, Leads}
 use Rattle.event_machine.specs.Soundness.{IsSound}
 use Rattle.event_machine.specs.Tallies.{HasNoEnd, before_end, RestIs, StandsAfter}
@@ -107,7 +107,7 @@ module _ (p : PProgram) (numbers : Numbering) (bound : ℕ) where
 
     base : IsBase m IsProper lawful k.bases
     base = base_leads m IsProper lawful events (opening_world p numbers) k.bases k.leads
-        (start_base m IsProper lawful _ (opening_numbers task_ops (owner_of numbers) IsProper lawful (opening_of p numbers).state (opens p numbers) (proper p numbers)) (proper p numbers))
+        (start_base m IsProper lawful (by_number m (opening_of p numbers).state) (opening_numbers task_ops (owner_of numbers) IsProper lawful (opening_of p numbers).state (opens p numbers) (proper p numbers)) (proper p numbers))
 
     stills : (t : ℕ) → still (kept t).standing ≡ (kept t).standing
     stills t = ap still (k.follows.each t).standing ∙ base.still' t ∙ sym (k.follows.each t).standing

@@ -3,3 +3,4 @@ pub mod Asking
 pub mod Recounting
 pub mod Judging
 pub mod Continuing
+pub mod Starting

@@ -67,11 +67,8 @@ fn failing_act(seats: &[Seat], t: u32, passes: bool) -> Option<Why>
     match standing_at(seats, t) {
         Standing::Completed | Standing::Killed => because(Cause::Closed, t),
         Standing::Served { abnormal, .. } => {
-            if abnormal {
-                because(Cause::Closed, t)
-            } else {
-                because(Cause::Busy, t)
-            }
+            let cause = if abnormal { Cause::Closed } else { Cause::Busy };
+            because(cause, t)
         }
         Standing::Live | Standing::Waiting | Standing::Queued => {
             if passes {

@@ -74,18 +74,7 @@ impl<'p> Judge<'p> {
         ensures bound { IfOk result (λ j. j.bound ≡ local_bound) }
         ensures taken { IfOk result (λ j. j.taken ≡ 0) }
     {
-        let seats = start_all(alloc, p, types, numbers, inputs)?;
-        let steps = no_steps(alloc, seats.len())?;
-        Ok(Judge {
-            numbers,
-            seats,
-            steps,
-            ended: false,
-            bound: local_bound,
-            taken: 0,
-            verdict: Verdict::Feasible,
-            lost: false,
-        })
+        Judge::begin(alloc, p, types, numbers, inputs, local_bound)
     }
 
     /// The verdict on the events given so far and this one. After a verdict other than feasible it stays that verdict, and after want of
@@ -154,6 +143,44 @@ impl<'p> Judge<'p> {
     }
 }
 
+impl<'p> Judge<'p> {
+    // A judge of the tasks that these numbers have.
+    pub(crate) fn begin(
+        alloc: Global,
+        p: &'p Program,
+        types: &'p Types,
+        numbers: &'p Numbers,
+        inputs: &Inputs,
+        bound: u64,
+    ) -> Result<Judge<'p>, Memory>
+        requires { length numbers.now.tasks < 204 }
+        ensures stands { IfOk result (λ j. StandsFor (plain_program p.now) [] j) }
+        ensures numbers { IfOk result (λ j. j.numbers ≡ numbers.now) }
+        ensures bound { IfOk result (λ j. j.bound ≡ bound) }
+        ensures taken { IfOk result (λ j. j.taken ≡ 0) }
+    {
+        let seats = start_all(alloc, p, types, numbers, inputs)?;
+        let steps = no_steps(alloc, seats.len())?;
+        Ok(Judge {
+            numbers,
+            seats,
+            steps,
+            ended: false,
+            bound,
+            taken: 0,
+            verdict: Verdict::Feasible,
+            lost: false,
+        })
+    }
+
+    // The last verdict.
+    fn verdict(&self) -> Verdict
+        ensures { result ≡ self.now.verdict }
+    {
+        self.verdict
+    }
+}
+
 /// The verdict on a list of events of a program.
 pub fn judge_all(
     alloc: Global,
@@ -170,11 +197,22 @@ pub fn judge_all(
     ensures { IfOk result (VerdictIs (plain_program p.now) numbers.now local_bound events.now) }
 {
     let mut judge = Judge::new(alloc, p, types, numbers, inputs, local_bound)?;
-    let mut verdict = Verdict::Feasible;
+    judge_each(&mut judge, events)
+}
+
+// The verdict on all these events, by a judge that has taken none.
+pub(crate) fn judge_each(judge: &mut Judge, events: &[Event]) -> Result<Verdict, Memory>
+    requires first { judge.old.taken ≡ 0 }
+    requires few { length events.now < 2 ^ 32 }
+    ensures { (p : PProgram) → StandsFor p [] judge.old → NothingFollows events.now → IfOk result (VerdictIs p judge.old.numbers judge.old.bound events.now) }
+{
     for e in events {
-        verdict = judge.next(e)?;
+        match judge.next(e) {
+            Ok(_) => {}
+            Err(memory) => return Err(memory),
+        }
     }
-    Ok(verdict)
+    Ok(judge.verdict())
 }
 
 // The counts of so many tasks, all 0.
