@@ -21,14 +21,12 @@ use Rattle.feasible.specs.Failing.{why, first_of, act_fails, closed_fails, open_
 
 pub failing_append : (views : ℕ → View) (xs ys : List Condition) → failing_in views (xs ++ ys) ≡ first_of (failing_in views xs) (failing_in views ys)
 failing_append views [] ys = refl
-failing_append views (x ∷ xs) ys = go (not (holds views x))
+failing_append views (x ∷ xs) ys = go (not (holds views x)) (failing_append views xs ys)
   where
-    p : Condition → Bool
-    p c = not (holds views c)
-
-    go : (b : Bool) → option_map why_of (if b then Some x else find (λ c. not (holds views c)) (xs ++ ys)) ≡ first_of (option_map why_of (if b then Some x else find (λ c. not (holds views c)) xs)) (failing_in views ys)
-    go true = refl
-    go false = failing_append views xs ys
+    go : (b : Bool) → failing_in views (xs ++ ys) ≡ first_of (failing_in views xs) (failing_in views ys) →
+        option_map why_of (if b then Some x else find (λ c. not (holds views c)) (xs ++ ys)) ≡ first_of (option_map why_of (if b then Some x else find (λ c. not (holds views c)) xs)) (failing_in views ys)
+    go true h = refl
+    go false h = h
 
 -- what is asked of an offer holds of the view that shows it
 abbrev Fits : View → (Offer → Bool) → Bool → Type 0
@@ -109,6 +107,13 @@ module _ (tasks : Tasks) where
       ap (first_of (failing_in (view_at tasks) (others_may_end t)))
       (other_asked (view_at tasks (suc t)) (suc t) (waits_with is_terminate (offer_of (seat_of tasks (suc t)).local))
       (fits (seat_of tasks (suc t)).standing (offer_of (seat_of tasks (suc t)).local) (waits_with is_terminate)))
+
+  -- what is found at the next of them
+  pub others_at : (t : ℕ) (o : Option Why) → 1 ≤ t → failing_in (view_at tasks) (others_may_end (pred t)) ≡ None →
+      o ≡ other_fails (view_at tasks t) t (waits_with is_terminate (offer_of (seat_of tasks t).local)) → failing_in (view_at tasks) (others_may_end t) ≡ o
+  others_at zero o l h e = absurd (omega arith)
+  others_at (suc t) o l h e =
+      others_more t ∙ ap (λ x. first_of x (other_fails (view_at tasks (suc t)) (suc t) (waits_with is_terminate (offer_of (seat_of tasks (suc t)).local)))) h ∙ sym e
 
   -- what fails among fewer is what fails among all
   pub others_first : (n t : ℕ) (w : Why) → t ≤ n → failing_in (view_at tasks) (others_may_end t) ≡ Some w → failing_in (view_at tasks) (others_may_end n) ≡ Some w

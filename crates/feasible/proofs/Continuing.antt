@@ -1,9 +1,11 @@
 -- The judge's step: its verdict is that of the events with one more, and what it keeps stands for those that have happened.
-use Rattle.std.proofs.Common.{◌≡◌, ℕ, zero, suc, ◌+◌, ◌<◌, ◌≤◌, Bool, true, false, List, [], ◌∷◌, ◌++◌, length, take, refl, sym, ap, ◌∙◌, subst, arith, Option, Some, None, length-append, true≢false}
-use Rattle.std.specs.Prelude.{All, slice_index, ◌||◌}
+use Rattle.std.proofs.Common.{◌≡◌, ℕ, zero, suc, ◌+◌, ◌<◌, ◌≤◌, Bool, true, false, List, [], ◌∷◌, ◌++◌, length, take, refl, sym, ap, ◌∙◌, subst, arith, Option, Some, None, length-append, true≢false, ⊎_elim, Result, Ok, Err}
+use Rattle.std.specs.Prelude.{All, slice_index, ◌||◌, IfOk, OnOk}
+use Rattle.std.proofs.lemmas.Bool.{cases_Bool}
 use Rattle.std.proofs.lemmas.List.{take-append-le}
 use Rattle.std.proofs.lemmas.List.Elements.{All-weaker}
 use Rattle.std.proofs.Math.Seq.{take-length, take-append_seam}
+use Rattle.ada_tree.specs.declared.shortage.Memory.{Memory}
 use Rattle.ada_tree.specs.PlainProgram.{PProgram}
 use Rattle.event_machine.specs.declared.Event.{Event}
 use Rattle.event_machine.specs.Seats.{Seat, is_live}
@@ -20,9 +22,9 @@ use Rattle.task_machine.specs.Table.{Tasks, seat_of}
 use Rattle.task_machine.proofs.Judged.{IsSeat, views_kept}
 use Rattle.task_machine.proofs.TaskLaws.{the_feasible}
 use Rattle.task_machine.proofs.Verdicts.{verdict_on, verdict_refused, verdict_held, refused_stays, held_stays}
-use Rattle.feasible.specs.Deciding.{IsDecided, Leaves, GoesOn}
+use Rattle.feasible.specs.Deciding.{IsDecided, Leaves, GoesOn, taken_with, ended_with}
 use Rattle.feasible.specs.Failing.{asked, view_at}
-use Rattle.feasible.specs.Keeping.{AreKept, Counts, IsSettled, StandsFor, machine_of, is_feasible}
+use Rattle.feasible.specs.Keeping.{AreKept, Counts, IsSettled, StandsFor, machine_of, is_feasible, is_infeasible}
 use Rattle.feasible.specs.Kept.{Kept}
 use Rattle.feasible.specs.Needs.{IsFirstStuck}
 use Rattle.feasible.proofs.Asking.{asked_all}
@@ -137,3 +139,63 @@ stands_still p events more j s h =
       counts = k.1;
       keeps = subst (λ es. AreKept p j.numbers j.bound es j.tasks j.steps j.ended) k.2 s.keeps;
     }
+
+-- ---- the clauses of the judge's step
+
+-- the verdict of a judge that decided
+pub verdict_next : (p : PProgram) (events : List Event) (old : Kept) (e : Event) (tasks' : Tasks) (steps' : List ℕ) (result : Result Verdict Memory) → StandsFor p events old → HasNoEnd events →
+    (is_feasible old.verdict ≡ false → IfOk result (λ v. v ≡ old.verdict)) →
+    (is_feasible old.verdict ≡ true → IfOk result (IsDecided old.numbers old.bound old.taken e old.tasks old.steps tasks' steps')) →
+    IfOk result (VerdictIs p old.numbers old.bound (events ++ e ∷ []))
+verdict_next p events old e tasks' steps' (Err memory) s more same d = tt
+verdict_next p events old e tasks' steps' (Ok v) s more same d = ⊎_elim
+    (λ well. (goes_on p events old e tasks' steps' v s more well (d well)).verdict)
+    (λ other. subst (VerdictIs p old.numbers old.bound (events ++ e ∷ [])) (sym (same other)) (stands_still p events (e ∷ []) old s other).verdict)
+    (cases_Bool (is_feasible old.verdict))
+
+-- and what it stands for
+pub stands_next : (p : PProgram) (events : List Event) (old new : Kept) (e : Event) (result : Result Verdict Memory) → StandsFor p events old → HasNoEnd events →
+    (is_feasible old.verdict ≡ false → new ≡ old) →
+    (is_feasible old.verdict ≡ true → IfOk result (IsDecided old.numbers old.bound old.taken e old.tasks old.steps new.tasks new.steps)) →
+    (is_feasible old.verdict ≡ true → IfOk result (λ v. new.taken ≡ taken_with v old.taken)) →
+    (is_feasible old.verdict ≡ true → IfOk result (λ v. new.ended ≡ ended_with v e old.ended)) →
+    IfOk result (λ v. v ≡ new.verdict) → new.numbers ≡ old.numbers → new.bound ≡ old.bound → OnOk result (new.lost ≡ false) → OnOk result (StandsFor p (events ++ e ∷ []) new)
+stands_next p events old new e (Err memory) s more stays d taken ended last numbers bound found = tt
+stands_next p events old new e (Ok v) s more stays d taken ended last numbers bound found = ⊎_elim
+    (λ well. decided_on (goes_on p events old e new.tasks new.steps v s more well (d well)) (taken well) (ended well))
+    (λ other. subst (StandsFor p (events ++ e ∷ [])) (sym (stays other)) (stands_still p events (e ∷ []) old s other))
+    (cases_Bool (is_feasible old.verdict))
+  where
+    decided_on : GoesOn p old.numbers old.bound events e old.taken old.ended new.tasks new.steps v → new.taken ≡ taken_with v old.taken → new.ended ≡ ended_with v e old.ended →
+        StandsFor p (events ++ e ∷ []) new
+    decided_on g t n = record {
+      memory = found;
+      verdict = verdict_at;
+      counts = subst (Counts (events ++ e ∷ []) new.taken) last (subst (λ k. Counts (events ++ e ∷ []) k v) (sym t) g.counts);
+      keeps = kept_at;
+    }
+      where
+        verdict_at : VerdictIs p new.numbers new.bound (events ++ e ∷ []) new.verdict
+        verdict_at = subst (λ m. VerdictIs p m new.bound (events ++ e ∷ []) new.verdict) (sym numbers)
+            (subst (λ b. VerdictIs p old.numbers b (events ++ e ∷ []) new.verdict) (sym bound) (subst (VerdictIs p old.numbers old.bound (events ++ e ∷ [])) last g.verdict))
+
+        kept_at : AreKept p new.numbers new.bound (take new.taken (events ++ e ∷ [])) new.tasks new.steps new.ended
+        kept_at = subst (λ m. AreKept p m new.bound (take new.taken (events ++ e ∷ [])) new.tasks new.steps new.ended) (sym numbers)
+            (subst (λ b. AreKept p old.numbers b (take new.taken (events ++ e ∷ [])) new.tasks new.steps new.ended) (sym bound)
+            (subst (λ k. AreKept p old.numbers old.bound (take k (events ++ e ∷ [])) new.tasks new.steps new.ended) (sym t)
+            (subst (AreKept p old.numbers old.bound (take (taken_with v old.taken) (events ++ e ∷ [])) new.tasks new.steps) (sym n) g.keeps)))
+
+-- the needed tasks of an event that is refused are settled
+settled_leaves : (numbers : Numbering) (bound taken : ℕ) (e : Event) (tasks : Tasks) (steps : List ℕ) (tasks' : Tasks) (steps' : List ℕ) (v : Verdict) → Leaves numbers bound taken e tasks steps tasks' steps' v →
+    is_infeasible v ≡ true → All (IsSettled tasks') (needed_of numbers e)
+settled_leaves numbers bound taken e tasks steps tasks' steps' Feasible l h = absurd (true≢false (sym h))
+settled_leaves numbers bound taken e tasks steps tasks' steps' (Infeasible at why) (place, settled, some', same_tasks, same_steps) h =
+    subst (λ ts. All (IsSettled ts) (needed_of numbers e)) (sym same_tasks) settled
+settled_leaves numbers bound taken e tasks steps tasks' steps' (Unsettled at task) l h = absurd (true≢false (sym h))
+
+pub settled_next : (old : Kept) (e : Event) (tasks' : Tasks) (steps' : List ℕ) (result : Result Verdict Memory) →
+    (is_feasible old.verdict ≡ true → IfOk result (IsDecided old.numbers old.bound old.taken e old.tasks old.steps tasks' steps')) →
+    is_feasible old.verdict ≡ true → IfOk result (λ v. is_infeasible v ≡ true → All (IsSettled tasks') (needed_of old.numbers e))
+settled_next old e tasks' steps' (Err memory) d well = tt
+settled_next old e tasks' steps' (Ok v) d well = λ h. let r = d well in
+    settled_leaves old.numbers old.bound old.taken e r.found r.counted tasks' steps' v r.leaves h

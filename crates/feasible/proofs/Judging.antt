@@ -9,7 +9,7 @@ use Rattle.event_machine.specs.declared.Standing.{Standing}
 use Rattle.event_machine.specs.declared.Standing.TheVariants.{Live, Waiting, Queued, Served, Completed, Killed}
 use Rattle.event_machine.specs.Seats.{Seat, is_live, is_closed, is_served, is_completed}
 use Rattle.event_machine.specs.Programs.{Program, numbered, listed, by_number}
-use Rattle.event_machine.specs.Settling.{ran, HasSteps, CountsFor, IsRunOn, Follows, Leads}
+use Rattle.event_machine.specs.Settling.{ran, HasSteps, CountsFor, IsRunOn, Follows, Fires, Leads}
 use Rattle.event_machine.specs.Soundness.{IsSound}
 use Rattle.event_machine.specs.Tallies.{HasNoEnd, before_end, RestIs, StandsAfter}
 use Rattle.event_machine.specs.Worlds.{World, Happen, still, still_seat, acted, happens, is_last, changes, moved, recount}
@@ -196,6 +196,7 @@ module _ (p : PProgram) (numbers : Numbering) (bound : ℕ) where
       within = λ t. subst (λ n. n ≤ bound) (sym (counted.each t)) (few (changes task_ops (owner_of numbers) kept e t) t);
     }
       where
+        followed : (next : World Task) × Fires m k.bases e next × Follows m next (moved m (world_kept tasks ended) (Happen e)) (recount m (world_kept tasks ended) (Happen e) (λ t. slice_index steps t))
         followed = follow_event m IsProper lawful k.bases (world_kept tasks ended) (λ t. slice_index steps t) e k.follows sound (both (ap not runs) h)
 
         same_tasks : (λ t. seat_of tasks' t) ≡ acted (numbered m) kept e

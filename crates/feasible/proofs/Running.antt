@@ -164,3 +164,16 @@ tasks_from (suc n) t l = ⊎_elim
     (λ (k : suc n ≤ t). let e : suc n ≡ t = omega arith in
     subst (λ u. (later : List ℕ) × (tasks_to (suc n) ≡ tasks_below u ++ u ∷ later)) e ([], ap (λ xs. xs ++ suc n ∷ []) (tasks_to-below n)))
     (cases_lt t (suc n))
+
+-- all tasks are settled where those below their number are
+pub settled_all : (n : ℕ) (tasks : Tasks) → length tasks ≡ n → All (IsSettled tasks) (tasks_below n) → All (IsSettled tasks) (tasks_to (pred n))
+settled_all zero tasks size h = All-cons (IsSettled tasks) 0 [] (λ free. absurd (true≢false (sym free ∙ ap (λ (x : Seat Task). is_live x.standing) (get_or_past tasks 0 (completed nobody) (omega arith))))) (All-nil (IsSettled tasks))
+settled_all (suc n) tasks size h = subst (All (IsSettled tasks)) (sym (tasks_to-below n)) h
+
+-- one more is settled
+pub settled_more : (tasks : Tasks) (t : ℕ) → All (IsSettled tasks) (tasks_below t) → IsSettled tasks t → All (IsSettled tasks) (tasks_below (t + 1))
+settled_more tasks t h s = subst (λ n. All (IsSettled tasks) (tasks_below n)) (let e : suc t ≡ t + 1 = omega arith in e) (All-push (IsSettled tasks) (tasks_below t) t h s)
+
+pub below_last : (n t : ℕ) → t < n → t ≤ pred n
+below_last zero t l = absurd (omega arith)
+below_last (suc n) t l = omega arith

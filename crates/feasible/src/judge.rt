@@ -9,7 +9,7 @@ ghost use Rattle.task_machine.specs.Conditions.{needed_of};
 ghost use Rattle.task_machine.specs.Judging.{VerdictIs};
 ghost use Rattle.task_machine.specs.Table.{seat_of};
 ghost use Rattle.event_machine.specs.Tallies.{HasNoEnd};
-ghost use Rattle.feasible.specs.Deciding.{IsDecided};
+ghost use Rattle.feasible.specs.Deciding.{IsDecided, taken_with, ended_with};
 ghost use Rattle.feasible.specs.Failing.{view_at};
 ghost use Rattle.feasible.specs.Keeping.{StandsFor, NothingFollows, IsSettled, is_feasible, is_infeasible};
 ghost use Rattle.feasible.specs.Shown.{IsShown, Shows};
@@ -95,33 +95,7 @@ impl<'p> Judge<'p> {
         ensures lost { OnErr result (self.new.lost ≡ true) }
         ensures still_lost { self.old.lost ≡ true → IsErr result }
     {
-        if self.lost {
-            return Err(Memory);
-        }
-        if !is_feasible(self.verdict) {
-            return Ok(self.verdict);
-        }
-        match decide(
-            &mut self.seats,
-            &mut self.steps,
-            self.numbers,
-            self.bound,
-            self.taken,
-            e,
-        ) {
-            Ok(verdict) => {
-                if is_feasible(verdict) {
-                    self.taken += 1;
-                    self.ended = is_last(e) || self.ended;
-                }
-                self.verdict = verdict;
-                Ok(verdict)
-            }
-            Err(memory) => {
-                self.lost = true;
-                Err(memory)
-            }
-        }
+        self.advance(e)
     }
 
     /// How many local steps the judge allows to a task since the last event that changed it.
@@ -171,6 +145,52 @@ impl<'p> Judge<'p> {
             verdict: Verdict::Feasible,
             lost: false,
         })
+    }
+
+    // Decides on the event, where none has gone wrong yet.
+    fn advance(&mut self, e: &Event) -> Result<Verdict, Memory>
+        requires { self.old.taken + 1 < 2 ^ 32 }
+        ensures found { OnOk result (self.old.lost ≡ false) }
+        ensures stays { is_feasible self.old.verdict ≡ false → self.new ≡ self.old }
+        ensures same { is_feasible self.old.verdict ≡ false → IfOk result (λ v. v ≡ self.old.verdict) }
+        ensures decided { is_feasible self.old.verdict ≡ true → IfOk result (IsDecided self.old.numbers self.old.bound self.old.taken e.now self.old.tasks self.old.steps self.new.tasks self.new.steps) }
+        ensures taken { is_feasible self.old.verdict ≡ true → IfOk result (λ v. self.new.taken ≡ taken_with v self.old.taken) }
+        ensures ended { is_feasible self.old.verdict ≡ true → IfOk result (λ v. self.new.ended ≡ ended_with v e.now self.old.ended) }
+        ensures few { self.new.taken ≤ self.old.taken + 1 }
+        ensures last { IfOk result (λ v. v ≡ self.new.verdict) }
+        ensures numbers { self.new.numbers ≡ self.old.numbers }
+        ensures bound { self.new.bound ≡ self.old.bound }
+        ensures memory { OnOk result (self.new.lost ≡ false) }
+        ensures lost { OnErr result (self.new.lost ≡ true) }
+        ensures still_lost { self.old.lost ≡ true → IsErr result }
+    {
+        if self.lost {
+            return Err(Memory);
+        }
+        if !is_feasible(self.verdict) {
+            return Ok(self.verdict);
+        }
+        match decide(
+            &mut self.seats,
+            &mut self.steps,
+            self.numbers,
+            self.bound,
+            self.taken,
+            e,
+        ) {
+            Ok(verdict) => {
+                if is_feasible(verdict) {
+                    self.taken += 1;
+                    self.ended = is_last(e) || self.ended;
+                }
+                self.verdict = verdict;
+                Ok(verdict)
+            }
+            Err(memory) => {
+                self.lost = true;
+                Err(memory)
+            }
+        }
     }
 
     // The last verdict.
