@@ -115,7 +115,7 @@ module _ (p : PProgram) (numbers : Numbering) where
   pub stands_still : (events : List Event) (t : ℕ) (z : Standing) → Stands p numbers events t z → still z ≡ z
   stands_still events t z (tasks, tally, run, is) = ap still (sym is) ∙ still_still (tasks t).standing ∙ is
 
-  rest_stands : (events : List Event) (t n : ℕ) (task : Task) → IsRest p numbers events t n task → Stands p numbers events t Live
+  pub rest_stands : (events : List Event) (t n : ℕ) (task : Task) → IsRest p numbers events t n task → Stands p numbers events t Live
   rest_stands events t n task (tasks, tally, run, is, count) = (tasks, tally, run, ap (λ (x : Seat Task). still x.standing) is)
 
   -- ---- seats and views

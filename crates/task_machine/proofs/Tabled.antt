@@ -165,7 +165,7 @@ at_to (suc n) t d h = ⊎_elim
 all_to : (P : ℕ → Type 0) (n : ℕ) → ((t : ℕ) → t ≤ n → P t) → All P (tasks_to n)
 all_to P n h k d less = subst P (sym (at_to n k d (let e : length (tasks_to n) ≡ suc n = length_to n in omega arith))) (h k (let e : length (tasks_to n) ≡ suc n = length_to n in omega arith))
 
-to_all : (P : ℕ → Type 0) (n : ℕ) → All P (tasks_to n) → (t : ℕ) → t ≤ n → P t
+pub to_all : (P : ℕ → Type 0) (n : ℕ) → All P (tasks_to n) → (t : ℕ) → t ≤ n → P t
 to_all P n h t le = subst P (at_to n t 0 le) (h t 0 (let e : length (tasks_to n) ≡ suc n = length_to n in omega arith))
 
 le_from : (t n : ℕ) → nat_le t n ≡ true → t ≤ n

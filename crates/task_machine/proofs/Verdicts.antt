@@ -15,10 +15,10 @@ use Rattle.task_machine.proofs.Judged.{judged}
 
 -- ---- lists
 
-cons_head : {A : Type 0} {x y : A} {xs ys : List A} → (x ∷ xs) ≡ (y ∷ ys) → x ≡ y
+pub cons_head : {A : Type 0} {x y : A} {xs ys : List A} → (x ∷ xs) ≡ (y ∷ ys) → x ≡ y
 cons_head {A} {x} {y} {xs} {ys} h = let e : (x ∷ xs) ≡ (y ∷ ys) = h in cc
 
-cons_tail : {A : Type 0} {x y : A} {xs ys : List A} → (x ∷ xs) ≡ (y ∷ ys) → xs ≡ ys
+pub cons_tail : {A : Type 0} {x y : A} {xs ys : List A} → (x ∷ xs) ≡ (y ∷ ys) → xs ≡ ys
 cons_tail {A} {x} {y} {xs} {ys} h = let e : (x ∷ xs) ≡ (y ∷ ys) = h in cc
 
 none_split : {A : Type 0} (before rest : List A) (x : A) → [] ≡ (before ++ x ∷ rest) → ⊥

@@ -1,7 +1,7 @@
 // The statements of the program: each form once.
 
 use super::Build;
-use crate::{
+use ada_tree::{
     Accept, Alt, AltKind, Args, Arm, BinaryOp, Body, Call, Callee, CaseArm, CaseChoice, Expr,
     ExprKind, Formal, Handler, Memory, ParMode, Part, Scheme, Stmt, StmtKind, Target, UnaryOp,
 };

@@ -2,7 +2,7 @@
 
 use super::Build;
 use super::code::task_body;
-use crate::{
+use ada_tree::{
     Decl, DeclKind, Drange, EntryDecl, Formal, Init, Memory, ParMode, Priority, Shape, TaskUnit,
 };
 

@@ -3,7 +3,7 @@
 mod code;
 mod decls;
 
-use crate::{
+use ada_tree::{
     Bounds, Drange, Expr, ExprKind, Memory, Names, Program, Span, Stmt, StmtKind, Subind, Word,
 };
 use std::alloc::Global;

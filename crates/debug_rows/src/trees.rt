@@ -2,7 +2,7 @@
 
 mod sample;
 
-use crate::{Body, Literals, Memory, NameId, Names, Program, Span, Stmt, StmtKind, Word};
+use ada_tree::{Body, Literals, Memory, NameId, Names, Program, Span, Stmt, StmtKind, Word};
 use sample::sample;
 use std::alloc::{AllocError, Global};
 use std::test::Fail;
