@@ -5,6 +5,7 @@ pub mod Saying
 pub mod Numbered
 pub mod Differing
 pub mod Ruling
+pub mod Identifying
 pub mod Originals
 pub mod Legality
 pub mod Together

@@ -1,11 +1,11 @@
 //! From bytes to a legal program.
 
-ghost use Rattle.std.specs.Prelude.{◌≡◌, IfOk};
-ghost use Rattle.ada_lexer.specs.Split.{Splits};
+ghost use Rattle.std.specs.Prelude.{◌≡◌, All, IfOk};
+ghost use Rattle.ada_lexer.specs.Split.{Splits, IsTokenOf};
 ghost use Rattle.ada_tree.specs.PlainProgram.{plain_program};
 ghost use Rattle.syn_event.specs.FirstTypes.{first_types, first_mark};
 ghost use Rattle.syn_event.specs.Legal.{Legal};
-ghost use Rattle.debug_core.specs.SmallText.{IsSmallText};
+ghost use Rattle.debug_core.specs.SmallText.{IsSmallText, AreIdentifiers};
 
 use super::items::{Items, read_items};
 use super::numbering::numbers_for;
@@ -46,7 +46,8 @@ pub(crate) fn read_small(alloc: Global, src: &[u8]) -> Result<SmallProgram, Smal
 
 // The program that a small text says, whether or not it meets the static rules.
 fn read_program(alloc: Global, src: &[u8]) -> Result<Program, SmallRefusal>
-    ensures { IfOk result (λ program. IsSmallText src.now (plain_program program)) }
+    ensures text { IfOk result (λ program. IsSmallText src.now (plain_program program)) }
+    ensures names { IfOk result (λ program. AreIdentifiers program.names) }
 {
     let found = small_tokens(alloc, src)?;
     let Items { names, list } = read_items(alloc, src, &found)?;
@@ -62,7 +63,8 @@ fn read_program(alloc: Global, src: &[u8]) -> Result<Program, SmallRefusal>
 
 // The tokens of the text; a text too long for places of 32 bits is not small.
 fn small_tokens(alloc: Global, src: &[u8]) -> Result<Vec<Token>, SmallRefusal>
-    ensures { IfOk result (λ found. Splits src.now found.items) }
+    ensures split { IfOk result (λ found. Splits src.now found.items) }
+    ensures slices { IfOk result (λ found. All (IsTokenOf src.now) found.items) }
 {
     if src.len() >= u32::MAX as usize {
         return Err(SmallRefusal::NotSmall);

@@ -1,0 +1,12 @@
+//! The text of a verdict: where a sequence parts from what the program can do, why, and how the tasks stand there.
+//!
+//! `specs/JudgeText.antt` says what the text is.
+#![tactic(auto)]
+
+mod report;
+mod views;
+
+#[cfg(test)]
+mod tests;
+
+pub use report::report;
