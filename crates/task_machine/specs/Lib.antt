@@ -1,2 +1,5 @@
 pub mod Table
 pub mod Opening
+pub mod Views
+pub mod Conditions
+pub mod Judging

@@ -7,6 +7,8 @@ mod listing;
 mod machine;
 mod rows;
 mod seats;
+mod verdict;
 
 pub use event_machine::Action;
 pub use machine::{Machine, StepError};
+pub use verdict::{Cause, Verdict, Why};
