@@ -1,2 +1,4 @@
 pub mod ViewText
+pub mod Shown
 pub mod JudgeText
+pub mod Seen

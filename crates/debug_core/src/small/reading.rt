@@ -2,6 +2,7 @@
 
 ghost use Rattle.std.specs.Prelude.{◌≡◌, All, IfOk};
 ghost use Rattle.ada_lexer.specs.Split.{Splits, IsTokenOf};
+ghost use Rattle.ada_tree.specs.NameList.{AreNames};
 ghost use Rattle.ada_tree.specs.PlainProgram.{plain_program};
 ghost use Rattle.syn_event.specs.FirstTypes.{first_types, first_mark};
 ghost use Rattle.syn_event.specs.Legal.{Legal};
@@ -29,6 +30,7 @@ pub(crate) struct SmallProgram {
 /// at other texts; `Memory` comes where there was not enough.
 pub(crate) fn read_small(alloc: Global, src: &[u8]) -> Result<SmallProgram, SmallRefusal>
     ensures text { IfOk result (λ small. IsSmallText src.now (plain_program small.program)) }
+    ensures named { IfOk result (λ small. AreNames small.program.names) }
     ensures legal { IfOk result (λ small. Legal (plain_program small.program) small.types small.numbers Mode.Original) }
 {
     let program = read_program(alloc, src)?;
