@@ -1,0 +1,31 @@
+-- What the judge's step does, as the code does it: the needed tasks run on, then the conditions, then the event.
+use Rattle.std.specs.Prelude.{◌≡◌, ℕ, ◌+◌, List, All, Option, Some, None}
+use Rattle.event_machine.specs.declared.Event.{Event}
+use Rattle.event_machine.specs.Worlds.{acted}
+use Rattle.syn_event.specs.Numbering.{Numbering}
+use Rattle.task_machine.specs.declared.verdict.Verdict.{Verdict}
+use Rattle.task_machine.specs.declared.verdict.Verdict.TheVariants.{Feasible, Infeasible, Unsettled}
+use Rattle.task_machine.specs.Conditions.{first_failing, needed_of}
+use Rattle.task_machine.specs.Table.{Tasks, rules_of}
+use Rattle.feasible.specs.Failing.{view_at}
+use Rattle.feasible.specs.Keeping.{IsSettled}
+use Rattle.feasible.specs.Needs.{HaveRun, Settled}
+use Rattle.feasible.specs.Recounts.{AreRecounted}
+
+-- the verdict on the event, and what it leaves of the tasks that were run on
+abbrev pub Leaves : Numbering → ℕ → ℕ → Event → Tasks → List ℕ → Tasks → List ℕ → Verdict → Type 0
+Leaves numbers bound taken e tasks steps tasks' steps' Feasible =
+    All (IsSettled tasks) (needed_of numbers e) × (first_failing numbers (view_at tasks) e ≡ None)
+    × (tasks' ≡ acted (rules_of numbers) tasks e) × AreRecounted numbers tasks e steps steps'
+Leaves numbers bound taken e tasks steps tasks' steps' (Infeasible at why) =
+    (at ≡ taken + 1) × All (IsSettled tasks) (needed_of numbers e) × (first_failing numbers (view_at tasks) e ≡ Some why)
+    × (tasks' ≡ tasks) × (steps' ≡ steps)
+Leaves numbers bound taken e tasks steps tasks' steps' (Unsettled at t) =
+    (at ≡ taken + 1) × Settled bound tasks steps (needed_of numbers e) (Some t) × (tasks' ≡ tasks) × (steps' ≡ steps)
+
+-- The tasks that the event needs have run on, and then the verdict is this.
+pub record IsDecided (numbers : Numbering) (bound taken : ℕ) (e : Event) (tasks : Tasks) (steps : List ℕ) (tasks' : Tasks) (steps' : List ℕ) (v : Verdict) : Type 0 where
+  pub found : Tasks
+  pub counted : List ℕ
+  pub run : HaveRun bound tasks steps found counted
+  pub leaves : Leaves numbers bound taken e found counted tasks' steps' v
