@@ -42,9 +42,17 @@ title_of names numbers t = title names t (task_at numbers t)
 abbrev pub task_part : List (List ℕ) → Numbering → (ℕ → View) → ℕ → List ℕ
 task_part names numbers views t = title_of names numbers t ⧺ (codes "\n" ⧺ view_lines (views t))
 
+-- the parts of several tasks
+abbrev pub parts_of : List (List ℕ) → Numbering → (ℕ → View) → List ℕ → List ℕ
+parts_of names numbers views tasks = each_text (task_part names numbers views) tasks
+
+-- a caller and an owner, which may be one task
+abbrev pub once : ℕ → ℕ → List ℕ
+once caller owner = if caller == owner then caller ∷ [] else caller ∷ owner ∷ []
+
 -- the tasks that an event needs, in order and each once: a task that calls its own entry is both of those that R needs
 abbrev pub shown_tasks : Numbering → Event → List ℕ
-shown_tasks numbers (R c e i) = if c == owner_of numbers e then c ∷ [] else needed_of numbers (R c e i)
+shown_tasks numbers (R c e i) = once c (owner_of numbers e)
 shown_tasks numbers (E a) = needed_of numbers (E a)
 shown_tasks numbers (S a) = needed_of numbers (S a)
 shown_tasks numbers (D a k) = needed_of numbers (D a k)
@@ -57,7 +65,7 @@ shown_tasks numbers Z = needed_of numbers Z
 
 -- the parts of all tasks that the event needs
 abbrev pub task_parts : List (List ℕ) → Numbering → (ℕ → View) → Event → List ℕ
-task_parts names numbers views e = each_text (task_part names numbers views) (shown_tasks numbers e)
+task_parts names numbers views e = parts_of names numbers views (shown_tasks numbers e)
 
 -- an event that can't happen: its place, the event, why, and how the tasks that it needs are seen
 abbrev pub refused_text : List (List ℕ) → Numbering → (ℕ → View) → ℕ → Why → Event → List ℕ

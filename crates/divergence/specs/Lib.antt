@@ -2,3 +2,4 @@ pub mod ViewText
 pub mod Shown
 pub mod JudgeText
 pub mod Seen
+pub mod Below

@@ -6,7 +6,4 @@
 mod report;
 mod views;
 
-#[cfg(test)]
-mod tests;
-
 pub use report::report;

@@ -3,13 +3,14 @@
 ghost use Rattle.std.specs.Prelude.{◌≡◌, ◌≤◌, ◌<◌, ◌∷◌, [], pred, length, All, Some, option_copied};
 ghost use Rattle.std.specs.Option.{option_map_or};
 ghost use Rattle.ded_io.specs.Counts.{HasCause};
-ghost use Rattle.ded_io.specs.Written.{Wrote, each_text};
+ghost use Rattle.ded_io.specs.Written.{Wrote};
 ghost use Rattle.task_machine.specs.Conditions.{tasks_to, needed_of};
 ghost use Rattle.feasible.specs.Failing.{view_at};
 ghost use Rattle.feasible.specs.Keeping.{IsSettled};
-ghost use Rattle.divergence.specs.JudgeText.{report_text, refused_text, held_text, cause_word, cause_line, event_line, title, title_of, task_part, task_parts};
+ghost use Rattle.divergence.specs.JudgeText.{report_text, refused_text, held_text, cause_word, cause_line, event_line, title, title_of, task_part, parts_of, task_parts, once};
 ghost use Rattle.divergence.specs.Seen.{AreSettled};
-ghost use Rattle.divergence.specs.ViewText.{number_line};
+ghost use Rattle.divergence.specs.Below.{tasks_below};
+ghost use Rattle.divergence.specs.ViewText.{number_line, view_lines};
 
 use crate::views::{put_line, put_view};
 use ada_tree::Names;
@@ -145,7 +146,7 @@ fn put_title<K: Sink>(
 }
 
 // A task with what is seen of it.
-#[tactic(auto, using(ded_io::proofs::Writes::writes, crate::proofs::Showing::shown))]
+#[tactic(auto, using(ded_io::proofs::Writes::writes))]
 fn put_task<K: Sink>(
     task: u32,
     j: &Judge<'_>,
@@ -159,11 +160,55 @@ fn put_task<K: Sink>(
 {
     put_title(task, numbers, names, out)?;
     out.put(b"\n")?;
+    put_seen(task, j, out)
+}
+
+// What is seen of a task.
+fn put_seen<K: Sink>(task: u32, j: &Judge<'_>, out: &mut K) -> Result<(), SinkError>
+    requires { IsSettled j.now.tasks task }
+    ensures bytes { Wrote result (K.told out.old) (K.told out.new) (view_lines (view_at j.now.tasks task)) }
+    ensures cause { HasCause (K.faults out.old) (K.faults out.new) result }
+{
     put_view(j.offer(task), out)
 }
 
-// Two tasks, and one of them where they are one.
+// One task.
 #[tactic(auto, using(ded_io::proofs::Writes::writes))]
+fn put_one<K: Sink>(
+    task: u32,
+    j: &Judge<'_>,
+    numbers: &Numbers,
+    names: &Names,
+    out: &mut K,
+) -> Result<(), SinkError>
+    requires { All (IsSettled j.now.tasks) (task ∷ []) }
+    ensures bytes { Wrote result (K.told out.old) (K.told out.new) (parts_of names.now numbers.now (view_at j.now.tasks) (task ∷ [])) }
+    ensures cause { HasCause (K.faults out.old) (K.faults out.new) result }
+{
+    put_task(task, j, numbers, names, out)?;
+    Ok(())
+}
+
+// Two tasks.
+#[tactic(auto, using(ded_io::proofs::Writes::writes))]
+fn put_two<K: Sink>(
+    caller: u32,
+    owner: u32,
+    j: &Judge<'_>,
+    numbers: &Numbers,
+    names: &Names,
+    out: &mut K,
+) -> Result<(), SinkError>
+    requires { All (IsSettled j.now.tasks) (caller ∷ owner ∷ []) }
+    ensures bytes { Wrote result (K.told out.old) (K.told out.new) (parts_of names.now numbers.now (view_at j.now.tasks) (caller ∷ owner ∷ [])) }
+    ensures cause { HasCause (K.faults out.old) (K.faults out.new) result }
+{
+    put_task(caller, j, numbers, names, out)?;
+    put_task(owner, j, numbers, names, out)?;
+    Ok(())
+}
+
+// A caller and the owner of the entry, which may be one task.
 fn put_both<K: Sink>(
     caller: u32,
     owner: u32,
@@ -172,19 +217,19 @@ fn put_both<K: Sink>(
     names: &Names,
     out: &mut K,
 ) -> Result<(), SinkError>
-    requires caller { IsSettled j.now.tasks caller }
-    requires owner { IsSettled j.now.tasks owner }
-    ensures bytes { Wrote result (K.told out.old) (K.told out.new) (each_text (task_part names.now numbers.now (view_at j.now.tasks)) (once caller owner)) }
+    requires { All (IsSettled j.now.tasks) (caller ∷ owner ∷ []) }
+    ensures bytes { Wrote result (K.told out.old) (K.told out.new) (parts_of names.now numbers.now (view_at j.now.tasks) (once caller owner)) }
     ensures cause { HasCause (K.faults out.old) (K.faults out.new) result }
 {
-    put_task(caller, j, numbers, names, out)?;
-    if owner == caller {
-        return Ok(());
+    if caller == owner {
+        put_one(caller, j, numbers, names, out)
+    } else {
+        put_two(caller, owner, j, numbers, names, out)
     }
-    put_task(owner, j, numbers, names, out)
 }
 
 // All tasks, from 0.
+#[tactic(auto, using(ded_io::proofs::Writes::writes))]
 fn put_all<K: Sink>(
     j: &Judge<'_>,
     numbers: &Numbers,
@@ -192,16 +237,33 @@ fn put_all<K: Sink>(
     out: &mut K,
 ) -> Result<(), SinkError>
     requires { All (IsSettled j.now.tasks) (tasks_to (pred (length numbers.now.tasks))) }
-    ensures bytes { Wrote result (K.told out.old) (K.told out.new) (each_text (task_part names.now numbers.now (view_at j.now.tasks)) (tasks_to (pred (length numbers.now.tasks)))) }
+    ensures bytes { Wrote result (K.told out.old) (K.told out.new) (parts_of names.now numbers.now (view_at j.now.tasks) (tasks_to (pred (length numbers.now.tasks)))) }
     ensures cause { HasCause (K.faults out.old) (K.faults out.new) result }
 {
-    for task in 0..last_of(numbers) {
+    let last = last_of(numbers);
+    put_before(last, j, numbers, names, out)?;
+    put_task(last, j, numbers, names, out)
+}
+
+// All tasks before the last one.
+fn put_before<K: Sink>(
+    last: u32,
+    j: &Judge<'_>,
+    numbers: &Numbers,
+    names: &Names,
+    out: &mut K,
+) -> Result<(), SinkError>
+    requires { All (IsSettled j.now.tasks) (tasks_to last) }
+    ensures bytes { Wrote result (K.told out.old) (K.told out.new) (parts_of names.now numbers.now (view_at j.now.tasks) (tasks_below last)) }
+    ensures cause { HasCause (K.faults out.old) (K.faults out.new) result }
+{
+    for task in 0..last {
         match put_task(task, j, numbers, names, out) {
             Ok(()) => {}
             Err(e) => return Err(e),
         }
     }
-    put_task(last_of(numbers), j, numbers, names, out)
+    Ok(())
 }
 
 // The number of the last task.
