@@ -67,10 +67,14 @@ shown_tasks numbers Z = needed_of numbers Z
 abbrev pub task_parts : List (List ℕ) → Numbering → (ℕ → View) → Event → List ℕ
 task_parts names numbers views e = parts_of names numbers views (shown_tasks numbers e)
 
+-- the word before the place of an event that can't happen; it stays shut, so that it does not compute away
+unfoldable pub refused_word : List ℕ
+refused_word = codes "infeasible "
+
 -- an event that can't happen: its place, the event, why, and how the tasks that it needs are seen
 abbrev pub refused_text : List (List ℕ) → Numbering → (ℕ → View) → ℕ → Why → Event → List ℕ
 refused_text names numbers views at why e =
-    number_line (codes "infeasible ") at ⧺ (event_line e ⧺ (cause_line why ⧺ task_parts names numbers views e))
+    number_line refused_word at ⧺ (event_line e ⧺ (cause_line why ⧺ task_parts names numbers views e))
 
 -- an event of which it is not known: its place, the event, and the task that made so many local steps
 abbrev pub held_text : List (List ℕ) → Numbering → ℕ → ℕ → ℕ → Event → List ℕ

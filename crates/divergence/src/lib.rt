@@ -3,7 +3,7 @@
 //! `specs/JudgeText.antt` says what the text is.
 #![tactic(auto)]
 
-mod report;
+mod reporting;
 mod views;
 
-pub use report::report;
+pub use reporting::report;

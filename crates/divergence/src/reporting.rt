@@ -3,11 +3,12 @@
 ghost use Rattle.std.specs.Prelude.{◌≡◌, ◌≤◌, ◌<◌, ◌∷◌, [], pred, length, All, Some, option_copied};
 ghost use Rattle.std.specs.Option.{option_map_or};
 ghost use Rattle.ded_io.specs.Counts.{HasCause};
-ghost use Rattle.ded_io.specs.Written.{Wrote};
+ghost use Rattle.ded_io.specs.Written.{Wrote, ◌⧺◌};
+ghost use Rattle.syn_event.specs.Numbering.{task_at};
 ghost use Rattle.task_machine.specs.Conditions.{tasks_to, needed_of};
 ghost use Rattle.feasible.specs.Failing.{view_at};
 ghost use Rattle.feasible.specs.Keeping.{IsSettled};
-ghost use Rattle.divergence.specs.JudgeText.{report_text, refused_text, held_text, cause_word, cause_line, event_line, title, title_of, task_part, parts_of, task_parts, once};
+ghost use Rattle.divergence.specs.JudgeText.{report_text, refused_word, refused_text, held_text, cause_word, cause_line, event_line, title, title_of, task_part, parts_of, task_parts, once};
 ghost use Rattle.divergence.specs.Seen.{AreSettled};
 ghost use Rattle.divergence.specs.Below.{tasks_below};
 ghost use Rattle.divergence.specs.ViewText.{number_line, view_lines};
@@ -17,7 +18,7 @@ use ada_tree::Names;
 use ded_io::{Sink, SinkError};
 use event_machine::Event;
 use feasible::{Cause, Judge, Verdict, Why};
-use syn_event::{Numbers, show, show_task};
+use syn_event::{Numbers, TaskInfo, show, show_task};
 
 /// Appends the lines of a verdict.
 ///
@@ -27,6 +28,7 @@ use syn_event::{Numbers, show, show_task};
 ///
 /// `v` is the verdict of the events given to `j`, and the numbers and names are those of its program. After an error a front of the lines
 /// was appended. It takes no memory.
+#[tactic(auto, using(ded_io::proofs::Writes::writes))]
 pub fn report<K: Sink>(
     v: &Verdict,
     count: u32,
@@ -69,10 +71,18 @@ fn put_refused<K: Sink>(
     ensures bytes { Wrote result (K.told out.old) (K.told out.new) (refused_text names.now numbers.now (view_at j.now.tasks) at why e.now) }
     ensures cause { HasCause (K.faults out.old) (K.faults out.new) result }
 {
-    put_line(b"infeasible ", at as u64, out)?;
+    put_line(refused_word(), at as u64, out)?;
     put_event(e, out)?;
     put_cause(why, out)?;
     put_needed(e, j, numbers, names, out)
+}
+
+// The word before the place of an event that can't happen.
+#[tactic(auto, unfolding(crate::specs::JudgeText::refused_word))]
+fn refused_word() -> &'static [u8]
+    ensures { result.now ≡ refused_word }
+{
+    b"infeasible "
 }
 
 // An event of which it is not known whether it can happen.
@@ -130,6 +140,7 @@ fn word_of(cause: Cause) -> &'static [u8]
 }
 
 // The number and the name of a task.
+#[tactic(auto, using(ded_io::proofs::Writes::writes))]
 fn put_title<K: Sink>(
     task: u32,
     numbers: &Numbers,
@@ -139,10 +150,17 @@ fn put_title<K: Sink>(
     ensures bytes { Wrote result (K.told out.old) (K.told out.new) (title_of names.now numbers.now task) }
     ensures cause { HasCause (K.faults out.old) (K.faults out.new) result }
 {
-    match numbers.tasks.get(task as usize) {
+    match info_of(numbers, task) {
         Some(info) => show_task(names, task, info, out),
         None => Ok(()),
     }
+}
+
+// The task of that number.
+fn info_of(numbers: &Numbers, task: u32) -> Option<&TaskInfo>
+    ensures { option_copied result ≡ task_at numbers.now task }
+{
+    numbers.tasks.get(task as usize)
 }
 
 // A task with what is seen of it.
@@ -164,6 +182,7 @@ fn put_task<K: Sink>(
 }
 
 // What is seen of a task.
+#[tactic(auto, using(crate::proofs::Telling::seen))]
 fn put_seen<K: Sink>(task: u32, j: &Judge<'_>, out: &mut K) -> Result<(), SinkError>
     requires { IsSettled j.now.tasks task }
     ensures bytes { Wrote result (K.told out.old) (K.told out.new) (view_lines (view_at j.now.tasks task)) }
@@ -228,24 +247,40 @@ fn put_both<K: Sink>(
     }
 }
 
-// All tasks, from 0.
-#[tactic(auto, using(ded_io::proofs::Writes::writes))]
+// All tasks, from 0 to the last.
 fn put_all<K: Sink>(
+    last: u32,
     j: &Judge<'_>,
     numbers: &Numbers,
     names: &Names,
     out: &mut K,
 ) -> Result<(), SinkError>
-    requires { All (IsSettled j.now.tasks) (tasks_to (pred (length numbers.now.tasks))) }
-    ensures bytes { Wrote result (K.told out.old) (K.told out.new) (parts_of names.now numbers.now (view_at j.now.tasks) (tasks_to (pred (length numbers.now.tasks)))) }
+    requires { All (IsSettled j.now.tasks) (tasks_to last) }
+    ensures bytes { Wrote result (K.told out.old) (K.told out.new) (parts_of names.now numbers.now (view_at j.now.tasks) (tasks_to last)) }
     ensures cause { HasCause (K.faults out.old) (K.faults out.new) result }
 {
-    let last = last_of(numbers);
+    put_to_last(last, j, numbers, names, out)
+}
+
+// All tasks before the last one, and that one.
+#[tactic(auto, using(ded_io::proofs::Writes::writes))]
+fn put_to_last<K: Sink>(
+    last: u32,
+    j: &Judge<'_>,
+    numbers: &Numbers,
+    names: &Names,
+    out: &mut K,
+) -> Result<(), SinkError>
+    requires { All (IsSettled j.now.tasks) (tasks_to last) }
+    ensures bytes { Wrote result (K.told out.old) (K.told out.new) (parts_of names.now numbers.now (view_at j.now.tasks) (tasks_below last) ⧺ task_part names.now numbers.now (view_at j.now.tasks) last) }
+    ensures cause { HasCause (K.faults out.old) (K.faults out.new) result }
+{
     put_before(last, j, numbers, names, out)?;
     put_task(last, j, numbers, names, out)
 }
 
 // All tasks before the last one.
+#[tactic(auto, using(crate::proofs::Telling::telling))]
 fn put_before<K: Sink>(
     last: u32,
     j: &Judge<'_>,
@@ -298,6 +333,6 @@ fn put_needed<K: Sink>(
         Event::F { c, .. } => put_one(c, j, numbers, names, out),
         Event::X { a } => put_one(a, j, numbers, names, out),
         Event::B { t, .. } => put_one(t, j, numbers, names, out),
-        Event::Z => put_all(j, numbers, names, out),
+        Event::Z => put_all(last_of(numbers), j, numbers, names, out),
     }
 }
