@@ -1,10 +1,15 @@
 -- The conditions of an event as the code asks them, task by task: the first that fails.
-use Rattle.std.specs.Prelude.{ℕ, ℤ, Bool, true, false, not, ◌&&◌, ◌==◌, zero, suc, pred, length, Option, Some, None, if◌then◌else◌}
-use Rattle.event_machine.specs.Offers.{Offer, waits_with, is_terminate, is_end}
+use Rattle.std.specs.Prelude.{ℕ, Bool, pred, length, Option, Some, None, if◌then◌else◌}
+use Rattle.event_machine.specs.declared.Event.{Event}
+use Rattle.event_machine.specs.declared.Event.TheVariants.{R, E, S, D, C, T, F, X, B, Z}
+use Rattle.event_machine.specs.Offers.{Offer, calls_in, is_any_form, is_conditional, is_timed, waits_with, opens, is_else, is_delay, is_finish, is_end}
+use Rattle.event_machine.specs.Worlds.{aborts}
+use Rattle.syn_event.specs.Numbering.{Numbering, owner_of}
+use Rattle.task_machine.specs.Conditions.{failing_in, others_may_end, is_end_of}
 use Rattle.task_machine.specs.declared.verdict.Cause.{Cause}
 use Rattle.task_machine.specs.declared.verdict.Cause.TheVariants as cause
 use Rattle.task_machine.specs.declared.verdict.Why.{Why}
-use Rattle.task_machine.specs.Table.{Tasks, seat_of}
+use Rattle.task_machine.specs.Table.{Tasks, seat_of, offer_in_seat}
 use Rattle.task_machine.specs.Views.{View, Completed, Abnormal, Busy, At, view_of}
 
 -- what is seen of each task of a list
@@ -52,3 +57,23 @@ other_fails Completed t terminates = None
 other_fails Abnormal t terminates = why cause.Busy t
 other_fails Busy t terminates = why cause.Busy t
 other_fails (At offer) t terminates = if terminates then None else why cause.Offer t
+
+-- ---- the conditions of each event, task by task
+
+abbrev pub act_asked : Tasks → ℕ → (Offer → Bool) → Option Why
+act_asked tasks t test = act_fails (view_at tasks t) t (test (offer_in_seat (seat_of tasks t)))
+
+abbrev pub end_asked : Tasks → Option Why
+end_asked tasks = first_of (main_fails (view_at tasks 0) (is_end (offer_in_seat (seat_of tasks 0)))) (failing_in (view_at tasks) (others_may_end (pred (length tasks))))
+
+abbrev pub asked : Numbering → Tasks → Event → Option Why
+asked numbers tasks (R c e i) = first_of (act_asked tasks c (calls_in is_any_form e i)) (act_asked tasks (owner_of numbers e) (waits_with (opens e i)))
+asked numbers tasks (E a) = act_asked tasks a is_finish
+asked numbers tasks (S a) = act_asked tasks a (waits_with is_else)
+asked numbers tasks (D a k) = act_asked tasks a (waits_with (is_delay k))
+asked numbers tasks (C c e i) = first_of (act_asked tasks c (calls_in is_conditional e i)) (closed_fails (view_at tasks (owner_of numbers e)) (owner_of numbers e))
+asked numbers tasks (T c e i) = first_of (act_asked tasks c (calls_in is_timed e i)) (closed_fails (view_at tasks (owner_of numbers e)) (owner_of numbers e))
+asked numbers tasks (F c e i) = first_of (act_asked tasks c (calls_in is_any_form e i)) (open_fails (view_at tasks (owner_of numbers e)) (owner_of numbers e))
+asked numbers tasks (X a) = act_asked tasks a (is_end_of a)
+asked numbers tasks (B t x) = act_asked tasks t (aborts x)
+asked numbers tasks Z = end_asked tasks

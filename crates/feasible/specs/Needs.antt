@@ -1,5 +1,5 @@
 -- What running the needed tasks on leaves.
-use Rattle.std.specs.Prelude.{◌≡◌, ℕ, ◌+◌, ◌≤◌, Bool, true, false, List, [], ◌∷◌, ◌++◌, length, slice_index, All, Option, Some, None, ◌⊎◌}
+use Rattle.std.specs.Prelude.{◌≡◌, ℕ, zero, suc, ◌+◌, ◌≤◌, Bool, true, false, List, [], ◌∷◌, ◌++◌, length, slice_index, All, Option, Some, None, ◌⊎◌}
 use Rattle.event_machine.specs.Seats.{Seat, is_live}
 use Rattle.event_machine.specs.Settling.{ran, HasSteps}
 use Rattle.task_local.specs.Control.{Task}
@@ -18,7 +18,7 @@ pub record HasRun (old : Task) (steps : ℕ) (new : Task) (counted : ℕ) : Type
 pub record HaveRun (bound : ℕ) (tasks : Tasks) (steps : List ℕ) (tasks' : Tasks) (steps' : List ℕ) : Type 0 where
   pub standing : (t : ℕ) → (seat_of tasks' t).standing ≡ (seat_of tasks t).standing
   pub each : (t : ℕ) → HasRun (seat_of tasks t).local (slice_index steps t) (seat_of tasks' t).local (slice_index steps' t)
-  pub others : (t : ℕ) → is_live (seat_of tasks t).standing ≡ false → seat_of tasks' t ≡ seat_of tasks t
+  pub others : (t : ℕ) → is_live (seat_of tasks t).standing ≡ false → (seat_of tasks' t ≡ seat_of tasks t) × (slice_index steps' t ≡ slice_index steps t)
   pub size : length tasks' ≡ length tasks
   pub counts : length steps' ≡ length steps
   pub within : ((t : ℕ) → slice_index steps t ≤ bound) → (t : ℕ) → slice_index steps' t ≤ bound
@@ -41,3 +41,8 @@ pub record IsFirstStuck (bound : ℕ) (tasks : Tasks) (steps : List ℕ) (needed
 abbrev pub Settled : ℕ → Tasks → List ℕ → List ℕ → Option ℕ → Type 0
 Settled bound tasks steps needed None = All (IsSettled tasks) needed
 Settled bound tasks steps needed (Some t) = IsFirstStuck bound tasks steps needed t
+
+-- the tasks below n, in order
+abbrev pub tasks_below : ℕ → List ℕ
+tasks_below zero = []
+tasks_below (suc n) = tasks_below n ++ n ∷ []

@@ -3,9 +3,9 @@
 ghost use Rattle.std.specs.Prelude.{◌≡◌, pred, length, ◌<◌, ◌^◌};
 ghost use Rattle.event_machine.specs.Offers as offers;
 ghost use Rattle.event_machine.specs.Worlds.{aborts};
-ghost use Rattle.task_machine.specs.Conditions.{first_failing, failing_in, others_can_end};
+ghost use Rattle.task_machine.specs.Conditions.{failing_in, others_may_end};
 ghost use Rattle.task_machine.specs.Table.{seat_of, offer_in_seat};
-ghost use Rattle.feasible.specs.Failing.{why, first_of, act_fails, closed_fails, open_fails, main_fails, other_fails, view_at};
+ghost use Rattle.feasible.specs.Failing.{why, first_of, act_fails, closed_fails, open_fails, main_fails, other_fails, view_at, act_asked, asked};
 
 use event_machine::{CallForm, Event, Standing};
 use syn_event::Numbers;
@@ -18,9 +18,8 @@ use task_machine::{Cause, Why};
 
 // Why the event can't happen as the tasks stand: the first of its conditions that fails.
 pub(crate) fn failing(seats: &[Seat], numbers: &Numbers, e: &Event) -> Option<Why>
-    requires few { length seats.now < 2 ^ 32 }
-    requires size { length seats.now ≡ length numbers.now.tasks }
-    ensures { result ≡ first_failing numbers.now (view_at seats.now) e.now }
+    requires { length seats.now < 2 ^ 32 }
+    ensures { result ≡ asked numbers.now seats.now e.now }
 {
     match *e {
         Event::R { c, e, i } => failing_start(seats, numbers.owner(e), c, e, i),
@@ -68,11 +67,8 @@ fn failing_act(seats: &[Seat], t: u32, passes: bool) -> Option<Why>
     match standing_at(seats, t) {
         Standing::Completed | Standing::Killed => because(Cause::Closed, t),
         Standing::Served { abnormal, .. } => {
-            if abnormal {
-                because(Cause::Closed, t)
-            } else {
-                because(Cause::Busy, t)
-            }
+            let cause = if abnormal { Cause::Closed } else { Cause::Busy };
+            because(cause, t)
         }
         Standing::Live | Standing::Waiting | Standing::Queued => {
             if passes {
@@ -86,7 +82,7 @@ fn failing_act(seats: &[Seat], t: u32, passes: bool) -> Option<Why>
 
 // Why the rendezvous of the caller with the owner of the entry can't start.
 fn failing_start(seats: &[Seat], owner: u32, c: u32, e: u32, i: i32) -> Option<Why>
-    ensures { result ≡ first_of (act_fails (view_at seats.now c) c (offers.calls_in offers.is_any_form e i (offer_in_seat (seat_of seats.now c)))) (act_fails (view_at seats.now owner) owner (offers.waits_with (offers.opens e i) (offer_in_seat (seat_of seats.now owner)))) }
+    ensures { result ≡ first_of (act_asked seats.now c (offers.calls_in offers.is_any_form e i)) (act_asked seats.now owner (offers.waits_with (offers.opens e i))) }
 {
     let caller = failing_act(seats, c, calls_member(seats, c, e, i));
     let acceptor = failing_act(seats, owner, opens_member(seats, owner, e, i));
@@ -164,7 +160,7 @@ fn failing_other(seats: &[Seat], t: u32) -> Option<Why>
 // Why some other task can't end with the main program: the first one.
 fn failing_others(seats: &[Seat]) -> Option<Why>
     requires { length seats.now < 2 ^ 32 }
-    ensures { result ≡ failing_in (view_at seats.now) (others_can_end (pred (length seats.now))) }
+    ensures { result ≡ failing_in (view_at seats.now) (others_may_end (pred (length seats.now))) }
 {
     let count = seats.len() as u32;
     for t in 1..count {

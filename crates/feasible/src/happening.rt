@@ -86,9 +86,12 @@ fn begin_served(steps: &mut [u64], seats: &[Seat], x: u32)
     requires { length steps.old ≡ length seats.now }
     ensures { BeginAnew (λ t. is_served_by x (seat_of seats.now t).standing) steps.old steps.new }
 {
-    for (count, seat) in steps.iter_mut().zip(seats) {
-        if is_served_by(x, seat.standing) {
-            *count = 0;
+    for t in 0..steps.len() {
+        if t < seats.len() {
+            let seat = &seats[t];
+            if is_served_by(x, seat.standing) {
+                steps[t] = 0;
+            }
         }
     }
 }

@@ -9,7 +9,7 @@ ghost use Rattle.task_machine.specs.Conditions.{needed_of};
 ghost use Rattle.task_machine.specs.Judging.{VerdictIs};
 ghost use Rattle.task_machine.specs.Table.{seat_of};
 ghost use Rattle.event_machine.specs.Tallies.{HasNoEnd};
-ghost use Rattle.feasible.specs.Deciding.{IsDecided};
+ghost use Rattle.feasible.specs.Deciding.{IsDecided, taken_with, ended_with};
 ghost use Rattle.feasible.specs.Failing.{view_at};
 ghost use Rattle.feasible.specs.Keeping.{StandsFor, NothingFollows, IsSettled, is_feasible, is_infeasible};
 ghost use Rattle.feasible.specs.Shown.{IsShown, Shows};
@@ -74,18 +74,7 @@ impl<'p> Judge<'p> {
         ensures bound { IfOk result (λ j. j.bound ≡ local_bound) }
         ensures taken { IfOk result (λ j. j.taken ≡ 0) }
     {
-        let seats = start_all(alloc, p, types, numbers, inputs)?;
-        let steps = no_steps(alloc, seats.len())?;
-        Ok(Judge {
-            numbers,
-            seats,
-            steps,
-            ended: false,
-            bound: local_bound,
-            taken: 0,
-            verdict: Verdict::Feasible,
-            lost: false,
-        })
+        Judge::begin(alloc, p, types, numbers, inputs, local_bound)
     }
 
     /// The verdict on the events given so far and this one. After a verdict other than feasible it stays that verdict, and after want of
@@ -103,6 +92,75 @@ impl<'p> Judge<'p> {
         ensures numbers { self.new.numbers ≡ self.old.numbers }
         ensures bound { self.new.bound ≡ self.old.bound }
         ensures stays { is_feasible self.old.verdict ≡ false → self.new ≡ self.old }
+        ensures lost { OnErr result (self.new.lost ≡ true) }
+        ensures still_lost { self.old.lost ≡ true → IsErr result }
+    {
+        self.advance(e)
+    }
+
+    /// How many local steps the judge allows to a task since the last event that changed it.
+    pub fn bound(&self) -> u64
+        ensures { result ≡ self.now.bound }
+    {
+        self.bound
+    }
+
+    /// What is seen of a task that is closed, served or settled: it has been run on to where it has no local step. After an infeasible
+    /// event each task that it needs is.
+    pub fn offer<'a>(&'a self, task: u32) -> TaskView<'a>
+        requires { IsSettled self.now.tasks task }
+        // after the events that have happened
+        ensures view { (p : PProgram) (events : List event.Event) → StandsFor p events self.now → HasNoEnd (take self.now.taken events) → IsShown p self.now.numbers (take self.now.taken events) task result }
+        ensures shows { Shows (view_at self.now.tasks task) result }
+    {
+        show_at(&self.seats, task)
+    }
+}
+
+impl<'p> Judge<'p> {
+    // A judge of the tasks that these numbers have.
+    pub(crate) fn begin(
+        alloc: Global,
+        p: &'p Program,
+        types: &'p Types,
+        numbers: &'p Numbers,
+        inputs: &Inputs,
+        bound: u64,
+    ) -> Result<Judge<'p>, Memory>
+        requires { length numbers.now.tasks < 204 }
+        ensures stands { IfOk result (λ j. StandsFor (plain_program p.now) [] j) }
+        ensures numbers { IfOk result (λ j. j.numbers ≡ numbers.now) }
+        ensures bound { IfOk result (λ j. j.bound ≡ bound) }
+        ensures taken { IfOk result (λ j. j.taken ≡ 0) }
+    {
+        let seats = start_all(alloc, p, types, numbers, inputs)?;
+        let steps = no_steps(alloc, seats.len())?;
+        Ok(Judge {
+            numbers,
+            seats,
+            steps,
+            ended: false,
+            bound,
+            taken: 0,
+            verdict: Verdict::Feasible,
+            lost: false,
+        })
+    }
+
+    // Decides on the event, where none has gone wrong yet.
+    fn advance(&mut self, e: &Event) -> Result<Verdict, Memory>
+        requires { self.old.taken + 1 < 2 ^ 32 }
+        ensures found { OnOk result (self.old.lost ≡ false) }
+        ensures stays { is_feasible self.old.verdict ≡ false → self.new ≡ self.old }
+        ensures same { is_feasible self.old.verdict ≡ false → IfOk result (λ v. v ≡ self.old.verdict) }
+        ensures decided { is_feasible self.old.verdict ≡ true → IfOk result (IsDecided self.old.numbers self.old.bound self.old.taken e.now self.old.tasks self.old.steps self.new.tasks self.new.steps) }
+        ensures taken { is_feasible self.old.verdict ≡ true → IfOk result (λ v. self.new.taken ≡ taken_with v self.old.taken) }
+        ensures ended { is_feasible self.old.verdict ≡ true → IfOk result (λ v. self.new.ended ≡ ended_with v e.now self.old.ended) }
+        ensures few { self.new.taken ≤ self.old.taken + 1 }
+        ensures last { IfOk result (λ v. v ≡ self.new.verdict) }
+        ensures numbers { self.new.numbers ≡ self.old.numbers }
+        ensures bound { self.new.bound ≡ self.old.bound }
+        ensures memory { OnOk result (self.new.lost ≡ false) }
         ensures lost { OnErr result (self.new.lost ≡ true) }
         ensures still_lost { self.old.lost ≡ true → IsErr result }
     {
@@ -135,22 +193,11 @@ impl<'p> Judge<'p> {
         }
     }
 
-    /// How many local steps the judge allows to a task since the last event that changed it.
-    pub fn bound(&self) -> u64
-        ensures { result ≡ self.now.bound }
+    // The last verdict.
+    fn verdict(&self) -> Verdict
+        ensures { result ≡ self.now.verdict }
     {
-        self.bound
-    }
-
-    /// What is seen of a task that is closed, served or settled: it has been run on to where it has no local step. After an infeasible
-    /// event each task that it needs is.
-    pub fn offer<'a>(&'a self, task: u32) -> TaskView<'a>
-        requires { IsSettled self.now.tasks task }
-        // after the events that have happened
-        ensures view { (p : PProgram) (events : List event.Event) → StandsFor p events self.now → HasNoEnd (take self.now.taken events) → IsShown p self.now.numbers (take self.now.taken events) task result }
-        ensures shows { Shows (view_at self.now.tasks task) result }
-    {
-        show_at(&self.seats, task)
+        self.verdict
     }
 }
 
@@ -170,11 +217,22 @@ pub fn judge_all(
     ensures { IfOk result (VerdictIs (plain_program p.now) numbers.now local_bound events.now) }
 {
     let mut judge = Judge::new(alloc, p, types, numbers, inputs, local_bound)?;
-    let mut verdict = Verdict::Feasible;
+    judge_each(&mut judge, events)
+}
+
+// The verdict on all these events, by a judge that has taken none.
+pub(crate) fn judge_each(judge: &mut Judge, events: &[Event]) -> Result<Verdict, Memory>
+    requires first { judge.old.taken ≡ 0 }
+    requires few { length events.now < 2 ^ 32 }
+    ensures { (p : PProgram) → StandsFor p [] judge.old → NothingFollows events.now → IfOk result (VerdictIs p judge.old.numbers judge.old.bound events.now) }
+{
     for e in events {
-        verdict = judge.next(e)?;
+        match judge.next(e) {
+            Ok(_) => {}
+            Err(memory) => return Err(memory),
+        }
     }
-    Ok(verdict)
+    Ok(judge.verdict())
 }
 
 // The counts of so many tasks, all 0.
@@ -183,7 +241,7 @@ fn no_steps(alloc: Global, count: usize) -> Result<Vec<u64>, Memory>
     ensures size { IfOk result (λ steps. length steps.items ≡ count) }
 {
     let mut steps = Vec::new(alloc);
-    for _ in 0..count {
+    for _made in 0..count {
         steps.push(0)?;
     }
     Ok(steps)

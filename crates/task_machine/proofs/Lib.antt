@@ -3,3 +3,6 @@ pub mod Mapping
 pub mod Filtered
 pub mod Listed
 pub mod TaskLaws
+pub mod Tabled
+pub mod Judged
+pub mod Verdicts

@@ -15,31 +15,31 @@ use Rattle.task_machine.specs.Views.{View, Completed, Abnormal, Busy, At}
 -- ---- what can be asked of a view
 
 -- completed or abnormal
-abbrev pub is_closed : View → Bool
-is_closed Completed = true
-is_closed Abnormal = true
-is_closed Busy = false
-is_closed (At offer) = false
+abbrev pub is_closed_view : View → Bool
+is_closed_view Completed = true
+is_closed_view Abnormal = true
+is_closed_view Busy = false
+is_closed_view (At offer) = false
 
 -- in a rendezvous, abnormal or not
-abbrev pub is_served : View → Bool
-is_served Completed = false
-is_served Abnormal = true
-is_served Busy = true
-is_served (At offer) = false
+abbrev pub is_served_view : View → Bool
+is_served_view Completed = false
+is_served_view Abnormal = true
+is_served_view Busy = true
+is_served_view (At offer) = false
 
-abbrev pub is_completed : View → Bool
-is_completed Completed = true
-is_completed Abnormal = false
-is_completed Busy = false
-is_completed (At offer) = false
+abbrev pub is_completed_view : View → Bool
+is_completed_view Completed = true
+is_completed_view Abnormal = false
+is_completed_view Busy = false
+is_completed_view (At offer) = false
 
 -- it is at an offer that passes the test
-abbrev pub offers : (Offer → Bool) → View → Bool
-offers test Completed = false
-offers test Abnormal = false
-offers test Busy = false
-offers test (At offer) = test offer
+abbrev pub is_at : (Offer → Bool) → View → Bool
+is_at test Completed = false
+is_at test Abnormal = false
+is_at test Busy = false
+is_at test (At offer) = test offer
 
 -- ---- conditions
 
@@ -50,29 +50,29 @@ pub record Condition : Type 0 where
   pub cause : Cause
 
 abbrev pub not_closed : ℕ → Condition
-not_closed t = record { task = t; test = λ v. not (is_closed v); cause = cause.Closed }
+not_closed t = record { task = t; test = λ v. not (is_closed_view v); cause = cause.Closed }
 
 abbrev pub not_served : ℕ → Condition
-not_served t = record { task = t; test = λ v. not (is_served v); cause = cause.Busy }
+not_served t = record { task = t; test = λ v. not (is_served_view v); cause = cause.Busy }
 
 abbrev pub closed : ℕ → Condition
-closed t = record { task = t; test = is_closed; cause = cause.NotClosed }
+closed t = record { task = t; test = is_closed_view; cause = cause.NotClosed }
 
 abbrev pub at_offer : ℕ → (Offer → Bool) → Condition
-at_offer t test = record { task = t; test = offers test; cause = cause.Offer }
+at_offer t test = record { task = t; test = is_at test; cause = cause.Offer }
 
 -- it has completed, or offers to terminate
-abbrev pub can_end : ℕ → Condition
-can_end t = record { task = t; test = λ v. is_completed v || offers (waits_with is_terminate) v; cause = cause.Offer }
+abbrev pub may_end : ℕ → Condition
+may_end t = record { task = t; test = λ v. is_completed_view v || is_at (waits_with is_terminate) v; cause = cause.Offer }
 
 -- The task acts: it is neither closed nor served, and makes an offer that passes the test.
 abbrev pub acts : ℕ → (Offer → Bool) → List Condition
 acts t test = not_closed t ∷ not_served t ∷ at_offer t test ∷ []
 
 -- each task from 1 up to n can end
-abbrev pub others_can_end : ℕ → List Condition
-others_can_end zero = []
-others_can_end (suc n) = others_can_end n ++ not_served (suc n) ∷ can_end (suc n) ∷ []
+abbrev pub others_may_end : ℕ → List Condition
+others_may_end zero = []
+others_may_end (suc n) = others_may_end n ++ not_served (suc n) ∷ may_end (suc n) ∷ []
 
 -- the end of the body of the task a, which is not the main program: this ends with the whole program alone
 abbrev pub is_end_of : ℕ → Offer → Bool
@@ -89,7 +89,7 @@ conditions_of numbers (T c e i) = acts c (calls_in is_timed e i) ++ not_closed (
 conditions_of numbers (F c e i) = acts c (calls_in is_any_form e i) ++ closed (owner_of numbers e) ∷ []
 conditions_of numbers (X a) = acts a (is_end_of a)
 conditions_of numbers (B t x) = acts t (aborts x)
-conditions_of numbers Z = not_served 0 ∷ at_offer 0 is_end ∷ others_can_end (pred (length numbers.tasks))
+conditions_of numbers Z = not_served 0 ∷ at_offer 0 is_end ∷ others_may_end (pred (length numbers.tasks))
 
 -- ---- needed tasks
 

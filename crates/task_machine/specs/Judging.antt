@@ -9,12 +9,12 @@ use Rattle.task_machine.specs.declared.verdict.Why.{Why}
 use Rattle.task_machine.specs.declared.verdict.Verdict.{Verdict}
 use Rattle.task_machine.specs.declared.verdict.Verdict.TheVariants.{Feasible, Infeasible, Unsettled}
 use Rattle.task_machine.specs.Views.{IsFeasible, IsOpen, Stands, View, ViewIs}
-use Rattle.task_machine.specs.Conditions.{is_closed, needed_of, first_failing}
+use Rattle.task_machine.specs.Conditions.{is_closed_view, needed_of, first_failing}
 
 -- The views of the tasks that the event needs; of any other task it counts only whether it is closed.
 pub record AreViews (p : PProgram) (numbers : Numbering) (events : List Event) (e : Event) (views : ℕ → View) : Type 0 where
   pub needed : All (λ t. ViewIs p numbers events t (views t)) (needed_of numbers e)
-  pub closed : (t : ℕ) → (z : Standing) × Stands p numbers events t z × (seats.is_closed z ≡ is_closed (views t))
+  pub closed : (t : ℕ) → (z : Standing) × Stands p numbers events t z × (seats.is_closed z ≡ is_closed_view (views t))
 
 -- none of the tasks is open at the bound after the events
 abbrev pub NoneOpen : PProgram → Numbering → ℕ → List Event → List ℕ → Type 0

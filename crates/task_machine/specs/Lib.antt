@@ -3,3 +3,4 @@ pub mod Opening
 pub mod Views
 pub mod Conditions
 pub mod Judging
+pub mod TaskLaws

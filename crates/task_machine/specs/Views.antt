@@ -1,4 +1,5 @@
--- How a task stands after a list of events, in the words of runs: a run is one of the program from its opening (this project's rule).
+-- How a task stands after a list of events, in the words of runs: a run is one of the program from its opening. A task does no more after the end of
+-- the program, so an end at the end of the events is left out (this project's rule).
 use Rattle.std.specs.Prelude.{◌≡◌, ℕ, Bool, true, false, not, ◌&&◌, if◌then◌else◌, List}
 use Rattle.ada_tree.specs.PlainProgram.{PProgram}
 use Rattle.event_machine.specs.declared.Event.{Event}
@@ -7,7 +8,7 @@ use Rattle.event_machine.specs.declared.Standing.TheVariants as standing
 use Rattle.event_machine.specs.Offers.{Offer}
 use Rattle.event_machine.specs.Seats.{Seat, is_completed, is_served, is_abnormal}
 use Rattle.event_machine.specs.Runs.{Feasible}
-use Rattle.event_machine.specs.Tallies.{RestIs, StandsAfter}
+use Rattle.event_machine.specs.Tallies.{RestIs, StandsAfter, before_end}
 use Rattle.syn_event.specs.Numbering.{Numbering}
 use Rattle.task_local.specs.Control.{Task}
 use Rattle.task_local.specs.Steps.{can_step, offer_of}
@@ -18,13 +19,13 @@ use Rattle.task_machine.specs.Opening.{opening_of}
 abbrev pub IsFeasible : PProgram → Numbering → List Event → Type 0
 IsFeasible p numbers events = Feasible (rules_of numbers) (opening_of p numbers).state events
 
--- In some run with these events t is free, has made n local steps since the last event that changed it, and is in this state.
+-- Rest: in some run with these events t is free, has made n local steps since the last event that changed it, and is in this state.
 abbrev pub IsRest : PProgram → Numbering → List Event → ℕ → ℕ → Task → Type 0
-IsRest p numbers events t n task = RestIs (rules_of numbers) (opening_of p numbers).state events t n task
+IsRest p numbers events t n task = RestIs (rules_of numbers) (opening_of p numbers).state (before_end events) t n task
 
 -- In some run with these events t stands so, where one that waits or is queued is called live.
 abbrev pub Stands : PProgram → Numbering → List Event → ℕ → Standing → Type 0
-Stands p numbers events t z = StandsAfter (rules_of numbers) (opening_of p numbers).state events t z
+Stands p numbers events t z = StandsAfter (rules_of numbers) (opening_of p numbers).state (before_end events) t z
 
 -- In some run with these events the standing of t passes the test.
 abbrev pub StandsIn : PProgram → Numbering → List Event → ℕ → (Standing → Bool) → Type 0

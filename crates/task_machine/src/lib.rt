@@ -5,10 +5,12 @@
 pub mod effects;
 mod listing;
 mod machine;
+mod program_laws;
 pub mod rows;
 pub mod seats;
 mod verdict;
 
 pub use event_machine::Action;
 pub use machine::{Machine, StepError, start_all};
+pub use program_laws::laws;
 pub use verdict::{Cause, Verdict, Why};

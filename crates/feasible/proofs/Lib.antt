@@ -1,0 +1,8 @@
+pub mod Running
+pub mod Asking
+pub mod Recounting
+pub mod Judging
+pub mod Continuing
+pub mod Starting
+pub mod Showing
+pub mod Fronts
