@@ -1,5 +1,5 @@
 -- Views are a matter of the events alone, and an event is feasible next exactly where all its conditions hold of the views.
-use Rattle.std.proofs.Common.{◌≡◌, ◌↔◌, ℕ, ◌+◌, Bool, true, false, not, ◌&&◌, if◌then◌else◌, List, [], ◌∷◌, ◌++◌, length, refl, sym, ap, ◌∙◌, subst, Option, Some, None, true≢false, append_assoc}
+use Rattle.std.proofs.Common.{◌≡◌, ◌↔◌, ℕ, Bool, true, false, not, ◌&&◌, if◌then◌else◌, List, [], ◌∷◌, ◌++◌, length, refl, sym, ap, ◌∙◌, subst, true≢false}
 use Rattle.std.specs.Prelude.{All}
 use Rattle.std.specs.List.{list_all}
 use Rattle.ada_tree.specs.PlainProgram.{PProgram}
@@ -7,13 +7,12 @@ use Rattle.event_machine.specs.declared.Standing.{Standing}
 use Rattle.event_machine.specs.declared.Standing.TheVariants.{Live, Waiting, Queued, Served, Completed, Killed}
 use Rattle.event_machine.specs.declared.Event.{Event}
 use Rattle.event_machine.specs.Offers.{Offer}
-use Rattle.event_machine.specs.Seats.{Seat, State, live, is_live, is_completed, is_abnormal, is_closed}
+use Rattle.event_machine.specs.Seats.{Seat, State, live, is_completed, is_abnormal, is_closed}
 use Rattle.event_machine.specs.Worlds.{World, still, is_last, needs}
-use Rattle.event_machine.specs.Settling.{HasSteps, Settles, ran, Leads}
-use Rattle.event_machine.specs.Tallies.{ComesTo, RestIs, StandsAfter, HasNoEnd, before_end}
-use Rattle.event_machine.specs.Laws.{IsJudged, program_of}
-use Rattle.event_machine.proofs.Stills.{still_still, still_closed}
-use Rattle.event_machine.proofs.Standings.{is-Live}
+use Rattle.event_machine.specs.Settling.{Settles, ran}
+use Rattle.event_machine.specs.Tallies.{RestIs, StandsAfter, HasNoEnd, before_end}
+use Rattle.event_machine.specs.Laws.{IsJudged}
+use Rattle.event_machine.proofs.Stills.{still_still}
 use Rattle.event_machine.proofs.Extending.{before_end-same}
 use Rattle.event_machine.proofs.Following.{leads_once}
 use Rattle.event_machine.proofs.Stepping.{settles_once}
@@ -115,7 +114,7 @@ module _ (p : PProgram) (numbers : Numbering) where
   pub stands_still : (events : List Event) (t : ℕ) (z : Standing) → Stands p numbers events t z → still z ≡ z
   stands_still events t z (tasks, tally, run, is) = ap still (sym is) ∙ still_still (tasks t).standing ∙ is
 
-  rest_stands : (events : List Event) (t n : ℕ) (task : Task) → IsRest p numbers events t n task → Stands p numbers events t Live
+  pub rest_stands : (events : List Event) (t n : ℕ) (task : Task) → IsRest p numbers events t n task → Stands p numbers events t Live
   rest_stands events t n task (tasks, tally, run, is, count) = (tasks, tally, run, ap (λ (x : Seat Task). still x.standing) is)
 
   -- ---- seats and views

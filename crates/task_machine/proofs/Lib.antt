@@ -6,3 +6,5 @@ pub mod TaskLaws
 pub mod Tabled
 pub mod Judged
 pub mod Verdicts
+pub mod OneVerdict
+pub mod Deciding

@@ -1,10 +1,10 @@
 -- The table of conditions says of views what the machine without queues asks of tasks, and which tasks an event needs.
-use Rattle.std.proofs.Common.{◌≡◌, ℕ, zero, suc, pred, ◌+◌, ◌<◌, ◌≤◌, Bool, true, false, not, ◌&&◌, ◌||◌, ◌==◌, nat_le, if◌then◌else◌, List, [], ◌∷◌, ◌++◌, length, refl, sym, ap, ◌∙◌, subst, slice_index_or, inl, inr, ⊎_elim, arith, length-append, Option, Some, None, true≢false}
+use Rattle.std.proofs.Common.{◌≡◌, ℕ, zero, suc, pred, ◌+◌, ◌<◌, ◌≤◌, Bool, true, false, not, ◌&&◌, ◌||◌, ◌==◌, nat_le, if◌then◌else◌, List, [], ◌∷◌, length, refl, sym, ap, ◌∙◌, subst, slice_index_or, ⊎_elim, arith, length-append, Option, Some, None, true≢false}
 use Rattle.std.specs.Prelude.{All, find, option_map}
 use Rattle.std.specs.List.{list_all}
 use Rattle.std.proofs.lemmas.Bool.{cases_lt, and_parts, eq-eqb, eqb-true, le-leb, leb-true}
 use Rattle.std.proofs.lemmas.List.{get_or_append_left, get_or_push}
-use Rattle.std.proofs.lemmas.List.Elements.{All-nil, All-cons, All-append}
+use Rattle.std.proofs.lemmas.List.Elements.{All-nil, All-cons}
 use Rattle.std.proofs.lemmas.List.Folds.{list_all-append}
 use Rattle.event_machine.specs.declared.Standing.{Standing}
 use Rattle.event_machine.specs.declared.Standing.TheVariants.{Live, Waiting, Queued, Served, Completed, Killed}
@@ -19,8 +19,8 @@ use Rattle.syn_event.specs.Numbering.{Numbering, owner_of}
 use Rattle.task_local.specs.Control.{Task}
 use Rattle.task_local.specs.Steps.{task_ops, offer_of}
 use Rattle.task_machine.specs.declared.verdict.Why.{Why}
-use Rattle.task_machine.specs.Views.{View, Busy, At, view_in, view_of}
-use Rattle.task_machine.specs.Conditions.{is_closed_view, is_served_view, is_completed_view, is_at, Condition, conditions_of, others_may_end, is_end_of, tasks_to, needed_of, holds, all_hold, why_of, failing_in}
+use Rattle.task_machine.specs.Views.{View, view_in, view_of}
+use Rattle.task_machine.specs.Conditions.{is_closed_view, is_served_view, is_completed_view, is_at, Condition, others_may_end, is_end_of, tasks_to, needed_of, holds, all_hold, why_of, failing_in}
 
 -- the program of these numbers, with so many tasks
 abbrev pub sized : Numbering → ℕ → Program Task
@@ -165,7 +165,7 @@ at_to (suc n) t d h = ⊎_elim
 all_to : (P : ℕ → Type 0) (n : ℕ) → ((t : ℕ) → t ≤ n → P t) → All P (tasks_to n)
 all_to P n h k d less = subst P (sym (at_to n k d (let e : length (tasks_to n) ≡ suc n = length_to n in omega arith))) (h k (let e : length (tasks_to n) ≡ suc n = length_to n in omega arith))
 
-to_all : (P : ℕ → Type 0) (n : ℕ) → All P (tasks_to n) → (t : ℕ) → t ≤ n → P t
+pub to_all : (P : ℕ → Type 0) (n : ℕ) → All P (tasks_to n) → (t : ℕ) → t ≤ n → P t
 to_all P n h t le = subst P (at_to n t 0 le) (h t 0 (let e : length (tasks_to n) ≡ suc n = length_to n in omega arith))
 
 le_from : (t n : ℕ) → nat_le t n ≡ true → t ≤ n

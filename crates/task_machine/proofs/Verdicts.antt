@@ -1,6 +1,5 @@
 -- The verdict of a list of events, as one more event comes.
 use Rattle.std.proofs.Common.{◌≡◌, ℕ, ◌+◌, List, [], ◌∷◌, ◌++◌, length, refl, sym, ap, ◌∙◌, subst, Option, Some, None, append_assoc, ◌⊎◌, inl, inr, ⊎_elim}
-use Rattle.std.specs.Prelude.{All}
 use Rattle.ada_tree.specs.PlainProgram.{PProgram}
 use Rattle.event_machine.specs.declared.Event.{Event}
 use Rattle.event_machine.specs.Tallies.{HasNoEnd}
@@ -9,16 +8,16 @@ use Rattle.task_machine.specs.declared.verdict.Why.{Why}
 use Rattle.task_machine.specs.declared.verdict.Verdict.TheVariants.{Feasible, Infeasible, Unsettled}
 use Rattle.task_machine.specs.Views.{IsFeasible, IsOpen, View}
 use Rattle.task_machine.specs.Conditions.{needed_of, conditions_of, first_failing}
-use Rattle.task_machine.specs.Judging.{AreViews, NoneOpen, AllFeasible, IsReached, IsRefused, IsHeldUp, VerdictIs}
+use Rattle.task_machine.specs.Judging.{AreViews, NoneOpen, IsReached, VerdictIs}
 use Rattle.task_machine.proofs.Tabled.{failing_none}
 use Rattle.task_machine.proofs.Judged.{judged}
 
 -- ---- lists
 
-cons_head : {A : Type 0} {x y : A} {xs ys : List A} → (x ∷ xs) ≡ (y ∷ ys) → x ≡ y
+pub cons_head : {A : Type 0} {x y : A} {xs ys : List A} → (x ∷ xs) ≡ (y ∷ ys) → x ≡ y
 cons_head {A} {x} {y} {xs} {ys} h = let e : (x ∷ xs) ≡ (y ∷ ys) = h in cc
 
-cons_tail : {A : Type 0} {x y : A} {xs ys : List A} → (x ∷ xs) ≡ (y ∷ ys) → xs ≡ ys
+pub cons_tail : {A : Type 0} {x y : A} {xs ys : List A} → (x ∷ xs) ≡ (y ∷ ys) → xs ≡ ys
 cons_tail {A} {x} {y} {xs} {ys} h = let e : (x ∷ xs) ≡ (y ∷ ys) = h in cc
 
 none_split : {A : Type 0} (before rest : List A) (x : A) → [] ≡ (before ++ x ∷ rest) → ⊥

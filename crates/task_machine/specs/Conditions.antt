@@ -1,6 +1,6 @@
 -- What each event asks of the tasks, as one table: its conditions in their order, each with the task that it asks of and the cause where it fails
 -- (9.4, 9.5, 9.7, 9.10; the order is this project's rule).
-use Rattle.std.specs.Prelude.{ℕ, ℤ, Bool, true, false, not, ◌&&◌, ◌||◌, ◌==◌, zero, suc, pred, List, [], ◌∷◌, ◌++◌, length, find, Option, option_map}
+use Rattle.std.specs.Prelude.{ℕ, Bool, true, false, not, ◌&&◌, ◌||◌, ◌==◌, zero, suc, pred, List, [], ◌∷◌, ◌++◌, length, find, Option, option_map}
 use Rattle.std.specs.List.{list_all}
 use Rattle.event_machine.specs.declared.Event.{Event}
 use Rattle.event_machine.specs.declared.Event.TheVariants.{R, E, S, D, C, T, F, X, B, Z}

@@ -6,11 +6,12 @@ use Rattle.event_machine.specs.declared.Event.{Event}
 use Rattle.event_machine.specs.Laws.{Determinacy, FirstLaw, KilledByEvents, FeasibleAdmitted}
 use Rattle.event_machine.specs.Tallies.{HasNoEnd}
 use Rattle.syn_event.specs.Numbering.{Numbering}
+use Rattle.task_machine.specs.declared.verdict.Verdict.{Verdict}
 use Rattle.task_machine.specs.Table.{rules_of}
 use Rattle.task_machine.specs.Opening.{opening_of}
 use Rattle.task_machine.specs.Views.{IsFeasible, View, ViewIs}
 use Rattle.task_machine.specs.Conditions.{all_hold}
-use Rattle.task_machine.specs.Judging.{AreViews}
+use Rattle.task_machine.specs.Judging.{AreViews, VerdictIs}
 
 -- Determinacy: two runs with the same events leave each task standing alike, a free one with the same number of local steps in the same state, a
 -- served or completed one in the same state, and, where both end quiet, each that is not killed in the same state.
@@ -40,3 +41,13 @@ FeasibleByTable p numbers =
 -- An event that is feasible next is one that the standings after the events admit.
 abbrev pub FeasibleIsAdmitted : PProgram → Numbering → Type 0
 FeasibleIsAdmitted p numbers = FeasibleAdmitted (rules_of numbers) (opening_of p numbers).state
+
+-- A list of events has one verdict at most.
+abbrev pub VerdictsAgree : PProgram → Numbering → Type 0
+VerdictsAgree p numbers =
+    (bound : ℕ) (events : List Event) (verdict other : Verdict) → VerdictIs p numbers bound events verdict → VerdictIs p numbers bound events other → verdict ≡ other
+
+-- Each list of events with nothing behind the end of the program has a verdict.
+abbrev pub VerdictsExist : PProgram → Numbering → Type 0
+VerdictsExist p numbers =
+    (bound : ℕ) (events : List Event) (e : Event) → HasNoEnd events → (verdict : Verdict) × VerdictIs p numbers bound (events ++ e ∷ []) verdict

@@ -2,7 +2,7 @@
 
 ghost use Rattle.ada_tree.specs.PlainProgram.{plain_program};
 ghost use Rattle.syn_event.specs.Legal.{Legal};
-ghost use Rattle.task_machine.specs.TaskLaws.{RunsAgree, ViewsAgree, KilledIsAborted, RestsMeet, FeasibleByTable, FeasibleIsAdmitted};
+ghost use Rattle.task_machine.specs.TaskLaws.{RunsAgree, ViewsAgree, KilledIsAborted, RestsMeet, FeasibleByTable, FeasibleIsAdmitted, VerdictsAgree, VerdictsExist};
 
 use ada_tree::{Program, Types};
 use syn_event::{Mode, Numbers};
@@ -16,4 +16,6 @@ pub fn laws(program: &Program, types: &Types, numbers: &Numbers)
     ensures first_law { RestsMeet (plain_program program.now) numbers.now }
     ensures second_law { FeasibleByTable (plain_program program.now) numbers.now }
     ensures admitted { FeasibleIsAdmitted (plain_program program.now) numbers.now }
+    ensures one_verdict { VerdictsAgree (plain_program program.now) numbers.now }
+    ensures some_verdict { VerdictsExist (plain_program program.now) numbers.now }
 {}
