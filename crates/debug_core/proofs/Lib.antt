@@ -12,3 +12,6 @@ pub mod Together
 pub mod Lining
 pub mod Textual
 pub mod Closing
+pub mod Uppering
+pub mod Feeding
+pub mod Judged

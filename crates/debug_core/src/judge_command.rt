@@ -2,9 +2,7 @@
 
 ghost use Rattle.std.specs.Prelude.{◌≡◌, ◌≤◌, ◌<◌, ◌-◌, ◌^◌, [], IfOk, IfErr, length, option_copied};
 ghost use Rattle.ada_tree.specs.PlainProgram.{PProgram, plain_program};
-ghost use Rattle.feasible.specs.Keeping.{StandsFor, is_feasible};
-ghost use Rattle.seq_file.specs.Files.{NothingFollowsEnd};
-ghost use Rattle.seq_file.specs.Lines.{is_upper_name};
+ghost use Rattle.feasible.specs.Keeping.{StandsFor, NothingFollows, is_feasible};
 ghost use Rattle.syn_event.specs.Legal.{Legal};
 ghost use Rattle.divergence.specs.JudgeText.{event_of};
 ghost use Rattle.debug_core.specs.JudgeAnswers.{AnswersJudge, HasJudged, IsFilesCause, WereLoaded, AreLoadCauses, WasJudged, IsJudgeCause, LinesJudged, IsLinesCause, VerdictWritten, verdict_status};
@@ -153,7 +151,7 @@ fn judge_events<K: Sink>(
     out: &mut K,
 ) -> Result<Verdict, Failure>
     requires legal { Legal (plain_program small.now.program) small.now.types small.now.numbers Mode.Original }
-    requires end { NothingFollowsEnd events.now }
+    requires end { NothingFollows events.now }
     requires few { length events.now < 2 ^ 32 - 1 }
     ensures written { IfOk result (VerdictWritten (plain_program small.now.program) small.now.numbers bound events.now (K.told out.old) (K.told out.new)) }
     ensures cause { IfErr result (IsOutputCause (K.faults out.old) (K.faults out.new)) }
@@ -192,10 +190,9 @@ fn judge_events<K: Sink>(
 
 // Gives the events to the judge one by one, up to the first behind which the verdict is no longer feasible: the verdict of all.
 fn feed(judge: &mut Judge<'_>, events: &[Event]) -> Result<Verdict, Memory>
-    requires end { NothingFollowsEnd events.now }
+    requires end { NothingFollows events.now }
     requires few { length events.now < 2 ^ 32 - 1 }
     requires first { judge.old.taken ≡ 0 }
-    requires feasible { is_feasible judge.old.verdict ≡ true }
     ensures { (p : PProgram) → StandsFor p [] judge.old → IfOk result (IsFed p judge.old.numbers judge.old.bound events.now judge.new) }
 {
     for event in events {
