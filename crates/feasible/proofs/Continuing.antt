@@ -2,7 +2,7 @@
 use Rattle.std.proofs.Common.{◌≡◌, ℕ, zero, suc, ◌+◌, ◌<◌, ◌≤◌, Bool, true, false, List, [], ◌∷◌, ◌++◌, length, take, refl, sym, ap, ◌∙◌, subst, arith, Option, Some, None, length-append, true≢false, ⊎_elim, Result, Ok, Err}
 use Rattle.std.specs.Prelude.{All, slice_index, ◌||◌, IfOk, OnOk}
 use Rattle.std.proofs.lemmas.Bool.{cases_Bool}
-use Rattle.std.proofs.lemmas.List.{take-append-le}
+use Rattle.std.proofs.lemmas.List.{take-append-le, take_all}
 use Rattle.std.proofs.lemmas.List.Elements.{All-weaker}
 use Rattle.std.proofs.Math.Seq.{take-length, take-append_seam}
 use Rattle.ada_tree.specs.declared.shortage.Memory.{Memory}
@@ -199,3 +199,11 @@ pub settled_next : (old : Kept) (e : Event) (tasks' : Tasks) (steps' : List ℕ)
 settled_next old e tasks' steps' (Err memory) d well = tt
 settled_next old e tasks' steps' (Ok v) d well = λ h. let r = d well in
     settled_leaves old.numbers old.bound old.taken e r.found r.counted tasks' steps' v r.leaves h
+
+-- the verdict of a judge that stands for all events
+pub verdict_whole : (p : PProgram) (events : List Event) (n : ℕ) (j : Kept) (numbers : Numbering) (bound : ℕ) (v : Verdict) → StandsFor p (take n events) j → length events ≤ n →
+    j.numbers ≡ numbers → j.bound ≡ bound → v ≡ j.verdict → VerdictIs p numbers bound events v
+verdict_whole p events n j numbers bound v s all same_numbers same_bound last =
+    subst (λ es. VerdictIs p numbers bound es v) (take_all n events all)
+    (subst (λ m. VerdictIs p m bound (take n events) v) same_numbers (subst (λ b. VerdictIs p j.numbers b (take n events) v) same_bound
+    (subst (VerdictIs p j.numbers j.bound (take n events)) (sym last) s.verdict)))

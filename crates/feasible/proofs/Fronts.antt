@@ -10,8 +10,8 @@ use Rattle.feasible.specs.Keeping.{NothingFollows}
 pub no_end_front : (events : List Event) (k : ℕ) → k < length events → NothingFollows events → HasNoEnd (take k events)
 no_end_front events zero less h = refl
 no_end_front [] (suc k) less h = absurd (omega arith)
-no_end_front (e ∷ rest) (suc k) less h = go (is_last e) refl
+no_end_front (e ∷ rest) (suc k) less h = go (is_last e) refl (no_end_front rest k (omega arith) h.1)
   where
-    go : (b : Bool) → is_last e ≡ b → (not b && list_all (λ x. not (is_last x)) (take k rest)) ≡ true
-    go true q = let none : rest ≡ [] = h.0 q in let short : length rest ≡ 0 = ap length none in absurd (omega arith)
-    go false q = no_end_front rest k (omega arith) h.1
+    go : (b : Bool) → is_last e ≡ b → HasNoEnd (take k rest) → (not b && list_all (λ x. not (is_last x)) (take k rest)) ≡ true
+    go true q more = let none : rest ≡ [] = h.0 q in let short : length rest ≡ 0 = ap length none in absurd (omega arith)
+    go false q more = more

@@ -200,7 +200,7 @@ module _ (p : PProgram) (numbers : Numbering) (bound : ℕ) where
         followed = follow_event m IsProper lawful k.bases (world_kept tasks ended) (λ t. slice_index steps t) e k.follows sound (both (ap not runs) h)
 
         same_tasks : (λ t. seat_of tasks' t) ≡ acted (numbered m) kept e
-        same_tasks = ap (λ (xs : Tasks) (t : ℕ). seat_of xs t) acts ∙
+        same_tasks = (λ i t. seat_of (acts i) t) ∙
             view_acted m e tasks (subst (λ (g : ℕ → Seat Task). happens m g e ≡ true) (λ i t. record { local = (kept t).local; standing = sym (stills t) i }) h)
 
         few : (b : Bool) (t : ℕ) → (if b then 0 else slice_index steps t) ≤ bound

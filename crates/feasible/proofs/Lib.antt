@@ -4,5 +4,5 @@ pub mod Recounting
 pub mod Judging
 pub mod Continuing
 pub mod Starting
-pub mod Showing
+pub mod Seeing
 pub mod Fronts

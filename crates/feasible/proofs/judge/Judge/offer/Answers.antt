@@ -3,7 +3,7 @@ use Rattle.task_machine.specs.Table.{Tasks}
 use Rattle.feasible.specs.Failing.{view_at}
 use Rattle.feasible.specs.Kept.{Kept}
 use Rattle.feasible.specs.Shown.{Shows}
-use Rattle.feasible.proofs.Showing.{shown_is}
+use Rattle.feasible.proofs.Seeing.{shown_is}
 use Rattle.feasible.proofs.judge.Judge.offer.Goals as goal
 
 pub returns-clause-view : goal.returns-clause-view
