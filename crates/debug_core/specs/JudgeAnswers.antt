@@ -76,8 +76,8 @@ pub record HasBadSequence (text lines : List ℕ) (error : SeqError) : Type 0 wh
 
 -- the bytes of both files were loaded
 pub record WereLoaded (told : Option (List ToldFile)) (file sequence text lines : List ℕ) : Type 0 where
-  pub program : WasLoaded told file judged_limit text
-  pub sequence : WasLoaded told sequence sequence_limit lines
+  pub file_loaded : WasLoaded told file judged_limit text
+  pub sequence_loaded : WasLoaded told sequence sequence_limit lines
 
 -- why the lines of a sequence were not judged, or the text of their verdict not written
 abbrev pub IsLinesCause : PProgram → Numbering → List ℕ → Option (List ℕ) → Option (List ℕ) → ℕ → ℕ → Failure → Type 0
