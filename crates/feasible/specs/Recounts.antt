@@ -1,5 +1,5 @@
 -- The counts after an event: those of the tasks that it changes begin anew.
-use Rattle.std.specs.Prelude.{◌≡◌, ℕ, Bool, List, length, slice_index, if◌then◌else◌}
+use Rattle.std.specs.Prelude.{◌≡◌, ℕ, Bool, List, length, slice_index, nat_lt, ◌&&◌, if◌then◌else◌}
 use Rattle.event_machine.specs.declared.Event.{Event}
 use Rattle.event_machine.specs.Worlds.{changes}
 use Rattle.syn_event.specs.Numbering.{Numbering, owner_of}
@@ -10,6 +10,10 @@ use Rattle.task_machine.specs.Table.{Tasks, seat_of}
 pub record BeginAnew (test : ℕ → Bool) (steps steps' : List ℕ) : Type 0 where
   pub each : (t : ℕ) → slice_index steps' t ≡ (if test t then 0 else slice_index steps t)
   pub size : length steps' ≡ length steps
+
+-- the tasks below n that pass the test
+abbrev pub below : (ℕ → Bool) → ℕ → ℕ → Bool
+below test n t = nat_lt t n && test t
 
 -- those of the tasks that the event changes
 abbrev pub AreRecounted : Numbering → Tasks → Event → List ℕ → List ℕ → Type 0

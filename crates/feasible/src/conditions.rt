@@ -5,7 +5,7 @@ ghost use Rattle.event_machine.specs.Offers as offers;
 ghost use Rattle.event_machine.specs.Worlds.{aborts};
 ghost use Rattle.task_machine.specs.Conditions.{failing_in, others_may_end};
 ghost use Rattle.task_machine.specs.Table.{seat_of, offer_in_seat};
-ghost use Rattle.feasible.specs.Failing.{why, first_of, act_fails, closed_fails, open_fails, main_fails, other_fails, view_at, asked};
+ghost use Rattle.feasible.specs.Failing.{why, first_of, act_fails, closed_fails, open_fails, main_fails, other_fails, view_at, act_asked, asked};
 
 use event_machine::{CallForm, Event, Standing};
 use syn_event::Numbers;
@@ -21,13 +21,9 @@ pub(crate) fn failing(seats: &[Seat], numbers: &Numbers, e: &Event) -> Option<Wh
     requires { length seats.now < 2 ^ 32 }
     ensures { result ≡ asked numbers.now seats.now e.now }
 {
-    match *e {
-        Event::R { c, e, i } => {
-            let owner = numbers.owner(e);
-            let caller = failing_act(seats, c, calls_member(seats, c, e, i));
-            let acceptor = failing_act(seats, owner, opens_member(seats, owner, e, i));
-            first_of(caller, acceptor)
-        }
+    let event = *e;
+    match event {
+        Event::R { c, e, i } => failing_start(seats, numbers.owner(e), c, e, i),
         Event::E { a } => failing_act(seats, a, finishes(seats, a)),
         Event::S { a } => failing_act(seats, a, has_else(seats, a)),
         Event::D { a, k } => failing_act(seats, a, has_delay(seats, a, k)),
@@ -83,6 +79,15 @@ fn failing_act(seats: &[Seat], t: u32, passes: bool) -> Option<Why>
             }
         }
     }
+}
+
+// Why the rendezvous of the caller with the owner of the entry can't start.
+fn failing_start(seats: &[Seat], owner: u32, c: u32, e: u32, i: i32) -> Option<Why>
+    ensures { result ≡ first_of (act_asked seats.now c (offers.calls_in offers.is_any_form e i)) (act_asked seats.now owner (offers.waits_with (offers.opens e i))) }
+{
+    let caller = failing_act(seats, c, calls_member(seats, c, e, i));
+    let acceptor = failing_act(seats, owner, opens_member(seats, owner, e, i));
+    first_of(caller, acceptor)
 }
 
 // The task is closed, and had not to be.
