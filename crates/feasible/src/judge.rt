@@ -89,6 +89,7 @@ impl<'p> Judge<'p> {
         ensures settled { is_feasible self.old.verdict ≡ true → IfOk result (λ v. is_infeasible v ≡ true → All (IsSettled self.new.tasks) (needed_of self.old.numbers e.now)) }
         ensures last { IfOk result (λ v. v ≡ self.new.verdict) }
         ensures taken { self.new.taken ≤ self.old.taken + 1 }
+        ensures grows { self.old.taken ≤ self.new.taken }
         ensures numbers { self.new.numbers ≡ self.old.numbers }
         ensures bound { self.new.bound ≡ self.old.bound }
         ensures stays { is_feasible self.old.verdict ≡ false → self.new ≡ self.old }
@@ -157,6 +158,7 @@ impl<'p> Judge<'p> {
         ensures taken { is_feasible self.old.verdict ≡ true → IfOk result (λ v. self.new.taken ≡ taken_with v self.old.taken) }
         ensures ended { is_feasible self.old.verdict ≡ true → IfOk result (λ v. self.new.ended ≡ ended_with v e.now self.old.ended) }
         ensures few { self.new.taken ≤ self.old.taken + 1 }
+        ensures grows { self.old.taken ≤ self.new.taken }
         ensures last { IfOk result (λ v. v ≡ self.new.verdict) }
         ensures numbers { self.new.numbers ≡ self.old.numbers }
         ensures bound { self.new.bound ≡ self.old.bound }
