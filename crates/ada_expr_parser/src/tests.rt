@@ -1,0 +1,215 @@
+//! Texts with their tree or their fault, by hand from the grammar.
+
+ghost use Rattle.std.specs.Prelude.{◌<◌, length};
+
+use crate::{ParseError, read_call, read_choice, read_drange, read_expr, read_items, read_target};
+use ada_lexer::tokens;
+use ada_tree::{Args, Drange, Expr, ExprKind, NameId, Names, Word};
+use std::alloc::Global;
+use std::test::Fail;
+
+/// Appends the text of a name.
+fn put_name(out: &mut String, names: &Names, name: NameId) -> Result<(), Fail> {
+    if let Some(text) = names.text(name) {
+        out.push_str(text)?;
+    }
+    Ok(())
+}
+
+/// Appends a tree: operators before their operands, and parentheses of the text as braces.
+fn put(alloc: Global, out: &mut String, names: &Names, expr: &Expr) -> Result<(), Fail> {
+    match &expr.kind {
+        ExprKind::Integer(value) => out.push_str(format!(in alloc; "{value}")?.as_str())?,
+        ExprKind::Name(name) => put_name(out, names, *name)?,
+        ExprKind::Index { name, arg } => {
+            put_name(out, names, name.name)?;
+            out.push_str("[")?;
+            put(alloc, out, names, arg)?;
+            out.push_str("]")?;
+        }
+        ExprKind::Attribute {
+            mark,
+            word,
+            arg: None,
+        } => {
+            put_name(out, names, mark.name)?;
+            out.push_str("'")?;
+            put_name(out, names, word.name)?;
+        }
+        ExprKind::Attribute {
+            mark,
+            word,
+            arg: Some(arg),
+        } => {
+            put_name(out, names, mark.name)?;
+            out.push_str("'")?;
+            put_name(out, names, word.name)?;
+            out.push_str("[")?;
+            put(alloc, out, names, arg)?;
+            out.push_str("]")?;
+        }
+        ExprKind::Paren(part) => {
+            out.push_str("{")?;
+            put(alloc, out, names, part)?;
+            out.push_str("}")?;
+        }
+        ExprKind::Unary { op, part } => {
+            out.push_str(format!(in alloc; "({op:?} ")?.as_str())?;
+            put(alloc, out, names, part)?;
+            out.push_str(")")?;
+        }
+        ExprKind::Binary { op, left, right } => {
+            out.push_str(format!(in alloc; "({op:?} ")?.as_str())?;
+            put(alloc, out, names, left)?;
+            out.push_str(" ")?;
+            put(alloc, out, names, right)?;
+            out.push_str(")")?;
+        }
+    }
+    Ok(())
+}
+
+/// The tree of the text with its place, its height and the place behind it, or the fault.
+fn told(alloc: Global, text: &[u8], depth: u32) -> Result<String, Fail>
+    requires { length text.now < 2000 }
+{
+    let found = tokens(alloc, text)?;
+    let items = read_items(alloc, text, found.as_slice())?;
+    let mut out = String::new(alloc);
+    match read_expr(alloc, depth, items.list.as_slice()) {
+        Ok((expr, height, rest)) => {
+            put(alloc, &mut out, &items.names, &expr)?;
+            let behind = match rest {
+                [next, ..] => next.span.start,
+                [] => 0,
+            };
+            let span = expr.span;
+            let (start, end) = (span.start, span.end);
+            out.push_str(format!(in alloc; " {start}-{end} {height} to {behind}")?.as_str())?;
+        }
+        Err(error) => out.push_str(format!(in alloc; "{error:?}")?.as_str())?,
+    }
+    Ok(out)
+}
+
+#[test]
+fn expressions(rt: HostRuntime) -> Result<(), Fail> {
+    let rows: [(&[u8], u32, &str); 46] = [
+        (b"a", 0, "A 0-1 0 to 1"),
+        (b"7", 0, "7 0-1 0 to 1"),
+        (b"a + b * c", 9, "(Plus A (Times B C)) 0-9 2 to 9"),
+        (b"a * b + c", 9, "(Plus (Times A B) C) 0-9 2 to 9"),
+        (b"a - b - c", 9, "(Minus (Minus A B) C) 0-9 2 to 9"),
+        (b"a - (b - c)", 9, "(Minus A {(Minus B C)}) 0-11 3 to 11"),
+        (b"- a * b", 9, "(Minus (Times A B)) 0-7 2 to 7"),
+        (b"- a + b", 9, "(Plus (Minus A) B) 0-7 2 to 7"),
+        (b"+ 1", 9, "(Plus 1) 0-3 1 to 3"),
+        (b"a + - b", 9, "Syntax { at: 4 }"),
+        (b"- - a", 9, "Syntax { at: 2 }"),
+        (
+            b"a / b mod c rem d",
+            9,
+            "(Rem (Mod (Divide A B) C) D) 0-17 3 to 17",
+        ),
+        (b"a = b", 9, "(Equal A B) 0-5 1 to 5"),
+        (
+            b"a + b /= c - d",
+            9,
+            "(NotEqual (Plus A B) (Minus C D)) 0-14 2 to 14",
+        ),
+        (b"a < b = c", 9, "(Less A B) 0-5 1 to 6"),
+        (
+            b"a <= b and c >= d",
+            9,
+            "(And (LessEqual A B) (GreaterEqual C D)) 0-17 2 to 17",
+        ),
+        (b"a and b and c", 9, "(And (And A B) C) 0-13 2 to 13"),
+        (b"a or b or c", 9, "(Or (Or A B) C) 0-11 2 to 11"),
+        (b"a xor b xor c", 9, "(Xor (Xor A B) C) 0-13 2 to 13"),
+        (
+            b"a and then b and then c",
+            9,
+            "(AndThen (AndThen A B) C) 0-23 2 to 23",
+        ),
+        (
+            b"a or else b or else c",
+            9,
+            "(OrElse (OrElse A B) C) 0-21 2 to 21",
+        ),
+        (b"a or b and c", 9, "(Or A B) 0-6 1 to 7"),
+        (b"a and b or c", 9, "(And A B) 0-7 1 to 8"),
+        (b"a xor b and c", 9, "(Xor A B) 0-7 1 to 8"),
+        (b"(a or b) and c", 9, "(And {(Or A B)} C) 0-14 3 to 14"),
+        (b"a and then b and c", 9, "Syntax { at: 17 }"),
+        (b"a and b and then c", 9, "Syntax { at: 12 }"),
+        (b"a or else b or c", 9, "Syntax { at: 15 }"),
+        (b"not a = b", 9, "(Equal (Not A) B) 0-9 2 to 9"),
+        (b"not a * b", 9, "(Times (Not A) B) 0-9 2 to 9"),
+        (b"not not a", 9, "Syntax { at: 4 }"),
+        (b"- abs a", 9, "(Minus (Abs A)) 0-7 2 to 7"),
+        (b"abs - a", 9, "Syntax { at: 4 }"),
+        (
+            b"t'pos(x) + t'first",
+            9,
+            "(Plus T'POS[X] T'FIRST) 0-18 2 to 18",
+        ),
+        (b"a(i + 1)(j)", 9, "A[(Plus I 1)] 0-8 2 to 8"),
+        (b"a(i", 9, "Syntax { at: 3 }"),
+        (b"", 9, "Syntax { at: 0 }"),
+        (b")", 0, "Syntax { at: 0 }"),
+        (b"a then", 9, "A 0-1 0 to 2"),
+        (b"((a))", 2, "{{A}} 0-5 2 to 5"),
+        (b"((a))", 1, "TooDeep { at: 1 }"),
+        (b"a + b + c", 1, "TooDeep { at: 6 }"),
+        (b"a + b * c", 1, "TooDeep { at: 6 }"),
+        (b"- a", 0, "TooDeep { at: 0 }"),
+        (b"a(b)", 0, "TooDeep { at: 1 }"),
+        (b"a and then b", 0, "TooDeep { at: 2 }"),
+    ];
+    for (text, depth, want) in rows {
+        assert!(rt; text.len() < 2000);
+        let found = told(rt.alloc(), text, depth)?;
+        assert_eq!(rt; found.as_str(), want, "{text:?} at {depth}");
+    }
+    Ok(())
+}
+
+/// `times` times a text.
+fn repeated(alloc: Global, text: &str, times: u32) -> Result<String, Fail> {
+    let mut out = String::new(alloc);
+    for _ in 0..times {
+        out.push_str(text)?;
+    }
+    Ok(out)
+}
+
+#[test]
+fn nesting(rt: HostRuntime) -> Result<(), Fail> {
+    let alloc = rt.alloc();
+    let mut deep = repeated(alloc, "(", 300)?;
+    deep.push_str("a")?;
+    deep.push_str(repeated(alloc, ")", 300)?.as_str())?;
+    assert!(rt; deep.as_str().len() < 2000);
+    assert!(rt;
+        told(alloc, deep.as_str().as_bytes(), 300)?
+            .as_str()
+            .ends_with("}} 0-601 300 to 601")
+    );
+    assert_eq!(rt;
+        told(alloc, deep.as_str().as_bytes(), 299)?.as_str(),
+        "TooDeep { at: 299 }"
+    );
+    let mut chain = String::from_str(alloc, "a")?;
+    chain.push_str(repeated(alloc, "+a", 300)?.as_str())?;
+    assert!(rt; chain.as_str().len() < 2000);
+    assert!(rt;
+        told(alloc, chain.as_str().as_bytes(), 300)?
+            .as_str()
+            .ends_with(" A) 0-601 300 to 601")
+    );
+    assert_eq!(rt;
+        told(alloc, chain.as_str().as_bytes(), 299)?.as_str(),
+        "TooDeep { at: 599 }"
+    );
+    Ok(())
+}
