@@ -294,7 +294,7 @@ fn attributed<'a>(
 /// What stands one level deeper.
 #[tactic(auto, using(crate::proofs::Steps::steps))]
 #[cycle(expr)]
-fn below<'a>(
+pub fn below<'a>(
     alloc: Global,
     level: Level,
     depth: u32,
