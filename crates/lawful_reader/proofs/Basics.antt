@@ -1,6 +1,6 @@
 -- What follows from an answer, and small facts on lists of tokens.
-use Rattle.std.proofs.Common.{◌≡◌, ℕ, Bool, true, false, ◌⊎◌, inl, inr, List, [], ◌∷◌, ◌++◌, refl, sym, ap, ◌∙◌, subst, true≢false, Option, Some, None}
-use Rattle.std.proofs.lemmas.List.{append_assoc, append_cancel_right, append-nil}
+use Rattle.std.proofs.Common.{◌≡◌, Bool, true, false, ◌⊎◌, inl, inr, ⊎_elim, List, [], ◌∷◌, ◌++◌, refl, sym, ap, ◌∙◌, subst, true≢false, Option, Some, None}
+use Rattle.std.proofs.lemmas.List.{append_assoc, append_cancel_right}
 use Rattle.lawful_reader.specs.Readers.{Answer, Found, Fault, Reader, go_on}
 
 abbrev IsFound : {K A : Type 0} → Answer K A → Type 0
@@ -79,3 +79,27 @@ not_behind f x rest e = not_empty f x [] (append_cancel_right [] (f ++ (x ∷ []
 pub tested : {B : Type 0} (m : Option B) → (m ≡ None) ⊎ ((b : B) × (m ≡ Some b))
 tested None = inl refl
 tested (Some b) = inr (b, refl)
+
+abbrev tail_of : {K : Type 0} → List K → List K
+tail_of [] = []
+tail_of (x ∷ list) = list
+
+abbrev head_or : {K : Type 0} → K → List K → K
+head_or x [] = x
+head_or x (y ∷ list) = y
+
+-- the last token and those before it
+pub same_last : {K : Type 0} (f g : List K) (x y : K) → f ++ (x ∷ []) ≡ g ++ (y ∷ []) → (f ≡ g) × (x ≡ y)
+same_last [] [] x y e = (refl, ap (head_or x) e)
+same_last [] (z ∷ g) x y e = absurd (not_empty g y [] (ap tail_of e))
+same_last (z ∷ f) [] x y e = absurd (not_empty f x [] (sym (ap tail_of e)))
+same_last (z ∷ f) (w ∷ g) x y e =
+    let (front, last) = same_last f g x y (ap tail_of e) in
+    (ap (λ h. h ∷ f) (ap (head_or z) e) ∙ ap (λ l. w ∷ l) front, last)
+
+pub last_split : {K : Type 0} (list : List K) → (list ≡ []) ⊎ ((front : List K) × (x : K) × (list ≡ front ++ (x ∷ [])))
+last_split [] = inl refl
+last_split (y ∷ list) = ⊎_elim
+    (λ none. inr ([], y, ap (λ l. y ∷ l) none))
+    (λ (front, x, is). inr (y ∷ front, x, ap (λ l. y ∷ l) is))
+    (last_split list)

@@ -1,11 +1,10 @@
 -- The laws of readers of tokens that open something deeper.
-use Rattle.std.proofs.Common.{◌≡◌, ℕ, zero, suc, ◌-◌, ◌≤◌, ◌<◌, Bool, true, false, ◌⊎◌, inl, inr, ⊎_elim, List, [], ◌∷◌, ◌++◌, refl, sym, ap, ◌∙◌, subst, Option, Some, None, arith}
+use Rattle.std.proofs.Common.{◌≡◌, ℕ, zero, suc, ◌-◌, ◌≤◌, Bool, true, false, ◌⊎◌, inl, inr, ⊎_elim, List, [], ◌∷◌, ◌++◌, refl, sym, ap, ◌∙◌, Option, Some, None, arith}
 use Rattle.std.specs.Prelude.{if◌then◌else◌, nat_eq}
-use Rattle.std.proofs.Math.Nat.{le_refl}
 use Rattle.std.proofs.lemmas.List.{append_cancel_right}
-use Rattle.lawful_reader.specs.Readers.{Answer, Found, Fault, Reader, on, on_token, below, below_token}
+use Rattle.lawful_reader.specs.Readers.{Found, Fault, Reader, on, on_token, below, below_token}
 use Rattle.lawful_reader.specs.Grammars.{Texts, One, Then, Or, Below, Begins, first_of, Starts}
-use Rattle.lawful_reader.specs.Lawful.{Careful, Lawful, IsToken, IsPassed}
+use Rattle.lawful_reader.specs.Lawful.{Careful, Lawful, IsPassed}
 use Rattle.lawful_reader.proofs.Basics.{not_both, fault_rest, fault_deep, not_deep, not_empty, tested}
 use Rattle.lawful_reader.proofs.Fitting.{careful_same}
 use Rattle.lawful_reader.proofs.Choosing.{careful_on}
@@ -22,19 +21,19 @@ module _ {K A : Type 0} {d : ℕ} {p p' : Reader K A} {D : Texts K A} {S : K →
 
   pub law_shifted : Lawful d p p' D S → Lawful (suc d) p p' (Below D) S
   law_shifted law = record {
-      careful = record {
-        sound = law.careful.sound;
-        complete = law.careful.complete;
-        viable = law.careful.viable;
-        only_deeper = λ e. let (f, is, e', deep, some) = law.careful.only_deeper e in (f, is, suc e', omega (arith, deep), some);
-        found_alike = law.careful.found_alike;
-        fault_alike = law.careful.fault_alike;
-        found_deeper = law.careful.found_deeper;
-        fault_deeper = law.careful.fault_deeper;
-        grows = grows_below law;
-      };
-      some_text = some_below law;
-    }
+    careful = record {
+      sound = law.careful.sound;
+      complete = law.careful.complete;
+      viable = law.careful.viable;
+      only_deeper = λ e. let (f, is, e', deep, some) = law.careful.only_deeper e in (f, is, suc e', omega (arith, deep), some);
+      found_alike = law.careful.found_alike;
+      fault_alike = law.careful.fault_alike;
+      found_deeper = law.careful.found_deeper;
+      fault_deeper = law.careful.fault_deeper;
+      grows = grows_below law;
+    };
+    some_text = some_below law;
+  }
 
 one_less : (d : ℕ) → suc d - 1 ≡ d
 one_less d = omega arith
@@ -54,8 +53,8 @@ below_on d test next other [] = refl
 below_on d test next other (k ∷ ts) = below_taken d (test k) next other k ts
 
 -- where no level is left: the token is too deep
-module _ {K A B : Type 0} (test : K → Option B) (spelled : B → K) (next next' : ℕ → B → Reader K A) (other other' : Reader K A) (E : B → Texts K A) (P : Texts K A) (S : K → Type 0)
-    (kind : IsToken test spelled) (deep_text : (b : B) → (e : ℕ) × (a : A) × (f : List K) × E b e a f)
+module _ {K A B : Type 0} (test : K → Option B) (next next' : ℕ → B → Reader K A) (other other' : Reader K A) (E : B → Texts K A) (P : Texts K A) (S : K → Type 0)
+    (deep_text : (b : B) → (e : ℕ) × (a : A) × (f : List K) × E b e a f)
     (rest_of : Careful zero other other' P S) (apart : Starts zero P S (IsPassed test)) where
   stops_at : {k : K} {b : B} {ts : List K} → test k ≡ Some b → below zero test next other (k ∷ ts) ≡ Fault true (k ∷ ts)
   stops_at {k} {b} {ts} e = ap (λ m. below_token zero m next other k ts) e
@@ -63,7 +62,7 @@ module _ {K A B : Type 0} (test : K → Option B) (spelled : B → K) (next next
   passes_by : {k : K} (ts : List K) → test k ≡ None → below zero test next other (k ∷ ts) ≡ other (k ∷ ts)
   passes_by {k} ts e = ap (λ m. below_token zero m next other k ts) e
 
-  zero_sound : (ts : List K) {a : A} {rest : List K} → below zero test next other ts ≡ Found a rest → (front : List K) × (ts ≡ front ++ rest) × Or (Then (One spelled) (λ b. Below (E b))) P zero a front
+  zero_sound : (ts : List K) {a : A} {rest : List K} → below zero test next other ts ≡ Found a rest → (front : List K) × (ts ≡ front ++ rest) × Or (Then (One test) (λ b. Below (E b))) P zero a front
   zero_sound [] e = absurd (not_both (sym e))
   zero_sound (k ∷ ts) e = ⊎_elim
       (λ none. let (f, is, text) = rest_of.sound (sym (passes_by ts none) ∙ e) in (f, is, inr text))
@@ -74,28 +73,28 @@ module _ {K A B : Type 0} (test : K → Option B) (spelled : B → K) (next next
   zero_other {a} [] x rest text stop = passes_by rest (apart.begins_with a [] x text stop) ∙ rest_of.complete x rest text stop
   zero_other {a} (y ∷ front) x rest text stop = passes_by (front ++ (x ∷ rest)) (apart.begins_with a (y ∷ front) x text stop) ∙ rest_of.complete x rest text stop
 
-  zero_complete : {a : A} {front : List K} (x : K) (rest : List K) → Or (Then (One spelled) (λ b. Below (E b))) P zero a front → S x → below zero test next other (front ++ (x ∷ rest)) ≡ Found a (x ∷ rest)
+  zero_complete : {a : A} {front : List K} (x : K) (rest : List K) → Or (Then (One test) (λ b. Below (E b))) P zero a front → S x → below zero test next other (front ++ (x ∷ rest)) ≡ Found a (x ∷ rest)
   zero_complete x rest (inl (b, one, back, is, one_is, text)) stop = absurd text
   zero_complete {a} {front} x rest (inr text) stop = zero_other front x rest text stop
 
   zero_viable : (ts : List K) {deep : Bool} {rest : List K} → below zero test next other ts ≡ Fault deep rest →
-      (front : List K) × (ts ≡ front ++ rest) × ((front ≡ []) ⊎ Begins (Or (Then (One spelled) (λ b. Below (E b))) P zero) front)
+      (front : List K) × (ts ≡ front ++ rest) × ((front ≡ []) ⊎ Begins (Or (Then (One test) (λ b. Below (E b))) P zero) front)
   zero_viable [] e = ([], fault_rest e, inl refl)
   zero_viable (k ∷ ts) e = ⊎_elim
       (λ none. let (f, is, some) = rest_of.viable (sym (passes_by ts none) ∙ e) in
-          (f, is, ⊎_elim inl (λ (a, more, text). inr (a, more, inr text)) some))
+      (f, is, ⊎_elim inl (λ (a, more, text). inr (a, more, inr text)) some))
       (λ (b, some). ([], fault_rest (sym (stops_at some) ∙ e), inl refl))
       (tested (test k))
 
   zero_only_deeper : (ts : List K) {x : K} {rest : List K} → below zero test next other ts ≡ Fault true (x ∷ rest) →
-      (front : List K) × (ts ≡ front ++ (x ∷ rest)) × (e : ℕ) × (zero ≤ e) × Begins (Or (Then (One spelled) (λ b. Below (E b))) P e) (front ++ (x ∷ []))
+      (front : List K) × (ts ≡ front ++ (x ∷ rest)) × (e : ℕ) × (zero ≤ e) × Begins (Or (Then (One test) (λ b. Below (E b))) P e) (front ++ (x ∷ []))
   zero_only_deeper [] e = absurd (not_deep e)
   zero_only_deeper (k ∷ ts) {x} {rest} e = ⊎_elim
       (λ none. let (f, is, e', deep, (a, more, text)) = rest_of.only_deeper (sym (passes_by ts none) ∙ e) in (f, is, e', deep, (a, more, inr text)))
       (λ (b, some).
-          let is : k ∷ ts ≡ x ∷ rest = fault_rest (sym (stops_at some) ∙ e) in
-          let (e', a, f, text) = deep_text b in
-          ([], is, suc e', omega arith, (a, f, inl (b, spelled b ∷ [], f, ap (λ t. t ∷ f) (sym (ap (first_of k) is) ∙ kind.only k b some), refl, text))))
+      let is : k ∷ ts ≡ x ∷ rest = fault_rest (sym (stops_at some) ∙ e) in
+      let (e', a, f, text) = deep_text b in
+      ([], is, suc e', omega arith, (a, f, inl (b, x ∷ [], f, refl, (x, refl, ap test (sym (ap (first_of k) is)) ∙ some), text))))
       (tested (test k))
 
   zero_found_alike : (front : List K) {a : A} {x : K} {rest : List K} (more : List K) → below zero test next other (front ++ (x ∷ rest)) ≡ Found a (x ∷ rest) → below zero test next other (front ++ (x ∷ more)) ≡ Found a (x ∷ more)
@@ -132,34 +131,34 @@ module _ {K A B : Type 0} (test : K → Option B) (spelled : B → K) (next next
       (λ (b, some). absurd (not_deep (sym e ∙ stops_at some)))
       (tested (test k))
 
-  zero_grows : {a : A} {front : List K} (e : ℕ) → zero ≤ e → Or (Then (One spelled) (λ b. Below (E b))) P zero a front → Or (Then (One spelled) (λ b. Below (E b))) P e a front
+  zero_grows : {a : A} {front : List K} (e : ℕ) → zero ≤ e → Or (Then (One test) (λ b. Below (E b))) P zero a front → Or (Then (One test) (λ b. Below (E b))) P e a front
   zero_grows e deep (inl (b, one, back, is, one_is, text)) = absurd text
   zero_grows e deep (inr text) = inr (rest_of.grows e deep text)
 
-  careful_zero : Careful zero (below zero test next other) (below (suc zero) test next' other') (Or (Then (One spelled) (λ b. Below (E b))) P) S
+  careful_zero : Careful zero (below zero test next other) (below (suc zero) test next' other') (Or (Then (One test) (λ b. Below (E b))) P) S
   careful_zero = record {
-      sound = λ {ts} e. zero_sound ts e;
-      complete = zero_complete;
-      viable = λ {ts} e. zero_viable ts e;
-      only_deeper = λ {ts} e. zero_only_deeper ts e;
-      found_alike = zero_found_alike;
-      fault_alike = zero_fault_alike;
-      found_deeper = λ {ts} e. zero_found_deeper ts e;
-      fault_deeper = λ {ts} e. zero_fault_deeper ts e;
-      grows = zero_grows;
-    }
+    sound = λ {ts} e. zero_sound ts e;
+    complete = zero_complete;
+    viable = λ {ts} e. zero_viable ts e;
+    only_deeper = λ {ts} e. zero_only_deeper ts e;
+    found_alike = zero_found_alike;
+    fault_alike = zero_fault_alike;
+    found_deeper = λ {ts} e. zero_found_deeper ts e;
+    fault_deeper = λ {ts} e. zero_fault_deeper ts e;
+    grows = zero_grows;
+  }
 
-module _ {K A B : Type 0} {test : K → Option B} {spelled : B → K} {other other' : Reader K A} {E : B → Texts K A} {P : Texts K A} {S : K → Type 0}
-    (next next' : ℕ → B → Reader K A) (kind : IsToken test spelled) (deep_text : (b : B) → (e : ℕ) × (a : A) × (f : List K) × E b e a f) where
+module _ {K A B : Type 0} {test : K → Option B} {other other' : Reader K A} {E : B → Texts K A} {P : Texts K A} {S : K → Type 0}
+    (next next' : ℕ → B → Reader K A) (deep_text : (b : B) → (e : ℕ) × (a : A) × (f : List K) × E b e a f) where
   pub careful_below : (d : ℕ) → ((e : ℕ) → d ≡ suc e → (b : B) → Lawful e (next e b) (next' (suc e) b) (E b) S) → Careful d other other' P S → Starts d P S (IsPassed test) →
-      Careful d (below d test next other) (below (suc d) test next' other') (Or (Then (One spelled) (λ b. Below (E b))) P) S
-  careful_below zero inner rest_of apart = careful_zero test spelled next next' other other' E P S kind deep_text rest_of apart
+      Careful d (below d test next other) (below (suc d) test next' other') (Or (Then (One test) (λ b. Below (E b))) P) S
+  careful_below zero inner rest_of apart = careful_zero test next next' other other' E P S deep_text rest_of apart
   careful_below (suc d) inner rest_of apart = careful_same (below_on d test next other) (below_on (suc d) test next' other')
-      (careful_on kind (λ b. law_shifted (inner d refl b)) rest_of apart)
+      (careful_on (λ b. law_shifted (inner d refl b)) rest_of apart)
 
   pub law_below : (d : ℕ) → ((e : ℕ) → d ≡ suc e → (b : B) → Lawful e (next e b) (next' (suc e) b) (E b) S) → Lawful d other other' P S → Starts d P S (IsPassed test) →
-      Lawful d (below d test next other) (below (suc d) test next' other') (Or (Then (One spelled) (λ b. Below (E b))) P) S
+      Lawful d (below d test next other) (below (suc d) test next' other') (Or (Then (One test) (λ b. Below (E b))) P) S
   law_below d inner rest_of apart = record {
-      careful = careful_below d inner rest_of.careful apart;
-      some_text = λ e deep. let (a, f, text) = rest_of.some_text e deep in (a, f, inr text);
-    }
+    careful = careful_below d inner rest_of.careful apart;
+    some_text = λ e deep. let (a, f, text) = rest_of.some_text e deep in (a, f, inr text);
+  }

@@ -5,3 +5,8 @@ pub mod Binding
 pub mod Choosing
 pub mod Fitting
 pub mod Deepening
+pub mod Looking
+pub mod Chaining
+pub mod Listing
+pub mod Turning
+pub mod Exactly

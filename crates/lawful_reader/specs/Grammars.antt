@@ -1,6 +1,5 @@
 -- Grammars: which texts spell a tree with at most so many levels below it. Nothing here reads (this project's rule).
-use Rattle.std.specs.Prelude.{◌≡◌, ℕ, zero, suc, ◌⊎◌, List, [], ◌∷◌, ◌++◌}
-use Rattle.lawful_reader.specs.Readers.{Operators}
+use Rattle.std.specs.Prelude.{◌≡◌, ℕ, zero, suc, ◌≤◌, Bool, true, ◌⊎◌, List, [], ◌∷◌, ◌++◌, Option, Some}
 
 -- by the number of levels that may open below it: the tree and its text
 abbrev pub Texts : Type 0 → Type 0 → Type 1
@@ -14,9 +13,9 @@ Never d a text = ⊥
 abbrev pub Is : {K A : Type 0} → A → Texts K A
 Is a d tree text = (tree ≡ a) × (text ≡ [])
 
--- the one token with this content
-abbrev pub One : {K B : Type 0} → (B → K) → Texts K B
-One spelled d b text = text ≡ spelled b ∷ []
+-- one token that passes the test, with its content
+abbrev pub One : {K B : Type 0} → (K → Option B) → Texts K B
+One {K} test d b text = (k : K) × (text ≡ k ∷ []) × (test k ≡ Some b)
 
 -- a text of the one and then of the other, which may speak of the first tree
 abbrev pub Then : {K A B : Type 0} → Texts K A → (A → Texts K B) → Texts K B
@@ -43,25 +42,28 @@ abbrev pub Some_of : {K A : Type 0} → Texts K A → Texts K (List A)
 Some_of Item d [] text = ⊥
 Some_of {K} Item d (a ∷ more) text = Many Item d (a ∷ more) text
 
--- A longer chain: a chain one level deeper, an operator that may stand behind it, and an operand one level deeper.
-pub record Joined {K A O : Type 0} (ops : Operators K A O) (Operator : A → O → List K → Type 0) (Shorter : A → List K → Type 0) (Operand : A → List K → Type 0) (a : A) (text : List K) : Type 0 where
+-- the texts of trees up to a height
+abbrev pub Up_to : {K A : Type 0} → (A → ℕ) → (A → List K → Type 0) → Texts K A
+Up_to height G d a text = G a text × (height a ≤ d)
+
+-- A longer chain: a chain, an operator that may stand behind it, and an operand.
+pub record Joined {K A O : Type 0} (join : A → O → A → A) (Operator : A → O → List K → Type 0) (Shorter Operand : A → List K → Type 0) (a : A) (text : List K) : Type 0 where
   pub left : A
   pub o : O
   pub right : A
-  pub tree : a ≡ ops.join left o right
   pub front : List K
   pub sign : List K
   pub back : List K
+  pub tree_is : a ≡ join left o right
   pub text_is : text ≡ front ++ (sign ++ back)
   pub left_is : Shorter left front
   pub sign_is : Operator left o sign
   pub right_is : Operand right back
 
--- operands with operators between them, nested to the left
-abbrev pub Chain : {K A O : Type 0} → Operators K A O → (A → O → List K → Type 0) → Texts K A → Texts K A → Texts K A
-Chain ops Operator First Operand zero a text = First zero a text
-Chain ops Operator First Operand (suc d) a text =
-    First (suc d) a text ⊎ Joined ops Operator (Chain ops Operator First Operand d) (Operand d) a text
+-- The texts of G are the chains: operands with operators between them, nested to the left.
+pub record AreChains {K A O : Type 0} (join : A → O → A → A) (Operator : A → O → List K → Type 0) (First Operand G : A → List K → Type 0) : Type 0 where
+  pub opens : (a : A) (text : List K) → G a text → First a text ⊎ Joined join Operator G Operand a text
+  pub closes : (a : A) (text : List K) → First a text ⊎ Joined join Operator G Operand a text → G a text
 
 -- some text begins so
 abbrev pub Begins : {K A : Type 0} → (A → List K → Type 0) → List K → Type 0
@@ -75,3 +77,7 @@ first_of x (y ∷ list) = y
 -- At this depth each text of the grammar begins with a token of Firsts, and so does what follows its empty text: a token of Stops.
 pub record Starts {K A : Type 0} (d : ℕ) (D : Texts K A) (Stops Firsts : K → Type 0) : Type 0 where
   pub begins_with : (a : A) (text : List K) (x : K) → D d a text → Stops x → Firsts (first_of x text)
+
+-- At this depth each text of the grammar has a first token, and it passes the test.
+pub record Opens {K A : Type 0} (d : ℕ) (D : Texts K A) (test : K → Bool) : Type 0 where
+  pub opens_with : (a : A) (text : List K) → D d a text → (k : K) × (more : List K) × (text ≡ k ∷ more) × (test k ≡ true)

@@ -1,7 +1,7 @@
 -- The laws that join a reader to its grammar (this project's rule).
-use Rattle.std.specs.Prelude.{◌≡◌, ℕ, ◌≤◌, Bool, true, false, ◌⊎◌, List, [], ◌∷◌, ◌++◌, Option, Some, None}
-use Rattle.lawful_reader.specs.Readers.{Reader, Found, Fault}
-use Rattle.lawful_reader.specs.Grammars.{Texts, Begins}
+use Rattle.std.specs.Prelude.{◌≡◌, ℕ, suc, max, ◌<◌, ◌≤◌, Bool, true, false, ◌⊎◌, List, [], ◌∷◌, ◌++◌, length, Option, None}
+use Rattle.lawful_reader.specs.Readers.{Reader, Found, Fault, Operators}
+use Rattle.lawful_reader.specs.Grammars.{Texts, Begins, first_of}
 
 -- The reader p of depth d, with deeper as the same reader of one level more, before a token of Stops. Other branches of an alternative need no more than this.
 pub record Careful {K A : Type 0} (d : ℕ) (p deeper : Reader K A) (D : Texts K A) (Stops : K → Type 0) : Type 0 where
@@ -28,15 +28,38 @@ pub record Lawful {K A : Type 0} (d : ℕ) (p deeper : Reader K A) (D : Texts K 
   pub careful : Careful d p deeper D Stops
   pub some_text : (e : ℕ) → d ≤ e → (a : A) × (front : List K) × D e a front
 
--- The test takes exactly the tokens of one kind, with their content.
-pub record IsToken {K B : Type 0} (test : K → Option B) (spelled : B → K) : Type 0 where
-  pub takes : (b : B) → test (spelled b) ≡ Some b
-  pub only : (k : K) (b : B) → test k ≡ Some b → k ≡ spelled b
-
--- It passes none of these.
+-- The test passes none of these.
 abbrev pub IsPassed : {K B : Type 0} → (K → Option B) → K → Type 0
 IsPassed test k = test k ≡ None
+
+-- What it finds takes at least one token.
+abbrev pub Shortens : {K A : Type 0} → Reader K A → Type 0
+Shortens {K} {A} p = (ts : List K) (a : A) (rest : List K) → p ts ≡ Found a rest → length rest < length ts
+
+-- Tests of tokens as sets of tokens.
+abbrev pub IsYes : {K : Type 0} → (K → Bool) → K → Type 0
+IsYes test k = test k ≡ true
+
+abbrev pub IsNo : {K : Type 0} → (K → Bool) → K → Type 0
+IsNo test k = test k ≡ false
 
 -- each token
 abbrev pub Anything : {K : Type 0} → K → Type 0
 Anything k = Unit {0}
+
+-- What a chain asks of its operators: their texts, and the texts of operands. Before a token of Signs an operator's text ends, before one of Operands an operand, before one of Stops the chain.
+pub record LawfulOperators {K A O : Type 0} (ops : Operators K A O) (Operator : A → O → List K → Type 0) (Operand : A → List K → Type 0) (Signs Operands Stops : K → Type 0) : Type 0 where
+  -- a tree stands above its operands
+  pub joined : (left : A) (o : O) (right : A) → ops.height (ops.join left o right) ≡ suc (max (ops.height left) (ops.height right))
+  -- the operator behind a tree is read, at whatever depth
+  pub reads : (d : ℕ) (left : A) → Careful d (ops.operator left) (ops.operator left) (λ e. Operator left) Signs
+  -- it begins with the tokens that go on
+  pub begins_so : (left : A) (o : O) (text : List K) (x : K) → Operator left o text → ops.goes_on left (first_of x text) ≡ true
+  pub some_operator : (left : A) (k : K) → ops.goes_on left k ≡ true → (o : O) × (more : List K) × Operator left o (k ∷ more)
+  -- some operand is a leaf
+  pub some_operand : (right : A) × (text : List K) × Operand right text × (ops.height right ≡ 0)
+  -- what stops what
+  pub before_operand : (right : A) (text : List K) (x : K) → Operand right text → Operands x → Signs (first_of x text)
+  pub before_operator : (left : A) (k : K) → ops.goes_on left k ≡ true → Operands k
+  pub at_end : (x : K) → Stops x → Operands x
+  pub ends : (left : A) (x : K) → Stops x → ops.goes_on left x ≡ false

@@ -1,5 +1,5 @@
 -- Readers of a list of tokens, and the words that they are put together with (this project's rule). The depth of a reader is how many levels may still open below what it reads.
-use Rattle.std.specs.Prelude.{ℕ, ◌-◌, zero, suc, Bool, true, false, if◌then◌else◌, nat_le, nat_eq, List, [], ◌∷◌, length, Option, Some, None}
+use Rattle.std.specs.Prelude.{ℕ, ◌-◌, zero, suc, Bool, true, false, if◌then◌else◌, nat_le, nat_eq, List, [], ◌∷◌, ◌++◌, length, Option, Some, None}
 
 -- What a reader answers: the tree with the tokens behind it, or the rest that begins with the token which decides, and whether it is only too deep.
 pub data Answer (K A : Type 0) : Type 0 where
@@ -56,16 +56,28 @@ left_at ends a (k ∷ ts) = if ends k then Found a (k ∷ ts) else Fault false (
 abbrev pub up_to : {K A : Type 0} → (K → Bool) → Reader K A → Reader K A
 up_to ends p = bind p (left_at ends)
 
+-- what is too deep, whatever it is
+abbrev pub too_deep : {K A : Type 0} → Reader K A
+too_deep ts = Fault true ts
+
+-- by the next token, which is left: p where it passes the test, and else other
+abbrev pub look : {K A : Type 0} → (K → Bool) → Reader K A → Reader K A → Reader K A
+look test p other [] = Fault false []
+look test p other (k ∷ ts) = if test k then p (k ∷ ts) else other (k ∷ ts)
+
 -- items, as long as the next token begins one; turns is no less than their number
 abbrev pub items_in : {K A : Type 0} → ℕ → (K → Bool) → Reader K A → Reader K (List A)
-items_in turns begins item [] = Fault false []
-items_in zero begins item (k ∷ ts) = if begins k then Fault false (k ∷ ts) else Found [] (k ∷ ts)
-items_in (suc turns) begins item (k ∷ ts) =
-    if begins k then bind item (λ a. bind (items_in turns begins item) (λ more. pure (a ∷ more))) (k ∷ ts) else Found [] (k ∷ ts)
+items_in zero begins item = look begins refuse (pure [])
+items_in (suc turns) begins item = look begins (bind item (λ a. bind (items_in turns begins item) (λ more. pure (a ∷ more)))) (pure [])
 
 -- zero or more items, as long as the next token begins one
 abbrev pub items : {K A : Type 0} → (K → Bool) → Reader K A → Reader K (List A)
 items begins item ts = items_in (length ts) begins item ts
+
+-- the items read so far, before those of an answer
+abbrev pub fronted : {K A : Type 0} → List A → Answer K (List A) → Answer K (List A)
+fronted done (Found more rest) = Found (done ++ more) rest
+fronted done (Fault deep rest) = Fault deep rest
 
 -- one or more
 abbrev pub some_items : {K A : Type 0} → (K → Bool) → Reader K A → Reader K (List A)
@@ -80,15 +92,17 @@ pub record Operators (K A O : Type 0) : Type 0 where
 
 -- The chain goes on behind the tree on its left: an operator whose operands would stand too deep is refused itself.
 abbrev pub chain_in : {K A O : Type 0} → Operators K A O → ℕ → Reader K A → ℕ → A → Reader K A
-chain_in ops d operand turns left [] = Fault false []
-chain_in ops d operand zero left (k ∷ ts) = if ops.goes_on left k then Fault true (k ∷ ts) else Found left (k ∷ ts)
-chain_in ops d operand (suc turns) left (k ∷ ts) =
-    if ops.goes_on left k
-    then (if nat_le d (ops.height left)
-          then Fault true (k ∷ ts)
-          else bind (ops.operator left) (λ o. bind operand (λ right. chain_in ops d operand turns (ops.join left o right))) (k ∷ ts))
-    else Found left (k ∷ ts)
+chain_in ops d operand zero left = look (ops.goes_on left) too_deep (pure left)
+chain_in ops d operand (suc turns) left =
+    look (ops.goes_on left)
+    (if nat_le d (ops.height left) then too_deep
+    else bind (ops.operator left) (λ o. bind operand (λ right. chain_in ops d operand turns (ops.join left o right))))
+    (pure left)
+
+-- with as many turns as there are levels, which is enough
+abbrev pub chain_more : {K A O : Type 0} → Operators K A O → ℕ → Reader K A → A → Reader K A
+chain_more ops d operand left = chain_in ops d operand d left
 
 -- a first operand, and then operators with operands one level deeper, nested to the left
 abbrev pub chain : {K A O : Type 0} → Operators K A O → ℕ → Reader K A → Reader K A → Reader K A
-chain ops d first operand = bind first (chain_in ops d operand d)
+chain ops d first operand = bind first (chain_more ops d operand)
