@@ -1,4 +1,5 @@
 pub mod Chains
+pub mod Lists
 pub mod NameBytes
 pub mod Naming
 pub mod Places

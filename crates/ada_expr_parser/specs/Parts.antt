@@ -1,6 +1,6 @@
 -- How what is built of expressions is read: ranges, variables and components, entry calls and choices.
-use Rattle.std.specs.Prelude.{ℕ, ◌+◌, nat_le, Bool, Option, Some, None, List, [], ◌∷◌, ◌++◌, is_some, if◌then◌else◌}
-use Rattle.lawful_reader.specs.Readers.{Answer, Found, Fault, Reader, pure, refuse, bind, on, token, below, items, chain_in}
+use Rattle.std.specs.Prelude.{ℕ, ◌+◌, nat_le, Bool, Option, Some, None, List, [], ◌∷◌, is_some, if◌then◌else◌}
+use Rattle.lawful_reader.specs.Readers.{Reader, pure, refuse, bind, on, token, below, items, chain_in}
 use Rattle.ada_tree.specs.declared.naming.Span.{Span}
 use Rattle.ada_tree.specs.declared.naming.Word.{Word}
 use Rattle.ada_tree.specs.PlainExpr.{PExpr, EName, PBounds, PSubind, PDrange, RGiven, RMarked}
@@ -72,11 +72,6 @@ next_expr d = bind (token (symbol key.Comma)) (λ comma. inner d Logical)
 
 abbrev pub more_exprs : ℕ → Reader Item (List PExpr)
 more_exprs d = items is_comma (next_expr d)
-
--- a list, behind these
-abbrev pub with_front : List PExpr → Answer Item (List PExpr) → Answer Item (List PExpr)
-with_front front (Found more rest) = Found (front ++ more) rest
-with_front front (Fault deep rest) = Fault deep rest
 
 -- expressions with commas between, one level deeper
 abbrev pub exprs : ℕ → Reader Item (List PExpr)

@@ -42,6 +42,11 @@ operators level = record {
   operator = λ left. on (λ x. operator_in level (last_operator left) x.kind) (operator_rest (last_operator left)) refuse;
 }
 
+-- behind the first word of an operator: its rest, an operand, and the chain goes on
+abbrev pub behind_operator : Level → ℕ → Reader Item PExpr → ℕ → PExpr → Option BinaryOp → BinaryOp → Reader Item PExpr
+behind_operator level d operand turns left last op =
+    bind (operator_rest last op) (λ o. bind operand (λ right. chain_in (operators level) d operand turns (joined left o right)))
+
 -- what reads one level deeper, by the level of the grammar
 abbrev pub Inner : Type 0
 Inner = Level → Reader Item PExpr

@@ -2,6 +2,7 @@
 //! levels may stand below the statement or the range that it reads, and gives the tree and what stands behind it.
 
 ghost use Rattle.std.specs.Prelude.{◌≡◌, ◌<◌, ◌≤◌, [], ◌∷◌, ◌++◌, nat_le, IfOk, IfErr, OnOk, map, length, option_map};
+ghost use Rattle.lawful_reader.specs.Readers.{fronted};
 ghost use Rattle.ada_tree.specs.PlainExpr.{plain_expr, plain_bounds, plain_subind, plain_drange};
 ghost use Rattle.ada_tree.specs.PlainStmt.{plain_target, plain_callee, plain_args, plain_call, plain_choice};
 ghost use Rattle.ada_expr_parser.specs.Trees.{levels};
@@ -235,11 +236,11 @@ fn more_exprs<'a>(
     items: &'a [Item],
 ) -> Result<&'a [Item], ParseError>
     requires { 0 < depth }
-    ensures tree { Gives (λ x. map plain_expr list.new.items) (λ x. x.now) result (parts.with_front (map plain_expr list.old.items) (parts.more_exprs depth items.now)) }
+    ensures tree { Gives (λ x. map plain_expr list.new.items) (λ x. x.now) result (fronted (map plain_expr list.old.items) (parts.more_exprs depth items.now)) }
     ensures shorter { IfOk result (λ x. length x.now ≤ length items.now) }
 {
     let mut rest = items;
-    loop {
+    'commas: loop {
         let [next, ..] = rest else {
             return Err(ParseError::Syntax { at: 0 });
         };

@@ -15,10 +15,10 @@ use crate::levels::Level;
 use crate::nodes::{attribute, attribute_of, in_parens, indexed, joined, with_prefix};
 use crate::signs::{
     expect, expect_word, factor_operator, last_operator, operator_in, operator_rest, sign,
-    symbol_in, tighter,
+    symbol_in,
 };
 use crate::symbols::Symbol;
-use ada_tree::{Expr, ExprKind, Word};
+use ada_tree::{BinaryOp, Expr, ExprKind, Word};
 use std::alloc::Global;
 
 /// Relations, nested to the left, all joined by one logical operator or short-circuit form.
@@ -347,8 +347,55 @@ pub fn more<'a>(
             at: next.span.start,
         });
     }
-    let (op, rest) = operator_rest(last, op, rest)?;
-    let (right, other, rest) = below(alloc, tighter(level), depth, rest)?;
+    further(alloc, level, depth, left, height, last, op, rest)
+}
+
+/// The rest of an operator that begins so, its operand, and what of the chain follows them.
+#[tactic(auto, using(crate::proofs::Steps::steps))]
+#[cycle(expr)]
+fn further<'a>(
+    alloc: Global,
+    level: Level,
+    depth: u32,
+    left: Expr,
+    height: u32,
+    last: Option<BinaryOp>,
+    op: BinaryOp,
+    items: &'a [Item],
+) -> Result<(Expr, u32, &'a [Item]), ParseError>
+    requires height { height ≡ levels (plain_expr left) }
+    requires within { height < depth }
+    ensures tree { (turns : ℕ) → depth ≤ turns + (height + 1) → Gives (λ x. plain_expr x.0) (λ x. x.2.now) result (reading.behind_operator level depth (reading.inner depth (tests.tighter level)) turns (plain_expr left) last op items.now) }
+    ensures height { IfOk result (λ x. x.1 ≡ levels (plain_expr x.0)) }
+    ensures within { IfOk result (λ x. x.1 ≤ depth) }
+    ensures shorter { IfOk result (λ x. length x.2.now < length items.now) }
+{
+    let (op, rest) = operator_rest(last, op, items)?;
+    let (right, other, rest) = operand(alloc, level, depth, rest)?;
     let node = joined(alloc, left, op, right)?;
     more(alloc, level, depth, node, height.max(other) + 1, rest)
+}
+
+/// The operand behind an operator of a level, one level deeper.
+#[tactic(auto, using(crate::proofs::Steps::steps))]
+#[cycle(expr)]
+fn operand<'a>(
+    alloc: Global,
+    level: Level,
+    depth: u32,
+    items: &'a [Item],
+) -> Result<(Expr, u32, &'a [Item]), ParseError>
+    requires { 0 < depth }
+    ensures tree { Gives (λ x. plain_expr x.0) (λ x. x.2.now) result (reading.inner depth (tests.tighter level) items.now) }
+    ensures height { IfOk result (λ x. x.1 ≡ levels (plain_expr x.0)) }
+    ensures within { IfOk result (λ x. x.1 + 1 ≤ depth) }
+    ensures shorter { IfOk result (λ x. length x.2.now < length items.now) }
+{
+    match level {
+        Level::Logical => below(alloc, Level::Relation, depth, items),
+        Level::Relation => below(alloc, Level::Simple, depth, items),
+        Level::Simple => below(alloc, Level::Term, depth, items),
+        Level::Term => below(alloc, Level::Factor, depth, items),
+        Level::Factor | Level::Primary => below(alloc, Level::Primary, depth, items),
+    }
 }

@@ -291,16 +291,3 @@ pub fn last_operator(expr: &Expr) -> Option<BinaryOp>
         _ => None,
     }
 }
-
-/// The level of the operands behind the operators of a level.
-pub fn tighter(level: Level) -> Level
-    ensures { result ≡ tests.tighter level }
-{
-    match level {
-        Level::Logical => Level::Relation,
-        Level::Relation => Level::Simple,
-        Level::Simple => Level::Term,
-        Level::Term => Level::Factor,
-        Level::Factor | Level::Primary => Level::Primary,
-    }
-}

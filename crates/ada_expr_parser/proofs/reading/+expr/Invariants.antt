@@ -37,3 +37,9 @@ decreases-below l = 16 * length l.items.now + 10
 
 abbrev pub decreases-more : goal.decreases-more
 decreases-more l = 16 * length l.items.now + 1
+
+abbrev pub decreases-further : goal.decreases-further
+decreases-further l = 16 * length l.items.now + 12
+
+abbrev pub decreases-operand : goal.decreases-operand
+decreases-operand l = 16 * length l.items.now + 11
