@@ -2,9 +2,9 @@
 
 ghost use Rattle.std.specs.Prelude.{◌<◌, length};
 
-use crate::{ParseError, read_call, read_choice, read_drange, read_expr, read_items, read_target};
+use crate::{Item, read_call, read_choice, read_drange, read_expr, read_items, read_target};
 use ada_lexer::tokens;
-use ada_tree::{Args, Drange, Expr, ExprKind, NameId, Names, Word};
+use ada_tree::{Bounds, Call, Drange, Expr, ExprKind, NameId, Names, Word};
 use std::alloc::Global;
 use std::test::Fail;
 
@@ -174,6 +174,154 @@ fn expressions(rt: HostRuntime) -> Result<(), Fail> {
     Ok(())
 }
 
+/// What is read of a text besides expressions.
+#[derive(Clone, Copy, Debug, Drop)]
+enum Wanted {
+    Range,
+    Target,
+    Call,
+    Choice,
+}
+
+fn put_bounds(alloc: Global, out: &mut String, names: &Names, bounds: &Bounds) -> Result<(), Fail> {
+    put(alloc, out, names, &bounds.first)?;
+    out.push_str(" .. ")?;
+    put(alloc, out, names, &bounds.last)
+}
+
+fn put_range(alloc: Global, out: &mut String, names: &Names, range: &Drange) -> Result<(), Fail> {
+    match range {
+        Drange::Given(bounds) => put_bounds(alloc, out, names, bounds),
+        Drange::Marked(mark) => {
+            put_name(out, names, mark.mark.name)?;
+            if let Some(bounds) = &mark.bounds {
+                out.push_str(" range ")?;
+                put_bounds(alloc, out, names, bounds)?;
+            }
+            Ok(())
+        }
+    }
+}
+
+fn put_index(
+    alloc: Global,
+    out: &mut String,
+    names: &Names,
+    name: Word,
+    index: &Option<Expr>,
+) -> Result<(), Fail> {
+    put_name(out, names, name.name)?;
+    if let Some(index) = index {
+        out.push_str("[")?;
+        put(alloc, out, names, index)?;
+        out.push_str("]")?;
+    }
+    Ok(())
+}
+
+fn put_list(alloc: Global, out: &mut String, names: &Names, list: &[Expr]) -> Result<(), Fail> {
+    out.push_str("[")?;
+    for expr in list {
+        put(alloc, out, names, expr)?;
+        out.push_str(";")?;
+    }
+    out.push_str("]")?;
+    Ok(())
+}
+
+fn put_call(alloc: Global, out: &mut String, names: &Names, call: &Call) -> Result<(), Fail> {
+    put_index(alloc, out, names, call.task.name, &call.task.index)?;
+    out.push_str(".")?;
+    put_name(out, names, call.entry.name)?;
+    if let Some(args) = &call.args {
+        put_list(alloc, out, names, args.first.as_slice())?;
+        if let Some(second) = &args.second {
+            put_list(alloc, out, names, second.as_slice())?;
+        }
+    }
+    Ok(())
+}
+
+/// What the items give, or the fault.
+fn put_part(
+    alloc: Global,
+    out: &mut String,
+    names: &Names,
+    wanted: Wanted,
+    depth: u32,
+    items: &[Item],
+) -> Result<(), Fail> {
+    let fault = match wanted {
+        Wanted::Range => match read_drange(alloc, depth, items) {
+            Ok((range, _)) => return put_range(alloc, out, names, &range),
+            Err(error) => error,
+        },
+        Wanted::Target => match read_target(alloc, depth, items) {
+            Ok((target, _, _)) => return put_index(alloc, out, names, target.name, &target.index),
+            Err(error) => error,
+        },
+        Wanted::Call => match read_call(alloc, depth, items) {
+            Ok((call, _)) => return put_call(alloc, out, names, &call),
+            Err(error) => error,
+        },
+        Wanted::Choice => match read_choice(alloc, depth, items) {
+            Ok((choice, _)) => {
+                put(alloc, out, names, &choice.first)?;
+                if let Some(last) = &choice.last {
+                    out.push_str(" .. ")?;
+                    put(alloc, out, names, last)?;
+                }
+                return Ok(());
+            }
+            Err(error) => error,
+        },
+    };
+    out.push_str(format!(in alloc; "{fault:?}")?.as_str())?;
+    Ok(())
+}
+
+#[test]
+fn parts(rt: HostRuntime) -> Result<(), Fail> {
+    let alloc = rt.alloc();
+    let rows: [(Wanted, u32, &[u8], &str); 19] = [
+        (Wanted::Range, 9, b"1 .. n + 1", "1 .. (Plus N 1)"),
+        (Wanted::Range, 9, b"t", "T"),
+        (Wanted::Range, 9, b"t range a .. b", "T range A .. B"),
+        (Wanted::Range, 9, b"t'first .. t'last", "T'FIRST .. T'LAST"),
+        (Wanted::Range, 9, b"a + b", "Syntax { at: 5 }"),
+        (Wanted::Range, 9, b"a = b .. c", "A"),
+        (Wanted::Range, 0, b"1 .. -1", "TooDeep { at: 5 }"),
+        (Wanted::Target, 9, b"x := 1", "X"),
+        (Wanted::Target, 9, b"x(i + 1) := 1", "X[(Plus I 1)]"),
+        (Wanted::Target, 0, b"x(i) := 1", "TooDeep { at: 1 }"),
+        (Wanted::Call, 9, b"t.e;", "T.E"),
+        (Wanted::Call, 9, b"t.e(1, a + b);", "T.E[1;(Plus A B);]"),
+        (Wanted::Call, 9, b"a(2).e(i)(x, y);", "A[2].E[I;][X;Y;]"),
+        (Wanted::Call, 9, b"t.e();", "Syntax { at: 4 }"),
+        (Wanted::Call, 9, b"t.e(1 2);", "Syntax { at: 6 }"),
+        (Wanted::Call, 0, b"t.e(1);", "TooDeep { at: 3 }"),
+        (Wanted::Call, 9, b"t;", "Syntax { at: 1 }"),
+        (Wanted::Choice, 9, b"a .. b", "A .. B"),
+        (Wanted::Choice, 9, b"a and b .. c", "(And A B)"),
+    ];
+    for (wanted, depth, text, want) in rows {
+        assert!(rt; text.len() < 2000);
+        let found = tokens(alloc, text)?;
+        let items = read_items(alloc, text, found.as_slice())?;
+        let mut out = String::new(alloc);
+        put_part(
+            alloc,
+            &mut out,
+            &items.names,
+            wanted,
+            depth,
+            items.list.as_slice(),
+        )?;
+        assert_eq!(rt; out.as_str(), want, "{text:?} at {depth}");
+    }
+    Ok(())
+}
+
 /// `times` times a text.
 fn repeated(alloc: Global, text: &str, times: u32) -> Result<String, Fail> {
     let mut out = String::new(alloc);
@@ -183,33 +331,43 @@ fn repeated(alloc: Global, text: &str, times: u32) -> Result<String, Fail> {
     Ok(out)
 }
 
+/// The place of the tree, its height and the place behind it, or the fault.
+fn measured(alloc: Global, text: &[u8], depth: u32) -> Result<String, Fail>
+    requires { length text.now < 2000 }
+{
+    let found = tokens(alloc, text)?;
+    let items = read_items(alloc, text, found.as_slice())?;
+    match read_expr(alloc, depth, items.list.as_slice()) {
+        Ok((expr, height, rest)) => {
+            let span = expr.span;
+            let (start, end, left) = (span.start, span.end, rest.len());
+            Ok(format!(in alloc; "{start}-{end} {height} and {left} items")?)
+        }
+        Err(error) => Ok(format!(in alloc; "{error:?}")?),
+    }
+}
+
 #[test]
 fn nesting(rt: HostRuntime) -> Result<(), Fail> {
     let alloc = rt.alloc();
     let mut deep = repeated(alloc, "(", 300)?;
     deep.push_str("a")?;
     deep.push_str(repeated(alloc, ")", 300)?.as_str())?;
-    assert!(rt; deep.as_str().len() < 2000);
-    assert!(rt;
-        told(alloc, deep.as_str().as_bytes(), 300)?
-            .as_str()
-            .ends_with("}} 0-601 300 to 601")
-    );
+    let text = deep.as_str().as_bytes();
+    assert!(rt; text.len() < 2000);
     assert_eq!(rt;
-        told(alloc, deep.as_str().as_bytes(), 299)?.as_str(),
-        "TooDeep { at: 299 }"
+        measured(alloc, text, 300)?.as_str(),
+        "0-601 300 and 1 items"
     );
+    assert_eq!(rt; measured(alloc, text, 299)?.as_str(), "TooDeep { at: 299 }");
     let mut chain = String::from_str(alloc, "a")?;
     chain.push_str(repeated(alloc, "+a", 300)?.as_str())?;
-    assert!(rt; chain.as_str().len() < 2000);
-    assert!(rt;
-        told(alloc, chain.as_str().as_bytes(), 300)?
-            .as_str()
-            .ends_with(" A) 0-601 300 to 601")
-    );
+    let text = chain.as_str().as_bytes();
+    assert!(rt; text.len() < 2000);
     assert_eq!(rt;
-        told(alloc, chain.as_str().as_bytes(), 299)?.as_str(),
-        "TooDeep { at: 599 }"
+        measured(alloc, text, 300)?.as_str(),
+        "0-601 300 and 1 items"
     );
+    assert_eq!(rt; measured(alloc, text, 299)?.as_str(), "TooDeep { at: 599 }");
     Ok(())
 }
