@@ -1,5 +1,5 @@
 -- Tests of the next item, and the operators of each level.
-use Rattle.std.specs.Prelude.{ℕ, Bool, true, false, not, Option, Some, None, is_some, if◌then◌else◌}
+use Rattle.std.specs.Prelude.{ℕ, Bool, true, false, not, ◌||◌, Option, Some, None, is_some, if◌then◌else◌}
 use denote.Enum.Bare.{sameb}
 use Rattle.ada_expr_parser.specs.contracts.symbols.Symbol as symbol_type
 use Rattle.ada_tree.specs.contracts.expressions.BinaryOp as operator_type
@@ -159,3 +159,14 @@ tighter Simple = Term
 tighter Term = Factor
 tighter Factor = Primary
 tighter Primary = Primary
+
+-- the item may begin an expression
+abbrev pub begins_in : ItemKind → Span → Bool
+begins_in (item.Integer value) at = true
+begins_in (item.Name id) at = true
+begins_in (item.Symbol s) at =
+    is_some (symbol_in key.LeftParen (item.Symbol s) at) || is_some (unary_in factor_operator (item.Symbol s)) || is_some (unary_in sign (item.Symbol s))
+begins_in _ at = false
+
+abbrev pub begins_expr : Item → Bool
+begins_expr x = begins_in x.kind x.span

@@ -19,4 +19,5 @@ pub use parts::{
     read_behind, read_bounds, read_call, read_call_behind, read_choice, read_drange, read_expr,
     read_subind, read_target,
 };
+pub use signs::{begins_expr, expect, expect_word, symbol_in};
 pub use symbols::Symbol;

@@ -291,3 +291,18 @@ pub fn last_operator(expr: &Expr) -> Option<BinaryOp>
         _ => None,
     }
 }
+
+/// Whether an item may begin an expression: a literal, a name, `(`, a sign, `abs` or `not`.
+pub fn begins_expr(item: Item) -> bool
+    ensures { result ≡ tests.begins_expr item }
+{
+    match item.kind {
+        ItemKind::Integer(_) | ItemKind::Name(_) => true,
+        ItemKind::Symbol(_) => {
+            symbol_in(Symbol::LeftParen, item).is_some()
+                || factor_operator(item.kind).is_some()
+                || sign(item.kind).is_some()
+        }
+        _ => false,
+    }
+}

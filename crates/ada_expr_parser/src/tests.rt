@@ -6,6 +6,7 @@ use crate::{Item, read_call, read_choice, read_drange, read_expr, read_items, re
 use ada_lexer::tokens;
 use ada_tree::{Bounds, Call, Drange, Expr, ExprKind, NameId, Names, Word};
 use std::alloc::Global;
+use std::process::Abort;
 use std::test::Fail;
 
 /// Appends the text of a name.
@@ -369,5 +370,176 @@ fn nesting(rt: HostRuntime) -> Result<(), Fail> {
         "0-601 300 and 1 items"
     );
     assert_eq!(rt; measured(alloc, text, 299)?.as_str(), "TooDeep { at: 599 }");
+    Ok(())
+}
+
+/// An operator between operands: its text, its name in the tree, its level with the loosest as 0, and the operator that its first word alone is.
+#[derive(Clone, Copy)]
+struct Operator {
+    text: &'static str,
+    name: &'static str,
+    level: u8,
+    first: &'static str,
+}
+
+const OPERATORS: [Operator; 17] = [
+    Operator {
+        text: "and",
+        name: "And",
+        level: 0,
+        first: "and",
+    },
+    Operator {
+        text: "or",
+        name: "Or",
+        level: 0,
+        first: "or",
+    },
+    Operator {
+        text: "xor",
+        name: "Xor",
+        level: 0,
+        first: "xor",
+    },
+    Operator {
+        text: "and then",
+        name: "AndThen",
+        level: 0,
+        first: "and",
+    },
+    Operator {
+        text: "or else",
+        name: "OrElse",
+        level: 0,
+        first: "or",
+    },
+    Operator {
+        text: "=",
+        name: "Equal",
+        level: 1,
+        first: "=",
+    },
+    Operator {
+        text: "/=",
+        name: "NotEqual",
+        level: 1,
+        first: "/=",
+    },
+    Operator {
+        text: "<",
+        name: "Less",
+        level: 1,
+        first: "<",
+    },
+    Operator {
+        text: "<=",
+        name: "LessEqual",
+        level: 1,
+        first: "<=",
+    },
+    Operator {
+        text: ">",
+        name: "Greater",
+        level: 1,
+        first: ">",
+    },
+    Operator {
+        text: ">=",
+        name: "GreaterEqual",
+        level: 1,
+        first: ">=",
+    },
+    Operator {
+        text: "+",
+        name: "Plus",
+        level: 2,
+        first: "+",
+    },
+    Operator {
+        text: "-",
+        name: "Minus",
+        level: 2,
+        first: "-",
+    },
+    Operator {
+        text: "*",
+        name: "Times",
+        level: 3,
+        first: "*",
+    },
+    Operator {
+        text: "/",
+        name: "Divide",
+        level: 3,
+        first: "/",
+    },
+    Operator {
+        text: "mod",
+        name: "Mod",
+        level: 3,
+        first: "mod",
+    },
+    Operator {
+        text: "rem",
+        name: "Rem",
+        level: 3,
+        first: "rem",
+    },
+];
+
+/// How the tree of `a ONE b OTHER c` begins, by the grammar's levels.
+fn pair(alloc: Global, one: Operator, other: Operator) -> Result<String, Fail> {
+    let (first, second) = (one.name, other.name);
+    let together = one.level >= 2 || (one.level == 0 && first == second);
+    if one.level < other.level {
+        Ok(format!(in alloc; "({first} A ({second} B C)) 0-")?)
+    } else if other.level < one.level || together {
+        Ok(format!(in alloc; "({second} ({first} A B) C) 0-")?)
+    } else if one.level == 0 && one.first == other.first {
+        Ok(format!(in alloc; "Syntax {{")?)
+    } else {
+        Ok(format!(in alloc; "({first} A B) 0-")?)
+    }
+}
+
+/// What is told of the text begins so.
+fn begins(rt: &impl Abort, alloc: Global, text: String, want: String) -> Result<(), Fail> {
+    let bytes = text.as_str().as_bytes();
+    assert!(rt; bytes.len() < 2000);
+    let found = told(alloc, bytes, 9)?;
+    assert!(rt;
+        found.as_str().starts_with(want.as_str()),
+        "{text} gives {found}"
+    );
+    Ok(())
+}
+
+#[test]
+fn operator_pairs(rt: HostRuntime) -> Result<(), Fail> {
+    let alloc = rt.alloc();
+    for one in OPERATORS {
+        for other in OPERATORS {
+            let (a, b) = (one.text, other.text);
+            let (first, second) = (one.name, other.name);
+            begins(
+                &rt,
+                alloc,
+                format!(in alloc; "a {a} b {b} c")?,
+                pair(alloc, one, other)?,
+            )?;
+            begins(
+                &rt,
+                alloc,
+                format!(in alloc; "(a {a} b) {b} c")?,
+                format!(in alloc; "({second} {{({first} A B)}} C) 0-")?,
+            )?;
+            begins(
+                &rt,
+                alloc,
+                format!(in alloc; "a {a} (b {b} c)")?,
+                format!(in alloc; "({first} A {{({second} B C)}}) 0-")?,
+            )?;
+        }
+    }
     Ok(())
 }

@@ -29,4 +29,4 @@ more-returns-clause-tree m c = λ turns enough.
 pub further-returns-clause-tree : goal.further-returns-clause-tree
 further-returns-clause-tree m c = λ turns enough.
     chain_further _ _ c.more.result c.args.level c.args.depth turns _ c.args.last c.args.op c.in_ok-op.op c.args.items.now _ _ _ _ c.args.height c.in_ok-right.other
-    enough c.in_ok-op.ensures.tree c.in_ok-right.ensures.tree c.in_ok-node.ensures (λ t still. c.more.ensures.tree t (first_of (rw c.max.ensures still, omega (arith, still, c.max.ensures))))
+    enough c.in_ok-op.ensures.tree c.in_ok-right.ensures.tree c.in_ok-node.ensures (λ t still. c.more.ensures.tree t (omega (arith, still, c.max.ensures)))
