@@ -17,9 +17,9 @@ law_token {d = d} {test = test} {S = S} k b some = law_fit
     (λ e deep a text is. only_one test e a text is)
     (λ a text (x, is, same). inl (a, x ∷ [], [], is, (x, refl, same), (refl, refl)))
     (law_on (λ c. law_pure d c S) (careful_refuse d S) starts_never k b some) where
-  only_one : {K B : Type 0} (test : K → Option B) (e : ℕ) (a : B) (text : List K) → Or (Then (One test) Is) Never e a text → One test e a text
-  only_one test e a text (inl (b, one, back, is, (x, one_is, same), (tree, none))) = (x, is ∙ ap (λ l. l ++ back) one_is ∙ ap (λ l. x ∷ l) none, same ∙ ap Some (sym tree))
-  only_one test e a text (inr none) = absurd none
+      only_one : {K B : Type 0} (test : K → Option B) (e : ℕ) (a : B) (text : List K) → Or (Then (One test) Is) Never e a text → One test e a text
+      only_one test e a text (inl (b, one, back, is, (x, one_is, same), (tree, none))) = (x, is ∙ ap (λ l. l ++ back) one_is ∙ ap (λ l. x ∷ l) none, same ∙ ap Some (sym tree))
+      only_one test e a text (inr none) = absurd none
 
 -- Turns and steps of a list of items, each of which takes a token.
 module _ {K A : Type 0} (begins : K → Bool) (item : Reader K A) (shortens : Shortens item) where
