@@ -4,108 +4,108 @@ use Rattle.std.specs.List.{AllZip}
 use Rattle.std.specs.Char.{to_ascii_uppercase}
 use Rattle.ada_lexer.specs.declared.kinds.Token.{Token}
 use Rattle.ada_lexer.specs.declared.kinds.TokenKind.{TokenKind}
-use Rattle.ada_lexer.specs.declared.kinds.TokenKind.TheVariants as kind
+use Rattle.ada_lexer.specs.declared.kinds.TokenKind.TheVariants as kinds
 use Rattle.ada_tree.specs.NameList.{interned, predefined}
 use Rattle.ada_expr_parser.specs.declared.symbols.Symbol.{Symbol}
-use Rattle.ada_expr_parser.specs.declared.symbols.Symbol.TheVariants as symbol
+use Rattle.ada_expr_parser.specs.declared.symbols.Symbol.TheVariants as key
 use Rattle.ada_expr_parser.specs.declared.items.ItemKind.{ItemKind}
 use Rattle.ada_expr_parser.specs.declared.items.ItemKind.TheVariants as item
 use Rattle.ada_expr_parser.specs.declared.items.Item.{Item}
 
 -- the kind of token of each reserved word and delimiter (2.2, 2.9)
 abbrev pub kind_of : Symbol → TokenKind
-kind_of symbol.Abort = kind.Abort
-kind_of symbol.Abs = kind.Abs
-kind_of symbol.Accept = kind.Accept
-kind_of symbol.Access = kind.Access
-kind_of symbol.All = kind.All
-kind_of symbol.And = kind.And
-kind_of symbol.Array = kind.Array
-kind_of symbol.At = kind.At
-kind_of symbol.Begin = kind.Begin
-kind_of symbol.Body = kind.Body
-kind_of symbol.Case = kind.Case
-kind_of symbol.Constant = kind.Constant
-kind_of symbol.Declare = kind.Declare
-kind_of symbol.Delay = kind.Delay
-kind_of symbol.Delta = kind.Delta
-kind_of symbol.Digits = kind.Digits
-kind_of symbol.Do = kind.Do
-kind_of symbol.Else = kind.Else
-kind_of symbol.Elsif = kind.Elsif
-kind_of symbol.End = kind.End
-kind_of symbol.Entry = kind.Entry
-kind_of symbol.Exception = kind.Exception
-kind_of symbol.Exit = kind.Exit
-kind_of symbol.For = kind.For
-kind_of symbol.Function = kind.Function
-kind_of symbol.Generic = kind.Generic
-kind_of symbol.Goto = kind.Goto
-kind_of symbol.If = kind.If
-kind_of symbol.In = kind.In
-kind_of symbol.Is = kind.Is
-kind_of symbol.Limited = kind.Limited
-kind_of symbol.Loop = kind.Loop
-kind_of symbol.Mod = kind.Mod
-kind_of symbol.New = kind.New
-kind_of symbol.Not = kind.Not
-kind_of symbol.Null = kind.Null
-kind_of symbol.Of = kind.Of
-kind_of symbol.Or = kind.Or
-kind_of symbol.Others = kind.Others
-kind_of symbol.Out = kind.Out
-kind_of symbol.Package = kind.Package
-kind_of symbol.Pragma = kind.Pragma
-kind_of symbol.Private = kind.Private
-kind_of symbol.Procedure = kind.Procedure
-kind_of symbol.Raise = kind.Raise
-kind_of symbol.Range = kind.Range
-kind_of symbol.Record = kind.Record
-kind_of symbol.Rem = kind.Rem
-kind_of symbol.Renames = kind.Renames
-kind_of symbol.Return = kind.Return
-kind_of symbol.Reverse = kind.Reverse
-kind_of symbol.Select = kind.Select
-kind_of symbol.Separate = kind.Separate
-kind_of symbol.Subtype = kind.Subtype
-kind_of symbol.Task = kind.Task
-kind_of symbol.Terminate = kind.Terminate
-kind_of symbol.Then = kind.Then
-kind_of symbol.Type = kind.Type
-kind_of symbol.Use = kind.Use
-kind_of symbol.When = kind.When
-kind_of symbol.While = kind.While
-kind_of symbol.With = kind.With
-kind_of symbol.Xor = kind.Xor
-kind_of symbol.Semicolon = kind.Semicolon
-kind_of symbol.Comma = kind.Comma
-kind_of symbol.LeftParen = kind.LeftParen
-kind_of symbol.RightParen = kind.RightParen
-kind_of symbol.Colon = kind.Colon
-kind_of symbol.Becomes = kind.Becomes
-kind_of symbol.Arrow = kind.Arrow
-kind_of symbol.Dot = kind.Dot
-kind_of symbol.DotDot = kind.DotDot
-kind_of symbol.Bar = kind.Bar
-kind_of symbol.Ampersand = kind.Ampersand
-kind_of symbol.Tick = kind.Tick
-kind_of symbol.Equal = kind.Equal
-kind_of symbol.NotEqual = kind.NotEqual
-kind_of symbol.Less = kind.Less
-kind_of symbol.LessEqual = kind.LessEqual
-kind_of symbol.Greater = kind.Greater
-kind_of symbol.GreaterEqual = kind.GreaterEqual
-kind_of symbol.Plus = kind.Plus
-kind_of symbol.Minus = kind.Minus
-kind_of symbol.Star = kind.Star
-kind_of symbol.Slash = kind.Slash
+kind_of key.Abort = kinds.Abort
+kind_of key.Abs = kinds.Abs
+kind_of key.Accept = kinds.Accept
+kind_of key.Access = kinds.Access
+kind_of key.All = kinds.All
+kind_of key.And = kinds.And
+kind_of key.Array = kinds.Array
+kind_of key.At = kinds.At
+kind_of key.Begin = kinds.Begin
+kind_of key.Body = kinds.Body
+kind_of key.Case = kinds.Case
+kind_of key.Constant = kinds.Constant
+kind_of key.Declare = kinds.Declare
+kind_of key.Delay = kinds.Delay
+kind_of key.Delta = kinds.Delta
+kind_of key.Digits = kinds.Digits
+kind_of key.Do = kinds.Do
+kind_of key.Else = kinds.Else
+kind_of key.Elsif = kinds.Elsif
+kind_of key.End = kinds.End
+kind_of key.Entry = kinds.Entry
+kind_of key.Exception = kinds.Exception
+kind_of key.Exit = kinds.Exit
+kind_of key.For = kinds.For
+kind_of key.Function = kinds.Function
+kind_of key.Generic = kinds.Generic
+kind_of key.Goto = kinds.Goto
+kind_of key.If = kinds.If
+kind_of key.In = kinds.In
+kind_of key.Is = kinds.Is
+kind_of key.Limited = kinds.Limited
+kind_of key.Loop = kinds.Loop
+kind_of key.Mod = kinds.Mod
+kind_of key.New = kinds.New
+kind_of key.Not = kinds.Not
+kind_of key.Null = kinds.Null
+kind_of key.Of = kinds.Of
+kind_of key.Or = kinds.Or
+kind_of key.Others = kinds.Others
+kind_of key.Out = kinds.Out
+kind_of key.Package = kinds.Package
+kind_of key.Pragma = kinds.Pragma
+kind_of key.Private = kinds.Private
+kind_of key.Procedure = kinds.Procedure
+kind_of key.Raise = kinds.Raise
+kind_of key.Range = kinds.Range
+kind_of key.Record = kinds.Record
+kind_of key.Rem = kinds.Rem
+kind_of key.Renames = kinds.Renames
+kind_of key.Return = kinds.Return
+kind_of key.Reverse = kinds.Reverse
+kind_of key.Select = kinds.Select
+kind_of key.Separate = kinds.Separate
+kind_of key.Subtype = kinds.Subtype
+kind_of key.Task = kinds.Task
+kind_of key.Terminate = kinds.Terminate
+kind_of key.Then = kinds.Then
+kind_of key.Type = kinds.Type
+kind_of key.Use = kinds.Use
+kind_of key.When = kinds.When
+kind_of key.While = kinds.While
+kind_of key.With = kinds.With
+kind_of key.Xor = kinds.Xor
+kind_of key.Semicolon = kinds.Semicolon
+kind_of key.Comma = kinds.Comma
+kind_of key.LeftParen = kinds.LeftParen
+kind_of key.RightParen = kinds.RightParen
+kind_of key.Colon = kinds.Colon
+kind_of key.Becomes = kinds.Becomes
+kind_of key.Arrow = kinds.Arrow
+kind_of key.Dot = kinds.Dot
+kind_of key.DotDot = kinds.DotDot
+kind_of key.Bar = kinds.Bar
+kind_of key.Ampersand = kinds.Ampersand
+kind_of key.Tick = kinds.Tick
+kind_of key.Equal = kinds.Equal
+kind_of key.NotEqual = kinds.NotEqual
+kind_of key.Less = kinds.Less
+kind_of key.LessEqual = kinds.LessEqual
+kind_of key.Greater = kinds.Greater
+kind_of key.GreaterEqual = kinds.GreaterEqual
+kind_of key.Plus = kinds.Plus
+kind_of key.Minus = kinds.Minus
+kind_of key.Star = kinds.Star
+kind_of key.Slash = kinds.Slash
 
 -- a token of this kind that is no name says this
 abbrev pub Stands : TokenKind → ItemKind → Type 0
 Stands kind (item.Symbol s) = kind ≡ kind_of s
-Stands kind (item.Integer value) = kind ≡ kind.Integer value
-Stands kind (item.Duration thousandths) = kind ≡ kind.Duration thousandths
-Stands kind item.Text = kind ≡ kind.Text
+Stands kind (item.Integer value) = kind ≡ kinds.Integer value
+Stands kind (item.Duration thousandths) = kind ≡ kinds.Duration thousandths
+Stands kind item.Text = kind ≡ kinds.Text
 Stands kind (item.Name id) = ⊥
 Stands kind item.End = ⊥
 
@@ -115,7 +115,7 @@ name_text src token = map to_ascii_uppercase (slice_range src token.start token.
 
 -- among these names, the token says this: an identifier is the name of its text, anything else stands for itself
 abbrev pub Says : List ℕ → List (List ℕ) → Token → ItemKind → Type 0
-Says src names token (item.Name id) = (token.kind ≡ kind.Name) × (slice_get names id.0 ≡ Some (name_text src token))
+Says src names token (item.Name id) = (token.kind ≡ kinds.Name) × (slice_get names id.0 ≡ Some (name_text src token))
 Says src names token said = Stands token.kind said
 
 -- the item is that of the token: it says what the token says, at its place
@@ -134,7 +134,7 @@ AreItems src names tokens items = (front : List Item) × AllZip (IsItemOf src na
 
 -- the names, with one more text where the token is a name
 abbrev pub interned_if : TokenKind → List (List ℕ) → List ℕ → List (List ℕ)
-interned_if kind.Name names text = interned names text
+interned_if kinds.Name names text = interned names text
 interned_if _ names text = names
 
 abbrev pub with_token : List ℕ → List (List ℕ) → Token → List (List ℕ)

@@ -3,7 +3,7 @@
 ghost use Rattle.std.specs.Prelude.{◌≡◌, ◌<◌, ◌^◌, ℕ, List, map, All, IfOk, IfSome, IsNone, Some, OnOk, length, slice_get, string_bytes};
 ghost use Rattle.std.specs.Char.{to_ascii_uppercase};
 ghost use Rattle.std.specs.Str.{IsAscii};
-ghost use Rattle.ada_lexer.specs.declared.kinds.TokenKind.TheVariants as kind;
+ghost use Rattle.ada_lexer.specs.declared.kinds.TokenKind.TheVariants as kinds;
 ghost use Rattle.ada_lexer.specs.Split.{IsTokenOf};
 ghost use Rattle.ada_tree.specs.NameList.{interned};
 ghost use Rattle.ada_expr_parser.specs.Items.{Stands, IsItemOf, AreItems, end_of, name_text, interned_if, with_token, names_after};
@@ -95,9 +95,14 @@ fn read_item(alloc: Global, src: &[u8], token: Token, names: &mut Names) -> Resu
 }
 
 // The id of a token's bytes in upper case.
-fn intern_upper(alloc: Global, src: &[u8], token: Token, names: &mut Names) -> Result<NameId, Memory>
+fn intern_upper(
+    alloc: Global,
+    src: &[u8],
+    token: Token,
+    names: &mut Names,
+) -> Result<NameId, Memory>
     requires token { IsTokenOf src.now token }
-    requires name { token.kind ≡ kind.Name }
+    requires name { token.kind ≡ kinds.Name }
     ensures found { IfOk result (λ id. slice_get names.new id.0 ≡ Some (name_text src.now token)) }
     ensures names { OnOk result (names.new ≡ interned names.old (name_text src.now token)) }
 {
@@ -119,7 +124,7 @@ fn upper_text(alloc: Global, bytes: &[u8]) -> Result<String, Memory>
 fn plain_kind(kind: TokenKind) -> Option<ItemKind>
     ensures said { IfSome result (λ found. Stands kind found) }
     ensures names { IfSome result (λ found. (names : List (List ℕ)) (text : List ℕ) → interned_if kind names text ≡ names) }
-    ensures name { IsNone result → kind ≡ kind.Name }
+    ensures name { IsNone result → kind ≡ kinds.Name }
 {
     match kind {
         TokenKind::Abort => Some(ItemKind::Symbol(Symbol::Abort)),

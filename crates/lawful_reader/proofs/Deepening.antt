@@ -1,9 +1,9 @@
 -- The laws of readers of tokens that open something deeper.
-use Rattle.std.proofs.Common.{◌≡◌, ℕ, zero, suc, ◌-◌, ◌≤◌, Bool, true, false, ◌⊎◌, inl, inr, ⊎_elim, List, [], ◌∷◌, ◌++◌, refl, sym, ap, ◌∙◌, Option, Some, None, arith}
+use Rattle.std.proofs.Common.{◌≡◌, ℕ, zero, suc, ◌-◌, ◌≤◌, Bool, true, false, ◌⊎◌, inl, inr, ⊎_elim, List, [], ◌∷◌, ◌++◌, refl, sym, ap, ◌∙◌, subst, Option, Some, None, arith}
 use Rattle.std.specs.Prelude.{if◌then◌else◌, nat_eq}
 use Rattle.std.proofs.lemmas.List.{append_cancel_right}
 use Rattle.lawful_reader.specs.Readers.{Found, Fault, Reader, on, on_token, below, below_token}
-use Rattle.lawful_reader.specs.Grammars.{Texts, One, Then, Or, Below, Begins, first_of, Starts}
+use Rattle.lawful_reader.specs.Grammars.{Texts, One, Then, Or, Below, Raised, Begins, first_of, Starts}
 use Rattle.lawful_reader.specs.Lawful.{Careful, Lawful, IsPassed}
 use Rattle.lawful_reader.proofs.Basics.{not_both, fault_rest, fault_deep, not_deep, not_empty, tested}
 use Rattle.lawful_reader.proofs.Fitting.{careful_same}
@@ -33,6 +33,35 @@ module _ {K A : Type 0} {d : ℕ} {p p' : Reader K A} {D : Texts K A} {S : K →
       grows = grows_below law;
     };
     some_text = some_below law;
+  }
+
+-- and what is lawful one level higher is so here, as what stands behind the end of what was deeper
+less_one : (d n : ℕ) → suc d ≤ n → (m : ℕ) × (n ≡ suc m) × (d ≤ m)
+less_one d zero deep = absurd (omega (arith, deep))
+less_one d (suc m) deep = (m, refl, omega (arith, deep))
+
+module _ {K A : Type 0} {d : ℕ} {p p' : Reader K A} {D : Texts K A} {S : K → Type 0} where
+  raised_deeper : Lawful (suc d) p p' D S → {ts : List K} {x : K} {rest : List K} → p ts ≡ Fault true (x ∷ rest) →
+      (front : List K) × (ts ≡ front ++ (x ∷ rest)) × (e : ℕ) × (d ≤ e) × Begins (Raised D e) (front ++ (x ∷ []))
+  raised_deeper law {x = x} e =
+      let (f, is, n, deep, some) = law.careful.only_deeper e in
+      let (m, same, high) = less_one d n deep in
+      (f, is, m, high, subst (λ k. Begins (D k) (f ++ (x ∷ []))) same some)
+
+  pub law_raised : Lawful (suc d) p p' D S → Lawful d p p' (Raised D) S
+  law_raised law = record {
+    careful = record {
+      sound = law.careful.sound;
+      complete = law.careful.complete;
+      viable = law.careful.viable;
+      only_deeper = raised_deeper law;
+      found_alike = law.careful.found_alike;
+      fault_alike = law.careful.fault_alike;
+      found_deeper = law.careful.found_deeper;
+      fault_deeper = law.careful.fault_deeper;
+      grows = λ n deep text. law.careful.grows (suc n) (omega (arith, deep)) text;
+    };
+    some_text = λ n deep. law.some_text (suc n) (omega (arith, deep));
   }
 
 one_less : (d : ℕ) → suc d - 1 ≡ d

@@ -31,6 +31,10 @@ abbrev pub Below : {K A : Type 0} → Texts K A → Texts K A
 Below Inner zero a text = ⊥
 Below Inner (suc d) a text = Inner d a text
 
+-- one level higher, as what stands behind a closing parenthesis
+abbrev pub Raised : {K A : Type 0} → Texts K A → Texts K A
+Raised D d a text = D (suc d) a text
+
 -- one text after the other
 abbrev pub Many : {K A : Type 0} → Texts K A → Texts K (List A)
 Many Item d [] text = text ≡ []
