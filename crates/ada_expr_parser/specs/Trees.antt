@@ -1,4 +1,4 @@
--- Nodes of the tree: their places, their heightss and their operators.
+-- Nodes of the tree: their places, their heights and their operators.
 use Rattle.std.specs.Prelude.{ℕ, ◌+◌, max, Option, Some, None}
 use Rattle.ada_tree.specs.declared.naming.Span.{Span}
 use Rattle.ada_tree.specs.declared.naming.Word.{Word}
