@@ -1,12 +1,12 @@
 -- Small expressions and words by which the definition of well placed can be tried.
-use Rattle.std.proofs.Common.{◌≡◌, ◌<◌, ◌⊎◌, lit<, true, false, codes, [], refl, inl, inr, arith}
+use Rattle.std.proofs.Common.{◌≡◌, ◌<◌, ◌≤◌, ◌⊎◌, lit<, true, false, codes, [], ◌∷◌, refl, inl, inr, arith}
 use Rattle.ada_tree.specs.declared.naming.Span.{Span}
 use Rattle.ada_tree.specs.declared.expressions.UnaryOp.TheVariants as unary
 use Rattle.ada_tree.specs.declared.expressions.BinaryOp.TheVariants.{And, Or, Equal, Plus, Times}
 use Rattle.ada_tree.specs.PlainExpr.{PExpr, EName, EUnary, EBinary}
 use Rattle.ada_tree.specs.PlainStmt.{no_stmt, handler, no_handler, handler_then}
 use Rattle.ada_tree.specs.Lexical.{is_word}
-use Rattle.ada_tree.specs.WellPlaced.{logical, relation, BinaryFits, UnaryFits, OthersLast}
+use Rattle.ada_tree.specs.WellPlaced.{logical, relation, BinaryFits, UnaryFits, OthersLast, GoUp}
 
 abbrev here : Span
 here = record { start = 0; end = 0 }
@@ -55,3 +55,13 @@ others_first h = h.0
 -- identifiers and what is none
 words_are : (is_word (codes "A_B1") ≡ true) × (is_word (codes "A__B") ≡ false) × (is_word (codes "A_") ≡ false) × (is_word (codes "1A") ≡ false) × (is_word (codes "_A") ≡ false)
 words_are = (refl, refl, refl, refl, refl)
+
+-- pragmas before and behind the only entry of a task; the other way round, or past it, they could not be printed so
+pragmas_around : GoUp 0 1 (0 ∷ 1 ∷ [])
+pragmas_around = (omega arith, omega arith, (omega arith, omega arith, tt))
+
+pragmas_back : GoUp 0 1 (1 ∷ 0 ∷ []) → ⊥
+pragmas_back h = let le : 1 ≤ 0 = h.2.0 in omega arith
+
+pragma_past : GoUp 0 0 (1 ∷ []) → ⊥
+pragma_past h = let le : 1 ≤ 0 = h.1 in omega arith

@@ -1,5 +1,5 @@
 -- Rules that are asked of every part of a program, and how deep each part stands (this project's rule: what stands in a compound statement, an alternative or a handler is one deeper than it, and an operand, index, argument or content of parentheses one deeper than the node above it).
-use Rattle.std.specs.Prelude.{ℕ, ◌+◌, List, length, IfSome, All}
+use Rattle.std.specs.Prelude.{ℕ, ◌+◌, List, length, map, IfSome, All}
 use Rattle.ada_tree.specs.declared.naming.NameId.{NameId}
 use Rattle.ada_tree.specs.declared.naming.Word.{Word}
 use Rattle.ada_tree.specs.declared.expressions.UnaryOp.{UnaryOp}
@@ -24,6 +24,8 @@ pub record Rules : Type 1 where
   pub parts : ℕ → ℕ → Type 0
   -- of the handlers of each body
   pub handlers : PHandlers → Type 0
+  -- of each task: how many entries it has, and the places of its pragmas among them
+  pub pragmas : ℕ → List ℕ → Type 0
   -- of the nesting of each part
   pub nested : ℕ → Type 0
 
@@ -39,6 +41,7 @@ no_rules = record {
   bounds = λ _ _. Unit {0};
   parts = λ _ _. Unit {0};
   handlers = λ _. Unit {0};
+  pragmas = λ _ _. Unit {0};
   nested = λ _. Unit {0};
 }
 
@@ -213,7 +216,7 @@ module _ (rules : Rules) where
   EveryPriority x = rules.nested 1 × EveryExpr 2 x.value
 
   abbrev pub EveryTask : PTask → Type 0
-  EveryTask x = EveryWord x.name × All EveryEntry x.entries × All EveryPriority x.priorities
+  EveryTask x = EveryWord x.name × All EveryEntry x.entries × All EveryPriority x.priorities × rules.pragmas (length x.entries) (map (λ y. y.place) x.priorities)
 
   abbrev mutual
     pub EveryDecl : PDecl → Type 0

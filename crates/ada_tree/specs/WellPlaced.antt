@@ -1,5 +1,5 @@
--- Grammar levels, and when a program is well placed: when its printed text has each part where the grammar has it. These are five conditions (this project's rule).
-use Rattle.std.specs.Prelude.{◌≡◌, ◌<◌, ◌≤◌, ◌⊎◌, ℕ, List, [], IsSomeAnd, slice_get}
+-- Grammar levels, and when a program is well placed: when its printed text has each part where the grammar has it. These are six conditions (this project's rule).
+use Rattle.std.specs.Prelude.{◌≡◌, ◌<◌, ◌≤◌, ◌⊎◌, ℕ, List, [], ◌∷◌, IsSomeAnd, slice_get}
 use Rattle.ada_tree.specs.declared.expressions.UnaryOp.{UnaryOp}
 use Rattle.ada_tree.specs.declared.expressions.UnaryOp.TheVariants as unary
 use Rattle.ada_tree.specs.declared.expressions.BinaryOp.{BinaryOp}
@@ -88,7 +88,12 @@ abbrev pub OthersLast : PHandlers → Type 0
 OthersLast no_handler = Unit {0}
 OthersLast (handler_then x k) = LastIfOthers x k × OthersLast k
 
--- the five conditions, in a program with these names
+-- the places of a task's pragmas go up from the first, and none is behind the last of its entries
+abbrev pub GoUp : ℕ → ℕ → List ℕ → Type 0
+GoUp first entries [] = Unit {0}
+GoUp first entries (place ∷ places) = (first ≤ place) × (place ≤ entries) × GoUp place entries places
+
+-- the six conditions, in a program with these names
 abbrev pub well_placed : List (List ℕ) → Rules
 well_placed names = record {
   -- each operand of a looser level stands in parentheses
@@ -99,6 +104,8 @@ well_placed names = record {
   parts = λ asked has. asked ≤ has;
   -- a handler `others` is the last
   handlers = OthersLast;
+  -- each pragma of a task stands at a place among its entries, in the order in which it is printed
+  pragmas = GoUp 0;
   -- each name, number and string is one that the source can hold
   name = λ id. IsSomeAnd (slice_get names id.0) IsIdentifier;
   integer = IsInteger;

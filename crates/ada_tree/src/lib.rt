@@ -9,8 +9,6 @@ mod sameness;
 mod shortage;
 mod statements;
 mod static_types;
-#[cfg(test)]
-mod tests;
 mod whole;
 
 pub use declarations::{

@@ -1,52 +1,200 @@
--- The status of an outcome, its cause and its line.
-use Rattle.std.proofs.Common.{◌≡◌, ℕ, List, [], Option, Some, None, Result, Ok, Err, ◌⊎◌, inl, inr, sym, subst, ap, ◌∙◌, refl}
-use Rattle.std.specs.Prelude.{IfOk, IfErr}
+-- The status of a failure, its causes from the parts of a command to the whole, and its line.
+use Rattle.std.proofs.Common.{◌≡◌, ◌≢◌, ◌≤◌, ℕ, List, [], length, Option, Some, None, Result, Ok, Err, ◌⊎◌, inl, inr, sym, subst, ap, ◌∙◌, refl}
 use Rattle.ded_io.specs.Counts.{Rose}
+use Rattle.ded_io.specs.Told.{ToldFile, Longer}
 use Rattle.ded_io.specs.Written.{Wrote, appended}
-use Rattle.interp.specs.declared.report.RunEnd.{RunEnd}
+use Rattle.ded_io.proofs.Counted.{rose_behind}
+use Rattle.ada_tree.specs.PlainProgram.{PProgram}
+use Rattle.ada_tree.specs.TypeTable.{TypeTable}
+use Rattle.seq_file.specs.declared.errors.SeqError.{SeqError}
+use Rattle.seq_file.specs.declared.errors.SeqError.TheVariants as error
+use Rattle.seq_file.specs.Files.{HasFirstFault}
+use Rattle.syn_event.specs.Numbering.{Numbering}
 use Rattle.debug_core.specs.declared.failing.Failure.{Failure}
-use Rattle.debug_core.specs.declared.failing.Failure.TheVariants.{Refused, Usage, Unreadable, OutputFailed, TooLong, Memory}
-use Rattle.debug_core.specs.Answers.{Sides, AnswersRun, AnswersUsage, Answers, Closes, HasRun, HasRunCause, HasErrorLine, IsFileCause, failure_status, failure_line, run_status, status_of}
-use Rattle.debug_core.specs.Words.{Asked, AsksRun}
+use Rattle.debug_core.specs.declared.failing.Failure.TheVariants.{Refused, Usage, BadSequence, Unreadable, OutputFailed, TooLong, TooMany, Memory}
+use Rattle.debug_core.specs.declared.failing.Source.TheVariants.{Program, Sequence}
+use Rattle.debug_core.specs.Failures.{failure_status, failure_line, failure_of, Fails}
+use Rattle.debug_core.specs.Causes.{Sides, HasErrorLine, WasLoaded, IsHeld, IsUnread, IsLoadCause, IsReadCause, IsProgram}
+use Rattle.debug_core.specs.RunAnswers.{AnswersRun, IsFileCause, IsOutputCause, HasRunCause, run_limit}
+use Rattle.debug_core.specs.JudgeAnswers.{AnswersJudge, AreLoadCauses, IsFilesCause, IsJudgeCause, IsLinesCause, HasJudgeCause, HasBadSequence, HoldsBadSequence, WereLoaded, judged_limit, sequence_limit}
 
 -- a failure whose line is written
-pub closed_with : (A E : Type 0) (x : A) (outcome : Result RunEnd Failure) (failure : Failure) (file : List ℕ) (err err' : Option (List ℕ)) (lines lines' status : ℕ) →
-    outcome ≡ Err failure → status ≡ failure_status failure → Wrote {E = E} (Ok x) err err' (failure_line file failure) → Closes outcome file err err' lines lines' status
+pub failed_with : (A E : Type 0) (x : A) (failure : Failure) (program sequence : List ℕ) (err err' : Option (List ℕ)) (lines lines' status : ℕ) →
+    status ≡ failure_status failure → Wrote {E = E} (Ok x) err err' (failure_line program sequence failure) → Fails failure program sequence err err' lines lines' status
 unfolding Wrote
-closed_with A E x outcome failure file err err' lines lines' status is its_status line =
-    subst (λ o. Closes o file err err' lines lines' status) (sym is) (inl (its_status, line))
+failed_with A E x failure program sequence err err' lines lines' status its_status line = inl (its_status, line)
 
--- the cause of a failure of the command that runs a program
-cause_of : (file : List ℕ) (turns : ℕ) (s : Sides) (failure : Failure) → IsFileCause s.files file s.reads s.reads' s.out s.out' s.writes s.writes' failure → HasRunCause file turns s (Err failure)
-cause_of file turns s Refused h = h
-cause_of file turns s Usage h = h
-cause_of file turns s Unreadable h = h
-cause_of file turns s OutputFailed h = inl h
-cause_of file turns s TooLong h = h
-cause_of file turns s Memory h = tt
+line_of : {A : Type 0} (program sequence : List ℕ) (s : Sides) (failure : Failure) → s.err' ≡ appended s.err (failure_line program sequence failure) → HasErrorLine {A = A} program sequence s (Err failure)
+line_of program sequence s Refused h = h
+line_of program sequence s Usage h = h
+line_of program sequence s (BadSequence found line) h = h
+line_of program sequence s (Unreadable source) h = h
+line_of program sequence s OutputFailed h = tt
+line_of program sequence s (TooLong limit) h = h
+line_of program sequence s (TooMany limit) h = h
+line_of program sequence s Memory h = h
 
-line_of : (file : List ℕ) (s : Sides) (failure : Failure) → s.err' ≡ appended s.err (failure_line file failure) → HasErrorLine file s (Err failure)
-line_of file s Refused h = h
-line_of file s Usage h = h
-line_of file s Unreadable h = h
-line_of file s OutputFailed h = tt
-line_of file s TooLong h = h
-line_of file s Memory h = h
+-- ---- a run
 
-answered_failure : (file : List ℕ) (turns : ℕ) (s : Sides) (status : ℕ) (failure : Failure) → IsFileCause s.files file s.reads s.reads' s.out s.out' s.writes s.writes' failure →
-    ((status ≡ failure_status failure) × (s.err' ≡ appended s.err (failure_line file failure))) ⊎ ((status ≡ 7) × Rose s.lines s.lines') → AnswersRun file turns s status
-answered_failure file turns s status failure cause (inl (is, line)) =
-    record { outcome = Err failure; is = is; cause = cause_of file turns s failure cause; line = line_of file s failure line }
-answered_failure file turns s status failure cause (inr (seven, rose)) =
+run_cause : (file : List ℕ) (turns : ℕ) (s : Sides) (failure : Failure) → IsFileCause s.files file s.reads s.reads' s.out s.out' s.writes s.writes' failure → HasRunCause file turns s (Err failure)
+run_cause file turns s Refused h = h
+run_cause file turns s Usage h = h
+run_cause file turns s (BadSequence found line) h = h
+run_cause file turns s (Unreadable source) h = h
+run_cause file turns s OutputFailed h = inl h
+run_cause file turns s (TooLong limit) h = h
+run_cause file turns s (TooMany limit) h = h
+run_cause file turns s Memory h = h
+
+pub run_failed : (file : List ℕ) (turns : ℕ) (s : Sides) (status : ℕ) (failure : Failure) → IsFileCause s.files file s.reads s.reads' s.out s.out' s.writes s.writes' failure →
+    Fails failure file [] s.err s.err' s.lines s.lines' status → AnswersRun file turns s status
+run_failed file turns s status failure cause (inl (is, line)) =
+    record { outcome = Err failure; is = is; cause = run_cause file turns s failure cause; line = line_of file [] s failure line }
+run_failed file turns s status failure cause (inr (seven, rose)) =
     record { outcome = Err OutputFailed; is = seven; cause = inr rose; line = tt }
 
--- what the command that runs a program comes to
-pub answered_run : (file : List ℕ) (turns : ℕ) (s : Sides) (status : ℕ) (outcome : Result RunEnd Failure) →
-    IfOk outcome (HasRun s.files file turns s.out s.out') → IfErr outcome (IsFileCause s.files file s.reads s.reads' s.out s.out' s.writes s.writes') →
-    Closes outcome file s.err s.err' s.lines s.lines' status → AnswersRun file turns s status
-answered_run file turns s status (Ok end) ran cause (is, line) = record { outcome = Ok end; is = is; cause = ran; line = line }
-answered_run file turns s status (Err failure) ran cause closes = answered_failure file turns s status failure cause closes
+pub file_unloaded : (told : Option (List ToldFile)) (file : List ℕ) (reads reads' : ℕ) (out : Option (List ℕ)) (writes : ℕ) (failure : Failure) →
+    IsLoadCause told file Program run_limit reads reads' failure → IsFileCause told file reads reads' out out writes writes failure
+file_unloaded told file reads reads' out writes Refused h = absurd h
+file_unloaded told file reads reads' out writes Usage h = h
+file_unloaded told file reads reads' out writes (BadSequence found line) h = h
+file_unloaded told file reads reads' out writes (Unreadable source) h = (h.0, h.1, refl)
+file_unloaded told file reads reads' out writes OutputFailed h = absurd h
+file_unloaded told file reads reads' out writes (TooLong limit) h = (h.0, h.1, refl)
+file_unloaded told file reads reads' out writes (TooMany limit) h = h
+file_unloaded told file reads reads' out writes Memory h = h
 
--- what words that are no row of words come to
-pub answered_usage : (s : Sides) (status : ℕ) → s.out' ≡ s.out → Closes (Err Usage) [] s.err s.err' s.lines s.lines' status → AnswersUsage s status
-answered_usage s status same closes = record { nothing = same; usage = closes }
+pub file_unread : (told : Option (List ToldFile)) (file text : List ℕ) (reads reads' : ℕ) (out : Option (List ℕ)) (writes : ℕ) (failure : Failure) →
+    WasLoaded told file run_limit text → IsReadCause failure → IsFileCause told file reads reads' out out writes writes failure
+file_unread told file text reads reads' out writes Refused loaded h = ((text, loaded), refl)
+file_unread told file text reads reads' out writes Usage loaded h = h
+file_unread told file text reads reads' out writes (BadSequence found line) loaded h = h
+file_unread told file text reads reads' out writes (Unreadable source) loaded h = absurd h
+file_unread told file text reads reads' out writes OutputFailed loaded h = absurd h
+file_unread told file text reads reads' out writes (TooLong limit) loaded h = absurd h
+file_unread told file text reads reads' out writes (TooMany limit) loaded h = h
+file_unread told file text reads reads' out writes Memory loaded h = h
+
+pub file_unwritten : (told : Option (List ToldFile)) (file : List ℕ) (reads reads' : ℕ) (out out' : Option (List ℕ)) (writes writes' : ℕ) (failure : Failure) →
+    IsOutputCause writes writes' failure → IsFileCause told file reads reads' out out' writes writes' failure
+file_unwritten told file reads reads' out out' writes writes' Refused h = absurd h
+file_unwritten told file reads reads' out out' writes writes' Usage h = h
+file_unwritten told file reads reads' out out' writes writes' (BadSequence found line) h = h
+file_unwritten told file reads reads' out out' writes writes' (Unreadable source) h = absurd h
+file_unwritten told file reads reads' out out' writes writes' OutputFailed h = h
+file_unwritten told file reads reads' out out' writes writes' (TooLong limit) h = absurd h
+file_unwritten told file reads reads' out out' writes writes' (TooMany limit) h = h
+file_unwritten told file reads reads' out out' writes writes' Memory h = h
+
+-- ---- a judgement
+
+judge_cause : (file sequence : List ℕ) (bound : ℕ) (s : Sides) (failure : Failure) → IsFilesCause s.files file sequence s.reads s.reads' s.out s.out' s.writes s.writes' failure → HasJudgeCause file sequence bound s (Err failure)
+judge_cause file sequence bound s Refused h = h
+judge_cause file sequence bound s Usage h = h
+judge_cause file sequence bound s (BadSequence found line) h = h
+judge_cause file sequence bound s (Unreadable Program) h = h
+judge_cause file sequence bound s (Unreadable Sequence) h = h
+judge_cause file sequence bound s OutputFailed h = inl h
+judge_cause file sequence bound s (TooLong limit) h = h
+judge_cause file sequence bound s (TooMany limit) h = h
+judge_cause file sequence bound s Memory h = h
+
+pub judge_failed : (file sequence : List ℕ) (bound : ℕ) (s : Sides) (status : ℕ) (failure : Failure) → IsFilesCause s.files file sequence s.reads s.reads' s.out s.out' s.writes s.writes' failure →
+    Fails failure file sequence s.err s.err' s.lines s.lines' status → AnswersJudge file sequence bound s status
+judge_failed file sequence bound s status failure cause (inl (is, line)) =
+    record { outcome = Err failure; is = is; cause = judge_cause file sequence bound s failure cause; line = line_of file sequence s failure line }
+judge_failed file sequence bound s status failure cause (inr (seven, rose)) =
+    record { outcome = Err OutputFailed; is = seven; cause = inr rose; line = tt }
+
+pub first_unloaded : (told : Option (List ToldFile)) (file sequence : List ℕ) (reads reads' : ℕ) (failure : Failure) →
+    IsLoadCause told file Program judged_limit reads reads' failure → AreLoadCauses told file sequence reads reads' failure
+first_unloaded told file sequence reads reads' Refused h = h
+first_unloaded told file sequence reads reads' Usage h = h
+first_unloaded told file sequence reads reads' (BadSequence found line) h = h
+first_unloaded told file sequence reads reads' (Unreadable Program) h = h.1
+first_unloaded told file sequence reads reads' (Unreadable Sequence) h = absurd (let other : Sequence ≡ Program = h.0 in cc)
+first_unloaded told file sequence reads reads' OutputFailed h = h
+first_unloaded told file sequence reads reads' (TooLong limit) h = inl h
+first_unloaded told file sequence reads reads' (TooMany limit) h = h
+first_unloaded told file sequence reads reads' Memory h = h
+
+later_unread : (told : Option (List ToldFile)) (file : List ℕ) (reads mid reads' : ℕ) → reads ≤ mid → IsUnread told file mid reads' → IsUnread told file reads reads'
+later_unread told file reads mid reads' le (inl lacks) = inl lacks
+later_unread told file reads mid reads' le (inr rose) = inr (rose_behind reads mid reads' le rose)
+
+pub second_unloaded : (told : Option (List ToldFile)) (file sequence text : List ℕ) (reads mid reads' : ℕ) (failure : Failure) → WasLoaded told file judged_limit text → reads ≤ mid →
+    IsLoadCause told sequence Sequence sequence_limit mid reads' failure → AreLoadCauses told file sequence reads reads' failure
+second_unloaded told file sequence text reads mid reads' Refused loaded le h = h
+second_unloaded told file sequence text reads mid reads' Usage loaded le h = h
+second_unloaded told file sequence text reads mid reads' (BadSequence found line) loaded le h = h
+second_unloaded told file sequence text reads mid reads' (Unreadable Program) loaded le h = absurd (let other : Program ≡ Sequence = h.0 in cc)
+second_unloaded told file sequence text reads mid reads' (Unreadable Sequence) loaded le h = ((text, loaded), later_unread told sequence reads mid reads' le h.1)
+second_unloaded told file sequence text reads mid reads' OutputFailed loaded le h = h
+second_unloaded told file sequence text reads mid reads' (TooLong limit) loaded le h = inr (h.0, (text, loaded), h.1)
+second_unloaded told file sequence text reads mid reads' (TooMany limit) loaded le h = h
+second_unloaded told file sequence text reads mid reads' Memory loaded le h = h
+
+pub files_unloaded : (told : Option (List ToldFile)) (file sequence : List ℕ) (reads reads' : ℕ) (out : Option (List ℕ)) (writes : ℕ) (failure : Failure) →
+    AreLoadCauses told file sequence reads reads' failure → IsFilesCause told file sequence reads reads' out out writes writes failure
+files_unloaded told file sequence reads reads' out writes Refused h = absurd h
+files_unloaded told file sequence reads reads' out writes Usage h = h
+files_unloaded told file sequence reads reads' out writes (BadSequence found line) h = absurd h
+files_unloaded told file sequence reads reads' out writes (Unreadable Program) h = (h, refl)
+files_unloaded told file sequence reads reads' out writes (Unreadable Sequence) h = (h.0, h.1, refl)
+files_unloaded told file sequence reads reads' out writes OutputFailed h = absurd h
+files_unloaded told file sequence reads reads' out writes (TooLong limit) h = (h, refl)
+files_unloaded told file sequence reads reads' out writes (TooMany limit) h = absurd h
+files_unloaded told file sequence reads reads' out writes Memory h = h
+
+pub files_unjudged : (told : Option (List ToldFile)) (file sequence text lines : List ℕ) (reads reads' : ℕ) (out out' : Option (List ℕ)) (writes writes' : ℕ) (failure : Failure) →
+    WereLoaded told file sequence text lines → IsJudgeCause text lines out out' writes writes' failure → IsFilesCause told file sequence reads reads' out out' writes writes' failure
+files_unjudged told file sequence text lines reads reads' out out' writes writes' Refused loaded h = ((text, lines, loaded), h)
+files_unjudged told file sequence text lines reads reads' out out' writes writes' Usage loaded h = h
+files_unjudged told file sequence text lines reads reads' out out' writes writes' (BadSequence found line) loaded h = (record { text = text; lines = lines; loaded = loaded; fault = h.0 }, h.1)
+files_unjudged told file sequence text lines reads reads' out out' writes writes' (Unreadable Program) loaded h = absurd h
+files_unjudged told file sequence text lines reads reads' out out' writes writes' (Unreadable Sequence) loaded h = absurd h
+files_unjudged told file sequence text lines reads reads' out out' writes writes' OutputFailed loaded h = h
+files_unjudged told file sequence text lines reads reads' out out' writes writes' (TooLong limit) loaded h = absurd h
+files_unjudged told file sequence text lines reads reads' out out' writes writes' (TooMany limit) loaded h = (record { text = text; lines = lines; loaded = loaded; fault = h.0 }, h.1)
+files_unjudged told file sequence text lines reads reads' out out' writes writes' Memory loaded h = h
+
+pub text_unread : (text lines : List ℕ) (out : Option (List ℕ)) (writes : ℕ) (failure : Failure) → IsReadCause failure → IsJudgeCause text lines out out writes writes failure
+text_unread text lines out writes Refused h = refl
+text_unread text lines out writes Usage h = h
+text_unread text lines out writes (BadSequence found line) h = absurd h
+text_unread text lines out writes (Unreadable source) h = h
+text_unread text lines out writes OutputFailed h = absurd h
+text_unread text lines out writes (TooLong limit) h = h
+text_unread text lines out writes (TooMany limit) h = absurd h
+text_unread text lines out writes Memory h = h
+
+pub text_unjudged : (text lines : List ℕ) (p : PProgram) (types : TypeTable) (numbers : Numbering) (out out' : Option (List ℕ)) (writes writes' : ℕ) (failure : Failure) →
+    IsProgram text p types numbers → IsLinesCause p numbers lines out out' writes writes' failure → IsJudgeCause text lines out out' writes writes' failure
+text_unjudged text lines p types numbers out out' writes writes' Refused is h = absurd h
+text_unjudged text lines p types numbers out out' writes writes' Usage is h = h
+text_unjudged text lines p types numbers out out' writes writes' (BadSequence found line) is h = (record { program = p; types = types; numbers = numbers; is_program = is; fault = h.0 }, h.1)
+text_unjudged text lines p types numbers out out' writes writes' (Unreadable source) is h = h
+text_unjudged text lines p types numbers out out' writes writes' OutputFailed is h = h
+text_unjudged text lines p types numbers out out' writes writes' (TooLong limit) is h = h
+text_unjudged text lines p types numbers out out' writes writes' (TooMany limit) is h = (record { program = p; types = types; numbers = numbers; is_program = is; fault = h.0 }, h.1)
+text_unjudged text lines p types numbers out out' writes writes' Memory is h = h
+
+pub lines_refused : (p : PProgram) (numbers : Numbering) (lines : List ℕ) (out : Option (List ℕ)) (writes : ℕ) (found : SeqError) → (found ≢ error.Memory → HasFirstFault lines numbers p.names found) →
+    IsLinesCause p numbers lines out out writes writes (failure_of found)
+lines_refused p numbers lines out writes (error.BadLine line) h = (h (λ e. cc), refl)
+lines_refused p numbers lines out writes (error.OtherProgram line) h = (h (λ e. cc), refl)
+lines_refused p numbers lines out writes (error.BadNumber line) h = (h (λ e. cc), refl)
+lines_refused p numbers lines out writes (error.AfterEnd line) h = (h (λ e. cc), refl)
+lines_refused p numbers lines out writes (error.TooMany limit) h = (h (λ e. cc), refl)
+lines_refused p numbers lines out writes error.Memory h = tt
+
+pub lines_unwritten : (p : PProgram) (numbers : Numbering) (lines : List ℕ) (out out' : Option (List ℕ)) (writes writes' : ℕ) (failure : Failure) →
+    IsOutputCause writes writes' failure → IsLinesCause p numbers lines out out' writes writes' failure
+lines_unwritten p numbers lines out out' writes writes' Refused h = h
+lines_unwritten p numbers lines out out' writes writes' Usage h = h
+lines_unwritten p numbers lines out out' writes writes' (BadSequence found line) h = absurd h
+lines_unwritten p numbers lines out out' writes writes' (Unreadable source) h = h
+lines_unwritten p numbers lines out out' writes writes' OutputFailed h = h
+lines_unwritten p numbers lines out out' writes writes' (TooLong limit) h = h
+lines_unwritten p numbers lines out out' writes writes' (TooMany limit) h = absurd h
+lines_unwritten p numbers lines out out' writes writes' Memory h = h

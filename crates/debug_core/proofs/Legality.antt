@@ -15,13 +15,15 @@ use Rattle.ada_tree.specs.PlainProgram.{PProgram}
 use Rattle.syn_event.specs.declared.numbering.TaskInfo.{TaskInfo}
 use Rattle.syn_event.specs.declared.numbering.Mode.TheVariants as mode
 use Rattle.syn_event.specs.Numbering.{Numbering, task_named}
-use Rattle.syn_event.specs.Units.{decl_list, body_stmts, tasks_in, tasks_of, task_names, main_names, entry_names}
+use Rattle.syn_event.specs.Units.{decl_list, body_stmts, tasks_in, tasks_of, task_names, main_names, entry_names, text_of}
 use Rattle.syn_event.specs.Numbered.{numbers_of}
 use Rattle.syn_event.specs.FirstTypes.{first_types}
 use Rattle.syn_event.specs.Forms.{HasPlainForms}
-use Rattle.syn_event.specs.Legal.{Legal, IsBodyAmong, HoldsInBody, IsKnownCall, IsOwnAccept, predefined_count}
+use Rattle.syn_event.specs.Legal.{Legal, IsBodyAmong, HoldsInBody, IsKnownCall, IsOwnAccept, IsFitName, IsIdentifierName, predefined_count}
+use Rattle.debug_core.specs.SmallText.{AreIdentifiers}
 use Rattle.debug_core.specs.SmallRules.{IsFit, IsNewName, info_names, StmtHolds, TaskHolds, DeclHolds}
 use Rattle.debug_core.specs.SmallNumbers.{original_task, original_tasks, original_numbers}
+use Rattle.debug_core.proofs.Identifying.{name_is_identifier}
 use Rattle.debug_core.proofs.Originals.{IsFitTask, originals_are_numbers}
 
 -- the rules of tasks, from those of declarations
@@ -88,11 +90,11 @@ in_body names numbers all P from _ h = tt
 -- What was tested of a program and its numbers makes it legal.
 pub tested_is_legal :
     (p : PProgram) (numbers : Numbering) → HasPlainForms p → numbers ≡ original_numbers p.name.name (tasks_of p) →
-    length numbers.tasks ≤ 201 → length numbers.entries ≤ 1000 →
+    length numbers.tasks ≤ 201 → length numbers.entries ≤ 1000 → AreIdentifiers p.names →
     IsDistinct nat_eq (info_names numbers.tasks) → All (λ (info : TaskInfo). IsNewName p.names info.name.0) numbers.tasks →
     All (StmtHolds numbers 0) (body_stmts p.body) → All (DeclHolds p.names numbers (decl_list p.decls)) (decl_list p.decls) →
     Legal p first_types numbers mode.Original
-tested_is_legal p numbers forms counted few_tasks few_entries differ new in_main in_decls =
+tested_is_legal p numbers forms counted few_tasks few_entries words differ new in_main in_decls =
     let ts : List PTask = tasks_of p in
     let ds : List PDecl = decl_list p.decls in
     let tasks : numbers.tasks ≡ original_task p.name.name ∷ original_tasks ts = ap (λ (n : Numbering). n.tasks) counted in
@@ -118,9 +120,18 @@ tested_is_legal p numbers forms counted few_tasks few_entries differ new in_main
         in_main = All-weaker (StmtHolds numbers 0) (IsOwnAccept numbers 0) (λ stmt h. h.1) (body_stmts p.body) in_main;
         in_bodies = All-weaker (DeclHolds p.names numbers ds) (HoldsInBody numbers (IsOwnAccept numbers)) (in_body p.names numbers ds (IsOwnAccept numbers) (λ t stmt h. h.1)) ds in_decls;
       };
+      names_are_identifiers = record {
+        main = All-weaker (IsNewName p.names) (IsIdentifierName p.names) (λ name h. name_is_identifier p.names name words h.1.1) (main_names p) new_names;
+        entries =
+            All-weaker (TaskHolds p.names ds) _
+            (λ task h. All-weaker (IsFit p.names) (IsIdentifierName p.names) (λ name fit. name_is_identifier p.names name words fit.1) (entry_names task) h.fit) ts each_task;
+      };
       names_are_fit = record {
-        main = All-weaker (IsNewName p.names) (IsFit p.names) (λ name h. h.1) (main_names p) new_names;
-        entries = All-weaker (TaskHolds p.names ds) _ (λ task h. h.fit) ts each_task;
+        main = All-weaker (IsNewName p.names) (λ (name : ℕ). IsFitName mode.Original (text_of p.names record { 0 = name })) (λ name h. h.1.0) (main_names p) new_names;
+        entries =
+            All-weaker (TaskHolds p.names ds) _
+            (λ task h. All-weaker (IsFit p.names) (λ (name : ℕ). IsFitName mode.Original (text_of p.names record { 0 = name })) (λ name fit. fit.0) (entry_names task) h.fit) ts
+            each_task;
       };
       counts_are_fit = record {
         tasks = omega (arith, few_tasks, count);

@@ -5,9 +5,13 @@ pub mod Saying
 pub mod Numbered
 pub mod Differing
 pub mod Ruling
+pub mod Identifying
 pub mod Originals
 pub mod Legality
 pub mod Together
 pub mod Lining
 pub mod Textual
 pub mod Closing
+pub mod Uppering
+pub mod Feeding
+pub mod Judged

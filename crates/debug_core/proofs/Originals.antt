@@ -21,7 +21,7 @@ IsFitTask names task = IsFit names task.name.name.0 × AllByRecursion (λ (entry
 
 -- a fit name is no rewriter's
 not_added : (names : List (List ℕ)) (id : NameId) → IsFit names id.0 → is_added_name names id ≡ false
-not_added names id fit = fit.1.start
+not_added names id fit = fit.0.1.start
 
 neither : (a b : Bool) → a ≡ false → b ≡ false → (a || b) ≡ false
 neither a b ea eb = ap (λ (x : Bool). x || b) ea ∙ eb

@@ -20,7 +20,7 @@ use Rattle.syn_event.specs.FirstTypes.{first_types}
 use Rattle.syn_event.specs.Forms.{HasPlainForms, AreTasksThenBodies, IsPlainBody}
 use Rattle.syn_event.specs.Legal.{Legal}
 use Rattle.debug_core.specs.declared.small.items.Item.{Item}
-use Rattle.debug_core.specs.SmallText.{IsSmallText, SayAll, SpellsUnit, signs}
+use Rattle.debug_core.specs.SmallText.{IsSmallText, SayAll, SpellsUnit, AreIdentifiers, signs}
 use Rattle.debug_core.specs.SmallRules.{IsNewName, info_names, StmtHolds, DeclHolds}
 use Rattle.debug_core.specs.SmallNumbers.{original_numbers}
 use Rattle.debug_core.proofs.Rowed.{decl_list-decls_of, body_stmts-out}
@@ -49,16 +49,16 @@ spelled_is_small bytes names tokens items name decls its splits says spelled for
 pub read_is_legal :
     (program : Program) (numbers : Numbering) (decls : List Decl) → decls ≡ program.decls.items → HasPlainForms (plain_program program) →
     numbers ≡ original_numbers program.name.name (tasks_in (map plain_decl decls)) →
-    length numbers.tasks ≤ 201 → length numbers.entries ≤ 1000 →
+    length numbers.tasks ≤ 201 → length numbers.entries ≤ 1000 → AreIdentifiers program.names →
     IsDistinct nat_eq (info_names numbers.tasks) → All (λ (info : TaskInfo). IsNewName program.names info.name.0) numbers.tasks →
     All (λ (stmt : Stmt). StmtHolds numbers 0 (plain_stmt stmt)) (out-Body program.body).stmts.items →
     All (λ (decl : Decl). DeclHolds program.names numbers (map plain_decl program.decls.items) (plain_decl decl)) program.decls.items →
     Legal (plain_program program) first_types numbers mode.Original
-read_is_legal program numbers decls lent forms counted few_tasks few_entries differ new in_main in_decls =
+read_is_legal program numbers decls lent forms counted few_tasks few_entries words differ new in_main in_decls =
     let ds : List PDecl = map plain_decl program.decls.items in
     let same = sym (decl_list-decls_of ds) in
     tested_is_legal (plain_program program) numbers forms
     (counted ∙ ap (λ (xs : List Decl). original_numbers program.name.name (tasks_in (map plain_decl xs))) lent ∙ ap (λ (xs : List PDecl). original_numbers program.name.name (tasks_in xs)) same)
-    few_tasks few_entries differ new
+    few_tasks few_entries words differ new
     (subst (λ (xs : List PStmt). All (StmtHolds numbers 0) xs) (sym (body_stmts-out program.body)) (All-map (StmtHolds numbers 0) plain_stmt (out-Body program.body).stmts.items in_main))
     (subst (λ (xs : List PDecl). All (DeclHolds program.names numbers xs) xs) same (All-map (DeclHolds program.names numbers ds) plain_decl program.decls.items in_decls))

@@ -1,6 +1,8 @@
--- The words of a run, as what is asked for.
-use Rattle.debug_core.specs.declared.command.RunWords.{RunWords}
-use Rattle.debug_core.specs.Words.{Asked, AsksRun}
+-- The words of a command, as what is asked for.
+use Rattle.debug_core.specs.declared.command.Command.{Command}
+use Rattle.debug_core.specs.declared.command.Command.TheVariants.{Run, Judge}
+use Rattle.debug_core.specs.Words.{Asked, AsksRun, AsksJudge}
 
-abbrev pub asked_as : RunWords → Asked
-asked_as run = AsksRun run.file.now run.turns
+abbrev pub asked_as : Command → Asked
+asked_as (Run words) = AsksRun words.file.now words.turns
+asked_as (Judge words) = AsksJudge words.file.now words.sequence.now words.bound

@@ -5,4 +5,9 @@ pub mod SmallNumbers
 pub mod Words
 pub mod RunText
 pub mod Commands
+pub mod Failures
+pub mod Causes
+pub mod RunAnswers
+pub mod JudgeAnswers
+pub mod Fed
 pub mod Answers

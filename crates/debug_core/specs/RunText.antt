@@ -1,6 +1,5 @@
 -- The text that a run writes (this project's format).
-use Rattle.std.specs.Prelude.{ℕ, ℤ, ◌+◌, List, [], ◌∷◌, Option, Some, None, codes, decimal, zip, length}
-use Rattle.std.specs.Fmt.{signed_decimal}
+use Rattle.std.specs.Prelude.{ℕ, ◌+◌, List, [], ◌∷◌, codes, decimal, zip, length}
 use Rattle.ded_io.specs.Written.{◌⧺◌, each_text}
 use Rattle.event_machine.specs.declared.Event.{Event}
 use Rattle.interp.specs.declared.report.RunEnd.{RunEnd}
@@ -8,6 +7,7 @@ use Rattle.interp.specs.declared.report.RunEnd.TheVariants.{Ended, Stuck, Turns}
 use Rattle.interp.specs.Lines.{lines_of}
 use Rattle.syn_event.specs.declared.numbering.TaskInfo.{TaskInfo}
 use Rattle.syn_event.specs.Numbering.{Numbering, original_tasks, original_entries}
+use Rattle.syn_event.specs.TaskText.{task_text}
 use Rattle.syn_event.specs.Units.{text_of}
 
 -- the name of the program and how many tasks beside main and entries the original has
@@ -24,14 +24,9 @@ end_word Turns = codes "end turns "
 abbrev pub end_line : RunEnd → ℕ → List ℕ
 end_line end made = end_word end ⧺ (decimal made ⧺ codes "\n")
 
--- the index of a member of an array of tasks
-abbrev pub member_text : Option ℤ → List ℕ
-member_text None = []
-member_text (Some index) = codes "(" ⧺ (signed_decimal index ⧺ codes ")")
-
 -- a task's number and its name; no task has written anything so far
 abbrev pub task_line : List (List ℕ) → ℕ → TaskInfo → List ℕ
-task_line names t info = codes "task " ⧺ (decimal t ⧺ (codes " " ⧺ (text_of names info.name ⧺ (member_text info.member ⧺ codes "\n"))))
+task_line names t info = task_text names t info ⧺ codes "\n"
 
 -- the lines of tasks that are numbered from t on
 abbrev pub task_lines : List (List ℕ) → ℕ → List TaskInfo → List ℕ

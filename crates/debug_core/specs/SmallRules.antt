@@ -1,5 +1,5 @@
 -- What the tests of the reader say of each part of a program, from which the static rules follow.
-use Rattle.std.specs.Prelude.{◌≡◌, ℕ, ◌<◌, ◌≤◌, List, map, count_by, nat_eq, All, IsSome, ⊤}
+use Rattle.std.specs.Prelude.{◌≡◌, ℕ, ◌<◌, ◌≤◌, List, map, count_by, nat_eq, All, IsSome, slice_get, ⊤}
 use Rattle.std.specs.List.{IsDistinct}
 use Rattle.std.specs.Option.{IsSomeAnd}
 use Rattle.ada_tree.specs.declared.naming.NameId.{NameId}
@@ -11,9 +11,9 @@ use Rattle.syn_event.specs.Numbering.{Numbering, task_named, entry_named}
 use Rattle.syn_event.specs.Units.{text_of, body_stmts, entry_names, is_body_of}
 use Rattle.syn_event.specs.Legal.{predefined_count, IsFitName, IsKnownCall, IsOwnAccept}
 
--- the name of an original is fit
+-- the name is one of the list, and it is fit in an original
 abbrev pub IsFit : List (List ℕ) → ℕ → Type 0
-IsFit names name = IsFitName mode.Original (text_of names record { 0 = name })
+IsFit names name = IsFitName mode.Original (text_of names record { 0 = name }) × IsSome (slice_get names name)
 
 -- a name of main is not predefined, and it is fit
 abbrev pub IsNewName : List (List ℕ) → ℕ → Type 0

@@ -1,5 +1,5 @@
 -- What a small text is: its tokens, and the programs that they spell (this project's first, smallest part of the language).
-use Rattle.std.specs.Prelude.{◌≡◌, ℕ, ◌<◌, false, List, [], ◌∷◌, ◌++◌, length, map, Some, slice_get, slice_range, ◌⊎◌}
+use Rattle.std.specs.Prelude.{◌≡◌, ℕ, ◌<◌, false, List, [], ◌∷◌, ◌++◌, length, map, Some, slice_get, slice_range, ◌⊎◌, All, IsTrue}
 use Rattle.std.specs.List.{flat_map, AllZip}
 use Rattle.std.specs.Char.{to_ascii_uppercase}
 use Rattle.ada_lexer.specs.declared.kinds.Token.{Token}
@@ -7,6 +7,7 @@ use Rattle.ada_lexer.specs.declared.kinds.TokenKind.{TokenKind}
 use Rattle.ada_lexer.specs.declared.kinds.TokenKind.TheVariants as kind
 use Rattle.ada_lexer.specs.Split.{Splits}
 use Rattle.ada_tree.specs.declared.naming.NameId.{NameId}
+use Rattle.ada_tree.specs.Lexical.{is_word}
 use Rattle.ada_tree.specs.PlainStmt.{PStmt, SNull, SCall, SAccept, accepting}
 use Rattle.ada_tree.specs.PlainDecl.{PDecl, PEntry, DTask, DTaskBody, PTask}
 use Rattle.ada_tree.specs.PlainProgram.{PProgram}
@@ -44,6 +45,10 @@ Says bytes names token (Name id) = (token.kind ≡ kind.Name) × (slice_get name
 -- the tokens say these, one by one
 abbrev pub SayAll : List ℕ → List (List ℕ) → List Token → List Sign → Type 0
 SayAll bytes names tokens said = AllZip (Says bytes names) tokens said
+
+-- each name is an identifier in upper case (2.3)
+abbrev pub AreIdentifiers : List (List ℕ) → Type 0
+AreIdentifiers names = All (λ name. IsTrue (is_word name)) names
 
 -- each name keeps its text
 abbrev pub Keeps : List (List ℕ) → List (List ℕ) → Type 0

@@ -1,9 +1,12 @@
 -- The rows of words that the program takes (this project's rule).
 use Rattle.std.specs.Prelude.{ℕ, ◌+◌, ◌-◌, ◌*◌, Bool, true, false, not, ◌&&◌, ◌||◌, nat_le, List, [], ◌∷◌, length, nat_eq, Option, Some, None, option_map, option_and_then, if◌then◌else◌, codes, bytes_eq}
 
--- What is asked for: a run of the program in a file, with a number of turns.
+-- What is asked for.
 pub data Asked : Type 0 where
+  -- a run of the program in a file, with a number of turns
   AsksRun : List ℕ → ℕ → Asked
+  -- judging the sequence in the second file for the program in the first, with a number of local steps
+  AsksJudge : List ℕ → List ℕ → ℕ → Asked
 
 -- the value of decimal digits behind a value so far
 abbrev pub value_behind : ℕ → List ℕ → Option ℕ
@@ -20,13 +23,15 @@ begins_well (digit ∷ digits) = not (nat_eq digit 48)
 abbrev pub in_range : ℕ → Option ℕ
 in_range n = if nat_le n 100000000 then Some n else None
 
-abbrev pub turns_of : List ℕ → Option ℕ
-turns_of word = if begins_well word && nat_le (length word) 9 then option_and_then in_range (value_behind 0 word) else None
+abbrev pub number_of : List ℕ → Option ℕ
+number_of word = if begins_well word && nat_le (length word) 9 then option_and_then in_range (value_behind 0 word) else None
 
--- run FILE - - TURNS
+-- run FILE - - TURNS, and judge FILE - SEQUENCE STEPS
 abbrev pub asked_by : List (List ℕ) → Option Asked
-asked_by (command ∷ file ∷ inputs ∷ choices ∷ turns ∷ []) =
-    if bytes_eq command (codes "run") && (bytes_eq inputs (codes "-") && bytes_eq choices (codes "-"))
-    then option_map (AsksRun file) (turns_of turns)
-    else None
+asked_by (command ∷ file ∷ inputs ∷ other ∷ number ∷ []) =
+    if bytes_eq command (codes "run") && (bytes_eq inputs (codes "-") && bytes_eq other (codes "-"))
+    then option_map (AsksRun file) (number_of number)
+    else (if bytes_eq command (codes "judge") && bytes_eq inputs (codes "-")
+    then option_map (AsksJudge file other) (number_of number)
+    else None)
 asked_by _ = None

@@ -1,24 +1,42 @@
 // The words that the program is called with.
 
 ghost use Rattle.std.specs.Prelude.{◌≡◌, ◌≤◌, ◌<◌, map, option_map, string_bytes, length, IfSome};
-ghost use Rattle.debug_core.specs.Words.{AsksRun, asked_by, turns_of, value_behind, begins_well};
+ghost use Rattle.debug_core.specs.Words.{AsksRun, AsksJudge, asked_by, number_of, value_behind, begins_well};
 ghost use Rattle.debug_core.specs.Commands.{asked_as};
 
-/// What the words ask for: a run of the program in a file, of at most so many turns.
+/// What the words ask for.
+#[derive(Clone, Copy)]
+pub(crate) enum Command<'w> {
+    Run(RunWords<'w>),
+    Judge(JudgeWords<'w>),
+}
+
+/// A run of the program in a file, of at most so many turns.
 #[derive(Clone, Copy)]
 pub(crate) struct RunWords<'w> {
     pub(crate) file: &'w str,
     pub(crate) turns: u64,
 }
 
+/// The verdict on the sequence in a file for the program in another, where a task may make so many local steps between the events that
+/// change it.
+#[derive(Clone, Copy)]
+pub(crate) struct JudgeWords<'w> {
+    pub(crate) file: &'w str,
+    pub(crate) sequence: &'w str,
+    pub(crate) bound: u64,
+}
+
 // What the words ask for; none where they are no row of words.
-pub(crate) fn command_of<'w>(words: &'w [String]) -> Option<RunWords<'w>>
+pub(crate) fn command_of<'w>(words: &'w [String]) -> Option<Command<'w>>
     ensures { option_map asked_as result ≡ asked_by (map string_bytes words.now) }
 {
     match words {
-        [command, file, inputs, choices, turns] => {
-            if command.as_str() == "run" && (inputs.as_str() == "-" && choices.as_str() == "-") {
-                run_of(file.as_str(), turns.as_str())
+        [command, file, inputs, other, number] => {
+            if command.as_str() == "run" && (inputs.as_str() == "-" && other.as_str() == "-") {
+                run_of(file.as_str(), number.as_str())
+            } else if command.as_str() == "judge" && inputs.as_str() == "-" {
+                judge_of(file.as_str(), other.as_str(), number.as_str())
             } else {
                 None
             }
@@ -28,18 +46,32 @@ pub(crate) fn command_of<'w>(words: &'w [String]) -> Option<RunWords<'w>>
 }
 
 // A run of the file, where the word is a number of turns.
-fn run_of<'w>(file: &'w str, word: &str) -> Option<RunWords<'w>>
-    ensures { option_map asked_as result ≡ option_map (AsksRun file.now) (turns_of word.now) }
+fn run_of<'w>(file: &'w str, word: &str) -> Option<Command<'w>>
+    ensures { option_map asked_as result ≡ option_map (AsksRun file.now) (number_of word.now) }
 {
-    match number_of_turns(word.as_bytes()) {
-        Some(turns) => Some(RunWords { file, turns }),
+    match number_of(word.as_bytes()) {
+        Some(turns) => Some(Command::Run(RunWords { file, turns })),
         None => None,
     }
 }
 
-// The number of turns that the word gives.
-fn number_of_turns(word: &[u8]) -> Option<u64>
-    ensures { result ≡ turns_of word.now }
+// The judging of the sequence, where the word is a number of local steps.
+fn judge_of<'w>(file: &'w str, sequence: &'w str, word: &str) -> Option<Command<'w>>
+    ensures { option_map asked_as result ≡ option_map (AsksJudge file.now sequence.now) (number_of word.now) }
+{
+    match number_of(word.as_bytes()) {
+        Some(bound) => Some(Command::Judge(JudgeWords {
+            file,
+            sequence,
+            bound,
+        })),
+        None => None,
+    }
+}
+
+// The number from 1 to 100,000,000 that the word gives.
+fn number_of(word: &[u8]) -> Option<u64>
+    ensures { result ≡ number_of word.now }
 {
     if starts_well(word) && word.len() <= 9 {
         match value_of(word) {

@@ -1,27 +1,50 @@
-// Why the program ends with another status than that of a run, and the line that it then puts on the error output.
+// Why the program ends with another status than that of what it was asked for, and the line that it then puts on the error output.
 
-ghost use Rattle.std.specs.Prelude.{◌≡◌};
+ghost use Rattle.std.specs.Prelude.{◌≡◌, decimal};
 ghost use Rattle.ded_io.specs.Counts.{HasCause};
 ghost use Rattle.ded_io.specs.Written.{Wrote};
-ghost use Rattle.debug_core.specs.Answers.{failure_line, failure_status, fixed_line, unread_line, unread_words};
+ghost use Rattle.seq_file.specs.declared.errors.SeqError.{SeqError};
+ghost use Rattle.debug_core.specs.Failures.{failure_line, failure_status, first_words, fault_name, named_line, fault_line, Fails, failure_of};
 
 use ded_io::{Sink, SinkError};
+use itoa::Buffer;
+use seq_file::SeqError;
 
-/// Why no run was made, or not all of its text was written.
+/// Why a command was not carried out, or not all of its text was written.
 #[derive(Clone, Copy, Debug, PartialEq, Eq)]
 pub(crate) enum Failure {
     /// The private reader does not take the program's text.
     Refused,
     /// The words are no row of words.
     Usage,
-    /// The program's file cannot be read.
-    Unreadable,
+    /// The sequence is refused, at a line.
+    BadSequence { fault: SequenceFault, line: u32 },
+    /// A file cannot be read.
+    Unreadable(Source),
     /// An output cannot be written.
     OutputFailed,
-    /// The program's file is longer than the limit.
-    TooLong,
+    /// A file is longer than the limit, in bytes.
+    TooLong { limit: u64 },
+    /// The sequence has more events than the limit.
+    TooMany { limit: u32 },
     /// There was no memory.
     Memory,
+}
+
+/// What is wrong with the first bad line of a sequence.
+#[derive(Clone, Copy, Debug, PartialEq, Eq)]
+pub(crate) enum SequenceFault {
+    BadLine,
+    OtherProgram,
+    BadNumber,
+    AfterEnd,
+}
+
+/// Which of the files that the words name.
+#[derive(Clone, Copy, Debug, PartialEq, Eq)]
+pub(crate) enum Source {
+    Program,
+    Sequence,
 }
 
 impl Failure {
@@ -32,61 +55,144 @@ impl Failure {
         match self {
             Failure::Refused => 1,
             Failure::Usage => 2,
-            Failure::Unreadable => 6,
+            Failure::BadSequence { .. } => 3,
+            Failure::Unreadable(_) => 6,
             Failure::OutputFailed => 7,
-            Failure::TooLong => 8,
+            Failure::TooLong { .. } => 8,
+            Failure::TooMany { .. } => 8,
             Failure::Memory => 9,
         }
     }
 }
 
-// Writes the line of a failure, with the file's name where it has one.
-pub(crate) fn put_failure<K: Sink>(
-    failure: Failure,
-    file: &str,
-    err: &mut K,
-) -> Result<(), SinkError>
-    ensures bytes { Wrote result (K.told err.old) (K.told err.new) (failure_line file.now failure) }
-    ensures cause { HasCause (K.faults err.old) (K.faults err.new) result }
+// The failure that refusing a sequence is.
+pub(crate) fn failure_of(error: SeqError) -> Failure
+    ensures { result ≡ failure_of error }
 {
-    match failure {
-        Failure::Unreadable => put_unread(file, err),
-        Failure::Refused => err.put(line_of(Failure::Refused)),
-        Failure::Usage => err.put(line_of(Failure::Usage)),
-        Failure::OutputFailed => err.put(line_of(Failure::OutputFailed)),
-        Failure::TooLong => err.put(line_of(Failure::TooLong)),
-        Failure::Memory => err.put(line_of(Failure::Memory)),
+    match error {
+        SeqError::BadLine { line } => Failure::BadSequence {
+            fault: SequenceFault::BadLine,
+            line,
+        },
+        SeqError::OtherProgram { line } => Failure::BadSequence {
+            fault: SequenceFault::OtherProgram,
+            line,
+        },
+        SeqError::BadNumber { line } => Failure::BadSequence {
+            fault: SequenceFault::BadNumber,
+            line,
+        },
+        SeqError::AfterEnd { line } => Failure::BadSequence {
+            fault: SequenceFault::AfterEnd,
+            line,
+        },
+        SeqError::TooMany { limit } => Failure::TooMany { limit },
+        SeqError::Memory => Failure::Memory,
     }
 }
 
-// Writes that the file cannot be read.
-#[tactic(auto, using(ded_io::proofs::Writes::writes))]
-fn put_unread<K: Sink>(file: &str, err: &mut K) -> Result<(), SinkError>
-    ensures bytes { Wrote result (K.told err.old) (K.told err.new) (unread_line file.now) }
+// The status of a failure, whose line is written.
+pub(crate) fn fail<E: Sink>(failure: Failure, program: &str, sequence: &str, err: &mut E) -> u8
+    ensures { Fails failure program.now sequence.now (E.told err.old) (E.told err.new) (E.faults err.old) (E.faults err.new) result }
+{
+    match put_failure(failure, program, sequence, err) {
+        Ok(()) => failure.status(),
+        Err(_) => Failure::OutputFailed.status(),
+    }
+}
+
+// Writes the line of a failure, with the file's name where it has one.
+fn put_failure<K: Sink>(
+    failure: Failure,
+    program: &str,
+    sequence: &str,
+    err: &mut K,
+) -> Result<(), SinkError>
+    ensures bytes { Wrote result (K.told err.old) (K.told err.new) (failure_line program.now sequence.now failure) }
     ensures cause { HasCause (K.faults err.old) (K.faults err.new) result }
 {
-    err.put(words_before_name())?;
+    match failure {
+        Failure::Refused => err.put(first_words(Failure::Refused)),
+        Failure::Usage => err.put(first_words(Failure::Usage)),
+        Failure::BadSequence { fault, line } => put_fault(fault, line, err),
+        Failure::Unreadable(Source::Program) => put_unread(Source::Program, program, err),
+        Failure::Unreadable(Source::Sequence) => put_unread(Source::Sequence, sequence, err),
+        Failure::OutputFailed => err.put(first_words(Failure::OutputFailed)),
+        Failure::TooLong { limit } => put_limit(Failure::TooLong { limit }, limit, err),
+        Failure::TooMany { limit } => put_limit(Failure::TooMany { limit }, limit as u64, err),
+        Failure::Memory => err.put(first_words(Failure::Memory)),
+    }
+}
+
+// Writes what is wrong with a sequence, and where.
+#[tactic(auto, using(ded_io::proofs::Writes::writes))]
+fn put_fault<K: Sink>(fault: SequenceFault, line: u32, err: &mut K) -> Result<(), SinkError>
+    ensures bytes { Wrote result (K.told err.old) (K.told err.new) (fault_line (first_words (Failure.BadSequence fault line)) fault line) }
+    ensures cause { HasCause (K.faults err.old) (K.faults err.new) result }
+{
+    err.put(first_words(Failure::BadSequence { fault, line }))?;
+    err.put(name_of(fault))?;
+    err.put(b" at line ")?;
+    put_number(line as u64, err)?;
+    err.put(b"\n")
+}
+
+// Writes that a file cannot be read.
+#[tactic(auto, using(ded_io::proofs::Writes::writes))]
+fn put_unread<K: Sink>(source: Source, file: &str, err: &mut K) -> Result<(), SinkError>
+    ensures bytes { Wrote result (K.told err.old) (K.told err.new) (named_line (first_words (Failure.Unreadable source)) file.now) }
+    ensures cause { HasCause (K.faults err.old) (K.faults err.new) result }
+{
+    err.put(first_words(Failure::Unreadable(source)))?;
     err.put(file.as_bytes())?;
     err.put(b"\n")
 }
 
-// The line of a failure that names no file.
-fn line_of(failure: Failure) -> &'static [u8]
-    ensures { result.now ≡ fixed_line failure }
+// Writes that a limit is passed.
+#[tactic(auto, using(ded_io::proofs::Writes::writes))]
+fn put_limit<K: Sink>(failure: Failure, limit: u64, err: &mut K) -> Result<(), SinkError>
+    ensures bytes { Wrote result (K.told err.old) (K.told err.new) (named_line (first_words failure) (decimal limit)) }
+    ensures cause { HasCause (K.faults err.old) (K.faults err.new) result }
+{
+    err.put(first_words(failure))?;
+    put_number(limit, err)?;
+    err.put(b"\n")
+}
+
+// Writes a number in decimal.
+fn put_number<K: Sink>(n: u64, err: &mut K) -> Result<(), SinkError>
+    ensures bytes { Wrote result (K.told err.old) (K.told err.new) (decimal n) }
+    ensures cause { HasCause (K.faults err.old) (K.faults err.new) result }
+{
+    let mut buffer = Buffer::new();
+    err.put(buffer.format(n).as_bytes())
+}
+
+// The name of what is wrong with a line of a sequence.
+fn name_of(fault: SequenceFault) -> &'static [u8]
+    ensures { result.now ≡ fault_name fault }
+{
+    match fault {
+        SequenceFault::BadLine => b"BadLine",
+        SequenceFault::OtherProgram => b"OtherProgram",
+        SequenceFault::BadNumber => b"BadNumber",
+        SequenceFault::AfterEnd => b"AfterEnd",
+    }
+}
+
+// The words that the line of a failure begins with, or all of it.
+#[tactic(auto, unfolding(crate::specs::Failures::first_words))]
+fn first_words(failure: Failure) -> &'static [u8]
+    ensures { result.now ≡ first_words failure }
 {
     match failure {
         Failure::Refused => b"ded: program refused: NotYet at 1:1\n",
         Failure::Usage => b"ded: usage\n",
-        Failure::Unreadable | Failure::OutputFailed => b"",
-        Failure::TooLong => b"ded: limit file 33554432\n",
+        Failure::BadSequence { .. } => b"ded: sequence refused: ",
+        Failure::Unreadable(_) => b"ded: cannot read ",
+        Failure::OutputFailed => b"",
+        Failure::TooLong { .. } => b"ded: limit file ",
+        Failure::TooMany { .. } => b"ded: limit events ",
         Failure::Memory => b"ded: out of memory\n",
     }
-}
-
-// The words before the name of a file that cannot be read.
-#[tactic(auto, unfolding(crate::specs::Answers::unread_words))]
-fn words_before_name() -> &'static [u8]
-    ensures { result.now ≡ unread_words }
-{
-    b"ded: cannot read "
 }

@@ -3,6 +3,8 @@
 
 mod command;
 mod failing;
+mod judge_command;
+mod loading;
 mod run_command;
 mod run_text;
 #[tactic(auto, using(ada_tree::proofs::Rows::rows))]

@@ -1,17 +1,17 @@
 // The command that runs a program.
 
-ghost use Rattle.std.specs.Prelude.{◌≡◌, ◌≤◌, ◌⊎◌, IfOk, IfErr, OnOk};
-ghost use Rattle.ada_tree.specs.NameList.{AreNames};
+ghost use Rattle.std.specs.Prelude.{◌≡◌, IfOk, IfErr};
 ghost use Rattle.ada_tree.specs.PlainProgram.{plain_program};
-ghost use Rattle.ded_io.specs.Told.{Lacks};
-ghost use Rattle.debug_core.specs.Answers.{HasRun, IsFileCause, IsReadCause, WasRead, RunWritten, IsOutputCause};
+ghost use Rattle.debug_core.specs.RunAnswers.{AnswersRun, HasRun, IsFileCause, RunWritten, IsOutputCause, run_status};
 ghost use Rattle.syn_event.specs.Legal.{Legal};
 
-use crate::failing::Failure;
+use crate::command::RunWords;
+use crate::failing::{Failure, Source, fail};
+use crate::loading::{load_file, read_program};
 use crate::run_text::{put_header, put_rest};
-use crate::small::{SmallProgram, SmallRefusal, read_small};
+use crate::small::SmallProgram;
 use ada_value::Inputs;
-use ded_io::{Files, ListChooser, LoadError, Sink};
+use ded_io::{Files, ListChooser, Sink};
 use interp::{RunEnd, RunError, run};
 use std::alloc::Global;
 use syn_event::Mode;
@@ -20,26 +20,48 @@ use task_machine::Machine;
 // A program's file has at most this many bytes.
 const FILE_LIMIT: u64 = 33_554_432;
 
-// Reads the program that the file holds.
-fn read_program<F: Files>(alloc: Global, file: &str, files: &mut F) -> Result<SmallProgram, Failure>
-    ensures read { IfOk result (λ small. WasRead (F.told files.old) file.now (plain_program small.program) small.types small.numbers) }
-    ensures cause { IfErr result (IsReadCause (F.told files.old) file.now (F.faults files.old) (F.faults files.new)) }
+// Runs the program, and answers the status.
+pub(crate) fn run_command<F: Files, O: Sink, E: Sink>(
+    alloc: Global,
+    asked: RunWords<'_>,
+    files: &mut F,
+    out: &mut O,
+    err: &mut E,
+) -> u8
+    ensures { AnswersRun asked.entry.file.now asked.entry.turns
+        record {
+          files = F.told files.old;
+          reads = F.faults files.old;
+          reads' = F.faults files.new;
+          out = O.told out.old;
+          out' = O.told out.new;
+          writes = O.faults out.old;
+          writes' = O.faults out.new;
+          err = E.told err.old;
+          err' = E.told err.new;
+          lines = E.faults err.old;
+          lines' = E.faults err.new;
+        } result }
 {
-    let bytes = match files.load(alloc, file, FILE_LIMIT) {
-        Ok(bytes) => bytes,
-        Err(LoadError::Failed) => return Err(Failure::Unreadable),
-        Err(LoadError::TooLong { .. }) => return Err(Failure::TooLong),
-        Err(LoadError::Memory) => return Err(Failure::Memory),
-    };
-    match read_small(alloc, &bytes) {
-        Ok(small) => Ok(small),
-        Err(SmallRefusal::NotSmall) => Err(Failure::Refused),
-        Err(SmallRefusal::Memory) => Err(Failure::Memory),
+    match run_file(alloc, asked.file, asked.turns, files, out) {
+        Ok(end) => status_of(end),
+        Err(failure) => fail(failure, asked.file, "", err),
+    }
+}
+
+// The status of a run.
+fn status_of(end: RunEnd) -> u8
+    ensures { result ≡ run_status end }
+{
+    match end {
+        RunEnd::Ended => 0,
+        RunEnd::Stuck => 10,
+        RunEnd::Turns => 11,
     }
 }
 
 // What running a file comes to: how the run ended, or why it was not made or not written.
-pub(crate) fn run_file<F: Files, K: Sink>(
+fn run_file<F: Files, K: Sink>(
     alloc: Global,
     file: &str,
     turns: u64,
@@ -49,7 +71,11 @@ pub(crate) fn run_file<F: Files, K: Sink>(
     ensures ran { IfOk result (HasRun (F.told files.old) file.now turns (K.told out.old) (K.told out.new)) }
     ensures cause { IfErr result (IsFileCause (F.told files.old) file.now (F.faults files.old) (F.faults files.new) (K.told out.old) (K.told out.new) (K.faults out.old) (K.faults out.new)) }
 {
-    match read_program(alloc, file, files) {
+    let text = match load_file(alloc, file, Source::Program, FILE_LIMIT, files) {
+        Ok(text) => text,
+        Err(failure) => return Err(failure),
+    };
+    match read_program(alloc, &text) {
         Ok(small) => write_run(alloc, &small, turns, out),
         Err(failure) => Err(failure),
     }
@@ -63,7 +89,6 @@ fn write_run<K: Sink>(
     out: &mut K,
 ) -> Result<RunEnd, Failure>
     requires { Legal (plain_program small.now.program) small.now.types small.now.numbers Mode.Original }
-    ensures named { OnOk result (AreNames (plain_program small.now.program).names) }
     ensures written { IfOk result (RunWritten (plain_program small.now.program) small.now.numbers turns (K.told out.old) (K.told out.new)) }
     ensures cause { IfErr result (IsOutputCause (K.faults out.old) (K.faults out.new)) }
 {

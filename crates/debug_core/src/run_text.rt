@@ -1,18 +1,17 @@
 // The text of a run around its events.
 
-ghost use Rattle.std.specs.Prelude.{◌≡◌, decimal, OnOk};
+ghost use Rattle.std.specs.Prelude.{◌≡◌, ◌<◌, ◌^◌, decimal, length, OnOk};
 ghost use Rattle.ada_tree.specs.NameList.{AreNames};
 ghost use Rattle.ded_io.specs.Counts.{HasCause};
 ghost use Rattle.ded_io.specs.Written.{Wrote};
-ghost use Rattle.debug_core.specs.RunText.{header, end_line, end_word, task_line, task_lines, member_text, rest_of_run};
+ghost use Rattle.debug_core.specs.RunText.{header, end_line, end_word, task_line, task_lines, rest_of_run};
 ghost use Rattle.syn_event.specs.Numbering.{is_original_task, is_original_entry, original_tasks, original_entries};
-ghost use Rattle.syn_event.specs.Units.{text_of};
 
-use ada_tree::{NameId, Names};
+use ada_tree::Names;
 use ded_io::{Sink, SinkError};
 use interp::{RunEnd, RunReport};
 use itoa::Buffer;
-use syn_event::{EntryInfo, Numbers, TaskInfo};
+use syn_event::{EntryInfo, Numbers, TaskInfo, name_of, show_task};
 
 // Writes the first line: the program's name and how many tasks and entries the original has.
 #[tactic(auto, using(ded_io::proofs::Writes::writes))]
@@ -32,17 +31,6 @@ pub(crate) fn put_header<K: Sink>(
     out.put(b" ")?;
     put_number(entries_of(numbers) as u64, out)?;
     out.put(b"\n")
-}
-
-// The bytes of a name.
-fn name_of(names: &Names, id: NameId) -> &[u8]
-    ensures text { result.now ≡ text_of names.now id }
-    ensures named { AreNames names.now }
-{
-    match names.text(id) {
-        Some(text) => text.as_bytes(),
-        None => &[],
-    }
 }
 
 // How many tasks beside main the original has.
@@ -86,33 +74,12 @@ fn word_of(end: RunEnd) -> &'static [u8]
 
 // Writes the line of a task.
 #[tactic(auto, using(ded_io::proofs::Writes::writes))]
-fn put_task<K: Sink>(names: &Names, t: u64, info: &TaskInfo, out: &mut K) -> Result<(), SinkError>
+fn put_task<K: Sink>(names: &Names, t: u32, info: &TaskInfo, out: &mut K) -> Result<(), SinkError>
     ensures bytes { Wrote result (K.told out.old) (K.told out.new) (task_line names.now t info.now) }
     ensures cause { HasCause (K.faults out.old) (K.faults out.new) result }
 {
-    out.put(b"task ")?;
-    put_number(t, out)?;
-    out.put(b" ")?;
-    out.put(name_of(names, info.name))?;
-    put_member(info.member, out)?;
+    show_task(names, t, info, out)?;
     out.put(b"\n")
-}
-
-// Writes the index of a member of an array of tasks.
-#[tactic(auto, using(ded_io::proofs::Writes::writes))]
-fn put_member<K: Sink>(member: Option<i32>, out: &mut K) -> Result<(), SinkError>
-    ensures bytes { Wrote result (K.told out.old) (K.told out.new) (member_text member) }
-    ensures cause { HasCause (K.faults out.old) (K.faults out.new) result }
-{
-    match member {
-        Some(index) => {
-            let mut buffer = Buffer::new();
-            out.put(b"(")?;
-            out.put(buffer.format(index).as_bytes())?;
-            out.put(b")")
-        }
-        None => Ok(()),
-    }
 }
 
 // Writes a number in decimal.
@@ -126,11 +93,12 @@ fn put_number<K: Sink>(n: u64, out: &mut K) -> Result<(), SinkError>
 
 // Writes the lines of all tasks, from 0.
 fn put_tasks<K: Sink>(names: &Names, tasks: &[TaskInfo], out: &mut K) -> Result<(), SinkError>
+    requires { length tasks.now < 2 ^ 32 }
     ensures bytes { Wrote result (K.told out.old) (K.told out.new) (task_lines names.now 0 tasks.now) }
     ensures cause { HasCause (K.faults out.old) (K.faults out.new) result }
 {
     for (t, info) in tasks.iter().enumerate() {
-        match put_task(names, t as u64, info, out) {
+        match put_task(names, t as u32, info, out) {
             Ok(()) => {}
             Err(e) => return Err(e),
         }

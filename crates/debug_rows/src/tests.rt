@@ -1,7 +1,6 @@
 //! The rows.
 use crate::Row;
-use debug_core::debug_main;
-use ded_io::{FileEntry, MemoryFiles, MemorySink};
+use crate::checking::{check_row, check_with};
 use std::alloc::{AllocError, Global};
 use std::process::Abort;
 use std::test::Fail;
@@ -20,48 +19,6 @@ const OUTPUT: &[u8] =
 
 const USAGE: &[u8] = b"ded: usage\n";
 
-// The words of a row.
-fn words_of(alloc: Global, row: &str) -> Result<Vec<String>, AllocError> {
-    let mut words = Vec::new(alloc);
-    for word in row.split_whitespace() {
-        words.push(String::from_str(alloc, word)?)?;
-    }
-    Ok(words)
-}
-
-// Files with the row's program alone.
-fn files_of(alloc: Global, program: &[u8]) -> Result<MemoryFiles, AllocError> {
-    let mut entries = Vec::new(alloc);
-    entries.push(FileEntry {
-        name: String::from_str(alloc, "P1")?,
-        bytes: Vec::from_slice(alloc, program)?,
-    })?;
-    Ok(MemoryFiles::new(entries, Vec::new(alloc)))
-}
-
-// Makes the call over an output whose put of the number `failing`, from 1, fails, and looks at all that it gives.
-fn check_with(
-    rt: &impl Abort,
-    alloc: Global,
-    failing: u64,
-    row: &Row<'_>,
-) -> Result<(), AllocError> {
-    let words = words_of(alloc, row.words)?;
-    let mut files = files_of(alloc, row.program)?;
-    let mut out = MemorySink::new(alloc, vec![in alloc; failing]?, 1000)?;
-    let mut err = MemorySink::new(alloc, Vec::new(alloc), 1000)?;
-    let status = debug_main(alloc, words.as_slice(), &mut files, &mut out, &mut err);
-    assert_eq!(rt; status, row.status);
-    assert_eq!(rt; out.bytes(), row.out);
-    assert_eq!(rt; err.bytes(), row.err);
-    Ok(())
-}
-
-// A row over outputs that take all.
-fn check_row(rt: &impl Abort, alloc: Global, row: &Row<'_>) -> Result<(), AllocError> {
-    check_with(rt, alloc, 0, row)
-}
-
 // A row that is refused before anything is written to the output.
 fn check_refused(
     rt: &impl Abort,
@@ -77,6 +34,7 @@ fn check_refused(
         &Row {
             words,
             program,
+            sequence: b"",
             status,
             out: b"",
             err,
@@ -93,6 +51,7 @@ fn a_run_ends_or_comes_to_its_last_turn(rt: HostRuntime) -> Result<(), Fail> {
         &Row {
             words: "run P1 - - 100",
             program: RENDEZVOUS,
+            sequence: b"",
             status: 0,
             out: b"ded-run 1 P1 1 1\nR 0 1 0\nE 1\nX 1\nZ\nend ended 6\ntask 0 P1\ntask 1 B\n",
             err: b"",
@@ -104,6 +63,7 @@ fn a_run_ends_or_comes_to_its_last_turn(rt: HostRuntime) -> Result<(), Fail> {
         &Row {
             words: "run P1 - - 5",
             program: RENDEZVOUS,
+            sequence: b"",
             status: 11,
             out: b"ded-run 1 P1 1 1\nR 0 1 0\nE 1\nX 1\nend turns 5\ntask 0 P1\ntask 1 B\n",
             err: b"",
@@ -123,6 +83,7 @@ fn an_accept_without_a_call_is_stuck_and_a_call_without_an_accept_fails(
         &Row {
             words: "run P1 - - 100",
             program: SECOND_ACCEPT,
+            sequence: b"",
             status: 10,
             out: b"ded-run 1 Q 1 1\nR 0 1 0\nE 1\nend stuck 5\ntask 0 Q\ntask 1 B\n",
             err: b"",
@@ -134,6 +95,7 @@ fn an_accept_without_a_call_is_stuck_and_a_call_without_an_accept_fails(
         &Row {
             words: "run P1 - - 100",
             program: NO_ACCEPT,
+            sequence: b"",
             status: 0,
             out: b"ded-run 1 Q 1 1\nX 1\nF 0 1 0\nZ\nend ended 5\ntask 0 Q\ntask 1 B\n",
             err: b"",
@@ -152,6 +114,7 @@ fn a_failed_output_and_a_refused_text_end_the_call(rt: HostRuntime) -> Result<()
         &Row {
             words: "run P1 - - 100",
             program: RENDEZVOUS,
+            sequence: b"",
             status: 7,
             out: b"",
             err: b"",
@@ -163,6 +126,7 @@ fn a_failed_output_and_a_refused_text_end_the_call(rt: HostRuntime) -> Result<()
         &Row {
             words: "run P1 - - 100",
             program: OUTPUT,
+            sequence: b"",
             status: 1,
             out: b"",
             err: b"ded: program refused: NotYet at 1:1\n",

@@ -1,9 +1,10 @@
 -- Numbers up to the cap, by a walk over their digits.
-use Rattle.std.proofs.Common.{◌≡◌, ℕ, ◌+◌, ◌-◌, ◌*◌, ◌^◌, ◌<◌, ◌≤◌, true, false, List, [], ◌∷◌, length, get_or, drop, refl, ap, ◌∙◌, sym, arith, rules, zero, suc, pos, neg_ℤ, Some, None, Option, option_map, true≢false, ◌≢◌}
+use Rattle.std.proofs.Common.{◌≡◌, ℕ, ◌+◌, ◌-◌, ◌*◌, ◌^◌, ◌<◌, ◌≤◌, Bool, true, false, List, [], ◌∷◌, length, get_or, drop, refl, ap, ◌∙◌, sym, arith, rules, zero, suc, ℤ, pos, negsuc, neg_ℤ, Some, None, Option, option_map, true≢false, ◌≢◌}
 use Rattle.std.proofs.lemmas.List.{at_drop_more}
 use Rattle.std.proofs.lemmas.Bool.{and_parts, and_from}
+use Rattle.std.specs.Int.Signed.{mag}
 use Rattle.std.specs.Prelude.{unwrap_or, is_some, option_and_then}
-use Rattle.seq_file.specs.Numerals.{are_digits, is_digit, is_natural, value_behind, below_zero}
+use Rattle.seq_file.specs.Numerals.{are_digits, is_digit, is_natural, value_behind, below_zero, counted}
 use Rattle.seq_file.specs.Capped.{capped, capped_integer}
 
 pub capped-small : (n : ℕ) → n ≤ 2 ^ 32 → capped n ≡ n
@@ -80,3 +81,27 @@ positive-some None n h = clash (sym (ap is_some h))
 positive-some (Some m) n h = ap (λ t. Some (pos t)) (some-is h)
 
 pub ruleset signs = (negative-zero, negative-some, no-sign, positive-some)
+
+abbrev is_positive : ℤ → Bool
+is_positive (pos n) = true
+is_positive (negsuc n) = false
+
+-- a capped number below zero is below zero
+negated : (n : ℕ) → 0 < n → is_positive (neg_ℤ (pos n)) ≡ false
+negated zero h = absurd (omega (arith, h))
+negated (suc n) h = refl
+
+capped-from : (n : ℕ) → 0 < capped (suc n)
+unfolding capped
+capped-from n = omega arith
+
+-- a capped number that should not be negative
+pub counted-pos : (i : ℕ) (z : ℤ) → pos i ≡ capped_integer z → i ≡ capped (counted z)
+counted-pos i (pos n) e = ap mag e
+counted-pos i (negsuc n) e = clash (sym (negated (capped (suc n)) (capped-from n)) ∙ sym (ap is_positive e))
+
+pub counted-neg : (i : ℕ) (z : ℤ) → negsuc i ≡ capped_integer z → 2 ^ 32 ≡ capped (counted z)
+counted-neg i (pos n) e = clash (ap is_positive e)
+counted-neg i (negsuc n) e = sym (capped-large (2 ^ 64) (omega arith))
+
+pub ruleset counts = (counted-pos, counted-neg)

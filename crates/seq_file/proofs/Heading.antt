@@ -15,11 +15,11 @@ use Rattle.seq_file.specs.declared.errors.SeqError.TheVariants.{OtherProgram}
 use Rattle.seq_file.specs.Capped.{capped, IsShort}
 use Rattle.seq_file.specs.Files.{header_line, is_header_of, fault_of_header, header_fault}
 use Rattle.seq_file.specs.Lines.{Header, is_blank, is_line_end, words_of, is_capital, is_name_part, name_goes_on, every, begins, is_upper_name, upper_name, header_with, header_of_words, header_of_line, with_three}
-use Rattle.seq_file.specs.Numerals.{is_digit, natural}
+use Rattle.seq_file.specs.Numerals.{is_digit, count}
 use Rattle.seq_file.specs.Verdicts.{cut}
 use Rattle.seq_file.proofs.Capping.{clash, capped-small, capped-large}
 use Rattle.seq_file.proofs.Marking.{IsFreeOf, free-cons, free-prefix, decimal-free, cut-at_mark, cut-parts, first-line_cut}
-use Rattle.seq_file.proofs.Spelling.{natural-of_decimal, word-of_natural}
+use Rattle.seq_file.proofs.Spelling.{count-of_decimal, word-of_count}
 
 -- a number within 32 bits is not the cap
 pub same-number : (m k : ℕ) → k < 2 ^ 32 → nat_eq (capped m) k ≡ nat_eq m k
@@ -95,9 +95,9 @@ header-words main t e hm ht he =
 header-read : (main : List ℕ) (t e : ℕ) → is_upper_name main ≡ true → t < 2 ^ 64 → e < 2 ^ 64 → header_of_line (header_text main t e) ≡ Some (header_with main t e)
 header-read main t e hm ht he =
     ap header_of_words (header-words main t e hm ht he)
-    ∙ ap (λ u. with_three header_with u (natural (decimal t)) (natural (decimal e))) (ap (λ b. cond b (Some main) None) hm)
-    ∙ ap (λ u. with_three header_with (Some main) u (natural (decimal e))) (natural-of_decimal t ht)
-    ∙ ap (λ u. with_three header_with (Some main) (Some t) u) (natural-of_decimal e he)
+    ∙ ap (λ u. with_three header_with u (count (decimal t)) (count (decimal e))) (ap (λ b. cond b (Some main) None) hm)
+    ∙ ap (λ u. with_three header_with (Some main) u (count (decimal e))) (count-of_decimal t ht)
+    ∙ ap (λ u. with_three header_with (Some main) (Some t) u) (count-of_decimal e he)
 
 header-free : (main : List ℕ) (t e : ℕ) → is_upper_name main ≡ true → t < 2 ^ 64 → e < 2 ^ 64 → IsFreeOf 10 (header_text main t e)
 header-free main t e hm ht he =
@@ -144,16 +144,16 @@ header-written (f ∷ v ∷ m ∷ []) header h ht he = clash (ap is_some h)
 header-written (f ∷ v ∷ m ∷ t ∷ []) header h ht he = clash (ap is_some h)
 header-written (f ∷ v ∷ m ∷ t ∷ e ∷ []) header h ht he =
     let test : Bool = bytes_eq f (codes "ded-seq") && bytes_eq v (codes "1") in
-    let read : Option Header = with_three header_with (upper_name m) (natural t) (natural e) in
+    let read : Option Header = with_three header_with (upper_name m) (count t) (count e) in
     elim (cases_Bool test) [
       | inl yes' ↦
           let both = and_parts (bytes_eq f (codes "ded-seq")) (bytes_eq v (codes "1")) yes' in
-          let (hm, hp, hq) = header-case (upper_name m) (natural t) (natural e) header (sym (ap (λ b. cond b read None) yes') ∙ h) in
+          let (hm, hp, hq) = header-case (upper_name m) (count t) (count e) header (sym (ap (λ b. cond b read None) yes') ∙ h) in
           ap (λ x. x ++ (32 ∷ (v ++ (32 ∷ (m ++ (32 ∷ (t ++ (32 ∷ e)))))))) ((bytes_eq-Decides f (codes "ded-seq")).0 both.0)
           ∙ ap (λ x. codes "ded-seq" ++ (32 ∷ (x ++ (32 ∷ (m ++ (32 ∷ (t ++ (32 ∷ e)))))))) ((bytes_eq-Decides v (codes "1")).0 both.1)
           ∙ ap (λ x. codes "ded-seq 1 " ++ (x ++ (32 ∷ (t ++ (32 ∷ e))))) (upper-is m header.main hm)
-          ∙ ap (λ x. codes "ded-seq 1 " ++ (header.main ++ (32 ∷ (x ++ (32 ∷ e))))) (word-of_natural t header.tasks hp ht)
-          ∙ ap (λ x. codes "ded-seq 1 " ++ (header.main ++ (32 ∷ (decimal header.tasks ++ (32 ∷ x))))) (word-of_natural e header.entries hq he)
+          ∙ ap (λ x. codes "ded-seq 1 " ++ (header.main ++ (32 ∷ (x ++ (32 ∷ e))))) (word-of_count t header.tasks hp ht)
+          ∙ ap (λ x. codes "ded-seq 1 " ++ (header.main ++ (32 ∷ (decimal header.tasks ++ (32 ∷ x))))) (word-of_count e header.entries hq he)
       | inr no' ↦ clash (ap is_some (sym (ap (λ b. cond b read None) no') ∙ h))
     ]
 header-written (f ∷ v ∷ m ∷ t ∷ e ∷ more ∷ rest) header h ht he = clash (ap is_some h)

@@ -1,12 +1,12 @@
 -- The number that a word writes is the one whose text the word is.
-use Rattle.std.proofs.Common.{◌≡◌, ℕ, ℤ, pos, negsuc, zero, suc, ◌^◌, ◌<◌, ◌≤◌, true, not, cond, List, [], ◌∷◌, length, get_or, Option, None, Some, option_map, refl, ap, ◌∙◌, sym, subst, arith, rules, ◌⊎◌, inl, inr, decimal}
+use Rattle.std.proofs.Common.{◌≡◌, ℕ, ℤ, pos, negsuc, zero, suc, ◌^◌, ◌<◌, ◌≤◌, Bool, true, false, not, cond, List, [], ◌∷◌, length, get_or, Option, None, Some, option_map, refl, ap, ◌∙◌, sym, subst, arith, rules, ◌⊎◌, inl, inr, decimal}
 use Rattle.std.specs.Fmt.{signed_decimal}
 use Rattle.std.specs.Int.Signed.{mag}
 use Rattle.std.specs.Prelude.{◌==◌, is_some, unwrap_or, option_and_then}
 use Rattle.std.proofs.lemmas.Bool.{cases_Bool, cases_lt, and_parts, and_from, ne_eqb, eq-eqb, eqb-true, leb-true}
 use Rattle.std.proofs.lemmas.Fmt.{digits_decimal, digits_value-decimal, decimal-digits_value, decimal_nonempty, first_decimal, decimal_digit}
 use Rattle.std.proofs.lemmas.Str.Parse.{IsNumeralModel, numerals_by_fold}
-use Rattle.seq_file.specs.Numerals.{are_digits, is_digit, is_natural, value_behind, natural, integer, below_zero}
+use Rattle.seq_file.specs.Numerals.{are_digits, is_digit, is_natural, value_behind, natural, integer, counted, count, below_zero}
 use Rattle.seq_file.proofs.Capping.{clash, some-is, natural-digits}
 
 own : IsNumeralModel (λ ds. are_digits ds ≡ true) (value_behind 0)
@@ -68,6 +68,10 @@ integer-of_signed (pos n) h =
     integer-digits (decimal n) (decimal-digits n small) (decimal_nonempty n small) ∙ ap (option_map pos) (natural-of_decimal n small)
 integer-of_signed (negsuc n) h = ap (option_and_then below_zero) (natural-of_decimal (suc n) (omega (arith, h)))
 
+abbrev is_negative : ℤ → Bool
+is_negative (pos n) = false
+is_negative (negsuc n) = true
+
 plus-case : (o : Option ℕ) (z : ℤ) → option_map pos o ≡ Some z → (n : ℕ) × (o ≡ Some n) × (pos n ≡ z)
 plus-case None z h = clash (ap is_some h)
 plus-case (Some n) z h = (n, refl, ap (λ t. unwrap_or t (pos 0)) h)
@@ -90,3 +94,31 @@ word-of_integer (b ∷ rest) z h lt = elim (cases_Bool (b == 45)) [
       let small : n < 2 ^ 63 = subst (λ t. mag t < 2 ^ 63) (sym same) lt in
       word-of_natural (b ∷ rest) n whole (omega (arith, small)) ∙ ap signed_decimal same
 ]
+
+pub count-of_decimal : (n : ℕ) → n < 2 ^ 64 → count (decimal n) ≡ Some n
+unfolding count
+count-of_decimal n h =
+    ap (option_map counted) (integer-digits (decimal n) (decimal-digits n h) (decimal_nonempty n h) ∙ ap (option_map pos) (natural-of_decimal n h))
+
+counted-case : (o : Option ℤ) (n : ℕ) → option_map counted o ≡ Some n → n < 2 ^ 64 → o ≡ Some (pos n)
+counted-case None n h lt = clash (ap is_some h)
+counted-case (Some (pos m)) n h lt = ap (λ t. Some (pos t)) (some-is h)
+counted-case (Some (negsuc m)) n h lt = absurd (omega (arith, lt, some-is h))
+
+-- a word that writes a number which is not negative writes it without a sign
+word-of_positive : (word : List ℕ) (n : ℕ) → integer word ≡ Some (pos n) → n < 2 ^ 64 → word ≡ decimal n
+unfolding integer
+word-of_positive [] n h lt = clash (ap is_some h)
+word-of_positive (b ∷ rest) n h lt = elim (cases_Bool (b == 45)) [
+  | inl e ↦
+      let (m, whole, same) = minus-case (natural rest) (pos n) (sym (ap (λ t. cond t (option_and_then below_zero (natural rest)) (option_map pos (natural (b ∷ rest)))) e) ∙ h) in
+      clash (ap is_negative (sym same))
+  | inr e ↦
+      let (m, whole, same) = plus-case (natural (b ∷ rest)) (pos n) (sym (ap (λ t. cond t (option_and_then below_zero (natural rest)) (option_map pos (natural (b ∷ rest)))) e) ∙ h) in
+      let is : m ≡ n = ap counted same in
+      word-of_natural (b ∷ rest) m whole (subst (λ t. t < 2 ^ 64) (sym is) lt) ∙ ap decimal is
+]
+
+pub word-of_count : (word : List ℕ) (n : ℕ) → count word ≡ Some n → n < 2 ^ 64 → word ≡ decimal n
+unfolding count
+word-of_count word n h lt = word-of_positive word n (counted-case (integer word) n h lt) lt

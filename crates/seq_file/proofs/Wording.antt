@@ -18,12 +18,12 @@ use Rattle.syn_event.specs.Numbering.{Numbering, entry_at}
 use Rattle.seq_file.specs.Capped.{IsShort}
 use Rattle.seq_file.specs.Known.{is_task, is_task_beside_main, is_alternative, is_member, is_call, is_index, is_known, fits_entry}
 use Rattle.seq_file.specs.Lines.{is_blank, words_of, with_two, with_three, lone_event, task_event, pair_event, call_event, event_of_words, event_of_line}
-use Rattle.seq_file.specs.Numerals.{natural, integer}
+use Rattle.seq_file.specs.Numerals.{count, integer}
 use Rattle.seq_file.proofs.Capping.{clash}
 use Rattle.seq_file.proofs.Indexing.{fits-index, index-small, member-test}
 use Rattle.seq_file.proofs.Knowing.{IsTest, task-test, beside-test, alternative-test}
 use Rattle.seq_file.proofs.Marking.{IsFreeOf, free-cons, free-one, decimal-free, signed-free}
-use Rattle.seq_file.proofs.Spelling.{natural-of_decimal, integer-of_signed, word-of_natural, word-of_integer}
+use Rattle.seq_file.proofs.Spelling.{count-of_decimal, integer-of_signed, word-of_count, word-of_integer}
 
 abbrev wide : (n : ℕ) → n < 2 ^ 32 → n < 2 ^ 64
 wide n h = omega (arith, h)
@@ -102,26 +102,26 @@ call-words l c e i h small =
     ∙ ap (λ t. (l ∷ []) ∷ decimal c ∷ t) (slice_split_at is_blank (decimal e) 32 (signed_decimal i) (decimal-free 32 e (omega arith) small.entry) refl)
     ∙ ap (λ t. (l ∷ []) ∷ decimal c ∷ decimal e ∷ t) (slice_split_none is_blank (signed_decimal i) (signed-free 32 i (omega arith) small.index))
 
-two-numbers : (make : ℕ → ℕ → Event) (m n : ℕ) → m < 2 ^ 64 → n < 2 ^ 64 → with_two make (natural (decimal m)) (natural (decimal n)) ≡ Some (make m n)
+two-numbers : (make : ℕ → ℕ → Event) (m n : ℕ) → m < 2 ^ 64 → n < 2 ^ 64 → with_two make (count (decimal m)) (count (decimal n)) ≡ Some (make m n)
 two-numbers make m n hm hn =
-    ap (λ t. with_two make t (natural (decimal n))) (natural-of_decimal m hm) ∙ ap (λ t. with_two make (Some m) t) (natural-of_decimal n hn)
+    ap (λ t. with_two make t (count (decimal n))) (count-of_decimal m hm) ∙ ap (λ t. with_two make (Some m) t) (count-of_decimal n hn)
 
-three-numbers : (make : ℕ → ℕ → ℤ → Event) (c e : ℕ) (i : ℤ) → IsSmallCall c e i → with_three make (natural (decimal c)) (natural (decimal e)) (integer (signed_decimal i)) ≡ Some (make c e i)
+three-numbers : (make : ℕ → ℕ → ℤ → Event) (c e : ℕ) (i : ℤ) → IsSmallCall c e i → with_three make (count (decimal c)) (count (decimal e)) (integer (signed_decimal i)) ≡ Some (make c e i)
 three-numbers make c e i small =
-    ap (λ t. with_three make t (natural (decimal e)) (integer (signed_decimal i))) (natural-of_decimal c small.caller)
-    ∙ ap (λ t. with_three make (Some c) t (integer (signed_decimal i))) (natural-of_decimal e small.entry)
+    ap (λ t. with_three make t (count (decimal e)) (integer (signed_decimal i))) (count-of_decimal c small.caller)
+    ∙ ap (λ t. with_three make (Some c) t (integer (signed_decimal i))) (count-of_decimal e small.entry)
     ∙ ap (λ t. with_three make (Some c) (Some e) t) (integer-of_signed i small.index)
 
 -- The text of an event with numbers that the program has writes that event.
 pub event-read : (numbers : Numbering) → IsShort numbers → (event : Event) → is_known numbers event ≡ true → event_of_line (event_text event) ≡ Some event
 event-read numbers short (R c e i) h = let small = call-small numbers short c e i h in ap event_of_words (call-words 82 c e i refl small) ∙ three-numbers R c e i small
-event-read numbers short (E a) h = let small = beside-small numbers short a h in ap event_of_words (one-words 69 a refl small) ∙ ap (option_map E) (natural-of_decimal a small)
-event-read numbers short (S a) h = let small = beside-small numbers short a h in ap event_of_words (one-words 83 a refl small) ∙ ap (option_map S) (natural-of_decimal a small)
+event-read numbers short (E a) h = let small = beside-small numbers short a h in ap event_of_words (one-words 69 a refl small) ∙ ap (option_map E) (count-of_decimal a small)
+event-read numbers short (S a) h = let small = beside-small numbers short a h in ap event_of_words (one-words 83 a refl small) ∙ ap (option_map S) (count-of_decimal a small)
 event-read numbers short (D a k) h = let small = wait-small numbers short a k h in ap event_of_words (two-words 68 a k refl small.0 small.1) ∙ two-numbers D a k small.0 small.1
 event-read numbers short (C c e i) h = let small = call-small numbers short c e i h in ap event_of_words (call-words 67 c e i refl small) ∙ three-numbers C c e i small
 event-read numbers short (T c e i) h = let small = call-small numbers short c e i h in ap event_of_words (call-words 84 c e i refl small) ∙ three-numbers T c e i small
 event-read numbers short (F c e i) h = let small = call-small numbers short c e i h in ap event_of_words (call-words 70 c e i refl small) ∙ three-numbers F c e i small
-event-read numbers short (X a) h = let small = beside-small numbers short a h in ap event_of_words (one-words 88 a refl small) ∙ ap (option_map X) (natural-of_decimal a small)
+event-read numbers short (X a) h = let small = beside-small numbers short a h in ap event_of_words (one-words 88 a refl small) ∙ ap (option_map X) (count-of_decimal a small)
 event-read numbers short (B t x) h = let small = abort-small numbers short t x h in ap event_of_words (two-words 66 t x refl small.0 small.1) ∙ two-numbers B t x small.0 small.1
 event-read numbers short Z h = refl
 
@@ -177,32 +177,32 @@ letter-is : (letter : List ℕ) (l : ℕ) → bytes_eq letter (l ∷ []) ≡ tru
 letter-is letter l h = (bytes_eq-Decides letter (l ∷ [])).0 h
 
 one-line : (numbers : Numbering) (make : ℕ → Event) (l : ℕ) → ((n : ℕ) → one_text (l ∷ 32 ∷ []) n ≡ event_text (make n)) → ((n : ℕ) → is_known numbers (make n) ≡ true → n < 2 ^ 64) →
-    (letter a : List ℕ) (event : Event) → bytes_eq letter (l ∷ []) ≡ true → option_map make (natural a) ≡ Some event → is_known numbers event ≡ true → letter ++ (32 ∷ a) ≡ event_text event
+    (letter a : List ℕ) (event : Event) → bytes_eq letter (l ∷ []) ≡ true → option_map make (count a) ≡ Some event → is_known numbers event ≡ true → letter ++ (32 ∷ a) ≡ event_text event
 one-line numbers make l text small letter a event hl h known =
-    let (n, whole, same) = one-case make (natural a) event h in
+    let (n, whole, same) = one-case make (count a) event h in
     let fits : n < 2 ^ 64 = small n (ap (is_known numbers) same ∙ known) in
     ap (λ t. t ++ (32 ∷ a)) (letter-is letter l hl)
-    ∙ ap (λ t. l ∷ 32 ∷ t) (word-of_natural a n whole fits)
+    ∙ ap (λ t. l ∷ 32 ∷ t) (word-of_count a n whole fits)
     ∙ sym (one-text l n) ∙ text n ∙ ap event_text same
 
 two-line : (numbers : Numbering) (make : ℕ → ℕ → Event) (l : ℕ) → ((m n : ℕ) → two_text (l ∷ 32 ∷ []) m n ≡ event_text (make m n)) → ((m n : ℕ) → is_known numbers (make m n) ≡ true → (m < 2 ^ 64) × (n < 2 ^ 64)) →
-    (letter a b : List ℕ) (event : Event) → bytes_eq letter (l ∷ []) ≡ true → with_two make (natural a) (natural b) ≡ Some event → is_known numbers event ≡ true → letter ++ (32 ∷ (a ++ (32 ∷ b))) ≡ event_text event
+    (letter a b : List ℕ) (event : Event) → bytes_eq letter (l ∷ []) ≡ true → with_two make (count a) (count b) ≡ Some event → is_known numbers event ≡ true → letter ++ (32 ∷ (a ++ (32 ∷ b))) ≡ event_text event
 two-line numbers make l text small letter a b event hl h known =
-    let (m, n, whole, other, same) = two-case make (natural a) (natural b) event h in
+    let (m, n, whole, other, same) = two-case make (count a) (count b) event h in
     let fits = small m n (ap (is_known numbers) same ∙ known) in
     ap (λ t. t ++ (32 ∷ (a ++ (32 ∷ b)))) (letter-is letter l hl)
-    ∙ ap (λ t. l ∷ 32 ∷ (t ++ (32 ∷ b))) (word-of_natural a m whole fits.0)
-    ∙ ap (λ t. l ∷ 32 ∷ (decimal m ++ (32 ∷ t))) (word-of_natural b n other fits.1)
+    ∙ ap (λ t. l ∷ 32 ∷ (t ++ (32 ∷ b))) (word-of_count a m whole fits.0)
+    ∙ ap (λ t. l ∷ 32 ∷ (decimal m ++ (32 ∷ t))) (word-of_count b n other fits.1)
     ∙ sym (two-text l m n) ∙ text m n ∙ ap event_text same
 
 call-line : (numbers : Numbering) (make : ℕ → ℕ → ℤ → Event) (l : ℕ) → ((c e : ℕ) (i : ℤ) → call_text (l ∷ 32 ∷ []) c e i ≡ event_text (make c e i)) → ((c e : ℕ) (i : ℤ) → is_known numbers (make c e i) ≡ true → IsSmallCall c e i) →
-    (letter a b k : List ℕ) (event : Event) → bytes_eq letter (l ∷ []) ≡ true → with_three make (natural a) (natural b) (integer k) ≡ Some event → is_known numbers event ≡ true → letter ++ (32 ∷ (a ++ (32 ∷ (b ++ (32 ∷ k))))) ≡ event_text event
+    (letter a b k : List ℕ) (event : Event) → bytes_eq letter (l ∷ []) ≡ true → with_three make (count a) (count b) (integer k) ≡ Some event → is_known numbers event ≡ true → letter ++ (32 ∷ (a ++ (32 ∷ (b ++ (32 ∷ k))))) ≡ event_text event
 call-line numbers make l text small letter a b k event hl h known =
-    let (c, e, i, first, second, third, same) = three-case make (natural a) (natural b) (integer k) event h in
+    let (c, e, i, first, second, third, same) = three-case make (count a) (count b) (integer k) event h in
     let fits : IsSmallCall c e i = small c e i (ap (is_known numbers) same ∙ known) in
     ap (λ t. t ++ (32 ∷ (a ++ (32 ∷ (b ++ (32 ∷ k)))))) (letter-is letter l hl)
-    ∙ ap (λ t. l ∷ 32 ∷ (t ++ (32 ∷ (b ++ (32 ∷ k))))) (word-of_natural a c first fits.caller)
-    ∙ ap (λ t. l ∷ 32 ∷ (decimal c ++ (32 ∷ (t ++ (32 ∷ k))))) (word-of_natural b e second fits.entry)
+    ∙ ap (λ t. l ∷ 32 ∷ (t ++ (32 ∷ (b ++ (32 ∷ k))))) (word-of_count a c first fits.caller)
+    ∙ ap (λ t. l ∷ 32 ∷ (decimal c ++ (32 ∷ (t ++ (32 ∷ k))))) (word-of_count b e second fits.entry)
     ∙ ap (λ t. l ∷ 32 ∷ (decimal c ++ (32 ∷ (decimal e ++ (32 ∷ t))))) (word-of_integer k i third fits.index)
     ∙ sym (call-text l c e i) ∙ text c e i ∙ ap event_text same
 
@@ -212,37 +212,37 @@ lone-written letter event h = elim (cases_Bool (bytes_eq letter (codes "Z"))) [
   | inr e ↦ clash (ap is_some (sym (ap (λ t. cond t (Some Z) None) e) ∙ h))
 ]
 
-task-written : (numbers : Numbering) → IsShort numbers → (letter a : List ℕ) (event : Event) → task_event letter (natural a) ≡ Some event → is_known numbers event ≡ true → letter ++ (32 ∷ a) ≡ event_text event
+task-written : (numbers : Numbering) → IsShort numbers → (letter a : List ℕ) (event : Event) → task_event letter (count a) ≡ Some event → is_known numbers event ≡ true → letter ++ (32 ∷ a) ≡ event_text event
 task-written numbers short letter a event h known = elim (cases_Bool (bytes_eq letter (codes "E"))) [
-  | inl e0 ↦ one-line numbers E 69 (λ n. refl) (beside-small numbers short) letter a event e0 (sym (ap (λ t. cond t (option_map E (natural a)) (cond (bytes_eq letter (codes "S")) (option_map S (natural a)) (cond (bytes_eq letter (codes "X")) (option_map X (natural a)) None))) e0) ∙ h) known
-  | inr e0 ↦ let h1 : (cond (bytes_eq letter (codes "S")) (option_map S (natural a)) (cond (bytes_eq letter (codes "X")) (option_map X (natural a)) None)) ≡ Some event = sym (ap (λ t. cond t (option_map E (natural a)) (cond (bytes_eq letter (codes "S")) (option_map S (natural a)) (cond (bytes_eq letter (codes "X")) (option_map X (natural a)) None))) e0) ∙ h in elim (cases_Bool (bytes_eq letter (codes "S"))) [
-    | inl e1 ↦ one-line numbers S 83 (λ n. refl) (beside-small numbers short) letter a event e1 (sym (ap (λ t. cond t (option_map S (natural a)) (cond (bytes_eq letter (codes "X")) (option_map X (natural a)) None)) e1) ∙ h1) known
-    | inr e1 ↦ let h2 : (cond (bytes_eq letter (codes "X")) (option_map X (natural a)) None) ≡ Some event = sym (ap (λ t. cond t (option_map S (natural a)) (cond (bytes_eq letter (codes "X")) (option_map X (natural a)) None)) e1) ∙ h1 in elim (cases_Bool (bytes_eq letter (codes "X"))) [
-      | inl e2 ↦ one-line numbers X 88 (λ n. refl) (beside-small numbers short) letter a event e2 (sym (ap (λ t. cond t (option_map X (natural a)) None) e2) ∙ h2) known
-      | inr e2 ↦ let h3 : None ≡ Some event = sym (ap (λ t. cond t (option_map X (natural a)) None) e2) ∙ h2 in clash (ap is_some (h3))
+  | inl e0 ↦ one-line numbers E 69 (λ n. refl) (beside-small numbers short) letter a event e0 (sym (ap (λ t. cond t (option_map E (count a)) (cond (bytes_eq letter (codes "S")) (option_map S (count a)) (cond (bytes_eq letter (codes "X")) (option_map X (count a)) None))) e0) ∙ h) known
+  | inr e0 ↦ let h1 : (cond (bytes_eq letter (codes "S")) (option_map S (count a)) (cond (bytes_eq letter (codes "X")) (option_map X (count a)) None)) ≡ Some event = sym (ap (λ t. cond t (option_map E (count a)) (cond (bytes_eq letter (codes "S")) (option_map S (count a)) (cond (bytes_eq letter (codes "X")) (option_map X (count a)) None))) e0) ∙ h in elim (cases_Bool (bytes_eq letter (codes "S"))) [
+    | inl e1 ↦ one-line numbers S 83 (λ n. refl) (beside-small numbers short) letter a event e1 (sym (ap (λ t. cond t (option_map S (count a)) (cond (bytes_eq letter (codes "X")) (option_map X (count a)) None)) e1) ∙ h1) known
+    | inr e1 ↦ let h2 : (cond (bytes_eq letter (codes "X")) (option_map X (count a)) None) ≡ Some event = sym (ap (λ t. cond t (option_map S (count a)) (cond (bytes_eq letter (codes "X")) (option_map X (count a)) None)) e1) ∙ h1 in elim (cases_Bool (bytes_eq letter (codes "X"))) [
+      | inl e2 ↦ one-line numbers X 88 (λ n. refl) (beside-small numbers short) letter a event e2 (sym (ap (λ t. cond t (option_map X (count a)) None) e2) ∙ h2) known
+      | inr e2 ↦ let h3 : None ≡ Some event = sym (ap (λ t. cond t (option_map X (count a)) None) e2) ∙ h2 in clash (ap is_some (h3))
     ]
   ]
 ]
 
-pair-written : (numbers : Numbering) → IsShort numbers → (letter a b : List ℕ) (event : Event) → pair_event letter (natural a) (natural b) ≡ Some event → is_known numbers event ≡ true → letter ++ (32 ∷ (a ++ (32 ∷ b))) ≡ event_text event
+pair-written : (numbers : Numbering) → IsShort numbers → (letter a b : List ℕ) (event : Event) → pair_event letter (count a) (count b) ≡ Some event → is_known numbers event ≡ true → letter ++ (32 ∷ (a ++ (32 ∷ b))) ≡ event_text event
 pair-written numbers short letter a b event h known = elim (cases_Bool (bytes_eq letter (codes "D"))) [
-  | inl e0 ↦ two-line numbers D 68 (λ m n. refl) (wait-small numbers short) letter a b event e0 (sym (ap (λ t. cond t (with_two D (natural a) (natural b)) (cond (bytes_eq letter (codes "B")) (with_two B (natural a) (natural b)) None)) e0) ∙ h) known
-  | inr e0 ↦ let h1 : (cond (bytes_eq letter (codes "B")) (with_two B (natural a) (natural b)) None) ≡ Some event = sym (ap (λ t. cond t (with_two D (natural a) (natural b)) (cond (bytes_eq letter (codes "B")) (with_two B (natural a) (natural b)) None)) e0) ∙ h in elim (cases_Bool (bytes_eq letter (codes "B"))) [
-    | inl e1 ↦ two-line numbers B 66 (λ m n. refl) (abort-small numbers short) letter a b event e1 (sym (ap (λ t. cond t (with_two B (natural a) (natural b)) None) e1) ∙ h1) known
-    | inr e1 ↦ let h2 : None ≡ Some event = sym (ap (λ t. cond t (with_two B (natural a) (natural b)) None) e1) ∙ h1 in clash (ap is_some (h2))
+  | inl e0 ↦ two-line numbers D 68 (λ m n. refl) (wait-small numbers short) letter a b event e0 (sym (ap (λ t. cond t (with_two D (count a) (count b)) (cond (bytes_eq letter (codes "B")) (with_two B (count a) (count b)) None)) e0) ∙ h) known
+  | inr e0 ↦ let h1 : (cond (bytes_eq letter (codes "B")) (with_two B (count a) (count b)) None) ≡ Some event = sym (ap (λ t. cond t (with_two D (count a) (count b)) (cond (bytes_eq letter (codes "B")) (with_two B (count a) (count b)) None)) e0) ∙ h in elim (cases_Bool (bytes_eq letter (codes "B"))) [
+    | inl e1 ↦ two-line numbers B 66 (λ m n. refl) (abort-small numbers short) letter a b event e1 (sym (ap (λ t. cond t (with_two B (count a) (count b)) None) e1) ∙ h1) known
+    | inr e1 ↦ let h2 : None ≡ Some event = sym (ap (λ t. cond t (with_two B (count a) (count b)) None) e1) ∙ h1 in clash (ap is_some (h2))
   ]
 ]
 
-call-written : (numbers : Numbering) → IsShort numbers → (letter a b k : List ℕ) (event : Event) → call_event letter (natural a) (natural b) (integer k) ≡ Some event → is_known numbers event ≡ true → letter ++ (32 ∷ (a ++ (32 ∷ (b ++ (32 ∷ k))))) ≡ event_text event
+call-written : (numbers : Numbering) → IsShort numbers → (letter a b k : List ℕ) (event : Event) → call_event letter (count a) (count b) (integer k) ≡ Some event → is_known numbers event ≡ true → letter ++ (32 ∷ (a ++ (32 ∷ (b ++ (32 ∷ k))))) ≡ event_text event
 call-written numbers short letter a b k event h known = elim (cases_Bool (bytes_eq letter (codes "R"))) [
-  | inl e0 ↦ call-line numbers R 82 (λ c e i. refl) (call-small numbers short) letter a b k event e0 (sym (ap (λ t. cond t (with_three R (natural a) (natural b) (integer k)) (cond (bytes_eq letter (codes "C")) (with_three C (natural a) (natural b) (integer k)) (cond (bytes_eq letter (codes "T")) (with_three T (natural a) (natural b) (integer k)) (cond (bytes_eq letter (codes "F")) (with_three F (natural a) (natural b) (integer k)) None)))) e0) ∙ h) known
-  | inr e0 ↦ let h1 : (cond (bytes_eq letter (codes "C")) (with_three C (natural a) (natural b) (integer k)) (cond (bytes_eq letter (codes "T")) (with_three T (natural a) (natural b) (integer k)) (cond (bytes_eq letter (codes "F")) (with_three F (natural a) (natural b) (integer k)) None))) ≡ Some event = sym (ap (λ t. cond t (with_three R (natural a) (natural b) (integer k)) (cond (bytes_eq letter (codes "C")) (with_three C (natural a) (natural b) (integer k)) (cond (bytes_eq letter (codes "T")) (with_three T (natural a) (natural b) (integer k)) (cond (bytes_eq letter (codes "F")) (with_three F (natural a) (natural b) (integer k)) None)))) e0) ∙ h in elim (cases_Bool (bytes_eq letter (codes "C"))) [
-    | inl e1 ↦ call-line numbers C 67 (λ c e i. refl) (call-small numbers short) letter a b k event e1 (sym (ap (λ t. cond t (with_three C (natural a) (natural b) (integer k)) (cond (bytes_eq letter (codes "T")) (with_three T (natural a) (natural b) (integer k)) (cond (bytes_eq letter (codes "F")) (with_three F (natural a) (natural b) (integer k)) None))) e1) ∙ h1) known
-    | inr e1 ↦ let h2 : (cond (bytes_eq letter (codes "T")) (with_three T (natural a) (natural b) (integer k)) (cond (bytes_eq letter (codes "F")) (with_three F (natural a) (natural b) (integer k)) None)) ≡ Some event = sym (ap (λ t. cond t (with_three C (natural a) (natural b) (integer k)) (cond (bytes_eq letter (codes "T")) (with_three T (natural a) (natural b) (integer k)) (cond (bytes_eq letter (codes "F")) (with_three F (natural a) (natural b) (integer k)) None))) e1) ∙ h1 in elim (cases_Bool (bytes_eq letter (codes "T"))) [
-      | inl e2 ↦ call-line numbers T 84 (λ c e i. refl) (call-small numbers short) letter a b k event e2 (sym (ap (λ t. cond t (with_three T (natural a) (natural b) (integer k)) (cond (bytes_eq letter (codes "F")) (with_three F (natural a) (natural b) (integer k)) None)) e2) ∙ h2) known
-      | inr e2 ↦ let h3 : (cond (bytes_eq letter (codes "F")) (with_three F (natural a) (natural b) (integer k)) None) ≡ Some event = sym (ap (λ t. cond t (with_three T (natural a) (natural b) (integer k)) (cond (bytes_eq letter (codes "F")) (with_three F (natural a) (natural b) (integer k)) None)) e2) ∙ h2 in elim (cases_Bool (bytes_eq letter (codes "F"))) [
-        | inl e3 ↦ call-line numbers F 70 (λ c e i. refl) (call-small numbers short) letter a b k event e3 (sym (ap (λ t. cond t (with_three F (natural a) (natural b) (integer k)) None) e3) ∙ h3) known
-        | inr e3 ↦ let h4 : None ≡ Some event = sym (ap (λ t. cond t (with_three F (natural a) (natural b) (integer k)) None) e3) ∙ h3 in clash (ap is_some (h4))
+  | inl e0 ↦ call-line numbers R 82 (λ c e i. refl) (call-small numbers short) letter a b k event e0 (sym (ap (λ t. cond t (with_three R (count a) (count b) (integer k)) (cond (bytes_eq letter (codes "C")) (with_three C (count a) (count b) (integer k)) (cond (bytes_eq letter (codes "T")) (with_three T (count a) (count b) (integer k)) (cond (bytes_eq letter (codes "F")) (with_three F (count a) (count b) (integer k)) None)))) e0) ∙ h) known
+  | inr e0 ↦ let h1 : (cond (bytes_eq letter (codes "C")) (with_three C (count a) (count b) (integer k)) (cond (bytes_eq letter (codes "T")) (with_three T (count a) (count b) (integer k)) (cond (bytes_eq letter (codes "F")) (with_three F (count a) (count b) (integer k)) None))) ≡ Some event = sym (ap (λ t. cond t (with_three R (count a) (count b) (integer k)) (cond (bytes_eq letter (codes "C")) (with_three C (count a) (count b) (integer k)) (cond (bytes_eq letter (codes "T")) (with_three T (count a) (count b) (integer k)) (cond (bytes_eq letter (codes "F")) (with_three F (count a) (count b) (integer k)) None)))) e0) ∙ h in elim (cases_Bool (bytes_eq letter (codes "C"))) [
+    | inl e1 ↦ call-line numbers C 67 (λ c e i. refl) (call-small numbers short) letter a b k event e1 (sym (ap (λ t. cond t (with_three C (count a) (count b) (integer k)) (cond (bytes_eq letter (codes "T")) (with_three T (count a) (count b) (integer k)) (cond (bytes_eq letter (codes "F")) (with_three F (count a) (count b) (integer k)) None))) e1) ∙ h1) known
+    | inr e1 ↦ let h2 : (cond (bytes_eq letter (codes "T")) (with_three T (count a) (count b) (integer k)) (cond (bytes_eq letter (codes "F")) (with_three F (count a) (count b) (integer k)) None)) ≡ Some event = sym (ap (λ t. cond t (with_three C (count a) (count b) (integer k)) (cond (bytes_eq letter (codes "T")) (with_three T (count a) (count b) (integer k)) (cond (bytes_eq letter (codes "F")) (with_three F (count a) (count b) (integer k)) None))) e1) ∙ h1 in elim (cases_Bool (bytes_eq letter (codes "T"))) [
+      | inl e2 ↦ call-line numbers T 84 (λ c e i. refl) (call-small numbers short) letter a b k event e2 (sym (ap (λ t. cond t (with_three T (count a) (count b) (integer k)) (cond (bytes_eq letter (codes "F")) (with_three F (count a) (count b) (integer k)) None)) e2) ∙ h2) known
+      | inr e2 ↦ let h3 : (cond (bytes_eq letter (codes "F")) (with_three F (count a) (count b) (integer k)) None) ≡ Some event = sym (ap (λ t. cond t (with_three T (count a) (count b) (integer k)) (cond (bytes_eq letter (codes "F")) (with_three F (count a) (count b) (integer k)) None)) e2) ∙ h2 in elim (cases_Bool (bytes_eq letter (codes "F"))) [
+        | inl e3 ↦ call-line numbers F 70 (λ c e i. refl) (call-small numbers short) letter a b k event e3 (sym (ap (λ t. cond t (with_three F (count a) (count b) (integer k)) None) e3) ∙ h3) known
+        | inr e3 ↦ let h4 : None ≡ Some event = sym (ap (λ t. cond t (with_three F (count a) (count b) (integer k)) None) e3) ∙ h3 in clash (ap is_some (h4))
       ]
     ]
   ]

@@ -3,7 +3,7 @@ use Rattle.std.specs.Prelude.{ℕ, ℤ, Bool, true, false, ◌&&◌, ◌||◌, �
 use Rattle.std.specs.List.{slice_split}
 use Rattle.event_machine.specs.declared.Event.{Event}
 use Rattle.event_machine.specs.declared.Event.TheVariants.{R, E, S, D, C, T, F, X, B, Z}
-use Rattle.seq_file.specs.Numerals.{is_digit, natural, integer}
+use Rattle.seq_file.specs.Numerals.{is_digit, count, integer}
 
 abbrev pub is_line_end : ℕ → Bool
 is_line_end b = b == 10
@@ -57,9 +57,9 @@ call_event letter c e i =
 -- the event that the words of a line write
 abbrev pub event_of_words : List (List ℕ) → Option Event
 event_of_words (letter ∷ []) = lone_event letter
-event_of_words (letter ∷ a ∷ []) = task_event letter (natural a)
-event_of_words (letter ∷ a ∷ b ∷ []) = pair_event letter (natural a) (natural b)
-event_of_words (letter ∷ a ∷ b ∷ c ∷ []) = call_event letter (natural a) (natural b) (integer c)
+event_of_words (letter ∷ a ∷ []) = task_event letter (count a)
+event_of_words (letter ∷ a ∷ b ∷ []) = pair_event letter (count a) (count b)
+event_of_words (letter ∷ a ∷ b ∷ c ∷ []) = call_event letter (count a) (count b) (integer c)
 event_of_words _ = None
 
 -- The event that a line writes, with numbers of any size; none where the line is not in the grammar.
@@ -109,7 +109,7 @@ upper_name word = if is_upper_name word then Some word else None
 abbrev pub header_of_words : List (List ℕ) → Option Header
 header_of_words (format ∷ version ∷ main ∷ tasks ∷ entries ∷ []) =
     if bytes_eq format (codes "ded-seq") && bytes_eq version (codes "1")
-    then with_three header_with (upper_name main) (natural tasks) (natural entries) else None
+    then with_three header_with (upper_name main) (count tasks) (count entries) else None
 header_of_words _ = None
 
 -- The header that a line writes, with counts of any size; none where the line is not in the grammar.

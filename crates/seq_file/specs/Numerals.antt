@@ -1,5 +1,5 @@
 -- Numbers as a file writes them: decimal of any size without leading zeros, and a minus before negative ones (this project's format).
-use Rattle.std.specs.Prelude.{ℕ, ℤ, pos, negsuc, zero, suc, Bool, true, false, not, ◌&&◌, ◌+◌, ◌-◌, ◌*◌, ◌==◌, nat_le, List, [], ◌∷◌, Option, Some, None, option_map, option_and_then, if◌then◌else◌}
+use Rattle.std.specs.Prelude.{ℕ, ℤ, pos, negsuc, zero, suc, Bool, true, false, not, ◌&&◌, ◌+◌, ◌-◌, ◌*◌, ◌^◌, ◌==◌, nat_le, List, [], ◌∷◌, Option, Some, None, option_map, option_and_then, if◌then◌else◌}
 
 -- a digit of ASCII
 abbrev pub is_digit : ℕ → Bool
@@ -34,3 +34,12 @@ below_zero (suc n) = Some (negsuc n)
 unfoldable pub integer : List ℕ → Option ℤ
 integer [] = None
 integer (b ∷ rest) = if b == 45 then option_and_then below_zero (natural rest) else option_map pos (natural (b ∷ rest))
+
+-- a number that should not be negative; a negative one stands for a number that no program has
+abbrev pub counted : ℤ → ℕ
+counted (pos n) = n
+counted (negsuc n) = 2 ^ 64
+
+-- The number of a task, an entry or an alternative, or a count, that a word writes.
+unfoldable pub count : List ℕ → Option ℕ
+count word = option_map counted (integer word)

@@ -7,7 +7,7 @@ ghost use Rattle.seq_file.specs.declared.lines.Verdict.TheVariants.{Known, BadNu
 ghost use Rattle.syn_event.specs.Numbering.{original_tasks, original_entries, is_original_task, is_original_entry};
 ghost use Rattle.syn_event.specs.Units.{text_of};
 ghost use Rattle.event_machine.specs.declared.Event.{Event};
-ghost use Rattle.seq_file.specs.Numerals.{natural, integer};
+ghost use Rattle.seq_file.specs.Numerals.{count, integer};
 ghost use Rattle.seq_file.specs.Lines.{event_of_line, header_of_line, lone_event, task_event, pair_event, call_event, with_three, header_with, upper_name, is_upper_name, every, name_goes_on, is_name_part, is_capital};
 ghost use Rattle.seq_file.specs.Known.{is_known};
 ghost use Rattle.seq_file.specs.Verdicts.{verdict_of};
@@ -15,7 +15,7 @@ ghost use Rattle.seq_file.specs.Files.{fault_of_header};
 
 use super::errors::SeqError;
 use super::known::{is_abort, is_call, is_task_beside_main, is_wait};
-use super::numerals::{integer, is_digit, natural};
+use super::numerals::{count, integer, is_digit};
 use super::words::{Words, is_letter, is_text, split_words};
 use ada_tree::Names;
 use syn_event::{EntryInfo, Event, Numbers, TaskInfo};
@@ -52,9 +52,9 @@ fn read_lone(letter: &[u8]) -> Verdict
 }
 
 fn read_task(letter: &[u8], a: &[u8], numbers: &Numbers) -> Verdict
-    ensures { result ≡ verdict_of numbers.now (task_event letter.now (natural a.now)) }
+    ensures { result ≡ verdict_of numbers.now (task_event letter.now (count a.now)) }
 {
-    let Some(n) = natural(a) else {
+    let Some(n) = count(a) else {
         return Verdict::BadLine;
     };
     let known = is_task_beside_main(numbers, n);
@@ -71,12 +71,12 @@ fn read_task(letter: &[u8], a: &[u8], numbers: &Numbers) -> Verdict
 }
 
 fn read_pair(letter: &[u8], a: &[u8], b: &[u8], numbers: &Numbers) -> Verdict
-    ensures { result ≡ verdict_of numbers.now (pair_event letter.now (natural a.now) (natural b.now)) }
+    ensures { result ≡ verdict_of numbers.now (pair_event letter.now (count a.now) (count b.now)) }
 {
-    let Some(m) = natural(a) else {
+    let Some(m) = count(a) else {
         return Verdict::BadLine;
     };
-    let Some(n) = natural(b) else {
+    let Some(n) = count(b) else {
         return Verdict::BadLine;
     };
     if is_letter(letter, b'D') {
@@ -95,12 +95,12 @@ fn read_pair(letter: &[u8], a: &[u8], b: &[u8], numbers: &Numbers) -> Verdict
 }
 
 fn read_call(letter: &[u8], c: &[u8], e: &[u8], i: &[u8], numbers: &Numbers) -> Verdict
-    ensures { result ≡ verdict_of numbers.now (call_event letter.now (natural c.now) (natural e.now) (integer i.now)) }
+    ensures { result ≡ verdict_of numbers.now (call_event letter.now (count c.now) (count e.now) (integer i.now)) }
 {
-    let Some(caller) = natural(c) else {
+    let Some(caller) = count(c) else {
         return Verdict::BadLine;
     };
-    let Some(entry) = natural(e) else {
+    let Some(entry) = count(e) else {
         return Verdict::BadLine;
     };
     let Some(index) = integer(i) else {
@@ -204,15 +204,15 @@ fn program_fault(main: &[u8], tasks: &[u8], entries: &[u8], program: &Program) -
     requires tasks { program.now.tasks < 2 ^ 32 }
     requires entries { program.now.entries < 2 ^ 32 }
     ensures { result ≡ fault_of_header program.now.main.now program.now.tasks program.now.entries
-        (with_three header_with (upper_name main.now) (natural tasks.now) (natural entries.now)) }
+        (with_three header_with (upper_name main.now) (count tasks.now) (count entries.now)) }
 {
     if !is_upper_name(main) {
         return Some(SeqError::BadLine { line: 1 });
     }
-    let Some(tasks) = natural(tasks) else {
+    let Some(tasks) = count(tasks) else {
         return Some(SeqError::BadLine { line: 1 });
     };
-    let Some(entries) = natural(entries) else {
+    let Some(entries) = count(entries) else {
         return Some(SeqError::BadLine { line: 1 });
     };
     let same_main = is_text(main, program.main);

@@ -1,7 +1,7 @@
 // Numbers in decimal.
 
-ghost use Rattle.std.specs.Prelude.{◌≡◌, ◌≤◌, ◌^◌, ◌*◌, ◌+◌, ◌-◌, ℕ, pos, neg_ℤ, Option, IfSome, min, option_map, option_and_then, true};
-ghost use Rattle.seq_file.specs.Numerals.{is_digit, are_digits, is_natural, natural, integer, value_behind, below_zero};
+ghost use Rattle.std.specs.Prelude.{◌≡◌, ◌≤◌, ◌^◌, ◌*◌, ◌+◌, ◌-◌, ℕ, ℤ, pos, neg_ℤ, Option, IfSome, min, option_map, option_and_then, true};
+ghost use Rattle.seq_file.specs.Numerals.{is_digit, are_digits, is_natural, natural, integer, counted, count, value_behind, below_zero};
 ghost use Rattle.seq_file.specs.Capped.{capped, capped_integer};
 
 /// Every larger number stands as this one: no program has it.
@@ -57,9 +57,9 @@ fn with_digit(value: u64, b: u8) -> u64
     (value * 10 + u64::from(b - b'0')).min(CAP)
 }
 
-/// The number that a word writes, up to the cap.
+// The number that a word writes, up to the cap.
 #[tactic(auto, using(crate::proofs::Capping::capping), unfolding(crate::specs::Numerals::natural))]
-pub(crate) fn natural(word: &[u8]) -> Option<u64>
+fn natural(word: &[u8]) -> Option<u64>
     ensures is { result ≡ option_map capped (natural word.now) }
     ensures small { IfSome result (λ n. n ≤ 2 ^ 32) }
 {
@@ -120,4 +120,23 @@ fn plus(n: u64) -> i64
     ensures { result ≡ pos n }
 {
     n as i64
+}
+
+/// The number of a task, an entry or an alternative, or a count, that a word writes, up to the cap.
+#[tactic(auto, using(crate::proofs::Capping::counts), unfolding(crate::specs::Numerals::count))]
+pub(crate) fn count(word: &[u8]) -> Option<u64>
+    ensures { result ≡ option_map capped (count word.now) }
+{
+    match integer(word) {
+        Some(i) => Some(counted(i)),
+        None => None,
+    }
+}
+
+// The number, or the cap where it is negative.
+#[tactic(auto, using(crate::proofs::Capping::counts))]
+fn counted(i: i64) -> u64
+    ensures { (z : ℤ) → i ≡ capped_integer z → result ≡ capped (counted z) }
+{
+    if i < 0 { CAP } else { i as u64 }
 }

@@ -120,6 +120,8 @@ fn lines_out_of_the_grammar(rt: HostRuntime) {
         "ded-seq 1 P_1 2 2\nE 1\n\n",
         "ded-seq 1 P_1 2 2\nE 1\nE 01\n",
         "ded-seq 1 P_1 2 2\nE 1\nE +1\n",
+        "ded-seq 1 P_1 2 2\nE 1\nE -0\n",
+        "ded-seq 1 P_1 2 2\nE 1\nE -01\n",
         "ded-seq 1 P_1 2 2\nE 1\nR 0 2 -0\n",
         "ded-seq 1 P_1 2 2\nE 1\nQ 1\n",
         "ded-seq 1 P_1 2 2\nE 1\nE 1 \n",
@@ -136,6 +138,7 @@ fn headers_of_other_programs(rt: HostRuntime) {
         "ded-seq 1 P_1 3 2\n",
         "ded-seq 1 P_1 2 1\n",
         "ded-seq 1 P_1 18446744073709551618 2\n",
+        "ded-seq 1 P_1 -1 2\n",
     ] {
         refuses(&rt, rt.alloc(), text, SeqError::OtherProgram { line: 1 });
     }
@@ -156,6 +159,9 @@ fn numbers_that_the_program_does_not_have(rt: HostRuntime) {
         "ded-seq 1 P_1 2 2\nD 1 33\n",
         "ded-seq 1 P_1 2 2\nD 1 0\n",
         "ded-seq 1 P_1 2 2\nE 4294967297\n",
+        "ded-seq 1 P_1 2 2\nE -1\n",
+        "ded-seq 1 P_1 2 2\nD 1 -1\n",
+        "ded-seq 1 P_1 2 2\nR 0 -1 0\n",
         "ded-seq 1 P_1 2 2\nE 99999999999999999999999999999999999999999999\n",
     ] {
         refuses(&rt, rt.alloc(), text, SeqError::BadNumber { line: 2 });

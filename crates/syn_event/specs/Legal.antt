@@ -1,7 +1,8 @@
 -- The static rules that a program must meet (ANSI/MIL-STD-1815A and this project's limits), each rule as one definition. They speak of the forms of `Forms` so far.
-use Rattle.std.specs.Prelude.{◌≡◌, ℕ, ◌<◌, ◌≤◌, false, List, length, drop, count_by, nat_eq, All, Contains, ⊤, IsSome, IfSome, codes}
+use Rattle.std.specs.Prelude.{◌≡◌, ℕ, ◌<◌, ◌≤◌, false, List, length, drop, count_by, nat_eq, All, Contains, ⊤, IsSome, IfSome, IsTrue, codes}
 use Rattle.std.specs.List.{starts_with, IsDistinct}
 use Rattle.std.specs.Option.{IsSomeAnd}
+use Rattle.ada_tree.specs.Lexical.{is_word}
 use Rattle.ada_tree.specs.PlainStmt.{PStmt, SCall, SAccept, accepting}
 use Rattle.ada_tree.specs.PlainDecl.{PDecl, DTaskBody}
 use Rattle.ada_tree.specs.PlainProgram.{PProgram}
@@ -98,6 +99,15 @@ pub record CountsAreFit (p : PProgram) (mode : Mode) : Type 0 where
   pub tasks : length (tasks_of p) ≤ task_limit mode
   pub entries : length (numbers_of p).entries ≤ entry_limit mode
 
+-- the text of the name is an identifier in upper case (2.3)
+abbrev pub IsIdentifierName : List (List ℕ) → ℕ → Type 0
+IsIdentifierName names name = IsTrue (is_word (text_of names record { 0 = name }))
+
+-- each declared name is an identifier in upper case (2.3): main's, those of the tasks and those of the entries; every reader gives such names
+pub record NamesAreIdentifiers (p : PProgram) : Type 0 where
+  pub main : All (IsIdentifierName p.names) (main_names p)
+  pub entries : All (λ task. All (IsIdentifierName p.names) (entry_names task)) (tasks_of p)
+
 -- The program meets every static rule, and these are its types and numbers.
 pub record Legal (p : PProgram) (types : TypeTable) (numbers : Numbering) (mode : Mode) : Type 0 where
   pub forms : HasPlainForms p
@@ -108,6 +118,7 @@ pub record Legal (p : PProgram) (types : TypeTable) (numbers : Numbering) (mode 
   pub bodies_have_tasks : BodiesHaveTasks p
   pub calls_are_known : HoldsOfStmts p numbers (IsKnownCall numbers)
   pub accepts_are_own : HoldsOfStmts p numbers (IsOwnAccept numbers)
+  pub names_are_identifiers : NamesAreIdentifiers p
   pub names_are_fit : NamesAreFit p mode
   pub counts_are_fit : CountsAreFit p mode
   pub its_types : types ≡ first_types

@@ -6,3 +6,4 @@ pub mod Numbered
 pub mod FirstTypes
 pub mod Forms
 pub mod Legal
+pub mod TaskText

@@ -2,6 +2,7 @@
 //! and the static rules that a program must meet.
 #![tactic(auto)]
 
+mod naming;
 mod numbering;
 mod origin;
 mod showing;
@@ -9,6 +10,7 @@ mod showing;
 mod tests;
 
 pub use event_machine::Event;
+pub use naming::{name_of, show_task};
 pub use numbering::{EntryInfo, Mode, Numbers, TaskInfo};
 pub use origin::back;
 pub use showing::show;

@@ -68,7 +68,7 @@ fn put_two<K: Sink>(letter: &[u8], a: u32, b: u32, out: &mut K) -> Result<(), Si
 }
 
 // A number in decimal.
-fn put_number<K: Sink>(n: u32, out: &mut K) -> Result<(), SinkError>
+pub(crate) fn put_number<K: Sink>(n: u32, out: &mut K) -> Result<(), SinkError>
     ensures bytes { Wrote result (K.told out.old) (K.told out.new) (decimal n) }
     ensures cause { HasCause (K.faults out.old) (K.faults out.new) result }
 {

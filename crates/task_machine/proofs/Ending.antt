@@ -1,5 +1,5 @@
 -- Whether all tasks of a range can end, step by step and by one that cannot.
-use Rattle.std.proofs.Common.{◌≡◌, ℕ, zero, suc, pred, ◌+◌, ◌<◌, ◌≤◌, Bool, true, false, ◌&&◌, ◌⊎◌, inl, inr, ap, sym, subst, ◌∙◌, refl, arith}
+use Rattle.std.proofs.Common.{◌≡◌, ℕ, zero, suc, pred, ◌<◌, ◌≤◌, Bool, true, false, ◌&&◌, ◌⊎◌, inl, inr, ap, subst, ◌∙◌, refl, arith}
 use Rattle.event_machine.specs.Seats.{Seen}
 use Rattle.event_machine.specs.Rows.{others_can_end, can_end}
 use Rattle.task_local.specs.Control.{Task}

@@ -3,3 +3,8 @@ pub mod Mapping
 pub mod Filtered
 pub mod Listed
 pub mod TaskLaws
+pub mod Tabled
+pub mod Judged
+pub mod Verdicts
+pub mod OneVerdict
+pub mod Deciding

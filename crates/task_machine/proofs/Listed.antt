@@ -1,5 +1,5 @@
 -- The enabled list of a machine that has ended, and of one that goes on.
-use Rattle.std.proofs.Common.{◌≡◌, ℕ, Bool, true, false, not, ◌&&◌, List, [], ◌∷◌, ◌++◌, length, filter, ap, sym, subst, ◌∙◌, refl, arith, zero, suc, ◌+◌, ◌*◌, ◌<◌, ◌≤◌, ◌^◌, length-append}
+use Rattle.std.proofs.Common.{◌≡◌, ℕ, Bool, true, false, not, List, [], ◌∷◌, ◌++◌, length, filter, ap, sym, subst, ◌∙◌, refl, arith, zero, suc, ◌+◌, ◌*◌, ◌<◌, ◌^◌, length-append}
 use Rattle.std.proofs.lemmas.List.Filters.{length-filter_both}
 use Rattle.event_machine.specs.declared.Action.{Action}
 use Rattle.event_machine.specs.declared.Action.TheVariants.{End}
@@ -9,7 +9,7 @@ use Rattle.ada_tree.specs.PlainStmt.{PStmt, PStmts, no_stmt, stmt_then, SCall, S
 use Rattle.syn_event.specs.Numbering.{Numbering}
 use Rattle.task_local.specs.Control.{Task, Around, Outermost, Opened}
 use Rattle.task_local.specs.Steps.{task_ops, offer_at, offer_in, offer_of}
-use Rattle.task_machine.specs.Table.{Whole, Tasks, enabled_of, can, row_of, seen_in, seat_of, offer_in_seat, whole}
+use Rattle.task_machine.specs.Table.{Tasks, enabled_of, can, row_of, seen_in, whole}
 
 -- nothing passes a test that always fails
 pub filter_none : {A : Type 0} (p : A → Bool) (xs : List A) → ((x : A) → p x ≡ false) → filter p xs ≡ []

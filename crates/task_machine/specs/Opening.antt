@@ -1,9 +1,8 @@
 -- The machine as a program starts: all tasks are live at their first statement (this project's rule).
-use Rattle.std.specs.Prelude.{ℕ, zero, suc, false, List, [], ◌∷◌, ◌++◌, length}
+use Rattle.std.specs.Prelude.{ℕ, zero, suc, false, [], ◌∷◌, ◌++◌, length}
 use Rattle.ada_tree.specs.PlainProgram.{PProgram}
 use Rattle.event_machine.specs.Seats.{live}
 use Rattle.syn_event.specs.Numbering.{Numbering}
-use Rattle.task_local.specs.Control.{Task}
 use Rattle.task_local.specs.Steps.{started}
 use Rattle.task_machine.specs.Table.{Tasks, Whole}
 

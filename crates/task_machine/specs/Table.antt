@@ -1,8 +1,7 @@
 -- The table of actions for the tasks of one program, kept in a list by their numbers.
-use Rattle.std.specs.Prelude.{ℕ, ℤ, Bool, false, List, [], Option, Some, None, if◌then◌else◌, length, slice_index_or}
+use Rattle.std.specs.Prelude.{ℕ, Bool, false, List, [], Option, Some, None, if◌then◌else◌, length, slice_index_or}
 use Rattle.event_machine.specs.declared.Action.{Action}
 use Rattle.event_machine.specs.declared.Event.{Event}
-use Rattle.event_machine.specs.declared.Choice.{Choice}
 use Rattle.event_machine.specs.Offers.{Offer}
 use Rattle.event_machine.specs.Seats as seats
 use Rattle.event_machine.specs.Rows as rows

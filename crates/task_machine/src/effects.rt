@@ -15,8 +15,8 @@ use event_machine::Standing;
 use syn_event::Numbers;
 use task_local::Offer;
 
-// The task makes its local step, and is live.
-pub(crate) fn step(seats: &mut [Seat], t: u32) -> Result<(), Memory>
+/// The task makes its local step, and is live.
+pub fn step(seats: &mut [Seat], t: u32) -> Result<(), Memory>
     requires { can_step (seat_of seats.old t).local ≡ true }
     ensures ok { OnOk result (seats.new ≡ freed store gone_on seats.old t) }
     ensures unchanged { OnErr result (seats.new ≡ seats.old) }
@@ -29,8 +29,8 @@ pub(crate) fn step(seats: &mut [Seat], t: u32) -> Result<(), Memory>
     Ok(())
 }
 
-// The task stands so, where it stood.
-pub(crate) fn set_standing(seats: &mut [Seat], t: u32, standing: Standing)
+/// The task stands so, where it stood.
+pub fn set_standing(seats: &mut [Seat], t: u32, standing: Standing)
     ensures { seats.new ≡ stand store seats.old t standing }
 {
     if (t as usize) < seats.len() {
@@ -39,8 +39,8 @@ pub(crate) fn set_standing(seats: &mut [Seat], t: u32, standing: Standing)
     }
 }
 
-// The rendezvous of the caller with the owner of the entry starts.
-pub(crate) fn meet(
+/// The rendezvous of the caller with the owner of the entry starts.
+pub fn meet(
     seats: &mut [Seat],
     numbers: &Numbers,
     c: u32,
@@ -76,8 +76,8 @@ fn accept(seats: &mut [Seat], a: u32, c: u32) -> Result<(), Memory>
     Ok(())
 }
 
-// TASKING_ERROR is raised at the call of the task, which is live.
-pub(crate) fn fail(seats: &mut [Seat], c: u32)
+/// TASKING_ERROR is raised at the call of the task, which is live.
+pub fn fail(seats: &mut [Seat], c: u32)
     ensures { seats.new ≡ freed store (raised_in tasking) seats.old c }
 {
     if (c as usize) < seats.len() {
@@ -87,8 +87,8 @@ pub(crate) fn fail(seats: &mut [Seat], c: u32)
     }
 }
 
-// The innermost rendezvous of the acceptor ends on both sides.
-pub(crate) fn finish(seats: &mut [Seat], numbers: &Numbers, a: u32)
+/// The innermost rendezvous of the acceptor ends on both sides.
+pub fn finish(seats: &mut [Seat], numbers: &Numbers, a: u32)
     ensures { seats.new ≡ parted_both (rules_of numbers.now) seats.old a }
 {
     if (a as usize) < seats.len() {
@@ -145,8 +145,8 @@ fn release(seat: &mut Seat, x: u32)
     }
 }
 
-// The task `t` aborts `x`: a closed one stays as it is.
-pub(crate) fn abort(seats: &mut [Seat], numbers: &Numbers, t: u32, x: u32)
+/// The task `t` aborts `x`: a closed one stays as it is.
+pub fn abort(seats: &mut [Seat], numbers: &Numbers, t: u32, x: u32)
     ensures { seats.new ≡ abort_seats (rules_of numbers.now) seats.old t x }
 {
     let was_closed = is_closed(standing_at(seats, x));

@@ -2,11 +2,15 @@
 //! (chapter 9 of ANSI/MIL-STD-1815A).
 #![tactic(auto)]
 
-mod effects;
+pub mod effects;
 mod listing;
 mod machine;
-mod rows;
-mod seats;
+mod program_laws;
+pub mod rows;
+pub mod seats;
+mod verdict;
 
 pub use event_machine::Action;
-pub use machine::{Machine, StepError};
+pub use machine::{Machine, StepError, start_all};
+pub use program_laws::laws;
+pub use verdict::{Cause, Verdict, Why};

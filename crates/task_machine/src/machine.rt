@@ -190,8 +190,8 @@ fn event_at(seats: &[Seat], action: Action) -> Option<Event>
     }
 }
 
-// The tasks of the program, each live at its first statement.
-fn start_all<'p>(
+/// The tasks of the program, each live at its first statement.
+pub fn start_all<'p>(
     alloc: Global,
     p: &'p Program,
     types: &'p Types,

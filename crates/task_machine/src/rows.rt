@@ -59,13 +59,15 @@ fn has_step(seats: &[Seat], t: u32) -> bool
     matches!(offer_at(seats, t), Offer::None)
 }
 
-fn finishes(seats: &[Seat], t: u32) -> bool
+/// The task offers the end of an accept body.
+pub fn finishes(seats: &[Seat], t: u32) -> bool
     ensures { result ≡ offers.is_finish (offer_in_seat (seat_of seats.now t)) }
 {
     matches!(offer_at(seats, t), Offer::Finish)
 }
 
-fn ends(seats: &[Seat], t: u32) -> bool
+/// The task offers the end of its own body.
+pub fn ends(seats: &[Seat], t: u32) -> bool
     ensures { result ≡ offers.is_end (offer_in_seat (seat_of seats.now t)) }
 {
     matches!(offer_at(seats, t), Offer::End)
@@ -136,8 +138,8 @@ fn starts_at(
                 && is_empty(seats, line, e, i)))
 }
 
-// The task offers a wait with an open accept of the member.
-fn opens_member(seats: &[Seat], t: u32, e: u32, i: i32) -> bool
+/// The task offers a wait with an open accept of the member.
+pub fn opens_member(seats: &[Seat], t: u32, e: u32, i: i32) -> bool
     ensures { result ≡ offers.waits_with (offers.opens e i) (offer_in_seat (seat_of seats.now t)) }
 {
     match offer_at(seats, t) {
@@ -155,8 +157,8 @@ fn opens(choice: &Choice, e: u32, i: i32) -> bool
     }
 }
 
-// The task offers a wait with an else part.
-fn has_else(seats: &[Seat], t: u32) -> bool
+/// The task offers a wait with an else part.
+pub fn has_else(seats: &[Seat], t: u32) -> bool
     ensures { result ≡ offers.waits_with offers.is_else (offer_in_seat (seat_of seats.now t)) }
 {
     match offer_at(seats, t) {
@@ -171,8 +173,8 @@ fn is_else(choice: &Choice) -> bool
     matches!(*choice, Choice::Else)
 }
 
-// The task offers a wait whose k-th delay can be taken.
-fn has_delay(seats: &[Seat], t: u32, k: u32) -> bool
+/// The task offers a wait whose k-th delay can be taken.
+pub fn has_delay(seats: &[Seat], t: u32, k: u32) -> bool
     ensures { result ≡ offers.waits_with (offers.is_delay k) (offer_in_seat (seat_of seats.now t)) }
 {
     match offer_at(seats, t) {
@@ -197,8 +199,8 @@ fn queues_at(seats: &[Seat], e: u32, i: i32, c: u32) -> bool
     is_queued(standing_at(seats, c)) && calls_member(seats, c, e, i)
 }
 
-// The task calls the member.
-fn calls_member(seats: &[Seat], c: u32, e: u32, i: i32) -> bool
+/// The task calls the member.
+pub fn calls_member(seats: &[Seat], c: u32, e: u32, i: i32) -> bool
     ensures { result ≡ offers.calls_in offers.is_any_form e i (offer_in_seat (seat_of seats.now c)) }
 {
     match offer_at(seats, c) {
@@ -290,7 +292,8 @@ fn can_end(seats: &[Seat], t: u32) -> bool
         || (is_waiting(standing_at(seats, t)) && has_terminate(seats, t))
 }
 
-fn has_terminate(seats: &[Seat], t: u32) -> bool
+/// The task offers a wait with an open terminate alternative.
+pub fn has_terminate(seats: &[Seat], t: u32) -> bool
     ensures { result ≡ offers.waits_with offers.is_terminate (offer_in_seat (seat_of seats.now t)) }
 {
     match offer_at(seats, t) {

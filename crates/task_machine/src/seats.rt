@@ -11,9 +11,9 @@ use task_local::{LocalTask, Offer};
 
 /// A task and its standing.
 #[derive(Drop)]
-pub(crate) struct Seat<'p> {
-    pub(crate) local: LocalTask<'p>,
-    pub(crate) standing: Standing,
+pub struct Seat<'p> {
+    pub local: LocalTask<'p>,
+    pub standing: Standing,
 }
 
 impl<'p> Model for Seat<'p> {
@@ -29,8 +29,8 @@ impl<'p> Model for Seat<'p> {
     ghost view = { λ s. record { local = s.local; standing = s.standing } };
 }
 
-// How the task of this number stands; past the last task all have completed.
-pub(crate) fn standing_at(seats: &[Seat], t: u32) -> Standing
+/// How the task of this number stands; past the last task all have completed.
+pub fn standing_at(seats: &[Seat], t: u32) -> Standing
     ensures { result ≡ (seat_of seats.now t).standing }
 {
     match seats.get(t as usize) {
@@ -39,8 +39,8 @@ pub(crate) fn standing_at(seats: &[Seat], t: u32) -> Standing
     }
 }
 
-// What the task of this number offers.
-pub(crate) fn offer_at<'a>(seats: &'a [Seat], t: u32) -> Offer<'a>
+/// What the task of this number offers.
+pub fn offer_at<'a>(seats: &'a [Seat], t: u32) -> Offer<'a>
     ensures { offer_as result ≡ offer_in_seat (seat_of seats.now t) }
 {
     match seats.get(t as usize) {
@@ -49,32 +49,36 @@ pub(crate) fn offer_at<'a>(seats: &'a [Seat], t: u32) -> Offer<'a>
     }
 }
 
-pub(crate) fn is_live(standing: Standing) -> bool
+/// It can act by itself.
+pub fn is_live(standing: Standing) -> bool
     ensures { result ≡ is_live standing }
 {
     matches!(standing, Standing::Live)
 }
 
-pub(crate) fn is_waiting(standing: Standing) -> bool
+/// It waits at an accept statement or a selective wait.
+pub fn is_waiting(standing: Standing) -> bool
     ensures { result ≡ is_waiting standing }
 {
     matches!(standing, Standing::Waiting)
 }
 
-pub(crate) fn is_queued(standing: Standing) -> bool
+/// It stands in the queue of the entry that it calls.
+pub fn is_queued(standing: Standing) -> bool
     ensures { result ≡ is_queued standing }
 {
     matches!(standing, Standing::Queued)
 }
 
-pub(crate) fn is_completed(standing: Standing) -> bool
+/// It has completed, by itself or by an abort.
+pub fn is_completed(standing: Standing) -> bool
     ensures { result ≡ is_completed standing }
 {
     matches!(standing, Standing::Completed | Standing::Killed)
 }
 
-// Closed: completed or abnormal.
-pub(crate) fn is_closed(standing: Standing) -> bool
+/// Closed: completed or abnormal.
+pub fn is_closed(standing: Standing) -> bool
     ensures { result ≡ is_closed standing }
 {
     match standing {
@@ -84,7 +88,8 @@ pub(crate) fn is_closed(standing: Standing) -> bool
     }
 }
 
-pub(crate) fn is_abnormal(standing: Standing) -> bool
+/// It is an abnormal caller.
+pub fn is_abnormal(standing: Standing) -> bool
     ensures { result ≡ is_abnormal standing }
 {
     match standing {
@@ -93,7 +98,8 @@ pub(crate) fn is_abnormal(standing: Standing) -> bool
     }
 }
 
-pub(crate) fn is_served_by(a: u32, standing: Standing) -> bool
+/// It is the caller in a rendezvous with the acceptor `a`, abnormal or not.
+pub fn is_served_by(a: u32, standing: Standing) -> bool
     ensures { result ≡ is_served_by a standing }
 {
     match standing {

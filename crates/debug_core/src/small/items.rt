@@ -1,8 +1,10 @@
 //! The tokens of a text as the parser takes them: each name by its id.
 
-ghost use Rattle.std.specs.Prelude.{◌≡◌, map, IfOk, IfSome, Some, OnOk, slice_get, slice_range, string_bytes};
+ghost use Rattle.std.specs.Prelude.{◌≡◌, map, All, IfOk, IfSome, Some, OnOk, slice_get, slice_range, string_bytes};
 ghost use Rattle.std.specs.Char.{to_ascii_uppercase};
-ghost use Rattle.debug_core.specs.SmallText.{Says, SayAll, Keeps, kind_of, signs};
+ghost use Rattle.debug_core.specs.SmallText.{Says, SayAll, Keeps, AreIdentifiers, kind_of, signs};
+ghost use Rattle.ada_lexer.specs.Split.{IsTokenOf};
+ghost use Rattle.ada_tree.specs.NameList.{interned};
 
 use super::refusal::SmallRefusal;
 use ada_lexer::{Token, TokenKind};
@@ -48,7 +50,9 @@ pub(crate) struct Items {
 
 /// The items of the tokens of a text, one for each. `NotSmall` comes where a token stands in no small text.
 pub(crate) fn read_items(alloc: Global, src: &[u8], tokens: &[Token]) -> Result<Items, SmallRefusal>
-    ensures { IfOk result (λ items. SayAll src.now items.names tokens.now (signs items.list.items)) }
+    requires { All (IsTokenOf src.now) tokens.now }
+    ensures said { IfOk result (λ items. SayAll src.now items.names tokens.now (signs items.list.items)) }
+    ensures names { IfOk result (λ items. AreIdentifiers items.names) }
 {
     let mut names = Names::new(alloc)?;
     let mut list = Vec::new(alloc);
@@ -66,8 +70,10 @@ fn read_item(
     token: Token,
     names: &mut Names,
 ) -> Result<Item, SmallRefusal>
+    requires { IsTokenOf src.now token }
     ensures said { IfOk result (λ item. Says src.now names.new token item.sign) }
     ensures kept { OnOk result (Keeps names.old names.new) }
+    ensures names { AreIdentifiers names.old → OnOk result (AreIdentifiers names.new) }
 {
     let span = Span {
         start: token.start,
@@ -121,6 +127,7 @@ fn intern_upper(
 ) -> Result<NameId, SmallRefusal>
     ensures found { IfOk result (λ id. slice_get names.new id.0 ≡ Some (map to_ascii_uppercase (slice_range src.now start end))) }
     ensures kept { OnOk result (Keeps names.old names.new) }
+    ensures grown { OnOk result (names.new ≡ interned names.old (map to_ascii_uppercase (slice_range src.now start end))) }
 {
     let upper = upper_text(alloc, src, start, end)?;
     let id = names.intern(upper.as_str())?;

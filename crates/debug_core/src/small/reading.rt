@@ -1,11 +1,12 @@
 //! From bytes to a legal program.
 
-ghost use Rattle.std.specs.Prelude.{◌≡◌, IfOk};
-ghost use Rattle.ada_lexer.specs.Split.{Splits};
+ghost use Rattle.std.specs.Prelude.{◌≡◌, All, IfOk};
+ghost use Rattle.ada_lexer.specs.Split.{Splits, IsTokenOf};
+ghost use Rattle.ada_tree.specs.NameList.{AreNames};
 ghost use Rattle.ada_tree.specs.PlainProgram.{plain_program};
 ghost use Rattle.syn_event.specs.FirstTypes.{first_types, first_mark};
 ghost use Rattle.syn_event.specs.Legal.{Legal};
-ghost use Rattle.debug_core.specs.SmallText.{IsSmallText};
+ghost use Rattle.debug_core.specs.SmallText.{IsSmallText, AreIdentifiers};
 
 use super::items::{Items, read_items};
 use super::numbering::numbers_for;
@@ -29,6 +30,7 @@ pub(crate) struct SmallProgram {
 /// at other texts; `Memory` comes where there was not enough.
 pub(crate) fn read_small(alloc: Global, src: &[u8]) -> Result<SmallProgram, SmallRefusal>
     ensures text { IfOk result (λ small. IsSmallText src.now (plain_program small.program)) }
+    ensures named { IfOk result (λ small. AreNames small.program.names) }
     ensures legal { IfOk result (λ small. Legal (plain_program small.program) small.types small.numbers Mode.Original) }
 {
     let program = read_program(alloc, src)?;
@@ -46,7 +48,8 @@ pub(crate) fn read_small(alloc: Global, src: &[u8]) -> Result<SmallProgram, Smal
 
 // The program that a small text says, whether or not it meets the static rules.
 fn read_program(alloc: Global, src: &[u8]) -> Result<Program, SmallRefusal>
-    ensures { IfOk result (λ program. IsSmallText src.now (plain_program program)) }
+    ensures text { IfOk result (λ program. IsSmallText src.now (plain_program program)) }
+    ensures names { IfOk result (λ program. AreIdentifiers program.names) }
 {
     let found = small_tokens(alloc, src)?;
     let Items { names, list } = read_items(alloc, src, &found)?;
@@ -62,7 +65,8 @@ fn read_program(alloc: Global, src: &[u8]) -> Result<Program, SmallRefusal>
 
 // The tokens of the text; a text too long for places of 32 bits is not small.
 fn small_tokens(alloc: Global, src: &[u8]) -> Result<Vec<Token>, SmallRefusal>
-    ensures { IfOk result (λ found. Splits src.now found.items) }
+    ensures split { IfOk result (λ found. Splits src.now found.items) }
+    ensures slices { IfOk result (λ found. All (IsTokenOf src.now) found.items) }
 {
     if src.len() >= u32::MAX as usize {
         return Err(SmallRefusal::NotSmall);

@@ -2,6 +2,7 @@
 
 ghost use Rattle.std.specs.Prelude.{◌≡◌, ◌==◌, map, nat_eq, count_by, All, IsTrue};
 ghost use Rattle.std.specs.List.{IsDistinct, list_any};
+ghost use Rattle.ada_tree.specs.NameList.{AreNames};
 ghost use Rattle.ada_tree.specs.PlainStmt.{plain_stmt, plain_body};
 ghost use Rattle.ada_tree.specs.declared.statements.Body.{out-Body};
 ghost use Rattle.ada_tree.specs.PlainDecl.{plain_decl, plain_entry, plain_task};
@@ -20,11 +21,15 @@ const NAME_LIMIT: usize = 120;
 
 /// Whether the program meets the static rules but for those on forms and counts.
 pub(crate) fn is_legal(program: &Program, numbers: &Numbers) -> bool
+    ensures named { IsTrue result → AreNames program.now.names }
     ensures main_differ { IsTrue result → IsDistinct nat_eq (info_names numbers.now.tasks) }
     ensures main_new { IsTrue result → All (λ info. IsNewName program.now.names info.name.0) numbers.now.tasks }
     ensures main_stmts { IsTrue result → All (λ stmt. StmtHolds numbers.now 0 (plain_stmt stmt)) (out-Body program.now.body).stmts.items }
     ensures decls { IsTrue result → All (λ decl. DeclHolds program.now.names numbers.now (map plain_decl program.now.decls.items) (plain_decl decl)) program.now.decls.items }
 {
+    if !is_new_name(&program.names, program.name.name) {
+        return false;
+    }
     if !task_names_differ(&numbers.tasks) {
         return false;
     }
@@ -51,7 +56,8 @@ fn names_are_new(names: &Names, tasks: &[TaskInfo]) -> bool
 
 // Whether the name is not predefined, and is fit.
 fn is_new_name(names: &Names, name: NameId) -> bool
-    ensures { IsTrue result → IsNewName names.now name.0 }
+    ensures new { IsTrue result → IsNewName names.now name.0 }
+    ensures named { IsTrue result → AreNames names.now }
 {
     name.0 >= PREDEFINED && is_fit_name(names, name)
 }
@@ -112,7 +118,8 @@ fn entries_are_fit(names: &Names, entries: &[EntryDecl]) -> bool
 
 // Whether a declared name is within the limit and free of the marks of rewriters.
 fn is_fit_name(names: &Names, name: NameId) -> bool
-    ensures { IsTrue result → IsFit names.now name.0 }
+    ensures fit { IsTrue result → IsFit names.now name.0 }
+    ensures named { AreNames names.now }
 {
     match names.text(name) {
         Some(text) => text.len() <= NAME_LIMIT && is_free_of_marks(text.as_bytes()),

@@ -4,7 +4,7 @@ use Rattle.std.specs.Int.{w32, w64}
 use Rattle.std.specs.Prelude.{bytes_eq, codes, FitsSigned}
 use Rattle.event_machine.specs.declared.Event.TheVariants.{R, C, T, F}
 use Rattle.seq_file.specs.Lines.{call_event, with_three}
-use Rattle.seq_file.specs.Numerals.{natural, integer}
+use Rattle.seq_file.specs.Numerals.{count, integer}
 use Rattle.seq_file.specs.Verdicts.{verdict_of}
 use Rattle.seq_file.specs.Capped.{capped_integer}
 use Rattle.seq_file.specs.Known.{is_index}
@@ -32,23 +32,23 @@ fourth letter o p q e0 e1 e2 e3 = rw e0 (rw e1 (rw e2 (rw e3 refl)))
 pub returns-then-is_letter : goal.returns-then-is_letter
 returns-then-is_letter c =
     c.verdict_on.ensures
-    ∙ three-read c.args.numbers.now (λ x y z. R x y z) c.is_call-known.ensures.tasks c.is_call-known.ensures.entries (λ x y z. refl) (natural c.args.c.now) (natural c.args.e.now) (integer c.args.i.now) c.in-Some.caller c.in-Some-natural.entry c.in-Some-integer.index c.low-c.result c.low-e.result (to_z w32 (of_z w32 c.low_integer-i.result)) c.is_call-known.result c.in-Some.ensures.is c.in-Some-natural.ensures.is c.in-Some-integer.ensures (λ z e. c.is_call-known.ensures.is z (whole _ _ c.in-Some-integer.ensures ∙ e)) (λ h. ap is_index (sym (whole _ _ c.in-Some-integer.ensures)) ∙ c.is_call-known.ensures.small h) c.low-c.ensures c.low-e.ensures (λ h. exact c.in-Some-integer.index c.low_integer-i.result h (c.low_integer-i.ensures (subst (FitsSigned w32) (sym (whole _ _ c.in-Some-integer.ensures)) h) ∙ whole _ _ c.in-Some-integer.ensures))
-    ∙ ap (verdict_of c.args.numbers.now) (first c.args.letter.now (natural c.args.c.now) (natural c.args.e.now) (integer c.args.i.now) (sym c.is_letter.ensures ∙ c.if-is_letter.true))
+    ∙ three-read c.args.numbers.now (λ x y z. R x y z) c.is_call-known.ensures.tasks c.is_call-known.ensures.entries (λ x y z. refl) (count c.args.c.now) (count c.args.e.now) (integer c.args.i.now) c.in-Some.caller c.in-Some-count.entry c.in-Some-integer.index c.low-c.result c.low-e.result (to_z w32 (of_z w32 c.low_integer-i.result)) c.is_call-known.result c.in-Some.ensures c.in-Some-count.ensures c.in-Some-integer.ensures (λ z e. c.is_call-known.ensures.is z (whole _ _ c.in-Some-integer.ensures ∙ e)) (λ h. ap is_index (sym (whole _ _ c.in-Some-integer.ensures)) ∙ c.is_call-known.ensures.small h) c.low-c.ensures c.low-e.ensures (λ h. exact c.in-Some-integer.index c.low_integer-i.result h (c.low_integer-i.ensures (subst (FitsSigned w32) (sym (whole _ _ c.in-Some-integer.ensures)) h) ∙ whole _ _ c.in-Some-integer.ensures))
+    ∙ ap (verdict_of c.args.numbers.now) (first c.args.letter.now (count c.args.c.now) (count c.args.e.now) (integer c.args.i.now) (sym c.is_letter.ensures ∙ c.if-is_letter.true))
 
 pub returns-then-is_letter-2 : goal.returns-then-is_letter-2
 returns-then-is_letter-2 c =
     c.verdict_on-then-is_letter-2.ensures
-    ∙ three-read c.args.numbers.now (λ x y z. C x y z) c.is_call-known.ensures.tasks c.is_call-known.ensures.entries (λ x y z. refl) (natural c.args.c.now) (natural c.args.e.now) (integer c.args.i.now) c.in-Some.caller c.in-Some-natural.entry c.in-Some-integer.index c.low-c.result c.low-e.result (to_z w32 (of_z w32 c.low_integer-i.result)) c.is_call-known.result c.in-Some.ensures.is c.in-Some-natural.ensures.is c.in-Some-integer.ensures (λ z e. c.is_call-known.ensures.is z (whole _ _ c.in-Some-integer.ensures ∙ e)) (λ h. ap is_index (sym (whole _ _ c.in-Some-integer.ensures)) ∙ c.is_call-known.ensures.small h) c.low-c.ensures c.low-e.ensures (λ h. exact c.in-Some-integer.index c.low_integer-i.result h (c.low_integer-i.ensures (subst (FitsSigned w32) (sym (whole _ _ c.in-Some-integer.ensures)) h) ∙ whole _ _ c.in-Some-integer.ensures))
-    ∙ ap (verdict_of c.args.numbers.now) (second c.args.letter.now (natural c.args.c.now) (natural c.args.e.now) (integer c.args.i.now) (sym c.is_letter.ensures ∙ c.if-is_letter.false) (sym c.is_letter-else-is_letter.ensures ∙ c.if-is_letter-2.true))
+    ∙ three-read c.args.numbers.now (λ x y z. C x y z) c.is_call-known.ensures.tasks c.is_call-known.ensures.entries (λ x y z. refl) (count c.args.c.now) (count c.args.e.now) (integer c.args.i.now) c.in-Some.caller c.in-Some-count.entry c.in-Some-integer.index c.low-c.result c.low-e.result (to_z w32 (of_z w32 c.low_integer-i.result)) c.is_call-known.result c.in-Some.ensures c.in-Some-count.ensures c.in-Some-integer.ensures (λ z e. c.is_call-known.ensures.is z (whole _ _ c.in-Some-integer.ensures ∙ e)) (λ h. ap is_index (sym (whole _ _ c.in-Some-integer.ensures)) ∙ c.is_call-known.ensures.small h) c.low-c.ensures c.low-e.ensures (λ h. exact c.in-Some-integer.index c.low_integer-i.result h (c.low_integer-i.ensures (subst (FitsSigned w32) (sym (whole _ _ c.in-Some-integer.ensures)) h) ∙ whole _ _ c.in-Some-integer.ensures))
+    ∙ ap (verdict_of c.args.numbers.now) (second c.args.letter.now (count c.args.c.now) (count c.args.e.now) (integer c.args.i.now) (sym c.is_letter.ensures ∙ c.if-is_letter.false) (sym c.is_letter-else-is_letter.ensures ∙ c.if-is_letter-2.true))
 
 pub returns-then-is_letter-3 : goal.returns-then-is_letter-3
 returns-then-is_letter-3 c =
     c.verdict_on-then-is_letter-3.ensures
-    ∙ three-read c.args.numbers.now (λ x y z. T x y z) c.is_call-known.ensures.tasks c.is_call-known.ensures.entries (λ x y z. refl) (natural c.args.c.now) (natural c.args.e.now) (integer c.args.i.now) c.in-Some.caller c.in-Some-natural.entry c.in-Some-integer.index c.low-c.result c.low-e.result (to_z w32 (of_z w32 c.low_integer-i.result)) c.is_call-known.result c.in-Some.ensures.is c.in-Some-natural.ensures.is c.in-Some-integer.ensures (λ z e. c.is_call-known.ensures.is z (whole _ _ c.in-Some-integer.ensures ∙ e)) (λ h. ap is_index (sym (whole _ _ c.in-Some-integer.ensures)) ∙ c.is_call-known.ensures.small h) c.low-c.ensures c.low-e.ensures (λ h. exact c.in-Some-integer.index c.low_integer-i.result h (c.low_integer-i.ensures (subst (FitsSigned w32) (sym (whole _ _ c.in-Some-integer.ensures)) h) ∙ whole _ _ c.in-Some-integer.ensures))
-    ∙ ap (verdict_of c.args.numbers.now) (third c.args.letter.now (natural c.args.c.now) (natural c.args.e.now) (integer c.args.i.now) (sym c.is_letter.ensures ∙ c.if-is_letter.false) (sym c.is_letter-else-is_letter.ensures ∙ c.if-is_letter-2.false) (sym c.is_letter-else-is_letter-2.ensures ∙ c.if-is_letter-3.true))
+    ∙ three-read c.args.numbers.now (λ x y z. T x y z) c.is_call-known.ensures.tasks c.is_call-known.ensures.entries (λ x y z. refl) (count c.args.c.now) (count c.args.e.now) (integer c.args.i.now) c.in-Some.caller c.in-Some-count.entry c.in-Some-integer.index c.low-c.result c.low-e.result (to_z w32 (of_z w32 c.low_integer-i.result)) c.is_call-known.result c.in-Some.ensures c.in-Some-count.ensures c.in-Some-integer.ensures (λ z e. c.is_call-known.ensures.is z (whole _ _ c.in-Some-integer.ensures ∙ e)) (λ h. ap is_index (sym (whole _ _ c.in-Some-integer.ensures)) ∙ c.is_call-known.ensures.small h) c.low-c.ensures c.low-e.ensures (λ h. exact c.in-Some-integer.index c.low_integer-i.result h (c.low_integer-i.ensures (subst (FitsSigned w32) (sym (whole _ _ c.in-Some-integer.ensures)) h) ∙ whole _ _ c.in-Some-integer.ensures))
+    ∙ ap (verdict_of c.args.numbers.now) (third c.args.letter.now (count c.args.c.now) (count c.args.e.now) (integer c.args.i.now) (sym c.is_letter.ensures ∙ c.if-is_letter.false) (sym c.is_letter-else-is_letter.ensures ∙ c.if-is_letter-2.false) (sym c.is_letter-else-is_letter-2.ensures ∙ c.if-is_letter-3.true))
 
 pub returns-then-is_letter-4 : goal.returns-then-is_letter-4
 returns-then-is_letter-4 c =
     c.verdict_on-then-is_letter-4.ensures
-    ∙ three-read c.args.numbers.now (λ x y z. F x y z) c.is_call-known.ensures.tasks c.is_call-known.ensures.entries (λ x y z. refl) (natural c.args.c.now) (natural c.args.e.now) (integer c.args.i.now) c.in-Some.caller c.in-Some-natural.entry c.in-Some-integer.index c.low-c.result c.low-e.result (to_z w32 (of_z w32 c.low_integer-i.result)) c.is_call-known.result c.in-Some.ensures.is c.in-Some-natural.ensures.is c.in-Some-integer.ensures (λ z e. c.is_call-known.ensures.is z (whole _ _ c.in-Some-integer.ensures ∙ e)) (λ h. ap is_index (sym (whole _ _ c.in-Some-integer.ensures)) ∙ c.is_call-known.ensures.small h) c.low-c.ensures c.low-e.ensures (λ h. exact c.in-Some-integer.index c.low_integer-i.result h (c.low_integer-i.ensures (subst (FitsSigned w32) (sym (whole _ _ c.in-Some-integer.ensures)) h) ∙ whole _ _ c.in-Some-integer.ensures))
-    ∙ ap (verdict_of c.args.numbers.now) (fourth c.args.letter.now (natural c.args.c.now) (natural c.args.e.now) (integer c.args.i.now) (sym c.is_letter.ensures ∙ c.if-is_letter.false) (sym c.is_letter-else-is_letter.ensures ∙ c.if-is_letter-2.false) (sym c.is_letter-else-is_letter-2.ensures ∙ c.if-is_letter-3.false) (sym c.is_letter-else-is_letter-3.ensures ∙ c.if-is_letter-4.true))
+    ∙ three-read c.args.numbers.now (λ x y z. F x y z) c.is_call-known.ensures.tasks c.is_call-known.ensures.entries (λ x y z. refl) (count c.args.c.now) (count c.args.e.now) (integer c.args.i.now) c.in-Some.caller c.in-Some-count.entry c.in-Some-integer.index c.low-c.result c.low-e.result (to_z w32 (of_z w32 c.low_integer-i.result)) c.is_call-known.result c.in-Some.ensures c.in-Some-count.ensures c.in-Some-integer.ensures (λ z e. c.is_call-known.ensures.is z (whole _ _ c.in-Some-integer.ensures ∙ e)) (λ h. ap is_index (sym (whole _ _ c.in-Some-integer.ensures)) ∙ c.is_call-known.ensures.small h) c.low-c.ensures c.low-e.ensures (λ h. exact c.in-Some-integer.index c.low_integer-i.result h (c.low_integer-i.ensures (subst (FitsSigned w32) (sym (whole _ _ c.in-Some-integer.ensures)) h) ∙ whole _ _ c.in-Some-integer.ensures))
+    ∙ ap (verdict_of c.args.numbers.now) (fourth c.args.letter.now (count c.args.c.now) (count c.args.e.now) (integer c.args.i.now) (sym c.is_letter.ensures ∙ c.if-is_letter.false) (sym c.is_letter-else-is_letter.ensures ∙ c.if-is_letter-2.false) (sym c.is_letter-else-is_letter-2.ensures ∙ c.if-is_letter-3.false) (sym c.is_letter-else-is_letter-3.ensures ∙ c.if-is_letter-4.true))

@@ -1,4 +1,4 @@
-use Rattle.std.proofs.Common.{◌≡◌, false, length, pred, sym, ◌∙◌, arith}
+use Rattle.std.proofs.Common.{length, pred, sym, ◌∙◌, arith}
 use Rattle.task_machine.specs.Table.{seen_in}
 use Rattle.task_machine.proofs.Ending.{others_can_end-not, le_pred}
 use Rattle.task_machine.proofs.rows.others_can_end.Goals as goal

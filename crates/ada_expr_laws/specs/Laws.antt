@@ -1,0 +1,33 @@
+-- What the laws of expressions come to (4.4): each reader finds exactly the expressions of its level, each has one tree, and each fault is the first item that decides.
+use Rattle.ada_expr_parser.specs.declared.levels.Level.{Level}
+use Rattle.ada_expr_parser.specs.Reading.{expr}
+use Rattle.ada_expr_parser.specs.declared.levels.Level.TheVariants.{Simple}
+use Rattle.ada_expr_parser.specs.Parts as parts
+use Rattle.ada_expr_parser.specs.Grammar.{IsExpr, IsBounds, IsSubind, IsDrange, IsTarget, IsCall, IsChoice}
+use Rattle.lawful_reader.specs.Exactness.{FindsExactly, FaultsExactly}
+use Rattle.ada_expr_laws.specs.Stopping.{Ends, EndsMark, EndsRange, EndsTarget, EndsChoice}
+
+-- Before an item that ends it, exactly the expressions of a level are found, and each has one tree.
+abbrev pub FindsExpressions : Type 0
+FindsExpressions = (l : Level) → FindsExactly (λ d. expr d l) (λ d e text. IsExpr l d e text) (Ends l)
+
+-- A fault stands at the first item with which no expression of the level goes on, or only deeper ones.
+abbrev pub RefusesExpressions : Type 0
+RefusesExpressions = (l : Level) → FaultsExactly (λ d. expr d l) (λ d e text. IsExpr l d e text)
+
+-- The same of bounds, subtype indications, discrete ranges, variables, entry calls and choices (3.3.2, 3.5, 3.6, 3.7.3, 5.2, 9.5).
+pub record FindsParts : Type 0 where
+  pub bounds : FindsExactly parts.bounds (λ d x text. IsBounds d x text) (Ends Simple)
+  pub subind : FindsExactly parts.subind (λ d x text. IsSubind d x text) EndsMark
+  pub drange : FindsExactly parts.drange (λ d x text. IsDrange d x text) EndsRange
+  pub target : FindsExactly parts.target (λ d x text. IsTarget d x text) EndsTarget
+  pub call : FindsExactly parts.call (λ d x text. IsCall d x text) EndsTarget
+  pub choice : FindsExactly parts.choice (λ d x text. IsChoice d x text) EndsChoice
+
+pub record RefusesParts : Type 0 where
+  pub bounds : FaultsExactly parts.bounds (λ d x text. IsBounds d x text)
+  pub subind : FaultsExactly parts.subind (λ d x text. IsSubind d x text)
+  pub drange : FaultsExactly parts.drange (λ d x text. IsDrange d x text)
+  pub target : FaultsExactly parts.target (λ d x text. IsTarget d x text)
+  pub call : FaultsExactly parts.call (λ d x text. IsCall d x text)
+  pub choice : FaultsExactly parts.choice (λ d x text. IsChoice d x text)

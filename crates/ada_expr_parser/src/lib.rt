@@ -1,0 +1,23 @@
+//! Expressions, ranges and names of Ada, read from the tokens of a text.
+#![tactic(auto)]
+
+mod errors;
+mod items;
+mod levels;
+mod nodes;
+mod parts;
+mod reading;
+mod signs;
+mod symbols;
+#[cfg(test)]
+mod tests;
+
+pub use errors::ParseError;
+pub use items::{Item, ItemKind, Items, read_items};
+pub use levels::Level;
+pub use parts::{
+    read_behind, read_bounds, read_call, read_call_behind, read_choice, read_drange, read_expr,
+    read_subind, read_target,
+};
+pub use signs::{begins_expr, expect, expect_word, symbol_in};
+pub use symbols::Symbol;

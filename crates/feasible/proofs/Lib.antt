@@ -1,0 +1,7 @@
+pub mod Running
+pub mod Asking
+pub mod Judging
+pub mod Continuing
+pub mod Starting
+pub mod Seeing
+pub mod Fronts

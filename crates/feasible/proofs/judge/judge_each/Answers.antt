@@ -1,0 +1,24 @@
+use Rattle.std.proofs.Common.{◌≡◌, ◌<◌, ◌∙◌, ◌+◌, sym, subst, take, length, arith}
+use Rattle.std.proofs.lemmas.List.{take_more}
+use Rattle.feasible.specs.Keeping.{StandsFor}
+use Rattle.feasible.proofs.Continuing.{verdict_whole}
+use Rattle.feasible.proofs.Fronts.{no_end_front}
+use Rattle.feasible.proofs.judge.judge_each.Goals as goal
+
+pub loop-e-preserved : goal.loop-e-preserved
+loop-e-preserved c =
+    let events = c.args.events.now in
+    let i = c.loop-e.e-index in
+    let less : i < length events = c.loop-e-test.true in
+    record {
+      stands = λ p s none. subst (λ es. StandsFor p es c.next.new.self) (sym (take_more events i _ less))
+          (c.in-Ok.ensures.stands p (take i events) (c.loop-e.invariant.stands p s none) (no_end_front events i less none));
+      taken = omega (arith, c.in-Ok.ensures.taken);
+      numbers = c.in-Ok.ensures.numbers ∙ c.loop-e.invariant.numbers;
+      bound = c.in-Ok.ensures.bound ∙ c.loop-e.invariant.bound;
+    }
+
+pub returns : goal.returns
+returns c = λ p s none.
+    verdict_whole p c.args.events.now c.loop-e.e-index c.loop-e.judge c.args.judge.now.numbers c.args.judge.now.bound c.verdict.result
+    (c.loop-e.invariant.stands p s none) (omega arith) c.loop-e.invariant.numbers c.loop-e.invariant.bound c.verdict.ensures

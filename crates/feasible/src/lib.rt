@@ -1,0 +1,16 @@
+//! The judge: whether a list of synchronization events is feasible for a program, told event by event, without a search
+//! through interleavings.
+#![tactic(auto)]
+
+mod conditions;
+mod happening;
+mod judge;
+mod settling;
+mod showing;
+
+pub use judge::{Judge, judge_all};
+pub use showing::TaskView;
+pub use task_machine::{Cause, Verdict, Why};
+
+#[cfg(test)]
+mod tests;

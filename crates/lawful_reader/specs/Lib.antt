@@ -1,0 +1,4 @@
+pub mod Readers
+pub mod Grammars
+pub mod Lawful
+pub mod Exactness
