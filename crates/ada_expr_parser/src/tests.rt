@@ -514,31 +514,53 @@ fn begins(rt: &impl Abort, alloc: Global, text: String, want: String) -> Result<
     Ok(())
 }
 
+fn without_parentheses(
+    rt: &impl Abort,
+    alloc: Global,
+    one: Operator,
+    other: Operator,
+) -> Result<(), Fail> {
+    let (a, b) = (one.text, other.text);
+    let text = format!(in alloc; "a {a} b {b} c")?;
+    begins(rt, alloc, text, pair(alloc, one, other)?)
+}
+
+fn first_in_parentheses(
+    rt: &impl Abort,
+    alloc: Global,
+    one: Operator,
+    other: Operator,
+) -> Result<(), Fail> {
+    let (a, b) = (one.text, other.text);
+    let text = format!(in alloc; "(a {a} b) {b} c")?;
+    let (first, second) = (one.name, other.name);
+    let inner = format!(in alloc; "({first} A B)")?;
+    let want = format!(in alloc; "({second} {{{inner}}} C) 0-")?;
+    begins(rt, alloc, text, want)
+}
+
+fn second_in_parentheses(
+    rt: &impl Abort,
+    alloc: Global,
+    one: Operator,
+    other: Operator,
+) -> Result<(), Fail> {
+    let (a, b) = (one.text, other.text);
+    let text = format!(in alloc; "a {a} (b {b} c)")?;
+    let (first, second) = (one.name, other.name);
+    let inner = format!(in alloc; "({second} B C)")?;
+    let want = format!(in alloc; "({first} A {{{inner}}}) 0-")?;
+    begins(rt, alloc, text, want)
+}
+
 #[test]
 fn operator_pairs(rt: HostRuntime) -> Result<(), Fail> {
     let alloc = rt.alloc();
     for one in OPERATORS {
         for other in OPERATORS {
-            let (a, b) = (one.text, other.text);
-            let (first, second) = (one.name, other.name);
-            begins(
-                &rt,
-                alloc,
-                format!(in alloc; "a {a} b {b} c")?,
-                pair(alloc, one, other)?,
-            )?;
-            begins(
-                &rt,
-                alloc,
-                format!(in alloc; "(a {a} b) {b} c")?,
-                format!(in alloc; "({second} {{({first} A B)}} C) 0-")?,
-            )?;
-            begins(
-                &rt,
-                alloc,
-                format!(in alloc; "a {a} (b {b} c)")?,
-                format!(in alloc; "({first} A {{({second} B C)}}) 0-")?,
-            )?;
+            without_parentheses(&rt, alloc, one, other)?;
+            first_in_parentheses(&rt, alloc, one, other)?;
+            second_in_parentheses(&rt, alloc, one, other)?;
         }
     }
     Ok(())
