@@ -144,7 +144,7 @@ module _ (p : PProgram) (numbers : Numbering) (bound : ℕ) where
     rests t free =
         let (live_base, has, is) = at_count t free in
         subst (λ es. RestIs (rules_of numbers) (opening_of p numbers).state es t (slice_index steps t) (kept t).local) (sym same_end)
-            ((the_rest p numbers events more t (slice_index steps t) (kept t).local).1 (k.bases, k.leads, live_base, has, is))
+        ((the_rest p numbers events more t (slice_index steps t) (kept t).local).1 (k.bases, k.leads, live_base, has, is))
 
     -- a settled task is not open
     pub settled_closed : (t : ℕ) → IsSettled tasks t → IsOpen p numbers events t bound → ⊥
