@@ -1,5 +1,5 @@
 -- The conditions as the code asks them, task by task, are those of the table.
-use Rattle.std.proofs.Common.{◌≡◌, ℕ, zero, suc, pred, ◌+◌, ◌<◌, ◌≤◌, Bool, true, false, not, ◌&&◌, ◌==◌, if◌then◌else◌, List, [], ◌∷◌, ◌++◌, length, refl, sym, ap, ap₂, ◌∙◌, subst, ⊎_elim, true≢false, arith, Option, Some, None}
+use Rattle.std.proofs.Common.{◌≡◌, ℕ, zero, suc, pred, ◌<◌, ◌≤◌, Bool, true, false, not, if◌then◌else◌, List, [], ◌∷◌, ◌++◌, length, refl, sym, ap, ap₂, ◌∙◌, subst, ⊎_elim, true≢false, arith, Option, Some, None}
 use Rattle.std.specs.Prelude.{find, option_map}
 use Rattle.std.proofs.lemmas.Bool.{cases_lt}
 use Rattle.event_machine.specs.declared.Event.{Event}
@@ -12,9 +12,9 @@ use Rattle.syn_event.specs.Numbering.{Numbering, owner_of}
 use Rattle.task_local.specs.Steps.{offer_of}
 use Rattle.task_machine.specs.declared.verdict.Cause.TheVariants as cause
 use Rattle.task_machine.specs.declared.verdict.Why.{Why}
-use Rattle.task_machine.specs.Conditions.{Condition, holds, why_of, failing_in, first_failing, conditions_of, acts, not_served, not_closed, closed, at_offer, may_end, others_may_end, is_end_of}
+use Rattle.task_machine.specs.Conditions.{Condition, holds, why_of, failing_in, first_failing, acts, not_served, not_closed, closed, at_offer, may_end, others_may_end, is_end_of}
 use Rattle.task_machine.specs.Table.{Tasks, seat_of}
-use Rattle.task_machine.specs.Views.{View, Completed, Abnormal, Busy, At, view_in, view_of}
+use Rattle.task_machine.specs.Views.{View, Completed, Abnormal, Busy, At, view_in}
 use Rattle.feasible.specs.Failing.{why, first_of, act_fails, closed_fails, open_fails, main_fails, other_fails, view_at, act_asked, asked}
 
 -- ---- lists of conditions

@@ -1,5 +1,5 @@
 -- The judge's step: its verdict is that of the events with one more, and what it keeps stands for those that have happened.
-use Rattle.std.proofs.Common.{◌≡◌, ℕ, zero, suc, ◌+◌, ◌<◌, ◌≤◌, Bool, true, false, List, [], ◌∷◌, ◌++◌, length, take, refl, sym, ap, ◌∙◌, subst, arith, Option, Some, None, length-append, true≢false, ⊎_elim, Result, Ok, Err}
+use Rattle.std.proofs.Common.{◌≡◌, ℕ, ◌+◌, ◌<◌, ◌≤◌, Bool, true, false, List, [], ◌∷◌, ◌++◌, length, take, refl, sym, ap, ◌∙◌, subst, arith, Some, None, length-append, true≢false, ⊎_elim, Result, Ok, Err}
 use Rattle.std.specs.Prelude.{All, slice_index, ◌||◌, IfOk, OnOk}
 use Rattle.std.proofs.lemmas.Bool.{cases_Bool}
 use Rattle.std.proofs.lemmas.List.{take-append-le, take_all}
@@ -8,12 +8,10 @@ use Rattle.std.proofs.Math.Seq.{take-length, take-append_seam}
 use Rattle.ada_tree.specs.declared.shortage.Memory.{Memory}
 use Rattle.ada_tree.specs.PlainProgram.{PProgram}
 use Rattle.event_machine.specs.declared.Event.{Event}
-use Rattle.event_machine.specs.Seats.{Seat, is_live}
+use Rattle.event_machine.specs.Seats.{is_live}
 use Rattle.event_machine.specs.Tallies.{HasNoEnd}
-use Rattle.event_machine.specs.Worlds.{happens, is_last}
+use Rattle.event_machine.specs.Worlds.{is_last}
 use Rattle.syn_event.specs.Numbering.{Numbering}
-use Rattle.task_local.specs.Control.{Task}
-use Rattle.task_machine.specs.declared.verdict.Why.{Why}
 use Rattle.task_machine.specs.declared.verdict.Verdict.{Verdict}
 use Rattle.task_machine.specs.declared.verdict.Verdict.TheVariants.{Feasible, Infeasible, Unsettled}
 use Rattle.task_machine.specs.Conditions.{needed_of, first_failing}
@@ -23,10 +21,9 @@ use Rattle.task_machine.proofs.Judged.{IsSeat, views_kept}
 use Rattle.task_machine.proofs.TaskLaws.{the_feasible}
 use Rattle.task_machine.proofs.Verdicts.{verdict_on, verdict_refused, verdict_held, refused_stays, held_stays}
 use Rattle.feasible.specs.Deciding.{IsDecided, Leaves, GoesOn, taken_with, ended_with}
-use Rattle.feasible.specs.Failing.{asked, view_at}
-use Rattle.feasible.specs.Keeping.{AreKept, Counts, IsSettled, StandsFor, machine_of, is_feasible, is_infeasible}
+use Rattle.feasible.specs.Failing.{view_at}
+use Rattle.feasible.specs.Keeping.{AreKept, Counts, IsSettled, StandsFor, is_feasible, is_infeasible}
 use Rattle.feasible.specs.Kept.{Kept}
-use Rattle.feasible.specs.Needs.{IsFirstStuck}
 use Rattle.feasible.proofs.Asking.{asked_all}
 use Rattle.feasible.proofs.Judging.{keeps_run, stands, rests, none_open, stuck_open, happens_here, keeps_event}
 

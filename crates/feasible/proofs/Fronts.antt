@@ -1,5 +1,5 @@
 -- Events of which nothing follows the end.
-use Rattle.std.proofs.Common.{◌≡◌, ℕ, zero, suc, ◌+◌, ◌<◌, Bool, true, false, not, ◌&&◌, List, [], ◌∷◌, ◌++◌, length, take, refl, sym, ap, ◌∙◌, subst, true≢false, arith}
+use Rattle.std.proofs.Common.{◌≡◌, ℕ, zero, suc, ◌<◌, Bool, true, false, not, ◌&&◌, List, [], ◌∷◌, length, take, refl, ap, arith}
 use Rattle.std.specs.List.{list_all}
 use Rattle.event_machine.specs.declared.Event.{Event}
 use Rattle.event_machine.specs.Tallies.{HasNoEnd}

@@ -1,20 +1,18 @@
 -- What a judge keeps goes on standing for the events: the laws of the machine, along one more event.
-use Rattle.std.proofs.Common.{◌≡◌, ℕ, zero, suc, ◌+◌, ◌<◌, ◌≤◌, Bool, true, false, not, ◌&&◌, ◌||◌, if◌then◌else◌, List, [], ◌∷◌, ◌++◌, length, take, refl, sym, ap, ap₂, ◌∙◌, subst, ⊎_elim, true≢false, arith, Option, Some, None, length-append}
+use Rattle.std.proofs.Common.{◌≡◌, ℕ, zero, suc, ◌+◌, ◌≤◌, Bool, true, false, not, ◌||◌, if◌then◌else◌, List, [], ◌∷◌, ◌++◌, length, refl, sym, ap, ◌∙◌, subst, arith, None}
 use Rattle.std.specs.Prelude.{All, slice_index}
-use Rattle.std.proofs.lemmas.List.{take-append-le}
 use Rattle.std.proofs.lemmas.List.Elements.{All-weaker}
-use Rattle.std.proofs.Math.Seq.{take-length}
 use Rattle.event_machine.specs.declared.Event.{Event}
 use Rattle.event_machine.specs.declared.Standing.{Standing}
 use Rattle.event_machine.specs.declared.Standing.TheVariants.{Live, Waiting, Queued, Served, Completed, Killed}
-use Rattle.event_machine.specs.Seats.{Seat, is_live, is_closed, is_served, is_completed}
-use Rattle.event_machine.specs.Programs.{Program, numbered, listed, by_number}
-use Rattle.event_machine.specs.Settling.{ran, HasSteps, CountsFor, IsRunOn, Follows, Fires, Leads}
+use Rattle.event_machine.specs.Seats.{Seat, is_live, is_closed}
+use Rattle.event_machine.specs.Programs.{Program, numbered, by_number}
+use Rattle.event_machine.specs.Settling.{ran, HasSteps, CountsFor, IsRunOn, Follows, Fires}
 use Rattle.event_machine.specs.Soundness.{IsSound}
 use Rattle.event_machine.specs.Tallies.{HasNoEnd, before_end, RestIs, StandsAfter}
-use Rattle.event_machine.specs.Worlds.{World, Happen, still, still_seat, acted, happens, is_last, changes, moved, recount}
+use Rattle.event_machine.specs.Worlds.{World, Happen, still, acted, happens, is_last, changes, moved, recount}
 use Rattle.event_machine.specs.Lawful.{Keeps}
-use Rattle.event_machine.proofs.Basics.{both, seat_path}
+use Rattle.event_machine.proofs.Basics.{both}
 use Rattle.event_machine.proofs.Bases.{IsBase, base_leads}
 use Rattle.event_machine.proofs.Extending.{before_end-same}
 use Rattle.event_machine.proofs.Following.{leads_once, follow_event}
@@ -29,20 +27,20 @@ use Rattle.event_machine.proofs.Walking.{leads_append}
 use Rattle.ada_tree.specs.PlainProgram.{PProgram}
 use Rattle.syn_event.specs.Numbering.{Numbering, owner_of}
 use Rattle.task_local.specs.Control.{Task}
-use Rattle.task_local.specs.Steps.{task_ops, can_step, offer_of, callers_of, nobody}
+use Rattle.task_local.specs.Steps.{task_ops, can_step, offer_of}
 use Rattle.task_local.proofs.Lawful.{IsProper, lawful}
 use Rattle.task_machine.specs.Conditions.{needed_of, first_failing, all_hold}
 use Rattle.task_machine.specs.Conditions as asked_of
-use Rattle.task_machine.specs.Judging.{VerdictIs, AllFeasible, NoneOpen, AreViews}
-use Rattle.task_machine.specs.Opening.{opening_of, first_tasks}
+use Rattle.task_machine.specs.Judging.{NoneOpen}
+use Rattle.task_machine.specs.Opening.{opening_of}
 use Rattle.task_machine.specs.Table.{Tasks, seat_of, rules_of}
-use Rattle.task_machine.specs.Views.{View, IsOpen, IsRest, Stands, ViewIs, view_of, view_in}
-use Rattle.task_machine.proofs.TaskLaws.{opens, proper, the_count, the_feasible, the_rest, the_standing}
+use Rattle.task_machine.specs.Views.{IsOpen, IsRest, Stands, view_of, view_in}
+use Rattle.task_machine.proofs.TaskLaws.{opens, proper, the_count, the_rest, the_standing}
 use Rattle.task_machine.proofs.Tabled.{AreSeen, table_happens, none_failing}
 use Rattle.feasible.specs.Failing.{view_at}
 use Rattle.feasible.specs.Keeping.{machine_of, opening_world, world_kept, AreKept, IsSettled}
 use Rattle.feasible.specs.Needs.{HasRun, HaveRun, IsStuck}
-use Rattle.feasible.specs.Recounts.{BeginAnew, AreRecounted}
+use Rattle.feasible.specs.Recounts.{AreRecounted}
 use Rattle.feasible.proofs.Running.{ran_on, steps_on}
 
 -- how a standing that waits for nobody is seen
@@ -144,7 +142,7 @@ module _ (p : PProgram) (numbers : Numbering) (bound : ℕ) where
     rests t free =
         let (live_base, has, is) = at_count t free in
         subst (λ es. RestIs (rules_of numbers) (opening_of p numbers).state es t (slice_index steps t) (kept t).local) (sym same_end)
-            ((the_rest p numbers events more t (slice_index steps t) (kept t).local).1 (k.bases, k.leads, live_base, has, is))
+        ((the_rest p numbers events more t (slice_index steps t) (kept t).local).1 (k.bases, k.leads, live_base, has, is))
 
     -- a settled task is not open
     pub settled_closed : (t : ℕ) → IsSettled tasks t → IsOpen p numbers events t bound → ⊥

@@ -1,5 +1,5 @@
 -- Running tasks on: one walk behind another, and what settled tasks do.
-use Rattle.std.proofs.Common.{◌≡◌, ℕ, zero, suc, pred, ◌+◌, ◌<◌, ◌≤◌, Bool, true, false, not, ◌==◌, List, [], ◌∷◌, ◌++◌, length, refl, sym, ap, ◌∙◌, subst, inl, inr, ◌⊎◌, ⊎_elim, true≢false, slice_index_or, slice_set, arith, append_assoc, Option, Some, None}
+use Rattle.std.proofs.Common.{◌≡◌, ℕ, zero, suc, pred, ◌+◌, ◌<◌, ◌≤◌, Bool, true, false, ◌==◌, List, [], ◌∷◌, ◌++◌, length, refl, sym, ap, ◌∙◌, subst, inl, inr, ◌⊎◌, ⊎_elim, true≢false, slice_set, arith, append_assoc}
 use Rattle.std.specs.Prelude.{All, slice_index}
 use Rattle.std.proofs.lemmas.Bool.{eqb-true, eqb-false, cases_lt}
 use Rattle.std.proofs.lemmas.List.{get_or-set_same, get_or-set_other, get_or_past, length-set}
@@ -13,7 +13,7 @@ use Rattle.task_local.specs.Steps.{task_ops, can_step, nobody, gone_on}
 use Rattle.task_machine.specs.Table.{Tasks, seat_of}
 use Rattle.task_machine.specs.Conditions.{tasks_to}
 use Rattle.feasible.specs.Keeping.{IsSettled}
-use Rattle.feasible.specs.Needs.{HasRun, HaveRun, IsStuck, IsFirstStuck, Settled, tasks_below}
+use Rattle.feasible.specs.Needs.{HasRun, HaveRun, IsStuck, IsFirstStuck, tasks_below}
 
 -- ---- the steps of one task
 

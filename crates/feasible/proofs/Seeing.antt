@@ -1,15 +1,14 @@
 -- What a judge shows of a settled task is its view after the events that have happened.
-use Rattle.std.proofs.Common.{◌≡◌, ℕ, Bool, true, false, not, ◌&&◌, List, refl, sym, ap, ◌∙◌, subst, true≢false, take}
+use Rattle.std.proofs.Common.{◌≡◌, ℕ, true, List, refl, sym, subst, true≢false, take}
 use Rattle.ada_tree.specs.PlainProgram.{PProgram}
 use Rattle.event_machine.specs.declared.Event.{Event}
 use Rattle.event_machine.specs.declared.Standing.{Standing}
 use Rattle.event_machine.specs.declared.Standing.TheVariants as z
-use Rattle.event_machine.specs.Seats.{is_closed, is_served, is_completed, is_abnormal}
+use Rattle.event_machine.specs.Seats.{is_closed, is_completed, is_abnormal}
 use Rattle.event_machine.specs.Tallies.{HasNoEnd}
 use Rattle.syn_event.specs.Numbering.{Numbering}
-use Rattle.task_local.specs.OfferView.{offer_as}
 use Rattle.task_machine.specs.Table.{seat_of}
-use Rattle.task_machine.specs.Views.{View, Completed, Abnormal, Busy, At, Stands, StandsIn, ViewIs}
+use Rattle.task_machine.specs.Views.{View, Completed, Abnormal, Busy, At, ViewIs}
 use Rattle.task_machine.proofs.Judged.{view_kept}
 use Rattle.feasible.specs.declared.showing.TaskView.{TaskView}
 use Rattle.feasible.specs.declared.showing.TaskView.TheVariants as shown

@@ -1,16 +1,14 @@
 -- A judge before its first event stands for no events.
-use Rattle.std.proofs.Common.{◌≡◌, ℕ, ◌≤◌, Bool, false, List, [], length, refl, sym, ap, ◌∙◌, subst, arith}
+use Rattle.std.proofs.Common.{◌≡◌, ℕ, false, List, [], length, refl, sym, ap, ◌∙◌, subst, arith}
 use Rattle.std.specs.Prelude.{slice_index}
 use Rattle.ada_tree.specs.PlainProgram.{PProgram}
 use Rattle.event_machine.specs.Programs.{by_number}
-use Rattle.event_machine.specs.Seats.{Seat}
 use Rattle.event_machine.specs.Settling.{IsRunOn}
 use Rattle.event_machine.proofs.Basics.{seat_path}
 use Rattle.event_machine.proofs.Following.{same_base}
 use Rattle.event_machine.proofs.ListLaws.{opening_numbers}
 use Rattle.event_machine.proofs.Reaching.{start_still}
 use Rattle.syn_event.specs.Numbering.{Numbering, owner_of}
-use Rattle.task_local.specs.Control.{Task}
 use Rattle.task_local.specs.Steps.{task_ops}
 use Rattle.task_local.proofs.Lawful.{IsProper, lawful}
 use Rattle.task_machine.specs.declared.verdict.Verdict.TheVariants.{Feasible}
@@ -19,7 +17,6 @@ use Rattle.task_machine.specs.Table.{Tasks, seat_of}
 use Rattle.task_machine.proofs.TaskLaws.{opens, proper, the_count}
 use Rattle.task_machine.proofs.Verdicts.{verdict_empty}
 use Rattle.feasible.specs.Keeping.{machine_of, opening_world, AreKept, StandsFor}
-use Rattle.feasible.specs.Kept.{Kept}
 
 module _ (p : PProgram) (numbers : Numbering) (bound : ℕ) (tasks : Tasks) (steps : List ℕ) (started : tasks ≡ first_tasks p numbers (length numbers.tasks))
     (zero : (t : ℕ) → slice_index steps t ≡ 0) (size : length steps ≡ length tasks) where

@@ -1,9 +1,9 @@
 -- For which list of events what a judge keeps stands (this project's rule).
-use Rattle.std.specs.Prelude.{◌≡◌, ◌≢◌, ℕ, ◌+◌, ◌<◌, ◌≤◌, Bool, true, false, List, [], ◌∷◌, ◌++◌, length, take, slice_index, ⊤, All}
+use Rattle.std.specs.Prelude.{◌≡◌, ℕ, ◌+◌, ◌<◌, ◌≤◌, Bool, true, false, List, [], ◌∷◌, length, take, slice_index, ⊤}
 use Rattle.ada_tree.specs.PlainProgram.{PProgram}
 use Rattle.event_machine.specs.declared.Event.{Event}
 use Rattle.event_machine.specs.Programs.{Program, by_number}
-use Rattle.event_machine.specs.Seats.{Seat, is_live}
+use Rattle.event_machine.specs.Seats.{is_live}
 use Rattle.event_machine.specs.Settling.{Leads, Follows}
 use Rattle.event_machine.specs.Worlds.{World, world_of, is_last}
 use Rattle.syn_event.specs.Numbering.{Numbering, owner_of}

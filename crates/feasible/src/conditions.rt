@@ -178,11 +178,8 @@ fn calls_conditionally(seats: &[Seat], c: u32, e: u32, i: i32) -> bool
     ensures { result ≡ offers.calls_in offers.is_conditional e i (offer_in_seat (seat_of seats.now c)) }
 {
     match offer_at(seats, c) {
-        Offer::Call {
-            form,
-            e: f,
-            i: j,
-        } => matches!(form, CallForm::Conditional) && (e == f && i == j),
+        Offer::Call { form, e: f, i: j } => matches!(form, CallForm::Conditional)
+            && (e == f && i == j),
         _ => false,
     }
 }
@@ -192,11 +189,7 @@ fn calls_timed(seats: &[Seat], c: u32, e: u32, i: i32) -> bool
     ensures { result ≡ offers.calls_in offers.is_timed e i (offer_in_seat (seat_of seats.now c)) }
 {
     match offer_at(seats, c) {
-        Offer::Call {
-            form,
-            e: f,
-            i: j,
-        } => matches!(form, CallForm::Timed) && (e == f && i == j),
+        Offer::Call { form, e: f, i: j } => matches!(form, CallForm::Timed) && (e == f && i == j),
         _ => false,
     }
 }

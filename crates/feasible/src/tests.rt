@@ -4,8 +4,8 @@
 use crate::judge::{Judge, judge_each};
 use crate::{Cause, Verdict, Why};
 use ada_tree::{
-    Accept, Body, Call, Callee, Decl, DeclKind, Memory, NameId, Names, Program, Span, Stmt, StmtKind,
-    Types, Word,
+    Accept, Body, Call, Callee, Decl, DeclKind, Memory, NameId, Names, Program, Span, Stmt,
+    StmtKind, Types, Word,
 };
 use ada_value::Inputs;
 use event_machine::Event;
@@ -14,7 +14,9 @@ use std::test::Fail;
 use syn_event::{EntryInfo, Numbers, TaskInfo};
 
 const MAIN: u32 = 30;
+
 const TASK: u32 = 31;
+
 const ENTRY: u32 = 32;
 
 const NOWHERE: Span = Span { start: 0, end: 0 };
@@ -62,7 +64,12 @@ fn call() -> Stmt {
 }
 
 fn program(alloc: Global) -> Result<Program, Memory> {
-    let main = vec![in alloc; stmt(StmtKind::Null), stmt(StmtKind::Null), stmt(StmtKind::Null), call()]?;
+    let main = vec![in alloc;
+        stmt(StmtKind::Null),
+        stmt(StmtKind::Null),
+        stmt(StmtKind::Null),
+        call(),
+    ]?;
     let task = vec![in alloc; accept(alloc)]?;
     let decl = Decl {
         kind: DeclKind::TaskBody {
@@ -85,15 +92,17 @@ fn numbers(alloc: Global) -> Result<Numbers, AllocError> {
     Ok(Numbers {
         main: NameId(MAIN),
         tasks: vec![in alloc; task(MAIN), task(TASK)]?,
-        entries: vec![in alloc; EntryInfo {
-            name: NameId(ENTRY),
-            owner: 1,
-            family: false,
-            first: 0,
-            last: 0,
-            added: false,
-            stands_for: None,
-        }]?,
+        entries: vec![in alloc;
+            EntryInfo {
+                name: NameId(ENTRY),
+                owner: 1,
+                family: false,
+                first: 0,
+                last: 0,
+                added: false,
+                stands_for: None,
+            },
+        ]?,
     })
 }
 
@@ -144,9 +153,19 @@ fn each_list_has_its_verdict(rt: HostRuntime) -> Result<(), Fail> {
     assert!(rt; verdict(alloc, 2, &all)? == Some(Verdict::Unsettled { at: 1, task: 0 }));
     assert!(rt; verdict(alloc, 2, &[Event::X { a: 1 }])? == refused(1, Cause::Offer, 1));
     assert!(rt; verdict(alloc, 3, &[CALL, CALL])? == refused(2, Cause::Busy, 0));
-    assert!(rt; verdict(alloc, 3, &[Event::F { c: 0, e: 1, i: 0 }])? == refused(1, Cause::NotClosed, 1));
-    assert!(rt; verdict(alloc, 3, &[Event::C { c: 0, e: 1, i: 0 }])? == refused(1, Cause::Offer, 0));
-    let late = [CALL, Event::E { a: 1 }, Event::X { a: 1 }, Event::X { a: 1 }, CALL];
+    assert!(rt;
+        verdict(alloc, 3, &[Event::F { c: 0, e: 1, i: 0 }])? == refused(1, Cause::NotClosed, 1)
+    );
+    assert!(rt;
+        verdict(alloc, 3, &[Event::C { c: 0, e: 1, i: 0 }])? == refused(1, Cause::Offer, 0)
+    );
+    let late = [
+        CALL,
+        Event::E { a: 1 },
+        Event::X { a: 1 },
+        Event::X { a: 1 },
+        CALL,
+    ];
     assert!(rt; verdict(alloc, 3, &late)? == refused(4, Cause::Closed, 1));
     let early = [CALL, Event::E { a: 1 }, Event::Z];
     assert!(rt; verdict(alloc, 3, &early)? == refused(3, Cause::Offer, 1));

@@ -1,5 +1,4 @@
 use Rattle.std.proofs.Common.{◌≡◌, ◌∙◌, ap, sym, rules}
-use Rattle.std.specs.Prelude.{ℤ}
 use mir.Val.{to_z, of_z}
 use mir.Syntax.{w32}
 use Rattle.event_machine.specs.Offers.{calls_in, is_any_form, waits_with, opens}

@@ -1,4 +1,4 @@
-use Rattle.std.proofs.Common.{◌≡◌, ◌∙◌, ◌+◌, sym, subst, pred, length, arith, Some, None}
+use Rattle.std.proofs.Common.{◌≡◌, ◌+◌, sym, subst, pred, length, arith, Some, None}
 use Rattle.task_machine.specs.Conditions.{failing_in, others_may_end}
 use Rattle.feasible.specs.Failing.{view_at}
 use Rattle.feasible.proofs.Asking.{others_at, others_first}

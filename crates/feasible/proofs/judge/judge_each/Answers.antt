@@ -1,4 +1,4 @@
-use Rattle.std.proofs.Common.{◌≡◌, ◌<◌, ◌∙◌, ◌+◌, sym, subst, take, length, arith}
+use Rattle.std.proofs.Common.{◌<◌, ◌∙◌, sym, subst, take, length, arith}
 use Rattle.std.proofs.lemmas.List.{take_more}
 use Rattle.feasible.specs.Keeping.{StandsFor}
 use Rattle.feasible.proofs.Continuing.{verdict_whole}

@@ -1,4 +1,4 @@
-use Rattle.std.proofs.Common.{◌≡◌, ◌≤◌, ℕ, take, []}
+use Rattle.std.proofs.Common.{◌≡◌, ◌≤◌, take, []}
 use Rattle.ada_tree.specs.PlainProgram.{PProgram}
 use Rattle.feasible.specs.Keeping.{StandsFor, NothingFollows}
 use Rattle.feasible.proofs.judge.judge_each.Given as goal

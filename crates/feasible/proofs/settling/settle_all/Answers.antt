@@ -1,4 +1,4 @@
-use Rattle.std.proofs.Common.{◌≡◌, ◌∙◌, sym, subst, pred, length, arith}
+use Rattle.std.proofs.Common.{◌≡◌, subst, pred, length, arith}
 use Rattle.std.specs.Prelude.{All}
 use Rattle.task_machine.specs.Conditions.{tasks_to}
 use Rattle.feasible.specs.Keeping.{IsSettled}
