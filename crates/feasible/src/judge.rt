@@ -111,7 +111,7 @@ impl<'p> Judge<'p> {
     pub fn offer<'a>(&'a self, task: u32) -> TaskView<'a>
         requires { IsSettled self.now.tasks task }
         // after the events that have happened
-        ensures view { (p : PProgram) (events : List event.Event) → StandsFor p events self.now → HasNoEnd (take self.now.taken events) → IsShown p self.now.numbers (take self.now.taken events) task result }
+        ensures view { (p : PProgram) (events : List event.Event) → StandsFor p events self.now → IsShown p self.now.numbers (take self.now.taken events) task result }
         ensures shows { Shows (view_at self.now.tasks task) result }
     {
         show_at(&self.seats, task)
