@@ -1,5 +1,6 @@
 -- The text of declarations (this project's layout): each is one line; a task with its items, and a body, are several lines with what they enclose one level deeper.
-use Rattle.std.specs.Prelude.{ℕ, ◌+◌, ◌≤◌, nat_le, Bool, true, false, not, List, [], ◌∷◌, Option, Some, None, codes, take_while, drop_while}
+use Rattle.std.specs.Prelude.{ℕ, ◌+◌, ◌≤◌, nat_le, Bool, true, false, not, List, [], ◌∷◌, Option, Some, None, codes, take, drop}
+use Rattle.std.specs.List.{prefix_len}
 use Rattle.ada_tree.specs.declared.naming.Word.{Word}
 use Rattle.ada_tree.specs.PlainExpr.{PExpr, PDrange}
 use Rattle.ada_tree.specs.PlainStmt.{PBody}
@@ -17,6 +18,10 @@ constant_text false = []
 abbrev pub task_word : Bool → List ℕ
 task_word true = codes "task type "
 task_word false = codes "task "
+
+-- how many of a task's pragmas, from the front on, stand behind at most so many entries
+abbrev pub standing : ℕ → List PPriority → ℕ
+standing before ps = prefix_len (λ p. nat_le p.place before) ps
 
 module _ (names : List (List ℕ)) where
   abbrev pub shape_text : PShape → List ℕ
@@ -58,8 +63,8 @@ module _ (names : List (List ℕ)) where
   abbrev pub items_text : ℕ → ℕ → List PEntry → List PPriority → List ℕ
   items_text level before [] ps = priorities_text level ps
   items_text level before (x ∷ xs) ps =
-      priorities_text level (take_while (λ p. nat_le p.place before) ps)
-      ⧺ (entry_text level x ⧺ items_text level (before + 1) xs (drop_while (λ p. nat_le p.place before) ps))
+      priorities_text level (take (standing before ps) ps)
+      ⧺ (entry_text level x ⧺ items_text level (before + 1) xs (drop (standing before ps) ps))
 
   -- a task's declaration behind its word `task`, with its name once or twice
   abbrev pub task_rest : ℕ → PTask → List PEntry → List PPriority → List ℕ
@@ -75,10 +80,6 @@ module _ (names : List (List ℕ)) where
   unit_text level b w = indent level ⧺ (body_text names level b ⧺ (indent level ⧺ (codes "end " ⧺ (word_text names w ⧺ codes ";\n"))))
 
   abbrev mutual
-    -- a declaration
-    pub decl_text : ℕ → PDecl → List ℕ
-    decl_text level x = indent level ⧺ form_text level x
-
     -- a declaration behind the indentation of its first line
     pub form_text : ℕ → PDecl → List ℕ
     form_text level (DNumber w e s) = word_text names w ⧺ (codes " : constant := " ⧺ (expr_text names e ⧺ codes ";\n"))
@@ -95,4 +96,8 @@ module _ (names : List (List ℕ)) where
     -- declarations, one behind the other
     pub decls_text : ℕ → PDecls → List ℕ
     decls_text level no_decl = []
-    decls_text level (decl_then x k) = decl_text level x ⧺ decls_text level k
+    decls_text level (decl_then x k) = (indent level ⧺ form_text level x) ⧺ decls_text level k
+
+  -- a declaration
+  abbrev pub decl_text : ℕ → PDecl → List ℕ
+  decl_text level x = indent level ⧺ form_text level x

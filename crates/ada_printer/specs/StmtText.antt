@@ -23,6 +23,14 @@ reverse_text false = []
 abbrev pub delay_text : ℕ → List ℕ
 delay_text d = codes "delay " ⧺ (duration_text d ⧺ codes ";\n")
 
+-- a delay, with the text of what stands behind it
+abbrev pub delayed_text : ℕ → ℕ → List ℕ → List ℕ
+delayed_text level d behind = indent level ⧺ (delay_text d ⧺ behind)
+
+-- `else`, and the text of what it holds
+abbrev pub otherwise_text : ℕ → List ℕ → List ℕ
+otherwise_text level inside = indent level ⧺ (codes "else\n" ⧺ inside)
+
 module _ (names : List (List ℕ)) where
   -- a variable or a component
   abbrev pub target_text : PTarget → List ℕ
@@ -55,8 +63,8 @@ module _ (names : List (List ℕ)) where
   formals_text (f ∷ fs) = codes "(" ⧺ (separated (codes "; ") formal_text (f ∷ fs) ⧺ codes ")")
 
   -- `accept E(1)(X : in INTEGER)`, behind its indentation
-  abbrev pub head_text : PHead → List ℕ
-  head_text h = codes "accept " ⧺ (word_text names h.entry ⧺ (index_text names h.index ⧺ formals_text h.formals))
+  abbrev pub head_text : Word → Option PExpr → List PFormal → List ℕ
+  head_text entry index formals = codes "accept " ⧺ (word_text names entry ⧺ (index_text names index ⧺ formals_text formals))
 
   abbrev pub part_text : PPart → List ℕ
   part_text (PWords content s) = string_text content
@@ -95,12 +103,12 @@ module _ (names : List (List ℕ)) where
   when_text None = []
   when_text (Some e) = codes " when " ⧺ expr_text names e
 
+  -- the call of a conditional or timed entry call, with the text of what stands behind it
+  abbrev pub called_text : ℕ → PCall → List ℕ → List ℕ
+  called_text level c behind = indent level ⧺ (call_text c ⧺ behind)
+
   -- the texts of the parts of the family, at a level
   abbrev mutual
-    -- a statement
-    pub stmt_text : ℕ → PStmt → List ℕ
-    stmt_text level x = indent level ⧺ form_text level x
-
     -- a statement behind the indentation of its first line
     pub form_text : ℕ → PStmt → List ℕ
     form_text level (SNull s) = codes "null;\n"
@@ -112,8 +120,13 @@ module _ (names : List (List ℕ)) where
     form_text level (SCall c s) = call_text c
     form_text level (SAccept a s) = accept_text level a
     form_text level (SWait x o s) = codes "select\n" ⧺ (alts_text level x ⧺ (else_text level o ⧺ (indent level ⧺ codes "end select;\n")))
-    form_text level (SConditional c k o s) = codes "select\n" ⧺ (called_text level c k ⧺ (indent level ⧺ (codes "else\n" ⧺ (stmts_text (deeper level) o ⧺ (indent level ⧺ codes "end select;\n")))))
-    form_text level (STimed c k d o s) = codes "select\n" ⧺ (called_text level c k ⧺ (indent level ⧺ (codes "or\n" ⧺ (delayed_text (deeper level) d o ⧺ (indent level ⧺ codes "end select;\n")))))
+    form_text level (SConditional c k o s) =
+        codes "select\n"
+        ⧺ (called_text (deeper level) c (stmts_text (deeper level) k) ⧺ (otherwise_text level (stmts_text (deeper level) o) ⧺ (indent level ⧺ codes "end select;\n")))
+    form_text level (STimed c k d o s) =
+        codes "select\n"
+        ⧺ (called_text (deeper level) c (stmts_text (deeper level) k)
+        ⧺ (indent level ⧺ (codes "or\n" ⧺ (delayed_text (deeper level) d (stmts_text (deeper level) o) ⧺ (indent level ⧺ codes "end select;\n")))))
     form_text level (SPut ps s) = codes "PUT(" ⧺ (parts_text ps ⧺ codes ");\n")
     form_text level (SPutLine ps s) = codes "PUT_LINE(" ⧺ (parts_text ps ⧺ codes ");\n")
     form_text level (SNewLine s) = codes "NEW_LINE;\n"
@@ -126,12 +139,12 @@ module _ (names : List (List ℕ)) where
     -- statements, one behind the other
     pub stmts_text : ℕ → PStmts → List ℕ
     stmts_text level no_stmt = []
-    stmts_text level (stmt_then x k) = stmt_text level x ⧺ stmts_text level k
+    stmts_text level (stmt_then x k) = (indent level ⧺ form_text level x) ⧺ stmts_text level k
 
     -- the else part of a statement at this level
     pub else_text : ℕ → PMaybe → List ℕ
     else_text level absent = []
-    else_text level (present k) = indent level ⧺ (codes "else\n" ⧺ stmts_text (deeper level) k)
+    else_text level (present k) = otherwise_text level (stmts_text (deeper level) k)
 
     -- `when others =>` of a case statement
     pub others_text : ℕ → PMaybe → List ℕ
@@ -140,21 +153,13 @@ module _ (names : List (List ℕ)) where
 
     -- an accept statement behind its indentation
     pub accept_text : ℕ → PAccept → List ℕ
-    accept_text level (accepting h absent) = head_text h ⧺ codes ";\n"
-    accept_text level (accepting h (present k)) = head_text h ⧺ (codes " do\n" ⧺ (stmts_text (deeper level) k ⧺ (indent level ⧺ (codes "end " ⧺ (word_text names h.entry ⧺ codes ";\n")))))
-
-    -- the call of a conditional or timed entry call at this level, and the statements behind it
-    pub called_text : ℕ → PCall → PStmts → List ℕ
-    called_text level c k = indent (deeper level) ⧺ (call_text c ⧺ stmts_text (deeper level) k)
-
-    -- a delay at this level, and the statements behind it
-    pub delayed_text : ℕ → ℕ → PStmts → List ℕ
-    delayed_text level d k = indent level ⧺ (delay_text d ⧺ stmts_text level k)
+    accept_text level (accepting h absent) = head_text h.entry h.index h.formals ⧺ codes ";\n"
+    accept_text level (accepting h (present k)) = head_text h.entry h.index h.formals ⧺ (codes " do\n" ⧺ (stmts_text (deeper level) k ⧺ (indent level ⧺ (codes "end " ⧺ (word_text names h.entry ⧺ codes ";\n")))))
 
     -- an alternative without its guard
     pub alt_kind_text : ℕ → PAltKind → List ℕ
     alt_kind_text level (AAccept a k) = indent level ⧺ (accept_text level a ⧺ stmts_text level k)
-    alt_kind_text level (ADelay d k) = delayed_text level d k
+    alt_kind_text level (ADelay d k) = delayed_text level d (stmts_text level k)
     alt_kind_text level ATerminate = indent level ⧺ codes "terminate;\n"
 
     -- an alternative; behind a guard it stands one level deeper
@@ -169,7 +174,7 @@ module _ (names : List (List ℕ)) where
 
     pub more_alts_text : ℕ → PAlts → List ℕ
     more_alts_text level no_alt = []
-    more_alts_text level (alt_then x k) = indent level ⧺ (codes "or\n" ⧺ (alt_text (deeper level) x ⧺ more_alts_text level k))
+    more_alts_text level (alt_then x k) = (indent level ⧺ (codes "or\n" ⧺ alt_text (deeper level) x)) ⧺ more_alts_text level k
 
     -- a condition with `then`, and its statements, behind `if` or `elsif`
     pub arm_text : ℕ → PArm → List ℕ
@@ -178,11 +183,11 @@ module _ (names : List (List ℕ)) where
     -- the branches of an if statement behind its indentation
     pub arms_text : ℕ → PArms → List ℕ
     arms_text level no_arm = []
-    arms_text level (arm_then x k) = codes "if " ⧺ (arm_text level x ⧺ more_arms_text level k)
+    arms_text level (arm_then x k) = (codes "if " ⧺ arm_text level x) ⧺ more_arms_text level k
 
     pub more_arms_text : ℕ → PArms → List ℕ
     more_arms_text level no_arm = []
-    more_arms_text level (arm_then x k) = indent level ⧺ (codes "elsif " ⧺ (arm_text level x ⧺ more_arms_text level k))
+    more_arms_text level (arm_then x k) = (indent level ⧺ (codes "elsif " ⧺ arm_text level x)) ⧺ more_arms_text level k
 
     -- `when 1 | 2 .. 4 =>`, and its statements
     pub case_arm_text : ℕ → PCaseArm → List ℕ
@@ -199,7 +204,7 @@ module _ (names : List (List ℕ)) where
     -- the exception handlers of a body at this level, where it has some
     pub exception_text : ℕ → PHandlers → List ℕ
     exception_text level no_handler = []
-    exception_text level (handler_then x k) = indent level ⧺ (codes "exception\n" ⧺ handlers_text (deeper level) (handler_then x k))
+    exception_text level (handler_then x k) = indent level ⧺ (codes "exception\n" ⧺ (handler_text (deeper level) x ⧺ handlers_text (deeper level) k))
 
     -- `when A | B =>`, and its statements
     pub handler_text : ℕ → PHandler → List ℕ
@@ -208,3 +213,15 @@ module _ (names : List (List ℕ)) where
     pub handlers_text : ℕ → PHandlers → List ℕ
     handlers_text level no_handler = []
     handlers_text level (handler_then x k) = handler_text level x ⧺ handlers_text level k
+
+  -- a statement
+  abbrev pub stmt_text : ℕ → PStmt → List ℕ
+  stmt_text level x = indent level ⧺ form_text level x
+
+  -- an alternative behind another one
+  abbrev pub later_alt_text : ℕ → PAlt → List ℕ
+  later_alt_text level x = indent level ⧺ (codes "or\n" ⧺ alt_text (deeper level) x)
+
+  -- a branch of an if statement behind another one
+  abbrev pub later_arm_text : ℕ → PArm → List ℕ
+  later_arm_text level x = indent level ⧺ (codes "elsif " ⧺ arm_text level x)
