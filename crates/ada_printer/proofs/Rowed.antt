@@ -9,7 +9,6 @@ use Rattle.ada_tree.specs.declared.statements.Arm.{Arm}
 use Rattle.ada_tree.specs.declared.statements.CaseArm.{CaseArm}
 use Rattle.ada_tree.specs.declared.statements.Handler.{Handler}
 use Rattle.ada_tree.specs.PlainStmt.{PStmt, PAlt, PArm, PCaseArm, PHandler, row_of, alts_of, arms_of, case_arms_of, handlers_of, plain_stmt, plain_alt, plain_arm, plain_case_arm, plain_handler}
-use Rattle.ada_tree.proofs.Rows.{rows}
 use Rattle.ada_printer.specs.Layout.{deeper, indent}
 use Rattle.ada_printer.specs.StmtText.{alt_text, alts_text, arm_text, arms_text, exception_text, stmt_text, stmts_text, later_alt_text, more_alts_text, later_arm_text, more_arms_text, case_arm_text, case_arms_text, handler_text, handlers_text}
 use Rattle.ada_printer.specs.Pages.{Drawing, Drew}
@@ -113,5 +112,3 @@ arms_some names level (x ∷ xs) rest m a b c some is_m is_rest first others =
 pub arms_none : (names : List (List ℕ)) (level : ℕ) (xs : List Arm) (a : Drawing) → length xs < 1 → Drew a a (arms_text names level (arms_of (map plain_arm xs)))
 arms_none names level [] a none = drew_none a
 arms_none names level (x ∷ xs) a none = absurd (not_below_one (length xs) none)
-
-pub ruleset rowed = (drew_none, drew_then, stmts_turn, stmts_end, alts_turn, alts_end, arms_turn, arms_end, case_arms_turn, case_arms_end, handlers_turn, handlers_end, exception_some, exception_none, alts_none, arms_none, rows)

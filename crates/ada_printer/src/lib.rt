@@ -5,3 +5,4 @@ mod expressions;
 mod lists;
 mod paging;
 mod pieces;
+mod statements;

@@ -62,12 +62,21 @@ pub(crate) fn put_callees<K: Sink>(
 }
 
 // The lists in parentheses behind an entry's name.
-fn put_args<K: Sink>(names: &Names, args: &Args, page: &mut Page, out: &mut K)
+fn put_arg_lists<K: Sink>(names: &Names, args: &Args, page: &mut Page, out: &mut K)
     ensures { Drew (over page.old (K.told out.old) (K.faults out.old)) (over page.new (K.told out.new) (K.faults out.new)) (exprs_text names.now (plain_args args.now).first ⧺ second_text names.now (plain_args args.now).second) }
 {
     put_exprs(names, &args.first, page, out);
     match &args.second {
         Some(second) => put_exprs(names, second, page, out),
+        None => {}
+    }
+}
+
+fn put_args<K: Sink>(names: &Names, args: &Option<Args>, page: &mut Page, out: &mut K)
+    ensures { Drew (over page.old (K.told out.old) (K.faults out.old)) (over page.new (K.told out.new) (K.faults out.new)) (args_text names.now (option_map plain_args args.now)) }
+{
+    match args {
+        Some(args) => put_arg_lists(names, args, page, out),
         None => {}
     }
 }
@@ -79,10 +88,7 @@ pub(crate) fn put_call<K: Sink>(names: &Names, call: &Call, page: &mut Page, out
     put_callee(names, &call.task, page, out);
     page.put(b".", out);
     put_word(names, call.entry, page, out);
-    match &call.args {
-        Some(args) => put_args(names, args, page, out),
-        None => {}
-    }
+    put_args(names, &call.args, page, out);
     page.put(b";\n", out);
 }
 
