@@ -189,4 +189,12 @@ closed A E x y a b s e none none' drew r is = closed_by b.failed refl r is where
   closed_by true f r is = subst (λ q. Wrote q a.told b.told s × HasCause a.faults b.faults q) (sym is) (written_front A E y a b s e none f drew, blamed a b s e drew f)
   closed_by false f r is = subst (λ q. Wrote q a.told b.told s × HasCause a.faults b.faults q) (sym is) (written A E x a b s e none f none' drew, blameless a b s e drew f)
 
+-- how many bytes were put on a new page
+pub counted_all : (a b : Drawing) (s : List ℕ) → a.count ≡ 0 → Drew a b s → b.count ≡ min (length s) last_count
+unfolding Drew
+counted_all a b s e (p, n) =
+    let le : a.count ≤ last_count = grind (e, arith, common_steps) in
+    let all : b.count ≡ min (a.count + length s) last_count = n le in
+    grind (e, all, arith, common_steps)
+
 pub ruleset drawn = (drew_none, drew_then)

@@ -6,10 +6,7 @@ use Rattle.std.proofs.lemmas.List.{take_all}
 use Rattle.ded_io.specs.Written.{◌⧺◌, each_text}
 use Rattle.ded_io.proofs.Writes.{joined, joined_nil, joined_assoc}
 use Rattle.ded_io.proofs.Members.{each_text-append, each_text-one}
-use Rattle.ada_tree.specs.declared.statements.Formal.{Formal}
-use Rattle.ada_tree.specs.PlainStmt.{plain_formal}
 use Rattle.ada_printer.specs.Layout.{indent, separated}
-use Rattle.ada_printer.specs.StmtText.{formal_text, formals_text}
 use Rattle.ada_printer.specs.Pages.{Drawing, Drew}
 use Rattle.ada_printer.proofs.Drawn.{drew_none, drew_then}
 
@@ -77,13 +74,4 @@ pub drew_level : (i : ℕ) (a b c : Drawing) → Drew a b (indent i) → Drew b 
 drew_level i a b c done turn =
     subst (λ n. Drew a c (indent n)) (sym (add-one i)) (subst (λ t. Drew a c t) (sym (indent_next i)) (drew_then a b c _ _ done turn))
 
--- the formals of an entry or an accept statement, in parentheses where there are some
-pub formals_some : (names : List (List ℕ)) (xs : List Formal) (a b : Drawing) → 1 ≤ length xs → Drew a b (codes "(" ⧺ (separated (codes "; ") (formal_text names) (map plain_formal xs) ⧺ codes ")")) → Drew a b (formals_text names (map plain_formal xs))
-formals_some names [] a b some h = absurd (not_below_zero some)
-formals_some names (x ∷ xs) a b some h = h
-
-pub formals_none : (names : List (List ℕ)) (xs : List Formal) (a : Drawing) → length xs < 1 → Drew a a (formals_text names (map plain_formal xs))
-formals_none names [] a none = drew_none a
-formals_none names (x ∷ xs) a none = absurd (not_below_one (length xs) none)
-
-pub ruleset listed = (drew_none, drew_then, drew_member, drew_members, drew_seen_member, drew_seen_members, drew_seen_none, drew_level, formals_none)
+pub ruleset listed = (drew_none, drew_then, drew_member, drew_members, drew_seen_member, drew_seen_members, drew_seen_none, drew_level)

@@ -1,8 +1,9 @@
-// The printed text of a program.
+//! The printed text of an Ada 83 program. So far expressions are printed; the layout of all other parts is defined in `specs/`.
 #![tactic(auto)]
 
 mod expressions;
-mod lists;
 mod paging;
 mod pieces;
-mod statements;
+mod printing;
+
+pub use printing::{expr_len, print_expr};
