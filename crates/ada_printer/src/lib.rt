@@ -5,5 +5,7 @@ mod expressions;
 mod paging;
 mod pieces;
 mod printing;
+#[cfg(test)]
+mod tests;
 
 pub use printing::{expr_len, print_expr};
