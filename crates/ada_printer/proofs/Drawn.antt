@@ -1,11 +1,11 @@
 -- What is put on a page one after the other.
-use Rattle.std.specs.Prelude.{◌≡◌, ◌++◌, ◌+◌, ◌≤◌, ◌<◌, ℕ, min, List, [], ◌∷◌, length, Bool, true, false, Option, Result, Ok, Err, refl, if◌then◌else◌}
+use Rattle.std.specs.Prelude.{◌≡◌, ◌++◌, ◌+◌, ◌≤◌, ℕ, min, List, [], length, Bool, true, false, Option, Result, Ok, Err, refl, if◌then◌else◌}
 use Rattle.std.proofs.Common.{sym, ap, ◌∙◌, arith, subst, true≢false}
 use Rattle.std.proofs.lemmas.List.{append_assoc, append-nil, length-append}
 use Rattle.std.proofs.lemmas.Grind.{common_steps}
 use Rattle.ded_io.specs.Counts.{last_count, Rose, HasCause}
 use Rattle.ded_io.specs.Written.{appended, Began, Wrote, ◌⧺◌}
-use Rattle.ded_io.proofs.Writes.{appended-appended, appended-nil, joined}
+use Rattle.ded_io.proofs.Writes.{appended-appended, appended-nil}
 use Rattle.ada_printer.specs.Pages.{Sheet, over, Drawing, Passed, Went, Counted, Drew}
 
 went_none : (x : Bool) (a : Drawing) → Went x x a a []

@@ -1,5 +1,5 @@
 -- The text of declarations (this project's layout): each is one line; a task with its items, and a body, are several lines with what they enclose one level deeper.
-use Rattle.std.specs.Prelude.{ℕ, ◌+◌, ◌≤◌, nat_le, Bool, true, false, not, List, [], ◌∷◌, Option, Some, None, codes, take, drop}
+use Rattle.std.specs.Prelude.{ℕ, ◌+◌, nat_le, Bool, true, false, List, [], ◌∷◌, Option, Some, None, codes, take, drop}
 use Rattle.std.specs.List.{prefix_len}
 use Rattle.ada_tree.specs.declared.naming.Word.{Word}
 use Rattle.ada_tree.specs.PlainExpr.{PExpr, PDrange}

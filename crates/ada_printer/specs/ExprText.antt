@@ -1,5 +1,5 @@
 -- The text of expressions, ranges and subtype indications (this project's layout): one blank around each operator, behind `abs` and `not` and around `..`, none behind a sign, inside parentheses, before the `(` behind a name, and around `'`.
-use Rattle.std.specs.Prelude.{ℕ, List, [], ◌∷◌, Option, Some, None, codes, decimal}
+use Rattle.std.specs.Prelude.{ℕ, List, [], Option, Some, None, codes, decimal}
 use Rattle.ada_tree.specs.declared.expressions.UnaryOp.{UnaryOp}
 use Rattle.ada_tree.specs.declared.expressions.UnaryOp.TheVariants as unary
 use Rattle.ada_tree.specs.declared.expressions.BinaryOp.{BinaryOp}

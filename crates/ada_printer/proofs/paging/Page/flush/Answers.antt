@@ -1,4 +1,4 @@
-use Rattle.std.proofs.Common.{◌≡◌, refl, []}
+use Rattle.std.proofs.Common.{refl, []}
 use Rattle.ada_printer.proofs.Drawn.{from_inside, flushed, flush_stopped, skipped, counted_same}
 use Rattle.ada_printer.proofs.paging.Page.flush.Goals as goal
 

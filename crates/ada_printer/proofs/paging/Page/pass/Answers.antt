@@ -1,4 +1,4 @@
-use Rattle.std.proofs.Common.{◌≡◌, ◌∙◌, refl, ap}
+use Rattle.std.proofs.Common.{◌∙◌, refl, ap}
 use Rattle.ada_printer.proofs.Drawn.{from_inside, passed, pass_stopped, skipped}
 use Rattle.ada_printer.proofs.paging.Page.pass.Goals as goal
 
