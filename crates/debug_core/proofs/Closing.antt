@@ -9,7 +9,9 @@ use Rattle.ada_tree.specs.TypeTable.{TypeTable}
 use Rattle.seq_file.specs.declared.errors.SeqError.{SeqError}
 use Rattle.seq_file.specs.declared.errors.SeqError.TheVariants as error
 use Rattle.seq_file.specs.Files.{HasFirstFault}
+use Rattle.interp.specs.declared.report.RunEnd.{RunEnd}
 use Rattle.syn_event.specs.Numbering.{Numbering}
+use Rattle.task_machine.specs.declared.verdict.Verdict.{Verdict}
 use Rattle.debug_core.specs.declared.failing.Failure.{Failure}
 use Rattle.debug_core.specs.declared.failing.Failure.TheVariants.{Refused, Usage, BadSequence, Unreadable, OutputFailed, TooLong, TooMany, Memory}
 use Rattle.debug_core.specs.declared.failing.Source.TheVariants.{Program, Sequence}
@@ -49,7 +51,7 @@ run_cause file turns s Memory h = h
 pub run_failed : (file : List ℕ) (turns : ℕ) (s : Sides) (status : ℕ) (failure : Failure) → IsFileCause s.files file s.reads s.reads' s.out s.out' s.writes s.writes' failure →
     Fails failure file [] s.err s.err' s.lines s.lines' status → AnswersRun file turns s status
 run_failed file turns s status failure cause (inl (is, line)) =
-    record { outcome = Err failure; is = is; cause = run_cause file turns s failure cause; line = line_of file [] s failure line }
+    record { outcome = Err failure; is = is; cause = run_cause file turns s failure cause; line = line_of {A = RunEnd} file [] s failure line }
 run_failed file turns s status failure cause (inr (seven, rose)) =
     record { outcome = Err OutputFailed; is = seven; cause = inr rose; line = tt }
 
@@ -102,7 +104,7 @@ judge_cause file sequence bound s Memory h = h
 pub judge_failed : (file sequence : List ℕ) (bound : ℕ) (s : Sides) (status : ℕ) (failure : Failure) → IsFilesCause s.files file sequence s.reads s.reads' s.out s.out' s.writes s.writes' failure →
     Fails failure file sequence s.err s.err' s.lines s.lines' status → AnswersJudge file sequence bound s status
 judge_failed file sequence bound s status failure cause (inl (is, line)) =
-    record { outcome = Err failure; is = is; cause = judge_cause file sequence bound s failure cause; line = line_of file sequence s failure line }
+    record { outcome = Err failure; is = is; cause = judge_cause file sequence bound s failure cause; line = line_of {A = Verdict} file sequence s failure line }
 judge_failed file sequence bound s status failure cause (inr (seven, rose)) =
     record { outcome = Err OutputFailed; is = seven; cause = inr rose; line = tt }
 
