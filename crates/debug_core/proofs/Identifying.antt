@@ -72,14 +72,15 @@ abbrev names_none : List (List ℕ × TokenKind) → Bool
 names_none [] = true
 names_none (entry ∷ table) = not (is_name entry.1) && names_none table
 
+either_kind : (b : Bool) (k : TokenKind) (o : Option TokenKind) → not (is_name k) ≡ true → (o ≡ Some kind.Name → ⊥) → cond b (Some k) o ≡ Some kind.Name → ⊥
+either_kind true k o other rest is = (let same : k ≡ kind.Name = cc in true≢false (sym other ∙ ap (λ (x : TokenKind). not (is_name x)) same))
+either_kind false k o other rest is = rest is
+
 found_no_name : (table : List (List ℕ × TokenKind)) (text : List ℕ) → names_none table ≡ true → kind_in table text ≡ Some kind.Name → ⊥
 found_no_name [] text none found = cc
-found_no_name (entry ∷ table) text none found = pick (same_text text entry.0) entry.1 (and_parts (not (is_name entry.1)) (names_none table) none).0 found
-  where
-    pick : (b : Bool) (k : TokenKind) → not (is_name k) ≡ true → cond b (Some k) (kind_in table text) ≡ Some kind.Name → ⊥
-    pick true k other is =
-        (let same : k ≡ kind.Name = cc in true≢false (sym other ∙ ap (λ (x : TokenKind). not (is_name x)) same))
-    pick false k other is = found_no_name table text (and_parts (not (is_name entry.1)) (names_none table) none).1 is
+found_no_name (entry ∷ table) text none found =
+    let parts = and_parts (not (is_name entry.1)) (names_none table) none in
+    either_kind (same_text text entry.0) entry.1 (kind_in table text) parts.0 (found_no_name table text parts.1) found
 
 no_delimiter : (text : List ℕ) → delimiter_kind text ≡ Some kind.Name → ⊥
 unfolding delimiter_kind simple_delimiters compound_delimiters
@@ -115,6 +116,7 @@ string_is_no_name at rest is = pick _ _ _ _ _ _ is
     bad : (n : ℕ) (o : Option ℕ) → text_or_bad_byte n o ≡ Kind kind.Name → ⊥
     bad n None e = cc
     bad n (Some place) e = cc
+
     pick : (a b : Bool) (x y : ℕ) (n : ℕ) (o : Option ℕ) → cond a (Fault (fault.OpenString x)) (cond b (Fault (fault.TooLong y)) (text_or_bad_byte n o)) ≡ Kind kind.Name → ⊥
     pick true b x y n o e = cc
     pick false true x y n o e = cc
@@ -176,7 +178,9 @@ interned_identifiers old text before is = pick (list_any (bytes_eq text) old)
   where
     pick : (b : Bool) → AreIdentifiers (cond b old (old ++ text ∷ []))
     pick true = before
-    pick false = All-append _ old (text ∷ []) before (All-cons _ text [] is (All-nil _))
+    pick false =
+        All-append (λ (t : List ℕ). IsTrue (is_word t)) old (text ∷ []) before
+        (All-cons (λ (t : List ℕ). IsTrue (is_word t)) text [] is (All-nil (λ (t : List ℕ). IsTrue (is_word t))))
 
 -- a name of the list is an identifier
 at_place : (names : List (List ℕ)) (k : ℕ) → AllByRecursion (λ (text : List ℕ). IsTrue (is_word text)) names → IsSome (slice_get names k) → IsTrue (is_word (unwrap_or (slice_get names k) []))
@@ -185,4 +189,4 @@ at_place (text ∷ names) zero all some = all.0
 at_place (text ∷ names) (suc k) all some = at_place names k all.1 some
 
 pub name_is_identifier : (names : List (List ℕ)) (name : ℕ) → AreIdentifiers names → IsSome (slice_get names name) → IsIdentifierName names name
-name_is_identifier names name all some = at_place names name (recursion_from_All _ names all) some
+name_is_identifier names name all some = at_place names name (recursion_from_All (λ (text : List ℕ). IsTrue (is_word text)) names all) some
