@@ -1,5 +1,6 @@
 -- The status of a failure, its causes from the parts of a command to the whole, and its line.
 use Rattle.std.proofs.Common.{◌≡◌, ◌≢◌, ◌≤◌, ℕ, List, [], length, Option, Some, None, Result, Ok, Err, ◌⊎◌, inl, inr, sym, subst, ap, ◌∙◌, refl}
+use Rattle.std.specs.Prelude.{IfErr}
 use Rattle.ded_io.specs.Counts.{Rose}
 use Rattle.ded_io.specs.Told.{ToldFile, Longer}
 use Rattle.ded_io.specs.Written.{Wrote, appended}
@@ -9,7 +10,9 @@ use Rattle.ada_tree.specs.TypeTable.{TypeTable}
 use Rattle.seq_file.specs.declared.errors.SeqError.{SeqError}
 use Rattle.seq_file.specs.declared.errors.SeqError.TheVariants as error
 use Rattle.seq_file.specs.Files.{HasFirstFault}
+use Rattle.interp.specs.declared.report.RunEnd.{RunEnd}
 use Rattle.syn_event.specs.Numbering.{Numbering}
+use Rattle.task_machine.specs.declared.verdict.Verdict.{Verdict}
 use Rattle.debug_core.specs.declared.failing.Failure.{Failure}
 use Rattle.debug_core.specs.declared.failing.Failure.TheVariants.{Refused, Usage, BadSequence, Unreadable, OutputFailed, TooLong, TooMany, Memory}
 use Rattle.debug_core.specs.declared.failing.Source.TheVariants.{Program, Sequence}
@@ -24,15 +27,15 @@ pub failed_with : (A E : Type 0) (x : A) (failure : Failure) (program sequence :
 unfolding Wrote
 failed_with A E x failure program sequence err err' lines lines' status its_status line = inl (its_status, line)
 
-line_of : {A : Type 0} (program sequence : List ℕ) (s : Sides) (failure : Failure) → s.err' ≡ appended s.err (failure_line program sequence failure) → HasErrorLine {A = A} program sequence s (Err failure)
-line_of program sequence s Refused h = h
-line_of program sequence s Usage h = h
-line_of program sequence s (BadSequence found line) h = h
-line_of program sequence s (Unreadable source) h = h
-line_of program sequence s OutputFailed h = tt
-line_of program sequence s (TooLong limit) h = h
-line_of program sequence s (TooMany limit) h = h
-line_of program sequence s Memory h = h
+line_of : (A : Type 0) (program sequence : List ℕ) (s : Sides) (failure : Failure) → s.err' ≡ appended s.err (failure_line program sequence failure) → HasErrorLine {A = A} program sequence s (Err failure)
+line_of A program sequence s Refused h = h
+line_of A program sequence s Usage h = h
+line_of A program sequence s (BadSequence found line) h = h
+line_of A program sequence s (Unreadable source) h = h
+line_of A program sequence s OutputFailed h = tt
+line_of A program sequence s (TooLong limit) h = h
+line_of A program sequence s (TooMany limit) h = h
+line_of A program sequence s Memory h = h
 
 -- ---- a run
 
@@ -49,7 +52,7 @@ run_cause file turns s Memory h = h
 pub run_failed : (file : List ℕ) (turns : ℕ) (s : Sides) (status : ℕ) (failure : Failure) → IsFileCause s.files file s.reads s.reads' s.out s.out' s.writes s.writes' failure →
     Fails failure file [] s.err s.err' s.lines s.lines' status → AnswersRun file turns s status
 run_failed file turns s status failure cause (inl (is, line)) =
-    record { outcome = Err failure; is = is; cause = run_cause file turns s failure cause; line = line_of file [] s failure line }
+    record { outcome = Err failure; is = is; cause = run_cause file turns s failure cause; line = line_of RunEnd file [] s failure line }
 run_failed file turns s status failure cause (inr (seven, rose)) =
     record { outcome = Err OutputFailed; is = seven; cause = inr rose; line = tt }
 
@@ -102,7 +105,7 @@ judge_cause file sequence bound s Memory h = h
 pub judge_failed : (file sequence : List ℕ) (bound : ℕ) (s : Sides) (status : ℕ) (failure : Failure) → IsFilesCause s.files file sequence s.reads s.reads' s.out s.out' s.writes s.writes' failure →
     Fails failure file sequence s.err s.err' s.lines s.lines' status → AnswersJudge file sequence bound s status
 judge_failed file sequence bound s status failure cause (inl (is, line)) =
-    record { outcome = Err failure; is = is; cause = judge_cause file sequence bound s failure cause; line = line_of file sequence s failure line }
+    record { outcome = Err failure; is = is; cause = judge_cause file sequence bound s failure cause; line = line_of Verdict file sequence s failure line }
 judge_failed file sequence bound s status failure cause (inr (seven, rose)) =
     record { outcome = Err OutputFailed; is = seven; cause = inr rose; line = tt }
 
@@ -178,6 +181,11 @@ text_unjudged text lines p types numbers out out' writes writes' OutputFailed is
 text_unjudged text lines p types numbers out out' writes writes' (TooLong limit) is h = h
 text_unjudged text lines p types numbers out out' writes writes' (TooMany limit) is h = (record { program = p; types = types; numbers = numbers; is_program = is; fault = h.0 }, h.1)
 text_unjudged text lines p types numbers out out' writes writes' Memory is h = h
+
+pub text_outcome : (text lines : List ℕ) (p : PProgram) (types : TypeTable) (numbers : Numbering) (out out' : Option (List ℕ)) (writes writes' : ℕ) (r : Result Verdict Failure) →
+    IsProgram text p types numbers → IfErr r (IsLinesCause p numbers lines out out' writes writes') → IfErr r (IsJudgeCause text lines out out' writes writes')
+text_outcome text lines p types numbers out out' writes writes' (Ok v) is h = h
+text_outcome text lines p types numbers out out' writes writes' (Err failure) is h = text_unjudged text lines p types numbers out out' writes writes' failure is h
 
 pub lines_refused : (p : PProgram) (numbers : Numbering) (lines : List ℕ) (out : Option (List ℕ)) (writes : ℕ) (found : SeqError) → (found ≢ error.Memory → HasFirstFault lines numbers p.names found) →
     IsLinesCause p numbers lines out out writes writes (failure_of found)

@@ -1,7 +1,7 @@
 -- A judge that is given events one by one, up to the first that is not found feasible.
 use Rattle.std.proofs.Common.{◌≡◌, ℕ, ◌+◌, ◌-◌, ◌<◌, ◌≤◌, Bool, true, false, List, [], ◌∷◌, ◌++◌, length, take, drop, get_or, Option, Some, None, refl, sym, ap, ◌∙◌, subst, arith, true≢false}
 use Rattle.std.specs.Prelude.{All, IfSome, slice_get}
-use Rattle.std.proofs.lemmas.List.{take_more, length-append, length-take-le, take-append-drop}
+use Rattle.std.proofs.lemmas.List.{take_more, length-append, length-take-le, take-append-drop, take_all}
 use Rattle.std.proofs.lemmas.Option.{slice_get-get_or}
 use Rattle.ada_tree.specs.PlainProgram.{PProgram}
 use Rattle.event_machine.specs.declared.Event.{Event}
@@ -166,3 +166,10 @@ fed_stop events i d old now new v less end fed stands last h settled numbers bou
     let all : is_infeasible v ≡ true → All (IsSettled new.tasks) (needed_of new.numbers e) = λ bad. subst (λ (n : Numbering). All (IsSettled new.tasks) (needed_of n e)) (sym numbers) (settled before.1 bad) in
     let here : IsFed p new.numbers new.bound events new v = stopped p events i new e v whole (sym last) counted (slice_get-get_or events i d less) more h all in
     subst (λ (n : Numbering). IsFed p n old.bound events new v) (numbers ∙ fed.numbers) (subst (λ (b : ℕ). IsFed p new.numbers b events new v) (bound ∙ fed.bound) here)
+
+-- all events were given
+pub fed_end : (events : List Event) (i : ℕ) (old now : Kept) → length events ≤ i → IsFedTo events i old now → (p : PProgram) → StandsFor p [] old → IsFed p old.numbers old.bound events now Feasible
+fed_end events i old now past fed p s =
+    let whole : StandsFor p events now = subst (λ es. StandsFor p es now) (take_all i events past) (fed.stands p s).0 in
+    let here : IsFed p now.numbers now.bound events now Feasible = fed_all p events now whole (fed.stands p s).1 in
+    subst (λ (n : Numbering). IsFed p n old.bound events now Feasible) fed.numbers (subst (λ (b : ℕ). IsFed p now.numbers b events now Feasible) fed.bound here)

@@ -1,5 +1,5 @@
 -- The names of a text are identifiers in upper case: they are its name tokens in upper case.
-use Rattle.std.proofs.Common.{◌≡◌, ℕ, zero, suc, Bool, true, false, cond, List, [], ◌∷◌, ◌++◌, map, All, Option, Some, None, option_map, slice_get, slice_range, refl, sym, ap, ◌∙◌, subst, arith, ◌⊎◌, inl, inr}
+use Rattle.std.proofs.Common.{◌≡◌, ℕ, zero, suc, Bool, true, false, cond, List, [], ◌∷◌, ◌++◌, map, All, Option, Some, None, option_map, position, slice_get, slice_range, refl, sym, ap, ◌∙◌, subst, arith, ◌⊎◌, inl, inr}
 use Rattle.std.specs.Prelude.{not, ◌&&◌, ◌||◌, ◌==◌, nat_lt, unwrap_or, is_some, IsTrue, IsSome}
 use Rattle.std.specs.Char.{to_ascii_uppercase}
 use Rattle.std.specs.List.{list_any, list_all, AllByRecursion}
@@ -15,8 +15,8 @@ use Rattle.ada_lexer.specs.declared.verdicts.Verdict.{Verdict}
 use Rattle.ada_lexer.specs.declared.verdicts.Verdict.TheVariants.{Gap, Kind, Fault}
 use Rattle.ada_lexer.specs.declared.errors.LexError.TheVariants as fault
 use Rattle.ada_lexer.specs.Bytes as lex
-use Rattle.ada_lexer.specs.Pieces.{is_piece, word_goes_on}
-use Rattle.ada_lexer.specs.Numbers.{number_kind, kind_by_point}
+use Rattle.ada_lexer.specs.Pieces.{is_piece, word_goes_on, opens_comment}
+use Rattle.ada_lexer.specs.Numbers.{number_kind, kind_by_point, is_point}
 use Rattle.ada_lexer.specs.Words.{kind_in, simple_delimiters, compound_delimiters, delimiter_kind, same_text}
 use Rattle.ada_lexer.specs.Verdicts.{verdict, token_or, number_verdict, string_verdict, mark_verdict, text_or_bad_byte, IsToken}
 use Rattle.ada_lexer.specs.Split.{IsTokenOf}
@@ -64,26 +64,26 @@ goes_on_upper (b ∷ text) h =
     ]
 
 -- no text of the table is a name
-is_name : TokenKind → Bool
+abbrev is_name : TokenKind → Bool
 is_name kind.Name = true
 is_name _ = false
 
-names_none : List (List ℕ × TokenKind) → Bool
+abbrev names_none : List (List ℕ × TokenKind) → Bool
 names_none [] = true
 names_none (entry ∷ table) = not (is_name entry.1) && names_none table
 
+either_kind : (b : Bool) (k : TokenKind) (o : Option TokenKind) → not (is_name k) ≡ true → (o ≡ Some kind.Name → ⊥) → cond b (Some k) o ≡ Some kind.Name → ⊥
+either_kind true k o other rest is = (let same : k ≡ kind.Name = cc in true≢false (sym other ∙ ap (λ (x : TokenKind). not (is_name x)) same))
+either_kind false k o other rest is = rest is
+
 found_no_name : (table : List (List ℕ × TokenKind)) (text : List ℕ) → names_none table ≡ true → kind_in table text ≡ Some kind.Name → ⊥
-unfolding is_name names_none
 found_no_name [] text none found = cc
-found_no_name (entry ∷ table) text none found = pick (same_text text entry.0) entry.1 (and_parts (not (is_name entry.1)) (names_none table) none).0 found
-  where
-    pick : (b : Bool) (k : TokenKind) → not (is_name k) ≡ true → cond b (Some k) (kind_in table text) ≡ Some kind.Name → ⊥
-    pick true k other is =
-        (let same : k ≡ kind.Name = cc in true≢false (sym other ∙ ap (λ (x : TokenKind). not (is_name x)) same))
-    pick false k other is = found_no_name table text (and_parts (not (is_name entry.1)) (names_none table) none).1 is
+found_no_name (entry ∷ table) text none found =
+    let parts = and_parts (not (is_name entry.1)) (names_none table) none in
+    either_kind (same_text text entry.0) entry.1 (kind_in table text) parts.0 (found_no_name table text parts.1) found
 
 no_delimiter : (text : List ℕ) → delimiter_kind text ≡ Some kind.Name → ⊥
-unfolding delimiter_kind simple_delimiters compound_delimiters is_name names_none
+unfolding delimiter_kind simple_delimiters compound_delimiters
 no_delimiter [] is = cc
 no_delimiter (b ∷ []) is = found_no_name simple_delimiters (b ∷ []) refl is
 no_delimiter (b ∷ c ∷ []) is = found_no_name compound_delimiters (b ∷ c ∷ []) refl is
@@ -107,7 +107,7 @@ or_other v (Some k) a b is = (let same : k ≡ kind.Name = cc in b (ap (λ (x : 
 
 number_is_no_name : (at : ℕ) (text : List ℕ) → number_verdict at text ≡ Kind kind.Name → ⊥
 unfolding number_verdict number_kind
-number_is_no_name at text is = or_other _ _ (λ e. cc) (no_number text _) is
+number_is_no_name at text is = or_other (Fault (fault.BadNumber at)) (number_kind text) (λ e. cc) (no_number text (position is_point text)) is
 
 string_is_no_name : (at : ℕ) (rest : List ℕ) → string_verdict at rest ≡ Kind kind.Name → ⊥
 unfolding string_verdict
@@ -116,6 +116,7 @@ string_is_no_name at rest is = pick _ _ _ _ _ _ is
     bad : (n : ℕ) (o : Option ℕ) → text_or_bad_byte n o ≡ Kind kind.Name → ⊥
     bad n None e = cc
     bad n (Some place) e = cc
+
     pick : (a b : Bool) (x y : ℕ) (n : ℕ) (o : Option ℕ) → cond a (Fault (fault.OpenString x)) (cond b (Fault (fault.TooLong y)) (text_or_bad_byte n o)) ≡ Kind kind.Name → ⊥
     pick true b x y n o e = cc
     pick false true x y n o e = cc
@@ -123,7 +124,8 @@ string_is_no_name at rest is = pick _ _ _ _ _ _ is
 
 mark_is_no_name : (at : ℕ) (text : List ℕ) → mark_verdict at text ≡ Kind kind.Name → ⊥
 unfolding mark_verdict
-mark_is_no_name at text is = pick _ _ (or_other _ _ (λ e. cc) (no_delimiter text)) is
+mark_is_no_name at text is =
+    pick (opens_comment text) (token_or (Fault (fault.BadByte at)) (delimiter_kind text)) (or_other (Fault (fault.BadByte at)) (delimiter_kind text) (λ e. cc) (no_delimiter text)) is
   where
     pick : (b : Bool) (v : Verdict) → (v ≡ Kind kind.Name → ⊥) → cond b Gap v ≡ Kind kind.Name → ⊥
     pick true v other e = cc
@@ -152,13 +154,13 @@ goes_on_behind b rest piece letter = pick _ _ _ _ _ (let white : lex.is_white b 
     pick false true x y z e f h = h
     pick false false x y z e f h = absurd (true≢false (sym f))
 
+nothing_is_no_name : verdict 0 [] ≡ Kind kind.Name → ⊥
+unfolding verdict
+nothing_is_no_name e = cc
+
 -- a name token in upper case is an identifier
 pub upper_is_word : (text : List ℕ) → IsToken text kind.Name → IsTrue (is_word (map to_ascii_uppercase text))
-upper_is_word [] token = empty token.1
-  where
-    empty : verdict 0 [] ≡ Kind kind.Name → IsTrue (is_word [])
-    unfolding verdict
-    empty e = cc
+upper_is_word [] token = absurd (nothing_is_no_name token.1)
 upper_is_word (b ∷ rest) token =
     let letter : lex.is_letter b ≡ true = begins_with_letter b rest token.1 in
     and_from _ _ (upper_letter b letter) (goes_on_upper rest (goes_on_behind b rest token.0 letter)).0
@@ -176,7 +178,9 @@ interned_identifiers old text before is = pick (list_any (bytes_eq text) old)
   where
     pick : (b : Bool) → AreIdentifiers (cond b old (old ++ text ∷ []))
     pick true = before
-    pick false = All-append _ old (text ∷ []) before (All-cons _ text [] is (All-nil _))
+    pick false =
+        All-append (λ (t : List ℕ). IsTrue (is_word t)) old (text ∷ []) before
+        (All-cons (λ (t : List ℕ). IsTrue (is_word t)) text [] is (All-nil (λ (t : List ℕ). IsTrue (is_word t))))
 
 -- a name of the list is an identifier
 at_place : (names : List (List ℕ)) (k : ℕ) → AllByRecursion (λ (text : List ℕ). IsTrue (is_word text)) names → IsSome (slice_get names k) → IsTrue (is_word (unwrap_or (slice_get names k) []))
@@ -185,4 +189,4 @@ at_place (text ∷ names) zero all some = all.0
 at_place (text ∷ names) (suc k) all some = at_place names k all.1 some
 
 pub name_is_identifier : (names : List (List ℕ)) (name : ℕ) → AreIdentifiers names → IsSome (slice_get names name) → IsIdentifierName names name
-name_is_identifier names name all some = at_place names name (recursion_from_All _ names all) some
+name_is_identifier names name all some = at_place names name (recursion_from_All (λ (text : List ℕ). IsTrue (is_word text)) names all) some

@@ -10,7 +10,7 @@ use Rattle.syn_event.specs.Numbering.{Numbering}
 use Rattle.task_machine.specs.Opening.{opening_of}
 use Rattle.task_machine.specs.Table.{Whole}
 use Rattle.debug_core.specs.RunText.{header, rest_of_run, run_text}
-use Rattle.debug_core.specs.Answers.{RunWritten, first_run}
+use Rattle.debug_core.specs.RunAnswers.{RunWritten, first_run}
 use Rattle.ded_io.proofs.Writes.{appended-appended, joined}
 
 -- three pieces, one after the other

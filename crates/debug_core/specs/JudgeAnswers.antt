@@ -67,12 +67,12 @@ pub record WasJudged (text lines : List ℕ) (bound : ℕ) (out out' : Option (L
   pub judged : LinesJudged program numbers lines bound out out' verdict
 
 -- The text is a program, and the first bad line of a sequence of it has this fault.
-pub record HasBadSequence (text lines : List ℕ) (error : SeqError) : Type 0 where
+pub record HasBadSequence (text lines : List ℕ) (found : SeqError) : Type 0 where
   pub program : PProgram
   pub types : TypeTable
   pub numbers : Numbering
   pub is_program : IsProgram text program types numbers
-  pub fault : HasFirstFault lines numbers program.names error
+  pub fault : HasFirstFault lines numbers program.names found
 
 -- the bytes of both files were loaded
 pub record WereLoaded (told : Option (List ToldFile)) (file sequence text lines : List ℕ) : Type 0 where
@@ -127,15 +127,15 @@ pub record HasJudged (told : Option (List ToldFile)) (file sequence : List ℕ) 
   pub judged : WasJudged text lines bound out out' verdict
 
 -- The bytes of both files were loaded, the first are a program, and the first bad line of the second has this fault.
-pub record HoldsBadSequence (told : Option (List ToldFile)) (file sequence : List ℕ) (error : SeqError) : Type 0 where
+pub record HoldsBadSequence (told : Option (List ToldFile)) (file sequence : List ℕ) (found : SeqError) : Type 0 where
   pub text : List ℕ
   pub lines : List ℕ
   pub loaded : WereLoaded told file sequence text lines
-  pub fault : HasBadSequence text lines error
+  pub fault : HasBadSequence text lines found
 
 -- why two files were not judged, or the text of the verdict not written; nothing is written before both are read
 abbrev pub IsFilesCause : Option (List ToldFile) → List ℕ → List ℕ → ℕ → ℕ → Option (List ℕ) → Option (List ℕ) → ℕ → ℕ → Failure → Type 0
-IsFilesCause told file sequence reads reads' out out' writes writes' Refused = ((text lines : List ℕ) × WereLoaded told file sequence text lines) × (out' ≡ out)
+IsFilesCause told file sequence reads reads' out out' writes writes' Refused = ((text : List ℕ) × (lines : List ℕ) × WereLoaded told file sequence text lines) × (out' ≡ out)
 IsFilesCause told file sequence reads reads' out out' writes writes' Usage = ⊥
 IsFilesCause told file sequence reads reads' out out' writes writes' (BadSequence found line) = HoldsBadSequence told file sequence (error_of found line) × (out' ≡ out)
 IsFilesCause told file sequence reads reads' out out' writes writes' (Unreadable Program) = IsUnread told file reads reads' × (out' ≡ out)

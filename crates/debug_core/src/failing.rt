@@ -11,7 +11,7 @@ use itoa::Buffer;
 use seq_file::SeqError;
 
 /// Why a command was not carried out, or not all of its text was written.
-#[derive(Clone, Copy, Debug, PartialEq, Eq)]
+#[derive(Clone, Copy)]
 pub(crate) enum Failure {
     /// The private reader does not take the program's text.
     Refused,
@@ -32,7 +32,7 @@ pub(crate) enum Failure {
 }
 
 /// What is wrong with the first bad line of a sequence.
-#[derive(Clone, Copy, Debug, PartialEq, Eq)]
+#[derive(Clone, Copy)]
 pub(crate) enum SequenceFault {
     BadLine,
     OtherProgram,
@@ -41,7 +41,7 @@ pub(crate) enum SequenceFault {
 }
 
 /// Which of the files that the words name.
-#[derive(Clone, Copy, Debug, PartialEq, Eq)]
+#[derive(Clone, Copy)]
 pub(crate) enum Source {
     Program,
     Sequence,

@@ -25,6 +25,7 @@ use syn_event::Mode;
 
 // A program's file has at most this many bytes, and that of a sequence this many.
 const PROGRAM_LIMIT: u64 = 1_048_576;
+
 const SEQUENCE_LIMIT: u64 = 8_388_608;
 
 // Judges the sequence, and answers the status.

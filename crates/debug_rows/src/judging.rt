@@ -68,11 +68,7 @@ struct Refused<'r> {
 }
 
 // Each is refused, and nothing is written on the output.
-fn check_refusals(
-    rt: &impl Abort,
-    alloc: Global,
-    cases: &[Refused<'_>],
-) -> Result<(), AllocError> {
+fn check_refusals(rt: &impl Abort, alloc: Global, cases: &[Refused<'_>]) -> Result<(), AllocError> {
     for case in cases {
         check_row(
             rt,
