@@ -40,13 +40,7 @@ pub fn set_standing(seats: &mut [Seat], t: u32, standing: Standing)
 }
 
 /// The rendezvous of the caller with the owner of the entry starts.
-pub fn meet(
-    seats: &mut [Seat],
-    numbers: &Numbers,
-    c: u32,
-    e: u32,
-    i: i32,
-) -> Result<(), Memory>
+pub fn meet(seats: &mut [Seat], numbers: &Numbers, c: u32, e: u32, i: i32) -> Result<(), Memory>
     ensures ok { OnOk result (seats.new ≡ met_at (rules_of numbers.now) seats.old c e i) }
     ensures unchanged { OnErr result (seats.new ≡ seats.old) }
 {
