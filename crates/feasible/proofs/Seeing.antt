@@ -74,18 +74,18 @@ module _ (m : Program Task) where
   behind_last w next last e [] t is fires leads = last_leaves w next e t is fires ∙ ap (λ (u : World Task). u.tasks t) leads
   behind_last w next last e (f ∷ events) t is fires (more, firing, leads) = absurd (true≢false (sym (last_ends w next e is fires) ∙ firing.runs))
 
+  -- by whether the first event is the end
+  by_last : (w next last : World Task) (e : Event) (events : List Event) → Fires m w e next → Leads m next events last →
+      (later : (v : World Task) × Leads m next (before_end events) v × ((t : ℕ) → v.tasks t ≡ last.tasks t)) (b : Bool) → is_last e ≡ b →
+      (v : World Task) × Leads m w (if b then [] else e ∷ before_end events) v × ((t : ℕ) → v.tasks t ≡ last.tasks t)
+  by_last w next last e events fires leads later true is = (w, refl, λ t. behind_last w next last e events t is fires leads)
+  by_last w next last e events fires leads (v, led, same) false is = (v, (next, fires, led), same)
+
   -- Without the end the events lead to the same tasks.
   led_before : (w last : World Task) (events : List Event) → Leads m w events last →
       (v : World Task) × Leads m w (before_end events) v × ((t : ℕ) → v.tasks t ≡ last.tasks t)
   led_before w last [] leads = (w, refl, λ t. ap (λ (u : World Task). u.tasks t) leads)
-  led_before w last (e ∷ events) (next, fires, leads) = by_last (is_last e) refl
-    where
-      later : (v : World Task) × Leads m next (before_end events) v × ((t : ℕ) → v.tasks t ≡ last.tasks t)
-      later = led_before next last events leads
-
-      by_last : (b : Bool) → is_last e ≡ b → (v : World Task) × Leads m w (if b then [] else e ∷ before_end events) v × ((t : ℕ) → v.tasks t ≡ last.tasks t)
-      by_last true is = (w, refl, λ t. behind_last w next last e events t is fires leads)
-      by_last false is = let (v, led, same) = later in (v, (next, fires, led), same)
+  led_before w last (e ∷ events) (next, fires, leads) = by_last w next last e events fires leads (led_before next last events leads) (is_last e) refl
 
 module _ (p : PProgram) (numbers : Numbering) where
   -- What is kept for events is kept for those before the end.
