@@ -1,5 +1,5 @@
 -- The grammar of declarations (chapters 3, 9 and 11). At a depth d, at most d levels stand below the root of each expression in a declaration; the declaration has the nesting 1, the root 2, and so one level more may stand below each statement of a body (this project's rule).
-use Rattle.std.specs.Prelude.{ℕ, suc, ◌≤◌, Bool, true, false, List, [], ◌∷◌, Option, Some, None, length, codes}
+use Rattle.std.specs.Prelude.{ℕ, suc, ◌≤◌, Bool, true, false, List, Option, Some, None, length, codes}
 use Rattle.ada_tree.specs.declared.naming.Word.{Word}
 use Rattle.ada_tree.specs.PlainExpr.{PExpr, PSubind, PDrange}
 use Rattle.ada_tree.specs.PlainStmt.{PBody}

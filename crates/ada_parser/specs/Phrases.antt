@@ -1,5 +1,5 @@
 -- Pieces of statements and declarations that hold no statements: names, formal parts, texts, choices, loops and what may close a unit. At a depth d, at most d levels may stand below the statement or declaration itself (this project's rule), and where a piece says "below the root", below the root of the expression.
-use Rattle.std.specs.Prelude.{ℕ, List, [], ◌∷◌, Option, Some, None, Bool, true, false, codes}
+use Rattle.std.specs.Prelude.{ℕ, List, [], ◌∷◌, Option, Bool, true, false}
 use Rattle.ada_tree.specs.declared.naming.Word.{Word}
 use Rattle.ada_tree.specs.declared.statements.ParMode.{ParMode}
 use Rattle.ada_tree.specs.declared.statements.ParMode.TheVariants.{Take, Give, Both}
@@ -8,7 +8,7 @@ use Rattle.ada_tree.specs.PlainStmt.{PFormal, PPart, PWords, PValue, PChoice, PS
 use Rattle.ada_expr_parser.specs.declared.symbols.Symbol.TheVariants as key
 use Rattle.ada_expr_parser.specs.declared.levels.Level.TheVariants.{Logical}
 use Rattle.ada_expr_parser.specs.Grammar.{IsExpr, IsIndex, IsChoice, IsDrange}
-use Rattle.ada_parser.specs.Spelling.{Source, Spelling, Nothing, Never, ◌▷◌, Either, May, IfThere, Key, Named, Again, Duration, StringAt, Separated, Inside}
+use Rattle.ada_parser.specs.Spelling.{Source, Spelling, Nothing, ◌▷◌, May, IfThere, Key, Named, Again, Duration, StringAt, Separated, Inside}
 
 -- `NAME {, NAME}` (3.2)
 abbrev pub Names : List Word → Spelling

@@ -1,7 +1,7 @@
 -- What it is to read a text: its tokens, their items, and the unit that these spell (2.2, 10.1, this project's limit of nesting).
-use Rattle.std.specs.Prelude.{◌≡◌, ◌↔◌, ℕ, Bool, true, false, List, [], ◌∷◌, ◌++◌}
+use Rattle.std.specs.Prelude.{◌≡◌, ℕ, Bool, true, false, List, [], ◌∷◌, ◌++◌}
 use Rattle.lawful_reader.specs.Grammars.{Texts, Begins}
-use Rattle.lawful_reader.specs.Exactness.{Whole, IsSyntax, IsTooDeep}
+use Rattle.lawful_reader.specs.Exactness.{Whole}
 use Rattle.ada_lexer.specs.declared.kinds.Token.{Token}
 use Rattle.ada_lexer.specs.Split.{Splits}
 use Rattle.ada_tree.specs.PlainProgram.{PProgram}
@@ -9,7 +9,6 @@ use Rattle.ada_expr_parser.specs.declared.items.ItemKind.{ItemKind}
 use Rattle.ada_expr_parser.specs.declared.items.ItemKind.TheVariants as item
 use Rattle.ada_expr_parser.specs.declared.items.Item.{Item}
 use Rattle.ada_expr_parser.specs.Items.{AreItems, names_after}
-use Rattle.ada_expr_parser.specs.Gives.{place}
 use Rattle.ada_parser.specs.Spelling.{Source}
 use Rattle.ada_parser.specs.Units.{PUnit, Units}
 
@@ -54,14 +53,18 @@ BeginsSomeText source front = (d : ℕ) × Begins (WholeTexts source d) front
 abbrev pub BeginsText : Source → List Item → Type 0
 BeginsText source front = Begins (WholeTexts source deepest) front
 
--- The items before the place begin some text, and with the item that stands there, which may be the end, they begin none.
+-- an item of a text, which may be its end, with the items before it and behind it
+pub record HasItemAt (bytes : List ℕ) (at : ℕ) (source : Source) (front : List Item) (x : Item) : Type 0 where
+  pub rest : List Item
+  pub are_items : HasItems bytes source (front ++ (x ∷ rest))
+  pub place_is : x.span.start ≡ at
+
+-- The items before the place begin some text, and with the item that stands there they begin none.
 pub record SyntaxAt (bytes : List ℕ) (at : ℕ) : Type 0 where
   pub source : Source
   pub front : List Item
   pub x : Item
-  pub rest : List Item
-  pub are_items : HasItems bytes source (front ++ (x ∷ rest))
-  pub place_is : x.span.start ≡ at
+  pub stands : HasItemAt bytes at source front x
   pub before : BeginsText source front
   pub never : BeginsSomeText source (front ++ (x ∷ [])) → ⊥
 
@@ -70,9 +73,7 @@ pub record TooDeepAt (bytes : List ℕ) (at : ℕ) : Type 0 where
   pub source : Source
   pub front : List Item
   pub x : Item
-  pub rest : List Item
-  pub are_items : HasItems bytes source (front ++ (x ∷ rest))
-  pub place_is : x.span.start ≡ at
+  pub stands : HasItemAt bytes at source front x
   pub before : BeginsText source front
   pub not_here : BeginsText source (front ++ (x ∷ [])) → ⊥
   pub deeper : BeginsSomeText source (front ++ (x ∷ []))

@@ -1,5 +1,5 @@
 -- The words in which the grammar is said: which lists of items are a piece of a text. Nothing here reads (this project's rule).
-use Rattle.std.specs.Prelude.{◌≡◌, ℕ, zero, suc, ◌⊎◌, Bool, true, false, List, [], ◌∷◌, ◌++◌, Option, Some, None, drop, slice_range, codes, if◌then◌else◌}
+use Rattle.std.specs.Prelude.{◌≡◌, ℕ, zero, suc, ◌⊎◌, true, List, [], ◌∷◌, ◌++◌, Option, Some, None, drop, slice_range, codes, if◌then◌else◌}
 use Rattle.std.specs.Str.{bytes_eq}
 use Rattle.ada_lexer.specs.Strings.{content}
 use Rattle.ada_tree.specs.NameList.{predefined}

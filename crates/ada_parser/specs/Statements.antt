@@ -1,11 +1,10 @@
 -- The grammar of statements, alternatives, handlers and bodies (chapters 5, 9 and 11). At a depth d, at most d levels stand below each statement: what stands in a compound statement, an alternative or a handler is one level deeper than it, and so is the root of an expression (this project's rule). Each node has the place from its first item to its last.
-use Rattle.std.specs.Prelude.{ℕ, List, [], ◌∷◌, Option, Some, None, codes}
-use Rattle.ada_tree.specs.declared.naming.Word.{Word}
-use Rattle.ada_tree.specs.PlainStmt.{PTarget, PCallee, PCall, PHead, PStmt, SNull, SAssign, SDelay, SExit, SRaise, SAbort, SCall, SAccept, SWait, SConditional, STimed, SPut, SPutLine, SNewLine, SGet, SIf, SCase, SBlock, SLoop, PStmts, no_stmt, stmt_then, PMaybe, absent, present, PAccept, accepting, PAlt, alternative, PAltKind, AAccept, ADelay, ATerminate, PAlts, no_alt, alt_then, PArm, arm, PArms, no_arm, arm_then, PCaseArm, case_arm, PCaseArms, no_case_arm, case_arm_then, PBody, body, PHandler, handler, PHandlers, no_handler, handler_then}
+use Rattle.std.specs.Prelude.{ℕ, codes}
+use Rattle.ada_tree.specs.PlainStmt.{PTarget, PCallee, PCall, PStmt, SNull, SAssign, SDelay, SExit, SRaise, SAbort, SCall, SAccept, SWait, SConditional, STimed, SPut, SPutLine, SNewLine, SGet, SIf, SCase, SBlock, SLoop, PStmts, no_stmt, stmt_then, PMaybe, absent, present, PAccept, accepting, PAlt, alternative, PAltKind, AAccept, ADelay, ATerminate, PAlts, no_alt, alt_then, PArm, arm, PArms, no_arm, arm_then, PCaseArm, case_arm, PCaseArms, no_case_arm, case_arm_then, PBody, body, PHandler, handler, PHandlers, no_handler, handler_then}
 use Rattle.ada_tree.specs.WellPlaced.{OthersLast}
 use Rattle.ada_expr_parser.specs.declared.symbols.Symbol.TheVariants as key
 use Rattle.ada_expr_parser.specs.Grammar.{IsTarget, IsCallee, IsCall}
-use Rattle.ada_parser.specs.Spelling.{Source, Spelling, Nothing, Never, ◌▷◌, IfThere, Where, Key, Named, Predefined, Duration, Separated, Inside, Placed}
+use Rattle.ada_parser.specs.Spelling.{Source, Spelling, Nothing, Never, ◌▷◌, IfThere, Where, Key, Named, Predefined, Separated, Inside, Placed}
 use Rattle.ada_parser.specs.Phrases.{EndOf, Operand, Expression, AcceptHead, Guard, IsText, WhenChoices, WhenOthers, WhenRaised, IsScheme, LoopName, LoopNameAgain, DelayOf}
 
 -- a variable or component, a task, and an entry call: an index or an argument is one level deeper than the statement (5.2, 9.5)

@@ -4,7 +4,7 @@ use Rattle.ada_tree.specs.declared.naming.Word.{Word}
 use Rattle.ada_tree.specs.PlainExpr.{PExpr}
 use Rattle.ada_tree.specs.PlainDecl.{PEntry, PPriority, PTask}
 use Rattle.ada_expr_parser.specs.declared.symbols.Symbol.TheVariants as key
-use Rattle.ada_parser.specs.Spelling.{Source, Spelling, Nothing, ◌▷◌, Either, IfThere, Where, Key, Named, PriorityWord, Row, Placed}
+use Rattle.ada_parser.specs.Spelling.{Source, Spelling, ◌▷◌, Either, IfThere, Key, Named, PriorityWord, Row, Placed}
 use Rattle.ada_parser.specs.Phrases.{EndOf, Expression, Drange, Formals}
 
 -- `pragma PRIORITY ( expr ) ;` (2.8, 9.8)
