@@ -59,14 +59,14 @@ IsPart source d (PWords t at) = StringAt source t at
 IsPart source d (PValue e) = Operand d e
 
 -- `( part {& part} )`
-abbrev pub IsText : Source → ℕ → List PPart → Spelling
-IsText source d parts = Key key.LeftParen ▷ Separated (Key key.Ampersand) (IsPart source d) parts ▷ Key key.RightParen
+abbrev pub PutText : Source → ℕ → List PPart → Spelling
+PutText source d parts = Key key.LeftParen ▷ Separated (Key key.Ampersand) (IsPart source d) parts ▷ Key key.RightParen
 
 -- a choice, at most d levels below its roots (3.7.3)
 abbrev pub Choice : ℕ → PChoice → Spelling
 Choice d x text = IsChoice d x text
 
--- `when choice {| choice} =>` (5.4)
+-- `when choice {| choice} =>`, at most d levels below the roots of the choices (5.4)
 abbrev pub WhenChoices : ℕ → List PChoice → Spelling
 WhenChoices d choices = Key key.When ▷ Separated (Key key.Bar) (Choice d) choices ▷ Key key.Arrow
 

@@ -5,7 +5,7 @@ use Rattle.ada_tree.specs.WellPlaced.{OthersLast}
 use Rattle.ada_expr_parser.specs.declared.symbols.Symbol.TheVariants as key
 use Rattle.ada_expr_parser.specs.Grammar.{IsTarget, IsCallee, IsCall}
 use Rattle.ada_parser.specs.Spelling.{Source, Spelling, Nothing, Never, ◌▷◌, IfThere, Where, Key, Named, Predefined, Separated, Inside, Placed}
-use Rattle.ada_parser.specs.Phrases.{EndOf, Operand, Expression, AcceptHead, Guard, IsText, WhenChoices, WhenOthers, WhenRaised, IsScheme, LoopName, LoopNameAgain, DelayOf}
+use Rattle.ada_parser.specs.Phrases.{EndOf, Operand, Expression, AcceptHead, Guard, PutText, WhenChoices, WhenOthers, WhenRaised, IsScheme, LoopName, LoopNameAgain, DelayOf}
 
 -- a variable or component, a task, and an entry call: an index or an argument is one level deeper than the statement (5.2, 9.5)
 abbrev pub Target : ℕ → PTarget → Spelling
@@ -46,8 +46,8 @@ module _ (source : Source) where
     IsStmt d (STimed c l n m s) =
         Placed s (Key key.Select ▷ Inside d (λ i. Call i c ▷ Key key.Semicolon ▷ AnyStmts i l ▷ Key key.Or ▷ DelayOf n ▷ AnyStmts i m) ▷ Key key.End ▷ Key key.Select ▷ Key key.Semicolon)
     -- `PUT ( text ) ;`, `PUT_LINE ( text ) ;`, `NEW_LINE ;` and `GET ( target ) ;` (14.3, this project's forms)
-    IsStmt d (SPut parts s) = Placed s (Predefined (codes "PUT") ▷ IsText source d parts ▷ Key key.Semicolon)
-    IsStmt d (SPutLine parts s) = Placed s (Predefined (codes "PUT_LINE") ▷ IsText source d parts ▷ Key key.Semicolon)
+    IsStmt d (SPut parts s) = Placed s (Predefined (codes "PUT") ▷ PutText source d parts ▷ Key key.Semicolon)
+    IsStmt d (SPutLine parts s) = Placed s (Predefined (codes "PUT_LINE") ▷ PutText source d parts ▷ Key key.Semicolon)
     IsStmt d (SNewLine s) = Placed s (Predefined (codes "NEW_LINE") ▷ Key key.Semicolon)
     IsStmt d (SGet x s) = Placed s (Predefined (codes "GET") ▷ Key key.LeftParen ▷ Target d x ▷ Key key.RightParen ▷ Key key.Semicolon)
     -- `if expr then stmts {elsif expr then stmts} [else stmts] end if ;` (5.3)
