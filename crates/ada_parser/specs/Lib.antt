@@ -5,3 +5,5 @@ pub mod Tasks
 pub mod Declarations
 pub mod Units
 pub mod Reads
+pub mod Reading
+pub mod ReadingStatements
