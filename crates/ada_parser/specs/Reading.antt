@@ -1,5 +1,5 @@
 -- How pieces of statements are read: from left to right, by the next item. A depth is how many levels may stand below the statement, and where a piece says so, below the root of an expression.
-use Rattle.std.specs.Prelude.{ℕ, zero, suc, ◌+◌, ◌==◌, nat_le, Bool, true, false, ◌||◌, List, [], ◌∷◌, length, Option, Some, None, is_some, if◌then◌else◌}
+use Rattle.std.specs.Prelude.{ℕ, zero, suc, ◌==◌, Bool, ◌||◌, List, [], ◌∷◌, Option, Some, None, is_some, if◌then◌else◌}
 use Rattle.lawful_reader.specs.Readers.{Reader, pure, refuse, bind, on, token, look, too_deep, items}
 use Rattle.ada_tree.specs.declared.naming.Span.{Span}
 use Rattle.ada_tree.specs.declared.naming.Word.{Word}
@@ -13,7 +13,7 @@ use Rattle.ada_expr_parser.specs.declared.items.ItemKind.{ItemKind}
 use Rattle.ada_expr_parser.specs.declared.items.ItemKind.TheVariants as item
 use Rattle.ada_expr_parser.specs.declared.items.Item.{Item}
 use Rattle.ada_expr_parser.specs.declared.levels.Level.TheVariants.{Logical, Relation, Simple, Term}
-use Rattle.ada_expr_parser.specs.Tests.{symbol, word, word_in, operator_in, begins_expr}
+use Rattle.ada_expr_parser.specs.Tests.{symbol, word, operator_in, begins_expr}
 use Rattle.ada_expr_parser.specs.Reading.{inner, name_rest}
 use Rattle.ada_expr_parser.specs.Parts.{expression, expr_behind}
 use Rattle.ada_parser.specs.Spelling.{Source, said_at}

@@ -5,16 +5,14 @@ use Rattle.ada_tree.specs.NameList.{predefined}
 use Rattle.ada_tree.specs.declared.naming.Span.{Span}
 use Rattle.ada_tree.specs.declared.naming.Word.{Word}
 use Rattle.ada_tree.specs.PlainExpr.{PExpr, EName}
-use Rattle.ada_tree.specs.PlainStmt.{PTarget, PCallee, PCall, PFormal, PPart, PWords, PValue, PChoice, PScheme, LWhile, LFor, PHead, PStmt, SNull, SAssign, SDelay, SExit, SRaise, SAbort, SCall, SAccept, SWait, SConditional, STimed, SPut, SPutLine, SNewLine, SGet, SIf, SCase, SBlock, SLoop, PStmts, no_stmt, stmt_then, PMaybe, absent, present, PAccept, accepting, PAlt, alternative, PAltKind, AAccept, ADelay, ATerminate, alts_of, PArm, arm, arms_of, PCaseArm, case_arm, case_arms_of, PBody, body, PHandler, handler, PHandlers, no_handler, handlers_of, row_of}
-use Rattle.ada_expr_parser.specs.declared.symbols.Symbol.{Symbol}
+use Rattle.ada_tree.specs.PlainStmt.{PTarget, PCall, PPart, PValue, PScheme, LWhile, LFor, PHead, PStmt, SNull, SAssign, SDelay, SExit, SRaise, SAbort, SCall, SAccept, SWait, SConditional, STimed, SPut, SPutLine, SNewLine, SGet, SIf, SCase, SBlock, SLoop, PStmts, no_stmt, stmt_then, PMaybe, absent, present, PAccept, accepting, PAlt, alternative, AAccept, ADelay, ATerminate, alts_of, PArm, arm, arms_of, PCaseArm, case_arm, case_arms_of, PBody, body, PHandler, handler, PHandlers, no_handler, handlers_of, row_of}
 use Rattle.ada_expr_parser.specs.declared.symbols.Symbol.TheVariants as key
 use Rattle.ada_expr_parser.specs.declared.items.Item.{Item}
 use Rattle.ada_expr_parser.specs.Tests.{symbol, word}
 use Rattle.ada_expr_parser.specs.Trees.{levels, from_to, indexed}
 use Rattle.ada_expr_parser.specs.Parts.{expression, expr_behind, drange, choice, target, target_rest, callee_of, call_rest}
-use Rattle.ada_expr_parser.specs.Tests.{begins_expr}
 use Rattle.ada_parser.specs.Spelling.{Source, id_of}
-use Rattle.ada_parser.specs.Reading.{is_symbol, key_then, last_key, closed, more_behind, separated, in_deeper, operand, goes_on_name, expression_from, again, end_of, delayed, Delayed, Behind, accept_behind, string, part}
+use Rattle.ada_parser.specs.Reading.{is_symbol, key_then, closed, more_behind, separated, in_deeper, operand, goes_on_name, expression_from, again, end_of, delayed, Behind, accept_behind, string, part}
 
 -- what reads at one depth: a statement, an accept behind its first word, an alternative, and handlers behind `exception`
 pub record Readers : Type 0 where
@@ -86,7 +84,7 @@ abbrev pub whens_in : {A B : Type 0} → ℕ → (Span → Reader Item A) → (S
 whens_in zero part others = look (is_symbol key.When) refuse (pure no_whens)
 whens_in (suc turns) part others =
     on (symbol key.When) (λ lead. on (symbol key.Others) (λ at. bind (others lead) (λ b. pure record { parts = []; others = Some b }))
-        (bind (part lead) (λ a. bind (whens_in turns part others) (λ more. pure (with_part a more)))))
+    (bind (part lead) (λ a. bind (whens_in turns part others) (λ more. pure (with_part a more)))))
     (pure no_whens)
 
 abbrev pub whens : {A B : Type 0} → (Span → Reader Item A) → (Span → Reader Item B) → Reader Item (Whens A B)
@@ -244,7 +242,7 @@ abbrev pub put_behind : Source → ℕ → (List PPart → Span → PStmt) → W
 put_behind source d tree w e =
     look (is_symbol key.Ampersand) (put_more source d tree w (PValue e))
     (key_then key.RightParen (on (symbol key.Semicolon) (λ close. pure (tree (PValue e ∷ []) (from_to w.span close)))
-        (assign_or_call d record { name = w; index = Some e })))
+    (assign_or_call d record { name = w; index = Some e })))
 
 -- behind `PUT (`
 abbrev pub put_rest : Source → ℕ → (List PPart → Span → PStmt) → Word → Reader Item PStmt
