@@ -1,0 +1,3 @@
+pub mod Faults
+mod ReadingExamples
+mod TextExamples
