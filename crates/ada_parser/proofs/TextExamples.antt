@@ -14,7 +14,8 @@ use Rattle.ada_parser.specs.Spelling.{Source, id_of, StringAt}
 use Rattle.ada_parser.specs.Statements.{IsStmt}
 use Rattle.ada_parser.specs.Tasks.{MEntry, MPriority, priorities_in}
 use Rattle.ada_parser.specs.Declarations.{IsObject}
-use Rattle.ada_parser.specs.Units.{BodiesLast, Units}
+use Rattle.ada_tree.specs.WellPlaced.{BodiesLast}
+use Rattle.ada_parser.specs.Units.{Units}
 
 abbrev at : ℕ → ℕ → Span
 at first last = record { start = first; end = last }

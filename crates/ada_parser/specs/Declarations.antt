@@ -4,6 +4,7 @@ use Rattle.ada_tree.specs.declared.naming.Word.{Word}
 use Rattle.ada_tree.specs.PlainExpr.{PExpr, PSubind, PDrange}
 use Rattle.ada_tree.specs.PlainStmt.{PBody}
 use Rattle.ada_tree.specs.PlainDecl.{PShape, OPlain, ORow, PInit, IOne, IList, IOthers, PDecl, DNumber, DObject, DEnumeration, DArray, DSubtype, DException, DIntIo, DPragma, DTask, DTaskBody, PDecls, no_decl, decl_then}
+use Rattle.ada_tree.specs.WellPlaced.{AreObjects}
 use Rattle.ada_expr_parser.specs.declared.symbols.Symbol.TheVariants as key
 use Rattle.ada_expr_parser.specs.Grammar.{IsSubind, AreEnclosed}
 use Rattle.ada_parser.specs.Spelling.{Source, Spelling, Nothing, Never, ◌▷◌, May, IfThere, Where, Key, Named, Again, Predefined, Placed}
@@ -50,12 +51,6 @@ IsInstance name =
 -- `begin stmts [exception handlers] end [NAME] ;`, the end of a unit with this name (6.3, 9.1)
 abbrev pub UnitEnd : Source → ℕ → Word → PBody → Spelling
 UnitEnd source d name b = IsBody source d b ▷ EndOf name
-
--- only objects are declared in a task body (this project's rule)
-abbrev pub AreObjects : PDecls → Type 0
-AreObjects no_decl = Unit {0}
-AreObjects (decl_then (DObject ws c x i s) l) = AreObjects l
-AreObjects (decl_then _ l) = ⊥
 
 module _ (source : Source) where
   abbrev mutual

@@ -3,7 +3,8 @@ use Rattle.std.specs.Prelude.{ℕ, suc, Bool, true, false, codes}
 use Rattle.lawful_reader.specs.Grammars.{Texts}
 use Rattle.ada_tree.specs.declared.naming.Word.{Word}
 use Rattle.ada_tree.specs.PlainStmt.{PBody}
-use Rattle.ada_tree.specs.PlainDecl.{PDecl, DIntIo, DTask, DTaskBody, PDecls, no_decl, decl_then}
+use Rattle.ada_tree.specs.PlainDecl.{PDecls}
+use Rattle.ada_tree.specs.WellPlaced.{BodiesLast}
 use Rattle.ada_expr_parser.specs.declared.symbols.Symbol.TheVariants as key
 use Rattle.ada_expr_parser.specs.declared.items.Item.{Item}
 use Rattle.ada_parser.specs.Spelling.{Source, Spelling, Nothing, ◌▷◌, Where, Key, Named, Predefined}
@@ -15,23 +16,6 @@ pub record PUnit : Type 0 where
   pub name : Word
   pub decls : PDecls
   pub body : PBody
-
--- a declaration that may stand behind a body: a body, a task, or an instance of INTEGER_IO (3.9)
-abbrev pub IsLater : PDecl → Type 0
-IsLater (DTaskBody w ds b s) = Unit {0}
-IsLater (DTask t s) = Unit {0}
-IsLater (DIntIo w s) = Unit {0}
-IsLater _ = ⊥
-
-abbrev pub AreLater : PDecls → Type 0
-AreLater no_decl = Unit {0}
-AreLater (decl_then x l) = IsLater x × AreLater l
-
--- behind the first body only such declarations stand (3.9)
-abbrev pub BodiesLast : PDecls → Type 0
-BodiesLast no_decl = Unit {0}
-BodiesLast (decl_then (DTaskBody w ds b s) l) = AreLater l
-BodiesLast (decl_then _ l) = BodiesLast l
 
 -- `[with TEXT_IO ; use TEXT_IO ;]` (8.4, 10.1.1)
 abbrev pub Context : Bool → Spelling

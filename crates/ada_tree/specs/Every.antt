@@ -1,5 +1,5 @@
 -- Rules that are asked of every part of a program, and how deep each part stands (this project's rule: what stands in a compound statement, an alternative or a handler is one deeper than it, and an operand, index, argument or content of parentheses one deeper than the node above it).
-use Rattle.std.specs.Prelude.{ℕ, ◌+◌, List, length, map, IfSome, All}
+use Rattle.std.specs.Prelude.{ℕ, ◌+◌, Bool, List, Option, length, map, IfSome, All}
 use Rattle.ada_tree.specs.declared.naming.NameId.{NameId}
 use Rattle.ada_tree.specs.declared.naming.Word.{Word}
 use Rattle.ada_tree.specs.declared.expressions.UnaryOp.{UnaryOp}
@@ -26,6 +26,11 @@ pub record Rules : Type 1 where
   pub handlers : PHandlers → Type 0
   -- of each task: how many entries it has, and the places of its pragmas among them
   pub pragmas : ℕ → List ℕ → Type 0
+  -- of each object: whether it is a constant, and its value
+  pub object : Bool → Option PInit → Type 0
+  -- of the declarations of each task body, and of the program's own
+  pub inner : PDecls → Type 0
+  pub outer : PDecls → Type 0
   -- of the nesting of each part
   pub nested : ℕ → Type 0
 
@@ -42,6 +47,9 @@ no_rules = record {
   parts = λ _ _. Unit {0};
   handlers = λ _. Unit {0};
   pragmas = λ _ _. Unit {0};
+  object = λ _ _. Unit {0};
+  inner = λ _. Unit {0};
+  outer = λ _. Unit {0};
   nested = λ _. Unit {0};
 }
 
@@ -221,7 +229,7 @@ module _ (rules : Rules) where
   abbrev mutual
     pub EveryDecl : PDecl → Type 0
     EveryDecl (DNumber w e s) = rules.nested 1 × EveryWord w × EveryExpr 2 e
-    EveryDecl (DObject ws c x i s) = rules.nested 1 × EveryNames ws × EveryShape x × IfSome i EveryInit
+    EveryDecl (DObject ws c x i s) = rules.nested 1 × EveryNames ws × EveryShape x × rules.object c i × IfSome i EveryInit
     EveryDecl (DEnumeration w ws s) = rules.nested 1 × EveryWord w × EveryNames ws
     EveryDecl (DArray w r x s) = rules.nested 1 × EveryWord w × EveryDrange 2 r × EverySubind 2 x
     EveryDecl (DSubtype w x s) = rules.nested 1 × EveryWord w × EverySubind 2 x
@@ -229,7 +237,7 @@ module _ (rules : Rules) where
     EveryDecl (DIntIo w s) = rules.nested 1 × EveryWord w
     EveryDecl (DPragma e s) = rules.nested 1 × EveryExpr 2 e
     EveryDecl (DTask x s) = rules.nested 1 × EveryTask x
-    EveryDecl (DTaskBody w ds b s) = rules.nested 1 × EveryWord w × EveryDecls ds × EveryBody 1 b
+    EveryDecl (DTaskBody w ds b s) = rules.nested 1 × EveryWord w × rules.inner ds × EveryDecls ds × EveryBody 1 b
 
     pub EveryDecls : PDecls → Type 0
     EveryDecls no_decl = Unit {0}
@@ -237,4 +245,4 @@ module _ (rules : Rules) where
 
   -- the rules hold in the whole program
   abbrev pub EveryProgram : PProgram → Type 0
-  EveryProgram p = EveryWord p.name × EveryDecls p.decls × EveryBody 1 p.body
+  EveryProgram p = EveryWord p.name × rules.outer p.decls × EveryDecls p.decls × EveryBody 1 p.body

@@ -1,11 +1,12 @@
--- Grammar levels, and when a program is well placed: when its printed text has each part where the grammar has it. These are six conditions (this project's rule).
-use Rattle.std.specs.Prelude.{◌≡◌, ◌<◌, ◌≤◌, ◌⊎◌, ℕ, List, [], ◌∷◌, IsSomeAnd, slice_get}
+-- Grammar levels, and when a program is well placed: when its printed text has each part where the grammar has it. These are nine conditions (this project's rule).
+use Rattle.std.specs.Prelude.{◌≡◌, ◌<◌, ◌≤◌, ◌⊎◌, ℕ, Bool, true, List, [], ◌∷◌, Option, None, IsSomeAnd, slice_get}
 use Rattle.ada_tree.specs.declared.expressions.UnaryOp.{UnaryOp}
 use Rattle.ada_tree.specs.declared.expressions.UnaryOp.TheVariants as unary
 use Rattle.ada_tree.specs.declared.expressions.BinaryOp.{BinaryOp}
 use Rattle.ada_tree.specs.declared.expressions.BinaryOp.TheVariants.{And, Or, Xor, AndThen, OrElse, Equal, NotEqual, Less, LessEqual, Greater, GreaterEqual, Plus, Minus, Times, Divide, Mod, Rem}
 use Rattle.ada_tree.specs.PlainExpr.{PExpr, EUnary, EBinary}
 use Rattle.ada_tree.specs.PlainStmt.{PHandler, handler, PHandlers, no_handler, handler_then}
+use Rattle.ada_tree.specs.PlainDecl.{PInit, PDecl, DObject, DIntIo, DTask, DTaskBody, PDecls, no_decl, decl_then}
 use Rattle.ada_tree.specs.PlainProgram.{PProgram}
 use Rattle.ada_tree.specs.Every.{Rules, no_rules, EveryExpr, EveryProgram}
 use Rattle.ada_tree.specs.Lexical.{IsIdentifier, IsInteger, IsDuration, IsStringContent}
@@ -93,7 +94,35 @@ abbrev pub GoUp : ℕ → ℕ → List ℕ → Type 0
 GoUp first entries [] = Unit {0}
 GoUp first entries (place ∷ places) = (first ≤ place) × (place ≤ entries) × GoUp place entries places
 
--- the six conditions, in a program with these names
+-- a constant has a value (3.2.1)
+abbrev pub IsGiven : Bool → Option PInit → Type 0
+IsGiven true None = ⊥
+IsGiven _ _ = Unit {0}
+
+-- only objects are declared in a task body (this project's rule)
+abbrev pub AreObjects : PDecls → Type 0
+AreObjects no_decl = Unit {0}
+AreObjects (decl_then (DObject ws c x i s) l) = AreObjects l
+AreObjects (decl_then _ l) = ⊥
+
+-- a declaration that may stand behind a body: a body, a task, or an instance of INTEGER_IO (3.9)
+abbrev pub IsLater : PDecl → Type 0
+IsLater (DTaskBody w ds b s) = Unit {0}
+IsLater (DTask t s) = Unit {0}
+IsLater (DIntIo w s) = Unit {0}
+IsLater _ = ⊥
+
+abbrev pub AreLater : PDecls → Type 0
+AreLater no_decl = Unit {0}
+AreLater (decl_then x l) = IsLater x × AreLater l
+
+-- behind the first body only such declarations stand (3.9)
+abbrev pub BodiesLast : PDecls → Type 0
+BodiesLast no_decl = Unit {0}
+BodiesLast (decl_then (DTaskBody w ds b s) l) = AreLater l
+BodiesLast (decl_then _ l) = BodiesLast l
+
+-- the nine conditions, in a program with these names
 abbrev pub well_placed : List (List ℕ) → Rules
 well_placed names = record {
   -- each operand of a looser level stands in parentheses
@@ -106,6 +135,11 @@ well_placed names = record {
   handlers = OthersLast;
   -- each pragma of a task stands at a place among its entries, in the order in which it is printed
   pragmas = GoUp 0;
+  -- each constant has a value
+  object = IsGiven;
+  -- a task body declares objects alone, and behind a body no other declarations stand
+  inner = AreObjects;
+  outer = BodiesLast;
   -- each name, number and string is one that the source can hold
   name = λ id. IsSomeAnd (slice_get names id.0) IsIdentifier;
   integer = IsInteger;
