@@ -2,3 +2,9 @@
 pub mod Classes
 pub mod Pieces
 pub mod Literals
+pub mod Identifiers
+pub mod Signs
+pub mod Lexed
+pub mod Told
+pub mod Words
+pub mod Expressions

@@ -122,6 +122,7 @@ spelled_integer n (b ∷ ds) le h =
 pub record IsNumber (ds : List ℕ) (kind : _) : Type 0 where
   pub ends : Ends Stop ds
   pub verdict_is : (at : ℕ) → verdict at ds ≡ Kind kind
+  pub digit : begins is_digit ds ≡ true
 
 digit_no_white : (b : ℕ) → is_digit b ≡ true → is_white b ≡ false
 digit_no_white b h = grind (arith, nat_tests)
@@ -134,6 +135,7 @@ unfolding verdict number_verdict
 number_is b bs kind digit all found = record {
   ends = number_ends b bs digit all;
   verdict_is = λ at. cond-false (is_white b) _ _ (digit_no_white b digit) ∙ cond-false (is_letter b) _ _ (digit_no_letter b digit) ∙ cond-true (is_digit b) _ _ digit ∙ ap (token_or (Fault (BadNumber at))) found;
+  digit = digit;
 }
 
 number_of : (ds : List ℕ) (kind : _) → 0 < length ds → (more : List ℕ) → all_digits ds ≡ true → every number_goes_on more ≡ true → number_kind (ds ++ more) ≡ Some kind → IsNumber (ds ++ more) kind
@@ -178,10 +180,10 @@ pub record IsContent (said body : List ℕ) : Type 0 where
   pub content_is : content true body ≡ said
   pub printable : before (λ b. not (is_printable b)) body ≡ length body
 
-no_content : IsContent [] (34 ∷ [])
+pub no_content : IsContent [] (34 ∷ [])
 no_content = record { run = refl; closed = refl; content_is = refl; printable = refl }
 
-content_mark : (said body : List ℕ) → IsContent said body → IsContent (34 ∷ said) (34 ∷ 34 ∷ body)
+pub content_mark : (said body : List ℕ) → IsContent said body → IsContent (34 ∷ said) (34 ∷ 34 ∷ body)
 content_mark said body h = record {
   run = h.run;
   closed = h.closed;
@@ -190,7 +192,7 @@ content_mark said body h = record {
       before-pass (λ b. not (is_printable b)) 34 (34 ∷ body) refl ∙ ap (λ k. suc k) (before-pass (λ b. not (is_printable b)) 34 body refl ∙ ap (λ k. suc k) h.printable);
 }
 
-content_other : (b : ℕ) (said body : List ℕ) → (b == 34) ≡ false → 32 ≤ b → b ≤ 126 → IsContent said body → IsContent (b ∷ said) (b ∷ body)
+pub content_other : (b : ℕ) (said body : List ℕ) → (b == 34) ≡ false → 32 ≤ b → b ≤ 126 → IsContent said body → IsContent (b ∷ said) (b ∷ body)
 content_other b said body other low high h =
     let line : (b == 10) ≡ false = grind (arith, nat_tests) in
     let fine : is_printable b ≡ true = grind (arith, nat_tests) in

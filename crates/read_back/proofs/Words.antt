@@ -1,0 +1,119 @@
+-- Names, numbers, durations and strings of a tree, told by their printed texts.
+use Rattle.std.proofs.Common.{◌≡◌, ℕ, zero, suc, ◌+◌, ◌-◌, ◌*◌, ◌/◌, ◌%◌, ◌<◌, ◌≤◌, Bool, true, false, cond, not, List, [], ◌∷◌, ◌++◌, length, take, drop, map, codes, decimal, slice_get, slice_range, Option, None, Some, IsSomeAnd, unwrap_or, refl, ap, ◌∙◌, sym, subst, arith, append_assoc, inl, inr, All}
+use Rattle.std.proofs.lemmas.Bool.{or_left, or_right, cond-true, cond-false, false≢true, cases_Bool}
+use Rattle.std.proofs.lemmas.Bool.Decides.{nat_tests}
+use Rattle.std.proofs.lemmas.List.Elements.{recursion_from_All}
+use Rattle.std.proofs.Math.Seq.{take-append_seam}
+use Rattle.std.specs.Prelude.{◌&&◌, ◌||◌, ◌==◌}
+use Rattle.std.specs.List.{AllByRecursion}
+use Rattle.ada_lexer.specs.declared.kinds.TokenKind.TheVariants as kinds
+use Rattle.ada_lexer.specs.Bytes.{is_letter, is_digit, begins, every}
+use Rattle.ada_lexer.specs.Numbers.{decimals_value}
+use Rattle.ada_lexer.specs.Pieces.{number_goes_on}
+use Rattle.ada_lexer.specs.Strings.{content}
+use Rattle.ada_tree.specs.Lexical.{IsIdentifier, IsInteger, IsDuration, IsStringContent}
+use Rattle.ada_tree.specs.Same.{SameName, SameWord}
+use Rattle.ada_tree.specs.declared.naming.NameId.{NameId}
+use Rattle.ada_tree.specs.declared.naming.Word.{Word}
+use Rattle.ada_expr_parser.specs.declared.items.ItemKind.TheVariants as item
+use Rattle.ada_expr_parser.specs.declared.items.Item.{Item}
+use Rattle.ada_expr_parser.specs.Grammar.{number_item}
+use Rattle.ada_parser.specs.Spelling.{Named, Duration}
+use Rattle.ded_io.specs.Written.{◌⧺◌, each_text}
+use Rattle.ada_printer.specs.Layout.{digit, decimals, duration_text, character_text, string_text, name_text, word_text}
+use Rattle.read_back.proofs.Classes.{Class, Anything, Plain, WordEnd, Stop, Next}
+use Rattle.read_back.proofs.Literals.{IsSpelling, IsNumber, IsContent, decimal_spells, integer_is, duration_from, no_content, content_mark, content_other, string_is}
+use Rattle.read_back.proofs.Identifiers.{IsName, identifier_is}
+use Rattle.read_back.proofs.Told.{Setting, names_of, source_of, Told, span_at, word_at, told_as, told_same, told_token, told_name}
+
+-- ---- durations
+
+digit_is : (k : ℕ) → k < 10 → is_digit (48 + k) ≡ true
+digit_is k low = grind (arith, nat_tests)
+
+-- the decimals of a duration are one to three digits, and mean so many thousandths
+record AreDecimals (t h k : ℕ) (ds : List ℕ) : Type 0 where
+  pub value : decimals_value ds ≡ Some (t * 100 + h * 10 + k)
+  pub digit : begins is_digit ds ≡ true
+  pub all : every number_goes_on ds ≡ true
+
+goes : (k : ℕ) (rest : List ℕ) → k < 10 → number_goes_on (48 + k) rest ≡ true
+goes k rest low = or_left _ _ (or_left _ _ (or_right (is_letter (48 + k)) (is_digit (48 + k)) (digit_is k low)))
+
+decimals_are : (t h k : ℕ) → t < 10 → h < 10 → k < 10 → AreDecimals t h k (decimals t h k)
+unfolding decimals_value
+decimals_are t h k a b c = elim (cases_Bool (k == 0)) [
+  | inl e ↦ (let none : k ≡ 0 = grind (arith, nat_tests) in elim (cases_Bool (h == 0)) [
+    | inl f ↦
+        (let less : h ≡ 0 = grind (arith, nat_tests) in
+        let is : decimals t h k ≡ (48 + t) ∷ [] = cond-true (k == 0) _ _ e ∙ cond-true (h == 0) _ _ f in
+        rw is (record { value = rw (digit_is t a) (ap Some (omega arith)); digit = digit_is t a; all = rw (goes t [] a) refl }))
+    | inr f ↦
+        (let is : decimals t h k ≡ (48 + t) ∷ (48 + h) ∷ [] = cond-true (k == 0) _ _ e ∙ cond-false (h == 0) _ _ f in
+        rw is (record { value = rw (digit_is t a, digit_is h b) (ap Some (omega arith)); digit = digit_is t a; all = rw (goes t ((48 + h) ∷ []) a, goes h [] b) refl }))
+  ])
+  | inr e ↦
+      (let is : decimals t h k ≡ (48 + t) ∷ (48 + h) ∷ (48 + k) ∷ [] = cond-false (k == 0) _ _ e in
+      rw is (record { value = rw (digit_is t a, digit_is h b, digit_is k c) (ap Some (omega arith)); digit = digit_is t a; all = rw (goes t ((48 + h) ∷ (48 + k) ∷ []) a, goes h ((48 + k) ∷ []) b, goes k [] c) refl }))
+]
+
+duration_is : (d : ℕ) → IsDuration d → IsNumber (duration_text d) (kinds.Duration d)
+unfolding ◌⧺◌
+duration_is d le =
+    let parts = decimals_are (d / 100 % 10) (d / 10 % 10) (d % 10) (omega arith) (omega arith) (omega arith) in
+    duration_from d (d / 1000) (d / 100 % 10 * 100 + d / 10 % 10 * 10 + d % 10) (decimal (d / 1000)) (decimals (d / 100 % 10) (d / 10 % 10) (d % 10)) (decimal_spells (d / 1000) (omega arith)) parts.value (omega arith) le parts.digit parts.all
+
+-- ---- strings
+
+body_of : List ℕ → List ℕ
+body_of said = each_text character_text said ⧺ codes "\""
+
+string_content : (said : List ℕ) → AllByRecursion (λ b. (32 ≤ b) × (b ≤ 126)) said → IsContent said (body_of said)
+unfolding body_of ◌⧺◌
+string_content [] h = no_content
+string_content (b ∷ said) h = elim (cases_Bool (b == 34)) [
+  | inl e ↦
+      (let is : b ≡ 34 = grind (arith, nat_tests) in
+      let text : character_text b ≡ 34 ∷ 34 ∷ [] = cond-true (b == 34) _ _ e in
+      rw (text, is) (content_mark said _ (string_content said h.1)))
+  | inr e ↦
+      (let text : character_text b ≡ b ∷ [] = cond-false (b == 34) _ _ e in
+      rw text (content_other b said _ e h.0.0 h.0.1 (string_content said h.1)))
+]
+
+-- ---- what they tell
+
+number_plain : (t rest : List ℕ) → begins is_digit t ≡ true → Next Plain (t ++ rest)
+number_plain [] rest h = absurd (false≢true h)
+number_plain (b ∷ t) rest h = or_left _ _ (or_right (is_letter b) _ h)
+
+some_name : (o : Option (List ℕ)) → IsSomeAnd o IsIdentifier → (o ≡ Some (unwrap_or o [])) × IsName (unwrap_or o [])
+some_name None h = absurd h
+some_name (Some t) h = (refl, identifier_is t h)
+
+module _ (w : Setting) (n : List (List ℕ)) where
+  -- an identifier of the source
+  abbrev pub IsOldName : NameId → Type 0
+  IsOldName id = IsSomeAnd (slice_get n id.0) IsIdentifier
+
+  pub told_id_of : {at : ℕ} (id : NameId) → IsOldName id → Told w (SameName n (names_of w) id (word_at w at (name_text n id)).name) Plain WordEnd (Named (word_at w at (name_text n id))) at (name_text n id)
+  told_id_of id known =
+      let old = some_name (slice_get n id.0) known in
+      told_same w (told_name w (name_text n id) old.1) (λ found. old.0 ∙ sym found)
+
+  -- the word of a tree, as it is read at a place
+  abbrev pub new_word : ℕ → Word → Word
+  new_word at v = word_at w at (word_text n v)
+
+  pub told_word : {at : ℕ} (v : Word) → IsOldName v.name → Told w (SameWord n (names_of w) v (new_word at v)) Plain WordEnd (Named (new_word at v)) at (word_text n v)
+  told_word v known = told_id_of v.name known
+
+  pub told_integer : {at : ℕ} (m : ℕ) → IsInteger m → Told w (Unit {0}) Plain Stop (λ items. items ≡ number_item m (span_at at (decimal m)) ∷ []) at (decimal m)
+  told_integer {at = at} m le =
+      let is = integer_is m le in
+      told_token w (decimal m) Plain Stop (kinds.Integer m) (item.Integer m) is.ends is.verdict_is refl (λ rest. number_plain (decimal m) rest is.digit)
+
+  pub told_duration : {at : ℕ} (d : ℕ) → IsDuration d → Told w (Unit {0}) Plain Stop (Duration d) at (duration_text d)
+  told_duration {at = at} d le =
+      let is = duration_is d le in
+      told_as w (told_token w (duration_text d) Plain Stop (kinds.Duration d) (item.Duration d) is.ends is.verdict_is refl (λ rest. number_plain (duration_text d) rest is.digit)) (λ items one s. ((span_at at (duration_text d), one), s))
