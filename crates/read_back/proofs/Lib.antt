@@ -8,3 +8,4 @@ pub mod Lexed
 pub mod Told
 pub mod Words
 pub mod Expressions
+pub mod Phrases
