@@ -251,3 +251,116 @@ module _ (w : Setting) (n : List (List ℕ)) where
           (front ++ symbol_item key.Dot dot ∷ word_item _ ∷ back, last,
           joined front is (led then dotted (led next named end)) ∙ sym (append_assoc front (symbol_item key.Dot dot ∷ word_item _ ∷ back) last),
           record { front = front; dot = dot; back = back; task = task; args = args; text_is = refl }, close)
+
+  -- ---- formal parts
+
+  read_mode : {S : Type 0} {Q : Spelling} {at : ℕ} {u : List ℕ} (m : ParMode) → Told w S Plain WordEnd Q (at + length (mode_text m)) u → Told w S Plain WordEnd (Mode m ▷ Q) at (mode_text m ⧺ u)
+  read_mode Take h = told_as w (told_bits w (Sign key.In ∷ Blank ∷ []) h refl) (λ items said same. (over_first (λ front p. inr p) said, same))
+  read_mode Give h = told_bits w (Sign key.Out ∷ Blank ∷ []) h refl
+  read_mode Both h = told_as w (told_bits w (Sign key.In ∷ Blank ∷ Sign key.Out ∷ Blank ∷ []) h refl) (λ items said same. (group said, same))
+
+  read_formal : (f : PFormal) (at : ℕ) → EveryFormal (well_placed n) f → Found (SameFormal n (names_of w) f) Plain WordEnd IsFormal at (formal_text n f)
+  read_formal f at every =
+      let names = read_names f.names at every.0 in
+      let place = ((at + length (words_text n f.names)) + 3) + length (mode_text f.mode) in
+      (record { names = names.0; mode = f.mode; mark = new_word w n place f.mark },
+      told_same w (told_then w names.1 (told_bits w (Blank ∷ Sign key.Colon ∷ Blank ∷ []) (read_mode f.mode (told_word w n f.mark every.1)) refl) refl) (λ same. (same.0, refl, same.1)))
+
+  read_formals : (fs : List PFormal) (at : ℕ) → All (EveryFormal (well_placed n)) fs → Found (AllZip (SameFormal n (names_of w)) fs) Stop Stop Formals at (formals_text n fs)
+  read_formals [] at every = ([], told_nothing w)
+  read_formals (f ∷ fs) at every =
+      let list = read_separated (SameFormal n (names_of w)) IsFormal (formal_text n) (EveryFormal (well_placed n)) Plain WordEnd read_formal key.Semicolon (codes "; ") (λ S Q. behind_semicolon S Q Plain) refl f fs (at + 1) (recursion_from_All _ (f ∷ fs) every) in
+      close list.0 (told_bits w (Sign key.LeftParen ∷ []) (told_closed w (Sign key.RightParen ∷ []) list.1 refl refl) refl)
+    where
+      close : (ys : List PFormal) → Told w (AllZip (SameFormal n (names_of w)) (f ∷ fs) ys) Stop Stop (Key key.LeftParen ▷ Separated (Key key.Semicolon) IsFormal ys ▷ Key key.RightParen) at (formals_text n (f ∷ fs)) → Found (AllZip (SameFormal n (names_of w)) (f ∷ fs)) Stop Stop Formals at (formals_text n (f ∷ fs))
+      close [] told = ([], told_as w told (λ items said same. absurd same))
+      close (y ∷ ys) told = (y ∷ ys, told)
+
+  -- what an accept statement begins with, at whatever place
+  pub read_head : (k d : ℕ) (h : PHead) (at : ℕ) → 300 ≤ k + d → EveryHead (well_placed n) k h → (s : Span) → Found (SameHead n (names_of w) h) Plain Stop (λ y. AcceptHead d record { entry = y.entry; index = y.index; formals = y.formals; span = s }) at (head_text n h.entry h.index h.formals)
+  read_head k d h at deep every s =
+      let place = at + 7 in
+      let index = read_index k d h.index (place + length (word_text n h.entry)) deep every.1 in
+      let formals = read_formals h.formals ((place + length (word_text n h.entry)) + length (index_text n h.index)) every.2 in
+      (record { entry = new_word w n place h.entry; index = index.0; formals = formals.0; span = s },
+      told_same w (told_bits w (Sign key.Accept ∷ Blank ∷ []) (told_then w (told_word w n h.entry every.0) (told_then w index.1 formals.1 refl) refl) refl) (λ same. (same.0, same.1.0, same.1.1)))
+
+  pub read_formal_part : (fs : List PFormal) (at : ℕ) → All (EveryFormal (well_placed n)) fs → Found (AllZip (SameFormal n (names_of w)) fs) Stop Stop Formals at (formals_text n fs)
+  read_formal_part fs at every = read_formals fs at every
+
+  -- ---- choices
+
+  logical_expr : (k d : ℕ) (x : PExpr) (at : ℕ) → 300 ≤ k + d → EveryExpr (well_placed n) k x → Found (SameExpr n (names_of w) x) Anything Stop (λ y text. IsExpr Logical d y text) at (expr_text n x)
+  logical_expr k d x at deep every = is_expression k d x at deep every
+
+  pub read_choice : (k d : ℕ) (x : PChoice) (at : ℕ) → 300 ≤ k + d → EveryChoice (well_placed n) k x → Found (SameChoice n (names_of w) x) Anything Stop (Choice d) at (choice_text n x)
+  read_choice k d x at deep every = by x.first x.last every
+    where
+      by : (first : PExpr) (last : Option PExpr) → EveryChoice (well_placed n) k (record { first = first; last = last }) → Found (SameChoice n (names_of w) (record { first = first; last = last })) Anything Stop (Choice d) at (choice_text n (record { first = first; last = last }))
+      by first None good =
+          let e = is_expression k d first at deep good.0 in
+          (record { first = e.0; last = None }, told_as w (told_then w e.1 (told_nothing w {a = Stop}) refl) (λ items said same. (drop_nothing said, same)))
+      by first (Some last) good =
+          let b = read_bounds k d (record { first = first; last = last }) at deep (good.1.0, good.0, good.1.1) in
+          (record { first = b.0.first; last = Some b.0.last }, b.1)
+
+  pub read_choices : (k d : ℕ) (xs : List PChoice) (at : ℕ) → 300 ≤ k + d → 1 ≤ length xs → All (EveryChoice (well_placed n) k) xs → Found (AllZip (SameChoice n (names_of w)) xs) Anything Stop (Separated (Key key.Bar) (Choice d)) at (separated (codes " | ") (choice_text n) xs)
+  read_choices k d [] at deep some every = absurd (omega (arith, some))
+  read_choices k d (x ∷ xs) at deep some every =
+      read_separated (SameChoice n (names_of w)) (Choice d) (choice_text n) (EveryChoice (well_placed n) k) Anything Stop (λ y place good. read_choice k d y place deep good) key.Bar (codes " | ") (λ S Q. behind_bar S Q Anything) refl x xs at (recursion_from_All _ (x ∷ xs) every)
+
+  -- the tasks of an abort statement
+  pub read_callees : (k d : ℕ) (xs : List PCallee) (at : ℕ) → 300 ≤ k + d → 1 ≤ length xs → All (EveryCallee (well_placed n) (k + 1)) xs → Found (AllZip (SameCallee n (names_of w)) xs) Plain Stop (Separated (Key key.Comma) (Callee d)) at (separated (codes ", ") (callee_text n) xs)
+  read_callees k d [] at deep some every = absurd (omega (arith, some))
+  read_callees k d (x ∷ xs) at deep some every =
+      read_separated (SameCallee n (names_of w)) (Callee d) (callee_text n) (EveryCallee (well_placed n) (k + 1)) Plain WordEnd (λ y place good. read_callee k d y place deep good) key.Comma (codes ", ") (λ S Q. behind_comma S Q Plain) refl x xs at (recursion_from_All _ (x ∷ xs) every)
+
+  -- ---- handlers, loops, delays
+
+  -- `when A | B =>`
+  pub read_raised : {S : Type 0} {Q : Spelling} {o a : Class} {u : List ℕ} (ws : List Word) (at : ℕ) → All (EveryWord (well_placed n)) ws → ((at : ℕ) → Told w S o a Q at u) → (ys : List Word) × Told w (AllZip (SameWord n (names_of w)) ws ys × S) Plain a (WhenRaised ys ▷ Q) at (codes "when " ⧺ (caught_text n ws ⧺ (codes " =>\n" ⧺ u)))
+  read_raised [] at every behind =
+      ([], told_as w (told_bits w (Sign key.When ∷ Blank ∷ []) (told_bits w (Sign key.Others ∷ []) (told_bits w (Blank ∷ Sign key.Arrow ∷ Line ∷ []) (behind _) refl) refl) refl) (λ items said same. (group3 said, (tt, same))))
+  read_raised {S = S} {Q = Q} {a = a} {u = u} (v ∷ ws) at every behind =
+      let list = read_separated (SameWord n (names_of w)) Named (word_text n) (λ x. IsOldName w n x.name) Plain WordEnd read_word key.Bar (codes " | ") (λ T R. behind_bar T R Plain) refl v ws (at + 5) (recursion_from_All _ (v ∷ ws) every) in
+      close list.0 (told_bits w (Sign key.When ∷ Blank ∷ []) (told_then w list.1 (told_bits w (Blank ∷ Sign key.Arrow ∷ Line ∷ []) (behind _) refl) refl) refl)
+    where
+      close : (ys : List Word) → Told w (AllZip (SameWord n (names_of w)) (v ∷ ws) ys × S) Plain a (Key key.When ▷ Separated (Key key.Bar) Named ys ▷ Key key.Arrow ▷ Q) at (codes "when " ⧺ (caught_text n (v ∷ ws) ⧺ (codes " =>\n" ⧺ u))) →
+          (ys : List Word) × Told w (AllZip (SameWord n (names_of w)) (v ∷ ws) ys × S) Plain a (WhenRaised ys ▷ Q) at (codes "when " ⧺ (caught_text n (v ∷ ws) ⧺ (codes " =>\n" ⧺ u)))
+      close [] told = ([], told_as w told (λ items said same. absurd same.0))
+      close (y ∷ ys) told = (y ∷ ys, told_as w told (λ items said same. (group3 said, same)))
+
+  pub read_label : (v : Option Word) (at : ℕ) → IfSome v (EveryWord (well_placed n)) → Found (SameOption (SameWord n (names_of w)) v) Anything Anything LoopName at (label_text n v)
+  read_label None at every = (None, told_nothing w)
+  read_label (Some v) at every = (Some (new_word w n at v), told_any w (told_closed w (Blank ∷ Sign key.Colon ∷ Blank ∷ []) (told_word w n v every) refl refl))
+
+  -- the name of a loop once more, behind its end
+  pub read_again : (v : Option Word) (at from : ℕ) (every : IfSome v (EveryWord (well_placed n))) → Told w (Unit {0}) Stop Stop (LoopNameAgain (read_label v from every).0) at (later_word n v)
+  unfolding read_label
+  read_again None at from every = told_nothing w
+  read_again (Some v) at from every = told_ends w (told_as w (told_bits w (Blank ∷ []) (told_word w n v every) refl) (λ items named same. ((_, named), tt))) refl
+
+  read_reverse : {S : Type 0} {Q : Spelling} {a : Class} {at : ℕ} {u : List ℕ} (r : Bool) → Told w S Anything a Q (at + length (reverse_text r)) u → Told w S Anything a (Reverse r ▷ Q) at (reverse_text r ⧺ u)
+  read_reverse true h = told_any w (told_bits w (Sign key.Reverse ∷ Blank ∷ []) h refl)
+  read_reverse false h = told_same w (told_then w (told_nothing w {a = Anything}) h refl) (λ same. same.1)
+
+  pub read_scheme : (k d : ℕ) (x : Option PScheme) (at : ℕ) → 300 ≤ k + d → IfSome x (EveryScheme (well_placed n) k) → Found (SameOption (SameScheme n (names_of w)) x) Anything Anything (λ y. IfThere y (IsScheme d)) at (scheme_text n x)
+  read_scheme k d None at deep every = (None, told_nothing w)
+  read_scheme k d (Some (LWhile e)) at deep every =
+      let y = is_expression k d e (at + 6) deep every in
+      (Some (LWhile y.0), told_any w (told_as w (told_bits w (Sign key.While ∷ Blank ∷ []) (told_closed w (Blank ∷ []) y.1 refl refl) refl) (λ items said same. (under_first (λ more p. drop_nothing p) said, same))))
+  read_scheme k d (Some (LFor v r x)) at deep every =
+      let y = read_drange k d x (((((at + 4) + length (word_text n v)) + 4)) + length (reverse_text r)) deep every.1 in
+      (Some (LFor (new_word w n (at + 4) v) r y.0),
+      told_any w (told_as w (told_bits w (Sign key.For ∷ Blank ∷ []) (told_then w (told_word w n v every.0) (told_bits w (Blank ∷ Sign key.In ∷ Blank ∷ []) (read_reverse r (told_closed w (Blank ∷ []) y.1 refl refl)) refl) refl) refl)
+          (λ items said same. (under_first (λ m1. under_first (λ m2. under_first (λ m3. under_first (λ m4 p. drop_nothing p)))) said, (same.0, refl, same.1)))))
+
+  -- the condition of an exit statement
+  pub read_when : (k d : ℕ) (x : Option PExpr) (at : ℕ) → 300 ≤ k + d → IfSome x (EveryExpr (well_placed n) (k + 1)) → Found (SameOption (SameExpr n (names_of w)) x) Stop Stop (λ y. IfThere y (λ test. Key key.When ▷ Operand d test)) at (when_text n x)
+  read_when k d None at deep every = (None, told_nothing w)
+  read_when k d (Some e) at deep every =
+      let y = is_operand k d e (at + 6) deep every in
+      (Some y.0, told_bits w (Blank ∷ Sign key.When ∷ Blank ∷ []) y.1 refl)
+
+  pub read_delay : (d : ℕ) (at : ℕ) → IsDuration d → Told w (Unit {0}) Plain Anything (DelayOf d) at (delay_text d)
+  read_delay d at le = told_bits w (Sign key.Delay ∷ Blank ∷ []) (told_closed w (Sign key.Semicolon ∷ Line ∷ []) (told_duration w n d le) refl refl) refl
