@@ -9,3 +9,4 @@ pub mod Told
 pub mod Words
 pub mod Expressions
 pub mod Phrases
+pub mod Productions

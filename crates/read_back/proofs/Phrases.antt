@@ -94,21 +94,21 @@ module _ (w : Setting) (n : List (List ℕ)) where
         let ys = read_behind xs (at + length (text x)) good.1 in
         (y.0 ∷ ys.0, told_then w y.1 ys.1 ends)
 
-  behind_comma : (S : Type 0) (Q : Spelling) (o : Class) (at : ℕ) (u : List ℕ) → Told w S o Stop Q (at + length (codes ", ")) u → Told w S Stop Stop (Key key.Comma ▷ Q) at (codes ", " ⧺ u)
+  pub behind_comma : (S : Type 0) (Q : Spelling) (o : Class) (at : ℕ) (u : List ℕ) → Told w S o Stop Q (at + length (codes ", ")) u → Told w S Stop Stop (Key key.Comma ▷ Q) at (codes ", " ⧺ u)
   behind_comma S Q o at u h = told_bits w (Sign key.Comma ∷ Blank ∷ []) h refl
 
-  behind_semicolon : (S : Type 0) (Q : Spelling) (o : Class) (at : ℕ) (u : List ℕ) → Told w S o Stop Q (at + length (codes "; ")) u → Told w S Stop Stop (Key key.Semicolon ▷ Q) at (codes "; " ⧺ u)
+  pub behind_semicolon : (S : Type 0) (Q : Spelling) (o : Class) (at : ℕ) (u : List ℕ) → Told w S o Stop Q (at + length (codes "; ")) u → Told w S Stop Stop (Key key.Semicolon ▷ Q) at (codes "; " ⧺ u)
   behind_semicolon S Q o at u h = told_bits w (Sign key.Semicolon ∷ Blank ∷ []) h refl
 
-  behind_ampersand : (S : Type 0) (Q : Spelling) (o : Class) (at : ℕ) (u : List ℕ) → Told w S o Stop Q (at + length (codes " & ")) u → Told w S Stop Stop (Key key.Ampersand ▷ Q) at (codes " & " ⧺ u)
+  pub behind_ampersand : (S : Type 0) (Q : Spelling) (o : Class) (at : ℕ) (u : List ℕ) → Told w S o Stop Q (at + length (codes " & ")) u → Told w S Stop Stop (Key key.Ampersand ▷ Q) at (codes " & " ⧺ u)
   behind_ampersand S Q o at u h = told_bits w (Blank ∷ Sign key.Ampersand ∷ Blank ∷ []) h refl
 
-  behind_bar : (S : Type 0) (Q : Spelling) (o : Class) (at : ℕ) (u : List ℕ) → Told w S o Stop Q (at + length (codes " | ")) u → Told w S Stop Stop (Key key.Bar ▷ Q) at (codes " | " ⧺ u)
+  pub behind_bar : (S : Type 0) (Q : Spelling) (o : Class) (at : ℕ) (u : List ℕ) → Told w S o Stop Q (at + length (codes " | ")) u → Told w S Stop Stop (Key key.Bar ▷ Q) at (codes " | " ⧺ u)
   behind_bar S Q o at u h = told_bits w (Blank ∷ Sign key.Bar ∷ Blank ∷ []) h refl
 
   -- ---- names
 
-  read_word : (v : Word) (at : ℕ) → IsOldName w n v.name → Found (SameWord n (names_of w) v) Plain WordEnd Named at (word_text n v)
+  pub read_word : (v : Word) (at : ℕ) → IsOldName w n v.name → Found (SameWord n (names_of w) v) Plain WordEnd Named at (word_text n v)
   read_word v at known = (new_word w n at v, told_word w n v known)
 
   pub read_names : (ws : List Word) (at : ℕ) → EveryNames (well_placed n) ws → Found (AllZip (SameWord n (names_of w)) ws) Plain Stop Names at (words_text n ws)
@@ -285,13 +285,7 @@ module _ (w : Setting) (n : List (List ℕ)) where
       (record { entry = new_word w n place h.entry; index = index.0; formals = formals.0; span = s },
       told_same w (told_bits w (Sign key.Accept ∷ Blank ∷ []) (told_then w (told_word w n h.entry every.0) (told_then w index.1 formals.1 refl) refl) refl) (λ same. (same.0, same.1.0, same.1.1)))
 
-  pub read_formal_part : (fs : List PFormal) (at : ℕ) → All (EveryFormal (well_placed n)) fs → Found (AllZip (SameFormal n (names_of w)) fs) Stop Stop Formals at (formals_text n fs)
-  read_formal_part fs at every = read_formals fs at every
-
   -- ---- choices
-
-  logical_expr : (k d : ℕ) (x : PExpr) (at : ℕ) → 300 ≤ k + d → EveryExpr (well_placed n) k x → Found (SameExpr n (names_of w) x) Anything Stop (λ y text. IsExpr Logical d y text) at (expr_text n x)
-  logical_expr k d x at deep every = is_expression k d x at deep every
 
   pub read_choice : (k d : ℕ) (x : PChoice) (at : ℕ) → 300 ≤ k + d → EveryChoice (well_placed n) k x → Found (SameChoice n (names_of w) x) Anything Stop (Choice d) at (choice_text n x)
   read_choice k d x at deep every = by x.first x.last every
@@ -318,12 +312,12 @@ module _ (w : Setting) (n : List (List ℕ)) where
   -- ---- handlers, loops, delays
 
   -- `when A | B =>`
-  pub read_raised : {S : Type 0} {Q : Spelling} {o a : Class} {u : List ℕ} (ws : List Word) (at : ℕ) → All (EveryWord (well_placed n)) ws → ((at : ℕ) → Told w S o a Q at u) → (ys : List Word) × Told w (AllZip (SameWord n (names_of w)) ws ys × S) Plain a (WhenRaised ys ▷ Q) at (codes "when " ⧺ (caught_text n ws ⧺ (codes " =>\n" ⧺ u)))
+  pub read_raised : {S : Type 0} {Q : Spelling} {o a : Class} {u : List ℕ} (ws : List Word) (at : ℕ) → All (EveryWord (well_placed n)) ws → Told w S o a Q (((at + 5) + length (caught_text n ws)) + 4) u → (ys : List Word) × Told w (AllZip (SameWord n (names_of w)) ws ys × S) Plain a (WhenRaised ys ▷ Q) at (codes "when " ⧺ (caught_text n ws ⧺ (codes " =>\n" ⧺ u)))
   read_raised [] at every behind =
-      ([], told_as w (told_bits w (Sign key.When ∷ Blank ∷ []) (told_bits w (Sign key.Others ∷ []) (told_bits w (Blank ∷ Sign key.Arrow ∷ Line ∷ []) (behind _) refl) refl) refl) (λ items said same. (group3 said, (tt, same))))
+      ([], told_as w (told_bits w (Sign key.When ∷ Blank ∷ []) (told_bits w (Sign key.Others ∷ []) (told_bits w (Blank ∷ Sign key.Arrow ∷ Line ∷ []) (told_any w behind) refl) refl) refl) (λ items said same. (group3 said, (tt, same))))
   read_raised {S = S} {Q = Q} {a = a} {u = u} (v ∷ ws) at every behind =
       let list = read_separated (SameWord n (names_of w)) Named (word_text n) (λ x. IsOldName w n x.name) Plain WordEnd read_word key.Bar (codes " | ") (λ T R. behind_bar T R Plain) refl v ws (at + 5) (recursion_from_All _ (v ∷ ws) every) in
-      close list.0 (told_bits w (Sign key.When ∷ Blank ∷ []) (told_then w list.1 (told_bits w (Blank ∷ Sign key.Arrow ∷ Line ∷ []) (behind _) refl) refl) refl)
+      close list.0 (told_bits w (Sign key.When ∷ Blank ∷ []) (told_then w list.1 (told_bits w (Blank ∷ Sign key.Arrow ∷ Line ∷ []) (told_any w behind) refl) refl) refl)
     where
       close : (ys : List Word) → Told w (AllZip (SameWord n (names_of w)) (v ∷ ws) ys × S) Plain a (Key key.When ▷ Separated (Key key.Bar) Named ys ▷ Key key.Arrow ▷ Q) at (codes "when " ⧺ (caught_text n (v ∷ ws) ⧺ (codes " =>\n" ⧺ u))) →
           (ys : List Word) × Told w (AllZip (SameWord n (names_of w)) (v ∷ ws) ys × S) Plain a (WhenRaised ys ▷ Q) at (codes "when " ⧺ (caught_text n (v ∷ ws) ⧺ (codes " =>\n" ⧺ u)))

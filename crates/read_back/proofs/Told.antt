@@ -146,7 +146,7 @@ placed_there P filled [] said = absurd (filled said)
 placed_there P filled (x ∷ more) said = (said, refl)
 
 -- the place of a text
-pub span_at : ℕ → List ℕ → Span
+unfoldable pub span_at : ℕ → List ℕ → Span
 span_at at t = record { start = at; end = at + length t }
 
 -- the bytes of a whole text, and the names behind the predefined ones by which its items are told

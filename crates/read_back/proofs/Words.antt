@@ -11,6 +11,9 @@ use Rattle.ada_lexer.specs.Bytes.{is_letter, is_digit, begins, every}
 use Rattle.ada_lexer.specs.Numbers.{decimals_value}
 use Rattle.ada_lexer.specs.Pieces.{number_goes_on}
 use Rattle.ada_lexer.specs.Strings.{content}
+use Rattle.ada_lexer.specs.declared.verdicts.Verdict.TheVariants.{Kind}
+use Rattle.ada_lexer.specs.Verdicts.{verdict}
+use Rattle.read_back.proofs.Pieces.{Ends, string_ends}
 use Rattle.ada_tree.specs.Lexical.{IsIdentifier, IsInteger, IsDuration, IsStringContent}
 use Rattle.ada_tree.specs.Same.{SameName, SameWord}
 use Rattle.ada_tree.specs.declared.naming.NameId.{NameId}
@@ -18,7 +21,7 @@ use Rattle.ada_tree.specs.declared.naming.Word.{Word}
 use Rattle.ada_expr_parser.specs.declared.items.ItemKind.TheVariants as item
 use Rattle.ada_expr_parser.specs.declared.items.Item.{Item}
 use Rattle.ada_expr_parser.specs.Grammar.{number_item}
-use Rattle.ada_parser.specs.Spelling.{Named, Duration}
+use Rattle.ada_parser.specs.Spelling.{Named, Duration, StringAt}
 use Rattle.ded_io.specs.Written.{◌⧺◌, each_text}
 use Rattle.ada_printer.specs.Layout.{digit, decimals, duration_text, character_text, string_text, name_text, word_text}
 use Rattle.read_back.proofs.Classes.{Class, Anything, Plain, WordEnd, Stop, Next}
@@ -91,6 +94,10 @@ some_name : (o : Option (List ℕ)) → IsSomeAnd o IsIdentifier → (o ≡ Some
 some_name None h = absurd h
 some_name (Some t) h = (refl, identifier_is t h)
 
+string_shape : (said : List ℕ) → string_text said ≡ 34 ∷ body_of said
+unfolding body_of ◌⧺◌
+string_shape said = refl
+
 module _ (w : Setting) (n : List (List ℕ)) where
   -- an identifier of the source
   abbrev pub IsOldName : NameId → Type 0
@@ -117,3 +124,25 @@ module _ (w : Setting) (n : List (List ℕ)) where
   told_duration {at = at} d le =
       let is = duration_is d le in
       told_as w (told_token w (duration_text d) Plain Stop (kinds.Duration d) (item.Duration d) is.ends is.verdict_is refl (λ rest. number_plain (duration_text d) rest is.digit)) (λ items one s. ((span_at at (duration_text d), one), s))
+
+  -- the slice of the whole at the place of a text that stands there
+  slice_there : (at : ℕ) (t rest : List ℕ) → drop at w.bytes ≡ t ++ rest → slice_range w.bytes at (at + length t) ≡ t
+  slice_there at t rest is =
+      let len : (at + length t) - at ≡ length t = omega arith in
+      ap (λ l. take ((at + length t) - at) l) is ∙ ap (λ m. take m (t ++ rest)) len ∙ take-append_seam t rest
+
+  pub told_string : {at : ℕ} (t : List ℕ) → IsStringContent t → Told w (Unit {0}) Anything Stop (StringAt (source_of w) t (span_at at (string_text t))) at (string_text t)
+  unfolding span_at
+  told_string {at = at} t good =
+      let inside = string_content t (recursion_from_All _ t good.0) in
+      let ends : Ends Stop (string_text t) = rw string_shape (string_ends (body_of t) inside.run inside.closed) in
+      let kind : (at : ℕ) → verdict at (string_text t) ≡ Kind kinds.Text = λ at. rw string_shape (string_is t (body_of t) good.1 inside at) in
+      let token = told_token w {at = at} (string_text t) Anything Stop kinds.Text item.Text ends kind refl (λ rest. tt) in
+      record {
+        items = token.items;
+        chunk = token.chunk;
+        opens = token.opens;
+        says = λ stands known.
+            let slice : slice_range w.bytes at (at + length (string_text t)) ≡ 34 ∷ body_of t = slice_there at (string_text t) stands.0 stands.1 ∙ string_shape t in
+            (((token.says stands known).0, sym (ap (λ l. content true (drop 1 l)) slice ∙ inside.content_is)), tt);
+      }
