@@ -10,3 +10,4 @@ pub mod Words
 pub mod Expressions
 pub mod Phrases
 pub mod Productions
+pub mod Compounds

@@ -276,14 +276,18 @@ module _ (w : Setting) (n : List (List ℕ)) where
       close [] told = ([], told_as w told (λ items said same. absurd same))
       close (y ∷ ys) told = (y ∷ ys, told)
 
+  -- the head of an accept statement at a place, with this index and these formals
+  abbrev pub new_head : ℕ → PHead → Option PExpr → List PFormal → Span → PHead
+  new_head at h i fs s = record { entry = new_word w n (at + 7) h.entry; index = i; formals = fs; span = s }
+
   -- what an accept statement begins with, at whatever place
-  pub read_head : (k d : ℕ) (h : PHead) (at : ℕ) → 300 ≤ k + d → EveryHead (well_placed n) k h → (s : Span) → Found (SameHead n (names_of w) h) Plain Stop (λ y. AcceptHead d record { entry = y.entry; index = y.index; formals = y.formals; span = s }) at (head_text n h.entry h.index h.formals)
-  read_head k d h at deep every s =
+  pub read_head : (k d : ℕ) (h : PHead) (at : ℕ) → 300 ≤ k + d → EveryHead (well_placed n) k h →
+      (i : Option PExpr) × (fs : List PFormal) × ((s : Span) → Told w (SameHead n (names_of w) h (new_head at h i fs s)) Plain Stop (AcceptHead d (new_head at h i fs s)) at (head_text n h.entry h.index h.formals))
+  read_head k d h at deep every =
       let place = at + 7 in
       let index = read_index k d h.index (place + length (word_text n h.entry)) deep every.1 in
       let formals = read_formals h.formals ((place + length (word_text n h.entry)) + length (index_text n h.index)) every.2 in
-      (record { entry = new_word w n place h.entry; index = index.0; formals = formals.0; span = s },
-      told_same w (told_bits w (Sign key.Accept ∷ Blank ∷ []) (told_then w (told_word w n h.entry every.0) (told_then w index.1 formals.1 refl) refl) refl) (λ same. (same.0, same.1.0, same.1.1)))
+      (index.0, formals.0, λ s. told_same w (told_bits w (Sign key.Accept ∷ Blank ∷ []) (told_then w (told_word w n h.entry every.0) (told_then w index.1 formals.1 refl) refl) refl) (λ same. (same.0, same.1.0, same.1.1)))
 
   -- ---- choices
 

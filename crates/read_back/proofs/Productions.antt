@@ -28,20 +28,20 @@ pub ungroup : {P Q R : Spelling} {items : List Item} → ((P ▷ Q) ▷ R) items
 ungroup (front, last, is, (one, two, then, p, q), r) = (one, two ++ last, is ∙ ap (λ l. l ++ last) then ∙ append_assoc one two last, p, (two, last, refl, q, r))
 
 -- what stands inside of a call with its statements and one more part
-called : {A B C D E : Spelling} {items : List Item} → (((A ▷ B) ▷ C) ▷ D ▷ E) items → ((A ▷ B ▷ C ▷ D) ▷ E) items
+pub called : {A B C D E : Spelling} {items : List Item} → (((A ▷ B) ▷ C) ▷ D ▷ E) items → ((A ▷ B ▷ C ▷ D) ▷ E) items
 called said = group4 (ungroup (ungroup said))
 
 pub nothing_first : {P : Spelling} {items : List Item} → P items → (Nothing ▷ P) items
 nothing_first p = ([], _, refl, refl, p)
 
-filled_behind : {P Q : Spelling} → Filled Q → Filled (P ▷ Q)
+pub filled_behind : {P Q : Spelling} → Filled Q → Filled (P ▷ Q)
 filled_behind {Q = Q} filled ([], back, is, p, q) = filled (subst Q (sym is) q)
 filled_behind filled (x ∷ front, back, is, p, q) = cc
 
-filled_placed : (P : Spelling) (s : Span) → Filled (Placed s P)
+pub filled_placed : (P : Spelling) (s : Span) → Filled (Placed s P)
 filled_placed P s (p, stands) = stands
 
-filled_fixed : (t : List ℕ) → Filled (Predefined t)
+pub filled_fixed : (t : List ℕ) → Filled (Predefined t)
 filled_fixed t (at, is) = cc
 
 module _ (w : Setting) (n : List (List ℕ)) where
