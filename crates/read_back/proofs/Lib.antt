@@ -11,3 +11,4 @@ pub mod Expressions
 pub mod Phrases
 pub mod Productions
 pub mod Compounds
+pub mod Statements
