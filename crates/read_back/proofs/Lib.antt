@@ -12,3 +12,5 @@ pub mod Phrases
 pub mod Productions
 pub mod Compounds
 pub mod Statements
+pub mod Tasks
+pub mod Declarations

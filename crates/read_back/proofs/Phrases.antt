@@ -57,11 +57,11 @@ group4 {P = P} {Q = Q} {R = R} {S = S} {T = T} {items = items} (one, more, is, p
 pub drop_nothing : {P : Spelling} {items : List Item} → (P ▷ Nothing) items → P items
 drop_nothing {P = P} (front, back, is, p, none) = subst P (sym (is ∙ ap (λ l. front ++ l) none ∙ append-nil front)) p
 
-assoc_shut : (t u v : List ℕ) → t ⧺ (u ⧺ v) ≡ (t ⧺ u) ⧺ v
+pub assoc_shut : (t u v : List ℕ) → t ⧺ (u ⧺ v) ≡ (t ⧺ u) ⧺ v
 unfolding ◌⧺◌
 assoc_shut t u v = sym (append_assoc t u v)
 
-nil_shut : (t : List ℕ) → t ⧺ [] ≡ t
+pub nil_shut : (t : List ℕ) → t ⧺ [] ≡ t
 unfolding ◌⧺◌
 nil_shut t = append-nil t
 
@@ -266,7 +266,7 @@ module _ (w : Setting) (n : List (List ℕ)) where
       (record { names = names.0; mode = f.mode; mark = new_word w n place f.mark },
       told_same w (told_then w names.1 (told_bits w (Blank ∷ Sign key.Colon ∷ Blank ∷ []) (read_mode f.mode (told_word w n f.mark every.1)) refl) refl) (λ same. (same.0, refl, same.1)))
 
-  read_formals : (fs : List PFormal) (at : ℕ) → All (EveryFormal (well_placed n)) fs → Found (AllZip (SameFormal n (names_of w)) fs) Stop Stop Formals at (formals_text n fs)
+  pub read_formals : (fs : List PFormal) (at : ℕ) → All (EveryFormal (well_placed n)) fs → Found (AllZip (SameFormal n (names_of w)) fs) Stop Stop Formals at (formals_text n fs)
   read_formals [] at every = ([], told_nothing w)
   read_formals (f ∷ fs) at every =
       let list = read_separated (SameFormal n (names_of w)) IsFormal (formal_text n) (EveryFormal (well_placed n)) Plain WordEnd read_formal key.Semicolon (codes "; ") (λ S Q. behind_semicolon S Q Plain) refl f fs (at + 1) (recursion_from_All _ (f ∷ fs) every) in
