@@ -14,3 +14,5 @@ pub mod Compounds
 pub mod Statements
 pub mod Tasks
 pub mod Declarations
+pub mod Units
+pub mod Whole

@@ -108,7 +108,7 @@ letter_plain [] rest h = absurd (false≢true h)
 letter_plain (b ∷ t) rest h = or_left _ _ (or_left (is_letter b) _ h)
 
 -- the id of a text is its place, if it is among the names
-id_found : (names : List (List ℕ)) (t : List ℕ) → id_of names t < length names → slice_get names (id_of names t) ≡ Some t
+pub id_found : (names : List (List ℕ)) (t : List ℕ) → id_of names t < length names → slice_get names (id_of names t) ≡ Some t
 id_found [] t low = absurd (omega arith)
 id_found (name ∷ names) t low = elim (cases_Bool (bytes_eq name t)) [
   | inl e ↦ rw e (ap Some ((bytes_eq-Decides name t).0 e))
