@@ -1,5 +1,5 @@
 -- What the text behind a piece begins with, where a piece ends before it.
-use Rattle.std.proofs.Common.{◌≡◌, ℕ, Bool, true, false, ◌||◌, ◌==◌, List, [], ◌∷◌, refl}
+use Rattle.std.proofs.Common.{◌≡◌, ℕ, Bool, true, false, ◌||◌, ◌==◌, List, [], ◌∷◌}
 use Rattle.std.proofs.lemmas.Bool.{or_right, false≢true}
 use Rattle.ada_lexer.specs.Bytes.{is_letter_or_digit}
 

@@ -1,5 +1,5 @@
 -- The text of well placed declarations is those declarations, at the places where they stand (chapters 3, 9 and 11).
-use Rattle.std.proofs.Common.{◌≡◌, ℕ, zero, suc, ◌+◌, ◌<◌, ◌≤◌, Bool, true, false, List, [], ◌∷◌, ◌++◌, length, codes, Option, None, Some, IfSome, All, refl, ap, ◌∙◌, sym, subst, arith, inl, inr}
+use Rattle.std.proofs.Common.{◌≡◌, ℕ, suc, ◌+◌, ◌≤◌, Bool, true, false, List, [], ◌∷◌, length, codes, Option, None, Some, IfSome, refl, ap, arith, inl}
 use Rattle.std.specs.List.{AllZip}
 use Rattle.ada_tree.specs.declared.naming.Span.{Span}
 use Rattle.ada_tree.specs.declared.naming.Word.{Word}
@@ -8,23 +8,18 @@ use Rattle.ada_tree.specs.PlainStmt.{PBody}
 use Rattle.ada_tree.specs.PlainDecl.{PShape, OPlain, ORow, PInit, IOne, IList, IOthers, PTask, PDecl, DNumber, DObject, DEnumeration, DArray, DSubtype, DException, DIntIo, DPragma, DTask, DTaskBody, PDecls, no_decl, decl_then}
 use Rattle.ada_tree.specs.WellPlaced.{IsGiven, AreObjects, IsLater, AreLater, BodiesLast, well_placed}
 use Rattle.ada_tree.specs.Every.{EveryWord, EveryExpr, EveryNames, EveryDrange, EverySubind, EveryShape, EveryInit, EveryTask, EveryBody, EveryDecl, EveryDecls}
-use Rattle.ada_tree.specs.Same.{SameOption, SameWord, SameExpr, SameDrange, SameSubind, SameShape, SameInit, SameTask, SameDecl, SameDecls, SameBody}
+use Rattle.ada_tree.specs.Same.{SameOption, SameExpr, SameDrange, SameSubind, SameShape, SameInit, SameDecl, SameDecls, SameBody}
 use Rattle.ada_expr_parser.specs.declared.symbols.Symbol.TheVariants as key
-use Rattle.ada_expr_parser.specs.declared.items.Item.{Item}
-use Rattle.ada_expr_parser.specs.Grammar.{IsSubind, AreEnclosed}
-use Rattle.ada_parser.specs.Spelling.{Source, Spelling, Nothing, ◌▷◌, May, IfThere, Where, Key, Named, Again, Placed}
-use Rattle.ada_parser.specs.Phrases.{Names, EndOf, Expression, Drange}
-use Rattle.ada_parser.specs.Statements.{IsBody}
-use Rattle.ada_parser.specs.Tasks.{IsTask}
-use Rattle.ada_parser.specs.Declarations.{Subind, ArrayOf, IsShape, IsList, IsInit, IsObject, IsInstance, UnitEnd, IsDecl, Decls}
+use Rattle.ada_expr_parser.specs.Grammar.{AreEnclosed}
+use Rattle.ada_parser.specs.Spelling.{Source, ◌▷◌, IfThere, Key}
+use Rattle.ada_parser.specs.Declarations.{ArrayOf, IsShape, IsList, IsInit, UnitEnd, IsDecl, Decls}
 use Rattle.ded_io.specs.Written.{◌⧺◌}
 use Rattle.ada_printer.specs.Layout.{deeper, indent, word_text, words_text}
-use Rattle.ada_printer.specs.ExprText.{expr_text, exprs_text, drange_text, subind_text, array_text}
-use Rattle.ada_printer.specs.StmtText.{body_text}
-use Rattle.ada_printer.specs.DeclText.{constant_text, shape_text, init_text, value_text, pragma_text, task_text, unit_text, form_text, decls_text}
-use Rattle.read_back.proofs.Classes.{Class, Anything, Plain, WordEnd, Stop, under}
-use Rattle.read_back.proofs.Told.{Setting, names_of, source_of, Told, Bit, Blank, Line, Sign, Fixed, Own, Filled, told_as, told_same, told_opens, told_ends, told_any, told_nothing, told_then, told_at, told_text, told_indent, told_bits, told_last, told_closed, told_placed, filled_key, filled_then, filled_named}
-use Rattle.read_back.proofs.Words.{IsOldName, new_word, told_word}
+use Rattle.ada_printer.specs.ExprText.{drange_text, array_text}
+use Rattle.ada_printer.specs.DeclText.{shape_text, init_text, value_text, unit_text, form_text, decls_text}
+use Rattle.read_back.proofs.Classes.{Anything, Plain, Stop}
+use Rattle.read_back.proofs.Told.{Setting, names_of, source_of, Told, Blank, Line, Sign, Fixed, Filled, told_as, told_same, told_any, told_nothing, told_then, told_text, told_indent, told_bits, told_closed, told_placed, filled_key, filled_then, filled_named}
+use Rattle.read_back.proofs.Words.{new_word, told_word}
 use Rattle.read_back.proofs.Phrases.{group, group3, under_first, over_first, Found, read_names, is_expression, read_exprs, read_subind, read_drange}
 use Rattle.read_back.proofs.Productions.{filled_behind}
 use Rattle.read_back.proofs.Compounds.{read_end}

@@ -1,13 +1,13 @@
 -- The text of a well placed expression is that expression, at the places where it stands (4.4).
-use Rattle.std.proofs.Common.{◌≡◌, ℕ, zero, suc, ◌+◌, ◌<◌, ◌≤◌, max, Bool, true, false, List, [], ◌∷◌, ◌++◌, length, codes, decimal, Option, None, Some, refl, ap, ◌∙◌, sym, subst, arith, ◌⊎◌, inl, inr}
+use Rattle.std.proofs.Common.{◌≡◌, ℕ, ◌+◌, ◌<◌, ◌≤◌, List, [], ◌∷◌, ◌++◌, length, decimal, Option, None, Some, refl, ap, ◌∙◌, sym, subst, arith, ◌⊎◌, inl, inr}
 use Rattle.ada_tree.specs.declared.naming.Span.{Span}
 use Rattle.ada_tree.specs.declared.naming.Word.{Word}
 use Rattle.ada_tree.specs.declared.expressions.UnaryOp.{UnaryOp}
 use Rattle.ada_tree.specs.declared.expressions.UnaryOp.TheVariants as unary
 use Rattle.ada_tree.specs.declared.expressions.BinaryOp.{BinaryOp}
-use Rattle.ada_tree.specs.declared.expressions.BinaryOp.TheVariants.{And, Or, Xor, AndThen, OrElse, Equal, NotEqual, Less, LessEqual, Greater, GreaterEqual, Plus, Minus, Times, Divide, Mod, Rem}
+use Rattle.ada_tree.specs.declared.expressions.BinaryOp.TheVariants.{AndThen, OrElse, Plus, Minus, Times, Divide, Mod, Rem}
 use Rattle.ada_tree.specs.PlainExpr.{PExpr, EInteger, EName, EIndex, EAttribute, EAttributeOf, EParen, EUnary, EBinary}
-use Rattle.ada_tree.specs.WellPlaced.{level, logical, simple, term, factor, binary_level, unary_level, GoesOn, BinaryFits, UnaryFits, well_placed}
+use Rattle.ada_tree.specs.WellPlaced.{level, logical, simple, term, binary_level, unary_level, GoesOn, BinaryFits, UnaryFits, well_placed}
 use Rattle.ada_tree.specs.Every.{EveryExpr}
 use Rattle.ada_tree.specs.Same.{SameExpr}
 use Rattle.ada_expr_parser.specs.declared.symbols.Symbol.TheVariants as key
@@ -18,8 +18,8 @@ use Rattle.ada_parser.specs.Spelling.{Spelling, ◌▷◌, Key, Named, last_plac
 use Rattle.ded_io.specs.Written.{◌⧺◌}
 use Rattle.ada_printer.specs.Layout.{name_text, word_text}
 use Rattle.ada_printer.specs.ExprText.{unary_text, binary_text, expr_text}
-use Rattle.read_back.proofs.Classes.{Class, Anything, Plain, WordEnd, Stop, under}
-use Rattle.read_back.proofs.Told.{Setting, names_of, Told, Blank, Sign, span_at, word_at, place_of, told_as, told_here, told_same, told_opens, told_ends, told_any, told_then, told_bits, told_closed}
+use Rattle.read_back.proofs.Classes.{Class, Anything, Plain, Stop}
+use Rattle.read_back.proofs.Told.{Setting, names_of, Told, Blank, Sign, span_at, word_at, place_of, told_as, told_here, told_opens, told_ends, told_any, told_then, told_bits, told_closed}
 use Rattle.read_back.proofs.Words.{told_id_of, new_word, told_word, told_integer}
 
 -- ---- items put together
@@ -257,7 +257,7 @@ module _ (w : Setting) (n : List (List ℕ)) where
       let second = (at + length (word_text n m)) + 1 in
       let part = read_expr (k + 1) e ((second + length (word_text n v)) + 1) every.3 in
       let chain = told_then w (told_word w n m every.1) (told_bits w (Sign key.Tick ∷ [])
-          (told_then w (told_word w n v every.2) (told_bits w (Sign key.LeftParen ∷ []) (told_closed w (Sign key.RightParen ∷ []) (told_any w part.told) refl refl) refl) refl) refl) refl in
+      (told_then w (told_word w n v every.2) (told_bits w (Sign key.LeftParen ∷ []) (told_closed w (Sign key.RightParen ∷ []) (told_any w part.told) refl refl) refl) refl) refl) refl in
       record {
         tree = EAttributeOf (new_word w n at m) (new_word w n second v) part.tree (place_of chain.items);
         told = told_here w chain (λ said same. (attribute_of_spells _ _ _ _ said, (same.0, same.1.0, same.1.1)));

@@ -1,6 +1,6 @@
 -- An identifier in upper case is a token of its own, a name (2.3, 2.9).
-use Rattle.std.proofs.Common.{◌≡◌, ℕ, zero, suc, ◌+◌, ◌<◌, ◌≤◌, Bool, true, false, cond, not, leb, List, [], ◌∷◌, ◌++◌, length, map, codes, Option, None, Some, IsTrue, refl, ap, ◌∙◌, sym, subst, arith, inl, inr}
-use Rattle.std.proofs.lemmas.Bool.{and_parts, and_from, or_left, or_right, cond-true, cond-false, false≢true, true≢false, cases_Bool, le-leb}
+use Rattle.std.proofs.Common.{◌≡◌, ℕ, Bool, true, false, not, leb, List, [], ◌∷◌, ◌++◌, length, map, None, refl, ap, ◌∙◌, sym, arith, inl, inr}
+use Rattle.std.proofs.lemmas.Bool.{and_parts, and_from, or_left, or_right, cond-true, cond-false, false≢true, cases_Bool, le-leb}
 use Rattle.std.proofs.lemmas.Bool.Decides.{nat_tests}
 use Rattle.std.specs.List.{list_any}
 use Rattle.std.specs.Str.{bytes_eq}
@@ -8,14 +8,13 @@ use Rattle.std.specs.Char.{to_ascii_uppercase}
 use Rattle.std.specs.Prelude.{◌&&◌, ◌||◌, ◌==◌}
 use Rattle.ada_lexer.specs.declared.kinds.TokenKind.{TokenKind}
 use Rattle.ada_lexer.specs.declared.kinds.TokenKind.TheVariants.{Name}
-use Rattle.ada_lexer.specs.declared.verdicts.Verdict.TheVariants.{Gap, Kind, Fault}
-use Rattle.ada_lexer.specs.declared.errors.LexError.TheVariants.{TooLong}
+use Rattle.ada_lexer.specs.declared.verdicts.Verdict.TheVariants.{Kind}
 use Rattle.ada_lexer.specs.Bytes.{is_letter, is_letter_or_digit, is_white, begins, every, lower}
 use Rattle.ada_lexer.specs.Words.{same_text, kind_in, two_letters, three_letters, four_letters, five_letters, six_letters, seven_letters, eight_letters, nine_letters, reserved_words, reserved_kind}
 use Rattle.ada_lexer.specs.Pieces.{word_goes_on}
-use Rattle.ada_lexer.specs.Verdicts.{max_name, token_or, word_verdict, verdict}
-use Rattle.ada_tree.specs.Lexical.{reserved, is_upper_letter, is_digit, goes_on, is_word, IsIdentifier}
-use Rattle.read_back.proofs.Classes.{Class, WordEnd}
+use Rattle.ada_lexer.specs.Verdicts.{max_name, word_verdict, verdict}
+use Rattle.ada_tree.specs.Lexical.{reserved, is_upper_letter, is_digit, goes_on, IsIdentifier}
+use Rattle.read_back.proofs.Classes.{WordEnd}
 use Rattle.read_back.proofs.Pieces.{Ends, word_ends}
 
 -- a byte of an identifier in upper case

@@ -1,7 +1,7 @@
 -- What a text says from a place on: its pieces, and the items of these. A name's item has the id of its text; whether the names hold that text is asked at the end.
-use Rattle.std.proofs.Common.{◌≡◌, ℕ, zero, suc, ◌+◌, ◌<◌, ◌≤◌, Bool, true, false, List, [], ◌∷◌, ◌++◌, length, map, take, drop, refl, ap, ◌∙◌, sym, subst, arith, append_assoc, append-nil}
+use Rattle.std.proofs.Common.{◌≡◌, ℕ, ◌+◌, List, [], ◌∷◌, ◌++◌, length, map, drop, refl, subst, arith, append_assoc}
 use Rattle.std.proofs.lemmas.List.{length-append}
-use Rattle.std.proofs.Math.Seq.{take-append_seam, drop-append_seam}
+use Rattle.std.proofs.Math.Seq.{drop-append_seam}
 use Rattle.std.specs.Char.{to_ascii_uppercase}
 use Rattle.ada_lexer.specs.declared.kinds.TokenKind.{TokenKind}
 use Rattle.ada_lexer.specs.declared.kinds.TokenKind.TheVariants as kinds
@@ -15,7 +15,7 @@ use Rattle.ada_expr_parser.specs.declared.items.ItemKind.TheVariants as item
 use Rattle.ada_expr_parser.specs.declared.items.Item.{Item}
 use Rattle.ada_expr_parser.specs.Items.{Stands}
 use Rattle.ada_parser.specs.Spelling.{id_of}
-use Rattle.read_back.proofs.Classes.{Class, Anything, Next}
+use Rattle.read_back.proofs.Classes.{Class, Next}
 use Rattle.read_back.proofs.Pieces.{Ends}
 
 module _ (names : List (List ℕ)) where

@@ -1,22 +1,22 @@
 -- The texts of numbers, durations and strings are tokens with these values (2.4, 2.6).
-use Rattle.std.proofs.Common.{◌≡◌, ℕ, zero, suc, ◌+◌, ◌-◌, ◌*◌, ◌/◌, ◌%◌, ◌^◌, ◌<◌, ◌≤◌, Bool, true, false, cond, not, leb, ltb, List, [], ◌∷◌, ◌++◌, length, take, drop, fold, position, decimal, Option, None, Some, option_map, refl, ap, ◌∙◌, sym, subst, arith, append_assoc, append-nil}
-use Rattle.std.proofs.lemmas.Bool.{and_parts, and_from, or_left, or_right, cond-true, cond-false, false≢true, cases_Bool, le-leb, lt-ltb}
+use Rattle.std.proofs.Common.{◌≡◌, ℕ, suc, ◌+◌, ◌*◌, ◌/◌, ◌%◌, ◌<◌, ◌≤◌, Bool, true, false, not, leb, ltb, List, [], ◌∷◌, ◌++◌, length, take, drop, position, decimal, None, Some, option_map, refl, ap, ◌∙◌, sym, subst, arith, append-nil}
+use Rattle.std.proofs.lemmas.Bool.{and_parts, and_from, or_left, or_right, cond-true, cond-false, le-leb, lt-ltb}
 use Rattle.std.proofs.lemmas.Bool.Decides.{nat_tests}
 use Rattle.std.proofs.lemmas.Fmt.{decimal_by_steps}
 use Rattle.std.proofs.lemmas.List.{length-append}
-use Rattle.std.proofs.Math.Seq.{take-append_seam, drop-append_seam, drop-append-add}
+use Rattle.std.proofs.Math.Seq.{take-append_seam, drop-append-add}
 use Rattle.std.specs.List.{prefix_len}
-use Rattle.std.specs.Prelude.{◌&&◌, ◌||◌, ◌==◌, nat_le}
+use Rattle.std.specs.Prelude.{◌&&◌, ◌||◌, ◌==◌}
 use Rattle.ada_lexer.specs.declared.kinds.TokenKind.TheVariants.{Integer, Duration, Text}
-use Rattle.ada_lexer.specs.declared.verdicts.Verdict.TheVariants.{Gap, Kind, Fault}
-use Rattle.ada_lexer.specs.declared.errors.LexError.TheVariants.{BadNumber, OpenString, TooLong}
+use Rattle.ada_lexer.specs.declared.verdicts.Verdict.TheVariants.{Kind, Fault}
+use Rattle.ada_lexer.specs.declared.errors.LexError.TheVariants.{BadNumber}
 use Rattle.ada_lexer.specs.Bytes.{is_letter, is_digit, is_letter_or_digit, is_white, is_printable, begins, every}
-use Rattle.ada_lexer.specs.Numbers.{max_integer, max_thousandths, numeral_goes_on, value_behind, decimal_from, is_numeral, integer_value, decimals_value, thousandths_of, is_point, kind_by_point, duration_value, number_kind}
-use Rattle.ada_lexer.specs.Strings.{string_goes_on, inside_after, is_string_run, ends_inside, content}
+use Rattle.ada_lexer.specs.Numbers.{max_integer, max_thousandths, numeral_goes_on, value_behind, decimal_from, is_numeral, integer_value, decimals_value, is_point, kind_by_point, duration_value, number_kind}
+use Rattle.ada_lexer.specs.Strings.{inside_after, is_string_run, ends_inside, content}
 use Rattle.ada_lexer.specs.Pieces.{number_goes_on}
 use Rattle.ada_lexer.specs.Verdicts.{max_content, token_or, number_verdict, string_verdict, text_or_bad_byte, verdict}
-use Rattle.read_back.proofs.Classes.{Class, Stop}
-use Rattle.read_back.proofs.Pieces.{Ends, number_ends, string_ends}
+use Rattle.read_back.proofs.Classes.{Stop}
+use Rattle.read_back.proofs.Pieces.{Ends, number_ends}
 
 -- ---- digits
 

@@ -1,5 +1,5 @@
 -- The texts of what is built of expressions and names alone: lists, ranges, variables, calls, formal parts, choices, loop heads.
-use Rattle.std.proofs.Common.{◌≡◌, ℕ, zero, suc, ◌+◌, ◌<◌, ◌≤◌, Bool, true, false, List, [], ◌∷◌, ◌++◌, length, codes, Option, None, Some, IfSome, All, refl, ap, ◌∙◌, sym, subst, arith, ◌⊎◌, inl, inr, append_assoc, append-nil}
+use Rattle.std.proofs.Common.{◌≡◌, ℕ, zero, suc, ◌+◌, ◌≤◌, Bool, true, false, List, [], ◌∷◌, ◌++◌, length, codes, Option, None, Some, IfSome, All, refl, ap, ◌∙◌, sym, subst, arith, inr, append_assoc, append-nil}
 use Rattle.std.proofs.lemmas.List.Elements.{recursion_from_All}
 use Rattle.std.specs.List.{AllZip, AllByRecursion}
 use Rattle.ada_tree.specs.declared.naming.Span.{Span}
@@ -7,28 +7,28 @@ use Rattle.ada_tree.specs.declared.naming.Word.{Word}
 use Rattle.ada_tree.specs.declared.statements.ParMode.{ParMode}
 use Rattle.ada_tree.specs.declared.statements.ParMode.TheVariants.{Take, Give, Both}
 use Rattle.ada_tree.specs.PlainExpr.{PExpr, PBounds, PSubind, PDrange, RGiven, RMarked}
-use Rattle.ada_tree.specs.PlainStmt.{PTarget, PCallee, PArgs, PCall, PFormal, PPart, PWords, PValue, PChoice, PScheme, LWhile, LFor, PHead}
+use Rattle.ada_tree.specs.PlainStmt.{PTarget, PCallee, PArgs, PCall, PFormal, PChoice, PScheme, LWhile, LFor, PHead}
 use Rattle.ada_tree.specs.WellPlaced.{level, well_placed}
-use Rattle.ada_tree.specs.Every.{EveryWord, EveryExpr, EveryBounds, EverySubind, EveryDrange, EveryTarget, EveryCallee, EveryExprs, EveryArgs, EveryCall, EveryNames, EveryFormal, EveryPart, EveryText, EveryChoice, EveryScheme, EveryHead}
-use Rattle.ada_tree.specs.Same.{SameOption, SameWord, SameExpr, SameBounds, SameSubind, SameDrange, SameTarget, SameCallee, SameArgs, SameCall, SameFormal, SamePart, SameChoice, SameScheme, SameHead}
+use Rattle.ada_tree.specs.Every.{EveryWord, EveryExpr, EveryBounds, EverySubind, EveryDrange, EveryTarget, EveryCallee, EveryExprs, EveryArgs, EveryCall, EveryNames, EveryFormal, EveryChoice, EveryScheme, EveryHead}
+use Rattle.ada_tree.specs.Same.{SameOption, SameWord, SameExpr, SameBounds, SameSubind, SameDrange, SameTarget, SameCallee, SameArgs, SameCall, SameFormal, SameChoice, SameScheme, SameHead}
 use Rattle.ada_tree.specs.Lexical.{IsDuration}
 use Rattle.ada_expr_parser.specs.declared.symbols.Symbol.{Symbol}
 use Rattle.ada_expr_parser.specs.declared.symbols.Symbol.TheVariants as key
 use Rattle.ada_expr_parser.specs.declared.items.Item.{Item}
-use Rattle.ada_expr_parser.specs.declared.levels.Level.TheVariants.{Logical, Simple}
-use Rattle.ada_expr_parser.specs.Grammar.{symbol_item, word_item, Spells, IsExpr, IsBounds, IsRangeOf, IsSubind, IsDrange, IsEnclosed, IsIndex, IsTarget, IsCallee, AreMore, AreEnclosed, IsSecondList, AreArgs, IsCall, IsChoiceOf, IsChoice}
+use Rattle.ada_expr_parser.specs.declared.levels.Level.TheVariants.{Simple}
+use Rattle.ada_expr_parser.specs.Grammar.{symbol_item, word_item, Spells, IsExpr, IsBounds, IsRangeOf, IsSubind, IsEnclosed, IsTarget, AreMore, AreEnclosed, IsSecondList, AreArgs}
 use Rattle.ada_expr_parser.specs.Trees.{levels}
-use Rattle.ada_parser.specs.Spelling.{Source, Spelling, Nothing, ◌▷◌, IfThere, Key, Named, Again, Behind, Separated, Inside}
-use Rattle.ada_parser.specs.Phrases.{Names, Expression, Operand, Mode, IsFormal, Formals, Index, AcceptHead, Guard, Choice, WhenChoices, WhenOthers, WhenRaised, Reverse, Drange, IsScheme, LoopName, LoopNameAgain, DelayOf}
+use Rattle.ada_parser.specs.Spelling.{Spelling, Nothing, ◌▷◌, IfThere, Key, Named, Behind, Separated}
+use Rattle.ada_parser.specs.Phrases.{Names, Expression, Operand, Mode, IsFormal, Formals, Index, AcceptHead, Choice, WhenRaised, Reverse, Drange, IsScheme, LoopName, LoopNameAgain, DelayOf}
 use Rattle.ada_parser.specs.Statements.{Target, Callee, Call}
 use Rattle.ded_io.specs.Written.{◌⧺◌, each_text}
-use Rattle.ada_printer.specs.Layout.{separated, duration_text, word_text, words_text, later_word}
-use Rattle.ada_printer.specs.ExprText.{expr_text, exprs_text, index_text, bounds_text, range_text, subind_text, drange_text, array_text}
-use Rattle.ada_printer.specs.StmtText.{mode_text, reverse_text, delay_text, target_text, callee_text, second_text, args_text, call_text, formal_text, formals_text, head_text, choice_text, last_text, caught_text, label_text, scheme_text, when_text}
+use Rattle.ada_printer.specs.Layout.{separated, word_text, words_text, later_word}
+use Rattle.ada_printer.specs.ExprText.{expr_text, exprs_text, index_text, bounds_text, range_text, subind_text, drange_text}
+use Rattle.ada_printer.specs.StmtText.{mode_text, reverse_text, delay_text, target_text, callee_text, second_text, args_text, call_text, formal_text, formals_text, head_text, choice_text, caught_text, label_text, scheme_text, when_text}
 use Rattle.read_back.proofs.Classes.{Class, Anything, Plain, WordEnd, Stop, under}
-use Rattle.read_back.proofs.Told.{Setting, names_of, source_of, Told, Bit, Blank, Line, Sign, Fixed, Own, BitsThen, bits_bytes, word_at, told_as, told_here, told_same, told_opens, told_ends, told_any, told_nothing, told_then, told_text, told_bits, told_last, told_closed}
+use Rattle.read_back.proofs.Told.{Setting, names_of, Told, Blank, Line, Sign, told_as, told_same, told_opens, told_ends, told_any, told_nothing, told_then, told_text, told_bits, told_closed}
 use Rattle.read_back.proofs.Words.{IsOldName, new_word, told_word, told_duration}
-use Rattle.read_back.proofs.Expressions.{ReadExpr, read_expr, led, joined}
+use Rattle.read_back.proofs.Expressions.{read_expr, led, joined}
 
 -- ---- items grouped otherwise
 
@@ -241,16 +241,20 @@ module _ (w : Setting) (n : List (List ℕ)) where
   read_call k d x at deep every =
       let task = read_callee k d x.task at deep every.0 in
       let behind = (at + length (callee_text n x.task)) + 1 in
-      let args = read_args k d x.args (behind + length (word_text n x.entry)) deep every.2 in
-      (record { task = task.0; entry = new_word w n behind x.entry; args = args.0 },
-      told_as w (told_then w task.1 (told_bits w (Sign key.Dot ∷ []) (told_then w (told_word w n x.entry every.1) (told_closed w (Sign key.Semicolon ∷ Line ∷ []) args.1 refl refl) refl) refl) refl)
-          (λ items said same. (called said, (same.0, same.1.0, same.1.1))))
+      let args = read_args k d x.args (behind + length (word_text n x.entry)) deep every.2 in (
+        record { task = task.0; entry = new_word w n behind x.entry; args = args.0 },
+        told_as w (told_then w task.1 (told_bits w (Sign key.Dot ∷ []) (told_then w (told_word w n x.entry every.1) (told_closed w (Sign key.Semicolon ∷ Line ∷ []) args.1 refl refl) refl) refl) refl)
+            (λ items said same. (called said, (same.0, same.1.0, same.1.1))),
+      )
     where
       called : {y : PCall} {items : List Item} → (Callee d y.task ▷ Key key.Dot ▷ Named y.entry ▷ AreArgs d y.args ▷ Key key.Semicolon) items → (Call d y ▷ Key key.Semicolon) items
-      called (front, m1, is, task, (one, m2, then, (dot, dotted), (two, m3, next, named, (back, last, end, args, close)))) =
-          (front ++ symbol_item key.Dot dot ∷ word_item _ ∷ back, last,
-          joined front is (led then dotted (led next named end)) ∙ sym (append_assoc front (symbol_item key.Dot dot ∷ word_item _ ∷ back) last),
-          record { front = front; dot = dot; back = back; task = task; args = args; text_is = refl }, close)
+      called (front, m1, is, task, (one, m2, then, (dot, dotted), (two, m3, next, named, (back, last, end, args, close)))) = (
+        front ++ symbol_item key.Dot dot ∷ word_item _ ∷ back,
+        last,
+        joined front is (led then dotted (led next named end)) ∙ sym (append_assoc front (symbol_item key.Dot dot ∷ word_item _ ∷ back) last),
+        record { front = front; dot = dot; back = back; task = task; args = args; text_is = refl },
+        close,
+      )
 
   -- ---- formal parts
 
@@ -262,9 +266,10 @@ module _ (w : Setting) (n : List (List ℕ)) where
   read_formal : (f : PFormal) (at : ℕ) → EveryFormal (well_placed n) f → Found (SameFormal n (names_of w) f) Plain WordEnd IsFormal at (formal_text n f)
   read_formal f at every =
       let names = read_names f.names at every.0 in
-      let place = ((at + length (words_text n f.names)) + 3) + length (mode_text f.mode) in
-      (record { names = names.0; mode = f.mode; mark = new_word w n place f.mark },
-      told_same w (told_then w names.1 (told_bits w (Blank ∷ Sign key.Colon ∷ Blank ∷ []) (read_mode f.mode (told_word w n f.mark every.1)) refl) refl) (λ same. (same.0, refl, same.1)))
+      let place = ((at + length (words_text n f.names)) + 3) + length (mode_text f.mode) in (
+        record { names = names.0; mode = f.mode; mark = new_word w n place f.mark },
+        told_same w (told_then w names.1 (told_bits w (Blank ∷ Sign key.Colon ∷ Blank ∷ []) (read_mode f.mode (told_word w n f.mark every.1)) refl) refl) (λ same. (same.0, refl, same.1)),
+      )
 
   pub read_formals : (fs : List PFormal) (at : ℕ) → All (EveryFormal (well_placed n)) fs → Found (AllZip (SameFormal n (names_of w)) fs) Stop Stop Formals at (formals_text n fs)
   read_formals [] at every = ([], told_nothing w)
@@ -348,10 +353,11 @@ module _ (w : Setting) (n : List (List ℕ)) where
       let y = is_expression k d e (at + 6) deep every in
       (Some (LWhile y.0), told_any w (told_as w (told_bits w (Sign key.While ∷ Blank ∷ []) (told_closed w (Blank ∷ []) y.1 refl refl) refl) (λ items said same. (under_first (λ more p. drop_nothing p) said, same))))
   read_scheme k d (Some (LFor v r x)) at deep every =
-      let y = read_drange k d x (((((at + 4) + length (word_text n v)) + 4)) + length (reverse_text r)) deep every.1 in
-      (Some (LFor (new_word w n (at + 4) v) r y.0),
-      told_any w (told_as w (told_bits w (Sign key.For ∷ Blank ∷ []) (told_then w (told_word w n v every.0) (told_bits w (Blank ∷ Sign key.In ∷ Blank ∷ []) (read_reverse r (told_closed w (Blank ∷ []) y.1 refl refl)) refl) refl) refl)
-          (λ items said same. (under_first (λ m1. under_first (λ m2. under_first (λ m3. under_first (λ m4 p. drop_nothing p)))) said, (same.0, refl, same.1)))))
+      let y = read_drange k d x (((((at + 4) + length (word_text n v)) + 4)) + length (reverse_text r)) deep every.1 in (
+        Some (LFor (new_word w n (at + 4) v) r y.0),
+        told_any w (told_as w (told_bits w (Sign key.For ∷ Blank ∷ []) (told_then w (told_word w n v every.0) (told_bits w (Blank ∷ Sign key.In ∷ Blank ∷ []) (read_reverse r (told_closed w (Blank ∷ []) y.1 refl refl)) refl) refl) refl)
+            (λ items said same. (under_first (λ m1. under_first (λ m2. under_first (λ m3. under_first (λ m4 p. drop_nothing p)))) said, (same.0, refl, same.1)))),
+      )
 
   -- the condition of an exit statement
   pub read_when : (k d : ℕ) (x : Option PExpr) (at : ℕ) → 300 ≤ k + d → IfSome x (EveryExpr (well_placed n) (k + 1)) → Found (SameOption (SameExpr n (names_of w)) x) Stop Stop (λ y. IfThere y (λ test. Key key.When ▷ Operand d test)) at (when_text n x)

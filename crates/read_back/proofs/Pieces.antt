@@ -1,6 +1,6 @@
 -- Pieces of each kind are the longest where what follows is of their class.
-use Rattle.std.proofs.Common.{◌≡◌, ℕ, zero, suc, ◌+◌, ◌<◌, ◌≤◌, Bool, true, false, cond, List, [], ◌∷◌, ◌++◌, length, take, refl, ap, ◌∙◌, sym, subst, arith, inl, inr}
-use Rattle.std.proofs.lemmas.Bool.{and_parts, and_from, or_left, or_right, or_cases, cond-true, cond-false, false≢true, cases_Bool}
+use Rattle.std.proofs.Common.{◌≡◌, ℕ, suc, ◌+◌, ◌<◌, Bool, true, false, List, [], ◌∷◌, ◌++◌, length, take, refl, ap, ◌∙◌, sym, subst, arith, inl, inr}
+use Rattle.std.proofs.lemmas.Bool.{and_parts, and_from, or_left, or_right, or_cases, cond-true, cond-false, false≢true}
 use Rattle.std.proofs.lemmas.Bool.Decides.{nat_tests}
 use Rattle.std.proofs.lemmas.List.{length-append}
 use Rattle.std.proofs.Math.Seq.{take-append_seam}
@@ -8,9 +8,9 @@ use Rattle.std.specs.Prelude.{◌&&◌, ◌||◌, ◌==◌}
 use Rattle.ada_lexer.specs.Bytes.{is_letter, is_digit, is_letter_or_digit, is_white, begins, every, run_len}
 use Rattle.ada_lexer.specs.Strings.{string_goes_on, inside_after, is_string_run, string_len, ends_inside}
 use Rattle.ada_lexer.specs.Pieces.{word_goes_on, number_goes_on, IsLongest}
-use Rattle.ada_lexer.specs.Lengths.{HasLongest, IsMeasured, piece_len}
+use Rattle.ada_lexer.specs.Lengths.{piece_len}
 use Rattle.ada_lexer.proofs.Longest.{piece-measured}
-use Rattle.read_back.proofs.Classes.{Class, Anything, Plain, WordEnd, Stop, is_stop, allows, Next}
+use Rattle.read_back.proofs.Classes.{Class, Anything, WordEnd, Stop, allows, Next}
 
 -- the piece is the longest one wherever what follows is of the class
 abbrev pub Ends : Class → List ℕ → Type 0

@@ -1,9 +1,9 @@
 -- Reserved words and delimiters: their texts, and that each is the token that it should be before what may follow it (2.2, 2.9).
-use Rattle.std.proofs.Common.{◌≡◌, ℕ, zero, suc, ◌+◌, ◌<◌, ◌≤◌, Bool, true, false, cond, List, [], ◌∷◌, ◌++◌, length, codes, refl, ap, ◌∙◌, sym, arith}
+use Rattle.std.proofs.Common.{◌≡◌, ℕ, Bool, true, false, List, [], ◌∷◌, ◌++◌, codes, refl, arith}
 use Rattle.std.proofs.lemmas.Bool.{and_parts, false≢true}
 use Rattle.std.proofs.lemmas.Bool.Decides.{nat_tests}
-use Rattle.std.specs.Prelude.{◌&&◌, ◌||◌, ◌==◌}
-use Rattle.ada_lexer.specs.declared.verdicts.Verdict.TheVariants.{Gap, Kind, Fault}
+use Rattle.std.specs.Prelude.{◌&&◌, ◌==◌}
+use Rattle.ada_lexer.specs.declared.verdicts.Verdict.TheVariants.{Kind}
 use Rattle.ada_lexer.specs.Bytes.{is_letter, every}
 use Rattle.ada_lexer.specs.Words.{two_letters, three_letters, four_letters, five_letters, six_letters, seven_letters, eight_letters, nine_letters, reserved_words, reserved_kind, simple_delimiters, compound_delimiters, delimiter_kind}
 use Rattle.ada_lexer.specs.Pieces.{word_goes_on}

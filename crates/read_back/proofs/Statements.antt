@@ -1,29 +1,19 @@
 -- The text of well placed statements is those statements, at the places where they stand: the productions, by recursion on the tree (chapters 5, 9 and 11).
-use Rattle.std.proofs.Common.{◌≡◌, ℕ, zero, suc, ◌+◌, ◌<◌, ◌≤◌, Bool, true, false, List, [], ◌∷◌, ◌++◌, length, codes, Option, None, Some, IfSome, All, refl, ap, ◌∙◌, sym, subst, arith, inl, inr, append_assoc}
-use Rattle.std.proofs.lemmas.List.Elements.{recursion_from_All}
-use Rattle.std.specs.List.{AllZip, AllByRecursion}
-use Rattle.ada_tree.specs.declared.naming.Span.{Span}
-use Rattle.ada_tree.specs.declared.naming.Word.{Word}
+use Rattle.std.proofs.Common.{◌≡◌, ℕ, zero, suc, ◌+◌, ◌≤◌, List, None, Some, subst, arith}
 use Rattle.ada_tree.specs.PlainExpr.{PExpr}
-use Rattle.ada_tree.specs.PlainStmt.{PTarget, PCallee, PCall, PPart, PWords, PValue, PChoice, PScheme, PHead, PStmt, SNull, SAssign, SDelay, SExit, SRaise, SAbort, SCall, SAccept, SWait, SConditional, STimed, SPut, SPutLine, SNewLine, SGet, SIf, SCase, SBlock, SLoop, PStmts, no_stmt, stmt_then, PMaybe, absent, present, PAccept, accepting, PAlt, alternative, PAltKind, AAccept, ADelay, ATerminate, PAlts, no_alt, alt_then, PArm, arm, PArms, no_arm, arm_then, PCaseArm, case_arm, PCaseArms, no_case_arm, case_arm_then, PBody, body, PHandler, handler, PHandlers, no_handler, handler_then}
-use Rattle.ada_tree.specs.WellPlaced.{LastIfOthers, OthersLast, well_placed}
+use Rattle.ada_tree.specs.PlainStmt.{PCall, PStmt, SNull, SAssign, SDelay, SExit, SRaise, SAbort, SCall, SAccept, SWait, SConditional, STimed, SPut, SPutLine, SNewLine, SGet, SIf, SCase, SBlock, SLoop, PStmts, no_stmt, stmt_then, PMaybe, absent, present, PAccept, accepting, PAlt, alternative, PAltKind, AAccept, ADelay, ATerminate, PAlts, no_alt, alt_then, PArm, arm, PArms, no_arm, arm_then, PCaseArm, case_arm, PCaseArms, no_case_arm, case_arm_then, PBody, body, PHandler, handler, PHandlers, no_handler, handler_then}
+use Rattle.ada_tree.specs.WellPlaced.{well_placed}
 use Rattle.ada_tree.specs.Every.{EveryCall, arms_count, alts_count, EveryExpr, EveryStmt, EveryStmts, EverySome, EveryMaybe, EveryAccept, EveryAlt, EveryAltKind, EveryAlts, EveryArm, EveryArms, EveryCaseArm, EveryCaseArms, EveryBody, EveryHandler, EveryHandlers}
-use Rattle.ada_tree.specs.Same.{SameOption, SameWord, SameExpr, SamePart, SameCall, SameStmt, SameStmts, SameMaybe, SameAccept, SameAlt, SameAltKind, SameAlts, SameArm, SameArms, SameCaseArm, SameCaseArms, SameBody, SameHandler, SameHandlers}
-use Rattle.ada_tree.specs.Lexical.{IsDuration, IsStringContent}
+use Rattle.ada_tree.specs.Same.{SameStmt, SameStmts, SameMaybe, SameAccept, SameAlt, SameAltKind, SameAlts, SameArm, SameArms, SameCaseArm, SameCaseArms, SameBody, SameHandler, SameHandlers}
 use Rattle.ada_expr_parser.specs.declared.symbols.Symbol.TheVariants as key
-use Rattle.ada_expr_parser.specs.declared.items.Item.{Item}
-use Rattle.ada_parser.specs.Spelling.{Source, Spelling, Nothing, ◌▷◌, May, Where, IfThere, Key, Named, Again, Predefined, Separated, Inside, Placed}
-use Rattle.ada_parser.specs.Phrases.{EndOf, Expression, Operand, AcceptHead, Guard, IsPart, PutText, WhenChoices, WhenOthers, WhenRaised, IsScheme, LoopName, LoopNameAgain, DelayOf}
-use Rattle.ada_parser.specs.Statements.{Target, Callee, Call, IsStmt, AnyStmts, Stmts, ElsePart, OthersPart, IsAccept, IsAlt, IsAltKind, IsAlts, MoreAlts, IsArm, IsArms, MoreArms, IsCaseArm, IsCaseArms, IsBody, HandlerPart, MoreHandlers, IsHandler}
-use Rattle.ded_io.specs.Written.{◌⧺◌}
-use Rattle.ada_printer.specs.Layout.{deeper, indent, separated, duration_text, string_text, word_text, later_word}
-use Rattle.ada_printer.specs.ExprText.{expr_text}
-use Rattle.ada_printer.specs.StmtText.{delay_text, call_text, head_text, part_text, parts_text, choice_text, caught_text, label_text, scheme_text, target_text, form_text, stmts_text, else_text, others_text, accept_text, alt_kind_text, alt_text, alts_text, more_alts_text, arm_text, arms_text, more_arms_text, case_arm_text, case_arms_text, body_text, exception_text, handler_text, handlers_text}
-use Rattle.read_back.proofs.Classes.{Class, Anything, Plain, WordEnd, Stop, under}
-use Rattle.read_back.proofs.Told.{Setting, names_of, source_of, Told, Bit, Blank, Line, Sign, Fixed, Own, span_at, word_at, Filled, told_as, told_here, told_same, told_opens, told_ends, told_any, told_nothing, told_then, told_indent, told_bits, told_last, told_closed, told_placed, filled_key, filled_then, filled_named}
-use Rattle.read_back.proofs.Words.{IsOldName, new_word, told_word, told_string}
-use Rattle.read_back.proofs.Expressions.{ReadExpr, read_expr}
-use Rattle.read_back.proofs.Phrases.{group, group3, group4, under_first, over_first, Found, read_target, read_callees, read_call, read_choices, read_raised, read_later, read_label, read_again, read_scheme, read_when, read_delay, new_head, read_head, read_separated, behind_ampersand, is_expression, is_operand}
+use Rattle.ada_parser.specs.Spelling.{Source, ◌▷◌, Key}
+use Rattle.ada_parser.specs.Statements.{IsStmt, AnyStmts, Stmts, ElsePart, OthersPart, IsAccept, IsAlt, IsAltKind, IsAlts, MoreAlts, IsArm, IsArms, MoreArms, IsCaseArm, IsCaseArms, IsBody, HandlerPart, MoreHandlers, IsHandler}
+use Rattle.ada_printer.specs.Layout.{deeper}
+use Rattle.ada_printer.specs.StmtText.{form_text, stmts_text, else_text, others_text, accept_text, alt_kind_text, alt_text, alts_text, more_alts_text, arm_text, arms_text, more_arms_text, case_arm_text, case_arms_text, body_text, exception_text, handler_text, handlers_text}
+use Rattle.read_back.proofs.Classes.{Anything, Plain}
+use Rattle.read_back.proofs.Told.{Setting, names_of, source_of, told_nothing}
+use Rattle.read_back.proofs.Expressions.{read_expr}
+use Rattle.read_back.proofs.Phrases.{Found}
 use Rattle.read_back.proofs.Productions.{null_from, assign_from, delay_from, exit_from, raise_from, abort_from, call_from, put_from, put_line_from, new_line_from, get_from, stmts_from, any_stmts_from, else_from, others_from}
 use Rattle.read_back.proofs.Compounds.{accept_from, accept_do_from, accept_stmt_from, accept_kind_from, delay_kind_from, terminate_from, alt_from, guarded_from, alts_from, more_alts_from, wait_from, conditional_from, timed_from, arm_from, arms_from, more_arms_from, if_from, case_arm_from, case_arms_from, case_from, handler_from, handlers_from, exception_from, body_from, block_from, loop_from}
 

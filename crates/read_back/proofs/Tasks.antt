@@ -1,32 +1,28 @@
 -- The texts of entries, pragmas and tasks: the pragmas of a task are printed each behind as many entries as its place says (9.1, 9.5, 9.8).
-use Rattle.std.proofs.Common.{◌≡◌, ℕ, zero, suc, ◌+◌, ◌<◌, ◌≤◌, Bool, true, false, cond, leb, List, [], ◌∷◌, ◌++◌, length, take, drop, map, codes, Option, None, Some, IfSome, All, refl, ap, ◌∙◌, sym, subst, arith, inl, inr, append_assoc, append-nil, one-add}
+use Rattle.std.proofs.Common.{◌≡◌, ℕ, zero, suc, ◌+◌, ◌≤◌, Bool, true, false, leb, List, [], ◌∷◌, ◌++◌, length, take, drop, map, codes, Option, None, Some, IfSome, refl, ap, ◌∙◌, subst, arith, inl, inr, append-nil, one-add}
 use Rattle.std.proofs.lemmas.Bool.{cond-true, cond-false, cases_Bool, leb-true}
 use Rattle.std.proofs.lemmas.Bool.Decides.{nat_tests}
 use Rattle.std.proofs.lemmas.List.{length-append, take-append-drop}
 use Rattle.std.proofs.lemmas.List.Elements.{recursion_from_All}
-use Rattle.std.specs.List.{AllZip, AllByRecursion, prefix_len}
-use Rattle.ada_tree.specs.declared.naming.Span.{Span}
+use Rattle.std.specs.List.{AllZip, AllByRecursion}
 use Rattle.ada_tree.specs.declared.naming.Word.{Word}
 use Rattle.ada_tree.specs.PlainExpr.{PExpr, PDrange}
-use Rattle.ada_tree.specs.PlainStmt.{PFormal}
 use Rattle.ada_tree.specs.PlainDecl.{PPriority, PEntry, PTask}
 use Rattle.ada_tree.specs.WellPlaced.{GoUp, well_placed}
 use Rattle.ada_tree.specs.Every.{EveryExpr, EveryDrange, EveryEntry, EveryPriority, EveryTask}
 use Rattle.ada_tree.specs.Same.{SameOption, SameExpr, SameDrange, SameEntry, SamePriority, SameTask}
 use Rattle.ada_expr_parser.specs.declared.symbols.Symbol.TheVariants as key
 use Rattle.ada_expr_parser.specs.declared.items.Item.{Item}
-use Rattle.ada_parser.specs.Spelling.{Source, Spelling, Nothing, ◌▷◌, Either, IfThere, Key, Named, Row, Placed}
-use Rattle.ada_parser.specs.Phrases.{EndOf, Expression, Drange, Formals}
-use Rattle.ada_parser.specs.Tasks.{IsPriority, IsEntry, Member, MEntry, MPriority, entries_in, priorities_in, IsMember, AreMembersOf, TaskWord, TaskRest, IsTask}
-use Rattle.ded_io.specs.Written.{◌⧺◌, each_text}
+use Rattle.ada_parser.specs.Spelling.{Source, Spelling, ◌▷◌, IfThere, Key, Row}
+use Rattle.ada_parser.specs.Phrases.{EndOf, Drange}
+use Rattle.ada_parser.specs.Tasks.{IsPriority, IsEntry, Member, MEntry, MPriority, entries_in, priorities_in, IsMember, TaskWord, TaskRest, IsTask}
+use Rattle.ded_io.specs.Written.{◌⧺◌}
 use Rattle.ada_printer.specs.Layout.{deeper, indent, word_text}
-use Rattle.ada_printer.specs.ExprText.{expr_text, drange_text}
-use Rattle.ada_printer.specs.StmtText.{formals_text}
 use Rattle.ada_printer.specs.DeclText.{task_word, standing, pragma_text, priority_text, family_text, entry_text, priorities_text, items_text, task_rest, task_text}
-use Rattle.read_back.proofs.Classes.{Class, Anything, Plain, WordEnd, Stop, under}
-use Rattle.read_back.proofs.Told.{Setting, names_of, source_of, Told, Bit, Blank, Line, Sign, Fixed, Own, Filled, told_as, told_same, told_any, told_nothing, told_then, told_at, told_text, told_indent, told_bits, told_last, told_closed, told_placed, filled_key, filled_then, filled_named}
+use Rattle.read_back.proofs.Classes.{Class, Anything, Plain, Stop}
+use Rattle.read_back.proofs.Told.{Setting, names_of, source_of, Told, Blank, Line, Sign, Own, Filled, told_as, told_same, told_nothing, told_then, told_at, told_text, told_indent, told_bits, told_last, told_closed, told_placed, filled_key, filled_then, filled_named}
 use Rattle.read_back.proofs.Words.{new_word, told_word}
-use Rattle.read_back.proofs.Phrases.{group, under_first, Found, assoc_shut, nil_shut, is_expression, read_drange, read_formals}
+use Rattle.read_back.proofs.Phrases.{group, Found, assoc_shut, nil_shut, is_expression, read_drange, read_formals}
 use Rattle.read_back.proofs.Productions.{filled_behind}
 use Rattle.read_back.proofs.Compounds.{read_end}
 
@@ -126,9 +122,11 @@ module _ (w : Setting) (n : List (List ℕ)) where
       let first : List ℕ = priority_text n level p in
       let place : at + length (first ⧺ priorities_text n level ps) ≡ (at + length first) + length (priorities_text n level ps) = omega (arith, length_shut first (priorities_text n level ps)) in
       let later = read_priorities d level before ps qs es u ms (at + length first) deep good.1 here.1 (told_at w _ _ place rest) in
-      let one = read_pragma d p.value (at + length (indent level)) deep good.0.1 in
-      (MPriority one.0 ∷ later.0, told_text w _ _ (assoc_shut first (priorities_text n level ps) u)
-          (told_same w (told_then w (told_indent w level one.1) later.1 refl) (λ same. (same.1.0, ((here.0, same.0), same.1.1)))))
+      let one = read_pragma d p.value (at + length (indent level)) deep good.0.1 in (
+        MPriority one.0 ∷ later.0,
+        told_text w _ _ (assoc_shut first (priorities_text n level ps) u)
+            (told_same w (told_then w (told_indent w level one.1) later.1 refl) (λ same. (same.1.0, ((here.0, same.0), same.1.1)))),
+      )
 
   -- entries and pragmas of a task, when so many entries stand before
   read_items : (d level before total : ℕ) (es : List PEntry) (ps : List PPriority) (at : ℕ) → 300 ≤ 2 + d → AllByRecursion (EveryEntry (well_placed n)) es → AllByRecursion (EveryPriority (well_placed n)) ps → GoUp before total (places ps) → before + length es ≡ total →
@@ -170,6 +168,7 @@ module _ (w : Setting) (n : List (List ℕ)) where
   pub read_task : (d level : ℕ) (x : PTask) (at : ℕ) → 300 ≤ 2 + d → EveryTask (well_placed n) x → Found w n (SameTask n m x) Plain Anything (λ y. IsTask src d y) at (task_text n level x)
   read_task d level x at deep good =
       let start = at + length (task_word x.of_kind) in
-      let rest = read_rest d level x start x.entries x.priorities (start + length (word_text n x.name)) deep good (recursion_from_All _ x.entries good.1) (recursion_from_All _ x.priorities good.2) good.3 in
-      (record { name = new_word w n start x.name; of_kind = x.of_kind; entries = entries_in rest.0; priorities = priorities_in 0 rest.0 },
-      told_as w (task_starts x.of_kind (told_then w (told_word w n x.name good.0) rest.1 refl)) (λ items said same. ((rest.0, record { entries = refl; priorities = refl }, said), (same.0, refl, same.1.0, same.1.1))))
+      let rest = read_rest d level x start x.entries x.priorities (start + length (word_text n x.name)) deep good (recursion_from_All _ x.entries good.1) (recursion_from_All _ x.priorities good.2) good.3 in (
+        record { name = new_word w n start x.name; of_kind = x.of_kind; entries = entries_in rest.0; priorities = priorities_in 0 rest.0 },
+        told_as w (task_starts x.of_kind (told_then w (told_word w n x.name good.0) rest.1 refl)) (λ items said same. ((rest.0, record { entries = refl; priorities = refl }, said), (same.0, refl, same.1.0, same.1.1))),
+      )

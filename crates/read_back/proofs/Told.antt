@@ -1,10 +1,10 @@
 -- Texts that say what a grammar asks: how they are put together.
-use Rattle.std.proofs.Common.{◌≡◌, ℕ, zero, suc, ◌+◌, ◌<◌, ◌≤◌, Bool, true, false, cond, not, leb, List, [], ◌∷◌, ◌++◌, length, map, take, drop, slice_get, slice_range, codes, Some, refl, ap, ◌∙◌, sym, subst, arith, append_assoc, append-nil, inl, inr}
+use Rattle.std.proofs.Common.{◌≡◌, ℕ, zero, suc, ◌+◌, ◌<◌, Bool, true, false, not, leb, List, [], ◌∷◌, ◌++◌, length, drop, slice_get, codes, Some, refl, ap, ◌∙◌, sym, subst, arith, append_assoc, append-nil, inl, inr}
 use Rattle.std.proofs.lemmas.Bool.{and_parts, or_left, cond-true, cond-false, false≢true, cases_Bool, leb-true}
 use Rattle.std.proofs.lemmas.List.{length-append, drop-drop}
 use Rattle.std.proofs.lemmas.Slice.Eq.{bytes_eq-Decides}
-use Rattle.std.proofs.Math.Seq.{take-append_seam, drop-append_seam}
-use Rattle.std.specs.Prelude.{◌&&◌, ◌||◌, ◌==◌}
+use Rattle.std.proofs.Math.Seq.{drop-append_seam}
+use Rattle.std.specs.Prelude.{◌&&◌, ◌||◌}
 use Rattle.std.specs.List.{list_any}
 use Rattle.std.specs.Str.{bytes_eq}
 use Rattle.ada_lexer.specs.declared.kinds.TokenKind.{TokenKind}
@@ -435,12 +435,15 @@ module _ (w : Setting) where
 
   -- at the place that it has
   pub told_placed : {S : Type 0} {o a : Class} {P : Spelling} {at : ℕ} {t : List ℕ} → Filled P → Told S o a P at t → (s : Span) × Told S o a (Placed s P) at t
-  told_placed {P = P} filled h = (place_of h.items, record {
-    items = h.items;
-    chunk = h.chunk;
-    opens = h.opens;
-    says = λ stands known. let said = h.says stands known in (placed_there P filled h.items said.0, said.1);
-  })
+  told_placed {P = P} filled h = (
+    place_of h.items,
+    record {
+      items = h.items;
+      chunk = h.chunk;
+      opens = h.opens;
+      says = λ stands known. let said = h.says stands known in (placed_there P filled h.items said.0, said.1);
+    },
+  )
 
 pub filled_key : {s : Symbol} → Filled (Key s)
 filled_key (at, is) = cc

@@ -1,17 +1,16 @@
 -- The text of a well placed program is a unit, at the places where its parts stand (6.3, 10.1).
-use Rattle.std.proofs.Common.{◌≡◌, ℕ, suc, ◌+◌, ◌<◌, ◌≤◌, Bool, true, false, List, [], ◌∷◌, length, codes, refl, arith}
+use Rattle.std.proofs.Common.{◌≡◌, ℕ, ◌+◌, Bool, true, false, List, [], ◌∷◌, length, codes, refl, arith}
 use Rattle.ada_tree.specs.PlainProgram.{PProgram}
 use Rattle.ada_tree.specs.WellPlaced.{IsWellPlaced}
 use Rattle.ada_tree.specs.Same.{SameWord, SameDecls, SameBody}
 use Rattle.ada_expr_parser.specs.declared.symbols.Symbol.TheVariants as key
-use Rattle.ada_expr_parser.specs.declared.items.Item.{Item}
 use Rattle.ada_parser.specs.Spelling.{Spelling, ◌▷◌}
 use Rattle.ada_parser.specs.Units.{PUnit, Context, IsUnit}
 use Rattle.ded_io.specs.Written.{◌⧺◌}
 use Rattle.ada_printer.specs.Layout.{word_text}
 use Rattle.ada_printer.specs.DeclText.{decls_text}
 use Rattle.ada_printer.specs.ProgramText.{context_text, program_text}
-use Rattle.read_back.proofs.Classes.{Class, Anything, Plain}
+use Rattle.read_back.proofs.Classes.{Class, Anything}
 use Rattle.read_back.proofs.Told.{Setting, names_of, source_of, Told, Blank, Line, Sign, Fixed, told_as, told_same, told_any, told_nothing, told_then, told_bits, told_last}
 use Rattle.read_back.proofs.Words.{new_word, told_word}
 use Rattle.read_back.proofs.Declarations.{bodies_same, read_unit_end, read_decls}
@@ -36,6 +35,7 @@ module _ (w : Setting) where
       let decls = read_decls w p.names 298 1 p.decls place (omega arith) well.2 in
       let end = read_unit_end w p.names 299 0 p.body p.name start (place + length (decls_text p.names 1 p.decls)) (omega arith) well.3 well.0 in
       let within = told_as w decls.1 (λ items said same. ((bodies_same p.names (names_of w) p.decls decls.0 same well.1, said), same)) in
-      let told = told_context p.text_io (told_any w (told_bits w (Sign key.Procedure ∷ Blank ∷ []) (told_then w (told_word w p.names p.name well.0) (told_bits w (Blank ∷ Sign key.Is ∷ Line ∷ []) (told_then w within end.1 refl) refl) refl) refl)) in
-      (record { text_io = p.text_io; name = new_word w p.names start p.name; decls = decls.0; body = end.0 },
-      told_same w told (λ same. record { text_io = refl; name = same.0; decls = same.1.0; body = same.1.1 }))
+      let told = told_context p.text_io (told_any w (told_bits w (Sign key.Procedure ∷ Blank ∷ []) (told_then w (told_word w p.names p.name well.0) (told_bits w (Blank ∷ Sign key.Is ∷ Line ∷ []) (told_then w within end.1 refl) refl) refl) refl)) in (
+        record { text_io = p.text_io; name = new_word w p.names start p.name; decls = decls.0; body = end.0 },
+        told_same w told (λ same. record { text_io = refl; name = same.0; decls = same.1.0; body = same.1.1 }),
+      )

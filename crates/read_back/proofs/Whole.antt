@@ -1,5 +1,5 @@
 -- A whole text: its pieces, its tokens, its names and its items, and so what is read of it.
-use Rattle.std.proofs.Common.{◌≡◌, ℕ, zero, suc, ◌+◌, ◌-◌, ◌<◌, ◌≤◌, Bool, true, false, cond, ◌||◌, List, [], ◌∷◌, ◌++◌, length, map, take, drop, fold, slice_get, slice_range, Some, refl, ap, ◌∙◌, sym, subst, arith, append_assoc, append-nil, inl, inr}
+use Rattle.std.proofs.Common.{◌≡◌, ℕ, suc, ◌+◌, ◌-◌, ◌<◌, true, false, ◌||◌, List, [], ◌∷◌, ◌++◌, length, map, take, drop, fold, slice_get, slice_range, refl, ap, ◌∙◌, sym, subst, arith, append_assoc, append-nil, inl, inr}
 use Rattle.std.proofs.lemmas.Bool.{or_left, or_right, cond-true, cond-false, false≢true, cases_Bool}
 use Rattle.std.proofs.lemmas.List.{drop-drop}
 use Rattle.std.proofs.lemmas.Option.{slice_get_within}
@@ -12,7 +12,6 @@ use Rattle.ada_lexer.specs.declared.kinds.TokenKind.{TokenKind}
 use Rattle.ada_lexer.specs.declared.kinds.TokenKind.TheVariants as kinds
 use Rattle.ada_lexer.specs.declared.verdicts.Verdict.{Verdict}
 use Rattle.ada_lexer.specs.declared.verdicts.Verdict.TheVariants.{Gap, Kind, Fault}
-use Rattle.ada_lexer.specs.Pieces.{IsLongest}
 use Rattle.ada_lexer.specs.Verdicts.{verdict}
 use Rattle.ada_lexer.specs.Split.{FallsInto, onto_tokens, tokens_of, IsSound, AreSound, Splits}
 use Rattle.ada_lexer.proofs.Unique.{splits-unique}
@@ -27,9 +26,9 @@ use Rattle.ada_expr_parser.specs.Items.{name_text, Says, IsItemOf, end_of, inter
 use Rattle.ada_parser.specs.Spelling.{id_of}
 use Rattle.ada_parser.specs.Reads.{Reads}
 use Rattle.ada_printer.specs.ProgramText.{program_text}
-use Rattle.read_back.proofs.Lexed.{Tells, IsTold, ToldBy, AreTold, Lexed}
-use Rattle.read_back.proofs.Told.{Setting, names_of, source_of, Told, IsAt, AreKnown, id_found}
-use Rattle.read_back.proofs.Units.{IsUnitOf, read_unit}
+use Rattle.read_back.proofs.Lexed.{Tells, ToldBy, AreTold, Lexed}
+use Rattle.read_back.proofs.Told.{Setting, names_of, AreKnown, id_found}
+use Rattle.read_back.proofs.Units.{read_unit}
 
 -- ---- pieces that say items have no fault
 
@@ -86,8 +85,7 @@ module _ (src : List ℕ) where
   all_interned : (tokens : List Token) (ns : List (List ℕ)) → AllByRecursion (IsInterned (fold (with_token src) ns tokens)) tokens
   all_interned [] ns = tt
   all_interned (t ∷ tokens) ns =
-      let grow = names_grow tokens (with_token src ns t) in
-      (
+      let grow = names_grow tokens (with_token src ns t) in (
         λ is.
             let first : list_any (bytes_eq (name_text src t)) (with_token src ns t) ≡ true = ap (λ k. list_any (bytes_eq (name_text src t)) (interned_if k ns (name_text src t))) is ∙ interned_there ns (name_text src t) in
             ap (list_any (bytes_eq (name_text src t))) grow.1 ∙ list_any-append (name_text src t) (with_token src ns t) grow.0 first,
@@ -193,8 +191,7 @@ read_back p well =
     let held : AllByRecursion (IsInterned text (names_of w)) (tokens_of 0 said.pieces) = rw names (all_interned text (tokens_of 0 said.pieces) predefined) in
     let zip = are_items text (names_of w) said.pieces 0 told.items said.falls said.told held in
     let spelled = told.says ([], sym (append-nil text)) (are_known w text (tokens_of 0 said.pieces) told.items zip) in
-    let y = (read_unit w p well).0 in
-    (
+    let y = (read_unit w p well).0 in (
       record { names = names_of w; text_io = y.text_io; name = y.name; decls = y.decls; body = y.body },
       record {
         items = told.items ++ end_of text ∷ [];

@@ -1,10 +1,10 @@
 -- Names, numbers, durations and strings of a tree, told by their printed texts.
-use Rattle.std.proofs.Common.{◌≡◌, ℕ, zero, suc, ◌+◌, ◌-◌, ◌*◌, ◌/◌, ◌%◌, ◌<◌, ◌≤◌, Bool, true, false, cond, not, List, [], ◌∷◌, ◌++◌, length, take, drop, map, codes, decimal, slice_get, slice_range, Option, None, Some, IsSomeAnd, unwrap_or, refl, ap, ◌∙◌, sym, subst, arith, append_assoc, inl, inr, All}
+use Rattle.std.proofs.Common.{◌≡◌, ℕ, ◌+◌, ◌-◌, ◌*◌, ◌/◌, ◌%◌, ◌<◌, ◌≤◌, true, List, [], ◌∷◌, ◌++◌, length, take, drop, codes, decimal, slice_get, slice_range, Option, None, Some, IsSomeAnd, unwrap_or, refl, ap, ◌∙◌, sym, arith, inl, inr}
 use Rattle.std.proofs.lemmas.Bool.{or_left, or_right, cond-true, cond-false, false≢true, cases_Bool}
 use Rattle.std.proofs.lemmas.Bool.Decides.{nat_tests}
 use Rattle.std.proofs.lemmas.List.Elements.{recursion_from_All}
 use Rattle.std.proofs.Math.Seq.{take-append_seam}
-use Rattle.std.specs.Prelude.{◌&&◌, ◌||◌, ◌==◌}
+use Rattle.std.specs.Prelude.{◌==◌}
 use Rattle.std.specs.List.{AllByRecursion}
 use Rattle.ada_lexer.specs.declared.kinds.TokenKind.TheVariants as kinds
 use Rattle.ada_lexer.specs.Bytes.{is_letter, is_digit, begins, every}
@@ -19,13 +19,12 @@ use Rattle.ada_tree.specs.Same.{SameName, SameWord}
 use Rattle.ada_tree.specs.declared.naming.NameId.{NameId}
 use Rattle.ada_tree.specs.declared.naming.Word.{Word}
 use Rattle.ada_expr_parser.specs.declared.items.ItemKind.TheVariants as item
-use Rattle.ada_expr_parser.specs.declared.items.Item.{Item}
 use Rattle.ada_expr_parser.specs.Grammar.{number_item}
 use Rattle.ada_parser.specs.Spelling.{Named, Duration, StringAt}
 use Rattle.ded_io.specs.Written.{◌⧺◌, each_text}
-use Rattle.ada_printer.specs.Layout.{digit, decimals, duration_text, character_text, string_text, name_text, word_text}
-use Rattle.read_back.proofs.Classes.{Class, Anything, Plain, WordEnd, Stop, Next}
-use Rattle.read_back.proofs.Literals.{IsSpelling, IsNumber, IsContent, decimal_spells, integer_is, duration_from, no_content, content_mark, content_other, string_is}
+use Rattle.ada_printer.specs.Layout.{decimals, duration_text, character_text, string_text, name_text, word_text}
+use Rattle.read_back.proofs.Classes.{Anything, Plain, WordEnd, Stop, Next}
+use Rattle.read_back.proofs.Literals.{IsNumber, IsContent, decimal_spells, integer_is, duration_from, no_content, content_mark, content_other, string_is}
 use Rattle.read_back.proofs.Identifiers.{IsName, identifier_is}
 use Rattle.read_back.proofs.Told.{Setting, names_of, source_of, Told, span_at, word_at, told_as, told_same, told_token, told_name}
 
