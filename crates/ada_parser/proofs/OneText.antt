@@ -6,11 +6,9 @@ use Rattle.std.proofs.lemmas.Slice.Eq.{bytes_eq-Decides}
 use Rattle.ada_lexer.specs.declared.kinds.Token.{Token}
 use Rattle.ada_lexer.specs.declared.kinds.TokenKind.{TokenKind}
 use Rattle.ada_lexer.specs.declared.kinds.TokenKind.TheVariants as kinds
-use Rattle.ada_lexer.specs.Split.{Splits}
 use Rattle.ada_lexer.proofs.Unique.{splits-unique}
 use Rattle.ada_tree.specs.NameList.{predefined, interned}
 use Rattle.ada_tree.proofs.Interning.{AreNames-predefined}
-use Rattle.ada_tree.specs.declared.naming.NameId.{NameId}
 use Rattle.ada_expr_parser.specs.declared.symbols.Symbol.{Symbol}
 use Rattle.ada_expr_parser.specs.declared.symbols.Symbol.TheVariants as key
 use Rattle.ada_expr_parser.specs.declared.items.ItemKind.{ItemKind}
@@ -19,7 +17,9 @@ use Rattle.ada_expr_parser.specs.declared.items.Item.{Item}
 use Rattle.ada_expr_parser.specs.Items.{kind_of, Stands, name_text, Says, IsItemOf, end_of, AreItems, interned_if, with_token, names_after}
 use Rattle.ada_tree.specs.PlainProgram.{PProgram}
 use Rattle.ada_parser.specs.Spelling.{Source}
-use Rattle.ada_parser.specs.Reads.{HasItems, Reads}
+use Rattle.ada_parser.specs.Units.{PUnit, Units}
+use Rattle.ada_parser.specs.Reads.{deepest, unit_of, HasItems, Reads}
+use Rattle.lawful_reader.proofs.Basics.{same_last}
 
 -- what a token that is no name says
 abbrev said : TokenKind → ItemKind
@@ -233,3 +233,18 @@ read_names bytes p q one two = ap (λ source. source.names) (names_one bytes _ _
 -- and are spelled by the same items
 pub read_items : (bytes : List ℕ) (p q : PProgram) (one : Reads bytes p) (two : Reads bytes q) → one.items ≡ two.items
 read_items bytes p q one two = items_are_one bytes _ _ one.items two.items one.are_items two.are_items
+
+-- each text of a unit has one tree
+abbrev pub UnitsHaveOneTree : Type 0
+UnitsHaveOneTree = (source : Source) (d : ℕ) (a b : PUnit) (text : List Item) → Units source d a text → Units source d b text → a ≡ b
+
+-- then a text is read as one program alone
+pub read_one : UnitsHaveOneTree → (bytes : List ℕ) (p q : PProgram) → Reads bytes p → Reads bytes q → p ≡ q
+read_one one_tree bytes p q one two =
+    let (front, x, is, ends, spelled) = one.spelled in
+    let (other, y, that, ends', spelled') = two.spelled in
+    let names = read_names bytes p q one two in
+    let (same, last) = same_last other front y x (sym that ∙ sym (read_items bytes p q one two) ∙ is) in
+    let here = subst (Units record { bytes = bytes; names = p.names } deepest (unit_of q)) same (subst (λ n. Units record { bytes = bytes; names = n } deepest (unit_of q) other) (sym names) spelled') in
+    let unit = one_tree record { bytes = bytes; names = p.names } deepest (unit_of p) (unit_of q) front spelled here in
+    ap₂ (λ n (u : PUnit). record { names = n; text_io = u.text_io; name = u.name; decls = u.decls; body = u.body }) names unit

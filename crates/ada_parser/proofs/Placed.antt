@@ -20,11 +20,11 @@ use Rattle.ada_parser.specs.Spelling.{Source, Spelling, ◌▷◌, IfThere, Wher
 use Rattle.ada_expr_parser.specs.declared.levels.Level.{Level}
 use Rattle.ada_expr_parser.specs.declared.levels.Level.TheVariants.{Logical}
 use Rattle.ada_expr_parser.specs.Trees.{levels}
-use Rattle.ada_expr_parser.specs.Grammar.{Spells, IsExpr, IsBounds, IsRangeOf, IsSubind, IsDrange, IsEnclosed, IsIndex, IsTarget, IsCallee, AreMore, AreEnclosed, IsSecondList, AreArgs, IsCall, IsChoiceOf, IsChoice}
-use Rattle.ada_parser.specs.Phrases.{Names, Expression, Operand, IsFormal, Formals, Index, AcceptHead, Guard, IsPart, PutText, Choice, WhenChoices, WhenRaised, Drange, IsScheme, LoopName, DelayOf}
+use Rattle.ada_expr_parser.specs.Grammar.{Spells, IsExpr, IsBounds, IsRangeOf, IsSubind, IsIndex, AreMore, AreEnclosed, IsSecondList, AreArgs, IsChoiceOf}
+use Rattle.ada_parser.specs.Phrases.{Names, Expression, Operand, IsFormal, Formals, AcceptHead, Guard, IsPart, PutText, Choice, WhenChoices, WhenRaised, Drange, IsScheme, LoopName, DelayOf}
 use Rattle.ada_parser.specs.Statements.{Target, Callee, Call, IsStmt, AnyStmts, Stmts, ElsePart, OthersPart, IsAccept, IsAlt, IsAltKind, IsAlts, MoreAlts, IsArm, IsArms, MoreArms, IsCaseArm, IsCaseArms, IsBody, HandlerPart, MoreHandlers, IsHandler}
-use Rattle.ada_parser.specs.Tasks.{IsPriority, IsEntry, Member, MEntry, MPriority, entries_in, priorities_in, IsMember, AreMembersOf, TaskRest, IsTask}
-use Rattle.ada_parser.specs.Declarations.{Subind, ArrayOf, IsShape, IsList, IsInit, IsObject, IsDecl, Decls, UnitEnd}
+use Rattle.ada_parser.specs.Tasks.{IsPriority, IsEntry, Member, MEntry, MPriority, entries_in, priorities_in, IsMember, TaskRest, IsTask}
+use Rattle.ada_parser.specs.Declarations.{Subind, ArrayOf, IsShape, IsList, IsInit, IsObject, IsDecl, Decls}
 use Rattle.ada_parser.specs.Units.{IsUnit}
 use Rattle.ada_parser.specs.Reads.{unit_of}
 
@@ -140,8 +140,7 @@ module _ (rules : Rules) (source : Source) (suits : Suits rules) where
       let f = subst Fit is fit in
       (nests k (levels e + 1) low, suits.unary op e fits, expr_placed e (k + 1) (omega (arith, low)) part f.1 spells)
   expr_placed (EBinary op l r s) k low text fit (front, sign, back, left, operator, right, fits, is, place) =
-      let (before, f) = fit_parts front (sign ++ back) (subst Fit is fit) in
-      (
+      let (before, f) = fit_parts front (sign ++ back) (subst Fit is fit) in (
         nests k (max (levels l) (levels r) + 1) low,
         suits.binary op l r fits,
         expr_placed l (k + 1) (omega (arith, low)) front before left,
@@ -201,8 +200,7 @@ module _ (rules : Rules) (source : Source) (suits : Suits rules) where
   pub enclosed_placed : (es : List PExpr) (k d : ℕ) → k + d ≤ 301 → Draws (AreEnclosed d es) (EveryExprs rules k es)
   enclosed_placed [] k d low text fit is = absurd is
   enclosed_placed (e ∷ es) k d low text fit (lead, front, back, close, spells, nested, others, is) =
-      let (before, f) = fit_parts front _ (subst Fit is fit).1 in
-      (
+      let (before, f) = fit_parts front _ (subst Fit is fit).1 in (
         suits.parts 1 (length (e ∷ es)) (omega arith),
         All-cons (EveryExpr rules k) e es (expr_placed e k (omega (arith, low, nested)) front before spells) (more_placed es k d low back (fit_parts back _ f).0 others),
       )
@@ -299,14 +297,14 @@ module _ (rules : Rules) (source : Source) (suits : Suits rules) where
         (nests k d low, some, all, rest)
     stmt_placed (SConditional c l o s) k d low text fit is =
         let (nest, (call, (then, rest))) =
-          at_place s (behind (only (inside k d low (λ i deep. also (nests (k + 1) i deep) (both (call_placed c (k + 2) i (omega (arith, deep))) (behind (both (any_placed l (k + 1) i deep) (behind (some_placed o (k + 1) i deep)))))))))
-          text fit is
+        at_place s (behind (only (inside k d low (λ i deep. also (nests (k + 1) i deep) (both (call_placed c (k + 2) i (omega (arith, deep))) (behind (both (any_placed l (k + 1) i deep) (behind (some_placed o (k + 1) i deep)))))))))
+        text fit is
         in
         (nests k d low, nest, call, then, rest)
     stmt_placed (STimed c l n m s) k d low text fit is =
         let (nest, (call, (then, (time, rest)))) =
-          at_place s (behind (only (inside k d low (λ i deep. also (nests (k + 1) i deep) (both (call_placed c (k + 2) i (omega (arith, deep))) (behind (both (any_placed l (k + 1) i deep) (behind (both (delay_placed n) (any_placed m (k + 1) i deep)))))))))) 
-          text fit is
+        at_place s (behind (only (inside k d low (λ i deep. also (nests (k + 1) i deep) (both (call_placed c (k + 2) i (omega (arith, deep))) (behind (both (any_placed l (k + 1) i deep) (behind (both (delay_placed n) (any_placed m (k + 1) i deep))))))))))
+        text fit is
         in
         (nests k d low, nest, call, then, time, rest)
     stmt_placed (SPut parts s) k d low text fit is = (nests k d low, at_place s (behind (only (put_placed parts k d low))) text fit is)
@@ -318,13 +316,13 @@ module _ (rules : Rules) (source : Source) (suits : Suits rules) where
         (nests k d low, some, all, rest)
     stmt_placed (SCase e arms o s) k d low text fit is =
         let (value, (all, rest)) =
-          at_place s (behind (only (inside k d low (λ i deep. both (expression_placed e (k + 1) i deep) (behind (both (case_arms_placed arms (k + 1) i deep) (others_placed o (k + 1) i deep))))))) text fit is
+        at_place s (behind (only (inside k d low (λ i deep. both (expression_placed e (k + 1) i deep) (behind (both (case_arms_placed arms (k + 1) i deep) (others_placed o (k + 1) i deep))))))) text fit is
         in
         (nests k d low, value, all, rest)
     stmt_placed (SBlock b s) k d low text fit is = (nests k d low, at_place s (only (inside k d low (body_placed b (k + 1)))) text fit is)
     stmt_placed (SLoop w c l s) k d low text fit is =
         let (name, (scheme, all)) =
-          at_place s (both (loop_name_placed w) (only (inside k d low (λ i deep. both (there (λ x. scheme_placed x (k + 1) i deep) c) (behind (some_placed l (k + 1) i deep)))))) text fit is
+        at_place s (both (loop_name_placed w) (only (inside k d low (λ i deep. both (there (λ x. scheme_placed x (k + 1) i deep) c) (behind (some_placed l (k + 1) i deep)))))) text fit is
         in
         (nests k d low, name, scheme, all)
 
@@ -445,8 +443,7 @@ module _ (rules : Rules) (source : Source) (suits : Suits rules) where
 
   task_placed : (t : PTask) (d : ℕ) → 2 + d ≤ 300 → Draws (IsTask source d t) (EveryTask rules t)
   task_placed t d low text fit (members, are, is) =
-      let (name, (entries, priorities)) = behind (both (named t.name) (rest_placed t.name members d low)) text fit is in
-      (
+      let (name, (entries, priorities)) = behind (both (named t.name) (rest_placed t.name members d low)) text fit is in (
         name,
         subst (All (EveryEntry rules)) (sym are.entries) entries,
         subst (All (EveryPriority rules)) (sym are.priorities) priorities,

@@ -1,10 +1,8 @@
 -- A program that is read is well placed: its items are those of tokens, and what the grammar spells of such items keeps the nine conditions.
-use Rattle.std.proofs.Common.{◌≡◌, ℕ, ◌≤◌, true, List, [], ◌∷◌, ◌++◌, All, Some, IsSomeAnd, slice_get, slice_range, drop, sym, ap, ap₂, ◌∙◌, subst, refl, arith}
+use Rattle.std.proofs.Common.{◌≡◌, ℕ, true, List, [], ◌∷◌, ◌++◌, IsSomeAnd, slice_range, drop, sym, ap₂, subst, arith}
 use Rattle.std.specs.List.{AllZip, AllByRecursion}
 use Rattle.std.proofs.lemmas.List.Elements.{recursion_from_All}
 use Rattle.ada_lexer.specs.declared.kinds.Token.{Token}
-use Rattle.ada_lexer.specs.declared.kinds.TokenKind.{TokenKind}
-use Rattle.ada_lexer.specs.declared.kinds.TokenKind.TheVariants as kinds
 use Rattle.ada_lexer.specs.Strings.{content}
 use Rattle.ada_lexer.specs.Split.{IsTokenOf}
 use Rattle.ada_lexer.proofs.Slices.{splits-slices}
@@ -19,7 +17,7 @@ use Rattle.ada_expr_parser.specs.Items.{Says, IsItemOf, end_of}
 use Rattle.ada_parser.specs.Spelling.{Source}
 use Rattle.ada_parser.specs.Reads.{deepest, HasItems, Reads}
 use Rattle.ada_parser.proofs.PlacedTokens.{Holds, token_holds}
-use Rattle.ada_parser.proofs.Placed.{Suits, KindFits, IsFit, AreFit, fit_parts, unit_placed}
+use Rattle.ada_parser.proofs.Placed.{Suits, KindFits, AreFit, fit_parts, unit_placed}
 
 -- the conditions on shapes are those of the grammar
 suits : (names : List (List ℕ)) → Suits (well_placed names)

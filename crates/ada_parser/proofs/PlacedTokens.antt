@@ -1,5 +1,5 @@
 -- What a token of each kind is in the words of the tree: an identifier, a number within its limit, the content of a string.
-use Rattle.std.proofs.Common.{◌≡◌, ℕ, suc, ◌+◌, ◌<◌, ◌≤◌, Bool, true, false, cond, List, [], ◌∷◌, length, map, take, drop, All, Option, Some, None, option_map, position, refl, sym, ap, ap₂, ◌∙◌, subst, arith, inl, inr, true≢false, not, ◌&&◌, ◌||◌, ◌==◌, nat_le, nat_lt, is_some, IsTrue}
+use Rattle.std.proofs.Common.{◌≡◌, ℕ, suc, ◌+◌, ◌≤◌, Bool, true, false, cond, List, [], ◌∷◌, length, map, take, drop, All, Option, Some, None, option_map, position, refl, sym, ap, ap₂, ◌∙◌, subst, arith, inl, inr, true≢false, not, ◌&&◌, ◌||◌, ◌==◌, nat_le, nat_lt, is_some}
 use Rattle.std.specs.Char.{to_ascii_uppercase}
 use Rattle.std.specs.List.{list_any, list_all, prefix_len}
 use Rattle.std.specs.Str.{bytes_eq}
@@ -19,7 +19,7 @@ use Rattle.ada_lexer.specs.Numbers.{max_integer, max_thousandths, is_numeral, de
 use Rattle.ada_lexer.specs.Strings.{inside_after, ends_inside, content}
 use Rattle.ada_lexer.specs.Pieces.{word_goes_on, opens_comment, is_piece}
 use Rattle.ada_lexer.specs.Verdicts.{max_name, max_content, token_or, text_or_bad_byte, word_verdict, number_verdict, string_verdict, mark_verdict, verdict, IsToken}
-use Rattle.ada_tree.specs.Lexical.{reserved, is_upper_letter, is_digit, goes_on, is_word, IsIdentifier, IsInteger, IsDuration, IsStringContent}
+use Rattle.ada_tree.specs.Lexical.{reserved, is_upper_letter, is_digit, goes_on, IsIdentifier, IsInteger, IsDuration, IsStringContent}
 
 -- what is true of a text that is a token of this kind
 abbrev pub Holds : List ℕ → TokenKind → Type 0
@@ -222,21 +222,21 @@ no_reserved text none = by (list_any (bytes_eq (map to_ascii_uppercase text)) re
     by : (b : Bool) → list_any (bytes_eq (map to_ascii_uppercase text)) reserved ≡ b → not b ≡ true
     by false e = refl
     by true e = absurd (true≢false (
-      sym (among is_reserved (map to_ascii_uppercase text) reserved all_reserved e) ∙ ap (λ t. is_some (kind_in reserved_words t)) (lower_uppers text) ∙
-      ap (λ (o : Option TokenKind). is_some o) none
-    ))
+        sym (among is_reserved (map to_ascii_uppercase text) reserved all_reserved e) ∙ ap (λ t. is_some (kind_in reserved_words t)) (lower_uppers text) ∙
+        ap (λ (o : Option TokenKind). is_some o) none
+        ))
 
 word_holds : (b : ℕ) (rest : List ℕ) (k : TokenKind) → lex.is_letter b ≡ true → lex.every word_goes_on rest ≡ true → word_verdict 0 (b ∷ rest) ≡ Kind k → Holds (b ∷ rest) k
 unfolding word_verdict
 word_holds b rest k letter goes e =
     found (cond (nat_le (length (b ∷ rest)) max_name) (Kind kinds.Name) (Fault (fault.TooLong 0))) (reserved_kind (b ∷ rest)) k (Holds (b ∷ rest) k) e
     (λ named none. (
-      let (short, is) = pick (nat_le (length (b ∷ rest)) max_name) named in
-      subst (Holds (b ∷ rest)) is (
-        and_from _ _ (upper_letter b letter) (goes_on_upper rest goes).0,
-        (let low = leb-true (length (b ∷ rest)) max_name short in let same = length-map (b ∷ rest) to_ascii_uppercase in omega (arith, low, same)),
-        no_reserved (b ∷ rest) none,
-      )
+    let (short, is) = pick (nat_le (length (b ∷ rest)) max_name) named in
+    subst (Holds (b ∷ rest)) is (
+      and_from _ _ (upper_letter b letter) (goes_on_upper rest goes).0,
+      (let low = leb-true (length (b ∷ rest)) max_name short in let same = length-map (b ∷ rest) to_ascii_uppercase in omega (arith, low, same)),
+      no_reserved (b ∷ rest) none,
+    )
     ))
     (λ is. plain_holds (b ∷ rest) k (reserved_plain (b ∷ rest) k is))
   where
