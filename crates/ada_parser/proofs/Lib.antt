@@ -7,3 +7,7 @@ pub mod KitReading
 pub mod KitDeeper
 pub mod KitLeading
 pub mod KitWhens
+pub mod Placed
+pub mod PlacedTokens
+pub mod PlacedItems
+pub mod OneText
