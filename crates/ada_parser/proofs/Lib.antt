@@ -7,6 +7,9 @@ pub mod KitReading
 pub mod KitDeeper
 pub mod KitLeading
 pub mod KitWhens
+pub mod StmtLevels
+pub mod StmtSimple
+pub mod StmtIf
 pub mod Placed
 pub mod PlacedTokens
 pub mod PlacedItems
