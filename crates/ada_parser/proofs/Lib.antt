@@ -1,3 +1,5 @@
 pub mod Faults
+pub mod WordLaw
+mod Restricting
 mod ReadingExamples
 mod TextExamples
