@@ -1,3 +1,6 @@
 pub mod Faults
+pub mod Continuing
+pub mod Narrowing
+pub mod Rows
 mod ReadingExamples
 mod TextExamples

@@ -7,3 +7,6 @@ pub mod Units
 pub mod Reads
 pub mod Reading
 pub mod ReadingStatements
+pub mod ReadingRows
+pub mod ReadingDeclarations
+pub mod ReadingUnits
