@@ -3,4 +3,5 @@ pub mod Continuing
 pub mod Narrowing
 pub mod Rows
 mod ReadingExamples
+mod DeclExamples
 mod TextExamples

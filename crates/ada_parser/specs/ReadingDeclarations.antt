@@ -36,14 +36,14 @@ predefined_then t next = bind (token (predefined_word t)) (λ w. next)
 
 -- ---- shapes and initial values
 
--- behind `array`: `( drange ) of subind` (3.6)
-abbrev pub array_rest : {A : Type 0} → ℕ → (PDrange → PSubind → A) → Reader Item A
-array_rest d tree =
-    key_then key.LeftParen (bind (drange d) (λ r. key_then key.RightParen (key_then key.Of (bind (subind d) (λ x. pure (tree r x))))))
+-- behind `array`: `( drange ) of subind`, and what follows it (3.6)
+abbrev pub array_then : {A : Type 0} → ℕ → (PDrange → PSubind → Reader Item A) → Reader Item A
+array_then d next =
+    key_then key.LeftParen (bind (drange d) (λ r. key_then key.RightParen (key_then key.Of (bind (subind d) (λ x. next r x)))))
 
 -- `subind | array ( drange ) of subind` (3.2)
 abbrev pub shape : ℕ → Reader Item PShape
-shape d = on (symbol key.Array) (λ at. array_rest d ORow) (bind (subind d) (λ x. pure (OPlain x)))
+shape d = on (symbol key.Array) (λ at. array_then d (λ r x. pure (ORow r x))) (bind (subind d) (λ x. pure (OPlain x)))
 
 -- behind `( expr` and what was no comma: the parentheses stand for one level, and the expression may go on behind them
 abbrev pub parens_rest : ℕ → Span → PExpr → Reader Item PInit
@@ -112,7 +112,7 @@ object d = bind (token word) (names_behind (object_rest d))
 abbrev pub type_rest : ℕ → Span → Word → Reader Item PDecl
 type_rest d lead w =
     on (symbol key.LeftParen) (λ at. bind (separated key.Comma (token word)) (λ ws. key_then key.RightParen (closed (λ close. DEnumeration w ws (from_to lead close)))))
-    (on (symbol key.Array) (λ at. bind (array_rest d (λ r x. (r, x))) (λ row. closed (λ close. DArray w row.0 row.1 (from_to lead close)))) refuse)
+    (on (symbol key.Array) (λ at. array_then d (λ r x. closed (λ close. DArray w r x (from_to lead close)))) refuse)
 
 -- behind `subtype NAME is` (3.3.2)
 abbrev pub subtype_rest : ℕ → Span → Word → Reader Item PDecl
