@@ -10,3 +10,4 @@ pub mod ReadingStatements
 pub mod ReadingRows
 pub mod ReadingDeclarations
 pub mod ReadingUnits
+pub mod Laws
