@@ -1,243 +1,97 @@
--- What goes on behind a name in an expression, and behind a primary that may fill the depth (4.1, 4.4).
-use Rattle.std.proofs.Common.{◌≡◌, ℕ, zero, suc, ◌+◌, ◌≤◌, ◌<◌, max, Bool, true, false, true≢false, ◌||◌, ◌⊎◌, inl, inr, ⊎_elim, List, [], ◌∷◌, ◌++◌, Option, Some, None, refl, sym, ap, ◌∙◌, subst, arith}
-use Rattle.std.specs.Prelude.{is_some}
-use Rattle.std.proofs.lemmas.List.{append-nil, append_cancel_left}
-use Rattle.ada_tree.specs.declared.naming.Span.{Span}
-use Rattle.ada_tree.specs.declared.naming.Word.{Word}
-use Rattle.ada_tree.specs.declared.expressions.BinaryOp.{BinaryOp}
-use Rattle.ada_tree.specs.declared.expressions.BinaryOp.TheVariants.{And, Or, Xor, AndThen, OrElse, Equal, NotEqual, Less, LessEqual, Greater, GreaterEqual, Plus, Minus, Times, Divide, Mod, Rem}
-use Rattle.ada_tree.specs.PlainExpr.{PExpr, EInteger, EName, EIndex, EAttribute, EAttributeOf, EParen, EUnary, EBinary}
-use Rattle.ada_tree.specs.WellPlaced.{level, primary, binary_level}
-use Rattle.ada_expr_parser.specs.declared.symbols.Symbol.TheVariants as key
-use Rattle.ada_expr_parser.specs.declared.items.Item.{Item}
-use Rattle.ada_expr_parser.specs.declared.levels.Level.{Level}
-use Rattle.ada_expr_parser.specs.declared.levels.Level.TheVariants.{Logical, Relation, Simple, Term, Factor}
-use Rattle.ada_expr_parser.specs.Tests.{same, symbol, word, number, operator_in}
-use Rattle.ada_expr_parser.specs.Trees.{levels, last_operator, joined}
-use Rattle.ada_expr_parser.specs.Reading.{inner, operators, name_rest}
-use Rattle.ada_expr_parser.specs.Parts.{expr_behind}
-use Rattle.ada_expr_parser.specs.Grammar.{word_item, number_item, symbol_item, infix_symbol, Spells, rank, IsExpr}
-use Rattle.lawful_reader.specs.Readers.{Answer, Found, Fault, Reader, bind, go_on, chain_in, chain_more}
-use Rattle.lawful_reader.specs.Grammars.{Texts, Then, Up_to, Starts, first_of}
+-- The law of a reader that goes on where some tokens have been read: what they begin is read by it as if they stood before.
+use Rattle.std.proofs.Common.{◌≡◌, ℕ, ◌≤◌, Bool, true, ◌⊎◌, inl, inr, ⊎_elim, List, [], ◌∷◌, ◌++◌, refl, sym, ap, ◌∙◌, subst}
+use Rattle.std.proofs.Math.Nat.{le_refl}
+use Rattle.std.proofs.lemmas.List.{append_assoc, append_cancel_right}
+use Rattle.lawful_reader.specs.Readers.{Answer, Found, Fault, Reader}
+use Rattle.lawful_reader.specs.Grammars.{Texts, Begins, first_of}
 use Rattle.lawful_reader.specs.Lawful.{Careful, Lawful}
-use Rattle.lawful_reader.proofs.Binding.{careful_bind}
-use Rattle.lawful_reader.proofs.Fitting.{first_append, law_fit}
-use Rattle.lawful_reader.proofs.Looking.{decided}
-use Rattle.lawful_reader.proofs.Turning.{chain_deep, chain_end}
-use Rattle.ada_expr_laws.specs.Stopping.{Ends, EndsPrimary}
-use Rattle.ada_expr_laws.specs.Laws.{first_operand}
-use Rattle.ada_expr_laws.proofs.Tokens.{none_is, some_is}
-use Rattle.ada_expr_laws.proofs.Chains.{binary_low, lawful_operators}
-use Rattle.ada_expr_laws.proofs.Primaries.{no_place, NameRest, law_name, name_spell, spell_primary}
-use Rattle.ada_expr_laws.proofs.Behinds.{Behind, BehindAt, first_itself, law_inner, law_levels, behind_spells, spells_behind}
-use Rattle.ada_parser.specs.Reading.{expression_from}
+use Rattle.lawful_reader.proofs.Basics.{not_both, found_rest, not_empty}
 
--- ---- items that begin an operator
+abbrev tail_of : {K : Type 0} → List K → List K
+tail_of [] = []
+tail_of (x ∷ list) = list
 
-abbrev begins_at : Level → Item → Bool
-begins_at l x = is_some (operator_in l None x.kind)
+-- of two fronts of one list the one begins with the other
+pub two_fronts : {K : Type 0} (f g r t : List K) → f ++ r ≡ g ++ t →
+    ((m : List K) × (g ≡ f ++ m) × (r ≡ m ++ t)) ⊎ ((y : K) × (m : List K) × (f ≡ g ++ (y ∷ m)) × (t ≡ y ∷ (m ++ r)))
+two_fronts [] g r t e = inl (g, refl, e)
+two_fronts (y ∷ f) [] r t e = inr (y, f, refl, sym e)
+two_fronts (y ∷ f) (z ∷ g) r t e = ⊎_elim
+    (λ (m, is, rest). inl (m, ap (λ l. z ∷ l) is ∙ ap (λ k. k ∷ (f ++ m)) (sym (ap (first_of y) e)), rest))
+    (λ (x, m, is, rest). inr (x, m, ap (λ l. y ∷ l) is ∙ ap (λ k. k ∷ (g ++ (x ∷ m))) (ap (first_of y) e), rest))
+    (two_fronts f g r t (ap tail_of e))
 
-abbrev pub operates : Item → Bool
-operates x = begins_at Term x || (begins_at Simple x || (begins_at Relation x || begins_at Logical x))
+-- the texts that go on so
+abbrev pub Onward : {K A : Type 0} → List K → Texts K A → Texts K A
+Onward before D d a text = D d a (before ++ text)
 
-or_none : (a b : Bool) → (a || b) ≡ false → (a ≡ false) × (b ≡ false)
-or_none true b e = absurd (true≢false e)
-or_none false b e = (refl, e)
+module _ {K A : Type 0} (before : List K) {d : ℕ} {p p' q q' : Reader K A} {D : Texts K A} {S : K → Type 0} (law : Lawful d p p' D S)
+    (same : (ts : List K) → q ts ≡ p (before ++ ts)) (same' : (ts : List K) → q' ts ≡ p' (before ++ ts)) (s : K) (stop : S s) (some : Begins (D d) before) where
+  -- nothing ends within the tokens that have been read, since a text goes on behind them
+  no_end : (front : List K) (y : K) (m ts : List K) (a : A) → before ≡ front ++ (y ∷ m) → p (front ++ (y ∷ (m ++ ts))) ≡ Found a (y ∷ (m ++ ts)) → ⊥
+  no_end front y m ts a is e =
+      let (b, more, text) = some in
+      let there : p ((before ++ more) ++ (s ∷ [])) ≡ Found b (s ∷ []) = law.careful.complete s [] text stop in
+      let here : p (front ++ (y ∷ (m ++ (more ++ (s ∷ []))))) ≡ Found a (y ∷ (m ++ (more ++ (s ∷ [])))) = law.careful.found_alike front (m ++ (more ++ (s ∷ []))) e in
+      let split : (before ++ more) ++ (s ∷ []) ≡ front ++ (y ∷ (m ++ (more ++ (s ∷ [])))) =
+      append_assoc before more (s ∷ []) ∙ ap (λ l. l ++ (more ++ (s ∷ []))) is ∙ append_assoc front (y ∷ m) (more ++ (s ∷ [])) in
+      let rests : s ∷ [] ≡ y ∷ (m ++ (more ++ (s ∷ []))) = found_rest (sym there ∙ ap p split ∙ here) in
+      not_empty (m ++ more) s [] (ap tail_of rests ∙ sym (append_assoc m more (s ∷ [])))
 
-or_some : (a b : Bool) → (a || b) ≡ true → (a ≡ true) ⊎ ((a ≡ false) × (b ≡ true))
-or_some true b e = inl refl
-or_some false b e = inr (refl, e)
+  no_fault : (front : List K) (y : K) (m ts : List K) (deep : Bool) → before ≡ front ++ (y ∷ m) → p (front ++ (y ∷ (m ++ ts))) ≡ Fault deep (y ∷ (m ++ ts)) → ⊥
+  no_fault front y m ts deep is e =
+      let (b, more, text) = some in
+      let there : p ((before ++ more) ++ (s ∷ [])) ≡ Found b (s ∷ []) = law.careful.complete s [] text stop in
+      let here : p (front ++ (y ∷ (m ++ (more ++ (s ∷ []))))) ≡ Fault deep (y ∷ (m ++ (more ++ (s ∷ [])))) = law.careful.fault_alike front (m ++ (more ++ (s ∷ []))) e in
+      let split : (before ++ more) ++ (s ∷ []) ≡ front ++ (y ∷ (m ++ (more ++ (s ∷ [])))) =
+      append_assoc before more (s ∷ []) ∙ ap (λ l. l ++ (more ++ (s ∷ []))) is ∙ append_assoc front (y ∷ m) (more ++ (s ∷ [])) in
+      not_both (sym there ∙ ap p split ∙ here)
 
--- of which level the operator is
-operates_at : (k : Item) → operates k ≡ true → (l : Level) × (begins_at l k ≡ true)
-operates_at k is = ⊎_elim
-    (λ yes_is. (Term, yes_is))
-    (λ (no_is, more). ⊎_elim
-    (λ yes_is. (Simple, yes_is))
-    (λ (no_is, more). ⊎_elim (λ yes_is. (Relation, yes_is)) (λ (no_is, yes_is). (Logical, yes_is)) (or_some (begins_at Relation k) (begins_at Logical k) more))
-    (or_some (begins_at Simple k) (begins_at Relation k || begins_at Logical k) more))
-    (or_some (begins_at Term k) (begins_at Simple k || (begins_at Relation k || begins_at Logical k)) is)
+  found_behind : {ts : List K} {a : A} {rest : List K} → p (before ++ ts) ≡ Found a rest → (f : List K) × (ts ≡ f ++ rest) × D d a (before ++ f)
+  found_behind {ts} {a} {rest} e =
+      let (front, is, text) = law.careful.sound e in
+      ⊎_elim
+      (λ (f, from, split). (f, split, subst (D d a) from text))
+      (λ (y, m, from, split). absurd (no_end front y m ts a from
+      (ap p (sym (append_assoc front (y ∷ m) ts) ∙ ap (λ l. l ++ ts) (sym from)) ∙ e ∙ ap (Found a) split)))
+      (two_fronts before front ts rest is)
 
--- ---- behind a primary, by the next item
+  fault_behind : {ts : List K} {deep : Bool} {rest : List K} → p (before ++ ts) ≡ Fault deep rest → (f : List K) × (ts ≡ f ++ rest) × ((f ≡ []) ⊎ Begins (D d) (before ++ f))
+  fault_behind {ts} {deep} {rest} e =
+      let (front, is, begun) = law.careful.viable e in
+      ⊎_elim
+      (λ (f, from, split). (f, split, ⊎_elim (λ none. inl (empty_end before f (sym from ∙ none))) (λ b. inr (subst (Begins (D d)) from b)) begun))
+      (λ (y, m, from, split). absurd (no_fault front y m ts deep from
+      (ap p (sym (append_assoc front (y ∷ m) ts) ∙ ap (λ l. l ++ ts) (sym from)) ∙ e ∙ ap (Fault deep) split)))
+      (two_fronts before front ts rest is) where
+        empty_end : (f g : List K) → f ++ g ≡ [] → g ≡ []
+        empty_end [] g none = none
+        empty_end (x ∷ f) g none = absurd (not_empty [] x (f ++ g) (sym none))
 
-module _ (p : PExpr) (alone : last_operator p ≡ None) (d : ℕ) where
-  goes : (l : Level) (k : Item) (b : Bool) → begins_at l k ≡ b → (operators l).goes_on p k ≡ b
-  goes l k b is = ap (λ m. is_some (operator_in l m k.kind)) alone ∙ is
+  begins_onward : (e : ℕ) (f : List K) → Begins (D e) (before ++ f) → Begins (Onward before D e) f
+  begins_onward e f (a, more, text) = (a, more, subst (D e a) (append_assoc before f more) text)
 
-  higher : (l : Level) (left : PExpr) (o : BinaryOp) (right : PExpr) → (operators l).height left < (operators l).height ((operators l).join left o right)
-  higher l left o right = omega arith
+  deeper_onward : {ts : List K} {x : K} {rest : List K} → p (before ++ ts) ≡ Fault true (x ∷ rest) → (f : List K) × (ts ≡ f ++ (x ∷ rest)) × (e : ℕ) × (d ≤ e) × Begins (Onward before D e) (f ++ (x ∷ []))
+  deeper_onward {ts} {x} {rest} e =
+      let (front, is, e', deep, begun) = law.careful.only_deeper e in
+      let (f, split, seen) = fault_behind e in
+      let same_front : front ≡ before ++ f = append_cancel_right front (before ++ f) (x ∷ rest) (sym is ∙ ap (λ l. before ++ l) split ∙ sym (append_assoc before f (x ∷ rest))) in
+      (f, split, e', deep, begins_onward e' (f ++ (x ∷ [])) (subst (Begins (D e')) (ap (λ l. l ++ (x ∷ [])) same_front ∙ append_assoc before f (x ∷ [])) begun))
 
-  abbrev after_relation : PExpr → Reader Item PExpr
-  after_relation r = chain_in (operators Logical) d (inner d Relation) d r
-
-  abbrev after_simple : PExpr → Reader Item PExpr
-  after_simple s = bind (chain_in (operators Relation) d (inner d Simple) d s) after_relation
-
-  abbrev after_term : PExpr → Reader Item PExpr
-  after_term t = bind (chain_in (operators Simple) d (inner d Term) d t) after_simple
-
-  ends_at : (l : Level) (operand : Reader Item PExpr) (k : Item) (ts : List Item) → begins_at l k ≡ false → chain_more (operators l) d operand p (k ∷ ts) ≡ Found p (k ∷ ts)
-  ends_at l operand k ts no_is = chain_end (operators l) (higher l) d operand p k ts (goes l k false no_is)
-
-  deep_at : (l : Level) (operand : Reader Item PExpr) (k : Item) (ts : List Item) → begins_at l k ≡ true → d ≤ levels p → chain_more (operators l) d operand p (k ∷ ts) ≡ Fault true (k ∷ ts)
-  deep_at l operand k ts yes_is full = chain_deep (operators l) (higher l) d operand p k ts (goes l k true yes_is) full
-
-  -- no operator: the primary alone
-  pub stays : (k : Item) (ts : List Item) → operates k ≡ false → expr_behind d p (k ∷ ts) ≡ Found p (k ∷ ts)
-  stays k ts none =
-      let (t, more) = or_none (begins_at Term k) (begins_at Simple k || (begins_at Relation k || begins_at Logical k)) none in
-      let (s, rest) = or_none (begins_at Simple k) (begins_at Relation k || begins_at Logical k) more in
-      let (r, l) = or_none (begins_at Relation k) (begins_at Logical k) rest in
-      ap (λ a. go_on a after_term) (ends_at Term (inner d Factor) k ts t) ∙ ap (λ a. go_on a after_simple) (ends_at Simple (inner d Term) k ts s) ∙
-      ap (λ a. go_on a after_relation) (ends_at Relation (inner d Simple) k ts r) ∙ ends_at Logical (inner d Relation) k ts l
-
-  -- an operator, where no level is left
-  pub is_full : (k : Item) (ts : List Item) → operates k ≡ true → d ≤ levels p → expr_behind d p (k ∷ ts) ≡ Fault true (k ∷ ts)
-  is_full k ts some full = ⊎_elim
-      (λ t. ap (λ a. go_on a after_term) (deep_at Term (inner d Factor) k ts t full))
-      (λ (t, more). ap (λ a. go_on a after_term) (ends_at Term (inner d Factor) k ts t) ∙ ⊎_elim
-      (λ s. ap (λ a. go_on a after_simple) (deep_at Simple (inner d Term) k ts s full))
-      (λ (s, rest). ap (λ a. go_on a after_simple) (ends_at Simple (inner d Term) k ts s) ∙ ⊎_elim
-      (λ r. ap (λ a. go_on a after_relation) (deep_at Relation (inner d Simple) k ts r full))
-      (λ (r, l). ap (λ a. go_on a after_relation) (ends_at Relation (inner d Simple) k ts r) ∙ deep_at Logical (inner d Relation) k ts l full)
-      (or_some (begins_at Relation k) (begins_at Logical k) rest))
-      (or_some (begins_at Simple k) (begins_at Relation k || begins_at Logical k) more))
-      (or_some (begins_at Term k) (begins_at Simple k || (begins_at Relation k || begins_at Logical k)) some)
-
--- some expression goes on with the operator, one level higher
-pub some_behind : (p : PExpr) → primary ≤ level p → last_operator p ≡ None → (k : Item) → operates k ≡ true →
-    (a : PExpr) × (more : List Item) × Behind p a (k ∷ more) × (levels a ≤ suc (levels p))
-some_behind p tight alone k is =
-    let (l, yes_is) = operates_at k is in
-    let (o, more, (spelled, same, follows)) = (lawful_operators l).some_operator p k (goes p alone 0 l k true yes_is) in
-    let low = binary_low o in (
-      joined p o (EInteger 0 no_place),
-      more ++ (number_item 0 no_place ∷ []),
-      ([], k ∷ more, number_item 0 no_place ∷ [], (first_itself p tight).0, spelled, refl, (inl (omega (arith, low, tight)), omega (arith, low)), refl, refl),
-      omega arith,
-    )
-
--- ---- the first item of what goes on
-
--- an operator is no parenthesis and no tick
-operator_apart : (op : BinaryOp) (at : Span) → EndsPrimary (symbol_item (infix_symbol op) at) × (symbol key.RightParen (symbol_item (infix_symbol op) at) ≡ None)
-unfolding same
-operator_apart And at = ((refl, refl), refl)
-operator_apart Or at = ((refl, refl), refl)
-operator_apart Xor at = ((refl, refl), refl)
-operator_apart AndThen at = ((refl, refl), refl)
-operator_apart OrElse at = ((refl, refl), refl)
-operator_apart Equal at = ((refl, refl), refl)
-operator_apart NotEqual at = ((refl, refl), refl)
-operator_apart Less at = ((refl, refl), refl)
-operator_apart LessEqual at = ((refl, refl), refl)
-operator_apart Greater at = ((refl, refl), refl)
-operator_apart GreaterEqual at = ((refl, refl), refl)
-operator_apart Plus at = ((refl, refl), refl)
-operator_apart Minus at = ((refl, refl), refl)
-operator_apart Times at = ((refl, refl), refl)
-operator_apart Divide at = ((refl, refl), refl)
-operator_apart Mod at = ((refl, refl), refl)
-operator_apart Rem at = ((refl, refl), refl)
-
-behind_starts : (R : Item → Type 0) → ((op : BinaryOp) (at : Span) → R (symbol_item (infix_symbol op) at)) → (p e : PExpr) (text : List Item) (x : Item) → Behind p e text → R x → R (first_of x text)
-behind_starts R each p (EBinary op l r s) text x (front, sign, back, left, (at, second, two, is), right, fits, from, place) stop =
-    rw from (rw (first_append x front (sign ++ back)) (behind_starts R each p l front (first_of x (sign ++ back)) left (rw is (each op at))))
-behind_starts R each p e text x (same, none) stop = rw none stop
-
--- what is there at all begins with an operator
-pub behind_apart : (p e : PExpr) (k : Item) (more : List Item) → Behind p e (k ∷ more) → EndsPrimary k × (symbol key.RightParen k ≡ None)
-behind_apart p e k more is = behind_starts (λ k. EndsPrimary k × (symbol key.RightParen k ≡ None)) operator_apart p e (k ∷ more) (symbol_item (infix_symbol Plus) no_place) is (operator_apart Plus no_place)
-
-abbrev IsEmpty : List Item → Type 0
-IsEmpty [] = Unit {0}
-IsEmpty (x ∷ list) = ⊥
-
-not_empty : (f : List Item) (x : Item) (rest : List Item) → [] ≡ f ++ (x ∷ rest) → ⊥
-not_empty [] x rest e = subst IsEmpty e tt
-not_empty (y ∷ f) x rest e = subst IsEmpty e tt
-
--- and nothing is the primary alone
-pub behind_nothing : (p e : PExpr) → Behind p e [] → e ≡ p
-behind_nothing p (EBinary op l r s) (front, sign, back, left, (at, second, two, is), right, fits, from, place) =
-    absurd (not_empty front (symbol_item (infix_symbol op) at) (second ++ back) (from ∙ ap (λ m. front ++ (m ++ back)) is))
-behind_nothing p e (same, none) = same
-
-pub behind_levels : (p e : PExpr) (text : List Item) → Behind p e text → levels p ≤ levels e
-behind_levels p (EBinary op l r s) text (front, sign, back, left, spelled, right, fits, from, place) = let low = behind_levels p l front left in omega (arith, low)
-behind_levels p e text (same, none) = let is = ap levels same in omega (arith, is)
-
--- ---- an expression that begins with a name
-
-abbrev pub FromTexts : Word → Texts Item PExpr
-FromTexts w d e text = IsExpr Logical d e (word_item w ∷ text)
-
-abbrev IsOperand : PExpr → Type 0
-IsOperand (EBinary op l r s) = ⊥
-IsOperand e = Unit {0}
-
-first_single : (e : PExpr) → IsOperand (first_operand e)
-first_single (EBinary op l r s) = first_single l
-first_single (EInteger n s) = tt
-first_single (EName a s) = tt
-first_single (EIndex w e s) = tt
-first_single (EAttribute m w s) = tt
-first_single (EAttributeOf m w e s) = tt
-first_single (EParen e s) = tt
-first_single (EUnary op e s) = tt
-
-first_levels : (e : PExpr) → levels (first_operand e) ≤ levels e
-first_levels (EBinary op l r s) = let low = first_levels l in omega (arith, low)
-first_levels e = omega arith
-
--- its first operand is a primary
-first_tight : (w : Word) (p : PExpr) (items rest text : List Item) → word_item w ∷ text ≡ items ++ rest → IsOperand p → Spells p items → primary ≤ level p
-first_tight w (EBinary op l r s) items rest text split single spelled = absurd single
-first_tight w (EUnary op e s) items rest text split single (part, at, spelled, fits, from, place) =
-    absurd (none_is (sym (ap word (ap (first_of (word_item w)) (split ∙ ap (λ l. l ++ rest) from)))))
-first_tight w p items rest text split single spelled = omega arith
-
--- the items of a primary that begin with the name
-named_first : (d : ℕ) (w : Word) (p : PExpr) (items rest text : List Item) → word_item w ∷ text ≡ items ++ rest → Spells p items → primary ≤ level p → levels p ≤ d →
-    (f : List Item) × (items ≡ word_item w ∷ f) × NameRest w d p f
-named_first d w p items rest text split spelled tight low = ⊎_elim
-    (λ (lead, one, back, from, (k, one_is, some), content).
-    absurd (none_is (ap (symbol key.LeftParen) (ap (first_of (word_item w)) (split ∙ ap (λ l. l ++ rest) (from ∙ ap (λ l. l ++ back) one_is))) ∙ some)))
-    (λ other. ⊎_elim
-    (λ (n, one, back, from, (k, one_is, some), content).
-    absurd (none_is (ap number (ap (first_of (word_item w)) (split ∙ ap (λ l. l ++ rest) (from ∙ ap (λ l. l ++ back) one_is))) ∙ some)))
-    (λ other. ⊎_elim
-    (λ (v, one, back, from, (k, one_is, some), content).
-    let head : word_item w ≡ k = ap (first_of (word_item w)) (split ∙ ap (λ l. l ++ rest) (from ∙ ap (λ l. l ++ back) one_is)) in
-    (back, from ∙ ap (λ l. l ++ back) one_is ∙ ap (λ t. t ∷ back) (sym head), subst (λ u. NameRest u d p back) (sym (some_is (ap word head ∙ some))) content))
-    (λ never. absurd never)
-    other)
-    other)
-    (spell_primary d p items ((spelled, tight), low))
-
-name_tight : (d : ℕ) (w : Word) (p : PExpr) (f : List Item) → NameRest w d p f → (primary ≤ level p) × (levels p ≤ d)
-name_tight d w p f is = let ((spells, tight), low) = name_spell d w p f is in (tight, low)
-
-from_spell : (d : ℕ) (w : Word) (e : PExpr) (text : List Item) → Then (NameRest w) (λ p. Up_to levels (BehindAt Logical p)) d e text → FromTexts w d e text
-from_spell d w e text (p, f, g, from, name, ((behind, high), low)) =
-    let ((spells, tight), fits) = name_spell d w p f name in
-    rw from (record { spells = behind_spells p e (word_item w ∷ f) g spells behind; fits = high; nested = low })
-
-pub spell_from : (d : ℕ) (w : Word) (e : PExpr) (text : List Item) → FromTexts w d e text → Then (NameRest w) (λ p. Up_to levels (BehindAt Logical p)) d e text
-spell_from d w e text is =
-    let (items, rest, split, first, behind) = spells_behind e (word_item w ∷ text) is.spells in
-    let tight = first_tight w (first_operand e) items rest text split (first_single e) first in
-    let up = first_levels e in
-    let nested = is.nested in
-    let (f, named, name) = named_first d w (first_operand e) items rest text split first tight (omega (arith, up, nested)) in
-    (first_operand e, f, rest, append_cancel_left (word_item w ∷ []) text (f ++ rest) (split ∙ ap (λ l. l ++ rest) named), name, ((behind, is.fits), nested))
-
-pub law_from : (d : ℕ) (w : Word) → Lawful d (expression_from d w) (expression_from (suc d) w) (FromTexts w) (Ends Logical)
-law_from d w = law_fit (λ e deep a text is. from_spell e w a text is) (λ a text is. spell_from d w a text is)
-    (record {
-      careful = careful_bind (law_name d (inner d) (inner (suc d)) (λ e is l. law_inner d e l is) w).careful
-          (λ p f name. let (tight, low) = name_tight d w p f name in (law_levels p tight d low).careful)
-          (λ e deep p f name. let (tight, low) = name_tight e w p f name in (p, [], (((first_itself p tight).0, omega (arith, tight)), low)))
-          (λ p f name. record { begins_with = λ a text x ((is, high), low) stop. behind_starts EndsPrimary (λ op at. (operator_apart op at).0) p a text x is stop.0.0.0.0 });
-      some_text = λ e deep. (EName w.name w.span, [], (EName w.name w.span, [], [], refl, inr (inr (refl, refl)), (((refl, refl), omega arith), omega arith)));
-    })
+  pub law_onward : Lawful d q q' (Onward before D) S
+  law_onward = record {
+    careful = record {
+      sound = λ {ts} e. found_behind (sym (same ts) ∙ e);
+      complete = λ {a} {front} x rest text stops. same (front ++ (x ∷ rest)) ∙ ap p (sym (append_assoc before front (x ∷ rest))) ∙ law.careful.complete x rest text stops;
+      viable = λ {ts} e. let (f, is, begun) = fault_behind (sym (same ts) ∙ e) in (f, is, ⊎_elim inl (λ b. inr (begins_onward d f b)) begun);
+      only_deeper = λ {ts} e. deeper_onward (sym (same ts) ∙ e);
+      found_alike = λ front {a} {x} {rest} other e. same (front ++ (x ∷ other)) ∙ ap p (sym (append_assoc before front (x ∷ other))) ∙
+          law.careful.found_alike (before ++ front) other (ap p (append_assoc before front (x ∷ rest)) ∙ sym (same (front ++ (x ∷ rest))) ∙ e);
+      fault_alike = λ front {deep} {x} {rest} other e. same (front ++ (x ∷ other)) ∙ ap p (sym (append_assoc before front (x ∷ other))) ∙
+          law.careful.fault_alike (before ++ front) other (ap p (append_assoc before front (x ∷ rest)) ∙ sym (same (front ++ (x ∷ rest))) ∙ e);
+      found_deeper = λ {ts} e. same' ts ∙ law.careful.found_deeper (sym (same ts) ∙ e);
+      fault_deeper = λ {ts} e. same' ts ∙ law.careful.fault_deeper (sym (same ts) ∙ e);
+      grows = λ e deep text. law.careful.grows e deep text;
+    };
+    some_text = λ e deep. let (a, more, text) = some in (a, more, law.careful.grows e deep text);
+  }
