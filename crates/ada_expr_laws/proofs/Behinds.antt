@@ -1,11 +1,10 @@
 -- What goes on behind a first primary: its operators with their operands (4.4).
 use Rattle.std.proofs.Common.{◌≡◌, ℕ, suc, ◌+◌, ◌-◌, ◌≤◌, ◌<◌, true, ◌⊎◌, inl, inr, ⊎_elim, List, [], ◌∷◌, ◌++◌, length, refl, sym, ap, ◌∙◌, subst, arith}
-use Rattle.std.proofs.lemmas.List.{append-nil, append_assoc, length-append, append_cancel_left}
-use Rattle.ada_tree.specs.declared.naming.Span.{Span}
+use Rattle.std.proofs.lemmas.List.{append-nil, append_assoc, length-append}
 use Rattle.ada_tree.specs.declared.expressions.BinaryOp.{BinaryOp}
 use Rattle.ada_tree.specs.declared.expressions.BinaryOp.TheVariants.{AndThen, OrElse}
 use Rattle.ada_tree.specs.PlainExpr.{PExpr, EInteger, EName, EIndex, EAttribute, EAttributeOf, EParen, EUnary, EBinary}
-use Rattle.ada_tree.specs.WellPlaced.{level, logical, term, factor, primary, binary_level, BinaryFits}
+use Rattle.ada_tree.specs.WellPlaced.{level, primary, binary_level, BinaryFits}
 use Rattle.ada_expr_parser.specs.declared.symbols.Symbol.TheVariants as key
 use Rattle.ada_expr_parser.specs.declared.items.Item.{Item}
 use Rattle.ada_expr_parser.specs.declared.levels.Level.{Level}
@@ -152,11 +151,11 @@ module _ (p : PExpr) (tight : primary ≤ level p) (d : ℕ) (low : levels p ≤
 pub behind_spells : (p e : PExpr) (items text : List Item) → Spells p items → Behind p e text → Spells e (items ++ text)
 behind_spells p (EBinary op l r s) items text first (front, sign, back, left, spelled, right, fits, from, place) =
     (items ++ front, sign, back, behind_spells p l items front first left, spelled, right, fits, ap (λ t. items ++ t) from ∙ sym (append_assoc items front (sign ++ back)), place)
-behind_spells p e items text first (same, none) = rw none (rw (append-nil items) (subst (λ t. Spells t items) (sym same) first))
+behind_spells p e items text first is = rw is.1 (rw (append-nil items) (subst (λ t. Spells t items) (sym is.0) first))
 
 pub behind_first : (p e : PExpr) (text : List Item) → Behind p e text → first_operand e ≡ p
 behind_first p (EBinary op l r s) text (front, sign, back, left, spelled, right, fits, from, place) = behind_first p l front left
-behind_first p e text (same, none) = same
+behind_first p e text is = is.0
 
 -- an expression is its first operand and what stands behind it
 pub spells_behind : (e : PExpr) (whole : List Item) → Spells e whole → (items : List Item) × (text : List Item) × (whole ≡ items ++ text) × Spells (first_operand e) items × Behind (first_operand e) e text
@@ -211,6 +210,7 @@ same_front (x ∷ f) (y ∷ g) m n same is =
       tail : List Item → List Item
       tail [] = []
       tail (z ∷ l) = l
+
       head : Item → List Item → Item
       head z [] = z
       head z (w ∷ l) = w
@@ -256,6 +256,8 @@ module _ {K A : Type 0} {p p' : Reader K A} {D : Texts K A} {S : K → Type 0} (
 
 pub law_behind_at : (low : ℕ) (p : PExpr) (items : List Item) → IsExpr Primary low p items → (d : ℕ) →
     Lawful d (expr_behind (low + d) p) (expr_behind (low + suc d) p) (λ d e text. GoesOnBehind p items (low + d) e text) (Ends Logical)
-law_behind_at low p items is d = law_counted low d
-    (subst (λ n. Lawful (low + d) (expr_behind (low + d) p) (expr_behind n p) (GoesOnBehind p items) (Ends Logical)) (omega arith)
-    (law_behind (low + d) p items is.spells is.fits (let nested = is.nested in omega (arith, nested))))
+law_behind_at low p items is d =
+    let next : suc (low + d) ≡ low + suc d = omega arith in
+    let nested = is.nested in
+    law_counted low d (subst (λ n. Lawful (low + d) (expr_behind (low + d) p) (expr_behind n p) (GoesOnBehind p items) (Ends Logical)) next
+    (law_behind (low + d) p items is.spells is.fits (omega (arith, nested))))

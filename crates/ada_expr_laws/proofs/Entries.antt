@@ -262,7 +262,8 @@ call_rest_is d task x text behind =
     let (dot, more, dotted, next) = after_symbol key.Dot (λ dot. Then (One word) (EntryTexts task)) d x text behind in
     let (entry, back, named, last) = after_word (EntryTexts task) d x more next in
     let (lists, same, args) = made ArgsTexts (of_call task entry) d x back last in
-    rw same (dot, back, dotted ∙ ap (λ l. symbol_item key.Dot dot ∷ l) named, refl, args_is d lists back args)
+    let whole : text ≡ symbol_item key.Dot dot ∷ word_item entry ∷ back = dotted ∙ ap (λ l. symbol_item key.Dot dot ∷ l) named in
+    rw same (dot, back, whole, refl, args_is d lists back args)
 
 pub is_call_rest : (d : ℕ) (x : PCall) (dot : Span) (back : List Item) → AreArgs d x.args back → CallRest x.task d x (symbol_item key.Dot dot ∷ word_item x.entry ∷ back)
 is_call_rest d x dot back args = symbol_then key.Dot (λ dot. Then (One word) (EntryTexts x.task)) d x dot (word_item x.entry ∷ back)

@@ -24,12 +24,12 @@ abbrev sum : List Item
 sum = symbol_item key.Plus (at 2 3) ∷ number_item 1 (at 4 5) ∷ the_end
 
 sum_read : expr_behind 1 name sum ≡ Found (EBinary Plus name (EInteger 1 (at 4 5)) (at 0 5)) the_end
-unfolding same, same_operator
+unfolding same same_operator
 sum_read = refl
 
 -- where no level is left, its operator is too deep
 sum_deep : expr_behind 0 name sum ≡ Fault true sum
-unfolding same, same_operator
+unfolding same same_operator
 sum_deep = refl
 
 -- nothing goes on with a semicolon
