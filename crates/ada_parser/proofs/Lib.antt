@@ -1,5 +1,5 @@
 pub mod Faults
-pub mod Onward
+pub mod Continuing
 pub mod Narrowing
 pub mod Rows
 mod ReadingExamples
