@@ -1,5 +1,9 @@
 pub mod Faults
+pub mod Continuing
+pub mod Narrowing
+pub mod Rows
 mod ReadingExamples
+mod DeclExamples
 mod TextExamples
 -- the kit: pieces of texts, and the laws of the words that they are read with
 pub mod KitPieces
@@ -14,3 +18,5 @@ pub mod Placed
 pub mod PlacedTokens
 pub mod PlacedItems
 pub mod OneText
+-- the statements that begin with a name
+pub mod WordLaw
