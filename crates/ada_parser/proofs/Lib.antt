@@ -14,6 +14,7 @@ pub mod KitWhens
 pub mod StmtLevels
 pub mod StmtSimple
 pub mod StmtIf
+pub mod StmtLoops
 pub mod Placed
 pub mod PlacedTokens
 pub mod PlacedItems
