@@ -2,6 +2,8 @@ pub mod Faults
 pub mod Continuing
 pub mod Narrowing
 pub mod Rows
+pub mod DeclInits
+pub mod DeclNames
 mod ReadingExamples
 mod DeclExamples
 mod TextExamples
