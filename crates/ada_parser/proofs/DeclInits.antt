@@ -1,31 +1,28 @@
 -- The laws of shapes and of initial values (3.2.1, 3.6, 4.3.2).
-use Rattle.std.proofs.Common.{◌≡◌, ℕ, zero, suc, ◌+◌, ◌≤◌, Bool, true, false, true≢false, ◌⊎◌, inl, inr, ⊎_elim, List, [], ◌∷◌, ◌++◌, length, Option, Some, None, refl, sym, ap, ◌∙◌, subst, arith}
+use Rattle.std.proofs.Common.{◌≡◌, ℕ, suc, ◌+◌, ◌≤◌, true, false, true≢false, ◌⊎◌, inl, inr, List, [], ◌∷◌, ◌++◌, length, Option, Some, None, refl, sym, ap, ◌∙◌, subst, arith}
 use Rattle.std.specs.Prelude.{is_some, not}
-use Rattle.std.proofs.lemmas.List.{append-nil, append_assoc}
-use Rattle.lawful_reader.specs.Readers.{Reader, Found, Fault, pure, bind, on, token}
+use Rattle.std.proofs.lemmas.List.{append_assoc}
+use Rattle.lawful_reader.specs.Readers.{Reader, Fault, pure, bind, on, token}
 use Rattle.lawful_reader.specs.Grammars.{Texts, One, Then, Or, Begins, first_of, Starts}
-use Rattle.lawful_reader.specs.Lawful.{Careful, Lawful, IsPassed, IsNo, IsYes, Anything}
+use Rattle.lawful_reader.specs.Lawful.{Careful, Lawful, IsNo, Anything}
 use Rattle.lawful_reader.proofs.Basics.{not_both, not_empty, tested}
 use Rattle.lawful_reader.proofs.Binding.{careful_bind}
 use Rattle.lawful_reader.proofs.Choosing.{law_on}
 use Rattle.lawful_reader.proofs.Looking.{careful_look}
-use Rattle.lawful_reader.proofs.Fitting.{starts_or, starts_token, law_fit, law_stops}
+use Rattle.lawful_reader.proofs.Fitting.{law_fit}
 use Rattle.ada_tree.specs.declared.naming.Span.{Span}
-use Rattle.ada_tree.specs.declared.naming.Word.{Word}
 use Rattle.ada_tree.specs.PlainExpr.{PExpr, EInteger, EName, EIndex, EAttribute, EAttributeOf, EParen, EUnary, EBinary, PSubind, PDrange}
 use Rattle.ada_tree.specs.PlainDecl.{PShape, OPlain, ORow, PInit, IOne, IList, IOthers}
 use Rattle.ada_tree.specs.declared.expressions.UnaryOp.{UnaryOp}
 use Rattle.ada_tree.specs.declared.expressions.UnaryOp.TheVariants as unary
-use Rattle.ada_expr_parser.specs.declared.symbols.Symbol.{Symbol}
 use Rattle.ada_expr_parser.specs.declared.symbols.Symbol.TheVariants as key
-use Rattle.ada_expr_parser.specs.declared.items.ItemKind.{ItemKind}
 use Rattle.ada_expr_parser.specs.declared.items.ItemKind.TheVariants as item
 use Rattle.ada_expr_parser.specs.declared.items.Item.{Item}
-use Rattle.ada_expr_parser.specs.declared.levels.Level.TheVariants.{Logical, Simple}
-use Rattle.ada_expr_parser.specs.Tests.{same, symbol, word}
+use Rattle.ada_expr_parser.specs.declared.levels.Level.TheVariants.{Logical}
+use Rattle.ada_expr_parser.specs.Tests.{same, symbol}
 use Rattle.ada_expr_parser.specs.Trees.{levels, from_to, in_parens}
-use Rattle.ada_expr_parser.specs.Grammar.{symbol_item, word_item, number_item, prefix_symbol, Spells, AreMore, AreEnclosed}
-use Rattle.ada_expr_parser.specs.Parts.{expression, expr_behind, subind, drange}
+use Rattle.ada_expr_parser.specs.Grammar.{symbol_item, word_item, number_item, prefix_symbol, Spells, AreMore}
+use Rattle.ada_expr_parser.specs.Parts.{expression, expr_behind, subind}
 use Rattle.ada_expr_laws.specs.Stopping.{Ends, EndsMark, EndsRange}
 use Rattle.ada_expr_laws.specs.Laws.{first_operand}
 use Rattle.ada_expr_laws.proofs.Tokens.{symbol_is, symbol_takes}
@@ -36,14 +33,14 @@ use Rattle.ada_expr_laws.proofs.Behinds.{Behind, BehindAt, law_levels, behind_sp
 use Rattle.ada_parser.specs.Spelling.{Spelling, ◌▷◌, Key, Placed, Stands, last_place}
 use Rattle.ada_parser.specs.Spelling as spelling
 use Rattle.ada_parser.specs.Phrases.{Expression, Drange}
-use Rattle.ada_parser.specs.Declarations.{Subind, IsShape, IsList, IsInit}
+use Rattle.ada_parser.specs.Declarations.{Subind, IsShape, IsInit}
 use Rattle.ada_parser.specs.Reading.{is_symbol, last_key, more_behind}
 use Rattle.ada_parser.proofs.KitLeading.{symbol_at, is_itself}
 use Rattle.ada_parser.specs.ReadingDeclarations as reading
 use Rattle.ada_parser.proofs.KitPieces.{KeyAt, Closing, closing_key, closing_then, placed_key, key_placed, last_append, last_is}
-use Rattle.ada_parser.proofs.KitReading.{Made, Both, made_key, made_bind, made_then, made_pure, law_symbol, law_last, law_more, starts_key, starts_last, starts_more, key_taken, taken_key}
+use Rattle.ada_parser.proofs.KitReading.{Made, Both, made_key, made_bind, made_then, made_pure, law_symbol, law_last, law_more, starts_key, starts_last, key_taken, taken_key}
 use Rattle.ada_parser.proofs.KitDeeper.{Expressions, law_expression}
-use Rattle.ada_parser.proofs.Narrowing.{Narrow, narrow_where, narrow_starts, passed_by, law_either, Room, room, careful_room}
+use Rattle.ada_parser.proofs.Narrowing.{Narrow, narrow_where, narrow_starts, passed_by, law_either, Room, careful_room}
 
 abbrev pub Subinds : Texts Item PSubind
 Subinds d x text = Subind d x text

@@ -4,6 +4,7 @@ pub mod Narrowing
 pub mod Rows
 pub mod DeclInits
 pub mod DeclNames
+pub mod DeclTypes
 mod ReadingExamples
 mod DeclExamples
 mod TextExamples
