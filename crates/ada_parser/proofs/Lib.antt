@@ -14,7 +14,13 @@ pub mod KitReading
 pub mod KitDeeper
 pub mod KitLeading
 pub mod KitWhens
+pub mod StmtLevels
+pub mod StmtSimple
+pub mod StmtIf
+pub mod StmtLoops
 pub mod Placed
 pub mod PlacedTokens
 pub mod PlacedItems
 pub mod OneText
+-- the statements that begin with a name
+pub mod WordLaw
