@@ -2,6 +2,10 @@ pub mod Faults
 pub mod Continuing
 pub mod Narrowing
 pub mod Rows
+pub mod Formals
+pub mod DeclInits
+pub mod DeclNames
+pub mod DeclTypes
 mod ReadingExamples
 mod DeclExamples
 mod TextExamples

@@ -1,11 +1,11 @@
 -- Readers that are asked only where the next token passes a test, or where it does not; and trees that need more room than is left.
-use Rattle.std.proofs.Common.{◌≡◌, ℕ, suc, ◌≤◌, ◌<◌, Bool, true, false, true≢false, ◌⊎◌, inl, inr, ⊎_elim, List, [], ◌∷◌, ◌++◌, refl, sym, ap, ◌∙◌, subst, Option, Some, None, arith}
+use Rattle.std.proofs.Common.{◌≡◌, ℕ, suc, ◌≤◌, ◌<◌, Bool, true, false, ◌⊎◌, inl, inr, ⊎_elim, List, [], ◌∷◌, ◌++◌, refl, sym, ap, ◌∙◌, subst, Option, Some, None, arith}
 use Rattle.std.proofs.Math.Nat.{le_refl}
 use Rattle.std.specs.Prelude.{not, is_some, nat_le, if◌then◌else◌}
-use Rattle.lawful_reader.specs.Readers.{Answer, Found, Fault, Reader, on, on_token, refuse, look, too_deep}
-use Rattle.lawful_reader.specs.Grammars.{Texts, Never, One, Then, Or, Begins, first_of, Starts, Opens}
-use Rattle.lawful_reader.specs.Lawful.{Careful, Lawful, IsYes, IsNo}
-use Rattle.lawful_reader.proofs.Basics.{not_empty, tested}
+use Rattle.lawful_reader.specs.Readers.{Fault, Reader, on, on_token, refuse, look, too_deep}
+use Rattle.lawful_reader.specs.Grammars.{Texts, Never, One, Then, Or, Begins, first_of, Starts}
+use Rattle.lawful_reader.specs.Lawful.{Careful, Lawful, IsYes}
+use Rattle.lawful_reader.proofs.Basics.{not_empty}
 use Rattle.lawful_reader.proofs.Choosing.{careful_on, careful_refuse}
 use Rattle.lawful_reader.proofs.Fitting.{starts_never, starts_token, careful_fit, careful_same}
 use Rattle.lawful_reader.proofs.Looking.{decided, CarefulWhere, careful_look, too_deep_where}
