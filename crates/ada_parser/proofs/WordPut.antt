@@ -1,5 +1,6 @@
 -- What may stand behind `PUT (`: parts up to the end of the statement, or the index of a variable or a task (5.2, 9.5, this project's PUT, after 14.3.6).
 use Rattle.std.proofs.Common.{◌≡◌, ℕ, zero, suc, Bool, true, false, true≢false, ◌⊎◌, inl, inr, List, [], ◌∷◌, ◌++◌, Some, None, refl, sym, ap, ◌∙◌, subst, arith}
+use Rattle.std.specs.Prelude.{if◌then◌else◌}
 use Rattle.std.proofs.lemmas.List.{append_assoc, append-nil}
 use Rattle.ada_tree.specs.declared.naming.Span.{Span}
 use Rattle.ada_tree.specs.declared.naming.Word.{Word}
@@ -28,7 +29,7 @@ use Rattle.ada_expr_laws.proofs.Tokens.{symbol_takes, none_is, some_is}
 use Rattle.ada_expr_laws.proofs.Primaries.{no_place}
 use Rattle.ada_expr_laws.proofs.Plainly.{after_symbol, symbol_then}
 use Rattle.ada_expr_laws.proofs.Calling.{close_ends, of_name}
-use Rattle.ada_parser.specs.Spelling.{Source, Key, ◌▷◌, Behind, Separated, said_at}
+use Rattle.ada_parser.specs.Spelling.{Source, Key, ◌▷◌, Behind, Separated, said_at, is_graphic}
 use Rattle.ada_parser.specs.Phrases.{Operand, IsPart, PutText}
 use Rattle.ada_parser.specs.Reading.{is_symbol, key_then, more_behind, part, string, string_in}
 use Rattle.ada_parser.specs.ReadingStatements.{assign_or_call, put_more, put_behind, put_rest}
@@ -108,25 +109,34 @@ operand_starts source d = record {
 abbrev text_item : Span → Item
 text_item at = record { kind = item.Text; span = at }
 
-string_kind : (source : Source) (kind : ItemKind) (at : Span) (p : PPart) → string_in source kind at ≡ Some p → (kind ≡ item.Text) × (p ≡ PWords (said_at source at) at)
+if_some : {A : Type 0} (b : Bool) (x y : A) → (if b then Some x else None) ≡ Some y → (b ≡ true) × (y ≡ x)
+if_some true x y e = (refl, sym (some_is e))
+if_some false x y e = absurd (none_is e)
+
+string_kind : (source : Source) (kind : ItemKind) (at : Span) (p : PPart) → string_in source kind at ≡ Some p → (kind ≡ item.Text) × (is_graphic (said_at source at) ≡ true) × (p ≡ PWords (said_at source at) at)
 string_kind source (item.Integer n) at p e = absurd (none_is e)
 string_kind source (item.Name id) at p e = absurd (none_is e)
 string_kind source (item.Symbol s) at p e = absurd (none_is e)
 string_kind source (item.Duration n) at p e = absurd (none_is e)
 string_kind source item.End at p e = absurd (none_is e)
-string_kind source item.Text at p e = (refl, sym (some_is e))
+string_kind source item.Text at p e = let (graphic, same) = if_some (is_graphic (said_at source at)) (PWords (said_at source at) at) p e in (refl, graphic, same)
 
 -- a string is a part, at each depth
 string_part : (source : Source) (d : ℕ) (k : Item) (p : PPart) → string source k ≡ Some p → PartTexts source d p (k ∷ [])
 string_part source d k p some =
-    let (kind, same) = string_kind source k.kind k.span p some in
-    subst (λ q. PartTexts source d q (k ∷ [])) (sym same) (ap (λ t. record { kind = t; span = k.span } ∷ []) kind, refl)
+    let (kind, graphic, same) = string_kind source k.kind k.span p some in
+    subst (λ q. PartTexts source d q (k ∷ [])) (sym same) (ap (λ t. record { kind = t; span = k.span } ∷ []) kind, refl, graphic)
 
 words_string : (source : Source) (d : ℕ) (t : List ℕ) (at : Span) (text : List Item) → PartTexts source d (PWords t at) text → (text ≡ text_item at ∷ []) × (string source (text_item at) ≡ Some (PWords t at))
-words_string source d t at text is = (is.0, ap (λ u. Some (PWords u at)) (sym is.1))
+words_string source d t at text (from, says, graphic) =
+    (from, ap (λ b. if b then Some (PWords (said_at source at) at) else None) (ap is_graphic (sym says) ∙ graphic) ∙ ap (λ u. Some (PWords u at)) (sym says))
 
-some_string : (source : Source) → (p : PPart) × (string source (text_item no_place) ≡ Some p)
-some_string source = (PWords (said_at source no_place) no_place, refl)
+-- at the start there is a string that says nothing
+abbrev start : Span
+start = record { start = 0; end = 0 }
+
+some_string : (source : Source) → (p : PPart) × (string source (text_item start) ≡ Some p)
+some_string source = (PWords (said_at source start) start, refl)
 
 module _ (source : Source) where
   part_is : (d : ℕ) (p : PPart) (text : List Item) → Or (Then (One (string source)) Is) (Then OperandTexts (λ e. Is (PValue e))) d p text → PartTexts source d p text
@@ -143,7 +153,7 @@ module _ (source : Source) where
       (law_on {test = string source} (λ p. law_pure d p (Ends Logical))
       (careful_bind (operand_careful d) (λ e f is. (law_pure d (PValue e) (Ends Logical)).careful) (λ n deep e f is. (PValue e, [], (refl, refl))) (λ e f is. starts_is (λ x stop. stop)))
       (starts_then {T = Anything} (operand_starts source d) (λ e. record { begins_with = λ a text x is stop. tt }))
-      (text_item no_place) (some_string source).0 (some_string source).1)
+      (text_item start) (some_string source).0 (some_string source).1)
 
 -- ---- behind a first part
 
@@ -221,7 +231,7 @@ module _ (source : Source) (tree : List PPart → Span → PStmt) (w : Word) whe
   law_put_rest d = law_on {test = string source} (law_put_more d)
       (careful_bind (operand_careful d) (λ e f is. (law_put_behind d e).careful) (λ n deep e f is. (law_put_behind d e).some_text n deep) (λ e f is. behind_starts d e))
       (starts_then {T = Anything} (operand_starts source d) (λ e. record { begins_with = λ a text x is stop. tt }))
-      (text_item no_place) (some_string source).0 (some_string source).1
+      (text_item start) (some_string source).0 (some_string source).1
 
   -- ---- in plain words
 
