@@ -7,3 +7,7 @@ pub mod Units
 pub mod Reads
 pub mod Reading
 pub mod ReadingStatements
+pub mod ReadingRows
+pub mod ReadingDeclarations
+pub mod ReadingUnits
+pub mod Laws

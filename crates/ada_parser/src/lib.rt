@@ -2,3 +2,7 @@
 //! this project's language has it, and what it is to read a text. The crate has definitions alone; the reader that
 //! answers by them comes later.
 #![tactic(auto)]
+
+mod laws;
+
+pub use laws::reading_laws;

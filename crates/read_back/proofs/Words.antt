@@ -1,13 +1,13 @@
 -- Names, numbers, durations and strings of a tree, told by their printed texts.
 use Rattle.std.proofs.Common.{◌≡◌, ℕ, ◌+◌, ◌-◌, ◌*◌, ◌/◌, ◌%◌, ◌<◌, ◌≤◌, true, List, [], ◌∷◌, ◌++◌, length, take, drop, codes, decimal, slice_get, slice_range, Option, None, Some, IsSomeAnd, unwrap_or, refl, ap, ◌∙◌, sym, arith, inl, inr}
-use Rattle.std.proofs.lemmas.Bool.{or_left, or_right, cond-true, cond-false, false≢true, cases_Bool}
+use Rattle.std.proofs.lemmas.Bool.{and_from, or_left, or_right, cond-true, cond-false, false≢true, cases_Bool}
 use Rattle.std.proofs.lemmas.Bool.Decides.{nat_tests}
 use Rattle.std.proofs.lemmas.List.Elements.{recursion_from_All}
 use Rattle.std.proofs.Math.Seq.{take-append_seam}
 use Rattle.std.specs.Prelude.{◌==◌}
 use Rattle.std.specs.List.{AllByRecursion}
 use Rattle.ada_lexer.specs.declared.kinds.TokenKind.TheVariants as kinds
-use Rattle.ada_lexer.specs.Bytes.{is_letter, is_digit, begins, every}
+use Rattle.ada_lexer.specs.Bytes.{is_printable, is_letter, is_digit, begins, every}
 use Rattle.ada_lexer.specs.Numbers.{decimals_value}
 use Rattle.ada_lexer.specs.Pieces.{number_goes_on}
 use Rattle.ada_lexer.specs.Strings.{content}
@@ -20,7 +20,7 @@ use Rattle.ada_tree.specs.declared.naming.NameId.{NameId}
 use Rattle.ada_tree.specs.declared.naming.Word.{Word}
 use Rattle.ada_expr_parser.specs.declared.items.ItemKind.TheVariants as item
 use Rattle.ada_expr_parser.specs.Grammar.{number_item}
-use Rattle.ada_parser.specs.Spelling.{Named, Duration, StringAt}
+use Rattle.ada_parser.specs.Spelling.{Named, Duration, is_graphic, StringAt}
 use Rattle.ded_io.specs.Written.{◌⧺◌, each_text}
 use Rattle.ada_printer.specs.Layout.{decimals, duration_text, character_text, string_text, name_text, word_text}
 use Rattle.read_back.proofs.Classes.{Anything, Plain, WordEnd, Stop, Next}
@@ -93,6 +93,14 @@ some_name : (o : Option (List ℕ)) → IsSomeAnd o IsIdentifier → (o ≡ Some
 some_name None h = absurd h
 some_name (Some t) h = (refl, identifier_is t h)
 
+-- what a string may say is graphic
+graphic : (said : List ℕ) → AllByRecursion (λ b. (32 ≤ b) × (b ≤ 126)) said → is_graphic said ≡ true
+graphic [] h = refl
+graphic (b ∷ said) h = and_from (is_printable b) _ (printable b h.0.0 h.0.1) (graphic said h.1)
+  where
+    printable : (b : ℕ) → 32 ≤ b → b ≤ 126 → is_printable b ≡ true
+    printable b low high = grind (arith, nat_tests)
+
 string_shape : (said : List ℕ) → string_text said ≡ 34 ∷ body_of said
 unfolding body_of ◌⧺◌
 string_shape said = refl
@@ -143,5 +151,5 @@ module _ (w : Setting) (n : List (List ℕ)) where
         opens = token.opens;
         says = λ stands known.
             let slice : slice_range w.bytes at (at + length (string_text t)) ≡ 34 ∷ body_of t = slice_there at (string_text t) stands.0 stands.1 ∙ string_shape t in
-            (((token.says stands known).0, sym (ap (λ l. content true (drop 1 l)) slice ∙ inside.content_is)), tt);
+            (((token.says stands known).0, sym (ap (λ l. content true (drop 1 l)) slice ∙ inside.content_is), graphic t (recursion_from_All _ t good.0)), tt);
       }
