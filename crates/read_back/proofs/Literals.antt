@@ -16,7 +16,7 @@ use Rattle.ada_lexer.specs.Strings.{inside_after, is_string_run, ends_inside, co
 use Rattle.ada_lexer.specs.Pieces.{number_goes_on}
 use Rattle.ada_lexer.specs.Verdicts.{max_content, token_or, number_verdict, string_verdict, text_or_bad_byte, verdict}
 use Rattle.read_back.proofs.Classes.{Stop}
-use Rattle.read_back.proofs.Pieces.{Ends, number_ends}
+use Rattle.read_back.proofs.Pieces.{Ends, digit_no_white, digit_no_letter, number_ends}
 
 -- ---- digits
 
@@ -39,7 +39,7 @@ decimal_from-append : (v : ℕ) (xs ys : List ℕ) → decimal_from v (xs ++ ys)
 decimal_from-append v [] ys = refl
 decimal_from-append v (b ∷ xs) ys = decimal_from-append (value_behind v b) xs ys
 
-a_digit : (k : ℕ) → k < 10 → is_digit (48 + k) ≡ true
+pub a_digit : (k : ℕ) → k < 10 → is_digit (48 + k) ≡ true
 a_digit k low = grind (arith, nat_tests)
 
 value_digit : (v k : ℕ) → k < 10 → value_behind v (48 + k) ≡ v * 10 + k
@@ -72,7 +72,7 @@ digits_numeral (b ∷ ds) h =
     let both = and_parts (is_digit b) (all_digits ds) h in
     and_from _ _ (or_left (is_digit b) _ both.0) (digits_numeral ds both.1)
 
-digit_goes_on : (b : ℕ) (rest : List ℕ) → is_digit b ≡ true → number_goes_on b rest ≡ true
+pub digit_goes_on : (b : ℕ) (rest : List ℕ) → is_digit b ≡ true → number_goes_on b rest ≡ true
 digit_goes_on b rest h = or_left _ _ (or_left _ _ (or_right (is_letter b) (is_digit b) h))
 
 digits_number : (ds more : List ℕ) → all_digits ds ≡ true → every number_goes_on more ≡ true → every number_goes_on (ds ++ more) ≡ true
@@ -123,12 +123,6 @@ pub record IsNumber (ds : List ℕ) (kind : _) : Type 0 where
   pub ends : Ends Stop ds
   pub verdict_is : (at : ℕ) → verdict at ds ≡ Kind kind
   pub digit : begins is_digit ds ≡ true
-
-digit_no_white : (b : ℕ) → is_digit b ≡ true → is_white b ≡ false
-digit_no_white b h = grind (arith, nat_tests)
-
-digit_no_letter : (b : ℕ) → is_digit b ≡ true → is_letter b ≡ false
-digit_no_letter b h = grind (arith, nat_tests)
 
 number_is : (b : ℕ) (bs : List ℕ) (kind : _) → is_digit b ≡ true → every number_goes_on bs ≡ true → number_kind (b ∷ bs) ≡ Some kind → IsNumber (b ∷ bs) kind
 unfolding verdict number_verdict

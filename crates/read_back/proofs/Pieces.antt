@@ -74,13 +74,13 @@ number_stays b xs ys h = elim (or_cases (is_letter_or_digit b || (b == 95)) ((b 
   | inr e ↦ or_right _ _ (let parts = and_parts (b == 46) (begins is_digit xs) e in and_from _ _ parts.0 (begins_stays is_digit xs ys parts.1))
 ]
 
-letter_no_white : (b : ℕ) → is_letter b ≡ true → is_white b ≡ false
+pub letter_no_white : (b : ℕ) → is_letter b ≡ true → is_white b ≡ false
 letter_no_white b h = grind (arith, nat_tests)
 
-digit_no_letter : (b : ℕ) → is_digit b ≡ true → is_letter b ≡ false
+pub digit_no_letter : (b : ℕ) → is_digit b ≡ true → is_letter b ≡ false
 digit_no_letter b h = grind (arith, nat_tests)
 
-digit_no_white : (b : ℕ) → is_digit b ≡ true → is_white b ≡ false
+pub digit_no_white : (b : ℕ) → is_digit b ≡ true → is_white b ≡ false
 digit_no_white b h = grind (arith, nat_tests)
 
 pub word_ends : (b : ℕ) (bs : List ℕ) → is_letter b ≡ true → every word_goes_on bs ≡ true → Ends WordEnd (b ∷ bs)

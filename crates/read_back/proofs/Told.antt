@@ -117,7 +117,7 @@ id_found (name ∷ names) t low = elim (cases_Bool (bytes_eq name t)) [
       rw is (id_found names t (omega (arith, is))))
 ]
 
-differ_back : (a b : List ℕ) → bytes_eq a b ≡ false → bytes_eq b a ≡ false
+pub differ_back : (a b : List ℕ) → bytes_eq a b ≡ false → bytes_eq b a ≡ false
 differ_back a b e = elim (cases_Bool (bytes_eq b a)) [
   | inl f ↦ absurd (false≢true (sym e ∙ (bytes_eq-Decides a b).1 (sym ((bytes_eq-Decides b a).0 f))))
   | inr f ↦ f

@@ -27,7 +27,7 @@ use Rattle.ada_parser.specs.Spelling.{id_of}
 use Rattle.ada_parser.specs.Reads.{Reads}
 use Rattle.ada_printer.specs.ProgramText.{program_text}
 use Rattle.read_back.proofs.Lexed.{Tells, ToldBy, AreTold, Lexed}
-use Rattle.read_back.proofs.Told.{Setting, names_of, AreKnown, id_found}
+use Rattle.read_back.proofs.Told.{Setting, names_of, AreKnown, differ_back, id_found}
 use Rattle.read_back.proofs.Units.{read_unit}
 
 -- ---- pieces that say items have no fault
@@ -100,16 +100,10 @@ module _ (src : List ℕ) where
     | inl e ↦ (let is : id_of (x ∷ names) t ≡ 0 = cond-true (bytes_eq x t) _ _ e in omega (arith, is))
     | inr e ↦
         (let is : id_of (x ∷ names) t ≡ suc (id_of names t) = cond-false (bytes_eq x t) _ _ e in
-        let other : bytes_eq t x ≡ false = differ t x e in
+        let other : bytes_eq t x ≡ false = differ_back x t e in
         let more = id_low names t (sym (ap (λ b. b || list_any (bytes_eq t) names) other) ∙ h) in
         omega (arith, is, more))
   ]
-    where
-      differ : (t x : List ℕ) → bytes_eq x t ≡ false → bytes_eq t x ≡ false
-      differ t x e = elim (cases_Bool (bytes_eq t x)) [
-        | inl f ↦ absurd (false≢true (sym e ∙ (bytes_eq-Decides x t).1 (sym ((bytes_eq-Decides t x).0 f))))
-        | inr f ↦ f
-      ]
 
   says_so : (names : List (List ℕ)) (token : Token) (p : List ℕ) (said : ItemKind) → IsInterned names token → slice_range src token.start token.end ≡ p → Tells names token.kind p said → Says src names token said
   says_so names token p (item.Name id) held slice tells =

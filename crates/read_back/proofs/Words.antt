@@ -24,23 +24,17 @@ use Rattle.ada_parser.specs.Spelling.{Named, Duration, is_graphic, StringAt}
 use Rattle.ded_io.specs.Written.{◌⧺◌, each_text}
 use Rattle.ada_printer.specs.Layout.{decimals, duration_text, character_text, string_text, name_text, word_text}
 use Rattle.read_back.proofs.Classes.{Anything, Plain, WordEnd, Stop, Next}
-use Rattle.read_back.proofs.Literals.{IsNumber, IsContent, decimal_spells, integer_is, duration_from, no_content, content_mark, content_other, string_is}
+use Rattle.read_back.proofs.Literals.{a_digit, digit_goes_on, IsNumber, IsContent, decimal_spells, integer_is, duration_from, no_content, content_mark, content_other, string_is}
 use Rattle.read_back.proofs.Identifiers.{IsName, identifier_is}
 use Rattle.read_back.proofs.Told.{Setting, names_of, source_of, Told, span_at, word_at, told_as, told_same, told_token, told_name}
 
 -- ---- durations
-
-digit_is : (k : ℕ) → k < 10 → is_digit (48 + k) ≡ true
-digit_is k low = grind (arith, nat_tests)
 
 -- the decimals of a duration are one to three digits, and mean so many thousandths
 record AreDecimals (t h k : ℕ) (ds : List ℕ) : Type 0 where
   pub value : decimals_value ds ≡ Some (t * 100 + h * 10 + k)
   pub digit : begins is_digit ds ≡ true
   pub all : every number_goes_on ds ≡ true
-
-goes : (k : ℕ) (rest : List ℕ) → k < 10 → number_goes_on (48 + k) rest ≡ true
-goes k rest low = or_left _ _ (or_left _ _ (or_right (is_letter (48 + k)) (is_digit (48 + k)) (digit_is k low)))
 
 decimals_are : (t h k : ℕ) → t < 10 → h < 10 → k < 10 → AreDecimals t h k (decimals t h k)
 unfolding decimals_value
@@ -49,14 +43,14 @@ decimals_are t h k a b c = elim (cases_Bool (k == 0)) [
     | inl f ↦
         (let less : h ≡ 0 = grind (arith, nat_tests) in
         let is : decimals t h k ≡ (48 + t) ∷ [] = cond-true (k == 0) _ _ e ∙ cond-true (h == 0) _ _ f in
-        rw is (record { value = rw (digit_is t a) (ap Some (omega arith)); digit = digit_is t a; all = rw (goes t [] a) refl }))
+        rw is (record { value = rw (a_digit t a) (ap Some (omega arith)); digit = a_digit t a; all = rw (digit_goes_on (48 + t) [] (a_digit t a)) refl }))
     | inr f ↦
         (let is : decimals t h k ≡ (48 + t) ∷ (48 + h) ∷ [] = cond-true (k == 0) _ _ e ∙ cond-false (h == 0) _ _ f in
-        rw is (record { value = rw (digit_is t a, digit_is h b) (ap Some (omega arith)); digit = digit_is t a; all = rw (goes t ((48 + h) ∷ []) a, goes h [] b) refl }))
+        rw is (record { value = rw (a_digit t a, a_digit h b) (ap Some (omega arith)); digit = a_digit t a; all = rw (digit_goes_on (48 + t) ((48 + h) ∷ []) (a_digit t a), digit_goes_on (48 + h) [] (a_digit h b)) refl }))
   ])
   | inr e ↦
       (let is : decimals t h k ≡ (48 + t) ∷ (48 + h) ∷ (48 + k) ∷ [] = cond-false (k == 0) _ _ e in
-      rw is (record { value = rw (digit_is t a, digit_is h b, digit_is k c) (ap Some (omega arith)); digit = digit_is t a; all = rw (goes t ((48 + h) ∷ (48 + k) ∷ []) a, goes h ((48 + k) ∷ []) b, goes k [] c) refl }))
+      rw is (record { value = rw (a_digit t a, a_digit h b, a_digit k c) (ap Some (omega arith)); digit = a_digit t a; all = rw (digit_goes_on (48 + t) ((48 + h) ∷ (48 + k) ∷ []) (a_digit t a), digit_goes_on (48 + h) ((48 + k) ∷ []) (a_digit h b), digit_goes_on (48 + k) [] (a_digit k c)) refl }))
 ]
 
 duration_is : (d : ℕ) → IsDuration d → IsNumber (duration_text d) (kinds.Duration d)
