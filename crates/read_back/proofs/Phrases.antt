@@ -73,10 +73,6 @@ module _ (w : Setting) (n : List (List ℕ)) where
   pub told_group : {S : Type 0} {o a : Class} {P : Spelling} {at : ℕ} (t u v : List ℕ) → Told w S o a P at (t ⧺ (u ⧺ v)) → Told w S o a P at ((t ⧺ u) ⧺ v)
   told_group t u v h = told_text w _ _ (assoc_shut t u v) h
 
-  -- nothing stands behind it
-  pub told_alone : {S T : Type 0} {o a : Class} {P : Spelling} {at : ℕ} (t : List ℕ) → Told w (S × T) o a (P ▷ Nothing) at (t ⧺ []) → Told w S o a P at t
-  told_alone t h = told_text w _ _ (nil_shut t) (told_as w h (λ items said same. (drop_nothing said, same.0)))
-
   -- ---- lists with a mark between their members
 
   module _ {A : Type 0} (Same : A → A → Type 0) (Part : A → Spelling) (text : A → List ℕ) (Good : A → Type 0) (o a : Class) (read : (x : A) (at : ℕ) → Good x → Found (Same x) o a Part at (text x))

@@ -37,9 +37,6 @@ pub filled_behind : {P Q : Spelling} → Filled Q → Filled (P ▷ Q)
 filled_behind {Q = Q} filled ([], back, is, p, q) = filled (subst Q (sym is) q)
 filled_behind filled (x ∷ front, back, is, p, q) = cc
 
-pub filled_placed : (P : Spelling) (s : Span) → Filled (Placed s P)
-filled_placed P s (p, stands) = stands
-
 pub filled_fixed : (t : List ℕ) → Filled (Predefined t)
 filled_fixed t (at, is) = cc
 
