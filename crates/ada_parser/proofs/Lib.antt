@@ -1,3 +1,4 @@
 pub mod Faults
+pub mod Steps
 mod ReadingExamples
 mod TextExamples

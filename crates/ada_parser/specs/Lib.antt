@@ -7,3 +7,4 @@ pub mod Units
 pub mod Reads
 pub mod Reading
 pub mod ReadingStatements
+pub mod Sources
