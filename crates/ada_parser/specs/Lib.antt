@@ -7,4 +7,5 @@ pub mod Units
 pub mod Reads
 pub mod Reading
 pub mod ReadingStatements
-pub mod Sources
+pub mod Views
+pub mod Turns

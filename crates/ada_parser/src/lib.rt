@@ -2,8 +2,7 @@
 //! this project's language has it, and what it is to read a text; in `src/` the readers.
 #![tactic(auto)]
 
-mod compound;
-mod lists;
+mod phrases;
 mod source;
-mod statements;
+mod strings;
 mod tokens;
