@@ -3,3 +3,7 @@ pub mod Steps
 pub mod Lists
 mod ReadingExamples
 mod TextExamples
+pub mod Placed
+pub mod PlacedTokens
+pub mod PlacedItems
+pub mod OneText

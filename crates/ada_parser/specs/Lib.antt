@@ -9,3 +9,4 @@ pub mod Reading
 pub mod ReadingStatements
 pub mod Views
 pub mod Turns
+pub mod Laws

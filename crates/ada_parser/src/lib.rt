@@ -2,7 +2,10 @@
 //! this project's language has it, and what it is to read a text; in `src/` the readers.
 #![tactic(auto)]
 
+mod laws;
 mod phrases;
 mod source;
 mod strings;
 mod tokens;
+
+pub use laws::reading_laws;
