@@ -1,4 +1,6 @@
 pub mod Faults
+pub mod Texts
+pub mod Seen
 pub mod Steps
 pub mod Lists
 mod ReadingExamples

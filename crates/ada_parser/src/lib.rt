@@ -4,6 +4,7 @@
 
 mod laws;
 mod phrases;
+mod simple;
 mod source;
 mod strings;
 mod tokens;

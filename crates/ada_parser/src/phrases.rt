@@ -1,6 +1,6 @@
 //! Pieces of statements and declarations: durations, rows of names, formals.
 
-ghost use Rattle.std.specs.Prelude.{◌≡◌, ◌<◌, ◌≤◌, [], ◌∷◌, IfOk, map, length, is_some, tt};
+ghost use Rattle.std.specs.Prelude.{◌≡◌, ◌<◌, ◌≤◌, [], ◌∷◌, IfOk, map, length, is_some};
 ghost use Rattle.lawful_reader.specs.Readers.{on, pure, refuse, token, fronted};
 ghost use Rattle.ada_tree.specs.PlainStmt.{plain_formal};
 ghost use Rattle.ada_expr_parser.specs.declared.symbols.Symbol.TheVariants as key;
@@ -228,7 +228,7 @@ pub(crate) fn is_again(name: Word, item: Item) -> bool
 
 /// Behind the name that must stand here once more.
 pub(crate) fn expect_again<'a>(name: Word, items: &'a [Item]) -> Result<&'a [Item], ParseError>
-    ensures tree { Gives (λ x. tt) (λ x. x.now) result (on (reading.again name) (λ w. pure tt) refuse items.now) }
+    ensures tree { Gives (λ x. name) (λ x. x.now) result (on (reading.again name) (λ w. pure name) refuse items.now) }
     ensures shorter { IfOk result (λ x. length x.now < length items.now) }
 {
     let [next, rest @ ..] = items else {
