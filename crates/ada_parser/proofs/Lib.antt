@@ -3,9 +3,30 @@ pub mod Texts
 pub mod Seen
 pub mod Steps
 pub mod Lists
+pub mod Continuing
+pub mod Narrowing
+pub mod Rows
+pub mod Formals
+pub mod DeclInits
+pub mod DeclNames
+pub mod DeclTypes
 mod ReadingExamples
+mod DeclExamples
 mod TextExamples
+-- the kit: pieces of texts, and the laws of the words that they are read with
+pub mod KitPieces
+pub mod KitReading
+pub mod KitDeeper
+pub mod KitLeading
+pub mod KitWhens
+pub mod StmtLevels
+pub mod StmtSimple
+pub mod StmtIf
+pub mod StmtLoops
+pub mod StmtBodies
 pub mod Placed
 pub mod PlacedTokens
 pub mod PlacedItems
 pub mod OneText
+-- the statements that begin with a name
+pub mod WordLaw

@@ -9,4 +9,7 @@ pub mod Reading
 pub mod ReadingStatements
 pub mod Views
 pub mod Turns
+pub mod ReadingRows
+pub mod ReadingDeclarations
+pub mod ReadingUnits
 pub mod Laws
