@@ -20,6 +20,8 @@ pub mod StmtSimple
 pub mod StmtIf
 pub mod StmtLoops
 pub mod StmtBodies
+pub mod StmtAlts
+pub mod StmtSelect
 pub mod Placed
 pub mod PlacedTokens
 pub mod PlacedItems
