@@ -6,6 +6,7 @@ pub mod Formals
 pub mod DeclInits
 pub mod DeclNames
 pub mod DeclTypes
+pub mod DeclEntries
 mod ReadingExamples
 mod DeclExamples
 mod TextExamples
