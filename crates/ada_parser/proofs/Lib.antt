@@ -7,6 +7,7 @@ pub mod DeclInits
 pub mod DeclNames
 pub mod DeclTypes
 pub mod DeclEntries
+pub mod DeclTasks
 mod ReadingExamples
 mod DeclExamples
 mod TextExamples
