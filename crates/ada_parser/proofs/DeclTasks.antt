@@ -8,7 +8,7 @@ use Rattle.lawful_reader.specs.Lawful.{Careful, Lawful, IsPassed, IsYes, Anythin
 use Rattle.lawful_reader.proofs.Basics.{not_empty}
 use Rattle.lawful_reader.proofs.Binding.{law_pure, law_bind, law_then}
 use Rattle.lawful_reader.proofs.Choosing.{law_on, careful_refuse}
-use Rattle.lawful_reader.proofs.Listing.{law_items, many_starts_end}
+use Rattle.lawful_reader.proofs.Listing.{law_items}
 use Rattle.lawful_reader.proofs.Deepening.{law_raised}
 use Rattle.lawful_reader.proofs.Fitting.{starts_is, starts_or, starts_never, starts_token, law_fit, law_stops}
 use Rattle.ada_tree.specs.declared.naming.Span.{Span}
@@ -69,10 +69,11 @@ module _ (source : Source) where
 
   member_is : (d : ℕ) (m : Member) (text : List Item) → EitherMember d m text → IsMember source d m text
   member_is d m text (inl is) =
-      let (lead, back, from, (x, same, spelled)) = after_symbol key.Entry (λ lead. Made MEntry (EntryLed lead)) d m text is in rw same (rw from spelled)
+      let (lead, back, from, (x, same, spelled)) = after_symbol key.Entry (λ lead. Made MEntry (EntryLed lead)) d m text is in
+      subst (IsMember source d m) (sym from) (subst (λ n. IsMember source d n (symbol_item key.Entry lead ∷ back)) (sym same) spelled)
   member_is d m text (inr (inl is)) =
       let (lead, back, from, ((e, close), same, spelled)) = after_symbol key.Pragma (λ lead. Made {V = PExpr × Span} (λ v. MPriority v.0) (λ d v. PriorityShut source d v.0 v.1)) d m text is in
-      rw same (rw from (symbol_item key.Pragma lead ∷ [], back, refl, (lead, refl), (priority_closing source d e).plain close back spelled))
+      subst (IsMember source d m) (sym from) (subst (λ n. IsMember source d n (symbol_item key.Pragma lead ∷ back)) (sym same) (symbol_item key.Pragma lead ∷ [], back, refl, (lead, refl), (priority_closing source d e).plain close back spelled))
   member_is d m text (inr (inr never)) = absurd never
 
   is_member : (d : ℕ) (m : Member) (text : List Item) → IsMember source d m text → EitherMember d m text
@@ -86,7 +87,7 @@ module _ (source : Source) where
 
   law_member : (d : ℕ) (S : Item → Type 0) → Lawful d (reading.member source d) (reading.member source (suc d)) MemberTexts S
   law_member d S = law_fit (λ e deep m text is. member_is e m text is) (is_member d)
-      (law_on {test = symbol key.Entry} (λ lead. made_pure MEntry (law_entry d lead Anything))
+      (law_on {test = symbol key.Entry} (λ lead. made_pure MEntry (law_entry d lead S))
       (law_on {test = symbol key.Pragma} (λ lead. law_priority source d (λ e close. MPriority e) S) (careful_refuse d S) starts_never (symbol_item key.Pragma no_place) no_place (symbol_takes key.Pragma no_place)).careful
       (starts_or (starts_token (λ k at some. rw (symbol_is key.Pragma k at some) (entry_no_pragma at))) starts_never)
       (symbol_item key.Entry no_place) no_place (symbol_takes key.Entry no_place))
