@@ -1,5 +1,5 @@
 -- The law of parts that begin with `when`, the last of which may be for `others`.
-use Rattle.std.proofs.Common.{◌≡◌, ℕ, zero, suc, ◌+◌, ◌≤◌, inl, inr, ⊎_elim, List, [], ◌∷◌, ◌++◌, length, Option, Some, None, refl, sym, ap, ◌∙◌, subst, arith}
+use Rattle.std.proofs.Common.{◌≡◌, ℕ, zero, suc, ◌+◌, ◌≤◌, inl, inr, ⊎_elim, List, [], ◌∷◌, ◌++◌, length, Option, Some, None, refl, sym, ap, ◌∙◌, subst, arith, true, ◌⊎◌}
 use Rattle.std.specs.Prelude.{is_some}
 use Rattle.std.proofs.Math.Nat.{le_refl}
 use Rattle.std.proofs.lemmas.List.{append-nil, length-append}
@@ -11,16 +11,18 @@ use Rattle.ada_expr_parser.specs.Grammar.{symbol_item}
 use Rattle.ada_parser.specs.Spelling.{Spelling}
 use Rattle.ada_parser.specs.Reading.{is_symbol}
 use Rattle.ada_parser.specs.ReadingStatements.{Whens, with_part, no_whens, whens_in, whens}
-use Rattle.lawful_reader.specs.Readers.{Answer, Reader, Found, Fault, go_on, pure, bind, on, on_token}
+use Rattle.lawful_reader.specs.Readers.{Answer, Reader, Found, Fault, go_on, pure, bind, on, on_token, look, refuse}
 use Rattle.lawful_reader.specs.Grammars.{Texts, Never, Is, One, Then, Or, Begins, Starts, first_of}
 use Rattle.lawful_reader.specs.Lawful.{Careful, Lawful, IsPassed}
 use Rattle.lawful_reader.proofs.Binding.{law_pure, law_bind}
 use Rattle.lawful_reader.proofs.Choosing.{careful_refuse, law_on}
-use Rattle.lawful_reader.proofs.Looking.{law_look}
-use Rattle.lawful_reader.proofs.Fitting.{starts_is, starts_never, starts_then, law_fit}
+use Rattle.lawful_reader.proofs.Basics.{not_both, found_through, found_tree, not_empty}
+use Rattle.lawful_reader.proofs.Looking.{law_look, careful_look, CarefulWhere}
+use Rattle.lawful_reader.proofs.Fitting.{starts_is, starts_never, starts_then, law_fit, careful_fit}
 use Rattle.ada_expr_laws.proofs.Plainly.{after_symbol, symbol_then}
 use Rattle.ada_expr_laws.proofs.Tokens.{symbol_takes}
 use Rattle.ada_expr_laws.proofs.Primaries.{no_place}
+use Rattle.ada_parser.proofs.KitLeading.{symbol_at}
 
 -- `when` and a part
 abbrev pub WhenPart : {A : Type 0} → (Span → Texts Item A) → ℕ → A → Spelling
@@ -40,6 +42,14 @@ PartTexts P O d (a ∷ more) o text = (front : List Item) × (back : List Item) 
 
 abbrev pub WhensTexts : {A B : Type 0} → (Span → Texts Item A) → (Span → Texts Item B) → Texts Item (Whens A B)
 WhensTexts P O d x text = PartTexts P O d x.parts x.others text
+
+-- some part
+abbrev pub IsSomePart : {A B : Type 0} → List A → Option B → Type 0
+IsSomePart [] None = ⊥
+IsSomePart list o = Unit {0}
+
+abbrev pub SomeTexts : {A B : Type 0} → (Span → Texts Item A) → (Span → Texts Item B) → Texts Item (Whens A B)
+SomeTexts P O d x text = IsSomePart x.parts x.others × WhensTexts P O d x text
 
 -- how many parts there are
 abbrev one_if : {B : Type 0} → Option B → ℕ
@@ -135,28 +145,31 @@ module _ {A B : Type 0} {d : ℕ} {part part' : Span → Reader Item A} {others 
       let (f, is, text) = (part_law lead).careful.sound e in
       rw is (let parts = length-append f rest in omega (arith, parts))
 
-  behind_part : (n m : ℕ) (answer : Answer Item A) (most : ℕ) → ((a : A) (rest : List Item) → answer ≡ Found a rest → length rest ≤ most) →
-      ((rest : List Item) → length rest ≤ most → whens_in n part others rest ≡ whens_in m part others rest) →
-      go_on answer (λ a. bind (whens_in n part others) (λ more. pure (with_part a more))) ≡ go_on answer (λ a. bind (whens_in m part others) (λ more. pure (with_part a more)))
-  behind_part n m (Found a rest) most few alike = ap (λ answer. go_on answer (λ more. pure (with_part a more))) (alike rest (few a rest refl))
-  behind_part n m (Fault deep rest) most few alike = refl
+  -- readers of what follows a part that are alike on no longer lists
+  abbrev Alike : Reader Item (Whens A B) → Reader Item (Whens A B) → ℕ → Type 0
+  Alike q q' most = (rest : List Item) → length rest ≤ most → q rest ≡ q' rest
 
-  behind_when : (n m : ℕ) (lead : Span) (ts : List Item) → ((rest : List Item) → length rest ≤ length ts → whens_in n part others rest ≡ whens_in m part others rest) →
-      on (symbol key.Others) (λ at. bind (others lead) (λ b. pure (last_of b))) (bind (part lead) (λ a. bind (whens_in n part others) (λ more. pure (with_part a more)))) ts ≡
-      on (symbol key.Others) (λ at. bind (others lead) (λ b. pure (last_of b))) (bind (part lead) (λ a. bind (whens_in m part others) (λ more. pure (with_part a more)))) ts
-  behind_when n m lead [] alike = refl
-  behind_when n m lead (k ∷ ts) alike = by (symbol key.Others k) where
+  behind_part : (q q' : Reader Item (Whens A B)) (answer : Answer Item A) (most : ℕ) → ((a : A) (rest : List Item) → answer ≡ Found a rest → length rest ≤ most) → Alike q q' most →
+      go_on answer (λ a. bind q (λ more. pure (with_part a more))) ≡ go_on answer (λ a. bind q' (λ more. pure (with_part a more)))
+  behind_part q q' (Found a rest) most few alike = ap (λ answer. go_on answer (λ more. pure (with_part a more))) (alike rest (few a rest refl))
+  behind_part q q' (Fault deep rest) most few alike = refl
+
+  -- behind `when`
+  abbrev behind : Reader Item (Whens A B) → Span → Reader Item (Whens A B)
+  behind q lead = on (symbol key.Others) (λ at. bind (others lead) (λ b. pure (last_of b))) (bind (part lead) (λ a. bind q (λ more. pure (with_part a more))))
+
+  behind_when : (q q' : Reader Item (Whens A B)) (lead : Span) (ts : List Item) → Alike q q' (length ts) → behind q lead ts ≡ behind q' lead ts
+  behind_when q q' lead [] alike = refl
+  behind_when q q' lead (k ∷ ts) alike = by (symbol key.Others k) where
     by : (o : Option Span) →
-        on_token o (λ at. bind (others lead) (λ b. pure (last_of b))) (bind (part lead) (λ a. bind (whens_in n part others) (λ more. pure (with_part a more)))) k ts ≡
-        on_token o (λ at. bind (others lead) (λ b. pure (last_of b))) (bind (part lead) (λ a. bind (whens_in m part others) (λ more. pure (with_part a more)))) k ts
+        on_token o (λ at. bind (others lead) (λ b. pure (last_of b))) (bind (part lead) (λ a. bind q (λ more. pure (with_part a more)))) k ts ≡
+        on_token o (λ at. bind (others lead) (λ b. pure (last_of b))) (bind (part lead) (λ a. bind q' (λ more. pure (with_part a more)))) k ts
     by (Some at) = refl
-    by None = behind_part n m (part lead (k ∷ ts)) (length (k ∷ ts)) (λ a rest e. no_longer lead (k ∷ ts) a rest e) alike
+    by None = behind_part q q' (part lead (k ∷ ts)) (length (k ∷ ts)) (λ a rest e. no_longer lead (k ∷ ts) a rest e) alike
 
-  turn : (o : Option Span) (n m : ℕ) (k : Item) (ts : List Item) → ((rest : List Item) → length rest ≤ length ts → whens_in n part others rest ≡ whens_in m part others rest) →
-      on_token o (λ lead. on (symbol key.Others) (λ at. bind (others lead) (λ b. pure (last_of b))) (bind (part lead) (λ a. bind (whens_in n part others) (λ more. pure (with_part a more))))) (pure no_whens) k ts ≡
-      on_token o (λ lead. on (symbol key.Others) (λ at. bind (others lead) (λ b. pure (last_of b))) (bind (part lead) (λ a. bind (whens_in m part others) (λ more. pure (with_part a more))))) (pure no_whens) k ts
-  turn (Some lead) n m k ts alike = behind_when n m lead ts alike
-  turn None n m k ts alike = refl
+  turn : (o : Option Span) (q q' : Reader Item (Whens A B)) (k : Item) (ts : List Item) → Alike q q' (length ts) → on_token o (behind q) (pure no_whens) k ts ≡ on_token o (behind q') (pure no_whens) k ts
+  turn (Some lead) q q' k ts alike = behind_when q q' lead ts alike
+  turn None q q' k ts alike = refl
 
   turns_alike : (n m : ℕ) (ts : List Item) → length ts ≤ n → length ts ≤ m → whens_in n part others ts ≡ whens_in m part others ts
   turns_alike zero zero ts few enough = refl
@@ -166,7 +179,7 @@ module _ {A B : Type 0} {d : ℕ} {part part' : Span → Reader Item A} {others 
   turns_alike (suc n) zero (k ∷ ts) few enough = absurd (grind (arith, enough))
   turns_alike (suc n) (suc m) [] few enough = refl
   turns_alike (suc n) (suc m) (k ∷ ts) few enough =
-      turn (symbol key.When k) n m k ts (λ rest less. turns_alike n m rest (grind (arith, less, few)) (grind (arith, less, enough)))
+      turn (symbol key.When k) (whens_in n part others) (whens_in m part others) k ts (λ rest less. turns_alike n m rest (grind (arith, less, few)) (grind (arith, less, enough)))
 
   pub whens_turns : (n : ℕ) (ts : List Item) → length ts ≤ n → whens part others ts ≡ whens_in n part others ts
   whens_turns n ts few = turns_alike (length ts) n ts (le_refl (length ts)) few
@@ -209,3 +222,69 @@ module _ {A B : Type 0} {d : ℕ} {part part' : Span → Reader Item A} {others 
 
   pub starts_whens : Starts d (WhensTexts P O) S U
   starts_whens = record { begins_with = λ x text k is stop. parts_start x.parts x.others text k is stop }
+
+  -- ---- one at least
+
+  has_some : (n : ℕ) (lead : Span) (ts : List Item) (x : Whens A B) (rest : List Item) → behind (whens_in n part others) lead ts ≡ Found x rest → IsSomePart x.parts x.others
+  has_some n lead [] x rest e = absurd (not_both (sym e))
+  has_some n lead (k ∷ ts) x rest e = by (symbol key.Others k) e where
+    by : (o : Option Span) → on_token o (λ at. bind (others lead) (λ b. pure (last_of b))) (bind (part lead) (λ a. bind (whens_in n part others) (λ more. pure (with_part a more)))) k ts ≡ Found x rest → IsSomePart x.parts x.others
+    by (Some at) e =
+        let (b, middle, one, two) = found_through (others lead ts) (λ b. pure (last_of b)) e in
+        subst (λ y. IsSomePart y.parts y.others) (found_tree two) tt
+    by None e =
+        let (a, middle, one, two) = found_through (part lead (k ∷ ts)) (λ a. bind (whens_in n part others) (λ more. pure (with_part a more))) e in
+        let (more, last, three, four) = found_through (whens_in n part others middle) (λ more. pure (with_part a more)) two in
+        subst (λ y. IsSomePart y.parts y.others) (found_tree four) tt
+
+  found_some : (k : Item) (ts : List Item) (x : Whens A B) (rest : List Item) → is_symbol key.When k ≡ true → whens part others (k ∷ ts) ≡ Found x rest → IsSomePart x.parts x.others
+  found_some k ts x rest is e =
+      let (lead, from) = symbol_at key.When k is in
+      let taken : symbol key.When k ≡ Some lead = ap (symbol key.When) from ∙ symbol_takes key.When lead in
+      has_some (length ts) lead ts x rest (sym (ap (λ m. on_token m (behind (whens_in (length ts) part others)) (pure no_whens) k ts) taken) ∙ e)
+
+  some_or : (list : List A) (o : Option B) (e : ℕ) (text : List Item) → PartTexts P O e list o text → (text ≡ []) ⊎ IsSomePart list o
+  some_or [] None e text none = inl none
+  some_or [] (Some b) e text is = inr tt
+  some_or (a ∷ more) o e text is = inr tt
+
+  empty_front : (f g : List Item) → f ++ g ≡ [] → f ≡ []
+  empty_front [] g none = refl
+  empty_front (x ∷ f) g none = absurd (not_empty [] x (f ++ g) (sym none))
+
+  begins_some_part : (e : ℕ) (front : List Item) → Begins (WhensTexts P O e) front → (front ≡ []) ⊎ Begins (SomeTexts P O e) front
+  begins_some_part e front (x, more, is) = ⊎_elim (λ none. inl (empty_front front more none)) (λ some. inr (x, more, (some, is))) (some_or x.parts x.others e (front ++ more) is)
+
+  begins_last : (e : ℕ) (front : List Item) (k : Item) → Begins (WhensTexts P O e) (front ++ (k ∷ [])) → Begins (SomeTexts P O e) (front ++ (k ∷ []))
+  begins_last e front k some = ⊎_elim (λ none. absurd (not_empty front k [] (sym none))) (λ is. is) (begins_some_part e (front ++ (k ∷ [])) some)
+
+  some_where : CarefulWhere (is_symbol key.When) d (whens part others) (whens part' others') (SomeTexts P O) S
+  some_where = record {
+    sound = λ {k} {ts} {a = x} {rest} is e. let (f, from, text) = whens_careful.sound e in (f, from, (found_some k ts x rest is e, text));
+    complete = λ x rest from is text stop. whens_careful.complete x rest text.1 stop;
+    viable = λ is e. let (f, from, some) = whens_careful.viable e in (f, from, ⊎_elim inl (begins_some_part d f) some);
+    only_deeper = λ {k} {ts} {x} is e. let (f, from, e', deep, some) = whens_careful.only_deeper e in (f, from, e', deep, begins_last e' f x some);
+    found_alike = λ front other is e. whens_careful.found_alike front other e;
+    fault_alike = λ front other is e. whens_careful.fault_alike front other e;
+    found_deeper = λ {k} {ts} is e. whens_careful.found_deeper {ts = k ∷ ts} e;
+    fault_deeper = λ {k} {ts} is e. whens_careful.fault_deeper {ts = k ∷ ts} e;
+    grows = λ e deep text. (text.0, whens_careful.grows e deep text.1);
+  }
+
+  some_starts : (list : List A) (o : Option B) (text : List Item) (x : Item) → IsSomePart list o → PartTexts P O d list o text → is_symbol key.When (first_of x text) ≡ true
+  some_starts [] None text x never is = absurd never
+  some_starts [] (Some b) text x some (lead, at, back, from, is) = rw from (ap is_some (symbol_takes key.When lead))
+  some_starts (a ∷ more) o text x some (front, back, from, (lead, rest, one, is), many) = rw from (rw one (ap is_some (symbol_takes key.When lead)))
+
+  some_is : (e : ℕ) (x : Whens A B) (text : List Item) → Or (SomeTexts P O) Never e x text → SomeTexts P O e x text
+  some_is e x text (inl is) = is
+  some_is e x text (inr never) = absurd never
+
+  pub law_some_whens : Lawful d (look (is_symbol key.When) (whens part others) refuse) (look (is_symbol key.When) (whens part' others') refuse) (SomeTexts P O) S
+  law_some_whens = record {
+    careful = careful_fit (λ e deep x text is. some_is e x text is) (λ x text is. inl is)
+        (careful_look some_where (careful_refuse d S) (record { begins_with = λ x text k (some, is) stop. some_starts x.parts x.others text k some is }) starts_never);
+    some_text = λ e deep.
+        let (a, f, is) = (part_law no_place).some_text e deep in
+        (record { parts = a ∷ []; others = None }, symbol_item key.When no_place ∷ f, (tt, (symbol_item key.When no_place ∷ f, [], sym (append-nil (symbol_item key.When no_place ∷ f)), (no_place, f, refl, is), refl)));
+  }

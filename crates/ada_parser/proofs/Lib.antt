@@ -21,6 +21,7 @@ pub mod StmtLevels
 pub mod StmtSimple
 pub mod StmtIf
 pub mod StmtLoops
+pub mod StmtBodies
 pub mod Placed
 pub mod PlacedTokens
 pub mod PlacedItems
