@@ -1,10 +1,10 @@
 -- The laws of entries (9.5).
-use Rattle.std.proofs.Common.{◌≡◌, ℕ, suc, Bool, true, false, true≢false, ◌⊎◌, inl, inr, ⊎_elim, List, [], ◌∷◌, ◌++◌, Option, Some, None, refl, sym, ap, ◌∙◌, subst}
+use Rattle.std.proofs.Common.{◌≡◌, ℕ, suc, true, false, ◌⊎◌, inl, inr, ⊎_elim, List, [], ◌∷◌, ◌++◌, Option, Some, None, refl, sym, ap, ◌∙◌, subst}
 use Rattle.std.specs.Prelude.{is_some, not, ◌||◌}
 use Rattle.std.proofs.lemmas.List.{append_assoc}
-use Rattle.lawful_reader.specs.Readers.{Reader, Found, Fault, pure, bind, on, token, look}
-use Rattle.lawful_reader.specs.Grammars.{Texts, Is, One, Then, Or, Begins, first_of, Starts}
-use Rattle.lawful_reader.specs.Lawful.{Careful, Lawful, IsPassed, IsYes, IsNo, Anything}
+use Rattle.lawful_reader.specs.Readers.{Reader, Found, Fault, bind, on}
+use Rattle.lawful_reader.specs.Grammars.{Texts, Is, One, Then, Or, first_of, Starts}
+use Rattle.lawful_reader.specs.Lawful.{Lawful, IsYes, IsNo, Anything}
 use Rattle.lawful_reader.proofs.Basics.{not_both, found_rest, not_empty, tested}
 use Rattle.lawful_reader.proofs.Binding.{law_pure}
 use Rattle.lawful_reader.proofs.Choosing.{law_on}
@@ -12,7 +12,7 @@ use Rattle.lawful_reader.proofs.Looking.{decided, law_look}
 use Rattle.lawful_reader.proofs.Fitting.{starts_is, law_fit}
 use Rattle.ada_tree.specs.declared.naming.Span.{Span}
 use Rattle.ada_tree.specs.declared.naming.Word.{Word}
-use Rattle.ada_tree.specs.PlainExpr.{PDrange, RGiven, RMarked}
+use Rattle.ada_tree.specs.PlainExpr.{PDrange, RMarked}
 use Rattle.ada_tree.specs.PlainStmt.{PFormal}
 use Rattle.ada_tree.specs.PlainDecl.{PEntry}
 use Rattle.ada_expr_parser.specs.declared.symbols.Symbol.TheVariants as key
@@ -26,15 +26,15 @@ use Rattle.ada_expr_laws.specs.Stopping.{EndsRange}
 use Rattle.ada_expr_laws.proofs.Tokens.{symbol_is, symbol_takes, word_is, none_is}
 use Rattle.ada_expr_laws.proofs.Primaries.{no_place, some_word}
 use Rattle.ada_expr_laws.proofs.Building.{law_drange}
-use Rattle.ada_parser.specs.Spelling.{Spelling, ◌▷◌, IfThere, Key, Named, Separated, Placed}
-use Rattle.ada_parser.specs.Phrases.{Drange, IsFormal, Formals}
+use Rattle.ada_parser.specs.Spelling.{Spelling, ◌▷◌, IfThere, Key, Named}
+use Rattle.ada_parser.specs.Phrases.{Drange, Formals}
 use Rattle.ada_parser.specs.Tasks.{IsEntry}
 use Rattle.ada_parser.specs.Reading.{is_symbol, is_formal_mark, formals_from, behind_index}
 use Rattle.ada_parser.specs.Reading as pieces
 use Rattle.ada_parser.specs.ReadingDeclarations as reading
-use Rattle.ada_parser.proofs.KitPieces.{KeyAt, Closing, closing_key, closing_then, closing_same, same_self, same_turn, same_behind, same_grouped, after_key, placed_key, key_placed}
-use Rattle.ada_parser.proofs.KitReading.{Made, Both, made_key, made_bind, made_then, made_pure, law_word, law_closed, starts_key, starts_last, key_taken, taken_key}
-use Rattle.ada_parser.proofs.KitLeading.{symbol_at, is_itself}
+use Rattle.ada_parser.proofs.KitPieces.{KeyAt, Closing, closing_key, closing_then, closing_same, same_self, same_turn, same_behind, same_grouped, placed_key, key_placed}
+use Rattle.ada_parser.proofs.KitReading.{Made, made_key, made_bind, made_then, made_pure, law_word, law_closed, starts_key, starts_last}
+use Rattle.ada_parser.proofs.KitLeading.{symbol_at}
 use Rattle.ada_parser.proofs.Continuing.{law_onward}
 use Rattle.ada_parser.proofs.Narrowing.{Narrow, narrow_where, narrow_starts, passed_by, law_either}
 use Rattle.ada_parser.proofs.Formals.{FormalsBehind, SomeFormals, whole_formals, first_name, law_formals_from, FormalsTexts, EndsFormals, law_formals, formals_start}
@@ -141,6 +141,7 @@ range_off d w S = record { begins_with = begins } where
       (λ yes_is. absurd (no_longer d (a_mark w) r (word_item w ∷ []) y front (mark_is d w) (formal_mark_ends y yes_is) is))
       (λ no_is. no_is)
       (decided (is_formal_mark y))
+
   begins : (a : Held) (text : List Item) (x : Item) → RangeTexts (DrangeBehind w) d a text → S x → is_formal_mark (first_of x text) ≡ false
   begins a text x ((r, fs), same, ([], back, from, is, (f, b, split, (at, one), rest))) stop = rw from (rw split (rw one (close_mark at)))
   begins a text x ((r, fs), same, (y ∷ front, back, from, is, rest)) stop = rw from (off r y front is)

@@ -1,44 +1,31 @@
 -- The laws of tasks, their bodies, and all declarations (3.9, 9.1).
-use Rattle.std.proofs.Common.{◌≡◌, ℕ, suc, Bool, true, false, true≢false, ◌⊎◌, inl, inr, ⊎_elim, List, [], ◌∷◌, ◌++◌, Option, Some, None, refl, sym, ap, ◌∙◌, subst}
-use Rattle.std.specs.Prelude.{is_some, ◌||◌}
-use Rattle.std.proofs.lemmas.List.{append_assoc}
-use Rattle.lawful_reader.specs.Readers.{Reader, pure, refuse, bind, on, token, items}
-use Rattle.lawful_reader.specs.Grammars.{Texts, Never, Is, One, Then, Or, Raised, Many, first_of, Starts, Opens}
-use Rattle.lawful_reader.specs.Lawful.{Careful, Lawful, IsPassed, IsYes, Anything}
-use Rattle.lawful_reader.proofs.Basics.{not_empty}
-use Rattle.lawful_reader.proofs.Binding.{law_pure, law_bind, law_then}
+use Rattle.std.proofs.Common.{◌≡◌, ℕ, suc, Bool, true, false, inl, inr, ⊎_elim, List, [], ◌∷◌, ◌++◌, None, refl, sym, ap, ◌∙◌, subst}
+use Rattle.lawful_reader.specs.Readers.{items}
+use Rattle.lawful_reader.specs.Grammars.{Texts, Never, Is, One, Then, Or, Many, Opens}
+use Rattle.lawful_reader.specs.Lawful.{Lawful, Anything}
+use Rattle.lawful_reader.proofs.Binding.{law_pure}
 use Rattle.lawful_reader.proofs.Choosing.{law_on, careful_refuse}
 use Rattle.lawful_reader.proofs.Listing.{law_items}
-use Rattle.lawful_reader.proofs.Deepening.{law_raised}
-use Rattle.lawful_reader.proofs.Fitting.{starts_is, starts_or, starts_never, starts_token, law_fit, law_stops}
+use Rattle.lawful_reader.proofs.Fitting.{starts_or, starts_never, starts_token, law_fit}
 use Rattle.ada_tree.specs.declared.naming.Span.{Span}
 use Rattle.ada_tree.specs.declared.naming.Word.{Word}
 use Rattle.ada_tree.specs.PlainExpr.{PExpr}
-use Rattle.ada_tree.specs.PlainStmt.{PBody, body}
-use Rattle.ada_tree.specs.PlainDecl.{PEntry, PTask, PDecl, DNumber, DObject, DEnumeration, DArray, DSubtype, DException, DIntIo, DPragma, DTask, DTaskBody, PDecls, no_decl, decl_then, decls_of}
-use Rattle.ada_tree.specs.WellPlaced.{OthersLast, AreObjects}
-use Rattle.ada_expr_parser.specs.declared.symbols.Symbol.{Symbol}
+use Rattle.ada_tree.specs.PlainDecl.{PDecl, DTask}
 use Rattle.ada_expr_parser.specs.declared.symbols.Symbol.TheVariants as key
 use Rattle.ada_expr_parser.specs.declared.items.Item.{Item}
-use Rattle.ada_expr_parser.specs.Tests.{same, symbol, word}
+use Rattle.ada_expr_parser.specs.Tests.{same, symbol}
 use Rattle.ada_expr_parser.specs.Trees.{from_to}
-use Rattle.ada_expr_parser.specs.Grammar.{symbol_item, word_item}
-use Rattle.ada_expr_laws.proofs.Tokens.{symbol_is, symbol_takes, word_is, none_is}
-use Rattle.ada_expr_laws.proofs.Primaries.{no_place, some_word}
-use Rattle.ada_expr_laws.proofs.Plainly.{after_symbol, symbol_then, after_word, word_then}
-use Rattle.ada_parser.specs.Spelling.{Source, Spelling, ◌▷◌, Either, Where, Key, Named, Row, Placed}
-use Rattle.ada_parser.specs.Phrases.{EndOf}
-use Rattle.ada_parser.specs.Statements.{Stmts, HandlerPart, IsBody}
-use Rattle.ada_parser.specs.Tasks.{Member, MEntry, MPriority, entries_in, priorities_in, IsMember, AreMembersOf, TaskWord, TaskRest, IsTask}
-use Rattle.ada_parser.specs.Declarations.{UnitEnd, IsDecl, Decls}
-use Rattle.ada_parser.specs.Reading.{is_symbol, key_then, end_of}
-use Rattle.ada_parser.specs.ReadingStatements.{readers, body_rest}
+use Rattle.ada_expr_parser.specs.Grammar.{symbol_item}
+use Rattle.ada_expr_laws.proofs.Tokens.{symbol_is, symbol_takes}
+use Rattle.ada_expr_laws.proofs.Primaries.{no_place}
+use Rattle.ada_expr_laws.proofs.Plainly.{after_symbol, symbol_then}
+use Rattle.ada_parser.specs.Spelling.{Source, Spelling, ◌▷◌, Either, Key, Row}
+use Rattle.ada_parser.specs.Tasks.{Member, MEntry, MPriority, IsMember, TaskRest}
 use Rattle.ada_parser.specs.ReadingDeclarations as reading
-use Rattle.ada_parser.proofs.KitPieces.{KeyAt, Closing, closing_key, closing_then, closing_same, same_self, same_turn, same_behind, same_grouped, Same, after_key, placed_key, key_placed}
-use Rattle.ada_parser.proofs.KitReading.{Made, Both, made_key, made_bind, made_then, made_pure, law_word, law_closed, starts_key, starts_last, key_taken, taken_key}
+use Rattle.ada_parser.proofs.KitPieces.{KeyAt, Closing, closing_key, closing_then, after_key}
+use Rattle.ada_parser.proofs.KitReading.{Made, Both, made_key, made_bind, made_pure, starts_key}
 use Rattle.ada_parser.proofs.KitDeeper.{NameEnd, law_end_of, closing_end}
-use Rattle.ada_parser.proofs.DeclNames.{no_key, WordDecls, law_word_decl, IsObjectDecl, ObjectDecls, law_object}
-use Rattle.ada_parser.proofs.DeclTypes.{NameIs, law_name_is, EnumerationTexts, ArrayTexts, TypeTexts, law_type, EnumerationShut, enumeration_closing, ArrayShut, array_closing, SubtypeTexts, law_subtype, SubtypeShut, subtype_closing, InstanceTexts, law_instance, InstanceShut, instance_closing, PriorityShut, law_priority, priority_closing}
+use Rattle.ada_parser.proofs.DeclTypes.{PriorityShut, law_priority, priority_closing}
 use Rattle.ada_parser.proofs.DeclEntries.{EntryLed, law_entry}
 
 -- ---- members
@@ -118,7 +105,7 @@ module _ (source : Source) where
 
   -- ---- behind `task [type] NAME`
 
-  abbrev RestShut : ℕ → Word → List Member → Span → Spelling
+  abbrev pub RestShut : ℕ → Word → List Member → Span → Spelling
   RestShut d w [] close = Either (KeyAt key.Semicolon close) (Key key.Is ▷ Key key.End ▷ NameEnd w close)
   RestShut d w (m ∷ ms) close = Key key.Is ▷ Row (IsMember source d) (m ∷ ms) ▷ Key key.End ▷ NameEnd w close
 
@@ -131,14 +118,14 @@ module _ (source : Source) where
     last = λ close text is at. ⊎_elim (λ left. one.last close text left at) (λ right. other.last close text right at) is;
   }
 
-  rest_closing : (d : ℕ) (w : Word) (ms : List Member) → Closing (RestShut d w ms) (TaskRest source d w ms)
+  pub rest_closing : (d : ℕ) (w : Word) (ms : List Member) → Closing (RestShut d w ms) (TaskRest source d w ms)
   rest_closing d w [] = closing_either (closing_key key.Semicolon) (closing_then (Key key.Is) (closing_end w))
   rest_closing d w (m ∷ ms) = closing_then (Key key.Is) (closing_then (Row (IsMember source d) (m ∷ ms)) (closing_end w))
 
   abbrev MembersTexts : Span → Bool → Word → Texts Item PDecl
   MembersTexts lead of_kind w = Made {V = List Member × Span} (λ v. DTask (reading.task_of of_kind w v.0) (from_to lead v.1)) (λ d v. Key key.Is ▷ Row (IsMember source d) v.0 ▷ Key key.End ▷ NameEnd w v.1)
 
-  abbrev RestTexts : Span → Bool → Word → Texts Item PDecl
+  abbrev pub RestTexts : Span → Bool → Word → Texts Item PDecl
   RestTexts lead of_kind w = Made {V = List Member × Span} (λ v. DTask (reading.task_of of_kind w v.0) (from_to lead v.1)) (λ d v. RestShut d w v.0 v.1)
 
   abbrev EitherRest : Span → Bool → Word → Texts Item PDecl
@@ -162,7 +149,7 @@ module _ (source : Source) where
   unfolding same
   semicolon_no_is at = refl
 
-  law_rest : (d : ℕ) (lead : Span) (of_kind : Bool) (w : Word) (S : Item → Type 0) → Lawful d (reading.task_rest source d lead of_kind w) (reading.task_rest source (suc d) lead of_kind w) (RestTexts lead of_kind w) S
+  pub law_rest : (d : ℕ) (lead : Span) (of_kind : Bool) (w : Word) (S : Item → Type 0) → Lawful d (reading.task_rest source d lead of_kind w) (reading.task_rest source (suc d) lead of_kind w) (RestTexts lead of_kind w) S
   law_rest d lead of_kind w S = law_fit (λ e deep a text is. rest_is lead of_kind w e a text is) (is_rest lead of_kind w d)
       (law_on {test = symbol key.Semicolon} (λ close. law_pure d (DTask (reading.task_of of_kind w []) (from_to lead close)) S)
       (made_key key.Is (λ v. DTask (reading.task_of of_kind w v.0) (from_to lead v.1)) (Both RowTexts (λ ms d close. Key key.End ▷ NameEnd w close))

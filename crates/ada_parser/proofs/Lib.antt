@@ -8,6 +8,8 @@ pub mod DeclNames
 pub mod DeclTypes
 pub mod DeclEntries
 pub mod DeclTasks
+pub mod DeclLaws
+pub mod DeclGrammar
 mod ReadingExamples
 mod DeclExamples
 mod TextExamples
