@@ -30,3 +30,11 @@ pub mod PlacedItems
 pub mod OneText
 -- the statements that begin with a name
 pub mod WordLaw
+pub mod WordBranches
+pub mod WordExpr
+pub mod WordCalls
+pub mod WordPut
+pub mod WordGet
+pub mod WordGetTexts
+pub mod WordRest
+mod WordExamples
