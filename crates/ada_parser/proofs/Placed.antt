@@ -99,7 +99,7 @@ module _ (rules : Rules) (source : Source) (suits : Suits rules) where
   duration n text fit (at, is) = (subst Fit is fit).0
 
   pub string : (t : List ℕ) (at : Span) → Draws (StringAt source t at) (rules.words t)
-  string t at text fit (is, says) = subst rules.words (sym says) (subst Fit is fit).0
+  string t at text fit (is, says, graphic) = subst rules.words (sym says) (subst Fit is fit).0
 
   -- one level deeper
   pub inside : (k d : ℕ) → k + d ≤ 300 → {P : ℕ → Spelling} {A : Type 0} → ((i : ℕ) → k + 1 + i ≤ 300 → Draws (P i) A) → Draws (Inside d P) A
