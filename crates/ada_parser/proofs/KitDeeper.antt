@@ -73,11 +73,11 @@ not_symbol : (s : Symbol) (at : Span) (ts : List Item) → symbol_in key.LeftPar
     expression 0 (symbol_item s at ∷ ts) ≡ Fault false (symbol_item s at ∷ ts)
 not_symbol s at ts paren factor plus = rw plus (rw factor (rw paren refl))
 
-neither : (a b : Bool) → (a || b) ≡ false → (a ≡ false) × (b ≡ false)
+pub neither : (a b : Bool) → (a || b) ≡ false → (a ≡ false) × (b ≡ false)
 neither true b e = absurd (true≢false e)
 neither false b e = (refl, e)
 
-no_some : {A : Type 0} (m : Option A) → is_some m ≡ false → m ≡ None
+pub no_some : {A : Type 0} (m : Option A) → is_some m ≡ false → m ≡ None
 no_some (Some x) e = absurd (true≢false e)
 no_some None e = refl
 

@@ -30,11 +30,11 @@ some_of : {A : Type 0} (m : Option A) → is_some m ≡ true → (x : A) × (m �
 some_of (Some x) e = (x, refl)
 some_of None e = absurd (true≢false (sym e))
 
-or_is : (a b : Bool) → (a || b) ≡ true → (a ≡ true) ⊎ (b ≡ true)
+pub or_is : (a b : Bool) → (a || b) ≡ true → (a ≡ true) ⊎ (b ≡ true)
 or_is true b e = inl refl
 or_is false b e = inr e
 
-and_is : (a b : Bool) → (a && b) ≡ true → (a ≡ true) × (b ≡ true)
+pub and_is : (a b : Bool) → (a && b) ≡ true → (a ≡ true) × (b ≡ true)
 and_is true b e = (refl, e)
 and_is false b e = absurd (true≢false (sym e))
 

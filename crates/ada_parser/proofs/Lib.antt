@@ -10,6 +10,10 @@ pub mod Formals
 pub mod DeclInits
 pub mod DeclNames
 pub mod DeclTypes
+pub mod DeclEntries
+pub mod DeclTasks
+pub mod DeclLaws
+pub mod DeclGrammar
 mod ReadingExamples
 mod DeclExamples
 mod TextExamples
@@ -24,9 +28,19 @@ pub mod StmtSimple
 pub mod StmtIf
 pub mod StmtLoops
 pub mod StmtBodies
+pub mod StmtAlts
+pub mod StmtSelect
 pub mod Placed
 pub mod PlacedTokens
 pub mod PlacedItems
 pub mod OneText
 -- the statements that begin with a name
 pub mod WordLaw
+pub mod WordBranches
+pub mod WordExpr
+pub mod WordCalls
+pub mod WordPut
+pub mod WordGet
+pub mod WordGetTexts
+pub mod WordRest
+mod WordExamples
