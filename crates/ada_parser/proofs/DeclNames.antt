@@ -236,6 +236,10 @@ word_same v w back text from = some_is (sym (ap word (ap (first_of (word_item w)
 pub no_key : (s : Symbol) (Q : Spelling) (w : Word) (text : List Item) → (Key s ▷ Q) (word_item w ∷ text) → ⊥
 no_key s Q w text (front, back, from, (at, one), rest) = none_is (sym (ap word (ap (first_of (word_item w)) (from ∙ ap (λ l. l ++ back) one))))
 
+abbrev pub IsObjectDecl : PDecl → Type 0
+IsObjectDecl (DObject ws c x i s) = Unit {0}
+IsObjectDecl _ = ⊥
+
 module _ (source : Source) where
   -- a declaration behind its first name
   abbrev pub WordDecls : Word → Texts Item PDecl
@@ -396,10 +400,6 @@ module _ (source : Source) where
 
   -- ---- objects alone
 
-  abbrev pub IsObjectDecl : PDecl → Type 0
-  IsObjectDecl (DObject ws c x i s) = Unit {0}
-  IsObjectDecl _ = ⊥
-
   abbrev pub ObjectDecls : Texts Item PDecl
   ObjectDecls d a text = IsObjectDecl a × IsDecl source d a text
 
@@ -412,7 +412,7 @@ module _ (source : Source) where
       )
 
   -- an object begins with a name
-  object_name : (d : ℕ) (ws : List Word) (c : Bool) (x : PShape) (i : Option PInit) (s : Span) (text : List Item) → IsDecl source d (DObject ws c x i s) text → (w : Word) × (back : List Item) × (text ≡ word_item w ∷ back)
+  pub object_name : (d : ℕ) (ws : List Word) (c : Bool) (x : PShape) (i : Option PInit) (s : Span) (text : List Item) → IsDecl source d (DObject ws c x i s) text → (w : Word) × (back : List Item) × (text ≡ word_item w ∷ back)
   object_name d [] c x i s text ((front, back, from, never, rest), place) = absurd never
   object_name d (w ∷ more) c x i s text ((front, back, from, (f, b, split, one, behind), rest), place) = (w, b ++ back, from ∙ ap (λ l. l ++ back) (split ∙ ap (λ l. l ++ b) one))
 

@@ -179,10 +179,10 @@ law_formals_from d w S = law_fit (λ e deep fs text is. list_is w e fs text is) 
 abbrev pub FormalsIn : Span → Texts Item (List PFormal)
 FormalsIn lead d fs text = Formals fs (symbol_item key.LeftParen lead ∷ text)
 
-abbrev SomeFormals : Texts Item (List PFormal)
+abbrev pub SomeFormals : Texts Item (List PFormal)
 SomeFormals d fs text = (Separated (Key key.Semicolon) IsFormal fs ▷ Key key.RightParen) text
 
-first_name : (d : ℕ) (fs : List PFormal) (text : List Item) → SomeFormals d fs text → (w : Word) × (back : List Item) × (text ≡ word_item w ∷ back)
+pub first_name : (d : ℕ) (fs : List PFormal) (text : List Item) → SomeFormals d fs text → (w : Word) × (back : List Item) × (text ≡ word_item w ∷ back)
 first_name d [] text (front, back, from, never, one) = absurd never
 first_name d (x ∷ more) text (front, back, from, (f, b, split, is, many), one) =
     let (w, rest, first) = formal_name x.names (Key key.Colon ▷ Mode x.mode ▷ Named x.mark) f is in
@@ -200,7 +200,7 @@ law_some_formals d S = law_fit (λ e deep fs text is. some_is_behind e fs text i
 abbrev pub FormalsTexts : Texts Item (List PFormal)
 FormalsTexts d fs text = Formals fs text
 
-whole_formals : (d : ℕ) (fs : List PFormal) (text : List Item) → (Key key.LeftParen ▷ SomeFormals d fs) text → Formals fs text
+pub whole_formals : (d : ℕ) (fs : List PFormal) (text : List Item) → (Key key.LeftParen ▷ SomeFormals d fs) text → Formals fs text
 whole_formals d [] text (front, back, from, mark, (f, b, split, never, one)) = absurd never
 whole_formals d (x ∷ more) text is = is
 

@@ -1,4 +1,8 @@
 pub mod Faults
+pub mod Texts
+pub mod Seen
+pub mod Steps
+pub mod Lists
 pub mod Continuing
 pub mod Narrowing
 pub mod Rows
@@ -6,6 +10,10 @@ pub mod Formals
 pub mod DeclInits
 pub mod DeclNames
 pub mod DeclTypes
+pub mod DeclEntries
+pub mod DeclTasks
+pub mod DeclLaws
+pub mod DeclGrammar
 mod ReadingExamples
 mod DeclExamples
 mod TextExamples
@@ -20,6 +28,8 @@ pub mod StmtSimple
 pub mod StmtIf
 pub mod StmtLoops
 pub mod StmtBodies
+pub mod StmtAlts
+pub mod StmtSelect
 pub mod Placed
 pub mod PlacedTokens
 pub mod PlacedItems
