@@ -10,6 +10,7 @@ pub mod DeclEntries
 pub mod DeclTasks
 pub mod DeclLaws
 pub mod DeclGrammar
+pub mod UnitLaws
 mod ReadingExamples
 mod DeclExamples
 mod TextExamples
