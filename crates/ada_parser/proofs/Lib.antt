@@ -11,6 +11,8 @@ pub mod DeclTasks
 pub mod DeclLaws
 pub mod DeclGrammar
 pub mod UnitLaws
+pub mod NoEnd
+pub mod Whole
 mod ReadingExamples
 mod DeclExamples
 mod TextExamples

@@ -1,9 +1,8 @@
 -- The laws of lists of declarations and of units, when those of statements hold (3.9, 6.3, 10.1).
-use Rattle.std.proofs.Common.{◌≡◌, ℕ, suc, Bool, true, false, true≢false, ◌⊎◌, inl, inr, List, [], ◌∷◌, ◌++◌, Option, None, codes, refl, sym, ap, ◌∙◌, subst}
-use Rattle.std.specs.Prelude.{◌||◌}
-use Rattle.lawful_reader.specs.Readers.{Reader, pure, bind, on, token}
-use Rattle.lawful_reader.specs.Grammars.{Texts, One, Then, Or, Many, first_of, Starts}
-use Rattle.lawful_reader.specs.Lawful.{Careful, Lawful, IsPassed, Anything}
+use Rattle.std.proofs.Common.{◌≡◌, ℕ, suc, Bool, true, false, true≢false, inl, inr, List, [], ◌∷◌, ◌++◌, None, codes, refl, sym, ap, ◌∙◌, subst}
+use Rattle.lawful_reader.specs.Readers.{Reader}
+use Rattle.lawful_reader.specs.Grammars.{Texts, One, Then, Or, Many}
+use Rattle.lawful_reader.specs.Lawful.{Lawful, Anything}
 use Rattle.lawful_reader.proofs.Choosing.{law_on}
 use Rattle.lawful_reader.proofs.Deepening.{law_raised}
 use Rattle.lawful_reader.proofs.Fitting.{law_fit}
@@ -13,31 +12,30 @@ use Rattle.ada_tree.specs.declared.naming.Word.{Word}
 use Rattle.ada_tree.specs.PlainStmt.{PBody}
 use Rattle.ada_tree.specs.PlainDecl.{PDecl, DNumber, DObject, DEnumeration, DArray, DSubtype, DException, DIntIo, DPragma, DTask, DTaskBody, PDecls, no_decl, decl_then, decls_of}
 use Rattle.ada_tree.specs.WellPlaced.{IsLater, AreLater, BodiesLast}
-use Rattle.ada_expr_parser.specs.declared.symbols.Symbol.{Symbol}
 use Rattle.ada_expr_parser.specs.declared.symbols.Symbol.TheVariants as key
 use Rattle.ada_expr_parser.specs.declared.items.Item.{Item}
-use Rattle.ada_expr_parser.specs.Tests.{same, symbol, word}
+use Rattle.ada_expr_parser.specs.Tests.{same, symbol}
 use Rattle.ada_expr_parser.specs.Grammar.{symbol_item, word_item}
 use Rattle.ada_expr_laws.proofs.Tokens.{symbol_takes}
 use Rattle.ada_expr_laws.proofs.Primaries.{no_place}
 use Rattle.ada_parser.specs.Spelling.{Source, Spelling, ◌▷◌, Where, Key, Named, Predefined, id_of}
 use Rattle.ada_parser.specs.Statements.{IsBody}
 use Rattle.ada_parser.specs.Tasks.{TaskWord, TaskRest}
-use Rattle.ada_parser.specs.Declarations.{UnitEnd, IsDecl, Decls}
-use Rattle.ada_parser.specs.Units.{PUnit, Context, IsUnit, Units}
+use Rattle.ada_parser.specs.Declarations.{UnitEnd, Decls}
+use Rattle.ada_parser.specs.Units.{PUnit, Context, Units}
 use Rattle.ada_parser.specs.ReadingStatements.{readers}
 use Rattle.ada_parser.specs.ReadingDeclarations as reading
 use Rattle.ada_parser.specs.ReadingDeclarations.{begins_later, begins_decl, begins_behind, is_body}
 use Rattle.ada_parser.specs.ReadingUnits as units
-use Rattle.ada_parser.proofs.KitPieces.{KeyAt, Closing, closing_key, closing_then, closing_same, Same, same_self, same_turn, same_behind, same_through, same_grouped, after_key}
-use Rattle.ada_parser.proofs.KitReading.{Made, Both, made_key, made_bind, made_then, made_pure, law_word, law_key, starts_key, key_taken, taken_key}
+use Rattle.ada_parser.proofs.KitPieces.{Closing, closing_then, closing_same, Same, same_self, same_behind, after_key}
+use Rattle.ada_parser.proofs.KitReading.{Made, made_key, made_bind, made_then, made_pure, law_word, law_key, starts_key, key_taken, taken_key}
 use Rattle.ada_parser.proofs.KitDeeper.{NameEnd, closing_end}
 use Rattle.ada_parser.proofs.Rows.{Fits, RowTexts, SaysWhere, law_row}
 use Rattle.ada_parser.proofs.StmtLevels.{LevelLaws}
 use Rattle.ada_parser.proofs.StmtBodies.{BodyTexts}
 use Rattle.ada_parser.proofs.DeclNames.{object_name}
 use Rattle.ada_parser.proofs.DeclTypes.{law_with_id, pushed}
-use Rattle.ada_parser.proofs.DeclLaws.{UnitTexts, law_unit_end, unit_same}
+use Rattle.ada_parser.proofs.DeclLaws.{law_unit_end, unit_same}
 use Rattle.ada_parser.proofs.DeclGrammar.{Decl, law_decl}
 
 -- ---- which declaration may stand behind a body
