@@ -1,4 +1,8 @@
 pub mod Faults
+pub mod Texts
+pub mod Seen
+pub mod Steps
+pub mod Lists
 pub mod Continuing
 pub mod Narrowing
 pub mod Rows
@@ -27,6 +31,8 @@ pub mod StmtSimple
 pub mod StmtIf
 pub mod StmtLoops
 pub mod StmtBodies
+pub mod StmtAlts
+pub mod StmtSelect
 pub mod Placed
 pub mod PlacedTokens
 pub mod PlacedItems

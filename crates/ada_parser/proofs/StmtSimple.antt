@@ -35,7 +35,7 @@ use Rattle.ada_expr_laws.proofs.Calling.{law_target}
 use Rattle.ada_parser.proofs.KitPieces.{KeyAt, Closing, closing_key, closing_then, placed_key, key_placed}
 use Rattle.ada_parser.proofs.KitReading.{Made, Both, made_fit, made_bind, made_then, made_pure, law_closed, law_separated, starts_last}
 use Rattle.ada_parser.proofs.KitDeeper.{Expressions, law_expression}
-use Rattle.ada_parser.proofs.StmtLevels.{zero_is, has_zero, has_then, has_at}
+use Rattle.ada_parser.proofs.StmtLevels.{Has, zero_is, has_zero, has_then, has_at, Has}
 
 -- what is a statement of this kind when it stands behind the symbol
 abbrev pub LedBy : Source → (PStmt → Type 0) → Symbol → Span → Texts Item PStmt
@@ -93,6 +93,9 @@ pub law_delayed : (d : ℕ) (S : Item → Type 0) → Lawful d delayed delayed D
 law_delayed d S = made_fit (λ v. record { thousandths = v.0; close = v.1 }) (Both (λ e n. Duration n) (λ n e close. KeyAt key.Semicolon close))
     (λ e v text is. is) (λ e x text is. ((x.thousandths, x.close), refl, is))
     (made_then (λ n close. record { thousandths = n; close = close }) (λ n e close. KeyAt key.Semicolon close) (law_duration d Anything) (λ n. law_closed d (λ close. record { thousandths = n; close = close }) S))
+
+pub has_duration : Has (Duration 0)
+has_duration = (record { kind = item.Duration 0; span = no_place } ∷ [], (no_place, refl))
 
 -- ---- null
 

@@ -7,6 +7,8 @@ pub mod Units
 pub mod Reads
 pub mod Reading
 pub mod ReadingStatements
+pub mod Views
+pub mod Turns
 pub mod ReadingRows
 pub mod ReadingDeclarations
 pub mod ReadingUnits
