@@ -1,4 +1,8 @@
 pub mod Faults
+pub mod Texts
+pub mod Seen
+pub mod Steps
+pub mod Lists
 pub mod Continuing
 pub mod Narrowing
 pub mod Rows
@@ -10,6 +14,9 @@ pub mod DeclEntries
 pub mod DeclTasks
 pub mod DeclLaws
 pub mod DeclGrammar
+pub mod UnitLaws
+pub mod NoEnd
+pub mod Whole
 mod ReadingExamples
 mod DeclExamples
 mod TextExamples
