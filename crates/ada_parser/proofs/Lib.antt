@@ -33,6 +33,8 @@ pub mod StmtLoops
 pub mod StmtBodies
 pub mod StmtAlts
 pub mod StmtSelect
+pub mod StmtAccept
+pub mod StmtLaws
 pub mod Placed
 pub mod PlacedTokens
 pub mod PlacedItems
