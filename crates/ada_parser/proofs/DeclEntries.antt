@@ -38,12 +38,9 @@ use Rattle.ada_parser.proofs.KitLeading.{symbol_at}
 use Rattle.ada_parser.proofs.Continuing.{law_onward}
 use Rattle.ada_parser.proofs.Narrowing.{Narrow, narrow_where, narrow_starts, passed_by, law_either}
 use Rattle.ada_parser.proofs.Formals.{FormalsBehind, SomeFormals, whole_formals, first_name, law_formals_from, FormalsTexts, EndsFormals, law_formals, formals_start}
-use Rattle.ada_parser.proofs.DeclInits.{Dranges, close_range}
+use Rattle.ada_parser.proofs.DeclInits.{Dranges, close_range, an_end}
 
 -- ---- discrete ranges, from a name on
-
-abbrev an_end : Item
-an_end = record { kind = item.End; span = no_place }
 
 end_range : EndsRange an_end
 end_range = (((((refl, refl), refl), refl), refl), refl)

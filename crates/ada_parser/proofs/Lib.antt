@@ -14,6 +14,10 @@ pub mod DeclEntries
 pub mod DeclTasks
 pub mod DeclLaws
 pub mod DeclGrammar
+pub mod UnitLaws
+pub mod NoEnd
+pub mod Whole
+pub mod Exact
 mod ReadingExamples
 mod DeclExamples
 mod TextExamples
@@ -30,6 +34,8 @@ pub mod StmtLoops
 pub mod StmtBodies
 pub mod StmtAlts
 pub mod StmtSelect
+pub mod StmtAccept
+pub mod StmtLaws
 pub mod Placed
 pub mod PlacedTokens
 pub mod PlacedItems
