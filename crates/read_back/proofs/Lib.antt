@@ -16,5 +16,3 @@ pub mod Tasks
 pub mod Declarations
 pub mod Units
 pub mod Whole
--- programs that are the same have one text
-pub mod Alike

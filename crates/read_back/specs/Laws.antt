@@ -1,5 +1,4 @@
 -- What is printed is read back (this project's rule).
-use Rattle.std.specs.Prelude.{◌≡◌, ℕ, List}
 use Rattle.ada_tree.specs.PlainProgram.{PProgram}
 use Rattle.ada_tree.specs.WellPlaced.{IsWellPlaced}
 use Rattle.ada_tree.specs.Same.{Same}
@@ -9,11 +8,3 @@ use Rattle.ada_printer.specs.ProgramText.{program_text}
 -- The text of a well placed program is read as some program, and as one that is the same.
 abbrev pub IsReadBack : Type 0
 IsReadBack = (p : PProgram) → IsWellPlaced p → (q : PProgram) × Reads (program_text p) q × Same p q
-
--- Programs that are the same have one text: it depends on no place and no id.
-abbrev pub HaveOneText : Type 0
-HaveOneText = (p q : PProgram) → Same p q → program_text p ≡ program_text q
-
--- A program that was read is printed as a text that is read as the same one, and that one is printed as the same text.
-abbrev pub IsPrintedOnce : Type 0
-IsPrintedOnce = (bytes : List ℕ) (p : PProgram) → Reads bytes p → (q : PProgram) × Reads (program_text p) q × Same p q × (program_text q ≡ program_text p)
