@@ -18,6 +18,7 @@ pub mod DeclGrammar
 pub mod UnitLaws
 pub mod NoEnd
 pub mod Whole
+pub mod Exact
 mod ReadingExamples
 mod DeclExamples
 mod TextExamples

@@ -16,7 +16,6 @@ use Rattle.ada_expr_parser.specs.declared.items.ItemKind.TheVariants as item
 use Rattle.ada_expr_parser.specs.declared.items.Item.{Item}
 use Rattle.ada_expr_parser.specs.Items.{Says, IsItemOf, end_of}
 use Rattle.ada_expr_parser.specs.Gives.{place}
-use Rattle.ada_expr_laws.proofs.Primaries.{no_place}
 use Rattle.ada_parser.specs.Spelling.{Source}
 use Rattle.ada_parser.specs.Units.{PUnit, Units}
 use Rattle.ada_parser.specs.Reads.{deepest, is_end_kind, is_end, WholeTexts, unit_of, HasItems, Reads, BeginsSomeText, BeginsText, SyntaxAt, TooDeepAt}
@@ -29,6 +28,7 @@ use Rattle.ada_parser.proofs.Faults.{syntax_at, too_deep_at}
 use Rattle.ada_parser.proofs.Continuing.{two_fronts}
 use Rattle.ada_parser.proofs.NoEnd.{Free, free_item, unit_free}
 use Rattle.ada_parser.proofs.StmtLevels.{LevelLaws}
+use Rattle.ada_parser.proofs.DeclInits.{an_end}
 use Rattle.ada_parser.proofs.UnitLaws.{law_unit}
 
 -- ---- the end of a text is its last item alone
@@ -72,9 +72,6 @@ compared f g x y r t is = ⊎_elim
 -- what begins a text does so with fewer items
 fewer : {A : Type 0} (D : A → List Item → Type 0) (f m : List Item) → Begins D (f ++ m) → Begins D f
 fewer D f m (a, more, text) = (a, m ++ more, subst (D a) (append_assoc f m more) text)
-
-abbrev an_end : Item
-an_end = record { kind = item.End; span = no_place }
 
 module _ (laws : (source : Source) (d : ℕ) → LevelLaws source d (readers source d) (readers source (suc d))) (one_text : HasOneText) where
   whole_laws : (source : Source) → ReadsWhole is_end (reading.unit source) (Units source)
