@@ -1,1 +1,2 @@
 pub mod ModulusLaws
+pub mod SoonerLaws

@@ -1,2 +1,5 @@
 pub mod ModulusLaw
 pub mod StaticAnswer
+pub mod Sooner
+pub mod Met
+pub mod Rules

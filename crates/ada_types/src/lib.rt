@@ -4,6 +4,7 @@
 mod errors;
 mod names;
 mod operations;
+mod refusals;
 mod static_values;
 #[cfg(test)]
 mod tests;
