@@ -1,2 +1,3 @@
 pub mod ModulusLaws
 pub mod SoonerLaws
+pub mod Naming

@@ -3,3 +3,7 @@ pub mod StaticAnswer
 pub mod Sooner
 pub mod Met
 pub mod Rules
+pub mod Entries
+pub mod Things
+pub mod Mapped
+pub mod Plain

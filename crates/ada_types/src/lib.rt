@@ -2,10 +2,15 @@
 #![tactic(auto)]
 
 mod errors;
+mod kinds;
 mod names;
 mod operations;
+mod readings;
 mod refusals;
+mod scope;
 mod static_values;
+mod table;
+mod things;
 #[cfg(test)]
 mod tests;
 
