@@ -9,7 +9,7 @@ use Rattle.scoped_names.specs.Meaning.{meaning_in}
 at_test : (s : ℕ × Thing) (rest : List (ℕ × Thing)) (name : ℕ) (b : Bool)
     → option_map (λ x. x.thing) (find (λ x. x.name == name) (plain_names rest)) ≡ option_map plain_thing (meaning_in rest name)
     → option_map (λ x. x.thing) (if b then Some record { name = s.0; thing = plain_thing s.1 } else find (λ x. x.name == name) (plain_names rest))
-      ≡ option_map plain_thing (option_map (λ x. x.1) (if b then Some s else find (λ x. x.0 == name) rest))
+    ≡ option_map plain_thing (option_map (λ x. x.1) (if b then Some s else find (λ x. x.0 == name) rest))
 at_test s rest name true h = refl
 at_test s rest name false h = h
 

@@ -4,7 +4,7 @@ use Rattle.std.proofs.Common.{sym, ap, ◌∙◌, arith}
 use Rattle.std.proofs.lemmas.Bool.Decides.{nat_tests}
 use Rattle.ada_tree.specs.Refusals.{Refusal, ComesFirst, by_rule}
 use Rattle.ada_tree.specs.declared.naming.Span.{Span}
-use Rattle.ada_types.specs.Sooner.{is_lower, is_before, sooner_of, sooner, least_of}
+use Rattle.ada_types.specs.Sooner.{is_lower, is_before, sooner_of, sooner, least_of, found}
 
 lower_trans : (a b c : ℕ) (t u v : Bool) → (t ≡ true → u ≡ true → v ≡ true) → is_lower b a t ≡ true → is_lower c b u ≡ true → is_lower c a v ≡ true
 lower_trans a b c t u v h p q = grind (arith, nat_tests)
@@ -104,5 +104,11 @@ pub least_append : (xs ys : List Refusal) → least_of (xs ++ ys) ≡ sooner (le
 least_append [] ys = refl
 least_append (x ∷ xs) ys = ap (sooner (Some x)) (least_append xs ys) ∙ sym (sooner_assoc (Some x) (least_of xs) (least_of ys))
 
--- the first of a list comes first of all of it, and is one of it
-pub ruleset sooner_laws = (sooner_assoc, sooner_none)
+by_rule_append : (n : ℕ) (xs ys : List Span) → by_rule n (xs ++ ys) ≡ by_rule n xs ++ by_rule n ys
+by_rule_append n [] ys = refl
+by_rule_append n (x ∷ xs) ys = ap (λ l. record { rule = n; span = x } ∷ l) (by_rule_append n xs ys)
+
+pub found_append : (n : ℕ) (xs ys : List Span) → found n (xs ++ ys) ≡ sooner (found n xs) (found n ys)
+found_append n xs ys = ap least_of (by_rule_append n xs ys) ∙ least_append (by_rule n xs) (by_rule n ys)
+
+pub ruleset sooner_laws = (sooner_assoc, sooner_none, found_append)

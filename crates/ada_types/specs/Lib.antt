@@ -7,3 +7,5 @@ pub mod Entries
 pub mod Things
 pub mod Mapped
 pub mod Plain
+pub mod Judged
+pub mod Walked

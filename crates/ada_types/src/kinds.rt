@@ -126,13 +126,7 @@ pub(crate) fn where_kind(kind: u32, other: Option<u32>, then: Option<u32>) -> Op
     ensures { result ≡ if_kind kind other then }
 {
     match other {
-        Some(other) => {
-            if kind == other {
-                then
-            } else {
-                None
-            }
-        }
+        Some(other) => { if kind == other { then } else { None } }
         None => None,
     }
 }

@@ -53,7 +53,14 @@ fn marking_at(table: &Table, place: u32) -> Marking<'static>
 {
     match table.mark(place) {
         Some(mark) => match table.kind(mark.kind) {
-            Some(Kind::Array { index, first, last, part }) => Marking::Array {
+            Some(
+                Kind::Array {
+                    index,
+                    first,
+                    last,
+                    part,
+                },
+            ) => Marking::Array {
                 mark: place,
                 range: Range {
                     kind: *index,

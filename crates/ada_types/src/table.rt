@@ -31,6 +31,12 @@ impl Model for Table {
 }
 
 impl Table {
+    pub(crate) fn types(&self) -> &Types
+        ensures { result.now ≡ self.now }
+    {
+        &self.types
+    }
+
     /// The kind at a place.
     pub(crate) fn kind(&self, place: u32) -> Option<&Kind>
         ensures { option_map (λ k. k.now) result ≡ kind_at self.now place }

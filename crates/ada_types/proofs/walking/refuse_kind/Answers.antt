@@ -1,0 +1,6 @@
+use Rattle.std.proofs.Common.{◌∙◌}
+use Rattle.ada_types.proofs.Meeting.{kind_met}
+use Rattle.ada_types.proofs.walking.refuse_kind.Goals as goal
+
+pub returns : goal.returns
+returns c = c.refuse_other.ensures ∙ kind_met _ _ _ _ c.requires

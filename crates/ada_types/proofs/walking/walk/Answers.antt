@@ -1,0 +1,10 @@
+use Rattle.std.proofs.Common.{◌∙◌}
+use Rattle.ada_types.proofs.Meeting.{expr_met}
+use Rattle.ada_types.proofs.walking.walk.Goals as goal
+
+pub returns : goal.returns
+returns c = record {
+  kind_is = c.judge-judged.ensures.kind_is;
+  value_is = c.judge-judged.ensures.value_is;
+  refusal_is = c.first.ensures ∙ expr_met _ _ _ _ c.judge-judged.ensures.raised_is c.judge-judged.ensures.parts_are;
+}
