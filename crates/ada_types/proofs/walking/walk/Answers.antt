@@ -1,4 +1,5 @@
 use Rattle.std.proofs.Common.{◌∙◌}
+use Rattle.ada_tree.specs.PlainExpr.{plain_expr}
 use Rattle.ada_types.proofs.Meeting.{expr_met}
 use Rattle.ada_types.proofs.walking.walk.Goals as goal
 
@@ -6,5 +7,5 @@ pub returns : goal.returns
 returns c = record {
   kind_is = c.judge-judged.ensures.kind_is;
   value_is = c.judge-judged.ensures.value_is;
-  refusal_is = c.first.ensures ∙ expr_met _ _ _ _ c.judge-judged.ensures.raised_is c.judge-judged.ensures.parts_are;
+  refusal_is = c.first.ensures ∙ expr_met c.args.scope.now (plain_expr c.args.e.now) c.judge-judged.result.raised c.judge-judged.result.parts c.judge-judged.ensures.raised_is c.judge-judged.ensures.parts_are;
 }
