@@ -1,6 +1,6 @@
 -- Trees that are the same have one printed text: a text has no places, and of names their texts alone.
-use Rattle.std.proofs.Common.{◌≡◌, ℕ, zero, suc, ◌+◌, Bool, true, false, leb, List, [], ◌∷◌, length, map, take, drop, codes, decimal, Option, None, Some, unwrap_or, refl, ap, ◌∙◌, sym, subst}
-use Rattle.std.specs.List.{AllZip, prefix_len}
+use Rattle.std.proofs.Common.{◌≡◌, ℕ, zero, suc, ◌+◌, leb, List, [], ◌∷◌, take, drop, codes, decimal, Option, None, Some, unwrap_or, refl, ap, ◌∙◌, subst}
+use Rattle.std.specs.List.{AllZip}
 use Rattle.ada_tree.specs.declared.naming.NameId.{NameId}
 use Rattle.ada_tree.specs.declared.naming.Word.{Word}
 use Rattle.ada_tree.specs.PlainExpr.{PExpr, EInteger, EName, EIndex, EAttribute, EAttributeOf, EParen, EUnary, EBinary, PBounds, PSubind, PDrange, RGiven, RMarked}
@@ -9,7 +9,7 @@ use Rattle.ada_tree.specs.PlainDecl.{PShape, OPlain, ORow, PInit, IOne, IList, I
 use Rattle.ada_tree.specs.PlainProgram.{PProgram}
 use Rattle.ada_tree.specs.Same.{SameOption, SameName, SameWord, SameExpr, SameBounds, SameSubind, SameDrange, SameTarget, SameCallee, SameArgs, SameCall, SameFormal, SamePart, SameChoice, SameScheme, SameHead, SameStmt, SameStmts, SameMaybe, SameAccept, SameAlt, SameAltKind, SameAlts, SameArm, SameArms, SameCaseArm, SameCaseArms, SameBody, SameHandler, SameHandlers, SameShape, SameInit, SamePriority, SameEntry, SameTask, SameDecl, SameDecls, Same}
 use Rattle.ded_io.specs.Written.{◌⧺◌, each_text}
-use Rattle.ada_printer.specs.Layout.{deeper, indent, separated, duration_text, string_text, name_text, word_text, words_text, later_word}
+use Rattle.ada_printer.specs.Layout.{deeper, indent, separated, string_text, name_text, word_text, words_text, later_word}
 use Rattle.ada_printer.specs.ExprText.{unary_text, binary_text, expr_text, exprs_text, index_text, bounds_text, range_text, subind_text, drange_text, array_text}
 use Rattle.ada_printer.specs.StmtText as stmt
 use Rattle.ada_printer.specs.DeclText as decl
