@@ -18,6 +18,7 @@ pub mod UnitLaws
 pub mod NoEnd
 pub mod Whole
 pub mod Exact
+pub mod RowLists
 mod ReadingExamples
 mod DeclExamples
 mod TextExamples
