@@ -1,6 +1,7 @@
 pub mod Faults
 pub mod Texts
 pub mod Seen
+pub mod Named
 pub mod Steps
 pub mod Lists
 pub mod Continuing
@@ -14,6 +15,11 @@ pub mod DeclEntries
 pub mod DeclTasks
 pub mod DeclLaws
 pub mod DeclGrammar
+pub mod UnitLaws
+pub mod NoEnd
+pub mod Whole
+pub mod Exact
+pub mod RowLists
 mod ReadingExamples
 mod DeclExamples
 mod TextExamples
@@ -30,6 +36,8 @@ pub mod StmtLoops
 pub mod StmtBodies
 pub mod StmtAlts
 pub mod StmtSelect
+pub mod StmtAccept
+pub mod StmtLaws
 pub mod Placed
 pub mod PlacedTokens
 pub mod PlacedItems

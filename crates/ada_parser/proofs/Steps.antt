@@ -3,6 +3,7 @@ use Rattle.std.proofs.Common.{◌≡◌, ℕ, zero, suc, ◌-◌, ◌<◌, List,
 use Rattle.ada_tree.specs.declared.naming.Span.{Span}
 use Rattle.ada_expr_parser.specs.declared.items.Item.{Item}
 use Rattle.ada_expr_parser.proofs.Steps.{fails_go_on}
+use Rattle.ada_parser.proofs.Named.{deeper_is, index_named, got_named, named_start, got_full}
 use Rattle.ada_parser.specs.Spelling.{Source}
 use Rattle.ada_parser.specs.ReadingStatements.{Readers, readers, inner_at}
 
@@ -23,4 +24,4 @@ inner-alt source d ts h = rw (inner_is source d h) refl
 pub inner-handlers : (source : Source) (d : ℕ) (ts : List Item) → 0 < d → (inner_at source d).handlers ts ≡ (readers source (d - 1)).handlers ts
 inner-handlers source d ts h = rw (inner_is source d h) refl
 
-pub ruleset steps = (fails_go_on, inner-stmt, inner-accept, inner-alt, inner-handlers)
+pub ruleset steps = (fails_go_on, deeper_is, index_named, got_named, named_start, got_full, inner-stmt, inner-accept, inner-alt, inner-handlers)

@@ -3,10 +3,12 @@
 #![tactic(auto)]
 
 mod laws;
+mod operands;
 mod phrases;
 mod simple;
 mod source;
 mod strings;
 mod tokens;
+mod words;
 
 pub use laws::reading_laws;
