@@ -19,6 +19,7 @@ pub mod UnitLaws
 pub mod NoEnd
 pub mod Whole
 pub mod Exact
+pub mod RowLists
 mod ReadingExamples
 mod DeclExamples
 mod TextExamples
