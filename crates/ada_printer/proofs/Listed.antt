@@ -18,10 +18,10 @@ each_text-more X text xs i d within =
     ∙ each_text-append X text (take i xs) (get_or xs i d ∷ [])
     ∙ ap (λ t. each_text text (take i xs) ⧺ t) (each_text-one X text (get_or xs i d))
 
-not_below_one : (n : ℕ) → suc n < 1 → ⊥
+pub not_below_one : (n : ℕ) → suc n < 1 → ⊥
 not_below_one n h = omega arith
 
-not_below_zero : 1 ≤ 0 → ⊥
+pub not_below_zero : 1 ≤ 0 → ⊥
 not_below_zero h = omega arith
 
 -- one member more
