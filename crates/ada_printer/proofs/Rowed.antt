@@ -1,14 +1,16 @@
 -- The text of a row is the texts of its members, one behind the other; and how a list with a first member is put.
 use Rattle.std.specs.Prelude.{◌≡◌, ◌-◌, ◌≤◌, ◌<◌, ℕ, List, [], ◌∷◌, codes, length, map, take, drop, refl}
 use Rattle.std.proofs.Common.{sym, ap, ◌∙◌, subst, get_or, arith}
-use Rattle.ada_tree.specs.PlainStmt.{PStmt, PAlt, PArm, PCaseArm, PHandler, row_of, alts_of, arms_of, case_arms_of, handlers_of}
+use Rattle.std.proofs.lemmas.List.{append-nil}
+use Rattle.ada_tree.specs.PlainStmt.{PStmt, PAlt, PArm, PCaseArm, PHandler, PFormal, row_of, alts_of, arms_of, case_arms_of, handlers_of}
 use Rattle.ada_tree.specs.PlainDecl.{PDecl, decls_of}
 use Rattle.ded_io.specs.Written.{◌⧺◌, each_text}
-use Rattle.ded_io.proofs.Writes.{joined_nil, joined_assoc}
-use Rattle.ada_printer.specs.StmtText.{stmt_text, stmts_text, later_alt_text, more_alts_text, later_arm_text, more_arms_text, case_arm_text, case_arms_text, handler_text, handlers_text}
+use Rattle.ded_io.proofs.Writes.{joined, joined_assoc}
+use Rattle.ada_printer.specs.StmtText.{formal_text, formals_text, stmt_text, stmts_text, alt_text, alts_text, later_alt_text, more_alts_text, arm_text, arms_text, later_arm_text, more_arms_text, case_arm_text, case_arms_text, handler_text, handlers_text}
+use Rattle.ada_printer.specs.Layout.{deeper, separated}
 use Rattle.ada_printer.specs.DeclText.{decl_text, decls_text}
 use Rattle.ada_printer.specs.Pages.{Drawing, Drew}
-use Rattle.ada_printer.proofs.Drawn.{drew_then}
+use Rattle.ada_printer.proofs.Drawn.{drew_none, drew_then}
 use Rattle.ada_printer.proofs.Listed.{not_below_zero, not_below_one, rest_is}
 
 module _ (names : List (List ℕ)) (level : ℕ) where
@@ -59,7 +61,40 @@ pub first_and_rest : (X : Type 0) (xs rest : List X) (m : X) → 1 ≤ length xs
 first_and_rest X [] rest m some is_m is_rest = absurd (not_below_zero some)
 first_and_rest X (x ∷ xs) rest m some is_m is_rest = ap (λ y. y ∷ xs) (sym is_m) ∙ ap (λ ys. m ∷ ys) (sym (is_rest ∙ rest_is X x xs))
 
+-- nothing stands behind
+pub drew_nothing : (a b : Drawing) (s : List ℕ) → Drew a b s → Drew a b (s ⧺ [])
+drew_nothing a b s = drew_as a b _ _ (sym (joined s [] ∙ append-nil s))
+
+-- alternatives: the first, and then the others with `or` before each
+pub alts_there : (A : Type 0) (f : A → PAlt) (names : List (List ℕ)) (level n : ℕ) (xs rest : List A) (m : A) (a b c : Drawing) → n ≡ deeper level → 1 ≤ length xs → m ≡ get_or xs 0 m → rest ≡ take (length xs - 1) (drop 1 xs) → Drew a b (alt_text names n (f m)) → Drew b c (each_text (later_alt_text names level) (map f rest)) → Drew a c (alts_text names level (alts_of (map f xs)))
+alts_there A f names level n xs rest m a b c deep some is_m is_rest first others =
+    subst (λ ys. Drew a c (alts_text names level (alts_of (map f ys)))) (sym (first_and_rest A xs rest m some is_m is_rest))
+    (drew_then a b c _ _ (subst (λ k. Drew a b (alt_text names k (f m))) deep first) (drew_as b c _ _ (sym (more_alts_row names level (map f rest))) others))
+
+pub alts_none : (A : Type 0) (f : A → PAlt) (names : List (List ℕ)) (level : ℕ) (xs : List A) (a : Drawing) → length xs < 1 → Drew a a (alts_text names level (alts_of (map f xs)))
+alts_none A f names level [] a none = drew_none a
+alts_none A f names level (x ∷ xs) a none = absurd (not_below_one (length xs) none)
+
+-- the branches of an if statement: `if` and the first, and then the others with `elsif` before each
+pub arms_there : (A : Type 0) (f : A → PArm) (names : List (List ℕ)) (level : ℕ) (xs rest : List A) (m : A) (a b c d : Drawing) → 1 ≤ length xs → m ≡ get_or xs 0 m → rest ≡ take (length xs - 1) (drop 1 xs) → Drew a b (codes "if ") → Drew b c (arm_text names level (f m)) → Drew c d (each_text (later_arm_text names level) (map f rest)) → Drew a d (arms_text names level (arms_of (map f xs)))
+arms_there A f names level xs rest m a b c d some is_m is_rest word first others =
+    subst (λ ys. Drew a d (arms_text names level (arms_of (map f ys)))) (sym (first_and_rest A xs rest m some is_m is_rest))
+    (drew_then a c d _ _ (drew_then a b c _ _ word first) (drew_as c d _ _ (sym (more_arms_row names level (map f rest))) others))
+
 -- an empty list
 pub none_there : (X : Type 0) (xs : List X) → length xs < 1 → xs ≡ []
 none_there X [] none = refl
 none_there X (x ∷ xs) none = absurd (not_below_one (length xs) none)
+
+pub arms_none : (A : Type 0) (f : A → PArm) (names : List (List ℕ)) (level : ℕ) (xs : List A) (a : Drawing) → length xs < 1 → Drew a a (arms_text names level (arms_of (map f xs)))
+arms_none A f names level [] a none = drew_none a
+arms_none A f names level (x ∷ xs) a none = absurd (not_below_one (length xs) none)
+
+-- formals in parentheses, or nothing
+pub formals_none : (A : Type 0) (f : A → PFormal) (names : List (List ℕ)) (xs : List A) (a : Drawing) → length xs < 1 → Drew a a (formals_text names (map f xs))
+formals_none A f names [] a none = drew_none a
+formals_none A f names (x ∷ xs) a none = absurd (not_below_one (length xs) none)
+
+pub formals_some : (A : Type 0) (f : A → PFormal) (names : List (List ℕ)) (xs : List A) (a b c d : Drawing) → 1 ≤ length xs → Drew a b (codes "(") → Drew b c (separated (codes "; ") (formal_text names) (map f xs)) → Drew c d (codes ")") → Drew a d (formals_text names (map f xs))
+formals_some A f names [] a b c d some open_it inside close_it = absurd (not_below_zero some)
+formals_some A f names (x ∷ xs) a b c d some open_it inside close_it = drew_then a b d _ _ open_it (drew_then b c d _ _ inside close_it)

@@ -116,12 +116,7 @@ pub(crate) fn put_formals<K: Sink>(names: &Names, formals: &[Formal], page: &mut
 }
 
 // Formals with a semicolon between each two.
-fn put_separated_formals<K: Sink>(
-    names: &Names,
-    formals: &[Formal],
-    page: &mut Page,
-    out: &mut K,
-)
+fn put_separated_formals<K: Sink>(names: &Names, formals: &[Formal], page: &mut Page, out: &mut K)
     ensures { Drew (over page.old (K.told out.old) (K.faults out.old)) (over page.new (K.told out.new) (K.faults out.new)) (separated (codes "; ") (formal_text names.now) (map plain_formal formals.now)) }
 {
     match formals {
@@ -264,11 +259,13 @@ pub(crate) fn put_scheme<K: Sink>(
             put_expr(names, test, page, out);
             page.put(b" ", out);
         }
-        Some(Scheme::For {
-            name,
-            reverse,
-            range,
-        }) => {
+        Some(
+            Scheme::For {
+                name,
+                reverse,
+                range,
+            },
+        ) => {
             page.put(b"for ", out);
             put_word(names, *name, page, out);
             page.put(b" in ", out);

@@ -1,7 +1,7 @@
 // Declarations.
 #![tactic(auto, using(crate::proofs::Listed::listed))]
 
-ghost use Rattle.std.specs.Prelude.{◌≡◌, codes, map, option_map};
+ghost use Rattle.std.specs.Prelude.{◌≡◌, ◌≤◌, codes, length, map, option_map};
 ghost use Rattle.ada_tree.specs.PlainExpr.{plain_expr, plain_subind, plain_drange};
 ghost use Rattle.ada_tree.specs.PlainStmt.{plain_formal, plain_body};
 ghost use Rattle.ada_tree.specs.PlainDecl.{plain_shape, plain_init, plain_priority, plain_entry, plain_task, plain_decl, decls_of};
@@ -19,7 +19,8 @@ use crate::nesting::put_body;
 use crate::paging::Page;
 use crate::pieces::{put_indent, put_word, put_words};
 use ada_tree::{
-    Body, Decl, DeclKind, Drange, EntryDecl, Expr, Init, Names, Priority, Shape, Subind, TaskUnit, Word,
+    Body, Decl, DeclKind, Drange, EntryDecl, Expr, Init, Names, Priority, Shape, Subind, TaskUnit,
+    Word,
 };
 use ded_io::Sink;
 
@@ -202,13 +203,7 @@ fn put_family<K: Sink>(names: &Names, family: &Option<Drange>, page: &mut Page, 
 }
 
 // The line of an entry.
-fn put_entry<K: Sink>(
-    names: &Names,
-    level: u32,
-    entry: &EntryDecl,
-    page: &mut Page,
-    out: &mut K,
-)
+fn put_entry<K: Sink>(names: &Names, level: u32, entry: &EntryDecl, page: &mut Page, out: &mut K)
     ensures { Drew (over page.old (K.told out.old) (K.faults out.old)) (over page.new (K.told out.new) (K.faults out.new)) (entry_text names.now level (plain_entry entry.now)) }
 {
     put_indent(level, page, out);
@@ -221,13 +216,15 @@ fn put_entry<K: Sink>(
 
 // How many of a task's pragmas, from the front on, stand behind at most so many entries.
 fn standing(before: usize, priorities: &[Priority]) -> usize
-    ensures { result ≡ standing_behind before (map plain_priority priorities.now) }
+    ensures value { result ≡ standing_behind before (map plain_priority priorities.now) }
+    ensures within { result ≤ length priorities.now }
 {
-    let mut count = 0;
-    while count < priorities.len() && priorities[count].place as usize <= before {
-        count += 1;
+    for (count, priority) in priorities.iter().enumerate() {
+        if priority.place as usize > before {
+            return count;
+        }
     }
-    count
+    priorities.len()
 }
 
 // The entries of a task, each behind the pragmas that stand before it; the other pragmas come last.
@@ -252,13 +249,7 @@ fn put_items<K: Sink>(
 }
 
 // What stands behind a task's name.
-fn put_task_rest<K: Sink>(
-    names: &Names,
-    level: u32,
-    task: &TaskUnit,
-    page: &mut Page,
-    out: &mut K,
-)
+fn put_task_rest<K: Sink>(names: &Names, level: u32, task: &TaskUnit, page: &mut Page, out: &mut K)
     ensures { Drew (over page.old (K.told out.old) (K.faults out.old)) (over page.new (K.told out.new) (K.faults out.new)) (task_rest names.now level (plain_task task.now) (plain_task task.now).entries (plain_task task.now).priorities) }
 {
     if task.entries.is_empty() && task.priorities.is_empty() {
@@ -266,7 +257,14 @@ fn put_task_rest<K: Sink>(
         return;
     }
     page.put(b" is\n", out);
-    put_items(names, deeper(level), &task.entries, &task.priorities, page, out);
+    put_items(
+        names,
+        deeper(level),
+        &task.entries,
+        &task.priorities,
+        page,
+        out,
+    );
     put_end(names, level, task.name, page, out);
 }
 

@@ -181,12 +181,7 @@ pub(crate) fn put_handler_line<K: Sink>(
 }
 
 // `case X is`
-pub(crate) fn put_selector<K: Sink>(
-    names: &Names,
-    selector: &Expr,
-    page: &mut Page,
-    out: &mut K,
-)
+pub(crate) fn put_selector<K: Sink>(names: &Names, selector: &Expr, page: &mut Page, out: &mut K)
     ensures { Drew (over page.old (K.told out.old) (K.faults out.old)) (over page.new (K.told out.new) (K.faults out.new)) (codes "case " ⧺ (expr_text names.now (plain_expr selector.now) ⧺ codes " is\n")) }
 {
     page.put(b"case ", out);
@@ -195,12 +190,7 @@ pub(crate) fn put_selector<K: Sink>(
 }
 
 // The line of a delay.
-pub(crate) fn put_delay_line<K: Sink>(
-    level: u32,
-    thousandths: u32,
-    page: &mut Page,
-    out: &mut K,
-)
+pub(crate) fn put_delay_line<K: Sink>(level: u32, thousandths: u32, page: &mut Page, out: &mut K)
     ensures { Drew (over page.old (K.told out.old) (K.faults out.old)) (over page.new (K.told out.new) (K.faults out.new)) (indent level ⧺ delay_text thousandths) }
 {
     put_indent(level, page, out);
@@ -208,13 +198,7 @@ pub(crate) fn put_delay_line<K: Sink>(
 }
 
 // The last line of a unit, a task or an accept statement with this name.
-pub(crate) fn put_end<K: Sink>(
-    names: &Names,
-    level: u32,
-    name: Word,
-    page: &mut Page,
-    out: &mut K,
-)
+pub(crate) fn put_end<K: Sink>(names: &Names, level: u32, name: Word, page: &mut Page, out: &mut K)
     ensures { Drew (over page.old (K.told out.old) (K.faults out.old)) (over page.new (K.told out.new) (K.faults out.new)) (indent level ⧺ (codes "end " ⧺ (word_text names.now name ⧺ codes ";\n"))) }
 {
     put_indent(level, page, out);

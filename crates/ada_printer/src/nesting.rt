@@ -1,18 +1,18 @@
 // Statements and what holds them. Lists are gone through by loops, so recursion follows nesting alone.
-#![tactic(auto, using(crate::proofs::Listed::listed))]
+#![tactic(none)]
 
 ghost use Rattle.std.specs.Prelude.{◌≡◌, codes, map};
-ghost use Rattle.ada_tree.specs.PlainStmt.{plain_accept, plain_alt, plain_alt_kind, plain_arm, plain_body, plain_stmt, seen, seen_maybe, alts_of, arms_of, case_arms_of, handlers_of, plain_case_arm, plain_handler};
+ghost use Rattle.ada_tree.specs.PlainStmt.{plain_accept, plain_alt, plain_alt_kind, plain_arm, plain_body, plain_stmt, seen, alts_of, arms_of, case_arms_of, handlers_of, plain_case_arm, plain_handler};
 ghost use Rattle.ded_io.specs.Written.{◌⧺◌};
-ghost use Rattle.ada_printer.specs.StmtText.{stmt_text, stmts_text, else_text, others_text, accept_text, alt_text, alt_kind_text, alts_text, arm_text, arms_text, case_arms_text, handlers_text, body_text};
+ghost use Rattle.ada_printer.specs.StmtText.{stmt_text, stmts_text, accept_text, alt_text, alt_kind_text, alts_text, arm_text, arms_text, case_arms_text, handlers_text, body_text};
 ghost use Rattle.ada_printer.specs.Pages.{Drew, over};
 
 use crate::calls::{put_call, put_head};
 use crate::expressions::put_expr;
 use crate::lines::{
     deeper, put_abort, put_assign, put_call_line, put_case_line, put_delay, put_delay_line,
-    put_end, put_exit, put_get, put_guard, put_handler_line, put_line, put_loop_end,
-    put_loop_head, put_printed, put_raise, put_selector,
+    put_end, put_exit, put_get, put_guard, put_handler_line, put_line, put_loop_end, put_loop_head,
+    put_printed, put_raise, put_selector,
 };
 use crate::paging::Page;
 use crate::pieces::put_indent;
@@ -24,11 +24,19 @@ use ded_io::Sink;
 fn put_accept<K: Sink>(names: &Names, level: u32, accept: &Accept, page: &mut Page, out: &mut K)
     ensures { Drew (over page.old (K.told out.old) (K.faults out.old)) (over page.new (K.told out.new) (K.faults out.new)) (accept_text names.now level (plain_accept accept.now)) }
 {
-    put_head(names, accept.entry, &accept.index, &accept.formals, page, out);
+    let inner = deeper(level);
+    put_head(
+        names,
+        accept.entry,
+        &accept.index,
+        &accept.formals,
+        page,
+        out,
+    );
     match &accept.stmts {
         Some(stmts) => {
             page.put(b" do\n", out);
-            put_stmts(names, deeper(level), stmts, page, out);
+            put_stmts(names, inner, stmts, page, out);
             put_end(names, level, accept.entry, page, out);
         }
         None => page.put(b";\n", out),
@@ -59,10 +67,11 @@ fn put_alt_kind<K: Sink>(names: &Names, level: u32, kind: &AltKind, page: &mut P
 fn put_alt<K: Sink>(names: &Names, level: u32, alt: &Alt, page: &mut Page, out: &mut K)
     ensures { Drew (over page.old (K.told out.old) (K.faults out.old)) (over page.new (K.told out.new) (K.faults out.new)) (alt_text names.now level (plain_alt alt.now)) }
 {
+    let inner = deeper(level);
     match &alt.guard {
         Some(guard) => {
             put_guard(names, level, guard, page, out);
-            put_alt_kind(names, deeper(level), &alt.kind, page, out);
+            put_alt_kind(names, inner, &alt.kind, page, out);
         }
         None => put_alt_kind(names, level, &alt.kind, page, out),
     }
@@ -73,12 +82,13 @@ fn put_alt<K: Sink>(names: &Names, level: u32, alt: &Alt, page: &mut Page, out: 
 fn put_alts<K: Sink>(names: &Names, level: u32, alts: &[Alt], page: &mut Page, out: &mut K)
     ensures { Drew (over page.old (K.told out.old) (K.faults out.old)) (over page.new (K.told out.new) (K.faults out.new)) (alts_text names.now level (alts_of (map plain_alt alts.now))) }
 {
+    let inner = deeper(level);
     match alts {
         [first, rest @ ..] => {
-            put_alt(names, deeper(level), first, page, out);
+            put_alt(names, inner, first, page, out);
             for alt in rest {
                 put_line(level, b"or\n", page, out);
-                put_alt(names, deeper(level), alt, page, out);
+                put_alt(names, inner, alt, page, out);
             }
         }
         [] => {}
@@ -90,9 +100,10 @@ fn put_alts<K: Sink>(names: &Names, level: u32, alts: &[Alt], page: &mut Page, o
 fn put_arm<K: Sink>(names: &Names, level: u32, arm: &Arm, page: &mut Page, out: &mut K)
     ensures { Drew (over page.old (K.told out.old) (K.faults out.old)) (over page.new (K.told out.new) (K.faults out.new)) (arm_text names.now level (plain_arm arm.now)) }
 {
+    let inner = deeper(level);
     put_expr(names, &arm.test, page, out);
     page.put(b" then\n", out);
-    put_stmts(names, deeper(level), &arm.stmts, page, out);
+    put_stmts(names, inner, &arm.stmts, page, out);
 }
 
 // The branches of an if statement behind its indentation.
@@ -115,18 +126,13 @@ fn put_arms<K: Sink>(names: &Names, level: u32, arms: &[Arm], page: &mut Page, o
 
 // The `when` parts of a case statement but the one for all others.
 #[cycle(put)]
-fn put_case_arms<K: Sink>(
-    names: &Names,
-    level: u32,
-    arms: &[CaseArm],
-    page: &mut Page,
-    out: &mut K,
-)
+fn put_case_arms<K: Sink>(names: &Names, level: u32, arms: &[CaseArm], page: &mut Page, out: &mut K)
     ensures { Drew (over page.old (K.told out.old) (K.faults out.old)) (over page.new (K.told out.new) (K.faults out.new)) (case_arms_text names.now level (case_arms_of (map plain_case_arm arms.now))) }
 {
+    let inner = deeper(level);
     for arm in arms {
         put_case_line(names, level, &arm.choices, page, out);
-        put_stmts(names, deeper(level), &arm.stmts, page, out);
+        put_stmts(names, inner, &arm.stmts, page, out);
     }
 }
 
@@ -140,9 +146,10 @@ fn put_handlers<K: Sink>(
 )
     ensures { Drew (over page.old (K.told out.old) (K.faults out.old)) (over page.new (K.told out.new) (K.faults out.new)) (handlers_text names.now level (handlers_of (map plain_handler handlers.now))) }
 {
+    let inner = deeper(level);
     for handler in handlers {
         put_handler_line(names, level, &handler.names, page, out);
-        put_stmts(names, deeper(level), &handler.stmts, page, out);
+        put_stmts(names, inner, &handler.stmts, page, out);
     }
 }
 
@@ -157,51 +164,12 @@ pub(crate) fn put_body<K: Sink>(
 )
     ensures { Drew (over page.old (K.told out.old) (K.faults out.old)) (over page.new (K.told out.new) (K.faults out.new)) (body_text names.now level (plain_body body.now)) }
 {
+    let inner = deeper(level);
     page.put(b"begin\n", out);
-    put_stmts(names, deeper(level), &body.stmts, page, out);
+    put_stmts(names, inner, &body.stmts, page, out);
     if !body.handlers.is_empty() {
         put_line(level, b"exception\n", page, out);
-        put_handlers(names, deeper(level), &body.handlers, page, out);
-    }
-}
-
-// The else part of a statement at this level.
-#[cycle(put)]
-fn put_else<K: Sink>(
-    names: &Names,
-    level: u32,
-    stmts: &Option<Vec<Stmt>>,
-    page: &mut Page,
-    out: &mut K,
-)
-    ensures { Drew (over page.old (K.told out.old) (K.faults out.old)) (over page.new (K.told out.new) (K.faults out.new)) (else_text names.now level (seen_maybe stmts.now)) }
-{
-    match stmts {
-        Some(stmts) => {
-            put_line(level, b"else\n", page, out);
-            put_stmts(names, deeper(level), stmts, page, out);
-        }
-        None => {}
-    }
-}
-
-// `when others =>` of a case statement.
-#[cycle(put)]
-fn put_others<K: Sink>(
-    names: &Names,
-    level: u32,
-    stmts: &Option<Vec<Stmt>>,
-    page: &mut Page,
-    out: &mut K,
-)
-    ensures { Drew (over page.old (K.told out.old) (K.faults out.old)) (over page.new (K.told out.new) (K.faults out.new)) (others_text names.now level (seen_maybe stmts.now)) }
-{
-    match stmts {
-        Some(stmts) => {
-            put_line(level, b"when others =>\n", page, out);
-            put_stmts(names, deeper(level), stmts, page, out);
-        }
-        None => {}
+        put_handlers(names, inner, &body.handlers, page, out);
     }
 }
 
@@ -209,6 +177,7 @@ fn put_others<K: Sink>(
 fn put_stmt<K: Sink>(names: &Names, level: u32, stmt: &Stmt, page: &mut Page, out: &mut K)
     ensures { Drew (over page.old (K.told out.old) (K.faults out.old)) (over page.new (K.told out.new) (K.faults out.new)) (stmt_text names.now level (plain_stmt stmt.now)) }
 {
+    let inner = deeper(level);
     put_indent(level, page, out);
     match &stmt.kind {
         StmtKind::Null => page.put(b"null;\n", out),
@@ -222,8 +191,14 @@ fn put_stmt<K: Sink>(names: &Names, level: u32, stmt: &Stmt, page: &mut Page, ou
         StmtKind::Wait { alts, otherwise } => {
             page.put(b"select\n", out);
             put_alts(names, level, alts, page, out);
-            put_else(names, level, otherwise, page, out);
-            put_line(level, b"end select;\n", page, out);
+            match otherwise {
+                Some(stmts) => {
+                    put_line(level, b"else\n", page, out);
+                    put_stmts(names, inner, stmts, page, out);
+                    put_line(level, b"end select;\n", page, out);
+                }
+                None => put_line(level, b"end select;\n", page, out),
+            }
         }
         StmtKind::Conditional {
             call,
@@ -231,10 +206,10 @@ fn put_stmt<K: Sink>(names: &Names, level: u32, stmt: &Stmt, page: &mut Page, ou
             otherwise,
         } => {
             page.put(b"select\n", out);
-            put_call_line(names, deeper(level), call, page, out);
-            put_stmts(names, deeper(level), behind, page, out);
+            put_call_line(names, inner, call, page, out);
+            put_stmts(names, inner, behind, page, out);
             put_line(level, b"else\n", page, out);
-            put_stmts(names, deeper(level), otherwise, page, out);
+            put_stmts(names, inner, otherwise, page, out);
             put_line(level, b"end select;\n", page, out);
         }
         StmtKind::Timed {
@@ -244,11 +219,11 @@ fn put_stmt<K: Sink>(names: &Names, level: u32, stmt: &Stmt, page: &mut Page, ou
             after,
         } => {
             page.put(b"select\n", out);
-            put_call_line(names, deeper(level), call, page, out);
-            put_stmts(names, deeper(level), behind, page, out);
+            put_call_line(names, inner, call, page, out);
+            put_stmts(names, inner, behind, page, out);
             put_line(level, b"or\n", page, out);
-            put_delay_line(deeper(level), *thousandths, page, out);
-            put_stmts(names, deeper(level), after, page, out);
+            put_delay_line(inner, *thousandths, page, out);
+            put_stmts(names, inner, after, page, out);
             put_line(level, b"end select;\n", page, out);
         }
         StmtKind::Put { parts } => put_printed(names, b"PUT(", parts, page, out),
@@ -257,8 +232,14 @@ fn put_stmt<K: Sink>(names: &Names, level: u32, stmt: &Stmt, page: &mut Page, ou
         StmtKind::Get { target } => put_get(names, target, page, out),
         StmtKind::If { arms, otherwise } => {
             put_arms(names, level, arms, page, out);
-            put_else(names, level, otherwise, page, out);
-            put_line(level, b"end if;\n", page, out);
+            match otherwise {
+                Some(stmts) => {
+                    put_line(level, b"else\n", page, out);
+                    put_stmts(names, inner, stmts, page, out);
+                    put_line(level, b"end if;\n", page, out);
+                }
+                None => put_line(level, b"end if;\n", page, out),
+            }
         }
         StmtKind::Case {
             selector,
@@ -266,9 +247,15 @@ fn put_stmt<K: Sink>(names: &Names, level: u32, stmt: &Stmt, page: &mut Page, ou
             others,
         } => {
             put_selector(names, selector, page, out);
-            put_case_arms(names, deeper(level), arms, page, out);
-            put_others(names, deeper(level), others, page, out);
-            put_line(level, b"end case;\n", page, out);
+            put_case_arms(names, inner, arms, page, out);
+            match others {
+                Some(stmts) => {
+                    put_line(inner, b"when others =>\n", page, out);
+                    put_stmts(names, deeper(inner), stmts, page, out);
+                    put_line(level, b"end case;\n", page, out);
+                }
+                None => put_line(level, b"end case;\n", page, out),
+            }
         }
         StmtKind::Block(body) => {
             put_body(names, level, body, page, out);
@@ -280,7 +267,7 @@ fn put_stmt<K: Sink>(names: &Names, level: u32, stmt: &Stmt, page: &mut Page, ou
             stmts,
         } => {
             put_loop_head(names, *name, scheme, page, out);
-            put_stmts(names, deeper(level), stmts, page, out);
+            put_stmts(names, inner, stmts, page, out);
             put_loop_end(names, level, *name, page, out);
         }
     }

@@ -28,10 +28,10 @@ pub fn print<K: Sink>(p: &Program, out: &mut K) -> Result<(), SinkError>
 pub fn text_len(p: &Program) -> u64
     ensures { result ≡ min (length (program_text (plain_program p.now))) last_count }
 {
-    let mut page = Page::new();
+    let mut counter = Page::new();
     let mut nowhere = Nowhere { faults: 0 };
-    put_program(p, &mut page, &mut nowhere);
-    page.count()
+    put_program(p, &mut counter, &mut nowhere);
+    counter.count()
 }
 
 /// Appends the text of an expression, whose names have their texts in `names`, in few writes. It takes no memory. After an error, which comes only where a write failed, a front of the text was appended.

@@ -1,0 +1,18 @@
+use Rattle.std.proofs.Common.{refl}
+use Rattle.ada_tree.specs.PlainDecl.{plain_entry, plain_priority}
+use Rattle.ada_printer.proofs.Drawn.{drew_then}
+use Rattle.ada_printer.proofs.Declared.{front_none, front_more, front_all, items_more, items_end}
+use Rattle.ada_printer.proofs.declarations.put_items.Goals as goal
+
+pub loop-before-init : goal.loop-before-init
+loop-before-init g c = front_none _ _
+
+pub loop-before-preserved : goal.loop-before-preserved
+loop-before-preserved g c =
+    front_more _ _ _ _ _ _ _ c.loop-before.invariant
+    (items_more plain_entry plain_priority c.args.names.now c.args.level c.args.entries.now c.loop-before.before c.entry-item.result c.loop-before.rest _ c.loop-before-test.true c.entry-item.is c.standing-count.ensures.value)
+    (drew_then _ _ _ _ _ c.put_priorities.ensures c.put_entry.ensures)
+
+pub returns : goal.returns
+returns g c =
+    front_all _ _ _ _ _ _ c.loop-before.invariant (items_end plain_entry plain_priority c.args.names.now c.args.level c.args.entries.now c.loop-before.before c.loop-before.rest c.loop-before-test.false) c.put_priorities.ensures
