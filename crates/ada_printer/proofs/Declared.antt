@@ -1,5 +1,5 @@
 -- Declarations: the entries of a task one by one, each behind the pragmas that stand before it, and the parts of task bodies.
-use Rattle.std.specs.Prelude.{◌≡◌, ◌+◌, ◌<◌, ◌≤◌, ℕ, nat_le, true, false, List, [], ◌∷◌, length, map, take, drop, codes, refl}
+use Rattle.std.specs.Prelude.{◌≡◌, ◌+◌, ◌<◌, ◌≤◌, ℕ, nat_le, Bool, true, false, List, [], ◌∷◌, length, map, take, drop, codes, refl}
 use Rattle.std.specs.List.{prefix_len}
 use Rattle.std.proofs.Common.{sym, ap, ◌∙◌, subst, get_or, arith}
 use Rattle.std.proofs.lemmas.List.{take-map, drop-map, drop_more, drop_all}
@@ -7,12 +7,14 @@ use Rattle.std.proofs.lemmas.List.{length-map, get_or-map}
 use Rattle.std.proofs.lemmas.List.Sums.{prefix_len-drop_yes, prefix_len-drop_no, prefix_len-drop_all}
 use Rattle.ada_tree.specs.declared.naming.Span.{Span}
 use Rattle.ada_tree.specs.declared.naming.Word.{Word}
+use Rattle.ada_tree.specs.declared.declarations.Decl.{Decl}
 use Rattle.ada_tree.specs.PlainStmt.{PBody}
-use Rattle.ada_tree.specs.PlainDecl.{PEntry, PPriority, PTask, PDecl, PDecls, DTaskBody}
+use Rattle.ada_tree.specs.PlainDecl.{PEntry, PPriority, PTask, PDecl, PDecls, DTaskBody, decls_of, plain_decl}
 use Rattle.ded_io.specs.Written.{◌⧺◌}
 use Rattle.ded_io.proofs.Writes.{joined_nil, joined_assoc}
 use Rattle.ada_printer.specs.Layout.{deeper, indent, word_text}
 use Rattle.ada_printer.specs.DeclText.{standing, entry_text, priorities_text, items_text, task_rest, unit_text, form_text as decl_form, decl_text, decls_text}
+use Rattle.ada_printer.specs.ProgramText.{context_text}
 use Rattle.ada_printer.specs.Pages.{Drawing, Drew}
 use Rattle.ada_printer.proofs.Drawn.{drew_none, drew_then}
 use Rattle.ada_printer.proofs.Listed.{not_below_zero}
@@ -89,3 +91,14 @@ pub task_body_there : (names : List (List ℕ)) (level n : ℕ) (p : PDecl) (w :
 task_body_there names level n p w ds x s a b c d e deep is front head objects end =
     decl_there names level p (DTaskBody w ds x s) a b e is front
     (drew_three b c e _ _ _ _ head (drew_then c d e _ _ (subst (λ m. Drew c d (decls_text names m ds)) deep objects) end))
+
+-- declarations of a list of the code
+pub decls_as : (names : List (List ℕ)) (level : ℕ) (xs ys : List Decl) (a b : Drawing) → xs ≡ ys → Drew a b (decls_text names level (decls_of (map plain_decl xs))) → Drew a b (decls_text names level (decls_of (map plain_decl ys)))
+decls_as names level xs ys a b e = subst (λ ds. Drew a b (decls_text names level (decls_of (map plain_decl ds)))) e
+
+-- the context clauses, or none
+pub context_there : (x : Bool) (a b c : Drawing) → x ≡ true → Drew a b (codes "with TEXT_IO;\n") → Drew b c (codes "use TEXT_IO;\n") → Drew a c (context_text x)
+context_there x a b c is first second = subst (λ y. Drew a c (context_text y)) (sym is) (drew_then a b c _ _ first second)
+
+pub context_none : (x : Bool) (a : Drawing) → x ≡ false → Drew a a (context_text x)
+context_none x a is = subst (λ y. Drew a a (context_text y)) (sym is) (drew_none a)

@@ -310,6 +310,7 @@ fn put_task_body_line<K: Sink>(names: &Names, name: Word, page: &mut Page, out: 
 }
 
 #[cycle(put_decl)]
+#[tactic(auto, using(ada_tree::proofs::Rows::rows))]
 fn put_decl<K: Sink>(names: &Names, level: u32, decl: &Decl, page: &mut Page, out: &mut K)
     ensures { Drew (over page.old (K.told out.old) (K.faults out.old)) (over page.new (K.told out.new) (K.faults out.new)) (decl_text names.now level (plain_decl decl.now)) }
 {
@@ -347,6 +348,7 @@ fn put_decl<K: Sink>(names: &Names, level: u32, decl: &Decl, page: &mut Page, ou
 
 // Declarations, one behind the other.
 #[cycle(put_decl)]
+#[tactic(auto, using(ada_tree::proofs::Rows::rows))]
 pub(crate) fn put_decls<K: Sink>(
     names: &Names,
     level: u32,

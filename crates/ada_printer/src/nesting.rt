@@ -1,5 +1,5 @@
 // Statements and what holds them. Lists are gone through by loops, so recursion follows nesting alone.
-#![tactic(none)]
+#![tactic(auto, using(ada_tree::proofs::Rows::rows))]
 
 ghost use Rattle.std.specs.Prelude.{◌≡◌, codes, map};
 ghost use Rattle.ada_tree.specs.PlainStmt.{plain_accept, plain_alt, plain_alt_kind, plain_arm, plain_body, plain_stmt, seen, alts_of, arms_of, case_arms_of, handlers_of, plain_case_arm, plain_handler};

@@ -48,7 +48,7 @@ put_handlers-returns g t c =
 pub put_alts-loop-alt-preserved : goal.put_alts-loop-alt-preserved
 put_alts-loop-alt-preserved g t c =
     drew_seen_member _ _ plain_alt (later_alt_text c.args.names.now c.args.level) _ c.loop-alt.alt-index c.alt-item.result _ _ _ c.loop-alt-test.true c.alt-item.is c.loop-alt.invariant
-    (formed.later_alt_there c.args.names.now c.args.level _ _ _ _ _ c.deeper-inner.ensures c.put_line.ensures c.put_alt-in-loop-alt.ensures)
+    (formed.later_alt_there c.args.names.now c.args.level (plain_alt c.alt-item.result) _ _ _ _ c.deeper-inner.ensures c.put_line.ensures c.put_alt-in-loop-alt.ensures)
 
 pub put_alts-returns-after-loop-alt : goal.put_alts-returns-after-loop-alt
 put_alts-returns-after-loop-alt g t c =
@@ -62,7 +62,7 @@ put_alts-returns-in-empty g t c =
 pub put_arms-loop-arm-preserved : goal.put_arms-loop-arm-preserved
 put_arms-loop-arm-preserved g t c =
     drew_seen_member _ _ plain_arm (later_arm_text c.args.names.now c.args.level) _ c.loop-arm.arm-index c.arm-item.result _ _ _ c.loop-arm-test.true c.arm-item.is c.loop-arm.invariant
-    (formed.later_arm_there c.args.names.now c.args.level _ _ _ _ c.put_line.ensures c.put_arm-in-loop-arm.ensures)
+    (formed.later_arm_there c.args.names.now c.args.level (plain_arm c.arm-item.result) _ _ _ c.put_line.ensures c.put_arm-in-loop-arm.ensures)
 
 pub put_arms-returns-after-loop-arm : goal.put_arms-returns-after-loop-arm
 put_arms-returns-after-loop-arm g t c =
@@ -204,3 +204,36 @@ pub put_stmt-returns-in-Loop : goal.put_stmt-returns-in-Loop
 put_stmt-returns-in-Loop g t c =
     let is : plain_stmt c.args.stmt.now ≡ SLoop c.in-Loop.name (option_map plain_scheme c.in-Loop.scheme) (seen c.deref-in-Loop.result.now) c.args.stmt.now.span = grind (arith, rows) in
     formed.loop_there c.args.names.now c.args.level _ _ _ _ _ _ _ _ _ _ _ c.deeper-inner.ensures is c.put_indent.ensures c.put_loop_head.ensures c.put_stmts-in-Loop.ensures c.put_loop_end.ensures
+
+pub put_stmt-returns-in-Some : goal.put_stmt-returns-in-Some
+put_stmt-returns-in-Some g t c =
+    let is : plain_stmt c.args.stmt.now ≡ SWait (alts_of (map plain_alt c.deref-in-Wait.result.now)) (present (seen c.deref-in-Some.result.now)) c.args.stmt.now.span = grind (arith, rows) in
+    formed.wait_there c.args.names.now c.args.level _ _ (present (seen c.deref-in-Some.result.now)) _ _ _ _ _ _ _ is c.put_indent.ensures c.put-in-Wait.ensures c.put_alts.ensures
+    (formed.else_there c.args.names.now c.args.level (present (seen c.deref-in-Some.result.now)) _ (seen c.deref-in-Some.result.now) _ _ _ c.deeper-inner.ensures refl c.put_line.ensures c.put_stmts.ensures) c.put_line-in-Some.ensures
+
+pub put_stmt-returns-in-None : goal.put_stmt-returns-in-None
+put_stmt-returns-in-None g t c =
+    let is : plain_stmt c.args.stmt.now ≡ SWait (alts_of (map plain_alt c.deref-in-Wait.result.now)) absent c.args.stmt.now.span = grind (arith, rows) in
+    formed.wait_there c.args.names.now c.args.level _ _ absent _ _ _ _ _ _ _ is c.put_indent.ensures c.put-in-Wait.ensures c.put_alts.ensures (formed.else_none c.args.names.now c.args.level absent _ refl) c.put_line-in-None.ensures
+
+pub put_stmt-returns-in-Some-otherwise : goal.put_stmt-returns-in-Some-otherwise
+put_stmt-returns-in-Some-otherwise g t c =
+    let is : plain_stmt c.args.stmt.now ≡ SIf (arms_of (map plain_arm c.deref-in-If.result.now)) (present (seen c.deref-in-Some-otherwise.result.now)) c.args.stmt.now.span = grind (arith, rows) in
+    formed.if_there c.args.names.now c.args.level _ _ (present (seen c.deref-in-Some-otherwise.result.now)) _ _ _ _ _ _ is c.put_indent.ensures c.put_arms.ensures
+    (formed.else_there c.args.names.now c.args.level (present (seen c.deref-in-Some-otherwise.result.now)) _ (seen c.deref-in-Some-otherwise.result.now) _ _ _ c.deeper-inner.ensures refl c.put_line-in-Some-otherwise.ensures c.put_stmts-in-Some-otherwise.ensures) c.put_line-in-Some-otherwise-2.ensures
+
+pub put_stmt-returns-in-None-otherwise : goal.put_stmt-returns-in-None-otherwise
+put_stmt-returns-in-None-otherwise g t c =
+    let is : plain_stmt c.args.stmt.now ≡ SIf (arms_of (map plain_arm c.deref-in-If.result.now)) absent c.args.stmt.now.span = grind (arith, rows) in
+    formed.if_there c.args.names.now c.args.level _ _ absent _ _ _ _ _ _ is c.put_indent.ensures c.put_arms.ensures (formed.else_none c.args.names.now c.args.level absent _ refl) c.put_line-in-None-otherwise.ensures
+
+pub put_stmt-returns-in-Some-others : goal.put_stmt-returns-in-Some-others
+put_stmt-returns-in-Some-others g t c =
+    let is : plain_stmt c.args.stmt.now ≡ SCase (plain_expr c.in-Case.selector) (case_arms_of (map plain_case_arm c.deref-in-Case.result.now)) (present (seen c.deref-in-Some-others.result.now)) c.args.stmt.now.span = grind (arith, rows) in
+    formed.case_there c.args.names.now c.args.level _ _ _ _ (present (seen c.deref-in-Some-others.result.now)) _ _ _ _ _ _ _ c.deeper-inner.ensures is c.put_indent.ensures c.put_selector.ensures c.put_case_arms.ensures
+    (formed.others_there c.args.names.now c.deeper-inner.result (present (seen c.deref-in-Some-others.result.now)) _ (seen c.deref-in-Some-others.result.now) _ _ _ c.deeper.ensures refl c.put_line-in-Some-others.ensures c.put_stmts-in-Some-others.ensures) c.put_line-in-Some-others-2.ensures
+
+pub put_stmt-returns-in-None-others : goal.put_stmt-returns-in-None-others
+put_stmt-returns-in-None-others g t c =
+    let is : plain_stmt c.args.stmt.now ≡ SCase (plain_expr c.in-Case.selector) (case_arms_of (map plain_case_arm c.deref-in-Case.result.now)) absent c.args.stmt.now.span = grind (arith, rows) in
+    formed.case_there c.args.names.now c.args.level _ _ _ _ absent _ _ _ _ _ _ _ c.deeper-inner.ensures is c.put_indent.ensures c.put_selector.ensures c.put_case_arms.ensures (formed.others_none c.args.names.now c.deeper-inner.result absent _ refl) c.put_line-in-None-others.ensures
