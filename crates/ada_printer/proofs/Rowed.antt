@@ -81,11 +81,6 @@ arms_there A f names level xs rest m a b c d some is_m is_rest word first others
     subst (λ ys. Drew a d (arms_text names level (arms_of (map f ys)))) (sym (first_and_rest A xs rest m some is_m is_rest))
     (drew_then a c d _ _ (drew_then a b c _ _ word first) (drew_as c d _ _ (sym (more_arms_row names level (map f rest))) others))
 
--- an empty list
-pub none_there : (X : Type 0) (xs : List X) → length xs < 1 → xs ≡ []
-none_there X [] none = refl
-none_there X (x ∷ xs) none = absurd (not_below_one (length xs) none)
-
 pub arms_none : (A : Type 0) (f : A → PArm) (names : List (List ℕ)) (level : ℕ) (xs : List A) (a : Drawing) → length xs < 1 → Drew a a (arms_text names level (arms_of (map f xs)))
 arms_none A f names level [] a none = drew_none a
 arms_none A f names level (x ∷ xs) a none = absurd (not_below_one (length xs) none)

@@ -111,7 +111,8 @@ fn small(alloc: Global) -> Result<Program, Memory> {
 #[test]
 fn a_small_program_is_laid_out(rt: HostRuntime) -> Result<(), Fail> {
     let program = small(rt.alloc())?;
-    let text = b"with TEXT_IO;\nuse TEXT_IO;\nprocedure SMALL is\n   SIZE : constant := 2;\nbegin\n   delay 0.25;\nend SMALL;\n";
+    let text =
+        b"with TEXT_IO;\nuse TEXT_IO;\nprocedure SMALL is\n   SIZE : constant := 2;\nbegin\n   delay 0.25;\nend SMALL;\n";
     let mut out = MemorySink::new(rt.alloc(), Vec::new(rt.alloc()), 200)?;
     assert!(rt; print(&program, &mut out).is_ok());
     assert_eq!(rt; out.bytes(), text.as_slice());

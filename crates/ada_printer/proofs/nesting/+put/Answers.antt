@@ -237,3 +237,18 @@ pub put_stmt-returns-in-None-others : goal.put_stmt-returns-in-None-others
 put_stmt-returns-in-None-others g t c =
     let is : plain_stmt c.args.stmt.now ≡ SCase (plain_expr c.in-Case.selector) (case_arms_of (map plain_case_arm c.deref-in-Case.result.now)) absent c.args.stmt.now.span = grind (arith, rows) in
     formed.case_there c.args.names.now c.args.level _ _ _ _ absent _ _ _ _ _ _ _ c.deeper-inner.ensures is c.put_indent.ensures c.put_selector.ensures c.put_case_arms.ensures (formed.others_none c.args.names.now c.deeper-inner.result absent _ refl) c.put_line-in-None-others.ensures
+
+pub put_alts-loop-alt-init : goal.put_alts-loop-alt-init
+put_alts-loop-alt-init g t c = drew_none _
+
+pub put_arms-loop-arm-init : goal.put_arms-loop-arm-init
+put_arms-loop-arm-init g t c = drew_none _
+
+pub put_case_arms-loop-arm-init : goal.put_case_arms-loop-arm-init
+put_case_arms-loop-arm-init g t c = drew_none _
+
+pub put_handlers-loop-handler-init : goal.put_handlers-loop-handler-init
+put_handlers-loop-handler-init g t c = drew_none _
+
+pub put_stmts-loop-stmt-init : goal.put_stmts-loop-stmt-init
+put_stmts-loop-stmt-init g t c = drew_none _
