@@ -1,5 +1,8 @@
-use Rattle.std.proofs.Common.{◌≡◌, ◌≤◌, ◌<◌, Some, None, sym, ap, map, option_map, length, refl, arith}
+use Rattle.std.proofs.Common.{◌≡◌, ◌≤◌, ◌<◌, Some, None, sym, ap, map, option_map, length, refl, rules, arith}
+use denote.Param.Weighed.{most}
 use Rattle.ada_tree.proofs.Rows.{rows}
+use Rattle.ada_tree.proofs.statements.Stmt.TheLaws.{the_size}
+use Rattle.ada_tree.specs.declared.statements.Stmt.{Stmt}
 use Rattle.ada_tree.specs.declared.statements.Accept.{out-Accept}
 use Rattle.ada_tree.specs.declared.statements.Arm.{out-Arm}
 use Rattle.ada_tree.specs.declared.statements.Body.{out-Body}
@@ -252,3 +255,38 @@ put_handlers-loop-handler-init g t c = drew_none _
 
 pub put_stmts-loop-stmt-init : goal.put_stmts-loop-stmt-init
 put_stmts-loop-stmt-init g t c = drew_none _
+
+pub put_stmt-put_stmts-requires : goal.put_stmt-put_stmts-requires
+put_stmt-put_stmts-requires g t c κs within =
+    let h : most {X = Stmt} (λ x. the_size x) c.deref-in-Some.result.now < the_size c.args.stmt.now = grind (arith, rows) in
+    search (rules, h)
+
+pub put_stmt-put_stmts-requires-in-Conditional : goal.put_stmt-put_stmts-requires-in-Conditional
+put_stmt-put_stmts-requires-in-Conditional g t c κs within =
+    let h : most {X = Stmt} (λ x. the_size x) c.deref-in-Conditional.result.now < the_size c.args.stmt.now = grind (arith, rows) in
+    search (rules, h)
+
+pub put_stmt-put_stmts-requires-in-Conditional-2 : goal.put_stmt-put_stmts-requires-in-Conditional-2
+put_stmt-put_stmts-requires-in-Conditional-2 g t c κs within =
+    let h : most {X = Stmt} (λ x. the_size x) c.deref-in-Conditional-2.result.now < the_size c.args.stmt.now = grind (arith, rows) in
+    search (rules, h)
+
+pub put_stmt-put_stmts-requires-in-Timed : goal.put_stmt-put_stmts-requires-in-Timed
+put_stmt-put_stmts-requires-in-Timed g t c κs within =
+    let h : most {X = Stmt} (λ x. the_size x) c.deref-in-Timed.result.now < the_size c.args.stmt.now = grind (arith, rows) in
+    search (rules, h)
+
+pub put_stmt-put_stmts-requires-in-Timed-2 : goal.put_stmt-put_stmts-requires-in-Timed-2
+put_stmt-put_stmts-requires-in-Timed-2 g t c κs within =
+    let h : most {X = Stmt} (λ x. the_size x) c.deref-in-Timed-2.result.now < the_size c.args.stmt.now = grind (arith, rows) in
+    search (rules, h)
+
+pub put_stmt-put_stmts-requires-in-Some-otherwise : goal.put_stmt-put_stmts-requires-in-Some-otherwise
+put_stmt-put_stmts-requires-in-Some-otherwise g t c κs within =
+    let h : most {X = Stmt} (λ x. the_size x) c.deref-in-Some-otherwise.result.now < the_size c.args.stmt.now = grind (arith, rows) in
+    search (rules, h)
+
+pub put_stmt-put_stmts-requires-in-Some-others : goal.put_stmt-put_stmts-requires-in-Some-others
+put_stmt-put_stmts-requires-in-Some-others g t c κs within =
+    let h : most {X = Stmt} (λ x. the_size x) c.deref-in-Some-others.result.now < the_size c.args.stmt.now = grind (arith, rows) in
+    search (rules, h)
