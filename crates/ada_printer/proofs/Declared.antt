@@ -55,18 +55,18 @@ module _ {A B : Type 0} (f : A → PEntry) (g : B → PPriority) (names : List (
 -- how many pragmas stand before an entry, one by one
 module _ {A : Type 0} (g : A → PPriority) (before : ℕ) where
   pub stands_yes : (ps : List A) (i : ℕ) (m : A) (n : ℕ) → i < length ps → m ≡ get_or ps i m → nat_le (g m).place before ≡ true → n ≡ i + standing before (drop i (map g ps)) → n ≡ (i + 1) + standing before (drop (i + 1) (map g ps))
-  stands_yes ps i m n within is_m yes so_far =
+  stands_yes ps i m n within is_m passes so_far =
       let inside : i < length (map g ps) = subst (λ k. i < k) (sym (length-map ps g)) within in
       let e : standing before (drop i (map g ps)) ≡ 1 + standing before (drop (i + 1) (map g ps))
-      = prefix_len-drop_yes (λ p. nat_le p.place before) (map g ps) i (g m) inside (ap (λ p. nat_le p.place before) (get_or-map g ps i m (g m) within ∙ ap g (sym is_m)) ∙ yes)
+      = prefix_len-drop_yes (λ p. nat_le p.place before) (map g ps) i (g m) inside (ap (λ p. nat_le p.place before) (get_or-map g ps i m (g m) within ∙ ap g (sym is_m)) ∙ passes)
       in
       grind (arith, e, so_far)
 
   pub stands_no : (ps : List A) (i : ℕ) (m : A) (n : ℕ) → i < length ps → m ≡ get_or ps i m → nat_le (g m).place before ≡ false → n ≡ i + standing before (drop i (map g ps)) → i ≡ n
-  stands_no ps i m n within is_m no so_far =
+  stands_no ps i m n within is_m fails so_far =
       let inside : i < length (map g ps) = subst (λ k. i < k) (sym (length-map ps g)) within in
       let e : standing before (drop i (map g ps)) ≡ 0
-      = prefix_len-drop_no (λ p. nat_le p.place before) (map g ps) i (g m) inside (ap (λ p. nat_le p.place before) (get_or-map g ps i m (g m) within ∙ ap g (sym is_m)) ∙ no)
+      = prefix_len-drop_no (λ p. nat_le p.place before) (map g ps) i (g m) inside (ap (λ p. nat_le p.place before) (get_or-map g ps i m (g m) within ∙ ap g (sym is_m)) ∙ fails)
       in
       grind (arith, e, so_far)
 

@@ -4,6 +4,7 @@ use Rattle.ada_tree.specs.PlainExpr.{plain_expr, plain_subind, plain_drange}
 use Rattle.ada_tree.specs.PlainStmt.{plain_body}
 use Rattle.ada_tree.specs.PlainDecl.{DNumber, DObject, DEnumeration, DArray, DSubtype, DException, DIntIo, DPragma, DTask, DTaskBody, decls_of, plain_shape, plain_init, plain_task, plain_decl}
 use Rattle.ada_printer.specs.DeclText.{decl_text}
+use Rattle.ada_printer.proofs.Drawn.{drew_none}
 use Rattle.ada_printer.proofs.Listed.{drew_seen_member, drew_seen_all}
 use Rattle.ada_printer.proofs.Declared.{decl_there, task_body_there}
 use Rattle.ada_printer.proofs.Rowed.{drew_as, decls_row}
@@ -67,3 +68,6 @@ pub put_decls-returns : goal.put_decls-returns
 put_decls-returns g t c =
     drew_as _ _ _ _ (sym (decls_row c.args.names.now c.args.level (map plain_decl c.args.decls.now)))
     (drew_seen_all _ _ plain_decl (decl_text c.args.names.now c.args.level) c.args.decls.now _ _ _ c.loop-decl-test.false c.loop-decl.invariant)
+
+pub put_decls-loop-decl-init : goal.put_decls-loop-decl-init
+put_decls-loop-decl-init g t c = drew_none _

@@ -10,9 +10,9 @@ loop-before-init g c = front_none _ _
 pub loop-before-preserved : goal.loop-before-preserved
 loop-before-preserved g c =
     front_more _ _ _ _ _ _ _ c.loop-before.invariant
-    (items_more plain_entry plain_priority c.args.names.now c.args.level c.args.entries.now c.loop-before.before c.loop-before-item.result c.loop-before.rest _ c.loop-before-test.true c.loop-before-item.is c.standing-count.ensures.value)
+    (items_more plain_entry plain_priority c.args.names.now c.args.level c.args.entries.now c.loop-before.before c.index-entries-before.result c.loop-before.rest.now _ c.loop-before-test.true c.index-entries-before.is c.standing-count.ensures.value)
     (drew_then _ _ _ _ _ c.put_priorities.ensures c.put_entry.ensures)
 
 pub returns : goal.returns
 returns g c =
-    front_all _ _ _ _ _ _ c.loop-before.invariant (items_end plain_entry plain_priority c.args.names.now c.args.level c.args.entries.now c.loop-before.before c.loop-before.rest c.loop-before-test.false) c.put_priorities.ensures
+    front_all _ _ _ _ _ _ c.loop-before.invariant (items_end plain_entry plain_priority c.args.names.now c.args.level c.args.entries.now c.loop-before.before c.loop-before.rest.now c.loop-before-test.false) c.put_priorities.ensures

@@ -6,13 +6,13 @@ use Rattle.ada_printer.proofs.declarations.standing.Goals as goal
 
 pub loop-count-preserved : goal.loop-count-preserved
 loop-count-preserved c =
-    let yes : nat_le (plain_priority c.index-priorities-count.result).place c.args.before ≡ true = grind (arith, leb_tells) in
-    stands_yes plain_priority c.args.before c.args.priorities.now c.loop-count.count c.index-priorities-count.result _ c.loop-count-test.true c.index-priorities-count.is yes c.loop-count.invariant
+    let passes : nat_le (plain_priority c.index-priorities-count.result).place c.args.before ≡ true = grind (arith, leb_tells) in
+    stands_yes plain_priority c.args.before c.args.priorities.now c.loop-count.count c.index-priorities-count.result _ c.loop-count-test.true c.index-priorities-count.is passes c.loop-count.invariant
 
 pub returns-then-priority-before-clause-value : goal.returns-then-priority-before-clause-value
 returns-then-priority-before-clause-value c =
-    let no : nat_le (plain_priority c.index-priorities-count.result).place c.args.before ≡ false = grind (arith, leb_tells) in
-    stands_no plain_priority c.args.before c.args.priorities.now c.loop-count.count c.index-priorities-count.result _ c.loop-count-test.true c.index-priorities-count.is no c.loop-count.invariant
+    let fails : nat_le (plain_priority c.index-priorities-count.result).place c.args.before ≡ false = grind (arith, leb_tells) in
+    stands_no plain_priority c.args.before c.args.priorities.now c.loop-count.count c.index-priorities-count.result _ c.loop-count-test.true c.index-priorities-count.is fails c.loop-count.invariant
 
 pub returns-clause-value : goal.returns-clause-value
 returns-clause-value c =
