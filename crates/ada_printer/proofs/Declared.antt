@@ -8,8 +8,10 @@ use Rattle.std.proofs.lemmas.List.Sums.{prefix_len-drop_yes, prefix_len-drop_no,
 use Rattle.ada_tree.specs.declared.naming.Span.{Span}
 use Rattle.ada_tree.specs.declared.naming.Word.{Word}
 use Rattle.ada_tree.specs.declared.declarations.Decl.{Decl}
+use Rattle.ada_tree.specs.declared.declarations.EntryDecl.{EntryDecl}
+use Rattle.ada_tree.specs.declared.declarations.Priority.{Priority}
 use Rattle.ada_tree.specs.PlainStmt.{PBody}
-use Rattle.ada_tree.specs.PlainDecl.{PEntry, PPriority, PTask, PDecl, PDecls, DTaskBody, decls_of, plain_decl}
+use Rattle.ada_tree.specs.PlainDecl.{PEntry, PPriority, PTask, PDecl, PDecls, DTaskBody, decls_of, plain_decl, plain_entry, plain_priority}
 use Rattle.ded_io.specs.Written.{◌⧺◌}
 use Rattle.ded_io.proofs.Writes.{joined_nil, joined_assoc}
 use Rattle.ada_printer.specs.Layout.{deeper, indent, word_text}
@@ -48,6 +50,15 @@ module _ {A B : Type 0} (f : A → PEntry) (g : B → PPriority) (names : List (
       ∙ ap (λ qs. priorities_text names level (map g (take n ps)) ⧺ (entry_text names level (f m) ⧺ items_text names level (i + 1) (map f (drop (i + 1) es)) qs)) (drop-map g n ps)
       ∙ sym (joined_assoc _ _ _)
 
+  -- the same where the pragmas were parted at that place
+  pub items_parted :
+      (es : List A) (i : ℕ) (m : A) (ps ahead behind : List B) (n : ℕ) → i < length es → m ≡ get_or es i m → n ≡ standing i (map g ps) → ahead ≡ take n ps → behind ≡ drop n ps →
+      items_text names level i (map f (drop i es)) (map g ps) ≡ (priorities_text names level (map g ahead) ⧺ entry_text names level (f m)) ⧺ items_text names level (i + 1) (map f (drop (i + 1) es)) (map g behind)
+  items_parted es i m ps ahead behind n within is_m is_n is_ahead is_behind =
+      items_more es i m ps n within is_m is_n
+      ∙ ap (λ qs. (priorities_text names level (map g qs) ⧺ entry_text names level (f m)) ⧺ items_text names level (i + 1) (map f (drop (i + 1) es)) (map g (drop n ps))) (sym is_ahead)
+      ∙ ap (λ qs. (priorities_text names level (map g ahead) ⧺ entry_text names level (f m)) ⧺ items_text names level (i + 1) (map f (drop (i + 1) es)) (map g qs)) (sym is_behind)
+
   -- behind the last entry the other pragmas come
   pub items_end : (es : List A) (i : ℕ) (ps : List B) → length es ≤ i → items_text names level i (map f (drop i es)) (map g ps) ≡ priorities_text names level (map g ps)
   items_end es i ps all = ap (λ ys. items_text names level i (map f ys) (map g ps)) (drop_all i es all)
@@ -81,6 +92,29 @@ pub rest_some : (names : List (List ℕ)) (level : ℕ) (x : PTask) (es : List P
 rest_some names level x [] [] some = absurd (not_below_zero some)
 rest_some names level x [] (p ∷ ps) some = refl
 rest_some names level x (e ∷ es) ps some = refl
+
+pub rest_there :
+    (names : List (List ℕ)) (level n : ℕ) (x : PTask) (es es1 es2 : List EntryDecl) (ps ps1 ps2 : List Priority) (a b c d : Drawing) →
+    1 ≤ length es1 + length ps1 → es1 ≡ es → ps1 ≡ ps → es2 ≡ es → ps2 ≡ ps → n ≡ deeper level →
+    Drew a b (codes " is\n") → Drew b c (items_text names n 0 (map plain_entry es2) (map plain_priority ps2)) → Drew c d (indent level ⧺ (codes "end " ⧺ (word_text names x.name ⧺ codes ";\n"))) →
+    Drew a d (task_rest names level x (map plain_entry es) (map plain_priority ps))
+rest_there names level n x es es1 es2 ps ps1 ps2 a b c d some first_es first_ps same_es same_ps deep head items end =
+    let e : length es1 ≡ length es = ap length first_es in
+    let p : length ps1 ≡ length ps = ap length first_ps in
+    let me : length (map plain_entry es) ≡ length es = length-map es plain_entry in
+    let mp : length (map plain_priority ps) ≡ length ps = length-map ps plain_priority in
+    let there : 1 ≤ length (map plain_entry es) + length (map plain_priority ps) = omega (arith, some, e, p, me, mp) in
+    let is : items_text names n 0 (map plain_entry es2) (map plain_priority ps2) ≡ items_text names (deeper level) 0 (map plain_entry es) (map plain_priority ps) =
+    ap (λ k. items_text names k 0 (map plain_entry es2) (map plain_priority ps2)) deep
+    ∙ ap (λ ys. items_text names (deeper level) 0 (map plain_entry ys) (map plain_priority ps2)) same_es
+    ∙ ap (λ qs. items_text names (deeper level) 0 (map plain_entry es) (map plain_priority qs)) same_ps in
+    drew_as a d _ _ (sym (rest_some names level x (map plain_entry es) (map plain_priority ps) there)) (drew_then a b d _ _ head (drew_then b c d _ _ (drew_as b c _ _ is items) end))
+
+-- behind the name of a task without them its line ends
+pub rest_none : (names : List (List ℕ)) (level : ℕ) (x : PTask) (es : List PEntry) (ps : List PPriority) → length es + length ps ≡ 0 → task_rest names level x es ps ≡ codes ";\n"
+rest_none names level x [] [] none = refl
+rest_none names level x [] (p ∷ ps) none = absurd (omega (arith, none))
+rest_none names level x (e ∷ es) ps none = absurd (omega (arith, none))
 
 -- a declaration from its indentation and its form
 pub decl_there : (names : List (List ℕ)) (level : ℕ) (p q : PDecl) (a b c : Drawing) → p ≡ q → Drew a b (indent level) → Drew b c (decl_form names level q) → Drew a c (decl_text names level p)

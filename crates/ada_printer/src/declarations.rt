@@ -1,7 +1,7 @@
 // Declarations.
 #![tactic(auto, using(crate::proofs::Listed::listed))]
 
-ghost use Rattle.std.specs.Prelude.{◌≡◌, ◌≤◌, codes, length, map, option_map};
+ghost use Rattle.std.specs.Prelude.{◌≡◌, ◌≤◌, ◌+◌, true, false, codes, length, map, option_map};
 ghost use Rattle.ada_tree.specs.PlainExpr.{plain_expr, plain_subind, plain_drange};
 ghost use Rattle.ada_tree.specs.PlainStmt.{plain_formal, plain_body};
 ghost use Rattle.ada_tree.specs.PlainDecl.{plain_shape, plain_init, plain_priority, plain_entry, plain_task, plain_decl, decls_of};
@@ -39,12 +39,17 @@ fn put_init<K: Sink>(names: &Names, init: &Init, page: &mut Page, out: &mut K)
     match init {
         Init::One(value) => put_expr(names, value, page, out),
         Init::List { parts, .. } => put_exprs(names, parts, page, out),
-        Init::Others { part, .. } => {
-            page.put(b"(others => ", out);
-            put_expr(names, part, page, out);
-            page.put(b")", out);
-        }
+        Init::Others { part, .. } => put_others(names, part, page, out),
     }
+}
+
+// One value for all components of an array.
+fn put_others<K: Sink>(names: &Names, part: &Expr, page: &mut Page, out: &mut K)
+    ensures { Drew (over page.old (K.told out.old) (K.faults out.old)) (over page.new (K.told out.new) (K.faults out.new)) (codes "(others => " ⧺ (expr_text names.now (plain_expr part.now) ⧺ codes ")")) }
+{
+    page.put(b"(others => ", out);
+    put_expr(names, part, page, out);
+    page.put(b")", out);
 }
 
 // An initial value, where there is one.
@@ -240,19 +245,30 @@ fn put_items<K: Sink>(
 {
     let mut rest = priorities;
     for (before, entry) in entries.iter().enumerate() {
-        let count = standing(before, rest);
-        put_priorities(names, level, &rest[..count], page, out);
+        let (ahead, behind) = rest.split_at(standing(before, rest));
+        put_priorities(names, level, ahead, page, out);
         put_entry(names, level, entry, page, out);
-        rest = &rest[count..];
+        rest = behind;
     }
     put_priorities(names, level, rest, page, out);
+}
+
+// Whether a task has neither entries nor pragmas.
+fn is_bare(entries: &[EntryDecl], priorities: &[Priority]) -> bool
+    ensures bare { result ≡ true → length entries.now + length priorities.now ≡ 0 }
+    ensures some { result ≡ false → 1 ≤ length entries.now + length priorities.now }
+{
+    match entries {
+        [_, ..] => false,
+        [] => priorities.is_empty(),
+    }
 }
 
 // What stands behind a task's name.
 fn put_task_rest<K: Sink>(names: &Names, level: u32, task: &TaskUnit, page: &mut Page, out: &mut K)
     ensures { Drew (over page.old (K.told out.old) (K.faults out.old)) (over page.new (K.told out.new) (K.faults out.new)) (task_rest names.now level (plain_task task.now) (plain_task task.now).entries (plain_task task.now).priorities) }
 {
-    if task.entries.is_empty() && task.priorities.is_empty() {
+    if is_bare(&task.entries, &task.priorities) {
         page.put(b";\n", out);
         return;
     }
