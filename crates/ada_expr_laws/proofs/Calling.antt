@@ -66,16 +66,16 @@ is_shut d a close = symbol_then key.RightParen (λ close. Is a) d a close [] (re
 
 -- ---- variables and components
 
-abbrev of_name : Word → Option PExpr → PTarget
+abbrev pub of_name : Word → Option PExpr → PTarget
 of_name name index = record { name = name; index = index }
 
-abbrev IndexTexts : Word → Texts Item PTarget
+abbrev pub IndexTexts : Word → Texts Item PTarget
 IndexTexts name = Then (ExprTexts Logical) (λ arg. ShutTexts (of_name name (Some arg)))
 
-abbrev TargetRest : Word → Texts Item PTarget
+abbrev pub TargetRest : Word → Texts Item PTarget
 TargetRest name = Or (Then (One (symbol key.LeftParen)) (λ lead. Below (IndexTexts name))) (Is (of_name name None))
 
-law_target_rest : (d : ℕ) (name : Word) → Lawful d (parts.target_rest d name) (parts.target_rest (suc d) name) (TargetRest name) EndsTarget
+pub law_target_rest : (d : ℕ) (name : Word) → Lawful d (parts.target_rest d name) (parts.target_rest (suc d) name) (TargetRest name) EndsTarget
 law_target_rest d name = law_below
     (λ e lead. bind (inner d Logical) (λ arg. bind (token (symbol key.RightParen)) (λ close. pure (of_name name (Some arg)))))
     (λ e lead. bind (inner (suc d) Logical) (λ arg. bind (token (symbol key.RightParen)) (λ close. pure (of_name name (Some arg)))))
@@ -89,7 +89,7 @@ law_target_rest d name = law_below
     (λ e is lead. law_bind (law_inner d e is) (λ arg. law_shut e (of_name name (Some arg)) EndsTarget) (λ arg. shut_starts e (of_name name (Some arg)) EndsTarget))
     (law_pure d (of_name name None) EndsTarget) (starts_is (λ x stop. stop))
 
-target_is : (d : ℕ) (name : Word) (x : PTarget) (text : List Item) → TargetRest name d x text → (index : Option PExpr) × (x ≡ of_name name index) × IsIndex d index text
+pub target_is : (d : ℕ) (name : Word) (x : PTarget) (text : List Item) → TargetRest name d x text → (index : Option PExpr) × (x ≡ of_name name index) × IsIndex d index text
 target_is zero name x text (inl (lead, one, back, from, token, never)) = absurd never
 target_is (suc d) name x text (inl lead_in) =
     let (lead, back, from, (arg, front, more, split, is, rest)) = after_symbol key.LeftParen (λ lead. Below (IndexTexts name)) (suc d) x text lead_in in
@@ -107,7 +107,7 @@ target_is (suc d) name x text (inl lead_in) =
     )
 target_is d name x text (inr (same, none)) = (None, same, none)
 
-is_target : (d : ℕ) (name : Word) (index : Option PExpr) (text : List Item) → IsIndex d index text → TargetRest name d (of_name name index) text
+pub is_target : (d : ℕ) (name : Word) (index : Option PExpr) (text : List Item) → IsIndex d index text → TargetRest name d (of_name name index) text
 is_target d name None text none = inr (refl, none)
 is_target zero name (Some e) text is = let low = is.nested in absurd (omega (arith, low))
 is_target (suc d) name (Some e) text is = inl (subst (Then (One (symbol key.LeftParen)) (λ lead. Below (IndexTexts name)) (suc d) (of_name name (Some e))) (sym is.text_is)

@@ -42,7 +42,7 @@ First l e text = Sp l e text × IsOther l e
 split_le : (a b : ℕ) → a ≤ b → (a < b) ⊎ (b ≡ a)
 split_le a b low = grind (arith, low)
 
-tighter_rank : (l : Level) (n : ℕ) → rank l < n → n ≤ primary → rank (tighter l) ≤ n
+pub tighter_rank : (l : Level) (n : ℕ) → rank l < n → n ≤ primary → rank (tighter l) ≤ n
 tighter_rank Logical n low high = omega (arith, low)
 tighter_rank Relation n low high = omega (arith, low)
 tighter_rank Simple n low high = omega (arith, low)
@@ -58,16 +58,16 @@ unary_low : (op : UnaryOp) → unary_level op ≤ primary
 unary_low unary.Plus = omega arith
 unary_low op = omega arith
 
-binary_low : (op : BinaryOp) → binary_level op ≤ term
+pub binary_low : (op : BinaryOp) → binary_level op ≤ term
 binary_low And = omega arith
 binary_low op = omega arith
 
-level_low : (e : PExpr) → level e ≤ primary
+pub level_low : (e : PExpr) → level e ≤ primary
 level_low (EBinary op a b s) = let low = binary_low op in omega (arith, low)
 level_low (EUnary op a s) = unary_low op
 level_low e = omega arith
 
-over_rank : (l : Level) (op : BinaryOp) (n : ℕ) → binary_level op ≡ rank l → rank (tighter l) ≤ n → binary_level op < n
+pub over_rank : (l : Level) (op : BinaryOp) (n : ℕ) → binary_level op ≡ rank l → rank (tighter l) ≤ n → binary_level op < n
 over_rank Logical op n same low = omega (arith, same, low)
 over_rank Relation op n same low = omega (arith, same, low)
 over_rank Simple op n same low = omega (arith, same, low)
@@ -169,7 +169,7 @@ operator_ends Term op at is = absurd (omega (arith, is))
 operator_ends Factor op at is = let low = binary_low op in absurd (omega (arith, is, low))
 operator_ends Primary op at is = let low = binary_low op in absurd (omega (arith, is, low))
 
-some_of : {A : Type 0} (m : Option A) → is_some m ≡ true → (x : A) × (m ≡ Some x)
+pub some_of : {A : Type 0} (m : Option A) → is_some m ≡ true → (x : A) × (m ≡ Some x)
 some_of (Some x) e = (x, refl)
 some_of None e = absurd (true≢false (sym e))
 

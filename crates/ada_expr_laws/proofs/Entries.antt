@@ -231,13 +231,13 @@ is_args d (Some x) text (front, back, is, second, from) = inl (subst (Then (One 
 
 -- ---- calls
 
-abbrev of_call : PCallee → Word → Option PArgs → PCall
+abbrev pub of_call : PCallee → Word → Option PArgs → PCall
 of_call task entry lists = record { task = task; entry = entry; args = lists }
 
-abbrev EntryTexts : PCallee → Word → Texts Item PCall
+abbrev pub EntryTexts : PCallee → Word → Texts Item PCall
 EntryTexts task entry = Then ArgsTexts (λ lists. Is (of_call task entry lists))
 
-abbrev CallRest : PCallee → Texts Item PCall
+abbrev pub CallRest : PCallee → Texts Item PCall
 CallRest task = Then (One (symbol key.Dot)) (λ dot. Then (One word) (EntryTexts task))
 
 pub law_call_rest : (d : ℕ) (task : PCallee) → Lawful d (parts.call_rest d task) (parts.call_rest (suc d) task) (CallRest task) EndsTarget
@@ -255,19 +255,31 @@ TargetTexts d x text = IsTarget d x text
 abbrev CallTexts : Texts Item PCall
 CallTexts = Then TargetTexts (λ x. CallRest (parts.callee_of x))
 
+-- what stands behind the task, in plain words
+pub call_rest_is : (d : ℕ) (task : PCallee) (x : PCall) (text : List Item) → CallRest task d x text →
+    (dot : Span) × (back : List Item) × (text ≡ symbol_item key.Dot dot ∷ word_item x.entry ∷ back) × (x.task ≡ task) × AreArgs d x.args back
+call_rest_is d task x text behind =
+    let (dot, more, dotted, next) = after_symbol key.Dot (λ dot. Then (One word) (EntryTexts task)) d x text behind in
+    let (entry, back, named, last) = after_word (EntryTexts task) d x more next in
+    let (lists, same, args) = made ArgsTexts (of_call task entry) d x back last in
+    let whole : text ≡ symbol_item key.Dot dot ∷ word_item entry ∷ back = dotted ∙ ap (λ l. symbol_item key.Dot dot ∷ l) named in
+    rw same (dot, back, whole, refl, args_is d lists back args)
+
+pub is_call_rest : (d : ℕ) (x : PCall) (dot : Span) (back : List Item) → AreArgs d x.args back → CallRest x.task d x (symbol_item key.Dot dot ∷ word_item x.entry ∷ back)
+is_call_rest d x dot back args = symbol_then key.Dot (λ dot. Then (One word) (EntryTexts x.task)) d x dot (word_item x.entry ∷ back)
+    (word_then (EntryTexts x.task) d x x.entry back (make ArgsTexts (of_call x.task x.entry) d x.args back (is_args d x.args back args)))
+
 call_spell : (d : ℕ) (x : PCall) (text : List Item) → CallTexts d x text → IsCall d x text
 call_spell d x text (task, front, rest, from, is, behind) =
-    let (dot, more, dotted, next) = after_symbol key.Dot (λ dot. Then (One word) (EntryTexts (parts.callee_of task))) d x rest behind in
-    let (entry, back, named, last) = after_word (EntryTexts (parts.callee_of task)) d x more next in
-    let (lists, same, args) = made ArgsTexts (of_call (parts.callee_of task) entry) d x back last in
-    rw same (record {
+    let (dot, back, dotted, same, args) = call_rest_is d (parts.callee_of task) x rest behind in
+    record {
       front = front;
       dot = dot;
       back = back;
-      task = is;
-      args = args_is d lists back args;
-      text_is = from ∙ ap (λ l. front ++ l) (dotted ∙ ap (λ l. symbol_item key.Dot dot ∷ l) named);
-    })
+      task = subst (λ t. IsTarget d (record { name = t.name; index = t.index }) front) (sym same) is;
+      args = args;
+      text_is = from ∙ ap (λ l. front ++ l) dotted;
+    }
 
 spell_call : (d : ℕ) (x : PCall) (text : List Item) → IsCall d x text → CallTexts d x text
 spell_call d x text is = (
@@ -276,8 +288,7 @@ spell_call d x text is = (
   symbol_item key.Dot is.dot ∷ word_item x.entry ∷ is.back,
   is.text_is,
   is.task,
-  symbol_then key.Dot (λ dot. Then (One word) (EntryTexts x.task)) d x is.dot (word_item x.entry ∷ is.back)
-      (word_then (EntryTexts x.task) d x x.entry is.back (make ArgsTexts (of_call x.task x.entry) d x.args is.back (is_args d x.args is.back is.args))),
+  is_call_rest d x is.dot is.back is.args,
 )
 
 pub law_call : (d : ℕ) → Lawful d (parts.call d) (parts.call (suc d)) (λ d x text. IsCall d x text) EndsTarget

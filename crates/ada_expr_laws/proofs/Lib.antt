@@ -15,3 +15,6 @@ pub mod Building
 pub mod Stopper
 pub mod Calling
 pub mod Entries
+-- what goes on behind a first primary
+pub mod Behinds
+mod Examples

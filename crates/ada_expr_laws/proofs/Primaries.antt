@@ -123,7 +123,7 @@ module _ (d : ℕ) (i i' : reading.Inner) (inner : (e : ℕ) → d ≡ suc e →
       (λ e is lead. law_content e (i Logical) (i' Logical) (attribute_of m w) EndsPrimary (inner e is Logical))
       (law_pure d (attribute m w) EndsPrimary) (starts_is (λ x stop. stop.0))
 
-  law_name : (w : Word) → Lawful d (reading.name_rest d i w) (reading.name_rest (suc d) i' w) (NameRest w) EndsPrimary
+  pub law_name : (w : Word) → Lawful d (reading.name_rest d i w) (reading.name_rest (suc d) i' w) (NameRest w) EndsPrimary
   law_name w = law_below (λ e lead. bind (i Logical) (λ arg. reading.closed (indexed w arg))) (λ e lead. bind (i' Logical) (λ arg. reading.closed (indexed w arg)))
       (λ lead. some_content (indexed w)) d
       (λ e is lead. law_content e (i Logical) (i' Logical) (indexed w) EndsPrimary (inner e is Logical))
@@ -198,7 +198,7 @@ attribute_spell (suc d) m w tick e text (inl (lead, one, back, from, (k, one_is,
     )
 attribute_spell d m w tick e text (inr (same, none)) = rw same (rw none (((tick, refl, refl), omega arith), omega arith))
 
-name_spell : (d : ℕ) (w : Word) (e : PExpr) (text : List Item) → NameRest w d e text → Up_to levels (Sp Primary) d e (word_item w ∷ text)
+pub name_spell : (d : ℕ) (w : Word) (e : PExpr) (text : List Item) → NameRest w d e text → Up_to levels (Sp Primary) d e (word_item w ∷ text)
 name_spell d w e text (inl index) = index_spell d w e text index
 name_spell d w e text (inr (inl (tick, one, back, from, (k, one_is, some), (word, two, more, split, (h, two_is, other), rest)))) =
     let (spells, low) = attribute_spell d w word tick e more rest in
@@ -218,7 +218,7 @@ primary_spell d e text (inr (inr (inl (w, one, back, from, (k, one_is, some), re
 primary_spell d e text (inr (inr (inr never))) = absurd never
 
 -- and back
-spell_primary : (d : ℕ) (e : PExpr) (text : List Item) → Up_to levels (Sp Primary) d e text → PrimaryTexts d e text
+pub spell_primary : (d : ℕ) (e : PExpr) (text : List Item) → Up_to levels (Sp Primary) d e text → PrimaryTexts d e text
 spell_primary d (EInteger n s) text ((from, high), low) =
     inr (inl (record { value = n; span = s }, number_item n s ∷ [], [], from, (number_item n s, refl, refl), (refl, refl)))
 spell_primary d (EName a s) text ((from, high), low) =

@@ -181,7 +181,7 @@ terminate_is = (
 
 -- what the string `"A""B"` says
 string_is : StringAt (of_bytes (34 ∷ 65 ∷ 34 ∷ 34 ∷ 66 ∷ 34 ∷ [])) (codes "A\"B") (at 0 6) (record { kind = item.Text; span = at 0 6 } ∷ [])
-string_is = (refl, refl)
+string_is = (refl, refl, refl)
 
 -- a constant has an initial value
 no_value : (text : List Item) → IsObject 0 true (OPlain record { mark = p (at 0 1); bounds = None }) None text → ⊥

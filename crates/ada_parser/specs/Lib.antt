@@ -7,3 +7,10 @@ pub mod Units
 pub mod Reads
 pub mod Reading
 pub mod ReadingStatements
+pub mod Views
+pub mod Turns
+pub mod ReadingRows
+pub mod ReadingDeclarations
+pub mod ReadingUnits
+pub mod Laws
+pub mod Exactly

@@ -16,7 +16,7 @@ use Rattle.ada_expr_parser.specs.declared.levels.Level.TheVariants.{Logical, Rel
 use Rattle.ada_expr_parser.specs.Tests.{symbol, word, operator_in, begins_expr}
 use Rattle.ada_expr_parser.specs.Reading.{inner, name_rest}
 use Rattle.ada_expr_parser.specs.Parts.{expression, expr_behind}
-use Rattle.ada_parser.specs.Spelling.{Source, said_at}
+use Rattle.ada_parser.specs.Spelling.{Source, said_at, is_graphic}
 
 -- whether the next item is this symbol
 abbrev pub is_symbol : Symbol → Item → Bool
@@ -137,7 +137,7 @@ accept_behind d =
 
 -- a string literal: what it says, with its place
 abbrev pub string_in : Source → ItemKind → Span → Option PPart
-string_in source item.Text at = Some (PWords (said_at source at) at)
+string_in source item.Text at = if is_graphic (said_at source at) then Some (PWords (said_at source at) at) else None
 string_in source _ at = None
 
 abbrev pub string : Source → Item → Option PPart

@@ -1,6 +1,8 @@
 -- The words in which the grammar is said: which lists of items are a piece of a text. Nothing here reads (this project's rule).
-use Rattle.std.specs.Prelude.{◌≡◌, ℕ, zero, suc, ◌⊎◌, true, List, [], ◌∷◌, ◌++◌, Option, Some, None, drop, slice_range, codes, if◌then◌else◌}
+use Rattle.std.specs.Prelude.{◌≡◌, ℕ, zero, suc, ◌⊎◌, Bool, true, List, [], ◌∷◌, ◌++◌, Option, Some, None, drop, slice_range, codes, if◌then◌else◌}
+use Rattle.std.specs.List.{list_all}
 use Rattle.std.specs.Str.{bytes_eq}
+use Rattle.ada_lexer.specs.Bytes.{is_printable}
 use Rattle.ada_lexer.specs.Strings.{content}
 use Rattle.ada_tree.specs.NameList.{predefined}
 use Rattle.ada_tree.specs.declared.naming.Span.{Span}
@@ -87,9 +89,13 @@ Duration thousandths text = (at : Span) × (text ≡ record { kind = item.Durati
 abbrev pub said_at : Source → Span → List ℕ
 said_at source at = content true (drop 1 (slice_range source.bytes at.start at.end))
 
+-- graphic characters of ASCII and blanks alone, as every string literal of a text holds (2.1, 2.6)
+abbrev pub is_graphic : List ℕ → Bool
+is_graphic t = list_all is_printable t
+
 -- the string literal at this place, which says this (2.6)
 abbrev pub StringAt : Source → List ℕ → Span → Spelling
-StringAt source t at text = (text ≡ record { kind = item.Text; span = at } ∷ []) × (t ≡ said_at source at)
+StringAt source t at text = (text ≡ record { kind = item.Text; span = at } ∷ []) × (t ≡ said_at source at) × (is_graphic t ≡ true)
 
 -- parts, each behind this
 abbrev pub Behind : {A : Type 0} → Spelling → (A → Spelling) → List A → Spelling

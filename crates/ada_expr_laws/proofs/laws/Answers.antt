@@ -1,12 +1,14 @@
 use Rattle.lawful_reader.proofs.Exactly.{finds_exactly, faults_exactly}
-use Rattle.ada_expr_parser.specs.declared.levels.Level.TheVariants.{Simple}
+use Rattle.ada_expr_parser.specs.declared.levels.Level.TheVariants.{Logical, Simple}
 use Rattle.ada_expr_parser.specs.Reading.{expr}
 use Rattle.ada_expr_parser.specs.Parts as parts
 use Rattle.ada_expr_laws.proofs.Plainly.{law_is_expr}
 use Rattle.ada_expr_laws.proofs.Building.{law_bounds, law_subind, law_drange}
 use Rattle.ada_expr_laws.proofs.Calling.{law_target, law_choice}
 use Rattle.ada_expr_laws.proofs.Entries.{law_call}
+use Rattle.ada_expr_laws.proofs.Behinds.{law_behind_at}
 use Rattle.ada_expr_laws.proofs.Stopper.{stopper, stopper_ends, stopper_mark, stopper_range, stopper_target, stopper_choice}
+use Rattle.std.specs.Prelude.{◌+◌}
 use Rattle.ada_expr_laws.proofs.laws.Goals as goal
 
 pub returns : goal.returns
@@ -29,4 +31,6 @@ returns c = record {
     call = faults_exactly parts.call law_call stopper stopper_target;
     choice = faults_exactly parts.choice law_choice stopper stopper_choice;
   };
+  finds_behind = λ low first items is. finds_exactly (λ d. parts.expr_behind (low + d) first) (λ d. law_behind_at low first items is d) stopper (stopper_ends Logical);
+  refuses_behind = λ low first items is. faults_exactly (λ d. parts.expr_behind (low + d) first) (λ d. law_behind_at low first items is d) stopper (stopper_ends Logical);
 }

@@ -1,0 +1,224 @@
+-- The items of a text are one list: a token says one thing alone, since no text has two ids.
+use Rattle.std.proofs.Common.{◌≡◌, ℕ, zero, suc, Bool, true, false, cond, List, [], ◌∷◌, ◌++◌, length, Some, slice_get, fold, true≢false, refl, sym, ap, ap₂, ◌∙◌, subst, arith, ◌⊎◌, inl, inr, ◌||◌}
+use Rattle.std.specs.List.{AllZip, list_any}
+use Rattle.std.specs.Str.{bytes_eq}
+use Rattle.std.proofs.lemmas.Slice.Eq.{bytes_eq-Decides}
+use Rattle.ada_lexer.specs.declared.kinds.Token.{Token}
+use Rattle.ada_lexer.specs.declared.kinds.TokenKind.{TokenKind}
+use Rattle.ada_lexer.specs.declared.kinds.TokenKind.TheVariants as kinds
+use Rattle.ada_lexer.proofs.Unique.{splits-unique}
+use Rattle.ada_tree.specs.NameList.{predefined, interned}
+use Rattle.ada_tree.proofs.Interning.{AreNames-predefined}
+use Rattle.ada_expr_parser.specs.declared.symbols.Symbol.{Symbol}
+use Rattle.ada_expr_parser.specs.declared.symbols.Symbol.TheVariants as key
+use Rattle.ada_expr_parser.specs.declared.items.ItemKind.{ItemKind}
+use Rattle.ada_expr_parser.specs.declared.items.ItemKind.TheVariants as item
+use Rattle.ada_expr_parser.specs.declared.items.Item.{Item}
+use Rattle.ada_expr_parser.specs.Items.{kind_of, Stands, name_text, Says, IsItemOf, end_of, AreItems, interned_if, with_token, names_after}
+use Rattle.ada_parser.specs.Spelling.{Source}
+use Rattle.ada_parser.specs.Reads.{HasItems}
+
+-- what a token that is no name says
+abbrev said : TokenKind → ItemKind
+said kinds.Abort = item.Symbol key.Abort
+said kinds.Abs = item.Symbol key.Abs
+said kinds.Accept = item.Symbol key.Accept
+said kinds.Access = item.Symbol key.Access
+said kinds.All = item.Symbol key.All
+said kinds.And = item.Symbol key.And
+said kinds.Array = item.Symbol key.Array
+said kinds.At = item.Symbol key.At
+said kinds.Begin = item.Symbol key.Begin
+said kinds.Body = item.Symbol key.Body
+said kinds.Case = item.Symbol key.Case
+said kinds.Constant = item.Symbol key.Constant
+said kinds.Declare = item.Symbol key.Declare
+said kinds.Delay = item.Symbol key.Delay
+said kinds.Delta = item.Symbol key.Delta
+said kinds.Digits = item.Symbol key.Digits
+said kinds.Do = item.Symbol key.Do
+said kinds.Else = item.Symbol key.Else
+said kinds.Elsif = item.Symbol key.Elsif
+said kinds.End = item.Symbol key.End
+said kinds.Entry = item.Symbol key.Entry
+said kinds.Exception = item.Symbol key.Exception
+said kinds.Exit = item.Symbol key.Exit
+said kinds.For = item.Symbol key.For
+said kinds.Function = item.Symbol key.Function
+said kinds.Generic = item.Symbol key.Generic
+said kinds.Goto = item.Symbol key.Goto
+said kinds.If = item.Symbol key.If
+said kinds.In = item.Symbol key.In
+said kinds.Is = item.Symbol key.Is
+said kinds.Limited = item.Symbol key.Limited
+said kinds.Loop = item.Symbol key.Loop
+said kinds.Mod = item.Symbol key.Mod
+said kinds.New = item.Symbol key.New
+said kinds.Not = item.Symbol key.Not
+said kinds.Null = item.Symbol key.Null
+said kinds.Of = item.Symbol key.Of
+said kinds.Or = item.Symbol key.Or
+said kinds.Others = item.Symbol key.Others
+said kinds.Out = item.Symbol key.Out
+said kinds.Package = item.Symbol key.Package
+said kinds.Pragma = item.Symbol key.Pragma
+said kinds.Private = item.Symbol key.Private
+said kinds.Procedure = item.Symbol key.Procedure
+said kinds.Raise = item.Symbol key.Raise
+said kinds.Range = item.Symbol key.Range
+said kinds.Record = item.Symbol key.Record
+said kinds.Rem = item.Symbol key.Rem
+said kinds.Renames = item.Symbol key.Renames
+said kinds.Return = item.Symbol key.Return
+said kinds.Reverse = item.Symbol key.Reverse
+said kinds.Select = item.Symbol key.Select
+said kinds.Separate = item.Symbol key.Separate
+said kinds.Subtype = item.Symbol key.Subtype
+said kinds.Task = item.Symbol key.Task
+said kinds.Terminate = item.Symbol key.Terminate
+said kinds.Then = item.Symbol key.Then
+said kinds.Type = item.Symbol key.Type
+said kinds.Use = item.Symbol key.Use
+said kinds.When = item.Symbol key.When
+said kinds.While = item.Symbol key.While
+said kinds.With = item.Symbol key.With
+said kinds.Xor = item.Symbol key.Xor
+said kinds.Semicolon = item.Symbol key.Semicolon
+said kinds.Comma = item.Symbol key.Comma
+said kinds.LeftParen = item.Symbol key.LeftParen
+said kinds.RightParen = item.Symbol key.RightParen
+said kinds.Colon = item.Symbol key.Colon
+said kinds.Becomes = item.Symbol key.Becomes
+said kinds.Arrow = item.Symbol key.Arrow
+said kinds.Dot = item.Symbol key.Dot
+said kinds.DotDot = item.Symbol key.DotDot
+said kinds.Bar = item.Symbol key.Bar
+said kinds.Ampersand = item.Symbol key.Ampersand
+said kinds.Tick = item.Symbol key.Tick
+said kinds.Equal = item.Symbol key.Equal
+said kinds.NotEqual = item.Symbol key.NotEqual
+said kinds.Less = item.Symbol key.Less
+said kinds.LessEqual = item.Symbol key.LessEqual
+said kinds.Greater = item.Symbol key.Greater
+said kinds.GreaterEqual = item.Symbol key.GreaterEqual
+said kinds.Plus = item.Symbol key.Plus
+said kinds.Minus = item.Symbol key.Minus
+said kinds.Star = item.Symbol key.Star
+said kinds.Slash = item.Symbol key.Slash
+said (kinds.Integer n) = item.Integer n
+said (kinds.Duration n) = item.Duration n
+said kinds.Text = item.Text
+said kinds.Name = item.End
+
+said_symbol : (s : Symbol) → said (kind_of s) ≡ item.Symbol s
+said_symbol key.Abort = refl
+said_symbol _ = refl
+
+stands_said : (kind : TokenKind) (x : ItemKind) → Stands kind x → said kind ≡ x
+stands_said kind (item.Symbol s) is = ap said is ∙ said_symbol s
+stands_said kind (item.Integer n) is = ap said is
+stands_said kind (item.Duration n) is = ap said is
+stands_said kind item.Text is = ap said is
+stands_said kind (item.Name id) is = absurd is
+stands_said kind item.End is = absurd is
+
+-- no token that is a name stands for itself
+no_symbol : (s : Symbol) → kinds.Name ≡ kind_of s → ⊥
+no_symbol s is = (let same : item.End ≡ item.Symbol s = ap said is ∙ said_symbol s in cc)
+
+no_name : (kind : TokenKind) (x : ItemKind) → kind ≡ kinds.Name → Stands kind x → ⊥
+no_name kind (item.Symbol s) named is = no_symbol s (sym named ∙ is)
+no_name kind (item.Integer n) named is = (let same : kinds.Name ≡ kinds.Integer n = sym named ∙ is in cc)
+no_name kind (item.Duration n) named is = (let same : kinds.Name ≡ kinds.Duration n = sym named ∙ is in cc)
+no_name kind item.Text named is = (let same : kinds.Name ≡ kinds.Text = sym named ∙ is in cc)
+no_name kind (item.Name id) named is = is
+no_name kind item.End named is = is
+
+-- no text has two ids
+abbrev Differ : List (List ℕ) → Type 0
+Differ names = (t : List ℕ) (i j : ℕ) → slice_get names i ≡ Some t → slice_get names j ≡ Some t → i ≡ j
+
+nowhere : (t : List ℕ) (names : List (List ℕ)) (i : ℕ) → list_any (bytes_eq t) names ≡ false → slice_get names i ≡ Some t → ⊥
+nowhere t [] i none at = cc
+nowhere t (u ∷ names) zero none at =
+    let e : u ≡ t = cc in
+    let same : bytes_eq t u ≡ true = (bytes_eq-Decides t u).1 (sym e) in
+    true≢false (sym (ap (λ b. b || list_any (bytes_eq t) names) same) ∙ none)
+nowhere t (u ∷ names) (suc i) none at = nowhere t names i (tail (bytes_eq t u) none) at
+  where
+    tail : (b : Bool) {c : Bool} → (b || c) ≡ false → c ≡ false
+    tail true e = absurd (true≢false e)
+    tail false e = e
+
+in_longer : (names : List (List ℕ)) (t u : List ℕ) (i : ℕ) → slice_get (names ++ t ∷ []) i ≡ Some u → (slice_get names i ≡ Some u) ⊎ ((i ≡ length names) × (t ≡ u))
+in_longer [] t u zero at = inr (refl, cc)
+in_longer [] t u (suc i) at = cc
+in_longer (x ∷ names) t u zero at = inl at
+in_longer (x ∷ names) t u (suc i) at =
+    elim (in_longer names t u i at) [ inl h ↦ inl h | inr h ↦ inr (omega (arith, h.0), h.1) ]
+
+differ_added : (names : List (List ℕ)) (t : List ℕ) → Differ names → list_any (bytes_eq t) names ≡ false → Differ (names ++ t ∷ [])
+differ_added names t differ none u i j at_i at_j = place (in_longer names t u i at_i) (in_longer names t u j at_j)
+  where
+    place : (slice_get names i ≡ Some u) ⊎ ((i ≡ length names) × (t ≡ u)) → (slice_get names j ≡ Some u) ⊎ ((j ≡ length names) × (t ≡ u)) → i ≡ j
+    place (inl a) (inl b) = differ u i j a b
+    place (inl a) (inr b) = absurd (nowhere t names i none (a ∙ ap Some (sym b.1)))
+    place (inr a) (inl b) = absurd (nowhere t names j none (b ∙ ap Some (sym a.1)))
+    place (inr a) (inr b) = a.0 ∙ sym b.0
+
+differ_interned : (names : List (List ℕ)) (t : List ℕ) → Differ names → Differ (interned names t)
+differ_interned names t differ = pick (list_any (bytes_eq t) names) refl
+  where
+    pick : (b : Bool) → list_any (bytes_eq t) names ≡ b → Differ (cond b names (names ++ t ∷ []))
+    pick true is = differ
+    pick false is = differ_added names t differ is
+
+differ_if : (kind : TokenKind) (names : List (List ℕ)) (t : List ℕ) → Differ names → Differ (interned_if kind names t)
+differ_if kinds.Name names t differ = differ_interned names t differ
+differ_if _ names t differ = differ
+
+differ_after : (bytes : List ℕ) (tokens : List Token) (names : List (List ℕ)) → Differ names → Differ (fold (with_token bytes) names tokens)
+differ_after bytes [] names differ = differ
+differ_after bytes (t ∷ tokens) names differ = differ_after bytes tokens (with_token bytes names t) (differ_if t.kind names (name_text bytes t) differ)
+
+-- the names of a text differ
+pub names_differ : (bytes : List ℕ) (tokens : List Token) → Differ (names_after bytes tokens)
+names_differ bytes tokens = differ_after bytes tokens predefined AreNames-predefined.distinct
+
+module _ (bytes : List ℕ) (names : List (List ℕ)) (differ : Differ names) where
+  says_one : (token : Token) (x y : ItemKind) → Says bytes names token x → Says bytes names token y → x ≡ y
+  says_one token (item.Name id) (item.Name other) one two = ap (λ n. item.Name record { 0 = n }) (differ (name_text bytes token) id.0 other.0 one.1 two.1)
+  says_one token (item.Name id) y one two = absurd (no_name token.kind y one.0 two)
+  says_one token x (item.Name id) one two = absurd (no_name token.kind x two.0 one)
+  says_one token x y one two = sym (stands_said token.kind x one) ∙ stands_said token.kind y two
+
+  item_one : (token : Token) (x y : Item) → IsItemOf bytes names token x → IsItemOf bytes names token y → x ≡ y
+  item_one token x y one two =
+      ap₂ (λ kind span. record { kind = kind; span = span }) (says_one token x.kind y.kind one.says two.says)
+      (ap₂ (λ start end. record { start = start; end = end }) (one.start ∙ sym two.start) (one.end ∙ sym two.end))
+
+  items_one : (tokens : List Token) (xs ys : List Item) → AllZip (IsItemOf bytes names) tokens xs → AllZip (IsItemOf bytes names) tokens ys → xs ≡ ys
+  items_one [] [] [] one two = refl
+  items_one [] [] (y ∷ ys) one two = absurd two
+  items_one [] (x ∷ xs) ys one two = absurd one
+  items_one (t ∷ tokens) [] ys one two = absurd one
+  items_one (t ∷ tokens) (x ∷ xs) [] one two = absurd two
+  items_one (t ∷ tokens) (x ∷ xs) (y ∷ ys) one two = ap₂ (λ a list. a ∷ list) (item_one t x y one.0 two.0) (items_one tokens xs ys one.1 two.1)
+
+-- the tokens of a text are one list, and so are its names
+pub names_one : (bytes : List ℕ) (s t : Source) (xs ys : List Item) → HasItems bytes s xs → HasItems bytes t ys → s ≡ t
+names_one bytes s t xs ys one two =
+    one.source_is ∙ ap (λ tokens. record { bytes = bytes; names = names_after bytes tokens }) (splits-unique bytes one.tokens two.tokens one.splits two.splits) ∙ sym two.source_is
+
+items_of_one : (bytes : List ℕ) (tokens : List Token) (xs ys : List Item) → AreItems bytes (names_after bytes tokens) tokens xs → AreItems bytes (names_after bytes tokens) tokens ys → xs ≡ ys
+items_of_one bytes tokens xs ys one two =
+    one.2 ∙ ap (λ front. front ++ end_of bytes ∷ []) (items_one bytes (names_after bytes tokens) (names_differ bytes tokens) tokens one.0 two.0 one.1 two.1) ∙ sym two.2
+
+are_items : (bytes : List ℕ) (s : Source) (xs : List Item) (h : HasItems bytes s xs) (tokens : List Token) → h.tokens ≡ tokens → AreItems bytes (names_after bytes tokens) tokens xs
+are_items bytes s xs h tokens same =
+    subst (λ t. AreItems bytes (names_after bytes t) t xs) same (subst (λ names. AreItems bytes names h.tokens xs) (ap (λ source. source.names) h.source_is) h.items_are)
+
+-- the items of a text are one list
+pub items_are_one : (bytes : List ℕ) (s t : Source) (xs ys : List Item) → HasItems bytes s xs → HasItems bytes t ys → xs ≡ ys
+items_are_one bytes s t xs ys one two =
+    items_of_one bytes two.tokens xs ys (are_items bytes s xs one two.tokens (splits-unique bytes one.tokens two.tokens one.splits two.splits)) (are_items bytes t ys two two.tokens refl)
