@@ -2,6 +2,7 @@
 //! this project's language has it, and what it is to read a text; in `src/` the readers.
 #![tactic(auto)]
 
+mod identifiers;
 mod laws;
 mod operands;
 mod phrases;
@@ -9,6 +10,7 @@ mod simple;
 mod source;
 mod strings;
 mod tokens;
+mod types;
 mod words;
 
 pub use laws::reading_laws;
