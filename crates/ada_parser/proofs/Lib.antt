@@ -4,6 +4,7 @@ pub mod Seen
 pub mod Named
 pub mod Steps
 pub mod Lists
+pub mod DeclSteps
 pub mod Continuing
 pub mod Narrowing
 pub mod Rows

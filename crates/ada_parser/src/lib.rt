@@ -2,7 +2,9 @@
 //! this project's language has it, and what it is to read a text; in `src/` the readers.
 #![tactic(auto)]
 
+mod entries;
 mod identifiers;
+mod initials;
 mod laws;
 mod operands;
 mod phrases;
