@@ -6,6 +6,7 @@ mod entries;
 mod identifiers;
 mod initials;
 mod laws;
+mod objects;
 mod operands;
 mod phrases;
 mod simple;
