@@ -5,6 +5,7 @@ pub mod Named
 pub mod Steps
 pub mod Lists
 pub mod DeclSteps
+pub mod MemberSteps
 pub mod Continuing
 pub mod Narrowing
 pub mod Rows

@@ -14,6 +14,7 @@ mod pragmas;
 mod simple;
 mod source;
 mod strings;
+mod tasks;
 mod tokens;
 mod types;
 mod words;
