@@ -4,6 +4,8 @@ pub mod Seen
 pub mod Named
 pub mod Steps
 pub mod Lists
+pub mod DeclSteps
+pub mod MemberSteps
 pub mod Continuing
 pub mod Narrowing
 pub mod Rows

@@ -2,13 +2,19 @@
 //! this project's language has it, and what it is to read a text; in `src/` the readers.
 #![tactic(auto)]
 
+mod entries;
 mod identifiers;
+mod initials;
 mod laws;
+mod members;
+mod objects;
 mod operands;
 mod phrases;
+mod pragmas;
 mod simple;
 mod source;
 mod strings;
+mod tasks;
 mod tokens;
 mod types;
 mod words;
