@@ -1,6 +1,7 @@
 pub mod Faults
 pub mod Texts
 pub mod Seen
+pub mod Whens
 pub mod Steps
 pub mod Lists
 pub mod Continuing

@@ -2,11 +2,19 @@
 //! this project's language has it, and what it is to read a text; in `src/` the readers.
 #![tactic(auto)]
 
+mod bodies;
+mod compound;
 mod laws;
+mod looping;
+mod operands;
 mod phrases;
+mod selecting;
+mod sequences;
 mod simple;
 mod source;
+mod statements;
 mod strings;
 mod tokens;
+mod words;
 
 pub use laws::reading_laws;

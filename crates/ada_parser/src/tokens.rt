@@ -1,6 +1,6 @@
 //! Tests of the next item, and lists that grow.
 
-ghost use Rattle.std.specs.Prelude.{◌≡◌, [], ◌∷◌, ◌++◌, is_some, IfErr, OnOk};
+ghost use Rattle.std.specs.Prelude.{◌≡◌, [], ◌∷◌, ◌++◌, cond, Some, None, is_some, IfErr, OnOk};
 ghost use Rattle.ada_expr_parser.specs.Tests as tests;
 ghost use Rattle.ada_expr_parser.specs.Trees as trees;
 ghost use Rattle.ada_expr_parser.specs.declared.errors.ParseError.TheVariants.{Memory};
@@ -11,8 +11,10 @@ use ada_expr_parser::{Item, ItemKind, ParseError, Symbol, symbol_in};
 use ada_tree::{Span, Word};
 
 /// Whether an item is this symbol.
+#[tactic(auto, using(crate::proofs::Steps::placed))]
 pub(crate) fn is_symbol(wanted: Symbol, item: Item) -> bool
-    ensures { result ≡ reading.is_symbol wanted item }
+    ensures test { result ≡ reading.is_symbol wanted item }
+    ensures place { tests.symbol wanted item ≡ cond result (Some item.span) None }
 {
     symbol_in(wanted, item).is_some()
 }
