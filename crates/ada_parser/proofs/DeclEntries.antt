@@ -16,7 +16,6 @@ use Rattle.ada_tree.specs.PlainExpr.{PDrange, RMarked}
 use Rattle.ada_tree.specs.PlainStmt.{PFormal}
 use Rattle.ada_tree.specs.PlainDecl.{PEntry}
 use Rattle.ada_expr_parser.specs.declared.symbols.Symbol.TheVariants as key
-use Rattle.ada_expr_parser.specs.declared.items.ItemKind.TheVariants as item
 use Rattle.ada_expr_parser.specs.declared.items.Item.{Item}
 use Rattle.ada_expr_parser.specs.Tests.{same, symbol, word}
 use Rattle.ada_expr_parser.specs.Trees.{from_to}
@@ -38,12 +37,9 @@ use Rattle.ada_parser.proofs.KitLeading.{symbol_at}
 use Rattle.ada_parser.proofs.Continuing.{law_onward}
 use Rattle.ada_parser.proofs.Narrowing.{Narrow, narrow_where, narrow_starts, passed_by, law_either}
 use Rattle.ada_parser.proofs.Formals.{FormalsBehind, SomeFormals, whole_formals, first_name, law_formals_from, FormalsTexts, EndsFormals, law_formals, formals_start}
-use Rattle.ada_parser.proofs.DeclInits.{Dranges, close_range}
+use Rattle.ada_parser.proofs.DeclInits.{Dranges, close_range, an_end}
 
 -- ---- discrete ranges, from a name on
-
-abbrev an_end : Item
-an_end = record { kind = item.End; span = no_place }
 
 end_range : EndsRange an_end
 end_range = (((((refl, refl), refl), refl), refl), refl)

@@ -201,7 +201,7 @@ abbrev OpenTexts : Span → Texts Item PInit
 OpenTexts lead = Or (Then (One (symbol key.Others)) (λ at. OthersTexts lead)) (Then Expressions (BothTexts lead))
 
 -- no expression is empty
-abbrev an_end : Item
+abbrev pub an_end : Item
 an_end = record { kind = item.End; span = no_place }
 
 end_ends : Ends Logical an_end

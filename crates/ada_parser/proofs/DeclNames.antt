@@ -19,7 +19,7 @@ use Rattle.ada_expr_parser.specs.Trees.{from_to}
 use Rattle.ada_expr_parser.specs.Grammar.{symbol_item, word_item}
 use Rattle.ada_expr_parser.specs.Parts.{expression}
 use Rattle.ada_expr_laws.specs.Stopping.{Ends, EndsMark}
-use Rattle.ada_expr_laws.proofs.Tokens.{symbol_is, symbol_takes, some_is, none_is}
+use Rattle.ada_expr_laws.proofs.Tokens.{symbol_is, symbol_takes, none_is}
 use Rattle.ada_expr_laws.proofs.Primaries.{no_place}
 use Rattle.ada_parser.specs.Spelling.{Source, Spelling, ◌▷◌, IfThere, Key, Named, Behind}
 use Rattle.ada_parser.specs.Phrases.{Expression}
@@ -30,6 +30,7 @@ use Rattle.ada_parser.specs.ReadingDeclarations as reading
 use Rattle.ada_parser.proofs.KitPieces.{KeyAt, Closing, closing_key, closing_then, placed_word, word_placed, Same, same_grouped, same_through, same_behind}
 use Rattle.ada_parser.proofs.KitReading.{Made, made_key, made_bind, law_word, law_key, law_closed, law_more, starts_key, starts_last, key_taken, taken_key}
 use Rattle.ada_parser.proofs.KitDeeper.{law_expression}
+use Rattle.ada_parser.proofs.Formals.{word_same, colon_names}
 use Rattle.ada_parser.proofs.DeclInits.{law_shape, law_init}
 
 -- ---- what ends what
@@ -45,10 +46,6 @@ semicolon_mark at = ((((refl, refl), refl), refl), refl)
 becomes_mark : (at : Span) → EndsMark (symbol_item key.Becomes at)
 unfolding same
 becomes_mark at = ((((refl, refl), refl), refl), refl)
-
-colon_names : (at : Span) → IsPassed (symbol key.Comma) (symbol_item key.Colon at)
-unfolding same
-colon_names at = refl
 
 pub no_becomes : (at : Span) → symbol key.Becomes (symbol_item key.Semicolon at) ≡ None
 unfolding same
@@ -227,10 +224,6 @@ law_names_behind d next next' Rest w S law = law_bind {R = IsPassed (symbol key.
     (law_more key.Comma {U = Anything} (law_word d Anything) (λ at. tt) (λ x stop. tt) (λ x stop. stop))
     (λ more. law_key key.Colon (law more))
     (λ more. record { begins_with = λ a text x (front, back, from, (at, one), rest) stop. rw from (rw one (colon_names at)) })
-
--- the same first name
-word_same : (v w : Word) (back text : List Item) → word_item w ∷ text ≡ word_item v ∷ back → v ≡ w
-word_same v w back text from = some_is (sym (ap word (ap (first_of (word_item w)) from)))
 
 -- no symbol is a name
 pub no_key : (s : Symbol) (Q : Spelling) (w : Word) (text : List Item) → (Key s ▷ Q) (word_item w ∷ text) → ⊥

@@ -136,7 +136,7 @@ pub enumeration_closing : (w : Word) (ws : List Word) → Closing (EnumerationSh
 enumeration_closing w ws = closing_then (Named w) (closing_then (Key key.Is) (closing_then (Key key.LeftParen) (closing_then (Names ws) (closing_then (Key key.RightParen) (closing_key key.Semicolon)))))
 
 -- the one and then the rest of a group
-pushed : (P : Spelling) {A Q R : Spelling} → Same A (Q ▷ R) → Same (P ▷ A) ((P ▷ Q) ▷ R)
+pub pushed : (P : Spelling) {A Q R : Spelling} → Same A (Q ▷ R) → Same (P ▷ A) ((P ▷ Q) ▷ R)
 pushed P {Q = Q} {R = R} same = same_through (same_behind P same) (same_grouped P Q R)
 
 abbrev pub ArrayShut : ℕ → Word → PDrange → PSubind → Span → Spelling

@@ -86,7 +86,7 @@ MarkTexts w more = Made {V = ParMode × Word} (λ v. formal_of w more v.0 v.1) (
 abbrev FromTexts : Word → Texts Item PFormal
 FromTexts w = Made {V = List Word × (ParMode × Word)} (λ v. formal_of w v.0 v.1.0 v.1.1) (λ d v. Behind (Key key.Comma) Named v.0 ▷ Key key.Colon ▷ Mode v.1.0 ▷ Named v.1.1)
 
-colon_names : (at : Span) → IsPassed (symbol key.Comma) (symbol_item key.Colon at)
+pub colon_names : (at : Span) → IsPassed (symbol key.Comma) (symbol_item key.Colon at)
 unfolding same
 colon_names at = refl
 
@@ -103,7 +103,7 @@ tail_of [] = []
 tail_of (x ∷ list) = list
 
 -- the same first name
-word_same : (v w : Word) (back text : List Item) → word_item w ∷ text ≡ word_item v ∷ back → v ≡ w
+pub word_same : (v w : Word) (back text : List Item) → word_item w ∷ text ≡ word_item v ∷ back → v ≡ w
 word_same v w back text from = some_is (sym (ap word (ap (first_of (word_item w)) from)))
 
 names_formal : (w : Word) (d : ℕ) (ws : List Word) (m : ParMode) (mark : Word) (text : List Item) → (Names ws ▷ Key key.Colon ▷ Mode m ▷ Named mark) (word_item w ∷ text) → FromTexts w d (record { names = ws; mode = m; mark = mark }) text

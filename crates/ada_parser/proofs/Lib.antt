@@ -1,8 +1,11 @@
 pub mod Faults
 pub mod Texts
 pub mod Seen
+pub mod Named
+pub mod Marks
 pub mod Whens
 pub mod Steps
+pub mod Inner
 pub mod Lists
 pub mod Continuing
 pub mod Narrowing
@@ -15,6 +18,11 @@ pub mod DeclEntries
 pub mod DeclTasks
 pub mod DeclLaws
 pub mod DeclGrammar
+pub mod UnitLaws
+pub mod NoEnd
+pub mod Whole
+pub mod Exact
+pub mod RowLists
 mod ReadingExamples
 mod DeclExamples
 mod TextExamples
@@ -31,6 +39,8 @@ pub mod StmtLoops
 pub mod StmtBodies
 pub mod StmtAlts
 pub mod StmtSelect
+pub mod StmtAccept
+pub mod StmtLaws
 pub mod Placed
 pub mod PlacedTokens
 pub mod PlacedItems

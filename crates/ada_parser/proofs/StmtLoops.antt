@@ -226,13 +226,13 @@ module _ (source : Source) where
   unnamed_same : (e : ℕ) (c : Option PScheme) (l : PStmts) (Z : Spelling) → Same (IfThere c (IsScheme e) ▷ LoopBody source e l (LoopEnd None Z)) (Unnamed e c l Z)
   unnamed_same e c l Z = same_through (inside_same source e c l (LoopEnd None Z)) (same_begun (LoopInside source e c l ▷ LoopEnd None Z))
 
-  whole_while : (e : ℕ) (test : PExpr) (l : PStmts) → Same (Key key.While ▷ WhileBehind source e test l (LoopEnd None (Key key.Semicolon))) (Unnamed e (Some (LWhile test)) l (Key key.Semicolon))
+  pub whole_while : (e : ℕ) (test : PExpr) (l : PStmts) → Same (Key key.While ▷ WhileBehind source e test l (LoopEnd None (Key key.Semicolon))) (Unnamed e (Some (LWhile test)) l (Key key.Semicolon))
   whole_while e test l = same_through (while_same source e test l (LoopEnd None (Key key.Semicolon))) (unnamed_same e (Some (LWhile test)) l (Key key.Semicolon))
 
-  whole_for : (e : ℕ) (w : Word) (b : Bool) (x : PDrange) (l : PStmts) → Same (Key key.For ▷ ForBehind source e w b x l (LoopEnd None (Key key.Semicolon))) (Unnamed e (Some (LFor w b x)) l (Key key.Semicolon))
+  pub whole_for : (e : ℕ) (w : Word) (b : Bool) (x : PDrange) (l : PStmts) → Same (Key key.For ▷ ForBehind source e w b x l (LoopEnd None (Key key.Semicolon))) (Unnamed e (Some (LFor w b x)) l (Key key.Semicolon))
   whole_for e w b x l = same_through (for_same source e w b x l (LoopEnd None (Key key.Semicolon))) (unnamed_same e (Some (LFor w b x)) l (Key key.Semicolon))
 
-  whole_loop : (e : ℕ) (l : PStmts) → Same (LoopBody source e l (LoopEnd None (Key key.Semicolon))) (Unnamed e None l (Key key.Semicolon))
+  pub whole_loop : (e : ℕ) (l : PStmts) → Same (LoopBody source e l (LoopEnd None (Key key.Semicolon))) (Unnamed e None l (Key key.Semicolon))
   whole_loop e l = same_through (loop_same source e l (LoopEnd None (Key key.Semicolon))) (unnamed_same e None l (Key key.Semicolon))
 
   while_closing : (e : ℕ) (test : PExpr) (l : PStmts) → Closing (λ close. WhileBehind source e test l (LoopEnd None (KeyAt key.Semicolon close))) (WhileBehind source e test l (LoopEnd None (Key key.Semicolon)))

@@ -63,7 +63,7 @@ one_and_four false false true d e = refl
 one_and_four false false false true e = refl
 one_and_four false false false false e = refl
 
-goes_so : (k : Item) → goes_on_name k ≡ (is_symbol key.Tick k || operates k)
+pub goes_so : (k : Item) → goes_on_name k ≡ (is_symbol key.Tick k || operates k)
 goes_so k = one_and_four (is_symbol key.Tick k) (is_some (operator_in Term None k.kind)) (is_some (operator_in Simple None k.kind)) (is_some (operator_in Relation None k.kind)) (is_some (operator_in Logical None k.kind))
 
 -- the item is no closing parenthesis, and no parenthesis at all

@@ -13,3 +13,4 @@ pub mod ReadingRows
 pub mod ReadingDeclarations
 pub mod ReadingUnits
 pub mod Laws
+pub mod Exactly

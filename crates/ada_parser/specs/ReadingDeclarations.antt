@@ -5,7 +5,7 @@ use Rattle.ada_tree.specs.NameList.{predefined}
 use Rattle.ada_tree.specs.declared.naming.Span.{Span}
 use Rattle.ada_tree.specs.declared.naming.Word.{Word}
 use Rattle.ada_tree.specs.PlainExpr.{PExpr, PSubind, PDrange}
-use Rattle.ada_tree.specs.PlainStmt.{PFormal, PBody}
+use Rattle.ada_tree.specs.PlainStmt.{PBody}
 use Rattle.ada_tree.specs.PlainDecl.{PShape, OPlain, ORow, PInit, IOne, IList, IOthers, PEntry, PTask, PDecl, DNumber, DObject, DEnumeration, DArray, DSubtype, DException, DIntIo, DPragma, DTask, DTaskBody, PDecls, decls_of}
 use Rattle.ada_expr_parser.specs.declared.symbols.Symbol.TheVariants as key
 use Rattle.ada_expr_parser.specs.declared.items.Item.{Item}
@@ -15,7 +15,7 @@ use Rattle.ada_expr_parser.specs.Trees.{levels, from_to, in_parens}
 use Rattle.ada_expr_parser.specs.Parts.{expression, expr_behind, subind, drange}
 use Rattle.ada_parser.specs.Spelling.{Source, id_of}
 use Rattle.ada_parser.specs.Tasks.{Member, MEntry, MPriority, entries_in, priorities_in}
-use Rattle.ada_parser.specs.Reading.{is_symbol, key_then, last_key, closed, more_behind, separated, formals_from, formals, Behind, behind_index, is_formal_mark, end_of}
+use Rattle.ada_parser.specs.Reading.{is_symbol, key_then, last_key, closed, more_behind, separated, formals_from, Behind, behind_index, is_formal_mark, end_of}
 use Rattle.ada_parser.specs.ReadingStatements.{readers, body_rest}
 use Rattle.ada_parser.specs.ReadingRows.{row}
 

@@ -1,5 +1,5 @@
 -- How the values of the code are seen plainly.
-use Rattle.std.specs.Prelude.{ℕ, Bool, true, false, List, Option, Some, None, Vec, map, option_map}
+use Rattle.std.specs.Prelude.{ℕ, Bool, true, false, ◌||◌, is_some, List, Option, Some, None, Vec, map, option_map}
 use Rattle.std.specs.declared.alloc.Global.{Global}
 use Rattle.ada_tree.specs.declared.naming.Span.{Span}
 use Rattle.ada_tree.specs.declared.naming.Word.{Word}
@@ -11,6 +11,9 @@ use Rattle.ada_tree.specs.declared.statements.Handler.{Handler}
 use Rattle.ada_tree.specs.declared.statements.Stmt.{Stmt}
 use Rattle.ada_tree.specs.PlainExpr.{PExpr, EName, plain_expr}
 use Rattle.ada_tree.specs.PlainStmt.{PTarget, PPart, PStmt, PStmts, PCaseArm, PHandler, SPut, SPutLine, plain_formal, plain_case_arm, plain_handler, seen}
+use Rattle.ada_expr_parser.specs.declared.items.ItemKind.{ItemKind}
+use Rattle.ada_expr_parser.specs.declared.levels.Level.TheVariants.{Logical, Relation, Simple, Term}
+use Rattle.ada_expr_parser.specs.Tests.{operator_in}
 use Rattle.ada_expr_parser.specs.Trees.{indexed}
 use Rattle.ada_parser.specs.Spelling.{Source}
 use Rattle.ada_parser.specs.Reading.{Delayed, Behind}
@@ -50,3 +53,7 @@ expr_of w (Some arg) close = indexed w arg close
 abbrev pub put_of : Bool → List PPart → Span → PStmt
 put_of true = SPutLine
 put_of false = SPut
+
+-- an operator between operands
+abbrev pub is_operator : ItemKind → Bool
+is_operator k = is_some (operator_in Term None k) || is_some (operator_in Simple None k) || is_some (operator_in Relation None k) || is_some (operator_in Logical None k)

@@ -16,7 +16,7 @@ use ada_tree::{Body, Handler, Span, Stmt, StmtKind};
 use std::alloc::Global;
 
 /// A block, behind `begin`.
-#[tactic(auto, using(crate::proofs::Steps::steps, ada_tree::proofs::Rows::rows))]
+#[tactic(auto, using(crate::proofs::Inner::inward, ada_tree::proofs::Rows::rows))]
 #[cycle(stmt)]
 pub(crate) fn read_block<'a>(
     alloc: Global,
@@ -43,7 +43,7 @@ pub(crate) fn read_block<'a>(
 }
 
 /// Behind `begin`: statements, and handlers if there are some.
-#[tactic(auto, using(crate::proofs::Steps::steps, ada_tree::proofs::Rows::rows))]
+#[tactic(auto, using(crate::proofs::Inner::inward, ada_tree::proofs::Rows::rows))]
 #[cycle(stmt)]
 pub(crate) fn read_body<'a>(
     alloc: Global,
@@ -75,7 +75,7 @@ pub(crate) fn read_body<'a>(
 }
 
 // Handlers behind `exception`, one at least.
-#[tactic(auto, using(crate::proofs::Steps::steps))]
+#[tactic(auto, using(crate::proofs::Inner::inward))]
 #[cycle(stmt)]
 fn handlers_below<'a>(
     alloc: Global,
@@ -91,7 +91,7 @@ fn handlers_below<'a>(
 }
 
 // Handlers, one at least.
-#[tactic(auto, using(crate::proofs::Steps::steps))]
+#[tactic(auto, using(crate::proofs::Inner::inward))]
 #[cycle(stmt)]
 fn read_handlers<'a>(
     alloc: Global,
@@ -129,7 +129,7 @@ fn add_others(list: &mut Vec<Handler>, others: Option<Handler>) -> Result<(), Pa
 }
 
 // Handlers, the last of which may be for others.
-#[tactic(auto, using(crate::proofs::Steps::steps))]
+#[tactic(auto, using(crate::proofs::Inner::inward))]
 #[cycle(stmt)]
 fn handler_parts<'a>(
     alloc: Global,
@@ -164,7 +164,7 @@ fn handler_parts<'a>(
 }
 
 // A handler for some exceptions, behind `when`.
-#[tactic(auto, using(crate::proofs::Steps::steps, ada_tree::proofs::Rows::rows))]
+#[tactic(auto, using(crate::proofs::Inner::inward, ada_tree::proofs::Rows::rows))]
 #[cycle(stmt)]
 fn read_handler<'a>(
     alloc: Global,
@@ -185,7 +185,7 @@ fn read_handler<'a>(
 }
 
 // The handler for others, behind `when others`.
-#[tactic(auto, using(crate::proofs::Steps::steps, ada_tree::proofs::Rows::rows))]
+#[tactic(auto, using(crate::proofs::Inner::inward, ada_tree::proofs::Rows::rows))]
 #[cycle(stmt)]
 fn others_handler<'a>(
     alloc: Global,
@@ -206,7 +206,7 @@ fn others_handler<'a>(
 }
 
 /// Behind `begin` of a unit or of a task's body, with at most `depth` levels below its statements.
-#[tactic(auto, using(crate::proofs::Steps::body_at))]
+#[tactic(auto, using(crate::proofs::Inner::body_at))]
 pub(crate) fn unit_body<'a>(
     alloc: Global,
     source: &Source<'_>,

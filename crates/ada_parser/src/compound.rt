@@ -20,7 +20,7 @@ use ada_tree::{Arm, CaseArm, CaseChoice, Expr, Span, Stmt, StmtKind};
 use std::alloc::Global;
 
 /// Behind `if`.
-#[tactic(auto, using(crate::proofs::Steps::steps))]
+#[tactic(auto, using(crate::proofs::Inner::inward))]
 #[cycle(stmt)]
 pub(crate) fn read_if<'a>(
     alloc: Global,
@@ -39,7 +39,7 @@ pub(crate) fn read_if<'a>(
 }
 
 // Behind the last part of an `if`: its end.
-#[tactic(auto, using(crate::proofs::Steps::steps, ada_tree::proofs::Rows::rows))]
+#[tactic(auto, using(crate::proofs::Inner::inward, ada_tree::proofs::Rows::rows))]
 fn if_end<'a>(
     lead: Span,
     arms: Vec<Arm>,
@@ -63,7 +63,7 @@ fn if_end<'a>(
 }
 
 // A condition with its statements.
-#[tactic(auto, using(crate::proofs::Steps::steps, ada_tree::proofs::Rows::rows))]
+#[tactic(auto, using(crate::proofs::Inner::inward, ada_tree::proofs::Rows::rows))]
 #[cycle(stmt)]
 fn read_arm<'a>(
     alloc: Global,
@@ -82,7 +82,7 @@ fn read_arm<'a>(
 }
 
 // A condition with its statements, behind `elsif`.
-#[tactic(auto, using(crate::proofs::Steps::steps))]
+#[tactic(auto, using(crate::proofs::Inner::inward))]
 #[cycle(stmt)]
 fn next_arm<'a>(
     alloc: Global,
@@ -99,7 +99,7 @@ fn next_arm<'a>(
 }
 
 // Further conditions, each behind `elsif`, at the end of the list.
-#[tactic(auto, using(crate::proofs::Steps::steps))]
+#[tactic(auto, using(crate::proofs::Inner::inward))]
 #[cycle(stmt)]
 fn arms_onto<'a>(
     alloc: Global,
@@ -127,7 +127,7 @@ fn arms_onto<'a>(
 }
 
 // Conditions with their statements, one at least.
-#[tactic(auto, using(crate::proofs::Steps::steps))]
+#[tactic(auto, using(crate::proofs::Inner::inward))]
 #[cycle(stmt)]
 fn read_arms<'a>(
     alloc: Global,
@@ -147,7 +147,7 @@ fn read_arms<'a>(
 }
 
 /// Behind `case`.
-#[tactic(auto, using(crate::proofs::Steps::steps))]
+#[tactic(auto, using(crate::proofs::Inner::inward))]
 #[cycle(stmt)]
 pub(crate) fn read_case<'a>(
     alloc: Global,
@@ -167,7 +167,7 @@ pub(crate) fn read_case<'a>(
 }
 
 // Behind the last choice of a `case`: its end.
-#[tactic(auto, using(crate::proofs::Steps::steps, ada_tree::proofs::Rows::rows, crate::proofs::Seen::maybe_is))]
+#[tactic(auto, using(crate::proofs::Inner::inward, ada_tree::proofs::Rows::rows, crate::proofs::Seen::maybe_is))]
 fn case_end<'a>(
     lead: Span,
     selector: Expr,
@@ -196,7 +196,7 @@ fn case_end<'a>(
 }
 
 // A choice behind `|`.
-#[tactic(auto, using(crate::proofs::Steps::steps))]
+#[tactic(auto, using(crate::proofs::Inner::inward))]
 fn next_choice<'a>(
     alloc: Global,
     depth: u32,
@@ -210,7 +210,7 @@ fn next_choice<'a>(
 }
 
 // Further choices, each behind `|`, at the end of the list.
-#[tactic(auto, using(crate::proofs::Steps::steps))]
+#[tactic(auto, using(crate::proofs::Inner::inward))]
 fn choices_onto<'a>(
     alloc: Global,
     depth: u32,
@@ -235,7 +235,7 @@ fn choices_onto<'a>(
 }
 
 // Choices with `|` between them, one at least.
-#[tactic(auto, using(crate::proofs::Steps::steps))]
+#[tactic(auto, using(crate::proofs::Inner::inward))]
 fn read_choices<'a>(
     alloc: Global,
     depth: u32,
@@ -252,7 +252,7 @@ fn read_choices<'a>(
 }
 
 // The choices of a `when` with their statements, behind `when`.
-#[tactic(auto, using(crate::proofs::Steps::steps, ada_tree::proofs::Rows::rows))]
+#[tactic(auto, using(crate::proofs::Inner::inward, ada_tree::proofs::Rows::rows))]
 #[cycle(stmt)]
 fn case_part<'a>(
     alloc: Global,
@@ -272,7 +272,7 @@ fn case_part<'a>(
 }
 
 // The statements behind `when others`.
-#[tactic(auto, using(crate::proofs::Steps::steps))]
+#[tactic(auto, using(crate::proofs::Inner::inward))]
 #[cycle(stmt)]
 fn others_part<'a>(
     alloc: Global,
@@ -290,7 +290,7 @@ fn others_part<'a>(
 }
 
 // The choices of a `case` with their statements, the last of which may be for `others`.
-#[tactic(auto, using(crate::proofs::Steps::steps))]
+#[tactic(auto, using(crate::proofs::Inner::inward))]
 #[cycle(stmt)]
 fn read_case_arms<'a>(
     alloc: Global,

@@ -18,7 +18,7 @@ use ada_tree::{Scheme, Span, Stmt, StmtKind, Word};
 use std::alloc::Global;
 
 // Behind the statements of a loop: its end, with its name if it has one.
-#[tactic(auto, using(crate::proofs::Steps::steps))]
+#[tactic(auto, using(crate::proofs::Inner::inward))]
 fn loop_end<'a>(
     name: Option<Word>,
     lead: Span,
@@ -35,7 +35,7 @@ fn loop_end<'a>(
 }
 
 // The name of a loop once more, if it has one, and its semicolon.
-#[tactic(auto, using(crate::proofs::Steps::steps))]
+#[tactic(auto, using(crate::proofs::Inner::inward))]
 fn loop_name<'a>(
     name: Option<Word>,
     lead: Span,
@@ -56,7 +56,7 @@ fn loop_name<'a>(
 }
 
 // The semicolon of a loop.
-#[tactic(auto, using(crate::proofs::Steps::steps, ada_tree::proofs::Rows::rows))]
+#[tactic(auto, using(crate::proofs::Inner::inward, ada_tree::proofs::Rows::rows))]
 fn loop_close<'a>(
     name: Option<Word>,
     lead: Span,
@@ -83,7 +83,7 @@ fn loop_close<'a>(
 }
 
 /// Behind the word `loop`: its statements and its end.
-#[tactic(auto, using(crate::proofs::Steps::steps))]
+#[tactic(auto, using(crate::proofs::Inner::inward))]
 #[cycle(stmt)]
 pub(crate) fn loop_rest<'a>(
     alloc: Global,
@@ -103,7 +103,7 @@ pub(crate) fn loop_rest<'a>(
 }
 
 /// Behind `while`.
-#[tactic(auto, using(crate::proofs::Steps::steps))]
+#[tactic(auto, using(crate::proofs::Inner::inward))]
 #[cycle(stmt)]
 pub(crate) fn while_rest<'a>(
     alloc: Global,
@@ -123,7 +123,7 @@ pub(crate) fn while_rest<'a>(
 }
 
 // Behind `for NAME in` and `reverse` or nothing.
-#[tactic(auto, using(crate::proofs::Steps::steps))]
+#[tactic(auto, using(crate::proofs::Inner::inward))]
 #[cycle(stmt)]
 fn for_range<'a>(
     alloc: Global,
@@ -150,7 +150,7 @@ fn for_range<'a>(
 }
 
 /// Behind `for`.
-#[tactic(auto, using(crate::proofs::Steps::steps))]
+#[tactic(auto, using(crate::proofs::Inner::inward))]
 #[cycle(stmt)]
 pub(crate) fn for_rest<'a>(
     alloc: Global,
@@ -176,7 +176,7 @@ pub(crate) fn for_rest<'a>(
 }
 
 /// Behind `NAME :`.
-#[tactic(auto, using(crate::proofs::Steps::steps))]
+#[tactic(auto, using(crate::proofs::Inner::inward))]
 #[cycle(stmt)]
 pub(crate) fn named_loop<'a>(
     alloc: Global,

@@ -25,7 +25,7 @@ use ada_tree::{Accept, Alt, AltKind, Call, Callee, Expr, Span, Stmt, StmtKind, W
 use std::alloc::Global;
 
 /// Behind `select`.
-#[tactic(auto, using(crate::proofs::Steps::steps))]
+#[tactic(auto, using(crate::proofs::Inner::inward))]
 #[cycle(stmt)]
 pub(crate) fn read_select<'a>(
     alloc: Global,
@@ -54,7 +54,7 @@ pub(crate) fn read_select<'a>(
 }
 
 // Behind `select` and the words of a call: the statements behind it, and an else part or a delay.
-#[tactic(auto, using(crate::proofs::Steps::steps, ada_tree::proofs::Rows::rows))]
+#[tactic(auto, using(crate::proofs::Inner::inward, ada_tree::proofs::Rows::rows))]
 #[cycle(stmt)]
 fn call_rest<'a>(
     alloc: Global,
@@ -93,7 +93,7 @@ fn call_rest<'a>(
 }
 
 // Behind a call and its statements: a delay.
-#[tactic(auto, using(crate::proofs::Steps::steps, ada_tree::proofs::Rows::rows))]
+#[tactic(auto, using(crate::proofs::Inner::inward, ada_tree::proofs::Rows::rows))]
 #[cycle(stmt)]
 fn timed_rest<'a>(
     alloc: Global,
@@ -129,7 +129,7 @@ fn timed_rest<'a>(
 }
 
 // `end select ;`
-#[tactic(auto, using(crate::proofs::Steps::steps))]
+#[tactic(auto, using(crate::proofs::Inner::inward))]
 fn end_select<'a>(
     items: &'a [Item],
 ) -> Result<(Span, &'a [Item]), ParseError>
@@ -142,7 +142,7 @@ fn end_select<'a>(
 }
 
 // A selective wait, behind `select`.
-#[tactic(auto, using(crate::proofs::Steps::steps))]
+#[tactic(auto, using(crate::proofs::Inner::inward))]
 #[cycle(stmt)]
 fn wait<'a>(
     alloc: Global,
@@ -161,7 +161,7 @@ fn wait<'a>(
 }
 
 // Behind the last part of a selective wait: its end.
-#[tactic(auto, using(crate::proofs::Steps::steps, ada_tree::proofs::Rows::rows))]
+#[tactic(auto, using(crate::proofs::Inner::inward, ada_tree::proofs::Rows::rows))]
 fn wait_end<'a>(
     lead: Span,
     alts: Vec<Alt>,
@@ -183,7 +183,7 @@ fn wait_end<'a>(
 }
 
 // An alternative one level deeper.
-#[tactic(auto, using(crate::proofs::Steps::steps))]
+#[tactic(auto, using(crate::proofs::Inner::inward))]
 #[cycle(stmt)]
 fn alt_below<'a>(
     alloc: Global,
@@ -199,7 +199,7 @@ fn alt_below<'a>(
 }
 
 // An alternative one level deeper, behind `or`.
-#[tactic(auto, using(crate::proofs::Steps::steps))]
+#[tactic(auto, using(crate::proofs::Inner::inward))]
 #[cycle(stmt)]
 fn next_alt<'a>(
     alloc: Global,
@@ -216,7 +216,7 @@ fn next_alt<'a>(
 }
 
 // Further alternatives, each behind `or`, at the end of the list.
-#[tactic(auto, using(crate::proofs::Steps::steps))]
+#[tactic(auto, using(crate::proofs::Inner::inward))]
 #[cycle(stmt)]
 fn alts_onto<'a>(
     alloc: Global,
@@ -244,7 +244,7 @@ fn alts_onto<'a>(
 }
 
 // Alternatives with `or` between them, one at least.
-#[tactic(auto, using(crate::proofs::Steps::steps))]
+#[tactic(auto, using(crate::proofs::Inner::inward))]
 #[cycle(stmt)]
 fn read_alts<'a>(
     alloc: Global,
@@ -264,7 +264,7 @@ fn read_alts<'a>(
 }
 
 // An alternative.
-#[tactic(auto, using(crate::proofs::Steps::steps))]
+#[tactic(auto, using(crate::proofs::Inner::inward))]
 #[cycle(stmt)]
 fn read_alt<'a>(
     alloc: Global,
@@ -294,7 +294,7 @@ fn read_alt<'a>(
 }
 
 // An alternative behind its guard, which begins at this place.
-#[tactic(auto, using(crate::proofs::Steps::steps))]
+#[tactic(auto, using(crate::proofs::Inner::inward))]
 #[cycle(stmt)]
 fn alt_kind<'a>(
     alloc: Global,
@@ -347,7 +347,7 @@ fn first_of_alt(guard: Option<Span>, own: Span) -> Span
 }
 
 // Behind `terminate`.
-#[tactic(auto, using(crate::proofs::Steps::steps))]
+#[tactic(auto, using(crate::proofs::Inner::inward))]
 fn terminate_alt<'a>(
     guard: Option<Expr>,
     first: Span,
@@ -369,7 +369,7 @@ fn terminate_alt<'a>(
 }
 
 // Behind `accept` of an alternative.
-#[tactic(auto, using(crate::proofs::Steps::steps, ada_tree::proofs::Rows::rows))]
+#[tactic(auto, using(crate::proofs::Inner::inward, ada_tree::proofs::Rows::rows))]
 #[cycle(stmt)]
 fn accept_alt<'a>(
     alloc: Global,
@@ -398,7 +398,7 @@ fn accept_alt<'a>(
 }
 
 // Behind `delay` of an alternative.
-#[tactic(auto, using(crate::proofs::Steps::steps, ada_tree::proofs::Rows::rows))]
+#[tactic(auto, using(crate::proofs::Inner::inward, ada_tree::proofs::Rows::rows))]
 #[cycle(stmt)]
 fn delay_alt<'a>(
     alloc: Global,
@@ -426,7 +426,7 @@ fn delay_alt<'a>(
 }
 
 /// Behind `accept`.
-#[tactic(auto, using(crate::proofs::Steps::steps))]
+#[tactic(auto, using(crate::proofs::Inner::inward))]
 #[cycle(stmt)]
 pub(crate) fn read_accept<'a>(
     alloc: Global,
@@ -464,7 +464,7 @@ pub(crate) fn read_accept<'a>(
 }
 
 // The semicolon of an accept statement.
-#[tactic(auto, using(crate::proofs::Steps::steps, ada_tree::proofs::Rows::rows))]
+#[tactic(auto, using(crate::proofs::Inner::inward, ada_tree::proofs::Rows::rows))]
 fn accept_close<'a>(
     entry: Word,
     behind: EntryBehind,

@@ -16,7 +16,7 @@ use ada_tree::{Span, Stmt};
 use std::alloc::Global;
 
 // A statement.
-#[tactic(auto, using(crate::proofs::Steps::steps))]
+#[tactic(auto, using(crate::proofs::Inner::inward))]
 #[cycle(stmt)]
 fn stmt_below<'a>(
     alloc: Global,
@@ -32,7 +32,7 @@ fn stmt_below<'a>(
 }
 
 // Further statements at the end of a list, as long as one begins.
-#[tactic(auto, using(crate::proofs::Steps::steps))]
+#[tactic(auto, using(crate::proofs::Inner::inward))]
 #[cycle(stmt)]
 fn stmts_onto<'a>(
     alloc: Global,
@@ -60,7 +60,7 @@ fn stmts_onto<'a>(
 }
 
 /// Statements, one at least.
-#[tactic(auto, using(crate::proofs::Steps::steps))]
+#[tactic(auto, using(crate::proofs::Inner::inward))]
 #[cycle(stmt)]
 pub(crate) fn stmts<'a>(
     alloc: Global,
@@ -80,7 +80,7 @@ pub(crate) fn stmts<'a>(
 }
 
 /// Statements, some or none.
-#[tactic(auto, using(crate::proofs::Steps::steps))]
+#[tactic(auto, using(crate::proofs::Inner::inward))]
 #[cycle(stmt)]
 pub(crate) fn any_stmts<'a>(
     alloc: Global,
@@ -98,7 +98,7 @@ pub(crate) fn any_stmts<'a>(
 }
 
 /// `else` and statements, or nothing.
-#[tactic(auto, using(crate::proofs::Steps::steps))]
+#[tactic(auto, using(crate::proofs::Inner::inward))]
 #[cycle(stmt)]
 pub(crate) fn else_part<'a>(
     alloc: Global,

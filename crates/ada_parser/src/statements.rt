@@ -23,7 +23,7 @@ use ada_tree::{Stmt, StmtKind, Word};
 use std::alloc::Global;
 
 /// A statement.
-#[tactic(auto, using(crate::proofs::Steps::steps))]
+#[tactic(auto, using(crate::proofs::Inner::inward))]
 #[cycle(stmt)]
 pub(crate) fn read_stmt<'a>(
     alloc: Global,
@@ -57,7 +57,7 @@ pub(crate) fn read_stmt<'a>(
 }
 
 // A case statement, a block, or one that begins otherwise.
-#[tactic(auto, using(crate::proofs::Steps::steps))]
+#[tactic(auto, using(crate::proofs::Inner::inward))]
 #[cycle(stmt)]
 fn case_or_block<'a>(
     alloc: Global,
@@ -91,7 +91,7 @@ fn case_or_block<'a>(
 }
 
 // A loop without a name, or a statement that begins otherwise.
-#[tactic(auto, using(crate::proofs::Steps::steps))]
+#[tactic(auto, using(crate::proofs::Inner::inward))]
 #[cycle(stmt)]
 fn any_loop<'a>(
     alloc: Global,
@@ -133,7 +133,7 @@ fn any_loop<'a>(
 }
 
 // A simple statement that begins with a reserved word, or one that begins otherwise.
-#[tactic(auto, using(crate::proofs::Steps::steps))]
+#[tactic(auto, using(crate::proofs::Inner::inward))]
 #[cycle(stmt)]
 fn worded<'a>(
     alloc: Global,
@@ -167,7 +167,7 @@ fn worded<'a>(
 }
 
 // An accept statement, or what begins with a name.
-#[tactic(auto, using(crate::proofs::Steps::steps, ada_tree::proofs::Rows::rows))]
+#[tactic(auto, using(crate::proofs::Inner::inward, ada_tree::proofs::Rows::rows))]
 #[cycle(stmt)]
 fn accept_or_name<'a>(
     alloc: Global,
@@ -201,7 +201,7 @@ fn accept_or_name<'a>(
 }
 
 // Behind a name: `:` and a loop, or a statement that begins with the name; `items` are those from the name on.
-#[tactic(auto, using(crate::proofs::Steps::steps))]
+#[tactic(auto, using(crate::proofs::Inner::inward))]
 #[cycle(stmt)]
 fn named<'a>(
     alloc: Global,

@@ -1,4 +1,4 @@
-use Rattle.ada_parser.proofs.Steps.{loop_none}
+use Rattle.ada_parser.proofs.Inner.{loop_none}
 use Rattle.ada_parser.proofs.looping.loop_name.Goals as goal
 
 pub returns-in-None-clause-tree : goal.returns-in-None-clause-tree

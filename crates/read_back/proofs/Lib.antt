@@ -1,0 +1,18 @@
+-- what may stand behind a piece, and pieces of each kind
+pub mod Classes
+pub mod Pieces
+pub mod Literals
+pub mod Identifiers
+pub mod Signs
+pub mod Lexed
+pub mod Told
+pub mod Words
+pub mod Expressions
+pub mod Phrases
+pub mod Productions
+pub mod Compounds
+pub mod Statements
+pub mod Tasks
+pub mod Declarations
+pub mod Units
+pub mod Whole

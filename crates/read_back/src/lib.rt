@@ -1,0 +1,10 @@
+//! The law of printing and reading: the text of a well placed program is read as a program that is the same.
+#![tactic(auto)]
+
+ghost use Rattle.read_back.specs.Laws.{IsReadBack};
+
+/// Carries the law of printing and reading. The printed text of each program that is well placed splits into tokens, these
+/// are a text of the grammar, nested at most 300 deep, and the tree that it has is the printed one but for places and ids.
+pub fn laws()
+    ensures read_back { IsReadBack }
+{}
