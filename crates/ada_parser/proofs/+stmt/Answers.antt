@@ -1,5 +1,5 @@
 -- The loops of the readers that call each other.
-use Rattle.std.proofs.Common.{sym, ap, ◌∙◌, ◌-◌, cond, Some, None, rules, map}
+use Rattle.std.proofs.Common.{sym, ap, subst, ◌∙◌, ◌-◌, cond, Some, None, rules, map}
 use Rattle.lawful_reader.specs.Readers.{items, fronted}
 use Rattle.ada_tree.specs.PlainStmt.{plain_stmt, plain_arm, plain_alt, plain_case_arm, plain_handler}
 use Rattle.ada_expr_parser.specs.declared.symbols.Symbol.TheVariants as key
@@ -8,7 +8,7 @@ use Rattle.ada_parser.specs.Reading.{is_symbol, key_then}
 use Rattle.ada_parser.specs.ReadingStatements.{inner_at, begins_stmt, if_arm, case_part, others_part, handler_part, handler_others, whens}
 use Rattle.ada_parser.specs.Views.{told}
 use Rattle.ada_parser.proofs.Lists.{grown, list_empty, list_over, list_fails, list_goes}
-use Rattle.ada_parser.proofs.Whens.{whens_begin, whens_over, whens_step, whens_fails, whens_others, whens_others_fails, whens_empty, whens_cut}
+use Rattle.ada_parser.proofs.Whens.{WhensGoOn, whens_begin, whens_over, whens_step, whens_fails, whens_others, whens_others_fails, whens_empty, whens_cut}
 use Rattle.ada_parser.proofs.+stmt.Goals as goal
 
 pub sequences::stmts_onto-returns-in_default-clause-tree : goal.sequences::stmts_onto-returns-in_default-clause-tree
@@ -73,7 +73,7 @@ selecting::alts_onto-alts-preserved m c =
 
 pub compound::read_case_arms-arms-init : goal.compound::read_case_arms-arms-init
 compound::read_case_arms-arms-init m c =
-    whens_begin (case_part (c.args.depth - 1) (inner_at (told c.args.source.now) c.args.depth)) (others_part (inner_at (told c.args.source.now) c.args.depth)) c.args.items.now
+    subst (λ l. WhensGoOn (case_part (c.args.depth - 1) (inner_at (told c.args.source.now) c.args.depth)) (others_part (inner_at (told c.args.source.now) c.args.depth)) (map plain_case_arm l) c.args.items.now c.args.items.now) (sym c.new-arms.ensures.items) (whens_begin (case_part (c.args.depth - 1) (inner_at (told c.args.source.now) c.args.depth)) (others_part (inner_at (told c.args.source.now) c.args.depth)) c.args.items.now)
 
 pub compound::read_case_arms-returns-in_default-clause-tree : goal.compound::read_case_arms-returns-in_default-clause-tree
 compound::read_case_arms-returns-in_default-clause-tree m c =
@@ -110,7 +110,7 @@ compound::read_case_arms-arms-preserved m c =
 
 pub bodies::handler_parts-handlers-init : goal.bodies::handler_parts-handlers-init
 bodies::handler_parts-handlers-init m c =
-    whens_begin (handler_part (inner_at (told c.args.source.now) c.args.depth)) (handler_others (inner_at (told c.args.source.now) c.args.depth)) c.args.items.now
+    subst (λ l. WhensGoOn (handler_part (inner_at (told c.args.source.now) c.args.depth)) (handler_others (inner_at (told c.args.source.now) c.args.depth)) (map plain_handler l) c.args.items.now c.args.items.now) (sym c.new-list.ensures.items) (whens_begin (handler_part (inner_at (told c.args.source.now) c.args.depth)) (handler_others (inner_at (told c.args.source.now) c.args.depth)) c.args.items.now)
 
 pub bodies::handler_parts-returns-in_default-clause-tree : goal.bodies::handler_parts-returns-in_default-clause-tree
 bodies::handler_parts-returns-in_default-clause-tree m c =
