@@ -1,5 +1,5 @@
 -- The place of a symbol is that of its item.
-use Rattle.std.proofs.Common.{◌≡◌, Bool, true, false, cond, Some, None, is_some, refl}
+use Rattle.std.proofs.Common.{◌≡◌, Bool, true, false, cond, Option, Some, None, is_some, refl}
 use Rattle.ada_tree.specs.declared.naming.Span.{Span}
 use Rattle.ada_expr_parser.specs.declared.symbols.Symbol.{Symbol}
 use Rattle.ada_expr_parser.specs.declared.items.ItemKind.{ItemKind}
@@ -17,3 +17,12 @@ placed s (item.Integer n) at = refl
 placed s (item.Duration n) at = refl
 placed s item.Text at = refl
 placed s item.End at = refl
+
+-- by the truth of a test
+pub there : (o : Option Span) (b : Bool) (at : Span) → o ≡ cond b (Some at) None → b ≡ true → o ≡ Some at
+there o true at is yes_is = is
+there o false at is yes_is = cc
+
+pub missing : (o : Option Span) (b : Bool) (at : Span) → o ≡ cond b (Some at) None → b ≡ false → o ≡ None
+missing o true at is no_is = cc
+missing o false at is no_is = is

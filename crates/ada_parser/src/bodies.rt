@@ -1,7 +1,10 @@
 //! Statements with their exception handlers (5.6, 11.2).
 
 ghost use Rattle.std.specs.Prelude.{◌≡◌, ◌<◌, ◌≤◌, ◌-◌, IfOk, IfErr, OnOk, map, option_map, length};
-ghost use Rattle.ada_tree.specs.PlainStmt.{plain_stmt, plain_body, plain_handler, handlers_of};
+ghost use Rattle.ada_tree.specs.PlainStmt.{plain_stmt, plain_body, plain_handler, handlers_of, body, no_handler, seen};
+ghost use Rattle.lawful_reader.specs.Readers.{below, bind, pure};
+ghost use Rattle.ada_expr_parser.specs.declared.symbols.Symbol.TheVariants as key;
+ghost use Rattle.ada_expr_parser.specs.Tests as tests;
 ghost use Rattle.ada_expr_parser.specs.declared.errors.ParseError.TheVariants.{Memory};
 ghost use Rattle.ada_expr_parser.specs.Gives.{Gives};
 ghost use Rattle.ada_parser.specs.ReadingStatements as statements;
@@ -43,7 +46,7 @@ pub(crate) fn read_block<'a>(
 }
 
 /// Behind `begin`: statements, and handlers if there are some.
-#[tactic(auto, using(crate::proofs::Inner::inward, ada_tree::proofs::Rows::rows))]
+#[tactic(auto, using(crate::proofs::Inner::inward))]
 #[cycle(stmt)]
 pub(crate) fn read_body<'a>(
     alloc: Global,
@@ -55,7 +58,24 @@ pub(crate) fn read_body<'a>(
     ensures tree { Gives (λ x. plain_body x.0) (λ x. x.1.now) result (statements.body_rest (depth - 1) (statements.inner_at (told source.now) depth) items.now) }
     ensures shorter { IfOk result (λ x. length x.1.now < length items.now) }
 {
-    let (stmts, items) = stmts(alloc, source, depth, items)?;
+    let (stmts, rest) = stmts(alloc, source, depth, items)?;
+    body_end(alloc, source, depth, stmts, rest)
+}
+
+// Behind the statements of a body: handlers if there are some.
+#[tactic(auto, using(crate::proofs::Inner::inward, ada_tree::proofs::Rows::rows))]
+#[cycle(stmt)]
+fn body_end<'a>(
+    alloc: Global,
+    source: &Source<'_>,
+    depth: u32,
+    stmts: Vec<Stmt>,
+    items: &'a [Item],
+) -> Result<(Body, &'a [Item]), ParseError>
+    requires { 0 < depth }
+    ensures tree { Gives (λ x. plain_body x.0) (λ x. x.1.now) result (below (depth - 1) (tests.symbol key.Exception) (λ i at. bind (statements.inner_at (told source.now) depth).handlers (λ hs. pure (body (seen stmts.items) hs))) (pure (body (seen stmts.items) no_handler)) items.now) }
+    ensures shorter { IfOk result (λ x. length x.1.now ≤ length items.now) }
+{
     let [next, rest @ ..] = items else {
         return Err(ParseError::Syntax { at: 0 });
     };
@@ -68,7 +88,6 @@ pub(crate) fn read_body<'a>(
         return Err(ParseError::TooDeep {
             at: next.span.start,
         });
-
     }
     let (handlers, rest) = handlers_below(alloc, source, depth, rest)?;
     Ok((Body { stmts, handlers }, rest))

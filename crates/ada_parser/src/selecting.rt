@@ -1,13 +1,12 @@
 //! Selective waits, conditional and timed entry calls, and accept statements (chapter 9).
 
-ghost use Rattle.std.specs.Prelude.{◌≡◌, ◌<◌, ◌≤◌, ◌-◌, ◌∷◌, [], Some, None, IfOk, map, option_map, length};
-ghost use Rattle.lawful_reader.specs.Readers.{fronted, bind, token, on};
+ghost use Rattle.std.specs.Prelude.{◌≡◌, ◌<◌, ◌≤◌, ◌-◌, IfOk, map, option_map, length};
+ghost use Rattle.lawful_reader.specs.Readers.{fronted, bind, token};
 ghost use Rattle.ada_tree.specs.PlainExpr.{plain_expr};
-ghost use Rattle.ada_tree.specs.PlainStmt.{plain_stmt, plain_alt, plain_accept, plain_call, seen, seen_maybe, alts_of, alternative, accepting, absent, ATerminate, SWait, SConditional, STimed};
+ghost use Rattle.ada_tree.specs.PlainStmt.{plain_stmt, plain_alt, plain_accept, plain_call, seen, seen_maybe, alts_of, alternative, accepting, present, ATerminate, SWait, SConditional};
 ghost use Rattle.ada_expr_parser.specs.declared.symbols.Symbol.TheVariants as key;
 ghost use Rattle.ada_expr_parser.specs.Tests as tests;
 ghost use Rattle.ada_expr_parser.specs.Trees.{from_to};
-ghost use Rattle.ada_expr_parser.specs.Parts as parts;
 ghost use Rattle.ada_expr_parser.specs.Gives.{Gives};
 ghost use Rattle.ada_parser.specs.Reading as reading;
 ghost use Rattle.ada_parser.specs.ReadingStatements as statements;
@@ -54,7 +53,7 @@ pub(crate) fn read_select<'a>(
 }
 
 // Behind `select` and the words of a call: the statements behind it, and an else part or a delay.
-#[tactic(auto, using(crate::proofs::Inner::inward, ada_tree::proofs::Rows::rows))]
+#[tactic(auto, using(crate::proofs::Inner::inward))]
 #[cycle(stmt)]
 fn call_rest<'a>(
     alloc: Global,
@@ -76,7 +75,26 @@ fn call_rest<'a>(
     if !is_symbol(Symbol::Else, *next) {
         return timed_rest(alloc, source, depth, lead, call, behind, items);
     }
-    let (otherwise, rest) = stmts(alloc, source, depth, rest)?;
+    conditional_rest(alloc, source, depth, lead, call, behind, rest)
+}
+
+// Behind a call, its statements and `else`.
+#[tactic(auto, using(crate::proofs::Inner::inward, ada_tree::proofs::Rows::rows))]
+#[cycle(stmt)]
+fn conditional_rest<'a>(
+    alloc: Global,
+    source: &Source<'_>,
+    depth: u32,
+    lead: Span,
+    call: Call,
+    behind: Vec<Stmt>,
+    items: &'a [Item],
+) -> Result<(Stmt, &'a [Item]), ParseError>
+    requires { 0 < depth }
+    ensures tree { Gives (λ x. plain_stmt x.0) (λ x. x.1.now) result (bind (statements.stmts (statements.inner_at (told source.now) depth)) (λ o. reading.key_then key.End (reading.key_then key.Select (reading.closed (λ close. SConditional (plain_call call) (seen behind.items) o (from_to lead close))))) items.now) }
+    ensures shorter { IfOk result (λ x. length x.1.now < length items.now) }
+{
+    let (otherwise, rest) = stmts(alloc, source, depth, items)?;
     let (close, rest) = end_select(rest)?;
     let span = from_to(lead, close);
     Ok((
@@ -452,8 +470,42 @@ pub(crate) fn read_accept<'a>(
         });
 
     }
-    let (stmts, rest) = stmts(alloc, source, depth, rest)?;
-    let (_, items) = expect(Symbol::End, rest)?;
+    accept_body(alloc, source, depth, entry, behind, lead, rest)
+}
+
+// Behind `do`: the statements of an accept statement and its end.
+#[tactic(auto, using(crate::proofs::Inner::inward))]
+#[cycle(stmt)]
+fn accept_body<'a>(
+    alloc: Global,
+    source: &Source<'_>,
+    depth: u32,
+    entry: Word,
+    behind: EntryBehind,
+    lead: Span,
+    items: &'a [Item],
+) -> Result<(Accept, &'a [Item]), ParseError>
+    requires { 0 < depth }
+    ensures tree { Gives (λ x. plain_accept x.0) (λ x. x.1.now) result (bind (statements.stmts (statements.inner_at (told source.now) depth)) (λ l. reading.end_of entry (λ close. accepting (statements.head_of entry (behind_of behind.index behind.formals.items) (from_to lead close)) (present l))) items.now) }
+    ensures shorter { IfOk result (λ x. length x.1.now < length items.now) }
+{
+    let (stmts, rest) = stmts(alloc, source, depth, items)?;
+    accept_end(entry, behind, stmts, lead, rest)
+}
+
+// Behind the statements of an accept statement: its end, with its name or without.
+#[tactic(auto, using(crate::proofs::Inner::inward))]
+fn accept_end<'a>(
+    entry: Word,
+    behind: EntryBehind,
+    stmts: Vec<Stmt>,
+    lead: Span,
+    items: &'a [Item],
+) -> Result<(Accept, &'a [Item]), ParseError>
+    ensures tree { Gives (λ x. plain_accept x.0) (λ x. x.1.now) result (reading.end_of entry (λ close. accepting (statements.head_of entry (behind_of behind.index behind.formals.items) (from_to lead close)) (present (seen stmts.items))) items.now) }
+    ensures shorter { IfOk result (λ x. length x.1.now < length items.now) }
+{
+    let (_, items) = expect(Symbol::End, items)?;
     let [next, rest @ ..] = items else {
         return Err(ParseError::Syntax { at: 0 });
     };

@@ -1,14 +1,15 @@
 -- The loops of the readers that call each other.
-use Rattle.std.proofs.Common.{sym, ap, subst, ◌∙◌, ◌-◌, cond, Some, None, rules, map}
+use Rattle.std.proofs.Common.{◌-◌, sym, subst, ◌∙◌, rules, map}
 use Rattle.lawful_reader.specs.Readers.{items, fronted}
-use Rattle.ada_tree.specs.PlainStmt.{plain_stmt, plain_arm, plain_alt, plain_case_arm, plain_handler}
+use Rattle.ada_tree.specs.PlainStmt.{plain_stmt, plain_arm, plain_alt, plain_case_arm, plain_handler, seen}
 use Rattle.ada_expr_parser.specs.declared.symbols.Symbol.TheVariants as key
 use Rattle.ada_expr_parser.specs.Gives.{Fails}
 use Rattle.ada_parser.specs.Reading.{is_symbol, key_then}
 use Rattle.ada_parser.specs.ReadingStatements.{inner_at, begins_stmt, if_arm, case_part, others_part, handler_part, handler_others, whens}
 use Rattle.ada_parser.specs.Views.{told}
 use Rattle.ada_parser.proofs.Lists.{grown, list_empty, list_over, list_fails, list_goes}
-use Rattle.ada_parser.proofs.Whens.{WhensGoOn, whens_begin, whens_over, whens_step, whens_fails, whens_others, whens_others_fails, whens_empty, whens_cut}
+use Rattle.ada_parser.proofs.Marks.{there, missing}
+use Rattle.ada_parser.proofs.Whens.{WhensGoOn, whens_begin, whens_empty, whens_over, whens_step, whens_fails, whens_others, whens_others_fails}
 use Rattle.ada_parser.proofs.+stmt.Goals as goal
 
 pub sequences::stmts_onto-returns-in_default-clause-tree : goal.sequences::stmts_onto-returns-in_default-clause-tree
@@ -81,32 +82,28 @@ compound::read_case_arms-returns-in_default-clause-tree m c =
 
 pub compound::read_case_arms-returns-then-not-is_symbol-clause-tree : goal.compound::read_case_arms-returns-then-not-is_symbol-clause-tree
 compound::read_case_arms-returns-then-not-is_symbol-clause-tree m c =
-    whens_over (case_part (c.args.depth - 1) (inner_at (told c.args.source.now) c.args.depth)) (others_part (inner_at (told c.args.source.now) c.args.depth)) (map plain_case_arm c.arms.arms.items) c.arms.rest.now c.args.items.now _ c.arms.invariant c.in-len1-up.len_at_least (c.is_symbol.ensures.place ∙ ap (λ b. cond b (Some _) None) c.if-not-is_symbol.true)
-
-pub compound::read_case_arms-returns-in_default-2-clause-tree : goal.compound::read_case_arms-returns-in_default-2-clause-tree
-compound::read_case_arms-returns-in_default-2-clause-tree m c =
-    whens_cut (case_part (c.args.depth - 1) (inner_at (told c.args.source.now) c.args.depth)) (others_part (inner_at (told c.args.source.now) c.args.depth)) (map plain_case_arm c.arms.arms.items) c.arms.rest.now c.args.items.now _ _ c.arms.invariant c.in-len1-up.len_at_least (c.is_symbol.ensures.place ∙ ap (λ b. cond b (Some _) None) c.if-not-is_symbol.false) c.in_default-2.len_below
+    whens_over (case_part (c.args.depth - 1) (inner_at (told c.args.source.now) c.args.depth)) (others_part (inner_at (told c.args.source.now) c.args.depth)) (map plain_case_arm c.arms.arms.items) c.arms.rest.now c.args.items.now _ c.arms.invariant c.in-len1-up.len_at_least (missing _ _ _ c.is_symbol.ensures.place c.if-not-is_symbol.true)
 
 pub compound::read_case_arms-returns-in_err-others-clause-tree : goal.compound::read_case_arms-returns-in_err-others-clause-tree
 compound::read_case_arms-returns-in_err-others-clause-tree m c =
     let fails : Fails c.in_err-others.field-0.0 (whens (case_part (c.args.depth - 1) (inner_at (told c.args.source.now) c.args.depth)) (others_part (inner_at (told c.args.source.now) c.args.depth)) c.args.items.now) =
-    whens_others_fails (case_part (c.args.depth - 1) (inner_at (told c.args.source.now) c.args.depth)) (others_part (inner_at (told c.args.source.now) c.args.depth)) (map plain_case_arm c.arms.arms.items) c.arms.rest.now c.args.items.now _ _ _ c.arms.invariant c.in-len1-up.len_at_least c.in-len1-up-2.len_at_least (c.is_symbol.ensures.place ∙ ap (λ b. cond b (Some _) None) c.if-not-is_symbol.false) c.in_err-others.field-0.0 _ (c.is_symbol-2.ensures.place ∙ ap (λ b. cond b (Some _) None) c.if-is_symbol-2.true) c.in_err-others.ensures.tree in
+    whens_others_fails (case_part (c.args.depth - 1) (inner_at (told c.args.source.now) c.args.depth)) (others_part (inner_at (told c.args.source.now) c.args.depth)) (map plain_case_arm c.arms.arms.items) c.arms.rest.now c.args.items.now _ _ _ c.arms.invariant c.in-len1-up.len_at_least c.in-len1-up-behind.len_at_least (there _ _ _ c.is_symbol.ensures.place c.if-not-is_symbol.false) c.in_err-others.field-0.0 _ (there _ _ _ c.is_symbol-in-arms.ensures.place c.if-is_symbol.true) c.in_err-others.ensures.tree in
     search (rules, fails)
 
-pub compound::read_case_arms-returns-in_ok-others-clause-tree : goal.compound::read_case_arms-returns-in_ok-others-clause-tree
-compound::read_case_arms-returns-in_ok-others-clause-tree m c =
-    whens_others (case_part (c.args.depth - 1) (inner_at (told c.args.source.now) c.args.depth)) (others_part (inner_at (told c.args.source.now) c.args.depth)) (map plain_case_arm c.arms.arms.items) c.arms.rest.now c.args.items.now _ _ _ c.arms.invariant c.in-len1-up.len_at_least c.in-len1-up-2.len_at_least (c.is_symbol.ensures.place ∙ ap (λ b. cond b (Some _) None) c.if-not-is_symbol.false) _ _ _ (c.is_symbol-2.ensures.place ∙ ap (λ b. cond b (Some _) None) c.if-is_symbol-2.true) c.in_ok-others.ensures.tree
+pub compound::read_case_arms-returns-then-is_symbol-clause-tree : goal.compound::read_case_arms-returns-then-is_symbol-clause-tree
+compound::read_case_arms-returns-then-is_symbol-clause-tree m c =
+    whens_others (case_part (c.args.depth - 1) (inner_at (told c.args.source.now) c.args.depth)) (others_part (inner_at (told c.args.source.now) c.args.depth)) (map plain_case_arm c.arms.arms.items) c.arms.rest.now c.args.items.now _ _ _ c.arms.invariant c.in-len1-up.len_at_least c.in-len1-up-behind.len_at_least (there _ _ _ c.is_symbol.ensures.place c.if-not-is_symbol.false) _ (seen c.in_ok-others.others.items) c.in_ok-others.end.now (there _ _ _ c.is_symbol-in-arms.ensures.place c.if-is_symbol.true) c.in_ok-others.ensures.tree
 
 pub compound::read_case_arms-returns-in_err-arm-clause-tree : goal.compound::read_case_arms-returns-in_err-arm-clause-tree
 compound::read_case_arms-returns-in_err-arm-clause-tree m c =
     let fails : Fails c.in_err-arm.field-0.0 (whens (case_part (c.args.depth - 1) (inner_at (told c.args.source.now) c.args.depth)) (others_part (inner_at (told c.args.source.now) c.args.depth)) c.args.items.now) =
-    whens_fails (case_part (c.args.depth - 1) (inner_at (told c.args.source.now) c.args.depth)) (others_part (inner_at (told c.args.source.now) c.args.depth)) (map plain_case_arm c.arms.arms.items) c.arms.rest.now c.args.items.now _ _ _ c.arms.invariant c.in-len1-up.len_at_least c.in-len1-up-2.len_at_least (c.is_symbol.ensures.place ∙ ap (λ b. cond b (Some _) None) c.if-not-is_symbol.false) c.in_err-arm.field-0.0 (c.is_symbol-2.ensures.place ∙ ap (λ b. cond b (Some _) None) c.if-is_symbol-2.false) c.in_err-arm.ensures.tree in
+    whens_fails (case_part (c.args.depth - 1) (inner_at (told c.args.source.now) c.args.depth)) (others_part (inner_at (told c.args.source.now) c.args.depth)) (map plain_case_arm c.arms.arms.items) c.arms.rest.now c.args.items.now _ _ _ c.arms.invariant c.in-len1-up.len_at_least c.in-len1-up-behind.len_at_least (there _ _ _ c.is_symbol.ensures.place c.if-not-is_symbol.false) c.in_err-arm.field-0.0 (missing _ _ _ c.is_symbol-in-arms.ensures.place c.if-is_symbol.false) c.in_err-arm.ensures.tree in
     search (rules, fails)
 
 pub compound::read_case_arms-arms-preserved : goal.compound::read_case_arms-arms-preserved
 compound::read_case_arms-arms-preserved m c =
-    whens_step (case_part (c.args.depth - 1) (inner_at (told c.args.source.now) c.args.depth)) (others_part (inner_at (told c.args.source.now) c.args.depth)) (map plain_case_arm c.arms.arms.items) c.arms.rest.now c.args.items.now _ _ _ c.arms.invariant c.in-len1-up.len_at_least c.in-len1-up-2.len_at_least (c.is_symbol.ensures.place ∙ ap (λ b. cond b (Some _) None) c.if-not-is_symbol.false)
-    (map plain_case_arm c.add.new.list.items) (plain_case_arm c.in_ok-arm.arm) c.in_ok-arm.end.now (grown plain_case_arm c.arms.arms.items c.add.new.list.items c.in_ok-arm.arm c.in_ok-add.ensures.added) (c.is_symbol-2.ensures.place ∙ ap (λ b. cond b (Some _) None) c.if-is_symbol-2.false) c.in_ok-arm.ensures.tree c.in_ok-arm.ensures.shorter
+    whens_step (case_part (c.args.depth - 1) (inner_at (told c.args.source.now) c.args.depth)) (others_part (inner_at (told c.args.source.now) c.args.depth)) (map plain_case_arm c.arms.arms.items) c.arms.rest.now c.args.items.now _ _ _ c.arms.invariant c.in-len1-up.len_at_least c.in-len1-up-behind.len_at_least (there _ _ _ c.is_symbol.ensures.place c.if-not-is_symbol.false)
+    (map plain_case_arm c.add.new.list.items) (plain_case_arm c.in_ok-arm.arm) c.in_ok-arm.end.now (grown plain_case_arm c.arms.arms.items c.add.new.list.items c.in_ok-arm.arm c.in_ok-add.ensures.added) (missing _ _ _ c.is_symbol-in-arms.ensures.place c.if-is_symbol.false) c.in_ok-arm.ensures.tree c.in_ok-arm.ensures.shorter
 
 pub bodies::handler_parts-handlers-init : goal.bodies::handler_parts-handlers-init
 bodies::handler_parts-handlers-init m c =
@@ -118,29 +115,25 @@ bodies::handler_parts-returns-in_default-clause-tree m c =
 
 pub bodies::handler_parts-returns-then-not-is_symbol-clause-tree : goal.bodies::handler_parts-returns-then-not-is_symbol-clause-tree
 bodies::handler_parts-returns-then-not-is_symbol-clause-tree m c =
-    whens_over (handler_part (inner_at (told c.args.source.now) c.args.depth)) (handler_others (inner_at (told c.args.source.now) c.args.depth)) (map plain_handler c.handlers.list.items) c.handlers.rest.now c.args.items.now _ c.handlers.invariant c.in-len1-up.len_at_least (c.is_symbol.ensures.place ∙ ap (λ b. cond b (Some _) None) c.if-not-is_symbol.true)
-
-pub bodies::handler_parts-returns-in_default-2-clause-tree : goal.bodies::handler_parts-returns-in_default-2-clause-tree
-bodies::handler_parts-returns-in_default-2-clause-tree m c =
-    whens_cut (handler_part (inner_at (told c.args.source.now) c.args.depth)) (handler_others (inner_at (told c.args.source.now) c.args.depth)) (map plain_handler c.handlers.list.items) c.handlers.rest.now c.args.items.now _ _ c.handlers.invariant c.in-len1-up.len_at_least (c.is_symbol.ensures.place ∙ ap (λ b. cond b (Some _) None) c.if-not-is_symbol.false) c.in_default-2.len_below
+    whens_over (handler_part (inner_at (told c.args.source.now) c.args.depth)) (handler_others (inner_at (told c.args.source.now) c.args.depth)) (map plain_handler c.handlers.list.items) c.handlers.rest.now c.args.items.now _ c.handlers.invariant c.in-len1-up.len_at_least (missing _ _ _ c.is_symbol.ensures.place c.if-not-is_symbol.true)
 
 pub bodies::handler_parts-returns-in_err-others-clause-tree : goal.bodies::handler_parts-returns-in_err-others-clause-tree
 bodies::handler_parts-returns-in_err-others-clause-tree m c =
     let fails : Fails c.in_err-others.field-0.0 (whens (handler_part (inner_at (told c.args.source.now) c.args.depth)) (handler_others (inner_at (told c.args.source.now) c.args.depth)) c.args.items.now) =
-    whens_others_fails (handler_part (inner_at (told c.args.source.now) c.args.depth)) (handler_others (inner_at (told c.args.source.now) c.args.depth)) (map plain_handler c.handlers.list.items) c.handlers.rest.now c.args.items.now _ _ _ c.handlers.invariant c.in-len1-up.len_at_least c.in-len1-up-2.len_at_least (c.is_symbol.ensures.place ∙ ap (λ b. cond b (Some _) None) c.if-not-is_symbol.false) c.in_err-others.field-0.0 _ (c.is_symbol-2.ensures.place ∙ ap (λ b. cond b (Some _) None) c.if-is_symbol-2.true) c.in_err-others.ensures.tree in
+    whens_others_fails (handler_part (inner_at (told c.args.source.now) c.args.depth)) (handler_others (inner_at (told c.args.source.now) c.args.depth)) (map plain_handler c.handlers.list.items) c.handlers.rest.now c.args.items.now _ _ _ c.handlers.invariant c.in-len1-up.len_at_least c.in-len1-up-behind.len_at_least (there _ _ _ c.is_symbol.ensures.place c.if-not-is_symbol.false) c.in_err-others.field-0.0 _ (there _ _ _ c.is_symbol-in-handlers.ensures.place c.if-is_symbol.true) c.in_err-others.ensures.tree in
     search (rules, fails)
 
-pub bodies::handler_parts-returns-in_ok-others-clause-tree : goal.bodies::handler_parts-returns-in_ok-others-clause-tree
-bodies::handler_parts-returns-in_ok-others-clause-tree m c =
-    whens_others (handler_part (inner_at (told c.args.source.now) c.args.depth)) (handler_others (inner_at (told c.args.source.now) c.args.depth)) (map plain_handler c.handlers.list.items) c.handlers.rest.now c.args.items.now _ _ _ c.handlers.invariant c.in-len1-up.len_at_least c.in-len1-up-2.len_at_least (c.is_symbol.ensures.place ∙ ap (λ b. cond b (Some _) None) c.if-not-is_symbol.false) _ _ _ (c.is_symbol-2.ensures.place ∙ ap (λ b. cond b (Some _) None) c.if-is_symbol-2.true) c.in_ok-others.ensures.tree
+pub bodies::handler_parts-returns-then-is_symbol-clause-tree : goal.bodies::handler_parts-returns-then-is_symbol-clause-tree
+bodies::handler_parts-returns-then-is_symbol-clause-tree m c =
+    whens_others (handler_part (inner_at (told c.args.source.now) c.args.depth)) (handler_others (inner_at (told c.args.source.now) c.args.depth)) (map plain_handler c.handlers.list.items) c.handlers.rest.now c.args.items.now _ _ _ c.handlers.invariant c.in-len1-up.len_at_least c.in-len1-up-behind.len_at_least (there _ _ _ c.is_symbol.ensures.place c.if-not-is_symbol.false) _ (plain_handler c.in_ok-others.others) c.in_ok-others.end.now (there _ _ _ c.is_symbol-in-handlers.ensures.place c.if-is_symbol.true) c.in_ok-others.ensures.tree
 
 pub bodies::handler_parts-returns-in_err-handler-clause-tree : goal.bodies::handler_parts-returns-in_err-handler-clause-tree
 bodies::handler_parts-returns-in_err-handler-clause-tree m c =
     let fails : Fails c.in_err-handler.field-0.0 (whens (handler_part (inner_at (told c.args.source.now) c.args.depth)) (handler_others (inner_at (told c.args.source.now) c.args.depth)) c.args.items.now) =
-    whens_fails (handler_part (inner_at (told c.args.source.now) c.args.depth)) (handler_others (inner_at (told c.args.source.now) c.args.depth)) (map plain_handler c.handlers.list.items) c.handlers.rest.now c.args.items.now _ _ _ c.handlers.invariant c.in-len1-up.len_at_least c.in-len1-up-2.len_at_least (c.is_symbol.ensures.place ∙ ap (λ b. cond b (Some _) None) c.if-not-is_symbol.false) c.in_err-handler.field-0.0 (c.is_symbol-2.ensures.place ∙ ap (λ b. cond b (Some _) None) c.if-is_symbol-2.false) c.in_err-handler.ensures.tree in
+    whens_fails (handler_part (inner_at (told c.args.source.now) c.args.depth)) (handler_others (inner_at (told c.args.source.now) c.args.depth)) (map plain_handler c.handlers.list.items) c.handlers.rest.now c.args.items.now _ _ _ c.handlers.invariant c.in-len1-up.len_at_least c.in-len1-up-behind.len_at_least (there _ _ _ c.is_symbol.ensures.place c.if-not-is_symbol.false) c.in_err-handler.field-0.0 (missing _ _ _ c.is_symbol-in-handlers.ensures.place c.if-is_symbol.false) c.in_err-handler.ensures.tree in
     search (rules, fails)
 
 pub bodies::handler_parts-handlers-preserved : goal.bodies::handler_parts-handlers-preserved
 bodies::handler_parts-handlers-preserved m c =
-    whens_step (handler_part (inner_at (told c.args.source.now) c.args.depth)) (handler_others (inner_at (told c.args.source.now) c.args.depth)) (map plain_handler c.handlers.list.items) c.handlers.rest.now c.args.items.now _ _ _ c.handlers.invariant c.in-len1-up.len_at_least c.in-len1-up-2.len_at_least (c.is_symbol.ensures.place ∙ ap (λ b. cond b (Some _) None) c.if-not-is_symbol.false)
-    (map plain_handler c.add.new.list.items) (plain_handler c.in_ok-handler.handler) c.in_ok-handler.end.now (grown plain_handler c.handlers.list.items c.add.new.list.items c.in_ok-handler.handler c.in_ok-add.ensures.added) (c.is_symbol-2.ensures.place ∙ ap (λ b. cond b (Some _) None) c.if-is_symbol-2.false) c.in_ok-handler.ensures.tree c.in_ok-handler.ensures.shorter
+    whens_step (handler_part (inner_at (told c.args.source.now) c.args.depth)) (handler_others (inner_at (told c.args.source.now) c.args.depth)) (map plain_handler c.handlers.list.items) c.handlers.rest.now c.args.items.now _ _ _ c.handlers.invariant c.in-len1-up.len_at_least c.in-len1-up-behind.len_at_least (there _ _ _ c.is_symbol.ensures.place c.if-not-is_symbol.false)
+    (map plain_handler c.add.new.list.items) (plain_handler c.in_ok-handler.handler) c.in_ok-handler.end.now (grown plain_handler c.handlers.list.items c.add.new.list.items c.in_ok-handler.handler c.in_ok-add.ensures.added) (missing _ _ _ c.is_symbol-in-handlers.ensures.place c.if-is_symbol.false) c.in_ok-handler.ensures.tree c.in_ok-handler.ensures.shorter

@@ -137,7 +137,7 @@ abbrev pub decreases-bodies::read_body : goal.decreases-bodies::read_body
 decreases-bodies::read_body l = 64 * l.depth + 30
 
 abbrev pub decreases-bodies::handlers_below : goal.decreases-bodies::handlers_below
-decreases-bodies::handlers_below l = 64 * l.depth + 29
+decreases-bodies::handlers_below l = 64 * l.depth + 28
 
 abbrev pub decreases-bodies::read_handlers : goal.decreases-bodies::read_handlers
 decreases-bodies::read_handlers l = 64 * l.depth + 40
@@ -183,3 +183,12 @@ decreases-sequences::stmt_below l = 64 * l.depth + 12
 
 abbrev pub decreases-statements::named : goal.decreases-statements::named
 decreases-statements::named l = 64 * l.depth + 35
+
+abbrev pub decreases-bodies::body_end : goal.decreases-bodies::body_end
+decreases-bodies::body_end l = 64 * l.depth + 29
+
+abbrev pub decreases-selecting::conditional_rest : goal.decreases-selecting::conditional_rest
+decreases-selecting::conditional_rest l = 64 * l.depth + 28
+
+abbrev pub decreases-selecting::accept_body : goal.decreases-selecting::accept_body
+decreases-selecting::accept_body l = 64 * l.depth + 34
