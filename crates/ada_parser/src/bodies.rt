@@ -10,8 +10,8 @@ ghost use Rattle.ada_expr_parser.specs.Gives.{Gives};
 ghost use Rattle.ada_parser.specs.ReadingStatements as statements;
 ghost use Rattle.ada_parser.specs.Views.{told, handler_whens};
 
-use crate::sequences::{last_span, stmts};
 use crate::phrases::read_words;
+use crate::sequences::{last_span, stmts};
 use crate::source::Source;
 use crate::tokens::{add, from_to, is_symbol};
 use ada_expr_parser::{Item, ParseError, Symbol, expect};

@@ -4,6 +4,7 @@
 
 mod bodies;
 mod compound;
+mod identifiers;
 mod laws;
 mod looping;
 mod operands;
@@ -15,6 +16,7 @@ mod source;
 mod statements;
 mod strings;
 mod tokens;
+mod types;
 mod words;
 
 pub use laws::reading_laws;

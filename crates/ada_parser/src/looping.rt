@@ -9,8 +9,8 @@ ghost use Rattle.ada_parser.specs.Reading as reading;
 ghost use Rattle.ada_parser.specs.ReadingStatements as statements;
 ghost use Rattle.ada_parser.specs.Views.{told};
 
-use crate::sequences::stmts;
 use crate::phrases::expect_again;
+use crate::sequences::stmts;
 use crate::source::Source;
 use crate::tokens::{from_to, is_symbol};
 use ada_expr_parser::{Item, ParseError, Symbol, expect, expect_word, read_drange, read_expr};
@@ -119,7 +119,15 @@ pub(crate) fn while_rest<'a>(
 {
     let (test, _, rest) = read_expr(alloc, depth - 1, items)?;
     let (_, rest) = expect(Symbol::Loop, rest)?;
-    loop_rest(alloc, source, depth, name, lead, Some(Scheme::While(test)), rest)
+    loop_rest(
+        alloc,
+        source,
+        depth,
+        name,
+        lead,
+        Some(Scheme::While(test)),
+        rest,
+    )
 }
 
 // Behind `for NAME in` and `reverse` or nothing.

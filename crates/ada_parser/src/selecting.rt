@@ -13,8 +13,8 @@ ghost use Rattle.ada_parser.specs.ReadingStatements as statements;
 ghost use Rattle.ada_parser.specs.Views.{told, behind_of};
 
 use crate::operands::{EntryBehind, entry_behind};
-use crate::sequences::{any_stmts, else_part, last_span, stmts};
 use crate::phrases::{is_again, read_delayed};
+use crate::sequences::{any_stmts, else_part, last_span, stmts};
 use crate::source::Source;
 use crate::tokens::{add, from_to, is_symbol, word_in};
 use ada_expr_parser::{
@@ -148,9 +148,7 @@ fn timed_rest<'a>(
 
 // `end select ;`
 #[tactic(auto, using(crate::proofs::Inner::inward))]
-fn end_select<'a>(
-    items: &'a [Item],
-) -> Result<(Span, &'a [Item]), ParseError>
+fn end_select<'a>(items: &'a [Item]) -> Result<(Span, &'a [Item]), ParseError>
     ensures tree { Gives (λ x. x.0) (λ x. x.1.now) result (reading.key_then key.End (reading.key_then key.Select (token (tests.symbol key.Semicolon))) items.now) }
     ensures shorter { IfOk result (λ x. length x.1.now < length items.now) }
 {
@@ -304,7 +302,6 @@ fn read_alt<'a>(
         return Err(ParseError::TooDeep {
             at: next.span.start,
         });
-
     }
     let (guard, _, rest) = read_expr(alloc, depth - 1, rest)?;
     let (_, rest) = expect(Symbol::Arrow, rest)?;
@@ -468,7 +465,6 @@ pub(crate) fn read_accept<'a>(
         return Err(ParseError::TooDeep {
             at: next.span.start,
         });
-
     }
     accept_body(alloc, source, depth, entry, behind, lead, rest)
 }

@@ -1,1 +1,5 @@
 pub mod ModulusLaws
+pub mod SoonerLaws
+pub mod Naming
+pub mod Operands
+pub mod Meeting

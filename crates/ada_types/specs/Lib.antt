@@ -1,2 +1,11 @@
 pub mod ModulusLaw
 pub mod StaticAnswer
+pub mod Sooner
+pub mod Met
+pub mod Rules
+pub mod Entries
+pub mod Things
+pub mod Mapped
+pub mod Plain
+pub mod Judged
+pub mod Walked

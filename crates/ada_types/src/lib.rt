@@ -2,11 +2,20 @@
 #![tactic(auto)]
 
 mod errors;
+mod judging;
+mod kinds;
 mod names;
+mod nodes;
 mod operations;
+mod readings;
+mod refusals;
+mod scope;
 mod static_values;
+mod table;
 #[cfg(test)]
 mod tests;
+mod things;
+mod walking;
 
 pub use errors::TypeError;
 pub use operations::law_of_mod;

@@ -81,7 +81,7 @@ fn in_base(types: &Types, mark: Option<Mark>, span: Span, value: i128) -> Result
 }
 
 // The value of an attribute with an argument of that value.
-fn attribute_value(
+pub(crate) fn attribute_value(
     types: &Types,
     mark: Option<Mark>,
     word: NameId,
@@ -104,7 +104,7 @@ fn attribute_value(
 }
 
 // The bound of a type or subtype.
-fn bound_value(mark: Option<Mark>, word: NameId) -> i64
+pub(crate) fn bound_value(mark: Option<Mark>, word: NameId) -> i64
     ensures { result ≡ bound_of (attribute_of word) mark }
 {
     match mark {

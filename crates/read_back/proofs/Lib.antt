@@ -16,3 +16,5 @@ pub mod Tasks
 pub mod Declarations
 pub mod Units
 pub mod Whole
+-- the printed text of trees that are the same
+pub mod Alike

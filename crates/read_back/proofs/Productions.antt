@@ -12,7 +12,7 @@ use Rattle.ada_tree.specs.Same.{SamePart, SameStmt, SameStmts, SameMaybe}
 use Rattle.ada_tree.specs.Lexical.{IsDuration}
 use Rattle.ada_expr_parser.specs.declared.symbols.Symbol.TheVariants as key
 use Rattle.ada_expr_parser.specs.declared.items.Item.{Item}
-use Rattle.ada_parser.specs.Spelling.{Source, Spelling, Nothing, ◌▷◌, Key, Predefined, Separated, Placed}
+use Rattle.ada_parser.specs.Spelling.{Source, Spelling, Nothing, ◌▷◌, Key, Predefined, Separated}
 use Rattle.ada_parser.specs.Phrases.{IsPart}
 use Rattle.ada_parser.specs.Statements.{IsStmt, AnyStmts, Stmts, ElsePart, OthersPart}
 use Rattle.ded_io.specs.Written.{◌⧺◌}

@@ -1,0 +1,22 @@
+-- What contracts see of entries and ranges.
+use Rattle.std.specs.Prelude.{map}
+use Rattle.ada_tree.specs.Scope as scope
+use Rattle.ada_types.specs.declared.things.Range.{Range}
+use Rattle.ada_types.specs.declared.things.Family.{Family}
+use Rattle.ada_types.specs.declared.things.Family.TheVariants.{Single, Over, Unclear}
+use Rattle.ada_types.specs.declared.things.FormalPart.{FormalPart}
+use Rattle.ada_types.specs.declared.things.EntryPart.{EntryPart}
+
+abbrev pub plain_range : Range → scope.Range
+plain_range r = record { kind = r.kind; first = r.first; last = r.last }
+
+abbrev pub plain_family : Family → scope.Family
+plain_family Single = scope.single
+plain_family (Over r) = scope.family (plain_range r)
+plain_family Unclear = scope.unclear
+
+abbrev pub plain_part : FormalPart → scope.FormalPart
+plain_part f = record { name = f.name; mode = f.mode; mark = f.mark; kind = f.kind }
+
+abbrev pub plain_entry : EntryPart → scope.EntryPart
+plain_entry e = record { name = e.name; family = plain_family e.family; formals = map plain_part e.formals.items }

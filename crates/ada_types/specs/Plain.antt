@@ -1,0 +1,42 @@
+-- What contracts see of readings, marks, attributes and operands.
+use Rattle.std.specs.Prelude.{ℕ, Option, Some, None}
+use Rattle.ada_tree.specs.Scope as scope
+use Rattle.ada_tree.specs.Attributes as attribute
+use Rattle.ada_tree.specs.ExprTypes.{Operand, of_kind, of_any_kind}
+use Rattle.ada_types.specs.Entries.{plain_range}
+use Rattle.ada_types.specs.declared.readings.Reading.{Reading}
+use Rattle.ada_types.specs.declared.readings.Reading.TheVariants.{Scalar, Array, NoValue, Unknown, Unclear}
+use Rattle.ada_types.specs.declared.readings.Marking.{Marking}
+use Rattle.ada_types.specs.declared.readings.Marking.TheVariants as marking
+use Rattle.ada_types.specs.declared.kinds.Attribute.{Attribute}
+use Rattle.ada_types.specs.declared.kinds.Attribute.TheVariants.{First, Last, Pos, Val, Succ, Pred, Image, NoAttribute}
+
+abbrev pub plain_reading : Reading → scope.Reading
+plain_reading (Scalar k) = scope.AsScalar k
+plain_reading (Array index part) = scope.AsArray index part
+plain_reading NoValue = scope.AsNoValue
+plain_reading Unknown = scope.AsUnknown
+plain_reading Unclear = scope.AsUnclear
+
+abbrev pub plain_marking : Marking → scope.Marking
+plain_marking (marking.Scalar m k) = scope.ScalarMark m k
+plain_marking (marking.Array m r part) = scope.ArrayMark m (plain_range r) part
+plain_marking (marking.Task e) = scope.TaskMark e.now
+plain_marking marking.NoMark = scope.NoMark
+plain_marking marking.Unknown = scope.UnknownMark
+plain_marking marking.Unclear = scope.UnclearMark
+
+abbrev pub plain_attribute : Attribute → attribute.Attribute
+plain_attribute First = attribute.First
+plain_attribute Last = attribute.Last
+plain_attribute Pos = attribute.Pos
+plain_attribute Val = attribute.Val
+plain_attribute Succ = attribute.Succ
+plain_attribute Pred = attribute.Pred
+plain_attribute Image = attribute.Image
+plain_attribute NoAttribute = attribute.NoAttribute
+
+-- an operand of one kind, or of any
+abbrev pub plain_operand : Option ℕ → Operand
+plain_operand (Some k) = of_kind k
+plain_operand None = of_any_kind

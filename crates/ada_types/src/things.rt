@@ -1,0 +1,72 @@
+// What names mean, as plain data.
+
+use ada_tree::{NameId, ParMode};
+use std::marker::Model;
+use std::rc::Rc;
+
+/// The kind and the bounds of a discrete range.
+#[derive(Clone, Copy, Debug, PartialEq, Eq)]
+pub(crate) struct Range {
+    pub kind: u32,
+    pub first: i64,
+    pub last: i64,
+}
+
+/// The members of an entry: one, those of a range, or those of a range that is refused.
+#[derive(Clone, Copy, Debug, PartialEq, Eq)]
+pub(crate) enum Family {
+    Single,
+    Over(Range),
+    Unclear,
+}
+
+/// A formal parameter, with the kind of its mark where that is a scalar one.
+#[derive(Clone, Copy, Debug, PartialEq, Eq)]
+pub(crate) struct FormalPart {
+    pub name: NameId,
+    pub mode: ParMode,
+    pub mark: NameId,
+    pub kind: Option<u32>,
+}
+
+#[derive(Drop)]
+pub(crate) struct EntryPart {
+    pub name: NameId,
+    pub family: Family,
+    pub formals: Vec<FormalPart>,
+}
+
+/// The entries of a task. A contract sees their list.
+#[derive(Drop)]
+pub(crate) struct Entries {
+    parts: Vec<EntryPart>,
+}
+
+impl Model for Entries {
+    ghost use Rattle.std.specs.Prelude.{List, map};
+    ghost use Rattle.ada_tree.specs.Scope.{EntryPart};
+    ghost use Rattle.ada_types.specs.Entries.{plain_entry};
+
+    ghost Value = { List EntryPart };
+
+    ghost view = { λ a. map plain_entry a.parts.items };
+}
+
+/// What a name means. The numbers are places of kinds and marks.
+#[derive(Drop)]
+pub(crate) enum Thing {
+    TypeMark(u32),
+    TaskType(Rc<Entries>),
+    SingleTask(Rc<Entries>),
+    TaskObject(Rc<Entries>),
+    TaskRow(Range, Rc<Entries>),
+    Variable(u32),
+    ConstantObject(u32),
+    Parameter(ParMode, u32),
+    LoopParameter(u32),
+    Literal(u32),
+    AnException,
+    MainProcedure,
+    AnotherUnit,
+    Unclear,
+}
