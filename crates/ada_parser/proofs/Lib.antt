@@ -6,6 +6,7 @@ pub mod Marks
 pub mod Whens
 pub mod Steps
 pub mod Inner
+pub mod HandlerParts
 pub mod Lists
 pub mod Continuing
 pub mod Narrowing

@@ -1,13 +1,14 @@
 -- The loops of the readers that call each other.
-use Rattle.std.proofs.Common.{◌-◌, sym, subst, ◌∙◌, rules, map}
-use Rattle.lawful_reader.specs.Readers.{items, fronted}
-use Rattle.ada_tree.specs.PlainStmt.{plain_stmt, plain_arm, plain_alt, plain_case_arm, plain_handler, seen}
+use Rattle.std.proofs.Common.{◌-◌, sym, ap, subst, ◌∙◌, arith, rules, map}
+use Rattle.lawful_reader.specs.Readers.{Found, items, fronted}
+use Rattle.ada_tree.specs.PlainStmt.{plain_stmt, plain_arm, plain_alt, plain_case_arm, plain_handler, handlers_of, seen}
 use Rattle.ada_expr_parser.specs.declared.symbols.Symbol.TheVariants as key
 use Rattle.ada_expr_parser.specs.Gives.{Fails}
 use Rattle.ada_parser.specs.Reading.{is_symbol, key_then}
 use Rattle.ada_parser.specs.ReadingStatements.{inner_at, begins_stmt, if_arm, case_part, others_part, handler_part, handler_others, whens}
 use Rattle.ada_parser.specs.Views.{told}
 use Rattle.ada_parser.proofs.Lists.{grown, list_empty, list_over, list_fails, list_goes}
+use Rattle.ada_parser.proofs.HandlerParts.{body_built, handlers_go}
 use Rattle.ada_parser.proofs.Marks.{there, missing}
 use Rattle.ada_parser.proofs.Whens.{WhensGoOn, whens_begin, whens_empty, whens_over, whens_step, whens_fails, whens_others, whens_others_fails}
 use Rattle.ada_parser.proofs.+stmt.Goals as goal
@@ -137,3 +138,9 @@ pub bodies::handler_parts-handlers-preserved : goal.bodies::handler_parts-handle
 bodies::handler_parts-handlers-preserved m c =
     whens_step (handler_part (inner_at (told c.args.source.now) c.args.depth)) (handler_others (inner_at (told c.args.source.now) c.args.depth)) (map plain_handler c.handlers.list.items) c.handlers.rest.now c.args.items.now _ _ _ c.handlers.invariant c.in-len1-up.len_at_least c.in-len1-up-behind.len_at_least (there _ _ _ c.is_symbol.ensures.place c.if-not-is_symbol.false)
     (map plain_handler c.add.new.list.items) (plain_handler c.in_ok-handler.handler) c.in_ok-handler.end.now (grown plain_handler c.handlers.list.items c.add.new.list.items c.in_ok-handler.handler c.in_ok-add.ensures.added) (missing _ _ _ c.is_symbol-in-handlers.ensures.place c.if-is_symbol.false) c.in_ok-handler.ensures.tree c.in_ok-handler.ensures.shorter
+
+pub bodies::body_end-returns-clause-tree : goal.bodies::body_end-returns-clause-tree
+bodies::body_end-returns-clause-tree m c =
+    handlers_go (c.args.depth - 1) (inner_at (told c.args.source.now) c.args.depth) (seen c.args.stmts.items) c.args.items.now c.in_ok-handlers.rest.now _ _ (handlers_of (map plain_handler c.in_ok-handlers.handlers.items))
+    c.in-len1-up.len_at_least (there _ _ _ c.is_symbol.ensures.place c.if-not-is_symbol.false) (omega (arith, c.if-inner-eq0.false)) c.in_ok-handlers.ensures.tree
+    ∙ ap (λ b. Found b c.in_ok-handlers.rest.now) (sym (body_built c.args.stmts c.in_ok-handlers.handlers))
