@@ -13,7 +13,7 @@ ghost use Rattle.ada_parser.specs.Views.{told, handler_whens};
 use crate::phrases::read_words;
 use crate::sequences::{last_span, stmts};
 use crate::source::Source;
-use crate::tokens::{add, from_to, is_symbol};
+use crate::tokens::{add, from_to, stands};
 use ada_expr_parser::{Item, ParseError, Symbol, expect};
 use ada_tree::{Body, Handler, Span, Stmt, StmtKind};
 use std::alloc::Global;
@@ -79,7 +79,7 @@ fn body_end<'a>(
     let [next, rest @ ..] = items else {
         return Err(ParseError::Syntax { at: 0 });
     };
-    if !is_symbol(Symbol::Exception, *next) {
+    if !stands(Symbol::Exception, *next) {
         let handlers = Vec::new(alloc);
         return Ok((Body { stmts, handlers }, items));
     }
@@ -125,7 +125,7 @@ fn read_handlers<'a>(
     let [next, ..] = items else {
         return Err(ParseError::Syntax { at: 0 });
     };
-    if !is_symbol(Symbol::When, *next) {
+    if !stands(Symbol::When, *next) {
         return Err(ParseError::Syntax {
             at: next.span.start,
         });
@@ -166,13 +166,13 @@ fn handler_parts<'a>(
         let [next, behind @ ..] = rest else {
             return Err(ParseError::Syntax { at: 0 });
         };
-        if !is_symbol(Symbol::When, *next) {
+        if !stands(Symbol::When, *next) {
             return Ok((list, None, rest));
         }
         let [after, stmts @ ..] = behind else {
             return Err(ParseError::Syntax { at: 0 });
         };
-        if is_symbol(Symbol::Others, *after) {
+        if stands(Symbol::Others, *after) {
             let (others, end) = others_handler(alloc, source, depth, next.span, stmts)?;
             return Ok((list, Some(others), end));
         }

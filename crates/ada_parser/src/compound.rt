@@ -14,7 +14,7 @@ ghost use Rattle.ada_parser.specs.Views.{told, case_whens};
 
 use crate::sequences::{else_part, stmts};
 use crate::source::Source;
-use crate::tokens::{add, from_to, is_symbol};
+use crate::tokens::{add, from_to, stands};
 use ada_expr_parser::{Item, ParseError, Symbol, expect, read_choice, read_expr};
 use ada_tree::{Arm, CaseArm, CaseChoice, Expr, Span, Stmt, StmtKind};
 use std::alloc::Global;
@@ -117,7 +117,7 @@ fn arms_onto<'a>(
         let [next, ..] = rest else {
             return Err(ParseError::Syntax { at: 0 });
         };
-        if !is_symbol(Symbol::Elsif, *next) {
+        if !stands(Symbol::Elsif, *next) {
             return Ok(rest);
         }
         let (arm, behind) = next_arm(alloc, source, depth, rest)?;
@@ -225,7 +225,7 @@ fn choices_onto<'a>(
         let [next, ..] = rest else {
             return Err(ParseError::Syntax { at: 0 });
         };
-        if !is_symbol(Symbol::Bar, *next) {
+        if !stands(Symbol::Bar, *next) {
             return Ok(rest);
         }
         let (choice, behind) = next_choice(alloc, depth, rest)?;
@@ -308,13 +308,13 @@ fn read_case_arms<'a>(
         let [next, behind @ ..] = rest else {
             return Err(ParseError::Syntax { at: 0 });
         };
-        if !is_symbol(Symbol::When, *next) {
+        if !stands(Symbol::When, *next) {
             return Ok((arms, None, rest));
         }
         let [after, list @ ..] = behind else {
             return Err(ParseError::Syntax { at: 0 });
         };
-        if is_symbol(Symbol::Others, *after) {
+        if stands(Symbol::Others, *after) {
             let (others, end) = others_part(alloc, source, depth, next.span, list)?;
             return Ok((arms, Some(others), end));
         }

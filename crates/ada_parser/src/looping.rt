@@ -12,7 +12,7 @@ ghost use Rattle.ada_parser.specs.Views.{told};
 use crate::phrases::expect_again;
 use crate::sequences::stmts;
 use crate::source::Source;
-use crate::tokens::{from_to, is_symbol};
+use crate::tokens::{from_to, stands};
 use ada_expr_parser::{Item, ParseError, Symbol, expect, expect_word, read_drange, read_expr};
 use ada_tree::{Scheme, Span, Stmt, StmtKind, Word};
 use std::alloc::Global;
@@ -177,7 +177,7 @@ pub(crate) fn for_rest<'a>(
     let [next, rest @ ..] = items else {
         return Err(ParseError::Syntax { at: 0 });
     };
-    if is_symbol(Symbol::Reverse, *next) {
+    if stands(Symbol::Reverse, *next) {
         return for_range(alloc, source, depth, name, lead, index, true, rest);
     }
     for_range(alloc, source, depth, name, lead, index, false, items)
@@ -201,13 +201,13 @@ pub(crate) fn named_loop<'a>(
         return Err(ParseError::Syntax { at: 0 });
     };
 
-    if is_symbol(Symbol::While, *next) {
+    if stands(Symbol::While, *next) {
         return while_rest(alloc, source, depth, Some(name), name.span, rest);
     }
-    if is_symbol(Symbol::For, *next) {
+    if stands(Symbol::For, *next) {
         return for_rest(alloc, source, depth, Some(name), name.span, rest);
     }
-    if is_symbol(Symbol::Loop, *next) {
+    if stands(Symbol::Loop, *next) {
         return loop_rest(alloc, source, depth, Some(name), name.span, None, rest);
     }
     Err(ParseError::Syntax {

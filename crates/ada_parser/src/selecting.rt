@@ -16,7 +16,7 @@ use crate::operands::{EntryBehind, entry_behind};
 use crate::phrases::{is_again, read_delayed};
 use crate::sequences::{any_stmts, else_part, last_span, stmts};
 use crate::source::Source;
-use crate::tokens::{add, from_to, is_symbol, word_in};
+use crate::tokens::{add, from_to, stands, word_in};
 use ada_expr_parser::{
     Item, ParseError, Symbol, expect, expect_word, read_call_behind, read_expr, read_target,
 };
@@ -72,7 +72,7 @@ fn call_rest<'a>(
     let [next, rest @ ..] = items else {
         return Err(ParseError::Syntax { at: 0 });
     };
-    if !is_symbol(Symbol::Else, *next) {
+    if !stands(Symbol::Else, *next) {
         return timed_rest(alloc, source, depth, lead, call, behind, items);
     }
     conditional_rest(alloc, source, depth, lead, call, behind, rest)
@@ -250,7 +250,7 @@ fn alts_onto<'a>(
         let [next, ..] = rest else {
             return Err(ParseError::Syntax { at: 0 });
         };
-        if !is_symbol(Symbol::Or, *next) {
+        if !stands(Symbol::Or, *next) {
             return Ok(rest);
         }
         let (alt, behind) = next_alt(alloc, source, depth, rest)?;
@@ -295,7 +295,7 @@ fn read_alt<'a>(
         return Err(ParseError::Syntax { at: 0 });
     };
 
-    if !is_symbol(Symbol::When, *next) {
+    if !stands(Symbol::When, *next) {
         return alt_kind(alloc, source, depth, None, None, items);
     }
     if depth == 0 {
@@ -327,7 +327,7 @@ fn alt_kind<'a>(
     };
 
     let first = first_of_alt(lead, next.span);
-    if is_symbol(Symbol::Accept, *next) {
+    if stands(Symbol::Accept, *next) {
         if depth == 0 {
             return Err(ParseError::TooDeep {
                 at: next.span.start,
@@ -335,7 +335,7 @@ fn alt_kind<'a>(
         }
         return accept_alt(alloc, source, depth, guard, first, next.span, rest);
     }
-    if is_symbol(Symbol::Delay, *next) {
+    if stands(Symbol::Delay, *next) {
         if depth == 0 {
             return Err(ParseError::TooDeep {
                 at: next.span.start,
@@ -343,7 +343,7 @@ fn alt_kind<'a>(
         }
         return delay_alt(alloc, source, depth, guard, first, rest);
     }
-    if !is_symbol(Symbol::Terminate, *next) {
+    if !stands(Symbol::Terminate, *next) {
         return Err(ParseError::Syntax {
             at: next.span.start,
         });
@@ -458,7 +458,7 @@ pub(crate) fn read_accept<'a>(
     let [next, rest @ ..] = items else {
         return Err(ParseError::Syntax { at: 0 });
     };
-    if !is_symbol(Symbol::Do, *next) {
+    if !stands(Symbol::Do, *next) {
         return accept_close(entry, behind, None, lead, items);
     }
     if depth == 0 {

@@ -10,7 +10,7 @@ ghost use Rattle.ada_parser.specs.Views.{told};
 
 use crate::source::Source;
 use crate::statements::read_stmt;
-use crate::tokens::{add, begins_stmt, is_symbol};
+use crate::tokens::{add, begins_stmt, stands};
 use ada_expr_parser::{Item, ParseError, Symbol};
 use ada_tree::{Span, Stmt};
 use std::alloc::Global;
@@ -114,7 +114,7 @@ pub(crate) fn else_part<'a>(
         return Err(ParseError::Syntax { at: 0 });
     };
 
-    if !is_symbol(Symbol::Else, *next) {
+    if !stands(Symbol::Else, *next) {
         return Ok((None, items));
     }
     let (list, rest) = stmts(alloc, source, depth, rest)?;

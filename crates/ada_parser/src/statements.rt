@@ -16,7 +16,7 @@ use crate::looping::{for_rest, loop_rest, named_loop, while_rest};
 use crate::selecting::{read_accept, read_select};
 use crate::simple::{read_abort, read_delay, read_exit, read_null, read_raise};
 use crate::source::Source;
-use crate::tokens::{is_symbol, word_in};
+use crate::tokens::{stands, word_in};
 use crate::words::read_word_stmt;
 use ada_expr_parser::{Item, ParseError, Symbol};
 use ada_tree::{Stmt, StmtKind, Word};
@@ -37,7 +37,7 @@ pub(crate) fn read_stmt<'a>(
     let [next, rest @ ..] = items else {
         return Err(ParseError::Syntax { at: 0 });
     };
-    if is_symbol(Symbol::Select, *next) {
+    if stands(Symbol::Select, *next) {
         if depth == 0 {
             return Err(ParseError::TooDeep {
                 at: next.span.start,
@@ -45,7 +45,7 @@ pub(crate) fn read_stmt<'a>(
         }
         return read_select(alloc, source, depth, next.span, rest);
     }
-    if is_symbol(Symbol::If, *next) {
+    if stands(Symbol::If, *next) {
         if depth == 0 {
             return Err(ParseError::TooDeep {
                 at: next.span.start,
@@ -71,7 +71,7 @@ fn case_or_block<'a>(
     let [next, rest @ ..] = items else {
         return Err(ParseError::Syntax { at: 0 });
     };
-    if is_symbol(Symbol::Case, *next) {
+    if stands(Symbol::Case, *next) {
         if depth == 0 {
             return Err(ParseError::TooDeep {
                 at: next.span.start,
@@ -79,7 +79,7 @@ fn case_or_block<'a>(
         }
         return read_case(alloc, source, depth, next.span, rest);
     }
-    if is_symbol(Symbol::Begin, *next) {
+    if stands(Symbol::Begin, *next) {
         if depth == 0 {
             return Err(ParseError::TooDeep {
                 at: next.span.start,
@@ -105,7 +105,7 @@ fn any_loop<'a>(
     let [next, rest @ ..] = items else {
         return Err(ParseError::Syntax { at: 0 });
     };
-    if is_symbol(Symbol::While, *next) {
+    if stands(Symbol::While, *next) {
         if depth == 0 {
             return Err(ParseError::TooDeep {
                 at: next.span.start,
@@ -113,7 +113,7 @@ fn any_loop<'a>(
         }
         return while_rest(alloc, source, depth, None, next.span, rest);
     }
-    if is_symbol(Symbol::For, *next) {
+    if stands(Symbol::For, *next) {
         if depth == 0 {
             return Err(ParseError::TooDeep {
                 at: next.span.start,
@@ -121,7 +121,7 @@ fn any_loop<'a>(
         }
         return for_rest(alloc, source, depth, None, next.span, rest);
     }
-    if is_symbol(Symbol::Loop, *next) {
+    if stands(Symbol::Loop, *next) {
         if depth == 0 {
             return Err(ParseError::TooDeep {
                 at: next.span.start,
@@ -148,19 +148,19 @@ fn worded<'a>(
         return Err(ParseError::Syntax { at: 0 });
     };
     let lead = next.span;
-    if is_symbol(Symbol::Null, *next) {
+    if stands(Symbol::Null, *next) {
         return read_null(lead, rest);
     }
-    if is_symbol(Symbol::Delay, *next) {
+    if stands(Symbol::Delay, *next) {
         return read_delay(lead, rest);
     }
-    if is_symbol(Symbol::Exit, *next) {
+    if stands(Symbol::Exit, *next) {
         return read_exit(alloc, depth, lead, rest);
     }
-    if is_symbol(Symbol::Raise, *next) {
+    if stands(Symbol::Raise, *next) {
         return read_raise(lead, rest);
     }
-    if is_symbol(Symbol::Abort, *next) {
+    if stands(Symbol::Abort, *next) {
         return read_abort(alloc, depth, lead, rest);
     }
     accept_or_name(alloc, source, depth, items)
@@ -181,7 +181,7 @@ fn accept_or_name<'a>(
     let [next, rest @ ..] = items else {
         return Err(ParseError::Syntax { at: 0 });
     };
-    if is_symbol(Symbol::Accept, *next) {
+    if stands(Symbol::Accept, *next) {
         let (accept, rest) = read_accept(alloc, source, depth, next.span, rest)?;
         let span = accept.span;
         return Ok((
@@ -218,7 +218,7 @@ fn named<'a>(
     let [next, rest @ ..] = behind else {
         return Err(ParseError::Syntax { at: 0 });
     };
-    if !is_symbol(Symbol::Colon, *next) {
+    if !stands(Symbol::Colon, *next) {
         return read_word_stmt(alloc, source, depth, items);
     }
     if depth == 0 {

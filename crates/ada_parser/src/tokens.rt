@@ -11,8 +11,15 @@ use ada_expr_parser::{Item, ItemKind, ParseError, Symbol, symbol_in};
 use ada_tree::{Span, Word};
 
 /// Whether an item is this symbol.
-#[tactic(auto, using(crate::proofs::Marks::placed))]
 pub(crate) fn is_symbol(wanted: Symbol, item: Item) -> bool
+    ensures { result ≡ reading.is_symbol wanted item }
+{
+    symbol_in(wanted, item).is_some()
+}
+
+/// Whether an item is this symbol; the symbol's place is then that of the item.
+#[tactic(auto, using(crate::proofs::Marks::placed))]
+pub(crate) fn stands(wanted: Symbol, item: Item) -> bool
     ensures test { result ≡ reading.is_symbol wanted item }
     ensures place { tests.symbol wanted item ≡ cond result (Some item.span) None }
 {

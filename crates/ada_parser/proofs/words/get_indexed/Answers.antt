@@ -11,18 +11,18 @@ use Rattle.ada_parser.proofs.words.get_indexed.Goals as goal
 pub returns-then-is_operator-clause-tree : goal.returns-then-is_operator-clause-tree
 returns-then-is_operator-clause-tree c =
     let low : c.args.depth ≤ levels (plain_expr c.args.arg) + 1 = omega (arith, c.requires.height, c.if-height-depth.true) in
-    rw (full_deep c.args.depth c.args.word c.args.name (plain_expr c.args.arg) c.args.close c.args.items.now _ c.requires.depth low c.in-len1-up.len_at_least (sym c.is_symbol.ensures.test ∙ c.if-is_symbol.false) (sym c.is_operator.ensures ∙ c.if-is_operator.true))
+    rw (full_deep c.args.depth c.args.word c.args.name (plain_expr c.args.arg) c.args.close c.args.items.now _ c.requires.depth low c.in-len1-up.len_at_least (sym c.is_symbol.ensures ∙ c.if-is_symbol.false) (sym c.is_operator.ensures ∙ c.if-is_operator.true))
     (faults_here PStmt true c.args.items.now _ c.in-len1-up.len_at_least)
 
 pub returns-then-height-depth-clause-tree : goal.returns-then-height-depth-clause-tree
 returns-then-height-depth-clause-tree c =
     let low : c.args.depth ≤ levels (plain_expr c.args.arg) + 1 = omega (arith, c.requires.height, c.if-height-depth.true) in
-    rw (full_ends c.args.depth c.args.word c.args.name (plain_expr c.args.arg) c.args.close c.args.items.now _ c.requires.depth low c.in-len1-up.len_at_least (sym c.is_symbol.ensures.test ∙ c.if-is_symbol.false) (sym c.is_operator.ensures ∙ c.if-is_operator.false))
+    rw (full_ends c.args.depth c.args.word c.args.name (plain_expr c.args.arg) c.args.close c.args.items.now _ c.requires.depth low c.in-len1-up.len_at_least (sym c.is_symbol.ensures ∙ c.if-is_symbol.false) (sym c.is_operator.ensures ∙ c.if-is_operator.false))
     (faults_here PStmt false c.args.items.now _ c.in-len1-up.len_at_least)
 
 pub returns-clause-tree : goal.returns-clause-tree
 returns-clause-tree c =
-    rw (indexed_is c.args.depth c.args.word c.args.name (plain_expr c.args.arg) c.args.close c.args.items.now _ c.in-len1-up.len_at_least (sym c.is_symbol.ensures.test ∙ c.if-is_symbol.false)
+    rw (indexed_is c.args.depth c.args.word c.args.name (plain_expr c.args.arg) c.args.close c.args.items.now _ c.in-len1-up.len_at_least (sym c.is_symbol.ensures ∙ c.if-is_symbol.false)
     ∙ ap (λ r. go_on r (get_index c.args.depth c.args.word))
     (got_behind c.args.depth (indexed c.args.name (plain_expr c.args.arg) c.args.close) c.args.items.now c.requires.depth
     ∙ ap (λ e. expr_behind (c.args.depth - 1) e c.args.items.now) (sym c.in_ok-first.ensures.tree) ∙ c.in_ok-index.ensures.tree))
