@@ -8,6 +8,8 @@ pub mod Steps
 pub mod Inner
 pub mod HandlerParts
 pub mod Lists
+pub mod DeclSteps
+pub mod MemberSteps
 pub mod Continuing
 pub mod Narrowing
 pub mod Rows

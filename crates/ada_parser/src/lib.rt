@@ -4,17 +4,25 @@
 
 mod bodies;
 mod compound;
+mod entries;
 mod identifiers;
+mod initials;
 mod laws;
 mod looping;
 mod operands;
 mod phrases;
 mod selecting;
 mod sequences;
+mod members;
+mod objects;
+mod operands;
+mod phrases;
+mod pragmas;
 mod simple;
 mod source;
 mod statements;
 mod strings;
+mod tasks;
 mod tokens;
 mod types;
 mod words;

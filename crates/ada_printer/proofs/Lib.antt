@@ -1,2 +1,5 @@
 pub mod Drawn
+pub mod Formed
+pub mod Declared
 pub mod Listed
+pub mod Rowed

@@ -18,10 +18,10 @@ each_text-more X text xs i d within =
     ∙ each_text-append X text (take i xs) (get_or xs i d ∷ [])
     ∙ ap (λ t. each_text text (take i xs) ⧺ t) (each_text-one X text (get_or xs i d))
 
-not_below_one : (n : ℕ) → suc n < 1 → ⊥
+pub not_below_one : (n : ℕ) → suc n < 1 → ⊥
 not_below_one n h = omega arith
 
-not_below_zero : 1 ≤ 0 → ⊥
+pub not_below_zero : 1 ≤ 0 → ⊥
 not_below_zero h = omega arith
 
 -- one member more
@@ -64,6 +64,10 @@ drew_seen_none X Y f mark text (x ∷ xs) a none = absurd (not_below_one (length
 
 pub drew_seen_members : (X Y : Type 0) (f : X → Y) (text : Y → List ℕ) (xs : List X) (a b : Drawing) → Drew a b (each_text text (map f (take (length xs) xs))) → Drew a b (each_text text (map f xs))
 drew_seen_members X Y f text xs a b = subst (λ t. Drew a b t) (ap (λ ys. each_text text (map f ys)) (take-length xs))
+
+-- behind a loop that has come to the list's end
+pub drew_seen_all : (X Y : Type 0) (f : X → Y) (text : Y → List ℕ) (xs : List X) (i : ℕ) (a b : Drawing) → length xs ≤ i → Drew a b (each_text text (map f (take i xs))) → Drew a b (each_text text (map f xs))
+drew_seen_all X Y f text xs i a b all = subst (λ ys. Drew a b (each_text text (map f ys))) (take_all i xs all)
 
 -- one level more of indentation
 indent_next : (i : ℕ) → codes "   " ⧺ indent i ≡ indent i ⧺ codes "   "

@@ -1,11 +1,16 @@
-//! The printed text of an Ada 83 program. So far expressions are printed; the layout of all other parts is defined in `specs/`.
+//! The printed text of an Ada 83 program, on an output or counted; the layout is defined in `specs/`.
 #![tactic(auto)]
 
+mod calls;
+mod declarations;
 mod expressions;
+mod lines;
+mod nesting;
 mod paging;
 mod pieces;
 mod printing;
 #[cfg(test)]
 mod tests;
+mod whole;
 
-pub use printing::{expr_len, print_expr};
+pub use printing::{expr_len, print, print_expr, text_len};

@@ -1,7 +1,10 @@
-// Expressions built by hand, and their texts by the layout.
+// Trees built by hand, and their texts by the layout.
 
-use crate::{expr_len, print_expr};
-use ada_tree::{BinaryOp, Expr, ExprKind, Memory, Names, Span, UnaryOp, Word};
+use crate::{expr_len, print, print_expr, text_len};
+use ada_tree::{
+    BinaryOp, Body, Decl, DeclKind, Expr, ExprKind, Memory, Names, Program, Span, Stmt, StmtKind,
+    UnaryOp, Word,
+};
 use ded_io::MemorySink;
 use std::alloc::Global;
 use std::test::Fail;
@@ -74,5 +77,47 @@ fn an_expression_is_laid_out(rt: HostRuntime) -> Result<(), Fail> {
     assert_eq!(rt; expr_len(&names, &tree), 55);
     let mut failing = MemorySink::new(rt.alloc(), vec![in rt.alloc(); 1]?, 100)?;
     assert!(rt; print_expr(&names, &tree, &mut failing).is_err());
+    Ok(())
+}
+
+// A program with one named number and one statement.
+fn small(alloc: Global) -> Result<Program, Memory> {
+    let mut names = Names::new(alloc)?;
+    let name = word(&mut names, "SMALL")?;
+    let number = DeclKind::Number {
+        name: word(&mut names, "SIZE")?,
+        value: expr(ExprKind::Integer(2)),
+    };
+    let decl = Decl {
+        kind: number,
+        span: NOWHERE,
+    };
+    let pause = Stmt {
+        kind: StmtKind::Delay { thousandths: 250 },
+        span: NOWHERE,
+    };
+    Ok(Program {
+        names,
+        text_io: true,
+        name,
+        decls: vec![in alloc; decl]?,
+        body: Body {
+            stmts: vec![in alloc; pause]?,
+            handlers: Vec::new(alloc),
+        },
+    })
+}
+
+#[test]
+fn a_small_program_is_laid_out(rt: HostRuntime) -> Result<(), Fail> {
+    let program = small(rt.alloc())?;
+    let text =
+        b"with TEXT_IO;\nuse TEXT_IO;\nprocedure SMALL is\n   SIZE : constant := 2;\nbegin\n   delay 0.25;\nend SMALL;\n";
+    let mut out = MemorySink::new(rt.alloc(), Vec::new(rt.alloc()), 200)?;
+    assert!(rt; print(&program, &mut out).is_ok());
+    assert_eq!(rt; out.bytes(), text.as_slice());
+    assert_eq!(rt; text_len(&program), text.len() as u64);
+    let mut failing = MemorySink::new(rt.alloc(), vec![in rt.alloc(); 1]?, 200)?;
+    assert!(rt; print(&program, &mut failing).is_err());
     Ok(())
 }
