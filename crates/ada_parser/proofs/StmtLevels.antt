@@ -141,6 +141,7 @@ module _ (source : Source) where
     starts absent text x none stop = rw none (ends x stop)
     starts (present l) text x (front, back, from, (at, one), is) stop = rw from (rw one (at_else at))
     -- `=> stmts`
+
 abbrev pub ArrowStmts : Source → ℕ → PStmts → Spelling
 ArrowStmts source d l = Key key.Arrow ▷ Stmts source d l
 
