@@ -2,7 +2,11 @@ pub mod Faults
 pub mod Texts
 pub mod Seen
 pub mod Named
+pub mod Marks
+pub mod Whens
 pub mod Steps
+pub mod Inner
+pub mod HandlerParts
 pub mod Lists
 pub mod DeclSteps
 pub mod MemberSteps
