@@ -11,8 +11,6 @@ pub mod Views
 pub mod Turns
 pub mod ReadingRows
 pub mod ReadingDeclarations
-pub mod DeclViews
-pub mod MemberViews
 pub mod ReadingUnits
 pub mod Laws
 pub mod Exactly
