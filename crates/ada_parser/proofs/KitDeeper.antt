@@ -33,6 +33,7 @@ use Rattle.ada_expr_laws.proofs.Primaries.{no_place, unary_less}
 use Rattle.ada_expr_laws.proofs.Plainly.{law_is_expr}
 use Rattle.ada_parser.proofs.KitPieces.{KeyAt, Closing, closing_key, closing_then, below_inside, inside_below}
 use Rattle.ada_parser.proofs.KitReading.{Made, Both, made_key, law_closed}
+use Rattle.ada_parser.proofs.KitLeading.{some_of}
 
 -- ---- one level deeper
 
@@ -117,10 +118,6 @@ paren_begins at = (
 
 prefix_begins : (op : UnaryOp) (at : Span) → (e : ℕ) × Begins (λ b text. Expression e b text) (symbol_item (prefix_symbol op) at ∷ [])
 prefix_begins op at = (1, (EUnary op zero_is (from_to at no_place), a_zero ∷ [], record { spells = (a_zero ∷ [], at, refl, omega (arith, unary_less op), refl, refl); fits = omega arith; nested = omega arith }))
-
-some_of : {A : Type 0} (m : Option A) → is_some m ≡ true → (x : A) × (m ≡ Some x)
-some_of (Some x) e = (x, refl)
-some_of None e = absurd (true≢false (sym e))
 
 abbrev placed_at : Span → UnaryOp → Prefix
 placed_at at op = record { op = op; span = at }

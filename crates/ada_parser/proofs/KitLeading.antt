@@ -26,7 +26,7 @@ abbrev pub fresh : Symbol → List Symbol → Bool
 fresh s [] = true
 fresh s (t ∷ more) = not (same t s) && fresh s more
 
-some_of : {A : Type 0} (m : Option A) → is_some m ≡ true → (x : A) × (m ≡ Some x)
+pub some_of : {A : Type 0} (m : Option A) → is_some m ≡ true → (x : A) × (m ≡ Some x)
 some_of (Some x) e = (x, refl)
 some_of None e = absurd (true≢false (sym e))
 

@@ -10,7 +10,7 @@ use Rattle.ada_expr_parser.specs.Trees.{from_to}
 use Rattle.ada_parser.specs.Spelling.{Spelling, Nothing, ◌▷◌, Key, Named, Inside, last_place, Stands, Placed}
 use Rattle.lawful_reader.specs.Grammars.{Below}
 
-abbrev tail_of : List Item → List Item
+abbrev pub tail_of : List Item → List Item
 tail_of [] = []
 tail_of (x ∷ list) = list
 

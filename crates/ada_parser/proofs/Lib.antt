@@ -2,8 +2,14 @@ pub mod Faults
 pub mod Texts
 pub mod Seen
 pub mod Named
+pub mod Marks
+pub mod Whens
 pub mod Steps
+pub mod Inner
+pub mod HandlerParts
 pub mod Lists
+pub mod DeclSteps
+pub mod MemberSteps
 pub mod Continuing
 pub mod Narrowing
 pub mod Rows
@@ -19,6 +25,7 @@ pub mod UnitLaws
 pub mod NoEnd
 pub mod Whole
 pub mod Exact
+pub mod RowLists
 mod ReadingExamples
 mod DeclExamples
 mod TextExamples

@@ -15,11 +15,8 @@ use Rattle.ada_expr_parser.specs.declared.items.ItemKind.{ItemKind}
 use Rattle.ada_expr_parser.specs.declared.items.ItemKind.TheVariants as item
 use Rattle.ada_expr_parser.specs.declared.items.Item.{Item}
 use Rattle.ada_expr_parser.specs.Items.{kind_of, Stands, name_text, Says, IsItemOf, end_of, AreItems, interned_if, with_token, names_after}
-use Rattle.ada_tree.specs.PlainProgram.{PProgram}
 use Rattle.ada_parser.specs.Spelling.{Source}
-use Rattle.ada_parser.specs.Units.{PUnit, Units}
-use Rattle.ada_parser.specs.Reads.{deepest, unit_of, HasItems, Reads}
-use Rattle.lawful_reader.proofs.Basics.{same_last}
+use Rattle.ada_parser.specs.Reads.{HasItems}
 
 -- what a token that is no name says
 abbrev said : TokenKind → ItemKind
@@ -225,26 +222,3 @@ are_items bytes s xs h tokens same =
 pub items_are_one : (bytes : List ℕ) (s t : Source) (xs ys : List Item) → HasItems bytes s xs → HasItems bytes t ys → xs ≡ ys
 items_are_one bytes s t xs ys one two =
     items_of_one bytes two.tokens xs ys (are_items bytes s xs one two.tokens (splits-unique bytes one.tokens two.tokens one.splits two.splits)) (are_items bytes t ys two two.tokens refl)
-
--- two programs that a text is read as have the same names
-pub read_names : (bytes : List ℕ) (p q : PProgram) → Reads bytes p → Reads bytes q → p.names ≡ q.names
-read_names bytes p q one two = ap (λ source. source.names) (names_one bytes _ _ one.items two.items one.are_items two.are_items)
-
--- and are spelled by the same items
-pub read_items : (bytes : List ℕ) (p q : PProgram) (one : Reads bytes p) (two : Reads bytes q) → one.items ≡ two.items
-read_items bytes p q one two = items_are_one bytes _ _ one.items two.items one.are_items two.are_items
-
--- each text of a unit has one tree
-abbrev pub UnitsHaveOneTree : Type 0
-UnitsHaveOneTree = (source : Source) (d : ℕ) (a b : PUnit) (text : List Item) → Units source d a text → Units source d b text → a ≡ b
-
--- then a text is read as one program alone
-pub read_one : UnitsHaveOneTree → (bytes : List ℕ) (p q : PProgram) → Reads bytes p → Reads bytes q → p ≡ q
-read_one one_tree bytes p q one two =
-    let (front, x, is, ends, spelled) = one.spelled in
-    let (other, y, that, ends', spelled') = two.spelled in
-    let names = read_names bytes p q one two in
-    let (same, last) = same_last other front y x (sym that ∙ sym (read_items bytes p q one two) ∙ is) in
-    let here = subst (Units record { bytes = bytes; names = p.names } deepest (unit_of q)) same (subst (λ n. Units record { bytes = bytes; names = n } deepest (unit_of q) other) (sym names) spelled') in
-    let unit = one_tree record { bytes = bytes; names = p.names } deepest (unit_of p) (unit_of q) front spelled here in
-    ap₂ (λ n (u : PUnit). record { names = n; text_io = u.text_io; name = u.name; decls = u.decls; body = u.body }) names unit

@@ -1,18 +1,23 @@
 -- Lists of the code, seen plainly.
-use Rattle.std.proofs.Common.{◌≡◌, ℕ, suc, ◌-◌, ◌≤◌, List, [], ◌∷◌, ◌++◌, Option, Some, None, map, length, get_or, refl, ap, arith}
+use Rattle.std.proofs.Common.{◌≡◌, ℕ, suc, ◌-◌, ◌≤◌, List, [], ◌∷◌, ◌++◌, Option, Some, None, Vec, Global, option_map, map, length, get_or, refl, ap, arith}
 use Rattle.ada_tree.specs.declared.naming.Span.{Span}
 use Rattle.ada_tree.specs.declared.statements.Callee.{Callee}
 use Rattle.ada_tree.specs.declared.statements.Stmt.{Stmt}
 use Rattle.ada_tree.specs.declared.statements.StmtKind.{StmtKind, Null, Assign, Delay, Exit, Raise, Abort, Call, Accept, Wait', Conditional', Timed', Put, PutLine, NewLine, Get, If', Case', Block, Loop'}
-use Rattle.ada_tree.specs.PlainStmt.{PHandler, stmt_at, plain_stmt, plain_callee, seen}
+use Rattle.ada_tree.specs.PlainStmt.{PHandler, stmt_at, plain_stmt, plain_callee, seen, seen_maybe}
 use Rattle.ada_expr_parser.specs.Parts.{callee_of}
-use Rattle.ada_parser.specs.ReadingStatements.{stmt_span, last_span, with_others}
+use Rattle.ada_parser.specs.ReadingStatements.{stmt_span, last_span, with_others, maybe}
 use Rattle.ada_parser.specs.Views.{as_target}
 
 -- tasks as they are spelled, and as tasks
 pub callees_are : (xs : List Callee) → map callee_of (map as_target xs) ≡ map plain_callee xs
 callees_are [] = refl
 callees_are (x ∷ xs) = ap (λ l. plain_callee x ∷ l) (callees_are xs)
+
+-- statements for others, or none
+pub maybe_is : (o : Option (Vec Stmt Global)) → maybe (option_map (λ v. seen v.items) o) ≡ seen_maybe o
+maybe_is None = refl
+maybe_is (Some v) = refl
 
 stmt_span_is : (k : StmtKind) (s : Span) → stmt_span (stmt_at k s) ≡ s
 stmt_span_is Null s = refl

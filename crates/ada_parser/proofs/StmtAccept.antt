@@ -38,21 +38,17 @@ use Rattle.ada_expr_laws.proofs.Calling.{close_ends}
 use Rattle.ada_expr_laws.proofs.Chains.{spells_first}
 use Rattle.ada_expr_laws.proofs.Stopper.{stopper, stopper_ends}
 use Rattle.ada_expr_laws.proofs.Behinds.{behind_spells}
-use Rattle.ada_parser.proofs.KitPieces.{KeyAt, Closing, closing_key, closing_then, placed_key, key_placed, key_then, after_key, Same, same_self, same_turn, same_through, same_then, same_grouped}
+use Rattle.ada_parser.proofs.KitPieces.{KeyAt, Closing, closing_key, closing_then, placed_key, key_placed, key_then, after_key, Same, same_self, same_turn, same_through, same_then, same_grouped, tail_of}
 use Rattle.ada_parser.proofs.KitReading.{Made, Both, made_fit, made_bind, made_then, made_key, made_pure, law_word, law_closed, key_taken, taken_key, starts_key, starts_last}
-use Rattle.ada_parser.proofs.KitDeeper.{careful_in_deeper, careful_behind, operand_careful, NameEnd, law_end_of, closing_end}
-use Rattle.ada_parser.proofs.KitLeading.{symbol_at}
+use Rattle.ada_parser.proofs.KitDeeper.{careful_in_deeper, careful_behind, operand_careful, NameEnd, law_end_of, closing_end, neither, no_some}
+use Rattle.ada_parser.proofs.KitLeading.{symbol_at, or_is}
 use Rattle.ada_parser.proofs.Narrowing.{Narrow, narrow_where, narrow_starts, passed_by, law_either}
 use Rattle.ada_parser.proofs.Formals.{FormalsBehind, law_formals_from, FormalsTexts, EndsFormals, law_formals, formals_start}
 use Rattle.ada_parser.proofs.WordExpr.{FromTexts, law_from, operates, stays, some_behind}
 use Rattle.ada_parser.proofs.WordGet.{goes_so}
-use Rattle.ada_parser.proofs.StmtLevels.{EndsStmts, StmtsTexts, AcceptTexts, LevelLaws, law_stmts, Has, has_then, has_key, has_at, nulls, has_nulls}
+use Rattle.ada_parser.proofs.StmtLevels.{EndsStmts, StmtsTexts, AcceptTexts, LevelLaws, law_stmts, Has, has_then, has_key, has_at, nulls, has_nulls, end_stmts}
 use Rattle.ada_parser.proofs.StmtSimple.{LedBy}
 use Rattle.ada_parser.proofs.StmtLoops.{same_longer, placed_same}
-
-abbrev tail_of : List Item → List Item
-tail_of [] = []
-tail_of (x ∷ list) = list
 
 abbrev Found_behind : Type 0
 Found_behind = Behind PExpr
@@ -81,18 +77,6 @@ refuses i k ts none = rw none refl
 
 abbrev goes_on : Item → Bool
 goes_on x = goes_on_name x || is_symbol key.LeftParen x || is_symbol key.RightParen x
-
-neither : (a b : Bool) → (a || b) ≡ false → (a ≡ false) × (b ≡ false)
-neither true b e = absurd (true≢false e)
-neither false b e = (refl, e)
-
-either : (a b : Bool) → (a || b) ≡ true → (a ≡ true) ⊎ (b ≡ true)
-either true b e = inl refl
-either false b e = inr e
-
-no_some : {A : Type 0} (m : Option A) → is_some m ≡ false → m ≡ None
-no_some (Some x) e = absurd (true≢false e)
-no_some None e = refl
 
 module _ (w : Word) where
   abbrev from_name : ℕ → Reader Item Found_behind
@@ -135,11 +119,11 @@ module _ (w : Word) where
       (λ goes. ⊎_elim
       (λ tick. let (at, named) = symbol_at key.Tick k tick in subst (λ t. (e : ℕ) × Begins (FromName e) (t ∷ [])) (sym named) (tick_from at))
       (λ some. operator_from k some)
-      (either (is_symbol key.Tick k) (operates k) (sym (goes_so k) ∙ goes)))
+      (or_is (is_symbol key.Tick k) (operates k) (sym (goes_so k) ∙ goes)))
       (λ paren. let (at, named) = symbol_at key.LeftParen k paren in subst (λ t. (e : ℕ) × Begins (FromName e) (t ∷ [])) (sym named) (paren_from at))
-      (either (goes_on_name k) (is_symbol key.LeftParen k) open_))
+      (or_is (goes_on_name k) (is_symbol key.LeftParen k) open_))
       (λ close. let (at, named) = symbol_at key.RightParen k close in subst (λ t. (e : ℕ) × Begins (FromName e) (t ∷ [])) (sym named) (close_from at))
-      (either (goes_on_name k || is_symbol key.LeftParen k) (is_symbol key.RightParen k) is)
+      (or_is (goes_on_name k || is_symbol key.LeftParen k) (is_symbol key.RightParen k) is)
 
   passes_from : (k : Item) (ts : List Item) → goes_on k ≡ false → from_name 0 (k ∷ ts) ≡ Fault false (k ∷ ts)
   passes_from k ts off =
@@ -186,7 +170,7 @@ module _ (w : Word) where
   mark_ends k is = ⊎_elim
       (λ colon. let (at, named) = symbol_at key.Colon k colon in subst (Ends Logical) (sym named) (((((refl, refl), refl), refl), refl), refl))
       (λ comma. let (at, named) = symbol_at key.Comma k comma in subst (Ends Logical) (sym named) (((((refl, refl), refl), refl), refl), refl))
-      (either (is_symbol key.Colon k) (is_symbol key.Comma k) is)
+      (or_is (is_symbol key.Colon k) (is_symbol key.Comma k) is)
 
   -- no expression goes on with a mark of a formal
   no_mark : (e : ℕ) (i : PExpr) (k : Item) (more : List Item) → FromTexts w e i (k ∷ more) → is_formal_mark k ≡ true → ⊥
@@ -377,10 +361,6 @@ semicolon_no_paren at = refl
 semicolon_no_do : (at : Span) → symbol key.Do (symbol_item key.Semicolon at) ≡ None
 unfolding same
 semicolon_no_do at = refl
-
-end_stmts : (at : Span) → EndsStmts (symbol_item key.End at)
-unfolding same
-end_stmts at = refl
 
 module _ (source : Source) where
   abbrev StmtsEnd : Word → PStmts → ℕ → Span → Spelling

@@ -26,19 +26,13 @@ use Rattle.lawful_reader.proofs.Fitting.{law_fit, careful_fit}
 use Rattle.ada_expr_laws.specs.Stopping.{Ends}
 use Rattle.ada_expr_laws.proofs.Primaries.{no_place, some_word}
 use Rattle.ada_expr_laws.proofs.Plainly.{after_symbol, symbol_then}
-use Rattle.ada_parser.proofs.KitPieces.{KeyAt, Closing, closing_key, closing_then, key_then, after_key, last_append, Same, same_through, same_behind, same_grouped}
+use Rattle.ada_parser.proofs.KitPieces.{KeyAt, key_then, after_key, last_append, Same, same_through, same_behind, same_grouped}
 use Rattle.ada_parser.proofs.KitReading.{Made, Both, made_then, made_pure, law_key, law_closed}
 use Rattle.ada_parser.proofs.KitDeeper.{Expressions, law_expression}
 use Rattle.ada_parser.proofs.KitLeading.{Led, led_refuse, led_on, led_below, led_passed}
 use Rattle.ada_parser.proofs.StmtLevels.{EndsStmts, AnyTexts, AcceptTexts, AltTexts, LevelLaws, law_any_stmts, Has, has_then, has_nothing, has_key, has_at, zero_is, has_zero}
-use Rattle.ada_parser.proofs.StmtSimple.{DelayedTexts, law_delayed, has_duration}
-use Rattle.ada_parser.proofs.StmtBodies.{accept_end, any_end}
-
-abbrev end_of : Span → ℕ
-end_of s = s.end
-
-abbrev from_to_end : Span → ℕ → Span
-from_to_end first last = record { start = first.start; end = last }
+use Rattle.ada_parser.proofs.StmtSimple.{DelayedTexts, law_delayed, has_duration, delay_closing}
+use Rattle.ada_parser.proofs.StmtBodies.{accept_end, any_end, end_of, from_to_end}
 
 -- the place of an alternative whose guard may have begun it
 abbrev StandsFrom : Option Span → Span → List Item → Type 0
@@ -46,7 +40,7 @@ StandsFrom guard s [] = ⊥
 StandsFrom guard s (x ∷ more) = s ≡ from_to (first_of_alt guard x.span) (last_place x.span more)
 
 -- what an alternative begins with that has no guard
-accept_first : (source : Source) (d : ℕ) (a : PAccept) (text : List Item) → IsAccept source d a text → (lead : Span) × (back : List Item) × (text ≡ symbol_item key.Accept lead ∷ back)
+pub accept_first : (source : Source) (d : ℕ) (a : PAccept) (text : List Item) → IsAccept source d a text → (lead : Span) × (back : List Item) × (text ≡ symbol_item key.Accept lead ∷ back)
 accept_first source d (accepting h absent) text ((front, back, from, (f, g, split, (at, one), rest), last), place) =
     (at, g ++ back, from ∙ ap (λ l. l ++ back) (split ∙ ap (λ l. l ++ g) one))
 accept_first source d (accepting h (present l)) text ((front, back, from, (f, g, split, (at, one), rest), last), place) =
@@ -78,9 +72,6 @@ module _ (source : Source) (g : Option PExpr) (guard : Option Span) where
   Choice = Or (Then (One (symbol key.Accept)) (λ lead. Below (AcceptAlt lead))) (Or (Then (One (symbol key.Delay)) (λ lead. Below (DelayAlt lead))) (Or (Then (One (symbol key.Terminate)) TerminateAlt) Never))
 
   -- ---- as the grammar has it
-
-  delay_closing : (n : ℕ) → Closing (λ close. Duration n ▷ KeyAt key.Semicolon close) (Duration n ▷ Key key.Semicolon)
-  delay_closing n = closing_then (Duration n) (closing_key key.Semicolon)
 
   accept_place : (e : ℕ) (lead : Span) (a : PAccept) (l : PStmts) (f h : List Item) → AcceptTexts source lead e a f → AnyStmts source e l h →
       from_to (first_of_alt guard lead) (last_span (accept_span a) l) ≡ from_to (first_of_alt guard lead) (last_place lead (f ++ h))

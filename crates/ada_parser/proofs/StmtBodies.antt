@@ -29,13 +29,13 @@ use Rattle.ada_expr_laws.proofs.Plainly.{after_symbol, symbol_then}
 use Rattle.ada_parser.proofs.KitPieces.{KeyAt, Closing, closing_key, closing_then, placed_key, key_placed, key_then, after_key, last_append, Same, same_self, same_turn, same_through, same_then, same_behind, same_grouped}
 use Rattle.ada_parser.proofs.KitReading.{Made, Both, made_fit, made_bind, made_key, made_pure, law_closed, law_word, law_separated, starts_key}
 use Rattle.ada_parser.proofs.KitWhens.{WhenPart, WhenLast, PartTexts, IsSomePart, SomeTexts, law_some_whens}
-use Rattle.ada_parser.proofs.StmtLevels.{EndsStmts, EndsHandlers, IsSomeHandler, StmtsTexts, HandlersTexts, LevelLaws, law_stmts, Has, has_then, has_nothing, has_key, has_at, nulls, has_nulls}
+use Rattle.ada_parser.proofs.StmtLevels.{EndsStmts, EndsHandlers, IsSomeHandler, StmtsTexts, HandlersTexts, LevelLaws, law_stmts, Has, has_then, has_nothing, has_key, has_at, nulls, has_nulls, when_stmts, ArrowStmts}
 use Rattle.ada_parser.proofs.StmtSimple.{LedBelow}
 use Rattle.ada_parser.proofs.StmtLoops.{placed_same}
 
 -- ---- where statements end
 
-abbrev end_of : Span → ℕ
+abbrev pub end_of : Span → ℕ
 end_of s = s.end
 
 -- the end of a node is the end of its last item
@@ -79,7 +79,7 @@ stmts_end source d no_stmt text never at before = absurd never
 stmts_end source d (stmt_then x l) text (front, back, from, one, rest) at before =
     rw from (ap end_of (last_append at front back) ∙ any_end source d l back rest (last_place at front) (stmt_span x) (stmt_end source d x front one at))
 
-abbrev from_to_end : Span → ℕ → Span
+abbrev pub from_to_end : Span → ℕ → Span
 from_to_end first last = record { start = first.start; end = last }
 
 -- the place of a node by the end of its last part
@@ -105,10 +105,6 @@ arrow_names : (at : Span) → EndsNames (symbol_item key.Arrow at)
 unfolding same
 arrow_names at = refl
 
-when_ends : (at : Span) → EndsStmts (symbol_item key.When at)
-unfolding same
-when_ends at = refl
-
 abbrev HandlerNames : Texts Item (List Word)
 HandlerNames d ws = Separated (Key key.Bar) Named ws
 
@@ -121,29 +117,26 @@ chosen true answer ts f = refl
 chosen false answer ts f = refl
 
 module _ (source : Source) where
-  abbrev ArrowStmts : ℕ → PStmts → Spelling
-  ArrowStmts d l = Key key.Arrow ▷ Stmts source d l
-
   abbrev HandlerRest : Span → Texts Item PHandler
-  HandlerRest lead d (handler ws l s) text = (s ≡ from_to lead (last_span lead l)) × (HandlerNames d ws ▷ ArrowStmts d l) text
+  HandlerRest lead d (handler ws l s) text = (s ≡ from_to lead (last_span lead l)) × (HandlerNames d ws ▷ ArrowStmts source d l) text
 
   abbrev OthersHandler : Span → Texts Item PHandler
-  OthersHandler lead d (handler ws l s) text = (ws ≡ []) × (s ≡ from_to lead (last_span lead l)) × ArrowStmts d l text
+  OthersHandler lead d (handler ws l s) text = (ws ≡ []) × (s ≡ from_to lead (last_span lead l)) × ArrowStmts source d l text
 
-  rest_is : (e : ℕ) (lead : Span) (x : PHandler) (text : List Item) → HandlerRest lead e x text → Made (λ v. handler_tree lead v.0 v.1) (Both HandlerNames (λ ws. ArrowStmts)) e x text
+  rest_is : (e : ℕ) (lead : Span) (x : PHandler) (text : List Item) → HandlerRest lead e x text → Made (λ v. handler_tree lead v.0 v.1) (Both HandlerNames (λ ws. ArrowStmts source)) e x text
   rest_is e lead (handler ws l s) text (place, is) = ((ws, l), ap (handler ws l) place, is)
 
   law_handler_part : (d : ℕ) (lead : Span) {r r' : Readers} → LevelLaws source d r r' → Lawful d (handler_part r lead) (handler_part r' lead) (HandlerRest lead) EndsStmts
-  law_handler_part d lead laws = made_fit (λ v. handler_tree lead v.0 v.1) (Both HandlerNames (λ ws. ArrowStmts)) (λ e v text is. (refl, is)) (λ e x text is. rest_is e lead x text is)
-      (made_bind {R = EndsNames} (handler_tree lead) (λ ws. ArrowStmts) (law_separated key.Bar {U = Anything} (law_word d Anything) (λ at. tt) (λ x stop. tt) (λ x stop. stop))
+  law_handler_part d lead laws = made_fit (λ v. handler_tree lead v.0 v.1) (Both HandlerNames (λ ws. ArrowStmts source)) (λ e v text is. (refl, is)) (λ e x text is. rest_is e lead x text is)
+      (made_bind {R = EndsNames} (handler_tree lead) (λ ws. ArrowStmts source) (law_separated key.Bar {U = Anything} (law_word d Anything) (λ at. tt) (λ x stop. tt) (λ x stop. stop))
       (λ ws. made_key key.Arrow (handler_tree lead ws) (StmtsTexts source) (made_pure (handler_tree lead ws) (law_stmts source laws)))
       (λ ws. starts_key key.Arrow (handler_tree lead ws) (StmtsTexts source) arrow_names))
 
-  others_is : (e : ℕ) (lead : Span) (x : PHandler) (text : List Item) → OthersHandler lead e x text → Made (handler_tree lead []) ArrowStmts e x text
+  others_is : (e : ℕ) (lead : Span) (x : PHandler) (text : List Item) → OthersHandler lead e x text → Made (handler_tree lead []) (ArrowStmts source) e x text
   others_is e lead (handler ws l s) text (none, place, is) = (l, ap (λ v. handler v l s) none ∙ ap (handler [] l) place, is)
 
   law_handler_others : (d : ℕ) (lead : Span) {r r' : Readers} → LevelLaws source d r r' → Lawful d (handler_others r lead) (handler_others r' lead) (OthersHandler lead) EndsHandlers
-  law_handler_others d lead laws = made_fit (handler_tree lead []) ArrowStmts (λ e l text is. (refl, refl, is)) (λ e x text is. others_is e lead x text is)
+  law_handler_others d lead laws = made_fit (handler_tree lead []) (ArrowStmts source) (λ e l text is. (refl, refl, is)) (λ e x text is. others_is e lead x text is)
       (made_key key.Arrow (handler_tree lead []) (StmtsTexts source) (made_pure (handler_tree lead []) (law_stops (λ x stop. stop.0) (law_stmts source laws))))
 
   rest_starts : (d : ℕ) (lead : Span) → Starts d (HandlerRest lead) EndsStmts (IsPassed (symbol key.Others))
@@ -153,41 +146,41 @@ module _ (source : Source) where
     starts (handler (w ∷ more) l s) text k (place, (front, back, from, (f, g, split, one, other), rest)) = rw from (rw split (rw one refl))
 
   -- the whole handler, as the grammar groups it
-  raised_same : (e : ℕ) (w : Word) (more : List Word) (l : PStmts) → Same (Key key.When ▷ (HandlerNames e (w ∷ more) ▷ ArrowStmts e l)) (WhenRaised (w ∷ more) ▷ Stmts source e l)
+  raised_same : (e : ℕ) (w : Word) (more : List Word) (l : PStmts) → Same (Key key.When ▷ (HandlerNames e (w ∷ more) ▷ ArrowStmts source e l)) (WhenRaised (w ∷ more) ▷ Stmts source e l)
   raised_same e w more l = same_through (same_behind (Key key.When) (same_grouped (HandlerNames e (w ∷ more)) (Key key.Arrow) (Stmts source e l)))
       (same_grouped (Key key.When) (HandlerNames e (w ∷ more) ▷ Key key.Arrow) (Stmts source e l))
 
-  others_same : (e : ℕ) (l : PStmts) → Same (Key key.When ▷ (Key key.Others ▷ ArrowStmts e l)) (WhenOthers ▷ Stmts source e l)
+  others_same : (e : ℕ) (l : PStmts) → Same (Key key.When ▷ (Key key.Others ▷ ArrowStmts source e l)) (WhenOthers ▷ Stmts source e l)
   others_same e l = same_through (same_behind (Key key.When) (same_grouped (Key key.Others) (Key key.Arrow) (Stmts source e l)))
       (same_grouped (Key key.When) (Key key.Others ▷ Key key.Arrow) (Stmts source e l))
 
-  arrow_end : (e : ℕ) (l : PStmts) → EndsWith l (ArrowStmts e l)
+  arrow_end : (e : ℕ) (l : PStmts) → EndsWith l (ArrowStmts source e l)
   arrow_end e l = ends_then l (Key key.Arrow) (stmts_end source e l)
 
   part_to : (e : ℕ) (w : Word) (more : List Word) (l : PStmts) (s : Span) (text : List Item) → WhenPart HandlerRest e (handler (w ∷ more) l s) text → IsHandler source (suc e) (handler (w ∷ more) l s) text
   part_to e w more l s text (lead, back, from, (place, is)) =
       rw from (
-        (raised_same e w more l).to (symbol_item key.When lead ∷ back) (key_then key.When (HandlerNames e (w ∷ more) ▷ ArrowStmts e l) lead back is),
+        (raised_same e w more l).to (symbol_item key.When lead ∷ back) (key_then key.When (HandlerNames e (w ∷ more) ▷ ArrowStmts source e l) lead back is),
         place ∙ stands_with (symbol_item key.When lead) back (last_span lead l) (ends_then l (HandlerNames e (w ∷ more)) (arrow_end e l) back is lead lead),
       )
 
   to_part : (e : ℕ) (w : Word) (more : List Word) (l : PStmts) (s : Span) (text : List Item) → IsHandler source (suc e) (handler (w ∷ more) l s) text → WhenPart HandlerRest e (handler (w ∷ more) l s) text
   to_part e w more l s text (is, place) =
-      let (lead, back, from, rest) = after_key key.When (HandlerNames e (w ∷ more) ▷ ArrowStmts e l) text ((raised_same e w more l).back text is) in
+      let (lead, back, from, rest) = after_key key.When (HandlerNames e (w ∷ more) ▷ ArrowStmts source e l) text ((raised_same e w more l).back text is) in
       (lead, back, from, (with_stands s (symbol_item key.When lead) back (last_span lead l) (ends_then l (HandlerNames e (w ∷ more)) (arrow_end e l) back rest lead lead) (subst (Stands s) from place), rest))
 
   last_to : (e : ℕ) (l : PStmts) (s : Span) (text : List Item) → WhenLast OthersHandler e (handler [] l s) text → IsHandler source (suc e) (handler [] l s) text
   last_to e l s text (lead, at, back, from, (none, place, is)) =
-      let rest : (Key key.Others ▷ ArrowStmts e l) (symbol_item key.Others at ∷ back) = key_then key.Others (ArrowStmts e l) at back is in
+      let rest : (Key key.Others ▷ ArrowStmts source e l) (symbol_item key.Others at ∷ back) = key_then key.Others (ArrowStmts source e l) at back is in
       rw from (
-        (others_same e l).to (symbol_item key.When lead ∷ symbol_item key.Others at ∷ back) (key_then key.When (Key key.Others ▷ ArrowStmts e l) lead (symbol_item key.Others at ∷ back) rest),
+        (others_same e l).to (symbol_item key.When lead ∷ symbol_item key.Others at ∷ back) (key_then key.When (Key key.Others ▷ ArrowStmts source e l) lead (symbol_item key.Others at ∷ back) rest),
         place ∙ stands_with (symbol_item key.When lead) (symbol_item key.Others at ∷ back) (last_span lead l) (ends_then l (Key key.Others) (arrow_end e l) (symbol_item key.Others at ∷ back) rest lead lead),
       )
 
   to_last : (e : ℕ) (l : PStmts) (s : Span) (text : List Item) → IsHandler source (suc e) (handler [] l s) text → WhenLast OthersHandler e (handler [] l s) text
   to_last e l s text (is, place) =
-      let (lead, more, from, rest) = after_key key.When (Key key.Others ▷ ArrowStmts e l) text ((others_same e l).back text is) in
-      let (at, back, split, last) = after_key key.Others (ArrowStmts e l) more rest in (
+      let (lead, more, from, rest) = after_key key.When (Key key.Others ▷ ArrowStmts source e l) text ((others_same e l).back text is) in
+      let (at, back, split, last) = after_key key.Others (ArrowStmts source e l) more rest in (
         lead,
         at,
         back,
@@ -247,7 +240,7 @@ module _ (source : Source) where
 
   pub law_handlers : (d : ℕ) {r r' : Readers} → LevelLaws source d r r' → Lawful d (handlers_at r) (handlers_at r') (HandlersTexts source) EndsHandlers
   law_handlers d {r} {r'} laws = law_same (handlers_look r) (handlers_look r') (made_fit handlers_tree (SomeTexts HandlerRest OthersHandler) made_handlers handlers_made
-      (made_pure handlers_tree (law_some_whens (λ lead. law_handler_part d lead laws) (λ lead. law_handler_others d lead laws) (rest_starts d) when_ends (λ x stop. stop.0) (λ x stop. stop.1))))
+      (made_pure handlers_tree (law_some_whens (λ lead. law_handler_part d lead laws) (λ lead. law_handler_others d lead laws) (rest_starts d) when_stmts (λ x stop. stop.0) (λ x stop. stop.1))))
 
 -- ---- bodies
 

@@ -30,7 +30,7 @@ use Rattle.ada_parser.proofs.KitPieces.{KeyAt, Closing, closing_key, closing_the
 use Rattle.ada_parser.proofs.KitReading.{Made, Both, made_fit, made_bind, made_key, made_pure, law_key, law_closed, law_separated, starts_key, starts_both}
 use Rattle.ada_parser.proofs.KitDeeper.{Expressions, law_expression}
 use Rattle.ada_parser.proofs.KitWhens.{WhenPart, LastText, PartTexts, WhensTexts, law_whens}
-use Rattle.ada_parser.proofs.StmtLevels.{EndsStmts, EndsElse, EndsHandlers, StmtsTexts, LevelLaws, law_stmts, law_else, else_starts, Has, has_then, has_nothing, has_key, has_at, zero_is, has_zero, nulls, has_nulls}
+use Rattle.ada_parser.proofs.StmtLevels.{EndsStmts, EndsElse, EndsHandlers, StmtsTexts, LevelLaws, law_stmts, law_else, else_starts, Has, has_then, has_nothing, has_key, has_at, zero_is, has_zero, nulls, has_nulls, when_stmts, ArrowStmts}
 use Rattle.ada_parser.proofs.StmtSimple.{LedBelow}
 
 -- which items may stand behind what
@@ -167,10 +167,6 @@ arrow_ends : (at : Span) → EndsChoices (symbol_item key.Arrow at)
 unfolding same
 arrow_ends at = (((((((refl, refl), refl), refl), refl), refl), refl), refl)
 
-when_ends : (at : Span) → EndsStmts (symbol_item key.When at)
-unfolding same
-when_ends at = refl
-
 end_whens : (at : Span) → EndsHandlers (symbol_item key.End at)
 unfolding same
 end_whens at = (refl, refl)
@@ -221,21 +217,18 @@ abbrev Choices : Texts Item (List PChoice)
 Choices d list = Separated (Key key.Bar) (Choice d) list
 
 module _ (source : Source) where
-  abbrev ArrowStmts : ℕ → PStmts → Spelling
-  ArrowStmts d l = Key key.Arrow ▷ Stmts source d l
-
   abbrev CasePart : Span → Texts Item PCaseArm
-  CasePart lead d (case_arm choices l) text = (Choices d choices ▷ ArrowStmts d l) text
+  CasePart lead d (case_arm choices l) text = (Choices d choices ▷ ArrowStmts source d l) text
 
   abbrev OthersRest : Span → Texts Item PStmts
-  OthersRest lead d l text = ArrowStmts d l text
+  OthersRest lead d l text = ArrowStmts source d l text
 
-  part_is : (e : ℕ) (lead : Span) (x : PCaseArm) (text : List Item) → CasePart lead e x text → Made (λ v. case_arm v.0 v.1) (Both Choices (λ choices. ArrowStmts)) e x text
+  part_is : (e : ℕ) (lead : Span) (x : PCaseArm) (text : List Item) → CasePart lead e x text → Made (λ v. case_arm v.0 v.1) (Both Choices (λ choices. ArrowStmts source)) e x text
   part_is e lead (case_arm choices l) text is = ((choices, l), refl, is)
 
   law_case_part : (d : ℕ) (lead : Span) {r r' : Readers} → LevelLaws source d r r' → Lawful d (case_part d r lead) (case_part (suc d) r' lead) (CasePart lead) EndsStmts
-  law_case_part d lead laws = made_fit (λ v. case_arm v.0 v.1) (Both Choices (λ choices. ArrowStmts)) (λ e v text is. is) (λ e x text is. part_is e lead x text is)
-      (made_bind {R = EndsChoices} (λ choices l. case_arm choices l) (λ choices. ArrowStmts) (law_separated key.Bar (law_choice d) bar_ends (λ x stop. stop.0) (λ x stop. stop.1))
+  law_case_part d lead laws = made_fit (λ v. case_arm v.0 v.1) (Both Choices (λ choices. ArrowStmts source)) (λ e v text is. is) (λ e x text is. part_is e lead x text is)
+      (made_bind {R = EndsChoices} (λ choices l. case_arm choices l) (λ choices. ArrowStmts source) (law_separated key.Bar (law_choice d) bar_ends (λ x stop. stop.0) (λ x stop. stop.1))
       (λ choices. made_key key.Arrow (λ l. case_arm choices l) (StmtsTexts source) (made_pure (λ l. case_arm choices l) (law_stmts source laws)))
       (λ choices. starts_key key.Arrow (λ l. case_arm choices l) (StmtsTexts source) arrow_ends))
 
@@ -249,8 +242,8 @@ module _ (source : Source) where
   case_arm_same : (e : ℕ) (x : PCaseArm) → Same (WhenPart CasePart e x) (IsCaseArm source e x)
   case_arm_same e (case_arm choices l) = same_through
       (record {
-        to = λ text (lead, back, from, is). subst (Key key.When ▷ (Choices e choices ▷ ArrowStmts e l)) (sym from) (key_then key.When (Choices e choices ▷ ArrowStmts e l) lead back is);
-        back = λ text is. let (lead, back, from, rest) = after_key key.When (Choices e choices ▷ ArrowStmts e l) text is in (lead, back, from, rest);
+        to = λ text (lead, back, from, is). subst (Key key.When ▷ (Choices e choices ▷ ArrowStmts source e l)) (sym from) (key_then key.When (Choices e choices ▷ ArrowStmts source e l) lead back is);
+        back = λ text is. let (lead, back, from, rest) = after_key key.When (Choices e choices ▷ ArrowStmts source e l) text is in (lead, back, from, rest);
       })
       (same_through (same_behind (Key key.When) (same_grouped (Choices e choices) (Key key.Arrow) (Stmts source e l))) (same_grouped (Key key.When) (Choices e choices ▷ Key key.Arrow) (Stmts source e l)))
 
@@ -259,11 +252,11 @@ module _ (source : Source) where
   last_same e None = same_self Nothing
   last_same e (Some l) = same_through
       (record {
-        to = λ text (lead, at, back, from, is). subst (Key key.When ▷ (Key key.Others ▷ ArrowStmts e l)) (sym from)
-            (key_then key.When (Key key.Others ▷ ArrowStmts e l) lead (symbol_item key.Others at ∷ back) (key_then key.Others (ArrowStmts e l) at back is));
+        to = λ text (lead, at, back, from, is). subst (Key key.When ▷ (Key key.Others ▷ ArrowStmts source e l)) (sym from)
+            (key_then key.When (Key key.Others ▷ ArrowStmts source e l) lead (symbol_item key.Others at ∷ back) (key_then key.Others (ArrowStmts source e l) at back is));
         back = λ text is.
-            let (lead, more, from, rest) = after_key key.When (Key key.Others ▷ ArrowStmts e l) text is in
-            let (at, back, split, last) = after_key key.Others (ArrowStmts e l) more rest in
+            let (lead, more, from, rest) = after_key key.When (Key key.Others ▷ ArrowStmts source e l) text is in
+            let (at, back, split, last) = after_key key.Others (ArrowStmts source e l) more rest in
             (lead, at, back, from ∙ ap (λ l. symbol_item key.When lead ∷ l) split, last);
       })
       (same_through (same_behind (Key key.When) (same_grouped (Key key.Others) (Key key.Arrow) (Stmts source e l))) (same_grouped (Key key.When) (Key key.Others ▷ Key key.Arrow) (Stmts source e l)))
@@ -317,7 +310,7 @@ module _ (source : Source) where
       (made_bind (case_tree lead) CaseBehind (law_expression d)
       (λ selector. made_key key.Is (λ v. case_tree lead selector v) (Both CaseWhens (λ x. EndShut key.Case))
       (made_bind {R = EndsHandlers} (λ x close. case_tree lead selector (x, close)) (λ x. EndShut key.Case)
-      (law_whens (λ at. law_case_part d at laws) (λ at. law_key key.Arrow (law_stops (λ x stop. stop.0) (law_stmts source laws))) (part_starts d) when_ends (λ x stop. stop.0) (λ x stop. stop.1))
+      (law_whens (λ at. law_case_part d at laws) (λ at. law_key key.Arrow (law_stops (λ x stop. stop.0) (law_stmts source laws))) (part_starts d) when_stmts (λ x stop. stop.0) (λ x stop. stop.1))
       (λ x. law_end d key.Case (λ close. case_tree lead selector (x, close)) Anything)
       (λ x. starts_key key.End (λ close. case_tree lead selector (x, close)) (λ e close. Key key.Case ▷ KeyAt key.Semicolon close) end_whens)))
       (λ selector. starts_key key.Is (λ v. case_tree lead selector v) (Both CaseWhens (λ x. EndShut key.Case)) is_ends))

@@ -4,7 +4,7 @@ use Rattle.std.specs.Prelude.{codes, is_some, if◌then◌else◌}
 use Rattle.std.proofs.lemmas.List.{append_assoc}
 use Rattle.ada_tree.specs.declared.naming.Span.{Span}
 use Rattle.ada_tree.specs.declared.naming.Word.{Word}
-use Rattle.ada_tree.specs.PlainStmt.{PScheme, LWhile, LFor, PStmt, SNull, SAssign, SDelay, SExit, SRaise, SAbort, SCall, SAccept, SWait, SConditional, STimed, SPut, SPutLine, SNewLine, SGet, SIf, SCase, SBlock, SLoop, PStmts, absent, present, PAccept, accepting, body}
+use Rattle.ada_tree.specs.PlainStmt.{PScheme, LWhile, LFor, PStmt, SNull, SAssign, SDelay, SExit, SRaise, SAbort, SCall, SAccept, SWait, SConditional, STimed, SPut, SPutLine, SNewLine, SGet, SIf, SCase, SBlock, SLoop, PStmts, body}
 use Rattle.ada_expr_parser.specs.declared.symbols.Symbol.{Symbol}
 use Rattle.ada_expr_parser.specs.declared.symbols.Symbol.TheVariants as key
 use Rattle.ada_expr_parser.specs.declared.items.ItemKind.TheVariants as item
@@ -12,7 +12,7 @@ use Rattle.ada_expr_parser.specs.declared.items.Item.{Item}
 use Rattle.ada_expr_parser.specs.Tests.{same, symbol, word}
 use Rattle.ada_expr_parser.specs.Grammar.{symbol_item, word_item}
 use Rattle.ada_parser.specs.Spelling.{Source, Key}
-use Rattle.ada_parser.specs.Statements.{IsStmt, IsAccept}
+use Rattle.ada_parser.specs.Statements.{IsStmt}
 use Rattle.ada_parser.specs.Reading.{is_symbol}
 use Rattle.ada_parser.specs.ReadingStatements.{Readers, begins_stmt, stmts, body_rest, is_predefined, word_rest, named_rest, named_loop, select_rest, if_rest, case_rest, block_rest, while_rest, for_rest, loop_rest, simple_at, stmt_at, level_at, inner_at, readers}
 use Rattle.lawful_reader.specs.Readers.{Answer, Found, Fault}
@@ -34,13 +34,10 @@ use Rattle.ada_parser.proofs.StmtSimple.{LedBy, LedBelow, IsNull, law_null, IsDe
 use Rattle.ada_parser.proofs.StmtIf.{IsIf, law_if, some_if, IsCase, law_case, some_case}
 use Rattle.ada_parser.proofs.StmtLoops.{IsWhile, law_while, some_while, IsFor, law_for, some_for, IsLoop, law_loop, some_loop, NamedTexts, law_named, some_named, whole_while, whole_for, whole_loop}
 use Rattle.ada_parser.proofs.StmtBodies.{IsBlock, law_block, some_block, law_handlers, EndsBody, BodyTexts, law_body}
-use Rattle.ada_parser.proofs.StmtAlts.{pred_same, law_alt}
+use Rattle.ada_parser.proofs.StmtAlts.{pred_same, law_alt, accept_first}
 use Rattle.ada_parser.proofs.StmtSelect.{IsSelect, law_select, some_select}
 use Rattle.ada_parser.proofs.StmtAccept.{IsAccepting, law_accept, law_accepting}
-
-abbrev tail_of : List Item → List Item
-tail_of [] = []
-tail_of (x ∷ list) = list
+use Rattle.ada_parser.proofs.KitPieces.{tail_of}
 
 -- ---- behind a name: a loop with it, or a statement with the name
 
@@ -122,13 +119,6 @@ module _ (source : Source) where
       (law_below {test = symbol key.Colon} (λ e at. named_loop e r w) (λ e at. named_loop e r' w) (some_named source w) d (λ e is at. law_named source e w at (laws e is)) (word_law source d w) (word_no_colon d w))
 
 -- ---- each choice
-
--- what an accept statement begins with
-accept_lead : (source : Source) (d : ℕ) (a : PAccept) (text : List Item) → IsAccept source d a text → (lead : Span) × (back : List Item) × (text ≡ symbol_item key.Accept lead ∷ back)
-accept_lead source d (accepting h absent) text ((front, back, from, (f, g, split, (at, one), rest), last), place) =
-    (at, g ++ back, from ∙ ap (λ l. l ++ back) (split ∙ ap (λ l. l ++ g) one))
-accept_lead source d (accepting h (present l)) text ((front, back, from, (f, g, split, (at, one), rest), last), place) =
-    (at, g ++ back, from ∙ ap (λ l. l ++ back) (split ∙ ap (λ l. l ++ g) one))
 
 module _ (source : Source) where
   abbrev Compound : (PStmt → Type 0) → Symbol → Texts Item PStmt
@@ -232,7 +222,7 @@ module _ (source : Source) where
   is_choice d (SRaise w s) text is = inr (inr (inr (inr (inr (inr (inr (inr (inr (inr (inl (put_simple IsRaise key.Raise d (SRaise w s) text is.0.0 is.0.1 tt is.0.2 is.0.3 is)))))))))))
   is_choice d (SAbort ts s) text is = inr (inr (inr (inr (inr (inr (inr (inr (inr (inr (inr (inl (put_simple IsAbort key.Abort d (SAbort ts s) text is.0.0 is.0.1 tt is.0.2 is.0.3 is))))))))))))
   is_choice d (SAccept a s) text is =
-      let (at, back, from) = accept_lead source d a text is.0 in
+      let (at, back, from) = accept_first source d a text is.0 in
       inr (inr (inr (inr (inr (inr (inr (inr (inr (inr (inr (inr (inl (put_simple (IsAccepting source) key.Accept d (SAccept a s) text (symbol_item key.Accept at ∷ []) back tt from (at, refl) is)))))))))))))
   is_choice d (SAssign t e s) text is = put_word d (SAssign t e s) text t.name (is.0.3.back ++ is.0.1) (is.0.2 ∙ ap (λ l. l ++ is.0.1) is.0.3.text_is) is
   is_choice d (SCall c s) text is =

@@ -44,6 +44,14 @@ abbrev pub IsSomeHandler : PHandlers → Type 0
 IsSomeHandler no_handler = ⊥
 IsSomeHandler (handler_then x l) = Unit {0}
 
+pub end_stmts : (at : Span) → EndsStmts (symbol_item key.End at)
+unfolding same
+end_stmts at = refl
+
+pub when_stmts : (at : Span) → EndsStmts (symbol_item key.When at)
+unfolding same
+when_stmts at = refl
+
 module _ (source : Source) where
   abbrev pub StmtTexts : Texts Item PStmt
   StmtTexts d x text = IsStmt source d x text
@@ -132,7 +140,12 @@ module _ (source : Source) where
     starts : (o : PMaybe) (text : List Item) (x : Item) → ElsePart source d o text → S x → R (first_of x text)
     starts absent text x none stop = rw none (ends x stop)
     starts (present l) text x (front, back, from, (at, one), is) stop = rw from (rw one (at_else at))
-    -- ---- some text of a piece
+    -- `=> stmts`
+
+abbrev pub ArrowStmts : Source → ℕ → PStmts → Spelling
+ArrowStmts source d l = Key key.Arrow ▷ Stmts source d l
+
+-- ---- some text of a piece
 
 abbrev pub Has : Spelling → Type 0
 Has P = (text : List Item) × P text

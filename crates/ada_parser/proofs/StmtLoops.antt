@@ -33,7 +33,7 @@ use Rattle.ada_parser.proofs.KitPieces.{KeyAt, Closing, closing_key, closing_the
 use Rattle.ada_parser.proofs.KitReading.{Made, Both, made_fit, made_bind, made_then, made_key, law_closed, law_word, starts_key, key_taken, taken_key}
 use Rattle.ada_parser.proofs.KitDeeper.{Expressions, law_expression, again_is, again_takes}
 use Rattle.ada_parser.proofs.KitLeading.{Led, led_refuse, led_on}
-use Rattle.ada_parser.proofs.StmtLevels.{EndsStmts, StmtsTexts, LevelLaws, law_stmts, Has, has_then, has_nothing, has_key, has_at, has_word, zero_is, has_zero, nulls, has_nulls}
+use Rattle.ada_parser.proofs.StmtLevels.{EndsStmts, StmtsTexts, LevelLaws, law_stmts, Has, has_then, has_nothing, has_key, has_at, has_word, zero_is, has_zero, nulls, has_nulls, end_stmts}
 use Rattle.ada_parser.proofs.StmtSimple.{LedBelow}
 
 -- ---- what is spelled alike
@@ -91,10 +91,6 @@ module _ (source : Source) where
   unfolding same
   loop_range at = (((((refl, refl), refl), refl), refl), refl)
 
-  end_ends : (at : Span) → EndsStmts (symbol_item key.End at)
-  unfolding same
-  end_ends at = refl
-
   abbrev EndShut : Option Word → ℕ → Span → Spelling
   EndShut name e close = LoopNameAgain name ▷ KeyAt key.Semicolon close
 
@@ -128,7 +124,7 @@ module _ (source : Source) where
     law_loop_rest d c laws = made_bind {R = EndsStmts} (loop_tree c) (λ l e close. LoopEnd name (KeyAt key.Semicolon close)) (law_stmts source laws)
         (λ l. made_key key.End (loop_tree c l) (λ e close. Key key.Loop ▷ LoopNameAgain name ▷ KeyAt key.Semicolon close)
         (made_key key.Loop (loop_tree c l) (EndShut name) (law_loop_end d name (loop_tree c l))))
-        (λ l. starts_key key.End (loop_tree c l) (λ e close. Key key.Loop ▷ LoopNameAgain name ▷ KeyAt key.Semicolon close) end_ends)
+        (λ l. starts_key key.End (loop_tree c l) (λ e close. Key key.Loop ▷ LoopNameAgain name ▷ KeyAt key.Semicolon close) end_stmts)
 
     -- with the word `loop`
     law_body : (d : ℕ) {r r' : Readers} (c : Option PScheme) → LevelLaws source d r r' → Lawful d (reading.key_then key.Loop (loop_rest r name lead c)) (reading.key_then key.Loop (loop_rest r' name lead c))

@@ -97,6 +97,9 @@ law_delayed d S = made_fit (λ v. record { thousandths = v.0; close = v.1 }) (Bo
 pub has_duration : Has (Duration 0)
 has_duration = (record { kind = item.Duration 0; span = no_place } ∷ [], (no_place, refl))
 
+pub delay_closing : (n : ℕ) → Closing (λ close. Duration n ▷ KeyAt key.Semicolon close) (Duration n ▷ Key key.Semicolon)
+delay_closing n = closing_then (Duration n) (closing_key key.Semicolon)
+
 -- ---- null
 
 abbrev pub IsNull : PStmt → Type 0
@@ -123,9 +126,6 @@ abbrev delay_tree : Span → Delayed → PStmt
 delay_tree lead x = SDelay x.thousandths (from_to lead x.close)
 
 module _ (source : Source) where
-  delay_closing : (n : ℕ) → Closing (λ close. Duration n ▷ KeyAt key.Semicolon close) (Duration n ▷ Key key.Semicolon)
-  delay_closing n = closing_then (Duration n) (closing_key key.Semicolon)
-
   delay_is : (lead : Span) (e : ℕ) (x : PStmt) (text : List Item) → LedBy source IsDelay key.Delay lead e x text → Made (delay_tree lead) DelayedTexts e x text
   delay_is lead e (SDelay n s) text (kind, is) =
       let (close, place, rest) = key_placed key.Delay (delay_closing n) s lead text is in

@@ -2,7 +2,7 @@
 use Rattle.std.proofs.Common.{◌≡◌, ℕ, suc, Bool, true, false, true≢false, inl, inr, List, [], ◌∷◌, ◌++◌, None, codes, refl, sym, ap, ◌∙◌, subst}
 use Rattle.lawful_reader.specs.Readers.{Reader}
 use Rattle.lawful_reader.specs.Grammars.{Texts, One, Then, Or, Many}
-use Rattle.lawful_reader.specs.Lawful.{Lawful, Anything}
+use Rattle.lawful_reader.specs.Lawful.{Lawful, Shortens, Anything}
 use Rattle.lawful_reader.proofs.Choosing.{law_on}
 use Rattle.lawful_reader.proofs.Deepening.{law_raised}
 use Rattle.lawful_reader.proofs.Fitting.{law_fit}
@@ -30,7 +30,7 @@ use Rattle.ada_parser.specs.ReadingUnits as units
 use Rattle.ada_parser.proofs.KitPieces.{Closing, closing_then, closing_same, Same, same_self, same_behind, after_key}
 use Rattle.ada_parser.proofs.KitReading.{Made, made_key, made_bind, made_then, made_pure, law_word, law_key, starts_key, key_taken, taken_key}
 use Rattle.ada_parser.proofs.KitDeeper.{NameEnd, closing_end}
-use Rattle.ada_parser.proofs.Rows.{Fits, RowTexts, SaysWhere, law_row}
+use Rattle.ada_parser.proofs.Rows.{Fits, RowTexts, SaysWhere, part_shortens, law_row}
 use Rattle.ada_parser.proofs.StmtLevels.{LevelLaws}
 use Rattle.ada_parser.proofs.StmtBodies.{BodyTexts}
 use Rattle.ada_parser.proofs.DeclNames.{object_name}
@@ -246,6 +246,10 @@ module _ (source : Source) where
     pub law_decls : (d : ℕ) → Lawful d (reading.decls source d) (reading.decls source (suc d)) DeclsTexts EndsDecls
     law_decls d = law_fit (λ e deep ds text is. row_is e ds text is) (is_row d)
         (made_pure decls_of (law_row is_body (law_decl source laws d Anything) says (λ behind k is. tt) (λ x stop. tt) ends_each false))
+
+    -- a declaration takes a token
+    pub decl_shortens : (d : ℕ) → Shortens (reading.decl source d)
+    decl_shortens d = part_shortens is_body {S = EndsDecls} (law_decl source laws d Anything) says (λ behind k is. tt) (λ x stop. tt) ends_each
 
     law_procedure : (d : ℕ) (text_io : Bool) (S : Item → Type 0) → Lawful d (units.procedure source d text_io) (units.procedure source (suc d) text_io) (ProcedureTexts text_io) S
     law_procedure d text_io S = made_key key.Procedure (λ v. a_unit text_io v.0 v.1.0 v.1.1.0) (λ d v. Named v.0 ▷ Key key.Is ▷ DeclsTexts d v.1.0 ▷ Key key.Begin ▷ BodyTexts source (suc d) v.1.1.0 ▷ Key key.End ▷ NameEnd v.0 v.1.1.1)

@@ -11,6 +11,8 @@ pub mod Views
 pub mod Turns
 pub mod ReadingRows
 pub mod ReadingDeclarations
+pub mod DeclViews
+pub mod MemberViews
 pub mod ReadingUnits
 pub mod Laws
 pub mod Exactly

@@ -2,13 +2,27 @@
 //! this project's language has it, and what it is to read a text; in `src/` the readers.
 #![tactic(auto)]
 
+mod bodies;
+mod compound;
+mod entries;
+mod identifiers;
+mod initials;
 mod laws;
+mod looping;
+mod members;
+mod objects;
 mod operands;
 mod phrases;
+mod pragmas;
+mod selecting;
+mod sequences;
 mod simple;
 mod source;
+mod statements;
 mod strings;
+mod tasks;
 mod tokens;
+mod types;
 mod words;
 
 pub use laws::reading_laws;

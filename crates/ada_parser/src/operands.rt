@@ -107,8 +107,8 @@ fn behind_index<'a>(
     ))
 }
 
-// Whether a colon or a comma stands next: then the name before it is a formal's.
-fn is_formal_mark(item: Item) -> bool
+/// Whether a colon or a comma stands next: then the name before it is a formal's.
+pub(crate) fn is_formal_mark(item: Item) -> bool
     ensures { result ≡ reading.is_formal_mark item }
 {
     is_symbol(Symbol::Colon, item) || is_symbol(Symbol::Comma, item)

@@ -1,6 +1,6 @@
 //! Tests of the next item, and lists that grow.
 
-ghost use Rattle.std.specs.Prelude.{◌≡◌, [], ◌∷◌, ◌++◌, is_some, IfErr, OnOk};
+ghost use Rattle.std.specs.Prelude.{◌≡◌, [], ◌∷◌, ◌++◌, cond, Some, None, is_some, IfErr, OnOk};
 ghost use Rattle.ada_expr_parser.specs.Tests as tests;
 ghost use Rattle.ada_expr_parser.specs.Trees as trees;
 ghost use Rattle.ada_expr_parser.specs.declared.errors.ParseError.TheVariants.{Memory};
@@ -13,6 +13,15 @@ use ada_tree::{Span, Word};
 /// Whether an item is this symbol.
 pub(crate) fn is_symbol(wanted: Symbol, item: Item) -> bool
     ensures { result ≡ reading.is_symbol wanted item }
+{
+    symbol_in(wanted, item).is_some()
+}
+
+/// Whether an item is this symbol; the symbol's place is then that of the item.
+#[tactic(auto, using(crate::proofs::Marks::placed))]
+pub(crate) fn stands(wanted: Symbol, item: Item) -> bool
+    ensures test { result ≡ reading.is_symbol wanted item }
+    ensures place { tests.symbol wanted item ≡ cond result (Some item.span) None }
 {
     symbol_in(wanted, item).is_some()
 }

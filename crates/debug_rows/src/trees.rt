@@ -2,7 +2,9 @@
 
 mod sample;
 
+use ada_printer::{print, text_len};
 use ada_tree::{Body, Literals, Memory, NameId, Names, Program, Span, Stmt, StmtKind, Word};
+use ded_io::MemorySink;
 use sample::sample;
 use std::alloc::{AllocError, Global};
 use std::test::Fail;
@@ -115,5 +117,127 @@ fn literals_lend_their_names(rt: HostRuntime) -> Result<(), Fail> {
 #[test]
 fn want_of_memory_is_told(rt: HostRuntime) -> Result<(), Fail> {
     assert_eq!(rt; Memory.to_string(rt.alloc())?.as_str(), "out of memory");
+    Ok(())
+}
+
+// The program SAMPLE, laid out by hand.
+const SAMPLE_TEXT: &[u8] = b"with TEXT_IO;
+use TEXT_IO;
+procedure SAMPLE is
+   COUNT, TOTAL : INTEGER := 0;
+   FLAGS : constant array (1 .. 3) of INTEGER range 0 .. 9 := (1, 2, 3);
+   ZEROS : ROW := (others => 0);
+   SIZE : constant := 2;
+   type COLOR is (RED, GREEN);
+   type ROW is array (COLOR) of INTEGER range 0 .. 9;
+   subtype DIGIT is INTEGER range 0 .. 9;
+   OOPS : exception;
+   package INT_IO is new INTEGER_IO(INTEGER);
+   use INT_IO;
+   pragma PRIORITY(5);
+   task type T is
+      entry E(1 .. 3)(X, Y : in INTEGER; Z : out INTEGER; W : in out INTEGER);
+      pragma PRIORITY(1);
+   end T;
+   task body T is
+      N : INTEGER;
+   begin
+      select
+         when COLOR'POS(ROW(-(1))) < COLOR'LAST + not 2 =>
+            accept E(2)(X : in INTEGER) do
+               null;
+            end E;
+            null;
+      or
+         delay 1.5;
+         null;
+      or
+         when FALSE =>
+            terminate;
+      else
+         null;
+      end select;
+      accept E(2)(X : in INTEGER) do
+         null;
+      end E;
+   end T;
+begin
+   null;
+   NEW_LINE;
+   ROW(1) := COLOR'POS(ROW(-(1))) < COLOR'LAST + not 2;
+   delay 0.25;
+   exit FORWARD when TRUE;
+   raise OOPS;
+   abort A;
+   A(2).E(1)(COUNT, 3);
+   PUT(\"say \"\"hi\"\"\" & 7);
+   PUT_LINE(COUNT);
+   GET(COUNT);
+   case COUNT is
+      when 1 | 2 .. 4 =>
+         null;
+      when others =>
+         null;
+   end case;
+   if COLOR'POS(ROW(-(1))) < COLOR'LAST + not 2 then
+      null;
+   elsif TRUE then
+      null;
+   else
+      null;
+   end if;
+   select
+      A(2).E(1)(COUNT, 3);
+      null;
+   else
+      null;
+   end select;
+   select
+      A(2).E(1)(COUNT, 3);
+   or
+      delay 0.5;
+      null;
+   end select;
+   begin
+      select
+         when COLOR'POS(ROW(-(1))) < COLOR'LAST + not 2 =>
+            accept E(2)(X : in INTEGER) do
+               null;
+            end E;
+            null;
+      or
+         delay 1.5;
+         null;
+      or
+         when FALSE =>
+            terminate;
+      else
+         null;
+      end select;
+      accept E(2)(X : in INTEGER) do
+         null;
+      end E;
+   end;
+   FORWARD : for I in reverse 1 .. 3 loop
+      null;
+   end loop FORWARD;
+   while TRUE loop
+      null;
+   end loop;
+exception
+   when OOPS | TASKING_ERROR =>
+      null;
+   when others =>
+      null;
+end SAMPLE;
+";
+
+#[test]
+fn a_program_is_laid_out(rt: HostRuntime) -> Result<(), Fail> {
+    let program = sample(rt.alloc(), Names::new(rt.alloc())?, NOWHERE, "FORWARD")?;
+    let mut out = MemorySink::new(rt.alloc(), Vec::new(rt.alloc()), 4000)?;
+    assert!(rt; print(&program, &mut out).is_ok());
+    assert_eq!(rt; out.bytes(), SAMPLE_TEXT);
+    assert_eq!(rt; text_len(&program), SAMPLE_TEXT.len() as u64);
     Ok(())
 }

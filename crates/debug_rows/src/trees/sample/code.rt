@@ -236,7 +236,7 @@ fn compound_kinds(build: &mut Build, label: &str) -> Result<Vec<StmtKind>, Memor
     Ok(kinds)
 }
 
-// The body of the program, with a handler for one exception and one for the others.
+// The body of the program, with a handler for two exceptions and one for the others.
 pub(super) fn body(build: &mut Build, label: &str) -> Result<Body, Memory> {
     let alloc = build.alloc;
     let mut stmts: Vec<Stmt> = Vec::new(alloc);
@@ -247,7 +247,7 @@ pub(super) fn body(build: &mut Build, label: &str) -> Result<Body, Memory> {
         stmts.push(build.stmt(kind))?;
     }
     let named = Handler {
-        names: vec![in alloc; build.word("OOPS")?]?,
+        names: vec![in alloc; build.word("OOPS")?, build.word("TASKING_ERROR")?]?,
         stmts: build.nulls()?,
         span: build.span,
     };
