@@ -3,3 +3,5 @@ pub mod SoonerLaws
 pub mod Naming
 pub mod Operands
 pub mod Meeting
+pub mod Knowing
+pub mod Bounding

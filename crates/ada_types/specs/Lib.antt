@@ -9,3 +9,5 @@ pub mod Mapped
 pub mod Plain
 pub mod Judged
 pub mod Walked
+pub mod Known
+pub mod Ranges

@@ -4,9 +4,12 @@
 mod errors;
 mod judging;
 mod kinds;
+mod known;
+mod marks;
 mod names;
 mod nodes;
 mod operations;
+mod ranges;
 mod readings;
 mod refusals;
 mod scope;
