@@ -3,3 +3,4 @@ pub mod SoonerLaws
 pub mod Naming
 pub mod Operands
 pub mod Meeting
+pub mod Nesting
