@@ -4,6 +4,7 @@
 
 mod bodies;
 mod compound;
+mod ends;
 mod entries;
 mod identifiers;
 mod initials;
