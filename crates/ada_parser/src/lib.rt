@@ -21,6 +21,7 @@ mod simple;
 mod source;
 mod statements;
 mod strings;
+mod task_bodies;
 mod tasks;
 mod tokens;
 mod types;
