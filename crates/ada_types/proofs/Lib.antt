@@ -5,3 +5,4 @@ pub mod Operands
 pub mod Meeting
 pub mod Knowing
 pub mod Bounding
+pub mod Nesting

@@ -6,6 +6,7 @@ pub mod Rules
 pub mod Entries
 pub mod Things
 pub mod Mapped
+pub mod Nested
 pub mod Plain
 pub mod Judged
 pub mod Walked
