@@ -4,6 +4,7 @@
 
 mod bodies;
 mod compound;
+mod declarations;
 mod ends;
 mod entries;
 mod identifiers;
