@@ -2,6 +2,9 @@ pub mod ModulusLaws
 pub mod SoonerLaws
 pub mod Naming
 pub mod Operands
+pub mod Keeping
+pub mod Predefining
+pub mod FirstRefusal
 pub mod Meeting
 pub mod Knowing
 pub mod Bounding

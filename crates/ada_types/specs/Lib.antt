@@ -7,6 +7,9 @@ pub mod Entries
 pub mod Things
 pub mod Mapped
 pub mod Nested
+pub mod Before
+pub mod Repeated
+pub mod Telling
 pub mod Plain
 pub mod Judged
 pub mod Walked

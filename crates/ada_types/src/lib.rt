@@ -9,6 +9,7 @@ mod marks;
 mod names;
 mod nodes;
 mod operations;
+mod predefined;
 mod ranges;
 mod readings;
 mod refusals;
@@ -18,6 +19,7 @@ mod table;
 #[cfg(test)]
 mod tests;
 mod things;
+mod verdicts;
 mod walking;
 
 pub use errors::TypeError;
