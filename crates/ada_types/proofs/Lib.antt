@@ -8,4 +8,6 @@ pub mod FirstRefusal
 pub mod Meeting
 pub mod Knowing
 pub mod Bounding
+pub mod Writing
+pub mod Calling
 pub mod Nesting

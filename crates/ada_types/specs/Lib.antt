@@ -15,3 +15,5 @@ pub mod Judged
 pub mod Walked
 pub mod Known
 pub mod Ranges
+pub mod Targets
+pub mod Written

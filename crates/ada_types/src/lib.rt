@@ -1,6 +1,7 @@
 //! The types of a program, and the values of its static expressions.
 #![tactic(auto)]
 
+mod callees;
 mod errors;
 mod judging;
 mod kinds;
@@ -9,6 +10,7 @@ mod marks;
 mod names;
 mod nodes;
 mod operations;
+mod parts;
 mod predefined;
 mod ranges;
 mod readings;
@@ -16,6 +18,7 @@ mod refusals;
 mod scope;
 mod static_values;
 mod table;
+mod targets;
 #[cfg(test)]
 mod tests;
 mod things;
