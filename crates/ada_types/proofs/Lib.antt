@@ -8,6 +8,8 @@ pub mod FirstRefusal
 pub mod Meeting
 pub mod Knowing
 pub mod Bounding
+pub mod Listing
+pub mod Passing
 pub mod Writing
 pub mod Calling
 pub mod Nesting

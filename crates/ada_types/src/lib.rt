@@ -1,7 +1,9 @@
 //! The types of a program, and the values of its static expressions.
 #![tactic(auto)]
 
+mod actuals;
 mod callees;
+mod calls;
 mod errors;
 mod judging;
 mod kinds;
