@@ -13,3 +13,5 @@ pub mod Passing
 pub mod Writing
 pub mod Calling
 pub mod Nesting
+pub mod Covering
+pub mod Inner

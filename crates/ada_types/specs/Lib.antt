@@ -19,3 +19,5 @@ pub mod Actuals
 pub mod Calls
 pub mod Targets
 pub mod Written
+pub mod Covers
+pub mod Inner

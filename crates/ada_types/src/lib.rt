@@ -4,7 +4,9 @@
 mod actuals;
 mod callees;
 mod calls;
+mod covered;
 mod errors;
+mod formals;
 mod judging;
 mod kinds;
 mod known;
