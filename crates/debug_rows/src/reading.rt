@@ -60,7 +60,7 @@ struct Marked {
 }
 
 // A row between two texts, without the `@` in it, and the place of what stood behind that mark.
-fn marked(alloc: Global, front: &str, row: &str, back: &str) -> Result<Marked, AllocError> {
+fn without_mark(alloc: Global, front: &str, row: &str, back: &str) -> Result<Marked, AllocError> {
     let mut text = Vec::from_slice(alloc, front.as_bytes())?;
     let mut at = 0;
     for byte in row.as_bytes() {
@@ -83,7 +83,7 @@ fn check_refused(
     back: &str,
 ) -> Result<(), AllocError> {
     for row in rows {
-        let Marked { text, at } = marked(alloc, front, row, back)?;
+        let Marked { text, at } = without_mark(alloc, front, row, back)?;
         let error = error_of(rt, alloc, text.as_slice());
         assert_eq!(rt; error, Some(ReadError::Syntax { at }), "{row}");
     }
