@@ -1,10 +1,15 @@
 -- The names of a scope that is left for an inner one are there again behind it.
-use Rattle.std.specs.Prelude.{◌≡◌, ◌≤◌, ◌-◌, ◌+◌, ℕ, List, [], ◌∷◌, ◌++◌, length, map, take, drop}
+use Rattle.std.specs.Prelude.{◌≡◌, ◌≤◌, ◌-◌, ◌+◌, ℕ, refl, List, [], ◌∷◌, ◌++◌, length, map, take, drop}
 use Rattle.std.proofs.Common.{sym, ap, ◌∙◌, subst, arith, length-append}
 use Rattle.std.proofs.lemmas.List.{take-map, drop-map, length-map}
 use Rattle.std.proofs.lemmas.Simd.{map-map}
 use Rattle.std.proofs.Math.Seq.{drop-append_seam}
 use Rattle.ada_tree.specs.Scope.{Scope, Seen}
+use Rattle.ada_tree.specs.Scope as plain
+use Rattle.ada_tree.specs.Scope.{marking}
+use Rattle.ada_tree.specs.declared.naming.Word.{Word}
+use Rattle.ada_tree.specs.PlainStmt.{PFormal}
+use Rattle.ada_tree.specs.Declaring.{seen_as, with_name, with_names, inside, with_formals, formal_thing}
 use Rattle.ada_types.specs.declared.things.Thing.{Thing}
 use Rattle.ada_types.specs.declared.scope.Outer.{Outer}
 use Rattle.ada_types.specs.Things.{plain_thing, plain_names}
@@ -50,3 +55,24 @@ left_here s inner outer names left is within named leaves =
     ∙ here_names left (outer.count - outer.base)
     ∙ ap (λ l. map (λ x. x.name) (take (outer.count - outer.base) l)) same
     ∙ sym is.here_is
+
+-- ---- what is within
+
+pub outer_fits : (s inner : Scope) (outer : Outer) → IsOuter s outer → IsWithin inner s → outer.count ≤ length inner.names
+outer_fits s inner outer is within =
+    let many : length inner.names ≡ length within.0 + length s.names = ap length within.1 ∙ length-append within.0 s.names in
+    omega (arith, many, is.count_is)
+
+pub within_inside : (s : Scope) → IsWithin (inside s) s
+within_inside s = ([], refl)
+
+pub within_name : (s inner : Scope) (thing : plain.Thing) (w : Word) → IsWithin inner s → IsWithin (with_name thing inner w) s
+within_name s inner thing w within = (seen_as thing w.name.0 ∷ within.0, ap (λ l. seen_as thing w.name.0 ∷ l) within.1)
+
+pub within_names : (s inner : Scope) (thing : plain.Thing) (ws : List Word) → IsWithin inner s → IsWithin (with_names thing inner ws) s
+within_names s inner thing [] within = within
+within_names s inner thing (w ∷ ws) within = within_names s (with_name thing inner w) thing ws (within_name s inner thing w within)
+
+pub within_formals : (s inner : Scope) (formals : List PFormal) → IsWithin inner s → IsWithin (with_formals inner formals) s
+within_formals s inner [] within = within
+within_formals s inner (f ∷ fs) within = within_formals s (with_names (formal_thing f.mode (marking inner f.mark.name)) inner f.names) fs (within_names s inner (formal_thing f.mode (marking inner f.mark.name)) f.names within)

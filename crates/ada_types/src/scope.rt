@@ -1,16 +1,17 @@
 // What can be used at a place of a program.
 
-ghost use Rattle.std.specs.Prelude.{◌≡◌, ◌≤◌, length, option_map, OnOk, OnErr};
+ghost use Rattle.std.specs.Prelude.{◌≡◌, ◌≤◌, length, option_map, IfOk, OnOk, OnErr};
 ghost use Rattle.ada_tree.specs.Scope.{meaning, Scope as PlainScope};
-ghost use Rattle.ada_tree.specs.Declaring.{with_name, inside};
+ghost use Rattle.ada_tree.specs.Declaring.{before_all, with_name, inside};
 ghost use Rattle.ada_types.specs.Things.{plain_thing};
 ghost use Rattle.ada_types.specs.Nested.{IsOuter, IsWithin};
 
+use crate::predefined::{first_names, first_table};
 use crate::table::Table;
 use crate::things::{Entries, Thing};
 use ada_tree::{NameId, Word};
 use scoped_names::ScopedNames;
-use std::alloc::AllocError;
+use std::alloc::{AllocError, Global};
 use std::marker::Model;
 use std::rc::Rc;
 
@@ -46,6 +47,26 @@ pub(crate) struct Outer {
 }
 
 impl Scope {
+    /// What can be used before a program begins.
+    pub(crate) fn new(alloc: Global) -> Result<Self, AllocError>
+        ensures { IfOk result (λ scope. scope ≡ before_all) }
+    {
+        let table = first_table(alloc)?;
+        let names = first_names(alloc)?;
+        match Rc::new(alloc, Entries::new(Vec::new(alloc))) {
+            Ok(own) => Ok(Scope {
+                table,
+                base: names.len(),
+                names,
+                in_main: true,
+                own,
+                bodies: Vec::new(alloc),
+                has_instance: false,
+            }),
+            Err(_) => Err(AllocError),
+        }
+    }
+
     /// What a name means, which is nothing where it is not declared before.
     pub(crate) fn meaning(&self, id: NameId) -> Option<&Thing>
         ensures { option_map (λ t. plain_thing t.now) result ≡ meaning self.now id }
@@ -58,6 +79,13 @@ impl Scope {
         ensures { result.now ≡ self.now.types }
     {
         &self.table
+    }
+
+    /// The entries of the task in whose body the place is.
+    pub(crate) fn own(&self) -> &Entries
+        ensures { result.now ≡ self.now.own }
+    {
+        &*self.own
     }
 
     /// A name more in the innermost scope.

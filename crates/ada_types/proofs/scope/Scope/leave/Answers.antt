@@ -1,4 +1,4 @@
-use Rattle.std.proofs.Common.{◌≡◌, ◌-◌, ℕ, List, ap, sym, ◌∙◌, length, map, take, drop}
+use Rattle.std.proofs.Common.{◌≡◌, ◌-◌, ℕ, List, ap, ◌∙◌, length, map, take, drop}
 use Rattle.ada_tree.specs.Scope.{Scope, Seen}
 use Rattle.ada_types.specs.Things.{plain_names}
 use Rattle.ada_types.proofs.Nesting.{left_names, left_here}
