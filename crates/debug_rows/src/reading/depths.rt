@@ -1,4 +1,4 @@
-//! Texts that are nested as deep as may be, and one level deeper; and long ones.
+//! Texts that are nested as deep as may be, and one level deeper.
 
 use super::error_of;
 use ada_parser::ReadError;
@@ -147,33 +147,5 @@ fn statements(rt: HostRuntime) -> Result<(), Fail> {
         ..compound("begin ", "end; ")
     };
     check_most(&rt, alloc, &task, 299, 36 + 299 * 6)?;
-    Ok(())
-}
-
-#[test]
-fn lists_may_be_long(rt: HostRuntime) -> Result<(), Fail> {
-    let alloc = rt.alloc();
-    let statements = Nest {
-        front: "procedure Q is begin ",
-        open: "null; ",
-        middle: "",
-        close: "",
-        back: "end Q;",
-    };
-    check(&rt, alloc, &statements, 200_000, None)?;
-    let declarations = Nest {
-        front: "procedure Q is ",
-        open: "A : B; ",
-        back: "begin null; end Q;",
-        ..statements
-    };
-    check(&rt, alloc, &declarations, 200_000, None)?;
-    let parts = Nest {
-        front: "procedure Q is begin PUT(1",
-        open: " & 1",
-        back: "); end Q;",
-        ..statements
-    };
-    check(&rt, alloc, &parts, 200_000, None)?;
     Ok(())
 }
