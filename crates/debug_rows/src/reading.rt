@@ -60,11 +60,18 @@ struct Marked {
 }
 
 // A row between two texts, without the `@` in it, and the place of what stood behind that mark.
-fn without_mark(alloc: Global, front: &str, row: &str, back: &str) -> Result<Marked, AllocError> {
+fn without_mark(
+    rt: &impl Abort,
+    alloc: Global,
+    front: &str,
+    row: &str,
+    back: &str,
+) -> Result<Marked, AllocError> {
     let mut text = Vec::from_slice(alloc, front.as_bytes())?;
     let mut at = 0;
     for byte in row.as_bytes() {
         if *byte == b'@' {
+            assert!(rt; text.len() < 10_000);
             at = text.len() as u32;
         } else {
             text.push(*byte)?;
@@ -83,7 +90,7 @@ fn check_refused(
     back: &str,
 ) -> Result<(), AllocError> {
     for row in rows {
-        let Marked { text, at } = without_mark(alloc, front, row, back)?;
+        let Marked { text, at } = without_mark(rt, alloc, front, row, back)?;
         let error = error_of(rt, alloc, text.as_slice());
         assert_eq!(rt; error, Some(ReadError::Syntax { at }), "{row}");
     }

@@ -1,4 +1,4 @@
-//! Texts that are nested as deep as may be, and one level deeper.
+//! Texts that are nested as deep as may be, and one level deeper; and long ones.
 
 use super::error_of;
 use ada_parser::ReadError;
@@ -51,7 +51,8 @@ fn check_most(
     at: u32,
 ) -> Result<(), AllocError> {
     check(rt, alloc, nest, most, None)?;
-    check(rt, alloc, nest, most + 1, Some(ReadError::TooDeep { at }))
+    let more = most.saturating_add(1);
+    check(rt, alloc, nest, more, Some(ReadError::TooDeep { at }))
 }
 
 // The content of parentheses is one level deeper than they are. These stand at the root of an expression, at 2.
@@ -147,5 +148,33 @@ fn statements(rt: HostRuntime) -> Result<(), Fail> {
         ..compound("begin ", "end; ")
     };
     check_most(&rt, alloc, &task, 299, 36 + 299 * 6)?;
+    Ok(())
+}
+
+#[test]
+fn lists_may_be_long(rt: HostRuntime) -> Result<(), Fail> {
+    let alloc = rt.alloc();
+    let statements = Nest {
+        front: "procedure Q is begin ",
+        open: "null; ",
+        middle: "",
+        close: "",
+        back: "end Q;",
+    };
+    check(&rt, alloc, &statements, 10_000, None)?;
+    let declarations = Nest {
+        front: "procedure Q is ",
+        open: "A : B; ",
+        back: "begin null; end Q;",
+        ..statements
+    };
+    check(&rt, alloc, &declarations, 3_000, None)?;
+    let parts = Nest {
+        front: "procedure Q is begin PUT(1",
+        open: " & 1",
+        back: "); end Q;",
+        ..statements
+    };
+    check(&rt, alloc, &parts, 10_000, None)?;
     Ok(())
 }
