@@ -1,8 +1,12 @@
 //! The types of a program, and the values of its static expressions.
 #![tactic(auto)]
 
+mod actuals;
 mod callees;
+mod calls;
+mod covered;
 mod errors;
+mod formals;
 mod judging;
 mod kinds;
 mod known;

@@ -1,6 +1,7 @@
 // What names mean, as plain data.
 
-ghost use Rattle.std.specs.Prelude.{◌≡◌, map};
+ghost use Rattle.std.specs.Prelude.{◌≡◌, map, option_map};
+ghost use Rattle.ada_tree.specs.Scope.{entry_named};
 ghost use Rattle.ada_types.specs.Entries.{plain_entry};
 
 use ada_tree::{NameId, ParMode};
@@ -61,6 +62,18 @@ impl Entries {
         ensures { result ≡ map plain_entry parts.items }
     {
         Entries { parts }
+    }
+
+    /// The entry of a name.
+    pub(crate) fn named(&self, id: NameId) -> Option<&EntryPart>
+        ensures { option_map (λ e. plain_entry e.now) result ≡ entry_named self.now id }
+    {
+        for part in &self.parts {
+            if part.name.0 == id.0 {
+                return Some(part);
+            }
+        }
+        None
     }
 }
 
