@@ -1,16 +1,12 @@
-//! Rows of words, each with the status and the texts that the program's one call gives over files and outputs in memory; and tests of trees that are built by hand.
+//! Rows of words, each with the status and the texts that the program's one call gives over files and outputs in memory.
 #![tactic(auto)]
 
 #[cfg(test)]
 mod checking;
 #[cfg(test)]
 mod judging;
-#[cfg(test)]
-mod reading;
 mod row;
 #[cfg(test)]
 mod tests;
-#[cfg(test)]
-mod trees;
 
 pub use row::Row;

@@ -2,6 +2,7 @@
 
 mod declarations;
 mod depths;
+mod errors;
 mod expressions;
 mod samples;
 mod statements;
