@@ -15,6 +15,7 @@ pub mod Judged
 pub mod Walked
 pub mod Known
 pub mod Ranges
+pub mod Accepts
 pub mod Actuals
 pub mod Calls
 pub mod Targets

@@ -7,6 +7,7 @@ mod calls;
 mod covered;
 mod errors;
 mod formals;
+mod heads;
 mod judging;
 mod kinds;
 mod known;
