@@ -68,9 +68,9 @@ first_least m first r rest end start q f h e g l =
     le_by end q (subst (λ xs. IfSome (slice_get xs 0) (λ x. is_gt (int_cmp x.0 q) ≡ false)) e (h.2 q (by_le first q l, tt) (subst IsSome (sym g) (refl))))
 
 -- the first range that ends at a value or behind it, which begins before a bound or not
-pub meets_first : (m : BTreeMap ℤ ℤ) (first last : ℤ) (r rest : List (ℤ × ℤ)) (end start : ℤ) → IsRangeOf int_cmp (Included first) Unbounded m r → r ≡ (end, start) ∷ rest → start ≤ℤ last
-    → (first_of m.entries end ≡ Some start) × (start ≤ℤ last) × (first ≤ℤ end)
-meets_first m first last r rest end start h e l = let x = first_entry m first r rest end start h e in (x.1, l, le_by first end x.0.0)
+pub meets_first : (m : BTreeMap ℤ ℤ) (first last : ℤ) (r rest : List (ℤ × ℤ)) (end start : ℤ) → Apart m.entries → IsRangeOf int_cmp (Included first) Unbounded m r → r ≡ (end, start) ∷ rest → start ≤ℤ last
+    → (first_of m.entries end ≡ Some start) × (start ≤ℤ last) × (first ≤ℤ end) × (start ≤ℤ end)
+meets_first m first last r rest end start a h e l = let x = first_entry m first r rest end start h e in (x.1, l, le_by first end x.0.0, a.some end start x.1)
 
 behind_first : (ranges : List (ℤ × ℤ)) (last end start q f : ℤ) → Apart ranges → first_of ranges end ≡ Some start → first_of ranges q ≡ Some f → last <ℤ start → end ≤ℤ q → last <ℤ f
 behind_first ranges last end start q f a g h l le = by_lt_z end q

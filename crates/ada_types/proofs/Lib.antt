@@ -16,3 +16,5 @@ pub mod Calling
 pub mod Nesting
 pub mod Covering
 pub mod Inner
+pub mod Lists
+pub mod Choosing

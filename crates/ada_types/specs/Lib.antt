@@ -22,3 +22,5 @@ pub mod Targets
 pub mod Written
 pub mod Covers
 pub mod Inner
+pub mod Chosen
+pub mod Members

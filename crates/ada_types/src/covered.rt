@@ -36,7 +36,7 @@ impl Covered {
 
     /// The first range that has a value in common with the values from `first` to `last`, if there is one.
     pub(crate) fn meeting(&self, first: i64, last: i64) -> Option<(i64, i64)>
-        ensures { MatchOption result (IsFree self.now first last) (λ r. (first_of self.now r.1 ≡ Some r.0) × (r.0 ≤ℤ last) × (first ≤ℤ r.1)) }
+        ensures { MatchOption result (IsFree self.now first last) (λ r. (first_of self.now r.1 ≡ Some r.0) × (r.0 ≤ℤ last) × (first ≤ℤ r.1) × (r.0 ≤ℤ r.1)) }
     {
         match self.firsts.range(first..).next() {
             Some((end, start)) => {

@@ -4,6 +4,7 @@
 mod actuals;
 mod callees;
 mod calls;
+mod choices;
 mod covered;
 mod errors;
 mod formals;
@@ -21,6 +22,7 @@ mod ranges;
 mod readings;
 mod refusals;
 mod scope;
+mod statements;
 mod static_values;
 mod table;
 mod targets;

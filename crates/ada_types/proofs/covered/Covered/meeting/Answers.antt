@@ -16,8 +16,8 @@ returns-then-start-last c =
     let end : FitsSigned w64 c.in-Some.end.now = search rules in
     let last : FitsSigned w64 c.args.last = c.ranges.last in
     let low : c.in-Some.start.now ≤ℤ c.args.last = grind (arith, ints) in
-    let is = meets_first c.self.inside.firsts c.args.first c.args.last c.range.result c.next.new.self c.in-Some.end.now c.in-Some.start.now inside c.in-Some.ensures.steps low in
-    simp to_z-of_z (subst (λ xs. (first_of xs c.in-Some.end.now ≡ Some c.in-Some.start.now) × (c.in-Some.start.now ≤ℤ c.args.last) × (c.args.first ≤ℤ c.in-Some.end.now)) c.self.view_is is)
+    let is = meets_first c.self.inside.firsts c.args.first c.args.last c.range.result c.next.new.self c.in-Some.end.now c.in-Some.start.now c.self.invariant inside c.in-Some.ensures.steps low in
+    simp to_z-of_z (subst (λ xs. (first_of xs c.in-Some.end.now ≡ Some c.in-Some.start.now) × (c.in-Some.start.now ≤ℤ c.args.last) × (c.args.first ≤ℤ c.in-Some.end.now) × (c.in-Some.start.now ≤ℤ c.in-Some.end.now)) c.self.view_is is)
 
 pub returns-else-start-last : goal.returns-else-start-last
 returns-else-start-last c =
