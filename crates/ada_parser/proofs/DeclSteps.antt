@@ -1,9 +1,10 @@
 -- How the pieces of declarations that the code reads fit together.
-use Rattle.std.proofs.Common.{◌≡◌, ℕ, zero, suc, ◌-◌, ◌<◌, ◌≤◌, Bool, true, false, cond, List, [], ◌∷◌, Option, Some, None, drop, length, get_or, codes, refl, sym, ap, subst, ◌∙◌, arith}
-use Rattle.lawful_reader.specs.Readers.{Answer, Found, Fault, Reader, pure, refuse, go_on, bind, on_token, token, fronted}
+use Rattle.std.proofs.Common.{◌≡◌, ℕ, ◌<◌, ◌≤◌, false, cond, List, [], ◌∷◌, Option, Some, None, length, get_or, codes, refl, sym, ap, subst, ◌∙◌, arith}
+use Rattle.lawful_reader.specs.Readers.{Answer, Found, Fault, Reader, pure, refuse, go_on, bind, on, on_token, token, fronted}
 use Rattle.ada_tree.specs.declared.naming.Span.{Span}
 use Rattle.ada_tree.specs.declared.naming.Word.{Word}
 use Rattle.ada_tree.specs.PlainExpr.{PExpr}
+use Rattle.ada_tree.specs.PlainStmt.{PBody}
 use Rattle.ada_tree.specs.PlainDecl.{PDecl}
 use Rattle.ada_expr_parser.specs.declared.symbols.Symbol.TheVariants as key
 use Rattle.ada_expr_parser.specs.declared.symbols.Symbol.{Symbol}
@@ -14,8 +15,9 @@ use Rattle.ada_expr_parser.specs.Grammar.{word_item}
 use Rattle.ada_expr_parser.specs.Tests.{word, word_in, symbol}
 use Rattle.ada_expr_parser.specs.Parts.{drange, expression}
 use Rattle.ada_parser.specs.Spelling.{Source, id_of}
-use Rattle.ada_parser.specs.Reading.{key_then, closed, more_behind, separated, formals_from, Behind, behind_index, is_formal_mark}
-use Rattle.ada_parser.specs.ReadingDeclarations.{entry_name, drange_from, names_behind, object_rest, named_rest, number_or_constant, priority, with_id}
+use Rattle.ada_parser.specs.Reading.{key_then, closed, more_behind, separated, formals_from, behind_index, is_formal_mark, again, end_of}
+use Rattle.ada_parser.specs.ReadingStatements.{readers, body_rest}
+use Rattle.ada_parser.specs.ReadingDeclarations.{entry_name, drange_from, names_behind, object_rest, named_rest, number_or_constant, priority, with_id, unit_end}
 use Rattle.ada_parser.specs.DeclViews.{priority_by, with_close, with_names, object_of, named_of, constant_of, number_of}
 
 through_answer : {A B C : Type 0} (r : Answer Item A) (f : A → Reader Item B) (g : B → Reader Item C) (h : A → Reader Item C) → ((a : A) (ts : List Item) → h a ts ≡ go_on (f a ts) g) → go_on r h ≡ go_on (go_on r f) g
@@ -58,6 +60,40 @@ module _ {A : Type 0} (source : Source) (d : ℕ) (tree : PExpr → Span → A) 
       ap (λ i. priority_by i d tree ts) (sym is)
       ∙ through (token (with_id id)) (λ w. key_then key.LeftParen (inside with_close)) whole (λ w. key_then key.LeftParen (inside tree))
       (λ w rest. through (token (symbol key.LeftParen)) (λ at. inside with_close) whole (λ at. inside tree) (λ at more. inside_is more) rest)
+      ts
+
+-- the same by a test of the next item
+through_token :
+    {A B C : Type 0} (o : Option A) (f : A → Reader Item B) (g : B → Reader Item C) (h : A → Reader Item C) (other : Reader Item B) (others : Reader Item C) →
+    ((a : A) (ts : List Item) → h a ts ≡ go_on (f a ts) g) → ((ts : List Item) → others ts ≡ go_on (other ts) g) → (k : Item) (ts : List Item) → on_token o h others k ts ≡ go_on (on_token o f other k ts) g
+through_token (Some a) f g h other others each else k ts = each a ts
+through_token None f g h other others each else k ts = else (k ∷ ts)
+
+through_on :
+    {A B C : Type 0} (test : Item → Option A) (f : A → Reader Item B) (g : B → Reader Item C) (h : A → Reader Item C) (other : Reader Item B) (others : Reader Item C) →
+    ((a : A) (ts : List Item) → h a ts ≡ go_on (f a ts) g) → ((ts : List Item) → others ts ≡ go_on (other ts) g) → (ts : List Item) → on test h others ts ≡ go_on (on test f other ts) g
+through_on test f g h other others each else [] = refl
+through_on test f g h other others each else (k ∷ ts) = through_token (test k) f g h other others each else k ts
+
+-- the statements of a unit or of a task's body are read by the body and its end
+module _ {A : Type 0} (source : Source) (w : Word) (tree : PBody → Span → A) where
+  abbrev made : PBody × Span → Reader Item A
+  made x = pure (tree x.0 x.1)
+
+  closed_is : (b : PBody) (ts : List Item) → closed (tree b) ts ≡ go_on (closed (with_close b) ts) made
+  closed_is b ts = through (token (symbol key.Semicolon)) (λ close. pure (with_close b close)) made (λ close. pure (tree b close)) (λ close none. refl) ts
+
+  ended_is : (b : PBody) (ts : List Item) → end_of w (tree b) ts ≡ go_on (end_of w (with_close b) ts) made
+  ended_is b ts =
+      through (token (symbol key.End)) (λ at. on (again w) (λ v. closed (with_close b)) (closed (with_close b))) made (λ at. on (again w) (λ v. closed (tree b)) (closed (tree b)))
+      (λ at rest. through_on (again w) (λ v. closed (with_close b)) made (λ v. closed (tree b)) (closed (with_close b)) (closed (tree b)) (λ v more. closed_is b more) (λ more. closed_is b more) rest)
+      ts
+
+  pub unit_end_is : (d e : ℕ) (ts : List Item) → d ≡ e → unit_end source d w tree ts ≡ go_on (unit_end source e w with_close ts) (λ x. pure (tree x.0 x.1))
+  unit_end_is d e ts is =
+      ap (λ n. unit_end source n w tree ts) is
+      ∙ through (token (symbol key.Begin)) (λ at. bind (body_rest e (readers source e)) (λ b. end_of w (with_close b))) made (λ at. bind (body_rest e (readers source e)) (λ b. end_of w (tree b)))
+      (λ at rest. through (body_rest e (readers source e)) (λ b. end_of w (with_close b)) made (λ b. end_of w (tree b)) (λ b more. ended_is b more) rest)
       ts
 
 -- the first name says where a declaration begins

@@ -5,7 +5,7 @@ use Rattle.ada_expr_parser.specs.declared.items.Item.{Item}
 use Rattle.ada_expr_parser.proofs.Steps.{fails_go_on}
 use Rattle.ada_parser.proofs.Named.{deeper_is, index_named, got_named, named_start, got_full}
 use Rattle.ada_parser.specs.Spelling.{Source}
-use Rattle.ada_parser.specs.ReadingStatements.{Readers, readers, inner_at}
+use Rattle.ada_parser.specs.ReadingStatements.{readers, inner_at}
 
 -- what reads one level deeper reads at the depth that is less by one
 pub inner_is : (source : Source) (d : ℕ) → 0 < d → inner_at source d ≡ readers source (d - 1)

@@ -16,9 +16,9 @@ use Rattle.ada_expr_parser.specs.Parts.{expression}
 use Rattle.ada_parser.specs.Reading.{Behind, key_then, closed}
 use Rattle.ada_parser.specs.ReadingDeclarations.{shape, init, number_or_constant, with_id}
 
--- an expression, and the place of what ends it
-abbrev pub with_close : PExpr → Span → PExpr × Span
-with_close e close = (e, close)
+-- a tree, and the place of what ends it
+abbrev pub with_close : {A : Type 0} → A → Span → A × Span
+with_close x close = (x, close)
 
 -- what stands behind an entry's name
 abbrev pub family_of : Option Drange → List Formal → Behind PDrange

@@ -1,5 +1,4 @@
 -- How the members of a task are seen plainly.
-use Rattle.std.specs.Prelude.{List, map}
 use Rattle.ada_tree.specs.PlainExpr.{plain_expr}
 use Rattle.ada_tree.specs.PlainDecl.{plain_entry}
 use Rattle.ada_parser.specs.Tasks.{Member, MEntry, MPriority}

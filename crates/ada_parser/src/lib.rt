@@ -4,6 +4,8 @@
 
 mod bodies;
 mod compound;
+mod declarations;
+mod ends;
 mod entries;
 mod identifiers;
 mod initials;
@@ -20,6 +22,7 @@ mod simple;
 mod source;
 mod statements;
 mod strings;
+mod task_bodies;
 mod tasks;
 mod tokens;
 mod types;

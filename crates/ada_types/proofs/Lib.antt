@@ -2,4 +2,12 @@ pub mod ModulusLaws
 pub mod SoonerLaws
 pub mod Naming
 pub mod Operands
+pub mod Keeping
+pub mod Predefining
+pub mod FirstRefusal
 pub mod Meeting
+pub mod Knowing
+pub mod Bounding
+pub mod Writing
+pub mod Calling
+pub mod Nesting

@@ -6,6 +6,14 @@ pub mod Rules
 pub mod Entries
 pub mod Things
 pub mod Mapped
+pub mod Nested
+pub mod Before
+pub mod Repeated
+pub mod Telling
 pub mod Plain
 pub mod Judged
 pub mod Walked
+pub mod Known
+pub mod Ranges
+pub mod Targets
+pub mod Written

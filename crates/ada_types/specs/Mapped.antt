@@ -1,14 +1,15 @@
 -- What is kept beside the table of types, so that a name is looked up in one step.
-use Rattle.std.specs.Prelude.{◌≡◌, ◌==◌, ℕ, ℤ, nat_eq, List, position, Option, option_map}
+use Rattle.std.specs.Prelude.{◌≡◌, ◌==◌, ℕ, nat_eq, position}
 use Rattle.std.specs.HashMap.{HashMap, get}
 use Rattle.ada_tree.specs.declared.naming.NameId.{NameId}
+use Rattle.ada_tree.specs.declared.static_types.Constant.{Constant}
 use Rattle.ada_tree.specs.declared.static_types.Mark.{Mark}
 use Rattle.ada_tree.specs.TypeTable.{TypeTable}
 use Rattle.ada_tree.specs.StaticValue.{mark_named, constant_named, literal_position}
 
-pub record Mapped {S : Type 0} (types : TypeTable) (values : HashMap ℕ ℤ S) (literals : HashMap ℕ ℕ S) (named : HashMap ℕ Mark S) (firsts : HashMap ℕ ℕ S) : Type 0 where
-  -- the value of each named number and constant
-  pub values_are : (id : NameId) → get nat_eq values id.0 ≡ option_map (λ c. c.value) (constant_named types id)
+pub record Mapped {S : Type 0} (types : TypeTable) (constants : HashMap ℕ Constant S) (literals : HashMap ℕ ℕ S) (named : HashMap ℕ Mark S) (firsts : HashMap ℕ ℕ S) : Type 0 where
+  -- the named number or constant of each name
+  pub constants_are : (id : NameId) → get nat_eq constants id.0 ≡ constant_named types id
   -- the position of each enumeration literal
   pub literals_are : (id : NameId) → get nat_eq literals id.0 ≡ literal_position types.kinds id
   -- the type or subtype of each name

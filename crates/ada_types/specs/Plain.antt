@@ -1,13 +1,16 @@
--- What contracts see of readings, marks, attributes and operands.
+-- What contracts see of readings, marks and their uses, attributes and operands.
 use Rattle.std.specs.Prelude.{ℕ, Option, Some, None}
 use Rattle.ada_tree.specs.Scope as scope
 use Rattle.ada_tree.specs.Attributes as attribute
 use Rattle.ada_tree.specs.ExprTypes.{Operand, of_kind, of_any_kind}
+use Rattle.ada_tree.specs.Demand as demand
 use Rattle.ada_types.specs.Entries.{plain_range}
 use Rattle.ada_types.specs.declared.readings.Reading.{Reading}
 use Rattle.ada_types.specs.declared.readings.Reading.TheVariants.{Scalar, Array, NoValue, Unknown, Unclear}
 use Rattle.ada_types.specs.declared.readings.Marking.{Marking}
 use Rattle.ada_types.specs.declared.readings.Marking.TheVariants as marking
+use Rattle.ada_types.specs.declared.marks.MarkUse.{MarkUse}
+use Rattle.ada_types.specs.declared.marks.MarkUse.TheVariants as mark_use
 use Rattle.ada_types.specs.declared.kinds.Attribute.{Attribute}
 use Rattle.ada_types.specs.declared.kinds.Attribute.TheVariants.{First, Last, Pos, Val, Succ, Pred, Image, NoAttribute}
 
@@ -25,6 +28,12 @@ plain_marking (marking.Task e) = scope.TaskMark e.now
 plain_marking marking.NoMark = scope.NoMark
 plain_marking marking.Unknown = scope.UnknownMark
 plain_marking marking.Unclear = scope.UnclearMark
+
+abbrev pub plain_use : MarkUse → demand.MarkUse
+plain_use mark_use.Scalar = demand.scalar_only
+plain_use mark_use.OrArray = demand.or_array
+plain_use mark_use.OrTask = demand.or_task
+plain_use mark_use.OrArrayOrTask = demand.or_array_or_task
 
 abbrev pub plain_attribute : Attribute → attribute.Attribute
 plain_attribute First = attribute.First

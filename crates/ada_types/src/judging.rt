@@ -157,8 +157,8 @@ fn bound_of_mark(scope: &Scope, mark: Word, word: Word) -> Option<Result<i64, Sp
     }
 }
 
-// The kind of an attribute without an argument.
-fn kind_of_bound(scope: &Scope, mark: Word, word: Word) -> Option<u32>
+/// The kind of an attribute without an argument.
+pub(crate) fn kind_of_bound(scope: &Scope, mark: Word, word: Word) -> Option<u32>
     ensures { result ≡ and_then (bound_kind (attribute_of word.name)) (scalar_kind (marking scope.now mark.name)) }
 {
     match kind_of_mark(readings::mark_named(scope, mark.name)) {
@@ -187,8 +187,8 @@ fn raised_of(
     }
 }
 
-// The kind of a component, by that of its index.
-fn kind_of_component(scope: &Scope, reading: Reading, index: Option<u32>) -> Option<u32>
+/// The kind of a component, by that of its index.
+pub(crate) fn kind_of_component(scope: &Scope, reading: Reading, index: Option<u32>) -> Option<u32>
     ensures { result ≡ component_kind scope.now.types (plain_reading reading) index }
 {
     match reading {

@@ -1,20 +1,28 @@
 //! The types of a program, and the values of its static expressions.
 #![tactic(auto)]
 
+mod callees;
 mod errors;
 mod judging;
 mod kinds;
+mod known;
+mod marks;
 mod names;
 mod nodes;
 mod operations;
+mod parts;
+mod predefined;
+mod ranges;
 mod readings;
 mod refusals;
 mod scope;
 mod static_values;
 mod table;
+mod targets;
 #[cfg(test)]
 mod tests;
 mod things;
+mod verdicts;
 mod walking;
 
 pub use errors::TypeError;

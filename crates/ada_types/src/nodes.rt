@@ -5,9 +5,9 @@ ghost use Rattle.ada_tree.specs.PlainExpr.{PExpr, plain_expr, EName, EIndex, EAt
 ghost use Rattle.ada_tree.specs.Attributes.{attribute_of};
 ghost use Rattle.ada_tree.specs.Scope.{meaning, scalar_kind};
 ghost use Rattle.ada_tree.specs.ExprTypes.{place_of, kind_of, is_other_kind};
-ghost use Rattle.ada_tree.specs.Demand.{node, scalar_only};
+ghost use Rattle.ada_tree.specs.Demand.{node};
 ghost use Rattle.ada_tree.specs.RuleUnknown.{unseen, unseen_word, no_attribute};
-ghost use Rattle.ada_tree.specs.RuleMismatch.{no_value, misfit_index, wrong_mark, misfit_argument, is_misfit, misfit_operand};
+ghost use Rattle.ada_tree.specs.RuleMismatch.{no_value, misfit_index, misfit_argument, is_misfit, misfit_operand};
 ghost use Rattle.ada_tree.specs.RuleReadOut.{out_formal};
 ghost use Rattle.ada_tree.specs.RuleArgCount.{index_on_scalar};
 ghost use Rattle.ada_tree.specs.RuleArrayUse.{whole_array};
@@ -17,6 +17,7 @@ ghost use Rattle.ada_types.specs.Met.{met_at};
 ghost use Rattle.ada_types.specs.Plain.{plain_reading, plain_marking, plain_attribute, plain_operand};
 
 use crate::kinds::{Attribute, attribute_named, does_take, is_other, operand_of, operand_of_one};
+use crate::marks::{MarkUse, refuse_mark};
 use crate::readings::{Marking, Reading, mark_named, read};
 use crate::refusals::{Refusal, Rule, first, refuse, refuse_if};
 use crate::scope::Scope;
@@ -145,18 +146,6 @@ fn refuse_words(scope: &Scope, mark: Word, word: Word) -> Option<Refusal>
     first(unseen, none)
 }
 
-/// A mark that is no scalar one.
-pub(crate) fn refuse_mark(scope: &Scope, mark: Word) -> Option<Refusal>
-    ensures { result ≡ found 3 (wrong_mark scalar_only scope.now mark) }
-{
-    match mark_named(scope, mark.name) {
-        Marking::Array { .. } | Marking::Task(_) | Marking::NoMark => {
-            refuse(Rule::Mismatch, mark.span)
-        }
-        _ => None,
-    }
-}
-
 /// The kind of a scalar mark.
 pub(crate) fn kind_of_mark(marking: Marking) -> Option<u32>
     ensures { result ≡ scalar_kind (plain_marking marking.entry) }
@@ -191,7 +180,7 @@ pub(crate) fn refuse_bound(
     ensures { result ≡ met_at scope.now (node written (EAttribute mark word span)) }
 {
     let unknown = refuse_words(scope, mark, word);
-    let mismatch = refuse_mark(scope, mark);
+    let mismatch = refuse_mark(scope, MarkUse::Scalar, mark);
     let count = refuse_if(
         attribute_named(word.name).is_function(),
         Rule::ArgCount,
@@ -240,7 +229,7 @@ pub(crate) fn refuse_attribute(
     let (mark, word) = words;
     let attribute = attribute_named(word.name);
     let unknown = refuse_words(scope, mark, word);
-    let mismatch = refuse_mark(scope, mark);
+    let mismatch = refuse_mark(scope, MarkUse::Scalar, mark);
     let marked = kind_of_mark(mark_named(scope, mark.name));
     let argument = refuse_argument(scope, attribute, marked, arg, kind);
     let count = refuse_if(attribute.is_bound(), Rule::ArgCount, word.span);

@@ -3,7 +3,9 @@
 ghost use Rattle.std.specs.Prelude.{◌≡◌, ◌∷◌, [], Some, None, if◌then◌else◌};
 ghost use Rattle.ada_types.specs.Rules.{number_of};
 ghost use Rattle.ada_types.specs.Sooner.{is_before, sooner, found};
+ghost use Rattle.ada_types.specs.Telling.{refusal_of};
 
+use crate::errors::TypeError;
 use ada_tree::Span;
 use std::marker::Model;
 
@@ -99,4 +101,25 @@ pub(crate) fn refuse_if(test: bool, rule: Rule, span: Span) -> Option<Refusal>
     ensures { result ≡ found (number_of rule) (if test then span ∷ [] else []) }
 {
     if test { refuse(rule, span) } else { None }
+}
+
+/// The error that tells a refusal.
+pub(crate) fn error_of(refusal: Refusal) -> TypeError
+    ensures { refusal_of result ≡ Some refusal }
+{
+    let span = refusal.span;
+    match refusal.rule {
+        Rule::Unknown => TypeError::Unknown { span },
+        Rule::Duplicate => TypeError::Duplicate { span },
+        Rule::Mismatch => TypeError::Mismatch { span },
+        Rule::NotStatic => TypeError::NotStatic { span },
+        Rule::RangeBad => TypeError::RangeBad { span },
+        Rule::NotVariable => TypeError::NotVariable { span },
+        Rule::ReadOut => TypeError::ReadOut { span },
+        Rule::ArgCount => TypeError::ArgCount { span },
+        Rule::ChoiceBad => TypeError::ChoiceBad { span },
+        Rule::ArrayUse => TypeError::ArrayUse { span },
+        Rule::TextUse => TypeError::TextUse { span },
+        Rule::NotException => TypeError::NotException { span },
+    }
 }

@@ -1,22 +1,26 @@
 // What can be used at a place of a program.
 
-ghost use Rattle.std.specs.Prelude.{◌≡◌, option_map};
-ghost use Rattle.ada_tree.specs.Scope.{meaning};
+ghost use Rattle.std.specs.Prelude.{◌≡◌, ◌≤◌, length, option_map, IfOk, OnOk, OnErr};
+ghost use Rattle.ada_tree.specs.Scope.{meaning, Scope as PlainScope};
+ghost use Rattle.ada_tree.specs.Declaring.{before_all, with_name, inside};
 ghost use Rattle.ada_types.specs.Things.{plain_thing};
+ghost use Rattle.ada_types.specs.Nested.{IsOuter, IsWithin};
 
+use crate::predefined::{first_names, first_table};
 use crate::table::Table;
 use crate::things::{Entries, Thing};
-use ada_tree::NameId;
+use ada_tree::{NameId, Word};
 use scoped_names::ScopedNames;
+use std::alloc::{AllocError, Global};
 use std::marker::Model;
 use std::rc::Rc;
 
-/// What can be used at a place: the types, the names with what they mean, of which the latest `here` are those of the innermost scope, whether the place is in main outside all bodies, the entries of the task in whose body it is, the tasks whose bodies are declared before, and whether an instance of INTEGER_IO is.
+/// What can be used at a place: the types, the names with what they mean, of which the first `base` stand before the innermost scope, whether the place is in main outside all bodies, the entries of the task in whose body it is, the tasks whose bodies are declared before, and whether an instance of INTEGER_IO is.
 #[derive(Drop)]
 pub(crate) struct Scope {
     table: Table,
     names: ScopedNames<Thing>,
-    here: usize,
+    base: usize,
     in_main: bool,
     own: Rc<Entries>,
     bodies: Vec<u32>,
@@ -24,16 +28,45 @@ pub(crate) struct Scope {
 }
 
 impl Model for Scope {
-    ghost use Rattle.std.specs.Prelude.{map, take, reverse};
+    ghost use Rattle.std.specs.Prelude.{map, take, reverse, length, ◌-◌, ◌≤◌};
     ghost use Rattle.ada_tree.specs.Scope.{Scope};
     ghost use Rattle.ada_types.specs.Things.{plain_names};
 
     ghost Value = { Scope };
 
-    ghost view = { λ a. record { types = a.table; names = plain_names a.names; here = map (λ s. s.0) (take a.here a.names); in_main = a.in_main; own = a.own.value; bodies = reverse a.bodies.items; has_instance = a.has_instance } };
+    ghost view = { λ a. record { types = a.table; names = plain_names a.names; here = map (λ s. s.0) (take (length a.names - a.base) a.names); in_main = a.in_main; own = a.own.value; bodies = reverse a.bodies.items; has_instance = a.has_instance } };
+
+    ghost invariant = { λ a. a.base ≤ length a.names };
+}
+
+/// A scope in which another one is entered: how many names there are, and how many of these stand before it.
+#[derive(Clone, Copy)]
+pub(crate) struct Outer {
+    base: usize,
+    count: usize,
 }
 
 impl Scope {
+    /// What can be used before a program begins.
+    pub(crate) fn new(alloc: Global) -> Result<Self, AllocError>
+        ensures { IfOk result (λ scope. scope ≡ before_all) }
+    {
+        let table = first_table(alloc)?;
+        let names = first_names(alloc)?;
+        match Rc::new(alloc, Entries::new(Vec::new(alloc))) {
+            Ok(own) => Ok(Scope {
+                table,
+                base: names.len(),
+                names,
+                in_main: true,
+                own,
+                bodies: Vec::new(alloc),
+                has_instance: false,
+            }),
+            Err(_) => Err(AllocError),
+        }
+    }
+
     /// What a name means, which is nothing where it is not declared before.
     pub(crate) fn meaning(&self, id: NameId) -> Option<&Thing>
         ensures { option_map (λ t. plain_thing t.now) result ≡ meaning self.now id }
@@ -46,5 +79,43 @@ impl Scope {
         ensures { result.now ≡ self.now.types }
     {
         &self.table
+    }
+
+    /// The entries of the task in whose body the place is.
+    pub(crate) fn own(&self) -> &Entries
+        ensures { result.now ≡ self.now.own }
+    {
+        &*self.own
+    }
+
+    /// A name more in the innermost scope.
+    pub(crate) fn declare(&mut self, word: Word, thing: Thing) -> Result<(), AllocError>
+        ensures ok { OnOk result (self.new ≡ with_name (plain_thing thing) self.old word) }
+        ensures err { OnErr result (self.new ≡ self.old) }
+    {
+        self.names.declare(word.name.0, thing)
+    }
+
+    /// Enters an inner scope, in which no name is declared yet.
+    pub(crate) fn enter(&mut self) -> Outer
+        ensures scope { self.new ≡ inside self.old }
+        ensures outer { IsOuter self.old result }
+    {
+        let outer = Outer {
+            base: self.base,
+            count: self.names.len(),
+        };
+        self.base = outer.count;
+        outer
+    }
+
+    /// Leaves the scopes that were entered from an outer one on: its names are left, and what else there is stays.
+    pub(crate) fn leave(&mut self, outer: Outer)
+        requires within { outer.count ≤ length self.old.names }
+        requires ordered { outer.base ≤ outer.count }
+        ensures { (s : PlainScope) → IsOuter s outer → IsWithin self.old s → self.new ≡ record self.old { names = s.names; here = s.here } }
+    {
+        self.names.leave(self.names.len() - outer.count);
+        self.base = outer.base;
     }
 }

@@ -1,5 +1,8 @@
 // What names mean, as plain data.
 
+ghost use Rattle.std.specs.Prelude.{◌≡◌, map};
+ghost use Rattle.ada_types.specs.Entries.{plain_entry};
+
 use ada_tree::{NameId, ParMode};
 use std::marker::Model;
 use std::rc::Rc;
@@ -50,6 +53,15 @@ impl Model for Entries {
     ghost Value = { List EntryPart };
 
     ghost view = { λ a. map plain_entry a.parts.items };
+}
+
+impl Entries {
+    /// These entries.
+    pub(crate) fn new(parts: Vec<EntryPart>) -> Self
+        ensures { result ≡ map plain_entry parts.items }
+    {
+        Entries { parts }
+    }
 }
 
 /// What a name means. The numbers are places of kinds and marks.

@@ -10,6 +10,7 @@ ghost use Rattle.ada_types.specs.Judged.{fixed_value};
 ghost use Rattle.ada_types.specs.Walked.{IsWalked};
 
 use crate::judging::judge;
+use crate::known::Known;
 use crate::nodes::refuse_other;
 use crate::refusals::{Refusal, Rule, first, refuse_if};
 use crate::scope::Scope;
@@ -21,6 +22,18 @@ pub(crate) struct Walked {
     pub kind: Option<u32>,
     pub value: Option<Result<i64, Span>>,
     pub refusal: Option<Refusal>,
+}
+
+impl Walked {
+    /// What is known of the expression.
+    pub(crate) fn known(&self) -> Known
+        ensures { result ≡ record { kind = self.now.kind; value = self.now.value } }
+    {
+        Known {
+            kind: self.kind,
+            value: self.value,
+        }
+    }
 }
 
 /// Walks an expression.
@@ -35,8 +48,13 @@ pub(crate) fn walk(scope: &Scope, e: &Expr) -> Walked
     }
 }
 
-// An expression of another kind than it must be of.
-fn refuse_kind(scope: &Scope, asked: Option<u32>, e: &Expr, kind: Option<u32>) -> Option<Refusal>
+/// An expression of another kind than it must be of.
+pub(crate) fn refuse_kind(
+    scope: &Scope,
+    asked: Option<u32>,
+    e: &Expr,
+    kind: Option<u32>,
+) -> Option<Refusal>
     requires { kind ≡ kind_of scope.now (plain_expr e.now) }
     ensures { result ≡ met_at scope.now (must_be_of (plain_expr e.now) asked) }
 {
@@ -56,8 +74,8 @@ pub(crate) fn walk_of(scope: &Scope, asked: Option<u32>, e: &Expr) -> Walked
     }
 }
 
-// The place of an expression.
-fn place(e: &Expr) -> Span
+/// The place of an expression.
+pub(crate) fn place(e: &Expr) -> Span
     ensures { result ≡ place_of (plain_expr e.now) }
 {
     e.span

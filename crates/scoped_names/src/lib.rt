@@ -1,7 +1,7 @@
 //! What names mean in nested scopes. A look-up, a declaration and the end of a scope each take one step for a name.
 #![tactic(auto)]
 
-ghost use Rattle.std.specs.Prelude.{◌≡◌, ◌∷◌, [], drop, option_map, OnOk, OnErr};
+ghost use Rattle.std.specs.Prelude.{◌≡◌, ◌∷◌, [], drop, length, option_map, OnOk, OnErr};
 ghost use Rattle.scoped_names.specs.Meaning.{meaning_in};
 
 #[cfg(test)]
@@ -47,6 +47,13 @@ impl<T> ScopedNames<T> {
             slots: Vec::new(alloc),
             latest: HashMap::new(alloc),
         }
+    }
+
+    /// How many names there are, each counted as often as it is declared.
+    pub fn len(&self) -> usize
+        ensures { result ≡ length self.now }
+    {
+        self.slots.len()
     }
 
     /// What a name means, which is what it was declared as the latest time.
