@@ -25,6 +25,8 @@ pub mod UnitLaws
 pub mod NoEnd
 pub mod Whole
 pub mod Exact
+pub mod Answering
+pub mod Identifying
 pub mod RowLists
 mod ReadingExamples
 mod DeclExamples

@@ -1,5 +1,5 @@
 -- How a row of declarations goes on, as the code reads it.
-use Rattle.std.proofs.Common.{◌≡◌, ℕ, suc, ◌-◌, ◌<◌, ◌≤◌, Bool, true, false, ◌||◌, List, [], ◌∷◌, ◌++◌, length, take, drop, get_or, refl, sym, ap, subst, ◌∙◌, arith}
+use Rattle.std.proofs.Common.{◌≡◌, ◌-◌, ◌<◌, ◌≤◌, Bool, true, false, ◌||◌, List, [], ◌∷◌, ◌++◌, length, take, drop, get_or, refl, sym, ap, subst, ◌∙◌, arith}
 use Rattle.lawful_reader.specs.Readers.{Answer, Found, Fault, Reader, fronted}
 use Rattle.lawful_reader.specs.Lawful.{Shortens}
 use Rattle.ada_expr_parser.specs.declared.items.Item.{Item}
@@ -17,13 +17,13 @@ RowGoesOn begins turns part done behind rest begun first all =
 
 module _ {A : Type 0} (begins : Bool → Item → Bool) (turns : A → Bool) (part : Reader Item A) (shortens : Shortens part) (done begun : List A) (behind first : Bool) (ts all : List Item) (dummy : Item) where
   -- one more part
-  pub row_goes : (new : List A) (a : A) (rest : List Item) → new ≡ done ++ a ∷ [] → RowGoesOn begins turns part done behind ts begun first all → 1 ≤ length ts → begins behind (get_or ts 0 dummy) ≡ true → part ts ≡ Found a rest →
-      RowGoesOn begins turns part new (behind || turns a) rest begun first all
-  row_goes new a rest longer (upto, same) some yes_is found =
+  pub row_goes : (new : List A) (now : Bool) (a : A) (rest : List Item) → new ≡ done ++ a ∷ [] → now ≡ (behind || turns a) → RowGoesOn begins turns part done behind ts begun first all → 1 ≤ length ts → begins behind (get_or ts 0 dummy) ≡ true → part ts ≡ Found a rest →
+      RowGoesOn begins turns part new now rest begun first all
+  row_goes new now a rest longer turned (upto, same) some yes_is found =
       let e : ts ≡ get_or ts 0 dummy ∷ take (length ts - 1) (drop 1 ts) = front_and_rest ts dummy some in
       let less : length rest < length ts = shortens ts a rest found in (
         omega (arith, less, upto),
-        ap (λ l. fronted l (row begins turns part (behind || turns a) rest)) longer ∙
+        (λ i. fronted (longer i) (row begins turns part (turned i) rest)) ∙
             (sym (row_step begins turns part shortens done behind (get_or ts 0 dummy) (take (length ts - 1) (drop 1 ts)) a rest yes_is (ap part (sym e) ∙ found)) ∙ (ap (λ l. fronted done (row begins turns part behind l)) (sym e) ∙ same)),
       )
 
@@ -50,10 +50,11 @@ module _ {A : Type 0} (begins : Bool → Item → Bool) (turns : A → Bool) (pa
       let e : ts ≡ get_or ts 0 dummy ∷ take (length ts - 1) (drop 1 ts) = front_and_rest ts dummy some in
       sym same ∙ (ap (λ l. fronted done (row begins turns part behind l)) e ∙ row_end begins turns part shortens done behind (get_or ts 0 dummy) (take (length ts - 1) (drop 1 ts)) no_is ∙ ap (Found done) (sym e))
 
+module _ {A : Type 0} (begins : Bool → Item → Bool) (turns : A → Bool) (part : Reader Item A) (done begun : List A) (behind first : Bool) where
   empty : (ts : List Item) → length ts < 1 → FaultsAt false 0 (fronted done (row begins turns part behind ts))
   empty [] none = (refl, refl)
   empty (x ∷ ts) none = absurd (omega (arith, none))
 
   -- nothing at all is left, not even the end
-  pub row_empty : RowGoesOn begins turns part done behind ts begun first all → length ts < 1 → FaultsAt false 0 (fronted begun (row begins turns part first all))
-  row_empty (upto, same) none = subst (FaultsAt false 0) same (empty ts none)
+  pub row_empty : (ts all : List Item) → RowGoesOn begins turns part done behind ts begun first all → length ts < 1 → FaultsAt false 0 (fronted begun (row begins turns part first all))
+  row_empty ts all (upto, same) none = subst (FaultsAt false 0) same (empty ts none)

@@ -16,3 +16,5 @@ pub mod MemberViews
 pub mod ReadingUnits
 pub mod Laws
 pub mod Exactly
+pub mod UnitViews
+pub mod Refusals

@@ -1,8 +1,9 @@
 //! Declarations (3.9). Each reader takes how many levels may stand below the root of each expression, and those of any
 //! declaration the id of PRIORITY.
 
-ghost use Rattle.std.specs.Prelude.{◌≡◌, ◌<◌, ◌≤◌, codes, IfOk, length};
-ghost use Rattle.ada_tree.specs.PlainDecl.{plain_decl};
+ghost use Rattle.std.specs.Prelude.{◌≡◌, ◌<◌, ◌≤◌, false, codes, IfOk, map, length};
+ghost use Rattle.lawful_reader.specs.Readers.{fronted};
+ghost use Rattle.ada_tree.specs.PlainDecl.{plain_decl, decls_of};
 ghost use Rattle.ada_expr_parser.specs.Gives.{Gives};
 ghost use Rattle.ada_parser.specs.Spelling.{id_of};
 ghost use Rattle.ada_parser.specs.ReadingDeclarations as declarations;
@@ -12,10 +13,10 @@ use crate::objects::read_named;
 use crate::pragmas::read_pragma;
 use crate::source::Source;
 use crate::task_bodies::read_task;
-use crate::tokens::{stands, word_in};
+use crate::tokens::{add, is_symbol, stands, word_in};
 use crate::types::{read_instance, subtype_rest, type_rest};
 use ada_expr_parser::{Item, ParseError, Symbol, expect, expect_word};
-use ada_tree::{Decl, NameId, Span};
+use ada_tree::{Decl, DeclKind, NameId, Span};
 use std::alloc::Global;
 
 // Behind `type`.
@@ -98,4 +99,82 @@ fn read_decl<'a>(
         return read_task(alloc, source, depth, priority, lead, rest);
     }
     Err(ParseError::Syntax { at: lead.start })
+}
+
+// Whether an item begins a declaration that may stand behind a body.
+fn begins_later(item: Item) -> bool
+    ensures { result ≡ declarations.begins_later item }
+{
+    is_symbol(Symbol::Package, item) || is_symbol(Symbol::Task, item)
+}
+
+// Whether an item begins a declaration, by whether a body stands before it.
+fn begins_decl(behind: bool, item: Item) -> bool
+    ensures { result ≡ declarations.begins_behind behind item }
+{
+    if behind {
+        return begins_later(item);
+    }
+    word_in(item).is_some()
+        || is_symbol(Symbol::Type, item)
+        || is_symbol(Symbol::Subtype, item)
+        || is_symbol(Symbol::Pragma, item)
+        || begins_later(item)
+}
+
+// Whether a declaration is a task's body.
+fn is_body(decl: &Decl) -> bool
+    ensures { result ≡ declarations.is_body (plain_decl decl.now) }
+{
+    matches!(decl.kind, DeclKind::TaskBody { .. })
+}
+
+// Declarations at the end of the list, as long as one begins.
+#[tactic(auto, using(crate::proofs::Steps::steps))]
+fn decls_onto<'a>(
+    alloc: Global,
+    source: &Source<'_>,
+    depth: u32,
+    priority: NameId,
+    list: &mut Vec<Decl>,
+    items: &'a [Item],
+) -> Result<&'a [Item], ParseError>
+    requires shallow { depth ≤ 298 }
+    requires id { priority.0 ≡ id_of source.now.names.now (codes "PRIORITY") }
+    ensures tree { Gives (λ x. map plain_decl list.new.items) (λ x. x.now) result (fronted (map plain_decl list.old.items) (declarations.decl_list (told source.now) depth false items.now)) }
+    ensures shorter { IfOk result (λ x. length x.now ≤ length items.now) }
+{
+    let mut rest = items;
+    let mut behind = false;
+    'decls: loop {
+        let [next, ..] = rest else {
+            return Err(ParseError::Syntax { at: 0 });
+        };
+        if !begins_decl(behind, *next) {
+            return Ok(rest);
+        }
+        let (decl, after) = read_decl(alloc, source, depth, priority, rest)?;
+        behind = behind || is_body(&decl);
+        add(list, decl)?;
+        rest = after;
+    }
+}
+
+/// Declarations, none or some. Behind the first body stand bodies, tasks and instances alone.
+#[tactic(auto, using(crate::proofs::Steps::steps, crate::proofs::DeclSteps::fronted_none))]
+pub(crate) fn read_decls<'a>(
+    alloc: Global,
+    source: &Source<'_>,
+    depth: u32,
+    priority: NameId,
+    items: &'a [Item],
+) -> Result<(Vec<Decl>, &'a [Item]), ParseError>
+    requires shallow { depth ≤ 298 }
+    requires id { priority.0 ≡ id_of source.now.names.now (codes "PRIORITY") }
+    ensures tree { Gives (λ x. decls_of (map plain_decl x.0.items)) (λ x. x.1.now) result (declarations.decls (told source.now) depth items.now) }
+    ensures shorter { IfOk result (λ x. length x.1.now ≤ length items.now) }
+{
+    let mut list = Vec::new(alloc);
+    let rest = decls_onto(alloc, source, depth, priority, &mut list, items)?;
+    Ok((list, rest))
 }
