@@ -1,20 +1,17 @@
 -- The causes of a failure to print, from the parts of the command to the whole.
-use Rattle.std.proofs.Common.{◌≡◌, ℕ, List, [], Option, Result, Ok, Err, inl, inr, refl}
+use Rattle.std.proofs.Common.{ℕ, List, [], Option, Ok, Err, inl, inr, refl}
 use Rattle.ded_io.specs.Told.{ToldFile}
-use Rattle.ded_io.specs.Written.{Began, Wrote}
+use Rattle.ded_io.specs.Written.{Wrote}
 use Rattle.ded_io.specs.Counts.{Rose}
 use Rattle.ada_tree.specs.PlainProgram.{PProgram}
 use Rattle.ada_parser.specs.Exactly.{IsRead}
-use Rattle.ada_parser.specs.Refusals.{IsRefusedFor}
-use Rattle.ada_parser.specs.declared.errors.ReadError.TheVariants as refusal
-use Rattle.ada_lexer.specs.declared.errors.LexError.TheVariants as lexical
 use Rattle.ada_printer.specs.ProgramText.{program_text}
 use Rattle.debug_core.specs.declared.failing.Failure.{Failure}
 use Rattle.debug_core.specs.declared.failing.Failure.TheVariants.{Refused, BadText, Usage, BadSequence, Unreadable, OutputFailed, TooLong, TooMany, Memory}
 use Rattle.debug_core.specs.declared.failing.Source.TheVariants.{Program}
 use Rattle.debug_core.specs.Causes.{Sides, WasLoaded, IsLoadCause}
 use Rattle.debug_core.specs.Failures.{Fails}
-use Rattle.debug_core.specs.PrintAnswers.{AnswersPrint, HasPrintCause, IsPrintCause, IsCutShort, printed_limit}
+use Rattle.debug_core.specs.PrintAnswers.{AnswersPrint, HasPrintCause, IsPrintCause, HasPrinted, IsCutShort, printed_limit}
 use Rattle.debug_core.specs.TextFaults.{IsTextCause}
 use Rattle.debug_core.proofs.Closing.{line_of}
 
@@ -35,9 +32,9 @@ print_unsaid file s Refused h rose = absurd h
 print_unsaid file s (BadText fault) h rose = inr (rose, h.1)
 print_unsaid file s Usage h rose = absurd h
 print_unsaid file s (BadSequence found line) h rose = absurd h
-print_unsaid file s (Unreadable source) h rose = inr (rose, h.1.1)
+print_unsaid file s (Unreadable source) h rose = inr (rose, h.2)
 print_unsaid file s OutputFailed h rose = inl h
-print_unsaid file s (TooLong limit) h rose = inr (rose, h.1.1)
+print_unsaid file s (TooLong limit) h rose = inr (rose, h.2)
 print_unsaid file s (TooMany limit) h rose = absurd h
 print_unsaid file s Memory h rose = inr (rose, h)
 
@@ -71,6 +68,13 @@ print_unread told file text reads reads' out writes OutputFailed loaded h = absu
 print_unread told file text reads reads' out writes (TooLong limit) loaded h = absurd h
 print_unread told file text reads reads' out writes (TooMany limit) loaded h = h
 print_unread told file text reads reads' out writes Memory loaded h = refl
+
+-- all of the text is written
+pub print_written : (A E : Type 0) (x : A) (told : Option (List ToldFile)) (file text : List ℕ) (p : PProgram) (out out' : Option (List ℕ)) →
+    WasLoaded told file printed_limit text → IsRead text p → Wrote {E = E} (Ok x) out out' (program_text p) → HasPrinted told file out out'
+unfolding Wrote
+print_written A E x told file text p out out' loaded is_read written =
+    record { program = p; held = record { text = text; loaded = loaded; is_read = is_read }; written = written }
 
 -- behind an error a front of the text is written
 pub print_unwritten : (A E : Type 0) (e : E) (told : Option (List ToldFile)) (file text : List ℕ) (p : PProgram) (out out' : Option (List ℕ)) (writes writes' : ℕ) →

@@ -1,6 +1,6 @@
 // The command that prints a program.
 
-ghost use Rattle.std.specs.Prelude.{◌≡◌, ◌<◌, ◌-◌, ◌^◌, length, IfOk, IfErr, OnOk};
+ghost use Rattle.std.specs.Prelude.{◌<◌, ◌-◌, ◌^◌, length, IfOk, IfErr, OnOk};
 ghost use Rattle.ada_tree.specs.PlainProgram.{plain_program};
 ghost use Rattle.ada_parser.specs.Exactly.{IsRead};
 ghost use Rattle.debug_core.specs.PrintAnswers.{AnswersPrint, HasPrinted, IsPrintCause};

@@ -1,8 +1,8 @@
 // What is wrong with a text that is read as no program of the language.
 
-ghost use Rattle.std.specs.Prelude.{◌≡◌, ◌<◌, ◌-◌, ◌^◌, length, option_copied};
+ghost use Rattle.std.specs.Prelude.{◌≡◌, ◌<◌, ◌-◌, ◌^◌, length, slice_get};
 ghost use Rattle.ada_parser.specs.Refusals.{IsRefusedFor};
-ghost use Rattle.debug_core.specs.TextFaults.{HasTextFault, IsTextCause, refusal_of, limit_of};
+ghost use Rattle.debug_core.specs.TextFaults.{IsTextCause, refusal_of, limit_of};
 
 use crate::failing::Failure;
 use ada_lexer::{LexError, line_col};
@@ -52,7 +52,7 @@ pub(crate) fn text_failure(text: &[u8], error: ReadError) -> Failure
         }
         ReadError::Lex(LexError::BadNumber { at }) => misspelled(text, Misspelling::BadNumber, at),
         ReadError::Lex(LexError::TooLong { at }) => Failure::BadText(TextFault::LongToken {
-            limit: limit_of(text.get(at as usize)),
+            limit: token_limit(text, at),
         }),
         ReadError::Lex(LexError::Memory) => Failure::Memory,
         ReadError::Syntax { at } => misspelled(text, Misspelling::Syntax, at),
@@ -77,11 +77,11 @@ fn misspelled(text: &[u8], what: Misspelling, at: u32) -> Failure
     })
 }
 
-// How many bytes a token that begins so may have: the content of a string, or an identifier.
-fn limit_of(first: Option<&u8>) -> u32
-    ensures { result ≡ limit_of (option_copied first) }
+// How many bytes the token at a place may have: the content of a string, or an identifier.
+fn token_limit(text: &[u8], at: u32) -> u32
+    ensures { result ≡ limit_of (slice_get text.now at) }
 {
-    match first {
+    match text.get(at as usize) {
         Some(b'"') => 200,
         _ => 150,
     }
