@@ -27,8 +27,6 @@ mod statements;
 mod strings;
 mod task_bodies;
 mod tasks;
-#[cfg(test)]
-mod tests;
 mod tokens;
 mod types;
 mod units;

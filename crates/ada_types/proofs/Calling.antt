@@ -1,21 +1,22 @@
 -- What is refused first at the tasks, the entries and the lists of calls.
-use Rattle.std.specs.Prelude.{◌≡◌, Option, Some, None, refl}
+use Rattle.std.specs.Prelude.{◌≡◌, ◌∷◌, Option, Some, None, refl}
 use Rattle.std.proofs.Common.{sym, ap, subst, ◌∙◌}
+use Rattle.std.proofs.lemmas.List.{length-map}
 use Rattle.ada_tree.specs.declared.naming.Word.{Word}
 use Rattle.ada_tree.specs.PlainExpr.{PExpr}
-use Rattle.ada_tree.specs.PlainStmt.{PCallee}
+use Rattle.ada_tree.specs.PlainStmt.{PCallee, PCall}
 use Rattle.ada_tree.specs.Refusals.{Refusal}
 use Rattle.ada_tree.specs.Scope.{Scope, Thing, TaskRow, meaning}
-use Rattle.ada_tree.specs.Demand.{addresses}
-use Rattle.ada_tree.specs.RuleUnknown.{unseen}
+use Rattle.ada_tree.specs.Demand.{addresses, calls}
+use Rattle.ada_tree.specs.RuleUnknown.{unseen, unknown_entry}
 use Rattle.ada_tree.specs.RuleMismatch.{no_task, misfit_member}
 use Rattle.ada_tree.specs.RuleRangeBad.{member_range, member_out_of}
-use Rattle.ada_tree.specs.RuleArgCount.{index_of_callee}
-use Rattle.ada_tree.specs.Sites.{expr_sites, callee_sites}
+use Rattle.ada_tree.specs.RuleArgCount.{index_of_callee, called_entry, wrong_call}
+use Rattle.ada_tree.specs.Sites.{site, if_there, expr_sites, callee_sites, args_sites, call_sites}
 use Rattle.ada_types.specs.Sooner.{sooner, found}
 use Rattle.ada_types.specs.Met.{met_at, met}
 use Rattle.ada_types.proofs.SoonerLaws.{sooner_none, found_append}
-use Rattle.ada_types.proofs.Meeting.{met_one, before}
+use Rattle.ada_types.proofs.Meeting.{met_one, joined, before}
 
 abbrev over : Word → Option PExpr → PCallee
 over name index = record { name = name; index = index }
@@ -65,3 +66,22 @@ pub task_met : (scope : Scope) (name : Word) (o : Option PExpr) (p : Option Refu
 task_met scope name o p is_o is_p =
     subst (λ (x : Option PExpr). p ≡ met (callee_sites scope (over name x))) (sym is_o)
     (is_p ∙ sym (met_one scope (addresses (over name None))))
+
+-- ---- entries
+
+pub ruleset counted = (length-map)
+
+-- a call: the task, the entry, and the lists behind it
+pub call_met : (scope : Scope) (c : PCall) (p u n q : Option Refusal)
+    → p ≡ met (callee_sites scope c.task)
+    → u ≡ found 1 (unknown_entry (meaning scope c.task.name.name) c.entry)
+    → n ≡ found 8 (wrong_call (called_entry (meaning scope c.task.name.name) c.entry.name) c.args c.entry.span)
+    → q ≡ met (if_there (args_sites scope (called_entry (meaning scope c.task.name.name) c.entry.name)) c.args)
+    → sooner p (sooner (sooner u n) q) ≡ met (call_sites scope c)
+call_met scope c p u n q is_p is_u is_n is_q =
+    let rest = if_there (args_sites scope (called_entry (meaning scope c.task.name.name) c.entry.name)) c.args in
+    joined (callee_sites scope c.task) (site scope (calls c) ∷ rest) p (sooner (sooner u n) q) is_p
+    (before scope (calls c) rest (sooner u n) q
+    (ap (λ o. sooner o n) is_u
+    ∙ ap (sooner (found 1 (unknown_entry (meaning scope c.task.name.name) c.entry))) (is_n ∙ sym (sooner_none (found 8 (wrong_call (called_entry (meaning scope c.task.name.name) c.entry.name) c.args c.entry.span)))))
+    is_q)

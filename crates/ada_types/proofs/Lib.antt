@@ -8,6 +8,11 @@ pub mod FirstRefusal
 pub mod Meeting
 pub mod Knowing
 pub mod Bounding
+pub mod Accepting
+pub mod Listing
+pub mod Passing
 pub mod Writing
 pub mod Calling
 pub mod Nesting
+pub mod Covering
+pub mod Inner

@@ -15,5 +15,10 @@ pub mod Judged
 pub mod Walked
 pub mod Known
 pub mod Ranges
+pub mod Accepts
+pub mod Actuals
+pub mod Calls
 pub mod Targets
 pub mod Written
+pub mod Covers
+pub mod Inner

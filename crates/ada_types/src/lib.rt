@@ -1,8 +1,13 @@
 //! The types of a program, and the values of its static expressions.
 #![tactic(auto)]
 
+mod actuals;
 mod callees;
+mod calls;
+mod covered;
 mod errors;
+mod formals;
+mod heads;
 mod judging;
 mod kinds;
 mod known;

@@ -1,7 +1,7 @@
 // What can be used at a place of a program.
 
 ghost use Rattle.std.specs.Prelude.{◌≡◌, ◌≤◌, length, option_map, IfOk, OnOk, OnErr};
-ghost use Rattle.ada_tree.specs.Scope.{meaning, Scope as PlainScope};
+ghost use Rattle.ada_tree.specs.Scope.{is_entry_somewhere, meaning, Scope as PlainScope};
 ghost use Rattle.ada_tree.specs.Declaring.{before_all, with_name, inside};
 ghost use Rattle.ada_types.specs.Things.{plain_thing};
 ghost use Rattle.ada_types.specs.Nested.{IsOuter, IsWithin};
@@ -72,6 +72,18 @@ impl Scope {
         ensures { option_map (λ t. plain_thing t.now) result ≡ meaning self.now id }
     {
         self.names.meaning(id.0)
+    }
+
+    /// Whether a task, a task type or an array of tasks that is declared before has an entry of that name.
+    pub(crate) fn is_entry_somewhere(&self, id: NameId) -> bool
+        ensures { result ≡ is_entry_somewhere self.now id }
+    {
+        for place in 0..self.names.len() {
+            if self.names.at(place).has_entry(id) {
+                return true;
+            }
+        }
+        false
     }
 
     /// The types, marks and constants.

@@ -1,6 +1,9 @@
 // What names mean, as plain data.
 
-ghost use Rattle.std.specs.Prelude.{◌≡◌, map};
+ghost use Rattle.std.specs.Prelude.{◌≡◌, [], map, option_map, is_some};
+ghost use Rattle.std.specs.Option.{unwrap_or};
+ghost use Rattle.ada_tree.specs.Scope.{entry_named, entries_of};
+ghost use Rattle.ada_types.specs.Things.{plain_thing};
 ghost use Rattle.ada_types.specs.Entries.{plain_entry};
 
 use ada_tree::{NameId, ParMode};
@@ -62,6 +65,18 @@ impl Entries {
     {
         Entries { parts }
     }
+
+    /// The entry of a name.
+    pub(crate) fn named(&self, id: NameId) -> Option<&EntryPart>
+        ensures { option_map (λ e. plain_entry e.now) result ≡ entry_named self.now id }
+    {
+        for part in &self.parts {
+            if part.name.0 == id.0 {
+                return Some(part);
+            }
+        }
+        None
+    }
 }
 
 /// What a name means. The numbers are places of kinds and marks.
@@ -81,4 +96,29 @@ pub(crate) enum Thing {
     MainProcedure,
     AnotherUnit,
     Unclear,
+}
+
+impl Thing {
+    /// The entries of what is a task, a task type or an array of tasks.
+    fn entries(&self) -> Option<&Entries>
+        ensures { unwrap_or (option_map (λ e. e.now) result) [] ≡ entries_of (plain_thing self.now) }
+    {
+        match self {
+            Thing::TaskType(entries) => Some(&**entries),
+            Thing::SingleTask(entries) => Some(&**entries),
+            Thing::TaskObject(entries) => Some(&**entries),
+            Thing::TaskRow(_, entries) => Some(&**entries),
+            _ => None,
+        }
+    }
+
+    /// Whether it has an entry of that name.
+    pub(crate) fn has_entry(&self, id: NameId) -> bool
+        ensures { result ≡ is_some (entry_named (entries_of (plain_thing self.now)) id) }
+    {
+        match self.entries() {
+            Some(entries) => entries.named(id).is_some(),
+            None => false,
+        }
+    }
 }

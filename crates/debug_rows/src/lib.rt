@@ -1,4 +1,4 @@
-//! Rows of words, each with the status and the texts that the program's one call gives over files and outputs in memory; and tests of trees that are built by hand.
+//! Rows of words, each with the status and the texts that the program's one call gives over files and outputs in memory.
 #![tactic(auto)]
 
 #[cfg(test)]
@@ -10,7 +10,5 @@ mod printing;
 mod row;
 #[cfg(test)]
 mod tests;
-#[cfg(test)]
-mod trees;
 
 pub use row::Row;

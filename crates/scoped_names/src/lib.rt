@@ -1,7 +1,7 @@
 //! What names mean in nested scopes. A look-up, a declaration and the end of a scope each take one step for a name.
 #![tactic(auto)]
 
-ghost use Rattle.std.specs.Prelude.{◌≡◌, ◌∷◌, [], drop, length, option_map, OnOk, OnErr};
+ghost use Rattle.std.specs.Prelude.{◌≡◌, ◌<◌, ◌∷◌, [], Some, drop, length, slice_get, option_map, OnOk, OnErr};
 ghost use Rattle.scoped_names.specs.Meaning.{meaning_in};
 
 #[cfg(test)]
@@ -54,6 +54,15 @@ impl<T> ScopedNames<T> {
         ensures { result ≡ length self.now }
     {
         self.slots.len()
+    }
+
+    /// What the name at a place means, where the latest name has place 0.
+    pub fn at(&self, place: usize) -> &T
+        requires { place < length self.now }
+        ensures { Some result.now ≡ option_map (λ s. s.1) (slice_get self.now place) }
+    {
+        let slot = &self.slots[self.slots.len() - 1 - place];
+        &slot.thing
     }
 
     /// What a name means, which is what it was declared as the latest time.

@@ -1,7 +1,7 @@
 //! One text that is read, and one for each error.
 
-use crate::{ReadError, read};
 use ada_lexer::LexError;
+use ada_parser::{ReadError, read};
 use std::test::Fail;
 
 #[test]

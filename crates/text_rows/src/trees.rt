@@ -1,6 +1,6 @@
 // Trees built by hand.
 
-mod sample;
+pub(crate) mod sample;
 
 use ada_printer::{print, text_len};
 use ada_tree::{Body, Literals, Memory, NameId, Names, Program, Span, Stmt, StmtKind, Word};
@@ -121,7 +121,7 @@ fn want_of_memory_is_told(rt: HostRuntime) -> Result<(), Fail> {
 }
 
 // The program SAMPLE, laid out by hand.
-const SAMPLE_TEXT: &[u8] = b"with TEXT_IO;
+pub(crate) const SAMPLE_TEXT: &[u8] = b"with TEXT_IO;
 use TEXT_IO;
 procedure SAMPLE is
    COUNT, TOTAL : INTEGER := 0;

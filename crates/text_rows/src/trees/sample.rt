@@ -85,7 +85,7 @@ impl Build<'_> {
 }
 
 // The program SAMPLE, with these names before its own, at this place, and with a loop of this name.
-pub(super) fn sample(
+pub(crate) fn sample(
     alloc: Global,
     mut names: Names,
     span: Span,
