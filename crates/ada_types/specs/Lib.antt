@@ -15,6 +15,8 @@ pub mod Judged
 pub mod Walked
 pub mod Known
 pub mod Ranges
+pub mod Initials
+pub mod Shapes
 pub mod Accepts
 pub mod Actuals
 pub mod Calls
