@@ -10,6 +10,8 @@ pub mod Nested
 pub mod Before
 pub mod Repeated
 pub mod Telling
+pub mod Namings
+pub mod Noted
 pub mod Plain
 pub mod Judged
 pub mod Walked
