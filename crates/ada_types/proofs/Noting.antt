@@ -41,7 +41,7 @@ naming_append : (o : Option Naming) (xs ys : List Naming) → and_then o (xs ++ 
 naming_append None xs ys = refl
 naming_append (Some n) xs ys = refl
 
-namings_append : (xs ys : List Site) → namings_of (xs ++ ys) ≡ namings_of xs ++ namings_of ys
+pub namings_append : (xs ys : List Site) → namings_of (xs ++ ys) ≡ namings_of xs ++ namings_of ys
 unfolding namings_of
 namings_append [] ys = refl
 namings_append (s ∷ xs) ys = ap (and_then (naming_in s.scope s.demand)) (namings_append xs ys) ∙ naming_append (naming_in s.scope s.demand) (namings_of xs) (namings_of ys)
@@ -61,56 +61,56 @@ named_quiet a f q = λ s. sym (append-nil a) ∙ ap (λ l. a ++ l) (sym (q s))
 pub named_behind : (a b : List Naming) (f g : Scope → List Site) → IsQuiet f → Named a b g → Named a b (λ s. f s ++ g s)
 named_behind a b f g q p = named_then a a b f g (named_quiet a f q) p
 
-named_before : (a b : List Naming) (f g : Scope → List Site) → Named a b f → IsQuiet g → Named a b (λ s. f s ++ g s)
+pub named_before : (a b : List Naming) (f g : Scope → List Site) → Named a b f → IsQuiet g → Named a b (λ s. f s ++ g s)
 named_before a b f g p q = named_then a b b f g p (named_quiet b g q)
 
 -- whatever else can be used at the places
-named_in : (a b : List Naming) (f : Scope → List Site) (h : Scope → Scope) → Named a b f → Named a b (λ s. f (h s))
+pub named_in : (a b : List Naming) (f : Scope → List Site) (h : Scope → Scope) → Named a b f → Named a b (λ s. f (h s))
 unfolding Named
 named_in a b f h p = λ s. p (h s)
 
 -- ---- quiet places
 
-quiet_none : namings_of [] ≡ []
+pub quiet_none : namings_of [] ≡ []
 unfolding namings_of
 quiet_none = refl
 
-quiet_site : (scope : Scope) (d : Demand) (rest : List Site) → naming_in scope d ≡ None → namings_of rest ≡ [] → namings_of (site scope d ∷ rest) ≡ []
+pub quiet_site : (scope : Scope) (d : Demand) (rest : List Site) → naming_in scope d ≡ None → namings_of rest ≡ [] → namings_of (site scope d ∷ rest) ≡ []
 unfolding namings_of
 quiet_site scope d rest h q = ap (λ o. and_then o (namings_of rest)) h ∙ q
 
-quiet_one : (scope : Scope) (d : Demand) → naming_in scope d ≡ None → namings_of (site scope d ∷ []) ≡ []
+pub quiet_one : (scope : Scope) (d : Demand) → naming_in scope d ≡ None → namings_of (site scope d ∷ []) ≡ []
 quiet_one scope d h = quiet_site scope d [] h quiet_none
 
-quiet_append : (xs ys : List Site) → namings_of xs ≡ [] → namings_of ys ≡ [] → namings_of (xs ++ ys) ≡ []
+pub quiet_append : (xs ys : List Site) → namings_of xs ≡ [] → namings_of ys ≡ [] → namings_of (xs ++ ys) ≡ []
 quiet_append xs ys p q = namings_append xs ys ∙ ap (λ l. l ++ namings_of ys) p ∙ q
 
-quiet_there : {A : Type 0} (f : A → List Site) (o : Option A) → ((x : A) → namings_of (f x) ≡ []) → namings_of (if_there f o) ≡ []
+pub quiet_there : {A : Type 0} (f : A → List Site) (o : Option A) → ((x : A) → namings_of (f x) ≡ []) → namings_of (if_there f o) ≡ []
 quiet_there f (Some x) q = q x
 quiet_there f None q = quiet_none
 
-quiet_flat : {A : Type 0} (f : A → List Site) (xs : List A) → ((x : A) → namings_of (f x) ≡ []) → namings_of (flat_map f xs) ≡ []
+pub quiet_flat : {A : Type 0} (f : A → List Site) (xs : List A) → ((x : A) → namings_of (f x) ≡ []) → namings_of (flat_map f xs) ≡ []
 quiet_flat f [] q = quiet_none
 quiet_flat f (x ∷ xs) q = quiet_append (f x) (flat_map f xs) (q x) (quiet_flat f xs q)
 
-quiet_nodes : (scope : Scope) (es : List PExpr) → namings_of (map (λ n. site scope (node false n)) es) ≡ []
+pub quiet_nodes : (scope : Scope) (es : List PExpr) → namings_of (map (λ n. site scope (node false n)) es) ≡ []
 quiet_nodes scope [] = quiet_none
 quiet_nodes scope (e ∷ es) = quiet_site scope (node false e) (map (λ n. site scope (node false n)) es) refl (quiet_nodes scope es)
 
-quiet_expr : (scope : Scope) (e : PExpr) → namings_of (expr_sites scope e) ≡ []
+pub quiet_expr : (scope : Scope) (e : PExpr) → namings_of (expr_sites scope e) ≡ []
 quiet_expr scope e = quiet_site scope _ (map (λ n. site scope (node false n)) (nodes e)) refl (quiet_nodes scope (nodes e))
 
-quiet_of : (scope : Scope) (k : Option ℕ) (e : PExpr) → namings_of (expr_of scope k e) ≡ []
+pub quiet_of : (scope : Scope) (k : Option ℕ) (e : PExpr) → namings_of (expr_of scope k e) ≡ []
 quiet_of scope k e = quiet_append (expr_sites scope e) (site scope (must_be_of e k) ∷ []) (quiet_expr scope e) (quiet_one scope (must_be_of e k) refl)
 
-quiet_static : (scope : Scope) (k : Option ℕ) (e : PExpr) → namings_of (static_of scope k e) ≡ []
+pub quiet_static : (scope : Scope) (k : Option ℕ) (e : PExpr) → namings_of (static_of scope k e) ≡ []
 quiet_static scope k e = quiet_append (expr_of scope k e) (site scope (must_be_static e) ∷ []) (quiet_of scope k e) (quiet_one scope (must_be_static e) refl)
 
-quiet_static_if : (static : Bool) (scope : Scope) (e : PExpr) → namings_of (static_if static scope e) ≡ []
+pub quiet_static_if : (static : Bool) (scope : Scope) (e : PExpr) → namings_of (static_if static scope e) ≡ []
 quiet_static_if true scope e = quiet_one scope (must_be_static e) refl
 quiet_static_if false scope e = quiet_none
 
-quiet_bounds : (static : Bool) (scope : Scope) (b : PBounds) → namings_of (bounds_sites static scope b) ≡ []
+pub quiet_bounds : (static : Bool) (scope : Scope) (b : PBounds) → namings_of (bounds_sites static scope b) ≡ []
 quiet_bounds static scope b =
     quiet_append (expr_sites scope b.first ++ static_if static scope b.first ++ expr_sites scope b.last ++ static_if static scope b.last) (site scope (must_not_be_empty b.first b.last) ∷ [])
     (quiet_append (expr_sites scope b.first ++ static_if static scope b.first ++ expr_sites scope b.last) (static_if static scope b.last)
@@ -120,12 +120,12 @@ quiet_bounds static scope b =
     (quiet_static_if static scope b.last))
     (quiet_one scope (must_not_be_empty b.first b.last) refl)
 
-quiet_constraint : (static : Bool) (scope : Scope) (k : Option ℕ) (b : PBounds) → namings_of (constraint_sites static scope k b) ≡ []
+pub quiet_constraint : (static : Bool) (scope : Scope) (k : Option ℕ) (b : PBounds) → namings_of (constraint_sites static scope k b) ≡ []
 quiet_constraint static scope k b =
     quiet_append (bounds_sites static scope b) (site scope (must_be_of b.first k) ∷ site scope (must_be_of b.last k) ∷ []) (quiet_bounds static scope b)
     (quiet_site scope (must_be_of b.first k) (site scope (must_be_of b.last k) ∷ []) refl (quiet_one scope (must_be_of b.last k) refl))
 
-quiet_subind : (static : Bool) (allowed : MarkUse) (scope : Scope) (x : PSubind) → namings_of (subind_sites static allowed scope x) ≡ []
+pub quiet_subind : (static : Bool) (allowed : MarkUse) (scope : Scope) (x : PSubind) → namings_of (subind_sites static allowed scope x) ≡ []
 quiet_subind static allowed scope x =
     quiet_append (mark_sites allowed scope x.mark) (if_there (constraint_sites static scope (scalar_kind (marking scope x.mark.name))) x.bounds)
     (quiet_one scope _ refl)
@@ -135,13 +135,13 @@ pub quiet_drange : (static : Bool) (scope : Scope) (x : PDrange) → namings_of 
 quiet_drange static scope (RGiven b) = quiet_append (bounds_sites static scope b) (site scope (must_be_alike b.first b.last) ∷ []) (quiet_bounds static scope b) (quiet_one scope (must_be_alike b.first b.last) refl)
 quiet_drange static scope (RMarked x) = quiet_subind static scalar_only scope x
 
-quiet_target : (scope : Scope) (t : PTarget) → namings_of (target_sites scope t) ≡ []
+pub quiet_target : (scope : Scope) (t : PTarget) → namings_of (target_sites scope t) ≡ []
 quiet_target scope t = quiet_site scope _ (if_there (expr_sites scope) t.index) refl (quiet_there (expr_sites scope) t.index (quiet_expr scope))
 
-quiet_callee : (scope : Scope) (c : PCallee) → namings_of (callee_sites scope c) ≡ []
+pub quiet_callee : (scope : Scope) (c : PCallee) → namings_of (callee_sites scope c) ≡ []
 quiet_callee scope c = quiet_site scope _ (if_there (expr_sites scope) c.index) refl (quiet_there (expr_sites scope) c.index (quiet_expr scope))
 
-quiet_written : (scope : Scope) (mode : ParMode) (e : PExpr) → namings_of (written_actual_sites scope mode e) ≡ []
+pub quiet_written : (scope : Scope) (mode : ParMode) (e : PExpr) → namings_of (written_actual_sites scope mode e) ≡ []
 quiet_written scope mode (EName id s) = quiet_one scope _ refl
 quiet_written scope mode (EInteger n s) = quiet_site scope _ (expr_sites scope (EInteger n s)) refl (quiet_expr scope (EInteger n s))
 quiet_written scope mode (EIndex w e s) = quiet_site scope _ (expr_sites scope (EIndex w e s)) refl (quiet_expr scope (EIndex w e s))
@@ -151,24 +151,24 @@ quiet_written scope mode (EParen e s) = quiet_site scope _ (expr_sites scope (EP
 quiet_written scope mode (EUnary op e s) = quiet_site scope _ (expr_sites scope (EUnary op e s)) refl (quiet_expr scope (EUnary op e s))
 quiet_written scope mode (EBinary op l r s) = quiet_site scope _ (expr_sites scope (EBinary op l r s)) refl (quiet_expr scope (EBinary op l r s))
 
-quiet_actual : (scope : Scope) (mode : ParMode) (e : PExpr) → namings_of (actual_sites scope mode e) ≡ []
+pub quiet_actual : (scope : Scope) (mode : ParMode) (e : PExpr) → namings_of (actual_sites scope mode e) ≡ []
 quiet_actual scope Take e = quiet_expr scope e
 quiet_actual scope Give e = quiet_written scope Give e
 quiet_actual scope Both e = quiet_written scope Both e
 
-quiet_actuals : (scope : Scope) (formals : List FormalPart) (es : List PExpr) → namings_of (actuals_sites scope formals es) ≡ []
+pub quiet_actuals : (scope : Scope) (formals : List FormalPart) (es : List PExpr) → namings_of (actuals_sites scope formals es) ≡ []
 quiet_actuals scope formals [] = quiet_none
 quiet_actuals scope [] (e ∷ es) = quiet_append (expr_sites scope e) (actuals_sites scope [] es) (quiet_expr scope e) (quiet_actuals scope [] es)
 quiet_actuals scope (f ∷ fs) (e ∷ es) =
     quiet_append (actual_sites scope f.mode e) (site scope (must_be_of e f.kind) ∷ actuals_sites scope fs es) (quiet_actual scope f.mode e)
     (quiet_site scope (must_be_of e f.kind) (actuals_sites scope fs es) refl (quiet_actuals scope fs es))
 
-quiet_free : (scope : Scope) (args : PArgs) → namings_of (free_args_sites scope args) ≡ []
+pub quiet_free : (scope : Scope) (args : PArgs) → namings_of (free_args_sites scope args) ≡ []
 quiet_free scope args =
     quiet_append (flat_map (expr_sites scope) args.first) (if_there (flat_map (expr_sites scope)) args.second) (quiet_flat (expr_sites scope) args.first (quiet_expr scope))
     (quiet_there (flat_map (expr_sites scope)) args.second (λ es. quiet_flat (expr_sites scope) es (quiet_expr scope)))
 
-quiet_args : (scope : Scope) (entry : EntryPart) (f : Family) (args : PArgs) → namings_of (args_sites scope (Some record { name = entry.name; family = f; formals = entry.formals }) args) ≡ []
+pub quiet_args : (scope : Scope) (entry : EntryPart) (f : Family) (args : PArgs) → namings_of (args_sites scope (Some record { name = entry.name; family = f; formals = entry.formals }) args) ≡ []
 quiet_args scope entry single args =
     quiet_append (actuals_sites scope entry.formals args.first) (if_there (flat_map (expr_sites scope)) args.second) (quiet_actuals scope entry.formals args.first)
     (quiet_there (flat_map (expr_sites scope)) args.second (λ es. quiet_flat (expr_sites scope) es (quiet_expr scope)))
@@ -177,7 +177,7 @@ quiet_args scope entry (family range) args =
     (quiet_there (actuals_sites scope entry.formals) args.second (quiet_actuals scope entry.formals))
 quiet_args scope entry unclear args = quiet_free scope args
 
-quiet_lists : (scope : Scope) (o : Option EntryPart) (args : PArgs) → namings_of (args_sites scope o args) ≡ []
+pub quiet_lists : (scope : Scope) (o : Option EntryPart) (args : PArgs) → namings_of (args_sites scope o args) ≡ []
 quiet_lists scope (Some entry) args = quiet_args scope entry entry.family args
 quiet_lists scope None args = quiet_free scope args
 
@@ -187,24 +187,24 @@ quiet_call scope c =
     quiet_append (callee_sites scope c.task) (site scope (calls c) ∷ if_there (args_sites scope entry) c.args) (quiet_callee scope c.task)
     (quiet_site scope (calls c) (if_there (args_sites scope entry) c.args) refl (quiet_there (args_sites scope entry) c.args (quiet_lists scope entry)))
 
-quiet_range_index : (scope : Scope) (entry : EntryPart) (f : Family) (e : PExpr) → namings_of (accept_index_sites scope (Some record { name = entry.name; family = f; formals = entry.formals }) e) ≡ []
+pub quiet_range_index : (scope : Scope) (entry : EntryPart) (f : Family) (e : PExpr) → namings_of (accept_index_sites scope (Some record { name = entry.name; family = f; formals = entry.formals }) e) ≡ []
 quiet_range_index scope entry single e = quiet_expr scope e
 quiet_range_index scope entry (family range) e = quiet_append (expr_of scope (Some range.kind) e) (site scope (must_lie_in e (Some range)) ∷ []) (quiet_of scope (Some range.kind) e) (quiet_one scope (must_lie_in e (Some range)) refl)
 quiet_range_index scope entry unclear e = quiet_expr scope e
 
-quiet_index : (scope : Scope) (o : Option EntryPart) (e : PExpr) → namings_of (accept_index_sites scope o e) ≡ []
+pub quiet_index : (scope : Scope) (o : Option EntryPart) (e : PExpr) → namings_of (accept_index_sites scope o e) ≡ []
 quiet_index scope (Some entry) e = quiet_range_index scope entry entry.family e
 quiet_index scope None e = quiet_expr scope e
 
-quiet_plain_test : (scope : Scope) (e : PExpr) (b : Bool) → namings_of (if b then [] else site scope (must_be_of e (Some 0)) ∷ []) ≡ []
+pub quiet_plain_test : (scope : Scope) (e : PExpr) (b : Bool) → namings_of (if b then [] else site scope (must_be_of e (Some 0)) ∷ []) ≡ []
 quiet_plain_test scope e true = quiet_none
 quiet_plain_test scope e false = quiet_one scope (must_be_of e (Some 0)) refl
 
-quiet_plain_part : (scope : Scope) (alone : Bool) (e : PExpr) → namings_of (plain_part_sites scope alone e) ≡ []
+pub quiet_plain_part : (scope : Scope) (alone : Bool) (e : PExpr) → namings_of (plain_part_sites scope alone e) ≡ []
 quiet_plain_part scope true e = quiet_plain_test scope e (is_image_of e)
 quiet_plain_part scope false e = quiet_none
 
-quiet_written_nodes : (scope : Scope) (e : PExpr) → namings_of (part_nodes scope e) ≡ []
+pub quiet_written_nodes : (scope : Scope) (e : PExpr) → namings_of (part_nodes scope e) ≡ []
 quiet_written_nodes scope (EInteger n s) = quiet_one scope _ refl
 quiet_written_nodes scope (EName id s) = quiet_one scope _ refl
 quiet_written_nodes scope (EIndex w e s) = quiet_site scope _ (map (λ n. site scope (node false n)) (nodes e)) refl (quiet_nodes scope (nodes e))
@@ -214,19 +214,19 @@ quiet_written_nodes scope (EParen e s) = quiet_site scope _ (map (λ n. site sco
 quiet_written_nodes scope (EUnary op e s) = quiet_site scope _ (map (λ n. site scope (node false n)) (nodes e)) refl (quiet_nodes scope (nodes e))
 quiet_written_nodes scope (EBinary op l r s) = quiet_site scope _ (map (λ n. site scope (node false n)) (nodes l ++ nodes r)) refl (quiet_nodes scope (nodes l ++ nodes r))
 
-quiet_part : (scope : Scope) (alone : Bool) (p : PPart) → namings_of (part_sites scope alone p) ≡ []
+pub quiet_part : (scope : Scope) (alone : Bool) (p : PPart) → namings_of (part_sites scope alone p) ≡ []
 quiet_part scope alone (PWords text s) = quiet_none
 quiet_part scope alone (PValue e) =
     quiet_site scope _ (part_nodes scope e ++ site scope (is_written alone e) ∷ plain_part_sites scope alone e) refl
     (quiet_append (part_nodes scope e) (site scope (is_written alone e) ∷ plain_part_sites scope alone e) (quiet_written_nodes scope e)
     (quiet_site scope (is_written alone e) (plain_part_sites scope alone e) refl (quiet_plain_part scope alone e)))
 
-quiet_last : (scope : Scope) (k : Option ℕ) (range : Option Range) (first e : PExpr) → namings_of (static_of scope k e ++ site scope (must_lie_in e range) ∷ site scope (must_not_be_empty first e) ∷ []) ≡ []
+pub quiet_last : (scope : Scope) (k : Option ℕ) (range : Option Range) (first e : PExpr) → namings_of (static_of scope k e ++ site scope (must_lie_in e range) ∷ site scope (must_not_be_empty first e) ∷ []) ≡ []
 quiet_last scope k range first e =
     quiet_append (static_of scope k e) (site scope (must_lie_in e range) ∷ site scope (must_not_be_empty first e) ∷ []) (quiet_static scope k e)
     (quiet_site scope (must_lie_in e range) (site scope (must_not_be_empty first e) ∷ []) refl (quiet_one scope (must_not_be_empty first e) refl))
 
-quiet_choice : (scope : Scope) (k : Option ℕ) (range : Option Range) (c : PChoice) → namings_of (choice_sites scope k range c) ≡ []
+pub quiet_choice : (scope : Scope) (k : Option ℕ) (range : Option Range) (c : PChoice) → namings_of (choice_sites scope k range c) ≡ []
 quiet_choice scope k range c =
     let last : PExpr → List Site = λ e. static_of scope k e ++ site scope (must_lie_in e range) ∷ site scope (must_not_be_empty c.first e) ∷ [] in
     quiet_append (static_of scope k c.first) (site scope (must_lie_in c.first range) ∷ if_there last c.last) (quiet_static scope k c.first)
@@ -246,7 +246,7 @@ is_leaf (SBlock b s) = false
 is_leaf (SLoop w c l s) = false
 is_leaf _ = true
 
-quiet_leaf : (x : PStmt) → is_leaf x ≡ true → (scope : Scope) → namings_of (stmt_sites scope x) ≡ []
+pub quiet_leaf : (x : PStmt) → is_leaf x ≡ true → (scope : Scope) → namings_of (stmt_sites scope x) ≡ []
 quiet_leaf (SNull s) h scope = quiet_none
 quiet_leaf (SAssign t e s) h scope = quiet_append (target_sites scope t) (expr_of scope _ e) (quiet_target scope t) (quiet_of scope _ e)
 quiet_leaf (SDelay d s) h scope = quiet_none
@@ -272,12 +272,12 @@ leaf_named x a h = named_quiet a (λ s. stmt_sites s x) (quiet_leaf x h)
 
 -- ---- names of one scope
 
-declared_are : (fixed : Bool) (s : Scope) (here : List ℕ) (ws : List Word) → namings_of (names_sites fixed (record s { here = here }) ws) ≡ declared fixed here ws
+pub declared_are : (fixed : Bool) (s : Scope) (here : List ℕ) (ws : List Word) → namings_of (names_sites fixed (record s { here = here }) ws) ≡ declared fixed here ws
 unfolding namings_of
 declared_are fixed s here [] = refl
 declared_are fixed s here (w ∷ ws) = ap (λ l. Declares fixed (is_among here w.name.0) w ∷ l) (declared_are fixed s (w.name.0 ∷ here) ws)
 
-once_are : (s : Scope) (names : List ℕ) (ws : List Word) → namings_of (handler_names_sites s names ws) ≡ named_once names ws
+pub once_are : (s : Scope) (names : List ℕ) (ws : List Word) → namings_of (handler_names_sites s names ws) ≡ named_once names ws
 unfolding namings_of
 once_are s names [] = refl
 once_are s names (w ∷ ws) = ap (λ l. Once (is_among names w.name.0) w ∷ l) (once_are s (w.name.0 ∷ names) ws)
@@ -286,7 +286,7 @@ pub declared_append : (fixed : Bool) (here : List ℕ) (xs ys : List Word) → d
 declared_append fixed here [] ys = refl
 declared_append fixed here (w ∷ ws) ys = ap (λ l. Declares fixed (is_among here w.name.0) w ∷ l) (declared_append fixed (w.name.0 ∷ here) ws ys)
 
-quiet_formal_marks : (scope : Scope) (formals : List PFormal) → namings_of (formal_mark_sites scope formals) ≡ []
+pub quiet_formal_marks : (scope : Scope) (formals : List PFormal) → namings_of (formal_mark_sites scope formals) ≡ []
 quiet_formal_marks scope formals = quiet_flat (λ f. mark_sites scalar_only scope f.mark) formals (λ f. quiet_one scope _ refl)
 
 pub formals_named : (a b : List Naming) (formals : List PFormal) → b ≡ a ++ declared false [] (all_names formals) → Named a b (λ s. formals_sites s formals)
@@ -309,7 +309,7 @@ label_named a w = λ s. refl
 pub none_named : (a : List Naming) → Named a a (λ s. [])
 none_named a = named_quiet a (λ s. []) (λ s. quiet_none)
 
-parameter_named : (a : List Naming) (w : Word) → Named a (a ++ Declares false false w ∷ []) (λ s. names_sites false (inside s) (w ∷ []))
+pub parameter_named : (a : List Naming) (w : Word) → Named a (a ++ Declares false false w ∷ []) (λ s. names_sites false (inside s) (w ∷ []))
 unfolding Named namings_of
 parameter_named a w = λ s. refl
 
