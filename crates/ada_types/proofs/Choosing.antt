@@ -1,7 +1,6 @@
 -- The choices of a case, as they are looked at one behind the other.
-use Rattle.std.specs.Prelude.{◌≡◌, ◌↔◌, ◌⊎◌, ℕ, zero, suc, ℤ, pos, negsuc, ◌+ℤ◌, ◌-ℤ◌, ◌≤ℤ◌, ◌<ℤ◌, int_le, Bool, true, false, not, ◌&&◌, ◌||◌, ◌==◌, if◌then◌else◌, List, [], ◌∷◌, ◌++◌, length, take, Option, Some, None, is_none, is_some, MatchOption, map, flat_map, refl}
+use Rattle.std.specs.Prelude.{◌≡◌, ◌↔◌, ◌⊎◌, ℕ, zero, suc, ℤ, pos, negsuc, ◌+ℤ◌, ◌-ℤ◌, ◌≤ℤ◌, ◌<ℤ◌, int_le, Bool, true, false, not, ◌&&◌, ◌||◌, ◌==◌, if◌then◌else◌, List, [], ◌∷◌, ◌++◌, length, take, Option, Some, None, is_none, is_some, MatchOption, map, refl}
 use Rattle.std.specs.List.{list_any, list_all}
-use Rattle.std.specs.Int.{int_max}
 use Rattle.std.proofs.Common.{sym, ap, ◌∙◌, subst, inl, inr, ⊎_elim, arith, get_or, ◌<◌, ◌≤◌, ◌+◌}
 use Rattle.std.proofs.lemmas.Int.{ints, by_lt_z}
 use Rattle.std.proofs.lemmas.Bool.Decides.{nat_tests}
@@ -19,7 +18,7 @@ use Rattle.ada_tree.specs.Scope.{Scope, Range}
 use Rattle.ada_tree.specs.Demand.{must_lie_in, must_not_be_empty, chooses}
 use Rattle.ada_tree.specs.RuleChoiceBad.{selected_range, bad_choices, left_out, leaves_out, no_choice_refused, choice_range, choice_span, with_range, overlaps_one, overlapping, do_overlap, is_good, integers_from, how_many, values_of, is_covered}
 use Rattle.ada_tree.specs.Sites.{site, static_of, choices_of}
-use Rattle.ada_types.specs.Sooner.{sooner, sooner_of, found, least_of}
+use Rattle.ada_types.specs.Sooner.{sooner, found, least_of}
 use Rattle.ada_types.specs.Met.{met, met_at}
 use Rattle.ada_types.specs.Covers.{first_of, Covers, Reaches, IsFree}
 use Rattle.ada_types.specs.Chosen.{AreChosen, Shows, contains, seen_after, bound_sites}

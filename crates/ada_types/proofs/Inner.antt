@@ -1,13 +1,12 @@
 -- Names are declared in an inner scope, and what stood before it is there again behind it.
 use Rattle.std.specs.Prelude.{◌≡◌, ℕ, ◌+◌, ◌<◌, ◌≤◌, List, [], ◌∷◌, ◌++◌, length, map, take, refl}
-use Rattle.std.proofs.Common.{sym, ap, ◌∙◌, subst, arith, get_or, length-append}
+use Rattle.std.proofs.Common.{sym, ap, ◌∙◌, arith, get_or, length-append}
 use Rattle.std.proofs.lemmas.List.{map_more}
 use Rattle.std.proofs.lemmas.Grind.{take_at_read}
 use Rattle.ada_tree.specs.declared.naming.Word.{Word}
-use Rattle.ada_tree.specs.declared.statements.ParMode.{ParMode}
 use Rattle.ada_tree.specs.declared.statements.Formal.{Formal}
 use Rattle.ada_tree.specs.PlainStmt.{PFormal, plain_formal}
-use Rattle.ada_tree.specs.Scope.{Scope, Thing, Marking, ScalarMark, marking}
+use Rattle.ada_tree.specs.Scope.{Scope, Thing, marking}
 use Rattle.ada_tree.specs.Declaring.{with_name, with_names, with_formals, formal_thing, inside, seen_as}
 use Rattle.ada_types.specs.declared.scope.Outer.{Outer}
 use Rattle.ada_types.specs.Nested.{IsOuter, IsWithin}

@@ -4,6 +4,8 @@ pub mod Naming
 pub mod Operands
 pub mod Keeping
 pub mod Predefining
+pub mod Repeating
+pub mod Noting
 pub mod FirstRefusal
 pub mod Meeting
 pub mod Knowing

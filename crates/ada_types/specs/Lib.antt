@@ -10,11 +10,15 @@ pub mod Nested
 pub mod Before
 pub mod Repeated
 pub mod Telling
+pub mod Namings
+pub mod Noted
 pub mod Plain
 pub mod Judged
 pub mod Walked
 pub mod Known
 pub mod Ranges
+pub mod Initials
+pub mod Shapes
 pub mod Accepts
 pub mod Actuals
 pub mod Calls

@@ -74,6 +74,13 @@ impl Scope {
         self.names.meaning(id.0)
     }
 
+    /// Whether the place is in main, outside all bodies.
+    pub(crate) fn is_in_main(&self) -> bool
+        ensures { result ≡ self.now.in_main }
+    {
+        self.in_main
+    }
+
     /// Whether a task, a task type or an array of tasks that is declared before has an entry of that name.
     pub(crate) fn is_entry_somewhere(&self, id: NameId) -> bool
         ensures { result ≡ is_entry_somewhere self.now id }

@@ -14,7 +14,7 @@ use Rattle.interp.specs.declared.report.RunEnd.{RunEnd}
 use Rattle.syn_event.specs.Numbering.{Numbering}
 use Rattle.task_machine.specs.declared.verdict.Verdict.{Verdict}
 use Rattle.debug_core.specs.declared.failing.Failure.{Failure}
-use Rattle.debug_core.specs.declared.failing.Failure.TheVariants.{Refused, Usage, BadSequence, Unreadable, OutputFailed, TooLong, TooMany, Memory}
+use Rattle.debug_core.specs.declared.failing.Failure.TheVariants.{Refused, BadText, Usage, BadSequence, Unreadable, OutputFailed, TooLong, TooMany, Memory}
 use Rattle.debug_core.specs.declared.failing.Source.TheVariants.{Program, Sequence}
 use Rattle.debug_core.specs.Failures.{failure_status, failure_line, failure_of, Fails}
 use Rattle.debug_core.specs.Causes.{Sides, HasErrorLine, WasLoaded, IsHeld, IsUnread, IsLoadCause, IsReadCause, IsProgram}
@@ -27,8 +27,9 @@ pub failed_with : (A E : Type 0) (x : A) (failure : Failure) (program sequence :
 unfolding Wrote
 failed_with A E x failure program sequence err err' lines lines' status its_status line = inl (its_status, line)
 
-line_of : (A : Type 0) (program sequence : List ℕ) (s : Sides) (failure : Failure) → s.err' ≡ appended s.err (failure_line program sequence failure) → HasErrorLine {A = A} program sequence s (Err failure)
+pub line_of : (A : Type 0) (program sequence : List ℕ) (s : Sides) (failure : Failure) → s.err' ≡ appended s.err (failure_line program sequence failure) → HasErrorLine {A = A} program sequence s (Err failure)
 line_of A program sequence s Refused h = h
+line_of A program sequence s (BadText fault) h = h
 line_of A program sequence s Usage h = h
 line_of A program sequence s (BadSequence found line) h = h
 line_of A program sequence s (Unreadable source) h = h
@@ -41,6 +42,7 @@ line_of A program sequence s Memory h = h
 
 run_cause : (file : List ℕ) (turns : ℕ) (s : Sides) (failure : Failure) → IsFileCause s.files file s.reads s.reads' s.out s.out' s.writes s.writes' failure → HasRunCause file turns s (Err failure)
 run_cause file turns s Refused h = h
+run_cause file turns s (BadText fault) h = h
 run_cause file turns s Usage h = h
 run_cause file turns s (BadSequence found line) h = h
 run_cause file turns s (Unreadable source) h = h
@@ -59,6 +61,7 @@ run_failed file turns s status failure cause (inr (seven, rose)) =
 pub file_unloaded : (told : Option (List ToldFile)) (file : List ℕ) (reads reads' : ℕ) (out : Option (List ℕ)) (writes : ℕ) (failure : Failure) →
     IsLoadCause told file Program run_limit reads reads' failure → IsFileCause told file reads reads' out out writes writes failure
 file_unloaded told file reads reads' out writes Refused h = absurd h
+file_unloaded told file reads reads' out writes (BadText fault) h = h
 file_unloaded told file reads reads' out writes Usage h = h
 file_unloaded told file reads reads' out writes (BadSequence found line) h = h
 file_unloaded told file reads reads' out writes (Unreadable source) h = (h.0, h.1, refl)
@@ -70,6 +73,7 @@ file_unloaded told file reads reads' out writes Memory h = h
 pub file_unread : (told : Option (List ToldFile)) (file text : List ℕ) (reads reads' : ℕ) (out : Option (List ℕ)) (writes : ℕ) (failure : Failure) →
     WasLoaded told file run_limit text → IsReadCause failure → IsFileCause told file reads reads' out out writes writes failure
 file_unread told file text reads reads' out writes Refused loaded h = ((text, loaded), refl)
+file_unread told file text reads reads' out writes (BadText fault) loaded h = h
 file_unread told file text reads reads' out writes Usage loaded h = h
 file_unread told file text reads reads' out writes (BadSequence found line) loaded h = h
 file_unread told file text reads reads' out writes (Unreadable source) loaded h = absurd h
@@ -81,6 +85,7 @@ file_unread told file text reads reads' out writes Memory loaded h = h
 pub file_unwritten : (told : Option (List ToldFile)) (file : List ℕ) (reads reads' : ℕ) (out out' : Option (List ℕ)) (writes writes' : ℕ) (failure : Failure) →
     IsOutputCause writes writes' failure → IsFileCause told file reads reads' out out' writes writes' failure
 file_unwritten told file reads reads' out out' writes writes' Refused h = absurd h
+file_unwritten told file reads reads' out out' writes writes' (BadText fault) h = h
 file_unwritten told file reads reads' out out' writes writes' Usage h = h
 file_unwritten told file reads reads' out out' writes writes' (BadSequence found line) h = h
 file_unwritten told file reads reads' out out' writes writes' (Unreadable source) h = absurd h
@@ -93,6 +98,7 @@ file_unwritten told file reads reads' out out' writes writes' Memory h = h
 
 judge_cause : (file sequence : List ℕ) (bound : ℕ) (s : Sides) (failure : Failure) → IsFilesCause s.files file sequence s.reads s.reads' s.out s.out' s.writes s.writes' failure → HasJudgeCause file sequence bound s (Err failure)
 judge_cause file sequence bound s Refused h = h
+judge_cause file sequence bound s (BadText fault) h = h
 judge_cause file sequence bound s Usage h = h
 judge_cause file sequence bound s (BadSequence found line) h = h
 judge_cause file sequence bound s (Unreadable Program) h = h
@@ -112,6 +118,7 @@ judge_failed file sequence bound s status failure cause (inr (seven, rose)) =
 pub first_unloaded : (told : Option (List ToldFile)) (file sequence : List ℕ) (reads reads' : ℕ) (failure : Failure) →
     IsLoadCause told file Program judged_limit reads reads' failure → AreLoadCauses told file sequence reads reads' failure
 first_unloaded told file sequence reads reads' Refused h = h
+first_unloaded told file sequence reads reads' (BadText fault) h = h
 first_unloaded told file sequence reads reads' Usage h = h
 first_unloaded told file sequence reads reads' (BadSequence found line) h = h
 first_unloaded told file sequence reads reads' (Unreadable Program) h = h.1
@@ -128,6 +135,7 @@ later_unread told file reads mid reads' le (inr rose) = inr (rose_behind reads m
 pub second_unloaded : (told : Option (List ToldFile)) (file sequence text : List ℕ) (reads mid reads' : ℕ) (failure : Failure) → WasLoaded told file judged_limit text → reads ≤ mid →
     IsLoadCause told sequence Sequence sequence_limit mid reads' failure → AreLoadCauses told file sequence reads reads' failure
 second_unloaded told file sequence text reads mid reads' Refused loaded le h = h
+second_unloaded told file sequence text reads mid reads' (BadText fault) loaded le h = h
 second_unloaded told file sequence text reads mid reads' Usage loaded le h = h
 second_unloaded told file sequence text reads mid reads' (BadSequence found line) loaded le h = h
 second_unloaded told file sequence text reads mid reads' (Unreadable Program) loaded le h = absurd (let other : Program ≡ Sequence = h.0 in cc)
@@ -140,6 +148,7 @@ second_unloaded told file sequence text reads mid reads' Memory loaded le h = h
 pub files_unloaded : (told : Option (List ToldFile)) (file sequence : List ℕ) (reads reads' : ℕ) (out : Option (List ℕ)) (writes : ℕ) (failure : Failure) →
     AreLoadCauses told file sequence reads reads' failure → IsFilesCause told file sequence reads reads' out out writes writes failure
 files_unloaded told file sequence reads reads' out writes Refused h = absurd h
+files_unloaded told file sequence reads reads' out writes (BadText fault) h = h
 files_unloaded told file sequence reads reads' out writes Usage h = h
 files_unloaded told file sequence reads reads' out writes (BadSequence found line) h = absurd h
 files_unloaded told file sequence reads reads' out writes (Unreadable Program) h = (h, refl)
@@ -152,6 +161,7 @@ files_unloaded told file sequence reads reads' out writes Memory h = h
 pub files_unjudged : (told : Option (List ToldFile)) (file sequence text lines : List ℕ) (reads reads' : ℕ) (out out' : Option (List ℕ)) (writes writes' : ℕ) (failure : Failure) →
     WereLoaded told file sequence text lines → IsJudgeCause text lines out out' writes writes' failure → IsFilesCause told file sequence reads reads' out out' writes writes' failure
 files_unjudged told file sequence text lines reads reads' out out' writes writes' Refused loaded h = ((text, lines, loaded), h)
+files_unjudged told file sequence text lines reads reads' out out' writes writes' (BadText fault) loaded h = h
 files_unjudged told file sequence text lines reads reads' out out' writes writes' Usage loaded h = h
 files_unjudged told file sequence text lines reads reads' out out' writes writes' (BadSequence found line) loaded h = (record { text = text; lines = lines; loaded = loaded; fault = h.0 }, h.1)
 files_unjudged told file sequence text lines reads reads' out out' writes writes' (Unreadable Program) loaded h = absurd h
@@ -163,6 +173,7 @@ files_unjudged told file sequence text lines reads reads' out out' writes writes
 
 pub text_unread : (text lines : List ℕ) (out : Option (List ℕ)) (writes : ℕ) (failure : Failure) → IsReadCause failure → IsJudgeCause text lines out out writes writes failure
 text_unread text lines out writes Refused h = refl
+text_unread text lines out writes (BadText fault) h = h
 text_unread text lines out writes Usage h = h
 text_unread text lines out writes (BadSequence found line) h = absurd h
 text_unread text lines out writes (Unreadable source) h = h
@@ -174,6 +185,7 @@ text_unread text lines out writes Memory h = h
 pub text_unjudged : (text lines : List ℕ) (p : PProgram) (types : TypeTable) (numbers : Numbering) (out out' : Option (List ℕ)) (writes writes' : ℕ) (failure : Failure) →
     IsProgram text p types numbers → IsLinesCause p numbers lines out out' writes writes' failure → IsJudgeCause text lines out out' writes writes' failure
 text_unjudged text lines p types numbers out out' writes writes' Refused is h = absurd h
+text_unjudged text lines p types numbers out out' writes writes' (BadText fault) is h = h
 text_unjudged text lines p types numbers out out' writes writes' Usage is h = h
 text_unjudged text lines p types numbers out out' writes writes' (BadSequence found line) is h = (record { program = p; types = types; numbers = numbers; is_program = is; fault = h.0 }, h.1)
 text_unjudged text lines p types numbers out out' writes writes' (Unreadable source) is h = h
@@ -199,6 +211,7 @@ lines_refused p numbers lines out writes error.Memory h = tt
 pub lines_unwritten : (p : PProgram) (numbers : Numbering) (lines : List ℕ) (out out' : Option (List ℕ)) (writes writes' : ℕ) (failure : Failure) →
     IsOutputCause writes writes' failure → IsLinesCause p numbers lines out out' writes writes' failure
 lines_unwritten p numbers lines out out' writes writes' Refused h = h
+lines_unwritten p numbers lines out out' writes writes' (BadText fault) h = h
 lines_unwritten p numbers lines out out' writes writes' Usage h = h
 lines_unwritten p numbers lines out out' writes writes' (BadSequence found line) h = absurd h
 lines_unwritten p numbers lines out out' writes writes' (Unreadable source) h = h

@@ -12,6 +12,7 @@ pub mod Together
 pub mod Lining
 pub mod Textual
 pub mod Closing
+pub mod Printing
 pub mod Uppering
 pub mod Feeding
 pub mod Judged

@@ -12,7 +12,7 @@ use Rattle.syn_event.specs.Numbering.{Numbering}
 use Rattle.debug_core.specs.SmallText.{IsSmallText}
 use Rattle.debug_core.specs.Failures.{failure_status, failure_line}
 use Rattle.debug_core.specs.declared.failing.Failure.{Failure}
-use Rattle.debug_core.specs.declared.failing.Failure.TheVariants.{Refused, Usage, BadSequence, Unreadable, OutputFailed, TooLong, TooMany, Memory}
+use Rattle.debug_core.specs.declared.failing.Failure.TheVariants.{Refused, BadText, Usage, BadSequence, Unreadable, OutputFailed, TooLong, TooMany, Memory}
 use Rattle.debug_core.specs.declared.failing.Source.{Source}
 
 -- What is told and counted before and behind a call: of the files, of the output and of the error output.
@@ -51,6 +51,7 @@ IsUnread told file reads reads' = Lacks told file ⊎ Rose reads reads'
 -- why the bytes of a file were not loaded
 abbrev pub IsLoadCause : Option (List ToldFile) → List ℕ → Source → ℕ → ℕ → ℕ → Failure → Type 0
 IsLoadCause told file source limit reads reads' Refused = ⊥
+IsLoadCause told file source limit reads reads' (BadText fault) = ⊥
 IsLoadCause told file source limit reads reads' Usage = ⊥
 IsLoadCause told file source limit reads reads' (BadSequence found line) = ⊥
 IsLoadCause told file source limit reads reads' (Unreadable which) = (which ≡ source) × IsUnread told file reads reads'
@@ -68,6 +69,7 @@ pub record IsProgram (text : List ℕ) (program : PProgram) (types : TypeTable) 
 -- why the program of a text was not read
 abbrev pub IsReadCause : Failure → Type 0
 IsReadCause Refused = Unit {0}
+IsReadCause (BadText fault) = ⊥
 IsReadCause Usage = ⊥
 IsReadCause (BadSequence found line) = ⊥
 IsReadCause (Unreadable source) = ⊥

@@ -5,14 +5,25 @@ use Rattle.ded_io.specs.Written.{◌⧺◌, appended}
 use Rattle.seq_file.specs.declared.errors.SeqError.{SeqError}
 use Rattle.seq_file.specs.declared.errors.SeqError.TheVariants as error
 use Rattle.debug_core.specs.declared.failing.Failure.{Failure}
-use Rattle.debug_core.specs.declared.failing.Failure.TheVariants.{Refused, Usage, BadSequence, Unreadable, OutputFailed, TooLong, TooMany, Memory}
+use Rattle.debug_core.specs.declared.failing.Failure.TheVariants.{Refused, BadText, Usage, BadSequence, Unreadable, OutputFailed, TooLong, TooMany, Memory}
+use Rattle.debug_core.specs.declared.text_fault.Misspelling.{Misspelling}
+use Rattle.debug_core.specs.declared.text_fault.TextFault.{TextFault}
+use Rattle.debug_core.specs.declared.text_fault.TextFault.TheVariants.{Misspelled, LongToken, TooNested}
+use Rattle.debug_core.specs.TextFaults.{misspelling_name}
 use Rattle.debug_core.specs.declared.failing.SequenceFault.{SequenceFault}
 use Rattle.debug_core.specs.declared.failing.SequenceFault.TheVariants as fault
 use Rattle.debug_core.specs.declared.failing.Source.TheVariants.{Program, Sequence}
 
+-- a text that has a fault is refused, and one that passes a limit is told so
+abbrev pub text_status : TextFault → ℕ
+text_status (Misspelled what line column) = 1
+text_status (LongToken limit) = 8
+text_status (TooNested limit) = 8
+
 -- the status of a failure
 abbrev pub failure_status : Failure → ℕ
 failure_status Refused = 1
+failure_status (BadText found) = text_status found
 failure_status Usage = 2
 failure_status (BadSequence found line) = 3
 failure_status (Unreadable source) = 6
@@ -24,6 +35,9 @@ failure_status Memory = 9
 -- the words that the line of a failure begins with, or all of it; they stay shut, so that they do not compute away
 unfoldable pub first_words : Failure → List ℕ
 first_words Refused = codes "ded: program refused: NotYet at 1:1\n"
+first_words (BadText (Misspelled what line column)) = codes "ded: program refused: "
+first_words (BadText (LongToken limit)) = codes "ded: limit token "
+first_words (BadText (TooNested limit)) = codes "ded: limit nesting "
 first_words Usage = codes "ded: usage\n"
 first_words (BadSequence found line) = codes "ded: sequence refused: "
 first_words (Unreadable source) = codes "ded: cannot read "
@@ -47,9 +61,16 @@ named_line words name = words ⧺ (name ⧺ codes "\n")
 abbrev pub fault_line : List ℕ → SequenceFault → ℕ → List ℕ
 fault_line words found line = words ⧺ (fault_name found ⧺ (codes " at line " ⧺ (decimal line ⧺ codes "\n")))
 
+-- words, what is wrong with a text, and its place
+abbrev pub place_line : List ℕ → Misspelling → ℕ → ℕ → List ℕ
+place_line words what line column = words ⧺ (misspelling_name what ⧺ (codes " at " ⧺ (decimal line ⧺ (codes ":" ⧺ (decimal column ⧺ codes "\n")))))
+
 -- The line that a failure puts on the error output, with the name of the file of which it speaks; a failed output puts none.
 abbrev pub failure_line : List ℕ → List ℕ → Failure → List ℕ
 failure_line program sequence Refused = first_words Refused
+failure_line program sequence (BadText (Misspelled what line column)) = place_line (first_words (BadText (Misspelled what line column))) what line column
+failure_line program sequence (BadText (LongToken limit)) = named_line (first_words (BadText (LongToken limit))) (decimal limit)
+failure_line program sequence (BadText (TooNested limit)) = named_line (first_words (BadText (TooNested limit))) (decimal limit)
 failure_line program sequence Usage = first_words Usage
 failure_line program sequence (BadSequence found line) = fault_line (first_words (BadSequence found line)) found line
 failure_line program sequence (Unreadable Program) = named_line (first_words (Unreadable Program)) program

@@ -19,7 +19,7 @@ use Rattle.divergence.specs.JudgeText.{judge_text, event_of}
 use Rattle.debug_core.specs.Causes.{Sides, HasErrorLine, WasLoaded, IsHeld, IsUnread, IsProgram, status_of}
 use Rattle.debug_core.specs.Failures.{error_of}
 use Rattle.debug_core.specs.declared.failing.Failure.{Failure}
-use Rattle.debug_core.specs.declared.failing.Failure.TheVariants.{Refused, Usage, BadSequence, Unreadable, OutputFailed, TooLong, TooMany, Memory}
+use Rattle.debug_core.specs.declared.failing.Failure.TheVariants.{Refused, BadText, Usage, BadSequence, Unreadable, OutputFailed, TooLong, TooMany, Memory}
 use Rattle.debug_core.specs.declared.failing.Source.TheVariants.{Program, Sequence}
 
 -- a program that is judged has at most so many bytes, and a sequence so many
@@ -82,6 +82,7 @@ pub record WereLoaded (told : Option (List ToldFile)) (file sequence text lines 
 -- why the lines of a sequence were not judged, or the text of their verdict not written
 abbrev pub IsLinesCause : PProgram → Numbering → List ℕ → Option (List ℕ) → Option (List ℕ) → ℕ → ℕ → Failure → Type 0
 IsLinesCause p numbers lines out out' writes writes' Refused = ⊥
+IsLinesCause p numbers lines out out' writes writes' (BadText fault) = ⊥
 IsLinesCause p numbers lines out out' writes writes' Usage = ⊥
 IsLinesCause p numbers lines out out' writes writes' (BadSequence found line) = HasFirstFault lines numbers p.names (error_of found line) × (out' ≡ out)
 IsLinesCause p numbers lines out out' writes writes' (Unreadable source) = ⊥
@@ -93,6 +94,7 @@ IsLinesCause p numbers lines out out' writes writes' Memory = Unit {0}
 -- why loaded bytes were not judged, or the text of their verdict not written
 abbrev pub IsJudgeCause : List ℕ → List ℕ → Option (List ℕ) → Option (List ℕ) → ℕ → ℕ → Failure → Type 0
 IsJudgeCause text lines out out' writes writes' Refused = out' ≡ out
+IsJudgeCause text lines out out' writes writes' (BadText fault) = ⊥
 IsJudgeCause text lines out out' writes writes' Usage = ⊥
 IsJudgeCause text lines out out' writes writes' (BadSequence found line) = HasBadSequence text lines (error_of found line) × (out' ≡ out)
 IsJudgeCause text lines out out' writes writes' (Unreadable source) = ⊥
@@ -110,6 +112,7 @@ IsTooLong told file sequence limit =
 -- why the bytes of the two files were not loaded
 abbrev pub AreLoadCauses : Option (List ToldFile) → List ℕ → List ℕ → ℕ → ℕ → Failure → Type 0
 AreLoadCauses told file sequence reads reads' Refused = ⊥
+AreLoadCauses told file sequence reads reads' (BadText fault) = ⊥
 AreLoadCauses told file sequence reads reads' Usage = ⊥
 AreLoadCauses told file sequence reads reads' (BadSequence found line) = ⊥
 AreLoadCauses told file sequence reads reads' (Unreadable Program) = IsUnread told file reads reads'
@@ -136,6 +139,7 @@ pub record HoldsBadSequence (told : Option (List ToldFile)) (file sequence : Lis
 -- why two files were not judged, or the text of the verdict not written; nothing is written before both are read
 abbrev pub IsFilesCause : Option (List ToldFile) → List ℕ → List ℕ → ℕ → ℕ → Option (List ℕ) → Option (List ℕ) → ℕ → ℕ → Failure → Type 0
 IsFilesCause told file sequence reads reads' out out' writes writes' Refused = ((text : List ℕ) × (lines : List ℕ) × WereLoaded told file sequence text lines) × (out' ≡ out)
+IsFilesCause told file sequence reads reads' out out' writes writes' (BadText fault) = ⊥
 IsFilesCause told file sequence reads reads' out out' writes writes' Usage = ⊥
 IsFilesCause told file sequence reads reads' out out' writes writes' (BadSequence found line) = HoldsBadSequence told file sequence (error_of found line) × (out' ≡ out)
 IsFilesCause told file sequence reads reads' out out' writes writes' (Unreadable Program) = IsUnread told file reads reads' × (out' ≡ out)
@@ -149,6 +153,7 @@ IsFilesCause told file sequence reads reads' out out' writes writes' Memory = Un
 abbrev pub HasJudgeCause : List ℕ → List ℕ → ℕ → Sides → Result Verdict Failure → Type 0
 HasJudgeCause file sequence bound sides (Ok verdict) = HasJudged sides.files file sequence bound sides.out sides.out' verdict
 HasJudgeCause file sequence bound sides (Err Refused) = IsFilesCause sides.files file sequence sides.reads sides.reads' sides.out sides.out' sides.writes sides.writes' Refused
+HasJudgeCause file sequence bound sides (Err (BadText fault)) = IsFilesCause sides.files file sequence sides.reads sides.reads' sides.out sides.out' sides.writes sides.writes' (BadText fault)
 HasJudgeCause file sequence bound sides (Err Usage) = IsFilesCause sides.files file sequence sides.reads sides.reads' sides.out sides.out' sides.writes sides.writes' Usage
 HasJudgeCause file sequence bound sides (Err (BadSequence found line)) = IsFilesCause sides.files file sequence sides.reads sides.reads' sides.out sides.out' sides.writes sides.writes' (BadSequence found line)
 HasJudgeCause file sequence bound sides (Err (Unreadable Program)) = IsFilesCause sides.files file sequence sides.reads sides.reads' sides.out sides.out' sides.writes sides.writes' (Unreadable Program)

@@ -5,8 +5,10 @@ pub mod SmallNumbers
 pub mod Words
 pub mod RunText
 pub mod Commands
+pub mod TextFaults
 pub mod Failures
 pub mod Causes
+pub mod PrintAnswers
 pub mod RunAnswers
 pub mod JudgeAnswers
 pub mod Fed

@@ -14,7 +14,7 @@ use Rattle.task_machine.specs.Opening.{opening_of}
 use Rattle.debug_core.specs.RunText.{run_text}
 use Rattle.debug_core.specs.Causes.{Sides, HasErrorLine, WasLoaded, IsHeld, IsUnread, IsProgram, status_of}
 use Rattle.debug_core.specs.declared.failing.Failure.{Failure}
-use Rattle.debug_core.specs.declared.failing.Failure.TheVariants.{Refused, Usage, BadSequence, Unreadable, OutputFailed, TooLong, TooMany, Memory}
+use Rattle.debug_core.specs.declared.failing.Failure.TheVariants.{Refused, BadText, Usage, BadSequence, Unreadable, OutputFailed, TooLong, TooMany, Memory}
 use Rattle.debug_core.specs.declared.failing.Source.TheVariants.{Program}
 
 -- a program that is run has at most this many bytes
@@ -49,6 +49,7 @@ pub record HasRun (told : Option (List ToldFile)) (file : List ℕ) (turns : ℕ
 -- a run was cut off by a fault of the output, or by want of memory
 abbrev pub IsOutputCause : ℕ → ℕ → Failure → Type 0
 IsOutputCause writes writes' Refused = ⊥
+IsOutputCause writes writes' (BadText fault) = ⊥
 IsOutputCause writes writes' Usage = ⊥
 IsOutputCause writes writes' (BadSequence found line) = ⊥
 IsOutputCause writes writes' (Unreadable source) = ⊥
@@ -60,6 +61,7 @@ IsOutputCause writes writes' Memory = Unit {0}
 -- why a file's run was not made or not written; nothing is written before the file is read
 abbrev pub IsFileCause : Option (List ToldFile) → List ℕ → ℕ → ℕ → Option (List ℕ) → Option (List ℕ) → ℕ → ℕ → Failure → Type 0
 IsFileCause told file reads reads' out out' writes writes' Refused = IsHeld told file run_limit × (out' ≡ out)
+IsFileCause told file reads reads' out out' writes writes' (BadText fault) = ⊥
 IsFileCause told file reads reads' out out' writes writes' Usage = ⊥
 IsFileCause told file reads reads' out out' writes writes' (BadSequence found line) = ⊥
 IsFileCause told file reads reads' out out' writes writes' (Unreadable source) = (source ≡ Program) × IsUnread told file reads reads' × (out' ≡ out)
@@ -72,6 +74,7 @@ IsFileCause told file reads reads' out out' writes writes' Memory = Unit {0}
 abbrev pub HasRunCause : List ℕ → ℕ → Sides → Result RunEnd Failure → Type 0
 HasRunCause file turns sides (Ok end) = HasRun sides.files file turns sides.out sides.out' end
 HasRunCause file turns sides (Err Refused) = IsFileCause sides.files file sides.reads sides.reads' sides.out sides.out' sides.writes sides.writes' Refused
+HasRunCause file turns sides (Err (BadText fault)) = IsFileCause sides.files file sides.reads sides.reads' sides.out sides.out' sides.writes sides.writes' (BadText fault)
 HasRunCause file turns sides (Err Usage) = IsFileCause sides.files file sides.reads sides.reads' sides.out sides.out' sides.writes sides.writes' Usage
 HasRunCause file turns sides (Err (BadSequence found line)) = IsFileCause sides.files file sides.reads sides.reads' sides.out sides.out' sides.writes sides.writes' (BadSequence found line)
 HasRunCause file turns sides (Err (Unreadable source)) = IsFileCause sides.files file sides.reads sides.reads' sides.out sides.out' sides.writes sides.writes' (Unreadable source)

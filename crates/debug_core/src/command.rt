@@ -1,12 +1,14 @@
 // The words that the program is called with.
 
 ghost use Rattle.std.specs.Prelude.{◌≡◌, ◌≤◌, ◌<◌, map, option_map, string_bytes, length, IfSome};
-ghost use Rattle.debug_core.specs.Words.{AsksRun, AsksJudge, asked_by, number_of, value_behind, begins_well};
+ghost use Rattle.debug_core.specs.Words.{AsksPrint, AsksRun, AsksJudge, asked_by, number_of, value_behind, begins_well};
 ghost use Rattle.debug_core.specs.Commands.{asked_as};
 
 /// What the words ask for.
 #[derive(Clone, Copy)]
 pub(crate) enum Command<'w> {
+    /// The text of the program in this file.
+    Print(&'w str),
     Run(RunWords<'w>),
     Judge(JudgeWords<'w>),
 }
@@ -32,6 +34,13 @@ pub(crate) fn command_of<'w>(words: &'w [String]) -> Option<Command<'w>>
     ensures { option_map asked_as result ≡ asked_by (map string_bytes words.now) }
 {
     match words {
+        [command, file] => {
+            if command.as_str() == "print" {
+                Some(Command::Print(file.as_str()))
+            } else {
+                None
+            }
+        }
         [command, file, inputs, other, number] => {
             if command.as_str() == "run" && (inputs.as_str() == "-" && other.as_str() == "-") {
                 run_of(file.as_str(), number.as_str())

@@ -4,8 +4,10 @@ ghost use Rattle.std.specs.Prelude.{◌≡◌, decimal};
 ghost use Rattle.ded_io.specs.Counts.{HasCause};
 ghost use Rattle.ded_io.specs.Written.{Wrote};
 ghost use Rattle.seq_file.specs.declared.errors.SeqError.{SeqError};
-ghost use Rattle.debug_core.specs.Failures.{failure_line, failure_status, first_words, fault_name, named_line, fault_line, Fails, failure_of};
+ghost use Rattle.debug_core.specs.Failures.{failure_line, failure_status, first_words, fault_name, named_line, fault_line, place_line, text_status, Fails, failure_of};
+ghost use Rattle.debug_core.specs.TextFaults.{misspelling_name};
 
+use crate::text_fault::{Misspelling, TextFault};
 use ded_io::{Sink, SinkError};
 use itoa::Buffer;
 use seq_file::SeqError;
@@ -15,6 +17,8 @@ use seq_file::SeqError;
 pub(crate) enum Failure {
     /// The private reader does not take the program's text.
     Refused,
+    /// The program's text is read as none of the language, for this fault.
+    BadText(TextFault),
     /// The words are no row of words.
     Usage,
     /// The sequence is refused, at a line.
@@ -54,6 +58,7 @@ impl Failure {
     {
         match self {
             Failure::Refused => 1,
+            Failure::BadText(fault) => text_status(fault),
             Failure::Usage => 2,
             Failure::BadSequence { .. } => 3,
             Failure::Unreadable(_) => 6,
@@ -62,6 +67,16 @@ impl Failure {
             Failure::TooMany { .. } => 8,
             Failure::Memory => 9,
         }
+    }
+}
+
+// The status of a text's fault.
+fn text_status(fault: TextFault) -> u8
+    ensures { result ≡ text_status fault }
+{
+    match fault {
+        TextFault::Misspelled { .. } => 1,
+        TextFault::LongToken { .. } | TextFault::TooNested { .. } => 8,
     }
 }
 
@@ -113,6 +128,23 @@ fn put_failure<K: Sink>(
 {
     match failure {
         Failure::Refused => err.put(first_words(Failure::Refused)),
+        Failure::BadText(TextFault::Misspelled { what, line, column }) => {
+            put_misspelled(what, line, column, err)
+        }
+        Failure::BadText(TextFault::LongToken { limit }) => {
+            put_limit(
+                Failure::BadText(TextFault::LongToken { limit }),
+                limit as u64,
+                err,
+            )
+        }
+        Failure::BadText(TextFault::TooNested { limit }) => {
+            put_limit(
+                Failure::BadText(TextFault::TooNested { limit }),
+                limit as u64,
+                err,
+            )
+        }
         Failure::Usage => err.put(first_words(Failure::Usage)),
         Failure::BadSequence { fault, line } => put_fault(fault, line, err),
         Failure::Unreadable(Source::Program) => put_unread(Source::Program, program, err),
@@ -134,6 +166,26 @@ fn put_fault<K: Sink>(fault: SequenceFault, line: u32, err: &mut K) -> Result<()
     err.put(name_of(fault))?;
     err.put(b" at line ")?;
     put_number(line as u64, err)?;
+    err.put(b"\n")
+}
+
+// Writes what is wrong with a text, and where.
+#[tactic(auto, using(ded_io::proofs::Writes::writes))]
+fn put_misspelled<K: Sink>(
+    what: Misspelling,
+    line: u32,
+    column: u32,
+    err: &mut K,
+) -> Result<(), SinkError>
+    ensures bytes { Wrote result (K.told err.old) (K.told err.new) (place_line (first_words (Failure.BadText (TextFault.Misspelled what line column))) what line column) }
+    ensures cause { HasCause (K.faults err.old) (K.faults err.new) result }
+{
+    err.put(first_words(Failure::BadText(TextFault::Misspelled { what, line, column })))?;
+    err.put(misspelling_name(what))?;
+    err.put(b" at ")?;
+    put_number(line as u64, err)?;
+    err.put(b":")?;
+    put_number(column as u64, err)?;
     err.put(b"\n")
 }
 
@@ -180,6 +232,18 @@ fn name_of(fault: SequenceFault) -> &'static [u8]
     }
 }
 
+// The name of what is wrong with a text.
+fn misspelling_name(what: Misspelling) -> &'static [u8]
+    ensures { result.now ≡ misspelling_name what }
+{
+    match what {
+        Misspelling::BadByte => b"BadByte",
+        Misspelling::OpenString => b"OpenString",
+        Misspelling::BadNumber => b"BadNumber",
+        Misspelling::Syntax => b"Syntax",
+    }
+}
+
 // The words that the line of a failure begins with, or all of it.
 #[tactic(auto, unfolding(crate::specs::Failures::first_words))]
 fn first_words(failure: Failure) -> &'static [u8]
@@ -187,6 +251,9 @@ fn first_words(failure: Failure) -> &'static [u8]
 {
     match failure {
         Failure::Refused => b"ded: program refused: NotYet at 1:1\n",
+        Failure::BadText(TextFault::Misspelled { .. }) => b"ded: program refused: ",
+        Failure::BadText(TextFault::LongToken { .. }) => b"ded: limit token ",
+        Failure::BadText(TextFault::TooNested { .. }) => b"ded: limit nesting ",
         Failure::Usage => b"ded: usage\n",
         Failure::BadSequence { .. } => b"ded: sequence refused: ",
         Failure::Unreadable(_) => b"ded: cannot read ",

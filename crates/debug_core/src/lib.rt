@@ -5,10 +5,12 @@ mod command;
 mod failing;
 mod judge_command;
 mod loading;
+mod print_command;
 mod run_command;
 mod run_text;
 #[tactic(auto, using(ada_tree::proofs::Rows::rows))]
 mod small;
+mod text_fault;
 mod top;
 
 pub use top::debug_main;

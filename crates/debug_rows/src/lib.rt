@@ -5,6 +5,8 @@
 mod checking;
 #[cfg(test)]
 mod judging;
+#[cfg(test)]
+mod printing;
 mod row;
 #[cfg(test)]
 mod tests;

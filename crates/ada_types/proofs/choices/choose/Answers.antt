@@ -1,4 +1,4 @@
-use Rattle.std.proofs.Common.{◌∙◌, ap, sym, subst, option_map}
+use Rattle.std.proofs.Common.{◌∙◌, ap, subst, option_map}
 use Rattle.std.specs.Prelude.{[], ◌∷◌, ◌&&◌, if◌then◌else◌}
 use Rattle.ada_tree.specs.PlainStmt.{plain_choice}
 use Rattle.ada_tree.specs.RuleChoiceBad.{choice_range, overlaps_one, with_range, is_good}

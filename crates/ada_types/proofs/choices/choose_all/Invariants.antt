@@ -1,4 +1,4 @@
-use Rattle.std.proofs.Common.{◌≡◌, ◌++◌, List, take, map, option_map}
+use Rattle.std.proofs.Common.{◌++◌, List, take, map, option_map}
 use Rattle.ada_tree.specs.PlainStmt.{PChoice, plain_choice}
 use Rattle.ada_types.specs.Entries.{plain_range}
 use Rattle.ada_types.specs.Chosen.{AreChosen}

@@ -1,4 +1,4 @@
-use Rattle.std.proofs.Common.{◌≡◌, take, map, option_map}
+use Rattle.std.proofs.Common.{take, map, option_map}
 use Rattle.ada_tree.specs.PlainStmt.{plain_case_arm, case_arms_of}
 use Rattle.ada_tree.specs.Sites.{choices_of}
 use Rattle.ada_types.specs.Entries.{plain_range}

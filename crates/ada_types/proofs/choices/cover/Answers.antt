@@ -1,4 +1,4 @@
-use Rattle.std.proofs.Common.{rules, ◌<ℤ◌, ◌∙◌, ap, sym, subst, arith, option_map, w64, FitsSigned}
+use Rattle.std.proofs.Common.{rules, ◌<ℤ◌, sym, subst, arith, option_map, w64, FitsSigned}
 use Rattle.std.proofs.lemmas.Int.{ints, to_z-of_z}
 use Rattle.ada_tree.specs.RuleChoiceBad.{with_range}
 use Rattle.ada_types.specs.Entries.{plain_range}

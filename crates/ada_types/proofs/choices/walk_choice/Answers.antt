@@ -3,7 +3,6 @@ use Rattle.ada_tree.specs.PlainExpr.{plain_expr}
 use Rattle.ada_tree.specs.Sites.{choice_sites}
 use Rattle.ada_types.specs.Met.{met}
 use Rattle.ada_types.specs.Sooner.{sooner}
-use Rattle.ada_types.specs.Chosen.{bound_sites}
 use Rattle.ada_types.specs.Entries.{plain_range}
 use Rattle.ada_types.proofs.Knowing.{known_walked}
 use Rattle.ada_types.proofs.Choosing.{two_bounds}

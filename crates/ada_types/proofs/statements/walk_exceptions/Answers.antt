@@ -1,4 +1,4 @@
-use Rattle.std.proofs.Common.{◌∙◌, sym, map}
+use Rattle.std.proofs.Common.{◌∙◌}
 use Rattle.ada_types.proofs.Lists.{exceptions_all, exceptions_more}
 use Rattle.ada_types.proofs.statements.walk_exceptions.Goals as goal
 

@@ -1,4 +1,4 @@
-use Rattle.std.proofs.Common.{◌≡◌, take, map}
+use Rattle.std.proofs.Common.{◌≡◌, take}
 use Rattle.std.specs.Prelude.{flat_map}
 use Rattle.ada_types.specs.Met.{met}
 use Rattle.ada_types.specs.Members.{exception_sites}

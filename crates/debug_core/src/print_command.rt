@@ -1,0 +1,83 @@
+// The command that prints a program.
+
+ghost use Rattle.std.specs.Prelude.{◌<◌, ◌-◌, ◌^◌, length, IfOk, IfErr, OnOk};
+ghost use Rattle.ada_tree.specs.PlainProgram.{plain_program};
+ghost use Rattle.ada_parser.specs.Exactly.{IsRead};
+ghost use Rattle.debug_core.specs.PrintAnswers.{AnswersPrint, HasPrinted, IsPrintCause};
+ghost use Rattle.debug_core.specs.TextFaults.{IsTextCause};
+
+use crate::failing::{Failure, Source, fail};
+use crate::loading::load_file;
+use crate::text_fault::text_failure;
+use ada_parser::read;
+use ada_printer::print;
+use ada_tree::Program;
+use ded_io::{Files, Sink};
+use std::alloc::Global;
+
+// A program's file has at most this many bytes.
+const FILE_LIMIT: u64 = 33_554_432;
+
+// Prints the program, and answers the status.
+pub(crate) fn print_command<F: Files, O: Sink, E: Sink>(
+    alloc: Global,
+    file: &str,
+    files: &mut F,
+    out: &mut O,
+    err: &mut E,
+) -> u8
+    ensures { AnswersPrint file.now
+        record {
+          files = F.told files.old;
+          reads = F.faults files.old;
+          reads' = F.faults files.new;
+          out = O.told out.old;
+          out' = O.told out.new;
+          writes = O.faults out.old;
+          writes' = O.faults out.new;
+          err = E.told err.old;
+          err' = E.told err.new;
+          lines = E.faults err.old;
+          lines' = E.faults err.new;
+        } result }
+{
+    match print_file(alloc, file, files, out) {
+        Ok(()) => 0,
+        Err(failure) => fail(failure, file, "", err),
+    }
+}
+
+// Reads the program in a file, all of it, and then writes its text; or says why not.
+fn print_file<F: Files, K: Sink>(
+    alloc: Global,
+    file: &str,
+    files: &mut F,
+    out: &mut K,
+) -> Result<(), Failure>
+    ensures printed { OnOk result (HasPrinted (F.told files.old) file.now (K.told out.old) (K.told out.new)) }
+    ensures cause { IfErr result (IsPrintCause (F.told files.old) file.now (F.faults files.old) (F.faults files.new) (K.told out.old) (K.told out.new) (K.faults out.old) (K.faults out.new)) }
+{
+    let text = match load_file(alloc, file, Source::Program, FILE_LIMIT, files) {
+        Ok(text) => text,
+        Err(failure) => return Err(failure),
+    };
+    match read_text(alloc, &text) {
+        Ok(program) => match print(&program, out) {
+            Ok(()) => Ok(()),
+            Err(_) => Err(Failure::OutputFailed),
+        },
+        Err(failure) => Err(failure),
+    }
+}
+
+// The program that a text of the language says.
+fn read_text(alloc: Global, text: &[u8]) -> Result<Program, Failure>
+    requires { length text.now < 2 ^ 32 - 1 }
+    ensures program { IfOk result (λ program. IsRead text.now (plain_program program)) }
+    ensures cause { IfErr result (IsTextCause text.now) }
+{
+    match read(alloc, text) {
+        Ok(program) => Ok(program),
+        Err(error) => Err(text_failure(text, error)),
+    }
+}
