@@ -31,8 +31,6 @@ mod statements;
 mod static_values;
 mod table;
 mod targets;
-#[cfg(test)]
-mod tests;
 mod things;
 mod verdicts;
 mod walking;

@@ -1,9 +1,9 @@
 // Static expressions built by hand. The expected values are those of the standard (3.5.5, 4.5).
 
-use crate::{TypeError, static_value};
 use ada_tree::{
     BinaryOp, Constant, Expr, ExprKind, Kind, Literals, Mark, NameId, Span, Types, UnaryOp, Word,
 };
+use ada_types::{TypeError, static_value};
 use std::alloc::{AllocError, Global};
 use std::test::Fail;
 
