@@ -1,5 +1,5 @@
 -- The causes of a failure to print, from the parts of the command to the whole.
-use Rattle.std.proofs.Common.{ℕ, List, [], Option, Ok, Err, inl, inr, refl}
+use Rattle.std.proofs.Common.{ℕ, List, [], Option, Ok, Err, inl, inr}
 use Rattle.ded_io.specs.Told.{ToldFile}
 use Rattle.ded_io.specs.Written.{Wrote}
 use Rattle.ded_io.specs.Counts.{Rose}
@@ -8,11 +8,9 @@ use Rattle.ada_parser.specs.Exactly.{IsRead}
 use Rattle.ada_printer.specs.ProgramText.{program_text}
 use Rattle.debug_core.specs.declared.failing.Failure.{Failure}
 use Rattle.debug_core.specs.declared.failing.Failure.TheVariants.{Refused, BadText, Usage, BadSequence, Unreadable, OutputFailed, TooLong, TooMany, Memory}
-use Rattle.debug_core.specs.declared.failing.Source.TheVariants.{Program}
-use Rattle.debug_core.specs.Causes.{Sides, WasLoaded, IsLoadCause}
+use Rattle.debug_core.specs.Causes.{Sides, WasLoaded}
 use Rattle.debug_core.specs.Failures.{Fails}
 use Rattle.debug_core.specs.PrintAnswers.{AnswersPrint, HasPrintCause, IsPrintCause, HasPrinted, IsCutShort, printed_limit}
-use Rattle.debug_core.specs.TextFaults.{IsTextCause}
 use Rattle.debug_core.proofs.Closing.{line_of}
 
 print_cause : (file : List ℕ) (s : Sides) (failure : Failure) → IsPrintCause s.files file s.reads s.reads' s.out s.out' s.writes s.writes' failure → HasPrintCause file s (Err failure)
@@ -44,30 +42,6 @@ print_failed file s status failure cause (inl (is, line)) =
     record { outcome = Err failure; is = is; cause = print_cause file s failure cause; line = line_of (Unit {0}) file [] s failure line }
 print_failed file s status failure cause (inr (seven, rose)) =
     record { outcome = Err OutputFailed; is = seven; cause = print_unsaid file s failure cause rose; line = tt }
-
-pub print_unloaded : (told : Option (List ToldFile)) (file : List ℕ) (reads reads' : ℕ) (out : Option (List ℕ)) (writes : ℕ) (failure : Failure) →
-    IsLoadCause told file Program printed_limit reads reads' failure → IsPrintCause told file reads reads' out out writes writes failure
-print_unloaded told file reads reads' out writes Refused h = h
-print_unloaded told file reads reads' out writes (BadText fault) h = absurd h
-print_unloaded told file reads reads' out writes Usage h = h
-print_unloaded told file reads reads' out writes (BadSequence found line) h = h
-print_unloaded told file reads reads' out writes (Unreadable source) h = (h.0, h.1, refl)
-print_unloaded told file reads reads' out writes OutputFailed h = absurd h
-print_unloaded told file reads reads' out writes (TooLong limit) h = (h.0, h.1, refl)
-print_unloaded told file reads reads' out writes (TooMany limit) h = h
-print_unloaded told file reads reads' out writes Memory h = refl
-
-pub print_unread : (told : Option (List ToldFile)) (file text : List ℕ) (reads reads' : ℕ) (out : Option (List ℕ)) (writes : ℕ) (failure : Failure) →
-    WasLoaded told file printed_limit text → IsTextCause text failure → IsPrintCause told file reads reads' out out writes writes failure
-print_unread told file text reads reads' out writes Refused loaded h = h
-print_unread told file text reads reads' out writes (BadText fault) loaded h = (record { text = text; loaded = loaded; has_fault = h }, refl)
-print_unread told file text reads reads' out writes Usage loaded h = h
-print_unread told file text reads reads' out writes (BadSequence found line) loaded h = h
-print_unread told file text reads reads' out writes (Unreadable source) loaded h = absurd h
-print_unread told file text reads reads' out writes OutputFailed loaded h = absurd h
-print_unread told file text reads reads' out writes (TooLong limit) loaded h = absurd h
-print_unread told file text reads reads' out writes (TooMany limit) loaded h = h
-print_unread told file text reads reads' out writes Memory loaded h = refl
 
 -- all of the text is written
 pub print_written : (A E : Type 0) (x : A) (told : Option (List ToldFile)) (file text : List ℕ) (p : PProgram) (out out' : Option (List ℕ)) →
