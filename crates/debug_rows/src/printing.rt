@@ -9,7 +9,8 @@ const RENDEZVOUS: &[u8] =
     b"procedure P1 is\n   task B is\n      entry PUT;\n   end B;\n   task body B is\n   begin\n      accept PUT;\n   end B;\nbegin\n   B.PUT;\nend P1;\n";
 
 // A bounded buffer between three producers and two consumers, as one might write it.
-const BOUNDED: &[u8] = b"procedure BOUNDED is
+const BOUNDED: &[u8] = b"with TEXT_IO; use TEXT_IO;
+procedure BOUNDED is
    package INT_IO is new INTEGER_IO(INTEGER); use INT_IO;
    SIZE : constant := 2;
    subtype ITEM is INTEGER range 0 .. 999;
@@ -70,7 +71,9 @@ end BOUNDED;
 ";
 
 // The same in this project's layout.
-const BOUNDED_TEXT: &[u8] = b"procedure BOUNDED is
+const BOUNDED_TEXT: &[u8] = b"with TEXT_IO;
+use TEXT_IO;
+procedure BOUNDED is
    package INT_IO is new INTEGER_IO(INTEGER);
    use INT_IO;
    SIZE : constant := 2;
@@ -148,6 +151,10 @@ begin
    null;
 end BOUNDED;
 ";
+
+// The operators that stand in no other text.
+const OPERATORS: &[u8] =
+    b"procedure Q is\n   B : BOOLEAN;\n   I : INTEGER;\nbegin\n   B := B or B;\n   B := B or else B;\n   B := B xor B;\n   B := I = I;\n   B := I /= I;\n   B := I <= I;\n   B := I >= I;\n   I := I / I rem I;\n   I := +I - (-I);\nend Q;\n";
 
 /// A text, and what printing it gives.
 #[derive(Clone, Copy)]
@@ -253,6 +260,12 @@ fn a_printed_text_is_printed_as_it_stands(rt: HostRuntime) -> Result<(), Fail> {
                 program: RENDEZVOUS,
                 status: 0,
                 out: RENDEZVOUS,
+                err: b"",
+            },
+            Printed {
+                program: OPERATORS,
+                status: 0,
+                out: OPERATORS,
                 err: b"",
             },
         ],
