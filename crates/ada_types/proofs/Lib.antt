@@ -10,6 +10,7 @@ pub mod FirstRefusal
 pub mod Meeting
 pub mod Knowing
 pub mod Bounding
+pub mod Arrays
 pub mod Accepting
 pub mod Listing
 pub mod Passing

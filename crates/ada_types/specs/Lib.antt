@@ -17,6 +17,7 @@ pub mod Judged
 pub mod Walked
 pub mod Known
 pub mod Ranges
+pub mod Makings
 pub mod Initials
 pub mod Shapes
 pub mod Accepts

@@ -13,6 +13,7 @@ mod initials;
 mod judging;
 mod kinds;
 mod known;
+mod making;
 mod marks;
 mod name_sets;
 mod names;

@@ -2,14 +2,14 @@
 
 ghost use Rattle.std.specs.Prelude.{◌≡◌, ◌≤◌, length, option_map, IfOk, OnOk, OnErr};
 ghost use Rattle.ada_tree.specs.Scope.{is_entry_somewhere, meaning, Scope as PlainScope};
-ghost use Rattle.ada_tree.specs.Declaring.{before_all, with_name, inside};
+ghost use Rattle.ada_tree.specs.Declaring.{before_all, with_name, with_types, inside, add_mark, add_kind};
 ghost use Rattle.ada_types.specs.Things.{plain_thing};
 ghost use Rattle.ada_types.specs.Nested.{IsOuter, IsWithin};
 
 use crate::predefined::{first_names, first_table};
 use crate::table::Table;
 use crate::things::{Entries, Thing};
-use ada_tree::{NameId, Word};
+use ada_tree::{Kind, Mark, NameId, Word};
 use scoped_names::ScopedNames;
 use std::alloc::{AllocError, Global};
 use std::marker::Model;
@@ -136,5 +136,55 @@ impl Scope {
     {
         self.names.leave(self.names.len() - outer.count);
         self.base = outer.base;
+    }
+
+    /// The scope with a mark more in its table.
+    pub(crate) fn with_mark(self, mark: Mark) -> Result<Scope, AllocError>
+        ensures { IfOk result (λ scope. scope ≡ with_types (add_mark self.types mark) self) }
+    {
+        let Scope {
+            table,
+            names,
+            base,
+            in_main,
+            own,
+            bodies,
+            has_instance,
+        } = self;
+        let table = table.with_mark(mark)?;
+        Ok(Scope {
+            table,
+            names,
+            base,
+            in_main,
+            own,
+            bodies,
+            has_instance,
+        })
+    }
+
+    /// The scope with a kind more in its table.
+    pub(crate) fn with_kind(self, kind: Kind) -> Result<Scope, AllocError>
+        ensures { IfOk result (λ scope. scope ≡ with_types (add_kind self.types kind) self) }
+    {
+        let Scope {
+            table,
+            names,
+            base,
+            in_main,
+            own,
+            bodies,
+            has_instance,
+        } = self;
+        let table = table.with_kind(kind)?;
+        Ok(Scope {
+            table,
+            names,
+            base,
+            in_main,
+            own,
+            bodies,
+            has_instance,
+        })
     }
 }
