@@ -29,3 +29,4 @@ pub mod Covers
 pub mod Inner
 pub mod Chosen
 pub mod Members
+pub mod Decls

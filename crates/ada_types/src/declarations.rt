@@ -1,0 +1,109 @@
+// Declarations of main, one after the other.
+
+ghost use Rattle.std.specs.Prelude.{◌≡◌, map, Some, IfOk};
+ghost use Rattle.ada_tree.specs.PlainExpr.{plain_expr};
+ghost use Rattle.ada_tree.specs.PlainDecl.{plain_decl, decls_of};
+ghost use Rattle.ada_tree.specs.Scope.{integer_kind};
+ghost use Rattle.ada_tree.specs.Declaring.{after_decl, after_decls};
+ghost use Rattle.ada_tree.specs.Sites.{static_of, decl_sites, decls_sites};
+ghost use Rattle.ada_types.specs.Met.{met};
+ghost use Rattle.ada_types.specs.Decls.{IsDecl, instance_made};
+
+use crate::bodies::walk_task_body;
+use crate::enumerations::{declare_enumeration, declare_exceptions};
+use crate::kinds::INTEGER;
+use crate::named_types::{walk_array_type, walk_number, walk_subtype};
+use crate::objects::walk_objects;
+use crate::refusals::{Refusal, first};
+use crate::scope::Scope;
+use crate::tasks::walk_task;
+use crate::things::Thing;
+use crate::walked_decls::WalkedDecl;
+use crate::walking::walk_static;
+use ada_tree::{Decl, DeclKind, Expr, Word};
+use std::alloc::{AllocError, Global};
+
+// A declaration at whose places nothing is refused.
+fn walked(scope: Scope) -> WalkedDecl {
+    WalkedDecl {
+        scope,
+        refusal: None,
+    }
+}
+
+// Declares an instance of INTEGER_IO.
+fn declare_instance(scope: Scope, name: Word) -> Result<Scope, AllocError>
+    ensures { IfOk result (λ after. after ≡ instance_made scope name) }
+{
+    let mut scope = scope;
+    scope.declare(name, Thing::AnotherUnit)?;
+    scope.make_instance();
+    Ok(scope)
+}
+
+// Walks the value of a pragma PRIORITY.
+fn walk_priority(scope: &Scope, value: &Expr) -> Option<Refusal>
+    ensures { result ≡ met (static_of scope.now (Some integer_kind) (plain_expr value.now)) }
+{
+    walk_static(scope, Some(INTEGER), value).refusal
+}
+
+/// Walks a declaration of main.
+pub(crate) fn walk_decl(
+    scope: Scope,
+    alloc: Global,
+    decl: &Decl,
+) -> Result<WalkedDecl, AllocError>
+    ensures { IfOk result (IsDecl (decl_sites scope (plain_decl decl.now)) (after_decl scope (plain_decl decl.now))) }
+{
+    match &decl.kind {
+        DeclKind::Number { name, value } => walk_number(scope, *name, value),
+        DeclKind::Object {
+            names,
+            constant,
+            shape,
+            init,
+        } => {
+            let walked = walk_objects(scope, names, *constant, shape, init)?;
+            Ok(WalkedDecl {
+                scope: walked.scope,
+                refusal: walked.refusal,
+            })
+        }
+        DeclKind::Enumeration { name, literals } => {
+            Ok(walked(declare_enumeration(scope, alloc, *name, literals)?))
+        }
+        DeclKind::Array { name, index, part } => walk_array_type(scope, *name, index, part),
+        DeclKind::Subtype { name, base } => walk_subtype(scope, *name, base),
+        DeclKind::Exception { names } => Ok(walked(declare_exceptions(scope, names)?)),
+        DeclKind::IntIo { name } => Ok(walked(declare_instance(scope, *name)?)),
+        DeclKind::Pragma { value } => {
+            let refusal = walk_priority(&scope, value);
+            Ok(WalkedDecl { scope, refusal })
+        }
+        DeclKind::Task(task) => walk_task(scope, alloc, task),
+        DeclKind::TaskBody {
+            name,
+            objects,
+            body,
+        } => walk_task_body(scope, alloc, *name, objects, body),
+    }
+}
+
+/// Walks the declarations of main.
+pub(crate) fn walk_decls(
+    scope: Scope,
+    alloc: Global,
+    decls: &[Decl],
+) -> Result<WalkedDecl, AllocError>
+    ensures { IfOk result (IsDecl (decls_sites scope (decls_of (map plain_decl decls.now))) (after_decls scope (decls_of (map plain_decl decls.now)))) }
+{
+    let mut scope = scope;
+    let mut refusal = None;
+    for decl in decls {
+        let walked = walk_decl(scope, alloc, decl)?;
+        scope = walked.scope;
+        refusal = first(refusal, walked.refusal);
+    }
+    Ok(WalkedDecl { scope, refusal })
+}
