@@ -20,6 +20,8 @@ pub mod Ranges
 pub mod Makings
 pub mod Initials
 pub mod Shapes
+pub mod Plans
+pub mod Objects
 pub mod Accepts
 pub mod Actuals
 pub mod Calls

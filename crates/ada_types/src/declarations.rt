@@ -3,17 +3,17 @@
 ghost use Rattle.std.specs.Prelude.{◌≡◌, map, Some, IfOk};
 ghost use Rattle.ada_tree.specs.PlainExpr.{plain_expr};
 ghost use Rattle.ada_tree.specs.PlainDecl.{plain_decl, decls_of};
-ghost use Rattle.ada_tree.specs.Scope.{integer_kind};
-ghost use Rattle.ada_tree.specs.Declaring.{after_decl, after_decls};
+ghost use Rattle.ada_tree.specs.Scope.{AnException, integer_kind};
+ghost use Rattle.ada_tree.specs.Declaring.{with_names, after_decl, after_decls};
 ghost use Rattle.ada_tree.specs.Sites.{static_of, decl_sites, decls_sites};
 ghost use Rattle.ada_types.specs.Met.{met};
 ghost use Rattle.ada_types.specs.Decls.{IsDecl, instance_made};
 
 use crate::bodies::walk_task_body;
-use crate::enumerations::{declare_enumeration, declare_exceptions};
+use crate::enumerations::declare_enumeration;
 use crate::kinds::INTEGER;
 use crate::named_types::{walk_array_type, walk_number, walk_subtype};
-use crate::objects::walk_objects;
+use crate::objects::{declare_all, walk_objects};
 use crate::refusals::{Refusal, first};
 use crate::scope::Scope;
 use crate::tasks::walk_task;
@@ -29,6 +29,15 @@ fn walked(scope: Scope) -> WalkedDecl {
         scope,
         refusal: None,
     }
+}
+
+// Declares exceptions.
+fn declare_exceptions(scope: Scope, names: &[Word]) -> Result<Scope, AllocError>
+    ensures { IfOk result (λ after. after ≡ with_names AnException scope names.now) }
+{
+    let mut scope = scope;
+    declare_all(&mut scope, names, &Thing::AnException)?;
+    Ok(scope)
 }
 
 // Declares an instance of INTEGER_IO.

@@ -1,10 +1,10 @@
-// Enumerations and exceptions.
+// Enumerations.
 
 ghost use Rattle.std.specs.Prelude.{◌≡◌, ◌-ℤ◌, pos, map, Some, IfOk};
 ghost use Rattle.ada_tree.specs.declared.static_types.Kind.TheVariants.{Enumeration};
-ghost use Rattle.ada_tree.specs.Scope as scope;
-ghost use Rattle.ada_tree.specs.Declaring.{with_names, after_enumeration};
+ghost use Rattle.ada_tree.specs.Declaring.{after_enumeration};
 
+use crate::objects::declare_all;
 use crate::scope::Scope;
 use crate::things::Thing;
 use ada_tree::{Kind, Literals, Mark, NameId, Word};
@@ -53,28 +53,6 @@ fn enumeration_mark(name: Word, kind: u32, count: usize) -> Result<Mark, AllocEr
     })
 }
 
-// Declares the literals of the kind at a place.
-fn declare_literals(scope: Scope, kind: u32, literals: &[Word]) -> Result<Scope, AllocError>
-    ensures { IfOk result (λ after. after ≡ with_names (scope.Literal kind) scope literals.now) }
-{
-    let mut scope = scope;
-    for literal in literals {
-        scope.declare(*literal, Thing::Literal(kind))?;
-    }
-    Ok(scope)
-}
-
-/// Declares exceptions.
-pub(crate) fn declare_exceptions(scope: Scope, names: &[Word]) -> Result<Scope, AllocError>
-    ensures { IfOk result (λ after. after ≡ with_names scope.AnException scope names.now) }
-{
-    let mut scope = scope;
-    for name in names {
-        scope.declare(*name, Thing::AnException)?;
-    }
-    Ok(scope)
-}
-
 /// Declares an enumeration with its literals.
 pub(crate) fn declare_enumeration(
     scope: Scope,
@@ -90,5 +68,6 @@ pub(crate) fn declare_enumeration(
     let mark = enumeration_mark(name, kind, literals.len())?;
     let mut scope = scope.with_kind(enumeration)?.with_mark(mark)?;
     scope.declare(name, Thing::TypeMark(place))?;
-    declare_literals(scope, kind, literals)
+    declare_all(&mut scope, literals, &Thing::Literal(kind))?;
+    Ok(scope)
 }

@@ -27,6 +27,7 @@ mod nodes;
 mod objects;
 mod operations;
 mod parts;
+mod plans;
 mod predefined;
 mod ranges;
 mod readings;

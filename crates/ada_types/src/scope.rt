@@ -1,9 +1,10 @@
 // What can be used at a place of a program.
 
-ghost use Rattle.std.specs.Prelude.{◌≡◌, ◌≤◌, ◌++◌, ◌∷◌, [], true, false, length, option_map, IfOk, OnOk, OnErr};
+ghost use Rattle.std.specs.Prelude.{◌≡◌, ◌≤◌, ◌∷◌, [], true, false, length, option_map, IfOk, OnOk, OnErr};
 ghost use Rattle.ada_tree.specs.Scope.{is_entry_somewhere, meaning, Scope as PlainScope};
 ghost use Rattle.ada_tree.specs.Declaring.{before_all, with_name, with_types, inside, add_mark, add_kind};
 ghost use Rattle.ada_types.specs.Things.{plain_thing};
+ghost use Rattle.ada_types.specs.Makings.{add_constant};
 ghost use Rattle.ada_types.specs.Nested.{IsOuter, IsOutside, IsWithin};
 
 use crate::predefined::{first_names, first_table};
@@ -190,31 +191,6 @@ impl Scope {
         table.into_types()
     }
 
-    /// The scope with a named number or constant more in its table.
-    pub(crate) fn with_constant(self, constant: Constant) -> Result<Scope, AllocError>
-        ensures { IfOk result (λ scope. scope ≡ with_types (record self.types { constants = self.types.constants ++ constant ∷ [] }) self) }
-    {
-        let Scope {
-            table,
-            names,
-            base,
-            in_main,
-            own,
-            bodies,
-            has_instance,
-        } = self;
-        let table = table.with_constant(constant)?;
-        Ok(Scope {
-            table,
-            names,
-            base,
-            in_main,
-            own,
-            bodies,
-            has_instance,
-        })
-    }
-
     /// The scope with a mark more in its table.
     pub(crate) fn with_mark(self, mark: Mark) -> Result<Scope, AllocError>
         ensures { IfOk result (λ scope. scope ≡ with_types (add_mark self.types mark) self) }
@@ -254,6 +230,31 @@ impl Scope {
             has_instance,
         } = self;
         let table = table.with_kind(kind)?;
+        Ok(Scope {
+            table,
+            names,
+            base,
+            in_main,
+            own,
+            bodies,
+            has_instance,
+        })
+    }
+
+    /// The scope with a named number or constant more in its table.
+    pub(crate) fn with_constant(self, constant: Constant) -> Result<Scope, AllocError>
+        ensures { IfOk result (λ scope. scope ≡ with_types (add_constant self.types constant) self) }
+    {
+        let Scope {
+            table,
+            names,
+            base,
+            in_main,
+            own,
+            bodies,
+            has_instance,
+        } = self;
+        let table = table.with_constant(constant)?;
         Ok(Scope {
             table,
             names,
