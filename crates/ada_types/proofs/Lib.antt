@@ -21,3 +21,6 @@ pub mod Covering
 pub mod Inner
 pub mod Lists
 pub mod Choosing
+pub mod Types
+pub mod Tasks
+pub mod Behind

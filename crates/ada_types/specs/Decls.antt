@@ -3,13 +3,13 @@ use Rattle.std.specs.Prelude.{◌≡◌, ℕ, true, List, [], ◌∷◌, map, Op
 use Rattle.ada_tree.specs.declared.naming.Word.{Word}
 use Rattle.ada_tree.specs.PlainExpr.{PExpr}
 use Rattle.ada_tree.specs.PlainStmt.{PFormal}
-use Rattle.ada_tree.specs.PlainDecl.{PDecls}
+use Rattle.ada_tree.specs.PlainDecl.{PEntry, PDecls}
 use Rattle.ada_tree.specs.PlainProgram.{PProgram}
 use Rattle.ada_tree.specs.Scope.{Scope, ConstantObject, AnotherUnit, Family, FormalPart, EntryPart, integer_kind}
 use Rattle.ada_tree.specs.ExprTypes.{static_in}
 use Rattle.ada_tree.specs.Demand.{Site}
 use Rattle.ada_tree.specs.Declaring.{with_name, with_types, add_constants, in_body, after_objects}
-use Rattle.ada_tree.specs.Sites.{sites}
+use Rattle.ada_tree.specs.Sites.{sites, entry_sites}
 use Rattle.ada_tree.specs.Refusals.{types_in}
 use Rattle.ada_types.specs.Met.{met}
 use Rattle.ada_types.specs.Repeated.{repeated_from}
@@ -51,6 +51,10 @@ pub record IsEntry (sites : List Site) (entry : EntryPart) (w : WalkedEntry) : T
 pub record AreEntries (sites : List Site) (entries : List EntryPart) (w : WalkedEntries) : Type 0 where
   pub parts_are : map plain_entry w.parts.items ≡ entries
   pub refusal_is : w.refusal ≡ met sites
+
+-- the places of an entry, whatever entries stand before it
+abbrev pub each_entry : Scope → PEntry → List Site
+each_entry scope e = entry_sites scope [] e
 
 -- the types of a program, and what is refused first at its places
 pub record IsProgram (p : PProgram) (w : WalkedProgram) : Type 0 where

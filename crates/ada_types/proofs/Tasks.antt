@@ -1,0 +1,79 @@
+-- The entries of tasks, tasks, and what is refused first of them.
+use Rattle.std.specs.Prelude.{◌≡◌, ℕ, ◌+◌, ◌<◌, ◌≤◌, Bool, true, false, List, [], ◌∷◌, ◌++◌, length, map, flat_map, take, Option, Some, None, option_map, refl}
+use Rattle.std.proofs.Common.{sym, ap, ◌∙◌, get_or, append_assoc}
+use Rattle.std.proofs.lemmas.List.{map_more, append-nil, take_all, map-append}
+use Rattle.std.proofs.lemmas.Grind.{flat_map-append, take_at_read}
+use Rattle.ada_tree.specs.declared.naming.Word.{Word}
+use Rattle.ada_tree.specs.declared.naming.Span.{Span}
+use Rattle.ada_tree.specs.PlainStmt.{PFormal, PBody}
+use Rattle.ada_tree.specs.PlainDecl.{PEntry, PTask, PDecls}
+use Rattle.ada_tree.specs.Refusals.{Refusal}
+use Rattle.ada_tree.specs.Scope.{Scope, integer_kind}
+use Rattle.ada_tree.specs.Demand.{declares_entry, gives_body, makes_instance, Site}
+use Rattle.ada_tree.specs.Sites.{site, if_there, drange_sites, static_of, formals_sites, names_sites, entry_sites, entries_sites, task_sites, own_sites, body_sites}
+use Rattle.ada_types.specs.Sooner.{sooner}
+use Rattle.ada_types.specs.Met.{met}
+use Rattle.ada_types.specs.Decls.{each_entry}
+use Rattle.ada_types.proofs.SoonerLaws.{sooner_none}
+use Rattle.ada_types.proofs.Meeting.{met_none, met_cons, met_append, joined}
+use Rattle.ada_types.proofs.Types.{behind_names}
+
+-- ---- a list that is made of parts of a list
+
+one_flat : {X Y : Type 0} (f : X → List Y) (ys : List Y) (x : X) → ys ++ flat_map f (x ∷ []) ≡ ys ++ f x
+one_flat f ys x = ap (λ zs. ys ++ zs) (append-nil (f x))
+
+pub flat_more : {A X Y : Type 0} (f : X → List Y) (g : A → X) (xs : List A) (i : ℕ) (x : A) → i < length xs → x ≡ get_or xs i x
+    → flat_map f (map g (take i xs)) ++ f (g x) ≡ flat_map f (map g (take (i + 1) xs))
+flat_more f g xs i x inside at =
+    ap (λ y. flat_map f (map g (take i xs)) ++ f (g y)) at
+    ∙ sym (one_flat f (flat_map f (map g (take i xs))) (g (get_or xs i x)))
+    ∙ sym (flat_map-append f (map g (take i xs)) (g (get_or xs i x) ∷ []))
+    ∙ ap (flat_map f) (sym (map_more g xs i x inside))
+
+-- one part more
+pub list_grown : {A B X : Type 0} (see : B → X) (make : A → X) (old : List X) (xs : List A) (bs cs : List B) (i : ℕ) (x : A) (b : B) → i < length xs → x ≡ get_or xs i x
+    → map see bs ≡ old ++ map make (take i xs) → cs ≡ bs ++ b ∷ [] → see b ≡ make x
+    → map see cs ≡ old ++ map make (take (i + 1) xs)
+list_grown see make old xs bs cs i x b inside at before is same =
+    ap (map see) is
+    ∙ map-append see bs (b ∷ [])
+    ∙ ap (λ l. l ++ see b ∷ []) before
+    ∙ append_assoc old (map make (take i xs)) (see b ∷ [])
+    ∙ ap (λ y. old ++ (map make (take i xs) ++ y ∷ [])) (same ∙ ap make at)
+    ∙ ap (λ l. old ++ l) (sym (map_more make xs i x inside))
+
+-- ---- entries
+
+pub entry_met : (scope : Scope) (names : List ℕ) (e : PEntry) (p q : Option Refusal) → p ≡ met (if_there (drange_sites true scope) e.family) → q ≡ met (formals_sites scope e.formals)
+    → sooner p q ≡ met (entry_sites scope names e)
+entry_met scope names e p q is_p is_q =
+    joined (if_there (drange_sites true scope) e.family) (formals_sites scope e.formals) p q is_p is_q
+    ∙ sym (met_cons scope (declares_entry names e.name) (if_there (drange_sites true scope) e.family ++ formals_sites scope e.formals))
+
+entry_any : (scope : Scope) (names : List ℕ) (e : PEntry) → met (entry_sites scope names e) ≡ met (entry_sites scope [] e)
+entry_any scope names e =
+    met_cons scope (declares_entry names e.name) (if_there (drange_sites true scope) e.family ++ formals_sites scope e.formals)
+    ∙ sym (met_cons scope (declares_entry [] e.name) (if_there (drange_sites true scope) e.family ++ formals_sites scope e.formals))
+
+-- the entries before have no part in these rules
+pub entries_flat : (scope : Scope) (names : List ℕ) (es : List PEntry) → met (entries_sites scope names es) ≡ met (flat_map (each_entry scope) es)
+entries_flat scope names [] = refl
+entries_flat scope names (e ∷ es) =
+    met_append (entry_sites scope names e) (entries_sites scope (e.name.name.0 ∷ names) es)
+    ∙ ap (λ o. sooner o (met (entries_sites scope (e.name.name.0 ∷ names) es))) (entry_any scope names e)
+    ∙ ap (sooner (met (entry_sites scope [] e))) (entries_flat scope (e.name.name.0 ∷ names) es)
+    ∙ sym (met_append (entry_sites scope [] e) (flat_map (each_entry scope) es))
+
+pub task_met : (scope : Scope) (t : PTask) (p q : Option Refusal) → p ≡ met (entries_sites scope [] t.entries) → q ≡ met (flat_map (λ x. static_of scope (Some integer_kind) x.value) t.priorities)
+    → sooner p q ≡ met (task_sites scope t)
+task_met scope t p q is_p is_q =
+    joined (names_sites true scope (t.name ∷ []) ++ entries_sites scope [] t.entries) (flat_map (λ x. static_of scope (Some integer_kind) x.value) t.priorities) p q
+    (behind_names scope (t.name ∷ []) (entries_sites scope [] t.entries) p is_p) is_q
+
+-- a task body: the name of the task is refused by none of these rules
+pub body_met : (scope : Scope) (name : Word) (xs ys : List Site) (p q : Option Refusal) → p ≡ met xs → q ≡ met ys → sooner p q ≡ met (site scope (gives_body name) ∷ xs ++ ys)
+body_met scope name xs ys p q is_p is_q = joined xs ys p q is_p is_q ∙ sym (met_cons scope (gives_body name) (xs ++ ys))
+
+pub instance_met : (scope : Scope) (name : Word) (a : Option Refusal) (sites : List Site) → a ≡ met sites → a ≡ met (site scope (makes_instance name) ∷ sites)
+instance_met scope name a sites h = h ∙ sym (met_cons scope (makes_instance name) sites)

@@ -1,0 +1,15 @@
+use Rattle.std.proofs.Common.{◌≡◌, map}
+use Rattle.ada_tree.specs.PlainDecl.{decls_of, plain_decl}
+use Rattle.ada_tree.specs.Declaring.{after_decls}
+use Rattle.ada_tree.specs.Sites.{decls_sites}
+use Rattle.ada_types.specs.Sooner.{sooner}
+use Rattle.ada_types.specs.Met.{met}
+use Rattle.ada_types.proofs.Behind.{from}
+use Rattle.ada_types.proofs.declarations.walk_decls.Given as goal
+
+-- what is left of the declarations makes the whole, of the scope and of what is refused
+abbrev pub invariant-loop-decl : goal.invariant-loop-decl
+invariant-loop-decl l = record {
+  scope : after_decls l.scope (from l.decl-index l.decls) ≡ after_decls l.fn.scope (decls_of (map plain_decl l.decls));
+  told : sooner l.refusal (met (decls_sites l.scope (from l.decl-index l.decls))) ≡ met (decls_sites l.fn.scope (decls_of (map plain_decl l.decls)));
+}
