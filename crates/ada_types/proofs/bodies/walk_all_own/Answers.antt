@@ -1,5 +1,5 @@
 use Rattle.std.proofs.Common.{map}
-use Rattle.ada_types.proofs.Behind.{own_scope, own_told, own_done}
+use Rattle.ada_types.proofs.Following.{own_scope, own_told, own_done}
 use Rattle.ada_types.proofs.bodies.walk_all_own.Goals as goal
 
 pub loop-decl-preserved : goal.loop-decl-preserved

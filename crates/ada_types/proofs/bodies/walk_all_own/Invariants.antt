@@ -4,7 +4,7 @@ use Rattle.ada_tree.specs.Declaring.{after_objects}
 use Rattle.ada_tree.specs.Sites.{own_sites}
 use Rattle.ada_types.specs.Sooner.{sooner}
 use Rattle.ada_types.specs.Met.{met}
-use Rattle.ada_types.proofs.Behind.{from}
+use Rattle.ada_types.proofs.Following.{from}
 use Rattle.ada_types.proofs.bodies.walk_all_own.Given as goal
 
 -- what is left of the objects makes the whole, of the scope and of what is refused

@@ -1,5 +1,5 @@
 use Rattle.std.proofs.Common.{map}
-use Rattle.ada_types.proofs.Behind.{decls_scope, decls_told, decls_done}
+use Rattle.ada_types.proofs.Following.{decls_scope, decls_told, decls_done}
 use Rattle.ada_types.proofs.declarations.walk_decls.Goals as goal
 
 pub loop-decl-preserved : goal.loop-decl-preserved
