@@ -13,10 +13,10 @@ use Rattle.ada_tree.specs.Sites.{own_object_sites, own_sites, decl_sites, decls_
 use Rattle.ada_types.specs.Sooner.{sooner}
 use Rattle.ada_types.specs.Met.{met}
 use Rattle.ada_types.specs.Nested.{IsOuter, IsOutside, IsWithin}
-use Rattle.ada_types.specs.Decls.{IsDecl, after_body}
+use Rattle.ada_types.specs.Decls.{AreDecls, after_body}
 use Rattle.ada_types.specs.declared.scope.Outer.{Outer}
 use Rattle.ada_types.specs.declared.scope.Outside.{Outside}
-use Rattle.ada_types.specs.declared.walked_decls.WalkedDecl.{WalkedDecl}
+use Rattle.ada_types.specs.declared.walked_decls.WalkedDecls.{WalkedDecls}
 use Rattle.ada_types.proofs.SoonerLaws.{sooner_assoc, sooner_none}
 use Rattle.ada_types.proofs.Meeting.{met_none, met_append, joined}
 
@@ -59,9 +59,9 @@ decls_told xs i x now new a b c all h is_x before is is_b is_c =
     ∙ told_on (decl_sites now (plain_decl x)) (decls_sites (after_decl now (plain_decl x)) (from (i + 1) xs)) (met (decls_sites now (from i xs))) b a c all
     (ap (λ l. met (decls_sites now l)) (from_more xs i x h is_x)) before is_b is_c
 
-pub decls_done : (xs : List Decl) (i : ℕ) (s now : Scope) (a : Option Refusal) (w : WalkedDecl) → length xs ≤ i → w ≡ record { scope = now; refusal = a }
+pub decls_done : (xs : List Decl) (i : ℕ) (s now : Scope) (a : Option Refusal) (w : WalkedDecls) → length xs ≤ i → w ≡ record { scope = now; refusal = a }
     → after_decls now (from i xs) ≡ after_decls s (decls_of (map plain_decl xs)) → sooner a (met (decls_sites now (from i xs))) ≡ met (decls_sites s (decls_of (map plain_decl xs)))
-    → IsDecl (decls_sites s (decls_of (map plain_decl xs))) (after_decls s (decls_of (map plain_decl xs))) w
+    → AreDecls (decls_sites s (decls_of (map plain_decl xs))) (after_decls s (decls_of (map plain_decl xs))) w
 decls_done xs i s now a w h is after told =
     record {
       scope_is = ap (λ x. x.scope) is ∙ ap (after_decls now) (sym (from_end xs i h)) ∙ after;
@@ -83,9 +83,9 @@ own_told xs i x now new a b c all h is_x before is is_b is_c =
     ∙ told_on (own_object_sites now (plain_decl x)) (own_sites (after_own_object now (plain_decl x)) (from (i + 1) xs)) (met (own_sites now (from i xs))) b a c all
     (ap (λ l. met (own_sites now l)) (from_more xs i x h is_x)) before is_b is_c
 
-pub own_done : (xs : List Decl) (i : ℕ) (s now : Scope) (a : Option Refusal) (w : WalkedDecl) → length xs ≤ i → w ≡ record { scope = now; refusal = a }
+pub own_done : (xs : List Decl) (i : ℕ) (s now : Scope) (a : Option Refusal) (w : WalkedDecls) → length xs ≤ i → w ≡ record { scope = now; refusal = a }
     → after_objects now (from i xs) ≡ after_objects s (decls_of (map plain_decl xs)) → sooner a (met (own_sites now (from i xs))) ≡ met (own_sites s (decls_of (map plain_decl xs)))
-    → IsDecl (own_sites s (decls_of (map plain_decl xs))) (after_objects s (decls_of (map plain_decl xs))) w
+    → AreDecls (own_sites s (decls_of (map plain_decl xs))) (after_objects s (decls_of (map plain_decl xs))) w
 own_done xs i s now a w h is after told =
     record {
       scope_is = ap (λ x. x.scope) is ∙ ap (after_objects now) (sym (from_end xs i h)) ∙ after;

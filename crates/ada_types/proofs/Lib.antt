@@ -23,4 +23,5 @@ pub mod Lists
 pub mod Choosing
 pub mod Types
 pub mod Tasks
+pub mod Behind
 pub mod Following

@@ -14,10 +14,9 @@ use Rattle.ada_types.specs.Met.{met}
 use Rattle.ada_types.specs.Known.{value_in}
 use Rattle.ada_types.specs.Walked.{IsWalked}
 use Rattle.ada_types.specs.Makings.{IsMade}
-use Rattle.ada_types.specs.Decls.{IsDecl, after_number}
+use Rattle.ada_types.specs.Decls.{after_number}
 use Rattle.ada_types.specs.declared.known.Known.{Known}
 use Rattle.ada_types.specs.declared.walking.Walked.{Walked}
-use Rattle.ada_types.specs.declared.walked_decls.WalkedDecl.{WalkedDecl}
 use Rattle.ada_types.proofs.Meeting.{joined}
 use Rattle.ada_types.proofs.Accepting.{names_met}
 use Rattle.ada_types.proofs.Knowing.{value_known, known_walked}

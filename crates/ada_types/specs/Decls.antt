@@ -1,5 +1,5 @@
 -- What is told of declarations that stand at some places.
-use Rattle.std.specs.Prelude.{◌≡◌, ℕ, true, List, [], ◌∷◌, map, Option, Some}
+use Rattle.std.specs.Prelude.{◌≡◌, ℕ, Bool, true, List, [], ◌∷◌, map, Option, Some}
 use Rattle.ada_tree.specs.declared.naming.Word.{Word}
 use Rattle.ada_tree.specs.PlainExpr.{PExpr}
 use Rattle.ada_tree.specs.PlainStmt.{PFormal}
@@ -15,13 +15,20 @@ use Rattle.ada_types.specs.Met.{met}
 use Rattle.ada_types.specs.Repeated.{repeated_from}
 use Rattle.ada_types.specs.Entries.{plain_family, plain_entry}
 use Rattle.ada_types.specs.declared.walked_decls.WalkedDecl.{WalkedDecl}
+use Rattle.ada_types.specs.declared.walked_decls.WalkedDecls.{WalkedDecls}
 use Rattle.ada_types.specs.declared.entries.WalkedFamily.{WalkedFamily}
 use Rattle.ada_types.specs.declared.entries.WalkedEntry.{WalkedEntry}
 use Rattle.ada_types.specs.declared.entries.WalkedEntries.{WalkedEntries}
 use Rattle.ada_types.specs.declared.types.WalkedProgram.{WalkedProgram}
 
--- the scope that a declaration leaves, and the first refusal at its places
-pub record IsDecl (sites : List Site) (after : Scope) (w : WalkedDecl) : Type 0 where
+-- the scope that a declaration leaves, the first refusal at its places, and whether it is one of objects that are tasks
+pub record IsDecl (sites : List Site) (after : Scope) (of_tasks : Bool) (w : WalkedDecl) : Type 0 where
+  pub scope_is : w.scope ≡ after
+  pub refusal_is : w.refusal ≡ met sites
+  pub of_tasks_is : w.of_tasks ≡ of_tasks
+
+-- the scope that several leave, and the first refusal at their places
+pub record AreDecls (sites : List Site) (after : Scope) (w : WalkedDecls) : Type 0 where
   pub scope_is : w.scope ≡ after
   pub refusal_is : w.refusal ≡ met sites
 

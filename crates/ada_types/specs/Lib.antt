@@ -31,4 +31,5 @@ pub mod Covers
 pub mod Inner
 pub mod Chosen
 pub mod Members
+pub mod Notes
 pub mod Decls

@@ -1,6 +1,6 @@
 // Task bodies.
 
-ghost use Rattle.std.specs.Prelude.{◌≡◌, ◌∷◌, ◌++◌, [], map, OnOk, IfOk};
+ghost use Rattle.std.specs.Prelude.{◌≡◌, ◌∷◌, ◌++◌, [], false, map, OnOk, IfOk};
 ghost use Rattle.ada_tree.specs.PlainStmt.{plain_body};
 ghost use Rattle.ada_tree.specs.PlainDecl.{plain_decl, decls_of};
 ghost use Rattle.ada_tree.specs.Scope.{meaning, entries_of};
@@ -9,14 +9,14 @@ ghost use Rattle.ada_tree.specs.Declaring.{inside, in_body, own_entries, after_o
 ghost use Rattle.ada_tree.specs.Sites.{site, own_object_sites, own_sites, body_sites};
 ghost use Rattle.ada_types.specs.Met.{met};
 ghost use Rattle.ada_types.specs.Things.{plain_thing};
-ghost use Rattle.ada_types.specs.Decls.{IsDecl, after_body};
+ghost use Rattle.ada_types.specs.Decls.{IsDecl, AreDecls, after_body};
 
 use crate::objects::walk_objects;
 use crate::refusals::{Refusal, first};
 use crate::scope::Scope;
 use crate::statements::walk_body;
 use crate::things::{Entries, Thing};
-use crate::walked_decls::WalkedDecl;
+use crate::walked_decls::{WalkedDecl, WalkedDecls};
 use ada_tree::{Body, Decl, DeclKind, NameId, Word};
 use std::alloc::{AllocError, Global};
 use std::rc::Rc;
@@ -55,8 +55,8 @@ fn own_entries(scope: &Scope, alloc: Global, id: NameId) -> Result<Rc<Entries>, 
 }
 
 // Walks one object of a task body.
-fn walk_own(scope: Scope, decl: &Decl) -> Result<WalkedDecl, AllocError>
-    ensures { IfOk result (IsDecl (own_object_sites scope (plain_decl decl.now)) (after_own_object scope (plain_decl decl.now))) }
+fn walk_own(scope: Scope, decl: &Decl) -> Result<WalkedDecls, AllocError>
+    ensures { IfOk result (AreDecls (own_object_sites scope (plain_decl decl.now)) (after_own_object scope (plain_decl decl.now))) }
 {
     match &decl.kind {
         DeclKind::Object {
@@ -66,12 +66,12 @@ fn walk_own(scope: Scope, decl: &Decl) -> Result<WalkedDecl, AllocError>
             init,
         } => {
             let walked = walk_objects(scope, names, *constant, shape, init)?;
-            Ok(WalkedDecl {
+            Ok(WalkedDecls {
                 scope: walked.scope,
                 refusal: walked.refusal,
             })
         }
-        _ => Ok(WalkedDecl {
+        _ => Ok(WalkedDecls {
             scope,
             refusal: None,
         }),
@@ -79,8 +79,8 @@ fn walk_own(scope: Scope, decl: &Decl) -> Result<WalkedDecl, AllocError>
 }
 
 // Walks the objects of a task body.
-fn walk_all_own(scope: Scope, objects: &[Decl]) -> Result<WalkedDecl, AllocError>
-    ensures { IfOk result (IsDecl (own_sites scope (decls_of (map plain_decl objects.now))) (after_objects scope (decls_of (map plain_decl objects.now)))) }
+fn walk_all_own(scope: Scope, objects: &[Decl]) -> Result<WalkedDecls, AllocError>
+    ensures { IfOk result (AreDecls (own_sites scope (decls_of (map plain_decl objects.now))) (after_objects scope (decls_of (map plain_decl objects.now)))) }
 {
     let mut scope = scope;
     let mut refusal = None;
@@ -89,7 +89,7 @@ fn walk_all_own(scope: Scope, objects: &[Decl]) -> Result<WalkedDecl, AllocError
         scope = walked.scope;
         refusal = first(refusal, walked.refusal);
     }
-    Ok(WalkedDecl { scope, refusal })
+    Ok(WalkedDecls { scope, refusal })
 }
 
 /// Walks statements in a scope of their own. The scope is left as it was.
@@ -115,7 +115,7 @@ pub(crate) fn walk_task_body(
     objects: &[Decl],
     body: &Body,
 ) -> Result<WalkedDecl, AllocError>
-    ensures { IfOk result (IsDecl (site scope (gives_body name) ∷ own_sites (in_body scope name) (decls_of (map plain_decl objects.now)) ++ body_sites (inside (after_objects (in_body scope name) (decls_of (map plain_decl objects.now)))) (plain_body body.now)) (after_body scope name (decls_of (map plain_decl objects.now)))) }
+    ensures { IfOk result (IsDecl (site scope (gives_body name) ∷ own_sites (in_body scope name) (decls_of (map plain_decl objects.now)) ++ body_sites (inside (after_objects (in_body scope name) (decls_of (map plain_decl objects.now)))) (plain_body body.now)) (after_body scope name (decls_of (map plain_decl objects.now))) false) }
 {
     let own = own_entries(&scope, alloc, name.name)?;
     let mut scope = scope;
@@ -127,5 +127,6 @@ pub(crate) fn walk_task_body(
     Ok(WalkedDecl {
         scope,
         refusal: first(walked.refusal, inner),
+        of_tasks: false,
     })
 }

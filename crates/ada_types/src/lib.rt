@@ -24,6 +24,7 @@ mod named_types;
 mod names;
 mod namings;
 mod nodes;
+mod notes;
 mod objects;
 mod operations;
 mod parts;

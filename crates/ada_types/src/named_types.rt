@@ -1,6 +1,6 @@
 // Array types, subtypes and named numbers.
 
-ghost use Rattle.std.specs.Prelude.{◌≡◌, ◌++◌, ◌∷◌, [], true, Some, option_map, IfOk};
+ghost use Rattle.std.specs.Prelude.{◌≡◌, ◌++◌, ◌∷◌, [], true, false, Some, option_map, IfOk};
 ghost use Rattle.ada_tree.specs.PlainExpr.{plain_expr, plain_drange, plain_subind};
 ghost use Rattle.ada_tree.specs.Scope.{integer_kind, and_then, range_of_mark};
 ghost use Rattle.ada_tree.specs.Demand.{scalar_only};
@@ -39,7 +39,7 @@ pub(crate) fn walk_array_type(
     index: &Drange,
     part: &Subind,
 ) -> Result<WalkedDecl, AllocError>
-    ensures { IfOk result (IsDecl (names_sites true scope (name ∷ []) ++ drange_sites true scope (plain_drange index.now) ++ subind_sites true scalar_only scope (plain_subind part.now)) (after_type scope name (made_named_array scope name (plain_drange index.now) (plain_subind part.now)))) }
+    ensures { IfOk result (IsDecl (names_sites true scope (name ∷ []) ++ drange_sites true scope (plain_drange index.now) ++ subind_sites true scalar_only scope (plain_subind part.now)) (after_type scope name (made_named_array scope name (plain_drange index.now) (plain_subind part.now))) false) }
 {
     let range = walk_range(&scope, true, index);
     let component = walk_subind(&scope, true, MarkUse::Scalar, part);
@@ -50,6 +50,7 @@ pub(crate) fn walk_array_type(
     Ok(WalkedDecl {
         scope,
         refusal: first(range.refusal, component.refusal),
+        of_tasks: false,
     })
 }
 
@@ -76,7 +77,7 @@ pub(crate) fn walk_subtype(
     name: Word,
     base: &Subind,
 ) -> Result<WalkedDecl, AllocError>
-    ensures { IfOk result (IsDecl (names_sites true scope (name ∷ []) ++ subind_sites true scalar_only scope (plain_subind base.now)) (after_type scope name (made_subtype scope name (plain_subind base.now)))) }
+    ensures { IfOk result (IsDecl (names_sites true scope (name ∷ []) ++ subind_sites true scalar_only scope (plain_subind base.now)) (after_type scope name (made_subtype scope name (plain_subind base.now))) false) }
 {
     let walked = walk_subind(&scope, true, MarkUse::Scalar, base);
     let (scope, base) = make(scope, walked.making)?;
@@ -87,6 +88,7 @@ pub(crate) fn walk_subtype(
     Ok(WalkedDecl {
         scope,
         refusal: walked.refusal,
+        of_tasks: false,
     })
 }
 
@@ -106,7 +108,7 @@ fn add_number(scope: Scope, name: Word, value: Option<i64>) -> Result<Scope, All
 
 /// Walks the declaration of a named number.
 pub(crate) fn walk_number(scope: Scope, name: Word, value: &Expr) -> Result<WalkedDecl, AllocError>
-    ensures { IfOk result (IsDecl (names_sites true scope (name ∷ []) ++ static_of scope (Some integer_kind) (plain_expr value.now)) (after_number scope name (plain_expr value.now))) }
+    ensures { IfOk result (IsDecl (names_sites true scope (name ∷ []) ++ static_of scope (Some integer_kind) (plain_expr value.now)) (after_number scope name (plain_expr value.now)) false) }
 {
     let walked = walk_static(&scope, Some(INTEGER), value);
     let mut scope = add_number(scope, name, walked.known().value_in(INTEGER))?;
@@ -114,5 +116,6 @@ pub(crate) fn walk_number(scope: Scope, name: Word, value: &Expr) -> Result<Walk
     Ok(WalkedDecl {
         scope,
         refusal: walked.refusal,
+        of_tasks: false,
     })
 }

@@ -1,6 +1,6 @@
 // Tasks and task types.
 
-ghost use Rattle.std.specs.Prelude.{◌≡◌, [], map, flat_map, Some, IfOk};
+ghost use Rattle.std.specs.Prelude.{◌≡◌, false, map, flat_map, Some, IfOk};
 ghost use Rattle.ada_tree.specs.PlainDecl.{plain_priority, plain_task};
 ghost use Rattle.ada_tree.specs.Scope.{integer_kind};
 ghost use Rattle.ada_tree.specs.Declaring.{task_thing, after_task};
@@ -55,7 +55,7 @@ pub(crate) fn walk_task(
     alloc: Global,
     task: &TaskUnit,
 ) -> Result<WalkedDecl, AllocError>
-    ensures { IfOk result (IsDecl (task_sites scope (plain_task task.now)) (after_task scope (plain_task task.now))) }
+    ensures { IfOk result (IsDecl (task_sites scope (plain_task task.now)) (after_task scope (plain_task task.now)) false) }
 {
     let walked = walk_entries(&scope, alloc, &task.entries)?;
     let priorities = walk_priorities(&scope, &task.priorities);
@@ -65,5 +65,6 @@ pub(crate) fn walk_task(
     Ok(WalkedDecl {
         scope,
         refusal: first(walked.refusal, priorities),
+        of_tasks: false,
     })
 }

@@ -15,6 +15,7 @@ ghost use Rattle.ada_types.specs.Decls.{IsProgram};
 use crate::bodies::walk_inside;
 use crate::declarations::walk_decls;
 use crate::errors::TypeError;
+use crate::notes::Notes;
 use crate::refusals::{Refusal, first};
 use crate::scope::Scope;
 use crate::things::Thing;
@@ -43,13 +44,15 @@ fn first_scope(alloc: Global, name: Word) -> Result<Scope, AllocError>
 fn walk_program(alloc: Global, p: &Program) -> Result<WalkedProgram, AllocError>
     ensures { IfOk result (IsProgram (plain_program p.now)) }
 {
-    let walked = walk_decls(first_scope(alloc, p.name)?, alloc, &p.decls)?;
+    let mut notes = Notes::new(alloc, p.name)?;
+    let walked = walk_decls(first_scope(alloc, p.name)?, alloc, &mut notes, &p.decls)?;
     let mut scope = walked.scope;
     let inner = walk_inside(&mut scope, alloc, &p.body)?;
+    let repeated = notes.refuse(alloc, &p.body)?;
     Ok(WalkedProgram {
         types: scope.into_types(),
         others: first(walked.refusal, inner),
-        repeated: None,
+        repeated,
     })
 }
 

@@ -1,4 +1,4 @@
-use Rattle.std.proofs.Common.{◌++◌, ◌∷◌, [], ap, true}
+use Rattle.std.proofs.Common.{refl, ◌++◌, ◌∷◌, [], ap, true}
 use Rattle.ada_tree.specs.PlainExpr.{plain_drange, plain_subind}
 use Rattle.ada_tree.specs.Demand.{scalar_only}
 use Rattle.ada_tree.specs.Sites.{names_sites, drange_sites, subind_sites}
@@ -16,4 +16,5 @@ returns c =
       refusal_is = joined (names_sites true scope (c.args.name ∷ []) ++ drange_sites true scope index) (subind_sites true scalar_only scope part) _ _
       (behind_names scope (c.args.name ∷ []) (drange_sites true scope index) _ c.walk_range-range.ensures.refusal_is)
       c.walk_subind-component.ensures.refusal_is;
+      of_tasks_is = refl;
     }

@@ -1,4 +1,4 @@
-use Rattle.std.proofs.Common.{◌∷◌, [], true}
+use Rattle.std.proofs.Common.{refl, ◌∷◌, [], true}
 use Rattle.ada_tree.specs.PlainExpr.{plain_subind}
 use Rattle.ada_tree.specs.Demand.{scalar_only}
 use Rattle.ada_tree.specs.Sites.{subind_sites}
@@ -12,4 +12,5 @@ returns c =
     record {
       scope_is = subtype_left scope _ _ _ _ c.args.name base _ _ _ _ c.walk_subind-walked.ensures.made_is c.range_at-range.ensures c.in_ok-make.ensures c.in_ok-make_subtype.ensures c.type_of_mark.ensures c.in_ok-declare.ensures.ok;
       refusal_is = behind_names scope (c.args.name ∷ []) (subind_sites true scalar_only scope base) _ c.walk_subind-walked.ensures.refusal_is;
+      of_tasks_is = refl;
     }
