@@ -6,9 +6,9 @@ use Rattle.ada_tree.specs.declared.naming.Word.{Word}
 use Rattle.ada_tree.specs.declared.declarations.Decl.{Decl}
 use Rattle.ada_tree.specs.PlainDecl.{PDecl, DNumber, DObject, DEnumeration, DArray, DSubtype, DException, DIntIo, DPragma, DTask, DTaskBody, PDecls, no_decl, decl_then, decls_of, plain_decl}
 use Rattle.ada_tree.specs.Refusals.{Refusal}
-use Rattle.ada_tree.specs.Scope.{Scope, Seen, Thing}
+use Rattle.ada_tree.specs.Scope.{Scope, Seen, Thing, EntryPart, meaning}
 use Rattle.ada_tree.specs.Demand.{Site}
-use Rattle.ada_tree.specs.Declaring.{with_name, with_names, with_types, seen_as, in_body, after_object, after_own_object, after_objects, after_decl, after_decls}
+use Rattle.ada_tree.specs.Declaring.{with_name, with_names, with_types, seen_as, in_body, own_entries, after_own_object, after_objects, after_decl, after_decls}
 use Rattle.ada_tree.specs.Sites.{own_object_sites, own_sites, decl_sites, decls_sites}
 use Rattle.ada_types.specs.Sooner.{sooner}
 use Rattle.ada_types.specs.Met.{met}
@@ -145,3 +145,11 @@ body_left s now new name ds outside is same gone =
     gone s is (h.within.0, ap (λ x. x.names) same ∙ h.within.1)
     ∙ ap {A = Scope} (λ x. record s { types = x.types; bodies = name.name.0 ∷ x.bodies; has_instance = x.has_instance }) same
     ∙ (λ j. record s { types = (after_objects (in_body s name) ds).types; bodies = name.name.0 ∷ h.bodies_are j; has_instance = h.instance_is j })
+
+-- a body is entered with the entries of its task
+pub body_scope : (s entered : Scope) (name : Word) (own : List EntryPart) → own ≡ own_entries (meaning s name.name) → entered ≡ record s { here = []; in_main = false; own = own } → entered ≡ in_body s name
+body_scope s entered name own h is = is ∙ ap {A = List EntryPart} (λ o. record s { here = []; in_main = false; own = o }) h
+
+pub objects_in : (s entered : Scope) (name : Word) (own : List EntryPart) (ds : PDecls) → own ≡ own_entries (meaning s name.name) → entered ≡ record s { here = []; in_main = false; own = own }
+    → after_objects entered ds ≡ after_objects (in_body s name) ds
+objects_in s entered name own ds h is = ap (λ x. after_objects x ds) (body_scope s entered name own h is)

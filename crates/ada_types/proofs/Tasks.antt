@@ -2,20 +2,24 @@
 use Rattle.std.specs.Prelude.{◌≡◌, ℕ, ◌+◌, ◌<◌, ◌≤◌, Bool, true, false, List, [], ◌∷◌, ◌++◌, length, map, flat_map, take, Option, Some, None, option_map, refl}
 use Rattle.std.proofs.Common.{sym, ap, ◌∙◌, get_or, append_assoc}
 use Rattle.std.proofs.lemmas.List.{map_more, append-nil, take_all, map-append}
+use Rattle.std.proofs.lemmas.Simd.{map-map}
 use Rattle.std.proofs.lemmas.Grind.{flat_map-append, take_at_read}
 use Rattle.ada_tree.specs.declared.naming.Word.{Word}
 use Rattle.ada_tree.specs.declared.naming.Span.{Span}
-use Rattle.ada_tree.specs.PlainStmt.{PFormal, PBody}
-use Rattle.ada_tree.specs.PlainDecl.{PEntry, PTask, PDecls}
+use Rattle.ada_tree.specs.PlainStmt.{PFormal}
+use Rattle.ada_tree.specs.declared.declarations.EntryDecl.{EntryDecl}
+use Rattle.ada_tree.specs.PlainDecl.{PEntry, PTask, plain_entry}
+use Rattle.ada_tree.specs.Declaring.{entry_part}
 use Rattle.ada_tree.specs.Refusals.{Refusal}
 use Rattle.ada_tree.specs.Scope.{Scope, integer_kind}
 use Rattle.ada_tree.specs.Demand.{declares_entry, gives_body, makes_instance, Site}
 use Rattle.ada_tree.specs.Sites.{site, if_there, drange_sites, static_of, formals_sites, names_sites, entry_sites, entries_sites, task_sites, own_sites, body_sites}
 use Rattle.ada_types.specs.Sooner.{sooner}
-use Rattle.ada_types.specs.Met.{met}
+use Rattle.ada_types.specs.Met.{met_at, met}
+use Rattle.ada_types.specs.Entries.{plain_entry as plain_part}
 use Rattle.ada_types.specs.Decls.{each_entry}
-use Rattle.ada_types.proofs.SoonerLaws.{sooner_none}
-use Rattle.ada_types.proofs.Meeting.{met_none, met_cons, met_append, joined}
+use Rattle.ada_types.specs.declared.things.EntryPart.{EntryPart as Part}
+use Rattle.ada_types.proofs.Meeting.{met_cons, met_append, joined, before}
 use Rattle.ada_types.proofs.Types.{behind_names}
 
 -- ---- a list that is made of parts of a list
@@ -71,9 +75,21 @@ task_met scope t p q is_p is_q =
     joined (names_sites true scope (t.name ∷ []) ++ entries_sites scope [] t.entries) (flat_map (λ x. static_of scope (Some integer_kind) x.value) t.priorities) p q
     (behind_names scope (t.name ∷ []) (entries_sites scope [] t.entries) p is_p) is_q
 
--- a task body: the name of the task is refused by none of these rules
-pub body_met : (scope : Scope) (name : Word) (xs ys : List Site) (p q : Option Refusal) → p ≡ met xs → q ≡ met ys → sooner p q ≡ met (site scope (gives_body name) ∷ xs ++ ys)
-body_met scope name xs ys p q is_p is_q = joined xs ys p q is_p is_q ∙ sym (met_cons scope (gives_body name) (xs ++ ys))
+-- a task body: what is asked of its name, its objects and its statements
+pub body_met : (scope : Scope) (name : Word) (xs ys : List Site) (m p q : Option Refusal) → m ≡ met_at scope (gives_body name) → p ≡ met xs → q ≡ met ys
+    → sooner (sooner m p) q ≡ met (site scope (gives_body name) ∷ xs ++ ys)
+body_met scope name xs ys m p q is_m is_p is_q = joined (site scope (gives_body name) ∷ xs) ys (sooner m p) q (before scope (gives_body name) xs m p is_m is_p) is_q
 
 pub instance_met : (scope : Scope) (name : Word) (a : Option Refusal) (sites : List Site) → a ≡ met sites → a ≡ met (site scope (makes_instance name) ∷ sites)
 instance_met scope name a sites h = h ∙ sym (met_cons scope (makes_instance name) sites)
+
+-- one entry more, and all of them
+pub entry_added : (scope : Scope) (xs : List EntryDecl) (i : ℕ) (x : EntryDecl) (bs cs : List Part) (b : Part) → i < length xs → x ≡ get_or xs i x
+    → map plain_part bs ≡ map (entry_part scope) (map plain_entry (take i xs)) → cs ≡ bs ++ b ∷ [] → plain_part b ≡ entry_part scope (plain_entry x)
+    → map plain_part cs ≡ map (entry_part scope) (map plain_entry (take (i + 1) xs))
+entry_added scope xs i x bs cs b inside at before is same =
+    list_grown plain_part (λ e. entry_part scope (plain_entry e)) [] xs bs cs i x b inside at (before ∙ map-map (entry_part scope) plain_entry (take i xs)) is same
+    ∙ sym (map-map (entry_part scope) plain_entry (take (i + 1) xs))
+
+pub entries_all : (scope : Scope) (xs : List EntryDecl) (i : ℕ) (bs : List Part) → length xs ≤ i → map plain_part bs ≡ map (entry_part scope) (map plain_entry (take i xs)) → map plain_part bs ≡ map (entry_part scope) (map plain_entry xs)
+entries_all scope xs i bs h before = before ∙ ap (λ l. map (entry_part scope) (map plain_entry l)) (take_all i xs h)

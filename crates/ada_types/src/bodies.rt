@@ -7,12 +7,12 @@ ghost use Rattle.ada_tree.specs.Scope.{meaning, entries_of};
 ghost use Rattle.ada_tree.specs.Demand.{gives_body};
 ghost use Rattle.ada_tree.specs.Declaring.{inside, in_body, own_entries, after_own_object, after_objects};
 ghost use Rattle.ada_tree.specs.Sites.{site, own_object_sites, own_sites, body_sites};
-ghost use Rattle.ada_types.specs.Met.{met};
+ghost use Rattle.ada_types.specs.Met.{met, met_at};
 ghost use Rattle.ada_types.specs.Things.{plain_thing};
 ghost use Rattle.ada_types.specs.Decls.{IsDecl, AreDecls, after_body};
 
 use crate::objects::walk_objects;
-use crate::refusals::{Refusal, first};
+use crate::refusals::{Refusal, Rule, first, refuse};
 use crate::scope::Scope;
 use crate::statements::walk_body;
 use crate::things::{Entries, Thing};
@@ -51,6 +51,19 @@ fn own_entries(scope: &Scope, alloc: Global, id: NameId) -> Result<Rc<Entries>, 
     match scope.meaning(id) {
         Some(thing) => entries_of(alloc, thing),
         None => no_entries(alloc),
+    }
+}
+
+// A body of what is no task or task type that is declared before.
+fn refuse_no_body(scope: &Scope, name: Word) -> Option<Refusal>
+    ensures { result ≡ met_at scope.now (gives_body name) }
+{
+    match scope.meaning(name.name) {
+        Some(thing) => match thing {
+            Thing::SingleTask(_) | Thing::TaskType(_) => None,
+            _ => refuse(Rule::Unknown, name.span),
+        },
+        None => refuse(Rule::Unknown, name.span),
     }
 }
 
@@ -117,6 +130,7 @@ pub(crate) fn walk_task_body(
 ) -> Result<WalkedDecl, AllocError>
     ensures { IfOk result (IsDecl (site scope (gives_body name) ∷ own_sites (in_body scope name) (decls_of (map plain_decl objects.now)) ++ body_sites (inside (after_objects (in_body scope name) (decls_of (map plain_decl objects.now)))) (plain_body body.now)) (after_body scope name (decls_of (map plain_decl objects.now))) false) }
 {
+    let no_body = refuse_no_body(&scope, name);
     let own = own_entries(&scope, alloc, name.name)?;
     let mut scope = scope;
     let outside = scope.enter_body(own);
@@ -126,7 +140,7 @@ pub(crate) fn walk_task_body(
     scope.leave_body(outside, name)?;
     Ok(WalkedDecl {
         scope,
-        refusal: first(walked.refusal, inner),
+        refusal: first(first(no_body, walked.refusal), inner),
         of_tasks: false,
     })
 }
