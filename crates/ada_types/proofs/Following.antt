@@ -4,7 +4,8 @@ use Rattle.std.proofs.Common.{sym, ap, ◌∙◌, subst, arith, length-append}
 use Rattle.std.proofs.lemmas.List.{drop_more, drop_all}
 use Rattle.ada_tree.specs.declared.naming.Word.{Word}
 use Rattle.ada_tree.specs.declared.declarations.Decl.{Decl}
-use Rattle.ada_tree.specs.PlainDecl.{PDecl, DNumber, DObject, DEnumeration, DArray, DSubtype, DException, DIntIo, DPragma, DTask, DTaskBody, PDecls, no_decl, decl_then, decls_of, plain_decl}
+use Rattle.ada_tree.specs.declared.declarations.DeclKind.{DeclKind}
+use Rattle.ada_tree.specs.PlainDecl.{PDecl, DNumber, DObject, DEnumeration, DArray, DSubtype, DException, DIntIo, DPragma, DTask, DTaskBody, PDecls, no_decl, decl_then, decls_of, decl_at, plain_decl}
 use Rattle.ada_tree.specs.Refusals.{Refusal}
 use Rattle.ada_tree.specs.Scope.{Scope, Seen, Thing, EntryPart, meaning}
 use Rattle.ada_tree.specs.Demand.{Site}
@@ -13,9 +14,11 @@ use Rattle.ada_tree.specs.Sites.{own_object_sites, own_sites, decl_sites, decls_
 use Rattle.ada_types.specs.Sooner.{sooner}
 use Rattle.ada_types.specs.Met.{met}
 use Rattle.ada_types.specs.Nested.{IsOuter, IsOutside, IsWithin}
-use Rattle.ada_types.specs.Decls.{AreDecls, after_body}
+use Rattle.ada_types.specs.Notes.{is_of_tasks}
+use Rattle.ada_types.specs.Decls.{IsDecl, AreDecls, after_body}
 use Rattle.ada_types.specs.declared.scope.Outer.{Outer}
 use Rattle.ada_types.specs.declared.scope.Outside.{Outside}
+use Rattle.ada_types.specs.declared.walked_decls.WalkedDecl.{WalkedDecl}
 use Rattle.ada_types.specs.declared.walked_decls.WalkedDecls.{WalkedDecls}
 use Rattle.ada_types.proofs.SoonerLaws.{sooner_assoc, sooner_none}
 use Rattle.ada_types.proofs.Meeting.{met_none, met_append, joined}
@@ -153,3 +156,12 @@ body_scope s entered name own h is = is ∙ ap {A = List EntryPart} (λ o. recor
 pub objects_in : (s entered : Scope) (name : Word) (own : List EntryPart) (ds : PDecls) → own ≡ own_entries (meaning s name.name) → entered ≡ record s { here = []; in_main = false; own = own }
     → after_objects entered ds ≡ after_objects (in_body s name) ds
 objects_in s entered name own ds h is = ap (λ x. after_objects x ds) (body_scope s entered name own h is)
+
+-- a declaration by what it is
+pub of_kind : (scope : Scope) (d : Decl) (k : DeclKind) (w : WalkedDecl) → d.kind ≡ k → IsDecl (decl_sites scope (decl_at k d.span)) (after_decl scope (decl_at k d.span)) (is_of_tasks scope (decl_at k d.span)) w
+    → IsDecl (decl_sites scope (plain_decl d)) (after_decl scope (plain_decl d)) (is_of_tasks scope (plain_decl d)) w
+of_kind scope d k w h p = subst (λ x. IsDecl (decl_sites scope (decl_at x d.span)) (after_decl scope (decl_at x d.span)) (is_of_tasks scope (decl_at x d.span)) w) (sym h) p
+
+pub of_plain : (scope : Scope) (d : Decl) (x : PDecl) (w : WalkedDecl) → plain_decl d ≡ x → IsDecl (decl_sites scope x) (after_decl scope x) (is_of_tasks scope x) w
+    → IsDecl (decl_sites scope (plain_decl d)) (after_decl scope (plain_decl d)) (is_of_tasks scope (plain_decl d)) w
+of_plain scope d x w h p = subst (λ y. IsDecl (decl_sites scope y) (after_decl scope y) (is_of_tasks scope y) w) (sym h) p

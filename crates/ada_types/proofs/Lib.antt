@@ -21,7 +21,7 @@ pub mod Covering
 pub mod Inner
 pub mod Lists
 pub mod Choosing
-pub mod Types
-pub mod Tasks
+pub mod TypeDecls
+pub mod TaskDecls
 pub mod Behind
 pub mod Following

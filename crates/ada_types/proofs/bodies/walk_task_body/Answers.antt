@@ -6,7 +6,7 @@ use Rattle.ada_tree.specs.Sites.{own_sites, body_sites}
 use Rattle.ada_types.specs.Sooner.{sooner}
 use Rattle.ada_types.specs.Met.{met}
 use Rattle.ada_types.proofs.Following.{body_room, body_left, body_scope, objects_in}
-use Rattle.ada_types.proofs.Tasks.{body_met}
+use Rattle.ada_types.proofs.TaskDecls.{body_met}
 use Rattle.ada_types.proofs.bodies.walk_task_body.Goals as goal
 
 pub leave_body-requires-clause-within : goal.leave_body-requires-clause-within

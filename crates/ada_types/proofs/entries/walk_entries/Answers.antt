@@ -2,7 +2,7 @@ use Rattle.std.proofs.Common.{◌∙◌, sym, [], map}
 use Rattle.ada_tree.specs.PlainDecl as decl
 use Rattle.ada_types.specs.Decls.{each_entry}
 use Rattle.ada_types.proofs.Listing.{list_more, list_end}
-use Rattle.ada_types.proofs.Tasks.{entry_added, entries_all, entries_flat}
+use Rattle.ada_types.proofs.TaskDecls.{entry_added, entries_all, entries_flat}
 use Rattle.ada_types.proofs.entries.walk_entries.Goals as goal
 
 pub loop-entry-preserved : goal.loop-entry-preserved

@@ -7,7 +7,7 @@ use Rattle.ada_types.specs.Met.{met}
 use Rattle.ada_types.specs.Namings.{namings_of}
 use Rattle.ada_types.specs.Notes.{AreAt}
 use Rattle.ada_types.proofs.Meeting.{joined}
-use Rattle.ada_types.proofs.Types.{behind_names}
+use Rattle.ada_types.proofs.TypeDecls.{behind_names}
 use Rattle.ada_types.proofs.Behind.{at_first, noted_first}
 use Rattle.ada_types.proofs.types.walk_program.Goals as goal
 

@@ -4,23 +4,26 @@ use Rattle.std.proofs.Common.{sym, ap, ◌∙◌, get_or, append_assoc}
 use Rattle.std.proofs.lemmas.List.{map_more, append-nil, take_all, map-append}
 use Rattle.std.proofs.lemmas.Simd.{map-map}
 use Rattle.std.proofs.lemmas.Grind.{flat_map-append, take_at_read}
+use Rattle.ada_tree.specs.declared.naming.NameId.{NameId}
 use Rattle.ada_tree.specs.declared.naming.Word.{Word}
 use Rattle.ada_tree.specs.declared.naming.Span.{Span}
-use Rattle.ada_tree.specs.PlainStmt.{PFormal}
+use Rattle.ada_tree.specs.declared.statements.Formal.{Formal}
+use Rattle.ada_tree.specs.PlainStmt.{PFormal, plain_formal}
 use Rattle.ada_tree.specs.declared.declarations.EntryDecl.{EntryDecl}
 use Rattle.ada_tree.specs.PlainDecl.{PEntry, PTask, plain_entry}
-use Rattle.ada_tree.specs.Declaring.{entry_part}
+use Rattle.ada_tree.specs.Declaring.{entry_part, formal_parts}
 use Rattle.ada_tree.specs.Refusals.{Refusal}
-use Rattle.ada_tree.specs.Scope.{Scope, integer_kind}
+use Rattle.ada_tree.specs.Scope.{Scope, integer_kind, scalar_kind, marking}
 use Rattle.ada_tree.specs.Demand.{declares_entry, gives_body, makes_instance, Site}
 use Rattle.ada_tree.specs.Sites.{site, if_there, drange_sites, static_of, formals_sites, names_sites, entry_sites, entries_sites, task_sites, own_sites, body_sites}
 use Rattle.ada_types.specs.Sooner.{sooner}
 use Rattle.ada_types.specs.Met.{met_at, met}
-use Rattle.ada_types.specs.Entries.{plain_entry as plain_part}
-use Rattle.ada_types.specs.Decls.{each_entry}
+use Rattle.ada_types.specs.Entries.{plain_entry as plain_part, plain_part as plain_formal_part}
+use Rattle.ada_types.specs.Decls.{each_entry, part_of}
 use Rattle.ada_types.specs.declared.things.EntryPart.{EntryPart as Part}
+use Rattle.ada_types.specs.declared.things.FormalPart.{FormalPart as PartOf}
 use Rattle.ada_types.proofs.Meeting.{met_cons, met_append, joined, before}
-use Rattle.ada_types.proofs.Types.{behind_names}
+use Rattle.ada_types.proofs.TypeDecls.{behind_names}
 
 -- ---- a list that is made of parts of a list
 
@@ -93,3 +96,23 @@ entry_added scope xs i x bs cs b inside at before is same =
 
 pub entries_all : (scope : Scope) (xs : List EntryDecl) (i : ℕ) (bs : List Part) → length xs ≤ i → map plain_part bs ≡ map (entry_part scope) (map plain_entry (take i xs)) → map plain_part bs ≡ map (entry_part scope) (map plain_entry xs)
 entries_all scope xs i bs h before = before ∙ ap (λ l. map (entry_part scope) (map plain_entry l)) (take_all i xs h)
+
+-- the names of one literal more
+pub ids_grown : (xs : List Word) (i : ℕ) (x : Word) (bs cs : List NameId) → i < length xs → x ≡ get_or xs i x → bs ≡ map (λ w. w.name) (take i xs) → cs ≡ bs ++ x.name ∷ [] → cs ≡ map (λ w. w.name) (take (i + 1) xs)
+ids_grown xs i x bs cs inside at before is =
+    is
+    ∙ ap (λ l. l ++ x.name ∷ []) before
+    ∙ ap (λ (y : Word). map (λ w. w.name) (take i xs) ++ y.name ∷ []) at
+    ∙ sym (map_more (λ (w : Word). w.name) xs i x inside)
+
+-- the formals of one group more
+pub formals_grown : (scope : Scope) (xs : List Formal) (i : ℕ) (x : Formal) (bs cs : List PartOf) (kind : Option ℕ) → i < length xs → x ≡ get_or xs i x
+    → map plain_formal_part bs ≡ formal_parts scope (map plain_formal (take i xs))
+    → map plain_formal_part cs ≡ map plain_formal_part bs ++ map (part_of (plain_formal x) kind) x.names.items
+    → kind ≡ scalar_kind (marking scope x.mark.name)
+    → map plain_formal_part cs ≡ formal_parts scope (map plain_formal (take (i + 1) xs))
+formals_grown scope xs i x bs cs kind inside at before is is_kind =
+    is
+    ∙ ap (λ l. l ++ map (part_of (plain_formal x) kind) x.names.items) before
+    ∙ ap (λ k. formal_parts scope (map plain_formal (take i xs)) ++ map (part_of (plain_formal x) k) x.names.items) is_kind
+    ∙ flat_more (λ (f : PFormal). map (part_of f (scalar_kind (marking scope f.mark.name))) f.names) plain_formal xs i x inside at
