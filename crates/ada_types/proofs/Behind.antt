@@ -1,27 +1,29 @@
 -- What is named at the places of declarations, and where the notes of it stand behind them.
-use Rattle.std.specs.Prelude.{◌≡◌, ◌<◌, ◌≤◌, ◌+◌, ◌&&◌, ◌||◌, ℕ, Bool, true, false, List, [], ◌∷◌, ◌++◌, length, map, flat_map, drop, Option, Some, None, option_map, refl}
+use Rattle.std.specs.Prelude.{◌≡◌, ◌<◌, ◌≤◌, ◌+◌, ◌&&◌, ◌||◌, ℕ, Bool, true, false, List, [], ◌∷◌, ◌++◌, length, map, flat_map, drop, Option, Some, option_map, refl}
 use Rattle.std.proofs.Common.{sym, ap, ◌∙◌, subst, get_or, append_assoc}
 use Rattle.std.proofs.lemmas.List.{append-nil}
 use Rattle.std.proofs.Math.ListN.{drop_of_length-le}
 use Rattle.ada_tree.specs.declared.naming.Span.{Span}
 use Rattle.ada_tree.specs.declared.naming.Word.{Word}
 use Rattle.ada_tree.specs.declared.declarations.Decl.{Decl}
-use Rattle.ada_tree.specs.Refusals.{Refusal}
+use Rattle.ada_tree.specs.declared.declarations.EntryDecl.{EntryDecl}
+use Rattle.ada_tree.specs.declared.declarations.TaskUnit.{TaskUnit}
+use Rattle.ada_tree.specs.declared.statements.Formal.{Formal}
 use Rattle.ada_tree.specs.TypeTable.{TypeTable}
 use Rattle.ada_tree.specs.PlainExpr.{PExpr, PSubind, PDrange}
-use Rattle.ada_tree.specs.PlainStmt.{PBody}
-use Rattle.ada_tree.specs.PlainDecl.{PShape, OPlain, ORow, PInit, IOne, IList, IOthers, PEntry, PPriority, PTask, PDecl, DNumber, DObject, DEnumeration, DArray, DSubtype, DException, DIntIo, DPragma, DTask, DTaskBody, PDecls, no_decl, decl_then, decls_of, plain_decl}
+use Rattle.ada_tree.specs.PlainStmt.{PBody, plain_formal}
+use Rattle.ada_tree.specs.PlainDecl.{PShape, OPlain, ORow, PInit, IOne, IList, IOthers, PEntry, PPriority, PTask, PDecl, DNumber, DObject, DEnumeration, DArray, DSubtype, DException, DIntIo, DPragma, DTask, DTaskBody, PDecls, decls_of, plain_decl, plain_entry, plain_task}
 use Rattle.ada_tree.specs.Scope.{Scope, Range, Thing, Marking, ScalarMark, ArrayMark, TaskMark, NoMark, UnknownMark, UnclearMark, integer_kind, range_of_mark}
-use Rattle.ada_tree.specs.Demand.{Demand, Initialized, declares_entry, for_scalar, for_array, makes_instance, gives_body, must_be_static, must_lie_in, initializes, scalar_only, Site}
-use Rattle.ada_tree.specs.Declaring.{before_all, first_scope, with_name, with_names, inside, in_body, Declared, declared_object, after_own_object, after_objects, after_object, after_decl, after_decls}
+use Rattle.ada_tree.specs.Demand.{declares_entry, for_scalar, for_array, gives_body, must_be_static, must_lie_in, initializes, scalar_only, Site}
+use Rattle.ada_tree.specs.Declaring.{before_all, first_scope, with_name, with_names, inside, in_body, Declared, declared_object, after_own_object, after_objects, after_decl}
 use Rattle.ada_tree.specs.Sites.{site, if_there, expr_sites, static_of, drange_sites, subind_sites, object_marks, component_marks, may_be_task, value_sites, free_value_sites, all_init_sites, array_init_sites, scalar_init_sites, object_marking, init_sites, is_task_object, names_sites, shape_sites, object_sites, entry_sites, entries_sites, formals_sites, task_sites, body_sites, own_object_sites, own_sites, decl_sites, decls_sites, with_words}
 use Rattle.ada_types.specs.Repeated.{repeated_from}
-use Rattle.ada_types.specs.Namings.{naming_in, and_then, namings_of, Named, declared, named_once, first_repeated}
+use Rattle.ada_types.specs.Namings.{namings_of, Named, declared, named_once, first_repeated}
 use Rattle.ada_types.specs.Notes.{PlainNotes, no_notes, AreAt, behind, with_declared, is_of_tasks, AreBehind, object_words, of_own}
 use Rattle.ada_types.specs.declared.namings.Naming.{Naming}
-use Rattle.ada_types.specs.declared.namings.Naming.TheVariants.{Declares, Labels, Once}
+use Rattle.ada_types.specs.declared.namings.Naming.TheVariants.{Once}
 use Rattle.ada_types.proofs.Repeating.{drop_more, repeats_are}
-use Rattle.ada_types.proofs.Noting.{namings_append, named_then, named_in, IsQuiet, quiet_none, quiet_one, quiet_append, quiet_there, quiet_flat, quiet_expr, quiet_static, quiet_subind, quiet_drange, declared_are, declared_append}
+use Rattle.ada_types.proofs.Noting.{namings_append, named_then, quiet_none, quiet_one, quiet_append, quiet_there, quiet_flat, quiet_expr, quiet_static, quiet_subind, quiet_drange, declared_are, declared_append}
 
 -- ---- quiet places
 
@@ -175,10 +177,10 @@ declared_behind : (old new : PlainNotes) (scope after : Scope) (fixed : Bool) (w
 declared_behind old new scope after fixed ws ss at p q r t h =
     h
     ∙ notes_are old (with_declared fixed old ws) ss after
-      (ap (λ l. old.namings ++ declared fixed l ws) at.here_is ∙ ap (λ l. old.namings ++ l) (sym p))
-      (ap (λ l. with_words l ws) at.here_is ∙ sym q)
-      (at.bodies_are ∙ sym r)
-      (at.instance_is ∙ sym t)
+    (ap (λ l. old.namings ++ declared fixed l ws) at.here_is ∙ ap (λ l. old.namings ++ l) (sym p))
+    (ap (λ l. with_words l ws) at.here_is ∙ sym q)
+    (at.bodies_are ∙ sym r)
+    (at.instance_is ∙ sym t)
 
 pub number_behind : (old new : PlainNotes) (b : Bool) (w : Word) (e : PExpr) (s : Span) → new ≡ with_declared true old (w ∷ []) → AreBehind old new b (DNumber w e s)
 unfolding AreBehind
@@ -226,11 +228,11 @@ unfolding AreBehind
 instance_behind old new b w s h = λ scope at tasks.
     h
     ∙ notes_are old (with_declared true record { namings = old.namings ++ Once old.has_instance w ∷ []; here = old.here; bodies = old.bodies; has_instance = true } (w ∷ [])) (decl_sites scope (DIntIo w s)) (after_decl scope (DIntIo w s))
-      (append_assoc old.namings (Once old.has_instance w ∷ []) (declared true old.here (w ∷ []))
-      ∙ ap (λ t. old.namings ++ Once t w ∷ declared true old.here (w ∷ [])) at.instance_is
-      ∙ ap (λ l. old.namings ++ Once scope.has_instance w ∷ declared true l (w ∷ [])) at.here_is
-      ∙ ap (λ l. old.namings ++ l) (sym (instance_is scope w s)))
-      (ap (λ l. w.name.0 ∷ l) at.here_is) at.bodies_are refl
+    (append_assoc old.namings (Once old.has_instance w ∷ []) (declared true old.here (w ∷ []))
+    ∙ ap (λ t. old.namings ++ Once t w ∷ declared true old.here (w ∷ [])) at.instance_is
+    ∙ ap (λ l. old.namings ++ Once scope.has_instance w ∷ declared true l (w ∷ [])) at.here_is
+    ∙ ap (λ l. old.namings ++ l) (sym (instance_is scope w s)))
+    (ap (λ l. w.name.0 ∷ l) at.here_is) at.bodies_are refl
 
 pub pragma_behind : (old : PlainNotes) (b : Bool) (e : PExpr) (s : Span) → AreBehind old old b (DPragma e s)
 unfolding AreBehind
@@ -266,20 +268,20 @@ body_is : (scope : Scope) (w : Word) (rest : List Site) → namings_of (site sco
 unfolding namings_of
 body_is scope w rest = refl
 
-inner_at : (scope : Scope) (w : Word) (a b c : List Naming) (ds : PDecls) (body : PBody) → Named a b (λ s. own_sites (of_own s) ds) → Named b c (λ s. body_sites s body)
-    → c ≡ a ++ namings_of (own_sites (in_body scope w) ds ++ body_sites (inside (after_objects (in_body scope w) ds)) body)
+inner_at : (scope : Scope) (w : Word) (a b c : List Naming) (ds : PDecls) (its : PBody) → Named a b (λ s. own_sites (of_own s) ds) → Named b c (λ s. body_sites s its)
+    → c ≡ a ++ namings_of (own_sites (in_body scope w) ds ++ body_sites (inside (after_objects (in_body scope w) ds)) its)
 unfolding Named
-inner_at scope w a b c ds body p q =
-    named_then a b c (λ s. own_sites (of_own s) ds) (λ s. body_sites (inside (after_objects (of_own s) ds)) body) p (λ s. q (inside (after_objects (of_own s) ds))) (in_body scope w)
+inner_at scope w a b c ds its p q =
+    named_then a b c (λ s. own_sites (of_own s) ds) (λ s. body_sites (inside (after_objects (of_own s) ds)) its) p (λ s. q (inside (after_objects (of_own s) ds))) (in_body scope w)
 
-pub task_body_behind : (old : PlainNotes) (l m n : List Naming) (bodies : List ℕ) (b : Bool) (w : Word) (ds : PDecls) (body : PBody) (s : Span) → l ≡ old.namings ++ named_once old.bodies (w ∷ []) → bodies ≡ w.name.0 ∷ old.bodies
-    → Named l m (λ x. own_sites (of_own x) ds) → Named m n (λ x. body_sites x body)
-    → AreBehind old record { namings = n; here = old.here; bodies = bodies; has_instance = old.has_instance } b (DTaskBody w ds body s)
+pub task_body_behind : (old : PlainNotes) (l m n : List Naming) (bodies : List ℕ) (b : Bool) (w : Word) (ds : PDecls) (its : PBody) (s : Span) → l ≡ old.namings ++ named_once old.bodies (w ∷ []) → bodies ≡ w.name.0 ∷ old.bodies
+    → Named l m (λ x. own_sites (of_own x) ds) → Named m n (λ x. body_sites x its)
+    → AreBehind old record { namings = n; here = old.here; bodies = bodies; has_instance = old.has_instance } b (DTaskBody w ds its s)
 unfolding AreBehind
-task_body_behind old l m n bodies b w ds body s h g p q = λ scope at tasks.
-    let rest : List Site = own_sites (in_body scope w) ds ++ body_sites (inside (after_objects (in_body scope w) ds)) body in
-    notes_are old record { namings = n; here = old.here; bodies = bodies; has_instance = old.has_instance } (decl_sites scope (DTaskBody w ds body s)) (after_decl scope (DTaskBody w ds body s))
-    (inner_at scope w l m n ds body p q
+task_body_behind old l m n bodies b w ds its s h g p q = λ scope at tasks.
+    let rest : List Site = own_sites (in_body scope w) ds ++ body_sites (inside (after_objects (in_body scope w) ds)) its in
+    notes_are old record { namings = n; here = old.here; bodies = bodies; has_instance = old.has_instance } (decl_sites scope (DTaskBody w ds its s)) (after_decl scope (DTaskBody w ds its s))
+    (inner_at scope w l m n ds its p q
     ∙ ap (λ x. x ++ namings_of rest) h
     ∙ append_assoc old.namings (named_once old.bodies (w ∷ [])) (namings_of rest)
     ∙ ap (λ x. old.namings ++ (named_once x (w ∷ []) ++ namings_of rest)) at.bodies_are
@@ -288,13 +290,38 @@ task_body_behind old l m n bodies b w ds body s h g p q = λ scope at tasks.
     (g ∙ ap (λ x. w.name.0 ∷ x) at.bodies_are)
     at.instance_is
 
+-- ---- the notes of the code
+
+pub instance_noted : (fields old new : PlainNotes) (grown : List Naming) (b : Bool) (w : Word) (s : Span) → fields ≡ old → grown ≡ fields.namings ++ Once fields.has_instance w ∷ []
+    → new ≡ with_declared true record { namings = grown; here = fields.here; bodies = fields.bodies; has_instance = true } (w ∷ []) → AreBehind old new b (DIntIo w s)
+instance_noted fields old new grown b w s v g h =
+    subst (λ o. AreBehind o new b (DIntIo w s)) v
+    (instance_behind fields new b w s (h ∙ ap (λ l. with_declared true record { namings = l; here = fields.here; bodies = fields.bodies; has_instance = true } (w ∷ [])) g))
+
+pub task_noted : (old named : PlainNotes) (l : List Naming) (b : Bool) (x : TaskUnit) (es : List EntryDecl) (s : Span) → es ≡ x.entries.items → named ≡ with_declared true old (x.name ∷ []) → Named named.namings l (λ y. entries_sites y [] (map plain_entry es))
+    → AreBehind old record { namings = l; here = named.here; bodies = named.bodies; has_instance = named.has_instance } b (DTask (plain_task x) s)
+task_noted old named l b x es s g h p = task_behind old named l b (plain_task x) s h (subst (λ y. Named named.namings l (λ z. entries_sites z [] (map plain_entry y))) g p)
+
+pub task_body_noted : (fields old : PlainNotes) (l m n : List Naming) (bodies : List ℕ) (b : Bool) (w : Word) (ds : PDecls) (its : PBody) (s : Span) → fields ≡ old → l ≡ fields.namings ++ named_once fields.bodies (w ∷ []) → bodies ≡ w.name.0 ∷ fields.bodies
+    → Named l m (λ x. own_sites (of_own x) ds) → Named m n (λ x. body_sites x its)
+    → AreBehind old record { namings = n; here = fields.here; bodies = bodies; has_instance = fields.has_instance } b (DTaskBody w ds its s)
+task_body_noted fields old l m n bodies b w ds its s v h g p q =
+    subst (λ o. AreBehind o record { namings = n; here = fields.here; bodies = bodies; has_instance = fields.has_instance } b (DTaskBody w ds its s)) v
+    (task_body_behind fields l m n bodies b w ds its s h g p q)
+
 -- a declaration whose tree, seen plainly, is known
 pub decl_is : (old new : PlainNotes) (b : Bool) (d e : PDecl) → d ≡ e → AreBehind old new b e → AreBehind old new b d
 decl_is old new b d e h p = subst (λ x. AreBehind old new b x) (sym h) p
 
 -- ---- the declarations of main, one after the other
 
--- the notes of the name of a program stand before its declarations
+-- the notes of the name of a program, behind none
+pub first_noted : (new : PlainNotes) (a : List Naming) (h b : List ℕ) (w : Word) → a ≡ [] → h ≡ [] → b ≡ [] → new ≡ with_declared true record { namings = a; here = h; bodies = b; has_instance = false } (w ∷ []) → new ≡ behind no_notes (names_sites true before_all (w ∷ [])) (first_scope w)
+first_noted new a h b w p q r e =
+    declared_behind no_notes new before_all (first_scope w) true (w ∷ []) (names_sites true before_all (w ∷ [])) record { in_main = refl; here_is = refl; bodies_are = refl; instance_is = refl } (names_are true before_all (w ∷ [])) refl refl refl
+    (e ∙ (λ i. with_declared true record { namings = p i; here = q i; bodies = r i; has_instance = false } (w ∷ [])))
+
+-- they stand before its declarations
 pub at_first : (notes : PlainNotes) (w : Word) → notes ≡ behind no_notes (names_sites true before_all (w ∷ [])) (first_scope w) → AreAt (first_scope w) notes
 at_first notes w h = record {
   in_main = refl;
@@ -344,11 +371,11 @@ noted_all scope notes total ds i h before =
 -- ---- the rule
 
 -- what is named behind the declarations decides with what is named in them
-pub refused_by : (before : List Site) (scope : Scope) (a b : List Naming) (body : PBody) → a ≡ namings_of before → Named a b (λ s. body_sites s body) → first_repeated [] [] b ≡ repeated_from [] (before ++ body_sites scope body)
+pub refused_by : (before : List Site) (scope : Scope) (a b : List Naming) (its : PBody) → a ≡ namings_of before → Named a b (λ s. body_sites s its) → first_repeated [] [] b ≡ repeated_from [] (before ++ body_sites scope its)
 unfolding Named
-refused_by before scope a b body h p =
-    ap (first_repeated [] []) (p scope ∙ ap (λ l. l ++ namings_of (body_sites scope body)) h ∙ sym (namings_append before (body_sites scope body)))
-    ∙ sym (repeats_are (before ++ body_sites scope body))
+refused_by before scope a b its h p =
+    ap (first_repeated [] []) (p scope ∙ ap (λ l. l ++ namings_of (body_sites scope its)) h ∙ sym (namings_append before (body_sites scope its)))
+    ∙ sym (repeats_are (before ++ body_sites scope its))
 
 -- ---- loops
 
@@ -375,7 +402,7 @@ entry_once : (s : Scope) (names : List ℕ) (w : Word) (rest : List Site) → na
 unfolding namings_of
 entry_once s names w rest = refl
 
-pub entry_named_at : (a b c : List Naming) (names : List ℕ) (e : PEntry) → b ≡ a ++ named_once names (e.name ∷ []) → Named b c (λ s. formals_sites s e.formals) → Named a c (λ s. entry_sites s names e)
+entry_named_at : (a b c : List Naming) (names : List ℕ) (e : PEntry) → b ≡ a ++ named_once names (e.name ∷ []) → Named b c (λ s. formals_sites s e.formals) → Named a c (λ s. entry_sites s names e)
 unfolding Named
 entry_named_at a b c names e h p = λ s.
     p s
@@ -384,3 +411,6 @@ entry_named_at a b c names e h p = λ s.
     ∙ ap (λ l. a ++ (named_once names (e.name ∷ []) ++ (l ++ namings_of (formals_sites s e.formals)))) (sym (quiet_there (drange_sites true s) e.family (quiet_drange true s)))
     ∙ ap (λ l. a ++ (named_once names (e.name ∷ []) ++ l)) (sym (namings_append (if_there (drange_sites true s) e.family) (formals_sites s e.formals)))
     ∙ ap (λ l. a ++ l) (sym (entry_once s names e.name (if_there (drange_sites true s) e.family ++ formals_sites s e.formals)))
+
+pub entry_of : (a b c : List Naming) (names : List ℕ) (e : EntryDecl) (fs : List Formal) → fs ≡ e.formals.items → b ≡ a ++ named_once names (e.name ∷ []) → Named b c (λ s. formals_sites s (map plain_formal fs)) → Named a c (λ s. entry_sites s names (plain_entry e))
+entry_of a b c names e fs g h p = entry_named_at a b c names (plain_entry e) h (subst (λ y. Named b c (λ s. formals_sites s (map plain_formal y))) g p)

@@ -12,6 +12,7 @@ pub mod Repeated
 pub mod Telling
 pub mod Namings
 pub mod Noted
+pub mod Notes
 pub mod Plain
 pub mod Judged
 pub mod Walked
@@ -31,5 +32,4 @@ pub mod Covers
 pub mod Inner
 pub mod Chosen
 pub mod Members
-pub mod Notes
 pub mod Decls

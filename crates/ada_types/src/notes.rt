@@ -1,6 +1,6 @@
 // What the declarations of a program name, one behind the other: all that rule Duplicate looks at.
 
-ghost use Rattle.std.specs.Prelude.{◌≡◌, ◌++◌, ◌∷◌, [], Bool, true, false, List, OnOk, IfOk, map};
+ghost use Rattle.std.specs.Prelude.{◌≡◌, ◌++◌, ◌∷◌, ◌||◌, [], Bool, true, false, List, OnOk, IfOk, map};
 ghost use Rattle.ada_tree.specs.declared.naming.Span.{Span as PlainSpan};
 ghost use Rattle.ada_tree.specs.PlainStmt.{plain_body};
 ghost use Rattle.ada_tree.specs.PlainDecl.{DIntIo, DTask, DTaskBody, decls_of, plain_decl, plain_entry, plain_task};
@@ -67,11 +67,7 @@ fn note_entries(
 }
 
 // A declaration of a task body: nothing but objects stands there.
-fn note_object(
-    namings: &mut Vec<Naming>,
-    here: &mut NameSet,
-    decl: &Decl,
-) -> Result<(), AllocError>
+fn note_object(namings: &mut Vec<Naming>, here: &mut NameSet, decl: &Decl) -> Result<(), AllocError>
     ensures namings { OnOk result (namings.new.items ≡ namings.old.items ++ declared false here.old (object_words (plain_decl decl.now))) }
     ensures here { OnOk result (here.new ≡ with_words here.old (object_words (plain_decl decl.now))) }
 {
@@ -123,6 +119,18 @@ impl Notes {
         ensures { OnOk result (self.new ≡ with_declared fixed self.old names.now) }
     {
         note_words(&mut self.namings, &mut self.here, fixed, names)
+    }
+
+    // Objects of main, of which constants and tasks are no variables.
+    fn note_main_objects(
+        &mut self,
+        constant: bool,
+        of_tasks: bool,
+        names: &[Word],
+    ) -> Result<(), AllocError>
+        ensures { OnOk result (self.new ≡ with_declared (constant || of_tasks) self.old names.now) }
+    {
+        self.note_names(constant || of_tasks, names)
     }
 
     // An enumeration type with its literals.
@@ -178,8 +186,10 @@ impl Notes {
         match &decl.kind {
             DeclKind::Number { name, .. } => self.note_name(*name),
             DeclKind::Object {
-                names, constant, ..
-            } => self.note_names(*constant || of_tasks, names),
+                names,
+                constant,
+                ..
+            } => self.note_main_objects(*constant, of_tasks, names),
             DeclKind::Enumeration { name, literals } => self.note_enumeration(*name, literals),
             DeclKind::Array { name, .. } => self.note_name(*name),
             DeclKind::Subtype { name, .. } => self.note_name(*name),
