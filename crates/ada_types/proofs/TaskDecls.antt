@@ -11,9 +11,9 @@ use Rattle.ada_tree.specs.declared.statements.Formal.{Formal}
 use Rattle.ada_tree.specs.PlainStmt.{PFormal, plain_formal}
 use Rattle.ada_tree.specs.declared.declarations.EntryDecl.{EntryDecl}
 use Rattle.ada_tree.specs.PlainDecl.{PEntry, PTask, plain_entry}
-use Rattle.ada_tree.specs.Declaring.{entry_part, formal_parts}
+use Rattle.ada_tree.specs.Declaring.{with_name, entry_family, formal_parts, entry_part, task_thing, after_task}
 use Rattle.ada_tree.specs.Refusals.{Refusal}
-use Rattle.ada_tree.specs.Scope.{Scope, integer_kind, scalar_kind, marking}
+use Rattle.ada_tree.specs.Scope.{Scope, Thing, Family, FormalPart as PlainPart, EntryPart as PlainEntry, integer_kind, scalar_kind, marking}
 use Rattle.ada_tree.specs.Demand.{declares_entry, gives_body, makes_instance, Site}
 use Rattle.ada_tree.specs.Sites.{site, if_there, drange_sites, static_of, formals_sites, names_sites, entry_sites, entries_sites, task_sites, own_sites, body_sites}
 use Rattle.ada_types.specs.Sooner.{sooner}
@@ -39,16 +39,16 @@ flat_more f g xs i x inside at =
     ∙ ap (flat_map f) (sym (map_more g xs i x inside))
 
 -- one part more
-pub list_grown : {A B X : Type 0} (see : B → X) (make : A → X) (old : List X) (xs : List A) (bs cs : List B) (i : ℕ) (x : A) (b : B) → i < length xs → x ≡ get_or xs i x
-    → map see bs ≡ old ++ map make (take i xs) → cs ≡ bs ++ b ∷ [] → see b ≡ make x
+pub list_grown : {A B X : Type 0} (see : B → X) (make : A → X) (old : List X) (xs : List A) (bs cs : List B) (i : ℕ) (d : A) (b : B) → i < length xs
+    → map see bs ≡ old ++ map make (take i xs) → cs ≡ bs ++ b ∷ [] → see b ≡ make (get_or xs i d)
     → map see cs ≡ old ++ map make (take (i + 1) xs)
-list_grown see make old xs bs cs i x b inside at before is same =
+list_grown see make old xs bs cs i d b inside before is same =
     ap (map see) is
     ∙ map-append see bs (b ∷ [])
     ∙ ap (λ l. l ++ see b ∷ []) before
     ∙ append_assoc old (map make (take i xs)) (see b ∷ [])
-    ∙ ap (λ y. old ++ (map make (take i xs) ++ y ∷ [])) (same ∙ ap make at)
-    ∙ ap (λ l. old ++ l) (sym (map_more make xs i x inside))
+    ∙ ap (λ y. old ++ (map make (take i xs) ++ y ∷ [])) same
+    ∙ ap (λ l. old ++ l) (sym (map_more make xs i d inside))
 
 -- ---- entries
 
@@ -91,19 +91,16 @@ pub entry_added : (scope : Scope) (xs : List EntryDecl) (i : ℕ) (x : EntryDecl
     → map plain_part bs ≡ map (entry_part scope) (map plain_entry (take i xs)) → cs ≡ bs ++ b ∷ [] → plain_part b ≡ entry_part scope (plain_entry x)
     → map plain_part cs ≡ map (entry_part scope) (map plain_entry (take (i + 1) xs))
 entry_added scope xs i x bs cs b inside at before is same =
-    list_grown plain_part (λ e. entry_part scope (plain_entry e)) [] xs bs cs i x b inside at (before ∙ map-map (entry_part scope) plain_entry (take i xs)) is same
+    list_grown plain_part (λ e. entry_part scope (plain_entry e)) [] xs bs cs i x b inside (before ∙ map-map (entry_part scope) plain_entry (take i xs)) is (same ∙ ap (λ y. entry_part scope (plain_entry y)) at)
     ∙ sym (map-map (entry_part scope) plain_entry (take (i + 1) xs))
 
 pub entries_all : (scope : Scope) (xs : List EntryDecl) (i : ℕ) (bs : List Part) → length xs ≤ i → map plain_part bs ≡ map (entry_part scope) (map plain_entry (take i xs)) → map plain_part bs ≡ map (entry_part scope) (map plain_entry xs)
 entries_all scope xs i bs h before = before ∙ ap (λ l. map (entry_part scope) (map plain_entry l)) (take_all i xs h)
 
 -- the names of one literal more
-pub ids_grown : (xs : List Word) (i : ℕ) (x : Word) (bs cs : List NameId) → i < length xs → x ≡ get_or xs i x → bs ≡ map (λ w. w.name) (take i xs) → cs ≡ bs ++ x.name ∷ [] → cs ≡ map (λ w. w.name) (take (i + 1) xs)
-ids_grown xs i x bs cs inside at before is =
-    is
-    ∙ ap (λ l. l ++ x.name ∷ []) before
-    ∙ ap (λ (y : Word). map (λ w. w.name) (take i xs) ++ y.name ∷ []) at
-    ∙ sym (map_more (λ (w : Word). w.name) xs i x inside)
+pub ids_grown : (xs : List Word) (i : ℕ) (d : Word) (bs cs : List NameId) → i < length xs → bs ≡ map (λ w. w.name) (take i xs) → cs ≡ bs ++ (get_or xs i d).name ∷ [] → cs ≡ map (λ w. w.name) (take (i + 1) xs)
+ids_grown xs i d bs cs inside before is =
+    is ∙ ap (λ l. l ++ (get_or xs i d).name ∷ []) before ∙ sym (map_more (λ (w : Word). w.name) xs i d inside)
 
 -- the formals of one group more
 pub formals_grown : (scope : Scope) (xs : List Formal) (i : ℕ) (x : Formal) (bs cs : List PartOf) (kind : Option ℕ) → i < length xs → x ≡ get_or xs i x
@@ -116,3 +113,14 @@ formals_grown scope xs i x bs cs kind inside at before is is_kind =
     ∙ ap (λ l. l ++ map (part_of (plain_formal x) kind) x.names.items) before
     ∙ ap (λ k. formal_parts scope (map plain_formal (take i xs)) ++ map (part_of (plain_formal x) k) x.names.items) is_kind
     ∙ flat_more (λ (f : PFormal). map (part_of f (scalar_kind (marking scope f.mark.name))) f.names) plain_formal xs i x inside at
+
+-- what is told of an entry is the entry
+abbrev entry_with : PEntry → Family → List PlainPart → PlainEntry
+entry_with e f ps = record { name = e.name.name; family = f; formals = ps }
+
+pub entry_is : (scope : Scope) (e : PEntry) (f : Family) (ps : List PlainPart) → f ≡ entry_family scope e.family → ps ≡ formal_parts scope e.formals → entry_with e f ps ≡ entry_part scope e
+entry_is scope e f ps h g = ap (λ y. entry_with e y ps) h ∙ ap (entry_with e (entry_family scope e.family)) g
+
+-- behind the declaration of a task
+pub task_left : (scope new : Scope) (t : PTask) (thing : Thing) (ps : List PlainEntry) → new ≡ with_name thing scope t.name → thing ≡ task_thing t.of_kind ps → ps ≡ map (entry_part scope) t.entries → new ≡ after_task scope t
+task_left scope new t thing ps is h g = is ∙ ap (λ x. with_name x scope t.name) (h ∙ ap (task_thing t.of_kind) g)

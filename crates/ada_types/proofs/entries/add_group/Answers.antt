@@ -8,8 +8,8 @@ use Rattle.ada_types.proofs.entries.add_group.Goals as goal
 
 pub loop-word-preserved : goal.loop-word-preserved
 loop-word-preserved c =
-    list_grown plain_part (part_of (plain_formal c.args.formal.now) c.args.kind) (map plain_part c.args.parts.now.items) c.deref-word-items.result.now _ _ c.loop-word.word-index c.word-item.result _
-    c.loop-word-test.true c.word-item.is c.loop-word.invariant c.in_ok-push.ensures.ok c.formal_part.ensures
+    list_grown plain_part (part_of (plain_formal c.args.formal.now) c.args.kind) (map plain_part c.args.parts.now.items) c.deref-word-items.result.now _ _ c.loop-word.word-index _ _
+    c.loop-word-test.true c.loop-word.invariant c.in_ok-push.ensures.items c.formal_part.ensures
 
 pub returns : goal.returns
 returns c =

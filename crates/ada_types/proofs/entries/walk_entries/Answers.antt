@@ -7,7 +7,7 @@ use Rattle.ada_types.proofs.entries.walk_entries.Goals as goal
 
 pub loop-entry-preserved : goal.loop-entry-preserved
 loop-entry-preserved c = record {
-  parts = entry_added c.args.scope.now c.args.entries.now c.loop-entry.entry-index c.entry-item.result _ _ _ c.loop-entry-test.true c.entry-item.is c.loop-entry.invariant.parts c.in_ok-push.ensures.ok c.in_ok-walked.ensures.part_is;
+  parts = entry_added c.args.scope.now c.args.entries.now c.loop-entry.entry-index c.entry-item.result _ _ _ c.loop-entry-test.true c.entry-item.is c.loop-entry.invariant.parts c.in_ok-push.ensures.items c.in_ok-walked.ensures.part_is;
   told = list_more decl.plain_entry (each_entry c.args.scope.now) c.args.entries.now c.loop-entry.entry-index c.entry-item.result _ _ _ _ c.loop-entry-test.true c.entry-item.is c.loop-entry.invariant.told c.in_ok-walked.ensures.refusal_is c.first-refusal.ensures;
 }
 

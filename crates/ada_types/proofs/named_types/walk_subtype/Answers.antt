@@ -10,7 +10,7 @@ returns c =
     let scope = c.args.scope in
     let base = plain_subind c.args.base.now in
     record {
-      scope_is = subtype_left scope _ _ _ _ c.args.name base _ _ _ _ c.walk_subind-walked.ensures.made_is c.range_at-range.ensures c.in_ok-make.ensures c.in_ok-make_subtype.ensures c.type_of_mark.ensures c.in_ok-declare.ensures.ok;
+      scope_is = subtype_left scope _ _ _ _ c.args.name base _ _ _ _ c.walk_subind-walked.ensures.made_is c.range_at-range.ensures c.in_ok-scope.ensures c.in_ok-scope-2.ensures c.type_of_mark.ensures c.in_ok-declare.ensures.ok;
       refusal_is = behind_names scope (c.args.name ∷ []) (subind_sites true scalar_only scope base) _ c.walk_subind-walked.ensures.refusal_is;
       of_tasks_is = refl;
     }

@@ -23,16 +23,19 @@ returns c =
     let end = after_decls start ds in
     let places = names_sites true before_all (name ∷ []) ++ decls_sites start ds in
     let first = c.in_ok-first_scope.ensures in
-    let scope = c.in_ok-walked.ensures.walked.scope_is ∙ ap (λ s. after_decls s ds) first in
+    let given = decls_of (map plain_decl c.deref.result.now) in
+    let same = ap (λ xs. decls_of (map plain_decl xs)) c.deref.ensures.value in
+    let scope = c.in_ok-walked.ensures.walked.scope_is ∙ ap (λ s. after_decls s given) first ∙ ap (after_decls start) same in
     record {
       types_are = c.into_types.ensures ∙ ap (λ s. s.types) (c.in_ok-inner.ensures.kept ∙ scope);
       others_are =
           c.first.ensures
           ∙ joined places (body_sites (inside end) body) _ _
-          (behind_names before_all (name ∷ []) (decls_sites start ds) _ (c.in_ok-walked.ensures.walked.refusal_is ∙ ap (λ s. met (decls_sites s ds)) first))
+          (behind_names before_all (name ∷ []) (decls_sites start ds) _ (c.in_ok-walked.ensures.walked.refusal_is ∙ ap (λ s. met (decls_sites s given)) first ∙ ap (λ l. met (decls_sites start l)) same))
           (c.in_ok-inner.ensures.told ∙ ap (λ s. met (body_sites (inside s) body)) scope);
       repeated_is = c.in_ok-repeated.ensures places (inside end)
           (c.in_ok-walked.ensures.noted
-          ∙ ap (λ s. c.in_ok-notes.notes.namings ++ namings_of (decls_sites s ds)) first
+          ∙ ap (λ s. c.in_ok-notes.notes.namings ++ namings_of (decls_sites s given)) first
+          ∙ ap (λ l. c.in_ok-notes.notes.namings ++ namings_of (decls_sites start l)) same
           ∙ noted_first c.in_ok-notes.notes name ds c.in_ok-notes.ensures);
     }
