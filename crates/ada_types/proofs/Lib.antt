@@ -6,6 +6,7 @@ pub mod Keeping
 pub mod Predefining
 pub mod Repeating
 pub mod Noting
+pub mod Behind
 pub mod FirstRefusal
 pub mod Meeting
 pub mod Knowing

@@ -12,6 +12,7 @@ pub mod Repeated
 pub mod Telling
 pub mod Namings
 pub mod Noted
+pub mod Notes
 pub mod Plain
 pub mod Judged
 pub mod Walked

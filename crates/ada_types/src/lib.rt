@@ -19,6 +19,7 @@ mod name_sets;
 mod names;
 mod namings;
 mod nodes;
+mod notes;
 mod objects;
 mod operations;
 mod parts;
