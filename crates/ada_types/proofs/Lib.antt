@@ -12,6 +12,8 @@ pub mod Meeting
 pub mod Knowing
 pub mod Bounding
 pub mod Arrays
+pub mod Planning
+pub mod Objecting
 pub mod Accepting
 pub mod Listing
 pub mod Passing
