@@ -69,7 +69,7 @@ number_left scope s new name e sites w known v walked is_known is_v is_s is =
     is
     ∙ ap (λ x. with_name (ConstantObject 0) x name) is_s
     ∙ ap (λ y. with_name (ConstantObject 0) (with_types (add_constants (name ∷ []) (Some 0) y scope.types) scope) name)
-      (is_v ∙ value_known scope e integer_kind known (known_walked sites scope e w known is_known walked))
+    (is_v ∙ value_known scope e integer_kind known (known_walked sites scope e w known is_known walked))
 
 -- what is refused of a declaration is refused behind its names
 pub behind_names : (scope : Scope) (ws : List Word) (sites : List Site) (a : Option Refusal) → a ≡ met sites → a ≡ met (names_sites true scope ws ++ sites)

@@ -64,11 +64,7 @@ fn walk_priority(scope: &Scope, value: &Expr) -> Option<Refusal>
 }
 
 /// Walks a declaration of main.
-pub(crate) fn walk_decl(
-    scope: Scope,
-    alloc: Global,
-    decl: &Decl,
-) -> Result<WalkedDecl, AllocError>
+pub(crate) fn walk_decl(scope: Scope, alloc: Global, decl: &Decl) -> Result<WalkedDecl, AllocError>
     ensures { IfOk result (IsDecl (decl_sites scope (plain_decl decl.now)) (after_decl scope (plain_decl decl.now)) (is_of_tasks scope (plain_decl decl.now))) }
 {
     match &decl.kind {

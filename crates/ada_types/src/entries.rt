@@ -120,11 +120,7 @@ fn walk_family(scope: &Scope, index: &Option<Drange>) -> WalkedFamily
 }
 
 // Walks the declaration of an entry.
-fn walk_entry(
-    scope: &Scope,
-    alloc: Global,
-    entry: &EntryDecl,
-) -> Result<WalkedEntry, AllocError>
+fn walk_entry(scope: &Scope, alloc: Global, entry: &EntryDecl) -> Result<WalkedEntry, AllocError>
     ensures { IfOk result (IsEntry (entry_sites scope.now [] (decl.plain_entry entry.now)) (entry_part scope.now (decl.plain_entry entry.now))) }
 {
     let walked = walk_family(scope, &entry.family);

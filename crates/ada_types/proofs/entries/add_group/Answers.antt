@@ -15,4 +15,4 @@ pub returns : goal.returns
 returns c =
     c.loop-word.invariant
     ∙ ap (λ ws. map plain_part c.args.parts.now.items ++ map (part_of (plain_formal c.args.formal.now) c.args.kind) ws)
-      (take_all c.loop-word.word-index c.deref-word-items.result.now c.loop-word-test.false ∙ c.deref-word-items.ensures.value)
+    (take_all c.loop-word.word-index c.deref-word-items.result.now c.loop-word-test.false ∙ c.deref-word-items.ensures.value)

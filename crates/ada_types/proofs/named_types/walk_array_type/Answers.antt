@@ -14,7 +14,7 @@ returns c =
     record {
       scope_is = array_left scope _ _ _ _ c.args.name index part _ _ _ _ c.walk_subind-component.ensures.made_is c.walk_range-range.ensures.range_is c.in_ok-scope.ensures c.in_ok-scope-2.ensures c.type_of_mark.ensures c.in_ok-declare.ensures.ok;
       refusal_is = c.first.ensures ∙ joined (names_sites true scope (c.args.name ∷ []) ++ drange_sites true scope index) (subind_sites true scalar_only scope part) _ _
-      (behind_names scope (c.args.name ∷ []) (drange_sites true scope index) _ c.walk_range-range.ensures.refusal_is)
-      c.walk_subind-component.ensures.refusal_is;
+          (behind_names scope (c.args.name ∷ []) (drange_sites true scope index) _ c.walk_range-range.ensures.refusal_is)
+          c.walk_subind-component.ensures.refusal_is;
       of_tasks_is = refl;
     }
