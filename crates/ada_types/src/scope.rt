@@ -5,11 +5,12 @@ ghost use Rattle.ada_tree.specs.Scope.{is_entry_somewhere, meaning, Scope as Pla
 ghost use Rattle.ada_tree.specs.Declaring.{before_all, with_name, with_types, inside, add_mark, add_kind};
 ghost use Rattle.ada_types.specs.Things.{plain_thing};
 ghost use Rattle.ada_types.specs.Nested.{IsOuter, IsWithin};
+ghost use Rattle.ada_types.specs.Makings.{add_constant};
 
 use crate::predefined::{first_names, first_table};
 use crate::table::Table;
 use crate::things::{Entries, Thing};
-use ada_tree::{Kind, Mark, NameId, Word};
+use ada_tree::{Constant, Kind, Mark, NameId, Word};
 use scoped_names::ScopedNames;
 use std::alloc::{AllocError, Global};
 use std::marker::Model;
@@ -177,6 +178,31 @@ impl Scope {
             has_instance,
         } = self;
         let table = table.with_kind(kind)?;
+        Ok(Scope {
+            table,
+            names,
+            base,
+            in_main,
+            own,
+            bodies,
+            has_instance,
+        })
+    }
+
+    /// The scope with a named number or constant more in its table.
+    pub(crate) fn with_constant(self, constant: Constant) -> Result<Scope, AllocError>
+        ensures { IfOk result (λ scope. scope ≡ with_types (add_constant self.types constant) self) }
+    {
+        let Scope {
+            table,
+            names,
+            base,
+            in_main,
+            own,
+            bodies,
+            has_instance,
+        } = self;
+        let table = table.with_constant(constant)?;
         Ok(Scope {
             table,
             names,
