@@ -4,7 +4,7 @@ use Rattle.ada_tree.specs.declared.naming.Span.{Span}
 use Rattle.ada_tree.specs.declared.naming.Word.{Word}
 use Rattle.ada_tree.specs.declared.statements.ParMode.TheVariants.{Take}
 use Rattle.ada_tree.specs.PlainExpr.{PExpr, EInteger, EName, EIndex, EParen, PSubind, PDrange, RGiven}
-use Rattle.ada_tree.specs.PlainStmt.{PTarget, PCallee, PFormal, PHead, PStmt, SNull, SAssign, SExit, SRaise, SAbort, SCall, SAccept, SWait, SBlock, SLoop, no_stmt, PMaybe, absent, present, accepting, PAltKind, AAccept, ADelay, ATerminate, PAlts, no_alt, alt_then, alternative, no_handler, handler_then, handler, body, row_of}
+use Rattle.ada_tree.specs.PlainStmt.{SIf, SConditional, LFor, arm, no_arm, arm_then, PTarget, PCallee, PFormal, PHead, PStmt, SNull, SAssign, SExit, SRaise, SAbort, SCall, SAccept, SWait, SBlock, SLoop, no_stmt, PMaybe, absent, present, accepting, PAltKind, AAccept, ADelay, ATerminate, PAlts, no_alt, alt_then, alternative, no_handler, handler_then, handler, body, row_of}
 use Rattle.ada_tree.specs.PlainDecl.{OPlain, ORow, PEntry, PDecl, DObject, DArray, DTask, DTaskBody, decls_of}
 use Rattle.ada_tree.specs.PlainProgram.{PProgram}
 use Rattle.ada_tree.specs.Refusals.{types_in}
@@ -277,6 +277,44 @@ too_many_copies = refl
 
 copies_in_any : over Any (copied 4194101) ≡ []
 copies_in_any = refl
+
+-- ---- what hides, and what stands in what
+
+accept_with_formal : told (with_stmts (SAccept (accepting (record (head 27 900 None) { formals = record { names = w 29 900 ∷ []; mode = Take; mark = w 0 900 } ∷ [] }) (present (row_of (SIf (arm_then (arm (name 29 3) no_stmt) no_arm) absent (at 900) ∷ [])))) (at 900) ∷ assign 29 5 (lit 1 7) ∷ [])) ≡ (13, 5) ∷ []
+accept_with_formal = refl
+
+-- a loop parameter hides in its loop, and not in its own range
+loop_with_parameter : told (with_stmts (SLoop None (Some (LFor (w 29 900) false (RGiven record { first = lit 1 900; last = name 29 3 }))) (row_of (SIf (arm_then (arm (name 29 5) no_stmt) no_arm) absent (at 900) ∷ [])) (at 900) ∷ [])) ≡ (13, 3) ∷ []
+loop_with_parameter = refl
+
+loop_in_accept : told (with_stmts (loop None (accept_do 27 900 (loop (Some (w 33 900)) (exit None ∷ exit (Some (w 33 3)) ∷ []) ∷ []) ∷ exit None ∷ []) ∷ [])) ≡ []
+loop_in_accept = refl
+
+-- what stands behind the accept of an alternative is not in it
+behind_accept : told (with_stmts (loop None (wait (alt 900 (AAccept (accepting (head 27 900 None) absent) (row_of (exit None ∷ accept 27 900 None ∷ []))) no_alt) absent ∷ []) ∷ [])) ≡ []
+behind_accept = refl
+
+raise_in_accept_of_handler : told (with_stmts (SBlock (body no_stmt (handler_then (handler [] (row_of (accept_do 27 900 (SRaise None (at 1) ∷ []) ∷ [])) (at 900)) no_handler)) (at 900) ∷ SRaise None (at 3) ∷ [])) ≡ (22, 3) ∷ []
+raise_in_accept_of_handler = refl
+
+conditional_call_of_type : told (program (task_type 31 900 (entry 27 900 None [] ∷ []) ∷ task_body 31 [] [] ∷ []) (SConditional record { task = callee 31 3 None; entry = w 27 900; args = None } no_stmt no_stmt (at 1) ∷ [])) ≡ (18, 3) ∷ []
+conditional_call_of_type = refl
+
+-- the call of a conditional one has nesting 2 here, and what stands in its argument 3 and more
+deep_argument : over Original (program (task 26 900 (entry 27 900 None [] ∷ []) ∷ task_body 26 [] [] ∷ []) (SConditional record { task = callee 26 3 None; entry = w 27 900; args = Some record { first = parens 38 ∷ []; second = None } } no_stmt no_stmt (at 1) ∷ [])) ≡ limit Nesting 40 7 ∷ []
+deep_argument = refl
+
+-- blocks in one another, so many, around some statements
+abbrev blocks : ℕ → List PStmt → List PStmt
+blocks zero ss = ss
+blocks (suc n) ss = SBlock (body (row_of (blocks n ss)) no_handler) (at 900) ∷ []
+
+-- behind 37 blocks a wait has nesting 38, its alternatives 39, what stands in them 40, and what stands in the accept of one 41
+deep_alternative : over Original (with_stmts (blocks 37 (wait (alt 900 (AAccept (accepting (head 27 900 None) (present (row_of (SNull (at 3) ∷ [])))) (row_of (SNull (at 900) ∷ []))) (alt_delay 900 no_alt)) absent ∷ []))) ≡ limit Nesting 40 3 ∷ []
+deep_alternative = refl
+
+deeper_delay : over Original (with_stmts (blocks 38 (wait (alt 5 (AAccept (accepting (head 27 3 None) absent) no_stmt) (alt_delay 7 (alt_then (alternative (Some (lit 1 9)) (ADelay 0 no_stmt) (at 8)) no_alt))) absent ∷ []))) ≡ limit Nesting 40 3 ∷ limit Nesting 40 7 ∷ limit Nesting 40 9 ∷ []
+deeper_delay = refl
 
 -- ---- numbers
 

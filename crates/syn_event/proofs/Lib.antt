@@ -8,3 +8,4 @@ pub mod PlainChain
 pub mod PlainCalls
 pub mod PlainTexts
 pub mod PlainLegal
+pub mod Weaker
