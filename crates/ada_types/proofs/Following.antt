@@ -165,3 +165,8 @@ of_kind scope d k w h p = subst (λ x. IsDecl (decl_sites scope (decl_at x d.spa
 pub of_plain : (scope : Scope) (d : Decl) (x : PDecl) (w : WalkedDecl) → plain_decl d ≡ x → IsDecl (decl_sites scope x) (after_decl scope x) (is_of_tasks scope x) w
     → IsDecl (decl_sites scope (plain_decl d)) (after_decl scope (plain_decl d)) (is_of_tasks scope (plain_decl d)) w
 of_plain scope d x w h p = subst (λ y. IsDecl (decl_sites scope y) (after_decl scope y) (is_of_tasks scope y) w) (sym h) p
+
+-- an object of a task body by what it is
+pub own_kind : (scope : Scope) (d : Decl) (k : DeclKind) (w : WalkedDecls) → d.kind ≡ k → AreDecls (own_object_sites scope (decl_at k d.span)) (after_own_object scope (decl_at k d.span)) w
+    → AreDecls (own_object_sites scope (plain_decl d)) (after_own_object scope (plain_decl d)) w
+own_kind scope d k w h p = subst (λ x. AreDecls (own_object_sites scope (decl_at x d.span)) (after_own_object scope (decl_at x d.span)) w) (sym h) p
