@@ -2,9 +2,10 @@
 use Rattle.std.specs.Prelude.{◌≡◌, ℕ, ◌+◌, ◌<◌, ◌≤◌, Bool, true, false, List, [], ◌∷◌, ◌++◌, length, map, flat_map, drop, get_or, Option, Some, None, option_map, refl}
 use Rattle.std.proofs.Common.{sym, ap, ◌∙◌, subst, arith, length-append}
 use Rattle.std.proofs.lemmas.List.{drop_more, drop_all}
+use Rattle.ada_tree.specs.declared.naming.Span.{Span}
 use Rattle.ada_tree.specs.declared.naming.Word.{Word}
 use Rattle.ada_tree.specs.declared.declarations.Decl.{Decl}
-use Rattle.ada_tree.specs.declared.declarations.DeclKind.{DeclKind}
+use Rattle.ada_tree.specs.declared.declarations.DeclKind.{DeclKind, Number, Object, Enumeration, Array, Subtype, Exception, IntIo, Pragma, Task, TaskBody'}
 use Rattle.ada_tree.specs.PlainDecl.{PDecl, DNumber, DObject, DEnumeration, DArray, DSubtype, DException, DIntIo, DPragma, DTask, DTaskBody, PDecls, no_decl, decl_then, decls_of, decl_at, plain_decl}
 use Rattle.ada_tree.specs.Refusals.{Refusal}
 use Rattle.ada_tree.specs.Scope.{Scope, Seen, Thing, EntryPart, meaning}
@@ -170,3 +171,17 @@ of_plain scope d x w h p = subst (λ y. IsDecl (decl_sites scope y) (after_decl 
 pub own_kind : (scope : Scope) (d : Decl) (k : DeclKind) (w : WalkedDecls) → d.kind ≡ k → AreDecls (own_object_sites scope (decl_at k d.span)) (after_own_object scope (decl_at k d.span)) w
     → AreDecls (own_object_sites scope (plain_decl d)) (after_own_object scope (plain_decl d)) w
 own_kind scope d k w h p = subst (λ x. AreDecls (own_object_sites scope (decl_at x d.span)) (after_own_object scope (decl_at x d.span)) w) (sym h) p
+
+-- nothing but objects is declared in a task body
+pub own_other : (scope : Scope) (k : DeclKind) (s : Span) → ((names : _) (constant : _) (shape : _) (init : _) → k ≡ Object names constant shape init → ⊥)
+    → AreDecls (own_object_sites scope (decl_at k s)) (after_own_object scope (decl_at k s)) record { scope = scope; refusal = None }
+own_other scope (Object ws c x i) s h = absurd (h ws c x i refl)
+own_other scope (Number w e) s h = record { scope_is = refl; refusal_is = sym met_none }
+own_other scope (Enumeration w ws) s h = record { scope_is = refl; refusal_is = sym met_none }
+own_other scope (Array w r x) s h = record { scope_is = refl; refusal_is = sym met_none }
+own_other scope (Subtype w x) s h = record { scope_is = refl; refusal_is = sym met_none }
+own_other scope (Exception ws) s h = record { scope_is = refl; refusal_is = sym met_none }
+own_other scope (IntIo w) s h = record { scope_is = refl; refusal_is = sym met_none }
+own_other scope (Pragma e) s h = record { scope_is = refl; refusal_is = sym met_none }
+own_other scope (Task t) s h = record { scope_is = refl; refusal_is = sym met_none }
+own_other scope (TaskBody' w n k b) s h = record { scope_is = refl; refusal_is = sym met_none }

@@ -1,10 +1,9 @@
-use Rattle.std.proofs.Common.{rules, ◌≡◌, ◌∙◌, [], ap, sym, option_map}
-use Rattle.ada_tree.specs.PlainDecl.{plain_decl, plain_shape, plain_init}
-use Rattle.ada_tree.specs.Declaring.{after_object, after_own_object, declared_object}
-use Rattle.ada_tree.specs.Sites.{own_object_sites, object_sites}
+use Rattle.std.proofs.Common.{◌∙◌, ap, option_map}
+use Rattle.ada_tree.specs.PlainDecl.{plain_shape, plain_init}
+use Rattle.ada_tree.specs.Declaring.{after_object, declared_object}
+use Rattle.ada_tree.specs.Sites.{object_sites}
 use Rattle.ada_types.specs.Met.{met}
-use Rattle.ada_types.proofs.Meeting.{met_none}
-use Rattle.ada_types.proofs.Following.{own_kind}
+use Rattle.ada_types.proofs.Following.{own_kind, own_other}
 use Rattle.ada_types.proofs.bodies.walk_own.Goals as goal
 
 pub returns-in_ok-walked-in-Object : goal.returns-in_ok-walked-in-Object
@@ -19,7 +18,4 @@ returns-in_ok-walked-in-Object c =
     }
 
 pub returns-in_default : goal.returns-in_default
-returns-in_default c =
-    let none : own_object_sites c.args.scope (plain_decl c.args.decl.now) ≡ [] = search rules in
-    let same : after_own_object c.args.scope (plain_decl c.args.decl.now) ≡ c.args.scope = search rules in
-    record { scope_is = sym same; refusal_is = sym met_none ∙ ap met (sym none) }
+returns-in_default c = own_other c.args.scope c.args.decl.now.kind c.args.decl.now.span c.in_default.not-Object
