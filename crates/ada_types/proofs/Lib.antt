@@ -6,11 +6,14 @@ pub mod Keeping
 pub mod Predefining
 pub mod Repeating
 pub mod Noting
+pub mod Behind
 pub mod FirstRefusal
 pub mod Meeting
 pub mod Knowing
 pub mod Bounding
 pub mod Arrays
+pub mod Planning
+pub mod Objecting
 pub mod Accepting
 pub mod Listing
 pub mod Passing
@@ -21,3 +24,6 @@ pub mod Covering
 pub mod Inner
 pub mod Lists
 pub mod Choosing
+pub mod TypeDecls
+pub mod TaskDecls
+pub mod Following

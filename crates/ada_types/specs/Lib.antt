@@ -12,6 +12,7 @@ pub mod Repeated
 pub mod Telling
 pub mod Namings
 pub mod Noted
+pub mod Notes
 pub mod Plain
 pub mod Judged
 pub mod Walked
@@ -20,6 +21,8 @@ pub mod Ranges
 pub mod Makings
 pub mod Initials
 pub mod Shapes
+pub mod Plans
+pub mod Objects
 pub mod Accepts
 pub mod Actuals
 pub mod Calls
@@ -29,3 +32,4 @@ pub mod Covers
 pub mod Inner
 pub mod Chosen
 pub mod Members
+pub mod Decls

@@ -24,7 +24,7 @@ plain_reading Unclear = scope.AsUnclear
 abbrev pub plain_marking : Marking → scope.Marking
 plain_marking (marking.Scalar m k) = scope.ScalarMark m k
 plain_marking (marking.Array m r part) = scope.ArrayMark m (plain_range r) part
-plain_marking (marking.Task e) = scope.TaskMark e.now
+plain_marking (marking.Task e) = scope.TaskMark e.now.value
 plain_marking marking.NoMark = scope.NoMark
 plain_marking marking.Unknown = scope.UnknownMark
 plain_marking marking.Unclear = scope.UnclearMark

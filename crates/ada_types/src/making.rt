@@ -13,8 +13,8 @@ use crate::things::Range;
 use ada_tree::{Kind, Mark, NameId, Word};
 use std::alloc::AllocError;
 
-// A bound as it is kept, for which there is no room outside 32 bits.
-fn bound(value: i64) -> Result<i32, AllocError>
+/// A bound or a value as it is kept, for which there is no room outside 32 bits.
+pub(crate) fn bound(value: i64) -> Result<i32, AllocError>
     ensures { IfOk result (λ n. n ≡ value) }
 {
     match i32::try_from(value) {

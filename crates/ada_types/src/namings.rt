@@ -32,8 +32,8 @@ pub(crate) enum Naming {
     },
 }
 
-// A name that is declared behind those of the same scope.
-fn note_word(
+/// A name that is declared behind those of the same scope.
+pub(crate) fn note_word(
     namings: &mut Vec<Naming>,
     here: &mut NameSet,
     for_all: bool,

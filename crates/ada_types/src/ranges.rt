@@ -268,8 +268,8 @@ pub(crate) fn walk_subind(
     }
 }
 
-// The range of what a subtype indication makes.
-fn range_made(scope: &Scope, making: Making) -> Option<Range>
+/// The range of what a subtype indication makes.
+pub(crate) fn range_made(scope: &Scope, making: Making) -> Option<Range>
     ensures { option_map plain_range result ≡ range_as scope.now.types making }
 {
     match making {

@@ -8,6 +8,7 @@ use crate::scope::Scope;
 use crate::table::Table;
 use crate::things::{Entries, Range, Thing};
 use ada_tree::{Kind, NameId};
+use std::rc::Rc;
 
 /// A value of a scalar kind, an array with the kind of its index and the mark of its components, no value, a name that is not declared before, or one whose declaration is refused.
 #[derive(Clone, Copy, Debug, PartialEq, Eq)]
@@ -24,7 +25,7 @@ pub(crate) enum Reading {
 pub(crate) enum Marking<'a> {
     Scalar { mark: u32, kind: u32 },
     Array { mark: u32, range: Range, part: u32 },
-    Task(&'a Entries),
+    Task(&'a Rc<Entries>),
     NoMark,
     Unknown,
     Unclear,
@@ -104,7 +105,7 @@ pub(crate) fn mark_named<'a>(scope: &'a Scope, id: NameId) -> Marking<'a>
     match scope.meaning(id) {
         Some(thing) => match thing {
             Thing::TypeMark(mark) => marking_at(scope.table(), *mark),
-            Thing::TaskType(entries) => Marking::Task(&**entries),
+            Thing::TaskType(entries) => Marking::Task(entries),
             Thing::Unclear => Marking::Unclear,
             _ => Marking::NoMark,
         },

@@ -1,11 +1,12 @@
 // The table of types, marks and constants as it grows, in which a name is looked up in one step.
 
-ghost use Rattle.std.specs.Prelude.{◌≡◌, ◌==◌, ◌∷◌, ◌++◌, [], ℕ, nat_eq, length, position, option_map, slice_get, Some, None, if◌then◌else◌, IfOk, OnOk};
+ghost use Rattle.std.specs.Prelude.{◌≡◌, ◌==◌, [], ℕ, nat_eq, length, position, option_map, slice_get, Some, None, if◌then◌else◌, IfOk, OnOk};
 ghost use Rattle.std.specs.HashMap.{get};
 ghost use Rattle.ada_tree.specs.declared.naming.NameId.{NameId};
 ghost use Rattle.ada_tree.specs.StaticValue.{mark_named, value_named, position_in, first_of_two};
 ghost use Rattle.ada_tree.specs.Scope.{kind_at, mark_at};
 ghost use Rattle.ada_tree.specs.Declaring.{add_mark, add_kind, first_mark_of};
+ghost use Rattle.ada_types.specs.Makings.{add_constant};
 
 use crate::operations::position_of;
 use ada_tree::{Constant, Kind, Mark, NameId, Types};
@@ -102,6 +103,14 @@ impl Table {
         ensures { result.now ≡ self.now }
     {
         &self.types
+    }
+
+    /// The types, marks and constants, where nothing is looked up any more.
+    pub(crate) fn into_types(self) -> Types
+        ensures { result ≡ self }
+    {
+        let Table { types, .. } = self;
+        types
     }
 
     /// The kind at a place.
@@ -213,7 +222,7 @@ impl Table {
     /// The table with a named number or constant more.
     #[tactic(auto, using(crate::proofs::Keeping::keeping))]
     pub(crate) fn with_constant(self, constant: Constant) -> Result<Table, AllocError>
-        ensures { IfOk result (λ table. table ≡ record self { constants = self.constants ++ constant ∷ [] }) }
+        ensures { IfOk result (λ table. table ≡ add_constant self constant) }
     {
         let Table {
             mut types,

@@ -1,12 +1,15 @@
 // What names mean, as plain data.
 
-ghost use Rattle.std.specs.Prelude.{◌≡◌, [], map, option_map, is_some};
+ghost use Rattle.std.specs.Prelude.{◌≡◌, [], map, option_map, is_some, IfOk};
 ghost use Rattle.std.specs.Option.{unwrap_or};
 ghost use Rattle.ada_tree.specs.Scope.{entry_named, entries_of};
+ghost use Rattle.ada_tree.specs.Declaring.{constant_mark};
+ghost use Rattle.ada_tree.specs.Sites.{is_task_object};
 ghost use Rattle.ada_types.specs.Things.{plain_thing};
 ghost use Rattle.ada_types.specs.Entries.{plain_entry};
 
 use ada_tree::{NameId, ParMode};
+use std::alloc::AllocError;
 use std::marker::Model;
 use std::rc::Rc;
 
@@ -119,6 +122,48 @@ impl Thing {
         match self.entries() {
             Some(entries) => entries.named(id).is_some(),
             None => false,
+        }
+    }
+
+    /// The same thing, for another name of its declaration.
+    pub(crate) fn shared(&self) -> Result<Thing, AllocError>
+        ensures { IfOk result (λ thing. plain_thing thing ≡ plain_thing self.now) }
+    {
+        Ok(match self {
+            Thing::TypeMark(mark) => Thing::TypeMark(*mark),
+            Thing::TaskType(entries) => Thing::TaskType(entries.clone()?),
+            Thing::SingleTask(entries) => Thing::SingleTask(entries.clone()?),
+            Thing::TaskObject(entries) => Thing::TaskObject(entries.clone()?),
+            Thing::TaskRow(range, entries) => Thing::TaskRow(*range, entries.clone()?),
+            Thing::Variable(mark) => Thing::Variable(*mark),
+            Thing::ConstantObject(mark) => Thing::ConstantObject(*mark),
+            Thing::Parameter(mode, mark) => Thing::Parameter(*mode, *mark),
+            Thing::LoopParameter(mark) => Thing::LoopParameter(*mark),
+            Thing::Literal(kind) => Thing::Literal(*kind),
+            Thing::AnException => Thing::AnException,
+            Thing::MainProcedure => Thing::MainProcedure,
+            Thing::AnotherUnit => Thing::AnotherUnit,
+            Thing::Unclear => Thing::Unclear,
+        })
+    }
+
+    /// Whether it is a task object or an array of them.
+    pub(crate) fn is_task_object(&self) -> bool
+        ensures { result ≡ is_task_object (plain_thing self.now) }
+    {
+        match self {
+            Thing::TaskObject(_) | Thing::TaskRow(_, _) => true,
+            _ => false,
+        }
+    }
+
+    /// The mark of a constant.
+    pub(crate) fn constant_mark(&self) -> Option<u32>
+        ensures { result ≡ constant_mark (plain_thing self.now) }
+    {
+        match self {
+            Thing::ConstantObject(mark) => Some(*mark),
+            _ => None,
         }
     }
 }
