@@ -1,5 +1,6 @@
 -- The status of a failure, its causes from the parts of a command to the whole, and its line.
 use Rattle.std.proofs.Common.{◌≡◌, ◌≢◌, ◌≤◌, ℕ, List, [], length, Option, Some, None, Result, Ok, Err, ◌⊎◌, inl, inr, sym, subst, ap, ◌∙◌, refl}
+use Rattle.std.proofs.lemmas.List.{append-nil}
 use Rattle.std.specs.Prelude.{IfErr}
 use Rattle.ded_io.specs.Counts.{Rose}
 use Rattle.ded_io.specs.Told.{ToldFile, Longer}
@@ -16,18 +17,26 @@ use Rattle.task_machine.specs.declared.verdict.Verdict.{Verdict}
 use Rattle.debug_core.specs.declared.failing.Failure.{Failure}
 use Rattle.debug_core.specs.declared.failing.Failure.TheVariants.{Refused, BadText, Usage, BadSequence, Unreadable, OutputFailed, TooLong, TooMany, Memory}
 use Rattle.debug_core.specs.declared.failing.Source.TheVariants.{Program, Sequence}
-use Rattle.debug_core.specs.Failures.{failure_status, failure_line, failure_of, Fails}
+use Rattle.debug_core.specs.Failures.{failure_status, failure_line, failure_of, first_words, Fails}
+use Rattle.debug_core.specs.Outputs.{IsWritten, IsUntouched}
 use Rattle.debug_core.specs.Causes.{Sides, HasErrorLine, WasLoaded, IsHeld, IsUnread, IsLoadCause, IsReadCause, IsProgram}
-use Rattle.debug_core.specs.RunAnswers.{AnswersRun, IsFileCause, IsOutputCause, HasRunCause, run_limit}
-use Rattle.debug_core.specs.JudgeAnswers.{AnswersJudge, AreLoadCauses, IsFilesCause, IsJudgeCause, IsLinesCause, HasJudgeCause, HasBadSequence, HoldsBadSequence, WereLoaded, judged_limit, sequence_limit}
+use Rattle.debug_core.specs.RunAnswers.{AnswersRun, IsFileCause, IsOutputCause, IsRunFailure, HasRunCause, run_limit}
+use Rattle.debug_core.specs.JudgeAnswers.{AnswersJudge, AreLoadCauses, IsFilesCause, IsJudgeCause, IsLinesCause, IsVerdictCause, IsJudgeFailure, HasJudgeCause, HasBadSequence, HoldsBadSequence, WereLoaded, judged_limit, sequence_limit}
 
 -- a failure whose line is written
 pub failed_with : (A E : Type 0) (x : A) (failure : Failure) (program sequence : List ℕ) (err err' : Option (List ℕ)) (lines lines' status : ℕ) →
-    status ≡ failure_status failure → Wrote {E = E} (Ok x) err err' (failure_line program sequence failure) → Fails failure program sequence err err' lines lines' status
+    status ≡ failure_status failure → Wrote {E = E} (Ok x) err err' (failure_line program sequence failure) → lines' ≡ lines → Fails failure program sequence err err' lines lines' status
 unfolding Wrote
-failed_with A E x failure program sequence err err' lines lines' status its_status line = inl (its_status, line)
+failed_with A E x failure program sequence err err' lines lines' status its_status line still = inl (its_status, (line, still))
 
-pub line_of : (A : Type 0) (program sequence : List ℕ) (s : Sides) (failure : Failure) → s.err' ≡ appended s.err (failure_line program sequence failure) → HasErrorLine {A = A} program sequence s (Err failure)
+-- a failure whose line is not written, or not all of it
+pub failed_without : (A E : Type 0) (e : E) (failure : Failure) (program sequence : List ℕ) (err err' : Option (List ℕ)) (lines lines' status : ℕ) →
+    status ≡ 7 → Wrote {A = A} (Err e) err err' (failure_line program sequence failure) → Rose lines lines' → Fails failure program sequence err err' lines lines' status
+unfolding Wrote
+failed_without A E e failure program sequence err err' lines lines' status its_status line rose = inr (its_status, (line, rose))
+
+pub line_of : (A : Type 0) (program sequence : List ℕ) (s : Sides) (failure : Failure) → IsWritten s.err s.err' s.lines s.lines' (failure_line program sequence failure) →
+    HasErrorLine {A = A} program sequence s (Err failure)
 line_of A program sequence s Refused h = h
 line_of A program sequence s (BadText fault) h = h
 line_of A program sequence s Usage h = h
@@ -38,25 +47,34 @@ line_of A program sequence s (TooLong limit) h = h
 line_of A program sequence s (TooMany limit) h = h
 line_of A program sequence s Memory h = h
 
+-- no bytes change nothing that is told
+no_bytes : (old : Option (List ℕ)) → appended old [] ≡ old
+no_bytes None = refl
+no_bytes (Some bytes) = ap (λ (b : List ℕ). Some b) (append-nil bytes)
+
+-- the line of a failed output has no bytes
+pub unsaid_line : (program sequence : List ℕ) (s : Sides) → IsWritten s.err s.err' s.lines s.lines' (failure_line program sequence OutputFailed) → IsUntouched s.err s.err' s.lines s.lines'
+unfolding first_words
+unsaid_line program sequence s (line, still) = (line ∙ no_bytes s.err, still)
+
 -- ---- a run
 
-run_cause : (file : List ℕ) (turns : ℕ) (s : Sides) (failure : Failure) → IsFileCause s.files file s.reads s.reads' s.out s.out' s.writes s.writes' failure → HasRunCause file turns s (Err failure)
-run_cause file turns s Refused h = h
-run_cause file turns s (BadText fault) h = h
-run_cause file turns s Usage h = h
-run_cause file turns s (BadSequence found line) h = h
-run_cause file turns s (Unreadable source) h = h
-run_cause file turns s OutputFailed h = inl h
-run_cause file turns s (TooLong limit) h = h
-run_cause file turns s (TooMany limit) h = h
-run_cause file turns s Memory h = h
+run_cause : (file : List ℕ) (turns : ℕ) (s : Sides) (failure : Failure) → IsRunFailure file s failure → IsWritten s.err s.err' s.lines s.lines' (failure_line file [] failure) → HasRunCause file turns s (Err failure)
+run_cause file turns s Refused h line = h
+run_cause file turns s (BadText fault) h line = h
+run_cause file turns s Usage h line = h
+run_cause file turns s (BadSequence found at) h line = h
+run_cause file turns s (Unreadable source) h line = h
+run_cause file turns s OutputFailed h line = inl (h, unsaid_line file [] s line)
+run_cause file turns s (TooLong limit) h line = h
+run_cause file turns s (TooMany limit) h line = h
+run_cause file turns s Memory h line = h
 
-pub run_failed : (file : List ℕ) (turns : ℕ) (s : Sides) (status : ℕ) (failure : Failure) → IsFileCause s.files file s.reads s.reads' s.out s.out' s.writes s.writes' failure →
-    Fails failure file [] s.err s.err' s.lines s.lines' status → AnswersRun file turns s status
+pub run_failed : (file : List ℕ) (turns : ℕ) (s : Sides) (status : ℕ) (failure : Failure) → IsRunFailure file s failure → Fails failure file [] s.err s.err' s.lines s.lines' status → AnswersRun file turns s status
 run_failed file turns s status failure cause (inl (is, line)) =
-    record { outcome = Err failure; is = is; cause = run_cause file turns s failure cause; line = line_of RunEnd file [] s failure line }
-run_failed file turns s status failure cause (inr (seven, rose)) =
-    record { outcome = Err OutputFailed; is = seven; cause = inr rose; line = tt }
+    record { outcome = Err failure; is = is; cause = run_cause file turns s failure cause line; line = line_of RunEnd file [] s failure line }
+run_failed file turns s status failure cause (inr (seven, line)) =
+    record { outcome = Err OutputFailed; is = seven; cause = inr (record { failure = failure; cause = cause; line = line }); line = tt }
 
 pub file_unloaded : (told : Option (List ToldFile)) (file : List ℕ) (reads reads' : ℕ) (out : Option (List ℕ)) (writes : ℕ) (failure : Failure) →
     IsLoadCause told file Program run_limit reads reads' failure → IsFileCause told file reads reads' out out writes writes failure
@@ -64,15 +82,15 @@ file_unloaded told file reads reads' out writes Refused h = absurd h
 file_unloaded told file reads reads' out writes (BadText fault) h = h
 file_unloaded told file reads reads' out writes Usage h = h
 file_unloaded told file reads reads' out writes (BadSequence found line) h = h
-file_unloaded told file reads reads' out writes (Unreadable source) h = (h.0, h.1, refl)
+file_unloaded told file reads reads' out writes (Unreadable source) h = (h.0, h.1, (refl, refl))
 file_unloaded told file reads reads' out writes OutputFailed h = absurd h
-file_unloaded told file reads reads' out writes (TooLong limit) h = (h.0, h.1, refl)
+file_unloaded told file reads reads' out writes (TooLong limit) h = (h.0, h.1, (refl, refl))
 file_unloaded told file reads reads' out writes (TooMany limit) h = h
 file_unloaded told file reads reads' out writes Memory h = h
 
 pub file_unread : (told : Option (List ToldFile)) (file text : List ℕ) (reads reads' : ℕ) (out : Option (List ℕ)) (writes : ℕ) (failure : Failure) →
     WasLoaded told file run_limit text → IsReadCause failure → IsFileCause told file reads reads' out out writes writes failure
-file_unread told file text reads reads' out writes Refused loaded h = ((text, loaded), refl)
+file_unread told file text reads reads' out writes Refused loaded h = ((text, loaded), (refl, refl))
 file_unread told file text reads reads' out writes (BadText fault) loaded h = h
 file_unread told file text reads reads' out writes Usage loaded h = h
 file_unread told file text reads reads' out writes (BadSequence found line) loaded h = h
@@ -96,24 +114,24 @@ file_unwritten told file reads reads' out out' writes writes' Memory h = h
 
 -- ---- a judgement
 
-judge_cause : (file sequence : List ℕ) (bound : ℕ) (s : Sides) (failure : Failure) → IsFilesCause s.files file sequence s.reads s.reads' s.out s.out' s.writes s.writes' failure → HasJudgeCause file sequence bound s (Err failure)
-judge_cause file sequence bound s Refused h = h
-judge_cause file sequence bound s (BadText fault) h = h
-judge_cause file sequence bound s Usage h = h
-judge_cause file sequence bound s (BadSequence found line) h = h
-judge_cause file sequence bound s (Unreadable Program) h = h
-judge_cause file sequence bound s (Unreadable Sequence) h = h
-judge_cause file sequence bound s OutputFailed h = inl h
-judge_cause file sequence bound s (TooLong limit) h = h
-judge_cause file sequence bound s (TooMany limit) h = h
-judge_cause file sequence bound s Memory h = h
+judge_cause : (file sequence : List ℕ) (bound : ℕ) (s : Sides) (failure : Failure) → IsJudgeFailure file sequence s failure → IsWritten s.err s.err' s.lines s.lines' (failure_line file sequence failure) →
+    HasJudgeCause file sequence bound s (Err failure)
+judge_cause file sequence bound s Refused h line = h
+judge_cause file sequence bound s (BadText fault) h line = h
+judge_cause file sequence bound s Usage h line = h
+judge_cause file sequence bound s (BadSequence found at) h line = h
+judge_cause file sequence bound s (Unreadable source) h line = h
+judge_cause file sequence bound s OutputFailed h line = inl (h, unsaid_line file sequence s line)
+judge_cause file sequence bound s (TooLong limit) h line = h
+judge_cause file sequence bound s (TooMany limit) h line = h
+judge_cause file sequence bound s Memory h line = h
 
-pub judge_failed : (file sequence : List ℕ) (bound : ℕ) (s : Sides) (status : ℕ) (failure : Failure) → IsFilesCause s.files file sequence s.reads s.reads' s.out s.out' s.writes s.writes' failure →
+pub judge_failed : (file sequence : List ℕ) (bound : ℕ) (s : Sides) (status : ℕ) (failure : Failure) → IsJudgeFailure file sequence s failure →
     Fails failure file sequence s.err s.err' s.lines s.lines' status → AnswersJudge file sequence bound s status
 judge_failed file sequence bound s status failure cause (inl (is, line)) =
-    record { outcome = Err failure; is = is; cause = judge_cause file sequence bound s failure cause; line = line_of Verdict file sequence s failure line }
-judge_failed file sequence bound s status failure cause (inr (seven, rose)) =
-    record { outcome = Err OutputFailed; is = seven; cause = inr rose; line = tt }
+    record { outcome = Err failure; is = is; cause = judge_cause file sequence bound s failure cause line; line = line_of Verdict file sequence s failure line }
+judge_failed file sequence bound s status failure cause (inr (seven, line)) =
+    record { outcome = Err OutputFailed; is = seven; cause = inr (record { failure = failure; cause = cause; line = line }); line = tt }
 
 pub first_unloaded : (told : Option (List ToldFile)) (file sequence : List ℕ) (reads reads' : ℕ) (failure : Failure) →
     IsLoadCause told file Program judged_limit reads reads' failure → AreLoadCauses told file sequence reads reads' failure
@@ -151,12 +169,12 @@ files_unloaded told file sequence reads reads' out writes Refused h = absurd h
 files_unloaded told file sequence reads reads' out writes (BadText fault) h = h
 files_unloaded told file sequence reads reads' out writes Usage h = h
 files_unloaded told file sequence reads reads' out writes (BadSequence found line) h = absurd h
-files_unloaded told file sequence reads reads' out writes (Unreadable Program) h = (h, refl)
-files_unloaded told file sequence reads reads' out writes (Unreadable Sequence) h = (h.0, h.1, refl)
+files_unloaded told file sequence reads reads' out writes (Unreadable Program) h = (h, (refl, refl))
+files_unloaded told file sequence reads reads' out writes (Unreadable Sequence) h = (h.0, h.1, (refl, refl))
 files_unloaded told file sequence reads reads' out writes OutputFailed h = absurd h
-files_unloaded told file sequence reads reads' out writes (TooLong limit) h = (h, refl)
+files_unloaded told file sequence reads reads' out writes (TooLong limit) h = (h, (refl, refl))
 files_unloaded told file sequence reads reads' out writes (TooMany limit) h = absurd h
-files_unloaded told file sequence reads reads' out writes Memory h = h
+files_unloaded told file sequence reads reads' out writes Memory h = (refl, refl)
 
 pub files_unjudged : (told : Option (List ToldFile)) (file sequence text lines : List ℕ) (reads reads' : ℕ) (out out' : Option (List ℕ)) (writes writes' : ℕ) (failure : Failure) →
     WereLoaded told file sequence text lines → IsJudgeCause text lines out out' writes writes' failure → IsFilesCause told file sequence reads reads' out out' writes writes' failure
@@ -172,7 +190,7 @@ files_unjudged told file sequence text lines reads reads' out out' writes writes
 files_unjudged told file sequence text lines reads reads' out out' writes writes' Memory loaded h = h
 
 pub text_unread : (text lines : List ℕ) (out : Option (List ℕ)) (writes : ℕ) (failure : Failure) → IsReadCause failure → IsJudgeCause text lines out out writes writes failure
-text_unread text lines out writes Refused h = refl
+text_unread text lines out writes Refused h = (refl, refl)
 text_unread text lines out writes (BadText fault) h = h
 text_unread text lines out writes Usage h = h
 text_unread text lines out writes (BadSequence found line) h = absurd h
@@ -180,7 +198,7 @@ text_unread text lines out writes (Unreadable source) h = h
 text_unread text lines out writes OutputFailed h = absurd h
 text_unread text lines out writes (TooLong limit) h = h
 text_unread text lines out writes (TooMany limit) h = absurd h
-text_unread text lines out writes Memory h = h
+text_unread text lines out writes Memory h = (refl, refl)
 
 pub text_unjudged : (text lines : List ℕ) (p : PProgram) (types : TypeTable) (numbers : Numbering) (out out' : Option (List ℕ)) (writes writes' : ℕ) (failure : Failure) →
     IsProgram text p types numbers → IsLinesCause p numbers lines out out' writes writes' failure → IsJudgeCause text lines out out' writes writes' failure
@@ -201,15 +219,15 @@ text_outcome text lines p types numbers out out' writes writes' (Err failure) is
 
 pub lines_refused : (p : PProgram) (numbers : Numbering) (lines : List ℕ) (out : Option (List ℕ)) (writes : ℕ) (found : SeqError) → (found ≢ error.Memory → HasFirstFault lines numbers p.names found) →
     IsLinesCause p numbers lines out out writes writes (failure_of found)
-lines_refused p numbers lines out writes (error.BadLine line) h = (h (λ e. cc), refl)
-lines_refused p numbers lines out writes (error.OtherProgram line) h = (h (λ e. cc), refl)
-lines_refused p numbers lines out writes (error.BadNumber line) h = (h (λ e. cc), refl)
-lines_refused p numbers lines out writes (error.AfterEnd line) h = (h (λ e. cc), refl)
-lines_refused p numbers lines out writes (error.TooMany limit) h = (h (λ e. cc), refl)
-lines_refused p numbers lines out writes error.Memory h = tt
+lines_refused p numbers lines out writes (error.BadLine line) h = (h (λ e. cc), (refl, refl))
+lines_refused p numbers lines out writes (error.OtherProgram line) h = (h (λ e. cc), (refl, refl))
+lines_refused p numbers lines out writes (error.BadNumber line) h = (h (λ e. cc), (refl, refl))
+lines_refused p numbers lines out writes (error.AfterEnd line) h = (h (λ e. cc), (refl, refl))
+lines_refused p numbers lines out writes (error.TooMany limit) h = (h (λ e. cc), (refl, refl))
+lines_refused p numbers lines out writes error.Memory h = (refl, refl)
 
 pub lines_unwritten : (p : PProgram) (numbers : Numbering) (lines : List ℕ) (out out' : Option (List ℕ)) (writes writes' : ℕ) (failure : Failure) →
-    IsOutputCause writes writes' failure → IsLinesCause p numbers lines out out' writes writes' failure
+    IsVerdictCause out out' writes writes' failure → IsLinesCause p numbers lines out out' writes writes' failure
 lines_unwritten p numbers lines out out' writes writes' Refused h = h
 lines_unwritten p numbers lines out out' writes writes' (BadText fault) h = h
 lines_unwritten p numbers lines out out' writes writes' Usage h = h

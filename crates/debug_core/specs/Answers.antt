@@ -1,19 +1,18 @@
 -- What each row of words is answered with (this project's rules): one definition a command.
-use Rattle.std.specs.Prelude.{◌≡◌, ℕ, [], Option, Some, None, ◌⊎◌}
-use Rattle.ded_io.specs.Counts.{Rose}
-use Rattle.ded_io.specs.Written.{appended}
+use Rattle.std.specs.Prelude.{ℕ, [], Option, Some, None}
 use Rattle.debug_core.specs.Causes.{Sides}
-use Rattle.debug_core.specs.Failures.{failure_line}
+use Rattle.debug_core.specs.Failures.{Fails}
 use Rattle.debug_core.specs.JudgeAnswers.{AnswersJudge}
+use Rattle.debug_core.specs.Outputs.{IsUntouched}
 use Rattle.debug_core.specs.PrintAnswers.{AnswersPrint}
 use Rattle.debug_core.specs.RunAnswers.{AnswersRun}
 use Rattle.debug_core.specs.Words.{Asked, AsksPrint, AsksRun, AsksJudge}
 use Rattle.debug_core.specs.declared.failing.Failure.TheVariants.{Usage}
 
--- Words that are no row of words: the status is 2 with its line, or 7 where that line could not be written; nothing is written on the output.
+-- Words that are no row of words: the status is 2 with its line, or 7 where a write of that line failed, behind a front of it; the output is not touched.
 pub record AnswersUsage (sides : Sides) (status : ℕ) : Type 0 where
-  pub nothing : sides.out' ≡ sides.out
-  pub usage : ((status ≡ 2) × (sides.err' ≡ appended sides.err (failure_line [] [] Usage))) ⊎ ((status ≡ 7) × Rose sides.lines sides.lines')
+  pub nothing : IsUntouched sides.out sides.out' sides.writes sides.writes'
+  pub usage : Fails Usage [] [] sides.err sides.err' sides.lines sides.lines' status
 
 -- The status answers what the words ask for.
 abbrev pub Answers : Option Asked → Sides → ℕ → Type 0

@@ -2,7 +2,6 @@
 use Rattle.std.specs.Prelude.{◌≡◌, ◌≤◌, ℕ, List, length, Option, Result, Ok, Err, ◌⊎◌}
 use Rattle.ded_io.specs.Counts.{Rose}
 use Rattle.ded_io.specs.Told.{ToldFile, Gives, Lacks, Longer}
-use Rattle.ded_io.specs.Written.{appended}
 use Rattle.ada_tree.specs.NameList.{AreNames}
 use Rattle.ada_tree.specs.PlainProgram.{PProgram}
 use Rattle.ada_tree.specs.TypeTable.{TypeTable}
@@ -11,6 +10,7 @@ use Rattle.syn_event.specs.Legal.{Legal}
 use Rattle.syn_event.specs.Numbering.{Numbering}
 use Rattle.debug_core.specs.SmallText.{IsSmallText}
 use Rattle.debug_core.specs.Failures.{failure_status, failure_line}
+use Rattle.debug_core.specs.Outputs.{IsWritten, IsBrokenOff, IsUntouched}
 use Rattle.debug_core.specs.declared.failing.Failure.{Failure}
 use Rattle.debug_core.specs.declared.failing.Failure.TheVariants.{Refused, BadText, Usage, BadSequence, Unreadable, OutputFailed, TooLong, TooMany, Memory}
 use Rattle.debug_core.specs.declared.failing.Source.{Source}
@@ -29,11 +29,21 @@ pub record Sides : Type 0 where
   pub lines : ℕ
   pub lines' : ℕ
 
--- what stands on the error output: the line of a failure, and nothing where there is none; where an output failed nothing is said of it
+-- what came of the error output: the line of a failure stands on it, and where there is none it is not touched; where an output failed the cause says it
 abbrev pub HasErrorLine : {A : Type 0} → List ℕ → List ℕ → Sides → Result A Failure → Type 0
-HasErrorLine program sequence sides (Ok done) = sides.err' ≡ sides.err
+HasErrorLine program sequence sides (Ok done) = IsUntouched sides.err sides.err' sides.lines sides.lines'
 HasErrorLine program sequence sides (Err OutputFailed) = Unit {0}
-HasErrorLine program sequence sides (Err failure) = sides.err' ≡ appended sides.err (failure_line program sequence failure)
+HasErrorLine program sequence sides (Err failure) = IsWritten sides.err sides.err' sides.lines sides.lines' (failure_line program sequence failure)
+
+-- A write of the line of a failure failed, behind a front of it; the failure has its cause.
+pub record IsUnsaid (CauseOf : Failure → Type 0) (program sequence : List ℕ) (sides : Sides) : Type 0 where
+  pub failure : Failure
+  pub cause : CauseOf failure
+  pub line : IsBrokenOff sides.err sides.err' sides.lines sides.lines' (failure_line program sequence failure)
+
+-- An output failed: the output by itself, and then the error output is not touched, or the error output at the line of a failure.
+abbrev pub HasFailedOutput : (Failure → Type 0) → List ℕ → List ℕ → Sides → Type 0
+HasFailedOutput CauseOf program sequence sides = (CauseOf OutputFailed × IsUntouched sides.err sides.err' sides.lines sides.lines') ⊎ IsUnsaid CauseOf program sequence sides
 
 -- bytes of the file were loaded, no more than the limit
 pub record WasLoaded (told : Option (List ToldFile)) (file : List ℕ) (limit : ℕ) (bytes : List ℕ) : Type 0 where

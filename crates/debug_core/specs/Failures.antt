@@ -1,7 +1,6 @@
 -- Why the program ends with another status than that of what it was asked for: the status of each failure, and its line (this project's rules).
 use Rattle.std.specs.Prelude.{◌≡◌, ℕ, List, [], Option, ◌⊎◌, codes, decimal}
-use Rattle.ded_io.specs.Counts.{Rose}
-use Rattle.ded_io.specs.Written.{◌⧺◌, appended}
+use Rattle.ded_io.specs.Written.{◌⧺◌}
 use Rattle.seq_file.specs.declared.errors.SeqError.{SeqError}
 use Rattle.seq_file.specs.declared.errors.SeqError.TheVariants as error
 use Rattle.debug_core.specs.declared.failing.Failure.{Failure}
@@ -10,6 +9,7 @@ use Rattle.debug_core.specs.declared.text_fault.Misspelling.{Misspelling}
 use Rattle.debug_core.specs.declared.text_fault.TextFault.{TextFault}
 use Rattle.debug_core.specs.declared.text_fault.TextFault.TheVariants.{Misspelled, LongToken, TooNested}
 use Rattle.debug_core.specs.TextFaults.{misspelling_name}
+use Rattle.debug_core.specs.Outputs.{IsWritten, IsBrokenOff}
 use Rattle.debug_core.specs.declared.failing.SequenceFault.{SequenceFault}
 use Rattle.debug_core.specs.declared.failing.SequenceFault.TheVariants as fault
 use Rattle.debug_core.specs.declared.failing.Source.TheVariants.{Program, Sequence}
@@ -96,7 +96,8 @@ error_of fault.OtherProgram line = error.OtherProgram line
 error_of fault.BadNumber line = error.BadNumber line
 error_of fault.AfterEnd line = error.AfterEnd line
 
--- how a failure is answered: with its status and its line, or with the status 7 where that line could not be written
+-- how a failure is answered: with its status and its line, or with the status 7 where a write of that line failed, behind a front of it
 abbrev pub Fails : Failure → List ℕ → List ℕ → Option (List ℕ) → Option (List ℕ) → ℕ → ℕ → ℕ → Type 0
 Fails failure program sequence err err' lines lines' status =
-    ((status ≡ failure_status failure) × (err' ≡ appended err (failure_line program sequence failure))) ⊎ ((status ≡ 7) × Rose lines lines')
+    ((status ≡ failure_status failure) × IsWritten err err' lines lines' (failure_line program sequence failure))
+    ⊎ ((status ≡ 7) × IsBrokenOff err err' lines lines' (failure_line program sequence failure))

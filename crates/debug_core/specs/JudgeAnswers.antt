@@ -2,7 +2,6 @@
 use Rattle.std.specs.Prelude.{◌≡◌, ℕ, ◌-◌, List, [], length, take, slice_get, All, IfSome, ⊤, Option, Result, Ok, Err, ◌⊎◌}
 use Rattle.ded_io.specs.Counts.{Rose}
 use Rattle.ded_io.specs.Told.{ToldFile, Longer}
-use Rattle.ded_io.specs.Written.{appended}
 use Rattle.ada_tree.specs.PlainProgram.{PProgram}
 use Rattle.ada_tree.specs.TypeTable.{TypeTable}
 use Rattle.event_machine.specs.declared.Event.{Event}
@@ -16,7 +15,8 @@ use Rattle.task_machine.specs.Conditions.{needed_of}
 use Rattle.task_machine.specs.Judging.{VerdictIs}
 use Rattle.task_machine.specs.Views.{View, ViewIs}
 use Rattle.divergence.specs.JudgeText.{judge_text, event_of}
-use Rattle.debug_core.specs.Causes.{Sides, HasErrorLine, WasLoaded, IsHeld, IsUnread, IsProgram, status_of}
+use Rattle.debug_core.specs.Causes.{Sides, HasErrorLine, HasFailedOutput, WasLoaded, IsHeld, IsUnread, IsProgram, status_of}
+use Rattle.debug_core.specs.Outputs.{IsWritten, IsUntouched}
 use Rattle.debug_core.specs.Failures.{error_of}
 use Rattle.debug_core.specs.declared.failing.Failure.{Failure}
 use Rattle.debug_core.specs.declared.failing.Failure.TheVariants.{Refused, BadText, Usage, BadSequence, Unreadable, OutputFailed, TooLong, TooMany, Memory}
@@ -45,26 +45,26 @@ ShowsWhy p numbers events views Feasible = ⊤
 ShowsWhy p numbers events views (Infeasible at why) = IfSome (event_of events (Infeasible at why)) (AreSeen p numbers (take (at - 1) events) views)
 ShowsWhy p numbers events views (Unsettled at t) = ⊤
 
--- The events of a program have this verdict, and the text of it is written.
-pub record VerdictWritten (program : PProgram) (numbers : Numbering) (bound : ℕ) (events : List Event) (out out' : Option (List ℕ)) (verdict : Verdict) : Type 0 where
+-- The events of a program have this verdict, and the text of it is written, with no write that failed.
+pub record VerdictWritten (program : PProgram) (numbers : Numbering) (bound : ℕ) (events : List Event) (out out' : Option (List ℕ)) (writes writes' : ℕ) (verdict : Verdict) : Type 0 where
   pub verdict_is : VerdictIs program numbers bound events verdict
   pub views : ℕ → View
   pub seen : ShowsWhy program numbers events views verdict
-  pub written : out' ≡ appended out (judge_text program.names numbers bound views events verdict)
+  pub written : IsWritten out out' writes writes' (judge_text program.names numbers bound views events verdict)
 
 -- The lines are a sequence of a program, and the text of its verdict is written.
-pub record LinesJudged (program : PProgram) (numbers : Numbering) (lines : List ℕ) (bound : ℕ) (out out' : Option (List ℕ)) (verdict : Verdict) : Type 0 where
+pub record LinesJudged (program : PProgram) (numbers : Numbering) (lines : List ℕ) (bound : ℕ) (out out' : Option (List ℕ)) (writes writes' : ℕ) (verdict : Verdict) : Type 0 where
   pub events : List Event
   pub reads : SeqReads lines numbers program.names events
-  pub judged : VerdictWritten program numbers bound events out out' verdict
+  pub judged : VerdictWritten program numbers bound events out out' writes writes' verdict
 
 -- The text is a program, and the lines are a sequence of it, whose verdict is written.
-pub record WasJudged (text lines : List ℕ) (bound : ℕ) (out out' : Option (List ℕ)) (verdict : Verdict) : Type 0 where
+pub record WasJudged (text lines : List ℕ) (bound : ℕ) (out out' : Option (List ℕ)) (writes writes' : ℕ) (verdict : Verdict) : Type 0 where
   pub program : PProgram
   pub types : TypeTable
   pub numbers : Numbering
   pub is_program : IsProgram text program types numbers
-  pub judged : LinesJudged program numbers lines bound out out' verdict
+  pub judged : LinesJudged program numbers lines bound out out' writes writes' verdict
 
 -- The text is a program, and the first bad line of a sequence of it has this fault.
 pub record HasBadSequence (text lines : List ℕ) (found : SeqError) : Type 0 where
@@ -79,29 +79,41 @@ pub record WereLoaded (told : Option (List ToldFile)) (file sequence text lines 
   pub file_loaded : WasLoaded told file judged_limit text
   pub sequence_loaded : WasLoaded told sequence sequence_limit lines
 
+-- why the text of a verdict was not written; before it nothing is
+abbrev pub IsVerdictCause : Option (List ℕ) → Option (List ℕ) → ℕ → ℕ → Failure → Type 0
+IsVerdictCause out out' writes writes' Refused = ⊥
+IsVerdictCause out out' writes writes' (BadText fault) = ⊥
+IsVerdictCause out out' writes writes' Usage = ⊥
+IsVerdictCause out out' writes writes' (BadSequence found line) = ⊥
+IsVerdictCause out out' writes writes' (Unreadable source) = ⊥
+IsVerdictCause out out' writes writes' OutputFailed = Rose writes writes'
+IsVerdictCause out out' writes writes' (TooLong limit) = ⊥
+IsVerdictCause out out' writes writes' (TooMany limit) = ⊥
+IsVerdictCause out out' writes writes' Memory = IsUntouched out out' writes writes'
+
 -- why the lines of a sequence were not judged, or the text of their verdict not written
 abbrev pub IsLinesCause : PProgram → Numbering → List ℕ → Option (List ℕ) → Option (List ℕ) → ℕ → ℕ → Failure → Type 0
 IsLinesCause p numbers lines out out' writes writes' Refused = ⊥
 IsLinesCause p numbers lines out out' writes writes' (BadText fault) = ⊥
 IsLinesCause p numbers lines out out' writes writes' Usage = ⊥
-IsLinesCause p numbers lines out out' writes writes' (BadSequence found line) = HasFirstFault lines numbers p.names (error_of found line) × (out' ≡ out)
+IsLinesCause p numbers lines out out' writes writes' (BadSequence found line) = HasFirstFault lines numbers p.names (error_of found line) × IsUntouched out out' writes writes'
 IsLinesCause p numbers lines out out' writes writes' (Unreadable source) = ⊥
 IsLinesCause p numbers lines out out' writes writes' OutputFailed = Rose writes writes'
 IsLinesCause p numbers lines out out' writes writes' (TooLong limit) = ⊥
-IsLinesCause p numbers lines out out' writes writes' (TooMany limit) = HasFirstFault lines numbers p.names (error.TooMany limit) × (out' ≡ out)
-IsLinesCause p numbers lines out out' writes writes' Memory = Unit {0}
+IsLinesCause p numbers lines out out' writes writes' (TooMany limit) = HasFirstFault lines numbers p.names (error.TooMany limit) × IsUntouched out out' writes writes'
+IsLinesCause p numbers lines out out' writes writes' Memory = IsUntouched out out' writes writes'
 
 -- why loaded bytes were not judged, or the text of their verdict not written
 abbrev pub IsJudgeCause : List ℕ → List ℕ → Option (List ℕ) → Option (List ℕ) → ℕ → ℕ → Failure → Type 0
-IsJudgeCause text lines out out' writes writes' Refused = out' ≡ out
+IsJudgeCause text lines out out' writes writes' Refused = IsUntouched out out' writes writes'
 IsJudgeCause text lines out out' writes writes' (BadText fault) = ⊥
 IsJudgeCause text lines out out' writes writes' Usage = ⊥
-IsJudgeCause text lines out out' writes writes' (BadSequence found line) = HasBadSequence text lines (error_of found line) × (out' ≡ out)
+IsJudgeCause text lines out out' writes writes' (BadSequence found line) = HasBadSequence text lines (error_of found line) × IsUntouched out out' writes writes'
 IsJudgeCause text lines out out' writes writes' (Unreadable source) = ⊥
 IsJudgeCause text lines out out' writes writes' OutputFailed = Rose writes writes'
 IsJudgeCause text lines out out' writes writes' (TooLong limit) = ⊥
-IsJudgeCause text lines out out' writes writes' (TooMany limit) = HasBadSequence text lines (error.TooMany limit) × (out' ≡ out)
-IsJudgeCause text lines out out' writes writes' Memory = Unit {0}
+IsJudgeCause text lines out out' writes writes' (TooMany limit) = HasBadSequence text lines (error.TooMany limit) × IsUntouched out out' writes writes'
+IsJudgeCause text lines out out' writes writes' Memory = IsUntouched out out' writes writes'
 
 -- The limit that was passed, and whose: the program's, or behind it the sequence's.
 abbrev pub IsTooLong : Option (List ToldFile) → List ℕ → List ℕ → ℕ → Type 0
@@ -123,11 +135,11 @@ AreLoadCauses told file sequence reads reads' (TooMany limit) = ⊥
 AreLoadCauses told file sequence reads reads' Memory = Unit {0}
 
 -- The bytes of both files were loaded, and the verdict on them is written.
-pub record HasJudged (told : Option (List ToldFile)) (file sequence : List ℕ) (bound : ℕ) (out out' : Option (List ℕ)) (verdict : Verdict) : Type 0 where
+pub record HasJudged (told : Option (List ToldFile)) (file sequence : List ℕ) (bound : ℕ) (out out' : Option (List ℕ)) (writes writes' : ℕ) (verdict : Verdict) : Type 0 where
   pub text : List ℕ
   pub lines : List ℕ
   pub loaded : WereLoaded told file sequence text lines
-  pub judged : WasJudged text lines bound out out' verdict
+  pub judged : WasJudged text lines bound out out' writes writes' verdict
 
 -- The bytes of both files were loaded, the first are a program, and the first bad line of the second has this fault.
 pub record HoldsBadSequence (told : Option (List ToldFile)) (file sequence : List ℕ) (found : SeqError) : Type 0 where
@@ -138,30 +150,26 @@ pub record HoldsBadSequence (told : Option (List ToldFile)) (file sequence : Lis
 
 -- why two files were not judged, or the text of the verdict not written; nothing is written before both are read
 abbrev pub IsFilesCause : Option (List ToldFile) → List ℕ → List ℕ → ℕ → ℕ → Option (List ℕ) → Option (List ℕ) → ℕ → ℕ → Failure → Type 0
-IsFilesCause told file sequence reads reads' out out' writes writes' Refused = ((text : List ℕ) × (lines : List ℕ) × WereLoaded told file sequence text lines) × (out' ≡ out)
+IsFilesCause told file sequence reads reads' out out' writes writes' Refused = ((text : List ℕ) × (lines : List ℕ) × WereLoaded told file sequence text lines) × IsUntouched out out' writes writes'
 IsFilesCause told file sequence reads reads' out out' writes writes' (BadText fault) = ⊥
 IsFilesCause told file sequence reads reads' out out' writes writes' Usage = ⊥
-IsFilesCause told file sequence reads reads' out out' writes writes' (BadSequence found line) = HoldsBadSequence told file sequence (error_of found line) × (out' ≡ out)
-IsFilesCause told file sequence reads reads' out out' writes writes' (Unreadable Program) = IsUnread told file reads reads' × (out' ≡ out)
-IsFilesCause told file sequence reads reads' out out' writes writes' (Unreadable Sequence) = IsHeld told file judged_limit × IsUnread told sequence reads reads' × (out' ≡ out)
+IsFilesCause told file sequence reads reads' out out' writes writes' (BadSequence found line) = HoldsBadSequence told file sequence (error_of found line) × IsUntouched out out' writes writes'
+IsFilesCause told file sequence reads reads' out out' writes writes' (Unreadable Program) = IsUnread told file reads reads' × IsUntouched out out' writes writes'
+IsFilesCause told file sequence reads reads' out out' writes writes' (Unreadable Sequence) = IsHeld told file judged_limit × IsUnread told sequence reads reads' × IsUntouched out out' writes writes'
 IsFilesCause told file sequence reads reads' out out' writes writes' OutputFailed = Rose writes writes'
-IsFilesCause told file sequence reads reads' out out' writes writes' (TooLong limit) = IsTooLong told file sequence limit × (out' ≡ out)
-IsFilesCause told file sequence reads reads' out out' writes writes' (TooMany limit) = HoldsBadSequence told file sequence (error.TooMany limit) × (out' ≡ out)
-IsFilesCause told file sequence reads reads' out out' writes writes' Memory = Unit {0}
+IsFilesCause told file sequence reads reads' out out' writes writes' (TooLong limit) = IsTooLong told file sequence limit × IsUntouched out out' writes writes'
+IsFilesCause told file sequence reads reads' out out' writes writes' (TooMany limit) = HoldsBadSequence told file sequence (error.TooMany limit) × IsUntouched out out' writes writes'
+IsFilesCause told file sequence reads reads' out out' writes writes' Memory = IsUntouched out out' writes writes'
 
--- The cause of each outcome of the command that judges a sequence: the text of a verdict is written whole; and with files that are not read nothing is written.
+-- the same of what is told and counted before and behind the command
+abbrev pub IsJudgeFailure : List ℕ → List ℕ → Sides → Failure → Type 0
+IsJudgeFailure file sequence sides failure = IsFilesCause sides.files file sequence sides.reads sides.reads' sides.out sides.out' sides.writes sides.writes' failure
+
+-- The cause of each outcome of the command that judges a sequence: the text of a verdict is written whole; and with files that are not read nothing is written. Where the line of a failure could not be written, that failure has its cause.
 abbrev pub HasJudgeCause : List ℕ → List ℕ → ℕ → Sides → Result Verdict Failure → Type 0
-HasJudgeCause file sequence bound sides (Ok verdict) = HasJudged sides.files file sequence bound sides.out sides.out' verdict
-HasJudgeCause file sequence bound sides (Err Refused) = IsFilesCause sides.files file sequence sides.reads sides.reads' sides.out sides.out' sides.writes sides.writes' Refused
-HasJudgeCause file sequence bound sides (Err (BadText fault)) = IsFilesCause sides.files file sequence sides.reads sides.reads' sides.out sides.out' sides.writes sides.writes' (BadText fault)
-HasJudgeCause file sequence bound sides (Err Usage) = IsFilesCause sides.files file sequence sides.reads sides.reads' sides.out sides.out' sides.writes sides.writes' Usage
-HasJudgeCause file sequence bound sides (Err (BadSequence found line)) = IsFilesCause sides.files file sequence sides.reads sides.reads' sides.out sides.out' sides.writes sides.writes' (BadSequence found line)
-HasJudgeCause file sequence bound sides (Err (Unreadable Program)) = IsFilesCause sides.files file sequence sides.reads sides.reads' sides.out sides.out' sides.writes sides.writes' (Unreadable Program)
-HasJudgeCause file sequence bound sides (Err (Unreadable Sequence)) = IsFilesCause sides.files file sequence sides.reads sides.reads' sides.out sides.out' sides.writes sides.writes' (Unreadable Sequence)
-HasJudgeCause file sequence bound sides (Err OutputFailed) = Rose sides.writes sides.writes' ⊎ Rose sides.lines sides.lines'
-HasJudgeCause file sequence bound sides (Err (TooLong limit)) = IsFilesCause sides.files file sequence sides.reads sides.reads' sides.out sides.out' sides.writes sides.writes' (TooLong limit)
-HasJudgeCause file sequence bound sides (Err (TooMany limit)) = IsFilesCause sides.files file sequence sides.reads sides.reads' sides.out sides.out' sides.writes sides.writes' (TooMany limit)
-HasJudgeCause file sequence bound sides (Err Memory) = IsFilesCause sides.files file sequence sides.reads sides.reads' sides.out sides.out' sides.writes sides.writes' Memory
+HasJudgeCause file sequence bound sides (Ok verdict) = HasJudged sides.files file sequence bound sides.out sides.out' sides.writes sides.writes' verdict
+HasJudgeCause file sequence bound sides (Err OutputFailed) = HasFailedOutput (IsJudgeFailure file sequence sides) file sequence sides
+HasJudgeCause file sequence bound sides (Err failure) = IsJudgeFailure file sequence sides failure
 
 -- The status is that of an outcome of the command that judges a sequence, with its cause and its line.
 pub record AnswersJudge (file sequence : List ℕ) (bound : ℕ) (sides : Sides) (status : ℕ) : Type 0 where

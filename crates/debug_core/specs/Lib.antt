@@ -6,6 +6,7 @@ pub mod Words
 pub mod RunText
 pub mod Commands
 pub mod TextFaults
+pub mod Outputs
 pub mod Failures
 pub mod Causes
 pub mod PrintAnswers

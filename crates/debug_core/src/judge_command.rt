@@ -5,8 +5,7 @@ ghost use Rattle.ada_tree.specs.PlainProgram.{PProgram, plain_program};
 ghost use Rattle.feasible.specs.Keeping.{StandsFor, NothingFollows, is_feasible};
 ghost use Rattle.syn_event.specs.Legal.{Legal};
 ghost use Rattle.divergence.specs.JudgeText.{event_of};
-ghost use Rattle.debug_core.specs.JudgeAnswers.{AnswersJudge, HasJudged, IsFilesCause, WereLoaded, AreLoadCauses, WasJudged, IsJudgeCause, LinesJudged, IsLinesCause, VerdictWritten, verdict_status};
-ghost use Rattle.debug_core.specs.RunAnswers.{IsOutputCause};
+ghost use Rattle.debug_core.specs.JudgeAnswers.{AnswersJudge, HasJudged, IsFilesCause, WereLoaded, AreLoadCauses, WasJudged, IsJudgeCause, LinesJudged, IsLinesCause, VerdictWritten, IsVerdictCause, verdict_status};
 ghost use Rattle.debug_core.specs.Fed.{IsFed};
 
 use crate::command::JudgeWords;
@@ -77,7 +76,7 @@ fn judge_files<F: Files, K: Sink>(
     files: &mut F,
     out: &mut K,
 ) -> Result<Verdict, Failure>
-    ensures judged { IfOk result (HasJudged (F.told files.old) file.now sequence.now bound (K.told out.old) (K.told out.new)) }
+    ensures judged { IfOk result (HasJudged (F.told files.old) file.now sequence.now bound (K.told out.old) (K.told out.new) (K.faults out.old) (K.faults out.new)) }
     ensures cause { IfErr result (IsFilesCause (F.told files.old) file.now sequence.now (F.faults files.old) (F.faults files.new) (K.told out.old) (K.told out.new) (K.faults out.old) (K.faults out.new)) }
 {
     match load_both(alloc, file, sequence, files) {
@@ -115,7 +114,7 @@ fn judge_text<K: Sink>(
     out: &mut K,
 ) -> Result<Verdict, Failure>
     requires { length lines.now < 2 ^ 32 - 1 }
-    ensures judged { IfOk result (WasJudged text.now lines.now bound (K.told out.old) (K.told out.new)) }
+    ensures judged { IfOk result (WasJudged text.now lines.now bound (K.told out.old) (K.told out.new) (K.faults out.old) (K.faults out.new)) }
     ensures cause { IfErr result (IsJudgeCause text.now lines.now (K.told out.old) (K.told out.new) (K.faults out.old) (K.faults out.new)) }
 {
     match read_program(alloc, text) {
@@ -134,7 +133,7 @@ fn judge_lines<K: Sink>(
 ) -> Result<Verdict, Failure>
     requires legal { Legal (plain_program small.now.program) small.now.types small.now.numbers Mode.Original }
     requires length { length lines.now < 2 ^ 32 - 1 }
-    ensures judged { IfOk result (LinesJudged (plain_program small.now.program) small.now.numbers lines.now bound (K.told out.old) (K.told out.new)) }
+    ensures judged { IfOk result (LinesJudged (plain_program small.now.program) small.now.numbers lines.now bound (K.told out.old) (K.told out.new) (K.faults out.old) (K.faults out.new)) }
     ensures cause { IfErr result (IsLinesCause (plain_program small.now.program) small.now.numbers lines.now (K.told out.old) (K.told out.new) (K.faults out.old) (K.faults out.new)) }
 {
     match read_seq(alloc, lines, &small.numbers, &small.program.names) {
@@ -154,8 +153,8 @@ fn judge_events<K: Sink>(
     requires legal { Legal (plain_program small.now.program) small.now.types small.now.numbers Mode.Original }
     requires end { NothingFollows events.now }
     requires few { length events.now < 2 ^ 32 - 1 }
-    ensures written { IfOk result (VerdictWritten (plain_program small.now.program) small.now.numbers bound events.now (K.told out.old) (K.told out.new)) }
-    ensures cause { IfErr result (IsOutputCause (K.faults out.old) (K.faults out.new)) }
+    ensures written { IfOk result (VerdictWritten (plain_program small.now.program) small.now.numbers bound events.now (K.told out.old) (K.told out.new) (K.faults out.old) (K.faults out.new)) }
+    ensures cause { IfErr result (IsVerdictCause (K.told out.old) (K.told out.new) (K.faults out.old) (K.faults out.new)) }
 {
     let inputs = Inputs {
         lists: Vec::new(alloc),

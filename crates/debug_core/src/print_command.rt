@@ -54,7 +54,7 @@ fn print_file<F: Files, K: Sink>(
     files: &mut F,
     out: &mut K,
 ) -> Result<(), Failure>
-    ensures printed { OnOk result (HasPrinted (F.told files.old) file.now (K.told out.old) (K.told out.new)) }
+    ensures printed { OnOk result (HasPrinted (F.told files.old) file.now (K.told out.old) (K.told out.new) (K.faults out.old) (K.faults out.new)) }
     ensures cause { IfErr result (IsPrintCause (F.told files.old) file.now (F.faults files.old) (F.faults files.new) (K.told out.old) (K.told out.new) (K.faults out.old) (K.faults out.new)) }
 {
     let text = match load_file(alloc, file, Source::Program, FILE_LIMIT, files) {

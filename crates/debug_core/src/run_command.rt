@@ -68,7 +68,7 @@ fn run_file<F: Files, K: Sink>(
     files: &mut F,
     out: &mut K,
 ) -> Result<RunEnd, Failure>
-    ensures ran { IfOk result (HasRun (F.told files.old) file.now turns (K.told out.old) (K.told out.new)) }
+    ensures ran { IfOk result (HasRun (F.told files.old) file.now turns (K.told out.old) (K.told out.new) (K.faults out.old) (K.faults out.new)) }
     ensures cause { IfErr result (IsFileCause (F.told files.old) file.now (F.faults files.old) (F.faults files.new) (K.told out.old) (K.told out.new) (K.faults out.old) (K.faults out.new)) }
 {
     let text = match load_file(alloc, file, Source::Program, FILE_LIMIT, files) {
@@ -89,7 +89,7 @@ fn write_run<K: Sink>(
     out: &mut K,
 ) -> Result<RunEnd, Failure>
     requires { Legal (plain_program small.now.program) small.now.types small.now.numbers Mode.Original }
-    ensures written { IfOk result (RunWritten (plain_program small.now.program) small.now.numbers turns (K.told out.old) (K.told out.new)) }
+    ensures written { IfOk result (RunWritten (plain_program small.now.program) small.now.numbers turns (K.told out.old) (K.told out.new) (K.faults out.old) (K.faults out.new)) }
     ensures cause { IfErr result (IsOutputCause (K.faults out.old) (K.faults out.new)) }
 {
     let inputs = Inputs {

@@ -2,6 +2,8 @@
 //! and the static rules that a program must meet.
 #![tactic(auto)]
 
+mod limits;
+mod meanings;
 mod naming;
 mod numbering;
 mod origin;
@@ -10,6 +12,8 @@ mod showing;
 mod tests;
 
 pub use event_machine::Event;
+pub use limits::What;
+pub use meanings::Meant;
 pub use naming::{name_of, show_task};
 pub use numbering::{EntryInfo, Mode, Numbers, TaskInfo};
 pub use origin::back;

@@ -13,4 +13,5 @@ returns-in-Ok-report-clause-written g c =
     (subst (λ (n : Numbering). IsFed p n c.in-Ok.judge.bound c.args.events.now c.feed.new.judge c.in-Ok-feed.verdict) c.in-Ok.ensures.numbers (c.in-Ok-feed.ensures p c.in-Ok.ensures.stands))
     in
     verdict_is_written _ _ c.in-Ok-report.field-0 p c.args.small.now.numbers c.args.bound c.feed.new.judge.bound c.args.events.now c.feed.new.judge c.in-Ok-feed.verdict _ _
-    (g.K.Sink.told c.args.out.now) (g.K.Sink.told c.report.new.out) fed refl c.event_at.ensures fed.bound_is c.in-Ok-report.ensures.bytes
+    (g.K.Sink.told c.args.out.now) (g.K.Sink.told c.report.new.out) (g.K.Sink.faults c.args.out.now) (g.K.Sink.faults c.report.new.out) fed refl c.event_at.ensures fed.bound_is
+    c.in-Ok-report.ensures.bytes c.in-Ok-report.ensures.cause

@@ -9,7 +9,8 @@ returns-in-Ok-print-clause-printed g c =
     let p : PProgram = plain_program c.in-Ok-read_text.program in
     let is_read : IsRead c.in-Ok.text.items p = subst (λ (text : List ℕ). IsRead text p) c.deref.ensures.value c.in-Ok-read_text.ensures.program in
     print_written _ _ c.in-Ok-print.field-0 (g.F.Files.told c.args.files.now) c.args.file.now c.in-Ok.text.items p (g.K.Sink.told c.args.out.now)
-    (g.K.Sink.told c.print.new.out) c.in-Ok.ensures.loaded is_read c.in-Ok-print.ensures.bytes
+    (g.K.Sink.told c.print.new.out) (g.K.Sink.faults c.args.out.now) (g.K.Sink.faults c.print.new.out) c.in-Ok.ensures.loaded is_read
+    c.in-Ok-print.ensures.bytes c.in-Ok-print.ensures.cause
 
 pub returns-in-Ok-read_text-clause-cause : goal.returns-in-Ok-read_text-clause-cause
 returns-in-Ok-read_text-clause-cause g c =

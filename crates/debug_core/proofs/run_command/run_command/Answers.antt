@@ -4,7 +4,7 @@ use Rattle.debug_core.proofs.Closing.{run_failed}
 use Rattle.debug_core.proofs.run_command.run_command.Goals as goal
 
 pub returns-in-Ok : goal.returns-in-Ok
-returns-in-Ok g c = record { outcome = Ok c.in-Ok.end; is = c.status_of.ensures; cause = c.in-Ok.ensures.ran; line = refl }
+returns-in-Ok g c = record { outcome = Ok c.in-Ok.end; is = c.status_of.ensures; cause = c.in-Ok.ensures.ran; line = (refl, refl) }
 
 pub returns-in-Err : goal.returns-in-Err
 returns-in-Err g c =

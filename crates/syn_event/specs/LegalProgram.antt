@@ -1,0 +1,20 @@
+-- When a program of any form meets all static rules, and which types and numbers it has.
+use Rattle.std.specs.Prelude.{◌≡◌}
+use Rattle.ada_tree.specs.PlainProgram.{PProgram}
+use Rattle.ada_tree.specs.TypeTable.{TypeTable}
+use Rattle.ada_tree.specs.WellPlaced.{HasTokens}
+use Rattle.ada_tree.specs.Refusals.{MeetsTypeRules, types_in}
+use Rattle.syn_event.specs.declared.numbering.Mode.{Mode}
+use Rattle.syn_event.specs.Numbering.{Numbering}
+use Rattle.syn_event.specs.CheckRefusals.{MeetsCheckRules}
+use Rattle.syn_event.specs.AllNumbers.{all_numbers}
+
+-- The program meets every static rule, and these are its types and numbers.
+pub record IsLegal (p : PProgram) (types : TypeTable) (numbers : Numbering) (mode : Mode) : Type 0 where
+  -- each name, number and string is one that the source can hold, as in every tree that was read
+  pub tokens : HasTokens p
+  -- the rules 1 to 12, and 13 to 23
+  pub type_rules : MeetsTypeRules p
+  pub check_rules : MeetsCheckRules p mode
+  pub its_types : types ≡ types_in p
+  pub its_numbers : numbers ≡ all_numbers types p

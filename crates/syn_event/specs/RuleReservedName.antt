@@ -1,0 +1,26 @@
+-- Rule ReservedName: in an original a name is declared that begins with DED_ or has _DED_ in it (this project's rule). Such names are left to the rewriters.
+use Rattle.std.specs.Prelude.{ℕ, Bool, false, ◌||◌, nat_eq, if◌then◌else◌, List, [], ◌∷◌, codes}
+use Rattle.std.specs.List.{starts_with}
+use Rattle.ada_tree.specs.declared.naming.Span.{Span}
+use Rattle.ada_tree.specs.declared.naming.Word.{Word}
+use Rattle.syn_event.specs.declared.numbering.Mode.{Mode}
+use Rattle.syn_event.specs.declared.numbering.Mode.TheVariants as mode
+use Rattle.syn_event.specs.Units.{text_of}
+use Rattle.syn_event.specs.Surrounding.{Asked, declares}
+
+-- _DED_ stands somewhere in the text
+abbrev pub has_mark : List ℕ → Bool
+has_mark [] = false
+has_mark (b ∷ bs) = starts_with nat_eq (b ∷ bs) (codes "_DED_") || has_mark bs
+
+abbrev pub is_reserved : List ℕ → Bool
+is_reserved text = starts_with nat_eq text (codes "DED_") || has_mark text
+
+abbrev pub reserved_in : Mode → List (List ℕ) → Word → List Span
+reserved_in mode.Original names w = if is_reserved (text_of names w.name) then w.span ∷ [] else []
+reserved_in mode.Any names w = []
+
+-- The declared names that are left to the rewriters.
+abbrev pub reserved_name : Mode → List (List ℕ) → Asked → List Span
+reserved_name m names (declares w) = reserved_in m names w
+reserved_name m names _ = []
