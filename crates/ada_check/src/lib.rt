@@ -9,6 +9,7 @@ mod name_sets;
 mod parts;
 mod refusals;
 mod standards;
+mod statements;
 mod surroundings;
 mod waits;
 
