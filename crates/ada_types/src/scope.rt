@@ -65,7 +65,8 @@ impl Scope {
     {
         let table = first_table(alloc)?;
         let names = first_names(alloc)?;
-        match Rc::new(alloc, Entries::new(Vec::new(alloc))) {
+        let entries = Entries::new(alloc, Vec::new(alloc))?;
+        match Rc::new(alloc, entries) {
             Ok(own) => Ok(Scope {
                 table,
                 base: names.len(),

@@ -39,7 +39,7 @@ fn walk_priorities(scope: &Scope, priorities: &[Priority]) -> Option<Refusal>
 fn task_of(alloc: Global, of_kind: bool, parts: Vec<EntryPart>) -> Result<Thing, AllocError>
     ensures { IfOk result (λ thing. plain_thing thing ≡ task_thing of_kind (map plain_entry parts.items)) }
 {
-    match Rc::new(alloc, Entries::new(parts)) {
+    match Rc::new(alloc, Entries::new(alloc, parts)?) {
         Ok(entries) => Ok(if of_kind {
             Thing::TaskType(entries)
         } else {
