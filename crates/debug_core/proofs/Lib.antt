@@ -11,6 +11,7 @@ pub mod Legality
 pub mod Together
 pub mod Lining
 pub mod Textual
+pub mod Refusing
 pub mod Closing
 pub mod Printing
 pub mod Uppering

@@ -6,9 +6,11 @@ pub mod Words
 pub mod RunText
 pub mod Commands
 pub mod TextFaults
+pub mod RuleFaults
 pub mod Outputs
 pub mod Failures
 pub mod Causes
+pub mod LegalTexts
 pub mod PrintAnswers
 pub mod RunAnswers
 pub mod JudgeAnswers

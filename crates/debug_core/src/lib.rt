@@ -6,6 +6,8 @@ mod failing;
 mod judge_command;
 mod loading;
 mod print_command;
+mod reading;
+mod rule_fault;
 mod run_command;
 mod run_text;
 #[tactic(auto, using(ada_tree::proofs::Rows::rows))]
