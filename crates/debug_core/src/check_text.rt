@@ -28,11 +28,7 @@ pub(crate) fn put_numbers<K: Sink>(
 
 // Writes the first line: the program's name and how many tasks and entries it has.
 #[tactic(auto, using(ded_io::proofs::Writes::writes))]
-fn put_header<K: Sink>(
-    names: &Names,
-    numbers: &Numbers,
-    out: &mut K,
-) -> Result<(), SinkError>
+fn put_header<K: Sink>(names: &Names, numbers: &Numbers, out: &mut K) -> Result<(), SinkError>
     ensures bytes { Wrote result (K.told out.old) (K.told out.new) (check_header names.now numbers.now) }
     ensures cause { HasCause (K.faults out.old) (K.faults out.new) result }
 {
@@ -66,11 +62,7 @@ fn put_lines<K: Sink>(
 }
 
 // Writes the lines of all entries, from 1.
-fn put_entries<K: Sink>(
-    names: &Names,
-    entries: &[EntryInfo],
-    out: &mut K,
-) -> Result<(), SinkError>
+fn put_entries<K: Sink>(names: &Names, entries: &[EntryInfo], out: &mut K) -> Result<(), SinkError>
     requires { length entries.now < 2 ^ 32 }
     ensures bytes { Wrote result (K.told out.old) (K.told out.new) (entry_lines names.now entries.now) }
     ensures cause { HasCause (K.faults out.old) (K.faults out.new) result }

@@ -68,6 +68,7 @@ end P13;
 ";
 
 // A text whose program is checked, and what is written on the error output where it is refused.
+#[derive(Clone, Copy)]
 struct Checked<'c> {
     program: &'c [u8],
     status: u8,
@@ -214,7 +215,10 @@ fn a_broken_rule_is_told_at_its_place(rt: HostRuntime) -> Result<(), Fail> {
         (b"accept E(1);", b"ArgCount at 2:8"),
         (b"accept E do accept E; end E;", b"AcceptPlace at 2:13"),
         (b"select terminate; end select;", b"SelectForm at 2:1"),
-        (b"select accept E; or accept E; end select;", b"SameEntryTwice at 2:21"),
+        (
+            b"select accept E; or accept E; end select;",
+            b"SameEntryTwice at 2:21",
+        ),
         (b"abort T, T;", b"AbortOrder at 2:7"),
         (b"abort Q;", b"MainEntry at 2:7"),
         (b"exit;", b"ExitPlace at 2:1"),
@@ -240,11 +244,26 @@ fn other_rules_are_told(rt: HostRuntime) -> Result<(), Fail> {
             b"procedure Q is\n   DED_X : INTEGER;\nbegin null; end Q;\n",
             b"ReservedName at 2:4",
         ),
-        (b"procedure Q is\n   task T;\nbegin null; end Q;\n", b"BodyMissing at 2:9"),
-        (b"procedure Q is\n   X : INTEGER;\n   X : INTEGER;\nbegin null; end Q;\n", b"Duplicate at 3:4"),
-        (b"procedure Q is\n   X, Y : INTEGER;\nbegin\n   case X is when Y => null; when others => null; end case;\nend Q;\n", b"NotStatic at 4:19"),
-        (b"procedure Q is\n   X : constant INTEGER := 1;\nbegin\n   X := 2;\nend Q;\n", b"NotVariable at 4:4"),
-        (b"procedure Q is\n   A : array (1 .. 2) of INTEGER;\nbegin\n   A := A;\nend Q;\n", b"ArrayUse at 4:4"),
+        (
+            b"procedure Q is\n   task T;\nbegin null; end Q;\n",
+            b"BodyMissing at 2:9",
+        ),
+        (
+            b"procedure Q is\n   X : INTEGER;\n   X : INTEGER;\nbegin null; end Q;\n",
+            b"Duplicate at 3:4",
+        ),
+        (
+            b"procedure Q is\n   X, Y : INTEGER;\nbegin\n   case X is when Y => null; when others => null; end case;\nend Q;\n",
+            b"NotStatic at 4:19",
+        ),
+        (
+            b"procedure Q is\n   X : constant INTEGER := 1;\nbegin\n   X := 2;\nend Q;\n",
+            b"NotVariable at 4:4",
+        ),
+        (
+            b"procedure Q is\n   A : array (1 .. 2) of INTEGER;\nbegin\n   A := A;\nend Q;\n",
+            b"ArrayUse at 4:4",
+        ),
         (
             b"procedure Q is\n   task T is entry E(X : out INTEGER); end T;\n   task body T is\n   Y : INTEGER;\n   begin\n      accept E(X : out INTEGER) do\n         Y := X;\n      end E;\n   end T;\nbegin\n   null;\nend Q;\n",
             b"ReadOut at 7:15",
@@ -291,7 +310,13 @@ fn a_faulty_text_is_refused_as_of_print(rt: HostRuntime) -> Result<(), Fail> {
     let close = repeated(alloc, b")", 400)?;
     let deep = joined(
         alloc,
-        &[b"procedure Q is X : INTEGER; begin X := ", &open, b"1", &close, b"; end Q;"],
+        &[
+            b"procedure Q is X : INTEGER; begin X := ",
+            &open,
+            b"1",
+            &close,
+            b"; end Q;",
+        ],
     )?;
     check_refused(&rt, alloc, &deep, 8, b"ded: limit nesting 300\n")?;
     Ok(())
@@ -350,7 +375,13 @@ fn parts_may_be_nested_40_deep(rt: HostRuntime) -> Result<(), Fail> {
         let close = repeated(alloc, b"end; ", blocks)?;
         let text = joined(
             alloc,
-            &[b"procedure Q is begin ", &open, b"null; ", &close, b"end Q;"],
+            &[
+                b"procedure Q is begin ",
+                &open,
+                b"null; ",
+                &close,
+                b"end Q;",
+            ],
         )?;
         if blocks < 40 {
             check_one(
@@ -398,7 +429,10 @@ fn there_may_be_200_tasks(rt: HostRuntime) -> Result<(), Fail> {
     let back: &[u8] = b") of W; task body W is begin null; end W; begin null; end Q;";
     let text = joined(alloc, &[front, b"201", back])?;
     check_refused(&rt, alloc, &text, 8, b"ded: limit tasks 200\n")?;
-    let text = joined(alloc, &[front, b"200) of W; B : W; C : array (1 .. 3", back])?;
+    let text = joined(
+        alloc,
+        &[front, b"200) of W; B : W; C : array (1 .. 3", back],
+    )?;
     check_refused(&rt, alloc, &text, 8, b"ded: limit tasks 200\n")?;
     let text = joined(alloc, &[front, b"200", back])?;
     let mut out = joined(alloc, &[b"ded-check 1 Q 200 0\ntask 0 Q\n"])?;
