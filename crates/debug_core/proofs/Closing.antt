@@ -15,7 +15,7 @@ use Rattle.interp.specs.declared.report.RunEnd.{RunEnd}
 use Rattle.syn_event.specs.Numbering.{Numbering}
 use Rattle.task_machine.specs.declared.verdict.Verdict.{Verdict}
 use Rattle.debug_core.specs.declared.failing.Failure.{Failure}
-use Rattle.debug_core.specs.declared.failing.Failure.TheVariants.{Refused, BadText, Usage, BadSequence, Unreadable, OutputFailed, TooLong, TooMany, Memory}
+use Rattle.debug_core.specs.declared.failing.Failure.TheVariants.{Refused, BadText, BadProgram, NotYet, Usage, BadSequence, Unreadable, OutputFailed, TooLong, TooMany, Memory}
 use Rattle.debug_core.specs.declared.failing.Source.TheVariants.{Program, Sequence}
 use Rattle.debug_core.specs.Failures.{failure_status, failure_line, failure_of, first_words, Fails}
 use Rattle.debug_core.specs.Outputs.{IsWritten, IsUntouched}
@@ -39,6 +39,8 @@ pub line_of : (A : Type 0) (program sequence : List ℕ) (s : Sides) (failure : 
     HasErrorLine {A = A} program sequence s (Err failure)
 line_of A program sequence s Refused h = h
 line_of A program sequence s (BadText fault) h = h
+line_of A program sequence s (BadProgram fault) h = h
+line_of A program sequence s (NotYet row column) h = h
 line_of A program sequence s Usage h = h
 line_of A program sequence s (BadSequence found line) h = h
 line_of A program sequence s (Unreadable source) h = h
@@ -62,6 +64,8 @@ unsaid_line program sequence s (line, still) = (line ∙ no_bytes s.err, still)
 run_cause : (file : List ℕ) (turns : ℕ) (s : Sides) (failure : Failure) → IsRunFailure file s failure → IsWritten s.err s.err' s.lines s.lines' (failure_line file [] failure) → HasRunCause file turns s (Err failure)
 run_cause file turns s Refused h line = h
 run_cause file turns s (BadText fault) h line = h
+run_cause file turns s (BadProgram fault) h line = h
+run_cause file turns s (NotYet row column) h line = h
 run_cause file turns s Usage h line = h
 run_cause file turns s (BadSequence found at) h line = h
 run_cause file turns s (Unreadable source) h line = h
@@ -80,6 +84,8 @@ pub file_unloaded : (told : Option (List ToldFile)) (file : List ℕ) (reads rea
     IsLoadCause told file Program run_limit reads reads' failure → IsFileCause told file reads reads' out out writes writes failure
 file_unloaded told file reads reads' out writes Refused h = absurd h
 file_unloaded told file reads reads' out writes (BadText fault) h = h
+file_unloaded told file reads reads' out writes (BadProgram fault) h = h
+file_unloaded told file reads reads' out writes (NotYet row column) h = h
 file_unloaded told file reads reads' out writes Usage h = h
 file_unloaded told file reads reads' out writes (BadSequence found line) h = h
 file_unloaded told file reads reads' out writes (Unreadable source) h = (h.0, h.1, (refl, refl))
@@ -92,6 +98,8 @@ pub file_unread : (told : Option (List ToldFile)) (file text : List ℕ) (reads 
     WasLoaded told file run_limit text → IsReadCause failure → IsFileCause told file reads reads' out out writes writes failure
 file_unread told file text reads reads' out writes Refused loaded h = ((text, loaded), (refl, refl))
 file_unread told file text reads reads' out writes (BadText fault) loaded h = h
+file_unread told file text reads reads' out writes (BadProgram fault) loaded h = h
+file_unread told file text reads reads' out writes (NotYet row column) loaded h = h
 file_unread told file text reads reads' out writes Usage loaded h = h
 file_unread told file text reads reads' out writes (BadSequence found line) loaded h = h
 file_unread told file text reads reads' out writes (Unreadable source) loaded h = absurd h
@@ -104,6 +112,8 @@ pub file_unwritten : (told : Option (List ToldFile)) (file : List ℕ) (reads re
     IsOutputCause writes writes' failure → IsFileCause told file reads reads' out out' writes writes' failure
 file_unwritten told file reads reads' out out' writes writes' Refused h = absurd h
 file_unwritten told file reads reads' out out' writes writes' (BadText fault) h = h
+file_unwritten told file reads reads' out out' writes writes' (BadProgram fault) h = h
+file_unwritten told file reads reads' out out' writes writes' (NotYet row column) h = h
 file_unwritten told file reads reads' out out' writes writes' Usage h = h
 file_unwritten told file reads reads' out out' writes writes' (BadSequence found line) h = h
 file_unwritten told file reads reads' out out' writes writes' (Unreadable source) h = absurd h
@@ -118,6 +128,8 @@ judge_cause : (file sequence : List ℕ) (bound : ℕ) (s : Sides) (failure : Fa
     HasJudgeCause file sequence bound s (Err failure)
 judge_cause file sequence bound s Refused h line = h
 judge_cause file sequence bound s (BadText fault) h line = h
+judge_cause file sequence bound s (BadProgram fault) h line = h
+judge_cause file sequence bound s (NotYet row column) h line = h
 judge_cause file sequence bound s Usage h line = h
 judge_cause file sequence bound s (BadSequence found at) h line = h
 judge_cause file sequence bound s (Unreadable source) h line = h
@@ -137,6 +149,8 @@ pub first_unloaded : (told : Option (List ToldFile)) (file sequence : List ℕ) 
     IsLoadCause told file Program judged_limit reads reads' failure → AreLoadCauses told file sequence reads reads' failure
 first_unloaded told file sequence reads reads' Refused h = h
 first_unloaded told file sequence reads reads' (BadText fault) h = h
+first_unloaded told file sequence reads reads' (BadProgram fault) h = h
+first_unloaded told file sequence reads reads' (NotYet row column) h = h
 first_unloaded told file sequence reads reads' Usage h = h
 first_unloaded told file sequence reads reads' (BadSequence found line) h = h
 first_unloaded told file sequence reads reads' (Unreadable Program) h = h.1
@@ -154,6 +168,8 @@ pub second_unloaded : (told : Option (List ToldFile)) (file sequence text : List
     IsLoadCause told sequence Sequence sequence_limit mid reads' failure → AreLoadCauses told file sequence reads reads' failure
 second_unloaded told file sequence text reads mid reads' Refused loaded le h = h
 second_unloaded told file sequence text reads mid reads' (BadText fault) loaded le h = h
+second_unloaded told file sequence text reads mid reads' (BadProgram fault) loaded le h = h
+second_unloaded told file sequence text reads mid reads' (NotYet row column) loaded le h = h
 second_unloaded told file sequence text reads mid reads' Usage loaded le h = h
 second_unloaded told file sequence text reads mid reads' (BadSequence found line) loaded le h = h
 second_unloaded told file sequence text reads mid reads' (Unreadable Program) loaded le h = absurd (let other : Program ≡ Sequence = h.0 in cc)
@@ -167,6 +183,8 @@ pub files_unloaded : (told : Option (List ToldFile)) (file sequence : List ℕ) 
     AreLoadCauses told file sequence reads reads' failure → IsFilesCause told file sequence reads reads' out out writes writes failure
 files_unloaded told file sequence reads reads' out writes Refused h = absurd h
 files_unloaded told file sequence reads reads' out writes (BadText fault) h = h
+files_unloaded told file sequence reads reads' out writes (BadProgram fault) h = h
+files_unloaded told file sequence reads reads' out writes (NotYet row column) h = h
 files_unloaded told file sequence reads reads' out writes Usage h = h
 files_unloaded told file sequence reads reads' out writes (BadSequence found line) h = absurd h
 files_unloaded told file sequence reads reads' out writes (Unreadable Program) h = (h, (refl, refl))
@@ -180,6 +198,8 @@ pub files_unjudged : (told : Option (List ToldFile)) (file sequence text lines :
     WereLoaded told file sequence text lines → IsJudgeCause text lines out out' writes writes' failure → IsFilesCause told file sequence reads reads' out out' writes writes' failure
 files_unjudged told file sequence text lines reads reads' out out' writes writes' Refused loaded h = ((text, lines, loaded), h)
 files_unjudged told file sequence text lines reads reads' out out' writes writes' (BadText fault) loaded h = h
+files_unjudged told file sequence text lines reads reads' out out' writes writes' (BadProgram fault) loaded h = h
+files_unjudged told file sequence text lines reads reads' out out' writes writes' (NotYet row column) loaded h = h
 files_unjudged told file sequence text lines reads reads' out out' writes writes' Usage loaded h = h
 files_unjudged told file sequence text lines reads reads' out out' writes writes' (BadSequence found line) loaded h = (record { text = text; lines = lines; loaded = loaded; fault = h.0 }, h.1)
 files_unjudged told file sequence text lines reads reads' out out' writes writes' (Unreadable Program) loaded h = absurd h
@@ -192,6 +212,8 @@ files_unjudged told file sequence text lines reads reads' out out' writes writes
 pub text_unread : (text lines : List ℕ) (out : Option (List ℕ)) (writes : ℕ) (failure : Failure) → IsReadCause failure → IsJudgeCause text lines out out writes writes failure
 text_unread text lines out writes Refused h = (refl, refl)
 text_unread text lines out writes (BadText fault) h = h
+text_unread text lines out writes (BadProgram fault) h = h
+text_unread text lines out writes (NotYet row column) h = h
 text_unread text lines out writes Usage h = h
 text_unread text lines out writes (BadSequence found line) h = absurd h
 text_unread text lines out writes (Unreadable source) h = h
@@ -204,6 +226,8 @@ pub text_unjudged : (text lines : List ℕ) (p : PProgram) (types : TypeTable) (
     IsProgram text p types numbers → IsLinesCause p numbers lines out out' writes writes' failure → IsJudgeCause text lines out out' writes writes' failure
 text_unjudged text lines p types numbers out out' writes writes' Refused is h = absurd h
 text_unjudged text lines p types numbers out out' writes writes' (BadText fault) is h = h
+text_unjudged text lines p types numbers out out' writes writes' (BadProgram fault) is h = h
+text_unjudged text lines p types numbers out out' writes writes' (NotYet row column) is h = h
 text_unjudged text lines p types numbers out out' writes writes' Usage is h = h
 text_unjudged text lines p types numbers out out' writes writes' (BadSequence found line) is h = (record { program = p; types = types; numbers = numbers; is_program = is; fault = h.0 }, h.1)
 text_unjudged text lines p types numbers out out' writes writes' (Unreadable source) is h = h
@@ -230,6 +254,8 @@ pub lines_unwritten : (p : PProgram) (numbers : Numbering) (lines : List ℕ) (o
     IsVerdictCause out out' writes writes' failure → IsLinesCause p numbers lines out out' writes writes' failure
 lines_unwritten p numbers lines out out' writes writes' Refused h = h
 lines_unwritten p numbers lines out out' writes writes' (BadText fault) h = h
+lines_unwritten p numbers lines out out' writes writes' (BadProgram fault) h = h
+lines_unwritten p numbers lines out out' writes writes' (NotYet row column) h = h
 lines_unwritten p numbers lines out out' writes writes' Usage h = h
 lines_unwritten p numbers lines out out' writes writes' (BadSequence found line) h = absurd h
 lines_unwritten p numbers lines out out' writes writes' (Unreadable source) h = h

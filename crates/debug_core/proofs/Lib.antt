@@ -11,8 +11,10 @@ pub mod Legality
 pub mod Together
 pub mod Lining
 pub mod Textual
+pub mod Refusing
 pub mod Closing
 pub mod Printing
+pub mod Checking
 pub mod Uppering
 pub mod Feeding
 pub mod Judged

@@ -12,7 +12,7 @@ use Rattle.debug_core.specs.SmallText.{IsSmallText}
 use Rattle.debug_core.specs.Failures.{failure_status, failure_line}
 use Rattle.debug_core.specs.Outputs.{IsWritten, IsBrokenOff, IsUntouched}
 use Rattle.debug_core.specs.declared.failing.Failure.{Failure}
-use Rattle.debug_core.specs.declared.failing.Failure.TheVariants.{Refused, BadText, Usage, BadSequence, Unreadable, OutputFailed, TooLong, TooMany, Memory}
+use Rattle.debug_core.specs.declared.failing.Failure.TheVariants.{Refused, BadText, BadProgram, NotYet, Usage, BadSequence, Unreadable, OutputFailed, TooLong, TooMany, Memory}
 use Rattle.debug_core.specs.declared.failing.Source.{Source}
 
 -- What is told and counted before and behind a call: of the files, of the output and of the error output.
@@ -62,6 +62,8 @@ IsUnread told file reads reads' = Lacks told file ⊎ Rose reads reads'
 abbrev pub IsLoadCause : Option (List ToldFile) → List ℕ → Source → ℕ → ℕ → ℕ → Failure → Type 0
 IsLoadCause told file source limit reads reads' Refused = ⊥
 IsLoadCause told file source limit reads reads' (BadText fault) = ⊥
+IsLoadCause told file source limit reads reads' (BadProgram fault) = ⊥
+IsLoadCause told file source limit reads reads' (NotYet line column) = ⊥
 IsLoadCause told file source limit reads reads' Usage = ⊥
 IsLoadCause told file source limit reads reads' (BadSequence found line) = ⊥
 IsLoadCause told file source limit reads reads' (Unreadable which) = (which ≡ source) × IsUnread told file reads reads'
@@ -80,6 +82,8 @@ pub record IsProgram (text : List ℕ) (program : PProgram) (types : TypeTable) 
 abbrev pub IsReadCause : Failure → Type 0
 IsReadCause Refused = Unit {0}
 IsReadCause (BadText fault) = ⊥
+IsReadCause (BadProgram fault) = ⊥
+IsReadCause (NotYet line column) = ⊥
 IsReadCause Usage = ⊥
 IsReadCause (BadSequence found line) = ⊥
 IsReadCause (Unreadable source) = ⊥

@@ -3,12 +3,15 @@ use Rattle.std.specs.Prelude.{◌≡◌, ℕ, List, [], Option, ◌⊎◌, codes
 use Rattle.ded_io.specs.Written.{◌⧺◌}
 use Rattle.seq_file.specs.declared.errors.SeqError.{SeqError}
 use Rattle.seq_file.specs.declared.errors.SeqError.TheVariants as error
+use Rattle.syn_event.specs.declared.limits.What.{What}
 use Rattle.debug_core.specs.declared.failing.Failure.{Failure}
-use Rattle.debug_core.specs.declared.failing.Failure.TheVariants.{Refused, BadText, Usage, BadSequence, Unreadable, OutputFailed, TooLong, TooMany, Memory}
-use Rattle.debug_core.specs.declared.text_fault.Misspelling.{Misspelling}
+use Rattle.debug_core.specs.declared.failing.Failure.TheVariants.{Refused, BadText, BadProgram, NotYet, Usage, BadSequence, Unreadable, OutputFailed, TooLong, TooMany, Memory}
+use Rattle.debug_core.specs.declared.rule_fault.RuleFault.{RuleFault}
+use Rattle.debug_core.specs.declared.rule_fault.RuleFault.TheVariants.{Broken, Passed}
 use Rattle.debug_core.specs.declared.text_fault.TextFault.{TextFault}
 use Rattle.debug_core.specs.declared.text_fault.TextFault.TheVariants.{Misspelled, LongToken, TooNested}
 use Rattle.debug_core.specs.TextFaults.{misspelling_name}
+use Rattle.debug_core.specs.RuleFaults.{rule_name, what_word}
 use Rattle.debug_core.specs.Outputs.{IsWritten, IsBrokenOff}
 use Rattle.debug_core.specs.declared.failing.SequenceFault.{SequenceFault}
 use Rattle.debug_core.specs.declared.failing.SequenceFault.TheVariants as fault
@@ -20,10 +23,17 @@ text_status (Misspelled what line column) = 1
 text_status (LongToken limit) = 8
 text_status (TooNested limit) = 8
 
+-- a program that breaks a rule is refused, and one that passes a limit is told so
+abbrev pub rule_status : RuleFault → ℕ
+rule_status (Broken rule line column) = 1
+rule_status (Passed what limit) = 8
+
 -- the status of a failure
 abbrev pub failure_status : Failure → ℕ
 failure_status Refused = 1
 failure_status (BadText found) = text_status found
+failure_status (BadProgram found) = rule_status found
+failure_status (NotYet line column) = 1
 failure_status Usage = 2
 failure_status (BadSequence found line) = 3
 failure_status (Unreadable source) = 6
@@ -38,6 +48,9 @@ first_words Refused = codes "ded: program refused: NotYet at 1:1\n"
 first_words (BadText (Misspelled what line column)) = codes "ded: program refused: "
 first_words (BadText (LongToken limit)) = codes "ded: limit token "
 first_words (BadText (TooNested limit)) = codes "ded: limit nesting "
+first_words (BadProgram (Broken rule line column)) = codes "ded: program refused: "
+first_words (BadProgram (Passed what limit)) = codes "ded: limit "
+first_words (NotYet line column) = codes "ded: program refused: "
 first_words Usage = codes "ded: usage\n"
 first_words (BadSequence found line) = codes "ded: sequence refused: "
 first_words (Unreadable source) = codes "ded: cannot read "
@@ -61,16 +74,31 @@ named_line words name = words ⧺ (name ⧺ codes "\n")
 abbrev pub fault_line : List ℕ → SequenceFault → ℕ → List ℕ
 fault_line words found line = words ⧺ (fault_name found ⧺ (codes " at line " ⧺ (decimal line ⧺ codes "\n")))
 
--- words, what is wrong with a text, and its place
-abbrev pub place_line : List ℕ → Misspelling → ℕ → ℕ → List ℕ
-place_line words what line column = words ⧺ (misspelling_name what ⧺ (codes " at " ⧺ (decimal line ⧺ (codes ":" ⧺ (decimal column ⧺ codes "\n")))))
+-- words, the name of what is wrong, and its place
+abbrev pub place_line : List ℕ → List ℕ → ℕ → ℕ → List ℕ
+place_line words name line column = words ⧺ (name ⧺ (codes " at " ⧺ (decimal line ⧺ (codes ":" ⧺ (decimal column ⧺ codes "\n")))))
+
+-- words, what a limit counts, and the limit
+abbrev pub passed_line : List ℕ → What → ℕ → List ℕ
+passed_line words what limit = words ⧺ (what_word what ⧺ (codes " " ⧺ (decimal limit ⧺ codes "\n")))
+
+-- the line for a text's fault
+abbrev pub text_line : TextFault → List ℕ
+text_line (Misspelled what line column) = place_line (first_words (BadText (Misspelled what line column))) (misspelling_name what) line column
+text_line (LongToken limit) = named_line (first_words (BadText (LongToken limit))) (decimal limit)
+text_line (TooNested limit) = named_line (first_words (BadText (TooNested limit))) (decimal limit)
+
+-- the line for a program's fault
+abbrev pub rule_line : RuleFault → List ℕ
+rule_line (Broken rule line column) = place_line (first_words (BadProgram (Broken rule line column))) (rule_name rule) line column
+rule_line (Passed what limit) = passed_line (first_words (BadProgram (Passed what limit))) what limit
 
 -- The line that a failure puts on the error output, with the name of the file of which it speaks; a failed output puts none.
 abbrev pub failure_line : List ℕ → List ℕ → Failure → List ℕ
 failure_line program sequence Refused = first_words Refused
-failure_line program sequence (BadText (Misspelled what line column)) = place_line (first_words (BadText (Misspelled what line column))) what line column
-failure_line program sequence (BadText (LongToken limit)) = named_line (first_words (BadText (LongToken limit))) (decimal limit)
-failure_line program sequence (BadText (TooNested limit)) = named_line (first_words (BadText (TooNested limit))) (decimal limit)
+failure_line program sequence (BadText found) = text_line found
+failure_line program sequence (BadProgram found) = rule_line found
+failure_line program sequence (NotYet line column) = place_line (first_words (NotYet line column)) (codes "NotYet") line column
 failure_line program sequence Usage = first_words Usage
 failure_line program sequence (BadSequence found line) = fault_line (first_words (BadSequence found line)) found line
 failure_line program sequence (Unreadable Program) = named_line (first_words (Unreadable Program)) program

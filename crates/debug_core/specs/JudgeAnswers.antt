@@ -19,7 +19,7 @@ use Rattle.debug_core.specs.Causes.{Sides, HasErrorLine, HasFailedOutput, WasLoa
 use Rattle.debug_core.specs.Outputs.{IsWritten, IsUntouched}
 use Rattle.debug_core.specs.Failures.{error_of}
 use Rattle.debug_core.specs.declared.failing.Failure.{Failure}
-use Rattle.debug_core.specs.declared.failing.Failure.TheVariants.{Refused, BadText, Usage, BadSequence, Unreadable, OutputFailed, TooLong, TooMany, Memory}
+use Rattle.debug_core.specs.declared.failing.Failure.TheVariants.{Refused, BadText, BadProgram, NotYet, Usage, BadSequence, Unreadable, OutputFailed, TooLong, TooMany, Memory}
 use Rattle.debug_core.specs.declared.failing.Source.TheVariants.{Program, Sequence}
 
 -- a program that is judged has at most so many bytes, and a sequence so many
@@ -83,6 +83,8 @@ pub record WereLoaded (told : Option (List ToldFile)) (file sequence text lines 
 abbrev pub IsVerdictCause : Option (List ℕ) → Option (List ℕ) → ℕ → ℕ → Failure → Type 0
 IsVerdictCause out out' writes writes' Refused = ⊥
 IsVerdictCause out out' writes writes' (BadText fault) = ⊥
+IsVerdictCause out out' writes writes' (BadProgram fault) = ⊥
+IsVerdictCause out out' writes writes' (NotYet line column) = ⊥
 IsVerdictCause out out' writes writes' Usage = ⊥
 IsVerdictCause out out' writes writes' (BadSequence found line) = ⊥
 IsVerdictCause out out' writes writes' (Unreadable source) = ⊥
@@ -95,6 +97,8 @@ IsVerdictCause out out' writes writes' Memory = IsUntouched out out' writes writ
 abbrev pub IsLinesCause : PProgram → Numbering → List ℕ → Option (List ℕ) → Option (List ℕ) → ℕ → ℕ → Failure → Type 0
 IsLinesCause p numbers lines out out' writes writes' Refused = ⊥
 IsLinesCause p numbers lines out out' writes writes' (BadText fault) = ⊥
+IsLinesCause p numbers lines out out' writes writes' (BadProgram fault) = ⊥
+IsLinesCause p numbers lines out out' writes writes' (NotYet line column) = ⊥
 IsLinesCause p numbers lines out out' writes writes' Usage = ⊥
 IsLinesCause p numbers lines out out' writes writes' (BadSequence found line) = HasFirstFault lines numbers p.names (error_of found line) × IsUntouched out out' writes writes'
 IsLinesCause p numbers lines out out' writes writes' (Unreadable source) = ⊥
@@ -107,6 +111,8 @@ IsLinesCause p numbers lines out out' writes writes' Memory = IsUntouched out ou
 abbrev pub IsJudgeCause : List ℕ → List ℕ → Option (List ℕ) → Option (List ℕ) → ℕ → ℕ → Failure → Type 0
 IsJudgeCause text lines out out' writes writes' Refused = IsUntouched out out' writes writes'
 IsJudgeCause text lines out out' writes writes' (BadText fault) = ⊥
+IsJudgeCause text lines out out' writes writes' (BadProgram fault) = ⊥
+IsJudgeCause text lines out out' writes writes' (NotYet line column) = ⊥
 IsJudgeCause text lines out out' writes writes' Usage = ⊥
 IsJudgeCause text lines out out' writes writes' (BadSequence found line) = HasBadSequence text lines (error_of found line) × IsUntouched out out' writes writes'
 IsJudgeCause text lines out out' writes writes' (Unreadable source) = ⊥
@@ -125,6 +131,8 @@ IsTooLong told file sequence limit =
 abbrev pub AreLoadCauses : Option (List ToldFile) → List ℕ → List ℕ → ℕ → ℕ → Failure → Type 0
 AreLoadCauses told file sequence reads reads' Refused = ⊥
 AreLoadCauses told file sequence reads reads' (BadText fault) = ⊥
+AreLoadCauses told file sequence reads reads' (BadProgram fault) = ⊥
+AreLoadCauses told file sequence reads reads' (NotYet line column) = ⊥
 AreLoadCauses told file sequence reads reads' Usage = ⊥
 AreLoadCauses told file sequence reads reads' (BadSequence found line) = ⊥
 AreLoadCauses told file sequence reads reads' (Unreadable Program) = IsUnread told file reads reads'
@@ -152,6 +160,8 @@ pub record HoldsBadSequence (told : Option (List ToldFile)) (file sequence : Lis
 abbrev pub IsFilesCause : Option (List ToldFile) → List ℕ → List ℕ → ℕ → ℕ → Option (List ℕ) → Option (List ℕ) → ℕ → ℕ → Failure → Type 0
 IsFilesCause told file sequence reads reads' out out' writes writes' Refused = ((text : List ℕ) × (lines : List ℕ) × WereLoaded told file sequence text lines) × IsUntouched out out' writes writes'
 IsFilesCause told file sequence reads reads' out out' writes writes' (BadText fault) = ⊥
+IsFilesCause told file sequence reads reads' out out' writes writes' (BadProgram fault) = ⊥
+IsFilesCause told file sequence reads reads' out out' writes writes' (NotYet line column) = ⊥
 IsFilesCause told file sequence reads reads' out out' writes writes' Usage = ⊥
 IsFilesCause told file sequence reads reads' out out' writes writes' (BadSequence found line) = HoldsBadSequence told file sequence (error_of found line) × IsUntouched out out' writes writes'
 IsFilesCause told file sequence reads reads' out out' writes writes' (Unreadable Program) = IsUnread told file reads reads' × IsUntouched out out' writes writes'

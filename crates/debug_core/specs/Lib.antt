@@ -4,12 +4,16 @@ pub mod SmallRules
 pub mod SmallNumbers
 pub mod Words
 pub mod RunText
+pub mod CheckText
 pub mod Commands
 pub mod TextFaults
+pub mod RuleFaults
 pub mod Outputs
 pub mod Failures
 pub mod Causes
+pub mod LegalTexts
 pub mod PrintAnswers
+pub mod CheckAnswers
 pub mod RunAnswers
 pub mod JudgeAnswers
 pub mod Fed

@@ -14,7 +14,7 @@ use Rattle.debug_core.specs.RunText.{run_text}
 use Rattle.debug_core.specs.Causes.{Sides, HasErrorLine, HasFailedOutput, WasLoaded, IsHeld, IsUnread, IsProgram, status_of}
 use Rattle.debug_core.specs.Outputs.{IsWritten, IsUntouched}
 use Rattle.debug_core.specs.declared.failing.Failure.{Failure}
-use Rattle.debug_core.specs.declared.failing.Failure.TheVariants.{Refused, BadText, Usage, BadSequence, Unreadable, OutputFailed, TooLong, TooMany, Memory}
+use Rattle.debug_core.specs.declared.failing.Failure.TheVariants.{Refused, BadText, BadProgram, NotYet, Usage, BadSequence, Unreadable, OutputFailed, TooLong, TooMany, Memory}
 use Rattle.debug_core.specs.declared.failing.Source.TheVariants.{Program}
 
 -- a program that is run has at most this many bytes
@@ -50,6 +50,8 @@ pub record HasRun (told : Option (List ToldFile)) (file : List ℕ) (turns : ℕ
 abbrev pub IsOutputCause : ℕ → ℕ → Failure → Type 0
 IsOutputCause writes writes' Refused = ⊥
 IsOutputCause writes writes' (BadText fault) = ⊥
+IsOutputCause writes writes' (BadProgram fault) = ⊥
+IsOutputCause writes writes' (NotYet line column) = ⊥
 IsOutputCause writes writes' Usage = ⊥
 IsOutputCause writes writes' (BadSequence found line) = ⊥
 IsOutputCause writes writes' (Unreadable source) = ⊥
@@ -62,6 +64,8 @@ IsOutputCause writes writes' Memory = Unit {0}
 abbrev pub IsFileCause : Option (List ToldFile) → List ℕ → ℕ → ℕ → Option (List ℕ) → Option (List ℕ) → ℕ → ℕ → Failure → Type 0
 IsFileCause told file reads reads' out out' writes writes' Refused = IsHeld told file run_limit × IsUntouched out out' writes writes'
 IsFileCause told file reads reads' out out' writes writes' (BadText fault) = ⊥
+IsFileCause told file reads reads' out out' writes writes' (BadProgram fault) = ⊥
+IsFileCause told file reads reads' out out' writes writes' (NotYet line column) = ⊥
 IsFileCause told file reads reads' out out' writes writes' Usage = ⊥
 IsFileCause told file reads reads' out out' writes writes' (BadSequence found line) = ⊥
 IsFileCause told file reads reads' out out' writes writes' (Unreadable source) = (source ≡ Program) × IsUnread told file reads reads' × IsUntouched out out' writes writes'

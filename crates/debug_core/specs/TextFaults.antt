@@ -65,6 +65,8 @@ HasTextFault text (TooNested limit) = IsNestedDeeper text limit
 abbrev pub IsTextCause : List ℕ → Failure → Type 0
 IsTextCause text failure.Refused = ⊥
 IsTextCause text (failure.BadText fault) = HasTextFault text fault
+IsTextCause text (failure.BadProgram fault) = ⊥
+IsTextCause text (failure.NotYet line column) = ⊥
 IsTextCause text failure.Usage = ⊥
 IsTextCause text (failure.BadSequence found line) = ⊥
 IsTextCause text (failure.Unreadable source) = ⊥

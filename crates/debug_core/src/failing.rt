@@ -4,13 +4,16 @@ ghost use Rattle.std.specs.Prelude.{◌≡◌, decimal};
 ghost use Rattle.ded_io.specs.Counts.{HasCause};
 ghost use Rattle.ded_io.specs.Written.{Wrote};
 ghost use Rattle.seq_file.specs.declared.errors.SeqError.{SeqError};
-ghost use Rattle.debug_core.specs.Failures.{failure_line, failure_status, first_words, fault_name, named_line, fault_line, place_line, text_status, Fails, failure_of};
+ghost use Rattle.debug_core.specs.Failures.{failure_line, failure_status, first_words, fault_name, named_line, fault_line, place_line, passed_line, text_line, text_status, rule_line, rule_status, Fails, failure_of};
 ghost use Rattle.debug_core.specs.TextFaults.{misspelling_name};
+ghost use Rattle.debug_core.specs.RuleFaults.{rule_name, what_word};
 
+use crate::rule_fault::{Rule, RuleFault};
 use crate::text_fault::{Misspelling, TextFault};
 use ded_io::{Sink, SinkError};
 use itoa::Buffer;
 use seq_file::SeqError;
+use syn_event::What;
 
 /// Why a command was not carried out, or not all of its text was written.
 #[derive(Clone, Copy)]
@@ -19,6 +22,10 @@ pub(crate) enum Failure {
     Refused,
     /// The program's text is read as none of the language, for this fault.
     BadText(TextFault),
+    /// The program is read, and breaks a static rule or passes a limit.
+    BadProgram(RuleFault),
+    /// The program meets all static rules, and has a form at a place that is not run yet.
+    NotYet { line: u32, column: u32 },
     /// The words are no row of words.
     Usage,
     /// The sequence is refused, at a line.
@@ -59,6 +66,8 @@ impl Failure {
         match self {
             Failure::Refused => 1,
             Failure::BadText(fault) => text_status(fault),
+            Failure::BadProgram(fault) => rule_status(fault),
+            Failure::NotYet { .. } => 1,
             Failure::Usage => 2,
             Failure::BadSequence { .. } => 3,
             Failure::Unreadable(_) => 6,
@@ -77,6 +86,16 @@ fn text_status(fault: TextFault) -> u8
     match fault {
         TextFault::Misspelled { .. } => 1,
         TextFault::LongToken { .. } | TextFault::TooNested { .. } => 8,
+    }
+}
+
+// The status of a program's fault.
+fn rule_status(fault: RuleFault) -> u8
+    ensures { result ≡ rule_status fault }
+{
+    match fault {
+        RuleFault::Broken { .. } => 1,
+        RuleFault::Passed { .. } => 8,
     }
 }
 
@@ -128,20 +147,14 @@ fn put_failure<K: Sink>(
 {
     match failure {
         Failure::Refused => err.put(first_words(Failure::Refused)),
-        Failure::BadText(TextFault::Misspelled { what, line, column }) => {
-            put_misspelled(what, line, column, err)
-        }
-        Failure::BadText(TextFault::LongToken { limit }) => {
-            put_limit(
-                Failure::BadText(TextFault::LongToken { limit }),
-                limit as u64,
-                err,
-            )
-        }
-        Failure::BadText(TextFault::TooNested { limit }) => {
-            put_limit(
-                Failure::BadText(TextFault::TooNested { limit }),
-                limit as u64,
+        Failure::BadText(fault) => put_text_fault(fault, err),
+        Failure::BadProgram(fault) => put_rule_fault(fault, err),
+        Failure::NotYet { line, column } => {
+            put_place(
+                Failure::NotYet { line, column },
+                b"NotYet",
+                line,
+                column,
                 err,
             )
         }
@@ -169,19 +182,72 @@ fn put_fault<K: Sink>(fault: SequenceFault, line: u32, err: &mut K) -> Result<()
     err.put(b"\n")
 }
 
-// Writes what is wrong with a text, and where.
+// Writes what is wrong with a text, and where, or the limit that it passes.
+fn put_text_fault<K: Sink>(fault: TextFault, err: &mut K) -> Result<(), SinkError>
+    ensures bytes { Wrote result (K.told err.old) (K.told err.new) (text_line fault) }
+    ensures cause { HasCause (K.faults err.old) (K.faults err.new) result }
+{
+    match fault {
+        TextFault::Misspelled { what, line, column } => {
+            put_place(
+                Failure::BadText(fault),
+                misspelling_name(what),
+                line,
+                column,
+                err,
+            )
+        }
+        TextFault::LongToken { limit } => put_limit(Failure::BadText(fault), limit as u64, err),
+        TextFault::TooNested { limit } => put_limit(Failure::BadText(fault), limit as u64, err),
+    }
+}
+
+// Writes which rule a program breaks, and where, or the limit that it passes.
+fn put_rule_fault<K: Sink>(fault: RuleFault, err: &mut K) -> Result<(), SinkError>
+    ensures bytes { Wrote result (K.told err.old) (K.told err.new) (rule_line fault) }
+    ensures cause { HasCause (K.faults err.old) (K.faults err.new) result }
+{
+    match fault {
+        RuleFault::Broken { rule, line, column } => {
+            put_place(
+                Failure::BadProgram(fault),
+                rule_name(rule),
+                line,
+                column,
+                err,
+            )
+        }
+        RuleFault::Passed { what, limit } => put_passed(what, limit, err),
+    }
+}
+
+// Writes that a program passes a limit.
 #[tactic(auto, using(ded_io::proofs::Writes::writes))]
-fn put_misspelled<K: Sink>(
-    what: Misspelling,
+fn put_passed<K: Sink>(what: What, limit: u32, err: &mut K) -> Result<(), SinkError>
+    ensures bytes { Wrote result (K.told err.old) (K.told err.new) (passed_line (first_words (Failure.BadProgram (RuleFault.Passed what limit))) what limit) }
+    ensures cause { HasCause (K.faults err.old) (K.faults err.new) result }
+{
+    err.put(first_words(Failure::BadProgram(RuleFault::Passed { what, limit })))?;
+    err.put(what_word(what))?;
+    err.put(b" ")?;
+    put_number(limit as u64, err)?;
+    err.put(b"\n")
+}
+
+// Writes the name of what is wrong with a program, and where.
+#[tactic(auto, using(ded_io::proofs::Writes::writes))]
+fn put_place<K: Sink>(
+    failure: Failure,
+    name: &[u8],
     line: u32,
     column: u32,
     err: &mut K,
 ) -> Result<(), SinkError>
-    ensures bytes { Wrote result (K.told err.old) (K.told err.new) (place_line (first_words (Failure.BadText (TextFault.Misspelled what line column))) what line column) }
+    ensures bytes { Wrote result (K.told err.old) (K.told err.new) (place_line (first_words failure) name.now line column) }
     ensures cause { HasCause (K.faults err.old) (K.faults err.new) result }
 {
-    err.put(first_words(Failure::BadText(TextFault::Misspelled { what, line, column })))?;
-    err.put(misspelling_name(what))?;
+    err.put(first_words(failure))?;
+    err.put(name)?;
     err.put(b" at ")?;
     put_number(line as u64, err)?;
     err.put(b":")?;
@@ -244,6 +310,53 @@ fn misspelling_name(what: Misspelling) -> &'static [u8]
     }
 }
 
+// The name of a rule.
+fn rule_name(rule: Rule) -> &'static [u8]
+    ensures { result.now ≡ rule_name rule }
+{
+    match rule {
+        Rule::Unknown => b"Unknown",
+        Rule::Duplicate => b"Duplicate",
+        Rule::Mismatch => b"Mismatch",
+        Rule::NotStatic => b"NotStatic",
+        Rule::RangeBad => b"RangeBad",
+        Rule::NotVariable => b"NotVariable",
+        Rule::ReadOut => b"ReadOut",
+        Rule::ArgCount => b"ArgCount",
+        Rule::ChoiceBad => b"ChoiceBad",
+        Rule::ArrayUse => b"ArrayUse",
+        Rule::TextUse => b"TextUse",
+        Rule::NotException => b"NotException",
+        Rule::SharedVariable => b"SharedVariable",
+        Rule::AcceptPlace => b"AcceptPlace",
+        Rule::SelectForm => b"SelectForm",
+        Rule::SameEntryTwice => b"SameEntryTwice",
+        Rule::ReservedName => b"ReservedName",
+        Rule::MainEntry => b"MainEntry",
+        Rule::AbortOrder => b"AbortOrder",
+        Rule::BodyMissing => b"BodyMissing",
+        Rule::ExitPlace => b"ExitPlace",
+        Rule::RaisePlace => b"RaisePlace",
+    }
+}
+
+// The word for what a limit counts.
+fn what_word(what: What) -> &'static [u8]
+    ensures { result.now ≡ what_word what }
+{
+    match what {
+        What::Name => b"name",
+        What::Nesting => b"nesting",
+        What::Tasks => b"tasks",
+        What::Entries => b"entries",
+        What::Members => b"members",
+        What::Components => b"components",
+        What::Alternatives => b"alternatives",
+        What::Formals => b"formals",
+        What::Copies => b"copies",
+    }
+}
+
 // The words that the line of a failure begins with, or all of it.
 #[tactic(auto, unfolding(crate::specs::Failures::first_words))]
 fn first_words(failure: Failure) -> &'static [u8]
@@ -254,6 +367,9 @@ fn first_words(failure: Failure) -> &'static [u8]
         Failure::BadText(TextFault::Misspelled { .. }) => b"ded: program refused: ",
         Failure::BadText(TextFault::LongToken { .. }) => b"ded: limit token ",
         Failure::BadText(TextFault::TooNested { .. }) => b"ded: limit nesting ",
+        Failure::BadProgram(RuleFault::Broken { .. }) => b"ded: program refused: ",
+        Failure::BadProgram(RuleFault::Passed { .. }) => b"ded: limit ",
+        Failure::NotYet { .. } => b"ded: program refused: ",
         Failure::Usage => b"ded: usage\n",
         Failure::BadSequence { .. } => b"ded: sequence refused: ",
         Failure::Unreadable(_) => b"ded: cannot read ",

@@ -1,11 +1,15 @@
 //! The program's one call, and the commands that it has.
 #![tactic(auto)]
 
+mod check_command;
+mod check_text;
 mod command;
 mod failing;
 mod judge_command;
 mod loading;
 mod print_command;
+mod reading;
+mod rule_fault;
 mod run_command;
 mod run_text;
 #[tactic(auto, using(ada_tree::proofs::Rows::rows))]

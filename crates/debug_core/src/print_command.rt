@@ -1,17 +1,12 @@
 // The command that prints a program.
 
-ghost use Rattle.std.specs.Prelude.{◌<◌, ◌-◌, ◌^◌, length, IfOk, IfErr, OnOk};
-ghost use Rattle.ada_tree.specs.PlainProgram.{plain_program};
-ghost use Rattle.ada_parser.specs.Exactly.{IsRead};
+ghost use Rattle.std.specs.Prelude.{IfErr, OnOk};
 ghost use Rattle.debug_core.specs.PrintAnswers.{AnswersPrint, HasPrinted, IsPrintCause};
-ghost use Rattle.debug_core.specs.TextFaults.{IsTextCause};
 
 use crate::failing::{Failure, Source, fail};
 use crate::loading::load_file;
-use crate::text_fault::text_failure;
-use ada_parser::read;
+use crate::reading::read_text;
 use ada_printer::print;
-use ada_tree::Program;
 use ded_io::{Files, Sink};
 use std::alloc::Global;
 
@@ -67,17 +62,5 @@ fn print_file<F: Files, K: Sink>(
             Err(_) => Err(Failure::OutputFailed),
         },
         Err(failure) => Err(failure),
-    }
-}
-
-// The program that a text of the language says.
-fn read_text(alloc: Global, text: &[u8]) -> Result<Program, Failure>
-    requires { length text.now < 2 ^ 32 - 1 }
-    ensures program { IfOk result (λ program. IsRead text.now (plain_program program)) }
-    ensures cause { IfErr result (IsTextCause text.now) }
-{
-    match read(alloc, text) {
-        Ok(program) => Ok(program),
-        Err(error) => Err(text_failure(text, error)),
     }
 }
