@@ -24,3 +24,6 @@ pub mod Covering
 pub mod Inner
 pub mod Lists
 pub mod Choosing
+pub mod TypeDecls
+pub mod TaskDecls
+pub mod Following

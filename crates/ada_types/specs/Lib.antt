@@ -32,3 +32,4 @@ pub mod Covers
 pub mod Inner
 pub mod Chosen
 pub mod Members
+pub mod Decls

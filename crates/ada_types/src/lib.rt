@@ -2,10 +2,14 @@
 #![tactic(auto)]
 
 mod actuals;
+mod bodies;
 mod callees;
 mod calls;
 mod choices;
 mod covered;
+mod declarations;
+mod entries;
+mod enumerations;
 mod errors;
 mod formals;
 mod heads;
@@ -16,6 +20,7 @@ mod known;
 mod making;
 mod marks;
 mod name_sets;
+mod named_types;
 mod names;
 mod namings;
 mod nodes;
@@ -35,10 +40,14 @@ mod statements;
 mod static_values;
 mod table;
 mod targets;
+mod tasks;
 mod things;
+mod types;
 mod verdicts;
+mod walked_decls;
 mod walking;
 
 pub use errors::TypeError;
 pub use operations::law_of_mod;
 pub use static_values::static_value;
+pub use types::types_of;

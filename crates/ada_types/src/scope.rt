@@ -1,19 +1,20 @@
 // What can be used at a place of a program.
 
-ghost use Rattle.std.specs.Prelude.{◌≡◌, ◌≤◌, length, option_map, IfOk, OnOk, OnErr};
+ghost use Rattle.std.specs.Prelude.{◌≡◌, ◌≤◌, ◌∷◌, [], true, false, length, option_map, IfOk, OnOk, OnErr};
 ghost use Rattle.ada_tree.specs.Scope.{is_entry_somewhere, meaning, Scope as PlainScope};
 ghost use Rattle.ada_tree.specs.Declaring.{before_all, with_name, with_types, inside, add_mark, add_kind};
 ghost use Rattle.ada_types.specs.Things.{plain_thing};
-ghost use Rattle.ada_types.specs.Nested.{IsOuter, IsWithin};
 ghost use Rattle.ada_types.specs.Makings.{add_constant};
+ghost use Rattle.ada_types.specs.Nested.{IsOuter, IsOutside, IsWithin};
 
 use crate::predefined::{first_names, first_table};
 use crate::table::Table;
 use crate::things::{Entries, Thing};
-use ada_tree::{Constant, Kind, Mark, NameId, Word};
+use ada_tree::{Constant, Kind, Mark, NameId, Types, Word};
 use scoped_names::ScopedNames;
 use std::alloc::{AllocError, Global};
 use std::marker::Model;
+use std::mem;
 use std::rc::Rc;
 
 /// What can be used at a place: the types, the names with what they mean, of which the first `base` stand before the innermost scope, whether the place is in main outside all bodies, the entries of the task in whose body it is, the tasks whose bodies are declared before, and whether an instance of INTEGER_IO is.
@@ -45,6 +46,14 @@ impl Model for Scope {
 pub(crate) struct Outer {
     base: usize,
     count: usize,
+}
+
+/// What is left for a task body: its names, whether it was in main, and the entries of the task in whose body it was.
+#[derive(Drop)]
+pub(crate) struct Outside {
+    outer: Outer,
+    in_main: bool,
+    own: Rc<Entries>,
 }
 
 impl Scope {
@@ -137,6 +146,49 @@ impl Scope {
     {
         self.names.leave(self.names.len() - outer.count);
         self.base = outer.base;
+    }
+
+    /// Enters the body of a task with these entries, in which no name is declared yet.
+    pub(crate) fn enter_body(&mut self, own: Rc<Entries>) -> Outside
+        ensures scope { self.new ≡ record self.old { here = []; in_main = false; own = own.value } }
+        ensures outside { IsOutside self.old result }
+    {
+        let outer = self.enter();
+        let in_main = self.in_main;
+        self.in_main = false;
+        Outside {
+            outer,
+            in_main,
+            own: mem::replace(&mut self.own, own),
+        }
+    }
+
+    /// Leaves a task body for what is outside it. The task has its body then, and what is in the table stays.
+    pub(crate) fn leave_body(&mut self, outside: Outside, name: Word) -> Result<(), AllocError>
+        requires within { outside.outer.count ≤ length self.old.names }
+        requires ordered { outside.outer.base ≤ outside.outer.count }
+        ensures { OnOk result ((s : PlainScope) → IsOutside s outside → IsWithin self.old s → self.new ≡ record s { types = self.old.types; bodies = name.name.0 ∷ self.old.bodies; has_instance = self.old.has_instance }) }
+    {
+        self.bodies.push(name.name.0)?;
+        self.leave(outside.outer);
+        self.in_main = outside.in_main;
+        self.own = outside.own;
+        Ok(())
+    }
+
+    /// There is an instance of INTEGER_IO.
+    pub(crate) fn make_instance(&mut self)
+        ensures { self.new ≡ record self.old { has_instance = true } }
+    {
+        self.has_instance = true;
+    }
+
+    /// The types, marks and constants, where no name is asked for any more.
+    pub(crate) fn into_types(self) -> Types
+        ensures { result ≡ self.types }
+    {
+        let Scope { table, .. } = self;
+        table.into_types()
     }
 
     /// The scope with a mark more in its table.

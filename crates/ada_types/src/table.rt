@@ -105,6 +105,14 @@ impl Table {
         &self.types
     }
 
+    /// The types, marks and constants, where nothing is looked up any more.
+    pub(crate) fn into_types(self) -> Types
+        ensures { result ≡ self }
+    {
+        let Table { types, .. } = self;
+        types
+    }
+
     /// The kind at a place.
     pub(crate) fn kind(&self, place: u32) -> Option<&Kind>
         ensures { option_map (λ k. k.now) result ≡ kind_at self.now place }

@@ -6,6 +6,7 @@ pub mod Textual
 pub mod Refusing
 pub mod Closing
 pub mod Printing
+pub mod Checking
 pub mod Uppering
 pub mod Feeding
 pub mod Judged

@@ -1,5 +1,6 @@
 pub mod Words
 pub mod RunText
+pub mod CheckText
 pub mod Commands
 pub mod TextFaults
 pub mod RuleFaults
@@ -10,6 +11,7 @@ pub mod LegalTexts
 pub mod MachineForms
 pub mod MachineTexts
 pub mod PrintAnswers
+pub mod CheckAnswers
 pub mod RunAnswers
 pub mod JudgeAnswers
 pub mod Fed

@@ -11,9 +11,12 @@ use Rattle.syn_event.specs.TaskText.{task_text}
 use Rattle.syn_event.specs.Units.{text_of}
 
 -- the name of the program and how many tasks beside main and entries the original has
+abbrev pub counts : List (List ℕ) → Numbering → List ℕ
+counts names numbers =
+    text_of names numbers.main ⧺ (codes " " ⧺ (decimal (original_tasks numbers) ⧺ (codes " " ⧺ (decimal (original_entries numbers) ⧺ codes "\n"))))
+
 abbrev pub header : List (List ℕ) → Numbering → List ℕ
-header names numbers =
-    codes "ded-run 1 " ⧺ (text_of names numbers.main ⧺ (codes " " ⧺ (decimal (original_tasks numbers) ⧺ (codes " " ⧺ (decimal (original_entries numbers) ⧺ codes "\n")))))
+header names numbers = codes "ded-run 1 " ⧺ counts names numbers
 
 abbrev pub end_word : RunEnd → List ℕ
 end_word Ended = codes "end ended "
@@ -28,14 +31,18 @@ end_line end made = end_word end ⧺ (decimal made ⧺ codes "\n")
 abbrev pub task_line : List (List ℕ) → ℕ → TaskInfo → List ℕ
 task_line names t info = task_text names t info ⧺ codes "\n"
 
--- the lines of tasks that are numbered from t on
-abbrev pub task_lines : List (List ℕ) → ℕ → List TaskInfo → List ℕ
-task_lines names t [] = []
-task_lines names t (info ∷ rest) = task_line names t info ⧺ task_lines names (t + 1) rest
+-- the lines of the members of a list, each by its place and itself, from the place i on
+abbrev pub lines_at : {A : Type 0} → (ℕ → A → List ℕ) → ℕ → List A → List ℕ
+lines_at line i [] = []
+lines_at line i (x ∷ rest) = line i x ⧺ lines_at line (i + 1) rest
+
+-- the lines of all tasks; the first one has the number 0
+abbrev pub task_lines : List (List ℕ) → List TaskInfo → List ℕ
+task_lines names tasks = lines_at (task_line names) 0 tasks
 
 -- what follows the events
 abbrev pub rest_of_run : List (List ℕ) → Numbering → RunEnd → ℕ → List ℕ
-rest_of_run names numbers end made = end_line end made ⧺ task_lines names 0 numbers.tasks
+rest_of_run names numbers end made = end_line end made ⧺ task_lines names numbers.tasks
 
 -- The text of a run with these events, this end and this number of actions.
 abbrev pub run_text : List (List ℕ) → Numbering → List Event → RunEnd → ℕ → List ℕ

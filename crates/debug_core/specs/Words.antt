@@ -5,6 +5,8 @@ use Rattle.std.specs.Prelude.{ℕ, ◌+◌, ◌-◌, ◌*◌, Bool, true, false,
 pub data Asked : Type 0 where
   -- the text of the program in a file
   AsksPrint : List ℕ → Asked
+  -- checking the program in a file
+  AsksCheck : List ℕ → Asked
   -- a run of the program in a file, with a number of turns
   AsksRun : List ℕ → ℕ → Asked
   -- judging the sequence in the second file for the program in the first, with a number of local steps
@@ -28,9 +30,10 @@ in_range n = if nat_le n 100000000 then Some n else None
 abbrev pub number_of : List ℕ → Option ℕ
 number_of word = if begins_well word && nat_le (length word) 9 then option_and_then in_range (value_behind 0 word) else None
 
--- print FILE, run FILE - - TURNS, and judge FILE - SEQUENCE STEPS
+-- print FILE, check FILE, run FILE - - TURNS, and judge FILE - SEQUENCE STEPS
 abbrev pub asked_by : List (List ℕ) → Option Asked
-asked_by (command ∷ file ∷ []) = if bytes_eq command (codes "print") then Some (AsksPrint file) else None
+asked_by (command ∷ file ∷ []) =
+    if bytes_eq command (codes "print") then Some (AsksPrint file) else (if bytes_eq command (codes "check") then Some (AsksCheck file) else None)
 asked_by (command ∷ file ∷ inputs ∷ other ∷ number ∷ []) =
     if bytes_eq command (codes "run") && (bytes_eq inputs (codes "-") && bytes_eq other (codes "-"))
     then option_map (AsksRun file) (number_of number)

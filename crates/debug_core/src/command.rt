@@ -1,7 +1,7 @@
 // The words that the program is called with.
 
 ghost use Rattle.std.specs.Prelude.{◌≡◌, ◌≤◌, ◌<◌, map, option_map, string_bytes, length, IfSome};
-ghost use Rattle.debug_core.specs.Words.{AsksPrint, AsksRun, AsksJudge, asked_by, number_of, value_behind, begins_well};
+ghost use Rattle.debug_core.specs.Words.{AsksPrint, AsksCheck, AsksRun, AsksJudge, asked_by, number_of, value_behind, begins_well};
 ghost use Rattle.debug_core.specs.Commands.{asked_as};
 
 /// What the words ask for.
@@ -9,6 +9,8 @@ ghost use Rattle.debug_core.specs.Commands.{asked_as};
 pub(crate) enum Command<'w> {
     /// The text of the program in this file.
     Print(&'w str),
+    /// The numbers of the program in this file.
+    Check(&'w str),
     Run(RunWords<'w>),
     Judge(JudgeWords<'w>),
 }
@@ -37,6 +39,8 @@ pub(crate) fn command_of<'w>(words: &'w [String]) -> Option<Command<'w>>
         [command, file] => {
             if command.as_str() == "print" {
                 Some(Command::Print(file.as_str()))
+            } else if command.as_str() == "check" {
+                Some(Command::Check(file.as_str()))
             } else {
                 None
             }

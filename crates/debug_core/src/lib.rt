@@ -1,6 +1,8 @@
 //! The program's one call, and the commands that it has.
 #![tactic(auto)]
 
+mod check_command;
+mod check_text;
 mod command;
 mod failing;
 mod forms;

@@ -38,6 +38,7 @@ pub(crate) fn read_text(alloc: Global, text: &[u8]) -> Result<Program, Failure>
 }
 
 // The program that a text of the language says, if it meets all static rules by the mode.
+#[tactic(auto, using(crate::proofs::Refusing::text_illegal))]
 pub(crate) fn read_legal(alloc: Global, text: &[u8], mode: Mode) -> Result<LegalProgram, Failure>
     requires { length text.now < 2 ^ 32 - 1 }
     ensures program { IfOk result (λ legal. IsLegalText text.now mode (plain_program legal.program) legal.types legal.numbers) }

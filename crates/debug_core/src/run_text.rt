@@ -4,7 +4,7 @@ ghost use Rattle.std.specs.Prelude.{◌≡◌, ◌<◌, ◌^◌, decimal, length
 ghost use Rattle.ada_tree.specs.NameList.{AreNames};
 ghost use Rattle.ded_io.specs.Counts.{HasCause};
 ghost use Rattle.ded_io.specs.Written.{Wrote};
-ghost use Rattle.debug_core.specs.RunText.{header, end_line, end_word, task_line, task_lines, rest_of_run};
+ghost use Rattle.debug_core.specs.RunText.{header, counts, end_line, end_word, task_line, task_lines, rest_of_run};
 ghost use Rattle.syn_event.specs.Numbering.{is_original_task, is_original_entry, original_tasks, original_entries};
 
 use ada_tree::Names;
@@ -13,7 +13,7 @@ use interp::{RunEnd, RunReport};
 use itoa::Buffer;
 use syn_event::{EntryInfo, Numbers, TaskInfo, name_of, show_task};
 
-// Writes the first line: the program's name and how many tasks and entries the original has.
+// Writes the first line of a run: the program's name and how many tasks and entries the original has.
 #[tactic(auto, using(ded_io::proofs::Writes::writes))]
 pub(crate) fn put_header<K: Sink>(
     names: &Names,
@@ -25,6 +25,20 @@ pub(crate) fn put_header<K: Sink>(
     ensures cause { HasCause (K.faults out.old) (K.faults out.new) result }
 {
     out.put(b"ded-run 1 ")?;
+    put_counts(names, numbers, out)
+}
+
+// Writes the program's name and how many tasks and entries the original has.
+#[tactic(auto, using(ded_io::proofs::Writes::writes))]
+pub(crate) fn put_counts<K: Sink>(
+    names: &Names,
+    numbers: &Numbers,
+    out: &mut K,
+) -> Result<(), SinkError>
+    ensures bytes { Wrote result (K.told out.old) (K.told out.new) (counts names.now numbers.now) }
+    ensures named { OnOk result (AreNames names.now) }
+    ensures cause { HasCause (K.faults out.old) (K.faults out.new) result }
+{
     out.put(name_of(names, numbers.main))?;
     out.put(b" ")?;
     put_number(tasks_of(numbers) as u64, out)?;
@@ -83,7 +97,7 @@ fn put_task<K: Sink>(names: &Names, t: u32, info: &TaskInfo, out: &mut K) -> Res
 }
 
 // Writes a number in decimal.
-fn put_number<K: Sink>(n: u64, out: &mut K) -> Result<(), SinkError>
+pub(crate) fn put_number<K: Sink>(n: u64, out: &mut K) -> Result<(), SinkError>
     ensures bytes { Wrote result (K.told out.old) (K.told out.new) (decimal n) }
     ensures cause { HasCause (K.faults out.old) (K.faults out.new) result }
 {
@@ -92,9 +106,13 @@ fn put_number<K: Sink>(n: u64, out: &mut K) -> Result<(), SinkError>
 }
 
 // Writes the lines of all tasks, from 0.
-fn put_tasks<K: Sink>(names: &Names, tasks: &[TaskInfo], out: &mut K) -> Result<(), SinkError>
+pub(crate) fn put_tasks<K: Sink>(
+    names: &Names,
+    tasks: &[TaskInfo],
+    out: &mut K,
+) -> Result<(), SinkError>
     requires { length tasks.now < 2 ^ 32 }
-    ensures bytes { Wrote result (K.told out.old) (K.told out.new) (task_lines names.now 0 tasks.now) }
+    ensures bytes { Wrote result (K.told out.old) (K.told out.new) (task_lines names.now tasks.now) }
     ensures cause { HasCause (K.faults out.old) (K.faults out.new) result }
 {
     for (t, info) in tasks.iter().enumerate() {

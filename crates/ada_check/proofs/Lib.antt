@@ -1,0 +1,12 @@
+pub mod SoonerLaws
+pub mod Meeting
+pub mod Listing
+pub mod Around
+pub mod Asking
+pub mod Walking
+pub mod Stating
+pub mod Leaving
+pub mod Naming
+pub mod Forming
+pub mod Claiming
+pub mod Marking

@@ -1,0 +1,11 @@
+pub mod Rules
+pub mod Sooner
+pub mod Met
+pub mod Telling
+pub mod Around
+pub mod Nested
+pub mod Members
+pub mod Claiming
+pub mod Waiting
+pub mod Walked
+pub mod Asking

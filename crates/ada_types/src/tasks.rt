@@ -1,0 +1,70 @@
+// Tasks and task types.
+
+ghost use Rattle.std.specs.Prelude.{◌≡◌, false, map, flat_map, Some, IfOk};
+ghost use Rattle.ada_tree.specs.PlainDecl.{plain_priority, plain_task};
+ghost use Rattle.ada_tree.specs.Scope.{integer_kind};
+ghost use Rattle.ada_tree.specs.Declaring.{task_thing, after_task};
+ghost use Rattle.ada_tree.specs.Sites.{static_of, task_sites};
+ghost use Rattle.ada_types.specs.Met.{met};
+ghost use Rattle.ada_types.specs.Entries.{plain_entry};
+ghost use Rattle.ada_types.specs.Things.{plain_thing};
+ghost use Rattle.ada_types.specs.Decls.{IsDecl};
+
+use crate::entries::walk_entries;
+use crate::kinds::INTEGER;
+use crate::refusals::{Refusal, first};
+use crate::scope::Scope;
+use crate::things::{Entries, EntryPart, Thing};
+use crate::walked_decls::WalkedDecl;
+use crate::walking::walk_static;
+use ada_tree::{Priority, TaskUnit};
+use std::alloc::{AllocError, Global};
+use std::rc::Rc;
+
+// Walks the priorities of a task.
+fn walk_priorities(scope: &Scope, priorities: &[Priority]) -> Option<Refusal>
+    ensures { result ≡ met (flat_map (λ p. static_of scope.now (Some integer_kind) p.value) (map plain_priority priorities.now)) }
+{
+    let mut refusal = None;
+    for priority in priorities {
+        refusal = first(
+            refusal,
+            walk_static(scope, Some(INTEGER), &priority.value).refusal,
+        );
+    }
+    refusal
+}
+
+// A task type or a single task with these entries.
+fn task_of(alloc: Global, of_kind: bool, parts: Vec<EntryPart>) -> Result<Thing, AllocError>
+    ensures { IfOk result (λ thing. plain_thing thing ≡ task_thing of_kind (map plain_entry parts.items)) }
+{
+    match Rc::new(alloc, Entries::new(parts)) {
+        Ok(entries) => Ok(if of_kind {
+            Thing::TaskType(entries)
+        } else {
+            Thing::SingleTask(entries)
+        }),
+        Err(_) => Err(AllocError),
+    }
+}
+
+/// Walks the declaration of a task or a task type.
+pub(crate) fn walk_task(
+    scope: Scope,
+    alloc: Global,
+    task: &TaskUnit,
+) -> Result<WalkedDecl, AllocError>
+    ensures { IfOk result (IsDecl (task_sites scope (plain_task task.now)) (after_task scope (plain_task task.now)) false) }
+{
+    let walked = walk_entries(&scope, alloc, &task.entries)?;
+    let priorities = walk_priorities(&scope, &task.priorities);
+    let thing = task_of(alloc, task.of_kind, walked.parts)?;
+    let mut scope = scope;
+    scope.declare(task.name, thing)?;
+    Ok(WalkedDecl {
+        scope,
+        refusal: first(walked.refusal, priorities),
+        of_tasks: false,
+    })
+}
