@@ -29,11 +29,7 @@ pub(crate) fn put_numbers<K: Sink>(
 }
 
 // Writes the lines of all entries, from 1.
-fn put_entries<K: Sink>(
-    names: &Names,
-    entries: &[EntryInfo],
-    out: &mut K,
-) -> Result<(), SinkError>
+fn put_entries<K: Sink>(names: &Names, entries: &[EntryInfo], out: &mut K) -> Result<(), SinkError>
     requires { length entries.now < 2 ^ 32 }
     ensures bytes { Wrote result (K.told out.old) (K.told out.new) (entry_lines names.now entries.now) }
     ensures cause { HasCause (K.faults out.old) (K.faults out.new) result }

@@ -146,7 +146,13 @@ fn put_failure<K: Sink>(
         Failure::BadText(fault) => put_text_fault(fault, err),
         Failure::BadProgram(fault) => put_rule_fault(fault, err),
         Failure::NotYet { line, column } => {
-            put_place(Failure::NotYet { line, column }, b"NotYet", line, column, err)
+            put_place(
+                Failure::NotYet { line, column },
+                b"NotYet",
+                line,
+                column,
+                err,
+            )
         }
         Failure::Usage => err.put(first_words(Failure::Usage)),
         Failure::BadSequence { fault, line } => put_fault(fault, line, err),
@@ -179,7 +185,13 @@ fn put_text_fault<K: Sink>(fault: TextFault, err: &mut K) -> Result<(), SinkErro
 {
     match fault {
         TextFault::Misspelled { what, line, column } => {
-            put_place(Failure::BadText(fault), misspelling_name(what), line, column, err)
+            put_place(
+                Failure::BadText(fault),
+                misspelling_name(what),
+                line,
+                column,
+                err,
+            )
         }
         TextFault::LongToken { limit } => put_limit(Failure::BadText(fault), limit as u64, err),
         TextFault::TooNested { limit } => put_limit(Failure::BadText(fault), limit as u64, err),
@@ -193,7 +205,13 @@ fn put_rule_fault<K: Sink>(fault: RuleFault, err: &mut K) -> Result<(), SinkErro
 {
     match fault {
         RuleFault::Broken { rule, line, column } => {
-            put_place(Failure::BadProgram(fault), rule_name(rule), line, column, err)
+            put_place(
+                Failure::BadProgram(fault),
+                rule_name(rule),
+                line,
+                column,
+                err,
+            )
         }
         RuleFault::Passed { what, limit } => put_passed(what, limit, err),
     }

@@ -9,8 +9,7 @@ ghost use Rattle.ada_tree.specs.PlainProgram.{plain_program};
 ghost use Rattle.debug_core.specs.MachineForms.{is_plain_entry, is_plain_task, is_plain_stmt, is_plain_call, is_plain_accept, stmts_beyond, handlers_beyond, body_beyond, objects_beyond, task_beyond, decl_beyond, decls_beyond, is_body, first_beyond};
 
 use ada_tree::{
-    Accept, Body, Call, Decl, DeclKind, EntryDecl, Handler, Program, Span, Stmt, StmtKind,
-    TaskUnit,
+    Accept, Body, Call, Decl, DeclKind, EntryDecl, Handler, Program, Span, Stmt, StmtKind, TaskUnit,
 };
 
 /// The place of the first declaration or statement that the machine does not have.

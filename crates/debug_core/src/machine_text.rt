@@ -16,11 +16,7 @@ use syn_event::Mode;
 
 // The program that a text of the language says, if it meets all static rules by the mode and has no forms but those of the machine.
 #[tactic(auto, using(crate::proofs::MachineTexting::machine_program, crate::proofs::MachineTexting::machine_legal, crate::proofs::MachineTexting::machine_beyond, crate::proofs::MachineTexting::machine_unread))]
-pub(crate) fn read_program(
-    alloc: Global,
-    text: &[u8],
-    mode: Mode,
-) -> Result<LegalProgram, Failure>
+pub(crate) fn read_program(alloc: Global, text: &[u8], mode: Mode) -> Result<LegalProgram, Failure>
     requires { length text.now < 2 ^ 32 - 1 }
     ensures program { IfOk result (λ read. IsProgram text.now mode (plain_program read.program) read.types read.numbers) }
     ensures legal { IfOk result (λ read. Legal (plain_program read.program) read.types read.numbers mode) }

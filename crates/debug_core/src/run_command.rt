@@ -111,14 +111,7 @@ fn write_run<K: Sink>(
         Ok(()) => {}
         Err(_) => return Err(Failure::OutputFailed),
     }
-    let report = match run(
-        alloc,
-        &mut machine,
-        &read.numbers,
-        &mut choices,
-        turns,
-        out,
-    ) {
+    let report = match run(alloc, &mut machine, &read.numbers, &mut choices, turns, out) {
         Ok(report) => report,
         Err(RunError::Memory) => return Err(Failure::Memory),
         Err(RunError::Sink) => return Err(Failure::OutputFailed),

@@ -7,6 +7,8 @@ mod checking;
 mod judging;
 #[cfg(test)]
 mod printing;
+#[cfg(test)]
+mod refusing;
 mod row;
 #[cfg(test)]
 mod tests;
