@@ -1,5 +1,5 @@
 -- What is known of a text whose program meets all static rules, by whether it has forms that the machine does not have.
-use Rattle.std.proofs.Common.{◌≡◌, ℕ, List, Option, Some, None, refl, sym, subst}
+use Rattle.std.proofs.Common.{◌≡◌, ℕ, List, Option, Some, None, refl, sym, subst, ◌∙◌}
 use Rattle.ada_lexer.specs.Places.{line_at, column_at}
 use Rattle.ada_tree.specs.declared.naming.Span.{Span}
 use Rattle.ada_tree.specs.PlainProgram.{PProgram}
@@ -13,7 +13,10 @@ use Rattle.debug_core.specs.MachineForms.{first_beyond}
 use Rattle.debug_core.specs.MachineTexts.{IsProgram, IsReadCause}
 use Rattle.debug_core.specs.declared.failing.Failure.{Failure}
 use Rattle.debug_core.specs.declared.failing.Failure.TheVariants.{BadText, BadProgram, NotYet, Usage, BadSequence, Unreadable, OutputFailed, TooLong, TooMany, Memory}
-use Rattle.debug_core.proofs.MachineForming.{forms_of}
+use Rattle.debug_core.proofs.MachineForming.{forms_of, nothing_beyond}
+
+something : (x : Span) → Some x ≡ None → ⊥
+something x e = cc
 
 -- no form is beyond the machine
 pub machine_program : (text : List ℕ) (mode : Mode) (p : PProgram) (types : TypeTable) (numbers : Numbering) → IsLegalText text mode p types numbers → None ≡ first_beyond p → IsProgram text mode p types numbers
@@ -26,7 +29,7 @@ machine_legal text mode p types numbers legal none = plain_legal p types numbers
 pub machine_beyond : (text : List ℕ) (mode : Mode) (p : PProgram) (types : TypeTable) (numbers : Numbering) (at : Span) (failure : Failure) → IsLegalText text mode p types numbers → Some at ≡ first_beyond p →
     failure ≡ NotYet (line_at text at.start) (column_at text at.start) → IsReadCause text mode failure
 machine_beyond text mode p types numbers at failure legal first is =
-    subst (λ (f : Failure). IsReadCause text mode f) (sym is) record { program = p; types = types; numbers = numbers; legal_text = legal; at = at; first = sym first; line_is = refl; column_is = refl }
+    subst (λ (f : Failure). IsReadCause text mode f) (sym is) record { program = p; types = types; numbers = numbers; legal_text = legal; lacking = λ forms. something at (first ∙ nothing_beyond p forms); at = at; first = sym first; line_is = refl; column_is = refl }
 
 -- the text gives no program that meets the rules
 pub machine_unread : (text : List ℕ) (mode : Mode) (failure : Failure) → IsLegalCause text mode failure → IsReadCause text mode failure

@@ -20,12 +20,13 @@ pub record IsProgram (text : List ℕ) (mode : Mode) (program : PProgram) (types
   pub legal_text : IsLegalText text mode program types numbers
   pub forms : HasPlainForms program
 
--- The text is that of a program which meets every static rule, and the first form that the machine does not have starts at this line and column.
+-- The text is that of a program which meets every static rule and has not the machine's forms alone; the first that the machine does not have starts at this line and column.
 pub record IsBeyond (text : List ℕ) (mode : Mode) (line column : ℕ) : Type 0 where
   pub program : PProgram
   pub types : TypeTable
   pub numbers : Numbering
   pub legal_text : IsLegalText text mode program types numbers
+  pub lacking : HasPlainForms program → ⊥
   pub at : Span
   pub first : first_beyond program ≡ Some at
   pub line_is : line ≡ line_at text at.start
