@@ -4,13 +4,13 @@ ghost use Rattle.std.specs.Prelude.{◌≡◌, ◌<◌, ◌^◌, ◌+◌, length
 ghost use Rattle.std.specs.Fmt.{signed_decimal};
 ghost use Rattle.ded_io.specs.Counts.{HasCause};
 ghost use Rattle.ded_io.specs.Written.{Wrote};
-ghost use Rattle.debug_core.specs.CheckText.{check_text, entry_line, entry_lines, family_text};
+ghost use Rattle.debug_core.specs.CheckText.{check_header, check_text, check_words, entry_line, entry_lines, family_text, number_lines};
 
 use crate::run_text::{put_counts, put_number, put_tasks};
 use ada_tree::Names;
 use ded_io::{Sink, SinkError};
 use itoa::Buffer;
-use syn_event::{EntryInfo, Numbers, name_of};
+use syn_event::{EntryInfo, Numbers, TaskInfo, name_of};
 
 // Writes the numbers of a program's tasks and entries.
 #[tactic(auto, using(ded_io::proofs::Writes::writes))]
@@ -22,10 +22,43 @@ pub(crate) fn put_numbers<K: Sink>(
     ensures bytes { Wrote result (K.told out.old) (K.told out.new) (check_text names.now numbers.now) }
     ensures cause { HasCause (K.faults out.old) (K.faults out.new) result }
 {
-    out.put(b"ded-check 1 ")?;
-    put_counts(names, numbers, out)?;
-    put_tasks(names, &numbers.tasks, out)?;
-    put_entries(names, &numbers.entries, out)
+    put_header(names, numbers, out)?;
+    put_lines(names, &numbers.tasks, &numbers.entries, out)
+}
+
+// Writes the first line: the program's name and how many tasks and entries it has.
+#[tactic(auto, using(ded_io::proofs::Writes::writes))]
+fn put_header<K: Sink>(names: &Names, numbers: &Numbers, out: &mut K) -> Result<(), SinkError>
+    ensures bytes { Wrote result (K.told out.old) (K.told out.new) (check_header names.now numbers.now) }
+    ensures cause { HasCause (K.faults out.old) (K.faults out.new) result }
+{
+    out.put(check_words())?;
+    put_counts(names, numbers, out)
+}
+
+// The words that the text begins with.
+#[tactic(auto, unfolding(crate::specs::CheckText::check_words))]
+fn check_words() -> &'static [u8]
+    ensures { result.now ≡ check_words }
+{
+    b"ded-check 1 "
+}
+
+// Writes the lines of all tasks and of all entries.
+#[tactic(auto, using(ded_io::proofs::Writes::writes))]
+fn put_lines<K: Sink>(
+    names: &Names,
+    tasks: &[TaskInfo],
+    entries: &[EntryInfo],
+    out: &mut K,
+) -> Result<(), SinkError>
+    requires tasks { length tasks.now < 2 ^ 32 }
+    requires entries { length entries.now < 2 ^ 32 }
+    ensures bytes { Wrote result (K.told out.old) (K.told out.new) (number_lines names.now tasks.now entries.now) }
+    ensures cause { HasCause (K.faults out.old) (K.faults out.new) result }
+{
+    put_tasks(names, tasks, out)?;
+    put_entries(names, entries, out)
 }
 
 // Writes the lines of all entries, from 1.

@@ -34,7 +34,7 @@ pub(crate) fn check_with(
     entries.push(file_of(alloc, "P1", row.program)?)?;
     entries.push(file_of(alloc, "s", row.sequence)?)?;
     let mut files = MemoryFiles::new(entries, Vec::new(alloc));
-    let mut out = MemorySink::new(alloc, vec![in alloc; failing]?, 4000)?;
+    let mut out = MemorySink::new(alloc, vec![in alloc; failing]?, 20_000)?;
     let mut err = MemorySink::new(alloc, Vec::new(alloc), 1000)?;
     let status = debug_main(alloc, words.as_slice(), &mut files, &mut out, &mut err);
     assert_eq!(rt; status, row.status);

@@ -4,6 +4,8 @@
 #[cfg(test)]
 mod checking;
 #[cfg(test)]
+mod checks;
+#[cfg(test)]
 mod judging;
 #[cfg(test)]
 mod printing;

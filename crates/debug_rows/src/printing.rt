@@ -9,7 +9,7 @@ const RENDEZVOUS: &[u8] =
     b"procedure P1 is\n   task B is\n      entry PUT;\n   end B;\n   task body B is\n   begin\n      accept PUT;\n   end B;\nbegin\n   B.PUT;\nend P1;\n";
 
 // A bounded buffer between three producers and two consumers, as one might write it.
-const BOUNDED: &[u8] = b"with TEXT_IO; use TEXT_IO;
+pub(crate) const BOUNDED: &[u8] = b"with TEXT_IO; use TEXT_IO;
 procedure BOUNDED is
    package INT_IO is new INTEGER_IO(INTEGER); use INT_IO;
    SIZE : constant := 2;
