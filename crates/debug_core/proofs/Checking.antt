@@ -8,7 +8,7 @@ use Rattle.ada_tree.specs.TypeTable.{TypeTable}
 use Rattle.syn_event.specs.declared.numbering.Mode.TheVariants.{Original}
 use Rattle.syn_event.specs.Numbering.{Numbering}
 use Rattle.debug_core.specs.declared.failing.Failure.{Failure}
-use Rattle.debug_core.specs.declared.failing.Failure.TheVariants.{Refused, BadText, BadProgram, NotYet, Usage, BadSequence, Unreadable, OutputFailed, TooLong, TooMany, Memory}
+use Rattle.debug_core.specs.declared.failing.Failure.TheVariants.{BadText, BadProgram, NotYet, Usage, BadSequence, Unreadable, OutputFailed, TooLong, TooMany, Memory}
 use Rattle.debug_core.specs.Causes.{Sides, WasLoaded}
 use Rattle.debug_core.specs.CheckAnswers.{AnswersCheck, HasCheckCause, IsCheckFailure, HasChecked, IsHalfChecked, checked_limit}
 use Rattle.debug_core.specs.CheckText.{check_text}
@@ -18,7 +18,6 @@ use Rattle.debug_core.specs.Outputs.{IsWritten}
 use Rattle.debug_core.proofs.Closing.{line_of, unsaid_line}
 
 check_cause : (file : List ℕ) (s : Sides) (failure : Failure) → IsCheckFailure file s failure → IsWritten s.err s.err' s.lines s.lines' (failure_line file [] failure) → HasCheckCause file s (Err failure)
-check_cause file s Refused h line = h
 check_cause file s (BadText fault) h line = h
 check_cause file s (BadProgram fault) h line = h
 check_cause file s (NotYet row column) h line = h

@@ -15,11 +15,13 @@ use Rattle.interp.specs.declared.report.RunEnd.{RunEnd}
 use Rattle.syn_event.specs.Numbering.{Numbering}
 use Rattle.task_machine.specs.declared.verdict.Verdict.{Verdict}
 use Rattle.debug_core.specs.declared.failing.Failure.{Failure}
-use Rattle.debug_core.specs.declared.failing.Failure.TheVariants.{Refused, BadText, BadProgram, NotYet, Usage, BadSequence, Unreadable, OutputFailed, TooLong, TooMany, Memory}
+use Rattle.debug_core.specs.declared.failing.Failure.TheVariants.{BadText, BadProgram, NotYet, Usage, BadSequence, Unreadable, OutputFailed, TooLong, TooMany, Memory}
 use Rattle.debug_core.specs.declared.failing.Source.TheVariants.{Program, Sequence}
 use Rattle.debug_core.specs.Failures.{failure_status, failure_line, failure_of, first_words, Fails}
 use Rattle.debug_core.specs.Outputs.{IsWritten, IsUntouched}
-use Rattle.debug_core.specs.Causes.{Sides, HasErrorLine, WasLoaded, IsHeld, IsUnread, IsLoadCause, IsReadCause, IsProgram}
+use Rattle.debug_core.specs.Causes.{Sides, HasErrorLine, WasLoaded, IsHeld, IsUnread, IsLoadCause}
+use Rattle.debug_core.specs.MachineTexts.{IsProgram, IsReadCause}
+use Rattle.syn_event.specs.declared.numbering.Mode.TheVariants.{Any, Original}
 use Rattle.debug_core.specs.RunAnswers.{AnswersRun, IsFileCause, IsOutputCause, IsRunFailure, HasRunCause, run_limit}
 use Rattle.debug_core.specs.JudgeAnswers.{AnswersJudge, AreLoadCauses, IsFilesCause, IsJudgeCause, IsLinesCause, IsVerdictCause, IsJudgeFailure, HasJudgeCause, HasBadSequence, HoldsBadSequence, WereLoaded, judged_limit, sequence_limit}
 
@@ -37,7 +39,6 @@ failed_without A E e failure program sequence err err' lines lines' status its_s
 
 pub line_of : (A : Type 0) (program sequence : List ℕ) (s : Sides) (failure : Failure) → IsWritten s.err s.err' s.lines s.lines' (failure_line program sequence failure) →
     HasErrorLine {A = A} program sequence s (Err failure)
-line_of A program sequence s Refused h = h
 line_of A program sequence s (BadText fault) h = h
 line_of A program sequence s (BadProgram fault) h = h
 line_of A program sequence s (NotYet row column) h = h
@@ -62,7 +63,6 @@ unsaid_line program sequence s (line, still) = (line ∙ no_bytes s.err, still)
 -- ---- a run
 
 run_cause : (file : List ℕ) (turns : ℕ) (s : Sides) (failure : Failure) → IsRunFailure file s failure → IsWritten s.err s.err' s.lines s.lines' (failure_line file [] failure) → HasRunCause file turns s (Err failure)
-run_cause file turns s Refused h line = h
 run_cause file turns s (BadText fault) h line = h
 run_cause file turns s (BadProgram fault) h line = h
 run_cause file turns s (NotYet row column) h line = h
@@ -82,10 +82,9 @@ run_failed file turns s status failure cause (inr (seven, line)) =
 
 pub file_unloaded : (told : Option (List ToldFile)) (file : List ℕ) (reads reads' : ℕ) (out : Option (List ℕ)) (writes : ℕ) (failure : Failure) →
     IsLoadCause told file Program run_limit reads reads' failure → IsFileCause told file reads reads' out out writes writes failure
-file_unloaded told file reads reads' out writes Refused h = absurd h
-file_unloaded told file reads reads' out writes (BadText fault) h = h
-file_unloaded told file reads reads' out writes (BadProgram fault) h = h
-file_unloaded told file reads reads' out writes (NotYet row column) h = h
+file_unloaded told file reads reads' out writes (BadText fault) h = absurd h
+file_unloaded told file reads reads' out writes (BadProgram fault) h = absurd h
+file_unloaded told file reads reads' out writes (NotYet row column) h = absurd h
 file_unloaded told file reads reads' out writes Usage h = h
 file_unloaded told file reads reads' out writes (BadSequence found line) h = h
 file_unloaded told file reads reads' out writes (Unreadable source) h = (h.0, h.1, (refl, refl))
@@ -95,11 +94,10 @@ file_unloaded told file reads reads' out writes (TooMany limit) h = h
 file_unloaded told file reads reads' out writes Memory h = h
 
 pub file_unread : (told : Option (List ToldFile)) (file text : List ℕ) (reads reads' : ℕ) (out : Option (List ℕ)) (writes : ℕ) (failure : Failure) →
-    WasLoaded told file run_limit text → IsReadCause failure → IsFileCause told file reads reads' out out writes writes failure
-file_unread told file text reads reads' out writes Refused loaded h = ((text, loaded), (refl, refl))
-file_unread told file text reads reads' out writes (BadText fault) loaded h = h
-file_unread told file text reads reads' out writes (BadProgram fault) loaded h = h
-file_unread told file text reads reads' out writes (NotYet row column) loaded h = h
+    WasLoaded told file run_limit text → IsReadCause text Any failure → IsFileCause told file reads reads' out out writes writes failure
+file_unread told file text reads reads' out writes (BadText fault) loaded h = (record { text = text; loaded = loaded; cause = h }, (refl, refl))
+file_unread told file text reads reads' out writes (BadProgram fault) loaded h = (record { text = text; loaded = loaded; cause = h }, (refl, refl))
+file_unread told file text reads reads' out writes (NotYet row column) loaded h = (record { text = text; loaded = loaded; cause = h }, (refl, refl))
 file_unread told file text reads reads' out writes Usage loaded h = h
 file_unread told file text reads reads' out writes (BadSequence found line) loaded h = h
 file_unread told file text reads reads' out writes (Unreadable source) loaded h = absurd h
@@ -110,10 +108,9 @@ file_unread told file text reads reads' out writes Memory loaded h = h
 
 pub file_unwritten : (told : Option (List ToldFile)) (file : List ℕ) (reads reads' : ℕ) (out out' : Option (List ℕ)) (writes writes' : ℕ) (failure : Failure) →
     IsOutputCause writes writes' failure → IsFileCause told file reads reads' out out' writes writes' failure
-file_unwritten told file reads reads' out out' writes writes' Refused h = absurd h
-file_unwritten told file reads reads' out out' writes writes' (BadText fault) h = h
-file_unwritten told file reads reads' out out' writes writes' (BadProgram fault) h = h
-file_unwritten told file reads reads' out out' writes writes' (NotYet row column) h = h
+file_unwritten told file reads reads' out out' writes writes' (BadText fault) h = absurd h
+file_unwritten told file reads reads' out out' writes writes' (BadProgram fault) h = absurd h
+file_unwritten told file reads reads' out out' writes writes' (NotYet row column) h = absurd h
 file_unwritten told file reads reads' out out' writes writes' Usage h = h
 file_unwritten told file reads reads' out out' writes writes' (BadSequence found line) h = h
 file_unwritten told file reads reads' out out' writes writes' (Unreadable source) h = absurd h
@@ -126,7 +123,6 @@ file_unwritten told file reads reads' out out' writes writes' Memory h = h
 
 judge_cause : (file sequence : List ℕ) (bound : ℕ) (s : Sides) (failure : Failure) → IsJudgeFailure file sequence s failure → IsWritten s.err s.err' s.lines s.lines' (failure_line file sequence failure) →
     HasJudgeCause file sequence bound s (Err failure)
-judge_cause file sequence bound s Refused h line = h
 judge_cause file sequence bound s (BadText fault) h line = h
 judge_cause file sequence bound s (BadProgram fault) h line = h
 judge_cause file sequence bound s (NotYet row column) h line = h
@@ -147,7 +143,6 @@ judge_failed file sequence bound s status failure cause (inr (seven, line)) =
 
 pub first_unloaded : (told : Option (List ToldFile)) (file sequence : List ℕ) (reads reads' : ℕ) (failure : Failure) →
     IsLoadCause told file Program judged_limit reads reads' failure → AreLoadCauses told file sequence reads reads' failure
-first_unloaded told file sequence reads reads' Refused h = h
 first_unloaded told file sequence reads reads' (BadText fault) h = h
 first_unloaded told file sequence reads reads' (BadProgram fault) h = h
 first_unloaded told file sequence reads reads' (NotYet row column) h = h
@@ -166,7 +161,6 @@ later_unread told file reads mid reads' le (inr rose) = inr (rose_behind reads m
 
 pub second_unloaded : (told : Option (List ToldFile)) (file sequence text : List ℕ) (reads mid reads' : ℕ) (failure : Failure) → WasLoaded told file judged_limit text → reads ≤ mid →
     IsLoadCause told sequence Sequence sequence_limit mid reads' failure → AreLoadCauses told file sequence reads reads' failure
-second_unloaded told file sequence text reads mid reads' Refused loaded le h = h
 second_unloaded told file sequence text reads mid reads' (BadText fault) loaded le h = h
 second_unloaded told file sequence text reads mid reads' (BadProgram fault) loaded le h = h
 second_unloaded told file sequence text reads mid reads' (NotYet row column) loaded le h = h
@@ -181,10 +175,9 @@ second_unloaded told file sequence text reads mid reads' Memory loaded le h = h
 
 pub files_unloaded : (told : Option (List ToldFile)) (file sequence : List ℕ) (reads reads' : ℕ) (out : Option (List ℕ)) (writes : ℕ) (failure : Failure) →
     AreLoadCauses told file sequence reads reads' failure → IsFilesCause told file sequence reads reads' out out writes writes failure
-files_unloaded told file sequence reads reads' out writes Refused h = absurd h
-files_unloaded told file sequence reads reads' out writes (BadText fault) h = h
-files_unloaded told file sequence reads reads' out writes (BadProgram fault) h = h
-files_unloaded told file sequence reads reads' out writes (NotYet row column) h = h
+files_unloaded told file sequence reads reads' out writes (BadText fault) h = absurd h
+files_unloaded told file sequence reads reads' out writes (BadProgram fault) h = absurd h
+files_unloaded told file sequence reads reads' out writes (NotYet row column) h = absurd h
 files_unloaded told file sequence reads reads' out writes Usage h = h
 files_unloaded told file sequence reads reads' out writes (BadSequence found line) h = absurd h
 files_unloaded told file sequence reads reads' out writes (Unreadable Program) h = (h, (refl, refl))
@@ -196,10 +189,9 @@ files_unloaded told file sequence reads reads' out writes Memory h = (refl, refl
 
 pub files_unjudged : (told : Option (List ToldFile)) (file sequence text lines : List ℕ) (reads reads' : ℕ) (out out' : Option (List ℕ)) (writes writes' : ℕ) (failure : Failure) →
     WereLoaded told file sequence text lines → IsJudgeCause text lines out out' writes writes' failure → IsFilesCause told file sequence reads reads' out out' writes writes' failure
-files_unjudged told file sequence text lines reads reads' out out' writes writes' Refused loaded h = ((text, lines, loaded), h)
-files_unjudged told file sequence text lines reads reads' out out' writes writes' (BadText fault) loaded h = h
-files_unjudged told file sequence text lines reads reads' out out' writes writes' (BadProgram fault) loaded h = h
-files_unjudged told file sequence text lines reads reads' out out' writes writes' (NotYet row column) loaded h = h
+files_unjudged told file sequence text lines reads reads' out out' writes writes' (BadText fault) loaded h = (record { text = text; lines = lines; loaded = loaded; cause = h.0 }, h.1)
+files_unjudged told file sequence text lines reads reads' out out' writes writes' (BadProgram fault) loaded h = (record { text = text; lines = lines; loaded = loaded; cause = h.0 }, h.1)
+files_unjudged told file sequence text lines reads reads' out out' writes writes' (NotYet row column) loaded h = (record { text = text; lines = lines; loaded = loaded; cause = h.0 }, h.1)
 files_unjudged told file sequence text lines reads reads' out out' writes writes' Usage loaded h = h
 files_unjudged told file sequence text lines reads reads' out out' writes writes' (BadSequence found line) loaded h = (record { text = text; lines = lines; loaded = loaded; fault = h.0 }, h.1)
 files_unjudged told file sequence text lines reads reads' out out' writes writes' (Unreadable Program) loaded h = absurd h
@@ -209,11 +201,10 @@ files_unjudged told file sequence text lines reads reads' out out' writes writes
 files_unjudged told file sequence text lines reads reads' out out' writes writes' (TooMany limit) loaded h = (record { text = text; lines = lines; loaded = loaded; fault = h.0 }, h.1)
 files_unjudged told file sequence text lines reads reads' out out' writes writes' Memory loaded h = h
 
-pub text_unread : (text lines : List ℕ) (out : Option (List ℕ)) (writes : ℕ) (failure : Failure) → IsReadCause failure → IsJudgeCause text lines out out writes writes failure
-text_unread text lines out writes Refused h = (refl, refl)
-text_unread text lines out writes (BadText fault) h = h
-text_unread text lines out writes (BadProgram fault) h = h
-text_unread text lines out writes (NotYet row column) h = h
+pub text_unread : (text lines : List ℕ) (out : Option (List ℕ)) (writes : ℕ) (failure : Failure) → IsReadCause text Original failure → IsJudgeCause text lines out out writes writes failure
+text_unread text lines out writes (BadText fault) h = (h, (refl, refl))
+text_unread text lines out writes (BadProgram fault) h = (h, (refl, refl))
+text_unread text lines out writes (NotYet row column) h = (h, (refl, refl))
 text_unread text lines out writes Usage h = h
 text_unread text lines out writes (BadSequence found line) h = absurd h
 text_unread text lines out writes (Unreadable source) h = h
@@ -223,11 +214,10 @@ text_unread text lines out writes (TooMany limit) h = absurd h
 text_unread text lines out writes Memory h = (refl, refl)
 
 pub text_unjudged : (text lines : List ℕ) (p : PProgram) (types : TypeTable) (numbers : Numbering) (out out' : Option (List ℕ)) (writes writes' : ℕ) (failure : Failure) →
-    IsProgram text p types numbers → IsLinesCause p numbers lines out out' writes writes' failure → IsJudgeCause text lines out out' writes writes' failure
-text_unjudged text lines p types numbers out out' writes writes' Refused is h = absurd h
-text_unjudged text lines p types numbers out out' writes writes' (BadText fault) is h = h
-text_unjudged text lines p types numbers out out' writes writes' (BadProgram fault) is h = h
-text_unjudged text lines p types numbers out out' writes writes' (NotYet row column) is h = h
+    IsProgram text Original p types numbers → IsLinesCause p numbers lines out out' writes writes' failure → IsJudgeCause text lines out out' writes writes' failure
+text_unjudged text lines p types numbers out out' writes writes' (BadText fault) is h = absurd h
+text_unjudged text lines p types numbers out out' writes writes' (BadProgram fault) is h = absurd h
+text_unjudged text lines p types numbers out out' writes writes' (NotYet row column) is h = absurd h
 text_unjudged text lines p types numbers out out' writes writes' Usage is h = h
 text_unjudged text lines p types numbers out out' writes writes' (BadSequence found line) is h = (record { program = p; types = types; numbers = numbers; is_program = is; fault = h.0 }, h.1)
 text_unjudged text lines p types numbers out out' writes writes' (Unreadable source) is h = h
@@ -237,7 +227,7 @@ text_unjudged text lines p types numbers out out' writes writes' (TooMany limit)
 text_unjudged text lines p types numbers out out' writes writes' Memory is h = h
 
 pub text_outcome : (text lines : List ℕ) (p : PProgram) (types : TypeTable) (numbers : Numbering) (out out' : Option (List ℕ)) (writes writes' : ℕ) (r : Result Verdict Failure) →
-    IsProgram text p types numbers → IfErr r (IsLinesCause p numbers lines out out' writes writes') → IfErr r (IsJudgeCause text lines out out' writes writes')
+    IsProgram text Original p types numbers → IfErr r (IsLinesCause p numbers lines out out' writes writes') → IfErr r (IsJudgeCause text lines out out' writes writes')
 text_outcome text lines p types numbers out out' writes writes' (Ok v) is h = h
 text_outcome text lines p types numbers out out' writes writes' (Err failure) is h = text_unjudged text lines p types numbers out out' writes writes' failure is h
 
@@ -252,7 +242,6 @@ lines_refused p numbers lines out writes error.Memory h = (refl, refl)
 
 pub lines_unwritten : (p : PProgram) (numbers : Numbering) (lines : List ℕ) (out out' : Option (List ℕ)) (writes writes' : ℕ) (failure : Failure) →
     IsVerdictCause out out' writes writes' failure → IsLinesCause p numbers lines out out' writes writes' failure
-lines_unwritten p numbers lines out out' writes writes' Refused h = h
 lines_unwritten p numbers lines out out' writes writes' (BadText fault) h = h
 lines_unwritten p numbers lines out out' writes writes' (BadProgram fault) h = h
 lines_unwritten p numbers lines out out' writes writes' (NotYet row column) h = h

@@ -1,14 +1,6 @@
-pub mod Spelling
-pub mod Declaring
-pub mod Rowed
-pub mod Saying
-pub mod Numbered
-pub mod Differing
-pub mod Ruling
-pub mod Identifying
-pub mod Originals
-pub mod Legality
-pub mod Together
+pub mod FormPlaces
+pub mod MachineForming
+pub mod MachineTexting
 pub mod Lining
 pub mod Textual
 pub mod Refusing

@@ -7,7 +7,7 @@ use Rattle.ada_tree.specs.PlainProgram.{PProgram}
 use Rattle.ada_parser.specs.Exactly.{IsRead}
 use Rattle.ada_printer.specs.ProgramText.{program_text}
 use Rattle.debug_core.specs.declared.failing.Failure.{Failure}
-use Rattle.debug_core.specs.declared.failing.Failure.TheVariants.{Refused, BadText, BadProgram, NotYet, Usage, BadSequence, Unreadable, OutputFailed, TooLong, TooMany, Memory}
+use Rattle.debug_core.specs.declared.failing.Failure.TheVariants.{BadText, BadProgram, NotYet, Usage, BadSequence, Unreadable, OutputFailed, TooLong, TooMany, Memory}
 use Rattle.debug_core.specs.Causes.{Sides, WasLoaded}
 use Rattle.debug_core.specs.Failures.{Fails, failure_line}
 use Rattle.debug_core.specs.Outputs.{IsWritten}
@@ -15,7 +15,6 @@ use Rattle.debug_core.specs.PrintAnswers.{AnswersPrint, HasPrintCause, IsPrintFa
 use Rattle.debug_core.proofs.Closing.{line_of, unsaid_line}
 
 print_cause : (file : List ℕ) (s : Sides) (failure : Failure) → IsPrintFailure file s failure → IsWritten s.err s.err' s.lines s.lines' (failure_line file [] failure) → HasPrintCause file s (Err failure)
-print_cause file s Refused h line = h
 print_cause file s (BadText fault) h line = h
 print_cause file s (BadProgram fault) h line = h
 print_cause file s (NotYet row column) h line = h

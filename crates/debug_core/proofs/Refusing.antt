@@ -12,7 +12,7 @@ use Rattle.debug_core.specs.LegalTexts.{IsLegalCause}
 use Rattle.debug_core.specs.RuleFaults.{IsRuleCause, failure_of_error}
 use Rattle.debug_core.specs.TextFaults.{IsTextCause}
 use Rattle.debug_core.specs.declared.failing.Failure.{Failure}
-use Rattle.debug_core.specs.declared.failing.Failure.TheVariants.{Refused, BadText, BadProgram, NotYet, Usage, BadSequence, Unreadable, OutputFailed, TooLong, TooMany, Memory}
+use Rattle.debug_core.specs.declared.failing.Failure.TheVariants.{BadText, BadProgram, NotYet, Usage, BadSequence, Unreadable, OutputFailed, TooLong, TooMany, Memory}
 
 -- the failure of the first twelve rules tells their refusal
 types_told : (p : PProgram) (mode : Mode) (text : List ℕ) (e : TypeError) → TellsWhy p mode (check.Rule e) → IsRuleCause p mode text (failure_of_error text (check.Rule e))
@@ -48,7 +48,6 @@ rule_told p mode text check.Memory h = tt
 
 -- a text of no program gives none that meets the rules
 pub text_illegal : (text : List ℕ) (mode : Mode) (failure : Failure) → IsTextCause text failure → IsLegalCause text mode failure
-text_illegal text mode Refused h = h
 text_illegal text mode (BadText fault) h = h
 text_illegal text mode (BadProgram fault) h = absurd h
 text_illegal text mode (NotYet line column) h = h
@@ -61,7 +60,6 @@ text_illegal text mode (TooMany limit) h = h
 text_illegal text mode Memory h = h
 
 program_illegal : (p : PProgram) (mode : Mode) (text : List ℕ) (failure : Failure) → IsRead text p → IsRuleCause p mode text failure → IsLegalCause text mode failure
-program_illegal p mode text Refused is_read h = h
 program_illegal p mode text (BadText fault) is_read h = absurd h
 program_illegal p mode text (BadProgram fault) is_read h = record { program = p; is_read = is_read; has_fault = h }
 program_illegal p mode text (NotYet line column) is_read h = h

@@ -2,17 +2,10 @@
 use Rattle.std.specs.Prelude.{◌≡◌, ◌≤◌, ℕ, List, length, Option, Result, Ok, Err, ◌⊎◌}
 use Rattle.ded_io.specs.Counts.{Rose}
 use Rattle.ded_io.specs.Told.{ToldFile, Gives, Lacks, Longer}
-use Rattle.ada_tree.specs.NameList.{AreNames}
-use Rattle.ada_tree.specs.PlainProgram.{PProgram}
-use Rattle.ada_tree.specs.TypeTable.{TypeTable}
-use Rattle.syn_event.specs.declared.numbering.Mode.TheVariants.{Original}
-use Rattle.syn_event.specs.Legal.{Legal}
-use Rattle.syn_event.specs.Numbering.{Numbering}
-use Rattle.debug_core.specs.SmallText.{IsSmallText}
 use Rattle.debug_core.specs.Failures.{failure_status, failure_line}
 use Rattle.debug_core.specs.Outputs.{IsWritten, IsBrokenOff, IsUntouched}
 use Rattle.debug_core.specs.declared.failing.Failure.{Failure}
-use Rattle.debug_core.specs.declared.failing.Failure.TheVariants.{Refused, BadText, BadProgram, NotYet, Usage, BadSequence, Unreadable, OutputFailed, TooLong, TooMany, Memory}
+use Rattle.debug_core.specs.declared.failing.Failure.TheVariants.{BadText, BadProgram, NotYet, Usage, BadSequence, Unreadable, OutputFailed, TooLong, TooMany, Memory}
 use Rattle.debug_core.specs.declared.failing.Source.{Source}
 
 -- What is told and counted before and behind a call: of the files, of the output and of the error output.
@@ -60,7 +53,6 @@ IsUnread told file reads reads' = Lacks told file ⊎ Rose reads reads'
 
 -- why the bytes of a file were not loaded
 abbrev pub IsLoadCause : Option (List ToldFile) → List ℕ → Source → ℕ → ℕ → ℕ → Failure → Type 0
-IsLoadCause told file source limit reads reads' Refused = ⊥
 IsLoadCause told file source limit reads reads' (BadText fault) = ⊥
 IsLoadCause told file source limit reads reads' (BadProgram fault) = ⊥
 IsLoadCause told file source limit reads reads' (NotYet line column) = ⊥
@@ -71,26 +63,6 @@ IsLoadCause told file source limit reads reads' OutputFailed = ⊥
 IsLoadCause told file source limit reads reads' (TooLong passed) = (passed ≡ limit) × Longer told file limit
 IsLoadCause told file source limit reads reads' (TooMany passed) = ⊥
 IsLoadCause told file source limit reads reads' Memory = Unit {0}
-
--- The text is that of a program of the small grammar, which is legal and whose names are a list without repetition.
-pub record IsProgram (text : List ℕ) (program : PProgram) (types : TypeTable) (numbers : Numbering) : Type 0 where
-  pub named : AreNames program.names
-  pub small : IsSmallText text program
-  pub legal : Legal program types numbers Original
-
--- why the program of a text was not read
-abbrev pub IsReadCause : Failure → Type 0
-IsReadCause Refused = Unit {0}
-IsReadCause (BadText fault) = ⊥
-IsReadCause (BadProgram fault) = ⊥
-IsReadCause (NotYet line column) = ⊥
-IsReadCause Usage = ⊥
-IsReadCause (BadSequence found line) = ⊥
-IsReadCause (Unreadable source) = ⊥
-IsReadCause OutputFailed = ⊥
-IsReadCause (TooLong limit) = ⊥
-IsReadCause (TooMany limit) = ⊥
-IsReadCause Memory = Unit {0}
 
 -- the status of an outcome, by that of what was done
 abbrev pub status_of : {A : Type 0} → (A → ℕ) → Result A Failure → ℕ

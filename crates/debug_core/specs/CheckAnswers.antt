@@ -13,7 +13,7 @@ use Rattle.debug_core.specs.LegalTexts.{IsLegalText, IsIllegalText}
 use Rattle.debug_core.specs.Outputs.{IsWritten, IsUntouched}
 use Rattle.debug_core.specs.TextFaults.{HasTextFault}
 use Rattle.debug_core.specs.declared.failing.Failure.{Failure}
-use Rattle.debug_core.specs.declared.failing.Failure.TheVariants.{Refused, BadText, BadProgram, NotYet, Usage, BadSequence, Unreadable, OutputFailed, TooLong, TooMany, Memory}
+use Rattle.debug_core.specs.declared.failing.Failure.TheVariants.{BadText, BadProgram, NotYet, Usage, BadSequence, Unreadable, OutputFailed, TooLong, TooMany, Memory}
 use Rattle.debug_core.specs.declared.failing.Source.TheVariants.{Program}
 use Rattle.debug_core.specs.declared.rule_fault.RuleFault.{RuleFault}
 use Rattle.debug_core.specs.declared.text_fault.TextFault.{TextFault}
@@ -59,7 +59,6 @@ pub record IsHalfChecked (told : Option (List ToldFile)) (file : List ℕ) (out 
 
 -- why a file's program was not checked, or not all of its numbers were written; nothing is written before it is checked
 abbrev pub IsCheckCause : Option (List ToldFile) → List ℕ → ℕ → ℕ → Option (List ℕ) → Option (List ℕ) → ℕ → ℕ → Failure → Type 0
-IsCheckCause told file reads reads' out out' writes writes' Refused = ⊥
 IsCheckCause told file reads reads' out out' writes writes' (BadText fault) = HoldsFaultyText told file fault × IsUntouched out out' writes writes'
 IsCheckCause told file reads reads' out out' writes writes' (BadProgram fault) = HoldsNoOriginal told file fault × IsUntouched out out' writes writes'
 IsCheckCause told file reads reads' out out' writes writes' (NotYet line column) = ⊥

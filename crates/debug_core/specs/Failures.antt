@@ -5,7 +5,7 @@ use Rattle.seq_file.specs.declared.errors.SeqError.{SeqError}
 use Rattle.seq_file.specs.declared.errors.SeqError.TheVariants as error
 use Rattle.syn_event.specs.declared.limits.What.{What}
 use Rattle.debug_core.specs.declared.failing.Failure.{Failure}
-use Rattle.debug_core.specs.declared.failing.Failure.TheVariants.{Refused, BadText, BadProgram, NotYet, Usage, BadSequence, Unreadable, OutputFailed, TooLong, TooMany, Memory}
+use Rattle.debug_core.specs.declared.failing.Failure.TheVariants.{BadText, BadProgram, NotYet, Usage, BadSequence, Unreadable, OutputFailed, TooLong, TooMany, Memory}
 use Rattle.debug_core.specs.declared.rule_fault.RuleFault.{RuleFault}
 use Rattle.debug_core.specs.declared.rule_fault.RuleFault.TheVariants.{Broken, Passed}
 use Rattle.debug_core.specs.declared.text_fault.TextFault.{TextFault}
@@ -30,7 +30,6 @@ rule_status (Passed what limit) = 8
 
 -- the status of a failure
 abbrev pub failure_status : Failure → ℕ
-failure_status Refused = 1
 failure_status (BadText found) = text_status found
 failure_status (BadProgram found) = rule_status found
 failure_status (NotYet line column) = 1
@@ -44,7 +43,6 @@ failure_status Memory = 9
 
 -- the words that the line of a failure begins with, or all of it; they stay shut, so that they do not compute away
 unfoldable pub first_words : Failure → List ℕ
-first_words Refused = codes "ded: program refused: NotYet at 1:1\n"
 first_words (BadText (Misspelled what line column)) = codes "ded: program refused: "
 first_words (BadText (LongToken limit)) = codes "ded: limit token "
 first_words (BadText (TooNested limit)) = codes "ded: limit nesting "
@@ -95,7 +93,6 @@ rule_line (Passed what limit) = passed_line (first_words (BadProgram (Passed wha
 
 -- The line that a failure puts on the error output, with the name of the file of which it speaks; a failed output puts none.
 abbrev pub failure_line : List ℕ → List ℕ → Failure → List ℕ
-failure_line program sequence Refused = first_words Refused
 failure_line program sequence (BadText found) = text_line found
 failure_line program sequence (BadProgram found) = rule_line found
 failure_line program sequence (NotYet line column) = place_line (first_words (NotYet line column)) (codes "NotYet") line column

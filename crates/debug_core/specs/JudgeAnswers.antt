@@ -8,6 +8,7 @@ use Rattle.event_machine.specs.declared.Event.{Event}
 use Rattle.seq_file.specs.declared.errors.SeqError.{SeqError}
 use Rattle.seq_file.specs.declared.errors.SeqError.TheVariants as error
 use Rattle.seq_file.specs.Files.{SeqReads, HasFirstFault}
+use Rattle.syn_event.specs.declared.numbering.Mode.TheVariants.{Original}
 use Rattle.syn_event.specs.Numbering.{Numbering}
 use Rattle.task_machine.specs.declared.verdict.Verdict.{Verdict}
 use Rattle.task_machine.specs.declared.verdict.Verdict.TheVariants.{Feasible, Infeasible, Unsettled}
@@ -15,11 +16,12 @@ use Rattle.task_machine.specs.Conditions.{needed_of}
 use Rattle.task_machine.specs.Judging.{VerdictIs}
 use Rattle.task_machine.specs.Views.{View, ViewIs}
 use Rattle.divergence.specs.JudgeText.{judge_text, event_of}
-use Rattle.debug_core.specs.Causes.{Sides, HasErrorLine, HasFailedOutput, WasLoaded, IsHeld, IsUnread, IsProgram, status_of}
+use Rattle.debug_core.specs.Causes.{Sides, HasErrorLine, HasFailedOutput, WasLoaded, IsHeld, IsUnread, status_of}
+use Rattle.debug_core.specs.MachineTexts.{IsProgram, IsReadCause}
 use Rattle.debug_core.specs.Outputs.{IsWritten, IsUntouched}
 use Rattle.debug_core.specs.Failures.{error_of}
 use Rattle.debug_core.specs.declared.failing.Failure.{Failure}
-use Rattle.debug_core.specs.declared.failing.Failure.TheVariants.{Refused, BadText, BadProgram, NotYet, Usage, BadSequence, Unreadable, OutputFailed, TooLong, TooMany, Memory}
+use Rattle.debug_core.specs.declared.failing.Failure.TheVariants.{BadText, BadProgram, NotYet, Usage, BadSequence, Unreadable, OutputFailed, TooLong, TooMany, Memory}
 use Rattle.debug_core.specs.declared.failing.Source.TheVariants.{Program, Sequence}
 
 -- a program that is judged has at most so many bytes, and a sequence so many
@@ -63,7 +65,7 @@ pub record WasJudged (text lines : List ℕ) (bound : ℕ) (out out' : Option (L
   pub program : PProgram
   pub types : TypeTable
   pub numbers : Numbering
-  pub is_program : IsProgram text program types numbers
+  pub is_program : IsProgram text Original program types numbers
   pub judged : LinesJudged program numbers lines bound out out' writes writes' verdict
 
 -- The text is a program, and the first bad line of a sequence of it has this fault.
@@ -71,7 +73,7 @@ pub record HasBadSequence (text lines : List ℕ) (found : SeqError) : Type 0 wh
   pub program : PProgram
   pub types : TypeTable
   pub numbers : Numbering
-  pub is_program : IsProgram text program types numbers
+  pub is_program : IsProgram text Original program types numbers
   pub fault : HasFirstFault lines numbers program.names found
 
 -- the bytes of both files were loaded
@@ -81,7 +83,6 @@ pub record WereLoaded (told : Option (List ToldFile)) (file sequence text lines 
 
 -- why the text of a verdict was not written; before it nothing is
 abbrev pub IsVerdictCause : Option (List ℕ) → Option (List ℕ) → ℕ → ℕ → Failure → Type 0
-IsVerdictCause out out' writes writes' Refused = ⊥
 IsVerdictCause out out' writes writes' (BadText fault) = ⊥
 IsVerdictCause out out' writes writes' (BadProgram fault) = ⊥
 IsVerdictCause out out' writes writes' (NotYet line column) = ⊥
@@ -95,7 +96,6 @@ IsVerdictCause out out' writes writes' Memory = IsUntouched out out' writes writ
 
 -- why the lines of a sequence were not judged, or the text of their verdict not written
 abbrev pub IsLinesCause : PProgram → Numbering → List ℕ → Option (List ℕ) → Option (List ℕ) → ℕ → ℕ → Failure → Type 0
-IsLinesCause p numbers lines out out' writes writes' Refused = ⊥
 IsLinesCause p numbers lines out out' writes writes' (BadText fault) = ⊥
 IsLinesCause p numbers lines out out' writes writes' (BadProgram fault) = ⊥
 IsLinesCause p numbers lines out out' writes writes' (NotYet line column) = ⊥
@@ -109,10 +109,9 @@ IsLinesCause p numbers lines out out' writes writes' Memory = IsUntouched out ou
 
 -- why loaded bytes were not judged, or the text of their verdict not written
 abbrev pub IsJudgeCause : List ℕ → List ℕ → Option (List ℕ) → Option (List ℕ) → ℕ → ℕ → Failure → Type 0
-IsJudgeCause text lines out out' writes writes' Refused = IsUntouched out out' writes writes'
-IsJudgeCause text lines out out' writes writes' (BadText fault) = ⊥
-IsJudgeCause text lines out out' writes writes' (BadProgram fault) = ⊥
-IsJudgeCause text lines out out' writes writes' (NotYet line column) = ⊥
+IsJudgeCause text lines out out' writes writes' (BadText fault) = IsReadCause text Original (BadText fault) × IsUntouched out out' writes writes'
+IsJudgeCause text lines out out' writes writes' (BadProgram fault) = IsReadCause text Original (BadProgram fault) × IsUntouched out out' writes writes'
+IsJudgeCause text lines out out' writes writes' (NotYet line column) = IsReadCause text Original (NotYet line column) × IsUntouched out out' writes writes'
 IsJudgeCause text lines out out' writes writes' Usage = ⊥
 IsJudgeCause text lines out out' writes writes' (BadSequence found line) = HasBadSequence text lines (error_of found line) × IsUntouched out out' writes writes'
 IsJudgeCause text lines out out' writes writes' (Unreadable source) = ⊥
@@ -129,7 +128,6 @@ IsTooLong told file sequence limit =
 
 -- why the bytes of the two files were not loaded
 abbrev pub AreLoadCauses : Option (List ToldFile) → List ℕ → List ℕ → ℕ → ℕ → Failure → Type 0
-AreLoadCauses told file sequence reads reads' Refused = ⊥
 AreLoadCauses told file sequence reads reads' (BadText fault) = ⊥
 AreLoadCauses told file sequence reads reads' (BadProgram fault) = ⊥
 AreLoadCauses told file sequence reads reads' (NotYet line column) = ⊥
@@ -156,12 +154,18 @@ pub record HoldsBadSequence (told : Option (List ToldFile)) (file sequence : Lis
   pub loaded : WereLoaded told file sequence text lines
   pub fault : HasBadSequence text lines found
 
+-- The bytes of both files were loaded, and the first give no program that the machine can run, for this reason.
+pub record HoldNoProgram (told : Option (List ToldFile)) (file sequence : List ℕ) (failure : Failure) : Type 0 where
+  pub text : List ℕ
+  pub lines : List ℕ
+  pub loaded : WereLoaded told file sequence text lines
+  pub cause : IsReadCause text Original failure
+
 -- why two files were not judged, or the text of the verdict not written; nothing is written before both are read
 abbrev pub IsFilesCause : Option (List ToldFile) → List ℕ → List ℕ → ℕ → ℕ → Option (List ℕ) → Option (List ℕ) → ℕ → ℕ → Failure → Type 0
-IsFilesCause told file sequence reads reads' out out' writes writes' Refused = ((text : List ℕ) × (lines : List ℕ) × WereLoaded told file sequence text lines) × IsUntouched out out' writes writes'
-IsFilesCause told file sequence reads reads' out out' writes writes' (BadText fault) = ⊥
-IsFilesCause told file sequence reads reads' out out' writes writes' (BadProgram fault) = ⊥
-IsFilesCause told file sequence reads reads' out out' writes writes' (NotYet line column) = ⊥
+IsFilesCause told file sequence reads reads' out out' writes writes' (BadText fault) = HoldNoProgram told file sequence (BadText fault) × IsUntouched out out' writes writes'
+IsFilesCause told file sequence reads reads' out out' writes writes' (BadProgram fault) = HoldNoProgram told file sequence (BadProgram fault) × IsUntouched out out' writes writes'
+IsFilesCause told file sequence reads reads' out out' writes writes' (NotYet line column) = HoldNoProgram told file sequence (NotYet line column) × IsUntouched out out' writes writes'
 IsFilesCause told file sequence reads reads' out out' writes writes' Usage = ⊥
 IsFilesCause told file sequence reads reads' out out' writes writes' (BadSequence found line) = HoldsBadSequence told file sequence (error_of found line) × IsUntouched out out' writes writes'
 IsFilesCause told file sequence reads reads' out out' writes writes' (Unreadable Program) = IsUnread told file reads reads' × IsUntouched out out' writes writes'

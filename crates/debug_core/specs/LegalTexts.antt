@@ -9,7 +9,7 @@ use Rattle.syn_event.specs.Numbering.{Numbering}
 use Rattle.debug_core.specs.RuleFaults.{HasRuleFault}
 use Rattle.debug_core.specs.TextFaults.{HasTextFault}
 use Rattle.debug_core.specs.declared.failing.Failure.{Failure}
-use Rattle.debug_core.specs.declared.failing.Failure.TheVariants.{Refused, BadText, BadProgram, NotYet, Usage, BadSequence, Unreadable, OutputFailed, TooLong, TooMany, Memory}
+use Rattle.debug_core.specs.declared.failing.Failure.TheVariants.{BadText, BadProgram, NotYet, Usage, BadSequence, Unreadable, OutputFailed, TooLong, TooMany, Memory}
 use Rattle.debug_core.specs.declared.rule_fault.RuleFault.{RuleFault}
 
 -- The text is that of this program and of no other, and the program meets every static rule and has these types and numbers.
@@ -25,7 +25,6 @@ pub record IsIllegalText (text : List ℕ) (mode : Mode) (fault : RuleFault) : T
 
 -- why a text gives no program that meets every static rule: a fault of the text, a fault of its program, or want of memory
 abbrev pub IsLegalCause : List ℕ → Mode → Failure → Type 0
-IsLegalCause text mode Refused = ⊥
 IsLegalCause text mode (BadText fault) = HasTextFault text fault
 IsLegalCause text mode (BadProgram fault) = IsIllegalText text mode fault
 IsLegalCause text mode (NotYet line column) = ⊥

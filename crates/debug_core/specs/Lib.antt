@@ -1,7 +1,3 @@
-pub mod SmallText
-pub mod SmallForms
-pub mod SmallRules
-pub mod SmallNumbers
 pub mod Words
 pub mod RunText
 pub mod CheckText
@@ -12,6 +8,8 @@ pub mod Outputs
 pub mod Failures
 pub mod Causes
 pub mod LegalTexts
+pub mod MachineForms
+pub mod MachineTexts
 pub mod PrintAnswers
 pub mod CheckAnswers
 pub mod RunAnswers

@@ -10,7 +10,7 @@ use Rattle.debug_core.specs.Causes.{Sides, HasErrorLine, HasFailedOutput, WasLoa
 use Rattle.debug_core.specs.Outputs.{IsWritten, IsUntouched}
 use Rattle.debug_core.specs.TextFaults.{HasTextFault}
 use Rattle.debug_core.specs.declared.failing.Failure.{Failure}
-use Rattle.debug_core.specs.declared.failing.Failure.TheVariants.{Refused, BadText, BadProgram, NotYet, Usage, BadSequence, Unreadable, OutputFailed, TooLong, TooMany, Memory}
+use Rattle.debug_core.specs.declared.failing.Failure.TheVariants.{BadText, BadProgram, NotYet, Usage, BadSequence, Unreadable, OutputFailed, TooLong, TooMany, Memory}
 use Rattle.debug_core.specs.declared.failing.Source.TheVariants.{Program}
 use Rattle.debug_core.specs.declared.text_fault.TextFault.{TextFault}
 
@@ -45,7 +45,6 @@ pub record IsCutShort (told : Option (List ToldFile)) (file : List ℕ) (out out
 
 -- why a file's program was not printed, or not all of it; nothing is written before the text is read
 abbrev pub IsPrintCause : Option (List ToldFile) → List ℕ → ℕ → ℕ → Option (List ℕ) → Option (List ℕ) → ℕ → ℕ → Failure → Type 0
-IsPrintCause told file reads reads' out out' writes writes' Refused = ⊥
 IsPrintCause told file reads reads' out out' writes writes' (BadText fault) = HoldsBadText told file fault × IsUntouched out out' writes writes'
 IsPrintCause told file reads reads' out out' writes writes' (BadProgram fault) = ⊥
 IsPrintCause told file reads reads' out out' writes writes' (NotYet line column) = ⊥

@@ -99,7 +99,6 @@ HasRuleFault p mode text (Passed what limit) = IsPassed p mode what limit
 
 -- why a program that was read from a text is refused: a fault of the program, or want of memory
 abbrev pub IsRuleCause : PProgram → Mode → List ℕ → Failure → Type 0
-IsRuleCause p mode text failure.Refused = ⊥
 IsRuleCause p mode text (failure.BadText fault) = ⊥
 IsRuleCause p mode text (failure.BadProgram fault) = HasRuleFault p mode text fault
 IsRuleCause p mode text (failure.NotYet line column) = ⊥

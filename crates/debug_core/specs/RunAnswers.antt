@@ -8,13 +8,15 @@ use Rattle.ada_tree.specs.TypeTable.{TypeTable}
 use Rattle.interp.specs.declared.report.RunEnd.{RunEnd}
 use Rattle.interp.specs.declared.report.RunEnd.TheVariants.{Ended, Stuck, Turns}
 use Rattle.interp.specs.Picked.{Position, picked, ending}
+use Rattle.syn_event.specs.declared.numbering.Mode.TheVariants.{Any}
 use Rattle.syn_event.specs.Numbering.{Numbering}
 use Rattle.task_machine.specs.Opening.{opening_of}
 use Rattle.debug_core.specs.RunText.{run_text}
-use Rattle.debug_core.specs.Causes.{Sides, HasErrorLine, HasFailedOutput, WasLoaded, IsHeld, IsUnread, IsProgram, status_of}
+use Rattle.debug_core.specs.Causes.{Sides, HasErrorLine, HasFailedOutput, WasLoaded, IsUnread, status_of}
+use Rattle.debug_core.specs.MachineTexts.{IsProgram, HoldsNoProgram}
 use Rattle.debug_core.specs.Outputs.{IsWritten, IsUntouched}
 use Rattle.debug_core.specs.declared.failing.Failure.{Failure}
-use Rattle.debug_core.specs.declared.failing.Failure.TheVariants.{Refused, BadText, BadProgram, NotYet, Usage, BadSequence, Unreadable, OutputFailed, TooLong, TooMany, Memory}
+use Rattle.debug_core.specs.declared.failing.Failure.TheVariants.{BadText, BadProgram, NotYet, Usage, BadSequence, Unreadable, OutputFailed, TooLong, TooMany, Memory}
 use Rattle.debug_core.specs.declared.failing.Source.TheVariants.{Program}
 
 -- a program that is run has at most this many bytes
@@ -36,19 +38,18 @@ pub record RunWritten (program : PProgram) (numbers : Numbering) (turns : ℕ) (
   pub ends : end ≡ ending (first_run program numbers turns)
   pub written : IsWritten out out' writes writes' (run_text program.names numbers (first_run program numbers turns).events end (first_run program numbers turns).made)
 
--- The bytes of the file were loaded, they are a program, and the text of its picked run is written.
+-- The bytes of the file were loaded, they are a program that the machine can run, and the text of its picked run is written.
 pub record HasRun (told : Option (List ToldFile)) (file : List ℕ) (turns : ℕ) (out out' : Option (List ℕ)) (writes writes' : ℕ) (end : RunEnd) : Type 0 where
   pub text : List ℕ
   pub loaded : WasLoaded told file run_limit text
   pub program : PProgram
   pub types : TypeTable
   pub numbers : Numbering
-  pub is_program : IsProgram text program types numbers
+  pub is_program : IsProgram text Any program types numbers
   pub run : RunWritten program numbers turns out out' writes writes' end
 
 -- a run was cut off by a fault of the output, or by want of memory
 abbrev pub IsOutputCause : ℕ → ℕ → Failure → Type 0
-IsOutputCause writes writes' Refused = ⊥
 IsOutputCause writes writes' (BadText fault) = ⊥
 IsOutputCause writes writes' (BadProgram fault) = ⊥
 IsOutputCause writes writes' (NotYet line column) = ⊥
@@ -62,10 +63,9 @@ IsOutputCause writes writes' Memory = Unit {0}
 
 -- why a file's run was not made or not written; nothing is written before the file is read
 abbrev pub IsFileCause : Option (List ToldFile) → List ℕ → ℕ → ℕ → Option (List ℕ) → Option (List ℕ) → ℕ → ℕ → Failure → Type 0
-IsFileCause told file reads reads' out out' writes writes' Refused = IsHeld told file run_limit × IsUntouched out out' writes writes'
-IsFileCause told file reads reads' out out' writes writes' (BadText fault) = ⊥
-IsFileCause told file reads reads' out out' writes writes' (BadProgram fault) = ⊥
-IsFileCause told file reads reads' out out' writes writes' (NotYet line column) = ⊥
+IsFileCause told file reads reads' out out' writes writes' (BadText fault) = HoldsNoProgram told file run_limit Any (BadText fault) × IsUntouched out out' writes writes'
+IsFileCause told file reads reads' out out' writes writes' (BadProgram fault) = HoldsNoProgram told file run_limit Any (BadProgram fault) × IsUntouched out out' writes writes'
+IsFileCause told file reads reads' out out' writes writes' (NotYet line column) = HoldsNoProgram told file run_limit Any (NotYet line column) × IsUntouched out out' writes writes'
 IsFileCause told file reads reads' out out' writes writes' Usage = ⊥
 IsFileCause told file reads reads' out out' writes writes' (BadSequence found line) = ⊥
 IsFileCause told file reads reads' out out' writes writes' (Unreadable source) = (source ≡ Program) × IsUnread told file reads reads' × IsUntouched out out' writes writes'

@@ -63,7 +63,6 @@ HasTextFault text (TooNested limit) = IsNestedDeeper text limit
 
 -- why the program of a text was not read: a fault of the text, or want of memory
 abbrev pub IsTextCause : List ℕ → Failure → Type 0
-IsTextCause text failure.Refused = ⊥
 IsTextCause text (failure.BadText fault) = HasTextFault text fault
 IsTextCause text (failure.BadProgram fault) = ⊥
 IsTextCause text (failure.NotYet line column) = ⊥

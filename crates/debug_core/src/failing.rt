@@ -18,8 +18,6 @@ use syn_event::What;
 /// Why a command was not carried out, or not all of its text was written.
 #[derive(Clone, Copy)]
 pub(crate) enum Failure {
-    /// The private reader does not take the program's text.
-    Refused,
     /// The program's text is read as none of the language, for this fault.
     BadText(TextFault),
     /// The program is read, and breaks a static rule or passes a limit.
@@ -64,7 +62,6 @@ impl Failure {
         ensures { result ≡ failure_status self }
     {
         match self {
-            Failure::Refused => 1,
             Failure::BadText(fault) => text_status(fault),
             Failure::BadProgram(fault) => rule_status(fault),
             Failure::NotYet { .. } => 1,
@@ -146,7 +143,6 @@ fn put_failure<K: Sink>(
     ensures cause { HasCause (K.faults err.old) (K.faults err.new) result }
 {
     match failure {
-        Failure::Refused => err.put(first_words(Failure::Refused)),
         Failure::BadText(fault) => put_text_fault(fault, err),
         Failure::BadProgram(fault) => put_rule_fault(fault, err),
         Failure::NotYet { line, column } => {
@@ -363,7 +359,6 @@ fn first_words(failure: Failure) -> &'static [u8]
     ensures { result.now ≡ first_words failure }
 {
     match failure {
-        Failure::Refused => b"ded: program refused: NotYet at 1:1\n",
         Failure::BadText(TextFault::Misspelled { .. }) => b"ded: program refused: ",
         Failure::BadText(TextFault::LongToken { .. }) => b"ded: limit token ",
         Failure::BadText(TextFault::TooNested { .. }) => b"ded: limit nesting ",

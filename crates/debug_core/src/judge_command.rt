@@ -10,8 +10,9 @@ ghost use Rattle.debug_core.specs.Fed.{IsFed};
 
 use crate::command::JudgeWords;
 use crate::failing::{Failure, Source, fail, failure_of};
-use crate::loading::{load_file, read_program};
-use crate::small::SmallProgram;
+use crate::loading::load_file;
+use crate::machine_text::read_program;
+use crate::reading::LegalProgram;
 use ada_tree::Memory;
 use ada_value::Inputs;
 use ded_io::{Files, Sink};
@@ -113,12 +114,13 @@ fn judge_text<K: Sink>(
     bound: u64,
     out: &mut K,
 ) -> Result<Verdict, Failure>
-    requires { length lines.now < 2 ^ 32 - 1 }
+    requires text { length text.now < 2 ^ 32 - 1 }
+    requires lines { length lines.now < 2 ^ 32 - 1 }
     ensures judged { IfOk result (WasJudged text.now lines.now bound (K.told out.old) (K.told out.new) (K.faults out.old) (K.faults out.new)) }
     ensures cause { IfErr result (IsJudgeCause text.now lines.now (K.told out.old) (K.told out.new) (K.faults out.old) (K.faults out.new)) }
 {
-    match read_program(alloc, text) {
-        Ok(small) => judge_lines(alloc, &small, lines, bound, out),
+    match read_program(alloc, text, Mode::Original) {
+        Ok(read) => judge_lines(alloc, &read, lines, bound, out),
         Err(failure) => Err(failure),
     }
 }
@@ -126,18 +128,18 @@ fn judge_text<K: Sink>(
 // Judges the lines of a sequence for a program.
 fn judge_lines<K: Sink>(
     alloc: Global,
-    small: &SmallProgram,
+    read: &LegalProgram,
     lines: &[u8],
     bound: u64,
     out: &mut K,
 ) -> Result<Verdict, Failure>
-    requires legal { Legal (plain_program small.now.program) small.now.types small.now.numbers Mode.Original }
+    requires legal { Legal (plain_program read.now.program) read.now.types read.now.numbers Mode.Original }
     requires length { length lines.now < 2 ^ 32 - 1 }
-    ensures judged { IfOk result (LinesJudged (plain_program small.now.program) small.now.numbers lines.now bound (K.told out.old) (K.told out.new) (K.faults out.old) (K.faults out.new)) }
-    ensures cause { IfErr result (IsLinesCause (plain_program small.now.program) small.now.numbers lines.now (K.told out.old) (K.told out.new) (K.faults out.old) (K.faults out.new)) }
+    ensures judged { IfOk result (LinesJudged (plain_program read.now.program) read.now.numbers lines.now bound (K.told out.old) (K.told out.new) (K.faults out.old) (K.faults out.new)) }
+    ensures cause { IfErr result (IsLinesCause (plain_program read.now.program) read.now.numbers lines.now (K.told out.old) (K.told out.new) (K.faults out.old) (K.faults out.new)) }
 {
-    match read_seq(alloc, lines, &small.numbers, &small.program.names) {
-        Ok(events) => judge_events(alloc, small, &events, bound, out),
+    match read_seq(alloc, lines, &read.numbers, &read.program.names) {
+        Ok(events) => judge_events(alloc, read, &events, bound, out),
         Err(error) => Err(failure_of(error)),
     }
 }
@@ -145,15 +147,15 @@ fn judge_lines<K: Sink>(
 // Judges events of a program, and writes the text of their verdict.
 fn judge_events<K: Sink>(
     alloc: Global,
-    small: &SmallProgram,
+    read: &LegalProgram,
     events: &[Event],
     bound: u64,
     out: &mut K,
 ) -> Result<Verdict, Failure>
-    requires legal { Legal (plain_program small.now.program) small.now.types small.now.numbers Mode.Original }
+    requires legal { Legal (plain_program read.now.program) read.now.types read.now.numbers Mode.Original }
     requires end { NothingFollows events.now }
     requires few { length events.now < 2 ^ 32 - 1 }
-    ensures written { IfOk result (VerdictWritten (plain_program small.now.program) small.now.numbers bound events.now (K.told out.old) (K.told out.new) (K.faults out.old) (K.faults out.new)) }
+    ensures written { IfOk result (VerdictWritten (plain_program read.now.program) read.now.numbers bound events.now (K.told out.old) (K.told out.new) (K.faults out.old) (K.faults out.new)) }
     ensures cause { IfErr result (IsVerdictCause (K.told out.old) (K.told out.new) (K.faults out.old) (K.faults out.new)) }
 {
     let inputs = Inputs {
@@ -161,9 +163,9 @@ fn judge_events<K: Sink>(
     };
     let mut judge = match Judge::new(
         alloc,
-        &small.program,
-        &small.types,
-        &small.numbers,
+        &read.program,
+        &read.types,
+        &read.numbers,
         &inputs,
         bound,
     ) {
@@ -179,8 +181,8 @@ fn judge_events<K: Sink>(
         events.len() as u32,
         event_at(events, verdict),
         &judge,
-        &small.numbers,
-        &small.program.names,
+        &read.numbers,
+        &read.program.names,
         out,
     ) {
         Ok(()) => Ok(verdict),

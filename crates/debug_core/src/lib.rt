@@ -5,15 +5,15 @@ mod check_command;
 mod check_text;
 mod command;
 mod failing;
+mod forms;
 mod judge_command;
 mod loading;
+mod machine_text;
 mod print_command;
 mod reading;
 mod rule_fault;
 mod run_command;
 mod run_text;
-#[tactic(auto, using(ada_tree::proofs::Rows::rows))]
-mod small;
 mod text_fault;
 mod top;
 

@@ -1,11 +1,9 @@
-// Loading the files that the words name, and the program in a text.
+// Loading the files that the words name.
 
 ghost use Rattle.std.specs.Prelude.{◌≡◌, ◌≤◌, IfOk, IfErr};
-ghost use Rattle.ada_tree.specs.PlainProgram.{plain_program};
-ghost use Rattle.debug_core.specs.Causes.{WasLoaded, IsLoadCause, IsProgram, IsReadCause};
+ghost use Rattle.debug_core.specs.Causes.{WasLoaded, IsLoadCause};
 
 use crate::failing::{Failure, Source};
-use crate::small::{SmallProgram, SmallRefusal, read_small};
 use ded_io::{Files, LoadError};
 use std::alloc::Global;
 
@@ -27,17 +25,5 @@ pub(crate) fn load_file<F: Files>(
         Err(LoadError::Failed) => Err(Failure::Unreadable(source)),
         Err(LoadError::TooLong { .. }) => Err(Failure::TooLong { limit }),
         Err(LoadError::Memory) => Err(Failure::Memory),
-    }
-}
-
-// The program that a text says.
-pub(crate) fn read_program(alloc: Global, text: &[u8]) -> Result<SmallProgram, Failure>
-    ensures program { IfOk result (λ small. IsProgram text.now (plain_program small.program) small.types small.numbers) }
-    ensures cause { IfErr result IsReadCause }
-{
-    match read_small(alloc, text) {
-        Ok(small) => Ok(small),
-        Err(SmallRefusal::NotSmall) => Err(Failure::Refused),
-        Err(SmallRefusal::Memory) => Err(Failure::Memory),
     }
 }

@@ -7,9 +7,10 @@ ghost use Rattle.syn_event.specs.Legal.{Legal};
 
 use crate::command::RunWords;
 use crate::failing::{Failure, Source, fail};
-use crate::loading::{load_file, read_program};
+use crate::loading::load_file;
+use crate::machine_text::read_program;
+use crate::reading::LegalProgram;
 use crate::run_text::{put_header, put_rest};
-use crate::small::SmallProgram;
 use ada_value::Inputs;
 use ded_io::{Files, ListChooser, Sink};
 use interp::{RunEnd, RunError, run};
@@ -75,8 +76,8 @@ fn run_file<F: Files, K: Sink>(
         Ok(text) => text,
         Err(failure) => return Err(failure),
     };
-    match read_program(alloc, &text) {
-        Ok(small) => write_run(alloc, &small, turns, out),
+    match read_program(alloc, &text, Mode::Any) {
+        Ok(read) => write_run(alloc, &read, turns, out),
         Err(failure) => Err(failure),
     }
 }
@@ -84,12 +85,12 @@ fn run_file<F: Files, K: Sink>(
 // Runs the program with an empty list of choices, and writes the text of its run.
 fn write_run<K: Sink>(
     alloc: Global,
-    small: &SmallProgram,
+    read: &LegalProgram,
     turns: u64,
     out: &mut K,
 ) -> Result<RunEnd, Failure>
-    requires { Legal (plain_program small.now.program) small.now.types small.now.numbers Mode.Original }
-    ensures written { IfOk result (RunWritten (plain_program small.now.program) small.now.numbers turns (K.told out.old) (K.told out.new) (K.faults out.old) (K.faults out.new)) }
+    requires { Legal (plain_program read.now.program) read.now.types read.now.numbers Mode.Any }
+    ensures written { IfOk result (RunWritten (plain_program read.now.program) read.now.numbers turns (K.told out.old) (K.told out.new) (K.faults out.old) (K.faults out.new)) }
     ensures cause { IfErr result (IsOutputCause (K.faults out.old) (K.faults out.new)) }
 {
     let inputs = Inputs {
@@ -98,31 +99,24 @@ fn write_run<K: Sink>(
     let mut choices = ListChooser::new(Vec::new(alloc));
     let mut machine = match Machine::new(
         alloc,
-        &small.program,
-        &small.types,
-        &small.numbers,
+        &read.program,
+        &read.types,
+        &read.numbers,
         &inputs,
     ) {
         Ok(machine) => machine,
         Err(_) => return Err(Failure::Memory),
     };
-    match put_header(&small.program.names, &small.numbers, out) {
+    match put_header(&read.program.names, &read.numbers, out) {
         Ok(()) => {}
         Err(_) => return Err(Failure::OutputFailed),
     }
-    let report = match run(
-        alloc,
-        &mut machine,
-        &small.numbers,
-        &mut choices,
-        turns,
-        out,
-    ) {
+    let report = match run(alloc, &mut machine, &read.numbers, &mut choices, turns, out) {
         Ok(report) => report,
         Err(RunError::Memory) => return Err(Failure::Memory),
         Err(RunError::Sink) => return Err(Failure::OutputFailed),
     };
-    match put_rest(&small.program.names, &small.numbers, report, out) {
+    match put_rest(&read.program.names, &read.numbers, report, out) {
         Ok(()) => Ok(report.end),
         Err(_) => Err(Failure::OutputFailed),
     }

@@ -272,7 +272,7 @@ fn refusals_come_in_the_order_of_words_files_program_and_sequence(
                 program: OUTPUT,
                 sequence: b"",
                 status: 1,
-                err: b"ded: program refused: NotYet at 1:1\n",
+                err: b"ded: program refused: NotYet at 1:45\n",
             },
             Refused {
                 words: "judge P1 - t 10",

@@ -9,6 +9,8 @@ mod checks;
 mod judging;
 #[cfg(test)]
 mod printing;
+#[cfg(test)]
+mod refusing;
 mod row;
 #[cfg(test)]
 mod tests;

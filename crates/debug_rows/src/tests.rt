@@ -129,7 +129,7 @@ fn a_failed_output_and_a_refused_text_end_the_call(rt: HostRuntime) -> Result<()
             sequence: b"",
             status: 1,
             out: b"",
-            err: b"ded: program refused: NotYet at 1:1\n",
+            err: b"ded: program refused: NotYet at 1:45\n",
         },
     )?;
     Ok(())
