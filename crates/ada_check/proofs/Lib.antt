@@ -10,3 +10,13 @@ pub mod Naming
 pub mod Forming
 pub mod Claiming
 pub mod Marking
+pub mod Reaching
+pub mod Capping
+pub mod FirstRefusal
+pub mod Counting
+pub mod Sharing
+pub mod Declaring
+pub mod Copying
+pub mod Parting
+pub mod Seating
+pub mod Programs

@@ -9,3 +9,11 @@ pub mod Claiming
 pub mod Waiting
 pub mod Walked
 pub mod Asking
+pub mod Amounts
+pub mod Counted
+pub mod PlainParts
+pub mod Seats
+pub mod Shares
+pub mod Verdicts
+pub mod Places
+pub mod Copied

@@ -111,3 +111,23 @@ pub any_found : (id : NameId) (names : List (ℕ × Thing)) (seen : List Seen) (
     → true ≡ all
 any_found id names seen i t all is_seen h g before =
     sym (any_here id names i t h g) ∙ ap (λ ns. list_any (has_one id) (drop i ns)) is_seen ∙ before
+
+or_true : (b : Bool) → b || true ≡ true
+or_true true = refl
+or_true false = refl
+
+any_in : (id : NameId) (names : List (ℕ × Thing)) (i : ℕ) (t : Thing) → Some t ≡ option_map (λ s. s.1) (slice_get names i)
+    → is_some (entry_named (entries_of (plain_thing t)) id) ≡ true
+    → list_any (has_one id) (plain_names names) ≡ true
+any_in id [] i t h g = absurd (none_is_not t h)
+any_in id (s ∷ rest) zero t h g = any_here id (s ∷ rest) zero t h g
+any_in id (s ∷ rest) (suc i) t h g =
+    ap (λ b. is_some (entry_named (entries_of (plain_thing s.1)) id) || b) (any_in id rest i t h g)
+    ∙ or_true (is_some (entry_named (entries_of (plain_thing s.1)) id))
+
+-- one that has it, wherever it is looked for
+pub any_at : (id : NameId) (names : List (ℕ × Thing)) (seen : List Seen) (i : ℕ) (t : Thing) → plain_names names ≡ seen
+    → Some t ≡ option_map (λ s. s.1) (slice_get names i)
+    → is_some (entry_named (entries_of (plain_thing t)) id) ≡ true
+    → list_any (has_one id) seen ≡ true
+any_at id names seen i t is_seen h g = sym (ap (list_any (has_one id)) is_seen) ∙ any_in id names i t h g

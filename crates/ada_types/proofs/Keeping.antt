@@ -71,6 +71,19 @@ literal_more start so_far grown names i place d h at kept grows q =
     ∙ first_of_three (get nat_eq start q) (position (λ n. n.0 == q) (take i names)) name
     ∙ ap (first_of_two (get nat_eq start q)) (sym (position_more (λ n. n.0 == q) names i d h))
 
+-- the places that are kept behind one more, by the key of each
+pub place_more : {X S : Type 0} (key : X → ℕ) (start so_far grown : HashMap ℕ ℕ S) (xs : List X) (i : ℕ) (x : X) → i < length xs → x ≡ get_or xs i x
+    → ((q : ℕ) → get nat_eq so_far q ≡ first_of_two (get nat_eq start q) (position (λ y. key y == q) (take i xs)))
+    → ((q : ℕ) → get nat_eq grown q ≡ first_of_two (get nat_eq so_far q) (if key x == q then Some i else None))
+    → (q : ℕ) → get nat_eq grown q ≡ first_of_two (get nat_eq start q) (position (λ y. key y == q) (take (i + 1) xs))
+place_more key start so_far grown xs i x h is kept grows q =
+    let here : Option ℕ = if key (get_or xs i x) == q then Some i else None in
+    grows q
+    ∙ ap (λ y. first_of_two (get nat_eq so_far q) (if key y == q then Some i else None)) is
+    ∙ ap (λ o. first_of_two o here) (kept q)
+    ∙ first_of_three (get nat_eq start q) (position (λ y. key y == q) (take i xs)) here
+    ∙ ap (first_of_two (get nat_eq start q)) (sym (position_more (λ y. key y == q) xs i x h))
+
 -- the positions that are kept behind a kind more
 pub kind_kept : {S : Type 0} (kinds longer : List Kind) (kind : Kind) (literals grown : HashMap ℕ ℕ S) → longer ≡ kinds ++ kind ∷ []
     → ((id : NameId) → get nat_eq literals id.0 ≡ literal_position kinds id)

@@ -17,6 +17,7 @@ pub mod Objecting
 pub mod Accepting
 pub mod Listing
 pub mod Passing
+pub mod Placing
 pub mod Writing
 pub mod Calling
 pub mod Nesting

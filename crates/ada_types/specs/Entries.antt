@@ -1,5 +1,6 @@
 -- What contracts see of entries and ranges.
-use Rattle.std.specs.Prelude.{map}
+use Rattle.std.specs.Prelude.{◌≡◌, ◌==◌, ℕ, nat_eq, position, List, map}
+use Rattle.std.specs.HashMap.{HashMap, get}
 use Rattle.ada_tree.specs.Scope as scope
 use Rattle.ada_types.specs.declared.things.Range.{Range}
 use Rattle.ada_types.specs.declared.things.Family.{Family}
@@ -20,3 +21,7 @@ plain_part f = record { name = f.name; mode = f.mode; mark = f.mark; kind = f.ki
 
 abbrev pub plain_entry : EntryPart → scope.EntryPart
 plain_entry e = record { name = e.name; family = plain_family e.family; formals = map plain_part e.formals.items }
+
+-- the place of the first entry of each name
+abbrev pub ArePlaced : {S : Type 0} → List EntryPart → HashMap ℕ ℕ S → Type 0
+ArePlaced parts places = (q : ℕ) → get nat_eq places q ≡ position (λ e. e.name.0 == q) parts

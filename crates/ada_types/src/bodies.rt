@@ -25,7 +25,7 @@ use std::rc::Rc;
 fn no_entries(alloc: Global) -> Result<Rc<Entries>, AllocError>
     ensures { IfOk result (λ entries. entries.value ≡ []) }
 {
-    match Rc::new(alloc, Entries::new(Vec::new(alloc))) {
+    match Rc::new(alloc, Entries::new(alloc, Vec::new(alloc))?) {
         Ok(entries) => Ok(entries),
         Err(_) => Err(AllocError),
     }

@@ -48,6 +48,7 @@ mod walked_decls;
 mod walking;
 
 pub use errors::TypeError;
+pub use names::mark_of;
 pub use operations::law_of_mod;
-pub use static_values::static_value;
+pub use static_values::{is_static, static_value};
 pub use types::types_of;

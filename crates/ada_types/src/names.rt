@@ -6,8 +6,8 @@ ghost use Rattle.ada_tree.specs.StaticValue.{mark_named, constant_named, positio
 use crate::operations::position_of;
 use ada_tree::{Constant, Kind, Mark, NameId, Types};
 
-// The type or subtype of a name.
-pub(crate) fn mark_of(types: &Types, id: NameId) -> Option<Mark>
+/// The type or subtype of a name.
+pub fn mark_of(types: &Types, id: NameId) -> Option<Mark>
     ensures { result ≡ mark_named types.now id }
 {
     for mark in &types.marks {

@@ -13,15 +13,17 @@ use crate::things::{Entries, Thing};
 use ada_tree::{Constant, Kind, Mark, NameId, Types, Word};
 use scoped_names::ScopedNames;
 use std::alloc::{AllocError, Global};
+use std::collections::HashMap;
 use std::marker::Model;
 use std::mem;
 use std::rc::Rc;
 
-/// What can be used at a place: the types, the names with what they mean, of which the first `base` stand before the innermost scope, whether the place is in main outside all bodies, the entries of the task in whose body it is, the tasks whose bodies are declared before, and whether an instance of INTEGER_IO is.
+/// What can be used at a place: the types, the names with what they mean, of which the first `base` stand before the innermost scope, whether the place is in main outside all bodies, the entries of the task in whose body it is, the tasks whose bodies are declared before, and whether an instance of INTEGER_IO is. For the name of an entry, `hints` has the place of a name that should have such an entry, counted from the first name; a contract sees nothing of it, since no answer depends on it.
 #[derive(Drop)]
 pub(crate) struct Scope {
     table: Table,
     names: ScopedNames<Thing>,
+    hints: HashMap<u32, usize>,
     base: usize,
     in_main: bool,
     own: Rc<Entries>,
@@ -63,11 +65,13 @@ impl Scope {
     {
         let table = first_table(alloc)?;
         let names = first_names(alloc)?;
-        match Rc::new(alloc, Entries::new(Vec::new(alloc))) {
+        let entries = Entries::new(alloc, Vec::new(alloc))?;
+        match Rc::new(alloc, entries) {
             Ok(own) => Ok(Scope {
                 table,
                 base: names.len(),
                 names,
+                hints: HashMap::new(alloc),
                 in_main: true,
                 own,
                 bodies: Vec::new(alloc),
@@ -91,10 +95,26 @@ impl Scope {
         self.in_main
     }
 
+    // Whether the name at which there is a hint for an entry has it.
+    fn is_at_hint(&self, id: NameId) -> bool
+        ensures { result ≡ true → is_entry_somewhere self.now id ≡ true }
+    {
+        if let Some(hint) = self.hints.get(&id.0) {
+            let count = self.names.len();
+            if *hint < count && self.names.at(count - 1 - *hint).has_entry(id) {
+                return true;
+            }
+        }
+        false
+    }
+
     /// Whether a task, a task type or an array of tasks that is declared before has an entry of that name.
     pub(crate) fn is_entry_somewhere(&self, id: NameId) -> bool
         ensures { result ≡ is_entry_somewhere self.now id }
     {
+        if self.is_at_hint(id) {
+            return true;
+        }
         for place in 0..self.names.len() {
             if self.names.at(place).has_entry(id) {
                 return true;
@@ -115,6 +135,14 @@ impl Scope {
         ensures { result.now ≡ self.now.own }
     {
         &*self.own
+    }
+
+    /// The name that is declared next has an entry of that name.
+    pub(crate) fn hint(&mut self, entry: NameId) -> Result<(), AllocError>
+        ensures { OnOk result (self.new ≡ self.old) }
+    {
+        self.hints.insert(entry.0, self.names.len())?;
+        Ok(())
     }
 
     /// A name more in the innermost scope.
@@ -198,6 +226,7 @@ impl Scope {
         let Scope {
             table,
             names,
+            hints,
             base,
             in_main,
             own,
@@ -208,6 +237,7 @@ impl Scope {
         Ok(Scope {
             table,
             names,
+            hints,
             base,
             in_main,
             own,
@@ -223,6 +253,7 @@ impl Scope {
         let Scope {
             table,
             names,
+            hints,
             base,
             in_main,
             own,
@@ -233,6 +264,7 @@ impl Scope {
         Ok(Scope {
             table,
             names,
+            hints,
             base,
             in_main,
             own,
@@ -248,6 +280,7 @@ impl Scope {
         let Scope {
             table,
             names,
+            hints,
             base,
             in_main,
             own,
@@ -258,6 +291,7 @@ impl Scope {
         Ok(Scope {
             table,
             names,
+            hints,
             base,
             in_main,
             own,

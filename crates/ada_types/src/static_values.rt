@@ -27,8 +27,8 @@ fn is_static_word(word: NameId) -> bool
     word == NameId::POS || word == NameId::VAL || word == NameId::SUCC || word == NameId::PRED
 }
 
-// Whether the expression is static.
-fn is_fixed(e: &Expr, types: &Types) -> bool
+/// Whether an expression is static: built of literals, named numbers and scalar constants of the main procedure, operators, and attributes of static parts (4.9).
+pub fn is_static(e: &Expr, types: &Types) -> bool
     ensures { result ≡ is_static types.now (plain_expr e.now) }
 {
     match &e.kind {
@@ -40,12 +40,12 @@ fn is_fixed(e: &Expr, types: &Types) -> bool
             Some(part) => {
                 is_static_word(word.name)
                     && mark_of(types, mark.name).is_some()
-                    && is_fixed(part, types)
+                    && is_static(part, types)
             }
         },
-        ExprKind::Paren(part) => is_fixed(part, types),
-        ExprKind::Unary { part, .. } => is_fixed(part, types),
-        ExprKind::Binary { left, right, .. } => is_fixed(left, types) && is_fixed(right, types),
+        ExprKind::Paren(part) => is_static(part, types),
+        ExprKind::Unary { part, .. } => is_static(part, types),
+        ExprKind::Binary { left, right, .. } => is_static(left, types) && is_static(right, types),
     }
 }
 
@@ -178,7 +178,7 @@ fn evaluate(e: &Expr, types: &Types) -> Result<i64, Span>
 pub fn static_value(e: &Expr, types: &Types) -> Result<i64, TypeError>
     ensures { result ≡ static_answer types.now (plain_expr e.now) }
 {
-    if !is_fixed(e, types) {
+    if !is_static(e, types) {
         return Err(TypeError::NotStatic { span: e.span });
     }
     match evaluate(e, types) {

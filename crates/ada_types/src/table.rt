@@ -45,9 +45,13 @@ fn place_of(count: usize) -> Result<u32, AllocError>
     }
 }
 
-// Keeps something for a number, unless something is kept for it.
+/// Keeps something for a number, unless something is kept for it.
 #[tactic(auto, using(crate::proofs::Keeping::keeping))]
-fn keep_first<T: Copy>(map: &mut HashMap<u32, T>, key: u32, value: T) -> Result<(), AllocError>
+pub(crate) fn keep_first<T: Copy>(
+    map: &mut HashMap<u32, T>,
+    key: u32,
+    value: T,
+) -> Result<(), AllocError>
     ensures { OnOk result ((q : ℕ) → get nat_eq map.new q ≡ first_of_two (get nat_eq map.old q) (if key == q then Some value else None)) }
 {
     if map.contains_key(&key) {

@@ -1,9 +1,9 @@
 // Tasks and task types.
 
-ghost use Rattle.std.specs.Prelude.{◌≡◌, false, map, flat_map, Some, IfOk};
+ghost use Rattle.std.specs.Prelude.{◌≡◌, false, map, flat_map, Some, IfOk, OnOk};
 ghost use Rattle.ada_tree.specs.PlainDecl.{plain_priority, plain_task};
 ghost use Rattle.ada_tree.specs.Scope.{integer_kind};
-ghost use Rattle.ada_tree.specs.Declaring.{task_thing, after_task};
+ghost use Rattle.ada_tree.specs.Declaring.{task_thing, with_name, after_task};
 ghost use Rattle.ada_tree.specs.Sites.{static_of, task_sites};
 ghost use Rattle.ada_types.specs.Met.{met};
 ghost use Rattle.ada_types.specs.Entries.{plain_entry};
@@ -17,7 +17,7 @@ use crate::scope::Scope;
 use crate::things::{Entries, EntryPart, Thing};
 use crate::walked_decls::WalkedDecl;
 use crate::walking::walk_static;
-use ada_tree::{Priority, TaskUnit};
+use ada_tree::{EntryDecl, Priority, TaskUnit};
 use std::alloc::{AllocError, Global};
 use std::rc::Rc;
 
@@ -39,7 +39,7 @@ fn walk_priorities(scope: &Scope, priorities: &[Priority]) -> Option<Refusal>
 fn task_of(alloc: Global, of_kind: bool, parts: Vec<EntryPart>) -> Result<Thing, AllocError>
     ensures { IfOk result (λ thing. plain_thing thing ≡ task_thing of_kind (map plain_entry parts.items)) }
 {
-    match Rc::new(alloc, Entries::new(parts)) {
+    match Rc::new(alloc, Entries::new(alloc, parts)?) {
         Ok(entries) => Ok(if of_kind {
             Thing::TaskType(entries)
         } else {
@@ -47,6 +47,24 @@ fn task_of(alloc: Global, of_kind: bool, parts: Vec<EntryPart>) -> Result<Thing,
         }),
         Err(_) => Err(AllocError),
     }
+}
+
+// Each of these is an entry of the name that is declared next.
+fn hint_at_entries(scope: &mut Scope, entries: &[EntryDecl]) -> Result<(), AllocError>
+    ensures { OnOk result (scope.new ≡ scope.old) }
+{
+    for entry in entries {
+        scope.hint(entry.name.name)?;
+    }
+    Ok(())
+}
+
+// Declares a task or a task type, where its entries are found sooner then.
+fn declare_task(scope: &mut Scope, task: &TaskUnit, thing: Thing) -> Result<(), AllocError>
+    ensures { OnOk result (scope.new ≡ with_name (plain_thing thing) scope.old task.now.name) }
+{
+    hint_at_entries(scope, &task.entries)?;
+    scope.declare(task.name, thing)
 }
 
 /// Walks the declaration of a task or a task type.
@@ -61,7 +79,7 @@ pub(crate) fn walk_task(
     let priorities = walk_priorities(&scope, &task.priorities);
     let thing = task_of(alloc, task.of_kind, walked.parts)?;
     let mut scope = scope;
-    scope.declare(task.name, thing)?;
+    declare_task(&mut scope, task, thing)?;
     Ok(WalkedDecl {
         scope,
         refusal: first(walked.refusal, priorities),

@@ -1,15 +1,19 @@
 // What names mean, as plain data.
 
-ghost use Rattle.std.specs.Prelude.{◌≡◌, [], map, option_map, is_some, IfOk};
+ghost use Rattle.std.specs.Prelude.{◌≡◌, ◌==◌, [], ℕ, nat_eq, position, map, option_map, slice_get, is_some, IfOk, OnOk};
+ghost use Rattle.std.specs.HashMap.{get};
 ghost use Rattle.std.specs.Option.{unwrap_or};
+ghost use Rattle.ada_tree.specs.StaticValue.{first_of_two};
 ghost use Rattle.ada_tree.specs.Scope.{entry_named, entries_of};
 ghost use Rattle.ada_tree.specs.Declaring.{constant_mark};
 ghost use Rattle.ada_tree.specs.Sites.{is_task_object};
 ghost use Rattle.ada_types.specs.Things.{plain_thing};
 ghost use Rattle.ada_types.specs.Entries.{plain_entry};
 
+use crate::table::keep_first;
 use ada_tree::{NameId, ParMode};
-use std::alloc::AllocError;
+use std::alloc::{AllocError, Global};
+use std::collections::HashMap;
 use std::marker::Model;
 use std::rc::Rc;
 
@@ -45,40 +49,61 @@ pub(crate) struct EntryPart {
     pub formals: Vec<FormalPart>,
 }
 
-/// The entries of a task. A contract sees their list.
+/// The entries of a task, and the place of the first of each name. A contract sees their list.
 #[derive(Drop)]
 pub(crate) struct Entries {
     parts: Vec<EntryPart>,
+    places: HashMap<u32, usize>,
 }
 
 impl Model for Entries {
     ghost use Rattle.std.specs.Prelude.{List, map};
     ghost use Rattle.ada_tree.specs.Scope.{EntryPart};
-    ghost use Rattle.ada_types.specs.Entries.{plain_entry};
+    ghost use Rattle.ada_types.specs.Entries.{plain_entry, ArePlaced};
 
     ghost Value = { List EntryPart };
 
     ghost view = { λ a. map plain_entry a.parts.items };
+
+    ghost invariant = { λ a. ArePlaced a.parts.items a.places };
+}
+
+// Keeps the places of the first entries of each name among these.
+#[tactic(auto, using(crate::proofs::Keeping::keeping))]
+fn keep_places(map: &mut HashMap<u32, usize>, parts: &[EntryPart]) -> Result<(), AllocError>
+    ensures { OnOk result ((q : ℕ) → get nat_eq map.new q ≡ first_of_two (get nat_eq map.old q) (position (λ e. e.name.0 == q) parts.now)) }
+{
+    for (place, part) in parts.iter().enumerate() {
+        keep_first(map, part.name.0, place)?;
+    }
+    Ok(())
+}
+
+// The entry at a place.
+fn part_at(parts: &[EntryPart], place: usize) -> Option<&EntryPart>
+    ensures { option_map (λ e. e.now) result ≡ slice_get parts.now place }
+{
+    parts.get(place)
 }
 
 impl Entries {
     /// These entries.
-    pub(crate) fn new(parts: Vec<EntryPart>) -> Self
-        ensures { result ≡ map plain_entry parts.items }
+    pub(crate) fn new(alloc: Global, parts: Vec<EntryPart>) -> Result<Self, AllocError>
+        ensures { IfOk result (λ entries. entries ≡ map plain_entry parts.items) }
     {
-        Entries { parts }
+        let mut places = HashMap::new(alloc);
+        keep_places(&mut places, parts.as_slice())?;
+        Ok(Entries { parts, places })
     }
 
     /// The entry of a name.
     pub(crate) fn named(&self, id: NameId) -> Option<&EntryPart>
         ensures { option_map (λ e. plain_entry e.now) result ≡ entry_named self.now id }
     {
-        for part in &self.parts {
-            if part.name.0 == id.0 {
-                return Some(part);
-            }
+        match self.places.get(&id.0) {
+            Some(place) => part_at(self.parts.as_slice(), *place),
+            None => None,
         }
-        None
     }
 }
 

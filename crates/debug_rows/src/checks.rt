@@ -238,7 +238,7 @@ fn a_broken_rule_is_told_at_its_place(rt: HostRuntime) -> Result<(), Fail> {
 #[test]
 fn other_rules_are_told(rt: HostRuntime) -> Result<(), Fail> {
     let alloc = rt.alloc();
-    let cases: [(&[u8], &[u8]); 10] = [
+    let cases: [(&[u8], &[u8]); 8] = [
         (SHARED, b"SharedVariable at 6:7"),
         (
             b"procedure Q is\n   DED_X : INTEGER;\nbegin null; end Q;\n",
@@ -246,7 +246,7 @@ fn other_rules_are_told(rt: HostRuntime) -> Result<(), Fail> {
         ),
         (
             b"procedure Q is\n   task T;\nbegin null; end Q;\n",
-            b"BodyMissing at 2:9",
+            b"BodyMissing at 2:4",
         ),
         (
             b"procedure Q is\n   X : INTEGER;\n   X : INTEGER;\nbegin null; end Q;\n",
@@ -268,12 +268,23 @@ fn other_rules_are_told(rt: HostRuntime) -> Result<(), Fail> {
             b"procedure Q is\n   task T is entry E(X : out INTEGER); end T;\n   task body T is\n   Y : INTEGER;\n   begin\n      accept E(X : out INTEGER) do\n         Y := X;\n      end E;\n   end T;\nbegin\n   null;\nend Q;\n",
             b"ReadOut at 7:15",
         ),
-        // The first in the text is told, also where a later one has a lower number.
+    ];
+    for case in &cases {
+        let err = joined(alloc, &[b"ded: program refused: ", case.1, b"\n"])?;
+        check_refused(&rt, alloc, case.0, 1, &err)?;
+    }
+    Ok(())
+}
+
+// The first in the text is told, also where a later one has a lower number; but the rules on types are asked first.
+#[test]
+fn one_of_several_refusals_is_told(rt: HostRuntime) -> Result<(), Fail> {
+    let alloc = rt.alloc();
+    let cases: [(&[u8], &[u8]); 2] = [
         (
             b"procedure Q is\n   DED_X : INTEGER;\n   task T;\n   task body T is begin\n      DED_X := 1;\n   end T;\nbegin null; end Q;\n",
             b"ReservedName at 2:4",
         ),
-        // The rules on types are asked first.
         (
             b"procedure Q is\n   DED_X : INTEGER;\nbegin\n   X := 1;\nend Q;\n",
             b"Unknown at 4:4",

@@ -13,7 +13,7 @@ returns c =
     let scope = c.args.scope in
     let task = plain_task c.args.task.now in
     record {
-      scope_is = task_left scope _ task _ _ c.in_ok-declare.ensures.ok c.in_ok-thing.ensures (c.in_ok-walked.ensures.parts_are ∙ ap (λ xs. map (entry_part scope) (map plain_entry xs)) c.deref.ensures.value);
+      scope_is = task_left scope _ task _ _ c.in_ok-declare_task.ensures c.in_ok-thing.ensures (c.in_ok-walked.ensures.parts_are ∙ ap (λ xs. map (entry_part scope) (map plain_entry xs)) c.deref.ensures.value);
       refusal_is =
           c.first.ensures
           ∙ task_met scope task _ _ (c.in_ok-walked.ensures.refusal_is ∙ ap (λ xs. met (entries_sites scope [] (map plain_entry xs))) c.deref.ensures.value)

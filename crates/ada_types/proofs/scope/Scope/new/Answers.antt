@@ -5,6 +5,6 @@ use Rattle.ada_types.proofs.scope.Scope.new.Goals as goal
 
 pub returns-in-Ok : goal.returns-in-Ok
 returns-in-Ok c =
-    begun c.in_ok-table.table c.in_ok-names.names c.len.result c.in-Ok.own.value c.new-in-Ok.result.items
+    begun c.in_ok-table.table c.in_ok-names.names c.len.result c.in-Ok.own.value c.new-in-Ok-2.result.items
     c.in_ok-table.ensures c.in_ok-names.ensures c.len.ensures
-    (c.in-Ok.ensures.ok ∙ c.new-2.ensures ∙ ap (map plain_entry) c.new.ensures.items) c.new-in-Ok.ensures.items
+    (c.in-Ok.ensures.ok ∙ c.in_ok-entries.ensures ∙ ap (map plain_entry) c.new.ensures.items) c.new-in-Ok-2.ensures.items

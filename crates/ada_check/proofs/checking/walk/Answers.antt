@@ -1,0 +1,10 @@
+use Rattle.std.proofs.Common.{◌≡◌, ap, ◌∙◌}
+use Rattle.ada_tree.specs.PlainProgram.{plain_program}
+use Rattle.syn_event.specs.Surrounding.{Surrounding}
+use Rattle.syn_event.specs.Spots.{spots}
+use Rattle.ada_check.specs.Met.{Standard, met}
+use Rattle.ada_check.proofs.Programs.{around_is}
+use Rattle.ada_check.proofs.checking.walk.Goals as goal
+
+pub walk_program-requires : goal.walk_program-requires
+walk_program-requires c = around_is _ _ (plain_program c.args.p.now) c.in_ok-around.ensures c.requires

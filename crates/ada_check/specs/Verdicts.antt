@@ -1,0 +1,36 @@
+-- What an error tells of a program, and what is known of one that was gone through.
+use Rattle.std.specs.Prelude.{◌≡◌, Option, Some, None}
+use Rattle.ada_tree.specs.TypeTable.{TypeTable}
+use Rattle.ada_tree.specs.PlainProgram.{PProgram}
+use Rattle.ada_tree.specs.Refusals.{MeetsTypeRules, types_in}
+use Rattle.ada_types.specs.declared.errors.TypeError.{TypeError}
+use Rattle.ada_types.specs.declared.errors.TypeError.TheVariants as type_error
+use Rattle.ada_types.specs.Telling.{TellsFirst}
+use Rattle.syn_event.specs.declared.numbering.Mode.{Mode}
+use Rattle.syn_event.specs.CheckRefusals.{CheckRefusal, IsFirstCheckRefusal}
+use Rattle.syn_event.specs.Spots.{spots}
+use Rattle.ada_check.specs.Met.{met}
+use Rattle.ada_check.specs.Telling.{refusal_of}
+use Rattle.ada_check.specs.declared.checking.WalkedProgram.{WalkedProgram}
+use Rattle.ada_check.specs.declared.errors.CheckError.{CheckError}
+use Rattle.ada_check.specs.declared.errors.CheckError.TheVariants.{Rule, Memory}
+
+-- an error of the first twelve rules tells their first refusal, and is no want of memory
+abbrev pub TellsTypes : PProgram → TypeError → Type 0
+TellsTypes p type_error.Memory = ⊥
+TellsTypes p e = TellsFirst p e
+
+-- what refuses a program that meets those rules is the first refusal by the others
+abbrev pub TellsCheck : PProgram → Mode → Option CheckRefusal → Type 0
+TellsCheck p m (Some r) = MeetsTypeRules p × IsFirstCheckRefusal p m r
+TellsCheck p m None = Unit {0}
+
+-- An error but want of memory tells why the program is refused.
+abbrev pub TellsWhy : PProgram → Mode → CheckError → Type 0
+TellsWhy p m (Rule e) = TellsTypes p e
+TellsWhy p m e = TellsCheck p m (refusal_of e)
+
+-- a program that was gone through, with its types
+pub record IsWalkedProgram (p : PProgram) (m : Mode) (walked : WalkedProgram) : Type 0 where
+  pub types_are : walked.types ≡ types_in p
+  pub refusal_is : walked.refusal ≡ met record { mode = m; names = p.names } (spots p)

@@ -1,0 +1,122 @@
+// Whether a program meets all static rules, and which types and numbers it has.
+
+ghost use Rattle.std.specs.Prelude.{◌≡◌, IfOk, OnOk, IfErr};
+ghost use Rattle.ada_tree.specs.PlainProgram.{plain_program};
+ghost use Rattle.ada_tree.specs.WellPlaced.{HasTokens};
+ghost use Rattle.ada_tree.specs.Refusals.{MeetsTypeRules, types_in};
+ghost use Rattle.syn_event.specs.Surrounding.{Surrounding};
+ghost use Rattle.syn_event.specs.Spots.{spots, around_program, counted_spots};
+ghost use Rattle.syn_event.specs.LegalProgram.{IsLegal};
+ghost use Rattle.ada_check.specs.Met.{met};
+ghost use Rattle.ada_check.specs.Verdicts.{IsWalkedProgram, TellsWhy};
+
+use crate::copies::refuse_copies;
+use crate::counts::{refuse_entries, refuse_tasks};
+use crate::declarations::walk_decls;
+use crate::errors::CheckError;
+use crate::numbers::numbers_for;
+use crate::refusals::{Refusal, error_of, first};
+use crate::standards::Standard;
+use crate::statements::walk_body;
+use crate::surroundings::Surroundings;
+use crate::task_parts::parts_of;
+use ada_tree::{Program, Types};
+use ada_types::{TypeError, types_of};
+use std::alloc::{AllocError, Global};
+use syn_event::{Mode, Numbers};
+
+/// What is known of a program that meets all static rules: its types, marks and constants, and the numbers of its tasks and entries.
+#[derive(Drop)]
+pub struct Checked {
+    pub types: Types,
+    pub numbers: Numbers,
+}
+
+/// The types of a program, and the first refusal at its places.
+#[derive(Drop)]
+struct WalkedProgram {
+    types: Types,
+    refusal: Option<Refusal>,
+}
+
+// What is counted over the whole program.
+fn refuse_counts(
+    alloc: Global,
+    by: &Standard,
+    types: &Types,
+    p: &Program,
+) -> Result<Option<Refusal>, AllocError>
+    ensures { (around : Surrounding) → around.types ≡ types.now → IfOk result (λ r. r ≡ met by.now (counted_spots around (plain_program p.now))) }
+{
+    let found = parts_of(alloc, p)?;
+    let parts = found.as_slice();
+    let tasks = refuse_tasks(by, types, parts);
+    let entries = refuse_entries(by, types, parts);
+    let copies = refuse_copies(alloc, by, types, parts, p)?;
+    Ok(first(first(tasks, entries), copies))
+}
+
+// The first refusal at the places of a program, which stand in what is around it.
+fn walk_program(
+    around: &mut Surroundings,
+    alloc: Global,
+    by: &Standard,
+    p: &Program,
+) -> Result<Option<Refusal>, AllocError>
+    requires { around.old ≡ around_program (plain_program p.now) }
+    ensures told { IfOk result (λ r. r ≡ met by.now (spots (plain_program p.now))) }
+    ensures types { OnOk result (around.new.types ≡ around.old.types) }
+{
+    let counted = refuse_counts(alloc, by, around.types(), p)?;
+    let name = by.refuse_name(p.name);
+    let declared = walk_decls(around, alloc, by, &p.decls)?;
+    let inner = walk_body(around, by, 1, &p.body)?;
+    Ok(first(first(first(name, declared), inner), counted))
+}
+
+// The types of a program and its first refusal.
+fn walk(alloc: Global, types: Types, p: &Program, mode: Mode) -> Result<WalkedProgram, AllocError>
+    requires { types ≡ types_in (plain_program p.now) }
+    ensures { IfOk result (IsWalkedProgram (plain_program p.now) mode) }
+{
+    let by = Standard::new(mode, &p.names);
+    let mut around = Surroundings::new(alloc, types, p.name)?;
+    let refusal = walk_program(&mut around, alloc, &by, p)?;
+    Ok(WalkedProgram {
+        types: around.into_types(),
+        refusal,
+    })
+}
+
+// A program that meets the first twelve rules and has these types.
+fn check_on(alloc: Global, types: Types, p: &Program, mode: Mode) -> Result<Checked, CheckError>
+    requires tokens { HasTokens (plain_program p.now) }
+    requires types { types ≡ types_in (plain_program p.now) }
+    requires rules { MeetsTypeRules (plain_program p.now) }
+    ensures ok { IfOk result (λ c. IsLegal (plain_program p.now) c.types c.numbers mode) }
+    ensures err { IfErr result (TellsWhy (plain_program p.now) mode) }
+{
+    match walk(alloc, types, p, mode) {
+        Ok(WalkedProgram { types, refusal }) => match refusal {
+            Some(refusal) => Err(error_of(refusal)),
+            None => match numbers_for(alloc, p, &types) {
+                Ok(numbers) => Ok(Checked { types, numbers }),
+                Err(_) => Err(CheckError::Memory),
+            },
+        },
+        Err(_) => Err(CheckError::Memory),
+    }
+}
+
+/// Whether a program, each of whose names, numbers and strings the source can hold, meets all static rules, by a mode. Its types and the numbers of its tasks and entries are handed out where it does. Otherwise the error tells the first refusal: by the first twelve rules where one of these refuses something, and else by the others. `Memory` alone may stand for every answer.
+pub fn check(alloc: Global, p: &Program, mode: Mode) -> Result<Checked, CheckError>
+    requires { HasTokens (plain_program p.now) }
+    ensures ok { IfOk result (λ c. IsLegal (plain_program p.now) c.types c.numbers mode) }
+    ensures err { IfErr result (TellsWhy (plain_program p.now) mode) }
+{
+    match types_of(alloc, p) {
+        Ok(types) => check_on(alloc, types, p, mode),
+        Err(TypeError::Memory) => Err(CheckError::Memory),
+        Err(error) => Err(CheckError::Rule(error)),
+    }
+}
