@@ -1,7 +1,7 @@
 -- The status of a failure, its causes from the parts of a command to the whole, and its line.
 use Rattle.std.proofs.Common.{◌≡◌, ◌≢◌, ◌≤◌, ℕ, List, [], length, Option, Some, None, Result, Ok, Err, ◌⊎◌, inl, inr, sym, subst, ap, ◌∙◌, refl}
 use Rattle.std.proofs.lemmas.List.{append-nil}
-use Rattle.std.specs.Prelude.{IfErr}
+use Rattle.std.specs.Prelude.{IfOk, IfErr}
 use Rattle.ded_io.specs.Counts.{Rose}
 use Rattle.ded_io.specs.Told.{ToldFile, Longer}
 use Rattle.ded_io.specs.Written.{Wrote, appended}
@@ -22,7 +22,7 @@ use Rattle.debug_core.specs.Outputs.{IsWritten, IsUntouched}
 use Rattle.debug_core.specs.Causes.{Sides, HasErrorLine, WasLoaded, IsHeld, IsUnread, IsLoadCause}
 use Rattle.debug_core.specs.MachineTexts.{IsProgram, IsReadCause}
 use Rattle.syn_event.specs.declared.numbering.Mode.TheVariants.{Any, Original}
-use Rattle.debug_core.specs.RunAnswers.{AnswersRun, IsFileCause, IsOutputCause, IsRunFailure, HasRunCause, run_limit}
+use Rattle.debug_core.specs.RunAnswers.{AnswersRun, HasRun, RunWritten, IsFileCause, IsOutputCause, IsRunFailure, HasRunCause, run_limit}
 use Rattle.debug_core.specs.JudgeAnswers.{AnswersJudge, AreLoadCauses, IsFilesCause, IsJudgeCause, IsLinesCause, IsVerdictCause, IsJudgeFailure, HasJudgeCause, HasBadSequence, HoldsBadSequence, WereLoaded, judged_limit, sequence_limit}
 
 -- a failure whose line is written
@@ -105,6 +105,12 @@ file_unread told file text reads reads' out writes OutputFailed loaded h = absur
 file_unread told file text reads reads' out writes (TooLong limit) loaded h = absurd h
 file_unread told file text reads reads' out writes (TooMany limit) loaded h = h
 file_unread told file text reads reads' out writes Memory loaded h = h
+
+pub file_ran : (told : Option (List ToldFile)) (file text : List ℕ) (turns : ℕ) (p : PProgram) (types : TypeTable) (numbers : Numbering) (out out' : Option (List ℕ)) (writes writes' : ℕ) (r : Result RunEnd Failure) →
+    WasLoaded told file run_limit text → IsProgram text Any p types numbers → IfOk r (RunWritten p numbers turns out out' writes writes') → IfOk r (HasRun told file turns out out' writes writes')
+file_ran told file text turns p types numbers out out' writes writes' (Ok end) loaded is h =
+    record { text = text; loaded = loaded; program = p; types = types; numbers = numbers; is_program = is; run = h }
+file_ran told file text turns p types numbers out out' writes writes' (Err failure) loaded is h = h
 
 pub file_unwritten : (told : Option (List ToldFile)) (file : List ℕ) (reads reads' : ℕ) (out out' : Option (List ℕ)) (writes writes' : ℕ) (failure : Failure) →
     IsOutputCause writes writes' failure → IsFileCause told file reads reads' out out' writes writes' failure
