@@ -1,9 +1,9 @@
 -- The lines of tasks or of entries, written one after the other.
-use Rattle.std.proofs.Common.{◌≡◌, ℕ, zero, suc, pos, ◌+◌, ◌<◌, List, [], ◌∷◌, ◌++◌, length, drop, get_or, ap, sym, subst, ◌∙◌, refl, add-one, append_assoc, append-nil, false, ◌≤◌, Option, Some, None, Result, Ok, Err}
-use Rattle.ded_io.specs.Written.{appended, Began, Wrote, ◌⧺◌}
+use Rattle.std.proofs.Common.{◌≡◌, ℕ, suc, pos, ◌+◌, ◌<◌, List, [], ◌++◌, length, drop, get_or, ap, sym, ◌∙◌, refl, add-one, append_assoc, append-nil, false, ◌≤◌, Option, None, Ok, Err}
+use Rattle.ded_io.specs.Written.{appended, Wrote}
 use Rattle.std.proofs.Math.Seq.{drop-cons}
 use Rattle.std.proofs.lemmas.List.{drop_all}
-use Rattle.ded_io.proofs.Writes.{appended-appended, appended-nil, joined, began_then}
+use Rattle.ded_io.proofs.Writes.{appended-appended, appended-nil, joined}
 use Rattle.syn_event.specs.declared.numbering.EntryInfo.{EntryInfo}
 use Rattle.syn_event.specs.declared.numbering.TaskInfo.{TaskInfo}
 use Rattle.debug_core.specs.RunText.{lines_at}

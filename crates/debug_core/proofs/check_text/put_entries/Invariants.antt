@@ -1,5 +1,4 @@
 use Rattle.std.proofs.Common.{◌≡◌, ◌+◌, drop}
-use Rattle.ded_io.specs.Written.{appended, ◌⧺◌}
 use Rattle.debug_core.specs.CheckText.{entry_line, entry_lines}
 use Rattle.debug_core.specs.RunText.{lines_at}
 use Rattle.debug_core.proofs.Lining.{HasLines}

@@ -1,5 +1,4 @@
 use Rattle.std.proofs.Common.{◌≡◌, drop}
-use Rattle.ded_io.specs.Written.{appended, ◌⧺◌}
 use Rattle.debug_core.specs.RunText.{task_line, task_lines, lines_at}
 use Rattle.debug_core.proofs.Lining.{HasLines}
 use Rattle.debug_core.proofs.run_text.put_tasks.Given as goal
