@@ -1,9 +1,9 @@
 -- The status of a failure, its causes from the parts of a command to the whole, and its line.
-use Rattle.std.proofs.Common.{◌≡◌, ◌≢◌, ◌≤◌, ℕ, List, [], length, Option, Some, None, Result, Ok, Err, ◌⊎◌, inl, inr, sym, subst, ap, ◌∙◌, refl}
+use Rattle.std.proofs.Common.{◌≡◌, ◌≢◌, ◌≤◌, ℕ, List, [], Option, Some, None, Result, Ok, Err, inl, inr, ap, ◌∙◌, refl}
 use Rattle.std.proofs.lemmas.List.{append-nil}
 use Rattle.std.specs.Prelude.{IfOk, IfErr}
 use Rattle.ded_io.specs.Counts.{Rose}
-use Rattle.ded_io.specs.Told.{ToldFile, Longer}
+use Rattle.ded_io.specs.Told.{ToldFile}
 use Rattle.ded_io.specs.Written.{Wrote, appended}
 use Rattle.ded_io.proofs.Counted.{rose_behind}
 use Rattle.ada_tree.specs.PlainProgram.{PProgram}
@@ -19,11 +19,11 @@ use Rattle.debug_core.specs.declared.failing.Failure.TheVariants.{BadText, BadPr
 use Rattle.debug_core.specs.declared.failing.Source.TheVariants.{Program, Sequence}
 use Rattle.debug_core.specs.Failures.{failure_status, failure_line, failure_of, first_words, Fails}
 use Rattle.debug_core.specs.Outputs.{IsWritten, IsUntouched}
-use Rattle.debug_core.specs.Causes.{Sides, HasErrorLine, WasLoaded, IsHeld, IsUnread, IsLoadCause}
+use Rattle.debug_core.specs.Causes.{Sides, HasErrorLine, WasLoaded, IsUnread, IsLoadCause}
 use Rattle.debug_core.specs.MachineTexts.{IsProgram, IsReadCause}
 use Rattle.syn_event.specs.declared.numbering.Mode.TheVariants.{Any, Original}
 use Rattle.debug_core.specs.RunAnswers.{AnswersRun, HasRun, RunWritten, IsFileCause, IsOutputCause, IsRunFailure, HasRunCause, run_limit}
-use Rattle.debug_core.specs.JudgeAnswers.{AnswersJudge, AreLoadCauses, IsFilesCause, IsJudgeCause, IsLinesCause, IsVerdictCause, IsJudgeFailure, HasJudgeCause, HasBadSequence, HoldsBadSequence, WereLoaded, judged_limit, sequence_limit}
+use Rattle.debug_core.specs.JudgeAnswers.{AnswersJudge, AreLoadCauses, IsFilesCause, IsJudgeCause, IsLinesCause, IsVerdictCause, IsJudgeFailure, HasJudgeCause, WereLoaded, judged_limit, sequence_limit}
 
 -- a failure whose line is written
 pub failed_with : (A E : Type 0) (x : A) (failure : Failure) (program sequence : List ℕ) (err err' : Option (List ℕ)) (lines lines' status : ℕ) →

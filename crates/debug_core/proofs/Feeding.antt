@@ -1,5 +1,5 @@
 -- A judge that is given events one by one, up to the first that is not found feasible.
-use Rattle.std.proofs.Common.{◌≡◌, ℕ, ◌+◌, ◌-◌, ◌<◌, ◌≤◌, Bool, true, false, List, [], ◌∷◌, ◌++◌, length, take, drop, get_or, Option, Some, None, refl, sym, ap, ◌∙◌, subst, arith, true≢false}
+use Rattle.std.proofs.Common.{◌≡◌, ℕ, ◌+◌, ◌-◌, ◌<◌, ◌≤◌, true, false, List, [], ◌∷◌, ◌++◌, length, take, drop, get_or, Some, refl, sym, ap, ◌∙◌, subst, arith, true≢false}
 use Rattle.std.specs.Prelude.{All, IfSome, slice_get}
 use Rattle.std.proofs.lemmas.List.{take_more, length-append, length-take-le, take-append-drop, take_all}
 use Rattle.std.proofs.lemmas.Option.{slice_get-get_or}
@@ -23,7 +23,7 @@ use Rattle.feasible.proofs.Fronts.{no_end_front}
 use Rattle.divergence.specs.JudgeText.{event_of}
 use Rattle.divergence.specs.Seen.{AreSettled}
 use Rattle.debug_core.specs.Fed.{IsFed}
-use Rattle.debug_core.specs.JudgeAnswers.{AreSeen, ShowsWhy}
+use Rattle.debug_core.specs.JudgeAnswers.{AreSeen}
 
 -- the end of a sequence is the last event of a program
 last_is_end : (e : Event) → is_last e ≡ true → is_end e ≡ true

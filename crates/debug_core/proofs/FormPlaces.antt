@@ -1,5 +1,5 @@
 -- Where the parts of the code's lists stand, and what is looked for as a list is gone through.
-use Rattle.std.proofs.Common.{◌≡◌, ℕ, ◌+◌, ◌<◌, ◌≤◌, Bool, true, false, cond, List, [], ◌∷◌, length, map, drop, get_or, Option, Some, None, refl, sym, ap, ◌∙◌, arith}
+use Rattle.std.proofs.Common.{◌≡◌, ℕ, ◌+◌, ◌<◌, ◌≤◌, false, cond, List, [], ◌∷◌, length, map, drop, get_or, Some, refl, sym, ap, ◌∙◌, arith}
 use Rattle.std.proofs.lemmas.List.{at_drop_more}
 use Rattle.std.specs.Prelude.{◌&&◌}
 use Rattle.std.specs.List.{list_all}
@@ -10,7 +10,7 @@ use Rattle.ada_tree.specs.declared.statements.StmtKind.{StmtKind, Null, Assign, 
 use Rattle.ada_tree.specs.declared.declarations.Decl.{Decl}
 use Rattle.ada_tree.specs.declared.declarations.EntryDecl.{EntryDecl}
 use Rattle.ada_tree.specs.declared.declarations.DeclKind.{DeclKind, Number, Object, Enumeration, Array, Subtype, Exception, IntIo, Pragma, Task, TaskBody'}
-use Rattle.ada_tree.specs.PlainStmt.{PHandler, PHandlers, handler_then, row_of, handlers_of, stmt_at, plain_stmt, plain_handler}
+use Rattle.ada_tree.specs.PlainStmt.{PHandler, handler_then, row_of, handlers_of, stmt_at, plain_stmt, plain_handler}
 use Rattle.ada_tree.specs.PlainDecl.{decls_of, decl_at, plain_decl, plain_entry}
 use Rattle.ada_tree.proofs.Rows.{plain_handler-out}
 use Rattle.debug_core.specs.MachineForms.{is_plain_entry, is_plain_stmt, stmt_place, decl_place, stmts_beyond, handlers_beyond, objects_beyond}

@@ -1,5 +1,5 @@
 -- The text of a verdict is that of all events.
-use Rattle.std.proofs.Common.{◌≡◌, ℕ, List, length, Option, Ok, ap, sym, ◌∙◌, subst}
+use Rattle.std.proofs.Common.{◌≡◌, ℕ, List, length, Option, Ok, ap, ◌∙◌}
 use Rattle.ded_io.specs.Written.{appended, Wrote}
 use Rattle.ada_tree.specs.PlainProgram.{PProgram}
 use Rattle.event_machine.specs.declared.Event.{Event}
@@ -7,8 +7,7 @@ use Rattle.syn_event.specs.Numbering.{Numbering}
 use Rattle.task_machine.specs.declared.verdict.Verdict.{Verdict}
 use Rattle.feasible.specs.Failing.{view_at}
 use Rattle.feasible.specs.Kept.{Kept}
-use Rattle.divergence.specs.JudgeText.{report_text, judge_text, event_of}
-use Rattle.divergence.specs.Seen.{AreSettled}
+use Rattle.divergence.specs.JudgeText.{report_text, event_of}
 use Rattle.debug_core.specs.Fed.{IsFed}
 use Rattle.debug_core.specs.JudgeAnswers.{VerdictWritten}
 

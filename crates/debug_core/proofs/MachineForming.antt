@@ -1,17 +1,16 @@
 -- A program has the machine's forms exactly where there is no place of one that the machine does not have.
-use Rattle.std.proofs.Common.{◌≡◌, ◌==◌, ◌||◌, Bool, true, false, not, ◌&&◌, List, [], ◌∷◌, length, Option, Some, None, cond, All, refl, sym, ap, ◌∙◌, true≢false}
+use Rattle.std.proofs.Common.{◌≡◌, ◌==◌, Bool, true, false, not, ◌&&◌, List, [], ◌∷◌, length, Option, Some, None, cond, refl, sym, ap, ◌∙◌, true≢false}
 use Rattle.std.proofs.lemmas.Bool.{and_parts, and_from, eqb-true, eq-eqb}
 use Rattle.std.proofs.lemmas.List.{nil_from_length}
 use Rattle.std.proofs.lemmas.List.Elements.{All-from_recursion, recursion_from_All}
 use Rattle.std.specs.List.{AllByRecursion, list_all}
 use Rattle.std.specs.Option.{is_none, option_or}
-use Rattle.ada_tree.specs.declared.naming.Span.{Span}
 use Rattle.ada_tree.specs.PlainStmt.{PStmt, SNull, SCall, SAccept, PStmts, no_stmt, stmt_then, PMaybe, absent, present, accepting, PBody, body, PHandlers, no_handler, handler_then, handler}
-use Rattle.ada_tree.specs.PlainDecl.{PEntry, PTask, PDecl, DTask, DTaskBody, PDecls, no_decl, decl_then}
+use Rattle.ada_tree.specs.PlainDecl.{PEntry, PTask, DTask, DTaskBody, PDecls, no_decl, decl_then}
 use Rattle.ada_tree.specs.PlainProgram.{PProgram}
-use Rattle.syn_event.specs.Units.{decl_list, stmt_list, body_stmts}
+use Rattle.syn_event.specs.Units.{decl_list, stmt_list}
 use Rattle.syn_event.specs.Forms.{IsPlainEntry, IsPlainTask, IsPlainStmt, IsPlainBody, AreBodies, AreTasksThenBodies, HasPlainForms}
-use Rattle.debug_core.specs.MachineForms.{is_absent, is_plain_entry, is_plain_task, is_plain_stmt, is_plain_call, stmt_place, stmts_beyond, handlers_beyond, body_beyond, objects_beyond, decl_beyond, decls_beyond, first_beyond}
+use Rattle.debug_core.specs.MachineForms.{is_absent, is_plain_entry, is_plain_task, is_plain_stmt, stmt_place, stmts_beyond, handlers_beyond, body_beyond, objects_beyond, decl_beyond, decls_beyond, first_beyond}
 
 some_none : {A : Type 0} (x : A) → Some x ≡ None → ⊥
 some_none x e = cc

@@ -1,5 +1,5 @@
 -- What is known of a text whose program meets all static rules, by whether it has forms that the machine does not have.
-use Rattle.std.proofs.Common.{◌≡◌, ℕ, List, Option, Some, None, refl, sym, subst, ◌∙◌}
+use Rattle.std.proofs.Common.{◌≡◌, ℕ, List, Some, None, refl, sym, subst, ◌∙◌}
 use Rattle.ada_lexer.specs.Places.{line_at, column_at}
 use Rattle.ada_tree.specs.declared.naming.Span.{Span}
 use Rattle.ada_tree.specs.PlainProgram.{PProgram}

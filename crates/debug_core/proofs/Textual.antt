@@ -1,5 +1,5 @@
 -- The whole text of a run, from its three pieces.
-use Rattle.std.proofs.Common.{◌≡◌, ℕ, List, [], ◌++◌, ap, sym, ◌∙◌, Option, Result, Ok}
+use Rattle.std.proofs.Common.{◌≡◌, ℕ, List, [], ◌++◌, ap, sym, ◌∙◌, Option, Ok}
 use Rattle.ded_io.specs.Written.{appended, Wrote, ◌⧺◌}
 use Rattle.ada_tree.specs.PlainProgram.{PProgram}
 use Rattle.ded_io.specs.Stored.{first_choice, behind_choice}

@@ -1,6 +1,6 @@
 -- The name of a legal program is one that a header of a sequence may have.
 use Rattle.std.proofs.Common.{◌≡◌, ℕ, Bool, true, false, cond, List, [], ◌∷◌, refl, sym, ap, ◌∙◌, inl, inr}
-use Rattle.std.specs.Prelude.{not, ◌&&◌, ◌||◌, ◌==◌, All}
+use Rattle.std.specs.Prelude.{not, ◌&&◌, ◌||◌, ◌==◌}
 use Rattle.std.proofs.lemmas.Bool.{cases_Bool, and_parts, and_from, or_left, or_right, true≢false}
 use Rattle.std.proofs.lemmas.List.Elements.{All-head}
 use Rattle.ada_tree.specs.Lexical.{is_upper_letter, is_digit, goes_on, is_word}

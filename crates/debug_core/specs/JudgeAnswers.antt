@@ -1,5 +1,5 @@
 -- The statuses of the command that judges a sequence, and the cause of each (this project's rules).
-use Rattle.std.specs.Prelude.{◌≡◌, ℕ, ◌-◌, List, [], length, take, slice_get, All, IfSome, ⊤, Option, Result, Ok, Err, ◌⊎◌}
+use Rattle.std.specs.Prelude.{◌≡◌, ℕ, ◌-◌, List, take, All, IfSome, ⊤, Option, Result, Ok, Err, ◌⊎◌}
 use Rattle.ded_io.specs.Counts.{Rose}
 use Rattle.ded_io.specs.Told.{ToldFile, Longer}
 use Rattle.ada_tree.specs.PlainProgram.{PProgram}

@@ -1,5 +1,5 @@
 -- The place of the first declaration or statement of a program that the machine does not have yet, in the order of the text (this project's rules).
-use Rattle.std.specs.Prelude.{◌==◌, Bool, true, false, not, ◌&&◌, ◌||◌, List, [], ◌∷◌, length, Option, Some, None, if◌then◌else◌}
+use Rattle.std.specs.Prelude.{◌==◌, Bool, true, false, not, ◌&&◌, ◌||◌, length, Option, Some, None, if◌then◌else◌}
 use Rattle.std.specs.List.{list_all}
 use Rattle.std.specs.Option.{is_none, option_or}
 use Rattle.ada_tree.specs.declared.naming.Span.{Span}

@@ -1,6 +1,6 @@
 -- The text that a run writes (this project's format).
-use Rattle.std.specs.Prelude.{ℕ, ◌+◌, List, [], ◌∷◌, codes, decimal, zip, length}
-use Rattle.ded_io.specs.Written.{◌⧺◌, each_text}
+use Rattle.std.specs.Prelude.{ℕ, ◌+◌, List, [], ◌∷◌, codes, decimal}
+use Rattle.ded_io.specs.Written.{◌⧺◌}
 use Rattle.event_machine.specs.declared.Event.{Event}
 use Rattle.interp.specs.declared.report.RunEnd.{RunEnd}
 use Rattle.interp.specs.declared.report.RunEnd.TheVariants.{Ended, Stuck, Turns}
