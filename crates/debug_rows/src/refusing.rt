@@ -7,27 +7,39 @@ use std::test::Fail;
 
 const EMPTY_SEQUENCE: &[u8] = b"ded-seq 1 P 0 0\n";
 
+/// A text that is refused, and the line that tells it.
+struct Refused<'r> {
+    program: &'r [u8],
+    err: &'r [u8],
+}
+
 // Each text is refused with status 1 and its line, whether it is run or judged, and nothing is written on the output.
-fn check_refused(
-    rt: &impl Abort,
-    alloc: Global,
-    cases: &[(&[u8], &[u8])],
-) -> Result<(), AllocError> {
-    for (program, err) in cases {
-        for words in ["run P1 - - 100", "judge P1 - s 100"] {
-            check_row(
-                rt,
-                alloc,
-                &Row {
-                    words,
-                    program,
-                    sequence: EMPTY_SEQUENCE,
-                    status: 1,
-                    out: b"",
-                    err,
-                },
-            )?;
-        }
+fn check_refused(rt: &impl Abort, alloc: Global, cases: &[Refused<'_>]) -> Result<(), AllocError> {
+    for case in cases {
+        check_row(
+            rt,
+            alloc,
+            &Row {
+                words: "run P1 - - 100",
+                program: case.program,
+                sequence: b"",
+                status: 1,
+                out: b"",
+                err: case.err,
+            },
+        )?;
+        check_row(
+            rt,
+            alloc,
+            &Row {
+                words: "judge P1 - s 100",
+                program: case.program,
+                sequence: b"",
+                status: 1,
+                out: b"",
+                err: case.err,
+            },
+        )?;
     }
     Ok(())
 }
@@ -39,19 +51,22 @@ fn a_faulty_text_is_refused_at_its_place(rt: HostRuntime) -> Result<(), Fail> {
         &rt,
         alloc,
         &[
-            (b"", b"ded: program refused: Syntax at 1:1\n"),
-            (
-                b"procedure P is begin end P;",
-                b"ded: program refused: Syntax at 1:22\n",
-            ),
-            (
-                b"procedure P is begin null; end Q;",
-                b"ded: program refused: Syntax at 1:32\n",
-            ),
-            (
-                b"procedure P is begin null; # end;",
-                b"ded: program refused: BadByte at 1:28\n",
-            ),
+            Refused {
+                program: b"",
+                err: b"ded: program refused: Syntax at 1:1\n",
+            },
+            Refused {
+                program: b"procedure P is begin end P;",
+                err: b"ded: program refused: Syntax at 1:22\n",
+            },
+            Refused {
+                program: b"procedure P is begin null; end Q;",
+                err: b"ded: program refused: Syntax at 1:32\n",
+            },
+            Refused {
+                program: b"procedure P is begin null; # end;",
+                err: b"ded: program refused: BadByte at 1:28\n",
+            },
         ],
     )?;
     Ok(())
@@ -64,46 +79,46 @@ fn a_broken_rule_is_told_at_its_place(rt: HostRuntime) -> Result<(), Fail> {
         &rt,
         alloc,
         &[
-            (
-                b"procedure P is task T; begin null; end P;",
-                b"ded: program refused: BodyMissing at 1:16\n",
-            ),
-            (
-                b"procedure P is task body T is begin null; end T; begin null; end P;",
-                b"ded: program refused: Unknown at 1:26\n",
-            ),
-            (
-                b"procedure P is task P; task body P is begin null; end; begin null; end P;",
-                b"ded: program refused: Duplicate at 1:21\n",
-            ),
-            (
-                b"procedure GET is begin null; end;",
-                b"ded: program refused: Duplicate at 1:11\n",
-            ),
-            (
-                b"procedure P is begin P.E; end;",
-                b"ded: program refused: MainEntry at 1:22\n",
-            ),
-            (
-                b"procedure P is task T is entry E; entry E; end; task body T is begin null; end; begin null; end;",
-                b"ded: program refused: Duplicate at 1:41\n",
-            ),
-            (
-                b"procedure P is task T is entry E; end; task body T is begin null; end; begin T.F; end;",
-                b"ded: program refused: Unknown at 1:80\n",
-            ),
-            (
-                b"procedure P is task T is entry E; end; task body T is begin null; end; begin accept E; end;",
-                b"ded: program refused: AcceptPlace at 1:78\n",
-            ),
-            (
-                b"procedure P is task T; task body T is begin null; end; task body T is begin null; end; begin null; end;",
-                b"ded: program refused: Duplicate at 1:66\n",
-            ),
-            (
-                b"procedure P is X : INTEGER; begin T.E; end P;",
-                b"ded: program refused: Unknown at 1:35\n",
-            ),
+            Refused {
+                program: b"procedure P is task T; begin null; end P;",
+                err: b"ded: program refused: BodyMissing at 1:16\n",
+            },
+            Refused {
+                program: b"procedure P is task body T is begin null; end T; begin null; end P;",
+                err: b"ded: program refused: Unknown at 1:26\n",
+            },
+            Refused {
+                program: b"procedure P is task P; task body P is begin null; end; begin null; end P;",
+                err: b"ded: program refused: Duplicate at 1:21\n",
+            },
+            Refused {
+                program: b"procedure GET is begin null; end;",
+                err: b"ded: program refused: Duplicate at 1:11\n",
+            },
+            Refused {
+                program: b"procedure P is begin P.E; end;",
+                err: b"ded: program refused: MainEntry at 1:22\n",
+            },
+            Refused {
+                program: b"procedure P is task T is entry E; entry E; end; task body T is begin null; end; begin null; end;",
+                err: b"ded: program refused: Duplicate at 1:41\n",
+            },
+            Refused {
+                program: b"procedure P is task T is entry E; end; task body T is begin null; end; begin T.F; end;",
+                err: b"ded: program refused: Unknown at 1:80\n",
+            },
+            Refused {
+                program: b"procedure P is task T is entry E; end; task body T is begin null; end; begin accept E; end;",
+                err: b"ded: program refused: AcceptPlace at 1:78\n",
+            },
+            Refused {
+                program: b"procedure P is task T; task body T is begin null; end; task body T is begin null; end; begin null; end;",
+                err: b"ded: program refused: Duplicate at 1:66\n",
+            },
+            Refused {
+                program: b"procedure P is X : INTEGER; begin T.E; end P;",
+                err: b"ded: program refused: Unknown at 1:35\n",
+            },
         ],
     )?;
     Ok(())
@@ -116,46 +131,46 @@ fn the_first_form_that_the_machine_lacks_is_told(rt: HostRuntime) -> Result<(), 
         &rt,
         alloc,
         &[
-            (
-                b"procedure Q is task B; task body B is begin PUT_LINE(\"A\"); end B; begin null; end Q;",
-                b"ded: program refused: NotYet at 1:45\n",
-            ),
-            (
-                b"procedure P is task type T; task body T is begin null; end T; begin null; end P;",
-                b"ded: program refused: NotYet at 1:16\n",
-            ),
-            (
-                b"procedure P is task A; X : INTEGER; task body A is begin null; end A; begin null; end P;",
-                b"ded: program refused: NotYet at 1:24\n",
-            ),
-            (
-                b"procedure P is task T is entry E(1 .. 2); end T; task body T is begin null; end T; begin null; end P;",
-                b"ded: program refused: NotYet at 1:16\n",
-            ),
-            (
-                b"procedure P is task T is entry E; end T; task body T is begin null; accept E do null; end E; end T; begin T.E; end P;",
-                b"ded: program refused: NotYet at 1:69\n",
-            ),
-            (
-                b"procedure P is task T; task body T is X : INTEGER; begin delay 1.0; end T; begin null; end P;",
-                b"ded: program refused: NotYet at 1:39\n",
-            ),
-            (
-                b"procedure P is begin null; exception when others => null; end P;",
-                b"ded: program refused: NotYet at 1:38\n",
-            ),
-            (
-                b"procedure P is begin null; delay 1.0; exception when others => null; end P;",
-                b"ded: program refused: NotYet at 1:28\n",
-            ),
-            (
-                b"procedure P is task A; task body A is begin null; end A; task B; task body B is begin null; end B; begin null; end P;",
-                b"ded: program refused: NotYet at 1:58\n",
-            ),
-            (
-                b"procedure P is\n   task A;\n   task body A is\n   begin\n      loop\n         exit;\n      end loop;\n   end A;\nbegin\n   delay 1.0;\nend P;\n",
-                b"ded: program refused: NotYet at 5:7\n",
-            ),
+            Refused {
+                program: b"procedure Q is task B; task body B is begin PUT_LINE(\"A\"); end B; begin null; end Q;",
+                err: b"ded: program refused: NotYet at 1:45\n",
+            },
+            Refused {
+                program: b"procedure P is task type T; task body T is begin null; end T; begin null; end P;",
+                err: b"ded: program refused: NotYet at 1:16\n",
+            },
+            Refused {
+                program: b"procedure P is task A; X : INTEGER; task body A is begin null; end A; begin null; end P;",
+                err: b"ded: program refused: NotYet at 1:24\n",
+            },
+            Refused {
+                program: b"procedure P is task T is entry E(1 .. 2); end T; task body T is begin null; end T; begin null; end P;",
+                err: b"ded: program refused: NotYet at 1:16\n",
+            },
+            Refused {
+                program: b"procedure P is task T is entry E; end T; task body T is begin null; accept E do null; end E; end T; begin T.E; end P;",
+                err: b"ded: program refused: NotYet at 1:69\n",
+            },
+            Refused {
+                program: b"procedure P is task T; task body T is X : INTEGER; begin delay 1.0; end T; begin null; end P;",
+                err: b"ded: program refused: NotYet at 1:39\n",
+            },
+            Refused {
+                program: b"procedure P is begin null; exception when others => null; end P;",
+                err: b"ded: program refused: NotYet at 1:38\n",
+            },
+            Refused {
+                program: b"procedure P is begin null; delay 1.0; exception when others => null; end P;",
+                err: b"ded: program refused: NotYet at 1:28\n",
+            },
+            Refused {
+                program: b"procedure P is task A; task body A is begin null; end A; task B; task body B is begin null; end B; begin null; end P;",
+                err: b"ded: program refused: NotYet at 1:58\n",
+            },
+            Refused {
+                program: b"procedure P is\n   task A;\n   task body A is\n   begin\n      loop\n         exit;\n      end loop;\n   end A;\nbegin\n   delay 1.0;\nend P;\n",
+                err: b"ded: program refused: NotYet at 5:7\n",
+            },
         ],
     )?;
     Ok(())
