@@ -112,6 +112,27 @@ fn check_refused(
     )
 }
 
+// A text with what is counted, and what its check gives: the numbers, with the lines that are told here, or the limit that it passes.
+fn check_count(
+    rt: &impl Abort,
+    alloc: Global,
+    program: &[u8],
+    out: &[u8],
+    err: &[u8],
+) -> Result<(), AllocError> {
+    let status = if err.len() == 0 { 0 } else { 8 };
+    check_one(
+        rt,
+        alloc,
+        &Checked {
+            program,
+            status,
+            out,
+            err,
+        },
+    )
+}
+
 // Several texts, one behind the other.
 fn joined(alloc: Global, texts: &[&[u8]]) -> Result<Vec<u8>, AllocError> {
     let mut all = Vec::new(alloc);
@@ -130,7 +151,36 @@ fn repeated(alloc: Global, text: &[u8], count: u32) -> Result<Vec<u8>, AllocErro
     Ok(all)
 }
 
-// So many names, each of a letter and three digits from 100 on, between two texts.
+// The last decimal digit of a number.
+fn last_digit(n: u32) -> u8 {
+    b'0' + (n % 10) as u8
+}
+
+// The last four decimal digits of a number.
+fn push_four_digits(digits: &mut Vec<u8>, n: u32) -> Result<(), AllocError> {
+    digits.push(last_digit(n / 1000))?;
+    digits.push(last_digit(n / 100))?;
+    digits.push(last_digit(n / 10))?;
+    digits.push(last_digit(n))?;
+    Ok(())
+}
+
+// The decimal digits of a number below 10,000.
+fn push_decimal(digits: &mut Vec<u8>, n: u32) -> Result<(), AllocError> {
+    if n >= 1000 {
+        digits.push(last_digit(n / 1000))?;
+    }
+    if n >= 100 {
+        digits.push(last_digit(n / 100))?;
+    }
+    if n >= 10 {
+        digits.push(last_digit(n / 10))?;
+    }
+    digits.push(last_digit(n))?;
+    Ok(())
+}
+
+// So many names, each of a letter and four digits from 0100 on, between two texts.
 fn numbered(
     alloc: Global,
     front: &[u8],
@@ -140,13 +190,9 @@ fn numbered(
 ) -> Result<Vec<u8>, AllocError> {
     let mut all = Vec::new(alloc);
     for i in 0..count {
-        let n = 100 + i;
         all.extend_from_slice(front)?;
         all.push(letter)?;
-        all.push(b'0' + (n / 1000) as u8)?;
-        all.push(b'0' + (n / 100 % 10) as u8)?;
-        all.push(b'0' + (n / 10 % 10) as u8)?;
-        all.push(b'0' + (n % 10) as u8)?;
+        push_four_digits(&mut all, i.saturating_add(100))?;
         all.extend_from_slice(back)?;
     }
     Ok(all)
@@ -203,12 +249,29 @@ fn the_buffer_has_seven_tasks(rt: HostRuntime) -> Result<(), Fail> {
     Ok(())
 }
 
+// What stands in a task's body is refused, with the rule and the place in the second line.
+fn check_statement(
+    rt: &impl Abort,
+    alloc: Global,
+    statement: &[u8],
+    rule: &[u8],
+) -> Result<(), AllocError> {
+    let program = joined(
+        alloc,
+        &[
+            b"procedure Q is task T is entry E; entry F(1 .. 3); end T; task body T is X : INTEGER; begin\n",
+            statement,
+            b"\nend T; begin null; end Q;",
+        ],
+    )?;
+    let err = joined(alloc, &[b"ded: program refused: ", rule, b"\n"])?;
+    check_refused(rt, alloc, &program, 1, &err)
+}
+
 #[test]
 fn a_broken_rule_is_told_at_its_place(rt: HostRuntime) -> Result<(), Fail> {
     let alloc = rt.alloc();
-    let front: &[u8] =
-        b"procedure Q is task T is entry E; entry F(1 .. 3); end T; task body T is X : INTEGER; begin\n";
-    let cases: [(&[u8], &[u8]); 14] = [
+    let cases: [(&[u8], &[u8]); 7] = [
         (b"X := Y;", b"Unknown at 2:6"),
         (b"X := TRUE;", b"Mismatch at 2:6"),
         (b"accept F(4);", b"RangeBad at 2:10"),
@@ -219,6 +282,17 @@ fn a_broken_rule_is_told_at_its_place(rt: HostRuntime) -> Result<(), Fail> {
             b"select accept E; or accept E; end select;",
             b"SameEntryTwice at 2:21",
         ),
+    ];
+    for case in &cases {
+        check_statement(&rt, alloc, case.0, case.1)?;
+    }
+    Ok(())
+}
+
+#[test]
+fn a_statement_that_may_not_stand_there_is_told(rt: HostRuntime) -> Result<(), Fail> {
+    let alloc = rt.alloc();
+    let cases: [(&[u8], &[u8]); 7] = [
         (b"abort T, T;", b"AbortOrder at 2:7"),
         (b"abort Q;", b"MainEntry at 2:7"),
         (b"exit;", b"ExitPlace at 2:1"),
@@ -228,9 +302,7 @@ fn a_broken_rule_is_told_at_its_place(rt: HostRuntime) -> Result<(), Fail> {
         (b"PUT_LINE(X);", b"TextUse at 2:10"),
     ];
     for case in &cases {
-        let program = joined(alloc, &[front, case.0, b"\nend T; begin null; end Q;"])?;
-        let err = joined(alloc, &[b"ded: program refused: ", case.1, b"\n"])?;
-        check_refused(&rt, alloc, &program, 1, &err)?;
+        check_statement(&rt, alloc, case.0, case.1)?;
     }
     Ok(())
 }
@@ -333,24 +405,22 @@ fn a_faulty_text_is_refused_as_of_print(rt: HostRuntime) -> Result<(), Fail> {
     Ok(())
 }
 
+// A program of 31 bytes, and blanks behind it up to a mebibyte.
 #[test]
 fn a_file_may_have_a_mebibyte(rt: HostRuntime) -> Result<(), Fail> {
     let alloc = rt.alloc();
-    let text: &[u8] = b"procedure Q is begin null; end;";
-    let blanks = repeated(alloc, b" ", 1_048_576 - text.len() as u32)?;
-    let whole = joined(alloc, &[text, &blanks])?;
-    check_one(
-        &rt,
-        alloc,
-        &Checked {
-            program: &whole,
-            status: 0,
-            out: b"ded-check 1 Q 0 0\ntask 0 Q\n",
-            err: b"",
-        },
-    )?;
-    let longer = repeated(alloc, b" ", 1_048_577)?;
-    check_refused(&rt, alloc, &longer, 8, b"ded: limit file 1048576\n")?;
+    let blanks = repeated(alloc, b" ", 1_048_545)?;
+    let program = joined(alloc, &[b"procedure Q is begin null; end;", &blanks])?;
+    let out: &[u8] = b"ded-check 1 Q 0 0\ntask 0 Q\n";
+    check_count(&rt, alloc, &program, out, b"")?;
+    Ok(())
+}
+
+#[test]
+fn a_longer_file_is_refused(rt: HostRuntime) -> Result<(), Fail> {
+    let alloc = rt.alloc();
+    let program = repeated(alloc, b" ", 1_048_577)?;
+    check_refused(&rt, alloc, &program, 8, b"ded: limit file 1048576\n")?;
     Ok(())
 }
 
@@ -412,88 +482,98 @@ fn parts_may_be_nested_40_deep(rt: HostRuntime) -> Result<(), Fail> {
     Ok(())
 }
 
-// A text with what is counted, and what its check gives: the numbers, with the lines that are told here, or the limit that it passes.
-fn check_count(
-    rt: &impl Abort,
-    alloc: Global,
-    program: &[u8],
-    out: &[u8],
-    err: &[u8],
-) -> Result<(), AllocError> {
-    let status = if err.len() == 0 { 0 } else { 8 };
-    check_one(
-        rt,
+// A program whose array A of tasks goes up to an index, with declarations behind the array.
+fn array_of_tasks(alloc: Global, last: &[u8], others: &[u8]) -> Result<Vec<u8>, AllocError> {
+    joined(
         alloc,
-        &Checked {
-            program,
-            status,
-            out,
-            err,
-        },
+        &[
+            b"procedure Q is task type W; A : array (1 .. ",
+            last,
+            b") of W; ",
+            others,
+            b"task body W is begin null; end W; begin null; end Q;",
+        ],
     )
+}
+
+// The lines of the tasks of the array A, as many as are counted.
+fn lines_of_tasks(alloc: Global, count: u32) -> Result<Vec<u8>, AllocError> {
+    let mut lines = Vec::new(alloc);
+    for i in 0..count {
+        let number = i.saturating_add(1);
+        lines.extend_from_slice(b"task ")?;
+        push_decimal(&mut lines, number)?;
+        lines.extend_from_slice(b" A(")?;
+        push_decimal(&mut lines, number)?;
+        lines.extend_from_slice(b")\n")?;
+    }
+    Ok(lines)
 }
 
 #[test]
 fn there_may_be_200_tasks(rt: HostRuntime) -> Result<(), Fail> {
     let alloc = rt.alloc();
-    let front: &[u8] = b"procedure Q is task type W; A : array (1 .. ";
-    let back: &[u8] = b") of W; task body W is begin null; end W; begin null; end Q;";
-    let text = joined(alloc, &[front, b"201", back])?;
-    check_refused(&rt, alloc, &text, 8, b"ded: limit tasks 200\n")?;
-    let text = joined(
-        alloc,
-        &[front, b"200) of W; B : W; C : array (1 .. 3", back],
-    )?;
-    check_refused(&rt, alloc, &text, 8, b"ded: limit tasks 200\n")?;
-    let text = joined(alloc, &[front, b"200", back])?;
-    let mut out = joined(alloc, &[b"ded-check 1 Q 200 0\ntask 0 Q\n"])?;
-    for i in 1..201u32 {
-        let mut digits = Vec::new(alloc);
-        push_decimal(&mut digits, i)?;
-        let line = joined(alloc, &[b"task ", &digits, b" A(", &digits, b")\n"])?;
-        out.extend_from_slice(&line)?;
-    }
-    check_count(&rt, alloc, &text, &out, b"")?;
+    let program = array_of_tasks(alloc, b"200", b"")?;
+    let lines = lines_of_tasks(alloc, 200)?;
+    let out = joined(alloc, &[b"ded-check 1 Q 200 0\ntask 0 Q\n", &lines])?;
+    check_count(&rt, alloc, &program, &out, b"")?;
     Ok(())
 }
 
-// The decimal digits of a number below 10,000.
-fn push_decimal(digits: &mut Vec<u8>, n: u32) -> Result<(), AllocError> {
-    if n >= 1000 {
-        digits.push(b'0' + (n / 1000 % 10) as u8)?;
-    }
-    if n >= 100 {
-        digits.push(b'0' + (n / 100 % 10) as u8)?;
-    }
-    if n >= 10 {
-        digits.push(b'0' + (n / 10 % 10) as u8)?;
-    }
-    digits.push(b'0' + (n % 10) as u8)?;
+#[test]
+fn one_task_more_is_refused(rt: HostRuntime) -> Result<(), Fail> {
+    let alloc = rt.alloc();
+    let program = array_of_tasks(alloc, b"201", b"")?;
+    check_refused(&rt, alloc, &program, 8, b"ded: limit tasks 200\n")?;
+    let several = array_of_tasks(alloc, b"200", b"B : W; C : array (1 .. 3) of W; ")?;
+    check_refused(&rt, alloc, &several, 8, b"ded: limit tasks 200\n")?;
     Ok(())
+}
+
+// A program whose task has so many entries.
+fn task_with_entries(alloc: Global, count: u32) -> Result<Vec<u8>, AllocError> {
+    let entries = numbered(alloc, b"entry ", b'E', count, b";")?;
+    joined(
+        alloc,
+        &[
+            b"procedure Q is task T is ",
+            &entries,
+            b" end T; task body T is begin null; end T; begin null; end Q;",
+        ],
+    )
+}
+
+// The lines of its entries.
+fn lines_of_entries(alloc: Global, count: u32) -> Result<Vec<u8>, AllocError> {
+    let mut lines = Vec::new(alloc);
+    for i in 0..count {
+        lines.extend_from_slice(b"entry ")?;
+        push_decimal(&mut lines, i.saturating_add(1))?;
+        lines.extend_from_slice(b" 1 E")?;
+        push_four_digits(&mut lines, i.saturating_add(100))?;
+        lines.extend_from_slice(b"\n")?;
+    }
+    Ok(lines)
 }
 
 #[test]
 fn there_may_be_1000_entries(rt: HostRuntime) -> Result<(), Fail> {
     let alloc = rt.alloc();
-    let back: &[u8] = b" end T; task body T is begin null; end T; begin null; end Q;";
-    let last = numbered(alloc, b"entry ", b'E', 1000, b";")?;
-    let text = joined(alloc, &[b"procedure Q is task T is ", &last, back])?;
-    let mut out = joined(alloc, &[b"ded-check 1 Q 1 1000\ntask 0 Q\ntask 1 T\n"])?;
-    for i in 0..1000u32 {
-        let mut number = Vec::new(alloc);
-        push_decimal(&mut number, i + 1)?;
-        let mut name = Vec::new(alloc);
-        if i < 900 {
-            name.push(b'0')?;
-        }
-        push_decimal(&mut name, i + 100)?;
-        let line = joined(alloc, &[b"entry ", &number, b" 1 E", &name, b"\n"])?;
-        out.extend_from_slice(&line)?;
-    }
-    check_count(&rt, alloc, &text, &out, b"")?;
-    let first = numbered(alloc, b"entry ", b'E', 1001, b";")?;
-    let text = joined(alloc, &[b"procedure Q is task T is ", &first, back])?;
-    check_count(&rt, alloc, &text, b"", b"ded: limit entries 1000\n")?;
+    let program = task_with_entries(alloc, 1000)?;
+    let lines = lines_of_entries(alloc, 1000)?;
+    let out = joined(
+        alloc,
+        &[b"ded-check 1 Q 1 1000\ntask 0 Q\ntask 1 T\n", &lines],
+    )?;
+    check_count(&rt, alloc, &program, &out, b"")?;
+    Ok(())
+}
+
+#[test]
+fn one_entry_more_is_refused(rt: HostRuntime) -> Result<(), Fail> {
+    let alloc = rt.alloc();
+    let program = task_with_entries(alloc, 1001)?;
+    check_refused(&rt, alloc, &program, 8, b"ded: limit entries 1000\n")?;
     Ok(())
 }
 
@@ -532,12 +612,13 @@ fn families_and_arrays_have_their_limits(rt: HostRuntime) -> Result<(), Fail> {
     Ok(())
 }
 
+// A formal stands behind those that are counted.
 #[test]
-fn waits_and_entries_have_their_limits(rt: HostRuntime) -> Result<(), Fail> {
+fn an_entry_may_have_16_formals(rt: HostRuntime) -> Result<(), Fail> {
     let alloc = rt.alloc();
-    for count in [16u32, 17] {
-        let formals = numbered(alloc, b"", b'X', count - 1, b", ")?;
-        let text = joined(
+    for others in [15u32, 16] {
+        let formals = numbered(alloc, b"", b'X', others, b", ")?;
+        let program = joined(
             alloc,
             &[
                 b"procedure Q is task T is entry E(",
@@ -545,28 +626,63 @@ fn waits_and_entries_have_their_limits(rt: HostRuntime) -> Result<(), Fail> {
                 b"Y : in INTEGER); end T; task body T is begin null; end T; begin null; end Q;",
             ],
         )?;
-        if count == 16 {
+        if others == 15 {
             let out: &[u8] = b"ded-check 1 Q 1 1\ntask 0 Q\ntask 1 T\nentry 1 1 E\n";
-            check_count(&rt, alloc, &text, out, b"")?;
+            check_count(&rt, alloc, &program, out, b"")?;
         } else {
-            check_count(&rt, alloc, &text, b"", b"ded: limit formals 16\n")?;
+            check_count(&rt, alloc, &program, b"", b"ded: limit formals 16\n")?;
         }
     }
-    for count in [32u32, 33] {
-        let others = repeated(alloc, b"or delay 1.0; ", count - 1)?;
-        let text = joined(
+    Ok(())
+}
+
+// An accept stands before the delays that are counted.
+#[test]
+fn a_wait_may_have_32_alternatives(rt: HostRuntime) -> Result<(), Fail> {
+    let alloc = rt.alloc();
+    for others in [31u32, 32] {
+        let delays = repeated(alloc, b"or delay 1.0; ", others)?;
+        let program = joined(
             alloc,
             &[
                 b"procedure Q is task T is entry E; end T; task body T is begin select accept E; ",
-                &others,
+                &delays,
                 b"end select; end T; begin null; end Q;",
             ],
         )?;
-        if count == 32 {
+        if others == 31 {
             let out: &[u8] = b"ded-check 1 Q 1 1\ntask 0 Q\ntask 1 T\nentry 1 1 E\n";
+            check_count(&rt, alloc, &program, out, b"")?;
+        } else {
+            check_count(&rt, alloc, &program, b"", b"ded: limit alternatives 32\n")?;
+        }
+    }
+    Ok(())
+}
+
+// The body of T has 52 bytes and then 53, and is copied for two tasks; each of the 20971 calls by an index that is not static counts 200.
+#[test]
+fn so_much_may_be_copied(rt: HostRuntime) -> Result<(), Fail> {
+    let alloc = rt.alloc();
+    let calls = repeated(alloc, b"A(X).E; ", 20971)?;
+    for blanks in [19u32, 20] {
+        let room = repeated(alloc, b" ", blanks)?;
+        let text = joined(
+            alloc,
+            &[
+                b"procedure Q is task type T is entry E; end T; A : array (1 .. 2) of T; X : INTEGER; task body T is",
+                &room,
+                b" begin null; end T; begin ",
+                &calls,
+                b"end Q;",
+            ],
+        )?;
+        if blanks == 19 {
+            let out: &[u8] =
+                b"ded-check 1 Q 2 2\ntask 0 Q\ntask 1 A(1)\ntask 2 A(2)\nentry 1 1 E\nentry 2 2 E\n";
             check_count(&rt, alloc, &text, out, b"")?;
         } else {
-            check_count(&rt, alloc, &text, b"", b"ded: limit alternatives 32\n")?;
+            check_count(&rt, alloc, &text, b"", b"ded: limit copies 4194304\n")?;
         }
     }
     Ok(())
