@@ -660,53 +660,37 @@ fn a_wait_may_have_32_alternatives(rt: HostRuntime) -> Result<(), Fail> {
     Ok(())
 }
 
-// The body of T has 52 bytes and then 53, and is copied for two tasks; each of the 20971 calls by an index that is not static counts 200.
+// A program whose task type has a body of 35 bytes and these blanks, of which there are 64 tasks, and 655 indices that are not static.
+fn copied_program(alloc: Global, blanks: &[u8]) -> Result<Vec<u8>, AllocError> {
+    let aborts = repeated(alloc, b"abort A(X); ", 655)?;
+    joined(
+        alloc,
+        &[
+            b"procedure Q is task type T; A : array (1 .. 64) of T; X : INTEGER; task body T is   ",
+            blanks,
+            b"begin null; end T; begin ",
+            &aborts,
+            b"end Q;",
+        ],
+    )
+}
+
+// Each index counts 6400, and each byte of the body 64: together 4194304.
 #[test]
 fn so_much_may_be_copied(rt: HostRuntime) -> Result<(), Fail> {
     let alloc = rt.alloc();
-    let calls = repeated(alloc, b"A(X).E; ", 20971)?;
-    for blanks in [19u32, 20] {
-        let room = repeated(alloc, b" ", blanks)?;
-        let text = joined(
-            alloc,
-            &[
-                b"procedure Q is task type T is entry E; end T; A : array (1 .. 2) of T; X : INTEGER; task body T is",
-                &room,
-                b" begin null; end T; begin ",
-                &calls,
-                b"end Q;",
-            ],
-        )?;
-        if blanks == 19 {
-            let out: &[u8] =
-                b"ded-check 1 Q 2 2\ntask 0 Q\ntask 1 A(1)\ntask 2 A(2)\nentry 1 1 E\nentry 2 2 E\n";
-            check_count(&rt, alloc, &text, out, b"")?;
-        } else {
-            check_count(&rt, alloc, &text, b"", b"ded: limit copies 4194304\n")?;
-        }
-    }
+    let program = copied_program(alloc, b" ")?;
+    let lines = lines_of_tasks(alloc, 64)?;
+    let out = joined(alloc, &[b"ded-check 1 Q 64 0\ntask 0 Q\n", &lines])?;
+    check_count(&rt, alloc, &program, &out, b"")?;
     Ok(())
 }
 
 #[test]
-// The body of T has 36 bytes and then 37, and is copied for 64 tasks; each of the 655 indices that are not static counts 6400.
-fn so_much_may_be_copied(rt: HostRuntime) -> Result<(), Fail> {
+fn a_byte_more_is_too_much_to_copy(rt: HostRuntime) -> Result<(), Fail> {
     let alloc = rt.alloc();
-    let aborts = repeated(alloc, b"abort A(X); ", 655)?;
-    let front: &[u8] =
-        b"procedure Q is task type T; A : array (1 .. 64) of T; X : INTEGER; task body T is    ";
-    let back: &[u8] = b"begin null; end T; begin ";
-    let text = joined(alloc, &[front, back, &aborts, b"end Q;"])?;
-    let mut out = joined(alloc, &[b"ded-check 1 Q 64 0\ntask 0 Q\n"])?;
-    for i in 1..65u32 {
-        let mut digits = Vec::new(alloc);
-        push_decimal(&mut digits, i)?;
-        let line = joined(alloc, &[b"task ", &digits, b" A(", &digits, b")\n"])?;
-        out.extend_from_slice(&line)?;
-    }
-    check_count(&rt, alloc, &text, &out, b"")?;
-    let text = joined(alloc, &[front, b" ", back, &aborts, b"end Q;"])?;
-    check_count(&rt, alloc, &text, b"", b"ded: limit copies 4194304\n")?;
+    let program = copied_program(alloc, b"  ")?;
+    check_refused(&rt, alloc, &program, 8, b"ded: limit copies 4194304\n")?;
     Ok(())
 }
 
