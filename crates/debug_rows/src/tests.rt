@@ -139,6 +139,8 @@ fn a_failed_output_and_a_refused_text_end_the_call(rt: HostRuntime) -> Result<()
 fn other_words_are_usage_and_a_missing_file_is_named(rt: HostRuntime) -> Result<(), Fail> {
     let alloc = rt.alloc();
     check_refused(&rt, alloc, "", 2, USAGE)?;
+    check_refused(&rt, alloc, "judge P1", 2, USAGE)?;
+    check_refused(&rt, alloc, "load 0", 2, USAGE)?;
     check_refused(&rt, alloc, "run P1 - - 0", 2, USAGE)?;
     check_refused(&rt, alloc, "run P1 - - 007", 2, USAGE)?;
     check_refused(&rt, alloc, "run P1 - - 100000001", 2, USAGE)?;
