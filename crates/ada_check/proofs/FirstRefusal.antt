@@ -20,13 +20,13 @@ use Rattle.syn_event.specs.RuleBodyMissing.{body_missing}
 use Rattle.syn_event.specs.RuleExitPlace.{exit_place}
 use Rattle.syn_event.specs.RuleRaisePlace.{raise_place}
 use Rattle.syn_event.specs.RuleLimit.{over_limit}
-use Rattle.ada_check.specs.Sooner.{is_lower, is_before, sooner, sooner_of, least_of, found}
-use Rattle.ada_check.specs.Met.{Standard, met_at, met}
+use Rattle.ada_rules.specs.Sooner.{is_lower, is_before, sooner, sooner_of, least_of, found}
+use Rattle.ada_rules.specs.Met.{Standard, met_at, met}
 use Rattle.ada_check.specs.Telling.{refusal_of}
 use Rattle.ada_check.specs.Verdicts.{TellsCheck, TellsWhy}
 use Rattle.ada_check.specs.declared.errors.CheckError.{CheckError}
 use Rattle.ada_check.specs.declared.errors.CheckError.TheVariants.{Rule, SharedVariable, AcceptPlace, SelectForm, SameEntryTwice, ReservedName, MainEntry, AbortOrder, BodyMissing, ExitPlace, RaisePlace, Limit, Memory}
-use Rattle.ada_check.proofs.SoonerLaws.{sooner_assoc, least_append}
+use Rattle.ada_rules.proofs.SoonerLaws.{sooner_assoc, least_append}
 
 -- ---- the first of a list
 

@@ -8,10 +8,10 @@ use Rattle.syn_event.specs.CheckRefusals.{CheckRefusal}
 use Rattle.syn_event.specs.Surrounding.{Surrounding, declares}
 use Rattle.syn_event.specs.TaskParts.{TaskPart, parts_of}
 use Rattle.syn_event.specs.Spots.{spot, spots, around_program, first_around, body_names, decls_spots, after_decls, body_spots, tasks_spots, entries_spots, all_copies_spots, counted_spots}
-use Rattle.ada_check.specs.Sooner.{sooner}
-use Rattle.ada_check.specs.Met.{Standard, met_at, met}
-use Rattle.ada_check.proofs.Meeting.{joined, before}
-use Rattle.ada_check.proofs.Declaring.{types_after}
+use Rattle.ada_rules.specs.Sooner.{sooner}
+use Rattle.ada_rules.specs.Met.{Standard, met_at, met}
+use Rattle.ada_rules.proofs.Meeting.{joined, before}
+use Rattle.ada_declaration_places.proofs.Declaring.{types_after}
 
 -- what is counted over the whole
 pub counted_met : (by : Standard) (around : Surrounding) (parts : List TaskPart) (p : PProgram) (a b d ab r : Option CheckRefusal) → parts ≡ parts_of p

@@ -3,13 +3,13 @@ use Rattle.std.specs.Prelude.{◌≡◌, Option, Some, None}
 use Rattle.ada_tree.specs.TypeTable.{TypeTable}
 use Rattle.ada_tree.specs.PlainProgram.{PProgram}
 use Rattle.ada_tree.specs.Refusals.{MeetsTypeRules, types_in}
-use Rattle.ada_types.specs.declared.errors.TypeError.{TypeError}
-use Rattle.ada_types.specs.declared.errors.TypeError.TheVariants as type_error
-use Rattle.ada_types.specs.Telling.{TellsFirst}
+use Rattle.ada_refusals.specs.declared.errors.TypeError.{TypeError}
+use Rattle.ada_refusals.specs.declared.errors.TypeError.TheVariants as type_error
+use Rattle.ada_refusals.specs.Telling.{TellsFirst}
 use Rattle.syn_event.specs.declared.numbering.Mode.{Mode}
 use Rattle.syn_event.specs.CheckRefusals.{CheckRefusal, IsFirstCheckRefusal}
 use Rattle.syn_event.specs.Spots.{spots}
-use Rattle.ada_check.specs.Met.{met}
+use Rattle.ada_rules.specs.Met.{met}
 use Rattle.ada_check.specs.Telling.{refusal_of}
 use Rattle.ada_check.specs.declared.checking.WalkedProgram.{WalkedProgram}
 use Rattle.ada_check.specs.declared.errors.CheckError.{CheckError}

@@ -9,8 +9,6 @@ mod parts;
 mod reading;
 mod signs;
 mod symbols;
-#[cfg(test)]
-mod tests;
 
 pub use errors::ParseError;
 pub use items::{Item, ItemKind, Items, read_items};

@@ -19,6 +19,3 @@ pub use errors::LexError;
 pub use kinds::{Token, TokenKind};
 pub use lexing::tokens;
 pub use places::{LineCol, line_col};
-
-#[cfg(test)]
-mod tests;

@@ -25,12 +25,12 @@ use Rattle.ada_expr_laws.specs.Stopping.{EndsRange}
 use Rattle.ada_expr_laws.proofs.Tokens.{symbol_is, symbol_takes, word_is, none_is}
 use Rattle.ada_expr_laws.proofs.Primaries.{no_place, some_word}
 use Rattle.ada_expr_laws.proofs.Building.{law_drange}
-use Rattle.ada_parser.specs.Spelling.{Spelling, ◌▷◌, IfThere, Key, Named}
-use Rattle.ada_parser.specs.Phrases.{Drange, Formals}
-use Rattle.ada_parser.specs.Tasks.{IsEntry}
-use Rattle.ada_parser.specs.Reading.{is_symbol, is_formal_mark, formals_from, behind_index}
-use Rattle.ada_parser.specs.Reading as pieces
-use Rattle.ada_parser.specs.ReadingDeclarations as reading
+use Rattle.ada_phrase_parser.specs.Spelling.{Spelling, ◌▷◌, IfThere, Key, Named}
+use Rattle.ada_phrase_parser.specs.Phrases.{Drange, Formals}
+use Rattle.ada_decl_parser.specs.Tasks.{IsEntry}
+use Rattle.ada_phrase_parser.specs.Reading.{is_symbol, is_formal_mark, behind_index}
+use Rattle.ada_phrase_parser.specs.Reading as pieces
+use Rattle.ada_decl_parser.specs.ReadingDeclarations as reading
 use Rattle.ada_parser.proofs.KitPieces.{KeyAt, Closing, closing_key, closing_then, closing_same, same_self, same_turn, same_behind, same_grouped, placed_key, key_placed}
 use Rattle.ada_parser.proofs.KitReading.{Made, made_key, made_bind, made_then, made_pure, law_word, law_closed, starts_key, starts_last}
 use Rattle.ada_parser.proofs.KitLeading.{symbol_at}

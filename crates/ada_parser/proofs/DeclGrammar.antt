@@ -13,11 +13,12 @@ use Rattle.ada_expr_parser.specs.Tests.{symbol, word}
 use Rattle.ada_expr_parser.specs.Trees.{from_to}
 use Rattle.ada_expr_parser.specs.Grammar.{symbol_item, word_item}
 use Rattle.ada_expr_laws.proofs.Plainly.{after_symbol, symbol_then, after_word, word_then}
-use Rattle.ada_parser.specs.Spelling.{Source, Spelling, ◌▷◌, Key, Named, Placed, Stands}
-use Rattle.ada_parser.specs.Tasks.{Member, entries_in, priorities_in, TaskWord, TaskRest}
+use Rattle.ada_phrase_parser.specs.Spelling.{Source, Spelling, ◌▷◌, Key, Named, Placed, Stands}
+use Rattle.ada_decl_parser.specs.Tasks.{Member, entries_in, priorities_in, TaskWord, TaskRest}
 use Rattle.ada_parser.specs.Declarations.{IsDecl}
-use Rattle.ada_parser.specs.ReadingStatements.{readers}
-use Rattle.ada_parser.specs.ReadingDeclarations as reading
+use Rattle.ada_stmt_parser.specs.ReadingStatements.{readers}
+use Rattle.ada_parser.specs.ReadingDeclarativeParts as declarative
+use Rattle.ada_decl_parser.specs.ReadingDeclarations as reading
 use Rattle.ada_parser.proofs.KitPieces.{Closing, closing_then, same_grouped, after_key, placed_key, key_placed}
 use Rattle.ada_parser.proofs.KitReading.{key_taken, taken_key}
 use Rattle.ada_parser.proofs.StmtLevels.{LevelLaws}
@@ -173,5 +174,5 @@ module _ (source : Source) where
       is_task d (DTaskBody w ds content s) lead back text from (inl (taken_key key.Body (BodyDecls source lead) d (DTaskBody w ds content s) back (f, b, split, mark, ((w, (ds, (content, close))), ap (DTaskBody w ds content) place, rest))))
 
   -- A declaration is read by the laws, if statements are.
-  pub law_decl : ((d : ℕ) → LevelLaws source d (readers source d) (readers source (suc d))) → (d : ℕ) (S : Item → Type 0) → Lawful d (reading.decl source d) (reading.decl source (suc d)) Decl S
+  pub law_decl : ((d : ℕ) → LevelLaws source d (readers source d) (readers source (suc d))) → (d : ℕ) (S : Item → Type 0) → Lawful d (declarative.decl source d) (declarative.decl source (suc d)) Decl S
   law_decl laws d S = law_fit (λ e deep a text is. decl_is e a text is) (is_decl d) (law_either_decl source laws d S)

@@ -30,13 +30,13 @@ use Rattle.ada_expr_laws.proofs.Primaries.{no_place}
 use Rattle.ada_expr_laws.proofs.Building.{law_subind, law_drange}
 use Rattle.ada_expr_laws.proofs.Calling.{close_ends, comma_ends, a_number}
 use Rattle.ada_expr_laws.proofs.Behinds.{Behind, BehindAt, law_levels, behind_spells, spells_behind}
-use Rattle.ada_parser.specs.Spelling.{Spelling, ◌▷◌, Key, Placed, Stands, last_place}
-use Rattle.ada_parser.specs.Spelling as spelling
-use Rattle.ada_parser.specs.Phrases.{Expression, Drange}
+use Rattle.ada_phrase_parser.specs.Spelling.{Spelling, ◌▷◌, Key, Stands, last_place}
+use Rattle.ada_phrase_parser.specs.Spelling as spelling
+use Rattle.ada_phrase_parser.specs.Phrases.{Expression, Drange}
 use Rattle.ada_parser.specs.Declarations.{Subind, IsShape, IsInit}
-use Rattle.ada_parser.specs.Reading.{is_symbol, last_key, more_behind}
+use Rattle.ada_phrase_parser.specs.Reading.{is_symbol, last_key, more_behind}
 use Rattle.ada_parser.proofs.KitLeading.{symbol_at, is_itself}
-use Rattle.ada_parser.specs.ReadingDeclarations as reading
+use Rattle.ada_decl_parser.specs.ReadingDeclarations as reading
 use Rattle.ada_parser.proofs.KitPieces.{KeyAt, Closing, closing_key, closing_then, placed_key, key_placed, last_append, last_is}
 use Rattle.ada_parser.proofs.KitReading.{Made, Both, made_key, made_bind, made_then, made_pure, law_symbol, law_last, law_more, starts_key, starts_last, key_taken, taken_key}
 use Rattle.ada_parser.proofs.KitDeeper.{Expressions, law_expression}

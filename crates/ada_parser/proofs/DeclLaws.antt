@@ -23,12 +23,13 @@ use Rattle.ada_expr_parser.specs.Trees.{from_to}
 use Rattle.ada_expr_parser.specs.Grammar.{symbol_item, word_item}
 use Rattle.ada_expr_laws.proofs.Tokens.{symbol_is, symbol_takes, word_is}
 use Rattle.ada_expr_laws.proofs.Primaries.{no_place, some_word}
-use Rattle.ada_parser.specs.Spelling.{Source, Spelling, ◌▷◌, Where, Key, Named}
-use Rattle.ada_parser.specs.Statements.{IsBody}
+use Rattle.ada_phrase_parser.specs.Spelling.{Source, Spelling, ◌▷◌, Where, Key, Named}
+use Rattle.ada_stmt_parser.specs.Statements.{IsBody}
 use Rattle.ada_parser.specs.Declarations.{UnitEnd, Decls}
-use Rattle.ada_parser.specs.Reading.{is_symbol}
-use Rattle.ada_parser.specs.ReadingStatements.{readers}
-use Rattle.ada_parser.specs.ReadingDeclarations as reading
+use Rattle.ada_phrase_parser.specs.Reading.{is_symbol}
+use Rattle.ada_stmt_parser.specs.ReadingStatements.{readers}
+use Rattle.ada_decl_parser.specs.ReadingDeclarations as reading
+use Rattle.ada_parser.specs.ReadingDeclarativeParts as declarative
 use Rattle.ada_parser.proofs.KitPieces.{Closing, closing_then, closing_same, Same, same_self, same_behind, same_then, same_through, same_grouped}
 use Rattle.ada_parser.proofs.KitReading.{Made, Both, made_key, made_bind, made_then, made_pure, law_word, starts_key}
 use Rattle.ada_parser.proofs.KitLeading.{among, symbol_at, Led, led_refuse, led_on}
@@ -51,7 +52,7 @@ module _ (source : Source) where
   UnitTexts w tree = Made {V = PBody × Span} (λ v. tree v.0 v.1) (λ d v. Key key.Begin ▷ BodyTexts source d v.0 ▷ Key key.End ▷ NameEnd w v.1)
 
   pub law_unit_end : {A : Type 0} (d : ℕ) (w : Word) (tree : PBody → Span → A) (S : Item → Type 0) → LevelLaws source d (readers source d) (readers source (suc d)) →
-      Lawful d (reading.unit_end source d w tree) (reading.unit_end source (suc d) w tree) (UnitTexts w tree) S
+      Lawful d (declarative.unit_end source d w tree) (declarative.unit_end source (suc d) w tree) (UnitTexts w tree) S
   law_unit_end d w tree S laws = made_key key.Begin (λ v. tree v.0 v.1) (Both (BodyTexts source) (λ b d close. Key key.End ▷ NameEnd w close))
       (made_bind tree (λ b d close. Key key.End ▷ NameEnd w close) (law_body source d laws) (λ b. law_end_of d w (tree b) S)
       (λ b. starts_key key.End (tree b) (λ d close. NameEnd w close) body_end))
@@ -114,7 +115,7 @@ module _ (source : Source) where
     opens (DTask t s) text (never, is) = absurd never
     opens (DTaskBody w ds b s) text (never, is) = absurd never
 
-  law_objects : (d : ℕ) → Lawful d (reading.objects d) (reading.objects (suc d)) ObjectsTexts (IsPassed word)
+  law_objects : (d : ℕ) → Lawful d (declarative.objects d) (declarative.objects (suc d)) ObjectsTexts (IsPassed word)
   law_objects d = law_fit (λ e deep ds text (l, same, many). rw same (many_objects e l text many)) (objects_many d)
       (made_pure decls_of (law_items (law_object source d Anything) (object_opens d) (λ k is. tt) (λ x stop. tt) (λ x stop. ap is_some stop)))
 
@@ -162,7 +163,7 @@ module _ (source : Source) where
     by false is e others = others e
 
   module _ (laws : (d : ℕ) → LevelLaws source d (readers source d) (readers source (suc d))) where
-    law_task_body : (d : ℕ) (lead : Span) (S : Item → Type 0) → Lawful d (reading.task_body source d lead) (reading.task_body source (suc d) lead) (BodyDecls lead) S
+    law_task_body : (d : ℕ) (lead : Span) (S : Item → Type 0) → Lawful d (declarative.task_body source d lead) (declarative.task_body source (suc d) lead) (BodyDecls lead) S
     law_task_body d lead S = made_then (λ w v. DTaskBody w v.0 v.1.0 (from_to lead v.1.1)) (λ w d v. Key key.Is ▷ ObjectsTexts d v.0 ▷ Key key.Begin ▷ BodyTexts source (suc d) v.1.0 ▷ Key key.End ▷ NameEnd w v.1.1)
         (law_word d Anything)
         (λ w. made_key key.Is (λ v. DTaskBody w v.0 v.1.0 (from_to lead v.1.1)) (λ d v. ObjectsTexts d v.0 ▷ Key key.Begin ▷ BodyTexts source (suc d) v.1.0 ▷ Key key.End ▷ NameEnd w v.1.1)
@@ -172,7 +173,7 @@ module _ (source : Source) where
 
     -- ---- behind `task`
 
-    law_task_at : (d : ℕ) (lead : Span) (S : Item → Type 0) → Lawful d (reading.task_at source d lead) (reading.task_at source (suc d) lead) (TaskTexts lead) S
+    law_task_at : (d : ℕ) (lead : Span) (S : Item → Type 0) → Lawful d (declarative.task_at source d lead) (declarative.task_at source (suc d) lead) (TaskTexts lead) S
     law_task_at d lead S = law_on {test = symbol key.Body} (λ at. law_task_body d lead S)
         (law_on {test = symbol key.«Type»} (λ at. law_then (law_word d Anything) (λ w. law_rest source d lead true w S))
         (law_on {test = word} (λ w. law_rest source d lead false w S) (careful_refuse d S) starts_never (word_item some_word) some_word refl).careful
@@ -183,10 +184,10 @@ module _ (source : Source) where
     -- ---- all declarations
 
     led_decl : (d : ℕ) (S : Item → Type 0) → Led false leads d
-        (on (symbol key.«Type») (λ lead. reading.name_is (reading.type_rest d lead)) (on (symbol key.Subtype) (λ lead. reading.name_is (reading.subtype_rest d lead)) (on (symbol key.Package) (λ lead. reading.name_is (reading.instance lead))
-        (on (symbol key.Pragma) (λ lead. reading.priority source d (λ e close. DPragma e (from_to lead close))) (on (symbol key.Task) (reading.task_at source d) refuse)))))
-        (on (symbol key.«Type») (λ lead. reading.name_is (reading.type_rest (suc d) lead)) (on (symbol key.Subtype) (λ lead. reading.name_is (reading.subtype_rest (suc d) lead)) (on (symbol key.Package) (λ lead. reading.name_is (reading.instance lead))
-        (on (symbol key.Pragma) (λ lead. reading.priority source (suc d) (λ e close. DPragma e (from_to lead close))) (on (symbol key.Task) (reading.task_at source (suc d)) refuse)))))
+        (on (symbol key.«Type») (λ lead. declarative.name_is (reading.type_rest d lead)) (on (symbol key.Subtype) (λ lead. declarative.name_is (reading.subtype_rest d lead)) (on (symbol key.Package) (λ lead. declarative.name_is (reading.instance lead))
+        (on (symbol key.Pragma) (λ lead. reading.priority source d (λ e close. DPragma e (from_to lead close))) (on (symbol key.Task) (declarative.task_at source d) refuse)))))
+        (on (symbol key.«Type») (λ lead. declarative.name_is (reading.type_rest (suc d) lead)) (on (symbol key.Subtype) (λ lead. declarative.name_is (reading.subtype_rest (suc d) lead)) (on (symbol key.Package) (λ lead. declarative.name_is (reading.instance lead))
+        (on (symbol key.Pragma) (λ lead. reading.priority source (suc d) (λ e close. DPragma e (from_to lead close))) (on (symbol key.Task) (declarative.task_at source (suc d)) refuse)))))
         (Or (Then (One (symbol key.«Type»)) (λ lead. NameIs (TypeTexts lead))) (Or (Then (One (symbol key.Subtype)) (λ lead. NameIs (SubtypeTexts lead)))
         (Or (Then (One (symbol key.Package)) (λ lead. NameIs (InstanceTexts lead))) (Or (Then (One (symbol key.Pragma)) PragmaTexts) (Or (Then (One (symbol key.Task)) TaskTexts) Never))))) S
     unfolding same
@@ -197,7 +198,7 @@ module _ (source : Source) where
         key.Subtype refl (λ lead. law_name_is d (SubtypeTexts lead) S (λ w. law_subtype d lead w S)))
         key.«Type» refl (λ lead. law_name_is d (TypeTexts lead) S (λ w. law_type d lead w S))
 
-    pub law_either_decl : (d : ℕ) (S : Item → Type 0) → Lawful d (reading.decl source d) (reading.decl source (suc d)) DeclTexts S
+    pub law_either_decl : (d : ℕ) (S : Item → Type 0) → Lawful d (declarative.decl source d) (declarative.decl source (suc d)) DeclTexts S
     law_either_decl d S = law_on {test = word} (λ w. law_word_decl source d w S) (led_decl d S).careful
         (record { begins_with = λ a text x is stop. no_word leads (first_of x text) ((led_decl d S).starts.begins_with a text x is stop) })
         (word_item some_word) some_word refl

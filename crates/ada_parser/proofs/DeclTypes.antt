@@ -23,12 +23,12 @@ use Rattle.ada_expr_laws.proofs.Tokens.{symbol_is, symbol_takes, word_is, some_i
 use Rattle.ada_expr_laws.proofs.Primaries.{no_place}
 use Rattle.ada_expr_laws.proofs.Building.{law_subind}
 use Rattle.ada_expr_laws.proofs.Calling.{close_ends}
-use Rattle.ada_parser.specs.Spelling.{Source, Spelling, ◌▷◌, May, Key, Named, Again, WithId, Predefined, PriorityWord, id_of}
-use Rattle.ada_parser.specs.Phrases.{Names, Expression, Drange}
+use Rattle.ada_phrase_parser.specs.Spelling.{Source, Spelling, ◌▷◌, May, Key, Named, Again, WithId, Predefined, PriorityWord, id_of}
+use Rattle.ada_phrase_parser.specs.Phrases.{Names, Expression, Drange}
 use Rattle.ada_parser.specs.Declarations.{Subind, ArrayOf}
-use Rattle.ada_parser.specs.Reading.{closed, key_then, separated}
-use Rattle.ada_parser.specs.ReadingDeclarations as reading
-use Rattle.ada_parser.specs.ReadingDeclarations.{with_id_if, with_id, predefined_word}
+use Rattle.ada_phrase_parser.specs.Reading.{closed, key_then, separated, with_id_if, with_id, predefined_word}
+use Rattle.ada_decl_parser.specs.ReadingDeclarations as reading
+use Rattle.ada_parser.specs.ReadingDeclarativeParts as declarative
 use Rattle.ada_parser.proofs.KitPieces.{KeyAt, Closing, closing_key, closing_then, closing_same, Same, same_self, same_grouped, same_through, same_behind}
 use Rattle.ada_parser.proofs.KitReading.{Made, Both, made_key, made_bind, law_word, law_key, law_closed, law_separated, starts_key, starts_last}
 use Rattle.ada_parser.proofs.KitDeeper.{Expressions, law_expression}
@@ -86,7 +86,7 @@ module _ {A : Type 0} {d : ℕ} (id : ℕ) where
 abbrev pub NameIs : (Word → Texts Item PDecl) → Texts Item PDecl
 NameIs T = Then (λ d w. Named w) (λ w d a. Key key.Is ▷ T w d a)
 
-pub law_name_is : (d : ℕ) {next next' : Word → Reader Item PDecl} (T : Word → Texts Item PDecl) (S : Item → Type 0) → ((w : Word) → Lawful d (next w) (next' w) (T w) S) → Lawful d (reading.name_is next) (reading.name_is next') (NameIs T) S
+pub law_name_is : (d : ℕ) {next next' : Word → Reader Item PDecl} (T : Word → Texts Item PDecl) (S : Item → Type 0) → ((w : Word) → Lawful d (next w) (next' w) (T w) S) → Lawful d (declarative.name_is next) (declarative.name_is next') (NameIs T) S
 law_name_is d T S law = law_then (law_word d Anything) (λ w. law_key key.Is (law w))
 
 -- ---- types

@@ -2,7 +2,7 @@
 use Rattle.std.proofs.Common.{◌≡◌, ℕ, List, ◌∷◌, ◌++◌, refl, subst}
 use Rattle.lawful_reader.specs.Exactness.{IsSyntax, IsTooDeep}
 use Rattle.ada_expr_parser.specs.declared.items.Item.{Item}
-use Rattle.ada_parser.specs.Spelling.{Source}
+use Rattle.ada_phrase_parser.specs.Spelling.{Source}
 use Rattle.ada_parser.specs.Reads.{deepest, WholeTexts, HasItems, HasItemAt, SyntaxAt, TooDeepAt}
 
 item_at : (bytes : List ℕ) (source : Source) (front : List Item) (x : Item) (items rest : List Item) → HasItems bytes source items → items ≡ front ++ (x ∷ rest) → HasItemAt bytes x.span.start source front x

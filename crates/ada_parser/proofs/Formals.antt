@@ -19,9 +19,9 @@ use Rattle.ada_expr_parser.specs.Tests.{same, symbol, word}
 use Rattle.ada_expr_parser.specs.Grammar.{symbol_item, word_item}
 use Rattle.ada_expr_laws.proofs.Tokens.{symbol_is, symbol_takes, some_is}
 use Rattle.ada_expr_laws.proofs.Primaries.{no_place}
-use Rattle.ada_parser.specs.Spelling.{Spelling, ◌▷◌, Key, Named, Behind, Separated}
-use Rattle.ada_parser.specs.Phrases.{Names, Mode, IsFormal, Formals}
-use Rattle.ada_parser.specs.Reading as reading
+use Rattle.ada_phrase_parser.specs.Spelling.{Spelling, ◌▷◌, Key, Named, Behind, Separated}
+use Rattle.ada_phrase_parser.specs.Phrases.{Names, Mode, IsFormal, Formals}
+use Rattle.ada_phrase_parser.specs.Reading as reading
 use Rattle.ada_parser.proofs.KitPieces.{KeyAt, same_grouped}
 use Rattle.ada_parser.proofs.KitReading.{Made, made_key, made_bind, made_then, made_pure, law_word, law_last, law_more, starts_key, starts_last, key_taken, taken_key}
 

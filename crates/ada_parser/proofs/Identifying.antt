@@ -1,7 +1,7 @@
 -- The id of a text among names, from one name to the next.
 use Rattle.std.proofs.Common.{◌≡◌, ℕ, zero, suc, ◌+◌, ◌≤◌, true, false, cond, List, [], ◌∷◌, drop, length, Some, slice_get, refl, ap, ◌∙◌, arith}
 use Rattle.std.specs.Str.{bytes_eq}
-use Rattle.ada_parser.specs.Spelling.{id_of}
+use Rattle.ada_phrase_parser.specs.Spelling.{id_of}
 
 -- the name at this place is the text
 pub found_here : (names : List (List ℕ)) (i : ℕ) (t name : List ℕ) → slice_get names i ≡ Some name → bytes_eq name t ≡ true → id_of (drop i names) t ≡ 0

@@ -16,9 +16,9 @@ use Rattle.ada_expr_parser.specs.Tests.{same, symbol, symbol_in, word, sign, fac
 use Rattle.ada_expr_parser.specs.Grammar.{symbol_item, word_item, number_item, prefix_symbol}
 use Rattle.ada_expr_parser.specs.Trees.{from_to}
 use Rattle.ada_expr_parser.specs.Parts.{expression}
-use Rattle.ada_parser.specs.Spelling.{Spelling, ◌▷◌, May, Key, Again}
-use Rattle.ada_parser.specs.Phrases.{Expression, Operand, EndOf}
-use Rattle.ada_parser.specs.Reading.{in_deeper, operand, again_if, again, end_of}
+use Rattle.ada_phrase_parser.specs.Spelling.{Spelling, ◌▷◌, May, Key, Again}
+use Rattle.ada_phrase_parser.specs.Phrases.{Expression, Operand, EndOf}
+use Rattle.ada_phrase_parser.specs.Reading.{in_deeper, operand, again_if, again, end_of}
 use Rattle.lawful_reader.specs.Readers.{Reader, Fault, bind, look, refuse}
 use Rattle.lawful_reader.specs.Grammars.{Texts, Never, One, Then, Or, Below, Begins, Starts}
 use Rattle.lawful_reader.specs.Lawful.{Careful, Lawful}

@@ -7,7 +7,7 @@ use Rattle.ada_expr_parser.specs.declared.symbols.Symbol.{Symbol}
 use Rattle.ada_expr_parser.specs.declared.items.Item.{Item}
 use Rattle.ada_expr_parser.specs.Tests.{same, symbol, word}
 use Rattle.ada_expr_parser.specs.Grammar.{symbol_item, word_item}
-use Rattle.ada_parser.specs.Reading.{is_symbol}
+use Rattle.ada_phrase_parser.specs.Reading.{is_symbol}
 use Rattle.lawful_reader.specs.Readers.{Reader, on, below, refuse}
 use Rattle.lawful_reader.specs.Grammars.{Texts, Never, One, Then, Or, Below, Starts, Opens, first_of}
 use Rattle.lawful_reader.specs.Lawful.{Careful, Lawful, IsPassed, IsYes}

@@ -7,7 +7,7 @@ use Rattle.ada_expr_parser.specs.declared.symbols.Symbol.{Symbol}
 use Rattle.ada_expr_parser.specs.declared.items.Item.{Item}
 use Rattle.ada_expr_parser.specs.Grammar.{symbol_item, word_item}
 use Rattle.ada_expr_parser.specs.Trees.{from_to}
-use Rattle.ada_parser.specs.Spelling.{Spelling, Nothing, ◌▷◌, Key, Named, Inside, last_place, Stands, Placed}
+use Rattle.ada_phrase_parser.specs.Spelling.{Spelling, Nothing, ◌▷◌, Key, Named, Inside, last_place, Stands, Placed}
 use Rattle.lawful_reader.specs.Grammars.{Below}
 
 abbrev pub tail_of : List Item → List Item

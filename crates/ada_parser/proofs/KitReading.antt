@@ -8,8 +8,8 @@ use Rattle.ada_expr_parser.specs.declared.symbols.Symbol.TheVariants as key
 use Rattle.ada_expr_parser.specs.declared.items.Item.{Item}
 use Rattle.ada_expr_parser.specs.Tests.{symbol, word}
 use Rattle.ada_expr_parser.specs.Grammar.{symbol_item, word_item}
-use Rattle.ada_parser.specs.Spelling.{Spelling, ◌▷◌, Key, Named, Behind, Separated}
-use Rattle.ada_parser.specs.Reading.{is_symbol, key_then, last_key, closed, more_behind, separated}
+use Rattle.ada_phrase_parser.specs.Spelling.{Spelling, ◌▷◌, Key, Named, Behind, Separated}
+use Rattle.ada_phrase_parser.specs.Reading.{is_symbol, key_then, last_key, closed, more_behind, separated}
 use Rattle.lawful_reader.specs.Readers.{Reader, pure, bind, token}
 use Rattle.lawful_reader.specs.Grammars.{Texts, One, Then, Many, Starts, Opens, first_of}
 use Rattle.lawful_reader.specs.Lawful.{Lawful, Anything}

@@ -1,15 +1,6 @@
+pub mod EndSteps
 pub mod Faults
-pub mod Texts
-pub mod Seen
-pub mod Named
-pub mod Marks
-pub mod Whens
 pub mod Steps
-pub mod Inner
-pub mod HandlerParts
-pub mod Lists
-pub mod DeclSteps
-pub mod MemberSteps
 pub mod Continuing
 pub mod Narrowing
 pub mod Rows
@@ -28,7 +19,6 @@ pub mod Exact
 pub mod Answering
 pub mod Identifying
 pub mod RowLists
-mod ReadingExamples
 mod DeclExamples
 mod TextExamples
 -- the kit: pieces of texts, and the laws of the words that they are read with
@@ -59,4 +49,3 @@ pub mod WordPut
 pub mod WordGet
 pub mod WordGetTexts
 pub mod WordRest
-mod WordExamples

@@ -15,7 +15,7 @@ use Rattle.ada_expr_parser.specs.declared.items.ItemKind.{ItemKind}
 use Rattle.ada_expr_parser.specs.declared.items.ItemKind.TheVariants as item
 use Rattle.ada_expr_parser.specs.declared.items.Item.{Item}
 use Rattle.ada_expr_parser.specs.Items.{kind_of, Stands, name_text, Says, IsItemOf, end_of, AreItems, interned_if, with_token, names_after}
-use Rattle.ada_parser.specs.Spelling.{Source}
+use Rattle.ada_phrase_parser.specs.Spelling.{Source}
 use Rattle.ada_parser.specs.Reads.{HasItems}
 
 -- what a token that is no name says

@@ -14,7 +14,7 @@ use Rattle.ada_expr_parser.specs.declared.items.ItemKind.{ItemKind}
 use Rattle.ada_expr_parser.specs.declared.items.ItemKind.TheVariants as item
 use Rattle.ada_expr_parser.specs.declared.items.Item.{Item}
 use Rattle.ada_expr_parser.specs.Items.{Says, IsItemOf, end_of}
-use Rattle.ada_parser.specs.Spelling.{Source}
+use Rattle.ada_phrase_parser.specs.Spelling.{Source}
 use Rattle.ada_parser.specs.Reads.{deepest, HasItems, Reads}
 use Rattle.ada_parser.proofs.PlacedTokens.{Holds, token_holds}
 use Rattle.ada_parser.proofs.Placed.{Suits, KindFits, AreFit, fit_parts, unit_placed}

@@ -11,12 +11,13 @@ use Rattle.ada_expr_parser.specs.Tests.{same, symbol}
 use Rattle.ada_expr_parser.specs.Grammar.{symbol_item, word_item}
 use Rattle.ada_expr_parser.specs.Trees.{from_to}
 use Rattle.ada_expr_parser.specs.Parts.{expression}
-use Rattle.ada_parser.specs.Spelling.{Source, Spelling, ◌▷◌, Key, Duration, last_place, Stands}
-use Rattle.ada_parser.specs.Phrases.{Expression, Guard}
-use Rattle.ada_parser.specs.Statements.{AnyStmts, IsAccept, IsAlt, IsAltKind}
-use Rattle.ada_parser.specs.Reading.{closed, Delayed, delayed}
-use Rattle.ada_parser.specs.Reading as reading
-use Rattle.ada_parser.specs.ReadingStatements.{Readers, accept_span, last_span, first_of_alt, accept_alt, delay_alt, alt_kind, alt_at}
+use Rattle.ada_phrase_parser.specs.Spelling.{Source, Spelling, ◌▷◌, Key, Duration, last_place, Stands}
+use Rattle.ada_phrase_parser.specs.Phrases.{Expression, Guard}
+use Rattle.ada_stmt_parser.specs.Statements.{AnyStmts, IsAccept, IsAlt, IsAltKind}
+use Rattle.ada_phrase_parser.specs.Reading.{Delayed}
+use Rattle.ada_phrase_parser.specs.Reading as reading
+use Rattle.ada_stmt_parser.specs.ReadingStatements.{Readers, accept_span, accept_alt, delay_alt, alt_kind, alt_at}
+use Rattle.ada_compound_parts.specs.ReadingParts.{last_span, first_of_alt}
 use Rattle.lawful_reader.specs.Readers.{bind}
 use Rattle.lawful_reader.specs.Grammars.{Texts, Never, One, Then, Or, Below, Starts}
 use Rattle.lawful_reader.specs.Lawful.{Lawful, Anything, IsPassed}

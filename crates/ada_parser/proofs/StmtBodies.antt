@@ -11,11 +11,12 @@ use Rattle.ada_expr_parser.specs.declared.items.Item.{Item}
 use Rattle.ada_expr_parser.specs.Tests.{same, symbol}
 use Rattle.ada_expr_parser.specs.Grammar.{symbol_item}
 use Rattle.ada_expr_parser.specs.Trees.{from_to}
-use Rattle.ada_parser.specs.Spelling.{Source, Spelling, ◌▷◌, Key, Named, Separated, last_place, Stands}
-use Rattle.ada_parser.specs.Phrases.{WhenRaised, WhenOthers}
-use Rattle.ada_parser.specs.Statements.{IsStmt, AnyStmts, Stmts, IsAccept, IsBody, HandlerPart, IsHandler, MoreHandlers}
-use Rattle.ada_parser.specs.Reading.{is_symbol}
-use Rattle.ada_parser.specs.ReadingStatements.{Readers, Whens, stmt_span, accept_span, last_span, whens, body_rest, block_rest, handler_part, handler_others, with_others, handlers_at}
+use Rattle.ada_phrase_parser.specs.Spelling.{Source, Spelling, ◌▷◌, Key, Named, Separated, last_place, Stands}
+use Rattle.ada_phrase_parser.specs.Phrases.{WhenRaised, WhenOthers}
+use Rattle.ada_stmt_parser.specs.Statements.{IsStmt, AnyStmts, Stmts, IsAccept, IsBody, HandlerPart, IsHandler, MoreHandlers}
+use Rattle.ada_phrase_parser.specs.Reading.{is_symbol}
+use Rattle.ada_stmt_parser.specs.ReadingStatements.{Readers, Whens, accept_span, whens, body_rest, block_rest, handler_part, handler_others, handlers_at}
+use Rattle.ada_compound_parts.specs.ReadingParts.{stmt_span, last_span, with_others}
 use Rattle.lawful_reader.specs.Readers.{Answer, Fault, Reader, go_on, bind, pure, token, look, refuse}
 use Rattle.lawful_reader.specs.Grammars.{Texts, Is, One, Then, Or, Below, Starts, first_of}
 use Rattle.lawful_reader.specs.Lawful.{Lawful, Anything, IsPassed}

@@ -13,12 +13,13 @@ use Rattle.ada_expr_parser.specs.declared.levels.Level.TheVariants.{Logical}
 use Rattle.ada_expr_parser.specs.Tests.{same, symbol}
 use Rattle.ada_expr_parser.specs.Grammar.{symbol_item, prefix_symbol, Spells, IsChoiceOf}
 use Rattle.ada_expr_parser.specs.Trees.{from_to}
-use Rattle.ada_parser.specs.Spelling.{Source, Spelling, Nothing, ◌▷◌, Key, Behind, Separated}
-use Rattle.ada_parser.specs.Phrases.{Expression, Choice}
-use Rattle.ada_parser.specs.Statements.{Stmts, ElsePart, OthersPart, IsArm, IsArms, MoreArms, IsCaseArm, IsCaseArms}
-use Rattle.ada_parser.specs.Reading.{separated, closed}
-use Rattle.ada_parser.specs.Reading as reading
-use Rattle.ada_parser.specs.ReadingStatements.{Readers, Whens, if_arm, if_rest, case_part, maybe, case_rest}
+use Rattle.ada_phrase_parser.specs.Spelling.{Source, Spelling, Nothing, ◌▷◌, Key, Behind, Separated}
+use Rattle.ada_phrase_parser.specs.Phrases.{Expression, Choice}
+use Rattle.ada_stmt_parser.specs.Statements.{Stmts, ElsePart, OthersPart, IsArm, IsArms, MoreArms, IsCaseArm, IsCaseArms}
+use Rattle.ada_phrase_parser.specs.Reading.{closed}
+use Rattle.ada_phrase_parser.specs.Reading as reading
+use Rattle.ada_stmt_parser.specs.ReadingStatements.{Readers, Whens, if_arm, if_rest, case_part, case_rest}
+use Rattle.ada_compound_parts.specs.ReadingParts.{maybe}
 use Rattle.lawful_reader.specs.Grammars.{Texts, Starts, first_of}
 use Rattle.lawful_reader.specs.Lawful.{Lawful, Anything, IsPassed}
 use Rattle.lawful_reader.proofs.Fitting.{law_stops, first_append}

@@ -12,12 +12,13 @@ use Rattle.ada_expr_parser.specs.declared.levels.Level.TheVariants.{Logical}
 use Rattle.ada_expr_parser.specs.Tests.{same, symbol, word}
 use Rattle.ada_expr_parser.specs.Grammar.{symbol_item, word_item, prefix_symbol, Spells, IsDrange}
 use Rattle.ada_expr_parser.specs.Trees.{from_to}
-use Rattle.ada_parser.specs.Spelling.{Source, Spelling, Nothing, ◌▷◌, IfThere, Key, Named, Placed}
-use Rattle.ada_parser.specs.Phrases.{Expression, Reverse, Drange, IsScheme, LoopName, LoopNameAgain}
-use Rattle.ada_parser.specs.Statements.{IsStmt, Stmts}
-use Rattle.ada_parser.specs.Reading.{closed, again}
-use Rattle.ada_parser.specs.Reading as reading
-use Rattle.ada_parser.specs.ReadingStatements.{Readers, loop_end, loop_rest, while_rest, for_range, for_rest, named_loop}
+use Rattle.ada_phrase_parser.specs.Spelling.{Source, Spelling, Nothing, ◌▷◌, IfThere, Key, Named, Placed}
+use Rattle.ada_phrase_parser.specs.Phrases.{Expression, Reverse, Drange, IsScheme, LoopName, LoopNameAgain}
+use Rattle.ada_stmt_parser.specs.Statements.{IsStmt, Stmts}
+use Rattle.ada_phrase_parser.specs.Reading.{again}
+use Rattle.ada_phrase_parser.specs.Reading as reading
+use Rattle.ada_stmt_parser.specs.ReadingStatements.{Readers, loop_rest, while_rest, for_range, for_rest, named_loop}
+use Rattle.ada_compound_parts.specs.ReadingParts.{loop_end}
 use Rattle.lawful_reader.specs.Grammars.{Texts, Never, One, Then, Or, Starts, first_of}
 use Rattle.lawful_reader.specs.Lawful.{Lawful, Anything, IsPassed}
 use Rattle.lawful_reader.proofs.Binding.{law_then}

@@ -15,11 +15,11 @@ use Rattle.ada_expr_parser.specs.Tests.{same, symbol, word}
 use Rattle.ada_expr_parser.specs.Grammar.{symbol_item, word_item, IsTarget}
 use Rattle.ada_expr_parser.specs.Trees.{from_to}
 use Rattle.ada_expr_parser.specs.Parts.{expression, callee_of, target}
-use Rattle.ada_parser.specs.Spelling.{Source, Spelling, ◌▷◌, IfThere, Key, Named, Duration, Behind, Separated}
-use Rattle.ada_parser.specs.Phrases.{Operand}
-use Rattle.ada_parser.specs.Statements.{Callee, IsStmt}
-use Rattle.ada_parser.specs.Reading.{closed, separated, duration_in, duration, Delayed, delayed}
-use Rattle.ada_parser.specs.ReadingStatements.{exit_rest}
+use Rattle.ada_phrase_parser.specs.Spelling.{Source, Spelling, ◌▷◌, IfThere, Key, Named, Duration, Behind, Separated}
+use Rattle.ada_phrase_parser.specs.Phrases.{Operand}
+use Rattle.ada_stmt_parser.specs.Statements.{Callee, IsStmt}
+use Rattle.ada_phrase_parser.specs.Reading.{closed, separated, duration_in, duration, Delayed, delayed}
+use Rattle.ada_simple_stmt_parser.specs.ReadingSimple.{exit_rest}
 use Rattle.lawful_reader.specs.Readers.{Reader, pure, bind, on, token}
 use Rattle.lawful_reader.specs.Grammars.{Texts, One, Then, Or, Below, Starts, first_of}
 use Rattle.lawful_reader.specs.Lawful.{Lawful, Anything, IsPassed}
@@ -35,7 +35,7 @@ use Rattle.ada_expr_laws.proofs.Calling.{law_target}
 use Rattle.ada_parser.proofs.KitPieces.{KeyAt, Closing, closing_key, closing_then, placed_key, key_placed}
 use Rattle.ada_parser.proofs.KitReading.{Made, Both, made_fit, made_bind, made_then, made_pure, law_closed, law_separated, starts_last}
 use Rattle.ada_parser.proofs.KitDeeper.{Expressions, law_expression}
-use Rattle.ada_parser.proofs.StmtLevels.{Has, zero_is, has_zero, has_then, has_at, Has}
+use Rattle.ada_parser.proofs.StmtLevels.{Has, zero_is, has_zero, has_then, has_at}
 
 -- what is a statement of this kind when it stands behind the symbol
 abbrev pub LedBy : Source → (PStmt → Type 0) → Symbol → Span → Texts Item PStmt

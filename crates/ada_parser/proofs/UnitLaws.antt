@@ -18,14 +18,14 @@ use Rattle.ada_expr_parser.specs.Tests.{same, symbol}
 use Rattle.ada_expr_parser.specs.Grammar.{symbol_item, word_item}
 use Rattle.ada_expr_laws.proofs.Tokens.{symbol_takes}
 use Rattle.ada_expr_laws.proofs.Primaries.{no_place}
-use Rattle.ada_parser.specs.Spelling.{Source, Spelling, ◌▷◌, Where, Key, Named, Predefined, id_of}
-use Rattle.ada_parser.specs.Statements.{IsBody}
-use Rattle.ada_parser.specs.Tasks.{TaskWord, TaskRest}
+use Rattle.ada_phrase_parser.specs.Spelling.{Source, Spelling, ◌▷◌, Where, Key, Named, Predefined, id_of}
+use Rattle.ada_stmt_parser.specs.Statements.{IsBody}
+use Rattle.ada_decl_parser.specs.Tasks.{TaskWord, TaskRest}
 use Rattle.ada_parser.specs.Declarations.{UnitEnd, Decls}
 use Rattle.ada_parser.specs.Units.{PUnit, Context, Units}
-use Rattle.ada_parser.specs.ReadingStatements.{readers}
-use Rattle.ada_parser.specs.ReadingDeclarations as reading
-use Rattle.ada_parser.specs.ReadingDeclarations.{begins_later, begins_decl, begins_behind, is_body}
+use Rattle.ada_stmt_parser.specs.ReadingStatements.{readers}
+use Rattle.ada_parser.specs.ReadingDeclarativeParts as declarative
+use Rattle.ada_parser.specs.ReadingDeclarativeParts.{begins_later, begins_decl, begins_behind, is_body}
 use Rattle.ada_parser.specs.ReadingUnits as units
 use Rattle.ada_parser.proofs.KitPieces.{Closing, closing_then, closing_same, Same, same_self, same_behind, after_key}
 use Rattle.ada_parser.proofs.KitReading.{Made, made_key, made_bind, made_then, made_pure, law_word, law_key, starts_key, key_taken, taken_key}
@@ -243,12 +243,12 @@ module _ (source : Source) where
   with_no_procedure at = refl
 
   module _ (laws : (d : ℕ) → LevelLaws source d (readers source d) (readers source (suc d))) where
-    pub law_decls : (d : ℕ) → Lawful d (reading.decls source d) (reading.decls source (suc d)) DeclsTexts EndsDecls
+    pub law_decls : (d : ℕ) → Lawful d (declarative.decls source d) (declarative.decls source (suc d)) DeclsTexts EndsDecls
     law_decls d = law_fit (λ e deep ds text is. row_is e ds text is) (is_row d)
         (made_pure decls_of (law_row is_body (law_decl source laws d Anything) says (λ behind k is. tt) (λ x stop. tt) ends_each false))
 
     -- a declaration takes a token
-    pub decl_shortens : (d : ℕ) → Shortens (reading.decl source d)
+    pub decl_shortens : (d : ℕ) → Shortens (declarative.decl source d)
     decl_shortens d = part_shortens is_body {S = EndsDecls} (law_decl source laws d Anything) says (λ behind k is. tt) (λ x stop. tt) ends_each
 
     law_procedure : (d : ℕ) (text_io : Bool) (S : Item → Type 0) → Lawful d (units.procedure source d text_io) (units.procedure source (suc d) text_io) (ProcedureTexts text_io) S

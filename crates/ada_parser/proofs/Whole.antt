@@ -16,10 +16,10 @@ use Rattle.ada_expr_parser.specs.declared.items.ItemKind.TheVariants as item
 use Rattle.ada_expr_parser.specs.declared.items.Item.{Item}
 use Rattle.ada_expr_parser.specs.Items.{Says, IsItemOf, end_of}
 use Rattle.ada_expr_parser.specs.Gives.{place}
-use Rattle.ada_parser.specs.Spelling.{Source}
+use Rattle.ada_phrase_parser.specs.Spelling.{Source}
 use Rattle.ada_parser.specs.Units.{PUnit, Units}
 use Rattle.ada_parser.specs.Reads.{deepest, is_end_kind, is_end, WholeTexts, unit_of, HasItems, Reads, BeginsSomeText, BeginsText, SyntaxAt, TooDeepAt}
-use Rattle.ada_parser.specs.ReadingStatements.{readers}
+use Rattle.ada_stmt_parser.specs.ReadingStatements.{readers}
 use Rattle.ada_parser.specs.ReadingUnits as reading
 use Rattle.ada_parser.specs.Laws.{HasOneText}
 use Rattle.ada_parser.specs.Exactly as exactly

@@ -25,11 +25,11 @@ use Rattle.ada_expr_laws.proofs.Primaries.{no_place}
 use Rattle.ada_expr_laws.proofs.Plainly.{after_symbol, symbol_then, ExprTexts, law_is_expr}
 use Rattle.ada_expr_laws.proofs.Calling.{a_number, of_name, TargetRest, law_target_rest, target_is, is_target}
 use Rattle.ada_expr_laws.proofs.Entries.{CallRest, law_call_rest, call_rest_is, is_call_rest}
-use Rattle.ada_parser.specs.Spelling.{Source, Placed, Stands, last_place, Key, ◌▷◌}
-use Rattle.ada_parser.specs.Phrases.{Operand}
-use Rattle.ada_parser.specs.Statements.{Target, Call}
-use Rattle.ada_parser.specs.Reading.{closed}
-use Rattle.ada_parser.specs.ReadingStatements.{assign_or_call, plain_rest}
+use Rattle.ada_phrase_parser.specs.Spelling.{Source, Placed, Stands, last_place, Key, ◌▷◌}
+use Rattle.ada_phrase_parser.specs.Phrases.{Operand}
+use Rattle.ada_stmt_parser.specs.Statements.{Target, Call}
+use Rattle.ada_phrase_parser.specs.Reading.{closed}
+use Rattle.ada_simple_stmt_parser.specs.ReadingSimple.{assign_or_call, plain_rest}
 use Rattle.ada_parser.proofs.KitPieces as pieces
 use Rattle.ada_parser.proofs.KitPieces.{KeyAt, last_is}
 use Rattle.ada_parser.proofs.KitReading.{Made, law_closed, starts_last}

@@ -30,7 +30,7 @@ use Rattle.ada_expr_laws.proofs.Tokens.{none_is, some_is}
 use Rattle.ada_expr_laws.proofs.Chains.{binary_low, lawful_operators}
 use Rattle.ada_expr_laws.proofs.Primaries.{no_place, NameRest, law_name, name_spell, spell_primary}
 use Rattle.ada_expr_laws.proofs.Behinds.{Behind, BehindAt, first_itself, law_inner, law_levels, behind_spells, spells_behind}
-use Rattle.ada_parser.specs.Reading.{expression_from}
+use Rattle.ada_phrase_parser.specs.Reading.{expression_from}
 use Rattle.ada_parser.proofs.KitDeeper.{neither}
 
 -- ---- items that begin an operator

@@ -19,8 +19,8 @@ use Rattle.ada_expr_laws.proofs.Primaries.{Content, content_is, InParens, Attrib
 use Rattle.ada_expr_laws.proofs.Plainly.{after_symbol, symbol_then, after_word, word_then}
 use Rattle.ada_expr_laws.proofs.Calling.{of_name}
 use Rattle.ada_expr_laws.proofs.Behinds.{Behind, behind_spells}
-use Rattle.ada_parser.specs.Spelling.{Key, ◌▷◌}
-use Rattle.ada_parser.specs.Statements.{Target}
+use Rattle.ada_phrase_parser.specs.Spelling.{Key, ◌▷◌}
+use Rattle.ada_stmt_parser.specs.Statements.{Target}
 use Rattle.ada_parser.proofs.KitPieces.{after_key}
 use Rattle.ada_parser.proofs.WordCalls.{AssignTexts, TargetThen}
 use Rattle.ada_parser.proofs.WordExpr.{FromTexts, spell_from, behind_apart, behind_nothing}

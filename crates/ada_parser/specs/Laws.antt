@@ -3,7 +3,7 @@ use Rattle.std.specs.Prelude.{◌≡◌, ℕ, List}
 use Rattle.ada_tree.specs.PlainProgram.{PProgram}
 use Rattle.ada_tree.specs.WellPlaced.{IsWellPlaced}
 use Rattle.ada_expr_parser.specs.declared.items.Item.{Item}
-use Rattle.ada_parser.specs.Spelling.{Source}
+use Rattle.ada_phrase_parser.specs.Spelling.{Source}
 use Rattle.ada_parser.specs.Reads.{HasItems, Reads}
 
 -- A program that is read is well placed.

@@ -5,11 +5,11 @@ use Rattle.lawful_reader.specs.Exactness.{whole}
 use Rattle.ada_expr_parser.specs.declared.symbols.Symbol.TheVariants as key
 use Rattle.ada_expr_parser.specs.declared.items.Item.{Item}
 use Rattle.ada_expr_parser.specs.Tests.{symbol, word}
-use Rattle.ada_parser.specs.Spelling.{Source}
+use Rattle.ada_phrase_parser.specs.Spelling.{Source}
 use Rattle.ada_parser.specs.Units.{PUnit}
 use Rattle.ada_parser.specs.Reads.{deepest, is_end}
-use Rattle.ada_parser.specs.Reading.{key_then}
-use Rattle.ada_parser.specs.ReadingDeclarations.{predefined_then, decls, unit_end}
+use Rattle.ada_phrase_parser.specs.Reading.{key_then, predefined_then}
+use Rattle.ada_parser.specs.ReadingDeclarativeParts.{decls, unit_end}
 
 -- `procedure NAME is decls begin stmts [exception handlers] end [NAME] ;` (6.3)
 abbrev pub procedure : Source → ℕ → Bool → Reader Item PUnit

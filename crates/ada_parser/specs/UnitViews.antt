@@ -7,9 +7,9 @@ use Rattle.ada_tree.specs.declared.declarations.Decl.{Decl}
 use Rattle.ada_tree.specs.PlainStmt.{PBody, plain_body}
 use Rattle.ada_tree.specs.PlainDecl.{plain_decl, decls_of}
 use Rattle.ada_expr_parser.specs.declared.items.Item.{Item}
-use Rattle.ada_parser.specs.Spelling.{Source}
+use Rattle.ada_phrase_parser.specs.Spelling.{Source}
 use Rattle.ada_parser.specs.Units.{PUnit}
-use Rattle.ada_parser.specs.ReadingDeclarations.{decls, unit_end}
+use Rattle.ada_parser.specs.ReadingDeclarativeParts.{decls, unit_end}
 use Rattle.ada_parser.specs.declared.units.Unit.{Unit as Code}
 
 -- a unit

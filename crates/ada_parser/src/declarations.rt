@@ -5,17 +5,15 @@ ghost use Rattle.std.specs.Prelude.{◌≡◌, ◌<◌, ◌≤◌, false, codes,
 ghost use Rattle.lawful_reader.specs.Readers.{fronted};
 ghost use Rattle.ada_tree.specs.PlainDecl.{plain_decl, decls_of};
 ghost use Rattle.ada_expr_parser.specs.Gives.{Gives};
-ghost use Rattle.ada_parser.specs.Spelling.{id_of};
-ghost use Rattle.ada_parser.specs.ReadingDeclarations as declarations;
-ghost use Rattle.ada_parser.specs.Views.{told};
+ghost use Rattle.ada_phrase_parser.specs.Spelling.{id_of};
+ghost use Rattle.ada_decl_parser.specs.ReadingDeclarations as declarations;
+ghost use Rattle.ada_parser.specs.ReadingDeclarativeParts as declarative;
+ghost use Rattle.ada_phrase_parser.specs.Views.{told};
 
-use crate::objects::read_named;
-use crate::pragmas::read_pragma;
-use crate::source::Source;
 use crate::task_bodies::read_task;
-use crate::tokens::{add, is_symbol, stands, word_in};
-use crate::types::{read_instance, subtype_rest, type_rest};
+use ada_decl_parser::{read_instance, read_named, read_pragma, subtype_rest, type_rest};
 use ada_expr_parser::{Item, ParseError, Symbol, expect, expect_word};
+use ada_phrase_parser::{Source, add, is_symbol, stands, word_in};
 use ada_tree::{Decl, DeclKind, NameId, Span};
 use std::alloc::Global;
 
@@ -27,7 +25,7 @@ fn read_type<'a>(
     lead: Span,
     items: &'a [Item],
 ) -> Result<(Decl, &'a [Item]), ParseError>
-    ensures tree { Gives (λ x. plain_decl x.0) (λ x. x.1.now) result (declarations.name_is (declarations.type_rest depth lead) items.now) }
+    ensures tree { Gives (λ x. plain_decl x.0) (λ x. x.1.now) result (declarative.name_is (declarations.type_rest depth lead) items.now) }
     ensures shorter { IfOk result (λ x. length x.1.now < length items.now) }
 {
     let (name, rest) = expect_word(items)?;
@@ -43,7 +41,7 @@ fn read_subtype<'a>(
     lead: Span,
     items: &'a [Item],
 ) -> Result<(Decl, &'a [Item]), ParseError>
-    ensures tree { Gives (λ x. plain_decl x.0) (λ x. x.1.now) result (declarations.name_is (declarations.subtype_rest depth lead) items.now) }
+    ensures tree { Gives (λ x. plain_decl x.0) (λ x. x.1.now) result (declarative.name_is (declarations.subtype_rest depth lead) items.now) }
     ensures shorter { IfOk result (λ x. length x.1.now < length items.now) }
 {
     let (name, rest) = expect_word(items)?;
@@ -54,7 +52,7 @@ fn read_subtype<'a>(
 // Behind `package`.
 #[tactic(auto, using(crate::proofs::Steps::steps))]
 fn read_package<'a>(lead: Span, items: &'a [Item]) -> Result<(Decl, &'a [Item]), ParseError>
-    ensures tree { Gives (λ x. plain_decl x.0) (λ x. x.1.now) result (declarations.name_is (declarations.instance lead) items.now) }
+    ensures tree { Gives (λ x. plain_decl x.0) (λ x. x.1.now) result (declarative.name_is (declarations.instance lead) items.now) }
     ensures shorter { IfOk result (λ x. length x.1.now < length items.now) }
 {
     let (name, rest) = expect_word(items)?;
@@ -73,7 +71,7 @@ fn read_decl<'a>(
 ) -> Result<(Decl, &'a [Item]), ParseError>
     requires shallow { depth ≤ 298 }
     requires id { priority.0 ≡ id_of source.now.names.now (codes "PRIORITY") }
-    ensures tree { Gives (λ x. plain_decl x.0) (λ x. x.1.now) result (declarations.decl (told source.now) depth items.now) }
+    ensures tree { Gives (λ x. plain_decl x.0) (λ x. x.1.now) result (declarative.decl (told source.now) depth items.now) }
     ensures shorter { IfOk result (λ x. length x.1.now < length items.now) }
 {
     let [next, rest @ ..] = items else {
@@ -103,14 +101,14 @@ fn read_decl<'a>(
 
 // Whether an item begins a declaration that may stand behind a body.
 fn begins_later(item: Item) -> bool
-    ensures { result ≡ declarations.begins_later item }
+    ensures { result ≡ declarative.begins_later item }
 {
     is_symbol(Symbol::Package, item) || is_symbol(Symbol::Task, item)
 }
 
 // Whether an item begins a declaration, by whether a body stands before it.
 fn begins_decl(behind: bool, item: Item) -> bool
-    ensures { result ≡ declarations.begins_behind behind item }
+    ensures { result ≡ declarative.begins_behind behind item }
 {
     if behind {
         return begins_later(item);
@@ -124,7 +122,7 @@ fn begins_decl(behind: bool, item: Item) -> bool
 
 // Whether a declaration is a task's body.
 fn is_body(decl: &Decl) -> bool
-    ensures { result ≡ declarations.is_body (plain_decl decl.now) }
+    ensures { result ≡ declarative.is_body (plain_decl decl.now) }
 {
     matches!(decl.kind, DeclKind::TaskBody { .. })
 }
@@ -141,7 +139,7 @@ fn decls_onto<'a>(
 ) -> Result<&'a [Item], ParseError>
     requires shallow { depth ≤ 298 }
     requires id { priority.0 ≡ id_of source.now.names.now (codes "PRIORITY") }
-    ensures tree { Gives (λ x. map plain_decl list.new.items) (λ x. x.now) result (fronted (map plain_decl list.old.items) (declarations.decl_list (told source.now) depth false items.now)) }
+    ensures tree { Gives (λ x. map plain_decl list.new.items) (λ x. x.now) result (fronted (map plain_decl list.old.items) (declarative.decl_list (told source.now) depth false items.now)) }
     ensures shorter { IfOk result (λ x. length x.now ≤ length items.now) }
 {
     let mut rest = items;
@@ -161,7 +159,7 @@ fn decls_onto<'a>(
 }
 
 /// Declarations, none or some. Behind the first body stand bodies, tasks and instances alone.
-#[tactic(auto, using(crate::proofs::Steps::steps, crate::proofs::DeclSteps::fronted_none))]
+#[tactic(auto, using(crate::proofs::Steps::rows))]
 pub(crate) fn read_decls<'a>(
     alloc: Global,
     source: &Source<'_>,
@@ -171,7 +169,7 @@ pub(crate) fn read_decls<'a>(
 ) -> Result<(Vec<Decl>, &'a [Item]), ParseError>
     requires shallow { depth ≤ 298 }
     requires id { priority.0 ≡ id_of source.now.names.now (codes "PRIORITY") }
-    ensures tree { Gives (λ x. decls_of (map plain_decl x.0.items)) (λ x. x.1.now) result (declarations.decls (told source.now) depth items.now) }
+    ensures tree { Gives (λ x. decls_of (map plain_decl x.0.items)) (λ x. x.1.now) result (declarative.decls (told source.now) depth items.now) }
     ensures shorter { IfOk result (λ x. length x.1.now ≤ length items.now) }
 {
     let mut list = Vec::new(alloc);

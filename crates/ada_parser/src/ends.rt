@@ -1,17 +1,16 @@
 //! How units and task bodies end (6.3, 9.1).
 
-ghost use Rattle.std.specs.Prelude.{◌≡◌, ◌<◌, ◌≤◌, IfOk, length};
+ghost use Rattle.std.specs.Prelude.{◌<◌, ◌≤◌, IfOk, length};
 ghost use Rattle.ada_tree.specs.PlainStmt.{plain_body};
 ghost use Rattle.ada_expr_parser.specs.Gives.{Gives};
-ghost use Rattle.ada_parser.specs.Reading as reading;
-ghost use Rattle.ada_parser.specs.ReadingDeclarations as declarations;
-ghost use Rattle.ada_parser.specs.DeclViews as views;
-ghost use Rattle.ada_parser.specs.Views.{told};
+ghost use Rattle.ada_phrase_parser.specs.Reading as reading;
+ghost use Rattle.ada_parser.specs.ReadingDeclarativeParts as declarative;
+ghost use Rattle.ada_decl_parser.specs.DeclViews as views;
+ghost use Rattle.ada_phrase_parser.specs.Views.{told};
 
-use crate::bodies::unit_body;
-use crate::phrases::is_again;
-use crate::source::Source;
 use ada_expr_parser::{Item, ParseError, Symbol, expect};
+use ada_phrase_parser::{Source, is_again};
+use ada_stmt_parser::unit_body;
 use ada_tree::{Body, Span, Word};
 use std::alloc::Global;
 
@@ -42,7 +41,7 @@ pub(crate) fn unit_end<'a>(
     items: &'a [Item],
 ) -> Result<(Body, Span, &'a [Item]), ParseError>
     requires { depth ≤ 299 }
-    ensures tree { Gives (λ x. views.with_close (plain_body x.0) x.1) (λ x. x.2.now) result (declarations.unit_end (told source.now) depth name views.with_close items.now) }
+    ensures tree { Gives (λ x. views.with_close (plain_body x.0) x.1) (λ x. x.2.now) result (declarative.unit_end (told source.now) depth name views.with_close items.now) }
     ensures shorter { IfOk result (λ x. length x.2.now < length items.now) }
 {
     let (_, rest) = expect(Symbol::Begin, items)?;

@@ -3,34 +3,14 @@
 //! texts.
 #![tactic(auto)]
 
-mod bodies;
-mod compound;
 mod declarations;
 mod ends;
-mod entries;
 mod errors;
-mod identifiers;
-mod initials;
 mod laws;
-mod looping;
-mod members;
 mod objects;
-mod operands;
-mod phrases;
-mod pragmas;
 mod reading;
-mod selecting;
-mod sequences;
-mod simple;
-mod source;
-mod statements;
-mod strings;
 mod task_bodies;
-mod tasks;
-mod tokens;
-mod types;
 mod units;
-mod words;
 
 pub use errors::ReadError;
 pub use laws::reading_laws;

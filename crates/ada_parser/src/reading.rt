@@ -8,20 +8,20 @@ ghost use Rattle.ada_tree.specs.WellPlaced.{IsWellPlaced};
 ghost use Rattle.ada_expr_parser.specs.declared.errors.ParseError.TheVariants as parts;
 ghost use Rattle.ada_expr_parser.specs.Gives.{Gives};
 ghost use Rattle.ada_parser.specs.declared.errors.ReadError.TheVariants as errors;
-ghost use Rattle.ada_parser.specs.Spelling.{id_of};
+ghost use Rattle.ada_phrase_parser.specs.Spelling.{id_of};
 ghost use Rattle.ada_parser.specs.Reads as reads;
 ghost use Rattle.ada_parser.specs.Reads.{Reads, SyntaxAt, TooDeepAt};
 ghost use Rattle.ada_parser.specs.ReadingUnits as units;
 ghost use Rattle.ada_parser.specs.Exactly.{IsRead, program_of};
 ghost use Rattle.ada_parser.specs.Refusals.{IsRefusedFor, whole_error, tokens_error};
 ghost use Rattle.ada_parser.specs.UnitViews.{plain_unit};
-ghost use Rattle.ada_parser.specs.Views.{told};
+ghost use Rattle.ada_phrase_parser.specs.Views.{told};
 
 use crate::errors::ReadError;
-use crate::source::Source;
 use crate::units::{Unit, read_unit};
 use ada_expr_parser::{Item, ItemKind, Items, ParseError, read_items};
 use ada_lexer::{LexError, Token, tokens};
+use ada_phrase_parser::Source;
 use ada_tree::{NameId, Names, Program};
 use std::alloc::Global;
 

@@ -5,16 +5,15 @@ ghost use Rattle.std.specs.Prelude.{◌≡◌, ◌<◌, ◌≤◌, suc, codes, I
 ghost use Rattle.ada_tree.specs.PlainDecl.{plain_decl, decls_of, DTaskBody};
 ghost use Rattle.ada_expr_parser.specs.Trees.{from_to};
 ghost use Rattle.ada_expr_parser.specs.Gives.{Gives};
-ghost use Rattle.ada_parser.specs.Spelling.{id_of};
-ghost use Rattle.ada_parser.specs.ReadingDeclarations as declarations;
-ghost use Rattle.ada_parser.specs.Views.{told};
+ghost use Rattle.ada_phrase_parser.specs.Spelling.{id_of};
+ghost use Rattle.ada_parser.specs.ReadingDeclarativeParts as declarative;
+ghost use Rattle.ada_phrase_parser.specs.Views.{told};
 
 use crate::ends::unit_end;
 use crate::objects::read_objects;
-use crate::source::Source;
-use crate::tasks::task_rest;
-use crate::tokens::{from_to, is_symbol, word_in};
+use ada_decl_parser::task_rest;
 use ada_expr_parser::{Item, ParseError, Symbol, expect, expect_word};
+use ada_phrase_parser::{Source, from_to, is_symbol, word_in};
 use ada_tree::{Decl, DeclKind, NameId, Span, Word};
 use std::alloc::Global;
 
@@ -30,7 +29,7 @@ fn body_behind<'a>(
     items: &'a [Item],
 ) -> Result<(Decl, &'a [Item]), ParseError>
     requires { depth ≤ 298 }
-    ensures tree { Gives (λ x. plain_decl x.0) (λ x. x.1.now) result (declarations.unit_end (told source.now) (suc depth) name (λ b close. DTaskBody name (decls_of (map plain_decl objects.items)) b (from_to lead close)) items.now) }
+    ensures tree { Gives (λ x. plain_decl x.0) (λ x. x.1.now) result (declarative.unit_end (told source.now) (suc depth) name (λ b close. DTaskBody name (decls_of (map plain_decl objects.items)) b (from_to lead close)) items.now) }
     ensures shorter { IfOk result (λ x. length x.1.now < length items.now) }
 {
     let (body, close, rest) = unit_end(alloc, source, depth + 1, name, items)?;
@@ -58,7 +57,7 @@ fn task_body<'a>(
     items: &'a [Item],
 ) -> Result<(Decl, &'a [Item]), ParseError>
     requires { depth ≤ 298 }
-    ensures tree { Gives (λ x. plain_decl x.0) (λ x. x.1.now) result (declarations.task_body (told source.now) depth lead items.now) }
+    ensures tree { Gives (λ x. plain_decl x.0) (λ x. x.1.now) result (declarative.task_body (told source.now) depth lead items.now) }
     ensures shorter { IfOk result (λ x. length x.1.now < length items.now) }
 {
     let (name, rest) = expect_word(items)?;
@@ -79,7 +78,7 @@ pub(crate) fn read_task<'a>(
 ) -> Result<(Decl, &'a [Item]), ParseError>
     requires shallow { depth ≤ 298 }
     requires id { priority.0 ≡ id_of source.now.names.now (codes "PRIORITY") }
-    ensures tree { Gives (λ x. plain_decl x.0) (λ x. x.1.now) result (declarations.task_at (told source.now) depth lead items.now) }
+    ensures tree { Gives (λ x. plain_decl x.0) (λ x. x.1.now) result (declarative.task_at (told source.now) depth lead items.now) }
     ensures shorter { IfOk result (λ x. length x.1.now < length items.now) }
 {
     let [next, rest @ ..] = items else {

@@ -2,18 +2,17 @@
 
 ghost use Rattle.std.specs.Prelude.{◌≡◌, ◌<◌, ◌≤◌, suc, true, false, codes, IfOk, length};
 ghost use Rattle.ada_expr_parser.specs.Gives.{Gives};
-ghost use Rattle.ada_parser.specs.Spelling.{id_of};
-ghost use Rattle.ada_parser.specs.ReadingDeclarations as declarations;
+ghost use Rattle.ada_phrase_parser.specs.Spelling.{id_of};
+ghost use Rattle.ada_parser.specs.ReadingDeclarativeParts as declarative;
 ghost use Rattle.ada_parser.specs.ReadingUnits as units;
 ghost use Rattle.ada_parser.specs.UnitViews as views;
 ghost use Rattle.ada_parser.specs.UnitViews.{plain_unit};
-ghost use Rattle.ada_parser.specs.Views.{told};
+ghost use Rattle.ada_phrase_parser.specs.Views.{told};
 
 use crate::declarations::read_decls;
 use crate::ends::unit_end;
-use crate::identifiers::expect_id;
-use crate::source::Source;
 use ada_expr_parser::{Item, ParseError, Symbol, expect, expect_word, symbol_in};
+use ada_phrase_parser::{Source, expect_id};
 use ada_tree::{Body, Decl, NameId, Word};
 use std::alloc::Global;
 
@@ -38,7 +37,7 @@ fn unit_behind<'a>(
     items: &'a [Item],
 ) -> Result<(Unit, &'a [Item]), ParseError>
     requires { depth ≤ 298 }
-    ensures tree { Gives (λ x. plain_unit x.0) (λ x. x.1.now) result (declarations.unit_end (told source.now) (suc depth) name (views.unit_of text_io name decls.items) items.now) }
+    ensures tree { Gives (λ x. plain_unit x.0) (λ x. x.1.now) result (declarative.unit_end (told source.now) (suc depth) name (views.unit_of text_io name decls.items) items.now) }
     ensures shorter { IfOk result (λ x. length x.1.now < length items.now) }
 {
     let (body, _, rest) = unit_end(alloc, source, depth + 1, name, items)?;

@@ -9,8 +9,6 @@ mod nesting;
 mod paging;
 mod pieces;
 mod printing;
-#[cfg(test)]
-mod tests;
 mod whole;
 
 pub use printing::{expr_len, print, print_expr, text_len};

@@ -1,11 +1,9 @@
 // The tree of an Ada 83 program, with its names.
 #![tactic(auto)]
 
-mod copying;
 mod declarations;
 mod expressions;
 mod naming;
-mod sameness;
 mod shortage;
 mod statements;
 mod static_types;

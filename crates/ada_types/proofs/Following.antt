@@ -1,5 +1,5 @@
 -- Declarations, one after the other: what can be used behind them, and what is refused first at their places.
-use Rattle.std.specs.Prelude.{◌≡◌, ℕ, ◌+◌, ◌<◌, ◌≤◌, Bool, true, false, List, [], ◌∷◌, ◌++◌, length, map, flat_map, drop, get_or, Option, Some, None, option_map, refl}
+use Rattle.std.specs.Prelude.{◌≡◌, ℕ, ◌+◌, ◌<◌, ◌≤◌, false, List, [], ◌∷◌, ◌++◌, length, map, drop, get_or, Option, None, refl}
 use Rattle.std.proofs.Common.{sym, ap, ◌∙◌, subst, arith, length-append}
 use Rattle.std.proofs.lemmas.List.{drop_more, drop_all}
 use Rattle.ada_tree.specs.declared.naming.Span.{Span}
@@ -8,21 +8,21 @@ use Rattle.ada_tree.specs.declared.declarations.Decl.{Decl}
 use Rattle.ada_tree.specs.declared.declarations.DeclKind.{DeclKind, Number, Object, Enumeration, Array, Subtype, Exception, IntIo, Pragma, Task, TaskBody'}
 use Rattle.ada_tree.specs.PlainDecl.{PDecl, DNumber, DObject, DEnumeration, DArray, DSubtype, DException, DIntIo, DPragma, DTask, DTaskBody, PDecls, no_decl, decl_then, decls_of, decl_at, plain_decl}
 use Rattle.ada_tree.specs.Refusals.{Refusal}
-use Rattle.ada_tree.specs.Scope.{Scope, Seen, Thing, EntryPart, meaning}
+use Rattle.ada_tree.specs.Scope.{Scope, Thing, EntryPart, meaning}
 use Rattle.ada_tree.specs.Demand.{Site}
-use Rattle.ada_tree.specs.Declaring.{with_name, with_names, with_types, seen_as, in_body, own_entries, after_own_object, after_objects, after_decl, after_decls}
+use Rattle.ada_tree.specs.Declaring.{with_name, with_names, seen_as, in_body, own_entries, after_own_object, after_objects, after_decl, after_decls}
 use Rattle.ada_tree.specs.Sites.{own_object_sites, own_sites, decl_sites, decls_sites}
-use Rattle.ada_types.specs.Sooner.{sooner}
-use Rattle.ada_types.specs.Met.{met}
-use Rattle.ada_types.specs.Nested.{IsOuter, IsOutside, IsWithin}
-use Rattle.ada_types.specs.Notes.{is_of_tasks}
+use Rattle.ada_refusals.specs.Sooner.{sooner}
+use Rattle.ada_refusals.specs.Met.{met}
+use Rattle.ada_scopes.specs.Nested.{IsOuter, IsOutside, IsWithin}
+use Rattle.ada_duplicates.specs.Notes.{is_of_tasks}
 use Rattle.ada_types.specs.Decls.{IsDecl, AreDecls, after_body}
-use Rattle.ada_types.specs.declared.scope.Outer.{Outer}
-use Rattle.ada_types.specs.declared.scope.Outside.{Outside}
+use Rattle.ada_scopes.specs.declared.scope.Outer.{Outer}
+use Rattle.ada_scopes.specs.declared.scope.Outside.{Outside}
 use Rattle.ada_types.specs.declared.walked_decls.WalkedDecl.{WalkedDecl}
 use Rattle.ada_types.specs.declared.walked_decls.WalkedDecls.{WalkedDecls}
-use Rattle.ada_types.proofs.SoonerLaws.{sooner_assoc, sooner_none}
-use Rattle.ada_types.proofs.Meeting.{met_none, met_append, joined}
+use Rattle.ada_refusals.proofs.SoonerLaws.{sooner_assoc, sooner_none}
+use Rattle.ada_refusals.proofs.Meeting.{met_none, met_append}
 
 cut : {A : Type 0} (xs : List A) (i : ℕ) (x : A) → i < length xs → x ≡ get_or xs i x → drop i xs ≡ x ∷ drop (i + 1) xs
 cut xs i x h is_x = drop_more xs i x h ∙ ap (λ y. y ∷ drop (i + 1) xs) (sym is_x)

@@ -1,9 +1,8 @@
 -- What is refused first in a list, as it is gone through.
-use Rattle.std.specs.Prelude.{◌≡◌, ℕ, ◌+◌, ◌<◌, ◌≤◌, List, [], ◌∷◌, ◌++◌, length, map, flat_map, take, Option, Some, None, option_map, Vec, Bool, true, false, refl}
+use Rattle.std.specs.Prelude.{◌≡◌, ℕ, ◌+◌, ◌≤◌, List, [], ◌∷◌, ◌++◌, length, map, flat_map, take, Option, Some, None, option_map, Vec, Bool, true, false, refl, ◌<◌}
 use Rattle.std.specs.declared.alloc.Global.{Global}
 use Rattle.std.proofs.Common.{sym, ap, ◌∙◌, get_or}
-use Rattle.std.proofs.lemmas.List.{map_more, append-nil, take_all}
-use Rattle.std.proofs.lemmas.Grind.{flat_map-append}
+use Rattle.std.proofs.lemmas.List.{append-nil}
 use Rattle.ada_tree.specs.Refusals.{Refusal}
 use Rattle.ada_tree.specs.declared.naming.Word.{Word}
 use Rattle.ada_tree.specs.declared.naming.Span.{Span}
@@ -16,7 +15,7 @@ use Rattle.ada_tree.specs.declared.statements.Accept.{Accept, out-Accept}
 use Rattle.ada_tree.proofs.Rows.{plain_arm-out, plain_handler-out, plain_accept-out}
 use Rattle.ada_tree.specs.ExprTypes.{kind_of}
 use Rattle.ada_tree.specs.RuleChoiceBad.{selected_range}
-use Rattle.ada_types.specs.Entries.{plain_range}
+use Rattle.ada_scopes.specs.Entries.{plain_range}
 use Rattle.ada_types.specs.declared.statements.CaseHead.{CaseHead}
 use Rattle.ada_tree.specs.PlainExpr.{PExpr, plain_expr}
 use Rattle.ada_tree.specs.PlainStmt.{PCall, PHead, SCase, accepting, absent, present, maybe_of, plain_stmt, plain_formal, plain_accept, plain_arm, plain_case_arm, plain_handler, PStmt, PAlt, alternative, PArm, arm, PCaseArm, case_arm, PHandler, handler, row_of, alts_of, arms_of, case_arms_of, handlers_of}
@@ -24,40 +23,11 @@ use Rattle.ada_tree.specs.Scope.{Scope, Range}
 use Rattle.ada_tree.specs.Declaring.{inside, with_formals}
 use Rattle.ada_tree.specs.Demand.{Site, names_exception, handles, chooses}
 use Rattle.ada_tree.specs.Sites.{expr_sites, choices_of, head_sites, accept_sites, call_sites, site, if_there, condition, stmt_sites, stmts_sites, alt_sites, alts_sites, arms_sites, choice_sites, case_arms_sites, handler_names_sites, handlers_sites, with_words}
-use Rattle.ada_types.specs.Met.{met}
-use Rattle.ada_types.specs.Sooner.{sooner}
+use Rattle.ada_refusals.specs.Met.{met, met_at}
+use Rattle.ada_refusals.specs.Sooner.{sooner}
 use Rattle.ada_types.specs.Members.{each_alt, each_arm, each_case_arm, exception_sites, each_handler, IsCaseHead}
-use Rattle.ada_types.specs.Met.{met_at}
-use Rattle.ada_types.proofs.SoonerLaws.{sooner_none}
-use Rattle.ada_types.proofs.Meeting.{joined, met_none, met_cons, met_one, met_append}
-
-one_flat : {X : Type 0} (f : X → List Site) (ys : List Site) (x y : X) → x ≡ y → ys ++ flat_map f (x ∷ []) ≡ ys ++ f y
-one_flat f ys x y e = ap (λ z. ys ++ flat_map f (z ∷ [])) e ∙ ap (λ zs. ys ++ zs) (append-nil (f y))
-
-grown : {A X : Type 0} (f : X → List Site) (g : A → X) (xs : List A) (i : ℕ) (x d : A) → i < length xs → x ≡ get_or xs i d
-    → flat_map f (map g (take (i + 1) xs)) ≡ flat_map f (map g (take i xs)) ++ f (g x)
-grown f g xs i x d inside at =
-    ap (flat_map f) (map_more g xs i d inside)
-    ∙ flat_map-append f (map g (take i xs)) (g (get_or xs i d) ∷ [])
-    ∙ one_flat f (flat_map f (map g (take i xs))) (g (get_or xs i d)) (g x) (ap g (sym at))
-
--- the places of one member more
-pub met_more : {A X : Type 0} (f : X → List Site) (g : A → X) (xs : List A) (i : ℕ) (x d : A) (o p : Option Refusal) → i < length xs → x ≡ get_or xs i d
-    → o ≡ met (flat_map f (map g (take i xs))) → p ≡ met (f (g x)) → sooner o p ≡ met (flat_map f (map g (take (i + 1) xs)))
-met_more f g xs i x d o p inside at before here =
-    joined (flat_map f (map g (take i xs))) (f (g x)) o p before here ∙ ap met (sym (grown f g xs i x d inside at))
-
-taken : {A : Type 0} (xs : List A) (i : ℕ) → length xs ≤ i → take i xs ≡ xs
-taken xs i h = take_all i xs h
-
--- behind the last turn
-pub met_all : {A X : Type 0} (f : X → List Site) (g : A → X) (xs : List A) (i : ℕ) (o : Option Refusal) → length xs ≤ i → o ≡ met (flat_map f (map g (take i xs))) → o ≡ met (flat_map f (map g xs))
-met_all f g xs i o done told = told ∙ ap (λ l. met (flat_map f (map g l))) (taken xs i done)
-
--- one turn of a walk that leaves the scope as it was
-pub turn : {A X : Type 0} (f : Scope → X → List Site) (g : A → X) (xs : List A) (i : ℕ) (x : A) (s now : Scope) (r o p : Option Refusal) → i < length xs → x ≡ get_or xs i x → now ≡ s
-    → r ≡ sooner o p → o ≡ met (flat_map (f s) (map g (take i xs))) → p ≡ met (f now (g x)) → r ≡ met (flat_map (f s) (map g (take (i + 1) xs)))
-turn f g xs i x s now r o p inside at same is before here = is ∙ met_more (f s) g xs i x x o p inside at before (here ∙ ap (λ z. met (f z (g x))) same)
+use Rattle.ada_refusals.proofs.Meeting.{joined, met_cons, met_one, met_append}
+use Rattle.ada_refusals.proofs.Listing.{met_more, taken}
 
 -- ---- lists of the tree, by the places of each member
 
@@ -197,5 +167,3 @@ case_others s now e arms va vb list vl given span h r hi inner rest is his is_a 
     ∙ joined (case_before s e arms true span) (stmts_sites s (row_of (map plain_stmt list))) hi rest
     (case_told s e arms va vb given true span h hi inner his is_a is_b is_o head q)
     (w ∙ ap (λ z. met (stmts_sites z (row_of (map plain_stmt vl)))) same ∙ ap (λ l. met (stmts_sites s (row_of (map plain_stmt l)))) is_l)
-
-pub ruleset lists = (met_none, met_cons, met_one, met_append, sooner_none)

@@ -1,25 +1,24 @@
 -- What is behind the declarations of types and named numbers.
-use Rattle.std.specs.Prelude.{◌≡◌, ℕ, ℤ, Bool, true, false, List, [], ◌∷◌, ◌++◌, Option, Some, None, option_map, refl}
-use Rattle.std.proofs.Common.{sym, ap, ◌∙◌}
+use Rattle.std.specs.Prelude.{◌≡◌, ℕ, ℤ, true, List, [], ◌∷◌, ◌++◌, Option, Some, None}
+use Rattle.std.proofs.Common.{ap, ◌∙◌}
 use Rattle.ada_tree.specs.declared.naming.Word.{Word}
 use Rattle.ada_tree.specs.PlainExpr.{PExpr, PDrange, PSubind}
 use Rattle.ada_tree.specs.TypeTable.{TypeTable}
 use Rattle.ada_tree.specs.Refusals.{Refusal}
 use Rattle.ada_tree.specs.Scope.{Scope, Thing, ConstantObject, Range, integer_kind, range_of_mark, and_then}
-use Rattle.ada_tree.specs.Demand.{Site, scalar_only}
+use Rattle.ada_tree.specs.Demand.{Site}
 use Rattle.ada_tree.specs.Declaring.{Made, with_name, with_types, add_constants, type_of_mark, after_type, made_array, made_named_array, made_subind, made_subtype, renamed, drange_range}
-use Rattle.ada_tree.specs.Sites.{names_sites, static_of, drange_sites, subind_sites}
-use Rattle.ada_types.specs.Sooner.{sooner}
-use Rattle.ada_types.specs.Met.{met}
-use Rattle.ada_types.specs.Known.{value_in}
-use Rattle.ada_types.specs.Walked.{IsWalked}
-use Rattle.ada_types.specs.Makings.{IsMade}
+use Rattle.ada_tree.specs.Sites.{names_sites}
+use Rattle.ada_refusals.specs.Met.{met}
+use Rattle.ada_expr_rules.specs.Known.{value_in}
+use Rattle.ada_expr_rules.specs.Walked.{IsWalked}
+use Rattle.ada_scopes.specs.Makings.{IsMade}
 use Rattle.ada_types.specs.Decls.{after_number}
-use Rattle.ada_types.specs.declared.known.Known.{Known}
-use Rattle.ada_types.specs.declared.walking.Walked.{Walked}
-use Rattle.ada_types.proofs.Meeting.{joined}
-use Rattle.ada_types.proofs.Accepting.{names_met}
-use Rattle.ada_types.proofs.Knowing.{value_known, known_walked}
+use Rattle.ada_expr_rules.specs.declared.known.Known.{Known}
+use Rattle.ada_expr_rules.specs.declared.walking.Walked.{Walked}
+use Rattle.ada_refusals.proofs.Meeting.{joined}
+use Rattle.ada_refusals.proofs.Meeting.{names_met}
+use Rattle.ada_expr_rules.proofs.Knowing.{value_known, known_walked}
 
 -- what is made behind what was made
 pub two_made : (scope s1 s2 : Scope) (m : Made) (f : TypeTable → Option ℕ → Made) (p q : Option ℕ) → IsMade scope m s1 p → IsMade s1 (f s1.types p) s2 q → IsMade scope (f m.types m.mark) s2 q

@@ -1,69 +1,32 @@
--- What is refused first of what is written: targets of assignments and GET, and parts of texts.
+-- What is refused first of the parts of texts.
 use Rattle.std.specs.Prelude.{◌≡◌, ℕ, Bool, true, false, ◌==◌, ◌&&◌, is_some, if◌then◌else◌, List, [], ◌∷◌, ◌++◌, map, Option, Some, None, refl}
-use Rattle.std.proofs.Common.{sym, ap, subst, ◌∙◌}
+use Rattle.std.proofs.Common.{sym, ap, ◌∙◌}
 use Rattle.std.proofs.lemmas.Bool.{false≢true}
 use Rattle.ada_tree.specs.declared.naming.Word.{Word}
 use Rattle.ada_tree.specs.declared.naming.Span.{Span}
 use Rattle.ada_tree.specs.PlainExpr.{PExpr, EInteger, EName, EIndex, EAttribute, EAttributeOf, EParen, EUnary, EBinary}
-use Rattle.ada_tree.specs.PlainStmt.{PTarget, PPart, PWords, PValue}
+use Rattle.ada_tree.specs.PlainStmt.{PPart, PWords, PValue}
 use Rattle.ada_tree.specs.Attributes.{Attribute, First, Last, Pos, Val, Succ, Pred, Image, NoAttribute, attribute_of, is_image}
 use Rattle.ada_tree.specs.Refusals.{Refusal}
 use Rattle.ada_tree.specs.Scope.{Scope, integer_kind, scalar_kind, marking}
-use Rattle.ada_tree.specs.ExprTypes.{kind_of, is_other_kind, attribute_kind, place_of, nodes}
-use Rattle.ada_tree.specs.Demand.{writes, gets, node, whole, is_written, must_be_of}
+use Rattle.ada_tree.specs.ExprTypes.{kind_of, attribute_kind, place_of, nodes}
+use Rattle.ada_tree.specs.Demand.{node, whole, is_written, must_be_of}
 use Rattle.ada_tree.specs.StaticValue.{is_static, value_of}
 use Rattle.ada_tree.specs.RuleUnknown.{unknown_in_node}
-use Rattle.ada_tree.specs.RuleMismatch.{target_kind, mismatch_in_node}
+use Rattle.ada_tree.specs.RuleMismatch.{mismatch_in_node}
 use Rattle.ada_tree.specs.RuleReadOut.{read_name}
 use Rattle.ada_tree.specs.RuleArgCount.{arg_count_in_node}
 use Rattle.ada_tree.specs.RuleArrayUse.{array_in_node}
 use Rattle.ada_tree.specs.RuleRangeBad.{raised, raises}
 use Rattle.ada_tree.specs.RuleTextUse.{is_image_of, is_fit_part}
 use Rattle.ada_tree.specs.Sites.{site, expr_sites, part_nodes, plain_part_sites, part_sites}
-use Rattle.ada_types.specs.Sooner.{sooner, found}
-use Rattle.ada_types.specs.Met.{met_at, met}
-use Rattle.ada_types.specs.Judged.{parts_met}
-use Rattle.ada_types.specs.Targets.{IsTarget}
+use Rattle.ada_refusals.specs.Sooner.{sooner, found}
+use Rattle.ada_refusals.specs.Met.{met_at, met}
+use Rattle.ada_expr_rules.specs.Judged.{parts_met}
 use Rattle.ada_types.specs.Written.{written_sites}
-use Rattle.ada_types.specs.declared.targets.WalkedTarget.{WalkedTarget}
-use Rattle.ada_types.proofs.SoonerLaws.{sooner_none}
-use Rattle.ada_types.proofs.Meeting.{met_none, met_one, met_cons, joined, before, parts_are_met}
-
--- ---- targets
-
-abbrev over : Word → Option PExpr → PTarget
-over name index = record { name = name; index = index }
-
--- a name with an index
-pub part_target : (scope : Scope) (name : Word) (o : Option PExpr) (e : PExpr) (p q : Option Refusal) (w : WalkedTarget)
-    → o ≡ Some e
-    → w.kind ≡ target_kind scope (over name (Some e))
-    → p ≡ met_at scope (writes (over name (Some e)))
-    → q ≡ met (expr_sites scope e)
-    → w.refusal ≡ sooner p q
-    → IsTarget scope (over name o) w
-part_target scope name o e p q w is_o is_kind is_p is_q is_w =
-    subst (λ (x : Option PExpr). IsTarget scope (over name x) w) (sym is_o)
-    record { kind_is = is_kind; refusal_is = is_w ∙ before scope (writes (over name (Some e))) (expr_sites scope e) p q is_p is_q }
-
--- a name alone
-pub name_target : (scope : Scope) (name : Word) (o : Option PExpr) (w : WalkedTarget)
-    → o ≡ None
-    → w.kind ≡ target_kind scope (over name None)
-    → w.refusal ≡ met_at scope (writes (over name None))
-    → IsTarget scope (over name o) w
-name_target scope name o w is_o is_kind is_w =
-    subst (λ (x : Option PExpr). IsTarget scope (over name x) w) (sym is_o)
-    record { kind_is = is_kind; refusal_is = is_w ∙ sym (met_one scope (writes (over name None))) }
-
--- what GET reads
-pub get_met : (scope : Scope) (t : PTarget) (kind : Option ℕ) → kind ≡ target_kind scope t
-    → found 3 (if is_other_kind (Some integer_kind) kind then t.name.span ∷ [] else []) ≡ met_at scope (gets t)
-get_met scope t kind h =
-    ap (λ k. found 3 (if is_other_kind (Some integer_kind) k then t.name.span ∷ [] else [])) h
-    ∙ sym (sooner_none (found 3 (if is_other_kind (Some integer_kind) (target_kind scope t) then t.name.span ∷ [] else [])))
-
--- ---- parts of texts
+use Rattle.ada_refusals.proofs.SoonerLaws.{sooner_none}
+use Rattle.ada_refusals.proofs.Meeting.{met_none, met_one, met_cons, joined, before}
+use Rattle.ada_expr_rules.proofs.Expressions.{parts_are_met}
 
 -- a node that is not 'IMAGE is refused in a text for what it is refused for elsewhere
 node_alike : (scope : Scope) (e : PExpr) → is_image_of e ≡ false → met_at scope (node true e) ≡ met_at scope (node false e)

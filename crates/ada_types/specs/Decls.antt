@@ -1,24 +1,19 @@
 -- What is told of declarations that stand at some places.
-use Rattle.std.specs.Prelude.{◌≡◌, ℕ, Bool, true, List, [], ◌∷◌, map, Option, Some}
+use Rattle.std.specs.Prelude.{◌≡◌, Bool, true, List, [], ◌∷◌, Some}
 use Rattle.ada_tree.specs.declared.naming.Word.{Word}
 use Rattle.ada_tree.specs.PlainExpr.{PExpr}
-use Rattle.ada_tree.specs.PlainStmt.{PFormal}
-use Rattle.ada_tree.specs.PlainDecl.{PEntry, PDecls}
+use Rattle.ada_tree.specs.PlainDecl.{PDecls}
 use Rattle.ada_tree.specs.PlainProgram.{PProgram}
-use Rattle.ada_tree.specs.Scope.{Scope, ConstantObject, AnotherUnit, Family, FormalPart, EntryPart, integer_kind}
+use Rattle.ada_tree.specs.Scope.{Scope, ConstantObject, AnotherUnit, integer_kind}
 use Rattle.ada_tree.specs.ExprTypes.{static_in}
 use Rattle.ada_tree.specs.Demand.{Site}
 use Rattle.ada_tree.specs.Declaring.{with_name, with_types, add_constants, in_body, after_objects}
-use Rattle.ada_tree.specs.Sites.{sites, entry_sites}
+use Rattle.ada_tree.specs.Sites.{sites}
 use Rattle.ada_tree.specs.Refusals.{types_in}
-use Rattle.ada_types.specs.Met.{met}
-use Rattle.ada_types.specs.Repeated.{repeated_from}
-use Rattle.ada_types.specs.Entries.{plain_family, plain_entry}
+use Rattle.ada_refusals.specs.Met.{met}
+use Rattle.ada_refusals.specs.Repeated.{repeated_from}
 use Rattle.ada_types.specs.declared.walked_decls.WalkedDecl.{WalkedDecl}
 use Rattle.ada_types.specs.declared.walked_decls.WalkedDecls.{WalkedDecls}
-use Rattle.ada_types.specs.declared.entries.WalkedFamily.{WalkedFamily}
-use Rattle.ada_types.specs.declared.entries.WalkedEntry.{WalkedEntry}
-use Rattle.ada_types.specs.declared.entries.WalkedEntries.{WalkedEntries}
 use Rattle.ada_types.specs.declared.types.WalkedProgram.{WalkedProgram}
 
 -- the scope that a declaration leaves, the first refusal at its places, and whether it is one of objects that are tasks
@@ -41,27 +36,6 @@ instance_made scope name = record (with_name AnotherUnit scope name) { has_insta
 
 abbrev pub after_body : Scope → Word → PDecls → Scope
 after_body scope name objects = record scope { types = (after_objects (in_body scope name) objects).types; bodies = name.name.0 ∷ scope.bodies }
-
--- a formal of an entry, by the kind of its mark
-abbrev pub part_of : PFormal → Option ℕ → Word → FormalPart
-part_of f kind w = record { name = w.name; mode = f.mode; mark = f.mark.name; kind = kind }
-
--- the members of an entry, an entry and the entries of a task, with the first refusal at their places
-pub record IsFamily (sites : List Site) (family : Family) (w : WalkedFamily) : Type 0 where
-  pub family_is : plain_family w.family ≡ family
-  pub refusal_is : w.refusal ≡ met sites
-
-pub record IsEntry (sites : List Site) (entry : EntryPart) (w : WalkedEntry) : Type 0 where
-  pub part_is : plain_entry w.part ≡ entry
-  pub refusal_is : w.refusal ≡ met sites
-
-pub record AreEntries (sites : List Site) (entries : List EntryPart) (w : WalkedEntries) : Type 0 where
-  pub parts_are : map plain_entry w.parts.items ≡ entries
-  pub refusal_is : w.refusal ≡ met sites
-
--- the places of an entry, whatever entries stand before it
-abbrev pub each_entry : Scope → PEntry → List Site
-each_entry scope e = entry_sites scope [] e
 
 -- the types of a program, and what is refused first at its places
 pub record IsProgram (p : PProgram) (w : WalkedProgram) : Type 0 where

@@ -8,8 +8,8 @@ use Rattle.ada_tree.specs.ExprTypes.{kind_of}
 use Rattle.ada_tree.specs.RuleChoiceBad.{selected_range}
 use Rattle.ada_tree.specs.Demand.{Site, names_exception}
 use Rattle.ada_tree.specs.Sites.{site, if_there, condition, stmts_sites, alt_sites, choice_sites}
-use Rattle.ada_types.specs.Met.{met}
-use Rattle.ada_types.specs.Entries.{plain_range}
+use Rattle.ada_refusals.specs.Met.{met}
+use Rattle.ada_scopes.specs.Entries.{plain_range}
 use Rattle.ada_types.specs.declared.statements.CaseHead.{CaseHead}
 
 abbrev pub each_alt : Scope → PAlt → List Site

@@ -5,7 +5,7 @@ use Rattle.ada_tree.specs.Scope.{Scope}
 use Rattle.ada_tree.specs.ExprTypes.{kind_of}
 use Rattle.ada_tree.specs.Demand.{whole, Site}
 use Rattle.ada_tree.specs.Sites.{site, part_nodes}
-use Rattle.ada_types.specs.Met.{met}
+use Rattle.ada_refusals.specs.Met.{met}
 use Rattle.ada_types.specs.declared.parts.Written.{Written}
 
 -- the places of the expression and its parts, where it may be 'IMAGE itself

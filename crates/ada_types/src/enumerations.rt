@@ -1,12 +1,13 @@
 // Enumerations.
 
-ghost use Rattle.std.specs.Prelude.{◌≡◌, ◌-ℤ◌, pos, map, Some, IfOk};
+ghost use Rattle.std.specs.Prelude.{◌≡◌, ◌-ℤ◌, pos, length, map, Some, IfOk, OnOk};
 ghost use Rattle.ada_tree.specs.declared.static_types.Kind.TheVariants.{Enumeration};
-ghost use Rattle.ada_tree.specs.Declaring.{after_enumeration};
+ghost use Rattle.ada_tree.specs.Scope.{Literal, TypeMark};
+ghost use Rattle.ada_tree.specs.Declaring.{add_kind, add_mark, after_enumeration, with_name, with_names, with_types};
 
-use crate::objects::declare_all;
-use crate::scope::Scope;
-use crate::things::Thing;
+use ada_object_rules::objects::declare_all;
+use ada_scopes::scope::Scope;
+use ada_scopes::things::Thing;
 use ada_tree::{Kind, Literals, Mark, NameId, Word};
 use std::alloc::{AllocError, Global};
 
@@ -53,6 +54,60 @@ fn enumeration_mark(name: Word, kind: u32, count: usize) -> Result<Mark, AllocEr
     })
 }
 
+// What an enumeration adds to the table, and the places that its kind and its mark get.
+#[derive(Drop)]
+struct Enumerated {
+    kind: u32,
+    place: u32,
+    enumeration: Kind,
+    mark: Mark,
+}
+
+// Makes these, where there is room for them.
+fn prepare(
+    scope: &Scope,
+    alloc: Global,
+    name: Word,
+    literals: &[Word],
+) -> Result<Enumerated, AllocError>
+    ensures kind { IfOk result (λ e. e.kind ≡ length scope.now.types.kinds) }
+    ensures place { IfOk result (λ e. e.place ≡ length scope.now.types.marks) }
+    ensures enumeration { IfOk result (λ e. e.enumeration ≡ Enumeration (map (λ w. w.name) literals.now)) }
+    ensures mark { IfOk result (λ e. e.mark ≡ record { name = Some name.name; kind = length scope.now.types.kinds; first = pos 0; last = pos (length literals.now) -ℤ pos 1 }) }
+{
+    let kind = scope.table().next_kind()?;
+    let place = scope.table().next_mark()?;
+    let mark = enumeration_mark(name, kind, literals.len())?;
+    let enumeration = enumeration_of(alloc, literals)?;
+    Ok(Enumerated {
+        kind,
+        place,
+        enumeration,
+        mark,
+    })
+}
+
+// The table with a kind and its mark more.
+fn with_both(scope: Scope, kind: Kind, mark: Mark) -> Result<Scope, AllocError>
+    ensures { IfOk result (λ after. after ≡ with_types (add_mark (add_kind scope.types kind) mark) scope) }
+{
+    scope.with_kind(kind)?.with_mark(mark)
+}
+
+// The names of an enumeration and of its literals.
+fn declare_both(
+    scope: &mut Scope,
+    name: Word,
+    place: u32,
+    literals: &[Word],
+    kind: u32,
+) -> Result<(), AllocError>
+    ensures { OnOk result (scope.new ≡ with_names (Literal kind) (with_name (TypeMark place) scope.old name) literals.now) }
+{
+    scope.declare(name, Thing::TypeMark(place))?;
+    declare_all(scope, literals, &Thing::Literal(kind))
+}
+
 /// Declares an enumeration with its literals.
 pub(crate) fn declare_enumeration(
     scope: Scope,
@@ -62,12 +117,8 @@ pub(crate) fn declare_enumeration(
 ) -> Result<Scope, AllocError>
     ensures { IfOk result (λ after. after ≡ after_enumeration scope name literals.now) }
 {
-    let kind = scope.table().next_kind()?;
-    let place = scope.table().next_mark()?;
-    let enumeration = enumeration_of(alloc, literals)?;
-    let mark = enumeration_mark(name, kind, literals.len())?;
-    let mut scope = scope.with_kind(enumeration)?.with_mark(mark)?;
-    scope.declare(name, Thing::TypeMark(place))?;
-    declare_all(&mut scope, literals, &Thing::Literal(kind))?;
+    let made = prepare(&scope, alloc, name, literals)?;
+    let mut scope = with_both(scope, made.enumeration, made.mark)?;
+    declare_both(&mut scope, name, made.place, literals, made.kind)?;
     Ok(scope)
 }

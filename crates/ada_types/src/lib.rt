@@ -1,54 +1,18 @@
 //! The types of a program, and the values of its static expressions.
 #![tactic(auto)]
 
-mod actuals;
 mod bodies;
-mod callees;
-mod calls;
-mod choices;
-mod covered;
 mod declarations;
-mod entries;
 mod enumerations;
-mod errors;
-mod formals;
-mod heads;
-mod initials;
-mod judging;
-mod kinds;
-mod known;
-mod making;
-mod marks;
-mod name_sets;
 mod named_types;
-mod names;
-mod namings;
-mod nodes;
-mod notes;
-mod objects;
-mod operations;
 mod parts;
-mod plans;
-mod predefined;
-mod ranges;
-mod readings;
-mod refusals;
-mod repeats;
-mod scope;
-mod shapes;
 mod statements;
-mod static_values;
-mod table;
-mod targets;
 mod tasks;
-mod things;
 mod types;
-mod verdicts;
 mod walked_decls;
-mod walking;
 
-pub use errors::TypeError;
-pub use names::mark_of;
-pub use operations::law_of_mod;
-pub use static_values::{is_static, static_value};
+pub use ada_refusals::errors::TypeError;
+pub use ada_static_values::names::mark_of;
+pub use ada_static_values::operations::law_of_mod;
+pub use ada_static_values::static_values::{is_static, static_value};
 pub use types::types_of;

@@ -1,5 +1,5 @@
 // What the rules but Duplicate refuse first in statements. Lists are gone through by loops, so recursion follows nesting alone.
-#![tactic(auto, using(crate::proofs::Lists::lists, ada_tree::proofs::Rows::rows))]
+#![tactic(auto, using(ada_refusals::proofs::Listing::lists, ada_tree::proofs::Rows::rows))]
 
 ghost use Rattle.std.specs.Prelude.{◌≡◌, ◌++◌, ◌∷◌, [], ℕ, false, List, OnOk, IfOk, map, flat_map, option_map};
 ghost use Rattle.ada_tree.specs.PlainExpr.{plain_expr, plain_drange};
@@ -8,23 +8,23 @@ ghost use Rattle.ada_tree.specs.RuleMismatch.{target_kind};
 ghost use Rattle.ada_tree.specs.Demand.{names_exception, chooses};
 ghost use Rattle.ada_tree.specs.Declaring.{with_formals, with_loop_parameter, inside};
 ghost use Rattle.ada_tree.specs.Sites.{site, expr_sites, choices_of, if_there, condition, target_sites, expr_of, call_sites, callee_sites, part_sites, drange_sites, handler_names_sites, stmt_sites, stmts_sites, accept_sites, alts_sites, alt_sites, arms_sites, case_arms_sites, body_sites, handlers_sites, scheme_sites, loop_scope};
-ghost use Rattle.ada_types.specs.Met.{met, met_at};
-ghost use Rattle.ada_types.specs.Entries.{plain_range};
+ghost use Rattle.ada_refusals.specs.Met.{met, met_at};
+ghost use Rattle.ada_scopes.specs.Entries.{plain_range};
 ghost use Rattle.ada_types.specs.Members.{each_alt, each_arm, each_case_arm, each_handler, IsCaseHead};
 
-use crate::callees::walk_callee;
-use crate::calls::walk_call;
-use crate::choices::{refuse_choices, selected_values, walk_choices};
-use crate::formals::{declare_formals, parameter};
-use crate::heads::walk_head;
-use crate::kinds::TRUTH;
 use crate::parts::walk_part;
-use crate::ranges::walk_range;
-use crate::refusals::{Refusal, Rule, first, refuse};
-use crate::scope::Scope;
-use crate::targets::{walk_get, walk_target};
-use crate::things::{Range, Thing};
-use crate::walking::{walk, walk_of};
+use ada_choices::choices::{refuse_choices, selected_values, walk_choices};
+use ada_entry_rules::callees::walk_callee;
+use ada_entry_rules::calls::walk_call;
+use ada_entry_rules::heads::walk_head;
+use ada_entry_rules::targets::{walk_get, walk_target};
+use ada_expr_rules::kinds::TRUTH;
+use ada_expr_rules::ranges::walk_range;
+use ada_expr_rules::walking::{walk, walk_of};
+use ada_refusals::refusals::{Refusal, Rule, first, refuse};
+use ada_scopes::formals::{declare_formals, parameter};
+use ada_scopes::scope::Scope;
+use ada_scopes::things::{Range, Thing};
 use ada_tree::{
     Accept, Alt, AltKind, Arm, Body, Call, Callee, CaseArm, Drange, Expr, Formal, Handler, Part,
     Scheme, Span, Stmt, StmtKind, Target, Word,

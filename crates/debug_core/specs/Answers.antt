@@ -1,24 +1,62 @@
--- What each row of words is answered with (this project's rules): one definition a command.
-use Rattle.std.specs.Prelude.{ℕ, [], Option, Some, None}
-use Rattle.debug_core.specs.Causes.{Sides}
-use Rattle.debug_core.specs.CheckAnswers.{AnswersCheck}
-use Rattle.debug_core.specs.Failures.{Fails}
-use Rattle.debug_core.specs.JudgeAnswers.{AnswersJudge}
-use Rattle.debug_core.specs.Outputs.{IsUntouched}
-use Rattle.debug_core.specs.PrintAnswers.{AnswersPrint}
-use Rattle.debug_core.specs.RunAnswers.{AnswersRun}
-use Rattle.debug_core.specs.Words.{Asked, AsksPrint, AsksCheck, AsksRun, AsksJudge}
-use Rattle.debug_core.specs.declared.failing.Failure.TheVariants.{Usage}
+-- What the words and the bytes of the files call for, and what the program answers: such an outcome, delivered (this project's rules).
+use Rattle.std.specs.Prelude.{ℕ, List, [], ◌∷◌, Option, Some, None, ◌⊎◌}
+use Rattle.ded_io.specs.Told.{ToldFile}
+use Rattle.debug_words.specs.Words.{Asked, AsksPrint, AsksCheck, AsksRun, AsksJudge}
+use Rattle.debug_words.specs.declared.command.NoWords.{NoWords}
+use Rattle.debug_words.specs.declared.command.NoWords.TheVariants.{NotText, Memory}
+use Rattle.debug_outcome.specs.Coming.{Never, Tells}
+use Rattle.debug_outcome.specs.Delivery.{Sides, IsDelivered, Ends}
+use Rattle.debug_outcome.specs.Loads.{Wanted, AreLoaded, AreUnloaded}
+use Rattle.debug_outcome.specs.Outcomes.{Outcome, refuses}
+use Rattle.debug_outcome.specs.declared.refusal.Refusal.TheVariants.{Usage}
+use Rattle.debug_outcome.specs.declared.stopping.Stop.TheVariants as stop
+use Rattle.debug_core.specs.PrintMeaning.{PrintMeans, printed_limit}
+use Rattle.debug_core.specs.CheckMeaning.{CheckMeans, checked_limit}
+use Rattle.debug_core.specs.RunMeaning.{RunMeans, run_limit}
+use Rattle.debug_core.specs.JudgeMeaning.{JudgeMeans, judged_files}
 
--- Words that are no row of words: the status is 2 with its line, or 7 where a write of that line failed, behind a front of it; the output is not touched.
-pub record AnswersUsage (sides : Sides) (status : ℕ) : Type 0 where
-  pub nothing : IsUntouched sides.out sides.out' sides.writes sides.writes'
-  pub usage : Fails Usage [] [] sides.err sides.err' sides.lines sides.lines' status
+-- the files that are loaded for what is asked, in their order
+abbrev pub wanted_by : Asked → List Wanted
+wanted_by (AsksPrint file) = record { name = file; limit = printed_limit } ∷ []
+wanted_by (AsksCheck file) = record { name = file; limit = checked_limit } ∷ []
+wanted_by (AsksRun file turns) = record { name = file; limit = run_limit } ∷ []
+wanted_by (AsksJudge file sequence bound) = judged_files file sequence
 
--- The status answers what the words ask for.
+-- These words and these bytes of files call for this outcome: one definition a command.
+abbrev pub Means : Asked → List (List ℕ) → Outcome → Type 0
+Means (AsksPrint file) (text ∷ []) o = PrintMeans text o
+Means (AsksCheck file) (text ∷ []) o = CheckMeans text o
+Means (AsksRun file turns) (text ∷ []) o = RunMeans turns text o
+Means (AsksJudge file sequence bound) (text ∷ lines ∷ []) o = JudgeMeans bound text lines o
+Means asked contents o = ⊥
+
+-- The bytes of all files were loaded, and with the words they call for the outcome.
+pub record AreHeld (asked : Asked) (told : Option (List ToldFile)) (o : Outcome) : Type 0 where
+  pub contents : List (List ℕ)
+  pub loaded : AreLoaded told (wanted_by asked) contents
+  pub means : Means asked contents o
+
+-- The words and the files call for the outcome: it is what their bytes mean, or the refusal of the first file that was not loaded.
+abbrev pub CallsFor : Asked → Option (List ToldFile) → ℕ → ℕ → Outcome → Type 0
+CallsFor asked told faults faults' o = AreHeld asked told o ⊎ AreUnloaded told faults faults' (wanted_by asked) o
+
+-- A run writes its lines as its actions are made, so that want of memory may leave a front of its text; every other text is written once nothing more is needed for it.
+abbrev pub GrowsFor : Asked → Option (List ToldFile) → ℕ → ℕ → Outcome → Type 0
+GrowsFor (AsksRun file turns) told faults faults' o = CallsFor (AsksRun file turns) told faults faults' o
+GrowsFor asked told faults faults' o = ⊥
+
+-- The status answers what the words ask for: it ends a call that delivers an outcome for which words and files call. Words that are no row are refused, and that needs no memory.
 abbrev pub Answers : Option Asked → Sides → ℕ → Type 0
-Answers None sides status = AnswersUsage sides status
-Answers (Some (AsksPrint file)) sides status = AnswersPrint file sides status
-Answers (Some (AsksCheck file)) sides status = AnswersCheck file sides status
-Answers (Some (AsksRun file turns)) sides status = AnswersRun file turns sides status
-Answers (Some (AsksJudge file sequence bound)) sides status = AnswersJudge file sequence bound sides status
+Answers None sides status = IsDelivered (refuses Usage) sides status
+Answers (Some asked) sides status =
+    Ends (CallsFor asked sides.files sides.file_faults sides.file_faults') (GrowsFor asked sides.files sides.file_faults sides.file_faults') sides status
+
+-- Why there are no words: one that is no text stands in no row, and without memory for them there is nothing but the line that says so.
+abbrev pub AnswersNoWords : NoWords → Sides → ℕ → Type 0
+AnswersNoWords NotText sides status = Answers None sides status
+AnswersNoWords Memory sides status = Ends Never Never sides status
+
+-- what is told on the error output then
+abbrev pub TellsNoWords : NoWords → Option (List ℕ) → Option (List ℕ) → ℕ → ℕ → ℕ → Type 0
+TellsNoWords NotText err err' faults faults' status = Tells (stop.Refused Usage) err err' faults faults' status
+TellsNoWords Memory err err' faults faults' status = Tells stop.Memory err err' faults faults' status

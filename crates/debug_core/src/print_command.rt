@@ -1,66 +1,45 @@
 // The command that prints a program.
 
-ghost use Rattle.std.specs.Prelude.{IfErr, OnOk};
-ghost use Rattle.debug_core.specs.PrintAnswers.{AnswersPrint, HasPrinted, IsPrintCause};
+ghost use Rattle.std.specs.Prelude.{◌<◌, ◌-◌, ◌^◌, length};
+ghost use Rattle.debug_words.specs.Words.{AsksPrint};
+ghost use Rattle.debug_outcome.specs.Coming.{Comes, Never};
+ghost use Rattle.debug_core.specs.Answers.{CallsFor};
+ghost use Rattle.debug_core.specs.PrintMeaning.{PrintMeans};
 
-use crate::failing::{Failure, Source, fail};
-use crate::loading::load_file;
 use crate::reading::read_text;
 use ada_printer::print;
+use debug_outcome::{Stop, load_file};
 use ded_io::{Files, Sink};
 use std::alloc::Global;
 
 // A program's file has at most this many bytes.
 const FILE_LIMIT: u64 = 33_554_432;
 
-// Prints the program, and answers the status.
-pub(crate) fn print_command<F: Files, O: Sink, E: Sink>(
+// Prints the program in a file, and answers the status.
+pub(crate) fn print_command<'w, F: Files, O: Sink>(
     alloc: Global,
-    file: &str,
+    file: &'w str,
     files: &mut F,
     out: &mut O,
-    err: &mut E,
-) -> u8
-    ensures { AnswersPrint file.now
-        record {
-          files = F.told files.old;
-          reads = F.faults files.old;
-          reads' = F.faults files.new;
-          out = O.told out.old;
-          out' = O.told out.new;
-          writes = O.faults out.old;
-          writes' = O.faults out.new;
-          err = E.told err.old;
-          err' = E.told err.new;
-          lines = E.faults err.old;
-          lines' = E.faults err.new;
-        } result }
+) -> Result<u8, Stop<'w>>
+    ensures { Comes (CallsFor (AsksPrint file.now) (F.told files.old) (F.faults files.old) (F.faults files.new)) Never (O.told out.old) (O.told out.new) (O.faults out.old) (O.faults out.new) result }
 {
-    match print_file(alloc, file, files, out) {
-        Ok(()) => 0,
-        Err(failure) => fail(failure, file, "", err),
+    match load_file(alloc, file, FILE_LIMIT, files) {
+        Ok(text) => print_text(alloc, &text, out),
+        Err(stop) => Err(stop),
     }
 }
 
-// Reads the program in a file, all of it, and then writes its text; or says why not.
-fn print_file<F: Files, K: Sink>(
-    alloc: Global,
-    file: &str,
-    files: &mut F,
-    out: &mut K,
-) -> Result<(), Failure>
-    ensures printed { OnOk result (HasPrinted (F.told files.old) file.now (K.told out.old) (K.told out.new) (K.faults out.old) (K.faults out.new)) }
-    ensures cause { IfErr result (IsPrintCause (F.told files.old) file.now (F.faults files.old) (F.faults files.new) (K.told out.old) (K.told out.new) (K.faults out.old) (K.faults out.new)) }
+// Reads the program of a text, all of it, and then writes its text.
+fn print_text<'w, O: Sink>(alloc: Global, text: &[u8], out: &mut O) -> Result<u8, Stop<'w>>
+    requires { length text.now < 2 ^ 32 - 1 }
+    ensures { Comes (PrintMeans text.now) Never (O.told out.old) (O.told out.new) (O.faults out.old) (O.faults out.new) result }
 {
-    let text = match load_file(alloc, file, Source::Program, FILE_LIMIT, files) {
-        Ok(text) => text,
-        Err(failure) => return Err(failure),
-    };
-    match read_text(alloc, &text) {
+    match read_text(alloc, text) {
         Ok(program) => match print(&program, out) {
-            Ok(()) => Ok(()),
-            Err(_) => Err(Failure::OutputFailed),
+            Ok(()) => Ok(0),
+            Err(_) => Err(Stop::OutputFailed),
         },
-        Err(failure) => Err(failure),
+        Err(stop) => Err(stop),
     }
 }

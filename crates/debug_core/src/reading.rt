@@ -4,15 +4,16 @@ ghost use Rattle.std.specs.Prelude.{◌<◌, ◌-◌, ◌^◌, length, IfOk, IfE
 ghost use Rattle.ada_tree.specs.PlainProgram.{plain_program};
 ghost use Rattle.ada_tree.specs.WellPlaced.{IsWellPlaced};
 ghost use Rattle.ada_parser.specs.Exactly.{IsRead};
-ghost use Rattle.debug_core.specs.LegalTexts.{IsLegalText, IsLegalCause};
-ghost use Rattle.debug_core.specs.TextFaults.{IsTextCause};
+ghost use Rattle.debug_outcome.specs.Coming.{Stops};
+ghost use Rattle.debug_core.specs.LegalTexts.{IsLegalText, IsNoLegalText};
+ghost use Rattle.debug_core.specs.TextFaults.{IsNoText};
 
-use crate::failing::Failure;
 use crate::rule_fault::rule_failure;
 use crate::text_fault::text_failure;
 use ada_check::{Checked, check};
 use ada_parser::read;
 use ada_tree::{Program, Types};
+use debug_outcome::Stop;
 use std::alloc::Global;
 use syn_event::{Mode, Numbers};
 
@@ -25,11 +26,11 @@ pub(crate) struct LegalProgram {
 }
 
 // The program that a text of the language says.
-pub(crate) fn read_text(alloc: Global, text: &[u8]) -> Result<Program, Failure>
+pub(crate) fn read_text<'w>(alloc: Global, text: &[u8]) -> Result<Program, Stop<'w>>
     requires { length text.now < 2 ^ 32 - 1 }
     ensures program { IfOk result (λ program. IsRead text.now (plain_program program)) }
     ensures placed { IfOk result (λ program. IsWellPlaced (plain_program program)) }
-    ensures cause { IfErr result (IsTextCause text.now) }
+    ensures cause { IfErr result (Stops (IsNoText text.now)) }
 {
     match read(alloc, text) {
         Ok(program) => Ok(program),
@@ -38,15 +39,18 @@ pub(crate) fn read_text(alloc: Global, text: &[u8]) -> Result<Program, Failure>
 }
 
 // The program that a text of the language says, if it meets all static rules by the mode.
-#[tactic(auto, using(crate::proofs::Refusing::text_illegal))]
-pub(crate) fn read_legal(alloc: Global, text: &[u8], mode: Mode) -> Result<LegalProgram, Failure>
+pub(crate) fn read_legal<'w>(
+    alloc: Global,
+    text: &[u8],
+    mode: Mode,
+) -> Result<LegalProgram, Stop<'w>>
     requires { length text.now < 2 ^ 32 - 1 }
     ensures program { IfOk result (λ legal. IsLegalText text.now mode (plain_program legal.program) legal.types legal.numbers) }
-    ensures cause { IfErr result (IsLegalCause text.now mode) }
+    ensures cause { IfErr result (Stops (IsNoLegalText text.now mode)) }
 {
     let program = match read_text(alloc, text) {
         Ok(program) => program,
-        Err(failure) => return Err(failure),
+        Err(stop) => return Err(stop),
     };
     match check(alloc, &program, mode) {
         Ok(Checked { types, numbers }) => Ok(LegalProgram {

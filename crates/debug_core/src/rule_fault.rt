@@ -1,55 +1,20 @@
 // Why a program that was read is refused.
 
 ghost use Rattle.std.specs.Prelude.{◌≡◌, ◌<◌, ◌-◌, ◌^◌, length};
-ghost use Rattle.debug_core.specs.RuleFaults.{failure_of_error, failure_of_types, broken_at};
+ghost use Rattle.debug_outcome.specs.Coming.{stop_by};
+ghost use Rattle.debug_core.specs.RuleFaults.{refusal_of_error, refusal_of_types, broken_at};
 
-use crate::failing::Failure;
 use ada_check::CheckError;
 use ada_lexer::line_col;
 use ada_tree::Span;
 use ada_types::TypeError;
-use syn_event::What;
+use debug_outcome::{Refusal, Rule, RuleFault, Stop};
 
-/// Why a program that was read is refused.
-#[derive(Clone, Copy)]
-pub(crate) enum RuleFault {
-    /// What stands at a place breaks a static rule.
-    Broken { rule: Rule, line: u32, column: u32 },
-    /// A limit is passed.
-    Passed { what: What, limit: u32 },
-}
-
-/// The static rules by their names, without that on limits.
-#[derive(Clone, Copy)]
-pub(crate) enum Rule {
-    Unknown,
-    Duplicate,
-    Mismatch,
-    NotStatic,
-    RangeBad,
-    NotVariable,
-    ReadOut,
-    ArgCount,
-    ChoiceBad,
-    ArrayUse,
-    TextUse,
-    NotException,
-    SharedVariable,
-    AcceptPlace,
-    SelectForm,
-    SameEntryTwice,
-    ReservedName,
-    MainEntry,
-    AbortOrder,
-    BodyMissing,
-    ExitPlace,
-    RaisePlace,
-}
-
-// The failure that refusing a program of this text is.
-pub(crate) fn rule_failure(text: &[u8], error: CheckError) -> Failure
+/// Why a command stops where the check of the static rules refuses the program of this text: the rule by its name, with the line and
+/// column, from 1, at which what breaks it starts, or the limit that is passed. `text` is the text from which the program was read.
+pub(crate) fn rule_failure<'w>(text: &[u8], error: CheckError) -> Stop<'w>
     requires { length text.now < 2 ^ 32 - 1 }
-    ensures { result ≡ failure_of_error text.now error }
+    ensures { result ≡ stop_by (refusal_of_error text.now error) }
 {
     match error {
         CheckError::Rule(error) => type_failure(text, error),
@@ -64,16 +29,16 @@ pub(crate) fn rule_failure(text: &[u8], error: CheckError) -> Failure
         CheckError::ExitPlace { span } => broken(text, Rule::ExitPlace, span),
         CheckError::RaisePlace { span } => broken(text, Rule::RaisePlace, span),
         CheckError::Limit { what, limit, .. } => {
-            Failure::BadProgram(RuleFault::Passed { what, limit })
+            Stop::Refused(Refusal::BadProgram(RuleFault::Passed { what, limit }))
         }
-        CheckError::Memory => Failure::Memory,
+        CheckError::Memory => Stop::Memory,
     }
 }
 
-// The failure that refusing the types of a program of this text is.
-fn type_failure(text: &[u8], error: TypeError) -> Failure
+// The same where the types of the program are refused.
+fn type_failure<'w>(text: &[u8], error: TypeError) -> Stop<'w>
     requires { length text.now < 2 ^ 32 - 1 }
-    ensures { result ≡ failure_of_types text.now error }
+    ensures { result ≡ stop_by (refusal_of_types text.now error) }
 {
     match error {
         TypeError::Unknown { span } => broken(text, Rule::Unknown, span),
@@ -88,19 +53,19 @@ fn type_failure(text: &[u8], error: TypeError) -> Failure
         TypeError::ArrayUse { span } => broken(text, Rule::ArrayUse, span),
         TypeError::TextUse { span } => broken(text, Rule::TextUse, span),
         TypeError::NotException { span } => broken(text, Rule::NotException, span),
-        TypeError::Memory => Failure::Memory,
+        TypeError::Memory => Stop::Memory,
     }
 }
 
-// The failure of a program that breaks a rule at a place.
-fn broken(text: &[u8], rule: Rule, span: Span) -> Failure
+// The refusal of a program that breaks a rule at a place.
+fn broken<'w>(text: &[u8], rule: Rule, span: Span) -> Stop<'w>
     requires { length text.now < 2 ^ 32 - 1 }
-    ensures { result ≡ broken_at text.now rule span }
+    ensures { result ≡ stop_by (broken_at text.now rule span) }
 {
     let place = line_col(text, span.start);
-    Failure::BadProgram(RuleFault::Broken {
+    Stop::Refused(Refusal::BadProgram(RuleFault::Broken {
         rule,
         line: place.line,
         column: place.col,
-    })
+    }))
 }

@@ -1,123 +1,49 @@
 // The command that runs a program.
 
-ghost use Rattle.std.specs.Prelude.{◌≡◌, IfOk, IfErr};
-ghost use Rattle.ada_tree.specs.PlainProgram.{plain_program};
-ghost use Rattle.debug_core.specs.RunAnswers.{AnswersRun, HasRun, IsFileCause, RunWritten, IsOutputCause, run_status};
-ghost use Rattle.syn_event.specs.Legal.{Legal};
+ghost use Rattle.std.specs.Prelude.{◌<◌, ◌-◌, ◌^◌, length};
+ghost use Rattle.debug_words.specs.Words.{AsksRun};
+ghost use Rattle.debug_outcome.specs.Coming.{Comes};
+ghost use Rattle.debug_core.specs.Answers.{CallsFor, GrowsFor};
+ghost use Rattle.debug_core.specs.RunMeaning.{RunMeans};
 
-use crate::command::RunWords;
-use crate::failing::{Failure, Source, fail};
-use crate::loading::load_file;
 use crate::machine_text::read_program;
-use crate::reading::LegalProgram;
-use crate::run_text::{put_header, put_rest};
-use ada_value::Inputs;
-use ded_io::{Files, ListChooser, Sink};
-use interp::{RunEnd, RunError, run};
+use debug_outcome::{Stop, load_file};
+use debug_run::write_run;
+use debug_words::RunWords;
+use ded_io::{Files, Sink};
 use std::alloc::Global;
 use syn_event::Mode;
-use task_machine::Machine;
 
 // A program's file has at most this many bytes.
 const FILE_LIMIT: u64 = 33_554_432;
 
-// Runs the program, and answers the status.
-pub(crate) fn run_command<F: Files, O: Sink, E: Sink>(
+// Runs the program in a file, and answers the status.
+pub(crate) fn run_command<'w, F: Files, O: Sink>(
     alloc: Global,
-    asked: RunWords<'_>,
+    asked: RunWords<'w>,
     files: &mut F,
     out: &mut O,
-    err: &mut E,
-) -> u8
-    ensures { AnswersRun asked.entry.file.now asked.entry.turns
-        record {
-          files = F.told files.old;
-          reads = F.faults files.old;
-          reads' = F.faults files.new;
-          out = O.told out.old;
-          out' = O.told out.new;
-          writes = O.faults out.old;
-          writes' = O.faults out.new;
-          err = E.told err.old;
-          err' = E.told err.new;
-          lines = E.faults err.old;
-          lines' = E.faults err.new;
-        } result }
+) -> Result<u8, Stop<'w>>
+    ensures { Comes (CallsFor (AsksRun asked.entry.file.now asked.entry.turns) (F.told files.old) (F.faults files.old) (F.faults files.new)) (GrowsFor (AsksRun asked.entry.file.now asked.entry.turns) (F.told files.old) (F.faults files.old) (F.faults files.new)) (O.told out.old) (O.told out.new) (O.faults out.old) (O.faults out.new) result }
 {
-    match run_file(alloc, asked.file, asked.turns, files, out) {
-        Ok(end) => status_of(end),
-        Err(failure) => fail(failure, asked.file, "", err),
+    match load_file(alloc, asked.file, FILE_LIMIT, files) {
+        Ok(text) => run_text(alloc, &text, asked.turns, out),
+        Err(stop) => Err(stop),
     }
 }
 
-// The status of a run.
-fn status_of(end: RunEnd) -> u8
-    ensures { result ≡ run_status end }
-{
-    match end {
-        RunEnd::Ended => 0,
-        RunEnd::Stuck => 10,
-        RunEnd::Turns => 11,
-    }
-}
-
-// What running a file comes to: how the run ended, or why it was not made or not written.
-fn run_file<F: Files, K: Sink>(
+// Runs the program of a text, and writes the text of its run.
+fn run_text<'w, O: Sink>(
     alloc: Global,
-    file: &str,
+    text: &[u8],
     turns: u64,
-    files: &mut F,
-    out: &mut K,
-) -> Result<RunEnd, Failure>
-    ensures ran { IfOk result (HasRun (F.told files.old) file.now turns (K.told out.old) (K.told out.new) (K.faults out.old) (K.faults out.new)) }
-    ensures cause { IfErr result (IsFileCause (F.told files.old) file.now (F.faults files.old) (F.faults files.new) (K.told out.old) (K.told out.new) (K.faults out.old) (K.faults out.new)) }
+    out: &mut O,
+) -> Result<u8, Stop<'w>>
+    requires { length text.now < 2 ^ 32 - 1 }
+    ensures { Comes (RunMeans turns text.now) (RunMeans turns text.now) (O.told out.old) (O.told out.new) (O.faults out.old) (O.faults out.new) result }
 {
-    let text = match load_file(alloc, file, Source::Program, FILE_LIMIT, files) {
-        Ok(text) => text,
-        Err(failure) => return Err(failure),
-    };
-    match read_program(alloc, &text, Mode::Any) {
-        Ok(read) => write_run(alloc, &read, turns, out),
-        Err(failure) => Err(failure),
-    }
-}
-
-// Runs the program with an empty list of choices, and writes the text of its run.
-fn write_run<K: Sink>(
-    alloc: Global,
-    read: &LegalProgram,
-    turns: u64,
-    out: &mut K,
-) -> Result<RunEnd, Failure>
-    requires { Legal (plain_program read.now.program) read.now.types read.now.numbers Mode.Any }
-    ensures written { IfOk result (RunWritten (plain_program read.now.program) read.now.numbers turns (K.told out.old) (K.told out.new) (K.faults out.old) (K.faults out.new)) }
-    ensures cause { IfErr result (IsOutputCause (K.faults out.old) (K.faults out.new)) }
-{
-    let inputs = Inputs {
-        lists: Vec::new(alloc),
-    };
-    let mut choices = ListChooser::new(Vec::new(alloc));
-    let mut machine = match Machine::new(
-        alloc,
-        &read.program,
-        &read.types,
-        &read.numbers,
-        &inputs,
-    ) {
-        Ok(machine) => machine,
-        Err(_) => return Err(Failure::Memory),
-    };
-    match put_header(&read.program.names, &read.numbers, out) {
-        Ok(()) => {}
-        Err(_) => return Err(Failure::OutputFailed),
-    }
-    let report = match run(alloc, &mut machine, &read.numbers, &mut choices, turns, out) {
-        Ok(report) => report,
-        Err(RunError::Memory) => return Err(Failure::Memory),
-        Err(RunError::Sink) => return Err(Failure::OutputFailed),
-    };
-    match put_rest(&read.program.names, &read.numbers, report, out) {
-        Ok(()) => Ok(report.end),
-        Err(_) => Err(Failure::OutputFailed),
+    match read_program(alloc, text, Mode::Any) {
+        Ok(read) => write_run(alloc, &read.program, &read.types, &read.numbers, turns, out),
+        Err(stop) => Err(stop),
     }
 }

@@ -1,49 +1,20 @@
-// What is wrong with a text that is read as no program of the language.
+// Why a text is read as no program of the language.
 
 ghost use Rattle.std.specs.Prelude.{◌≡◌, ◌<◌, ◌-◌, ◌^◌, length, slice_get};
-ghost use Rattle.ada_parser.specs.Refusals.{IsRefusedFor};
-ghost use Rattle.debug_core.specs.TextFaults.{IsTextCause, refusal_of, limit_of};
+ghost use Rattle.debug_outcome.specs.Coming.{stop_by};
+ghost use Rattle.debug_core.specs.TextFaults.{refusal_of_read, misspelled_at, limit_of};
 
-use crate::failing::Failure;
 use ada_lexer::{LexError, line_col};
 use ada_parser::ReadError;
-
-/// Why a text is read as no program.
-#[derive(Clone, Copy)]
-pub(crate) enum TextFault {
-    /// What stands at a place breaks a rule of tokens or of the grammar.
-    Misspelled {
-        what: Misspelling,
-        line: u32,
-        column: u32,
-    },
-    /// An identifier, or the content of a string, has more bytes than the limit.
-    LongToken {
-        limit: u32,
-    },
-    /// Its parts are nested deeper than the limit.
-    TooNested {
-        limit: u32,
-    },
-}
-
-/// What is wrong at a place of a text.
-#[derive(Clone, Copy)]
-pub(crate) enum Misspelling {
-    BadByte,
-    OpenString,
-    BadNumber,
-    Syntax,
-}
+use debug_outcome::{Misspelling, Refusal, Stop, TextFault};
 
 // Texts of the language are nested at most this deep.
 const NESTING_LIMIT: u32 = 300;
 
-// The failure that refusing a text is.
-pub(crate) fn text_failure(text: &[u8], error: ReadError) -> Failure
-    requires length { length text.now < 2 ^ 32 - 1 }
-    requires refused { IsRefusedFor text.now error }
-    ensures { IsTextCause text.now result }
+// Why a command stops where the reader refuses the text.
+pub(crate) fn text_failure<'w>(text: &[u8], error: ReadError) -> Stop<'w>
+    requires { length text.now < 2 ^ 32 - 1 }
+    ensures { result ≡ stop_by (refusal_of_read text.now error) }
 {
     match error {
         ReadError::Lex(LexError::BadByte { at }) => misspelled(text, Misspelling::BadByte, at),
@@ -51,30 +22,31 @@ pub(crate) fn text_failure(text: &[u8], error: ReadError) -> Failure
             misspelled(text, Misspelling::OpenString, at)
         }
         ReadError::Lex(LexError::BadNumber { at }) => misspelled(text, Misspelling::BadNumber, at),
-        ReadError::Lex(LexError::TooLong { at }) => Failure::BadText(TextFault::LongToken {
-            limit: token_limit(text, at),
-        }),
-        ReadError::Lex(LexError::Memory) => Failure::Memory,
+        ReadError::Lex(LexError::TooLong { at }) => {
+            Stop::Refused(Refusal::BadText(TextFault::LongToken {
+                limit: token_limit(text, at),
+            }))
+        }
+        ReadError::Lex(LexError::Memory) => Stop::Memory,
         ReadError::Syntax { at } => misspelled(text, Misspelling::Syntax, at),
-        ReadError::TooDeep { .. } => Failure::BadText(TextFault::TooNested {
+        ReadError::TooDeep { .. } => Stop::Refused(Refusal::BadText(TextFault::TooNested {
             limit: NESTING_LIMIT,
-        }),
-        ReadError::Memory => Failure::Memory,
+        })),
+        ReadError::Memory => Stop::Memory,
     }
 }
 
-// The failure of a text that breaks a rule at a place.
-fn misspelled(text: &[u8], what: Misspelling, at: u32) -> Failure
-    requires length { length text.now < 2 ^ 32 - 1 }
-    requires refused { IsRefusedFor text.now (refusal_of what at) }
-    ensures { IsTextCause text.now result }
+// The refusal of a text that breaks a rule at a place.
+fn misspelled<'w>(text: &[u8], what: Misspelling, at: u32) -> Stop<'w>
+    requires { length text.now < 2 ^ 32 - 1 }
+    ensures { result ≡ stop_by (misspelled_at text.now what at) }
 {
     let place = line_col(text, at);
-    Failure::BadText(TextFault::Misspelled {
+    Stop::Refused(Refusal::BadText(TextFault::Misspelled {
         what,
         line: place.line,
         column: place.col,
-    })
+    }))
 }
 
 // How many bytes the token at a place may have: the content of a string, or an identifier.

@@ -1,15 +1,18 @@
 // The program's one call.
 
-ghost use Rattle.std.specs.Prelude.{map, string_bytes};
-ghost use Rattle.debug_core.specs.Answers.{Answers};
-ghost use Rattle.debug_core.specs.Words.{asked_by};
+ghost use Rattle.std.specs.Prelude.{map, string_bytes, MatchResult};
+ghost use Rattle.debug_words.specs.Words.{asked_by};
+ghost use Rattle.debug_words.specs.Commands.{asked_as};
+ghost use Rattle.debug_outcome.specs.Coming.{Comes};
+ghost use Rattle.debug_outcome.specs.Delivery.{Sides};
+ghost use Rattle.debug_core.specs.Answers.{Answers, AnswersNoWords, CallsFor, GrowsFor, TellsNoWords};
 
 use crate::check_command::check_command;
-use crate::command::{Command, command_of};
-use crate::failing::{Failure, fail};
 use crate::judge_command::judge_command;
 use crate::print_command::print_command;
 use crate::run_command::run_command;
+use debug_outcome::{Refusal, Stop, tell};
+use debug_words::{Command, NoWords, command_of};
 use ded_io::{Files, Sink};
 use std::alloc::Global;
 
@@ -19,7 +22,7 @@ use std::alloc::Global;
 /// The rows of words are `print FILE`, `check FILE`, `run FILE - - TURNS` and `judge FILE - SEQUENCE STEPS`. The statuses are 0 done; 10 no action applied any more and 11
 /// all turns were made, of a run; 4 the sequence is infeasible and 5 it is not settled, of a judgement; 1 the program's text is refused, 2 the
 /// words are no row, 3 the sequence is refused, 6 a file cannot be read, 7 an output cannot be written, 8 a limit is passed, 9 want of memory.
-/// With 1, 2, 3, 6, 8 and 9 a line stands on `err`, and with these but 9 nothing on `out`.
+/// With 1, 2, 3, 6, 8 and 9 a line stands on `err`, and with these but 9 nothing on `out`. Behind a write that failed nothing is put.
 pub fn debug_main<F: Files, O: Sink, E: Sink>(
     alloc: Global,
     words: &[String],
@@ -30,23 +33,80 @@ pub fn debug_main<F: Files, O: Sink, E: Sink>(
     ensures answer { Answers (asked_by (map string_bytes words.now))
         record {
           files = F.told files.old;
-          reads = F.faults files.old;
-          reads' = F.faults files.new;
+          file_faults = F.faults files.old;
+          file_faults' = F.faults files.new;
           out = O.told out.old;
           out' = O.told out.new;
-          writes = O.faults out.old;
-          writes' = O.faults out.new;
+          out_faults = O.faults out.old;
+          out_faults' = O.faults out.new;
           err = E.told err.old;
           err' = E.told err.new;
-          lines = E.faults err.old;
-          lines' = E.faults err.new;
+          err_faults = E.faults err.old;
+          err_faults' = E.faults err.new;
         } result }
 {
     match command_of(words) {
-        Some(Command::Print(file)) => print_command(alloc, file, files, out, err),
-        Some(Command::Check(file)) => check_command(alloc, file, files, out, err),
-        Some(Command::Run(asked)) => run_command(alloc, asked, files, out, err),
-        Some(Command::Judge(asked)) => judge_command(alloc, asked, files, out, err),
-        None => fail(Failure::Usage, "", "", err),
+        Some(command) => match carry_out(alloc, command, files, out) {
+            Ok(status) => status,
+            Err(stop) => tell(stop, err),
+        },
+        None => tell(Stop::Refused(Refusal::Usage), err),
+    }
+}
+
+/// All that the program does, given what came of its words: what `debug_main` does with them, and the same as for words that are no row
+/// where one of them is no text. Where there was no memory for them the status is 9, with its line, or 7 where that cannot be written.
+pub fn debug_program<F: Files, O: Sink, E: Sink>(
+    alloc: Global,
+    words: Result<Vec<String>, NoWords>,
+    files: &mut F,
+    out: &mut O,
+    err: &mut E,
+) -> u8
+    ensures answer { let sides : Sides = record {
+      files = F.told files.old;
+      file_faults = F.faults files.old;
+      file_faults' = F.faults files.new;
+      out = O.told out.old;
+      out' = O.told out.new;
+      out_faults = O.faults out.old;
+      out_faults' = O.faults out.new;
+      err = E.told err.old;
+      err' = E.told err.new;
+      err_faults = E.faults err.old;
+      err_faults' = E.faults err.new;
+    } in
+        MatchResult words (λ given. Answers (asked_by (map string_bytes given.items)) sides result) (λ why. AnswersNoWords why sides result) }
+{
+    match words {
+        Ok(words) => debug_main(alloc, words.as_slice(), files, out, err),
+        Err(why) => tell_no_words(why, err),
+    }
+}
+
+// Tells on the error output why there are no words.
+fn tell_no_words<E: Sink>(why: NoWords, err: &mut E) -> u8
+    ensures { TellsNoWords why (E.told err.old) (E.told err.new) (E.faults err.old) (E.faults err.new) result }
+{
+    match why {
+        NoWords::NotText => tell(Stop::Refused(Refusal::Usage), err),
+        NoWords::Memory => tell(Stop::Memory, err),
+    }
+}
+
+// Carries a command out, up to what is told on the error output.
+fn carry_out<'w, F: Files, O: Sink>(
+    alloc: Global,
+    command: Command<'w>,
+    files: &mut F,
+    out: &mut O,
+) -> Result<u8, Stop<'w>>
+    ensures { Comes (CallsFor (asked_as command.entry) (F.told files.old) (F.faults files.old) (F.faults files.new)) (GrowsFor (asked_as command.entry) (F.told files.old) (F.faults files.old) (F.faults files.new)) (O.told out.old) (O.told out.new) (O.faults out.old) (O.faults out.new) result }
+{
+    match command {
+        Command::Print(file) => print_command(alloc, file, files, out),
+        Command::Check(file) => check_command(alloc, file, files, out),
+        Command::Run(asked) => run_command(alloc, asked, files, out),
+        Command::Judge(asked) => judge_command(alloc, asked, files, out),
     }
 }

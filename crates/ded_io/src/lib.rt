@@ -6,8 +6,6 @@ mod choosing;
 mod loading;
 mod stored_files;
 mod stored_output;
-#[cfg(test)]
-mod tests;
 mod writing;
 
 pub use choosing::{Chooser, ListChooser};

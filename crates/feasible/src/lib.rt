@@ -11,6 +11,3 @@ mod showing;
 pub use judge::{Judge, judge_all};
 pub use showing::TaskView;
 pub use task_machine::{Cause, Verdict, Why};
-
-#[cfg(test)]
-mod tests;

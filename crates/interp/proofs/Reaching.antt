@@ -1,6 +1,7 @@
 -- The run loop: where it stands after each turn, and what it has come to as it leaves.
 use Rattle.std.proofs.Common.{◌≡◌, ℕ, zero, suc, ◌+◌, ◌-◌, ◌<◌, ◌≤◌, List, [], ◌∷◌, ◌++◌, ap, sym, subst, ◌∙◌, refl, arith, add-one, zero-add, suc-add, append-nil, append_assoc, Option, Some, None, ◌⊎◌, inl, inr}
 use Rattle.std.specs.Prelude.{option_to_list, unwrap_or}
+use Rattle.ded_io.specs.Counts.{Rose}
 use Rattle.ded_io.specs.Written.{Began, appended, each_text, ◌⧺◌}
 use Rattle.ded_io.proofs.Writes.{appended-appended, appended-nil, began_then, joined}
 use Rattle.ded_io.proofs.Members.{each_text-append}
@@ -10,6 +11,8 @@ use Rattle.syn_event.specs.Numbering.{Numbering}
 use Rattle.task_machine.specs.Table.{Whole, after, event_of}
 use Rattle.interp.specs.declared.report.RunEnd.{RunEnd}
 use Rattle.interp.specs.declared.report.RunEnd.TheVariants.{Turns}
+use Rattle.interp.specs.declared.report.RunError.{RunError}
+use Rattle.interp.specs.declared.report.RunError.TheVariants.{Memory, Sink}
 use Rattle.interp.specs.Picked.{Position, at_start, halted, picked_action, went_on, turned_by, turned, after_turns, picked, ending}
 use Rattle.interp.specs.Lines.{lines_of, event_line}
 use Rattle.interp.specs.Chosen.{IsPicked, IsBroken}
@@ -123,49 +126,77 @@ began_more numbers told0 told es rest all e (front, behind, is_front, is_new) = 
   is_new,
 )
 
--- the run is cut off between two turns
-pub cut_between : {C : Type 0} (word : C → ℕ) (next : C → C) (i n : ℕ) (numbers : Numbering) (m0 : Whole) (c0 : C) (m : Whole) (c : C) (told0 told : Option (List ℕ)) →
-    Reached word next i numbers m0 c0 m c told0 told → i ≤ n → IsCutOff word next n numbers m0 c0 m told0 told
-cut_between word next i n numbers m0 c0 m c told0 told at le =
+-- the run is cut off between two turns, for want of memory
+pub cut_between : {C : Type 0} (word : C → ℕ) (next : C → C) (i n : ℕ) (numbers : Numbering) (m0 : Whole) (c0 : C) (m m' : Whole) (c : C) (told0 told told' : Option (List ℕ)) (faults faults' : ℕ) →
+    Reached word next i numbers m0 c0 m c told0 told → i ≤ n → m' ≡ m → told' ≡ told → faults' ≡ faults → IsCutOff word next n numbers m0 c0 m' told0 told' faults faults' Memory
+cut_between word next i n numbers m0 c0 m m' c told0 told told' faults faults' at le same_machine same_told same_faults =
     let (rest, e) = picked_events word next i n m0 c0 le in
     record {
       actions = i;
       within = le;
       made = at.made;
-      machine = at.machine;
+      machine = same_machine ∙ at.machine;
+      own_lines = (same_told ∙ at.lines, same_faults);
       lines = (
         lines_of numbers (picked word next i m0 c0).events,
         lines_of numbers rest,
         ap (λ x. lines_of numbers x) e ∙ lines_of-append numbers (picked word next i m0 c0).events rest,
-        at.lines,
+        same_told ∙ at.lines,
       );
     }
 
--- the run is cut off in a turn
-pub cut_within : {C : Type 0} (word : C → ℕ) (next : C → C) (i n : ℕ) (numbers : Numbering) (m0 : Whole) (c0 : C) (m m' : Whole) (c c' : C) (action : Action) (told0 told told' : Option (List ℕ)) →
-    Reached word next i numbers m0 c0 m c told0 told → IsPicked word next m c c' action → IsBroken numbers m action m' told told' → i < n →
-    IsCutOff word next n numbers m0 c0 m' told0 told'
-cut_within word next i n numbers m0 c0 m m' c c' action told0 told told' at turn broken less =
+-- a front of a line behind the lines of earlier events
+at_line : (told0 told told' : Option (List ℕ)) (earlier line : List ℕ) → told ≡ appended told0 earlier → Began told told' line →
+    (front : List ℕ) × (rest : List ℕ) × (line ≡ front ++ rest) × (told' ≡ appended told0 (earlier ++ front))
+at_line told0 told told' earlier line before (front, rest, is_front, is_new) =
+    (front, rest, is_front, is_new ∙ ap (λ t. appended t front) before ∙ appended-appended told0 earlier front)
+
+-- the run is cut off by a write that failed
+cut_at_line : {C : Type 0} (word : C → ℕ) (next : C → C) (i n : ℕ) (numbers : Numbering) (m0 : Whole) (c0 : C) (m m' : Whole) (c c' : C) (action : Action) (told0 told told' : Option (List ℕ)) (faults faults' : ℕ) →
+    Reached word next i numbers m0 c0 m c told0 told → IsPicked word next m c c' action → m' ≡ after m action → Began told told' (lines_of numbers (option_to_list (event_of m action))) → Rose faults faults' → i < n →
+    IsCutOff word next n numbers m0 c0 m' told0 told' faults faults' Sink
+cut_at_line word next i n numbers m0 c0 m m' c c' action told0 told told' faults faults' at turn made begun rose less =
     let p : Position _ = picked word next i m0 c0 in
     let step : picked word next (suc i) m0 c0 ≡ went_on next p action = next_position word next i numbers m0 c0 m c c' action told0 told at turn in
     let (rest, e) = picked_events word next (suc i) n m0 c0 (omega arith) in
     let es : List Event = p.events ++ option_to_list (event_of p.machine action) in
+    let line : List ℕ = lines_of numbers (option_to_list (event_of p.machine action)) in
+    let begun_line : Began told told' line = subst (λ x. Began told told' (lines_of numbers (option_to_list (event_of x action)))) at.machine begun in
     let lines : Began told0 told' (lines_of numbers (picked word next n m0 c0).events) =
     began_more numbers told0 told' es rest (picked word next n m0 c0).events
     (e ∙ ap (λ (x : Position _). x.events ++ rest) step)
     (subst (λ x. Began told0 told' x) (sym (lines_of-append numbers p.events (option_to_list (event_of p.machine action))))
-    (began_then told0 told told' (lines_of numbers p.events) (lines_of numbers (option_to_list (event_of p.machine action))) at.lines
-    (subst (λ x. Began told told' (lines_of numbers (option_to_list (event_of x action)))) at.machine broken.lines))) in
-    elim broken.machine [
-      | inl same ↦ record { actions = i; within = omega arith; made = at.made; machine = same ∙ at.machine; lines = lines }
-      | inr made ↦ record {
-        actions = suc i;
-        within = omega arith;
-        made = ap (λ (x : Position _). x.made) step ∙ ap (λ k. k + 1) at.made ∙ add-one i;
-        machine = made ∙ ap (λ x. after x action) at.machine ∙ ap (λ (x : Position _). x.machine) (sym step);
-        lines = lines;
-      }
-    ]
+    (began_then told0 told told' (lines_of numbers p.events) line at.lines begun_line)) in
+    let (front, behind, is_front, is_new) = at_line told0 told told' (lines_of numbers p.events) line at.lines begun_line in
+    record {
+      actions = suc i;
+      within = omega arith;
+      made = ap (λ (x : Position _). x.made) step ∙ ap (λ k. k + 1) at.made ∙ add-one i;
+      machine = made ∙ ap (λ x. after x action) at.machine ∙ ap (λ (x : Position _). x.machine) (sym step);
+      own_lines = (
+        record {
+          earlier = i;
+          last = sym (add-one i);
+          front = front;
+          rest = behind;
+          lines =
+              ap (λ (x : Position _). lines_of numbers x.events) step ∙ lines_of-append numbers p.events (option_to_list (event_of p.machine action))
+              ∙ ap (λ x. lines_of numbers p.events ++ x) is_front;
+          written = is_new;
+        },
+        rose,
+      );
+      lines = lines;
+    }
+
+-- the run is cut off in a turn
+pub cut_within : {C : Type 0} (word : C → ℕ) (next : C → C) (i n : ℕ) (numbers : Numbering) (m0 : Whole) (c0 : C) (m m' : Whole) (c c' : C) (action : Action) (told0 told told' : Option (List ℕ)) (faults0 faults faults' : ℕ) (error : RunError) →
+    Reached word next i numbers m0 c0 m c told0 told → IsPicked word next m c c' action → IsBroken numbers m action m' told told' faults faults' error → faults ≡ faults0 → i < n →
+    IsCutOff word next n numbers m0 c0 m' told0 told' faults0 faults' error
+cut_within word next i n numbers m0 c0 m m' c c' action told0 told told' faults0 faults faults' Memory at turn broken still less =
+    cut_between word next i n numbers m0 c0 m m' c told0 told told' faults0 faults' at (omega arith) broken.0 broken.1 (broken.2 ∙ still)
+cut_within word next i n numbers m0 c0 m m' c c' action told0 told told' faults0 faults faults' Sink at turn broken still less =
+    cut_at_line word next i n numbers m0 c0 m m' c c' action told0 told told' faults0 faults' at turn broken.0 broken.1 (subst (λ f. Rose f faults') still broken.2) less
 
 -- What the code answers, as the run has ended by itself in turn i of n: the values of the run of n turns.
 pub record Stopped {C : Type 0} (word : C → ℕ) (next : C → C) (n : ℕ) (numbers : Numbering) (m0 : Whole) (c0 : C) (m : Whole) (c : C) (told0 told : Option (List ℕ)) (made : ℕ) (end : RunEnd) : Type 0 where

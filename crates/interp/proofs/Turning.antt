@@ -2,6 +2,7 @@
 use Rattle.std.proofs.Common.{◌≡◌, ℕ, zero, suc, ◌+◌, ◌<◌, ◌%◌, Bool, true, false, not, ◌&&◌, List, [], ◌∷◌, length, filter, slice_index_or, ap, sym, subst, ◌∙◌, refl, arith, Option, Some, None, Result, Ok, Err, inl, inr, cond, ◌++◌}
 use Rattle.std.proofs.Math.Nat.{mod-lt}
 use Rattle.std.specs.Prelude.{option_to_list}
+use Rattle.ded_io.specs.Counts.{Rose}
 use Rattle.ded_io.specs.Written.{Wrote, Began, appended}
 use Rattle.event_machine.specs.declared.Action.{Action}
 use Rattle.event_machine.specs.declared.Action.TheVariants.{End}
@@ -11,6 +12,7 @@ use Rattle.event_machine.specs.Rows.{rows_below}
 use Rattle.task_local.specs.Steps.{task_ops}
 use Rattle.task_machine.specs.Table.{Whole, can, enabled_of, after, event_of, seen_in}
 use Rattle.interp.specs.declared.report.RunEnd.{RunEnd}
+use Rattle.interp.specs.declared.report.RunError.TheVariants.{Sink}
 use Rattle.interp.specs.Lines.{lines_of}
 use Rattle.interp.specs.Picked.{picked_action, halted}
 use Rattle.interp.specs.Chosen.{IsBroken, IsPicked}
@@ -33,13 +35,11 @@ line_written E numbers m action event x told told' is done =
     written E x told told' _ done ∙ ap (λ e. appended told (lines_of numbers (option_to_list e))) is
 
 -- the machine made the action, and its line could not be written whole
-pub line_broken : {E : Type 0} (A : Type 0) (numbers : Numbering) (m m' : Whole) (action : Action) (event : Option Event) (e : E) (told told' : Option (List ℕ)) →
-    event ≡ event_of m action → m' ≡ after m action → Wrote {A = A} (Err e) told told' (lines_of numbers (option_to_list event)) →
-    IsBroken numbers m action m' told told'
-line_broken A numbers m m' action event e told told' is made failed = record {
-  machine = inr made;
-  lines = subst (λ o. Began told told' (lines_of numbers (option_to_list o))) is (begun A e told told' _ failed);
-}
+pub line_broken : {E : Type 0} (A : Type 0) (numbers : Numbering) (m m' : Whole) (action : Action) (event : Option Event) (e : E) (told told' : Option (List ℕ)) (faults faults' : ℕ) →
+    event ≡ event_of m action → m' ≡ after m action → Wrote {A = A} (Err e) told told' (lines_of numbers (option_to_list event)) → Rose faults faults' →
+    IsBroken numbers m action m' told told' faults faults' Sink
+line_broken A numbers m m' action event e told told' faults faults' is made failed rose =
+    (made, subst (λ o. Began told told' (lines_of numbers (option_to_list o))) is (begun A e told told' _ failed), rose)
 
 -- an element of those that pass a test passes it
 passes_cond : {A : Type 0} (p : A → Bool) (b : Bool) (x : A) (ys : List A) (k : ℕ) (d : A) → p x ≡ b → k < length (cond b (x ∷ ys) ys) →

@@ -1,9 +1,12 @@
 -- What the code's turn decides, and how the making of an action may break off.
-use Rattle.std.specs.Prelude.{◌≡◌, ℕ, Bool, true, List, Option, Some, None, ◌⊎◌, option_to_list}
+use Rattle.std.specs.Prelude.{◌≡◌, ℕ, Bool, true, List, Option, Some, None, option_to_list}
+use Rattle.ded_io.specs.Counts.{Rose}
 use Rattle.ded_io.specs.Written.{Began}
 use Rattle.event_machine.specs.declared.Action.{Action}
 use Rattle.syn_event.specs.Numbering.{Numbering}
 use Rattle.task_machine.specs.Table.{Whole, can, after, event_of}
+use Rattle.interp.specs.declared.report.RunError.{RunError}
+use Rattle.interp.specs.declared.report.RunError.TheVariants.{Memory, Sink}
 use Rattle.interp.specs.declared.running.Turn.{Turn}
 use Rattle.interp.specs.declared.running.Turn.TheVariants.{Halted, Make}
 use Rattle.interp.specs.Picked.{halted, picked_action}
@@ -21,7 +24,7 @@ abbrev pub IsChosen : {C : Type 0} → (C → ℕ) → (C → C) → Whole → C
 IsChosen word next m old new (Halted end) = (halted m ≡ Some end) × (new ≡ old)
 IsChosen word next m old new (Make action) = IsPicked word next m old new action
 
--- the machine is as it was or made the action, and a front of the action's line is written
-pub record IsBroken (numbers : Numbering) (m : Whole) (action : Action) (m' : Whole) (told told' : Option (List ℕ)) : Type 0 where
-  pub machine : (m' ≡ m) ⊎ (m' ≡ after m action)
-  pub lines : Began told told' (lines_of numbers (option_to_list (event_of m action)))
+-- Without memory nothing has changed; where a write failed the action was made, and a front of its line is written.
+abbrev pub IsBroken : Numbering → Whole → Action → Whole → Option (List ℕ) → Option (List ℕ) → ℕ → ℕ → RunError → Type 0
+IsBroken numbers m action m' told told' faults faults' Memory = (m' ≡ m) × (told' ≡ told) × (faults' ≡ faults)
+IsBroken numbers m action m' told told' faults faults' Sink = (m' ≡ after m action) × Began told told' (lines_of numbers (option_to_list (event_of m action))) × Rose faults faults'

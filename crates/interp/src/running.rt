@@ -1,6 +1,6 @@
 // The run loop.
 
-ghost use Rattle.std.specs.Prelude.{◌≡◌, ◌≤◌, IfOk, OnOk, OnErr, IsErrOf, option_to_list, None, length, slice_index_or, ◌<◌, ◌^◌, ◌%◌, true};
+ghost use Rattle.std.specs.Prelude.{◌≡◌, ◌≤◌, IfOk, IfErr, OnOk, OnErr, IsErrOf, option_to_list, None, length, slice_index_or, ◌<◌, ◌^◌, ◌%◌, true};
 ghost use Rattle.event_machine.specs.declared.Action.TheVariants.{End};
 ghost use Rattle.ded_io.specs.Counts.{Rose, HasCause};
 ghost use Rattle.ded_io.specs.Written.{Wrote, appended};
@@ -109,7 +109,7 @@ fn make<K: Sink>(
     requires { can m.old action ≡ true }
     ensures machine { OnOk result (m.new ≡ after m.old action) }
     ensures lines { OnOk result (K.told out.new ≡ appended (K.told out.old) (lines_of numbers.now (option_to_list (event_of m.old action)))) }
-    ensures cut { OnErr result (IsBroken numbers.now m.old action m.new (K.told out.old) (K.told out.new)) }
+    ensures cut { IfErr result (IsBroken numbers.now m.old action m.new (K.told out.old) (K.told out.new) (K.faults out.old) (K.faults out.new)) }
     ensures no_fault { OnOk result (K.faults out.new ≡ K.faults out.old) }
     ensures cause { IsErrOf result RunError.Sink → Rose (K.faults out.old) (K.faults out.new) }
 {
@@ -140,8 +140,9 @@ pub fn run<C: Chooser, K: Sink>(
     ensures lines { OnOk result (K.told out.new ≡ appended (K.told out.old) (lines_of numbers.now (picked C.word C.next turns m.old choices.old).events)) }
     ensures no_fault { OnOk result (K.faults out.new ≡ K.faults out.old) }
 
-    // An error leaves the machine behind the actions that were made, and a front of the lines.
-    ensures cut_off { OnErr result (IsCutOff C.word C.next turns numbers.now m.old choices.old m.new (K.told out.old) (K.told out.new)) }
+    // An error leaves the machine behind the actions that were made, and their lines: without memory all of them and no fault, else all but
+    // the last, and a front of that.
+    ensures cut_off { IfErr result (IsCutOff C.word C.next turns numbers.now m.old choices.old m.new (K.told out.old) (K.told out.new) (K.faults out.old) (K.faults out.new)) }
     ensures cause { IsErrOf result RunError.Sink → Rose (K.faults out.old) (K.faults out.new) }
 {
     let mut actions = Vec::new(alloc);

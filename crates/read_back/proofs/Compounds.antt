@@ -9,9 +9,9 @@ use Rattle.ada_tree.specs.Every.{EveryWord, EveryExpr, EveryCall, EveryChoice, E
 use Rattle.ada_tree.specs.Same.{SameOption, SameExpr, SameCall, SameStmt, SameStmts, SameMaybe, SameAccept, SameAlt, SameAltKind, SameAlts, SameArm, SameArms, SameCaseArm, SameCaseArms, SameBody, SameHandler, SameHandlers}
 use Rattle.ada_tree.specs.Lexical.{IsDuration}
 use Rattle.ada_expr_parser.specs.declared.symbols.Symbol.TheVariants as key
-use Rattle.ada_parser.specs.Spelling.{Source, Spelling, ◌▷◌, Key}
-use Rattle.ada_parser.specs.Phrases.{EndOf, Guard, WhenRaised, DelayOf}
-use Rattle.ada_parser.specs.Statements.{Call, IsStmt, AnyStmts, Stmts, ElsePart, OthersPart, IsAccept, IsAlt, IsAltKind, IsAlts, MoreAlts, IsArm, IsArms, MoreArms, IsCaseArm, IsCaseArms, IsBody, HandlerPart, MoreHandlers, IsHandler}
+use Rattle.ada_phrase_parser.specs.Spelling.{Source, Spelling, ◌▷◌, Key}
+use Rattle.ada_phrase_parser.specs.Phrases.{EndOf, Guard, WhenRaised, DelayOf}
+use Rattle.ada_stmt_parser.specs.Statements.{Call, IsStmt, AnyStmts, Stmts, ElsePart, OthersPart, IsAccept, IsAlt, IsAltKind, IsAlts, MoreAlts, IsArm, IsArms, MoreArms, IsCaseArm, IsCaseArms, IsBody, HandlerPart, MoreHandlers, IsHandler}
 use Rattle.ded_io.specs.Written.{◌⧺◌}
 use Rattle.ada_printer.specs.Layout.{deeper, indent, separated, word_text}
 use Rattle.ada_printer.specs.ExprText.{expr_text}

@@ -11,7 +11,7 @@ use Rattle.ada_tree.specs.Every.{EveryWord, EveryExpr, EveryNames, EveryDrange, 
 use Rattle.ada_tree.specs.Same.{SameOption, SameExpr, SameDrange, SameSubind, SameShape, SameInit, SameDecl, SameDecls, SameBody}
 use Rattle.ada_expr_parser.specs.declared.symbols.Symbol.TheVariants as key
 use Rattle.ada_expr_parser.specs.Grammar.{AreEnclosed}
-use Rattle.ada_parser.specs.Spelling.{Source, ◌▷◌, IfThere, Key}
+use Rattle.ada_phrase_parser.specs.Spelling.{Source, ◌▷◌, IfThere, Key}
 use Rattle.ada_parser.specs.Declarations.{ArrayOf, IsShape, IsList, IsInit, UnitEnd, IsDecl, Decls}
 use Rattle.ded_io.specs.Written.{◌⧺◌}
 use Rattle.ada_printer.specs.Layout.{deeper, indent, word_text, words_text}

@@ -14,7 +14,7 @@ use Rattle.ada_expr_parser.specs.declared.symbols.Symbol.TheVariants as key
 use Rattle.ada_expr_parser.specs.declared.items.Item.{Item}
 use Rattle.ada_expr_parser.specs.Grammar.{symbol_item, word_item, prefix_symbol, infix_symbol, SpellsSecond, SpellsOperator, Spells}
 use Rattle.ada_expr_parser.specs.Trees.{span_of, levels, last_operator, from_to}
-use Rattle.ada_parser.specs.Spelling.{Spelling, ◌▷◌, Key, Named, last_place}
+use Rattle.ada_phrase_parser.specs.Spelling.{Spelling, ◌▷◌, Key, Named, last_place}
 use Rattle.ded_io.specs.Written.{◌⧺◌}
 use Rattle.ada_printer.specs.Layout.{name_text, word_text}
 use Rattle.ada_printer.specs.ExprText.{unary_text, binary_text, expr_text}

@@ -14,7 +14,7 @@ use Rattle.ada_expr_parser.specs.declared.items.ItemKind.{ItemKind}
 use Rattle.ada_expr_parser.specs.declared.items.ItemKind.TheVariants as item
 use Rattle.ada_expr_parser.specs.declared.items.Item.{Item}
 use Rattle.ada_expr_parser.specs.Items.{Stands}
-use Rattle.ada_parser.specs.Spelling.{id_of}
+use Rattle.ada_phrase_parser.specs.Spelling.{id_of}
 use Rattle.read_back.proofs.Classes.{Class, Next}
 use Rattle.read_back.proofs.Pieces.{Ends}
 

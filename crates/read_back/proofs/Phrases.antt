@@ -18,9 +18,9 @@ use Rattle.ada_expr_parser.specs.declared.items.Item.{Item}
 use Rattle.ada_expr_parser.specs.declared.levels.Level.TheVariants.{Simple}
 use Rattle.ada_expr_parser.specs.Grammar.{symbol_item, word_item, Spells, IsExpr, IsBounds, IsRangeOf, IsSubind, IsEnclosed, IsTarget, AreMore, AreEnclosed, IsSecondList, AreArgs}
 use Rattle.ada_expr_parser.specs.Trees.{levels}
-use Rattle.ada_parser.specs.Spelling.{Spelling, Nothing, ◌▷◌, IfThere, Key, Named, Behind, Separated}
-use Rattle.ada_parser.specs.Phrases.{Names, Expression, Operand, Mode, IsFormal, Formals, Index, AcceptHead, Choice, WhenRaised, Reverse, Drange, IsScheme, LoopName, LoopNameAgain, DelayOf}
-use Rattle.ada_parser.specs.Statements.{Target, Callee, Call}
+use Rattle.ada_phrase_parser.specs.Spelling.{Spelling, Nothing, ◌▷◌, IfThere, Key, Named, Behind, Separated}
+use Rattle.ada_phrase_parser.specs.Phrases.{Names, Expression, Operand, Mode, IsFormal, Formals, Index, AcceptHead, Choice, WhenRaised, Reverse, Drange, IsScheme, LoopName, LoopNameAgain, DelayOf}
+use Rattle.ada_stmt_parser.specs.Statements.{Target, Callee, Call}
 use Rattle.ded_io.specs.Written.{◌⧺◌, each_text}
 use Rattle.ada_printer.specs.Layout.{separated, word_text, words_text, later_word}
 use Rattle.ada_printer.specs.ExprText.{expr_text, exprs_text, index_text, bounds_text, range_text, subind_text, drange_text}

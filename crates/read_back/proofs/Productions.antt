@@ -12,9 +12,9 @@ use Rattle.ada_tree.specs.Same.{SamePart, SameStmt, SameStmts, SameMaybe}
 use Rattle.ada_tree.specs.Lexical.{IsDuration}
 use Rattle.ada_expr_parser.specs.declared.symbols.Symbol.TheVariants as key
 use Rattle.ada_expr_parser.specs.declared.items.Item.{Item}
-use Rattle.ada_parser.specs.Spelling.{Source, Spelling, Nothing, ◌▷◌, Key, Predefined, Separated}
-use Rattle.ada_parser.specs.Phrases.{IsPart}
-use Rattle.ada_parser.specs.Statements.{IsStmt, AnyStmts, Stmts, ElsePart, OthersPart}
+use Rattle.ada_phrase_parser.specs.Spelling.{Source, Spelling, Nothing, ◌▷◌, Key, Predefined, Separated}
+use Rattle.ada_phrase_parser.specs.Phrases.{IsPart}
+use Rattle.ada_stmt_parser.specs.Statements.{IsStmt, AnyStmts, Stmts, ElsePart, OthersPart}
 use Rattle.ded_io.specs.Written.{◌⧺◌}
 use Rattle.ada_printer.specs.Layout.{deeper, indent, string_text, later_word}
 use Rattle.ada_printer.specs.StmtText.{part_text, parts_text, target_text, form_text, stmts_text, else_text, others_text}

@@ -6,8 +6,8 @@ use Rattle.ada_tree.specs.WellPlaced.{well_placed}
 use Rattle.ada_tree.specs.Every.{EveryCall, arms_count, alts_count, EveryExpr, EveryStmt, EveryStmts, EverySome, EveryMaybe, EveryAccept, EveryAlt, EveryAltKind, EveryAlts, EveryArm, EveryArms, EveryCaseArm, EveryCaseArms, EveryBody, EveryHandler, EveryHandlers}
 use Rattle.ada_tree.specs.Same.{SameStmt, SameStmts, SameMaybe, SameAccept, SameAlt, SameAltKind, SameAlts, SameArm, SameArms, SameCaseArm, SameCaseArms, SameBody, SameHandler, SameHandlers}
 use Rattle.ada_expr_parser.specs.declared.symbols.Symbol.TheVariants as key
-use Rattle.ada_parser.specs.Spelling.{Source, ◌▷◌, Key}
-use Rattle.ada_parser.specs.Statements.{IsStmt, AnyStmts, Stmts, ElsePart, OthersPart, IsAccept, IsAlt, IsAltKind, IsAlts, MoreAlts, IsArm, IsArms, MoreArms, IsCaseArm, IsCaseArms, IsBody, HandlerPart, MoreHandlers, IsHandler}
+use Rattle.ada_phrase_parser.specs.Spelling.{Source, ◌▷◌, Key}
+use Rattle.ada_stmt_parser.specs.Statements.{IsStmt, AnyStmts, Stmts, ElsePart, OthersPart, IsAccept, IsAlt, IsAltKind, IsAlts, MoreAlts, IsArm, IsArms, MoreArms, IsCaseArm, IsCaseArms, IsBody, HandlerPart, MoreHandlers, IsHandler}
 use Rattle.ada_printer.specs.Layout.{deeper}
 use Rattle.ada_printer.specs.StmtText.{form_text, stmts_text, else_text, others_text, accept_text, alt_kind_text, alt_text, alts_text, more_alts_text, arm_text, arms_text, more_arms_text, case_arm_text, case_arms_text, body_text, exception_text, handler_text, handlers_text}
 use Rattle.read_back.proofs.Classes.{Anything, Plain}

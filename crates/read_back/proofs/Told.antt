@@ -23,7 +23,7 @@ use Rattle.ada_expr_parser.specs.declared.items.Item.{Item}
 use Rattle.ada_expr_parser.specs.Items.{kind_of}
 use Rattle.ada_expr_parser.specs.Grammar.{symbol_item, word_item}
 use Rattle.ada_expr_parser.specs.Trees.{from_to}
-use Rattle.ada_parser.specs.Spelling.{Source, Spelling, Nothing, ◌▷◌, Key, Named, WithId, Predefined, id_of, last_place, Placed}
+use Rattle.ada_phrase_parser.specs.Spelling.{Source, Spelling, Nothing, ◌▷◌, Key, Named, WithId, Predefined, id_of, last_place, Placed}
 use Rattle.ded_io.specs.Written.{◌⧺◌}
 use Rattle.ada_printer.specs.Layout.{indent}
 use Rattle.read_back.proofs.Classes.{Class, Anything, Plain, WordEnd, Stop, Next, under, weaken}

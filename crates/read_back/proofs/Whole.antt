@@ -23,7 +23,7 @@ use Rattle.ada_expr_parser.specs.declared.items.ItemKind.{ItemKind}
 use Rattle.ada_expr_parser.specs.declared.items.ItemKind.TheVariants as item
 use Rattle.ada_expr_parser.specs.declared.items.Item.{Item}
 use Rattle.ada_expr_parser.specs.Items.{name_text, Says, IsItemOf, end_of, interned_if, with_token, names_after}
-use Rattle.ada_parser.specs.Spelling.{id_of}
+use Rattle.ada_phrase_parser.specs.Spelling.{id_of}
 use Rattle.ada_parser.specs.Reads.{Reads}
 use Rattle.ada_printer.specs.ProgramText.{program_text}
 use Rattle.read_back.proofs.Lexed.{Tells, ToldBy, AreTold, Lexed}

@@ -20,7 +20,7 @@ use Rattle.ada_tree.specs.declared.naming.NameId.{NameId}
 use Rattle.ada_tree.specs.declared.naming.Word.{Word}
 use Rattle.ada_expr_parser.specs.declared.items.ItemKind.TheVariants as item
 use Rattle.ada_expr_parser.specs.Grammar.{number_item}
-use Rattle.ada_parser.specs.Spelling.{Named, Duration, is_graphic, StringAt}
+use Rattle.ada_phrase_parser.specs.Spelling.{Named, Duration, is_graphic, StringAt}
 use Rattle.ded_io.specs.Written.{◌⧺◌, each_text}
 use Rattle.ada_printer.specs.Layout.{decimals, duration_text, character_text, string_text, name_text, word_text}
 use Rattle.read_back.proofs.Classes.{Anything, Plain, WordEnd, Stop, Next}

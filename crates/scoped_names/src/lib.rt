@@ -4,9 +4,6 @@
 ghost use Rattle.std.specs.Prelude.{◌≡◌, ◌<◌, ◌∷◌, [], Some, drop, length, slice_get, option_map, OnOk, OnErr};
 ghost use Rattle.scoped_names.specs.Meaning.{meaning_in};
 
-#[cfg(test)]
-mod tests;
-
 use std::alloc::{AllocError, Global};
 use std::collections::HashMap;
 use std::marker::Model;

@@ -12,6 +12,3 @@ mod words;
 
 pub use errors::SeqError;
 pub use reading::read_seq;
-
-#[cfg(test)]
-mod tests;

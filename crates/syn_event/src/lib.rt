@@ -8,8 +8,6 @@ mod naming;
 mod numbering;
 mod origin;
 mod showing;
-#[cfg(test)]
-mod tests;
 
 pub use event_machine::Event;
 pub use limits::What;

@@ -2,7 +2,7 @@ use Rattle.std.proofs.Common.{◌≡◌, Some, None}
 use Rattle.ada_tree.specs.PlainProgram.{plain_program}
 use Rattle.syn_event.specs.Spots.{spots}
 use Rattle.syn_event.specs.AllNumbers.{all_numbers}
-use Rattle.ada_check.specs.Met.{met}
+use Rattle.ada_rules.specs.Met.{met}
 use Rattle.ada_check.proofs.FirstRefusal.{meets_rules, is_told}
 use Rattle.ada_check.proofs.checking.check_on.Goals as goal
 

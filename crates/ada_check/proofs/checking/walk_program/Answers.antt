@@ -3,7 +3,7 @@ use Rattle.ada_tree.specs.PlainProgram.{plain_program}
 use Rattle.ada_tree.specs.PlainDecl.{plain_decl, decls_of}
 use Rattle.syn_event.specs.Surrounding.{Surrounding}
 use Rattle.syn_event.specs.Spots.{body_names, decls_spots, after_decls}
-use Rattle.ada_check.specs.Met.{met}
+use Rattle.ada_rules.specs.Met.{met}
 use Rattle.ada_check.proofs.Programs.{program_met, types_stay}
 use Rattle.ada_check.proofs.checking.walk_program.Goals as goal
 

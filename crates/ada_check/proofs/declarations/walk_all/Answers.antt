@@ -2,9 +2,9 @@ use Rattle.std.proofs.Common.{refl, map, drop}
 use Rattle.ada_tree.specs.PlainDecl.{PDecls, PDecl, plain_decl}
 use Rattle.syn_event.specs.Surrounding.{Surrounding}
 use Rattle.syn_event.specs.Spots.{decl_spots, after_decl, decls_spots, after_decls}
-use Rattle.ada_check.specs.Places.{numbers_in}
-use Rattle.ada_check.proofs.Listing.{cut}
-use Rattle.ada_check.proofs.Declaring.{decl_more, decl_end, after_more, after_end, own_none}
+use Rattle.ada_declaration_places.specs.Places.{numbers_in}
+use Rattle.ada_rules.proofs.Listing.{cut}
+use Rattle.ada_declaration_places.proofs.Declaring.{decl_more, decl_end, after_more, after_end, own_none}
 use Rattle.ada_check.proofs.declarations.walk_all.Goals as goal
 
 pub loop-decl-preserved : goal.loop-decl-preserved

@@ -1,9 +1,9 @@
 use Rattle.std.proofs.Common.{◌≡◌, map, drop, None}
 use Rattle.ada_tree.specs.PlainDecl.{plain_decl, decls_of}
 use Rattle.syn_event.specs.Spots.{decls_spots, after_decls}
-use Rattle.ada_check.specs.Sooner.{sooner}
-use Rattle.ada_check.specs.Met.{met}
-use Rattle.ada_check.specs.Places.{numbers_in}
+use Rattle.ada_rules.specs.Sooner.{sooner}
+use Rattle.ada_rules.specs.Met.{met}
+use Rattle.ada_declaration_places.specs.Places.{numbers_in}
 use Rattle.ada_check.proofs.declarations.walk_all.Given as goal
 
 -- what is refused so far, and of the declarations that are left; what stands around behind them is what stands around behind all

@@ -1,8 +1,10 @@
 use Rattle.std.proofs.Common.{ap, ◌∙◌}
 use Rattle.ada_tree.specs.PlainDecl.{plain_decl}
-use Rattle.ada_check.specs.Met.{met}
-use Rattle.ada_check.specs.Places.{numbers_in, body_part}
-use Rattle.ada_check.proofs.Declaring.{parted, own_none}
+use Rattle.ada_rules.specs.Met.{met}
+use Rattle.ada_declaration_places.specs.Places.{numbers_in}
+use Rattle.ada_check.specs.Bodies.{body_part}
+use Rattle.ada_check.proofs.Bodies.{parted}
+use Rattle.ada_declaration_places.proofs.Declaring.{own_none}
 use Rattle.ada_check.proofs.declarations.walk_decl.Goals as goal
 
 pub walk_if_body-requires : goal.walk_if_body-requires

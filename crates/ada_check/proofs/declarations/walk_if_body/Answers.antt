@@ -2,8 +2,8 @@ use Rattle.std.proofs.Common.{◌≡◌, ap, sym, ◌∙◌, map, arith}
 use Rattle.ada_tree.specs.PlainStmt.{plain_body}
 use Rattle.ada_tree.specs.PlainDecl.{DTaskBody, plain_decl, decls_of}
 use Rattle.ada_tree.proofs.Rows.{rows}
-use Rattle.ada_check.specs.Met.{met}
-use Rattle.ada_check.specs.Places.{task_body_spots, body_part}
+use Rattle.ada_rules.specs.Met.{met}
+use Rattle.ada_check.specs.Bodies.{task_body_spots, body_part}
 use Rattle.ada_check.proofs.declarations.walk_if_body.Goals as goal
 
 pub returns-in_ok-refusal-in-TaskBody-clause-told : goal.returns-in_ok-refusal-in-TaskBody-clause-told

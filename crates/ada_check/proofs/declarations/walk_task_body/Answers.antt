@@ -2,10 +2,10 @@ use Rattle.std.proofs.Common.{◌≡◌, ap, ◌∙◌, map}
 use Rattle.ada_tree.specs.PlainStmt.{plain_body}
 use Rattle.ada_tree.specs.PlainDecl.{plain_decl, decls_of}
 use Rattle.syn_event.specs.Spots.{in_body, own_spots, after_own, body_spots}
-use Rattle.ada_check.specs.Met.{met}
-use Rattle.ada_check.proofs.Meeting.{joined}
-use Rattle.ada_check.proofs.Leaving.{room}
-use Rattle.ada_check.proofs.Declaring.{within_body, left_body}
+use Rattle.ada_rules.specs.Met.{met}
+use Rattle.ada_rules.proofs.Meeting.{joined}
+use Rattle.ada_surroundings.proofs.Leaving.{room}
+use Rattle.ada_declaration_places.proofs.Declaring.{within_body, left_body}
 use Rattle.ada_check.proofs.declarations.walk_task_body.Goals as goal
 
 pub leave_body-requires : goal.leave_body-requires

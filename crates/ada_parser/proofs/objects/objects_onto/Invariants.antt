@@ -1,8 +1,8 @@
 use Rattle.std.proofs.Common.{length, map}
 use Rattle.ada_tree.specs.PlainDecl.{plain_decl}
-use Rattle.ada_parser.specs.ReadingDeclarations.{object}
-use Rattle.ada_parser.specs.DeclViews.{begins_object}
-use Rattle.ada_parser.proofs.Lists.{GoesOn}
+use Rattle.ada_decl_parser.specs.ReadingDeclarations.{object}
+use Rattle.ada_parser.specs.ReadingDeclarativeParts.{begins_object}
+use Rattle.ada_phrase_parser.proofs.Lists.{GoesOn}
 use Rattle.ada_parser.proofs.objects.objects_onto.Given as goal
 
 abbrev pub invariant-objects : goal.invariant-objects

@@ -1,5 +1,5 @@
 use Rattle.std.proofs.Common.{◌≡◌, ◌+◌, codes, drop}
-use Rattle.ada_parser.specs.Spelling.{id_of}
+use Rattle.ada_phrase_parser.specs.Spelling.{id_of}
 use Rattle.ada_parser.proofs.reading.priority_id.Given as goal
 
 -- PRIORITY is none of the names gone by

@@ -2,8 +2,8 @@ use Rattle.std.proofs.Common.{◌≡◌, map}
 use Rattle.ada_tree.specs.PlainDecl.{decls_of, plain_decl}
 use Rattle.ada_tree.specs.Declaring.{after_objects}
 use Rattle.ada_tree.specs.Sites.{own_sites}
-use Rattle.ada_types.specs.Sooner.{sooner}
-use Rattle.ada_types.specs.Met.{met}
+use Rattle.ada_refusals.specs.Sooner.{sooner}
+use Rattle.ada_refusals.specs.Met.{met}
 use Rattle.ada_types.proofs.Following.{from}
 use Rattle.ada_types.proofs.bodies.walk_all_own.Given as goal
 

@@ -1,5 +1,5 @@
 use Rattle.std.proofs.Common.{◌∙◌, []}
-use Rattle.ada_types.proofs.Inner.{left, room, inner_formals}
+use Rattle.ada_scopes.proofs.Inner.{left, room, inner_formals}
 use Rattle.ada_types.proofs.bodies.walk_inside.Goals as goal
 
 pub leave-requires-clause-within : goal.leave-requires-clause-within

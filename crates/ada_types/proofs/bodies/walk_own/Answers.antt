@@ -2,7 +2,7 @@ use Rattle.std.proofs.Common.{◌∙◌, ap, option_map}
 use Rattle.ada_tree.specs.PlainDecl.{plain_shape, plain_init}
 use Rattle.ada_tree.specs.Declaring.{after_object, declared_object}
 use Rattle.ada_tree.specs.Sites.{object_sites}
-use Rattle.ada_types.specs.Met.{met}
+use Rattle.ada_refusals.specs.Met.{met}
 use Rattle.ada_types.proofs.Following.{own_kind, own_other}
 use Rattle.ada_types.proofs.bodies.walk_own.Goals as goal
 

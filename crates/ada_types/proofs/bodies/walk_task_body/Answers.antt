@@ -3,8 +3,8 @@ use Rattle.ada_tree.specs.Declaring.{in_body, inside, after_objects}
 use Rattle.ada_tree.specs.PlainDecl.{decls_of, plain_decl}
 use Rattle.ada_tree.specs.PlainStmt.{plain_body}
 use Rattle.ada_tree.specs.Sites.{own_sites, body_sites}
-use Rattle.ada_types.specs.Sooner.{sooner}
-use Rattle.ada_types.specs.Met.{met}
+use Rattle.ada_refusals.specs.Sooner.{sooner}
+use Rattle.ada_refusals.specs.Met.{met}
 use Rattle.ada_types.proofs.Following.{body_room, body_left, body_scope, objects_in}
 use Rattle.ada_types.proofs.TaskDecls.{body_met}
 use Rattle.ada_types.proofs.bodies.walk_task_body.Goals as goal

@@ -5,10 +5,10 @@ use Rattle.ada_tree.specs.Scope.{AnException}
 use Rattle.ada_tree.specs.Declaring.{with_names, after_object, after_enumeration, declared_object}
 use Rattle.ada_tree.specs.Sites.{names_sites, object_sites}
 use Rattle.ada_tree.proofs.Rows.{rows}
-use Rattle.ada_types.specs.Met.{met}
+use Rattle.ada_refusals.specs.Met.{met}
 use Rattle.ada_types.specs.declared.walked_decls.WalkedDecl.{WalkedDecl}
-use Rattle.ada_types.proofs.Keeping.{if_ok}
-use Rattle.ada_types.proofs.Accepting.{names_met}
+use Rattle.ada_refusals.proofs.Outcomes.{if_ok}
+use Rattle.ada_refusals.proofs.Meeting.{names_met}
 use Rattle.ada_types.proofs.TaskDecls.{instance_met}
 use Rattle.ada_types.proofs.Following.{of_kind, of_plain}
 use Rattle.ada_types.proofs.declarations.walk_decl.Goals as goal

@@ -2,10 +2,10 @@ use Rattle.std.proofs.Common.{◌≡◌, ◌++◌, map}
 use Rattle.ada_tree.specs.PlainDecl.{decls_of, plain_decl}
 use Rattle.ada_tree.specs.Declaring.{after_decls}
 use Rattle.ada_tree.specs.Sites.{decls_sites}
-use Rattle.ada_types.specs.Sooner.{sooner}
-use Rattle.ada_types.specs.Met.{met}
-use Rattle.ada_types.specs.Namings.{namings_of}
-use Rattle.ada_types.specs.Notes.{AreAt}
+use Rattle.ada_refusals.specs.Sooner.{sooner}
+use Rattle.ada_refusals.specs.Met.{met}
+use Rattle.ada_duplicates.specs.Namings.{namings_of}
+use Rattle.ada_duplicates.specs.Notes.{AreAt}
 use Rattle.ada_types.proofs.Following.{from}
 use Rattle.ada_types.proofs.declarations.walk_decls.Given as goal
 

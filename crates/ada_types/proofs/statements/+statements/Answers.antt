@@ -5,12 +5,13 @@ use Rattle.ada_tree.specs.PlainStmt.{SConditional, STimed, SCase, absent, presen
 use Rattle.ada_tree.specs.Declaring.{with_name, with_formals}
 use Rattle.ada_tree.specs.Sites.{stmt_sites}
 use Rattle.ada_tree.proofs.Rows.{rows}
-use Rattle.ada_types.specs.Met.{met}
-use Rattle.ada_types.specs.Entries.{plain_range}
-use Rattle.ada_types.specs.Things.{plain_thing}
+use Rattle.ada_refusals.specs.Met.{met}
+use Rattle.ada_scopes.specs.Entries.{plain_range}
+use Rattle.ada_scopes.specs.Things.{plain_thing}
 use Rattle.ada_types.specs.Members.{each_alt, each_arm, each_case_arm, each_handler}
-use Rattle.ada_types.proofs.Inner.{left, room, inner_parameter, inner_formals}
-use Rattle.ada_types.proofs.Lists.{turn, met_all, stmts_flat, alts_flat, arms_flat, case_arms_flat, handlers_flat, arm_told, handler_told, accept_told, head_told, branches_told, case_others, case_alone}
+use Rattle.ada_scopes.proofs.Inner.{left, room, inner_parameter, inner_formals}
+use Rattle.ada_refusals.proofs.Listing.{turn, met_all}
+use Rattle.ada_types.proofs.Lists.{stmts_flat, alts_flat, arms_flat, case_arms_flat, handlers_flat, arm_told, handler_told, accept_told, head_told, branches_told, case_others, case_alone}
 use Rattle.ada_types.proofs.statements.+statements.Goals as goal
 
 pub walk_stmts-loop-stmt-preserved : goal.walk_stmts-loop-stmt-preserved

@@ -2,8 +2,8 @@ use Rattle.std.proofs.Common.{◌≡◌, map, take, option_map}
 use Rattle.std.specs.Prelude.{flat_map}
 use Rattle.ada_tree.specs.PlainStmt.{plain_stmt, plain_alt, plain_arm, plain_case_arm, plain_handler}
 use Rattle.ada_tree.specs.Sites.{stmt_sites}
-use Rattle.ada_types.specs.Met.{met}
-use Rattle.ada_types.specs.Entries.{plain_range}
+use Rattle.ada_refusals.specs.Met.{met}
+use Rattle.ada_scopes.specs.Entries.{plain_range}
 use Rattle.ada_types.specs.Members.{each_alt, each_arm, each_case_arm, each_handler}
 use Rattle.ada_types.proofs.statements.+statements.Given as goal
 

@@ -3,8 +3,8 @@ use Rattle.ada_tree.specs.PlainExpr.{plain_expr}
 use Rattle.ada_tree.specs.PlainStmt.{plain_target}
 use Rattle.ada_tree.specs.RuleMismatch.{target_kind}
 use Rattle.ada_tree.specs.Sites.{target_sites, expr_of}
-use Rattle.ada_types.specs.Met.{met}
-use Rattle.ada_types.proofs.Meeting.{joined}
+use Rattle.ada_refusals.specs.Met.{met}
+use Rattle.ada_refusals.proofs.Meeting.{joined}
 use Rattle.ada_types.proofs.statements.walk_assign.Goals as goal
 
 pub returns : goal.returns

@@ -1,6 +1,6 @@
 use Rattle.std.proofs.Common.{◌≡◌, take}
 use Rattle.std.specs.Prelude.{flat_map}
-use Rattle.ada_types.specs.Met.{met}
+use Rattle.ada_refusals.specs.Met.{met}
 use Rattle.ada_types.specs.Members.{exception_sites}
 use Rattle.ada_types.proofs.statements.walk_exceptions.Given as goal
 

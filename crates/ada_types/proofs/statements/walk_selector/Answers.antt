@@ -4,7 +4,7 @@ use Rattle.ada_tree.specs.PlainExpr.{plain_expr}
 use Rattle.ada_tree.specs.PlainStmt.{plain_case_arm, case_arms_of}
 use Rattle.ada_tree.specs.Demand.{chooses}
 use Rattle.ada_tree.specs.Sites.{expr_sites, choices_of}
-use Rattle.ada_types.proofs.Meeting.{before}
+use Rattle.ada_refusals.proofs.Meeting.{before}
 use Rattle.ada_types.proofs.statements.walk_selector.Goals as goal
 
 pub returns : goal.returns

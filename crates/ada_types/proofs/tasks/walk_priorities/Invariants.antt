@@ -3,8 +3,8 @@ use Rattle.std.specs.Prelude.{flat_map}
 use Rattle.ada_tree.specs.PlainDecl.{PPriority, plain_priority}
 use Rattle.ada_tree.specs.Scope.{integer_kind}
 use Rattle.ada_tree.specs.Sites.{static_of}
-use Rattle.ada_types.specs.Sooner.{sooner}
-use Rattle.ada_types.specs.Met.{met}
+use Rattle.ada_refusals.specs.Sooner.{sooner}
+use Rattle.ada_refusals.specs.Met.{met}
 use Rattle.ada_types.proofs.tasks.walk_priorities.Given as goal
 
 -- what is refused so far, and of the priorities that are left

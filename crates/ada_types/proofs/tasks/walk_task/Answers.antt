@@ -4,7 +4,7 @@ use Rattle.ada_tree.specs.PlainDecl.{PPriority, plain_entry, plain_priority, pla
 use Rattle.ada_tree.specs.Scope.{integer_kind}
 use Rattle.ada_tree.specs.Declaring.{entry_part}
 use Rattle.ada_tree.specs.Sites.{static_of, entries_sites}
-use Rattle.ada_types.specs.Met.{met}
+use Rattle.ada_refusals.specs.Met.{met}
 use Rattle.ada_types.proofs.TaskDecls.{task_met, task_left}
 use Rattle.ada_types.proofs.tasks.walk_task.Goals as goal
 

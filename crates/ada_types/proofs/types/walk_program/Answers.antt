@@ -3,12 +3,12 @@ use Rattle.ada_tree.specs.PlainStmt.{plain_body}
 use Rattle.ada_tree.specs.PlainDecl.{decls_of, plain_decl}
 use Rattle.ada_tree.specs.Declaring.{before_all, first_scope, inside, after_decls}
 use Rattle.ada_tree.specs.Sites.{names_sites, decls_sites, body_sites}
-use Rattle.ada_types.specs.Met.{met}
-use Rattle.ada_types.specs.Namings.{namings_of}
-use Rattle.ada_types.specs.Notes.{AreAt}
-use Rattle.ada_types.proofs.Meeting.{joined}
+use Rattle.ada_refusals.specs.Met.{met}
+use Rattle.ada_duplicates.specs.Namings.{namings_of}
+use Rattle.ada_duplicates.specs.Notes.{AreAt}
+use Rattle.ada_refusals.proofs.Meeting.{joined}
 use Rattle.ada_types.proofs.TypeDecls.{behind_names}
-use Rattle.ada_types.proofs.Behind.{at_first, noted_first}
+use Rattle.ada_duplicates.proofs.Behind.{at_first, noted_first}
 use Rattle.ada_types.proofs.types.walk_program.Goals as goal
 
 pub walk_decls-requires : goal.walk_decls-requires

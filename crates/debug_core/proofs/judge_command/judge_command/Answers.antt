@@ -1,24 +1,12 @@
-use Rattle.std.proofs.Common.{Ok, refl}
-use Rattle.debug_core.specs.Causes.{Sides}
-use Rattle.debug_core.proofs.Closing.{judge_failed}
+use Rattle.std.proofs.Common.{List, ℕ, subst}
+use Rattle.debug_outcome.specs.Coming.{Comes, Never}
+use Rattle.debug_core.specs.JudgeMeaning.{JudgeMeans}
+use Rattle.debug_core.proofs.Calling.{both_loaded}
 use Rattle.debug_core.proofs.judge_command.judge_command.Goals as goal
 
 pub returns-in-Ok : goal.returns-in-Ok
-returns-in-Ok g c = record { outcome = Ok c.in-Ok.verdict; is = c.status_of.ensures; cause = c.in-Ok.ensures.judged; line = (refl, refl) }
-
-pub returns-in-Err : goal.returns-in-Err
-returns-in-Err g c =
-    let sides : Sides = record {
-      files = g.F.Files.told c.args.files.now;
-      reads = g.F.Files.faults c.args.files.now;
-      reads' = g.F.Files.faults c.judge_files.new.files;
-      out = g.O.Sink.told c.args.out.now;
-      out' = g.O.Sink.told c.judge_files.new.out;
-      writes = g.O.Sink.faults c.args.out.now;
-      writes' = g.O.Sink.faults c.judge_files.new.out;
-      err = g.E.Sink.told c.args.err.now;
-      err' = g.E.Sink.told c.fail.new.err;
-      lines = g.E.Sink.faults c.args.err.now;
-      lines' = g.E.Sink.faults c.fail.new.err;
-    } in
-    judge_failed c.args.asked.file.now c.args.asked.sequence.now c.args.asked.bound sides c.fail.result c.in-Err.failure c.in-Err.ensures.cause c.fail.ensures
+returns-in-Ok g c =
+    both_loaded (g.F.Files.told c.args.files.now) (g.F.Files.faults c.args.files.now) (g.F.Files.faults c.load_both.new.files) c.args.asked.file.now c.args.asked.sequence.now c.in-Ok.text.items c.in-Ok.lines.items c.args.asked.bound (g.O.Sink.told c.args.out.now) (g.O.Sink.told c.judge_text.new.out) (g.O.Sink.faults c.args.out.now) (g.O.Sink.faults c.judge_text.new.out)
+    c.judge_text.result c.in-Ok.ensures.loaded
+    (subst (λ (lines : List ℕ). Comes (JudgeMeans c.args.asked.bound c.in-Ok.text.items lines) Never (g.O.Sink.told c.args.out.now) (g.O.Sink.told c.judge_text.new.out) (g.O.Sink.faults c.args.out.now) (g.O.Sink.faults c.judge_text.new.out) c.judge_text.result) c.deref-in-Ok.ensures.value
+    (subst (λ (text : List ℕ). Comes (JudgeMeans c.args.asked.bound text c.deref-in-Ok.result.now) Never (g.O.Sink.told c.args.out.now) (g.O.Sink.told c.judge_text.new.out) (g.O.Sink.faults c.args.out.now) (g.O.Sink.faults c.judge_text.new.out) c.judge_text.result) c.deref.ensures.value c.judge_text.ensures))

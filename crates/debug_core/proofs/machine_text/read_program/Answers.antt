@@ -2,12 +2,12 @@ use Rattle.ada_tree.specs.PlainProgram.{plain_program}
 use Rattle.debug_core.proofs.MachineTexting.{machine_program, machine_legal, machine_beyond}
 use Rattle.debug_core.proofs.machine_text.read_program.Goals as goal
 
-pub returns-in-None-clause-program : goal.returns-in-None-clause-program
-returns-in-None-clause-program c =
+pub returns-clause-program : goal.returns-clause-program
+returns-clause-program c =
     machine_program c.args.text.now c.args.mode (plain_program c.in-Ok.read.program) c.in-Ok.read.types c.in-Ok.read.numbers c.in-Ok.ensures.program c.in-None.ensures
 
-pub returns-in-None-clause-legal : goal.returns-in-None-clause-legal
-returns-in-None-clause-legal c =
+pub returns-clause-legal : goal.returns-clause-legal
+returns-clause-legal c =
     machine_legal c.args.text.now c.args.mode (plain_program c.in-Ok.read.program) c.in-Ok.read.types c.in-Ok.read.numbers c.in-Ok.ensures.program c.in-None.ensures
 
 pub returns-in-Some-clause-cause : goal.returns-in-Some-clause-cause

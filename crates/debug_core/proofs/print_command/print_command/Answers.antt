@@ -1,20 +1,11 @@
-use Rattle.debug_core.specs.Causes.{Sides}
-use Rattle.debug_core.proofs.Printing.{print_failed}
+use Rattle.std.proofs.Common.{List, ℕ, subst}
+use Rattle.debug_outcome.specs.Coming.{Comes, Never}
+use Rattle.debug_core.specs.PrintMeaning.{PrintMeans}
+use Rattle.debug_core.proofs.Calling.{print_loaded}
 use Rattle.debug_core.proofs.print_command.print_command.Goals as goal
 
-pub returns-in-Err : goal.returns-in-Err
-returns-in-Err g c =
-    let sides : Sides = record {
-      files = g.F.Files.told c.args.files.now;
-      reads = g.F.Files.faults c.args.files.now;
-      reads' = g.F.Files.faults c.print_file.new.files;
-      out = g.O.Sink.told c.args.out.now;
-      out' = g.O.Sink.told c.print_file.new.out;
-      writes = g.O.Sink.faults c.args.out.now;
-      writes' = g.O.Sink.faults c.print_file.new.out;
-      err = g.E.Sink.told c.args.err.now;
-      err' = g.E.Sink.told c.fail.new.err;
-      lines = g.E.Sink.faults c.args.err.now;
-      lines' = g.E.Sink.faults c.fail.new.err;
-    } in
-    print_failed c.args.file.now sides c.fail.result c.in-Err.failure c.in-Err.ensures.cause c.fail.ensures
+pub returns-in-Ok : goal.returns-in-Ok
+returns-in-Ok g c =
+    print_loaded (g.F.Files.told c.args.files.now) (g.F.Files.faults c.args.files.now) (g.F.Files.faults c.load_file.new.files) c.args.file.now c.in-Ok.text.items (g.O.Sink.told c.args.out.now) (g.O.Sink.told c.print_text.new.out) (g.O.Sink.faults c.args.out.now) (g.O.Sink.faults c.print_text.new.out)
+    c.print_text.result c.in-Ok.ensures.loaded
+    (subst (λ (text : List ℕ). Comes (PrintMeans text) Never (g.O.Sink.told c.args.out.now) (g.O.Sink.told c.print_text.new.out) (g.O.Sink.faults c.args.out.now) (g.O.Sink.faults c.print_text.new.out) c.print_text.result) c.deref.ensures.value c.print_text.ensures)

@@ -7,5 +7,5 @@ returns-in-Ok-put_event-clause-lines g c =
 
 pub returns-in-Err-put_event-clause-cut : goal.returns-in-Err-put_event-clause-cut
 returns-in-Err-put_event-clause-cut g c =
-    line_broken _ c.args.numbers.now c.args.m.now c.apply.new.self c.args.action c.in-Ok.event c.in-Err-put_event.field-0 _ _
-    c.in-Ok.ensures.event c.in-Ok.ensures.after c.in-Err-put_event.ensures.bytes
+    line_broken _ c.args.numbers.now c.args.m.now c.apply.new.self c.args.action c.in-Ok.event c.in-Err-put_event.field-0 _ _ _ _
+    c.in-Ok.ensures.event c.in-Ok.ensures.after c.in-Err-put_event.ensures.bytes c.in-Err-put_event.ensures.cause

@@ -1,4 +1,4 @@
-use Rattle.std.proofs.Common.{◌≡◌, ◌∙◌, arith, Some}
+use Rattle.std.proofs.Common.{◌≡◌, ◌∙◌, arith, Some, refl}
 use Rattle.interp.specs.Chosen.{IsPicked}
 use Rattle.interp.specs.Picked.{halted}
 use Rattle.interp.proofs.Reaching.{Reached, reached_more, Stopped, stopped, cut_between, cut_within}
@@ -35,12 +35,14 @@ returns-in-Err-make-clause-cut_off g c =
     let chosen = rw c.in-Ok-Make.field-0-is at c.in-Ok-Make.ensures.chosen in
     cut_within g.C.Chooser.word g.C.Chooser.next c.loop-turn.turn c.args.turns c.args.numbers.now c.args.m.now c.args.choices.now c.loop-turn.m
     c.make.new.m c.loop-turn.choices c.choose.new.choices c.in-Ok-Make.action (g.K.Sink.told c.args.out.now) (g.K.Sink.told c.loop-turn.out)
-    (g.K.Sink.told c.make.new.out) c.loop-turn.invariant.0 chosen c.in-Err-make.ensures.cut (omega arith)
+    (g.K.Sink.told c.make.new.out) (g.K.Sink.faults c.args.out.now) (g.K.Sink.faults c.loop-turn.out) (g.K.Sink.faults c.make.new.out) c.in-Err-make.e
+    c.loop-turn.invariant.0 chosen c.in-Err-make.ensures.cut c.loop-turn.invariant.1 (omega arith)
 
 pub returns-in-Err-clause-cut_off : goal.returns-in-Err-clause-cut_off
 returns-in-Err-clause-cut_off g c =
-    cut_between g.C.Chooser.word g.C.Chooser.next c.loop-turn.turn c.args.turns c.args.numbers.now c.args.m.now c.args.choices.now c.loop-turn.m
-    c.loop-turn.choices (g.K.Sink.told c.args.out.now) (g.K.Sink.told c.loop-turn.out) c.loop-turn.invariant.0 (omega arith)
+    cut_between g.C.Chooser.word g.C.Chooser.next c.loop-turn.turn c.args.turns c.args.numbers.now c.args.m.now c.args.choices.now c.loop-turn.m c.loop-turn.m
+    c.loop-turn.choices (g.K.Sink.told c.args.out.now) (g.K.Sink.told c.loop-turn.out) (g.K.Sink.told c.loop-turn.out) (g.K.Sink.faults c.args.out.now) (g.K.Sink.faults c.loop-turn.out)
+    c.loop-turn.invariant.0 (omega arith) refl refl c.loop-turn.invariant.1
 
 pub loop-turn-preserved : goal.loop-turn-preserved
 loop-turn-preserved g c =

@@ -1,0 +1,5 @@
+//! The static rules at the choices of a case statement of Ada.
+#![tactic(auto)]
+
+pub mod choices;
+mod covered;

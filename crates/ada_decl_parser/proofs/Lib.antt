@@ -1,0 +1,3 @@
+pub mod DeclSteps
+pub mod MemberSteps
+pub mod Steps

@@ -1,0 +1,29 @@
+use Rattle.std.proofs.Common.{sym, ◌∙◌, rules, map}
+use Rattle.lawful_reader.specs.Readers.{items, fronted}
+use Rattle.ada_tree.specs.PlainExpr.{plain_expr}
+use Rattle.ada_expr_parser.specs.declared.symbols.Symbol.TheVariants as key
+use Rattle.ada_expr_parser.specs.Parts.{expression}
+use Rattle.ada_phrase_parser.specs.Reading.{is_symbol, key_then}
+use Rattle.ada_expr_parser.specs.Gives.{Fails}
+use Rattle.ada_phrase_parser.proofs.Lists.{grown, list_empty, list_over, list_fails, list_goes}
+use Rattle.ada_decl_parser.proofs.initials.parts_onto.Goals as goal
+
+pub returns-in_default-clause-tree : goal.returns-in_default-clause-tree
+returns-in_default-clause-tree c =
+    list_empty (is_symbol key.Comma) (key_then key.Comma (expression c.args.depth)) (map plain_expr c.parts.list.items) (map plain_expr c.args.list.now.items) c.parts.rest.now c.args.items.now c.parts.invariant c.in_default.len_below
+
+pub returns-then-not-is_comma-clause-tree : goal.returns-then-not-is_comma-clause-tree
+returns-then-not-is_comma-clause-tree c =
+    list_over (is_symbol key.Comma) (key_then key.Comma (expression c.args.depth)) (map plain_expr c.parts.list.items) (map plain_expr c.args.list.now.items) c.parts.rest.now c.args.items.now _ c.parts.invariant c.in-len1-up.len_at_least (sym c.is_comma.ensures ∙ c.if-not-is_comma.true)
+
+pub returns-in_err-part-clause-tree : goal.returns-in_err-part-clause-tree
+returns-in_err-part-clause-tree c =
+    let fails : Fails c.in_err-part.field-0.0 (fronted (map plain_expr c.args.list.now.items) (items (is_symbol key.Comma) (key_then key.Comma (expression c.args.depth)) c.args.items.now)) =
+    list_fails (is_symbol key.Comma) (key_then key.Comma (expression c.args.depth)) (map plain_expr c.parts.list.items) (map plain_expr c.args.list.now.items) c.parts.rest.now c.args.items.now _ c.in_err-part.field-0.0 c.parts.invariant c.in-len1-up.len_at_least (sym c.is_comma.ensures ∙ c.if-not-is_comma.false) c.in_err-part.ensures.tree in
+    search (rules, fails)
+
+pub parts-preserved : goal.parts-preserved
+parts-preserved c =
+    list_goes (is_symbol key.Comma) (key_then key.Comma (expression c.args.depth)) (map plain_expr c.parts.list.items) (map plain_expr c.args.list.now.items) c.parts.rest.now c.args.items.now _
+    (map plain_expr c.add.new.list.items) (plain_expr c.in_ok-part.part) c.in_ok-part.behind.now (grown plain_expr c.parts.list.items c.add.new.list.items c.in_ok-part.part c.in_ok-add.ensures.added) c.parts.invariant
+    c.in-len1-up.len_at_least (sym c.is_comma.ensures ∙ c.if-not-is_comma.false) c.in_ok-part.ensures.tree c.in_ok-part.ensures.shorter

@@ -1,0 +1,4 @@
+pub mod DeclViews
+pub mod MemberViews
+pub mod ReadingDeclarations
+pub mod Tasks

@@ -1,0 +1,163 @@
+-- How declarations are read: by the next item, and behind a name by what follows it. At a depth d, at most d levels may stand below the root of each expression.
+use Rattle.std.specs.Prelude.{ℕ, ◌+◌, nat_le, Bool, true, false, ◌||◌, List, [], ◌∷◌, Some, None, codes, if◌then◌else◌}
+use Rattle.lawful_reader.specs.Readers.{Reader, pure, refuse, bind, on, token, look, too_deep, items}
+use Rattle.ada_tree.specs.declared.naming.Span.{Span}
+use Rattle.ada_tree.specs.declared.naming.Word.{Word}
+use Rattle.ada_tree.specs.PlainExpr.{PExpr, PSubind, PDrange}
+use Rattle.ada_tree.specs.PlainDecl.{PShape, OPlain, ORow, PInit, IOne, IList, IOthers, PEntry, PTask, PDecl, DNumber, DObject, DEnumeration, DArray, DSubtype, DException, DIntIo, DTask}
+use Rattle.ada_expr_parser.specs.declared.symbols.Symbol.TheVariants as key
+use Rattle.ada_expr_parser.specs.declared.items.Item.{Item}
+use Rattle.ada_expr_parser.specs.Grammar.{word_item}
+use Rattle.ada_expr_parser.specs.Tests.{symbol, word}
+use Rattle.ada_expr_parser.specs.Trees.{levels, from_to, in_parens}
+use Rattle.ada_expr_parser.specs.Parts.{expression, expr_behind, subind, drange}
+use Rattle.ada_phrase_parser.specs.Spelling.{Source, id_of}
+use Rattle.ada_decl_parser.specs.Tasks.{Member, MEntry, MPriority, entries_in, priorities_in}
+use Rattle.ada_phrase_parser.specs.Reading.{is_symbol, key_then, last_key, closed, more_behind, separated, formals_from, Behind, behind_index, is_formal_mark, end_of, with_id, predefined_word, predefined_then}
+
+-- ---- shapes and initial values
+
+-- behind `array`: `( drange ) of subind`, and what follows it (3.6)
+abbrev pub array_then : {A : Type 0} → ℕ → (PDrange → PSubind → Reader Item A) → Reader Item A
+array_then d next =
+    key_then key.LeftParen (bind (drange d) (λ r. key_then key.RightParen (key_then key.Of (bind (subind d) (λ x. next r x)))))
+
+-- `subind | array ( drange ) of subind` (3.2)
+abbrev pub shape : ℕ → Reader Item PShape
+shape d = on (symbol key.Array) (λ at. array_then d (λ r x. pure (ORow r x))) (bind (subind d) (λ x. pure (OPlain x)))
+
+-- behind `( expr` and what was no comma: the parentheses stand for one level, and the expression may go on behind them
+abbrev pub parens_rest : ℕ → Span → PExpr → Reader Item PInit
+parens_rest d lead e ts =
+    if nat_le (levels e + 1) d
+    then bind (token (symbol key.RightParen)) (λ close. bind (expr_behind d (in_parens lead e close)) (λ whole. pure (IOne whole))) ts
+    else look (is_symbol key.RightParen) too_deep refuse ts
+
+-- behind `( expr`: further expressions, or the end of an expression in parentheses
+abbrev pub list_or_parens : ℕ → Span → PExpr → Reader Item PInit
+list_or_parens d lead e =
+    look (is_symbol key.Comma)
+    (bind (more_behind key.Comma (expression d)) (λ more. last_key key.RightParen (λ close. IList (e ∷ more) (from_to lead close))))
+    (parens_rest d lead e)
+
+-- behind `( others` (4.3.2)
+abbrev pub others_init : ℕ → Span → Reader Item PInit
+others_init d lead = key_then key.Arrow (bind (expression d) (λ e. last_key key.RightParen (λ close. IOthers e (from_to lead close))))
+
+-- `expr | ( expr , expr {, expr} ) | ( others => expr )` (3.2.1, 4.3.2)
+abbrev pub init : ℕ → Reader Item PInit
+init d =
+    on (symbol key.LeftParen) (λ lead. on (symbol key.Others) (λ at. others_init d lead) (bind (expression d) (list_or_parens d lead)))
+    (bind (expression d) (λ e. pure (IOne e)))
+
+-- ---- what begins with names
+
+-- behind `NAME {, NAME} :`, a variable (3.2.1)
+abbrev pub variable_rest : ℕ → Word → List Word → Reader Item PDecl
+variable_rest d w more =
+    bind (shape d) (λ x.
+    on (symbol key.Becomes) (λ at. bind (init d) (λ i. closed (λ close. DObject (w ∷ more) false x (Some i) (from_to w.span close))))
+    (closed (λ close. DObject (w ∷ more) false x None (from_to w.span close))))
+
+-- behind `NAME {, NAME} : constant` (3.2.1)
+abbrev pub constant_rest : ℕ → Word → List Word → Reader Item PDecl
+constant_rest d w more =
+    bind (shape d) (λ x. key_then key.Becomes (bind (init d) (λ i. closed (λ close. DObject (w ∷ more) true x (Some i) (from_to w.span close)))))
+
+abbrev pub object_rest : ℕ → Word → List Word → Reader Item PDecl
+object_rest d w more = on (symbol key.Constant) (λ at. constant_rest d w more) (variable_rest d w more)
+
+-- behind `NAME {, NAME} : constant`: with one name it may be a number (3.2.2)
+abbrev pub number_or_constant : ℕ → Word → List Word → Reader Item PDecl
+number_or_constant d w [] =
+    on (symbol key.Becomes) (λ at. bind (expression d) (λ e. closed (λ close. DNumber w e (from_to w.span close)))) (constant_rest d w [])
+number_or_constant d w (v ∷ more) = constant_rest d w (v ∷ more)
+
+-- behind `NAME {, NAME} :` (3.2, 11.1)
+abbrev pub named_rest : ℕ → Word → List Word → Reader Item PDecl
+named_rest d w more =
+    on (symbol key.Exception) (λ at. closed (λ close. DException (w ∷ more) (from_to w.span close)))
+    (on (symbol key.Constant) (λ at. number_or_constant d w more) (variable_rest d w more))
+
+-- `{, NAME} :` behind a first name
+abbrev pub names_behind : (Word → List Word → Reader Item PDecl) → Word → Reader Item PDecl
+names_behind next w = bind (more_behind key.Comma (token word)) (λ more. key_then key.Colon (next w more))
+
+-- an object alone (3.2.1)
+abbrev pub object : ℕ → Reader Item PDecl
+object d = bind (token word) (names_behind (object_rest d))
+
+-- ---- types, subtypes, instances and pragmas
+
+-- behind `type NAME is` (3.5.1, 3.6)
+abbrev pub type_rest : ℕ → Span → Word → Reader Item PDecl
+type_rest d lead w =
+    on (symbol key.LeftParen) (λ at. bind (separated key.Comma (token word)) (λ ws. key_then key.RightParen (closed (λ close. DEnumeration w ws (from_to lead close)))))
+    (on (symbol key.Array) (λ at. array_then d (λ r x. closed (λ close. DArray w r x (from_to lead close)))) refuse)
+
+-- behind `subtype NAME is` (3.3.2)
+abbrev pub subtype_rest : ℕ → Span → Word → Reader Item PDecl
+subtype_rest d lead w = bind (subind d) (λ x. closed (λ close. DSubtype w x (from_to lead close)))
+
+-- behind `package NAME is new [TEXT_IO .]` (12.3, this project's form)
+abbrev pub instance_rest : Span → Word → Reader Item PDecl
+instance_rest lead w =
+    predefined_then (codes "INTEGER_IO") (key_then key.LeftParen (predefined_then (codes "INTEGER") (key_then key.RightParen (key_then key.Semicolon
+    (key_then key.Use (bind (token (with_id w.name.0)) (λ same. closed (λ close. DIntIo w (from_to lead close)))))))))
+
+-- behind `package NAME is`
+abbrev pub instance : Span → Word → Reader Item PDecl
+instance lead w =
+    key_then key.New (on (predefined_word (codes "TEXT_IO")) (λ at. key_then key.Dot (instance_rest lead w)) (instance_rest lead w))
+
+-- behind `pragma`: `PRIORITY ( expr ) ;` (2.8, 9.8)
+abbrev pub priority : {A : Type 0} → Source → ℕ → (PExpr → Span → A) → Reader Item A
+priority source d tree =
+    bind (token (with_id (id_of source.names (codes "PRIORITY")))) (λ w. key_then key.LeftParen (bind (expression d) (λ e.
+    key_then key.RightParen (closed (λ close. tree e close)))))
+
+-- ---- tasks
+
+-- a discrete range whose first name has been read: by the items from that name on
+abbrev pub drange_from : ℕ → Word → Reader Item PDrange
+drange_from d w ts = drange d (word_item w ∷ ts)
+
+-- behind `entry NAME (` and a name
+abbrev pub entry_name : ℕ → Word → Reader Item (Behind PDrange)
+entry_name d w =
+    look is_formal_mark (bind (formals_from w) (λ fs. pure record { index = None; formals = fs })) (bind (drange_from d w) behind_index)
+
+-- behind `entry NAME`: the range of a family, formals, or both (9.5)
+abbrev pub entry_behind : ℕ → Reader Item (Behind PDrange)
+entry_behind d =
+    on (symbol key.LeftParen) (λ lead. on word (entry_name d) (bind (drange d) behind_index)) (pure record { index = None; formals = [] })
+
+-- behind `entry`
+abbrev pub entry_of : Word → Behind PDrange → Span → PEntry
+entry_of w x at = record { name = w; family = x.index; formals = x.formals; span = at }
+
+abbrev pub entry_rest : ℕ → Span → Reader Item PEntry
+entry_rest d lead = bind (token word) (λ w. bind (entry_behind d) (λ x. closed (λ close. entry_of w x (from_to lead close))))
+
+-- an entry or a pragma of a task
+abbrev pub begins_member : Item → Bool
+begins_member x = is_symbol key.Entry x || is_symbol key.Pragma x
+
+abbrev pub member : Source → ℕ → Reader Item Member
+member source d =
+    on (symbol key.Entry) (λ lead. bind (entry_rest d lead) (λ x. pure (MEntry x)))
+    (on (symbol key.Pragma) (λ lead. priority source d (λ e close. MPriority e)) refuse)
+
+-- the task with these members
+abbrev pub task_of : Bool → Word → List Member → PTask
+task_of of_kind w members = record { name = w; of_kind = of_kind; entries = entries_in members; priorities = priorities_in 0 members }
+
+-- behind `task [type] NAME` (9.1)
+abbrev pub task_rest : Source → ℕ → Span → Bool → Word → Reader Item PDecl
+task_rest source d lead of_kind w =
+    on (symbol key.Semicolon) (λ close. pure (DTask (task_of of_kind w []) (from_to lead close)))
+    (key_then key.Is (bind (items begins_member (member source d)) (λ members. end_of w (λ close. DTask (task_of of_kind w members) (from_to lead close)))))
+
+-- ---- bodies
+
+-- ---- all declarations

@@ -1,0 +1,106 @@
+// What the rules refuse first in the declarations of tasks and task types, with their entries.
+#![tactic(auto, using(ada_rules::proofs::Meeting::meeting))]
+
+ghost use Rattle.std.specs.Prelude.{◌≡◌, None, map, flat_map, option_map, IfOk};
+ghost use Rattle.ada_tree.specs.PlainExpr.{plain_drange};
+ghost use Rattle.ada_tree.specs.PlainDecl.{plain_entry, plain_priority, plain_task};
+ghost use Rattle.syn_event.specs.Surrounding.{Surrounding, needs_body};
+ghost use Rattle.syn_event.specs.Spots.{if_there, expr_spots, family_spots, entry_spots, task_spots};
+ghost use Rattle.ada_rules.specs.Met.{Standard as By, met_at, met};
+ghost use Rattle.ada_declaration_places.specs.Places.{numbers_in};
+
+use crate::objects::refuse_size;
+use ada_part_places::{walk_drange, walk_expr, walk_formals};
+use ada_rules::{Refusal, Rule, Standard, first, refuse_formals, refuse_if};
+use ada_surroundings::{NameSet, Surroundings};
+use ada_tree::{Drange, EntryDecl, Priority, Span, TaskUnit};
+use std::alloc::AllocError;
+use syn_event::What;
+
+// The range of a family.
+fn walk_family(
+    around: &Surroundings,
+    by: &Standard,
+    family: &Option<Drange>,
+) -> Result<Option<Refusal>, AllocError>
+    ensures { IfOk result (λ r. r ≡ met by.now (if_there (family_spots around.now) (option_map plain_drange family.now))) }
+{
+    match family {
+        Some(range) => {
+            let many = refuse_size(around, by, What::Members, range);
+            Ok(first(many, walk_drange(around, by, 2, range)?))
+        }
+        None => Ok(None),
+    }
+}
+
+// An entry.
+fn walk_entry(
+    around: &Surroundings,
+    by: &Standard,
+    entry: &EntryDecl,
+) -> Result<Option<Refusal>, AllocError>
+    ensures { IfOk result (λ r. r ≡ met by.now (entry_spots around.now (plain_entry entry.now))) }
+{
+    let name = by.refuse_name(entry.name);
+    let family = walk_family(around, by, &entry.family)?;
+    let formals = walk_formals(by, &entry.formals);
+    let many = refuse_formals(by, &entry.formals);
+    Ok(first(first(first(name, family), formals), many))
+}
+
+// The entries of a task.
+fn walk_entries(
+    around: &Surroundings,
+    by: &Standard,
+    entries: &[EntryDecl],
+) -> Result<Option<Refusal>, AllocError>
+    ensures { IfOk result (λ r. r ≡ met by.now (flat_map (entry_spots around.now) (map plain_entry entries.now))) }
+{
+    let mut refusal = None;
+    for entry in entries {
+        let found = walk_entry(around, by, entry)?;
+        refusal = first(refusal, found);
+    }
+    Ok(refusal)
+}
+
+// The priorities of a task.
+fn walk_priorities(
+    around: &Surroundings,
+    by: &Standard,
+    priorities: &[Priority],
+) -> Result<Option<Refusal>, AllocError>
+    ensures { IfOk result (λ r. r ≡ met by.now (flat_map (λ p. expr_spots around.now 2 p.value) (map plain_priority priorities.now))) }
+{
+    let mut refusal = None;
+    for priority in priorities {
+        let found = walk_expr(around, by, 2, &priority.value)?;
+        refusal = first(refusal, found);
+    }
+    Ok(refusal)
+}
+
+// A task or task type without a body.
+fn refuse_bodiless(bodies: &NameSet, unit: &TaskUnit, span: Span) -> Option<Refusal>
+    ensures { (by : By) → (around : Surrounding) → result ≡ met_at by around (needs_body (numbers_in bodies.now) unit.now.name span) }
+{
+    refuse_if(!bodies.has(unit.name.name), Rule::BodyMissing, span)
+}
+
+/// A task or task type.
+pub(crate) fn walk_task(
+    around: &Surroundings,
+    by: &Standard,
+    bodies: &NameSet,
+    unit: &TaskUnit,
+    span: Span,
+) -> Result<Option<Refusal>, AllocError>
+    ensures { IfOk result (λ r. r ≡ met by.now (task_spots around.now (numbers_in bodies.now) (plain_task unit.now) span)) }
+{
+    let missing = refuse_bodiless(bodies, unit, span);
+    let name = by.refuse_name(unit.name);
+    let entries = walk_entries(around, by, &unit.entries)?;
+    let priorities = walk_priorities(around, by, &unit.priorities)?;
+    Ok(first(first(first(missing, name), entries), priorities))
+}

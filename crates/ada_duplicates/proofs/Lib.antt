@@ -1,0 +1,3 @@
+pub mod Repeating
+pub mod Noting
+pub mod Behind

@@ -1,0 +1,53 @@
+-- What is refused first of an accept, and how its formals are compared with those of its entry.
+use Rattle.std.specs.Prelude.{◌≡◌, ℕ, zero, suc, ◌<◌, Bool, false, List, [], ◌∷◌, ◌++◌, length, map, drop, Option, refl}
+use Rattle.std.proofs.Common.{sym, ap, ◌∙◌, arith}
+use Rattle.ada_tree.specs.declared.naming.Word.{Word}
+use Rattle.ada_tree.specs.PlainStmt.{PFormal, PHead}
+use Rattle.ada_tree.specs.Refusals.{Refusal}
+use Rattle.ada_tree.specs.Scope.{Scope, entry_named}
+use Rattle.ada_tree.specs.Demand.{accepts}
+use Rattle.ada_tree.specs.Declaring.{inside}
+use Rattle.ada_tree.specs.RuleArgCount.{Written, are_same}
+use Rattle.ada_tree.specs.Sites.{site, if_there, names_sites, all_names, accept_index_sites, formal_mark_sites, formals_sites, head_sites}
+use Rattle.ada_refusals.specs.Sooner.{sooner}
+use Rattle.ada_refusals.specs.Met.{met_at, met}
+use Rattle.ada_scopes.specs.Entries.{plain_part}
+use Rattle.ada_entry_rules.specs.Accepts.{written_of}
+use Rattle.ada_scopes.specs.declared.things.FormalPart.{FormalPart}
+use Rattle.ada_refusals.proofs.Meeting.{names_met, met_append, joined, before}
+
+pub formals_met : (scope : Scope) (formals : List PFormal) (p : Option Refusal) → p ≡ met (formal_mark_sites scope formals) → p ≡ met (formals_sites scope formals)
+formals_met scope formals p is_p =
+    is_p
+    ∙ ap (λ o. sooner o (met (formal_mark_sites scope formals))) (names_met false (inside scope) (all_names formals))
+    ∙ sym (met_append (names_sites false (inside scope) (all_names formals)) (formal_mark_sites scope formals))
+
+-- the entry, the index and the formals of an accept
+pub head_met : (scope : Scope) (h : PHead) (p q r : Option Refusal)
+    → p ≡ met_at scope (accepts h)
+    → q ≡ met (if_there (accept_index_sites scope (entry_named scope.own h.entry.name)) h.index)
+    → r ≡ met (formals_sites scope h.formals)
+    → sooner (sooner p q) r ≡ met (head_sites scope h)
+head_met scope h p q r is_p is_q is_r =
+    let index = if_there (accept_index_sites scope (entry_named scope.own h.entry.name)) h.index in
+    joined (site scope (accepts h) ∷ index) (formals_sites scope h.formals) (sooner p q) r (before scope (accepts h) index p q is_p is_q) is_r
+
+-- ---- formals one by one
+
+-- a formal of an accept is left where none of its entry is
+left_over : (f : PFormal) (names : List Word) (i : ℕ) (behind : List Written) → i < length names → are_same (map (written_of f) (drop i names) ++ behind) [] ≡ false
+left_over f [] i behind h = absurd (omega arith)
+left_over f (w ∷ ws) zero behind h = refl
+left_over f (w ∷ ws) (suc i) behind h = left_over f ws i behind (omega arith)
+
+nothing : {A : Type 0} (xs : List A) → length xs < 1 → xs ≡ []
+nothing [] h = refl
+nothing (x ∷ xs) h = absurd (omega arith)
+
+pub no_part : (f : PFormal) (names : List Word) (i : ℕ) (behind : List Written) (rest : List FormalPart) (all : Bool) → i < length names → length rest < 1
+    → are_same (map (written_of f) (drop i names) ++ behind) (map plain_part rest) ≡ all
+    → all ≡ false
+no_part f names i behind rest all h g before =
+    sym before
+    ∙ ap (λ fs. are_same (map (written_of f) (drop i names) ++ behind) (map plain_part fs)) (nothing rest g)
+    ∙ left_over f names i behind h

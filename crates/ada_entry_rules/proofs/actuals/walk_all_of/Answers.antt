@@ -1,0 +1,12 @@
+use Rattle.ada_tree.specs.PlainExpr.{plain_expr}
+use Rattle.ada_tree.specs.Sites.{expr_of}
+use Rattle.ada_refusals.proofs.Listing.{list_more, list_end}
+use Rattle.ada_entry_rules.proofs.actuals.walk_all_of.Goals as goal
+
+pub loop-e-preserved : goal.loop-e-preserved
+loop-e-preserved c =
+    list_more plain_expr (expr_of c.args.scope.now c.args.kind) c.args.list.now c.loop-e.e-index c.e-item.result c.loop-e.refusal c.walk_of.result.refusal c.first-refusal.result _
+    c.loop-e-test.true c.e-item.is c.loop-e.invariant c.walk_of.ensures.refusal_is c.first-refusal.ensures
+
+pub returns : goal.returns
+returns c = list_end plain_expr (expr_of c.args.scope.now c.args.kind) c.args.list.now c.loop-e.e-index c.loop-e.refusal _ c.loop-e-test.false c.loop-e.invariant

@@ -1,0 +1,17 @@
+use Rattle.std.proofs.Common.{◌∙◌, ap, [], map}
+use Rattle.ada_tree.specs.PlainStmt.{plain_formal}
+use Rattle.ada_tree.specs.PlainDecl as decl
+use Rattle.ada_tree.specs.Declaring.{formal_parts}
+use Rattle.ada_tree.specs.Sites.{formals_sites}
+use Rattle.ada_refusals.specs.Met.{met}
+use Rattle.ada_entry_rules.proofs.EntryDecls.{entry_met, entry_is}
+use Rattle.ada_entry_rules.proofs.entries.walk_entry.Goals as goal
+
+pub returns : goal.returns
+returns c =
+    let scope = c.args.scope.now in
+    let entry = decl.plain_entry c.args.entry.now in
+    record {
+      part_is = entry_is scope entry _ _ c.walk_family-walked.ensures.family_is (c.in_ok-parts.ensures ∙ ap (λ xs. formal_parts scope (map plain_formal xs)) c.deref-2.ensures.value);
+      refusal_is = c.first.ensures ∙ entry_met scope [] entry _ _ c.walk_family-walked.ensures.refusal_is (c.walk_formals-formals.ensures ∙ ap (λ xs. met (formals_sites scope (map plain_formal xs))) c.deref.ensures.value);
+    }

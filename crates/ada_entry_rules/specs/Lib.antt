@@ -1,0 +1,5 @@
+pub mod Targets
+pub mod Actuals
+pub mod Calls
+pub mod Accepts
+pub mod EntryDecls

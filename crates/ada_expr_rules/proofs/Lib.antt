@@ -1,0 +1,4 @@
+pub mod Operands
+pub mod Knowing
+pub mod Bounding
+pub mod Expressions

@@ -1,0 +1,5 @@
+pub mod Asking
+pub mod Walking
+pub mod Naming
+pub mod Claiming
+pub mod Forming

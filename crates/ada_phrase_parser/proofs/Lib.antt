@@ -1,0 +1,5 @@
+pub mod Lists
+pub mod Marks
+pub mod Named
+pub mod Steps
+pub mod Texts

@@ -1,0 +1,5 @@
+pub mod SoonerLaws
+pub mod Meeting
+pub mod Listing
+pub mod FirstRefusal
+pub mod Outcomes

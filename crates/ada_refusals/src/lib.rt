@@ -1,0 +1,6 @@
+//! What the first twelve static rules of Ada refuse, and which of several refusals comes first.
+#![tactic(auto)]
+
+pub mod errors;
+pub mod refusals;
+pub mod verdicts;

@@ -1,0 +1,5 @@
+pub mod Rules
+pub mod Sooner
+pub mod Met
+pub mod Amounts
+pub mod Counted

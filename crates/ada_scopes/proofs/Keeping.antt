@@ -1,0 +1,98 @@
+-- What is looked up in a list that is one longer.
+use Rattle.std.specs.Prelude.{◌≡◌, ◌==◌, ◌<◌, ◌≤◌, ◌+◌, ℕ, nat_eq, nat_lt, Bool, true, false, if◌then◌else◌, List, [], ◌∷◌, ◌++◌, length, take, find, position, Option, Some, None, refl, Result, Ok, Err, OnOk, IfOk}
+use Rattle.std.proofs.Common.{sym, ap, ◌∙◌, get_or, arith}
+use Rattle.std.specs.HashMap.{HashMap, get}
+use Rattle.std.specs.List.{position_or_len}
+use Rattle.std.proofs.lemmas.List.{length_push, take_more, length-take-le}
+use Rattle.std.proofs.lemmas.List.Folds.{position_or_len_push}
+use Rattle.std.proofs.lemmas.List.Sums.{prefix_len-le-length}
+use Rattle.std.proofs.lemmas.Bool.Decides.{nat_tests}
+use Rattle.ada_tree.specs.declared.naming.NameId.{NameId}
+use Rattle.ada_tree.specs.declared.static_types.Kind.{Kind}
+use Rattle.ada_tree.specs.StaticValue.{first_of_two, position_in, literal_position}
+
+pub on_ok : {A E P Q : Type 0} (r : Result A E) → (P → Q) → OnOk r P → OnOk r Q
+on_ok (Ok x) f h = f h
+on_ok (Err e) f h = h
+
+pub if_ok : {A E : Type 0} {P Q : A → Type 0} (r : Result A E) → ((x : A) → P x → Q x) → IfOk r P → IfOk r Q
+if_ok (Ok x) f h = f x h
+if_ok (Err e) f h = h
+
+pub first_of_three : {A : Type 0} (a b c : Option A) → first_of_two (first_of_two a b) c ≡ first_of_two a (first_of_two b c)
+first_of_three None b c = refl
+first_of_three (Some x) b c = refl
+
+pub or_none : {A : Type 0} (a : Option A) → first_of_two a None ≡ a
+or_none None = refl
+or_none (Some x) = refl
+
+found_test : {X : Type 0} (x : X) (o r q : Option X) (b : Bool) → o ≡ first_of_two r q → (if b then Some x else o) ≡ first_of_two (if b then Some x else r) q
+found_test x o r q true h = refl
+found_test x o r q false h = h
+
+pub find_push : {X : Type 0} (p : X → Bool) (xs : List X) (y : X) → find p (xs ++ y ∷ []) ≡ first_of_two (find p xs) (if p y then Some y else None)
+find_push p [] y = refl
+find_push p (x ∷ xs) y = found_test x (find p (xs ++ y ∷ [])) (find p xs) (if p y then Some y else None) (p x) (find_push p xs y)
+
+abbrev place_in : ℕ → ℕ → Option ℕ
+place_in place count = if nat_lt place count then Some place else None
+
+at_end : (place count : ℕ) (b : Bool) → place ≤ count → place_in (if place == count then count + (if b then 0 else 1) else place) (count + 1) ≡ first_of_two (place_in place count) (if b then Some count else None)
+at_end place count true h = grind (arith, nat_tests)
+at_end place count false h = grind (arith, nat_tests)
+
+pub position_push : {X : Type 0} (p : X → Bool) (xs : List X) (y : X) → position p (xs ++ y ∷ []) ≡ first_of_two (position p xs) (if p y then Some (length xs) else None)
+position_push p xs y =
+    ap (λ n. place_in n (length (xs ++ y ∷ []))) (position_or_len_push p xs y)
+    ∙ ap (place_in _) (length_push xs y)
+    ∙ at_end (position_or_len p xs) (length xs) (p y) (prefix_len-le-length _ xs)
+
+pub literal_push : (kinds : List Kind) (kind : Kind) (id : NameId) → literal_position (kinds ++ kind ∷ []) id ≡ first_of_two (literal_position kinds id) (position_in id kind)
+literal_push [] kind id = or_none (position_in id kind)
+literal_push (k ∷ kinds) kind id = ap (first_of_two (position_in id k)) (literal_push kinds kind id) ∙ sym (first_of_three (position_in id k) (literal_position kinds id) (position_in id kind))
+
+pub position_more : {X : Type 0} (p : X → Bool) (xs : List X) (i : ℕ) (d : X) → i < length xs → position p (take (i + 1) xs) ≡ first_of_two (position p (take i xs)) (if p (get_or xs i d) then Some i else None)
+position_more p xs i d h =
+    ap (position p) (take_more xs i d h)
+    ∙ position_push p (take i xs) (get_or xs i d)
+    ∙ ap (λ n. first_of_two (position p (take i xs)) (if p (get_or xs i d) then Some n else None)) (length-take-le i xs (omega (arith, h)))
+
+-- the positions that are kept behind a literal more
+pub literal_more : {S : Type 0} (start so_far grown : HashMap ℕ ℕ S) (names : List NameId) (i place : ℕ) (d : NameId) → i < length names → place ≡ i
+    → ((q : ℕ) → get nat_eq so_far q ≡ first_of_two (get nat_eq start q) (position (λ n. n.0 == q) (take i names)))
+    → ((q : ℕ) → get nat_eq grown q ≡ first_of_two (get nat_eq so_far q) (if (get_or names i d).0 == q then Some place else None))
+    → (q : ℕ) → get nat_eq grown q ≡ first_of_two (get nat_eq start q) (position (λ n. n.0 == q) (take (i + 1) names))
+literal_more start so_far grown names i place d h at kept grows q =
+    let name : Option ℕ = if (get_or names i d).0 == q then Some i else None in
+    grows q
+    ∙ ap (λ k. first_of_two (get nat_eq so_far q) (if (get_or names i d).0 == q then Some k else None)) at
+    ∙ ap (λ o. first_of_two o name) (kept q)
+    ∙ first_of_three (get nat_eq start q) (position (λ n. n.0 == q) (take i names)) name
+    ∙ ap (first_of_two (get nat_eq start q)) (sym (position_more (λ n. n.0 == q) names i d h))
+
+-- the places that are kept behind one more, by the key of each
+pub place_more : {X S : Type 0} (key : X → ℕ) (start so_far grown : HashMap ℕ ℕ S) (xs : List X) (i : ℕ) (x : X) → i < length xs → x ≡ get_or xs i x
+    → ((q : ℕ) → get nat_eq so_far q ≡ first_of_two (get nat_eq start q) (position (λ y. key y == q) (take i xs)))
+    → ((q : ℕ) → get nat_eq grown q ≡ first_of_two (get nat_eq so_far q) (if key x == q then Some i else None))
+    → (q : ℕ) → get nat_eq grown q ≡ first_of_two (get nat_eq start q) (position (λ y. key y == q) (take (i + 1) xs))
+place_more key start so_far grown xs i x h is kept grows q =
+    let here : Option ℕ = if key (get_or xs i x) == q then Some i else None in
+    grows q
+    ∙ ap (λ y. first_of_two (get nat_eq so_far q) (if key y == q then Some i else None)) is
+    ∙ ap (λ o. first_of_two o here) (kept q)
+    ∙ first_of_three (get nat_eq start q) (position (λ y. key y == q) (take i xs)) here
+    ∙ ap (first_of_two (get nat_eq start q)) (sym (position_more (λ y. key y == q) xs i x h))
+
+-- the positions that are kept behind a kind more
+pub kind_kept : {S : Type 0} (kinds longer : List Kind) (kind : Kind) (literals grown : HashMap ℕ ℕ S) → longer ≡ kinds ++ kind ∷ []
+    → ((id : NameId) → get nat_eq literals id.0 ≡ literal_position kinds id)
+    → ((id : NameId) → get nat_eq grown id.0 ≡ first_of_two (get nat_eq literals id.0) (position_in id kind))
+    → (id : NameId) → get nat_eq grown id.0 ≡ literal_position longer id
+kind_kept kinds longer kind literals grown is kept grows id =
+    grows id
+    ∙ ap (λ o. first_of_two o (position_in id kind)) (kept id)
+    ∙ sym (literal_push kinds kind id)
+    ∙ ap (λ l. literal_position l id) (sym is)
+
+pub ruleset keeping = (find_push, position_push, position_more, or_none, first_of_three)

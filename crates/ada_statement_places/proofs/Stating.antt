@@ -1,0 +1,154 @@
+-- What is refused first in a statement, or in a member of a list of the tree, is what is refused first at its places.
+use Rattle.std.specs.Prelude.{◌≡◌, ℕ, ◌+◌, List, [], ◌∷◌, ◌++◌, map, flat_map, Option, Some, None, refl}
+use Rattle.std.proofs.Common.{sym, ap, ◌∙◌}
+use Rattle.std.proofs.lemmas.List.{append-nil}
+use Rattle.ada_tree.specs.declared.naming.Span.{Span}
+use Rattle.ada_tree.specs.PlainExpr.{PExpr, plain_expr}
+use Rattle.ada_tree.specs.declared.statements.Stmt.{Stmt}
+use Rattle.ada_tree.specs.declared.statements.CaseChoice.{CaseChoice}
+use Rattle.ada_tree.specs.declared.statements.Arm.{Arm, out-Arm}
+use Rattle.ada_tree.specs.declared.statements.CaseArm.{CaseArm, out-CaseArm}
+use Rattle.ada_tree.specs.declared.statements.Handler.{Handler, out-Handler}
+use Rattle.ada_tree.specs.PlainStmt.{plain_stmt, plain_arm, plain_case_arm, plain_choice, plain_handler, row_of, PHead, PAccept, accepting, PStmt, SNull, SAssign, SDelay, SExit, SRaise, SAbort, SCall, SAccept, SWait, SConditional, STimed, SPut, SPutLine, SNewLine, SGet, SIf, SCase, SBlock, SLoop, PStmts, stmt_then, PMaybe, absent, present, PAlt, PAlts, alt_then, alternative, PAltKind, AAccept, ADelay, ATerminate, PArm, PArms, arm_then, arm, PCaseArm, PCaseArms, case_arm_then, case_arm, PBody, body, PHandler, PHandlers, handler_then, handler}
+use Rattle.ada_tree.specs.Sites.{is_present}
+use Rattle.ada_tree.proofs.Rows.{plain_arm-out, plain_case_arm-out, plain_handler-out}
+use Rattle.syn_event.specs.declared.limits.What.TheVariants.{Nesting, Alternatives}
+use Rattle.syn_event.specs.CheckRefusals.{CheckRefusal}
+use Rattle.syn_event.specs.Surrounding.{Surrounding, Spot, declares, waits, exits, counts}
+use Rattle.syn_event.specs.Spots.{spot, stands, if_there, numbered, alt_places, in_accept, in_loop, handling, expr_spots, target_spots, aborted_spots, call_spots, select_spots, part_spots, choice_spots, scheme_spots, head_spots, delay_spots, raise_spots, stmt_spots, stmts_spots, maybe_spots, accept_spots, alts_spots, alt_spots, arms_spots, case_arms_spots, body_spots, handlers_spots}
+use Rattle.ada_rules.specs.Sooner.{sooner}
+use Rattle.ada_rules.specs.Met.{Standard, met_at, met}
+use Rattle.ada_part_places.specs.WalkedExpr.{deep}
+use Rattle.ada_statement_places.specs.Walked.{kind_own_met, kind_met, alt_met, arm_met, case_arm_met, handler_met, stmt_met}
+use Rattle.ada_rules.proofs.SoonerLaws.{sooner_assoc, sooner_none}
+use Rattle.ada_rules.proofs.Meeting.{met_none, met_cons, met_one, met_append, before, joined}
+use Rattle.ada_part_places.proofs.Walking.{under, alone}
+
+-- places behind others, in one list with those that come before
+three : (by : Standard) (xs ys zs : List Spot) → met by (xs ++ ys ++ zs) ≡ sooner (met by xs) (sooner (met by ys) (met by zs))
+three by xs ys zs = met_append by (xs ++ ys) zs ∙ ap (λ o. sooner o (met by zs)) (met_append by xs ys) ∙ sooner_assoc (met by xs) (met by ys) (met by zs)
+
+-- ---- one member more of a list
+
+pub arms_next : (by : Standard) (around : Surrounding) (k : ℕ) (x : PArm) (l : PArms) → met by (arms_spots around k (arm_then x l)) ≡ sooner (arm_met by around k x) (met by (arms_spots around k l))
+arms_next by around k (arm e l) rest =
+    three by (expr_spots around k e) (stmts_spots around k l) (arms_spots around k rest) ∙ sym (sooner_assoc (met by (expr_spots around k e)) (met by (stmts_spots around k l)) (met by (arms_spots around k rest)))
+
+pub case_arms_next : (by : Standard) (around : Surrounding) (k : ℕ) (x : PCaseArm) (l : PCaseArms) → met by (case_arms_spots around k (case_arm_then x l)) ≡ sooner (case_arm_met by around k x) (met by (case_arms_spots around k l))
+case_arms_next by around k (case_arm choices l) rest =
+    three by (flat_map (choice_spots around k) choices) (stmts_spots around k l) (case_arms_spots around k rest)
+    ∙ sym (sooner_assoc (met by (flat_map (choice_spots around k) choices)) (met by (stmts_spots around k l)) (met by (case_arms_spots around k rest)))
+
+pub handlers_next : (by : Standard) (around : Surrounding) (k : ℕ) (x : PHandler) (l : PHandlers) → met by (handlers_spots around k (handler_then x l)) ≡ sooner (handler_met by around k x) (met by (handlers_spots around k l))
+handlers_next by around k (handler ws l s) rest =
+    met_cons by around (counts Nesting 0 k s) (stmts_spots (handling around) (k + 1) l ++ handlers_spots around k rest)
+    ∙ ap (sooner (deep by around k s)) (met_append by (stmts_spots (handling around) (k + 1) l) (handlers_spots around k rest))
+    ∙ sym (sooner_assoc (deep by around k s) (met by (stmts_spots (handling around) (k + 1) l)) (met by (handlers_spots around k rest)))
+
+alt_parts : (by : Standard) (around : Surrounding) (k : ℕ) (g : Option PExpr) (s : Span) (x : PAltKind) → met by (alt_spots around k g s x) ≡ sooner (kind_own_met by around k g s x) (kind_met by around k x)
+alt_parts by around k g s (AAccept (accepting h o) l) = three by (head_spots around k h) (maybe_spots (in_accept around h) (k + 1) o) (stmts_spots around k l)
+alt_parts by around k g s (ADelay d l) = met_append by (delay_spots around k g s) (stmts_spots around k l)
+alt_parts by around k g s ATerminate = met_none by
+
+-- what an alternative asks itself, the statements in it, and the alternatives behind it
+regrouped : (a b c d e : Option CheckRefusal) → sooner a (sooner b (sooner (sooner c d) e)) ≡ sooner (sooner (sooner a (sooner b c)) d) e
+regrouped a b c d e =
+    ap (λ o. sooner a (sooner b o)) (sooner_assoc c d e)
+    ∙ ap (sooner a) (sym (sooner_assoc b c (sooner d e)))
+    ∙ sym (sooner_assoc a (sooner b c) (sooner d e))
+    ∙ sym (sooner_assoc (sooner a (sooner b c)) d e)
+
+pub alts_next : (by : Standard) (around : Surrounding) (k : ℕ) (x : PAlt) (l : PAlts) → met by (alts_spots around k (alt_then x l)) ≡ sooner (alt_met by around k x) (met by (alts_spots around k l))
+alts_next by around k (alternative g x s) rest =
+    met_cons by around (counts Nesting 0 k s) (if_there (expr_spots around (k + 1)) g ++ alt_spots around (k + 1) g s x ++ alts_spots around k rest)
+    ∙ ap (sooner (deep by around k s)) (three by (if_there (expr_spots around (k + 1)) g) (alt_spots around (k + 1) g s x) (alts_spots around k rest))
+    ∙ ap (λ o. sooner (deep by around k s) (sooner (met by (if_there (expr_spots around (k + 1)) g)) (sooner o (met by (alts_spots around k rest))))) (alt_parts by around (k + 1) g s x)
+    ∙ regrouped (deep by around k s) (met by (if_there (expr_spots around (k + 1)) g)) (kind_own_met by around (k + 1) g s x) (kind_met by around (k + 1) x) (met by (alts_spots around k rest))
+
+-- ---- statements
+
+-- a statement that asks nothing but how deep it stands
+only : (a : Option CheckRefusal) → sooner (sooner a None) None ≡ a
+only a = sooner_none (sooner a None) ∙ sooner_none a
+
+-- a statement with parts, but without statements in it
+parts_only : (a b : Option CheckRefusal) → sooner (sooner a (sooner b None)) None ≡ sooner a b
+parts_only a b = sooner_none (sooner a (sooner b None)) ∙ ap (sooner a) (sooner_none b)
+
+-- a statement with what stands before the statements in it, and two lists of those
+pub both : (by : Standard) (xs ys zs : List Spot) (a : Option CheckRefusal) → a ≡ met by xs → sooner a (sooner (met by ys) (met by zs)) ≡ met by (xs ++ ys ++ zs)
+both by xs ys zs a h = ap (λ o. sooner o (sooner (met by ys) (met by zs))) h ∙ sym (three by xs ys zs)
+
+-- the same with one list
+one : (by : Standard) (xs ys : List Spot) (a : Option CheckRefusal) → a ≡ met by xs → sooner a (sooner (met by ys) None) ≡ met by (xs ++ ys)
+one by xs ys a h = ap (sooner a) (sooner_none (met by ys)) ∙ joined by xs ys a (met by ys) h refl
+
+-- how deep a statement stands, and what stands before the statements in it
+headed : (by : Standard) (around : Surrounding) (k : ℕ) (s : Span) (xs : List Spot) → sooner (deep by around k s) (met by xs) ≡ met by (stands around k s ∷ xs)
+headed by around k s xs = under by around k s xs _ refl
+
+bare : (by : Standard) (around : Surrounding) (k : ℕ) (s : Span) → sooner (deep by around k s) None ≡ met by (stands around k s ∷ [])
+bare by around k s = sooner_none (deep by around k s) ∙ alone by around k s
+
+pub stmt_is_met : (by : Standard) (around : Surrounding) (k : ℕ) (x : PStmt) → stmt_met by around k x ≡ met by (stmt_spots around k x)
+stmt_is_met by around k (SNull s) = only (deep by around k s) ∙ alone by around k s
+stmt_is_met by around k (SAssign t e s) = parts_only _ _ ∙ headed by around k s (target_spots around (k + 1) t ++ expr_spots around (k + 1) e)
+stmt_is_met by around k (SDelay d s) = only (deep by around k s) ∙ alone by around k s
+stmt_is_met by around k (SExit w e s) = parts_only _ _ ∙ under by around k s (spot around (exits w s) ∷ if_there (expr_spots around (k + 1)) e) _ (before by around (exits w s) (if_there (expr_spots around (k + 1)) e) _ _ refl refl)
+stmt_is_met by around k (SRaise w s) = parts_only _ _ ∙ headed by around k s (raise_spots around w s)
+stmt_is_met by around k (SAbort cs s) = parts_only _ _ ∙ headed by around k s (aborted_spots around (k + 1) cs)
+stmt_is_met by around k (SCall c s) = parts_only _ _ ∙ headed by around k s (call_spots around (k + 1) c)
+stmt_is_met by around k (SAccept (accepting h o) s) = one by (head_spots around k h) (maybe_spots (in_accept around h) (k + 1) o) _ refl
+stmt_is_met by around k (SWait x o s) =
+    let form = spot around (waits x (is_present o) s) ∷ numbered around Alternatives 0 (alt_places x) in
+    both by (stands around k s ∷ form) (alts_spots around (k + 1) x) (maybe_spots around (k + 1) o) _ (headed by around k s form)
+stmt_is_met by around k (SConditional c b o s) = both by (stands around k s ∷ select_spots around k c) (stmts_spots around (k + 1) b) (stmts_spots around (k + 1) o) _ (headed by around k s (select_spots around k c))
+stmt_is_met by around k (STimed c b d a s) = both by (stands around k s ∷ select_spots around k c) (stmts_spots around (k + 1) b) (stmts_spots around (k + 1) a) _ (headed by around k s (select_spots around k c))
+stmt_is_met by around k (SPut ps s) = parts_only _ _ ∙ headed by around k s (flat_map (part_spots around (k + 1)) ps)
+stmt_is_met by around k (SPutLine ps s) = parts_only _ _ ∙ headed by around k s (flat_map (part_spots around (k + 1)) ps)
+stmt_is_met by around k (SNewLine s) = only (deep by around k s) ∙ alone by around k s
+stmt_is_met by around k (SGet t s) = parts_only _ _ ∙ headed by around k s (target_spots around (k + 1) t)
+stmt_is_met by around k (SIf x o s) = both by (stands around k s ∷ []) (arms_spots around (k + 1) x) (maybe_spots around (k + 1) o) _ (bare by around k s)
+stmt_is_met by around k (SCase e x o s) = both by (stands around k s ∷ expr_spots around (k + 1) e) (case_arms_spots around (k + 1) x) (maybe_spots around (k + 1) o) _ (headed by around k s (expr_spots around (k + 1) e))
+stmt_is_met by around k (SBlock (body l hs) s) = both by (stands around k s ∷ []) (stmts_spots around (k + 1) l) (handlers_spots around (k + 1) hs) _ (bare by around k s)
+stmt_is_met by around k (SLoop w c l s) =
+    let label = if_there (λ x. spot around (declares x) ∷ []) w in
+    let scheme = if_there (scheme_spots around (k + 1)) c in
+    one by (stands around k s ∷ label ++ scheme) (stmts_spots (in_loop around w c) (k + 1) l) _ (under by around k s (label ++ scheme) _ (sym (met_append by label scheme)))
+
+pub stmt_next : (by : Standard) (around : Surrounding) (k : ℕ) (x : PStmt) (l : PStmts) → met by (stmts_spots around k (stmt_then x l)) ≡ sooner (stmt_met by around k x) (met by (stmts_spots around k l))
+stmt_next by around k x l = met_append by (stmt_spots around k x) (stmts_spots around k l) ∙ ap (λ o. sooner o (met by (stmts_spots around k l))) (sym (stmt_is_met by around k x))
+
+-- ---- members of the declared lists
+
+pub arm_told : (by : Standard) (around : Surrounding) (k : ℕ) (x : Arm) (vs : List Stmt) (a b r : Option CheckRefusal) → r ≡ sooner a b
+    → a ≡ met by (expr_spots around k (plain_expr (out-Arm x).test)) → b ≡ met by (stmts_spots around k (row_of (map plain_stmt vs))) → vs ≡ (out-Arm x).stmts.items
+    → r ≡ arm_met by around k (plain_arm x)
+arm_told by around k x vs a b r is is_a is_b same =
+    is
+    ∙ ap (λ o. sooner o b) is_a
+    ∙ ap (sooner (met by (expr_spots around k (plain_expr (out-Arm x).test)))) (is_b ∙ ap (λ l. met by (stmts_spots around k (row_of (map plain_stmt l)))) same)
+    ∙ ap (arm_met by around k) (sym (plain_arm-out x))
+
+pub case_arm_told : (by : Standard) (around : Surrounding) (k : ℕ) (x : CaseArm) (cs : List CaseChoice) (vs : List Stmt) (a b r : Option CheckRefusal) → r ≡ sooner a b
+    → a ≡ met by (flat_map (choice_spots around k) (map plain_choice cs)) → cs ≡ (out-CaseArm x).choices.items
+    → b ≡ met by (stmts_spots around k (row_of (map plain_stmt vs))) → vs ≡ (out-CaseArm x).stmts.items
+    → r ≡ case_arm_met by around k (plain_case_arm x)
+case_arm_told by around k x cs vs a b r is is_a same_choices is_b same =
+    is
+    ∙ ap (λ o. sooner o b) (is_a ∙ ap (λ l. met by (flat_map (choice_spots around k) (map plain_choice l))) same_choices)
+    ∙ ap (sooner (met by (flat_map (choice_spots around k) (map plain_choice (out-CaseArm x).choices.items)))) (is_b ∙ ap (λ l. met by (stmts_spots around k (row_of (map plain_stmt l)))) same)
+    ∙ ap (case_arm_met by around k) (sym (plain_case_arm-out x))
+
+pub handler_told : (by : Standard) (around now : Surrounding) (k n : ℕ) (x : Handler) (vs : List Stmt) (a b r : Option CheckRefusal) → r ≡ sooner a b
+    → a ≡ deep by around k (out-Handler x).span → b ≡ met by (stmts_spots now n (row_of (map plain_stmt vs))) → now ≡ handling around → n ≡ k + 1 → vs ≡ (out-Handler x).stmts.items
+    → r ≡ handler_met by around k (plain_handler x)
+handler_told by around now k n x vs a b r is is_a is_b inside deeper same =
+    is
+    ∙ ap (λ o. sooner o b) is_a
+    ∙ ap (sooner (deep by around k (out-Handler x).span))
+    (is_b
+    ∙ ap (λ s. met by (stmts_spots s n (row_of (map plain_stmt vs)))) inside
+    ∙ ap (λ m. met by (stmts_spots (handling around) m (row_of (map plain_stmt vs)))) deeper
+    ∙ ap (λ l. met by (stmts_spots (handling around) (k + 1) (row_of (map plain_stmt l)))) same)
+    ∙ ap (handler_met by around k) (sym (plain_handler-out x))

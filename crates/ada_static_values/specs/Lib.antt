@@ -1,0 +1,2 @@
+pub mod ModulusLaw
+pub mod StaticAnswer

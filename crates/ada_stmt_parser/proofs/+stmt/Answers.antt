@@ -1,0 +1,146 @@
+-- The loops of the readers that call each other.
+use Rattle.std.proofs.Common.{◌-◌, sym, ap, subst, ◌∙◌, arith, rules, map}
+use Rattle.lawful_reader.specs.Readers.{Found, items, fronted}
+use Rattle.ada_tree.specs.PlainStmt.{plain_stmt, plain_arm, plain_alt, plain_case_arm, plain_handler, handlers_of, seen}
+use Rattle.ada_expr_parser.specs.declared.symbols.Symbol.TheVariants as key
+use Rattle.ada_expr_parser.specs.Gives.{Fails}
+use Rattle.ada_phrase_parser.specs.Reading.{is_symbol, key_then}
+use Rattle.ada_stmt_parser.specs.ReadingStatements.{inner_at, begins_stmt, if_arm, case_part, others_part, handler_part, handler_others, whens}
+use Rattle.ada_phrase_parser.specs.Views.{told}
+use Rattle.ada_phrase_parser.proofs.Lists.{grown, list_empty, list_over, list_fails, list_goes}
+use Rattle.ada_stmt_parser.proofs.HandlerParts.{body_built, handlers_go}
+use Rattle.ada_phrase_parser.proofs.Marks.{there, missing}
+use Rattle.ada_stmt_parser.proofs.Whens.{WhensGoOn, whens_begin, whens_empty, whens_over, whens_step, whens_fails, whens_others, whens_others_fails}
+use Rattle.ada_stmt_parser.proofs.+stmt.Goals as goal
+
+pub sequences::stmts_onto-returns-in_default-clause-tree : goal.sequences::stmts_onto-returns-in_default-clause-tree
+sequences::stmts_onto-returns-in_default-clause-tree m c =
+    list_empty (begins_stmt) ((inner_at (told c.args.source.now) c.args.depth).stmt) (map plain_stmt c.stmts.list.items) (map plain_stmt c.args.list.now.items) c.stmts.rest.now c.args.items.now c.stmts.invariant c.in_default.len_below
+
+pub sequences::stmts_onto-returns-then-not-begins_stmt-clause-tree : goal.sequences::stmts_onto-returns-then-not-begins_stmt-clause-tree
+sequences::stmts_onto-returns-then-not-begins_stmt-clause-tree m c =
+    list_over (begins_stmt) ((inner_at (told c.args.source.now) c.args.depth).stmt) (map plain_stmt c.stmts.list.items) (map plain_stmt c.args.list.now.items) c.stmts.rest.now c.args.items.now _ c.stmts.invariant c.in-len1-up.len_at_least (sym c.begins_stmt.ensures ∙ c.if-not-begins_stmt.true)
+
+pub sequences::stmts_onto-returns-in_err-stmt-clause-tree : goal.sequences::stmts_onto-returns-in_err-stmt-clause-tree
+sequences::stmts_onto-returns-in_err-stmt-clause-tree m c =
+    let fails : Fails c.in_err-stmt.field-0.0 (fronted (map plain_stmt c.args.list.now.items) (items (begins_stmt) ((inner_at (told c.args.source.now) c.args.depth).stmt) c.args.items.now)) =
+    list_fails (begins_stmt) ((inner_at (told c.args.source.now) c.args.depth).stmt) (map plain_stmt c.stmts.list.items) (map plain_stmt c.args.list.now.items) c.stmts.rest.now c.args.items.now _ c.in_err-stmt.field-0.0 c.stmts.invariant c.in-len1-up.len_at_least (sym c.begins_stmt.ensures ∙ c.if-not-begins_stmt.false) c.in_err-stmt.ensures.tree in
+    search (rules, fails)
+
+pub sequences::stmts_onto-stmts-preserved : goal.sequences::stmts_onto-stmts-preserved
+sequences::stmts_onto-stmts-preserved m c =
+    list_goes (begins_stmt) ((inner_at (told c.args.source.now) c.args.depth).stmt) (map plain_stmt c.stmts.list.items) (map plain_stmt c.args.list.now.items) c.stmts.rest.now c.args.items.now _
+    (map plain_stmt c.add.new.list.items) (plain_stmt c.in_ok-stmt.stmt) c.in_ok-stmt.behind.now (grown plain_stmt c.stmts.list.items c.add.new.list.items c.in_ok-stmt.stmt c.in_ok-add.ensures.added) c.stmts.invariant
+    c.in-len1-up.len_at_least (sym c.begins_stmt.ensures ∙ c.if-not-begins_stmt.false) c.in_ok-stmt.ensures.tree c.in_ok-stmt.ensures.shorter
+
+pub compound::arms_onto-returns-in_default-clause-tree : goal.compound::arms_onto-returns-in_default-clause-tree
+compound::arms_onto-returns-in_default-clause-tree m c =
+    list_empty (is_symbol key.Elsif) (key_then key.Elsif (if_arm (c.args.depth - 1) (inner_at (told c.args.source.now) c.args.depth))) (map plain_arm c.arms.list.items) (map plain_arm c.args.list.now.items) c.arms.rest.now c.args.items.now c.arms.invariant c.in_default.len_below
+
+pub compound::arms_onto-returns-then-not-stands-clause-tree : goal.compound::arms_onto-returns-then-not-stands-clause-tree
+compound::arms_onto-returns-then-not-stands-clause-tree m c =
+    list_over (is_symbol key.Elsif) (key_then key.Elsif (if_arm (c.args.depth - 1) (inner_at (told c.args.source.now) c.args.depth))) (map plain_arm c.arms.list.items) (map plain_arm c.args.list.now.items) c.arms.rest.now c.args.items.now _ c.arms.invariant c.in-len1-up.len_at_least (sym c.stands.ensures.test ∙ c.if-not-stands.true)
+
+pub compound::arms_onto-returns-in_err-arm-clause-tree : goal.compound::arms_onto-returns-in_err-arm-clause-tree
+compound::arms_onto-returns-in_err-arm-clause-tree m c =
+    let fails : Fails c.in_err-arm.field-0.0 (fronted (map plain_arm c.args.list.now.items) (items (is_symbol key.Elsif) (key_then key.Elsif (if_arm (c.args.depth - 1) (inner_at (told c.args.source.now) c.args.depth))) c.args.items.now)) =
+    list_fails (is_symbol key.Elsif) (key_then key.Elsif (if_arm (c.args.depth - 1) (inner_at (told c.args.source.now) c.args.depth))) (map plain_arm c.arms.list.items) (map plain_arm c.args.list.now.items) c.arms.rest.now c.args.items.now _ c.in_err-arm.field-0.0 c.arms.invariant c.in-len1-up.len_at_least (sym c.stands.ensures.test ∙ c.if-not-stands.false) c.in_err-arm.ensures.tree in
+    search (rules, fails)
+
+pub compound::arms_onto-arms-preserved : goal.compound::arms_onto-arms-preserved
+compound::arms_onto-arms-preserved m c =
+    list_goes (is_symbol key.Elsif) (key_then key.Elsif (if_arm (c.args.depth - 1) (inner_at (told c.args.source.now) c.args.depth))) (map plain_arm c.arms.list.items) (map plain_arm c.args.list.now.items) c.arms.rest.now c.args.items.now _
+    (map plain_arm c.add.new.list.items) (plain_arm c.in_ok-arm.arm) c.in_ok-arm.behind.now (grown plain_arm c.arms.list.items c.add.new.list.items c.in_ok-arm.arm c.in_ok-add.ensures.added) c.arms.invariant
+    c.in-len1-up.len_at_least (sym c.stands.ensures.test ∙ c.if-not-stands.false) c.in_ok-arm.ensures.tree c.in_ok-arm.ensures.shorter
+
+pub selecting::alts_onto-returns-in_default-clause-tree : goal.selecting::alts_onto-returns-in_default-clause-tree
+selecting::alts_onto-returns-in_default-clause-tree m c =
+    list_empty (is_symbol key.Or) (key_then key.Or (inner_at (told c.args.source.now) c.args.depth).alt) (map plain_alt c.alts.list.items) (map plain_alt c.args.list.now.items) c.alts.rest.now c.args.items.now c.alts.invariant c.in_default.len_below
+
+pub selecting::alts_onto-returns-then-not-stands-clause-tree : goal.selecting::alts_onto-returns-then-not-stands-clause-tree
+selecting::alts_onto-returns-then-not-stands-clause-tree m c =
+    list_over (is_symbol key.Or) (key_then key.Or (inner_at (told c.args.source.now) c.args.depth).alt) (map plain_alt c.alts.list.items) (map plain_alt c.args.list.now.items) c.alts.rest.now c.args.items.now _ c.alts.invariant c.in-len1-up.len_at_least (sym c.stands.ensures.test ∙ c.if-not-stands.true)
+
+pub selecting::alts_onto-returns-in_err-alt-clause-tree : goal.selecting::alts_onto-returns-in_err-alt-clause-tree
+selecting::alts_onto-returns-in_err-alt-clause-tree m c =
+    let fails : Fails c.in_err-alt.field-0.0 (fronted (map plain_alt c.args.list.now.items) (items (is_symbol key.Or) (key_then key.Or (inner_at (told c.args.source.now) c.args.depth).alt) c.args.items.now)) =
+    list_fails (is_symbol key.Or) (key_then key.Or (inner_at (told c.args.source.now) c.args.depth).alt) (map plain_alt c.alts.list.items) (map plain_alt c.args.list.now.items) c.alts.rest.now c.args.items.now _ c.in_err-alt.field-0.0 c.alts.invariant c.in-len1-up.len_at_least (sym c.stands.ensures.test ∙ c.if-not-stands.false) c.in_err-alt.ensures.tree in
+    search (rules, fails)
+
+pub selecting::alts_onto-alts-preserved : goal.selecting::alts_onto-alts-preserved
+selecting::alts_onto-alts-preserved m c =
+    list_goes (is_symbol key.Or) (key_then key.Or (inner_at (told c.args.source.now) c.args.depth).alt) (map plain_alt c.alts.list.items) (map plain_alt c.args.list.now.items) c.alts.rest.now c.args.items.now _
+    (map plain_alt c.add.new.list.items) (plain_alt c.in_ok-alt.alt) c.in_ok-alt.behind.now (grown plain_alt c.alts.list.items c.add.new.list.items c.in_ok-alt.alt c.in_ok-add.ensures.added) c.alts.invariant
+    c.in-len1-up.len_at_least (sym c.stands.ensures.test ∙ c.if-not-stands.false) c.in_ok-alt.ensures.tree c.in_ok-alt.ensures.shorter
+
+pub compound::read_case_arms-arms-init : goal.compound::read_case_arms-arms-init
+compound::read_case_arms-arms-init m c =
+    subst (λ l. WhensGoOn (case_part (c.args.depth - 1) (inner_at (told c.args.source.now) c.args.depth)) (others_part (inner_at (told c.args.source.now) c.args.depth)) (map plain_case_arm l) c.args.items.now c.args.items.now) (sym c.new-arms.ensures.items) (whens_begin (case_part (c.args.depth - 1) (inner_at (told c.args.source.now) c.args.depth)) (others_part (inner_at (told c.args.source.now) c.args.depth)) c.args.items.now)
+
+pub compound::read_case_arms-returns-in_default-clause-tree : goal.compound::read_case_arms-returns-in_default-clause-tree
+compound::read_case_arms-returns-in_default-clause-tree m c =
+    whens_empty (case_part (c.args.depth - 1) (inner_at (told c.args.source.now) c.args.depth)) (others_part (inner_at (told c.args.source.now) c.args.depth)) (map plain_case_arm c.arms.arms.items) c.arms.rest.now c.args.items.now c.arms.invariant c.in_default.len_below
+
+pub compound::read_case_arms-returns-then-not-stands-clause-tree : goal.compound::read_case_arms-returns-then-not-stands-clause-tree
+compound::read_case_arms-returns-then-not-stands-clause-tree m c =
+    whens_over (case_part (c.args.depth - 1) (inner_at (told c.args.source.now) c.args.depth)) (others_part (inner_at (told c.args.source.now) c.args.depth)) (map plain_case_arm c.arms.arms.items) c.arms.rest.now c.args.items.now _ c.arms.invariant c.in-len1-up.len_at_least (missing _ _ _ c.stands.ensures.place c.if-not-stands.true)
+
+pub compound::read_case_arms-returns-in_err-others-clause-tree : goal.compound::read_case_arms-returns-in_err-others-clause-tree
+compound::read_case_arms-returns-in_err-others-clause-tree m c =
+    let fails : Fails c.in_err-others.field-0.0 (whens (case_part (c.args.depth - 1) (inner_at (told c.args.source.now) c.args.depth)) (others_part (inner_at (told c.args.source.now) c.args.depth)) c.args.items.now) =
+    whens_others_fails (case_part (c.args.depth - 1) (inner_at (told c.args.source.now) c.args.depth)) (others_part (inner_at (told c.args.source.now) c.args.depth)) (map plain_case_arm c.arms.arms.items) c.arms.rest.now c.args.items.now _ _ _ c.arms.invariant c.in-len1-up.len_at_least c.in-len1-up-behind.len_at_least (there _ _ _ c.stands.ensures.place c.if-not-stands.false) c.in_err-others.field-0.0 _ (there _ _ _ c.stands-in-arms.ensures.place c.if-stands.true) c.in_err-others.ensures.tree in
+    search (rules, fails)
+
+pub compound::read_case_arms-returns-then-stands-clause-tree : goal.compound::read_case_arms-returns-then-stands-clause-tree
+compound::read_case_arms-returns-then-stands-clause-tree m c =
+    whens_others (case_part (c.args.depth - 1) (inner_at (told c.args.source.now) c.args.depth)) (others_part (inner_at (told c.args.source.now) c.args.depth)) (map plain_case_arm c.arms.arms.items) c.arms.rest.now c.args.items.now _ _ _ c.arms.invariant c.in-len1-up.len_at_least c.in-len1-up-behind.len_at_least (there _ _ _ c.stands.ensures.place c.if-not-stands.false) _ (seen c.in_ok-others.others.items) c.in_ok-others.end.now (there _ _ _ c.stands-in-arms.ensures.place c.if-stands.true) c.in_ok-others.ensures.tree
+
+pub compound::read_case_arms-returns-in_err-arm-clause-tree : goal.compound::read_case_arms-returns-in_err-arm-clause-tree
+compound::read_case_arms-returns-in_err-arm-clause-tree m c =
+    let fails : Fails c.in_err-arm.field-0.0 (whens (case_part (c.args.depth - 1) (inner_at (told c.args.source.now) c.args.depth)) (others_part (inner_at (told c.args.source.now) c.args.depth)) c.args.items.now) =
+    whens_fails (case_part (c.args.depth - 1) (inner_at (told c.args.source.now) c.args.depth)) (others_part (inner_at (told c.args.source.now) c.args.depth)) (map plain_case_arm c.arms.arms.items) c.arms.rest.now c.args.items.now _ _ _ c.arms.invariant c.in-len1-up.len_at_least c.in-len1-up-behind.len_at_least (there _ _ _ c.stands.ensures.place c.if-not-stands.false) c.in_err-arm.field-0.0 (missing _ _ _ c.stands-in-arms.ensures.place c.if-stands.false) c.in_err-arm.ensures.tree in
+    search (rules, fails)
+
+pub compound::read_case_arms-arms-preserved : goal.compound::read_case_arms-arms-preserved
+compound::read_case_arms-arms-preserved m c =
+    whens_step (case_part (c.args.depth - 1) (inner_at (told c.args.source.now) c.args.depth)) (others_part (inner_at (told c.args.source.now) c.args.depth)) (map plain_case_arm c.arms.arms.items) c.arms.rest.now c.args.items.now _ _ _ c.arms.invariant c.in-len1-up.len_at_least c.in-len1-up-behind.len_at_least (there _ _ _ c.stands.ensures.place c.if-not-stands.false)
+    (map plain_case_arm c.add.new.list.items) (plain_case_arm c.in_ok-arm.arm) c.in_ok-arm.end.now (grown plain_case_arm c.arms.arms.items c.add.new.list.items c.in_ok-arm.arm c.in_ok-add.ensures.added) (missing _ _ _ c.stands-in-arms.ensures.place c.if-stands.false) c.in_ok-arm.ensures.tree c.in_ok-arm.ensures.shorter
+
+pub bodies::handler_parts-handlers-init : goal.bodies::handler_parts-handlers-init
+bodies::handler_parts-handlers-init m c =
+    subst (λ l. WhensGoOn (handler_part (inner_at (told c.args.source.now) c.args.depth)) (handler_others (inner_at (told c.args.source.now) c.args.depth)) (map plain_handler l) c.args.items.now c.args.items.now) (sym c.new-list.ensures.items) (whens_begin (handler_part (inner_at (told c.args.source.now) c.args.depth)) (handler_others (inner_at (told c.args.source.now) c.args.depth)) c.args.items.now)
+
+pub bodies::handler_parts-returns-in_default-clause-tree : goal.bodies::handler_parts-returns-in_default-clause-tree
+bodies::handler_parts-returns-in_default-clause-tree m c =
+    whens_empty (handler_part (inner_at (told c.args.source.now) c.args.depth)) (handler_others (inner_at (told c.args.source.now) c.args.depth)) (map plain_handler c.handlers.list.items) c.handlers.rest.now c.args.items.now c.handlers.invariant c.in_default.len_below
+
+pub bodies::handler_parts-returns-then-not-stands-clause-tree : goal.bodies::handler_parts-returns-then-not-stands-clause-tree
+bodies::handler_parts-returns-then-not-stands-clause-tree m c =
+    whens_over (handler_part (inner_at (told c.args.source.now) c.args.depth)) (handler_others (inner_at (told c.args.source.now) c.args.depth)) (map plain_handler c.handlers.list.items) c.handlers.rest.now c.args.items.now _ c.handlers.invariant c.in-len1-up.len_at_least (missing _ _ _ c.stands.ensures.place c.if-not-stands.true)
+
+pub bodies::handler_parts-returns-in_err-others-clause-tree : goal.bodies::handler_parts-returns-in_err-others-clause-tree
+bodies::handler_parts-returns-in_err-others-clause-tree m c =
+    let fails : Fails c.in_err-others.field-0.0 (whens (handler_part (inner_at (told c.args.source.now) c.args.depth)) (handler_others (inner_at (told c.args.source.now) c.args.depth)) c.args.items.now) =
+    whens_others_fails (handler_part (inner_at (told c.args.source.now) c.args.depth)) (handler_others (inner_at (told c.args.source.now) c.args.depth)) (map plain_handler c.handlers.list.items) c.handlers.rest.now c.args.items.now _ _ _ c.handlers.invariant c.in-len1-up.len_at_least c.in-len1-up-behind.len_at_least (there _ _ _ c.stands.ensures.place c.if-not-stands.false) c.in_err-others.field-0.0 _ (there _ _ _ c.stands-in-handlers.ensures.place c.if-stands.true) c.in_err-others.ensures.tree in
+    search (rules, fails)
+
+pub bodies::handler_parts-returns-then-stands-clause-tree : goal.bodies::handler_parts-returns-then-stands-clause-tree
+bodies::handler_parts-returns-then-stands-clause-tree m c =
+    whens_others (handler_part (inner_at (told c.args.source.now) c.args.depth)) (handler_others (inner_at (told c.args.source.now) c.args.depth)) (map plain_handler c.handlers.list.items) c.handlers.rest.now c.args.items.now _ _ _ c.handlers.invariant c.in-len1-up.len_at_least c.in-len1-up-behind.len_at_least (there _ _ _ c.stands.ensures.place c.if-not-stands.false) _ (plain_handler c.in_ok-others.others) c.in_ok-others.end.now (there _ _ _ c.stands-in-handlers.ensures.place c.if-stands.true) c.in_ok-others.ensures.tree
+
+pub bodies::handler_parts-returns-in_err-handler-clause-tree : goal.bodies::handler_parts-returns-in_err-handler-clause-tree
+bodies::handler_parts-returns-in_err-handler-clause-tree m c =
+    let fails : Fails c.in_err-handler.field-0.0 (whens (handler_part (inner_at (told c.args.source.now) c.args.depth)) (handler_others (inner_at (told c.args.source.now) c.args.depth)) c.args.items.now) =
+    whens_fails (handler_part (inner_at (told c.args.source.now) c.args.depth)) (handler_others (inner_at (told c.args.source.now) c.args.depth)) (map plain_handler c.handlers.list.items) c.handlers.rest.now c.args.items.now _ _ _ c.handlers.invariant c.in-len1-up.len_at_least c.in-len1-up-behind.len_at_least (there _ _ _ c.stands.ensures.place c.if-not-stands.false) c.in_err-handler.field-0.0 (missing _ _ _ c.stands-in-handlers.ensures.place c.if-stands.false) c.in_err-handler.ensures.tree in
+    search (rules, fails)
+
+pub bodies::handler_parts-handlers-preserved : goal.bodies::handler_parts-handlers-preserved
+bodies::handler_parts-handlers-preserved m c =
+    whens_step (handler_part (inner_at (told c.args.source.now) c.args.depth)) (handler_others (inner_at (told c.args.source.now) c.args.depth)) (map plain_handler c.handlers.list.items) c.handlers.rest.now c.args.items.now _ _ _ c.handlers.invariant c.in-len1-up.len_at_least c.in-len1-up-behind.len_at_least (there _ _ _ c.stands.ensures.place c.if-not-stands.false)
+    (map plain_handler c.add.new.list.items) (plain_handler c.in_ok-handler.handler) c.in_ok-handler.end.now (grown plain_handler c.handlers.list.items c.add.new.list.items c.in_ok-handler.handler c.in_ok-add.ensures.added) (missing _ _ _ c.stands-in-handlers.ensures.place c.if-stands.false) c.in_ok-handler.ensures.tree c.in_ok-handler.ensures.shorter
+
+pub bodies::body_end-returns-clause-tree : goal.bodies::body_end-returns-clause-tree
+bodies::body_end-returns-clause-tree m c =
+    handlers_go (c.args.depth - 1) (inner_at (told c.args.source.now) c.args.depth) (seen c.args.stmts.items) c.args.items.now c.in_ok-handlers.rest.now _ _ (handlers_of (map plain_handler c.in_ok-handlers.handlers.items))
+    c.in-len1-up.len_at_least (there _ _ _ c.stands.ensures.place c.if-not-stands.false) (omega (arith, c.if-inner-eq0.false)) c.in_ok-handlers.ensures.tree
+    ∙ ap (λ b. Found b c.in_ok-handlers.rest.now) (sym (body_built c.args.stmts c.in_ok-handlers.handlers))

@@ -1,0 +1,4 @@
+pub mod ReadingStatements
+pub mod Statements
+pub mod StmtViews
+pub mod Turns

@@ -1,0 +1,12 @@
+//! Statements (ANSI/MIL-STD-1815A chapters 5, 9 and 11): sequences, the compound statements, and bodies with their
+//! handlers.
+#![tactic(auto)]
+
+mod bodies;
+mod compound;
+mod looping;
+mod selecting;
+mod sequences;
+mod statements;
+
+pub use bodies::unit_body;

@@ -1,0 +1,3 @@
+pub mod TaskCounting
+pub mod Sharing
+pub mod Copying

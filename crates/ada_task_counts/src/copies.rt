@@ -1,0 +1,64 @@
+// Whether the rewriters would copy more than the limit.
+
+ghost use Rattle.std.specs.Prelude.{◌≡◌, ◌*◌, map, IfOk};
+ghost use Rattle.ada_tree.specs.PlainProgram.{plain_program};
+ghost use Rattle.syn_event.specs.Surrounding.{Surrounding};
+ghost use Rattle.syn_event.specs.TaskParts.{task_count};
+ghost use Rattle.syn_event.specs.Spots.{copies_spots, all_copies_spots};
+ghost use Rattle.ada_rules.specs.Amounts.{capped};
+ghost use Rattle.ada_rules.specs.Sooner.{sooner};
+ghost use Rattle.ada_rules.specs.Met.{met};
+ghost use Rattle.ada_task_objects.specs.PlainParts.{plain_part};
+ghost use Rattle.ada_task_counts.specs.Shares.{share_of};
+
+use crate::counts::task_count;
+use crate::shares::{BodyShares, Rates, body_share};
+use ada_rules::{Counted, Refusal, Standard, count_on, product};
+use ada_task_objects::TaskPart;
+use ada_tree::{Program, Types};
+use std::alloc::{AllocError, Global};
+use syn_event::What;
+
+// What is copied for each name that stands for tasks, behind main's own share.
+fn count_copies(
+    by: &Standard,
+    types: &Types,
+    shares: &BodyShares,
+    own: Counted,
+    parts: &[TaskPart],
+) -> Option<Refusal>
+    ensures { (around : Surrounding) → result ≡ sooner own.refusal (met by.now (copies_spots around (λ x. capped (capped (task_count types.now x) * share_of shares.now x.unit.name.name)) own.count (map plain_part parts.now))) }
+{
+    let mut counted = own;
+    for part in parts {
+        let here = product(task_count(types, part), shares.of(part.unit.name.name));
+        counted = count_on(by, What::Copies, counted, here, part.name.span);
+    }
+    counted.refusal
+}
+
+/// What is copied for the whole program. Each body is gone through once.
+pub fn refuse_copies(
+    alloc: Global,
+    by: &Standard,
+    types: &Types,
+    parts: &[TaskPart],
+    p: &Program,
+) -> Result<Option<Refusal>, AllocError>
+    ensures { (around : Surrounding) → around.types ≡ types.now → IfOk result (λ r. r ≡ met by.now (all_copies_spots around (map plain_part parts.now) (plain_program p.now))) }
+{
+    let rates = Rates::new(alloc, types, parts)?;
+    let shares = BodyShares::new(alloc, &rates, &p.decls)?;
+    let none = Counted {
+        count: 0,
+        refusal: None,
+    };
+    let own = count_on(
+        by,
+        What::Copies,
+        none,
+        body_share(&rates, &p.body),
+        p.name.span,
+    );
+    Ok(count_copies(by, types, &shares, own, parts))
+}

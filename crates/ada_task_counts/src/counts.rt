@@ -1,0 +1,86 @@
+// What is counted over the whole program: tasks and entries.
+
+ghost use Rattle.std.specs.Prelude.{◌≡◌, ◌*◌, ◌-◌, length, map};
+ghost use Rattle.ada_tree.specs.PlainDecl.{plain_entry};
+ghost use Rattle.syn_event.specs.declared.limits.What.{What};
+ghost use Rattle.syn_event.specs.declared.limits.What.TheVariants.{Entries};
+ghost use Rattle.syn_event.specs.Surrounding.{Surrounding};
+ghost use Rattle.syn_event.specs.TaskParts.{task_count};
+ghost use Rattle.syn_event.specs.Spots.{numbered, tasks_spots, entries_of_part, entries_spots};
+ghost use Rattle.ada_rules.specs.Amounts.{capped};
+ghost use Rattle.ada_rules.specs.Met.{met};
+ghost use Rattle.ada_task_objects.specs.PlainParts.{plain_part};
+ghost use Rattle.ada_rules.specs.Counted.{IsCounted};
+
+use ada_rules::{Counted, Refusal, Standard, count_on, plus, product};
+use ada_task_objects::{TaskPart, size};
+use ada_tree::{EntryDecl, Types};
+use syn_event::What;
+
+/// How many tasks a name stands for.
+pub(crate) fn task_count(types: &Types, part: &TaskPart) -> u64
+    ensures { result ≡ capped (task_count types.now (plain_part part.now)) }
+{
+    match part.row {
+        Some(range) => size(types, range),
+        None => 1,
+    }
+}
+
+/// The tasks of a program.
+pub fn refuse_tasks(by: &Standard, types: &Types, parts: &[TaskPart]) -> Option<Refusal>
+    ensures { (around : Surrounding) → around.types ≡ types.now → result ≡ met by.now (tasks_spots around 0 (map plain_part parts.now)) }
+{
+    let mut counted = Counted {
+        count: 0,
+        refusal: None,
+    };
+    for part in parts {
+        let here = task_count(types, part);
+        counted = count_on(by, What::Tasks, counted, here, part.place);
+    }
+    counted.refusal
+}
+
+// The entries of a task that is declared as one.
+fn count_single(by: &Standard, so_far: Counted, entries: &[EntryDecl]) -> Counted
+    ensures { (around : Surrounding) → IsCounted by.now so_far (numbered around Entries so_far.count (map (λ e. e.span) (map plain_entry entries.now))) (length entries.now) result }
+{
+    let mut counted = so_far;
+    for entry in entries {
+        counted = count_on(by, What::Entries, counted, 1, entry.span);
+    }
+    counted
+}
+
+// The entries of the tasks that a name stands for.
+fn count_entries(by: &Standard, types: &Types, so_far: Counted, part: &TaskPart) -> Counted
+    ensures { (around : Surrounding) → around.types ≡ types.now → IsCounted by.now so_far (entries_of_part around so_far.count (plain_part part.now)) (task_count types.now (plain_part part.now) * length (plain_part part.now).unit.entries) result }
+{
+    let each = part.unit.entries.len() as u64;
+    let here = product(task_count(types, part), each);
+    if part.unit.of_kind {
+        count_on(by, What::Entries, so_far, here, part.place)
+    } else {
+        let count = plus(so_far.count, here);
+        let single = count_single(by, so_far, &part.unit.entries);
+        Counted {
+            count,
+            refusal: single.refusal,
+        }
+    }
+}
+
+/// The entries of a program.
+pub fn refuse_entries(by: &Standard, types: &Types, parts: &[TaskPart]) -> Option<Refusal>
+    ensures { (around : Surrounding) → around.types ≡ types.now → result ≡ met by.now (entries_spots around 0 (map plain_part parts.now)) }
+{
+    let mut counted = Counted {
+        count: 0,
+        refusal: None,
+    };
+    for part in parts {
+        counted = count_entries(by, types, counted, part);
+    }
+    counted.refusal
+}

@@ -1,0 +1,13 @@
+// Copies of declarations and whole programs, with the same ids and places, and declarations built of their parts.
+#![tactic(auto, using(ada_tree::proofs::Rows::rows))]
+
+pub mod building;
+mod copying;
+mod declarations;
+mod parts;
+mod whole;
+
+pub use ada_expr_copy::ExprCopy;
+pub use ada_stmt_copy::{StmtCopy, copy_stmts};
+pub use copying::TreeCopy;
+pub use declarations::copy_decls;

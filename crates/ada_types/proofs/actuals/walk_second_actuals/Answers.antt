@@ -1,9 +1,0 @@
-use Rattle.std.proofs.Common.{ap, map, option_map}
-use Rattle.ada_tree.specs.PlainExpr.{plain_expr}
-use Rattle.ada_tree.specs.Sites.{actuals_sites}
-use Rattle.ada_types.specs.Entries.{plain_part}
-use Rattle.ada_types.proofs.Listing.{not_there}
-use Rattle.ada_types.proofs.actuals.walk_second_actuals.Goals as goal
-
-pub returns-in-None : goal.returns-in-None
-returns-in-None c = not_there (actuals_sites c.args.scope.now (map plain_part c.args.formals.now)) _ (ap (option_map (λ v. map plain_expr v.items)) c.in-None.is)

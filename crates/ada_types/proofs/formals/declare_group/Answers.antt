@@ -1,5 +1,0 @@
-use Rattle.ada_types.proofs.Inner.{name_declared}
-use Rattle.ada_types.proofs.formals.declare_group.Goals as goal
-
-pub loop-name-preserved : goal.loop-name-preserved
-loop-name-preserved c = name_declared _ _ _ _ _ c.args.names.now _ _ c.loop-name-test.true c.in_ok-declare.ensures.ok c.formal.ensures c.loop-name.invariant

@@ -1,8 +1,0 @@
-use Rattle.std.proofs.Common.{◌≡◌, take}
-use Rattle.ada_types.specs.Things.{plain_names}
-use Rattle.ada_types.specs.Before.{seen_last_first}
-use Rattle.ada_types.proofs.predefined.first_names.Given as goal
-
--- the predefined names so far
-abbrev pub invariant-loop-name : goal.invariant-loop-name
-invariant-loop-name l = plain_names l.names ≡ seen_last_first (take l.name-index l.name-items)

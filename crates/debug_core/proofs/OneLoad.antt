@@ -1,0 +1,62 @@
+-- Files that are told, and whose readings do not fail, are loaded in one way.
+use Rattle.std.proofs.Common.{◌≡◌, ◌≤◌, ℕ, List, [], ◌∷◌, length, Option, Some, None, inl, inr, refl, sym, ap, ◌∙◌, arith}
+use Rattle.std.specs.Prelude.{unwrap_or}
+use Rattle.ded_io.specs.Counts.{Rose}
+use Rattle.ded_io.specs.Told.{ToldFile, file_bytes}
+use Rattle.debug_outcome.specs.Loads.{Wanted, WasLoaded, IsUnloaded, AreLoaded, AreUnloaded}
+use Rattle.debug_outcome.specs.Outcomes.{Outcome}
+
+-- the same option holds one thing, and not nothing
+one_some : {A : Type 0} (o : Option A) (x y : A) → o ≡ Some x → o ≡ Some y → x ≡ y
+one_some o x y h k = ap (λ z. unwrap_or z x) (sym h ∙ k)
+
+none_is_none : {A : Type 0} (x : A) → None ≡ Some x → ⊥
+none_is_none x e = cc
+
+none_some : {A : Type 0} (o : Option A) (x : A) → o ≡ None → o ≡ Some x → ⊥
+none_some o x h k = none_is_none x (sym h ∙ k)
+
+module _ (files : List ToldFile) (f f' g g' : ℕ) (still : Rose f f' → ⊥) (also : Rose g g' → ⊥) where
+  one_load : (w : Wanted) (a b : List ℕ) → WasLoaded (Some files) w a → WasLoaded (Some files) w b → a ≡ b
+  one_load w a b h k = one_some (file_bytes files w.name) a b h.given k.given
+
+  not_both : (w : Wanted) (a : List ℕ) (o : Outcome) → WasLoaded (Some files) w a → IsUnloaded (Some files) f f' w o → ⊥
+  not_both w a o h (inl (inl lacks, is)) = none_some (file_bytes files w.name) a lacks h.given
+  not_both w a o h (inl (inr rose, is)) = still rose
+  not_both w a o h (inr ((bytes, given, longer), is)) =
+      let same : length bytes ≡ length a = ap length (one_some (file_bytes files w.name) bytes a given h.given) in
+      let within : length a ≤ w.limit = h.within in omega arith
+
+  one_refused : (w : Wanted) (o q : Outcome) → IsUnloaded (Some files) f f' w o → IsUnloaded (Some files) g g' w q → o ≡ q
+  one_refused w o q (inl (h, is)) (inl (k, that)) = is ∙ sym that
+  one_refused w o q (inl (inl lacks, is)) (inr ((bytes, given, longer), that)) = absurd (none_some (file_bytes files w.name) bytes lacks given)
+  one_refused w o q (inl (inr rose, is)) (inr k) = absurd (still rose)
+  one_refused w o q (inr ((bytes, given, longer), is)) (inl (inl lacks, that)) = absurd (none_some (file_bytes files w.name) bytes lacks given)
+  one_refused w o q (inr h) (inl (inr rose, that)) = absurd (also rose)
+  one_refused w o q (inr (h, is)) (inr (k, that)) = is ∙ sym that
+
+  -- the bytes of all files are one list
+  pub one_contents : (ws : List Wanted) (a b : List (List ℕ)) → AreLoaded (Some files) ws a → AreLoaded (Some files) ws b → a ≡ b
+  one_contents [] [] [] h k = refl
+  one_contents [] [] (y ∷ ys) h k = absurd k
+  one_contents [] (x ∷ xs) b h k = absurd h
+  one_contents (w ∷ ws) [] b h k = absurd h
+  one_contents (w ∷ ws) (x ∷ xs) [] h k = absurd k
+  one_contents (w ∷ ws) (x ∷ xs) (y ∷ ys) h k =
+      ap (λ (z : List ℕ). z ∷ xs) (one_load w x y h.0 k.0) ∙ ap (λ (zs : List (List ℕ)). y ∷ zs) (one_contents ws xs ys h.1 k.1)
+
+  -- files that were all loaded refuse nothing
+  pub none_refused : (ws : List Wanted) (a : List (List ℕ)) (o : Outcome) → AreLoaded (Some files) ws a → AreUnloaded (Some files) f f' ws o → ⊥
+  none_refused [] a o h k = k
+  none_refused (w ∷ ws) [] o h k = h
+  none_refused (w ∷ ws) (x ∷ xs) o h (inl refused) = not_both w x o h.0 refused
+  none_refused (w ∷ ws) (x ∷ xs) o h (inr later) = none_refused ws xs o h.1 later.1
+
+-- and the refusal of the first that is not loaded is one
+module _ (files : List ToldFile) (f f' g g' : ℕ) (still : Rose f f' → ⊥) (also : Rose g g' → ⊥) where
+  pub one_unloaded : (ws : List Wanted) (o q : Outcome) → AreUnloaded (Some files) f f' ws o → AreUnloaded (Some files) g g' ws q → o ≡ q
+  one_unloaded [] o q h k = absurd h
+  one_unloaded (w ∷ ws) o q (inl h) (inl k) = one_refused files f f' g g' still also w o q h k
+  one_unloaded (w ∷ ws) o q (inl h) (inr k) = absurd (not_both files f f' g g' still also w k.0.0 o k.0.1 h)
+  one_unloaded (w ∷ ws) o q (inr h) (inl k) = absurd (not_both files g g' f f' also still w h.0.0 q h.0.1 k)
+  one_unloaded (w ∷ ws) o q (inr h) (inr k) = one_unloaded ws o q h.1 k.1

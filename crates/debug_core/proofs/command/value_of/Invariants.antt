@@ -1,8 +1,0 @@
-use Rattle.std.proofs.Common.{◌≡◌, ◌<◌, ◌^◌, drop}
-use Rattle.debug_core.specs.Words.{value_behind}
-use Rattle.debug_core.proofs.command.value_of.Given as goal
-
--- the value is that of the digits gone by, and has no more digits than those
-abbrev pub invariant-loop-digit : goal.invariant-loop-digit
-invariant-loop-digit l =
-    (value_behind 0 l.word ≡ value_behind l.value (drop l.digit-index l.word)) × (l.value < 10 ^ l.digit-index)

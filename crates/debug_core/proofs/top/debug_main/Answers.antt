@@ -1,0 +1,63 @@
+use Rattle.std.proofs.Common.{Option, refl, subst}
+use Rattle.debug_words.specs.Words.{Asked}
+use Rattle.debug_words.specs.Commands.{asked_as}
+use Rattle.debug_outcome.specs.Delivery.{Sides}
+use Rattle.debug_outcome.specs.declared.refusal.Refusal.TheVariants.{Usage}
+use Rattle.debug_outcome.proofs.Comings.{ends_done, ends_stopped, told_alone}
+use Rattle.debug_core.specs.Answers.{Answers, CallsFor, GrowsFor}
+use Rattle.debug_core.proofs.top.debug_main.Goals as goal
+
+pub returns-in-Ok : goal.returns-in-Ok
+returns-in-Ok g c =
+    let s : Sides = record {
+      files = g.F.Files.told c.args.files.now;
+      file_faults = g.F.Files.faults c.args.files.now;
+      file_faults' = g.F.Files.faults c.carry_out.new.files;
+      out = g.O.Sink.told c.args.out.now;
+      out' = g.O.Sink.told c.carry_out.new.out;
+      out_faults = g.O.Sink.faults c.args.out.now;
+      out_faults' = g.O.Sink.faults c.carry_out.new.out;
+      err = g.E.Sink.told c.args.err.now;
+      err' = g.E.Sink.told c.args.err.now;
+      err_faults = g.E.Sink.faults c.args.err.now;
+      err_faults' = g.E.Sink.faults c.args.err.now;
+    } in
+    record { answer = subst (λ (a : Option Asked). Answers a s c.in-Ok.status) c.in-Some.ensures (ends_done (CallsFor (asked_as c.in-Some.command) s.files s.file_faults s.file_faults') (GrowsFor (asked_as c.in-Some.command) s.files s.file_faults s.file_faults') s c.in-Ok.status c.in-Ok.ensures refl refl) }
+
+pub returns-in-Err : goal.returns-in-Err
+returns-in-Err g c =
+    let s : Sides = record {
+      files = g.F.Files.told c.args.files.now;
+      file_faults = g.F.Files.faults c.args.files.now;
+      file_faults' = g.F.Files.faults c.carry_out.new.files;
+      out = g.O.Sink.told c.args.out.now;
+      out' = g.O.Sink.told c.carry_out.new.out;
+      out_faults = g.O.Sink.faults c.args.out.now;
+      out_faults' = g.O.Sink.faults c.carry_out.new.out;
+      err = g.E.Sink.told c.args.err.now;
+      err' = g.E.Sink.told c.tell.new.err;
+      err_faults = g.E.Sink.faults c.args.err.now;
+      err_faults' = g.E.Sink.faults c.tell.new.err;
+    } in
+    record {
+      answer =
+          subst (λ (a : Option Asked). Answers a s c.tell.result) c.in-Some.ensures
+          (ends_stopped (CallsFor (asked_as c.in-Some.command) s.files s.file_faults s.file_faults') (GrowsFor (asked_as c.in-Some.command) s.files s.file_faults s.file_faults') s c.in-Err.stop c.tell.result c.in-Err.ensures c.tell.ensures);
+    }
+
+pub returns-in-None : goal.returns-in-None
+returns-in-None g c =
+    let s : Sides = record {
+      files = g.F.Files.told c.args.files.now;
+      file_faults = g.F.Files.faults c.args.files.now;
+      file_faults' = g.F.Files.faults c.args.files.now;
+      out = g.O.Sink.told c.args.out.now;
+      out' = g.O.Sink.told c.args.out.now;
+      out_faults = g.O.Sink.faults c.args.out.now;
+      out_faults' = g.O.Sink.faults c.args.out.now;
+      err = g.E.Sink.told c.args.err.now;
+      err' = g.E.Sink.told c.tell-in-None.new.err;
+      err_faults = g.E.Sink.faults c.args.err.now;
+      err_faults' = g.E.Sink.faults c.tell-in-None.new.err;
+    } in
+    record { answer = subst (λ (a : Option Asked). Answers a s c.tell-in-None.result) c.in-None.ensures (told_alone Usage s c.tell-in-None.result refl refl c.tell-in-None.ensures) }

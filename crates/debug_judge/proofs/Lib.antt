@@ -1,0 +1,3 @@
+pub mod Uppering
+pub mod Feeding
+pub mod Judged

@@ -1,0 +1,2 @@
+pub mod JudgeOutcomes
+pub mod Fed

@@ -1,0 +1,6 @@
+pub mod Outputs
+pub mod Refusals
+pub mod Outcomes
+pub mod Delivery
+pub mod Coming
+pub mod Loads

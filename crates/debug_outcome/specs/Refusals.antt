@@ -1,0 +1,150 @@
+-- Why the program ends with another status than that of what it was asked for: the status of each refusal, and its line on the error output (this project's rules).
+use Rattle.std.specs.Prelude.{ℕ, List, codes, decimal}
+use Rattle.ded_io.specs.Written.{◌⧺◌}
+use Rattle.syn_event.specs.declared.limits.What.{What}
+use Rattle.syn_event.specs.declared.limits.What.TheVariants as counted
+use Rattle.debug_outcome.specs.declared.refusal.Refusal.{Refusal}
+use Rattle.debug_outcome.specs.declared.refusal.Refusal.TheVariants.{BadText, BadProgram, NotYet, Usage, BadSequence, Unreadable, TooLong, TooMany}
+use Rattle.debug_outcome.specs.declared.refusal.TextFault.{TextFault}
+use Rattle.debug_outcome.specs.declared.refusal.TextFault.TheVariants.{Misspelled, LongToken, TooNested}
+use Rattle.debug_outcome.specs.declared.refusal.Misspelling.{Misspelling}
+use Rattle.debug_outcome.specs.declared.refusal.Misspelling.TheVariants as misspelling
+use Rattle.debug_outcome.specs.declared.refusal.RuleFault.{RuleFault}
+use Rattle.debug_outcome.specs.declared.refusal.RuleFault.TheVariants.{Broken, Passed}
+use Rattle.debug_outcome.specs.declared.refusal.Rule.{Rule}
+use Rattle.debug_outcome.specs.declared.refusal.Rule.TheVariants.{Unknown, Duplicate, Mismatch, NotStatic, RangeBad, NotVariable, ReadOut, ArgCount, ChoiceBad, ArrayUse, TextUse, NotException, SharedVariable, AcceptPlace, SelectForm, SameEntryTwice, ReservedName, MainEntry, AbortOrder, BodyMissing, ExitPlace, RaisePlace}
+use Rattle.debug_outcome.specs.declared.refusal.SequenceFault.{SequenceFault}
+use Rattle.debug_outcome.specs.declared.refusal.SequenceFault.TheVariants as fault
+
+-- a text that has a fault is refused, and one that passes a limit is told so
+abbrev pub text_status : TextFault → ℕ
+text_status (Misspelled what line column) = 1
+text_status (LongToken limit) = 8
+text_status (TooNested limit) = 8
+
+-- a program that breaks a rule is refused, and one that passes a limit is told so
+abbrev pub rule_status : RuleFault → ℕ
+rule_status (Broken rule line column) = 1
+rule_status (Passed what limit) = 8
+
+-- the status of a refusal
+abbrev pub refusal_status : Refusal → ℕ
+refusal_status (BadText found) = text_status found
+refusal_status (BadProgram found) = rule_status found
+refusal_status (NotYet line column) = 1
+refusal_status Usage = 2
+refusal_status (BadSequence found line) = 3
+refusal_status (Unreadable name) = 6
+refusal_status (TooLong limit) = 8
+refusal_status (TooMany limit) = 8
+
+-- the words before the name of a file that cannot be read; they stay shut, so that they do not compute away
+unfoldable pub unread_words : List ℕ
+unread_words = codes "ded: cannot read "
+
+-- the words that the line of a refusal begins with, or all of it; they stay shut too
+unfoldable pub first_words : Refusal → List ℕ
+first_words (BadText (Misspelled what line column)) = codes "ded: program refused: "
+first_words (BadText (LongToken limit)) = codes "ded: limit token "
+first_words (BadText (TooNested limit)) = codes "ded: limit nesting "
+first_words (BadProgram (Broken rule line column)) = codes "ded: program refused: "
+first_words (BadProgram (Passed what limit)) = codes "ded: limit "
+first_words (NotYet line column) = codes "ded: program refused: "
+first_words Usage = codes "ded: usage\n"
+first_words (BadSequence found line) = codes "ded: sequence refused: "
+first_words (Unreadable name) = unread_words
+first_words (TooLong limit) = codes "ded: limit file "
+first_words (TooMany limit) = codes "ded: limit events "
+
+-- the line where there was no memory; it stays shut too
+unfoldable pub memory_line : List ℕ
+memory_line = codes "ded: out of memory\n"
+
+-- the name of what is wrong at a place of a text
+abbrev pub misspelling_name : Misspelling → List ℕ
+misspelling_name misspelling.BadByte = codes "BadByte"
+misspelling_name misspelling.OpenString = codes "OpenString"
+misspelling_name misspelling.BadNumber = codes "BadNumber"
+misspelling_name misspelling.Syntax = codes "Syntax"
+
+-- the name of a rule
+abbrev pub rule_name : Rule → List ℕ
+rule_name Unknown = codes "Unknown"
+rule_name Duplicate = codes "Duplicate"
+rule_name Mismatch = codes "Mismatch"
+rule_name NotStatic = codes "NotStatic"
+rule_name RangeBad = codes "RangeBad"
+rule_name NotVariable = codes "NotVariable"
+rule_name ReadOut = codes "ReadOut"
+rule_name ArgCount = codes "ArgCount"
+rule_name ChoiceBad = codes "ChoiceBad"
+rule_name ArrayUse = codes "ArrayUse"
+rule_name TextUse = codes "TextUse"
+rule_name NotException = codes "NotException"
+rule_name SharedVariable = codes "SharedVariable"
+rule_name AcceptPlace = codes "AcceptPlace"
+rule_name SelectForm = codes "SelectForm"
+rule_name SameEntryTwice = codes "SameEntryTwice"
+rule_name ReservedName = codes "ReservedName"
+rule_name MainEntry = codes "MainEntry"
+rule_name AbortOrder = codes "AbortOrder"
+rule_name BodyMissing = codes "BodyMissing"
+rule_name ExitPlace = codes "ExitPlace"
+rule_name RaisePlace = codes "RaisePlace"
+
+-- the word for what a limit counts
+abbrev pub what_word : What → List ℕ
+what_word counted.Name = codes "name"
+what_word counted.Nesting = codes "nesting"
+what_word counted.Tasks = codes "tasks"
+what_word counted.Entries = codes "entries"
+what_word counted.Members = codes "members"
+what_word counted.Components = codes "components"
+what_word counted.Alternatives = codes "alternatives"
+what_word counted.Formals = codes "formals"
+what_word counted.Copies = codes "copies"
+
+-- the name of what is wrong with a line of a sequence
+abbrev pub fault_name : SequenceFault → List ℕ
+fault_name fault.BadLine = codes "BadLine"
+fault_name fault.OtherProgram = codes "OtherProgram"
+fault_name fault.BadNumber = codes "BadNumber"
+fault_name fault.AfterEnd = codes "AfterEnd"
+
+-- words, a name and the end of the line
+abbrev pub named_line : List ℕ → List ℕ → List ℕ
+named_line words name = words ⧺ (name ⧺ codes "\n")
+
+-- words, what is wrong and where
+abbrev pub fault_line : List ℕ → SequenceFault → ℕ → List ℕ
+fault_line words found line = words ⧺ (fault_name found ⧺ (codes " at line " ⧺ (decimal line ⧺ codes "\n")))
+
+-- words, the name of what is wrong, and its place
+abbrev pub place_line : List ℕ → List ℕ → ℕ → ℕ → List ℕ
+place_line words name line column = words ⧺ (name ⧺ (codes " at " ⧺ (decimal line ⧺ (codes ":" ⧺ (decimal column ⧺ codes "\n")))))
+
+-- words, what a limit counts, and the limit
+abbrev pub passed_line : List ℕ → What → ℕ → List ℕ
+passed_line words what limit = words ⧺ (what_word what ⧺ (codes " " ⧺ (decimal limit ⧺ codes "\n")))
+
+-- the line for a text's fault
+abbrev pub text_line : TextFault → List ℕ
+text_line (Misspelled what line column) = place_line (first_words (BadText (Misspelled what line column))) (misspelling_name what) line column
+text_line (LongToken limit) = named_line (first_words (BadText (LongToken limit))) (decimal limit)
+text_line (TooNested limit) = named_line (first_words (BadText (TooNested limit))) (decimal limit)
+
+-- the line for a program's fault
+abbrev pub rule_line : RuleFault → List ℕ
+rule_line (Broken rule line column) = place_line (first_words (BadProgram (Broken rule line column))) (rule_name rule) line column
+rule_line (Passed what limit) = passed_line (first_words (BadProgram (Passed what limit))) what limit
+
+-- The line that a refusal puts on the error output, with the name of the file of which it speaks.
+abbrev pub refusal_line : Refusal → List ℕ
+refusal_line (BadText found) = text_line found
+refusal_line (BadProgram found) = rule_line found
+refusal_line (NotYet line column) = place_line (first_words (NotYet line column)) (codes "NotYet") line column
+refusal_line Usage = first_words Usage
+refusal_line (BadSequence found line) = fault_line (first_words (BadSequence found line)) found line
+refusal_line (Unreadable name) = named_line unread_words name.now
+refusal_line (TooLong limit) = named_line (first_words (TooLong limit)) (decimal limit)
+refusal_line (TooMany limit) = named_line (first_words (TooMany limit)) (decimal limit)

@@ -1,0 +1,11 @@
+//! What a call of the program comes to: refusals with their status and line, the loading of files, and how an outcome is delivered.
+#![tactic(auto)]
+
+mod loading;
+mod refusal;
+mod stopping;
+mod telling;
+
+pub use loading::load_file;
+pub use refusal::{Misspelling, Refusal, Rule, RuleFault, SequenceFault, TextFault};
+pub use stopping::{Stop, tell};

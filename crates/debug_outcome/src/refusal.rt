@@ -1,0 +1,138 @@
+//! Why a command is refused, and with which status.
+
+ghost use Rattle.std.specs.Prelude.{◌≡◌};
+ghost use Rattle.debug_outcome.specs.Refusals.{refusal_status, text_status, rule_status};
+
+use syn_event::What;
+
+/// Why a command is refused. Lines and columns count from 1.
+#[derive(Clone, Copy)]
+pub enum Refusal<'w> {
+    /// The program's text is read as none of the language, for this fault.
+    BadText(TextFault),
+    /// The program is read, and breaks a static rule or passes a limit.
+    BadProgram(RuleFault),
+    /// The program meets all static rules, and has a form at a place that is not run yet.
+    NotYet { line: u32, column: u32 },
+    /// The words are no row of words.
+    Usage,
+    /// The sequence is refused, at a line.
+    BadSequence { fault: SequenceFault, line: u32 },
+    /// The file of this name cannot be read.
+    Unreadable(&'w str),
+    /// A file is longer than the limit, in bytes.
+    TooLong { limit: u64 },
+    /// The sequence has more events than the limit.
+    TooMany { limit: u32 },
+}
+
+/// Why a text is read as no program.
+#[derive(Clone, Copy)]
+pub enum TextFault {
+    /// What stands at a place breaks a rule of tokens or of the grammar.
+    Misspelled {
+        what: Misspelling,
+        line: u32,
+        column: u32,
+    },
+    /// An identifier, or the content of a string, has more bytes than the limit.
+    LongToken {
+        limit: u32,
+    },
+    /// Its parts are nested deeper than the limit.
+    TooNested {
+        limit: u32,
+    },
+}
+
+/// What is wrong at a place of a text.
+#[derive(Clone, Copy)]
+pub enum Misspelling {
+    BadByte,
+    OpenString,
+    BadNumber,
+    Syntax,
+}
+
+/// Why a program that was read is refused.
+#[derive(Clone, Copy)]
+pub enum RuleFault {
+    /// What stands at a place breaks a static rule.
+    Broken { rule: Rule, line: u32, column: u32 },
+    /// A limit is passed.
+    Passed { what: What, limit: u32 },
+}
+
+/// The static rules by their names, without that on limits.
+#[derive(Clone, Copy)]
+pub enum Rule {
+    Unknown,
+    Duplicate,
+    Mismatch,
+    NotStatic,
+    RangeBad,
+    NotVariable,
+    ReadOut,
+    ArgCount,
+    ChoiceBad,
+    ArrayUse,
+    TextUse,
+    NotException,
+    SharedVariable,
+    AcceptPlace,
+    SelectForm,
+    SameEntryTwice,
+    ReservedName,
+    MainEntry,
+    AbortOrder,
+    BodyMissing,
+    ExitPlace,
+    RaisePlace,
+}
+
+/// What is wrong with the first bad line of a sequence.
+#[derive(Clone, Copy)]
+pub enum SequenceFault {
+    BadLine,
+    OtherProgram,
+    BadNumber,
+    AfterEnd,
+}
+
+impl Refusal<'_> {
+    /// The status that the program ends with.
+    pub fn status(self) -> u8
+        ensures { result ≡ refusal_status self.entry }
+    {
+        match self {
+            Refusal::BadText(fault) => text_status(fault),
+            Refusal::BadProgram(fault) => rule_status(fault),
+            Refusal::NotYet { .. } => 1,
+            Refusal::Usage => 2,
+            Refusal::BadSequence { .. } => 3,
+            Refusal::Unreadable(_) => 6,
+            Refusal::TooLong { .. } => 8,
+            Refusal::TooMany { .. } => 8,
+        }
+    }
+}
+
+// The status of a text's fault.
+fn text_status(fault: TextFault) -> u8
+    ensures { result ≡ text_status fault }
+{
+    match fault {
+        TextFault::Misspelled { .. } => 1,
+        TextFault::LongToken { .. } | TextFault::TooNested { .. } => 8,
+    }
+}
+
+// The status of a program's fault.
+fn rule_status(fault: RuleFault) -> u8
+    ensures { result ≡ rule_status fault }
+{
+    match fault {
+        RuleFault::Broken { .. } => 1,
+        RuleFault::Passed { .. } => 8,
+    }
+}

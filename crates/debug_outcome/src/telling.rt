@@ -1,0 +1,252 @@
+//! The lines of refusals on the error output.
+
+ghost use Rattle.std.specs.Prelude.{◌≡◌, decimal};
+ghost use Rattle.ded_io.specs.Counts.{HasCause};
+ghost use Rattle.ded_io.specs.Written.{Wrote};
+ghost use Rattle.debug_outcome.specs.Refusals.{refusal_line, first_words, unread_words, fault_name, named_line, fault_line, place_line, passed_line, text_line, rule_line, misspelling_name, rule_name, what_word};
+
+use crate::refusal::{Misspelling, Refusal, Rule, RuleFault, SequenceFault, TextFault};
+use ded_io::{Sink, SinkError};
+use itoa::Buffer;
+use syn_event::What;
+
+// Writes the line of a refusal, with the file's name where it has one.
+pub(crate) fn put_refusal<K: Sink>(refusal: Refusal<'_>, err: &mut K) -> Result<(), SinkError>
+    ensures bytes { Wrote result (K.told err.old) (K.told err.new) (refusal_line refusal.entry) }
+    ensures cause { HasCause (K.faults err.old) (K.faults err.new) result }
+{
+    match refusal {
+        Refusal::BadText(fault) => put_text_fault(fault, err),
+        Refusal::BadProgram(fault) => put_rule_fault(fault, err),
+        Refusal::NotYet { line, column } => {
+            put_place(
+                Refusal::NotYet { line, column },
+                b"NotYet",
+                line,
+                column,
+                err,
+            )
+        }
+        Refusal::Usage => err.put(first_words(Refusal::Usage)),
+        Refusal::BadSequence { fault, line } => put_fault(fault, line, err),
+        Refusal::Unreadable(name) => put_unread(name, err),
+        Refusal::TooLong { limit } => put_limit(Refusal::TooLong { limit }, limit, err),
+        Refusal::TooMany { limit } => put_limit(Refusal::TooMany { limit }, limit as u64, err),
+    }
+}
+
+// Writes what is wrong with a sequence, and where.
+#[tactic(auto, using(ded_io::proofs::Writes::writes))]
+fn put_fault<K: Sink>(fault: SequenceFault, line: u32, err: &mut K) -> Result<(), SinkError>
+    ensures bytes { Wrote result (K.told err.old) (K.told err.new) (fault_line (first_words (Refusal.BadSequence fault line)) fault line) }
+    ensures cause { HasCause (K.faults err.old) (K.faults err.new) result }
+{
+    err.put(first_words(Refusal::BadSequence { fault, line }))?;
+    err.put(name_of(fault))?;
+    err.put(b" at line ")?;
+    put_number(line as u64, err)?;
+    err.put(b"\n")
+}
+
+// Writes what is wrong with a text, and where, or the limit that it passes.
+fn put_text_fault<K: Sink>(fault: TextFault, err: &mut K) -> Result<(), SinkError>
+    ensures bytes { Wrote result (K.told err.old) (K.told err.new) (text_line fault) }
+    ensures cause { HasCause (K.faults err.old) (K.faults err.new) result }
+{
+    match fault {
+        TextFault::Misspelled { what, line, column } => {
+            put_place(
+                Refusal::BadText(fault),
+                misspelling_name(what),
+                line,
+                column,
+                err,
+            )
+        }
+        TextFault::LongToken { limit } => put_limit(Refusal::BadText(fault), limit as u64, err),
+        TextFault::TooNested { limit } => put_limit(Refusal::BadText(fault), limit as u64, err),
+    }
+}
+
+// Writes which rule a program breaks, and where, or the limit that it passes.
+fn put_rule_fault<K: Sink>(fault: RuleFault, err: &mut K) -> Result<(), SinkError>
+    ensures bytes { Wrote result (K.told err.old) (K.told err.new) (rule_line fault) }
+    ensures cause { HasCause (K.faults err.old) (K.faults err.new) result }
+{
+    match fault {
+        RuleFault::Broken { rule, line, column } => {
+            put_place(
+                Refusal::BadProgram(fault),
+                rule_name(rule),
+                line,
+                column,
+                err,
+            )
+        }
+        RuleFault::Passed { what, limit } => put_passed(what, limit, err),
+    }
+}
+
+// Writes that a program passes a limit.
+#[tactic(auto, using(ded_io::proofs::Writes::writes))]
+fn put_passed<K: Sink>(what: What, limit: u32, err: &mut K) -> Result<(), SinkError>
+    ensures bytes { Wrote result (K.told err.old) (K.told err.new) (passed_line (first_words (Refusal.BadProgram (RuleFault.Passed what limit))) what limit) }
+    ensures cause { HasCause (K.faults err.old) (K.faults err.new) result }
+{
+    err.put(first_words(Refusal::BadProgram(RuleFault::Passed { what, limit })))?;
+    err.put(what_word(what))?;
+    err.put(b" ")?;
+    put_number(limit as u64, err)?;
+    err.put(b"\n")
+}
+
+// Writes the name of what is wrong with a program, and where.
+#[tactic(auto, using(ded_io::proofs::Writes::writes))]
+fn put_place<K: Sink>(
+    refusal: Refusal<'_>,
+    name: &[u8],
+    line: u32,
+    column: u32,
+    err: &mut K,
+) -> Result<(), SinkError>
+    ensures bytes { Wrote result (K.told err.old) (K.told err.new) (place_line (first_words refusal.entry) name.now line column) }
+    ensures cause { HasCause (K.faults err.old) (K.faults err.new) result }
+{
+    err.put(first_words(refusal))?;
+    err.put(name)?;
+    err.put(b" at ")?;
+    put_number(line as u64, err)?;
+    err.put(b":")?;
+    put_number(column as u64, err)?;
+    err.put(b"\n")
+}
+
+// Writes that a file cannot be read.
+#[tactic(auto, using(ded_io::proofs::Writes::writes))]
+fn put_unread<K: Sink>(name: &str, err: &mut K) -> Result<(), SinkError>
+    ensures bytes { Wrote result (K.told err.old) (K.told err.new) (named_line unread_words name.now) }
+    ensures cause { HasCause (K.faults err.old) (K.faults err.new) result }
+{
+    err.put(unread_words())?;
+    err.put(name.as_bytes())?;
+    err.put(b"\n")
+}
+
+// Writes that a limit is passed.
+#[tactic(auto, using(ded_io::proofs::Writes::writes))]
+fn put_limit<K: Sink>(refusal: Refusal<'_>, limit: u64, err: &mut K) -> Result<(), SinkError>
+    ensures bytes { Wrote result (K.told err.old) (K.told err.new) (named_line (first_words refusal.entry) (decimal limit)) }
+    ensures cause { HasCause (K.faults err.old) (K.faults err.new) result }
+{
+    err.put(first_words(refusal))?;
+    put_number(limit, err)?;
+    err.put(b"\n")
+}
+
+// Writes a number in decimal.
+fn put_number<K: Sink>(n: u64, err: &mut K) -> Result<(), SinkError>
+    ensures bytes { Wrote result (K.told err.old) (K.told err.new) (decimal n) }
+    ensures cause { HasCause (K.faults err.old) (K.faults err.new) result }
+{
+    let mut buffer = Buffer::new();
+    err.put(buffer.format(n).as_bytes())
+}
+
+// The name of what is wrong with a line of a sequence.
+fn name_of(fault: SequenceFault) -> &'static [u8]
+    ensures { result.now ≡ fault_name fault }
+{
+    match fault {
+        SequenceFault::BadLine => b"BadLine",
+        SequenceFault::OtherProgram => b"OtherProgram",
+        SequenceFault::BadNumber => b"BadNumber",
+        SequenceFault::AfterEnd => b"AfterEnd",
+    }
+}
+
+// The name of what is wrong with a text.
+fn misspelling_name(what: Misspelling) -> &'static [u8]
+    ensures { result.now ≡ misspelling_name what }
+{
+    match what {
+        Misspelling::BadByte => b"BadByte",
+        Misspelling::OpenString => b"OpenString",
+        Misspelling::BadNumber => b"BadNumber",
+        Misspelling::Syntax => b"Syntax",
+    }
+}
+
+// The name of a rule.
+fn rule_name(rule: Rule) -> &'static [u8]
+    ensures { result.now ≡ rule_name rule }
+{
+    match rule {
+        Rule::Unknown => b"Unknown",
+        Rule::Duplicate => b"Duplicate",
+        Rule::Mismatch => b"Mismatch",
+        Rule::NotStatic => b"NotStatic",
+        Rule::RangeBad => b"RangeBad",
+        Rule::NotVariable => b"NotVariable",
+        Rule::ReadOut => b"ReadOut",
+        Rule::ArgCount => b"ArgCount",
+        Rule::ChoiceBad => b"ChoiceBad",
+        Rule::ArrayUse => b"ArrayUse",
+        Rule::TextUse => b"TextUse",
+        Rule::NotException => b"NotException",
+        Rule::SharedVariable => b"SharedVariable",
+        Rule::AcceptPlace => b"AcceptPlace",
+        Rule::SelectForm => b"SelectForm",
+        Rule::SameEntryTwice => b"SameEntryTwice",
+        Rule::ReservedName => b"ReservedName",
+        Rule::MainEntry => b"MainEntry",
+        Rule::AbortOrder => b"AbortOrder",
+        Rule::BodyMissing => b"BodyMissing",
+        Rule::ExitPlace => b"ExitPlace",
+        Rule::RaisePlace => b"RaisePlace",
+    }
+}
+
+// The word for what a limit counts.
+fn what_word(what: What) -> &'static [u8]
+    ensures { result.now ≡ what_word what }
+{
+    match what {
+        What::Name => b"name",
+        What::Nesting => b"nesting",
+        What::Tasks => b"tasks",
+        What::Entries => b"entries",
+        What::Members => b"members",
+        What::Components => b"components",
+        What::Alternatives => b"alternatives",
+        What::Formals => b"formals",
+        What::Copies => b"copies",
+    }
+}
+
+// The words before the name of a file that cannot be read.
+#[tactic(auto, unfolding(crate::specs::Refusals::unread_words))]
+fn unread_words() -> &'static [u8]
+    ensures { result.now ≡ unread_words }
+{
+    b"ded: cannot read "
+}
+
+// The words that the line of a refusal begins with, or all of it.
+#[tactic(auto, unfolding(crate::specs::Refusals::first_words))]
+fn first_words(refusal: Refusal<'_>) -> &'static [u8]
+    ensures { result.now ≡ first_words refusal.entry }
+{
+    match refusal {
+        Refusal::BadText(TextFault::Misspelled { .. }) => b"ded: program refused: ",
+        Refusal::BadText(TextFault::LongToken { .. }) => b"ded: limit token ",
+        Refusal::BadText(TextFault::TooNested { .. }) => b"ded: limit nesting ",
+        Refusal::BadProgram(RuleFault::Broken { .. }) => b"ded: program refused: ",
+        Refusal::BadProgram(RuleFault::Passed { .. }) => b"ded: limit ",
+        Refusal::NotYet { .. } => b"ded: program refused: ",
+        Refusal::Usage => b"ded: usage\n",
+        Refusal::BadSequence { .. } => b"ded: sequence refused: ",
+        Refusal::Unreadable(_) => unread_words(),
+        Refusal::TooLong { .. } => b"ded: limit file ",
+        Refusal::TooMany { .. } => b"ded: limit events ",
+    }
+}

@@ -1,0 +1,125 @@
+-- The text of a run from its pieces: what stands on the output where all were written, and where one was cut short.
+use Rattle.std.proofs.Common.{◌≡◌, ℕ, List, [], ◌++◌, ap, sym, subst, ◌∙◌, refl, append_assoc, Option, Ok, Err}
+use Rattle.ded_io.specs.Counts.{Rose}
+use Rattle.ded_io.specs.Written.{appended, Began, Wrote, ◌⧺◌}
+use Rattle.ded_io.specs.Stored.{first_choice, behind_choice}
+use Rattle.ded_io.proofs.Writes.{appended-appended, began_then, joined}
+use Rattle.ada_tree.specs.PlainProgram.{PProgram}
+use Rattle.interp.specs.declared.report.RunEnd.{RunEnd}
+use Rattle.interp.specs.Lines.{lines_of}
+use Rattle.interp.specs.Picked.{Position, picked, ending}
+use Rattle.syn_event.specs.Numbering.{Numbering}
+use Rattle.task_machine.specs.Opening.{opening_of}
+use Rattle.task_machine.specs.Table.{Whole}
+use Rattle.debug_text.specs.RunText.{header, rest_of_run, run_text}
+use Rattle.debug_outcome.specs.Coming.{HasPut, HasBroken, HasBegun}
+use Rattle.debug_run.specs.RunOutcomes.{IsRunOf, first_run, run_status, text_at}
+
+-- a front of the first piece is one of all
+began_front : (old new : Option (List ℕ)) (a b : List ℕ) → Began old new a → Began old new (a ⧺ b)
+began_front old new a b (front, rest, is_front, is_new) =
+    (front, rest ++ b, joined a b ∙ ap (λ t. t ++ b) is_front ∙ append_assoc front rest b, is_new)
+
+-- a front of the second piece behind the first
+began_behind : (old mid new : Option (List ℕ)) (a b : List ℕ) → mid ≡ appended old a → Began mid new b → Began old new (a ⧺ b)
+began_behind old mid new a b e h = subst (Began old new) (sym (joined a b)) (began_then old mid new a b e h)
+
+-- two pieces
+both_pieces : (old mid new : Option (List ℕ)) (a b : List ℕ) → mid ≡ appended old a → new ≡ appended mid b → new ≡ appended old (a ⧺ b)
+both_pieces old mid new a b e f = f ∙ ap (λ t. appended t b) e ∙ appended-appended old a b ∙ ap (λ t. appended old t) (sym (joined a b))
+
+-- what a write that went well has written, and one that failed
+done : (A E : Type 0) (x : A) (old new : Option (List ℕ)) (a : List ℕ) → Wrote {E = E} (Ok x) old new a → new ≡ appended old a
+unfolding Wrote
+done A E x old new a h = h
+
+begun : (A E : Type 0) (e : E) (old new : Option (List ℕ)) (a : List ℕ) → Wrote {A = A} (Err e) old new a → Began old new a
+unfolding Wrote
+begun A E e old new a h = h
+
+module _ (program : PProgram) (numbers : Numbering) (turns : ℕ) (told0 told1 : Option (List ℕ)) (count0 count1 : ℕ) where
+  abbrev run : Position (List ℕ)
+  run = first_run program numbers turns
+
+  abbrev lines : List ℕ
+  lines = lines_of numbers run.events
+
+  abbrev rest : List ℕ
+  rest = rest_of_run program.names numbers (ending run) run.made
+
+  -- the first line was not written whole
+  pub header_cut : (A E : Type 0) (e : E) → Wrote {A = A} (Err e) told0 told1 (header program.names numbers) → Rose count0 count1 → HasBroken (IsRunOf program numbers turns) told0 told1 count0 count1
+  header_cut A E e wrote rose = record {
+    text = text_at program numbers run;
+    status = run_status (ending run);
+    called = refl;
+    put = (began_front told0 told1 (header program.names numbers) (lines ⧺ rest) (begun A E e told0 told1 (header program.names numbers) wrote), rose);
+  }
+
+  module _ (B F : Type 0) (x : B) (m : Whole) (c : List ℕ) (told2 : Option (List ℕ)) (count2 : ℕ) (m_is : m ≡ opening_of program numbers) (c_is : c ≡ []) (wrote : Wrote {E = F} (Ok x) told0 told1 (header program.names numbers)) (still : count1 ≡ count0) where
+    is_first : picked first_choice behind_choice turns m c ≡ run
+    is_first = ap (λ a. picked first_choice behind_choice turns a c) m_is ∙ ap (λ b. picked first_choice behind_choice turns (opening_of program numbers) b) c_is
+
+    first_written : told1 ≡ appended told0 (header program.names numbers)
+    first_written = done B F x told0 told1 (header program.names numbers) wrote
+
+    lines_begun : Began told1 told2 (lines_of numbers (picked first_choice behind_choice turns m c).events) → Began told0 told2 (text_at program numbers run)
+    lines_begun h =
+        began_behind told0 told1 told2 (header program.names numbers) (lines ⧺ rest) first_written
+        (began_front told1 told2 lines rest (subst (λ (p : Position (List ℕ)). Began told1 told2 (lines_of numbers p.events)) is_first h))
+
+    -- a write of the lines failed
+    pub lines_cut : Began told1 told2 (lines_of numbers (picked first_choice behind_choice turns m c).events) → Rose count1 count2 → HasBroken (IsRunOf program numbers turns) told0 told2 count0 count2
+    lines_cut h rose = record {
+      text = text_at program numbers run;
+      status = run_status (ending run);
+      called = refl;
+      put = (lines_begun h, subst (λ n. Rose n count2) still rose);
+    }
+
+    -- there was no memory behind some of the lines
+    pub lines_short : Began told1 told2 (lines_of numbers (picked first_choice behind_choice turns m c).events) → count2 ≡ count1 → HasBegun (IsRunOf program numbers turns) told0 told2 count0 count2
+    lines_short h same = record {
+      text = text_at program numbers run;
+      status = run_status (ending run);
+      called = refl;
+      front = lines_begun h;
+      no_fault = same ∙ still;
+    }
+
+    module _ (end : RunEnd) (made : ℕ) (told3 : Option (List ℕ)) (count3 : ℕ) (lines_are : told2 ≡ appended told1 (lines_of numbers (picked first_choice behind_choice turns m c).events))
+        (made_is : made ≡ (picked first_choice behind_choice turns m c).made) (end_is : end ≡ ending (picked first_choice behind_choice turns m c)) (same : count2 ≡ count1) where
+      rest_is : rest_of_run program.names numbers end made ≡ rest
+      rest_is =
+          ap (λ n. rest_of_run program.names numbers end n) (made_is ∙ ap (λ (p : Position (List ℕ)). p.made) is_first)
+          ∙ ap (λ e. rest_of_run program.names numbers e run.made) (end_is ∙ ap (λ (p : Position (List ℕ)). ending p) is_first)
+
+      lines_written : told2 ≡ appended told1 lines
+      lines_written = lines_are ∙ ap (λ (p : Position (List ℕ)). appended told1 (lines_of numbers p.events)) is_first
+
+      -- what follows the lines was not written whole
+      pub rest_cut : (A E : Type 0) (e : E) → Wrote {A = A} (Err e) told2 told3 (rest_of_run program.names numbers end made) → Rose count2 count3 → HasBroken (IsRunOf program numbers turns) told0 told3 count0 count3
+      rest_cut A E e h rose = record {
+        text = text_at program numbers run;
+        status = run_status (ending run);
+        called = refl;
+        put = (
+          began_behind told0 told1 told3 (header program.names numbers) (lines ⧺ rest) first_written
+              (began_behind told1 told2 told3 lines rest lines_written
+              (begun A E e told2 told3 rest (subst (λ t. Wrote {A = A} (Err e) told2 told3 t) rest_is h))),
+          subst (λ n. Rose n count3) (same ∙ still) rose,
+        );
+      }
+
+      -- all was written
+      pub run_put : (A E : Type 0) (y : A) (status : ℕ) → Wrote {E = E} (Ok y) told2 told3 (rest_of_run program.names numbers end made) → count3 ≡ count2 → status ≡ run_status end → HasPut (IsRunOf program numbers turns) told0 told3 count0 count3 status
+      run_put A E y status h again status_is = record {
+        text = text_at program numbers run;
+        called = ap (λ s. record { out = text_at program numbers run; err = []; status = s }) (status_is ∙ ap run_status (end_is ∙ ap (λ (p : Position (List ℕ)). ending p) is_first));
+        put = (
+          both_pieces told0 told1 told3 (header program.names numbers) (lines ⧺ rest) first_written
+              (both_pieces told1 told2 told3 lines rest lines_written
+              (done A E y told2 told3 rest (subst (λ t. Wrote {E = E} (Ok y) told2 told3 t) rest_is h))),
+          again ∙ same ∙ still,
+        );
+      }

@@ -1,0 +1,6 @@
+//! The run of a program under an empty list of choices, with its text on the output.
+#![tactic(auto)]
+
+mod running;
+
+pub use running::write_run;

@@ -1,0 +1,71 @@
+-- The lines of tasks or of entries, written one after the other.
+use Rattle.std.proofs.Common.{◌≡◌, ℕ, suc, pos, ◌+◌, ◌<◌, List, [], ◌++◌, length, drop, get_or, ap, sym, ◌∙◌, refl, add-one, append_assoc, append-nil, false, ◌≤◌, Option, None, Ok, Err}
+use Rattle.ded_io.specs.Written.{appended, Wrote}
+use Rattle.std.proofs.Math.Seq.{drop-cons}
+use Rattle.std.proofs.lemmas.List.{drop_all}
+use Rattle.ded_io.proofs.Writes.{appended-appended, appended-nil, joined}
+use Rattle.syn_event.specs.declared.numbering.EntryInfo.{EntryInfo}
+use Rattle.syn_event.specs.declared.numbering.TaskInfo.{TaskInfo}
+use Rattle.debug_text.specs.RunText.{lines_at}
+
+-- a front of the whole text is written, and this rest is left
+pub record HasLines (old now : Option (List ℕ)) (all rest : List ℕ) : Type 0 where
+  pub front : List ℕ
+  pub parts : all ≡ front ++ rest
+  pub written : now ≡ appended old front
+
+-- nothing is written yet
+pub lines_none : (old : Option (List ℕ)) (all : List ℕ) → HasLines old old all all
+lines_none old all = record { front = []; parts = refl; written = sym (appended-nil old) }
+
+-- the lines of the members from one on are its line and the rest
+lines_next : {A : Type 0} (line : ℕ → A → List ℕ) (xs : List A) (i : ℕ) (d : A) → i < length xs →
+    lines_at line i (drop i xs) ≡ line i (get_or xs i d) ++ lines_at line (i + 1) (drop (i + 1) xs)
+lines_next line xs i d within =
+    ap (λ ys. lines_at line i ys) (drop-cons xs i d within)
+    ∙ joined (line i (get_or xs i d)) (lines_at line (i + 1) (drop (suc i) xs))
+    ∙ ap (λ k. line i (get_or xs i d) ++ lines_at line (i + 1) (drop k xs)) (sym (add-one i))
+
+-- one more line
+pub lines_more : {A : Type 0} (E B : Type 0) (x : B) (line : ℕ → A → List ℕ) (xs : List A) (i : ℕ) (d : A) (old now new : Option (List ℕ)) (all : List ℕ) → i < length xs →
+    HasLines old now all (lines_at line i (drop i xs)) → Wrote {E = E} (Ok x) now new (line i (get_or xs i d)) → HasLines old new all (lines_at line (i + 1) (drop (i + 1) xs))
+unfolding Wrote
+lines_more E B x line xs i d old now new all within has done =
+    let here : List ℕ = line i (get_or xs i d) in
+    record {
+      front = has.front ++ here;
+      parts =
+          has.parts ∙ ap (λ r. has.front ++ r) (lines_next line xs i d within)
+          ∙ sym (append_assoc has.front here (lines_at line (i + 1) (drop (i + 1) xs)));
+      written = done ∙ ap (λ o. appended o here) has.written ∙ appended-appended old has.front here;
+    }
+
+-- a line could not be written whole
+pub lines_stop : {A E : Type 0} (B : Type 0) (e : E) (line : ℕ → A → List ℕ) (xs : List A) (i : ℕ) (d : A) (old now new : Option (List ℕ)) (all : List ℕ) → i < length xs →
+    HasLines old now all (lines_at line i (drop i xs)) → Wrote {A = B} (Err e) now new (line i (get_or xs i d)) → Wrote {A = B} (Err e) old new all
+unfolding Wrote
+lines_stop B e line xs i d old now new all within has (front, rest, is_front, is_new) =
+    let tail : List ℕ = lines_at line (i + 1) (drop (i + 1) xs) in (
+      has.front ++ front,
+      rest ++ tail,
+      has.parts ∙ ap (λ r. has.front ++ r) (lines_next line xs i d within ∙ ap (λ l. l ++ tail) is_front ∙ append_assoc front rest tail)
+          ∙ sym (append_assoc has.front front (rest ++ tail)),
+      is_new ∙ ap (λ o. appended o front) has.written ∙ appended-appended old has.front front,
+    )
+
+-- all lines are written
+pub lines_all : (E B : Type 0) (x : B) (old now : Option (List ℕ)) (all rest : List ℕ) → HasLines old now all rest → rest ≡ [] → Wrote {E = E} (Ok x) old now all
+unfolding Wrote
+lines_all E B x old now all rest has none =
+    has.written ∙ ap (λ t. appended old t) (sym (has.parts ∙ ap (λ r. has.front ++ r) none ∙ append-nil has.front))
+
+-- behind the last member no line is left
+pub lines_beyond : {A : Type 0} (line : ℕ → A → List ℕ) (xs : List A) (i : ℕ) → length xs ≤ i → lines_at line i (drop i xs) ≡ []
+lines_beyond line xs i past = ap (λ ys. lines_at line i ys) (drop_all i xs past)
+
+-- the task and the entry that stand for none
+abbrev pub no_info : TaskInfo
+no_info = record { name = record { 0 = 0 }; added = false; unit = record { 0 = 0 }; member = None }
+
+abbrev pub no_entry : EntryInfo
+no_entry = record { name = record { 0 = 0 }; owner = 0; family = false; first = pos 0; last = pos 0; added = false; stands_for = None }

@@ -1,0 +1,45 @@
+//! Plays the cases of its standard input, and writes them with their answers in their places. It compares nothing.
+#![tactic(auto)]
+
+mod calling;
+mod escapes;
+mod expressions;
+mod machines;
+mod messages;
+mod naming;
+mod numbering;
+mod outside;
+mod playing;
+mod programs;
+mod rows;
+mod sameness;
+mod sequences;
+mod stage;
+mod texts;
+mod tokens;
+mod trees;
+mod typing;
+mod writing;
+
+use playing::transcript;
+use std::io::{self, Write};
+use std::process::ExitCode;
+
+fn main(rt: HostRuntime) -> ExitCode {
+    match play(&rt) {
+        Ok(()) => ExitCode::SUCCESS,
+        Err(_) => {
+            let _ = eprintln!(rt; "ded_cases: no memory, or the streams failed");
+            ExitCode::FAILURE
+        }
+    }
+}
+
+// Reads the cases, and writes the transcript.
+fn play(rt: &HostRuntime) -> io::Result<()> {
+    let cases = io::read_to_string(rt.alloc(), rt.stdin())?;
+    match transcript(rt.alloc(), cases.as_str()) {
+        Ok(text) => rt.stdout().write_all(text.as_bytes()),
+        Err(_) => Err(io::Error::from(io::ErrorKind::OutOfMemory)),
+    }
+}

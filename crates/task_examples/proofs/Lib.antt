@@ -1,0 +1,7 @@
+pub mod Trees
+pub mod Judging
+mod Waits
+mod Meetings
+mod Aborts
+mod Members
+mod Sequences

@@ -1,0 +1,12 @@
+pub mod Setting
+pub mod Frames
+pub mod Tasks
+pub mod Steps
+pub mod Calls
+pub mod Waits
+pub mod Stands
+pub mod Rendezvous
+pub mod Starting
+pub mod TaskOps
+pub mod Machine
+pub mod Laws

@@ -1,0 +1,4 @@
+pub mod Values
+pub mod Variables
+pub mod Evaluating
+pub mod Texts
