@@ -1,3 +1,2 @@
 pub mod DeclSteps
-pub mod MemberSteps
 pub mod Steps

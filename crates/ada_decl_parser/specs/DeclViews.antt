@@ -1,28 +1,20 @@
--- How names of declarations, and what stands behind an entry's name, are seen plainly.
-use Rattle.std.specs.Prelude.{false, true, ℕ, List, [], ◌∷◌, Option, Some, None, map, option_map}
-use Rattle.lawful_reader.specs.Readers.{Reader, refuse, bind, on, token}
+-- How names of declarations are seen plainly, and a tree with the place of what ends it.
+use Rattle.std.specs.Prelude.{false, true, ℕ, List, [], ◌∷◌, Some, None}
+use Rattle.lawful_reader.specs.Readers.{Reader, refuse, bind, on}
 use Rattle.ada_tree.specs.declared.naming.Span.{Span}
 use Rattle.ada_tree.specs.declared.naming.Word.{Word}
-use Rattle.ada_tree.specs.declared.statements.Formal.{Formal}
-use Rattle.ada_tree.specs.declared.declarations.Drange.{Drange}
-use Rattle.ada_tree.specs.PlainExpr.{PExpr, PDrange, plain_drange}
-use Rattle.ada_tree.specs.PlainStmt.{plain_formal}
 use Rattle.ada_tree.specs.PlainDecl.{PDecl, DNumber, DObject, DException}
 use Rattle.ada_expr_parser.specs.declared.symbols.Symbol.TheVariants as key
 use Rattle.ada_expr_parser.specs.declared.items.Item.{Item}
 use Rattle.ada_expr_parser.specs.Tests.{symbol}
 use Rattle.ada_expr_parser.specs.Trees.{from_to}
 use Rattle.ada_expr_parser.specs.Parts.{expression}
-use Rattle.ada_phrase_parser.specs.Reading.{Behind, key_then, closed, with_id}
+use Rattle.ada_phrase_parser.specs.Reading.{key_then, closed}
 use Rattle.ada_decl_parser.specs.ReadingDeclarations.{shape, init, number_or_constant}
 
 -- a tree, and the place of what ends it
 abbrev pub with_close : {A : Type 0} → A → Span → A × Span
 with_close x close = (x, close)
-
--- what stands behind an entry's name
-abbrev pub family_of : Option Drange → List Formal → Behind PDrange
-family_of family formals = record { index = option_map plain_drange family; formals = map plain_formal formals }
 
 -- what stands behind these names, by the first one and the others
 abbrev pub with_names : (Word → List Word → Reader Item PDecl) → List Word → Reader Item PDecl
@@ -55,8 +47,3 @@ abbrev pub named_of : ℕ → List Word → Span → Reader Item PDecl
 named_of d names lead =
     on (symbol key.Exception) (λ at. closed (λ close. DException names (from_to lead close)))
     (on (symbol key.Constant) (λ at. with_names (number_or_constant d) names) (variable_of d names lead))
-
--- `PRIORITY ( expr ) ;`, where PRIORITY has this id
-abbrev pub priority_by : {A : Type 0} → ℕ → ℕ → (PExpr → Span → A) → Reader Item A
-priority_by id d tree =
-    bind (token (with_id id)) (λ w. key_then key.LeftParen (bind (expression d) (λ e. key_then key.RightParen (closed (λ close. tree e close)))))

@@ -1,4 +1,2 @@
 pub mod DeclViews
-pub mod MemberViews
 pub mod ReadingDeclarations
-pub mod Tasks

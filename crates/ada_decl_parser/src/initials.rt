@@ -18,6 +18,7 @@ use ada_expr_parser::{
 };
 use ada_phrase_parser::{add, from_to, is_symbol};
 use ada_tree::{Expr, ExprKind, Init, Shape, Span};
+use joined_parts::with;
 use std::alloc::Global;
 
 /// `subind | array ( drange ) of subind`
@@ -39,9 +40,9 @@ pub(crate) fn read_shape<'a>(
     }
     let (_, rest) = expect(Symbol::LeftParen, rest)?;
     let (index, rest) = read_drange(alloc, depth, rest)?;
-    let (_, rest) = expect(Symbol::RightParen, rest)?;
-    let (_, rest) = expect(Symbol::Of, rest)?;
-    let (part, rest) = read_subind(alloc, depth, rest)?;
+    let (index, (_, rest)) = with(index, expect(Symbol::RightParen, rest))?;
+    let (index, (_, rest)) = with(index, expect(Symbol::Of, rest))?;
+    let (index, (part, rest)) = with(index, read_subind(alloc, depth, rest))?;
     Ok((Shape::Row { index, part }, rest))
 }
 

@@ -17,6 +17,7 @@ use crate::initials::{read_init, read_shape};
 use ada_expr_parser::{Item, ParseError, Symbol, expect, read_expr};
 use ada_phrase_parser::{add, from_to, is_symbol, read_words, word_in};
 use ada_tree::{Decl, DeclKind, Expr, Init, Shape, Span, Word};
+use joined_parts::with;
 use std::alloc::Global;
 
 // The semicolon of an object.
@@ -32,7 +33,7 @@ fn object_close<'a>(
     ensures tree { Gives (λ x. plain_decl x.0) (λ x. x.1.now) result (reading.closed (λ close. DObject names.items constant (plain_shape shape) (option_map plain_init init) (from_to lead close)) items.now) }
     ensures shorter { IfOk result (λ x. length x.1.now < length items.now) }
 {
-    let (close, rest) = expect(Symbol::Semicolon, items)?;
+    let ((shape, init), (close, rest)) = with((shape, init), expect(Symbol::Semicolon, items))?;
     let span = from_to(lead, close);
     Ok((
         Decl {
@@ -67,7 +68,7 @@ fn variable_rest<'a>(
     if !is_symbol(Symbol::Becomes, *next) {
         return object_close(names, false, shape, None, lead, items);
     }
-    let (init, rest) = read_init(alloc, depth, rest)?;
+    let (shape, (init, rest)) = with(shape, read_init(alloc, depth, rest))?;
     object_close(names, false, shape, Some(init), lead, rest)
 }
 
@@ -84,8 +85,8 @@ fn constant_rest<'a>(
     ensures shorter { IfOk result (λ x. length x.1.now < length items.now) }
 {
     let (shape, rest) = read_shape(alloc, depth, items)?;
-    let (_, rest) = expect(Symbol::Becomes, rest)?;
-    let (init, rest) = read_init(alloc, depth, rest)?;
+    let (shape, (_, rest)) = with(shape, expect(Symbol::Becomes, rest))?;
+    let (shape, (init, rest)) = with(shape, read_init(alloc, depth, rest))?;
     object_close(names, true, shape, Some(init), lead, rest)
 }
 

@@ -14,6 +14,7 @@ ghost use Rattle.ada_decl_parser.specs.ReadingDeclarations as declarations;
 use ada_expr_parser::{Item, ParseError, Symbol, expect, read_drange, read_subind};
 use ada_phrase_parser::{expect_id, from_to, is_id, is_symbol, read_words};
 use ada_tree::{Decl, DeclKind, Span, Word};
+use joined_parts::with;
 use std::alloc::Global;
 
 // The ids of the predefined names of an instance.
@@ -63,10 +64,10 @@ fn array<'a>(
 {
     let (_, rest) = expect(Symbol::LeftParen, items)?;
     let (index, rest) = read_drange(alloc, depth, rest)?;
-    let (_, rest) = expect(Symbol::RightParen, rest)?;
-    let (_, rest) = expect(Symbol::Of, rest)?;
-    let (part, rest) = read_subind(alloc, depth, rest)?;
-    let (close, rest) = expect(Symbol::Semicolon, rest)?;
+    let (index, (_, rest)) = with(index, expect(Symbol::RightParen, rest))?;
+    let (index, (_, rest)) = with(index, expect(Symbol::Of, rest))?;
+    let (index, (part, rest)) = with(index, read_subind(alloc, depth, rest))?;
+    let ((index, part), (close, rest)) = with((index, part), expect(Symbol::Semicolon, rest))?;
     let span = from_to(lead, close);
     Ok((
         Decl {

@@ -27,10 +27,10 @@ use Rattle.ada_expr_laws.proofs.Primaries.{no_place, some_word}
 use Rattle.ada_expr_laws.proofs.Building.{law_drange}
 use Rattle.ada_phrase_parser.specs.Spelling.{Spelling, ◌▷◌, IfThere, Key, Named}
 use Rattle.ada_phrase_parser.specs.Phrases.{Drange, Formals}
-use Rattle.ada_decl_parser.specs.Tasks.{IsEntry}
+use Rattle.ada_task_parser.specs.Tasks.{IsEntry}
 use Rattle.ada_phrase_parser.specs.Reading.{is_symbol, is_formal_mark, behind_index}
 use Rattle.ada_phrase_parser.specs.Reading as pieces
-use Rattle.ada_decl_parser.specs.ReadingDeclarations as reading
+use Rattle.ada_task_parser.specs.ReadingTasks as tasks
 use Rattle.ada_parser.proofs.KitPieces.{KeyAt, Closing, closing_key, closing_then, closing_same, same_self, same_turn, same_behind, same_grouped, placed_key, key_placed}
 use Rattle.ada_parser.proofs.KitReading.{Made, made_key, made_bind, made_then, made_pure, law_word, law_closed, starts_key, starts_last}
 use Rattle.ada_parser.proofs.KitLeading.{symbol_at}
@@ -78,7 +78,7 @@ no_empty d r is = not_both (sym ((law_drange d).careful.complete an_end [] is en
 abbrev DrangeBehind : Word → Texts Item PDrange
 DrangeBehind w d r text = Drange d r (word_item w ∷ text)
 
-law_drange_from : (d : ℕ) (w : Word) → Lawful d (reading.drange_from d w) (reading.drange_from (suc d) w) (DrangeBehind w) EndsRange
+law_drange_from : (d : ℕ) (w : Word) → Lawful d (tasks.drange_from d w) (tasks.drange_from (suc d) w) (DrangeBehind w) EndsRange
 law_drange_from d w = law_onward (word_item w ∷ []) (law_drange d) (λ ts. refl) (λ ts. refl) an_end end_range (a_mark w, [], mark_is d w)
 
 formal_mark_ends : (k : Item) → is_formal_mark k ≡ true → EndsRange k
@@ -142,7 +142,7 @@ range_off d w S = record { begins_with = begins } where
   begins a text x ((r, fs), same, ([], back, from, is, (f, b, split, (at, one), rest))) stop = rw from (rw split (rw one (close_mark at)))
   begins a text x ((r, fs), same, (y ∷ front, back, from, is, rest)) stop = rw from (off r y front is)
 
-law_entry_name : (d : ℕ) (w : Word) → Lawful d (reading.entry_name d w) (reading.entry_name (suc d) w) (NameTexts w) EndsFormals
+law_entry_name : (d : ℕ) (w : Word) → Lawful d (tasks.entry_name d w) (tasks.entry_name (suc d) w) (NameTexts w) EndsFormals
 law_entry_name d w = law_look
     (made_pure (λ fs. held None fs) (law_formals_from d w EndsFormals)).careful
     (law_range (DrangeBehind w) (law_drange_from d w))
@@ -153,7 +153,7 @@ law_entry_name d w = law_look
 abbrev ParenTexts : Texts Item Held
 ParenTexts = Or (Narrow (passed_by word) (RangeTexts Dranges)) (Then (One word) NameTexts)
 
-law_paren : (d : ℕ) → Lawful d (on word (reading.entry_name d) (bind (drange d) behind_index)) (on word (reading.entry_name (suc d)) (bind (drange (suc d)) behind_index)) ParenTexts EndsFormals
+law_paren : (d : ℕ) → Lawful d (on word (tasks.entry_name d) (bind (drange d) behind_index)) (on word (tasks.entry_name (suc d)) (bind (drange (suc d)) behind_index)) ParenTexts EndsFormals
 law_paren d = law_either word (law_entry_name d)
     (narrow_where (passed_by word) (law_range Dranges (law_drange d)).careful nothing)
     narrow_starts (word_item some_word) some_word refl where
@@ -223,7 +223,7 @@ is_paren d lead a (k ∷ more) is = by (tested (word k)) where
   by (inr (w, some)) = inr (w, k ∷ [], more, refl, (k, refl, some), named_paren d w more a.index a.formals lead (subst (λ y. ParenEntry lead d a (y ∷ more)) (word_is k w some) is))
 
 law_paren_entry : (d : ℕ) (lead : Span) → Lawful d
-    (on word (reading.entry_name d) (bind (drange d) behind_index)) (on word (reading.entry_name (suc d)) (bind (drange (suc d)) behind_index)) (ParenEntry lead) EndsFormals
+    (on word (tasks.entry_name d) (bind (drange d) behind_index)) (on word (tasks.entry_name (suc d)) (bind (drange (suc d)) behind_index)) (ParenEntry lead) EndsFormals
 law_paren_entry d lead = law_fit (λ e deep a text is. paren_is e lead a text is) (is_paren d lead) (law_paren d)
 
 abbrev BehindTexts : Texts Item Held
@@ -251,7 +251,7 @@ is_behind d a (k ∷ more) is =
     let (lead, from) = entry_first d a.index a.formals k more is in
     inl (lead, k ∷ [], more, refl, (k, refl, ap (symbol key.LeftParen) from ∙ symbol_takes key.LeftParen lead), subst (λ y. EntryTexts d a (y ∷ more)) from is)
 
-law_entry_behind : (d : ℕ) → Lawful d (reading.entry_behind d) (reading.entry_behind (suc d)) EntryTexts EndsFormals
+law_entry_behind : (d : ℕ) → Lawful d (tasks.entry_behind d) (tasks.entry_behind (suc d)) EntryTexts EndsFormals
 law_entry_behind d = law_fit (λ e deep a text is. behind_is e a text is) (is_behind d)
     (law_on {test = symbol key.LeftParen} (law_paren_entry d) (law_pure d (held None []) EndsFormals).careful (starts_is (λ x stop. stop))
     (symbol_item key.LeftParen no_place) no_place (symbol_takes key.LeftParen no_place))
@@ -263,7 +263,7 @@ unfolding same
 semicolon_formals at = refl
 
 abbrev HeadTexts : Span → Texts Item PEntry
-HeadTexts lead = Made {V = Word × (Held × Span)} (λ v. reading.entry_of v.0 v.1.0 (from_to lead v.1.1)) (λ d v. Named v.0 ▷ EntryTexts d v.1.0 ▷ KeyAt key.Semicolon v.1.1)
+HeadTexts lead = Made {V = Word × (Held × Span)} (λ v. tasks.entry_of v.0 v.1.0 (from_to lead v.1.1)) (λ d v. Named v.0 ▷ EntryTexts d v.1.0 ▷ KeyAt key.Semicolon v.1.1)
 
 -- an entry behind its first word
 abbrev pub EntryLed : Span → Texts Item PEntry
@@ -285,8 +285,8 @@ is_head lead d x text is =
     let (close, place, rest) = key_placed key.Entry (entry_closing d x.name x.family x.formals) x.span lead text is in
     ((x.name, (held x.family x.formals, close)), ap (λ s. record { name = x.name; family = x.family; formals = x.formals; span = s }) place, rest)
 
-pub law_entry : (d : ℕ) (lead : Span) (S : Item → Type 0) → Lawful d (reading.entry_rest d lead) (reading.entry_rest (suc d) lead) (EntryLed lead) S
+pub law_entry : (d : ℕ) (lead : Span) (S : Item → Type 0) → Lawful d (tasks.entry_rest d lead) (tasks.entry_rest (suc d) lead) (EntryLed lead) S
 law_entry d lead S = law_fit (λ e deep x text is. head_is lead e x text is) (is_head lead d)
-    (made_then (λ w v. reading.entry_of w v.0 (from_to lead v.1)) (λ w d v. EntryTexts d v.0 ▷ KeyAt key.Semicolon v.1) (law_word d Anything)
-    (λ w. made_bind (λ b close. reading.entry_of w b (from_to lead close)) (λ b d close. KeyAt key.Semicolon close) (law_entry_behind d)
-    (λ b. law_closed d (λ close. reading.entry_of w b (from_to lead close)) S) (λ b. starts_last key.Semicolon (λ close. reading.entry_of w b (from_to lead close)) semicolon_formals)))
+    (made_then (λ w v. tasks.entry_of w v.0 (from_to lead v.1)) (λ w d v. EntryTexts d v.0 ▷ KeyAt key.Semicolon v.1) (law_word d Anything)
+    (λ w. made_bind (λ b close. tasks.entry_of w b (from_to lead close)) (λ b d close. KeyAt key.Semicolon close) (law_entry_behind d)
+    (λ b. law_closed d (λ close. tasks.entry_of w b (from_to lead close)) S) (λ b. starts_last key.Semicolon (λ close. tasks.entry_of w b (from_to lead close)) semicolon_formals)))

@@ -14,11 +14,11 @@ use Rattle.ada_expr_parser.specs.Trees.{from_to}
 use Rattle.ada_expr_parser.specs.Grammar.{symbol_item, word_item}
 use Rattle.ada_expr_laws.proofs.Plainly.{after_symbol, symbol_then, after_word, word_then}
 use Rattle.ada_phrase_parser.specs.Spelling.{Source, Spelling, ◌▷◌, Key, Named, Placed, Stands}
-use Rattle.ada_decl_parser.specs.Tasks.{Member, entries_in, priorities_in, TaskWord, TaskRest}
+use Rattle.ada_task_parser.specs.Tasks.{Member, entries_in, priorities_in, TaskWord, TaskRest}
 use Rattle.ada_parser.specs.Declarations.{IsDecl}
 use Rattle.ada_stmt_parser.specs.ReadingStatements.{readers}
 use Rattle.ada_parser.specs.ReadingDeclarativeParts as declarative
-use Rattle.ada_decl_parser.specs.ReadingDeclarations as reading
+use Rattle.ada_task_parser.specs.ReadingTasks as tasks
 use Rattle.ada_parser.proofs.KitPieces.{Closing, closing_then, same_grouped, after_key, placed_key, key_placed}
 use Rattle.ada_parser.proofs.KitReading.{key_taken, taken_key}
 use Rattle.ada_parser.proofs.StmtLevels.{LevelLaws}
@@ -70,13 +70,13 @@ module _ (source : Source) where
   one_closing d w ms = closing_then (Named w) (rest_closing source d w ms)
 
   a_kind : (d : ℕ) (w : Word) (ms : List Member) (lead close : Span) (back : List Item) → (Key key.«Type» ▷ Named w ▷ RestShut source d w ms close) back →
-      Decl d (DTask (reading.task_of true w ms) (from_to lead close)) (symbol_item key.Task lead ∷ back)
+      Decl d (DTask (tasks.task_of true w ms) (from_to lead close)) (symbol_item key.Task lead ∷ back)
   a_kind d w ms lead close back is =
       let (spelled, place) = placed_key key.Task (kind_closing d w ms) lead close back is in
       ((ms, record { entries = refl; priorities = refl }, (same_grouped (Key key.Task) (Key key.«Type») (Named w ▷ TaskRest source d w ms)).to (symbol_item key.Task lead ∷ back) spelled), place)
 
   a_task : (d : ℕ) (w : Word) (ms : List Member) (lead close : Span) (back : List Item) → (Named w ▷ RestShut source d w ms close) back →
-      Decl d (DTask (reading.task_of false w ms) (from_to lead close)) (symbol_item key.Task lead ∷ back)
+      Decl d (DTask (tasks.task_of false w ms) (from_to lead close)) (symbol_item key.Task lead ∷ back)
   a_task d w ms lead close back is =
       let (spelled, place) = placed_key key.Task (one_closing d w ms) lead close back is in
       ((ms, record { entries = refl; priorities = refl }, spelled), place)
@@ -87,10 +87,10 @@ module _ (source : Source) where
       led key.Task d a (DTaskBody w ds content (from_to lead close)) lead back text from same (placed_key key.Task (body_closing source d w ds content) lead close back (f, b, split, mark, rest))
   task_is d a lead back text from (inr (inl taken)) =
       let (f, b, split, mark, (w, f2, b2, split2, named, ((ms, close), same, rest))) = key_taken key.«Type» (Then (λ d w. Named w) (RestTexts source lead true)) d a back taken in
-      led key.Task d a (DTask (reading.task_of true w ms) (from_to lead close)) lead back text from same (a_kind d w ms lead close back (f, b, split, mark, (f2, b2, split2, named, rest)))
+      led key.Task d a (DTask (tasks.task_of true w ms) (from_to lead close)) lead back text from same (a_kind d w ms lead close back (f, b, split, mark, (f2, b2, split2, named, rest)))
   task_is d a lead back text from (inr (inr (inl taken))) =
       let (w, b, split, ((ms, close), same, rest)) = after_word (RestTexts source lead false) d a back taken in
-      led key.Task d a (DTask (reading.task_of false w ms) (from_to lead close)) lead back text from same (a_task d w ms lead close back (word_item w ∷ [], b, split, refl, rest))
+      led key.Task d a (DTask (tasks.task_of false w ms) (from_to lead close)) lead back text from same (a_task d w ms lead close back (word_item w ∷ [], b, split, refl, rest))
   task_is d a lead back text from (inr (inr (inr never))) = absurd never
 
   decl_is : (d : ℕ) (a : PDecl) (text : List Item) → DeclTexts source d a text → Decl d a text
@@ -118,7 +118,7 @@ module _ (source : Source) where
   is_task d a lead back text from is = inr (inr (inr (inr (inr (inl (subst (Then (One (symbol key.Task)) (TaskTexts source) d a) (sym from) (symbol_then key.Task (TaskTexts source) d a lead back is)))))))
 
   task_made : (w : Word) (k : Bool) (entries : List PEntry) (priorities : List PPriority) (ms : List Member) (s s' : Span) → entries ≡ entries_in ms → priorities ≡ priorities_in 0 ms → s ≡ s' →
-      DTask (record { name = w; of_kind = k; entries = entries; priorities = priorities }) s ≡ DTask (reading.task_of k w ms) s'
+      DTask (record { name = w; of_kind = k; entries = entries; priorities = priorities }) s ≡ DTask (tasks.task_of k w ms) s'
   task_made w k entries priorities ms s s' same also place = rw same (rw also (rw place refl))
 
   task_decl : (d : ℕ) (w : Word) (k : Bool) (entries : List PEntry) (priorities : List PPriority) (s : Span) (ms : List Member) (text : List Item) → entries ≡ entries_in ms → priorities ≡ priorities_in 0 ms →

@@ -28,6 +28,7 @@ use Rattle.ada_stmt_parser.specs.Statements.{IsBody}
 use Rattle.ada_parser.specs.Declarations.{UnitEnd, Decls}
 use Rattle.ada_phrase_parser.specs.Reading.{is_symbol}
 use Rattle.ada_stmt_parser.specs.ReadingStatements.{readers}
+use Rattle.ada_task_parser.specs.ReadingTasks as tasks
 use Rattle.ada_decl_parser.specs.ReadingDeclarations as reading
 use Rattle.ada_parser.specs.ReadingDeclarativeParts as declarative
 use Rattle.ada_parser.proofs.KitPieces.{Closing, closing_then, closing_same, Same, same_self, same_behind, same_then, same_through, same_grouped}
@@ -185,9 +186,9 @@ module _ (source : Source) where
 
     led_decl : (d : ℕ) (S : Item → Type 0) → Led false leads d
         (on (symbol key.«Type») (λ lead. declarative.name_is (reading.type_rest d lead)) (on (symbol key.Subtype) (λ lead. declarative.name_is (reading.subtype_rest d lead)) (on (symbol key.Package) (λ lead. declarative.name_is (reading.instance lead))
-        (on (symbol key.Pragma) (λ lead. reading.priority source d (λ e close. DPragma e (from_to lead close))) (on (symbol key.Task) (declarative.task_at source d) refuse)))))
+        (on (symbol key.Pragma) (λ lead. tasks.priority source d (λ e close. DPragma e (from_to lead close))) (on (symbol key.Task) (declarative.task_at source d) refuse)))))
         (on (symbol key.«Type») (λ lead. declarative.name_is (reading.type_rest (suc d) lead)) (on (symbol key.Subtype) (λ lead. declarative.name_is (reading.subtype_rest (suc d) lead)) (on (symbol key.Package) (λ lead. declarative.name_is (reading.instance lead))
-        (on (symbol key.Pragma) (λ lead. reading.priority source (suc d) (λ e close. DPragma e (from_to lead close))) (on (symbol key.Task) (declarative.task_at source (suc d)) refuse)))))
+        (on (symbol key.Pragma) (λ lead. tasks.priority source (suc d) (λ e close. DPragma e (from_to lead close))) (on (symbol key.Task) (declarative.task_at source (suc d)) refuse)))))
         (Or (Then (One (symbol key.«Type»)) (λ lead. NameIs (TypeTexts lead))) (Or (Then (One (symbol key.Subtype)) (λ lead. NameIs (SubtypeTexts lead)))
         (Or (Then (One (symbol key.Package)) (λ lead. NameIs (InstanceTexts lead))) (Or (Then (One (symbol key.Pragma)) PragmaTexts) (Or (Then (One (symbol key.Task)) TaskTexts) Never))))) S
     unfolding same

@@ -24,7 +24,7 @@ use Rattle.ada_expr_laws.proofs.Primaries.{no_place}
 use Rattle.ada_phrase_parser.specs.Spelling.{Source, Spelling, ◌▷◌, IfThere, Key, Named, Behind}
 use Rattle.ada_phrase_parser.specs.Phrases.{Expression}
 use Rattle.ada_parser.specs.Declarations.{IsShape, IsInit, IsObject, IsDecl}
-use Rattle.ada_decl_parser.specs.Tasks.{TaskWord, TaskRest}
+use Rattle.ada_task_parser.specs.Tasks.{TaskWord, TaskRest}
 use Rattle.ada_phrase_parser.specs.Reading.{closed}
 use Rattle.ada_decl_parser.specs.ReadingDeclarations as reading
 use Rattle.ada_parser.proofs.KitPieces.{KeyAt, Closing, closing_key, closing_then, placed_word, word_placed, Same, same_grouped, same_through, same_behind}

@@ -28,6 +28,7 @@ use Rattle.ada_phrase_parser.specs.Phrases.{Names, Expression, Drange}
 use Rattle.ada_parser.specs.Declarations.{Subind, ArrayOf}
 use Rattle.ada_phrase_parser.specs.Reading.{closed, key_then, separated, with_id_if, with_id, predefined_word}
 use Rattle.ada_decl_parser.specs.ReadingDeclarations as reading
+use Rattle.ada_task_parser.specs.ReadingTasks as tasks
 use Rattle.ada_parser.specs.ReadingDeclarativeParts as declarative
 use Rattle.ada_parser.proofs.KitPieces.{KeyAt, Closing, closing_key, closing_then, closing_same, Same, same_self, same_grouped, same_through, same_behind}
 use Rattle.ada_parser.proofs.KitReading.{Made, Both, made_key, made_bind, law_word, law_key, law_closed, law_separated, starts_key, starts_last}
@@ -220,7 +221,7 @@ instance_closing w = closing_then (Named w) (closing_then (Key key.Is) (closing_
 abbrev pub PriorityShut : Source → ℕ → PExpr → Span → Spelling
 PriorityShut source d e close = PriorityWord source ▷ Key key.LeftParen ▷ Expression d e ▷ Key key.RightParen ▷ KeyAt key.Semicolon close
 
-pub law_priority : {A : Type 0} (source : Source) (d : ℕ) (tree : PExpr → Span → A) (S : Item → Type 0) → Lawful d (reading.priority source d tree) (reading.priority source (suc d) tree) (Made {V = PExpr × Span} (λ v. tree v.0 v.1) (λ d v. PriorityShut source d v.0 v.1)) S
+pub law_priority : {A : Type 0} (source : Source) (d : ℕ) (tree : PExpr → Span → A) (S : Item → Type 0) → Lawful d (tasks.priority source d tree) (tasks.priority source (suc d) tree) (Made {V = PExpr × Span} (λ v. tree v.0 v.1) (λ d v. PriorityShut source d v.0 v.1)) S
 law_priority source d tree S = made_with_id (id_of source.names (codes "PRIORITY")) (λ v. tree v.0 v.1) _
     (made_key key.LeftParen (λ v. tree v.0 v.1) (Both Expressions (λ e d close. Key key.RightParen ▷ KeyAt key.Semicolon close))
     (made_bind tree (λ e d close. Key key.RightParen ▷ KeyAt key.Semicolon close) (law_expression d)

@@ -17,7 +17,7 @@ use Rattle.ada_expr_parser.specs.Grammar.{symbol_item, word_item, number_item, S
 use Rattle.ada_phrase_parser.specs.Spelling.{Source, Spelling, Nothing, ◌▷◌, Either, May, IfThere, Where, Key, Named, Again, WithId, Duration, StringAt, Behind, Separated, Row, Inside, Placed}
 use Rattle.ada_phrase_parser.specs.Phrases.{Names, EndOf, Expression, Operand, Mode, IsFormal, Formals, AcceptHead, Guard, IsPart, PutText, Choice, WhenChoices, WhenOthers, WhenRaised, Reverse, Drange, IsScheme, DelayOf}
 use Rattle.ada_stmt_parser.specs.Statements.{Target, Callee, Call, IsStmt, AnyStmts, Stmts, ElsePart, OthersPart, IsAccept, IsAlt, IsAltKind, IsAlts, MoreAlts, IsArm, IsArms, MoreArms, IsCaseArm, IsCaseArms, IsBody, HandlerPart, MoreHandlers, IsHandler}
-use Rattle.ada_decl_parser.specs.Tasks.{IsPriority, IsEntry, Member, MEntry, MPriority, IsMember, TaskWord, TaskRest}
+use Rattle.ada_task_parser.specs.Tasks.{IsPriority, IsEntry, Member, MEntry, MPriority, IsMember, TaskWord, TaskRest}
 use Rattle.ada_parser.specs.Declarations.{Subind, ArrayOf, IsShape, IsInit, IsObject, IsInstance, UnitEnd, IsDecl, Decls}
 use Rattle.ada_parser.specs.Units.{PUnit, Context, Units}
 use Rattle.ada_parser.specs.Reads.{is_end}

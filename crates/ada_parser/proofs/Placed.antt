@@ -23,7 +23,7 @@ use Rattle.ada_expr_parser.specs.Trees.{levels}
 use Rattle.ada_expr_parser.specs.Grammar.{Spells, IsExpr, IsBounds, IsRangeOf, IsSubind, IsIndex, AreMore, AreEnclosed, IsSecondList, AreArgs, IsChoiceOf}
 use Rattle.ada_phrase_parser.specs.Phrases.{Names, Expression, Operand, IsFormal, Formals, AcceptHead, Guard, IsPart, PutText, Choice, WhenChoices, WhenRaised, Drange, IsScheme, LoopName, DelayOf}
 use Rattle.ada_stmt_parser.specs.Statements.{Target, Callee, Call, IsStmt, AnyStmts, Stmts, ElsePart, OthersPart, IsAccept, IsAlt, IsAltKind, IsAlts, MoreAlts, IsArm, IsArms, MoreArms, IsCaseArm, IsCaseArms, IsBody, HandlerPart, MoreHandlers, IsHandler}
-use Rattle.ada_decl_parser.specs.Tasks.{IsPriority, IsEntry, Member, MEntry, MPriority, entries_in, priorities_in, IsMember, TaskRest, IsTask}
+use Rattle.ada_task_parser.specs.Tasks.{IsPriority, IsEntry, Member, MEntry, MPriority, entries_in, priorities_in, IsMember, TaskRest, IsTask}
 use Rattle.ada_parser.specs.Declarations.{Subind, ArrayOf, IsShape, IsList, IsInit, IsObject, IsDecl, Decls}
 use Rattle.ada_parser.specs.Units.{IsUnit}
 use Rattle.ada_parser.specs.Reads.{unit_of}

@@ -12,7 +12,7 @@ use Rattle.ada_expr_parser.specs.declared.items.Item.{Item}
 use Rattle.ada_expr_parser.specs.Grammar.{symbol_item, word_item}
 use Rattle.ada_phrase_parser.specs.Spelling.{Source, id_of, StringAt}
 use Rattle.ada_stmt_parser.specs.Statements.{IsStmt}
-use Rattle.ada_decl_parser.specs.Tasks.{MEntry, MPriority, priorities_in}
+use Rattle.ada_task_parser.specs.Tasks.{MEntry, MPriority, priorities_in}
 use Rattle.ada_parser.specs.Declarations.{IsObject}
 use Rattle.ada_tree.specs.WellPlaced.{BodiesLast}
 use Rattle.ada_parser.specs.Units.{Units}

@@ -20,7 +20,7 @@ use Rattle.ada_expr_laws.proofs.Tokens.{symbol_takes}
 use Rattle.ada_expr_laws.proofs.Primaries.{no_place}
 use Rattle.ada_phrase_parser.specs.Spelling.{Source, Spelling, ◌▷◌, Where, Key, Named, Predefined, id_of}
 use Rattle.ada_stmt_parser.specs.Statements.{IsBody}
-use Rattle.ada_decl_parser.specs.Tasks.{TaskWord, TaskRest}
+use Rattle.ada_task_parser.specs.Tasks.{TaskWord, TaskRest}
 use Rattle.ada_parser.specs.Declarations.{UnitEnd, Decls}
 use Rattle.ada_parser.specs.Units.{PUnit, Context, Units}
 use Rattle.ada_stmt_parser.specs.ReadingStatements.{readers}

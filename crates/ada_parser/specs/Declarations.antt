@@ -10,7 +10,7 @@ use Rattle.ada_expr_parser.specs.Grammar.{IsSubind, AreEnclosed}
 use Rattle.ada_phrase_parser.specs.Spelling.{Source, Spelling, Nothing, Never, ◌▷◌, May, IfThere, Where, Key, Named, Again, Predefined, Placed}
 use Rattle.ada_phrase_parser.specs.Phrases.{Names, EndOf, Expression, Drange}
 use Rattle.ada_stmt_parser.specs.Statements.{IsBody}
-use Rattle.ada_decl_parser.specs.Tasks.{IsPriority, IsTask}
+use Rattle.ada_task_parser.specs.Tasks.{IsPriority, IsTask}
 
 -- a subtype indication (3.3.2)
 abbrev pub Subind : ℕ → PSubind → Spelling

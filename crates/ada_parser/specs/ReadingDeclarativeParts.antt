@@ -13,7 +13,8 @@ use Rattle.ada_phrase_parser.specs.Spelling.{Source}
 use Rattle.ada_phrase_parser.specs.Reading.{is_symbol, key_then, end_of}
 use Rattle.ada_stmt_parser.specs.ReadingStatements.{readers, body_rest}
 use Rattle.ada_parser.specs.ReadingRows.{row}
-use Rattle.ada_decl_parser.specs.ReadingDeclarations.{named_rest, names_behind, type_rest, subtype_rest, instance, priority, task_rest, object}
+use Rattle.ada_decl_parser.specs.ReadingDeclarations.{named_rest, names_behind, type_rest, subtype_rest, instance, object}
+use Rattle.ada_task_parser.specs.ReadingTasks.{priority, task_rest}
 
 -- `begin stmts [exception handlers] end [NAME] ;` (6.3, 9.1)
 abbrev pub unit_end : {A : Type 0} → Source → ℕ → Word → (PBody → Span → A) → Reader Item A

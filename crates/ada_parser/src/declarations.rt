@@ -11,9 +11,10 @@ ghost use Rattle.ada_parser.specs.ReadingDeclarativeParts as declarative;
 ghost use Rattle.ada_phrase_parser.specs.Views.{told};
 
 use crate::task_bodies::read_task;
-use ada_decl_parser::{read_instance, read_named, read_pragma, subtype_rest, type_rest};
+use ada_decl_parser::{read_instance, read_named, subtype_rest, type_rest};
 use ada_expr_parser::{Item, ParseError, Symbol, expect, expect_word};
 use ada_phrase_parser::{Source, add, is_symbol, stands, word_in};
+use ada_task_parser::read_pragma;
 use ada_tree::{Decl, DeclKind, NameId, Span};
 use std::alloc::Global;
 

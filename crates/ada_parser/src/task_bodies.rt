@@ -11,9 +11,9 @@ ghost use Rattle.ada_phrase_parser.specs.Views.{told};
 
 use crate::ends::unit_end;
 use crate::objects::read_objects;
-use ada_decl_parser::task_rest;
 use ada_expr_parser::{Item, ParseError, Symbol, expect, expect_word};
 use ada_phrase_parser::{Source, from_to, is_symbol, word_in};
+use ada_task_parser::task_rest;
 use ada_tree::{Decl, DeclKind, NameId, Span, Word};
 use std::alloc::Global;
 

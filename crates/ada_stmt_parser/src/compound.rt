@@ -15,6 +15,7 @@ use ada_compound_parts::{case_end, if_end, read_choices};
 use ada_expr_parser::{Item, ParseError, Symbol, expect, read_expr};
 use ada_phrase_parser::{Source, add, stands};
 use ada_tree::{Arm, CaseArm, Span, Stmt};
+use joined_parts::with;
 use std::alloc::Global;
 
 /// Behind `if`.
@@ -50,8 +51,8 @@ fn read_arm<'a>(
     ensures shorter { IfOk result (λ x. length x.1.now < length items.now) }
 {
     let (test, _, rest) = read_expr(alloc, depth - 1, items)?;
-    let (_, rest) = expect(Symbol::Then, rest)?;
-    let (stmts, rest) = stmts(alloc, source, depth, rest)?;
+    let (test, (_, rest)) = with(test, expect(Symbol::Then, rest))?;
+    let (test, (stmts, rest)) = with(test, stmts(alloc, source, depth, rest))?;
     Ok((Arm { test, stmts }, rest))
 }
 

@@ -11,6 +11,7 @@ use ada_compound_parts::loop_end;
 use ada_expr_parser::{Item, ParseError, Symbol, expect, expect_word, read_drange, read_expr};
 use ada_phrase_parser::{Source, stands};
 use ada_tree::{Scheme, Span, Stmt, Word};
+use joined_parts::with;
 use std::alloc::Global;
 
 /// Behind the word `loop`: its statements and its end.
@@ -29,7 +30,7 @@ pub(crate) fn loop_rest<'a>(
     ensures tree { Gives (λ x. plain_stmt x.0) (λ x. x.1.now) result (statements.loop_rest (statements.inner_at (told source.now) depth) name lead (option_map plain_scheme scheme) items.now) }
     ensures shorter { IfOk result (λ x. length x.1.now < length items.now) }
 {
-    let (stmts, rest) = stmts(alloc, source, depth, items)?;
+    let (scheme, (stmts, rest)) = with(scheme, stmts(alloc, source, depth, items))?;
     loop_end(name, lead, scheme, stmts, rest)
 }
 
@@ -49,7 +50,7 @@ pub(crate) fn while_rest<'a>(
     ensures shorter { IfOk result (λ x. length x.1.now < length items.now) }
 {
     let (test, _, rest) = read_expr(alloc, depth - 1, items)?;
-    let (_, rest) = expect(Symbol::Loop, rest)?;
+    let (test, (_, rest)) = with(test, expect(Symbol::Loop, rest))?;
     loop_rest(
         alloc,
         source,
@@ -79,7 +80,7 @@ fn for_range<'a>(
     ensures shorter { IfOk result (λ x. length x.1.now < length items.now) }
 {
     let (range, rest) = read_drange(alloc, depth - 1, items)?;
-    let (_, rest) = expect(Symbol::Loop, rest)?;
+    let (range, (_, rest)) = with(range, expect(Symbol::Loop, rest))?;
     let scheme = Scheme::For {
         name: index,
         reverse,

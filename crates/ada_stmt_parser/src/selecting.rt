@@ -24,6 +24,7 @@ use ada_phrase_parser::{
     EntryBehind, Source, add, entry_behind, from_to, read_delayed, stands, word_in,
 };
 use ada_tree::{Accept, Alt, AltKind, Call, Callee, Expr, Span, Stmt, StmtKind, Word};
+use joined_parts::with;
 use std::alloc::Global;
 
 /// Behind `select`.
@@ -70,8 +71,8 @@ fn call_rest<'a>(
     ensures tree { Gives (λ x. plain_stmt x.0) (λ x. x.1.now) result (statements.call_rest_of (statements.inner_at (told source.now) depth) lead (plain_call call) items.now) }
     ensures shorter { IfOk result (λ x. length x.1.now < length items.now) }
 {
-    let (_, rest) = expect(Symbol::Semicolon, items)?;
-    let (behind, items) = any_stmts(alloc, source, depth, rest)?;
+    let (call, (_, rest)) = with(call, expect(Symbol::Semicolon, items))?;
+    let (call, (behind, items)) = with(call, any_stmts(alloc, source, depth, rest))?;
     let [next, rest @ ..] = items else {
         return Err(ParseError::Syntax { at: 0 });
     };
@@ -97,7 +98,7 @@ fn conditional_rest<'a>(
     ensures tree { Gives (λ x. plain_stmt x.0) (λ x. x.1.now) result (bind (statements.stmts (statements.inner_at (told source.now) depth)) (λ o. reading.key_then key.End (reading.key_then key.Select (reading.closed (λ close. SConditional (plain_call call) (seen behind.items) o (from_to lead close))))) items.now) }
     ensures shorter { IfOk result (λ x. length x.1.now < length items.now) }
 {
-    let (otherwise, rest) = stmts(alloc, source, depth, items)?;
+    let (call, (otherwise, rest)) = with(call, stmts(alloc, source, depth, items))?;
     conditional_end(lead, call, behind, otherwise, rest)
 }
 
@@ -117,10 +118,10 @@ fn timed_rest<'a>(
     ensures tree { Gives (λ x. plain_stmt x.0) (λ x. x.1.now) result (statements.timed_rest (statements.inner_at (told source.now) depth) lead (plain_call call) (seen behind.items) items.now) }
     ensures shorter { IfOk result (λ x. length x.1.now < length items.now) }
 {
-    let (_, rest) = expect(Symbol::Or, items)?;
-    let (_, rest) = expect(Symbol::Delay, rest)?;
-    let (thousandths, _, rest) = read_delayed(rest)?;
-    let (after, rest) = any_stmts(alloc, source, depth, rest)?;
+    let (call, (_, rest)) = with(call, expect(Symbol::Or, items))?;
+    let (call, (_, rest)) = with(call, expect(Symbol::Delay, rest))?;
+    let (call, (thousandths, _, rest)) = with(call, read_delayed(rest))?;
+    let (call, (after, rest)) = with(call, any_stmts(alloc, source, depth, rest))?;
     timed_end(lead, call, behind, thousandths, after, rest)
 }
 
@@ -312,8 +313,11 @@ fn accept_alt<'a>(
     ensures tree { Gives (λ x. plain_alt x.0) (λ x. x.1.now) result (statements.accept_alt (statements.inner_at (told source.now) depth) (option_map plain_expr guard) first lead items.now) }
     ensures shorter { IfOk result (λ x. length x.1.now < length items.now) }
 {
-    let (accept, rest) = read_accept(alloc, source, depth - 1, lead, items)?;
-    let (stmts, rest) = any_stmts(alloc, source, depth, rest)?;
+    let (guard, (accept, rest)) = with(guard, read_accept(alloc, source, depth - 1, lead, items))?;
+    let ((guard, accept), (stmts, rest)) = with(
+        (guard, accept),
+        any_stmts(alloc, source, depth, rest),
+    )?;
     let span = from_to(first, last_span(accept.span, &stmts));
     Ok((
         Alt {
@@ -340,8 +344,8 @@ fn delay_alt<'a>(
     ensures tree { Gives (λ x. plain_alt x.0) (λ x. x.1.now) result (statements.delay_alt (statements.inner_at (told source.now) depth) (option_map plain_expr guard) first items.now) }
     ensures shorter { IfOk result (λ x. length x.1.now < length items.now) }
 {
-    let (thousandths, close, rest) = read_delayed(items)?;
-    let (stmts, rest) = any_stmts(alloc, source, depth, rest)?;
+    let (guard, (thousandths, close, rest)) = with(guard, read_delayed(items))?;
+    let (guard, (stmts, rest)) = with(guard, any_stmts(alloc, source, depth, rest))?;
     let span = from_to(first, last_span(close, &stmts));
     Ok((
         Alt {
@@ -398,6 +402,6 @@ fn accept_body<'a>(
     ensures tree { Gives (λ x. plain_accept x.0) (λ x. x.1.now) result (bind (statements.stmts (statements.inner_at (told source.now) depth)) (λ l. reading.end_of entry (λ close. accepting (parts_of.head_of entry (behind_of behind.index behind.formals.items) (from_to lead close)) (present l))) items.now) }
     ensures shorter { IfOk result (λ x. length x.1.now < length items.now) }
 {
-    let (stmts, rest) = stmts(alloc, source, depth, items)?;
+    let (behind, (stmts, rest)) = with(behind, stmts(alloc, source, depth, items))?;
     accept_end(entry, behind, stmts, lead, rest)
 }

@@ -1,32 +1,28 @@
-//! Values of the interpreted language: what the tasks read, and the exceptions that they raise.
+//! Values of the interpreted language: what an expression is worth (chapters 3 and 4 of ANSI/MIL-STD-1815A), the exceptions that its
+//! evaluation raises, and what the tasks read.
 #![tactic(auto)]
 
-use ada_tree::NameId;
-use std::marker::Model;
+mod attributes;
+mod bindings;
+mod evaluating;
+mod fixed;
+mod inputs;
+mod naming;
+mod operators;
+mod scoped;
+mod static_law;
+mod subtypes;
+mod values;
 
-/// The input of each task, by its number from 0: the integers that it reads, in order. A task past the end has no input.
-/// A contract sees the list of these lists.
-#[derive(Drop)]
-pub struct Inputs {
-    pub lists: Vec<Vec<i32>>,
-}
-
-impl Model for Inputs {
-    ghost use Rattle.std.specs.Prelude.{ℤ, List, map};
-
-    ghost Value = { List (List ℤ) };
-
-    ghost view = { λ a. map (λ v. v.items) a.lists.items };
-}
-
-/// An exception: one of the predefined ones (11.1) or one that the program declares, by its name.
-#[derive(Clone, Copy, Debug, PartialEq, Eq)]
-pub enum Raised {
-    Constraint,
-    Numeric,
-    Program,
-    Tasking,
-    Storage,
-    End,
-    Other(NameId),
-}
+pub use bindings::{Binding, Scope, Vars};
+pub use evaluating::{bounds, condition, evaluate, narrowed, range};
+pub use fixed::{fixed_value, limits_named};
+pub use inputs::Inputs;
+pub use naming::NameValues;
+pub use scoped::eval;
+pub use static_law::law_of_static_values;
+pub use subtypes::{
+    checked, form_of_mark, integer_limits, is_empty_range, is_true, lies_in, limits_of,
+    limits_of_kind, lower, place_among, place_in, position_of, truth_limits, value_at,
+};
+pub use values::{Form, Limits, Raised, Value};

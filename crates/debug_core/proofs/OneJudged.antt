@@ -7,7 +7,7 @@ use Rattle.ada_tree.specs.PlainProgram.{PProgram}
 use Rattle.ada_tree.specs.TypeTable.{TypeTable}
 use Rattle.event_machine.specs.declared.Event.{Event}
 use Rattle.event_machine.specs.declared.Event.TheVariants.{R, E, S, D, C, T, F, X, B, Z}
-use Rattle.seq_file.specs.Capped.{IsShort}
+use Rattle.seq_file.specs.Short.{IsShort}
 use Rattle.seq_file.specs.declared.errors.SeqError.{SeqError}
 use Rattle.seq_file.proofs.Filing.{reads-unique, reads-no_fault, fault-unique}
 use Rattle.syn_event.specs.declared.numbering.Mode.TheVariants.{Original}

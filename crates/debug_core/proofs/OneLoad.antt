@@ -3,8 +3,9 @@ use Rattle.std.proofs.Common.{◌≡◌, ◌≤◌, ℕ, List, [], ◌∷◌, le
 use Rattle.std.specs.Prelude.{unwrap_or}
 use Rattle.ded_io.specs.Counts.{Rose}
 use Rattle.ded_io.specs.Told.{ToldFile, file_bytes}
-use Rattle.debug_outcome.specs.Loads.{Wanted, WasLoaded, IsUnloaded, AreLoaded, AreUnloaded}
+use Rattle.debug_outcome.specs.Loads.{WasLoaded, IsUnread, IsTooLong, IsUnloaded, AreLoaded, AreUnloaded}
 use Rattle.debug_outcome.specs.Outcomes.{Outcome}
+use Rattle.debug_outcome.specs.Traces.{Wanted, Load}
 
 -- the same option holds one thing, and not nothing
 one_some : {A : Type 0} (o : Option A) (x y : A) → o ≡ Some x → o ≡ Some y → x ≡ y
@@ -20,20 +21,22 @@ module _ (files : List ToldFile) (f f' g g' : ℕ) (still : Rose f f' → ⊥) (
   one_load : (w : Wanted) (a b : List ℕ) → WasLoaded (Some files) w a → WasLoaded (Some files) w b → a ≡ b
   one_load w a b h k = one_some (file_bytes files w.name) a b h.given k.given
 
-  not_both : (w : Wanted) (a : List ℕ) (o : Outcome) → WasLoaded (Some files) w a → IsUnloaded (Some files) f f' w o → ⊥
-  not_both w a o h (inl (inl lacks, is)) = none_some (file_bytes files w.name) a lacks h.given
-  not_both w a o h (inl (inr rose, is)) = still rose
-  not_both w a o h (inr ((bytes, given, longer), is)) =
+  not_both : (w : Wanted) (a : List ℕ) (loads : List Load) (o : Outcome) → WasLoaded (Some files) w a → IsUnloaded (Some files) f f' w loads o → ⊥
+  not_both w a loads o h (inl bad) = elim bad.cause [
+    | inl lacks ↦ none_some (file_bytes files w.name) a lacks h.given
+    | inr rose ↦ still rose
+  ]
+  not_both w a loads o h (inr bad) =
+      let (bytes, given, longer) = bad.longer in
       let same : length bytes ≡ length a = ap length (one_some (file_bytes files w.name) bytes a given h.given) in
       let within : length a ≤ w.limit = h.within in omega arith
 
-  one_refused : (w : Wanted) (o q : Outcome) → IsUnloaded (Some files) f f' w o → IsUnloaded (Some files) g g' w q → o ≡ q
-  one_refused w o q (inl (h, is)) (inl (k, that)) = is ∙ sym that
-  one_refused w o q (inl (inl lacks, is)) (inr ((bytes, given, longer), that)) = absurd (none_some (file_bytes files w.name) bytes lacks given)
-  one_refused w o q (inl (inr rose, is)) (inr k) = absurd (still rose)
-  one_refused w o q (inr ((bytes, given, longer), is)) (inl (inl lacks, that)) = absurd (none_some (file_bytes files w.name) bytes lacks given)
-  one_refused w o q (inr h) (inl (inr rose, that)) = absurd (also rose)
-  one_refused w o q (inr (h, is)) (inr (k, that)) = is ∙ sym that
+  lacks_or_longer : (w : Wanted) (loads others : List Load) (o q : Outcome) → IsUnread (Some files) f f' w loads o → IsTooLong (Some files) w others q → ⊥
+  lacks_or_longer w loads others o q h k =
+      let (bytes, given, longer) = k.longer in elim h.cause [
+        | inl lacks ↦ none_some (file_bytes files w.name) bytes lacks given
+        | inr rose ↦ still rose
+      ]
 
   -- the bytes of all files are one list
   pub one_contents : (ws : List Wanted) (a b : List (List ℕ)) → AreLoaded (Some files) ws a → AreLoaded (Some files) ws b → a ≡ b
@@ -46,17 +49,23 @@ module _ (files : List ToldFile) (f f' g g' : ℕ) (still : Rose f f' → ⊥) (
       ap (λ (z : List ℕ). z ∷ xs) (one_load w x y h.0 k.0) ∙ ap (λ (zs : List (List ℕ)). y ∷ zs) (one_contents ws xs ys h.1 k.1)
 
   -- files that were all loaded refuse nothing
-  pub none_refused : (ws : List Wanted) (a : List (List ℕ)) (o : Outcome) → AreLoaded (Some files) ws a → AreUnloaded (Some files) f f' ws o → ⊥
-  none_refused [] a o h k = k
-  none_refused (w ∷ ws) [] o h k = h
-  none_refused (w ∷ ws) (x ∷ xs) o h (inl refused) = not_both w x o h.0 refused
-  none_refused (w ∷ ws) (x ∷ xs) o h (inr later) = none_refused ws xs o h.1 later.1
+  pub none_refused : (ws : List Wanted) (a : List (List ℕ)) (loads : List Load) (o : Outcome) → AreLoaded (Some files) ws a → AreUnloaded (Some files) f f' ws loads o → ⊥
+  none_refused [] a loads o h k = k
+  none_refused (w ∷ ws) [] loads o h k = h
+  none_refused (w ∷ ws) (x ∷ xs) loads o h (inl refused) = not_both w x loads o h.0 refused
+  none_refused (w ∷ ws) (x ∷ xs) loads o h (inr later) = none_refused ws xs later.rest o h.1 later.later
 
 -- and the refusal of the first that is not loaded is one
 module _ (files : List ToldFile) (f f' g g' : ℕ) (still : Rose f f' → ⊥) (also : Rose g g' → ⊥) where
-  pub one_unloaded : (ws : List Wanted) (o q : Outcome) → AreUnloaded (Some files) f f' ws o → AreUnloaded (Some files) g g' ws q → o ≡ q
-  one_unloaded [] o q h k = absurd h
-  one_unloaded (w ∷ ws) o q (inl h) (inl k) = one_refused files f f' g g' still also w o q h k
-  one_unloaded (w ∷ ws) o q (inl h) (inr k) = absurd (not_both files f f' g g' still also w k.0.0 o k.0.1 h)
-  one_unloaded (w ∷ ws) o q (inr h) (inl k) = absurd (not_both files g g' f f' also still w h.0.0 q h.0.1 k)
-  one_unloaded (w ∷ ws) o q (inr h) (inr k) = one_unloaded ws o q h.1 k.1
+  one_refused : (w : Wanted) (loads others : List Load) (o q : Outcome) → IsUnloaded (Some files) f f' w loads o → IsUnloaded (Some files) g g' w others q → o ≡ q
+  one_refused w loads others o q (inl h) (inl k) = h.is ∙ sym k.is
+  one_refused w loads others o q (inl h) (inr k) = absurd (lacks_or_longer files f f' g g' still also w loads others o q h k)
+  one_refused w loads others o q (inr h) (inl k) = absurd (lacks_or_longer files g g' f f' also still w others loads q o k h)
+  one_refused w loads others o q (inr h) (inr k) = h.is ∙ sym k.is
+
+  pub one_unloaded : (ws : List Wanted) (loads others : List Load) (o q : Outcome) → AreUnloaded (Some files) f f' ws loads o → AreUnloaded (Some files) g g' ws others q → o ≡ q
+  one_unloaded [] loads others o q h k = absurd h
+  one_unloaded (w ∷ ws) loads others o q (inl h) (inl k) = one_refused w loads others o q h k
+  one_unloaded (w ∷ ws) loads others o q (inl h) (inr k) = absurd (not_both files f f' g g' still also w k.bytes loads o k.loaded h)
+  one_unloaded (w ∷ ws) loads others o q (inr h) (inl k) = absurd (not_both files g g' f f' also still w h.bytes others q h.loaded k)
+  one_unloaded (w ∷ ws) loads others o q (inr h) (inr k) = one_unloaded ws h.rest k.rest o q h.later k.later

@@ -1,13 +1,14 @@
 -- What the words and the bytes of the files call for, and what the program answers: such an outcome, delivered (this project's rules).
-use Rattle.std.specs.Prelude.{ℕ, List, [], ◌∷◌, Option, Some, None, ◌⊎◌}
+use Rattle.std.specs.Prelude.{◌≡◌, ℕ, List, [], ◌∷◌, Option, Some, None, ◌⊎◌}
 use Rattle.ded_io.specs.Told.{ToldFile}
 use Rattle.debug_words.specs.Words.{Asked, AsksPrint, AsksCheck, AsksRun, AsksJudge}
 use Rattle.debug_words.specs.declared.command.NoWords.{NoWords}
 use Rattle.debug_words.specs.declared.command.NoWords.TheVariants.{NotText, Memory}
 use Rattle.debug_outcome.specs.Coming.{Never, Tells}
 use Rattle.debug_outcome.specs.Delivery.{Sides, IsDelivered, Ends}
-use Rattle.debug_outcome.specs.Loads.{Wanted, AreLoaded, AreUnloaded}
+use Rattle.debug_outcome.specs.Loads.{AreLoaded, AreUnloaded, all_gave}
 use Rattle.debug_outcome.specs.Outcomes.{Outcome, refuses}
+use Rattle.debug_outcome.specs.Traces.{Wanted, Load}
 use Rattle.debug_outcome.specs.declared.refusal.Refusal.TheVariants.{Usage}
 use Rattle.debug_outcome.specs.declared.stopping.Stop.TheVariants as stop
 use Rattle.debug_core.specs.PrintMeaning.{PrintMeans, printed_limit}
@@ -30,26 +31,27 @@ Means (AsksRun file turns) (text ∷ []) o = RunMeans turns text o
 Means (AsksJudge file sequence bound) (text ∷ lines ∷ []) o = JudgeMeans bound text lines o
 Means asked contents o = ⊥
 
--- The bytes of all files were loaded, and with the words they call for the outcome.
-pub record AreHeld (asked : Asked) (told : Option (List ToldFile)) (o : Outcome) : Type 0 where
+-- The bytes of all files were loaded, each by one load and in the order of the words, and with the words they call for the outcome.
+pub record AreHeld (asked : Asked) (told : Option (List ToldFile)) (loads : List Load) (o : Outcome) : Type 0 where
   pub contents : List (List ℕ)
   pub loaded : AreLoaded told (wanted_by asked) contents
+  pub were : loads ≡ all_gave (wanted_by asked) contents
   pub means : Means asked contents o
 
 -- The words and the files call for the outcome: it is what their bytes mean, or the refusal of the first file that was not loaded.
-abbrev pub CallsFor : Asked → Option (List ToldFile) → ℕ → ℕ → Outcome → Type 0
-CallsFor asked told faults faults' o = AreHeld asked told o ⊎ AreUnloaded told faults faults' (wanted_by asked) o
+abbrev pub CallsFor : Asked → Option (List ToldFile) → ℕ → ℕ → List Load → Outcome → Type 0
+CallsFor asked told faults faults' loads o = AreHeld asked told loads o ⊎ AreUnloaded told faults faults' (wanted_by asked) loads o
 
 -- A run writes its lines as its actions are made, so that want of memory may leave a front of its text; every other text is written once nothing more is needed for it.
-abbrev pub GrowsFor : Asked → Option (List ToldFile) → ℕ → ℕ → Outcome → Type 0
-GrowsFor (AsksRun file turns) told faults faults' o = CallsFor (AsksRun file turns) told faults faults' o
-GrowsFor asked told faults faults' o = ⊥
+abbrev pub GrowsFor : Asked → Option (List ToldFile) → ℕ → ℕ → List Load → Outcome → Type 0
+GrowsFor (AsksRun file turns) told faults faults' loads o = CallsFor (AsksRun file turns) told faults faults' loads o
+GrowsFor asked told faults faults' loads o = ⊥
 
 -- The status answers what the words ask for: it ends a call that delivers an outcome for which words and files call. Words that are no row are refused, and that needs no memory.
 abbrev pub Answers : Option Asked → Sides → ℕ → Type 0
 Answers None sides status = IsDelivered (refuses Usage) sides status
 Answers (Some asked) sides status =
-    Ends (CallsFor asked sides.files sides.file_faults sides.file_faults') (GrowsFor asked sides.files sides.file_faults sides.file_faults') sides status
+    Ends (CallsFor asked sides.files sides.file_faults sides.file_faults' sides.loads) (GrowsFor asked sides.files sides.file_faults sides.file_faults' sides.loads) sides status
 
 -- Why there are no words: one that is no text stands in no row, and without memory for them there is nothing but the line that says so.
 abbrev pub AnswersNoWords : NoWords → Sides → ℕ → Type 0

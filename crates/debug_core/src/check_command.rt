@@ -3,13 +3,14 @@
 ghost use Rattle.std.specs.Prelude.{◌<◌, ◌-◌, ◌^◌, length};
 ghost use Rattle.debug_words.specs.Words.{AsksCheck};
 ghost use Rattle.debug_outcome.specs.Coming.{Comes, Never};
+ghost use Rattle.debug_outcome.specs.Traces.{HasLoads};
 ghost use Rattle.debug_core.specs.Answers.{CallsFor};
 ghost use Rattle.debug_core.specs.CheckMeaning.{CheckMeans};
 
 use crate::reading::read_legal;
-use debug_outcome::{Stop, load_file};
+use debug_outcome::{Stop, TracedFiles, load_file};
 use debug_text::put_numbers;
-use ded_io::{Files, Sink};
+use ded_io::Sink;
 use std::alloc::Global;
 use syn_event::Mode;
 
@@ -17,13 +18,13 @@ use syn_event::Mode;
 const FILE_LIMIT: u64 = 1_048_576;
 
 // Checks the program in a file, and answers the status.
-pub(crate) fn check_command<'w, F: Files, O: Sink>(
+pub(crate) fn check_command<'w, F: TracedFiles, O: Sink>(
     alloc: Global,
     file: &'w str,
     files: &mut F,
     out: &mut O,
 ) -> Result<u8, Stop<'w>>
-    ensures { Comes (CallsFor (AsksCheck file.now) (F.told files.old) (F.faults files.old) (F.faults files.new)) Never (O.told out.old) (O.told out.new) (O.faults out.old) (O.faults out.new) result }
+    ensures { HasLoads F.leads files.old files.new (λ loads. Comes (CallsFor (AsksCheck file.now) (F.told files.old) (F.faults files.old) (F.faults files.new) loads) Never (O.told out.old) (O.told out.new) (O.faults out.old) (O.faults out.new) result) }
 {
     match load_file(alloc, file, FILE_LIMIT, files) {
         Ok(text) => check_text(alloc, &text, out),

@@ -1,17 +1,18 @@
 // The command that judges a sequence of events.
 
-ghost use Rattle.std.specs.Prelude.{◌<◌, ◌-◌, ◌^◌, length, IfOk, IfErr};
+ghost use Rattle.std.specs.Prelude.{◌<◌, ◌-◌, ◌^◌, length, MatchResult};
 ghost use Rattle.debug_words.specs.Words.{AsksJudge};
 ghost use Rattle.debug_outcome.specs.Coming.{Comes, Never, Stops};
 ghost use Rattle.debug_outcome.specs.Loads.{AreUnloaded};
+ghost use Rattle.debug_outcome.specs.Traces.{HasLoads};
 ghost use Rattle.debug_core.specs.Answers.{CallsFor};
 ghost use Rattle.debug_core.specs.JudgeMeaning.{JudgeMeans, WereLoaded, judged_files};
 
 use crate::machine_text::read_program;
 use debug_judge::judge_lines;
-use debug_outcome::{Stop, load_file};
+use debug_outcome::{Stop, TracedFiles, load_file};
 use debug_words::JudgeWords;
-use ded_io::{Files, Sink};
+use ded_io::Sink;
 use std::alloc::Global;
 use syn_event::Mode;
 
@@ -21,13 +22,13 @@ const PROGRAM_LIMIT: u64 = 1_048_576;
 const SEQUENCE_LIMIT: u64 = 8_388_608;
 
 // Judges the sequence in a file for the program in another, and answers the status.
-pub(crate) fn judge_command<'w, F: Files, O: Sink>(
+pub(crate) fn judge_command<'w, F: TracedFiles, O: Sink>(
     alloc: Global,
     asked: JudgeWords<'w>,
     files: &mut F,
     out: &mut O,
 ) -> Result<u8, Stop<'w>>
-    ensures { Comes (CallsFor (AsksJudge asked.entry.file.now asked.entry.sequence.now asked.entry.bound) (F.told files.old) (F.faults files.old) (F.faults files.new)) Never (O.told out.old) (O.told out.new) (O.faults out.old) (O.faults out.new) result }
+    ensures { HasLoads F.leads files.old files.new (λ loads. Comes (CallsFor (AsksJudge asked.entry.file.now asked.entry.sequence.now asked.entry.bound) (F.told files.old) (F.faults files.old) (F.faults files.new) loads) Never (O.told out.old) (O.told out.new) (O.faults out.old) (O.faults out.new) result) }
 {
     match load_both(alloc, asked.file, asked.sequence, files) {
         Ok((text, lines)) => judge_text(alloc, &text, &lines, asked.bound, out),
@@ -36,14 +37,15 @@ pub(crate) fn judge_command<'w, F: Files, O: Sink>(
 }
 
 // The bytes of both files, the program's first.
-fn load_both<'w, F: Files>(
+fn load_both<'w, F: TracedFiles>(
     alloc: Global,
     file: &'w str,
     sequence: &'w str,
     files: &mut F,
 ) -> Result<(Vec<u8>, Vec<u8>), Stop<'w>>
-    ensures loaded { IfOk result (λ both. WereLoaded (F.told files.old) file.now sequence.now both.0.items both.1.items) }
-    ensures cause { IfErr result (Stops (AreUnloaded (F.told files.old) (F.faults files.old) (F.faults files.new) (judged_files file.now sequence.now))) }
+    ensures { HasLoads F.leads files.old files.new (λ loads. MatchResult result
+        (λ both. WereLoaded (F.told files.old) loads file.now sequence.now both.0.items both.1.items)
+        (λ stop. Stops (AreUnloaded (F.told files.old) (F.faults files.old) (F.faults files.new) (judged_files file.now sequence.now) loads) stop)) }
 {
     let text = match load_file(alloc, file, PROGRAM_LIMIT, files) {
         Ok(text) => text,

@@ -3,26 +3,27 @@
 ghost use Rattle.std.specs.Prelude.{◌<◌, ◌-◌, ◌^◌, length};
 ghost use Rattle.debug_words.specs.Words.{AsksPrint};
 ghost use Rattle.debug_outcome.specs.Coming.{Comes, Never};
+ghost use Rattle.debug_outcome.specs.Traces.{HasLoads};
 ghost use Rattle.debug_core.specs.Answers.{CallsFor};
 ghost use Rattle.debug_core.specs.PrintMeaning.{PrintMeans};
 
 use crate::reading::read_text;
 use ada_printer::print;
-use debug_outcome::{Stop, load_file};
-use ded_io::{Files, Sink};
+use debug_outcome::{Stop, TracedFiles, load_file};
+use ded_io::Sink;
 use std::alloc::Global;
 
 // A program's file has at most this many bytes.
 const FILE_LIMIT: u64 = 33_554_432;
 
 // Prints the program in a file, and answers the status.
-pub(crate) fn print_command<'w, F: Files, O: Sink>(
+pub(crate) fn print_command<'w, F: TracedFiles, O: Sink>(
     alloc: Global,
     file: &'w str,
     files: &mut F,
     out: &mut O,
 ) -> Result<u8, Stop<'w>>
-    ensures { Comes (CallsFor (AsksPrint file.now) (F.told files.old) (F.faults files.old) (F.faults files.new)) Never (O.told out.old) (O.told out.new) (O.faults out.old) (O.faults out.new) result }
+    ensures { HasLoads F.leads files.old files.new (λ loads. Comes (CallsFor (AsksPrint file.now) (F.told files.old) (F.faults files.old) (F.faults files.new) loads) Never (O.told out.old) (O.told out.new) (O.faults out.old) (O.faults out.new) result) }
 {
     match load_file(alloc, file, FILE_LIMIT, files) {
         Ok(text) => print_text(alloc, &text, out),

@@ -5,15 +5,16 @@ ghost use Rattle.debug_words.specs.Words.{asked_by};
 ghost use Rattle.debug_words.specs.Commands.{asked_as};
 ghost use Rattle.debug_outcome.specs.Coming.{Comes};
 ghost use Rattle.debug_outcome.specs.Delivery.{Sides};
+ghost use Rattle.debug_outcome.specs.Traces.{HasLoads};
 ghost use Rattle.debug_core.specs.Answers.{Answers, AnswersNoWords, CallsFor, GrowsFor, TellsNoWords};
 
 use crate::check_command::check_command;
 use crate::judge_command::judge_command;
 use crate::print_command::print_command;
 use crate::run_command::run_command;
-use debug_outcome::{Refusal, Stop, tell};
+use debug_outcome::{Refusal, Stop, TracedFiles, tell};
 use debug_words::{Command, NoWords, command_of};
-use ded_io::{Files, Sink};
+use ded_io::Sink;
 use std::alloc::Global;
 
 /// All that the program does: takes its words without the program's own name, reads from `files`, writes to `out` and `err`, and answers the
@@ -23,18 +24,19 @@ use std::alloc::Global;
 /// all turns were made, of a run; 4 the sequence is infeasible and 5 it is not settled, of a judgement; 1 the program's text is refused, 2 the
 /// words are no row, 3 the sequence is refused, 6 a file cannot be read, 7 an output cannot be written, 8 a limit is passed, 9 want of memory.
 /// With 1, 2, 3, 6, 8 and 9 a line stands on `err`, and with these but 9 nothing on `out`. Behind a write that failed nothing is put.
-pub fn debug_main<F: Files, O: Sink, E: Sink>(
+pub fn debug_main<F: TracedFiles, O: Sink, E: Sink>(
     alloc: Global,
     words: &[String],
     files: &mut F,
     out: &mut O,
     err: &mut E,
 ) -> u8
-    ensures answer { Answers (asked_by (map string_bytes words.now))
+    ensures answer { HasLoads F.leads files.old files.new (λ loads. Answers (asked_by (map string_bytes words.now))
         record {
           files = F.told files.old;
           file_faults = F.faults files.old;
           file_faults' = F.faults files.new;
+          loads = loads;
           out = O.told out.old;
           out' = O.told out.new;
           out_faults = O.faults out.old;
@@ -43,7 +45,7 @@ pub fn debug_main<F: Files, O: Sink, E: Sink>(
           err' = E.told err.new;
           err_faults = E.faults err.old;
           err_faults' = E.faults err.new;
-        } result }
+        } result) }
 {
     match command_of(words) {
         Some(command) => match carry_out(alloc, command, files, out) {
@@ -56,17 +58,18 @@ pub fn debug_main<F: Files, O: Sink, E: Sink>(
 
 /// All that the program does, given what came of its words: what `debug_main` does with them, and the same as for words that are no row
 /// where one of them is no text. Where there was no memory for them the status is 9, with its line, or 7 where that cannot be written.
-pub fn debug_program<F: Files, O: Sink, E: Sink>(
+pub fn debug_program<F: TracedFiles, O: Sink, E: Sink>(
     alloc: Global,
     words: Result<Vec<String>, NoWords>,
     files: &mut F,
     out: &mut O,
     err: &mut E,
 ) -> u8
-    ensures answer { let sides : Sides = record {
+    ensures answer { HasLoads F.leads files.old files.new (λ loads. let sides : Sides = record {
       files = F.told files.old;
       file_faults = F.faults files.old;
       file_faults' = F.faults files.new;
+      loads = loads;
       out = O.told out.old;
       out' = O.told out.new;
       out_faults = O.faults out.old;
@@ -76,7 +79,7 @@ pub fn debug_program<F: Files, O: Sink, E: Sink>(
       err_faults = E.faults err.old;
       err_faults' = E.faults err.new;
     } in
-        MatchResult words (λ given. Answers (asked_by (map string_bytes given.items)) sides result) (λ why. AnswersNoWords why sides result) }
+        MatchResult words (λ given. Answers (asked_by (map string_bytes given.items)) sides result) (λ why. AnswersNoWords why sides result)) }
 {
     match words {
         Ok(words) => debug_main(alloc, words.as_slice(), files, out, err),
@@ -95,13 +98,13 @@ fn tell_no_words<E: Sink>(why: NoWords, err: &mut E) -> u8
 }
 
 // Carries a command out, up to what is told on the error output.
-fn carry_out<'w, F: Files, O: Sink>(
+fn carry_out<'w, F: TracedFiles, O: Sink>(
     alloc: Global,
     command: Command<'w>,
     files: &mut F,
     out: &mut O,
 ) -> Result<u8, Stop<'w>>
-    ensures { Comes (CallsFor (asked_as command.entry) (F.told files.old) (F.faults files.old) (F.faults files.new)) (GrowsFor (asked_as command.entry) (F.told files.old) (F.faults files.old) (F.faults files.new)) (O.told out.old) (O.told out.new) (O.faults out.old) (O.faults out.new) result }
+    ensures { HasLoads F.leads files.old files.new (λ loads. Comes (CallsFor (asked_as command.entry) (F.told files.old) (F.faults files.old) (F.faults files.new) loads) (GrowsFor (asked_as command.entry) (F.told files.old) (F.faults files.old) (F.faults files.new) loads) (O.told out.old) (O.told out.new) (O.faults out.old) (O.faults out.new) result) }
 {
     match command {
         Command::Print(file) => print_command(alloc, file, files, out),

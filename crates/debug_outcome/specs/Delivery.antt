@@ -4,12 +4,14 @@ use Rattle.ded_io.specs.Told.{ToldFile}
 use Rattle.debug_outcome.specs.Outcomes.{Outcome}
 use Rattle.debug_outcome.specs.Outputs.{IsWritten, IsBrokenOff, IsUntouched}
 use Rattle.debug_outcome.specs.Refusals.{memory_line}
+use Rattle.debug_outcome.specs.Traces.{Load}
 
--- What is told of the files, the output and the error output before and behind a call, and how many of their calls had failed.
+-- What is told of the files, the output and the error output before and behind a call, which loads it made, and how many calls of each had failed.
 pub record Sides : Type 0 where
   pub files : Option (List ToldFile)
   pub file_faults : ℕ
   pub file_faults' : ℕ
+  pub loads : List Load
   pub out : Option (List ℕ)
   pub out' : Option (List ℕ)
   pub out_faults : ℕ

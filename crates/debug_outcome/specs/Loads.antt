@@ -4,12 +4,8 @@ use Rattle.ded_io.specs.Counts.{Rose}
 use Rattle.ded_io.specs.Told.{ToldFile, Gives, Lacks, Longer}
 use Rattle.debug_outcome.specs.Outcomes.{Outcome, refuses}
 use Rattle.debug_outcome.specs.Refusals.{named_line, unread_words}
+use Rattle.debug_outcome.specs.Traces.{Wanted, Load, gave, failed, was_longer}
 use Rattle.debug_outcome.specs.declared.refusal.Refusal.TheVariants.{TooLong}
-
--- A file that the words name, of at most so many bytes.
-pub record Wanted : Type 0 where
-  pub name : List ℕ
-  pub limit : ℕ
 
 -- Bytes of the file were loaded, no more than its limit.
 pub record WasLoaded (told : Option (List ToldFile)) (file : Wanted) (bytes : List ℕ) : Type 0 where
@@ -20,11 +16,21 @@ pub record WasLoaded (told : Option (List ToldFile)) (file : Wanted) (bytes : Li
 abbrev pub unreadable : List ℕ → Outcome
 unreadable name = record { out = []; err = named_line unread_words name; status = 6 }
 
--- The file is not there or a reading failed, or it is longer than its limit.
-abbrev pub IsUnloaded : Option (List ToldFile) → ℕ → ℕ → Wanted → Outcome → Type 0
-IsUnloaded told faults faults' file o =
-    ((Lacks told file.name ⊎ Rose faults faults') × (o ≡ unreadable file.name))
-    ⊎ (Longer told file.name file.limit × (o ≡ refuses (TooLong file.limit)))
+-- One load was made, that of this file, and it failed since the file is not there or a reading failed.
+pub record IsUnread (told : Option (List ToldFile)) (faults faults' : ℕ) (file : Wanted) (loads : List Load) (o : Outcome) : Type 0 where
+  pub were : loads ≡ failed file ∷ []
+  pub cause : Lacks told file.name ⊎ Rose faults faults'
+  pub is : o ≡ unreadable file.name
+
+-- One load was made, that of this file, and the file is longer than its limit.
+pub record IsTooLong (told : Option (List ToldFile)) (file : Wanted) (loads : List Load) (o : Outcome) : Type 0 where
+  pub were : loads ≡ was_longer file ∷ []
+  pub longer : Longer told file.name file.limit
+  pub is : o ≡ refuses (TooLong file.limit)
+
+-- the one load that was made did not give the file's bytes, and the outcome tells why
+abbrev pub IsUnloaded : Option (List ToldFile) → ℕ → ℕ → Wanted → List Load → Outcome → Type 0
+IsUnloaded told faults faults' file loads o = IsUnread told faults faults' file loads o ⊎ IsTooLong told file loads o
 
 -- all files were loaded, and these are their bytes
 abbrev pub AreLoaded : Option (List ToldFile) → List Wanted → List (List ℕ) → Type 0
@@ -32,9 +38,22 @@ AreLoaded told [] [] = ⊤
 AreLoaded told (file ∷ files) (bytes ∷ more) = WasLoaded told file bytes × AreLoaded told files more
 AreLoaded told files contents = ⊥
 
--- this is the refusal of the first file that was not loaded; those before it were
-abbrev pub AreUnloaded : Option (List ToldFile) → ℕ → ℕ → List Wanted → Outcome → Type 0
-AreUnloaded told faults faults' [] o = ⊥
-AreUnloaded told faults faults' (file ∷ files) o =
-    IsUnloaded told faults faults' file o
-    ⊎ (((bytes : List ℕ) × WasLoaded told file bytes) × AreUnloaded told faults faults' files o)
+-- the loads by which these files gave these bytes
+abbrev pub all_gave : List Wanted → List (List ℕ) → List Load
+all_gave (file ∷ files) (bytes ∷ more) = gave file bytes ∷ all_gave files more
+all_gave files contents = []
+
+-- A file was loaded, and so the loads go on behind its own.
+pub record WasFirst (told : Option (List ToldFile)) (file : Wanted) (loads : List Load) (Later : List Load → Type 0) : Type 0 where
+  pub bytes : List ℕ
+  pub loaded : WasLoaded told file bytes
+  pub rest : List Load
+  pub were : loads ≡ gave file bytes ∷ rest
+  pub later : Later rest
+
+-- this is the refusal of the first file that was not loaded; those before it were, and no load was made behind its own
+abbrev pub AreUnloaded : Option (List ToldFile) → ℕ → ℕ → List Wanted → List Load → Outcome → Type 0
+AreUnloaded told faults faults' [] loads o = ⊥
+AreUnloaded told faults faults' (file ∷ files) loads o =
+    IsUnloaded told faults faults' file loads o
+    ⊎ WasFirst told file loads (λ rest. AreUnloaded told faults faults' files rest o)

@@ -1,5 +1,5 @@
 -- What a call comes to by its words and the bytes of its files: a text with a status, or a refusal with its line and status (this project's rules).
-use Rattle.std.specs.Prelude.{◌≡◌, ℕ, List, []}
+use Rattle.std.specs.Prelude.{ℕ, List, []}
 use Rattle.debug_outcome.specs.Refusals.{refusal_line, refusal_status}
 use Rattle.debug_outcome.specs.declared.refusal.Refusal.{Refusal}
 

@@ -5,7 +5,9 @@ mod loading;
 mod refusal;
 mod stopping;
 mod telling;
+mod tracing;
 
 pub use loading::load_file;
 pub use refusal::{Misspelling, Refusal, Rule, RuleFault, SequenceFault, TextFault};
 pub use stopping::{Stop, tell};
+pub use tracing::TracedFiles;

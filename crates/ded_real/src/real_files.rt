@@ -2,6 +2,7 @@
 ghost use Rattle.std.specs.Prelude.{◌≡◌, ◌<◌, ◌≤◌, ◌-◌, ◌^◌, IfOk, IfErr, IfSome, IsErrOf, None, [], length, vec_len};
 ghost use Rattle.ded_io.specs.Told.{TooLongFor};
 
+use debug_outcome::TracedFiles;
 use ded_io::{Files, LoadError};
 use std::alloc::Global;
 use std::io::{ErrorKind, Read};
@@ -85,5 +86,16 @@ impl<R: rt::Files + Drop> Files for RealFiles<R> {
 
     fn faults(&self) -> u64 {
         self.fault_count
+    }
+}
+
+impl<R: rt::Files + Drop> TracedFiles for RealFiles<R> {
+    ghost use Rattle.ded_real.specs.RealLoads.{IsCounted};
+
+    ghost leads = { λ old load new. IsCounted old.fault_count load.answer new.fault_count };
+
+    #[tactic(auto, using(crate::proofs::Counting::counted))]
+    fn load_traced(&mut self, alloc: Global, name: &str, limit: u64) -> Result<Vec<u8>, LoadError> {
+        self.load(alloc, name, limit)
     }
 }

@@ -15,7 +15,7 @@ use Rattle.ada_expr_parser.specs.declared.symbols.Symbol.TheVariants as key
 use Rattle.ada_expr_parser.specs.declared.items.Item.{Item}
 use Rattle.ada_phrase_parser.specs.Spelling.{Source, Spelling, ◌▷◌, IfThere, Key, Row}
 use Rattle.ada_phrase_parser.specs.Phrases.{EndOf, Drange}
-use Rattle.ada_decl_parser.specs.Tasks.{IsPriority, IsEntry, Member, MEntry, MPriority, entries_in, priorities_in, IsMember, TaskWord, TaskRest, IsTask}
+use Rattle.ada_task_parser.specs.Tasks.{IsPriority, IsEntry, Member, MEntry, MPriority, entries_in, priorities_in, IsMember, TaskWord, TaskRest, IsTask}
 use Rattle.ded_io.specs.Written.{◌⧺◌}
 use Rattle.ada_printer.specs.Layout.{deeper, indent, word_text}
 use Rattle.ada_printer.specs.DeclText.{task_word, standing, pragma_text, priority_text, family_text, entry_text, priorities_text, items_text, task_rest, task_text}

@@ -12,15 +12,15 @@ use Rattle.syn_event.specs.Numbering.{Numbering}
 use Rattle.syn_event.specs.Units.{text_of}
 use Rattle.seq_file.specs.declared.errors.SeqError.{SeqError}
 use Rattle.seq_file.specs.declared.errors.SeqError.TheVariants.{BadNumber, TooMany, Memory}
-use Rattle.seq_file.specs.Capped.{IsShort}
-use Rattle.seq_file.specs.Files.{most_events, header_line, event_line, SeqText, is_end, has_ended, NothingFollowsEnd, AreFit, SeqReads, header_fault, fault_of_event, line_fault, FailsBehind, HasFirstFault}
+use Rattle.seq_file.specs.Short.{IsShort}
+use Rattle.seq_file.specs.Files.{most_events, header_line, event_line, SeqText, is_end, has_ended, NothingFollowsEnd, AreFit, IsReadBehind, SeqReads, header_fault, fault_of_event, line_fault, FailsBehind, HasFirstFault}
 use Rattle.seq_file.specs.Known.{is_known}
-use Rattle.seq_file.specs.Lines.{is_line_end, first_line, event_of_line, is_upper_name}
-use Rattle.seq_file.specs.NextEvents.{IsNextEvent, IsBehindHeader}
-use Rattle.seq_file.specs.Verdicts.{cut}
-use Rattle.seq_file.proofs.Capping.{clash}
+use Rattle.text_lines.specs.Lines.{is_line_end, first_line, cut}
+use Rattle.seq_file.specs.Lines.{event_of_line, is_upper_name}
+use Rattle.seq_file.specs.NextEvents.{IsNextEvent, IsEventLine, IsBehindHeader}
+use Rattle.text_lines.proofs.Capping.{clash}
 use Rattle.seq_file.proofs.Heading.{header-sound, header-begins}
-use Rattle.seq_file.proofs.Marking.{left_of, right_of, cut-at_mark, cut-parts, first-line_cut}
+use Rattle.text_lines.proofs.Marking.{left_of, right_of, cut-at_mark, cut-parts, first-line_cut}
 use Rattle.seq_file.proofs.Wording.{event-read, event-free, event-written}
 
 abbrev lines : List Event → List ℕ
@@ -193,7 +193,7 @@ pub record IsReadTo (bytes : List ℕ) (numbers : Numbering) (names : List (List
   pub fit : AreFit numbers events
   pub ends : ended ≡ has_ended events
 
-none-fit : (numbers : Numbering) → AreFit numbers []
+pub none-fit : (numbers : Numbering) → AreFit numbers []
 none-fit numbers = record { known = All-nil (λ event. is_known numbers event ≡ true); end = tt; few = omega arith }
 
 pub read-start : (bytes : List ℕ) (numbers : Numbering) (names : List (List ℕ)) (rest : List ℕ) → IsShort numbers → IsBehindHeader names numbers bytes rest → IsReadTo bytes numbers names [] rest false
@@ -216,16 +216,17 @@ or-no : (b : Bool) → (b || false) ≡ b
 or-no true = refl
 or-no false = refl
 
-push-ended : (xs : List Event) (y : Event) → has_ended xs ≡ false → has_ended (xs ++ (y ∷ [])) ≡ is_end y
+pub push-ended : (xs : List Event) (y : Event) → has_ended xs ≡ false → has_ended (xs ++ (y ∷ [])) ≡ is_end y
 push-ended [] y no' = or-no (is_end y)
 push-ended (x ∷ xs) y no' = elim (cases_Bool (is_end x)) [
   | inl e ↦ clash (sym (sym (ap (λ t. t || has_ended xs) e) ∙ no'))
   | inr e ↦ ap (λ t. t || has_ended (xs ++ (y ∷ []))) e ∙ push-ended xs y (sym (ap (λ t. t || has_ended xs) e) ∙ no')
 ]
 
-pub read-more : (bytes : List ℕ) (numbers : Numbering) (names : List (List ℕ)) (events : List Event) (rest behind : List ℕ) (ended : Bool) (event : Event) → IsShort numbers → IsReadTo bytes numbers names events rest ended → IsNextEvent numbers ended (length events) rest event behind → IsReadTo bytes numbers names (events ++ (event ∷ [])) behind (is_end event)
-read-more bytes numbers names events rest behind ended event short to next =
-    let going : has_ended events ≡ false = sym to.ends ∙ next.going in
+-- one more line read
+pub read-line : (bytes : List ℕ) (numbers : Numbering) (names : List (List ℕ)) (events : List Event) (rest behind : List ℕ) (event : Event) → IsShort numbers → IsReadBehind bytes numbers names events rest → has_ended events ≡ false →
+    IsEventLine numbers rest event behind → IsReadBehind bytes numbers names (events ++ (event ∷ [])) behind
+read-line bytes numbers names events rest behind event short to going next =
     let one : rest ≡ lines (event ∷ []) ++ behind =
     cut-parts 10 rest next.line behind next.cuts
     ∙ ap (λ t. t ++ (10 ∷ behind)) (event-written numbers short next.line event next.writes next.known)
@@ -237,11 +238,19 @@ read-more bytes numbers names events rest behind ended event short to next =
           ∙ ap (λ t. (h ++ lines events) ++ t) one
           ∙ sym (append_assoc (h ++ lines events) (lines (event ∷ [])) behind)
           ∙ ap (λ t. t ++ behind) (append_assoc h (lines events) (lines (event ∷ [])) ∙ ap (λ t. h ++ t) (sym (lines-append events (event ∷ []))) ∙ sym (text-joined names numbers (events ++ (event ∷ []))));
-      fit = record {
-        known = All-push (λ e. is_known numbers e ≡ true) events event to.fit.known next.known;
-        end = push-follows events event to.fit.end going;
-        few = omega (arith, next.few, length-append events (event ∷ []));
-      };
+      known = All-push (λ e. is_known numbers e ≡ true) events event to.known next.known;
+      end = push-follows events event to.end going;
+    }
+
+pub read-more : (bytes : List ℕ) (numbers : Numbering) (names : List (List ℕ)) (events : List Event) (rest behind : List ℕ) (ended : Bool) (event : Event) → IsShort numbers → IsReadTo bytes numbers names events rest ended → IsNextEvent numbers ended (length events) rest event behind → IsReadTo bytes numbers names (events ++ (event ∷ [])) behind (is_end event)
+read-more bytes numbers names events rest behind ended event short to next =
+    let going : has_ended events ≡ false = sym to.ends ∙ next.going in
+    let on : IsReadBehind bytes numbers names (events ++ (event ∷ [])) behind =
+    read-line bytes numbers names events rest behind event short record { text = to.text; known = to.fit.known; end = to.fit.end } going
+    record { line = next.line; cuts = next.cuts; writes = next.writes; known = next.known } in
+    record {
+      text = on.text;
+      fit = record { known = on.known; end = on.end; few = omega (arith, next.few, length-append events (event ∷ [])) };
       ends = sym (push-ended events event going);
     }
 

@@ -12,14 +12,15 @@ use Rattle.ded_io.specs.Written.{◌⧺◌}
 use Rattle.syn_event.specs.Numbering.{Numbering, original_tasks, original_entries, is_original_task, is_original_entry}
 use Rattle.syn_event.specs.Units.{text_of}
 use Rattle.seq_file.specs.declared.errors.SeqError.TheVariants.{OtherProgram}
-use Rattle.seq_file.specs.Capped.{capped, IsShort}
+use Rattle.text_lines.specs.Capped.{capped}
+use Rattle.seq_file.specs.Short.{IsShort}
 use Rattle.seq_file.specs.Files.{header_line, is_header_of, fault_of_header, header_fault}
-use Rattle.seq_file.specs.Lines.{Header, is_blank, is_line_end, words_of, is_capital, is_name_part, name_goes_on, every, begins, is_upper_name, upper_name, header_with, header_of_words, header_of_line, with_three}
-use Rattle.seq_file.specs.Numerals.{is_digit, count}
-use Rattle.seq_file.specs.Verdicts.{cut}
-use Rattle.seq_file.proofs.Capping.{clash, capped-small, capped-large}
-use Rattle.seq_file.proofs.Marking.{IsFreeOf, free-cons, free-prefix, decimal-free, cut-at_mark, cut-parts, first-line_cut}
-use Rattle.seq_file.proofs.Spelling.{count-of_decimal, word-of_count}
+use Rattle.text_lines.specs.Lines.{is_blank, is_line_end, words_of, cut}
+use Rattle.seq_file.specs.Lines.{Header, is_capital, is_name_part, name_goes_on, every, begins, is_upper_name, upper_name, header_with, header_of_words, header_of_line, with_three}
+use Rattle.text_lines.specs.Numerals.{is_digit, count}
+use Rattle.text_lines.proofs.Capping.{clash, capped-small, capped-large}
+use Rattle.text_lines.proofs.Marking.{IsFreeOf, free-cons, free-prefix, decimal-free, cut-at_mark, cut-parts, first-line_cut}
+use Rattle.text_lines.proofs.Spelling.{count-of_decimal, word-of_count}
 
 -- a number within 32 bits is not the cap
 pub same-number : (m k : ℕ) → k < 2 ^ 32 → nat_eq (capped m) k ≡ nat_eq m k

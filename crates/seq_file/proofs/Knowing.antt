@@ -5,11 +5,11 @@ use Rattle.std.specs.Prelude.{◌&&◌, nat_lt, nat_le, is_some}
 use Rattle.event_machine.specs.declared.Event.{Event}
 use Rattle.syn_event.specs.Numbering.{Numbering}
 use Rattle.seq_file.specs.declared.lines.Verdict.TheVariants.{Known, BadNumber}
-use Rattle.seq_file.specs.Capped.{capped}
+use Rattle.text_lines.specs.Capped.{capped}
 use Rattle.seq_file.specs.Known.{is_task, is_task_beside_main, is_alternative, is_known}
 use Rattle.seq_file.specs.Lines.{with_two}
 use Rattle.seq_file.specs.Verdicts.{verdict_of}
-use Rattle.seq_file.proofs.Capping.{capped-small, capped-large, clash, some-is}
+use Rattle.text_lines.proofs.Capping.{capped-small, capped-large, clash, some-is}
 
 -- a test that no number from the cap on passes, and to which the cap is like every such number
 pub record IsTest (P : ℕ → Bool) : Type 0 where

@@ -1,11 +1,9 @@
 pub mod Walks
-pub mod Capping
 pub mod Knowing
 pub mod Nexting
 pub mod Indexing
 pub mod Calling
-pub mod Spelling
-pub mod Marking
 pub mod Wording
 pub mod Heading
 pub mod Filing
+pub mod ByLines

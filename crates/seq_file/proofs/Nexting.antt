@@ -1,14 +1,18 @@
 -- What a verdict on a line says of its event.
-use Rattle.std.proofs.Common.{◌≡◌, Bool, true, false, cond, ap, ◌∙◌, sym, inl, inr, Some, None, Option}
+use Rattle.std.specs.Prelude.{IfOk}
+use Rattle.std.proofs.Common.{◌≡◌, ◌<◌, ℕ, List, Result, Ok, Err, Bool, true, false, cond, ap, ◌∙◌, sym, inl, inr, Some, None, Option}
 use Rattle.std.proofs.lemmas.Bool.{cases_Bool}
 use Rattle.event_machine.specs.declared.Event.{Event}
 use Rattle.event_machine.specs.declared.Event.TheVariants.{Z}
 use Rattle.syn_event.specs.Numbering.{Numbering}
 use Rattle.seq_file.specs.declared.lines.Verdict.{Verdict}
 use Rattle.seq_file.specs.declared.lines.Verdict.TheVariants.{Known, BadNumber, BadLine}
+use Rattle.seq_file.specs.declared.errors.SeqError.{SeqError}
+use Rattle.seq_file.specs.Files.{most_events}
 use Rattle.seq_file.specs.Known.{is_known}
+use Rattle.seq_file.specs.NextEvents.{IsNextEvent, IsEventLine}
 use Rattle.seq_file.specs.Verdicts.{verdict_of}
-use Rattle.seq_file.proofs.Capping.{clash}
+use Rattle.text_lines.proofs.Capping.{clash}
 
 abbrev event_in : Verdict → Event
 event_in (Known event) = event
@@ -28,3 +32,9 @@ verdict-known numbers (Some e) event h = elim (cases_Bool (is_known numbers e)) 
       (ap Some (sym same), ap (is_known numbers) same ∙ e1)
   | inr e2 ↦ clash (sym (ap has_event (h ∙ ap (λ t. cond t (Known e) BadNumber) e2)))
 ]
+
+-- the line of the next event, where one more may stand
+pub next-by_line : {B : Type 0} (numbers : Numbering) (ended : Bool) (count : ℕ) (rest : List ℕ) (now : B → List ℕ) (r : Result (Event × B) SeqError) → ended ≡ false → count < most_events →
+    IfOk r (λ x. IsEventLine numbers rest x.0 (now x.1)) → IfOk r (λ x. IsNextEvent numbers ended count rest x.0 (now x.1))
+next-by_line numbers ended count rest now (Ok x) going few h = record { line = h.line; going = going; few = few; cuts = h.cuts; writes = h.writes; known = h.known }
+next-by_line numbers ended count rest now (Err e) going few h = h

@@ -15,15 +15,16 @@ use Rattle.event_machine.specs.declared.Event.TheVariants.{R, E, S, D, C, T, F, 
 use Rattle.syn_event.specs.declared.numbering.EntryInfo.{EntryInfo}
 use Rattle.syn_event.specs.EventText.{event_text, call_text, one_text, two_text}
 use Rattle.syn_event.specs.Numbering.{Numbering, entry_at}
-use Rattle.seq_file.specs.Capped.{IsShort}
+use Rattle.seq_file.specs.Short.{IsShort}
 use Rattle.seq_file.specs.Known.{is_task, is_task_beside_main, is_alternative, is_member, is_call, is_index, is_known, fits_entry}
-use Rattle.seq_file.specs.Lines.{is_blank, words_of, with_two, with_three, lone_event, task_event, pair_event, call_event, event_of_words, event_of_line}
-use Rattle.seq_file.specs.Numerals.{count, integer}
-use Rattle.seq_file.proofs.Capping.{clash}
+use Rattle.text_lines.specs.Lines.{is_blank, words_of}
+use Rattle.seq_file.specs.Lines.{with_two, with_three, lone_event, task_event, pair_event, call_event, event_of_words, event_of_line}
+use Rattle.text_lines.specs.Numerals.{count, integer}
+use Rattle.text_lines.proofs.Capping.{clash}
 use Rattle.seq_file.proofs.Indexing.{fits-index, index-small, member-test}
 use Rattle.seq_file.proofs.Knowing.{IsTest, task-test, beside-test, alternative-test}
-use Rattle.seq_file.proofs.Marking.{IsFreeOf, free-cons, free-one, decimal-free, signed-free}
-use Rattle.seq_file.proofs.Spelling.{count-of_decimal, integer-of_signed, word-of_count, word-of_integer}
+use Rattle.text_lines.proofs.Marking.{IsFreeOf, free-cons, free-one, decimal-free, signed-free}
+use Rattle.text_lines.proofs.Spelling.{count-of_decimal, integer-of_signed, word-of_count, word-of_integer}
 
 abbrev wide : (n : ℕ) → n < 2 ^ 32 → n < 2 ^ 64
 wide n h = omega (arith, h)

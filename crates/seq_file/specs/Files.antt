@@ -9,7 +9,8 @@ use Rattle.syn_event.specs.Numbering.{Numbering, original_tasks, original_entrie
 use Rattle.syn_event.specs.Units.{text_of}
 use Rattle.seq_file.specs.declared.errors.SeqError.{SeqError}
 use Rattle.seq_file.specs.declared.errors.SeqError.TheVariants.{BadLine, OtherProgram, BadNumber, AfterEnd, TooMany}
-use Rattle.seq_file.specs.Lines.{Header, first_line, header_of_line, event_of_line}
+use Rattle.text_lines.specs.Lines.{first_line}
+use Rattle.seq_file.specs.Lines.{Header, header_of_line, event_of_line}
 use Rattle.seq_file.specs.Known.{is_known}
 
 -- a file has at most this many events (this project's limit)
@@ -53,6 +54,12 @@ pub record SeqReads (bytes : List ℕ) (numbers : Numbering) (names : List (List
   pub text : bytes ≡ SeqText names numbers events
   pub fit : AreFit numbers events
 
+-- the bytes begin with the text of these events, which may stand in a file but for their number, and these bytes are left
+pub record IsReadBehind (bytes : List ℕ) (numbers : Numbering) (names : List (List ℕ)) (events : List Event) (rest : List ℕ) : Type 0 where
+  pub text : bytes ≡ SeqText names numbers events ++ rest
+  pub known : All (λ event. is_known numbers event ≡ true) events
+  pub end : NothingFollowsEnd events
+
 -- a header is that of a program with this name and these counts
 abbrev pub is_header_of : List ℕ → ℕ → ℕ → Header → Bool
 is_header_of main tasks entries header =
@@ -78,6 +85,11 @@ line_fault numbers ended count rest =
     if ended then Some (AfterEnd (count + 2))
     else (if nat_lt count most_events then fault_of_event numbers (count + 2) (option_and_then event_of_line (first_line rest))
     else Some (TooMany most_events))
+
+-- the fault of the line that the rest of a file begins with, behind the header and so many events, whatever their number
+abbrev pub open_fault : Numbering → Bool → ℕ → List ℕ → Option SeqError
+open_fault numbers ended count rest =
+    if ended then Some (AfterEnd (count + 2)) else fault_of_event numbers (count + 2) (option_and_then event_of_line (first_line rest))
 
 -- the lines before are the header and those of some events, and the next one has this fault
 pub record FailsBehind (bytes : List ℕ) (numbers : Numbering) (names : List (List ℕ)) (error : SeqError) : Type 0 where

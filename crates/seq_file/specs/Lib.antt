@@ -1,8 +1,8 @@
-pub mod Numerals
 pub mod Lines
 pub mod Known
 pub mod Files
-pub mod Capped
+pub mod Short
 pub mod WordLists
 pub mod Verdicts
 pub mod NextEvents
+pub mod Stepping

@@ -1,23 +1,9 @@
 -- The lines of a sequence file: the header, and one line for each event (this project's format).
-use Rattle.std.specs.Prelude.{ℕ, ℤ, Bool, true, false, ◌&&◌, ◌||◌, ◌==◌, nat_le, bytes_eq, List, [], ◌∷◌, codes, take, position, Option, Some, None, option_map, if◌then◌else◌}
-use Rattle.std.specs.List.{slice_split}
+use Rattle.std.specs.Prelude.{ℕ, ℤ, Bool, true, false, ◌&&◌, ◌||◌, ◌==◌, nat_le, bytes_eq, List, [], ◌∷◌, codes, Option, Some, None, option_map, if◌then◌else◌}
 use Rattle.event_machine.specs.declared.Event.{Event}
 use Rattle.event_machine.specs.declared.Event.TheVariants.{R, E, S, D, C, T, F, X, B, Z}
-use Rattle.seq_file.specs.Numerals.{is_digit, count, integer}
-
-abbrev pub is_line_end : ℕ → Bool
-is_line_end b = b == 10
-
-abbrev pub is_blank : ℕ → Bool
-is_blank b = b == 32
-
--- the first line of a text without the line feed that ends it; none where no line feed stands in the text
-abbrev pub first_line : List ℕ → Option (List ℕ)
-first_line text = option_map (λ n. take n text) (position is_line_end text)
-
--- the parts of a line between its blanks: one more than it has blanks
-abbrev pub words_of : List ℕ → List (List ℕ)
-words_of line = slice_split is_blank line
+use Rattle.text_lines.specs.Lines.{words_of}
+use Rattle.text_lines.specs.Numerals.{is_digit, count, integer}
 
 -- both numbers, where both words are numbers
 abbrev pub with_two : {A B X : Type 0} → (A → B → X) → Option A → Option B → Option X

@@ -1,5 +1,5 @@
 -- What a line of an event comes to (this project's rule).
-use Rattle.std.specs.Prelude.{ℕ, Bool, ◌+◌, List, take, drop, position, Option, Some, None, option_map, if◌then◌else◌}
+use Rattle.std.specs.Prelude.{Option, Some, None, if◌then◌else◌}
 use Rattle.event_machine.specs.declared.Event.{Event}
 use Rattle.syn_event.specs.Numbering.{Numbering}
 use Rattle.seq_file.specs.declared.lines.Verdict.{Verdict}
@@ -10,7 +10,3 @@ use Rattle.seq_file.specs.Known.{is_known}
 abbrev pub verdict_of : Numbering → Option Event → Verdict
 verdict_of numbers (Some event) = if is_known numbers event then Known event else BadNumber
 verdict_of numbers None = BadLine
-
--- a text cut at the first byte of a class: what stands before it and what behind
-abbrev pub cut : (ℕ → Bool) → List ℕ → Option (List ℕ × List ℕ)
-cut class text = option_map (λ n. (take n text, drop (n + 1) text)) (position class text)

@@ -6,9 +6,12 @@
 mod errors;
 mod known;
 mod lines;
-mod numerals;
 mod reading;
+mod stepping;
 mod words;
+mod writing;
 
 pub use errors::SeqError;
 pub use reading::read_seq;
+pub use stepping::SeqLines;
+pub use writing::write_seq;

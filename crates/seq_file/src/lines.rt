@@ -2,12 +2,13 @@
 
 ghost use Rattle.std.specs.Prelude.{◌≡◌, ◌<◌, ◌≤◌, ◌^◌, min, option_and_then, option_map, count_by, drop, length, slice_index, Some, ◌+◌, cond, ℕ, Option, bytes_eq, unwrap_or, slice_get, [], nat_eq, FitsSigned};
 ghost use Rattle.std.specs.Int.{w32};
-ghost use Rattle.seq_file.specs.Capped.{capped, IsShort};
+ghost use Rattle.text_lines.specs.Capped.{capped};
+ghost use Rattle.seq_file.specs.Short.{IsShort};
 ghost use Rattle.seq_file.specs.declared.lines.Verdict.TheVariants.{Known, BadNumber};
 ghost use Rattle.syn_event.specs.Numbering.{original_tasks, original_entries, is_original_task, is_original_entry};
 ghost use Rattle.syn_event.specs.Units.{text_of};
 ghost use Rattle.event_machine.specs.declared.Event.{Event};
-ghost use Rattle.seq_file.specs.Numerals.{count, integer};
+ghost use Rattle.text_lines.specs.Numerals.{count, integer};
 ghost use Rattle.seq_file.specs.Lines.{event_of_line, header_of_line, lone_event, task_event, pair_event, call_event, with_three, header_with, upper_name, is_upper_name, every, name_goes_on, is_name_part, is_capital};
 ghost use Rattle.seq_file.specs.Known.{is_known};
 ghost use Rattle.seq_file.specs.Verdicts.{verdict_of};
@@ -15,10 +16,10 @@ ghost use Rattle.seq_file.specs.Files.{fault_of_header};
 
 use super::errors::SeqError;
 use super::known::{is_abort, is_call, is_task_beside_main, is_wait};
-use super::numerals::{count, integer, is_digit};
 use super::words::{Words, is_letter, is_text, split_words};
 use ada_tree::Names;
 use syn_event::{EntryInfo, Event, Numbers, TaskInfo};
+use text_lines::{count, integer, is_digit};
 
 /// What a line comes to that should be an event's.
 #[derive(Clone, Copy, Debug, PartialEq, Eq)]
@@ -235,7 +236,7 @@ fn is_number(n: u64, wanted: u64) -> bool
 }
 
 // How many of the tasks beside main are the original's.
-fn original_tasks(tasks: &[TaskInfo]) -> u64
+pub(crate) fn original_tasks(tasks: &[TaskInfo]) -> u64
     ensures is { result ≡ count_by is_original_task (drop 1 tasks.now) }
     ensures within { result ≤ length tasks.now }
 {
@@ -245,7 +246,7 @@ fn original_tasks(tasks: &[TaskInfo]) -> u64
     }
 }
 
-fn original_entries(entries: &[EntryInfo]) -> u64
+pub(crate) fn original_entries(entries: &[EntryInfo]) -> u64
     ensures is { result ≡ count_by is_original_entry entries.now }
     ensures within { result ≤ length entries.now }
 {

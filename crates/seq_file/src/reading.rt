@@ -1,22 +1,22 @@
 // Reading a sequence file.
 
-ghost use Rattle.std.specs.Prelude.{◌≡◌, ◌≢◌, ◌<◌, ◌-◌, ◌^◌, ◌++◌, [], ◌∷◌, OnOk, List, length, IfOk, IfErr, MatchResult, true, Some, None, IsSomeAnd};
+ghost use Rattle.std.specs.Prelude.{◌≡◌, ◌≢◌, ◌<◌, ◌-◌, ◌^◌, ◌++◌, [], ◌∷◌, OnOk, List, length, IfOk, IfErr, MatchResult, true, Some, None, IsSomeAnd, option_and_then};
 ghost use Rattle.event_machine.specs.declared.Event.{Event};
 ghost use Rattle.seq_file.specs.declared.errors.SeqError.{SeqError};
 ghost use Rattle.seq_file.specs.declared.errors.SeqError.TheVariants.{Memory};
 ghost use Rattle.syn_event.specs.Units.{text_of};
-ghost use Rattle.seq_file.specs.Lines.{is_upper_name, is_line_end};
-ghost use Rattle.seq_file.specs.Files.{SeqReads, HasFirstFault, header_fault, line_fault, is_end};
-ghost use Rattle.seq_file.specs.Verdicts.{cut};
-ghost use Rattle.seq_file.specs.NextEvents.{IsNextEvent, IsBehindHeader};
-ghost use Rattle.seq_file.specs.Capped.{IsShort};
+ghost use Rattle.text_lines.specs.Lines.{first_line, is_line_end, cut};
+ghost use Rattle.seq_file.specs.Lines.{is_upper_name, event_of_line};
+ghost use Rattle.seq_file.specs.Files.{SeqReads, HasFirstFault, header_fault, line_fault, fault_of_event, is_end};
+ghost use Rattle.seq_file.specs.NextEvents.{IsNextEvent, IsEventLine, IsBehindHeader};
+ghost use Rattle.seq_file.specs.Short.{IsShort};
 
 use super::errors::SeqError;
 use super::lines::{Verdict, header_fault, program_of, read_event};
-use super::words::cut_at;
 use ada_tree::Names;
 use std::alloc::Global;
 use syn_event::{Event, Numbers};
+use text_lines::cut_at;
 
 const MOST_EVENTS: usize = 200000;
 
@@ -68,14 +68,14 @@ fn add(events: &mut Vec<Event>, event: Event) -> Result<(), SeqError>
     }
 }
 
-fn is_end(event: &Event) -> bool
+pub(crate) fn is_end(event: &Event) -> bool
     ensures { result ≡ is_end event.now }
 {
     matches!(*event, Event::Z)
 }
 
 // What stands behind the header.
-fn behind_header<'a>(
+pub(crate) fn behind_header<'a>(
     bytes: &'a [u8],
     numbers: &Numbers,
     names: &Names,
@@ -114,6 +114,18 @@ fn next_event<'a>(
             limit: MOST_EVENTS as u32,
         });
     }
+    line_event(rest, numbers, number)
+}
+
+/// The event of the next line, which has this number in the file, and what stands behind that line.
+pub(crate) fn line_event<'a>(
+    rest: &'a [u8],
+    numbers: &Numbers,
+    number: u32,
+) -> Result<(Event, &'a [u8]), SeqError>
+    ensures read { IfOk result (λ x. IsEventLine numbers.now rest.now x.0 x.1.now) }
+    ensures fault { IfErr result (λ error. fault_of_event numbers.now number (option_and_then event_of_line (first_line rest.now)) ≡ Some error) }
+{
     let Some((line, behind)) = cut_at(rest, b'\n') else {
         return Err(SeqError::BadLine { line: number });
     };

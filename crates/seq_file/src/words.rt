@@ -1,10 +1,10 @@
 // The words of a line.
 
-ghost use Rattle.std.specs.Prelude.{◌≡◌, ◌<◌, ◌==◌, ℕ, List, [], ◌∷◌, length, position, option_map, bytes_eq, IfSome, MatchOption, ◌≤◌, take, drop};
-ghost use Rattle.std.specs.List.{slice_split};
-ghost use Rattle.seq_file.specs.Lines.{is_blank, is_line_end, words_of};
-ghost use Rattle.seq_file.specs.Verdicts.{cut};
+ghost use Rattle.std.specs.Prelude.{◌≡◌, [], ◌∷◌, bytes_eq};
+ghost use Rattle.text_lines.specs.Lines.{words_of};
 ghost use Rattle.seq_file.specs.WordLists.{AreWords};
+
+use text_lines::cut_at;
 
 /// A line cut at each of its blanks.
 #[derive(Clone, Copy)]
@@ -38,40 +38,6 @@ pub(crate) fn split_words<'a>(line: &'a [u8]) -> Words<'a>
         Some(_) => Words::More,
         None => Words::Five(a, b, c, d, rest),
     }
-}
-
-/// A text cut at the first byte that is the mark: what stands before it and what behind.
-#[tactic(auto, using(crate::proofs::Walks::walks))]
-pub(crate) fn cut_at<'a>(text: &'a [u8], mark: u8) -> Option<(&'a [u8], &'a [u8])>
-    ensures parts { MatchOption result (slice_split (λ b. b == mark) text.now ≡ text.now ∷ [])
-        (λ x. slice_split (λ b. b == mark) text.now ≡ x.0.now ∷ slice_split (λ b. b == mark) x.1.now) }
-    ensures cut { option_map (λ x. (x.0.now, x.1.now)) result ≡ cut (λ b. b == mark) text.now }
-{
-    match place_of(text, mark) {
-        Some(n) => Some((front(text, n), behind(text, n + 1))),
-        None => None,
-    }
-}
-
-fn front(text: &[u8], len: usize) -> &[u8]
-    requires { len ≤ length text.now }
-    ensures { result.now ≡ take len text.now }
-{
-    &text[..len]
-}
-
-fn behind(text: &[u8], len: usize) -> &[u8]
-    requires { len ≤ length text.now }
-    ensures { result.now ≡ drop len text.now }
-{
-    &text[len..]
-}
-
-fn place_of(text: &[u8], mark: u8) -> Option<usize>
-    ensures is { result ≡ position (λ b. b == mark) text.now }
-    ensures within { IfSome result (λ n. n < length text.now) }
-{
-    text.iter().position(|b| *b == mark)
 }
 
 /// Whether the word is that letter.

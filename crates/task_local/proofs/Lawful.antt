@@ -1,7 +1,7 @@
 -- What one task does keeps the rules that the laws of the machine use of it.
 use Rattle.std.proofs.Common.{◌≡◌, ℕ, Bool, true, false, List, [], ◌∷◌, ◌++◌, Option, Some, None, refl, sym, ap, ◌∙◌, subst, true≢false}
-use Rattle.ada_value.specs.declared.Raised.{Raised}
-use Rattle.ada_value.specs.declared.Raised.TheVariants.{Tasking}
+use Rattle.ada_value.specs.declared.values.Raised.{Raised}
+use Rattle.ada_value.specs.declared.values.Raised.TheVariants.{Tasking}
 use Rattle.ada_tree.specs.PlainStmt.{PStmt, PStmts, no_stmt, stmt_then, SCall, SAccept, accepting}
 use Rattle.event_machine.specs.Offers as offers
 use Rattle.event_machine.specs.Lawful.{IsLawful, Keeps}

@@ -1,6 +1,6 @@
 -- The state of one task as plain data: the frames in which it stands (this project's rule; an opened accept body is 9.5, a pending exception 11.5).
 use Rattle.std.specs.Prelude.{ℕ, Bool, true, false, List, [], ◌∷◌, Option, Some, None, if◌then◌else◌, ◌==◌, map}
-use Rattle.ada_value.specs.declared.Raised.{Raised}
+use Rattle.ada_value.specs.declared.values.Raised.{Raised}
 use Rattle.ada_tree.specs.declared.statements.Stmt.{Stmt}
 use Rattle.ada_tree.specs.PlainStmt.{PStmts, row_of, plain_stmt}
 use Rattle.syn_event.specs.Numbering.{Numbering}

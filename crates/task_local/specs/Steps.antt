@@ -1,7 +1,7 @@
 -- What one task does by itself and what it offers, for the statements null, entry call and accept (9.5; a statement of another form is passed over: no program with one is accepted yet).
 use Rattle.std.specs.Prelude.{ℕ, ℤ, pos, Bool, true, false, not, List, [], ◌∷◌, ◌++◌, Option, Some, None, if◌then◌else◌, ◌==◌, unwrap_or}
-use Rattle.ada_value.specs.declared.Raised.{Raised}
-use Rattle.ada_value.specs.declared.Raised.TheVariants.{Tasking}
+use Rattle.ada_value.specs.declared.values.Raised.{Raised}
+use Rattle.ada_value.specs.declared.values.Raised.TheVariants.{Tasking}
 use Rattle.ada_tree.specs.declared.naming.NameId.{NameId}
 use Rattle.ada_tree.specs.PlainStmt.{PStmt, PStmts, PMaybe, PAccept, PCall, PBody, no_stmt, stmt_then, absent, present, accepting, body, SCall, SAccept}
 use Rattle.ada_tree.specs.PlainDecl.{PDecl, PDecls, no_decl, decl_then, DTaskBody}

@@ -6,7 +6,7 @@ use Rattle.event_machine.specs.Offers.{Offer}
 use Rattle.event_machine.specs.Seats as seats
 use Rattle.event_machine.specs.Rows as rows
 use Rattle.event_machine.specs.Effects as effects
-use Rattle.ada_value.specs.declared.Raised.{Raised}
+use Rattle.ada_value.specs.declared.values.Raised.{Raised}
 use Rattle.syn_event.specs.Numbering.{Numbering, owner_of}
 use Rattle.task_local.specs.Control.{Task}
 use Rattle.task_local.specs.Steps.{task_ops, nobody, offer_of, call_left}

@@ -1,7 +1,7 @@
 // What each action does to the tasks.
 
 ghost use Rattle.std.specs.Prelude.{◌≡◌, true, map, slice_set, OnOk, OnErr};
-ghost use Rattle.ada_value.specs.declared.Raised.TheVariants.{Tasking as tasking};
+ghost use Rattle.ada_value.specs.declared.values.Raised.TheVariants.{Tasking as tasking};
 ghost use Rattle.event_machine.specs.Effects.{freed, stand, met_at, parted_both, released, aborted, fallen, abort_seats, without, arrived_standing, arrived_line, met};
 ghost use Rattle.syn_event.specs.Numbering.{owner_of};
 ghost use Rattle.task_local.specs.Steps.{task_ops, can_step, gone_on, opened_for, body_closed, raised_in};

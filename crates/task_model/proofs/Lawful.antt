@@ -7,12 +7,13 @@ use Rattle.event_machine.specs.declared.CallForm.{CallForm}
 use Rattle.event_machine.specs.declared.Choice.{Choice}
 use Rattle.event_machine.specs.Offers as offers
 use Rattle.event_machine.specs.Lawful.{IsLawful, Keeps}
-use Rattle.value_model.specs.declared.Value.{Value}
-use Rattle.value_model.specs.declared.Raised.{Raised}
-use Rattle.value_model.specs.declared.Raised.TheVariants as raised
-use Rattle.value_model.specs.Texts.{parts_text}
-use Rattle.value_model.specs.Values.{and_then, Limits, is_empty_range}
-use Rattle.value_model.specs.Variables.{Variables}
+use Rattle.ada_value.specs.declared.values.Value.{Value}
+use Rattle.ada_value.specs.declared.values.Raised.{Raised}
+use Rattle.ada_value.specs.declared.values.Raised.TheVariants as raised
+use Rattle.ada_value.specs.Texts.{parts_text}
+use Rattle.ada_value.specs.declared.values.Limits.{Limits}
+use Rattle.ada_value.specs.Values.{and_then, is_empty_range}
+use Rattle.ada_value.specs.Variables.{Variables}
 use Rattle.task_model.specs.Setting.{Setting, task_of}
 use Rattle.task_model.specs.Frames.{Turns, Endless, While, Counting, Around, Whole, Block, Handling, Loop, Opened, Part, Control, control, in_front, settled_in, settled, unit_with, block_with, handler_for, raised_in, is_left, exited_in, without_own, caller_at, callers_among, callers_in}
 use Rattle.task_model.specs.Tasks.{Task, rest_of, place_of, outer_of, vars_of, value_of, stmts_or_none, with_vars, with_input, with_text, gone_to, entered, pushed, raised_there, or_raised}

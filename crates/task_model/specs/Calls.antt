@@ -6,12 +6,13 @@ use Rattle.ada_tree.specs.declared.statements.ParMode.TheVariants.{Take, Give, B
 use Rattle.ada_tree.specs.PlainExpr.{PExpr, EName}
 use Rattle.ada_tree.specs.PlainStmt.{PCall, PStmt, SCall, SConditional, STimed, PStmts, no_stmt, stmt_then}
 use Rattle.ada_tree.specs.TypeTable.{TypeTable}
-use Rattle.value_model.specs.declared.Value.{Value}
-use Rattle.value_model.specs.declared.Raised.{Raised}
-use Rattle.value_model.specs.Values.{and_then, lower, checked}
-use Rattle.value_model.specs.Variables.{Object, Variables, object_named, value_there, checked_for, set_value}
-use Rattle.value_model.specs.Evaluating.{evaluated}
-use Rattle.task_model.specs.Setting.{Setting, FormalParameter, task_of, entry_of, member_index, entry_parameters, Lists, lists_of}
+use Rattle.ada_value.specs.declared.values.Value.{Value}
+use Rattle.ada_value.specs.declared.values.Raised.{Raised}
+use Rattle.ada_value.specs.Values.{and_then, lower, checked}
+use Rattle.ada_value.specs.Variables.{Object, Variables, object_named, value_there, checked_for, set_value}
+use Rattle.ada_value.specs.Evaluating.{evaluated}
+use Rattle.task_model.specs.declared.parameters.FormalParameter.{FormalParameter}
+use Rattle.task_model.specs.Setting.{Setting, task_of, entry_of, member_index, entry_parameters, Lists, lists_of}
 use Rattle.task_model.specs.Tasks.{Task, rest_of, vars_of}
 
 -- ---- copying in (6.2, 6.4.1)

@@ -5,10 +5,10 @@ use Rattle.ada_tree.specs.declared.naming.NameId.{NameId}
 use Rattle.ada_tree.specs.declared.naming.Word.{Word}
 use Rattle.ada_tree.specs.PlainExpr.{PExpr}
 use Rattle.ada_tree.specs.PlainStmt.{PStmts, no_stmt, stmt_then, PHandlers, no_handler, handler_then, handler}
-use Rattle.value_model.specs.declared.Raised.{Raised}
-use Rattle.value_model.specs.declared.Raised.TheVariants as raised
-use Rattle.value_model.specs.Variables.{Variables}
-use Rattle.task_model.specs.Setting.{FormalParameter}
+use Rattle.ada_value.specs.declared.values.Raised.{Raised}
+use Rattle.ada_value.specs.declared.values.Raised.TheVariants as raised
+use Rattle.ada_value.specs.Variables.{Variables}
+use Rattle.task_model.specs.declared.parameters.FormalParameter.{FormalParameter}
 
 -- How a loop goes on (5.5): without end, while a condition holds, or by counting (backwards where the truth value is true) to a last position. What is counted is the value of the latest variable, the loop parameter.
 pub data Turns : Type 0 where

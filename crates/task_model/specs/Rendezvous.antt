@@ -2,11 +2,12 @@
 use Rattle.std.specs.Prelude.{ℕ, ℤ, List, [], ◌∷◌, ◌++◌, Option, Some, None, Result, Ok, Err}
 use Rattle.ada_tree.specs.declared.naming.Span.{Span}
 use Rattle.ada_tree.specs.PlainStmt.{PCall, PCallee, PStmt, SAbort, SWait, SConditional, STimed, PStmts, no_stmt, stmt_then}
-use Rattle.value_model.specs.declared.Value.{Value}
-use Rattle.value_model.specs.declared.Raised.{Raised}
-use Rattle.value_model.specs.declared.Raised.TheVariants as raised
-use Rattle.value_model.specs.Variables.{Variables}
-use Rattle.task_model.specs.Setting.{FormalParameter, parameters_of, entry_parameters, lists_of}
+use Rattle.ada_value.specs.declared.values.Value.{Value}
+use Rattle.ada_value.specs.declared.values.Raised.{Raised}
+use Rattle.ada_value.specs.declared.values.Raised.TheVariants as raised
+use Rattle.ada_value.specs.Variables.{Variables}
+use Rattle.task_model.specs.declared.parameters.FormalParameter.{FormalParameter}
+use Rattle.task_model.specs.Setting.{parameters_of, entry_parameters, lists_of}
 use Rattle.task_model.specs.Frames.{Around, Opened, Part, control, in_front, without_own}
 use Rattle.task_model.specs.Tasks.{Task, rest_of, place_of, outer_of, vars_of, with_control, with_vars, gone_to, stmts_or_none, entered, raised_there}
 use Rattle.task_model.specs.Calls.{Called, called, call_in, opened_objects, values_handed, finals_in, Copies, copied_back}

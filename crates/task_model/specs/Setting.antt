@@ -2,7 +2,6 @@
 use Rattle.std.specs.Prelude.{ℕ, ℤ, pos, ◌==◌, Bool, true, false, ◌&&◌, if◌then◌else◌, List, [], ◌∷◌, map, flat_map, find, position, Option, Some, None, unwrap_or, ok_or, Result, Ok, Err}
 use Rattle.std.specs.Ordering.{int_eq}
 use Rattle.ada_tree.specs.declared.naming.NameId.{NameId}
-use Rattle.ada_tree.specs.declared.statements.ParMode.{ParMode}
 use Rattle.ada_tree.specs.TypeTable.{TypeTable}
 use Rattle.ada_tree.specs.PlainExpr.{PExpr}
 use Rattle.ada_tree.specs.PlainStmt.{PCallee, PArgs, PFormal}
@@ -12,11 +11,13 @@ use Rattle.syn_event.specs.declared.numbering.TaskInfo.{TaskInfo}
 use Rattle.syn_event.specs.declared.numbering.EntryInfo.{EntryInfo}
 use Rattle.syn_event.specs.Numbering.{Numbering, task_at, entry_at, task_named, entry_named}
 use Rattle.syn_event.specs.Units.{tasks_of}
-use Rattle.value_model.specs.declared.Raised.{Raised}
-use Rattle.value_model.specs.declared.Raised.TheVariants as raised
-use Rattle.value_model.specs.Values.{Limits, and_then, position_of, lies_in, limits_named, integer_limits}
-use Rattle.value_model.specs.Variables.{Variables}
-use Rattle.value_model.specs.Evaluating.{evaluated}
+use Rattle.ada_value.specs.declared.values.Raised.{Raised}
+use Rattle.ada_value.specs.declared.values.Raised.TheVariants as raised
+use Rattle.ada_value.specs.declared.values.Limits.{Limits}
+use Rattle.ada_value.specs.Values.{and_then, position_of, lies_in, limits_named, integer_limits}
+use Rattle.ada_value.specs.Variables.{Variables}
+use Rattle.ada_value.specs.Evaluating.{evaluated}
+use Rattle.task_model.specs.declared.parameters.FormalParameter.{FormalParameter}
 
 -- The program with its types and its numbers.
 pub record Setting : Type 0 where
@@ -74,12 +75,6 @@ member_index g vars e None = Ok (pos 0)
 member_index g vars e (Some x) = and_then (evaluated g.types vars x) (λ v. index_in (family_limits (entry_at g.numbers e)) (position_of v))
 
 -- ---- formals
-
--- A formal parameter: its name, its mode and its subtype (6.1, 9.5).
-pub record FormalParameter : Type 0 where
-  pub name : NameId
-  pub mode : ParMode
-  pub limits : Limits
 
 -- the formals of one parameter declaration, one for each of its names (6.1)
 abbrev pub parameters_in : TypeTable → PFormal → List FormalParameter

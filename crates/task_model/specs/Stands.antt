@@ -5,8 +5,8 @@ use Rattle.event_machine.specs.declared.CallForm.{CallForm}
 use Rattle.event_machine.specs.declared.CallForm.TheVariants as form
 use Rattle.event_machine.specs.declared.Choice.{Choice}
 use Rattle.event_machine.specs.Offers.{Offer, Nothing, Calls, Waits, Finishes, Ends, Aborts}
-use Rattle.value_model.specs.declared.Raised.{Raised}
-use Rattle.value_model.specs.declared.Raised.TheVariants as raised
+use Rattle.ada_value.specs.declared.values.Raised.{Raised}
+use Rattle.ada_value.specs.declared.values.Raised.TheVariants as raised
 use Rattle.task_model.specs.Setting.{task_of}
 use Rattle.task_model.specs.Frames.{Around, Whole, Block, Handling, Loop, Opened}
 use Rattle.task_model.specs.Tasks.{Task, rest_of, place_of, vars_of, gone_to, raised_there}

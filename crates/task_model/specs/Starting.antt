@@ -12,11 +12,13 @@ use Rattle.ada_tree.specs.StaticValue.{mark_named}
 use Rattle.syn_event.specs.declared.numbering.TaskInfo.{TaskInfo}
 use Rattle.syn_event.specs.Numbering.{Numbering, task_at}
 use Rattle.syn_event.specs.Extents.{count_to}
-use Rattle.value_model.specs.declared.Value.{Value}
-use Rattle.value_model.specs.declared.Raised.{Raised}
-use Rattle.value_model.specs.Values.{Limits, position_of, lies_in, lower, limits_of, integer_limits}
-use Rattle.value_model.specs.Variables.{Object, Variables, Form, form_of_mark, object_with}
-use Rattle.value_model.specs.Evaluating.{evaluated, range_of, narrowed}
+use Rattle.ada_value.specs.declared.values.Value.{Value}
+use Rattle.ada_value.specs.declared.values.Raised.{Raised}
+use Rattle.ada_value.specs.declared.values.Form.{Form}
+use Rattle.ada_value.specs.declared.values.Limits.{Limits}
+use Rattle.ada_value.specs.Values.{position_of, lies_in, lower, limits_of, integer_limits}
+use Rattle.ada_value.specs.Variables.{Object, Variables, form_of_mark, object_with}
+use Rattle.ada_value.specs.Evaluating.{evaluated, range_of, narrowed}
 use Rattle.task_model.specs.Setting.{Setting}
 use Rattle.task_model.specs.Frames.{Whole, control}
 use Rattle.task_model.specs.Steps.{block_stmts, block_handlers}

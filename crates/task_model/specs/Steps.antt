@@ -3,14 +3,15 @@ use Rattle.std.specs.Prelude.{ℕ, ℤ, pos, ◌+ℤ◌, ◌-ℤ◌, int_le, int
 use Rattle.ada_tree.specs.declared.naming.Word.{Word}
 use Rattle.ada_tree.specs.PlainExpr.{PExpr, PDrange, RGiven, RMarked}
 use Rattle.ada_tree.specs.PlainStmt.{PTarget, PPart, PChoice, PScheme, LWhile, LFor, PStmts, PMaybe, present, PArms, no_arm, arm_then, arm, PCaseArms, no_case_arm, case_arm_then, case_arm, PBody, body, PHandlers}
-use Rattle.value_model.specs.declared.Value.{Value}
-use Rattle.value_model.specs.declared.Value.TheVariants.{Number}
-use Rattle.value_model.specs.declared.Raised.{Raised}
-use Rattle.value_model.specs.declared.Raised.TheVariants as raised
-use Rattle.value_model.specs.Values.{Limits, and_then, position_of, value_at, limits_named, limits_of_kind, lies_in, is_empty_range}
-use Rattle.value_model.specs.Variables.{Object, Variables, object_named, value_there, component_place, checked_for, set_value}
-use Rattle.value_model.specs.Evaluating.{condition_of, range_of}
-use Rattle.value_model.specs.Texts.{parts_text}
+use Rattle.ada_value.specs.declared.values.Value.{Value}
+use Rattle.ada_value.specs.declared.values.Value.TheVariants.{Number}
+use Rattle.ada_value.specs.declared.values.Raised.{Raised}
+use Rattle.ada_value.specs.declared.values.Raised.TheVariants as raised
+use Rattle.ada_value.specs.declared.values.Limits.{Limits}
+use Rattle.ada_value.specs.Values.{and_then, position_of, value_at, limits_named, limits_of_kind, lies_in, is_empty_range}
+use Rattle.ada_value.specs.Variables.{Object, Variables, object_named, value_there, component_place, checked_for, set_value}
+use Rattle.ada_value.specs.Evaluating.{condition_of, range_of}
+use Rattle.ada_value.specs.Texts.{parts_text}
 use Rattle.task_model.specs.Frames.{Turns, Endless, While, Counting, Block, Loop, Part, settled, settled_in, raised_named, handled_by, exited_in, brought_by}
 use Rattle.task_model.specs.Tasks.{Task, place_of, outer_of, vars_of, value_of, with_control, with_input, with_text, with_vars, gone_to, stmts_or_none, entered, pushed, raised_there, or_raised}
 

@@ -2,10 +2,10 @@
 use Rattle.std.specs.Prelude.{ℕ, ℤ, List, ◌∷◌, ◌++◌, Result, Ok, Err}
 use Rattle.ada_tree.specs.PlainExpr.{PExpr}
 use Rattle.ada_tree.specs.PlainStmt.{PStmts, no_stmt, PMaybe, absent, present}
-use Rattle.value_model.specs.declared.Value.{Value}
-use Rattle.value_model.specs.declared.Raised.{Raised}
-use Rattle.value_model.specs.Variables.{Variables}
-use Rattle.value_model.specs.Evaluating.{evaluated}
+use Rattle.ada_value.specs.declared.values.Value.{Value}
+use Rattle.ada_value.specs.declared.values.Raised.{Raised}
+use Rattle.ada_value.specs.Variables.{Variables}
+use Rattle.ada_value.specs.Evaluating.{evaluated}
 use Rattle.task_model.specs.Setting.{Setting}
 use Rattle.task_model.specs.Frames.{Around, Part, Control, control, in_front, settled_in, settled, raised_in}
 

@@ -6,8 +6,8 @@ use Rattle.ada_tree.specs.PlainStmt.{PHead, PStmt, SAccept, SWait, PStmts, no_st
 use Rattle.event_machine.specs.declared.Choice.{Choice}
 use Rattle.event_machine.specs.declared.Choice.TheVariants as choice
 use Rattle.event_machine.specs.Offers.{same_member}
-use Rattle.value_model.specs.declared.Raised.{Raised}
-use Rattle.value_model.specs.Values.{and_then, is_true_value, checked, truth_limits}
+use Rattle.ada_value.specs.declared.values.Raised.{Raised}
+use Rattle.ada_value.specs.Values.{and_then, is_true_value, checked, truth_limits}
 use Rattle.task_model.specs.Setting.{entry_of, member_index}
 use Rattle.task_model.specs.Tasks.{Task, rest_of, vars_of, value_of, stmts_or_none}
 

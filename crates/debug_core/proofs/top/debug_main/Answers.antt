@@ -1,4 +1,4 @@
-use Rattle.std.proofs.Common.{Option, refl, subst}
+use Rattle.std.proofs.Common.{Option, [], refl, subst}
 use Rattle.debug_words.specs.Words.{Asked}
 use Rattle.debug_words.specs.Commands.{asked_as}
 use Rattle.debug_outcome.specs.Delivery.{Sides}
@@ -13,6 +13,7 @@ returns-in-Ok g c =
       files = g.F.Files.told c.args.files.now;
       file_faults = g.F.Files.faults c.args.files.now;
       file_faults' = g.F.Files.faults c.carry_out.new.files;
+      loads = c.in-Ok.ensures.loads;
       out = g.O.Sink.told c.args.out.now;
       out' = g.O.Sink.told c.carry_out.new.out;
       out_faults = g.O.Sink.faults c.args.out.now;
@@ -22,7 +23,15 @@ returns-in-Ok g c =
       err_faults = g.E.Sink.faults c.args.err.now;
       err_faults' = g.E.Sink.faults c.args.err.now;
     } in
-    record { answer = subst (λ (a : Option Asked). Answers a s c.in-Ok.status) c.in-Some.ensures (ends_done (CallsFor (asked_as c.in-Some.command) s.files s.file_faults s.file_faults') (GrowsFor (asked_as c.in-Some.command) s.files s.file_faults s.file_faults') s c.in-Ok.status c.in-Ok.ensures refl refl) }
+    record {
+      answer = record {
+        loads = c.in-Ok.ensures.loads;
+        led = c.in-Ok.ensures.led;
+        is_so =
+            subst (λ (a : Option Asked). Answers a s c.in-Ok.status) c.in-Some.ensures
+            (ends_done (CallsFor (asked_as c.in-Some.command) s.files s.file_faults s.file_faults' s.loads) (GrowsFor (asked_as c.in-Some.command) s.files s.file_faults s.file_faults' s.loads) s c.in-Ok.status c.in-Ok.ensures.is_so refl refl);
+      };
+    }
 
 pub returns-in-Err : goal.returns-in-Err
 returns-in-Err g c =
@@ -30,6 +39,7 @@ returns-in-Err g c =
       files = g.F.Files.told c.args.files.now;
       file_faults = g.F.Files.faults c.args.files.now;
       file_faults' = g.F.Files.faults c.carry_out.new.files;
+      loads = c.in-Err.ensures.loads;
       out = g.O.Sink.told c.args.out.now;
       out' = g.O.Sink.told c.carry_out.new.out;
       out_faults = g.O.Sink.faults c.args.out.now;
@@ -40,9 +50,13 @@ returns-in-Err g c =
       err_faults' = g.E.Sink.faults c.tell.new.err;
     } in
     record {
-      answer =
-          subst (λ (a : Option Asked). Answers a s c.tell.result) c.in-Some.ensures
-          (ends_stopped (CallsFor (asked_as c.in-Some.command) s.files s.file_faults s.file_faults') (GrowsFor (asked_as c.in-Some.command) s.files s.file_faults s.file_faults') s c.in-Err.stop c.tell.result c.in-Err.ensures c.tell.ensures);
+      answer = record {
+        loads = c.in-Err.ensures.loads;
+        led = c.in-Err.ensures.led;
+        is_so =
+            subst (λ (a : Option Asked). Answers a s c.tell.result) c.in-Some.ensures
+            (ends_stopped (CallsFor (asked_as c.in-Some.command) s.files s.file_faults s.file_faults' s.loads) (GrowsFor (asked_as c.in-Some.command) s.files s.file_faults s.file_faults' s.loads) s c.in-Err.stop c.tell.result c.in-Err.ensures.is_so c.tell.ensures);
+      };
     }
 
 pub returns-in-None : goal.returns-in-None
@@ -51,6 +65,7 @@ returns-in-None g c =
       files = g.F.Files.told c.args.files.now;
       file_faults = g.F.Files.faults c.args.files.now;
       file_faults' = g.F.Files.faults c.args.files.now;
+      loads = [];
       out = g.O.Sink.told c.args.out.now;
       out' = g.O.Sink.told c.args.out.now;
       out_faults = g.O.Sink.faults c.args.out.now;
@@ -60,4 +75,10 @@ returns-in-None g c =
       err_faults = g.E.Sink.faults c.args.err.now;
       err_faults' = g.E.Sink.faults c.tell-in-None.new.err;
     } in
-    record { answer = subst (λ (a : Option Asked). Answers a s c.tell-in-None.result) c.in-None.ensures (told_alone Usage s c.tell-in-None.result refl refl c.tell-in-None.ensures) }
+    record {
+      answer = record {
+        loads = [];
+        led = refl;
+        is_so = subst (λ (a : Option Asked). Answers a s c.tell-in-None.result) c.in-None.ensures (told_alone Usage s c.tell-in-None.result refl refl c.tell-in-None.ensures);
+      };
+    }

@@ -1,16 +1,6 @@
-use Rattle.std.proofs.Common.{sym, rules}
-use Rattle.seq_file.specs.Lines.{event_of_line}
-use Rattle.seq_file.proofs.Nexting.{verdict-known}
+use Rattle.std.proofs.Common.{rules}
+use Rattle.seq_file.proofs.Nexting.{next-by_line}
 use Rattle.seq_file.proofs.reading.next_event.Goals as goal
 
-pub returns-in-Known-clause-read : goal.returns-in-Known-clause-read
-returns-in-Known-clause-read c =
-    let known = verdict-known c.args.numbers.now (event_of_line c.in-Some.line.now) c.in-Known.event c.in-Known.ensures in
-    record {
-      line = c.in-Some.line.now;
-      going = c.if-ended.false;
-      few = search rules;
-      cuts = sym c.in-Some.ensures.cut;
-      writes = known.0;
-      known = known.1;
-    }
+pub returns-clause-read : goal.returns-clause-read
+returns-clause-read c = next-by_line c.args.numbers.now c.args.ended c.args.count c.args.rest.now (λ b. b.now) c.line_event.result c.if-ended.false (search rules) c.line_event.ensures.read

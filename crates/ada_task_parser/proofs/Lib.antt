@@ -1,0 +1,3 @@
+pub mod MemberSteps
+pub mod Steps
+pub mod TaskSteps

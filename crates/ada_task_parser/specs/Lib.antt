@@ -1,0 +1,4 @@
+pub mod MemberViews
+pub mod ReadingTasks
+pub mod TaskViews
+pub mod Tasks

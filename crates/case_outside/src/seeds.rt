@@ -1,0 +1,33 @@
+//! Choices by a seeded generator.
+
+ghost use Rattle.std.specs.Prelude.{◌<◌};
+
+use case_form::Row;
+use ded_io::Chooser;
+use seed_chooser::SeedChooser;
+use std::alloc::AllocError;
+
+// How many picks are written.
+const PICKS: u32 = 10;
+
+/// `seed SEED`: the first picks of the chooser of that seed, each from so many places as the row says.
+pub fn seeded(seed: &str, row: &Row<'_>, out: &mut String) -> Result<(), AllocError> {
+    row.ask(out)?;
+    match (seed.parse::<u64>(), row.written().parse::<u32>()) {
+        (Ok(seed), Ok(count)) if count > 0 => put_picks(SeedChooser::new(seed), count, out),
+        _ => out.push_str("no seed, or no places"),
+    }
+}
+
+fn put_picks(mut chooser: SeedChooser, count: u32, out: &mut String) -> Result<(), AllocError>
+    requires { 0 < count }
+{
+    for place in 0..PICKS {
+        if place > 0 {
+            out.push(' ')?;
+        }
+        let pick = chooser.pick(count);
+        write!(out, "{pick}")?;
+    }
+    Ok(())
+}

@@ -1,0 +1,100 @@
+//! What is read of a text, and what is printed of it.
+
+use crate::programs::program_of;
+use ada_parser::ReadError;
+use ada_printer::{print, text_len};
+use ada_tree::{Memory, Program};
+use case_expressions::answer_fault;
+use case_form::{Row, put_escaped};
+use ded_io::MemorySink;
+use std::alloc::Global;
+
+// The room for what is printed of a row.
+const ROOM: u64 = 20_000;
+
+/// Answers why the row's text is no program, at the place.
+pub fn answer_refused(row: &Row<'_>, error: ReadError, out: &mut String) -> Result<(), Memory> {
+    match error {
+        ReadError::Lex(fault) => answer_fault(row, fault, out),
+        ReadError::Syntax { at } => Ok(row.answer_at(out, "Syntax", at)?),
+        ReadError::TooDeep { at } => Ok(row.answer_at(out, "TooDeep", at)?),
+        ReadError::Memory => Err(Memory),
+    }
+}
+
+/// `read`: whether the row's text is a program, and where it is not.
+pub fn read(alloc: Global, row: &Row<'_>, out: &mut String) -> Result<(), Memory> {
+    match program_of(alloc, row.text()) {
+        Ok(_) => Ok(row.answer(out, "ok")?),
+        Err(error) => answer_refused(row, error, out),
+    }
+}
+
+/// What is printed of a program.
+pub fn printed(alloc: Global, program: &Program) -> Result<MemorySink, Memory> {
+    let mut sink = MemorySink::new(alloc, Vec::new(alloc), ROOM)?;
+    match print(program, &mut sink) {
+        Ok(()) => Ok(sink),
+        Err(_) => Err(Memory),
+    }
+}
+
+/// `printed`: what is printed of the row's program.
+pub fn print_row(alloc: Global, row: &Row<'_>, out: &mut String) -> Result<(), Memory> {
+    match program_of(alloc, row.text()) {
+        Ok(program) => answer_printed(alloc, row, &program, out),
+        Err(error) => answer_refused(row, error, out),
+    }
+}
+
+fn answer_printed(
+    alloc: Global,
+    row: &Row<'_>,
+    program: &Program,
+    out: &mut String,
+) -> Result<(), Memory> {
+    let sink = printed(alloc, program)?;
+    row.ask(out)?;
+    put_escaped(out, sink.bytes())?;
+    Ok(())
+}
+
+/// `text_len`: the length of the text that is printed of the row's program.
+pub fn printed_len(alloc: Global, row: &Row<'_>, out: &mut String) -> Result<(), Memory> {
+    match program_of(alloc, row.text()) {
+        Ok(program) => answer_len(row, text_len(&program), out),
+        Err(error) => answer_refused(row, error, out),
+    }
+}
+
+fn answer_len(row: &Row<'_>, len: u64, out: &mut String) -> Result<(), Memory> {
+    row.ask(out)?;
+    write!(out, "{len}")?;
+    Ok(())
+}
+
+/// `fronts`: how many first bytes of the row's text are a program, and of how many the end is not in the grammar.
+pub fn fronts(alloc: Global, row: &Row<'_>, out: &mut String) -> Result<(), Memory> {
+    let text = row.text();
+    row.ask(out)?;
+    let mut last = "";
+    for len in 0..=text.len() {
+        let found = word_of(alloc, text.get(..len).unwrap_or(&[]))?;
+        if found != last {
+            write!(out, "from {len} {found} ")?;
+        }
+        last = found;
+    }
+    out.push_str("to the end")?;
+    Ok(())
+}
+
+// Whether a text is a program.
+fn word_of(alloc: Global, text: &[u8]) -> Result<&'static str, Memory> {
+    match program_of(alloc, text) {
+        Ok(_) => Ok("ok"),
+        Err(ReadError::Syntax { .. }) => Ok("Syntax"),
+        Err(ReadError::Memory) => Err(Memory),
+        Err(_) => Ok("fault"),
+    }
+}

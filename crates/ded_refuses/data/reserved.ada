@@ -1,0 +1,3 @@
+procedure Q is
+   DED_X : INTEGER;
+begin null; end Q;

@@ -1,0 +1,9 @@
+//! The program `ded` again, for a stored run of words that are no row, with status 2.
+#![tactic(auto)]
+
+use ded_program::run_program;
+use std::process::ExitCode;
+
+fn main(rt: HostRuntime) -> ExitCode {
+    ExitCode::from(run_program(&rt, rt.stdout(), rt.stderr()))
+}

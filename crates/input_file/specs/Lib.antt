@@ -1,0 +1,4 @@
+pub mod ChoiceFiles
+pub mod InputFiles
+pub mod NextLines
+pub mod Tables

@@ -1,0 +1,7 @@
+pub mod Trees
+mod Calls
+mod Waits
+mod Members
+mod Choices
+mod Aborts
+mod Units

@@ -1,0 +1,12 @@
+pub mod Walk
+pub mod Names
+pub mod Ranges
+pub mod Making
+pub mod Members
+pub mod Calls
+pub mod Waits
+pub mod Aborts
+pub mod Variables
+pub mod NormalStmts
+pub mod NormalTree
+pub mod NormalNumbers

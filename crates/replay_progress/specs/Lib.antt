@@ -1,0 +1,2 @@
+pub mod ByEvents
+pub mod Laws

@@ -1,0 +1,4 @@
+pub mod StackLemmas
+pub mod MovesLemmas
+pub mod HandlerLemmas
+pub mod CallLemmas

@@ -1,0 +1,4 @@
+pub mod KeepingLemmas
+pub mod FormalsLemmas
+pub mod UnitsLemmas
+pub mod LinksLemmas

@@ -1,0 +1,4 @@
+pub mod Numerals
+pub mod Capped
+pub mod Lines
+pub mod LineFiles
