@@ -9,7 +9,7 @@ ghost use Rattle.debug_core.specs.Answers.{CallsFor};
 ghost use Rattle.debug_core.specs.JudgeMeaning.{JudgeMeans, WereLoaded, judged_files};
 
 use crate::machine_text::read_program;
-use debug_judge::judge_lines;
+use debug_judge::report_lines;
 use debug_outcome::{Stop, TracedFiles, load_file};
 use debug_words::JudgeWords;
 use ded_io::Sink;
@@ -71,7 +71,7 @@ fn judge_text<'w, O: Sink>(
 {
     match read_program(alloc, text, Mode::Original) {
         Ok(read) => {
-            judge_lines(
+            report_lines(
                 alloc,
                 &read.program,
                 &read.types,

@@ -1,5 +1,5 @@
 -- The outcome of judging: the text of a verdict that was put whole or cut short, and the refusal of a sequence.
-use Rattle.std.proofs.Common.{◌≡◌, ◌≢◌, ℕ, List, [], length, Option, Ok, Err, ap, refl, ◌∙◌, subst, inr}
+use Rattle.std.proofs.Common.{◌≡◌, ℕ, List, [], length, Option, Ok, Err, ap, refl, ◌∙◌, subst, inr}
 use Rattle.ded_io.specs.Counts.{Rose}
 use Rattle.ded_io.specs.Written.{appended, Began, Wrote}
 use Rattle.ada_tree.specs.PlainProgram.{PProgram}
@@ -9,15 +9,15 @@ use Rattle.seq_file.specs.declared.errors.SeqError.TheVariants as error
 use Rattle.seq_file.specs.Files.{HasFirstFault}
 use Rattle.syn_event.specs.Numbering.{Numbering}
 use Rattle.task_machine.specs.declared.verdict.Verdict.{Verdict}
+use Rattle.task_machine.specs.Judging.{VerdictIs}
 use Rattle.feasible.specs.Failing.{view_at}
 use Rattle.feasible.specs.Kept.{Kept}
 use Rattle.divergence.specs.JudgeText.{report_text, judge_text, event_of}
 use Rattle.debug_outcome.specs.Coming.{HasPut, HasBroken, Stops, stop_by}
-use Rattle.debug_judge.specs.Fed.{IsFed}
-use Rattle.debug_judge.specs.JudgeOutcomes.{IsVerdictText, JudgesLines, IsBadSequence, refusal_of_sequence, verdict_status}
+use Rattle.debug_judge.specs.JudgeOutcomes.{ShowsWhy, IsVerdictText, JudgesLines, refusal_of_sequence, verdict_status}
 
 module _ (p : PProgram) (numbers : Numbering) (bound bound' : ℕ) (events : List Event) (k : Kept) (v : Verdict) (count : ℕ) (e : Option Event) (old new : Option (List ℕ)) (writes writes' : ℕ)
-    (fed : IsFed p numbers bound events k v) (counted : count ≡ length events) (event : e ≡ event_of events v) (bounded : bound' ≡ bound) where
+    (verdict_is : VerdictIs p numbers bound events v) (seen : ShowsWhy p numbers events (view_at k.tasks) v) (counted : count ≡ length events) (event : e ≡ event_of events v) (bounded : bound' ≡ bound) where
   abbrev text : List ℕ
   text = judge_text p.names numbers bound (view_at k.tasks) events v
 
@@ -35,9 +35,9 @@ module _ (p : PProgram) (numbers : Numbering) (bound bound' : ℕ) (events : Lis
     text = text;
     called = record {
       verdict = v;
-      verdict_is = fed.verdict_is;
+      verdict_is = verdict_is;
       views = view_at k.tasks;
-      seen = fed.seen;
+      seen = seen;
       is = ap (λ s. record { out = text; err = []; status = s }) status_is;
     };
     put = (wrote ∙ ap (λ t. appended old t) is_text, still);
@@ -49,16 +49,16 @@ module _ (p : PProgram) (numbers : Numbering) (bound bound' : ℕ) (events : Lis
   verdict_cut A E x wrote rose = record {
     text = text;
     status = verdict_status v;
-    called = record { verdict = v; verdict_is = fed.verdict_is; views = view_at k.tasks; seen = fed.seen; is = refl };
+    called = record { verdict = v; verdict_is = verdict_is; views = view_at k.tasks; seen = seen; is = refl };
     put = (subst (λ t. Began old new t) is_text wrote, rose);
   }
 
 -- the refusal of a sequence is one that its lines call for
-pub stops_sequence : (p : PProgram) (numbers : Numbering) (lines : List ℕ) (bound : ℕ) (found : SeqError) → (found ≢ error.Memory → HasFirstFault lines numbers p.names found) →
+pub stops_sequence : (p : PProgram) (numbers : Numbering) (lines : List ℕ) (bound : ℕ) (found : SeqError) → HasFirstFault lines numbers p.names found →
     Stops (JudgesLines p numbers lines bound) (stop_by (refusal_of_sequence found))
-stops_sequence p numbers lines bound (error.BadLine line) h = inr (record { error = error.BadLine line; fault = h (λ e. cc); told = refl })
-stops_sequence p numbers lines bound (error.OtherProgram line) h = inr (record { error = error.OtherProgram line; fault = h (λ e. cc); told = refl })
-stops_sequence p numbers lines bound (error.BadNumber line) h = inr (record { error = error.BadNumber line; fault = h (λ e. cc); told = refl })
-stops_sequence p numbers lines bound (error.AfterEnd line) h = inr (record { error = error.AfterEnd line; fault = h (λ e. cc); told = refl })
-stops_sequence p numbers lines bound (error.TooMany limit) h = inr (record { error = error.TooMany limit; fault = h (λ e. cc); told = refl })
+stops_sequence p numbers lines bound (error.BadLine line) h = inr (record { error = error.BadLine line; fault = h; told = refl })
+stops_sequence p numbers lines bound (error.OtherProgram line) h = inr (record { error = error.OtherProgram line; fault = h; told = refl })
+stops_sequence p numbers lines bound (error.BadNumber line) h = inr (record { error = error.BadNumber line; fault = h; told = refl })
+stops_sequence p numbers lines bound (error.AfterEnd line) h = inr (record { error = error.AfterEnd line; fault = h; told = refl })
+stops_sequence p numbers lines bound (error.TooMany limit) h = inr (record { error = error.TooMany limit; fault = h; told = refl })
 stops_sequence p numbers lines bound error.Memory h = tt

@@ -1,3 +1,4 @@
 pub mod Uppering
-pub mod Feeding
+pub mod Giving
+pub mod Lining
 pub mod Judged

@@ -1,2 +1,2 @@
 pub mod JudgeOutcomes
-pub mod Fed
+pub mod JudgedLines

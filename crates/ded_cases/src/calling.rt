@@ -1,10 +1,7 @@
 //! Whole calls of the program.
 
-use crate::naming::ask;
-use crate::rows::Row;
-use crate::stage::{Failing, Stage};
-use crate::writing::{put_lines, put_quoted};
 use ada_tree::Memory;
+use case_form::{Failing, Row, Stage, ask, put_lines, put_quoted};
 use debug_core::debug_main;
 use ded_io::MemorySink;
 use std::alloc::{AllocError, Global};

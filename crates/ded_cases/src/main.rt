@@ -2,24 +2,7 @@
 #![tactic(auto)]
 
 mod calling;
-mod escapes;
-mod expressions;
-mod machines;
-mod messages;
-mod naming;
-mod numbering;
-mod outside;
 mod playing;
-mod programs;
-mod rows;
-mod sameness;
-mod sequences;
-mod stage;
-mod texts;
-mod tokens;
-mod trees;
-mod typing;
-mod writing;
 
 use playing::transcript;
 use std::io::{self, Write};

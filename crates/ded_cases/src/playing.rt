@@ -1,21 +1,17 @@
 //! The cases one behind the other, each heading with what stands under it.
 
 use crate::calling::{call_row, put_call, text_row};
-use crate::escapes::expand;
-use crate::expressions::{Wanted, expression};
-use crate::machines::{Judging, judge_row, run_row};
-use crate::messages::{message, text_message, token_message};
-use crate::naming::{names, scopes};
-use crate::numbering::{event, known_of, number, numbers, origin};
-use crate::outside::{choices, loads, sink};
-use crate::rows::Row;
-use crate::sameness::{built, copy, fronts, outline, print_row, printed_len, read, same};
-use crate::sequences::sequence;
-use crate::stage::{Failing, Stage};
-use crate::texts::{Text, text_named};
-use crate::tokens::{line_col, tokens};
-use crate::typing::{Told, static_expression, type_table, types};
 use ada_tree::Memory;
+use case_expressions::{Wanted, expression, line_col, names, token_message, tokens};
+use case_form::{Failing, Row, Stage, Text, expand, text_named};
+use case_machines::{Judging, judge_row, run_row, value};
+use case_outside::{choices, loads, seeded, sink};
+use case_programs::{fronts, message, print_row, printed_len, read, text_message};
+use case_rules::{
+    Told, choices_file, event, inputs, known_of, number, numbers, origin, scopes, sequence,
+    static_expression, type_table, types,
+};
+use case_sameness::{built, copy, outline, same};
 use std::alloc::{AllocError, Global};
 use syn_event::Mode;
 
@@ -150,9 +146,9 @@ impl Playing {
         match subject {
             "names" => return names(alloc, body, &mut self.out),
             "scopes" => return scopes(alloc, body, &mut self.out),
-            "choices" => return choices(alloc, rest, body, &mut self.out),
-            "loads" => return loads(alloc, &self.stage, rest, body, &mut self.out),
-            "sink" => return sink(alloc, rest, body, &mut self.out),
+            "choices" => return Ok(choices(alloc, rest, body, &mut self.out)?),
+            "loads" => return Ok(loads(alloc, &self.stage, rest, body, &mut self.out)?),
+            "sink" => return Ok(sink(alloc, rest, body, &mut self.out)?),
             _ => {}
         }
         for written in body.lines() {
@@ -185,12 +181,13 @@ fn answer(
         "same" => same(alloc, texts, asked.text, false, written, out),
         "same_behind" => same(alloc, texts, asked.text, true, written, out),
         "static" => static_expression(alloc, texts, asked.text, written, out),
+        "value" => value(alloc, texts, asked.text, asked.rest, written, out),
         "calls" => call_row(alloc, stage, written, out),
         "texts" => {
             let row = Row::new(alloc, texts, asked.text, ("", ""), written)?;
             text_row(alloc, stage, asked.rest, &row, out)
         }
-        "number" | "origins" | "sequence" | "run" | "judge" | "judge_all" => {
+        "number" | "origins" | "sequence" | "inputs" | "run" | "judge" | "judge_all" => {
             let row = Row::new(alloc, texts, None, ("", ""), written)?;
             answer_of_program(alloc, asked, &row, out)
         }
@@ -220,6 +217,7 @@ fn answer_of_program(
             "number" => number(alloc, &mut known, row, out),
             "origins" => origin(alloc, &known, row, out),
             "sequence" => sequence(alloc, &known, Mode::Any, row, out),
+            "inputs" => inputs(alloc, &known, row, out),
             _ => run_row(alloc, &known, asked.rest.parse().unwrap_or(0), row, out),
         },
         None => Ok(row.answer(out, "no program")?),
@@ -295,6 +293,8 @@ fn answer_more(
         "token_message" => token_message(alloc, row, out),
         "text_message" => text_message(alloc, row, out),
         "messages" => message(row, out),
+        "seed" => Ok(seeded(asked.rest, row, out)?),
+        "choices_file" => choices_file(alloc, row, out),
         _ => Ok(row.answer(out, "no subject of that name")?),
     }
 }

@@ -95,7 +95,7 @@ module _ (x : Setting) where
         (subst (λ pl. SeatAt x pl u (w.tasks u)) (sym (n.away u)) (inv.seats u m)))
 
     -- the controller's call fails only where it waits for a closed task
-    join_fails : (stage : Stage) → Inv x past rest stage w → (t : ℕ) (ops : List Op) → w.tasks (control x) ≡ live (Controlling (Join t ∷ ops)) → is_closed (w.tasks t).standing ≡ true →
+    join_fails : (stage : Stage) → Inv x past rest stage w → (t : ℕ) (ops : List Op) → w.tasks (control x) ≡ live (Controlling (Join t ∷ ops)) → (t < x.p.size → is_closed (w.tasks t).standing ≡ true) →
         Matched x past (record { tasks = put w.tasks (control x) (live (copy_raised x.p.ops x.n (w.tasks (control x)).local)); ended = w.ended })
     join_fails Held inv t ops h closed = absurd (let q : Hold ∷ [] ≡ Join t ∷ ops = controlling (sym inv.controls ∙ h) in cc)
     join_fails (Giving e tail given []) inv t ops h closed = ⊎_elim
@@ -104,7 +104,7 @@ module _ (x : Setting) where
         let o : given ≡ t ∷ [] = given_is given (inv.fits.3 ∙ k) in
         let m : t < x.p.size = live_below w t (joiner_live (after_all x past) e tail t ops (controlling (sym q ∙ h)) (image x w.tasks) (reached_admitted x past (image_world x w) inv.reached e runs inv.fits.2)) in
         let s = subst (λ b. SeatAt x (if b then Holds (permit_of e) else Away) t (w.tasks t)) (ap (member t) o ∙ first_member t) (inv.seats t m) in
-        absurd (true≢false (sym closed ∙ ap (λ (y : Seat (Copy x.L)). is_closed y.standing) s.1)))
+        absurd (true≢false (sym (closed m) ∙ ap (λ (y : Seat (Copy x.L)). is_closed y.standing) s.1)))
         (λ q. absurd (let k : Completed ≡ Live = sym q.1 ∙ ap (λ (y : Seat (Copy x.L)). y.standing) h in cc)) inv.controls
       where
         given_is : (given : List ℕ) → in_order given [] ≡ t ∷ [] → given ≡ t ∷ []
@@ -185,7 +185,7 @@ module _ (x : Setting) where
             let entry : e ≡ x.n.join t = (same_member-true e (x.n.join t) i (pos 0) k).0 in
             matched_silent x past w (F c e i) (ap (λ s. at_entry (λ v. F c v i) (stands_for s)) (ap x.n.sort entry ∙ x.numbers.join t)) (FailedJoin t ops at q)
             (subst (λ v. Matched x past (record { tasks = put w.tasks v (live (copy_raised x.p.ops x.n (w.tasks v).local)); ended = w.ended })) (sym at)
-            (join_fails past rest w runs stage inv t ops q (closed_at t (ap x.owner entry ∙ x.owners.join t))))
+            (join_fails past rest w runs stage inv t ops q (λ m. closed_at t (ap x.owner entry ∙ x.owners.join t m))))
         commands (Hold ∷ ops) at q k = absurd (true≢false (sym k))
 
         go : Speaks x stage w (calls_in is_any_form e i) c → Moves x past w (F c e i)

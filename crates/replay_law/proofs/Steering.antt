@@ -126,7 +126,7 @@ module _ (x : Setting) where
   join past rest a w inv = record {
     can = both (ap not inv.fits.0) (both
         (offers_at (twin x).ops (calls_in is_any_form (x.n.join a) (pos 0)) (w.tasks (control x)) (Controlling (Join a ∷ left x (after_all x past) rest)) inv.controls (same_member-refl (x.n.join a) (pos 0)))
-        (ap (λ v. is_closed (w.tasks v).standing) (x.owners.join a) ∙ completed_closed (w.tasks a).standing inv.fits.2));
+        (ap (λ v. is_closed (w.tasks v).standing) (x.owners.join a inv.fits.1) ∙ completed_closed (w.tasks a).standing inv.fits.2));
     inv = subst (Inv x past rest (next x (after_all x past) rest).stage) (λ j. record { tasks = sym acts j; ended = w.ended }) (joins x past rest w inv.fits.0 a (next x (after_all x past) rest) inv);
     same = ap (λ g. image x g) acts ∙ image_beyond x w.tasks (control x) (live (Controlling (left x (after_all x past) rest))) (omega arith);
     none = ap (λ s. at_entry (λ f. F (control x) f (pos 0)) (stands_for s)) (x.numbers.join a);

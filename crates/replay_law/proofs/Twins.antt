@@ -172,8 +172,8 @@ numbering_owners owner size = record {
   go = refl;
   done = refl;
   hold = refl;
-  join = λ t. ap (owner_by owner size) (numbering_numbers.join t);
-  never = λ t. ap (owner_by owner size) (numbering_numbers.never t);
+  join = λ t m. ap (owner_by owner size) (numbering_numbers.join t);
+  never = λ t m. ap (owner_by owner size) (numbering_numbers.never t);
   stop = refl;
   rest = refl;
 }

@@ -1,6 +1,6 @@
 -- What each task of a rewritten program is to do: before each event it asks the controller for a permit, offers only what the permit is for, and
 -- tells the controller when it is done (this project's rule). A state of such a task is a state of the original task and how far it is.
-use Rattle.std.specs.Prelude.{◌≡◌, ℕ, ℤ, pos, Bool, true, false, ◌==◌, if◌then◌else◌, suc, List, [], ◌∷◌}
+use Rattle.std.specs.Prelude.{◌≡◌, ◌<◌, ℕ, ℤ, pos, Bool, true, false, ◌==◌, if◌then◌else◌, suc, List, [], ◌∷◌}
 use Rattle.event_machine.specs.declared.CallForm.TheVariants.{Plain, Conditional, Timed}
 use Rattle.event_machine.specs.declared.Choice.TheVariants.{Accept, Else, Delay, Terminate}
 use Rattle.event_machine.specs.Offers.{Offer, Nothing, Calls, Waits, Finishes, Ends, Aborts, calls_in, is_any_form}
@@ -57,8 +57,9 @@ pub record HasOwners (owners : ℕ → ℕ) (size : ℕ) (n : Spots) (owner : �
   pub go : owner n.go ≡ size
   pub done : owner n.done ≡ size
   pub hold : owner n.hold ≡ size
-  pub join : (t : ℕ) → owner (n.join t) ≡ t
-  pub never : (t : ℕ) → owner (n.never t) ≡ t
+  -- the entries of the original tasks: a program has no others
+  pub join : (t : ℕ) → t < size → owner (n.join t) ≡ t
+  pub never : (t : ℕ) → t < size → owner (n.never t) ≡ t
   pub stop : owner n.stop ≡ suc size
   pub rest : owner n.rest ≡ suc size
 

@@ -1,0 +1,106 @@
+//! Runs of a program.
+
+ghost use Rattle.ada_tree.specs.PlainProgram.{plain_program};
+ghost use Rattle.syn_event.specs.Legal.{Legal};
+ghost use Rattle.syn_event.specs.LegalProgram.{IsLegal};
+
+use ada_tree::Memory;
+use ada_value::Inputs;
+use case_form::Row;
+use case_rules::Known;
+use debug_form::first_beyond;
+use ded_io::{ListChooser, MemorySink};
+use interp::{RunEnd, RunError, RunReport, run};
+use std::alloc::{AllocError, Global};
+use syn_event::Mode;
+use task_machine::Machine;
+
+/// No task reads anything.
+pub fn no_inputs(alloc: Global) -> Inputs {
+    Inputs {
+        lists: Vec::new(alloc),
+    }
+}
+
+// The choices of a row.
+fn choices_of(alloc: Global, written: &str) -> Result<ListChooser, AllocError> {
+    let mut list = Vec::new(alloc);
+    for word in written.split_whitespace() {
+        if let Ok(choice) = word.parse::<u32>() {
+            list.push(choice)?;
+        }
+    }
+    Ok(ListChooser::new(list))
+}
+
+/// `run`: the events of a run of at most so many turns under the row's choices, and how it ends.
+#[tactic(auto, using(crate::proofs::Knowing::machine_legal))]
+pub fn run_row(
+    alloc: Global,
+    known: &Known,
+    turns: u64,
+    row: &Row<'_>,
+    out: &mut String,
+) -> Result<(), Memory>
+    requires { IsLegal (plain_program known.now.program) known.now.checked.types known.now.checked.numbers Mode.Any }
+{
+    let choices = choices_of(alloc, row.written())?;
+    row.ask(out)?;
+    match first_beyond(&known.program) {
+        Some(_) => Ok(out.push_str("NotYet")?),
+        None => put_run(alloc, known, turns, choices, out),
+    }
+}
+
+fn put_run(
+    alloc: Global,
+    known: &Known,
+    turns: u64,
+    mut choices: ListChooser,
+    out: &mut String,
+) -> Result<(), Memory>
+    requires { Legal (plain_program known.now.program) known.now.checked.types known.now.checked.numbers Mode.Any }
+{
+    let inputs = no_inputs(alloc);
+    let (program, checked) = (&known.program, &known.checked);
+    let mut machine = Machine::new(alloc, program, &checked.types, &checked.numbers, &inputs)?;
+    let mut sink = MemorySink::new(alloc, Vec::new(alloc), 10_000)?;
+    match run(
+        alloc,
+        &mut machine,
+        &checked.numbers,
+        &mut choices,
+        turns,
+        &mut sink,
+    ) {
+        Ok(report) => {
+            put_lines(sink.bytes(), out)?;
+            put_report(report, out)
+        }
+        Err(RunError::Memory) => Err(Memory),
+        Err(RunError::Sink) => Ok(out.push_str("failed")?),
+    }
+}
+
+// The lines of events, with a semicolon behind each.
+fn put_lines(lines: &[u8], out: &mut String) -> Result<(), AllocError> {
+    for byte in lines {
+        if *byte == b'\n' {
+            out.push_str("; ")?;
+        } else {
+            out.push(char::from(*byte))?;
+        }
+    }
+    Ok(())
+}
+
+fn put_report(report: RunReport, out: &mut String) -> Result<(), Memory> {
+    let word = match report.end {
+        RunEnd::Ended => "ended",
+        RunEnd::Stuck => "stuck",
+        RunEnd::Turns => "turns",
+    };
+    let made = report.made;
+    write!(out, "{word} {made}")?;
+    Ok(())
+}

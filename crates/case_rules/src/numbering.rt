@@ -1,0 +1,190 @@
+//! The numbers of tasks and entries, the texts of events, and what an event stands for.
+
+ghost use Rattle.std.specs.Prelude.{IfOk, IfSome};
+ghost use Rattle.ada_tree.specs.PlainProgram.{plain_program};
+ghost use Rattle.syn_event.specs.LegalProgram.{IsLegal};
+
+use ada_check::{CheckError, Checked, check};
+use ada_parser::ReadError;
+use ada_tree::{Memory, Names, Program};
+use case_expressions::put_name;
+use case_form::Row;
+use case_programs::{answer_refused, program_of};
+use ded_io::MemorySink;
+use std::alloc::Global;
+use syn_event::{EntryInfo, Event, Mode, Numbers, TaskInfo, back, show};
+
+/// A program that meets the static rules of any text, with what is known of it.
+#[derive(Drop)]
+pub struct Known {
+    /// The tree.
+    pub program: Program,
+    /// Its types and numbers.
+    pub checked: Checked,
+}
+
+/// The program of a text that meets the static rules by a mode, if it does.
+pub fn known_of(alloc: Global, text: &[u8], mode: Mode) -> Result<Option<Known>, Memory>
+    ensures { IfOk result (λ found. IfSome found (λ known. IsLegal (plain_program known.program) known.checked.types known.checked.numbers mode)) }
+{
+    match program_of(alloc, text) {
+        Ok(program) => match check(alloc, &program, mode) {
+            Ok(checked) => Ok(Some(Known { program, checked })),
+            Err(CheckError::Memory) => Err(Memory),
+            Err(_) => Ok(None),
+        },
+        Err(ReadError::Memory) => Err(Memory),
+        Err(_) => Ok(None),
+    }
+}
+
+/// `numbers`: the tasks of the row's program from main on, and its entries with their owners, added ones behind `+`.
+pub fn numbers(alloc: Global, row: &Row<'_>, out: &mut String) -> Result<(), Memory> {
+    match program_of(alloc, row.text()) {
+        Ok(program) => match check(alloc, &program, Mode::Any) {
+            Ok(checked) => answer_numbers(row, &program.names, &checked.numbers, out),
+            Err(CheckError::Memory) => Err(Memory),
+            Err(_) => Ok(row.answer(out, "refused")?),
+        },
+        Err(error) => answer_refused(row, error, out),
+    }
+}
+
+fn answer_numbers(
+    row: &Row<'_>,
+    names: &Names,
+    numbers: &Numbers,
+    out: &mut String,
+) -> Result<(), Memory> {
+    row.ask(out)?;
+    out.push_str("tasks")?;
+    for task in &numbers.tasks {
+        put_task(names, *task, out)?;
+    }
+    out.push_str(", entries")?;
+    for entry in &numbers.entries {
+        put_entry(names, *entry, out)?;
+    }
+    Ok(())
+}
+
+// A blank, and a `+` where it is added.
+fn put_added(added: bool, out: &mut String) -> Result<(), Memory> {
+    Ok(out.push_str(if added { " +" } else { " " })?)
+}
+
+fn put_task(names: &Names, task: TaskInfo, out: &mut String) -> Result<(), Memory> {
+    put_added(task.added, out)?;
+    put_name(names, task.name, out)?;
+    match task.member {
+        Some(member) => write!(out, "({member})")?,
+        None => {}
+    }
+    out.push(':')?;
+    put_name(names, task.unit, out)
+}
+
+fn put_entry(names: &Names, entry: EntryInfo, out: &mut String) -> Result<(), Memory> {
+    put_added(entry.added, out)?;
+    let (owner, first, last) = (entry.owner, entry.first, entry.last);
+    write!(out, "{owner}.")?;
+    put_name(names, entry.name, out)?;
+    if entry.family {
+        write!(out, "({first}..{last})")?;
+    }
+    match entry.stands_for {
+        Some(number) => write!(out, "={number}")?,
+        None => {}
+    }
+    Ok(())
+}
+
+/// `number`: of `task NAME` the number of the first task of that name, of `entry OWNER NAME` that of its owner's entry.
+pub fn number(
+    alloc: Global,
+    known: &mut Known,
+    row: &Row<'_>,
+    out: &mut String,
+) -> Result<(), Memory> {
+    let mut words = row.written().split_whitespace();
+    let is_task = words.next().unwrap_or("") == "task";
+    let owner = if is_task {
+        0
+    } else {
+        words.next().unwrap_or("").parse().unwrap_or(0)
+    };
+    let name = known.program.names.intern(words.next().unwrap_or(""))?;
+    let numbers = &known.checked.numbers;
+    let found = if is_task {
+        numbers.task_named(name)
+    } else {
+        numbers.entry_named(owner, name)
+    };
+    row.ask(out)?;
+    match found {
+        Some(number) => write!(out, "{number}")?,
+        None => out.push_str("none")?,
+    }
+    Ok(())
+}
+
+/// The event that a text says, if it is one; its numbers need not be those of a program.
+pub fn event_of(text: &str) -> Option<Event> {
+    let mut words = text.split_whitespace();
+    let letter = words.next().unwrap_or("");
+    let first = words.next().unwrap_or("").parse::<u32>().unwrap_or(0);
+    let second = words.next().unwrap_or("").parse::<u32>().unwrap_or(0);
+    let i = words.next().unwrap_or("").parse::<i32>().unwrap_or(0);
+    let (a, c, t) = (first, first, first);
+    let (e, k, x) = (second, second, second);
+    match letter {
+        "R" => Some(Event::R { c, e, i }),
+        "E" => Some(Event::E { a }),
+        "S" => Some(Event::S { a }),
+        "D" => Some(Event::D { a, k }),
+        "C" => Some(Event::C { c, e, i }),
+        "T" => Some(Event::T { c, e, i }),
+        "F" => Some(Event::F { c, e, i }),
+        "X" => Some(Event::X { a }),
+        "B" => Some(Event::B { t, x }),
+        "Z" => Some(Event::Z),
+        _ => None,
+    }
+}
+
+/// Writes the text of an event.
+pub fn put_event(alloc: Global, event: Event, out: &mut String) -> Result<(), Memory> {
+    let mut sink = MemorySink::new(alloc, Vec::new(alloc), 100)?;
+    match show(&event, &mut sink) {
+        Ok(()) => put_ascii(sink.bytes(), out),
+        Err(_) => Err(Memory),
+    }
+}
+
+fn put_ascii(bytes: &[u8], out: &mut String) -> Result<(), Memory> {
+    for byte in bytes {
+        out.push(char::from(*byte))?;
+    }
+    Ok(())
+}
+
+/// `events`: the text of the row's event, which is read with its numbers.
+pub fn event(alloc: Global, row: &Row<'_>, out: &mut String) -> Result<(), Memory> {
+    row.ask(out)?;
+    match event_of(row.written()) {
+        Some(event) => put_event(alloc, event, out),
+        None => Ok(out.push_str("no event")?),
+    }
+}
+
+/// `origins`: the event of the original that the row's event stands for.
+pub fn origin(alloc: Global, known: &Known, row: &Row<'_>, out: &mut String) -> Result<(), Memory> {
+    row.ask(out)?;
+    match event_of(row.written()) {
+        Some(event) => match back(&event, &known.checked.numbers) {
+            Some(original) => put_event(alloc, original, out),
+            None => Ok(out.push_str("none")?),
+        },
+        None => Ok(out.push_str("no event")?),
+    }
+}

@@ -1,0 +1,46 @@
+-- The law as it is told, and that its premises are met.
+use Rattle.std.proofs.Common.{◌≡◌, ℕ, Bool, not, ◌&&◌, refl, sym, ap, ap₂, ◌∙◌}
+use Rattle.std.proofs.lemmas.Bool.{and_parts}
+use Rattle.event_machine.specs.Seats.{is_live}
+use Rattle.imitation_law.specs.Imitations.{local_at}
+use Rattle.imitation_law.specs.Told.{LawOfImitation, MetByAll, Meeting, original}
+use Rattle.imitation_law.proofs.Showing.{all_forth, all_back}
+
+module _ {L K V W : Type 0} where
+  pub law_of_imitation : LawOfImitation L K V W
+  law_of_imitation o q out meets at imitates opens = (
+    all_back (original o) q out (Meeting meets) imitates at opens,
+    all_forth (original o) q out (Meeting meets) imitates at opens,
+  )
+
+module _ {L V : Type 0} where
+  pub met_by_all : MetByAll L V
+  met_by_all o = record {
+    imitates = record {
+      rests = o.lawful.rests;
+      output = λ k l h. ap o.out h;
+      steps = λ w come t k h can. (
+        ap o.p.ops.can_step h ∙ (and_parts (is_live (w.tasks t).standing) (o.p.ops.can_step (local_at w t)) (and_parts (not w.ended) (is_live (w.tasks t).standing && o.p.ops.can_step (local_at w t)) can).1).1,
+        (0, ap o.p.ops.stepped h),
+      );
+      offers = λ w come t k h free rests. (ap o.p.ops.can_step h ∙ rests, ap o.p.ops.offer h);
+      callers = λ w come a k h can. ap o.p.ops.callers h;
+      accepted = λ w come c e i j k g h can. (0, ap₂ (o.p.ops.accepted e i c) g h);
+      finished = λ w come a k h can. (0, ap o.p.ops.finished h);
+      resumed = λ w come a c outer j k has served g h can. (0, ap₂ o.p.ops.resumed h g);
+      took_else = λ w come a k h can. (0, ap o.p.ops.took_else h);
+      took_delay = λ w come a d k h can. (0, ap (o.p.ops.took_delay d) h);
+      call_else = λ w come c e i k h can. (0, ap o.p.ops.took_else h);
+      expired = λ w come c e i k h can. (0, ap (o.p.ops.took_delay 1) h);
+      failed = λ w come c e i k h can. (0, ap o.p.ops.raised h);
+      passed = λ w come t v k h can other. (0, ap o.p.ops.passed h);
+      let_go = λ w come t v u k h served can. (0, ap o.p.ops.raised h);
+    };
+    opens = record {
+      line = o.opens_so.line;
+      ended = o.opens_so.ended;
+      standing = o.opens_so.live;
+      beyond = o.opens_so.beyond;
+      tasks = λ t m. (0, refl);
+    };
+  }

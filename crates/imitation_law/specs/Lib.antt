@@ -1,0 +1,3 @@
+pub mod Imitations
+pub mod Shown
+pub mod Told

@@ -1,0 +1,9 @@
+pub mod NormalRows
+pub mod NormalFloors
+pub mod Meetings
+pub mod Preludes
+pub mod Actuals
+pub mod Calls
+pub mod Returns
+pub mod Accepts
+pub mod Laws

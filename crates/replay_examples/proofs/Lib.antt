@@ -1,0 +1,6 @@
+pub mod Trees
+mod Rendezvous
+mod Calls
+mod Waits
+mod Raising
+mod Rows

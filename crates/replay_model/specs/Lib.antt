@@ -1,0 +1,10 @@
+pub mod Names
+pub mod Asking
+pub mod Serving
+pub mod Calling
+pub mod Waiting
+pub mod ReplayStmts
+pub mod Controlling
+pub mod ReplayTree
+pub mod ReplayNumbers
+pub mod Promised

@@ -1,0 +1,14 @@
+pub mod Lookups
+pub mod Keeping
+pub mod Adding
+pub mod Closing
+pub mod Moving
+pub mod Owning
+pub mod Soundness
+pub mod Rooting
+pub mod Refused
+pub mod Fresh
+pub mod Staying
+pub mod Unmarked
+pub mod NamedKinds
+pub mod Examples

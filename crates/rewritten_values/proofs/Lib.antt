@@ -1,0 +1,5 @@
+pub mod Saying
+pub mod Named
+pub mod Evaluating
+pub mod Objects
+pub mod Staying

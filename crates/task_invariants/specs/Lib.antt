@@ -1,0 +1,4 @@
+pub mod Heads
+pub mod Holding
+pub mod Worlds
+pub mod Example

@@ -1,0 +1,4 @@
+pub mod Storing
+pub mod Branches
+pub mod Turning
+pub mod Sequential

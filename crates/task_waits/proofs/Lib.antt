@@ -1,0 +1,5 @@
+pub mod Opens
+pub mod Shares
+pub mod Widths
+pub mod Standing
+pub mod Offering

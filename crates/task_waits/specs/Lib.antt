@@ -1,0 +1,4 @@
+pub mod Room
+pub mod Standing
+pub mod Choosing
+pub mod Widths

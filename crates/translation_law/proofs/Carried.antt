@@ -1,0 +1,12 @@
+-- The theorem, as it is told.
+use Rattle.translation_law.specs.Laws.{translation, StepsFollow, RaisesFollow, ValuesFollow}
+use Rattle.translation_law.proofs.Locals.{step-alike, raises-alike, values-alike}
+
+pub steps_follow : {I F O : Type 0} → StepsFollow I F O
+steps_follow t laws σ κ inside at = step-alike (translation t) laws σ κ inside at
+
+pub raises_follow : {I F O : Type 0} → RaisesFollow I F O
+raises_follow t laws σ κ inside e = raises-alike (translation t) laws σ κ inside e
+
+pub values_follow : {I F O : Type 0} → ValuesFollow I F O
+values_follow t laws σ κ inside e old = values-alike (translation t) laws σ κ inside e old

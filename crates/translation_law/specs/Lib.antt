@@ -1,0 +1,9 @@
+pub mod Translations
+pub mod OldNames
+pub mod OldTexts
+pub mod Images
+pub mod Scopes
+pub mod Controls
+pub mod Floors
+pub mod Itself
+pub mod Laws
