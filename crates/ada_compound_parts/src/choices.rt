@@ -3,7 +3,7 @@
 ghost use Rattle.std.specs.Prelude.{◌<◌, ◌≤◌, ◌-◌, IfOk, map, length};
 ghost use Rattle.lawful_reader.specs.Readers.{fronted};
 ghost use Rattle.ada_tree.specs.PlainStmt.{plain_choice};
-ghost use Rattle.ada_expr_parser.specs.declared.symbols.Symbol.TheVariants as key;
+ghost use Rattle.ada_lexer.specs.declared.symbols.Symbol.TheVariants as key;
 ghost use Rattle.ada_expr_parser.specs.Parts as parts;
 ghost use Rattle.ada_expr_parser.specs.Gives.{Gives};
 ghost use Rattle.ada_phrase_parser.specs.Reading as reading;

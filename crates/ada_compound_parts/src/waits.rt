@@ -4,7 +4,7 @@ ghost use Rattle.std.specs.Prelude.{◌≡◌, ◌<◌, ◌-◌, IfOk, map, opti
 ghost use Rattle.lawful_reader.specs.Readers.{token};
 ghost use Rattle.ada_tree.specs.PlainExpr.{plain_expr};
 ghost use Rattle.ada_tree.specs.PlainStmt.{plain_stmt, plain_alt, seen_maybe, alts_of, alternative, ATerminate, SWait, SConditional, STimed, plain_call, seen};
-ghost use Rattle.ada_expr_parser.specs.declared.symbols.Symbol.TheVariants as key;
+ghost use Rattle.ada_lexer.specs.declared.symbols.Symbol.TheVariants as key;
 ghost use Rattle.ada_expr_parser.specs.Tests as tests;
 ghost use Rattle.ada_expr_parser.specs.Trees.{from_to};
 ghost use Rattle.ada_expr_parser.specs.Gives.{Gives};

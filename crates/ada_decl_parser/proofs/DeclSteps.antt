@@ -3,8 +3,8 @@ use Rattle.std.proofs.Common.{◌≡◌, ℕ, ◌<◌, List, [], ◌∷◌, Opti
 use Rattle.lawful_reader.specs.Readers.{Answer, Found, Fault, Reader, pure, go_on, bind, on, on_token, token, fronted}
 use Rattle.ada_tree.specs.declared.naming.Word.{Word}
 use Rattle.ada_tree.specs.PlainDecl.{PDecl}
-use Rattle.ada_expr_parser.specs.declared.symbols.Symbol.TheVariants as key
-use Rattle.ada_expr_parser.specs.declared.symbols.Symbol.{Symbol}
+use Rattle.ada_lexer.specs.declared.symbols.Symbol.TheVariants as key
+use Rattle.ada_lexer.specs.declared.symbols.Symbol.{Symbol}
 use Rattle.ada_expr_parser.specs.declared.items.Item.{Item}
 use Rattle.ada_expr_parser.specs.Tests.{word}
 use Rattle.ada_phrase_parser.specs.Reading.{key_then, more_behind, separated}

@@ -4,7 +4,7 @@ use Rattle.lawful_reader.specs.Readers.{Reader, refuse, bind, on}
 use Rattle.ada_tree.specs.declared.naming.Span.{Span}
 use Rattle.ada_tree.specs.declared.naming.Word.{Word}
 use Rattle.ada_tree.specs.PlainDecl.{PDecl, DNumber, DObject, DException}
-use Rattle.ada_expr_parser.specs.declared.symbols.Symbol.TheVariants as key
+use Rattle.ada_lexer.specs.declared.symbols.Symbol.TheVariants as key
 use Rattle.ada_expr_parser.specs.declared.items.Item.{Item}
 use Rattle.ada_expr_parser.specs.Tests.{symbol}
 use Rattle.ada_expr_parser.specs.Trees.{from_to}

@@ -5,7 +5,7 @@ use Rattle.ada_tree.specs.declared.naming.Span.{Span}
 use Rattle.ada_tree.specs.declared.naming.Word.{Word}
 use Rattle.ada_tree.specs.PlainExpr.{PExpr, PSubind, PDrange}
 use Rattle.ada_tree.specs.PlainDecl.{PShape, OPlain, ORow, PInit, IOne, IList, IOthers, PDecl, DNumber, DObject, DEnumeration, DArray, DSubtype, DException, DIntIo}
-use Rattle.ada_expr_parser.specs.declared.symbols.Symbol.TheVariants as key
+use Rattle.ada_lexer.specs.declared.symbols.Symbol.TheVariants as key
 use Rattle.ada_expr_parser.specs.declared.items.Item.{Item}
 use Rattle.ada_expr_parser.specs.Tests.{symbol, word}
 use Rattle.ada_expr_parser.specs.Trees.{levels, from_to, in_parens}

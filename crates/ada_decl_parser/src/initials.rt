@@ -5,7 +5,7 @@ ghost use Rattle.std.specs.Prelude.{◌≡◌, ◌<◌, ◌≤◌, IfOk, IfErr, 
 ghost use Rattle.lawful_reader.specs.Readers.{fronted};
 ghost use Rattle.ada_tree.specs.PlainExpr.{plain_expr};
 ghost use Rattle.ada_tree.specs.PlainDecl.{plain_shape, plain_init};
-ghost use Rattle.ada_expr_parser.specs.declared.symbols.Symbol.TheVariants as key;
+ghost use Rattle.ada_lexer.specs.declared.symbols.Symbol.TheVariants as key;
 ghost use Rattle.ada_expr_parser.specs.declared.errors.ParseError.TheVariants.{Memory};
 ghost use Rattle.ada_expr_parser.specs.Trees.{levels, in_parens};
 ghost use Rattle.ada_expr_parser.specs.Parts as parts;

@@ -4,7 +4,7 @@
 ghost use Rattle.std.specs.Prelude.{◌<◌, codes, IfOk, length};
 ghost use Rattle.lawful_reader.specs.Readers.{bind, token};
 ghost use Rattle.ada_tree.specs.PlainDecl.{plain_decl, DEnumeration, DArray, DIntIo};
-ghost use Rattle.ada_expr_parser.specs.declared.symbols.Symbol.TheVariants as key;
+ghost use Rattle.ada_lexer.specs.declared.symbols.Symbol.TheVariants as key;
 ghost use Rattle.ada_expr_parser.specs.Tests as tests;
 ghost use Rattle.ada_expr_parser.specs.Trees.{from_to};
 ghost use Rattle.ada_expr_parser.specs.Gives.{Gives};

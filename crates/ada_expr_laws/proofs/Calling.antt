@@ -7,7 +7,7 @@ use Rattle.ada_tree.specs.declared.naming.Word.{Word}
 use Rattle.ada_tree.specs.PlainExpr.{PExpr, EInteger}
 use Rattle.ada_tree.specs.PlainStmt.{PTarget, PChoice}
 use Rattle.ada_tree.specs.WellPlaced.{level, simple}
-use Rattle.ada_expr_parser.specs.declared.symbols.Symbol.TheVariants as key
+use Rattle.ada_lexer.specs.declared.symbols.Symbol.TheVariants as key
 use Rattle.ada_expr_parser.specs.declared.items.Item.{Item}
 use Rattle.ada_expr_parser.specs.declared.levels.Level.TheVariants.{Logical, Simple}
 use Rattle.ada_expr_parser.specs.Tests.{same, symbol, word}

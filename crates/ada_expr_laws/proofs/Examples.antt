@@ -4,7 +4,7 @@ use Rattle.lawful_reader.specs.Readers.{Found, Fault}
 use Rattle.ada_tree.specs.declared.naming.Span.{Span}
 use Rattle.ada_tree.specs.declared.expressions.BinaryOp.TheVariants.{Plus}
 use Rattle.ada_tree.specs.PlainExpr.{PExpr, EInteger, EName, EBinary}
-use Rattle.ada_expr_parser.specs.declared.symbols.Symbol.TheVariants as key
+use Rattle.ada_lexer.specs.declared.symbols.Symbol.TheVariants as key
 use Rattle.ada_expr_parser.specs.declared.items.Item.{Item}
 use Rattle.ada_expr_parser.specs.Tests.{same, same_operator}
 use Rattle.ada_expr_parser.specs.Parts.{expr_behind}

@@ -9,8 +9,8 @@ use Rattle.ada_tree.specs.declared.expressions.BinaryOp.{BinaryOp}
 use Rattle.ada_tree.specs.declared.expressions.BinaryOp.TheVariants.{And, Or, Xor, AndThen, OrElse, Equal, NotEqual, Less, LessEqual, Greater, GreaterEqual, Plus, Minus, Times, Divide, Mod, Rem}
 use Rattle.ada_tree.specs.PlainExpr.{PExpr, EBinary}
 use Rattle.ada_tree.specs.WellPlaced.{level, logical, relation, simple, term, binary_level, GoesOn}
-use Rattle.ada_expr_parser.specs.declared.symbols.Symbol.{Symbol}
-use Rattle.ada_expr_parser.specs.declared.symbols.Symbol.TheVariants as key
+use Rattle.ada_lexer.specs.declared.symbols.Symbol.{Symbol}
+use Rattle.ada_lexer.specs.declared.symbols.Symbol.TheVariants as key
 use Rattle.ada_expr_parser.specs.declared.items.ItemKind.{ItemKind}
 use Rattle.ada_expr_parser.specs.declared.items.ItemKind.TheVariants as item
 use Rattle.ada_expr_parser.specs.declared.items.Item.{Item}

@@ -5,11 +5,13 @@ use Rattle.std.proofs.lemmas.Bool.{and_parts, or_cases}
 use Rattle.std.proofs.lemmas.Bool.Decides.{nat_tests}
 use Rattle.ada_lexer.specs.declared.kinds.TokenKind.{TokenKind}
 use Rattle.ada_lexer.specs.declared.kinds.TokenKind.TheVariants.{Name, Integer, Duration}
+use Rattle.ada_lexer.specs.declared.kinds.TokenKind.TheVariants as kinds
+use Rattle.ada_lexer.specs.declared.symbols.Symbol.{Symbol}
 use Rattle.ada_lexer.specs.declared.verdicts.Verdict.{Verdict}
 use Rattle.ada_lexer.specs.declared.verdicts.Verdict.TheVariants.{Gap, Kind, Fault}
 use Rattle.ada_lexer.specs.declared.errors.LexError.TheVariants.{BadByte, OpenString, BadNumber, TooLong}
 use Rattle.ada_lexer.specs.Bytes.{is_letter, is_digit, is_letter_or_digit, is_white, is_printable, begins, every}
-use Rattle.ada_lexer.specs.Words.{kind_in, same_text, delimiter_kind, simple_delimiters, compound_delimiters}
+use Rattle.ada_lexer.specs.Words.{delimiter_symbol}
 use Rattle.ada_lexer.specs.Numbers.{number_kind, kind_by_point, integer_value, duration_value, is_point}
 use Rattle.ada_lexer.specs.Pieces.{opens_comment, is_piece, is_comment, is_empty, word_goes_on, number_goes_on}
 use Rattle.ada_lexer.specs.Strings.{is_string_run, ends_inside, content}
@@ -47,38 +49,14 @@ string_is_no_name rest e =
     (choose (nat_lt max_content (length (content true rest))) (Fault (TooLong 0)) (text_or_bad_byte 1 (position (λ b. not (is_printable b)) rest)) (λ h. cc)
     (bad_byte (position (λ b. not (is_printable b)) rest))) e
 
--- no name stands in the table
-abbrev NoName : List (List ℕ × TokenKind) → Type 0
-NoName [] = Unit {0}
-NoName (entry ∷ table) = (entry.1 ≡ Name → ⊥) × NoName table
-
-one_of : (b : Bool) (k : TokenKind) (o : Option TokenKind) → (k ≡ Name → ⊥) → (o ≡ Some Name → ⊥) → cond b (Some k) o ≡ Some Name → ⊥
-one_of true k o p q h = p (let f : k ≡ Name = cc in f)
-one_of false k o p q h = q h
-
-in_table : (table : List (List ℕ × TokenKind)) (text : List ℕ) → NoName table → kind_in table text ≡ Some Name → ⊥
-in_table [] text none e = cc
-in_table (entry ∷ table) text none e = one_of (same_text text entry.0) entry.1 (kind_in table text) none.0 (in_table table text none.1) e
-
-simple_have_none : NoName simple_delimiters
-unfolding simple_delimiters
-simple_have_none = (λ h. cc, (λ h. cc, (λ h. cc, (λ h. cc, (λ h. cc, (λ h. cc, (λ h. cc, (λ h. cc, (λ h. cc, (λ h. cc, (λ h. cc, (λ h. cc, (λ h. cc, (λ h. cc, (λ h. cc, (λ h. cc, tt))))))))))))))))
-
-compound_have_none : NoName compound_delimiters
-unfolding compound_delimiters
-compound_have_none = (λ h. cc, (λ h. cc, (λ h. cc, (λ h. cc, (λ h. cc, (λ h. cc, tt))))))
-
-delimiter_is_no_name : (text : List ℕ) → delimiter_kind text ≡ Some Name → ⊥
-unfolding delimiter_kind
-delimiter_is_no_name [] e = cc
-delimiter_is_no_name (b ∷ []) e = in_table simple_delimiters (b ∷ []) simple_have_none e
-delimiter_is_no_name (b ∷ c ∷ []) e = in_table compound_delimiters (b ∷ c ∷ []) compound_have_none e
-delimiter_is_no_name (b ∷ c ∷ d ∷ rest) e = cc
+symbol_is_no_name : (o : Option Symbol) → option_map kinds.Symbol o ≡ Some Name → ⊥
+symbol_is_no_name None e = cc
+symbol_is_no_name (Some s) e = cc
 
 mark_is_no_name : (text : List ℕ) → mark_verdict 0 text ≡ Kind Name → ⊥
 unfolding mark_verdict
 mark_is_no_name text e =
-    choose (opens_comment text) Gap (token_or (Fault (BadByte 0)) (delimiter_kind text)) (λ h. cc) (found (Fault (BadByte 0)) (delimiter_kind text) (λ h. cc) (delimiter_is_no_name text)) e
+    choose (opens_comment text) Gap (token_or (Fault (BadByte 0)) (option_map kinds.Symbol (delimiter_symbol text))) (λ h. cc) (found (Fault (BadByte 0)) (option_map kinds.Symbol (delimiter_symbol text)) (λ h. cc) (symbol_is_no_name (delimiter_symbol text))) e
 
 -- of the classes of a first byte, a name has a letter
 first_of_name :

@@ -9,8 +9,8 @@ use Rattle.ada_tree.specs.declared.expressions.BinaryOp.TheVariants.{And, Or, Xo
 use Rattle.ada_tree.specs.PlainExpr.{PExpr, EInteger, EName, EIndex, EAttribute, EAttributeOf, EParen, EUnary, EBinary, PBounds, PSubind, PDrange, RGiven, RMarked}
 use Rattle.ada_tree.specs.PlainStmt.{PTarget, PCallee, PArgs, PCall, PChoice}
 use Rattle.ada_tree.specs.WellPlaced.{level, logical, relation, simple, term, factor, primary, UnaryFits, BinaryFits}
-use Rattle.ada_expr_parser.specs.declared.symbols.Symbol.{Symbol}
-use Rattle.ada_expr_parser.specs.declared.symbols.Symbol.TheVariants as key
+use Rattle.ada_lexer.specs.declared.symbols.Symbol.{Symbol}
+use Rattle.ada_lexer.specs.declared.symbols.Symbol.TheVariants as key
 use Rattle.ada_expr_parser.specs.declared.items.ItemKind.TheVariants as item
 use Rattle.ada_expr_parser.specs.declared.items.Item.{Item}
 use Rattle.ada_expr_parser.specs.declared.levels.Level.{Level}

@@ -6,7 +6,7 @@ use Rattle.ada_tree.specs.declared.naming.Word.{Word}
 use Rattle.ada_tree.specs.PlainExpr.{PExpr, EName, PBounds, PSubind, PDrange, RGiven, RMarked}
 use Rattle.ada_tree.specs.PlainStmt.{PTarget, PCallee, PArgs, PCall, PChoice}
 use Rattle.ada_tree.specs.WellPlaced.{level, simple}
-use Rattle.ada_expr_parser.specs.declared.symbols.Symbol.TheVariants as key
+use Rattle.ada_lexer.specs.declared.symbols.Symbol.TheVariants as key
 use Rattle.ada_expr_parser.specs.declared.items.Item.{Item}
 use Rattle.ada_expr_parser.specs.declared.levels.Level.TheVariants.{Logical, Relation, Simple, Term, Factor}
 use Rattle.ada_expr_parser.specs.Tests.{symbol, word}

@@ -8,8 +8,8 @@ mod nodes;
 mod parts;
 mod reading;
 mod signs;
-mod symbols;
 
+pub use ada_lexer::Symbol;
 pub use errors::ParseError;
 pub use items::{Item, ItemKind, Items, read_items};
 pub use levels::Level;
@@ -18,4 +18,3 @@ pub use parts::{
     read_subind, read_target,
 };
 pub use signs::{begins_expr, expect, expect_word, symbol_in};
-pub use symbols::Symbol;

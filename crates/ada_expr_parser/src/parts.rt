@@ -16,7 +16,7 @@ use crate::items::Item;
 use crate::levels::Level;
 use crate::reading::{below, logical, more, simple};
 use crate::signs::{expect, expect_word, symbol_in};
-use crate::symbols::Symbol;
+use ada_lexer::Symbol;
 use ada_tree::{
     Args, BinaryOp, Bounds, Call, Callee, CaseChoice, Drange, Expr, ExprKind, Subind, Target, Word,
 };

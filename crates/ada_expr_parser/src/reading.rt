@@ -17,7 +17,7 @@ use crate::signs::{
     expect, expect_word, factor_operator, last_operator, operator_in, operator_rest, sign,
     symbol_in,
 };
-use crate::symbols::Symbol;
+use ada_lexer::Symbol;
 use ada_tree::{BinaryOp, Expr, ExprKind, Word};
 use std::alloc::Global;
 

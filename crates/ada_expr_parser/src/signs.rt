@@ -11,7 +11,7 @@ ghost use Rattle.ada_expr_parser.specs.Gives.{Gives};
 use crate::errors::ParseError;
 use crate::items::{Item, ItemKind};
 use crate::levels::Level;
-use crate::symbols::Symbol;
+use ada_lexer::Symbol;
 use ada_tree::{BinaryOp, Expr, ExprKind, Span, UnaryOp, Word};
 
 #[tactic(auto, unfolding(crate::specs::Tests::same))]

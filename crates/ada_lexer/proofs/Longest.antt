@@ -4,7 +4,7 @@ use Rattle.std.proofs.lemmas.List.{length-take-le}
 use Rattle.std.proofs.lemmas.Bool.{and_parts, and_from, or_left, or_right, or_cases, cond-true, cond-false, false≢true, cases_Bool}
 use Rattle.std.specs.Prelude.{◌&&◌, ◌||◌, ◌==◌, is_some, IsTrue}
 use Rattle.ada_lexer.specs.Bytes.{is_letter, is_digit, is_letter_or_digit, is_white, begins, every, run_len}
-use Rattle.ada_lexer.specs.Words.{kind_in, simple_delimiters, compound_delimiters, delimiter_kind}
+use Rattle.ada_lexer.specs.Words.{symbol_in, simple_delimiters, compound_delimiters, delimiter_symbol}
 use Rattle.ada_lexer.specs.Strings.{string_goes_on, inside_after, is_string_run, string_len}
 use Rattle.ada_lexer.specs.Pieces.{word_goes_on, number_goes_on, comment_goes_on, is_comment, is_empty, is_piece, IsLongest}
 use Rattle.ada_lexer.specs.Lengths.{HasLongest, IsMeasured, mark_len, piece_len}
@@ -131,7 +131,7 @@ is_piece-string b ys w l d q =
 
 -- a comment or a delimiter
 abbrev is_mark : ℕ → List ℕ → Bool
-is_mark b ys = is_comment (b ∷ ys) || is_some (delimiter_kind (b ∷ ys))
+is_mark b ys = is_comment (b ∷ ys) || is_some (delimiter_symbol (b ∷ ys))
 
 is_piece-mark : (b : ℕ) (ys : List ℕ) → is_white b ≡ false → is_letter b ≡ false → is_digit b ≡ false → (b == 34) ≡ false → is_piece (b ∷ ys) ≡ is_mark b ys
 unfolding is_piece
@@ -203,15 +203,15 @@ string-measured b ys same len =
 
 -- no mark but a comment has three bytes
 mark-three : (b c d : ℕ) (ys : List ℕ) → is_mark b (c ∷ d ∷ ys) ≡ ((b == 45) && (c == 45) && every comment_goes_on (d ∷ ys)) || false
-unfolding delimiter_kind
+unfolding delimiter_symbol
 mark-three b c d ys = refl
 
-mark-two : (b c : ℕ) → is_mark b (c ∷ []) ≡ ((b == 45) && (c == 45) && true) || is_some (kind_in compound_delimiters (b ∷ c ∷ []))
-unfolding delimiter_kind
+mark-two : (b c : ℕ) → is_mark b (c ∷ []) ≡ ((b == 45) && (c == 45) && true) || is_some (symbol_in compound_delimiters (b ∷ c ∷ []))
+unfolding delimiter_symbol
 mark-two b c = refl
 
-mark-one : (b : ℕ) → is_mark b [] ≡ is_some (kind_in simple_delimiters (b ∷ []))
-unfolding delimiter_kind
+mark-one : (b : ℕ) → is_mark b [] ≡ is_some (symbol_in simple_delimiters (b ∷ []))
+unfolding delimiter_symbol
 mark-one b = refl
 
 and-or-false : (b c e : Bool) → (b && c) ≡ false → ((b && c && e) || false) ≡ true → ⊥
@@ -237,8 +237,8 @@ comment-most b c (d ∷ ys) (suc (suc n)) le h =
       | inr f ↦ absurd (false≢true f)
     ]
 
-comment-yes : (b c : ℕ) (ys : List ℕ) → ((b == 45) && (c == 45)) ≡ true → is_mark b (c ∷ ys) ≡ every comment_goes_on ys || is_some (delimiter_kind (b ∷ c ∷ ys))
-comment-yes b c ys h = ap (λ t. (t && every comment_goes_on ys) || is_some (delimiter_kind (b ∷ c ∷ ys))) h
+comment-yes : (b c : ℕ) (ys : List ℕ) → ((b == 45) && (c == 45)) ≡ true → is_mark b (c ∷ ys) ≡ every comment_goes_on ys || is_some (delimiter_symbol (b ∷ c ∷ ys))
+comment-yes b c ys h = ap (λ t. (t && every comment_goes_on ys) || is_some (delimiter_symbol (b ∷ c ∷ ys))) h
 
 comment-measured : (b c : ℕ) (ys : List ℕ) → ((zs : List ℕ) → is_piece (b ∷ zs) ≡ is_mark b zs) → ((b == 45) && (c == 45)) ≡ true → IsMeasured (b ∷ c ∷ ys) (run_len comment_goes_on ys + 2)
 comment-measured b c ys same h =
@@ -255,7 +255,7 @@ mark-most_two b c (d ∷ ys) h (suc (suc n)) le is =
     absurd (and-or-false (b == 45) (c == 45) _ h (sym (mark-three b c d (take n ys)) ∙ is))
 
 -- and where they are no delimiter together, no mark has more than one
-mark-most_one : (b c : ℕ) (ys : List ℕ) → ((b == 45) && (c == 45)) ≡ false → is_some (kind_in compound_delimiters (b ∷ c ∷ [])) ≡ false → (n : ℕ) → n ≤ length (c ∷ ys) → is_mark b (take n (c ∷ ys)) ≡ true → n ≤ 0
+mark-most_one : (b c : ℕ) (ys : List ℕ) → ((b == 45) && (c == 45)) ≡ false → is_some (symbol_in compound_delimiters (b ∷ c ∷ [])) ≡ false → (n : ℕ) → n ≤ length (c ∷ ys) → is_mark b (take n (c ∷ ys)) ≡ true → n ≤ 0
 mark-most_one b c ys h k zero le is = omega arith
 mark-most_one b c ys h k (suc zero) le is =
     absurd (false≢true (sym k ∙ and-or-other (b == 45) (c == 45) true _ h (sym (mark-two b c) ∙ is)))
@@ -263,11 +263,11 @@ mark-most_one b c [] h k (suc (suc n)) le is = omega arith
 mark-most_one b c (d ∷ ys) h k (suc (suc n)) le is =
     absurd (and-or-false (b == 45) (c == 45) _ h (sym (mark-three b c d (take n ys)) ∙ is))
 
-compound-measured : (b c : ℕ) (ys : List ℕ) → ((zs : List ℕ) → is_piece (b ∷ zs) ≡ is_mark b zs) → ((b == 45) && (c == 45)) ≡ false → is_some (kind_in compound_delimiters (b ∷ c ∷ [])) ≡ true → IsMeasured (b ∷ c ∷ ys) (1 + 1)
+compound-measured : (b c : ℕ) (ys : List ℕ) → ((zs : List ℕ) → is_piece (b ∷ zs) ≡ is_mark b zs) → ((b == 45) && (c == 45)) ≡ false → is_some (symbol_in compound_delimiters (b ∷ c ∷ [])) ≡ true → IsMeasured (b ∷ c ∷ ys) (1 + 1)
 compound-measured b c ys same h k =
     inl (omega arith, longest_from b (c ∷ ys) (is_mark b) 1 same (omega arith) (mark-two b c ∙ or_right _ _ k) (mark-most_two b c ys h))
 
-simple-measured : (b : ℕ) (ys : List ℕ) → ((zs : List ℕ) → is_piece (b ∷ zs) ≡ is_mark b zs) → ((n : ℕ) → n ≤ length ys → is_mark b (take n ys) ≡ true → n ≤ 0) → is_some (kind_in simple_delimiters (b ∷ [])) ≡ true → IsMeasured (b ∷ ys) (0 + 1)
+simple-measured : (b : ℕ) (ys : List ℕ) → ((zs : List ℕ) → is_piece (b ∷ zs) ≡ is_mark b zs) → ((n : ℕ) → n ≤ length ys → is_mark b (take n ys) ≡ true → n ≤ 0) → is_some (symbol_in simple_delimiters (b ∷ [])) ≡ true → IsMeasured (b ∷ ys) (0 + 1)
 simple-measured b ys same most k =
     inl (omega arith, longest_from b ys (is_mark b) 0 same (omega arith) (mark-one b ∙ k) most)
 
@@ -276,19 +276,19 @@ is_piece-nil : is_piece [] ≡ true → ⊥
 unfolding is_piece
 is_piece-nil h = false≢true h
 
-nothing-at : (b : ℕ) (ys : List ℕ) → ((zs : List ℕ) → is_piece (b ∷ zs) ≡ is_mark b zs) → ((n : ℕ) → n ≤ length ys → is_mark b (take n ys) ≡ true → n ≤ 0) → is_some (kind_in simple_delimiters (b ∷ [])) ≡ false → (n : ℕ) → n ≤ length (b ∷ ys) → IsTrue (is_piece (take n (b ∷ ys))) → ⊥
+nothing-at : (b : ℕ) (ys : List ℕ) → ((zs : List ℕ) → is_piece (b ∷ zs) ≡ is_mark b zs) → ((n : ℕ) → n ≤ length ys → is_mark b (take n ys) ≡ true → n ≤ 0) → is_some (symbol_in simple_delimiters (b ∷ [])) ≡ false → (n : ℕ) → n ≤ length (b ∷ ys) → IsTrue (is_piece (take n (b ∷ ys))) → ⊥
 nothing-at b ys same most k zero le is = is_piece-nil is
 nothing-at b ys same most k (suc zero) le is = false≢true (sym k ∙ sym (mark-one b) ∙ sym (same []) ∙ is)
 nothing-at b ys same most k (suc (suc n)) le is =
     let none : suc n ≤ 0 = most (suc n) (omega arith) (sym (same (take (suc n) ys)) ∙ is) in
     absurd (omega arith)
 
-nothing-measured : (b : ℕ) (ys : List ℕ) → ((zs : List ℕ) → is_piece (b ∷ zs) ≡ is_mark b zs) → ((n : ℕ) → n ≤ length ys → is_mark b (take n ys) ≡ true → n ≤ 0) → is_some (kind_in simple_delimiters (b ∷ [])) ≡ false → IsMeasured (b ∷ ys) 0
+nothing-measured : (b : ℕ) (ys : List ℕ) → ((zs : List ℕ) → is_piece (b ∷ zs) ≡ is_mark b zs) → ((n : ℕ) → n ≤ length ys → is_mark b (take n ys) ≡ true → n ≤ 0) → is_some (symbol_in simple_delimiters (b ∷ [])) ≡ false → IsMeasured (b ∷ ys) 0
 nothing-measured b ys same most k = inr (refl, (λ e. cc, nothing-at b ys same most k))
 
 -- a simple delimiter or nothing
-one-measured : (b : ℕ) (ys : List ℕ) → ((zs : List ℕ) → is_piece (b ∷ zs) ≡ is_mark b zs) → ((n : ℕ) → n ≤ length ys → is_mark b (take n ys) ≡ true → n ≤ 0) → IsMeasured (b ∷ ys) (cond (is_some (kind_in simple_delimiters (b ∷ []))) 1 0)
-one-measured b ys same most = elim (cases_Bool (is_some (kind_in simple_delimiters (b ∷ [])))) [
+one-measured : (b : ℕ) (ys : List ℕ) → ((zs : List ℕ) → is_piece (b ∷ zs) ≡ is_mark b zs) → ((n : ℕ) → n ≤ length ys → is_mark b (take n ys) ≡ true → n ≤ 0) → IsMeasured (b ∷ ys) (cond (is_some (symbol_in simple_delimiters (b ∷ []))) 1 0)
+one-measured b ys same most = elim (cases_Bool (is_some (symbol_in simple_delimiters (b ∷ [])))) [
   | inl k ↦ measured_at (b ∷ ys) _ _ (cond-true _ 1 0 k) (simple-measured b ys same most k)
   | inr k ↦ measured_at (b ∷ ys) _ _ (cond-false _ 1 0 k) (nothing-measured b ys same most k)
 ]
@@ -301,7 +301,7 @@ unfolding mark_len
 mark-measured b [] same = one-measured b [] same (end-most b)
 mark-measured b (c ∷ ys) same = elim (cases_Bool ((b == 45) && (c == 45))) [
   | inl h ↦ measured_at (b ∷ c ∷ ys) _ _ (cond-true _ _ _ h) (comment-measured b c ys same h)
-  | inr h ↦ elim (cases_Bool (is_some (kind_in compound_delimiters (b ∷ c ∷ [])))) [
+  | inr h ↦ elim (cases_Bool (is_some (symbol_in compound_delimiters (b ∷ c ∷ [])))) [
     | inl k ↦ measured_at (b ∷ c ∷ ys) _ _ (cond-false _ _ _ h ∙ cond-true _ _ _ k) (compound-measured b c ys same h k)
     | inr k ↦ measured_at (b ∷ c ∷ ys) _ _ (cond-false _ _ _ h ∙ cond-false _ _ _ k) (one-measured b (c ∷ ys) same (mark-most_one b c ys h k))
   ]

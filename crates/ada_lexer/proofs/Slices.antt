@@ -1,15 +1,16 @@
 -- The tokens of a split are slices of the text, in order.
-use Rattle.std.proofs.Common.{◌≡◌, ℕ, ◌+◌, ◌≤◌, true, false, cond, List, [], ◌∷◌, length, take, drop, refl, ap, ◌∙◌, sym, subst, arith, Option, None, Some, ltb, leb}
+use Rattle.std.proofs.Common.{◌≡◌, ℕ, ◌+◌, ◌≤◌, true, false, cond, List, [], ◌∷◌, length, take, drop, refl, ap, ◌∙◌, sym, subst, arith, Option, None, Some, option_map, ltb, leb}
 use Rattle.std.proofs.lemmas.List.{length-drop, drop-drop}
 use Rattle.std.proofs.lemmas.List.Elements.{All-nil, All-cons}
 use Rattle.std.specs.Prelude.{All, position, not, slice_range, ◌==◌}
 use Rattle.ada_lexer.specs.declared.kinds.TokenKind.{TokenKind}
+use Rattle.ada_lexer.specs.declared.kinds.TokenKind.TheVariants.{Symbol}
 use Rattle.ada_lexer.specs.declared.kinds.Token.{Token}
 use Rattle.ada_lexer.specs.declared.errors.LexError.{LexError}
 use Rattle.ada_lexer.specs.declared.verdicts.Verdict.{Verdict}
 use Rattle.ada_lexer.specs.declared.verdicts.Verdict.TheVariants.{Gap, Kind, Fault}
 use Rattle.ada_lexer.specs.Bytes.{is_white, is_letter, is_digit, is_printable}
-use Rattle.ada_lexer.specs.Words.{reserved_kind, delimiter_kind}
+use Rattle.ada_lexer.specs.Words.{reserved_symbol, delimiter_symbol}
 use Rattle.ada_lexer.specs.Numbers.{number_kind}
 use Rattle.ada_lexer.specs.Strings.{ends_inside, content}
 use Rattle.ada_lexer.specs.Pieces.{IsLongest, opens_comment}
@@ -39,7 +40,7 @@ same_kind-text a b (Some n) = same_kind-fault _ _
 word-place : (a b : ℕ) (text : List ℕ) → SameKind (word_verdict a text) (word_verdict b text)
 unfolding word_verdict
 word-place a b text =
-    same_kind-or _ _ (reserved_kind text) (same_kind-cond (leb (length text) max_name) _ _ _ _ (λ k e. e) (same_kind-fault _ _))
+    same_kind-or _ _ (option_map Symbol (reserved_symbol text)) (same_kind-cond (leb (length text) max_name) _ _ _ _ (λ k e. e) (same_kind-fault _ _))
 
 number-place : (a b : ℕ) (text : List ℕ) → SameKind (number_verdict a text) (number_verdict b text)
 unfolding number_verdict
@@ -53,7 +54,7 @@ string-place a b rest =
 mark-place : (a b : ℕ) (text : List ℕ) → SameKind (mark_verdict a text) (mark_verdict b text)
 unfolding mark_verdict
 mark-place a b text =
-    same_kind-cond (opens_comment text) _ _ _ _ (λ k e. e) (same_kind-or _ _ (delimiter_kind text) (same_kind-fault _ _))
+    same_kind-cond (opens_comment text) _ _ _ _ (λ k e. e) (same_kind-or _ _ (option_map Symbol (delimiter_symbol text)) (same_kind-fault _ _))
 
 -- the kind of a token is that of its text, wherever it stands
 pub verdict-place : (a b : ℕ) (text : List ℕ) → SameKind (verdict a text) (verdict b text)

@@ -3,9 +3,9 @@ use Rattle.std.proofs.Common.{◌≡◌, ℕ, ◌+◌, ◌<◌, ◌≤◌, Bool,
 use Rattle.std.proofs.lemmas.List.{drop_more, drop_all, length-map}
 use Rattle.std.proofs.lemmas.Bool.{and_parts, eqb-true}
 use Rattle.std.specs.Prelude.{◌&&◌, ◌==◌, suc}
-use Rattle.ada_lexer.specs.declared.kinds.TokenKind.{TokenKind}
+use Rattle.ada_lexer.specs.declared.symbols.Symbol.{Symbol}
 use Rattle.ada_lexer.specs.Bytes.{lower}
-use Rattle.ada_lexer.specs.Words.{same_text, kind_in, two_letters, three_letters, four_letters, five_letters, six_letters, seven_letters, eight_letters, nine_letters, reserved_words, reserved_kind}
+use Rattle.ada_lexer.specs.Words.{same_text, symbol_in, two_letters, three_letters, four_letters, five_letters, six_letters, seven_letters, eight_letters, nine_letters, reserved_words, reserved_symbol}
 
 -- the two texts from a place on, by the bytes at the place
 pub same_text-more : (w s : List ℕ) (n : ℕ) → n < length w → n < length s → same_text (map lower (drop n w)) (drop n s) ≡ (lower (get_or w n 0) == get_or s n 0) && same_text (map lower (drop (n + 1) w)) (drop (n + 1) s)
@@ -35,147 +35,147 @@ same_text-lower_unequal w s h = same_text-unequal (map lower w) s (λ e. h (sym 
 pub ruleset same_text_steps = (same_text-more, same_text-end, same_text-lower_unequal)
 
 -- a table before another
-abbrev option_or : Option TokenKind → Option TokenKind → Option TokenKind
+abbrev option_or : Option Symbol → Option Symbol → Option Symbol
 option_or None y = y
 option_or (Some x) y = Some x
 
-cond-or : (b : Bool) (x : TokenKind) (y z : Option TokenKind) → cond b (Some x) (option_or y z) ≡ option_or (cond b (Some x) y) z
+cond-or : (b : Bool) (x : Symbol) (y z : Option Symbol) → cond b (Some x) (option_or y z) ≡ option_or (cond b (Some x) y) z
 cond-or true x y z = refl
 cond-or false x y z = refl
 
-kind_in-append : (a b : List (List ℕ × TokenKind)) (t : List ℕ) → kind_in (a ++ b) t ≡ option_or (kind_in a t) (kind_in b t)
-kind_in-append [] b t = refl
-kind_in-append (e ∷ a) b t =
-    ap (λ r. cond (same_text t e.0) (Some e.1) r) (kind_in-append a b t)
-    ∙ cond-or (same_text t e.0) e.1 (kind_in a t) (kind_in b t)
+symbol_in-append : (a b : List (List ℕ × Symbol)) (t : List ℕ) → symbol_in (a ++ b) t ≡ option_or (symbol_in a t) (symbol_in b t)
+symbol_in-append [] b t = refl
+symbol_in-append (e ∷ a) b t =
+    ap (λ r. cond (same_text t e.0) (Some e.1) r) (symbol_in-append a b t)
+    ∙ cond-or (same_text t e.0) e.1 (symbol_in a t) (symbol_in b t)
 
 -- each text of the table has this length
-abbrev all_of_length : ℕ → List (List ℕ × TokenKind) → Bool
+abbrev all_of_length : ℕ → List (List ℕ × Symbol) → Bool
 all_of_length n [] = true
 all_of_length n (e ∷ table) = (length e.0 == n) && all_of_length n table
 
 -- a table of one length has no text of another
-kind_in-other_length : (n : ℕ) (table : List (List ℕ × TokenKind)) (t : List ℕ) → all_of_length n table ≡ true → (length t ≡ n → ⊥) → kind_in table t ≡ None
-kind_in-other_length n [] t h ne = refl
-kind_in-other_length n (e ∷ table) t h ne =
+symbol_in-other_length : (n : ℕ) (table : List (List ℕ × Symbol)) (t : List ℕ) → all_of_length n table ≡ true → (length t ≡ n → ⊥) → symbol_in table t ≡ None
+symbol_in-other_length n [] t h ne = refl
+symbol_in-other_length n (e ∷ table) t h ne =
     let parts = and_parts (length e.0 == n) (all_of_length n table) h in
-    ap (λ b. cond b (Some e.1) (kind_in table t))
+    ap (λ b. cond b (Some e.1) (symbol_in table t))
     (same_text-unequal t e.0 (λ same. ne (same ∙ eqb-true (length e.0) n parts.0)))
-    ∙ kind_in-other_length n table t parts.1 ne
+    ∙ symbol_in-other_length n table t parts.1 ne
 
 lowered : (n : ℕ) (w : List ℕ) → (length w ≡ n → ⊥) → length (map lower w) ≡ n → ⊥
 lowered n w ne e = ne (sym (length-map w lower) ∙ e)
 
-none2 : (w : List ℕ) → (length w ≡ 2 → ⊥) → kind_in two_letters (map lower w) ≡ None
+none2 : (w : List ℕ) → (length w ≡ 2 → ⊥) → symbol_in two_letters (map lower w) ≡ None
 unfolding two_letters
-none2 w ne = kind_in-other_length 2 two_letters (map lower w) refl (lowered 2 w ne)
+none2 w ne = symbol_in-other_length 2 two_letters (map lower w) refl (lowered 2 w ne)
 
-none3 : (w : List ℕ) → (length w ≡ 3 → ⊥) → kind_in three_letters (map lower w) ≡ None
+none3 : (w : List ℕ) → (length w ≡ 3 → ⊥) → symbol_in three_letters (map lower w) ≡ None
 unfolding three_letters
-none3 w ne = kind_in-other_length 3 three_letters (map lower w) refl (lowered 3 w ne)
+none3 w ne = symbol_in-other_length 3 three_letters (map lower w) refl (lowered 3 w ne)
 
-none4 : (w : List ℕ) → (length w ≡ 4 → ⊥) → kind_in four_letters (map lower w) ≡ None
+none4 : (w : List ℕ) → (length w ≡ 4 → ⊥) → symbol_in four_letters (map lower w) ≡ None
 unfolding four_letters
-none4 w ne = kind_in-other_length 4 four_letters (map lower w) refl (lowered 4 w ne)
+none4 w ne = symbol_in-other_length 4 four_letters (map lower w) refl (lowered 4 w ne)
 
-none5 : (w : List ℕ) → (length w ≡ 5 → ⊥) → kind_in five_letters (map lower w) ≡ None
+none5 : (w : List ℕ) → (length w ≡ 5 → ⊥) → symbol_in five_letters (map lower w) ≡ None
 unfolding five_letters
-none5 w ne = kind_in-other_length 5 five_letters (map lower w) refl (lowered 5 w ne)
+none5 w ne = symbol_in-other_length 5 five_letters (map lower w) refl (lowered 5 w ne)
 
-none6 : (w : List ℕ) → (length w ≡ 6 → ⊥) → kind_in six_letters (map lower w) ≡ None
+none6 : (w : List ℕ) → (length w ≡ 6 → ⊥) → symbol_in six_letters (map lower w) ≡ None
 unfolding six_letters
-none6 w ne = kind_in-other_length 6 six_letters (map lower w) refl (lowered 6 w ne)
+none6 w ne = symbol_in-other_length 6 six_letters (map lower w) refl (lowered 6 w ne)
 
-none7 : (w : List ℕ) → (length w ≡ 7 → ⊥) → kind_in seven_letters (map lower w) ≡ None
+none7 : (w : List ℕ) → (length w ≡ 7 → ⊥) → symbol_in seven_letters (map lower w) ≡ None
 unfolding seven_letters
-none7 w ne = kind_in-other_length 7 seven_letters (map lower w) refl (lowered 7 w ne)
+none7 w ne = symbol_in-other_length 7 seven_letters (map lower w) refl (lowered 7 w ne)
 
-none8 : (w : List ℕ) → (length w ≡ 8 → ⊥) → kind_in eight_letters (map lower w) ≡ None
+none8 : (w : List ℕ) → (length w ≡ 8 → ⊥) → symbol_in eight_letters (map lower w) ≡ None
 unfolding eight_letters
-none8 w ne = kind_in-other_length 8 eight_letters (map lower w) refl (lowered 8 w ne)
+none8 w ne = symbol_in-other_length 8 eight_letters (map lower w) refl (lowered 8 w ne)
 
-none9 : (w : List ℕ) → (length w ≡ 9 → ⊥) → kind_in nine_letters (map lower w) ≡ None
+none9 : (w : List ℕ) → (length w ≡ 9 → ⊥) → symbol_in nine_letters (map lower w) ≡ None
 unfolding nine_letters
-none9 w ne = kind_in-other_length 9 nine_letters (map lower w) refl (lowered 9 w ne)
+none9 w ne = symbol_in-other_length 9 nine_letters (map lower w) refl (lowered 9 w ne)
 
 -- the first table that has the word
-abbrev first_of : Option TokenKind → Option TokenKind → Option TokenKind → Option TokenKind → Option TokenKind → Option TokenKind → Option TokenKind → Option TokenKind → Option TokenKind
+abbrev first_of : Option Symbol → Option Symbol → Option Symbol → Option Symbol → Option Symbol → Option Symbol → Option Symbol → Option Symbol → Option Symbol
 first_of a b c d e f g h =
     option_or a (option_or b (option_or c (option_or d (option_or e (option_or f (option_or g h))))))
 
-reserved_kind-split : (w : List ℕ) → reserved_kind w ≡ first_of (kind_in two_letters (map lower w)) (kind_in three_letters (map lower w)) (kind_in four_letters (map lower w)) (kind_in five_letters (map lower w)) (kind_in six_letters (map lower w)) (kind_in seven_letters (map lower w)) (kind_in eight_letters (map lower w)) (kind_in nine_letters (map lower w))
-unfolding reserved_kind reserved_words
-reserved_kind-split w =
+reserved_symbol-split : (w : List ℕ) → reserved_symbol w ≡ first_of (symbol_in two_letters (map lower w)) (symbol_in three_letters (map lower w)) (symbol_in four_letters (map lower w)) (symbol_in five_letters (map lower w)) (symbol_in six_letters (map lower w)) (symbol_in seven_letters (map lower w)) (symbol_in eight_letters (map lower w)) (symbol_in nine_letters (map lower w))
+unfolding reserved_symbol reserved_words
+reserved_symbol-split w =
     let t = map lower w in
-    kind_in-append two_letters _ t
-    ∙ ap (option_or (kind_in two_letters t)) (kind_in-append three_letters _ t
-    ∙ ap (option_or (kind_in three_letters t)) (kind_in-append four_letters _ t
-    ∙ ap (option_or (kind_in four_letters t)) (kind_in-append five_letters _ t
-    ∙ ap (option_or (kind_in five_letters t)) (kind_in-append six_letters _ t
-    ∙ ap (option_or (kind_in six_letters t)) (kind_in-append seven_letters _ t
-    ∙ ap (option_or (kind_in seven_letters t)) (kind_in-append eight_letters nine_letters t))))))
+    symbol_in-append two_letters _ t
+    ∙ ap (option_or (symbol_in two_letters t)) (symbol_in-append three_letters _ t
+    ∙ ap (option_or (symbol_in three_letters t)) (symbol_in-append four_letters _ t
+    ∙ ap (option_or (symbol_in four_letters t)) (symbol_in-append five_letters _ t
+    ∙ ap (option_or (symbol_in five_letters t)) (symbol_in-append six_letters _ t
+    ∙ ap (option_or (symbol_in six_letters t)) (symbol_in-append seven_letters _ t
+    ∙ ap (option_or (symbol_in seven_letters t)) (symbol_in-append eight_letters nine_letters t))))))
 
-skip : (x y : Option TokenKind) → x ≡ None → option_or x y ≡ y
+skip : (x y : Option Symbol) → x ≡ None → option_or x y ≡ y
 skip x y e = ap (λ o. option_or o y) e
 
-only : (x y : Option TokenKind) → y ≡ None → option_or x y ≡ x
+only : (x y : Option Symbol) → y ≡ None → option_or x y ≡ x
 only None y e = e
 only (Some x) y e = refl
 
-both : (x y : Option TokenKind) → x ≡ None → y ≡ None → option_or x y ≡ None
+both : (x y : Option Symbol) → x ≡ None → y ≡ None → option_or x y ≡ None
 both x y p q = skip x y p ∙ q
 
-pub reserved_kind-two : (w : List ℕ) → length w ≡ 2 → reserved_kind w ≡ kind_in two_letters (map lower w)
-reserved_kind-two w l =
-    reserved_kind-split w
+pub reserved_symbol-two : (w : List ℕ) → length w ≡ 2 → reserved_symbol w ≡ symbol_in two_letters (map lower w)
+reserved_symbol-two w l =
+    reserved_symbol-split w
     ∙ only _ _ (both _ _ (none3 w (λ e. omega arith)) (both _ _ (none4 w (λ e. omega arith)) (both _ _ (none5 w (λ e. omega arith)) (both _ _ (none6 w (λ e. omega arith)) (both _ _ (none7 w (λ e. omega arith)) (both _ _ (none8 w (λ e. omega arith)) (none9 w (λ e. omega arith))))))))
 
-pub reserved_kind-three : (w : List ℕ) → length w ≡ 3 → reserved_kind w ≡ kind_in three_letters (map lower w)
-reserved_kind-three w l =
-    reserved_kind-split w ∙ skip _ _ (none2 w (λ e. omega arith))
+pub reserved_symbol-three : (w : List ℕ) → length w ≡ 3 → reserved_symbol w ≡ symbol_in three_letters (map lower w)
+reserved_symbol-three w l =
+    reserved_symbol-split w ∙ skip _ _ (none2 w (λ e. omega arith))
     ∙ only _ _ (both _ _ (none4 w (λ e. omega arith)) (both _ _ (none5 w (λ e. omega arith)) (both _ _ (none6 w (λ e. omega arith)) (both _ _ (none7 w (λ e. omega arith)) (both _ _ (none8 w (λ e. omega arith)) (none9 w (λ e. omega arith)))))))
 
-pub reserved_kind-four : (w : List ℕ) → length w ≡ 4 → reserved_kind w ≡ kind_in four_letters (map lower w)
-reserved_kind-four w l =
-    reserved_kind-split w ∙ skip _ _ (none2 w (λ e. omega arith)) ∙ skip _ _ (none3 w (λ e. omega arith))
+pub reserved_symbol-four : (w : List ℕ) → length w ≡ 4 → reserved_symbol w ≡ symbol_in four_letters (map lower w)
+reserved_symbol-four w l =
+    reserved_symbol-split w ∙ skip _ _ (none2 w (λ e. omega arith)) ∙ skip _ _ (none3 w (λ e. omega arith))
     ∙ only _ _ (both _ _ (none5 w (λ e. omega arith)) (both _ _ (none6 w (λ e. omega arith)) (both _ _ (none7 w (λ e. omega arith)) (both _ _ (none8 w (λ e. omega arith)) (none9 w (λ e. omega arith))))))
 
-pub reserved_kind-five : (w : List ℕ) → length w ≡ 5 → reserved_kind w ≡ kind_in five_letters (map lower w)
-reserved_kind-five w l =
-    reserved_kind-split w ∙ skip _ _ (none2 w (λ e. omega arith)) ∙ skip _ _ (none3 w (λ e. omega arith))
+pub reserved_symbol-five : (w : List ℕ) → length w ≡ 5 → reserved_symbol w ≡ symbol_in five_letters (map lower w)
+reserved_symbol-five w l =
+    reserved_symbol-split w ∙ skip _ _ (none2 w (λ e. omega arith)) ∙ skip _ _ (none3 w (λ e. omega arith))
     ∙ skip _ _ (none4 w (λ e. omega arith))
     ∙ only _ _ (both _ _ (none6 w (λ e. omega arith)) (both _ _ (none7 w (λ e. omega arith)) (both _ _ (none8 w (λ e. omega arith)) (none9 w (λ e. omega arith)))))
 
-pub reserved_kind-six : (w : List ℕ) → length w ≡ 6 → reserved_kind w ≡ kind_in six_letters (map lower w)
-reserved_kind-six w l =
-    reserved_kind-split w ∙ skip _ _ (none2 w (λ e. omega arith)) ∙ skip _ _ (none3 w (λ e. omega arith))
+pub reserved_symbol-six : (w : List ℕ) → length w ≡ 6 → reserved_symbol w ≡ symbol_in six_letters (map lower w)
+reserved_symbol-six w l =
+    reserved_symbol-split w ∙ skip _ _ (none2 w (λ e. omega arith)) ∙ skip _ _ (none3 w (λ e. omega arith))
     ∙ skip _ _ (none4 w (λ e. omega arith)) ∙ skip _ _ (none5 w (λ e. omega arith))
     ∙ only _ _ (both _ _ (none7 w (λ e. omega arith)) (both _ _ (none8 w (λ e. omega arith)) (none9 w (λ e. omega arith))))
 
-pub reserved_kind-seven : (w : List ℕ) → length w ≡ 7 → reserved_kind w ≡ kind_in seven_letters (map lower w)
-reserved_kind-seven w l =
-    reserved_kind-split w ∙ skip _ _ (none2 w (λ e. omega arith)) ∙ skip _ _ (none3 w (λ e. omega arith))
+pub reserved_symbol-seven : (w : List ℕ) → length w ≡ 7 → reserved_symbol w ≡ symbol_in seven_letters (map lower w)
+reserved_symbol-seven w l =
+    reserved_symbol-split w ∙ skip _ _ (none2 w (λ e. omega arith)) ∙ skip _ _ (none3 w (λ e. omega arith))
     ∙ skip _ _ (none4 w (λ e. omega arith)) ∙ skip _ _ (none5 w (λ e. omega arith))
     ∙ skip _ _ (none6 w (λ e. omega arith))
     ∙ only _ _ (both _ _ (none8 w (λ e. omega arith)) (none9 w (λ e. omega arith)))
 
-pub reserved_kind-eight : (w : List ℕ) → length w ≡ 8 → reserved_kind w ≡ kind_in eight_letters (map lower w)
-reserved_kind-eight w l =
-    reserved_kind-split w ∙ skip _ _ (none2 w (λ e. omega arith)) ∙ skip _ _ (none3 w (λ e. omega arith))
+pub reserved_symbol-eight : (w : List ℕ) → length w ≡ 8 → reserved_symbol w ≡ symbol_in eight_letters (map lower w)
+reserved_symbol-eight w l =
+    reserved_symbol-split w ∙ skip _ _ (none2 w (λ e. omega arith)) ∙ skip _ _ (none3 w (λ e. omega arith))
     ∙ skip _ _ (none4 w (λ e. omega arith)) ∙ skip _ _ (none5 w (λ e. omega arith))
     ∙ skip _ _ (none6 w (λ e. omega arith)) ∙ skip _ _ (none7 w (λ e. omega arith))
     ∙ only _ _ (none9 w (λ e. omega arith))
 
-pub reserved_kind-nine : (w : List ℕ) → length w ≡ 9 → reserved_kind w ≡ kind_in nine_letters (map lower w)
-reserved_kind-nine w l =
-    reserved_kind-split w ∙ skip _ _ (none2 w (λ e. omega arith)) ∙ skip _ _ (none3 w (λ e. omega arith))
+pub reserved_symbol-nine : (w : List ℕ) → length w ≡ 9 → reserved_symbol w ≡ symbol_in nine_letters (map lower w)
+reserved_symbol-nine w l =
+    reserved_symbol-split w ∙ skip _ _ (none2 w (λ e. omega arith)) ∙ skip _ _ (none3 w (λ e. omega arith))
     ∙ skip _ _ (none4 w (λ e. omega arith)) ∙ skip _ _ (none5 w (λ e. omega arith))
     ∙ skip _ _ (none6 w (λ e. omega arith)) ∙ skip _ _ (none7 w (λ e. omega arith))
     ∙ skip _ _ (none8 w (λ e. omega arith))
 
-pub reserved_kind-none : (w : List ℕ) → (length w ≡ 2 → ⊥) → (length w ≡ 3 → ⊥) → (length w ≡ 4 → ⊥) → (length w ≡ 5 → ⊥) → (length w ≡ 6 → ⊥) → (length w ≡ 7 → ⊥) → (length w ≡ 8 → ⊥) → (length w ≡ 9 → ⊥) → reserved_kind w ≡ None
-reserved_kind-none w a b c d e f g h =
-    reserved_kind-split w ∙ skip _ _ (none2 w a) ∙ skip _ _ (none3 w b) ∙ skip _ _ (none4 w c)
+pub reserved_symbol-none : (w : List ℕ) → (length w ≡ 2 → ⊥) → (length w ≡ 3 → ⊥) → (length w ≡ 4 → ⊥) → (length w ≡ 5 → ⊥) → (length w ≡ 6 → ⊥) → (length w ≡ 7 → ⊥) → (length w ≡ 8 → ⊥) → (length w ≡ 9 → ⊥) → reserved_symbol w ≡ None
+reserved_symbol-none w a b c d e f g h =
+    reserved_symbol-split w ∙ skip _ _ (none2 w a) ∙ skip _ _ (none3 w b) ∙ skip _ _ (none4 w c)
     ∙ skip _ _ (none5 w d) ∙ skip _ _ (none6 w e) ∙ skip _ _ (none7 w f) ∙ skip _ _ (none8 w g) ∙ none9 w h
 
-pub ruleset reserved_by_length = (reserved_kind-two, reserved_kind-three, reserved_kind-four, reserved_kind-five, reserved_kind-six, reserved_kind-seven, reserved_kind-eight, reserved_kind-nine, reserved_kind-none)
+pub ruleset reserved_by_length = (reserved_symbol-two, reserved_symbol-three, reserved_symbol-four, reserved_symbol-five, reserved_symbol-six, reserved_symbol-seven, reserved_symbol-eight, reserved_symbol-nine, reserved_symbol-none)

@@ -1,7 +1,7 @@
 -- How long the piece at the front of a text is, by the rule and as the code counts it.
 use Rattle.std.specs.Prelude.{◌≡◌, ◌<◌, ◌≤◌, ◌⊎◌, length, take, ℕ, true, ◌+◌, ◌&&◌, List, [], ◌∷◌, is_some, ◌==◌, if◌then◌else◌}
 use Rattle.ada_lexer.specs.Bytes.{is_letter, is_digit, is_white, run_len}
-use Rattle.ada_lexer.specs.Words.{kind_in, simple_delimiters, compound_delimiters}
+use Rattle.ada_lexer.specs.Words.{symbol_in, simple_delimiters, compound_delimiters}
 use Rattle.ada_lexer.specs.Strings.{string_len}
 use Rattle.ada_lexer.specs.Pieces.{word_goes_on, number_goes_on, comment_goes_on, IsLongest}
 use Rattle.ada_lexer.specs.Split.{BeginsNothing}
@@ -17,11 +17,11 @@ IsMeasured text n = ((0 < n) × HasLongest n text) ⊎ ((n ≡ 0) × BeginsNothi
 -- a comment, a compound delimiter, a simple one, or nothing
 unfoldable pub mark_len : List ℕ → ℕ
 mark_len [] = 0
-mark_len (b ∷ []) = if is_some (kind_in simple_delimiters (b ∷ [])) then 1 else 0
+mark_len (b ∷ []) = if is_some (symbol_in simple_delimiters (b ∷ [])) then 1 else 0
 mark_len (b ∷ c ∷ rest) =
     if b == 45 && c == 45 then run_len comment_goes_on rest + 2
-    else (if is_some (kind_in compound_delimiters (b ∷ c ∷ [])) then 2
-    else (if is_some (kind_in simple_delimiters (b ∷ [])) then 1 else 0))
+    else (if is_some (symbol_in compound_delimiters (b ∷ c ∷ [])) then 2
+    else (if is_some (symbol_in simple_delimiters (b ∷ [])) then 1 else 0))
 
 -- the length of the piece that a text begins with, and 0 where it begins with none
 unfoldable pub piece_len : List ℕ → ℕ

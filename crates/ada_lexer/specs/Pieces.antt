@@ -1,7 +1,7 @@
 -- The pieces that a text can fall into by their form: white space, comments, words, numbers, strings and delimiters.
 use Rattle.std.specs.Prelude.{◌≡◌, ℕ, Bool, true, false, ◌≤◌, ◌&&◌, ◌||◌, not, List, [], ◌∷◌, length, take, is_some, ◌==◌, if◌then◌else◌, IsTrue}
 use Rattle.ada_lexer.specs.Bytes.{is_letter, is_digit, is_letter_or_digit, is_white, is_line_end, begins, every}
-use Rattle.ada_lexer.specs.Words.{delimiter_kind}
+use Rattle.ada_lexer.specs.Words.{delimiter_symbol}
 use Rattle.ada_lexer.specs.Strings.{is_string_run}
 
 -- a letter or digit, or a single underscore before one: what may follow in an identifier (2.3)
@@ -40,7 +40,7 @@ is_piece (b ∷ rest) =
     else (if is_letter b then every word_goes_on rest
     else (if is_digit b then every number_goes_on rest
     else (if b == 34 then is_string_run true rest
-    else is_comment (b ∷ rest) || is_some (delimiter_kind (b ∷ rest)))))
+    else is_comment (b ∷ rest) || is_some (delimiter_symbol (b ∷ rest)))))
 
 -- the piece stands at the front of the text, and no longer front of it is a piece: each is the longest that begins at its place (2.2)
 pub record IsLongest (piece text : List ℕ) : Type 0 where

@@ -1,12 +1,12 @@
 -- What a piece of a text is: nothing, a token, or the fault that it has.
-use Rattle.std.specs.Prelude.{◌≡◌, ℕ, true, ◌+◌, not, List, [], ◌∷◌, length, Option, None, Some, position, nat_le, nat_lt, ◌==◌, if◌then◌else◌, IsTrue}
+use Rattle.std.specs.Prelude.{◌≡◌, ℕ, true, ◌+◌, not, List, [], ◌∷◌, length, Option, None, Some, option_map, position, nat_le, nat_lt, ◌==◌, if◌then◌else◌, IsTrue}
 use Rattle.ada_lexer.specs.declared.kinds.TokenKind.{TokenKind}
-use Rattle.ada_lexer.specs.declared.kinds.TokenKind.TheVariants.{Name, Text}
+use Rattle.ada_lexer.specs.declared.kinds.TokenKind.TheVariants.{Symbol, Name, Text}
 use Rattle.ada_lexer.specs.declared.errors.LexError.TheVariants.{BadByte, OpenString, BadNumber, TooLong}
 use Rattle.ada_lexer.specs.declared.verdicts.Verdict.{Verdict}
 use Rattle.ada_lexer.specs.declared.verdicts.Verdict.TheVariants.{Gap, Kind, Fault}
 use Rattle.ada_lexer.specs.Bytes.{is_letter, is_digit, is_printable, is_white}
-use Rattle.ada_lexer.specs.Words.{reserved_kind, delimiter_kind}
+use Rattle.ada_lexer.specs.Words.{reserved_symbol, delimiter_symbol}
 use Rattle.ada_lexer.specs.Numbers.{number_kind}
 use Rattle.ada_lexer.specs.Strings.{ends_inside, content}
 use Rattle.ada_lexer.specs.Pieces.{opens_comment, is_piece}
@@ -27,7 +27,7 @@ token_or other None = other
 -- a reserved word in any case is its kind; another identifier is a name, which must not be too long (2.3, 2.9)
 unfoldable pub word_verdict : ℕ → List ℕ → Verdict
 word_verdict at text =
-    token_or (if nat_le (length text) max_name then Kind Name else Fault (TooLong at)) (reserved_kind text)
+    token_or (if nat_le (length text) max_name then Kind Name else Fault (TooLong at)) (option_map Symbol (reserved_symbol text))
 
 -- a number is an integer or a duration, or it is bad (2.4)
 unfoldable pub number_verdict : ℕ → List ℕ → Verdict
@@ -47,7 +47,7 @@ string_verdict at rest =
 
 -- two hyphens begin a comment, which is a gap; the rest are delimiters (2.7, 2.2)
 unfoldable pub mark_verdict : ℕ → List ℕ → Verdict
-mark_verdict at text = if opens_comment text then Gap else token_or (Fault (BadByte at)) (delimiter_kind text)
+mark_verdict at text = if opens_comment text then Gap else token_or (Fault (BadByte at)) (option_map Symbol (delimiter_symbol text))
 
 -- what the piece that begins at a place is, by its first byte: white space or a comment, a token of a kind, or a fault
 unfoldable pub verdict : ℕ → List ℕ → Verdict

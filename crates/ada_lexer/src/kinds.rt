@@ -1,121 +1,13 @@
 //! What a token is.
 
+use crate::symbols::Symbol;
 use std::mem::size_of;
 
-/// The kind of a token: one for each reserved word of ANSI/MIL-STD-1815A 2.9, one for each
-/// delimiter of 2.2 that this project's language uses, and the kinds that have many texts.
-///
-/// `**`, `<>`, `<<`, `>>` and the label brackets have no kind of their own: they are read as two
-/// delimiters each.
+/// The kind of a token: a reserved word or a delimiter, or one of the kinds that have many texts.
 #[derive(Clone, Copy, Debug, PartialEq, Eq)]
 pub enum TokenKind {
-    Abort,
-    Abs,
-    Accept,
-    Access,
-    All,
-    And,
-    Array,
-    At,
-    Begin,
-    Body,
-    Case,
-    Constant,
-    Declare,
-    Delay,
-    Delta,
-    Digits,
-    Do,
-    Else,
-    Elsif,
-    End,
-    Entry,
-    Exception,
-    Exit,
-    For,
-    Function,
-    Generic,
-    Goto,
-    If,
-    In,
-    Is,
-    Limited,
-    Loop,
-    Mod,
-    New,
-    Not,
-    Null,
-    Of,
-    Or,
-    Others,
-    Out,
-    Package,
-    Pragma,
-    Private,
-    Procedure,
-    Raise,
-    Range,
-    Record,
-    Rem,
-    Renames,
-    Return,
-    Reverse,
-    Select,
-    Separate,
-    Subtype,
-    Task,
-    Terminate,
-    Then,
-    Type,
-    Use,
-    When,
-    While,
-    With,
-    Xor,
-    /// `;`
-    Semicolon,
-    /// `,`
-    Comma,
-    /// `(`
-    LeftParen,
-    /// `)`
-    RightParen,
-    /// `:`
-    Colon,
-    /// `:=`
-    Becomes,
-    /// `=>`
-    Arrow,
-    /// `.`
-    Dot,
-    /// `..`
-    DotDot,
-    /// `|`
-    Bar,
-    /// `&`
-    Ampersand,
-    /// `'`
-    Tick,
-    /// `=`
-    Equal,
-    /// `/=`
-    NotEqual,
-    /// `<`
-    Less,
-    /// `<=`
-    LessEqual,
-    /// `>`
-    Greater,
-    /// `>=`
-    GreaterEqual,
-    /// `+`
-    Plus,
-    /// `-`
-    Minus,
-    /// `*`
-    Star,
-    /// `/`
-    Slash,
+    /// A reserved word (2.9) or a delimiter (2.2).
+    Symbol(Symbol),
     /// An identifier that is no reserved word (2.3).
     Name,
     /// An integer literal by its value, at most 2147483647 (2.4.1).

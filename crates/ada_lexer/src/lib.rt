@@ -12,6 +12,7 @@ mod lexing;
 mod numbers;
 mod places;
 mod strings;
+mod symbols;
 mod verdicts;
 mod words;
 
@@ -19,3 +20,4 @@ pub use errors::LexError;
 pub use kinds::{Token, TokenKind};
 pub use lexing::tokens;
 pub use places::{LineCol, line_col};
+pub use symbols::Symbol;

@@ -51,7 +51,7 @@ fn word_verdict(at: u32, word: &[u8]) -> Verdict
     ensures { result ≡ word_verdict at word.now }
 {
     match reserved(word) {
-        Some(kind) => Verdict::Kind(kind),
+        Some(symbol) => Verdict::Kind(TokenKind::Symbol(symbol)),
         None => {
             if word.len() <= MAX_NAME {
                 Verdict::Kind(TokenKind::Name)
@@ -101,7 +101,7 @@ fn mark_verdict(at: u32, mark: &[u8]) -> Verdict
         return Verdict::Gap;
     }
     match delimiter(mark) {
-        Some(kind) => Verdict::Kind(kind),
+        Some(symbol) => Verdict::Kind(TokenKind::Symbol(symbol)),
         None => Verdict::Fault(LexError::BadByte { at }),
     }
 }

@@ -2,14 +2,14 @@
 
 ghost use Rattle.std.specs.Prelude.{◌≡◌, ◌∷◌, [], map, IsTrue};
 ghost use Rattle.ada_lexer.specs.Bytes.{lower};
-ghost use Rattle.ada_lexer.specs.Words.{same_text, kind_in, reserved_kind, two_letters, three_letters, four_letters, five_letters, six_letters, seven_letters, eight_letters, nine_letters, simple_delimiters, compound_delimiters, delimiter_kind};
+ghost use Rattle.ada_lexer.specs.Words.{same_text, symbol_in, reserved_symbol, two_letters, three_letters, four_letters, five_letters, six_letters, seven_letters, eight_letters, nine_letters, simple_delimiters, compound_delimiters, delimiter_symbol};
 
-use super::kinds::TokenKind;
+use super::symbols::Symbol;
 
 /// The reserved word that `word` is, in any case.
 #[tactic(auto, using(crate::proofs::WordLemmas::reserved_by_length))]
-pub fn reserved(word: &[u8]) -> Option<TokenKind>
-    ensures { result ≡ reserved_kind word.now }
+pub fn reserved(word: &[u8]) -> Option<Symbol>
+    ensures { result ≡ reserved_symbol word.now }
 {
     match word.len() {
         2 => two(word),
@@ -48,207 +48,207 @@ fn lower(b: u8) -> u8
 }
 
 #[tactic(auto, unfolding(crate::specs::Words::two_letters))]
-fn two(word: &[u8]) -> Option<TokenKind>
-    ensures { result ≡ kind_in two_letters (map lower word.now) }
+fn two(word: &[u8]) -> Option<Symbol>
+    ensures { result ≡ symbol_in two_letters (map lower word.now) }
 {
     if is_word(word, b"at") {
-        Some(TokenKind::At)
+        Some(Symbol::At)
     } else if is_word(word, b"do") {
-        Some(TokenKind::Do)
+        Some(Symbol::Do)
     } else if is_word(word, b"if") {
-        Some(TokenKind::If)
+        Some(Symbol::If)
     } else if is_word(word, b"in") {
-        Some(TokenKind::In)
+        Some(Symbol::In)
     } else if is_word(word, b"is") {
-        Some(TokenKind::Is)
+        Some(Symbol::Is)
     } else if is_word(word, b"of") {
-        Some(TokenKind::Of)
+        Some(Symbol::Of)
     } else if is_word(word, b"or") {
-        Some(TokenKind::Or)
+        Some(Symbol::Or)
     } else {
         None
     }
 }
 
 #[tactic(auto, unfolding(crate::specs::Words::three_letters))]
-fn three(word: &[u8]) -> Option<TokenKind>
-    ensures { result ≡ kind_in three_letters (map lower word.now) }
+fn three(word: &[u8]) -> Option<Symbol>
+    ensures { result ≡ symbol_in three_letters (map lower word.now) }
 {
     if is_word(word, b"abs") {
-        Some(TokenKind::Abs)
+        Some(Symbol::Abs)
     } else if is_word(word, b"all") {
-        Some(TokenKind::All)
+        Some(Symbol::All)
     } else if is_word(word, b"and") {
-        Some(TokenKind::And)
+        Some(Symbol::And)
     } else if is_word(word, b"end") {
-        Some(TokenKind::End)
+        Some(Symbol::End)
     } else if is_word(word, b"for") {
-        Some(TokenKind::For)
+        Some(Symbol::For)
     } else if is_word(word, b"mod") {
-        Some(TokenKind::Mod)
+        Some(Symbol::Mod)
     } else if is_word(word, b"new") {
-        Some(TokenKind::New)
+        Some(Symbol::New)
     } else if is_word(word, b"not") {
-        Some(TokenKind::Not)
+        Some(Symbol::Not)
     } else if is_word(word, b"out") {
-        Some(TokenKind::Out)
+        Some(Symbol::Out)
     } else if is_word(word, b"rem") {
-        Some(TokenKind::Rem)
+        Some(Symbol::Rem)
     } else if is_word(word, b"use") {
-        Some(TokenKind::Use)
+        Some(Symbol::Use)
     } else if is_word(word, b"xor") {
-        Some(TokenKind::Xor)
+        Some(Symbol::Xor)
     } else {
         None
     }
 }
 
 #[tactic(auto, unfolding(crate::specs::Words::four_letters))]
-fn four(word: &[u8]) -> Option<TokenKind>
-    ensures { result ≡ kind_in four_letters (map lower word.now) }
+fn four(word: &[u8]) -> Option<Symbol>
+    ensures { result ≡ symbol_in four_letters (map lower word.now) }
 {
     if is_word(word, b"body") {
-        Some(TokenKind::Body)
+        Some(Symbol::Body)
     } else if is_word(word, b"case") {
-        Some(TokenKind::Case)
+        Some(Symbol::Case)
     } else if is_word(word, b"else") {
-        Some(TokenKind::Else)
+        Some(Symbol::Else)
     } else if is_word(word, b"exit") {
-        Some(TokenKind::Exit)
+        Some(Symbol::Exit)
     } else if is_word(word, b"goto") {
-        Some(TokenKind::Goto)
+        Some(Symbol::Goto)
     } else if is_word(word, b"loop") {
-        Some(TokenKind::Loop)
+        Some(Symbol::Loop)
     } else if is_word(word, b"null") {
-        Some(TokenKind::Null)
+        Some(Symbol::Null)
     } else if is_word(word, b"task") {
-        Some(TokenKind::Task)
+        Some(Symbol::Task)
     } else if is_word(word, b"then") {
-        Some(TokenKind::Then)
+        Some(Symbol::Then)
     } else if is_word(word, b"type") {
-        Some(TokenKind::Type)
+        Some(Symbol::Type)
     } else if is_word(word, b"when") {
-        Some(TokenKind::When)
+        Some(Symbol::When)
     } else if is_word(word, b"with") {
-        Some(TokenKind::With)
+        Some(Symbol::With)
     } else {
         None
     }
 }
 
 #[tactic(auto, unfolding(crate::specs::Words::five_letters))]
-fn five(word: &[u8]) -> Option<TokenKind>
-    ensures { result ≡ kind_in five_letters (map lower word.now) }
+fn five(word: &[u8]) -> Option<Symbol>
+    ensures { result ≡ symbol_in five_letters (map lower word.now) }
 {
     if is_word(word, b"abort") {
-        Some(TokenKind::Abort)
+        Some(Symbol::Abort)
     } else if is_word(word, b"array") {
-        Some(TokenKind::Array)
+        Some(Symbol::Array)
     } else if is_word(word, b"begin") {
-        Some(TokenKind::Begin)
+        Some(Symbol::Begin)
     } else if is_word(word, b"delay") {
-        Some(TokenKind::Delay)
+        Some(Symbol::Delay)
     } else if is_word(word, b"delta") {
-        Some(TokenKind::Delta)
+        Some(Symbol::Delta)
     } else if is_word(word, b"elsif") {
-        Some(TokenKind::Elsif)
+        Some(Symbol::Elsif)
     } else if is_word(word, b"entry") {
-        Some(TokenKind::Entry)
+        Some(Symbol::Entry)
     } else if is_word(word, b"raise") {
-        Some(TokenKind::Raise)
+        Some(Symbol::Raise)
     } else if is_word(word, b"range") {
-        Some(TokenKind::Range)
+        Some(Symbol::Range)
     } else if is_word(word, b"while") {
-        Some(TokenKind::While)
+        Some(Symbol::While)
     } else {
         None
     }
 }
 
 #[tactic(auto, unfolding(crate::specs::Words::six_letters))]
-fn six(word: &[u8]) -> Option<TokenKind>
-    ensures { result ≡ kind_in six_letters (map lower word.now) }
+fn six(word: &[u8]) -> Option<Symbol>
+    ensures { result ≡ symbol_in six_letters (map lower word.now) }
 {
     if is_word(word, b"accept") {
-        Some(TokenKind::Accept)
+        Some(Symbol::Accept)
     } else if is_word(word, b"access") {
-        Some(TokenKind::Access)
+        Some(Symbol::Access)
     } else if is_word(word, b"digits") {
-        Some(TokenKind::Digits)
+        Some(Symbol::Digits)
     } else if is_word(word, b"others") {
-        Some(TokenKind::Others)
+        Some(Symbol::Others)
     } else if is_word(word, b"pragma") {
-        Some(TokenKind::Pragma)
+        Some(Symbol::Pragma)
     } else if is_word(word, b"record") {
-        Some(TokenKind::Record)
+        Some(Symbol::Record)
     } else if is_word(word, b"return") {
-        Some(TokenKind::Return)
+        Some(Symbol::Return)
     } else if is_word(word, b"select") {
-        Some(TokenKind::Select)
+        Some(Symbol::Select)
     } else {
         None
     }
 }
 
 #[tactic(auto, unfolding(crate::specs::Words::seven_letters))]
-fn seven(word: &[u8]) -> Option<TokenKind>
-    ensures { result ≡ kind_in seven_letters (map lower word.now) }
+fn seven(word: &[u8]) -> Option<Symbol>
+    ensures { result ≡ symbol_in seven_letters (map lower word.now) }
 {
     if is_word(word, b"declare") {
-        Some(TokenKind::Declare)
+        Some(Symbol::Declare)
     } else if is_word(word, b"generic") {
-        Some(TokenKind::Generic)
+        Some(Symbol::Generic)
     } else if is_word(word, b"limited") {
-        Some(TokenKind::Limited)
+        Some(Symbol::Limited)
     } else if is_word(word, b"package") {
-        Some(TokenKind::Package)
+        Some(Symbol::Package)
     } else if is_word(word, b"private") {
-        Some(TokenKind::Private)
+        Some(Symbol::Private)
     } else if is_word(word, b"renames") {
-        Some(TokenKind::Renames)
+        Some(Symbol::Renames)
     } else if is_word(word, b"reverse") {
-        Some(TokenKind::Reverse)
+        Some(Symbol::Reverse)
     } else if is_word(word, b"subtype") {
-        Some(TokenKind::Subtype)
+        Some(Symbol::Subtype)
     } else {
         None
     }
 }
 
 #[tactic(auto, unfolding(crate::specs::Words::eight_letters))]
-fn eight(word: &[u8]) -> Option<TokenKind>
-    ensures { result ≡ kind_in eight_letters (map lower word.now) }
+fn eight(word: &[u8]) -> Option<Symbol>
+    ensures { result ≡ symbol_in eight_letters (map lower word.now) }
 {
     if is_word(word, b"constant") {
-        Some(TokenKind::Constant)
+        Some(Symbol::Constant)
     } else if is_word(word, b"function") {
-        Some(TokenKind::Function)
+        Some(Symbol::Function)
     } else if is_word(word, b"separate") {
-        Some(TokenKind::Separate)
+        Some(Symbol::Separate)
     } else {
         None
     }
 }
 
 #[tactic(auto, unfolding(crate::specs::Words::nine_letters))]
-fn nine(word: &[u8]) -> Option<TokenKind>
-    ensures { result ≡ kind_in nine_letters (map lower word.now) }
+fn nine(word: &[u8]) -> Option<Symbol>
+    ensures { result ≡ symbol_in nine_letters (map lower word.now) }
 {
     if is_word(word, b"exception") {
-        Some(TokenKind::Exception)
+        Some(Symbol::Exception)
     } else if is_word(word, b"procedure") {
-        Some(TokenKind::Procedure)
+        Some(Symbol::Procedure)
     } else if is_word(word, b"terminate") {
-        Some(TokenKind::Terminate)
+        Some(Symbol::Terminate)
     } else {
         None
     }
 }
 
 /// The delimiter that the whole of `mark` is.
-#[tactic(auto, unfolding(crate::specs::Words::delimiter_kind))]
-pub fn delimiter(mark: &[u8]) -> Option<TokenKind>
-    ensures { result ≡ delimiter_kind mark.now }
+#[tactic(auto, unfolding(crate::specs::Words::delimiter_symbol))]
+pub fn delimiter(mark: &[u8]) -> Option<Symbol>
+    ensures { result ≡ delimiter_symbol mark.now }
 {
     match mark {
         [b] => simple_delimiter(*b),
@@ -259,42 +259,42 @@ pub fn delimiter(mark: &[u8]) -> Option<TokenKind>
 
 /// The delimiter that the byte alone is.
 #[tactic(auto, unfolding(crate::specs::Words::simple_delimiters))]
-pub fn simple_delimiter(b: u8) -> Option<TokenKind>
-    ensures { result ≡ kind_in simple_delimiters (b ∷ []) }
+pub fn simple_delimiter(b: u8) -> Option<Symbol>
+    ensures { result ≡ symbol_in simple_delimiters (b ∷ []) }
 {
     match b {
-        b';' => Some(TokenKind::Semicolon),
-        b',' => Some(TokenKind::Comma),
-        b'(' => Some(TokenKind::LeftParen),
-        b')' => Some(TokenKind::RightParen),
-        b':' => Some(TokenKind::Colon),
-        b'.' => Some(TokenKind::Dot),
-        b'|' => Some(TokenKind::Bar),
-        b'&' => Some(TokenKind::Ampersand),
-        b'\'' => Some(TokenKind::Tick),
-        b'=' => Some(TokenKind::Equal),
-        b'<' => Some(TokenKind::Less),
-        b'>' => Some(TokenKind::Greater),
-        b'+' => Some(TokenKind::Plus),
-        b'-' => Some(TokenKind::Minus),
-        b'*' => Some(TokenKind::Star),
-        b'/' => Some(TokenKind::Slash),
+        b';' => Some(Symbol::Semicolon),
+        b',' => Some(Symbol::Comma),
+        b'(' => Some(Symbol::LeftParen),
+        b')' => Some(Symbol::RightParen),
+        b':' => Some(Symbol::Colon),
+        b'.' => Some(Symbol::Dot),
+        b'|' => Some(Symbol::Bar),
+        b'&' => Some(Symbol::Ampersand),
+        b'\'' => Some(Symbol::Tick),
+        b'=' => Some(Symbol::Equal),
+        b'<' => Some(Symbol::Less),
+        b'>' => Some(Symbol::Greater),
+        b'+' => Some(Symbol::Plus),
+        b'-' => Some(Symbol::Minus),
+        b'*' => Some(Symbol::Star),
+        b'/' => Some(Symbol::Slash),
         _ => None,
     }
 }
 
 /// The delimiter that the two bytes are together.
 #[tactic(auto, unfolding(crate::specs::Words::compound_delimiters))]
-pub fn compound_delimiter(b: u8, c: u8) -> Option<TokenKind>
-    ensures { result ≡ kind_in compound_delimiters (b ∷ c ∷ []) }
+pub fn compound_delimiter(b: u8, c: u8) -> Option<Symbol>
+    ensures { result ≡ symbol_in compound_delimiters (b ∷ c ∷ []) }
 {
     match (b, c) {
-        (b':', b'=') => Some(TokenKind::Becomes),
-        (b'=', b'>') => Some(TokenKind::Arrow),
-        (b'.', b'.') => Some(TokenKind::DotDot),
-        (b'/', b'=') => Some(TokenKind::NotEqual),
-        (b'<', b'=') => Some(TokenKind::LessEqual),
-        (b'>', b'=') => Some(TokenKind::GreaterEqual),
+        (b':', b'=') => Some(Symbol::Becomes),
+        (b'=', b'>') => Some(Symbol::Arrow),
+        (b'.', b'.') => Some(Symbol::DotDot),
+        (b'/', b'=') => Some(Symbol::NotEqual),
+        (b'<', b'=') => Some(Symbol::LessEqual),
+        (b'>', b'=') => Some(Symbol::GreaterEqual),
         _ => None,
     }
 }

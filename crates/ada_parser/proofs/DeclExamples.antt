@@ -9,7 +9,7 @@ use Rattle.ada_tree.specs.declared.statements.ParMode.TheVariants.{Take}
 use Rattle.ada_tree.specs.PlainExpr.{EInteger, EParen, EBinary, RGiven, RMarked}
 use Rattle.ada_tree.specs.PlainStmt.{PFormal, SNull, no_stmt, stmt_then, body, no_handler}
 use Rattle.ada_tree.specs.PlainDecl.{IOne, IList, IOthers, OPlain, DNumber, DObject, DIntIo, DTask, DTaskBody, no_decl}
-use Rattle.ada_expr_parser.specs.declared.symbols.Symbol.TheVariants as key
+use Rattle.ada_lexer.specs.declared.symbols.Symbol.TheVariants as key
 use Rattle.ada_expr_parser.specs.declared.items.ItemKind.TheVariants as item
 use Rattle.ada_expr_parser.specs.declared.items.Item.{Item}
 use Rattle.ada_expr_parser.specs.Tests.{same}

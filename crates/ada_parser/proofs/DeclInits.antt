@@ -15,7 +15,7 @@ use Rattle.ada_tree.specs.PlainExpr.{PExpr, EInteger, EName, EIndex, EAttribute,
 use Rattle.ada_tree.specs.PlainDecl.{PShape, OPlain, ORow, PInit, IOne, IList, IOthers}
 use Rattle.ada_tree.specs.declared.expressions.UnaryOp.{UnaryOp}
 use Rattle.ada_tree.specs.declared.expressions.UnaryOp.TheVariants as unary
-use Rattle.ada_expr_parser.specs.declared.symbols.Symbol.TheVariants as key
+use Rattle.ada_lexer.specs.declared.symbols.Symbol.TheVariants as key
 use Rattle.ada_expr_parser.specs.declared.items.ItemKind.TheVariants as item
 use Rattle.ada_expr_parser.specs.declared.items.Item.{Item}
 use Rattle.ada_expr_parser.specs.declared.levels.Level.TheVariants.{Logical}

@@ -9,113 +9,25 @@ use Rattle.ada_lexer.specs.declared.kinds.TokenKind.TheVariants as kinds
 use Rattle.ada_lexer.proofs.Unique.{splits-unique}
 use Rattle.ada_tree.specs.NameList.{predefined, interned}
 use Rattle.ada_tree.proofs.Interning.{AreNames-predefined}
-use Rattle.ada_expr_parser.specs.declared.symbols.Symbol.{Symbol}
-use Rattle.ada_expr_parser.specs.declared.symbols.Symbol.TheVariants as key
+use Rattle.ada_lexer.specs.declared.symbols.Symbol.{Symbol}
+use Rattle.ada_lexer.specs.declared.symbols.Symbol.TheVariants as key
 use Rattle.ada_expr_parser.specs.declared.items.ItemKind.{ItemKind}
 use Rattle.ada_expr_parser.specs.declared.items.ItemKind.TheVariants as item
 use Rattle.ada_expr_parser.specs.declared.items.Item.{Item}
-use Rattle.ada_expr_parser.specs.Items.{kind_of, Stands, name_text, Says, IsItemOf, end_of, AreItems, interned_if, with_token, names_after}
+use Rattle.ada_expr_parser.specs.Items.{Stands, name_text, Says, IsItemOf, end_of, AreItems, interned_if, with_token, names_after}
 use Rattle.ada_phrase_parser.specs.Spelling.{Source}
 use Rattle.ada_parser.specs.Reads.{HasItems}
 
 -- what a token that is no name says
 abbrev said : TokenKind → ItemKind
-said kinds.Abort = item.Symbol key.Abort
-said kinds.Abs = item.Symbol key.Abs
-said kinds.Accept = item.Symbol key.Accept
-said kinds.Access = item.Symbol key.Access
-said kinds.All = item.Symbol key.All
-said kinds.And = item.Symbol key.And
-said kinds.Array = item.Symbol key.Array
-said kinds.At = item.Symbol key.At
-said kinds.Begin = item.Symbol key.Begin
-said kinds.Body = item.Symbol key.Body
-said kinds.Case = item.Symbol key.Case
-said kinds.Constant = item.Symbol key.Constant
-said kinds.Declare = item.Symbol key.Declare
-said kinds.Delay = item.Symbol key.Delay
-said kinds.Delta = item.Symbol key.Delta
-said kinds.Digits = item.Symbol key.Digits
-said kinds.Do = item.Symbol key.Do
-said kinds.Else = item.Symbol key.Else
-said kinds.Elsif = item.Symbol key.Elsif
-said kinds.End = item.Symbol key.End
-said kinds.Entry = item.Symbol key.Entry
-said kinds.Exception = item.Symbol key.Exception
-said kinds.Exit = item.Symbol key.Exit
-said kinds.For = item.Symbol key.For
-said kinds.Function = item.Symbol key.Function
-said kinds.Generic = item.Symbol key.Generic
-said kinds.Goto = item.Symbol key.Goto
-said kinds.If = item.Symbol key.If
-said kinds.In = item.Symbol key.In
-said kinds.Is = item.Symbol key.Is
-said kinds.Limited = item.Symbol key.Limited
-said kinds.Loop = item.Symbol key.Loop
-said kinds.Mod = item.Symbol key.Mod
-said kinds.New = item.Symbol key.New
-said kinds.Not = item.Symbol key.Not
-said kinds.Null = item.Symbol key.Null
-said kinds.Of = item.Symbol key.Of
-said kinds.Or = item.Symbol key.Or
-said kinds.Others = item.Symbol key.Others
-said kinds.Out = item.Symbol key.Out
-said kinds.Package = item.Symbol key.Package
-said kinds.Pragma = item.Symbol key.Pragma
-said kinds.Private = item.Symbol key.Private
-said kinds.Procedure = item.Symbol key.Procedure
-said kinds.Raise = item.Symbol key.Raise
-said kinds.Range = item.Symbol key.Range
-said kinds.Record = item.Symbol key.Record
-said kinds.Rem = item.Symbol key.Rem
-said kinds.Renames = item.Symbol key.Renames
-said kinds.Return = item.Symbol key.Return
-said kinds.Reverse = item.Symbol key.Reverse
-said kinds.Select = item.Symbol key.Select
-said kinds.Separate = item.Symbol key.Separate
-said kinds.Subtype = item.Symbol key.Subtype
-said kinds.Task = item.Symbol key.Task
-said kinds.Terminate = item.Symbol key.Terminate
-said kinds.Then = item.Symbol key.Then
-said kinds.Type = item.Symbol key.Type
-said kinds.Use = item.Symbol key.Use
-said kinds.When = item.Symbol key.When
-said kinds.While = item.Symbol key.While
-said kinds.With = item.Symbol key.With
-said kinds.Xor = item.Symbol key.Xor
-said kinds.Semicolon = item.Symbol key.Semicolon
-said kinds.Comma = item.Symbol key.Comma
-said kinds.LeftParen = item.Symbol key.LeftParen
-said kinds.RightParen = item.Symbol key.RightParen
-said kinds.Colon = item.Symbol key.Colon
-said kinds.Becomes = item.Symbol key.Becomes
-said kinds.Arrow = item.Symbol key.Arrow
-said kinds.Dot = item.Symbol key.Dot
-said kinds.DotDot = item.Symbol key.DotDot
-said kinds.Bar = item.Symbol key.Bar
-said kinds.Ampersand = item.Symbol key.Ampersand
-said kinds.Tick = item.Symbol key.Tick
-said kinds.Equal = item.Symbol key.Equal
-said kinds.NotEqual = item.Symbol key.NotEqual
-said kinds.Less = item.Symbol key.Less
-said kinds.LessEqual = item.Symbol key.LessEqual
-said kinds.Greater = item.Symbol key.Greater
-said kinds.GreaterEqual = item.Symbol key.GreaterEqual
-said kinds.Plus = item.Symbol key.Plus
-said kinds.Minus = item.Symbol key.Minus
-said kinds.Star = item.Symbol key.Star
-said kinds.Slash = item.Symbol key.Slash
+said (kinds.Symbol s) = item.Symbol s
 said (kinds.Integer n) = item.Integer n
 said (kinds.Duration n) = item.Duration n
 said kinds.Text = item.Text
 said kinds.Name = item.End
 
-said_symbol : (s : Symbol) → said (kind_of s) ≡ item.Symbol s
-said_symbol key.Abort = refl
-said_symbol _ = refl
-
 stands_said : (kind : TokenKind) (x : ItemKind) → Stands kind x → said kind ≡ x
-stands_said kind (item.Symbol s) is = ap said is ∙ said_symbol s
+stands_said kind (item.Symbol s) is = ap said is
 stands_said kind (item.Integer n) is = ap said is
 stands_said kind (item.Duration n) is = ap said is
 stands_said kind item.Text is = ap said is
@@ -123,11 +35,8 @@ stands_said kind (item.Name id) is = absurd is
 stands_said kind item.End is = absurd is
 
 -- no token that is a name stands for itself
-no_symbol : (s : Symbol) → kinds.Name ≡ kind_of s → ⊥
-no_symbol s is = (let same : item.End ≡ item.Symbol s = ap said is ∙ said_symbol s in cc)
-
 no_name : (kind : TokenKind) (x : ItemKind) → kind ≡ kinds.Name → Stands kind x → ⊥
-no_name kind (item.Symbol s) named is = no_symbol s (sym named ∙ is)
+no_name kind (item.Symbol s) named is = (let same : kinds.Name ≡ kinds.Symbol s = sym named ∙ is in cc)
 no_name kind (item.Integer n) named is = (let same : kinds.Name ≡ kinds.Integer n = sym named ∙ is in cc)
 no_name kind (item.Duration n) named is = (let same : kinds.Name ≡ kinds.Duration n = sym named ∙ is in cc)
 no_name kind item.Text named is = (let same : kinds.Name ≡ kinds.Text = sym named ∙ is in cc)

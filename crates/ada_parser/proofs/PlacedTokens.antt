@@ -14,7 +14,8 @@ use Rattle.ada_lexer.specs.declared.verdicts.Verdict.{Verdict}
 use Rattle.ada_lexer.specs.declared.verdicts.Verdict.TheVariants.{Gap, Kind, Fault}
 use Rattle.ada_lexer.specs.declared.errors.LexError.TheVariants as fault
 use Rattle.ada_lexer.specs.Bytes as lex
-use Rattle.ada_lexer.specs.Words.{kind_in, same_text, two_letters, three_letters, four_letters, five_letters, six_letters, seven_letters, eight_letters, nine_letters, reserved_words, reserved_kind, simple_delimiters, compound_delimiters, delimiter_kind}
+use Rattle.ada_lexer.specs.declared.symbols.Symbol.{Symbol}
+use Rattle.ada_lexer.specs.Words.{symbol_in, two_letters, three_letters, four_letters, five_letters, six_letters, seven_letters, eight_letters, nine_letters, reserved_words, reserved_symbol, delimiter_symbol}
 use Rattle.ada_lexer.specs.Numbers.{max_integer, max_thousandths, is_numeral, decimal_from, integer_value, decimals_value, thousandths_of, duration_value, is_point, kind_by_point, number_kind}
 use Rattle.ada_lexer.specs.Strings.{inside_after, ends_inside, content}
 use Rattle.ada_lexer.specs.Pieces.{word_goes_on, opens_comment, is_piece}
@@ -31,44 +32,13 @@ Holds text _ = Unit {0}
 
 -- ---- reserved words and delimiters, of which nothing is asked
 
-abbrev is_plain : TokenKind → Bool
-is_plain kinds.Name = false
-is_plain (kinds.Integer n) = false
-is_plain (kinds.Duration n) = false
-is_plain kinds.Text = false
-is_plain _ = true
+symbol_holds : (text : List ℕ) (o : Option Symbol) (k : TokenKind) → option_map kinds.Symbol o ≡ Some k → Holds text k
+symbol_holds text None k is = absurd (let none : ⊥ = cc in none)
+symbol_holds text (Some s) k is = (let same : kinds.Symbol s ≡ k = cc in subst (Holds text) same tt)
 
-plain_holds : (text : List ℕ) (k : TokenKind) → is_plain k ≡ true → Holds text k
-plain_holds text kinds.Name plain = absurd (true≢false (sym plain))
-plain_holds text (kinds.Integer n) plain = absurd (true≢false (sym plain))
-plain_holds text (kinds.Duration n) plain = absurd (true≢false (sym plain))
-plain_holds text kinds.Text plain = absurd (true≢false (sym plain))
-plain_holds text _ plain = tt
-
-abbrev are_plain : List (List ℕ × TokenKind) → Bool
-are_plain [] = true
-are_plain (entry ∷ table) = is_plain entry.1 && are_plain table
-
-in_table : (table : List (List ℕ × TokenKind)) (text : List ℕ) (k : TokenKind) → are_plain table ≡ true → kind_in table text ≡ Some k → is_plain k ≡ true
-in_table [] text k plain found = cc
-in_table (entry ∷ table) text k plain found =
-    let parts = and_parts (is_plain entry.1) (are_plain table) plain in
-    pick (same_text text entry.0) (kind_in table text) parts.0 (in_table table text k parts.1) found
-  where
-    pick : (b : Bool) (o : Option TokenKind) → is_plain entry.1 ≡ true → (o ≡ Some k → is_plain k ≡ true) → cond b (Some entry.1) o ≡ Some k → is_plain k ≡ true
-    pick true o one other e = (let same : entry.1 ≡ k = cc in sym (ap is_plain same) ∙ one)
-    pick false o one other e = other e
-
-reserved_plain : (text : List ℕ) (k : TokenKind) → reserved_kind text ≡ Some k → is_plain k ≡ true
-unfolding reserved_kind reserved_words two_letters three_letters four_letters five_letters six_letters seven_letters eight_letters nine_letters
-reserved_plain text k is = in_table reserved_words (map lex.lower text) k refl is
-
-delimiter_plain : (text : List ℕ) (k : TokenKind) → delimiter_kind text ≡ Some k → is_plain k ≡ true
-unfolding delimiter_kind simple_delimiters compound_delimiters
-delimiter_plain [] k is = cc
-delimiter_plain (b ∷ []) k is = in_table simple_delimiters (b ∷ []) k refl is
-delimiter_plain (b ∷ c ∷ []) k is = in_table compound_delimiters (b ∷ c ∷ []) k refl is
-delimiter_plain (b ∷ c ∷ d ∷ rest) k is = cc
+nothing : (o : Option Symbol) → option_map kinds.Symbol o ≡ None → o ≡ None
+nothing None e = refl
+nothing (Some s) e = cc
 
 -- ---- numbers
 
@@ -114,9 +84,9 @@ mark_holds : (text : List ℕ) (k : TokenKind) → mark_verdict 0 text ≡ Kind 
 unfolding mark_verdict
 mark_holds text k e = pick (opens_comment text) e
   where
-    pick : (b : Bool) → cond b Gap (token_or (Fault (fault.BadByte 0)) (delimiter_kind text)) ≡ Kind k → Holds text k
+    pick : (b : Bool) → cond b Gap (token_or (Fault (fault.BadByte 0)) (option_map kinds.Symbol (delimiter_symbol text))) ≡ Kind k → Holds text k
     pick true e = absurd (let none : ⊥ = cc in none)
-    pick false e = found (Fault (fault.BadByte 0)) (delimiter_kind text) k (Holds text k) e (λ f n. absurd (let none : ⊥ = cc in none)) (λ is. plain_holds text k (delimiter_plain text k is))
+    pick false e = found (Fault (fault.BadByte 0)) (option_map kinds.Symbol (delimiter_symbol text)) k (Holds text k) e (λ f n. absurd (let none : ⊥ = cc in none)) (symbol_holds text (delimiter_symbol text) k)
 
 -- ---- strings
 
@@ -203,7 +173,7 @@ lower_uppers [] = refl
 lower_uppers (b ∷ text) = ap₂ (λ c rest. c ∷ rest) (lower_upper b) (lower_uppers text)
 
 abbrev is_reserved : List ℕ → Bool
-is_reserved text = is_some (kind_in reserved_words (map lex.lower text))
+is_reserved text = is_some (symbol_in reserved_words (map lex.lower text))
 
 all_reserved : list_all is_reserved reserved ≡ true
 unfolding reserved_words two_letters three_letters four_letters five_letters six_letters seven_letters eight_letters nine_letters
@@ -215,30 +185,30 @@ among test t (u ∷ list) all any =
     let (one, more) = and_parts (test u) (list_all test list) all in
     elim (or_cases (bytes_eq t u) (list_any (bytes_eq t) list) any) [ inl same ↦ ap test ((bytes_eq-Decides t u).0 same) ∙ one | inr other ↦ among test t list more other ]
 
-no_reserved : (text : List ℕ) → reserved_kind text ≡ None → not (list_any (bytes_eq (map to_ascii_uppercase text)) reserved) ≡ true
-unfolding reserved_kind
+no_reserved : (text : List ℕ) → reserved_symbol text ≡ None → not (list_any (bytes_eq (map to_ascii_uppercase text)) reserved) ≡ true
+unfolding reserved_symbol
 no_reserved text none = by (list_any (bytes_eq (map to_ascii_uppercase text)) reserved) refl
   where
     by : (b : Bool) → list_any (bytes_eq (map to_ascii_uppercase text)) reserved ≡ b → not b ≡ true
     by false e = refl
     by true e = absurd (true≢false (
-        sym (among is_reserved (map to_ascii_uppercase text) reserved all_reserved e) ∙ ap (λ t. is_some (kind_in reserved_words t)) (lower_uppers text) ∙
-        ap (λ (o : Option TokenKind). is_some o) none
+        sym (among is_reserved (map to_ascii_uppercase text) reserved all_reserved e) ∙ ap (λ t. is_some (symbol_in reserved_words t)) (lower_uppers text) ∙
+        ap (λ (o : Option Symbol). is_some o) none
         ))
 
 word_holds : (b : ℕ) (rest : List ℕ) (k : TokenKind) → lex.is_letter b ≡ true → lex.every word_goes_on rest ≡ true → word_verdict 0 (b ∷ rest) ≡ Kind k → Holds (b ∷ rest) k
 unfolding word_verdict
 word_holds b rest k letter goes e =
-    found (cond (nat_le (length (b ∷ rest)) max_name) (Kind kinds.Name) (Fault (fault.TooLong 0))) (reserved_kind (b ∷ rest)) k (Holds (b ∷ rest) k) e
+    found (cond (nat_le (length (b ∷ rest)) max_name) (Kind kinds.Name) (Fault (fault.TooLong 0))) (option_map kinds.Symbol (reserved_symbol (b ∷ rest))) k (Holds (b ∷ rest) k) e
     (λ named none. (
     let (short, is) = pick (nat_le (length (b ∷ rest)) max_name) named in
     subst (Holds (b ∷ rest)) is (
       and_from _ _ (upper_letter b letter) (goes_on_upper rest goes).0,
       (let low = leb-true (length (b ∷ rest)) max_name short in let same = length-map (b ∷ rest) to_ascii_uppercase in omega (arith, low, same)),
-      no_reserved (b ∷ rest) none,
+      no_reserved (b ∷ rest) (nothing (reserved_symbol (b ∷ rest)) none),
     )
     ))
-    (λ is. plain_holds (b ∷ rest) k (reserved_plain (b ∷ rest) k is))
+    (symbol_holds (b ∷ rest) (reserved_symbol (b ∷ rest)) k)
   where
     pick : (c : Bool) → cond c (Kind kinds.Name) (Fault (fault.TooLong 0)) ≡ Kind k → (c ≡ true) × (kinds.Name ≡ k)
     pick true e = (refl, (let same : kinds.Name ≡ k = cc in same))

@@ -3,8 +3,8 @@ use Rattle.std.proofs.Common.{◌≡◌, ℕ, zero, suc, false, inl, inr, List, 
 use Rattle.ada_tree.specs.declared.naming.Span.{Span}
 use Rattle.ada_tree.specs.PlainExpr.{PExpr}
 use Rattle.ada_tree.specs.PlainStmt.{PHead, PStmts, no_stmt, absent, present, PAccept, accepting, PAlt, alternative, PAltKind, AAccept, ADelay, ATerminate}
-use Rattle.ada_expr_parser.specs.declared.symbols.Symbol.{Symbol}
-use Rattle.ada_expr_parser.specs.declared.symbols.Symbol.TheVariants as key
+use Rattle.ada_lexer.specs.declared.symbols.Symbol.{Symbol}
+use Rattle.ada_lexer.specs.declared.symbols.Symbol.TheVariants as key
 use Rattle.ada_expr_parser.specs.declared.items.Item.{Item}
 use Rattle.ada_expr_parser.specs.declared.levels.Level.TheVariants.{Logical}
 use Rattle.ada_expr_parser.specs.Tests.{same, symbol}

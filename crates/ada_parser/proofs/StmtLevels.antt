@@ -5,8 +5,8 @@ use Rattle.ada_tree.specs.declared.naming.Word.{Word}
 use Rattle.ada_tree.specs.PlainExpr.{PExpr, EInteger}
 use Rattle.ada_tree.specs.PlainStmt.{PStmt, SNull, PStmts, no_stmt, stmt_then, PMaybe, absent, present, PAccept, PAlt, PHandlers, no_handler, handler_then, row_of}
 use Rattle.ada_tree.specs.WellPlaced.{OthersLast}
-use Rattle.ada_expr_parser.specs.declared.symbols.Symbol.{Symbol}
-use Rattle.ada_expr_parser.specs.declared.symbols.Symbol.TheVariants as key
+use Rattle.ada_lexer.specs.declared.symbols.Symbol.{Symbol}
+use Rattle.ada_lexer.specs.declared.symbols.Symbol.TheVariants as key
 use Rattle.ada_expr_parser.specs.declared.items.Item.{Item}
 use Rattle.ada_expr_parser.specs.Tests.{same, symbol}
 use Rattle.ada_expr_parser.specs.Grammar.{symbol_item, word_item, number_item}

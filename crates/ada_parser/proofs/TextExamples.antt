@@ -6,7 +6,7 @@ use Rattle.ada_tree.specs.declared.naming.Word.{Word}
 use Rattle.ada_tree.specs.PlainExpr.{PExpr, EInteger}
 use Rattle.ada_tree.specs.PlainStmt.{PStmt, SNull, SAssign, SLoop, SWait, no_stmt, stmt_then, absent, alternative, ATerminate, alt_then, no_alt, body, no_handler}
 use Rattle.ada_tree.specs.PlainDecl.{PDecl, PEntry, DException, DTaskBody, OPlain, no_decl, decl_then}
-use Rattle.ada_expr_parser.specs.declared.symbols.Symbol.TheVariants as key
+use Rattle.ada_lexer.specs.declared.symbols.Symbol.TheVariants as key
 use Rattle.ada_expr_parser.specs.declared.items.ItemKind.TheVariants as item
 use Rattle.ada_expr_parser.specs.declared.items.Item.{Item}
 use Rattle.ada_expr_parser.specs.Grammar.{symbol_item, word_item}

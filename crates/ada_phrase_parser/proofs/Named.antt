@@ -5,7 +5,7 @@ use Rattle.lawful_reader.specs.Readers.{Answer, Found, Fault, Reader, pure, refu
 use Rattle.ada_tree.specs.declared.naming.Span.{Span}
 use Rattle.ada_tree.specs.declared.naming.Word.{Word}
 use Rattle.ada_tree.specs.PlainExpr.{PExpr}
-use Rattle.ada_expr_parser.specs.declared.symbols.Symbol.TheVariants as key
+use Rattle.ada_lexer.specs.declared.symbols.Symbol.TheVariants as key
 use Rattle.ada_expr_parser.specs.declared.items.ItemKind.{ItemKind}
 use Rattle.ada_expr_parser.specs.declared.items.ItemKind.TheVariants as item
 use Rattle.ada_expr_parser.specs.declared.items.Item.{Item}

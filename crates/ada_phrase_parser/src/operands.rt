@@ -3,7 +3,7 @@
 ghost use Rattle.std.specs.Prelude.{◌≡◌, ◌<◌, ◌≤◌, ◌-◌, ◌||◌, IfOk, length};
 ghost use Rattle.lawful_reader.specs.Readers.{bind, token};
 ghost use Rattle.ada_tree.specs.PlainExpr.{plain_expr};
-ghost use Rattle.ada_expr_parser.specs.declared.symbols.Symbol.TheVariants as key;
+ghost use Rattle.ada_lexer.specs.declared.symbols.Symbol.TheVariants as key;
 ghost use Rattle.ada_expr_parser.specs.declared.items.ItemKind.TheVariants as item;
 ghost use Rattle.ada_expr_parser.specs.Tests as tests;
 ghost use Rattle.ada_expr_parser.specs.Gives.{Gives};

@@ -6,7 +6,7 @@ use Rattle.ada_tree.specs.declared.naming.Span.{Span}
 use Rattle.ada_tree.specs.declared.naming.Word.{Word}
 use Rattle.ada_tree.specs.PlainExpr.{PExpr, EName}
 use Rattle.ada_tree.specs.PlainStmt.{PTarget, PPart, PValue, PStmt, SAssign, SExit, SCall, SPut, SPutLine, SNewLine, SGet}
-use Rattle.ada_expr_parser.specs.declared.symbols.Symbol.TheVariants as key
+use Rattle.ada_lexer.specs.declared.symbols.Symbol.TheVariants as key
 use Rattle.ada_expr_parser.specs.declared.items.Item.{Item}
 use Rattle.ada_expr_parser.specs.Tests.{symbol, word}
 use Rattle.ada_expr_parser.specs.Trees.{levels, from_to, indexed}

@@ -3,7 +3,7 @@
 ghost use Rattle.std.specs.Prelude.{◌≡◌, ◌<◌, ◌≤◌, ◌∷◌, [], Some, None, IfOk, map, option_map, length};
 ghost use Rattle.lawful_reader.specs.Readers.{on, bind, pure, fronted};
 ghost use Rattle.ada_tree.specs.PlainStmt.{plain_stmt, SNull, SDelay, SRaise, SAbort};
-ghost use Rattle.ada_expr_parser.specs.declared.symbols.Symbol.TheVariants as key;
+ghost use Rattle.ada_lexer.specs.declared.symbols.Symbol.TheVariants as key;
 ghost use Rattle.ada_expr_parser.specs.Tests as tests;
 ghost use Rattle.ada_expr_parser.specs.Trees.{from_to};
 ghost use Rattle.ada_expr_parser.specs.Parts as parts;

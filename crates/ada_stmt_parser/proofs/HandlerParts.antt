@@ -8,7 +8,7 @@ use Rattle.ada_tree.specs.declared.statements.Handler.{Handler}
 use Rattle.ada_tree.specs.declared.statements.Body.{out-Body, roll-Body, the_lemmas}
 use Rattle.ada_tree.specs.PlainStmt.{PStmts, PHandlers, PBody, body, no_handler, row_of, handlers_of, plain_stmt, plain_handler, plain_body, seen}
 use Rattle.ada_tree.proofs.Rows.{plain_body-out}
-use Rattle.ada_expr_parser.specs.declared.symbols.Symbol.TheVariants as key
+use Rattle.ada_lexer.specs.declared.symbols.Symbol.TheVariants as key
 use Rattle.ada_expr_parser.specs.declared.items.Item.{Item}
 use Rattle.ada_expr_parser.specs.Tests.{symbol}
 use Rattle.ada_expr_parser.proofs.Chains.{front_and_rest}

@@ -5,7 +5,7 @@ use Rattle.ada_tree.specs.declared.naming.Span.{Span}
 use Rattle.ada_tree.specs.declared.naming.Word.{Word}
 use Rattle.ada_tree.specs.PlainExpr.{PExpr}
 use Rattle.ada_tree.specs.PlainStmt.{PCall, PScheme, LWhile, LFor, PStmt, SNull, SDelay, SRaise, SAbort, SAccept, SWait, SConditional, STimed, SIf, SCase, SBlock, SLoop, PStmts, PMaybe, absent, present, PAccept, accepting, PAlt, alternative, AAccept, ADelay, ATerminate, alts_of, PArm, arm, arms_of, PCaseArm, case_arm, case_arms_of, PBody, body, PHandler, handler, PHandlers, no_handler, handlers_of, row_of}
-use Rattle.ada_expr_parser.specs.declared.symbols.Symbol.TheVariants as key
+use Rattle.ada_lexer.specs.declared.symbols.Symbol.TheVariants as key
 use Rattle.ada_expr_parser.specs.declared.items.Item.{Item}
 use Rattle.ada_expr_parser.specs.Tests.{symbol, word}
 use Rattle.ada_expr_parser.specs.Trees.{from_to}

@@ -2,7 +2,7 @@
 use Rattle.std.specs.Prelude.{ℕ, codes}
 use Rattle.ada_tree.specs.PlainStmt.{PTarget, PCallee, PCall, PStmt, SNull, SAssign, SDelay, SExit, SRaise, SAbort, SCall, SAccept, SWait, SConditional, STimed, SPut, SPutLine, SNewLine, SGet, SIf, SCase, SBlock, SLoop, PStmts, no_stmt, stmt_then, PMaybe, absent, present, PAccept, accepting, PAlt, alternative, PAltKind, AAccept, ADelay, ATerminate, PAlts, no_alt, alt_then, PArm, arm, PArms, no_arm, arm_then, PCaseArm, case_arm, PCaseArms, no_case_arm, case_arm_then, PBody, body, PHandler, handler, PHandlers, no_handler, handler_then}
 use Rattle.ada_tree.specs.WellPlaced.{OthersLast}
-use Rattle.ada_expr_parser.specs.declared.symbols.Symbol.TheVariants as key
+use Rattle.ada_lexer.specs.declared.symbols.Symbol.TheVariants as key
 use Rattle.ada_expr_parser.specs.Grammar.{IsTarget, IsCallee, IsCall}
 use Rattle.ada_phrase_parser.specs.Spelling.{Source, Spelling, Nothing, Never, ◌▷◌, IfThere, Where, Key, Named, Predefined, Separated, Inside, Placed}
 use Rattle.ada_phrase_parser.specs.Phrases.{EndOf, Operand, Expression, AcceptHead, Guard, PutText, WhenChoices, WhenOthers, WhenRaised, IsScheme, LoopName, LoopNameAgain, DelayOf}

@@ -2,7 +2,7 @@
 use Rattle.std.specs.Prelude.{ℕ, Some, None, map}
 use Rattle.lawful_reader.specs.Readers.{Reader, pure, refuse, bind, on, below}
 use Rattle.ada_tree.specs.PlainStmt.{PStmt, SNull, SDelay, SRaise, SAbort, SAccept}
-use Rattle.ada_expr_parser.specs.declared.symbols.Symbol.TheVariants as key
+use Rattle.ada_lexer.specs.declared.symbols.Symbol.TheVariants as key
 use Rattle.ada_expr_parser.specs.declared.items.Item.{Item}
 use Rattle.ada_expr_parser.specs.Tests.{symbol, word}
 use Rattle.ada_expr_parser.specs.Trees.{from_to}

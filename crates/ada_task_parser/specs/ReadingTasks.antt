@@ -5,7 +5,7 @@ use Rattle.ada_tree.specs.declared.naming.Span.{Span}
 use Rattle.ada_tree.specs.declared.naming.Word.{Word}
 use Rattle.ada_tree.specs.PlainExpr.{PExpr, PDrange}
 use Rattle.ada_tree.specs.PlainDecl.{PEntry, PTask, PDecl, DTask}
-use Rattle.ada_expr_parser.specs.declared.symbols.Symbol.TheVariants as key
+use Rattle.ada_lexer.specs.declared.symbols.Symbol.TheVariants as key
 use Rattle.ada_expr_parser.specs.declared.items.Item.{Item}
 use Rattle.ada_expr_parser.specs.Grammar.{word_item}
 use Rattle.ada_expr_parser.specs.Tests.{symbol, word}

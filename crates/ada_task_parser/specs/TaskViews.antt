@@ -6,7 +6,7 @@ use Rattle.ada_tree.specs.declared.statements.Formal.{Formal}
 use Rattle.ada_tree.specs.declared.declarations.Drange.{Drange}
 use Rattle.ada_tree.specs.PlainExpr.{PExpr, PDrange, plain_drange}
 use Rattle.ada_tree.specs.PlainStmt.{plain_formal}
-use Rattle.ada_expr_parser.specs.declared.symbols.Symbol.TheVariants as key
+use Rattle.ada_lexer.specs.declared.symbols.Symbol.TheVariants as key
 use Rattle.ada_expr_parser.specs.declared.items.Item.{Item}
 use Rattle.ada_expr_parser.specs.Parts.{expression}
 use Rattle.ada_phrase_parser.specs.Reading.{Behind, key_then, closed, with_id}

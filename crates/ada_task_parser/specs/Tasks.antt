@@ -3,7 +3,7 @@ use Rattle.std.specs.Prelude.{◌≡◌, ℕ, ◌+◌, Bool, true, false, List, 
 use Rattle.ada_tree.specs.declared.naming.Word.{Word}
 use Rattle.ada_tree.specs.PlainExpr.{PExpr}
 use Rattle.ada_tree.specs.PlainDecl.{PEntry, PPriority, PTask}
-use Rattle.ada_expr_parser.specs.declared.symbols.Symbol.TheVariants as key
+use Rattle.ada_lexer.specs.declared.symbols.Symbol.TheVariants as key
 use Rattle.ada_phrase_parser.specs.Spelling.{Source, Spelling, ◌▷◌, Either, IfThere, Key, Named, PriorityWord, Row, Placed}
 use Rattle.ada_phrase_parser.specs.Phrases.{EndOf, Expression, Drange, Formals}
 

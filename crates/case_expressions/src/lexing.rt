@@ -1,7 +1,7 @@
 //! The tokens of a text, and places in it.
 
 use crate::pieces::{place_of, tokens_of};
-use ada_lexer::{LexError, Token};
+use ada_lexer::{LexError, Token, TokenKind};
 use ada_tree::Memory;
 use case_form::Row;
 use std::alloc::Global;
@@ -52,7 +52,10 @@ fn put_tokens(found: &[Token], has_places: bool, out: &mut String) -> Result<(),
 
 fn put_token(token: Token, has_places: bool, out: &mut String) -> Result<(), Memory> {
     let Token { kind, start, end } = token;
-    write!(out, "{kind:?}")?;
+    match kind {
+        TokenKind::Symbol(symbol) => write!(out, "{symbol:?}")?,
+        other => write!(out, "{other:?}")?,
+    }
     if has_places {
         write!(out, " {start}-{end}")?;
     }

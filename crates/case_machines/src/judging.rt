@@ -3,17 +3,16 @@
 ghost use Rattle.std.specs.Prelude.{◌≡◌, ◌<◌, ◌-◌, ◌^◌, length};
 ghost use Rattle.ada_tree.specs.PlainProgram.{plain_program};
 ghost use Rattle.feasible.specs.Keeping.{NothingFollows};
-ghost use Rattle.syn_event.specs.Legal.{Legal};
 ghost use Rattle.syn_event.specs.LegalProgram.{IsLegal};
 
 use crate::running::no_inputs;
 use ada_tree::Memory;
 use case_form::{Row, put_comma};
 use case_rules::{Known, put_fault, sequence_of};
-use debug_form::first_beyond;
 use feasible::{Cause, Judge, Verdict, judge_all};
 use std::alloc::Global;
 use syn_event::{Event, Mode};
+use task_links::Links;
 
 // The bytes of a sequence of the program: its header, and the row's events with a semicolon between as its lines.
 fn lines_of(alloc: Global, known: &Known, written: &str) -> Result<String, Memory> {
@@ -41,7 +40,7 @@ pub enum Judging {
 }
 
 /// `judge_all` and `judge`: the verdict on the row's events, or the verdicts behind each of them, where so many local steps are allowed.
-#[tactic(auto, using(crate::proofs::Knowing::machine_legal, crate::proofs::Knowing::nothing_follows))]
+#[tactic(auto, using(crate::proofs::Knowing::nothing_follows))]
 pub fn judge_row(
     alloc: Global,
     known: &Known,
@@ -54,12 +53,9 @@ pub fn judge_row(
 {
     let lines = lines_of(alloc, known, row.written())?;
     row.ask(out)?;
-    match first_beyond(&known.program) {
-        Some(_) => Ok(out.push_str("NotYet")?),
-        None => match sequence_of(alloc, known, Mode::Original, lines.as_bytes()) {
-            Ok(events) => put_judged(alloc, known, judging, bound, &events, out),
-            Err(error) => put_fault(error, out),
-        },
+    match sequence_of(alloc, known, Mode::Original, lines.as_bytes()) {
+        Ok(events) => put_judged(alloc, known, judging, bound, &events, out),
+        Err(error) => put_fault(error, out),
     }
 }
 
@@ -71,7 +67,6 @@ fn put_judged(
     events: &[Event],
     out: &mut String,
 ) -> Result<(), Memory>
-    requires legal { Legal (plain_program known.now.program) known.now.checked.types known.now.checked.numbers Mode.Original }
     requires end { NothingFollows events.now }
     requires few { length events.now < 2 ^ 32 - 1 }
 {
@@ -84,7 +79,8 @@ fn put_judged(
             put_verdict(verdict, out)
         }
         Judging::Each => {
-            let mut judge = Judge::new(alloc, program, types, numbers, &inputs, bound)?;
+            let links = Links::new(alloc, program, types, numbers)?;
+            let mut judge = Judge::new(alloc, &links, &inputs, bound)?;
             put_each(&mut judge, events, out)
         }
     }

@@ -1,18 +1,13 @@
 //! Runs of a program.
 
-ghost use Rattle.ada_tree.specs.PlainProgram.{plain_program};
-ghost use Rattle.syn_event.specs.Legal.{Legal};
-ghost use Rattle.syn_event.specs.LegalProgram.{IsLegal};
-
 use ada_tree::Memory;
 use ada_value::Inputs;
 use case_form::Row;
 use case_rules::Known;
-use debug_form::first_beyond;
 use ded_io::{ListChooser, MemorySink};
 use interp::{RunEnd, RunError, RunReport, run};
 use std::alloc::{AllocError, Global};
-use syn_event::Mode;
+use task_links::Links;
 use task_machine::Machine;
 
 /// No task reads anything.
@@ -34,22 +29,16 @@ fn choices_of(alloc: Global, written: &str) -> Result<ListChooser, AllocError> {
 }
 
 /// `run`: the events of a run of at most so many turns under the row's choices, and how it ends.
-#[tactic(auto, using(crate::proofs::Knowing::machine_legal))]
 pub fn run_row(
     alloc: Global,
     known: &Known,
     turns: u64,
     row: &Row<'_>,
     out: &mut String,
-) -> Result<(), Memory>
-    requires { IsLegal (plain_program known.now.program) known.now.checked.types known.now.checked.numbers Mode.Any }
-{
+) -> Result<(), Memory> {
     let choices = choices_of(alloc, row.written())?;
     row.ask(out)?;
-    match first_beyond(&known.program) {
-        Some(_) => Ok(out.push_str("NotYet")?),
-        None => put_run(alloc, known, turns, choices, out),
-    }
+    put_run(alloc, known, turns, choices, out)
 }
 
 fn put_run(
@@ -58,12 +47,11 @@ fn put_run(
     turns: u64,
     mut choices: ListChooser,
     out: &mut String,
-) -> Result<(), Memory>
-    requires { Legal (plain_program known.now.program) known.now.checked.types known.now.checked.numbers Mode.Any }
-{
+) -> Result<(), Memory> {
     let inputs = no_inputs(alloc);
-    let (program, checked) = (&known.program, &known.checked);
-    let mut machine = Machine::new(alloc, program, &checked.types, &checked.numbers, &inputs)?;
+    let checked = &known.checked;
+    let links = Links::new(alloc, &known.program, &checked.types, &checked.numbers)?;
+    let mut machine = Machine::new(alloc, &links, &inputs)?;
     let mut sink = MemorySink::new(alloc, Vec::new(alloc), 10_000)?;
     match run(
         alloc,

@@ -1,26 +1,26 @@
 -- What words and files call for, from what the bytes of the files call for.
-use Rattle.std.proofs.Common.{◌≡◌, ◌≤◌, ℕ, List, [], ◌∷◌, Option, Result, Ok, Err, inl, inr, refl, ap, subst}
+use Rattle.std.proofs.Common.{◌≡◌, ℕ, List, [], ◌∷◌, ◌++◌, Option, Some, None, is_some, option_map, true, false, Result, Ok, Err, inl, inr, refl, sym, subst, true≢false}
+use Rattle.std.specs.Prelude.{option_to_list}
 use Rattle.ded_io.specs.Counts.{Rose}
 use Rattle.ded_io.specs.Told.{ToldFile}
 use Rattle.ded_io.specs.Written.{Wrote}
-use Rattle.ded_io.proofs.Counted.{rose_behind}
-use Rattle.debug_words.specs.Words.{AsksPrint, AsksCheck, AsksRun, AsksJudge}
+use Rattle.debug_words.specs.Words.{Asked, AsksRun, AsksJudge, Source, NoChoices, ChoicesIn, ChoicesBy}
 use Rattle.debug_words.specs.declared.command.NoWords.{NoWords}
 use Rattle.debug_words.specs.declared.command.NoWords.TheVariants.{NotText, Memory}
-use Rattle.debug_outcome.specs.Delivery.{Sides}
-use Rattle.debug_outcome.specs.declared.refusal.Refusal.TheVariants.{Usage}
-use Rattle.debug_outcome.specs.declared.stopping.Stop.TheVariants as stop
 use Rattle.debug_outcome.specs.Coming.{Never, Stops, Comes, HasPut, HasBroken}
-use Rattle.debug_outcome.specs.Loads.{WasLoaded, IsUnloaded, AreUnloaded}
+use Rattle.debug_outcome.specs.Delivery.{Sides}
+use Rattle.debug_outcome.specs.Loads.{WereLoaded, AreUnloaded}
 use Rattle.debug_outcome.specs.Outcomes.{Outcome, writes}
-use Rattle.debug_outcome.specs.Traces.{Wanted, Load, gave, Led, HasLoads}
+use Rattle.debug_outcome.specs.Traces.{Load, HasLoads}
+use Rattle.debug_outcome.specs.declared.refusal.Refusal.TheVariants.{Usage}
 use Rattle.debug_outcome.specs.declared.stopping.Stop.{Stop}
+use Rattle.debug_outcome.specs.declared.stopping.Stop.TheVariants as stop
 use Rattle.debug_outcome.proofs.Comings.{stops_more, stops_come, comes_more, ends_stopped, told_alone}
+use Rattle.debug_files.specs.Giving.{Given, NothingGiven, BytesGiven, SeedGiven, IsGivenBy, given_bytes}
+use Rattle.debug_files.specs.Wanting.{wanted_by}
 use Rattle.debug_core.specs.Answers.{Means, CallsFor, GrowsFor, AnswersNoWords, TellsNoWords}
-use Rattle.debug_core.specs.PrintMeaning.{printed_limit}
-use Rattle.debug_core.specs.CheckMeaning.{checked_limit}
-use Rattle.debug_core.specs.RunMeaning.{run_limit}
-use Rattle.debug_core.specs.JudgeMeaning.{JudgeMeans, WereLoaded, judged_files, judged_limit, sequence_limit}
+use Rattle.debug_core.specs.JudgeMeaning.{JudgeMeans}
+use Rattle.debug_core.specs.RunMeaning.{RunMeans}
 
 -- a text that is called for was put whole
 pub has_put : (A E : Type 0) (x : A) (C : Outcome → Type 0) (text : List ℕ) (status : ℕ) (out out' : Option (List ℕ)) (faults faults' : ℕ) → C (writes text status) →
@@ -34,148 +34,95 @@ pub has_broken : (A E : Type 0) (e : E) (C : Outcome → Type 0) (text : List �
 unfolding Wrote
 has_broken A E e C text status out out' faults faults' called wrote rose = record { text = text; status = status; called = called; put = (wrote, rose) }
 
--- ---- a command of one file
+-- ---- files that were loaded
 
-pub print_loaded : {F : Type 0} (leads : F → Load → F → Type 0) (old new : F) (told : Option (List ToldFile)) (reads reads' : ℕ) (name text : List ℕ) (out out' : Option (List ℕ)) (faults faults' : ℕ) (r : Result ℕ Stop) →
-    HasLoads leads old new (λ loads. WasLoaded told record { name = name; limit = printed_limit } text × (loads ≡ gave record { name = name; limit = printed_limit } text ∷ [])) →
-    Comes (Means (AsksPrint name) (text ∷ [])) Never out out' faults faults' r → HasLoads leads old new (λ loads. Comes (CallsFor (AsksPrint name) told reads reads' loads) Never out out' faults faults' r)
-print_loaded leads old new told reads reads' name text out out' faults faults' r made h = record {
-  loads = made.loads;
-  led = made.led;
-  is_so =
-      comes_more (Means (AsksPrint name) (text ∷ [])) (CallsFor (AsksPrint name) told reads reads' made.loads) Never Never out out' faults faults' r
-      (λ o means. inl (record { contents = text ∷ []; loaded = (made.is_so.0, tt); were = made.is_so.1; means = means })) (λ o never. never) h;
-}
-
-pub check_loaded : {F : Type 0} (leads : F → Load → F → Type 0) (old new : F) (told : Option (List ToldFile)) (reads reads' : ℕ) (name text : List ℕ) (out out' : Option (List ℕ)) (faults faults' : ℕ) (r : Result ℕ Stop) →
-    HasLoads leads old new (λ loads. WasLoaded told record { name = name; limit = checked_limit } text × (loads ≡ gave record { name = name; limit = checked_limit } text ∷ [])) →
-    Comes (Means (AsksCheck name) (text ∷ [])) Never out out' faults faults' r → HasLoads leads old new (λ loads. Comes (CallsFor (AsksCheck name) told reads reads' loads) Never out out' faults faults' r)
-check_loaded leads old new told reads reads' name text out out' faults faults' r made h = record {
-  loads = made.loads;
-  led = made.led;
-  is_so =
-      comes_more (Means (AsksCheck name) (text ∷ [])) (CallsFor (AsksCheck name) told reads reads' made.loads) Never Never out out' faults faults' r
-      (λ o means. inl (record { contents = text ∷ []; loaded = (made.is_so.0, tt); were = made.is_so.1; means = means })) (λ o never. never) h;
-}
-
-pub run_loaded : {F : Type 0} (leads : F → Load → F → Type 0) (old new : F) (told : Option (List ToldFile)) (reads reads' : ℕ) (name text : List ℕ) (turns : ℕ) (out out' : Option (List ℕ)) (faults faults' : ℕ) (r : Result ℕ Stop) →
-    HasLoads leads old new (λ loads. WasLoaded told record { name = name; limit = run_limit } text × (loads ≡ gave record { name = name; limit = run_limit } text ∷ [])) →
-    Comes (Means (AsksRun name turns) (text ∷ [])) (Means (AsksRun name turns) (text ∷ [])) out out' faults faults' r →
-    HasLoads leads old new (λ loads. Comes (CallsFor (AsksRun name turns) told reads reads' loads) (GrowsFor (AsksRun name turns) told reads reads' loads) out out' faults faults' r)
-run_loaded leads old new told reads reads' name text turns out out' faults faults' r made h = record {
-  loads = made.loads;
-  led = made.led;
-  is_so =
-      comes_more (Means (AsksRun name turns) (text ∷ [])) (CallsFor (AsksRun name turns) told reads reads' made.loads) (Means (AsksRun name turns) (text ∷ [])) (GrowsFor (AsksRun name turns) told reads reads' made.loads) out out' faults faults' r
-      (λ o means. inl (record { contents = text ∷ []; loaded = (made.is_so.0, tt); were = made.is_so.1; means = means }))
-      (λ o means. inl (record { contents = text ∷ []; loaded = (made.is_so.0, tt); were = made.is_so.1; means = means })) h;
-}
-
--- ---- a file that was not loaded
-
-module _ {F : Type 0} (leads : F → Load → F → Type 0) (old new : F) (told : Option (List ToldFile)) (reads reads' : ℕ) (out : Option (List ℕ)) (faults : ℕ) (stop : Stop) where
-  not_loaded : (U C G : List Load → Outcome → Type 0) → ((loads : List Load) (o : Outcome) → U loads o → C loads o) → HasLoads leads old new (λ loads. Stops (U loads) stop) →
-      HasLoads leads old new (λ loads. Comes (C loads) (G loads) out out faults faults (Err stop))
-  not_loaded U C G more made = record {
-    loads = made.loads;
-    led = made.led;
-    is_so = stops_come (C made.loads) (G made.loads) out faults stop (stops_more (U made.loads) (C made.loads) stop (more made.loads) made.is_so);
-  }
-
-  pub print_unloaded : (name : List ℕ) → HasLoads leads old new (λ loads. Stops (IsUnloaded told reads reads' record { name = name; limit = printed_limit } loads) stop) →
-      HasLoads leads old new (λ loads. Comes (CallsFor (AsksPrint name) told reads reads' loads) Never out out faults faults (Err stop))
-  print_unloaded name made =
-      not_loaded (λ loads o. IsUnloaded told reads reads' record { name = name; limit = printed_limit } loads o) (λ loads o. CallsFor (AsksPrint name) told reads reads' loads o) (λ loads o. Never o)
-      (λ loads o bad. inr (inl bad)) made
-
-  pub check_unloaded : (name : List ℕ) → HasLoads leads old new (λ loads. Stops (IsUnloaded told reads reads' record { name = name; limit = checked_limit } loads) stop) →
-      HasLoads leads old new (λ loads. Comes (CallsFor (AsksCheck name) told reads reads' loads) Never out out faults faults (Err stop))
-  check_unloaded name made =
-      not_loaded (λ loads o. IsUnloaded told reads reads' record { name = name; limit = checked_limit } loads o) (λ loads o. CallsFor (AsksCheck name) told reads reads' loads o) (λ loads o. Never o)
-      (λ loads o bad. inr (inl bad)) made
-
-  pub run_unloaded : (name : List ℕ) (turns : ℕ) → HasLoads leads old new (λ loads. Stops (IsUnloaded told reads reads' record { name = name; limit = run_limit } loads) stop) →
-      HasLoads leads old new (λ loads. Comes (CallsFor (AsksRun name turns) told reads reads' loads) (GrowsFor (AsksRun name turns) told reads reads' loads) out out faults faults (Err stop))
-  run_unloaded name turns made =
-      not_loaded (λ loads o. IsUnloaded told reads reads' record { name = name; limit = run_limit } loads o) (λ loads o. CallsFor (AsksRun name turns) told reads reads' loads o) (λ loads o. GrowsFor (AsksRun name turns) told reads reads' loads o)
-      (λ loads o bad. inr (inl bad)) made
-
-  pub judge_unloaded : (name sequence : List ℕ) (bound : ℕ) → HasLoads leads old new (λ loads. Stops (AreUnloaded told reads reads' (judged_files name sequence) loads) stop) →
-      HasLoads leads old new (λ loads. Comes (CallsFor (AsksJudge name sequence bound) told reads reads' loads) Never out out faults faults (Err stop))
-  judge_unloaded name sequence bound made =
-      not_loaded (λ loads o. AreUnloaded told reads reads' (judged_files name sequence) loads o) (λ loads o. CallsFor (AsksJudge name sequence bound) told reads reads' loads o) (λ loads o. Never o)
-      (λ loads o bad. inr bad) made
-
--- ---- the command of two files
-
--- what a later load refuses, as seen from an earlier count
-unloaded_since : (told : Option (List ToldFile)) (reads mid reads' : ℕ) (file : Wanted) (loads : List Load) (o : Outcome) → reads ≤ mid → IsUnloaded told mid reads' file loads o → IsUnloaded told reads reads' file loads o
-unloaded_since told reads mid reads' file loads o le (inl h) = inl (record {
-  were = h.were;
-  cause = elim h.cause [ inl lacks ↦ inl lacks | inr rose ↦ inr (rose_behind reads mid reads' le rose) ];
-  is = h.is;
-})
-unloaded_since told reads mid reads' file loads o le (inr longer) = inr longer
-
-module _ {F : Type 0} (leads : F → Load → F → Type 0) (old between new : F) (told : Option (List ToldFile)) (name sequence text : List ℕ) where
-  -- the loads behind that of the program's file
-  behind_first : (loads later : List Load) → loads ≡ gave record { name = name; limit = judged_limit } text ∷ [] → Led leads old loads between → Led leads between later new →
-      Led leads old (gave record { name = name; limit = judged_limit } text ∷ later) new
-  behind_first loads later is led then =
-      let first : Led leads old (gave record { name = name; limit = judged_limit } text ∷ []) between = subst (λ (ls : List Load). Led leads old ls between) is led in
-      (first.0, first.1, subst (λ (f : F). Led leads f later new) first.2 then)
-
-  -- the first file was not loaded
-  pub first_unloaded : (reads reads' : ℕ) (stop : Stop) → HasLoads leads old between (λ loads. Stops (IsUnloaded told reads reads' record { name = name; limit = judged_limit } loads) stop) →
-      HasLoads leads old between (λ loads. Stops (AreUnloaded told reads reads' (judged_files name sequence) loads) stop)
-  first_unloaded reads reads' stop made = record {
+module _ {F : Type 0} (leads : F → Load → F → Type 0) (old new : F) (told : Option (List ToldFile)) (reads reads' : ℕ) (asked : Asked) (contents : List (List ℕ)) (out out' : Option (List ℕ)) (faults faults' : ℕ) (r : Result ℕ Stop)
+    (made : HasLoads leads old new (WereLoaded told (wanted_by asked) contents)) where
+  -- words and files call for what the bytes call for with the words
+  pub all_loaded : Comes (Means asked contents) Never out out' faults faults' r → HasLoads leads old new (λ loads. Comes (CallsFor asked told reads reads' loads) Never out out' faults faults' r)
+  all_loaded h = record {
     loads = made.loads;
     led = made.led;
     is_so =
-        stops_more (IsUnloaded told reads reads' record { name = name; limit = judged_limit } made.loads) (AreUnloaded told reads reads' (judged_files name sequence) made.loads) stop
-        (λ o bad. inl bad) made.is_so;
+        comes_more (Means asked contents) (CallsFor asked told reads reads' made.loads) Never Never out out' faults faults' r
+        (λ o means. inl (record { contents = contents; loaded = made.is_so; means = means })) (λ o never. never) h;
   }
 
-  module _ (first : HasLoads leads old between (λ loads. WasLoaded told record { name = name; limit = judged_limit } text × (loads ≡ gave record { name = name; limit = judged_limit } text ∷ []))) where
-    -- the second file was not loaded
-    pub second_unloaded : (reads mid reads' : ℕ) (stop : Stop) → reads ≤ mid →
-        HasLoads leads between new (λ loads. Stops (IsUnloaded told mid reads' record { name = sequence; limit = sequence_limit } loads) stop) →
-        HasLoads leads old new (λ loads. Stops (AreUnloaded told reads reads' (judged_files name sequence) loads) stop)
-    second_unloaded reads mid reads' stop le made = record {
-      loads = gave record { name = name; limit = judged_limit } text ∷ made.loads;
-      led = behind_first first.loads made.loads first.is_so.1 first.led made.led;
-      is_so =
-          stops_more (IsUnloaded told mid reads' record { name = sequence; limit = sequence_limit } made.loads)
-          (AreUnloaded told reads reads' (judged_files name sequence) (gave record { name = name; limit = judged_limit } text ∷ made.loads)) stop
-          (λ o bad. inr (record {
-            bytes = text;
-            loaded = first.is_so.0;
-            rest = made.loads;
-            were = refl;
-            later = inl (unloaded_since told reads mid reads' record { name = sequence; limit = sequence_limit } made.loads o le bad);
-          })) made.is_so;
-    }
+  -- the same of a text that grows
+  all_growing : Comes (Means asked contents) (Means asked contents) out out' faults faults' r →
+      HasLoads leads old new (λ loads. Comes (CallsFor asked told reads reads' loads) (CallsFor asked told reads reads' loads) out out' faults faults' r)
+  all_growing h = record {
+    loads = made.loads;
+    led = made.led;
+    is_so =
+        comes_more (Means asked contents) (CallsFor asked told reads reads' made.loads) (Means asked contents) (CallsFor asked told reads reads' made.loads) out out' faults faults' r
+        (λ o means. inl (record { contents = contents; loaded = made.is_so; means = means }))
+        (λ o means. inl (record { contents = contents; loaded = made.is_so; means = means })) h;
+  }
 
-    -- both files were
-    pub both_given : (lines : List ℕ) →
-        HasLoads leads between new (λ loads. WasLoaded told record { name = sequence; limit = sequence_limit } lines × (loads ≡ gave record { name = sequence; limit = sequence_limit } lines ∷ [])) →
-        HasLoads leads old new (λ loads. WereLoaded told loads name sequence text lines)
-    both_given lines made = record {
-      loads = gave record { name = name; limit = judged_limit } text ∷ made.loads;
-      led = behind_first first.loads made.loads first.is_so.1 first.led made.led;
-      is_so = ((first.is_so.0, (made.is_so.0, tt)), ap (λ (ls : List Load). gave record { name = name; limit = judged_limit } text ∷ ls) made.is_so.1);
-    }
-
-pub both_loaded : {F : Type 0} (leads : F → Load → F → Type 0) (old new : F) (told : Option (List ToldFile)) (reads reads' : ℕ) (name sequence text lines : List ℕ) (bound : ℕ) (out out' : Option (List ℕ)) (faults faults' : ℕ) (r : Result ℕ Stop) →
-    HasLoads leads old new (λ loads. WereLoaded told loads name sequence text lines) → Comes (JudgeMeans bound text lines) Never out out' faults faults' r →
-    HasLoads leads old new (λ loads. Comes (CallsFor (AsksJudge name sequence bound) told reads reads' loads) Never out out' faults faults' r)
-both_loaded leads old new told reads reads' name sequence text lines bound out out' faults faults' r made h = record {
+-- a file was not loaded
+pub not_loaded : {F : Type 0} (leads : F → Load → F → Type 0) (old new : F) (told : Option (List ToldFile)) (reads reads' : ℕ) (asked : Asked) (G : List Load → Outcome → Type 0) (out : Option (List ℕ)) (faults : ℕ) (stop : Stop) →
+    HasLoads leads old new (λ loads. Stops (AreUnloaded told reads reads' (wanted_by asked) loads) stop) → HasLoads leads old new (λ loads. Comes (CallsFor asked told reads reads' loads) (G loads) out out faults faults (Err stop))
+not_loaded leads old new told reads reads' asked G out faults stop made = record {
   loads = made.loads;
   led = made.led;
   is_so =
-      comes_more (JudgeMeans bound text lines) (CallsFor (AsksJudge name sequence bound) told reads reads' made.loads) Never Never out out' faults faults' r
-      (λ o means. inl (record { contents = text ∷ lines ∷ []; loaded = made.is_so.0; were = made.is_so.1; means = means })) (λ o never. never) h;
+      stops_come (CallsFor asked told reads reads' made.loads) (G made.loads) out faults stop
+      (stops_more (AreUnloaded told reads reads' (wanted_by asked) made.loads) (CallsFor asked told reads reads' made.loads) stop (λ o bad. inr bad) made.is_so);
 }
+
+-- ---- the bytes of a run and of a judgement, in the order of the words
+
+-- bytes are there where a name is
+pub both_there : {A B C D : Type 0} (f : A → C) (g : B → D) (x : Option A) (y : Option B) → is_some x ≡ is_some y → is_some (option_map f x) ≡ is_some (option_map g y)
+both_there f g (Some x) (Some y) h = refl
+both_there f g None None h = refl
+both_there f g (Some x) None h = absurd (true≢false h)
+both_there f g None (Some y) h = absurd (true≢false (sym h))
+
+module _ (name text : List ℕ) (turns : ℕ) (o : Outcome) where
+  run_means : (inputs bytes : Option (List ℕ)) (source : Source) (given : Given) → is_some bytes ≡ is_some inputs → IsGivenBy source given → RunMeans text bytes given turns o →
+      Means (AsksRun name inputs source turns) ((text ∷ option_to_list bytes) ++ given_bytes given) o
+  run_means None None NoChoices given there by means =
+      subst (λ (x : Given). Means (AsksRun name None NoChoices turns) ((text ∷ []) ++ given_bytes x) o) (sym by) (subst (λ (x : Given). RunMeans text None x turns o) by means)
+  run_means None None (ChoicesIn file) given there by means =
+      subst (λ (x : Given). Means (AsksRun name None (ChoicesIn file) turns) ((text ∷ []) ++ given_bytes x) o) (sym by.1) (subst (λ (x : Given). RunMeans text None x turns o) by.1 means)
+  run_means None None (ChoicesBy seed) given there by means =
+      subst (λ (x : Given). Means (AsksRun name None (ChoicesBy seed) turns) ((text ∷ []) ++ given_bytes x) o) (sym by) (subst (λ (x : Given). RunMeans text None x turns o) by means)
+  run_means (Some list) (Some bytes) NoChoices given there by means =
+      subst (λ (x : Given). Means (AsksRun name (Some list) NoChoices turns) ((text ∷ bytes ∷ []) ++ given_bytes x) o) (sym by) (subst (λ (x : Given). RunMeans text (Some bytes) x turns o) by means)
+  run_means (Some list) (Some bytes) (ChoicesIn file) given there by means =
+      subst (λ (x : Given). Means (AsksRun name (Some list) (ChoicesIn file) turns) ((text ∷ bytes ∷ []) ++ given_bytes x) o) (sym by.1) (subst (λ (x : Given). RunMeans text (Some bytes) x turns o) by.1 means)
+  run_means (Some list) (Some bytes) (ChoicesBy seed) given there by means =
+      subst (λ (x : Given). Means (AsksRun name (Some list) (ChoicesBy seed) turns) ((text ∷ bytes ∷ []) ++ given_bytes x) o) (sym by) (subst (λ (x : Given). RunMeans text (Some bytes) x turns o) by means)
+  run_means None (Some bytes) source given there by means = absurd (true≢false there)
+  run_means (Some list) None source given there by means = absurd (true≢false (sym there))
+
+judge_means : (name sequence text lines : List ℕ) (bound : ℕ) (o : Outcome) (inputs bytes : Option (List ℕ)) → is_some bytes ≡ is_some inputs → JudgeMeans text bytes lines bound o →
+    Means (AsksJudge name inputs sequence bound) ((text ∷ option_to_list bytes) ++ (lines ∷ [])) o
+judge_means name sequence text lines bound o None None there means = means
+judge_means name sequence text lines bound o (Some list) (Some bytes) there means = means
+judge_means name sequence text lines bound o None (Some bytes) there means = absurd (true≢false there)
+judge_means name sequence text lines bound o (Some list) None there means = absurd (true≢false (sym there))
+
+module _ {F : Type 0} (leads : F → Load → F → Type 0) (old new : F) (told : Option (List ToldFile)) (reads reads' : ℕ) (name text : List ℕ) (inputs bytes : Option (List ℕ)) (there : is_some bytes ≡ is_some inputs) (out out' : Option (List ℕ)) (faults faults' : ℕ) (r : Result ℕ Stop) where
+  pub run_loaded : (source : Source) (given : Given) (turns : ℕ) → IsGivenBy source given →
+      HasLoads leads old new (WereLoaded told (wanted_by (AsksRun name inputs source turns)) ((text ∷ option_to_list bytes) ++ given_bytes given)) →
+      Comes (RunMeans text bytes given turns) (RunMeans text bytes given turns) out out' faults faults' r →
+      HasLoads leads old new (λ loads. Comes (CallsFor (AsksRun name inputs source turns) told reads reads' loads) (GrowsFor (AsksRun name inputs source turns) told reads reads' loads) out out' faults faults' r)
+  run_loaded source given turns by made h =
+      all_growing leads old new told reads reads' (AsksRun name inputs source turns) ((text ∷ option_to_list bytes) ++ given_bytes given) out out' faults faults' r made
+      (comes_more (RunMeans text bytes given turns) (Means (AsksRun name inputs source turns) ((text ∷ option_to_list bytes) ++ given_bytes given)) (RunMeans text bytes given turns) (Means (AsksRun name inputs source turns) ((text ∷ option_to_list bytes) ++ given_bytes given)) out out' faults faults' r
+      (λ o means. run_means name text turns o inputs bytes source given there by means)
+      (λ o means. run_means name text turns o inputs bytes source given there by means) h)
+
+  pub judge_loaded : (sequence lines : List ℕ) (bound : ℕ) →
+      HasLoads leads old new (WereLoaded told (wanted_by (AsksJudge name inputs sequence bound)) ((text ∷ option_to_list bytes) ++ (lines ∷ []))) → Comes (JudgeMeans text bytes lines bound) Never out out' faults faults' r →
+      HasLoads leads old new (λ loads. Comes (CallsFor (AsksJudge name inputs sequence bound) told reads reads' loads) Never out out' faults faults' r)
+  judge_loaded sequence lines bound made h =
+      all_loaded leads old new told reads reads' (AsksJudge name inputs sequence bound) ((text ∷ option_to_list bytes) ++ (lines ∷ [])) out out' faults faults' r made
+      (comes_more (JudgeMeans text bytes lines bound) (Means (AsksJudge name inputs sequence bound) ((text ∷ option_to_list bytes) ++ (lines ∷ []))) Never Never out out' faults faults' r
+      (λ o means. judge_means name sequence text lines bound o inputs bytes there means) (λ o never. never) h)
 
 -- ---- no words
 

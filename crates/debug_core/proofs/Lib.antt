@@ -1,10 +1,12 @@
 pub mod Refusing
 pub mod ReadingBack
-pub mod MachineTexting
 pub mod Calling
+pub mod ShortNumbers
 pub mod OneLoad
 pub mod OneText
 pub mod OneIllegal
+pub mod OneStart
+pub mod OneRun
 pub mod OneJudged
 pub mod OneMeaning
 pub mod OneAnswer

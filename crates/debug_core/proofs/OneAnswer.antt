@@ -9,7 +9,8 @@ use Rattle.debug_outcome.specs.Delivery.{Sides, IsWhole, IsDelivered, Ends}
 use Rattle.debug_outcome.specs.Outcomes.{Outcome, refuses}
 use Rattle.debug_outcome.specs.Traces.{Load}
 use Rattle.debug_outcome.specs.declared.refusal.Refusal.TheVariants.{Usage}
-use Rattle.debug_core.specs.Answers.{Means, CallsFor, GrowsFor, wanted_by}
+use Rattle.debug_files.specs.Wanting.{wanted_by}
+use Rattle.debug_core.specs.Answers.{Means, CallsFor, GrowsFor}
 use Rattle.debug_core.specs.OneAnswer.{IsUnfailed, AreAlike, EndAlike, OneAnswer}
 use Rattle.debug_core.proofs.OneLoad.{one_contents, none_refused, one_unloaded}
 use Rattle.debug_core.proofs.OneMeaning.{one_meant}
@@ -18,10 +19,10 @@ use Rattle.debug_core.proofs.OneMeaning.{one_meant}
 module _ (asked : Asked) (files : List ToldFile) (f f' g g' : ℕ) (still : Rose f f' → ⊥) (also : Rose g g' → ⊥) (loads others : List Load) where
   one_called : (o q : Outcome) → CallsFor asked (Some files) f f' loads o → CallsFor asked (Some files) g g' others q → o ≡ q
   one_called o q (inl h) (inl k) =
-      let same : h.contents ≡ k.contents = one_contents files f f' g g' still also (wanted_by asked) h.contents k.contents h.loaded k.loaded in
+      let same : h.contents ≡ k.contents = one_contents files f f' g g' still also (wanted_by asked) h.contents k.contents h.loaded.are k.loaded.are in
       one_meant asked k.contents o q (subst (λ (c : List (List ℕ)). Means asked c o) same h.means) k.means
-  one_called o q (inl h) (inr k) = absurd (none_refused files g g' f f' also still (wanted_by asked) h.contents others q h.loaded k)
-  one_called o q (inr h) (inl k) = absurd (none_refused files f f' g g' still also (wanted_by asked) k.contents loads o k.loaded h)
+  one_called o q (inl h) (inr k) = absurd (none_refused files g g' f f' also still (wanted_by asked) h.contents others q h.loaded.are k)
+  one_called o q (inr h) (inl k) = absurd (none_refused files f f' g g' still also (wanted_by asked) k.contents loads o k.loaded.are h)
   one_called o q (inr h) (inr k) = one_unloaded files f f' g g' still also (wanted_by asked) loads others o q h k
 
 -- where nothing failed an outcome is delivered whole

@@ -3,17 +3,17 @@ use Rattle.std.proofs.Common.{◌≡◌, ◌<◌, ◌≤◌, ◌-◌, ℕ, Bool,
 use Rattle.std.specs.Prelude.{All, IfSome, ◌==◌, codes}
 use Rattle.std.proofs.lemmas.List.Elements.{All-nil, All-cons, All-head, All-tail}
 use Rattle.ded_io.specs.Written.{◌⧺◌}
-use Rattle.ada_tree.specs.PlainProgram.{PProgram}
-use Rattle.ada_tree.specs.TypeTable.{TypeTable}
 use Rattle.event_machine.specs.declared.Event.{Event}
 use Rattle.event_machine.specs.declared.Event.TheVariants.{R, E, S, D, C, T, F, X, B, Z}
+use Rattle.seq_file.specs.Lines.{is_upper_name}
 use Rattle.seq_file.specs.Short.{IsShort}
 use Rattle.seq_file.specs.declared.errors.SeqError.{SeqError}
 use Rattle.seq_file.proofs.Filing.{reads-unique, reads-no_fault, fault-unique}
 use Rattle.syn_event.specs.declared.numbering.Mode.TheVariants.{Original}
-use Rattle.syn_event.specs.Legal.{Legal}
+use Rattle.syn_event.specs.LegalProgram.{IsLegal}
 use Rattle.syn_event.specs.Numbering.{Numbering, owner_of}
-use Rattle.syn_event.proofs.LegalCounts.{Legal-few_tasks}
+use Rattle.syn_event.specs.Units.{text_of}
+use Rattle.task_model.specs.Machine.{Setup}
 use Rattle.task_machine.specs.declared.verdict.Verdict.{Verdict}
 use Rattle.task_machine.specs.declared.verdict.Verdict.TheVariants.{Feasible, Infeasible, Unsettled}
 use Rattle.task_machine.specs.declared.verdict.Why.{Why}
@@ -28,6 +28,7 @@ use Rattle.debug_outcome.specs.Outcomes.{Outcome, writes}
 use Rattle.debug_outcome.proofs.Comings.{one_refusal}
 use Rattle.debug_judge.specs.JudgeOutcomes.{AreSeen, ShowsWhy, IsVerdictText, JudgesLines, refusal_of_sequence, verdict_status}
 use Rattle.debug_judge.proofs.Uppering.{name_is_upper}
+use Rattle.debug_core.proofs.ShortNumbers.{short_tasks, short_entries}
 
 -- ---- the text of a verdict, by what is seen of the tasks that its event needs
 
@@ -54,48 +55,51 @@ module _ (names : List (List ℕ)) (numbers : Numbering) (views others : ℕ →
   shown_all (B t x) h = h
   shown_all Z h = h
 
-module _ (p : PProgram) (numbers : Numbering) (bound : ℕ) (events : List Event) (views others : ℕ → View) where
-  refused_same : (at : ℕ) (why : Why) (before : List Event) (e : Option Event) → IfSome e (AreSeen p numbers before views) → IfSome e (AreSeen p numbers before others) →
-      report_text p.names numbers bound views (length events) (Infeasible at why) e ≡ report_text p.names numbers bound others (length events) (Infeasible at why) e
+module _ (setup : Setup) (numbers : Numbering) (bound : ℕ) (events : List Event) (views others : ℕ → View) where
+  refused_same : (at : ℕ) (why : Why) (before : List Event) (e : Option Event) → IfSome e (AreSeen setup numbers before views) → IfSome e (AreSeen setup numbers before others) →
+      report_text setup.program.names numbers bound views (length events) (Infeasible at why) e ≡ report_text setup.program.names numbers bound others (length events) (Infeasible at why) e
   refused_same at why before None seen seen' = refl
   refused_same at why before (Some e) seen seen' =
       ap (λ (parts : List ℕ). number_line refused_word at ⧺ (event_line e ⧺ (cause_line why ⧺ parts)))
-      (same_parts p.names numbers views others (shown_tasks numbers e)
-      (shown_all p.names numbers views others e (λ k d less. view_unique p numbers before _ _ _ (seen k d less) (seen' k d less))))
+      (same_parts setup.program.names numbers views others (shown_tasks numbers e)
+      (shown_all setup.program.names numbers views others e (λ k d less. view_unique setup numbers before _ _ _ (seen k d less) (seen' k d less))))
 
-  held_same : (at t : ℕ) (e : Option Event) → report_text p.names numbers bound views (length events) (Unsettled at t) e ≡ report_text p.names numbers bound others (length events) (Unsettled at t) e
+  held_same : (at t : ℕ) (e : Option Event) → report_text setup.program.names numbers bound views (length events) (Unsettled at t) e ≡ report_text setup.program.names numbers bound others (length events) (Unsettled at t) e
   held_same at t None = refl
   held_same at t (Some e) = refl
 
-  text_same : (v : Verdict) → ShowsWhy p numbers events views v → ShowsWhy p numbers events others v → judge_text p.names numbers bound views events v ≡ judge_text p.names numbers bound others events v
+  text_same : (v : Verdict) → ShowsWhy setup numbers events views v → ShowsWhy setup numbers events others v → judge_text setup.program.names numbers bound views events v ≡ judge_text setup.program.names numbers bound others events v
   text_same Feasible h k = refl
   text_same (Infeasible at why) h k = refused_same at why (take (at - 1) events) (event_of events (Infeasible at why)) h k
   text_same (Unsettled at t) h k = held_same at t (event_of events (Unsettled at t))
 
-one_verdict_text : (p : PProgram) (numbers : Numbering) (bound : ℕ) (events : List Event) (o q : Outcome) → IsVerdictText p numbers bound events o → IsVerdictText p numbers bound events q → o ≡ q
-one_verdict_text p numbers bound events o q h k =
-    let same : h.verdict ≡ k.verdict = verdict_unique p numbers bound events h.verdict k.verdict h.verdict_is k.verdict_is in
-    let seen : ShowsWhy p numbers events h.views k.verdict = subst (λ (v : Verdict). ShowsWhy p numbers events h.views v) same h.seen in
+one_verdict_text : (setup : Setup) (numbers : Numbering) (bound : ℕ) (events : List Event) (o q : Outcome) → IsVerdictText setup numbers bound events o → IsVerdictText setup numbers bound events q → o ≡ q
+one_verdict_text setup numbers bound events o q h k =
+    let same : h.verdict ≡ k.verdict = verdict_unique setup numbers bound events h.verdict k.verdict h.verdict_is k.verdict_is in
+    let seen : ShowsWhy setup numbers events h.views k.verdict = subst (λ (v : Verdict). ShowsWhy setup numbers events h.views v) same h.seen in
     h.is
-    ∙ ap (λ (v : Verdict). writes (judge_text p.names numbers bound h.views events v) (verdict_status v)) same
-    ∙ ap (λ (text : List ℕ). writes text (verdict_status k.verdict)) (text_same p numbers bound events h.views k.views k.verdict seen k.seen)
+    ∙ ap (λ (v : Verdict). writes (judge_text setup.program.names numbers bound h.views events v) (verdict_status v)) same
+    ∙ ap (λ (text : List ℕ). writes text (verdict_status k.verdict)) (text_same setup numbers bound events h.views k.views k.verdict seen k.seen)
     ∙ sym k.is
 
 -- ---- of a legal program
 
-module _ (p : PProgram) (types : TypeTable) (numbers : Numbering) (legal : Legal p types numbers Original) (lines : List ℕ) (bound : ℕ) where
-  short : IsShort numbers
-  short =
-      let few : length numbers.tasks < 204 = Legal-few_tasks legal in
-      let some : length numbers.entries ≤ 1000 = subst (λ (n : Numbering). length n.entries ≤ 1000) (sym legal.its_numbers) legal.counts_are_fit.entries in
-      record { tasks = omega arith; entries = omega arith }
+module _ (setup : Setup) (numbers : Numbering) (legal : IsLegal setup.program setup.types numbers Original) (lines : List ℕ) (bound : ℕ) where
+  abbrev names : List (List ℕ)
+  names = setup.program.names
 
-  pub one_judged : (o q : Outcome) → JudgesLines p numbers lines bound o → JudgesLines p numbers lines bound q → o ≡ q
+  short : IsShort numbers
+  short = record { tasks = short_tasks setup.program setup.types numbers Original legal; entries = short_entries setup.program setup.types numbers Original legal }
+
+  upper : is_upper_name (text_of names numbers.main) ≡ true
+  upper = name_is_upper setup.program setup.types numbers Original legal
+
+  pub one_judged : (o q : Outcome) → JudgesLines setup numbers lines bound o → JudgesLines setup numbers lines bound q → o ≡ q
   one_judged o q (inl h) (inl k) =
-      let same : h.events ≡ k.events = reads-unique p.names numbers short lines h.events k.events h.reads k.reads in
-      one_verdict_text p numbers bound k.events o q (subst (λ (es : List Event). IsVerdictText p numbers bound es o) same h.judged) k.judged
-  one_judged o q (inl h) (inr k) = absurd (reads-no_fault p.names numbers short (name_is_upper p types numbers Original legal) lines h.events k.error h.reads k.fault)
-  one_judged o q (inr h) (inl k) = absurd (reads-no_fault p.names numbers short (name_is_upper p types numbers Original legal) lines k.events h.error k.reads h.fault)
+      let same : h.events ≡ k.events = reads-unique names numbers short lines h.events k.events h.reads k.reads in
+      one_verdict_text setup numbers bound k.events o q (subst (λ (es : List Event). IsVerdictText setup numbers bound es o) same h.judged) k.judged
+  one_judged o q (inl h) (inr k) = absurd (reads-no_fault names numbers short upper lines h.events k.error h.reads k.fault)
+  one_judged o q (inr h) (inl k) = absurd (reads-no_fault names numbers short upper lines k.events h.error k.reads h.fault)
   one_judged o q (inr h) (inr k) =
-      let same : h.error ≡ k.error = fault-unique p.names numbers short (name_is_upper p types numbers Original legal) lines h.error k.error h.fault k.fault in
+      let same : h.error ≡ k.error = fault-unique names numbers short upper lines h.error k.error h.fault k.fault in
       one_refusal (refusal_of_sequence k.error) o q (subst (λ (e : SeqError). IsRefusal (refusal_of_sequence e) o) same h.told) k.told

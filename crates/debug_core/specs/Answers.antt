@@ -1,41 +1,41 @@
 -- What the words and the bytes of the files call for, and what the program answers: such an outcome, delivered (this project's rules).
 use Rattle.std.specs.Prelude.{◌≡◌, ℕ, List, [], ◌∷◌, Option, Some, None, ◌⊎◌}
 use Rattle.ded_io.specs.Told.{ToldFile}
-use Rattle.debug_words.specs.Words.{Asked, AsksPrint, AsksCheck, AsksRun, AsksJudge}
+use Rattle.debug_words.specs.Words.{Asked, AsksPrint, AsksCheck, AsksRun, AsksJudge, NoChoices, ChoicesIn, ChoicesBy}
 use Rattle.debug_words.specs.declared.command.NoWords.{NoWords}
 use Rattle.debug_words.specs.declared.command.NoWords.TheVariants.{NotText, Memory}
 use Rattle.debug_outcome.specs.Coming.{Never, Tells}
 use Rattle.debug_outcome.specs.Delivery.{Sides, IsDelivered, Ends}
-use Rattle.debug_outcome.specs.Loads.{AreLoaded, AreUnloaded, all_gave}
+use Rattle.debug_outcome.specs.Loads.{WereLoaded, AreUnloaded}
 use Rattle.debug_outcome.specs.Outcomes.{Outcome, refuses}
-use Rattle.debug_outcome.specs.Traces.{Wanted, Load}
+use Rattle.debug_outcome.specs.Traces.{Load}
 use Rattle.debug_outcome.specs.declared.refusal.Refusal.TheVariants.{Usage}
 use Rattle.debug_outcome.specs.declared.stopping.Stop.TheVariants as stop
-use Rattle.debug_core.specs.PrintMeaning.{PrintMeans, printed_limit}
-use Rattle.debug_core.specs.CheckMeaning.{CheckMeans, checked_limit}
-use Rattle.debug_core.specs.RunMeaning.{RunMeans, run_limit}
-use Rattle.debug_core.specs.JudgeMeaning.{JudgeMeans, judged_files}
+use Rattle.debug_files.specs.Giving.{NothingGiven, BytesGiven, SeedGiven}
+use Rattle.debug_files.specs.Wanting.{wanted_by}
+use Rattle.debug_core.specs.PrintMeaning.{PrintMeans}
+use Rattle.debug_core.specs.CheckMeaning.{CheckMeans}
+use Rattle.debug_core.specs.RunMeaning.{RunMeans}
+use Rattle.debug_core.specs.JudgeMeaning.{JudgeMeans}
 
--- the files that are loaded for what is asked, in their order
-abbrev pub wanted_by : Asked → List Wanted
-wanted_by (AsksPrint file) = record { name = file; limit = printed_limit } ∷ []
-wanted_by (AsksCheck file) = record { name = file; limit = checked_limit } ∷ []
-wanted_by (AsksRun file turns) = record { name = file; limit = run_limit } ∷ []
-wanted_by (AsksJudge file sequence bound) = judged_files file sequence
-
--- These words and these bytes of files call for this outcome: one definition a command.
+-- These words and these bytes of files, in the order of the words, call for this outcome: one definition a command.
 abbrev pub Means : Asked → List (List ℕ) → Outcome → Type 0
 Means (AsksPrint file) (text ∷ []) o = PrintMeans text o
 Means (AsksCheck file) (text ∷ []) o = CheckMeans text o
-Means (AsksRun file turns) (text ∷ []) o = RunMeans turns text o
-Means (AsksJudge file sequence bound) (text ∷ lines ∷ []) o = JudgeMeans bound text lines o
+Means (AsksRun file None NoChoices turns) (text ∷ []) o = RunMeans text None NothingGiven turns o
+Means (AsksRun file None (ChoicesIn name) turns) (text ∷ choices ∷ []) o = RunMeans text None (BytesGiven choices) turns o
+Means (AsksRun file None (ChoicesBy seed) turns) (text ∷ []) o = RunMeans text None (SeedGiven seed) turns o
+Means (AsksRun file (Some list) NoChoices turns) (text ∷ inputs ∷ []) o = RunMeans text (Some inputs) NothingGiven turns o
+Means (AsksRun file (Some list) (ChoicesIn name) turns) (text ∷ inputs ∷ choices ∷ []) o = RunMeans text (Some inputs) (BytesGiven choices) turns o
+Means (AsksRun file (Some list) (ChoicesBy seed) turns) (text ∷ inputs ∷ []) o = RunMeans text (Some inputs) (SeedGiven seed) turns o
+Means (AsksJudge file None sequence bound) (text ∷ lines ∷ []) o = JudgeMeans text None lines bound o
+Means (AsksJudge file (Some list) sequence bound) (text ∷ inputs ∷ lines ∷ []) o = JudgeMeans text (Some inputs) lines bound o
 Means asked contents o = ⊥
 
 -- The bytes of all files were loaded, each by one load and in the order of the words, and with the words they call for the outcome.
 pub record AreHeld (asked : Asked) (told : Option (List ToldFile)) (loads : List Load) (o : Outcome) : Type 0 where
   pub contents : List (List ℕ)
-  pub loaded : AreLoaded told (wanted_by asked) contents
-  pub were : loads ≡ all_gave (wanted_by asked) contents
+  pub loaded : WereLoaded told (wanted_by asked) contents loads
   pub means : Means asked contents o
 
 -- The words and the files call for the outcome: it is what their bytes mean, or the refusal of the first file that was not loaded.
@@ -44,7 +44,7 @@ CallsFor asked told faults faults' loads o = AreHeld asked told loads o ⊎ AreU
 
 -- A run writes its lines as its actions are made, so that want of memory may leave a front of its text; every other text is written once nothing more is needed for it.
 abbrev pub GrowsFor : Asked → Option (List ToldFile) → ℕ → ℕ → List Load → Outcome → Type 0
-GrowsFor (AsksRun file turns) told faults faults' loads o = CallsFor (AsksRun file turns) told faults faults' loads o
+GrowsFor (AsksRun file inputs choices turns) told faults faults' loads o = CallsFor (AsksRun file inputs choices turns) told faults faults' loads o
 GrowsFor asked told faults faults' loads o = ⊥
 
 -- The status answers what the words ask for: it ends a call that delivers an outcome for which words and files call. Words that are no row are refused, and that needs no memory.

@@ -8,10 +8,6 @@ use Rattle.debug_text.specs.CheckText.{check_text}
 use Rattle.debug_outcome.specs.Outcomes.{Outcome, writes}
 use Rattle.debug_core.specs.LegalTexts.{IsLegalText, IsNoLegalText}
 
--- a program that is checked has at most this many bytes
-abbrev pub checked_limit : ℕ
-checked_limit = 1048576
-
 -- The text is that of a legal original, and the outcome is the text of its numbers.
 pub record IsChecked (text : List ℕ) (o : Outcome) : Type 0 where
   pub program : PProgram

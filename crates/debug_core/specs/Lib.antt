@@ -1,7 +1,10 @@
 pub mod TextFaults
 pub mod RuleFaults
 pub mod LegalTexts
-pub mod MachineTexts
+pub mod InputTexts
+pub mod ChoiceTexts
+pub mod Starts
+pub mod Started
 pub mod PrintMeaning
 pub mod CheckMeaning
 pub mod RunMeaning

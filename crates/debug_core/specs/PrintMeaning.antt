@@ -7,10 +7,6 @@ use Rattle.ada_printer.specs.ProgramText.{program_text}
 use Rattle.debug_outcome.specs.Outcomes.{Outcome, writes}
 use Rattle.debug_core.specs.TextFaults.{IsNoText}
 
--- a program that is printed has at most this many bytes
-abbrev pub printed_limit : ℕ
-printed_limit = 33554432
-
 -- The bytes are a text of the grammar, that of one program and of no other, and this program is the same as that one: equal but for places, names by their texts.
 pub record IsReadAsSame (bytes : List ℕ) (p : PProgram) : Type 0 where
   pub again : PProgram

@@ -1,25 +1,20 @@
--- What the text in a file that is run calls for (this project's rules).
-use Rattle.std.specs.Prelude.{ℕ, List, ◌⊎◌}
-use Rattle.ada_tree.specs.PlainProgram.{PProgram}
-use Rattle.ada_tree.specs.TypeTable.{TypeTable}
+-- What the files of a run call for: a program, the inputs of its tasks, and choices (this project's rules).
+use Rattle.std.specs.Prelude.{ℕ, List, Option, ◌⊎◌}
 use Rattle.syn_event.specs.declared.numbering.Mode.TheVariants.{Any}
 use Rattle.syn_event.specs.Numbering.{Numbering}
+use Rattle.task_model.specs.Machine.{Setup}
+use Rattle.debug_files.specs.Giving.{Given}
 use Rattle.debug_outcome.specs.Outcomes.{Outcome}
-use Rattle.debug_run.specs.RunOutcomes.{IsRunOf}
-use Rattle.debug_core.specs.MachineTexts.{IsProgram, IsNoProgram}
+use Rattle.debug_core.specs.ChoiceTexts.{RunsUnder}
+use Rattle.debug_core.specs.Starts.{IsStart, IsNoStart}
 
--- a program that is run has at most this many bytes
-abbrev pub run_limit : ℕ
-run_limit = 33554432
-
--- The text is that of a program that the machine can run, and the outcome is the text of its picked run, with the status of its end.
-pub record IsRun (turns : ℕ) (text : List ℕ) (o : Outcome) : Type 0 where
-  pub program : PProgram
-  pub types : TypeTable
+-- The text and the inputs give a start, and the outcome is that of the run from there under the choices, of at most so many turns.
+pub record IsRun (text : List ℕ) (inputs : Option (List ℕ)) (choices : Given) (turns : ℕ) (o : Outcome) : Type 0 where
+  pub setup : Setup
   pub numbers : Numbering
-  pub is_program : IsProgram text Any program types numbers
-  pub is_run : IsRunOf program numbers turns o
+  pub is_start : IsStart text Any inputs setup numbers
+  pub runs : RunsUnder setup numbers choices turns o
 
--- The bytes of a file that is run for so many turns call for this outcome.
-abbrev pub RunMeans : ℕ → List ℕ → Outcome → Type 0
-RunMeans turns text o = IsRun turns text o ⊎ IsNoProgram text Any o
+-- The bytes of a program and of inputs, and choices, call for this outcome.
+abbrev pub RunMeans : List ℕ → Option (List ℕ) → Given → ℕ → Outcome → Type 0
+RunMeans text inputs choices turns o = IsRun text inputs choices turns o ⊎ IsNoStart text Any inputs o

@@ -8,14 +8,12 @@ ghost use Rattle.debug_core.specs.Answers.{CallsFor};
 ghost use Rattle.debug_core.specs.CheckMeaning.{CheckMeans};
 
 use crate::reading::read_legal;
+use debug_files::ORIGINAL_LIMIT;
 use debug_outcome::{Stop, TracedFiles, load_file};
 use debug_text::put_numbers;
 use ded_io::Sink;
 use std::alloc::Global;
 use syn_event::Mode;
-
-// The file of a program that is checked has at most this many bytes.
-const FILE_LIMIT: u64 = 1_048_576;
 
 // Checks the program in a file, and answers the status.
 pub(crate) fn check_command<'w, F: TracedFiles, O: Sink>(
@@ -26,7 +24,7 @@ pub(crate) fn check_command<'w, F: TracedFiles, O: Sink>(
 ) -> Result<u8, Stop<'w>>
     ensures { HasLoads F.leads files.old files.new (λ loads. Comes (CallsFor (AsksCheck file.now) (F.told files.old) (F.faults files.old) (F.faults files.new) loads) Never (O.told out.old) (O.told out.new) (O.faults out.old) (O.faults out.new) result) }
 {
-    match load_file(alloc, file, FILE_LIMIT, files) {
+    match load_file(alloc, file, ORIGINAL_LIMIT, files) {
         Ok(text) => check_text(alloc, &text, out),
         Err(stop) => Err(stop),
     }

@@ -2,13 +2,14 @@
 #![tactic(auto)]
 
 mod check_command;
+mod choosing;
 mod judge_command;
 mod laws;
-mod machine_text;
 mod print_command;
 mod reading;
 mod rule_fault;
 mod run_command;
+mod starting;
 mod text_fault;
 mod top;
 

@@ -9,12 +9,10 @@ ghost use Rattle.debug_core.specs.PrintMeaning.{PrintMeans};
 
 use crate::reading::read_text;
 use ada_printer::print;
+use debug_files::TEXT_LIMIT;
 use debug_outcome::{Stop, TracedFiles, load_file};
 use ded_io::Sink;
 use std::alloc::Global;
-
-// A program's file has at most this many bytes.
-const FILE_LIMIT: u64 = 33_554_432;
 
 // Prints the program in a file, and answers the status.
 pub(crate) fn print_command<'w, F: TracedFiles, O: Sink>(
@@ -25,7 +23,7 @@ pub(crate) fn print_command<'w, F: TracedFiles, O: Sink>(
 ) -> Result<u8, Stop<'w>>
     ensures { HasLoads F.leads files.old files.new (λ loads. Comes (CallsFor (AsksPrint file.now) (F.told files.old) (F.faults files.old) (F.faults files.new) loads) Never (O.told out.old) (O.told out.new) (O.faults out.old) (O.faults out.new) result) }
 {
-    match load_file(alloc, file, FILE_LIMIT, files) {
+    match load_file(alloc, file, TEXT_LIMIT, files) {
         Ok(text) => print_text(alloc, &text, out),
         Err(stop) => Err(stop),
     }

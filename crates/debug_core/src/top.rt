@@ -20,10 +20,11 @@ use std::alloc::Global;
 /// All that the program does: takes its words without the program's own name, reads from `files`, writes to `out` and `err`, and answers the
 /// status with which it ends.
 ///
-/// The rows of words are `print FILE`, `check FILE`, `run FILE - - TURNS` and `judge FILE - SEQUENCE STEPS`. The statuses are 0 done; 10 no action applied any more and 11
-/// all turns were made, of a run; 4 the sequence is infeasible and 5 it is not settled, of a judgement; 1 the program's text is refused, 2 the
-/// words are no row, 3 the sequence is refused, 6 a file cannot be read, 7 an output cannot be written, 8 a limit is passed, 9 want of memory.
-/// With 1, 2, 3, 6, 8 and 9 a line stands on `err`, and with these but 9 nothing on `out`. Behind a write that failed nothing is put.
+/// The rows of words are `print FILE`, `check FILE`, `run FILE IN CHOICES TURNS` and `judge FILE IN SEQUENCE STEPS`. The statuses are 0 done; 10 no
+/// action applied any more and 11 all turns were made, of a run; 4 the sequence is infeasible and 5 it is not settled, of a judgement; 1 the
+/// program's text is refused, 2 the words are no row, 3 the sequence is refused, 6 a file cannot be read, 7 an output cannot be written, 8 a limit
+/// is passed, 9 want of memory, 12 the inputs or the choices are refused. With 1, 2, 3, 6, 8, 9 and 12 a line stands on `err`, and with these but 9
+/// nothing on `out`. Behind a write that failed nothing is put.
 pub fn debug_main<F: TracedFiles, O: Sink, E: Sink>(
     alloc: Global,
     words: &[String],

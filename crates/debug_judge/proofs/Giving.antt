@@ -4,7 +4,6 @@ use Rattle.std.specs.Prelude.{All, IfSome, slice_get, ◌&&◌, not}
 use Rattle.std.proofs.lemmas.Bool.{cases_Bool}
 use Rattle.std.proofs.lemmas.List.{get_or_append_left}
 use Rattle.std.proofs.lemmas.Option.{slice_get-get_or}
-use Rattle.ada_tree.specs.PlainProgram.{PProgram}
 use Rattle.ada_tree.proofs.Interning.{slice_get-last}
 use Rattle.event_machine.specs.declared.Event.{Event}
 use Rattle.event_machine.specs.declared.Event.TheVariants.{R, E, S, D, C, T, F, X, B, Z}
@@ -12,6 +11,7 @@ use Rattle.event_machine.specs.Tallies.{HasNoEnd}
 use Rattle.event_machine.specs.Worlds.{is_last}
 use Rattle.syn_event.specs.Numbering.{Numbering}
 use Rattle.seq_file.specs.Files.{NothingFollowsEnd, is_end}
+use Rattle.task_model.specs.Machine.{Setup}
 use Rattle.task_machine.specs.declared.verdict.Verdict.{Verdict}
 use Rattle.task_machine.specs.declared.verdict.Verdict.TheVariants.{Feasible, Infeasible, Unsettled}
 use Rattle.task_machine.specs.declared.verdict.Why.{Why}
@@ -62,8 +62,8 @@ none_given taken (Infeasible at why) c = absurd (let less : taken < 0 = c.1 in o
 none_given taken (Unsettled at t) c = absurd (let less : taken < 0 = c.1 in omega arith)
 
 -- a first judge has found its events feasible
-pub first_feasible : (p : PProgram) (k : Kept) → StandsFor p [] k → is_feasible k.verdict ≡ true
-first_feasible p k s = none_given k.taken k.verdict s.counts
+pub first_feasible : (setup : Setup) (k : Kept) → StandsFor setup [] k → is_feasible k.verdict ≡ true
+first_feasible setup k s = none_given k.taken k.verdict s.counts
 
 is_the_feasible : (v : Verdict) → is_feasible v ≡ true → v ≡ Feasible
 is_the_feasible Feasible h = refl
@@ -72,14 +72,14 @@ is_the_feasible (Unsettled at t) h = absurd (true≢false (sym h))
 
 -- ---- before any event
 
-pub found_first : (p : PProgram) (numbers : Numbering) (bound : ℕ) (k : Kept) → StandsFor p [] k → k.numbers ≡ numbers → k.bound ≡ bound →
-    IsFoundOf p numbers bound [] (record { verdict = Feasible; count = 0; event = None; judge = k })
-found_first p numbers bound k s same_numbers same_bound =
-    let is : k.verdict ≡ Feasible = is_the_feasible k.verdict (first_feasible p k s) in
+pub found_first : (setup : Setup) (numbers : Numbering) (bound : ℕ) (k : Kept) → StandsFor setup [] k → k.numbers ≡ numbers → k.bound ≡ bound →
+    IsFoundOf setup numbers bound [] (record { verdict = Feasible; count = 0; event = None; judge = k })
+found_first setup numbers bound k s same_numbers same_bound =
+    let is : k.verdict ≡ Feasible = is_the_feasible k.verdict (first_feasible setup k s) in
     record {
       verdict =
-          subst (λ (n : Numbering). VerdictIs p n bound [] Feasible) same_numbers
-          (subst (λ (b : ℕ). VerdictIs p k.numbers b [] Feasible) same_bound (subst (VerdictIs p k.numbers k.bound []) is s.verdict));
+          subst (λ (n : Numbering). VerdictIs setup n bound [] Feasible) same_numbers
+          (subst (λ (b : ℕ). VerdictIs setup k.numbers b [] Feasible) same_bound (subst (VerdictIs setup k.numbers k.bound []) is s.verdict));
       count = refl;
       event = refl;
       stands = s;
@@ -131,8 +131,8 @@ nothing_settled numbers k (Unsettled at t) o h = absurd (true≢false (sym h))
 
 -- ---- one event more
 
-module _ (p : PProgram) (numbers : Numbering) (bound : ℕ) (events : List Event) (e : Event) (old : LinesVerdict) (new : Kept) (v : Verdict)
-    (f : IsFoundOf p numbers bound events old) (stands : StandsFor p (events ++ e ∷ []) new) (last : v ≡ new.verdict)
+module _ (setup : Setup) (numbers : Numbering) (bound : ℕ) (events : List Event) (e : Event) (old : LinesVerdict) (new : Kept) (v : Verdict)
+    (f : IsFoundOf setup numbers bound events old) (stands : StandsFor setup (events ++ e ∷ []) new) (last : v ≡ new.verdict)
     (settled : is_feasible old.judge.verdict ≡ true → is_infeasible v ≡ true → All (IsSettled new.tasks) (needed_of old.judge.numbers e))
     (grows : old.judge.taken ≤ new.taken) (stays : is_feasible old.judge.verdict ≡ false → new ≡ old.judge) where
   placed : Option Event
@@ -176,14 +176,14 @@ module _ (p : PProgram) (numbers : Numbering) (bound : ℕ) (events : List Event
   is_placed = elim (cases_Bool (is_feasible old.verdict)) [ inl was ↦ placed_now was | inr was ↦ placed_earlier was ]
 
   pub found_more : new.numbers ≡ old.judge.numbers → new.bound ≡ old.judge.bound →
-      IsFoundOf p numbers bound (events ++ e ∷ []) (record { verdict = v; count = old.count + 1; event = event_with old.verdict old.event v e; judge = new })
+      IsFoundOf setup numbers bound (events ++ e ∷ []) (record { verdict = v; count = old.count + 1; event = event_with old.verdict old.event v e; judge = new })
   found_more same_numbers same_bound =
       let is_numbers : new.numbers ≡ numbers = same_numbers ∙ f.numbers_are in
       let is_bound : new.bound ≡ bound = same_bound ∙ f.bound_is in
       record {
         verdict =
-            subst (λ (n : Numbering). VerdictIs p n bound (events ++ e ∷ []) v) is_numbers
-            (subst (λ (b : ℕ). VerdictIs p new.numbers b (events ++ e ∷ []) v) is_bound (subst (VerdictIs p new.numbers new.bound (events ++ e ∷ [])) (sym last) stands.verdict));
+            subst (λ (n : Numbering). VerdictIs setup n bound (events ++ e ∷ []) v) is_numbers
+            (subst (λ (b : ℕ). VerdictIs setup new.numbers b (events ++ e ∷ []) v) is_bound (subst (VerdictIs setup new.numbers new.bound (events ++ e ∷ [])) (sym last) stands.verdict));
         count = omega (arith, f.count, length-append events (e ∷ []));
         event = is_placed.0;
         stands = stands;
@@ -196,36 +196,36 @@ module _ (p : PProgram) (numbers : Numbering) (bound : ℕ) (events : List Event
 -- ---- all events
 
 -- the judge has taken no more events than it was given
-pub few_taken : (p : PProgram) (events : List Event) (k : Kept) → StandsFor p events k → k.taken ≤ length events
-few_taken p events k s = elim (cases_Bool (is_feasible k.verdict)) [
+pub few_taken : (setup : Setup) (events : List Event) (k : Kept) → StandsFor setup events k → k.taken ≤ length events
+few_taken setup events k s = elim (cases_Bool (is_feasible k.verdict)) [
   | inl well ↦ (let same : k.taken ≡ length events = all_taken events k.taken k.verdict s.counts well in omega arith)
   | inr bad ↦ (let less : k.taken < length events = some_taken events k.taken k.verdict s.counts bad in omega arith)
 ]
 
-module _ (p : PProgram) (numbers : Numbering) (events : List Event) (end : NothingFollows events) (k : Kept) (s : StandsFor p events k) (same : k.numbers ≡ numbers) where
+module _ (setup : Setup) (numbers : Numbering) (events : List Event) (end : NothingFollows events) (k : Kept) (s : StandsFor setup events k) (same : k.numbers ≡ numbers) where
   -- the event at place k.taken was refused
   seen_refused : (e : Event) (at : ℕ) (why : Why) → k.verdict ≡ Infeasible at why → event_of events (Infeasible at why) ≡ Some e → All (IsSettled k.tasks) (needed_of numbers e) →
-      AreSeen p numbers (take (at - 1) events) (view_at k.tasks) e
+      AreSeen setup numbers (take (at - 1) events) (view_at k.tasks) e
   seen_refused e at why is got all =
       let counts : Counts events k.taken (Infeasible at why) = subst (Counts events k.taken) is s.counts in
       let place : k.taken ≡ at - 1 = omega (arith, counts.0) in
       let before : HasNoEnd (take k.taken events) = no_end_front events k.taken counts.1 end in
       let here : All (IsSettled k.tasks) (needed_of k.numbers e) = subst (λ (n : Numbering). All (IsSettled k.tasks) (needed_of n e)) (sym same) all in
-      let seen : AreSeen p k.numbers (take k.taken events) (view_at k.tasks) e = (views_settled p k.numbers k.bound (take k.taken events) before k.tasks k.steps k.ended s.keeps e here).needed in
-      subst (λ (n : Numbering). AreSeen p n (take (at - 1) events) (view_at k.tasks) e) same
-      (subst (λ (n : ℕ). AreSeen p k.numbers (take n events) (view_at k.tasks) e) place seen)
+      let seen : AreSeen setup k.numbers (take k.taken events) (view_at k.tasks) e = (views_settled setup k.numbers k.bound (take k.taken events) before k.tasks k.steps k.ended s.keeps e here).needed in
+      subst (λ (n : Numbering). AreSeen setup n (take (at - 1) events) (view_at k.tasks) e) same
+      (subst (λ (n : ℕ). AreSeen setup k.numbers (take n events) (view_at k.tasks) e) place seen)
 
   seen_at : (at : ℕ) (why : Why) → k.verdict ≡ Infeasible at why → (o : Option Event) → event_of events (Infeasible at why) ≡ o → AreSettled k.tasks numbers (Infeasible at why) o →
-      IfSome o (AreSeen p numbers (take (at - 1) events) (view_at k.tasks))
+      IfSome o (AreSeen setup numbers (take (at - 1) events) (view_at k.tasks))
   seen_at at why is None got all = tt
   seen_at at why is (Some e) got all = seen_refused e at why is got all
 
-  seen_why : (v : Verdict) → k.verdict ≡ v → (o : Option Event) → event_of events v ≡ o → AreSettled k.tasks numbers v o → ShowsWhy p numbers events (view_at k.tasks) v
+  seen_why : (v : Verdict) → k.verdict ≡ v → (o : Option Event) → event_of events v ≡ o → AreSettled k.tasks numbers v o → ShowsWhy setup numbers events (view_at k.tasks) v
   seen_why Feasible is o got all = tt
-  seen_why (Infeasible at why) is o got all = subst (λ (x : Option Event). IfSome x (AreSeen p numbers (take (at - 1) events) (view_at k.tasks))) (sym got) (seen_at at why is o got all)
+  seen_why (Infeasible at why) is o got all = subst (λ (x : Option Event). IfSome x (AreSeen setup numbers (take (at - 1) events) (view_at k.tasks))) (sym got) (seen_at at why is o got all)
   seen_why (Unsettled at t) is o got all = tt
 
 -- where an event is refused, the judge shows the tasks that it needs
-pub found_seen : (p : PProgram) (numbers : Numbering) (bound : ℕ) (events : List Event) (found : LinesVerdict) → NothingFollows events → IsFoundOf p numbers bound events found →
-    ShowsWhy p numbers events (view_at found.judge.tasks) found.verdict
-found_seen p numbers bound events found end f = seen_why p numbers events end found.judge f.stands f.numbers_are found.verdict (sym f.last) found.event (sym f.event) f.settled
+pub found_seen : (setup : Setup) (numbers : Numbering) (bound : ℕ) (events : List Event) (found : LinesVerdict) → NothingFollows events → IsFoundOf setup numbers bound events found →
+    ShowsWhy setup numbers events (view_at found.judge.tasks) found.verdict
+found_seen setup numbers bound events found end f = seen_why setup numbers events end found.judge f.stands f.numbers_are found.verdict (sym f.last) found.event (sym f.event) f.settled

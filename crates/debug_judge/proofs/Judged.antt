@@ -2,12 +2,12 @@
 use Rattle.std.proofs.Common.{◌≡◌, ℕ, List, [], length, Option, Ok, Err, ap, refl, ◌∙◌, subst, inr}
 use Rattle.ded_io.specs.Counts.{Rose}
 use Rattle.ded_io.specs.Written.{appended, Began, Wrote}
-use Rattle.ada_tree.specs.PlainProgram.{PProgram}
 use Rattle.event_machine.specs.declared.Event.{Event}
+use Rattle.syn_event.specs.Numbering.{Numbering}
 use Rattle.seq_file.specs.declared.errors.SeqError.{SeqError}
 use Rattle.seq_file.specs.declared.errors.SeqError.TheVariants as error
 use Rattle.seq_file.specs.Files.{HasFirstFault}
-use Rattle.syn_event.specs.Numbering.{Numbering}
+use Rattle.task_model.specs.Machine.{Setup}
 use Rattle.task_machine.specs.declared.verdict.Verdict.{Verdict}
 use Rattle.task_machine.specs.Judging.{VerdictIs}
 use Rattle.feasible.specs.Failing.{view_at}
@@ -16,20 +16,21 @@ use Rattle.divergence.specs.JudgeText.{report_text, judge_text, event_of}
 use Rattle.debug_outcome.specs.Coming.{HasPut, HasBroken, Stops, stop_by}
 use Rattle.debug_judge.specs.JudgeOutcomes.{ShowsWhy, IsVerdictText, JudgesLines, refusal_of_sequence, verdict_status}
 
-module _ (p : PProgram) (numbers : Numbering) (bound bound' : ℕ) (events : List Event) (k : Kept) (v : Verdict) (count : ℕ) (e : Option Event) (old new : Option (List ℕ)) (writes writes' : ℕ)
-    (verdict_is : VerdictIs p numbers bound events v) (seen : ShowsWhy p numbers events (view_at k.tasks) v) (counted : count ≡ length events) (event : e ≡ event_of events v) (bounded : bound' ≡ bound) where
+module _ (setup : Setup) (names : List (List ℕ)) (numbers : Numbering) (bound bound' : ℕ) (events : List Event) (k : Kept) (v : Verdict) (count : ℕ) (e : Option Event) (old new : Option (List ℕ)) (writes writes' : ℕ)
+    (verdict_is : VerdictIs setup numbers bound events v) (seen : ShowsWhy setup numbers events (view_at k.tasks) v) (counted : count ≡ length events) (event : e ≡ event_of events v) (bounded : bound' ≡ bound) (named : names ≡ setup.program.names) where
   abbrev text : List ℕ
-  text = judge_text p.names numbers bound (view_at k.tasks) events v
+  text = judge_text setup.program.names numbers bound (view_at k.tasks) events v
 
-  is_text : report_text p.names numbers bound' (view_at k.tasks) count v e ≡ text
+  is_text : report_text names numbers bound' (view_at k.tasks) count v e ≡ text
   is_text =
-      ap (λ (b : ℕ). report_text p.names numbers b (view_at k.tasks) count v e) bounded
-      ∙ ap (λ (n : ℕ). report_text p.names numbers bound (view_at k.tasks) n v e) counted
-      ∙ ap (λ (o : Option Event). report_text p.names numbers bound (view_at k.tasks) (length events) v o) event
+      ap (λ (ns : List (List ℕ)). report_text ns numbers bound' (view_at k.tasks) count v e) named
+      ∙ ap (λ (b : ℕ). report_text setup.program.names numbers b (view_at k.tasks) count v e) bounded
+      ∙ ap (λ (n : ℕ). report_text setup.program.names numbers bound (view_at k.tasks) n v e) counted
+      ∙ ap (λ (o : Option Event). report_text setup.program.names numbers bound (view_at k.tasks) (length events) v o) event
 
   -- all of it was written
-  pub verdict_put : (A E : Type 0) (x : A) (status : ℕ) → Wrote {E = E} (Ok x) old new (report_text p.names numbers bound' (view_at k.tasks) count v e) → writes' ≡ writes → status ≡ verdict_status v →
-      HasPut (IsVerdictText p numbers bound events) old new writes writes' status
+  pub verdict_put : (A E : Type 0) (x : A) (status : ℕ) → Wrote {E = E} (Ok x) old new (report_text names numbers bound' (view_at k.tasks) count v e) → writes' ≡ writes → status ≡ verdict_status v →
+      HasPut (IsVerdictText setup numbers bound events) old new writes writes' status
   unfolding Wrote
   verdict_put A E x status wrote still status_is = record {
     text = text;
@@ -44,7 +45,7 @@ module _ (p : PProgram) (numbers : Numbering) (bound bound' : ℕ) (events : Lis
   }
 
   -- or a front of it
-  pub verdict_cut : (A E : Type 0) (x : E) → Wrote {A = A} (Err x) old new (report_text p.names numbers bound' (view_at k.tasks) count v e) → Rose writes writes' → HasBroken (IsVerdictText p numbers bound events) old new writes writes'
+  pub verdict_cut : (A E : Type 0) (x : E) → Wrote {A = A} (Err x) old new (report_text names numbers bound' (view_at k.tasks) count v e) → Rose writes writes' → HasBroken (IsVerdictText setup numbers bound events) old new writes writes'
   unfolding Wrote
   verdict_cut A E x wrote rose = record {
     text = text;
@@ -54,11 +55,11 @@ module _ (p : PProgram) (numbers : Numbering) (bound bound' : ℕ) (events : Lis
   }
 
 -- the refusal of a sequence is one that its lines call for
-pub stops_sequence : (p : PProgram) (numbers : Numbering) (lines : List ℕ) (bound : ℕ) (found : SeqError) → HasFirstFault lines numbers p.names found →
-    Stops (JudgesLines p numbers lines bound) (stop_by (refusal_of_sequence found))
-stops_sequence p numbers lines bound (error.BadLine line) h = inr (record { error = error.BadLine line; fault = h; told = refl })
-stops_sequence p numbers lines bound (error.OtherProgram line) h = inr (record { error = error.OtherProgram line; fault = h; told = refl })
-stops_sequence p numbers lines bound (error.BadNumber line) h = inr (record { error = error.BadNumber line; fault = h; told = refl })
-stops_sequence p numbers lines bound (error.AfterEnd line) h = inr (record { error = error.AfterEnd line; fault = h; told = refl })
-stops_sequence p numbers lines bound (error.TooMany limit) h = inr (record { error = error.TooMany limit; fault = h; told = refl })
-stops_sequence p numbers lines bound error.Memory h = tt
+pub stops_sequence : (setup : Setup) (numbers : Numbering) (lines : List ℕ) (bound : ℕ) (found : SeqError) → HasFirstFault lines numbers setup.program.names found →
+    Stops (JudgesLines setup numbers lines bound) (stop_by (refusal_of_sequence found))
+stops_sequence setup numbers lines bound (error.BadLine line) h = inr (record { error = error.BadLine line; fault = h; told = refl })
+stops_sequence setup numbers lines bound (error.OtherProgram line) h = inr (record { error = error.OtherProgram line; fault = h; told = refl })
+stops_sequence setup numbers lines bound (error.BadNumber line) h = inr (record { error = error.BadNumber line; fault = h; told = refl })
+stops_sequence setup numbers lines bound (error.AfterEnd line) h = inr (record { error = error.AfterEnd line; fault = h; told = refl })
+stops_sequence setup numbers lines bound (error.TooMany limit) h = inr (record { error = error.TooMany limit; fault = h; told = refl })
+stops_sequence setup numbers lines bound error.Memory h = tt

@@ -5,12 +5,11 @@ use Rattle.std.proofs.lemmas.Bool.{cases_Bool}
 use Rattle.std.proofs.lemmas.List.Elements.{All-take}
 use Rattle.std.proofs.Math.Seq.{take-append_seam}
 use Rattle.ded_io.specs.Written.{◌⧺◌, each_text}
-use Rattle.ada_tree.specs.PlainProgram.{PProgram}
 use Rattle.event_machine.specs.declared.Event.{Event}
 use Rattle.event_machine.specs.Tallies.{HasNoEnd}
+use Rattle.text_lines.specs.Lines.{first_line}
 use Rattle.syn_event.specs.Numbering.{Numbering}
 use Rattle.syn_event.specs.EventText.{event_text}
-use Rattle.text_lines.specs.Lines.{first_line}
 use Rattle.seq_file.specs.declared.errors.SeqError.{SeqError}
 use Rattle.seq_file.specs.declared.errors.SeqError.TheVariants.{BadNumber, TooMany, Memory}
 use Rattle.seq_file.specs.declared.stepping.SeqLines.{SeqLines}
@@ -18,16 +17,17 @@ use Rattle.seq_file.specs.Files.{most_events, header_line, event_line, SeqText, 
 use Rattle.seq_file.specs.Known.{is_known}
 use Rattle.seq_file.specs.Lines.{event_of_line}
 use Rattle.seq_file.specs.Stepping.{StandsBehind, IsRefusedBehind}
+use Rattle.task_model.specs.Machine.{Setup}
 use Rattle.feasible.proofs.Fronts.{no_end_front}
 use Rattle.debug_judge.specs.declared.lines.LinesVerdict.{LinesVerdict}
 use Rattle.debug_judge.specs.JudgedLines.{IsFoundOf, behind_last}
 use Rattle.debug_judge.proofs.Giving.{nothing_follows}
 
 -- so many lines were read, and this is found of their events
-pub record IsJudgedTo (p : PProgram) (numbers : Numbering) (bound : ℕ) (bytes : List ℕ) (n : ℕ) (lines : SeqLines) (found : LinesVerdict) : Type 0 where
+pub record IsJudgedTo (setup : Setup) (numbers : Numbering) (bound : ℕ) (bytes : List ℕ) (n : ℕ) (lines : SeqLines) (found : LinesVerdict) : Type 0 where
   pub events : List Event
-  pub read : StandsBehind bytes numbers p.names events lines
-  pub found_of : IsFoundOf p numbers bound events found
+  pub read : StandsBehind bytes numbers setup.program.names events lines
+  pub found_of : IsFoundOf setup numbers bound events found
   pub so_far : length events ≡ n
 
 -- ---- events with one more

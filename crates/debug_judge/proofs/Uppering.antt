@@ -1,16 +1,15 @@
 -- The name of a legal program is one that a header of a sequence may have.
-use Rattle.std.proofs.Common.{◌≡◌, ℕ, Bool, true, false, cond, List, [], ◌∷◌, refl, sym, ap, ◌∙◌, inl, inr}
-use Rattle.std.specs.Prelude.{not, ◌&&◌, ◌||◌, ◌==◌}
+use Rattle.std.proofs.Common.{◌≡◌, ℕ, Bool, true, false, cond, List, [], ◌∷◌, Option, Some, None, refl, sym, ap, ◌∙◌, inl, inr}
+use Rattle.std.specs.Prelude.{not, ◌&&◌, ◌||◌, ◌==◌, IsSomeAnd, slice_get, unwrap_or}
 use Rattle.std.proofs.lemmas.Bool.{cases_Bool, and_parts, and_from, or_left, or_right, true≢false}
-use Rattle.std.proofs.lemmas.List.Elements.{All-head}
-use Rattle.ada_tree.specs.Lexical.{is_upper_letter, is_digit, goes_on, is_word}
+use Rattle.ada_tree.specs.Lexical.{is_upper_letter, is_digit, goes_on, is_word, IsIdentifier}
 use Rattle.ada_tree.specs.PlainProgram.{PProgram}
 use Rattle.ada_tree.specs.TypeTable.{TypeTable}
-use Rattle.seq_file.specs.Lines.{every, begins, name_goes_on, is_name_part, is_upper_name}
 use Rattle.syn_event.specs.declared.numbering.Mode.{Mode}
 use Rattle.syn_event.specs.Numbering.{Numbering}
-use Rattle.syn_event.specs.Units.{text_of, tasks_of, task_names}
-use Rattle.syn_event.specs.Legal.{Legal, IsIdentifierName}
+use Rattle.syn_event.specs.Units.{text_of}
+use Rattle.syn_event.specs.LegalProgram.{IsLegal}
+use Rattle.seq_file.specs.Lines.{every, begins, name_goes_on, is_name_part, is_upper_name}
 
 goes_every : (under : Bool) (text : List ℕ) → goes_on under text ≡ true → (every name_goes_on text ≡ true) × (under ≡ true → begins is_name_part text ≡ true)
 goes_every true [] h = absurd (true≢false (sym h))
@@ -36,7 +35,12 @@ word_is_upper (b ∷ text) h =
     let parts = and_parts (is_upper_letter b) (goes_on false text) h in
     and_from _ _ parts.0 (goes_every false text parts.1).0
 
-pub name_is_upper : (p : PProgram) (types : TypeTable) (numbers : Numbering) (mode : Mode) → Legal p types numbers mode → is_upper_name (text_of p.names numbers.main) ≡ true
+-- a name that a source can hold, in upper case
+pub name_is_word : (o : Option (List ℕ)) → IsSomeAnd o IsIdentifier → is_word (unwrap_or o []) ≡ true
+name_is_word (Some text) h = h.0
+name_is_word None h = absurd h
+
+pub name_is_upper : (p : PProgram) (types : TypeTable) (numbers : Numbering) (mode : Mode) → IsLegal p types numbers mode → is_upper_name (text_of p.names numbers.main) ≡ true
 name_is_upper p types numbers mode legal =
     ap (λ (n : Numbering). is_upper_name (text_of p.names n.main)) legal.its_numbers
-    ∙ word_is_upper (text_of p.names p.name.name) (All-head (IsIdentifierName p.names) p.name.name.0 (task_names (tasks_of p)) legal.names_are_identifiers.main)
+    ∙ word_is_upper (text_of p.names p.name.name) (name_is_word (slice_get p.names p.name.name.0) legal.tokens.0)

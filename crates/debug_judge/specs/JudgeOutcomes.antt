@@ -1,11 +1,11 @@
 -- What the judging of a sequence comes to: the text of its verdict with the status of that, or the fault of its first bad line (this project's rules).
 use Rattle.std.specs.Prelude.{◌≡◌, ℕ, ◌-◌, List, take, All, IfSome, ⊤, Option, Some, None, ◌⊎◌}
-use Rattle.ada_tree.specs.PlainProgram.{PProgram}
 use Rattle.event_machine.specs.declared.Event.{Event}
+use Rattle.syn_event.specs.Numbering.{Numbering}
 use Rattle.seq_file.specs.declared.errors.SeqError.{SeqError}
 use Rattle.seq_file.specs.declared.errors.SeqError.TheVariants as error
 use Rattle.seq_file.specs.Files.{SeqReads, HasFirstFault}
-use Rattle.syn_event.specs.Numbering.{Numbering}
+use Rattle.task_model.specs.Machine.{Setup}
 use Rattle.task_machine.specs.declared.verdict.Verdict.{Verdict}
 use Rattle.task_machine.specs.declared.verdict.Verdict.TheVariants.{Feasible, Infeasible, Unsettled}
 use Rattle.task_machine.specs.Conditions.{needed_of}
@@ -16,6 +16,7 @@ use Rattle.debug_outcome.specs.Coming.{IsRefusal}
 use Rattle.debug_outcome.specs.Outcomes.{Outcome, writes}
 use Rattle.debug_outcome.specs.declared.refusal.Refusal.{Refusal}
 use Rattle.debug_outcome.specs.declared.refusal.Refusal.TheVariants.{BadSequence, TooMany}
+use Rattle.debug_outcome.specs.declared.refusal.Listed.TheVariants.{Events}
 use Rattle.debug_outcome.specs.declared.refusal.SequenceFault.TheVariants as fault
 
 -- the status of a verdict
@@ -25,28 +26,28 @@ verdict_status (Infeasible at why) = 4
 verdict_status (Unsettled at t) = 5
 
 -- each task that the event needs is seen so after these events
-abbrev pub AreSeen : PProgram → Numbering → List Event → (ℕ → View) → Event → Type 0
-AreSeen p numbers before views e = All (λ t. ViewIs p numbers before t (views t)) (needed_of numbers e)
+abbrev pub AreSeen : Setup → Numbering → List Event → (ℕ → View) → Event → Type 0
+AreSeen setup numbers before views e = All (λ t. ViewIs setup numbers before t (views t)) (needed_of numbers e)
 
 -- where a verdict refuses an event, the tasks that this event needs are seen so before it
-abbrev pub ShowsWhy : PProgram → Numbering → List Event → (ℕ → View) → Verdict → Type 0
-ShowsWhy p numbers events views Feasible = ⊤
-ShowsWhy p numbers events views (Infeasible at why) = IfSome (event_of events (Infeasible at why)) (AreSeen p numbers (take (at - 1) events) views)
-ShowsWhy p numbers events views (Unsettled at t) = ⊤
+abbrev pub ShowsWhy : Setup → Numbering → List Event → (ℕ → View) → Verdict → Type 0
+ShowsWhy setup numbers events views Feasible = ⊤
+ShowsWhy setup numbers events views (Infeasible at why) = IfSome (event_of events (Infeasible at why)) (AreSeen setup numbers (take (at - 1) events) views)
+ShowsWhy setup numbers events views (Unsettled at t) = ⊤
 
 -- The events of a program have this verdict, and the outcome is the text of it with its status.
-pub record IsVerdictText (program : PProgram) (numbers : Numbering) (bound : ℕ) (events : List Event) (o : Outcome) : Type 0 where
+pub record IsVerdictText (setup : Setup) (numbers : Numbering) (bound : ℕ) (events : List Event) (o : Outcome) : Type 0 where
   pub verdict : Verdict
-  pub verdict_is : VerdictIs program numbers bound events verdict
+  pub verdict_is : VerdictIs setup numbers bound events verdict
   pub views : ℕ → View
-  pub seen : ShowsWhy program numbers events views verdict
-  pub is : o ≡ writes (judge_text program.names numbers bound views events verdict) (verdict_status verdict)
+  pub seen : ShowsWhy setup numbers events views verdict
+  pub is : o ≡ writes (judge_text setup.program.names numbers bound views events verdict) (verdict_status verdict)
 
 -- The lines are a sequence of the program, and the outcome is the text of its verdict.
-pub record IsJudged (program : PProgram) (numbers : Numbering) (lines : List ℕ) (bound : ℕ) (o : Outcome) : Type 0 where
+pub record IsJudged (setup : Setup) (numbers : Numbering) (lines : List ℕ) (bound : ℕ) (o : Outcome) : Type 0 where
   pub events : List Event
-  pub reads : SeqReads lines numbers program.names events
-  pub judged : IsVerdictText program numbers bound events o
+  pub reads : SeqReads lines numbers setup.program.names events
+  pub judged : IsVerdictText setup numbers bound events o
 
 -- the refusal for each error of the reader of sequences; none for want of memory
 abbrev pub refusal_of_sequence : SeqError → Option Refusal
@@ -54,15 +55,15 @@ refusal_of_sequence (error.BadLine line) = Some (BadSequence fault.BadLine line)
 refusal_of_sequence (error.OtherProgram line) = Some (BadSequence fault.OtherProgram line)
 refusal_of_sequence (error.BadNumber line) = Some (BadSequence fault.BadNumber line)
 refusal_of_sequence (error.AfterEnd line) = Some (BadSequence fault.AfterEnd line)
-refusal_of_sequence (error.TooMany limit) = Some (TooMany limit)
+refusal_of_sequence (error.TooMany limit) = Some (TooMany Events limit)
 refusal_of_sequence error.Memory = None
 
 -- The first bad line of the sequence has a fault, and the outcome tells it.
-pub record IsBadSequence (program : PProgram) (numbers : Numbering) (lines : List ℕ) (o : Outcome) : Type 0 where
+pub record IsBadSequence (setup : Setup) (numbers : Numbering) (lines : List ℕ) (o : Outcome) : Type 0 where
   pub error : SeqError
-  pub fault : HasFirstFault lines numbers program.names error
+  pub fault : HasFirstFault lines numbers setup.program.names error
   pub told : IsRefusal (refusal_of_sequence error) o
 
 -- The lines of a sequence call for this outcome.
-abbrev pub JudgesLines : PProgram → Numbering → List ℕ → ℕ → Outcome → Type 0
-JudgesLines program numbers lines bound o = IsJudged program numbers lines bound o ⊎ IsBadSequence program numbers lines o
+abbrev pub JudgesLines : Setup → Numbering → List ℕ → ℕ → Outcome → Type 0
+JudgesLines setup numbers lines bound o = IsJudged setup numbers lines bound o ⊎ IsBadSequence setup numbers lines o

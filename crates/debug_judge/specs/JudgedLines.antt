@@ -1,11 +1,11 @@
 -- What is found of the lines of a sequence that are judged one after the other (this project's rules).
 use Rattle.std.specs.Prelude.{◌≡◌, ℕ, ◌&&◌, not, List, length, Option, Some, if◌then◌else◌, ⊤}
-use Rattle.ada_tree.specs.PlainProgram.{PProgram}
 use Rattle.event_machine.specs.declared.Event.{Event}
+use Rattle.syn_event.specs.Numbering.{Numbering}
 use Rattle.seq_file.specs.declared.errors.SeqError.{SeqError}
 use Rattle.seq_file.specs.declared.errors.SeqError.TheVariants.{BadLine, OtherProgram, BadNumber, AfterEnd, TooMany, Memory}
 use Rattle.seq_file.specs.Files.{most_events, SeqReads, HasFirstFault}
-use Rattle.syn_event.specs.Numbering.{Numbering}
+use Rattle.task_model.specs.Machine.{Setup}
 use Rattle.task_machine.specs.declared.verdict.Verdict.{Verdict}
 use Rattle.task_machine.specs.Judging.{VerdictIs}
 use Rattle.feasible.specs.Keeping.{StandsFor, is_feasible}
@@ -17,26 +17,26 @@ use Rattle.debug_judge.specs.declared.lines.LinesError.TheVariants as error
 
 -- Found of these events: their verdict, their number, the event at the place of a verdict that is not feasible, and a judge that stands for them
 -- and shows each task that an infeasible event needs.
-pub record IsFoundOf (p : PProgram) (numbers : Numbering) (bound : ℕ) (events : List Event) (found : LinesVerdict) : Type 0 where
-  pub verdict : VerdictIs p numbers bound events found.verdict
+pub record IsFoundOf (setup : Setup) (numbers : Numbering) (bound : ℕ) (events : List Event) (found : LinesVerdict) : Type 0 where
+  pub verdict : VerdictIs setup numbers bound events found.verdict
   pub count : found.count ≡ length events
   pub event : found.event ≡ event_of events found.verdict
-  pub stands : StandsFor p events found.judge
+  pub stands : StandsFor setup events found.judge
   pub last : found.verdict ≡ found.judge.verdict
   pub settled : AreSettled found.judge.tasks numbers found.verdict found.event
   pub numbers_are : found.judge.numbers ≡ numbers
   pub bound_is : found.judge.bound ≡ bound
 
 -- The lines are a sequence of the program, and this is found of its events.
-pub record AreFound (p : PProgram) (numbers : Numbering) (bound : ℕ) (lines : List ℕ) (found : LinesVerdict) : Type 0 where
+pub record AreFound (setup : Setup) (numbers : Numbering) (bound : ℕ) (lines : List ℕ) (found : LinesVerdict) : Type 0 where
   pub events : List Event
-  pub reads : SeqReads lines numbers p.names events
-  pub found_of : IsFoundOf p numbers bound events found
+  pub reads : SeqReads lines numbers setup.program.names events
+  pub found_of : IsFoundOf setup numbers bound events found
 
 -- Why the lines have no verdict: their first bad line has this fault, or there was no memory.
-abbrev pub FailsBy : PProgram → Numbering → List ℕ → LinesError → Type 0
-FailsBy p numbers lines (error.Seq fault) = HasFirstFault lines numbers p.names fault
-FailsBy p numbers lines error.Memory = ⊤
+abbrev pub FailsBy : Setup → Numbering → List ℕ → LinesError → Type 0
+FailsBy setup numbers lines (error.Seq fault) = HasFirstFault lines numbers setup.program.names fault
+FailsBy setup numbers lines error.Memory = ⊤
 
 -- the event at the place of a verdict, where one event more was given: the first event behind which the verdict is not feasible
 abbrev pub event_with : Verdict → Option Event → Verdict → Event → Option Event

@@ -3,8 +3,8 @@
 ghost use Rattle.std.specs.Prelude.{◌≡◌, ◌<◌, ◌-◌, ◌^◌, ℕ, List, length};
 ghost use Rattle.ada_tree.specs.PlainProgram.{plain_program};
 ghost use Rattle.event_machine.specs.declared.Event.{Event};
+ghost use Rattle.task_model.specs.Machine.{Setup};
 ghost use Rattle.feasible.specs.Keeping.{NothingFollows};
-ghost use Rattle.syn_event.specs.Legal.{Legal};
 ghost use Rattle.divergence.specs.Seen.{AreSettled};
 ghost use Rattle.debug_outcome.specs.Coming.{Comes, Never, stop_by};
 ghost use Rattle.debug_judge.specs.JudgeOutcomes.{JudgesLines, IsVerdictText, refusal_of_sequence, verdict_status};
@@ -13,13 +13,14 @@ ghost use Rattle.debug_judge.specs.JudgedLines.{IsFoundOf};
 use crate::lines::{LinesError, LinesVerdict, judge_lines};
 use ada_tree::{Program, Types};
 use ada_value::Inputs;
-use debug_outcome::{Refusal, SequenceFault, Stop};
+use debug_outcome::{Listed, Refusal, SequenceFault, Stop};
 use ded_io::Sink;
 use divergence::report;
 use feasible::Verdict;
 use seq_file::SeqError;
 use std::alloc::Global;
-use syn_event::{Mode, Numbers};
+use syn_event::Numbers;
+use task_links::Links;
 
 /// Judges the lines of a sequence for a program, where a task may make `bound` local steps between the events that change it, and writes the
 /// text of the verdict: 0 where the sequence is feasible, 4 where it is infeasible, and 5 where a task is not settled. Lines that are no
@@ -29,18 +30,19 @@ pub fn report_lines<'w, K: Sink>(
     program: &Program,
     types: &Types,
     numbers: &Numbers,
+    inputs: &Inputs,
     lines: &[u8],
     bound: u64,
     out: &mut K,
 ) -> Result<u8, Stop<'w>>
-    requires legal { Legal (plain_program program.now) types.now numbers.now Mode.Original }
-    requires length { length lines.now < 2 ^ 32 - 1 }
-    ensures { Comes (JudgesLines (plain_program program.now) numbers.now lines.now bound) Never (K.told out.old) (K.told out.new) (K.faults out.old) (K.faults out.new) result }
+    requires { length lines.now < 2 ^ 32 - 1 }
+    ensures { Comes (JudgesLines (record { program = plain_program program.now; types = types.now; inputs = inputs.now }) numbers.now lines.now bound) Never (K.told out.old) (K.told out.new) (K.faults out.old) (K.faults out.new) result }
 {
-    let inputs = Inputs {
-        lists: Vec::new(alloc),
+    let links = match Links::new(alloc, program, types, numbers) {
+        Ok(links) => links,
+        Err(_) => return Err(Stop::Memory),
     };
-    match judge_lines(alloc, program, types, numbers, &inputs, lines, bound) {
+    match judge_lines(alloc, &links, inputs, lines, bound) {
         Ok(found) => put_verdict(&found, program, numbers, out),
         Err(LinesError::Seq(error)) => Err(sequence_failure(error)),
         Err(LinesError::Memory) => Err(Stop::Memory),
@@ -56,8 +58,8 @@ fn put_verdict<'w, K: Sink>(
 ) -> Result<u8, Stop<'w>>
     requires numbers { numbers.now ≡ found.now.judge.numbers }
     requires settled { AreSettled found.now.judge.tasks numbers.now found.now.verdict found.now.event }
-    ensures { (bound : ℕ) (events : List Event) → NothingFollows events → IsFoundOf (plain_program program.now) numbers.now bound events found.now
-        → Comes (IsVerdictText (plain_program program.now) numbers.now bound events) Never (K.told out.old) (K.told out.new) (K.faults out.old) (K.faults out.new) result }
+    ensures { (setup : Setup) (bound : ℕ) (events : List Event) → setup.program ≡ plain_program program.now → NothingFollows events → IsFoundOf setup numbers.now bound events found.now
+        → Comes (IsVerdictText setup numbers.now bound events) Never (K.told out.old) (K.told out.new) (K.faults out.old) (K.faults out.new) result }
 {
     match report(
         &found.verdict,
@@ -93,7 +95,10 @@ fn sequence_failure<'w>(error: SeqError) -> Stop<'w>
         SeqError::OtherProgram { line } => refused_at(SequenceFault::OtherProgram, line),
         SeqError::BadNumber { line } => refused_at(SequenceFault::BadNumber, line),
         SeqError::AfterEnd { line } => refused_at(SequenceFault::AfterEnd, line),
-        SeqError::TooMany { limit } => Stop::Refused(Refusal::TooMany { limit }),
+        SeqError::TooMany { limit } => Stop::Refused(Refusal::TooMany {
+            what: Listed::Events,
+            limit,
+        }),
         SeqError::Memory => Stop::Memory,
     }
 }

@@ -1,23 +1,22 @@
 //! Judging the lines of a sequence one after the other.
 
-ghost use Rattle.std.specs.Prelude.{◌≡◌, ◌≤◌, ◌<◌, ◌+◌, ◌-◌, ◌^◌, ◌++◌, [], ◌∷◌, ℕ, List, IfOk, IfErr, OnOk, MatchOption, length};
-ghost use Rattle.ada_tree.specs.PlainProgram.{PProgram, plain_program};
+ghost use Rattle.std.specs.Prelude.{◌≡◌, ◌≤◌, ◌<◌, ◌+◌, ◌-◌, ◌^◌, ◌++◌, [], ◌∷◌, ℕ, List, IfOk, IfErr, OnOk, MatchOption, Some, length};
 ghost use Rattle.event_machine.specs.declared.Event.{Event};
 ghost use Rattle.event_machine.specs.Tallies.{HasNoEnd};
-ghost use Rattle.syn_event.specs.Legal.{Legal};
 ghost use Rattle.syn_event.specs.Numbering.{Numbering};
-ghost use Rattle.seq_file.specs.Files.{most_events, SeqReads, HasFirstFault};
+ghost use Rattle.seq_file.specs.Files.{most_events, SeqReads, HasFirstFault, header_fault};
 ghost use Rattle.seq_file.specs.Stepping.{StandsBehind};
+ghost use Rattle.task_model.specs.Machine.{Setup};
+ghost use Rattle.task_machine.specs.Table.{setup_in};
 ghost use Rattle.feasible.specs.Keeping.{is_feasible};
 ghost use Rattle.debug_judge.specs.JudgedLines.{IsFoundOf, AreFound, FailsBy, event_with, behind_last};
 
-use ada_tree::{Program, Types};
 use ada_value::Inputs;
 use event_machine::Event;
 use feasible::{Judge, Verdict};
 use seq_file::{SeqError, SeqLines};
 use std::alloc::Global;
-use syn_event::{Mode, Numbers};
+use task_links::Links;
 use thiserror::Error;
 
 // A sequence has at most this many events.
@@ -51,23 +50,20 @@ pub enum LinesError {
 /// stand for either answer. One event after the other is read and given to the judge, and none is kept.
 pub fn judge_lines<'p>(
     alloc: Global,
-    p: &'p Program,
-    types: &'p Types,
-    numbers: &'p Numbers,
+    links: &'p Links<'p>,
     inputs: &Inputs,
-    bytes: &[u8],
+    bytes: &'p [u8],
     local_bound: u64,
 ) -> Result<LinesVerdict<'p>, LinesError>
-    requires legal { Legal (plain_program p.now) types.now numbers.now Mode.Original }
-    requires length { length bytes.now < 2 ^ 32 - 1 }
-    ensures found { IfOk result (AreFound (plain_program p.now) numbers.now local_bound bytes.now) }
-    ensures fault { IfErr result (FailsBy (plain_program p.now) numbers.now bytes.now) }
+    requires { length bytes.now < 2 ^ 32 - 1 }
+    ensures found { IfOk result (AreFound (setup_in links.now inputs.now) links.now.numbers local_bound bytes.now) }
+    ensures fault { IfErr result (FailsBy (setup_in links.now inputs.now) links.now.numbers bytes.now) }
 {
-    let mut lines = match SeqLines::new(bytes, numbers, &p.names) {
+    let mut lines = match open_lines(links, bytes) {
         Ok(lines) => lines,
         Err(error) => return Err(LinesError::Seq(error)),
     };
-    let judge = match Judge::new(alloc, p, types, numbers, inputs, local_bound) {
+    let judge = match Judge::new(alloc, links, inputs, local_bound) {
         Ok(judge) => judge,
         Err(_) => return Err(LinesError::Memory),
     };
@@ -90,12 +86,21 @@ pub fn judge_lines<'p>(
     }
 }
 
+// A reader of the lines of a sequence that stands behind the header.
+fn open_lines<'a>(links: &'a Links<'_>, bytes: &'a [u8]) -> Result<SeqLines<'a>, SeqError>
+    requires { length bytes.now < 2 ^ 32 - 1 }
+    ensures opened { IfOk result (StandsBehind bytes.now links.now.numbers links.now.program.names []) }
+    ensures fault { IfErr result (λ error. header_fault links.now.program.names links.now.numbers bytes.now ≡ Some error) }
+{
+    SeqLines::new(bytes, links.numbers(), &links.program().names)
+}
+
 // Gives the judge one event more.
 fn give(found: &mut LinesVerdict<'_>, event: &Event) -> Result<(), LinesError>
     requires taken { found.old.judge.taken + 1 < 2 ^ 32 }
     requires count { found.old.count + 1 < 2 ^ 32 }
-    ensures more { (p : PProgram) (numbers : Numbering) (bound : ℕ) (events : List Event) → IsFoundOf p numbers bound events found.old → HasNoEnd events
-        → OnOk result (IsFoundOf p numbers bound (events ++ event.now ∷ []) found.new) }
+    ensures more { (setup : Setup) (numbers : Numbering) (bound : ℕ) (events : List Event) → IsFoundOf setup numbers bound events found.old → HasNoEnd events
+        → OnOk result (IsFoundOf setup numbers bound (events ++ event.now ∷ []) found.new) }
     ensures memory { IfErr result (λ error. error ≡ LinesError.Memory) }
 {
     match found.judge.next(event) {

@@ -1,2 +1,3 @@
 pub mod Comings
 pub mod Traced
+pub mod Joined

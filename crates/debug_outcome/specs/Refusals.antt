@@ -4,7 +4,7 @@ use Rattle.ded_io.specs.Written.{◌⧺◌}
 use Rattle.syn_event.specs.declared.limits.What.{What}
 use Rattle.syn_event.specs.declared.limits.What.TheVariants as counted
 use Rattle.debug_outcome.specs.declared.refusal.Refusal.{Refusal}
-use Rattle.debug_outcome.specs.declared.refusal.Refusal.TheVariants.{BadText, BadProgram, NotYet, Usage, BadSequence, Unreadable, TooLong, TooMany}
+use Rattle.debug_outcome.specs.declared.refusal.Refusal.TheVariants.{BadText, BadProgram, Usage, BadSequence, BadInputs, BadChoices, Unreadable, TooLong, TooMany}
 use Rattle.debug_outcome.specs.declared.refusal.TextFault.{TextFault}
 use Rattle.debug_outcome.specs.declared.refusal.TextFault.TheVariants.{Misspelled, LongToken, TooNested}
 use Rattle.debug_outcome.specs.declared.refusal.Misspelling.{Misspelling}
@@ -15,6 +15,9 @@ use Rattle.debug_outcome.specs.declared.refusal.Rule.{Rule}
 use Rattle.debug_outcome.specs.declared.refusal.Rule.TheVariants.{Unknown, Duplicate, Mismatch, NotStatic, RangeBad, NotVariable, ReadOut, ArgCount, ChoiceBad, ArrayUse, TextUse, NotException, SharedVariable, AcceptPlace, SelectForm, SameEntryTwice, ReservedName, MainEntry, AbortOrder, BodyMissing, ExitPlace, RaisePlace}
 use Rattle.debug_outcome.specs.declared.refusal.SequenceFault.{SequenceFault}
 use Rattle.debug_outcome.specs.declared.refusal.SequenceFault.TheVariants as fault
+use Rattle.debug_outcome.specs.declared.refusal.InputFault.{InputFault}
+use Rattle.debug_outcome.specs.declared.refusal.InputFault.TheVariants as input
+use Rattle.debug_outcome.specs.declared.refusal.Listed.TheVariants as listed
 
 -- a text that has a fault is refused, and one that passes a limit is told so
 abbrev pub text_status : TextFault → ℕ
@@ -31,12 +34,13 @@ rule_status (Passed what limit) = 8
 abbrev pub refusal_status : Refusal → ℕ
 refusal_status (BadText found) = text_status found
 refusal_status (BadProgram found) = rule_status found
-refusal_status (NotYet line column) = 1
 refusal_status Usage = 2
 refusal_status (BadSequence found line) = 3
+refusal_status (BadInputs found line) = 12
+refusal_status (BadChoices found line) = 12
 refusal_status (Unreadable name) = 6
 refusal_status (TooLong limit) = 8
-refusal_status (TooMany limit) = 8
+refusal_status (TooMany what limit) = 8
 
 -- the words before the name of a file that cannot be read; they stay shut, so that they do not compute away
 unfoldable pub unread_words : List ℕ
@@ -49,12 +53,15 @@ first_words (BadText (LongToken limit)) = codes "ded: limit token "
 first_words (BadText (TooNested limit)) = codes "ded: limit nesting "
 first_words (BadProgram (Broken rule line column)) = codes "ded: program refused: "
 first_words (BadProgram (Passed what limit)) = codes "ded: limit "
-first_words (NotYet line column) = codes "ded: program refused: "
 first_words Usage = codes "ded: usage\n"
 first_words (BadSequence found line) = codes "ded: sequence refused: "
+first_words (BadInputs found line) = codes "ded: inputs refused: "
+first_words (BadChoices found line) = codes "ded: choices refused: "
 first_words (Unreadable name) = unread_words
 first_words (TooLong limit) = codes "ded: limit file "
-first_words (TooMany limit) = codes "ded: limit events "
+first_words (TooMany listed.Events limit) = codes "ded: limit events "
+first_words (TooMany listed.Inputs limit) = codes "ded: limit inputs "
+first_words (TooMany listed.Choices limit) = codes "ded: limit choices "
 
 -- the line where there was no memory; it stays shut too
 unfoldable pub memory_line : List ℕ
@@ -111,13 +118,18 @@ fault_name fault.OtherProgram = codes "OtherProgram"
 fault_name fault.BadNumber = codes "BadNumber"
 fault_name fault.AfterEnd = codes "AfterEnd"
 
+-- the name of what is wrong with a line of inputs or choices
+abbrev pub input_fault_name : InputFault → List ℕ
+input_fault_name input.BadLine = codes "BadLine"
+input_fault_name input.UnknownTask = codes "UnknownTask"
+
 -- words, a name and the end of the line
 abbrev pub named_line : List ℕ → List ℕ → List ℕ
 named_line words name = words ⧺ (name ⧺ codes "\n")
 
--- words, what is wrong and where
-abbrev pub fault_line : List ℕ → SequenceFault → ℕ → List ℕ
-fault_line words found line = words ⧺ (fault_name found ⧺ (codes " at line " ⧺ (decimal line ⧺ codes "\n")))
+-- words, the name of what is wrong, and the number of the line
+abbrev pub fault_line : List ℕ → List ℕ → ℕ → List ℕ
+fault_line words name line = words ⧺ (name ⧺ (codes " at line " ⧺ (decimal line ⧺ codes "\n")))
 
 -- words, the name of what is wrong, and its place
 abbrev pub place_line : List ℕ → List ℕ → ℕ → ℕ → List ℕ
@@ -142,9 +154,10 @@ rule_line (Passed what limit) = passed_line (first_words (BadProgram (Passed wha
 abbrev pub refusal_line : Refusal → List ℕ
 refusal_line (BadText found) = text_line found
 refusal_line (BadProgram found) = rule_line found
-refusal_line (NotYet line column) = place_line (first_words (NotYet line column)) (codes "NotYet") line column
 refusal_line Usage = first_words Usage
-refusal_line (BadSequence found line) = fault_line (first_words (BadSequence found line)) found line
+refusal_line (BadSequence found line) = fault_line (first_words (BadSequence found line)) (fault_name found) line
+refusal_line (BadInputs found line) = fault_line (first_words (BadInputs found line)) (input_fault_name found) line
+refusal_line (BadChoices found line) = fault_line (first_words (BadChoices found line)) (input_fault_name found) line
 refusal_line (Unreadable name) = named_line unread_words name.now
 refusal_line (TooLong limit) = named_line (first_words (TooLong limit)) (decimal limit)
-refusal_line (TooMany limit) = named_line (first_words (TooMany limit)) (decimal limit)
+refusal_line (TooMany what limit) = named_line (first_words (TooMany what limit)) (decimal limit)

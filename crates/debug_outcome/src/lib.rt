@@ -7,7 +7,9 @@ mod stopping;
 mod telling;
 mod tracing;
 
-pub use loading::load_file;
-pub use refusal::{Misspelling, Refusal, Rule, RuleFault, SequenceFault, TextFault};
+pub use loading::{load_file, load_named};
+pub use refusal::{
+    InputFault, Listed, Misspelling, Refusal, Rule, RuleFault, SequenceFault, TextFault,
+};
 pub use stopping::{Stop, tell};
 pub use tracing::TracedFiles;

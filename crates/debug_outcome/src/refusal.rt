@@ -12,18 +12,20 @@ pub enum Refusal<'w> {
     BadText(TextFault),
     /// The program is read, and breaks a static rule or passes a limit.
     BadProgram(RuleFault),
-    /// The program meets all static rules, and has a form at a place that is not run yet.
-    NotYet { line: u32, column: u32 },
     /// The words are no row of words.
     Usage,
     /// The sequence is refused, at a line.
     BadSequence { fault: SequenceFault, line: u32 },
+    /// The inputs are refused, at a line.
+    BadInputs { fault: InputFault, line: u32 },
+    /// The choices are refused, at a line.
+    BadChoices { fault: InputFault, line: u32 },
     /// The file of this name cannot be read.
     Unreadable(&'w str),
     /// A file is longer than the limit, in bytes.
     TooLong { limit: u64 },
-    /// The sequence has more events than the limit.
-    TooMany { limit: u32 },
+    /// A file lists more than the limit.
+    TooMany { what: Listed, limit: u32 },
 }
 
 /// Why a text is read as no program.
@@ -99,6 +101,21 @@ pub enum SequenceFault {
     AfterEnd,
 }
 
+/// What is wrong with the first bad line of inputs or choices.
+#[derive(Clone, Copy)]
+pub enum InputFault {
+    BadLine,
+    UnknownTask,
+}
+
+/// What the files list of which they may have too much.
+#[derive(Clone, Copy)]
+pub enum Listed {
+    Events,
+    Inputs,
+    Choices,
+}
+
 impl Refusal<'_> {
     /// The status that the program ends with.
     pub fn status(self) -> u8
@@ -107,9 +124,10 @@ impl Refusal<'_> {
         match self {
             Refusal::BadText(fault) => text_status(fault),
             Refusal::BadProgram(fault) => rule_status(fault),
-            Refusal::NotYet { .. } => 1,
             Refusal::Usage => 2,
             Refusal::BadSequence { .. } => 3,
+            Refusal::BadInputs { .. } => 12,
+            Refusal::BadChoices { .. } => 12,
             Refusal::Unreadable(_) => 6,
             Refusal::TooLong { .. } => 8,
             Refusal::TooMany { .. } => 8,

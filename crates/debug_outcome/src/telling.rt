@@ -3,9 +3,11 @@
 ghost use Rattle.std.specs.Prelude.{◌≡◌, decimal};
 ghost use Rattle.ded_io.specs.Counts.{HasCause};
 ghost use Rattle.ded_io.specs.Written.{Wrote};
-ghost use Rattle.debug_outcome.specs.Refusals.{refusal_line, first_words, unread_words, fault_name, named_line, fault_line, place_line, passed_line, text_line, rule_line, misspelling_name, rule_name, what_word};
+ghost use Rattle.debug_outcome.specs.Refusals.{refusal_line, first_words, unread_words, fault_name, input_fault_name, named_line, fault_line, place_line, passed_line, text_line, rule_line, misspelling_name, rule_name, what_word};
 
-use crate::refusal::{Misspelling, Refusal, Rule, RuleFault, SequenceFault, TextFault};
+use crate::refusal::{
+    InputFault, Listed, Misspelling, Refusal, Rule, RuleFault, SequenceFault, TextFault,
+};
 use ded_io::{Sink, SinkError};
 use itoa::Buffer;
 use syn_event::What;
@@ -18,31 +20,52 @@ pub(crate) fn put_refusal<K: Sink>(refusal: Refusal<'_>, err: &mut K) -> Result<
     match refusal {
         Refusal::BadText(fault) => put_text_fault(fault, err),
         Refusal::BadProgram(fault) => put_rule_fault(fault, err),
-        Refusal::NotYet { line, column } => {
-            put_place(
-                Refusal::NotYet { line, column },
-                b"NotYet",
+        Refusal::Usage => err.put(first_words(Refusal::Usage)),
+        Refusal::BadSequence { fault, line } => {
+            put_fault(
+                Refusal::BadSequence { fault, line },
+                name_of(fault),
                 line,
-                column,
                 err,
             )
         }
-        Refusal::Usage => err.put(first_words(Refusal::Usage)),
-        Refusal::BadSequence { fault, line } => put_fault(fault, line, err),
+        Refusal::BadInputs { fault, line } => {
+            put_fault(
+                Refusal::BadInputs { fault, line },
+                input_name_of(fault),
+                line,
+                err,
+            )
+        }
+        Refusal::BadChoices { fault, line } => {
+            put_fault(
+                Refusal::BadChoices { fault, line },
+                input_name_of(fault),
+                line,
+                err,
+            )
+        }
         Refusal::Unreadable(name) => put_unread(name, err),
         Refusal::TooLong { limit } => put_limit(Refusal::TooLong { limit }, limit, err),
-        Refusal::TooMany { limit } => put_limit(Refusal::TooMany { limit }, limit as u64, err),
+        Refusal::TooMany { what, limit } => {
+            put_limit(Refusal::TooMany { what, limit }, limit as u64, err)
+        }
     }
 }
 
-// Writes what is wrong with a sequence, and where.
+// Writes the name of what is wrong with a line of a file, and which line that is.
 #[tactic(auto, using(ded_io::proofs::Writes::writes))]
-fn put_fault<K: Sink>(fault: SequenceFault, line: u32, err: &mut K) -> Result<(), SinkError>
-    ensures bytes { Wrote result (K.told err.old) (K.told err.new) (fault_line (first_words (Refusal.BadSequence fault line)) fault line) }
+fn put_fault<K: Sink>(
+    refusal: Refusal<'_>,
+    name: &[u8],
+    line: u32,
+    err: &mut K,
+) -> Result<(), SinkError>
+    ensures bytes { Wrote result (K.told err.old) (K.told err.new) (fault_line (first_words refusal.entry) name.now line) }
     ensures cause { HasCause (K.faults err.old) (K.faults err.new) result }
 {
-    err.put(first_words(Refusal::BadSequence { fault, line }))?;
-    err.put(name_of(fault))?;
+    err.put(first_words(refusal))?;
+    err.put(name)?;
     err.put(b" at line ")?;
     put_number(line as u64, err)?;
     err.put(b"\n")
@@ -164,6 +187,16 @@ fn name_of(fault: SequenceFault) -> &'static [u8]
     }
 }
 
+// The name of what is wrong with a line of inputs or choices.
+fn input_name_of(fault: InputFault) -> &'static [u8]
+    ensures { result.now ≡ input_fault_name fault }
+{
+    match fault {
+        InputFault::BadLine => b"BadLine",
+        InputFault::UnknownTask => b"UnknownTask",
+    }
+}
+
 // The name of what is wrong with a text.
 fn misspelling_name(what: Misspelling) -> &'static [u8]
     ensures { result.now ≡ misspelling_name what }
@@ -242,11 +275,23 @@ fn first_words(refusal: Refusal<'_>) -> &'static [u8]
         Refusal::BadText(TextFault::TooNested { .. }) => b"ded: limit nesting ",
         Refusal::BadProgram(RuleFault::Broken { .. }) => b"ded: program refused: ",
         Refusal::BadProgram(RuleFault::Passed { .. }) => b"ded: limit ",
-        Refusal::NotYet { .. } => b"ded: program refused: ",
         Refusal::Usage => b"ded: usage\n",
         Refusal::BadSequence { .. } => b"ded: sequence refused: ",
+        Refusal::BadInputs { .. } => b"ded: inputs refused: ",
+        Refusal::BadChoices { .. } => b"ded: choices refused: ",
         Refusal::Unreadable(_) => unread_words(),
         Refusal::TooLong { .. } => b"ded: limit file ",
-        Refusal::TooMany { .. } => b"ded: limit events ",
+        Refusal::TooMany {
+            what: Listed::Events,
+            ..
+        } => b"ded: limit events ",
+        Refusal::TooMany {
+            what: Listed::Inputs,
+            ..
+        } => b"ded: limit inputs ",
+        Refusal::TooMany {
+            what: Listed::Choices,
+            ..
+        } => b"ded: limit choices ",
     }
 }

@@ -1,12 +1,11 @@
 -- What the run of a program comes to: the text of its picked run, with the status of its end (this project's rules).
-use Rattle.std.specs.Prelude.{◌≡◌, ℕ, List, []}
-use Rattle.ded_io.specs.Stored.{first_choice, behind_choice}
-use Rattle.ada_tree.specs.PlainProgram.{PProgram}
-use Rattle.interp.specs.declared.report.RunEnd.{RunEnd}
-use Rattle.interp.specs.declared.report.RunEnd.TheVariants.{Ended, Stuck, Turns}
-use Rattle.interp.specs.Picked.{Position, picked, ending}
+use Rattle.std.specs.Prelude.{◌≡◌, ℕ, List}
 use Rattle.syn_event.specs.Numbering.{Numbering}
-use Rattle.task_machine.specs.Opening.{opening_of}
+use Rattle.task_model.specs.Machine.{Setup, Whole, opening_of}
+use Rattle.run_model.specs.declared.report.RunEnd.{RunEnd}
+use Rattle.run_model.specs.declared.report.RunEnd.TheVariants.{Ended, Stuck, Turns}
+use Rattle.run_model.specs.Outputs.{output_of}
+use Rattle.run_model.specs.Picked.{Position, picked, ending}
 use Rattle.debug_text.specs.RunText.{run_text}
 use Rattle.debug_outcome.specs.Outcomes.{Outcome, writes}
 
@@ -16,19 +15,19 @@ run_status Ended = 0
 run_status Stuck = 10
 run_status Turns = 11
 
--- the picked run of a program that takes the first action each time: what an empty list of choices picks
-abbrev pub first_run : PProgram → Numbering → ℕ → Position (List ℕ)
-first_run program numbers turns = picked first_choice behind_choice turns (opening_of program numbers) []
+-- the text of a run that stands here as its turns are spent, with what each task has written
+abbrev pub text_at : {C : Type 0} → List (List ℕ) → Numbering → Position C → List ℕ
+text_at names numbers p = run_text names numbers p.events (ending p) p.made (output_of p.machine)
 
--- the text of a run that stands here as its turns are spent
-abbrev pub text_at : PProgram → Numbering → Position (List ℕ) → List ℕ
-text_at program numbers p = run_text program.names numbers p.events (ending p) p.made
+-- that text, with the status of the end
+abbrev pub outcome_at : {C : Type 0} → List (List ℕ) → Numbering → Position C → Outcome
+outcome_at names numbers p = writes (text_at names numbers p) (run_status (ending p))
 
--- The text of the picked run, with the status of its end.
-abbrev pub run_outcome : PProgram → Numbering → ℕ → Outcome
-run_outcome program numbers turns =
-    writes (text_at program numbers (first_run program numbers turns)) (run_status (ending (first_run program numbers turns)))
+-- the outcome is that of the run from this machine that these choices pick, of at most so many turns
+abbrev pub IsRunFrom : {C : Type 0} → (C → ℕ) → (C → C) → List (List ℕ) → Numbering → Whole → C → ℕ → Outcome → Type 0
+IsRunFrom word next names numbers m choices turns o = o ≡ outcome_at names numbers (picked word next turns m choices)
 
--- the outcome is that of the program's picked run
-abbrev pub IsRunOf : PProgram → Numbering → ℕ → Outcome → Type 0
-IsRunOf program numbers turns o = o ≡ run_outcome program numbers turns
+-- The outcome is that of the program's run with its inputs, from its start, that these choices pick, of at most so many turns.
+abbrev pub IsRunOf : {C : Type 0} → (C → ℕ) → (C → C) → Setup → Numbering → C → ℕ → Outcome → Type 0
+IsRunOf word next setup numbers choices turns o =
+    IsRunFrom word next setup.program.names numbers (opening_of setup numbers) choices turns o

@@ -1,5 +1,5 @@
--- The lines of tasks or of entries, written one after the other.
-use Rattle.std.proofs.Common.{◌≡◌, ℕ, suc, pos, ◌+◌, ◌<◌, List, [], ◌++◌, length, drop, get_or, ap, sym, ◌∙◌, refl, add-one, append_assoc, append-nil, false, ◌≤◌, Option, None, Ok, Err}
+-- A text that is written part by part, and lists of lines among such texts.
+use Rattle.std.proofs.Common.{◌≡◌, ℕ, suc, pos, ◌+◌, ◌<◌, List, [], ◌++◌, length, drop, get_or, ap, sym, ◌∙◌, refl, add-one, append_assoc, append-nil, false, ◌≤◌, Option, None, Result, Ok, Err}
 use Rattle.ded_io.specs.Written.{appended, Wrote}
 use Rattle.std.proofs.Math.Seq.{drop-cons}
 use Rattle.std.proofs.lemmas.List.{drop_all}
@@ -26,32 +26,51 @@ lines_next line xs i d within =
     ∙ joined (line i (get_or xs i d)) (lines_at line (i + 1) (drop (suc i) xs))
     ∙ ap (λ k. line i (get_or xs i d) ++ lines_at line (i + 1) (drop k xs)) (sym (add-one i))
 
+-- one more part of what was left
+pub part_more : (E B : Type 0) (x : B) (old now new : Option (List ℕ)) (all rest here more : List ℕ) → rest ≡ here ++ more →
+    HasLines old now all rest → Wrote {E = E} (Ok x) now new here → HasLines old new all more
+unfolding Wrote
+part_more E B x old now new all rest here more parts has done = record {
+  front = has.front ++ here;
+  parts = has.parts ∙ ap (λ r. has.front ++ r) parts ∙ sym (append_assoc has.front here more);
+  written = done ∙ ap (λ o. appended o here) has.written ∙ appended-appended old has.front here;
+}
+
+-- a part could not be written whole
+pub part_stop : {E : Type 0} (B : Type 0) (e : E) (old now new : Option (List ℕ)) (all rest here more : List ℕ) → rest ≡ here ++ more →
+    HasLines old now all rest → Wrote {A = B} (Err e) now new here → Wrote {A = B} (Err e) old new all
+unfolding Wrote
+part_stop B e old now new all rest here more parts has (front, behind, is_front, is_new) = (
+  has.front ++ front,
+  behind ++ more,
+  has.parts ∙ ap (λ r. has.front ++ r) (parts ∙ ap (λ l. l ++ more) is_front ∙ append_assoc front behind more)
+      ∙ sym (append_assoc has.front front (behind ++ more)),
+  is_new ∙ ap (λ o. appended o front) has.written ∙ appended-appended old has.front front,
+)
+
+-- the last part: what comes of it comes of the whole text
+pub part_last : {A E : Type 0} (r : Result A E) (old now new : Option (List ℕ)) (all rest : List ℕ) → HasLines old now all rest → Wrote r now new rest → Wrote r old new all
+unfolding Wrote
+part_last (Ok x) old now new all rest has done =
+    done ∙ ap (λ o. appended o rest) has.written ∙ appended-appended old has.front rest ∙ ap (λ t. appended old t) (sym has.parts)
+part_last (Err e) old now new all rest has (front, behind, is_front, is_new) = (
+  has.front ++ front,
+  behind,
+  has.parts ∙ ap (λ r. has.front ++ r) is_front ∙ sym (append_assoc has.front front behind),
+  is_new ∙ ap (λ o. appended o front) has.written ∙ appended-appended old has.front front,
+)
+
 -- one more line
 pub lines_more : {A : Type 0} (E B : Type 0) (x : B) (line : ℕ → A → List ℕ) (xs : List A) (i : ℕ) (d : A) (old now new : Option (List ℕ)) (all : List ℕ) → i < length xs →
     HasLines old now all (lines_at line i (drop i xs)) → Wrote {E = E} (Ok x) now new (line i (get_or xs i d)) → HasLines old new all (lines_at line (i + 1) (drop (i + 1) xs))
-unfolding Wrote
 lines_more E B x line xs i d old now new all within has done =
-    let here : List ℕ = line i (get_or xs i d) in
-    record {
-      front = has.front ++ here;
-      parts =
-          has.parts ∙ ap (λ r. has.front ++ r) (lines_next line xs i d within)
-          ∙ sym (append_assoc has.front here (lines_at line (i + 1) (drop (i + 1) xs)));
-      written = done ∙ ap (λ o. appended o here) has.written ∙ appended-appended old has.front here;
-    }
+    part_more E B x old now new all _ (line i (get_or xs i d)) (lines_at line (i + 1) (drop (i + 1) xs)) (lines_next line xs i d within) has done
 
 -- a line could not be written whole
 pub lines_stop : {A E : Type 0} (B : Type 0) (e : E) (line : ℕ → A → List ℕ) (xs : List A) (i : ℕ) (d : A) (old now new : Option (List ℕ)) (all : List ℕ) → i < length xs →
     HasLines old now all (lines_at line i (drop i xs)) → Wrote {A = B} (Err e) now new (line i (get_or xs i d)) → Wrote {A = B} (Err e) old new all
-unfolding Wrote
-lines_stop B e line xs i d old now new all within has (front, rest, is_front, is_new) =
-    let tail : List ℕ = lines_at line (i + 1) (drop (i + 1) xs) in (
-      has.front ++ front,
-      rest ++ tail,
-      has.parts ∙ ap (λ r. has.front ++ r) (lines_next line xs i d within ∙ ap (λ l. l ++ tail) is_front ∙ append_assoc front rest tail)
-          ∙ sym (append_assoc has.front front (rest ++ tail)),
-      is_new ∙ ap (λ o. appended o front) has.written ∙ appended-appended old has.front front,
-    )
+lines_stop B e line xs i d old now new all within has failed =
+    part_stop B e old now new all _ (line i (get_or xs i d)) (lines_at line (i + 1) (drop (i + 1) xs)) (lines_next line xs i d within) has failed
 
 -- all lines are written
 pub lines_all : (E B : Type 0) (x : B) (old now : Option (List ℕ)) (all rest : List ℕ) → HasLines old now all rest → rest ≡ [] → Wrote {E = E} (Ok x) old now all

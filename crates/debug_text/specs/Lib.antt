@@ -1,2 +1,3 @@
+pub mod OutputText
 pub mod RunText
 pub mod CheckText

@@ -2,13 +2,14 @@
 use Rattle.std.specs.Prelude.{ℕ, ◌+◌, List, [], ◌∷◌, codes, decimal}
 use Rattle.ded_io.specs.Written.{◌⧺◌}
 use Rattle.event_machine.specs.declared.Event.{Event}
-use Rattle.interp.specs.declared.report.RunEnd.{RunEnd}
-use Rattle.interp.specs.declared.report.RunEnd.TheVariants.{Ended, Stuck, Turns}
-use Rattle.interp.specs.Lines.{lines_of}
+use Rattle.run_model.specs.declared.report.RunEnd.{RunEnd}
+use Rattle.run_model.specs.declared.report.RunEnd.TheVariants.{Ended, Stuck, Turns}
+use Rattle.run_model.specs.Lines.{lines_of}
 use Rattle.syn_event.specs.declared.numbering.TaskInfo.{TaskInfo}
 use Rattle.syn_event.specs.Numbering.{Numbering, original_tasks, original_entries}
 use Rattle.syn_event.specs.TaskText.{task_text}
 use Rattle.syn_event.specs.Units.{text_of}
+use Rattle.debug_text.specs.OutputText.{output_text}
 
 -- the name of the program and how many tasks beside main and entries the original has
 abbrev pub counts : List (List ℕ) → Numbering → List ℕ
@@ -27,7 +28,7 @@ end_word Turns = codes "end turns "
 abbrev pub end_line : RunEnd → ℕ → List ℕ
 end_line end made = end_word end ⧺ (decimal made ⧺ codes "\n")
 
--- a task's number and its name; no task has written anything so far
+-- a task's number and its name
 abbrev pub task_line : List (List ℕ) → ℕ → TaskInfo → List ℕ
 task_line names t info = task_text names t info ⧺ codes "\n"
 
@@ -40,11 +41,19 @@ lines_at line i (x ∷ rest) = line i x ⧺ lines_at line (i + 1) rest
 abbrev pub task_lines : List (List ℕ) → List TaskInfo → List ℕ
 task_lines names tasks = lines_at (task_line names) 0 tasks
 
--- what follows the events
-abbrev pub rest_of_run : List (List ℕ) → Numbering → RunEnd → ℕ → List ℕ
-rest_of_run names numbers end made = end_line end made ⧺ task_lines names numbers.tasks
+-- the line of a task, and behind it the lines of what it has written
+abbrev pub task_part : List (List ℕ) → (ℕ → List ℕ) → ℕ → TaskInfo → List ℕ
+task_part names outputs t info = task_line names t info ⧺ output_text (outputs t)
 
--- The text of a run with these events, this end and this number of actions.
-abbrev pub run_text : List (List ℕ) → Numbering → List Event → RunEnd → ℕ → List ℕ
-run_text names numbers events end made =
-    header names numbers ⧺ (lines_of numbers events ⧺ rest_of_run names numbers end made)
+-- the same of all tasks
+abbrev pub task_parts : List (List ℕ) → (ℕ → List ℕ) → List TaskInfo → List ℕ
+task_parts names outputs tasks = lines_at (task_part names outputs) 0 tasks
+
+-- what follows the events; the outputs are those of the tasks by their numbers
+abbrev pub rest_of_run : List (List ℕ) → Numbering → RunEnd → ℕ → (ℕ → List ℕ) → List ℕ
+rest_of_run names numbers end made outputs = end_line end made ⧺ task_parts names outputs numbers.tasks
+
+-- The text of a run with these events, this end, this number of actions, and these outputs of the tasks.
+abbrev pub run_text : List (List ℕ) → Numbering → List Event → RunEnd → ℕ → (ℕ → List ℕ) → List ℕ
+run_text names numbers events end made outputs =
+    header names numbers ⧺ (lines_of numbers events ⧺ rest_of_run names numbers end made outputs)

@@ -3,14 +3,16 @@
 ghost use Rattle.std.specs.Prelude.{◌≡◌, ◌<◌, ◌^◌, decimal, length, OnOk};
 ghost use Rattle.ada_tree.specs.NameList.{AreNames};
 ghost use Rattle.ded_io.specs.Counts.{HasCause};
-ghost use Rattle.ded_io.specs.Written.{Wrote};
-ghost use Rattle.debug_text.specs.RunText.{header, counts, end_line, end_word, task_line, task_lines, rest_of_run};
+ghost use Rattle.ded_io.specs.Written.{◌⧺◌, Wrote};
+ghost use Rattle.debug_text.specs.OutputText.{output_text};
+ghost use Rattle.debug_text.specs.RunText.{header, counts, end_line, end_word, task_line, task_lines};
 ghost use Rattle.syn_event.specs.Numbering.{is_original_task, is_original_entry, original_tasks, original_entries};
 
+use crate::output_text::put_output;
 use ada_tree::Names;
 use ded_io::{Sink, SinkError};
-use interp::{RunEnd, RunReport};
 use itoa::Buffer;
+use run_model::{RunEnd, RunReport};
 use syn_event::{EntryInfo, Numbers, TaskInfo, name_of, show_task};
 
 // Writes the first line of a run: the program's name and how many tasks and entries the original has.
@@ -60,9 +62,9 @@ fn entries_of(numbers: &Numbers) -> usize
     numbers.entries.iter().filter(|info| !info.added).count()
 }
 
-// Writes how the run ended, and how many actions it made.
+/// Writes how the run ended, and how many actions it made.
 #[tactic(auto, using(ded_io::proofs::Writes::writes))]
-fn put_end<K: Sink>(report: RunReport, out: &mut K) -> Result<(), SinkError>
+pub fn put_end<K: Sink>(report: RunReport, out: &mut K) -> Result<(), SinkError>
     ensures bytes { Wrote result (K.told out.old) (K.told out.new) (end_line report.end report.made) }
     ensures cause { HasCause (K.faults out.old) (K.faults out.new) result }
 {
@@ -120,17 +122,20 @@ pub(crate) fn put_tasks<K: Sink>(
     Ok(())
 }
 
-// Writes what follows the events of a run: its end and the tasks.
+/// Writes the line of a task, and behind it what it has written.
+///
+/// `t` is its number, from 0, and `output` the bytes that it has written.
 #[tactic(auto, using(ded_io::proofs::Writes::writes))]
-pub fn put_rest<K: Sink>(
+pub fn put_part<K: Sink>(
     names: &Names,
-    numbers: &Numbers,
-    report: RunReport,
+    t: u32,
+    info: &TaskInfo,
+    output: &[u8],
     out: &mut K,
 ) -> Result<(), SinkError>
-    ensures bytes { Wrote result (K.told out.old) (K.told out.new) (rest_of_run names.now numbers.now report.end report.made) }
+    ensures bytes { Wrote result (K.told out.old) (K.told out.new) (task_line names.now t info.now ⧺ output_text output.now) }
     ensures cause { HasCause (K.faults out.old) (K.faults out.new) result }
 {
-    put_end(report, out)?;
-    put_tasks(names, &numbers.tasks, out)
+    put_task(names, t, info, out)?;
+    put_output(output, out)
 }

@@ -1,5 +1,15 @@
 -- The rows of words that the program takes (this project's rule).
-use Rattle.std.specs.Prelude.{ℕ, ◌+◌, ◌-◌, ◌*◌, Bool, false, not, ◌&&◌, nat_le, List, [], ◌∷◌, length, nat_eq, Option, Some, None, option_map, option_and_then, if◌then◌else◌, codes, bytes_eq}
+use Rattle.std.specs.Prelude.{ℕ, ◌+◌, ◌-◌, ◌*◌, Bool, true, false, not, ◌&&◌, ◌||◌, nat_le, List, [], ◌∷◌, length, drop, nat_eq, Option, Some, None, option_map, option_and_then, if◌then◌else◌, codes, bytes_eq}
+use Rattle.std.specs.List.{starts_with}
+
+-- Where the choices of a run come from.
+pub data Source : Type 0 where
+  -- nowhere: an empty list of choices
+  NoChoices : Source
+  -- a file of this name
+  ChoicesIn : List ℕ → Source
+  -- the generator of this seed
+  ChoicesBy : ℕ → Source
 
 -- What is asked for.
 pub data Asked : Type 0 where
@@ -7,10 +17,10 @@ pub data Asked : Type 0 where
   AsksPrint : List ℕ → Asked
   -- checking the program in a file
   AsksCheck : List ℕ → Asked
-  -- a run of the program in a file, with a number of turns
-  AsksRun : List ℕ → ℕ → Asked
-  -- judging the sequence in the second file for the program in the first, with a number of local steps
-  AsksJudge : List ℕ → List ℕ → ℕ → Asked
+  -- a run of the program in a file, with the name of a file of inputs if there is one, with choices, and with a number of turns
+  AsksRun : List ℕ → Option (List ℕ) → Source → ℕ → Asked
+  -- judging the sequence in the last file for the program in the first, with the name of a file of inputs if there is one, and with a number of local steps
+  AsksJudge : List ℕ → Option (List ℕ) → List ℕ → ℕ → Asked
 
 -- the value of decimal digits behind a value so far
 abbrev pub value_behind : ℕ → List ℕ → Option ℕ
@@ -23,21 +33,66 @@ abbrev pub begins_well : List ℕ → Bool
 begins_well [] = false
 begins_well (digit ∷ digits) = not (nat_eq digit 48)
 
+-- a number up to a greatest one
+abbrev pub up_to : ℕ → ℕ → Option ℕ
+up_to most n = if nat_le n most then Some n else None
+
 -- a number from 1 to 100,000,000 in decimal without leading zeros, so of at most nine digits
-abbrev pub in_range : ℕ → Option ℕ
-in_range n = if nat_le n 100000000 then Some n else None
-
 abbrev pub number_of : List ℕ → Option ℕ
-number_of word = if begins_well word && nat_le (length word) 9 then option_and_then in_range (value_behind 0 word) else None
+number_of word = if begins_well word && nat_le (length word) 9 then option_and_then (up_to 100000000) (value_behind 0 word) else None
 
--- print FILE, check FILE, run FILE - - TURNS, and judge FILE - SEQUENCE STEPS
-abbrev pub asked_by : List (List ℕ) → Option Asked
-asked_by (command ∷ file ∷ []) =
+-- the one digit 0
+abbrev pub is_zero : List ℕ → Bool
+is_zero (digit ∷ []) = nat_eq digit 48
+is_zero _ = false
+
+-- a number from 0 to 18,446,744,073,709,551,615 in decimal without leading zeros, so of at most twenty digits
+abbrev pub seed_of : List ℕ → Option ℕ
+seed_of digits =
+    if is_zero digits
+    then Some 0
+    else (if not (begins_well digits) || not (nat_le (length digits) 20)
+    then None
+    else option_and_then (up_to 18446744073709551615) (value_behind 0 digits))
+
+-- a word for inputs is the name of a file, or `-` for none
+abbrev pub inputs_of : List ℕ → Option (List ℕ)
+inputs_of word = if bytes_eq word (codes "-") then None else Some word
+
+-- a word for choices is `-` for none, `seed:` and a number, or the name of a file; a word that begins with `seed:` is no file's name
+abbrev pub choices_of : List ℕ → Option Source
+choices_of word =
+    if bytes_eq word (codes "-")
+    then Some NoChoices
+    else (if starts_with nat_eq word (codes "seed:")
+    then option_map ChoicesBy (seed_of (drop 5 word))
+    else Some (ChoicesIn word))
+
+-- a run of a file, where the words behind it are inputs, choices and a number of turns
+abbrev pub asks_run : List ℕ → List ℕ → List ℕ → List ℕ → Option Asked
+asks_run file inputs choices number =
+    option_and_then (λ source. option_map (AsksRun file (inputs_of inputs) source) (number_of number)) (choices_of choices)
+
+-- the judging of a file, where the words behind it are inputs, the name of a file of a sequence and a number of local steps
+abbrev pub asks_judge : List ℕ → List ℕ → List ℕ → List ℕ → Option Asked
+asks_judge file inputs sequence number = option_map (AsksJudge file (inputs_of inputs) sequence) (number_of number)
+
+-- the rows of two words
+abbrev pub asks_of_one : List ℕ → List ℕ → Option Asked
+asks_of_one command file =
     if bytes_eq command (codes "print") then Some (AsksPrint file) else (if bytes_eq command (codes "check") then Some (AsksCheck file) else None)
-asked_by (command ∷ file ∷ inputs ∷ other ∷ number ∷ []) =
-    if bytes_eq command (codes "run") && (bytes_eq inputs (codes "-") && bytes_eq other (codes "-"))
-    then option_map (AsksRun file) (number_of number)
-    else (if bytes_eq command (codes "judge") && bytes_eq inputs (codes "-")
-    then option_map (AsksJudge file other) (number_of number)
+
+-- the rows of five words
+abbrev pub asks_of_four : List ℕ → List ℕ → List ℕ → List ℕ → List ℕ → Option Asked
+asks_of_four command file inputs other number =
+    if bytes_eq command (codes "run")
+    then asks_run file inputs other number
+    else (if bytes_eq command (codes "judge")
+    then asks_judge file inputs other number
     else None)
+
+-- print FILE, check FILE, run FILE IN CHOICES TURNS, and judge FILE IN SEQUENCE STEPS
+abbrev pub asked_by : List (List ℕ) → Option Asked
+asked_by (command ∷ file ∷ []) = asks_of_one command file
+asked_by (command ∷ file ∷ inputs ∷ other ∷ number ∷ []) = asks_of_four command file inputs other number
 asked_by _ = None

@@ -1,8 +1,8 @@
 // The words that the program is called with.
 
-ghost use Rattle.std.specs.Prelude.{◌≡◌, ◌≤◌, ◌<◌, map, option_map, string_bytes, length, IfSome};
-ghost use Rattle.debug_words.specs.Words.{AsksPrint, AsksCheck, AsksRun, AsksJudge, asked_by, number_of, value_behind, begins_well};
-ghost use Rattle.debug_words.specs.Commands.{asked_as};
+ghost use Rattle.std.specs.Prelude.{◌≡◌, ◌≤◌, map, option_map, string_bytes, length};
+ghost use Rattle.debug_words.specs.Words.{asked_by, asks_of_one, asks_of_four, asks_run, asks_judge, inputs_of, choices_of, seed_of, number_of, value_behind, begins_well, is_zero};
+ghost use Rattle.debug_words.specs.Commands.{asked_as, source_as, name_as};
 
 /// What the words ask for.
 #[derive(Clone, Copy)]
@@ -17,18 +17,32 @@ pub enum Command<'w> {
     Judge(JudgeWords<'w>),
 }
 
-/// A run of the program in a file, of at most so many turns, from 1 to 100,000,000.
+/// Where the choices of a run come from.
+#[derive(Clone, Copy)]
+pub enum Choices<'w> {
+    /// From nowhere: an empty list of choices.
+    Empty,
+    /// From the file of this name.
+    In(&'w str),
+    /// From the generator of this seed.
+    Seeded(u64),
+}
+
+/// A run of the program in a file, of at most so many turns, from 1 to 100,000,000. The tasks read what the file of inputs says, if one is named.
 #[derive(Clone, Copy)]
 pub struct RunWords<'w> {
     pub file: &'w str,
+    pub inputs: Option<&'w str>,
+    pub choices: Choices<'w>,
     pub turns: u64,
 }
 
 /// The verdict on the sequence in a file for the program in another, where a task may make so many local steps, from 1 to
-/// 100,000,000, between the events that change it.
+/// 100,000,000, between the events that change it. The tasks read what the file of inputs says, if one is named.
 #[derive(Clone, Copy)]
 pub struct JudgeWords<'w> {
     pub file: &'w str,
+    pub inputs: Option<&'w str>,
     pub sequence: &'w str,
     pub bound: u64,
 }
@@ -42,51 +56,96 @@ pub enum NoWords {
     Memory,
 }
 
-/// What the words ask for; none where they are no row of words. The rows are `print FILE`, `check FILE`, `run FILE - - TURNS` and
-/// `judge FILE - SEQUENCE STEPS`. It takes no memory.
+/// What the words ask for; none where they are no row of words. The rows are `print FILE`, `check FILE`, `run FILE IN CHOICES TURNS` and
+/// `judge FILE IN SEQUENCE STEPS`, where IN is a file's name, or `-` for no inputs, and CHOICES a file's name, `-` for none, or `seed:` and a
+/// number from 0 to 18,446,744,073,709,551,615 without leading zeros. It takes no memory.
+#[tactic(auto, using(crate::proofs::Rows::no_row))]
 pub fn command_of<'w>(words: &'w [String]) -> Option<Command<'w>>
     ensures { option_map asked_as result ≡ asked_by (map string_bytes words.now) }
 {
     match words {
-        [command, file] => {
-            if command.as_str() == "print" {
-                Some(Command::Print(file.as_str()))
-            } else if command.as_str() == "check" {
-                Some(Command::Check(file.as_str()))
-            } else {
-                None
-            }
-        }
+        [command, file] => of_one(command.as_str(), file.as_str()),
         [command, file, inputs, other, number] => {
-            if command.as_str() == "run" && (inputs.as_str() == "-" && other.as_str() == "-") {
-                run_of(file.as_str(), number.as_str())
-            } else if command.as_str() == "judge" && inputs.as_str() == "-" {
-                judge_of(file.as_str(), other.as_str(), number.as_str())
-            } else {
-                None
-            }
+            of_four(
+                command.as_str(),
+                file.as_str(),
+                inputs.as_str(),
+                other.as_str(),
+                number.as_str(),
+            )
         }
-        _ => None,
+        [] => None,
+        [_] => None,
+        [_, _, _] => None,
+        [_, _, _, _] => None,
+        [_, _, _, _, _, _, ..] => None,
     }
 }
 
-// A run of the file, where the word is a number of turns.
-fn run_of<'w>(file: &'w str, word: &str) -> Option<Command<'w>>
-    ensures { option_map asked_as result ≡ option_map (AsksRun file.now) (number_of word.now) }
+// A command of one word.
+fn of_one<'w>(command: &str, file: &'w str) -> Option<Command<'w>>
+    ensures { option_map asked_as result ≡ asks_of_one command.now file.now }
 {
+    if command == "print" {
+        Some(Command::Print(file))
+    } else if command == "check" {
+        Some(Command::Check(file))
+    } else {
+        None
+    }
+}
+
+// A command of four words.
+fn of_four<'w>(
+    command: &str,
+    file: &'w str,
+    inputs: &'w str,
+    other: &'w str,
+    number: &str,
+) -> Option<Command<'w>>
+    ensures { option_map asked_as result ≡ asks_of_four command.now file.now inputs.now other.now number.now }
+{
+    if command == "run" {
+        run_of(file, inputs, other, number)
+    } else if command == "judge" {
+        judge_of(file, inputs, other, number)
+    } else {
+        None
+    }
+}
+
+// A run of the file, where the words behind it are inputs, choices and a number of turns.
+fn run_of<'w>(file: &'w str, inputs: &'w str, choices: &'w str, word: &str) -> Option<Command<'w>>
+    ensures { option_map asked_as result ≡ asks_run file.now inputs.now choices.now word.now }
+{
+    let choices = match choices_of(choices) {
+        Some(choices) => choices,
+        None => return None,
+    };
     match number_of(word.as_bytes()) {
-        Some(turns) => Some(Command::Run(RunWords { file, turns })),
+        Some(turns) => Some(Command::Run(RunWords {
+            file,
+            inputs: inputs_of(inputs),
+            choices,
+            turns,
+        })),
         None => None,
     }
 }
 
-// The judging of the sequence, where the word is a number of local steps.
-fn judge_of<'w>(file: &'w str, sequence: &'w str, word: &str) -> Option<Command<'w>>
-    ensures { option_map asked_as result ≡ option_map (AsksJudge file.now sequence.now) (number_of word.now) }
+// The judging of the sequence, where the last word is a number of local steps.
+fn judge_of<'w>(
+    file: &'w str,
+    inputs: &'w str,
+    sequence: &'w str,
+    word: &str,
+) -> Option<Command<'w>>
+    ensures { option_map asked_as result ≡ asks_judge file.now inputs.now sequence.now word.now }
 {
     match number_of(word.as_bytes()) {
         Some(bound) => Some(Command::Judge(JudgeWords {
             file,
+            inputs: inputs_of(inputs),
             sequence,
             bound,
         })),
@@ -94,13 +153,74 @@ fn judge_of<'w>(file: &'w str, sequence: &'w str, word: &str) -> Option<Command<
     }
 }
 
+// The name of the file of inputs, unless the word stands for none.
+fn inputs_of<'w>(word: &'w str) -> Option<&'w str>
+    ensures { name_as result ≡ inputs_of word.now }
+{
+    if word == "-" { None } else { Some(word) }
+}
+
+// The choices that the word stands for, if it stands for any.
+fn choices_of<'w>(word: &'w str) -> Option<Choices<'w>>
+    ensures { option_map source_as result ≡ choices_of word.now }
+{
+    if word == "-" {
+        return Some(Choices::Empty);
+    }
+    if !word.as_bytes().starts_with(b"seed:") {
+        return Some(Choices::In(word));
+    }
+    match seed_of(&word.as_bytes()[5..]) {
+        Some(seed) => Some(Choices::Seeded(seed)),
+        None => None,
+    }
+}
+
+// The seed that the digits say.
+fn seed_of(digits: &[u8]) -> Option<u64>
+    ensures { result ≡ seed_of digits.now }
+{
+    if is_zero(digits) {
+        return Some(0);
+    }
+    if !begins_well(digits) || digits.len() > 20 {
+        return None;
+    }
+    match value_of(digits) {
+        Some(n) => {
+            if n <= 18_446_744_073_709_551_615 {
+                Some(n as u64)
+            } else {
+                None
+            }
+        }
+        None => None,
+    }
+}
+
+// It is the one digit 0.
+fn is_zero(digits: &[u8]) -> bool
+    ensures { result ≡ is_zero digits.now }
+{
+    match digits {
+        [digit] => *digit == b'0',
+        _ => false,
+    }
+}
+
 // The number from 1 to 100,000,000 that the word gives.
 fn number_of(word: &[u8]) -> Option<u64>
     ensures { result ≡ number_of word.now }
 {
-    if starts_well(word) && word.len() <= 9 {
+    if begins_well(word) && word.len() <= 9 {
         match value_of(word) {
-            Some(n) => { if n <= 100_000_000 { Some(n) } else { None } }
+            Some(n) => {
+                if n <= 100_000_000 {
+                    Some(n as u64)
+                } else {
+                    None
+                }
+            }
             None => None,
         }
     } else {
@@ -109,7 +229,7 @@ fn number_of(word: &[u8]) -> Option<u64>
 }
 
 // The digits do not begin with a zero, and there is one.
-fn starts_well(word: &[u8]) -> bool
+fn begins_well(word: &[u8]) -> bool
     ensures { result ≡ begins_well word.now }
 {
     match word {
@@ -118,15 +238,15 @@ fn starts_well(word: &[u8]) -> bool
     }
 }
 
-// The value of at most nine decimal digits.
-fn value_of(word: &[u8]) -> Option<u64>
-    requires { length word.now ≤ 9 }
+// The value of at most twenty decimal digits.
+fn value_of(word: &[u8]) -> Option<u128>
+    requires { length word.now ≤ 20 }
     ensures { result ≡ value_behind 0 word.now }
 {
-    let mut value = 0u64;
+    let mut value = 0u128;
     for digit in word {
         if b'0' <= *digit && *digit <= b'9' {
-            value = value * 10 + (*digit - b'0') as u64;
+            value = value * 10 + (*digit - b'0') as u128;
         } else {
             return None;
         }

@@ -2,14 +2,14 @@
 use Rattle.std.proofs.Common.{◌≡◌, ℕ, zero, suc, ◌+◌, ◌<◌, ◌≤◌, List, [], ◌∷◌, ◌++◌, All, Option, Result, Ok, Err, length, take, drop, get_or, refl, sym, ap, ◌∙◌, subst, arith, add-one, append_assoc, inl, inr}
 use Rattle.std.specs.Prelude.{Contains}
 use Rattle.std.proofs.lemmas.Bool.{cases_eq}
-use Rattle.std.proofs.lemmas.List.Elements.{All-contains, All-head, All-tail, Contains-push, Contains-append_left}
+use Rattle.std.proofs.lemmas.List.Elements.{All-contains, Contains-push, Contains-append_left}
 use Rattle.std.proofs.lemmas.List.{take_more}
 use Rattle.std.proofs.Math.Seq.{split_at}
 use Rattle.ded_io.specs.Written.{◌⧺◌, each_text, Wrote}
 use Rattle.ded_io.proofs.Members.{each_text-append, each_text-one}
 use Rattle.ded_io.proofs.Writes.{wrote_all, wrote_none, wrote_then, wrote_stop}
+use Rattle.task_model.specs.Machine.{Tasks}
 use Rattle.task_machine.specs.Conditions.{tasks_to}
-use Rattle.task_machine.specs.Table.{Tasks}
 use Rattle.task_machine.specs.Views as view
 use Rattle.feasible.specs.declared.showing.TaskView.{TaskView}
 use Rattle.feasible.specs.declared.showing.TaskView.TheVariants.{Closed, Busy, At}

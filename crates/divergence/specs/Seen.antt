@@ -2,10 +2,10 @@
 use Rattle.std.specs.Prelude.{Option, Some, None, All, ⊤}
 use Rattle.event_machine.specs.declared.Event.{Event}
 use Rattle.syn_event.specs.Numbering.{Numbering}
+use Rattle.task_model.specs.Machine.{Tasks}
 use Rattle.task_machine.specs.declared.verdict.Verdict.{Verdict}
 use Rattle.task_machine.specs.declared.verdict.Verdict.TheVariants.{Feasible, Infeasible, Unsettled}
 use Rattle.task_machine.specs.Conditions.{needed_of}
-use Rattle.task_machine.specs.Table.{Tasks}
 use Rattle.feasible.specs.Keeping.{IsSettled}
 
 -- Where an event is refused, each task that it needs is closed, served or settled.

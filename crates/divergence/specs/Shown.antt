@@ -1,8 +1,8 @@
 -- The lines of what a judge shows of a task (this project's format).
 use Rattle.std.specs.Prelude.{ℕ, List, codes}
+use Rattle.task_local.specs.OfferView.{offer_as}
 use Rattle.feasible.specs.declared.showing.TaskView.{TaskView}
 use Rattle.feasible.specs.declared.showing.TaskView.TheVariants.{Closed, Busy, At}
-use Rattle.task_local.specs.OfferView.{offer_as}
 use Rattle.divergence.specs.ViewText.{offer_lines}
 
 -- the lines of what is shown: those of any view that is shown so

@@ -9,11 +9,12 @@ use Rattle.event_machine.specs.declared.Standing.TheVariants.{Live, Waiting, Que
 use Rattle.event_machine.specs.Offers.{Offer, calls_in, is_any_form, is_conditional, is_timed, waits_with, opens, is_else, is_delay, is_terminate, is_finish, is_end}
 use Rattle.event_machine.specs.Worlds.{aborts}
 use Rattle.syn_event.specs.Numbering.{Numbering, owner_of}
-use Rattle.task_local.specs.Steps.{offer_of}
+use Rattle.task_model.specs.Machine.{Tasks}
+use Rattle.task_model.specs.Stands.{offer_of}
 use Rattle.task_machine.specs.declared.verdict.Cause.TheVariants as cause
 use Rattle.task_machine.specs.declared.verdict.Why.{Why}
 use Rattle.task_machine.specs.Conditions.{Condition, holds, why_of, failing_in, first_failing, acts, not_served, not_closed, closed, at_offer, may_end, others_may_end, is_end_of}
-use Rattle.task_machine.specs.Table.{Tasks, seat_of}
+use Rattle.task_machine.specs.Table.{seat_of}
 use Rattle.task_machine.specs.Views.{View, Completed, Abnormal, Busy, At, view_in}
 use Rattle.feasible.specs.Failing.{why, first_of, act_fails, closed_fails, open_fails, main_fails, other_fails, view_at, act_asked, asked}
 

@@ -24,21 +24,23 @@ use Rattle.event_machine.proofs.Sound.{sound_same}
 use Rattle.event_machine.proofs.Standings.{is-Live}
 use Rattle.event_machine.proofs.Stepping.{settles_most}
 use Rattle.event_machine.proofs.Walking.{leads_append}
-use Rattle.ada_tree.specs.PlainProgram.{PProgram}
 use Rattle.syn_event.specs.Numbering.{Numbering, owner_of}
-use Rattle.task_local.specs.Control.{Task}
-use Rattle.task_local.specs.Steps.{task_ops, can_step, offer_of}
-use Rattle.task_local.proofs.Lawful.{IsProper, lawful}
-use Rattle.task_machine.specs.Conditions.{needed_of, first_failing, all_hold}
+use Rattle.task_model.proofs.Following.{opens, proper, rest_exactly}
+use Rattle.task_model.proofs.Lawful.{lawful}
+use Rattle.task_model.specs.Laws.{IsProper, program_in, first_world}
+use Rattle.task_model.specs.Machine.{Setup, opening_of, Tasks, rules_of}
+use Rattle.task_model.specs.Stands.{can_step, offer_of}
+use Rattle.task_model.specs.TaskOps.{task_ops}
+use Rattle.task_model.specs.Tasks.{Task}
+use Rattle.task_machine.specs.Conditions.{first_failing}
 use Rattle.task_machine.specs.Conditions as asked_of
 use Rattle.task_machine.specs.Judging.{NoneOpen}
-use Rattle.task_machine.specs.Opening.{opening_of}
-use Rattle.task_machine.specs.Table.{Tasks, seat_of, rules_of}
+use Rattle.task_machine.specs.Table.{seat_of}
 use Rattle.task_machine.specs.Views.{IsOpen, IsRest, Stands, view_of, view_in}
-use Rattle.task_machine.proofs.TaskLaws.{opens, proper, the_count, the_rest, the_standing}
+use Rattle.task_machine.proofs.TaskLaws.{the_count, the_standing}
 use Rattle.task_machine.proofs.Tabled.{AreSeen, table_happens, none_failing}
 use Rattle.feasible.specs.Failing.{view_at}
-use Rattle.feasible.specs.Keeping.{machine_of, opening_world, world_kept, AreKept, IsSettled}
+use Rattle.feasible.specs.Keeping.{world_kept, AreKept, IsSettled}
 use Rattle.feasible.specs.Needs.{HasRun, HaveRun, IsStuck}
 use Rattle.feasible.specs.Recounts.{AreRecounted}
 use Rattle.feasible.proofs.Running.{ran_on, steps_on}
@@ -56,14 +58,14 @@ closed_seen z seat e = ap is_closed e ∙ go seat.standing
     go Completed = refl
     go Killed = refl
 
-module _ (p : PProgram) (numbers : Numbering) (bound : ℕ) where
+module _ (setup : Setup) (numbers : Numbering) (bound : ℕ) where
   abbrev m : Program Task
-  m = machine_of p numbers
+  m = program_in setup numbers
 
   -- ---- running on
 
   pub keeps_run : (events : List Event) (tasks : Tasks) (steps : List ℕ) (tasks' : Tasks) (steps' : List ℕ) (ended : Bool) →
-      AreKept p numbers bound events tasks steps ended → HaveRun bound tasks steps tasks' steps' → AreKept p numbers bound events tasks' steps' ended
+      AreKept setup numbers bound events tasks steps ended → HaveRun bound tasks steps tasks' steps' → AreKept setup numbers bound events tasks' steps' ended
   keeps_run events tasks steps tasks' steps' ended k r = record {
     bases = k.bases;
     leads = k.leads;
@@ -95,7 +97,7 @@ module _ (p : PProgram) (numbers : Numbering) (bound : ℕ) where
 
   -- ---- what is kept for events
 
-  module _ (events : List Event) (tasks : Tasks) (steps : List ℕ) (ended : Bool) (more : HasNoEnd events) (k : AreKept p numbers bound events tasks steps ended) where
+  module _ (events : List Event) (tasks : Tasks) (steps : List ℕ) (ended : Bool) (more : HasNoEnd events) (k : AreKept setup numbers bound events tasks steps ended) where
     abbrev kept : ℕ → Seat Task
     kept t = seat_of tasks t
 
@@ -104,8 +106,8 @@ module _ (p : PProgram) (numbers : Numbering) (bound : ℕ) where
     same_end = before_end-same events more
 
     base : IsBase m IsProper lawful k.bases
-    base = base_leads m IsProper lawful events (opening_world p numbers) k.bases k.leads
-        (start_base m IsProper lawful (by_number m (opening_of p numbers).state) (opening_numbers task_ops (owner_of numbers) IsProper lawful (opening_of p numbers).state (opens p numbers) (proper p numbers)) (proper p numbers))
+    base = base_leads m IsProper lawful events (first_world setup numbers) k.bases k.leads
+        (start_base m IsProper lawful (by_number m (opening_of setup numbers).state) (opening_numbers task_ops (owner_of numbers) IsProper lawful (opening_of setup numbers).state (opens setup numbers) (proper setup numbers)) (proper setup numbers))
 
     stills : (t : ℕ) → still (kept t).standing ≡ (kept t).standing
     stills t = ap still (k.follows.each t).standing ∙ base.still' t ∙ sym (k.follows.each t).standing
@@ -123,11 +125,11 @@ module _ (p : PProgram) (numbers : Numbering) (bound : ℕ) where
         (ran_keeps (k.follows.each t).steps (k.bases.tasks t).local (base.sound.proper t open') (k.follows.each t).has_steps))
 
     runs : ended ≡ false
-    runs = k.follows.ended ∙ leads_open m IsProper lawful (λ t. 0) events (opening_world p numbers) k.bases more refl k.leads
+    runs = k.follows.ended ∙ leads_open m IsProper lawful (λ t. 0) events (first_world setup numbers) k.bases more refl k.leads
 
-    pub stands : (t : ℕ) → Stands p numbers events t (kept t).standing
-    stands t = subst (λ es. StandsAfter (rules_of numbers) (opening_of p numbers).state es t (kept t).standing) (sym same_end)
-        (subst (StandsAfter (rules_of numbers) (opening_of p numbers).state events t) (sym (k.follows.each t).standing) (the_standing p numbers events k.bases k.leads t))
+    pub stands : (t : ℕ) → Stands setup numbers events t (kept t).standing
+    stands t = subst (λ es. StandsAfter (rules_of numbers) (opening_of setup numbers).state es t (kept t).standing) (sym same_end)
+        (subst (StandsAfter (rules_of numbers) (opening_of setup numbers).state events t) (sym (k.follows.each t).standing) (the_standing setup numbers events k.bases k.leads t))
 
     -- a free task, at its count
     at_count : (t : ℕ) → (kept t).standing ≡ Live →
@@ -138,17 +140,17 @@ module _ (p : PProgram) (numbers : Numbering) (bound : ℕ) where
         let made : i.steps ≡ slice_index steps t = subst (λ z. CountsFor z (slice_index steps t) i.steps) live_base i.counted in
         (live_base, subst (λ n. HasSteps task_ops n (k.bases.tasks t).local) made i.has_steps, i.local ∙ ap (λ n. ran task_ops n (k.bases.tasks t).local) made)
 
-    pub rests : (t : ℕ) → (kept t).standing ≡ Live → IsRest p numbers events t (slice_index steps t) (kept t).local
+    pub rests : (t : ℕ) → (kept t).standing ≡ Live → IsRest setup numbers events t (slice_index steps t) (kept t).local
     rests t free =
         let (live_base, has, is) = at_count t free in
-        subst (λ es. RestIs (rules_of numbers) (opening_of p numbers).state es t (slice_index steps t) (kept t).local) (sym same_end)
-        ((the_rest p numbers events more t (slice_index steps t) (kept t).local).1 (k.bases, k.leads, live_base, has, is))
+        subst (λ es. RestIs (rules_of numbers) (opening_of setup numbers).state es t (slice_index steps t) (kept t).local) (sym same_end)
+        ((rest_exactly setup numbers events more t (slice_index steps t) (kept t).local).1 (k.bases, k.leads, live_base, has, is))
 
     -- a settled task is not open
-    pub settled_closed : (t : ℕ) → IsSettled tasks t → IsOpen p numbers events t bound → ⊥
+    pub settled_closed : (t : ℕ) → IsSettled tasks t → IsOpen setup numbers events t bound → ⊥
     settled_closed t settled (task, rest, can) =
-        let (w, leads, free, has, is) = (the_rest p numbers events more t bound task).0 (subst (λ es. RestIs (rules_of numbers) (opening_of p numbers).state es t bound task) same_end rest) in
-        let same : w ≡ k.bases = leads_once m events (opening_world p numbers) w k.bases leads k.leads in
+        let (w, leads, free, has, is) = (rest_exactly setup numbers events more t bound task).0 (subst (λ es. RestIs (rules_of numbers) (opening_of setup numbers).state es t bound task) same_end rest) in
+        let same : w ≡ k.bases = leads_once m events (first_world setup numbers) w k.bases leads k.leads in
         let free' : (k.bases.tasks t).standing ≡ Live = ap (λ (v : World Task). (v.tasks t).standing) (sym same) ∙ free in
         let live_kept : (kept t).standing ≡ Live = (k.follows.each t).standing ∙ free' in
         let (live_base, made, at) = at_count t live_kept in
@@ -161,32 +163,32 @@ module _ (p : PProgram) (numbers : Numbering) (bound : ℕ) where
         let few : slice_index steps t ≤ bound = k.within t in
         omega arith
 
-    pub none_open : (needed : List ℕ) → All (IsSettled tasks) needed → NoneOpen p numbers bound events needed
-    none_open needed settled = All-weaker (IsSettled tasks) (λ t. IsOpen p numbers events t bound → ⊥) settled_closed needed settled
+    pub none_open : (needed : List ℕ) → All (IsSettled tasks) needed → NoneOpen setup numbers bound events needed
+    none_open needed settled = All-weaker (IsSettled tasks) (λ t. IsOpen setup numbers events t bound → ⊥) settled_closed needed settled
 
     -- a stuck task is open
-    pub stuck_open : (t : ℕ) → IsStuck bound tasks steps t → IsOpen p numbers events t bound
+    pub stuck_open : (t : ℕ) → IsStuck bound tasks steps t → IsOpen setup numbers events t bound
     stuck_open t stuck =
         let free : (kept t).standing ≡ Live = is-Live (kept t).standing stuck.free in
         let few : slice_index steps t ≤ bound = k.within t in
         let many : bound ≤ slice_index steps t = stuck.count in
         let e : slice_index steps t ≡ bound = omega arith in
-        ((kept t).local, subst (λ n. IsRest p numbers events t n (kept t).local) e (rests t free), stuck.more)
+        ((kept t).local, subst (λ n. IsRest setup numbers events t n (kept t).local) e (rests t free), stuck.more)
 
     -- ---- the event
 
-    seen : (e : Event) → AreSeen numbers (length (opening_of p numbers).state.seats) e (view_at tasks) kept
+    seen : (e : Event) → AreSeen numbers (length (opening_of setup numbers).state.seats) e (view_at tasks) kept
     seen e = record { needed = λ t need. refl; stills = stills; closed = λ t. sym (closed_seen (kept t).standing (kept t) refl) }
 
     pub happens_here : (e : Event) → first_failing numbers (view_at tasks) e ≡ None → happens m kept e ≡ true
     happens_here e h =
-        sym (table_happens numbers (length (opening_of p numbers).state.seats) (the_count p numbers) e (view_at tasks) kept (seen e)) ∙ none_failing (view_at tasks) (asked_of.conditions_of numbers e) h
+        sym (table_happens numbers (length (opening_of setup numbers).state.seats) (the_count setup numbers) e (view_at tasks) kept (seen e)) ∙ none_failing (view_at tasks) (asked_of.conditions_of numbers e) h
 
     pub keeps_event : (e : Event) (tasks' : Tasks) (steps' : List ℕ) → happens m kept e ≡ true → tasks' ≡ acted (rules_of numbers) tasks e → AreRecounted numbers tasks e steps steps' →
-        AreKept p numbers bound (events ++ e ∷ []) tasks' steps' (is_last e || ended)
+        AreKept setup numbers bound (events ++ e ∷ []) tasks' steps' (is_last e || ended)
     keeps_event e tasks' steps' h acts counted = record {
       bases = followed.0;
-      leads = leads_append m events (e ∷ []) (opening_world p numbers) k.bases followed.0 k.leads (followed.0, followed.1, refl);
+      leads = leads_append m events (e ∷ []) (first_world setup numbers) k.bases followed.0 k.leads (followed.0, followed.1, refl);
       follows = subst (λ (c : ℕ → ℕ). Follows m followed.0 (world_kept tasks' (is_last e || ended)) c) (λ i t. sym (counted.each t) i)
           (subst (λ (g : ℕ → Seat Task). Follows m followed.0 (record { tasks = g; ended = is_last e || ended }) (recount m (world_kept tasks ended) (Happen e) (λ t. slice_index steps t))) (sym same_tasks) followed.2);
       size = ap length acts ∙ length_acted m e tasks ∙ k.size;

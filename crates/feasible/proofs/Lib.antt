@@ -1,5 +1,6 @@
 pub mod Running
 pub mod Asking
+pub mod Recounting
 pub mod Judging
 pub mod Continuing
 pub mod Starting

@@ -8,9 +8,12 @@ use Rattle.event_machine.specs.Seats.{Seat, is_live, completed}
 use Rattle.event_machine.specs.Settling.{ran, HasSteps}
 use Rattle.event_machine.proofs.Basics.{seat_path}
 use Rattle.event_machine.proofs.Stepping.{settles_most}
-use Rattle.task_local.specs.Control.{Task}
-use Rattle.task_local.specs.Steps.{task_ops, can_step, nobody, gone_on}
-use Rattle.task_machine.specs.Table.{Tasks, seat_of}
+use Rattle.task_model.specs.Machine.{Tasks}
+use Rattle.task_model.specs.Stands.{Stand, Steps, Raises, At, stand_of, steps_at, stepped_by, can_step, stepped}
+use Rattle.task_model.specs.Starting.{nobody}
+use Rattle.task_model.specs.TaskOps.{task_ops}
+use Rattle.task_model.specs.Tasks.{Task}
+use Rattle.task_machine.specs.Table.{seat_of}
 use Rattle.task_machine.specs.Conditions.{tasks_to}
 use Rattle.feasible.specs.Keeping.{IsSettled}
 use Rattle.feasible.specs.Needs.{HasRun, HaveRun, IsStuck, IsFirstStuck, tasks_below}
@@ -40,13 +43,29 @@ has_run_on {a} {b} {d} {m} {n} {k} r s = record {
 }
 
 -- one more step, at a loop's turn
-pub has_run_more : (a b d : Task) (m n k : ℕ) → HasRun a m b n → can_step b ≡ true → d ≡ gone_on b → k ≡ n + 1 → HasRun a m d k
+pub has_run_more : (a b d : Task) (m n k : ℕ) → HasRun a m b n → can_step b ≡ true → d ≡ stepped b → k ≡ n + 1 → HasRun a m d k
 has_run_more a b d m n k r can e f = record {
   more = suc r.more;
   made = (r.made, ap can_step (sym r.state) ∙ can);
-  state = e ∙ ap gone_on r.state;
+  state = e ∙ ap stepped r.state;
   count = let p : n ≡ r.more + m = r.count in omega arith;
 }
+
+-- the step of a task that has none leaves it as it is
+stepped_none : (s : Stand) (t : Task) → steps_at s ≡ false → stepped_by s t ≡ t
+stepped_none Steps t h = absurd (true≢false h)
+stepped_none (Raises x) t h = absurd (true≢false h)
+stepped_none (At offer) t h = refl
+
+stepped_rest : (t : Task) → can_step t ≡ false → stepped t ≡ t
+stepped_rest t h = stepped_none (stand_of t) t h
+
+-- a turn that finds no step
+pub has_run_rest : (a b d : Task) (m n : ℕ) → HasRun a m b n → can_step b ≡ false → d ≡ stepped b → HasRun a m d n
+has_run_rest a b d m n r rest e = subst (λ l. HasRun a m l n) (sym (e ∙ stepped_rest b rest)) r
+
+pub still_rests : (b d : Task) → can_step b ≡ false → d ≡ stepped b → can_step d ≡ false
+still_rests b d rest e = ap can_step (e ∙ stepped_rest b rest) ∙ rest
 
 -- a task without a step stays
 pub run_at_rest : {a b : Task} {m n : ℕ} → HasRun a m b n → can_step a ≡ false → b ≡ a

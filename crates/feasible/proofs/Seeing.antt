@@ -1,6 +1,5 @@
 -- What a judge shows of a settled task is its view after the events that have happened.
 use Rattle.std.proofs.Common.{◌≡◌, ℕ, Bool, true, false, ◌||◌, if◌then◌else◌, List, [], ◌∷◌, refl, sym, ap, ◌∙◌, subst, true≢false, take, slice_index}
-use Rattle.ada_tree.specs.PlainProgram.{PProgram}
 use Rattle.event_machine.specs.declared.Event.{Event}
 use Rattle.event_machine.specs.declared.Event.TheVariants.{Z}
 use Rattle.event_machine.specs.declared.Standing.{Standing}
@@ -12,16 +11,17 @@ use Rattle.event_machine.specs.Tallies.{RestIs, StandsAfter, before_end}
 use Rattle.event_machine.specs.Worlds.{World, acted, changes, is_last}
 use Rattle.event_machine.proofs.Extending.{before_end-same}
 use Rattle.syn_event.specs.Numbering.{Numbering}
-use Rattle.task_local.specs.Control.{Task}
-use Rattle.task_local.specs.Steps.{task_ops}
-use Rattle.task_machine.specs.Opening.{opening_of}
-use Rattle.task_machine.specs.Table.{Tasks, rules_of, seat_of}
+use Rattle.task_model.specs.Laws.{program_in, first_world}
+use Rattle.task_model.specs.Machine.{Setup, opening_of, Tasks, rules_of}
+use Rattle.task_model.specs.TaskOps.{task_ops}
+use Rattle.task_model.specs.Tasks.{Task}
+use Rattle.task_machine.specs.Table.{seat_of}
 use Rattle.task_machine.specs.Views.{View, Completed, Abnormal, Busy, At, ViewIs}
 use Rattle.task_machine.proofs.Judged.{no_end_before, view_kept}
 use Rattle.feasible.specs.declared.showing.TaskView.{TaskView}
 use Rattle.feasible.specs.declared.showing.TaskView.TheVariants as shown
 use Rattle.feasible.specs.Failing.{view_at}
-use Rattle.feasible.specs.Keeping.{AreKept, StandsFor, IsSettled, machine_of, opening_world}
+use Rattle.feasible.specs.Keeping.{AreKept, StandsFor, IsSettled}
 use Rattle.feasible.specs.Kept.{Kept}
 use Rattle.feasible.specs.Shown.{IsShown, Shows}
 use Rattle.feasible.proofs.Continuing.{seat_settled}
@@ -43,13 +43,13 @@ closed_abnormal (z.Served by abnormal) h = h
 closed_abnormal z.Completed h = absurd (true≢false (sym h))
 closed_abnormal z.Killed h = absurd (true≢false (sym h))
 
-shown_view : (p : PProgram) (numbers : Numbering) (events : List Event) (t : ℕ) (v : View) (task : TaskView) → ViewIs p numbers events t v → Shows v task → IsShown p numbers events t task
-shown_view p numbers events t Completed task (s, stands, h) e = subst (IsShown p numbers events t) (sym e) (s, stands, closed_completed s h)
-shown_view p numbers events t Abnormal task (s, stands, h) e = subst (IsShown p numbers events t) (sym e) (s, stands, closed_abnormal s h)
-shown_view p numbers events t Busy task h e = subst (IsShown p numbers events t) (sym e) h
-shown_view p numbers events t (At offer) shown.Closed h e = absurd e
-shown_view p numbers events t (At offer) shown.Busy h e = absurd e
-shown_view p numbers events t (At offer) (shown.At lent) h e = subst (λ o. ViewIs p numbers events t (At o)) (sym e) h
+shown_view : (setup : Setup) (numbers : Numbering) (events : List Event) (t : ℕ) (v : View) (task : TaskView) → ViewIs setup numbers events t v → Shows v task → IsShown setup numbers events t task
+shown_view setup numbers events t Completed task (s, stands, h) e = subst (IsShown setup numbers events t) (sym e) (s, stands, closed_completed s h)
+shown_view setup numbers events t Abnormal task (s, stands, h) e = subst (IsShown setup numbers events t) (sym e) (s, stands, closed_abnormal s h)
+shown_view setup numbers events t Busy task h e = subst (IsShown setup numbers events t) (sym e) h
+shown_view setup numbers events t (At offer) shown.Closed h e = absurd e
+shown_view setup numbers events t (At offer) shown.Busy h e = absurd e
+shown_view setup numbers events t (At offer) (shown.At lent) h e = subst (λ o. ViewIs setup numbers events t (At o)) (sym e) h
 
 -- ---- behind the end of the program
 
@@ -87,12 +87,12 @@ module _ (m : Program Task) where
   led_before w last [] leads = (w, refl, λ t. ap (λ (u : World Task). u.tasks t) leads)
   led_before w last (e ∷ events) (next, fires, leads) = by_last w next last e events fires leads (led_before next last events leads) (is_last e) refl
 
-module _ (p : PProgram) (numbers : Numbering) where
+module _ (setup : Setup) (numbers : Numbering) where
   -- What is kept for events is kept for those before the end.
-  kept_before : (bound : ℕ) (events : List Event) (tasks : Tasks) (steps : List ℕ) (ended : Bool) → AreKept p numbers bound events tasks steps ended →
-      (runs : Bool) × AreKept p numbers bound (before_end events) tasks steps runs
+  kept_before : (bound : ℕ) (events : List Event) (tasks : Tasks) (steps : List ℕ) (ended : Bool) → AreKept setup numbers bound events tasks steps ended →
+      (runs : Bool) × AreKept setup numbers bound (before_end events) tasks steps runs
   kept_before bound events tasks steps ended k =
-      let (v, leads, same) = led_before (machine_of p numbers) (opening_world p numbers) k.bases events k.leads in (
+      let (v, leads, same) = led_before (program_in setup numbers) (first_world setup numbers) k.bases events k.leads in (
         v.ended,
         record {
           bases = v;
@@ -108,20 +108,20 @@ module _ (p : PProgram) (numbers : Numbering) where
       )
 
   -- What is seen of a task is taken of the events before the end.
-  seen_before : (events : List Event) (t : ℕ) (task : TaskView) → IsShown p numbers (before_end events) t task → IsShown p numbers events t task
+  seen_before : (events : List Event) (t : ℕ) (task : TaskView) → IsShown setup numbers (before_end events) t task → IsShown setup numbers events t task
   seen_before events t shown.Closed (s, stands, h) =
-      (s, subst (λ es. StandsAfter (rules_of numbers) (opening_of p numbers).state es t s) (before_end-same (before_end events) (no_end_before events)) stands, h)
+      (s, subst (λ es. StandsAfter (rules_of numbers) (opening_of setup numbers).state es t s) (before_end-same (before_end events) (no_end_before events)) stands, h)
   seen_before events t shown.Busy (s, stands, h) =
-      (s, subst (λ es. StandsAfter (rules_of numbers) (opening_of p numbers).state es t s) (before_end-same (before_end events) (no_end_before events)) stands, h)
+      (s, subst (λ es. StandsAfter (rules_of numbers) (opening_of setup numbers).state es t s) (before_end-same (before_end events) (no_end_before events)) stands, h)
   seen_before events t (shown.At lent) (n, task, rest, none, is) =
-      (n, task, subst (λ es. RestIs (rules_of numbers) (opening_of p numbers).state es t n task) (before_end-same (before_end events) (no_end_before events)) rest, none, is)
+      (n, task, subst (λ es. RestIs (rules_of numbers) (opening_of setup numbers).state es t n task) (before_end-same (before_end events) (no_end_before events)) rest, none, is)
 
-pub shown_is : (p : PProgram) (events : List Event) (j : Kept) (t : ℕ) (task : TaskView) → StandsFor p events j → IsSettled j.tasks t → Shows (view_at j.tasks t) task →
-    IsShown p j.numbers (take j.taken events) t task
-shown_is p events j t task s settled shows =
+pub shown_is : (setup : Setup) (events : List Event) (j : Kept) (t : ℕ) (task : TaskView) → StandsFor setup events j → IsSettled j.tasks t → Shows (view_at j.tasks t) task →
+    IsShown setup j.numbers (take j.taken events) t task
+shown_is setup events j t task s settled shows =
     let happened : List Event = take j.taken events in
-    let (runs, kept) = kept_before p j.numbers j.bound happened j.tasks j.steps j.ended s.keeps in
-    seen_before p j.numbers happened t task
-    (shown_view p j.numbers (before_end happened) t (view_at j.tasks t) task
-    (view_kept p j.numbers (before_end happened) t (seat_of j.tasks t)
-    (seat_settled p j.numbers j.bound (before_end happened) (no_end_before happened) j.tasks j.steps runs kept t settled)) shows)
+    let (runs, kept) = kept_before setup j.numbers j.bound happened j.tasks j.steps j.ended s.keeps in
+    seen_before setup j.numbers happened t task
+    (shown_view setup j.numbers (before_end happened) t (view_at j.tasks t) task
+    (view_kept setup j.numbers (before_end happened) t (seat_of j.tasks t)
+    (seat_settled setup j.numbers j.bound (before_end happened) (no_end_before happened) j.tasks j.steps runs kept t settled)) shows)

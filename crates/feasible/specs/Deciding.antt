@@ -1,14 +1,13 @@
 -- What the judge's step does, as the code does it: the needed tasks run on, then the conditions, then the event.
 use Rattle.std.specs.Prelude.{◌≡◌, ℕ, ◌+◌, Bool, ◌||◌, if◌then◌else◌, List, [], ◌∷◌, ◌++◌, take, All, Some, None}
-use Rattle.ada_tree.specs.PlainProgram.{PProgram}
 use Rattle.event_machine.specs.declared.Event.{Event}
 use Rattle.event_machine.specs.Worlds.{acted, is_last}
 use Rattle.syn_event.specs.Numbering.{Numbering}
+use Rattle.task_model.specs.Machine.{Setup, Tasks, rules_of}
 use Rattle.task_machine.specs.declared.verdict.Verdict.{Verdict}
 use Rattle.task_machine.specs.declared.verdict.Verdict.TheVariants.{Feasible, Infeasible, Unsettled}
 use Rattle.task_machine.specs.Conditions.{needed_of}
 use Rattle.task_machine.specs.Judging.{VerdictIs}
-use Rattle.task_machine.specs.Table.{Tasks, rules_of}
 use Rattle.feasible.specs.Failing.{asked}
 use Rattle.feasible.specs.Keeping.{AreKept, Counts, IsSettled, is_feasible}
 use Rattle.feasible.specs.Needs.{HaveRun, Settled}
@@ -40,7 +39,7 @@ abbrev pub ended_with : Verdict → Event → Bool → Bool
 ended_with v e ended = if is_feasible v then is_last e || ended else ended
 
 -- With one more event the verdict is this, and what is kept stands for the events that have happened.
-pub record GoesOn (p : PProgram) (numbers : Numbering) (bound : ℕ) (events : List Event) (e : Event) (taken : ℕ) (ended : Bool) (tasks' : Tasks) (steps' : List ℕ) (v : Verdict) : Type 0 where
-  pub verdict : VerdictIs p numbers bound (events ++ e ∷ []) v
+pub record GoesOn (setup : Setup) (numbers : Numbering) (bound : ℕ) (events : List Event) (e : Event) (taken : ℕ) (ended : Bool) (tasks' : Tasks) (steps' : List ℕ) (v : Verdict) : Type 0 where
+  pub verdict : VerdictIs setup numbers bound (events ++ e ∷ []) v
   pub counts : Counts (events ++ e ∷ []) (taken_with v taken) v
-  pub keeps : AreKept p numbers bound (take (taken_with v taken) (events ++ e ∷ [])) tasks' steps' (ended_with v e ended)
+  pub keeps : AreKept setup numbers bound (take (taken_with v taken) (events ++ e ∷ [])) tasks' steps' (ended_with v e ended)

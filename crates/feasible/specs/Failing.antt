@@ -5,11 +5,12 @@ use Rattle.event_machine.specs.declared.Event.TheVariants.{R, E, S, D, C, T, F, 
 use Rattle.event_machine.specs.Offers.{Offer, calls_in, is_any_form, is_conditional, is_timed, waits_with, opens, is_else, is_delay, is_finish, is_end}
 use Rattle.event_machine.specs.Worlds.{aborts}
 use Rattle.syn_event.specs.Numbering.{Numbering, owner_of}
+use Rattle.task_model.specs.Machine.{Tasks}
 use Rattle.task_machine.specs.Conditions.{failing_in, others_may_end, is_end_of}
 use Rattle.task_machine.specs.declared.verdict.Cause.{Cause}
 use Rattle.task_machine.specs.declared.verdict.Cause.TheVariants as cause
 use Rattle.task_machine.specs.declared.verdict.Why.{Why}
-use Rattle.task_machine.specs.Table.{Tasks, seat_of, offer_in_seat}
+use Rattle.task_machine.specs.Table.{seat_of, offer_in_seat}
 use Rattle.task_machine.specs.Views.{View, Completed, Abnormal, Busy, At, view_of}
 
 -- what is seen of each task of a list

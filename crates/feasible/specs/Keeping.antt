@@ -1,27 +1,19 @@
 -- For which list of events what a judge keeps stands (this project's rule).
 use Rattle.std.specs.Prelude.{◌≡◌, ℕ, ◌+◌, ◌<◌, ◌≤◌, Bool, true, false, List, [], ◌∷◌, length, take, slice_index, ⊤}
-use Rattle.ada_tree.specs.PlainProgram.{PProgram}
 use Rattle.event_machine.specs.declared.Event.{Event}
-use Rattle.event_machine.specs.Programs.{Program, by_number}
 use Rattle.event_machine.specs.Seats.{is_live}
 use Rattle.event_machine.specs.Settling.{Leads, Follows}
-use Rattle.event_machine.specs.Worlds.{World, world_of, is_last}
-use Rattle.syn_event.specs.Numbering.{Numbering, owner_of}
-use Rattle.task_local.specs.Control.{Task}
-use Rattle.task_local.specs.Steps.{task_ops, can_step}
+use Rattle.event_machine.specs.Worlds.{World, is_last}
+use Rattle.syn_event.specs.Numbering.{Numbering}
+use Rattle.task_model.specs.Laws.{program_in, first_world}
+use Rattle.task_model.specs.Machine.{Setup, Tasks}
+use Rattle.task_model.specs.Stands.{can_step}
+use Rattle.task_model.specs.Tasks.{Task}
 use Rattle.task_machine.specs.declared.verdict.Verdict.{Verdict}
 use Rattle.task_machine.specs.declared.verdict.Verdict.TheVariants.{Feasible, Infeasible, Unsettled}
 use Rattle.task_machine.specs.Judging.{VerdictIs}
-use Rattle.task_machine.specs.Opening.{first_tasks, opening_of}
-use Rattle.task_machine.specs.Table.{Tasks, seat_of}
+use Rattle.task_machine.specs.Table.{seat_of}
 use Rattle.feasible.specs.Kept.{Kept}
-
--- the tasks of the program, as the machine without queues takes them
-abbrev pub machine_of : PProgram → Numbering → Program Task
-machine_of p numbers = record { ops = task_ops; owner = owner_of numbers; size = length (first_tasks p numbers (length numbers.tasks)) }
-
-abbrev pub opening_world : PProgram → Numbering → World Task
-opening_world p numbers = world_of (by_number (machine_of p numbers) (opening_of p numbers).state)
 
 -- kept tasks as a world
 abbrev pub world_kept : Tasks → Bool → World Task
@@ -29,10 +21,10 @@ world_kept tasks ended = record { tasks = λ t. seat_of tasks t; ended = ended }
 
 -- The tasks are kept for these events: the events lead from the opening to bases, each task is its base run on by its count of local steps, and
 -- no count is above the bound.
-pub record AreKept (p : PProgram) (numbers : Numbering) (bound : ℕ) (events : List Event) (tasks : Tasks) (steps : List ℕ) (ended : Bool) : Type 0 where
+pub record AreKept (setup : Setup) (numbers : Numbering) (bound : ℕ) (events : List Event) (tasks : Tasks) (steps : List ℕ) (ended : Bool) : Type 0 where
   pub bases : World Task
-  pub leads : Leads (machine_of p numbers) (opening_world p numbers) events bases
-  pub follows : Follows (machine_of p numbers) bases (world_kept tasks ended) (λ t. slice_index steps t)
+  pub leads : Leads (program_in setup numbers) (first_world setup numbers) events bases
+  pub follows : Follows (program_in setup numbers) bases (world_kept tasks ended) (λ t. slice_index steps t)
   pub size : length tasks ≡ length numbers.tasks
   pub counts : length steps ≡ length numbers.tasks
   pub within : (t : ℕ) → slice_index steps t ≤ bound
@@ -44,11 +36,11 @@ Counts events taken (Infeasible at why) = (at ≡ taken + 1) × (taken < length 
 Counts events taken (Unsettled at task) = (at ≡ taken + 1) × (taken < length events)
 
 -- The judge stands for this list of events: its verdict is that of the list, and its tasks are kept for those of the events that have happened.
-pub record StandsFor (p : PProgram) (events : List Event) (judge : Kept) : Type 0 where
+pub record StandsFor (setup : Setup) (events : List Event) (judge : Kept) : Type 0 where
   pub memory : judge.lost ≡ false
-  pub verdict : VerdictIs p judge.numbers judge.bound events judge.verdict
+  pub verdict : VerdictIs setup judge.numbers judge.bound events judge.verdict
   pub counts : Counts events judge.taken judge.verdict
-  pub keeps : AreKept p judge.numbers judge.bound (take judge.taken events) judge.tasks judge.steps judge.ended
+  pub keeps : AreKept setup judge.numbers judge.bound (take judge.taken events) judge.tasks judge.steps judge.ended
 
 -- Nothing follows the end of the program.
 abbrev pub NothingFollows : List Event → Type 0

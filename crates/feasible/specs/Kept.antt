@@ -1,8 +1,8 @@
 -- What a judge keeps, as plain data (this project's rule): of each task its state, how it stands and its count, but neither the events nor any queue.
-use Rattle.std.specs.Prelude.{◌≡◌, ◌<◌, ℕ, Bool, List, length}
+use Rattle.std.specs.Prelude.{◌≡◌, ◌<◌, ◌^◌, ℕ, Bool, List, length}
 use Rattle.syn_event.specs.Numbering.{Numbering}
+use Rattle.task_model.specs.Machine.{Tasks}
 use Rattle.task_machine.specs.declared.verdict.Verdict.{Verdict}
-use Rattle.task_machine.specs.Table.{Tasks}
 
 pub record Kept : Type 0 where
   -- the numbers of the program
@@ -26,4 +26,4 @@ pub record Kept : Type 0 where
 pub record IsWhole (numbers : Numbering) (tasks : Tasks) (steps : List ℕ) : Type 0 where
   pub size : length tasks ≡ length numbers.tasks
   pub same : length steps ≡ length tasks
-  pub few : length tasks < 204
+  pub few : length tasks < 2 ^ 32

@@ -2,9 +2,11 @@
 use Rattle.std.specs.Prelude.{◌≡◌, ℕ, zero, suc, ◌+◌, ◌≤◌, true, false, List, [], ◌∷◌, ◌++◌, length, slice_index, All, Option, Some, None}
 use Rattle.event_machine.specs.Seats.{is_live}
 use Rattle.event_machine.specs.Settling.{ran, HasSteps}
-use Rattle.task_local.specs.Control.{Task}
-use Rattle.task_local.specs.Steps.{task_ops, can_step}
-use Rattle.task_machine.specs.Table.{Tasks, seat_of}
+use Rattle.task_model.specs.Machine.{Tasks}
+use Rattle.task_model.specs.Stands.{can_step}
+use Rattle.task_model.specs.TaskOps.{task_ops}
+use Rattle.task_model.specs.Tasks.{Task}
+use Rattle.task_machine.specs.Table.{seat_of}
 use Rattle.feasible.specs.Keeping.{IsSettled}
 
 -- one task has made some more local steps, and they are counted

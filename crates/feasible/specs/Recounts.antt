@@ -3,8 +3,9 @@ use Rattle.std.specs.Prelude.{◌≡◌, ℕ, Bool, List, length, slice_index, n
 use Rattle.event_machine.specs.declared.Event.{Event}
 use Rattle.event_machine.specs.Worlds.{changes}
 use Rattle.syn_event.specs.Numbering.{Numbering, owner_of}
-use Rattle.task_local.specs.Steps.{task_ops}
-use Rattle.task_machine.specs.Table.{Tasks, seat_of}
+use Rattle.task_model.specs.Machine.{Tasks}
+use Rattle.task_model.specs.TaskOps.{task_ops}
+use Rattle.task_machine.specs.Table.{seat_of}
 
 -- the counts of the tasks that pass the test are 0, and all others stay
 pub record BeginAnew (test : ℕ → Bool) (steps steps' : List ℕ) : Type 0 where

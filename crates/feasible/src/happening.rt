@@ -1,32 +1,37 @@
 // What an event does to the tasks and to their counts.
 
-ghost use Rattle.std.specs.Prelude.{◌≡◌, ℕ, slice_get, slice_set, slice_index, length, if◌then◌else◌, OnOk};
+ghost use Rattle.std.specs.Prelude.{◌≡◌, ℕ, slice_set, slice_index, length, if◌then◌else◌, None, OnOk};
 ghost use Rattle.event_machine.specs.Worlds.{acted};
 ghost use Rattle.event_machine.specs.Seats.{is_served_by};
-ghost use Rattle.task_local.specs.Steps.{callers_of};
-ghost use Rattle.task_machine.specs.Table.{rules_of, seat_of};
+ghost use Rattle.task_model.specs.Machine.{rules_of};
+ghost use Rattle.task_machine.specs.Table.{seat_of};
+ghost use Rattle.feasible.specs.Failing.{asked};
 ghost use Rattle.feasible.specs.Recounts.{AreRecounted, BeginAnew};
 
 use ada_tree::Memory;
+use ada_value::Value;
 use event_machine::{Event, Standing};
 use syn_event::Numbers;
-use task_machine::effects::{abort, fail, finish, meet, set_standing};
-use task_machine::seats::{Seat, is_closed, is_served_by, standing_at};
+use task_machine::effects::{abort, fail, finish, meet, set_standing, take_delay, take_else};
+use task_machine::seats::{Seat, caller_at, is_closed, is_served_by, standing_at};
 
-// The event happens.
-pub(crate) fn happen(seats: &mut [Seat], numbers: &Numbers, e: &Event) -> Result<(), Memory>
+// The event happens, whose conditions hold of the tasks as they stand. Values pass through a list, so that no list is made anew.
+pub(crate) fn happen(
+    seats: &mut [Seat],
+    values: &mut Vec<Value>,
+    numbers: &Numbers,
+    e: &Event,
+) -> Result<(), Memory>
+    requires { asked numbers.now seats.old e.now ≡ None }
     ensures { OnOk result (seats.new ≡ acted (rules_of numbers.now) seats.old e.now) }
 {
     match *e {
-        Event::R { c, e, i } => meet(seats, numbers, c, e, i),
-        Event::E { a } => {
-            finish(seats, numbers, a);
-            Ok(())
-        }
-        Event::S { a } | Event::D { a, .. } | Event::C { c: a, .. } | Event::T { c: a, .. } => {
-            set_standing(seats, a, Standing::Live);
-            Ok(())
-        }
+        Event::R { c, e, i } => meet(seats, values, numbers, c, e, i),
+        Event::E { a } => finish(seats, values, numbers, a),
+        Event::S { a } => take_else(seats, a),
+        Event::D { a, k } => take_delay(seats, a, k),
+        Event::C { c, .. } => take_else(seats, c),
+        Event::T { c, .. } => take_delay(seats, c, 1),
         Event::F { c, .. } => {
             fail(seats, c);
             Ok(())
@@ -93,15 +98,5 @@ fn begin_served(steps: &mut [u64], seats: &[Seat], x: u32)
                 steps[t] = 0;
             }
         }
-    }
-}
-
-// The caller of the innermost accept body that the task has opened.
-fn caller_at(seats: &[Seat], a: u32) -> Option<u32>
-    ensures { result ≡ slice_get (callers_of (seat_of seats.now a).local) 0 }
-{
-    match seats.get(a as usize) {
-        Some(seat) => seat.local.caller(),
-        None => None,
     }
 }

@@ -1,14 +1,14 @@
 // The judge.
 
 ghost use Rattle.std.specs.Prelude.{◌≡◌, ◌≢◌, ◌≤◌, ◌<◌, ◌+◌, ◌^◌, ◌++◌, ◌∷◌, [], ℕ, List, true, false, ◌||◌, length, take, slice_index, All, IsErr, IfOk, OnOk, OnErr};
-ghost use Rattle.ada_tree.specs.PlainProgram.{PProgram, plain_program};
+ghost use Rattle.ada_tree.specs.PlainProgram.{plain_program};
 ghost use Rattle.event_machine.specs.declared.Event as event;
+ghost use Rattle.event_machine.specs.Tallies.{HasNoEnd};
 ghost use Rattle.event_machine.specs.Worlds.{is_last};
-ghost use Rattle.syn_event.specs.Legal.{Legal};
+ghost use Rattle.task_model.specs.Machine.{Setup};
 ghost use Rattle.task_machine.specs.Conditions.{needed_of};
 ghost use Rattle.task_machine.specs.Judging.{VerdictIs};
-ghost use Rattle.task_machine.specs.Table.{seat_of};
-ghost use Rattle.event_machine.specs.Tallies.{HasNoEnd};
+ghost use Rattle.task_machine.specs.Table.{setup_in};
 ghost use Rattle.feasible.specs.Deciding.{IsDecided, taken_with, ended_with};
 ghost use Rattle.feasible.specs.Failing.{view_at};
 ghost use Rattle.feasible.specs.Keeping.{StandsFor, NothingFollows, IsSettled, is_feasible, is_infeasible};
@@ -19,11 +19,12 @@ use crate::happening::{happen, recount};
 use crate::settling::settle_needed;
 use crate::{TaskView, Verdict};
 use ada_tree::{Memory, Program, Types};
-use ada_value::Inputs;
+use ada_value::{Inputs, Value};
 use event_machine::{Event, Standing};
 use std::alloc::Global;
 use std::marker::Model;
-use syn_event::{Mode, Numbers};
+use syn_event::Numbers;
+use task_links::Links;
 use task_machine::seats::{Seat, offer_at, standing_at};
 use task_machine::start_all;
 
@@ -35,6 +36,7 @@ pub struct Judge<'p> {
     numbers: &'p Numbers,
     seats: Vec<Seat<'p>>,
     steps: Vec<u64>,
+    values: Vec<Value>,
     ended: bool,
     bound: u64,
     taken: u32,
@@ -46,11 +48,12 @@ impl<'p> Model for Judge<'p> {
     ghost use Rattle.std.specs.Prelude.{◌≡◌, ◌<◌, length, vec_len};
     ghost use Rattle.std.specs.Coded.{codes};
     ghost use Rattle.ada_tree.proofs.Codes.{tree_codes};
+    ghost use Rattle.task_links.specs.SettingCode.{coded_setting};
     ghost use Rattle.feasible.specs.Kept.{Kept, IsWhole};
 
     ghost Value = { Kept };
 
-    ghost coded = { Prim.hlevel (codes, tree_codes) };
+    ghost coded = { Prim.hlevel (codes, tree_codes, coded_setting (Prim.hlevel (codes, tree_codes)) (Prim.hlevel (codes, tree_codes))) };
 
     ghost view = { λ j. record { numbers = j.numbers.now; tasks = j.seats.items; steps = j.steps.items; ended = j.ended; bound = j.bound; taken = j.taken; verdict = j.verdict; lost = j.lost } };
 
@@ -62,19 +65,28 @@ impl<'p> Judge<'p> {
     /// changed it.
     pub fn new(
         alloc: Global,
-        p: &'p Program,
-        types: &'p Types,
-        numbers: &'p Numbers,
+        links: &'p Links<'p>,
         inputs: &Inputs,
         local_bound: u64,
     ) -> Result<Judge<'p>, Memory>
-        requires { Legal (plain_program p.now) types.now numbers.now Mode.Original }
-        ensures stands { IfOk result (λ j. StandsFor (plain_program p.now) [] j) }
-        ensures numbers { IfOk result (λ j. j.numbers ≡ numbers.now) }
+        ensures stands { IfOk result (λ j. StandsFor (setup_in links.now inputs.now) [] j) }
+        ensures numbers { IfOk result (λ j. j.numbers ≡ links.now.numbers) }
         ensures bound { IfOk result (λ j. j.bound ≡ local_bound) }
         ensures taken { IfOk result (λ j. j.taken ≡ 0) }
     {
-        Judge::begin(alloc, p, types, numbers, inputs, local_bound)
+        let seats = start_all(alloc, links, inputs)?;
+        let steps = no_steps(alloc, seats.len())?;
+        Ok(Judge {
+            numbers: links.numbers(),
+            seats,
+            steps,
+            values: Vec::new(alloc),
+            ended: false,
+            bound: local_bound,
+            taken: 0,
+            verdict: Verdict::Feasible,
+            lost: false,
+        })
     }
 
     /// The verdict on the events given so far and this one. After a verdict other than feasible it stays that verdict, and after want of
@@ -84,8 +96,8 @@ impl<'p> Judge<'p> {
     pub fn next(&mut self, e: &Event) -> Result<Verdict, Memory>
         requires few { self.old.taken + 1 < 2 ^ 32 }
         // for each list for which the judge stands
-        ensures verdict { (p : PProgram) (events : List event.Event) → StandsFor p events self.old → HasNoEnd events → IfOk result (VerdictIs p self.old.numbers self.old.bound (events ++ e.now ∷ [])) }
-        ensures stands { (p : PProgram) (events : List event.Event) → StandsFor p events self.old → HasNoEnd events → OnOk result (StandsFor p (events ++ e.now ∷ []) self.new) }
+        ensures verdict { (setup : Setup) (events : List event.Event) → StandsFor setup events self.old → HasNoEnd events → IfOk result (VerdictIs setup self.old.numbers self.old.bound (events ++ e.now ∷ [])) }
+        ensures stands { (setup : Setup) (events : List event.Event) → StandsFor setup events self.old → HasNoEnd events → OnOk result (StandsFor setup (events ++ e.now ∷ []) self.new) }
         ensures settled { is_feasible self.old.verdict ≡ true → IfOk result (λ v. is_infeasible v ≡ true → All (IsSettled self.new.tasks) (needed_of self.old.numbers e.now)) }
         ensures last { IfOk result (λ v. v ≡ self.new.verdict) }
         ensures taken { self.new.taken ≤ self.old.taken + 1 }
@@ -111,7 +123,7 @@ impl<'p> Judge<'p> {
     pub fn offer<'a>(&'a self, task: u32) -> TaskView<'a>
         requires { IsSettled self.now.tasks task }
         // after the events that have happened
-        ensures view { (p : PProgram) (events : List event.Event) → StandsFor p events self.now → IsShown p self.now.numbers (take self.now.taken events) task result }
+        ensures view { (setup : Setup) (events : List event.Event) → StandsFor setup events self.now → IsShown setup self.now.numbers (take self.now.taken events) task result }
         ensures shows { Shows (view_at self.now.tasks task) result }
     {
         show_at(&self.seats, task)
@@ -119,35 +131,6 @@ impl<'p> Judge<'p> {
 }
 
 impl<'p> Judge<'p> {
-    // A judge of the tasks that these numbers have.
-    pub(crate) fn begin(
-        alloc: Global,
-        p: &'p Program,
-        types: &'p Types,
-        numbers: &'p Numbers,
-        inputs: &Inputs,
-        bound: u64,
-    ) -> Result<Judge<'p>, Memory>
-        requires { length numbers.now.tasks < 204 }
-        ensures stands { IfOk result (λ j. StandsFor (plain_program p.now) [] j) }
-        ensures numbers { IfOk result (λ j. j.numbers ≡ numbers.now) }
-        ensures bound { IfOk result (λ j. j.bound ≡ bound) }
-        ensures taken { IfOk result (λ j. j.taken ≡ 0) }
-    {
-        let seats = start_all(alloc, p, types, numbers, inputs)?;
-        let steps = no_steps(alloc, seats.len())?;
-        Ok(Judge {
-            numbers,
-            seats,
-            steps,
-            ended: false,
-            bound,
-            taken: 0,
-            verdict: Verdict::Feasible,
-            lost: false,
-        })
-    }
-
     // Decides on the event, where none has gone wrong yet.
     fn advance(&mut self, e: &Event) -> Result<Verdict, Memory>
         requires { self.old.taken + 1 < 2 ^ 32 }
@@ -175,6 +158,7 @@ impl<'p> Judge<'p> {
         match decide(
             &mut self.seats,
             &mut self.steps,
+            &mut self.values,
             self.numbers,
             self.bound,
             self.taken,
@@ -213,12 +197,27 @@ pub fn judge_all(
     events: &[Event],
     local_bound: u64,
 ) -> Result<Verdict, Memory>
-    requires legal { Legal (plain_program p.now) types.now numbers.now Mode.Original }
     requires end { NothingFollows events.now }
     requires few { length events.now < 2 ^ 32 }
-    ensures { IfOk result (VerdictIs (plain_program p.now) numbers.now local_bound events.now) }
+    ensures { IfOk result (VerdictIs (record { program = plain_program p.now; types = types.now; inputs = inputs.now }) numbers.now local_bound events.now) }
 {
-    let mut judge = Judge::new(alloc, p, types, numbers, inputs, local_bound)?;
+    let links = Links::new(alloc, p, types, numbers)?;
+    judge_with(alloc, &links, inputs, events, local_bound)
+}
+
+// The verdict on a list of events of a program, of which it is known what its names mean.
+fn judge_with(
+    alloc: Global,
+    links: &Links,
+    inputs: &Inputs,
+    events: &[Event],
+    local_bound: u64,
+) -> Result<Verdict, Memory>
+    requires end { NothingFollows events.now }
+    requires few { length events.now < 2 ^ 32 }
+    ensures { IfOk result (VerdictIs (setup_in links.now inputs.now) links.now.numbers local_bound events.now) }
+{
+    let mut judge = Judge::new(alloc, links, inputs, local_bound)?;
     judge_each(&mut judge, events)
 }
 
@@ -226,7 +225,7 @@ pub fn judge_all(
 pub(crate) fn judge_each(judge: &mut Judge, events: &[Event]) -> Result<Verdict, Memory>
     requires first { judge.old.taken ≡ 0 }
     requires few { length events.now < 2 ^ 32 }
-    ensures { (p : PProgram) → StandsFor p [] judge.old → NothingFollows events.now → IfOk result (VerdictIs p judge.old.numbers judge.old.bound events.now) }
+    ensures { (setup : Setup) → StandsFor setup [] judge.old → NothingFollows events.now → IfOk result (VerdictIs setup judge.old.numbers judge.old.bound events.now) }
 {
     for e in events {
         match judge.next(e) {
@@ -265,6 +264,7 @@ fn is_last(e: &Event) -> bool
 fn decide(
     seats: &mut [Seat],
     steps: &mut [u64],
+    values: &mut Vec<Value>,
     numbers: &Numbers,
     bound: u64,
     taken: u32,
@@ -283,7 +283,7 @@ fn decide(
             Some(why) => Ok(Verdict::Infeasible { at, why }),
             None => {
                 recount(steps, seats, numbers, e);
-                happen(seats, numbers, e)?;
+                happen(seats, values, numbers, e)?;
                 Ok(Verdict::Feasible)
             }
         },

@@ -1,7 +1,7 @@
 // Running tasks on to where they can do something with others.
 
 ghost use Rattle.std.specs.Prelude.{◌≡◌, ◌≤◌, ◌<◌, ◌^◌, ◌∷◌, [], pred, not, true, false, length, slice_index, IfOk, OnOk};
-ghost use Rattle.task_local.specs.Steps.{can_step};
+ghost use Rattle.task_model.specs.Stands.{can_step};
 ghost use Rattle.task_machine.specs.Conditions.{needed_of, tasks_to};
 ghost use Rattle.feasible.specs.Keeping.{IsSettled};
 ghost use Rattle.feasible.specs.Needs.{HasRun, HaveRun, IsStuck, Settled};
@@ -14,9 +14,9 @@ use task_machine::seats::{Seat, is_live};
 
 // Runs a task on until it has no local step, or has made as many as are allowed: whether it has none left.
 fn run_on(local: &mut LocalTask, steps: &mut u64, bound: u64) -> Result<bool, Memory>
-    ensures run { OnOk result (HasRun local.old steps.old local.new steps.new) }
+    ensures run { OnOk result (HasRun local.old.task steps.old local.new.task steps.new) }
     ensures within { OnOk result (steps.old ≤ bound → steps.new ≤ bound) }
-    ensures rests { IfOk result (λ rests. rests ≡ not (can_step local.new)) }
+    ensures rests { IfOk result (λ rests. rests ≡ not (can_step local.new.task)) }
     ensures stuck { IfOk result (λ rests. rests ≡ false → bound ≤ steps.new) }
 {
     while *steps < bound {
@@ -29,7 +29,7 @@ fn run_on(local: &mut LocalTask, steps: &mut u64, bound: u64) -> Result<bool, Me
 }
 
 fn has_step(local: &LocalTask) -> bool
-    ensures { result ≡ can_step local.now }
+    ensures { result ≡ can_step local.now.task }
 {
     matches!(local.offer(), Offer::None)
 }

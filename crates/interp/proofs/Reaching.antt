@@ -8,13 +8,13 @@ use Rattle.ded_io.proofs.Members.{each_text-append}
 use Rattle.event_machine.specs.declared.Action.{Action}
 use Rattle.event_machine.specs.declared.Event.{Event}
 use Rattle.syn_event.specs.Numbering.{Numbering}
-use Rattle.task_machine.specs.Table.{Whole, after, event_of}
-use Rattle.interp.specs.declared.report.RunEnd.{RunEnd}
-use Rattle.interp.specs.declared.report.RunEnd.TheVariants.{Turns}
+use Rattle.task_model.specs.Machine.{Whole, after, event_of}
+use Rattle.run_model.specs.declared.report.RunEnd.{RunEnd}
+use Rattle.run_model.specs.declared.report.RunEnd.TheVariants.{Turns}
 use Rattle.interp.specs.declared.report.RunError.{RunError}
 use Rattle.interp.specs.declared.report.RunError.TheVariants.{Memory, Sink}
-use Rattle.interp.specs.Picked.{Position, at_start, halted, picked_action, went_on, turned_by, turned, after_turns, picked, ending}
-use Rattle.interp.specs.Lines.{lines_of, event_line}
+use Rattle.run_model.specs.Picked.{Position, at_start, halted, picked_action, went_on, turned_by, turned, after_turns, picked, ending}
+use Rattle.run_model.specs.Lines.{lines_of, event_line}
 use Rattle.interp.specs.Chosen.{IsPicked, IsBroken}
 use Rattle.interp.specs.CutOff.{IsCutOff}
 

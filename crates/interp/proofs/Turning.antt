@@ -9,12 +9,13 @@ use Rattle.event_machine.specs.declared.Action.TheVariants.{End}
 use Rattle.event_machine.specs.declared.Event.{Event}
 use Rattle.syn_event.specs.Numbering.{Numbering}
 use Rattle.event_machine.specs.Rows.{rows_below}
-use Rattle.task_local.specs.Steps.{task_ops}
-use Rattle.task_machine.specs.Table.{Whole, can, enabled_of, after, event_of, seen_in}
-use Rattle.interp.specs.declared.report.RunEnd.{RunEnd}
+use Rattle.task_model.specs.TaskOps.{task_ops}
+use Rattle.task_model.specs.Machine.{Whole, enabled_of, after, event_of}
+use Rattle.task_machine.specs.Table.{can, seen_in}
+use Rattle.run_model.specs.declared.report.RunEnd.{RunEnd}
 use Rattle.interp.specs.declared.report.RunError.TheVariants.{Sink}
-use Rattle.interp.specs.Lines.{lines_of}
-use Rattle.interp.specs.Picked.{picked_action, halted}
+use Rattle.run_model.specs.Lines.{lines_of}
+use Rattle.run_model.specs.Picked.{picked_action, halted}
 use Rattle.interp.specs.Chosen.{IsBroken, IsPicked}
 
 -- what a write that went well has written

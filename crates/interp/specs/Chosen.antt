@@ -4,13 +4,14 @@ use Rattle.ded_io.specs.Counts.{Rose}
 use Rattle.ded_io.specs.Written.{Began}
 use Rattle.event_machine.specs.declared.Action.{Action}
 use Rattle.syn_event.specs.Numbering.{Numbering}
-use Rattle.task_machine.specs.Table.{Whole, can, after, event_of}
+use Rattle.task_model.specs.Machine.{Whole, after, event_of}
+use Rattle.task_machine.specs.Table.{can}
 use Rattle.interp.specs.declared.report.RunError.{RunError}
 use Rattle.interp.specs.declared.report.RunError.TheVariants.{Memory, Sink}
 use Rattle.interp.specs.declared.running.Turn.{Turn}
 use Rattle.interp.specs.declared.running.Turn.TheVariants.{Halted, Make}
-use Rattle.interp.specs.Picked.{halted, picked_action}
-use Rattle.interp.specs.Lines.{lines_of}
+use Rattle.run_model.specs.Picked.{halted, picked_action}
+use Rattle.run_model.specs.Lines.{lines_of}
 
 -- an action was picked, and it applies
 pub record IsPicked {C : Type 0} (word : C → ℕ) (next : C → C) (m : Whole) (old new : C) (action : Action) : Type 0 where

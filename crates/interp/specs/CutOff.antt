@@ -3,11 +3,11 @@ use Rattle.std.specs.Prelude.{◌≡◌, ℕ, ◌+◌, ◌≤◌, List, ◌++◌
 use Rattle.ded_io.specs.Counts.{Rose}
 use Rattle.ded_io.specs.Written.{Began, appended}
 use Rattle.syn_event.specs.Numbering.{Numbering}
-use Rattle.task_machine.specs.Table.{Whole}
+use Rattle.task_model.specs.Machine.{Whole}
 use Rattle.interp.specs.declared.report.RunError.{RunError}
 use Rattle.interp.specs.declared.report.RunError.TheVariants.{Memory, Sink}
-use Rattle.interp.specs.Picked.{Position, picked}
-use Rattle.interp.specs.Lines.{lines_of}
+use Rattle.run_model.specs.Picked.{Position, picked}
+use Rattle.run_model.specs.Lines.{lines_of}
 
 -- the lines of the first k actions of the picked run
 abbrev pub lines_to : {C : Type 0} → (C → ℕ) → (C → C) → Numbering → Whole → C → ℕ → List ℕ

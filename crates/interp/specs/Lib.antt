@@ -1,4 +1,3 @@
-pub mod Picked
-pub mod Lines
 pub mod CutOff
 pub mod Chosen
+pub mod Gathered

@@ -5,22 +5,38 @@ ghost use Rattle.event_machine.specs.declared.Action.TheVariants.{End};
 ghost use Rattle.ded_io.specs.Counts.{Rose, HasCause};
 ghost use Rattle.ded_io.specs.Written.{Wrote, appended};
 ghost use Rattle.interp.specs.CutOff.{IsCutOff};
-ghost use Rattle.interp.specs.Lines.{event_line, lines_of};
 ghost use Rattle.interp.specs.Chosen.{IsChosen, IsBroken};
-ghost use Rattle.interp.specs.Picked.{picked, ending, halted};
-ghost use Rattle.task_machine.specs.Table.{can, after, event_of, enabled_of};
+ghost use Rattle.run_model.specs.Lines.{event_line, lines_of};
+ghost use Rattle.run_model.specs.Picked.{picked, ending, halted};
+ghost use Rattle.task_model.specs.Machine.{after, event_of, enabled_of};
+ghost use Rattle.task_machine.specs.Table.{can};
 
-use crate::{RunEnd, RunError, RunReport};
+use crate::RunError;
+use crate::gathering::Line;
 use ada_tree::Memory;
 use ded_io::{Chooser, Sink, SinkError};
 use event_machine::{Action, Event};
+use run_model::{RunEnd, RunReport};
 use std::alloc::Global;
 use syn_event::{Numbers, back, show};
 use task_machine::Machine;
 
-// Writes the line of an event.
-#[tactic(auto, using(ded_io::proofs::Writes::writes))]
+// Writes the line of an event, in one write.
+#[tactic(auto, using(crate::proofs::WholeLine::line_gathered))]
 fn put_line<K: Sink>(event: &Event, numbers: &Numbers, out: &mut K) -> Result<(), SinkError>
+    ensures bytes { Wrote result (K.told out.old) (K.told out.new) (event_line numbers.now event.now) }
+    ensures cause { HasCause (K.faults out.old) (K.faults out.new) result }
+{
+    let mut line = Line::new();
+    match put_parts(event, numbers, &mut line) {
+        Ok(()) => out.put(line.bytes()),
+        Err(_) => put_parts(event, numbers, out),
+    }
+}
+
+// Writes the parts of the line of an event one after the other.
+#[tactic(auto, using(ded_io::proofs::Writes::writes))]
+fn put_parts<K: Sink>(event: &Event, numbers: &Numbers, out: &mut K) -> Result<(), SinkError>
     ensures bytes { Wrote result (K.told out.old) (K.told out.new) (event_line numbers.now event.now) }
     ensures cause { HasCause (K.faults out.old) (K.faults out.new) result }
 {

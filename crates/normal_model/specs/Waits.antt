@@ -118,6 +118,6 @@ closed_test s absent (Some guards) = raised_unless s guards
 closed_test s absent None = no_stmt
 closed_test s (present stmts) guards = no_stmt
 
--- What stands in the place of a selective wait: what its alternatives put in front of it, the test whether all are closed, and the wait with variables.
-abbrev pub wait_image : Span → PStmts → PAlts → PMaybe → PStmts
-wait_image s before alts otherwise = in_front before (in_front (closed_test s otherwise (all_guards alts)) (one (SWait alts otherwise s)))
+-- What stands in the place of a selective wait, behind what its alternatives put in front of it: the test whether all are closed, and the wait with variables.
+abbrev pub wait_image : Span → PAlts → PMaybe → PStmts
+wait_image s alts otherwise = in_front (closed_test s otherwise (all_guards alts)) (one (SWait alts otherwise s))

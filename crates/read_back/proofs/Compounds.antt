@@ -8,7 +8,7 @@ use Rattle.ada_tree.specs.WellPlaced.{LastIfOthers, OthersLast, well_placed}
 use Rattle.ada_tree.specs.Every.{EveryWord, EveryExpr, EveryCall, EveryChoice, EveryScheme, EveryHead}
 use Rattle.ada_tree.specs.Same.{SameOption, SameExpr, SameCall, SameStmt, SameStmts, SameMaybe, SameAccept, SameAlt, SameAltKind, SameAlts, SameArm, SameArms, SameCaseArm, SameCaseArms, SameBody, SameHandler, SameHandlers}
 use Rattle.ada_tree.specs.Lexical.{IsDuration}
-use Rattle.ada_expr_parser.specs.declared.symbols.Symbol.TheVariants as key
+use Rattle.ada_lexer.specs.declared.symbols.Symbol.TheVariants as key
 use Rattle.ada_phrase_parser.specs.Spelling.{Source, Spelling, ◌▷◌, Key}
 use Rattle.ada_phrase_parser.specs.Phrases.{EndOf, Guard, WhenRaised, DelayOf}
 use Rattle.ada_stmt_parser.specs.Statements.{Call, IsStmt, AnyStmts, Stmts, ElsePart, OthersPart, IsAccept, IsAlt, IsAltKind, IsAlts, MoreAlts, IsArm, IsArms, MoreArms, IsCaseArm, IsCaseArms, IsBody, HandlerPart, MoreHandlers, IsHandler}

@@ -9,7 +9,7 @@ use Rattle.ada_tree.specs.PlainDecl.{PShape, OPlain, ORow, PInit, IOne, IList, I
 use Rattle.ada_tree.specs.WellPlaced.{IsGiven, AreObjects, IsLater, AreLater, BodiesLast, well_placed}
 use Rattle.ada_tree.specs.Every.{EveryWord, EveryExpr, EveryNames, EveryDrange, EverySubind, EveryShape, EveryInit, EveryTask, EveryBody, EveryDecl, EveryDecls}
 use Rattle.ada_tree.specs.Same.{SameOption, SameExpr, SameDrange, SameSubind, SameShape, SameInit, SameDecl, SameDecls, SameBody}
-use Rattle.ada_expr_parser.specs.declared.symbols.Symbol.TheVariants as key
+use Rattle.ada_lexer.specs.declared.symbols.Symbol.TheVariants as key
 use Rattle.ada_expr_parser.specs.Grammar.{AreEnclosed}
 use Rattle.ada_phrase_parser.specs.Spelling.{Source, ◌▷◌, IfThere, Key}
 use Rattle.ada_parser.specs.Declarations.{ArrayOf, IsShape, IsList, IsInit, UnitEnd, IsDecl, Decls}

@@ -10,7 +10,7 @@ use Rattle.ada_tree.specs.PlainExpr.{PExpr, EInteger, EName, EIndex, EAttribute,
 use Rattle.ada_tree.specs.WellPlaced.{level, logical, simple, term, binary_level, unary_level, GoesOn, BinaryFits, UnaryFits, well_placed}
 use Rattle.ada_tree.specs.Every.{EveryExpr}
 use Rattle.ada_tree.specs.Same.{SameExpr}
-use Rattle.ada_expr_parser.specs.declared.symbols.Symbol.TheVariants as key
+use Rattle.ada_lexer.specs.declared.symbols.Symbol.TheVariants as key
 use Rattle.ada_expr_parser.specs.declared.items.Item.{Item}
 use Rattle.ada_expr_parser.specs.Grammar.{symbol_item, word_item, prefix_symbol, infix_symbol, SpellsSecond, SpellsOperator, Spells}
 use Rattle.ada_expr_parser.specs.Trees.{span_of, levels, last_operator, from_to}

@@ -1,16 +1,17 @@
 -- An identifier in upper case is a token of its own, a name (2.3, 2.9).
-use Rattle.std.proofs.Common.{◌≡◌, ℕ, Bool, true, false, not, leb, List, [], ◌∷◌, ◌++◌, length, map, None, refl, ap, ◌∙◌, sym, arith, inl, inr}
+use Rattle.std.proofs.Common.{◌≡◌, ℕ, Bool, true, false, not, leb, List, [], ◌∷◌, ◌++◌, length, map, None, refl, ap, ◌∙◌, sym, arith, inl, inr, option_map}
 use Rattle.std.proofs.lemmas.Bool.{and_parts, and_from, or_left, or_right, cond-true, cond-false, false≢true, cases_Bool, le-leb}
 use Rattle.std.proofs.lemmas.Bool.Decides.{nat_tests}
 use Rattle.std.specs.List.{list_any}
 use Rattle.std.specs.Str.{bytes_eq}
 use Rattle.std.specs.Char.{to_ascii_uppercase}
 use Rattle.std.specs.Prelude.{◌&&◌, ◌||◌, ◌==◌}
-use Rattle.ada_lexer.specs.declared.kinds.TokenKind.{TokenKind}
+use Rattle.ada_lexer.specs.declared.symbols.Symbol.{Symbol}
 use Rattle.ada_lexer.specs.declared.kinds.TokenKind.TheVariants.{Name}
+use Rattle.ada_lexer.specs.declared.kinds.TokenKind.TheVariants as kinds
 use Rattle.ada_lexer.specs.declared.verdicts.Verdict.TheVariants.{Kind}
 use Rattle.ada_lexer.specs.Bytes.{is_letter, is_letter_or_digit, is_white, begins, every, lower}
-use Rattle.ada_lexer.specs.Words.{same_text, kind_in, two_letters, three_letters, four_letters, five_letters, six_letters, seven_letters, eight_letters, nine_letters, reserved_words, reserved_kind}
+use Rattle.ada_lexer.specs.Words.{same_text, symbol_in, two_letters, three_letters, four_letters, five_letters, six_letters, seven_letters, eight_letters, nine_letters, reserved_words, reserved_symbol}
 use Rattle.ada_lexer.specs.Pieces.{word_goes_on}
 use Rattle.ada_lexer.specs.Verdicts.{max_name, word_verdict, verdict}
 use Rattle.ada_tree.specs.Lexical.{reserved, is_upper_letter, is_digit, goes_on, IsIdentifier}
@@ -76,11 +77,11 @@ same_text-true (x ∷ a) (y ∷ b) h =
     ap (λ c. c ∷ a) first ∙ ap (λ l. y ∷ l) (same_text-true a b both.1)
 
 -- each text of a table of words, in upper case, is reserved
-abbrev are_reserved : List (List ℕ × TokenKind) → Bool
+abbrev are_reserved : List (List ℕ × Symbol) → Bool
 are_reserved [] = true
 are_reserved (entry ∷ table) = list_any (bytes_eq (map to_ascii_uppercase entry.0)) reserved && are_reserved table
 
-are_reserved-append : (a b : List (List ℕ × TokenKind)) → are_reserved a ≡ true → are_reserved b ≡ true → are_reserved (a ++ b) ≡ true
+are_reserved-append : (a b : List (List ℕ × Symbol)) → are_reserved a ≡ true → are_reserved b ≡ true → are_reserved (a ++ b) ≡ true
 are_reserved-append [] b h k = k
 are_reserved-append (entry ∷ a) b h k =
     let both = and_parts (list_any (bytes_eq (map to_ascii_uppercase entry.0)) reserved) (are_reserved a) h in
@@ -90,7 +91,7 @@ all_reserved : are_reserved reserved_words ≡ true
 unfolding reserved_words two_letters three_letters four_letters five_letters six_letters seven_letters eight_letters nine_letters
 all_reserved = refl
 
-not_in : (table : List (List ℕ × TokenKind)) (w : List ℕ) → all_parts w ≡ true → list_any (bytes_eq w) reserved ≡ false → are_reserved table ≡ true → kind_in table (map lower w) ≡ None
+not_in : (table : List (List ℕ × Symbol)) (w : List ℕ) → all_parts w ≡ true → list_any (bytes_eq w) reserved ≡ false → are_reserved table ≡ true → symbol_in table (map lower w) ≡ None
 not_in [] w parts free all = refl
 not_in (entry ∷ table) w parts free all =
     let both = and_parts (list_any (bytes_eq (map to_ascii_uppercase entry.0)) reserved) (are_reserved table) all in
@@ -111,9 +112,9 @@ pub record IsName (w : List ℕ) : Type 0 where
 upper_letter : (b : ℕ) → is_upper_letter b ≡ true → (is_white b ≡ false) × (is_letter b ≡ true) × (is_part b ≡ true)
 upper_letter b h = (grind (arith, nat_tests), grind (arith, nat_tests), grind (arith, nat_tests))
 
-name_kind : (w : List ℕ) → all_parts w ≡ true → list_any (bytes_eq w) reserved ≡ false → reserved_kind w ≡ None
-unfolding reserved_kind
-name_kind w parts free = not_in reserved_words w parts free all_reserved
+no_symbol : (w : List ℕ) → all_parts w ≡ true → list_any (bytes_eq w) reserved ≡ false → reserved_symbol w ≡ None
+unfolding reserved_symbol
+no_symbol w parts free = not_in reserved_words w parts free all_reserved
 
 not_false : (b : Bool) → not b ≡ true → b ≡ false
 not_false true h = absurd (false≢true h)
@@ -127,10 +128,10 @@ identifier_is (b ∷ bs) h =
     let first = upper_letter b both.0 in
     let rest = word_on false bs both.1 in
     let parts : all_parts (b ∷ bs) ≡ true = and_from _ _ first.2 rest.2 in
-    let kind = name_kind (b ∷ bs) parts (not_false _ h.2) in
+    let kind = no_symbol (b ∷ bs) parts (not_false _ h.2) in
     record {
       ends = word_ends b bs first.1 rest.0;
-      verdict_is = λ at. cond-false (is_white b) _ _ first.0 ∙ cond-true (is_letter b) _ _ first.1 ∙ rw kind (cond-true (leb (length (b ∷ bs)) max_name) _ _ (le-leb (length (b ∷ bs)) max_name h.1));
+      verdict_is = λ at. cond-false (is_white b) _ _ first.0 ∙ cond-true (is_letter b) _ _ first.1 ∙ rw (ap (option_map kinds.Symbol) kind) (cond-true (leb (length (b ∷ bs)) max_name) _ _ (le-leb (length (b ∷ bs)) max_name h.1));
       upper = upper_parts (b ∷ bs) parts;
       letter = first.1;
     }

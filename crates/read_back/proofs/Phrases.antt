@@ -12,8 +12,8 @@ use Rattle.ada_tree.specs.WellPlaced.{level, well_placed}
 use Rattle.ada_tree.specs.Every.{EveryWord, EveryExpr, EveryBounds, EverySubind, EveryDrange, EveryTarget, EveryCallee, EveryExprs, EveryArgs, EveryCall, EveryNames, EveryFormal, EveryChoice, EveryScheme, EveryHead}
 use Rattle.ada_tree.specs.Same.{SameOption, SameWord, SameExpr, SameBounds, SameSubind, SameDrange, SameTarget, SameCallee, SameArgs, SameCall, SameFormal, SameChoice, SameScheme, SameHead}
 use Rattle.ada_tree.specs.Lexical.{IsDuration}
-use Rattle.ada_expr_parser.specs.declared.symbols.Symbol.{Symbol}
-use Rattle.ada_expr_parser.specs.declared.symbols.Symbol.TheVariants as key
+use Rattle.ada_lexer.specs.declared.symbols.Symbol.{Symbol}
+use Rattle.ada_lexer.specs.declared.symbols.Symbol.TheVariants as key
 use Rattle.ada_expr_parser.specs.declared.items.Item.{Item}
 use Rattle.ada_expr_parser.specs.declared.levels.Level.TheVariants.{Simple}
 use Rattle.ada_expr_parser.specs.Grammar.{symbol_item, word_item, Spells, IsExpr, IsBounds, IsRangeOf, IsSubind, IsEnclosed, IsTarget, AreMore, AreEnclosed, IsSecondList, AreArgs}

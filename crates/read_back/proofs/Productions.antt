@@ -10,7 +10,7 @@ use Rattle.ada_tree.specs.WellPlaced.{well_placed}
 use Rattle.ada_tree.specs.Every.{EveryWord, EveryExpr, EveryTarget, EveryCallee, EveryCall, EveryPart, EveryText}
 use Rattle.ada_tree.specs.Same.{SamePart, SameStmt, SameStmts, SameMaybe}
 use Rattle.ada_tree.specs.Lexical.{IsDuration}
-use Rattle.ada_expr_parser.specs.declared.symbols.Symbol.TheVariants as key
+use Rattle.ada_lexer.specs.declared.symbols.Symbol.TheVariants as key
 use Rattle.ada_expr_parser.specs.declared.items.Item.{Item}
 use Rattle.ada_phrase_parser.specs.Spelling.{Source, Spelling, Nothing, ◌▷◌, Key, Predefined, Separated}
 use Rattle.ada_phrase_parser.specs.Phrases.{IsPart}

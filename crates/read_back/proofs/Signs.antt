@@ -5,13 +5,13 @@ use Rattle.std.proofs.lemmas.Bool.Decides.{nat_tests}
 use Rattle.std.specs.Prelude.{◌&&◌, ◌==◌}
 use Rattle.ada_lexer.specs.declared.verdicts.Verdict.TheVariants.{Kind}
 use Rattle.ada_lexer.specs.Bytes.{is_letter, every}
-use Rattle.ada_lexer.specs.Words.{two_letters, three_letters, four_letters, five_letters, six_letters, seven_letters, eight_letters, nine_letters, reserved_words, reserved_kind, simple_delimiters, compound_delimiters, delimiter_kind}
+use Rattle.ada_lexer.specs.Words.{two_letters, three_letters, four_letters, five_letters, six_letters, seven_letters, eight_letters, nine_letters, reserved_words, reserved_symbol, simple_delimiters, compound_delimiters, delimiter_symbol}
 use Rattle.ada_lexer.specs.Pieces.{word_goes_on}
 use Rattle.ada_lexer.specs.Lengths.{piece_len, mark_len}
 use Rattle.ada_lexer.specs.Verdicts.{word_verdict, mark_verdict, verdict}
-use Rattle.ada_expr_parser.specs.declared.symbols.Symbol.{Symbol}
-use Rattle.ada_expr_parser.specs.declared.symbols.Symbol.TheVariants as key
-use Rattle.ada_expr_parser.specs.Items.{kind_of}
+use Rattle.ada_lexer.specs.declared.symbols.Symbol.{Symbol}
+use Rattle.ada_lexer.specs.declared.symbols.Symbol.TheVariants as key
+use Rattle.ada_lexer.specs.declared.kinds.TokenKind.TheVariants as kinds
 use Rattle.read_back.proofs.Classes.{Class, Anything, Plain, WordEnd, Stop, allows, Next}
 use Rattle.read_back.proofs.Pieces.{Ends, longest_here, word_ends}
 
@@ -226,7 +226,7 @@ sign_ends key.Star = one_ends Anything 42 refl (λ d rest next. refl)
 sign_ends key.Slash = one_ends Plain 47 refl (λ d rest next. rw (no_sign d next).0 refl)
 sign_ends s = word_text_ends (sign_bytes s) refl
 
-pub sign_verdict : (s : Symbol) (at : ℕ) → verdict at (sign_bytes s) ≡ Kind (kind_of s)
-unfolding verdict word_verdict mark_verdict reserved_kind delimiter_kind reserved_words two_letters three_letters four_letters five_letters six_letters seven_letters eight_letters nine_letters simple_delimiters compound_delimiters
+pub sign_verdict : (s : Symbol) (at : ℕ) → verdict at (sign_bytes s) ≡ Kind (kinds.Symbol s)
+unfolding verdict word_verdict mark_verdict reserved_symbol delimiter_symbol reserved_words two_letters three_letters four_letters five_letters six_letters seven_letters eight_letters nine_letters simple_delimiters compound_delimiters
 sign_verdict key.Abort at = refl
 sign_verdict s at = refl

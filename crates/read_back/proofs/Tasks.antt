@@ -11,7 +11,7 @@ use Rattle.ada_tree.specs.PlainDecl.{PPriority, PEntry, PTask}
 use Rattle.ada_tree.specs.WellPlaced.{GoUp, well_placed}
 use Rattle.ada_tree.specs.Every.{EveryExpr, EveryDrange, EveryEntry, EveryPriority, EveryTask}
 use Rattle.ada_tree.specs.Same.{SameOption, SameExpr, SameDrange, SameEntry, SamePriority, SameTask}
-use Rattle.ada_expr_parser.specs.declared.symbols.Symbol.TheVariants as key
+use Rattle.ada_lexer.specs.declared.symbols.Symbol.TheVariants as key
 use Rattle.ada_expr_parser.specs.declared.items.Item.{Item}
 use Rattle.ada_phrase_parser.specs.Spelling.{Source, Spelling, ◌▷◌, IfThere, Key, Row}
 use Rattle.ada_phrase_parser.specs.Phrases.{EndOf, Drange}

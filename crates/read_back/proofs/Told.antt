@@ -16,11 +16,10 @@ use Rattle.ada_tree.specs.Lexical.{reserved, is_word, IsIdentifier}
 use Rattle.ada_tree.specs.NameList.{predefined}
 use Rattle.ada_tree.specs.declared.naming.Span.{Span}
 use Rattle.ada_tree.specs.declared.naming.Word.{Word}
-use Rattle.ada_expr_parser.specs.declared.symbols.Symbol.{Symbol}
+use Rattle.ada_lexer.specs.declared.symbols.Symbol.{Symbol}
 use Rattle.ada_expr_parser.specs.declared.items.ItemKind.{ItemKind}
 use Rattle.ada_expr_parser.specs.declared.items.ItemKind.TheVariants as item
 use Rattle.ada_expr_parser.specs.declared.items.Item.{Item}
-use Rattle.ada_expr_parser.specs.Items.{kind_of}
 use Rattle.ada_expr_parser.specs.Grammar.{symbol_item, word_item}
 use Rattle.ada_expr_parser.specs.Trees.{from_to}
 use Rattle.ada_phrase_parser.specs.Spelling.{Source, Spelling, Nothing, ◌▷◌, Key, Named, WithId, Predefined, id_of, last_place, Placed}
@@ -316,7 +315,7 @@ module _ (w : Setting) where
   unfolding span_at
   told_sign {at = at} s = record {
     items = symbol_item s (span_at at (sign_bytes s)) ∷ [];
-    chunk = chunk_token (names_of w) at (sign_bytes s) (sign_class s) (kind_of s) _ (sign_ends s) (sign_verdict s at) (record { tells = refl; start = refl; end = refl });
+    chunk = chunk_token (names_of w) at (sign_bytes s) (sign_class s) (kinds.Symbol s) _ (sign_ends s) (sign_verdict s at) (record { tells = refl; start = refl; end = refl });
     opens = λ rest next. sign_opens s rest;
     says = λ stands known. ((span_at at (sign_bytes s), refl), tt);
   }

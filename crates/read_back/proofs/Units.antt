@@ -3,7 +3,7 @@ use Rattle.std.proofs.Common.{◌≡◌, ℕ, ◌+◌, Bool, true, false, List, 
 use Rattle.ada_tree.specs.PlainProgram.{PProgram}
 use Rattle.ada_tree.specs.WellPlaced.{IsWellPlaced}
 use Rattle.ada_tree.specs.Same.{SameWord, SameDecls, SameBody}
-use Rattle.ada_expr_parser.specs.declared.symbols.Symbol.TheVariants as key
+use Rattle.ada_lexer.specs.declared.symbols.Symbol.TheVariants as key
 use Rattle.ada_phrase_parser.specs.Spelling.{Spelling, ◌▷◌}
 use Rattle.ada_parser.specs.Units.{PUnit, Context, IsUnit}
 use Rattle.ded_io.specs.Written.{◌⧺◌}

@@ -3,6 +3,7 @@ use Rattle.std.specs.Prelude.{ℕ, ◌==◌, if◌then◌else◌, [], ◌∷◌,
 use Rattle.ada_tree.specs.declared.naming.Span.{Span}
 use Rattle.ada_tree.specs.PlainStmt.{PCallee, PStmt, SNull, SAbort, SCall, SAccept, SWait, SConditional, STimed, SBlock, PStmts, no_stmt, stmt_then, PBody, body, no_handler, handler_then, no_arm}
 use Rattle.syn_event.specs.Numbering.{task_named}
+use Rattle.task_model.specs.Frames.{in_front}
 use Rattle.normal_model.specs.Walk.{Rewriter, inside_body}
 use Rattle.normal_model.specs.Making.{one}
 use Rattle.normal_model.specs.Waits.{Unit}
@@ -42,7 +43,7 @@ replay_rewriter = record {
   opened = λ u x. u;
   lead = λ u x. no_stmt;
   face = λ u x. x;
-  image = λ u before x. replay_image u x;
+  image = λ u before x. in_front before (replay_image u x);
 }
 
 -- ---- units

@@ -1,4 +1,3 @@
-pub mod Control
-pub mod Steps
+pub mod Local
+pub mod InOrder
 pub mod OfferView
-pub mod Stands

@@ -1,12 +1,14 @@
-//! One task: where it stands in its statements, its local steps, what it offers to others, and what a rendezvous,
-//! a failure or an abort makes of it (chapter 9 of ANSI/MIL-STD-1815A).
+//! One task of the interpreted language, the whole language at once: its local steps, what it offers to others, and what a rendezvous, a
+//! failure, another part of a call or a wait, and an abort make of it (chapters 5, 9 and 11 of ANSI/MIL-STD-1815A).
 #![tactic(auto)]
 
-#[tactic(auto, using(ada_tree::proofs::Rows::rows))]
-mod frames;
-#[tactic(auto, using(ada_tree::proofs::Rows::rows))]
+mod meeting;
 mod offers;
 #[tactic(auto, using(ada_tree::proofs::Rows::rows))]
+mod parts;
+#[tactic(auto, using(ada_tree::proofs::Rows::rows))]
+mod standing;
+mod starting;
 mod tasks;
 
 pub use event_machine::{CallForm, Choice};

@@ -1,297 +1,205 @@
-// One task.
+// One task, as the machine has it.
 
-ghost use Rattle.std.specs.Prelude.{◌≡◌, IfOk, OnOk, OnErr, if◌then◌else◌, map, option_map, reverse, slice_get};
-ghost use Rattle.ada_tree.specs.PlainDecl.{decls_of, plain_decl};
-ghost use Rattle.ada_tree.specs.PlainProgram.{plain_program};
-ghost use Rattle.ada_tree.specs.PlainStmt.{plain_accept, plain_call, plain_stmt};
-ghost use Rattle.task_local.specs.Control.{seen};
+ghost use Rattle.std.specs.Prelude.{◌≡◌, [], slice_get, true, IfOk, OnOk, OnErr};
+ghost use Rattle.event_machine.specs.Offers.{Finishes};
+ghost use Rattle.task_model.specs.Calls.{values_handed};
+ghost use Rattle.task_model.specs.Frames.{callers_in};
+ghost use Rattle.task_model.specs.Rendezvous.{accepted, finished, passed, pending_of, returned, took_delay, took_else};
+ghost use Rattle.task_model.specs.Stands.{can_step, offer_of, stepped};
+ghost use Rattle.task_model.specs.Starting.{started_in, unit_of};
+ghost use Rattle.task_model.specs.Tasks.{Task, raised_there};
+ghost use Rattle.task_rendezvous.specs.Handed.{handed_back};
 ghost use Rattle.task_local.specs.OfferView.{offer_as};
-ghost use Rattle.task_local.specs.Stands.{stand_as};
-ghost use Rattle.task_local.specs.Steps.{offer_in, offer_of, can_step, gone_on, opened_for, pending_of, body_closed, raised_in, callers_of, callers_in, started, stmts_of_task, body_named, body_of_decl, accepted_body, body_at, body_in, entry_accepted, entry_called};
 
-use crate::frames::{Frame, Place};
-use crate::{CallForm, Choice, Offer};
-use ada_tree::{Accept, Call, Decl, DeclKind, Memory, NameId, Program, Stmt, StmtKind, Types};
-use ada_value::Raised;
+use crate::Offer;
+use crate::parts::TaskParts;
+use crate::standing::actuals_here;
+use ada_tree::Memory;
+use ada_value::{Raised, Value};
 use std::alloc::Global;
 use std::marker::Model;
-use syn_event::Numbers;
+use task_calls::Member;
+use task_links::Links;
 
-/// One task of a program. A contract sees its frames, the innermost first, as the rows of the plain tree, with the program's numbers and its own number.
+/// One task of a program. A contract sees the task of the definitions, and whether there is room for one more frame.
 #[derive(Drop)]
 pub struct LocalTask<'p> {
-    numbers: &'p Numbers,
-    number: u32,
-    top: Frame<'p>,
-    outer: Vec<Frame<'p>>,
-    stand: Stand,
+    parts: TaskParts<'p>,
 }
 
 impl<'p> Model for LocalTask<'p> {
-    ghost use Rattle.std.specs.Prelude.{◌≡◌, reverse};
     ghost use Rattle.std.specs.Coded.{codes};
     ghost use Rattle.ada_tree.proofs.Codes.{tree_codes};
-    ghost use Rattle.task_local.specs.Control.{Task};
+    ghost use Rattle.task_links.specs.SettingCode.{coded_setting};
+    ghost use Rattle.task_local.specs.Local.{Local};
 
-    ghost Value = { Task };
+    ghost Value = { Local };
 
-    ghost coded = { Prim.hlevel (codes, tree_codes) };
+    ghost coded = { Prim.hlevel (codes, tree_codes, coded_setting (Prim.hlevel (codes, tree_codes)) (Prim.hlevel (codes, tree_codes))) };
 
-    ghost use Rattle.task_local.specs.Steps.{offer_in};
-    ghost use Rattle.task_local.specs.Stands.{stand_as};
+    ghost use Rattle.task_local.specs.InOrder.{local_of, IsInOrder};
 
-    ghost view = { λ t. record { numbers = t.numbers.now; number = t.number; top = t.top; outer = reverse t.outer.items } };
+    ghost view = { λ a. local_of a.parts };
 
-    ghost invariant = { λ t. stand_as t.stand ≡ offer_in t.numbers.now t.number t.top.rest t.top.place };
-}
-
-// What the task offers, kept from step to step, so that no name is looked up twice.
-#[derive(Clone, Copy)]
-pub(crate) enum Stand {
-    Step,
-    Call { e: u32 },
-    Accept { choices: [Choice; 1] },
-    Finish,
-    End,
+    ghost invariant = { λ a. IsInOrder a.parts };
 }
 
 impl<'p> LocalTask<'p> {
-    /// The task of this number, from 0 the main program, before its first statement.
+    /// The task of this number, from 0 the main program, at the first statement of its body, with its objects, with these integers to read,
+    /// and with nothing written (9.1, 9.3). It fails by want of memory alone; a wait of 2 ^ 32 - 1 or more alternatives in its body is
+    /// answered so too.
     pub fn start(
         alloc: Global,
-        p: &'p Program,
-        _types: &'p Types,
-        numbers: &'p Numbers,
+        links: &'p Links<'p>,
         task: u32,
-        _input: &[i32],
+        input: &[i32],
     ) -> Result<LocalTask<'p>, Memory>
-        ensures { IfOk result (λ t. t ≡ started (plain_program p.now) numbers.now task) }
+        ensures { IfOk result (λ t. t.task ≡ started_in links.now task (unit_of links.now.program links.now.numbers task) input.now) }
     {
-        let top = Frame {
-            rest: statements_of(p, numbers, task),
-            place: Place::Outermost,
-        };
-        let stand = stand_at(numbers, task, &top);
-        Ok(LocalTask {
-            numbers,
-            number: task,
-            top,
-            outer: Vec::new(alloc),
-            stand,
-        })
+        let parts = TaskParts::start(alloc, links, task, input)?;
+        Ok(LocalTask { parts })
     }
 
-    /// Makes one local step, if the task has one; if not, nothing changes.
+    /// Makes one local step, if the task has one, and answers whether it has. After an error, which comes by want of memory, the task is as
+    /// before.
     pub fn step(&mut self) -> Result<bool, Memory>
-        ensures made { IfOk result (λ made. made ≡ can_step self.old) }
-        ensures after { IfOk result (λ made. self.new ≡ (if made then gone_on self.old else self.old)) }
-        ensures unchanged { OnErr result (self.new ≡ self.old) }
+        ensures made { IfOk result (λ made. made ≡ can_step self.old.task) }
+        ensures ok { OnOk result (self.new.task ≡ stepped self.old.task) }
+        ensures err { OnErr result (self.new.task ≡ self.old.task) }
     {
-        if let Stand::Step = self.stand {
-            self.resume();
-            Ok(true)
-        } else {
-            Ok(false)
-        }
+        self.parts.step()
     }
 
-    /// What the task offers; [`Offer::None`] exactly where it has a local step. It takes no memory.
+    /// What the task offers; [`Offer::None`] exactly where it has a local step. It is a look: nothing is evaluated, and no memory is taken.
     pub fn offer<'a>(&'a self) -> Offer<'a>
-        ensures { offer_as result ≡ offer_of self.now }
+        ensures { offer_as result ≡ offer_of self.now.task }
     {
-        match &self.stand {
-            Stand::Step => Offer::None,
-            Stand::Call { e } => Offer::Call {
-                form: CallForm::Plain,
-                e: *e,
-                i: 0,
-            },
-            Stand::Accept { choices } => Offer::Wait(choices),
-            Stand::Finish => Offer::Finish,
-            Stand::End => Offer::End,
-        }
+        self.parts.offer()
     }
 
-    /// The caller of the innermost opened accept body, if one is open.
+    /// The caller of the innermost opened accept body, if one is open (9.5).
     pub fn caller(&self) -> Option<u32>
-        ensures { result ≡ slice_get (callers_of self.now) 0 }
+        ensures { result ≡ slice_get (callers_in self.now.task.control) 0 }
     {
-        match self.top.place {
-            Place::Opened { caller, .. } => Some(caller),
-            Place::Outermost => caller_among(&self.outer),
-        }
+        self.parts.state.frames.caller()
     }
 
-    /// Opens the body of the accept at which the task stands, for this caller.
-    pub fn begin_accept(&mut self, caller: u32) -> Result<(), Memory>
-        ensures ok { OnOk result (self.new ≡ opened_for caller self.old) }
-        ensures unchanged { OnErr result (self.new ≡ self.old) }
+    /// Makes room for one more frame, so that the next [`resume`](LocalTask::resume), [`take_else`](LocalTask::take_else) or
+    /// [`take_delay`](LocalTask::take_delay) takes no memory.
+    pub fn reserve(&mut self) -> Result<(), Memory>
+        ensures ok { OnOk result (self.new ≡ record { task = self.old.task; reserved = true }) }
+        ensures err { OnErr result (self.new ≡ self.old) }
     {
-        let below = Frame {
-            rest: self.top.rest,
-            place: self.top.place,
-        };
-        self.outer.push(below)?;
-        self.top = Frame {
-            rest: body_of(self.top.rest),
-            place: Place::Opened {
-                caller,
-                pending: None,
-            },
-        };
-        self.stand = stand_at(self.numbers, self.number, &self.top);
-        Ok(())
+        self.parts.reserve()
     }
 
-    /// Ends the innermost accept body, and answers the exception that was pending there, which is raised behind the accept.
-    pub fn end_accept(&mut self) -> Option<Raised>
-        ensures pending { result ≡ pending_of self.old }
-        ensures after { self.new ≡ body_closed self.old }
+    /// The values that the task hands over at its call, in place of what is in the list (6.2, 6.4.1). After an error, which comes by want
+    /// of memory, the list is empty.
+    pub fn actuals(&self, formals: &mut Vec<Value>) -> Result<(), Memory>
+        ensures ok { OnOk result (formals.new.items ≡ values_handed self.now.task) }
+        ensures err { OnErr result (formals.new.items ≡ []) }
     {
-        let pending = self.top.pending();
-        if let Some(below) = self.outer.pop() {
-            self.top = below.behind(pending);
-        }
-        self.stand = stand_at(self.numbers, self.number, &self.top);
-        pending
+        actuals_here(&self.parts.state, formals)
     }
 
-    /// Goes on behind the call at which the task stands.
-    pub fn resume(&mut self)
-        ensures { self.new ≡ gone_on self.old }
+    /// Opens the body of the accept that is taken where the task stands, for a caller of the member `i` of the entry `e` who hands over these
+    /// values: of the accept statement, or of the first open alternative of the selective wait that accepts the member (9.5, 9.7.1). It fails
+    /// by want of memory, and then the task is as before; an accept whose formals are not those of its entry, as in no legal program, is
+    /// answered so too.
+    pub fn begin_accept(
+        &mut self,
+        e: u32,
+        i: i32,
+        caller: u32,
+        formals: &[Value],
+    ) -> Result<(), Memory>
+        ensures ok { OnOk result ((calling : Task) → formals.now ≡ values_handed calling → self.new.task ≡ accepted e i caller calling self.old.task) }
+        ensures err { OnErr result (self.new.task ≡ self.old.task) }
     {
-        self.top.go_on();
-        self.stand = stand_at(self.numbers, self.number, &self.top);
+        let member = Member { entry: e, index: i };
+        self.parts.begin_accept(member, caller, formals)
     }
 
-    /// Raises an exception at the call at which the task stands.
+    /// The exception that is pending at the end of the accept body at which the task stands, and, where none is, the values that go back to
+    /// its caller, in place of what is in the list (6.2, 11.5). Where one is pending the list is empty, and so it is after an error, which
+    /// comes by want of memory.
+    pub fn finals(&self, finals: &mut Vec<Value>) -> Result<Option<Raised>, Memory>
+        requires { offer_of self.now.task ≡ Finishes }
+        ensures pending { IfOk result (λ pending. pending ≡ pending_of self.now.task) }
+        ensures ok { OnOk result (finals.new.items ≡ handed_back self.now.task) }
+        ensures err { OnErr result (finals.new.items ≡ []) }
+    {
+        self.parts.finals(finals)
+    }
+
+    /// Ends the accept body at whose end the task stands: it goes on behind the accept, where a pending exception is raised (9.5, 11.5). It
+    /// takes no memory.
+    pub fn close_accept(&mut self)
+        requires { offer_of self.old.task ≡ Finishes }
+        ensures { self.new.task ≡ finished self.old.task }
+    {
+        self.parts.close_accept();
+    }
+
+    /// [`finals`](LocalTask::finals), and then [`close_accept`](LocalTask::close_accept). After an error, which comes by want of memory, the
+    /// task is as before, and the list is empty.
+    pub fn end_accept(&mut self, finals: &mut Vec<Value>) -> Result<Option<Raised>, Memory>
+        requires { offer_of self.old.task ≡ Finishes }
+        ensures pending { IfOk result (λ pending. pending ≡ pending_of self.old.task) }
+        ensures values { OnOk result (finals.new.items ≡ handed_back self.old.task) }
+        ensures ok { OnOk result (self.new.task ≡ finished self.old.task) }
+        ensures err { OnErr result (self.new ≡ self.old) }
+        ensures empty { OnErr result (finals.new.items ≡ []) }
+    {
+        let pending = self.finals(finals)?;
+        self.close_accept();
+        Ok(pending)
+    }
+
+    /// Goes on behind the call at which the task stands, with these values that come back to the variables of its actuals; the first that
+    /// does not fit raises CONSTRAINT_ERROR at the call (6.4.1, 9.5). It takes no memory.
+    pub fn resume(&mut self, finals: &[Value])
+        requires { self.old.reserved ≡ true }
+        ensures { self.new.task ≡ returned finals.now self.old.task }
+    {
+        self.parts.resume(finals);
+    }
+
+    /// Goes on in the else part of the conditional call or selective wait at which the task stands (9.7.1, 9.7.2). It takes no memory.
+    pub fn take_else(&mut self)
+        requires { self.old.reserved ≡ true }
+        ensures { self.new.task ≡ took_else self.old.task }
+    {
+        self.parts.take_else();
+    }
+
+    /// Goes on behind the `k`-th delay of the selective wait at which the task stands, counted from 1, or behind the delay of its timed call
+    /// (9.7.1, 9.7.3). It takes no memory.
+    pub fn take_delay(&mut self, k: u32)
+        requires { self.old.reserved ≡ true }
+        ensures { self.new.task ≡ took_delay k self.old.task }
+    {
+        self.parts.take_delay(k);
+    }
+
+    /// Raises an exception where the task stands, as at its call (9.5, 11.5). It takes no memory.
     pub fn raise_at_call(&mut self, raised: Raised)
-        ensures { self.new ≡ raised_in raised self.old }
+        ensures { self.new.task ≡ raised_there raised self.old.task }
     {
-        self.top.leave(raised);
-        self.stand = stand_at(self.numbers, self.number, &self.top);
+        self.parts.raise(raised);
     }
-}
 
-// What the task of this number offers in this frame.
-fn stand_at(numbers: &Numbers, number: u32, top: &Frame) -> Stand
-    ensures { stand_as result ≡ offer_in numbers.now number top.now.rest top.now.place }
-{
-    match top.rest {
-        [] => match top.place {
-            Place::Outermost => Stand::End,
-            Place::Opened { .. } => Stand::Finish,
-        },
-        [first, ..] => match &first.kind {
-            StmtKind::Call(call) => Stand::Call {
-                e: entry_of_call(numbers, call),
-            },
-            StmtKind::Accept(accept) => Stand::Accept {
-                choices: [Choice::Accept {
-                    e: entry_of_task(numbers, number, accept.entry.name),
-                    i: 0,
-                }],
-            },
-            _ => Stand::Step,
-        },
+    /// Passes the next name of the abort statement at which the task stands; elsewhere nothing changes (9.10). It takes no memory.
+    pub fn pass_name(&mut self)
+        ensures { self.new.task ≡ passed self.old.task }
+    {
+        self.parts.pass_name();
     }
-}
 
-// The entry that a call names; 0 where there is none, as in no accepted program.
-fn entry_of_call(numbers: &Numbers, call: &Call) -> u32
-    ensures { result ≡ entry_called numbers.now (plain_call call.now) }
-{
-    let owner = numbers.task_named(call.task.name.name).unwrap_or(0);
-    entry_of_task(numbers, owner, call.entry.name)
-}
-
-// The entry of that name that the task has; 0 where there is none.
-fn entry_of_task(numbers: &Numbers, owner: u32, name: NameId) -> u32
-    ensures { result ≡ entry_accepted numbers.now owner name }
-{
-    numbers.entry_named(owner, name).unwrap_or(0)
-}
-
-// The statements of the body of the accept that comes first.
-fn body_of<'p>(stmts: &'p [Stmt]) -> &'p [Stmt]
-    ensures { seen result.now ≡ body_in (seen stmts.now) }
-{
-    match stmts {
-        [first, ..] => body_of_stmt(first),
-        [] => &[],
-    }
-}
-
-// The statements of the body of an accept.
-fn body_of_stmt<'p>(stmt: &'p Stmt) -> &'p [Stmt]
-    ensures { seen result.now ≡ body_at (plain_stmt stmt.now) }
-{
-    match &stmt.kind {
-        StmtKind::Accept(accept) => body_of_accept(accept),
-        _ => &[],
-    }
-}
-
-// The statements of the body of an accept.
-fn body_of_accept<'p>(accept: &'p Accept) -> &'p [Stmt]
-    ensures { seen result.now ≡ accepted_body (plain_accept accept.now) }
-{
-    match &accept.stmts {
-        Some(body) => body,
-        None => &[],
-    }
-}
-
-// The statements that the task of this number runs.
-fn statements_of<'p>(p: &'p Program, numbers: &Numbers, task: u32) -> &'p [Stmt]
-    ensures { seen result.now ≡ stmts_of_task (plain_program p.now) numbers.now task }
-{
-    if task == 0 {
-        return &p.body.stmts;
-    }
-    match numbers.tasks.get(task as usize) {
-        Some(info) => body_of_unit(&p.decls, info.unit),
-        None => &[],
-    }
-}
-
-// The statements of the first body of that name.
-fn body_of_unit<'p>(decls: &'p [Decl], unit: NameId) -> &'p [Stmt]
-    ensures { seen result.now ≡ body_named (decls_of (map plain_decl decls.now)) unit }
-{
-    for decl in decls {
-        if let Some(stmts) = body_in(decl, unit) {
-            return stmts;
-        }
-    }
-    &[]
-}
-
-// The statements of the body that the declaration is, if it is one of that name.
-fn body_in<'p>(decl: &'p Decl, unit: NameId) -> Option<&'p [Stmt]>
-    ensures { option_map (λ stmts. seen stmts.now) result ≡ body_of_decl (plain_decl decl.now) unit }
-{
-    match &decl.kind {
-        DeclKind::TaskBody { name, body, .. } => {
-            if name.name.0 == unit.0 {
-                Some(&body.stmts)
-            } else {
-                None
-            }
-        }
-        _ => None,
-    }
-}
-
-// The caller of the innermost opened accept body among these frames, the outermost first.
-fn caller_among(frames: &[Frame]) -> Option<u32>
-    ensures { result ≡ slice_get (callers_in (reverse frames.now)) 0 }
-{
-    match frames {
-        [outer @ .., last] => match last.place {
-            Place::Opened { caller, .. } => Some(caller),
-            Place::Outermost => caller_among(outer),
-        },
-        [] => None,
+    /// The bytes that the task has written (14.3).
+    pub fn output(&self) -> &[u8]
+        ensures { result.now ≡ self.now.task.output }
+    {
+        &self.parts.state.output
     }
 }

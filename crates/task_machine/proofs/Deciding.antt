@@ -4,7 +4,6 @@ use Rattle.std.specs.List.{list_all}
 use Rattle.std.proofs.lemmas.Bool.{and_parts}
 use Rattle.std.proofs.lemmas.List.Elements.{All-nil, All-cons}
 use Rattle.std.proofs.lemmas.List.Folds.{list_all-append}
-use Rattle.ada_tree.specs.PlainProgram.{PProgram}
 use Rattle.event_machine.specs.declared.Standing.TheVariants.{Live}
 use Rattle.event_machine.specs.declared.Event.{Event}
 use Rattle.event_machine.specs.Seats.{Seat, is_live}
@@ -16,15 +15,19 @@ use Rattle.event_machine.proofs.Extending.{before_end-same}
 use Rattle.event_machine.proofs.Following.{leads_once}
 use Rattle.event_machine.proofs.Stepping.{settles_most}
 use Rattle.syn_event.specs.Numbering.{Numbering}
-use Rattle.task_local.specs.Control.{Task}
-use Rattle.task_local.specs.Steps.{task_ops, can_step}
+use Rattle.task_model.specs.Tasks.{Task}
+use Rattle.task_model.specs.Stands.{can_step}
+use Rattle.task_model.specs.TaskOps.{task_ops}
+use Rattle.task_model.specs.Machine.{Setup}
+use Rattle.task_model.specs.Laws.{program_in, first_world}
+use Rattle.task_model.proofs.Following.{feasible_exactly, rest_exactly}
 use Rattle.task_machine.specs.declared.verdict.Verdict.{Verdict}
 use Rattle.task_machine.specs.declared.verdict.Verdict.TheVariants.{Feasible, Infeasible, Unsettled}
 use Rattle.task_machine.specs.Views.{IsFeasible, IsOpen, IsRest, Stands, View, view_of}
 use Rattle.task_machine.specs.Conditions.{conditions_of, needed_of, all_hold}
 use Rattle.task_machine.specs.Judging.{AreViews, NoneOpen, AllFeasible, VerdictIs}
 use Rattle.task_machine.specs.TaskLaws.{VerdictsExist}
-use Rattle.task_machine.proofs.TaskLaws.{the_feasible, the_rest, the_standing, the_program, first_world}
+use Rattle.task_machine.proofs.TaskLaws.{the_standing}
 use Rattle.task_machine.proofs.Tabled.{failing_some}
 use Rattle.task_machine.proofs.Judged.{no_end_before, stands_unique, rest_stands, IsSeat, views_kept, judged}
 use Rattle.task_machine.proofs.Verdicts.{verdict_empty, verdict_on, verdict_refused, verdict_held, refused_stays, held_stays}
@@ -50,39 +53,39 @@ has_or_settles (suc n) task = ⊎_elim
     next h true e = inl (h, e)
     next h _ e = inr (n, omega arith, (h, e))
 
-module _ (p : PProgram) (numbers : Numbering) (bound : ℕ) where
+module _ (setup : Setup) (numbers : Numbering) (bound : ℕ) where
   -- where each event is feasible in turn, all are
-  all_feasible : (events : List Event) → AllFeasible p numbers bound events → IsFeasible p numbers events
+  all_feasible : (events : List Event) → AllFeasible setup numbers bound events → IsFeasible setup numbers events
   all_feasible [] well = ([], tt, refl)
   all_feasible (x ∷ xs) well =
       let (front, last, is) = end_of_list x xs in
-      subst (λ (es : List Event). IsFeasible p numbers es) (sym is) (well front [] last is).1
+      subst (λ (es : List Event). IsFeasible setup numbers es) (sym is) (well front [] last is).1
 
   -- ---- one more event
 
-  module _ (events : List Event) (more : HasNoEnd events) (well : AllFeasible p numbers bound events) where
-    led : (w : World Task) × Leads (the_program p numbers) (first_world p numbers) (before_end events) w
-    led = (the_feasible p numbers (before_end events)).0 (subst (λ (es : List Event). IsFeasible p numbers es) (sym (before_end-same events more)) (all_feasible events well))
+  module _ (events : List Event) (more : HasNoEnd events) (well : AllFeasible setup numbers bound events) where
+    led : (w : World Task) × Leads (program_in setup numbers) (first_world setup numbers) (before_end events) w
+    led = (feasible_exactly setup numbers (before_end events)).0 (subst (λ (es : List Event). IsFeasible setup numbers es) (sym (before_end-same events more)) (all_feasible events well))
 
     abbrev base : ℕ → Seat Task
     base t = led.0.tasks t
 
-    stands_at : (t : ℕ) → Stands p numbers events t (base t).standing
-    stands_at t = the_standing p numbers (before_end events) led.0 led.1 t
+    stands_at : (t : ℕ) → Stands setup numbers events t (base t).standing
+    stands_at t = the_standing setup numbers (before_end events) led.0 led.1 t
 
-    rest_at : (t n : ℕ) → (base t).standing ≡ Live → HasSteps task_ops n (base t).local → IsRest p numbers events t n (ran task_ops n (base t).local)
-    rest_at t n free steps = (the_rest p numbers (before_end events) (no_end_before events) t n (ran task_ops n (base t).local)).1 (led.0, led.1, free, steps, refl)
+    rest_at : (t n : ℕ) → (base t).standing ≡ Live → HasSteps task_ops n (base t).local → IsRest setup numbers events t n (ran task_ops n (base t).local)
+    rest_at t n free steps = (rest_exactly setup numbers (before_end events) (no_end_before events) t n (ran task_ops n (base t).local)).1 (led.0, led.1, free, steps, refl)
 
-    open_steps : (t : ℕ) → IsOpen p numbers events t bound → HasSteps task_ops (suc bound) (base t).local
+    open_steps : (t : ℕ) → IsOpen setup numbers events t bound → HasSteps task_ops (suc bound) (base t).local
     open_steps t (task, rest, step) =
-        let (v, leads, free, steps, is) = (the_rest p numbers (before_end events) (no_end_before events) t bound task).0 rest in
+        let (v, leads, free, steps, is) = (rest_exactly setup numbers (before_end events) (no_end_before events) t bound task).0 rest in
         subst (λ (u : World Task). HasSteps task_ops (suc bound) (u.tasks t).local)
-        (leads_once (the_program p numbers) (before_end events) (first_world p numbers) v led.0 leads led.1)
+        (leads_once (program_in setup numbers) (before_end events) (first_world setup numbers) v led.0 leads led.1)
         (steps, ap can_step (sym is) ∙ step)
 
     -- What is found of a task: it is open, or it is not, and a seat of it is known.
     abbrev Found : ℕ → Type 0
-    Found t = IsOpen p numbers events t bound ⊎ ((IsOpen p numbers events t bound → ⊥) × (seat : Seat Task) × IsSeat p numbers events t seat)
+    Found t = IsOpen setup numbers events t bound ⊎ ((IsOpen setup numbers events t bound → ⊥) × (seat : Seat Task) × IsSeat setup numbers events t seat)
 
     found_free : (t : ℕ) → (base t).standing ≡ Live → Found t
     found_free t free = ⊎_elim
@@ -91,7 +94,7 @@ module _ (p : PProgram) (numbers : Numbering) (bound : ℕ) where
           (λ opened. let less : suc bound ≤ k.0 = settles_most task_ops (suc bound) k.0 (base t).local (open_steps t opened) k.2 in absurd (omega (arith, less, k.1))),
           record { local = ran task_ops k.0 (base t).local; standing = Live },
           record {
-            standing = subst (λ z. Stands p numbers events t z) free (stands_at t);
+            standing = subst (λ z. Stands setup numbers events t z) free (stands_at t);
             rests = λ h. (k.0, rest_at t k.0 free k.2.0, k.2.1);
           },
         ))
@@ -99,7 +102,7 @@ module _ (p : PProgram) (numbers : Numbering) (bound : ℕ) where
 
     found_closed : (t : ℕ) → ((base t).standing ≡ Live → ⊥) → Found t
     found_closed t held = inr (
-      (λ opened. held (stands_unique p numbers events t (base t).standing Live (stands_at t) (rest_stands p numbers events t bound opened.0 opened.1))),
+      (λ opened. held (stands_unique setup numbers events t (base t).standing Live (stands_at t) (rest_stands setup numbers events t bound opened.0 opened.1))),
       base t,
       record { standing = stands_at t; rests = λ free. absurd (held free) },
     )
@@ -116,27 +119,27 @@ module _ (p : PProgram) (numbers : Numbering) (bound : ℕ) where
     seat_in t (inl opened) = base t
     seat_in t (inr k) = k.1
 
-    seat_stands : (t : ℕ) (f : Found t) → Stands p numbers events t (seat_in t f).standing
+    seat_stands : (t : ℕ) (f : Found t) → Stands setup numbers events t (seat_in t f).standing
     unfolding seat_in
     seat_stands t (inl opened) = stands_at t
     seat_stands t (inr k) = k.2.standing
 
-    seat_is : (t : ℕ) (f : Found t) → (IsOpen p numbers events t bound → ⊥) → IsSeat p numbers events t (seat_in t f)
+    seat_is : (t : ℕ) (f : Found t) → (IsOpen setup numbers events t bound → ⊥) → IsSeat setup numbers events t (seat_in t f)
     unfolding seat_in
     seat_is t (inl opened) shut = absurd (shut opened)
     seat_is t (inr k) shut = k.2
 
     -- the first open task of a list, if one is open
     first_open : (tasks : List ℕ) →
-        ((earlier later : List ℕ) × (task : ℕ) × (tasks ≡ (earlier ++ task ∷ later)) × NoneOpen p numbers bound events earlier × IsOpen p numbers events task bound)
-        ⊎ NoneOpen p numbers bound events tasks
-    first_open [] = inr (All-nil (λ t. IsOpen p numbers events t bound → ⊥))
+        ((earlier later : List ℕ) × (task : ℕ) × (tasks ≡ (earlier ++ task ∷ later)) × NoneOpen setup numbers bound events earlier × IsOpen setup numbers events task bound)
+        ⊎ NoneOpen setup numbers bound events tasks
+    first_open [] = inr (All-nil (λ t. IsOpen setup numbers events t bound → ⊥))
     first_open (t ∷ tasks) = ⊎_elim
-        (λ (opened : IsOpen p numbers events t bound). inl ([], tasks, t, refl, All-nil (λ u. IsOpen p numbers events u bound → ⊥), opened))
-        (λ (k : (IsOpen p numbers events t bound → ⊥) × (seat : Seat Task) × IsSeat p numbers events t seat). ⊎_elim
-        (λ (r : (earlier later : List ℕ) × (task : ℕ) × (tasks ≡ (earlier ++ task ∷ later)) × NoneOpen p numbers bound events earlier × IsOpen p numbers events task bound).
-        inl (t ∷ r.0, r.1, r.2, ap (λ ts. t ∷ ts) r.3, All-cons (λ u. IsOpen p numbers events u bound → ⊥) t r.0 k.0 r.4, r.5))
-        (λ (none : NoneOpen p numbers bound events tasks). inr (All-cons (λ u. IsOpen p numbers events u bound → ⊥) t tasks k.0 none))
+        (λ (opened : IsOpen setup numbers events t bound). inl ([], tasks, t, refl, All-nil (λ u. IsOpen setup numbers events u bound → ⊥), opened))
+        (λ (k : (IsOpen setup numbers events t bound → ⊥) × (seat : Seat Task) × IsSeat setup numbers events t seat). ⊎_elim
+        (λ (r : (earlier later : List ℕ) × (task : ℕ) × (tasks ≡ (earlier ++ task ∷ later)) × NoneOpen setup numbers bound events earlier × IsOpen setup numbers events task bound).
+        inl (t ∷ r.0, r.1, r.2, ap (λ ts. t ∷ ts) r.3, All-cons (λ u. IsOpen setup numbers events u bound → ⊥) t r.0 k.0 r.4, r.5))
+        (λ (none : NoneOpen setup numbers bound events tasks). inr (All-cons (λ u. IsOpen setup numbers events u bound → ⊥) t tasks k.0 none))
         (first_open tasks))
         (found t)
 
@@ -144,20 +147,20 @@ module _ (p : PProgram) (numbers : Numbering) (bound : ℕ) where
       abbrev views : ℕ → View
       views t = view_of (seat_in t (found t))
 
-      seen : NoneOpen p numbers bound events (needed_of numbers e) → AreViews p numbers events e views
-      seen none = views_kept p numbers events e (λ t. seat_in t (found t)) (λ t. seat_stands t (found t)) (λ k d less. seat_is _ (found _) (none k d less))
+      seen : NoneOpen setup numbers bound events (needed_of numbers e) → AreViews setup numbers events e views
+      seen none = views_kept setup numbers events e (λ t. seat_in t (found t)) (λ t. seat_stands t (found t)) (λ k d less. seat_is _ (found _) (none k d less))
 
-      settled : NoneOpen p numbers bound events (needed_of numbers e) → (b : Bool) → all_hold numbers views e ≡ b → (verdict : Verdict) × VerdictIs p numbers bound (events ++ e ∷ []) verdict
-      settled none true holds = (Feasible, verdict_on p numbers bound events e well none ((judged p numbers events e views more (seen none)).1 holds))
+      settled : NoneOpen setup numbers bound events (needed_of numbers e) → (b : Bool) → all_hold numbers views e ≡ b → (verdict : Verdict) × VerdictIs setup numbers bound (events ++ e ∷ []) verdict
+      settled none true holds = (Feasible, verdict_on setup numbers bound events e well none ((judged setup numbers events e views more (seen none)).1 holds))
       settled none false fails =
           let (why, is) = failing_some views (conditions_of numbers e) fails in
-          (Infeasible (length events + 1) why, verdict_refused p numbers bound events e views why more well none (seen none) is)
+          (Infeasible (length events + 1) why, verdict_refused setup numbers bound events e views why more well none (seen none) is)
 
-      one_more : (verdict : Verdict) × VerdictIs p numbers bound (events ++ e ∷ []) verdict
+      one_more : (verdict : Verdict) × VerdictIs setup numbers bound (events ++ e ∷ []) verdict
       one_more = ⊎_elim
-          (λ (r : (earlier later : List ℕ) × (task : ℕ) × (needed_of numbers e ≡ (earlier ++ task ∷ later)) × NoneOpen p numbers bound events earlier × IsOpen p numbers events task bound).
-          (Unsettled (length events + 1) r.2, verdict_held p numbers bound events e r.2 r.0 r.1 well r.3 r.4 r.5))
-          (λ (none : NoneOpen p numbers bound events (needed_of numbers e)). settled none (all_hold numbers views e) refl)
+          (λ (r : (earlier later : List ℕ) × (task : ℕ) × (needed_of numbers e ≡ (earlier ++ task ∷ later)) × NoneOpen setup numbers bound events earlier × IsOpen setup numbers events task bound).
+          (Unsettled (length events + 1) r.2, verdict_held setup numbers bound events e r.2 r.0 r.1 well r.3 r.4 r.5))
+          (λ (none : NoneOpen setup numbers bound events (needed_of numbers e)). settled none (all_hold numbers views e) refl)
           (first_open (needed_of numbers e))
 
   -- ---- all events
@@ -165,23 +168,23 @@ module _ (p : PProgram) (numbers : Numbering) (bound : ℕ) where
   no_end_front : (xs : List Event) (x : Event) (ys : List Event) → HasNoEnd (xs ++ x ∷ ys) → HasNoEnd xs
   no_end_front xs x ys h = (and_parts (list_all (λ e. not (is_last e)) xs) (list_all (λ e. not (is_last e)) (x ∷ ys)) (sym (list_all-append (λ e. not (is_last e)) xs (x ∷ ys)) ∙ h)).0
 
-  judge_from : (front rest : List Event) (e : Event) → HasNoEnd (front ++ rest) → AllFeasible p numbers bound front →
-      (verdict : Verdict) × VerdictIs p numbers bound (front ++ (rest ++ e ∷ [])) verdict
+  judge_from : (front rest : List Event) (e : Event) → HasNoEnd (front ++ rest) → AllFeasible setup numbers bound front →
+      (verdict : Verdict) × VerdictIs setup numbers bound (front ++ (rest ++ e ∷ [])) verdict
   judge_from front [] e more well = one_more front (subst HasNoEnd (append-nil front) more) well e
   judge_from front (x ∷ rest) e more well = by (one_more front (no_end_front front x rest more) well x) (judge_from (front ++ x ∷ []) rest e (subst HasNoEnd (sym again) more))
     where
       again : ((front ++ x ∷ []) ++ rest) ≡ (front ++ (x ∷ rest))
       again = append_assoc front (x ∷ []) rest
 
-      there : (verdict : Verdict) → VerdictIs p numbers bound ((front ++ x ∷ []) ++ (rest ++ e ∷ [])) verdict → (v : Verdict) × VerdictIs p numbers bound (front ++ (x ∷ (rest ++ e ∷ []))) v
-      there verdict is = (verdict, subst (λ (es : List Event). VerdictIs p numbers bound es verdict) (append_assoc front (x ∷ []) (rest ++ e ∷ [])) is)
+      there : (verdict : Verdict) → VerdictIs setup numbers bound ((front ++ x ∷ []) ++ (rest ++ e ∷ [])) verdict → (v : Verdict) × VerdictIs setup numbers bound (front ++ (x ∷ (rest ++ e ∷ []))) v
+      there verdict is = (verdict, subst (λ (es : List Event). VerdictIs setup numbers bound es verdict) (append_assoc front (x ∷ []) (rest ++ e ∷ [])) is)
 
-      by : (verdict : Verdict) × VerdictIs p numbers bound (front ++ x ∷ []) verdict →
-          (AllFeasible p numbers bound (front ++ x ∷ []) → (v : Verdict) × VerdictIs p numbers bound ((front ++ x ∷ []) ++ (rest ++ e ∷ [])) v) →
-          (v : Verdict) × VerdictIs p numbers bound (front ++ (x ∷ (rest ++ e ∷ []))) v
+      by : (verdict : Verdict) × VerdictIs setup numbers bound (front ++ x ∷ []) verdict →
+          (AllFeasible setup numbers bound (front ++ x ∷ []) → (v : Verdict) × VerdictIs setup numbers bound ((front ++ x ∷ []) ++ (rest ++ e ∷ [])) v) →
+          (v : Verdict) × VerdictIs setup numbers bound (front ++ (x ∷ (rest ++ e ∷ []))) v
       by (Feasible, is) go = there (go is).0 (go is).1
-      by (Infeasible at why, is) go = there (Infeasible at why) (refused_stays p numbers bound (front ++ x ∷ []) (rest ++ e ∷ []) at why is)
-      by (Unsettled at task, is) go = there (Unsettled at task) (held_stays p numbers bound (front ++ x ∷ []) (rest ++ e ∷ []) at task is)
+      by (Infeasible at why, is) go = there (Infeasible at why) (refused_stays setup numbers bound (front ++ x ∷ []) (rest ++ e ∷ []) at why is)
+      by (Unsettled at task, is) go = there (Unsettled at task) (held_stays setup numbers bound (front ++ x ∷ []) (rest ++ e ∷ []) at task is)
 
-pub verdict_exists : (p : PProgram) (numbers : Numbering) → VerdictsExist p numbers
-verdict_exists p numbers bound events e more = judge_from p numbers bound [] events e more (verdict_empty p numbers bound)
+pub verdict_exists : VerdictsExist
+verdict_exists setup numbers bound events e more = judge_from setup numbers bound [] events e more (verdict_empty setup numbers bound)

@@ -2,8 +2,8 @@
 use Rattle.std.proofs.Common.{◌≡◌, ℕ, zero, suc, pred, ◌<◌, ◌≤◌, Bool, true, false, ◌&&◌, ◌⊎◌, inl, inr, ap, subst, ◌∙◌, refl, arith}
 use Rattle.event_machine.specs.Seats.{Seen}
 use Rattle.event_machine.specs.Rows.{others_can_end, can_end}
-use Rattle.task_local.specs.Control.{Task}
-use Rattle.task_local.specs.Steps.{task_ops}
+use Rattle.task_model.specs.Tasks.{Task}
+use Rattle.task_model.specs.TaskOps.{task_ops}
 
 and_false : (a b : Bool) → b ≡ false → (a && b) ≡ false
 and_false true b e = e

@@ -6,8 +6,8 @@ use Rattle.std.proofs.lemmas.List.Elements.{filter-append, filter_map-append}
 use Rattle.event_machine.specs.declared.Action.{Action}
 use Rattle.event_machine.specs.Seats.{Seen}
 use Rattle.event_machine.specs.Rows.{rows_of, rows_below}
-use Rattle.task_local.specs.Control.{Task}
-use Rattle.task_local.specs.Steps.{task_ops}
+use Rattle.task_model.specs.Tasks.{Task}
+use Rattle.task_model.specs.TaskOps.{task_ops}
 
 -- two pieces, one after the other
 pub filter_two : {A : Type 0} (p : A → Bool) (old mid new xs ys : List A) → mid ≡ old ++ filter p xs → new ≡ mid ++ filter p ys → new ≡ old ++ filter p (xs ++ ys)

@@ -2,13 +2,13 @@
 use Rattle.std.proofs.Common.{◌≡◌, ℕ, zero, suc, pred, ◌+◌, ◌≤◌, Bool, true, not, List, [], ◌∷◌, ◌++◌, length, if◌then◌else◌, refl, sym, ap, ◌∙◌, subst, arith, Option, Some, ◌⊎◌, inl, inr, ⊎_elim}
 use Rattle.std.specs.Prelude.{All, find, option_map}
 use Rattle.std.proofs.lemmas.List.Elements.{All-contains, Contains-append_right}
-use Rattle.ada_tree.specs.PlainProgram.{PProgram}
 use Rattle.event_machine.specs.declared.Event.{Event}
 use Rattle.event_machine.specs.declared.Event.TheVariants.{R, E, S, D, C, T, F, X, B, Z}
 use Rattle.event_machine.specs.Offers.{Offer, calls_in, is_any_form, is_conditional, is_timed, waits_with, opens, is_else, is_delay, is_finish, is_end}
 use Rattle.event_machine.specs.Seats.{is_closed}
 use Rattle.event_machine.specs.Worlds.{aborts}
 use Rattle.syn_event.specs.Numbering.{Numbering, owner_of}
+use Rattle.task_model.specs.Machine.{Setup}
 use Rattle.task_machine.specs.declared.verdict.Why.{Why}
 use Rattle.task_machine.specs.declared.verdict.Verdict.TheVariants.{Feasible, Infeasible, Unsettled}
 use Rattle.task_machine.specs.Views.{IsFeasible, IsOpen, View}
@@ -100,45 +100,45 @@ module _ (numbers : Numbering) (views others : ℕ → View) (closed_same : (t :
       let at : (t : ℕ) → t ≤ pred (length numbers.tasks) → views t ≡ others t = to_all (λ t. views t ≡ others t) (pred (length numbers.tasks)) h in
       (ap (not_served 0).test (at 0 (omega arith)), (ap (at_offer 0 is_end).test (at 0 (omega arith)), same_others (pred (length numbers.tasks)) at))
 
-module _ (p : PProgram) (numbers : Numbering) where
+module _ (setup : Setup) (numbers : Numbering) where
   -- The first condition that fails is the same of all views after the events.
-  pub failing_unique : (events : List Event) (e : Event) (views others : ℕ → View) → AreViews p numbers events e views → AreViews p numbers events e others →
+  pub failing_unique : (events : List Event) (e : Event) (views others : ℕ → View) → AreViews setup numbers events e views → AreViews setup numbers events e others →
       first_failing numbers views e ≡ first_failing numbers others e
   failing_unique events e views others seen seen' = failing_same views others (conditions_of numbers e) (same_all numbers views others closed_same e
-      (λ k d less. view_unique p numbers events _ _ _ (seen.needed k d less) (seen'.needed k d less)))
+      (λ k d less. view_unique setup numbers events _ _ _ (seen.needed k d less) (seen'.needed k d less)))
     where
       closed_same : (t : ℕ) → is_closed_view (views t) ≡ is_closed_view (others t)
       closed_same t =
           let (z, stands, h) = seen.closed t in
           let (y, stands', k) = seen'.closed t in
-          sym h ∙ ap is_closed (stands_unique p numbers events t z y stands stands') ∙ k
+          sym h ∙ ap is_closed (stands_unique setup numbers events t z y stands stands') ∙ k
 
   module _ (bound : ℕ) (events : List Event) where
     -- The event does not go on behind the events before it: it finds a task open, or is not feasible.
     GoesWrong : List Event → Event → Type 0
-    GoesWrong before e = NoneOpen p numbers bound before (needed_of numbers e) → IsFeasible p numbers (before ++ e ∷ []) → ⊥
+    GoesWrong before e = NoneOpen setup numbers bound before (needed_of numbers e) → IsFeasible setup numbers (before ++ e ∷ []) → ⊥
 
-    refused_wrong : (at : ℕ) (why : Why) (v : IsRefused p numbers bound events at why) → GoesWrong v.before v.event
+    refused_wrong : (at : ℕ) (why : Why) (v : IsRefused setup numbers bound events at why) → GoesWrong v.before v.event
     unfolding GoesWrong
     refused_wrong at why v none feasible = v.infeasible feasible
 
-    open_wrong : (before : List Event) (e : Event) (earlier later : List ℕ) (task : ℕ) → needed_of numbers e ≡ (earlier ++ task ∷ later) → IsOpen p numbers before task bound →
-        NoneOpen p numbers bound before (needed_of numbers e) → ⊥
+    open_wrong : (before : List Event) (e : Event) (earlier later : List ℕ) (task : ℕ) → needed_of numbers e ≡ (earlier ++ task ∷ later) → IsOpen setup numbers before task bound →
+        NoneOpen setup numbers bound before (needed_of numbers e) → ⊥
     open_wrong before e earlier later task order stays none =
-        at_split (λ t. IsOpen p numbers before t bound → ⊥) earlier later task (subst (λ ts. NoneOpen p numbers bound before ts) order none) stays
+        at_split (λ t. IsOpen setup numbers before t bound → ⊥) earlier later task (subst (λ ts. NoneOpen setup numbers bound before ts) order none) stays
 
-    held_wrong : (at task : ℕ) (v : IsHeldUp p numbers bound events at task) → GoesWrong v.before v.event
+    held_wrong : (at task : ℕ) (v : IsHeldUp setup numbers bound events at task) → GoesWrong v.before v.event
     unfolding GoesWrong
     held_wrong at task v none feasible = open_wrong v.before v.event v.earlier v.later task v.order v.stays_open none
 
     -- no event goes wrong where all went well
-    none_wrong : (well : List Event) (before rest : List Event) (e : Event) → AllFeasible p numbers bound well → well ≡ (before ++ e ∷ rest) → GoesWrong before e → ⊥
+    none_wrong : (well : List Event) (before rest : List Event) (e : Event) → AllFeasible setup numbers bound well → well ≡ (before ++ e ∷ rest) → GoesWrong before e → ⊥
     unfolding GoesWrong
     none_wrong well before rest e h is wrong = let k = h before rest e is in wrong k.0 k.1
 
     -- The first event that goes wrong is one.
-    same_place : (at other_at : ℕ) (before other : List Event) (e f : Event) → IsReached p numbers bound events at before e → GoesWrong before e →
-        IsReached p numbers bound events other_at other f → GoesWrong other f → (before ≡ other) × (e ≡ f)
+    same_place : (at other_at : ℕ) (before other : List Event) (e f : Event) → IsReached setup numbers bound events at before e → GoesWrong before e →
+        IsReached setup numbers bound events other_at other f → GoesWrong other f → (before ≡ other) × (e ≡ f)
     same_place at other_at before other e f r wrong r' wrong' = ⊎_elim
         (λ (k : (before ≡ other) × (e ≡ f)). k)
         (⊎_elim
@@ -146,52 +146,52 @@ module _ (p : PProgram) (numbers : Numbering) where
         (λ (k : (mid : List Event) × (before ≡ (other ++ f ∷ mid))). absurd (none_wrong before other k.0 f r.went_well k.1 wrong')))
         (two_splits before other r.rest r'.rest e f (sym r.splits ∙ r'.splits))
 
-    places : (at other_at : ℕ) (before other : List Event) (e f : Event) → IsReached p numbers bound events at before e → IsReached p numbers bound events other_at other f →
+    places : (at other_at : ℕ) (before other : List Event) (e f : Event) → IsReached setup numbers bound events at before e → IsReached setup numbers bound events other_at other f →
         before ≡ other → at ≡ other_at
     places at other_at before other e f r r' h = r.place ∙ ap (λ (es : List Event). length es + 1) h ∙ sym r'.place
 
     some_same : (why other : Why) → ◌≡◌ {A = Option Why} (Some why) (Some other) → why ≡ other
     some_same why other h = cc
 
-    refused_refused : (at other_at : ℕ) (why other : Why) → IsRefused p numbers bound events at why → IsRefused p numbers bound events other_at other → (at ≡ other_at) × (why ≡ other)
+    refused_refused : (at other_at : ℕ) (why other : Why) → IsRefused setup numbers bound events at why → IsRefused setup numbers bound events other_at other → (at ≡ other_at) × (why ≡ other)
     refused_refused at other_at why other v u =
         let (b, e) = same_place at other_at v.before u.before v.event u.event v.reached (refused_wrong at why v) u.reached (refused_wrong other_at other u) in (
           places at other_at v.before u.before v.event u.event v.reached u.reached b,
           some_same why other (sym v.fails
               ∙ failing_unique v.before v.event v.views u.views v.seen
-              (subst (λ (es : List Event). AreViews p numbers es v.event u.views) (sym b) (subst (λ x. AreViews p numbers u.before x u.views) (sym e) u.seen))
+              (subst (λ (es : List Event). AreViews setup numbers es v.event u.views) (sym b) (subst (λ x. AreViews setup numbers u.before x u.views) (sym e) u.seen))
               ∙ ap (λ x. first_failing numbers u.views x) e ∙ u.fails),
         )
 
-    held_held : (at other_at task other : ℕ) → IsHeldUp p numbers bound events at task → IsHeldUp p numbers bound events other_at other → (at ≡ other_at) × (task ≡ other)
+    held_held : (at other_at task other : ℕ) → IsHeldUp setup numbers bound events at task → IsHeldUp setup numbers bound events other_at other → (at ≡ other_at) × (task ≡ other)
     held_held at other_at task other v u =
         let (b, e) = same_place at other_at v.before u.before v.event u.event v.reached (held_wrong at task v) u.reached (held_wrong other_at other u) in (
           places at other_at v.before u.before v.event u.event v.reached u.reached b,
           ⊎_elim
               (λ (k : (v.earlier ≡ u.earlier) × (task ≡ other)). k.1)
               (⊎_elim
-              (λ (k : (mid : List ℕ) × (u.earlier ≡ (v.earlier ++ task ∷ mid))). absurd (at_split (λ t. IsOpen p numbers u.before t bound → ⊥) v.earlier k.0 task
-              (subst (λ ts. NoneOpen p numbers bound u.before ts) k.1 u.none_open) (subst (λ (es : List Event). IsOpen p numbers es task bound) b v.stays_open)))
-              (λ (k : (mid : List ℕ) × (v.earlier ≡ (u.earlier ++ other ∷ mid))). absurd (at_split (λ t. IsOpen p numbers v.before t bound → ⊥) u.earlier k.0 other
-              (subst (λ ts. NoneOpen p numbers bound v.before ts) k.1 v.none_open) (subst (λ (es : List Event). IsOpen p numbers es other bound) (sym b) u.stays_open))))
+              (λ (k : (mid : List ℕ) × (u.earlier ≡ (v.earlier ++ task ∷ mid))). absurd (at_split (λ t. IsOpen setup numbers u.before t bound → ⊥) v.earlier k.0 task
+              (subst (λ ts. NoneOpen setup numbers bound u.before ts) k.1 u.none_open) (subst (λ (es : List Event). IsOpen setup numbers es task bound) b v.stays_open)))
+              (λ (k : (mid : List ℕ) × (v.earlier ≡ (u.earlier ++ other ∷ mid))). absurd (at_split (λ t. IsOpen setup numbers v.before t bound → ⊥) u.earlier k.0 other
+              (subst (λ ts. NoneOpen setup numbers bound v.before ts) k.1 v.none_open) (subst (λ (es : List Event). IsOpen setup numbers es other bound) (sym b) u.stays_open))))
               (two_splits v.earlier u.earlier v.later u.later task other (sym v.order ∙ ap (needed_of numbers) e ∙ u.order)),
         )
 
-    refused_held : (at other_at : ℕ) (why : Why) (task : ℕ) → IsRefused p numbers bound events at why → IsHeldUp p numbers bound events other_at task → ⊥
+    refused_held : (at other_at : ℕ) (why : Why) (task : ℕ) → IsRefused setup numbers bound events at why → IsHeldUp setup numbers bound events other_at task → ⊥
     refused_held at other_at why task v u =
         let (b, e) = same_place at other_at v.before u.before v.event u.event v.reached (refused_wrong at why v) u.reached (held_wrong other_at task u) in
-        open_wrong v.before v.event u.earlier u.later task (ap (needed_of numbers) e ∙ u.order) (subst (λ (es : List Event). IsOpen p numbers es task bound) (sym b) u.stays_open) v.none_open
+        open_wrong v.before v.event u.earlier u.later task (ap (needed_of numbers) e ∙ u.order) (subst (λ (es : List Event). IsOpen setup numbers es task bound) (sym b) u.stays_open) v.none_open
 
-  -- A list of events has one verdict.
-  pub verdict_unique : VerdictsAgree p numbers
-  verdict_unique bound events Feasible Feasible v u = refl
-  verdict_unique bound events Feasible (Infeasible at why) v u = absurd (none_wrong bound events events u.before u.reached.rest u.event v u.reached.splits (refused_wrong bound events at why u))
-  verdict_unique bound events Feasible (Unsettled at task) v u = absurd (none_wrong bound events events u.before u.reached.rest u.event v u.reached.splits (held_wrong bound events at task u))
-  verdict_unique bound events (Infeasible at why) Feasible v u = absurd (none_wrong bound events events v.before v.reached.rest v.event u v.reached.splits (refused_wrong bound events at why v))
-  verdict_unique bound events (Infeasible at why) (Infeasible other_at other) v u =
-      let k = refused_refused bound events at other_at why other v u in λ i. Infeasible (k.0 i) (k.1 i)
-  verdict_unique bound events (Infeasible at why) (Unsettled other_at task) v u = absurd (refused_held bound events at other_at why task v u)
-  verdict_unique bound events (Unsettled at task) Feasible v u = absurd (none_wrong bound events events v.before v.reached.rest v.event u v.reached.splits (held_wrong bound events at task v))
-  verdict_unique bound events (Unsettled at task) (Infeasible other_at why) v u = absurd (refused_held bound events other_at at why task u v)
-  verdict_unique bound events (Unsettled at task) (Unsettled other_at other) v u =
-      let k = held_held bound events at other_at task other v u in λ i. Unsettled (k.0 i) (k.1 i)
+-- A list of events has one verdict.
+pub verdict_unique : VerdictsAgree
+verdict_unique setup numbers bound events Feasible Feasible v u = refl
+verdict_unique setup numbers bound events Feasible (Infeasible at why) v u = absurd (none_wrong setup numbers bound events events u.before u.reached.rest u.event v u.reached.splits (refused_wrong setup numbers bound events at why u))
+verdict_unique setup numbers bound events Feasible (Unsettled at task) v u = absurd (none_wrong setup numbers bound events events u.before u.reached.rest u.event v u.reached.splits (held_wrong setup numbers bound events at task u))
+verdict_unique setup numbers bound events (Infeasible at why) Feasible v u = absurd (none_wrong setup numbers bound events events v.before v.reached.rest v.event u v.reached.splits (refused_wrong setup numbers bound events at why v))
+verdict_unique setup numbers bound events (Infeasible at why) (Infeasible other_at other) v u =
+    let k = refused_refused setup numbers bound events at other_at why other v u in λ i. Infeasible (k.0 i) (k.1 i)
+verdict_unique setup numbers bound events (Infeasible at why) (Unsettled other_at task) v u = absurd (refused_held setup numbers bound events at other_at why task v u)
+verdict_unique setup numbers bound events (Unsettled at task) Feasible v u = absurd (none_wrong setup numbers bound events events v.before v.reached.rest v.event u v.reached.splits (held_wrong setup numbers bound events at task v))
+verdict_unique setup numbers bound events (Unsettled at task) (Infeasible other_at why) v u = absurd (refused_held setup numbers bound events other_at at why task u v)
+verdict_unique setup numbers bound events (Unsettled at task) (Unsettled other_at other) v u =
+    let k = held_held setup numbers bound events at other_at task other v u in λ i. Unsettled (k.0 i) (k.1 i)

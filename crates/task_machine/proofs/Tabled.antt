@@ -16,8 +16,9 @@ use Rattle.event_machine.specs.Seats as seats
 use Rattle.event_machine.specs.Programs.{Program}
 use Rattle.event_machine.specs.Worlds.{still, aborts, happens, needs, others_end}
 use Rattle.syn_event.specs.Numbering.{Numbering, owner_of}
-use Rattle.task_local.specs.Control.{Task}
-use Rattle.task_local.specs.Steps.{task_ops, offer_of}
+use Rattle.task_model.specs.Tasks.{Task}
+use Rattle.task_model.specs.Stands.{offer_of}
+use Rattle.task_model.specs.TaskOps.{task_ops}
 use Rattle.task_machine.specs.declared.verdict.Why.{Why}
 use Rattle.task_machine.specs.Views.{View, view_in, view_of}
 use Rattle.task_machine.specs.Conditions.{is_closed_view, is_served_view, is_completed_view, is_at, Condition, others_may_end, is_end_of, tasks_to, needed_of, holds, all_hold, why_of, failing_in}

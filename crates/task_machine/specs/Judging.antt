@@ -1,10 +1,10 @@
 -- What a list of events is found to be, with so many local steps allowed to a task between the events that change it (this project's rule).
 use Rattle.std.specs.Prelude.{◌≡◌, ℕ, ◌+◌, List, [], ◌∷◌, ◌++◌, length, All, Some}
-use Rattle.ada_tree.specs.PlainProgram.{PProgram}
 use Rattle.event_machine.specs.declared.Event.{Event}
 use Rattle.event_machine.specs.declared.Standing.{Standing}
 use Rattle.event_machine.specs.Seats as seats
 use Rattle.syn_event.specs.Numbering.{Numbering}
+use Rattle.task_model.specs.Machine.{Setup}
 use Rattle.task_machine.specs.declared.verdict.Why.{Why}
 use Rattle.task_machine.specs.declared.verdict.Verdict.{Verdict}
 use Rattle.task_machine.specs.declared.verdict.Verdict.TheVariants.{Feasible, Infeasible, Unsettled}
@@ -12,51 +12,51 @@ use Rattle.task_machine.specs.Views.{IsFeasible, IsOpen, Stands, View, ViewIs}
 use Rattle.task_machine.specs.Conditions.{is_closed_view, needed_of, first_failing}
 
 -- The views of the tasks that the event needs; of any other task it counts only whether it is closed.
-pub record AreViews (p : PProgram) (numbers : Numbering) (events : List Event) (e : Event) (views : ℕ → View) : Type 0 where
-  pub needed : All (λ t. ViewIs p numbers events t (views t)) (needed_of numbers e)
-  pub closed : (t : ℕ) → (z : Standing) × Stands p numbers events t z × (seats.is_closed z ≡ is_closed_view (views t))
+pub record AreViews (setup : Setup) (numbers : Numbering) (events : List Event) (e : Event) (views : ℕ → View) : Type 0 where
+  pub needed : All (λ t. ViewIs setup numbers events t (views t)) (needed_of numbers e)
+  pub closed : (t : ℕ) → (z : Standing) × Stands setup numbers events t z × (seats.is_closed z ≡ is_closed_view (views t))
 
 -- none of the tasks is open at the bound after the events
-abbrev pub NoneOpen : PProgram → Numbering → ℕ → List Event → List ℕ → Type 0
-NoneOpen p numbers bound events tasks = All (λ t. IsOpen p numbers events t bound → ⊥) tasks
+abbrev pub NoneOpen : Setup → Numbering → ℕ → List Event → List ℕ → Type 0
+NoneOpen setup numbers bound events tasks = All (λ t. IsOpen setup numbers events t bound → ⊥) tasks
 
 -- Each event in turn finds none of the tasks that it needs open, and is feasible behind those before it.
-abbrev pub AllFeasible : PProgram → Numbering → ℕ → List Event → Type 0
-AllFeasible p numbers bound events =
+abbrev pub AllFeasible : Setup → Numbering → ℕ → List Event → Type 0
+AllFeasible setup numbers bound events =
     (before rest : List Event) (e : Event) → events ≡ before ++ e ∷ rest →
-    NoneOpen p numbers bound before (needed_of numbers e) × IsFeasible p numbers (before ++ e ∷ [])
+    NoneOpen setup numbers bound before (needed_of numbers e) × IsFeasible setup numbers (before ++ e ∷ [])
 
 -- The event at this place, counted from 1, is e, and all went well before it.
-pub record IsReached (p : PProgram) (numbers : Numbering) (bound : ℕ) (events : List Event) (at : ℕ) (before : List Event) (e : Event) : Type 0 where
+pub record IsReached (setup : Setup) (numbers : Numbering) (bound : ℕ) (events : List Event) (at : ℕ) (before : List Event) (e : Event) : Type 0 where
   pub rest : List Event
   pub splits : events ≡ before ++ e ∷ rest
   pub place : at ≡ length before + 1
-  pub went_well : AllFeasible p numbers bound before
+  pub went_well : AllFeasible setup numbers bound before
 
 -- The event at this place is not feasible though none of the tasks that it needs is open; the first of its conditions that fails is why.
-pub record IsRefused (p : PProgram) (numbers : Numbering) (bound : ℕ) (events : List Event) (at : ℕ) (why : Why) : Type 0 where
+pub record IsRefused (setup : Setup) (numbers : Numbering) (bound : ℕ) (events : List Event) (at : ℕ) (why : Why) : Type 0 where
   pub before : List Event
   pub event : Event
-  pub reached : IsReached p numbers bound events at before event
-  pub none_open : NoneOpen p numbers bound before (needed_of numbers event)
-  pub infeasible : IsFeasible p numbers (before ++ event ∷ []) → ⊥
+  pub reached : IsReached setup numbers bound events at before event
+  pub none_open : NoneOpen setup numbers bound before (needed_of numbers event)
+  pub infeasible : IsFeasible setup numbers (before ++ event ∷ []) → ⊥
   pub views : ℕ → View
-  pub seen : AreViews p numbers before event views
+  pub seen : AreViews setup numbers before event views
   pub fails : first_failing numbers views event ≡ Some why
 
 -- At this place the task is the first of those that the event needs that is open.
-pub record IsHeldUp (p : PProgram) (numbers : Numbering) (bound : ℕ) (events : List Event) (at task : ℕ) : Type 0 where
+pub record IsHeldUp (setup : Setup) (numbers : Numbering) (bound : ℕ) (events : List Event) (at task : ℕ) : Type 0 where
   pub before : List Event
   pub event : Event
-  pub reached : IsReached p numbers bound events at before event
+  pub reached : IsReached setup numbers bound events at before event
   pub earlier : List ℕ
   pub later : List ℕ
   pub order : needed_of numbers event ≡ earlier ++ task ∷ later
-  pub none_open : NoneOpen p numbers bound before earlier
-  pub stays_open : IsOpen p numbers before task bound
+  pub none_open : NoneOpen setup numbers bound before earlier
+  pub stays_open : IsOpen setup numbers before task bound
 
 -- The verdict of a list of events, where a task may make so many local steps since the last event that changed it.
-abbrev pub VerdictIs : PProgram → Numbering → ℕ → List Event → Verdict → Type 0
-VerdictIs p numbers bound events Feasible = AllFeasible p numbers bound events
-VerdictIs p numbers bound events (Infeasible at why) = IsRefused p numbers bound events at why
-VerdictIs p numbers bound events (Unsettled at task) = IsHeldUp p numbers bound events at task
+abbrev pub VerdictIs : Setup → Numbering → ℕ → List Event → Verdict → Type 0
+VerdictIs setup numbers bound events Feasible = AllFeasible setup numbers bound events
+VerdictIs setup numbers bound events (Infeasible at why) = IsRefused setup numbers bound events at why
+VerdictIs setup numbers bound events (Unsettled at task) = IsHeldUp setup numbers bound events at task

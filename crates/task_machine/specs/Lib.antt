@@ -1,5 +1,4 @@
 pub mod Table
-pub mod Opening
 pub mod Views
 pub mod Conditions
 pub mod Judging

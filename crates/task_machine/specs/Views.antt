@@ -1,7 +1,6 @@
 -- How a task stands after a list of events, in the words of runs: a run is one of the program from its opening. A task does no more after the end of
 -- the program, so an end at the end of the events is left out (this project's rule).
 use Rattle.std.specs.Prelude.{◌≡◌, ℕ, Bool, true, false, not, ◌&&◌, if◌then◌else◌, List}
-use Rattle.ada_tree.specs.PlainProgram.{PProgram}
 use Rattle.event_machine.specs.declared.Event.{Event}
 use Rattle.event_machine.specs.declared.Standing.{Standing}
 use Rattle.event_machine.specs.declared.Standing.TheVariants as standing
@@ -10,30 +9,29 @@ use Rattle.event_machine.specs.Seats.{Seat, is_completed, is_served, is_abnormal
 use Rattle.event_machine.specs.Runs.{Feasible}
 use Rattle.event_machine.specs.Tallies.{RestIs, StandsAfter, before_end}
 use Rattle.syn_event.specs.Numbering.{Numbering}
-use Rattle.task_local.specs.Control.{Task}
-use Rattle.task_local.specs.Steps.{can_step, offer_of}
-use Rattle.task_machine.specs.Table.{rules_of}
-use Rattle.task_machine.specs.Opening.{opening_of}
+use Rattle.task_model.specs.Tasks.{Task}
+use Rattle.task_model.specs.Stands.{can_step, offer_of}
+use Rattle.task_model.specs.Machine.{Setup, rules_of, opening_of}
 
 -- Some run has exactly these events.
-abbrev pub IsFeasible : PProgram → Numbering → List Event → Type 0
-IsFeasible p numbers events = Feasible (rules_of numbers) (opening_of p numbers).state events
+abbrev pub IsFeasible : Setup → Numbering → List Event → Type 0
+IsFeasible setup numbers events = Feasible (rules_of numbers) (opening_of setup numbers).state events
 
 -- Rest: in some run with these events t is free, has made n local steps since the last event that changed it, and is in this state.
-abbrev pub IsRest : PProgram → Numbering → List Event → ℕ → ℕ → Task → Type 0
-IsRest p numbers events t n task = RestIs (rules_of numbers) (opening_of p numbers).state (before_end events) t n task
+abbrev pub IsRest : Setup → Numbering → List Event → ℕ → ℕ → Task → Type 0
+IsRest setup numbers events t n task = RestIs (rules_of numbers) (opening_of setup numbers).state (before_end events) t n task
 
 -- In some run with these events t stands so, where one that waits or is queued is called live.
-abbrev pub Stands : PProgram → Numbering → List Event → ℕ → Standing → Type 0
-Stands p numbers events t z = StandsAfter (rules_of numbers) (opening_of p numbers).state (before_end events) t z
+abbrev pub Stands : Setup → Numbering → List Event → ℕ → Standing → Type 0
+Stands setup numbers events t z = StandsAfter (rules_of numbers) (opening_of setup numbers).state (before_end events) t z
 
 -- In some run with these events the standing of t passes the test.
-abbrev pub StandsIn : PProgram → Numbering → List Event → ℕ → (Standing → Bool) → Type 0
-StandsIn p numbers events t test = (z : Standing) × Stands p numbers events t z × (test z ≡ true)
+abbrev pub StandsIn : Setup → Numbering → List Event → ℕ → (Standing → Bool) → Type 0
+StandsIn setup numbers events t test = (z : Standing) × Stands setup numbers events t z × (test z ≡ true)
 
 -- t is open at n: it is free, has made n local steps since the last event that changed it, and has one more.
-abbrev pub IsOpen : PProgram → Numbering → List Event → ℕ → ℕ → Type 0
-IsOpen p numbers events t n = (task : Task) × IsRest p numbers events t n task × (can_step task ≡ true)
+abbrev pub IsOpen : Setup → Numbering → List Event → ℕ → ℕ → Type 0
+IsOpen setup numbers events t n = (task : Task) × IsRest setup numbers events t n task × (can_step task ≡ true)
 
 -- What is seen of a task that is closed, in a rendezvous, or free and at rest.
 pub data View : Type 0 where
@@ -51,12 +49,12 @@ abbrev pub is_busy : Standing → Bool
 is_busy z = is_served z && not (is_abnormal z)
 
 -- The task is seen so after the events.
-abbrev pub ViewIs : PProgram → Numbering → List Event → ℕ → View → Type 0
-ViewIs p numbers events t Completed = StandsIn p numbers events t is_completed
-ViewIs p numbers events t Abnormal = StandsIn p numbers events t is_abnormal
-ViewIs p numbers events t Busy = StandsIn p numbers events t is_busy
-ViewIs p numbers events t (At offer) =
-    (n : ℕ) × (task : Task) × IsRest p numbers events t n task × (can_step task ≡ false) × (offer_of task ≡ offer)
+abbrev pub ViewIs : Setup → Numbering → List Event → ℕ → View → Type 0
+ViewIs setup numbers events t Completed = StandsIn setup numbers events t is_completed
+ViewIs setup numbers events t Abnormal = StandsIn setup numbers events t is_abnormal
+ViewIs setup numbers events t Busy = StandsIn setup numbers events t is_busy
+ViewIs setup numbers events t (At offer) =
+    (n : ℕ) × (task : Task) × IsRest setup numbers events t n task × (can_step task ≡ false) × (offer_of task ≡ offer)
 
 -- the view of a task with this standing, which offers this
 abbrev pub view_in : Standing → Offer → View

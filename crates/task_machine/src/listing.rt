@@ -3,7 +3,7 @@
 ghost use Rattle.std.specs.Prelude.{◌≡◌, ◌++◌, ◌<◌, ◌^◌, [], ◌∷◌, length, filter, option_to_list, OnOk};
 ghost use Rattle.std.specs.List.{filter_map};
 ghost use Rattle.event_machine.specs.Rows.{rows_of, rows_below, delay_rows, delay_row};
-ghost use Rattle.task_local.specs.Steps.{task_ops};
+ghost use Rattle.task_model.specs.TaskOps.{task_ops};
 ghost use Rattle.task_machine.specs.Table.{row_of, seen_in, seat_of, offer_in_seat};
 
 use crate::Action;

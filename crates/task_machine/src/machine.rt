@@ -1,51 +1,54 @@
 // The machine.
 
-ghost use Rattle.std.specs.Prelude.{◌≡◌, ◌++◌, ◌∷◌, [], ◌<◌, ◌^◌, true, IfOk, OnOk, OnErr, filter, length, vec_len};
-ghost use Rattle.ada_tree.specs.PlainProgram.{plain_program};
-ghost use Rattle.syn_event.specs.Legal.{Legal};
+ghost use Rattle.std.specs.Prelude.{◌≡◌, ◌++◌, ◌∷◌, [], ◌<◌, ◌^◌, true, IfOk, OnOk, OnErr, filter, length};
 ghost use Rattle.event_machine.specs.declared.Action.TheVariants.{End};
 ghost use Rattle.event_machine.specs.Rows.{rows_below};
-ghost use Rattle.event_machine.specs.Seats.{live};
-ghost use Rattle.task_local.specs.Steps.{started, task_ops};
-ghost use Rattle.task_machine.specs.Opening.{opening_of, first_tasks};
-ghost use Rattle.task_machine.specs.Table.{can, enabled_of, after, event_of, row_of, seen_in, event_in, whole};
+ghost use Rattle.task_model.specs.TaskOps.{task_ops};
+ghost use Rattle.task_model.specs.Machine.{after, enabled_of, event_of};
+ghost use Rattle.task_machine.specs.Table.{can, event_in, opening_in, output_of, row_of, seat_of, seen_in, whole};
 
 use crate::Action;
-use crate::effects::{abort_next, arrive, fail, finish, leave_line, set_standing, start, step};
+use crate::effects::{fail, finish, set_standing, step, take_delay, take_else};
 use crate::listing::{list_tasks, push_if};
+use crate::moving::{abort_next, arrive, leave_line, start};
 use crate::seats::{Seat, offer_at};
-use ada_tree::{Memory, Program, Types};
-use ada_value::Inputs;
+use crate::starting::start_all;
+use ada_tree::Memory;
+use ada_value::{Inputs, Value};
 use event_machine::{Event, Standing};
 use std::alloc::Global;
 use std::marker::Model;
-use syn_event::{Mode, Numbers};
-use task_local::{LocalTask, Offer};
+use syn_event::Numbers;
+use task_links::Links;
+use task_local::Offer;
 use thiserror::Error;
 
 /// All tasks of a program as it runs. A contract sees the program's numbers, each task's state and standing by its number from 0, the callers in all
 /// queues in order of arrival, and whether the program has ended.
 #[derive(Drop)]
 pub struct Machine<'p> {
-    numbers: &'p Numbers,
+    links: &'p Links<'p>,
     seats: Vec<Seat<'p>>,
     line: Vec<u32>,
+    // through which the values of a rendezvous pass; what it holds between actions means nothing
+    values: Vec<Value>,
     ended: bool,
 }
 
 impl<'p> Model for Machine<'p> {
-    ghost use Rattle.std.specs.Prelude.{◌<◌, vec_len};
+    ghost use Rattle.std.specs.Prelude.{◌<◌, ◌^◌, vec_len};
     ghost use Rattle.std.specs.Coded.{codes};
     ghost use Rattle.ada_tree.proofs.Codes.{tree_codes};
-    ghost use Rattle.task_machine.specs.Table.{Whole};
+    ghost use Rattle.task_links.specs.SettingCode.{coded_setting};
+    ghost use Rattle.task_model.specs.Machine.{Whole};
 
     ghost Value = { Whole };
 
-    ghost coded = { Prim.hlevel (codes, tree_codes) };
+    ghost coded = { Prim.hlevel (codes, tree_codes, coded_setting (Prim.hlevel (codes, tree_codes)) (Prim.hlevel (codes, tree_codes))) };
 
-    ghost view = { λ m. record { numbers = m.numbers.now; state = record { seats = m.seats.items; line = m.line.items; ended = m.ended } } };
+    ghost view = { λ m. record { numbers = m.links.now.numbers; state = record { seats = m.seats.items; line = m.line.items; ended = m.ended } } };
 
-    ghost invariant = { λ m. vec_len m.seats < 204 };
+    ghost invariant = { λ m. vec_len m.seats < 2 ^ 32 };
 }
 
 /// Why a step was not made.
@@ -58,21 +61,15 @@ pub enum StepError {
 
 impl<'p> Machine<'p> {
     /// The program before its first step: all tasks are live at their first statements.
-    pub fn new(
-        alloc: Global,
-        p: &'p Program,
-        types: &'p Types,
-        numbers: &'p Numbers,
-        inputs: &Inputs,
-    ) -> Result<Machine<'p>, Memory>
-        requires { Legal (plain_program p.now) types.now numbers.now Mode.Any }
-        ensures { IfOk result (λ m. m ≡ opening_of (plain_program p.now) numbers.now) }
+    pub fn new(alloc: Global, links: &'p Links<'p>, inputs: &Inputs) -> Result<Machine<'p>, Memory>
+        ensures { IfOk result (λ m. m ≡ opening_in links.now inputs.now) }
     {
-        let seats = start_all(alloc, p, types, numbers, inputs)?;
+        let seats = start_all(alloc, links, inputs)?;
         Ok(Machine {
-            numbers,
+            links,
             seats,
             line: Vec::new(alloc),
+            values: Vec::new(alloc),
             ended: false,
         })
     }
@@ -83,7 +80,13 @@ impl<'p> Machine<'p> {
         ensures few { OnOk result (length out.new.items < 2 ^ 32) }
         ensures emptied { OnErr result (out.new.items ≡ []) }
     {
-        match list_enabled(&self.seats, &self.line, self.numbers, self.ended, out) {
+        match list_enabled(
+            &self.seats,
+            &self.line,
+            self.links.numbers(),
+            self.ended,
+            out,
+        ) {
             Ok(()) => Ok(()),
             Err(e) => {
                 out.clear();
@@ -113,11 +116,14 @@ impl<'p> Machine<'p> {
         self.ended
     }
 
-    /// What the task of this number has written. No statement so far writes.
-    pub fn output(&self, _task: u32) -> &[u8]
-        ensures { result.now ≡ [] }
+    /// What the task of this number, from 0, has written; past the last task nothing.
+    pub fn output(&self, task: u32) -> &[u8]
+        ensures { result.now ≡ output_of self.now task }
     {
-        &[]
+        match self.seats.get(task as usize) {
+            Some(seat) => seat.local.output(),
+            None => &[],
+        }
     }
 }
 
@@ -129,7 +135,7 @@ fn list_enabled(
     ended: bool,
     out: &mut Vec<Action>,
 ) -> Result<(), Memory>
-    requires { length seats.now < 204 }
+    requires { length seats.now < 2 ^ 32 }
     ensures listed { OnOk result (out.new.items ≡ enabled_of (whole numbers.now seats.now line.now ended)) }
     ensures few { OnOk result (length out.new.items < 2 ^ 32) }
 {
@@ -138,7 +144,10 @@ fn list_enabled(
         return Ok(());
     }
     list_all(seats, line, numbers, out)?;
-    Ok(())
+    match u32::try_from(out.len()) {
+        Ok(_) => Ok(()),
+        Err(_) => Err(Memory),
+    }
 }
 
 // All actions that apply, where the program has not ended.
@@ -190,48 +199,6 @@ fn event_at(seats: &[Seat], action: Action) -> Option<Event>
     }
 }
 
-/// The tasks of the program, each live at its first statement.
-pub fn start_all<'p>(
-    alloc: Global,
-    p: &'p Program,
-    types: &'p Types,
-    numbers: &'p Numbers,
-    inputs: &Inputs,
-) -> Result<Vec<Seat<'p>>, Memory>
-    requires { length numbers.now.tasks < 204 }
-    ensures started { IfOk result (λ seats. seats.items ≡ first_tasks (plain_program p.now) numbers.now (length numbers.now.tasks)) }
-    ensures few { IfOk result (λ seats. vec_len seats < 204) }
-{
-    let mut seats = Vec::new(alloc);
-    let count = numbers.tasks.len() as u32;
-    for t in 0..count {
-        seats.push(start_one(alloc, p, types, numbers, inputs, t)?)?;
-    }
-    Ok(seats)
-}
-
-// The task of this number, live at its first statement.
-fn start_one<'p>(
-    alloc: Global,
-    p: &'p Program,
-    types: &'p Types,
-    numbers: &'p Numbers,
-    inputs: &Inputs,
-    t: u32,
-) -> Result<Seat<'p>, Memory>
-    ensures { IfOk result (λ seat. seat ≡ live (started (plain_program p.now) numbers.now t)) }
-{
-    let input = match inputs.lists.get(t as usize) {
-        Some(list) => list.as_slice(),
-        None => &[],
-    };
-    let local = LocalTask::start(alloc, p, types, numbers, t, input)?;
-    Ok(Seat {
-        local,
-        standing: Standing::Live,
-    })
-}
-
 impl Machine<'_> {
     // Makes the change of an action, which applies.
     fn change(&mut self, action: Action) -> Result<(), Memory>
@@ -239,20 +206,24 @@ impl Machine<'_> {
         ensures after { OnOk result (self.new ≡ after self.old action) }
         ensures unchanged { OnErr result (self.new ≡ self.old) }
     {
+        let numbers = self.links.numbers();
         match action {
             Action::Local { t } => step(&mut self.seats, t),
             Action::Arrive { t } => arrive(&mut self.seats, &mut self.line, t),
-            Action::Start { c } => start(&mut self.seats, &mut self.line, self.numbers, c),
-            Action::Finish { a } => {
-                finish(&mut self.seats, self.numbers, a);
-                Ok(())
+            Action::Start { c } => {
+                start(
+                    &mut self.seats,
+                    &mut self.line,
+                    &mut self.values,
+                    numbers,
+                    c,
+                )
             }
-            Action::Else { a } | Action::Delay { a, .. } | Action::CallElse { c: a } => {
-                set_standing(&mut self.seats, a, Standing::Live);
-                Ok(())
-            }
+            Action::Finish { a } => finish(&mut self.seats, &mut self.values, numbers, a),
+            Action::Else { a } | Action::CallElse { c: a } => take_else(&mut self.seats, a),
+            Action::Delay { a, k } => take_delay(&mut self.seats, a, k),
             Action::Expire { c } => {
-                set_standing(&mut self.seats, c, Standing::Live);
+                take_delay(&mut self.seats, c, 1)?;
                 leave_line(&mut self.line, c);
                 Ok(())
             }
@@ -266,7 +237,7 @@ impl Machine<'_> {
                 Ok(())
             }
             Action::Abort { t } => {
-                abort_next(&mut self.seats, &mut self.line, self.numbers, t);
+                abort_next(&mut self.seats, &mut self.line, numbers, t);
                 Ok(())
             }
             Action::End => {

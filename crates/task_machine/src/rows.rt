@@ -1,11 +1,13 @@
 // When each action applies.
 
 ghost use Rattle.std.specs.Prelude.{◌≡◌, ◌<◌, ◌^◌, [], not, pred, length, is_some};
+ghost use Rattle.std.specs.List.{list_any};
 ghost use Rattle.event_machine.specs.Offers as offers;
 ghost use Rattle.event_machine.specs.Rows as rows;
 ghost use Rattle.syn_event.specs.Numbering.{owner_of};
 ghost use Rattle.task_local.specs.OfferView.{offer_as};
-ghost use Rattle.task_local.specs.Steps.{task_ops, can_step};
+ghost use Rattle.task_model.specs.Stands.{can_step};
+ghost use Rattle.task_model.specs.TaskOps.{task_ops};
 ghost use Rattle.task_machine.specs.Table.{row_of, seat_of, seen_in, offer_in_seat};
 
 use crate::Action;
@@ -143,9 +145,15 @@ pub fn opens_member(seats: &[Seat], t: u32, e: u32, i: i32) -> bool
     ensures { result ≡ offers.waits_with (offers.opens e i) (offer_in_seat (seat_of seats.now t)) }
 {
     match offer_at(seats, t) {
-        Offer::Wait(choices) => choices.iter().any(|choice| opens(choice, e, i)),
+        Offer::Wait(choices) => some_opens(choices, e, i),
         _ => false,
     }
+}
+
+fn some_opens(choices: &[Choice], e: u32, i: i32) -> bool
+    ensures { result ≡ list_any (offers.opens e i) choices.now }
+{
+    choices.iter().any(|choice| opens(choice, e, i))
 }
 
 fn opens(choice: &Choice, e: u32, i: i32) -> bool
@@ -162,9 +170,15 @@ pub fn has_else(seats: &[Seat], t: u32) -> bool
     ensures { result ≡ offers.waits_with offers.is_else (offer_in_seat (seat_of seats.now t)) }
 {
     match offer_at(seats, t) {
-        Offer::Wait(choices) => choices.iter().any(|choice| is_else(choice)),
+        Offer::Wait(choices) => some_is_else(choices),
         _ => false,
     }
+}
+
+fn some_is_else(choices: &[Choice]) -> bool
+    ensures { result ≡ list_any offers.is_else choices.now }
+{
+    choices.iter().any(|choice| is_else(choice))
 }
 
 fn is_else(choice: &Choice) -> bool
@@ -178,9 +192,15 @@ pub fn has_delay(seats: &[Seat], t: u32, k: u32) -> bool
     ensures { result ≡ offers.waits_with (offers.is_delay k) (offer_in_seat (seat_of seats.now t)) }
 {
     match offer_at(seats, t) {
-        Offer::Wait(choices) => choices.iter().any(|choice| is_delay(choice, k)),
+        Offer::Wait(choices) => some_is_delay(choices, k),
         _ => false,
     }
+}
+
+fn some_is_delay(choices: &[Choice], k: u32) -> bool
+    ensures { result ≡ list_any (offers.is_delay k) choices.now }
+{
+    choices.iter().any(|choice| is_delay(choice, k))
 }
 
 fn is_delay(choice: &Choice, k: u32) -> bool
@@ -238,9 +258,15 @@ fn has_no_caller(seats: &[Seat], line: &[u32], t: u32) -> bool
     ensures { result ≡ rows.has_no_caller task_ops (seen_in seats.now line.now) (offer_in_seat (seat_of seats.now t)) }
 {
     match offer_at(seats, t) {
-        Offer::Wait(choices) => !choices.iter().any(|choice| has_caller(seats, line, choice)),
+        Offer::Wait(choices) => !some_has_caller(seats, line, choices),
         _ => true,
     }
+}
+
+fn some_has_caller(seats: &[Seat], line: &[u32], choices: &[Choice]) -> bool
+    ensures { result ≡ list_any (rows.has_caller task_ops (seen_in seats.now line.now)) choices.now }
+{
+    choices.iter().any(|choice| has_caller(seats, line, choice))
 }
 
 fn has_caller(seats: &[Seat], line: &[u32], choice: &Choice) -> bool
@@ -297,9 +323,15 @@ pub fn has_terminate(seats: &[Seat], t: u32) -> bool
     ensures { result ≡ offers.waits_with offers.is_terminate (offer_in_seat (seat_of seats.now t)) }
 {
     match offer_at(seats, t) {
-        Offer::Wait(choices) => choices.iter().any(|choice| is_terminate(choice)),
+        Offer::Wait(choices) => some_is_terminate(choices),
         _ => false,
     }
+}
+
+fn some_is_terminate(choices: &[Choice]) -> bool
+    ensures { result ≡ list_any offers.is_terminate choices.now }
+{
+    choices.iter().any(|choice| is_terminate(choice))
 }
 
 fn is_terminate(choice: &Choice) -> bool

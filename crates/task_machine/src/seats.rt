@@ -1,7 +1,8 @@
 // A task in the machine, and what is read of it.
 
-ghost use Rattle.std.specs.Prelude.{◌≡◌, ℕ};
+ghost use Rattle.std.specs.Prelude.{◌≡◌, ℕ, slice_get};
 ghost use Rattle.event_machine.specs.Seats.{is_live, is_waiting, is_queued, is_completed, is_closed, is_abnormal, is_served_by};
+ghost use Rattle.task_model.specs.Frames.{callers_in};
 ghost use Rattle.task_local.specs.OfferView.{offer_as};
 ghost use Rattle.task_machine.specs.Table.{seat_of, offer_in_seat};
 
@@ -20,13 +21,14 @@ impl<'p> Model for Seat<'p> {
     ghost use Rattle.std.specs.Coded.{codes};
     ghost use Rattle.ada_tree.proofs.Codes.{tree_codes};
     ghost use Rattle.event_machine.specs.Seats as seats;
-    ghost use Rattle.task_local.specs.Control.{Task};
+    ghost use Rattle.task_links.specs.SettingCode.{coded_setting};
+    ghost use Rattle.task_model.specs.Tasks.{Task};
 
     ghost Value = { seats.Seat Task };
 
-    ghost coded = { Prim.hlevel (codes, tree_codes) };
+    ghost coded = { Prim.hlevel (codes, tree_codes, coded_setting (Prim.hlevel (codes, tree_codes)) (Prim.hlevel (codes, tree_codes))) };
 
-    ghost view = { λ s. record { local = s.local; standing = s.standing } };
+    ghost view = { λ s. record { local = s.local.task; standing = s.standing } };
 }
 
 /// How the task of this number stands; past the last task all have completed.
@@ -46,6 +48,16 @@ pub fn offer_at<'a>(seats: &'a [Seat], t: u32) -> Offer<'a>
     match seats.get(t as usize) {
         Some(seat) => seat.local.offer(),
         None => Offer::End,
+    }
+}
+
+/// The caller of the innermost accept body that the task of this number has opened.
+pub fn caller_at(seats: &[Seat], a: u32) -> Option<u32>
+    ensures { result ≡ slice_get (callers_in (seat_of seats.now a).local.control) 0 }
+{
+    match seats.get(a as usize) {
+        Some(seat) => seat.local.caller(),
+        None => None,
     }
 }
 

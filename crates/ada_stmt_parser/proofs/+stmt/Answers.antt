@@ -2,7 +2,7 @@
 use Rattle.std.proofs.Common.{◌-◌, sym, ap, subst, ◌∙◌, arith, rules, map}
 use Rattle.lawful_reader.specs.Readers.{Found, items, fronted}
 use Rattle.ada_tree.specs.PlainStmt.{plain_stmt, plain_arm, plain_alt, plain_case_arm, plain_handler, handlers_of, seen}
-use Rattle.ada_expr_parser.specs.declared.symbols.Symbol.TheVariants as key
+use Rattle.ada_lexer.specs.declared.symbols.Symbol.TheVariants as key
 use Rattle.ada_expr_parser.specs.Gives.{Fails}
 use Rattle.ada_phrase_parser.specs.Reading.{is_symbol, key_then}
 use Rattle.ada_stmt_parser.specs.ReadingStatements.{inner_at, begins_stmt, if_arm, case_part, others_part, handler_part, handler_others, whens}

@@ -1,6 +1,6 @@
 use Rattle.std.proofs.Common.{length, map}
 use Rattle.ada_tree.specs.PlainStmt.{plain_formal}
-use Rattle.ada_expr_parser.specs.declared.symbols.Symbol.TheVariants as key
+use Rattle.ada_lexer.specs.declared.symbols.Symbol.TheVariants as key
 use Rattle.ada_phrase_parser.specs.Reading.{is_symbol, key_then, formal}
 use Rattle.ada_phrase_parser.proofs.Lists.{GoesOn}
 use Rattle.ada_phrase_parser.proofs.phrases.formals_onto.Given as goal

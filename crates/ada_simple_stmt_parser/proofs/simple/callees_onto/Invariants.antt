@@ -1,5 +1,5 @@
 use Rattle.std.proofs.Common.{length, map}
-use Rattle.ada_expr_parser.specs.declared.symbols.Symbol.TheVariants as key
+use Rattle.ada_lexer.specs.declared.symbols.Symbol.TheVariants as key
 use Rattle.ada_expr_parser.specs.Parts.{target}
 use Rattle.ada_phrase_parser.specs.Reading.{is_symbol, key_then}
 use Rattle.ada_simple_stmt_parser.specs.SimpleViews.{as_target}

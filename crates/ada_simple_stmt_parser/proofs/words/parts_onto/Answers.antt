@@ -1,7 +1,7 @@
 use Rattle.std.proofs.Common.{sym, ◌∙◌, rules, map}
 use Rattle.lawful_reader.specs.Readers.{items, fronted}
 use Rattle.ada_tree.specs.PlainStmt.{plain_part}
-use Rattle.ada_expr_parser.specs.declared.symbols.Symbol.TheVariants as key
+use Rattle.ada_lexer.specs.declared.symbols.Symbol.TheVariants as key
 use Rattle.ada_phrase_parser.specs.Reading.{is_symbol, key_then, part}
 use Rattle.ada_phrase_parser.specs.Views.{told}
 use Rattle.ada_expr_parser.specs.Gives.{Fails}

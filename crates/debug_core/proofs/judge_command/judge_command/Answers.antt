@@ -1,16 +1,16 @@
-use Rattle.std.proofs.Common.{List, ℕ, subst}
-use Rattle.debug_outcome.specs.Coming.{Comes, Never}
-use Rattle.debug_core.specs.JudgeMeaning.{JudgeMeans}
-use Rattle.debug_core.proofs.Calling.{both_loaded, judge_unloaded}
+use Rattle.debug_words.specs.Commands.{name_as}
+use Rattle.debug_words.specs.Words.{AsksJudge}
+use Rattle.debug_files.specs.Giving.{inputs_in}
+use Rattle.debug_outcome.specs.Coming.{Never}
+use Rattle.debug_core.proofs.Calling.{both_there, judge_loaded, not_loaded}
 use Rattle.debug_core.proofs.judge_command.judge_command.Goals as goal
 
 pub returns-in-Ok : goal.returns-in-Ok
 returns-in-Ok g c =
-    both_loaded g.F.TracedFiles.leads c.args.files.now c.load_both.new.files (g.F.Files.told c.args.files.now) (g.F.Files.faults c.args.files.now) (g.F.Files.faults c.load_both.new.files) c.args.asked.file.now c.args.asked.sequence.now c.in-Ok.text.items c.in-Ok.lines.items c.args.asked.bound (g.O.Sink.told c.args.out.now) (g.O.Sink.told c.judge_text.new.out) (g.O.Sink.faults c.args.out.now) (g.O.Sink.faults c.judge_text.new.out)
-    c.judge_text.result c.in-Ok.ensures
-    (subst (λ (lines : List ℕ). Comes (JudgeMeans c.args.asked.bound c.in-Ok.text.items lines) Never (g.O.Sink.told c.args.out.now) (g.O.Sink.told c.judge_text.new.out) (g.O.Sink.faults c.args.out.now) (g.O.Sink.faults c.judge_text.new.out) c.judge_text.result) c.deref-in-Ok.ensures.value
-    (subst (λ (text : List ℕ). Comes (JudgeMeans c.args.asked.bound text c.deref-in-Ok.result.now) Never (g.O.Sink.told c.args.out.now) (g.O.Sink.told c.judge_text.new.out) (g.O.Sink.faults c.args.out.now) (g.O.Sink.faults c.judge_text.new.out) c.judge_text.result) c.deref.ensures.value c.judge_text.ensures))
+    judge_loaded g.F.TracedFiles.leads c.args.files.now c.load_judge.new.files (g.F.Files.told c.args.files.now) (g.F.Files.faults c.args.files.now) (g.F.Files.faults c.load_judge.new.files) c.args.asked.file.now c.in-Ok.found.start.text.items (name_as c.args.asked.inputs) (inputs_in c.in-Ok.found.start) (both_there _ _ c.in-Ok.found.start.inputs c.args.asked.inputs c.in-Ok.ensures.named)
+    (g.O.Sink.told c.args.out.now) (g.O.Sink.told c.judge_files.new.out) (g.O.Sink.faults c.args.out.now) (g.O.Sink.faults c.judge_files.new.out) c.judge_files.result c.args.asked.sequence.now c.in-Ok.found.sequence.items c.args.asked.bound c.in-Ok.ensures.came c.judge_files.ensures
 
 pub returns-in-Err : goal.returns-in-Err
 returns-in-Err g c =
-    judge_unloaded g.F.TracedFiles.leads c.args.files.now c.load_both.new.files (g.F.Files.told c.args.files.now) (g.F.Files.faults c.args.files.now) (g.F.Files.faults c.load_both.new.files) (g.O.Sink.told c.args.out.now) (g.O.Sink.faults c.args.out.now) c.in-Err.stop c.args.asked.file.now c.args.asked.sequence.now c.args.asked.bound c.in-Err.ensures
+    not_loaded g.F.TracedFiles.leads c.args.files.now c.load_judge.new.files (g.F.Files.told c.args.files.now) (g.F.Files.faults c.args.files.now) (g.F.Files.faults c.load_judge.new.files) (AsksJudge c.args.asked.file.now (name_as c.args.asked.inputs) c.args.asked.sequence.now c.args.asked.bound) (λ loads. Never)
+    (g.O.Sink.told c.args.out.now) (g.O.Sink.faults c.args.out.now) c.in-Err.stop c.in-Err.ensures.came

@@ -1,15 +1,16 @@
-use Rattle.std.proofs.Common.{List, ℕ, subst}
+use Rattle.std.proofs.Common.{List, ℕ, [], ◌∷◌, subst}
+use Rattle.debug_words.specs.Words.{AsksPrint}
 use Rattle.debug_outcome.specs.Coming.{Comes, Never}
 use Rattle.debug_core.specs.PrintMeaning.{PrintMeans}
-use Rattle.debug_core.proofs.Calling.{print_loaded, print_unloaded}
+use Rattle.debug_core.proofs.Calling.{all_loaded, not_loaded}
 use Rattle.debug_core.proofs.print_command.print_command.Goals as goal
 
 pub returns-in-Ok : goal.returns-in-Ok
 returns-in-Ok g c =
-    print_loaded g.F.TracedFiles.leads c.args.files.now c.load_file.new.files (g.F.Files.told c.args.files.now) (g.F.Files.faults c.args.files.now) (g.F.Files.faults c.load_file.new.files) c.args.file.now c.in-Ok.text.items (g.O.Sink.told c.args.out.now) (g.O.Sink.told c.print_text.new.out) (g.O.Sink.faults c.args.out.now) (g.O.Sink.faults c.print_text.new.out)
+    all_loaded g.F.TracedFiles.leads c.args.files.now c.load_file.new.files (g.F.Files.told c.args.files.now) (g.F.Files.faults c.args.files.now) (g.F.Files.faults c.load_file.new.files) (AsksPrint c.args.file.now) (c.in-Ok.text.items ∷ []) (g.O.Sink.told c.args.out.now) (g.O.Sink.told c.print_text.new.out) (g.O.Sink.faults c.args.out.now) (g.O.Sink.faults c.print_text.new.out)
     c.print_text.result c.in-Ok.ensures.came
     (subst (λ (text : List ℕ). Comes (PrintMeans text) Never (g.O.Sink.told c.args.out.now) (g.O.Sink.told c.print_text.new.out) (g.O.Sink.faults c.args.out.now) (g.O.Sink.faults c.print_text.new.out) c.print_text.result) c.deref.ensures.value c.print_text.ensures)
 
 pub returns-in-Err : goal.returns-in-Err
 returns-in-Err g c =
-    print_unloaded g.F.TracedFiles.leads c.args.files.now c.load_file.new.files (g.F.Files.told c.args.files.now) (g.F.Files.faults c.args.files.now) (g.F.Files.faults c.load_file.new.files) (g.O.Sink.told c.args.out.now) (g.O.Sink.faults c.args.out.now) c.in-Err.stop c.args.file.now c.in-Err.ensures.came
+    not_loaded g.F.TracedFiles.leads c.args.files.now c.load_file.new.files (g.F.Files.told c.args.files.now) (g.F.Files.faults c.args.files.now) (g.F.Files.faults c.load_file.new.files) (AsksPrint c.args.file.now) (λ loads. Never) (g.O.Sink.told c.args.out.now) (g.O.Sink.faults c.args.out.now) c.in-Err.stop c.in-Err.ensures.came

@@ -1,15 +1,17 @@
-use Rattle.std.proofs.Common.{List, ℕ, subst}
-use Rattle.debug_outcome.specs.Coming.{Comes}
-use Rattle.debug_core.specs.RunMeaning.{RunMeans}
-use Rattle.debug_core.proofs.Calling.{run_loaded, run_unloaded}
+use Rattle.debug_words.specs.Commands.{name_as, source_as}
+use Rattle.debug_words.specs.Words.{AsksRun}
+use Rattle.debug_files.specs.Giving.{given_as, inputs_in}
+use Rattle.debug_core.specs.Answers.{GrowsFor}
+use Rattle.debug_core.proofs.Calling.{both_there, run_loaded, not_loaded}
 use Rattle.debug_core.proofs.run_command.run_command.Goals as goal
 
 pub returns-in-Ok : goal.returns-in-Ok
 returns-in-Ok g c =
-    run_loaded g.F.TracedFiles.leads c.args.files.now c.load_file.new.files (g.F.Files.told c.args.files.now) (g.F.Files.faults c.args.files.now) (g.F.Files.faults c.load_file.new.files) c.args.asked.file.now c.in-Ok.text.items c.args.asked.turns (g.O.Sink.told c.args.out.now) (g.O.Sink.told c.run_text.new.out) (g.O.Sink.faults c.args.out.now) (g.O.Sink.faults c.run_text.new.out)
-    c.run_text.result c.in-Ok.ensures.came
-    (subst (λ (text : List ℕ). Comes (RunMeans c.args.asked.turns text) (RunMeans c.args.asked.turns text) (g.O.Sink.told c.args.out.now) (g.O.Sink.told c.run_text.new.out) (g.O.Sink.faults c.args.out.now) (g.O.Sink.faults c.run_text.new.out) c.run_text.result) c.deref.ensures.value c.run_text.ensures)
+    run_loaded g.F.TracedFiles.leads c.args.files.now c.load_run.new.files (g.F.Files.told c.args.files.now) (g.F.Files.faults c.args.files.now) (g.F.Files.faults c.load_run.new.files) c.args.asked.file.now c.in-Ok.found.start.text.items (name_as c.args.asked.inputs) (inputs_in c.in-Ok.found.start) (both_there _ _ c.in-Ok.found.start.inputs c.args.asked.inputs c.in-Ok.ensures.named)
+    (g.O.Sink.told c.args.out.now) (g.O.Sink.told c.run_files.new.out) (g.O.Sink.faults c.args.out.now) (g.O.Sink.faults c.run_files.new.out) c.run_files.result (source_as c.args.asked.choices) (given_as c.in-Ok.found.choices) c.args.asked.turns c.in-Ok.ensures.chosen c.in-Ok.ensures.came c.run_files.ensures
 
 pub returns-in-Err : goal.returns-in-Err
 returns-in-Err g c =
-    run_unloaded g.F.TracedFiles.leads c.args.files.now c.load_file.new.files (g.F.Files.told c.args.files.now) (g.F.Files.faults c.args.files.now) (g.F.Files.faults c.load_file.new.files) (g.O.Sink.told c.args.out.now) (g.O.Sink.faults c.args.out.now) c.in-Err.stop c.args.asked.file.now c.args.asked.turns c.in-Err.ensures.came
+    not_loaded g.F.TracedFiles.leads c.args.files.now c.load_run.new.files (g.F.Files.told c.args.files.now) (g.F.Files.faults c.args.files.now) (g.F.Files.faults c.load_run.new.files) (AsksRun c.args.asked.file.now (name_as c.args.asked.inputs) (source_as c.args.asked.choices) c.args.asked.turns)
+    (λ loads. GrowsFor (AsksRun c.args.asked.file.now (name_as c.args.asked.inputs) (source_as c.args.asked.choices) c.args.asked.turns) (g.F.Files.told c.args.files.now) (g.F.Files.faults c.args.files.now) (g.F.Files.faults c.load_run.new.files) loads)
+    (g.O.Sink.told c.args.out.now) (g.O.Sink.faults c.args.out.now) c.in-Err.stop c.in-Err.ensures.came

@@ -3,5 +3,8 @@ use Rattle.debug_core.proofs.top.carry_out.Goals as goal
 pub returns-in-Check : goal.returns-in-Check
 returns-in-Check g c = rw c.in-Check.is c.check_command.ensures
 
+pub returns-in-Run : goal.returns-in-Run
+returns-in-Run g c = rw c.in-Run.is c.run_command.ensures
+
 pub returns-in-Judge : goal.returns-in-Judge
 returns-in-Judge g c = rw c.in-Judge.is c.judge_command.ensures

@@ -11,14 +11,14 @@ loop-e-preserved c =
     let i = c.loop-e.e-index in
     let less : i < length events = c.loop-e-test.true in
     record {
-      stands = λ p s none. subst (λ es. StandsFor p es c.next.new.self) (sym (take_more events i _ less))
-          (c.in-Ok.ensures.stands p (take i events) (c.loop-e.invariant.stands p s none) (no_end_front events i less none));
+      stands = λ setup s none. subst (λ es. StandsFor setup es c.next.new.self) (sym (take_more events i _ less))
+          (c.in-Ok.ensures.stands setup (take i events) (c.loop-e.invariant.stands setup s none) (no_end_front events i less none));
       taken = omega (arith, c.in-Ok.ensures.taken);
       numbers = c.in-Ok.ensures.numbers ∙ c.loop-e.invariant.numbers;
       bound = c.in-Ok.ensures.bound ∙ c.loop-e.invariant.bound;
     }
 
 pub returns : goal.returns
-returns c = λ p s none.
-    verdict_whole p c.args.events.now c.loop-e.e-index c.loop-e.judge c.args.judge.now.numbers c.args.judge.now.bound c.verdict.result
-    (c.loop-e.invariant.stands p s none) (omega arith) c.loop-e.invariant.numbers c.loop-e.invariant.bound c.verdict.ensures
+returns c = λ setup s none.
+    verdict_whole setup c.args.events.now c.loop-e.e-index c.loop-e.judge c.args.judge.now.numbers c.args.judge.now.bound c.verdict.result
+    (c.loop-e.invariant.stands setup s none) (omega arith) c.loop-e.invariant.numbers c.loop-e.invariant.bound c.verdict.ensures

@@ -1,6 +1,6 @@
 use Rattle.std.proofs.Common.{◌≡◌, ◌++◌, filter}
 use Rattle.event_machine.specs.Rows.{rows_below}
-use Rattle.task_local.specs.Steps.{task_ops}
+use Rattle.task_model.specs.TaskOps.{task_ops}
 use Rattle.task_machine.specs.Table.{row_of, seen_in}
 use Rattle.task_machine.proofs.listing.list_tasks.Given as goal
 

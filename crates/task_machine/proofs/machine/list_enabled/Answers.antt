@@ -1,26 +1,18 @@
 use Rattle.std.proofs.Common.{◌∙◌, sym, length, [], ◌∷◌, ◌++◌}
 use Rattle.event_machine.specs.declared.Action.TheVariants.{End}
 use Rattle.event_machine.specs.Rows.{rows_below}
-use Rattle.task_local.specs.Steps.{task_ops}
+use Rattle.task_model.specs.TaskOps.{task_ops}
 use Rattle.task_machine.specs.Table.{row_of, seen_in}
-use Rattle.task_machine.proofs.Listed.{enabled_of-ended, enabled_of-open, few_rows, listed_onto}
+use Rattle.task_machine.proofs.Listed.{enabled_of-ended, enabled_of-open, listed_onto}
 use Rattle.task_machine.proofs.machine.list_enabled.Goals as goal
 
 pub returns-then-ended-clause-listed : goal.returns-then-ended-clause-listed
 returns-then-ended-clause-listed c =
     c.clear.ensures.items ∙ sym (enabled_of-ended c.args.numbers.now c.args.seats.now c.args.line.now c.args.ended c.if-ended.true)
 
-pub returns-clause-listed : goal.returns-clause-listed
-returns-clause-listed c =
+pub returns-in-Ok-clause-listed : goal.returns-in-Ok-clause-listed
+returns-in-Ok-clause-listed c =
     let s = seen_in c.args.seats.now c.args.line.now in
     listed_onto (row_of c.args.numbers.now c.args.seats.now c.args.line.now) c.clear.new.self.items c.list_all.new.out.items
     (rows_below task_ops s (length c.args.seats.now) ++ End ∷ []) c.clear.ensures.items c.in_ok-list_all.ensures
     ∙ sym (enabled_of-open c.args.numbers.now c.args.seats.now c.args.line.now c.args.ended c.if-ended.false)
-
-pub returns-clause-few : goal.returns-clause-few
-returns-clause-few c =
-    let s = seen_in c.args.seats.now c.args.line.now in
-    let p = row_of c.args.numbers.now c.args.seats.now c.args.line.now in
-    few_rows p s (length c.args.seats.now) c.list_all.new.out.items c.requires
-    (listed_onto p c.clear.new.self.items c.list_all.new.out.items (rows_below task_ops s (length c.args.seats.now) ++ End ∷ [])
-    c.clear.ensures.items c.in_ok-list_all.ensures)

@@ -1,6 +1,6 @@
 use Rattle.std.proofs.Common.{◌≡◌, drop, [], filter}
 use Rattle.event_machine.specs.Rows.{queues_at}
-use Rattle.task_local.specs.Steps.{task_ops}
+use Rattle.task_model.specs.TaskOps.{task_ops}
 use Rattle.task_machine.specs.Table.{seen_in}
 use Rattle.task_machine.proofs.rows.is_empty.Given as goal
 

@@ -1,6 +1,6 @@
 use Rattle.std.proofs.Common.{◌≡◌, true, pred}
 use Rattle.event_machine.specs.Rows.{others_can_end}
-use Rattle.task_local.specs.Steps.{task_ops}
+use Rattle.task_model.specs.TaskOps.{task_ops}
 use Rattle.task_machine.specs.Table.{seen_in}
 use Rattle.task_machine.proofs.rows.others_can_end.Given as goal
 

@@ -1,0 +1,45 @@
+-- Which files are loaded for what is asked, and how many bytes each may have (this project's rules).
+use Rattle.std.specs.Prelude.{ℕ, List, [], ◌∷◌, ◌++◌, Option}
+use Rattle.debug_words.specs.Words.{Asked, AsksPrint, AsksCheck, AsksRun, AsksJudge, Source, NoChoices, ChoicesIn, ChoicesBy}
+use Rattle.debug_outcome.specs.Loads.{file_named, files_named}
+use Rattle.debug_outcome.specs.Traces.{Wanted}
+
+-- a program that is printed or run has at most so many bytes, and one that is checked or judged, an original, so many
+abbrev pub text_limit : ℕ
+text_limit = 33554432
+
+abbrev pub original_limit : ℕ
+original_limit = 1048576
+
+-- a file of inputs, one of a sequence, and one of choices
+abbrev pub inputs_limit : ℕ
+inputs_limit = 4194304
+
+abbrev pub sequence_limit : ℕ
+sequence_limit = 8388608
+
+abbrev pub choices_limit : ℕ
+choices_limit = 16777216
+
+-- choices may stand in a file
+abbrev pub choice_files : Source → List Wanted
+choice_files NoChoices = []
+choice_files (ChoicesIn name) = file_named name choices_limit ∷ []
+choice_files (ChoicesBy seed) = []
+
+-- a program, and the inputs of its tasks where they are named
+abbrev pub start_files : List ℕ → ℕ → Option (List ℕ) → List Wanted
+start_files file limit inputs = file_named file limit ∷ files_named inputs inputs_limit
+
+abbrev pub run_files : List ℕ → Option (List ℕ) → Source → List Wanted
+run_files file inputs choices = start_files file text_limit inputs ++ choice_files choices
+
+abbrev pub judge_files : List ℕ → Option (List ℕ) → List ℕ → List Wanted
+judge_files file inputs sequence = start_files file original_limit inputs ++ (file_named sequence sequence_limit ∷ [])
+
+-- The files that are loaded for what is asked, in the order of the words.
+abbrev pub wanted_by : Asked → List Wanted
+wanted_by (AsksPrint file) = file_named file text_limit ∷ []
+wanted_by (AsksCheck file) = file_named file original_limit ∷ []
+wanted_by (AsksRun file inputs choices turns) = run_files file inputs choices
+wanted_by (AsksJudge file inputs sequence bound) = judge_files file inputs sequence

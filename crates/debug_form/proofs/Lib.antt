@@ -1,2 +1,0 @@
-pub mod FormPlaces
-pub mod MachineForming

@@ -1,0 +1,5 @@
+pub mod Standing
+pub mod Taking
+pub mod Handing
+pub mod Comparing
+pub mod Bodies
