@@ -8,9 +8,9 @@ use Rattle.syn_event.specs.CheckRefusals.{CheckRefusal}
 use Rattle.syn_event.specs.Surrounding.{Surrounding}
 use Rattle.syn_event.specs.Spots.{body_names, after_decl, decl_spots}
 use Rattle.ada_rules.specs.Sooner.{sooner}
-use Rattle.ada_rules.specs.Met.{Standard, met}
+use Rattle.ada_rules.specs.RefusedFirst.{Standard, refused_first}
 use Rattle.ada_declaration_places.specs.Places.{places_of}
-use Rattle.ada_check.specs.Bodies.{body_part, with_body}
+use Rattle.ada_check.specs.inner.TaskBodies.{body_part, with_body}
 use Rattle.ada_rules.proofs.Meeting.{joined}
 use Rattle.ada_rules.proofs.FromBehind.{back_cut}
 
@@ -35,14 +35,14 @@ bodies_back xs k x names more h is_x told is_more =
     ∙ sym (body_next (plain_decl x) (decls_of (map plain_decl (drop (length xs - k) xs))))
     ∙ ap (λ (ys : List Decl). body_names (decls_of (map plain_decl ys))) (sym (back_cut xs k x h is_x))
 
-pub parted : (by : Standard) (s : Surrounding) (bodies : List ℕ) (d : PDecl) (a b : Option CheckRefusal) → a ≡ met by (places_of s bodies d) → b ≡ met by (body_part (after_decl s d) d) → sooner a b ≡ met by (decl_spots s bodies d)
-parted by s bodies (DNumber w e p) a b h g = joined by (places_of s bodies (DNumber w e p)) [] a b h g ∙ ap (met by) (append-nil (places_of s bodies (DNumber w e p)))
-parted by s bodies (DObject ws c x i p) a b h g = joined by (places_of s bodies (DObject ws c x i p)) [] a b h g ∙ ap (met by) (append-nil (places_of s bodies (DObject ws c x i p)))
-parted by s bodies (DEnumeration w ws p) a b h g = joined by (places_of s bodies (DEnumeration w ws p)) [] a b h g ∙ ap (met by) (append-nil (places_of s bodies (DEnumeration w ws p)))
-parted by s bodies (DArray w r x p) a b h g = joined by (places_of s bodies (DArray w r x p)) [] a b h g ∙ ap (met by) (append-nil (places_of s bodies (DArray w r x p)))
-parted by s bodies (DSubtype w x p) a b h g = joined by (places_of s bodies (DSubtype w x p)) [] a b h g ∙ ap (met by) (append-nil (places_of s bodies (DSubtype w x p)))
-parted by s bodies (DException ws p) a b h g = joined by (places_of s bodies (DException ws p)) [] a b h g ∙ ap (met by) (append-nil (places_of s bodies (DException ws p)))
-parted by s bodies (DIntIo w p) a b h g = joined by (places_of s bodies (DIntIo w p)) [] a b h g ∙ ap (met by) (append-nil (places_of s bodies (DIntIo w p)))
-parted by s bodies (DPragma e p) a b h g = joined by (places_of s bodies (DPragma e p)) [] a b h g ∙ ap (met by) (append-nil (places_of s bodies (DPragma e p)))
-parted by s bodies (DTask t p) a b h g = joined by (places_of s bodies (DTask t p)) [] a b h g ∙ ap (met by) (append-nil (places_of s bodies (DTask t p)))
+pub parted : (by : Standard) (s : Surrounding) (bodies : List ℕ) (d : PDecl) (a b : Option CheckRefusal) → a ≡ refused_first by (places_of s bodies d) → b ≡ refused_first by (body_part (after_decl s d) d) → sooner a b ≡ refused_first by (decl_spots s bodies d)
+parted by s bodies (DNumber w e p) a b h g = joined by (places_of s bodies (DNumber w e p)) [] a b h g ∙ ap (refused_first by) (append-nil (places_of s bodies (DNumber w e p)))
+parted by s bodies (DObject ws c x i p) a b h g = joined by (places_of s bodies (DObject ws c x i p)) [] a b h g ∙ ap (refused_first by) (append-nil (places_of s bodies (DObject ws c x i p)))
+parted by s bodies (DEnumeration w ws p) a b h g = joined by (places_of s bodies (DEnumeration w ws p)) [] a b h g ∙ ap (refused_first by) (append-nil (places_of s bodies (DEnumeration w ws p)))
+parted by s bodies (DArray w r x p) a b h g = joined by (places_of s bodies (DArray w r x p)) [] a b h g ∙ ap (refused_first by) (append-nil (places_of s bodies (DArray w r x p)))
+parted by s bodies (DSubtype w x p) a b h g = joined by (places_of s bodies (DSubtype w x p)) [] a b h g ∙ ap (refused_first by) (append-nil (places_of s bodies (DSubtype w x p)))
+parted by s bodies (DException ws p) a b h g = joined by (places_of s bodies (DException ws p)) [] a b h g ∙ ap (refused_first by) (append-nil (places_of s bodies (DException ws p)))
+parted by s bodies (DIntIo w p) a b h g = joined by (places_of s bodies (DIntIo w p)) [] a b h g ∙ ap (refused_first by) (append-nil (places_of s bodies (DIntIo w p)))
+parted by s bodies (DPragma e p) a b h g = joined by (places_of s bodies (DPragma e p)) [] a b h g ∙ ap (refused_first by) (append-nil (places_of s bodies (DPragma e p)))
+parted by s bodies (DTask t p) a b h g = joined by (places_of s bodies (DTask t p)) [] a b h g ∙ ap (refused_first by) (append-nil (places_of s bodies (DTask t p)))
 parted by s bodies (DTaskBody w objects its p) a b h g = joined by [] (body_part s (DTaskBody w objects its p)) a b h g

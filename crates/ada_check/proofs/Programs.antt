@@ -9,29 +9,29 @@ use Rattle.syn_event.specs.Surrounding.{Surrounding, declares}
 use Rattle.syn_event.specs.TaskParts.{TaskPart, parts_of}
 use Rattle.syn_event.specs.Spots.{spot, spots, around_program, first_around, body_names, decls_spots, after_decls, body_spots, tasks_spots, entries_spots, all_copies_spots, counted_spots}
 use Rattle.ada_rules.specs.Sooner.{sooner}
-use Rattle.ada_rules.specs.Met.{Standard, met_at, met}
+use Rattle.ada_rules.specs.RefusedFirst.{Standard, refused_first_at, refused_first}
 use Rattle.ada_rules.proofs.Meeting.{joined, before}
 use Rattle.ada_declaration_places.proofs.Declaring.{types_after}
 
 -- what is counted over the whole
 pub counted_met : (by : Standard) (around : Surrounding) (parts : List TaskPart) (p : PProgram) (a b d ab r : Option CheckRefusal) → parts ≡ parts_of p
-    → a ≡ met by (tasks_spots around 0 parts) → b ≡ met by (entries_spots around 0 parts) → d ≡ met by (all_copies_spots around parts p)
-    → ab ≡ sooner a b → r ≡ sooner ab d → r ≡ met by (counted_spots around p)
+    → a ≡ refused_first by (tasks_spots around 0 parts) → b ≡ refused_first by (entries_spots around 0 parts) → d ≡ refused_first by (all_copies_spots around parts p)
+    → ab ≡ sooner a b → r ≡ sooner ab d → r ≡ refused_first by (counted_spots around p)
 counted_met by around parts p a b d ab r same is_a is_b is_d is_ab is =
     is
     ∙ joined by (tasks_spots around 0 parts ++ entries_spots around 0 parts) (all_copies_spots around parts p) ab d
     (is_ab ∙ joined by (tasks_spots around 0 parts) (entries_spots around 0 parts) a b is_a is_b)
     is_d
-    ∙ ap (λ (l : List TaskPart). met by (tasks_spots around 0 l ++ entries_spots around 0 l ++ all_copies_spots around l p)) same
+    ∙ ap (λ (l : List TaskPart). refused_first by (tasks_spots around 0 l ++ entries_spots around 0 l ++ all_copies_spots around l p)) same
 
 -- the whole
 pub program_met : (by : Standard) (s behind : Surrounding) (p : PProgram) (a b i k ab abi r : Option CheckRefusal) → s ≡ around_program p
-    → a ≡ met_at by s (declares p.name)
-    → b ≡ met by (decls_spots s (body_names p.decls) p.decls)
+    → a ≡ refused_first_at by s (declares p.name)
+    → b ≡ refused_first by (decls_spots s (body_names p.decls) p.decls)
     → behind ≡ after_decls s p.decls
-    → i ≡ met by (body_spots behind 1 p.body)
-    → k ≡ met by (counted_spots s p)
-    → ab ≡ sooner a b → abi ≡ sooner ab i → r ≡ sooner abi k → r ≡ met by (spots p)
+    → i ≡ refused_first by (body_spots behind 1 p.body)
+    → k ≡ refused_first by (counted_spots s p)
+    → ab ≡ sooner a b → abi ≡ sooner ab i → r ≡ sooner abi k → r ≡ refused_first by (spots p)
 program_met by s behind p a b i k ab abi r same is_a is_b is_behind is_i is_k is_ab is_abi is =
     let first = spot s (declares p.name) ∷ decls_spots s (body_names p.decls) p.decls in
     let body = body_spots (after_decls s p.decls) 1 p.body in
@@ -40,9 +40,9 @@ program_met by s behind p a b i k ab abi r same is_a is_b is_behind is_i is_k is
     (is_abi
     ∙ joined by first body ab i
     (is_ab ∙ before by s (declares p.name) (decls_spots s (body_names p.decls) p.decls) a b is_a is_b)
-    (is_i ∙ ap (λ x. met by (body_spots x 1 p.body)) is_behind))
+    (is_i ∙ ap (λ x. refused_first by (body_spots x 1 p.body)) is_behind))
     is_k
-    ∙ ap (λ (x : Surrounding). met by ((spot x (declares p.name) ∷ decls_spots x (body_names p.decls) p.decls) ++ body_spots (after_decls x p.decls) 1 p.body ++ counted_spots x p)) same
+    ∙ ap (λ (x : Surrounding). refused_first by ((spot x (declares p.name) ∷ decls_spots x (body_names p.decls) p.decls) ++ body_spots (after_decls x p.decls) 1 p.body ++ counted_spots x p)) same
 
 -- the types stay the same
 pub types_stay : (s behind now : Surrounding) (p : PProgram) → behind ≡ after_decls s p.decls → now ≡ behind → now.types ≡ s.types

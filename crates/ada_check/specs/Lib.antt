@@ -1,3 +1,3 @@
 pub mod Telling
 pub mod Verdicts
-pub mod Bodies
+pub mod inner

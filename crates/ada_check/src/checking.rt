@@ -2,12 +2,11 @@
 
 ghost use Rattle.std.specs.Prelude.{◌≡◌, IfOk, OnOk, IfErr};
 ghost use Rattle.ada_tree.specs.PlainProgram.{plain_program};
-ghost use Rattle.ada_tree.specs.WellPlaced.{HasTokens};
 ghost use Rattle.ada_tree.specs.Refusals.{MeetsTypeRules, types_in};
 ghost use Rattle.syn_event.specs.Surrounding.{Surrounding};
 ghost use Rattle.syn_event.specs.Spots.{spots, around_program, counted_spots};
-ghost use Rattle.syn_event.specs.LegalProgram.{IsLegal};
-ghost use Rattle.ada_rules.specs.Met.{met};
+ghost use Rattle.syn_event.specs.Legal.{Legal};
+ghost use Rattle.ada_rules.specs.RefusedFirst.{refused_first};
 ghost use Rattle.ada_check.specs.Verdicts.{IsWalkedProgram, TellsWhy};
 
 use crate::declarations::walk_decls;
@@ -45,7 +44,7 @@ fn refuse_counts(
     types: &Types,
     p: &Program,
 ) -> Result<Option<Refusal>, AllocError>
-    ensures { (around : Surrounding) → around.types ≡ types.now → IfOk result (λ r. r ≡ met by.now (counted_spots around (plain_program p.now))) }
+    ensures { (around : Surrounding) → around.types ≡ types.now → IfOk result (λ r. r ≡ refused_first by.now (counted_spots around (plain_program p.now))) }
 {
     let found = parts_of(alloc, p)?;
     let parts = found.as_slice();
@@ -63,7 +62,7 @@ fn walk_program(
     p: &Program,
 ) -> Result<Option<Refusal>, AllocError>
     requires { around.old ≡ around_program (plain_program p.now) }
-    ensures told { IfOk result (λ r. r ≡ met by.now (spots (plain_program p.now))) }
+    ensures told { IfOk result (λ r. r ≡ refused_first by.now (spots (plain_program p.now))) }
     ensures types { OnOk result (around.new.types ≡ around.old.types) }
 {
     let counted = refuse_counts(alloc, by, around.types(), p)?;
@@ -89,10 +88,9 @@ fn walk(alloc: Global, types: Types, p: &Program, mode: Mode) -> Result<WalkedPr
 
 // A program that meets the first twelve rules and has these types.
 fn check_on(alloc: Global, types: Types, p: &Program, mode: Mode) -> Result<Checked, CheckError>
-    requires tokens { HasTokens (plain_program p.now) }
     requires types { types ≡ types_in (plain_program p.now) }
     requires rules { MeetsTypeRules (plain_program p.now) }
-    ensures ok { IfOk result (λ c. IsLegal (plain_program p.now) c.types c.numbers mode) }
+    ensures ok { IfOk result (λ c. Legal (plain_program p.now) c.types c.numbers mode) }
     ensures err { IfErr result (TellsWhy (plain_program p.now) mode) }
 {
     match walk(alloc, types, p, mode) {
@@ -107,10 +105,9 @@ fn check_on(alloc: Global, types: Types, p: &Program, mode: Mode) -> Result<Chec
     }
 }
 
-/// Whether a program, each of whose names, numbers and strings the source can hold, meets all static rules, by a mode. Its types and the numbers of its tasks and entries are handed out where it does. Otherwise the error tells the first refusal: by the first twelve rules where one of these refuses something, and else by the others. `Memory` alone may stand for every answer.
+/// Whether a program meets all static rules, by a mode. It asks nothing of the program. Its types and the numbers of its tasks and entries are handed out where it does. Otherwise the error tells the first refusal: by the first twelve rules where one of these refuses something, and else by the others. `Memory` alone may stand for every answer.
 pub fn check(alloc: Global, p: &Program, mode: Mode) -> Result<Checked, CheckError>
-    requires { HasTokens (plain_program p.now) }
-    ensures ok { IfOk result (λ c. IsLegal (plain_program p.now) c.types c.numbers mode) }
+    ensures ok { IfOk result (λ c. Legal (plain_program p.now) c.types c.numbers mode) }
     ensures err { IfErr result (TellsWhy (plain_program p.now) mode) }
 {
     match types_of(alloc, p) {

@@ -5,9 +5,9 @@ ghost use Rattle.std.specs.Prelude.{◌≡◌, None, map, OnOk, IfOk};
 ghost use Rattle.ada_tree.specs.PlainDecl.{plain_decl, decls_of};
 ghost use Rattle.ada_tree.specs.PlainStmt.{plain_body};
 ghost use Rattle.syn_event.specs.Spots.{after_decl, after_decls, decl_spots, decls_spots, body_names};
-ghost use Rattle.ada_rules.specs.Met.{met};
+ghost use Rattle.ada_rules.specs.RefusedFirst.{refused_first};
 ghost use Rattle.ada_declaration_places.specs.Places.{numbers_in};
-ghost use Rattle.ada_check.specs.Bodies.{task_body_spots, body_part, with_body};
+ghost use Rattle.ada_check.specs.inner.TaskBodies.{task_body_spots, body_part, with_body};
 
 use ada_declaration_places::{declare, walk_own, walk_places};
 use ada_rules::{Refusal, Standard, first};
@@ -26,7 +26,7 @@ fn walk_task_body(
 ) -> Result<Option<Refusal>, AllocError>
     requires { around.old.own ≡ None }
     ensures kept { OnOk result (around.new ≡ around.old) }
-    ensures told { IfOk result (λ r. r ≡ met by.now (task_body_spots around.old name (decls_of (map plain_decl objects.now)) (plain_body body.now))) }
+    ensures told { IfOk result (λ r. r ≡ refused_first by.now (task_body_spots around.old name (decls_of (map plain_decl objects.now)) (plain_body body.now))) }
 {
     let outer = around.enter_body(name)?;
     let own = walk_own(around, by, objects)?;
@@ -43,7 +43,7 @@ fn walk_if_body(
 ) -> Result<Option<Refusal>, AllocError>
     requires { around.old.own ≡ None }
     ensures kept { OnOk result (around.new ≡ around.old) }
-    ensures told { IfOk result (λ r. r ≡ met by.now (body_part around.old (plain_decl decl.now))) }
+    ensures told { IfOk result (λ r. r ≡ refused_first by.now (body_part around.old (plain_decl decl.now))) }
 {
     match &decl.kind {
         DeclKind::TaskBody {
@@ -75,7 +75,7 @@ fn walk_decl(
     decl: &Decl,
 ) -> Result<Option<Refusal>, AllocError>
     requires { around.old.own ≡ None }
-    ensures told { IfOk result (λ r. r ≡ met by.now (decl_spots around.old (numbers_in bodies.now) (plain_decl decl.now))) }
+    ensures told { IfOk result (λ r. r ≡ refused_first by.now (decl_spots around.old (numbers_in bodies.now) (plain_decl decl.now))) }
     ensures after { OnOk result (around.new ≡ after_decl around.old (plain_decl decl.now)) }
 {
     let places = walk_places(around, by, bodies, decl)?;
@@ -116,7 +116,7 @@ fn walk_all(
     decls: &[Decl],
 ) -> Result<Option<Refusal>, AllocError>
     requires { around.old.own ≡ None }
-    ensures told { IfOk result (λ r. r ≡ met by.now (decls_spots around.old (numbers_in bodies.now) (decls_of (map plain_decl decls.now)))) }
+    ensures told { IfOk result (λ r. r ≡ refused_first by.now (decls_spots around.old (numbers_in bodies.now) (decls_of (map plain_decl decls.now)))) }
     ensures after { OnOk result (around.new ≡ after_decls around.old (decls_of (map plain_decl decls.now))) }
 {
     let mut refusal = None;
@@ -135,7 +135,7 @@ pub(crate) fn walk_decls(
     decls: &[Decl],
 ) -> Result<Option<Refusal>, AllocError>
     requires { around.old.own ≡ None }
-    ensures told { IfOk result (λ r. r ≡ met by.now (decls_spots around.old (body_names (decls_of (map plain_decl decls.now))) (decls_of (map plain_decl decls.now)))) }
+    ensures told { IfOk result (λ r. r ≡ refused_first by.now (decls_spots around.old (body_names (decls_of (map plain_decl decls.now))) (decls_of (map plain_decl decls.now)))) }
     ensures after { OnOk result (around.new ≡ after_decls around.old (decls_of (map plain_decl decls.now))) }
 {
     let bodies = body_names(alloc, decls)?;

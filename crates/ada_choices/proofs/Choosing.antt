@@ -3,6 +3,7 @@ use Rattle.std.specs.Prelude.{◌≡◌, ◌↔◌, ◌⊎◌, ℕ, zero, suc, �
 use Rattle.std.specs.List.{list_any, list_all}
 use Rattle.std.proofs.Common.{sym, ap, ◌∙◌, subst, inl, inr, ⊎_elim, arith, get_or, ◌<◌, ◌≤◌, ◌+◌}
 use Rattle.std.proofs.lemmas.Int.{ints, by_lt_z}
+use Rattle.std.proofs.lemmas.Bool.{and_from as both_true, and_parts, or_cases, or_left, or_right}
 use Rattle.std.proofs.lemmas.Bool.Decides.{nat_tests}
 use Rattle.std.proofs.lemmas.List.{map_more, append-nil, take_all}
 use Rattle.std.proofs.Common.{append_assoc}
@@ -19,9 +20,9 @@ use Rattle.ada_tree.specs.Demand.{must_lie_in, must_not_be_empty, chooses}
 use Rattle.ada_tree.specs.RuleChoiceBad.{selected_range, bad_choices, left_out, leaves_out, no_choice_refused, choice_range, choice_span, with_range, overlaps_one, overlapping, do_overlap, is_good, integers_from, how_many, values_of, is_covered}
 use Rattle.ada_tree.specs.Sites.{site, static_of, choices_of}
 use Rattle.ada_refusals.specs.Sooner.{sooner, found, least_of}
-use Rattle.ada_refusals.specs.Met.{met, met_at}
+use Rattle.ada_refusals.specs.RefusedFirst.{refused_first, refused_first_at}
 use Rattle.ada_choices.specs.Covers.{first_of, Covers, Reaches, IsFree}
-use Rattle.ada_choices.specs.Chosen.{AreChosen, Shows, contains, seen_after, bound_sites}
+use Rattle.ada_choices.specs.inner.Chosen.{AreChosen, Shows, contains, seen_after, bound_sites}
 use Rattle.ada_choices.specs.declared.choices.Chosen.{Chosen}
 use Rattle.ada_refusals.proofs.SoonerLaws.{sooner_assoc, sooner_none, found_append}
 use Rattle.ada_refusals.proofs.Meeting.{met_append, met_cons, met_one}
@@ -34,28 +35,11 @@ le_true a b h = grind (arith, ints)
 true_le : (a b : ℤ) → int_le a b ≡ true → a ≤ℤ b
 true_le a b h = grind (arith, ints)
 
-both_true : (p q : Bool) → p ≡ true → q ≡ true → (p && q) ≡ true
-both_true p q g h = cc
-
 left_true : (p q : Bool) → (p && q) ≡ true → p ≡ true
-left_true true q h = refl
-left_true false q h = h
+left_true p q h = (and_parts p q h).0
 
 right_true : (p q : Bool) → (p && q) ≡ true → q ≡ true
-right_true true q h = h
-right_true false q h = absurd (cc)
-
-or_cases : (p q : Bool) → (p || q) ≡ true → (p ≡ true) ⊎ (q ≡ true)
-or_cases true q h = inl refl
-or_cases false q h = inr h
-
-or_left : (p q : Bool) → p ≡ true → (p || q) ≡ true
-or_left true q h = refl
-or_left false q h = absurd (cc)
-
-or_right : (p q : Bool) → q ≡ true → (p || q) ≡ true
-or_right true q h = refl
-or_right false q h = h
+right_true p q h = (and_parts p q h).1
 
 -- a test is what it decides
 decided : {P : Type 0} (p q : Bool) → (p ≡ true → P) → (P → p ≡ true) → (q ≡ true → P) → (P → q ≡ true) → p ≡ q
@@ -313,21 +297,21 @@ none_found n (x ∷ xs) = some_least record { rule = n; span = x } (least_of (by
 
 -- ---- the places of a choice
 
-pub two_bounds : (scope : Scope) (k : Option ℕ) (range : Option Range) (a b : PExpr) (low high empty : Option Refusal) → low ≡ met (bound_sites scope k range a) → high ≡ met (bound_sites scope k range b) → empty ≡ met_at scope (must_not_be_empty a b)
-    → sooner low (sooner high empty) ≡ met (static_of scope k a ++ site scope (must_lie_in a range) ∷ (static_of scope k b ++ site scope (must_lie_in b range) ∷ site scope (must_not_be_empty a b) ∷ []))
+pub two_bounds : (scope : Scope) (k : Option ℕ) (range : Option Range) (a b : PExpr) (low high empty : Option Refusal) → low ≡ refused_first (bound_sites scope k range a) → high ≡ refused_first (bound_sites scope k range b) → empty ≡ refused_first_at scope (must_not_be_empty a b)
+    → sooner low (sooner high empty) ≡ refused_first (static_of scope k a ++ site scope (must_lie_in a range) ∷ (static_of scope k b ++ site scope (must_lie_in b range) ∷ site scope (must_not_be_empty a b) ∷ []))
 two_bounds scope k range a b low high empty p q r =
-    ap (λ x. sooner x (sooner high empty)) (p ∙ met_append (static_of scope k a) (site scope (must_lie_in a range) ∷ []) ∙ ap (sooner (met (static_of scope k a))) (met_one scope (must_lie_in a range)))
-    ∙ sooner_assoc (met (static_of scope k a)) (met_at scope (must_lie_in a range)) (sooner high empty)
-    ∙ ap (λ x. sooner (met (static_of scope k a)) (sooner (met_at scope (must_lie_in a range)) x)) behind
-    ∙ ap (sooner (met (static_of scope k a))) (sym (met_cons scope (must_lie_in a range) (static_of scope k b ++ site scope (must_lie_in b range) ∷ site scope (must_not_be_empty a b) ∷ [])))
+    ap (λ x. sooner x (sooner high empty)) (p ∙ met_append (static_of scope k a) (site scope (must_lie_in a range) ∷ []) ∙ ap (sooner (refused_first (static_of scope k a))) (met_one scope (must_lie_in a range)))
+    ∙ sooner_assoc (refused_first (static_of scope k a)) (refused_first_at scope (must_lie_in a range)) (sooner high empty)
+    ∙ ap (λ x. sooner (refused_first (static_of scope k a)) (sooner (refused_first_at scope (must_lie_in a range)) x)) behind
+    ∙ ap (sooner (refused_first (static_of scope k a))) (sym (met_cons scope (must_lie_in a range) (static_of scope k b ++ site scope (must_lie_in b range) ∷ site scope (must_not_be_empty a b) ∷ [])))
     ∙ sym (met_append (static_of scope k a) (site scope (must_lie_in a range) ∷ (static_of scope k b ++ site scope (must_lie_in b range) ∷ site scope (must_not_be_empty a b) ∷ [])))
   where
-    behind : sooner high empty ≡ met (static_of scope k b ++ site scope (must_lie_in b range) ∷ site scope (must_not_be_empty a b) ∷ [])
+    behind : sooner high empty ≡ refused_first (static_of scope k b ++ site scope (must_lie_in b range) ∷ site scope (must_not_be_empty a b) ∷ [])
     behind =
-        ap (λ x. sooner x empty) (q ∙ met_append (static_of scope k b) (site scope (must_lie_in b range) ∷ []) ∙ ap (sooner (met (static_of scope k b))) (met_one scope (must_lie_in b range)))
-        ∙ sooner_assoc (met (static_of scope k b)) (met_at scope (must_lie_in b range)) empty
-        ∙ ap (λ x. sooner (met (static_of scope k b)) (sooner (met_at scope (must_lie_in b range)) x)) (r ∙ sym (met_one scope (must_not_be_empty a b)))
-        ∙ ap (sooner (met (static_of scope k b))) (sym (met_cons scope (must_lie_in b range) (site scope (must_not_be_empty a b) ∷ [])))
+        ap (λ x. sooner x empty) (q ∙ met_append (static_of scope k b) (site scope (must_lie_in b range) ∷ []) ∙ ap (sooner (refused_first (static_of scope k b))) (met_one scope (must_lie_in b range)))
+        ∙ sooner_assoc (refused_first (static_of scope k b)) (refused_first_at scope (must_lie_in b range)) empty
+        ∙ ap (λ x. sooner (refused_first (static_of scope k b)) (sooner (refused_first_at scope (must_lie_in b range)) x)) (r ∙ sym (met_one scope (must_not_be_empty a b)))
+        ∙ ap (sooner (refused_first (static_of scope k b))) (sym (met_cons scope (must_lie_in b range) (site scope (must_not_be_empty a b) ∷ [])))
         ∙ sym (met_append (static_of scope k b) (site scope (must_lie_in b range) ∷ site scope (must_not_be_empty a b) ∷ []))
 
 -- ---- the turns of the loops
@@ -387,7 +371,7 @@ left_is scope k values choices chosen r h other good free is =
 
 pub case_met : (scope : Scope) (e : PExpr) (k : ℕ) (choices : List PChoice) (others : Bool) (span : Span) (kind : Option ℕ) (all left : Option Refusal) → kind ≡ kind_of scope e → kind ≡ Some k
     → all ≡ found 9 (overlapping scope k [] choices) → left ≡ found 9 (if not others && left_out scope k (selected_range scope e) choices then span ∷ [] else [])
-    → sooner all left ≡ met_at scope (chooses e choices others span)
+    → sooner all left ≡ refused_first_at scope (chooses e choices others span)
 case_met scope e k choices others span kind all left is some p q =
     ap (λ x. sooner x left) p
     ∙ ap (sooner (found 9 (overlapping scope k [] choices))) q
@@ -395,7 +379,7 @@ case_met scope e k choices others span kind all left is some p q =
     ∙ ap (λ x. found 9 (bad_choices scope x e choices others span)) (sym some ∙ is)
     ∙ sym (sooner_none (found 9 (bad_choices scope (kind_of scope e) e choices others span)))
 
-pub case_unmet : (scope : Scope) (e : PExpr) (choices : List PChoice) (others : Bool) (span : Span) (kind : Option ℕ) → kind ≡ kind_of scope e → kind ≡ None → None ≡ met_at scope (chooses e choices others span)
+pub case_unmet : (scope : Scope) (e : PExpr) (choices : List PChoice) (others : Bool) (span : Span) (kind : Option ℕ) → kind ≡ kind_of scope e → kind ≡ None → None ≡ refused_first_at scope (chooses e choices others span)
 case_unmet scope e choices others span kind is none =
     ap (λ x. found 9 (bad_choices scope x e choices others span)) (sym none ∙ is)
     ∙ sym (sooner_none (found 9 (bad_choices scope (kind_of scope e) e choices others span)))

@@ -1,2 +1,2 @@
-pub mod Chosen
 pub mod Covers
+pub mod inner

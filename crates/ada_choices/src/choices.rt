@@ -10,10 +10,10 @@ ghost use Rattle.ada_tree.specs.Demand.{chooses};
 ghost use Rattle.ada_tree.specs.RuleChoiceBad.{selected_range, mark_of_object, range_of_kind, choice_range, choice_span, with_range, overlaps_one, is_good, left_out, values_of};
 ghost use Rattle.ada_tree.specs.Sites.{choice_sites, choices_of};
 ghost use Rattle.ada_refusals.specs.Sooner.{found};
-ghost use Rattle.ada_refusals.specs.Met.{met, met_at};
+ghost use Rattle.ada_refusals.specs.RefusedFirst.{refused_first, refused_first_at};
 ghost use Rattle.ada_scopes.specs.Entries.{plain_range};
 ghost use Rattle.ada_choices.specs.Covers.{Covers};
-ghost use Rattle.ada_choices.specs.Chosen.{AreChosen, Shows, bound_sites};
+ghost use Rattle.ada_choices.specs.inner.Chosen.{AreChosen, Shows, bound_sites};
 ghost use Rattle.ada_expr_rules.specs.Walked.{IsWalked};
 
 use crate::covered::Covered;
@@ -21,9 +21,9 @@ use ada_expr_rules::kinds::INTEGER;
 use ada_expr_rules::ranges::{refuse_empty, refuse_outside};
 use ada_expr_rules::walking::{Walked, place, walk, walk_static};
 use ada_refusals::refusals::{Refusal, Rule, first, refuse_if};
+use ada_scopes::denotations::{Range, Thing};
 use ada_scopes::readings::{Reading, read};
 use ada_scopes::scope::Scope;
-use ada_scopes::things::{Range, Thing};
 use ada_tree::{CaseArm, CaseChoice, Expr, ExprKind, Kind, Span};
 use std::alloc::{AllocError, Global};
 
@@ -133,7 +133,7 @@ fn walk_choice(
     values: Option<Range>,
     choice: &CaseChoice,
 ) -> Option<Refusal>
-    ensures { result ≡ met (choice_sites scope.now kind (option_map plain_range values) (plain_choice choice.now)) }
+    ensures { result ≡ refused_first (choice_sites scope.now kind (option_map plain_range values) (plain_choice choice.now)) }
 {
     let low = walk_value(scope, kind, values, &choice.first);
     match &choice.last {
@@ -154,7 +154,7 @@ pub fn walk_choices(
     values: Option<Range>,
     choices: &[CaseChoice],
 ) -> Option<Refusal>
-    ensures { result ≡ met (flat_map (choice_sites scope.now kind (option_map plain_range values)) (map plain_choice choices.now)) }
+    ensures { result ≡ refused_first (flat_map (choice_sites scope.now kind (option_map plain_range values)) (map plain_choice choices.now)) }
 {
     let mut refusal = None;
     for choice in choices {
@@ -388,7 +388,7 @@ pub fn refuse_choices(
     others: bool,
     span: Span,
 ) -> Result<Option<Refusal>, AllocError>
-    ensures { IfOk result (λ r. r ≡ met_at scope.now (chooses (plain_expr selector.now) (choices_of (case_arms_of (map plain_case_arm arms.now))) others span)) }
+    ensures { IfOk result (λ r. r ≡ refused_first_at scope.now (chooses (plain_expr selector.now) (choices_of (case_arms_of (map plain_case_arm arms.now))) others span)) }
 {
     let walked = walk(scope, selector);
     match walked.kind {

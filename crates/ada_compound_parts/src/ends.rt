@@ -12,6 +12,7 @@ ghost use Rattle.ada_compound_parts.specs.ReadingParts as parts;
 use ada_expr_parser::{Item, ParseError, Symbol, expect};
 use ada_phrase_parser::{expect_again, from_to};
 use ada_tree::{Arm, Body, CaseArm, Expr, Scheme, Span, Stmt, StmtKind, Word};
+use joined_parts::with;
 
 /// Behind the last part of an `if`: its end.
 #[tactic(auto, using(crate::proofs::Steps::steps, ada_tree::proofs::Rows::rows))]
@@ -49,9 +50,9 @@ pub fn case_end<'a>(
     ensures tree { Gives (λ x. plain_stmt x.0) (λ x. x.1.now) result (reading.key_then key.End (reading.key_then key.Case (reading.closed (λ close. SCase (plain_expr selector) (case_arms_of (map plain_case_arm arms.items)) (parts.maybe (option_map (λ v. seen v.items) others)) (from_to lead close)))) items.now) }
     ensures shorter { IfOk result (λ x. length x.1.now < length items.now) }
 {
-    let (_, rest) = expect(Symbol::End, items)?;
-    let (_, rest) = expect(Symbol::Case, rest)?;
-    let (close, rest) = expect(Symbol::Semicolon, rest)?;
+    let (selector, (_, rest)) = with(selector, expect(Symbol::End, items))?;
+    let (selector, (_, rest)) = with(selector, expect(Symbol::Case, rest))?;
+    let (selector, (close, rest)) = with(selector, expect(Symbol::Semicolon, rest))?;
     let span = from_to(lead, close);
     Ok((
         Stmt {
@@ -98,7 +99,7 @@ fn loop_name<'a>(
     match name {
         None => loop_close(name, lead, scheme, stmts, items),
         Some(word) => {
-            let rest = expect_again(word, items)?;
+            let (scheme, rest) = with(scheme, expect_again(word, items))?;
             loop_close(name, lead, scheme, stmts, rest)
         }
     }
@@ -116,7 +117,7 @@ fn loop_close<'a>(
     ensures tree { Gives (λ x. plain_stmt x.0) (λ x. x.1.now) result (reading.closed (λ close. SLoop name (option_map plain_scheme scheme) (seen stmts.items) (from_to lead close)) items.now) }
     ensures shorter { IfOk result (λ x. length x.1.now < length items.now) }
 {
-    let (close, rest) = expect(Symbol::Semicolon, items)?;
+    let (scheme, (close, rest)) = with(scheme, expect(Symbol::Semicolon, items))?;
     let span = from_to(lead, close);
     Ok((
         Stmt {

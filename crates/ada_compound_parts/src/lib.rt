@@ -6,12 +6,14 @@ mod accepts;
 mod choices;
 mod ends;
 mod handlers;
+mod heads;
 mod places;
 mod waits;
 
-pub use accepts::{accept_close, accept_end};
+pub use accepts::read_end_of;
 pub use choices::read_choices;
 pub use ends::{block_end, case_end, if_end, loop_end};
 pub use handlers::add_others;
+pub use heads::{begins_loop, begins_stmt, loop_scheme, read_guard, terminate_kind};
 pub use places::last_span;
-pub use waits::{conditional_end, first_of_alt, terminate_alt, timed_end, wait_end};
+pub use waits::{end_select, first_of_alt, or_delay, selected, selected_call, wait_end};

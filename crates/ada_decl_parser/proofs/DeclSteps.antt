@@ -8,8 +8,8 @@ use Rattle.ada_lexer.specs.declared.symbols.Symbol.{Symbol}
 use Rattle.ada_expr_parser.specs.declared.items.Item.{Item}
 use Rattle.ada_expr_parser.specs.Tests.{word}
 use Rattle.ada_phrase_parser.specs.Reading.{key_then, more_behind, separated}
-use Rattle.ada_decl_parser.specs.ReadingDeclarations.{names_behind, object_rest, named_rest, number_or_constant}
-use Rattle.ada_decl_parser.specs.DeclViews.{with_names, object_of, named_of, constant_of, number_of}
+use Rattle.ada_decl_parser.specs.inner.ReadingDeclarations.{names_behind, object_rest, named_rest, number_or_constant}
+use Rattle.ada_decl_parser.specs.inner.DeclViews.{with_names, object_of, named_of, constant_of, number_of}
 
 through_answer : {A B C : Type 0} (r : Answer Item A) (f : A → Reader Item B) (g : B → Reader Item C) (h : A → Reader Item C) → ((a : A) (ts : List Item) → h a ts ≡ go_on (f a ts) g) → go_on r h ≡ go_on (go_on r f) g
 through_answer (Found a rest) f g h each = each a rest

@@ -1,2 +1,1 @@
-pub mod DeclViews
-pub mod ReadingDeclarations
+pub mod inner

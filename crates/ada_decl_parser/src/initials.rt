@@ -11,7 +11,7 @@ ghost use Rattle.ada_expr_parser.specs.Trees.{levels, in_parens};
 ghost use Rattle.ada_expr_parser.specs.Parts as parts;
 ghost use Rattle.ada_expr_parser.specs.Gives.{Gives};
 ghost use Rattle.ada_phrase_parser.specs.Reading as reading;
-ghost use Rattle.ada_decl_parser.specs.ReadingDeclarations as declarations;
+ghost use Rattle.ada_decl_parser.specs.inner.ReadingDeclarations as declarations;
 
 use ada_expr_parser::{
     Item, ParseError, Symbol, expect, read_behind, read_drange, read_expr, read_subind, symbol_in,

@@ -10,8 +10,8 @@ ghost use Rattle.ada_expr_parser.specs.Tests as tests;
 ghost use Rattle.ada_expr_parser.specs.Trees.{from_to};
 ghost use Rattle.ada_expr_parser.specs.Gives.{Gives};
 ghost use Rattle.ada_phrase_parser.specs.Reading as reading;
-ghost use Rattle.ada_decl_parser.specs.ReadingDeclarations as declarations;
-ghost use Rattle.ada_decl_parser.specs.DeclViews as views;
+ghost use Rattle.ada_decl_parser.specs.inner.ReadingDeclarations as declarations;
+ghost use Rattle.ada_decl_parser.specs.inner.DeclViews as views;
 
 use crate::initials::{read_init, read_shape};
 use ada_expr_parser::{Item, ParseError, Symbol, expect, read_expr};

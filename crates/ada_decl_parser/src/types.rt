@@ -9,7 +9,7 @@ ghost use Rattle.ada_expr_parser.specs.Tests as tests;
 ghost use Rattle.ada_expr_parser.specs.Trees.{from_to};
 ghost use Rattle.ada_expr_parser.specs.Gives.{Gives};
 ghost use Rattle.ada_phrase_parser.specs.Reading as reading;
-ghost use Rattle.ada_decl_parser.specs.ReadingDeclarations as declarations;
+ghost use Rattle.ada_decl_parser.specs.inner.ReadingDeclarations as declarations;
 
 use ada_expr_parser::{Item, ParseError, Symbol, expect, read_drange, read_subind};
 use ada_phrase_parser::{expect_id, from_to, is_id, is_symbol, read_words};

@@ -18,7 +18,7 @@ use Rattle.syn_event.specs.Spots.{spot, with_meant, with_value, with_object, mea
 use Rattle.ada_rules.specs.Sooner.{sooner, found}
 use Rattle.ada_rules.specs.Rules.{refused}
 use Rattle.ada_rules.specs.declared.refusals.Rule.TheVariants.{BodyMissing}
-use Rattle.ada_rules.specs.Met.{Standard, met_at, met}
+use Rattle.ada_rules.specs.RefusedFirst.{Standard, refused_first_at, refused_first}
 use Rattle.ada_surroundings.specs.Nested.{IsWithin}
 use Rattle.ada_declaration_places.specs.Places.{numbers_in}
 use Rattle.ada_rules.proofs.Meeting.{at_needs, met_one, met_append, joined, before}
@@ -42,15 +42,15 @@ flipped : (b : Bool) (s : Span) → refused BodyMissing (if not b then s ∷ [] 
 flipped true s = refl
 flipped false s = refl
 
-pub bodiless : (by : Standard) (around : Surrounding) (names : List NameId) (w : Word) (s : Span) (b : Bool) → b ≡ is_among names w.name → refused BodyMissing (if not b then s ∷ [] else []) ≡ met_at by around (needs_body (numbers_in names) w s)
+pub bodiless : (by : Standard) (around : Surrounding) (names : List NameId) (w : Word) (s : Span) (b : Bool) → b ≡ is_among names w.name → refused BodyMissing (if not b then s ∷ [] else []) ≡ refused_first_at by around (needs_body (numbers_in names) w s)
 bodiless by around names w s b h =
     ap (λ (t : Bool). refused BodyMissing (if not t then s ∷ [] else [])) (h ∙ sym (among_numbers names w.name))
     ∙ flipped (list_any (λ n. n == w.name.0) (numbers_in names)) s
     ∙ sym (at_needs by around (numbers_in names) w s)
 
 -- a task: its body, its name, its entries and its priorities
-pub task_met : (by : Standard) (s : Surrounding) (one two : Asked) (xs ys : List Spot) (m n e p a b r : Option CheckRefusal) → m ≡ met_at by s one → n ≡ met_at by s two → e ≡ met by xs → p ≡ met by ys
-    → a ≡ sooner m n → b ≡ sooner a e → r ≡ sooner b p → r ≡ met by (spot s one ∷ spot s two ∷ (xs ++ ys))
+pub task_met : (by : Standard) (s : Surrounding) (one two : Asked) (xs ys : List Spot) (m n e p a b r : Option CheckRefusal) → m ≡ refused_first_at by s one → n ≡ refused_first_at by s two → e ≡ refused_first by xs → p ≡ refused_first by ys
+    → a ≡ sooner m n → b ≡ sooner a e → r ≡ sooner b p → r ≡ refused_first by (spot s one ∷ spot s two ∷ (xs ++ ys))
 task_met by s one two xs ys m n e p a b r is_m is_n is_e is_p is_a is_b is =
     is
     ∙ joined by (spot s one ∷ spot s two ∷ xs) ys b p
@@ -161,24 +161,24 @@ left_body s now new w ds count own is_count same left =
 module _ (by : Standard) (spots : Surrounding → PDecl → List Spot) (after : Surrounding → PDecl → Surrounding) (all_spots : Surrounding → PDecls → List Spot)
     (none : (s : Surrounding) → all_spots s no_decl ≡ []) (next : (s : Surrounding) (d : PDecl) (rest : PDecls) → all_spots s (decl_then d rest) ≡ spots s d ++ all_spots (after s d) rest) where
   pub decl_more : (xs : List Decl) (i : ℕ) (x : Decl) (s now : Surrounding) (a b c all : Option CheckRefusal) → drop i xs ≡ x ∷ drop (i + 1) xs
-      → sooner a (met by (all_spots s (decls_of (map plain_decl (drop i xs))))) ≡ all
-      → b ≡ met by (spots s (plain_decl x))
+      → sooner a (refused_first by (all_spots s (decls_of (map plain_decl (drop i xs))))) ≡ all
+      → b ≡ refused_first by (spots s (plain_decl x))
       → now ≡ after s (plain_decl x)
       → c ≡ sooner a b
-      → sooner c (met by (all_spots now (decls_of (map plain_decl (drop (i + 1) xs))))) ≡ all
+      → sooner c (refused_first by (all_spots now (decls_of (map plain_decl (drop (i + 1) xs))))) ≡ all
   decl_more xs i x s now a b c all is_cut told here is_now is_c =
       let rest = decls_of (map plain_decl (drop (i + 1) xs)) in
-      ap (λ z. sooner c (met by (all_spots z rest))) is_now
-      ∙ ap (λ o. sooner o (met by (all_spots (after s (plain_decl x)) rest))) is_c
-      ∙ gone a b all (met by (all_spots (after s (plain_decl x)) rest)) (met by (all_spots s (decls_of (map plain_decl (drop i xs)))))
-      (ap (λ (ys : List Decl). met by (all_spots s (decls_of (map plain_decl ys)))) is_cut
-      ∙ ap (met by) (next s (plain_decl x) rest)
+      ap (λ z. sooner c (refused_first by (all_spots z rest))) is_now
+      ∙ ap (λ o. sooner o (refused_first by (all_spots (after s (plain_decl x)) rest))) is_c
+      ∙ gone a b all (refused_first by (all_spots (after s (plain_decl x)) rest)) (refused_first by (all_spots s (decls_of (map plain_decl (drop i xs)))))
+      (ap (λ (ys : List Decl). refused_first by (all_spots s (decls_of (map plain_decl ys)))) is_cut
+      ∙ ap (refused_first by) (next s (plain_decl x) rest)
       ∙ met_append by (spots s (plain_decl x)) (all_spots (after s (plain_decl x)) rest)
-      ∙ ap (λ o. sooner o (met by (all_spots (after s (plain_decl x)) rest))) (sym here))
+      ∙ ap (λ o. sooner o (refused_first by (all_spots (after s (plain_decl x)) rest))) (sym here))
       told
 
   pub decl_end : (xs : List Decl) (i : ℕ) (s : Surrounding) (a all : Option CheckRefusal) → length xs ≤ i
-      → sooner a (met by (all_spots s (decls_of (map plain_decl (drop i xs))))) ≡ all → a ≡ all
+      → sooner a (refused_first by (all_spots s (decls_of (map plain_decl (drop i xs))))) ≡ all → a ≡ all
   decl_end xs i s a all h told = ended by a all (all_spots s (decls_of (map plain_decl (drop i xs)))) (ap (λ (ys : List Decl). all_spots s (decls_of (map plain_decl ys))) (drop_all i xs h) ∙ none s) told
 
 module _ (after : Surrounding → PDecl → Surrounding) (all_after : Surrounding → PDecls → Surrounding)

@@ -7,7 +7,7 @@ ghost use Rattle.ada_tree.specs.PlainDecl.{plain_shape, plain_init};
 ghost use Rattle.syn_event.specs.Extents.{size, range_start};
 ghost use Rattle.syn_event.specs.Surrounding.{counts};
 ghost use Rattle.syn_event.specs.Spots.{if_there, index_spots, shape_spots, init_spots, object_spots};
-ghost use Rattle.ada_rules.specs.Met.{met_at, met};
+ghost use Rattle.ada_rules.specs.RefusedFirst.{refused_first_at, refused_first};
 
 use ada_part_places::{walk_drange, walk_expr, walk_exprs, walk_names, walk_subind};
 use ada_rules::{Refusal, Standard, first};
@@ -24,7 +24,7 @@ pub(crate) fn refuse_size(
     what: What,
     range: &Drange,
 ) -> Option<Refusal>
-    ensures { result ≡ met_at by.now around.now (counts what 0 (size around.now.types (plain_drange range.now)) (range_start (plain_drange range.now))) }
+    ensures { result ≡ refused_first_at by.now around.now (counts what 0 (size around.now.types (plain_drange range.now)) (range_start (plain_drange range.now))) }
 {
     by.refuse_count(what, 0, size(around.types(), range), range_start(range))
 }
@@ -35,7 +35,7 @@ pub(crate) fn walk_index(
     by: &Standard,
     range: &Drange,
 ) -> Result<Option<Refusal>, AllocError>
-    ensures { IfOk result (λ r. r ≡ met by.now (index_spots around.now (plain_drange range.now))) }
+    ensures { IfOk result (λ r. r ≡ refused_first by.now (index_spots around.now (plain_drange range.now))) }
 {
     let many = refuse_size(around, by, What::Components, range);
     Ok(first(many, walk_drange(around, by, 2, range)?))
@@ -47,7 +47,7 @@ fn walk_shape(
     by: &Standard,
     shape: &Shape,
 ) -> Result<Option<Refusal>, AllocError>
-    ensures { IfOk result (λ r. r ≡ met by.now (shape_spots around.now (plain_shape shape.now))) }
+    ensures { IfOk result (λ r. r ≡ refused_first by.now (shape_spots around.now (plain_shape shape.now))) }
 {
     match shape {
         Shape::Plain(subind) => walk_subind(around, by, 2, subind),
@@ -65,7 +65,7 @@ fn walk_init(
     by: &Standard,
     init: &Option<Init>,
 ) -> Result<Option<Refusal>, AllocError>
-    ensures { IfOk result (λ r. r ≡ met by.now (if_there (init_spots around.now) (option_map plain_init init.now))) }
+    ensures { IfOk result (λ r. r ≡ refused_first by.now (if_there (init_spots around.now) (option_map plain_init init.now))) }
 {
     match init {
         Some(init) => match init {
@@ -85,7 +85,7 @@ pub(crate) fn walk_object(
     shape: &Shape,
     init: &Option<Init>,
 ) -> Result<Option<Refusal>, AllocError>
-    ensures { IfOk result (λ r. r ≡ met by.now (object_spots around.now names.now (plain_shape shape.now) (option_map plain_init init.now))) }
+    ensures { IfOk result (λ r. r ≡ refused_first by.now (object_spots around.now names.now (plain_shape shape.now) (option_map plain_init init.now))) }
 {
     let declared = walk_names(by, names);
     let kind = walk_shape(around, by, shape)?;

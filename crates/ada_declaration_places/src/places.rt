@@ -4,7 +4,7 @@
 ghost use Rattle.std.specs.Prelude.{◌≡◌, None, map, OnOk, IfOk};
 ghost use Rattle.ada_tree.specs.PlainDecl.{plain_decl, decls_of};
 ghost use Rattle.syn_event.specs.Spots.{own_object_spots, after_own_object, own_spots, after_own};
-ghost use Rattle.ada_rules.specs.Met.{met};
+ghost use Rattle.ada_rules.specs.RefusedFirst.{refused_first};
 ghost use Rattle.ada_declaration_places.specs.Places.{numbers_in, places_of};
 
 use crate::adding::declare_all;
@@ -23,7 +23,7 @@ fn walk_own_object(
     by: &Standard,
     decl: &Decl,
 ) -> Result<Option<Refusal>, AllocError>
-    ensures told { IfOk result (λ r. r ≡ met by.now (own_object_spots around.old (plain_decl decl.now))) }
+    ensures told { IfOk result (λ r. r ≡ refused_first by.now (own_object_spots around.old (plain_decl decl.now))) }
     ensures after { OnOk result (around.new ≡ after_own_object around.old (plain_decl decl.now)) }
 {
     match &decl.kind {
@@ -55,7 +55,7 @@ pub fn walk_own(
     by: &Standard,
     objects: &[Decl],
 ) -> Result<Option<Refusal>, AllocError>
-    ensures told { IfOk result (λ r. r ≡ met by.now (own_spots around.old (decls_of (map plain_decl objects.now)))) }
+    ensures told { IfOk result (λ r. r ≡ refused_first by.now (own_spots around.old (decls_of (map plain_decl objects.now)))) }
     ensures after { OnOk result (around.new ≡ after_own around.old (decls_of (map plain_decl objects.now))) }
 {
     let mut refusal = None;
@@ -73,7 +73,7 @@ pub fn walk_places(
     bodies: &NameSet,
     decl: &Decl,
 ) -> Result<Option<Refusal>, AllocError>
-    ensures { IfOk result (λ r. r ≡ met by.now (places_of around.now (numbers_in bodies.now) (plain_decl decl.now))) }
+    ensures { IfOk result (λ r. r ≡ refused_first by.now (places_of around.now (numbers_in bodies.now) (plain_decl decl.now))) }
 {
     match &decl.kind {
         DeclKind::Number { name, value } => {

@@ -6,7 +6,7 @@ ghost use Rattle.ada_tree.specs.PlainExpr.{plain_drange};
 ghost use Rattle.ada_tree.specs.PlainDecl.{plain_entry, plain_priority, plain_task};
 ghost use Rattle.syn_event.specs.Surrounding.{Surrounding, needs_body};
 ghost use Rattle.syn_event.specs.Spots.{if_there, expr_spots, family_spots, entry_spots, task_spots};
-ghost use Rattle.ada_rules.specs.Met.{Standard as By, met_at, met};
+ghost use Rattle.ada_rules.specs.RefusedFirst.{Standard as By, refused_first_at, refused_first};
 ghost use Rattle.ada_declaration_places.specs.Places.{numbers_in};
 
 use crate::objects::refuse_size;
@@ -23,7 +23,7 @@ fn walk_family(
     by: &Standard,
     family: &Option<Drange>,
 ) -> Result<Option<Refusal>, AllocError>
-    ensures { IfOk result (λ r. r ≡ met by.now (if_there (family_spots around.now) (option_map plain_drange family.now))) }
+    ensures { IfOk result (λ r. r ≡ refused_first by.now (if_there (family_spots around.now) (option_map plain_drange family.now))) }
 {
     match family {
         Some(range) => {
@@ -40,7 +40,7 @@ fn walk_entry(
     by: &Standard,
     entry: &EntryDecl,
 ) -> Result<Option<Refusal>, AllocError>
-    ensures { IfOk result (λ r. r ≡ met by.now (entry_spots around.now (plain_entry entry.now))) }
+    ensures { IfOk result (λ r. r ≡ refused_first by.now (entry_spots around.now (plain_entry entry.now))) }
 {
     let name = by.refuse_name(entry.name);
     let family = walk_family(around, by, &entry.family)?;
@@ -55,7 +55,7 @@ fn walk_entries(
     by: &Standard,
     entries: &[EntryDecl],
 ) -> Result<Option<Refusal>, AllocError>
-    ensures { IfOk result (λ r. r ≡ met by.now (flat_map (entry_spots around.now) (map plain_entry entries.now))) }
+    ensures { IfOk result (λ r. r ≡ refused_first by.now (flat_map (entry_spots around.now) (map plain_entry entries.now))) }
 {
     let mut refusal = None;
     for entry in entries {
@@ -71,7 +71,7 @@ fn walk_priorities(
     by: &Standard,
     priorities: &[Priority],
 ) -> Result<Option<Refusal>, AllocError>
-    ensures { IfOk result (λ r. r ≡ met by.now (flat_map (λ p. expr_spots around.now 2 p.value) (map plain_priority priorities.now))) }
+    ensures { IfOk result (λ r. r ≡ refused_first by.now (flat_map (λ p. expr_spots around.now 2 p.value) (map plain_priority priorities.now))) }
 {
     let mut refusal = None;
     for priority in priorities {
@@ -83,7 +83,7 @@ fn walk_priorities(
 
 // A task or task type without a body.
 fn refuse_bodiless(bodies: &NameSet, unit: &TaskUnit, span: Span) -> Option<Refusal>
-    ensures { (by : By) → (around : Surrounding) → result ≡ met_at by around (needs_body (numbers_in bodies.now) unit.now.name span) }
+    ensures { (by : By) → (around : Surrounding) → result ≡ refused_first_at by around (needs_body (numbers_in bodies.now) unit.now.name span) }
 {
     refuse_if(!bodies.has(unit.name.name), Rule::BodyMissing, span)
 }
@@ -96,7 +96,7 @@ pub(crate) fn walk_task(
     unit: &TaskUnit,
     span: Span,
 ) -> Result<Option<Refusal>, AllocError>
-    ensures { IfOk result (λ r. r ≡ met by.now (task_spots around.now (numbers_in bodies.now) (plain_task unit.now) span)) }
+    ensures { IfOk result (λ r. r ≡ refused_first by.now (task_spots around.now (numbers_in bodies.now) (plain_task unit.now) span)) }
 {
     let missing = refuse_bodiless(bodies, unit, span);
     let name = by.refuse_name(unit.name);

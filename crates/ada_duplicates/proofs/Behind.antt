@@ -18,11 +18,12 @@ use Rattle.ada_tree.specs.Demand.{declares_entry, for_scalar, for_array, gives_b
 use Rattle.ada_tree.specs.Declaring.{before_all, first_scope, with_name, with_names, inside, in_body, Declared, declared_object, after_own_object, after_objects, after_decl}
 use Rattle.ada_tree.specs.Sites.{site, if_there, expr_sites, static_of, drange_sites, subind_sites, object_marks, component_marks, may_be_task, value_sites, free_value_sites, all_init_sites, array_init_sites, scalar_init_sites, object_marking, init_sites, is_task_object, names_sites, shape_sites, object_sites, entry_sites, entries_sites, formals_sites, task_sites, body_sites, own_object_sites, own_sites, decl_sites, decls_sites, with_words}
 use Rattle.ada_refusals.specs.Repeated.{repeated_from}
-use Rattle.ada_duplicates.specs.Namings.{namings_of, Named, declared, named_once, first_repeated}
-use Rattle.ada_duplicates.specs.Notes.{PlainNotes, no_notes, AreAt, behind, with_declared, is_of_tasks, AreBehind, object_words, of_own}
-use Rattle.ada_duplicates.specs.declared.namings.Naming.{Naming}
-use Rattle.ada_duplicates.specs.declared.namings.Naming.TheVariants.{Once}
-use Rattle.ada_duplicates.proofs.Repeating.{drop_more, repeats_are}
+use Rattle.ada_duplicates.specs.NamingsInOrder.{namings_of, Named, declared, named_once, first_repeated}
+use Rattle.ada_duplicates.specs.NamedSoFar.{PlainNotes, no_notes, AreAt, behind, with_declared, is_of_tasks, AreBehind, object_words, of_own}
+use Rattle.ada_duplicates.specs.declared.namings_in_order.Naming.{Naming}
+use Rattle.ada_duplicates.specs.declared.namings_in_order.Naming.TheVariants.{Once}
+use Rattle.std.proofs.lemmas.List.{drop_more}
+use Rattle.ada_duplicates.proofs.Repeating.{repeats_are}
 use Rattle.ada_duplicates.proofs.Noting.{namings_append, named_then, quiet_none, quiet_one, quiet_append, quiet_there, quiet_flat, quiet_expr, quiet_static, quiet_subind, quiet_drange, declared_are, declared_append}
 
 -- ---- quiet places

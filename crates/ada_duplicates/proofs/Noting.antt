@@ -29,11 +29,11 @@ use Rattle.ada_tree.specs.RuleDuplicate.{is_among}
 use Rattle.ada_tree.specs.RuleArgCount.{called_entry}
 use Rattle.ada_tree.specs.RuleChoiceBad.{selected_range}
 use Rattle.ada_tree.specs.Sites.{site, if_there, expr_sites, expr_of, static_of, static_if, bounds_sites, constraint_sites, mark_sites, subind_sites, drange_sites, target_sites, callee_sites, written_actual_sites, actual_sites, actuals_sites, free_args_sites, args_sites, call_sites, accept_index_sites, head_sites, formals_sites, formal_mark_sites, all_names, names_sites, part_nodes, plain_part_sites, part_sites, condition, choice_sites, choices_of, is_present, handler_names_sites, with_words, scheme_sites, loop_scope, stmt_sites, stmts_sites, maybe_sites, accept_sites, alts_sites, alt_sites, arms_sites, case_arms_sites, handlers_sites, body_sites}
-use Rattle.ada_duplicates.specs.Noted.{alt_places, arm_places, case_arm_places, handler_places, handler_words}
-use Rattle.ada_duplicates.specs.Namings.{naming_in, and_then, namings_of, Named, declared, named_once}
-use Rattle.ada_duplicates.specs.declared.namings.Naming.{Naming}
-use Rattle.ada_duplicates.specs.declared.namings.Naming.TheVariants.{Declares, Labels, Once}
-use Rattle.ada_duplicates.proofs.Repeating.{drop_more}
+use Rattle.ada_duplicates.specs.inner.Noted.{alt_places, arm_places, case_arm_places, handler_places, handler_words}
+use Rattle.ada_duplicates.specs.NamingsInOrder.{naming_in, and_then, namings_of, Named, declared, named_once}
+use Rattle.ada_duplicates.specs.declared.namings_in_order.Naming.{Naming}
+use Rattle.ada_duplicates.specs.declared.namings_in_order.Naming.TheVariants.{Declares, Labels, Once}
+use Rattle.std.proofs.lemmas.List.{drop_more}
 
 -- ---- one list behind the other
 

@@ -1,8 +1,8 @@
 -- What is named at the places of a program decides rule Duplicate.
 use Rattle.std.specs.Prelude.{◌≡◌, ◌==◌, ◌<◌, ◌≤◌, ◌+◌, ℕ, Bool, true, false, ◌||◌, ◌&&◌, if◌then◌else◌, List, [], ◌∷◌, length, map, drop, find, Option, Some, None, option_map, is_some, refl}
-use Rattle.std.proofs.Common.{sym, ap, ◌∙◌, get_or, add-one}
+use Rattle.std.proofs.Common.{sym, ap, ◌∙◌, get_or}
 use Rattle.std.specs.List.{list_any}
-use Rattle.std.proofs.Math.Seq.{drop-cons}
+use Rattle.std.proofs.lemmas.List.{drop_more}
 use Rattle.std.proofs.Math.ListN.{drop_of_length-le}
 use Rattle.ada_tree.specs.declared.naming.Span.{Span}
 use Rattle.ada_tree.specs.Refusals.{Refusal}
@@ -13,8 +13,8 @@ use Rattle.ada_tree.specs.RuleDuplicate.{is_predefined, is_among, fixes, introdu
 use Rattle.scoped_names.specs.Meaning.{meaning_in}
 use Rattle.ada_refusals.specs.Sooner.{sooner, found}
 use Rattle.ada_refusals.specs.Repeated.{repeated_from}
-use Rattle.ada_duplicates.specs.Namings.{naming_in, and_then, namings_of, fixed_by, introduced_by, repeated_by, first_repeated}
-use Rattle.ada_duplicates.specs.declared.namings.Naming.{Naming}
+use Rattle.ada_duplicates.specs.NamingsInOrder.{naming_in, and_then, namings_of, fixed_by, introduced_by, repeated_by, first_repeated}
+use Rattle.ada_duplicates.specs.declared.namings_in_order.Naming.{Naming}
 use Rattle.ada_refusals.proofs.SoonerLaws.{sooner_assoc, sooner_none}
 
 -- ---- a name among others
@@ -111,9 +111,6 @@ pub repeats_are : (ss : List Site) → repeated_from [] ss ≡ first_repeated []
 repeats_are ss = from_namings [] ss
 
 -- ---- one naming after the other
-
-pub drop_more : {A : Type 0} (xs : List A) (i : ℕ) (d : A) → i < length xs → drop i xs ≡ get_or xs i d ∷ drop (i + 1) xs
-drop_more xs i d h = drop-cons xs i d h ∙ ap (λ n. get_or xs i d ∷ drop n xs) (sym (add-one i))
 
 pub repeat_more : (refusal grown total : Option Refusal) (fixed introduced fixed' introduced' : List ℕ) (xs : List Naming) (i : ℕ) (d : Naming) → i < length xs
     → grown ≡ sooner refusal (found 2 (repeated_by fixed introduced (get_or xs i d)))

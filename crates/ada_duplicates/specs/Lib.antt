@@ -1,3 +1,3 @@
-pub mod Namings
-pub mod Noted
-pub mod Notes
+pub mod NamingsInOrder
+pub mod NamedSoFar
+pub mod inner

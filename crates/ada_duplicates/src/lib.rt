@@ -2,6 +2,6 @@
 #![tactic(auto)]
 
 mod name_sets;
-mod namings;
-pub mod notes;
+pub mod named_so_far;
+mod namings_in_order;
 mod repeats;

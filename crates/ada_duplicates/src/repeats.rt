@@ -3,10 +3,10 @@
 ghost use Rattle.std.specs.Prelude.{◌≡◌, [], OnOk, IfOk};
 ghost use Rattle.ada_tree.specs.RuleDuplicate.{is_predefined};
 ghost use Rattle.ada_refusals.specs.Sooner.{found};
-ghost use Rattle.ada_duplicates.specs.Namings.{fixed_by, introduced_by, repeated_by, first_repeated};
+ghost use Rattle.ada_duplicates.specs.NamingsInOrder.{fixed_by, introduced_by, repeated_by, first_repeated};
 
 use crate::name_sets::NameSet;
-use crate::namings::Naming;
+use crate::namings_in_order::Naming;
 use ada_refusals::refusals::{Refusal, Rule, first, refuse_if};
 use ada_tree::NameId;
 use std::alloc::{AllocError, Global};

@@ -10,24 +10,24 @@ use Rattle.ada_tree.specs.Declaring.{inside}
 use Rattle.ada_tree.specs.RuleArgCount.{Written, are_same}
 use Rattle.ada_tree.specs.Sites.{site, if_there, names_sites, all_names, accept_index_sites, formal_mark_sites, formals_sites, head_sites}
 use Rattle.ada_refusals.specs.Sooner.{sooner}
-use Rattle.ada_refusals.specs.Met.{met_at, met}
+use Rattle.ada_refusals.specs.RefusedFirst.{refused_first_at, refused_first}
 use Rattle.ada_scopes.specs.Entries.{plain_part}
-use Rattle.ada_entry_rules.specs.Accepts.{written_of}
-use Rattle.ada_scopes.specs.declared.things.FormalPart.{FormalPart}
+use Rattle.ada_entry_rules.specs.inner.Accepts.{written_of}
+use Rattle.ada_scopes.specs.declared.denotations.FormalPart.{FormalPart}
 use Rattle.ada_refusals.proofs.Meeting.{names_met, met_append, joined, before}
 
-pub formals_met : (scope : Scope) (formals : List PFormal) (p : Option Refusal) → p ≡ met (formal_mark_sites scope formals) → p ≡ met (formals_sites scope formals)
+pub formals_met : (scope : Scope) (formals : List PFormal) (p : Option Refusal) → p ≡ refused_first (formal_mark_sites scope formals) → p ≡ refused_first (formals_sites scope formals)
 formals_met scope formals p is_p =
     is_p
-    ∙ ap (λ o. sooner o (met (formal_mark_sites scope formals))) (names_met false (inside scope) (all_names formals))
+    ∙ ap (λ o. sooner o (refused_first (formal_mark_sites scope formals))) (names_met false (inside scope) (all_names formals))
     ∙ sym (met_append (names_sites false (inside scope) (all_names formals)) (formal_mark_sites scope formals))
 
 -- the entry, the index and the formals of an accept
 pub head_met : (scope : Scope) (h : PHead) (p q r : Option Refusal)
-    → p ≡ met_at scope (accepts h)
-    → q ≡ met (if_there (accept_index_sites scope (entry_named scope.own h.entry.name)) h.index)
-    → r ≡ met (formals_sites scope h.formals)
-    → sooner (sooner p q) r ≡ met (head_sites scope h)
+    → p ≡ refused_first_at scope (accepts h)
+    → q ≡ refused_first (if_there (accept_index_sites scope (entry_named scope.own h.entry.name)) h.index)
+    → r ≡ refused_first (formals_sites scope h.formals)
+    → sooner (sooner p q) r ≡ refused_first (head_sites scope h)
 head_met scope h p q r is_p is_q is_r =
     let index = if_there (accept_index_sites scope (entry_named scope.own h.entry.name)) h.index in
     joined (site scope (accepts h) ∷ index) (formals_sites scope h.formals) (sooner p q) r (before scope (accepts h) index p q is_p is_q) is_r

@@ -8,34 +8,34 @@ use Rattle.ada_tree.specs.Scope as scope
 use Rattle.ada_tree.specs.Demand.{must_be_of, Site}
 use Rattle.ada_tree.specs.Sites.{site, expr_sites, actual_sites, actuals_sites}
 use Rattle.ada_refusals.specs.Sooner.{sooner}
-use Rattle.ada_refusals.specs.Met.{met}
-use Rattle.ada_entry_rules.specs.Actuals.{beside}
+use Rattle.ada_refusals.specs.RefusedFirst.{refused_first}
+use Rattle.ada_entry_rules.specs.inner.Actuals.{beside}
 use Rattle.ada_refusals.proofs.Meeting.{met_append}
 use Rattle.ada_refusals.proofs.Listing.{cut, gone, ended}
 
-one_more : (xs : List Site) (x : Site) (rest : List Site) → met (xs ++ (x ∷ rest)) ≡ sooner (met (xs ++ (x ∷ []))) (met rest)
-one_more xs x rest = ap met (sym (append_assoc xs (x ∷ []) rest)) ∙ met_append (xs ++ (x ∷ [])) rest
+one_more : (xs : List Site) (x : Site) (rest : List Site) → refused_first (xs ++ (x ∷ rest)) ≡ sooner (refused_first (xs ++ (x ∷ []))) (refused_first rest)
+one_more xs x rest = ap refused_first (sym (append_assoc xs (x ∷ []) rest)) ∙ met_append (xs ++ (x ∷ [])) rest
 
 module _ {F E : Type 0} (formal : F → scope.FormalPart) (see : E → PExpr) (s : scope.Scope) where
   after_suc : (fs : List F) (i : ℕ) (e : PExpr) (es : List PExpr)
-      → met (actuals_sites s (map formal (drop i fs)) (e ∷ es)) ≡ sooner (met (beside s (option_map formal (slice_get fs i)) e)) (met (actuals_sites s (map formal (drop (suc i) fs)) es))
+      → refused_first (actuals_sites s (map formal (drop i fs)) (e ∷ es)) ≡ sooner (refused_first (beside s (option_map formal (slice_get fs i)) e)) (refused_first (actuals_sites s (map formal (drop (suc i) fs)) es))
   after_suc [] zero e es = met_append (expr_sites s e) (actuals_sites s [] es)
   after_suc [] (suc i) e es = met_append (expr_sites s e) (actuals_sites s [] es)
   after_suc (f ∷ fs) zero e es = one_more (actual_sites s (formal f).mode e) (site s (must_be_of e (formal f).kind)) (actuals_sites s (map formal fs) es)
   after_suc (f ∷ fs) (suc i) e es = after_suc fs i e es
 
   pub actuals_more : (fs : List F) (xs : List E) (i : ℕ) (x : E) (a b c all : Option Refusal) → i < length xs → x ≡ get_or xs i x
-      → sooner a (met (actuals_sites s (map formal (drop i fs)) (map see (drop i xs)))) ≡ all
-      → b ≡ met (beside s (option_map formal (slice_get fs i)) (see x))
+      → sooner a (refused_first (actuals_sites s (map formal (drop i fs)) (map see (drop i xs)))) ≡ all
+      → b ≡ refused_first (beside s (option_map formal (slice_get fs i)) (see x))
       → c ≡ sooner a b
-      → sooner c (met (actuals_sites s (map formal (drop (i + 1) fs)) (map see (drop (i + 1) xs)))) ≡ all
+      → sooner c (refused_first (actuals_sites s (map formal (drop (i + 1) fs)) (map see (drop (i + 1) xs)))) ≡ all
   actuals_more fs xs i x a b c all h is_x before is_b is_c =
-      ap (λ o. sooner o (met (actuals_sites s (map formal (drop (i + 1) fs)) (map see (drop (i + 1) xs))))) is_c
-      ∙ gone a b all (met (actuals_sites s (map formal (drop (i + 1) fs)) (map see (drop (i + 1) xs)))) (met (actuals_sites s (map formal (drop i fs)) (map see (drop i xs))))
-      (ap (λ ys. met (actuals_sites s (map formal (drop i fs)) (map see ys))) (cut xs i x h is_x)
+      ap (λ o. sooner o (refused_first (actuals_sites s (map formal (drop (i + 1) fs)) (map see (drop (i + 1) xs))))) is_c
+      ∙ gone a b all (refused_first (actuals_sites s (map formal (drop (i + 1) fs)) (map see (drop (i + 1) xs)))) (refused_first (actuals_sites s (map formal (drop i fs)) (map see (drop i xs))))
+      (ap (λ ys. refused_first (actuals_sites s (map formal (drop i fs)) (map see ys))) (cut xs i x h is_x)
       ∙ after_suc fs i (see x) (map see (drop (i + 1) xs))
-      ∙ ap (λ k. sooner (met (beside s (option_map formal (slice_get fs i)) (see x))) (met (actuals_sites s (map formal (drop k fs)) (map see (drop (i + 1) xs))))) (sym (add-one i))
-      ∙ ap (λ o. sooner o (met (actuals_sites s (map formal (drop (i + 1) fs)) (map see (drop (i + 1) xs))))) (sym is_b))
+      ∙ ap (λ k. sooner (refused_first (beside s (option_map formal (slice_get fs i)) (see x))) (refused_first (actuals_sites s (map formal (drop k fs)) (map see (drop (i + 1) xs))))) (sym (add-one i))
+      ∙ ap (λ o. sooner o (refused_first (actuals_sites s (map formal (drop (i + 1) fs)) (map see (drop (i + 1) xs))))) (sym is_b))
       before
 
   none_left : (fs : List scope.FormalPart) → actuals_sites s fs [] ≡ []
@@ -43,7 +43,7 @@ module _ {F E : Type 0} (formal : F → scope.FormalPart) (see : E → PExpr) (s
   none_left (f ∷ fs) = refl
 
   pub actuals_end : (fs : List F) (xs : List E) (i : ℕ) (a all : Option Refusal) → length xs ≤ i
-      → sooner a (met (actuals_sites s (map formal (drop i fs)) (map see (drop i xs)))) ≡ all
+      → sooner a (refused_first (actuals_sites s (map formal (drop i fs)) (map see (drop i xs)))) ≡ all
       → a ≡ all
   actuals_end fs xs i a all h before =
       ended a all (actuals_sites s (map formal (drop i fs)) (map see (drop i xs)))

@@ -13,7 +13,7 @@ use Rattle.ada_tree.specs.RuleRangeBad.{member_range, member_out_of}
 use Rattle.ada_tree.specs.RuleArgCount.{index_of_callee, called_entry, wrong_call}
 use Rattle.ada_tree.specs.Sites.{site, if_there, expr_sites, callee_sites, args_sites, call_sites}
 use Rattle.ada_refusals.specs.Sooner.{sooner, found}
-use Rattle.ada_refusals.specs.Met.{met_at, met}
+use Rattle.ada_refusals.specs.RefusedFirst.{refused_first_at, refused_first}
 use Rattle.ada_refusals.proofs.SoonerLaws.{sooner_none, found_append}
 use Rattle.ada_refusals.proofs.Meeting.{met_one, joined, before}
 
@@ -27,7 +27,7 @@ pub addressed : (scope : Scope) (name : Word) (o : Option PExpr) (u t m r c : Op
     → m ≡ found 3 (misfit_member scope (meaning scope name.name) o)
     → r ≡ found 5 (member_out_of scope o (member_range (meaning scope name.name)))
     → c ≡ found 8 (index_of_callee (meaning scope name.name) o name.span)
-    → sooner u (sooner (sooner t m) (sooner r c)) ≡ met_at scope (addresses (over name o))
+    → sooner u (sooner (sooner t m) (sooner r c)) ≡ refused_first_at scope (addresses (over name o))
 addressed scope name o u t m r c is_u is_t is_m is_r is_c =
     let both = found_append 3 (no_task (meaning scope name.name) name) (misfit_member scope (meaning scope name.name) o) in
     let end = sooner_none (found 8 (index_of_callee (meaning scope name.name) o name.span)) in
@@ -43,7 +43,7 @@ pub addressed_alone : (scope : Scope) (name : Word) (u t c : Option Refusal)
     → u ≡ found 1 (unseen scope name.name name.span)
     → t ≡ found 3 (no_task (meaning scope name.name) name)
     → c ≡ found 8 (index_of_callee (meaning scope name.name) None name.span)
-    → sooner u (sooner t c) ≡ met_at scope (addresses (over name None))
+    → sooner u (sooner t c) ≡ refused_first_at scope (addresses (over name None))
 addressed_alone scope name u t c is_u is_t is_c =
     ap (λ x. sooner u (sooner x c)) (sym (sooner_none t))
     ∙ addressed scope name None u t None None c is_u is_t (none_misfit scope (meaning scope name.name)) refl is_c
@@ -51,28 +51,28 @@ addressed_alone scope name u t c is_u is_t is_c =
 -- a task with an index, and without
 pub member_met : (scope : Scope) (name : Word) (o : Option PExpr) (e : PExpr) (p q : Option Refusal)
     → o ≡ Some e
-    → p ≡ met_at scope (addresses (over name (Some e)))
-    → q ≡ met (expr_sites scope e)
-    → sooner p q ≡ met (callee_sites scope (over name o))
+    → p ≡ refused_first_at scope (addresses (over name (Some e)))
+    → q ≡ refused_first (expr_sites scope e)
+    → sooner p q ≡ refused_first (callee_sites scope (over name o))
 member_met scope name o e p q is_o is_p is_q =
-    subst (λ (x : Option PExpr). sooner p q ≡ met (callee_sites scope (over name x))) (sym is_o)
+    subst (λ (x : Option PExpr). sooner p q ≡ refused_first (callee_sites scope (over name x))) (sym is_o)
     (before scope (addresses (over name (Some e))) (expr_sites scope e) p q is_p is_q)
 
 pub task_met : (scope : Scope) (name : Word) (o : Option PExpr) (p : Option Refusal)
     → o ≡ None
-    → p ≡ met_at scope (addresses (over name None))
-    → p ≡ met (callee_sites scope (over name o))
+    → p ≡ refused_first_at scope (addresses (over name None))
+    → p ≡ refused_first (callee_sites scope (over name o))
 task_met scope name o p is_o is_p =
-    subst (λ (x : Option PExpr). p ≡ met (callee_sites scope (over name x))) (sym is_o)
+    subst (λ (x : Option PExpr). p ≡ refused_first (callee_sites scope (over name x))) (sym is_o)
     (is_p ∙ sym (met_one scope (addresses (over name None))))
 
 -- a call: the task, the entry, and the lists behind it
 pub call_met : (scope : Scope) (c : PCall) (p u n q : Option Refusal)
-    → p ≡ met (callee_sites scope c.task)
+    → p ≡ refused_first (callee_sites scope c.task)
     → u ≡ found 1 (unknown_entry (meaning scope c.task.name.name) c.entry)
     → n ≡ found 8 (wrong_call (called_entry (meaning scope c.task.name.name) c.entry.name) c.args c.entry.span)
-    → q ≡ met (if_there (args_sites scope (called_entry (meaning scope c.task.name.name) c.entry.name)) c.args)
-    → sooner p (sooner (sooner u n) q) ≡ met (call_sites scope c)
+    → q ≡ refused_first (if_there (args_sites scope (called_entry (meaning scope c.task.name.name) c.entry.name)) c.args)
+    → sooner p (sooner (sooner u n) q) ≡ refused_first (call_sites scope c)
 call_met scope c p u n q is_p is_u is_n is_q =
     let rest = if_there (args_sites scope (called_entry (meaning scope c.task.name.name) c.entry.name)) c.args in
     joined (callee_sites scope c.task) (site scope (calls c) ∷ rest) p (sooner (sooner u n) q) is_p

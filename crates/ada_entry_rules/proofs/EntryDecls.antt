@@ -14,11 +14,11 @@ use Rattle.ada_tree.specs.Scope.{Scope, Family, FormalPart as PlainPart, EntryPa
 use Rattle.ada_tree.specs.Demand.{declares_entry}
 use Rattle.ada_tree.specs.Sites.{if_there, drange_sites, formals_sites, entry_sites, entries_sites}
 use Rattle.ada_refusals.specs.Sooner.{sooner}
-use Rattle.ada_refusals.specs.Met.{met}
+use Rattle.ada_refusals.specs.RefusedFirst.{refused_first}
 use Rattle.ada_scopes.specs.Entries.{plain_entry as plain_part, plain_part as plain_formal_part}
 use Rattle.ada_entry_rules.specs.EntryDecls.{each_entry, part_of}
-use Rattle.ada_scopes.specs.declared.things.EntryPart.{EntryPart as Part}
-use Rattle.ada_scopes.specs.declared.things.FormalPart.{FormalPart as PartOf}
+use Rattle.ada_scopes.specs.declared.denotations.EntryPart.{EntryPart as Part}
+use Rattle.ada_scopes.specs.declared.denotations.FormalPart.{FormalPart as PartOf}
 use Rattle.ada_refusals.proofs.Meeting.{met_cons, met_append, joined, before}
 
 one_flat : {X Y : Type 0} (f : X → List Y) (ys : List Y) (x : X) → ys ++ flat_map f (x ∷ []) ≡ ys ++ f x
@@ -44,24 +44,24 @@ list_grown see make old xs bs cs i d b inside before is same =
     ∙ ap (λ y. old ++ (map make (take i xs) ++ y ∷ [])) same
     ∙ ap (λ l. old ++ l) (sym (map_more make xs i d inside))
 
-pub entry_met : (scope : Scope) (names : List ℕ) (e : PEntry) (p q : Option Refusal) → p ≡ met (if_there (drange_sites true scope) e.family) → q ≡ met (formals_sites scope e.formals)
-    → sooner p q ≡ met (entry_sites scope names e)
+pub entry_met : (scope : Scope) (names : List ℕ) (e : PEntry) (p q : Option Refusal) → p ≡ refused_first (if_there (drange_sites true scope) e.family) → q ≡ refused_first (formals_sites scope e.formals)
+    → sooner p q ≡ refused_first (entry_sites scope names e)
 entry_met scope names e p q is_p is_q =
     joined (if_there (drange_sites true scope) e.family) (formals_sites scope e.formals) p q is_p is_q
     ∙ sym (met_cons scope (declares_entry names e.name) (if_there (drange_sites true scope) e.family ++ formals_sites scope e.formals))
 
-entry_any : (scope : Scope) (names : List ℕ) (e : PEntry) → met (entry_sites scope names e) ≡ met (entry_sites scope [] e)
+entry_any : (scope : Scope) (names : List ℕ) (e : PEntry) → refused_first (entry_sites scope names e) ≡ refused_first (entry_sites scope [] e)
 entry_any scope names e =
     met_cons scope (declares_entry names e.name) (if_there (drange_sites true scope) e.family ++ formals_sites scope e.formals)
     ∙ sym (met_cons scope (declares_entry [] e.name) (if_there (drange_sites true scope) e.family ++ formals_sites scope e.formals))
 
 -- the entries before have no part in these rules
-pub entries_flat : (scope : Scope) (names : List ℕ) (es : List PEntry) → met (entries_sites scope names es) ≡ met (flat_map (each_entry scope) es)
+pub entries_flat : (scope : Scope) (names : List ℕ) (es : List PEntry) → refused_first (entries_sites scope names es) ≡ refused_first (flat_map (each_entry scope) es)
 entries_flat scope names [] = refl
 entries_flat scope names (e ∷ es) =
     met_append (entry_sites scope names e) (entries_sites scope (e.name.name.0 ∷ names) es)
-    ∙ ap (λ o. sooner o (met (entries_sites scope (e.name.name.0 ∷ names) es))) (entry_any scope names e)
-    ∙ ap (sooner (met (entry_sites scope [] e))) (entries_flat scope (e.name.name.0 ∷ names) es)
+    ∙ ap (λ o. sooner o (refused_first (entries_sites scope (e.name.name.0 ∷ names) es))) (entry_any scope names e)
+    ∙ ap (sooner (refused_first (entry_sites scope [] e))) (entries_flat scope (e.name.name.0 ∷ names) es)
     ∙ sym (met_append (entry_sites scope [] e) (flat_map (each_entry scope) es))
 
 -- one entry more, and all of them

@@ -14,8 +14,8 @@ use Rattle.ada_tree.specs.RuleNotVariable.{written_actual}
 use Rattle.ada_tree.specs.RuleReadOut.{read_name, read_out}
 use Rattle.ada_tree.specs.Sites.{expr_sites, written_actual_sites, actual_sites}
 use Rattle.ada_refusals.specs.Sooner.{sooner, found}
-use Rattle.ada_refusals.specs.Met.{met_at, met}
-use Rattle.ada_entry_rules.specs.Actuals.{name_of, beside}
+use Rattle.ada_refusals.specs.RefusedFirst.{refused_first_at, refused_first}
+use Rattle.ada_entry_rules.specs.inner.Actuals.{name_of, beside}
 use Rattle.ada_refusals.proofs.SoonerLaws.{sooner_none}
 use Rattle.ada_refusals.proofs.Meeting.{met_one, before, behind}
 
@@ -27,11 +27,11 @@ some_is_not id h = cc
 
 -- a name alone
 pub named_actual : (scope : Scope) (mode : ParMode) (e : PExpr) (id : NameId) (p : Option Refusal) → name_of e ≡ Some id
-    → p ≡ met_at scope (is_actual mode (EName id (place_of e)))
-    → p ≡ met (written_actual_sites scope mode e)
+    → p ≡ refused_first_at scope (is_actual mode (EName id (place_of e)))
+    → p ≡ refused_first (written_actual_sites scope mode e)
 named_actual scope mode (EName other s) id p h is_p =
     is_p
-    ∙ ap (λ o. met_at scope (is_actual mode (EName (unwrap_or o id) s))) (sym h)
+    ∙ ap (λ o. refused_first_at scope (is_actual mode (EName (unwrap_or o id) s))) (sym h)
     ∙ sym (met_one scope (is_actual mode (EName other s)))
 named_actual scope mode (EInteger n s) id p h is_p = absurd (none_is_not id h)
 named_actual scope mode (EIndex w e s) id p h is_p = absurd (none_is_not id h)
@@ -53,8 +53,8 @@ unread scope mode e p a h is_p = is_p ∙ sym (sooner_none a) ∙ ap (λ l. soon
 -- an expression that is no name
 pub other_actual : (scope : Scope) (mode : ParMode) (e : PExpr) (p q : Option Refusal) → name_of e ≡ None
     → p ≡ found 6 (written_actual scope e)
-    → q ≡ met (expr_sites scope e)
-    → sooner p q ≡ met (written_actual_sites scope mode e)
+    → q ≡ refused_first (expr_sites scope e)
+    → sooner p q ≡ refused_first (written_actual_sites scope mode e)
 other_actual scope mode (EName id s) p q h is_p is_q = absurd (some_is_not id h)
 other_actual scope mode (EInteger n s) p q h is_p is_q = before scope (is_actual mode (EInteger n s)) (expr_sites scope (EInteger n s)) p q (unread scope mode (EInteger n s) p (found 6 (s ∷ [])) refl is_p) is_q
 other_actual scope mode (EIndex w e s) p q h is_p is_q = before scope (is_actual mode (EIndex w e s)) (expr_sites scope (EIndex w e s)) p q (unread scope mode (EIndex w e s) p (found 6 (w.span ∷ [])) refl is_p) is_q
@@ -66,8 +66,8 @@ other_actual scope mode (EBinary op l r s) p q h is_p is_q = before scope (is_ac
 
 -- an actual that has a formal
 pub beside_met : (scope : Scope) (o : Option FormalPart) (f : FormalPart) (e : PExpr) (p q : Option Refusal) → o ≡ Some f
-    → p ≡ met (actual_sites scope f.mode e)
-    → q ≡ met_at scope (must_be_of e f.kind)
-    → sooner p q ≡ met (beside scope o e)
+    → p ≡ refused_first (actual_sites scope f.mode e)
+    → q ≡ refused_first_at scope (must_be_of e f.kind)
+    → sooner p q ≡ refused_first (beside scope o e)
 beside_met scope o f e p q h is_p is_q =
-    behind (actual_sites scope f.mode e) scope (must_be_of e f.kind) p q is_p is_q ∙ ap (λ x. met (beside scope x e)) (sym h)
+    behind (actual_sites scope f.mode e) scope (must_be_of e f.kind) p q is_p is_q ∙ ap (λ x. refused_first (beside scope x e)) (sym h)

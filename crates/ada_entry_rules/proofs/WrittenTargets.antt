@@ -11,7 +11,7 @@ use Rattle.ada_tree.specs.Demand.{writes, gets}
 use Rattle.ada_tree.specs.RuleMismatch.{target_kind}
 use Rattle.ada_tree.specs.Sites.{expr_sites}
 use Rattle.ada_refusals.specs.Sooner.{sooner, found}
-use Rattle.ada_refusals.specs.Met.{met_at, met}
+use Rattle.ada_refusals.specs.RefusedFirst.{refused_first_at, refused_first}
 use Rattle.ada_entry_rules.specs.Targets.{IsTarget}
 use Rattle.ada_entry_rules.specs.declared.targets.WalkedTarget.{WalkedTarget}
 use Rattle.ada_refusals.proofs.SoonerLaws.{sooner_none}
@@ -24,8 +24,8 @@ over name index = record { name = name; index = index }
 pub part_target : (scope : Scope) (name : Word) (o : Option PExpr) (e : PExpr) (p q : Option Refusal) (w : WalkedTarget)
     → o ≡ Some e
     → w.kind ≡ target_kind scope (over name (Some e))
-    → p ≡ met_at scope (writes (over name (Some e)))
-    → q ≡ met (expr_sites scope e)
+    → p ≡ refused_first_at scope (writes (over name (Some e)))
+    → q ≡ refused_first (expr_sites scope e)
     → w.refusal ≡ sooner p q
     → IsTarget scope (over name o) w
 part_target scope name o e p q w is_o is_kind is_p is_q is_w =
@@ -36,7 +36,7 @@ part_target scope name o e p q w is_o is_kind is_p is_q is_w =
 pub name_target : (scope : Scope) (name : Word) (o : Option PExpr) (w : WalkedTarget)
     → o ≡ None
     → w.kind ≡ target_kind scope (over name None)
-    → w.refusal ≡ met_at scope (writes (over name None))
+    → w.refusal ≡ refused_first_at scope (writes (over name None))
     → IsTarget scope (over name o) w
 name_target scope name o w is_o is_kind is_w =
     subst (λ (x : Option PExpr). IsTarget scope (over name x) w) (sym is_o)
@@ -44,7 +44,7 @@ name_target scope name o w is_o is_kind is_w =
 
 -- what GET reads
 pub get_met : (scope : Scope) (t : PTarget) (kind : Option ℕ) → kind ≡ target_kind scope t
-    → found 3 (if is_other_kind (Some integer_kind) kind then t.name.span ∷ [] else []) ≡ met_at scope (gets t)
+    → found 3 (if is_other_kind (Some integer_kind) kind then t.name.span ∷ [] else []) ≡ refused_first_at scope (gets t)
 get_met scope t kind h =
     ap (λ k. found 3 (if is_other_kind (Some integer_kind) k then t.name.span ∷ [] else [])) h
     ∙ sym (sooner_none (found 3 (if is_other_kind (Some integer_kind) (target_kind scope t) then t.name.span ∷ [] else [])))

@@ -1,5 +1,3 @@
 pub mod Targets
-pub mod Actuals
-pub mod Calls
-pub mod Accepts
 pub mod EntryDecls
+pub mod inner

@@ -4,10 +4,10 @@ use Rattle.ada_tree.specs.PlainStmt.{PTarget}
 use Rattle.ada_tree.specs.Scope.{Scope}
 use Rattle.ada_tree.specs.RuleMismatch.{target_kind}
 use Rattle.ada_tree.specs.Sites.{target_sites}
-use Rattle.ada_refusals.specs.Met.{met}
+use Rattle.ada_refusals.specs.RefusedFirst.{refused_first}
 use Rattle.ada_entry_rules.specs.declared.targets.WalkedTarget.{WalkedTarget}
 
 -- its kind, and the first refusal at its places
 pub record IsTarget (scope : Scope) (t : PTarget) (w : WalkedTarget) : Type 0 where
   pub kind_is : w.kind ≡ target_kind scope t
-  pub refusal_is : w.refusal ≡ met (target_sites scope t)
+  pub refusal_is : w.refusal ≡ refused_first (target_sites scope t)

@@ -8,22 +8,22 @@ ghost use Rattle.ada_tree.specs.RuleNotVariable.{written_actual};
 ghost use Rattle.ada_tree.specs.RuleReadOut.{read_out};
 ghost use Rattle.ada_tree.specs.Sites.{expr_sites, expr_of, if_there, written_actual_sites, actual_sites, actuals_sites, free_args_sites, family_args_sites, single_args_sites, args_sites};
 ghost use Rattle.ada_refusals.specs.Sooner.{found};
-ghost use Rattle.ada_refusals.specs.Met.{met_at, met};
+ghost use Rattle.ada_refusals.specs.RefusedFirst.{refused_first_at, refused_first};
 ghost use Rattle.ada_scopes.specs.Entries.{plain_range, plain_part, plain_entry};
-ghost use Rattle.ada_entry_rules.specs.Actuals.{name_of, beside};
+ghost use Rattle.ada_entry_rules.specs.inner.Actuals.{name_of, beside};
 
 use crate::targets::refuse_whole_constant;
 use ada_expr_rules::nodes::{refuse_array, refuse_out, refuse_unseen};
 use ada_expr_rules::walking::{place, refuse_kind, walk, walk_of};
 use ada_refusals::refusals::{Refusal, Rule, first, refuse};
+use ada_scopes::denotations::{EntryPart, Family, FormalPart, Range};
 use ada_scopes::readings::read;
 use ada_scopes::scope::Scope;
-use ada_scopes::things::{EntryPart, Family, FormalPart, Range};
 use ada_tree::{Args, Expr, ExprKind, NameId, ParMode, Span};
 
 /// Walks expressions.
 pub(crate) fn walk_all(scope: &Scope, list: &[Expr]) -> Option<Refusal>
-    ensures { result ≡ met (flat_map (expr_sites scope.now) (map plain_expr list.now)) }
+    ensures { result ≡ refused_first (flat_map (expr_sites scope.now) (map plain_expr list.now)) }
 {
     let mut refusal = None;
     for e in list {
@@ -34,7 +34,7 @@ pub(crate) fn walk_all(scope: &Scope, list: &[Expr]) -> Option<Refusal>
 
 // Walks expressions that must be of a kind.
 fn walk_all_of(scope: &Scope, kind: Option<u32>, list: &[Expr]) -> Option<Refusal>
-    ensures { result ≡ met (flat_map (expr_of scope.now kind) (map plain_expr list.now)) }
+    ensures { result ≡ refused_first (flat_map (expr_of scope.now kind) (map plain_expr list.now)) }
 {
     let mut refusal = None;
     for e in list {
@@ -66,7 +66,7 @@ fn refuse_read(scope: &Scope, mode: ParMode, id: NameId, span: Span) -> Option<R
 // A name that is an actual of mode out or in out.
 #[tactic(auto, using(ada_refusals::proofs::SoonerLaws::sooner_laws))]
 fn refuse_name(scope: &Scope, mode: ParMode, id: NameId, span: Span) -> Option<Refusal>
-    ensures { result ≡ met_at scope.now (is_actual mode (EName id span)) }
+    ensures { result ≡ refused_first_at scope.now (is_actual mode (EName id span)) }
 {
     let reading = read(scope, id);
     let unknown = refuse_unseen(scope, id, span);
@@ -94,8 +94,8 @@ fn refuse_written(
     e: &Expr,
     refusal: Option<Refusal>,
 ) -> Option<Refusal>
-    requires { refusal ≡ met (expr_sites scope.now (plain_expr e.now)) }
-    ensures { result ≡ met (written_actual_sites scope.now mode (plain_expr e.now)) }
+    requires { refusal ≡ refused_first (expr_sites scope.now (plain_expr e.now)) }
+    ensures { result ≡ refused_first (written_actual_sites scope.now mode (plain_expr e.now)) }
 {
     match name_of(e) {
         Some(id) => refuse_name(scope, mode, id, place(e)),
@@ -110,8 +110,8 @@ fn refuse_actual(
     e: &Expr,
     refusal: Option<Refusal>,
 ) -> Option<Refusal>
-    requires { refusal ≡ met (expr_sites scope.now (plain_expr e.now)) }
-    ensures { result ≡ met (actual_sites scope.now mode (plain_expr e.now)) }
+    requires { refusal ≡ refused_first (expr_sites scope.now (plain_expr e.now)) }
+    ensures { result ≡ refused_first (actual_sites scope.now mode (plain_expr e.now)) }
 {
     match mode {
         ParMode::Take => refusal,
@@ -122,7 +122,7 @@ fn refuse_actual(
 
 // Walks an actual beside its formal. One without a formal is an expression.
 fn walk_beside(scope: &Scope, formal: Option<FormalPart>, e: &Expr) -> Option<Refusal>
-    ensures { result ≡ met (beside scope.now (option_map plain_part formal) (plain_expr e.now)) }
+    ensures { result ≡ refused_first (beside scope.now (option_map plain_part formal) (plain_expr e.now)) }
 {
     let walked = walk(scope, e);
     match formal {
@@ -144,7 +144,7 @@ fn formal_at(formals: &[FormalPart], place: usize) -> Option<FormalPart>
 
 // Walks actuals beside their formals.
 fn walk_actuals(scope: &Scope, formals: &[FormalPart], actuals: &[Expr]) -> Option<Refusal>
-    ensures { result ≡ met (actuals_sites scope.now (map plain_part formals.now) (map plain_expr actuals.now)) }
+    ensures { result ≡ refused_first (actuals_sites scope.now (map plain_part formals.now) (map plain_expr actuals.now)) }
 {
     let mut refusal = None;
     for (place, e) in actuals.iter().enumerate() {
@@ -155,7 +155,7 @@ fn walk_actuals(scope: &Scope, formals: &[FormalPart], actuals: &[Expr]) -> Opti
 
 // Walks a second list, behind an entry that is no family or is not known.
 fn walk_second(scope: &Scope, second: &Option<Vec<Expr>>) -> Option<Refusal>
-    ensures { result ≡ met (if_there (flat_map (expr_sites scope.now)) (option_map (λ v. map plain_expr v.items) second.now)) }
+    ensures { result ≡ refused_first (if_there (flat_map (expr_sites scope.now)) (option_map (λ v. map plain_expr v.items) second.now)) }
 {
     match second {
         Some(list) => walk_all(scope, list),
@@ -169,7 +169,7 @@ fn walk_second_actuals(
     formals: &[FormalPart],
     second: &Option<Vec<Expr>>,
 ) -> Option<Refusal>
-    ensures { result ≡ met (if_there (actuals_sites scope.now (map plain_part formals.now)) (option_map (λ v. map plain_expr v.items) second.now)) }
+    ensures { result ≡ refused_first (if_there (actuals_sites scope.now (map plain_part formals.now)) (option_map (λ v. map plain_expr v.items) second.now)) }
 {
     match second {
         Some(list) => walk_actuals(scope, formals, list),
@@ -179,7 +179,7 @@ fn walk_second_actuals(
 
 // Walks the lists behind an entry that is not known.
 fn walk_free(scope: &Scope, args: &Args) -> Option<Refusal>
-    ensures { result ≡ met (free_args_sites scope.now (plain_args args.now)) }
+    ensures { result ≡ refused_first (free_args_sites scope.now (plain_args args.now)) }
 {
     let one = walk_all(scope, &args.first);
     let other = walk_second(scope, &args.second);
@@ -188,7 +188,7 @@ fn walk_free(scope: &Scope, args: &Args) -> Option<Refusal>
 
 // Walks the lists behind a plain entry.
 fn walk_single(scope: &Scope, formals: &[FormalPart], args: &Args) -> Option<Refusal>
-    ensures { result ≡ met (single_args_sites scope.now (map plain_part formals.now) (plain_args args.now)) }
+    ensures { result ≡ refused_first (single_args_sites scope.now (map plain_part formals.now) (plain_args args.now)) }
 {
     let one = walk_actuals(scope, formals, &args.first);
     let other = walk_second(scope, &args.second);
@@ -197,7 +197,7 @@ fn walk_single(scope: &Scope, formals: &[FormalPart], args: &Args) -> Option<Ref
 
 // Walks the lists behind a family.
 fn walk_family(scope: &Scope, range: Range, formals: &[FormalPart], args: &Args) -> Option<Refusal>
-    ensures { result ≡ met (family_args_sites scope.now (plain_range range) (map plain_part formals.now) (plain_args args.now)) }
+    ensures { result ≡ refused_first (family_args_sites scope.now (plain_range range) (map plain_part formals.now) (plain_args args.now)) }
 {
     let one = walk_all_of(scope, Some(range.kind), &args.first);
     let other = walk_second_actuals(scope, formals, &args.second);
@@ -206,7 +206,7 @@ fn walk_family(scope: &Scope, range: Range, formals: &[FormalPart], args: &Args)
 
 /// Walks the lists behind an entry, where it is known.
 pub(crate) fn walk_args(scope: &Scope, entry: Option<&EntryPart>, args: &Args) -> Option<Refusal>
-    ensures { result ≡ met (args_sites scope.now (option_map (λ e. plain_entry e.now) entry.entry) (plain_args args.now)) }
+    ensures { result ≡ refused_first (args_sites scope.now (option_map (λ e. plain_entry e.now) entry.entry) (plain_args args.now)) }
 {
     match entry {
         Some(entry) => match entry.family {

@@ -10,9 +10,9 @@ ghost use Rattle.ada_tree.specs.RuleRangeBad.{member_range};
 ghost use Rattle.ada_tree.specs.RuleArgCount.{index_of_callee};
 ghost use Rattle.ada_tree.specs.Sites.{callee_sites};
 ghost use Rattle.ada_refusals.specs.Sooner.{found};
-ghost use Rattle.ada_refusals.specs.Met.{met_at, met};
+ghost use Rattle.ada_refusals.specs.RefusedFirst.{refused_first_at, refused_first};
 ghost use Rattle.ada_scopes.specs.Entries.{plain_range};
-ghost use Rattle.ada_scopes.specs.Things.{plain_thing};
+ghost use Rattle.ada_scopes.specs.Denotations.{plain_thing};
 ghost use Rattle.ada_expr_rules.specs.Known.{IsKnown};
 
 use ada_expr_rules::known::Known;
@@ -20,8 +20,8 @@ use ada_expr_rules::nodes::{refuse_other, refuse_unseen};
 use ada_expr_rules::ranges::refuse_outside;
 use ada_expr_rules::walking::walk;
 use ada_refusals::refusals::{Refusal, Rule, first, refuse};
+use ada_scopes::denotations::{Range, Thing};
 use ada_scopes::scope::Scope;
-use ada_scopes::things::{Range, Thing};
 use ada_tree::{Callee, Expr, Span, Word};
 
 // What is called or aborted and is no task. The main procedure and task types are for another rule.
@@ -103,7 +103,7 @@ fn refuse_row(thing: Option<&Thing>, span: Span) -> Option<Refusal>
 // A task with an index.
 fn refuse_member(scope: &Scope, name: Word, index: &Expr, known: Known) -> Option<Refusal>
     requires { IsKnown scope.now (plain_expr index.now) known }
-    ensures { result ≡ met_at scope.now (addresses record { name = name; index = Some (plain_expr index.now) }) }
+    ensures { result ≡ refused_first_at scope.now (addresses record { name = name; index = Some (plain_expr index.now) }) }
 {
     let thing = scope.meaning(name.name);
     let unknown = refuse_unseen(scope, name.name, name.span);
@@ -119,7 +119,7 @@ fn refuse_member(scope: &Scope, name: Word, index: &Expr, known: Known) -> Optio
 
 // A task without an index.
 fn refuse_task(scope: &Scope, name: Word) -> Option<Refusal>
-    ensures { result ≡ met_at scope.now (addresses record { name = name; index = None }) }
+    ensures { result ≡ refused_first_at scope.now (addresses record { name = name; index = None }) }
 {
     let thing = scope.meaning(name.name);
     let unknown = refuse_unseen(scope, name.name, name.span);
@@ -130,7 +130,7 @@ fn refuse_task(scope: &Scope, name: Word) -> Option<Refusal>
 
 /// Walks a task in a call or an abort statement.
 pub fn walk_callee(scope: &Scope, callee: &Callee) -> Option<Refusal>
-    ensures { result ≡ met (callee_sites scope.now (plain_callee callee.now)) }
+    ensures { result ≡ refused_first (callee_sites scope.now (plain_callee callee.now)) }
 {
     match &callee.index {
         Some(index) => {

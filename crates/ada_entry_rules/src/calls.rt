@@ -6,16 +6,16 @@ ghost use Rattle.ada_tree.specs.RuleUnknown.{unknown_entry};
 ghost use Rattle.ada_tree.specs.RuleArgCount.{called_entry, fits_single, fits_family, fits_call, wrong_call};
 ghost use Rattle.ada_tree.specs.Sites.{if_there, args_sites, call_sites};
 ghost use Rattle.ada_refusals.specs.Sooner.{found, sooner};
-ghost use Rattle.ada_refusals.specs.Met.{met};
+ghost use Rattle.ada_refusals.specs.RefusedFirst.{refused_first};
 ghost use Rattle.ada_scopes.specs.Entries.{plain_family, plain_entry};
-ghost use Rattle.ada_scopes.specs.Things.{plain_thing};
-ghost use Rattle.ada_entry_rules.specs.Calls.{has_entries};
+ghost use Rattle.ada_scopes.specs.Denotations.{plain_thing};
+ghost use Rattle.ada_entry_rules.specs.inner.Calls.{has_entries};
 
 use crate::actuals::walk_args;
 use crate::callees::walk_callee;
 use ada_refusals::refusals::{Refusal, Rule, first, refuse_if};
+use ada_scopes::denotations::{EntryPart, Family, Thing};
 use ada_scopes::scope::Scope;
-use ada_scopes::things::{EntryPart, Family, Thing};
 use ada_tree::{Args, Call, NameId, Span, Word};
 
 // Whether an entry is looked up behind what a name means: behind a task, an object of a task type or an array of tasks.
@@ -110,7 +110,7 @@ fn refuse_count(entry: Option<&EntryPart>, args: &Option<Args>, span: Span) -> O
 
 // Walks the lists behind an entry, where there are some.
 fn walk_lists(scope: &Scope, entry: Option<&EntryPart>, args: &Option<Args>) -> Option<Refusal>
-    ensures { result ≡ met (if_there (args_sites scope.now (option_map (λ e. plain_entry e.now) entry.entry)) (option_map plain_args args.now)) }
+    ensures { result ≡ refused_first (if_there (args_sites scope.now (option_map (λ e. plain_entry e.now) entry.entry)) (option_map plain_args args.now)) }
 {
     match args {
         Some(args) => walk_args(scope, entry, args),
@@ -120,7 +120,7 @@ fn walk_lists(scope: &Scope, entry: Option<&EntryPart>, args: &Option<Args>) -> 
 
 /// Walks an entry call.
 pub fn walk_call(scope: &Scope, call: &Call) -> Option<Refusal>
-    ensures { result ≡ met (call_sites scope.now (plain_call call.now)) }
+    ensures { result ≡ refused_first (call_sites scope.now (plain_call call.now)) }
 {
     let callee = walk_callee(scope, &call.task);
     let thing = scope.meaning(call.task.name.name);

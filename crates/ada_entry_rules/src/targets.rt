@@ -10,7 +10,7 @@ ghost use Rattle.ada_tree.specs.RuleMismatch.{target_kind};
 ghost use Rattle.ada_tree.specs.RuleNotVariable.{is_variable, is_array, unless, whole_written};
 ghost use Rattle.ada_tree.specs.Sites.{site, target_sites};
 ghost use Rattle.ada_refusals.specs.Sooner.{found};
-ghost use Rattle.ada_refusals.specs.Met.{met_at, met};
+ghost use Rattle.ada_refusals.specs.RefusedFirst.{refused_first_at, refused_first};
 ghost use Rattle.ada_scopes.specs.Readings.{plain_reading};
 ghost use Rattle.ada_entry_rules.specs.Targets.{IsTarget};
 
@@ -19,9 +19,9 @@ use ada_expr_rules::kinds::{INTEGER, is_other};
 use ada_expr_rules::nodes::{refuse_array, refuse_index, refuse_index_on_scalar, refuse_unseen};
 use ada_expr_rules::walking::walk;
 use ada_refusals::refusals::{Refusal, Rule, first, refuse, refuse_if};
+use ada_scopes::denotations::Thing;
 use ada_scopes::readings::{Reading, read};
 use ada_scopes::scope::Scope;
-use ada_scopes::things::Thing;
 use ada_tree::{Expr, NameId, ParMode, Span, Target, Word};
 
 /// The kind of what is written, and the first refusal at the places where it stands.
@@ -83,7 +83,7 @@ fn refuse_written_part(
     kind: Option<u32>,
 ) -> Option<Refusal>
     requires { kind ≡ kind_of scope.now (plain_expr index.now) }
-    ensures { result ≡ met_at scope.now (writes record { name = name; index = Some (plain_expr index.now) }) }
+    ensures { result ≡ refused_first_at scope.now (writes record { name = name; index = Some (plain_expr index.now) }) }
 {
     let reading = read(scope, name.name);
     let unknown = refuse_unseen(scope, name.name, name.span);
@@ -96,7 +96,7 @@ fn refuse_written_part(
 // A name without an index that is written.
 #[tactic(auto, using(ada_refusals::proofs::SoonerLaws::sooner_laws))]
 fn refuse_written_name(scope: &Scope, name: Word) -> Option<Refusal>
-    ensures { result ≡ met_at scope.now (writes record { name = name; index = None }) }
+    ensures { result ≡ refused_first_at scope.now (writes record { name = name; index = None }) }
 {
     let reading = read(scope, name.name);
     let unknown = refuse_unseen(scope, name.name, name.span);
@@ -146,7 +146,7 @@ pub fn walk_target(scope: &Scope, target: &Target) -> WalkedTarget
 // What GET reads that is no INTEGER.
 fn refuse_get(scope: &Scope, target: &Target, kind: Option<u32>) -> Option<Refusal>
     requires { kind ≡ target_kind scope.now (plain_target target.now) }
-    ensures { result ≡ met_at scope.now (gets (plain_target target.now)) }
+    ensures { result ≡ refused_first_at scope.now (gets (plain_target target.now)) }
 {
     refuse_if(
         is_other(Some(INTEGER), kind),
@@ -157,7 +157,7 @@ fn refuse_get(scope: &Scope, target: &Target, kind: Option<u32>) -> Option<Refus
 
 /// Walks what GET reads.
 pub fn walk_get(scope: &Scope, target: &Target) -> Option<Refusal>
-    ensures { result ≡ met (target_sites scope.now (plain_target target.now) ++ site scope.now (gets (plain_target target.now)) ∷ []) }
+    ensures { result ≡ refused_first (target_sites scope.now (plain_target target.now) ++ site scope.now (gets (plain_target target.now)) ∷ []) }
 {
     let walked = walk_target(scope, target);
     let other = refuse_get(scope, target, walked.kind);

@@ -12,53 +12,53 @@ use Rattle.ada_tree.specs.Demand.{MarkUse, stands_as_mark, must_be_of, must_be_a
 use Rattle.ada_tree.specs.Declaring.{made_range, subind_made, marked_range, given_range}
 use Rattle.ada_tree.specs.Sites.{site, expr_sites, static_if, bounds_sites, constraint_sites, subind_sites, drange_sites}
 use Rattle.ada_refusals.specs.Sooner.{sooner}
-use Rattle.ada_refusals.specs.Met.{met_at, met}
+use Rattle.ada_refusals.specs.RefusedFirst.{refused_first_at, refused_first}
 use Rattle.ada_scopes.specs.Entries.{plain_range}
 use Rattle.ada_expr_rules.specs.Known.{IsKnown}
 use Rattle.ada_expr_rules.specs.Ranges.{made_as, range_as, ranged, range_if, IsSubind, IsRange}
 use Rattle.ada_expr_rules.specs.declared.known.Known.{Known}
-use Rattle.ada_scopes.specs.declared.things.Range.{Range}
+use Rattle.ada_scopes.specs.declared.denotations.Range.{Range}
 use Rattle.ada_expr_rules.specs.declared.ranges.WalkedSubind.{WalkedSubind}
 use Rattle.ada_expr_rules.specs.declared.ranges.WalkedRange.{WalkedRange}
 use Rattle.ada_refusals.proofs.Meeting.{met_none, met_one, joined, before, behind}
 use Rattle.ada_expr_rules.proofs.Knowing.{range_known}
 
 -- a bound that must be static
-pub fixed_met : (fixed : Bool) (scope : Scope) (e : PExpr) (a : Option Refusal) → fixed ≡ true → a ≡ met_at scope (must_be_static e) → a ≡ met (static_if fixed scope e)
+pub fixed_met : (fixed : Bool) (scope : Scope) (e : PExpr) (a : Option Refusal) → fixed ≡ true → a ≡ refused_first_at scope (must_be_static e) → a ≡ refused_first (static_if fixed scope e)
 fixed_met true scope e a h p = p ∙ sym (met_one scope (must_be_static e))
 fixed_met false scope e a h p = absurd (false≢true h)
 
 -- and one that need not be
-pub moving_met : (fixed : Bool) (scope : Scope) (e : PExpr) → fixed ≡ false → None ≡ met (static_if fixed scope e)
+pub moving_met : (fixed : Bool) (scope : Scope) (e : PExpr) → fixed ≡ false → None ≡ refused_first (static_if fixed scope e)
 moving_met true scope e h = absurd (false≢true (sym h))
 moving_met false scope e h = sym met_none
 
 -- the two bounds, and the range between them
 pub bounds_met : (fixed : Bool) (scope : Scope) (b : PBounds) (p q r : Option Refusal)
-    → p ≡ met (expr_sites scope b.first ++ static_if fixed scope b.first)
-    → q ≡ met (expr_sites scope b.last ++ static_if fixed scope b.last)
-    → r ≡ met_at scope (must_not_be_empty b.first b.last)
-    → sooner (sooner p q) r ≡ met (bounds_sites fixed scope b)
+    → p ≡ refused_first (expr_sites scope b.first ++ static_if fixed scope b.first)
+    → q ≡ refused_first (expr_sites scope b.last ++ static_if fixed scope b.last)
+    → r ≡ refused_first_at scope (must_not_be_empty b.first b.last)
+    → sooner (sooner p q) r ≡ refused_first (bounds_sites fixed scope b)
 bounds_met fixed scope b p q r is_p is_q is_r =
     let low = expr_sites scope b.first ++ static_if fixed scope b.first in
     behind ((low ++ expr_sites scope b.last) ++ static_if fixed scope b.last) scope (must_not_be_empty b.first b.last) (sooner p q) r
     (joined low (expr_sites scope b.last ++ static_if fixed scope b.last) p q is_p is_q
-    ∙ ap met (sym (append_assoc low (expr_sites scope b.last) (static_if fixed scope b.last))))
+    ∙ ap refused_first (sym (append_assoc low (expr_sites scope b.last) (static_if fixed scope b.last))))
     is_r
 
 -- two bounds behind a mark
 pub constraint_met : (fixed : Bool) (scope : Scope) (kind : Option ℕ) (b : PBounds) (p q r : Option Refusal)
-    → p ≡ met (bounds_sites fixed scope b)
-    → q ≡ met_at scope (must_be_of b.first kind)
-    → r ≡ met_at scope (must_be_of b.last kind)
-    → sooner p (sooner q r) ≡ met (constraint_sites fixed scope kind b)
+    → p ≡ refused_first (bounds_sites fixed scope b)
+    → q ≡ refused_first_at scope (must_be_of b.first kind)
+    → r ≡ refused_first_at scope (must_be_of b.last kind)
+    → sooner p (sooner q r) ≡ refused_first (constraint_sites fixed scope kind b)
 constraint_met fixed scope kind b p q r is_p is_q is_r =
     joined (bounds_sites fixed scope b) (site scope (must_be_of b.first kind) ∷ site scope (must_be_of b.last kind) ∷ []) p (sooner q r) is_p
     (before scope (must_be_of b.first kind) (site scope (must_be_of b.last kind) ∷ []) q r is_q (is_r ∙ sym (met_one scope (must_be_of b.last kind))))
 
 -- two bounds without a mark are of one kind
-pub alike_met : (scope : Scope) (a b : PExpr) (kind : Option ℕ) (p : Option Refusal) → kind ≡ kind_of scope a → p ≡ met_at scope (must_be_of b kind) → p ≡ met_at scope (must_be_alike a b)
-alike_met scope a b kind p h is_p = is_p ∙ ap (λ k. met_at scope (must_be_of b k)) h
+pub alike_met : (scope : Scope) (a b : PExpr) (kind : Option ℕ) (p : Option Refusal) → kind ≡ kind_of scope a → p ≡ refused_first_at scope (must_be_of b kind) → p ≡ refused_first_at scope (must_be_alike a b)
+alike_met scope a b kind p h is_p = is_p ∙ ap (λ k. refused_first_at scope (must_be_of b k)) h
 
 -- the range of two bounds, where their kind is known
 pub given_known : (scope : Scope) (b : PBounds) (kind : Option ℕ) (low high : Known) → IsKnown scope b.first low → IsKnown scope b.last high → range_if kind low high ≡ given_range scope kind b
@@ -99,8 +99,8 @@ pub bounded_subind : (fixed : Bool) (allowed : MarkUse) (scope : Scope) (mark : 
     → IsKnown scope b.first low → IsKnown scope b.last high
     → option_map plain_range range ≡ range_if w.kind low high
     → w.making ≡ ranged range
-    → p ≡ met_at scope (stands_as_mark allowed mark)
-    → q ≡ met (constraint_sites fixed scope w.kind b)
+    → p ≡ refused_first_at scope (stands_as_mark allowed mark)
+    → q ≡ refused_first (constraint_sites fixed scope w.kind b)
     → w.refusal ≡ sooner p q
     → IsSubind (subind_sites fixed allowed scope (over mark o)) scope (over mark o) w
 bounded_subind fixed allowed scope mark o b range low high p q w is_o is_kind g h is_range is_making is_p is_q is_w =
@@ -112,7 +112,7 @@ bounded_subind fixed allowed scope mark o b range low high p q w is_o is_kind g 
       kind_is = is_kind;
       made_is = ap (made_as scope.types) is_making ∙ made_ranged scope.types range ∙ ap (made_range scope.types) given ∙ made_given scope (marking scope mark.name) b;
       range_is = ap (range_as scope.types) is_making ∙ range_ranged scope.types range ∙ given ∙ range_given scope (marking scope mark.name) b;
-      refusal_is = is_w ∙ before scope (stands_as_mark allowed mark) (constraint_sites fixed scope kind b) p q is_p (is_q ∙ ap (λ k. met (constraint_sites fixed scope k b)) is_kind);
+      refusal_is = is_w ∙ before scope (stands_as_mark allowed mark) (constraint_sites fixed scope kind b) p q is_p (is_q ∙ ap (λ k. refused_first (constraint_sites fixed scope k b)) is_kind);
     }
 
 -- a mark alone
@@ -121,7 +121,7 @@ pub marked_subind : (fixed : Bool) (allowed : MarkUse) (scope : Scope) (mark : W
     → w.kind ≡ scalar_kind (marking scope mark.name)
     → made_as scope.types w.making ≡ subind_made scope (marking scope mark.name) None
     → range_as scope.types w.making ≡ marked_range scope (marking scope mark.name) None
-    → w.refusal ≡ met_at scope (stands_as_mark allowed mark)
+    → w.refusal ≡ refused_first_at scope (stands_as_mark allowed mark)
     → IsSubind (subind_sites fixed allowed scope (over mark o)) scope (over mark o) w
 marked_subind fixed allowed scope mark o w is_o is_kind is_made is_range is_w =
     subst (λ (x : Option PBounds). IsSubind (subind_sites fixed allowed scope (over mark x)) scope (over mark x) w) (sym is_o)
@@ -133,8 +133,8 @@ pub given_drange : (fixed : Bool) (scope : Scope) (r : PDrange) (b : PBounds) (l
     → IsKnown scope b.first low → IsKnown scope b.last high
     → w.kind ≡ low.kind
     → option_map plain_range w.range ≡ range_if low.kind low high
-    → p ≡ met (bounds_sites fixed scope b)
-    → q ≡ met_at scope (must_be_of b.last low.kind)
+    → p ≡ refused_first (bounds_sites fixed scope b)
+    → q ≡ refused_first_at scope (must_be_of b.last low.kind)
     → w.refusal ≡ sooner p q
     → IsRange (drange_sites fixed scope r) scope r w
 given_drange fixed scope r b low high p q w is_r g h is_kind is_range is_p is_q is_w =

@@ -9,7 +9,7 @@ use Rattle.ada_tree.specs.ExprTypes.{kind_of, is_kind, ok_value, static_in, stat
 use Rattle.ada_tree.specs.Demand.{must_not_be_empty, must_lie_in, Site}
 use Rattle.ada_tree.specs.RuleRangeBad.{is_below, is_outside, empty_range, out_of}
 use Rattle.ada_refusals.specs.Sooner.{found}
-use Rattle.ada_refusals.specs.Met.{met_at}
+use Rattle.ada_refusals.specs.RefusedFirst.{refused_first_at}
 use Rattle.ada_expr_rules.specs.Known.{IsKnown, ok_of, value_in, range_of_both, emptied, outlying}
 use Rattle.ada_expr_rules.specs.Walked.{IsWalked}
 use Rattle.ada_expr_rules.specs.declared.known.Known.{Known}
@@ -46,7 +46,7 @@ emptied_is scope a b (Some k) low high g h =
 
 -- two bounds of an empty range
 pub empty_met : (scope : Scope) (a b : PExpr) (low high : Known) → IsKnown scope a low → IsKnown scope b high
-    → found 5 (emptied low.kind low high (place_of a)) ≡ met_at scope (must_not_be_empty a b)
+    → found 5 (emptied low.kind low high (place_of a)) ≡ refused_first_at scope (must_not_be_empty a b)
 empty_met scope a b low high g h =
     ap (λ k. found 5 (emptied k low high (place_of a))) g.kind_is
     ∙ ap (found 5) (emptied_is scope a b (kind_of scope a) low high g h)
@@ -58,6 +58,6 @@ outlying_is scope e (Some range) known h = ap (λ v. if is_outside range v then 
 
 -- a value outside a range
 pub outside_met : (scope : Scope) (e : PExpr) (range : Option Range) (known : Known) → IsKnown scope e known
-    → found 5 (outlying range known (place_of e)) ≡ met_at scope (must_lie_in e range)
+    → found 5 (outlying range known (place_of e)) ≡ refused_first_at scope (must_lie_in e range)
 outside_met scope e range known h =
     ap (found 5) (outlying_is scope e range known h) ∙ sym (sooner_none (found 5 (out_of scope e range)))

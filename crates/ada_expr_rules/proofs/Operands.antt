@@ -14,7 +14,7 @@ use Rattle.ada_tree.specs.ExprTypes.{kind_of, takes, takes_one, unary_kind, bina
 use Rattle.ada_tree.specs.Demand.{node}
 use Rattle.ada_tree.specs.RuleRangeBad.{raised, raises}
 use Rattle.ada_refusals.specs.Sooner.{sooner, found}
-use Rattle.ada_refusals.specs.Met.{met_at}
+use Rattle.ada_refusals.specs.RefusedFirst.{refused_first_at}
 use Rattle.ada_expr_rules.specs.Judged.{fixed_value, both, raised_where, parts_met, IsJudged}
 use Rattle.ada_expr_rules.specs.declared.judging.Judged.{Judged}
 use Rattle.ada_refusals.proofs.SoonerLaws.{found_append}
@@ -48,7 +48,7 @@ pub judged_operand : (scope : Scope) (op : UnaryOp) (e : PExpr) (s : Span) (j r 
     → r.kind ≡ unary_kind (takes_one op) j.kind
     → r.value ≡ option_map (then_do (signed op s)) j.value
     → r.raised ≡ raised_where r.kind r.value j.raised
-    → r.parts ≡ sooner (met_at scope (node false (EUnary op e s))) j.parts
+    → r.parts ≡ sooner (refused_first_at scope (node false (EUnary op e s))) j.parts
     → IsJudged scope (EUnary op e s) r
 judged_operand scope op e s j r h k v w p =
     let kind : r.kind ≡ kind_of scope (EUnary op e s) = k ∙ ap (unary_kind (takes_one op)) h.kind_is in
@@ -57,14 +57,14 @@ judged_operand scope op e s j r h k v w p =
       kind_is = kind;
       value_is = value;
       raised_is = w ∙ alike _ _ _ _ _ _ kind value h.raised_is ∙ raised_is_where (kind_of scope (EUnary op e s)) (is_static scope.types e) (value_of scope.types (EUnary op e s)) (raises scope e);
-      parts_are = p ∙ ap (sooner (met_at scope (node false (EUnary op e s)))) h.parts_are;
+      parts_are = p ∙ ap (sooner (refused_first_at scope (node false (EUnary op e s)))) h.parts_are;
     }
 
 pub judged_operands : (scope : Scope) (op : BinaryOp) (a b : PExpr) (s : Span) (i j r : Judged) → IsJudged scope a i → IsJudged scope b j
     → r.kind ≡ binary_kind (takes op) i.kind j.kind
     → r.value ≡ both (operated op s) i.value j.value
     → r.raised ≡ raised_where r.kind r.value (sooner i.raised j.raised)
-    → r.parts ≡ sooner (met_at scope (node false (EBinary op a b s))) (sooner i.parts j.parts)
+    → r.parts ≡ sooner (refused_first_at scope (node false (EBinary op a b s))) (sooner i.parts j.parts)
     → IsJudged scope (EBinary op a b s) r
 judged_operands scope op a b s i j r g h k v w p =
     let kind : r.kind ≡ kind_of scope (EBinary op a b s) = k ∙ ap (λ x. binary_kind (takes op) x j.kind) g.kind_is ∙ ap (binary_kind (takes op) (kind_of scope a)) h.kind_is in
@@ -74,14 +74,14 @@ judged_operands scope op a b s i j r g h k v w p =
       kind_is = kind;
       value_is = value;
       raised_is = w ∙ alike _ _ _ _ _ _ kind value parts ∙ raised_is_where (kind_of scope (EBinary op a b s)) (is_static scope.types (EBinary op a b s)) (value_of scope.types (EBinary op a b s)) (raises scope a ++ raises scope b);
-      parts_are = p ∙ ap (λ x. sooner (met_at scope (node false (EBinary op a b s))) (sooner x j.parts)) g.parts_are ∙ ap (λ x. sooner (met_at scope (node false (EBinary op a b s))) (sooner (parts_met scope a) x)) h.parts_are;
+      parts_are = p ∙ ap (λ x. sooner (refused_first_at scope (node false (EBinary op a b s))) (sooner x j.parts)) g.parts_are ∙ ap (λ x. sooner (refused_first_at scope (node false (EBinary op a b s))) (sooner (parts_met scope a) x)) h.parts_are;
     }
 
 pub judged_attribute : (scope : Scope) (m w : Word) (e : PExpr) (s : Span) (j r : Judged) → IsJudged scope e j
     → r.kind ≡ attribute_kind (attribute_of w.name) (scalar_kind (marking scope m.name)) j.kind
     → r.value ≡ (if keeps_static (attribute_of w.name) && is_some (mark_named scope.types m.name) then option_map (then_do (attribute_at scope.types (mark_named scope.types m.name) (attribute_of w.name) s)) j.value else None)
     → r.raised ≡ raised_where r.kind r.value j.raised
-    → r.parts ≡ sooner (met_at scope (node false (EAttributeOf m w e s))) j.parts
+    → r.parts ≡ sooner (refused_first_at scope (node false (EAttributeOf m w e s))) j.parts
     → IsJudged scope (EAttributeOf m w e s) r
 judged_attribute scope m w e s j r h k v x p =
     let f : Result ℤ Span → Result ℤ Span = then_do (attribute_at scope.types (mark_named scope.types m.name) (attribute_of w.name) s) in
@@ -93,5 +93,5 @@ judged_attribute scope m w e s j r h k v x p =
       kind_is = kind;
       value_is = value;
       raised_is = x ∙ alike _ _ _ _ _ _ kind value h.raised_is ∙ raised_is_where (kind_of scope (EAttributeOf m w e s)) (is_static scope.types (EAttributeOf m w e s)) (value_of scope.types (EAttributeOf m w e s)) (raises scope e);
-      parts_are = p ∙ ap (sooner (met_at scope (node false (EAttributeOf m w e s)))) h.parts_are;
+      parts_are = p ∙ ap (sooner (refused_first_at scope (node false (EAttributeOf m w e s)))) h.parts_are;
     }

@@ -10,7 +10,7 @@ use Rattle.ada_tree.specs.ExprTypes.{kind_of}
 use Rattle.ada_tree.specs.Demand.{node}
 use Rattle.ada_tree.specs.RuleRangeBad.{raised, raises}
 use Rattle.ada_refusals.specs.Sooner.{sooner, found}
-use Rattle.ada_refusals.specs.Met.{met_at}
+use Rattle.ada_refusals.specs.RefusedFirst.{refused_first_at}
 use Rattle.ada_expr_rules.specs.declared.judging.Judged.{Judged}
 
 -- the value of a static expression, or the place of the operation in it that raises; nothing of another expression
@@ -30,13 +30,13 @@ raised_where _ _ o = o
 -- the first refusal of an expression's parts, which are no part of a text
 abbrev pub parts_met : Scope → PExpr → Option Refusal
 parts_met scope (EInteger n s) = None
-parts_met scope (EName id s) = met_at scope (node false (EName id s))
-parts_met scope (EIndex w e s) = sooner (met_at scope (node false (EIndex w e s))) (parts_met scope e)
-parts_met scope (EAttribute m w s) = met_at scope (node false (EAttribute m w s))
-parts_met scope (EAttributeOf m w e s) = sooner (met_at scope (node false (EAttributeOf m w e s))) (parts_met scope e)
+parts_met scope (EName id s) = refused_first_at scope (node false (EName id s))
+parts_met scope (EIndex w e s) = sooner (refused_first_at scope (node false (EIndex w e s))) (parts_met scope e)
+parts_met scope (EAttribute m w s) = refused_first_at scope (node false (EAttribute m w s))
+parts_met scope (EAttributeOf m w e s) = sooner (refused_first_at scope (node false (EAttributeOf m w e s))) (parts_met scope e)
 parts_met scope (EParen e s) = parts_met scope e
-parts_met scope (EUnary op e s) = sooner (met_at scope (node false (EUnary op e s))) (parts_met scope e)
-parts_met scope (EBinary op l r s) = sooner (met_at scope (node false (EBinary op l r s))) (sooner (parts_met scope l) (parts_met scope r))
+parts_met scope (EUnary op e s) = sooner (refused_first_at scope (node false (EUnary op e s))) (parts_met scope e)
+parts_met scope (EBinary op l r s) = sooner (refused_first_at scope (node false (EBinary op l r s))) (sooner (parts_met scope l) (parts_met scope r))
 
 pub record IsJudged (scope : Scope) (e : PExpr) (j : Judged) : Type 0 where
   pub kind_is : j.kind ≡ kind_of scope e

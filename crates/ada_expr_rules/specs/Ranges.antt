@@ -6,11 +6,11 @@ use Rattle.ada_tree.specs.Scope.{Scope, scalar_kind, marking, range_of_mark}
 use Rattle.ada_tree.specs.Scope as scope
 use Rattle.ada_tree.specs.Demand.{Site}
 use Rattle.ada_tree.specs.Declaring.{Made, made, made_none, mark_for, made_subind, marked_range, drange_kind, drange_range}
-use Rattle.ada_refusals.specs.Met.{met}
+use Rattle.ada_refusals.specs.RefusedFirst.{refused_first}
 use Rattle.ada_scopes.specs.Entries.{plain_range}
 use Rattle.ada_expr_rules.specs.Known.{IsKnown, range_of_both}
 use Rattle.ada_expr_rules.specs.declared.known.Known.{Known}
-use Rattle.ada_scopes.specs.declared.things.Range.{Range}
+use Rattle.ada_scopes.specs.declared.denotations.Range.{Range}
 use Rattle.ada_expr_rules.specs.declared.ranges.WalkedBounds.{WalkedBounds}
 use Rattle.ada_expr_rules.specs.declared.ranges.WalkedSubind.{WalkedSubind}
 use Rattle.ada_expr_rules.specs.declared.ranges.WalkedRange.{WalkedRange}
@@ -43,17 +43,17 @@ range_if None low high = None
 pub record AreBounds (sites : List Site) (scope : Scope) (b : PBounds) (w : WalkedBounds) : Type 0 where
   pub first_is : IsKnown scope b.first w.first
   pub last_is : IsKnown scope b.last w.last
-  pub refusal_is : w.refusal ≡ met sites
+  pub refusal_is : w.refusal ≡ refused_first sites
 
 -- the kind of a subtype indication, what it makes, and the first refusal at the places
 pub record IsSubind (sites : List Site) (scope : Scope) (x : PSubind) (w : WalkedSubind) : Type 0 where
   pub kind_is : w.kind ≡ scalar_kind (marking scope x.mark.name)
   pub made_is : made_as scope.types w.making ≡ made_subind scope x
   pub range_is : range_as scope.types w.making ≡ marked_range scope (marking scope x.mark.name) x.bounds
-  pub refusal_is : w.refusal ≡ met sites
+  pub refusal_is : w.refusal ≡ refused_first sites
 
 -- the kind of a discrete range, its values where its bounds are static, and the first refusal at the places
 pub record IsRange (sites : List Site) (scope : Scope) (r : PDrange) (w : WalkedRange) : Type 0 where
   pub kind_is : w.kind ≡ drange_kind scope r
   pub range_is : option_map plain_range w.range ≡ drange_range scope r
-  pub refusal_is : w.refusal ≡ met sites
+  pub refusal_is : w.refusal ≡ refused_first sites

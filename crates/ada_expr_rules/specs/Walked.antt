@@ -4,7 +4,7 @@ use Rattle.ada_tree.specs.PlainExpr.{PExpr}
 use Rattle.ada_tree.specs.Scope.{Scope}
 use Rattle.ada_tree.specs.ExprTypes.{kind_of}
 use Rattle.ada_tree.specs.Demand.{Site}
-use Rattle.ada_refusals.specs.Met.{met}
+use Rattle.ada_refusals.specs.RefusedFirst.{refused_first}
 use Rattle.ada_expr_rules.specs.Judged.{fixed_value}
 use Rattle.ada_expr_rules.specs.declared.walking.Walked.{Walked}
 
@@ -12,4 +12,4 @@ use Rattle.ada_expr_rules.specs.declared.walking.Walked.{Walked}
 pub record IsWalked (sites : List Site) (scope : Scope) (e : PExpr) (w : Walked) : Type 0 where
   pub kind_is : w.kind ≡ kind_of scope e
   pub value_is : w.value ≡ fixed_value scope.types e
-  pub refusal_is : w.refusal ≡ met sites
+  pub refusal_is : w.refusal ≡ refused_first sites

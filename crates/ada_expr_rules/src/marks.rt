@@ -4,7 +4,7 @@ ghost use Rattle.std.specs.Prelude.{◌≡◌};
 ghost use Rattle.ada_tree.specs.Demand.{stands_as_mark};
 ghost use Rattle.ada_tree.specs.RuleMismatch.{is_allowed, wrong_mark};
 ghost use Rattle.ada_refusals.specs.Sooner.{found};
-ghost use Rattle.ada_refusals.specs.Met.{met_at};
+ghost use Rattle.ada_refusals.specs.RefusedFirst.{refused_first_at};
 ghost use Rattle.ada_scopes.specs.Readings.{plain_marking};
 ghost use Rattle.ada_expr_rules.specs.Plain.{plain_use};
 
@@ -55,7 +55,7 @@ pub(crate) fn refuse_mark(scope: &Scope, allowed: MarkUse, mark: Word) -> Option
 /// A name that stands as a mark.
 #[tactic(auto, using(ada_refusals::proofs::SoonerLaws::sooner_laws))]
 pub fn walk_mark(scope: &Scope, allowed: MarkUse, mark: Word) -> Option<Refusal>
-    ensures { result ≡ met_at scope.now (stands_as_mark (plain_use allowed) mark) }
+    ensures { result ≡ refused_first_at scope.now (stands_as_mark (plain_use allowed) mark) }
 {
     let unseen = refuse_unseen(scope, mark.name, mark.span);
     let wrong = refuse_mark(scope, allowed, mark);

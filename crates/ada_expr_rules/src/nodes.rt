@@ -13,16 +13,16 @@ ghost use Rattle.ada_tree.specs.RuleArgCount.{index_on_scalar};
 ghost use Rattle.ada_tree.specs.RuleArrayUse.{whole_array};
 ghost use Rattle.ada_tree.specs.RuleTextUse.{image_in_node};
 ghost use Rattle.ada_refusals.specs.Sooner.{found};
-ghost use Rattle.ada_refusals.specs.Met.{met_at};
+ghost use Rattle.ada_refusals.specs.RefusedFirst.{refused_first_at};
 ghost use Rattle.ada_scopes.specs.Readings.{plain_reading, plain_marking};
 ghost use Rattle.ada_expr_rules.specs.Plain.{plain_attribute, plain_operand};
 
 use crate::kinds::{Attribute, attribute_named, does_take, is_other, operand_of, operand_of_one};
 use crate::marks::{MarkUse, refuse_mark};
 use ada_refusals::refusals::{Refusal, Rule, first, refuse, refuse_if};
+use ada_scopes::denotations::Thing;
 use ada_scopes::readings::{Marking, Reading, mark_named, read};
 use ada_scopes::scope::Scope;
-use ada_scopes::things::Thing;
 use ada_tree::{BinaryOp, Expr, NameId, ParMode, Span, UnaryOp, Word};
 
 /// A name that is not declared before.
@@ -104,7 +104,7 @@ pub fn refuse_index(
 /// A name in an expression.
 #[tactic(auto, using(ada_refusals::proofs::SoonerLaws::sooner_laws))]
 pub(crate) fn refuse_name(scope: &Scope, id: NameId, span: Span) -> Option<Refusal>
-    ensures { result ≡ met_at scope.now (node false (EName id span)) }
+    ensures { result ≡ refused_first_at scope.now (node false (EName id span)) }
 {
     let reading = read(scope, id);
     let unknown = refuse_unseen(scope, id, span);
@@ -124,7 +124,7 @@ pub(crate) fn refuse_component(
     span: Span,
 ) -> Option<Refusal>
     requires { kind ≡ kind_of scope.now (plain_expr arg.now) }
-    ensures { result ≡ met_at scope.now (node false (EIndex name (plain_expr arg.now) span)) }
+    ensures { result ≡ refused_first_at scope.now (node false (EIndex name (plain_expr arg.now) span)) }
 {
     let reading = read(scope, name.name);
     let unknown = refuse_unseen(scope, name.name, name.span);
@@ -178,7 +178,7 @@ pub fn refuse_bound(
     word: Word,
     span: Span,
 ) -> Option<Refusal>
-    ensures { result ≡ met_at scope.now (node written (EAttribute mark word span)) }
+    ensures { result ≡ refused_first_at scope.now (node written (EAttribute mark word span)) }
 {
     let unknown = refuse_words(scope, mark, word);
     let mismatch = refuse_mark(scope, MarkUse::Scalar, mark);
@@ -225,7 +225,7 @@ pub fn refuse_attribute(
     span: Span,
 ) -> Option<Refusal>
     requires { kind ≡ kind_of scope.now (plain_expr arg.now) }
-    ensures { result ≡ met_at scope.now (node written (EAttributeOf words.0 words.1 (plain_expr arg.now) span)) }
+    ensures { result ≡ refused_first_at scope.now (node written (EAttributeOf words.0 words.1 (plain_expr arg.now) span)) }
 {
     let (mark, word) = words;
     let attribute = attribute_named(word.name);
@@ -261,7 +261,7 @@ pub(crate) fn refuse_operand(
     span: Span,
 ) -> Option<Refusal>
     requires { kind ≡ kind_of scope.now (plain_expr part.now) }
-    ensures { result ≡ met_at scope.now (node false (EUnary op (plain_expr part.now) span)) }
+    ensures { result ≡ refused_first_at scope.now (node false (EUnary op (plain_expr part.now) span)) }
 {
     refuse_if(
         is_unfit(operand_of_one(op), kind),
@@ -301,7 +301,7 @@ pub(crate) fn refuse_operands(
 ) -> Option<Refusal>
     requires left { left_kind ≡ kind_of scope.now (plain_expr left.now) }
     requires right { right_kind ≡ kind_of scope.now (plain_expr right.now) }
-    ensures { result ≡ met_at scope.now (node false (EBinary op (plain_expr left.now) (plain_expr right.now) span)) }
+    ensures { result ≡ refused_first_at scope.now (node false (EBinary op (plain_expr left.now) (plain_expr right.now) span)) }
 {
     refuse_misfit(operand_of(op), left, left_kind, right, right_kind)
 }

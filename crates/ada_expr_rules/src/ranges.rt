@@ -8,7 +8,7 @@ ghost use Rattle.ada_tree.specs.Declaring.{subind_made, marked_range};
 ghost use Rattle.ada_tree.specs.RuleRangeBad.{is_below, is_outside};
 ghost use Rattle.ada_tree.specs.Sites.{expr_sites, static_if, bounds_sites, constraint_sites, subind_sites, drange_sites};
 ghost use Rattle.ada_refusals.specs.Sooner.{found};
-ghost use Rattle.ada_refusals.specs.Met.{met_at, met};
+ghost use Rattle.ada_refusals.specs.RefusedFirst.{refused_first_at, refused_first};
 ghost use Rattle.ada_scopes.specs.Readings.{plain_marking};
 ghost use Rattle.ada_expr_rules.specs.Plain.{plain_use};
 ghost use Rattle.ada_scopes.specs.Entries.{plain_range};
@@ -21,9 +21,9 @@ use crate::marks::{MarkUse, walk_mark};
 use crate::nodes::kind_of_mark;
 use crate::walking::{Walked, place, refuse_kind, refuse_not_static, walk};
 use ada_refusals::refusals::{Refusal, Rule, first, refuse_if};
+use ada_scopes::denotations::Range;
 use ada_scopes::readings::{Marking, mark_named};
 use ada_scopes::scope::Scope;
-use ada_scopes::things::Range;
 use ada_tree::{Bounds, Drange, Expr, Span, Subind};
 
 /// What is known of two bounds, and the first refusal at the places where they stand.
@@ -117,7 +117,7 @@ pub fn refuse_empty(
 ) -> Option<Refusal>
     requires first { IsKnown scope.now (plain_expr first.now) low }
     requires last { IsKnown scope.now (plain_expr last.now) high }
-    ensures { result ≡ met_at scope.now (must_not_be_empty (plain_expr first.now) (plain_expr last.now)) }
+    ensures { result ≡ refused_first_at scope.now (must_not_be_empty (plain_expr first.now) (plain_expr last.now)) }
 {
     refuse_below(low, high, place(first))
 }
@@ -130,7 +130,7 @@ pub fn refuse_outside(
     range: Option<Range>,
 ) -> Option<Refusal>
     requires { IsKnown scope.now (plain_expr e.now) known }
-    ensures { result ≡ met_at scope.now (must_lie_in (plain_expr e.now) (option_map plain_range range)) }
+    ensures { result ≡ refused_first_at scope.now (must_lie_in (plain_expr e.now) (option_map plain_range range)) }
 {
     refuse_beyond(range, known, place(e))
 }
@@ -138,7 +138,7 @@ pub fn refuse_outside(
 // A bound that must be static and is not.
 fn refuse_moving(scope: &Scope, fixed: bool, e: &Expr, known: Known) -> Option<Refusal>
     requires { IsKnown scope.now (plain_expr e.now) known }
-    ensures { result ≡ met (static_if fixed scope.now (plain_expr e.now)) }
+    ensures { result ≡ refused_first (static_if fixed scope.now (plain_expr e.now)) }
 {
     if fixed {
         refuse_not_static(scope, e, known.kind, known.value)

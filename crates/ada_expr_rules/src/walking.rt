@@ -5,7 +5,7 @@ ghost use Rattle.ada_tree.specs.PlainExpr.{plain_expr};
 ghost use Rattle.ada_tree.specs.ExprTypes.{place_of, kind_of};
 ghost use Rattle.ada_tree.specs.Demand.{must_be_of, must_be_static};
 ghost use Rattle.ada_tree.specs.Sites.{expr_sites, expr_of, static_of};
-ghost use Rattle.ada_refusals.specs.Met.{met_at};
+ghost use Rattle.ada_refusals.specs.RefusedFirst.{refused_first_at};
 ghost use Rattle.ada_expr_rules.specs.Judged.{fixed_value};
 ghost use Rattle.ada_expr_rules.specs.Walked.{IsWalked};
 
@@ -56,7 +56,7 @@ pub fn refuse_kind(
     kind: Option<u32>,
 ) -> Option<Refusal>
     requires { kind ≡ kind_of scope.now (plain_expr e.now) }
-    ensures { result ≡ met_at scope.now (must_be_of (plain_expr e.now) asked) }
+    ensures { result ≡ refused_first_at scope.now (must_be_of (plain_expr e.now) asked) }
 {
     refuse_other(asked, e, kind)
 }
@@ -97,7 +97,7 @@ pub(crate) fn refuse_not_static(
 ) -> Option<Refusal>
     requires kind { kind ≡ kind_of scope.now (plain_expr e.now) }
     requires value { value ≡ fixed_value scope.now.types (plain_expr e.now) }
-    ensures { result ≡ met_at scope.now (must_be_static (plain_expr e.now)) }
+    ensures { result ≡ refused_first_at scope.now (must_be_static (plain_expr e.now)) }
 {
     refuse_if(is_not_static(kind, value), Rule::NotStatic, place(e))
 }

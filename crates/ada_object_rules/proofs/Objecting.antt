@@ -11,17 +11,17 @@ use Rattle.ada_tree.specs.Scope.{Scope, Marking}
 use Rattle.ada_tree.specs.Declaring.{Declared, with_types, with_names, made_array, object_of, constant_mark, kind_at_mark, initial_value, constant_value, add_constants, declared_object, after_object}
 use Rattle.ada_tree.specs.Sites.{names_sites, shape_sites, if_there, init_sites, object_marking, object_sites, is_task_object}
 use Rattle.ada_refusals.specs.Sooner.{sooner}
-use Rattle.ada_refusals.specs.Met.{met}
+use Rattle.ada_refusals.specs.RefusedFirst.{refused_first}
 use Rattle.ada_scopes.specs.Entries.{plain_range}
-use Rattle.ada_scopes.specs.Things.{plain_thing}
-use Rattle.ada_object_rules.specs.Initials.{holder_sites}
+use Rattle.ada_scopes.specs.Denotations.{plain_thing}
+use Rattle.ada_object_rules.specs.inner.Initials.{holder_sites}
 use Rattle.ada_expr_rules.specs.Ranges.{made_as}
 use Rattle.ada_scopes.specs.Makings.{IsMade, add_constant}
-use Rattle.ada_object_rules.specs.Plans.{declared_as, IsPlanned}
-use Rattle.ada_object_rules.specs.Objects.{behind_plan, known_in, value_of_mark, with_values, IsDeclared}
+use Rattle.ada_object_rules.specs.inner.Plans.{declared_as, IsPlanned}
+use Rattle.ada_object_rules.specs.inner.Objects.{behind_plan, known_in, value_of_mark, with_values, IsDeclared}
 use Rattle.ada_expr_rules.specs.declared.known.Known.{Known}
-use Rattle.ada_scopes.specs.declared.things.Range.{Range}
-use Rattle.ada_scopes.specs.declared.things.Thing.{Thing}
+use Rattle.ada_scopes.specs.declared.denotations.Range.{Range}
+use Rattle.ada_scopes.specs.declared.denotations.Thing.{Thing}
 use Rattle.ada_object_rules.specs.declared.initials.Holder.{Holder}
 use Rattle.ada_expr_rules.specs.declared.ranges.Making.{Making}
 use Rattle.ada_object_rules.specs.declared.plans.Plan.TheVariants.{Row}
@@ -107,23 +107,23 @@ objects_after scope after names constant shape init planned known is_planned is_
     ∙ ap (λ v. with_names d.thing (with_types (if scope.in_main then add_constants names (constant_mark d.thing) v d.types else d.types) scope) names) (mark_values scope d.types init known (constant_mark d.thing) is_known)
 
 init_met : (scope : Scope) (holder : Holder) (types : TypeTable) (marking : Marking) (init : Option PInit) → ((value : PInit) → holder_sites scope holder value ≡ init_sites scope types marking value)
-    → met (if_there (holder_sites scope holder) init) ≡ met (if_there (init_sites scope types marking) init)
+    → refused_first (if_there (holder_sites scope holder) init) ≡ refused_first (if_there (init_sites scope types marking) init)
 init_met scope holder types marking None h = refl
-init_met scope holder types marking (Some value) h = ap met (h value)
+init_met scope holder types marking (Some value) h = ap refused_first (h value)
 
 -- what is refused first at the places of a declaration of objects
 pub objects_met : (scope : Scope) (names : List Word) (constant : Bool) (shape : PShape) (init : Option PInit) (planned : Planned) (a b c : Option Refusal)
     → IsPlanned scope constant shape planned
-    → a ≡ met (shape_sites scope constant shape init)
-    → b ≡ met (if_there (holder_sites scope planned.holder) init)
+    → a ≡ refused_first (shape_sites scope constant shape init)
+    → b ≡ refused_first (if_there (holder_sites scope planned.holder) init)
     → c ≡ sooner a b
-    → c ≡ met (object_sites scope names constant shape init (declared_object scope constant shape))
+    → c ≡ refused_first (object_sites scope names constant shape init (declared_object scope constant shape))
 objects_met scope names constant shape init planned a b c is_planned is_a is_b is_c =
     let d : Declared = declared_object scope constant shape in
     let fixed : Bool = scope.in_main && (constant || is_task_object d.thing) in
     is_c
     ∙ joined (names_sites fixed scope names ++ shape_sites scope constant shape init) (if_there (init_sites scope d.types (object_marking d)) init) a b
     (is_a
-    ∙ ap (λ o. sooner o (met (shape_sites scope constant shape init))) (names_met fixed scope names)
+    ∙ ap (λ o. sooner o (refused_first (shape_sites scope constant shape init))) (names_met fixed scope names)
     ∙ sym (met_append (names_sites fixed scope names) (shape_sites scope constant shape init)))
     (is_b ∙ init_met scope planned.holder d.types (object_marking d) init is_planned.holder_is)

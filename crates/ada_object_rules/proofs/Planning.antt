@@ -14,10 +14,10 @@ use Rattle.ada_tree.specs.Declaring.{Declared, of_made, made_none, made_range, m
 use Rattle.ada_tree.specs.Sites.{site, scalar_init_sites, array_init_sites, init_sites, object_marking}
 use Rattle.ada_scopes.specs.Readings.{plain_marking}
 use Rattle.ada_scopes.specs.Entries.{plain_range}
-use Rattle.ada_object_rules.specs.Initials.{holder_sites}
+use Rattle.ada_object_rules.specs.inner.Initials.{holder_sites}
 use Rattle.ada_expr_rules.specs.Ranges.{made_as}
-use Rattle.ada_object_rules.specs.Plans.{scalar_sites, row_sites, IsPlanned}
-use Rattle.ada_scopes.specs.declared.things.Range as code_range
+use Rattle.ada_object_rules.specs.inner.Plans.{scalar_sites, row_sites, IsPlanned}
+use Rattle.ada_scopes.specs.declared.denotations.Range as code_range
 use Rattle.ada_scopes.specs.declared.readings.Marking as code
 use Rattle.ada_scopes.specs.declared.readings.Marking.TheVariants as code_mark
 use Rattle.ada_object_rules.specs.declared.initials.Holder.{Holder}

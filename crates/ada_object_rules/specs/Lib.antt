@@ -1,4 +1,1 @@
-pub mod Initials
-pub mod Plans
-pub mod Shapes
-pub mod Objects
+pub mod inner

@@ -8,15 +8,15 @@ ghost use Rattle.ada_tree.specs.Demand.{for_scalar, for_array};
 ghost use Rattle.ada_tree.specs.RuleArrayUse.{wrong_initial};
 ghost use Rattle.ada_tree.specs.Sites.{value_sites, free_value_sites, scalar_init_sites, array_init_sites, all_init_sites};
 ghost use Rattle.ada_refusals.specs.Sooner.{found};
-ghost use Rattle.ada_refusals.specs.Met.{met};
+ghost use Rattle.ada_refusals.specs.RefusedFirst.{refused_first};
 ghost use Rattle.ada_scopes.specs.Entries.{plain_range};
-ghost use Rattle.ada_object_rules.specs.Initials.{holder_sites};
+ghost use Rattle.ada_object_rules.specs.inner.Initials.{holder_sites};
 
 use ada_expr_rules::ranges::{refuse_outside, walk_bound};
 use ada_expr_rules::walking::{place, walk_static};
 use ada_refusals::refusals::{Refusal, Rule, first, refuse};
+use ada_scopes::denotations::Range;
 use ada_scopes::scope::Scope;
-use ada_scopes::things::Range;
 use ada_tree::{Expr, Init};
 
 /// What an initial value is for: a scalar of a range, an array with the range of its index and that of its components, or an object whose declaration is refused.
@@ -39,7 +39,7 @@ fn kind_of_range(range: Option<Range>) -> Option<u32>
 
 // Walks an initial value in a range.
 fn walk_value(scope: &Scope, range: Option<Range>, e: &Expr) -> Option<Refusal>
-    ensures { result ≡ met (value_sites scope.now (option_map plain_range range) (plain_expr e.now)) }
+    ensures { result ≡ refused_first (value_sites scope.now (option_map plain_range range) (plain_expr e.now)) }
 {
     let walked = walk_static(scope, kind_of_range(range), e);
     let outside = refuse_outside(scope, e, walked.known(), range);
@@ -48,14 +48,14 @@ fn walk_value(scope: &Scope, range: Option<Range>, e: &Expr) -> Option<Refusal>
 
 // Walks an initial value in which nothing has a kind to meet.
 fn walk_free(scope: &Scope, e: &Expr) -> Option<Refusal>
-    ensures { result ≡ met (free_value_sites scope.now (plain_expr e.now)) }
+    ensures { result ≡ refused_first (free_value_sites scope.now (plain_expr e.now)) }
 {
     walk_bound(scope, true, e).refusal
 }
 
 // Walks initial values in a range.
 fn walk_values(scope: &Scope, range: Option<Range>, list: &[Expr]) -> Option<Refusal>
-    ensures { result ≡ met (flat_map (value_sites scope.now (option_map plain_range range)) (map plain_expr list.now)) }
+    ensures { result ≡ refused_first (flat_map (value_sites scope.now (option_map plain_range range)) (map plain_expr list.now)) }
 {
     let mut refusal = None;
     for e in list {
@@ -66,7 +66,7 @@ fn walk_values(scope: &Scope, range: Option<Range>, list: &[Expr]) -> Option<Ref
 
 // Walks initial values in which nothing has a kind to meet.
 fn walk_all_free(scope: &Scope, list: &[Expr]) -> Option<Refusal>
-    ensures { result ≡ met (flat_map (free_value_sites scope.now) (map plain_expr list.now)) }
+    ensures { result ≡ refused_first (flat_map (free_value_sites scope.now) (map plain_expr list.now)) }
 {
     let mut refusal = None;
     for e in list {
@@ -77,7 +77,7 @@ fn walk_all_free(scope: &Scope, list: &[Expr]) -> Option<Refusal>
 
 // Walks the initial value of a scalar.
 fn walk_scalar(scope: &Scope, range: Option<Range>, init: &Init) -> Option<Refusal>
-    ensures { result ≡ met (scalar_init_sites scope.now (option_map plain_range range) (plain_init init.now)) }
+    ensures { result ≡ refused_first (scalar_init_sites scope.now (option_map plain_range range) (plain_init init.now)) }
 {
     match init {
         Init::One(e) => walk_value(scope, range, e),
@@ -88,7 +88,7 @@ fn walk_scalar(scope: &Scope, range: Option<Range>, init: &Init) -> Option<Refus
 
 // Walks the initial value of an array.
 fn walk_array(scope: &Scope, range: Option<Range>, init: &Init) -> Option<Refusal>
-    ensures { result ≡ met (array_init_sites scope.now (option_map plain_range range) (plain_init init.now)) }
+    ensures { result ≡ refused_first (array_init_sites scope.now (option_map plain_range range) (plain_init init.now)) }
 {
     match init {
         Init::One(e) => walk_free(scope, e),
@@ -99,7 +99,7 @@ fn walk_array(scope: &Scope, range: Option<Range>, init: &Init) -> Option<Refusa
 
 // Walks the initial value of an object whose declaration is refused.
 fn walk_any(scope: &Scope, init: &Init) -> Option<Refusal>
-    ensures { result ≡ met (all_init_sites scope.now (plain_init init.now)) }
+    ensures { result ≡ refused_first (all_init_sites scope.now (plain_init init.now)) }
 {
     match init {
         Init::One(e) => walk_free(scope, e),
@@ -160,7 +160,7 @@ fn refuse_short(index: Range, init: &Init) -> Option<Refusal>
 
 /// Walks an initial value, by what it is for.
 pub(crate) fn walk_init(scope: &Scope, holder: Holder, init: &Init) -> Option<Refusal>
-    ensures { result ≡ met (holder_sites scope.now holder (plain_init init.now)) }
+    ensures { result ≡ refused_first (holder_sites scope.now holder (plain_init init.now)) }
 {
     match holder {
         Holder::Scalar(range) => {

@@ -8,8 +8,8 @@ ghost use Rattle.ada_expr_rules.specs.Ranges.{made_as};
 ghost use Rattle.ada_scopes.specs.Makings.{IsMade};
 
 use ada_expr_rules::ranges::Making;
+use ada_scopes::denotations::Range;
 use ada_scopes::scope::Scope;
-use ada_scopes::things::Range;
 use ada_tree::{Kind, Mark, NameId, Word};
 use std::alloc::AllocError;
 

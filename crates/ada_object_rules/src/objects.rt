@@ -4,12 +4,12 @@ ghost use Rattle.std.specs.Prelude.{◌≡◌, ℕ, if◌then◌else◌, option_
 ghost use Rattle.ada_tree.specs.PlainDecl.{plain_init, plain_shape};
 ghost use Rattle.ada_tree.specs.Declaring.{declared_object, after_object, object_of, task_object, task_row, constant_mark, kind_at_mark, initial_value, add_constants, with_names, with_types};
 ghost use Rattle.ada_tree.specs.Sites.{if_there, is_task_object, object_sites};
-ghost use Rattle.ada_refusals.specs.Met.{met};
+ghost use Rattle.ada_refusals.specs.RefusedFirst.{refused_first};
 ghost use Rattle.ada_scopes.specs.Entries.{plain_range};
-ghost use Rattle.ada_scopes.specs.Things.{plain_thing};
-ghost use Rattle.ada_object_rules.specs.Initials.{holder_sites};
-ghost use Rattle.ada_object_rules.specs.Plans.{declared_as};
-ghost use Rattle.ada_object_rules.specs.Objects.{behind_plan, known_in, with_values, IsDeclared};
+ghost use Rattle.ada_scopes.specs.Denotations.{plain_thing};
+ghost use Rattle.ada_object_rules.specs.inner.Initials.{holder_sites};
+ghost use Rattle.ada_object_rules.specs.inner.Plans.{declared_as};
+ghost use Rattle.ada_object_rules.specs.inner.Objects.{behind_plan, known_in, with_values, IsDeclared};
 
 use crate::initials::{Holder, walk_init};
 use crate::making::{bound, make, make_array};
@@ -17,8 +17,8 @@ use crate::plans::{Plan, walk_shape};
 use ada_expr_rules::known::Known;
 use ada_expr_rules::walking::walk;
 use ada_refusals::refusals::{Refusal, first};
+use ada_scopes::denotations::{Entries, Range, Thing};
 use ada_scopes::scope::Scope;
-use ada_scopes::things::{Entries, Range, Thing};
 use ada_tree::{Constant, Init, Shape, Word};
 use std::alloc::AllocError;
 use std::rc::Rc;
@@ -179,7 +179,7 @@ pub fn declare_all(scope: &mut Scope, names: &[Word], thing: &Thing) -> Result<(
 
 // Walks an initial value, where there is one.
 fn walk_init_if(scope: &Scope, holder: Holder, init: &Option<Init>) -> Option<Refusal>
-    ensures { result ≡ met (if_there (holder_sites scope.now holder) (option_map plain_init init.now)) }
+    ensures { result ≡ refused_first (if_there (holder_sites scope.now holder) (option_map plain_init init.now)) }
 {
     match init {
         Some(init) => walk_init(scope, holder, init),
@@ -213,7 +213,7 @@ pub fn walk_objects(
     init: &Option<Init>,
 ) -> Result<WalkedObjects, AllocError>
     ensures scope { IfOk result (λ r. r.scope ≡ after_object scope names.now constant (plain_shape shape.now) (option_map plain_init init.now)) }
-    ensures refusal { IfOk result (λ r. r.refusal ≡ met (object_sites scope names.now constant (plain_shape shape.now) (option_map plain_init init.now) (declared_object scope constant (plain_shape shape.now)))) }
+    ensures refusal { IfOk result (λ r. r.refusal ≡ refused_first (object_sites scope names.now constant (plain_shape shape.now) (option_map plain_init init.now) (declared_object scope constant (plain_shape shape.now)))) }
     ensures is_task { IfOk result (λ r. r.is_task ≡ is_task_object (declared_object scope constant (plain_shape shape.now)).thing) }
 {
     let walked = walk_shape(&scope, constant, shape, init)?;

@@ -6,13 +6,13 @@ ghost use Rattle.ada_tree.specs.PlainDecl.{plain_init, OPlain, ORow};
 ghost use Rattle.ada_tree.specs.Sites.{may_be_task, object_marks, component_marks, shape_sites};
 ghost use Rattle.ada_expr_rules.specs.Plain.{plain_use};
 ghost use Rattle.ada_expr_rules.specs.Ranges.{IsSubind};
-ghost use Rattle.ada_object_rules.specs.Shapes.{IsRow};
+ghost use Rattle.ada_object_rules.specs.inner.Shapes.{IsRow};
 
 use ada_expr_rules::marks::MarkUse;
 use ada_expr_rules::ranges::{Making, WalkedSubind, walk_range, walk_subind};
 use ada_refusals::refusals::{Refusal, first};
+use ada_scopes::denotations::Range;
 use ada_scopes::scope::Scope;
-use ada_scopes::things::Range;
 use ada_tree::{Bounds, Drange, Init, Subind};
 
 /// The index range of an array that is declared with an object, what its components' subtype indication makes, and the first refusal at the places of both.

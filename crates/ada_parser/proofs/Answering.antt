@@ -17,7 +17,7 @@ use Rattle.ada_expr_parser.specs.Gives.{Fails}
 use Rattle.ada_parser.specs.declared.errors.ReadError.{ReadError}
 use Rattle.ada_parser.specs.declared.errors.ReadError.TheVariants as errors
 use Rattle.ada_parser.specs.Reads.{Reads, SyntaxAt, TooDeepAt}
-use Rattle.ada_parser.specs.ReadingUnits as reading
+use Rattle.ada_parser.specs.inner.ReadingUnits as reading
 use Rattle.ada_parser.specs.Exactly.{IsRead}
 use Rattle.ada_parser.specs.Refusals.{IsUnsplit, IsRefusedFor, whole_error, tokens_error}
 use Rattle.ada_parser.proofs.PlacedItems.{read_is_placed}

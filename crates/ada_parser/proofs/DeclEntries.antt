@@ -30,7 +30,7 @@ use Rattle.ada_phrase_parser.specs.Phrases.{Drange, Formals}
 use Rattle.ada_task_parser.specs.Tasks.{IsEntry}
 use Rattle.ada_phrase_parser.specs.Reading.{is_symbol, is_formal_mark, behind_index}
 use Rattle.ada_phrase_parser.specs.Reading as pieces
-use Rattle.ada_task_parser.specs.ReadingTasks as tasks
+use Rattle.ada_task_parser.specs.inner.ReadingTasks as tasks
 use Rattle.ada_parser.proofs.KitPieces.{KeyAt, Closing, closing_key, closing_then, closing_same, same_self, same_turn, same_behind, same_grouped, placed_key, key_placed}
 use Rattle.ada_parser.proofs.KitReading.{Made, made_key, made_bind, made_then, made_pure, law_word, law_closed, starts_key, starts_last}
 use Rattle.ada_parser.proofs.KitLeading.{symbol_at}

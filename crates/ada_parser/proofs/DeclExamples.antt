@@ -15,10 +15,10 @@ use Rattle.ada_expr_parser.specs.declared.items.Item.{Item}
 use Rattle.ada_expr_parser.specs.Tests.{same}
 use Rattle.ada_expr_parser.specs.Grammar.{symbol_item, word_item, number_item}
 use Rattle.ada_phrase_parser.specs.Spelling.{Source}
-use Rattle.ada_decl_parser.specs.ReadingDeclarations.{init}
-use Rattle.ada_task_parser.specs.ReadingTasks.{entry_rest}
-use Rattle.ada_parser.specs.ReadingDeclarativeParts.{decl, decl_list}
-use Rattle.ada_parser.specs.ReadingUnits.{text}
+use Rattle.ada_decl_parser.specs.inner.ReadingDeclarations.{init}
+use Rattle.ada_task_parser.specs.inner.ReadingTasks.{entry_rest}
+use Rattle.ada_parser.specs.inner.ReadingDeclarativeParts.{decl, decl_list}
+use Rattle.ada_parser.specs.inner.ReadingUnits.{text}
 
 abbrev at : ℕ → ℕ → Span
 at first last = record { start = first; end = last }

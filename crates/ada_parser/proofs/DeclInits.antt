@@ -36,7 +36,7 @@ use Rattle.ada_phrase_parser.specs.Phrases.{Expression, Drange}
 use Rattle.ada_parser.specs.Declarations.{Subind, IsShape, IsInit}
 use Rattle.ada_phrase_parser.specs.Reading.{is_symbol, last_key, more_behind}
 use Rattle.ada_parser.proofs.KitLeading.{symbol_at, is_itself}
-use Rattle.ada_decl_parser.specs.ReadingDeclarations as reading
+use Rattle.ada_decl_parser.specs.inner.ReadingDeclarations as reading
 use Rattle.ada_parser.proofs.KitPieces.{KeyAt, Closing, closing_key, closing_then, placed_key, key_placed, last_append, last_is}
 use Rattle.ada_parser.proofs.KitReading.{Made, Both, made_key, made_bind, made_then, made_pure, law_symbol, law_last, law_more, starts_key, starts_last, key_taken, taken_key}
 use Rattle.ada_parser.proofs.KitDeeper.{Expressions, law_expression}

@@ -28,9 +28,9 @@ use Rattle.ada_stmt_parser.specs.Statements.{IsBody}
 use Rattle.ada_parser.specs.Declarations.{UnitEnd, Decls}
 use Rattle.ada_phrase_parser.specs.Reading.{is_symbol}
 use Rattle.ada_stmt_parser.specs.ReadingStatements.{readers}
-use Rattle.ada_task_parser.specs.ReadingTasks as tasks
-use Rattle.ada_decl_parser.specs.ReadingDeclarations as reading
-use Rattle.ada_parser.specs.ReadingDeclarativeParts as declarative
+use Rattle.ada_task_parser.specs.inner.ReadingTasks as tasks
+use Rattle.ada_decl_parser.specs.inner.ReadingDeclarations as reading
+use Rattle.ada_parser.specs.inner.ReadingDeclarativeParts as declarative
 use Rattle.ada_parser.proofs.KitPieces.{Closing, closing_then, closing_same, Same, same_self, same_behind, same_then, same_through, same_grouped}
 use Rattle.ada_parser.proofs.KitReading.{Made, Both, made_key, made_bind, made_then, made_pure, law_word, starts_key}
 use Rattle.ada_parser.proofs.KitLeading.{among, symbol_at, Led, led_refuse, led_on}

@@ -26,7 +26,7 @@ use Rattle.ada_phrase_parser.specs.Phrases.{Expression}
 use Rattle.ada_parser.specs.Declarations.{IsShape, IsInit, IsObject, IsDecl}
 use Rattle.ada_task_parser.specs.Tasks.{TaskWord, TaskRest}
 use Rattle.ada_phrase_parser.specs.Reading.{closed}
-use Rattle.ada_decl_parser.specs.ReadingDeclarations as reading
+use Rattle.ada_decl_parser.specs.inner.ReadingDeclarations as reading
 use Rattle.ada_parser.proofs.KitPieces.{KeyAt, Closing, closing_key, closing_then, placed_word, word_placed, Same, same_grouped, same_through, same_behind}
 use Rattle.ada_parser.proofs.KitReading.{Made, made_key, made_bind, law_word, law_key, law_closed, law_more, starts_key, starts_last, key_taken, taken_key}
 use Rattle.ada_parser.proofs.KitDeeper.{law_expression}

@@ -21,7 +21,7 @@ use Rattle.ada_expr_laws.proofs.Primaries.{no_place}
 use Rattle.ada_expr_laws.proofs.Plainly.{after_symbol, symbol_then}
 use Rattle.ada_phrase_parser.specs.Spelling.{Source, Spelling, ◌▷◌, Either, Key, Row}
 use Rattle.ada_task_parser.specs.Tasks.{Member, MEntry, MPriority, IsMember, TaskRest}
-use Rattle.ada_task_parser.specs.ReadingTasks as tasks
+use Rattle.ada_task_parser.specs.inner.ReadingTasks as tasks
 use Rattle.ada_parser.proofs.KitPieces.{KeyAt, Closing, closing_key, closing_then, after_key}
 use Rattle.ada_parser.proofs.KitReading.{Made, Both, made_key, made_bind, made_pure, starts_key}
 use Rattle.ada_parser.proofs.KitDeeper.{NameEnd, law_end_of, closing_end}

@@ -27,9 +27,9 @@ use Rattle.ada_phrase_parser.specs.Spelling.{Source, Spelling, ◌▷◌, May, K
 use Rattle.ada_phrase_parser.specs.Phrases.{Names, Expression, Drange}
 use Rattle.ada_parser.specs.Declarations.{Subind, ArrayOf}
 use Rattle.ada_phrase_parser.specs.Reading.{closed, key_then, separated, with_id_if, with_id, predefined_word}
-use Rattle.ada_decl_parser.specs.ReadingDeclarations as reading
-use Rattle.ada_task_parser.specs.ReadingTasks as tasks
-use Rattle.ada_parser.specs.ReadingDeclarativeParts as declarative
+use Rattle.ada_decl_parser.specs.inner.ReadingDeclarations as reading
+use Rattle.ada_task_parser.specs.inner.ReadingTasks as tasks
+use Rattle.ada_parser.specs.inner.ReadingDeclarativeParts as declarative
 use Rattle.ada_parser.proofs.KitPieces.{KeyAt, Closing, closing_key, closing_then, closing_same, Same, same_self, same_grouped, same_through, same_behind}
 use Rattle.ada_parser.proofs.KitReading.{Made, Both, made_key, made_bind, law_word, law_key, law_closed, law_separated, starts_key, starts_last}
 use Rattle.ada_parser.proofs.KitDeeper.{Expressions, law_expression}

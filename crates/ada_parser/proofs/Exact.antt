@@ -11,7 +11,7 @@ use Rattle.ada_expr_parser.specs.Items.{AreItems, names_after}
 use Rattle.ada_expr_parser.specs.Gives.{FaultsAt}
 use Rattle.ada_parser.specs.Units.{PUnit}
 use Rattle.ada_parser.specs.Reads.{HasItems, Reads, SyntaxAt, TooDeepAt}
-use Rattle.ada_parser.specs.ReadingUnits as reading
+use Rattle.ada_parser.specs.inner.ReadingUnits as reading
 use Rattle.ada_parser.specs.Laws.{HasOneText}
 use Rattle.ada_parser.specs.Exactly.{program_of, IsRead, IsRefused, IsTooDeepAt, Says, ReadsExactly}
 use Rattle.ada_parser.proofs.OneText.{names_one, items_are_one}

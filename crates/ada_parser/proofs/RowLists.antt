@@ -7,7 +7,7 @@ use Rattle.ada_expr_parser.specs.declared.errors.ParseError.{ParseError}
 use Rattle.ada_expr_parser.specs.declared.errors.ParseError.TheVariants.{Syntax, TooDeep, Memory}
 use Rattle.ada_expr_parser.specs.Gives.{Fails, FaultsAt}
 use Rattle.ada_expr_parser.proofs.Chains.{front_and_rest}
-use Rattle.ada_parser.specs.ReadingRows.{row}
+use Rattle.ada_parser.specs.inner.ReadingRows.{row}
 use Rattle.ada_parser.proofs.Rows.{row_step, row_fault, row_end}
 
 -- what is read behind the parts so far is what was to be read behind the first ones

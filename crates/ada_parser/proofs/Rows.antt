@@ -11,7 +11,7 @@ use Rattle.lawful_reader.proofs.Binding.{law_pure, law_bind}
 use Rattle.lawful_reader.proofs.Choosing.{careful_refuse}
 use Rattle.lawful_reader.proofs.Fitting.{starts_is, starts_never, starts_then, law_fit}
 use Rattle.lawful_reader.proofs.Looking.{careful_look, law_look}
-use Rattle.ada_parser.specs.ReadingRows.{row_in, row}
+use Rattle.ada_parser.specs.inner.ReadingRows.{row_in, row}
 use Rattle.ada_parser.proofs.Narrowing.{Narrow, narrow_where, narrow_starts}
 
 -- each part may stand where it does

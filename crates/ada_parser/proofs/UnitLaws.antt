@@ -24,9 +24,9 @@ use Rattle.ada_task_parser.specs.Tasks.{TaskWord, TaskRest}
 use Rattle.ada_parser.specs.Declarations.{UnitEnd, Decls}
 use Rattle.ada_parser.specs.Units.{PUnit, Context, Units}
 use Rattle.ada_stmt_parser.specs.ReadingStatements.{readers}
-use Rattle.ada_parser.specs.ReadingDeclarativeParts as declarative
-use Rattle.ada_parser.specs.ReadingDeclarativeParts.{begins_later, begins_decl, begins_behind, is_body}
-use Rattle.ada_parser.specs.ReadingUnits as units
+use Rattle.ada_parser.specs.inner.ReadingDeclarativeParts as declarative
+use Rattle.ada_parser.specs.inner.ReadingDeclarativeParts.{begins_later, begins_decl, begins_behind, is_body}
+use Rattle.ada_parser.specs.inner.ReadingUnits as units
 use Rattle.ada_parser.proofs.KitPieces.{Closing, closing_then, closing_same, Same, same_self, same_behind, after_key}
 use Rattle.ada_parser.proofs.KitReading.{Made, made_key, made_bind, made_then, made_pure, law_word, law_key, starts_key, key_taken, taken_key}
 use Rattle.ada_parser.proofs.KitDeeper.{NameEnd, closing_end}

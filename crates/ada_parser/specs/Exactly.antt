@@ -6,7 +6,7 @@ use Rattle.ada_expr_parser.specs.declared.items.Item.{Item}
 use Rattle.ada_expr_parser.specs.Gives.{place}
 use Rattle.ada_parser.specs.Units.{PUnit}
 use Rattle.ada_parser.specs.Reads.{HasItems, Reads, SyntaxAt, TooDeepAt}
-use Rattle.ada_parser.specs.ReadingUnits as reading
+use Rattle.ada_parser.specs.inner.ReadingUnits as reading
 
 -- the program of a unit, with the names of its text
 abbrev pub program_of : List (List ℕ) → PUnit → PProgram

@@ -1,10 +1,7 @@
-pub mod ReadingDeclarativeParts
 pub mod Declarations
 pub mod Units
 pub mod Reads
-pub mod ReadingRows
-pub mod ReadingUnits
 pub mod Laws
 pub mod Exactly
-pub mod UnitViews
 pub mod Refusals
+pub mod inner

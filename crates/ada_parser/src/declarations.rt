@@ -6,8 +6,8 @@ ghost use Rattle.lawful_reader.specs.Readers.{fronted};
 ghost use Rattle.ada_tree.specs.PlainDecl.{plain_decl, decls_of};
 ghost use Rattle.ada_expr_parser.specs.Gives.{Gives};
 ghost use Rattle.ada_phrase_parser.specs.Spelling.{id_of};
-ghost use Rattle.ada_decl_parser.specs.ReadingDeclarations as declarations;
-ghost use Rattle.ada_parser.specs.ReadingDeclarativeParts as declarative;
+ghost use Rattle.ada_decl_parser.specs.inner.ReadingDeclarations as declarations;
+ghost use Rattle.ada_parser.specs.inner.ReadingDeclarativeParts as declarative;
 ghost use Rattle.ada_phrase_parser.specs.Views.{told};
 
 use crate::task_bodies::read_task;

@@ -4,12 +4,12 @@
 #![tactic(auto)]
 
 mod declarations;
-mod ends;
 mod errors;
 mod laws;
 mod objects;
 mod reading;
 mod task_bodies;
+mod unit_ends;
 mod units;
 
 pub use errors::ReadError;

@@ -11,10 +11,10 @@ ghost use Rattle.ada_parser.specs.declared.errors.ReadError.TheVariants as error
 ghost use Rattle.ada_phrase_parser.specs.Spelling.{id_of};
 ghost use Rattle.ada_parser.specs.Reads as reads;
 ghost use Rattle.ada_parser.specs.Reads.{Reads, SyntaxAt, TooDeepAt};
-ghost use Rattle.ada_parser.specs.ReadingUnits as units;
+ghost use Rattle.ada_parser.specs.inner.ReadingUnits as units;
 ghost use Rattle.ada_parser.specs.Exactly.{IsRead, program_of};
 ghost use Rattle.ada_parser.specs.Refusals.{IsRefusedFor, whole_error, tokens_error};
-ghost use Rattle.ada_parser.specs.UnitViews.{plain_unit};
+ghost use Rattle.ada_parser.specs.inner.UnitViews.{plain_unit};
 ghost use Rattle.ada_phrase_parser.specs.Views.{told};
 
 use crate::errors::ReadError;

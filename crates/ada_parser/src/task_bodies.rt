@@ -6,11 +6,11 @@ ghost use Rattle.ada_tree.specs.PlainDecl.{plain_decl, decls_of, DTaskBody};
 ghost use Rattle.ada_expr_parser.specs.Trees.{from_to};
 ghost use Rattle.ada_expr_parser.specs.Gives.{Gives};
 ghost use Rattle.ada_phrase_parser.specs.Spelling.{id_of};
-ghost use Rattle.ada_parser.specs.ReadingDeclarativeParts as declarative;
+ghost use Rattle.ada_parser.specs.inner.ReadingDeclarativeParts as declarative;
 ghost use Rattle.ada_phrase_parser.specs.Views.{told};
 
-use crate::ends::unit_end;
 use crate::objects::read_objects;
+use crate::unit_ends::unit_end;
 use ada_expr_parser::{Item, ParseError, Symbol, expect, expect_word};
 use ada_phrase_parser::{Source, from_to, is_symbol, word_in};
 use ada_task_parser::task_rest;

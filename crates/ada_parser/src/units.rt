@@ -3,14 +3,14 @@
 ghost use Rattle.std.specs.Prelude.{◌≡◌, ◌<◌, ◌≤◌, suc, true, false, codes, IfOk, length};
 ghost use Rattle.ada_expr_parser.specs.Gives.{Gives};
 ghost use Rattle.ada_phrase_parser.specs.Spelling.{id_of};
-ghost use Rattle.ada_parser.specs.ReadingDeclarativeParts as declarative;
-ghost use Rattle.ada_parser.specs.ReadingUnits as units;
-ghost use Rattle.ada_parser.specs.UnitViews as views;
-ghost use Rattle.ada_parser.specs.UnitViews.{plain_unit};
+ghost use Rattle.ada_parser.specs.inner.ReadingDeclarativeParts as declarative;
+ghost use Rattle.ada_parser.specs.inner.ReadingUnits as units;
+ghost use Rattle.ada_parser.specs.inner.UnitViews as views;
+ghost use Rattle.ada_parser.specs.inner.UnitViews.{plain_unit};
 ghost use Rattle.ada_phrase_parser.specs.Views.{told};
 
 use crate::declarations::read_decls;
-use crate::ends::unit_end;
+use crate::unit_ends::unit_end;
 use ada_expr_parser::{Item, ParseError, Symbol, expect, expect_word, symbol_in};
 use ada_phrase_parser::{Source, expect_id};
 use ada_tree::{Body, Decl, NameId, Word};

@@ -14,8 +14,8 @@ use Rattle.syn_event.specs.RuleMainEntry.{no_task}
 use Rattle.syn_event.specs.RuleAbortOrder.{own_task}
 use Rattle.syn_event.specs.RuleExitPlace.{is_left}
 use Rattle.ada_rules.specs.Sooner.{found}
-use Rattle.ada_rules.specs.Met.{Standard, met_at, met}
-use Rattle.ada_part_places.specs.Asking.{is_shared, is_no_task, is_own_task}
+use Rattle.ada_rules.specs.RefusedFirst.{Standard, refused_first_at, refused_first}
+use Rattle.ada_part_places.specs.inner.Asking.{is_shared, is_no_task, is_own_task}
 use Rattle.ada_rules.proofs.Meeting.{at_uses, at_addresses, at_aborts, at_exits, at_raises, met_one}
 
 used_by : (own : Option Unit) (m : Option Meant) (s : Span) → in_body_of own (shared_name m s) ≡ (if is_some (option_map (λ u. u.name) own) && is_shared m then s ∷ [] else [])
@@ -28,7 +28,7 @@ used_by (Some u) (Some Shared) s = refl
 used_by (Some u) (Some Inner) s = refl
 
 pub uses_at : (by : Standard) (around : Surrounding) (id : NameId) (s : Span)
-    → met_at by around (uses id s) ≡ found 13 (if is_some (option_map (λ u. u.name) around.own) && is_shared (meaning around id) then s ∷ [] else [])
+    → refused_first_at by around (uses id s) ≡ found 13 (if is_some (option_map (λ u. u.name) around.own) && is_shared (meaning around id) then s ∷ [] else [])
 uses_at by around id s = at_uses by around id s ∙ ap (found 13) (used_by around.own (meaning around id) s)
 
 addressed_by : (m : Option Meant) (s : Span) → no_task m s ≡ (if is_no_task m then s ∷ [] else [])
@@ -39,7 +39,7 @@ addressed_by (Some (TaskOf unit)) s = refl
 addressed_by (Some Shared) s = refl
 addressed_by (Some Inner) s = refl
 
-pub addresses_at : (by : Standard) (around : Surrounding) (w : Word) → met_at by around (addresses w) ≡ found 18 (if is_no_task (meaning around w.name) then w.span ∷ [] else [])
+pub addresses_at : (by : Standard) (around : Surrounding) (w : Word) → refused_first_at by around (addresses w) ≡ found 18 (if is_no_task (meaning around w.name) then w.span ∷ [] else [])
 addresses_at by around w = at_addresses by around w ∙ ap (found 18) (addressed_by (meaning around w.name) w.span)
 
 aborted_by : (own : Option Unit) (m : Option Meant) (s : Span) → own_task own m s ≡ (if is_own_task (option_map (λ u. u.name) own) m then s ∷ [] else [])
@@ -52,15 +52,15 @@ aborted_by (Some u) (Some Shared) s = refl
 aborted_by (Some u) (Some Inner) s = refl
 
 pub aborts_at : (by : Standard) (around : Surrounding) (w : Word)
-    → met_at by around (aborts_before w) ≡ found 19 (if is_own_task (option_map (λ u. u.name) around.own) (meaning around w.name) then w.span ∷ [] else [])
+    → refused_first_at by around (aborts_before w) ≡ found 19 (if is_own_task (option_map (λ u. u.name) around.own) (meaning around w.name) then w.span ∷ [] else [])
 aborts_at by around w = at_aborts by around w ∙ ap (found 19) (aborted_by around.own (meaning around w.name) w.span)
 
 turned : (b : Bool) (s : Span) → (if b then [] else s ∷ []) ≡ (if not b then s ∷ [] else [])
 turned true s = refl
 turned false s = refl
 
-pub exits_at : (by : Standard) (around : Surrounding) (w : Option Word) (s : Span) → met_at by around (exits w s) ≡ found 21 (if not (list_any (is_left w) around.loops) then s ∷ [] else [])
+pub exits_at : (by : Standard) (around : Surrounding) (w : Option Word) (s : Span) → refused_first_at by around (exits w s) ≡ found 21 (if not (list_any (is_left w) around.loops) then s ∷ [] else [])
 exits_at by around w s = at_exits by around w s ∙ ap (found 21) (turned (list_any (is_left w) around.loops) s)
 
-pub raises_met : (by : Standard) (around : Surrounding) (s : Span) → met by (spot around (raises_again s) ∷ []) ≡ found 22 (if not around.in_handler then s ∷ [] else [])
+pub raises_met : (by : Standard) (around : Surrounding) (s : Span) → refused_first by (spot around (raises_again s) ∷ []) ≡ found 22 (if not around.in_handler then s ∷ [] else [])
 raises_met by around s = met_one by around (raises_again s) ∙ at_raises by around s ∙ ap (found 22) (turned around.in_handler s)

@@ -7,7 +7,7 @@ use Rattle.std.proofs.lemmas.List.Sums.{sum_by-cons}
 use Rattle.ada_tree.specs.declared.statements.Alt.{Alt}
 use Rattle.ada_tree.specs.PlainStmt.{PAltKind, AAccept, ADelay, ATerminate, plain_alt, plain_alt_kind, alts_of}
 use Rattle.syn_event.specs.RuleSelectForm.{alt_kinds, is_accept, is_delay, is_terminate, some, one_if, is_malformed}
-use Rattle.ada_part_places.specs.Waiting.{with_kind, no_forms, forms_behind, forms_in, wrong_form}
+use Rattle.ada_part_places.specs.inner.Waiting.{with_kind, no_forms, forms_behind, forms_in, wrong_form}
 use Rattle.ada_part_places.specs.declared.waits.Forms.{Forms}
 use Rattle.ada_rules.proofs.Listing.{cut}
 

@@ -1,5 +1,1 @@
-pub mod Asking
-pub mod Claiming
-pub mod Waiting
-pub mod Aborted
-pub mod WalkedExpr
+pub mod inner

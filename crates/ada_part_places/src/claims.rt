@@ -2,7 +2,7 @@
 
 ghost use Rattle.std.specs.Prelude.{◌≡◌, ◌∷◌, [], List, OnOk};
 ghost use Rattle.std.specs.List.{list_any};
-ghost use Rattle.ada_part_places.specs.Claiming.{meets, AreClaims};
+ghost use Rattle.ada_part_places.specs.inner.Claiming.{meets, AreClaims};
 
 use ada_surroundings::NameSet;
 use ada_tree::NameId;

@@ -6,9 +6,9 @@ ghost use Rattle.ada_tree.specs.PlainExpr.{plain_expr, plain_bounds, plain_subin
 ghost use Rattle.syn_event.specs.declared.limits.What.TheVariants.{Nesting};
 ghost use Rattle.syn_event.specs.Surrounding.{Surrounding, uses, counts};
 ghost use Rattle.syn_event.specs.Spots.{if_there, expr_spots, exprs_spots, bounds_spots, subind_spots, drange_spots};
-ghost use Rattle.ada_part_places.specs.Asking.{is_shared};
-ghost use Rattle.ada_rules.specs.Met.{Standard as By, met_at, met};
-ghost use Rattle.ada_part_places.specs.WalkedExpr.{own_expr_met, operands_met};
+ghost use Rattle.ada_part_places.specs.inner.Asking.{is_shared};
+ghost use Rattle.ada_rules.specs.RefusedFirst.{Standard as By, refused_first_at, refused_first};
+ghost use Rattle.ada_part_places.specs.inner.WalkedExpr.{own_expr_met, operands_met};
 
 use ada_rules::{Refusal, Rule, Standard, first, refuse_if};
 use ada_surroundings::Surroundings;
@@ -28,7 +28,7 @@ pub fn deeper(k: u32) -> Result<u32, AllocError>
 
 /// A part that stands so deep.
 pub fn refuse_deep(by: &Standard, k: u32, span: Span) -> Option<Refusal>
-    ensures { (around : Surrounding) → result ≡ met_at by.now around (counts Nesting 0 k span) }
+    ensures { (around : Surrounding) → result ≡ refused_first_at by.now around (counts Nesting 0 k span) }
 {
     by.refuse_count(What::Nesting, 0, k as u64, span)
 }
@@ -46,7 +46,7 @@ fn is_shared(meant: Option<Meant>) -> bool
 /// A name that stands for a value or a variable.
 #[tactic(auto, using(crate::proofs::Asking::uses_at))]
 pub(crate) fn refuse_use(around: &Surroundings, id: NameId, span: Span) -> Option<Refusal>
-    ensures { (by : By) → result ≡ met_at by around.now (uses id span) }
+    ensures { (by : By) → result ≡ refused_first_at by around.now (uses id span) }
 {
     let is_wrong = around.own_name().is_some() && is_shared(around.meaning(id));
     refuse_if(is_wrong, Rule::SharedVariable, span)
@@ -99,7 +99,7 @@ pub fn walk_expr(
     k: u32,
     e: &Expr,
 ) -> Result<Option<Refusal>, AllocError>
-    ensures { IfOk result (λ r. r ≡ met by.now (expr_spots around.now k (plain_expr e.now))) }
+    ensures { IfOk result (λ r. r ≡ refused_first by.now (expr_spots around.now k (plain_expr e.now))) }
 {
     let inner = walk_operands(around, by, deeper(k)?, e)?;
     Ok(first(refuse_own(around, by, k, e), inner))
@@ -112,7 +112,7 @@ pub fn walk_maybe(
     k: u32,
     e: &Option<Expr>,
 ) -> Result<Option<Refusal>, AllocError>
-    ensures { IfOk result (λ r. r ≡ met by.now (if_there (expr_spots around.now k) (option_map plain_expr e.now))) }
+    ensures { IfOk result (λ r. r ≡ refused_first by.now (if_there (expr_spots around.now k) (option_map plain_expr e.now))) }
 {
     match e {
         Some(e) => walk_expr(around, by, k, e),
@@ -127,7 +127,7 @@ pub fn walk_exprs(
     k: u32,
     list: &[Expr],
 ) -> Result<Option<Refusal>, AllocError>
-    ensures { IfOk result (λ r. r ≡ met by.now (exprs_spots around.now k (map plain_expr list.now))) }
+    ensures { IfOk result (λ r. r ≡ refused_first by.now (exprs_spots around.now k (map plain_expr list.now))) }
 {
     let mut refusal = None;
     for e in list {
@@ -144,7 +144,7 @@ pub(crate) fn walk_bounds(
     k: u32,
     bounds: &Bounds,
 ) -> Result<Option<Refusal>, AllocError>
-    ensures { IfOk result (λ r. r ≡ met by.now (bounds_spots around.now k (plain_bounds bounds.now))) }
+    ensures { IfOk result (λ r. r ≡ refused_first by.now (bounds_spots around.now k (plain_bounds bounds.now))) }
 {
     let low = walk_expr(around, by, k, &bounds.first)?;
     let high = walk_expr(around, by, k, &bounds.last)?;
@@ -158,7 +158,7 @@ pub fn walk_subind(
     k: u32,
     x: &Subind,
 ) -> Result<Option<Refusal>, AllocError>
-    ensures { IfOk result (λ r. r ≡ met by.now (subind_spots around.now k (plain_subind x.now))) }
+    ensures { IfOk result (λ r. r ≡ refused_first by.now (subind_spots around.now k (plain_subind x.now))) }
 {
     match &x.bounds {
         Some(bounds) => walk_bounds(around, by, k, bounds),
@@ -173,7 +173,7 @@ pub fn walk_drange(
     k: u32,
     range: &Drange,
 ) -> Result<Option<Refusal>, AllocError>
-    ensures { IfOk result (λ r. r ≡ met by.now (drange_spots around.now k (plain_drange range.now))) }
+    ensures { IfOk result (λ r. r ≡ refused_first by.now (drange_spots around.now k (plain_drange range.now))) }
 {
     match range {
         Drange::Given(bounds) => walk_bounds(around, by, k, bounds),

@@ -8,9 +8,9 @@ ghost use Rattle.ada_tree.specs.PlainStmt.{PFormal, plain_target, plain_callee, 
 ghost use Rattle.syn_event.specs.Surrounding.{Surrounding, addresses, aborts_before, accepts, exits, declares};
 ghost use Rattle.syn_event.specs.Spots.{spot, if_there, names_spots, formal_names, expr_spots, target_spots, callee_spots, aborted_spots, args_spots, exprs_spots, call_spots, select_spots, part_spots, choice_spots, scheme_spots, head_spots, raise_spots};
 ghost use Rattle.syn_event.specs.RuleExitPlace.{is_left};
-ghost use Rattle.ada_part_places.specs.Asking.{is_no_task, is_own_task};
-ghost use Rattle.ada_rules.specs.Met.{Standard as By, met_at, met};
-ghost use Rattle.ada_part_places.specs.Aborted.{aborted_one};
+ghost use Rattle.ada_part_places.specs.inner.Asking.{is_no_task, is_own_task};
+ghost use Rattle.ada_rules.specs.RefusedFirst.{Standard as By, refused_first_at, refused_first};
+ghost use Rattle.ada_part_places.specs.inner.Aborted.{aborted_one};
 
 use crate::expressions::{
     deeper, refuse_deep, refuse_use, walk_drange, walk_expr, walk_exprs, walk_maybe,
@@ -25,7 +25,7 @@ use syn_event::Meant;
 
 /// Walks names that are declared.
 pub fn walk_names(by: &Standard, names: &[Word]) -> Option<Refusal>
-    ensures { (around : Surrounding) → result ≡ met by.now (names_spots around names.now) }
+    ensures { (around : Surrounding) → result ≡ refused_first by.now (names_spots around names.now) }
 {
     let mut refusal = None;
     for name in names {
@@ -36,7 +36,7 @@ pub fn walk_names(by: &Standard, names: &[Word]) -> Option<Refusal>
 
 /// Walks the names of formals.
 pub fn walk_formals(by: &Standard, formals: &[Formal]) -> Option<Refusal>
-    ensures { (around : Surrounding) → result ≡ met by.now (names_spots around (formal_names (map plain_formal formals.now))) }
+    ensures { (around : Surrounding) → result ≡ refused_first by.now (names_spots around (formal_names (map plain_formal formals.now))) }
 {
     let mut refusal = None;
     for formal in formals {
@@ -47,7 +47,7 @@ pub fn walk_formals(by: &Standard, formals: &[Formal]) -> Option<Refusal>
 
 /// Walks a name that may be left out.
 pub fn walk_label(by: &Standard, name: Option<Word>) -> Option<Refusal>
-    ensures { (around : Surrounding) → result ≡ met by.now (if_there (λ x. spot around (declares x) ∷ []) name) }
+    ensures { (around : Surrounding) → result ≡ refused_first by.now (if_there (λ x. spot around (declares x) ∷ []) name) }
 {
     match name {
         Some(name) => by.refuse_name(name),
@@ -62,7 +62,7 @@ pub fn walk_target(
     k: u32,
     target: &Target,
 ) -> Result<Option<Refusal>, AllocError>
-    ensures { IfOk result (λ r. r ≡ met by.now (target_spots around.now k (plain_target target.now))) }
+    ensures { IfOk result (λ r. r ≡ refused_first by.now (target_spots around.now k (plain_target target.now))) }
 {
     let used = refuse_use(around, target.name.name, target.name.span);
     let index = walk_maybe(around, by, k, &target.index)?;
@@ -77,7 +77,7 @@ pub fn walk_assign(
     target: &Target,
     value: &Expr,
 ) -> Result<Option<Refusal>, AllocError>
-    ensures { IfOk result (λ r. r ≡ met by.now (target_spots around.now k (plain_target target.now) ++ expr_spots around.now k (plain_expr value.now))) }
+    ensures { IfOk result (λ r. r ≡ refused_first by.now (target_spots around.now k (plain_target target.now) ++ expr_spots around.now k (plain_expr value.now))) }
 {
     let target = walk_target(around, by, k, target)?;
     let value = walk_expr(around, by, k, value)?;
@@ -98,7 +98,7 @@ fn is_no_task(meant: Option<Meant>) -> bool
 // A name where that of a task is needed.
 #[tactic(auto, using(crate::proofs::Asking::addresses_at))]
 fn refuse_address(around: &Surroundings, word: Word) -> Option<Refusal>
-    ensures { (by : By) → result ≡ met_at by around.now (addresses word) }
+    ensures { (by : By) → result ≡ refused_first_at by around.now (addresses word) }
 {
     refuse_if(
         is_no_task(around.meaning(word.name)),
@@ -123,7 +123,7 @@ fn is_own_task(own: Option<NameId>, meant: Option<Meant>) -> bool
 // A name in an abort statement with a further one behind it, where it is that of a task that runs the body in which the place is.
 #[tactic(auto, using(crate::proofs::Asking::aborts_at))]
 fn refuse_before(around: &Surroundings, word: Word) -> Option<Refusal>
-    ensures { (by : By) → result ≡ met_at by around.now (aborts_before word) }
+    ensures { (by : By) → result ≡ refused_first_at by around.now (aborts_before word) }
 {
     let is_own = is_own_task(around.own_name(), around.meaning(word.name));
     refuse_if(is_own, Rule::AbortOrder, word.span)
@@ -136,7 +136,7 @@ pub(crate) fn walk_callee(
     k: u32,
     callee: &Callee,
 ) -> Result<Option<Refusal>, AllocError>
-    ensures { IfOk result (λ r. r ≡ met by.now (callee_spots around.now k (plain_callee callee.now))) }
+    ensures { IfOk result (λ r. r ≡ refused_first by.now (callee_spots around.now k (plain_callee callee.now))) }
 {
     let address = refuse_address(around, callee.name);
     let index = walk_maybe(around, by, k, &callee.index)?;
@@ -151,7 +151,7 @@ fn walk_aborted_one(
     callee: &Callee,
     is_last: bool,
 ) -> Result<Option<Refusal>, AllocError>
-    ensures { IfOk result (λ r. r ≡ met by.now (aborted_one around.now k (plain_callee callee.now) is_last)) }
+    ensures { IfOk result (λ r. r ≡ refused_first by.now (aborted_one around.now k (plain_callee callee.now) is_last)) }
 {
     let walked = walk_callee(around, by, k, callee)?;
     if is_last {
@@ -168,7 +168,7 @@ pub fn walk_aborted(
     k: u32,
     names: &[Callee],
 ) -> Result<Option<Refusal>, AllocError>
-    ensures { IfOk result (λ r. r ≡ met by.now (aborted_spots around.now k (map plain_callee names.now))) }
+    ensures { IfOk result (λ r. r ≡ refused_first by.now (aborted_spots around.now k (map plain_callee names.now))) }
 {
     let mut refusal = None;
     for (place, callee) in names.iter().enumerate() {
@@ -186,7 +186,7 @@ fn walk_second(
     k: u32,
     second: &Option<Vec<Expr>>,
 ) -> Result<Option<Refusal>, AllocError>
-    ensures { IfOk result (λ r. r ≡ met by.now (if_there (exprs_spots around.now k) (option_map (λ v. map plain_expr v.items) second.now))) }
+    ensures { IfOk result (λ r. r ≡ refused_first by.now (if_there (exprs_spots around.now k) (option_map (λ v. map plain_expr v.items) second.now))) }
 {
     match second {
         Some(list) => walk_exprs(around, by, k, list),
@@ -201,7 +201,7 @@ fn walk_args(
     k: u32,
     args: &Args,
 ) -> Result<Option<Refusal>, AllocError>
-    ensures { IfOk result (λ r. r ≡ met by.now (args_spots around.now k (plain_args args.now))) }
+    ensures { IfOk result (λ r. r ≡ refused_first by.now (args_spots around.now k (plain_args args.now))) }
 {
     let one = walk_exprs(around, by, k, &args.first)?;
     let other = walk_second(around, by, k, &args.second)?;
@@ -215,7 +215,7 @@ fn walk_args_if(
     k: u32,
     args: &Option<Args>,
 ) -> Result<Option<Refusal>, AllocError>
-    ensures { IfOk result (λ r. r ≡ met by.now (if_there (args_spots around.now k) (option_map plain_args args.now))) }
+    ensures { IfOk result (λ r. r ≡ refused_first by.now (if_there (args_spots around.now k) (option_map plain_args args.now))) }
 {
     match args {
         Some(args) => walk_args(around, by, k, args),
@@ -230,7 +230,7 @@ pub fn walk_call(
     k: u32,
     call: &Call,
 ) -> Result<Option<Refusal>, AllocError>
-    ensures { IfOk result (λ r. r ≡ met by.now (call_spots around.now k (plain_call call.now))) }
+    ensures { IfOk result (λ r. r ≡ refused_first by.now (call_spots around.now k (plain_call call.now))) }
 {
     let callee = walk_callee(around, by, k, &call.task)?;
     let args = walk_args_if(around, by, k, &call.args)?;
@@ -244,7 +244,7 @@ pub fn walk_select(
     k: u32,
     call: &Call,
 ) -> Result<Option<Refusal>, AllocError>
-    ensures { IfOk result (λ r. r ≡ met by.now (select_spots around.now k (plain_call call.now))) }
+    ensures { IfOk result (λ r. r ≡ refused_first by.now (select_spots around.now k (plain_call call.now))) }
 {
     let inner = deeper(k)?;
     let deep = refuse_deep(by, inner, call.task.name.span);
@@ -259,7 +259,7 @@ fn walk_part(
     k: u32,
     part: &Part,
 ) -> Result<Option<Refusal>, AllocError>
-    ensures { IfOk result (λ r. r ≡ met by.now (part_spots around.now k (plain_part part.now))) }
+    ensures { IfOk result (λ r. r ≡ refused_first by.now (part_spots around.now k (plain_part part.now))) }
 {
     match part {
         Part::Words { .. } => Ok(None),
@@ -274,7 +274,7 @@ pub fn walk_text(
     k: u32,
     parts: &[Part],
 ) -> Result<Option<Refusal>, AllocError>
-    ensures { IfOk result (λ r. r ≡ met by.now (flat_map (part_spots around.now k) (map plain_part parts.now))) }
+    ensures { IfOk result (λ r. r ≡ refused_first by.now (flat_map (part_spots around.now k) (map plain_part parts.now))) }
 {
     let mut refusal = None;
     for part in parts {
@@ -291,7 +291,7 @@ fn walk_choice(
     k: u32,
     choice: &CaseChoice,
 ) -> Result<Option<Refusal>, AllocError>
-    ensures { IfOk result (λ r. r ≡ met by.now (choice_spots around.now k (plain_choice choice.now))) }
+    ensures { IfOk result (λ r. r ≡ refused_first by.now (choice_spots around.now k (plain_choice choice.now))) }
 {
     let low = walk_expr(around, by, k, &choice.first)?;
     let high = walk_maybe(around, by, k, &choice.last)?;
@@ -305,7 +305,7 @@ pub fn walk_choices(
     k: u32,
     choices: &[CaseChoice],
 ) -> Result<Option<Refusal>, AllocError>
-    ensures { IfOk result (λ r. r ≡ met by.now (flat_map (choice_spots around.now k) (map plain_choice choices.now))) }
+    ensures { IfOk result (λ r. r ≡ refused_first by.now (flat_map (choice_spots around.now k) (map plain_choice choices.now))) }
 {
     let mut refusal = None;
     for choice in choices {
@@ -322,7 +322,7 @@ fn walk_scheme(
     k: u32,
     scheme: &Scheme,
 ) -> Result<Option<Refusal>, AllocError>
-    ensures { IfOk result (λ r. r ≡ met by.now (scheme_spots around.now k (plain_scheme scheme.now))) }
+    ensures { IfOk result (λ r. r ≡ refused_first by.now (scheme_spots around.now k (plain_scheme scheme.now))) }
 {
     match scheme {
         Scheme::While(test) => walk_expr(around, by, k, test),
@@ -341,7 +341,7 @@ pub fn walk_scheme_if(
     k: u32,
     scheme: &Option<Scheme>,
 ) -> Result<Option<Refusal>, AllocError>
-    ensures { IfOk result (λ r. r ≡ met by.now (if_there (scheme_spots around.now k) (option_map plain_scheme scheme.now))) }
+    ensures { IfOk result (λ r. r ≡ refused_first by.now (if_there (scheme_spots around.now k) (option_map plain_scheme scheme.now))) }
 {
     match scheme {
         Some(scheme) => walk_scheme(around, by, k, scheme),
@@ -352,7 +352,7 @@ pub fn walk_scheme_if(
 // An accept of an entry where it may not stand.
 #[tactic(auto, using(ada_rules::proofs::Meeting::at_accepts))]
 fn refuse_accept(around: &Surroundings, entry: Word, span: Span) -> Option<Refusal>
-    ensures { (by : By) (index : Option PExpr) (formals : List PFormal) → result ≡ met_at by around.now (accepts record { entry = entry; index = index; formals = formals; span = span }) }
+    ensures { (by : By) (index : Option PExpr) (formals : List PFormal) → result ≡ refused_first_at by around.now (accepts record { entry = entry; index = index; formals = formals; span = span }) }
 {
     let is_wrong = !around.is_own_entry(entry.name) || around.is_accepting(entry.name);
     refuse_if(is_wrong, Rule::AcceptPlace, span)
@@ -368,7 +368,7 @@ pub fn walk_head(
     formals: &[Formal],
     span: Span,
 ) -> Result<Option<Refusal>, AllocError>
-    ensures { IfOk result (λ r. r ≡ met by.now (head_spots around.now k record { entry = entry; index = option_map plain_expr index.now; formals = map plain_formal formals.now; span = span })) }
+    ensures { IfOk result (λ r. r ≡ refused_first by.now (head_spots around.now k record { entry = entry; index = option_map plain_expr index.now; formals = map plain_formal formals.now; span = span })) }
 {
     let deep = refuse_deep(by, k, span);
     let place = refuse_accept(around, entry, span);
@@ -404,7 +404,7 @@ fn is_any_left(loops: &[Option<NameId>], name: Option<Word>) -> bool
 
 /// An exit that leaves no loop.
 pub fn refuse_exit(around: &Surroundings, name: Option<Word>, span: Span) -> Option<Refusal>
-    ensures { (by : By) → result ≡ met_at by around.now (exits name span) }
+    ensures { (by : By) → result ≡ refused_first_at by around.now (exits name span) }
 {
     let leaves = is_any_left(around.loops(), name);
     refuse_if(!leaves, Rule::ExitPlace, span)
@@ -413,7 +413,7 @@ pub fn refuse_exit(around: &Surroundings, name: Option<Word>, span: Span) -> Opt
 /// A raise, which may have a name.
 #[tactic(auto, using(crate::proofs::Asking::raises_met, ada_rules::proofs::Meeting::met_none))]
 pub fn walk_raise(around: &Surroundings, name: Option<Word>, span: Span) -> Option<Refusal>
-    ensures { (by : By) → result ≡ met by (raise_spots around.now name span) }
+    ensures { (by : By) → result ≡ refused_first by (raise_spots around.now name span) }
 {
     match name {
         Some(_) => None,

@@ -10,9 +10,9 @@ ghost use Rattle.syn_event.specs.RuleSelectForm.{alt_kinds, is_malformed};
 ghost use Rattle.syn_event.specs.RuleSameEntryTwice.{accept_heads, clashing};
 ghost use Rattle.syn_event.specs.Spots.{spot, numbered, alt_places};
 ghost use Rattle.ada_rules.specs.Sooner.{found};
-ghost use Rattle.ada_rules.specs.Met.{Standard as By, met_at, met};
-ghost use Rattle.ada_part_places.specs.Claiming.{index_value, claim_of, AreClaims, IsAccepted, IsClaimed};
-ghost use Rattle.ada_part_places.specs.Waiting.{with_kind, forms_in, wrong_form};
+ghost use Rattle.ada_rules.specs.RefusedFirst.{Standard as By, refused_first_at, refused_first};
+ghost use Rattle.ada_part_places.specs.inner.Claiming.{index_value, claim_of, AreClaims, IsAccepted, IsClaimed};
+ghost use Rattle.ada_part_places.specs.inner.Waiting.{with_kind, forms_in, wrong_form};
 
 use crate::claims::{Claim, Claims};
 use ada_rules::{Refusal, Rule, Standard, first, refuse_if};
@@ -145,7 +145,7 @@ fn refuse_twice(around: &Surroundings, alts: &[Alt]) -> Result<Option<Refusal>, 
 
 // The alternatives by their number.
 fn refuse_many(by: &Standard, alts: &[Alt]) -> Option<Refusal>
-    ensures { (around : Surrounding) → result ≡ met by.now (numbered around Alternatives 0 (alt_places (alts_of (map plain_alt alts.now)))) }
+    ensures { (around : Surrounding) → result ≡ refused_first by.now (numbered around Alternatives 0 (alt_places (alts_of (map plain_alt alts.now)))) }
 {
     let mut refusal = None;
     for (place, alt) in alts.iter().enumerate() {
@@ -163,7 +163,7 @@ fn refuse_form(
     has_else: bool,
     span: Span,
 ) -> Result<Option<Refusal>, AllocError>
-    ensures { (by : By) → IfOk result (λ r. r ≡ met_at by around.now (waits (alts_of (map plain_alt alts.now)) has_else span)) }
+    ensures { (by : By) → IfOk result (λ r. r ≡ refused_first_at by around.now (waits (alts_of (map plain_alt alts.now)) has_else span)) }
 {
     let form = refuse_if(is_malformed(alts, has_else), Rule::SelectForm, span);
     let twice = refuse_twice(around, alts)?;
@@ -178,7 +178,7 @@ pub fn walk_wait(
     has_else: bool,
     span: Span,
 ) -> Result<Option<Refusal>, AllocError>
-    ensures { IfOk result (λ r. r ≡ met by.now (spot around.now (waits (alts_of (map plain_alt alts.now)) has_else span) ∷ numbered around.now Alternatives 0 (alt_places (alts_of (map plain_alt alts.now))))) }
+    ensures { IfOk result (λ r. r ≡ refused_first by.now (spot around.now (waits (alts_of (map plain_alt alts.now)) has_else span) ∷ numbered around.now Alternatives 0 (alt_places (alts_of (map plain_alt alts.now))))) }
 {
     let form = refuse_form(around, alts, has_else, span)?;
     let many = refuse_many(by, alts);

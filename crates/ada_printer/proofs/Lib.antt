@@ -1,4 +1,3 @@
-pub mod Drawn
 pub mod Formed
 pub mod Declared
 pub mod Listed

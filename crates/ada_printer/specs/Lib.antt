@@ -1,6 +1,5 @@
 pub mod DeclText
 pub mod ExprText
 pub mod Layout
-pub mod Pages
 pub mod ProgramText
 pub mod StmtText

@@ -7,15 +7,15 @@ ghost use Rattle.ada_tree.specs.PlainStmt.{plain_target, plain_callee, plain_arg
 ghost use Rattle.ded_io.specs.Written.{◌⧺◌};
 ghost use Rattle.ada_printer.specs.Layout.{separated};
 ghost use Rattle.ada_printer.specs.StmtText.{mode_text, reverse_text, target_text, callee_text, second_text, args_text, call_text, formal_text, formals_text, head_text, part_text, parts_text, last_text, choice_text, caught_text, label_text, scheme_text, when_text};
-ghost use Rattle.ada_printer.specs.Pages.{Drew, over};
+ghost use Rattle.paged_output.specs.Pages.{Drew, over};
 
 use crate::expressions::{put_drange, put_expr, put_exprs, put_index};
-use crate::paging::Page;
 use crate::pieces::{put_separated_words, put_string, put_word, put_words};
 use ada_tree::{
     Args, Call, Callee, CaseChoice, Expr, Formal, Names, ParMode, Part, Scheme, Target, Word,
 };
 use ded_io::Sink;
+use paged_output::Page;
 
 pub(crate) fn put_target<K: Sink>(names: &Names, target: &Target, page: &mut Page, out: &mut K)
     ensures { Drew (over page.old (K.told out.old) (K.faults out.old)) (over page.new (K.told out.new) (K.faults out.new)) (target_text names.now (plain_target target.now)) }

@@ -10,19 +10,19 @@ ghost use Rattle.ada_printer.specs.Layout.{indent, word_text, words_text};
 ghost use Rattle.ada_printer.specs.ExprText.{expr_text, exprs_text, subind_text, drange_text, array_text};
 ghost use Rattle.ada_printer.specs.StmtText.{formals_text};
 ghost use Rattle.ada_printer.specs.DeclText.{constant_text, task_word, task_rest, unit_text, standing as standing_behind, shape_text, init_text, value_text, pragma_text, priorities_text, family_text, entry_text, items_text, task_text, decl_text, decls_text};
-ghost use Rattle.ada_printer.specs.Pages.{Drew, over};
+ghost use Rattle.paged_output.specs.Pages.{Drew, over};
 
 use crate::calls::put_formals;
 use crate::expressions::{put_array, put_drange, put_expr, put_exprs, put_subind};
 use crate::lines::{deeper, put_end};
 use crate::nesting::put_body;
-use crate::paging::Page;
 use crate::pieces::{put_indent, put_word, put_words};
 use ada_tree::{
     Body, Decl, DeclKind, Drange, EntryDecl, Expr, Init, Names, Priority, Shape, Subind, TaskUnit,
     Word,
 };
 use ded_io::Sink;
+use paged_output::Page;
 
 fn put_shape<K: Sink>(names: &Names, shape: &Shape, page: &mut Page, out: &mut K)
     ensures { Drew (over page.old (K.told out.old) (K.faults out.old)) (over page.new (K.told out.new) (K.faults out.new)) (shape_text names.now (plain_shape shape.now)) }

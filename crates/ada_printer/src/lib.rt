@@ -6,7 +6,6 @@ mod declarations;
 mod expressions;
 mod lines;
 mod nesting;
-mod paging;
 mod pieces;
 mod printing;
 mod whole;

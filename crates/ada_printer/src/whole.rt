@@ -4,13 +4,13 @@
 ghost use Rattle.std.specs.Prelude.{codes};
 ghost use Rattle.ada_tree.specs.PlainProgram.{plain_program};
 ghost use Rattle.ada_printer.specs.ProgramText.{context_text, program_text};
-ghost use Rattle.ada_printer.specs.Pages.{Drew, over};
+ghost use Rattle.paged_output.specs.Pages.{Drew, over};
 
 use crate::declarations::{put_decls, put_unit};
-use crate::paging::Page;
 use crate::pieces::put_word;
 use ada_tree::Program;
 use ded_io::Sink;
+use paged_output::Page;
 
 // The two context clauses, where they stand.
 fn put_context<K: Sink>(text_io: bool, page: &mut Page, out: &mut K)

@@ -1,8 +1,8 @@
 -- What is found place by place is the first refusal of a program.
-use Rattle.std.specs.Prelude.{◌≡◌, ℕ, ◌<◌, ◌≤◌, ◌⊎◌, Bool, true, false, if◌then◌else◌, List, [], ◌∷◌, ◌++◌, Option, Some, None, refl, All, Contains}
+use Rattle.std.specs.Prelude.{◌≡◌, ℕ, ◌<◌, ◌≤◌, ◌⊎◌, Bool, false, List, [], ◌∷◌, ◌++◌, Option, Some, None, refl}
 use Rattle.std.proofs.Common.{sym, ap, ◌∙◌, subst, arith}
 use Rattle.std.proofs.lemmas.Bool.Decides.{nat_tests}
-use Rattle.std.proofs.lemmas.List.Elements.{All-nil, All-cons, All-same, All-weaker, Contains-append_right}
+use Rattle.std.proofs.lemmas.List.Elements.{All-weaker}
 use Rattle.ada_tree.specs.Refusals.{Refusal, ComesFirst, by_rule, refused_at, refused_from, refusals, MeetsTypeRules, IsFirstRefusal}
 use Rattle.ada_tree.specs.PlainProgram.{PProgram}
 use Rattle.ada_tree.specs.Demand.{Site}
@@ -19,11 +19,13 @@ use Rattle.ada_tree.specs.RuleChoiceBad.{choice_bad}
 use Rattle.ada_tree.specs.RuleArrayUse.{array_use}
 use Rattle.ada_tree.specs.RuleTextUse.{text_use}
 use Rattle.ada_tree.specs.RuleNotException.{not_exception}
-use Rattle.ada_refusals.specs.Sooner.{is_lower, is_before, sooner, sooner_of, least_of, found}
-use Rattle.ada_refusals.specs.Met.{met_at, met}
+use Rattle.ada_refusals.specs.Ranking.{is_lower}
+use Rattle.ada_refusals.specs.Sooner.{rank_of, is_before, sooner, least_of, found}
+use Rattle.ada_refusals.specs.RefusedFirst.{refused_first_at, refused_first}
 use Rattle.ada_refusals.specs.Repeated.{repeated_from}
 use Rattle.ada_refusals.specs.Telling.{refusal_of, IsFirst, TellsFirst}
 use Rattle.ada_refusals.specs.declared.errors.TypeError.{TypeError}
+use Rattle.ada_refusals.proofs.RankingLaws.{spread, none_left, first_is}
 use Rattle.ada_refusals.proofs.SoonerLaws.{sooner_assoc, sooner_comm, least_append}
 
 -- ---- the first of a list
@@ -34,67 +36,13 @@ comes_lower a b x y t h = grind (arith, nat_tests)
 not_before : (r q : Refusal) → is_before q r ≡ false → ComesFirst r q
 not_before r q h = comes_lower r.span.start q.span.start r.rule q.rule _ h
 
-comes_before : (a b x y : ℕ) (t : Bool) → is_lower a b (is_lower x y t) ≡ true → (a < b) ⊎ ((a ≡ b) × (x ≤ y))
-comes_before a b x y t h = grind (arith, nat_tests)
-
-is_sooner : (r q : Refusal) → is_before r q ≡ true → ComesFirst r q
-is_sooner r q h = comes_before r.span.start q.span.start r.rule q.rule _ h
-
-comes_itself : (r : Refusal) → ComesFirst r r
-comes_itself r = grind arith
-
-first_trans : (a b c x y z : ℕ) → (a < b) ⊎ ((a ≡ b) × (x ≤ y)) → (b < c) ⊎ ((b ≡ c) × (y ≤ z)) → (a < c) ⊎ ((a ≡ c) × (x ≤ z))
-first_trans a b c x y z h g = grind arith
-
-comes_trans : (r m q : Refusal) → ComesFirst r m → ComesFirst m q → ComesFirst r q
-comes_trans r m q h g = first_trans r.span.start m.span.start q.span.start r.rule m.rule q.rule h g
-
-never : (r : Refusal) (o : Option Refusal) → sooner (Some r) o ≡ None → ⊥
-never r None h = cc
-never r (Some q) h = cc
-
-pub none_left : (xs : List Refusal) → least_of xs ≡ None → xs ≡ []
-none_left [] h = refl
-none_left (x ∷ xs) h = absurd (never x (least_of xs) h)
-
-abbrev IsFirstOf : List Refusal → Refusal → Type 0
-IsFirstOf xs r = Contains xs r × All (ComesFirst r) xs
-
-head_is_one : (x : Refusal) (xs : List Refusal) → Contains (x ∷ xs) x
-head_is_one x xs = (0, omega arith, refl)
-
-some_is : (a b : Refusal) → Some a ≡ Some b → a ≡ b
-some_is a b h = cc
-
-alone : (x : Refusal) (xs : List Refusal) → xs ≡ [] → IsFirstOf (x ∷ xs) x
-alone x xs h = (head_is_one x xs, All-cons (ComesFirst x) x xs (comes_itself x) (All-same (ComesFirst x) xs [] h (All-nil (ComesFirst x))))
-
-of_two : (x m : Refusal) (xs : List Refusal) (b : Bool) → is_before m x ≡ b → IsFirstOf xs m → IsFirstOf (x ∷ xs) (if b then m else x)
-of_two x m xs true h w = (Contains-append_right (x ∷ []) xs m w.0, All-cons (ComesFirst m) x xs (is_sooner m x h) w.1)
-of_two x m xs false h w =
-    (head_is_one x xs, All-cons (ComesFirst x) x xs (comes_itself x) (All-weaker (ComesFirst m) (ComesFirst x) (λ q g. comes_trans x m q (not_before x m h) g) xs w.1))
-
-with_rest : (x : Refusal) (xs : List Refusal) (o : Option Refusal) → least_of xs ≡ o → ((m : Refusal) → o ≡ Some m → IsFirstOf xs m) → (r : Refusal) → sooner (Some x) o ≡ Some r → IsFirstOf (x ∷ xs) r
-with_rest x xs None e first r h = subst (IsFirstOf (x ∷ xs)) (some_is x r h) (alone x xs (none_left xs e))
-with_rest x xs (Some m) e first r h = subst (IsFirstOf (x ∷ xs)) (some_is (sooner_of x m) r h) (of_two x m xs (is_before m x) refl (first m refl))
-
-no_first : (r : Refusal) → None ≡ Some r → ⊥
-no_first r h = cc
-
-pub first_is : (xs : List Refusal) (r : Refusal) → least_of xs ≡ Some r → IsFirstOf xs r
-first_is [] r h = absurd (no_first r h)
-first_is (x ∷ xs) r h = with_rest x xs (least_of xs) refl (first_is xs) r h
-
 -- ---- place by place
 
 swapped : (a b rest : Option Refusal) → sooner a (sooner b rest) ≡ sooner b (sooner a rest)
 swapped a b rest = sym (sooner_assoc a b rest) ∙ ap (λ o. sooner o rest) (sooner_comm a b) ∙ sooner_assoc b a rest
 
-spread : (xs ys : List Refusal) (o : Option Refusal) → sooner (least_of (xs ++ ys)) o ≡ sooner (least_of xs) (sooner (least_of ys) o)
-spread xs ys o = ap (λ q. sooner q o) (least_append xs ys) ∙ sooner_assoc (least_of xs) (least_of ys) o
-
 four : (a b c d : List Refusal) (o : Option Refusal) → sooner (least_of (a ++ b ++ c ++ d)) o ≡ sooner (least_of a) (sooner (least_of b) (sooner (least_of c) (sooner (least_of d) o)))
-four a b c d o = spread (a ++ b ++ c) d o ∙ spread (a ++ b) c (sooner (least_of d) o) ∙ spread a b (sooner (least_of c) (sooner (least_of d) o))
+four a b c d o = spread rank_of (a ++ b ++ c) d o ∙ spread rank_of (a ++ b) c (sooner (least_of d) o) ∙ spread rank_of a b (sooner (least_of c) (sooner (least_of d) o))
 
 -- the lists of twelve rules, of which the second one is put first
 twelve : (a b c d e f g h i j k l : List Refusal)
@@ -103,10 +51,10 @@ twelve : (a b c d e f g h i j k l : List Refusal)
 twelve a b c d e f g h i j k l =
     least_append (a ++ b ++ c ++ d ++ e ++ f ++ g ++ h ++ i ++ j ++ k) l
     ∙ four (a ++ b ++ c ++ d ++ e ++ f ++ g ++ h) i j k (least_of l)
-    ∙ spread (a ++ b ++ c ++ d ++ e ++ f ++ g) h _
-    ∙ spread (a ++ b ++ c ++ d ++ e ++ f) g _
-    ∙ spread (a ++ b ++ c ++ d ++ e) f _
-    ∙ spread (a ++ b ++ c ++ d) e _
+    ∙ spread rank_of (a ++ b ++ c ++ d ++ e ++ f ++ g) h _
+    ∙ spread rank_of (a ++ b ++ c ++ d ++ e ++ f) g _
+    ∙ spread rank_of (a ++ b ++ c ++ d ++ e) f _
+    ∙ spread rank_of (a ++ b ++ c ++ d) e _
     ∙ four a b c d _
     ∙ swapped (least_of a) (least_of b) _
 
@@ -117,7 +65,7 @@ crossed a b c d =
     ∙ ap (sooner b) (swapped a c d)
     ∙ sym (sooner_assoc b c (sooner a d))
 
-at_place : (before : List Site) (s : Site) → least_of (refused_at before s) ≡ sooner (found 2 (duplicate before s.scope s.demand)) (met_at s.scope s.demand)
+at_place : (before : List Site) (s : Site) → least_of (refused_at before s) ≡ sooner (found 2 (duplicate before s.scope s.demand)) (refused_first_at s.scope s.demand)
 at_place before s =
     twelve
     (by_rule 1 (unknown s.scope s.demand))
@@ -133,26 +81,26 @@ at_place before s =
     (by_rule 11 (text_use s.scope s.demand))
     (by_rule 12 (not_exception s.scope s.demand))
 
-pub first_from : (before ss : List Site) → least_of (refused_from before ss) ≡ sooner (met ss) (repeated_from before ss)
-unfolding met repeated_from
+pub first_from : (before ss : List Site) → least_of (refused_from before ss) ≡ sooner (refused_first ss) (repeated_from before ss)
+unfolding refused_first repeated_from
 first_from before [] = refl
 first_from before (s ∷ rest) =
     least_append (refused_at before s) (refused_from (s ∷ before) rest)
     ∙ ap (λ o. sooner o (least_of (refused_from (s ∷ before) rest))) (at_place before s)
-    ∙ ap (sooner (sooner (found 2 (duplicate before s.scope s.demand)) (met_at s.scope s.demand))) (first_from (s ∷ before) rest)
-    ∙ crossed (found 2 (duplicate before s.scope s.demand)) (met_at s.scope s.demand) (met rest) (repeated_from (s ∷ before) rest)
+    ∙ ap (sooner (sooner (found 2 (duplicate before s.scope s.demand)) (refused_first_at s.scope s.demand))) (first_from (s ∷ before) rest)
+    ∙ crossed (found 2 (duplicate before s.scope s.demand)) (refused_first_at s.scope s.demand) (refused_first rest) (repeated_from (s ∷ before) rest)
 
 -- ---- a program
 
-found_is : (p : PProgram) (others repeated : Option Refusal) → others ≡ met (sites p) → repeated ≡ repeated_from [] (sites p) → least_of (refusals p) ≡ sooner others repeated
+found_is : (p : PProgram) (others repeated : Option Refusal) → others ≡ refused_first (sites p) → repeated ≡ repeated_from [] (sites p) → least_of (refusals p) ≡ sooner others repeated
 found_is p others repeated h g = first_from [] (sites p) ∙ ap (λ o. sooner o (repeated_from [] (sites p))) (sym h) ∙ ap (sooner others) (sym g)
 
-pub meets_rules : (p : PProgram) (others repeated : Option Refusal) → others ≡ met (sites p) → repeated ≡ repeated_from [] (sites p) → None ≡ sooner others repeated → MeetsTypeRules p
-meets_rules p others repeated h g e = none_left (refusals p) (found_is p others repeated h g ∙ sym e)
+pub meets_rules : (p : PProgram) (others repeated : Option Refusal) → others ≡ refused_first (sites p) → repeated ≡ repeated_from [] (sites p) → None ≡ sooner others repeated → MeetsTypeRules p
+meets_rules p others repeated h g e = none_left rank_of (refusals p) (found_is p others repeated h g ∙ sym e)
 
-is_refused : (p : PProgram) (others repeated : Option Refusal) (r : Refusal) → others ≡ met (sites p) → repeated ≡ repeated_from [] (sites p) → sooner others repeated ≡ Some r → IsFirstRefusal p r
-is_refused p others repeated r h g e = let w = first_is (refusals p) r (found_is p others repeated h g ∙ e) in record { is_one = w.0; is_first = w.1 }
+is_refused : (p : PProgram) (others repeated : Option Refusal) (r : Refusal) → others ≡ refused_first (sites p) → repeated ≡ repeated_from [] (sites p) → sooner others repeated ≡ Some r → IsFirstRefusal p r
+is_refused p others repeated r h g e = let w = first_is rank_of (refusals p) r (found_is p others repeated h g ∙ e) in record { is_one = w.0; is_first = All-weaker _ (ComesFirst r) (not_before r) (refusals p) w.1 }
 
 -- an error that tells that refusal
-pub is_told : (p : PProgram) (others repeated : Option Refusal) (r : Refusal) (e : TypeError) → others ≡ met (sites p) → repeated ≡ repeated_from [] (sites p) → Some r ≡ sooner others repeated → refusal_of e ≡ Some r → TellsFirst p e
+pub is_told : (p : PProgram) (others repeated : Option Refusal) (r : Refusal) (e : TypeError) → others ≡ refused_first (sites p) → repeated ≡ repeated_from [] (sites p) → Some r ≡ sooner others repeated → refusal_of e ≡ Some r → TellsFirst p e
 is_told p others repeated r e h g s t = subst (IsFirst p) (sym t) (is_refused p others repeated r h g (sym s))

@@ -1,3 +1,4 @@
+pub mod RankingLaws
 pub mod SoonerLaws
 pub mod Meeting
 pub mod Listing

@@ -1,5 +1,6 @@
 pub mod Rules
+pub mod Ranking
 pub mod Sooner
-pub mod Met
+pub mod RefusedFirst
 pub mod Repeated
 pub mod Telling

@@ -4,7 +4,7 @@ ghost use Rattle.std.specs.Prelude.{◌≡◌, [], OnOk, IfErr};
 ghost use Rattle.ada_tree.specs.PlainProgram.{plain_program};
 ghost use Rattle.ada_tree.specs.Refusals.{MeetsTypeRules};
 ghost use Rattle.ada_tree.specs.Sites.{sites};
-ghost use Rattle.ada_refusals.specs.Met.{met};
+ghost use Rattle.ada_refusals.specs.RefusedFirst.{refused_first};
 ghost use Rattle.ada_refusals.specs.Repeated.{repeated_from};
 ghost use Rattle.ada_refusals.specs.Telling.{TellsFirst};
 
@@ -18,7 +18,7 @@ pub fn verdict(
     others: Option<Refusal>,
     repeated: Option<Refusal>,
 ) -> Result<(), TypeError>
-    requires others { others ≡ met (sites (plain_program _program.now)) }
+    requires others { others ≡ refused_first (sites (plain_program _program.now)) }
     requires repeated { repeated ≡ repeated_from [] (sites (plain_program _program.now)) }
     ensures ok { OnOk result (MeetsTypeRules (plain_program _program.now)) }
     ensures err { IfErr result (TellsFirst (plain_program _program.now)) }

@@ -1,5 +1,5 @@
 pub mod Rules
 pub mod Sooner
-pub mod Met
+pub mod RefusedFirst
 pub mod Amounts
-pub mod Counted
+pub mod inner

@@ -8,13 +8,13 @@ ghost use Rattle.syn_event.specs.declared.limits.What.TheVariants.{Formals};
 ghost use Rattle.syn_event.specs.Surrounding.{Surrounding, counts};
 ghost use Rattle.syn_event.specs.Spots.{numbered, formal_names};
 ghost use Rattle.ada_rules.specs.Amounts.{capped};
-ghost use Rattle.ada_rules.specs.Met.{met_at, met};
+ghost use Rattle.ada_rules.specs.RefusedFirst.{refused_first_at, refused_first};
 ghost use Rattle.ada_rules.specs.Sooner.{sooner};
-ghost use Rattle.ada_rules.specs.Counted.{IsCounted};
+ghost use Rattle.ada_rules.specs.inner.Counted.{IsCounted};
 
 use crate::amounts::plus;
+use crate::asking_by_mode::Standard;
 use crate::refusals::{Refusal, first};
-use crate::standards::Standard;
 use ada_tree::{Formal, Span, Word};
 use syn_event::What;
 
@@ -29,7 +29,7 @@ pub struct Counted {
 #[tactic(auto, using(crate::proofs::Capping::capping))]
 pub fn count_on(by: &Standard, what: What, so_far: Counted, here: u64, span: Span) -> Counted
     ensures count { capped result.count ≡ capped (so_far.count + here) }
-    ensures refusal { (around : Surrounding) → result.refusal ≡ sooner so_far.refusal (met_at by.now around (counts what so_far.count here span)) }
+    ensures refusal { (around : Surrounding) → result.refusal ≡ sooner so_far.refusal (refused_first_at by.now around (counts what so_far.count here span)) }
 {
     let over = by.refuse_count(what, so_far.count, here, span);
     Counted {
@@ -51,7 +51,7 @@ fn count_names(by: &Standard, so_far: Counted, names: &[Word]) -> Counted
 
 /// The formals of an entry.
 pub fn refuse_formals(by: &Standard, formals: &[Formal]) -> Option<Refusal>
-    ensures { (around : Surrounding) → result ≡ met by.now (numbered around Formals 0 (map (λ w. w.span) (formal_names (map plain_formal formals.now)))) }
+    ensures { (around : Surrounding) → result ≡ refused_first by.now (numbered around Formals 0 (map (λ w. w.span) (formal_names (map plain_formal formals.now)))) }
 {
     let mut counted = Counted {
         count: 0,

@@ -2,11 +2,11 @@
 #![tactic(auto)]
 
 mod amounts;
+mod asking_by_mode;
 mod counting;
 mod refusals;
-mod standards;
 
 pub use amounts::{plus, product};
+pub use asking_by_mode::Standard;
 pub use counting::{Counted, count_on, refuse_formals};
 pub use refusals::{Refusal, Rule, first, refuse_if};
-pub use standards::Standard;

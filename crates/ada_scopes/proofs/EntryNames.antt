@@ -5,8 +5,8 @@ use Rattle.std.specs.Option.{unwrap_or}
 use Rattle.std.proofs.Common.{sym, ap, ◌∙◌, add-one}
 use Rattle.ada_tree.specs.declared.naming.NameId.{NameId}
 use Rattle.ada_tree.specs.Scope.{Seen, entry_named, entries_of}
-use Rattle.ada_scopes.specs.Things.{plain_thing, plain_names}
-use Rattle.ada_scopes.specs.declared.things.Thing.{Thing}
+use Rattle.ada_scopes.specs.Denotations.{plain_thing, plain_names}
+use Rattle.ada_scopes.specs.declared.denotations.Thing.{Thing}
 
 abbrev pub has_one : NameId → Seen → Bool
 has_one id s = is_some (entry_named (entries_of s.thing) id)

@@ -10,7 +10,7 @@ use Rattle.ada_tree.specs.Scope.{Scope, Thing, marking}
 use Rattle.ada_tree.specs.Declaring.{with_name, with_names, with_formals, formal_thing, inside, seen_as}
 use Rattle.ada_scopes.specs.declared.scope.Outer.{Outer}
 use Rattle.ada_scopes.specs.Nested.{IsOuter, IsWithin}
-use Rattle.ada_scopes.specs.Inner.{IsInner}
+use Rattle.ada_scopes.specs.inner.Inner.{IsInner}
 
 -- one name more at the end
 names_end : (t : Thing) (s : Scope) (ws : List Word) (w : Word) → with_names t s (ws ++ w ∷ []) ≡ with_name t (with_names t s ws) w

@@ -1,7 +1,7 @@
 -- Names as they are kept, and as the rules see them.
 use Rattle.std.specs.Prelude.{◌≡◌, ◌==◌, ℕ, Bool, true, false, if◌then◌else◌, List, [], ◌∷◌, find, Option, Some, None, option_map, refl}
-use Rattle.ada_scopes.specs.declared.things.Thing.{Thing}
-use Rattle.ada_scopes.specs.Things.{plain_thing, plain_names}
+use Rattle.ada_scopes.specs.declared.denotations.Thing.{Thing}
+use Rattle.ada_scopes.specs.Denotations.{plain_thing, plain_names}
 use Rattle.scoped_names.specs.Meaning.{meaning_in}
 
 at_test : (s : ℕ × Thing) (rest : List (ℕ × Thing)) (name : ℕ) (b : Bool)

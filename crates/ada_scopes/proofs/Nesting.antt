@@ -10,9 +10,9 @@ use Rattle.ada_tree.specs.Scope.{marking}
 use Rattle.ada_tree.specs.declared.naming.Word.{Word}
 use Rattle.ada_tree.specs.PlainStmt.{PFormal}
 use Rattle.ada_tree.specs.Declaring.{seen_as, with_name, with_names, inside, with_formals, formal_thing}
-use Rattle.ada_scopes.specs.declared.things.Thing.{Thing}
+use Rattle.ada_scopes.specs.declared.denotations.Thing.{Thing}
 use Rattle.ada_scopes.specs.declared.scope.Outer.{Outer}
-use Rattle.ada_scopes.specs.Things.{plain_thing, plain_names}
+use Rattle.ada_scopes.specs.Denotations.{plain_thing, plain_names}
 use Rattle.ada_scopes.specs.Nested.{IsOuter, IsWithin}
 
 -- the numbers of the innermost names

@@ -7,7 +7,7 @@ use Rattle.std.proofs.lemmas.Option.{slice_get_past}
 use Rattle.std.proofs.lemmas.Bool.Decides.{nat_tests}
 use Rattle.ada_tree.specs.Scope.{entry_named}
 use Rattle.ada_tree.specs.declared.naming.NameId.{NameId}
-use Rattle.ada_scopes.specs.declared.things.EntryPart.{EntryPart}
+use Rattle.ada_scopes.specs.declared.denotations.EntryPart.{EntryPart}
 use Rattle.ada_scopes.specs.Entries.{plain_entry}
 
 -- what stands at a place, where there is one

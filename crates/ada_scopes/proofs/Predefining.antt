@@ -7,9 +7,9 @@ use Rattle.ada_tree.specs.TypeTable.{TypeTable}
 use Rattle.ada_tree.specs.Scope.{Scope, Seen, EntryPart}
 use Rattle.ada_tree.specs.Declaring.{seen_as, predefined_types, predefined_names, before_all}
 use Rattle.ada_scopes.specs.declared.predefined.Predefined.{Predefined}
-use Rattle.ada_scopes.specs.declared.things.Thing.{Thing}
-use Rattle.ada_scopes.specs.Things.{plain_thing, plain_names}
-use Rattle.ada_scopes.specs.Before.{thing_of, seen_last_first}
+use Rattle.ada_scopes.specs.declared.denotations.Thing.{Thing}
+use Rattle.ada_scopes.specs.Denotations.{plain_thing, plain_names}
+use Rattle.ada_scopes.specs.inner.Before.{thing_of, seen_last_first}
 
 last_first_more : (xs : List (NameId × Predefined)) (i : ℕ) (d : NameId × Predefined) → i < length xs → seen_last_first (take (i + 1) xs) ≡ seen_as (thing_of (get_or xs i d).1) (get_or xs i d).0.0 ∷ seen_last_first (take i xs)
 last_first_more xs i d h =

@@ -2,11 +2,11 @@
 use Rattle.std.specs.Prelude.{◌≡◌, ◌==◌, ℕ, nat_eq, position, List, map}
 use Rattle.std.specs.HashMap.{HashMap, get}
 use Rattle.ada_tree.specs.Scope as scope
-use Rattle.ada_scopes.specs.declared.things.Range.{Range}
-use Rattle.ada_scopes.specs.declared.things.Family.{Family}
-use Rattle.ada_scopes.specs.declared.things.Family.TheVariants.{Single, Over, Unclear}
-use Rattle.ada_scopes.specs.declared.things.FormalPart.{FormalPart}
-use Rattle.ada_scopes.specs.declared.things.EntryPart.{EntryPart}
+use Rattle.ada_scopes.specs.declared.denotations.Range.{Range}
+use Rattle.ada_scopes.specs.declared.denotations.Family.{Family}
+use Rattle.ada_scopes.specs.declared.denotations.Family.TheVariants.{Single, Over, Unclear}
+use Rattle.ada_scopes.specs.declared.denotations.FormalPart.{FormalPart}
+use Rattle.ada_scopes.specs.declared.denotations.EntryPart.{EntryPart}
 
 abbrev pub plain_range : Range → scope.Range
 plain_range r = record { kind = r.kind; first = r.first; last = r.last }

@@ -1,8 +1,6 @@
-pub mod Mapped
 pub mod Makings
 pub mod Entries
-pub mod Things
+pub mod Denotations
 pub mod Nested
-pub mod Before
-pub mod Inner
 pub mod Readings
+pub mod inner

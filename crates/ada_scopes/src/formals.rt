@@ -5,12 +5,12 @@ ghost use Rattle.ada_tree.specs.declared.statements.ParMode.{ParMode as Mode};
 ghost use Rattle.ada_tree.specs.PlainStmt.{plain_formal};
 ghost use Rattle.ada_tree.specs.Scope.{marking, and_then};
 ghost use Rattle.ada_tree.specs.Declaring.{with_names, with_formals, formal_thing, first_mark_of, loop_thing};
-ghost use Rattle.ada_scopes.specs.Things.{plain_thing};
-ghost use Rattle.ada_scopes.specs.Inner.{formal_at};
+ghost use Rattle.ada_scopes.specs.Denotations.{plain_thing};
+ghost use Rattle.ada_scopes.specs.inner.Inner.{formal_at};
 
+use crate::denotations::Thing;
 use crate::readings::{Marking, mark_named};
 use crate::scope::Scope;
-use crate::things::Thing;
 use ada_tree::{Formal, NameId, ParMode, Word};
 use std::alloc::AllocError;
 

@@ -2,11 +2,11 @@
 
 ghost use Rattle.std.specs.Prelude.{◌≡◌, IfOk};
 ghost use Rattle.ada_tree.specs.Declaring.{predefined_types, predefined_names, first_mark};
-ghost use Rattle.ada_scopes.specs.Things.{plain_thing, plain_names};
-ghost use Rattle.ada_scopes.specs.Before.{thing_of};
+ghost use Rattle.ada_scopes.specs.Denotations.{plain_thing, plain_names};
+ghost use Rattle.ada_scopes.specs.inner.Before.{thing_of};
 
+use crate::denotations::Thing;
 use crate::table::Table;
-use crate::things::Thing;
 use ada_tree::{Kind, Mark, NameId};
 use scoped_names::ScopedNames;
 use std::alloc::{AllocError, Global};

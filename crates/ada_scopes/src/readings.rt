@@ -4,9 +4,9 @@ ghost use Rattle.std.specs.Prelude.{◌≡◌};
 ghost use Rattle.ada_tree.specs.Scope.{mark_at, reading, reading_of_mark, marking, marking_of_mark};
 ghost use Rattle.ada_scopes.specs.Readings.{plain_reading, plain_marking};
 
+use crate::denotations::{Entries, Range, Thing};
 use crate::scope::Scope;
 use crate::table::Table;
-use crate::things::{Entries, Range, Thing};
 use ada_tree::{Kind, NameId};
 use std::rc::Rc;
 

@@ -3,13 +3,13 @@
 ghost use Rattle.std.specs.Prelude.{◌≡◌, ◌≤◌, ◌∷◌, [], true, false, length, option_map, IfOk, OnOk, OnErr};
 ghost use Rattle.ada_tree.specs.Scope.{is_entry_somewhere, meaning, Scope as PlainScope};
 ghost use Rattle.ada_tree.specs.Declaring.{before_all, with_name, with_types, inside, add_mark, add_kind};
-ghost use Rattle.ada_scopes.specs.Things.{plain_thing};
+ghost use Rattle.ada_scopes.specs.Denotations.{plain_thing};
 ghost use Rattle.ada_scopes.specs.Makings.{add_constant};
 ghost use Rattle.ada_scopes.specs.Nested.{IsOuter, IsOutside, IsWithin};
 
+use crate::denotations::{Entries, Thing};
 use crate::predefined::{first_names, first_table};
 use crate::table::Table;
-use crate::things::{Entries, Thing};
 use ada_tree::{Constant, Kind, Mark, NameId, Types, Word};
 use scoped_names::ScopedNames;
 use std::alloc::{AllocError, Global};
@@ -34,7 +34,7 @@ pub struct Scope {
 impl Model for Scope {
     ghost use Rattle.std.specs.Prelude.{map, take, reverse, length, ◌-◌, ◌≤◌};
     ghost use Rattle.ada_tree.specs.Scope.{Scope};
-    ghost use Rattle.ada_scopes.specs.Things.{plain_names};
+    ghost use Rattle.ada_scopes.specs.Denotations.{plain_names};
 
     ghost Value = { Scope };
 

@@ -25,7 +25,7 @@ pub struct Table {
 
 impl Model for Table {
     ghost use Rattle.ada_tree.specs.TypeTable.{TypeTable};
-    ghost use Rattle.ada_scopes.specs.Mapped.{Mapped};
+    ghost use Rattle.ada_scopes.specs.inner.Mapped.{Mapped};
 
     ghost Value = { TypeTable };
 

@@ -4,10 +4,10 @@
 ghost use Rattle.std.specs.Prelude.{◌≡◌, OnOk, IfOk, map, option_map};
 ghost use Rattle.ada_tree.specs.PlainStmt.{plain_scheme, plain_accept, plain_alt, plain_alt_kind, plain_arm, plain_case_arm, plain_handler, plain_body, plain_stmt, row_of, alts_of, arms_of, case_arms_of, handlers_of};
 ghost use Rattle.syn_event.specs.Spots.{in_loop, alts_spots, arms_spots, case_arms_spots, body_spots, handlers_spots, stmts_spots};
-ghost use Rattle.ada_rules.specs.Met.{met};
-ghost use Rattle.ada_statement_places.specs.Walked.{within_met, inner_met, rest_met, kind_met, alt_met, stmt_met};
+ghost use Rattle.ada_rules.specs.RefusedFirst.{refused_first};
+ghost use Rattle.ada_statement_places.specs.inner.Walked.{within_met, inner_met, rest_met, kind_met, alt_met, stmt_met};
 
-use crate::heads::{walk_alt_own, walk_own};
+use crate::single_statements::{walk_alt_own, walk_own};
 use ada_part_places::{deeper, refuse_deep, walk_choices, walk_expr};
 use ada_rules::{Refusal, Standard, first};
 use ada_surroundings::{Surroundings, declare_formals, declare_parameter};
@@ -83,7 +83,7 @@ fn walk_alts(
     alts: &[Alt],
 ) -> Result<Option<Refusal>, AllocError>
     ensures kept { OnOk result (around.new ≡ around.old) }
-    ensures told { IfOk result (λ r. r ≡ met by.now (alts_spots around.old k (alts_of (map plain_alt alts.now)))) }
+    ensures told { IfOk result (λ r. r ≡ refused_first by.now (alts_spots around.old k (alts_of (map plain_alt alts.now)))) }
 {
     let mut refusal = None;
     for alt in alts {
@@ -102,7 +102,7 @@ fn walk_arms(
     arms: &[Arm],
 ) -> Result<Option<Refusal>, AllocError>
     ensures kept { OnOk result (around.new ≡ around.old) }
-    ensures told { IfOk result (λ r. r ≡ met by.now (arms_spots around.old k (arms_of (map plain_arm arms.now)))) }
+    ensures told { IfOk result (λ r. r ≡ refused_first by.now (arms_spots around.old k (arms_of (map plain_arm arms.now)))) }
 {
     let mut refusal = None;
     for arm in arms {
@@ -123,7 +123,7 @@ fn walk_case_arms(
     arms: &[CaseArm],
 ) -> Result<Option<Refusal>, AllocError>
     ensures kept { OnOk result (around.new ≡ around.old) }
-    ensures told { IfOk result (λ r. r ≡ met by.now (case_arms_spots around.old k (case_arms_of (map plain_case_arm arms.now)))) }
+    ensures told { IfOk result (λ r. r ≡ refused_first by.now (case_arms_spots around.old k (case_arms_of (map plain_case_arm arms.now)))) }
 {
     let mut refusal = None;
     for arm in arms {
@@ -143,7 +143,7 @@ fn walk_handlers(
     handlers: &[Handler],
 ) -> Result<Option<Refusal>, AllocError>
     ensures kept { OnOk result (around.new ≡ around.old) }
-    ensures told { IfOk result (λ r. r ≡ met by.now (handlers_spots around.old k (handlers_of (map plain_handler handlers.now)))) }
+    ensures told { IfOk result (λ r. r ≡ refused_first by.now (handlers_spots around.old k (handlers_of (map plain_handler handlers.now)))) }
 {
     let mut refusal = None;
     for handler in handlers {
@@ -169,7 +169,7 @@ fn walk_loop(
     list: &[Stmt],
 ) -> Result<Option<Refusal>, AllocError>
     ensures kept { OnOk result (around.new ≡ around.old) }
-    ensures told { IfOk result (λ r. r ≡ met by.now (stmts_spots (in_loop around.old name (option_map plain_scheme scheme.now)) k (row_of (map plain_stmt list.now)))) }
+    ensures told { IfOk result (λ r. r ≡ refused_first by.now (stmts_spots (in_loop around.old name (option_map plain_scheme scheme.now)) k (row_of (map plain_stmt list.now)))) }
 {
     let count = around.enter_loop(name)?;
     declare_parameter(around, scheme)?;
@@ -264,7 +264,7 @@ fn walk_stmts(
     list: &[Stmt],
 ) -> Result<Option<Refusal>, AllocError>
     ensures kept { OnOk result (around.new ≡ around.old) }
-    ensures told { IfOk result (λ r. r ≡ met by.now (stmts_spots around.old k (row_of (map plain_stmt list.now)))) }
+    ensures told { IfOk result (λ r. r ≡ refused_first by.now (stmts_spots around.old k (row_of (map plain_stmt list.now)))) }
 {
     let mut refusal = None;
     for stmt in list {
@@ -282,7 +282,7 @@ pub fn walk_body(
     body: &Body,
 ) -> Result<Option<Refusal>, AllocError>
     ensures kept { OnOk result (around.new ≡ around.old) }
-    ensures told { IfOk result (λ r. r ≡ met by.now (body_spots around.old k (plain_body body.now))) }
+    ensures told { IfOk result (λ r. r ≡ refused_first by.now (body_spots around.old k (plain_body body.now))) }
 {
     let inner = walk_stmts(around, by, k, &body.stmts)?;
     let handlers = walk_handlers(around, by, k, &body.handlers)?;

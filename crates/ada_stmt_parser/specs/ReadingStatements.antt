@@ -1,5 +1,5 @@
 -- How statements are read: by the next item, and behind a name by what follows it. At a depth d, at most d levels may stand below the statement, and inner reads one level deeper.
-use Rattle.std.specs.Prelude.{ℕ, zero, suc, Bool, true, false, ◌||◌, List, [], ◌∷◌, length, map, Option, Some, None, is_some, if◌then◌else◌}
+use Rattle.std.specs.Prelude.{ℕ, zero, suc, Bool, true, false, List, [], ◌∷◌, length, map, Option, Some, None, is_some, if◌then◌else◌}
 use Rattle.lawful_reader.specs.Readers.{Reader, pure, refuse, bind, on, token, below, look, items, some_items}
 use Rattle.ada_tree.specs.declared.naming.Span.{Span}
 use Rattle.ada_tree.specs.declared.naming.Word.{Word}
@@ -13,6 +13,7 @@ use Rattle.ada_expr_parser.specs.Parts.{expression, drange, choice, target, call
 use Rattle.ada_phrase_parser.specs.Spelling.{Source}
 use Rattle.ada_phrase_parser.specs.Reading.{is_symbol, key_then, closed, separated, end_of, delayed, accept_behind, part}
 use Rattle.ada_simple_stmt_parser.specs.ReadingSimple.{word_rest, exit_rest}
+pub use Rattle.ada_compound_parts.specs.ReadingHeads.{begins_stmt}
 use Rattle.ada_compound_parts.specs.ReadingParts.{last_span, first_of_alt, maybe, loop_end, head_of, with_others}
 
 -- what reads at one depth: a statement, an accept behind its first word, an alternative, and handlers behind `exception`
@@ -24,13 +25,6 @@ pub record Readers : Type 0 where
 
 abbrev pub accept_span : PAccept → Span
 accept_span (accepting h o) = h.span
-
--- the item begins a statement (5.1)
-abbrev pub begins_stmt : Item → Bool
-begins_stmt x =
-    is_some (word x) || is_symbol key.Null x || is_symbol key.Delay x || is_symbol key.Exit x || is_symbol key.Raise x || is_symbol key.Abort x
-    || is_symbol key.Accept x || is_symbol key.Select x || is_symbol key.If x || is_symbol key.Case x || is_symbol key.Begin x
-    || is_symbol key.While x || is_symbol key.For x || is_symbol key.Loop x
 
 -- statements, none or some; and one at least (5.1)
 abbrev pub any_stmts : Readers → Reader Item PStmts

@@ -1,29 +1,24 @@
 //! Selective waits, conditional and timed entry calls, and accept statements (chapter 9).
 
-ghost use Rattle.std.specs.Prelude.{◌<◌, ◌≤◌, ◌-◌, IfOk, map, option_map, length};
-ghost use Rattle.lawful_reader.specs.Readers.{fronted, bind};
-ghost use Rattle.ada_tree.specs.PlainExpr.{plain_expr};
-ghost use Rattle.ada_tree.specs.PlainStmt.{plain_stmt, plain_alt, plain_accept, plain_call, seen, accepting, present, SConditional};
+ghost use Rattle.std.specs.Prelude.{◌<◌, ◌≤◌, ◌-◌, IfOk, map, length};
+ghost use Rattle.lawful_reader.specs.Readers.{fronted};
+ghost use Rattle.ada_tree.specs.PlainStmt.{plain_stmt, plain_alt, plain_alt_kind, plain_accept, seen, seen_maybe};
 ghost use Rattle.ada_lexer.specs.declared.symbols.Symbol.TheVariants as key;
-ghost use Rattle.ada_expr_parser.specs.Trees.{from_to};
 ghost use Rattle.ada_expr_parser.specs.Gives.{Gives};
 ghost use Rattle.ada_phrase_parser.specs.Reading as reading;
 ghost use Rattle.ada_stmt_parser.specs.ReadingStatements as statements;
-ghost use Rattle.ada_phrase_parser.specs.Views.{told, behind_of};
-ghost use Rattle.ada_compound_parts.specs.ReadingParts as parts_of;
+ghost use Rattle.ada_stmt_parser.specs.Turns as turns;
+ghost use Rattle.ada_phrase_parser.specs.Views.{told};
+ghost use Rattle.ada_compound_parts.specs.ReadingHeads as front;
 
 use crate::sequences::{any_stmts, else_part, stmts};
 use ada_compound_parts::{
-    accept_close, accept_end, conditional_end, first_of_alt, last_span, terminate_alt, timed_end,
-    wait_end,
+    end_select, first_of_alt, last_span, or_delay, read_end_of, read_guard, selected,
+    selected_call, terminate_kind, wait_end,
 };
-use ada_expr_parser::{
-    Item, ParseError, Symbol, expect, expect_word, read_call_behind, read_expr, read_target,
-};
-use ada_phrase_parser::{
-    EntryBehind, Source, add, entry_behind, from_to, read_delayed, stands, word_in,
-};
-use ada_tree::{Accept, Alt, AltKind, Call, Callee, Expr, Span, Stmt, StmtKind, Word};
+use ada_expr_parser::{Item, ParseError, Symbol, expect, expect_word};
+use ada_phrase_parser::{Source, add, entry_behind, from_to, read_delayed, stands, word_in};
+use ada_tree::{Accept, Alt, AltKind, Span, Stmt, Word};
 use joined_parts::with;
 use std::alloc::Global;
 
@@ -47,82 +42,40 @@ pub(crate) fn read_select<'a>(
     if word_in(*next).is_none() {
         return wait(alloc, source, depth, lead, items);
     }
-    let (target, _, rest) = read_target(alloc, depth - 1, items)?;
-    let task = Callee {
-        name: target.name,
-        index: target.index,
-    };
-    let (call, rest) = read_call_behind(alloc, depth - 1, task, rest)?;
-    call_rest(alloc, source, depth, lead, call, rest)
+    let (call, rest) = selected_call(alloc, depth - 1, items)?;
+    let (call, (behind, delay, last, close, rest)) = with(
+        call,
+        call_tail(alloc, source, depth, rest),
+    )?;
+    Ok((selected(lead, call, behind, delay, last, close), rest))
 }
 
-// Behind `select` and the words of a call: the statements behind it, and an else part or a delay.
+// Behind `select` and a call: the statements behind it, and an else part or a delay with its statements.
 #[tactic(auto, using(crate::proofs::Inner::inward))]
 #[cycle(stmt)]
-fn call_rest<'a>(
+fn call_tail<'a>(
     alloc: Global,
     source: &Source<'_>,
     depth: u32,
-    lead: Span,
-    call: Call,
     items: &'a [Item],
-) -> Result<(Stmt, &'a [Item]), ParseError>
+) -> Result<(Vec<Stmt>, Option<u32>, Vec<Stmt>, Span, &'a [Item]), ParseError>
     requires { 0 < depth }
-    ensures tree { Gives (λ x. plain_stmt x.0) (λ x. x.1.now) result (statements.call_rest_of (statements.inner_at (told source.now) depth) lead (plain_call call) items.now) }
-    ensures shorter { IfOk result (λ x. length x.1.now < length items.now) }
+    ensures tree { Gives (λ x. front.call_tail_of (seen x.0.items) x.1 (seen x.2.items) x.3) (λ x. x.4.now) result (turns.call_tail (statements.inner_at (told source.now) depth) items.now) }
+    ensures shorter { IfOk result (λ x. length x.4.now < length items.now) }
 {
-    let (call, (_, rest)) = with(call, expect(Symbol::Semicolon, items))?;
-    let (call, (behind, items)) = with(call, any_stmts(alloc, source, depth, rest))?;
+    let (behind, items) = any_stmts(alloc, source, depth, items)?;
     let [next, rest @ ..] = items else {
         return Err(ParseError::Syntax { at: 0 });
     };
-    if !stands(Symbol::Else, *next) {
-        return timed_rest(alloc, source, depth, lead, call, behind, items);
+    if stands(Symbol::Else, *next) {
+        let (otherwise, rest) = stmts(alloc, source, depth, rest)?;
+        let (close, rest) = end_select(rest)?;
+        return Ok((behind, None, otherwise, close, rest));
     }
-    conditional_rest(alloc, source, depth, lead, call, behind, rest)
-}
-
-// Behind a call, its statements and `else`.
-#[tactic(auto, using(crate::proofs::Inner::inward))]
-#[cycle(stmt)]
-fn conditional_rest<'a>(
-    alloc: Global,
-    source: &Source<'_>,
-    depth: u32,
-    lead: Span,
-    call: Call,
-    behind: Vec<Stmt>,
-    items: &'a [Item],
-) -> Result<(Stmt, &'a [Item]), ParseError>
-    requires { 0 < depth }
-    ensures tree { Gives (λ x. plain_stmt x.0) (λ x. x.1.now) result (bind (statements.stmts (statements.inner_at (told source.now) depth)) (λ o. reading.key_then key.End (reading.key_then key.Select (reading.closed (λ close. SConditional (plain_call call) (seen behind.items) o (from_to lead close))))) items.now) }
-    ensures shorter { IfOk result (λ x. length x.1.now < length items.now) }
-{
-    let (call, (otherwise, rest)) = with(call, stmts(alloc, source, depth, items))?;
-    conditional_end(lead, call, behind, otherwise, rest)
-}
-
-// Behind a call and its statements: a delay.
-#[tactic(auto, using(crate::proofs::Inner::inward))]
-#[cycle(stmt)]
-fn timed_rest<'a>(
-    alloc: Global,
-    source: &Source<'_>,
-    depth: u32,
-    lead: Span,
-    call: Call,
-    behind: Vec<Stmt>,
-    items: &'a [Item],
-) -> Result<(Stmt, &'a [Item]), ParseError>
-    requires { 0 < depth }
-    ensures tree { Gives (λ x. plain_stmt x.0) (λ x. x.1.now) result (statements.timed_rest (statements.inner_at (told source.now) depth) lead (plain_call call) (seen behind.items) items.now) }
-    ensures shorter { IfOk result (λ x. length x.1.now < length items.now) }
-{
-    let (call, (_, rest)) = with(call, expect(Symbol::Or, items))?;
-    let (call, (_, rest)) = with(call, expect(Symbol::Delay, rest))?;
-    let (call, (thousandths, _, rest)) = with(call, read_delayed(rest))?;
-    let (call, (after, rest)) = with(call, any_stmts(alloc, source, depth, rest))?;
-    timed_end(lead, call, behind, thousandths, after, rest)
+    let (thousandths, rest) = or_delay(items)?;
+    let (after, rest) = any_stmts(alloc, source, depth, rest)?;
+    let (close, rest) = end_select(rest)?;
+    Ok((behind, Some(thousandths), after, close, rest))
 }
 
 // A selective wait, behind `select`.
@@ -226,7 +179,7 @@ fn read_alts<'a>(
 }
 
 // An alternative.
-#[tactic(auto, using(crate::proofs::Inner::inward))]
+#[tactic(auto, using(crate::proofs::Inner::inward, crate::proofs::Alternatives::alternatives))]
 #[cycle(stmt)]
 fn read_alt<'a>(
     alloc: Global,
@@ -237,49 +190,34 @@ fn read_alt<'a>(
     ensures tree { Gives (λ x. plain_alt x.0) (λ x. x.1.now) result ((statements.readers (told source.now) depth).alt items.now) }
     ensures shorter { IfOk result (λ x. length x.1.now < length items.now) }
 {
-    let [next, rest @ ..] = items else {
-        return Err(ParseError::Syntax { at: 0 });
-    };
-
-    if !stands(Symbol::When, *next) {
-        return alt_kind(alloc, source, depth, None, None, items);
-    }
-    if depth == 0 {
-        return Err(ParseError::TooDeep {
-            at: next.span.start,
-        });
-    }
-    let (guard, _, rest) = read_expr(alloc, depth - 1, rest)?;
-    let (_, rest) = expect(Symbol::Arrow, rest)?;
-    alt_kind(alloc, source, depth, Some(guard), Some(next.span), rest)
+    let (guard, lead, rest) = read_guard(alloc, depth, items)?;
+    let (guard, (kind, first, last, rest)) = with(guard, alt_kind(alloc, source, depth, rest))?;
+    let span = from_to(first_of_alt(lead, first), last);
+    Ok((Alt { guard, kind, span }, rest))
 }
 
-// An alternative behind its guard, which begins at this place.
+// The kind of an alternative, where it begins, and where it ends.
 #[tactic(auto, using(crate::proofs::Inner::inward))]
 #[cycle(stmt)]
 fn alt_kind<'a>(
     alloc: Global,
     source: &Source<'_>,
     depth: u32,
-    guard: Option<Expr>,
-    lead: Option<Span>,
     items: &'a [Item],
-) -> Result<(Alt, &'a [Item]), ParseError>
-    ensures tree { Gives (λ x. plain_alt x.0) (λ x. x.1.now) result (statements.alt_kind depth (statements.inner_at (told source.now) depth) (option_map plain_expr guard) lead items.now) }
-    ensures shorter { IfOk result (λ x. length x.1.now < length items.now) }
+) -> Result<(AltKind, Span, Span, &'a [Item]), ParseError>
+    ensures tree { Gives (λ x. front.kind_of (plain_alt_kind x.0) x.1 x.2) (λ x. x.3.now) result (turns.alt_kind depth (statements.inner_at (told source.now) depth) items.now) }
+    ensures shorter { IfOk result (λ x. length x.3.now < length items.now) }
 {
     let [next, rest @ ..] = items else {
         return Err(ParseError::Syntax { at: 0 });
     };
-
-    let first = first_of_alt(lead, next.span);
     if stands(Symbol::Accept, *next) {
         if depth == 0 {
             return Err(ParseError::TooDeep {
                 at: next.span.start,
             });
         }
-        return accept_alt(alloc, source, depth, guard, first, next.span, rest);
+        return accept_kind(alloc, source, depth, next.span, rest);
     }
     if stands(Symbol::Delay, *next) {
         if depth == 0 {
@@ -287,78 +225,53 @@ fn alt_kind<'a>(
                 at: next.span.start,
             });
         }
-        return delay_alt(alloc, source, depth, guard, first, rest);
+        return delay_kind(alloc, source, depth, next.span, rest);
     }
-    if !stands(Symbol::Terminate, *next) {
-        return Err(ParseError::Syntax {
-            at: next.span.start,
-        });
-    }
-    terminate_alt(guard, first, rest)
+    terminate_kind(items)
 }
 
 // Behind `accept` of an alternative.
 #[tactic(auto, using(crate::proofs::Inner::inward, ada_tree::proofs::Rows::rows))]
 #[cycle(stmt)]
-fn accept_alt<'a>(
+fn accept_kind<'a>(
     alloc: Global,
     source: &Source<'_>,
     depth: u32,
-    guard: Option<Expr>,
-    first: Span,
     lead: Span,
     items: &'a [Item],
-) -> Result<(Alt, &'a [Item]), ParseError>
+) -> Result<(AltKind, Span, Span, &'a [Item]), ParseError>
     requires { 0 < depth }
-    ensures tree { Gives (λ x. plain_alt x.0) (λ x. x.1.now) result (statements.accept_alt (statements.inner_at (told source.now) depth) (option_map plain_expr guard) first lead items.now) }
-    ensures shorter { IfOk result (λ x. length x.1.now < length items.now) }
+    ensures tree { Gives (λ x. front.kind_of (plain_alt_kind x.0) x.1 x.2) (λ x. x.3.now) result (turns.accept_kind (statements.inner_at (told source.now) depth) lead items.now) }
+    ensures shorter { IfOk result (λ x. length x.3.now < length items.now) }
 {
-    let (guard, (accept, rest)) = with(guard, read_accept(alloc, source, depth - 1, lead, items))?;
-    let ((guard, accept), (stmts, rest)) = with(
-        (guard, accept),
-        any_stmts(alloc, source, depth, rest),
-    )?;
-    let span = from_to(first, last_span(accept.span, &stmts));
-    Ok((
-        Alt {
-            guard,
-            kind: AltKind::Accept { accept, stmts },
-            span,
-        },
-        rest,
-    ))
+    let (accept, rest) = read_accept(alloc, source, depth - 1, lead, items)?;
+    let (accept, (stmts, rest)) = with(accept, any_stmts(alloc, source, depth, rest))?;
+    let last = last_span(accept.span, &stmts);
+    Ok((AltKind::Accept { accept, stmts }, lead, last, rest))
 }
 
 // Behind `delay` of an alternative.
 #[tactic(auto, using(crate::proofs::Inner::inward, ada_tree::proofs::Rows::rows))]
 #[cycle(stmt)]
-fn delay_alt<'a>(
+fn delay_kind<'a>(
     alloc: Global,
     source: &Source<'_>,
     depth: u32,
-    guard: Option<Expr>,
-    first: Span,
+    lead: Span,
     items: &'a [Item],
-) -> Result<(Alt, &'a [Item]), ParseError>
+) -> Result<(AltKind, Span, Span, &'a [Item]), ParseError>
     requires { 0 < depth }
-    ensures tree { Gives (λ x. plain_alt x.0) (λ x. x.1.now) result (statements.delay_alt (statements.inner_at (told source.now) depth) (option_map plain_expr guard) first items.now) }
-    ensures shorter { IfOk result (λ x. length x.1.now < length items.now) }
+    ensures tree { Gives (λ x. front.kind_of (plain_alt_kind x.0) x.1 x.2) (λ x. x.3.now) result (turns.delay_kind (statements.inner_at (told source.now) depth) lead items.now) }
+    ensures shorter { IfOk result (λ x. length x.3.now < length items.now) }
 {
-    let (guard, (thousandths, close, rest)) = with(guard, read_delayed(items))?;
-    let (guard, (stmts, rest)) = with(guard, any_stmts(alloc, source, depth, rest))?;
-    let span = from_to(first, last_span(close, &stmts));
-    Ok((
-        Alt {
-            guard,
-            kind: AltKind::Delay { thousandths, stmts },
-            span,
-        },
-        rest,
-    ))
+    let (thousandths, close, rest) = read_delayed(items)?;
+    let (stmts, rest) = any_stmts(alloc, source, depth, rest)?;
+    let last = last_span(close, &stmts);
+    Ok((AltKind::Delay { thousandths, stmts }, lead, last, rest))
 }
 
 /// Behind `accept`.
-#[tactic(auto, using(crate::proofs::Inner::inward))]
+#[tactic(auto, using(crate::proofs::Inner::inward, crate::proofs::Alternatives::alternatives, ada_tree::proofs::Rows::rows))]
 #[cycle(stmt)]
 pub(crate) fn read_accept<'a>(
     alloc: Global,
@@ -371,37 +284,50 @@ pub(crate) fn read_accept<'a>(
     ensures shorter { IfOk result (λ x. length x.1.now < length items.now) }
 {
     let (entry, rest) = expect_word(items)?;
-    let (behind, items) = entry_behind(alloc, depth, rest)?;
+    let (behind, rest) = entry_behind(alloc, depth, rest)?;
+    let (behind, (stmts, close, rest)) = with(
+        behind,
+        accept_tail(alloc, source, depth, entry, rest),
+    )?;
+    let span = from_to(lead, close);
+    Ok((
+        Accept {
+            entry,
+            index: behind.index,
+            formals: behind.formals,
+            stmts,
+            span,
+        },
+        rest,
+    ))
+}
+
+// The end of an accept statement: `do` and its statements, or nothing; and the place of its semicolon.
+#[tactic(auto, using(crate::proofs::Inner::inward))]
+#[cycle(stmt)]
+fn accept_tail<'a>(
+    alloc: Global,
+    source: &Source<'_>,
+    depth: u32,
+    entry: Word,
+    items: &'a [Item],
+) -> Result<(Option<Vec<Stmt>>, Span, &'a [Item]), ParseError>
+    ensures tree { Gives (λ x. turns.tail_of (seen_maybe x.0) x.1) (λ x. x.2.now) result (turns.accept_tail depth (statements.inner_at (told source.now) depth) entry items.now) }
+    ensures shorter { IfOk result (λ x. length x.2.now < length items.now) }
+{
     let [next, rest @ ..] = items else {
         return Err(ParseError::Syntax { at: 0 });
     };
     if !stands(Symbol::Do, *next) {
-        return accept_close(entry, behind, None, lead, items);
+        let (close, rest) = expect(Symbol::Semicolon, items)?;
+        return Ok((None, close, rest));
     }
     if depth == 0 {
         return Err(ParseError::TooDeep {
             at: next.span.start,
         });
     }
-    accept_body(alloc, source, depth, entry, behind, lead, rest)
-}
-
-// Behind `do`: the statements of an accept statement and its end.
-#[tactic(auto, using(crate::proofs::Inner::inward))]
-#[cycle(stmt)]
-fn accept_body<'a>(
-    alloc: Global,
-    source: &Source<'_>,
-    depth: u32,
-    entry: Word,
-    behind: EntryBehind,
-    lead: Span,
-    items: &'a [Item],
-) -> Result<(Accept, &'a [Item]), ParseError>
-    requires { 0 < depth }
-    ensures tree { Gives (λ x. plain_accept x.0) (λ x. x.1.now) result (bind (statements.stmts (statements.inner_at (told source.now) depth)) (λ l. reading.end_of entry (λ close. accepting (parts_of.head_of entry (behind_of behind.index behind.formals.items) (from_to lead close)) (present l))) items.now) }
-    ensures shorter { IfOk result (λ x. length x.1.now < length items.now) }
-{
-    let (behind, (stmts, rest)) = with(behind, stmts(alloc, source, depth, items))?;
-    accept_end(entry, behind, stmts, lead, rest)
+    let (stmts, rest) = stmts(alloc, source, depth, rest)?;
+    let (close, rest) = read_end_of(entry, rest)?;
+    Ok((Some(stmts), close, rest))
 }

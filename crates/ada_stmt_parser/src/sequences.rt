@@ -1,6 +1,6 @@
 //! Statements one behind the other, one level deeper than what they stand in.
 
-ghost use Rattle.std.specs.Prelude.{◌≡◌, ◌<◌, ◌≤◌, IfOk, map, length};
+ghost use Rattle.std.specs.Prelude.{◌<◌, ◌≤◌, IfOk, map, length};
 ghost use Rattle.lawful_reader.specs.Readers.{fronted};
 ghost use Rattle.lawful_reader.specs.Readers as lawful;
 ghost use Rattle.ada_tree.specs.PlainStmt.{plain_stmt, seen, seen_maybe};
@@ -9,30 +9,11 @@ ghost use Rattle.ada_stmt_parser.specs.ReadingStatements as statements;
 ghost use Rattle.ada_phrase_parser.specs.Views.{told};
 
 use crate::statements::read_stmt;
+use ada_compound_parts::begins_stmt;
 use ada_expr_parser::{Item, ParseError, Symbol};
-use ada_phrase_parser::{Source, add, is_symbol, stands, word_in};
+use ada_phrase_parser::{Source, add, stands};
 use ada_tree::Stmt;
 use std::alloc::Global;
-
-// Whether an item begins a statement.
-fn begins_stmt(item: Item) -> bool
-    ensures { result ≡ statements.begins_stmt item }
-{
-    word_in(item).is_some()
-        || is_symbol(Symbol::Null, item)
-        || is_symbol(Symbol::Delay, item)
-        || is_symbol(Symbol::Exit, item)
-        || is_symbol(Symbol::Raise, item)
-        || is_symbol(Symbol::Abort, item)
-        || is_symbol(Symbol::Accept, item)
-        || is_symbol(Symbol::Select, item)
-        || is_symbol(Symbol::If, item)
-        || is_symbol(Symbol::Case, item)
-        || is_symbol(Symbol::Begin, item)
-        || is_symbol(Symbol::While, item)
-        || is_symbol(Symbol::For, item)
-        || is_symbol(Symbol::Loop, item)
-}
 
 // A statement.
 #[tactic(auto, using(crate::proofs::Inner::inward))]

@@ -12,8 +12,9 @@ ghost use Rattle.ada_stmt_parser.specs.Turns as turns;
 
 use crate::bodies::read_block;
 use crate::compound::{read_case, read_if};
-use crate::looping::{for_rest, loop_rest, named_loop, while_rest};
+use crate::looping::loop_from;
 use crate::selecting::{read_accept, read_select};
+use ada_compound_parts::begins_loop;
 use ada_expr_parser::{Item, ParseError, Symbol};
 use ada_phrase_parser::{Source, stands, word_in};
 use ada_simple_stmt_parser::{
@@ -91,7 +92,7 @@ fn case_or_block<'a>(
 }
 
 // A loop without a name, or a statement that begins otherwise.
-#[tactic(auto, using(crate::proofs::Inner::inward))]
+#[tactic(auto, using(crate::proofs::Inner::inward, crate::proofs::Loops::loops))]
 #[cycle(stmt)]
 fn any_loop<'a>(
     alloc: Global,
@@ -105,29 +106,13 @@ fn any_loop<'a>(
     let [next, rest @ ..] = items else {
         return Err(ParseError::Syntax { at: 0 });
     };
-    if stands(Symbol::While, *next) {
+    if begins_loop(*next) {
         if depth == 0 {
             return Err(ParseError::TooDeep {
                 at: next.span.start,
             });
         }
-        return while_rest(alloc, source, depth, None, next.span, rest);
-    }
-    if stands(Symbol::For, *next) {
-        if depth == 0 {
-            return Err(ParseError::TooDeep {
-                at: next.span.start,
-            });
-        }
-        return for_rest(alloc, source, depth, None, next.span, rest);
-    }
-    if stands(Symbol::Loop, *next) {
-        if depth == 0 {
-            return Err(ParseError::TooDeep {
-                at: next.span.start,
-            });
-        }
-        return loop_rest(alloc, source, depth, None, next.span, None, rest);
+        return loop_from(alloc, source, depth, None, next.span, items);
     }
     worded(alloc, source, depth, items)
 }
@@ -201,7 +186,7 @@ fn accept_or_name<'a>(
 }
 
 // Behind a name: `:` and a loop, or a statement that begins with the name; `items` are those from the name on.
-#[tactic(auto, using(crate::proofs::Inner::inward))]
+#[tactic(auto, using(crate::proofs::Inner::inward, crate::proofs::Loops::loops))]
 #[cycle(stmt)]
 fn named<'a>(
     alloc: Global,
@@ -226,5 +211,5 @@ fn named<'a>(
             at: next.span.start,
         });
     }
-    named_loop(alloc, source, depth, name, rest)
+    loop_from(alloc, source, depth, Some(name), name.span, rest)
 }

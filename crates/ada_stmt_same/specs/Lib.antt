@@ -1,1 +1,1 @@
-pub mod Simple
+pub mod inner

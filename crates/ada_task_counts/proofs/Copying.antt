@@ -15,8 +15,8 @@ use Rattle.syn_event.specs.Spots.{spot, copies_spots, all_copies_spots}
 use Rattle.ada_rules.specs.declared.counting.Counted.{Counted}
 use Rattle.ada_rules.specs.Amounts.{capped}
 use Rattle.ada_rules.specs.Sooner.{sooner}
-use Rattle.ada_rules.specs.Met.{Standard, met_at, met}
-use Rattle.ada_task_counts.specs.Shares.{Rates, row_lengths, shared, with_share, body_shares, share_of}
+use Rattle.ada_rules.specs.RefusedFirst.{Standard, refused_first_at, refused_first}
+use Rattle.ada_task_counts.specs.inner.Shares.{Rates, row_lengths, shared, with_share, body_shares, share_of}
 use Rattle.ada_rules.proofs.Capping.{capped_twice}
 use Rattle.ada_rules.proofs.CountLaws.{at_same}
 use Rattle.ada_task_counts.proofs.TaskCounting.{shares_same}
@@ -51,16 +51,16 @@ rates_of types parts = record { types = types; rows = row_lengths types parts }
 with_types : (by : Standard) (around : Surrounding) (parts : List TaskPart) (p : PProgram) (share : ℕ) (own : Counted) (r : Option CheckRefusal)
     → share ≡ shared (rates_of around.types parts) (body_callees p.body)
     → capped own.count ≡ capped (0 + share)
-    → own.refusal ≡ met_at by around (counts Copies 0 share p.name.span)
-    → r ≡ sooner own.refusal (met by (copies_spots around (share_by around.types (body_shares (rates_of around.types parts) p.decls)) own.count parts))
-    → r ≡ met by (all_copies_spots around parts p)
+    → own.refusal ≡ refused_first_at by around (counts Copies 0 share p.name.span)
+    → r ≡ sooner own.refusal (refused_first by (copies_spots around (share_by around.types (body_shares (rates_of around.types parts) p.decls)) own.count parts))
+    → r ≡ refused_first by (all_copies_spots around parts p)
 with_types by around parts p share own r is_share count refused is =
     let all : ℕ = callees_share around.types parts p.body in
     let same : capped share ≡ capped all = ap capped (is_share ∙ shared_is around.types parts (body_callees p.body)) ∙ capped_twice all in
     let start : capped own.count ≡ capped all = count ∙ ap capped (add_left share) ∙ same in
     is
-    ∙ ap (λ o. sooner o (met by (copies_spots around (share_by around.types (body_shares (rates_of around.types parts) p.decls)) own.count parts))) (refused ∙ at_same by around Copies 0 0 share all p.name.span refl same)
-    ∙ ap (sooner (met_at by around (counts Copies 0 all p.name.span))) (shares_same by around (share_by around.types (body_shares (rates_of around.types parts) p.decls)) (part_share around.types parts p.decls) (part_share_is around.types parts p.decls) own.count all parts start)
+    ∙ ap (λ o. sooner o (refused_first by (copies_spots around (share_by around.types (body_shares (rates_of around.types parts) p.decls)) own.count parts))) (refused ∙ at_same by around Copies 0 0 share all p.name.span refl same)
+    ∙ ap (sooner (refused_first_at by around (counts Copies 0 all p.name.span))) (shares_same by around (share_by around.types (body_shares (rates_of around.types parts) p.decls)) (part_share around.types parts p.decls) (part_share_is around.types parts p.decls) own.count all parts start)
     ∙ sym (met_cons by around (counts Copies 0 all p.name.span) (copies_spots around (part_share around.types parts p.decls) all parts))
   where
     add_left : (n : ℕ) → 0 + n ≡ n
@@ -72,9 +72,9 @@ pub copies_met : (by : Standard) (around : Surrounding) (types : TypeTable) (par
     → shares ≡ body_shares rates p.decls
     → share ≡ shared rates (body_callees p.body)
     → capped own.count ≡ capped (0 + share)
-    → own.refusal ≡ met_at by around (counts Copies 0 share p.name.span)
-    → r ≡ sooner own.refusal (met by (copies_spots around (λ (x : TaskPart). capped (capped (task_count types x) * share_of shares x.unit.name.name)) own.count parts))
-    → r ≡ met by (all_copies_spots around parts p)
+    → own.refusal ≡ refused_first_at by around (counts Copies 0 share p.name.span)
+    → r ≡ sooner own.refusal (refused_first by (copies_spots around (λ (x : TaskPart). capped (capped (task_count types x) * share_of shares x.unit.name.name)) own.count parts))
+    → r ≡ refused_first by (all_copies_spots around parts p)
 copies_met by around types parts p rates shares share own r same is_rates is_shares is_share count refused is =
     let at : rates ≡ rates_of around.types parts = is_rates ∙ ap (λ t. rates_of t parts) (sym same) in
     with_types by around parts p share own r
@@ -82,5 +82,5 @@ copies_met by around types parts p rates shares share own r same is_rates is_sha
     count
     refused
     (is
-    ∙ ap (λ t. sooner own.refusal (met by (copies_spots around (share_by t shares) own.count parts))) (sym same)
-    ∙ ap (λ s. sooner own.refusal (met by (copies_spots around (share_by around.types s) own.count parts))) (is_shares ∙ ap (λ t. body_shares t p.decls) at))
+    ∙ ap (λ t. sooner own.refusal (refused_first by (copies_spots around (share_by t shares) own.count parts))) (sym same)
+    ∙ ap (λ s. sooner own.refusal (refused_first by (copies_spots around (share_by around.types s) own.count parts))) (is_shares ∙ ap (λ t. body_shares t p.decls) at))

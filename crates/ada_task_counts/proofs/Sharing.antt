@@ -22,8 +22,8 @@ use Rattle.syn_event.specs.TaskParts.{TaskPart, task_count}
 use Rattle.syn_event.specs.Callees.{stmt_callees, stmts_callees, accept_callees, alt_callees, alts_callees, arms_callees, case_arms_callees, handlers_callees, body_callees}
 use Rattle.syn_event.specs.Copying.{count_named, length_of_row, callee_share, callees_share, source_length, body_share, part_share}
 use Rattle.ada_rules.specs.Amounts.{many, capped, plus}
-use Rattle.ada_task_counts.specs.Shares.{Rates, row_lengths, length_among, index_rate, rate_of, shared, body_shares, share_of}
-use Rattle.ada_task_counts.specs.Copied.{own_callees, inner_callees, rest_callees, each_alt, each_arm, each_case_arm, each_handler}
+use Rattle.ada_task_counts.specs.inner.Shares.{Rates, row_lengths, length_among, index_rate, rate_of, shared, body_shares, share_of}
+use Rattle.ada_task_counts.specs.inner.Copied.{own_callees, inner_callees, rest_callees, each_alt, each_arm, each_case_arm, each_handler}
 use Rattle.ada_rules.proofs.Capping.{capped_twice, capped_left, capped_sum, plus_assoc, capped_product}
 
 pub shared_none : (r : Rates) → shared r [] ≡ 0

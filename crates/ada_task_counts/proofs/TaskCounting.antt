@@ -12,115 +12,115 @@ use Rattle.syn_event.specs.TaskParts.{TaskPart, task_count}
 use Rattle.syn_event.specs.Spots.{spot, numbered, tasks_spots, entries_of_part, entries_spots, copies_spots}
 use Rattle.ada_rules.specs.declared.counting.Counted.{Counted}
 use Rattle.ada_rules.specs.Amounts.{capped}
-use Rattle.ada_rules.specs.Counted.{IsCounted}
+use Rattle.ada_rules.specs.inner.Counted.{IsCounted}
 use Rattle.ada_rules.specs.Sooner.{sooner}
-use Rattle.ada_rules.specs.Met.{Standard, met_at, met}
+use Rattle.ada_rules.specs.RefusedFirst.{Standard, refused_first_at, refused_first}
 use Rattle.ada_rules.proofs.Capping.{capped_twice, capped_left_product}
 use Rattle.ada_rules.proofs.Meeting.{met_none, met_cons, met_one, met_append}
 use Rattle.ada_rules.proofs.CountLaws.{at_same, sum_same, right_same, from_same, count_more, count_end, numbered_same}
 
 -- the entries of one task
 module _ (by : Standard) (around : Surrounding) where
-  spans_next : (n : ℕ) (x : PEntry) (xs : List PEntry) → met by (numbered around Entries n (map (λ e. e.span) (x ∷ xs))) ≡ sooner (met_at by around (counts Entries n 1 x.span)) (met by (numbered around Entries (n + 1) (map (λ e. e.span) xs)))
+  spans_next : (n : ℕ) (x : PEntry) (xs : List PEntry) → refused_first by (numbered around Entries n (map (λ e. e.span) (x ∷ xs))) ≡ sooner (refused_first_at by around (counts Entries n 1 x.span)) (refused_first by (numbered around Entries (n + 1) (map (λ e. e.span) xs)))
   spans_next n x xs = met_cons by around (counts Entries n 1 x.span) (numbered around Entries (n + 1) (map (λ e. e.span) xs))
 
-  spans_same : (b c : ℕ) (x : PEntry) → capped b ≡ capped c → met_at by around (counts Entries b 1 x.span) ≡ met_at by around (counts Entries c 1 x.span)
+  spans_same : (b c : ℕ) (x : PEntry) → capped b ≡ capped c → refused_first_at by around (counts Entries b 1 x.span) ≡ refused_first_at by around (counts Entries c 1 x.span)
   spans_same b c x h = at_same by around Entries b c 1 1 x.span h refl
 
   pub entry_more : (xs : List EntryDecl) (i : ℕ) (x : EntryDecl) (b c : ℕ) (before after all : Option CheckRefusal) → drop i xs ≡ x ∷ drop (i + 1) xs
-      → sooner before (met by (numbered around Entries b (map (λ (e : PEntry). e.span) (map plain_entry (drop i xs))))) ≡ all
+      → sooner before (refused_first by (numbered around Entries b (map (λ (e : PEntry). e.span) (map plain_entry (drop i xs))))) ≡ all
       → capped c ≡ capped (b + 1)
-      → after ≡ sooner before (met_at by around (counts Entries b 1 x.span))
-      → sooner after (met by (numbered around Entries c (map (λ (e : PEntry). e.span) (map plain_entry (drop (i + 1) xs))))) ≡ all
-  entry_more = count_more by (λ n xs. numbered around Entries n (map (λ (e : PEntry). e.span) xs)) (λ n x. met_at by around (counts Entries n 1 x.span)) (λ x. 1) (λ n. met_none by) spans_next spans_same plain_entry
+      → after ≡ sooner before (refused_first_at by around (counts Entries b 1 x.span))
+      → sooner after (refused_first by (numbered around Entries c (map (λ (e : PEntry). e.span) (map plain_entry (drop (i + 1) xs))))) ≡ all
+  entry_more = count_more by (λ n xs. numbered around Entries n (map (λ (e : PEntry). e.span) xs)) (λ n x. refused_first_at by around (counts Entries n 1 x.span)) (λ x. 1) (λ n. met_none by) spans_next spans_same plain_entry
 
   pub entry_end : (xs : List EntryDecl) (i : ℕ) (b : ℕ) (a all : Option CheckRefusal) → length xs ≤ i
-      → sooner a (met by (numbered around Entries b (map (λ (e : PEntry). e.span) (map plain_entry (drop i xs))))) ≡ all
+      → sooner a (refused_first by (numbered around Entries b (map (λ (e : PEntry). e.span) (map plain_entry (drop i xs))))) ≡ all
       → a ≡ all
-  entry_end = count_end by (λ n xs. numbered around Entries n (map (λ (e : PEntry). e.span) xs)) (λ n x. met_at by around (counts Entries n 1 x.span)) (λ x. 1) (λ n. met_none by) spans_next spans_same plain_entry
+  entry_end = count_end by (λ n xs. numbered around Entries n (map (λ (e : PEntry). e.span) xs)) (λ n x. refused_first_at by around (counts Entries n 1 x.span)) (λ x. 1) (λ n. met_none by) spans_next spans_same plain_entry
 
 -- ---- tasks
 
 module _ (by : Standard) (around : Surrounding) where
-  task_next : (n : ℕ) (x : TaskPart) (xs : List TaskPart) → met by (tasks_spots around n (x ∷ xs)) ≡ sooner (met_at by around (counts Tasks n (task_count around.types x) x.place)) (met by (tasks_spots around (n + task_count around.types x) xs))
+  task_next : (n : ℕ) (x : TaskPart) (xs : List TaskPart) → refused_first by (tasks_spots around n (x ∷ xs)) ≡ sooner (refused_first_at by around (counts Tasks n (task_count around.types x) x.place)) (refused_first by (tasks_spots around (n + task_count around.types x) xs))
   task_next n x xs = met_cons by around (counts Tasks n (task_count around.types x) x.place) (tasks_spots around (n + task_count around.types x) xs)
 
-  task_same : (b c : ℕ) (x : TaskPart) → capped b ≡ capped c → met_at by around (counts Tasks b (task_count around.types x) x.place) ≡ met_at by around (counts Tasks c (task_count around.types x) x.place)
+  task_same : (b c : ℕ) (x : TaskPart) → capped b ≡ capped c → refused_first_at by around (counts Tasks b (task_count around.types x) x.place) ≡ refused_first_at by around (counts Tasks c (task_count around.types x) x.place)
   task_same b c x h = at_same by around Tasks b c (task_count around.types x) (task_count around.types x) x.place h refl
 
   pub tasks_more : {A : Type 0} (see : A → TaskPart) (xs : List A) (i : ℕ) (x : A) (b c : ℕ) (before after all : Option CheckRefusal) → drop i xs ≡ x ∷ drop (i + 1) xs
-      → sooner before (met by (tasks_spots around b (map see (drop i xs)))) ≡ all
+      → sooner before (refused_first by (tasks_spots around b (map see (drop i xs)))) ≡ all
       → capped c ≡ capped (b + task_count around.types (see x))
-      → after ≡ sooner before (met_at by around (counts Tasks b (task_count around.types (see x)) (see x).place))
-      → sooner after (met by (tasks_spots around c (map see (drop (i + 1) xs)))) ≡ all
-  tasks_more = count_more by (tasks_spots around) (λ n x. met_at by around (counts Tasks n (task_count around.types x) x.place)) (task_count around.types) (λ n. met_none by) task_next task_same
+      → after ≡ sooner before (refused_first_at by around (counts Tasks b (task_count around.types (see x)) (see x).place))
+      → sooner after (refused_first by (tasks_spots around c (map see (drop (i + 1) xs)))) ≡ all
+  tasks_more = count_more by (tasks_spots around) (λ n x. refused_first_at by around (counts Tasks n (task_count around.types x) x.place)) (task_count around.types) (λ n. met_none by) task_next task_same
 
   pub tasks_end : {A : Type 0} (see : A → TaskPart) (xs : List A) (i : ℕ) (b : ℕ) (a all : Option CheckRefusal) → length xs ≤ i
-      → sooner a (met by (tasks_spots around b (map see (drop i xs)))) ≡ all
+      → sooner a (refused_first by (tasks_spots around b (map see (drop i xs)))) ≡ all
       → a ≡ all
-  tasks_end = count_end by (tasks_spots around) (λ n x. met_at by around (counts Tasks n (task_count around.types x) x.place)) (task_count around.types) (λ n. met_none by) task_next task_same
+  tasks_end = count_end by (tasks_spots around) (λ n x. refused_first_at by around (counts Tasks n (task_count around.types x) x.place)) (task_count around.types) (λ n. met_none by) task_next task_same
 
   -- ---- entries
 
-  entries_by : (of_kind : Bool) (b c : ℕ) (x : TaskPart) → capped b ≡ capped c → x.unit.of_kind ≡ of_kind → met by (entries_of_part around b x) ≡ met by (entries_of_part around c x)
+  entries_by : (of_kind : Bool) (b c : ℕ) (x : TaskPart) → capped b ≡ capped c → x.unit.of_kind ≡ of_kind → refused_first by (entries_of_part around b x) ≡ refused_first by (entries_of_part around c x)
   entries_by of_kind b c x h e = by_kind x.unit.of_kind
     where
-      by_kind : (k : Bool) → met by (if k then spot around (counts Entries b (task_count around.types x * length x.unit.entries) x.place) ∷ [] else numbered around Entries b (map (λ y. y.span) x.unit.entries)) ≡ met by (if k then spot around (counts Entries c (task_count around.types x * length x.unit.entries) x.place) ∷ [] else numbered around Entries c (map (λ y. y.span) x.unit.entries))
+      by_kind : (k : Bool) → refused_first by (if k then spot around (counts Entries b (task_count around.types x * length x.unit.entries) x.place) ∷ [] else numbered around Entries b (map (λ y. y.span) x.unit.entries)) ≡ refused_first by (if k then spot around (counts Entries c (task_count around.types x * length x.unit.entries) x.place) ∷ [] else numbered around Entries c (map (λ y. y.span) x.unit.entries))
       by_kind true =
           met_one by around (counts Entries b (task_count around.types x * length x.unit.entries) x.place)
           ∙ at_same by around Entries b c (task_count around.types x * length x.unit.entries) (task_count around.types x * length x.unit.entries) x.place h refl
           ∙ sym (met_one by around (counts Entries c (task_count around.types x * length x.unit.entries) x.place))
       by_kind false = numbered_same by around Entries b c (map (λ y. y.span) x.unit.entries) h
 
-  part_same : (b c : ℕ) (x : TaskPart) → capped b ≡ capped c → met by (entries_of_part around b x) ≡ met by (entries_of_part around c x)
+  part_same : (b c : ℕ) (x : TaskPart) → capped b ≡ capped c → refused_first by (entries_of_part around b x) ≡ refused_first by (entries_of_part around c x)
   part_same b c x h = entries_by x.unit.of_kind b c x h refl
 
-  part_next : (n : ℕ) (x : TaskPart) (xs : List TaskPart) → met by (entries_spots around n (x ∷ xs)) ≡ sooner (met by (entries_of_part around n x)) (met by (entries_spots around (n + task_count around.types x * length x.unit.entries) xs))
+  part_next : (n : ℕ) (x : TaskPart) (xs : List TaskPart) → refused_first by (entries_spots around n (x ∷ xs)) ≡ sooner (refused_first by (entries_of_part around n x)) (refused_first by (entries_spots around (n + task_count around.types x * length x.unit.entries) xs))
   part_next n x xs = met_append by (entries_of_part around n x) (entries_spots around (n + task_count around.types x * length x.unit.entries) xs)
 
   pub entries_more : {A : Type 0} (see : A → TaskPart) (xs : List A) (i : ℕ) (x : A) (b c : ℕ) (before after all : Option CheckRefusal) → drop i xs ≡ x ∷ drop (i + 1) xs
-      → sooner before (met by (entries_spots around b (map see (drop i xs)))) ≡ all
+      → sooner before (refused_first by (entries_spots around b (map see (drop i xs)))) ≡ all
       → capped c ≡ capped (b + task_count around.types (see x) * length (see x).unit.entries)
-      → after ≡ sooner before (met by (entries_of_part around b (see x)))
-      → sooner after (met by (entries_spots around c (map see (drop (i + 1) xs)))) ≡ all
-  entries_more = count_more by (entries_spots around) (λ n x. met by (entries_of_part around n x)) (λ x. task_count around.types x * length x.unit.entries) (λ n. met_none by) part_next part_same
+      → after ≡ sooner before (refused_first by (entries_of_part around b (see x)))
+      → sooner after (refused_first by (entries_spots around c (map see (drop (i + 1) xs)))) ≡ all
+  entries_more = count_more by (entries_spots around) (λ n x. refused_first by (entries_of_part around n x)) (λ x. task_count around.types x * length x.unit.entries) (λ n. met_none by) part_next part_same
 
   pub entries_end : {A : Type 0} (see : A → TaskPart) (xs : List A) (i : ℕ) (b : ℕ) (a all : Option CheckRefusal) → length xs ≤ i
-      → sooner a (met by (entries_spots around b (map see (drop i xs)))) ≡ all
+      → sooner a (refused_first by (entries_spots around b (map see (drop i xs)))) ≡ all
       → a ≡ all
-  entries_end = count_end by (entries_spots around) (λ n x. met by (entries_of_part around n x)) (λ x. task_count around.types x * length x.unit.entries) (λ n. met_none by) part_next part_same
+  entries_end = count_end by (entries_spots around) (λ n x. refused_first by (entries_of_part around n x)) (λ x. task_count around.types x * length x.unit.entries) (λ n. met_none by) part_next part_same
 
   -- ---- copies
 
   module _ (share : TaskPart → ℕ) where
-    copy_next : (n : ℕ) (x : TaskPart) (xs : List TaskPart) → met by (copies_spots around share n (x ∷ xs)) ≡ sooner (met_at by around (counts Copies n (share x) x.name.span)) (met by (copies_spots around share (n + share x) xs))
+    copy_next : (n : ℕ) (x : TaskPart) (xs : List TaskPart) → refused_first by (copies_spots around share n (x ∷ xs)) ≡ sooner (refused_first_at by around (counts Copies n (share x) x.name.span)) (refused_first by (copies_spots around share (n + share x) xs))
     copy_next n x xs = met_cons by around (counts Copies n (share x) x.name.span) (copies_spots around share (n + share x) xs)
 
-    copy_same : (b c : ℕ) (x : TaskPart) → capped b ≡ capped c → met_at by around (counts Copies b (share x) x.name.span) ≡ met_at by around (counts Copies c (share x) x.name.span)
+    copy_same : (b c : ℕ) (x : TaskPart) → capped b ≡ capped c → refused_first_at by around (counts Copies b (share x) x.name.span) ≡ refused_first_at by around (counts Copies c (share x) x.name.span)
     copy_same b c x h = at_same by around Copies b c (share x) (share x) x.name.span h refl
 
-    copies_from : (b c : ℕ) (xs : List TaskPart) → capped b ≡ capped c → met by (copies_spots around share b xs) ≡ met by (copies_spots around share c xs)
-    copies_from = from_same by (copies_spots around share) (λ n x. met_at by around (counts Copies n (share x) x.name.span)) share (λ n. met_none by) copy_next copy_same
+    copies_from : (b c : ℕ) (xs : List TaskPart) → capped b ≡ capped c → refused_first by (copies_spots around share b xs) ≡ refused_first by (copies_spots around share c xs)
+    copies_from = from_same by (copies_spots around share) (λ n x. refused_first_at by around (counts Copies n (share x) x.name.span)) share (λ n. met_none by) copy_next copy_same
 
     pub copies_more : {A : Type 0} (see : A → TaskPart) (xs : List A) (i : ℕ) (x : A) (b c : ℕ) (before after all : Option CheckRefusal) → drop i xs ≡ x ∷ drop (i + 1) xs
-        → sooner before (met by (copies_spots around share b (map see (drop i xs)))) ≡ all
+        → sooner before (refused_first by (copies_spots around share b (map see (drop i xs)))) ≡ all
         → capped c ≡ capped (b + share (see x))
-        → after ≡ sooner before (met_at by around (counts Copies b (share (see x)) (see x).name.span))
-        → sooner after (met by (copies_spots around share c (map see (drop (i + 1) xs)))) ≡ all
-    copies_more = count_more by (copies_spots around share) (λ n x. met_at by around (counts Copies n (share x) x.name.span)) share (λ n. met_none by) copy_next copy_same
+        → after ≡ sooner before (refused_first_at by around (counts Copies b (share (see x)) (see x).name.span))
+        → sooner after (refused_first by (copies_spots around share c (map see (drop (i + 1) xs)))) ≡ all
+    copies_more = count_more by (copies_spots around share) (λ n x. refused_first_at by around (counts Copies n (share x) x.name.span)) share (λ n. met_none by) copy_next copy_same
 
     pub copies_end : {A : Type 0} (see : A → TaskPart) (xs : List A) (i : ℕ) (b : ℕ) (a all : Option CheckRefusal) → length xs ≤ i
-        → sooner a (met by (copies_spots around share b (map see (drop i xs)))) ≡ all
+        → sooner a (refused_first by (copies_spots around share b (map see (drop i xs)))) ≡ all
         → a ≡ all
-    copies_end = count_end by (copies_spots around share) (λ n x. met_at by around (counts Copies n (share x) x.name.span)) share (λ n. met_none by) copy_next copy_same
+    copies_end = count_end by (copies_spots around share) (λ n x. refused_first_at by around (counts Copies n (share x) x.name.span)) share (λ n. met_none by) copy_next copy_same
 
 -- shares that are the same as far as limits go
-pub shares_same : (by : Standard) (around : Surrounding) (f g : TaskPart → ℕ) → ((x : TaskPart) → capped (f x) ≡ capped (g x)) → (b c : ℕ) (xs : List TaskPart) → capped b ≡ capped c → met by (copies_spots around f b xs) ≡ met by (copies_spots around g c xs)
+pub shares_same : (by : Standard) (around : Surrounding) (f g : TaskPart → ℕ) → ((x : TaskPart) → capped (f x) ≡ capped (g x)) → (b c : ℕ) (xs : List TaskPart) → capped b ≡ capped c → refused_first by (copies_spots around f b xs) ≡ refused_first by (copies_spots around g c xs)
 shares_same by around f g e b c [] h = refl
 shares_same by around f g e b c (x ∷ xs) h =
     met_cons by around (counts Copies b (f x) x.name.span) (copies_spots around f (b + f x) xs)
-    ∙ ap (λ o. sooner o (met by (copies_spots around f (b + f x) xs))) (at_same by around Copies b c (f x) (g x) x.name.span h (e x))
-    ∙ ap (sooner (met_at by around (counts Copies c (g x) x.name.span))) (shares_same by around f g e (b + f x) (c + g x) xs (both b c (f x) (g x) h (e x)))
+    ∙ ap (λ o. sooner o (refused_first by (copies_spots around f (b + f x) xs))) (at_same by around Copies b c (f x) (g x) x.name.span h (e x))
+    ∙ ap (sooner (refused_first_at by around (counts Copies c (g x) x.name.span))) (shares_same by around f g e (b + f x) (c + g x) xs (both b c (f x) (g x) h (e x)))
     ∙ sym (met_cons by around (counts Copies c (g x) x.name.span) (copies_spots around g (c + g x) xs))
   where
     both : (k l v w : ℕ) → capped k ≡ capped l → capped v ≡ capped w → capped (k + v) ≡ capped (l + w)
@@ -133,11 +133,11 @@ shares_same by around f g e b c (x ∷ xs) h =
 
 module _ {A : Type 0} (by : Standard) (around : Surrounding) where
   pub task_turn : (types : TypeTable) (see : A → TaskPart) (xs : List A) (i : ℕ) (x : A) (here b c : ℕ) (before after all : Option CheckRefusal) → around.types ≡ types → drop i xs ≡ x ∷ drop (i + 1) xs
-      → sooner before (met by (tasks_spots around b (map see (drop i xs)))) ≡ all
+      → sooner before (refused_first by (tasks_spots around b (map see (drop i xs)))) ≡ all
       → here ≡ capped (task_count types (see x))
       → capped c ≡ capped (b + here)
-      → after ≡ sooner before (met_at by around (counts Tasks b here (see x).place))
-      → sooner after (met by (tasks_spots around c (map see (drop (i + 1) xs)))) ≡ all
+      → after ≡ sooner before (refused_first_at by around (counts Tasks b here (see x).place))
+      → sooner after (refused_first by (tasks_spots around c (map see (drop (i + 1) xs)))) ≡ all
   task_turn types see xs i x here b c before after all same is_cut told is_here count is_after =
       let weight : capped here ≡ capped (task_count around.types (see x)) = ap capped is_here ∙ capped_twice (task_count types (see x)) ∙ ap (λ t. capped (task_count t (see x))) (sym same) in
       tasks_more by around see xs i x b c before after all is_cut told
@@ -145,20 +145,20 @@ module _ {A : Type 0} (by : Standard) (around : Surrounding) where
       (is_after ∙ ap (sooner before) (at_same by around Tasks b b here (task_count around.types (see x)) (see x).place refl weight))
 
   pub copies_turn : (share : TaskPart → ℕ) (see : A → TaskPart) (xs : List A) (i : ℕ) (x : A) (here b c : ℕ) (before after all : Option CheckRefusal) → drop i xs ≡ x ∷ drop (i + 1) xs
-      → sooner before (met by (copies_spots around share b (map see (drop i xs)))) ≡ all
+      → sooner before (refused_first by (copies_spots around share b (map see (drop i xs)))) ≡ all
       → here ≡ share (see x)
       → capped c ≡ capped (b + here)
-      → after ≡ sooner before (met_at by around (counts Copies b here (see x).name.span))
-      → sooner after (met by (copies_spots around share c (map see (drop (i + 1) xs)))) ≡ all
+      → after ≡ sooner before (refused_first_at by around (counts Copies b here (see x).name.span))
+      → sooner after (refused_first by (copies_spots around share c (map see (drop (i + 1) xs)))) ≡ all
   copies_turn share see xs i x here b c before after all is_cut told is_here count is_after =
       copies_more by around share see xs i x b c before after all is_cut told
       (count ∙ ap (λ k. capped (b + k)) is_here)
-      (is_after ∙ ap (λ k. sooner before (met_at by around (counts Copies b k (see x).name.span))) is_here)
+      (is_after ∙ ap (λ k. sooner before (refused_first_at by around (counts Copies b k (see x).name.span))) is_here)
 
   pub entries_turn : (types : TypeTable) (see : A → TaskPart) (xs : List A) (i : ℕ) (x : A) (counted after : Counted) (all : Option CheckRefusal) → around.types ≡ types → drop i xs ≡ x ∷ drop (i + 1) xs
-      → sooner counted.refusal (met by (entries_spots around counted.count (map see (drop i xs)))) ≡ all
+      → sooner counted.refusal (refused_first by (entries_spots around counted.count (map see (drop i xs)))) ≡ all
       → IsCounted by counted (entries_of_part around counted.count (see x)) (task_count types (see x) * length (see x).unit.entries) after
-      → sooner after.refusal (met by (entries_spots around after.count (map see (drop (i + 1) xs)))) ≡ all
+      → sooner after.refusal (refused_first by (entries_spots around after.count (map see (drop (i + 1) xs)))) ≡ all
   entries_turn types see xs i x counted after all same is_cut told here =
       entries_more by around see xs i x counted.count after.count counted.refusal after.refusal all is_cut told
       (here.count_is ∙ ap (λ t. capped (counted.count + task_count t (see x) * length (see x).unit.entries)) (sym same))
@@ -182,7 +182,7 @@ module _ (by : Standard) (around : Surrounding) (x : TaskPart) (counted after : 
 
   pub of_type : (types : TypeTable) → around.types ≡ types → x.unit.of_kind ≡ true → here ≡ capped (capped (task_count types x) * length x.unit.entries)
       → capped after.count ≡ capped (counted.count + here)
-      → after.refusal ≡ sooner counted.refusal (met_at by around (counts Entries counted.count here x.place))
+      → after.refusal ≡ sooner counted.refusal (refused_first_at by around (counts Entries counted.count here x.place))
       → IsCounted by counted (entries_of_part around counted.count x) (task_count types x * length x.unit.entries) after
   of_type types same kind is_here count refused =
       let weight : capped here ≡ capped (task_count around.types x * length x.unit.entries) =
@@ -194,7 +194,7 @@ module _ (by : Standard) (around : Surrounding) (x : TaskPart) (counted after : 
             ∙ ap (sooner counted.refusal)
             (at_same by around Entries counted.count counted.count here (task_count around.types x * length x.unit.entries) x.place refl weight
             ∙ sym (met_one by around (counts Entries counted.count (task_count around.types x * length x.unit.entries) x.place))
-            ∙ ap (λ b. met by (by_kind b)) (sym kind));
+            ∙ ap (λ b. refused_first by (by_kind b)) (sym kind));
       }
 
   pub of_single : (types : TypeTable) (n : ℕ) (inner : Counted) → around.types ≡ types → x.unit.of_kind ≡ false → here ≡ capped (capped (task_count types x) * length x.unit.entries)
@@ -204,5 +204,5 @@ module _ (by : Standard) (around : Surrounding) (x : TaskPart) (counted after : 
       → IsCounted by counted (entries_of_part around counted.count x) (task_count types x * length x.unit.entries) after
   of_single types n inner same kind is_here count refused told = record {
     count_is = here_is types same is_here count;
-    refusal_is = refused ∙ told.refusal_is ∙ ap (λ b. sooner counted.refusal (met by (by_kind b))) (sym kind);
+    refusal_is = refused ∙ told.refusal_is ∙ ap (λ b. sooner counted.refusal (refused_first by (by_kind b))) (sym kind);
   }

@@ -7,9 +7,9 @@ ghost use Rattle.syn_event.specs.TaskParts.{task_count};
 ghost use Rattle.syn_event.specs.Spots.{copies_spots, all_copies_spots};
 ghost use Rattle.ada_rules.specs.Amounts.{capped};
 ghost use Rattle.ada_rules.specs.Sooner.{sooner};
-ghost use Rattle.ada_rules.specs.Met.{met};
+ghost use Rattle.ada_rules.specs.RefusedFirst.{refused_first};
 ghost use Rattle.ada_task_objects.specs.PlainParts.{plain_part};
-ghost use Rattle.ada_task_counts.specs.Shares.{share_of};
+ghost use Rattle.ada_task_counts.specs.inner.Shares.{share_of};
 
 use crate::counts::task_count;
 use crate::shares::{BodyShares, Rates, body_share};
@@ -27,7 +27,7 @@ fn count_copies(
     own: Counted,
     parts: &[TaskPart],
 ) -> Option<Refusal>
-    ensures { (around : Surrounding) → result ≡ sooner own.refusal (met by.now (copies_spots around (λ x. capped (capped (task_count types.now x) * share_of shares.now x.unit.name.name)) own.count (map plain_part parts.now))) }
+    ensures { (around : Surrounding) → result ≡ sooner own.refusal (refused_first by.now (copies_spots around (λ x. capped (capped (task_count types.now x) * share_of shares.now x.unit.name.name)) own.count (map plain_part parts.now))) }
 {
     let mut counted = own;
     for part in parts {
@@ -45,7 +45,7 @@ pub fn refuse_copies(
     parts: &[TaskPart],
     p: &Program,
 ) -> Result<Option<Refusal>, AllocError>
-    ensures { (around : Surrounding) → around.types ≡ types.now → IfOk result (λ r. r ≡ met by.now (all_copies_spots around (map plain_part parts.now) (plain_program p.now))) }
+    ensures { (around : Surrounding) → around.types ≡ types.now → IfOk result (λ r. r ≡ refused_first by.now (all_copies_spots around (map plain_part parts.now) (plain_program p.now))) }
 {
     let rates = Rates::new(alloc, types, parts)?;
     let shares = BodyShares::new(alloc, &rates, &p.decls)?;

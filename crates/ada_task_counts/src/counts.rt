@@ -8,9 +8,9 @@ ghost use Rattle.syn_event.specs.Surrounding.{Surrounding};
 ghost use Rattle.syn_event.specs.TaskParts.{task_count};
 ghost use Rattle.syn_event.specs.Spots.{numbered, tasks_spots, entries_of_part, entries_spots};
 ghost use Rattle.ada_rules.specs.Amounts.{capped};
-ghost use Rattle.ada_rules.specs.Met.{met};
+ghost use Rattle.ada_rules.specs.RefusedFirst.{refused_first};
 ghost use Rattle.ada_task_objects.specs.PlainParts.{plain_part};
-ghost use Rattle.ada_rules.specs.Counted.{IsCounted};
+ghost use Rattle.ada_rules.specs.inner.Counted.{IsCounted};
 
 use ada_rules::{Counted, Refusal, Standard, count_on, plus, product};
 use ada_task_objects::{TaskPart, size};
@@ -29,7 +29,7 @@ pub(crate) fn task_count(types: &Types, part: &TaskPart) -> u64
 
 /// The tasks of a program.
 pub fn refuse_tasks(by: &Standard, types: &Types, parts: &[TaskPart]) -> Option<Refusal>
-    ensures { (around : Surrounding) → around.types ≡ types.now → result ≡ met by.now (tasks_spots around 0 (map plain_part parts.now)) }
+    ensures { (around : Surrounding) → around.types ≡ types.now → result ≡ refused_first by.now (tasks_spots around 0 (map plain_part parts.now)) }
 {
     let mut counted = Counted {
         count: 0,
@@ -73,7 +73,7 @@ fn count_entries(by: &Standard, types: &Types, so_far: Counted, part: &TaskPart)
 
 /// The entries of a program.
 pub fn refuse_entries(by: &Standard, types: &Types, parts: &[TaskPart]) -> Option<Refusal>
-    ensures { (around : Surrounding) → around.types ≡ types.now → result ≡ met by.now (entries_spots around 0 (map plain_part parts.now)) }
+    ensures { (around : Surrounding) → around.types ≡ types.now → result ≡ refused_first by.now (entries_spots around 0 (map plain_part parts.now)) }
 {
     let mut counted = Counted {
         count: 0,

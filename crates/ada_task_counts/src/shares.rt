@@ -9,8 +9,8 @@ ghost use Rattle.ada_tree.specs.PlainDecl.{plain_decl, decls_of};
 ghost use Rattle.syn_event.specs.Callees.{stmt_callees, stmts_callees, accept_callees, alts_callees, alt_callees, arms_callees, case_arms_callees, body_callees, handlers_callees};
 ghost use Rattle.syn_event.specs.Copying.{source_length};
 ghost use Rattle.ada_task_objects.specs.PlainParts.{plain_part};
-ghost use Rattle.ada_task_counts.specs.Copied.{own_callees, inner_callees, rest_callees, each_alt};
-ghost use Rattle.ada_task_counts.specs.Shares.{rate_of, index_rate, length_among, shared, row_lengths, share_of, with_share, body_shares};
+ghost use Rattle.ada_task_counts.specs.inner.Copied.{own_callees, inner_callees, rest_callees, each_alt};
+ghost use Rattle.ada_task_counts.specs.inner.Shares.{rate_of, index_rate, length_among, shared, row_lengths, share_of, with_share, body_shares};
 
 use crate::counts::task_count;
 use ada_rules::{plus, product};
@@ -32,7 +32,7 @@ pub(crate) struct Rates<'t> {
 }
 
 impl<'t> Model for Rates<'t> {
-    ghost use Rattle.ada_task_counts.specs.Shares.{Rates};
+    ghost use Rattle.ada_task_counts.specs.inner.Shares.{Rates};
 
     ghost Value = { Rates };
 

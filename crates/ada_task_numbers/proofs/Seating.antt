@@ -12,7 +12,7 @@ use Rattle.syn_event.specs.Numbering.{Numbering}
 use Rattle.syn_event.specs.Numbered.{task_info, with_origins}
 use Rattle.syn_event.specs.TaskParts.{TaskPart, parts_of, Seat, seat, numbers_on, seats_of, seats}
 use Rattle.syn_event.specs.AllNumbers.{seat_info, seat_entry, seat_entries, all_numbers}
-use Rattle.ada_task_numbers.specs.Seats.{seats_within}
+use Rattle.ada_task_numbers.specs.inner.Seats.{seats_within}
 
 no_step : (z : ℤ) → z +ℤ pos 0 ≡ z
 no_step z = omega (arith, ints)

@@ -11,7 +11,7 @@ ghost use Rattle.syn_event.specs.Extents.{count_to, size_of};
 ghost use Rattle.syn_event.specs.TaskParts.{seat, seats_of};
 ghost use Rattle.syn_event.specs.AllNumbers.{seat_info, seat_entry, seat_entries, family_extent, first_of, last_of, all_numbers};
 ghost use Rattle.ada_task_objects.specs.PlainParts.{plain_extent, plain_part};
-ghost use Rattle.ada_task_numbers.specs.Seats.{seats_within};
+ghost use Rattle.ada_task_numbers.specs.inner.Seats.{seats_within};
 
 use ada_task_objects::{Extent, TaskPart, extent_of, parts_of, width};
 use ada_tree::{Drange, EntryDecl, NameId, Names, Program, Types};

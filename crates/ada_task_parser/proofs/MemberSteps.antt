@@ -5,8 +5,8 @@ use Rattle.ada_tree.specs.declared.declarations.EntryDecl.{EntryDecl}
 use Rattle.ada_tree.specs.declared.declarations.Priority.{Priority}
 use Rattle.ada_tree.specs.PlainDecl.{plain_entry, plain_priority}
 use Rattle.ada_task_parser.specs.Tasks.{Member, MEntry, MPriority, entries_in, priorities_in}
-use Rattle.ada_task_parser.specs.declared.members.Member.{Member as Part}
-use Rattle.ada_task_parser.specs.MemberViews.{plain_member}
+use Rattle.ada_task_parser.specs.declared.task_items.Member.{Member as Part}
+use Rattle.ada_task_parser.specs.inner.MemberViews.{plain_member}
 
 entries_both : (xs ys : List Member) → entries_in (xs ++ ys) ≡ entries_in xs ++ entries_in ys
 entries_both [] ys = refl

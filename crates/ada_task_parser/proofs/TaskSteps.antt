@@ -15,9 +15,9 @@ use Rattle.ada_expr_parser.specs.Parts.{drange, expression}
 use Rattle.ada_phrase_parser.specs.Spelling.{Source, id_of}
 use Rattle.ada_phrase_parser.specs.Reading.{key_then, closed, formals_from, behind_index, is_formal_mark, with_id}
 use Rattle.ada_decl_parser.proofs.DeclSteps.{through}
-use Rattle.ada_task_parser.specs.ReadingTasks.{entry_name, drange_from, priority}
-use Rattle.ada_task_parser.specs.TaskViews.{priority_by}
-use Rattle.ada_decl_parser.specs.DeclViews.{with_close}
+use Rattle.ada_task_parser.specs.inner.ReadingTasks.{entry_name, drange_from, priority}
+use Rattle.ada_task_parser.specs.inner.TaskViews.{priority_by}
+use Rattle.ada_decl_parser.specs.inner.DeclViews.{with_close}
 
 -- a pragma PRIORITY is read by its expression and its end
 module _ {A : Type 0} (source : Source) (d : ℕ) (tree : PExpr → Span → A) where

@@ -1,4 +1,2 @@
-pub mod MemberViews
-pub mod ReadingTasks
-pub mod TaskViews
 pub mod Tasks
+pub mod inner

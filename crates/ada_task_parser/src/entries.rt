@@ -7,8 +7,8 @@ ghost use Rattle.ada_tree.specs.PlainDecl.{plain_entry};
 ghost use Rattle.ada_expr_parser.specs.Tests as tests;
 ghost use Rattle.ada_expr_parser.specs.Gives.{Gives};
 ghost use Rattle.ada_phrase_parser.specs.Reading as reading;
-ghost use Rattle.ada_task_parser.specs.ReadingTasks as tasks;
-ghost use Rattle.ada_task_parser.specs.TaskViews.{family_of};
+ghost use Rattle.ada_task_parser.specs.inner.ReadingTasks as tasks;
+ghost use Rattle.ada_task_parser.specs.inner.TaskViews.{family_of};
 
 use ada_expr_parser::{Item, ParseError, Symbol, expect, expect_word, read_drange};
 use ada_phrase_parser::{formals_from, from_to, is_formal_mark, is_symbol, read_formals, word_in};

@@ -2,8 +2,8 @@
 #![tactic(auto)]
 
 mod entries;
-mod members;
 mod pragmas;
+mod task_items;
 mod tasks;
 
 pub use pragmas::read_pragma;

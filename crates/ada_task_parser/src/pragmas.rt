@@ -6,9 +6,9 @@ ghost use Rattle.ada_tree.specs.PlainDecl.{plain_decl, DPragma};
 ghost use Rattle.ada_expr_parser.specs.Trees.{from_to};
 ghost use Rattle.ada_expr_parser.specs.Gives.{Gives};
 ghost use Rattle.ada_phrase_parser.specs.Spelling.{id_of};
-ghost use Rattle.ada_task_parser.specs.ReadingTasks as tasks;
-ghost use Rattle.ada_task_parser.specs.TaskViews as task_views;
-ghost use Rattle.ada_decl_parser.specs.DeclViews as views;
+ghost use Rattle.ada_task_parser.specs.inner.ReadingTasks as tasks;
+ghost use Rattle.ada_task_parser.specs.inner.TaskViews as task_views;
+ghost use Rattle.ada_decl_parser.specs.inner.DeclViews as views;
 ghost use Rattle.ada_phrase_parser.specs.Views.{told};
 
 use ada_expr_parser::{Item, ParseError, Symbol, expect, read_expr};

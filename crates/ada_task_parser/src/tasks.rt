@@ -9,12 +9,12 @@ ghost use Rattle.lawful_reader.specs.Readers.{bind};
 ghost use Rattle.lawful_reader.specs.Readers as lawful;
 ghost use Rattle.ada_phrase_parser.specs.Spelling.{id_of};
 ghost use Rattle.ada_phrase_parser.specs.Reading as reading;
-ghost use Rattle.ada_task_parser.specs.ReadingTasks as tasks;
+ghost use Rattle.ada_task_parser.specs.inner.ReadingTasks as tasks;
 ghost use Rattle.ada_task_parser.specs.Tasks.{entries_in, priorities_in};
-ghost use Rattle.ada_task_parser.specs.MemberViews.{plain_member};
+ghost use Rattle.ada_task_parser.specs.inner.MemberViews.{plain_member};
 ghost use Rattle.ada_phrase_parser.specs.Views.{told};
 
-use crate::members::{Member, members_onto};
+use crate::task_items::{Member, members_onto};
 use ada_expr_parser::{Item, ParseError, Symbol, expect, symbol_in};
 use ada_phrase_parser::{Source, add, from_to, is_again};
 use ada_tree::{Decl, DeclKind, EntryDecl, NameId, Priority, Span, TaskUnit, Word};

@@ -1,7 +1,7 @@
 -- Declarations, one after the other: what can be used behind them, and what is refused first at their places.
 use Rattle.std.specs.Prelude.{◌≡◌, ℕ, ◌+◌, ◌<◌, ◌≤◌, false, List, [], ◌∷◌, ◌++◌, length, map, drop, get_or, Option, None, refl}
 use Rattle.std.proofs.Common.{sym, ap, ◌∙◌, subst, arith, length-append}
-use Rattle.std.proofs.lemmas.List.{drop_more, drop_all}
+use Rattle.std.proofs.lemmas.List.{drop_all}
 use Rattle.ada_tree.specs.declared.naming.Span.{Span}
 use Rattle.ada_tree.specs.declared.naming.Word.{Word}
 use Rattle.ada_tree.specs.declared.declarations.Decl.{Decl}
@@ -13,19 +13,17 @@ use Rattle.ada_tree.specs.Demand.{Site}
 use Rattle.ada_tree.specs.Declaring.{with_name, with_names, seen_as, in_body, own_entries, after_own_object, after_objects, after_decl, after_decls}
 use Rattle.ada_tree.specs.Sites.{own_object_sites, own_sites, decl_sites, decls_sites}
 use Rattle.ada_refusals.specs.Sooner.{sooner}
-use Rattle.ada_refusals.specs.Met.{met}
+use Rattle.ada_refusals.specs.RefusedFirst.{refused_first}
 use Rattle.ada_scopes.specs.Nested.{IsOuter, IsOutside, IsWithin}
-use Rattle.ada_duplicates.specs.Notes.{is_of_tasks}
-use Rattle.ada_types.specs.Decls.{IsDecl, AreDecls, after_body}
+use Rattle.ada_duplicates.specs.NamedSoFar.{is_of_tasks}
+use Rattle.ada_types.specs.inner.Decls.{IsDecl, AreDecls, after_body}
 use Rattle.ada_scopes.specs.declared.scope.Outer.{Outer}
 use Rattle.ada_scopes.specs.declared.scope.Outside.{Outside}
 use Rattle.ada_types.specs.declared.walked_decls.WalkedDecl.{WalkedDecl}
 use Rattle.ada_types.specs.declared.walked_decls.WalkedDecls.{WalkedDecls}
-use Rattle.ada_refusals.proofs.SoonerLaws.{sooner_assoc, sooner_none}
+use Rattle.ada_refusals.proofs.SoonerLaws.{sooner_assoc}
 use Rattle.ada_refusals.proofs.Meeting.{met_none, met_append}
-
-cut : {A : Type 0} (xs : List A) (i : ℕ) (x : A) → i < length xs → x ≡ get_or xs i x → drop i xs ≡ x ∷ drop (i + 1) xs
-cut xs i x h is_x = drop_more xs i x h ∙ ap (λ y. y ∷ drop (i + 1) xs) (sym is_x)
+use Rattle.ada_refusals.proofs.Listing.{cut, ended}
 
 -- the declarations from a place on
 abbrev pub from : ℕ → List Decl → PDecls
@@ -38,15 +36,12 @@ from_end : (xs : List Decl) (i : ℕ) → length xs ≤ i → from i xs ≡ no_d
 from_end xs i h = ap (λ l. decls_of (map plain_decl l)) (drop_all i xs h)
 
 -- what is refused so far, and of the rest, is all
-told_on : (xs ys : List Site) (whole b a c all : Option Refusal) → whole ≡ met (xs ++ ys) → sooner a whole ≡ all → b ≡ met xs → c ≡ sooner a b → sooner c (met ys) ≡ all
+told_on : (xs ys : List Site) (whole b a c all : Option Refusal) → whole ≡ refused_first (xs ++ ys) → sooner a whole ≡ all → b ≡ refused_first xs → c ≡ sooner a b → sooner c (refused_first ys) ≡ all
 told_on xs ys whole b a c all is told is_b is_c =
-    ap (λ o. sooner o (met ys)) is_c
-    ∙ sooner_assoc a b (met ys)
-    ∙ ap (sooner a) (ap (λ o. sooner o (met ys)) is_b ∙ sym (met_append xs ys) ∙ sym is)
+    ap (λ o. sooner o (refused_first ys)) is_c
+    ∙ sooner_assoc a b (refused_first ys)
+    ∙ ap (sooner a) (ap (λ o. sooner o (refused_first ys)) is_b ∙ sym (met_append xs ys) ∙ sym is)
     ∙ told
-
-told_end : (ys : List Site) (a all : Option Refusal) → ys ≡ [] → sooner a (met ys) ≡ all → a ≡ all
-told_end ys a all h told = sym (sooner_none a) ∙ ap (sooner a) (sym met_none) ∙ ap (λ l. sooner a (met l)) (sym h) ∙ told
 
 -- ---- declarations of main
 
@@ -56,20 +51,20 @@ decls_scope xs i x now new whole h is_x before is =
     ap (λ s. after_decls s (from (i + 1) xs)) is ∙ ap (after_decls now) (sym (from_more xs i x h is_x)) ∙ before
 
 pub decls_told : (xs : List Decl) (i : ℕ) (x : Decl) (now new : Scope) (a b c all : Option Refusal) → i < length xs → x ≡ get_or xs i x
-    → sooner a (met (decls_sites now (from i xs))) ≡ all → new ≡ after_decl now (plain_decl x) → b ≡ met (decl_sites now (plain_decl x)) → c ≡ sooner a b
-    → sooner c (met (decls_sites new (from (i + 1) xs))) ≡ all
+    → sooner a (refused_first (decls_sites now (from i xs))) ≡ all → new ≡ after_decl now (plain_decl x) → b ≡ refused_first (decl_sites now (plain_decl x)) → c ≡ sooner a b
+    → sooner c (refused_first (decls_sites new (from (i + 1) xs))) ≡ all
 decls_told xs i x now new a b c all h is_x before is is_b is_c =
-    ap (λ s. sooner c (met (decls_sites s (from (i + 1) xs)))) is
-    ∙ told_on (decl_sites now (plain_decl x)) (decls_sites (after_decl now (plain_decl x)) (from (i + 1) xs)) (met (decls_sites now (from i xs))) b a c all
-    (ap (λ l. met (decls_sites now l)) (from_more xs i x h is_x)) before is_b is_c
+    ap (λ s. sooner c (refused_first (decls_sites s (from (i + 1) xs)))) is
+    ∙ told_on (decl_sites now (plain_decl x)) (decls_sites (after_decl now (plain_decl x)) (from (i + 1) xs)) (refused_first (decls_sites now (from i xs))) b a c all
+    (ap (λ l. refused_first (decls_sites now l)) (from_more xs i x h is_x)) before is_b is_c
 
 pub decls_done : (xs : List Decl) (i : ℕ) (s now : Scope) (a : Option Refusal) (w : WalkedDecls) → length xs ≤ i → w ≡ record { scope = now; refusal = a }
-    → after_decls now (from i xs) ≡ after_decls s (decls_of (map plain_decl xs)) → sooner a (met (decls_sites now (from i xs))) ≡ met (decls_sites s (decls_of (map plain_decl xs)))
+    → after_decls now (from i xs) ≡ after_decls s (decls_of (map plain_decl xs)) → sooner a (refused_first (decls_sites now (from i xs))) ≡ refused_first (decls_sites s (decls_of (map plain_decl xs)))
     → AreDecls (decls_sites s (decls_of (map plain_decl xs))) (after_decls s (decls_of (map plain_decl xs))) w
 decls_done xs i s now a w h is after told =
     record {
       scope_is = ap (λ x. x.scope) is ∙ ap (after_decls now) (sym (from_end xs i h)) ∙ after;
-      refusal_is = ap (λ x. x.refusal) is ∙ told_end (decls_sites now (from i xs)) a _ (ap (decls_sites now) (from_end xs i h)) told;
+      refusal_is = ap (λ x. x.refusal) is ∙ ended a _ (decls_sites now (from i xs)) (ap (decls_sites now) (from_end xs i h)) told;
     }
 
 -- ---- objects of a task body
@@ -80,20 +75,20 @@ own_scope xs i x now new whole h is_x before is =
     ap (λ s. after_objects s (from (i + 1) xs)) is ∙ ap (after_objects now) (sym (from_more xs i x h is_x)) ∙ before
 
 pub own_told : (xs : List Decl) (i : ℕ) (x : Decl) (now new : Scope) (a b c all : Option Refusal) → i < length xs → x ≡ get_or xs i x
-    → sooner a (met (own_sites now (from i xs))) ≡ all → new ≡ after_own_object now (plain_decl x) → b ≡ met (own_object_sites now (plain_decl x)) → c ≡ sooner a b
-    → sooner c (met (own_sites new (from (i + 1) xs))) ≡ all
+    → sooner a (refused_first (own_sites now (from i xs))) ≡ all → new ≡ after_own_object now (plain_decl x) → b ≡ refused_first (own_object_sites now (plain_decl x)) → c ≡ sooner a b
+    → sooner c (refused_first (own_sites new (from (i + 1) xs))) ≡ all
 own_told xs i x now new a b c all h is_x before is is_b is_c =
-    ap (λ s. sooner c (met (own_sites s (from (i + 1) xs)))) is
-    ∙ told_on (own_object_sites now (plain_decl x)) (own_sites (after_own_object now (plain_decl x)) (from (i + 1) xs)) (met (own_sites now (from i xs))) b a c all
-    (ap (λ l. met (own_sites now l)) (from_more xs i x h is_x)) before is_b is_c
+    ap (λ s. sooner c (refused_first (own_sites s (from (i + 1) xs)))) is
+    ∙ told_on (own_object_sites now (plain_decl x)) (own_sites (after_own_object now (plain_decl x)) (from (i + 1) xs)) (refused_first (own_sites now (from i xs))) b a c all
+    (ap (λ l. refused_first (own_sites now l)) (from_more xs i x h is_x)) before is_b is_c
 
 pub own_done : (xs : List Decl) (i : ℕ) (s now : Scope) (a : Option Refusal) (w : WalkedDecls) → length xs ≤ i → w ≡ record { scope = now; refusal = a }
-    → after_objects now (from i xs) ≡ after_objects s (decls_of (map plain_decl xs)) → sooner a (met (own_sites now (from i xs))) ≡ met (own_sites s (decls_of (map plain_decl xs)))
+    → after_objects now (from i xs) ≡ after_objects s (decls_of (map plain_decl xs)) → sooner a (refused_first (own_sites now (from i xs))) ≡ refused_first (own_sites s (decls_of (map plain_decl xs)))
     → AreDecls (own_sites s (decls_of (map plain_decl xs))) (after_objects s (decls_of (map plain_decl xs))) w
 own_done xs i s now a w h is after told =
     record {
       scope_is = ap (λ x. x.scope) is ∙ ap (after_objects now) (sym (from_end xs i h)) ∙ after;
-      refusal_is = ap (λ x. x.refusal) is ∙ told_end (own_sites now (from i xs)) a _ (ap (own_sites now) (from_end xs i h)) told;
+      refusal_is = ap (λ x. x.refusal) is ∙ ended a _ (own_sites now (from i xs)) (ap (own_sites now) (from_end xs i h)) told;
     }
 
 -- ---- task bodies

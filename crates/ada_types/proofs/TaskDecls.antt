@@ -11,22 +11,22 @@ use Rattle.ada_tree.specs.Scope.{Scope, Thing, EntryPart as PlainEntry, integer_
 use Rattle.ada_tree.specs.Demand.{gives_body, makes_instance, Site}
 use Rattle.ada_tree.specs.Sites.{site, static_of, names_sites, entries_sites, task_sites}
 use Rattle.ada_refusals.specs.Sooner.{sooner}
-use Rattle.ada_refusals.specs.Met.{met_at, met}
+use Rattle.ada_refusals.specs.RefusedFirst.{refused_first_at, refused_first}
 use Rattle.ada_refusals.proofs.Meeting.{met_cons, joined, before}
 use Rattle.ada_types.proofs.TypeDecls.{behind_names}
 
-pub task_met : (scope : Scope) (t : PTask) (p q : Option Refusal) → p ≡ met (entries_sites scope [] t.entries) → q ≡ met (flat_map (λ x. static_of scope (Some integer_kind) x.value) t.priorities)
-    → sooner p q ≡ met (task_sites scope t)
+pub task_met : (scope : Scope) (t : PTask) (p q : Option Refusal) → p ≡ refused_first (entries_sites scope [] t.entries) → q ≡ refused_first (flat_map (λ x. static_of scope (Some integer_kind) x.value) t.priorities)
+    → sooner p q ≡ refused_first (task_sites scope t)
 task_met scope t p q is_p is_q =
     joined (names_sites true scope (t.name ∷ []) ++ entries_sites scope [] t.entries) (flat_map (λ x. static_of scope (Some integer_kind) x.value) t.priorities) p q
     (behind_names scope (t.name ∷ []) (entries_sites scope [] t.entries) p is_p) is_q
 
 -- a task body: what is asked of its name, its objects and its statements
-pub body_met : (scope : Scope) (name : Word) (xs ys : List Site) (m p q : Option Refusal) → m ≡ met_at scope (gives_body name) → p ≡ met xs → q ≡ met ys
-    → sooner (sooner m p) q ≡ met (site scope (gives_body name) ∷ xs ++ ys)
+pub body_met : (scope : Scope) (name : Word) (xs ys : List Site) (m p q : Option Refusal) → m ≡ refused_first_at scope (gives_body name) → p ≡ refused_first xs → q ≡ refused_first ys
+    → sooner (sooner m p) q ≡ refused_first (site scope (gives_body name) ∷ xs ++ ys)
 body_met scope name xs ys m p q is_m is_p is_q = joined (site scope (gives_body name) ∷ xs) ys (sooner m p) q (before scope (gives_body name) xs m p is_m is_p) is_q
 
-pub instance_met : (scope : Scope) (name : Word) (a : Option Refusal) (sites : List Site) → a ≡ met sites → a ≡ met (site scope (makes_instance name) ∷ sites)
+pub instance_met : (scope : Scope) (name : Word) (a : Option Refusal) (sites : List Site) → a ≡ refused_first sites → a ≡ refused_first (site scope (makes_instance name) ∷ sites)
 instance_met scope name a sites h = h ∙ sym (met_cons scope (makes_instance name) sites)
 
 -- the names of one literal more

@@ -9,11 +9,11 @@ use Rattle.ada_tree.specs.Scope.{Scope, Thing, ConstantObject, Range, integer_ki
 use Rattle.ada_tree.specs.Demand.{Site}
 use Rattle.ada_tree.specs.Declaring.{Made, with_name, with_types, add_constants, type_of_mark, after_type, made_array, made_named_array, made_subind, made_subtype, renamed, drange_range}
 use Rattle.ada_tree.specs.Sites.{names_sites}
-use Rattle.ada_refusals.specs.Met.{met}
+use Rattle.ada_refusals.specs.RefusedFirst.{refused_first}
 use Rattle.ada_expr_rules.specs.Known.{value_in}
 use Rattle.ada_expr_rules.specs.Walked.{IsWalked}
 use Rattle.ada_scopes.specs.Makings.{IsMade}
-use Rattle.ada_types.specs.Decls.{after_number}
+use Rattle.ada_types.specs.inner.Decls.{after_number}
 use Rattle.ada_expr_rules.specs.declared.known.Known.{Known}
 use Rattle.ada_expr_rules.specs.declared.walking.Walked.{Walked}
 use Rattle.ada_refusals.proofs.Meeting.{joined}
@@ -71,5 +71,5 @@ number_left scope s new name e sites w known v walked is_known is_v is_s is =
     (is_v ∙ value_known scope e integer_kind known (known_walked sites scope e w known is_known walked))
 
 -- what is refused of a declaration is refused behind its names
-pub behind_names : (scope : Scope) (ws : List Word) (sites : List Site) (a : Option Refusal) → a ≡ met sites → a ≡ met (names_sites true scope ws ++ sites)
+pub behind_names : (scope : Scope) (ws : List Word) (sites : List Site) (a : Option Refusal) → a ≡ refused_first sites → a ≡ refused_first (names_sites true scope ws ++ sites)
 behind_names scope ws sites a h = joined (names_sites true scope ws) sites None a (names_met true scope ws) h

@@ -1,3 +1,1 @@
-pub mod Members
-pub mod Written
-pub mod Decls
+pub mod inner

@@ -6,23 +6,23 @@ ghost use Rattle.ada_tree.specs.PlainDecl.{plain_decl, decls_of};
 ghost use Rattle.ada_tree.specs.Scope.{AnException, integer_kind};
 ghost use Rattle.ada_tree.specs.Declaring.{with_names, after_decl, after_decls};
 ghost use Rattle.ada_tree.specs.Sites.{static_of, decl_sites, decls_sites};
-ghost use Rattle.ada_refusals.specs.Met.{met};
-ghost use Rattle.ada_duplicates.specs.Namings.{namings_of};
-ghost use Rattle.ada_duplicates.specs.Notes.{AreAt, is_of_tasks};
-ghost use Rattle.ada_types.specs.Decls.{IsDecl, AreDecls, instance_made};
+ghost use Rattle.ada_refusals.specs.RefusedFirst.{refused_first};
+ghost use Rattle.ada_duplicates.specs.NamingsInOrder.{namings_of};
+ghost use Rattle.ada_duplicates.specs.NamedSoFar.{AreAt, is_of_tasks};
+ghost use Rattle.ada_types.specs.inner.Decls.{IsDecl, AreDecls, instance_made};
 
-use crate::bodies::walk_task_body;
 use crate::enumerations::declare_enumeration;
 use crate::named_types::{walk_array_type, walk_number, walk_subtype};
+use crate::task_bodies::walk_task_body;
 use crate::tasks::walk_task;
 use crate::walked_decls::{WalkedDecl, WalkedDecls};
-use ada_duplicates::notes::Notes;
+use ada_duplicates::named_so_far::Notes;
 use ada_expr_rules::kinds::INTEGER;
 use ada_expr_rules::walking::walk_static;
 use ada_object_rules::objects::{declare_all, walk_objects};
 use ada_refusals::refusals::{Refusal, first};
+use ada_scopes::denotations::Thing;
 use ada_scopes::scope::Scope;
-use ada_scopes::things::Thing;
 use ada_tree::{Decl, DeclKind, Expr, Word};
 use std::alloc::{AllocError, Global};
 
@@ -58,7 +58,7 @@ fn declare_instance(scope: Scope, name: Word) -> Result<Scope, AllocError>
 
 // Walks the value of a pragma PRIORITY.
 fn walk_priority(scope: &Scope, value: &Expr) -> Option<Refusal>
-    ensures { result ≡ met (static_of scope.now (Some integer_kind) (plain_expr value.now)) }
+    ensures { result ≡ refused_first (static_of scope.now (Some integer_kind) (plain_expr value.now)) }
 {
     walk_static(scope, Some(INTEGER), value).refusal
 }

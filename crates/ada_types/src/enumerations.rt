@@ -6,8 +6,8 @@ ghost use Rattle.ada_tree.specs.Scope.{Literal, TypeMark};
 ghost use Rattle.ada_tree.specs.Declaring.{add_kind, add_mark, after_enumeration, with_name, with_names, with_types};
 
 use ada_object_rules::objects::declare_all;
+use ada_scopes::denotations::Thing;
 use ada_scopes::scope::Scope;
-use ada_scopes::things::Thing;
 use ada_tree::{Kind, Literals, Mark, NameId, Word};
 use std::alloc::{AllocError, Global};
 

@@ -1,12 +1,12 @@
 //! The types of a program, and the values of its static expressions.
 #![tactic(auto)]
 
-mod bodies;
 mod declarations;
 mod enumerations;
 mod named_types;
 mod parts;
 mod statements;
+mod task_bodies;
 mod tasks;
 mod types;
 mod walked_decls;

@@ -6,9 +6,9 @@ ghost use Rattle.ada_tree.specs.Scope.{integer_kind, and_then, range_of_mark};
 ghost use Rattle.ada_tree.specs.Demand.{scalar_only};
 ghost use Rattle.ada_tree.specs.Declaring.{with_types, type_of_mark, add_constants, after_type, made_named_array, made_subtype};
 ghost use Rattle.ada_tree.specs.Sites.{names_sites, static_of, drange_sites, subind_sites};
-ghost use Rattle.ada_scopes.specs.Things.{plain_thing};
+ghost use Rattle.ada_scopes.specs.Denotations.{plain_thing};
 ghost use Rattle.ada_scopes.specs.Entries.{plain_range};
-ghost use Rattle.ada_types.specs.Decls.{IsDecl, after_number};
+ghost use Rattle.ada_types.specs.inner.Decls.{IsDecl, after_number};
 
 use crate::walked_decls::WalkedDecl;
 use ada_expr_rules::kinds::INTEGER;
@@ -17,8 +17,8 @@ use ada_expr_rules::ranges::{walk_range, walk_subind};
 use ada_expr_rules::walking::walk_static;
 use ada_object_rules::making::{bound, make, make_array, make_subtype};
 use ada_refusals::refusals::first;
+use ada_scopes::denotations::{Range, Thing};
 use ada_scopes::scope::Scope;
-use ada_scopes::things::{Range, Thing};
 use ada_tree::{Constant, Drange, Expr, Subind, Word};
 use std::alloc::AllocError;
 

@@ -8,9 +8,9 @@ ghost use Rattle.ada_tree.specs.ExprTypes.{kind_of};
 ghost use Rattle.ada_tree.specs.Demand.{is_written};
 ghost use Rattle.ada_tree.specs.RuleTextUse.{is_image_of, is_closed_image, is_fit_part};
 ghost use Rattle.ada_tree.specs.Sites.{part_sites, plain_part_sites};
-ghost use Rattle.ada_refusals.specs.Met.{met_at, met};
+ghost use Rattle.ada_refusals.specs.RefusedFirst.{refused_first_at, refused_first};
 ghost use Rattle.ada_expr_rules.specs.Judged.{IsJudged};
-ghost use Rattle.ada_types.specs.Written.{IsWritten};
+ghost use Rattle.ada_types.specs.inner.Written.{IsWritten};
 
 use ada_expr_rules::judging::{Judged, judge, kind_of_bound};
 use ada_expr_rules::kinds::{INTEGER, attribute_named};
@@ -117,7 +117,7 @@ fn walk_written(scope: &Scope, e: &Expr) -> Written
 
 // An expression that may be no part of a text.
 fn refuse_unfit(scope: &Scope, alone: bool, e: &Expr) -> Option<Refusal>
-    ensures { result ≡ met_at scope.now (is_written alone (plain_expr e.now)) }
+    ensures { result ≡ refused_first_at scope.now (is_written alone (plain_expr e.now)) }
 {
     if is_fit(alone, e) {
         None
@@ -129,7 +129,7 @@ fn refuse_unfit(scope: &Scope, alone: bool, e: &Expr) -> Option<Refusal>
 // A plain expression alone in PUT that is no INTEGER.
 fn refuse_plain(scope: &Scope, alone: bool, e: &Expr, kind: Option<u32>) -> Option<Refusal>
     requires { kind ≡ kind_of scope.now (plain_expr e.now) }
-    ensures { result ≡ met (plain_part_sites scope.now alone (plain_expr e.now)) }
+    ensures { result ≡ refused_first (plain_part_sites scope.now alone (plain_expr e.now)) }
 {
     if alone {
         if is_image(e) {
@@ -144,7 +144,7 @@ fn refuse_plain(scope: &Scope, alone: bool, e: &Expr, kind: Option<u32>) -> Opti
 
 /// Walks a part of a text. `alone` says that it is all that PUT writes.
 pub(crate) fn walk_part(scope: &Scope, alone: bool, part: &Part) -> Option<Refusal>
-    ensures { result ≡ met (part_sites scope.now alone (plain_part part.now)) }
+    ensures { result ≡ refused_first (part_sites scope.now alone (plain_part part.now)) }
 {
     match part {
         Part::Words { .. } => None,

@@ -8,23 +8,23 @@ ghost use Rattle.ada_tree.specs.RuleMismatch.{target_kind};
 ghost use Rattle.ada_tree.specs.Demand.{names_exception, chooses};
 ghost use Rattle.ada_tree.specs.Declaring.{with_formals, with_loop_parameter, inside};
 ghost use Rattle.ada_tree.specs.Sites.{site, expr_sites, choices_of, if_there, condition, target_sites, expr_of, call_sites, callee_sites, part_sites, drange_sites, handler_names_sites, stmt_sites, stmts_sites, accept_sites, alts_sites, alt_sites, arms_sites, case_arms_sites, body_sites, handlers_sites, scheme_sites, loop_scope};
-ghost use Rattle.ada_refusals.specs.Met.{met, met_at};
+ghost use Rattle.ada_refusals.specs.RefusedFirst.{refused_first, refused_first_at};
 ghost use Rattle.ada_scopes.specs.Entries.{plain_range};
-ghost use Rattle.ada_types.specs.Members.{each_alt, each_arm, each_case_arm, each_handler, IsCaseHead};
+ghost use Rattle.ada_types.specs.inner.SitesOfMembers.{each_alt, each_arm, each_case_arm, each_handler, IsCaseHead};
 
 use crate::parts::walk_part;
 use ada_choices::choices::{refuse_choices, selected_values, walk_choices};
+use ada_entry_rules::accept_heads::walk_head;
 use ada_entry_rules::callees::walk_callee;
 use ada_entry_rules::calls::walk_call;
-use ada_entry_rules::heads::walk_head;
 use ada_entry_rules::targets::{walk_get, walk_target};
 use ada_expr_rules::kinds::TRUTH;
 use ada_expr_rules::ranges::walk_range;
 use ada_expr_rules::walking::{walk, walk_of};
 use ada_refusals::refusals::{Refusal, Rule, first, refuse};
+use ada_scopes::denotations::{Range, Thing};
 use ada_scopes::formals::{declare_formals, parameter};
 use ada_scopes::scope::Scope;
-use ada_scopes::things::{Range, Thing};
 use ada_tree::{
     Accept, Alt, AltKind, Arm, Body, Call, Callee, CaseArm, Drange, Expr, Formal, Handler, Part,
     Scheme, Span, Stmt, StmtKind, Target, Word,
@@ -33,14 +33,14 @@ use std::alloc::{AllocError, Global};
 
 // A condition.
 fn walk_condition(scope: &Scope, test: &Expr) -> Option<Refusal>
-    ensures { result ≡ met (condition scope.now (plain_expr test.now)) }
+    ensures { result ≡ refused_first (condition scope.now (plain_expr test.now)) }
 {
     walk_of(scope, Some(TRUTH), test).refusal
 }
 
 // A condition that may be left out.
 fn walk_test(scope: &Scope, test: &Option<Expr>) -> Option<Refusal>
-    ensures { result ≡ met (if_there (condition scope.now) (option_map plain_expr test.now)) }
+    ensures { result ≡ refused_first (if_there (condition scope.now) (option_map plain_expr test.now)) }
 {
     match test {
         Some(test) => walk_condition(scope, test),
@@ -50,7 +50,7 @@ fn walk_test(scope: &Scope, test: &Option<Expr>) -> Option<Refusal>
 
 // An assignment.
 fn walk_assign(scope: &Scope, target: &Target, value: &Expr) -> Option<Refusal>
-    ensures { result ≡ met (target_sites scope.now (plain_target target.now) ++ expr_of scope.now (target_kind scope.now (plain_target target.now)) (plain_expr value.now)) }
+    ensures { result ≡ refused_first (target_sites scope.now (plain_target target.now) ++ expr_of scope.now (target_kind scope.now (plain_target target.now)) (plain_expr value.now)) }
 {
     let written = walk_target(scope, target);
     let walked = walk_of(scope, written.kind, value);
@@ -59,7 +59,7 @@ fn walk_assign(scope: &Scope, target: &Target, value: &Expr) -> Option<Refusal>
 
 // A name where an exception's is needed.
 fn refuse_no_exception(scope: &Scope, name: Word) -> Option<Refusal>
-    ensures { result ≡ met_at scope.now (names_exception name) }
+    ensures { result ≡ refused_first_at scope.now (names_exception name) }
 {
     match scope.meaning(name.name) {
         Some(thing) => match thing {
@@ -72,7 +72,7 @@ fn refuse_no_exception(scope: &Scope, name: Word) -> Option<Refusal>
 
 // The name of what is raised, which may be left out.
 fn walk_raise(scope: &Scope, name: Option<Word>) -> Option<Refusal>
-    ensures { result ≡ met (if_there (λ x. site scope.now (names_exception x) ∷ []) name) }
+    ensures { result ≡ refused_first (if_there (λ x. site scope.now (names_exception x) ∷ []) name) }
 {
     match name {
         Some(name) => refuse_no_exception(scope, name),
@@ -82,7 +82,7 @@ fn walk_raise(scope: &Scope, name: Option<Word>) -> Option<Refusal>
 
 // The tasks of an abort statement.
 fn walk_abort(scope: &Scope, names: &[Callee]) -> Option<Refusal>
-    ensures { result ≡ met (flat_map (callee_sites scope.now) (map plain_callee names.now)) }
+    ensures { result ≡ refused_first (flat_map (callee_sites scope.now) (map plain_callee names.now)) }
 {
     let mut refusal = None;
     for name in names {
@@ -93,7 +93,7 @@ fn walk_abort(scope: &Scope, names: &[Callee]) -> Option<Refusal>
 
 // The parts of a text, of which one may be all that PUT writes.
 fn walk_text(scope: &Scope, alone: bool, parts: &[Part]) -> Option<Refusal>
-    ensures { result ≡ met (flat_map (part_sites scope.now alone) (map plain_part parts.now)) }
+    ensures { result ≡ refused_first (flat_map (part_sites scope.now alone) (map plain_part parts.now)) }
 {
     let mut refusal = None;
     for part in parts {
@@ -104,7 +104,7 @@ fn walk_text(scope: &Scope, alone: bool, parts: &[Part]) -> Option<Refusal>
 
 // The names of a handler.
 fn walk_exceptions(scope: &Scope, names: &[Word]) -> Option<Refusal>
-    ensures { (before : List ℕ) → result ≡ met (handler_names_sites scope.now before names.now) }
+    ensures { (before : List ℕ) → result ≡ refused_first (handler_names_sites scope.now before names.now) }
 {
     let mut refusal = None;
     for name in names {
@@ -122,7 +122,7 @@ fn walk_inner(
     list: &[Stmt],
 ) -> Result<Option<Refusal>, AllocError>
     ensures kept { OnOk result (scope.new ≡ scope.old) }
-    ensures told { IfOk result (λ r. r ≡ met (stmts_sites (with_formals (inside scope.old) (map plain_formal formals.now)) (row_of (map plain_stmt list.now)))) }
+    ensures told { IfOk result (λ r. r ≡ refused_first (stmts_sites (with_formals (inside scope.old) (map plain_formal formals.now)) (row_of (map plain_stmt list.now)))) }
 {
     let outer = scope.enter();
     declare_formals(scope, formals)?;
@@ -138,7 +138,7 @@ fn walk_accept(
     accept: &Accept,
 ) -> Result<Option<Refusal>, AllocError>
     ensures kept { OnOk result (scope.new ≡ scope.old) }
-    ensures told { IfOk result (λ r. r ≡ met (accept_sites scope.old (plain_accept accept.now))) }
+    ensures told { IfOk result (λ r. r ≡ refused_first (accept_sites scope.old (plain_accept accept.now))) }
 {
     let head = walk_head(scope, accept.entry, &accept.index, &accept.formals);
     match &accept.stmts {
@@ -158,7 +158,7 @@ fn walk_kind(
     kind: &AltKind,
 ) -> Result<Option<Refusal>, AllocError>
     ensures kept { OnOk result (scope.new ≡ scope.old) }
-    ensures told { IfOk result (λ r. r ≡ met (alt_sites scope.old (plain_alt_kind kind.now))) }
+    ensures told { IfOk result (λ r. r ≡ refused_first (alt_sites scope.old (plain_alt_kind kind.now))) }
 {
     match kind {
         AltKind::Accept { accept, stmts } => {
@@ -174,7 +174,7 @@ fn walk_kind(
 #[cycle(statements)]
 fn walk_alt(scope: &mut Scope, alloc: Global, alt: &Alt) -> Result<Option<Refusal>, AllocError>
     ensures kept { OnOk result (scope.new ≡ scope.old) }
-    ensures told { IfOk result (λ r. r ≡ met (each_alt scope.old (plain_alt alt.now))) }
+    ensures told { IfOk result (λ r. r ≡ refused_first (each_alt scope.old (plain_alt alt.now))) }
 {
     let guard = walk_test(scope, &alt.guard);
     let kind = walk_kind(scope, alloc, &alt.kind)?;
@@ -184,7 +184,7 @@ fn walk_alt(scope: &mut Scope, alloc: Global, alt: &Alt) -> Result<Option<Refusa
 #[cycle(statements)]
 fn walk_alts(scope: &mut Scope, alloc: Global, alts: &[Alt]) -> Result<Option<Refusal>, AllocError>
     ensures kept { OnOk result (scope.new ≡ scope.old) }
-    ensures told { IfOk result (λ r. r ≡ met (alts_sites scope.old (alts_of (map plain_alt alts.now)))) }
+    ensures told { IfOk result (λ r. r ≡ refused_first (alts_sites scope.old (alts_of (map plain_alt alts.now)))) }
 {
     let mut refusal = None;
     for alt in alts {
@@ -198,7 +198,7 @@ fn walk_alts(scope: &mut Scope, alloc: Global, alts: &[Alt]) -> Result<Option<Re
 #[cycle(statements)]
 fn walk_arm(scope: &mut Scope, alloc: Global, arm: &Arm) -> Result<Option<Refusal>, AllocError>
     ensures kept { OnOk result (scope.new ≡ scope.old) }
-    ensures told { IfOk result (λ r. r ≡ met (each_arm scope.old (plain_arm arm.now))) }
+    ensures told { IfOk result (λ r. r ≡ refused_first (each_arm scope.old (plain_arm arm.now))) }
 {
     let test = walk_condition(scope, &arm.test);
     let behind = walk_stmts(scope, alloc, &arm.stmts)?;
@@ -208,7 +208,7 @@ fn walk_arm(scope: &mut Scope, alloc: Global, arm: &Arm) -> Result<Option<Refusa
 #[cycle(statements)]
 fn walk_arms(scope: &mut Scope, alloc: Global, arms: &[Arm]) -> Result<Option<Refusal>, AllocError>
     ensures kept { OnOk result (scope.new ≡ scope.old) }
-    ensures told { IfOk result (λ r. r ≡ met (arms_sites scope.old (arms_of (map plain_arm arms.now)))) }
+    ensures told { IfOk result (λ r. r ≡ refused_first (arms_sites scope.old (arms_of (map plain_arm arms.now)))) }
 {
     let mut refusal = None;
     for arm in arms {
@@ -228,7 +228,7 @@ fn walk_case_arm(
     arm: &CaseArm,
 ) -> Result<Option<Refusal>, AllocError>
     ensures kept { OnOk result (scope.new ≡ scope.old) }
-    ensures told { IfOk result (λ r. r ≡ met (each_case_arm scope.old kind (option_map plain_range values) (plain_case_arm arm.now))) }
+    ensures told { IfOk result (λ r. r ≡ refused_first (each_case_arm scope.old kind (option_map plain_range values) (plain_case_arm arm.now))) }
 {
     let choices = walk_choices(scope, kind, values, &arm.choices);
     let behind = walk_stmts(scope, alloc, &arm.stmts)?;
@@ -244,7 +244,7 @@ fn walk_case_arms(
     arms: &[CaseArm],
 ) -> Result<Option<Refusal>, AllocError>
     ensures kept { OnOk result (scope.new ≡ scope.old) }
-    ensures told { IfOk result (λ r. r ≡ met (case_arms_sites scope.old kind (option_map plain_range values) (case_arms_of (map plain_case_arm arms.now)))) }
+    ensures told { IfOk result (λ r. r ≡ refused_first (case_arms_sites scope.old kind (option_map plain_range values) (case_arms_of (map plain_case_arm arms.now)))) }
 {
     let mut refusal = None;
     for arm in arms {
@@ -289,7 +289,7 @@ fn walk_handler(
     handler: &Handler,
 ) -> Result<Option<Refusal>, AllocError>
     ensures kept { OnOk result (scope.new ≡ scope.old) }
-    ensures told { IfOk result (λ r. r ≡ met (each_handler scope.old (plain_handler handler.now))) }
+    ensures told { IfOk result (λ r. r ≡ refused_first (each_handler scope.old (plain_handler handler.now))) }
 {
     let names = walk_exceptions(scope, &handler.names);
     let behind = walk_stmts(scope, alloc, &handler.stmts)?;
@@ -303,7 +303,7 @@ fn walk_handlers(
     handlers: &[Handler],
 ) -> Result<Option<Refusal>, AllocError>
     ensures kept { OnOk result (scope.new ≡ scope.old) }
-    ensures told { IfOk result (λ r. r ≡ met (handlers_sites scope.old [] (handlers_of (map plain_handler handlers.now)))) }
+    ensures told { IfOk result (λ r. r ≡ refused_first (handlers_sites scope.old [] (handlers_of (map plain_handler handlers.now)))) }
 {
     let mut refusal = None;
     for handler in handlers {
@@ -321,7 +321,7 @@ pub(crate) fn walk_body(
     body: &Body,
 ) -> Result<Option<Refusal>, AllocError>
     ensures kept { OnOk result (scope.new ≡ scope.old) }
-    ensures told { IfOk result (λ r. r ≡ met (body_sites scope.old (plain_body body.now))) }
+    ensures told { IfOk result (λ r. r ≡ refused_first (body_sites scope.old (plain_body body.now))) }
 {
     let inner = walk_stmts(scope, alloc, &body.stmts)?;
     let handlers = walk_handlers(scope, alloc, &body.handlers)?;
@@ -338,7 +338,7 @@ fn walk_counted(
     list: &[Stmt],
 ) -> Result<Option<Refusal>, AllocError>
     ensures kept { OnOk result (scope.new ≡ scope.old) }
-    ensures told { IfOk result (λ r. r ≡ met (drange_sites false scope.old (plain_drange range.now) ++ stmts_sites (with_loop_parameter scope.old name (plain_drange range.now)) (row_of (map plain_stmt list.now)))) }
+    ensures told { IfOk result (λ r. r ≡ refused_first (drange_sites false scope.old (plain_drange range.now) ++ stmts_sites (with_loop_parameter scope.old name (plain_drange range.now)) (row_of (map plain_stmt list.now)))) }
 {
     let walked = walk_range(scope, false, range);
     let thing = parameter(scope, walked.kind);
@@ -358,7 +358,7 @@ fn walk_loop(
     list: &[Stmt],
 ) -> Result<Option<Refusal>, AllocError>
     ensures kept { OnOk result (scope.new ≡ scope.old) }
-    ensures told { IfOk result (λ r. r ≡ met (if_there (scheme_sites scope.old) (option_map plain_scheme scheme.now) ++ stmts_sites (loop_scope scope.old (option_map plain_scheme scheme.now)) (row_of (map plain_stmt list.now)))) }
+    ensures told { IfOk result (λ r. r ≡ refused_first (if_there (scheme_sites scope.old) (option_map plain_scheme scheme.now) ++ stmts_sites (loop_scope scope.old (option_map plain_scheme scheme.now)) (row_of (map plain_stmt list.now)))) }
 {
     match scheme {
         Some(scheme) => match scheme {
@@ -376,7 +376,7 @@ fn walk_loop(
 #[cycle(statements)]
 fn walk_stmt(scope: &mut Scope, alloc: Global, stmt: &Stmt) -> Result<Option<Refusal>, AllocError>
     ensures kept { OnOk result (scope.new ≡ scope.old) }
-    ensures told { IfOk result (λ r. r ≡ met (stmt_sites scope.old (plain_stmt stmt.now))) }
+    ensures told { IfOk result (λ r. r ≡ refused_first (stmt_sites scope.old (plain_stmt stmt.now))) }
 {
     match &stmt.kind {
         StmtKind::Null => Ok(None),
@@ -460,7 +460,7 @@ pub(crate) fn walk_stmts(
     list: &[Stmt],
 ) -> Result<Option<Refusal>, AllocError>
     ensures kept { OnOk result (scope.new ≡ scope.old) }
-    ensures told { IfOk result (λ r. r ≡ met (stmts_sites scope.old (row_of (map plain_stmt list.now)))) }
+    ensures told { IfOk result (λ r. r ≡ refused_first (stmts_sites scope.old (row_of (map plain_stmt list.now)))) }
 {
     let mut refusal = None;
     for stmt in list {

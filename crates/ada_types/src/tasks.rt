@@ -5,25 +5,25 @@ ghost use Rattle.ada_tree.specs.PlainDecl.{plain_priority, plain_task};
 ghost use Rattle.ada_tree.specs.Scope.{integer_kind};
 ghost use Rattle.ada_tree.specs.Declaring.{task_thing, with_name, after_task};
 ghost use Rattle.ada_tree.specs.Sites.{static_of, task_sites};
-ghost use Rattle.ada_refusals.specs.Met.{met};
+ghost use Rattle.ada_refusals.specs.RefusedFirst.{refused_first};
 ghost use Rattle.ada_scopes.specs.Entries.{plain_entry};
-ghost use Rattle.ada_scopes.specs.Things.{plain_thing};
-ghost use Rattle.ada_types.specs.Decls.{IsDecl};
+ghost use Rattle.ada_scopes.specs.Denotations.{plain_thing};
+ghost use Rattle.ada_types.specs.inner.Decls.{IsDecl};
 
 use crate::walked_decls::WalkedDecl;
 use ada_entry_rules::entries::walk_entries;
 use ada_expr_rules::kinds::INTEGER;
 use ada_expr_rules::walking::walk_static;
 use ada_refusals::refusals::{Refusal, first};
+use ada_scopes::denotations::{Entries, EntryPart, Thing};
 use ada_scopes::scope::Scope;
-use ada_scopes::things::{Entries, EntryPart, Thing};
 use ada_tree::{EntryDecl, Priority, TaskUnit};
 use std::alloc::{AllocError, Global};
 use std::rc::Rc;
 
 // Walks the priorities of a task.
 fn walk_priorities(scope: &Scope, priorities: &[Priority]) -> Option<Refusal>
-    ensures { result ≡ met (flat_map (λ p. static_of scope.now (Some integer_kind) p.value) (map plain_priority priorities.now)) }
+    ensures { result ≡ refused_first (flat_map (λ p. static_of scope.now (Some integer_kind) p.value) (map plain_priority priorities.now)) }
 {
     let mut refusal = None;
     for priority in priorities {

@@ -7,19 +7,19 @@ ghost use Rattle.ada_tree.specs.PlainProgram.{plain_program};
 ghost use Rattle.ada_tree.specs.Declaring.{first_scope, inside};
 ghost use Rattle.ada_tree.specs.Refusals.{MeetsTypeRules, types_in};
 ghost use Rattle.ada_tree.specs.Sites.{body_sites, sites};
-ghost use Rattle.ada_refusals.specs.Met.{met};
+ghost use Rattle.ada_refusals.specs.RefusedFirst.{refused_first};
 ghost use Rattle.ada_refusals.specs.Repeated.{repeated_from};
 ghost use Rattle.ada_refusals.specs.Telling.{TellsFirst};
-ghost use Rattle.ada_types.specs.Decls.{IsProgram};
+ghost use Rattle.ada_types.specs.inner.Decls.{IsProgram};
 
-use crate::bodies::walk_inside;
 use crate::declarations::walk_decls;
-use ada_duplicates::notes::Notes;
+use crate::task_bodies::walk_inside;
+use ada_duplicates::named_so_far::Notes;
 use ada_refusals::errors::TypeError;
 use ada_refusals::refusals::{Refusal, first};
 use ada_refusals::verdicts::verdict;
+use ada_scopes::denotations::Thing;
 use ada_scopes::scope::Scope;
-use ada_scopes::things::Thing;
 use ada_tree::{Program, Types, Word};
 use std::alloc::{AllocError, Global};
 

@@ -2,8 +2,9 @@
 
 ghost use Rattle.std.specs.Prelude.{◌≡◌, ◌<◌, ◌-◌, ◌^◌, length};
 ghost use Rattle.ada_tree.specs.PlainProgram.{plain_program};
+ghost use Rattle.ada_tree.specs.WellPlaced.{IsWellPlaced};
 ghost use Rattle.feasible.specs.Keeping.{NothingFollows};
-ghost use Rattle.syn_event.specs.LegalProgram.{IsLegal};
+ghost use Rattle.syn_event.specs.Legal.{Legal};
 
 use crate::running::no_inputs;
 use ada_tree::Memory;
@@ -49,7 +50,8 @@ pub fn judge_row(
     row: &Row<'_>,
     out: &mut String,
 ) -> Result<(), Memory>
-    requires { IsLegal (plain_program known.now.program) known.now.checked.types known.now.checked.numbers Mode.Original }
+    requires placed { IsWellPlaced (plain_program known.now.program) }
+    requires legal { Legal (plain_program known.now.program) known.now.checked.types known.now.checked.numbers Mode.Original }
 {
     let lines = lines_of(alloc, known, row.written())?;
     row.ask(out)?;

@@ -2,7 +2,8 @@
 
 ghost use Rattle.std.specs.Prelude.{IfOk, IfSome};
 ghost use Rattle.ada_tree.specs.PlainProgram.{plain_program};
-ghost use Rattle.syn_event.specs.LegalProgram.{IsLegal};
+ghost use Rattle.ada_tree.specs.WellPlaced.{IsWellPlaced};
+ghost use Rattle.syn_event.specs.Legal.{Legal};
 
 use ada_check::{CheckError, Checked, check};
 use ada_parser::ReadError;
@@ -25,7 +26,8 @@ pub struct Known {
 
 /// The program of a text that meets the static rules by a mode, if it does.
 pub fn known_of(alloc: Global, text: &[u8], mode: Mode) -> Result<Option<Known>, Memory>
-    ensures { IfOk result (λ found. IfSome found (λ known. IsLegal (plain_program known.program) known.checked.types known.checked.numbers mode)) }
+    ensures placed { IfOk result (λ found. IfSome found (λ known. IsWellPlaced (plain_program known.program))) }
+    ensures legal { IfOk result (λ found. IfSome found (λ known. Legal (plain_program known.program) known.checked.types known.checked.numbers mode)) }
 {
     match program_of(alloc, text) {
         Ok(program) => match check(alloc, &program, mode) {

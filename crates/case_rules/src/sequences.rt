@@ -2,8 +2,9 @@
 
 ghost use Rattle.std.specs.Prelude.{◌<◌, ◌-◌, ◌^◌, IfOk, vec_len};
 ghost use Rattle.ada_tree.specs.PlainProgram.{plain_program};
+ghost use Rattle.ada_tree.specs.WellPlaced.{IsWellPlaced};
 ghost use Rattle.seq_file.specs.Files.{NothingFollowsEnd};
-ghost use Rattle.syn_event.specs.LegalProgram.{IsLegal};
+ghost use Rattle.syn_event.specs.Legal.{Legal};
 
 use crate::numbering::{Known, put_event};
 use ada_tree::Memory;
@@ -22,7 +23,8 @@ pub fn sequence_of(
     mode: Mode,
     bytes: &[u8],
 ) -> Result<Vec<Event>, SeqError>
-    requires { IsLegal (plain_program known.now.program) known.now.checked.types known.now.checked.numbers mode }
+    requires placed { IsWellPlaced (plain_program known.now.program) }
+    requires legal { Legal (plain_program known.now.program) known.now.checked.types known.now.checked.numbers mode }
     ensures end { IfOk result (λ events. NothingFollowsEnd events.items) }
     ensures few { IfOk result (λ events. vec_len events < 2 ^ 32 - 1) }
 {
@@ -41,7 +43,8 @@ pub fn sequence(
     row: &Row<'_>,
     out: &mut String,
 ) -> Result<(), Memory>
-    requires { IsLegal (plain_program known.now.program) known.now.checked.types known.now.checked.numbers mode }
+    requires placed { IsWellPlaced (plain_program known.now.program) }
+    requires legal { Legal (plain_program known.now.program) known.now.checked.types known.now.checked.numbers mode }
 {
     row.ask(out)?;
     match sequence_of(alloc, known, mode, row.text()) {

@@ -18,7 +18,7 @@ use Rattle.syn_event.specs.declared.limits.What.{What}
 use Rattle.syn_event.specs.declared.limits.What.TheVariants as counted
 use Rattle.syn_event.specs.CheckRefusals.{CheckRefusal, IsFirstCheckRefusal, ComesFirst, over_order, by_rule, refused_at, check_refusals}
 use Rattle.syn_event.specs.Limits.{limit_of, what_order}
-use Rattle.syn_event.specs.LegalProgram.{IsLegal}
+use Rattle.syn_event.specs.Legal.{Legal}
 use Rattle.syn_event.specs.Numbering.{Numbering}
 use Rattle.syn_event.specs.RuleLimit.{OverAt, passed, over_limit}
 use Rattle.syn_event.specs.RuleSharedVariable.{shared_variable}
@@ -213,11 +213,11 @@ module _ (p : PProgram) (m : Mode) (text : List ℕ) where
   pub one_illegal : (o q : Outcome) → IsIllegal p m text o → IsIllegal p m text q → o ≡ q
   one_illegal o q h k = told_once (refusal_of_error text h.error) (refusal_of_error text k.error) o q (why_told h.error h.refused) (why_told k.error k.refused) h.told k.told
 
-  legal_told : (types : TypeTable) (numbers : Numbering) (x : Option Refusal) (o : Outcome) → IsLegal p types numbers m → Tells p m text x → IsRefusal x o → ⊥
+  legal_told : (types : TypeTable) (numbers : Numbering) (x : Option Refusal) (o : Outcome) → Legal p types numbers m → Tells p m text x → IsRefusal x o → ⊥
   unfolding Tells
   legal_told types numbers x o legal (inl (r, h, is)) t = nothing_there (typing.refusals p) r legal.type_rules h.is_one
   legal_told types numbers x o legal (inr (inl (r, none, h, is))) t = nothing_there (check_refusals p m) r legal.check_rules h.is_one
   legal_told types numbers x o legal (inr (inr is)) t = subst (λ z. IsRefusal z o) is t
 
-  pub legal_or_illegal : (types : TypeTable) (numbers : Numbering) (o : Outcome) → IsLegal p types numbers m → IsIllegal p m text o → ⊥
+  pub legal_or_illegal : (types : TypeTable) (numbers : Numbering) (o : Outcome) → Legal p types numbers m → IsIllegal p m text o → ⊥
   legal_or_illegal types numbers o legal h = legal_told types numbers (refusal_of_error text h.error) o legal (why_told h.error h.refused) h.told

@@ -2,6 +2,7 @@
 use Rattle.std.proofs.Common.{◌≡◌, ◌<◌, ◌≤◌, ◌-◌, ℕ, Bool, true, false, cond, List, [], ◌∷◌, length, take, Option, Some, None, inl, inr, refl, sym, ap, subst, ◌∙◌, arith}
 use Rattle.std.specs.Prelude.{All, IfSome, ◌==◌, codes}
 use Rattle.std.proofs.lemmas.List.Elements.{All-nil, All-cons, All-head, All-tail}
+use Rattle.ada_tree.specs.WellPlaced.{IsWellPlaced}
 use Rattle.ded_io.specs.Written.{◌⧺◌}
 use Rattle.event_machine.specs.declared.Event.{Event}
 use Rattle.event_machine.specs.declared.Event.TheVariants.{R, E, S, D, C, T, F, X, B, Z}
@@ -10,7 +11,7 @@ use Rattle.seq_file.specs.Short.{IsShort}
 use Rattle.seq_file.specs.declared.errors.SeqError.{SeqError}
 use Rattle.seq_file.proofs.Filing.{reads-unique, reads-no_fault, fault-unique}
 use Rattle.syn_event.specs.declared.numbering.Mode.TheVariants.{Original}
-use Rattle.syn_event.specs.LegalProgram.{IsLegal}
+use Rattle.syn_event.specs.Legal.{Legal}
 use Rattle.syn_event.specs.Numbering.{Numbering, owner_of}
 use Rattle.syn_event.specs.Units.{text_of}
 use Rattle.task_model.specs.Machine.{Setup}
@@ -27,7 +28,7 @@ use Rattle.debug_outcome.specs.Coming.{IsRefusal}
 use Rattle.debug_outcome.specs.Outcomes.{Outcome, writes}
 use Rattle.debug_outcome.proofs.Comings.{one_refusal}
 use Rattle.debug_judge.specs.JudgeOutcomes.{AreSeen, ShowsWhy, IsVerdictText, JudgesLines, refusal_of_sequence, verdict_status}
-use Rattle.debug_judge.proofs.Uppering.{name_is_upper}
+use Rattle.seq_file.proofs.MainNames.{main_is_upper}
 use Rattle.debug_core.proofs.ShortNumbers.{short_tasks, short_entries}
 
 -- ---- the text of a verdict, by what is seen of the tasks that its event needs
@@ -82,9 +83,9 @@ one_verdict_text setup numbers bound events o q h k =
     ∙ ap (λ (text : List ℕ). writes text (verdict_status k.verdict)) (text_same setup numbers bound events h.views k.views k.verdict seen k.seen)
     ∙ sym k.is
 
--- ---- of a legal program
+-- ---- of a legal program that was read
 
-module _ (setup : Setup) (numbers : Numbering) (legal : IsLegal setup.program setup.types numbers Original) (lines : List ℕ) (bound : ℕ) where
+module _ (setup : Setup) (numbers : Numbering) (placed : IsWellPlaced setup.program) (legal : Legal setup.program setup.types numbers Original) (lines : List ℕ) (bound : ℕ) where
   abbrev names : List (List ℕ)
   names = setup.program.names
 
@@ -92,7 +93,7 @@ module _ (setup : Setup) (numbers : Numbering) (legal : IsLegal setup.program se
   short = record { tasks = short_tasks setup.program setup.types numbers Original legal; entries = short_entries setup.program setup.types numbers Original legal }
 
   upper : is_upper_name (text_of names numbers.main) ≡ true
-  upper = name_is_upper setup.program setup.types numbers Original legal
+  upper = main_is_upper setup.program setup.types numbers Original placed legal
 
   pub one_judged : (o q : Outcome) → JudgesLines setup numbers lines bound o → JudgesLines setup numbers lines bound q → o ≡ q
   one_judged o q (inl h) (inl k) =

@@ -1,6 +1,7 @@
 -- The bytes of files call for one outcome with the words.
 use Rattle.std.proofs.Common.{◌≡◌, ℕ, List, [], ◌∷◌, Option, Some, None, inl, inr, sym, ap, ◌∙◌}
 use Rattle.ada_tree.specs.PlainProgram.{PProgram}
+use Rattle.ada_parser.proofs.PlacedItems.{read_is_placed}
 use Rattle.ada_printer.specs.ProgramText.{program_text}
 use Rattle.syn_event.specs.declared.numbering.Mode.TheVariants.{Original, Any}
 use Rattle.syn_event.specs.Numbering.{Numbering}
@@ -46,7 +47,7 @@ one_ran text inputs choices turns o q (inr h) (inr k) = one_no_start text Any in
 
 one_verdict : (text : List ℕ) (inputs : Option (List ℕ)) (lines : List ℕ) (bound : ℕ) (o q : Outcome) → JudgeMeans text inputs lines bound o → JudgeMeans text inputs lines bound q → o ≡ q
 one_verdict text inputs lines bound o q (inl h) (inl k) =
-    one_judged k.setup k.numbers k.is_start.is_legal.legal lines bound o q
+    one_judged k.setup k.numbers (read_is_placed text k.setup.program k.is_start.is_legal.is_read.reads) k.is_start.is_legal.legal lines bound o q
     (start_carries text Original inputs h.setup k.setup h.numbers k.numbers h.is_start k.is_start (λ setup numbers. JudgesLines setup numbers lines bound o) h.judged) k.judged
 one_verdict text inputs lines bound o q (inl h) (inr k) = absurd (start_or_not text Original inputs h.setup h.numbers q h.is_start k)
 one_verdict text inputs lines bound o q (inr h) (inl k) = absurd (start_or_not text Original inputs k.setup k.numbers o k.is_start h)

@@ -7,7 +7,7 @@ use Rattle.ada_expr_parser.specs.declared.items.Item.{Item}
 use Rattle.ada_parser.specs.Units.{PUnit}
 use Rattle.ada_parser.specs.Reads.{Reads}
 use Rattle.ada_parser.specs.Exactly.{IsRead, Says}
-use Rattle.ada_parser.specs.ReadingUnits as reading
+use Rattle.ada_parser.specs.inner.ReadingUnits as reading
 use Rattle.ada_parser.proofs.Exact.{texts_exactly}
 use Rattle.ada_parser.proofs.PlacedItems.{read_is_placed}
 use Rattle.ada_printer.specs.ProgramText.{program_text}

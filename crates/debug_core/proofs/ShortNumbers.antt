@@ -18,7 +18,7 @@ use Rattle.syn_event.specs.declared.limits.What.{What}
 use Rattle.syn_event.specs.declared.limits.What.TheVariants.{Tasks, Entries}
 use Rattle.syn_event.specs.AllNumbers.{all_numbers, seat_info, seat_entry, seat_entries}
 use Rattle.syn_event.specs.Extents.{Extent, extent, size, size_of, known_size}
-use Rattle.syn_event.specs.LegalProgram.{IsLegal}
+use Rattle.syn_event.specs.Legal.{Legal}
 use Rattle.syn_event.specs.Limits.{limit_of}
 use Rattle.syn_event.specs.Numbered.{with_origin}
 use Rattle.syn_event.specs.Numbering.{Numbering}
@@ -27,7 +27,7 @@ use Rattle.syn_event.specs.Spots.{spot, spots, numbered, decls_spots, body_spots
 use Rattle.syn_event.specs.Surrounding.{Surrounding, Spot, declares, counts}
 use Rattle.syn_event.specs.TaskParts.{TaskPart, part, type_named, parts_of_type, object_parts, with_type, single_part, parts_in, parts_of, row_count, task_count, Seat, seat, numbers_on, indices, row_seats, seats_of, seats}
 use Rattle.syn_event.proofs.Nothing.{test_fails, all_front, all_back}
-use Rattle.syn_event.proofs.Fine.{Kept, kept_all}
+use Rattle.syn_event.proofs.Kept.{Kept, kept_all}
 
 -- ---- one count
 
@@ -191,7 +191,7 @@ unfolding most_entries
 few_entries mode.Original = omega arith
 few_entries mode.Any = omega arith
 
-module _ (p : PProgram) (types : TypeTable) (numbers : Numbering) (m : Mode) (legal : IsLegal p types numbers m) where
+module _ (p : PProgram) (types : TypeTable) (numbers : Numbering) (m : Mode) (legal : Legal p types numbers m) where
   places : AllByRecursion (Kept m p.names) (spots p)
   places = kept_all m p.names (spots p) legal.check_rules
 

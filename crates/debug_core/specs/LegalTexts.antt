@@ -4,7 +4,7 @@ use Rattle.ada_parser.specs.Exactly.{IsRead}
 use Rattle.ada_tree.specs.PlainProgram.{PProgram}
 use Rattle.ada_tree.specs.TypeTable.{TypeTable}
 use Rattle.syn_event.specs.declared.numbering.Mode.{Mode}
-use Rattle.syn_event.specs.LegalProgram.{IsLegal}
+use Rattle.syn_event.specs.Legal.{Legal}
 use Rattle.syn_event.specs.Numbering.{Numbering}
 use Rattle.debug_outcome.specs.Outcomes.{Outcome}
 use Rattle.debug_core.specs.RuleFaults.{IsIllegal}
@@ -13,7 +13,7 @@ use Rattle.debug_core.specs.TextFaults.{IsNoText}
 -- The text is that of this program and of no other, and the program meets every static rule and has these types and numbers.
 pub record IsLegalText (text : List ℕ) (mode : Mode) (program : PProgram) (types : TypeTable) (numbers : Numbering) : Type 0 where
   pub is_read : IsRead text program
-  pub legal : IsLegal program types numbers mode
+  pub legal : Legal program types numbers mode
 
 -- The text is that of a program which is refused, and the outcome tells it.
 pub record IsIllegalText (text : List ℕ) (mode : Mode) (o : Outcome) : Type 0 where

@@ -4,10 +4,10 @@ pub mod LegalTexts
 pub mod InputTexts
 pub mod ChoiceTexts
 pub mod Starts
-pub mod Started
 pub mod PrintMeaning
 pub mod CheckMeaning
 pub mod RunMeaning
 pub mod JudgeMeaning
 pub mod Answers
 pub mod OneAnswer
+pub mod inner

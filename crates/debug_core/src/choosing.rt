@@ -5,7 +5,7 @@ ghost use Rattle.debug_files.specs.Giving.{AreShortChoices, given_as, IsShort};
 ghost use Rattle.debug_outcome.specs.Coming.{Comes, stop_by};
 ghost use Rattle.debug_run.specs.RunOutcomes.{IsRunOf};
 ghost use Rattle.debug_core.specs.ChoiceTexts.{RunsUnder, RunsByFile, IsListedRun, refusal_of_choices};
-ghost use Rattle.debug_core.specs.Started.{setup_of};
+ghost use Rattle.debug_core.specs.inner.Started.{setup_of};
 
 use crate::starting::Start;
 use debug_files::ChoiceBytes;

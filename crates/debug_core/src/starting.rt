@@ -5,7 +5,7 @@ ghost use Rattle.debug_files.specs.Giving.{IsShort, IsShortStart, inputs_in};
 ghost use Rattle.debug_outcome.specs.Coming.{Stops, stop_by};
 ghost use Rattle.debug_core.specs.InputTexts.{AreInputs, AreBadInputs, refusal_of_inputs};
 ghost use Rattle.debug_core.specs.Starts.{IsStart, IsNoStart};
-ghost use Rattle.debug_core.specs.Started.{setup_of};
+ghost use Rattle.debug_core.specs.inner.Started.{setup_of};
 
 use crate::reading::{LegalProgram, read_legal};
 use ada_value::Inputs;

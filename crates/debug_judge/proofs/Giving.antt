@@ -6,11 +6,10 @@ use Rattle.std.proofs.lemmas.List.{get_or_append_left}
 use Rattle.std.proofs.lemmas.Option.{slice_get-get_or}
 use Rattle.ada_tree.proofs.Interning.{slice_get-last}
 use Rattle.event_machine.specs.declared.Event.{Event}
-use Rattle.event_machine.specs.declared.Event.TheVariants.{R, E, S, D, C, T, F, X, B, Z}
 use Rattle.event_machine.specs.Tallies.{HasNoEnd}
-use Rattle.event_machine.specs.Worlds.{is_last}
 use Rattle.syn_event.specs.Numbering.{Numbering}
-use Rattle.seq_file.specs.Files.{NothingFollowsEnd, is_end}
+use Rattle.seq_file.specs.Files.{NothingFollowsEnd}
+use Rattle.seq_file.proofs.EndLemmas.{last_is_end}
 use Rattle.task_model.specs.Machine.{Setup}
 use Rattle.task_machine.specs.declared.verdict.Verdict.{Verdict}
 use Rattle.task_machine.specs.declared.verdict.Verdict.TheVariants.{Feasible, Infeasible, Unsettled}
@@ -27,19 +26,6 @@ use Rattle.divergence.specs.Seen.{AreSettled}
 use Rattle.debug_judge.specs.declared.lines.LinesVerdict.{LinesVerdict}
 use Rattle.debug_judge.specs.JudgeOutcomes.{AreSeen, ShowsWhy}
 use Rattle.debug_judge.specs.JudgedLines.{IsFoundOf, event_with}
-
--- the end of a sequence is the last event of a program
-last_is_end : (e : Event) → is_last e ≡ true → is_end e ≡ true
-last_is_end (R c e i) h = h
-last_is_end (E a) h = h
-last_is_end (S a) h = h
-last_is_end (D a k) h = h
-last_is_end (C c e i) h = h
-last_is_end (T c e i) h = h
-last_is_end (F c e i) h = h
-last_is_end (X a) h = h
-last_is_end (B t x) h = h
-last_is_end Z h = h
 
 pub nothing_follows : (events : List Event) → NothingFollowsEnd events → NothingFollows events
 nothing_follows [] h = tt

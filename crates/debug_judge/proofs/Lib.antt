@@ -1,4 +1,3 @@
-pub mod Uppering
 pub mod Giving
 pub mod Lining
 pub mod Judged

@@ -8,8 +8,8 @@ ghost use Rattle.debug_outcome.specs.Refusals.{refusal_line, first_words, unread
 use crate::refusal::{
     InputFault, Listed, Misspelling, Refusal, Rule, RuleFault, SequenceFault, TextFault,
 };
+use decimal_text::put_number;
 use ded_io::{Sink, SinkError};
-use itoa::Buffer;
 use syn_event::What;
 
 // Writes the line of a refusal, with the file's name where it has one.
@@ -164,15 +164,6 @@ fn put_limit<K: Sink>(refusal: Refusal<'_>, limit: u64, err: &mut K) -> Result<(
     err.put(first_words(refusal))?;
     put_number(limit, err)?;
     err.put(b"\n")
-}
-
-// Writes a number in decimal.
-fn put_number<K: Sink>(n: u64, err: &mut K) -> Result<(), SinkError>
-    ensures bytes { Wrote result (K.told err.old) (K.told err.new) (decimal n) }
-    ensures cause { HasCause (K.faults err.old) (K.faults err.new) result }
-{
-    let mut buffer = Buffer::new();
-    err.put(buffer.format(n).as_bytes())
 }
 
 // The name of what is wrong with a line of a sequence.

@@ -1,11 +1,13 @@
 -- A text that is written part by part, and lists of lines among such texts.
-use Rattle.std.proofs.Common.{◌≡◌, ℕ, suc, pos, ◌+◌, ◌<◌, List, [], ◌++◌, length, drop, get_or, ap, sym, ◌∙◌, refl, add-one, append_assoc, append-nil, false, ◌≤◌, Option, None, Result, Ok, Err}
-use Rattle.ded_io.specs.Written.{appended, Wrote}
+use Rattle.std.proofs.Common.{◌≡◌, ℕ, suc, pos, ◌+◌, ◌<◌, List, [], ◌++◌, length, drop, get_or, ap, sym, ◌∙◌, refl, add-one, append_assoc, append-nil, false, ◌≤◌, Option, None, Result, Ok, Err, subst}
+use Rattle.ded_io.specs.Written.{appended, Wrote, ◌⧺◌}
 use Rattle.std.proofs.Math.Seq.{drop-cons}
 use Rattle.std.proofs.lemmas.List.{drop_all}
 use Rattle.ded_io.proofs.Writes.{appended-appended, appended-nil, joined}
 use Rattle.syn_event.specs.declared.numbering.EntryInfo.{EntryInfo}
 use Rattle.syn_event.specs.declared.numbering.TaskInfo.{TaskInfo}
+use Rattle.paged_output.specs.Pages.{Drawing, Drew}
+use Rattle.paged_output.proofs.Drawn.{drew_none, drew_then}
 use Rattle.debug_text.specs.RunText.{lines_at}
 
 -- a front of the whole text is written, and this rest is left
@@ -81,6 +83,30 @@ lines_all E B x old now all rest has none =
 -- behind the last member no line is left
 pub lines_beyond : {A : Type 0} (line : ℕ → A → List ℕ) (xs : List A) (i : ℕ) → length xs ≤ i → lines_at line i (drop i xs) ≡ []
 lines_beyond line xs i past = ap (λ ys. lines_at line i ys) (drop_all i xs past)
+
+-- ---- the same on a page
+
+-- a front of the whole text is put on a page, and this rest is left
+pub record Drawn (old now : Drawing) (all rest : List ℕ) : Type 0 where
+  pub front : List ℕ
+  pub parts : all ≡ front ++ rest
+  pub drew : Drew old now front
+
+pub drawn_none : (old : Drawing) (all : List ℕ) → Drawn old old all all
+drawn_none old all = record { front = []; parts = refl; drew = drew_none old }
+
+-- one more part of what was left
+pub drawn_more : (old now new : Drawing) (all rest here more : List ℕ) → rest ≡ here ++ more → Drawn old now all rest → Drew now new here → Drawn old new all more
+drawn_more old now new all rest here more parts has drew = record {
+  front = has.front ⧺ here;
+  parts = has.parts ∙ ap (λ r. has.front ++ r) parts ∙ sym (append_assoc has.front here more) ∙ ap (λ t. t ++ more) (sym (joined has.front here));
+  drew = drew_then old now new has.front here has.drew drew;
+}
+
+-- the last part
+pub drawn_last : (old now new : Drawing) (all rest here : List ℕ) → rest ≡ here → Drawn old now all rest → Drew now new here → Drew old new all
+drawn_last old now new all rest here parts has drew =
+    subst (λ t. Drew old new t) (joined has.front here ∙ ap (λ r. has.front ++ r) (sym parts) ∙ sym has.parts) (drew_then old now new has.front here has.drew drew)
 
 -- the task and the entry that stand for none
 abbrev pub no_info : TaskInfo

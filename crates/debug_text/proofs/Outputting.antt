@@ -1,7 +1,7 @@
 -- The text of an output begins with that of its first line.
-use Rattle.std.proofs.Common.{◌≡◌, ℕ, suc, ◌+◌, ◌<◌, Bool, true, false, List, [], ◌∷◌, ◌++◌, length, get_or, take, drop, ap, sym, ◌∙◌, refl, arith, add-one, cond, Option, None, Some, codes, inl, inr}
-use Rattle.std.specs.Prelude.{◌==◌, position, nat_lt, unwrap_or, is_some}
-use Rattle.std.specs.List.{slice_split, position_or_len}
+use Rattle.std.proofs.Common.{◌≡◌, ℕ, ◌+◌, ◌<◌, List, [], ◌∷◌, ◌++◌, length, get_or, take, drop, ap, sym, ◌∙◌, refl, arith, add-one, cond, None, Some, codes, inl, inr}
+use Rattle.std.specs.Prelude.{position, nat_lt, unwrap_or, is_some}
+use Rattle.std.specs.List.{position_or_len}
 use Rattle.std.proofs.Math.Seq.{take-suc}
 use Rattle.std.proofs.lemmas.Bool.{cases_Bool, eqb-true, ltb-true}
 use Rattle.std.proofs.lemmas.List.Splits.{length-slice_split}

@@ -1,15 +1,14 @@
 // The text of a program's numbers.
 
 ghost use Rattle.std.specs.Prelude.{◌≡◌, ◌<◌, ◌^◌, ◌+◌, length};
-ghost use Rattle.std.specs.Fmt.{signed_decimal};
 ghost use Rattle.ded_io.specs.Counts.{HasCause};
 ghost use Rattle.ded_io.specs.Written.{Wrote};
 ghost use Rattle.debug_text.specs.CheckText.{check_header, check_text, check_words, entry_line, entry_lines, family_text, number_lines};
 
-use crate::run_text::{put_counts, put_number, put_tasks};
+use crate::run_text::{put_counts, put_tasks};
 use ada_tree::Names;
+use decimal_text::{put_number, put_signed};
 use ded_io::{Sink, SinkError};
-use itoa::Buffer;
 use syn_event::{EntryInfo, Numbers, TaskInfo, name_of};
 
 // Writes the numbers of a program's tasks and entries.
@@ -103,16 +102,7 @@ fn put_family<K: Sink>(family: bool, first: i32, last: i32, out: &mut K) -> Resu
         return Ok(());
     }
     out.put(b" ")?;
-    put_index(first, out)?;
+    put_signed(first, out)?;
     out.put(b" ")?;
-    put_index(last, out)
-}
-
-// Writes an index in decimal.
-fn put_index<K: Sink>(index: i32, out: &mut K) -> Result<(), SinkError>
-    ensures bytes { Wrote result (K.told out.old) (K.told out.new) (signed_decimal index) }
-    ensures cause { HasCause (K.faults out.old) (K.faults out.new) result }
-{
-    let mut buffer = Buffer::new();
-    out.put(buffer.format(index).as_bytes())
+    put_signed(last, out)
 }

@@ -3,25 +3,34 @@
 ghost use Rattle.std.specs.Prelude.{◌≡◌, ◌<◌, ◌+◌, ◌++◌, IfSome, MatchOption, codes, drop, length, position, take};
 ghost use Rattle.ded_io.specs.Counts.{HasCause};
 ghost use Rattle.ded_io.specs.Written.{◌⧺◌, Wrote};
+ghost use Rattle.paged_output.specs.Pages.{Drew, over};
 ghost use Rattle.text_lines.specs.Lines.{is_line_end};
 ghost use Rattle.debug_text.specs.OutputText.{angle_line, output_text};
 
 use ded_io::{Sink, SinkError};
+use paged_output::Page;
 
-/// Writes what a task has written: each finished line behind a bar, and the last one, where it is not finished and not empty, behind an
-/// angle. Each byte is passed once.
+/// Writes what a task has written, in few writes: each finished line behind a bar, and the last one, where it is not finished and not
+/// empty, behind an angle. Each byte is passed once.
 pub fn put_output<K: Sink>(output: &[u8], out: &mut K) -> Result<(), SinkError>
     ensures bytes { Wrote result (K.told out.old) (K.told out.new) (output_text output.now) }
     ensures cause { HasCause (K.faults out.old) (K.faults out.new) result }
 {
+    let mut page = Page::new();
+    put_lines(output, &mut page, out);
+    page.close(out)
+}
+
+// Puts the lines of an output on a page.
+fn put_lines<K: Sink>(output: &[u8], page: &mut Page, out: &mut K)
+    ensures { Drew (over page.old (K.told out.old) (K.faults out.old)) (over page.new (K.told out.new) (K.faults out.new)) (output_text output.now) }
+{
     let mut rest = output;
     while let Some((line, behind)) = cut_line(rest) {
-        match put_finished(line, out) {
-            Ok(()) => rest = behind,
-            Err(e) => return Err(e),
-        }
+        put_finished(line, page, out);
+        rest = behind;
     }
-    put_unfinished(rest, out)
+    put_unfinished(rest, page, out);
 }
 
 // The first line with the line feed that ends it, and what stands behind it. `None` where there is no line feed.
@@ -61,26 +70,23 @@ fn behind(output: &[u8], n: usize) -> &[u8]
     &output[n + 1..]
 }
 
-// Writes a finished line, which has its line feed, behind a bar.
-#[tactic(auto, using(ded_io::proofs::Writes::writes))]
-fn put_finished<K: Sink>(line: &[u8], out: &mut K) -> Result<(), SinkError>
-    ensures bytes { Wrote result (K.told out.old) (K.told out.new) (codes "| " ⧺ line.now) }
-    ensures cause { HasCause (K.faults out.old) (K.faults out.new) result }
+// Puts a finished line, which has its line feed, behind a bar.
+#[tactic(auto, using(paged_output::proofs::Drawn::drawn))]
+fn put_finished<K: Sink>(line: &[u8], page: &mut Page, out: &mut K)
+    ensures { Drew (over page.old (K.told out.old) (K.faults out.old)) (over page.new (K.told out.new) (K.faults out.new)) (codes "| " ⧺ line.now) }
 {
-    out.put(b"| ")?;
-    out.put(line)
+    page.put(b"| ", out);
+    page.put(line, out);
 }
 
-// Writes a line that is not finished behind an angle, and nothing where it is empty.
-#[tactic(auto, using(ded_io::proofs::Writes::writes))]
-fn put_unfinished<K: Sink>(line: &[u8], out: &mut K) -> Result<(), SinkError>
-    ensures bytes { Wrote result (K.told out.old) (K.told out.new) (angle_line line.now) }
-    ensures cause { HasCause (K.faults out.old) (K.faults out.new) result }
+// Puts a line that is not finished behind an angle, and nothing where it is empty.
+#[tactic(auto, using(paged_output::proofs::Drawn::drawn))]
+fn put_unfinished<K: Sink>(line: &[u8], page: &mut Page, out: &mut K)
+    ensures { Drew (over page.old (K.told out.old) (K.faults out.old)) (over page.new (K.told out.new) (K.faults out.new)) (angle_line line.now) }
 {
-    if line.is_empty() {
-        return Ok(());
+    if !line.is_empty() {
+        page.put(b"> ", out);
+        page.put(line, out);
+        page.put(b"\n", out);
     }
-    out.put(b"> ")?;
-    out.put(line)?;
-    out.put(b"\n")
 }

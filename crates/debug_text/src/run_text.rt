@@ -1,6 +1,6 @@
 // The text of a run around its events.
 
-ghost use Rattle.std.specs.Prelude.{◌≡◌, ◌<◌, ◌^◌, decimal, length, OnOk};
+ghost use Rattle.std.specs.Prelude.{◌≡◌, ◌<◌, ◌^◌, length, OnOk};
 ghost use Rattle.ada_tree.specs.NameList.{AreNames};
 ghost use Rattle.ded_io.specs.Counts.{HasCause};
 ghost use Rattle.ded_io.specs.Written.{◌⧺◌, Wrote};
@@ -10,8 +10,8 @@ ghost use Rattle.syn_event.specs.Numbering.{is_original_task, is_original_entry,
 
 use crate::output_text::put_output;
 use ada_tree::Names;
+use decimal_text::put_number;
 use ded_io::{Sink, SinkError};
-use itoa::Buffer;
 use run_model::{RunEnd, RunReport};
 use syn_event::{EntryInfo, Numbers, TaskInfo, name_of, show_task};
 
@@ -92,15 +92,6 @@ fn put_task<K: Sink>(names: &Names, t: u32, info: &TaskInfo, out: &mut K) -> Res
 {
     show_task(names, t, info, out)?;
     out.put(b"\n")
-}
-
-// Writes a number in decimal.
-pub(crate) fn put_number<K: Sink>(n: u64, out: &mut K) -> Result<(), SinkError>
-    ensures bytes { Wrote result (K.told out.old) (K.told out.new) (decimal n) }
-    ensures cause { HasCause (K.faults out.old) (K.faults out.new) result }
-{
-    let mut buffer = Buffer::new();
-    out.put(buffer.format(n).as_bytes())
 }
 
 // Writes the lines of all tasks, from 0.

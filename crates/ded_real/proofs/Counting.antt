@@ -6,7 +6,7 @@ use Rattle.ded_io.specs.Told.{Lacks}
 use Rattle.ded_io.specs.declared.loading.LoadError.{LoadError}
 use Rattle.ded_io.specs.declared.loading.LoadError.TheVariants.{Failed, TooLong, Memory}
 use Rattle.debug_outcome.specs.Traces.{answer_by}
-use Rattle.ded_real.specs.RealLoads.{IsCounted}
+use Rattle.ded_real.specs.inner.RealLoads.{IsCounted}
 
 no_failure : {A : Type 0} (x : A) → IsErrOf {T = A} (Ok x) Failed → ⊥
 no_failure x e = cc

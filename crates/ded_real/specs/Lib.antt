@@ -1,1 +1,1 @@
-pub mod RealLoads
+pub mod inner

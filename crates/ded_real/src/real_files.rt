@@ -90,7 +90,7 @@ impl<R: rt::Files + Drop> Files for RealFiles<R> {
 }
 
 impl<R: rt::Files + Drop> TracedFiles for RealFiles<R> {
-    ghost use Rattle.ded_real.specs.RealLoads.{IsCounted};
+    ghost use Rattle.ded_real.specs.inner.RealLoads.{IsCounted};
 
     ghost leads = { λ old load new. IsCounted old.fault_count load.answer new.fault_count };
 

@@ -15,8 +15,8 @@ use Rattle.feasible.specs.declared.showing.TaskView.{TaskView}
 use Rattle.feasible.specs.declared.showing.TaskView.TheVariants.{Closed, Busy, At}
 use Rattle.feasible.specs.Keeping.{IsSettled}
 use Rattle.feasible.specs.Shown.{Shows}
-use Rattle.divergence.specs.Below.{tasks_below}
-use Rattle.divergence.specs.Shown.{shown_lines}
+use Rattle.divergence.specs.inner.Below.{tasks_below}
+use Rattle.divergence.specs.inner.Shown.{shown_lines}
 use Rattle.divergence.specs.ViewText.{offer_lines, view_lines}
 
 -- what is shown of a view has the lines of that view

@@ -1,5 +1,4 @@
 pub mod ViewText
-pub mod Shown
 pub mod JudgeText
 pub mod Seen
-pub mod Below
+pub mod inner

@@ -10,7 +10,7 @@ ghost use Rattle.feasible.specs.Failing.{view_at};
 ghost use Rattle.feasible.specs.Keeping.{IsSettled};
 ghost use Rattle.divergence.specs.JudgeText.{report_text, refused_word, refused_text, held_text, cause_word, cause_line, event_line, title, title_of, task_part, parts_of, task_parts, once};
 ghost use Rattle.divergence.specs.Seen.{AreSettled};
-ghost use Rattle.divergence.specs.Below.{tasks_below};
+ghost use Rattle.divergence.specs.inner.Below.{tasks_below};
 ghost use Rattle.divergence.specs.ViewText.{number_line, view_lines};
 
 use crate::views::{put_line, put_view};

@@ -1,17 +1,16 @@
 // The lines that say how a task is seen.
 
-ghost use Rattle.std.specs.Prelude.{◌≡◌, decimal};
-ghost use Rattle.std.specs.Fmt.{signed_decimal};
+ghost use Rattle.std.specs.Prelude.{◌≡◌};
 ghost use Rattle.ded_io.specs.Counts.{HasCause};
 ghost use Rattle.ded_io.specs.Written.{Wrote, each_text};
 ghost use Rattle.task_local.specs.OfferView.{offer_as};
 ghost use Rattle.divergence.specs.ViewText.{number_line, member_line, form_word, choice_line, offer_lines};
-ghost use Rattle.divergence.specs.Shown.{shown_lines};
+ghost use Rattle.divergence.specs.inner.Shown.{shown_lines};
 
+use decimal_text::{put_number, put_signed};
 use ded_io::{Sink, SinkError};
 use event_machine::{CallForm, Choice};
 use feasible::TaskView;
-use itoa::Buffer;
 use task_local::Offer;
 
 // Appends the lines of what is shown of a task.
@@ -103,22 +102,4 @@ pub(crate) fn put_line<K: Sink>(word: &[u8], n: u64, out: &mut K) -> Result<(), 
     out.put(word)?;
     put_number(n, out)?;
     out.put(b"\n")
-}
-
-// A number in decimal.
-fn put_number<K: Sink>(n: u64, out: &mut K) -> Result<(), SinkError>
-    ensures bytes { Wrote result (K.told out.old) (K.told out.new) (decimal n) }
-    ensures cause { HasCause (K.faults out.old) (K.faults out.new) result }
-{
-    let mut buffer = Buffer::new();
-    out.put(buffer.format(n).as_bytes())
-}
-
-// A number in decimal, with `-` before a negative one.
-fn put_signed<K: Sink>(n: i32, out: &mut K) -> Result<(), SinkError>
-    ensures bytes { Wrote result (K.told out.old) (K.told out.new) (signed_decimal n) }
-    ensures cause { HasCause (K.faults out.old) (K.faults out.new) result }
-{
-    let mut buffer = Buffer::new();
-    out.put(buffer.format(n).as_bytes())
 }

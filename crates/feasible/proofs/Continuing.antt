@@ -20,7 +20,7 @@ use Rattle.task_machine.specs.Judging.{VerdictIs, AreViews}
 use Rattle.task_machine.specs.Table.{seat_of}
 use Rattle.task_machine.proofs.Judged.{IsSeat, views_kept}
 use Rattle.task_machine.proofs.Verdicts.{verdict_on, verdict_refused, verdict_held, refused_stays, held_stays}
-use Rattle.feasible.specs.Deciding.{IsDecided, Leaves, GoesOn, taken_with, ended_with}
+use Rattle.feasible.specs.inner.Deciding.{IsDecided, Leaves, GoesOn, taken_with, ended_with}
 use Rattle.feasible.specs.Failing.{view_at}
 use Rattle.feasible.specs.Keeping.{AreKept, Counts, IsSettled, StandsFor, is_feasible, is_infeasible}
 use Rattle.feasible.specs.Kept.{Kept}

@@ -41,8 +41,8 @@ use Rattle.task_machine.proofs.TaskLaws.{the_count, the_standing}
 use Rattle.task_machine.proofs.Tabled.{AreSeen, table_happens, none_failing}
 use Rattle.feasible.specs.Failing.{view_at}
 use Rattle.feasible.specs.Keeping.{world_kept, AreKept, IsSettled}
-use Rattle.feasible.specs.Needs.{HasRun, HaveRun, IsStuck}
-use Rattle.feasible.specs.Recounts.{AreRecounted}
+use Rattle.feasible.specs.inner.Needs.{HasRun, HaveRun, IsStuck}
+use Rattle.feasible.specs.inner.Recounts.{AreRecounted}
 use Rattle.feasible.proofs.Running.{ran_on, steps_on}
 
 -- how a standing that waits for nobody is seen

@@ -4,7 +4,7 @@ use Rattle.std.specs.Prelude.{slice_index}
 use Rattle.std.proofs.lemmas.Bool.{eqb-true, eqb-false, eq-eqb, ne_eqb, cases_lt}
 use Rattle.std.proofs.lemmas.List.{get_or-set_same, get_or-set_other, get_or_past, length-set}
 use Rattle.event_machine.specs.Rows.{is_first}
-use Rattle.feasible.specs.Recounts.{BeginAnew}
+use Rattle.feasible.specs.inner.Recounts.{BeginAnew}
 
 -- one count begins anew
 at_one : (steps : List ℕ) (a t : ℕ) (b : Bool) → (t == a) ≡ b → slice_index (slice_set steps a 0) t ≡ (if b then 0 else slice_index steps t)

@@ -16,7 +16,7 @@ use Rattle.task_model.specs.Tasks.{Task}
 use Rattle.task_machine.specs.Table.{seat_of}
 use Rattle.task_machine.specs.Conditions.{tasks_to}
 use Rattle.feasible.specs.Keeping.{IsSettled}
-use Rattle.feasible.specs.Needs.{HasRun, HaveRun, IsStuck, IsFirstStuck, tasks_below}
+use Rattle.feasible.specs.inner.Needs.{HasRun, HaveRun, IsStuck, IsFirstStuck, tasks_below}
 
 -- ---- the steps of one task
 

@@ -6,7 +6,7 @@ ghost use Rattle.event_machine.specs.Seats.{is_served_by};
 ghost use Rattle.task_model.specs.Machine.{rules_of};
 ghost use Rattle.task_machine.specs.Table.{seat_of};
 ghost use Rattle.feasible.specs.Failing.{asked};
-ghost use Rattle.feasible.specs.Recounts.{AreRecounted, BeginAnew};
+ghost use Rattle.feasible.specs.inner.Recounts.{AreRecounted, BeginAnew};
 
 use ada_tree::Memory;
 use ada_value::Value;

@@ -9,7 +9,7 @@ ghost use Rattle.task_model.specs.Machine.{Setup};
 ghost use Rattle.task_machine.specs.Conditions.{needed_of};
 ghost use Rattle.task_machine.specs.Judging.{VerdictIs};
 ghost use Rattle.task_machine.specs.Table.{setup_in};
-ghost use Rattle.feasible.specs.Deciding.{IsDecided, taken_with, ended_with};
+ghost use Rattle.feasible.specs.inner.Deciding.{IsDecided, taken_with, ended_with};
 ghost use Rattle.feasible.specs.Failing.{view_at};
 ghost use Rattle.feasible.specs.Keeping.{StandsFor, NothingFollows, IsSettled, is_feasible, is_infeasible};
 ghost use Rattle.feasible.specs.Shown.{IsShown, Shows};
@@ -48,7 +48,7 @@ impl<'p> Model for Judge<'p> {
     ghost use Rattle.std.specs.Prelude.{◌≡◌, ◌<◌, length, vec_len};
     ghost use Rattle.std.specs.Coded.{codes};
     ghost use Rattle.ada_tree.proofs.Codes.{tree_codes};
-    ghost use Rattle.task_links.specs.SettingCode.{coded_setting};
+    ghost use Rattle.task_links.specs.inner.SettingCode.{coded_setting};
     ghost use Rattle.feasible.specs.Kept.{Kept, IsWhole};
 
     ghost Value = { Kept };

@@ -4,7 +4,7 @@ ghost use Rattle.std.specs.Prelude.{◌≡◌, ◌≤◌, ◌<◌, ◌^◌, ◌�
 ghost use Rattle.task_model.specs.Stands.{can_step};
 ghost use Rattle.task_machine.specs.Conditions.{needed_of, tasks_to};
 ghost use Rattle.feasible.specs.Keeping.{IsSettled};
-ghost use Rattle.feasible.specs.Needs.{HasRun, HaveRun, IsStuck, Settled};
+ghost use Rattle.feasible.specs.inner.Needs.{HasRun, HaveRun, IsStuck, Settled};
 
 use ada_tree::Memory;
 use event_machine::Event;

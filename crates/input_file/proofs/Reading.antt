@@ -15,8 +15,8 @@ use Rattle.input_file.specs.declared.errors.InputError.TheVariants.{BadLine, Unk
 use Rattle.input_file.specs.declared.table.Table.{Table}
 use Rattle.input_file.specs.ChoiceFiles.{most_choices, choices_of_line, choice_count, choice_fault, choice_format, IsChoiceLine, ChoicesRead}
 use Rattle.input_file.specs.InputFiles.{InputLine, IsInputLine, input_of_line, input_fault, input_format, AreListsOf, InputsRead}
-use Rattle.input_file.specs.NextLines.{IsNextChoices, IsNextInputs}
-use Rattle.input_file.specs.Tables.{IsTableOf, capped_line}
+use Rattle.input_file.specs.inner.NextLines.{IsNextChoices, IsNextInputs}
+use Rattle.input_file.specs.inner.Tables.{IsTableOf, capped_line}
 use Rattle.input_file.proofs.Choosing.{choice-laws, concat-push, concat-length}
 use Rattle.input_file.proofs.Inputting.{input-laws}
 use Rattle.input_file.proofs.Tabling.{lists-ext}

@@ -12,7 +12,7 @@ use Rattle.text_lines.proofs.Capping.{clash, capped-small, capped-large}
 use Rattle.input_file.specs.declared.errors.InputError.{InputError}
 use Rattle.input_file.specs.declared.errors.InputError.TheVariants.{BadLine, UnknownTask, TooMany}
 use Rattle.input_file.specs.declared.table.Table.{Table}
-use Rattle.input_file.specs.Tables.{IsTableOf, capped_line}
+use Rattle.input_file.specs.inner.Tables.{IsTableOf, capped_line}
 use Rattle.input_file.specs.InputFiles.{most_inputs, InputLine, has_line, values_of, input_count, has_task, input_fault, AreListsOf}
 use Rattle.input_file.proofs.Inputting.{IsSoundBehind, sound-to, has-push_other}
 

@@ -1,4 +1,3 @@
 pub mod ChoiceFiles
 pub mod InputFiles
-pub mod NextLines
-pub mod Tables
+pub mod inner

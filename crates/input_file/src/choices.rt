@@ -8,7 +8,7 @@ ghost use Rattle.text_lines.specs.Numerals.{small_number};
 ghost use Rattle.input_file.specs.declared.errors.InputError.{InputError};
 ghost use Rattle.input_file.specs.declared.errors.InputError.TheVariants.{Memory};
 ghost use Rattle.input_file.specs.ChoiceFiles.{choice_format, choice_fault, choices_of_line, ChoicesRead};
-ghost use Rattle.input_file.specs.NextLines.{IsNextChoices};
+ghost use Rattle.input_file.specs.inner.NextLines.{IsNextChoices};
 
 use super::errors::InputError;
 use std::alloc::Global;

@@ -9,8 +9,8 @@ ghost use Rattle.text_lines.specs.Capped.{capped};
 ghost use Rattle.input_file.specs.declared.errors.InputError.{InputError};
 ghost use Rattle.input_file.specs.declared.errors.InputError.TheVariants.{Memory};
 ghost use Rattle.input_file.specs.InputFiles.{InputLine, most_inputs, input_with, input_format, input_fault, input_of_line, InputsRead};
-ghost use Rattle.input_file.specs.NextLines.{IsNextInputs};
-ghost use Rattle.input_file.specs.Tables.{IsTableOf, plain_line, capped_line};
+ghost use Rattle.input_file.specs.inner.NextLines.{IsNextInputs};
+ghost use Rattle.input_file.specs.inner.Tables.{IsTableOf, plain_line, capped_line};
 
 use super::errors::InputError;
 use super::table::{Line, Table, empty_table, lay, line_fault, lists_of};

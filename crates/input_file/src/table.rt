@@ -4,7 +4,7 @@ ghost use Rattle.std.specs.Prelude.{◌≡◌, ◌<◌, ◌≤◌, ◌+◌, ◌^
 ghost use Rattle.syn_event.specs.Numbering.{Numbering};
 ghost use Rattle.input_file.specs.declared.errors.InputError.TheVariants.{Memory};
 ghost use Rattle.input_file.specs.InputFiles.{InputLine, AreListsOf, most_inputs, input_fault};
-ghost use Rattle.input_file.specs.Tables.{IsTableOf, plain_line, capped_line};
+ghost use Rattle.input_file.specs.inner.Tables.{IsTableOf, plain_line, capped_line};
 
 use super::errors::InputError;
 use std::alloc::Global;

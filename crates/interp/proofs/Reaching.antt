@@ -15,7 +15,7 @@ use Rattle.interp.specs.declared.report.RunError.{RunError}
 use Rattle.interp.specs.declared.report.RunError.TheVariants.{Memory, Sink}
 use Rattle.run_model.specs.Picked.{Position, at_start, halted, picked_action, went_on, turned_by, turned, after_turns, picked, ending}
 use Rattle.run_model.specs.Lines.{lines_of, event_line}
-use Rattle.interp.specs.Chosen.{IsPicked, IsBroken}
+use Rattle.interp.specs.inner.Chosen.{IsPicked, IsBroken}
 use Rattle.interp.specs.CutOff.{IsCutOff}
 
 -- After n turns, in each of which an action was made, the code's values are those of the picked run.

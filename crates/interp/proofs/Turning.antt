@@ -16,7 +16,7 @@ use Rattle.run_model.specs.declared.report.RunEnd.{RunEnd}
 use Rattle.interp.specs.declared.report.RunError.TheVariants.{Sink}
 use Rattle.run_model.specs.Lines.{lines_of}
 use Rattle.run_model.specs.Picked.{picked_action, halted}
-use Rattle.interp.specs.Chosen.{IsBroken, IsPicked}
+use Rattle.interp.specs.inner.Chosen.{IsBroken, IsPicked}
 
 -- what a write that went well has written
 pub written : {A : Type 0} (E : Type 0) (x : A) (told told' : Option (List ℕ)) (bytes : List ℕ) → Wrote {E = E} (Ok x) told told' bytes → told' ≡ appended told bytes

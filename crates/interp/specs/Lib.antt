@@ -1,3 +1,2 @@
 pub mod CutOff
-pub mod Chosen
-pub mod Gathered
+pub mod inner

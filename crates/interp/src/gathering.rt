@@ -18,7 +18,7 @@ pub(crate) struct Line {
 
 impl Model for Line {
     ghost use Rattle.std.specs.Prelude.{◌≤◌, take};
-    ghost use Rattle.interp.specs.Gathered.{Gathered};
+    ghost use Rattle.interp.specs.inner.Gathered.{Gathered};
 
     ghost Value = { Gathered };
 

@@ -5,7 +5,7 @@ ghost use Rattle.event_machine.specs.declared.Action.TheVariants.{End};
 ghost use Rattle.ded_io.specs.Counts.{Rose, HasCause};
 ghost use Rattle.ded_io.specs.Written.{Wrote, appended};
 ghost use Rattle.interp.specs.CutOff.{IsCutOff};
-ghost use Rattle.interp.specs.Chosen.{IsChosen, IsBroken};
+ghost use Rattle.interp.specs.inner.Chosen.{IsChosen, IsBroken};
 ghost use Rattle.run_model.specs.Lines.{event_line, lines_of};
 ghost use Rattle.run_model.specs.Picked.{picked, ending, halted};
 ghost use Rattle.task_model.specs.Machine.{after, event_of, enabled_of};

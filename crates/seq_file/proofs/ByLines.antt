@@ -10,7 +10,7 @@ use Rattle.seq_file.specs.declared.errors.SeqError.{SeqError}
 use Rattle.seq_file.specs.declared.errors.SeqError.TheVariants.{AfterEnd, TooMany}
 use Rattle.seq_file.specs.Files.{most_events, IsReadBehind, has_ended, SeqReads, HasFirstFault, fault_of_event, line_fault, open_fault}
 use Rattle.seq_file.specs.Lines.{event_of_line}
-use Rattle.seq_file.specs.NextEvents.{IsEventLine, IsBehindHeader}
+use Rattle.seq_file.specs.inner.NextEvents.{IsEventLine, IsBehindHeader}
 use Rattle.seq_file.specs.Short.{IsShort}
 use Rattle.seq_file.proofs.Filing.{IsReadTo, read-start, read-end, read-fault}
 

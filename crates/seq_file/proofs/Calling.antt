@@ -10,7 +10,7 @@ use Rattle.seq_file.specs.declared.lines.Verdict.TheVariants.{Known, BadNumber}
 use Rattle.text_lines.specs.Capped.{capped, capped_integer}
 use Rattle.seq_file.specs.Known.{is_task, is_member, is_call, is_index, is_known}
 use Rattle.seq_file.specs.Lines.{with_three}
-use Rattle.seq_file.specs.Verdicts.{verdict_of}
+use Rattle.seq_file.specs.inner.Verdicts.{verdict_of}
 use Rattle.text_lines.proofs.Capping.{clash, some-is, capped-le}
 use Rattle.seq_file.proofs.Indexing.{index-same, index-exact, index-fits, member-test}
 use Rattle.seq_file.proofs.Knowing.{IsTest, task-test, low-same}

@@ -17,7 +17,7 @@ use Rattle.seq_file.specs.Files.{most_events, header_line, event_line, SeqText, 
 use Rattle.seq_file.specs.Known.{is_known}
 use Rattle.text_lines.specs.Lines.{is_line_end, first_line, cut}
 use Rattle.seq_file.specs.Lines.{event_of_line, is_upper_name}
-use Rattle.seq_file.specs.NextEvents.{IsNextEvent, IsEventLine, IsBehindHeader}
+use Rattle.seq_file.specs.inner.NextEvents.{IsNextEvent, IsEventLine, IsBehindHeader}
 use Rattle.text_lines.proofs.Capping.{clash}
 use Rattle.seq_file.proofs.Heading.{header-sound, header-begins}
 use Rattle.text_lines.proofs.Marking.{left_of, right_of, cut-at_mark, cut-parts, first-line_cut}

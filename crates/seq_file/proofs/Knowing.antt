@@ -8,7 +8,7 @@ use Rattle.seq_file.specs.declared.lines.Verdict.TheVariants.{Known, BadNumber}
 use Rattle.text_lines.specs.Capped.{capped}
 use Rattle.seq_file.specs.Known.{is_task, is_task_beside_main, is_alternative, is_known}
 use Rattle.seq_file.specs.Lines.{with_two}
-use Rattle.seq_file.specs.Verdicts.{verdict_of}
+use Rattle.seq_file.specs.inner.Verdicts.{verdict_of}
 use Rattle.text_lines.proofs.Capping.{capped-small, capped-large, clash, some-is}
 
 -- a test that no number from the cap on passes, and to which the cap is like every such number

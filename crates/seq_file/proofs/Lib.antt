@@ -7,3 +7,5 @@ pub mod Wording
 pub mod Heading
 pub mod Filing
 pub mod ByLines
+pub mod MainNames
+pub mod EndLemmas

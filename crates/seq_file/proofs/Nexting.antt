@@ -10,8 +10,8 @@ use Rattle.seq_file.specs.declared.lines.Verdict.TheVariants.{Known, BadNumber, 
 use Rattle.seq_file.specs.declared.errors.SeqError.{SeqError}
 use Rattle.seq_file.specs.Files.{most_events}
 use Rattle.seq_file.specs.Known.{is_known}
-use Rattle.seq_file.specs.NextEvents.{IsNextEvent, IsEventLine}
-use Rattle.seq_file.specs.Verdicts.{verdict_of}
+use Rattle.seq_file.specs.inner.NextEvents.{IsNextEvent, IsEventLine}
+use Rattle.seq_file.specs.inner.Verdicts.{verdict_of}
 use Rattle.text_lines.proofs.Capping.{clash}
 
 abbrev event_in : Verdict → Event

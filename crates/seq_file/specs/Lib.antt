@@ -2,7 +2,5 @@ pub mod Lines
 pub mod Known
 pub mod Files
 pub mod Short
-pub mod WordLists
-pub mod Verdicts
-pub mod NextEvents
 pub mod Stepping
+pub mod inner

@@ -5,10 +5,10 @@
 
 mod errors;
 mod known;
+mod line_words;
 mod lines;
 mod reading;
 mod stepping;
-mod words;
 mod writing;
 
 pub use errors::SeqError;

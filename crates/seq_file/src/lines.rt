@@ -11,12 +11,12 @@ ghost use Rattle.event_machine.specs.declared.Event.{Event};
 ghost use Rattle.text_lines.specs.Numerals.{count, integer};
 ghost use Rattle.seq_file.specs.Lines.{event_of_line, header_of_line, lone_event, task_event, pair_event, call_event, with_three, header_with, upper_name, is_upper_name, every, name_goes_on, is_name_part, is_capital};
 ghost use Rattle.seq_file.specs.Known.{is_known};
-ghost use Rattle.seq_file.specs.Verdicts.{verdict_of};
+ghost use Rattle.seq_file.specs.inner.Verdicts.{verdict_of};
 ghost use Rattle.seq_file.specs.Files.{fault_of_header};
 
 use super::errors::SeqError;
 use super::known::{is_abort, is_call, is_task_beside_main, is_wait};
-use super::words::{Words, is_letter, is_text, split_words};
+use super::line_words::{Words, is_letter, is_text, split_words};
 use ada_tree::Names;
 use syn_event::{EntryInfo, Event, Numbers, TaskInfo};
 use text_lines::{count, integer, is_digit};

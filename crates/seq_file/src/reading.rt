@@ -8,7 +8,7 @@ ghost use Rattle.syn_event.specs.Units.{text_of};
 ghost use Rattle.text_lines.specs.Lines.{first_line, is_line_end, cut};
 ghost use Rattle.seq_file.specs.Lines.{is_upper_name, event_of_line};
 ghost use Rattle.seq_file.specs.Files.{SeqReads, HasFirstFault, header_fault, line_fault, fault_of_event, is_end};
-ghost use Rattle.seq_file.specs.NextEvents.{IsNextEvent, IsEventLine, IsBehindHeader};
+ghost use Rattle.seq_file.specs.inner.NextEvents.{IsNextEvent, IsEventLine, IsBehindHeader};
 ghost use Rattle.seq_file.specs.Short.{IsShort};
 
 use super::errors::SeqError;

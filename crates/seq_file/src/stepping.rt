@@ -2,7 +2,7 @@
 
 ghost use Rattle.std.specs.Prelude.{◌≡◌, ◌<◌, ◌+◌, ◌-◌, ◌^◌, false, Some, IfOk, IfErr, length};
 ghost use Rattle.seq_file.specs.Files.{open_fault};
-ghost use Rattle.seq_file.specs.NextEvents.{IsEventLine};
+ghost use Rattle.seq_file.specs.inner.NextEvents.{IsEventLine};
 
 use super::errors::SeqError;
 use super::reading::{behind_header, is_end, line_event};

@@ -1,14 +1,14 @@
 // Writing a sequence file.
 
-ghost use Rattle.std.specs.Prelude.{◌≡◌, ◌<◌, ◌^◌, decimal, length};
+ghost use Rattle.std.specs.Prelude.{◌≡◌, ◌<◌, ◌^◌, length};
 ghost use Rattle.ded_io.specs.Counts.{HasCause};
 ghost use Rattle.ded_io.specs.Written.{Wrote, each_text};
 ghost use Rattle.seq_file.specs.Files.{AreFit, SeqReads, SeqText, header_line, event_line};
 
 use super::lines::{original_entries, original_tasks};
 use ada_tree::Names;
+use decimal_text::put_number;
 use ded_io::{Sink, SinkError};
-use itoa::Buffer;
 use syn_event::{Event, Numbers, name_of, show};
 
 /// Appends a sequence file: the header of the program, and a line for each event, in order.
@@ -41,14 +41,6 @@ fn put_header<K: Sink>(numbers: &Numbers, names: &Names, out: &mut K) -> Result<
     out.put(b" ")?;
     put_number(original_entries(&numbers.entries), out)?;
     out.put(b"\n")
-}
-
-fn put_number<K: Sink>(n: u64, out: &mut K) -> Result<(), SinkError>
-    ensures bytes { Wrote result (K.told out.old) (K.told out.new) (decimal n) }
-    ensures cause { HasCause (K.faults out.old) (K.faults out.new) result }
-{
-    let mut buffer = Buffer::new();
-    out.put(buffer.format(n).as_bytes())
 }
 
 // Appends a line for each event.

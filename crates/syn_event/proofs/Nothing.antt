@@ -1,8 +1,8 @@
 -- Lists of which nothing is left, and tests that fail.
-use Rattle.std.proofs.Common.{◌≡◌, Bool, true, false, cond, List, [], ◌∷◌, ◌++◌, length, map, flat_map, refl, ap, arith}
+use Rattle.std.proofs.Common.{◌≡◌, Bool, true, false, cond, List, [], ◌∷◌, ◌++◌, length, map, refl, ap, arith}
 use Rattle.std.specs.List.{AllByRecursion}
 
-pub cons_something : {A : Type 0} (x : A) (xs : List A) → x ∷ xs ≡ [] → ⊥
+cons_something : {A : Type 0} (x : A) (xs : List A) → x ∷ xs ≡ [] → ⊥
 cons_something x xs h = omega (arith, ap (λ (ys : List _). length ys) h)
 
 pub append_nothing : {A : Type 0} (xs ys : List A) → xs ++ ys ≡ [] → (xs ≡ []) × (ys ≡ [])
@@ -13,18 +13,10 @@ pub map_nothing : {A B : Type 0} (f : A → B) (xs : List A) → map f xs ≡ []
 map_nothing f [] h = refl
 map_nothing f (x ∷ xs) h = absurd (cons_something (f x) (map f xs) h)
 
-pub flat_nothing : {A B : Type 0} (f : A → List B) (xs : List A) → flat_map f xs ≡ [] → AllByRecursion (λ x. f x ≡ []) xs
-flat_nothing f [] h = tt
-flat_nothing f (x ∷ xs) h = ((append_nothing (f x) (flat_map f xs) h).0, flat_nothing f xs (append_nothing (f x) (flat_map f xs) h).1)
-
--- what is told where a test holds
+-- a test, where what is told where it holds is nothing
 pub test_fails : {A : Type 0} (b : Bool) (x : A) → cond b (x ∷ []) [] ≡ [] → b ≡ false
 test_fails true x h = absurd (cons_something x [] h)
 test_fails false x h = refl
-
-pub test_holds : {A : Type 0} (b : Bool) (x : A) → cond b [] (x ∷ []) ≡ [] → b ≡ true
-test_holds true x h = refl
-test_holds false x h = absurd (cons_something x [] h)
 
 -- all of two lists
 pub all_front : {A : Type 0} (P : A → Type 0) (xs ys : List A) → AllByRecursion P (xs ++ ys) → AllByRecursion P xs
@@ -34,8 +26,3 @@ all_front P (x ∷ xs) ys h = (h.0, all_front P xs ys h.1)
 pub all_back : {A : Type 0} (P : A → Type 0) (xs ys : List A) → AllByRecursion P (xs ++ ys) → AllByRecursion P ys
 all_back P [] ys h = h
 all_back P (x ∷ xs) ys h = all_back P xs ys h.1
-
--- all of many lists
-pub all_flat : {A B : Type 0} (P : B → Type 0) (f : A → List B) (xs : List A) → AllByRecursion P (flat_map f xs) → AllByRecursion (λ x. AllByRecursion P (f x)) xs
-all_flat P f [] h = tt
-all_flat P f (x ∷ xs) h = (all_front P (f x) (flat_map f xs) h, all_flat P f xs (all_back P (f x) (flat_map f xs) h))

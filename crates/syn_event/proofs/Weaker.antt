@@ -1,5 +1,5 @@
 -- What is asked of every part of a program, where less is asked. So a program that is well placed has names, numbers and strings that the source can hold.
-use Rattle.std.proofs.Common.{◌≡◌, ℕ, ◌+◌, Bool, List, [], ◌∷◌, length, map, Option, Some, None, IfSome, All}
+use Rattle.std.proofs.Common.{ℕ, ◌+◌, Bool, List, length, map, Option, Some, None, IfSome, All}
 use Rattle.std.proofs.lemmas.List.Elements.{All-weaker}
 use Rattle.ada_tree.specs.declared.naming.NameId.{NameId}
 use Rattle.ada_tree.specs.declared.naming.Word.{Word}

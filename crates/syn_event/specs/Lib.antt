@@ -3,9 +3,6 @@ pub mod Origin
 pub mod EventText
 pub mod Units
 pub mod Numbered
-pub mod FirstTypes
-pub mod Forms
-pub mod Legal
 pub mod TaskText
 pub mod Limits
 pub mod Extents
@@ -27,4 +24,4 @@ pub mod RuleRaisePlace
 pub mod RuleLimit
 pub mod CheckRefusals
 pub mod AllNumbers
-pub mod LegalProgram
+pub mod Legal

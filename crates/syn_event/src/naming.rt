@@ -8,10 +8,9 @@ ghost use Rattle.syn_event.specs.TaskText.{task_text, member_text};
 ghost use Rattle.syn_event.specs.Units.{text_of};
 
 use crate::TaskInfo;
-use crate::showing::put_number;
 use ada_tree::{NameId, Names};
+use decimal_text::{put_number, put_signed};
 use ded_io::{Sink, SinkError};
-use itoa::Buffer;
 
 /// The bytes of a name, which are none where the names have no such id.
 pub fn name_of(names: &Names, id: NameId) -> &[u8]
@@ -37,7 +36,7 @@ pub fn show_task<K: Sink>(
     ensures cause { HasCause (K.faults out.old) (K.faults out.new) result }
 {
     out.put(b"task ")?;
-    put_number(t, out)?;
+    put_number(t as u64, out)?;
     out.put(b" ")?;
     out.put(name_of(names, info.name))?;
     put_member(info.member, out)
@@ -51,9 +50,8 @@ fn put_member<K: Sink>(member: Option<i32>, out: &mut K) -> Result<(), SinkError
 {
     match member {
         Some(index) => {
-            let mut buffer = Buffer::new();
             out.put(b"(")?;
-            out.put(buffer.format(index).as_bytes())?;
+            put_signed(index, out)?;
             out.put(b")")
         }
         None => Ok(()),

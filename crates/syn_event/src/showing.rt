@@ -1,14 +1,13 @@
 // The text of an event.
 
-ghost use Rattle.std.specs.Prelude.{◌≡◌, ◌≤◌, decimal};
-ghost use Rattle.std.specs.Fmt.{signed_decimal};
+ghost use Rattle.std.specs.Prelude.{◌≡◌, ◌≤◌};
 ghost use Rattle.ded_io.specs.Counts.{HasCause};
 ghost use Rattle.ded_io.specs.Written.{Wrote};
 ghost use Rattle.syn_event.specs.EventText.{event_text, call_text, one_text, two_text};
 
 use crate::Event;
+use decimal_text::{put_number, put_signed};
 use ded_io::{Sink, SinkError};
-use itoa::Buffer;
 
 /// Appends the text of an event, without the end of its line: its letter and its numbers in decimal, one blank between them.
 /// After an error a front of the text was appended. It takes no memory.
@@ -38,9 +37,9 @@ fn put_call<K: Sink>(letter: &[u8], c: u32, e: u32, i: i32, out: &mut K) -> Resu
     ensures cause { HasCause (K.faults out.old) (K.faults out.new) result }
 {
     out.put(letter)?;
-    put_number(c, out)?;
+    put_number(c as u64, out)?;
     out.put(b" ")?;
-    put_number(e, out)?;
+    put_number(e as u64, out)?;
     out.put(b" ")?;
     put_signed(i, out)
 }
@@ -52,7 +51,7 @@ fn put_one<K: Sink>(letter: &[u8], a: u32, out: &mut K) -> Result<(), SinkError>
     ensures cause { HasCause (K.faults out.old) (K.faults out.new) result }
 {
     out.put(letter)?;
-    put_number(a, out)
+    put_number(a as u64, out)
 }
 
 // A letter with its blank, and two numbers.
@@ -62,25 +61,7 @@ fn put_two<K: Sink>(letter: &[u8], a: u32, b: u32, out: &mut K) -> Result<(), Si
     ensures cause { HasCause (K.faults out.old) (K.faults out.new) result }
 {
     out.put(letter)?;
-    put_number(a, out)?;
+    put_number(a as u64, out)?;
     out.put(b" ")?;
-    put_number(b, out)
-}
-
-// A number in decimal.
-pub(crate) fn put_number<K: Sink>(n: u32, out: &mut K) -> Result<(), SinkError>
-    ensures bytes { Wrote result (K.told out.old) (K.told out.new) (decimal n) }
-    ensures cause { HasCause (K.faults out.old) (K.faults out.new) result }
-{
-    let mut buffer = Buffer::new();
-    out.put(buffer.format(n).as_bytes())
-}
-
-// A number in decimal, with `-` before a negative one.
-fn put_signed<K: Sink>(n: i32, out: &mut K) -> Result<(), SinkError>
-    ensures bytes { Wrote result (K.told out.old) (K.told out.new) (signed_decimal n) }
-    ensures cause { HasCause (K.faults out.old) (K.faults out.new) result }
-{
-    let mut buffer = Buffer::new();
-    out.put(buffer.format(n).as_bytes())
+    put_number(b as u64, out)
 }

@@ -10,8 +10,8 @@ use Rattle.event_machine.specs.declared.Event.TheVariants.{R, E, S, D, C, T, F, 
 use Rattle.event_machine.specs.Soundness.{times}
 use Rattle.event_machine.specs.Worlds.{is_last}
 use Rattle.event_progress.specs.Known.{Party, idle, idle_parties, party, part, fall, has_callers, is_innermost, is_by, advanced}
-use Rattle.syn_progress.specs.declared.members.Member.{Member}
-use Rattle.syn_progress.specs.Members.{no_member, idle_member, member_at, chain, open_server, seen, known_of, IsLinked}
+use Rattle.syn_progress.specs.declared.task_records.Member.{Member}
+use Rattle.syn_progress.specs.TaskRecords.{no_member, idle_member, member_at, chain, open_server, seen, known_of, IsLinked}
 use Rattle.syn_progress.proofs.Tables.{at_known}
 
 -- ---- callers

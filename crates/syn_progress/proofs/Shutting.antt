@@ -6,8 +6,8 @@ use Rattle.std.proofs.lemmas.List.{length-set, length-map}
 use Rattle.event_machine.specs.Soundness.{times}
 use Rattle.event_progress.specs.Known.{Party, Known, party, complete, let_go, fall, with_server, has_callers, is_by, is_closed, is_free}
 use Rattle.event_progress.proofs.Parties.{put_self, put_other, all_let_go, let_go_at}
-use Rattle.syn_progress.specs.declared.members.Member.{Member}
-use Rattle.syn_progress.specs.Members.{member_at, chain, open_server, seen, known_of, IsLinked, shut}
+use Rattle.syn_progress.specs.declared.task_records.Member.{Member}
+use Rattle.syn_progress.specs.TaskRecords.{member_at, chain, open_server, seen, known_of, IsLinked, shut}
 use Rattle.syn_progress.proofs.Tables.{at_known, at_self, at_other, set_keeps, count_keeps, count_same, count_split, open_some, free_parts, open_below, chain_same, known_by}
 
 module _ (ms : List Member) (served : ℕ) (linked : IsLinked ms served) (x : ℕ) (open' : (member_at ms x).closed ≡ false) where

@@ -8,8 +8,8 @@ use Rattle.std.proofs.lemmas.List.Sums.{sum_by-set, sum_by-cons}
 use Rattle.event_machine.specs.Soundness.{times}
 use Rattle.event_machine.proofs.Basics.{not_false}
 use Rattle.event_progress.specs.Known.{Party, nobody, party, is_by, is_free}
-use Rattle.syn_progress.specs.declared.members.Member.{Member}
-use Rattle.syn_progress.specs.Members.{no_member, member_at, chain, open_server, seen, known_of}
+use Rattle.syn_progress.specs.declared.task_records.Member.{Member}
+use Rattle.syn_progress.specs.TaskRecords.{no_member, member_at, chain, open_server, seen, known_of}
 
 pub at_known : (ms : List Member) (ended : Bool) (t : ℕ) → party (known_of ms ended) t ≡ seen ms (member_at ms t)
 at_known ms ended t = get_or-map (seen ms) ms t no_member

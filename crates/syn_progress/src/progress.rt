@@ -3,10 +3,10 @@
 ghost use Rattle.std.specs.Prelude.{◌≡◌, ◌==◌, ◌<◌, ◌^◌, if◌then◌else◌, true, false, length, map, replicate, IfOk};
 ghost use Rattle.event_progress.specs.Known.{at_start, admits, suits, advanced, touches, is_closed as known_closed, is_free as known_free, is_innermost, is_served_by, has_callers as known_callers, meet as known_met, part as known_parted, complete as known_completed, fall, party};
 ghost use Rattle.syn_event.specs.Numbering.{owner_of};
-ghost use Rattle.syn_progress.specs.Members.{IsLinked, known_of, seen, idle_member};
+ghost use Rattle.syn_progress.specs.TaskRecords.{IsLinked, known_of, seen, idle_member};
 ghost use Rattle.event_machine.specs.Worlds.{is_last};
 
-use crate::members::{Member, close, depth, innermost, is_closed, meet, part, server};
+use crate::task_records::{Member, close, depth, innermost, is_closed, meet, part, server};
 use ada_tree::Memory;
 use event_machine::Event;
 use std::alloc::Global;
@@ -25,7 +25,7 @@ pub struct Progress {
 impl Model for Progress {
     ghost use Rattle.std.specs.Prelude.{◌<◌, ◌^◌, vec_len};
     ghost use Rattle.event_progress.specs.Known.{Known};
-    ghost use Rattle.syn_progress.specs.Members.{IsLinked, known_of};
+    ghost use Rattle.syn_progress.specs.TaskRecords.{IsLinked, known_of};
 
     ghost Value = { Known };
 

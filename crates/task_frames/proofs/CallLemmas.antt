@@ -18,7 +18,7 @@ use Rattle.task_frames.specs.declared.places.Frame.{Frame}
 use Rattle.task_frames.specs.declared.landing.Landing.{Landing}
 use Rattle.task_frames.specs.Stack.{Stack, control_on, with_part, passed}
 use Rattle.task_frames.specs.Seen.{seen_handlers, on_parts, all_parts, parts_of, stack_of, IsUnit, IsGrounded, is_over}
-use Rattle.task_frames.specs.Catching.{caught_in, holds_exits, is_exited, parameters_in}
+use Rattle.task_frames.specs.inner.Catching.{caught_in, holds_exits, is_exited, parameters_in}
 use Rattle.task_frames.specs.Moves.{Settles, IsRaisedTo, IsLeftWith, IsExitedTo, IsPushed, Closes, LeavesLoop}
 use Rattle.task_frames.proofs.StackLemmas.{popped, two_pushed, settled_pops, raise_beyond, exit_held, exit_left, exit_passes}
 use Rattle.task_frames.proofs.MovesLemmas.{is_pushed, closes}

@@ -16,7 +16,7 @@ use Rattle.task_frames.specs.declared.places.Place.TheVariants as stands
 use Rattle.task_frames.specs.declared.places.Frame.{Frame}
 use Rattle.task_frames.specs.Stack.{Stack, control_on, with_part, passed}
 use Rattle.task_frames.specs.Seen.{turns_as, seen_handlers, on_parts, all_parts, parts_of, stack_of, IsUnit, IsGrounded, is_over}
-use Rattle.task_frames.specs.Catching.{unit_caught, block_caught, caught_in, holds_exits, is_exited, parameters_in, handled_in, caller_in}
+use Rattle.task_frames.specs.inner.Catching.{unit_caught, block_caught, caught_in, holds_exits, is_exited, parameters_in, handled_in, caller_in}
 use Rattle.task_frames.specs.Moves.{Settles, IsRaisedTo, IsExitedTo}
 
 -- ---- lists

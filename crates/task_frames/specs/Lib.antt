@@ -1,5 +1,5 @@
 pub mod Stack
 pub mod Seen
-pub mod Catching
 pub mod Moves
 pub mod Coming
+pub mod inner

@@ -74,7 +74,7 @@ impl<'p> Turns<'p> {
 
 impl<'p> Frame<'p> {
     ghost use Rattle.task_frames.specs.Seen.{is_over, stack_of, parts_of, IsGrounded, IsSettled};
-    ghost use Rattle.task_frames.specs.Catching.{caught_in, holds_exits, is_exited, parameters_in, handled_in, caller_in};
+    ghost use Rattle.task_frames.specs.inner.Catching.{caught_in, holds_exits, is_exited, parameters_in, handled_in, caller_in};
     ghost use Rattle.task_frames.specs.Stack.{with_part, passed};
 
     // The statements behind the next one.
@@ -232,7 +232,7 @@ impl<'p> Frame<'p> {
 ghost use Rattle.std.specs.Prelude.{◌==◌};
 ghost use Rattle.std.specs.List.{list_any};
 ghost use Rattle.task_frames.specs.Seen.{stack_of, seen_handlers, parts_of, IsUnit, IsGrounded};
-ghost use Rattle.task_frames.specs.Catching.{unit_caught, block_caught};
+ghost use Rattle.task_frames.specs.inner.Catching.{unit_caught, block_caught};
 ghost use Rattle.task_frames.specs.Stack.{with_part};
 
 // The unit's body as an exception comes to it: in its handler, or at its end.

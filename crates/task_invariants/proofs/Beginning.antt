@@ -12,7 +12,7 @@ use Rattle.task_model.specs.Tasks.{Task}
 use Rattle.task_model.specs.Machine.{Setup, setting_of, first_tasks, opening_of}
 use Rattle.task_model.specs.Laws.{program_in, first_world}
 use Rattle.task_model.proofs.Following.{opens}
-use Rattle.task_invariants.specs.Heads.{InStmts, InHandlers, InBody}
+use Rattle.task_invariants.specs.AcceptHeads.{InStmts, InHandlers, InBody}
 use Rattle.task_invariants.specs.Holding.{openings_in}
 use Rattle.task_invariants.specs.Worlds.{Conforms, IsWellMade, IsIn, AreLinked, KeptFirst, KeptOn}
 use Rattle.task_invariants.proofs.Keeping.{kept_moved}

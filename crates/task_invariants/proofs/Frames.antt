@@ -6,7 +6,7 @@ use Rattle.ada_tree.specs.PlainStmt.{PHead, PStmts, no_stmt, stmt_then, PHandler
 use Rattle.ada_value.specs.declared.values.Raised.{Raised}
 use Rattle.ada_value.specs.Variables.{Variables}
 use Rattle.task_model.specs.Frames.{Turns, Around, Whole, Block, Handling, Loop, Opened, Part, Control, control, in_front, settled_in, settled, is_for, handler_for, unit_with, block_with, raised_in, is_left, exited_in, brought_by, brought}
-use Rattle.task_invariants.specs.Heads.{InStmts, InHandlers, InPlace, InParts}
+use Rattle.task_invariants.specs.AcceptHeads.{InStmts, InHandlers, InPlace, InParts}
 use Rattle.task_invariants.specs.Holding.{Own, HeldIn, IsHeld, Opening, opening_at, openings_among, openings_in}
 
 module _ (Head : PHead → Type 0) where

@@ -6,7 +6,7 @@ use Rattle.syn_event.specs.Numbering.{task_at}
 use Rattle.task_model.specs.Starting.{unit_of_info}
 use Rattle.task_model.specs.Setting.{formals_of_info, parameters_of, entry_parameters}
 use Rattle.task_model.specs.Starting.{unit_of}
-use Rattle.task_invariants.specs.Heads.{InBody}
+use Rattle.task_invariants.specs.AcceptHeads.{InBody}
 use Rattle.task_invariants.specs.Holding.{LowersFit}
 use Rattle.task_invariants.specs.Worlds.{Conforms, IsWellMade}
 use Rattle.task_invariants.specs.Example.{example_setting, example, IsMet}

@@ -19,7 +19,7 @@ use Rattle.task_model.specs.Tasks.{Task, rest_of, place_of, outer_of, vars_of, s
 use Rattle.task_model.specs.Calls.{Called, called, call_in, opened_objects, Copies, copied_back}
 use Rattle.task_model.specs.Waits.{Open, Accepts, Delays, Terminates, guard_holds, accept_opened, kind_opened, delays_with, opened_if, alternatives_open, open_at, accept_choice, delay_choice, terminate_choice, else_choice, choices_of, accepts_member, first_accepting, accepting_at, alternative_for, delay_part, delay_here, delay_stmts}
 use Rattle.task_model.specs.Rendezvous as rendezvous
-use Rattle.task_invariants.specs.Heads.{InStmt, InStmts, InMaybe, InAccept, InAltKind, InAlts, InPlace, InParts}
+use Rattle.task_invariants.specs.AcceptHeads.{InStmt, InStmts, InMaybe, InAccept, InAltKind, InAlts, InPlace, InParts}
 use Rattle.task_invariants.specs.Holding.{AreHeld, HeldIn, IsHeld, Opening, opening_at, openings_among, openings_in}
 use Rattle.task_invariants.proofs.Variables.{AreSame, same_self, copied_same, ok_path, err_ok, Chain, chain, opened_drop}
 use Rattle.task_invariants.proofs.Frames.{Good, in_front_in, good_settled, good_settle, good_raised}

@@ -16,7 +16,7 @@ use Rattle.task_model.specs.Frames.{Turns, Endless, While, Counting, Around, Who
 use Rattle.task_model.specs.Tasks.{Task, rest_of, place_of, outer_of, vars_of, value_of, stmts_or_none, with_vars, with_input, with_text, gone_to, entered, pushed, raised_there, or_raised}
 use Rattle.task_model.specs.Steps as steps
 use Rattle.task_model.specs.Stands.{Stand, Steps, Raises, At, stand_of, stepped, stepped_by, stepped_with, stepped_at, stepped_behind}
-use Rattle.task_invariants.specs.Heads.{InStmt, InStmts, InMaybe, InArms, InCaseArms, InHandlers, InPlace, InParts}
+use Rattle.task_invariants.specs.AcceptHeads.{InStmt, InStmts, InMaybe, InArms, InCaseArms, InHandlers, InPlace, InParts}
 use Rattle.task_invariants.specs.Holding.{IsHeld, Opening, opening_at, openings_among, openings_in}
 use Rattle.task_invariants.proofs.Variables.{AreSame, same_self, is_held_same, set_same, ok_path, Chain, chain}
 use Rattle.task_invariants.proofs.Frames.{Good, in_front_in, good_settled, good_settle, good_raised, good_exited}

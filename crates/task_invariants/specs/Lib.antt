@@ -1,4 +1,4 @@
-pub mod Heads
+pub mod AcceptHeads
 pub mod Holding
 pub mod Worlds
 pub mod Example

@@ -12,7 +12,7 @@ use Rattle.task_model.specs.Calls.{Called, call_in, called_by}
 use Rattle.task_model.specs.Starting.{unit_of}
 use Rattle.task_model.specs.Machine.{Setup, setting_of}
 use Rattle.task_model.specs.Laws.{IsProper, program_in, first_world}
-use Rattle.task_invariants.specs.Heads.{InStmts, InPlace, InParts, InBody}
+use Rattle.task_invariants.specs.AcceptHeads.{InStmts, InPlace, InParts, InBody}
 use Rattle.task_invariants.specs.Holding.{LowersFit, AreAlike, IsHeld, Opening, openings_in}
 
 -- an accept statement of this task has the modes and subtypes of its entry's formals (9.5)

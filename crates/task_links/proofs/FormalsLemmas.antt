@@ -12,7 +12,7 @@ use Rattle.ada_value.specs.declared.values.Limits.{Limits}
 use Rattle.ada_value.specs.Values.{limits_named}
 use Rattle.task_model.specs.declared.parameters.FormalParameter.{FormalParameter}
 use Rattle.task_model.specs.Setting.{parameters_in, parameters_of}
-use Rattle.task_links.specs.Made.{parameter_named}
+use Rattle.task_links.specs.inner.Made.{parameter_named}
 
 pub name_step : (mode : ParMode) (limits : Limits) (start so_far grown : List FormalParameter) (words : List Word) (i : ℕ) (d : Word) → i < length words
     → so_far ≡ start ++ map (parameter_named mode limits) (take i words)

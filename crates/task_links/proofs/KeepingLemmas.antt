@@ -24,7 +24,7 @@ use Rattle.ada_value.specs.Evaluating.{constant_value, literal_value}
 use Rattle.syn_event.specs.declared.numbering.TaskInfo.{TaskInfo}
 use Rattle.syn_event.specs.declared.numbering.EntryInfo.{EntryInfo}
 use Rattle.task_model.specs.Setting.{is_member}
-use Rattle.task_links.specs.Keys.{entry_eq, member_eq}
+use Rattle.task_links.specs.inner.Keys.{entry_eq, member_eq}
 
 pub on_ok : {A E P Q : Type 0} (r : Result A E) → (P → Q) → OnOk r P → OnOk r Q
 on_ok (Ok x) f h = f h

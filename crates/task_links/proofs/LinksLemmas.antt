@@ -12,7 +12,7 @@ use Rattle.syn_event.specs.declared.numbering.EntryInfo.{EntryInfo}
 use Rattle.syn_event.specs.Numbering.{task_at, entry_at}
 use Rattle.task_model.specs.declared.parameters.FormalParameter.{FormalParameter}
 use Rattle.task_model.specs.Setting.{Setting, parameters_of, unit_named, formals_of_entry, formals_in, formals_of_unit, formals_of_info, entry_parameters}
-use Rattle.task_links.specs.Made.{KeepsEntries, formals_declared_in, kept_for_task, kept_for_info, kept_for_entry}
+use Rattle.task_links.specs.inner.Made.{KeepsEntries, formals_declared_in, kept_for_task, kept_for_info, kept_for_entry}
 
 among_is : (types : TypeTable) (o : Option PEntry) → unwrap_or (option_map (λ (e : PEntry). parameters_of types e.formals) o) [] ≡ parameters_of types (formals_of_entry o)
 among_is types None = refl

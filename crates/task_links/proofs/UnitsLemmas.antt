@@ -15,8 +15,8 @@ use Rattle.ada_tree.specs.PlainDecl.{PEntry, PTask, PDecl, DNumber, DObject, DEn
 use Rattle.syn_event.specs.Units.{decl_list, tasks_in}
 use Rattle.task_model.specs.Setting.{parameters_of}
 use Rattle.task_model.specs.declared.parameters.FormalParameter.{FormalParameter}
-use Rattle.task_links.specs.Keys.{entry_eq}
-use Rattle.task_links.specs.Made.{KeepsUnits, formals_at, formals_among, formals_declared_in, formals_declared}
+use Rattle.task_links.specs.inner.Keys.{entry_eq}
+use Rattle.task_links.specs.inner.Made.{KeepsUnits, formals_at, formals_among, formals_declared_in, formals_declared}
 use Rattle.task_links.proofs.KeepingLemmas.{or_none, more, map_first, map_if, find_push, made_push, lookup_same, kept_test, put, entry_equiv}
 
 abbrev name_of : PTask → ℕ

@@ -1,3 +1,1 @@
-pub mod Keys
-pub mod Made
-pub mod SettingCode
+pub mod inner

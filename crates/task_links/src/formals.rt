@@ -3,7 +3,7 @@
 ghost use Rattle.std.specs.Prelude.{◌≡◌, ◌++◌, map, IfOk, OnOk};
 ghost use Rattle.ada_tree.specs.PlainStmt.{plain_formal};
 ghost use Rattle.task_model.specs.Setting.{parameters_of};
-ghost use Rattle.task_links.specs.Made.{parameter_named};
+ghost use Rattle.task_links.specs.inner.Made.{parameter_named};
 
 use crate::type_names::TypeNames;
 use ada_tree::{Formal, Memory, ParMode, Word};

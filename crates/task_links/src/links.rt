@@ -31,9 +31,9 @@ impl<'p> Model for Links<'p> {
     ghost use Rattle.std.specs.Coded.{codes};
     ghost use Rattle.ada_tree.proofs.Codes.{tree_codes};
     ghost use Rattle.ada_tree.specs.PlainProgram.{plain_program};
-    ghost use Rattle.task_links.specs.SettingCode.{coded_setting};
+    ghost use Rattle.task_links.specs.inner.SettingCode.{coded_setting};
     ghost use Rattle.task_model.specs.Setting.{Setting};
-    ghost use Rattle.task_links.specs.Made.{KeepsEntries};
+    ghost use Rattle.task_links.specs.inner.Made.{KeepsEntries};
 
     ghost Value = { Setting };
 

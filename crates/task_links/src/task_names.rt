@@ -5,7 +5,7 @@ ghost use Rattle.std.specs.HashMap.{get};
 ghost use Rattle.ada_tree.specs.StaticValue.{first_of_two};
 ghost use Rattle.syn_event.specs.Numbering.{entry_named, task_named};
 ghost use Rattle.task_model.specs.Setting.{is_member, member_named};
-ghost use Rattle.task_links.specs.Keys.{entry_eq, member_eq};
+ghost use Rattle.task_links.specs.inner.Keys.{entry_eq, member_eq};
 
 use crate::keeping::{keep_entry, keep_first, keep_member, number_of};
 use ada_tree::{Memory, NameId};
@@ -26,7 +26,7 @@ pub struct TaskNames<'p> {
 
 impl<'p> Model for TaskNames<'p> {
     ghost use Rattle.syn_event.specs.Numbering.{Numbering};
-    ghost use Rattle.task_links.specs.Made.{KeepsTasks};
+    ghost use Rattle.task_links.specs.inner.Made.{KeepsTasks};
 
     ghost Value = { Numbering };
 

@@ -26,7 +26,7 @@ pub struct TypeNames<'p> {
 
 impl<'p> Model for TypeNames<'p> {
     ghost use Rattle.ada_tree.specs.TypeTable.{TypeTable};
-    ghost use Rattle.task_links.specs.Made.{KeepsTypes};
+    ghost use Rattle.task_links.specs.inner.Made.{KeepsTypes};
 
     ghost Value = { TypeTable };
 

@@ -10,7 +10,7 @@ use Rattle.task_model.specs.Stands.{stand_of, stepped, stepped_by, name_stand}
 use Rattle.task_model.specs.Rendezvous.{behind_of, passed, took_delay, took_else}
 use Rattle.task_steps.specs.Sequential.{sequential_by, sequential_step}
 use Rattle.task_calls.proofs.Walking.{here_at}
-use Rattle.task_local.specs.Local.{IsWithin, behind_names, names_in}
+use Rattle.task_local.specs.inner.Local.{IsWithin, behind_names, names_in}
 use Rattle.task_local.proofs.Names.{none_passed, no_delay, no_else, step_alike, names_on, names_end, stands_at_name}
 
 -- ---- local steps

@@ -13,7 +13,7 @@ use Rattle.task_model.specs.Calls.{call_in, called_by, values_of, values_handed}
 use Rattle.task_model.specs.Waits.{alternative_for}
 use Rattle.task_model.specs.Stands.{Steps, stand_of, abort_stand, name_stand, offered, offer_of}
 use Rattle.task_model.specs.Rendezvous.{behind_in, behind_of, alternative_opened, returned, took_else, took_delay, else_taken_in, delay_taken_in, passed, passed_at, passed_in}
-use Rattle.task_local.specs.Local.{named_from, left_from, behind_names, names_in, IsWithin}
+use Rattle.task_local.specs.inner.Local.{named_from, left_from, behind_names, names_in, IsWithin}
 
 -- ---- none
 

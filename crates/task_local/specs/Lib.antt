@@ -1,3 +1,2 @@
-pub mod Local
-pub mod InOrder
 pub mod OfferView
+pub mod inner

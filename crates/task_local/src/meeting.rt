@@ -7,7 +7,7 @@ ghost use Rattle.task_model.specs.Rendezvous.{accepted, finished, pending_of, re
 ghost use Rattle.task_model.specs.Stands.{offer_of};
 ghost use Rattle.task_model.specs.Tasks.{Task};
 ghost use Rattle.task_rendezvous.specs.Handed.{handed_back};
-ghost use Rattle.task_local.specs.InOrder.{task_of, IsInOrder};
+ghost use Rattle.task_local.specs.inner.InOrder.{task_of, IsInOrder};
 
 use crate::parts::TaskParts;
 use ada_tree::Memory;

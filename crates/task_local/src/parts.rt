@@ -9,8 +9,8 @@ ghost use Rattle.task_model.specs.Rendezvous.{accepted, finished, passed, return
 ghost use Rattle.task_model.specs.Stands.{can_step, offer_of, stepped};
 ghost use Rattle.task_model.specs.Tasks.{Task, raised_there, rest_of};
 ghost use Rattle.task_state.specs.Plain.{plain_task};
-ghost use Rattle.task_local.specs.Local.{names_at, names_in};
-ghost use Rattle.task_local.specs.InOrder.{task_of, IsInOrder, IsRoomy};
+ghost use Rattle.task_local.specs.inner.Local.{names_at, names_in};
+ghost use Rattle.task_local.specs.inner.InOrder.{task_of, IsInOrder, IsRoomy};
 ghost use Rattle.task_local.specs.OfferView.{offer_as};
 
 use crate::standing::{stand_at_name, stand_here};

@@ -4,7 +4,7 @@ ghost use Rattle.std.specs.Prelude.{◌≡◌, IfOk};
 ghost use Rattle.task_model.specs.Starting.{started_in, unit_of};
 ghost use Rattle.task_start.specs.Plain.{plain_unit};
 ghost use Rattle.task_waits.specs.Room.{widest_body};
-ghost use Rattle.task_local.specs.InOrder.{task_of, IsInOrder};
+ghost use Rattle.task_local.specs.inner.InOrder.{task_of, IsInOrder};
 
 use crate::parts::TaskParts;
 use ada_tree::Memory;

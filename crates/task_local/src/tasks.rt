@@ -30,14 +30,14 @@ pub struct LocalTask<'p> {
 impl<'p> Model for LocalTask<'p> {
     ghost use Rattle.std.specs.Coded.{codes};
     ghost use Rattle.ada_tree.proofs.Codes.{tree_codes};
-    ghost use Rattle.task_links.specs.SettingCode.{coded_setting};
-    ghost use Rattle.task_local.specs.Local.{Local};
+    ghost use Rattle.task_links.specs.inner.SettingCode.{coded_setting};
+    ghost use Rattle.task_local.specs.inner.Local.{Local};
 
     ghost Value = { Local };
 
     ghost coded = { Prim.hlevel (codes, tree_codes, coded_setting (Prim.hlevel (codes, tree_codes)) (Prim.hlevel (codes, tree_codes))) };
 
-    ghost use Rattle.task_local.specs.InOrder.{local_of, IsInOrder};
+    ghost use Rattle.task_local.specs.inner.InOrder.{local_of, IsInOrder};
 
     ghost view = { λ a. local_of a.parts };
 

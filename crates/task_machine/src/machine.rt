@@ -39,7 +39,7 @@ impl<'p> Model for Machine<'p> {
     ghost use Rattle.std.specs.Prelude.{◌<◌, ◌^◌, vec_len};
     ghost use Rattle.std.specs.Coded.{codes};
     ghost use Rattle.ada_tree.proofs.Codes.{tree_codes};
-    ghost use Rattle.task_links.specs.SettingCode.{coded_setting};
+    ghost use Rattle.task_links.specs.inner.SettingCode.{coded_setting};
     ghost use Rattle.task_model.specs.Machine.{Whole};
 
     ghost Value = { Whole };

@@ -21,7 +21,7 @@ impl<'p> Model for Seat<'p> {
     ghost use Rattle.std.specs.Coded.{codes};
     ghost use Rattle.ada_tree.proofs.Codes.{tree_codes};
     ghost use Rattle.event_machine.specs.Seats as seats;
-    ghost use Rattle.task_links.specs.SettingCode.{coded_setting};
+    ghost use Rattle.task_links.specs.inner.SettingCode.{coded_setting};
     ghost use Rattle.task_model.specs.Tasks.{Task};
 
     ghost Value = { seats.Seat Task };

@@ -14,10 +14,10 @@ use Rattle.ada_tree.specs.PlainStmt.{plain_formal}
 use Rattle.ada_value.specs.declared.values.Limits.{Limits}
 use Rattle.ada_value.specs.Values.{limits_named}
 use Rattle.task_calls.proofs.Walking.{here_at}
-use Rattle.task_links.specs.Made.{parameter_named}
+use Rattle.task_links.specs.inner.Made.{parameter_named}
 use Rattle.task_model.specs.declared.parameters.FormalParameter.{FormalParameter}
 use Rattle.task_model.specs.Setting.{parameters_of}
-use Rattle.task_rendezvous.specs.Conforming.{are_same, is_alike, same_limits}
+use Rattle.task_rendezvous.specs.inner.Conforming.{are_same, is_alike, same_limits}
 
 -- ---- what a comparison says
 

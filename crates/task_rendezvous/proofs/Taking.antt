@@ -3,7 +3,7 @@ use Rattle.std.proofs.Common.{◌≡◌, ℕ, refl, ap, ◌∙◌}
 use Rattle.ada_tree.specs.PlainStmt.{PStmt, SNull, SAssign, SDelay, SExit, SRaise, SAbort, SCall, SAccept, SWait, SConditional, STimed, SPut, SPutLine, SNewLine, SGet, SIf, SCase, SBlock, SLoop, no_stmt, stmt_then}
 use Rattle.task_model.specs.Tasks.{Task, rest_of}
 use Rattle.task_model.specs.Rendezvous.{behind_of, else_taken_at, else_taken_in, took_else, delay_taken_at, delay_taken_in, took_delay}
-use Rattle.task_rendezvous.specs.Branches.{else_part, delay_part, part_taken}
+use Rattle.task_rendezvous.specs.inner.Branches.{else_part, delay_part, part_taken}
 
 else_at : (t : Task) (s : PStmt) → else_taken_at s (behind_of t) t ≡ part_taken (else_part s) t
 else_at t (SNull s) = refl

@@ -1,3 +1,2 @@
-pub mod Branches
 pub mod Handed
-pub mod Conforming
+pub mod inner

@@ -5,7 +5,7 @@ ghost use Rattle.ada_tree.specs.PlainStmt.{plain_stmt, seen, seen_maybe};
 ghost use Rattle.task_model.specs.Rendezvous.{behind_of, took_delay, took_else};
 ghost use Rattle.task_model.specs.Tasks.{entered, stmts_or_none};
 ghost use Rattle.task_state.specs.Plain.{plain_task};
-ghost use Rattle.task_rendezvous.specs.Branches.{delay_part, else_part, part_taken};
+ghost use Rattle.task_rendezvous.specs.inner.Branches.{delay_part, else_part, part_taken};
 
 use ada_tree::{Stmt, StmtKind};
 use task_frames::Next;

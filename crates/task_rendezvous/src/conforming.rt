@@ -2,36 +2,15 @@
 
 ghost use Rattle.std.specs.Prelude.{◌≡◌, ◌↔◌, ◌++◌, List, map, option_map, IsTrue, MatchOption};
 ghost use Rattle.ada_tree.specs.PlainStmt.{plain_formal};
-ghost use Rattle.ada_tree.specs.RuleArgCount.{same_mode};
-ghost use Rattle.task_links.specs.Made.{parameter_named};
+ghost use Rattle.task_links.specs.inner.Made.{parameter_named};
 ghost use Rattle.task_model.specs.declared.parameters.FormalParameter.{FormalParameter};
 ghost use Rattle.task_model.specs.Setting.{entry_parameters, parameters_of};
-ghost use Rattle.task_rendezvous.specs.Conforming.{are_same, are_same_behind, is_alike, same_limits};
+ghost use Rattle.task_rendezvous.specs.inner.Conforming.{are_same, are_same_behind, is_alike, same_limits};
 
 use ada_tree::{Formal, ParMode, Word};
 use ada_value::Limits;
 use task_links::Links;
 use task_model::FormalParameter;
-
-// Whether two modes are the same.
-fn is_same_mode(one: ParMode, other: ParMode) -> bool
-    ensures { result ≡ same_mode one other }
-{
-    match one {
-        ParMode::Take => match other {
-            ParMode::Take => true,
-            ParMode::Give | ParMode::Both => false,
-        },
-        ParMode::Give => match other {
-            ParMode::Give => true,
-            ParMode::Take | ParMode::Both => false,
-        },
-        ParMode::Both => match other {
-            ParMode::Both => true,
-            ParMode::Take | ParMode::Give => false,
-        },
-    }
-}
 
 // Whether two subtypes are the same.
 fn are_same_limits(one: Limits, other: Limits) -> bool
@@ -45,7 +24,7 @@ fn is_alike(word: Word, mode: ParMode, limits: Limits, parameter: FormalParamete
     ensures { result ≡ is_alike (parameter_named mode limits word) parameter }
 {
     word.name.0 == parameter.name.0
-        && is_same_mode(mode, parameter.mode)
+        && mode == parameter.mode
         && are_same_limits(limits, parameter.limits)
 }
 

@@ -2,8 +2,8 @@
 //! ANSI/MIL-STD-1815A; that activation is no step is this project's rule).
 #![tactic(auto)]
 
-mod forms;
 mod initials;
+mod object_forms;
 mod objects;
 #[tactic(auto, using(ada_tree::proofs::Rows::rows))]
 mod starting;

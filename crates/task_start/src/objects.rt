@@ -4,8 +4,8 @@ ghost use Rattle.std.specs.Prelude.{◌≡◌, [], map, option_map, IfOk, OnOk};
 ghost use Rattle.ada_tree.specs.PlainDecl.{decls_of, plain_decl, plain_init};
 ghost use Rattle.task_model.specs.Starting.{after_declaration, is_in_types, objects_of, with_objects};
 
-use crate::forms::form_of;
 use crate::initials::initials;
+use crate::object_forms::form_of;
 use ada_tree::{Decl, DeclKind, Init, Memory, Word};
 use ada_value::Form;
 use std::alloc::Global;

@@ -14,7 +14,7 @@ use Rattle.ada_value.specs.declared.values.Raised.{Raised}
 use Rattle.ada_value.specs.Values.{and_then}
 use Rattle.task_model.specs.Tasks.{Task, stmts_or_none, entered, or_raised}
 use Rattle.task_model.specs.Steps.{condition, arm_taken, choice_fits, choices_fit, case_taken}
-use Rattle.task_steps.specs.Branches.{branch_in, enter_step}
+use Rattle.task_steps.specs.inner.Branches.{branch_in, enter_step}
 
 -- what a call has answered
 pub answers : (r p : Result Bool Raised) (b v : Bool) → r ≡ p → r ≡ Ok b → b ≡ v → p ≡ Ok v

@@ -16,7 +16,7 @@ use Rattle.task_model.specs.Tasks.{Task, rest_of, place_of, vars_of, with_text, 
 use Rattle.task_model.specs.Steps.{target_object, got, counted_on, counted_so_far, has_turn, loop_left}
 use Rattle.task_model.specs.Rendezvous.{behind_of}
 use Rattle.task_state.specs.Plain.{BeginsTurn, LeavesLoop}
-use Rattle.task_steps.specs.Storing.{store_step}
+use Rattle.task_steps.specs.inner.Storing.{store_step}
 use Rattle.task_steps.specs.Turning.{TurnsBy, turn_left, is_counting, is_backwards}
 
 -- ---- a value that goes to a target

@@ -1,4 +1,3 @@
-pub mod Storing
-pub mod Branches
 pub mod Turning
 pub mod Sequential
+pub mod inner

@@ -6,7 +6,7 @@ ghost use Rattle.ada_tree.specs.PlainStmt.{plain_part, plain_target};
 ghost use Rattle.task_model.specs.Rendezvous.{behind_of};
 ghost use Rattle.task_model.specs.Steps.{assign_step, get_step, got, put_step};
 ghost use Rattle.task_state.specs.Plain.{plain_task};
-ghost use Rattle.task_steps.specs.Storing.{store_step};
+ghost use Rattle.task_steps.specs.inner.Storing.{store_step};
 
 use ada_tree::{Expr, Memory, Part, Target};
 use ada_value::{Raised, Value};

@@ -7,7 +7,7 @@ ghost use Rattle.task_model.specs.Rendezvous.{behind_of};
 ghost use Rattle.task_model.specs.Steps.{arm_taken, case_step, case_taken, choice_end, choice_fits, choices_fit, if_step, lies_between};
 ghost use Rattle.task_model.specs.Tasks.{stmts_or_none};
 ghost use Rattle.task_state.specs.Plain.{plain_task};
-ghost use Rattle.task_steps.specs.Branches.{branch_in, enter_step, seen_branch};
+ghost use Rattle.task_steps.specs.inner.Branches.{branch_in, enter_step, seen_branch};
 
 use ada_tree::{Arm, CaseArm, CaseChoice, Expr, Memory, Stmt};
 use ada_value::{Raised, Value, position_of};

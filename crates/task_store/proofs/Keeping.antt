@@ -12,7 +12,7 @@ use Rattle.ada_value.specs.Variables.{Object, object_named, object_with, with_va
 use Rattle.scoped_names.specs.Meaning.{meaning_in}
 use Rattle.task_store.specs.declared.objects.Extent.{Extent}
 use Rattle.task_store.specs.Latest.{with_latest}
-use Rattle.task_store.specs.Kept.{object_at, objects_kept, IsKept, AreKept, IsWithin, slot_of, latest_of, set_there}
+use Rattle.task_store.specs.inner.Kept.{object_at, objects_kept, IsKept, AreKept, IsWithin, slot_of, latest_of, set_there}
 
 pub on_both : {A E P Q R : Type 0} (r : Result A E) → (P → Q → R) → OnOk r P → OnOk r Q → OnOk r R
 on_both (Ok x) f p q = f p q

@@ -1,3 +1,3 @@
 pub mod Plain
 pub mod Latest
-pub mod Kept
+pub mod inner

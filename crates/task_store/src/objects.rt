@@ -5,7 +5,7 @@ ghost use Rattle.ada_value.specs.Variables.{object_named, object_with, set_value
 ghost use Rattle.task_store.specs.Plain.{plain_variable};
 ghost use Rattle.task_store.specs.Latest.{with_latest};
 ghost use Rattle.scoped_names.specs.Meaning.{meaning_in};
-ghost use Rattle.task_store.specs.Kept.{latest_of, object_at, slot_at, slot_of, set_there, IsWithin};
+ghost use Rattle.task_store.specs.inner.Kept.{latest_of, object_at, slot_at, slot_of, set_there, IsWithin};
 
 use crate::variables::Variable;
 use ada_tree::{Memory, NameId};
@@ -33,7 +33,7 @@ pub struct Objects {
 impl Model for Objects {
     ghost use Rattle.std.specs.Prelude.{length};
     ghost use Rattle.ada_value.specs.Variables.{Variables};
-    ghost use Rattle.task_store.specs.Kept.{objects_kept, AreKept};
+    ghost use Rattle.task_store.specs.inner.Kept.{objects_kept, AreKept};
 
     ghost Value = { Variables };
 

@@ -19,7 +19,7 @@ use Rattle.task_model.specs.Waits.{Open, Accepts, accept_opened, alternatives_op
 use Rattle.task_model.specs.Stands.{At, Raises, choices_stand, wait_stand}
 use Rattle.task_waits.specs.declared.choosing.Sort.{Sort}
 use Rattle.task_waits.specs.declared.choosing.Sort.TheVariants as sort
-use Rattle.task_waits.specs.Choosing.{member_accepted, duration_of, least_among, chosen, opens_or_none, accepts_in}
+use Rattle.task_waits.specs.inner.Choosing.{member_accepted, duration_of, least_among, chosen, opens_or_none, accepts_in}
 use Rattle.task_waits.proofs.Opens.{least_of}
 use Rattle.task_waits.proofs.Shares.{many, few_choices, few_open, choices_by_sorts}
 

@@ -14,7 +14,7 @@ use Rattle.task_model.specs.Tasks.{Task}
 use Rattle.task_model.specs.Waits.{Open, guard_holds, kind_opened, opened_if, delays_with, alternatives_open, Accepts, Delays, Terminates, accept_choice, is_shorter, delay_choice, terminate_choice, else_choice, choices_of}
 use Rattle.task_waits.specs.declared.choosing.Sort.{Sort}
 use Rattle.task_waits.specs.declared.choosing.Sort.TheVariants as sort
-use Rattle.task_waits.specs.Choosing.{duration_of, lesser, least_among, is_longer, chosen}
+use Rattle.task_waits.specs.inner.Choosing.{duration_of, lesser, least_among, is_longer, chosen}
 use Rattle.task_waits.proofs.Opens.{lesser_none}
 
 -- ---- the choices of each sort

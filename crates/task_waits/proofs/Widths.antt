@@ -11,7 +11,7 @@ use Rattle.ada_tree.specs.PlainStmt.{PStmt, SNull, SAssign, SDelay, SExit, SRais
 use Rattle.ada_tree.proofs.Rows.{plain_arm-out, plain_case_arm-out, plain_handler-out}
 use Rattle.task_calls.proofs.Walking.{here_at}
 use Rattle.task_waits.specs.Room.{alternatives_in, room_at, widest_stmt, widest_stmts, widest_maybe, widest_accept, widest_kind, widest_alts, widest_arms, widest_case_arms, widest_body, widest_handlers}
-use Rattle.task_waits.specs.Widths.{inner_width, rest_width}
+use Rattle.task_waits.specs.inner.Widths.{inner_width, rest_width}
 
 -- a width over a list, by the width of each member
 pub record IsWidth {X : Type 0} (one : X → ℕ) (all : List X → ℕ) : Type 0 where

@@ -1,4 +1,3 @@
 pub mod Room
 pub mod Standing
-pub mod Choosing
-pub mod Widths
+pub mod inner

@@ -5,7 +5,7 @@ ghost use Rattle.ada_tree.specs.PlainStmt.{PStmts, no_stmt, plain_accept, plain_
 ghost use Rattle.ada_value.specs.Values.{and_then};
 ghost use Rattle.task_model.specs.Waits.{Open, accept_opened, kind_opened, alternatives_open, open_at, accepts_member, first_accepting};
 ghost use Rattle.task_waits.specs.Standing.{task_here, plain_parts, body_accepted, parts_behind, parts_in, parts_opened};
-ghost use Rattle.task_waits.specs.Choosing.{alternative_open, opens_or_none, accepts_in, taken, taken_if};
+ghost use Rattle.task_waits.specs.inner.Choosing.{alternative_open, opens_or_none, accepts_in, taken, taken_if};
 
 use crate::choosing::{guard_holds, least_duration, member_accepted};
 use ada_tree::{Accept, Alt, AltKind, Formal, Stmt, StmtKind};

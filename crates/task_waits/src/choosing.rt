@@ -8,7 +8,7 @@ ghost use Rattle.ada_tree.specs.PlainStmt.{plain_accept, plain_alt, plain_alt_ki
 ghost use Rattle.ada_value.specs.Values.{and_then};
 ghost use Rattle.task_model.specs.Waits.{Open, guard_holds, kind_opened, delays_with, alternatives_open};
 ghost use Rattle.task_waits.specs.Standing.{task_here};
-ghost use Rattle.task_waits.specs.Choosing.{member_accepted, alternative_open, duration_of, duration_if, lesser, least_among, is_longer, is_of, chosen, chosen_if, with_choice, opens_or_none};
+ghost use Rattle.task_waits.specs.inner.Choosing.{member_accepted, alternative_open, duration_of, duration_if, lesser, least_among, is_longer, is_of, chosen, chosen_if, with_choice, opens_or_none};
 
 use ada_tree::{Accept, Alt, AltKind, Expr};
 use ada_value::{Raised, checked, is_true, truth_limits};

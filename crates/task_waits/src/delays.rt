@@ -3,7 +3,7 @@
 ghost use Rattle.std.specs.Prelude.{◌≡◌, ◌<◌, ◌+◌, ◌^◌, map, option_map};
 ghost use Rattle.ada_tree.specs.PlainStmt.{plain_alt, plain_alt_kind, alts_of, seen};
 ghost use Rattle.task_model.specs.Waits.{delay_part, delay_stmts};
-ghost use Rattle.task_waits.specs.Choosing.{delay_at};
+ghost use Rattle.task_waits.specs.inner.Choosing.{delay_at};
 
 use crate::choosing::delays_with;
 use ada_tree::{Alt, AltKind, Stmt};

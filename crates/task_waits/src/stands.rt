@@ -11,7 +11,7 @@ ghost use Rattle.task_model.specs.Waits.{accept_opened, alternatives_open, choic
 ghost use Rattle.task_model.specs.Stands.{call_stand, wait_stand, abort_stand, stand_at};
 ghost use Rattle.task_waits.specs.Room.{alternatives_in, room_at};
 ghost use Rattle.task_waits.specs.Standing.{task_here, stand_as};
-ghost use Rattle.task_waits.specs.Choosing.{least_among, opens_or_none, with_choice};
+ghost use Rattle.task_waits.specs.inner.Choosing.{least_among, opens_or_none, with_choice};
 
 use crate::choosing::{Sort, least_duration, member_accepted, put_choice, put_choices};
 use ada_tree::{Accept, Alt, Call, Callee, Memory, Stmt, StmtKind};

@@ -1,16 +1,23 @@
 -- The loops of the readers that call each other.
-use Rattle.std.proofs.Common.{◌-◌, sym, ap, subst, ◌∙◌, arith, rules, map}
+use Rattle.std.proofs.Common.{◌≡◌, ◌-◌, true, not, is_some, option_map, sym, ap, subst, ◌∙◌, arith, rules, map}
 use Rattle.lawful_reader.specs.Readers.{Found, items, fronted}
-use Rattle.ada_tree.specs.PlainStmt.{plain_stmt, plain_arm, plain_alt, plain_case_arm, plain_handler, handlers_of, seen}
+use Rattle.ada_tree.specs.PlainExpr.{plain_expr}
+use Rattle.ada_tree.specs.PlainStmt.{plain_stmt, plain_arm, plain_alt, plain_alt_kind, plain_call, plain_case_arm, plain_handler, handlers_of, seen}
 use Rattle.ada_lexer.specs.declared.symbols.Symbol.TheVariants as key
 use Rattle.ada_expr_parser.specs.Gives.{Fails}
 use Rattle.ada_phrase_parser.specs.Reading.{is_symbol, key_then}
-use Rattle.ada_stmt_parser.specs.ReadingStatements.{inner_at, begins_stmt, if_arm, case_part, others_part, handler_part, handler_others, whens}
+use Rattle.ada_expr_parser.specs.Trees.{from_to}
+use Rattle.ada_compound_parts.specs.ReadingHeads.{kind_of, call_tail_of}
+use Rattle.ada_stmt_parser.specs.ReadingStatements.{inner_at, select_rest, alt_at, begins_stmt, if_arm, case_part, others_part, handler_part, handler_others, whens}
 use Rattle.ada_phrase_parser.specs.Views.{told}
 use Rattle.ada_phrase_parser.proofs.Lists.{grown, list_empty, list_over, list_fails, list_goes}
 use Rattle.ada_stmt_parser.proofs.HandlerParts.{body_built, handlers_go}
 use Rattle.ada_phrase_parser.proofs.Marks.{there, missing}
 use Rattle.ada_stmt_parser.proofs.Whens.{WhensGoOn, whens_begin, whens_empty, whens_over, whens_step, whens_fails, whens_others, whens_others_fails}
+use Rattle.ada_stmt_parser.proofs.Onward.{same_gives, joined_fails, joined_found, joined_first}
+use Rattle.ada_stmt_parser.proofs.Loops.{loop_goes, named_goes}
+use Rattle.ada_stmt_parser.proofs.Alternatives.{alt_fails, alt_found}
+use Rattle.ada_stmt_parser.proofs.Selected.{select_fails, select_found}
 use Rattle.ada_stmt_parser.proofs.+stmt.Goals as goal
 
 pub sequences::stmts_onto-returns-in_default-clause-tree : goal.sequences::stmts_onto-returns-in_default-clause-tree
@@ -144,3 +151,47 @@ bodies::body_end-returns-clause-tree m c =
     handlers_go (c.args.depth - 1) (inner_at (told c.args.source.now) c.args.depth) (seen c.args.stmts.items) c.args.items.now c.in_ok-handlers.rest.now _ _ (handlers_of (map plain_handler c.in_ok-handlers.handlers.items))
     c.in-len1-up.len_at_least (there _ _ _ c.stands.ensures.place c.if-not-stands.false) (omega (arith, c.if-inner-eq0.false)) c.in_ok-handlers.ensures.tree
     ∙ ap (λ b. Found b c.in_ok-handlers.rest.now) (sym (body_built c.args.stmts c.in_ok-handlers.handlers))
+
+pub statements::any_loop-returns-then-begins_loop-clause-tree : goal.statements::any_loop-returns-then-begins_loop-clause-tree
+statements::any_loop-returns-then-begins_loop-clause-tree m c =
+    same_gives c.loop_from.result (λ x. plain_stmt x.0) (λ x. x.1.now) _ _
+    (loop_goes (told c.args.source.now) c.args.depth (inner_at (told c.args.source.now) c.args.depth) c.args.items.now _ c.in-len1-up.len_at_least (sym c.begins_loop.ensures ∙ c.if-begins_loop.true) (omega (arith, c.if-depth-eq0.false)))
+    c.loop_from.ensures.tree
+
+pub statements::named-returns-clause-tree : goal.statements::named-returns-clause-tree
+statements::named-returns-clause-tree m c =
+    same_gives c.loop_from.result (λ x. plain_stmt x.0) (λ x. x.1.now) _ _
+    (named_goes (told c.args.source.now) c.args.depth (inner_at (told c.args.source.now) c.args.depth) c.args.name c.args.behind.now _ _ c.in-len1-up.len_at_least (there _ _ _ c.stands.ensures.place c.if-not-stands.false) (omega (arith, c.if-depth-eq0.false)))
+    c.loop_from.ensures.tree
+
+pub selecting::read_alt-returns-in_err-guard-2-clause-tree : goal.selecting::read_alt-returns-in_err-guard-2-clause-tree
+selecting::read_alt-returns-in_err-guard-2-clause-tree m c =
+    let fails : Fails c.in_err-guard-2.field-0.0 (alt_at c.args.depth (inner_at (told c.args.source.now) c.args.depth) c.args.items.now) =
+    alt_fails c.args.depth (inner_at (told c.args.source.now) c.args.depth) c.args.items.now c.in_ok-guard.rest.now (option_map plain_expr c.in_ok-guard.guard) c.in_ok-guard.lead c.in_ok-guard.ensures.tree c.in_err-guard-2.field-0.0
+    (joined_fails c.in_ok-guard.guard c.alt_kind.result c.in_err-guard-2.field-0.0 (λ x. kind_of (plain_alt_kind x.0) x.1 x.2) (λ x. x.3.now) _ c.in_err-guard-2.ensures c.alt_kind.ensures.tree) in
+    search (rules, fails)
+
+pub selecting::read_alt-returns-clause-tree : goal.selecting::read_alt-returns-clause-tree
+selecting::read_alt-returns-clause-tree m c =
+    alt_found c.args.depth (inner_at (told c.args.source.now) c.args.depth) c.args.items.now c.in_ok-guard.rest.now (option_map plain_expr c.in_ok-guard.guard) c.in_ok-guard.lead c.in_ok-guard.ensures.tree
+    (option_map plain_expr c.in_ok-guard-2.guard) (kind_of (plain_alt_kind c.in_ok-guard-2.kind) c.in_ok-guard-2.first c.in_ok-guard-2.last) c.from_to-span.result c.in_ok-guard-2.rest.now
+    (ap (option_map plain_expr) (joined_first c.in_ok-guard.guard c.alt_kind.result c.in_ok-guard-2.guard _ c.in_ok-guard-2.ensures))
+    (joined_found c.in_ok-guard.guard c.alt_kind.result c.in_ok-guard-2.guard _ (λ x. kind_of (plain_alt_kind x.0) x.1 x.2) (λ x. x.3.now) _ c.in_ok-guard-2.ensures c.alt_kind.ensures.tree)
+    (c.from_to-span.ensures ∙ ap (λ s. from_to s c.in_ok-guard-2.last) c.first_of_alt.ensures)
+
+pub selecting::read_select-returns-in_err-call-2-clause-tree : goal.selecting::read_select-returns-in_err-call-2-clause-tree
+selecting::read_select-returns-in_err-call-2-clause-tree m c =
+    let some : is_some c.word_in.result ≡ true = c.is_none.ensures ∙ ap not c.if-is_none.false in
+    let fails : Fails c.in_err-call-2.field-0.0 (select_rest (c.args.depth - 1) (inner_at (told c.args.source.now) c.args.depth) c.args.lead c.args.items.now) =
+    select_fails (c.args.depth - 1) (inner_at (told c.args.source.now) c.args.depth) c.args.lead c.args.items.now c.in_ok-call.rest.now _ (plain_call c.in_ok-call.call) c.in-len1-up.len_at_least (sym (ap is_some c.word_in.ensures) ∙ some) c.in_ok-call.ensures.tree c.in_err-call-2.field-0.0
+    (joined_fails c.in_ok-call.call c.call_tail.result c.in_err-call-2.field-0.0 (λ x. call_tail_of (seen x.0.items) x.1 (seen x.2.items) x.3) (λ x. x.4.now) _ c.in_err-call-2.ensures c.call_tail.ensures.tree) in
+    search (rules, fails)
+
+pub selecting::read_select-returns-clause-tree : goal.selecting::read_select-returns-clause-tree
+selecting::read_select-returns-clause-tree m c =
+    let some : is_some c.word_in.result ≡ true = c.is_none.ensures ∙ ap not c.if-is_none.false in
+    select_found (c.args.depth - 1) (inner_at (told c.args.source.now) c.args.depth) c.args.lead c.args.items.now c.in_ok-call.rest.now _ (plain_call c.in_ok-call.call) c.in-len1-up.len_at_least (sym (ap is_some c.word_in.ensures) ∙ some) c.in_ok-call.ensures.tree
+    (plain_call c.in_ok-call-2.call) (call_tail_of (seen c.in_ok-call-2.behind.items) c.in_ok-call-2.delay (seen c.in_ok-call-2.last.items) c.in_ok-call-2.close) (plain_stmt c.selected.result) c.in_ok-call-2.rest.now
+    (ap plain_call (joined_first c.in_ok-call.call c.call_tail.result c.in_ok-call-2.call _ c.in_ok-call-2.ensures))
+    (joined_found c.in_ok-call.call c.call_tail.result c.in_ok-call-2.call _ (λ x. call_tail_of (seen x.0.items) x.1 (seen x.2.items) x.3) (λ x. x.4.now) _ c.in_ok-call-2.ensures c.call_tail.ensures.tree)
+    c.selected.ensures

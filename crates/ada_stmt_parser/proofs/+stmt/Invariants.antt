@@ -70,12 +70,6 @@ decreases-selecting::read_select l = 64 * l.depth + 30
 abbrev pub decreases-selecting::wait : goal.decreases-selecting::wait
 decreases-selecting::wait l = 64 * l.depth + 29
 
-abbrev pub decreases-selecting::call_rest : goal.decreases-selecting::call_rest
-decreases-selecting::call_rest l = 64 * l.depth + 29
-
-abbrev pub decreases-selecting::timed_rest : goal.decreases-selecting::timed_rest
-decreases-selecting::timed_rest l = 64 * l.depth + 28
-
 abbrev pub decreases-selecting::read_alts : goal.decreases-selecting::read_alts
 decreases-selecting::read_alts l = 64 * l.depth + 27
 
@@ -93,12 +87,6 @@ decreases-selecting::read_alt l = 64 * l.depth + 41
 
 abbrev pub decreases-selecting::alt_kind : goal.decreases-selecting::alt_kind
 decreases-selecting::alt_kind l = 64 * l.depth + 40
-
-abbrev pub decreases-selecting::accept_alt : goal.decreases-selecting::accept_alt
-decreases-selecting::accept_alt l = 64 * l.depth + 20
-
-abbrev pub decreases-selecting::delay_alt : goal.decreases-selecting::delay_alt
-decreases-selecting::delay_alt l = 64 * l.depth + 20
 
 abbrev pub decreases-selecting::read_accept : goal.decreases-selecting::read_accept
 decreases-selecting::read_accept l = 64 * l.depth + 35
@@ -151,21 +139,6 @@ decreases-bodies::read_handler l = 64 * l.depth + 26
 abbrev pub decreases-bodies::others_handler : goal.decreases-bodies::others_handler
 decreases-bodies::others_handler l = 64 * l.depth + 26
 
-abbrev pub decreases-looping::named_loop : goal.decreases-looping::named_loop
-decreases-looping::named_loop l = 64 * l.depth + 33
-
-abbrev pub decreases-looping::while_rest : goal.decreases-looping::while_rest
-decreases-looping::while_rest l = 64 * l.depth + 32
-
-abbrev pub decreases-looping::for_rest : goal.decreases-looping::for_rest
-decreases-looping::for_rest l = 64 * l.depth + 32
-
-abbrev pub decreases-looping::for_range : goal.decreases-looping::for_range
-decreases-looping::for_range l = 64 * l.depth + 31
-
-abbrev pub decreases-looping::loop_rest : goal.decreases-looping::loop_rest
-decreases-looping::loop_rest l = 64 * l.depth + 30
-
 abbrev pub decreases-sequences::stmts : goal.decreases-sequences::stmts
 decreases-sequences::stmts l = 64 * l.depth + 14
 
@@ -187,8 +160,17 @@ decreases-statements::named l = 64 * l.depth + 35
 abbrev pub decreases-bodies::body_end : goal.decreases-bodies::body_end
 decreases-bodies::body_end l = 64 * l.depth + 29
 
-abbrev pub decreases-selecting::conditional_rest : goal.decreases-selecting::conditional_rest
-decreases-selecting::conditional_rest l = 64 * l.depth + 28
+abbrev pub decreases-looping::loop_from : goal.decreases-looping::loop_from
+decreases-looping::loop_from l = 64 * l.depth + 31
 
-abbrev pub decreases-selecting::accept_body : goal.decreases-selecting::accept_body
-decreases-selecting::accept_body l = 64 * l.depth + 34
+abbrev pub decreases-selecting::accept_kind : goal.decreases-selecting::accept_kind
+decreases-selecting::accept_kind l = 64 * l.depth + 20
+
+abbrev pub decreases-selecting::delay_kind : goal.decreases-selecting::delay_kind
+decreases-selecting::delay_kind l = 64 * l.depth + 20
+
+abbrev pub decreases-selecting::accept_tail : goal.decreases-selecting::accept_tail
+decreases-selecting::accept_tail l = 64 * l.depth + 34
+
+abbrev pub decreases-selecting::call_tail : goal.decreases-selecting::call_tail
+decreases-selecting::call_tail l = 64 * l.depth + 29

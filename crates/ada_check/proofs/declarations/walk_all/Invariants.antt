@@ -2,14 +2,14 @@ use Rattle.std.proofs.Common.{◌≡◌, map, drop, None}
 use Rattle.ada_tree.specs.PlainDecl.{plain_decl, decls_of}
 use Rattle.syn_event.specs.Spots.{decls_spots, after_decls}
 use Rattle.ada_rules.specs.Sooner.{sooner}
-use Rattle.ada_rules.specs.Met.{met}
+use Rattle.ada_rules.specs.RefusedFirst.{refused_first}
 use Rattle.ada_declaration_places.specs.Places.{numbers_in}
 use Rattle.ada_check.proofs.declarations.walk_all.Given as goal
 
 -- what is refused so far, and of the declarations that are left; what stands around behind them is what stands around behind all
 abbrev pub invariant-loop-decl : goal.invariant-loop-decl
 invariant-loop-decl l = record {
-  told : sooner l.refusal (met l.by (decls_spots l.around (numbers_in l.bodies) (decls_of (map plain_decl (drop l.decl-index l.decls))))) ≡ met l.by (decls_spots l.fn.around (numbers_in l.bodies) (decls_of (map plain_decl l.decls)));
+  told : sooner l.refusal (refused_first l.by (decls_spots l.around (numbers_in l.bodies) (decls_of (map plain_decl (drop l.decl-index l.decls))))) ≡ refused_first l.by (decls_spots l.fn.around (numbers_in l.bodies) (decls_of (map plain_decl l.decls)));
   after : after_decls l.around (decls_of (map plain_decl (drop l.decl-index l.decls))) ≡ after_decls l.fn.around (decls_of (map plain_decl l.decls));
   own : l.around.own ≡ None;
 }

@@ -1,8 +1,8 @@
 use Rattle.std.proofs.Common.{ap, ◌∙◌}
 use Rattle.ada_tree.specs.PlainDecl.{plain_decl}
-use Rattle.ada_rules.specs.Met.{met}
+use Rattle.ada_rules.specs.RefusedFirst.{refused_first}
 use Rattle.ada_declaration_places.specs.Places.{numbers_in}
-use Rattle.ada_check.specs.Bodies.{body_part}
+use Rattle.ada_check.specs.inner.TaskBodies.{body_part}
 use Rattle.ada_check.proofs.Bodies.{parted}
 use Rattle.ada_declaration_places.proofs.Declaring.{own_none}
 use Rattle.ada_check.proofs.declarations.walk_decl.Goals as goal
@@ -14,6 +14,6 @@ pub returns : goal.returns
 returns c = record {
   told =
       c.first.ensures
-      ∙ parted c.args.by.now c.args.around.now (numbers_in c.args.bodies.now) (plain_decl c.args.decl.now) _ _ c.in_ok-places.ensures (c.in_ok-body.ensures.told ∙ ap (λ s. met c.args.by.now (body_part s (plain_decl c.args.decl.now))) c.in_ok-declare.ensures);
+      ∙ parted c.args.by.now c.args.around.now (numbers_in c.args.bodies.now) (plain_decl c.args.decl.now) _ _ c.in_ok-places.ensures (c.in_ok-body.ensures.told ∙ ap (λ s. refused_first c.args.by.now (body_part s (plain_decl c.args.decl.now))) c.in_ok-declare.ensures);
   after = c.in_ok-body.ensures.kept ∙ c.in_ok-declare.ensures;
 }

@@ -4,7 +4,7 @@ use Rattle.ada_tree.specs.PlainStmt.{plain_choice}
 use Rattle.ada_tree.specs.RuleChoiceBad.{choice_range, overlaps_one, with_range, is_good}
 use Rattle.ada_refusals.specs.Sooner.{found}
 use Rattle.ada_scopes.specs.Entries.{plain_range}
-use Rattle.ada_choices.specs.Chosen.{Shows}
+use Rattle.ada_choices.specs.inner.Chosen.{Shows}
 use Rattle.ada_choices.proofs.Choosing.{chosen_more}
 use Rattle.ada_choices.proofs.choices.choose.Goals as goal
 

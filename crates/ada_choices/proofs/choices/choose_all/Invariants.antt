@@ -1,7 +1,7 @@
 use Rattle.std.proofs.Common.{◌++◌, List, take, map, option_map}
 use Rattle.ada_tree.specs.PlainStmt.{PChoice, plain_choice}
 use Rattle.ada_scopes.specs.Entries.{plain_range}
-use Rattle.ada_choices.specs.Chosen.{AreChosen}
+use Rattle.ada_choices.specs.inner.Chosen.{AreChosen}
 use Rattle.ada_choices.proofs.choices.choose_all.Given as goal
 
 -- so many choices are looked at behind those before

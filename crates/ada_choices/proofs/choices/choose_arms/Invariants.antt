@@ -2,7 +2,7 @@ use Rattle.std.proofs.Common.{take, map, option_map}
 use Rattle.ada_tree.specs.PlainStmt.{plain_case_arm, case_arms_of}
 use Rattle.ada_tree.specs.Sites.{choices_of}
 use Rattle.ada_scopes.specs.Entries.{plain_range}
-use Rattle.ada_choices.specs.Chosen.{AreChosen}
+use Rattle.ada_choices.specs.inner.Chosen.{AreChosen}
 use Rattle.ada_choices.proofs.choices.choose_arms.Given as goal
 
 -- the choices of so many arms are looked at

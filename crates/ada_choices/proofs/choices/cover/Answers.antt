@@ -2,7 +2,7 @@ use Rattle.std.proofs.Common.{rules, ◌<ℤ◌, sym, subst, arith, option_map, 
 use Rattle.std.proofs.lemmas.Int.{ints, to_z-of_z}
 use Rattle.ada_tree.specs.RuleChoiceBad.{with_range}
 use Rattle.ada_scopes.specs.Entries.{plain_range}
-use Rattle.ada_choices.specs.Chosen.{Shows}
+use Rattle.ada_choices.specs.inner.Chosen.{Shows}
 use Rattle.ada_choices.proofs.Choosing.{shows_added, shows_same}
 use Rattle.ada_choices.proofs.choices.cover.Goals as goal
 

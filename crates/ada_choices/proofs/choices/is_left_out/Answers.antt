@@ -4,7 +4,7 @@ use Rattle.std.specs.List.{list_any}
 use Rattle.std.proofs.lemmas.Bool.Decides.{nat_tests}
 use Rattle.ada_tree.specs.RuleChoiceBad.{choice_range, is_covered, left_out}
 use Rattle.ada_scopes.specs.Entries.{plain_range}
-use Rattle.ada_choices.specs.Chosen.{AreChosen}
+use Rattle.ada_choices.specs.inner.Chosen.{AreChosen}
 use Rattle.ada_choices.proofs.Choosing.{left_is, chosen_values}
 use Rattle.ada_choices.proofs.choices.is_left_out.Goals as goal
 

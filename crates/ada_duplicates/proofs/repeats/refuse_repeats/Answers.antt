@@ -1,8 +1,8 @@
 use Rattle.std.proofs.Common.{ap, ◌∙◌, [], false}
 use Rattle.ada_refusals.specs.Sooner.{sooner}
-use Rattle.ada_duplicates.specs.Namings.{first_repeated}
-use Rattle.ada_duplicates.specs.declared.namings.Naming.{Naming}
-use Rattle.ada_duplicates.specs.declared.namings.Naming.TheVariants.{Declares}
+use Rattle.ada_duplicates.specs.NamingsInOrder.{first_repeated}
+use Rattle.ada_duplicates.specs.declared.namings_in_order.Naming.{Naming}
+use Rattle.ada_duplicates.specs.declared.namings_in_order.Naming.TheVariants.{Declares}
 use Rattle.ada_duplicates.proofs.Repeating.{repeat_more}
 use Rattle.ada_duplicates.proofs.repeats.refuse_repeats.Goals as goal
 

@@ -1,6 +1,6 @@
 use Rattle.std.proofs.Common.{◌≡◌, drop, []}
 use Rattle.ada_refusals.specs.Sooner.{sooner}
-use Rattle.ada_duplicates.specs.Namings.{first_repeated}
+use Rattle.ada_duplicates.specs.NamingsInOrder.{first_repeated}
 use Rattle.ada_duplicates.proofs.repeats.refuse_repeats.Given as goal
 
 -- what is refused so far, and what is still to come

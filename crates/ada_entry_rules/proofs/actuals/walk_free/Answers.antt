@@ -1,7 +1,7 @@
 use Rattle.std.proofs.Common.{ap, ◌∙◌, map, flat_map}
 use Rattle.ada_tree.specs.PlainExpr.{plain_expr}
 use Rattle.ada_tree.specs.Sites.{expr_sites}
-use Rattle.ada_refusals.specs.Met.{met}
+use Rattle.ada_refusals.specs.RefusedFirst.{refused_first}
 use Rattle.ada_refusals.proofs.Meeting.{joined}
 use Rattle.ada_entry_rules.proofs.actuals.walk_free.Goals as goal
 
@@ -9,5 +9,5 @@ pub returns : goal.returns
 returns c =
     c.first.ensures
     ∙ joined (flat_map (expr_sites c.args.scope.now) (map plain_expr c.args.args.now.first.items)) _ _ _
-    (c.walk_all-one.ensures ∙ ap (λ es. met (flat_map (expr_sites c.args.scope.now) (map plain_expr es))) c.deref.ensures.value)
+    (c.walk_all-one.ensures ∙ ap (λ es. refused_first (flat_map (expr_sites c.args.scope.now) (map plain_expr es))) c.deref.ensures.value)
     c.walk_second-other.ensures

@@ -1,7 +1,7 @@
 use Rattle.std.proofs.Common.{ap, ◌∙◌, map}
 use Rattle.ada_tree.specs.PlainExpr.{plain_expr}
 use Rattle.ada_tree.specs.Sites.{actuals_sites}
-use Rattle.ada_refusals.specs.Met.{met}
+use Rattle.ada_refusals.specs.RefusedFirst.{refused_first}
 use Rattle.ada_scopes.specs.Entries.{plain_part}
 use Rattle.ada_refusals.proofs.Meeting.{joined}
 use Rattle.ada_entry_rules.proofs.actuals.walk_single.Goals as goal
@@ -10,5 +10,5 @@ pub returns : goal.returns
 returns c =
     c.first.ensures
     ∙ joined (actuals_sites c.args.scope.now (map plain_part c.args.formals.now) (map plain_expr c.args.args.now.first.items)) _ _ _
-    (c.walk_actuals-one.ensures ∙ ap (λ es. met (actuals_sites c.args.scope.now (map plain_part c.args.formals.now) (map plain_expr es))) c.deref.ensures.value)
+    (c.walk_actuals-one.ensures ∙ ap (λ es. refused_first (actuals_sites c.args.scope.now (map plain_part c.args.formals.now) (map plain_expr es))) c.deref.ensures.value)
     c.walk_second-other.ensures

@@ -5,7 +5,7 @@ use Rattle.ada_tree.specs.RuleUnknown.{unknown_entry}
 use Rattle.ada_tree.specs.RuleArgCount.{called_entry, wrong_call}
 use Rattle.ada_tree.specs.Sites.{if_there, args_sites}
 use Rattle.ada_refusals.specs.Sooner.{sooner, found}
-use Rattle.ada_refusals.specs.Met.{met}
+use Rattle.ada_refusals.specs.RefusedFirst.{refused_first}
 use Rattle.ada_scopes.specs.Entries.{plain_entry}
 use Rattle.ada_entry_rules.proofs.Calling.{call_met}
 use Rattle.ada_entry_rules.proofs.calls.walk_call.Goals as goal
@@ -21,4 +21,4 @@ returns c =
     c.walk_callee-callee.ensures
     (c.refuse_missing-missing.ensures ∙ ap (λ o. found 1 (unknown_entry o c.args.call.now.entry)) c.meaning-thing.ensures)
     (c.refuse_count-count.ensures ∙ ap (λ o. found 8 (wrong_call o (option_map plain_args c.args.call.now.args) c.args.call.now.entry.span)) entry_is)
-    (c.walk_lists-lists.ensures ∙ ap (λ o. met (if_there (args_sites c.args.scope.now o) (option_map plain_args c.args.call.now.args))) entry_is)
+    (c.walk_lists-lists.ensures ∙ ap (λ o. refused_first (if_there (args_sites c.args.scope.now o) (option_map plain_args c.args.call.now.args))) entry_is)

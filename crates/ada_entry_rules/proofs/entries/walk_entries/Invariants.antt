@@ -3,7 +3,7 @@ use Rattle.std.specs.Prelude.{flat_map}
 use Rattle.ada_tree.specs.PlainDecl as decl
 use Rattle.ada_tree.specs.Declaring.{entry_part}
 use Rattle.ada_refusals.specs.Sooner.{sooner}
-use Rattle.ada_refusals.specs.Met.{met}
+use Rattle.ada_refusals.specs.RefusedFirst.{refused_first}
 use Rattle.ada_scopes.specs.Entries.{plain_entry}
 use Rattle.ada_entry_rules.specs.EntryDecls.{each_entry}
 use Rattle.ada_entry_rules.proofs.entries.walk_entries.Given as goal
@@ -12,5 +12,5 @@ use Rattle.ada_entry_rules.proofs.entries.walk_entries.Given as goal
 abbrev pub invariant-loop-entry : goal.invariant-loop-entry
 invariant-loop-entry l = record {
   parts : map plain_entry l.parts.items ≡ map (entry_part l.scope) (map decl.plain_entry (take l.entry-index l.entries));
-  told : sooner l.refusal (met (flat_map (each_entry l.scope) (map decl.plain_entry (drop l.entry-index l.entries)))) ≡ met (flat_map (each_entry l.scope) (map decl.plain_entry l.entries));
+  told : sooner l.refusal (refused_first (flat_map (each_entry l.scope) (map decl.plain_entry (drop l.entry-index l.entries)))) ≡ refused_first (flat_map (each_entry l.scope) (map decl.plain_entry l.entries));
 }

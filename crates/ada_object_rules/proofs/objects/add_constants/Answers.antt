@@ -1,7 +1,7 @@
 use Rattle.std.proofs.Common.{rules, ◌≡◌, w32, w64, FitsSigned, IfOk, sym, subst, ◌∙◌}
 use Rattle.std.proofs.lemmas.Int.{to_z-of_z}
 use Rattle.ada_tree.specs.Declaring.{with_types, constant_mark}
-use Rattle.ada_scopes.specs.Things.{plain_thing}
+use Rattle.ada_scopes.specs.Denotations.{plain_thing}
 use Rattle.ada_object_rules.proofs.Objecting.{values_are}
 use Rattle.ada_object_rules.proofs.objects.add_constants.Goals as goal
 

@@ -1,6 +1,6 @@
 use Rattle.std.proofs.Common.{◌≡◌, take}
 use Rattle.ada_tree.specs.Declaring.{with_names}
-use Rattle.ada_scopes.specs.Things.{plain_thing}
+use Rattle.ada_scopes.specs.Denotations.{plain_thing}
 use Rattle.ada_object_rules.proofs.objects.declare_all.Given as goal
 
 -- so many names are declared

@@ -1,4 +1,4 @@
-use Rattle.ada_object_rules.specs.Plans.{declared_as}
+use Rattle.ada_object_rules.specs.inner.Plans.{declared_as}
 use Rattle.ada_object_rules.proofs.Objecting.{plan_left}
 use Rattle.ada_object_rules.proofs.objects.declare_planned.Goals as goal
 

@@ -1,6 +1,6 @@
 use Rattle.std.proofs.Common.{sym, subst}
-use Rattle.ada_object_rules.specs.Plans.{declared_as}
-use Rattle.ada_object_rules.specs.Objects.{IsDeclared}
+use Rattle.ada_object_rules.specs.inner.Plans.{declared_as}
+use Rattle.ada_object_rules.specs.inner.Objects.{IsDeclared}
 use Rattle.ada_object_rules.proofs.Objecting.{row_declared}
 use Rattle.ada_object_rules.proofs.objects.make_objects.Goals as goal
 

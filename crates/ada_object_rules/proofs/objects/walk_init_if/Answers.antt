@@ -1,6 +1,6 @@
 use Rattle.std.proofs.Common.{ap, option_map}
 use Rattle.ada_tree.specs.PlainDecl.{plain_init}
-use Rattle.ada_object_rules.specs.Initials.{holder_sites}
+use Rattle.ada_object_rules.specs.inner.Initials.{holder_sites}
 use Rattle.ada_refusals.proofs.Listing.{not_there}
 use Rattle.ada_object_rules.proofs.objects.walk_init_if.Goals as goal
 

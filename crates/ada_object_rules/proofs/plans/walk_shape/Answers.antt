@@ -1,7 +1,7 @@
 use Rattle.std.proofs.Common.{sym, subst, option_map}
 use Rattle.ada_tree.specs.PlainDecl.{plain_init, plain_shape}
 use Rattle.ada_tree.specs.Sites.{shape_sites}
-use Rattle.ada_object_rules.specs.Plans.{IsShape}
+use Rattle.ada_object_rules.specs.inner.Plans.{IsShape}
 use Rattle.ada_object_rules.proofs.plans.walk_shape.Goals as goal
 
 pub returns-in_ok-plan_row-in-Row : goal.returns-in_ok-plan_row-in-Row

@@ -1,7 +1,7 @@
 use Rattle.std.proofs.Common.{ap, ◌∙◌, true}
 use Rattle.ada_tree.specs.PlainExpr.{plain_subind, plain_drange}
 use Rattle.ada_tree.specs.Sites.{component_marks, drange_sites, subind_sites}
-use Rattle.ada_refusals.specs.Met.{met}
+use Rattle.ada_refusals.specs.RefusedFirst.{refused_first}
 use Rattle.ada_refusals.proofs.Meeting.{joined}
 use Rattle.ada_object_rules.proofs.shapes.walk_row.Goals as goal
 
@@ -14,5 +14,5 @@ returns c = record {
       c.first.ensures
       ∙ joined (drange_sites true c.args.scope.now (plain_drange c.args.index.now)) _ _ _ c.walk_range-range.ensures.refusal_is
       (c.walk_subind-component.ensures.refusal_is
-      ∙ ap (λ u. met (subind_sites true u c.args.scope.now (plain_subind c.args.part.now))) (c.component_use.ensures ∙ ap component_marks c.may_be_task-task.ensures));
+      ∙ ap (λ u. refused_first (subind_sites true u c.args.scope.now (plain_subind c.args.part.now))) (c.component_use.ensures ∙ ap component_marks c.may_be_task-task.ensures));
 }

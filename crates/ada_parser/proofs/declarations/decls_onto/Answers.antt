@@ -1,7 +1,7 @@
 use Rattle.std.proofs.Common.{◌≡◌, ◌||◌, false, sym, ap, ◌∙◌, rules, map}
 use Rattle.lawful_reader.specs.Readers.{fronted}
 use Rattle.ada_tree.specs.PlainDecl.{plain_decl}
-use Rattle.ada_parser.specs.ReadingDeclarativeParts.{begins_behind, is_body, decl, decl_list}
+use Rattle.ada_parser.specs.inner.ReadingDeclarativeParts.{begins_behind, is_body, decl, decl_list}
 use Rattle.ada_phrase_parser.specs.Views.{told}
 use Rattle.ada_expr_parser.specs.Gives.{Fails}
 use Rattle.ada_phrase_parser.proofs.Lists.{grown}

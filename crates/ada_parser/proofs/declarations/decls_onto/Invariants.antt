@@ -1,6 +1,6 @@
 use Rattle.std.proofs.Common.{length, map, false}
 use Rattle.ada_tree.specs.PlainDecl.{plain_decl}
-use Rattle.ada_parser.specs.ReadingDeclarativeParts.{begins_behind, is_body, decl}
+use Rattle.ada_parser.specs.inner.ReadingDeclarativeParts.{begins_behind, is_body, decl}
 use Rattle.ada_phrase_parser.specs.Views.{told}
 use Rattle.ada_parser.proofs.RowLists.{RowGoesOn}
 use Rattle.ada_parser.proofs.declarations.decls_onto.Given as goal

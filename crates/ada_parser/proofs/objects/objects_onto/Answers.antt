@@ -1,8 +1,8 @@
 use Rattle.std.proofs.Common.{sym, ◌∙◌, rules, map}
 use Rattle.lawful_reader.specs.Readers.{items, fronted}
 use Rattle.ada_tree.specs.PlainDecl.{plain_decl}
-use Rattle.ada_decl_parser.specs.ReadingDeclarations.{object}
-use Rattle.ada_parser.specs.ReadingDeclarativeParts.{begins_object}
+use Rattle.ada_decl_parser.specs.inner.ReadingDeclarations.{object}
+use Rattle.ada_parser.specs.inner.ReadingDeclarativeParts.{begins_object}
 use Rattle.ada_expr_parser.specs.Gives.{Fails}
 use Rattle.ada_phrase_parser.proofs.Lists.{grown, list_empty, list_over, list_fails, list_goes}
 use Rattle.ada_parser.proofs.objects.objects_onto.Goals as goal

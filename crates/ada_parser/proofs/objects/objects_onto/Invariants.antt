@@ -1,7 +1,7 @@
 use Rattle.std.proofs.Common.{length, map}
 use Rattle.ada_tree.specs.PlainDecl.{plain_decl}
-use Rattle.ada_decl_parser.specs.ReadingDeclarations.{object}
-use Rattle.ada_parser.specs.ReadingDeclarativeParts.{begins_object}
+use Rattle.ada_decl_parser.specs.inner.ReadingDeclarations.{object}
+use Rattle.ada_parser.specs.inner.ReadingDeclarativeParts.{begins_object}
 use Rattle.ada_phrase_parser.proofs.Lists.{GoesOn}
 use Rattle.ada_parser.proofs.objects.objects_onto.Given as goal
 

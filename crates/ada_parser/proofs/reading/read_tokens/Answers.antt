@@ -1,10 +1,10 @@
 use Rattle.std.proofs.Common.{◌≡◌, sym, subst}
 use Rattle.lawful_reader.specs.Readers.{Found}
 use Rattle.ada_expr_parser.specs.Gives.{Fails}
-use Rattle.ada_parser.specs.ReadingUnits.{text}
+use Rattle.ada_parser.specs.inner.ReadingUnits.{text}
 use Rattle.ada_parser.specs.Exactly.{IsRead}
 use Rattle.ada_parser.specs.Refusals.{IsRefusedFor}
-use Rattle.ada_parser.specs.UnitViews.{plain_unit}
+use Rattle.ada_parser.specs.inner.UnitViews.{plain_unit}
 use Rattle.ada_parser.proofs.Exact.{read_found}
 use Rattle.ada_parser.proofs.Answering.{refused_for}
 use Rattle.ada_parser.proofs.reading.read_tokens.Goals as goal

@@ -6,7 +6,7 @@ use Rattle.ada_tree.proofs.Rows.{rows}
 use Rattle.ada_expr_parser.specs.Trees.{from_to}
 use Rattle.ada_expr_parser.specs.Gives.{Fails}
 use Rattle.ada_expr_parser.proofs.Steps.{fails_go_on}
-use Rattle.ada_parser.specs.ReadingDeclarativeParts.{unit_end}
+use Rattle.ada_parser.specs.inner.ReadingDeclarativeParts.{unit_end}
 use Rattle.ada_phrase_parser.specs.Views.{told}
 use Rattle.ada_parser.proofs.EndSteps.{unit_end_is}
 use Rattle.ada_parser.proofs.task_bodies.body_behind.Goals as goal

@@ -2,8 +2,8 @@ use Rattle.std.proofs.Common.{◌≡◌, ◌+◌, ◌∙◌, suc, ap, rules, ari
 use Rattle.lawful_reader.specs.Readers.{pure, go_on}
 use Rattle.ada_expr_parser.specs.Gives.{Fails}
 use Rattle.ada_expr_parser.proofs.Steps.{fails_go_on}
-use Rattle.ada_parser.specs.ReadingDeclarativeParts.{unit_end}
-use Rattle.ada_parser.specs.UnitViews.{unit_of}
+use Rattle.ada_parser.specs.inner.ReadingDeclarativeParts.{unit_end}
+use Rattle.ada_parser.specs.inner.UnitViews.{unit_of}
 use Rattle.ada_phrase_parser.specs.Views.{told}
 use Rattle.ada_parser.proofs.EndSteps.{unit_end_is}
 use Rattle.ada_parser.proofs.units.unit_behind.Goals as goal

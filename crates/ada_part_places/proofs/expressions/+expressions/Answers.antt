@@ -1,7 +1,7 @@
 use Rattle.std.proofs.Common.{◌∙◌, ap}
 use Rattle.ada_tree.specs.PlainExpr.{plain_expr}
 use Rattle.ada_rules.specs.Sooner.{sooner}
-use Rattle.ada_part_places.specs.WalkedExpr.{own_expr_met, operands_met}
+use Rattle.ada_part_places.specs.inner.WalkedExpr.{own_expr_met, operands_met}
 use Rattle.ada_part_places.proofs.Walking.{expr_is_met}
 use Rattle.ada_part_places.proofs.expressions.+expressions.Goals as goal
 

@@ -4,7 +4,7 @@ use Rattle.ada_tree.specs.PlainStmt.{PHead, plain_formal}
 use Rattle.syn_event.specs.declared.limits.What.TheVariants.{Nesting}
 use Rattle.syn_event.specs.Surrounding.{counts, accepts}
 use Rattle.syn_event.specs.Spots.{spot, if_there, expr_spots, names_spots, formal_names}
-use Rattle.ada_rules.specs.Met.{met}
+use Rattle.ada_rules.specs.RefusedFirst.{refused_first}
 use Rattle.ada_rules.proofs.Meeting.{before, joined}
 use Rattle.ada_part_places.proofs.parts.walk_head.Goals as goal
 
@@ -20,5 +20,5 @@ returns c =
     ∙ before c.args.by.now around (accepts h) (index ++ names) _ _ (c.refuse_accept-place.ensures c.args.by.now h.index h.formals)
     (c.first.ensures
     ∙ joined c.args.by.now index names _ _
-    (c.in_ok-at.ensures ∙ ap (λ n. met c.args.by.now (if_there (expr_spots around n) h.index)) c.in_ok-deeper.ensures)
+    (c.in_ok-at.ensures ∙ ap (λ n. refused_first c.args.by.now (if_there (expr_spots around n) h.index)) c.in_ok-deeper.ensures)
     (c.walk_formals-names.ensures around)))

@@ -3,7 +3,7 @@ use Rattle.std.specs.List.{list_any}
 use Rattle.ada_tree.specs.PlainExpr.{plain_expr}
 use Rattle.ada_tree.specs.PlainStmt.{PHead}
 use Rattle.ada_rules.specs.Sooner.{found}
-use Rattle.ada_part_places.specs.Claiming.{claim_of, meets, AreClaims}
+use Rattle.ada_part_places.specs.inner.Claiming.{claim_of, meets, AreClaims}
 use Rattle.ada_part_places.specs.declared.claims.Claim.{Claim}
 use Rattle.ada_part_places.proofs.Claiming.{clash_is}
 use Rattle.ada_part_places.proofs.waits.claim_accept.Goals as goal

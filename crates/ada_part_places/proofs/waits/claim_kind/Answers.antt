@@ -3,7 +3,7 @@ use Rattle.ada_tree.specs.declared.statements.Accept.{out-Accept}
 use Rattle.ada_tree.specs.PlainExpr.{plain_expr}
 use Rattle.ada_tree.specs.PlainStmt.{PHead, PMaybe, PStmts, AAccept, accepting, plain_alt_kind, plain_formal, plain_stmt, row_of, maybe_of}
 use Rattle.ada_tree.proofs.Rows.{rows}
-use Rattle.ada_part_places.specs.Claiming.{IsClaimed}
+use Rattle.ada_part_places.specs.inner.Claiming.{IsClaimed}
 use Rattle.ada_part_places.proofs.Claiming.{accepted_if}
 use Rattle.ada_part_places.proofs.waits.claim_kind.Goals as goal
 

@@ -1,7 +1,7 @@
 use Rattle.std.proofs.Common.{◌≡◌, map, drop}
 use Rattle.ada_tree.specs.PlainStmt.{plain_alt, alts_of}
 use Rattle.syn_event.specs.RuleSelectForm.{alt_kinds}
-use Rattle.ada_part_places.specs.Waiting.{forms_behind, forms_in}
+use Rattle.ada_part_places.specs.inner.Waiting.{forms_behind, forms_in}
 use Rattle.ada_part_places.proofs.waits.forms_of.Given as goal
 
 -- with the alternatives that are left

@@ -2,7 +2,7 @@ use Rattle.std.proofs.Common.{ap, sym, ◌∙◌, option_map}
 use Rattle.std.specs.Result.{result_ok}
 use Rattle.ada_tree.specs.PlainExpr.{plain_expr}
 use Rattle.ada_static_values.specs.StaticAnswer.{static_answer}
-use Rattle.ada_part_places.specs.Claiming.{index_value}
+use Rattle.ada_part_places.specs.inner.Claiming.{index_value}
 use Rattle.ada_part_places.proofs.Claiming.{fixed_is}
 use Rattle.ada_part_places.proofs.waits.index_value.Goals as goal
 

@@ -1,7 +1,7 @@
 use Rattle.std.proofs.Common.{ap, sym, ◌∙◌, map}
 use Rattle.ada_tree.specs.PlainStmt.{plain_alt, alts_of}
 use Rattle.syn_event.specs.RuleSelectForm.{alt_kinds}
-use Rattle.ada_part_places.specs.Waiting.{wrong_form}
+use Rattle.ada_part_places.specs.inner.Waiting.{wrong_form}
 use Rattle.ada_part_places.proofs.Forming.{malformed_by}
 use Rattle.ada_part_places.proofs.waits.is_malformed.Goals as goal
 

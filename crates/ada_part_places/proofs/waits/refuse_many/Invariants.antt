@@ -4,10 +4,10 @@ use Rattle.syn_event.specs.declared.limits.What.TheVariants.{Alternatives}
 use Rattle.syn_event.specs.Surrounding.{Surrounding}
 use Rattle.syn_event.specs.Spots.{numbered, alt_places}
 use Rattle.ada_rules.specs.Sooner.{sooner}
-use Rattle.ada_rules.specs.Met.{met}
+use Rattle.ada_rules.specs.RefusedFirst.{refused_first}
 use Rattle.ada_part_places.proofs.waits.refuse_many.Given as goal
 
 -- what is refused so far, and of the alternatives that are left
 abbrev pub invariant-loop-place : goal.invariant-loop-place
 invariant-loop-place l =
-    (around : Surrounding) → sooner l.refusal (met l.by (numbered around Alternatives l.place (alt_places (alts_of (map plain_alt (drop l.place l.alts)))))) ≡ met l.by (numbered around Alternatives 0 (alt_places (alts_of (map plain_alt l.alts))))
+    (around : Surrounding) → sooner l.refusal (refused_first l.by (numbered around Alternatives l.place (alt_places (alts_of (map plain_alt (drop l.place l.alts)))))) ≡ refused_first l.by (numbered around Alternatives 0 (alt_places (alts_of (map plain_alt l.alts))))

@@ -1,5 +1,5 @@
 use Rattle.std.proofs.Common.{sym, subst, map}
-use Rattle.ada_part_places.specs.Claiming.{claim_of, AreClaims}
+use Rattle.ada_part_places.specs.inner.Claiming.{claim_of, AreClaims}
 use Rattle.ada_part_places.proofs.Claiming.{heads_before, heads_more, claims_told, claims_end}
 use Rattle.ada_part_places.proofs.waits.refuse_twice.Goals as goal
 

@@ -3,7 +3,7 @@ use Rattle.ada_tree.specs.PlainStmt.{plain_alt, alts_of}
 use Rattle.syn_event.specs.RuleSelectForm.{alt_kinds}
 use Rattle.syn_event.specs.RuleSameEntryTwice.{accept_heads, clashing}
 use Rattle.ada_rules.specs.Sooner.{sooner, found}
-use Rattle.ada_part_places.specs.Claiming.{claim_of, AreClaims}
+use Rattle.ada_part_places.specs.inner.Claiming.{claim_of, AreClaims}
 use Rattle.ada_part_places.proofs.Claiming.{heads_before}
 use Rattle.ada_part_places.proofs.waits.refuse_twice.Given as goal
 

@@ -1,7 +1,7 @@
 use Rattle.std.proofs.Common.{take}
 use Rattle.ded_io.specs.Written.{◌⧺◌, each_text}
 use Rattle.ada_printer.specs.Layout.{word_text}
-use Rattle.ada_printer.specs.Pages.{Drew, over}
+use Rattle.paged_output.specs.Pages.{Drew, over}
 use Rattle.ada_printer.proofs.pieces.put_marked_words.Given as goal
 
 abbrev pub invariant-loop-word : goal.invariant-loop-word

@@ -5,12 +5,12 @@ use Rattle.syn_event.specs.Surrounding.{Surrounding}
 use Rattle.syn_event.specs.Spots.{numbered}
 use Rattle.ada_rules.specs.Amounts.{capped}
 use Rattle.ada_rules.specs.Sooner.{sooner}
-use Rattle.ada_rules.specs.Met.{met}
+use Rattle.ada_rules.specs.RefusedFirst.{refused_first}
 use Rattle.ada_rules.proofs.counting.count_names.Given as goal
 
 -- so many are counted, and what is refused so far, and of the names that are left
 abbrev pub invariant-loop-name : goal.invariant-loop-name
 invariant-loop-name l = record {
   count : capped l.counted.count ≡ capped (l.initial.counted.count + l.name-index);
-  refusal : (around : Surrounding) → sooner l.counted.refusal (met l.by (numbered around Formals l.counted.count (map (λ (w : Word). w.span) (drop l.name-index l.names)))) ≡ sooner l.initial.counted.refusal (met l.by (numbered around Formals l.initial.counted.count (map (λ (w : Word). w.span) l.names)));
+  refusal : (around : Surrounding) → sooner l.counted.refusal (refused_first l.by (numbered around Formals l.counted.count (map (λ (w : Word). w.span) (drop l.name-index l.names)))) ≡ sooner l.initial.counted.refusal (refused_first l.by (numbered around Formals l.initial.counted.count (map (λ (w : Word). w.span) l.names)));
 }

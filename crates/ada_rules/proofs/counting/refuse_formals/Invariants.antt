@@ -5,10 +5,10 @@ use Rattle.syn_event.specs.declared.limits.What.TheVariants.{Formals}
 use Rattle.syn_event.specs.Surrounding.{Surrounding}
 use Rattle.syn_event.specs.Spots.{numbered, formal_names}
 use Rattle.ada_rules.specs.Sooner.{sooner}
-use Rattle.ada_rules.specs.Met.{met}
+use Rattle.ada_rules.specs.RefusedFirst.{refused_first}
 use Rattle.ada_rules.proofs.counting.refuse_formals.Given as goal
 
 -- what is refused so far, and of the formals that are left
 abbrev pub invariant-loop-formal : goal.invariant-loop-formal
 invariant-loop-formal l =
-    (around : Surrounding) → sooner l.counted.refusal (met l.by (numbered around Formals l.counted.count (map (λ (w : Word). w.span) (formal_names (map plain_formal (drop l.formal-index l.formals)))))) ≡ met l.by (numbered around Formals 0 (map (λ (w : Word). w.span) (formal_names (map plain_formal l.formals))))
+    (around : Surrounding) → sooner l.counted.refusal (refused_first l.by (numbered around Formals l.counted.count (map (λ (w : Word). w.span) (formal_names (map plain_formal (drop l.formal-index l.formals)))))) ≡ refused_first l.by (numbered around Formals 0 (map (λ (w : Word). w.span) (formal_names (map plain_formal l.formals))))

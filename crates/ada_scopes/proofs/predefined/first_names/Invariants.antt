@@ -1,6 +1,6 @@
 use Rattle.std.proofs.Common.{◌≡◌, take}
-use Rattle.ada_scopes.specs.Things.{plain_names}
-use Rattle.ada_scopes.specs.Before.{seen_last_first}
+use Rattle.ada_scopes.specs.Denotations.{plain_names}
+use Rattle.ada_scopes.specs.inner.Before.{seen_last_first}
 use Rattle.ada_scopes.proofs.predefined.first_names.Given as goal
 
 -- the predefined names so far

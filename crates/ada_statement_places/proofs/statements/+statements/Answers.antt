@@ -3,7 +3,7 @@ use Rattle.ada_tree.specs.PlainStmt.{SPut, SPutLine, plain_part, plain_scheme, p
 use Rattle.ada_tree.specs.declared.statements.Accept.{out-Accept}
 use Rattle.syn_event.specs.declared.meanings.Meant.TheVariants.{Inner}
 use Rattle.syn_event.specs.Spots.{with_meant, formal_names, with_parameter, stmts_spots, alts_spots, arms_spots, case_arms_spots, handlers_spots}
-use Rattle.ada_statement_places.specs.Walked.{stmt_met, alt_met, arm_met, case_arm_met, handler_met}
+use Rattle.ada_statement_places.specs.inner.Walked.{stmt_met, alt_met, arm_met, case_arm_met, handler_met}
 use Rattle.ada_rules.proofs.Listing.{turn, row_end}
 use Rattle.ada_surroundings.proofs.Leaving.{room, accepting_in, within_accept, left_accept, left_loop, left_handler}
 use Rattle.ada_statement_places.proofs.Stating.{arm_told, case_arm_told, handler_told, stmt_next, alts_next, arms_next, case_arms_next, handlers_next}

@@ -2,7 +2,7 @@ use Rattle.std.proofs.Common.{◌*◌, ap, ◌∙◌}
 use Rattle.syn_event.specs.TaskParts.{TaskPart, task_count}
 use Rattle.ada_rules.specs.Amounts.{capped}
 use Rattle.ada_task_objects.specs.PlainParts.{plain_part}
-use Rattle.ada_task_counts.specs.Shares.{share_of}
+use Rattle.ada_task_counts.specs.inner.Shares.{share_of}
 use Rattle.ada_rules.proofs.Listing.{cut}
 use Rattle.ada_task_counts.proofs.TaskCounting.{copies_turn, copies_end}
 use Rattle.ada_task_counts.proofs.copies.count_copies.Goals as goal

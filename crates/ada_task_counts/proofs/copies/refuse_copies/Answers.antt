@@ -2,7 +2,7 @@ use Rattle.std.proofs.Common.{map, ap, ◌∙◌}
 use Rattle.ada_tree.specs.PlainDecl.{plain_decl, decls_of}
 use Rattle.ada_tree.specs.PlainProgram.{plain_program}
 use Rattle.ada_task_objects.specs.PlainParts.{plain_part}
-use Rattle.ada_task_counts.specs.Shares.{body_shares}
+use Rattle.ada_task_counts.specs.inner.Shares.{body_shares}
 use Rattle.ada_task_counts.proofs.Copying.{copies_met}
 use Rattle.ada_task_counts.proofs.copies.refuse_copies.Goals as goal
 

@@ -5,12 +5,12 @@ use Rattle.syn_event.specs.Surrounding.{Surrounding}
 use Rattle.syn_event.specs.Spots.{numbered}
 use Rattle.ada_rules.specs.Amounts.{capped}
 use Rattle.ada_rules.specs.Sooner.{sooner}
-use Rattle.ada_rules.specs.Met.{met}
+use Rattle.ada_rules.specs.RefusedFirst.{refused_first}
 use Rattle.ada_task_counts.proofs.counts.count_single.Given as goal
 
 -- so many are counted, and what is refused so far, and of the entries that are left
 abbrev pub invariant-loop-entry : goal.invariant-loop-entry
 invariant-loop-entry l = record {
   count : capped l.counted.count ≡ capped (l.initial.counted.count + l.entry-index);
-  refusal : (around : Surrounding) → sooner l.counted.refusal (met l.by (numbered around Entries l.counted.count (map (λ (e : PEntry). e.span) (map plain_entry (drop l.entry-index l.entries))))) ≡ sooner l.initial.counted.refusal (met l.by (numbered around Entries l.initial.counted.count (map (λ (e : PEntry). e.span) (map plain_entry l.entries))));
+  refusal : (around : Surrounding) → sooner l.counted.refusal (refused_first l.by (numbered around Entries l.counted.count (map (λ (e : PEntry). e.span) (map plain_entry (drop l.entry-index l.entries))))) ≡ sooner l.initial.counted.refusal (refused_first l.by (numbered around Entries l.initial.counted.count (map (λ (e : PEntry). e.span) (map plain_entry l.entries))));
 }

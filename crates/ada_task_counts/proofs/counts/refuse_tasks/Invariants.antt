@@ -2,11 +2,11 @@ use Rattle.std.proofs.Common.{◌≡◌, map, drop}
 use Rattle.syn_event.specs.Surrounding.{Surrounding}
 use Rattle.syn_event.specs.Spots.{tasks_spots}
 use Rattle.ada_rules.specs.Sooner.{sooner}
-use Rattle.ada_rules.specs.Met.{met}
+use Rattle.ada_rules.specs.RefusedFirst.{refused_first}
 use Rattle.ada_task_objects.specs.PlainParts.{plain_part}
 use Rattle.ada_task_counts.proofs.counts.refuse_tasks.Given as goal
 
 -- what is refused so far, and of the names that are left
 abbrev pub invariant-loop-part : goal.invariant-loop-part
 invariant-loop-part l =
-    (around : Surrounding) → around.types ≡ l.types → sooner l.counted.refusal (met l.by (tasks_spots around l.counted.count (map plain_part (drop l.part-index l.parts)))) ≡ met l.by (tasks_spots around 0 (map plain_part l.parts))
+    (around : Surrounding) → around.types ≡ l.types → sooner l.counted.refusal (refused_first l.by (tasks_spots around l.counted.count (map plain_part (drop l.part-index l.parts)))) ≡ refused_first l.by (tasks_spots around 0 (map plain_part l.parts))

@@ -1,8 +1,8 @@
 use Rattle.std.proofs.Common.{◌≡◌, ◌∙◌, sym, ap, map, arith}
 use Rattle.ada_tree.specs.PlainStmt.{plain_stmt, plain_alt, plain_arm, plain_case_arm, plain_handler}
 use Rattle.syn_event.specs.Callees.{stmt_callees}
-use Rattle.ada_task_counts.specs.Shares.{shared}
-use Rattle.ada_task_counts.specs.Copied.{each_alt, each_arm, each_case_arm, each_handler}
+use Rattle.ada_task_counts.specs.inner.Shares.{shared}
+use Rattle.ada_task_counts.specs.inner.Copied.{each_alt, each_arm, each_case_arm, each_handler}
 use Rattle.ada_task_counts.proofs.Sharing.{share_more, share_end, stmts_flat, alts_flat, arms_flat, case_arms_flat, handlers_flat, arm_told, case_arm_told, handler_told, stmt_told}
 use Rattle.ada_task_counts.proofs.shares.+shares.Goals as goal
 

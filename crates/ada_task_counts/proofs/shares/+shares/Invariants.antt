@@ -2,8 +2,8 @@ use Rattle.std.proofs.Common.{◌≡◌, map, take}
 use Rattle.std.specs.Prelude.{flat_map}
 use Rattle.ada_tree.specs.PlainStmt.{plain_stmt, plain_alt, plain_arm, plain_case_arm, plain_handler}
 use Rattle.syn_event.specs.Callees.{stmt_callees}
-use Rattle.ada_task_counts.specs.Shares.{shared}
-use Rattle.ada_task_counts.specs.Copied.{each_alt, each_arm, each_case_arm, each_handler}
+use Rattle.ada_task_counts.specs.inner.Shares.{shared}
+use Rattle.ada_task_counts.specs.inner.Copied.{each_alt, each_arm, each_case_arm, each_handler}
 use Rattle.ada_task_counts.proofs.shares.+shares.Given as goal
 
 -- so much of the list is gone through

@@ -1,6 +1,6 @@
 use Rattle.std.proofs.Common.{◌∙◌, ap, sym, map}
 use Rattle.ada_tree.specs.PlainStmt.{plain_callee}
-use Rattle.ada_task_counts.specs.Shares.{shared}
+use Rattle.ada_task_counts.specs.inner.Shares.{shared}
 use Rattle.ada_task_counts.proofs.Sharing.{itself, share_more, share_end, names_flat, shared_one}
 use Rattle.ada_task_counts.proofs.shares.names_share.Goals as goal
 

@@ -1,7 +1,7 @@
 use Rattle.std.proofs.Common.{◌≡◌, map, take}
 use Rattle.std.specs.Prelude.{flat_map}
 use Rattle.ada_tree.specs.PlainStmt.{plain_callee}
-use Rattle.ada_task_counts.specs.Shares.{shared}
+use Rattle.ada_task_counts.specs.inner.Shares.{shared}
 use Rattle.ada_task_counts.proofs.Sharing.{itself}
 use Rattle.ada_task_counts.proofs.shares.names_share.Given as goal
 

@@ -1,7 +1,7 @@
 use Rattle.std.proofs.Common.{◌≡◌, ◌++◌, map, length}
 use Rattle.syn_event.specs.AllNumbers.{seat_info, seat_entries}
 use Rattle.ada_task_objects.specs.PlainParts.{plain_part}
-use Rattle.ada_task_numbers.specs.Seats.{seats_within}
+use Rattle.ada_task_numbers.specs.inner.Seats.{seats_within}
 use Rattle.ada_task_numbers.proofs.numbers.push_members.Given as goal
 
 -- so many members, with their entries, stand behind what was there

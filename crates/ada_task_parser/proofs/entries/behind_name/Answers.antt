@@ -5,7 +5,7 @@ use Rattle.ada_expr_parser.specs.Gives.{Fails}
 use Rattle.ada_expr_parser.specs.Parts.{drange}
 use Rattle.ada_expr_parser.proofs.Steps.{fails_go_on}
 use Rattle.ada_phrase_parser.specs.Reading.{behind_index}
-use Rattle.ada_task_parser.specs.ReadingTasks.{entry_name}
+use Rattle.ada_task_parser.specs.inner.ReadingTasks.{entry_name}
 use Rattle.ada_task_parser.proofs.TaskSteps.{entry_is}
 use Rattle.ada_task_parser.proofs.entries.behind_name.Goals as goal
 

@@ -5,7 +5,7 @@ use Rattle.ada_tree.specs.PlainDecl.{DPragma}
 use Rattle.ada_expr_parser.specs.Trees.{from_to}
 use Rattle.ada_expr_parser.specs.Gives.{Fails}
 use Rattle.ada_expr_parser.proofs.Steps.{fails_go_on}
-use Rattle.ada_task_parser.specs.ReadingTasks.{priority}
+use Rattle.ada_task_parser.specs.inner.ReadingTasks.{priority}
 use Rattle.ada_phrase_parser.specs.Views.{told}
 use Rattle.ada_task_parser.proofs.TaskSteps.{priority_is}
 use Rattle.ada_task_parser.proofs.pragmas.read_pragma.Goals as goal

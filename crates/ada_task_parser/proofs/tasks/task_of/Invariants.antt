@@ -1,7 +1,7 @@
 use Rattle.std.proofs.Common.{◌≡◌, map}
 use Rattle.ada_tree.specs.PlainDecl.{plain_entry, plain_priority}
 use Rattle.ada_task_parser.specs.Tasks.{entries_in, priorities_in}
-use Rattle.ada_task_parser.specs.MemberViews.{plain_member}
+use Rattle.ada_task_parser.specs.inner.MemberViews.{plain_member}
 use Rattle.ada_task_parser.proofs.tasks.task_of.Given as goal
 
 -- the members so far are told apart

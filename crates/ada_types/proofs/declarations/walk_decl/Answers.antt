@@ -5,7 +5,7 @@ use Rattle.ada_tree.specs.Scope.{AnException}
 use Rattle.ada_tree.specs.Declaring.{with_names, after_object, after_enumeration, declared_object}
 use Rattle.ada_tree.specs.Sites.{names_sites, object_sites}
 use Rattle.ada_tree.proofs.Rows.{rows}
-use Rattle.ada_refusals.specs.Met.{met}
+use Rattle.ada_refusals.specs.RefusedFirst.{refused_first}
 use Rattle.ada_types.specs.declared.walked_decls.WalkedDecl.{WalkedDecl}
 use Rattle.ada_refusals.proofs.Outcomes.{if_ok}
 use Rattle.ada_refusals.proofs.Meeting.{names_met}
@@ -21,7 +21,7 @@ returns-in_ok-walked-in-Object c =
     let init = option_map plain_init c.in-Object.init in
     of_kind scope c.args.decl.now _ _ c.in-Object.is record {
       scope_is = c.in_ok-walked-in-Object.ensures.scope ∙ ap (λ ws. after_object scope ws constant shape init) c.deref.ensures.value;
-      refusal_is = c.in_ok-walked-in-Object.ensures.refusal ∙ ap (λ ws. met (object_sites scope ws constant shape init (declared_object scope constant shape))) c.deref.ensures.value;
+      refusal_is = c.in_ok-walked-in-Object.ensures.refusal ∙ ap (λ ws. refused_first (object_sites scope ws constant shape init (declared_object scope constant shape))) c.deref.ensures.value;
       of_tasks_is = c.in_ok-walked-in-Object.ensures.is_task;
     }
 

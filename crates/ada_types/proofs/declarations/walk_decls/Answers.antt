@@ -1,7 +1,7 @@
 use Rattle.std.proofs.Common.{◌++◌, sym, map, refl}
 use Rattle.ada_tree.specs.PlainDecl.{decls_of, plain_decl}
 use Rattle.ada_tree.specs.Sites.{decls_sites}
-use Rattle.ada_duplicates.specs.Namings.{namings_of}
+use Rattle.ada_duplicates.specs.NamingsInOrder.{namings_of}
 use Rattle.ada_duplicates.proofs.Behind.{at_next, noted_next, noted_all}
 use Rattle.ada_types.proofs.Following.{decls_scope, decls_told, decls_done}
 use Rattle.ada_types.proofs.declarations.walk_decls.Goals as goal

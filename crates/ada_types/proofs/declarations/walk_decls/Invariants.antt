@@ -3,9 +3,9 @@ use Rattle.ada_tree.specs.PlainDecl.{decls_of, plain_decl}
 use Rattle.ada_tree.specs.Declaring.{after_decls}
 use Rattle.ada_tree.specs.Sites.{decls_sites}
 use Rattle.ada_refusals.specs.Sooner.{sooner}
-use Rattle.ada_refusals.specs.Met.{met}
-use Rattle.ada_duplicates.specs.Namings.{namings_of}
-use Rattle.ada_duplicates.specs.Notes.{AreAt}
+use Rattle.ada_refusals.specs.RefusedFirst.{refused_first}
+use Rattle.ada_duplicates.specs.NamingsInOrder.{namings_of}
+use Rattle.ada_duplicates.specs.NamedSoFar.{AreAt}
 use Rattle.ada_types.proofs.Following.{from}
 use Rattle.ada_types.proofs.declarations.walk_decls.Given as goal
 
@@ -14,6 +14,6 @@ abbrev pub invariant-loop-decl : goal.invariant-loop-decl
 invariant-loop-decl l = record {
   at : AreAt l.scope l.notes;
   scope : after_decls l.scope (from l.decl-index l.decls) ≡ after_decls l.fn.scope (decls_of (map plain_decl l.decls));
-  told : sooner l.refusal (met (decls_sites l.scope (from l.decl-index l.decls))) ≡ met (decls_sites l.fn.scope (decls_of (map plain_decl l.decls)));
+  told : sooner l.refusal (refused_first (decls_sites l.scope (from l.decl-index l.decls))) ≡ refused_first (decls_sites l.fn.scope (decls_of (map plain_decl l.decls)));
   noted : l.notes.namings ++ namings_of (decls_sites l.scope (from l.decl-index l.decls)) ≡ l.fn.notes.namings ++ namings_of (decls_sites l.fn.scope (decls_of (map plain_decl l.decls)));
 }

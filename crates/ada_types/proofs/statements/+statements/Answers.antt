@@ -5,10 +5,10 @@ use Rattle.ada_tree.specs.PlainStmt.{SConditional, STimed, SCase, absent, presen
 use Rattle.ada_tree.specs.Declaring.{with_name, with_formals}
 use Rattle.ada_tree.specs.Sites.{stmt_sites}
 use Rattle.ada_tree.proofs.Rows.{rows}
-use Rattle.ada_refusals.specs.Met.{met}
+use Rattle.ada_refusals.specs.RefusedFirst.{refused_first}
 use Rattle.ada_scopes.specs.Entries.{plain_range}
-use Rattle.ada_scopes.specs.Things.{plain_thing}
-use Rattle.ada_types.specs.Members.{each_alt, each_arm, each_case_arm, each_handler}
+use Rattle.ada_scopes.specs.Denotations.{plain_thing}
+use Rattle.ada_types.specs.inner.SitesOfMembers.{each_alt, each_arm, each_case_arm, each_handler}
 use Rattle.ada_scopes.proofs.Inner.{left, room, inner_parameter, inner_formals}
 use Rattle.ada_refusals.proofs.Listing.{turn, met_all}
 use Rattle.ada_types.proofs.Lists.{stmts_flat, alts_flat, arms_flat, case_arms_flat, handlers_flat, arm_told, handler_told, accept_told, head_told, branches_told, case_others, case_alone}
@@ -23,7 +23,7 @@ walk_stmts-loop-stmt-preserved t c = record {
 pub walk_stmts-returns : goal.walk_stmts-returns
 walk_stmts-returns t c = record {
   kept = c.loop-stmt.invariant.same;
-  told = met_all (stmt_sites c.args.scope.now) plain_stmt c.args.list.now c.loop-stmt.stmt-index _ c.loop-stmt-test.false c.loop-stmt.invariant.told ∙ ap met (sym (stmts_flat c.args.scope.now (map plain_stmt c.args.list.now)));
+  told = met_all (stmt_sites c.args.scope.now) plain_stmt c.args.list.now c.loop-stmt.stmt-index _ c.loop-stmt-test.false c.loop-stmt.invariant.told ∙ ap refused_first (sym (stmts_flat c.args.scope.now (map plain_stmt c.args.list.now)));
 }
 
 pub walk_alts-loop-alt-preserved : goal.walk_alts-loop-alt-preserved
@@ -35,7 +35,7 @@ walk_alts-loop-alt-preserved t c = record {
 pub walk_alts-returns : goal.walk_alts-returns
 walk_alts-returns t c = record {
   kept = c.loop-alt.invariant.same;
-  told = met_all (each_alt c.args.scope.now) plain_alt c.args.alts.now c.loop-alt.alt-index _ c.loop-alt-test.false c.loop-alt.invariant.told ∙ ap met (sym (alts_flat c.args.scope.now (map plain_alt c.args.alts.now)));
+  told = met_all (each_alt c.args.scope.now) plain_alt c.args.alts.now c.loop-alt.alt-index _ c.loop-alt-test.false c.loop-alt.invariant.told ∙ ap refused_first (sym (alts_flat c.args.scope.now (map plain_alt c.args.alts.now)));
 }
 
 pub walk_arms-loop-arm-preserved : goal.walk_arms-loop-arm-preserved
@@ -47,7 +47,7 @@ walk_arms-loop-arm-preserved t c = record {
 pub walk_arms-returns : goal.walk_arms-returns
 walk_arms-returns t c = record {
   kept = c.loop-arm.invariant.same;
-  told = met_all (each_arm c.args.scope.now) plain_arm c.args.arms.now c.loop-arm.arm-index _ c.loop-arm-test.false c.loop-arm.invariant.told ∙ ap met (sym (arms_flat c.args.scope.now (map plain_arm c.args.arms.now)));
+  told = met_all (each_arm c.args.scope.now) plain_arm c.args.arms.now c.loop-arm.arm-index _ c.loop-arm-test.false c.loop-arm.invariant.told ∙ ap refused_first (sym (arms_flat c.args.scope.now (map plain_arm c.args.arms.now)));
 }
 
 pub walk_case_arms-loop-arm-preserved : goal.walk_case_arms-loop-arm-preserved
@@ -59,7 +59,7 @@ walk_case_arms-loop-arm-preserved t c = record {
 pub walk_case_arms-returns : goal.walk_case_arms-returns
 walk_case_arms-returns t c = record {
   kept = c.loop-arm.invariant.same;
-  told = met_all (each_case_arm c.args.scope.now c.args.kind (option_map plain_range c.args.values)) plain_case_arm c.args.arms.now c.loop-arm.arm-index _ c.loop-arm-test.false c.loop-arm.invariant.told ∙ ap met (sym (case_arms_flat c.args.scope.now c.args.kind (option_map plain_range c.args.values) (map plain_case_arm c.args.arms.now)));
+  told = met_all (each_case_arm c.args.scope.now c.args.kind (option_map plain_range c.args.values)) plain_case_arm c.args.arms.now c.loop-arm.arm-index _ c.loop-arm-test.false c.loop-arm.invariant.told ∙ ap refused_first (sym (case_arms_flat c.args.scope.now c.args.kind (option_map plain_range c.args.values) (map plain_case_arm c.args.arms.now)));
 }
 
 pub walk_handlers-loop-handler-preserved : goal.walk_handlers-loop-handler-preserved
@@ -93,14 +93,14 @@ walk_stmt-returns-in_ok-other-in-Conditional-clause-told t c =
     let shape : plain_stmt c.args.stmt.now ≡ SConditional (plain_call c.in-Conditional.call) (row_of (map plain_stmt c.in-Conditional.behind.items)) (row_of (map plain_stmt c.in-Conditional.otherwise.items)) c.args.stmt.now.span = grind (arith, rows) in
     branches_told c.args.scope.now c.walk_stmts-in-Conditional.new.scope (plain_call c.in-Conditional.call) c.in-Conditional.behind.items c.in-Conditional.otherwise.items c.deref-in-Conditional.result.now c.deref-in-Conditional-2.result.now _ _ _ _ _
     c.first-in-Conditional-2.ensures c.first-in-Conditional.ensures c.in_ok-behind-in-Conditional.ensures.kept c.deref-in-Conditional.ensures.value c.deref-in-Conditional-2.ensures.value c.walk_call-head.ensures c.in_ok-behind-in-Conditional.ensures.told c.in_ok-other-in-Conditional.ensures.told
-    ∙ ap (λ p. met (stmt_sites c.args.scope.now p)) (sym shape)
+    ∙ ap (λ p. refused_first (stmt_sites c.args.scope.now p)) (sym shape)
 
 pub walk_stmt-returns-in_ok-other-in-Timed-clause-told : goal.walk_stmt-returns-in_ok-other-in-Timed-clause-told
 walk_stmt-returns-in_ok-other-in-Timed-clause-told t c =
     let shape : plain_stmt c.args.stmt.now ≡ STimed (plain_call c.in-Timed.call) (row_of (map plain_stmt c.in-Timed.behind.items)) c.in-Timed.thousandths (row_of (map plain_stmt c.in-Timed.after.items)) c.args.stmt.now.span = grind (arith, rows) in
     branches_told c.args.scope.now c.walk_stmts-in-Timed.new.scope (plain_call c.in-Timed.call) c.in-Timed.behind.items c.in-Timed.after.items c.deref-in-Timed.result.now c.deref-in-Timed-2.result.now _ _ _ _ _
     c.first-in-Timed-2.ensures c.first-in-Timed.ensures c.in_ok-behind-in-Timed.ensures.kept c.deref-in-Timed.ensures.value c.deref-in-Timed-2.ensures.value c.walk_call-head-in-Timed.ensures c.in_ok-behind-in-Timed.ensures.told c.in_ok-other-in-Timed.ensures.told
-    ∙ ap (λ p. met (stmt_sites c.args.scope.now p)) (sym shape)
+    ∙ ap (λ p. refused_first (stmt_sites c.args.scope.now p)) (sym shape)
 
 pub walk_stmt-returns-in_ok-rest-in-Some-others-clause-told : goal.walk_stmt-returns-in_ok-rest-in-Some-others-clause-told
 walk_stmt-returns-in_ok-rest-in-Some-others-clause-told t c =
@@ -108,7 +108,7 @@ walk_stmt-returns-in_ok-rest-in-Some-others-clause-told t c =
     let others : c.is_some.result ≡ true = c.is_some.ensures ∙ ap is_some c.in-Some-others.is in
     case_others c.args.scope.now c.walk_case_arms.new.scope (plain_expr c.in-Case.selector) c.in-Case.arms.items c.deref-in-Case.result.now c.deref-in-Case-2.result.now c.in-Some-others.list.items c.deref-in-Some-others.result.now c.is_some.result c.args.stmt.now.span c.in_ok-head-in-Case.head _ _ _ _
     c.first-in-Some-others-2.ensures c.first-in-Some-others.ensures c.deref-in-Case.ensures.value c.deref-in-Case-2.ensures.value c.deref-in-Some-others.ensures.value others c.in_ok-inner-in-Case.ensures.kept c.in_ok-head-in-Case.ensures c.in_ok-inner-in-Case.ensures.told c.in_ok-rest-in-Some-others.ensures.told
-    ∙ ap (λ p. met (stmt_sites c.args.scope.now p)) (sym shape)
+    ∙ ap (λ p. refused_first (stmt_sites c.args.scope.now p)) (sym shape)
 
 pub walk_stmt-returns-in-None-others-clause-told : goal.walk_stmt-returns-in-None-others-clause-told
 walk_stmt-returns-in-None-others-clause-told t c =
@@ -116,7 +116,7 @@ walk_stmt-returns-in-None-others-clause-told t c =
     let others : c.is_some.result ≡ false = c.is_some.ensures ∙ ap is_some c.in-None-others.is in
     case_alone c.args.scope.now (plain_expr c.in-Case.selector) c.in-Case.arms.items c.deref-in-Case.result.now c.deref-in-Case-2.result.now c.is_some.result c.args.stmt.now.span c.in_ok-head-in-Case.head _ _
     c.first-in-None-others.ensures c.deref-in-Case.ensures.value c.deref-in-Case-2.ensures.value others c.in_ok-head-in-Case.ensures c.in_ok-inner-in-Case.ensures.told
-    ∙ ap (λ p. met (stmt_sites c.args.scope.now p)) (sym shape)
+    ∙ ap (λ p. refused_first (stmt_sites c.args.scope.now p)) (sym shape)
 
 pub walk_counted-returns-clause-kept : goal.walk_counted-returns-clause-kept
 walk_counted-returns-clause-kept t c =

@@ -3,7 +3,7 @@ use Rattle.ada_tree.specs.PlainExpr.{plain_expr}
 use Rattle.ada_tree.specs.PlainStmt.{plain_target}
 use Rattle.ada_tree.specs.RuleMismatch.{target_kind}
 use Rattle.ada_tree.specs.Sites.{target_sites, expr_of}
-use Rattle.ada_refusals.specs.Met.{met}
+use Rattle.ada_refusals.specs.RefusedFirst.{refused_first}
 use Rattle.ada_refusals.proofs.Meeting.{joined}
 use Rattle.ada_types.proofs.statements.walk_assign.Goals as goal
 
@@ -11,4 +11,4 @@ pub returns : goal.returns
 returns c =
     c.first.ensures
     ∙ joined (target_sites c.args.scope.now (plain_target c.args.target.now)) (expr_of c.args.scope.now (target_kind c.args.scope.now (plain_target c.args.target.now)) (plain_expr c.args.value.now)) _ _ c.walk_target-written.ensures.refusal_is
-    (c.walk_of-walked.ensures.refusal_is ∙ ap (λ k. met (expr_of c.args.scope.now k (plain_expr c.args.value.now))) c.walk_target-written.ensures.kind_is)
+    (c.walk_of-walked.ensures.refusal_is ∙ ap (λ k. refused_first (expr_of c.args.scope.now k (plain_expr c.args.value.now))) c.walk_target-written.ensures.kind_is)

@@ -3,9 +3,9 @@ use Rattle.ada_tree.specs.PlainStmt.{plain_body}
 use Rattle.ada_tree.specs.PlainDecl.{decls_of, plain_decl}
 use Rattle.ada_tree.specs.Declaring.{before_all, first_scope, inside, after_decls}
 use Rattle.ada_tree.specs.Sites.{names_sites, decls_sites, body_sites}
-use Rattle.ada_refusals.specs.Met.{met}
-use Rattle.ada_duplicates.specs.Namings.{namings_of}
-use Rattle.ada_duplicates.specs.Notes.{AreAt}
+use Rattle.ada_refusals.specs.RefusedFirst.{refused_first}
+use Rattle.ada_duplicates.specs.NamingsInOrder.{namings_of}
+use Rattle.ada_duplicates.specs.NamedSoFar.{AreAt}
 use Rattle.ada_refusals.proofs.Meeting.{joined}
 use Rattle.ada_types.proofs.TypeDecls.{behind_names}
 use Rattle.ada_duplicates.proofs.Behind.{at_first, noted_first}
@@ -31,8 +31,8 @@ returns c =
       others_are =
           c.first.ensures
           ∙ joined places (body_sites (inside end) body) _ _
-          (behind_names before_all (name ∷ []) (decls_sites start ds) _ (c.in_ok-walked.ensures.walked.refusal_is ∙ ap (λ s. met (decls_sites s given)) first ∙ ap (λ l. met (decls_sites start l)) same))
-          (c.in_ok-inner.ensures.told ∙ ap (λ s. met (body_sites (inside s) body)) scope);
+          (behind_names before_all (name ∷ []) (decls_sites start ds) _ (c.in_ok-walked.ensures.walked.refusal_is ∙ ap (λ s. refused_first (decls_sites s given)) first ∙ ap (λ l. refused_first (decls_sites start l)) same))
+          (c.in_ok-inner.ensures.told ∙ ap (λ s. refused_first (body_sites (inside s) body)) scope);
       repeated_is = c.in_ok-repeated.ensures places (inside end)
           (c.in_ok-walked.ensures.noted
           ∙ ap (λ s. c.in_ok-notes.notes.namings ++ namings_of (decls_sites s given)) first

@@ -1,7 +1,7 @@
 use Rattle.std.proofs.Common.{List, ℕ, subst}
 use Rattle.debug_outcome.specs.Coming.{Comes}
 use Rattle.debug_core.specs.ChoiceTexts.{IsListedRun}
-use Rattle.debug_core.specs.Started.{setup_of}
+use Rattle.debug_core.specs.inner.Started.{setup_of}
 use Rattle.debug_core.proofs.choosing.run_list.Goals as goal
 
 pub returns : goal.returns

@@ -1,7 +1,7 @@
 use Rattle.std.proofs.Common.{inl}
 use Rattle.debug_outcome.proofs.Comings.{comes_more}
 use Rattle.debug_core.specs.ChoiceTexts.{IsListedRun, RunsByFile}
-use Rattle.debug_core.specs.Started.{setup_of}
+use Rattle.debug_core.specs.inner.Started.{setup_of}
 use Rattle.debug_core.proofs.choosing.run_read.Goals as goal
 
 pub returns-in-Ok : goal.returns-in-Ok

@@ -1,7 +1,7 @@
 use Rattle.std.proofs.Common.{List, ℕ, subst}
 use Rattle.debug_outcome.specs.Coming.{Comes}
 use Rattle.debug_core.specs.ChoiceTexts.{IsListedRun, RunsByFile}
-use Rattle.debug_core.specs.Started.{setup_of}
+use Rattle.debug_core.specs.inner.Started.{setup_of}
 use Rattle.debug_core.proofs.choosing.run_under.Goals as goal
 
 pub returns-in-Empty : goal.returns-in-Empty

@@ -4,7 +4,7 @@ use Rattle.debug_outcome.specs.Coming.{Comes, Never}
 use Rattle.debug_outcome.proofs.Comings.{comes_more}
 use Rattle.debug_judge.specs.JudgeOutcomes.{JudgesLines}
 use Rattle.debug_core.specs.JudgeMeaning.{JudgeMeans}
-use Rattle.debug_core.specs.Started.{setup_of}
+use Rattle.debug_core.specs.inner.Started.{setup_of}
 use Rattle.debug_core.proofs.judge_command.judge_files.Goals as goal
 
 pub returns-in-Ok : goal.returns-in-Ok

@@ -1,14 +1,10 @@
 use Rattle.std.proofs.Common.{subst, sym}
 use Rattle.ada_tree.specs.PlainProgram.{plain_program}
-use Rattle.syn_event.proofs.Weaker.{placed_tokens}
 use Rattle.debug_outcome.specs.Coming.{Stops}
 use Rattle.debug_outcome.specs.declared.stopping.Stop.{Stop}
 use Rattle.debug_core.specs.LegalTexts.{IsNoLegalText}
 use Rattle.debug_core.proofs.Refusing.{stops_illegal}
 use Rattle.debug_core.proofs.reading.read_legal.Goals as goal
-
-pub check-requires : goal.check-requires
-check-requires c = placed_tokens (plain_program c.in-Ok.program) c.in-Ok.ensures.placed
 
 pub returns-clause-cause : goal.returns-clause-cause
 returns-clause-cause c =

@@ -2,7 +2,7 @@ use Rattle.std.proofs.Common.{◌≡◌, Ok}
 use Rattle.ded_io.specs.declared.writing.SinkError.{SinkError}
 use Rattle.ded_io.specs.Written.{Wrote}
 use Rattle.feasible.specs.Failing.{view_at}
-use Rattle.divergence.specs.Below.{tasks_below}
+use Rattle.divergence.specs.inner.Below.{tasks_below}
 use Rattle.divergence.specs.JudgeText.{parts_of}
 use Rattle.divergence.proofs.reporting.put_before.Given as goal
 

@@ -1,6 +1,6 @@
 use Rattle.event_machine.specs.Seats.{is_served_by}
 use Rattle.task_machine.specs.Table.{seat_of}
-use Rattle.feasible.specs.Recounts.{BeginAnew, below}
+use Rattle.feasible.specs.inner.Recounts.{BeginAnew, below}
 use Rattle.feasible.proofs.happening.begin_served.Given as goal
 
 -- the counts of the callers gone by have begun anew

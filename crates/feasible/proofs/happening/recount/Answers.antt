@@ -6,7 +6,7 @@ use Rattle.syn_event.specs.Numbering.{owner_of}
 use Rattle.task_model.specs.Frames.{callers_in}
 use Rattle.task_model.specs.TaskOps.{task_ops}
 use Rattle.task_machine.specs.Table.{seat_of}
-use Rattle.feasible.specs.Recounts.{BeginAnew}
+use Rattle.feasible.specs.inner.Recounts.{BeginAnew}
 use Rattle.feasible.proofs.Recounting.{anew_both}
 use Rattle.feasible.proofs.happening.recount.Goals as goal
 

@@ -1,5 +1,5 @@
 use Rattle.std.proofs.Common.{◌≤◌, ◌-◌}
-use Rattle.feasible.specs.Needs.{HasRun}
+use Rattle.feasible.specs.inner.Needs.{HasRun}
 use Rattle.feasible.proofs.settling.run_on.Given as goal
 
 -- the steps made so far are counted

@@ -2,7 +2,7 @@ use Rattle.std.proofs.Common.{◌≡◌, subst, pred, length, arith}
 use Rattle.std.specs.Prelude.{All}
 use Rattle.task_machine.specs.Conditions.{tasks_to}
 use Rattle.feasible.specs.Keeping.{IsSettled}
-use Rattle.feasible.specs.Needs.{tasks_below}
+use Rattle.feasible.specs.inner.Needs.{tasks_below}
 use Rattle.feasible.proofs.Running.{stuck_next, have_run_on, all_stay, tasks_from, settled_all, settled_more, below_last}
 use Rattle.feasible.proofs.settling.settle_all.Goals as goal
 

@@ -1,6 +1,6 @@
 use Rattle.std.specs.Prelude.{All}
 use Rattle.feasible.specs.Keeping.{IsSettled}
-use Rattle.feasible.specs.Needs.{HaveRun, tasks_below}
+use Rattle.feasible.specs.inner.Needs.{HaveRun, tasks_below}
 use Rattle.feasible.proofs.settling.settle_all.Given as goal
 
 -- the tasks gone by are settled

@@ -1,6 +1,6 @@
 use Rattle.std.proofs.Common.{◌≡◌, ◌∙◌, ap, sym, refl, Some, None, option_map}
 use Rattle.input_file.specs.InputFiles.{input_of_line, input_fault}
-use Rattle.input_file.specs.Tables.{plain_line}
+use Rattle.input_file.specs.inner.Tables.{plain_line}
 use Rattle.input_file.proofs.Reading.{line-case, inputs-read}
 use Rattle.input_file.proofs.inputs.next_line.Goals as goal
 

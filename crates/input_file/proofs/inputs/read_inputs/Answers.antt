@@ -2,8 +2,8 @@ use Rattle.std.proofs.Common.{◌^◌, ◌<◌, sym, subst, ◌∙◌, [], inl, 
 use Rattle.text_lines.proofs.Filing.{nil-by, some-by}
 use Rattle.input_file.specs.declared.errors.InputError.TheVariants.{BadLine}
 use Rattle.input_file.specs.InputFiles.{input_format}
-use Rattle.input_file.specs.NextLines.{IsNextInputs}
-use Rattle.input_file.specs.Tables.{IsTableOf}
+use Rattle.input_file.specs.inner.NextLines.{IsNextInputs}
+use Rattle.input_file.specs.inner.Tables.{IsTableOf}
 use Rattle.input_file.proofs.Reading.{cut-shorter, other-header, inputs-start, inputs-more, inputs-fault, inputs-end, inputs-unique, inputs-no_fault, inputs-one_fault, memory-cases}
 use Rattle.input_file.proofs.inputs.read_inputs.Goals as goal
 

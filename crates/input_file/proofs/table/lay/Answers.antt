@@ -1,6 +1,6 @@
 use Rattle.std.proofs.Common.{◌≡◌, ◌+◌, ◌∙◌, ap, rules, length, map}
 use Rattle.std.proofs.lemmas.List.{map-set}
-use Rattle.input_file.specs.Tables.{plain_line}
+use Rattle.input_file.specs.inner.Tables.{plain_line}
 use Rattle.input_file.proofs.Tabling.{table-laid}
 use Rattle.input_file.proofs.table.lay.Goals as goal
 

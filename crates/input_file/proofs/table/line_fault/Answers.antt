@@ -3,7 +3,7 @@ use Rattle.std.proofs.Common.{◌≡◌, ◌+◌, ◌∙◌, ap, sym, subst, ari
 use Rattle.std.proofs.lemmas.Bool.{leb-true}
 use Rattle.input_file.specs.InputFiles.{most_inputs}
 use Rattle.input_file.specs.declared.errors.InputError.TheVariants.{TooMany}
-use Rattle.input_file.specs.Tables.{plain_line}
+use Rattle.input_file.specs.inner.Tables.{plain_line}
 use Rattle.input_file.proofs.Tabling.{fault-seen, fault-unknown, fault-count}
 use Rattle.input_file.proofs.table.line_fault.Goals as goal
 

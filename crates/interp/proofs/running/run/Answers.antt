@@ -1,5 +1,5 @@
 use Rattle.std.proofs.Common.{◌≡◌, ◌∙◌, arith, Some, refl}
-use Rattle.interp.specs.Chosen.{IsPicked}
+use Rattle.interp.specs.inner.Chosen.{IsPicked}
 use Rattle.run_model.specs.Picked.{halted}
 use Rattle.interp.proofs.Reaching.{Reached, reached_more, Stopped, stopped, cut_between, cut_within}
 use Rattle.interp.proofs.running.run.Goals as goal

@@ -1,6 +1,6 @@
 use Rattle.std.proofs.Common.{◌≡◌, ◌≢◌, sym, subst, ◌∙◌, [], ◌∷◌, ◌++◌, length, inl, rules, Some, false}
 use Rattle.seq_file.specs.Files.{line_fault}
-use Rattle.seq_file.specs.NextEvents.{IsNextEvent}
+use Rattle.seq_file.specs.inner.NextEvents.{IsNextEvent}
 use Rattle.seq_file.proofs.Filing.{IsReadTo, read-start, read-more, read-end, read-fault, reads-no_fault, reads-unique, fault-unique, nil-by, some-by}
 use Rattle.seq_file.proofs.reading.read_seq.Goals as goal
 

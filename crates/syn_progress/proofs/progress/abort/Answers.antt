@@ -1,6 +1,6 @@
 use Rattle.std.proofs.Common.{◌≡◌, false, if◌then◌else◌, sym, ap, ◌∙◌}
 use Rattle.event_progress.specs.Known.{Known, fall}
-use Rattle.syn_progress.specs.Members.{member_at, known_of}
+use Rattle.syn_progress.specs.TaskRecords.{member_at, known_of}
 use Rattle.syn_progress.proofs.Shutting.{closed_known, shut_linked, shut_known, depth_within}
 use Rattle.syn_progress.proofs.progress.abort.Goals as goal
 

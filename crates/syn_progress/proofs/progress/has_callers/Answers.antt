@@ -1,5 +1,5 @@
 use Rattle.std.proofs.Common.{not, ◌&&◌, nat_lt, sym, ap, ◌∙◌}
-use Rattle.syn_progress.specs.Members.{member_at}
+use Rattle.syn_progress.specs.TaskRecords.{member_at}
 use Rattle.syn_progress.proofs.Reading.{callers_known}
 use Rattle.syn_progress.proofs.progress.has_callers.Goals as goal
 

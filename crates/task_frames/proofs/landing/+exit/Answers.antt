@@ -1,5 +1,5 @@
 use Rattle.std.proofs.Common.{◌≡◌, true, false, [], ◌∷◌, ◌++◌, reverse, ap}
-use Rattle.task_frames.specs.Catching.{holds_exits, is_exited}
+use Rattle.task_frames.specs.inner.Catching.{holds_exits, is_exited}
 use Rattle.task_frames.proofs.CallLemmas.{exit_at_end, exit_behind, exit_below}
 use Rattle.task_frames.proofs.landing.+exit.Goals as goal
 use Rattle.task_frames.proofs.landing.+exit.Goals.{then-is_exited, else-is_exited}

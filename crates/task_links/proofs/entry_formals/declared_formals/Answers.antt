@@ -1,7 +1,7 @@
 use Rattle.std.proofs.Common.{ap, ◌∙◌, ◌+◌, ◌++◌, ◌∷◌, [], map, take}
 use Rattle.ada_tree.specs.PlainDecl.{plain_decl}
 use Rattle.syn_event.specs.Units.{tasks_in}
-use Rattle.task_links.specs.Made.{formals_declared}
+use Rattle.task_links.specs.inner.Made.{formals_declared}
 use Rattle.task_links.proofs.UnitsLemmas.{keeps_same, tasks_more, tasks_end}
 use Rattle.task_links.proofs.entry_formals.declared_formals.Goals as goal
 

@@ -1,7 +1,7 @@
 use Rattle.std.proofs.Common.{take, map}
 use Rattle.ada_tree.specs.PlainDecl.{plain_decl}
 use Rattle.syn_event.specs.Units.{tasks_in}
-use Rattle.task_links.specs.Made.{KeepsUnits}
+use Rattle.task_links.specs.inner.Made.{KeepsUnits}
 use Rattle.task_links.proofs.entry_formals.declared_formals.Given as goal
 
 -- the tasks of so many declarations are kept

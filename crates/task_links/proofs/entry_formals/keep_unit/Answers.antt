@@ -1,7 +1,7 @@
 use Rattle.std.proofs.Common.{ap, sym, ◌∙◌, ◌==◌, map, None, if◌then◌else◌}
 use Rattle.ada_tree.specs.StaticValue.{first_of_two}
 use Rattle.ada_tree.specs.PlainDecl.{plain_entry, plain_task}
-use Rattle.task_links.specs.Made.{formals_at, formals_among}
+use Rattle.task_links.specs.inner.Made.{formals_at, formals_among}
 use Rattle.task_links.proofs.KeepingLemmas.{on_ok}
 use Rattle.task_links.proofs.UnitsLemmas.{known_step, new_step}
 use Rattle.task_links.proofs.entry_formals.keep_unit.Goals as goal

@@ -1,5 +1,5 @@
 use Rattle.std.proofs.Common.{◌≡◌, ◌++◌, map, take}
-use Rattle.task_links.specs.Made.{parameter_named}
+use Rattle.task_links.specs.inner.Made.{parameter_named}
 use Rattle.task_links.proofs.formals.add_group.Given as goal
 
 -- the formals of so many names are added

@@ -1,5 +1,5 @@
 use Rattle.std.proofs.Common.{sym, ◌∙◌}
-use Rattle.task_links.specs.Keys.{entry_eq}
+use Rattle.task_links.specs.inner.Keys.{entry_eq}
 use Rattle.task_links.proofs.KeepingLemmas.{kept, put, entry_equiv}
 use Rattle.task_links.proofs.keeping.keep_entry.Goals as goal
 

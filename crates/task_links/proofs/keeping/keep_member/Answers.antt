@@ -1,7 +1,7 @@
 use Rattle.std.proofs.Common.{ap, sym, ◌∙◌, cond, w64, is_some, Some}
 use Rattle.std.specs.HashMap.{get}
 use Rattle.std.proofs.lemmas.Int.{to_z-of_z}
-use Rattle.task_links.specs.Keys.{member_eq}
+use Rattle.task_links.specs.inner.Keys.{member_eq}
 use Rattle.task_links.proofs.KeepingLemmas.{kept, put, member_equiv}
 use Rattle.task_links.proofs.keeping.keep_member.Goals as goal
 

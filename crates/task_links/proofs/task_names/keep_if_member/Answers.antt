@@ -3,7 +3,7 @@ use Rattle.std.proofs.lemmas.Int.{to_z-of_z}
 use Rattle.std.specs.HashMap.{get}
 use Rattle.ada_tree.specs.StaticValue.{first_of_two}
 use Rattle.task_model.specs.Setting.{is_member}
-use Rattle.task_links.specs.Keys.{member_eq}
+use Rattle.task_links.specs.inner.Keys.{member_eq}
 use Rattle.task_links.proofs.KeepingLemmas.{on_ok, none_kept, same_index}
 use Rattle.task_links.proofs.task_names.keep_if_member.Goals as goal
 

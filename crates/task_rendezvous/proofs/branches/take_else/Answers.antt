@@ -1,7 +1,7 @@
 use Rattle.std.proofs.Common.{◌∙◌, sym, ap}
 use Rattle.ada_tree.specs.PlainStmt.{plain_stmt}
 use Rattle.task_state.specs.Plain.{plain_task}
-use Rattle.task_rendezvous.specs.Branches.{part_taken}
+use Rattle.task_rendezvous.specs.inner.Branches.{part_taken}
 use Rattle.task_rendezvous.proofs.Taking.{takes_else, no_else}
 use Rattle.task_rendezvous.proofs.branches.take_else.Goals as goal
 

@@ -1,7 +1,7 @@
 use Rattle.std.proofs.Common.{◌≡◌, map, drop}
 use Rattle.ada_tree.specs.PlainStmt.{plain_formal}
 use Rattle.task_model.specs.Setting.{parameters_of}
-use Rattle.task_rendezvous.specs.Conforming.{are_same}
+use Rattle.task_rendezvous.specs.inner.Conforming.{are_same}
 use Rattle.task_rendezvous.proofs.conforming.are_same.Given as goal
 
 -- the formals of the declarations that are left go with the formals that are left

@@ -1,7 +1,7 @@
 use Rattle.std.proofs.Common.{◌≡◌, List, map, drop, ◌++◌}
-use Rattle.task_links.specs.Made.{parameter_named}
+use Rattle.task_links.specs.inner.Made.{parameter_named}
 use Rattle.task_model.specs.declared.parameters.FormalParameter.{FormalParameter}
-use Rattle.task_rendezvous.specs.Conforming.{are_same}
+use Rattle.task_rendezvous.specs.inner.Conforming.{are_same}
 use Rattle.task_rendezvous.proofs.conforming.rest_behind.Given as goal
 
 -- the names that are left go with the formals that are left

@@ -3,7 +3,7 @@ use Rattle.std.specs.List.{find}
 use Rattle.ada_tree.specs.PlainStmt.{plain_alt, alts_of}
 use Rattle.task_model.specs.Waits.{alternatives_open, accepts_member}
 use Rattle.task_waits.specs.Standing.{task_here, parts_opened}
-use Rattle.task_waits.specs.Choosing.{opens_or_none}
+use Rattle.task_waits.specs.inner.Choosing.{opens_or_none}
 use Rattle.task_waits.proofs.Opens.{opens_from, IsFirst}
 use Rattle.task_waits.proofs.alternatives.first_taken.Given as goal
 

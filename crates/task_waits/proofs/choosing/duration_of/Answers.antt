@@ -4,7 +4,7 @@ use Rattle.ada_tree.proofs.Rows.{rows}
 use Rattle.ada_value.specs.Values.{and_then}
 use Rattle.task_model.specs.Waits.{kind_opened}
 use Rattle.task_waits.specs.Standing.{task_here}
-use Rattle.task_waits.specs.Choosing.{duration_of}
+use Rattle.task_waits.specs.inner.Choosing.{duration_of}
 use Rattle.task_waits.proofs.Offering.{accept_lasts, accept_stops}
 use Rattle.task_waits.proofs.choosing.duration_of.Goals as goal
 

@@ -3,7 +3,7 @@ use Rattle.std.specs.List.{filter_map}
 use Rattle.ada_tree.specs.PlainStmt.{plain_alt, alts_of}
 use Rattle.task_model.specs.Waits.{alternatives_open}
 use Rattle.task_waits.specs.Standing.{task_here}
-use Rattle.task_waits.specs.Choosing.{chosen, opens_or_none}
+use Rattle.task_waits.specs.inner.Choosing.{chosen, opens_or_none}
 use Rattle.task_waits.proofs.Opens.{delays_before, opens_from, AreLeft}
 use Rattle.task_waits.proofs.choosing.put_choices.Given as goal
 

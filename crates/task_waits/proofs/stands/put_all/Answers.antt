@@ -6,7 +6,7 @@ use Rattle.ada_tree.specs.PlainStmt.{plain_alt, alts_of}
 use Rattle.task_model.specs.Waits.{alternatives_open, else_choice}
 use Rattle.task_waits.specs.Standing.{task_here}
 use Rattle.task_waits.specs.declared.choosing.Sort.TheVariants as sort
-use Rattle.task_waits.specs.Choosing.{chosen, opens_or_none}
+use Rattle.task_waits.specs.inner.Choosing.{chosen, opens_or_none}
 use Rattle.task_waits.proofs.Offering.{open_then, all_fit, else_few, all_put}
 use Rattle.task_waits.proofs.stands.put_all.Goals as goal
 

@@ -1,6 +1,6 @@
 use Rattle.std.proofs.Common.{◌≡◌, ◌-◌, map, drop, length}
 use Rattle.ada_tree.specs.PlainDecl.{plain_decl, decls_of}
-use Rattle.ada_task_counts.specs.Shares.{body_shares}
+use Rattle.ada_task_counts.specs.inner.Shares.{body_shares}
 use Rattle.ada_task_counts.proofs.shares.BodyShares.new.Given as goal
 
 -- the shares of the bodies from behind

@@ -1,6 +1,6 @@
 use Rattle.std.proofs.Common.{◌≡◌, ◌-◌, map, drop, length}
 use Rattle.ada_task_objects.specs.PlainParts.{plain_part}
-use Rattle.ada_task_counts.specs.Shares.{row_lengths}
+use Rattle.ada_task_counts.specs.inner.Shares.{row_lengths}
 use Rattle.ada_task_counts.proofs.shares.Rates.new.Given as goal
 
 -- the lengths of the names from behind

@@ -1,6 +1,6 @@
 use Rattle.std.proofs.Common.{◌≡◌, ◌∙◌, sym, subst, arith, false, [], ◌∷◌, length-append}
 use Rattle.seq_file.specs.Files.{has_ended}
-use Rattle.seq_file.specs.NextEvents.{IsEventLine}
+use Rattle.seq_file.specs.inner.NextEvents.{IsEventLine}
 use Rattle.seq_file.proofs.Filing.{read-line, push-ended}
 use Rattle.seq_file.proofs.stepping.SeqLines.next.Goals as goal
 

@@ -3,7 +3,7 @@ use Rattle.std.specs.Vec.{with_items}
 use Rattle.std.proofs.lemmas.List.{with_items_is}
 use Rattle.event_progress.specs.Known.{advanced}
 use Rattle.syn_event.specs.Numbering.{owner_of}
-use Rattle.syn_progress.specs.Members.{known_of}
+use Rattle.syn_progress.specs.TaskRecords.{known_of}
 use Rattle.syn_progress.proofs.Reading.{after_event}
 use Rattle.syn_progress.proofs.progress.Progress.advance.Goals as goal
 

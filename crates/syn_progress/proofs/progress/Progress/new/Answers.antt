@@ -1,7 +1,7 @@
 use Rattle.std.proofs.Common.{◌≡◌, false, length, ◌∙◌, ap}
 use Rattle.syn_event.specs.Numbering.{Numbering}
 use Rattle.event_progress.specs.Known.{at_start}
-use Rattle.syn_progress.specs.Members.{known_of}
+use Rattle.syn_progress.specs.TaskRecords.{known_of}
 use Rattle.syn_progress.proofs.Reading.{idle_known}
 use Rattle.syn_progress.proofs.progress.Progress.new.Goals as goal
 

@@ -1,7 +1,7 @@
 use Rattle.std.proofs.Common.{ap, ◌∙◌}
 use Rattle.ada_tree.specs.PlainProgram.{plain_program}
 use Rattle.task_model.specs.Setting.{Setting, entry_parameters}
-use Rattle.task_links.specs.Made.{kept_for_entry}
+use Rattle.task_links.specs.inner.Made.{kept_for_entry}
 use Rattle.task_links.proofs.LinksLemmas.{kept_is}
 use Rattle.task_links.proofs.links.Links.entry_parameters.Goals as goal
 

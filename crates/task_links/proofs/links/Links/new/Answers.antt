@@ -2,7 +2,7 @@ use Rattle.std.proofs.Common.{ap, ◌∙◌, List, map}
 use Rattle.ada_tree.specs.declared.declarations.Decl.{Decl}
 use Rattle.ada_tree.specs.PlainDecl.{decls_of, plain_decl}
 use Rattle.syn_event.specs.Units.{decl_list, tasks_in}
-use Rattle.task_links.specs.Made.{formals_declared}
+use Rattle.task_links.specs.inner.Made.{formals_declared}
 use Rattle.task_links.proofs.links.Links.new.Goals as goal
 
 pub invariant_of-result : goal.invariant_of-result

@@ -3,7 +3,7 @@ use Rattle.std.specs.HashMap.{get}
 use Rattle.std.proofs.lemmas.Int.{to_z-of_z}
 use Rattle.ada_value.specs.declared.values.Raised.TheVariants.{Constraint}
 use Rattle.task_model.specs.Setting.{member_named}
-use Rattle.task_links.specs.Keys.{member_eq}
+use Rattle.task_links.specs.inner.Keys.{member_eq}
 use Rattle.task_links.proofs.task_names.TaskNames.member_named.Goals as goal
 
 pub returns-in-Some : goal.returns-in-Some

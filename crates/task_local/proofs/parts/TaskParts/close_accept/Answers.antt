@@ -4,7 +4,7 @@ use Rattle.task_model.specs.Rendezvous.{finished}
 use Rattle.task_model.specs.Stands.{offer_of}
 use Rattle.task_room.specs.Fitting.{HasRoom}
 use Rattle.task_room.proofs.Meetings.{finished_has_room}
-use Rattle.task_local.specs.InOrder.{task_of}
+use Rattle.task_local.specs.inner.InOrder.{task_of}
 use Rattle.task_local.proofs.Names.{finish_alike}
 use Rattle.task_local.proofs.parts.TaskParts.close_accept.Goals as goal
 

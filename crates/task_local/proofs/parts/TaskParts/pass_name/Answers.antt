@@ -1,7 +1,7 @@
 use Rattle.std.proofs.Common.{sym, subst, ◌∙◌, ◌+◌, ◌<◌, length, arith}
 use Rattle.task_state.specs.Plain.{plain_task}
 use Rattle.task_room.specs.Fitting.{HasRoom}
-use Rattle.task_local.specs.InOrder.{task_of}
+use Rattle.task_local.specs.inner.InOrder.{task_of}
 use Rattle.task_local.proofs.Moves.{name_passed, names_within, last_passed, name_next}
 use Rattle.task_room.proofs.Meetings.{passed_has_room}
 use Rattle.task_local.proofs.parts.TaskParts.pass_name.Goals as goal

@@ -1,6 +1,6 @@
 use Rattle.std.proofs.Common.{sym, subst}
 use Rattle.task_room.specs.Fitting.{HasRoom}
-use Rattle.task_local.specs.InOrder.{task_of}
+use Rattle.task_local.specs.inner.InOrder.{task_of}
 use Rattle.task_room.proofs.Steps.{raised_has_room}
 use Rattle.task_local.proofs.parts.TaskParts.raise.Goals as goal
 

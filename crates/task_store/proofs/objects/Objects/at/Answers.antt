@@ -1,5 +1,5 @@
 use Rattle.std.proofs.Common.{◌∙◌, sym, ap, subst, length, option_map, slice_get, Some, arith, ◌≤◌}
-use Rattle.task_store.specs.Kept.{object_at, IsWithin}
+use Rattle.task_store.specs.inner.Kept.{object_at, IsWithin}
 use Rattle.task_store.proofs.Keeping.{at_kept, at_past, within_at}
 use Rattle.task_store.proofs.objects.Objects.at.Goals as goal
 

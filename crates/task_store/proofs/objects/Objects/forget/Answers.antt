@@ -1,5 +1,5 @@
 use Rattle.std.proofs.Common.{◌∙◌, ap, drop, take}
-use Rattle.task_store.specs.Kept.{objects_kept}
+use Rattle.task_store.specs.inner.Kept.{objects_kept}
 use Rattle.task_store.proofs.Keeping.{forgotten}
 use Rattle.task_store.proofs.objects.Objects.forget.Goals as goal
 

@@ -1,6 +1,6 @@
 use Rattle.std.proofs.Common.{◌∙◌, sym, ap, subst, length, option_map, Some}
 use Rattle.ada_value.specs.Variables.{object_named}
-use Rattle.task_store.specs.Kept.{object_at, IsWithin}
+use Rattle.task_store.specs.inner.Kept.{object_at, IsWithin}
 use Rattle.task_store.proofs.Keeping.{named_kept, within}
 use Rattle.task_store.proofs.objects.Objects.named.Goals as goal
 

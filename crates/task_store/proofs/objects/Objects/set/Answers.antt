@@ -1,6 +1,6 @@
 use Rattle.std.proofs.Common.{◌∙◌, sym, ap, length}
 use Rattle.ada_value.specs.Variables.{set_value}
-use Rattle.task_store.specs.Kept.{objects_kept, set_there}
+use Rattle.task_store.specs.inner.Kept.{objects_kept, set_there}
 use Rattle.task_store.proofs.Keeping.{set_kept}
 use Rattle.task_store.proofs.objects.Objects.set.Goals as goal
 

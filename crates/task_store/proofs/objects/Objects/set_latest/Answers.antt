@@ -1,6 +1,6 @@
 use Rattle.std.proofs.Common.{◌∙◌, sym, ap, length}
 use Rattle.task_store.specs.Latest.{with_latest}
-use Rattle.task_store.specs.Kept.{objects_kept, set_there}
+use Rattle.task_store.specs.inner.Kept.{objects_kept, set_there}
 use Rattle.task_store.proofs.Keeping.{latest_kept}
 use Rattle.task_store.proofs.objects.Objects.set_latest.Goals as goal
 

@@ -1,0 +1,2 @@
+pub mod DeclViews
+pub mod ReadingDeclarations

@@ -1,0 +1,5 @@
+use Rattle.ada_duplicates.proofs.Behind.{first_noted}
+use Rattle.ada_duplicates.proofs.named_so_far.Notes.new.Goals as goal
+
+pub returns : goal.returns
+returns c = first_noted c.note_name.new.self c.new.result.items c.new-2.result c.new-3.result c.args.name c.new.ensures.items c.new-2.ensures c.new-3.ensures c.in_ok-note_name.ensures

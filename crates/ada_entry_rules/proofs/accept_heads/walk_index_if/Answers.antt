@@ -1,0 +1,9 @@
+use Rattle.std.proofs.Common.{ap, option_map}
+use Rattle.ada_tree.specs.PlainExpr.{plain_expr}
+use Rattle.ada_tree.specs.Sites.{accept_index_sites}
+use Rattle.ada_scopes.specs.Entries.{plain_entry}
+use Rattle.ada_refusals.proofs.Listing.{not_there}
+use Rattle.ada_entry_rules.proofs.accept_heads.walk_index_if.Goals as goal
+
+pub returns-in-None : goal.returns-in-None
+returns-in-None c = not_there (accept_index_sites c.args.scope.now (option_map (λ e. plain_entry e.now) c.args.entry)) _ (ap (option_map plain_expr) c.in-None.is)

@@ -1,0 +1,3 @@
+pub mod Actuals
+pub mod Calls
+pub mod Accepts

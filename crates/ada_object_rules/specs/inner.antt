@@ -1,0 +1,4 @@
+pub mod Initials
+pub mod Plans
+pub mod Shapes
+pub mod Objects

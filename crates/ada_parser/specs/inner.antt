@@ -1,0 +1,4 @@
+pub mod ReadingDeclarativeParts
+pub mod ReadingRows
+pub mod ReadingUnits
+pub mod UnitViews

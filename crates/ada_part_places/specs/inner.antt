@@ -1,0 +1,5 @@
+pub mod Asking
+pub mod Claiming
+pub mod Waiting
+pub mod Aborted
+pub mod WalkedExpr

@@ -1,0 +1,3 @@
+pub mod MemberViews
+pub mod ReadingTasks
+pub mod TaskViews

@@ -1,0 +1,3 @@
+pub mod SitesOfMembers
+pub mod Written
+pub mod Decls
