@@ -1,13 +1,9 @@
 pub mod Rows
 pub mod Floors
 pub mod Meetings
-pub mod Aborts
 pub mod Cells
 pub mod Preludes
+pub mod Declared
+pub mod Static
 pub mod Actuals
-pub mod Calls
-pub mod Returns
-pub mod Handing
-pub mod Accepts
-pub mod Images
 pub mod Carried

@@ -48,11 +48,11 @@ module _ (x : Rewriting) (images : AreImages x) (types : AgreeOnTypes x.programs
 
   words-named : (mode : ParMode) (limits : Limits) {ws : List Word} → OldWords x.programs ws → AreNamed x.programs (map (λ w. record { name = w.name; mode = mode; limits = limits }) ws)
   words-named mode limits old_no_word = none_named
-  words-named mode limits (old_word w rest old h) = named_then (record { name = w.name; mode = mode; limits = limits }) _ old (words-named mode limits h)
+  words-named mode limits (old_word w rest old free h) = named_then (record { name = w.name; mode = mode; limits = limits }) _ old free (words-named mode limits h)
 
   named-append : {fs gs : List FormalParameter} → AreNamed x.programs fs → AreNamed x.programs gs → AreNamed x.programs (fs ++ gs)
   named-append none_named k = k
-  named-append (named_then f fs old h) k = named_then f _ old (named-append h k)
+  named-append (named_then f fs old free h) k = named_then f _ old free (named-append h k)
 
   pub formals-named : {fs : List PFormal} → OldFormals x.programs fs → AreNamed x.programs (parameters_of (types_before x.programs) fs)
   formals-named old_no_formal = none_named
@@ -66,9 +66,9 @@ module _ (x : Rewriting) (images : AreImages x) (types : AgreeOnTypes x.programs
 
   opened-known : {fs : List FormalParameter} → AreNamed x.programs fs → {vs : List Value} → AreValues x.programs vs → AreOpen x.programs fs (opened_objects (types_before x.programs) fs vs)
   opened-known none_named h = none_open
-  opened-known (named_then f fs old k) no_value =
-      open_then f _ fs _ old (single-known x.programs types f.name f.limits None (lower (types_before x.programs) f.limits) (types.values_known f.limits.kind f.limits.first)) (opened-known k no_value)
-  opened-known (named_then f fs old k) (value_then v vs known h) = open_then f _ fs _ old (single-known x.programs types f.name f.limits None v known) (opened-known k h)
+  opened-known (named_then f fs old free k) no_value =
+      open_then f _ fs _ old (single-known x.programs types f.name f.limits None (lower (types_before x.programs) f.limits) free (types.values_known f.limits.kind f.limits.first)) (opened-known k no_value)
+  opened-known (named_then f fs old free k) (value_then v vs known h) = open_then f _ fs _ old (single-known x.programs types f.name f.limits None v free known) (opened-known k h)
 
   opened-same : (fs : List FormalParameter) (vs : List Value) → opened_objects (types_before x.programs) fs vs ≡ opened_objects (types_after x.programs) fs vs
   opened-same [] vs = refl

@@ -1,9 +1,9 @@
+pub mod Suited
 pub mod NormalRows
 pub mod NormalFloors
 pub mod Meetings
 pub mod Preludes
+pub mod Declared
+pub mod Met
 pub mod Actuals
-pub mod Calls
-pub mod Returns
-pub mod Accepts
 pub mod Laws

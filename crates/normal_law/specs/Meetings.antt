@@ -8,13 +8,13 @@ use Rattle.task_model.specs.Frames.{Around, Opened, Part, control}
 use Rattle.ada_value.specs.Variables.{Variables}
 use Rattle.task_model.specs.Tasks.{Task}
 use Rattle.task_model.specs.Rendezvous.{finished, finals_of, pending_of}
-use Rattle.translation_law.specs.Translations.{Programs, Translation, IsOld, IsKnown}
+use Rattle.translation_law.specs.Translations.{Programs, Translation, IsOld, IsFree, IsKnown}
 use Rattle.translation_law.specs.Controls.{Alike, task_in, Under}
 
 -- formals of old names
 pub data AreNamed (b : Programs) : List FormalParameter → Type 0 where
   none_named : AreNamed b []
-  named_then : (f : FormalParameter) (fs : List FormalParameter) → IsOld b f.name → AreNamed b fs → AreNamed b (f ∷ fs)
+  named_then : (f : FormalParameter) (fs : List FormalParameter) → IsOld b f.name → IsFree b f.name → AreNamed b fs → AreNamed b (f ∷ fs)
 
 -- values of known kinds
 pub data AreValues (b : Programs) : List Value → Type 0 where

@@ -2,17 +2,14 @@
 //! The crate has no functions of its own but the one that carries the laws; its definitions and lemmas are there for the laws of whole runs.
 #![tactic(auto)]
 
-ghost use Rattle.normal_law.specs.Laws.{NormalTranslates, NormalSteps, NormalStarts, NormalRaises, NormalOpens, NormalEnds, NormalEnters, NormalPasses, NormalPreludes, NormalCalls, NormalReturns, NormalAccepts, NormalSelects, SelectsReturn};
+ghost use Rattle.normal_law.specs.Laws.{NormalTranslates, NormalSteps, NormalStarts, NormalRaises, NormalOpens, NormalEnds, NormalEnters, NormalPreludes};
 
 /// Carries what holds of tasks of the normal form, where the two tables of types agree on what they have in common. The normal form of a unit is a
 /// translation of it (`translates`): images of rows, of handlers and of branches, any number of open accept bodies, and the unit's added variables beside
 /// its own. So a task and its image take the same local steps (`steps`), and they
 /// start alike (`starts`). Behind synchronizing statements they go on alike: where an exception is raised in both (`raises`), where both open an accept body
-/// (`opens`) or end one (`ends`), where both enter another part of a call or wait (`enters`), and where an abort statement's next name is passed (`passes`).
-/// What stands in front of a statement is made, or raises what the original's evaluation raises (`preludes`); so a plain call of a plain entry comes to the
-/// same on both sides (`calls`), and where it returns the assignments behind it do what copying back does (`returns`).
-/// An accept statement accepts the same member on both sides (`accepts`). Conditional and timed calls come to the same as plain ones do (`selects`),
-/// and return as they do (`selects_return`).
+/// (`opens`) or end one (`ends`), and where both enter another part of a call or wait (`enters`).
+/// What stands in front of a statement is made, or raises what the original's evaluation raises (`preludes`).
 pub fn laws()
     ensures translates { NormalTranslates }
     ensures steps { NormalSteps }
@@ -21,11 +18,5 @@ pub fn laws()
     ensures opens { NormalOpens }
     ensures ends { NormalEnds }
     ensures enters { NormalEnters }
-    ensures passes { NormalPasses }
     ensures preludes { NormalPreludes }
-    ensures calls { NormalCalls }
-    ensures returns { NormalReturns }
-    ensures accepts { NormalAccepts }
-    ensures selects { NormalSelects }
-    ensures selects_return { SelectsReturn }
 {}

@@ -20,7 +20,7 @@ use Rattle.normal_types.specs.Laws.{AddedNamesAreNew}
 
 -- ---- the names begin with the program's
 
-interned-begins : (ts : List (List ℕ)) (t : List ℕ) → Begins ts (interned ts t)
+pub interned-begins : (ts : List (List ℕ)) (t : List ℕ) → Begins ts (interned ts t)
 interned-begins ts t = by_test (list_any (bytes_eq t) ts)
   where
     by_test : (b : Bool) → Begins ts (if b then ts else ts ++ t ∷ [])
@@ -99,3 +99,11 @@ added_names_are_new g k =
     ap (λ n. own_name g.program (id_of (normal_names g n) (variable_text k)).0) (add-one k)
     ∙ ap (λ o. own_name g.program (unwrap_or o 0)) place.position_is
     ∙ own-not g.program begins.more place.at k (ap (λ l. slice_get l place.at) (sym begins.joined) ∙ place.there)
+
+-- where the name of a variable stands among the names of its number
+pub variable-there : (g : Setting) (k : ℕ) → (slice_get (normal_names g (suc k)) (variable_name g k).0 ≡ Some (variable_text k)) × ((variable_name g k).0 < length (normal_names g (suc k)))
+variable-there g k =
+    let place = text-place (normal_names g (suc k)) (variable_text k) (interned-has (normal_names g k) (variable_text k)) in
+    let e : (variable_name g k).0 ≡ place.at = ap (λ n. (id_of (normal_names g n) (variable_text k)).0) (add-one k) ∙ ap (λ o. unwrap_or o 0) place.position_is in
+    let there : slice_get (normal_names g (suc k)) (variable_name g k).0 ≡ Some (variable_text k) = ap (slice_get (normal_names g (suc k))) e ∙ place.there in
+    (there, slice_get_within (normal_names g (suc k)) (variable_name g k).0 (variable_text k) there)

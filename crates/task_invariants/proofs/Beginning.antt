@@ -22,16 +22,16 @@ body_parts Head (body stmts handlers) h = h
 
 module _ (setup : Setup) (numbers : Numbering) where
   -- the task of a number, as the program starts
-  abbrev first : ℕ → Seat Task
+  abbrev pub first : ℕ → Seat Task
   first n = live (started (setting_of setup numbers) setup.inputs n)
 
-  length_first : (n : ℕ) → length (first_tasks setup numbers n) ≡ n
+  pub length_first : (n : ℕ) → length (first_tasks setup numbers n) ≡ n
   length_first zero = refl
   length_first (suc n) =
       let e : length (first_tasks setup numbers n) ≡ n = length_first n in
       length-append (first_tasks setup numbers n) (first n ∷ []) ∙ (let k : length (first_tasks setup numbers n) + 1 ≡ suc n = omega arith in k)
 
-  first_is : (n t : ℕ) → t < n → slice_index_or (first_tasks setup numbers n) t (completed nobody) ≡ first t
+  pub first_is : (n t : ℕ) → t < n → slice_index_or (first_tasks setup numbers n) t (completed nobody) ≡ first t
   first_is zero t l = absurd (omega arith)
   first_is (suc n) t l = ⊎_elim
       (λ (k : t < n). get_or_append_left (first_tasks setup numbers n) (first n ∷ []) (completed nobody) t (let e : length (first_tasks setup numbers n) ≡ n = length_first n in omega arith) ∙ first_is n t k)

@@ -23,7 +23,7 @@ use Rattle.ada_value.specs.declared.values.Limits.{Limits}
 use Rattle.ada_value.specs.Variables.{Object, Variables, with_value, value_there, component_place}
 use Rattle.ada_value.specs.Evaluating.{name_value, component_value, bound_value, attribute_value, signed_value, combined, unless_zero, operated, evaluated, condition_of, range_between, bounds_of, narrowed}
 use Rattle.ada_value.specs.Texts.{image, integer_text, expr_text, parts_text}
-use Rattle.translation_law.specs.Translations.{Programs, types_before, types_after, IsOld, IsKnown}
+use Rattle.translation_law.specs.Translations.{Programs, types_before, types_after, IsOld, IsFree, IsKnown}
 use Rattle.translation_law.specs.OldNames.{OldExpr, old_integer, old_name, old_index, old_attribute, old_attribute_of, old_paren, old_unary, old_binary, OldBounds, old_unbounded, old_bounded, OldParts, old_no_part, old_words, old_value}
 use Rattle.translation_law.specs.Scopes.{AgreeOnTypes, HasKnown, SameObject, no_object, same_object, SeeAlike}
 use Rattle.translation_law.proofs.Results.{Both, both_ok, both_err, Equal, equal, both_then, both_equal, both_map}
@@ -63,11 +63,14 @@ module _ (x : Programs) (types : AgreeOnTypes x) where
       go true e c = ⊎_elim (there (eqb-true j k e)) (past (eqb-true j k e)) c
 
   pub known-with : (b : Object) (k : ℕ) (v : Value) → IsKnown x v → HasKnown x b → HasKnown x (with_value b k v)
-  known-with b k v h known = known-set b.values k v h known
+  known-with b k v h known = (known-set b.values k v h known.0, known.1)
 
-  pub single-known : (name : NameId) (limits : Limits) (index : Option Limits) (v : Value) → IsKnown x v → HasKnown x (single name limits index v)
-  single-known name limits index v h zero = h
-  single-known name limits index v h (suc j) = subst (IsKnown x) (sym (get_or_past (v ∷ []) (suc j) (Number (pos 0)) (omega arith))) types.integers
+  single-values : (name : NameId) (limits : Limits) (index : Option Limits) (v : Value) → IsKnown x v → (k : ℕ) → IsKnown x (value_there (single name limits index v) k)
+  single-values name limits index v h zero = h
+  single-values name limits index v h (suc j) = subst (IsKnown x) (sym (get_or_past (v ∷ []) (suc j) (Number (pos 0)) (omega arith))) types.integers
+
+  pub single-known : (name : NameId) (limits : Limits) (index : Option Limits) (v : Value) → IsFree x name → IsKnown x v → HasKnown x (single name limits index v)
+  single-known name limits index v free h = (single-values name limits index v h, free)
 
   -- ---- operators
 
@@ -199,10 +202,10 @@ module _ (x : Programs) (types : AgreeOnTypes x) where
 
   name-alike : (id : NameId) → IsOld x id → {o o' : Option Object} → SameObject x o o' → Both (KnownValue x) (Ok (name_value (types_before x) o id)) (Ok (name_value (types_after x) o' id))
   name-alike id old no_object = known_ok _ _ (types.fixed id old) (types.fixed_known id old)
-  name-alike id old (same_object o h) = both_ok (value_there o 0) (value_there o 0) (known_value (value_there o 0) (h 0))
+  name-alike id old (same_object o h) = both_ok (value_there o 0) (value_there o 0) (known_value (value_there o 0) (h.0 0))
 
   place-alike : (r : Result ℕ Raised) (o : Object) → HasKnown x o → Both (KnownValue x) (and_then r (λ k. Ok (value_there o k))) (and_then r (λ k. Ok (value_there o k)))
-  place-alike (Ok k) o h = both_ok (value_there o k) (value_there o k) (known_value (value_there o k) (h k))
+  place-alike (Ok k) o h = both_ok (value_there o k) (value_there o k) (known_value (value_there o k) (h.0 k))
   place-alike (Err e) o h = both_err e
 
   component-alike : {o o' : Option Object} → SameObject x o o' → (v v' : Value) → KnownValue x v v' → Both (KnownValue x) (component_value o v) (component_value o' v')

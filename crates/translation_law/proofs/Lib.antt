@@ -1,5 +1,6 @@
 pub mod Results
 pub mod Evaluating
+pub mod Fixed
 pub mod Handlers
 pub mod Frames
 pub mod Locals

@@ -16,7 +16,7 @@ use Rattle.ada_tree.specs.TypeTable.{TypeTable}
 use Rattle.task_model.specs.Frames.{While, Counting, Around, Loop, Part, Control, control, settled, raised_named}
 use Rattle.task_model.specs.Tasks.{Task, rest_of, place_of, value_of, with_text, gone_to, stmts_or_none, entered, pushed, raised_there, or_raised}
 use Rattle.task_model.specs.Steps as steps
-use Rattle.translation_law.specs.Translations.{Translation, types_before, types_after, IsOld, IsKnown}
+use Rattle.translation_law.specs.Translations.{Translation, types_before, types_after, IsOld, IsFree, IsKnown}
 use Rattle.translation_law.specs.OldNames.{OldExpr, OldOption, old_none, old_some, OldRange, old_given, old_marked, OldTarget, OldParts, old_no_part, OldChoices, old_no_choice, old_choice, OldScheme, old_endless, old_while, old_for}
 use Rattle.translation_law.specs.Scopes.{SameObject, no_object, same_object}
 use Rattle.translation_law.specs.Images.{ImageMaybe, image_absent, image_present, ImageArms, image_no_arm, image_arm, ImageCaseArms, image_no_case_arm, image_case_arm, ImageStmt, image_null, image_assign, image_delay, image_exit, image_raise, image_no_abort, image_put, image_put_line, image_new_line, image_get, image_if, image_case, image_block, image_loop, ImageRow, image_row, IsEmpty, nothing_there}
@@ -244,9 +244,9 @@ module _ (x : Translation) (laws : IsTranslation x) where
       (range_checked-alike _ _ (laws.types.marks m.mark.name old))
 
   begun-alike : (n : ℕ) (i : List ℤ) (w : List ℕ) (s s' q q' l l' : PStmts) {p p' : Around} {o o' : List Part} {V V' : Variables} → x.text.image q q' → x.text.image l l' → Under x p o V p' o' V' →
-      (name : Option Word) (c : Word) → IsOld x.text.programs c.name → (backwards : Bool) (r r' : Limits) → KnownRange x.text.programs r r' →
+      (name : Option Word) (c : Word) → IsOld x.text.programs c.name → IsFree x.text.programs c.name → (backwards : Bool) (r r' : Limits) → KnownRange x.text.programs r r' →
       Alike x (steps.counting_begun name c backwards l q (left n i w s p o V) r) (steps.counting_begun name c backwards l' q' (right n i w s' p' o' V') r')
-  begun-alike n i w s s' q q' l l' {p} {p'} {o} {o'} {V} {V'} im iml u name c old backwards r r' (known_range t known) =
+  begun-alike n i w s s' q q' l l' {p} {p'} {o} {o'} {V} {V'} im iml u name c old free backwards r r' (known_range t known) =
       either-alike (is_empty_range t) (go-there n i w s s' q q' im u) (start (if backwards then t.first else t.last) (if backwards then t.last else t.first))
     where
       start : (last z : ℤ) → Alike x (pushed l (Loop name (Counting backwards last) l) (counter (types_before x.text.programs) c.name t.kind z ∷ V) q (left n i w s p o V))
@@ -256,7 +256,7 @@ module _ (x : Translation) (laws : IsTranslation x) where
           (pushed l' (Loop name (Counting backwards last) l') (b ∷ V') q' (right n i w s' p' o' V'))) (counter-same c.name t.kind z known)
           (push-alike n i w s s' q q' l l' V V' iml
           (in_count name backwards last l l' q q' (counter (types_before x.text.programs) c.name t.kind z) old
-          (single-known x.text.programs laws.types c.name (limits_of_kind (types_before x.text.programs) t.kind) None (value_at (types_before x.text.programs) t.kind z) (laws.types.values_known t.kind z)) iml im u))
+          (single-known x.text.programs laws.types c.name (limits_of_kind (types_before x.text.programs) t.kind) None (value_at (types_before x.text.programs) t.kind z) free (laws.types.values_known t.kind z)) iml im u))
 
   loop-alike : (n : ℕ) (i : List ℤ) (w : List ℕ) (s s' q q' l l' : PStmts) {p p' : Around} {o o' : List Part} {V V' : Variables} → x.text.image q q' → x.text.image l l' → Under x p o V p' o' V' →
       (name : Option Word) {c : Option PScheme} → OldScheme x.text.programs c → Alike x (steps.loop_step name c l q (left n i w s p o V)) (steps.loop_step name c l' q' (right n i w s' p' o' V'))
@@ -267,8 +267,8 @@ module _ (x : Translation) (laws : IsTranslation x) where
       go : (a b : Bool) → Equal a b → Alike x (if a then pushed l (Loop name (While e) l) V q (left n i w s p o V) else gone_to q (left n i w s p o V))
           (if b then pushed l' (Loop name (While e) l') V' q' (right n i w s' p' o' V') else gone_to q' (right n i w s' p' o' V'))
       go a b (equal t) = either-alike t (push-alike n i w s s' q q' l l' V V' iml (in_while name e l l' q q' h iml im u)) (go-there n i w s s' q q' im u)
-  loop-alike n i w s s' q q' l l' im iml u name (old_for c backwards range old h) =
-      or-raise n i w s s' u (counted-alike n i w s s' u h) (begun-alike n i w s s' q q' l l' im iml u name c old backwards)
+  loop-alike n i w s s' q q' l l' im iml u name (old_for c backwards range old free h) =
+      or-raise n i w s s' u (counted-alike n i w s s' u h) (begun-alike n i w s s' q q' l l' im iml u name c old free backwards)
 
   -- ---- statements
 
@@ -350,7 +350,7 @@ module _ (x : Translation) (laws : IsTranslation x) where
           (task_in x.text.programs.made n i w (settled (control l1' (Loop name1 (Counting backwards last) l1') (frame r' p' ∷ o') (c ∷ V')))))
           (next-same b z)
           (of_settle n i w (settle x laws l1 l1' h (in_count name1 backwards last l1 l1' r r' (single b.name b.limits b.index (value_at (types_before x.text.programs) b.limits.kind z)) old
-          (single-known x.text.programs laws.types b.name b.limits b.index (value_at (types_before x.text.programs) b.limits.kind z) (laws.types.values_known b.limits.kind z)) h im u)))
+          (single-known x.text.programs laws.types b.name b.limits b.index (value_at (types_before x.text.programs) b.limits.kind z) known.1 (laws.types.values_known b.limits.kind z)) h im u)))
 
   -- ---- the theorem
 

@@ -58,7 +58,7 @@ module _ (g : Setting) where
   own-scheme : (c : Option PScheme) → OldScheme (itself g).text.programs c
   own-scheme None = old_endless
   own-scheme (Some (LWhile e)) = old_while e (own-expr e)
-  own-scheme (Some (LFor w backwards range)) = old_for w backwards range refl (own-range range)
+  own-scheme (Some (LFor w backwards range)) = old_for w backwards range refl refl (own-range range)
 
   -- ---- images
 
@@ -158,7 +158,7 @@ module _ (g : Setting) where
 
   own-object : (o : Option Object) → SameObject (itself g).text.programs o o
   own-object None = no_object
-  own-object (Some o) = same_object o (λ k. refl)
+  own-object (Some o) = same_object o (λ k. refl, refl)
 
   own-sees : {p p' : Around} {o o' : List Part} {V V' : Variables} → SameFloor p o V p' o' V' → SeeAlike (itself g).text.programs V V'
   own-sees (same_whole hs taken o V) = record { named = λ id old. own-object (object_named V id) }

@@ -1,5 +1,5 @@
 -- The plainest translation: the program is made from itself, and each row of statements is its own image (this project's rule). By it the demands on a translation are met.
-use Rattle.std.specs.Prelude.{ℕ, true, List, Option}
+use Rattle.std.specs.Prelude.{ℕ, true, false, List, Option}
 use Rattle.ada_tree.specs.PlainStmt.{PStmts, PHandlers}
 use Rattle.ada_value.specs.declared.values.Raised.{Raised}
 use Rattle.ada_value.specs.Variables.{Variables}
@@ -24,7 +24,7 @@ pub data Nowhere : Control → Control → Type 0 where
 -- The translation of a program into itself.
 abbrev pub itself : Setting → Translation
 itself g = record {
-  text = record { programs = record { original = g; made = g; is_old = λ id. true; is_known = λ k. true }; image = SameRow };
+  text = record { programs = record { original = g; made = g; is_old = λ id. true; is_fixed = λ id. false; is_known = λ k. true }; image = SameRow };
   floor = SameFloor;
   beyond = Nowhere;
 }

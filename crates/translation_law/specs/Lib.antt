@@ -3,6 +3,7 @@ pub mod OldNames
 pub mod OldTexts
 pub mod Images
 pub mod Scopes
+pub mod Fixed
 pub mod Controls
 pub mod Floors
 pub mod Itself

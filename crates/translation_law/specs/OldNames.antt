@@ -8,7 +8,7 @@ use Rattle.ada_tree.specs.declared.expressions.BinaryOp.{BinaryOp}
 use Rattle.ada_tree.specs.PlainExpr.{PExpr, EInteger, EName, EIndex, EAttribute, EAttributeOf, EParen, EUnary, EBinary, PBounds, PSubind, PDrange, RGiven, RMarked}
 use Rattle.ada_tree.specs.PlainStmt.{PTarget, PPart, PWords, PValue, PChoice, PScheme, LWhile, LFor}
 use Rattle.ada_value.specs.Values.{limits_named}
-use Rattle.translation_law.specs.Translations.{Programs, types_before, IsOld}
+use Rattle.translation_law.specs.Translations.{Programs, types_before, IsOld, IsFree}
 
 -- an expression
 pub data OldExpr (b : Programs) : PExpr → Type 0 where
@@ -56,4 +56,4 @@ pub data OldChoices (b : Programs) : List PChoice → Type 0 where
 pub data OldScheme (b : Programs) : Option PScheme → Type 0 where
   old_endless : OldScheme b None
   old_while : (e : PExpr) → OldExpr b e → OldScheme b (Some (LWhile e))
-  old_for : (w : Word) (backwards : Bool) (range : PDrange) → IsOld b w.name → OldRange b range → OldScheme b (Some (LFor w backwards range))
+  old_for : (w : Word) (backwards : Bool) (range : PDrange) → IsOld b w.name → IsFree b w.name → OldRange b range → OldScheme b (Some (LFor w backwards range))

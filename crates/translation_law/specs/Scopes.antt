@@ -8,7 +8,7 @@ use Rattle.ada_value.specs.Values.{value_at, limits_named, limits_of_kind}
 use Rattle.ada_value.specs.Variables.{Object, Variables, object_named, value_there}
 use Rattle.ada_value.specs.Evaluating.{fixed_value}
 use Rattle.ada_value.specs.Texts.{image}
-use Rattle.translation_law.specs.Translations.{Programs, types_before, types_after, IsOld, IsKnown}
+use Rattle.translation_law.specs.Translations.{Programs, types_before, types_after, IsOld, IsFree, IsKnown}
 
 -- Both tables say the same of the original's names: of marks the bounds, of constants and literals the value. They give the same values, texts and tests at each position of each kind, and the same subtype for a known one. What they give is of a known kind.
 pub record AgreeOnTypes (b : Programs) : Type 0 where
@@ -23,9 +23,9 @@ pub record AgreeOnTypes (b : Programs) : Type 0 where
   pub truths : b.is_known truth_kind ≡ true
   pub texts : (v : Value) → image b.original.program.names (types_before b) v ≡ image b.made.program.names (types_after b) v
 
--- each value of an object is of a known kind
+-- each value of an object is of a known kind, and its name is one that a variable may have
 abbrev pub HasKnown : Programs → Object → Type 0
-HasKnown b o = (k : ℕ) → IsKnown b (value_there o k)
+HasKnown b o = ((k : ℕ) → IsKnown b (value_there o k)) × IsFree b o.name
 
 -- a name means no variable on either side, or one that is the same on both
 pub data SameObject (b : Programs) : Option Object → Option Object → Type 0 where

@@ -1,5 +1,5 @@
 -- A translation of the statements of one unit: a program, another that is made from it, and how the names, the rows of statements and the frames of the two go together (this project's rule). Nothing here says which rewriter made the other program: each has a translation of its own.
-use Rattle.std.specs.Prelude.{◌≡◌, ℕ, Bool, true, List}
+use Rattle.std.specs.Prelude.{◌≡◌, ℕ, Bool, true, false, List}
 use Rattle.ada_tree.specs.declared.naming.NameId.{NameId}
 use Rattle.ada_tree.specs.PlainStmt.{PStmts}
 use Rattle.ada_tree.specs.TypeTable.{TypeTable}
@@ -20,6 +20,8 @@ pub record Programs : Type 0 where
   pub made : Setting
   -- the ids of the original's names; a name that is added is none of them
   pub is_old : ℕ → Bool
+  -- the ids of those of the original's names that no variable has, as names of constants and of enumeration literals
+  pub is_fixed : ℕ → Bool
   -- the kinds, by their places, whose subtypes both programs have alike
   pub is_known : ℕ → Bool
 
@@ -46,6 +48,10 @@ types_after b = b.made.types
 -- a name of the original
 abbrev pub IsOld : Programs → NameId → Type 0
 IsOld b id = b.is_old id.0 ≡ true
+
+-- a name that a variable may have
+abbrev pub IsFree : Programs → NameId → Type 0
+IsFree b id = b.is_fixed id.0 ≡ false
 
 -- a value whose kind is known
 abbrev pub IsKnown : Programs → Value → Type 0

@@ -1,6 +1,4 @@
 use Rattle.normal_law.proofs.Carried.{normal_translates, normal_steps, normal_starts, normal_raises, normal_opens, normal_ends, normal_enters, normal_preludes}
-use Rattle.normal_law.proofs.Aborts.{normal_passes}
-use Rattle.normal_law.proofs.Images.{normal_calls, normal_returns, normal_accepts, normal_selects, selects_return}
 use Rattle.normal_law.proofs.laws.Goals as goal
 
 pub returns : goal.returns
@@ -12,11 +10,5 @@ returns c = record {
   opens = normal_opens;
   ends = normal_ends;
   enters = normal_enters;
-  passes = normal_passes;
   preludes = normal_preludes;
-  calls = normal_calls;
-  returns = normal_returns;
-  accepts = normal_accepts;
-  selects = normal_selects;
-  selects_return = selects_return;
 }

@@ -1,0 +1,2 @@
+//! Callees in the normal form of a program.
+#![tactic(auto)]

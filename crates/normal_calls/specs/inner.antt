@@ -1,0 +1,3 @@
+pub mod Modes
+pub mod Passing
+pub mod Forms

@@ -1,0 +1,16 @@
+//! What stands in the place of entry calls and abort statements in the normal form.
+#![tactic(auto, using(ada_tree::proofs::Rows::rows, normal_pieces::proofs::Fronts::fronts))]
+
+mod aborts;
+mod actuals;
+mod called;
+mod calls;
+mod forms;
+mod members;
+mod numbers;
+mod passed;
+mod selects;
+
+pub use aborts::push_aborts;
+pub use calls::push_call;
+pub use selects::{push_conditional, push_timed};

@@ -1,0 +1,2 @@
+//! Calls and aborts in the normal form of a program.
+#![tactic(auto)]

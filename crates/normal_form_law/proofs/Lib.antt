@@ -1,0 +1,6 @@
+pub mod Names
+pub mod Numbered
+pub mod Starting
+pub mod Owners
+pub mod Making
+pub mod Instance

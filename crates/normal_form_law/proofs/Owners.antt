@@ -1,0 +1,48 @@
+-- Each entry of a program is one of a task beside main.
+use Rattle.std.proofs.Common.{◌≡◌, ℕ, zero, suc, ◌+◌, ◌-◌, ◌==◌, Bool, true, false, if◌then◌else◌, List, [], ◌∷◌, map, Some, None, refl, subst, slice_get, arith}
+use Rattle.std.specs.List.{AllByRecursion}
+use Rattle.ada_tree.specs.TypeTable.{TypeTable}
+use Rattle.ada_tree.specs.Refusals.{types_in}
+use Rattle.ada_tree.specs.PlainProgram.{PProgram}
+use Rattle.syn_event.specs.declared.numbering.EntryInfo.{EntryInfo}
+use Rattle.syn_event.specs.Numbering.{entry_at}
+use Rattle.syn_event.specs.Numbered.{with_origin, with_origins}
+use Rattle.syn_event.specs.AllNumbers.{seat_entry, seat_entries}
+use Rattle.syn_event.specs.TaskParts.{Seat, seats}
+use Rattle.rewritten_types.proofs.Lookups.{all-append}
+use Rattle.normal_types.proofs.Variables.{all-mapped}
+use Rattle.normal_form_law.specs.Normalisable.{numbers_of}
+
+-- the entry's task is one beside main
+abbrev IsOwned : EntryInfo → Type 0
+IsOwned info = (t : ℕ) × (info.owner ≡ suc t)
+
+seats-owned : (names : List (List ℕ)) (types : TypeTable) (xs : List Seat) (t : ℕ) → AllByRecursion IsOwned (seat_entries names types (suc t) xs)
+seats-owned names types [] t = tt
+seats-owned names types (x ∷ rest) t =
+    let e : suc (t + 1) ≡ suc t + 1 = omega arith in
+    all-append IsOwned (map (seat_entry names types (suc t) x) x.unit.entries) (seat_entries names types (suc t + 1) rest)
+    (all-mapped IsOwned (seat_entry names types (suc t) x) (λ e. (t, refl)) x.unit.entries)
+    (subst (λ n. AllByRecursion IsOwned (seat_entries names types n rest)) e (seats-owned names types rest (t + 1)))
+
+origins-owned : (names : List (List ℕ)) (all xs : List EntryInfo) → AllByRecursion IsOwned xs → AllByRecursion IsOwned (map (with_origin names all) xs)
+origins-owned names all [] h = tt
+origins-owned names all (x ∷ xs) h = (h.0, origins-owned names all xs h.1)
+
+some-of : {A : Type 0} {a c : A} → Some a ≡ Some c → a ≡ c
+some-of e = cc
+
+got : (xs : List EntryInfo) (k : ℕ) (info : EntryInfo) → AllByRecursion IsOwned xs → slice_get xs k ≡ Some info → IsOwned info
+got [] k info h e = cc
+got (x ∷ xs) zero info h e = subst IsOwned (some-of e) h.0
+got (x ∷ xs) (suc k) info h e = got xs k info h.1 e
+
+pub owned : (p : PProgram) (e : ℕ) (info : EntryInfo) → entry_at (numbers_of p) e ≡ Some info → (t : ℕ) × (info.owner ≡ suc t)
+owned p e info h = by_test (e == 0) h
+  where
+    entries : List EntryInfo
+    entries = seat_entries p.names (types_in p) 1 (seats (types_in p) p)
+
+    by_test : (z : Bool) → (if z then None else slice_get (with_origins p.names entries) (e - 1)) ≡ Some info → IsOwned info
+    by_test true q = cc
+    by_test false q = got (with_origins p.names entries) (e - 1) info (origins-owned p.names entries entries (seats-owned p.names (types_in p) (seats (types_in p) p) 0)) q

@@ -1,0 +1,6 @@
+use Rattle.normal_form_law.proofs.Instance.{can_be_normal}
+use Rattle.normal_form_law.proofs.Making.{made_is_normal, programs_show_same}
+use Rattle.normal_form_law.proofs.laws.Goals as goal
+
+pub returns : goal.returns
+returns c = record { made = made_is_normal; same = programs_show_same; met = can_be_normal }

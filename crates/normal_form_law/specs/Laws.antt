@@ -1,0 +1,25 @@
+-- The law of normal forms for a program and the normal form that is made from it (this project's rule).
+use Rattle.std.specs.Prelude.{ℤ, List, []}
+use Rattle.ada_tree.specs.Refusals.{types_in}
+use Rattle.ada_tree.specs.PlainProgram.{PProgram}
+use Rattle.imitation_law.specs.Shown.{ShowSame}
+use Rattle.normal_units.specs.Laws.{numbers_made}
+use Rattle.normal_runs_law.specs.Premises.{IsNormalForm}
+use Rattle.normal_runs_law.specs.Example.{example}
+use Rattle.normal_runs_law.specs.Laws.{opened}
+use Rattle.normal_form_law.specs.Normalisable.{numbers_of, made_for, normal_rewrite, IsNormalisable}
+
+-- What is made from such a program is a normal form of it.
+abbrev pub MadeIsNormal : Type 0
+MadeIsNormal = (p : PProgram) (inputs : List (List ℤ)) → IsNormalisable p inputs → IsNormalForm (normal_rewrite p inputs)
+
+-- Such a program and its normal form show the same, whatever the inputs.
+abbrev pub ProgramsShowSame : Type 0
+ProgramsShowSame =
+    (p : PProgram) (inputs : List (List ℤ)) → IsNormalisable p inputs →
+    ShowSame (opened (record { program = p; types = types_in p; inputs = inputs }) (numbers_of p))
+    (opened (record { program = made_for p; types = types_in (made_for p); inputs = inputs }) (numbers_made p (types_in p) (numbers_of p)))
+
+-- The program of the example is as it is asked.
+abbrev pub IsMet : Type 0
+IsMet = IsNormalisable example []

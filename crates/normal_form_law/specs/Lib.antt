@@ -1,0 +1,2 @@
+pub mod Normalisable
+pub mod Laws

@@ -1,0 +1,14 @@
+//! The law of normal forms for a program and the normal form that is made from it.
+//! The crate has no functions of its own but the one that carries the law.
+#![tactic(auto)]
+
+ghost use Rattle.normal_form_law.specs.Laws.{MadeIsNormal, ProgramsShowSame, IsMet};
+
+/// Carries the law for each program of which is known what `IsNormalisable` of `specs/Normalisable` asks: what is made from it is a normal form of it
+/// (`made`), so the two show the same events and outputs, whatever the inputs and the schedule, in both directions, quiet ends too (`same`). An
+/// example meets what is asked (`met`).
+pub fn laws()
+    ensures made { MadeIsNormal }
+    ensures same { ProgramsShowSame }
+    ensures met { IsMet }
+{}

@@ -1,0 +1,11 @@
+//! What the normal form of a program asks of it, looked up in one step: ranges of families and arrays of tasks, what the formals of entries are, and which expressions are static.
+#![tactic(auto)]
+
+mod forms;
+mod kinds;
+mod lookups;
+mod no_variables;
+mod rows;
+mod static_names;
+
+pub use lookups::Lookups;

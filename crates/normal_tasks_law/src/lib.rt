@@ -1,0 +1,2 @@
+//! One task of the normal form of a program beside the program's task.
+#![tactic(auto)]

@@ -1,0 +1,2 @@
+//! Accepts, selective waits and aborts in the normal form of a program.
+#![tactic(auto)]

@@ -1,0 +1,5 @@
+use Rattle.normal_walk.proofs.Walking.{on_ok}
+use Rattle.normal_walk.proofs.normalizer.NormalizerRewriter.put.Goals as goal
+
+pub returns : goal.returns
+returns c = on_ok c.put_image.result (λ h. h c.args.self.now.task) c.put_image.ensures

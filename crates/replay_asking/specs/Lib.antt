@@ -1,0 +1,5 @@
+pub mod Voice
+pub mod Spoken
+pub mod Served
+pub mod Called
+pub mod Looked
