@@ -5,8 +5,8 @@ use Rattle.std.proofs.lemmas.List.{append-nil}
 use Rattle.ada_tree.specs.declared.declarations.Decl.{Decl}
 use Rattle.ada_tree.specs.PlainDecl.{PDecl, DNumber, DObject, DEnumeration, DArray, DSubtype, DException, DIntIo, DPragma, DTask, DTaskBody, PDecls, decl_then, decls_of, plain_decl}
 use Rattle.syn_event.specs.CheckRefusals.{CheckRefusal}
-use Rattle.syn_event.specs.Surrounding.{Surrounding}
-use Rattle.syn_event.specs.Spots.{body_names, after_decl, decl_spots}
+use Rattle.syn_event.specs.CheckScope.{CheckScope}
+use Rattle.syn_event.specs.CheckSites.{body_names, after_decl, decl_sites}
 use Rattle.ada_rules.specs.Sooner.{sooner}
 use Rattle.ada_rules.specs.RefusedFirst.{Standard, refused_first}
 use Rattle.ada_declaration_places.specs.Places.{places_of}
@@ -35,7 +35,7 @@ bodies_back xs k x names more h is_x told is_more =
     ∙ sym (body_next (plain_decl x) (decls_of (map plain_decl (drop (length xs - k) xs))))
     ∙ ap (λ (ys : List Decl). body_names (decls_of (map plain_decl ys))) (sym (back_cut xs k x h is_x))
 
-pub parted : (by : Standard) (s : Surrounding) (bodies : List ℕ) (d : PDecl) (a b : Option CheckRefusal) → a ≡ refused_first by (places_of s bodies d) → b ≡ refused_first by (body_part (after_decl s d) d) → sooner a b ≡ refused_first by (decl_spots s bodies d)
+pub parted : (by : Standard) (s : CheckScope) (bodies : List ℕ) (d : PDecl) (a b : Option CheckRefusal) → a ≡ refused_first by (places_of s bodies d) → b ≡ refused_first by (body_part (after_decl s d) d) → sooner a b ≡ refused_first by (decl_sites s bodies d)
 parted by s bodies (DNumber w e p) a b h g = joined by (places_of s bodies (DNumber w e p)) [] a b h g ∙ ap (refused_first by) (append-nil (places_of s bodies (DNumber w e p)))
 parted by s bodies (DObject ws c x i p) a b h g = joined by (places_of s bodies (DObject ws c x i p)) [] a b h g ∙ ap (refused_first by) (append-nil (places_of s bodies (DObject ws c x i p)))
 parted by s bodies (DEnumeration w ws p) a b h g = joined by (places_of s bodies (DEnumeration w ws p)) [] a b h g ∙ ap (refused_first by) (append-nil (places_of s bodies (DEnumeration w ws p)))

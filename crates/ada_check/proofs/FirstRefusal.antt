@@ -6,8 +6,8 @@ use Rattle.std.proofs.lemmas.List.Elements.{All-weaker}
 use Rattle.ada_tree.specs.PlainProgram.{PProgram}
 use Rattle.ada_tree.specs.Refusals.{MeetsTypeRules}
 use Rattle.syn_event.specs.declared.numbering.Mode.{Mode}
-use Rattle.syn_event.specs.Surrounding.{Spot}
-use Rattle.syn_event.specs.Spots.{spots}
+use Rattle.syn_event.specs.CheckScope.{CheckSite}
+use Rattle.syn_event.specs.CheckSites.{check_sites}
 use Rattle.syn_event.specs.CheckRefusals.{CheckRefusal, ComesFirst, over_order, by_rule, refused_at, check_refusals, MeetsCheckRules, IsFirstCheckRefusal}
 use Rattle.syn_event.specs.RuleSharedVariable.{shared_variable}
 use Rattle.syn_event.specs.RuleAcceptPlace.{accept_place}
@@ -56,40 +56,40 @@ eleven a b c d e f g h i j k =
     ∙ spread rank_of (a ++ b) c _
     ∙ spread rank_of a b _
 
-at_place : (m : Mode) (names : List (List ℕ)) (x : Spot) → least_of (refused_at m names x) ≡ refused_first_at record { mode = m; names = names } x.around x.asked
+at_place : (m : Mode) (names : List (List ℕ)) (x : CheckSite) → least_of (refused_at m names x) ≡ refused_first_at record { mode = m; names = names } x.scope x.demand
 unfolding refused_first_at
 at_place m names x =
     eleven
-    (by_rule 13 (shared_variable x.around x.asked))
-    (by_rule 14 (accept_place x.around x.asked))
-    (by_rule 15 (select_form x.around x.asked))
-    (by_rule 16 (same_entry_twice x.around x.asked))
-    (by_rule 17 (reserved_name m names x.asked))
-    (by_rule 18 (main_entry x.around x.asked))
-    (by_rule 19 (abort_order x.around x.asked))
-    (by_rule 20 (body_missing x.asked))
-    (by_rule 21 (exit_place x.around x.asked))
-    (by_rule 22 (raise_place x.around x.asked))
-    (map (λ o. record { rule = 23; over = Some o.over; span = o.span }) (over_limit m names x.asked))
+    (by_rule 13 (shared_variable x.scope x.demand))
+    (by_rule 14 (accept_place x.scope x.demand))
+    (by_rule 15 (select_form x.scope x.demand))
+    (by_rule 16 (same_entry_twice x.scope x.demand))
+    (by_rule 17 (reserved_name m names x.demand))
+    (by_rule 18 (main_entry x.scope x.demand))
+    (by_rule 19 (abort_order x.scope x.demand))
+    (by_rule 20 (body_missing x.demand))
+    (by_rule 21 (exit_place x.scope x.demand))
+    (by_rule 22 (raise_place x.scope x.demand))
+    (map (λ o. record { rule = 23; over = Some o.over; span = o.span }) (over_limit m names x.demand))
 
-first_of : (m : Mode) (names : List (List ℕ)) (xs : List Spot) → least_of (flat_map (refused_at m names) xs) ≡ refused_first record { mode = m; names = names } xs
+first_of : (m : Mode) (names : List (List ℕ)) (xs : List CheckSite) → least_of (flat_map (refused_at m names) xs) ≡ refused_first record { mode = m; names = names } xs
 unfolding refused_first
 first_of m names [] = refl
 first_of m names (x ∷ rest) =
     least_append (refused_at m names x) (flat_map (refused_at m names) rest)
     ∙ ap (λ o. sooner o (least_of (flat_map (refused_at m names) rest))) (at_place m names x)
-    ∙ ap (sooner (refused_first_at record { mode = m; names = names } x.around x.asked)) (first_of m names rest)
+    ∙ ap (sooner (refused_first_at record { mode = m; names = names } x.scope x.demand)) (first_of m names rest)
 
 -- ---- a program
 
 no_first : (r : CheckRefusal) → None ≡ Some r → ⊥
 no_first r h = cc
 
-pub meets_rules : (p : PProgram) (m : Mode) → None ≡ refused_first record { mode = m; names = p.names } (spots p) → MeetsCheckRules p m
-meets_rules p m h = none_left rank_of (check_refusals p m) (first_of m p.names (spots p) ∙ sym h)
+pub meets_rules : (p : PProgram) (m : Mode) → None ≡ refused_first record { mode = m; names = p.names } (check_sites p) → MeetsCheckRules p m
+meets_rules p m h = none_left rank_of (check_refusals p m) (first_of m p.names (check_sites p) ∙ sym h)
 
-is_refused : (p : PProgram) (m : Mode) (r : CheckRefusal) → Some r ≡ refused_first record { mode = m; names = p.names } (spots p) → IsFirstCheckRefusal p m r
-is_refused p m r h = let w = first_is rank_of (check_refusals p m) r (first_of m p.names (spots p) ∙ sym h) in record { is_one = w.0; is_first = All-weaker _ (ComesFirst r) (not_before r) (check_refusals p m) w.1 }
+is_refused : (p : PProgram) (m : Mode) (r : CheckRefusal) → Some r ≡ refused_first record { mode = m; names = p.names } (check_sites p) → IsFirstCheckRefusal p m r
+is_refused p m r h = let w = first_is rank_of (check_refusals p m) r (first_of m p.names (check_sites p) ∙ sym h) in record { is_one = w.0; is_first = All-weaker _ (ComesFirst r) (not_before r) (check_refusals p m) w.1 }
 
 tells_why : (p : PProgram) (m : Mode) (r : CheckRefusal) (e : CheckError) → refusal_of e ≡ Some r → TellsCheck p m (refusal_of e) → TellsWhy p m e
 tells_why p m r (Rule e) t w = absurd (no_first r t)
@@ -107,5 +107,5 @@ tells_why p m r (Limit what limit s) t w = w
 tells_why p m r Memory t w = absurd (no_first r t)
 
 -- an error that tells that refusal
-pub is_told : (p : PProgram) (m : Mode) (r : CheckRefusal) (e : CheckError) → MeetsTypeRules p → Some r ≡ refused_first record { mode = m; names = p.names } (spots p) → refusal_of e ≡ Some r → TellsWhy p m e
+pub is_told : (p : PProgram) (m : Mode) (r : CheckRefusal) (e : CheckError) → MeetsTypeRules p → Some r ≡ refused_first record { mode = m; names = p.names } (check_sites p) → refusal_of e ≡ Some r → TellsWhy p m e
 is_told p m r e rules h t = tells_why p m r e t (subst (TellsCheck p m) (sym t) (rules, is_refused p m r h))

@@ -8,7 +8,7 @@ use Rattle.ada_refusals.specs.declared.errors.TypeError.TheVariants as type_erro
 use Rattle.ada_refusals.specs.Telling.{TellsFirst}
 use Rattle.syn_event.specs.declared.numbering.Mode.{Mode}
 use Rattle.syn_event.specs.CheckRefusals.{CheckRefusal, IsFirstCheckRefusal}
-use Rattle.syn_event.specs.Spots.{spots}
+use Rattle.syn_event.specs.CheckSites.{check_sites}
 use Rattle.ada_rules.specs.RefusedFirst.{refused_first}
 use Rattle.ada_check.specs.Telling.{refusal_of}
 use Rattle.ada_check.specs.declared.checking.WalkedProgram.{WalkedProgram}
@@ -33,4 +33,4 @@ TellsWhy p m e = TellsCheck p m (refusal_of e)
 -- a program that was gone through, with its types
 pub record IsWalkedProgram (p : PProgram) (m : Mode) (walked : WalkedProgram) : Type 0 where
   pub types_are : walked.types ≡ types_in p
-  pub refusal_is : walked.refusal ≡ refused_first record { mode = m; names = p.names } (spots p)
+  pub refusal_is : walked.refusal ≡ refused_first record { mode = m; names = p.names } (check_sites p)

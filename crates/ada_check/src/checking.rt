@@ -3,8 +3,8 @@
 ghost use Rattle.std.specs.Prelude.{◌≡◌, IfOk, OnOk, IfErr};
 ghost use Rattle.ada_tree.specs.PlainProgram.{plain_program};
 ghost use Rattle.ada_tree.specs.Refusals.{MeetsTypeRules, types_in};
-ghost use Rattle.syn_event.specs.Surrounding.{Surrounding};
-ghost use Rattle.syn_event.specs.Spots.{spots, around_program, counted_spots};
+ghost use Rattle.syn_event.specs.CheckScope.{CheckScope};
+ghost use Rattle.syn_event.specs.CheckSites.{check_sites, around_program, counted_sites};
 ghost use Rattle.syn_event.specs.Legal.{Legal};
 ghost use Rattle.ada_rules.specs.RefusedFirst.{refused_first};
 ghost use Rattle.ada_check.specs.Verdicts.{IsWalkedProgram, TellsWhy};
@@ -12,9 +12,9 @@ ghost use Rattle.ada_check.specs.Verdicts.{IsWalkedProgram, TellsWhy};
 use crate::declarations::walk_decls;
 use crate::errors::CheckError;
 use crate::telling::error_of;
+use ada_check_scopes::CheckScopes;
 use ada_rules::{Refusal, Standard, first};
 use ada_statement_places::walk_body;
-use ada_surroundings::Surroundings;
 use ada_task_counts::{refuse_copies, refuse_entries, refuse_tasks};
 use ada_task_numbers::numbers_for;
 use ada_task_objects::parts_of;
@@ -44,7 +44,7 @@ fn refuse_counts(
     types: &Types,
     p: &Program,
 ) -> Result<Option<Refusal>, AllocError>
-    ensures { (around : Surrounding) → around.types ≡ types.now → IfOk result (λ r. r ≡ refused_first by.now (counted_spots around (plain_program p.now))) }
+    ensures { (around : CheckScope) → around.types ≡ types.now → IfOk result (λ r. r ≡ refused_first by.now (counted_sites around (plain_program p.now))) }
 {
     let found = parts_of(alloc, p)?;
     let parts = found.as_slice();
@@ -56,13 +56,13 @@ fn refuse_counts(
 
 // The first refusal at the places of a program, which stand in what is around it.
 fn walk_program(
-    around: &mut Surroundings,
+    around: &mut CheckScopes,
     alloc: Global,
     by: &Standard,
     p: &Program,
 ) -> Result<Option<Refusal>, AllocError>
     requires { around.old ≡ around_program (plain_program p.now) }
-    ensures told { IfOk result (λ r. r ≡ refused_first by.now (spots (plain_program p.now))) }
+    ensures told { IfOk result (λ r. r ≡ refused_first by.now (check_sites (plain_program p.now))) }
     ensures types { OnOk result (around.new.types ≡ around.old.types) }
 {
     let counted = refuse_counts(alloc, by, around.types(), p)?;
@@ -78,7 +78,7 @@ fn walk(alloc: Global, types: Types, p: &Program, mode: Mode) -> Result<WalkedPr
     ensures { IfOk result (IsWalkedProgram (plain_program p.now) mode) }
 {
     let by = Standard::new(mode, &p.names);
-    let mut around = Surroundings::new(alloc, types, p.name)?;
+    let mut around = CheckScopes::new(alloc, types, p.name)?;
     let refusal = walk_program(&mut around, alloc, &by, p)?;
     Ok(WalkedProgram {
         types: around.into_types(),

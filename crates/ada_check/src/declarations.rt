@@ -4,21 +4,21 @@
 ghost use Rattle.std.specs.Prelude.{◌≡◌, None, map, OnOk, IfOk};
 ghost use Rattle.ada_tree.specs.PlainDecl.{plain_decl, decls_of};
 ghost use Rattle.ada_tree.specs.PlainStmt.{plain_body};
-ghost use Rattle.syn_event.specs.Spots.{after_decl, after_decls, decl_spots, decls_spots, body_names};
+ghost use Rattle.syn_event.specs.CheckSites.{after_decl, after_decls, decl_sites, decls_sites, body_names};
 ghost use Rattle.ada_rules.specs.RefusedFirst.{refused_first};
 ghost use Rattle.ada_declaration_places.specs.Places.{numbers_in};
-ghost use Rattle.ada_check.specs.inner.TaskBodies.{task_body_spots, body_part, with_body};
+ghost use Rattle.ada_check.specs.inner.TaskBodies.{task_body_sites, body_part, with_body};
 
+use ada_check_scopes::{CheckScopes, NameSet};
 use ada_declaration_places::{declare, walk_own, walk_places};
 use ada_rules::{Refusal, Standard, first};
 use ada_statement_places::walk_body;
-use ada_surroundings::{NameSet, Surroundings};
 use ada_tree::{Body, Decl, DeclKind, Word};
 use std::alloc::{AllocError, Global};
 
 // The body of a task or task type.
 fn walk_task_body(
-    around: &mut Surroundings,
+    around: &mut CheckScopes,
     by: &Standard,
     name: Word,
     objects: &[Decl],
@@ -26,7 +26,7 @@ fn walk_task_body(
 ) -> Result<Option<Refusal>, AllocError>
     requires { around.old.own ≡ None }
     ensures kept { OnOk result (around.new ≡ around.old) }
-    ensures told { IfOk result (λ r. r ≡ refused_first by.now (task_body_spots around.old name (decls_of (map plain_decl objects.now)) (plain_body body.now))) }
+    ensures told { IfOk result (λ r. r ≡ refused_first by.now (task_body_sites around.old name (decls_of (map plain_decl objects.now)) (plain_body body.now))) }
 {
     let outer = around.enter_body(name)?;
     let own = walk_own(around, by, objects)?;
@@ -37,7 +37,7 @@ fn walk_task_body(
 
 // A declaration, where it is a body.
 fn walk_if_body(
-    around: &mut Surroundings,
+    around: &mut CheckScopes,
     by: &Standard,
     decl: &Decl,
 ) -> Result<Option<Refusal>, AllocError>
@@ -68,14 +68,14 @@ fn walk_if_body(
 
 // A declaration of main.
 fn walk_decl(
-    around: &mut Surroundings,
+    around: &mut CheckScopes,
     alloc: Global,
     by: &Standard,
     bodies: &NameSet,
     decl: &Decl,
 ) -> Result<Option<Refusal>, AllocError>
     requires { around.old.own ≡ None }
-    ensures told { IfOk result (λ r. r ≡ refused_first by.now (decl_spots around.old (numbers_in bodies.now) (plain_decl decl.now))) }
+    ensures told { IfOk result (λ r. r ≡ refused_first by.now (decl_sites around.old (numbers_in bodies.now) (plain_decl decl.now))) }
     ensures after { OnOk result (around.new ≡ after_decl around.old (plain_decl decl.now)) }
 {
     let places = walk_places(around, by, bodies, decl)?;
@@ -109,14 +109,14 @@ fn body_names(alloc: Global, decls: &[Decl]) -> Result<NameSet, AllocError>
 
 // The declarations of main, given the names of the bodies among them.
 fn walk_all(
-    around: &mut Surroundings,
+    around: &mut CheckScopes,
     alloc: Global,
     by: &Standard,
     bodies: &NameSet,
     decls: &[Decl],
 ) -> Result<Option<Refusal>, AllocError>
     requires { around.old.own ≡ None }
-    ensures told { IfOk result (λ r. r ≡ refused_first by.now (decls_spots around.old (numbers_in bodies.now) (decls_of (map plain_decl decls.now)))) }
+    ensures told { IfOk result (λ r. r ≡ refused_first by.now (decls_sites around.old (numbers_in bodies.now) (decls_of (map plain_decl decls.now)))) }
     ensures after { OnOk result (around.new ≡ after_decls around.old (decls_of (map plain_decl decls.now))) }
 {
     let mut refusal = None;
@@ -129,13 +129,13 @@ fn walk_all(
 
 /// The declarations of main. Behind them, what they declare stands around.
 pub(crate) fn walk_decls(
-    around: &mut Surroundings,
+    around: &mut CheckScopes,
     alloc: Global,
     by: &Standard,
     decls: &[Decl],
 ) -> Result<Option<Refusal>, AllocError>
     requires { around.old.own ≡ None }
-    ensures told { IfOk result (λ r. r ≡ refused_first by.now (decls_spots around.old (body_names (decls_of (map plain_decl decls.now))) (decls_of (map plain_decl decls.now)))) }
+    ensures told { IfOk result (λ r. r ≡ refused_first by.now (decls_sites around.old (body_names (decls_of (map plain_decl decls.now))) (decls_of (map plain_decl decls.now)))) }
     ensures after { OnOk result (around.new ≡ after_decls around.old (decls_of (map plain_decl decls.now))) }
 {
     let bodies = body_names(alloc, decls)?;

@@ -4,7 +4,7 @@ use Rattle.ada_tree.specs.declared.naming.Span.{Span}
 use Rattle.ada_tree.specs.declared.statements.Stmt.{Stmt}
 use Rattle.ada_tree.specs.declared.statements.StmtKind.{StmtKind, Null, Assign, Delay, Exit, Raise, Abort, Call, Accept, Wait', Conditional', Timed', Put, PutLine, NewLine, Get, If', Case', Block, Loop'}
 use Rattle.ada_tree.specs.PlainStmt.{PHandler, stmt_at, plain_stmt, seen, seen_maybe}
-use Rattle.ada_compound_parts.specs.ReadingParts.{stmt_span, last_span, with_others, maybe}
+use Rattle.ada_compound_parts.specs.inner.ReadingParts.{stmt_span, last_span, with_others, maybe}
 
 -- statements for others, or none
 pub maybe_is : (o : Option (Vec Stmt Global)) → maybe (option_map (λ v. seen v.items) o) ≡ seen_maybe o

@@ -6,7 +6,7 @@ use Rattle.ada_expr_parser.specs.declared.items.Item.{Item}
 use Rattle.ada_expr_parser.specs.declared.errors.ParseError.{ParseError}
 use Rattle.ada_expr_parser.specs.Gives.{Gives}
 use Rattle.ada_phrase_parser.specs.Reading.{closed}
-use Rattle.ada_compound_parts.specs.ReadingParts.{loop_end}
+use Rattle.ada_compound_parts.specs.inner.ReadingParts.{loop_end}
 use Rattle.ada_expr_parser.proofs.Steps.{fails_go_on}
 
 -- a loop without a name ends with its semicolon

@@ -1,2 +1,1 @@
-pub mod ReadingHeads
-pub mod ReadingParts
+pub mod inner

@@ -3,7 +3,7 @@
 ghost use Rattle.std.specs.Prelude.{◌≡◌, ◌<◌, ◌-◌, IfErr, OnOk, map, option_map};
 ghost use Rattle.ada_tree.specs.PlainStmt.{plain_handler};
 ghost use Rattle.ada_expr_parser.specs.declared.errors.ParseError.TheVariants.{Memory};
-ghost use Rattle.ada_compound_parts.specs.ReadingParts as parts;
+ghost use Rattle.ada_compound_parts.specs.inner.ReadingParts as parts;
 
 use ada_expr_parser::ParseError;
 use ada_phrase_parser::add;

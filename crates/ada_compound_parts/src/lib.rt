@@ -4,16 +4,16 @@
 
 mod accepts;
 mod choices;
-mod ends;
+mod compound_ends;
+mod compound_heads;
 mod handlers;
-mod heads;
 mod places;
 mod waits;
 
 pub use accepts::read_end_of;
 pub use choices::read_choices;
-pub use ends::{block_end, case_end, if_end, loop_end};
+pub use compound_ends::{block_end, case_end, if_end, loop_end};
+pub use compound_heads::{begins_loop, begins_stmt, loop_scheme, read_guard, terminate_kind};
 pub use handlers::add_others;
-pub use heads::{begins_loop, begins_stmt, loop_scheme, read_guard, terminate_kind};
 pub use places::last_span;
 pub use waits::{end_select, first_of_alt, or_delay, selected, selected_call, wait_end};

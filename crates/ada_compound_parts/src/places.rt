@@ -2,7 +2,7 @@
 
 ghost use Rattle.std.specs.Prelude.{◌≡◌};
 ghost use Rattle.ada_tree.specs.PlainStmt.{seen};
-ghost use Rattle.ada_compound_parts.specs.ReadingParts as parts;
+ghost use Rattle.ada_compound_parts.specs.inner.ReadingParts as parts;
 
 use ada_phrase_parser::stands;
 use ada_tree::{Span, Stmt};

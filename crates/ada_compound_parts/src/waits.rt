@@ -6,8 +6,8 @@ ghost use Rattle.ada_lexer.specs.declared.symbols.Symbol.TheVariants as key;
 ghost use Rattle.ada_expr_parser.specs.Trees.{from_to};
 ghost use Rattle.ada_expr_parser.specs.Gives.{Gives};
 ghost use Rattle.ada_phrase_parser.specs.Reading as reading;
-ghost use Rattle.ada_compound_parts.specs.ReadingHeads as front;
-ghost use Rattle.ada_compound_parts.specs.ReadingParts as parts;
+ghost use Rattle.ada_compound_parts.specs.inner.ReadingHeads as front;
+ghost use Rattle.ada_compound_parts.specs.inner.ReadingParts as parts;
 
 use ada_expr_parser::{Item, ParseError, Symbol, expect, read_call_behind, read_target};
 use ada_phrase_parser::{from_to, read_delayed};

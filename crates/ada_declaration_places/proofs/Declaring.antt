@@ -12,18 +12,18 @@ use Rattle.ada_tree.specs.PlainDecl.{OPlain, ORow, PEntry, plain_entry, PDecl, D
 use Rattle.syn_event.specs.declared.meanings.Meant.{Meant}
 use Rattle.syn_event.specs.declared.meanings.Meant.TheVariants.{MainProcedure, TaskType, TaskOf, Shared, Inner}
 use Rattle.syn_event.specs.CheckRefusals.{CheckRefusal}
-use Rattle.syn_event.specs.Surrounding.{Unit as OwnUnit, Surrounding, meaning, Asked, Spot, needs_body}
+use Rattle.syn_event.specs.CheckScope.{Unit as OwnUnit, CheckScope, meaning, CheckDemand, CheckSite, needs_body}
 use Rattle.syn_event.specs.RuleAcceptPlace.{is_among}
-use Rattle.syn_event.specs.Spots.{spot, with_meant, with_value, with_object, meant_by_task, unit_of, after_decl, after_decls, in_body, after_own_object, after_own}
+use Rattle.syn_event.specs.CheckSites.{site, with_meant, with_value, with_object, meant_by_task, unit_of, after_decl, after_decls, in_body, after_own_object, after_own}
 use Rattle.ada_rules.specs.Sooner.{sooner, found}
 use Rattle.ada_rules.specs.Rules.{refused}
 use Rattle.ada_rules.specs.declared.refusals.Rule.TheVariants.{BodyMissing}
 use Rattle.ada_rules.specs.RefusedFirst.{Standard, refused_first_at, refused_first}
-use Rattle.ada_surroundings.specs.Nested.{IsWithin}
+use Rattle.ada_check_scopes.specs.Nested.{IsWithin}
 use Rattle.ada_declaration_places.specs.Places.{numbers_in}
 use Rattle.ada_rules.proofs.Meeting.{at_needs, met_one, met_append, joined, before}
 use Rattle.ada_rules.proofs.Listing.{gone, ended}
-use Rattle.ada_surroundings.proofs.Leaving.{within_meant}
+use Rattle.ada_check_scopes.proofs.Leaving.{within_meant}
 use Rattle.ada_rules.proofs.FromBehind.{back_cut}
 
 pub entries_back : (xs : List EntryDecl) (k : ℕ) (x : EntryDecl) (names more : List NameId) → k < length xs → x ≡ get_or xs (length xs - 1 - k) x
@@ -42,43 +42,43 @@ flipped : (b : Bool) (s : Span) → refused BodyMissing (if not b then s ∷ [] 
 flipped true s = refl
 flipped false s = refl
 
-pub bodiless : (by : Standard) (around : Surrounding) (names : List NameId) (w : Word) (s : Span) (b : Bool) → b ≡ is_among names w.name → refused BodyMissing (if not b then s ∷ [] else []) ≡ refused_first_at by around (needs_body (numbers_in names) w s)
+pub bodiless : (by : Standard) (around : CheckScope) (names : List NameId) (w : Word) (s : Span) (b : Bool) → b ≡ is_among names w.name → refused BodyMissing (if not b then s ∷ [] else []) ≡ refused_first_at by around (needs_body (numbers_in names) w s)
 bodiless by around names w s b h =
     ap (λ (t : Bool). refused BodyMissing (if not t then s ∷ [] else [])) (h ∙ sym (among_numbers names w.name))
     ∙ flipped (list_any (λ n. n == w.name.0) (numbers_in names)) s
     ∙ sym (at_needs by around (numbers_in names) w s)
 
 -- a task: its body, its name, its entries and its priorities
-pub task_met : (by : Standard) (s : Surrounding) (one two : Asked) (xs ys : List Spot) (m n e p a b r : Option CheckRefusal) → m ≡ refused_first_at by s one → n ≡ refused_first_at by s two → e ≡ refused_first by xs → p ≡ refused_first by ys
-    → a ≡ sooner m n → b ≡ sooner a e → r ≡ sooner b p → r ≡ refused_first by (spot s one ∷ spot s two ∷ (xs ++ ys))
+pub task_met : (by : Standard) (s : CheckScope) (one two : CheckDemand) (xs ys : List CheckSite) (m n e p a b r : Option CheckRefusal) → m ≡ refused_first_at by s one → n ≡ refused_first_at by s two → e ≡ refused_first by xs → p ≡ refused_first by ys
+    → a ≡ sooner m n → b ≡ sooner a e → r ≡ sooner b p → r ≡ refused_first by (site s one ∷ site s two ∷ (xs ++ ys))
 task_met by s one two xs ys m n e p a b r is_m is_n is_e is_p is_a is_b is =
     is
-    ∙ joined by (spot s one ∷ spot s two ∷ xs) ys b p
-    (is_b ∙ joined by (spot s one ∷ spot s two ∷ []) xs a e (is_a ∙ before by s one (spot s two ∷ []) m n is_m (is_n ∙ sym (met_one by s two))) is_e)
+    ∙ joined by (site s one ∷ site s two ∷ xs) ys b p
+    (is_b ∙ joined by (site s one ∷ site s two ∷ []) xs a e (is_a ∙ before by s one (site s two ∷ []) m n is_m (is_n ∙ sym (met_one by s two))) is_e)
     is_p
 
 -- ---- what declarations leave as it was
 
-meant_only : (m : Meant) (s : Surrounding) (ws : List Word) (names : List (ℕ × Meant)) → record (with_meant m s ws) { names = names } ≡ record s { names = names }
+meant_only : (m : Meant) (s : CheckScope) (ws : List Word) (names : List (ℕ × Meant)) → record (with_meant m s ws) { names = names } ≡ record s { names = names }
 meant_only m s [] names = refl
 meant_only m s (w ∷ ws) names = meant_only m (record s { names = (w.name.0, m) ∷ s.names }) ws names
 
 -- the task in whose body a place is, and the types
-pub record KeepsRest (now s : Surrounding) : Type 0 where
+pub record KeepsRest (now s : CheckScope) : Type 0 where
   pub own_is : now.own ≡ s.own
   pub types_are : now.types ≡ s.types
 
-kept_same : (s : Surrounding) → KeepsRest s s
+kept_same : (s : CheckScope) → KeepsRest s s
 kept_same s = record { own_is = refl; types_are = refl }
 
-kept_meant : (m : Meant) (s : Surrounding) (ws : List Word) → KeepsRest (with_meant m s ws) s
+kept_meant : (m : Meant) (s : CheckScope) (ws : List Word) → KeepsRest (with_meant m s ws) s
 kept_meant m s ws = let same = meant_only m s ws [] in record { own_is = ap (λ x. x.own) same; types_are = ap (λ x. x.types) same }
 
-kept_value : (b : Bool) (s : Surrounding) (ws : List Word) → KeepsRest (with_value b s ws) s
+kept_value : (b : Bool) (s : CheckScope) (ws : List Word) → KeepsRest (with_value b s ws) s
 kept_value true s ws = kept_meant Shared s ws
 kept_value false s ws = kept_same s
 
-kept_object : (o : Option Meant) (s : Surrounding) (mark : Word) (b : Bool) (ws : List Word) → KeepsRest (with_object s o mark b ws) s
+kept_object : (o : Option Meant) (s : CheckScope) (mark : Word) (b : Bool) (ws : List Word) → KeepsRest (with_object s o mark b ws) s
 kept_object (Some TaskType) s mark b ws = kept_meant (TaskOf mark.name) s ws
 kept_object (Some MainProcedure) s mark b ws = kept_value b s ws
 kept_object (Some (TaskOf u)) s mark b ws = kept_value b s ws
@@ -86,7 +86,7 @@ kept_object (Some Shared) s mark b ws = kept_value b s ws
 kept_object (Some Inner) s mark b ws = kept_value b s ws
 kept_object None s mark b ws = kept_value b s ws
 
-pub kept_decl : (s : Surrounding) (d : PDecl) → KeepsRest (after_decl s d) s
+pub kept_decl : (s : CheckScope) (d : PDecl) → KeepsRest (after_decl s d) s
 kept_decl s (DNumber w e p) = kept_same s
 kept_decl s (DObject ws c (OPlain x) i p) = kept_object (meaning s x.mark.name) s x.mark _ ws
 kept_decl s (DObject ws c (ORow r x) i p) = kept_object (meaning s x.mark.name) s x.mark true ws
@@ -101,16 +101,16 @@ kept_decl s (DTask t p) =
     record { own_is = kept.own_is; types_are = kept.types_are }
 kept_decl s (DTaskBody w objects its p) = kept_same s
 
-pub own_none : (s now : Surrounding) (d : PDecl) → s.own ≡ None → now ≡ after_decl s d → now.own ≡ None
+pub own_none : (s now : CheckScope) (d : PDecl) → s.own ≡ None → now ≡ after_decl s d → now.own ≡ None
 own_none s now d h same = ap (λ x. x.own) same ∙ (kept_decl s d).own_is ∙ h
 
-pub types_after : (s : Surrounding) (ds : PDecls) → (after_decls s ds).types ≡ s.types
+pub types_after : (s : CheckScope) (ds : PDecls) → (after_decls s ds).types ≡ s.types
 types_after s no_decl = refl
 types_after s (decl_then d rest) = types_after (after_decl s d) rest ∙ (kept_decl s d).types_are
 
 -- ---- a body
 
-object_only : (s : Surrounding) (d : PDecl) (names : List (ℕ × Meant)) → record (after_own_object s d) { names = names } ≡ record s { names = names }
+object_only : (s : CheckScope) (d : PDecl) (names : List (ℕ × Meant)) → record (after_own_object s d) { names = names } ≡ record s { names = names }
 object_only s (DNumber w e p) names = refl
 object_only s (DObject ws c x i p) names = meant_only Inner s ws names
 object_only s (DEnumeration w ws p) names = refl
@@ -122,11 +122,11 @@ object_only s (DPragma e p) names = refl
 object_only s (DTask t p) names = refl
 object_only s (DTaskBody w objects its p) names = refl
 
-own_only : (s : Surrounding) (ds : PDecls) (names : List (ℕ × Meant)) → record (after_own s ds) { names = names } ≡ record s { names = names }
+own_only : (s : CheckScope) (ds : PDecls) (names : List (ℕ × Meant)) → record (after_own s ds) { names = names } ≡ record s { names = names }
 own_only s no_decl names = refl
 own_only s (decl_then d rest) names = own_only (after_own_object s d) rest names ∙ object_only s d names
 
-within_object : (i s : Surrounding) (d : PDecl) → IsWithin i s → IsWithin (after_own_object i d) s
+within_object : (i s : CheckScope) (d : PDecl) → IsWithin i s → IsWithin (after_own_object i d) s
 within_object i s (DNumber w e p) h = h
 within_object i s (DObject ws c x v p) h = within_meant Inner i s ws h
 within_object i s (DEnumeration w ws p) h = h
@@ -138,52 +138,52 @@ within_object i s (DPragma e p) h = h
 within_object i s (DTask t p) h = h
 within_object i s (DTaskBody w objects its p) h = h
 
-within_own : (i s : Surrounding) (ds : PDecls) → IsWithin i s → IsWithin (after_own i ds) s
+within_own : (i s : CheckScope) (ds : PDecls) → IsWithin i s → IsWithin (after_own i ds) s
 within_own i s no_decl h = h
 within_own i s (decl_then d rest) h = within_own (after_own_object i d) s rest (within_object i s d h)
 
-pub within_body : (s now : Surrounding) (w : Word) (ds : PDecls) → now ≡ after_own (in_body s w) ds → IsWithin now s
+pub within_body : (s now : CheckScope) (w : Word) (ds : PDecls) → now ≡ after_own (in_body s w) ds → IsWithin now s
 within_body s now w ds same = let h = within_own (in_body s w) s ds ([], refl) in (h.0, ap (λ x. x.names) same ∙ h.1)
 
-abbrev outside_body : Surrounding → Surrounding → Surrounding
+abbrev outside_body : CheckScope → CheckScope → CheckScope
 outside_body s x = record x { names = s.names; own = None }
 
-pub left_body : (s now new : Surrounding) (w : Word) (ds : PDecls) (count : ℕ) → s.own ≡ None → count ≡ length s.names → now ≡ after_own (in_body s w) ds
-    → ((x : Surrounding) → count ≡ length x.names → IsWithin now x → new ≡ record now { names = x.names; own = None }) → new ≡ s
+pub left_body : (s now new : CheckScope) (w : Word) (ds : PDecls) (count : ℕ) → s.own ≡ None → count ≡ length s.names → now ≡ after_own (in_body s w) ds
+    → ((x : CheckScope) → count ≡ length x.names → IsWithin now x → new ≡ record now { names = x.names; own = None }) → new ≡ s
 left_body s now new w ds count own is_count same left =
     left s is_count (within_body s now w ds same)
     ∙ ap (outside_body s) same
-    ∙ ap (λ (x : Surrounding). record x { own = None }) (own_only (in_body s w) ds s.names)
+    ∙ ap (λ (x : CheckScope). record x { own = None }) (own_only (in_body s w) ds s.names)
     ∙ ap (λ (o : Option OwnUnit). record s { own = o }) (sym own)
 
 -- ---- one declaration after the other
 
-module _ (by : Standard) (spots : Surrounding → PDecl → List Spot) (after : Surrounding → PDecl → Surrounding) (all_spots : Surrounding → PDecls → List Spot)
-    (none : (s : Surrounding) → all_spots s no_decl ≡ []) (next : (s : Surrounding) (d : PDecl) (rest : PDecls) → all_spots s (decl_then d rest) ≡ spots s d ++ all_spots (after s d) rest) where
-  pub decl_more : (xs : List Decl) (i : ℕ) (x : Decl) (s now : Surrounding) (a b c all : Option CheckRefusal) → drop i xs ≡ x ∷ drop (i + 1) xs
-      → sooner a (refused_first by (all_spots s (decls_of (map plain_decl (drop i xs))))) ≡ all
-      → b ≡ refused_first by (spots s (plain_decl x))
+module _ (by : Standard) (check_sites : CheckScope → PDecl → List CheckSite) (after : CheckScope → PDecl → CheckScope) (all_sites : CheckScope → PDecls → List CheckSite)
+    (none : (s : CheckScope) → all_sites s no_decl ≡ []) (next : (s : CheckScope) (d : PDecl) (rest : PDecls) → all_sites s (decl_then d rest) ≡ check_sites s d ++ all_sites (after s d) rest) where
+  pub decl_more : (xs : List Decl) (i : ℕ) (x : Decl) (s now : CheckScope) (a b c all : Option CheckRefusal) → drop i xs ≡ x ∷ drop (i + 1) xs
+      → sooner a (refused_first by (all_sites s (decls_of (map plain_decl (drop i xs))))) ≡ all
+      → b ≡ refused_first by (check_sites s (plain_decl x))
       → now ≡ after s (plain_decl x)
       → c ≡ sooner a b
-      → sooner c (refused_first by (all_spots now (decls_of (map plain_decl (drop (i + 1) xs))))) ≡ all
+      → sooner c (refused_first by (all_sites now (decls_of (map plain_decl (drop (i + 1) xs))))) ≡ all
   decl_more xs i x s now a b c all is_cut told here is_now is_c =
       let rest = decls_of (map plain_decl (drop (i + 1) xs)) in
-      ap (λ z. sooner c (refused_first by (all_spots z rest))) is_now
-      ∙ ap (λ o. sooner o (refused_first by (all_spots (after s (plain_decl x)) rest))) is_c
-      ∙ gone a b all (refused_first by (all_spots (after s (plain_decl x)) rest)) (refused_first by (all_spots s (decls_of (map plain_decl (drop i xs)))))
-      (ap (λ (ys : List Decl). refused_first by (all_spots s (decls_of (map plain_decl ys)))) is_cut
+      ap (λ z. sooner c (refused_first by (all_sites z rest))) is_now
+      ∙ ap (λ o. sooner o (refused_first by (all_sites (after s (plain_decl x)) rest))) is_c
+      ∙ gone a b all (refused_first by (all_sites (after s (plain_decl x)) rest)) (refused_first by (all_sites s (decls_of (map plain_decl (drop i xs)))))
+      (ap (λ (ys : List Decl). refused_first by (all_sites s (decls_of (map plain_decl ys)))) is_cut
       ∙ ap (refused_first by) (next s (plain_decl x) rest)
-      ∙ met_append by (spots s (plain_decl x)) (all_spots (after s (plain_decl x)) rest)
-      ∙ ap (λ o. sooner o (refused_first by (all_spots (after s (plain_decl x)) rest))) (sym here))
+      ∙ met_append by (check_sites s (plain_decl x)) (all_sites (after s (plain_decl x)) rest)
+      ∙ ap (λ o. sooner o (refused_first by (all_sites (after s (plain_decl x)) rest))) (sym here))
       told
 
-  pub decl_end : (xs : List Decl) (i : ℕ) (s : Surrounding) (a all : Option CheckRefusal) → length xs ≤ i
-      → sooner a (refused_first by (all_spots s (decls_of (map plain_decl (drop i xs))))) ≡ all → a ≡ all
-  decl_end xs i s a all h told = ended by a all (all_spots s (decls_of (map plain_decl (drop i xs)))) (ap (λ (ys : List Decl). all_spots s (decls_of (map plain_decl ys))) (drop_all i xs h) ∙ none s) told
+  pub decl_end : (xs : List Decl) (i : ℕ) (s : CheckScope) (a all : Option CheckRefusal) → length xs ≤ i
+      → sooner a (refused_first by (all_sites s (decls_of (map plain_decl (drop i xs))))) ≡ all → a ≡ all
+  decl_end xs i s a all h told = ended by a all (all_sites s (decls_of (map plain_decl (drop i xs)))) (ap (λ (ys : List Decl). all_sites s (decls_of (map plain_decl ys))) (drop_all i xs h) ∙ none s) told
 
-module _ (after : Surrounding → PDecl → Surrounding) (all_after : Surrounding → PDecls → Surrounding)
-    (none : (s : Surrounding) → all_after s no_decl ≡ s) (next : (s : Surrounding) (d : PDecl) (rest : PDecls) → all_after s (decl_then d rest) ≡ all_after (after s d) rest) where
-  pub after_more : (xs : List Decl) (i : ℕ) (x : Decl) (s now all : Surrounding) → drop i xs ≡ x ∷ drop (i + 1) xs
+module _ (after : CheckScope → PDecl → CheckScope) (all_after : CheckScope → PDecls → CheckScope)
+    (none : (s : CheckScope) → all_after s no_decl ≡ s) (next : (s : CheckScope) (d : PDecl) (rest : PDecls) → all_after s (decl_then d rest) ≡ all_after (after s d) rest) where
+  pub after_more : (xs : List Decl) (i : ℕ) (x : Decl) (s now all : CheckScope) → drop i xs ≡ x ∷ drop (i + 1) xs
       → all_after s (decls_of (map plain_decl (drop i xs))) ≡ all → now ≡ after s (plain_decl x)
       → all_after now (decls_of (map plain_decl (drop (i + 1) xs))) ≡ all
   after_more xs i x s now all is_cut told is_now =
@@ -192,5 +192,5 @@ module _ (after : Surrounding → PDecl → Surrounding) (all_after : Surroundin
       ∙ ap (λ (ys : List Decl). all_after s (decls_of (map plain_decl ys))) (sym is_cut)
       ∙ told
 
-  pub after_end : (xs : List Decl) (i : ℕ) (s all : Surrounding) → length xs ≤ i → all_after s (decls_of (map plain_decl (drop i xs))) ≡ all → s ≡ all
+  pub after_end : (xs : List Decl) (i : ℕ) (s all : CheckScope) → length xs ≤ i → all_after s (decls_of (map plain_decl (drop i xs))) ≡ all → s ≡ all
   after_end xs i s all h told = sym (none s) ∙ ap (λ (ys : List Decl). all_after s (decls_of (map plain_decl ys))) (sym (drop_all i xs h)) ∙ told

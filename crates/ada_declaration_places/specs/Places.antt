@@ -2,14 +2,14 @@
 use Rattle.std.specs.Prelude.{ℕ, List, [], map}
 use Rattle.ada_tree.specs.declared.naming.NameId.{NameId}
 use Rattle.ada_tree.specs.PlainDecl.{PDecl, DTaskBody}
-use Rattle.syn_event.specs.Surrounding.{Surrounding, Spot}
-use Rattle.syn_event.specs.Spots.{decl_spots}
+use Rattle.syn_event.specs.CheckScope.{CheckScope, CheckSite}
+use Rattle.syn_event.specs.CheckSites.{decl_sites}
 
 -- names by their numbers
 abbrev pub numbers_in : List NameId → List ℕ
 numbers_in names = map (λ n. n.0) names
 
 -- those of a declaration that is no body
-abbrev pub places_of : Surrounding → List ℕ → PDecl → List Spot
+abbrev pub places_of : CheckScope → List ℕ → PDecl → List CheckSite
 places_of around bodies (DTaskBody w objects its s) = []
-places_of around bodies d = decl_spots around bodies d
+places_of around bodies d = decl_sites around bodies d

@@ -3,10 +3,10 @@
 
 ghost use Rattle.std.specs.Prelude.{◌≡◌, map, OnOk, IfOk};
 ghost use Rattle.ada_tree.specs.PlainDecl.{plain_shape, plain_entry, plain_task, plain_decl};
-ghost use Rattle.syn_event.specs.Surrounding.{meaning};
-ghost use Rattle.syn_event.specs.Spots.{with_meant, with_object, after_object, meant_by_task, after_task, after_decl};
+ghost use Rattle.syn_event.specs.CheckScope.{meaning};
+ghost use Rattle.syn_event.specs.CheckSites.{with_meant, with_object, after_object, meant_by_task, after_task, after_decl};
 
-use ada_surroundings::{NameSet, Surroundings};
+use ada_check_scopes::{CheckScopes, NameSet};
 use ada_task_objects::is_array_type;
 use ada_tree::{Decl, DeclKind, EntryDecl, Shape, TaskUnit, Word};
 use std::alloc::{AllocError, Global};
@@ -14,7 +14,7 @@ use syn_event::Meant;
 
 /// Declares names with one meaning.
 pub(crate) fn declare_all(
-    around: &mut Surroundings,
+    around: &mut CheckScopes,
     meant: Meant,
     names: &[Word],
 ) -> Result<(), AllocError>
@@ -28,7 +28,7 @@ pub(crate) fn declare_all(
 
 // Declares objects of main of a mark; they are shared where they are variables or arrays.
 fn declare_marked(
-    around: &mut Surroundings,
+    around: &mut CheckScopes,
     mark: Word,
     is_shared: bool,
     names: &[Word],
@@ -49,7 +49,7 @@ fn declare_marked(
 
 // Declares objects of main.
 fn declare_objects(
-    around: &mut Surroundings,
+    around: &mut CheckScopes,
     names: &[Word],
     constant: bool,
     shape: &Shape,
@@ -92,7 +92,7 @@ fn meant_by_task(unit: &TaskUnit) -> Meant
 }
 
 // Declares a task or task type.
-fn declare_task(around: &mut Surroundings, alloc: Global, unit: &TaskUnit) -> Result<(), AllocError>
+fn declare_task(around: &mut CheckScopes, alloc: Global, unit: &TaskUnit) -> Result<(), AllocError>
     ensures { OnOk result (around.new ≡ after_task around.old (plain_task unit.now)) }
 {
     let entries = entry_names(alloc, &unit.entries)?;
@@ -101,7 +101,7 @@ fn declare_task(around: &mut Surroundings, alloc: Global, unit: &TaskUnit) -> Re
 }
 
 /// Declares what a declaration of the main procedure adds: objects that are shared or are tasks, tasks, and task types.
-pub fn declare(around: &mut Surroundings, alloc: Global, decl: &Decl) -> Result<(), AllocError>
+pub fn declare(around: &mut CheckScopes, alloc: Global, decl: &Decl) -> Result<(), AllocError>
     ensures { OnOk result (around.new ≡ after_decl around.old (plain_decl decl.now)) }
 {
     match &decl.kind {

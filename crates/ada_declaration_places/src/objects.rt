@@ -5,13 +5,13 @@ ghost use Rattle.std.specs.Prelude.{◌≡◌, None, option_map, IfOk};
 ghost use Rattle.ada_tree.specs.PlainExpr.{plain_drange};
 ghost use Rattle.ada_tree.specs.PlainDecl.{plain_shape, plain_init};
 ghost use Rattle.syn_event.specs.Extents.{size, range_start};
-ghost use Rattle.syn_event.specs.Surrounding.{counts};
-ghost use Rattle.syn_event.specs.Spots.{if_there, index_spots, shape_spots, init_spots, object_spots};
+ghost use Rattle.syn_event.specs.CheckScope.{counts};
+ghost use Rattle.syn_event.specs.CheckSites.{if_there, index_sites, shape_sites, init_sites, object_sites};
 ghost use Rattle.ada_rules.specs.RefusedFirst.{refused_first_at, refused_first};
 
+use ada_check_scopes::CheckScopes;
 use ada_part_places::{walk_drange, walk_expr, walk_exprs, walk_names, walk_subind};
 use ada_rules::{Refusal, Standard, first};
-use ada_surroundings::Surroundings;
 use ada_task_objects::{range_start, size};
 use ada_tree::{Drange, Init, Shape, Word};
 use std::alloc::AllocError;
@@ -19,7 +19,7 @@ use syn_event::What;
 
 /// So many values as a range has, which are limited.
 pub(crate) fn refuse_size(
-    around: &Surroundings,
+    around: &CheckScopes,
     by: &Standard,
     what: What,
     range: &Drange,
@@ -31,11 +31,11 @@ pub(crate) fn refuse_size(
 
 /// The index range of an array.
 pub(crate) fn walk_index(
-    around: &Surroundings,
+    around: &CheckScopes,
     by: &Standard,
     range: &Drange,
 ) -> Result<Option<Refusal>, AllocError>
-    ensures { IfOk result (λ r. r ≡ refused_first by.now (index_spots around.now (plain_drange range.now))) }
+    ensures { IfOk result (λ r. r ≡ refused_first by.now (index_sites around.now (plain_drange range.now))) }
 {
     let many = refuse_size(around, by, What::Components, range);
     Ok(first(many, walk_drange(around, by, 2, range)?))
@@ -43,11 +43,11 @@ pub(crate) fn walk_index(
 
 // What objects are declared as.
 fn walk_shape(
-    around: &Surroundings,
+    around: &CheckScopes,
     by: &Standard,
     shape: &Shape,
 ) -> Result<Option<Refusal>, AllocError>
-    ensures { IfOk result (λ r. r ≡ refused_first by.now (shape_spots around.now (plain_shape shape.now))) }
+    ensures { IfOk result (λ r. r ≡ refused_first by.now (shape_sites around.now (plain_shape shape.now))) }
 {
     match shape {
         Shape::Plain(subind) => walk_subind(around, by, 2, subind),
@@ -61,11 +61,11 @@ fn walk_shape(
 
 // An initial value, which may be left out.
 fn walk_init(
-    around: &Surroundings,
+    around: &CheckScopes,
     by: &Standard,
     init: &Option<Init>,
 ) -> Result<Option<Refusal>, AllocError>
-    ensures { IfOk result (λ r. r ≡ refused_first by.now (if_there (init_spots around.now) (option_map plain_init init.now))) }
+    ensures { IfOk result (λ r. r ≡ refused_first by.now (if_there (init_sites around.now) (option_map plain_init init.now))) }
 {
     match init {
         Some(init) => match init {
@@ -79,13 +79,13 @@ fn walk_init(
 
 /// Objects.
 pub(crate) fn walk_object(
-    around: &Surroundings,
+    around: &CheckScopes,
     by: &Standard,
     names: &[Word],
     shape: &Shape,
     init: &Option<Init>,
 ) -> Result<Option<Refusal>, AllocError>
-    ensures { IfOk result (λ r. r ≡ refused_first by.now (object_spots around.now names.now (plain_shape shape.now) (option_map plain_init init.now))) }
+    ensures { IfOk result (λ r. r ≡ refused_first by.now (object_sites around.now names.now (plain_shape shape.now) (option_map plain_init init.now))) }
 {
     let declared = walk_names(by, names);
     let kind = walk_shape(around, by, shape)?;

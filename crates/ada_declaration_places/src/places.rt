@@ -3,27 +3,27 @@
 
 ghost use Rattle.std.specs.Prelude.{◌≡◌, None, map, OnOk, IfOk};
 ghost use Rattle.ada_tree.specs.PlainDecl.{plain_decl, decls_of};
-ghost use Rattle.syn_event.specs.Spots.{own_object_spots, after_own_object, own_spots, after_own};
+ghost use Rattle.syn_event.specs.CheckSites.{own_object_sites, after_own_object, own_sites, after_own};
 ghost use Rattle.ada_rules.specs.RefusedFirst.{refused_first};
 ghost use Rattle.ada_declaration_places.specs.Places.{numbers_in, places_of};
 
 use crate::adding::declare_all;
 use crate::objects::{walk_index, walk_object};
 use crate::tasks::walk_task;
+use ada_check_scopes::{CheckScopes, NameSet};
 use ada_part_places::{walk_expr, walk_names, walk_subind};
 use ada_rules::{Refusal, Standard, first};
-use ada_surroundings::{NameSet, Surroundings};
 use ada_tree::{Decl, DeclKind};
 use std::alloc::AllocError;
 use syn_event::Meant;
 
 // An object of a task body, which is declared behind its own places.
 fn walk_own_object(
-    around: &mut Surroundings,
+    around: &mut CheckScopes,
     by: &Standard,
     decl: &Decl,
 ) -> Result<Option<Refusal>, AllocError>
-    ensures told { IfOk result (λ r. r ≡ refused_first by.now (own_object_spots around.old (plain_decl decl.now))) }
+    ensures told { IfOk result (λ r. r ≡ refused_first by.now (own_object_sites around.old (plain_decl decl.now))) }
     ensures after { OnOk result (around.new ≡ after_own_object around.old (plain_decl decl.now)) }
 {
     match &decl.kind {
@@ -51,11 +51,11 @@ fn walk_own_object(
 
 /// The objects of a task body, each of which is declared behind its own places.
 pub fn walk_own(
-    around: &mut Surroundings,
+    around: &mut CheckScopes,
     by: &Standard,
     objects: &[Decl],
 ) -> Result<Option<Refusal>, AllocError>
-    ensures told { IfOk result (λ r. r ≡ refused_first by.now (own_spots around.old (decls_of (map plain_decl objects.now)))) }
+    ensures told { IfOk result (λ r. r ≡ refused_first by.now (own_sites around.old (decls_of (map plain_decl objects.now)))) }
     ensures after { OnOk result (around.new ≡ after_own around.old (decls_of (map plain_decl objects.now))) }
 {
     let mut refusal = None;
@@ -68,7 +68,7 @@ pub fn walk_own(
 
 /// The places of a declaration of the main procedure that is no body, given the names of the bodies there.
 pub fn walk_places(
-    around: &Surroundings,
+    around: &CheckScopes,
     by: &Standard,
     bodies: &NameSet,
     decl: &Decl,

@@ -4,26 +4,26 @@
 ghost use Rattle.std.specs.Prelude.{◌≡◌, None, map, flat_map, option_map, IfOk};
 ghost use Rattle.ada_tree.specs.PlainExpr.{plain_drange};
 ghost use Rattle.ada_tree.specs.PlainDecl.{plain_entry, plain_priority, plain_task};
-ghost use Rattle.syn_event.specs.Surrounding.{Surrounding, needs_body};
-ghost use Rattle.syn_event.specs.Spots.{if_there, expr_spots, family_spots, entry_spots, task_spots};
+ghost use Rattle.syn_event.specs.CheckScope.{CheckScope, needs_body};
+ghost use Rattle.syn_event.specs.CheckSites.{if_there, expr_sites, family_sites, entry_sites, task_sites};
 ghost use Rattle.ada_rules.specs.RefusedFirst.{Standard as By, refused_first_at, refused_first};
 ghost use Rattle.ada_declaration_places.specs.Places.{numbers_in};
 
 use crate::objects::refuse_size;
+use ada_check_scopes::{CheckScopes, NameSet};
 use ada_part_places::{walk_drange, walk_expr, walk_formals};
 use ada_rules::{Refusal, Rule, Standard, first, refuse_formals, refuse_if};
-use ada_surroundings::{NameSet, Surroundings};
 use ada_tree::{Drange, EntryDecl, Priority, Span, TaskUnit};
 use std::alloc::AllocError;
 use syn_event::What;
 
 // The range of a family.
 fn walk_family(
-    around: &Surroundings,
+    around: &CheckScopes,
     by: &Standard,
     family: &Option<Drange>,
 ) -> Result<Option<Refusal>, AllocError>
-    ensures { IfOk result (λ r. r ≡ refused_first by.now (if_there (family_spots around.now) (option_map plain_drange family.now))) }
+    ensures { IfOk result (λ r. r ≡ refused_first by.now (if_there (family_sites around.now) (option_map plain_drange family.now))) }
 {
     match family {
         Some(range) => {
@@ -36,11 +36,11 @@ fn walk_family(
 
 // An entry.
 fn walk_entry(
-    around: &Surroundings,
+    around: &CheckScopes,
     by: &Standard,
     entry: &EntryDecl,
 ) -> Result<Option<Refusal>, AllocError>
-    ensures { IfOk result (λ r. r ≡ refused_first by.now (entry_spots around.now (plain_entry entry.now))) }
+    ensures { IfOk result (λ r. r ≡ refused_first by.now (entry_sites around.now (plain_entry entry.now))) }
 {
     let name = by.refuse_name(entry.name);
     let family = walk_family(around, by, &entry.family)?;
@@ -51,11 +51,11 @@ fn walk_entry(
 
 // The entries of a task.
 fn walk_entries(
-    around: &Surroundings,
+    around: &CheckScopes,
     by: &Standard,
     entries: &[EntryDecl],
 ) -> Result<Option<Refusal>, AllocError>
-    ensures { IfOk result (λ r. r ≡ refused_first by.now (flat_map (entry_spots around.now) (map plain_entry entries.now))) }
+    ensures { IfOk result (λ r. r ≡ refused_first by.now (flat_map (entry_sites around.now) (map plain_entry entries.now))) }
 {
     let mut refusal = None;
     for entry in entries {
@@ -67,11 +67,11 @@ fn walk_entries(
 
 // The priorities of a task.
 fn walk_priorities(
-    around: &Surroundings,
+    around: &CheckScopes,
     by: &Standard,
     priorities: &[Priority],
 ) -> Result<Option<Refusal>, AllocError>
-    ensures { IfOk result (λ r. r ≡ refused_first by.now (flat_map (λ p. expr_spots around.now 2 p.value) (map plain_priority priorities.now))) }
+    ensures { IfOk result (λ r. r ≡ refused_first by.now (flat_map (λ p. expr_sites around.now 2 p.value) (map plain_priority priorities.now))) }
 {
     let mut refusal = None;
     for priority in priorities {
@@ -83,20 +83,20 @@ fn walk_priorities(
 
 // A task or task type without a body.
 fn refuse_bodiless(bodies: &NameSet, unit: &TaskUnit, span: Span) -> Option<Refusal>
-    ensures { (by : By) → (around : Surrounding) → result ≡ refused_first_at by around (needs_body (numbers_in bodies.now) unit.now.name span) }
+    ensures { (by : By) → (around : CheckScope) → result ≡ refused_first_at by around (needs_body (numbers_in bodies.now) unit.now.name span) }
 {
     refuse_if(!bodies.has(unit.name.name), Rule::BodyMissing, span)
 }
 
 /// A task or task type.
 pub(crate) fn walk_task(
-    around: &Surroundings,
+    around: &CheckScopes,
     by: &Standard,
     bodies: &NameSet,
     unit: &TaskUnit,
     span: Span,
 ) -> Result<Option<Refusal>, AllocError>
-    ensures { IfOk result (λ r. r ≡ refused_first by.now (task_spots around.now (numbers_in bodies.now) (plain_task unit.now) span)) }
+    ensures { IfOk result (λ r. r ≡ refused_first by.now (task_sites around.now (numbers_in bodies.now) (plain_task unit.now) span)) }
 {
     let missing = refuse_bodiless(bodies, unit, span);
     let name = by.refuse_name(unit.name);

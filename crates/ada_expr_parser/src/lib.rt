@@ -5,16 +5,16 @@ mod errors;
 mod items;
 mod levels;
 mod nodes;
+mod operators;
 mod parts;
 mod reading;
-mod signs;
 
 pub use ada_lexer::Symbol;
 pub use errors::ParseError;
 pub use items::{Item, ItemKind, Items, read_items};
 pub use levels::Level;
+pub use operators::{begins_expr, expect, expect_word, symbol_in};
 pub use parts::{
     read_behind, read_bounds, read_call, read_call_behind, read_choice, read_drange, read_expr,
     read_subind, read_target,
 };
-pub use signs::{begins_expr, expect, expect_word, symbol_in};

@@ -14,8 +14,8 @@ ghost use Rattle.ada_expr_parser.specs.Gives.{Gives};
 use crate::errors::ParseError;
 use crate::items::Item;
 use crate::levels::Level;
+use crate::operators::{expect, expect_word, symbol_in};
 use crate::reading::{below, logical, more, simple};
-use crate::signs::{expect, expect_word, symbol_in};
 use ada_lexer::Symbol;
 use ada_tree::{
     Args, BinaryOp, Bounds, Call, Callee, CaseChoice, Drange, Expr, ExprKind, Subind, Target, Word,

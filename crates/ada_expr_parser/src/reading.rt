@@ -13,7 +13,7 @@ use crate::errors::ParseError;
 use crate::items::{Item, ItemKind};
 use crate::levels::Level;
 use crate::nodes::{attribute, attribute_of, in_parens, indexed, joined, with_prefix};
-use crate::signs::{
+use crate::operators::{
     expect, expect_word, factor_operator, last_operator, operator_in, operator_rest, sign,
     symbol_in,
 };

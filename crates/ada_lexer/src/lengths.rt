@@ -7,8 +7,8 @@ ghost use Rattle.ada_lexer.specs.Pieces.{word_goes_on, number_goes_on, comment_g
 ghost use Rattle.ada_lexer.specs.Lengths.{piece_len, mark_len, IsMeasured};
 
 use super::bytes::{behind, is_digit, is_letter, is_letter_or_digit, is_white};
+use super::spellings::{compound_delimiter, simple_delimiter};
 use super::strings::string_len;
-use super::words::{compound_delimiter, simple_delimiter};
 
 /// The length of the piece that `text` begins with, and 0 where it begins with none.
 #[tactic(auto, using(crate::proofs::Longest::measured))]

@@ -11,10 +11,10 @@ mod lengths;
 mod lexing;
 mod numbers;
 mod places;
+mod spellings;
 mod strings;
 mod symbols;
 mod verdicts;
-mod words;
 
 pub use errors::LexError;
 pub use kinds::{Token, TokenKind};

@@ -7,8 +7,8 @@ use super::bytes::{is_digit, is_letter, is_white};
 use super::errors::LexError;
 use super::kinds::TokenKind;
 use super::numbers::number_kind;
+use super::spellings::{delimiter, reserved};
 use super::strings::{bad_place, content_len, ends_inside};
-use super::words::{delimiter, reserved};
 
 /// An identifier has at most this many bytes.
 const MAX_NAME: usize = 150;

@@ -16,7 +16,7 @@ use Rattle.ada_expr_laws.proofs.Plainly.{after_symbol, symbol_then, after_word, 
 use Rattle.ada_phrase_parser.specs.Spelling.{Source, Spelling, ◌▷◌, Key, Named, Placed, Stands}
 use Rattle.ada_task_parser.specs.Tasks.{Member, entries_in, priorities_in, TaskWord, TaskRest}
 use Rattle.ada_parser.specs.Declarations.{IsDecl}
-use Rattle.ada_stmt_parser.specs.ReadingStatements.{readers}
+use Rattle.ada_stmt_parser.specs.inner.ReadingStatements.{readers}
 use Rattle.ada_parser.specs.inner.ReadingDeclarativeParts as declarative
 use Rattle.ada_task_parser.specs.inner.ReadingTasks as tasks
 use Rattle.ada_parser.proofs.KitPieces.{Closing, closing_then, same_grouped, after_key, placed_key, key_placed}

@@ -27,7 +27,7 @@ use Rattle.ada_phrase_parser.specs.Spelling.{Source, Spelling, ◌▷◌, Where,
 use Rattle.ada_stmt_parser.specs.Statements.{IsBody}
 use Rattle.ada_parser.specs.Declarations.{UnitEnd, Decls}
 use Rattle.ada_phrase_parser.specs.Reading.{is_symbol}
-use Rattle.ada_stmt_parser.specs.ReadingStatements.{readers}
+use Rattle.ada_stmt_parser.specs.inner.ReadingStatements.{readers}
 use Rattle.ada_task_parser.specs.inner.ReadingTasks as tasks
 use Rattle.ada_decl_parser.specs.inner.ReadingDeclarations as reading
 use Rattle.ada_parser.specs.inner.ReadingDeclarativeParts as declarative

@@ -9,7 +9,7 @@ use Rattle.ada_expr_parser.specs.declared.items.Item.{Item}
 use Rattle.ada_expr_parser.specs.Tests.{symbol}
 use Rattle.ada_phrase_parser.specs.Spelling.{Source}
 use Rattle.ada_phrase_parser.specs.Reading.{closed, again, end_of}
-use Rattle.ada_stmt_parser.specs.ReadingStatements.{readers, body_rest}
+use Rattle.ada_stmt_parser.specs.inner.ReadingStatements.{readers, body_rest}
 use Rattle.ada_parser.specs.inner.ReadingDeclarativeParts.{unit_end}
 use Rattle.ada_decl_parser.specs.inner.DeclViews.{with_close}
 use Rattle.ada_decl_parser.proofs.DeclSteps.{through, through_on}

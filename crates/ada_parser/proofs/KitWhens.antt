@@ -10,7 +10,7 @@ use Rattle.ada_expr_parser.specs.Tests.{symbol}
 use Rattle.ada_expr_parser.specs.Grammar.{symbol_item}
 use Rattle.ada_phrase_parser.specs.Spelling.{Spelling}
 use Rattle.ada_phrase_parser.specs.Reading.{is_symbol}
-use Rattle.ada_stmt_parser.specs.ReadingStatements.{Whens, with_part, no_whens, whens_in, whens}
+use Rattle.ada_stmt_parser.specs.inner.ReadingStatements.{Whens, with_part, no_whens, whens_in, whens}
 use Rattle.lawful_reader.specs.Readers.{Answer, Reader, Found, Fault, go_on, pure, bind, on, on_token, look, refuse}
 use Rattle.lawful_reader.specs.Grammars.{Texts, Never, Is, One, Then, Or, Begins, Starts, first_of}
 use Rattle.lawful_reader.specs.Lawful.{Careful, Lawful, IsPassed}

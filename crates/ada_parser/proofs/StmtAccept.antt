@@ -20,8 +20,8 @@ use Rattle.ada_phrase_parser.specs.Spelling.{Source, Spelling, Nothing, ◌▷�
 use Rattle.ada_phrase_parser.specs.Phrases.{Expression, Operand, Mode, IsFormal, Formals, Index, AcceptHead, EndOf}
 use Rattle.ada_stmt_parser.specs.Statements.{Stmts, IsAccept}
 use Rattle.ada_phrase_parser.specs.Reading.{is_symbol, closed, goes_on_name, expression_from, in_deeper, operand, end_of, Behind, behind_index, is_formal_mark, accept_name, accept_behind}
-use Rattle.ada_stmt_parser.specs.ReadingStatements.{Readers, accept_span, accept_at, stmts}
-use Rattle.ada_compound_parts.specs.ReadingParts.{head_of}
+use Rattle.ada_stmt_parser.specs.inner.ReadingStatements.{Readers, accept_span, accept_at, stmts}
+use Rattle.ada_compound_parts.specs.inner.ReadingParts.{head_of}
 use Rattle.lawful_reader.specs.Readers.{Answer, Found, Fault, Reader, bind, pure, go_on, on, below, token}
 use Rattle.lawful_reader.specs.Grammars.{Texts, Is, One, Then, Or, Below, Begins, Starts, first_of}
 use Rattle.lawful_reader.specs.Lawful.{Careful, Lawful, Anything, IsYes, IsNo}

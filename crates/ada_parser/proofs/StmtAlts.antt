@@ -16,8 +16,8 @@ use Rattle.ada_phrase_parser.specs.Phrases.{Expression, Guard}
 use Rattle.ada_stmt_parser.specs.Statements.{AnyStmts, IsAccept, IsAlt, IsAltKind}
 use Rattle.ada_phrase_parser.specs.Reading.{Delayed}
 use Rattle.ada_phrase_parser.specs.Reading as reading
-use Rattle.ada_stmt_parser.specs.ReadingStatements.{Readers, accept_span, accept_alt, delay_alt, alt_kind, alt_at}
-use Rattle.ada_compound_parts.specs.ReadingParts.{last_span, first_of_alt}
+use Rattle.ada_stmt_parser.specs.inner.ReadingStatements.{Readers, accept_span, accept_alt, delay_alt, alt_kind, alt_at}
+use Rattle.ada_compound_parts.specs.inner.ReadingParts.{last_span, first_of_alt}
 use Rattle.lawful_reader.specs.Readers.{bind}
 use Rattle.lawful_reader.specs.Grammars.{Texts, Never, One, Then, Or, Below, Starts}
 use Rattle.lawful_reader.specs.Lawful.{Lawful, Anything, IsPassed}

@@ -15,8 +15,8 @@ use Rattle.ada_phrase_parser.specs.Spelling.{Source, Spelling, ◌▷◌, Key, N
 use Rattle.ada_phrase_parser.specs.Phrases.{WhenRaised, WhenOthers}
 use Rattle.ada_stmt_parser.specs.Statements.{IsStmt, AnyStmts, Stmts, IsAccept, IsBody, HandlerPart, IsHandler, MoreHandlers}
 use Rattle.ada_phrase_parser.specs.Reading.{is_symbol}
-use Rattle.ada_stmt_parser.specs.ReadingStatements.{Readers, Whens, accept_span, whens, body_rest, block_rest, handler_part, handler_others, handlers_at}
-use Rattle.ada_compound_parts.specs.ReadingParts.{stmt_span, last_span, with_others}
+use Rattle.ada_stmt_parser.specs.inner.ReadingStatements.{Readers, Whens, accept_span, whens, body_rest, block_rest, handler_part, handler_others, handlers_at}
+use Rattle.ada_compound_parts.specs.inner.ReadingParts.{stmt_span, last_span, with_others}
 use Rattle.lawful_reader.specs.Readers.{Answer, Fault, Reader, go_on, bind, pure, token, look, refuse}
 use Rattle.lawful_reader.specs.Grammars.{Texts, Is, One, Then, Or, Below, Starts, first_of}
 use Rattle.lawful_reader.specs.Lawful.{Lawful, Anything, IsPassed}

@@ -18,8 +18,8 @@ use Rattle.ada_phrase_parser.specs.Phrases.{Expression, Choice}
 use Rattle.ada_stmt_parser.specs.Statements.{Stmts, ElsePart, OthersPart, IsArm, IsArms, MoreArms, IsCaseArm, IsCaseArms}
 use Rattle.ada_phrase_parser.specs.Reading.{closed}
 use Rattle.ada_phrase_parser.specs.Reading as reading
-use Rattle.ada_stmt_parser.specs.ReadingStatements.{Readers, Whens, if_arm, if_rest, case_part, case_rest}
-use Rattle.ada_compound_parts.specs.ReadingParts.{maybe}
+use Rattle.ada_stmt_parser.specs.inner.ReadingStatements.{Readers, Whens, if_arm, if_rest, case_part, case_rest}
+use Rattle.ada_compound_parts.specs.inner.ReadingParts.{maybe}
 use Rattle.lawful_reader.specs.Grammars.{Texts, Starts, first_of}
 use Rattle.lawful_reader.specs.Lawful.{Lawful, Anything, IsPassed}
 use Rattle.lawful_reader.proofs.Fitting.{law_stops, first_append}

@@ -14,8 +14,8 @@ use Rattle.ada_expr_parser.specs.Grammar.{symbol_item, word_item}
 use Rattle.ada_phrase_parser.specs.Spelling.{Source, Key}
 use Rattle.ada_stmt_parser.specs.Statements.{IsStmt}
 use Rattle.ada_phrase_parser.specs.Reading.{is_symbol}
-use Rattle.ada_stmt_parser.specs.ReadingStatements.{Readers, begins_stmt, stmts, body_rest, named_rest, named_loop, select_rest, if_rest, case_rest, block_rest, while_rest, for_rest, loop_rest, simple_at, stmt_at, level_at, inner_at, readers}
-use Rattle.ada_simple_stmt_parser.specs.ReadingSimple.{is_predefined, word_rest}
+use Rattle.ada_stmt_parser.specs.inner.ReadingStatements.{Readers, begins_stmt, stmts, body_rest, named_rest, named_loop, select_rest, if_rest, case_rest, block_rest, while_rest, for_rest, loop_rest, simple_at, stmt_at, level_at, inner_at, readers}
+use Rattle.ada_simple_stmt_parser.specs.inner.ReadingSimple.{is_predefined, word_rest}
 use Rattle.lawful_reader.specs.Readers.{Answer, Found, Fault}
 use Rattle.lawful_reader.specs.Grammars.{Texts, Never, One, Then, Or, Below, Starts, first_of}
 use Rattle.lawful_reader.specs.Lawful.{Lawful, Anything, IsPassed, IsYes}

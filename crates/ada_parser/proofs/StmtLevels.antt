@@ -14,7 +14,7 @@ use Rattle.ada_expr_parser.specs.Trees.{from_to}
 use Rattle.ada_phrase_parser.specs.Spelling.{Source, Spelling, Nothing, ◌▷◌, Key, Named}
 use Rattle.ada_phrase_parser.specs.Phrases.{Expression}
 use Rattle.ada_stmt_parser.specs.Statements.{IsStmt, AnyStmts, Stmts, ElsePart, IsAccept, IsAlt, MoreHandlers}
-use Rattle.ada_stmt_parser.specs.ReadingStatements.{Readers, begins_stmt, any_stmts, stmts, else_part}
+use Rattle.ada_stmt_parser.specs.inner.ReadingStatements.{Readers, begins_stmt, any_stmts, stmts, else_part}
 use Rattle.lawful_reader.specs.Grammars.{Texts, Is, One, Then, Or, Many, Some_of, Starts, Opens, first_of}
 use Rattle.lawful_reader.specs.Lawful.{Lawful, Anything}
 use Rattle.lawful_reader.proofs.Binding.{law_pure}

@@ -17,8 +17,8 @@ use Rattle.ada_phrase_parser.specs.Phrases.{Expression, Reverse, Drange, IsSchem
 use Rattle.ada_stmt_parser.specs.Statements.{IsStmt, Stmts}
 use Rattle.ada_phrase_parser.specs.Reading.{again}
 use Rattle.ada_phrase_parser.specs.Reading as reading
-use Rattle.ada_stmt_parser.specs.ReadingStatements.{Readers, loop_rest, while_rest, for_range, for_rest, named_loop}
-use Rattle.ada_compound_parts.specs.ReadingParts.{loop_end}
+use Rattle.ada_stmt_parser.specs.inner.ReadingStatements.{Readers, loop_rest, while_rest, for_range, for_rest, named_loop}
+use Rattle.ada_compound_parts.specs.inner.ReadingParts.{loop_end}
 use Rattle.lawful_reader.specs.Grammars.{Texts, Never, One, Then, Or, Starts, first_of}
 use Rattle.lawful_reader.specs.Lawful.{Lawful, Anything, IsPassed}
 use Rattle.lawful_reader.proofs.Binding.{law_then}

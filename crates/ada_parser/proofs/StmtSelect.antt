@@ -14,8 +14,8 @@ use Rattle.ada_phrase_parser.specs.Phrases.{DelayOf}
 use Rattle.ada_stmt_parser.specs.Statements.{AnyStmts, Stmts, ElsePart, IsAlt, IsAlts, MoreAlts}
 use Rattle.ada_phrase_parser.specs.Reading.{closed, Delayed}
 use Rattle.ada_phrase_parser.specs.Reading as reading
-use Rattle.ada_stmt_parser.specs.ReadingStatements as reading_stmts
-use Rattle.ada_stmt_parser.specs.ReadingStatements.{Readers, timed_rest, call_rest_of, wait_rest, select_rest}
+use Rattle.ada_stmt_parser.specs.inner.ReadingStatements as reading_stmts
+use Rattle.ada_stmt_parser.specs.inner.ReadingStatements.{Readers, timed_rest, call_rest_of, wait_rest, select_rest}
 use Rattle.lawful_reader.specs.Readers.{Answer, Found, Fault, Reader, bind, go_on, on}
 use Rattle.lawful_reader.specs.Grammars.{Texts, One, Then, Or, Starts, first_of}
 use Rattle.lawful_reader.specs.Lawful.{Lawful, Anything, IsYes, IsNo}

@@ -19,7 +19,7 @@ use Rattle.ada_phrase_parser.specs.Spelling.{Source, Spelling, ◌▷◌, IfTher
 use Rattle.ada_phrase_parser.specs.Phrases.{Operand}
 use Rattle.ada_stmt_parser.specs.Statements.{Callee, IsStmt}
 use Rattle.ada_phrase_parser.specs.Reading.{closed, separated, duration_in, duration, Delayed, delayed}
-use Rattle.ada_simple_stmt_parser.specs.ReadingSimple.{exit_rest}
+use Rattle.ada_simple_stmt_parser.specs.inner.ReadingSimple.{exit_rest}
 use Rattle.lawful_reader.specs.Readers.{Reader, pure, bind, on, token}
 use Rattle.lawful_reader.specs.Grammars.{Texts, One, Then, Or, Below, Starts, first_of}
 use Rattle.lawful_reader.specs.Lawful.{Lawful, Anything, IsPassed}

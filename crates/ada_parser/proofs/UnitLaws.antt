@@ -23,7 +23,7 @@ use Rattle.ada_stmt_parser.specs.Statements.{IsBody}
 use Rattle.ada_task_parser.specs.Tasks.{TaskWord, TaskRest}
 use Rattle.ada_parser.specs.Declarations.{UnitEnd, Decls}
 use Rattle.ada_parser.specs.Units.{PUnit, Context, Units}
-use Rattle.ada_stmt_parser.specs.ReadingStatements.{readers}
+use Rattle.ada_stmt_parser.specs.inner.ReadingStatements.{readers}
 use Rattle.ada_parser.specs.inner.ReadingDeclarativeParts as declarative
 use Rattle.ada_parser.specs.inner.ReadingDeclarativeParts.{begins_later, begins_decl, begins_behind, is_body}
 use Rattle.ada_parser.specs.inner.ReadingUnits as units

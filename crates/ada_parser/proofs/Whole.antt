@@ -19,7 +19,7 @@ use Rattle.ada_expr_parser.specs.Gives.{place}
 use Rattle.ada_phrase_parser.specs.Spelling.{Source}
 use Rattle.ada_parser.specs.Units.{PUnit, Units}
 use Rattle.ada_parser.specs.Reads.{deepest, is_end_kind, is_end, WholeTexts, unit_of, HasItems, Reads, BeginsSomeText, BeginsText, SyntaxAt, TooDeepAt}
-use Rattle.ada_stmt_parser.specs.ReadingStatements.{readers}
+use Rattle.ada_stmt_parser.specs.inner.ReadingStatements.{readers}
 use Rattle.ada_parser.specs.inner.ReadingUnits as reading
 use Rattle.ada_parser.specs.Laws.{HasOneText}
 use Rattle.ada_parser.specs.Exactly as exactly

@@ -29,7 +29,7 @@ use Rattle.ada_phrase_parser.specs.Spelling.{Source, Placed, Stands, last_place,
 use Rattle.ada_phrase_parser.specs.Phrases.{Operand}
 use Rattle.ada_stmt_parser.specs.Statements.{Target, Call}
 use Rattle.ada_phrase_parser.specs.Reading.{closed}
-use Rattle.ada_simple_stmt_parser.specs.ReadingSimple.{assign_or_call, plain_rest}
+use Rattle.ada_simple_stmt_parser.specs.inner.ReadingSimple.{assign_or_call, plain_rest}
 use Rattle.ada_parser.proofs.KitPieces as pieces
 use Rattle.ada_parser.proofs.KitPieces.{KeyAt, last_is}
 use Rattle.ada_parser.proofs.KitReading.{Made, law_closed, starts_last}

@@ -31,7 +31,7 @@ use Rattle.ada_expr_laws.proofs.Calling.{close_ends, a_number, of_name}
 use Rattle.ada_expr_laws.proofs.Behinds.{BehindAt, law_levels, behind_spells}
 use Rattle.ada_phrase_parser.specs.Spelling.{Key, ◌▷◌}
 use Rattle.ada_phrase_parser.specs.Reading.{is_symbol, key_then, in_deeper, goes_on_name, expression_from}
-use Rattle.ada_simple_stmt_parser.specs.ReadingSimple.{assign_or_call, is_close, goes_on_target, get_index, get_or_index, get_indexed, get_name, get_rest}
+use Rattle.ada_simple_stmt_parser.specs.inner.ReadingSimple.{assign_or_call, is_close, goes_on_target, get_index, get_or_index, get_indexed, get_name, get_rest}
 use Rattle.ada_parser.proofs.Narrowing.{Narrow, narrow_where, narrow_starts, passed_by, law_either, Room, careful_room}
 use Rattle.ada_parser.proofs.KitReading.{law_key}
 use Rattle.ada_parser.proofs.KitDeeper.{operand_careful, neither, no_some}

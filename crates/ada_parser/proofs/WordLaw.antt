@@ -8,7 +8,7 @@ use Rattle.ada_expr_parser.specs.declared.items.Item.{Item}
 use Rattle.ada_expr_parser.specs.Grammar.{word_item}
 use Rattle.ada_phrase_parser.specs.Spelling.{Source}
 use Rattle.ada_stmt_parser.specs.Statements.{IsStmt}
-use Rattle.ada_simple_stmt_parser.specs.ReadingSimple.{word_rest}
+use Rattle.ada_simple_stmt_parser.specs.inner.ReadingSimple.{word_rest}
 
 -- no loop, which may have a name of its own before it
 abbrev pub IsNoLoop : PStmt → Type 0

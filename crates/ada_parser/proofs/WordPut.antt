@@ -32,7 +32,7 @@ use Rattle.ada_expr_laws.proofs.Calling.{close_ends, of_name}
 use Rattle.ada_phrase_parser.specs.Spelling.{Source, Key, ◌▷◌, Behind, Separated, said_at, is_graphic}
 use Rattle.ada_phrase_parser.specs.Phrases.{Operand, IsPart, PutText}
 use Rattle.ada_phrase_parser.specs.Reading.{is_symbol, key_then, more_behind, part, string, string_in}
-use Rattle.ada_simple_stmt_parser.specs.ReadingSimple.{assign_or_call, put_more, put_behind, put_rest}
+use Rattle.ada_simple_stmt_parser.specs.inner.ReadingSimple.{assign_or_call, put_more, put_behind, put_rest}
 use Rattle.ada_parser.proofs.Narrowing.{Narrow, narrow_where, narrow_starts}
 use Rattle.ada_parser.proofs.KitPieces.{KeyAt, after_key}
 use Rattle.ada_parser.proofs.KitReading.{Made, Both, made_bind, made_key, law_key, law_closed, law_more, starts_key}

@@ -24,7 +24,7 @@ use Rattle.ada_expr_laws.proofs.Calling.{of_name}
 use Rattle.ada_phrase_parser.specs.Spelling.{Source, Spelling, ◌▷◌, Key, Predefined, Placed, id_of}
 use Rattle.ada_phrase_parser.specs.Phrases.{PutText}
 use Rattle.ada_stmt_parser.specs.Statements.{Target}
-use Rattle.ada_simple_stmt_parser.specs.ReadingSimple.{assign_or_call, put_rest, get_rest, plain_rest, is_predefined, word_rest}
+use Rattle.ada_simple_stmt_parser.specs.inner.ReadingSimple.{assign_or_call, put_rest, get_rest, plain_rest, is_predefined, word_rest}
 use Rattle.ada_parser.proofs.WordLaw.{WordTexts, WordLaw}
 use Rattle.ada_parser.proofs.KitPieces.{same_behind, same_grouped}
 use Rattle.ada_parser.proofs.WordCalls.{symbol_starts, stands_to, place_is, AssignTexts, law_assign, assign_starts, assign_no_end, PlainTexts, law_plain, TargetThen, plain_is, is_plain, target_spells, first_name, spell_assign, spell_call}

@@ -7,8 +7,8 @@ use Rattle.ada_tree.specs.declared.naming.Span.{Span}
 use Rattle.ada_tree.specs.declared.naming.Word.{Word}
 use Rattle.syn_event.specs.declared.meanings.Meant.{Meant}
 use Rattle.syn_event.specs.declared.meanings.Meant.TheVariants.{MainProcedure, TaskType, TaskOf, Shared, Inner}
-use Rattle.syn_event.specs.Surrounding.{Unit, Surrounding, meaning, uses, addresses, aborts_before, exits, raises_again}
-use Rattle.syn_event.specs.Spots.{spot}
+use Rattle.syn_event.specs.CheckScope.{Unit, CheckScope, meaning, uses, addresses, aborts_before, exits, raises_again}
+use Rattle.syn_event.specs.CheckSites.{site}
 use Rattle.syn_event.specs.RuleSharedVariable.{shared_name, in_body_of}
 use Rattle.syn_event.specs.RuleMainEntry.{no_task}
 use Rattle.syn_event.specs.RuleAbortOrder.{own_task}
@@ -27,7 +27,7 @@ used_by (Some u) (Some (TaskOf unit)) s = refl
 used_by (Some u) (Some Shared) s = refl
 used_by (Some u) (Some Inner) s = refl
 
-pub uses_at : (by : Standard) (around : Surrounding) (id : NameId) (s : Span)
+pub uses_at : (by : Standard) (around : CheckScope) (id : NameId) (s : Span)
     → refused_first_at by around (uses id s) ≡ found 13 (if is_some (option_map (λ u. u.name) around.own) && is_shared (meaning around id) then s ∷ [] else [])
 uses_at by around id s = at_uses by around id s ∙ ap (found 13) (used_by around.own (meaning around id) s)
 
@@ -39,7 +39,7 @@ addressed_by (Some (TaskOf unit)) s = refl
 addressed_by (Some Shared) s = refl
 addressed_by (Some Inner) s = refl
 
-pub addresses_at : (by : Standard) (around : Surrounding) (w : Word) → refused_first_at by around (addresses w) ≡ found 18 (if is_no_task (meaning around w.name) then w.span ∷ [] else [])
+pub addresses_at : (by : Standard) (around : CheckScope) (w : Word) → refused_first_at by around (addresses w) ≡ found 18 (if is_no_task (meaning around w.name) then w.span ∷ [] else [])
 addresses_at by around w = at_addresses by around w ∙ ap (found 18) (addressed_by (meaning around w.name) w.span)
 
 aborted_by : (own : Option Unit) (m : Option Meant) (s : Span) → own_task own m s ≡ (if is_own_task (option_map (λ u. u.name) own) m then s ∷ [] else [])
@@ -51,7 +51,7 @@ aborted_by (Some u) (Some (TaskOf unit)) s = refl
 aborted_by (Some u) (Some Shared) s = refl
 aborted_by (Some u) (Some Inner) s = refl
 
-pub aborts_at : (by : Standard) (around : Surrounding) (w : Word)
+pub aborts_at : (by : Standard) (around : CheckScope) (w : Word)
     → refused_first_at by around (aborts_before w) ≡ found 19 (if is_own_task (option_map (λ u. u.name) around.own) (meaning around w.name) then w.span ∷ [] else [])
 aborts_at by around w = at_aborts by around w ∙ ap (found 19) (aborted_by around.own (meaning around w.name) w.span)
 
@@ -59,8 +59,8 @@ turned : (b : Bool) (s : Span) → (if b then [] else s ∷ []) ≡ (if not b th
 turned true s = refl
 turned false s = refl
 
-pub exits_at : (by : Standard) (around : Surrounding) (w : Option Word) (s : Span) → refused_first_at by around (exits w s) ≡ found 21 (if not (list_any (is_left w) around.loops) then s ∷ [] else [])
+pub exits_at : (by : Standard) (around : CheckScope) (w : Option Word) (s : Span) → refused_first_at by around (exits w s) ≡ found 21 (if not (list_any (is_left w) around.loops) then s ∷ [] else [])
 exits_at by around w s = at_exits by around w s ∙ ap (found 21) (turned (list_any (is_left w) around.loops) s)
 
-pub raises_met : (by : Standard) (around : Surrounding) (s : Span) → refused_first by (spot around (raises_again s) ∷ []) ≡ found 22 (if not around.in_handler then s ∷ [] else [])
+pub raises_met : (by : Standard) (around : CheckScope) (s : Span) → refused_first by (site around (raises_again s) ∷ []) ≡ found 22 (if not around.in_handler then s ∷ [] else [])
 raises_met by around s = met_one by around (raises_again s) ∙ at_raises by around s ∙ ap (found 22) (turned around.in_handler s)

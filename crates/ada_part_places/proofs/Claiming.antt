@@ -19,7 +19,7 @@ use Rattle.syn_event.specs.RuleAcceptPlace.{is_among}
 use Rattle.syn_event.specs.RuleSelectForm.{alt_kinds}
 use Rattle.syn_event.specs.RuleSameEntryTwice.{accept_heads, are_other_values, differ, clash, clashing}
 use Rattle.ada_rules.specs.Sooner.{sooner, found}
-use Rattle.ada_surroundings.specs.Around.{id_of}
+use Rattle.ada_check_scopes.specs.Around.{id_of}
 use Rattle.ada_part_places.specs.inner.Claiming.{index_value, claim_of, meets, is_for, is_whole, is_value, is_member, same_member, AreClaims, IsAccepted, IsClaimed}
 use Rattle.ada_part_places.specs.declared.claims.Claim.{Claim}
 use Rattle.ada_part_places.specs.declared.claims.Claims.{Claims}

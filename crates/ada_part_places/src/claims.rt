@@ -4,7 +4,7 @@ ghost use Rattle.std.specs.Prelude.{◌≡◌, ◌∷◌, [], List, OnOk};
 ghost use Rattle.std.specs.List.{list_any};
 ghost use Rattle.ada_part_places.specs.inner.Claiming.{meets, AreClaims};
 
-use ada_surroundings::NameSet;
+use ada_check_scopes::NameSet;
 use ada_tree::NameId;
 use std::alloc::{AllocError, Global};
 use std::collections::HashSet;

@@ -4,14 +4,14 @@
 ghost use Rattle.std.specs.Prelude.{◌≡◌, ◌+◌, IfOk, map, option_map};
 ghost use Rattle.ada_tree.specs.PlainExpr.{plain_expr, plain_bounds, plain_subind, plain_drange};
 ghost use Rattle.syn_event.specs.declared.limits.What.TheVariants.{Nesting};
-ghost use Rattle.syn_event.specs.Surrounding.{Surrounding, uses, counts};
-ghost use Rattle.syn_event.specs.Spots.{if_there, expr_spots, exprs_spots, bounds_spots, subind_spots, drange_spots};
+ghost use Rattle.syn_event.specs.CheckScope.{CheckScope, uses, counts};
+ghost use Rattle.syn_event.specs.CheckSites.{if_there, expr_sites, exprs_sites, bounds_sites, subind_sites, drange_sites};
 ghost use Rattle.ada_part_places.specs.inner.Asking.{is_shared};
 ghost use Rattle.ada_rules.specs.RefusedFirst.{Standard as By, refused_first_at, refused_first};
 ghost use Rattle.ada_part_places.specs.inner.WalkedExpr.{own_expr_met, operands_met};
 
+use ada_check_scopes::CheckScopes;
 use ada_rules::{Refusal, Rule, Standard, first, refuse_if};
-use ada_surroundings::Surroundings;
 use ada_tree::{Bounds, Drange, Expr, ExprKind, NameId, Span, Subind};
 use std::alloc::AllocError;
 use syn_event::{Meant, What};
@@ -28,7 +28,7 @@ pub fn deeper(k: u32) -> Result<u32, AllocError>
 
 /// A part that stands so deep.
 pub fn refuse_deep(by: &Standard, k: u32, span: Span) -> Option<Refusal>
-    ensures { (around : Surrounding) → result ≡ refused_first_at by.now around (counts Nesting 0 k span) }
+    ensures { (around : CheckScope) → result ≡ refused_first_at by.now around (counts Nesting 0 k span) }
 {
     by.refuse_count(What::Nesting, 0, k as u64, span)
 }
@@ -45,7 +45,7 @@ fn is_shared(meant: Option<Meant>) -> bool
 
 /// A name that stands for a value or a variable.
 #[tactic(auto, using(crate::proofs::Asking::uses_at))]
-pub(crate) fn refuse_use(around: &Surroundings, id: NameId, span: Span) -> Option<Refusal>
+pub(crate) fn refuse_use(around: &CheckScopes, id: NameId, span: Span) -> Option<Refusal>
     ensures { (by : By) → result ≡ refused_first_at by around.now (uses id span) }
 {
     let is_wrong = around.own_name().is_some() && is_shared(around.meaning(id));
@@ -53,7 +53,7 @@ pub(crate) fn refuse_use(around: &Surroundings, id: NameId, span: Span) -> Optio
 }
 
 // An expression without its parts: how deep it stands, and what its name stands for.
-fn refuse_own(around: &Surroundings, by: &Standard, k: u32, e: &Expr) -> Option<Refusal>
+fn refuse_own(around: &CheckScopes, by: &Standard, k: u32, e: &Expr) -> Option<Refusal>
     ensures { result ≡ own_expr_met by.now around.now k (plain_expr e.now) }
 {
     let deep = refuse_deep(by, k, e.span);
@@ -67,7 +67,7 @@ fn refuse_own(around: &Surroundings, by: &Standard, k: u32, e: &Expr) -> Option<
 // Walks the parts of an expression, which stand so deep.
 #[cycle(expressions)]
 fn walk_operands(
-    around: &Surroundings,
+    around: &CheckScopes,
     by: &Standard,
     k: u32,
     e: &Expr,
@@ -94,12 +94,12 @@ fn walk_operands(
 /// Walks an expression that stands so deep.
 #[cycle(expressions)]
 pub fn walk_expr(
-    around: &Surroundings,
+    around: &CheckScopes,
     by: &Standard,
     k: u32,
     e: &Expr,
 ) -> Result<Option<Refusal>, AllocError>
-    ensures { IfOk result (λ r. r ≡ refused_first by.now (expr_spots around.now k (plain_expr e.now))) }
+    ensures { IfOk result (λ r. r ≡ refused_first by.now (expr_sites around.now k (plain_expr e.now))) }
 {
     let inner = walk_operands(around, by, deeper(k)?, e)?;
     Ok(first(refuse_own(around, by, k, e), inner))
@@ -107,12 +107,12 @@ pub fn walk_expr(
 
 /// Walks an expression that may be left out.
 pub fn walk_maybe(
-    around: &Surroundings,
+    around: &CheckScopes,
     by: &Standard,
     k: u32,
     e: &Option<Expr>,
 ) -> Result<Option<Refusal>, AllocError>
-    ensures { IfOk result (λ r. r ≡ refused_first by.now (if_there (expr_spots around.now k) (option_map plain_expr e.now))) }
+    ensures { IfOk result (λ r. r ≡ refused_first by.now (if_there (expr_sites around.now k) (option_map plain_expr e.now))) }
 {
     match e {
         Some(e) => walk_expr(around, by, k, e),
@@ -122,12 +122,12 @@ pub fn walk_maybe(
 
 /// Walks expressions that stand so deep.
 pub fn walk_exprs(
-    around: &Surroundings,
+    around: &CheckScopes,
     by: &Standard,
     k: u32,
     list: &[Expr],
 ) -> Result<Option<Refusal>, AllocError>
-    ensures { IfOk result (λ r. r ≡ refused_first by.now (exprs_spots around.now k (map plain_expr list.now))) }
+    ensures { IfOk result (λ r. r ≡ refused_first by.now (exprs_sites around.now k (map plain_expr list.now))) }
 {
     let mut refusal = None;
     for e in list {
@@ -139,12 +139,12 @@ pub fn walk_exprs(
 
 /// Walks two bounds.
 pub(crate) fn walk_bounds(
-    around: &Surroundings,
+    around: &CheckScopes,
     by: &Standard,
     k: u32,
     bounds: &Bounds,
 ) -> Result<Option<Refusal>, AllocError>
-    ensures { IfOk result (λ r. r ≡ refused_first by.now (bounds_spots around.now k (plain_bounds bounds.now))) }
+    ensures { IfOk result (λ r. r ≡ refused_first by.now (bounds_sites around.now k (plain_bounds bounds.now))) }
 {
     let low = walk_expr(around, by, k, &bounds.first)?;
     let high = walk_expr(around, by, k, &bounds.last)?;
@@ -153,12 +153,12 @@ pub(crate) fn walk_bounds(
 
 /// Walks the bounds behind a mark, where there are some.
 pub fn walk_subind(
-    around: &Surroundings,
+    around: &CheckScopes,
     by: &Standard,
     k: u32,
     x: &Subind,
 ) -> Result<Option<Refusal>, AllocError>
-    ensures { IfOk result (λ r. r ≡ refused_first by.now (subind_spots around.now k (plain_subind x.now))) }
+    ensures { IfOk result (λ r. r ≡ refused_first by.now (subind_sites around.now k (plain_subind x.now))) }
 {
     match &x.bounds {
         Some(bounds) => walk_bounds(around, by, k, bounds),
@@ -168,12 +168,12 @@ pub fn walk_subind(
 
 /// Walks a discrete range.
 pub fn walk_drange(
-    around: &Surroundings,
+    around: &CheckScopes,
     by: &Standard,
     k: u32,
     range: &Drange,
 ) -> Result<Option<Refusal>, AllocError>
-    ensures { IfOk result (λ r. r ≡ refused_first by.now (drange_spots around.now k (plain_drange range.now))) }
+    ensures { IfOk result (λ r. r ≡ refused_first by.now (drange_sites around.now k (plain_drange range.now))) }
 {
     match range {
         Drange::Given(bounds) => walk_bounds(around, by, k, bounds),

@@ -5,8 +5,8 @@ ghost use Rattle.std.specs.Prelude.{◌≡◌, ◌∷◌, ◌++◌, [], List, Op
 ghost use Rattle.std.specs.List.{list_any};
 ghost use Rattle.ada_tree.specs.PlainExpr.{PExpr, plain_expr};
 ghost use Rattle.ada_tree.specs.PlainStmt.{PFormal, plain_target, plain_callee, plain_args, plain_call, plain_part, plain_choice, plain_scheme, plain_formal};
-ghost use Rattle.syn_event.specs.Surrounding.{Surrounding, addresses, aborts_before, accepts, exits, declares};
-ghost use Rattle.syn_event.specs.Spots.{spot, if_there, names_spots, formal_names, expr_spots, target_spots, callee_spots, aborted_spots, args_spots, exprs_spots, call_spots, select_spots, part_spots, choice_spots, scheme_spots, head_spots, raise_spots};
+ghost use Rattle.syn_event.specs.CheckScope.{CheckScope, addresses, aborts_before, accepts, exits, declares};
+ghost use Rattle.syn_event.specs.CheckSites.{site, if_there, names_sites, formal_names, expr_sites, target_sites, callee_sites, aborted_sites, args_sites, exprs_sites, call_sites, select_sites, part_sites, choice_sites, scheme_sites, head_sites, raise_sites};
 ghost use Rattle.syn_event.specs.RuleExitPlace.{is_left};
 ghost use Rattle.ada_part_places.specs.inner.Asking.{is_no_task, is_own_task};
 ghost use Rattle.ada_rules.specs.RefusedFirst.{Standard as By, refused_first_at, refused_first};
@@ -15,8 +15,8 @@ ghost use Rattle.ada_part_places.specs.inner.Aborted.{aborted_one};
 use crate::expressions::{
     deeper, refuse_deep, refuse_use, walk_drange, walk_expr, walk_exprs, walk_maybe,
 };
+use ada_check_scopes::CheckScopes;
 use ada_rules::{Refusal, Rule, Standard, first, refuse_if};
-use ada_surroundings::Surroundings;
 use ada_tree::{
     Args, Call, Callee, CaseChoice, Expr, Formal, NameId, Part, Scheme, Span, Target, Word,
 };
@@ -25,7 +25,7 @@ use syn_event::Meant;
 
 /// Walks names that are declared.
 pub fn walk_names(by: &Standard, names: &[Word]) -> Option<Refusal>
-    ensures { (around : Surrounding) → result ≡ refused_first by.now (names_spots around names.now) }
+    ensures { (around : CheckScope) → result ≡ refused_first by.now (names_sites around names.now) }
 {
     let mut refusal = None;
     for name in names {
@@ -36,7 +36,7 @@ pub fn walk_names(by: &Standard, names: &[Word]) -> Option<Refusal>
 
 /// Walks the names of formals.
 pub fn walk_formals(by: &Standard, formals: &[Formal]) -> Option<Refusal>
-    ensures { (around : Surrounding) → result ≡ refused_first by.now (names_spots around (formal_names (map plain_formal formals.now))) }
+    ensures { (around : CheckScope) → result ≡ refused_first by.now (names_sites around (formal_names (map plain_formal formals.now))) }
 {
     let mut refusal = None;
     for formal in formals {
@@ -47,7 +47,7 @@ pub fn walk_formals(by: &Standard, formals: &[Formal]) -> Option<Refusal>
 
 /// Walks a name that may be left out.
 pub fn walk_label(by: &Standard, name: Option<Word>) -> Option<Refusal>
-    ensures { (around : Surrounding) → result ≡ refused_first by.now (if_there (λ x. spot around (declares x) ∷ []) name) }
+    ensures { (around : CheckScope) → result ≡ refused_first by.now (if_there (λ x. site around (declares x) ∷ []) name) }
 {
     match name {
         Some(name) => by.refuse_name(name),
@@ -57,12 +57,12 @@ pub fn walk_label(by: &Standard, name: Option<Word>) -> Option<Refusal>
 
 /// Walks a variable or a component.
 pub fn walk_target(
-    around: &Surroundings,
+    around: &CheckScopes,
     by: &Standard,
     k: u32,
     target: &Target,
 ) -> Result<Option<Refusal>, AllocError>
-    ensures { IfOk result (λ r. r ≡ refused_first by.now (target_spots around.now k (plain_target target.now))) }
+    ensures { IfOk result (λ r. r ≡ refused_first by.now (target_sites around.now k (plain_target target.now))) }
 {
     let used = refuse_use(around, target.name.name, target.name.span);
     let index = walk_maybe(around, by, k, &target.index)?;
@@ -71,13 +71,13 @@ pub fn walk_target(
 
 /// Walks an assignment.
 pub fn walk_assign(
-    around: &Surroundings,
+    around: &CheckScopes,
     by: &Standard,
     k: u32,
     target: &Target,
     value: &Expr,
 ) -> Result<Option<Refusal>, AllocError>
-    ensures { IfOk result (λ r. r ≡ refused_first by.now (target_spots around.now k (plain_target target.now) ++ expr_spots around.now k (plain_expr value.now))) }
+    ensures { IfOk result (λ r. r ≡ refused_first by.now (target_sites around.now k (plain_target target.now) ++ expr_sites around.now k (plain_expr value.now))) }
 {
     let target = walk_target(around, by, k, target)?;
     let value = walk_expr(around, by, k, value)?;
@@ -97,7 +97,7 @@ fn is_no_task(meant: Option<Meant>) -> bool
 
 // A name where that of a task is needed.
 #[tactic(auto, using(crate::proofs::Asking::addresses_at))]
-fn refuse_address(around: &Surroundings, word: Word) -> Option<Refusal>
+fn refuse_address(around: &CheckScopes, word: Word) -> Option<Refusal>
     ensures { (by : By) → result ≡ refused_first_at by around.now (addresses word) }
 {
     refuse_if(
@@ -122,7 +122,7 @@ fn is_own_task(own: Option<NameId>, meant: Option<Meant>) -> bool
 
 // A name in an abort statement with a further one behind it, where it is that of a task that runs the body in which the place is.
 #[tactic(auto, using(crate::proofs::Asking::aborts_at))]
-fn refuse_before(around: &Surroundings, word: Word) -> Option<Refusal>
+fn refuse_before(around: &CheckScopes, word: Word) -> Option<Refusal>
     ensures { (by : By) → result ≡ refused_first_at by around.now (aborts_before word) }
 {
     let is_own = is_own_task(around.own_name(), around.meaning(word.name));
@@ -131,12 +131,12 @@ fn refuse_before(around: &Surroundings, word: Word) -> Option<Refusal>
 
 /// Walks a task, or a member of an array of tasks.
 pub(crate) fn walk_callee(
-    around: &Surroundings,
+    around: &CheckScopes,
     by: &Standard,
     k: u32,
     callee: &Callee,
 ) -> Result<Option<Refusal>, AllocError>
-    ensures { IfOk result (λ r. r ≡ refused_first by.now (callee_spots around.now k (plain_callee callee.now))) }
+    ensures { IfOk result (λ r. r ≡ refused_first by.now (callee_sites around.now k (plain_callee callee.now))) }
 {
     let address = refuse_address(around, callee.name);
     let index = walk_maybe(around, by, k, &callee.index)?;
@@ -145,7 +145,7 @@ pub(crate) fn walk_callee(
 
 // Walks a name of an abort statement, which may be the last one.
 fn walk_aborted_one(
-    around: &Surroundings,
+    around: &CheckScopes,
     by: &Standard,
     k: u32,
     callee: &Callee,
@@ -163,12 +163,12 @@ fn walk_aborted_one(
 
 /// Walks the names of an abort statement.
 pub fn walk_aborted(
-    around: &Surroundings,
+    around: &CheckScopes,
     by: &Standard,
     k: u32,
     names: &[Callee],
 ) -> Result<Option<Refusal>, AllocError>
-    ensures { IfOk result (λ r. r ≡ refused_first by.now (aborted_spots around.now k (map plain_callee names.now))) }
+    ensures { IfOk result (λ r. r ≡ refused_first by.now (aborted_sites around.now k (map plain_callee names.now))) }
 {
     let mut refusal = None;
     for (place, callee) in names.iter().enumerate() {
@@ -181,12 +181,12 @@ pub fn walk_aborted(
 
 // Walks a second list of arguments.
 fn walk_second(
-    around: &Surroundings,
+    around: &CheckScopes,
     by: &Standard,
     k: u32,
     second: &Option<Vec<Expr>>,
 ) -> Result<Option<Refusal>, AllocError>
-    ensures { IfOk result (λ r. r ≡ refused_first by.now (if_there (exprs_spots around.now k) (option_map (λ v. map plain_expr v.items) second.now))) }
+    ensures { IfOk result (λ r. r ≡ refused_first by.now (if_there (exprs_sites around.now k) (option_map (λ v. map plain_expr v.items) second.now))) }
 {
     match second {
         Some(list) => walk_exprs(around, by, k, list),
@@ -196,12 +196,12 @@ fn walk_second(
 
 // Walks the lists behind the name of an entry.
 fn walk_args(
-    around: &Surroundings,
+    around: &CheckScopes,
     by: &Standard,
     k: u32,
     args: &Args,
 ) -> Result<Option<Refusal>, AllocError>
-    ensures { IfOk result (λ r. r ≡ refused_first by.now (args_spots around.now k (plain_args args.now))) }
+    ensures { IfOk result (λ r. r ≡ refused_first by.now (args_sites around.now k (plain_args args.now))) }
 {
     let one = walk_exprs(around, by, k, &args.first)?;
     let other = walk_second(around, by, k, &args.second)?;
@@ -210,12 +210,12 @@ fn walk_args(
 
 // Walks the lists behind the name of an entry, where there are some.
 fn walk_args_if(
-    around: &Surroundings,
+    around: &CheckScopes,
     by: &Standard,
     k: u32,
     args: &Option<Args>,
 ) -> Result<Option<Refusal>, AllocError>
-    ensures { IfOk result (λ r. r ≡ refused_first by.now (if_there (args_spots around.now k) (option_map plain_args args.now))) }
+    ensures { IfOk result (λ r. r ≡ refused_first by.now (if_there (args_sites around.now k) (option_map plain_args args.now))) }
 {
     match args {
         Some(args) => walk_args(around, by, k, args),
@@ -225,12 +225,12 @@ fn walk_args_if(
 
 /// Walks an entry call.
 pub fn walk_call(
-    around: &Surroundings,
+    around: &CheckScopes,
     by: &Standard,
     k: u32,
     call: &Call,
 ) -> Result<Option<Refusal>, AllocError>
-    ensures { IfOk result (λ r. r ≡ refused_first by.now (call_spots around.now k (plain_call call.now))) }
+    ensures { IfOk result (λ r. r ≡ refused_first by.now (call_sites around.now k (plain_call call.now))) }
 {
     let callee = walk_callee(around, by, k, &call.task)?;
     let args = walk_args_if(around, by, k, &call.args)?;
@@ -239,12 +239,12 @@ pub fn walk_call(
 
 /// Walks the call of a conditional or timed one, which stands in a select of that nesting.
 pub fn walk_select(
-    around: &Surroundings,
+    around: &CheckScopes,
     by: &Standard,
     k: u32,
     call: &Call,
 ) -> Result<Option<Refusal>, AllocError>
-    ensures { IfOk result (λ r. r ≡ refused_first by.now (select_spots around.now k (plain_call call.now))) }
+    ensures { IfOk result (λ r. r ≡ refused_first by.now (select_sites around.now k (plain_call call.now))) }
 {
     let inner = deeper(k)?;
     let deep = refuse_deep(by, inner, call.task.name.span);
@@ -254,12 +254,12 @@ pub fn walk_select(
 
 // Walks a part of a text.
 fn walk_part(
-    around: &Surroundings,
+    around: &CheckScopes,
     by: &Standard,
     k: u32,
     part: &Part,
 ) -> Result<Option<Refusal>, AllocError>
-    ensures { IfOk result (λ r. r ≡ refused_first by.now (part_spots around.now k (plain_part part.now))) }
+    ensures { IfOk result (λ r. r ≡ refused_first by.now (part_sites around.now k (plain_part part.now))) }
 {
     match part {
         Part::Words { .. } => Ok(None),
@@ -269,12 +269,12 @@ fn walk_part(
 
 /// Walks the parts of a text.
 pub fn walk_text(
-    around: &Surroundings,
+    around: &CheckScopes,
     by: &Standard,
     k: u32,
     parts: &[Part],
 ) -> Result<Option<Refusal>, AllocError>
-    ensures { IfOk result (λ r. r ≡ refused_first by.now (flat_map (part_spots around.now k) (map plain_part parts.now))) }
+    ensures { IfOk result (λ r. r ≡ refused_first by.now (flat_map (part_sites around.now k) (map plain_part parts.now))) }
 {
     let mut refusal = None;
     for part in parts {
@@ -286,12 +286,12 @@ pub fn walk_text(
 
 // Walks a choice of a case.
 fn walk_choice(
-    around: &Surroundings,
+    around: &CheckScopes,
     by: &Standard,
     k: u32,
     choice: &CaseChoice,
 ) -> Result<Option<Refusal>, AllocError>
-    ensures { IfOk result (λ r. r ≡ refused_first by.now (choice_spots around.now k (plain_choice choice.now))) }
+    ensures { IfOk result (λ r. r ≡ refused_first by.now (choice_sites around.now k (plain_choice choice.now))) }
 {
     let low = walk_expr(around, by, k, &choice.first)?;
     let high = walk_maybe(around, by, k, &choice.last)?;
@@ -300,12 +300,12 @@ fn walk_choice(
 
 /// Walks the choices of a `when`.
 pub fn walk_choices(
-    around: &Surroundings,
+    around: &CheckScopes,
     by: &Standard,
     k: u32,
     choices: &[CaseChoice],
 ) -> Result<Option<Refusal>, AllocError>
-    ensures { IfOk result (λ r. r ≡ refused_first by.now (flat_map (choice_spots around.now k) (map plain_choice choices.now))) }
+    ensures { IfOk result (λ r. r ≡ refused_first by.now (flat_map (choice_sites around.now k) (map plain_choice choices.now))) }
 {
     let mut refusal = None;
     for choice in choices {
@@ -317,12 +317,12 @@ pub fn walk_choices(
 
 // Walks how a loop goes on.
 fn walk_scheme(
-    around: &Surroundings,
+    around: &CheckScopes,
     by: &Standard,
     k: u32,
     scheme: &Scheme,
 ) -> Result<Option<Refusal>, AllocError>
-    ensures { IfOk result (λ r. r ≡ refused_first by.now (scheme_spots around.now k (plain_scheme scheme.now))) }
+    ensures { IfOk result (λ r. r ≡ refused_first by.now (scheme_sites around.now k (plain_scheme scheme.now))) }
 {
     match scheme {
         Scheme::While(test) => walk_expr(around, by, k, test),
@@ -336,12 +336,12 @@ fn walk_scheme(
 
 /// Walks how a loop goes on, where that is said.
 pub fn walk_scheme_if(
-    around: &Surroundings,
+    around: &CheckScopes,
     by: &Standard,
     k: u32,
     scheme: &Option<Scheme>,
 ) -> Result<Option<Refusal>, AllocError>
-    ensures { IfOk result (λ r. r ≡ refused_first by.now (if_there (scheme_spots around.now k) (option_map plain_scheme scheme.now))) }
+    ensures { IfOk result (λ r. r ≡ refused_first by.now (if_there (scheme_sites around.now k) (option_map plain_scheme scheme.now))) }
 {
     match scheme {
         Some(scheme) => walk_scheme(around, by, k, scheme),
@@ -351,7 +351,7 @@ pub fn walk_scheme_if(
 
 // An accept of an entry where it may not stand.
 #[tactic(auto, using(ada_rules::proofs::Meeting::at_accepts))]
-fn refuse_accept(around: &Surroundings, entry: Word, span: Span) -> Option<Refusal>
+fn refuse_accept(around: &CheckScopes, entry: Word, span: Span) -> Option<Refusal>
     ensures { (by : By) (index : Option PExpr) (formals : List PFormal) → result ≡ refused_first_at by around.now (accepts record { entry = entry; index = index; formals = formals; span = span }) }
 {
     let is_wrong = !around.is_own_entry(entry.name) || around.is_accepting(entry.name);
@@ -360,7 +360,7 @@ fn refuse_accept(around: &Surroundings, entry: Word, span: Span) -> Option<Refus
 
 /// Walks an accept without its statements.
 pub fn walk_head(
-    around: &Surroundings,
+    around: &CheckScopes,
     by: &Standard,
     k: u32,
     entry: Word,
@@ -368,7 +368,7 @@ pub fn walk_head(
     formals: &[Formal],
     span: Span,
 ) -> Result<Option<Refusal>, AllocError>
-    ensures { IfOk result (λ r. r ≡ refused_first by.now (head_spots around.now k record { entry = entry; index = option_map plain_expr index.now; formals = map plain_formal formals.now; span = span })) }
+    ensures { IfOk result (λ r. r ≡ refused_first by.now (head_sites around.now k record { entry = entry; index = option_map plain_expr index.now; formals = map plain_formal formals.now; span = span })) }
 {
     let deep = refuse_deep(by, k, span);
     let place = refuse_accept(around, entry, span);
@@ -403,7 +403,7 @@ fn is_any_left(loops: &[Option<NameId>], name: Option<Word>) -> bool
 }
 
 /// An exit that leaves no loop.
-pub fn refuse_exit(around: &Surroundings, name: Option<Word>, span: Span) -> Option<Refusal>
+pub fn refuse_exit(around: &CheckScopes, name: Option<Word>, span: Span) -> Option<Refusal>
     ensures { (by : By) → result ≡ refused_first_at by around.now (exits name span) }
 {
     let leaves = is_any_left(around.loops(), name);
@@ -412,8 +412,8 @@ pub fn refuse_exit(around: &Surroundings, name: Option<Word>, span: Span) -> Opt
 
 /// A raise, which may have a name.
 #[tactic(auto, using(crate::proofs::Asking::raises_met, ada_rules::proofs::Meeting::met_none))]
-pub fn walk_raise(around: &Surroundings, name: Option<Word>, span: Span) -> Option<Refusal>
-    ensures { (by : By) → result ≡ refused_first by (raise_spots around.now name span) }
+pub fn walk_raise(around: &CheckScopes, name: Option<Word>, span: Span) -> Option<Refusal>
+    ensures { (by : By) → result ≡ refused_first by (raise_sites around.now name span) }
 {
     match name {
         Some(_) => None,

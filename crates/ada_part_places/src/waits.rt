@@ -5,19 +5,19 @@ ghost use Rattle.std.specs.Prelude.{◌≡◌, ◌∷◌, [], List, IfOk, map, o
 ghost use Rattle.ada_tree.specs.PlainExpr.{plain_expr};
 ghost use Rattle.ada_tree.specs.PlainStmt.{PHead, PFormal, plain_alt, plain_alt_kind, alts_of};
 ghost use Rattle.syn_event.specs.declared.limits.What.TheVariants.{Alternatives};
-ghost use Rattle.syn_event.specs.Surrounding.{Surrounding, waits};
+ghost use Rattle.syn_event.specs.CheckScope.{CheckScope, waits};
 ghost use Rattle.syn_event.specs.RuleSelectForm.{alt_kinds, is_malformed};
 ghost use Rattle.syn_event.specs.RuleSameEntryTwice.{accept_heads, clashing};
-ghost use Rattle.syn_event.specs.Spots.{spot, numbered, alt_places};
+ghost use Rattle.syn_event.specs.CheckSites.{site, numbered, alt_places};
 ghost use Rattle.ada_rules.specs.Sooner.{found};
 ghost use Rattle.ada_rules.specs.RefusedFirst.{Standard as By, refused_first_at, refused_first};
 ghost use Rattle.ada_part_places.specs.inner.Claiming.{index_value, claim_of, AreClaims, IsAccepted, IsClaimed};
 ghost use Rattle.ada_part_places.specs.inner.Waiting.{with_kind, forms_in, wrong_form};
 
 use crate::claims::{Claim, Claims};
+use ada_check_scopes::CheckScopes;
 use ada_rules::{Refusal, Rule, Standard, first, refuse_if};
 use ada_static_values::static_values::static_value;
-use ada_surroundings::Surroundings;
 use ada_tree::{Alt, AltKind, Expr, Span, Word};
 use std::alloc::AllocError;
 use syn_event::What;
@@ -85,7 +85,7 @@ fn is_malformed(alts: &[Alt], has_else: bool) -> bool
 }
 
 // The value of an index, where it is there and static.
-fn index_value(around: &Surroundings, index: &Option<Expr>) -> Option<i64>
+fn index_value(around: &CheckScopes, index: &Option<Expr>) -> Option<i64>
     ensures { result ≡ index_value around.now.types (option_map plain_expr index.now) }
 {
     match index {
@@ -96,7 +96,7 @@ fn index_value(around: &Surroundings, index: &Option<Expr>) -> Option<i64>
 
 // An accept for what one before it is for.
 fn claim_accept(
-    around: &Surroundings,
+    around: &CheckScopes,
     claims: &mut Claims,
     entry: Word,
     index: &Option<Expr>,
@@ -115,7 +115,7 @@ fn claim_accept(
 
 // An alternative, which may be an accept for what one before it is for.
 fn claim_kind(
-    around: &Surroundings,
+    around: &CheckScopes,
     claims: &mut Claims,
     kind: &AltKind,
 ) -> Result<Option<Refusal>, AllocError>
@@ -131,7 +131,7 @@ fn claim_kind(
 }
 
 // The accepts that are for what an earlier one is for.
-fn refuse_twice(around: &Surroundings, alts: &[Alt]) -> Result<Option<Refusal>, AllocError>
+fn refuse_twice(around: &CheckScopes, alts: &[Alt]) -> Result<Option<Refusal>, AllocError>
     ensures { IfOk result (λ r. r ≡ found 16 (clashing around.now.types [] (accept_heads (alt_kinds (alts_of (map plain_alt alts.now)))))) }
 {
     let mut claims = Claims::new(around.alloc());
@@ -145,7 +145,7 @@ fn refuse_twice(around: &Surroundings, alts: &[Alt]) -> Result<Option<Refusal>, 
 
 // The alternatives by their number.
 fn refuse_many(by: &Standard, alts: &[Alt]) -> Option<Refusal>
-    ensures { (around : Surrounding) → result ≡ refused_first by.now (numbered around Alternatives 0 (alt_places (alts_of (map plain_alt alts.now)))) }
+    ensures { (around : CheckScope) → result ≡ refused_first by.now (numbered around Alternatives 0 (alt_places (alts_of (map plain_alt alts.now)))) }
 {
     let mut refusal = None;
     for (place, alt) in alts.iter().enumerate() {
@@ -158,7 +158,7 @@ fn refuse_many(by: &Standard, alts: &[Alt]) -> Option<Refusal>
 // The form of a wait and what its accepts are for.
 #[tactic(auto, using(ada_rules::proofs::Meeting::asking))]
 fn refuse_form(
-    around: &Surroundings,
+    around: &CheckScopes,
     alts: &[Alt],
     has_else: bool,
     span: Span,
@@ -172,13 +172,13 @@ fn refuse_form(
 
 /// Walks a selective wait without what stands in its alternatives.
 pub fn walk_wait(
-    around: &Surroundings,
+    around: &CheckScopes,
     by: &Standard,
     alts: &[Alt],
     has_else: bool,
     span: Span,
 ) -> Result<Option<Refusal>, AllocError>
-    ensures { IfOk result (λ r. r ≡ refused_first by.now (spot around.now (waits (alts_of (map plain_alt alts.now)) has_else span) ∷ numbered around.now Alternatives 0 (alt_places (alts_of (map plain_alt alts.now))))) }
+    ensures { IfOk result (λ r. r ≡ refused_first by.now (site around.now (waits (alts_of (map plain_alt alts.now)) has_else span) ∷ numbered around.now Alternatives 0 (alt_places (alts_of (map plain_alt alts.now))))) }
 {
     let form = refuse_form(around, alts, has_else, span)?;
     let many = refuse_many(by, alts);

@@ -14,8 +14,8 @@ use Rattle.syn_event.specs.declared.limits.What.TheVariants.{Name, Nesting, Task
 use Rattle.syn_event.specs.Limits.{limit_of}
 use Rattle.syn_event.specs.RuleLimit.{OverAt, passed}
 use Rattle.syn_event.specs.CheckRefusals.{CheckRefusal}
-use Rattle.syn_event.specs.Surrounding.{Surrounding, counts, Spot}
-use Rattle.syn_event.specs.Spots.{formal_names, numbered}
+use Rattle.syn_event.specs.CheckScope.{CheckScope, counts, CheckSite}
+use Rattle.syn_event.specs.CheckSites.{formal_names, numbered}
 use Rattle.ada_rules.specs.declared.counting.Counted.{Counted}
 use Rattle.ada_rules.specs.Amounts.{many, capped}
 use Rattle.ada_rules.specs.inner.Counted.{IsCounted}
@@ -61,14 +61,14 @@ passed_capped what (Some n) b h s le =
     ap told (over_same n b h (below n many le))
 passed_capped what None b h s le = refl
 
-at_capped : (by : Standard) (around : Surrounding) (what : What) (b h : ℕ) (s : Span) → refused_first_at by around (counts what (capped b) (capped h) s) ≡ refused_first_at by around (counts what b h s)
+at_capped : (by : Standard) (around : CheckScope) (what : What) (b h : ℕ) (s : Span) → refused_first_at by around (counts what (capped b) (capped h) s) ≡ refused_first_at by around (counts what b h s)
 at_capped by around what b h s =
     at_counts by around what (capped b) (capped h) s
     ∙ ap found_over (passed_capped what (limit_of by.mode what) b h s (limit_below by.mode what))
     ∙ sym (at_counts by around what b h s)
 
 -- counts that are the same as far as limits go
-pub at_same : (by : Standard) (around : Surrounding) (what : What) (b c h i : ℕ) (s : Span) → capped b ≡ capped c → capped h ≡ capped i → refused_first_at by around (counts what b h s) ≡ refused_first_at by around (counts what c i s)
+pub at_same : (by : Standard) (around : CheckScope) (what : What) (b c h i : ℕ) (s : Span) → capped b ≡ capped c → capped h ≡ capped i → refused_first_at by around (counts what b h s) ≡ refused_first_at by around (counts what c i s)
 at_same by around what b c h i s p q =
     sym (at_capped by around what b h s)
     ∙ ap (λ x. refused_first_at by around (counts what x (capped h) s)) p
@@ -76,7 +76,7 @@ at_same by around what b c h i s p q =
     ∙ at_capped by around what c i s
 
 -- a size that is counted as far as limits go
-pub sized : (by : Standard) (around : Surrounding) (what : What) (n m : ℕ) (s t : Span) → n ≡ capped m → s ≡ t → refused_first_at by around (counts what 0 n s) ≡ refused_first_at by around (counts what 0 m t)
+pub sized : (by : Standard) (around : CheckScope) (what : What) (n m : ℕ) (s t : Span) → n ≡ capped m → s ≡ t → refused_first_at by around (counts what 0 n s) ≡ refused_first_at by around (counts what 0 m t)
 sized by around what n m s t h g = at_same by around what 0 0 n m s refl (ap capped h ∙ capped_twice m) ∙ ap (λ x. refused_first_at by around (counts what 0 m x)) g
 
 pub sum_same : (b c w : ℕ) → capped b ≡ capped c → capped (b + w) ≡ capped (c + w)
@@ -90,7 +90,7 @@ right_same b v w h = ap capped (swap b v) ∙ sum_same v w b h ∙ ap capped (sw
 
 -- ---- places of a list with a running count: `each` is what is refused at those of a member, and `weight` what it counts
 
-module _ {B : Type 0} (by : Standard) (places : ℕ → List B → List Spot) (each : ℕ → B → Option CheckRefusal) (weight : B → ℕ)
+module _ {B : Type 0} (by : Standard) (places : ℕ → List B → List CheckSite) (each : ℕ → B → Option CheckRefusal) (weight : B → ℕ)
     (none : (n : ℕ) → refused_first by (places n []) ≡ None)
     (next : (n : ℕ) (x : B) (xs : List B) → refused_first by (places n (x ∷ xs)) ≡ sooner (each n x) (refused_first by (places (n + weight x) xs)))
     (same : (b c : ℕ) (x : B) → capped b ≡ capped c → each b x ≡ each c x) where
@@ -123,7 +123,7 @@ module _ {B : Type 0} (by : Standard) (places : ℕ → List B → List Spot) (e
 
 -- ---- parts of which each counts one
 
-module _ (by : Standard) (around : Surrounding) (what : What) where
+module _ (by : Standard) (around : CheckScope) (what : What) where
   one_next : (n : ℕ) (s : Span) (rest : List Span) → refused_first by (numbered around what n (s ∷ rest)) ≡ sooner (refused_first_at by around (counts what n 1 s)) (refused_first by (numbered around what (n + 1) rest))
   one_next n s rest = met_cons by around (counts what n 1 s) (numbered around what (n + 1) rest)
 
@@ -146,7 +146,7 @@ module _ (by : Standard) (around : Surrounding) (what : What) where
   numbered_end = count_end by (numbered around what) (λ n s. refused_first_at by around (counts what n 1 s)) (λ s. 1) (λ n. met_none by) one_next one_same
 
 -- the formals of an entry, declaration by declaration
-numbered_append : (by : Standard) (around : Surrounding) (what : What) (n : ℕ) (xs ys : List Span) → refused_first by (numbered around what n (xs ++ ys)) ≡ sooner (refused_first by (numbered around what n xs)) (refused_first by (numbered around what (n + length xs) ys))
+numbered_append : (by : Standard) (around : CheckScope) (what : What) (n : ℕ) (xs ys : List Span) → refused_first by (numbered around what n (xs ++ ys)) ≡ sooner (refused_first by (numbered around what n xs)) (refused_first by (numbered around what (n + length xs) ys))
 numbered_append by around what n [] ys = ap (λ o. sooner o (refused_first by (numbered around what n ys))) (sym (met_none by)) ∙ ap (λ k. sooner (refused_first by []) (refused_first by (numbered around what k ys))) (none_more n)
   where
     none_more : (k : ℕ) → k ≡ k + 0
@@ -161,7 +161,7 @@ numbered_append by around what n (x ∷ xs) ys =
     one_more : (k m : ℕ) → k + 1 + m ≡ k + suc m
     one_more k m = omega arith
 
-module _ (by : Standard) (around : Surrounding) where
+module _ (by : Standard) (around : CheckScope) where
   names_next : (n : ℕ) (f : PFormal) (fs : List PFormal) → refused_first by (numbered around Formals n (map (λ w. w.span) (formal_names (f ∷ fs)))) ≡ sooner (refused_first by (numbered around Formals n (map (λ w. w.span) f.names))) (refused_first by (numbered around Formals (n + length f.names) (map (λ w. w.span) (formal_names fs))))
   names_next n f fs =
       ap (λ l. refused_first by (numbered around Formals n l)) (map-append (λ (w : Word). w.span) f.names (formal_names fs))

@@ -4,7 +4,7 @@ use Rattle.std.proofs.Common.{sym, ap, ◌∙◌}
 use Rattle.std.proofs.lemmas.List.{drop_all}
 pub use Rattle.ada_refusals.proofs.Listing.{cut}
 use Rattle.syn_event.specs.CheckRefusals.{CheckRefusal}
-use Rattle.syn_event.specs.Surrounding.{Surrounding, Spot}
+use Rattle.syn_event.specs.CheckScope.{CheckScope, CheckSite}
 use Rattle.ada_rules.specs.Sooner.{sooner}
 use Rattle.ada_rules.specs.RefusedFirst.{Standard, refused_first}
 use Rattle.ada_rules.proofs.SoonerLaws.{sooner_assoc, sooner_none}
@@ -14,11 +14,11 @@ use Rattle.ada_rules.proofs.Meeting.{met_none, met_append}
 pub gone : (a b all rest whole : Option CheckRefusal) → whole ≡ sooner b rest → sooner a whole ≡ all → sooner (sooner a b) rest ≡ all
 gone a b all rest whole h before = sooner_assoc a b rest ∙ ap (sooner a) (sym h) ∙ before
 
-pub ended : (by : Standard) (a all : Option CheckRefusal) (rest : List Spot) → rest ≡ [] → sooner a (refused_first by rest) ≡ all → a ≡ all
+pub ended : (by : Standard) (a all : Option CheckRefusal) (rest : List CheckSite) → rest ≡ [] → sooner a (refused_first by rest) ≡ all → a ≡ all
 ended by a all rest h before = sym (sooner_none a) ∙ ap (sooner a) (sym (met_none by)) ∙ ap (λ xs. sooner a (refused_first by xs)) (sym h) ∙ before
 
 -- One turn and the end of a loop over a list that is seen by members, where `places` are those of what is seen of a list, and `each` is what is refused first at those of a member.
-module _ {A B : Type 0} (by : Standard) (see : A → B) (places : List B → List Spot) (each : B → Option CheckRefusal) (next : (x : B) (xs : List B) → refused_first by (places (x ∷ xs)) ≡ sooner (each x) (refused_first by (places xs))) where
+module _ {A B : Type 0} (by : Standard) (see : A → B) (places : List B → List CheckSite) (each : B → Option CheckRefusal) (next : (x : B) (xs : List B) → refused_first by (places (x ∷ xs)) ≡ sooner (each x) (refused_first by (places xs))) where
   pub row_more : (xs : List A) (i : ℕ) (x : A) (a b c all : Option CheckRefusal) → i < length xs → x ≡ get_or xs i x
       → sooner a (refused_first by (places (map see (drop i xs)))) ≡ all
       → b ≡ each (see x)
@@ -39,8 +39,8 @@ module _ {A B : Type 0} (by : Standard) (see : A → B) (places : List B → Lis
   row_end xs i a all h none before = ended by a all (places (map see (drop i xs))) (ap (λ ys. places (map see ys)) (drop_all i xs h) ∙ none) before
 
 -- one turn of a walk that leaves what stands around it as it was
-pub turn : {A B : Type 0} (by : Standard) (see : A → B) (places : Surrounding → List B → List Spot) (each : Surrounding → B → Option CheckRefusal) (next : (s : Surrounding) (x : B) (xs : List B) → refused_first by (places s (x ∷ xs)) ≡ sooner (each s x) (refused_first by (places s xs)))
-    (xs : List A) (i : ℕ) (x : A) (s now : Surrounding) (a b c all : Option CheckRefusal) → i < length xs → x ≡ get_or xs i x → now ≡ s
+pub turn : {A B : Type 0} (by : Standard) (see : A → B) (places : CheckScope → List B → List CheckSite) (each : CheckScope → B → Option CheckRefusal) (next : (s : CheckScope) (x : B) (xs : List B) → refused_first by (places s (x ∷ xs)) ≡ sooner (each s x) (refused_first by (places s xs)))
+    (xs : List A) (i : ℕ) (x : A) (s now : CheckScope) (a b c all : Option CheckRefusal) → i < length xs → x ≡ get_or xs i x → now ≡ s
     → sooner a (refused_first by (places s (map see (drop i xs)))) ≡ all
     → b ≡ each now (see x)
     → c ≡ sooner a b
@@ -48,7 +48,7 @@ pub turn : {A B : Type 0} (by : Standard) (see : A → B) (places : Surrounding 
 turn by see places each next xs i x s now a b c all h is_x same before is_b is_c =
     row_more by see (places s) (each s) (next s) xs i x a b c all h is_x before (is_b ∙ ap (λ z. each z (see x)) same) is_c
 
-module _ {A B : Type 0} (by : Standard) (see : A → B) (sites : B → List Spot) where
+module _ {A B : Type 0} (by : Standard) (see : A → B) (sites : B → List CheckSite) where
   flat_next : (x : B) (xs : List B) → refused_first by (flat_map sites (x ∷ xs)) ≡ sooner (refused_first by (sites x)) (refused_first by (flat_map sites xs))
   flat_next x xs = met_append by (sites x) (flat_map sites xs)
 

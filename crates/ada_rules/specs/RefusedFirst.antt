@@ -1,7 +1,7 @@
 -- What the rules refuse first at a place, and at several places.
 use Rattle.std.specs.Prelude.{ℕ, List, [], ◌∷◌, Option, None}
 use Rattle.syn_event.specs.declared.numbering.Mode.{Mode}
-use Rattle.syn_event.specs.Surrounding.{Surrounding, Asked, Spot}
+use Rattle.syn_event.specs.CheckScope.{CheckScope, CheckDemand, CheckSite}
 use Rattle.syn_event.specs.CheckRefusals.{CheckRefusal}
 use Rattle.syn_event.specs.RuleSharedVariable.{shared_variable}
 use Rattle.syn_event.specs.RuleAcceptPlace.{accept_place}
@@ -21,7 +21,7 @@ pub record Standard : Type 0 where
   pub mode : Mode
   pub names : List (List ℕ)
 
-unfoldable pub refused_first_at : Standard → Surrounding → Asked → Option CheckRefusal
+unfoldable pub refused_first_at : Standard → CheckScope → CheckDemand → Option CheckRefusal
 refused_first_at by around a =
     sooner (found 13 (shared_variable around a))
     (sooner (found 14 (accept_place around a))
@@ -34,6 +34,6 @@ refused_first_at by around a =
     (sooner (found 21 (exit_place around a))
     (sooner (found 22 (raise_place around a)) (found_over (over_limit by.mode by.names a)))))))))))
 
-unfoldable pub refused_first : Standard → List Spot → Option CheckRefusal
+unfoldable pub refused_first : Standard → List CheckSite → Option CheckRefusal
 refused_first by [] = None
-refused_first by (x ∷ rest) = sooner (refused_first_at by x.around x.asked) (refused_first by rest)
+refused_first by (x ∷ rest) = sooner (refused_first_at by x.scope x.demand) (refused_first by rest)

@@ -2,7 +2,7 @@
 #![tactic(auto, using(crate::proofs::Meeting::asking))]
 
 ghost use Rattle.std.specs.Prelude.{◌≡◌};
-ghost use Rattle.syn_event.specs.Surrounding.{Surrounding, declares, counts};
+ghost use Rattle.syn_event.specs.CheckScope.{CheckScope, declares, counts};
 ghost use Rattle.syn_event.specs.Limits.{original_limit, any_limit, limit_of};
 ghost use Rattle.syn_event.specs.Units.{text_of};
 ghost use Rattle.syn_event.specs.RuleReservedName.{has_mark, is_reserved, reserved_in};
@@ -140,7 +140,7 @@ impl<'n> Standard<'n> {
 
     /// So many of what is limited, behind so many.
     pub fn refuse_count(&self, what: What, before: u64, here: u64, span: Span) -> Option<Refusal>
-        ensures { (around : Surrounding) → result ≡ refused_first_at self.now around (counts what before here span) }
+        ensures { (around : CheckScope) → result ≡ refused_first_at self.now around (counts what before here span) }
     {
         refuse_passed(what, self.limit(what), before, here, span)
     }
@@ -161,7 +161,7 @@ impl<'n> Standard<'n> {
 
     /// A name that is declared.
     pub fn refuse_name(&self, word: Word) -> Option<Refusal>
-        ensures { (around : Surrounding) → result ≡ refused_first_at self.now around (declares word) }
+        ensures { (around : CheckScope) → result ≡ refused_first_at self.now around (declares word) }
     {
         let reserved = self.refuse_reserved(word);
         let length = self.text(word.name).len() as u64;

@@ -5,8 +5,8 @@ ghost use Rattle.ada_tree.specs.declared.naming.Span.{Span};
 ghost use Rattle.ada_tree.specs.PlainStmt.{plain_formal};
 ghost use Rattle.syn_event.specs.declared.limits.What.{What};
 ghost use Rattle.syn_event.specs.declared.limits.What.TheVariants.{Formals};
-ghost use Rattle.syn_event.specs.Surrounding.{Surrounding, counts};
-ghost use Rattle.syn_event.specs.Spots.{numbered, formal_names};
+ghost use Rattle.syn_event.specs.CheckScope.{CheckScope, counts};
+ghost use Rattle.syn_event.specs.CheckSites.{numbered, formal_names};
 ghost use Rattle.ada_rules.specs.Amounts.{capped};
 ghost use Rattle.ada_rules.specs.RefusedFirst.{refused_first_at, refused_first};
 ghost use Rattle.ada_rules.specs.Sooner.{sooner};
@@ -29,7 +29,7 @@ pub struct Counted {
 #[tactic(auto, using(crate::proofs::Capping::capping))]
 pub fn count_on(by: &Standard, what: What, so_far: Counted, here: u64, span: Span) -> Counted
     ensures count { capped result.count ≡ capped (so_far.count + here) }
-    ensures refusal { (around : Surrounding) → result.refusal ≡ sooner so_far.refusal (refused_first_at by.now around (counts what so_far.count here span)) }
+    ensures refusal { (around : CheckScope) → result.refusal ≡ sooner so_far.refusal (refused_first_at by.now around (counts what so_far.count here span)) }
 {
     let over = by.refuse_count(what, so_far.count, here, span);
     Counted {
@@ -40,7 +40,7 @@ pub fn count_on(by: &Standard, what: What, so_far: Counted, here: u64, span: Spa
 
 // The formals of one declaration among those of an entry.
 fn count_names(by: &Standard, so_far: Counted, names: &[Word]) -> Counted
-    ensures { (around : Surrounding) → IsCounted by.now so_far (numbered around Formals so_far.count (map (λ w. w.span) names.now)) (length names.now) result }
+    ensures { (around : CheckScope) → IsCounted by.now so_far (numbered around Formals so_far.count (map (λ w. w.span) names.now)) (length names.now) result }
 {
     let mut counted = so_far;
     for name in names {
@@ -51,7 +51,7 @@ fn count_names(by: &Standard, so_far: Counted, names: &[Word]) -> Counted
 
 /// The formals of an entry.
 pub fn refuse_formals(by: &Standard, formals: &[Formal]) -> Option<Refusal>
-    ensures { (around : Surrounding) → result ≡ refused_first by.now (numbered around Formals 0 (map (λ w. w.span) (formal_names (map plain_formal formals.now)))) }
+    ensures { (around : CheckScope) → result ≡ refused_first by.now (numbered around Formals 0 (map (λ w. w.span) (formal_names (map plain_formal formals.now)))) }
 {
     let mut counted = Counted {
         count: 0,

@@ -16,7 +16,7 @@ use Rattle.ada_expr_parser.specs.Tests.{symbol, symbol_in, word}
 use Rattle.ada_expr_parser.specs.Parts.{expression, expr_behind}
 use Rattle.ada_phrase_parser.specs.Views.{is_operator}
 use Rattle.ada_phrase_parser.specs.Reading.{is_symbol, key_then, in_deeper, goes_on_name, expression_from}
-use Rattle.ada_simple_stmt_parser.specs.ReadingSimple.{get_name, get_indexed, get_or_index, get_index, is_close, assign_or_call}
+use Rattle.ada_simple_stmt_parser.specs.inner.ReadingSimple.{get_name, get_indexed, get_or_index, get_index, is_close, assign_or_call}
 use Rattle.ada_phrase_parser.proofs.Named.{named_start, deeper_is, behind_full, off}
 
 pub got_named : (d : ℕ) (w : Word) (ts : List Item) → 0 < d → in_deeper d goes_on_name (λ e. expression_from e w) ts ≡ expression_from (d - 1) w ts

@@ -1,2 +1,1 @@
-pub mod ReadingSimple
-pub mod SimpleViews
+pub mod inner

@@ -2,8 +2,8 @@
 //! name: assignments, entry calls, PUT, PUT_LINE, NEW_LINE and GET.
 #![tactic(auto)]
 
+mod name_statements;
 mod simple;
-mod words;
 
+pub use name_statements::read_word_stmt;
 pub use simple::{read_abort, read_delay, read_exit, read_null, read_raise};
-pub use words::read_word_stmt;

@@ -9,8 +9,8 @@ ghost use Rattle.ada_expr_parser.specs.Trees.{from_to};
 ghost use Rattle.ada_expr_parser.specs.Parts as parts;
 ghost use Rattle.ada_expr_parser.specs.Gives.{Gives};
 ghost use Rattle.ada_phrase_parser.specs.Reading as reading;
-ghost use Rattle.ada_simple_stmt_parser.specs.ReadingSimple as simple;
-ghost use Rattle.ada_simple_stmt_parser.specs.SimpleViews.{as_target};
+ghost use Rattle.ada_simple_stmt_parser.specs.inner.ReadingSimple as simple;
+ghost use Rattle.ada_simple_stmt_parser.specs.inner.SimpleViews.{as_target};
 
 use ada_expr_parser::{Item, ParseError, Symbol, expect, read_expr, read_target};
 use ada_phrase_parser::{add, from_to, is_symbol, read_delayed, word_in};

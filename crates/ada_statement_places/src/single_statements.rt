@@ -4,25 +4,25 @@
 ghost use Rattle.std.specs.Prelude.{◌≡◌, ◌∷◌, [], IfOk, option_map};
 ghost use Rattle.ada_tree.specs.PlainExpr.{plain_expr};
 ghost use Rattle.ada_tree.specs.PlainStmt.{plain_accept, plain_alt, plain_alt_kind, plain_scheme, plain_stmt};
-ghost use Rattle.syn_event.specs.Surrounding.{Surrounding, declares, exits};
-ghost use Rattle.syn_event.specs.Spots.{spot, if_there, expr_spots, scheme_spots, delay_spots};
+ghost use Rattle.syn_event.specs.CheckScope.{CheckScope, declares, exits};
+ghost use Rattle.syn_event.specs.CheckSites.{site, if_there, expr_sites, scheme_sites, delay_sites};
 ghost use Rattle.ada_rules.specs.Sooner.{sooner};
 ghost use Rattle.ada_rules.specs.RefusedFirst.{refused_first_at, refused_first};
 ghost use Rattle.ada_statement_places.specs.inner.Walked.{depth_met, simple_met, before_met, own_met, accept_own_met, kind_own_met, alt_own_met};
 
+use ada_check_scopes::CheckScopes;
 use ada_part_places::{
     deeper, refuse_deep, refuse_exit, walk_aborted, walk_assign, walk_call, walk_expr, walk_head,
     walk_label, walk_maybe, walk_raise, walk_scheme_if, walk_select, walk_target, walk_text,
     walk_wait,
 };
 use ada_rules::{Refusal, Standard, first};
-use ada_surroundings::Surroundings;
 use ada_tree::{Accept, Alt, AltKind, Expr, Scheme, Span, Stmt, StmtKind, Word};
 use std::alloc::AllocError;
 
 // How deep a statement stands; that is asked at the head of an accept.
 fn refuse_depth(by: &Standard, k: u32, stmt: &Stmt) -> Option<Refusal>
-    ensures { (around : Surrounding) → result ≡ depth_met by.now around k (plain_stmt stmt.now) }
+    ensures { (around : CheckScope) → result ≡ depth_met by.now around k (plain_stmt stmt.now) }
 {
     match &stmt.kind {
         StmtKind::Accept(_) => None,
@@ -32,14 +32,14 @@ fn refuse_depth(by: &Standard, k: u32, stmt: &Stmt) -> Option<Refusal>
 
 // An exit with its condition.
 fn walk_exit(
-    around: &Surroundings,
+    around: &CheckScopes,
     by: &Standard,
     k: u32,
     name: Option<Word>,
     test: &Option<Expr>,
     span: Span,
 ) -> Result<Option<Refusal>, AllocError>
-    ensures { IfOk result (λ r. r ≡ sooner (refused_first_at by.now around.now (exits name span)) (refused_first by.now (if_there (expr_spots around.now k) (option_map plain_expr test.now)))) }
+    ensures { IfOk result (λ r. r ≡ sooner (refused_first_at by.now around.now (exits name span)) (refused_first by.now (if_there (expr_sites around.now k) (option_map plain_expr test.now)))) }
 {
     let place = refuse_exit(around, name, span);
     let test = walk_maybe(around, by, k, test)?;
@@ -48,7 +48,7 @@ fn walk_exit(
 
 // The parts, of that nesting, of a statement in which no statements stand.
 fn walk_simple(
-    around: &Surroundings,
+    around: &CheckScopes,
     by: &Standard,
     k: u32,
     stmt: &Stmt,
@@ -70,13 +70,13 @@ fn walk_simple(
 
 // The name of a loop and how it goes on.
 fn walk_loop_head(
-    around: &Surroundings,
+    around: &CheckScopes,
     by: &Standard,
     k: u32,
     name: Option<Word>,
     scheme: &Option<Scheme>,
 ) -> Result<Option<Refusal>, AllocError>
-    ensures { IfOk result (λ r. r ≡ sooner (refused_first by.now (if_there (λ x. spot around.now (declares x) ∷ []) name)) (refused_first by.now (if_there (scheme_spots around.now k) (option_map plain_scheme scheme.now)))) }
+    ensures { IfOk result (λ r. r ≡ sooner (refused_first by.now (if_there (λ x. site around.now (declares x) ∷ []) name)) (refused_first by.now (if_there (scheme_sites around.now k) (option_map plain_scheme scheme.now)))) }
 {
     let label = walk_label(by, name);
     let head = walk_scheme_if(around, by, k, scheme)?;
@@ -85,7 +85,7 @@ fn walk_loop_head(
 
 // An accept without its statements.
 fn walk_accept_head(
-    around: &Surroundings,
+    around: &CheckScopes,
     by: &Standard,
     k: u32,
     accept: &Accept,
@@ -105,7 +105,7 @@ fn walk_accept_head(
 
 // What stands in a statement of that nesting before the statements in it.
 fn walk_before(
-    around: &Surroundings,
+    around: &CheckScopes,
     by: &Standard,
     k: u32,
     stmt: &Stmt,
@@ -129,7 +129,7 @@ fn walk_before(
 
 /// What a statement of that nesting asks itself: all but the statements in it.
 pub(crate) fn walk_own(
-    around: &Surroundings,
+    around: &CheckScopes,
     by: &Standard,
     k: u32,
     stmt: &Stmt,
@@ -144,7 +144,7 @@ pub(crate) fn walk_own(
 
 // A delay of a wait, which stands where its alternative does unless it has a guard.
 fn refuse_delay(by: &Standard, k: u32, guard: &Option<Expr>, span: Span) -> Option<Refusal>
-    ensures { (around : Surrounding) → result ≡ refused_first by.now (delay_spots around k (option_map plain_expr guard.now) span) }
+    ensures { (around : CheckScope) → result ≡ refused_first by.now (delay_sites around k (option_map plain_expr guard.now) span) }
 {
     match guard {
         Some(_) => None,
@@ -154,7 +154,7 @@ fn refuse_delay(by: &Standard, k: u32, guard: &Option<Expr>, span: Span) -> Opti
 
 // What an alternative of that guard and place asks behind the guard.
 fn walk_kind_own(
-    around: &Surroundings,
+    around: &CheckScopes,
     by: &Standard,
     k: u32,
     guard: &Option<Expr>,
@@ -172,7 +172,7 @@ fn walk_kind_own(
 
 /// What an alternative of that nesting asks itself: all but the statements in it.
 pub(crate) fn walk_alt_own(
-    around: &Surroundings,
+    around: &CheckScopes,
     by: &Standard,
     k: u32,
     alt: &Alt,

@@ -3,21 +3,21 @@
 
 ghost use Rattle.std.specs.Prelude.{◌≡◌, OnOk, IfOk, map, option_map};
 ghost use Rattle.ada_tree.specs.PlainStmt.{plain_scheme, plain_accept, plain_alt, plain_alt_kind, plain_arm, plain_case_arm, plain_handler, plain_body, plain_stmt, row_of, alts_of, arms_of, case_arms_of, handlers_of};
-ghost use Rattle.syn_event.specs.Spots.{in_loop, alts_spots, arms_spots, case_arms_spots, body_spots, handlers_spots, stmts_spots};
+ghost use Rattle.syn_event.specs.CheckSites.{in_loop, alts_sites, arms_sites, case_arms_sites, body_sites, handlers_sites, stmts_sites};
 ghost use Rattle.ada_rules.specs.RefusedFirst.{refused_first};
 ghost use Rattle.ada_statement_places.specs.inner.Walked.{within_met, inner_met, rest_met, kind_met, alt_met, stmt_met};
 
 use crate::single_statements::{walk_alt_own, walk_own};
+use ada_check_scopes::{CheckScopes, declare_formals, declare_parameter};
 use ada_part_places::{deeper, refuse_deep, walk_choices, walk_expr};
 use ada_rules::{Refusal, Standard, first};
-use ada_surroundings::{Surroundings, declare_formals, declare_parameter};
 use ada_tree::{Accept, Alt, AltKind, Arm, Body, CaseArm, Handler, Scheme, Stmt, StmtKind, Word};
 use std::alloc::AllocError;
 
 // The statements of an accept, which see its formals.
 #[cycle(statements)]
 fn walk_within(
-    around: &mut Surroundings,
+    around: &mut CheckScopes,
     by: &Standard,
     k: u32,
     accept: &Accept,
@@ -41,7 +41,7 @@ fn walk_within(
 // The statements in an alternative.
 #[cycle(statements)]
 fn walk_kind(
-    around: &mut Surroundings,
+    around: &mut CheckScopes,
     by: &Standard,
     k: u32,
     kind: &AltKind,
@@ -62,7 +62,7 @@ fn walk_kind(
 
 #[cycle(statements)]
 fn walk_alt(
-    around: &mut Surroundings,
+    around: &mut CheckScopes,
     by: &Standard,
     k: u32,
     alt: &Alt,
@@ -77,13 +77,13 @@ fn walk_alt(
 
 #[cycle(statements)]
 fn walk_alts(
-    around: &mut Surroundings,
+    around: &mut CheckScopes,
     by: &Standard,
     k: u32,
     alts: &[Alt],
 ) -> Result<Option<Refusal>, AllocError>
     ensures kept { OnOk result (around.new ≡ around.old) }
-    ensures told { IfOk result (λ r. r ≡ refused_first by.now (alts_spots around.old k (alts_of (map plain_alt alts.now)))) }
+    ensures told { IfOk result (λ r. r ≡ refused_first by.now (alts_sites around.old k (alts_of (map plain_alt alts.now)))) }
 {
     let mut refusal = None;
     for alt in alts {
@@ -96,13 +96,13 @@ fn walk_alts(
 // Conditions, each with its statements.
 #[cycle(statements)]
 fn walk_arms(
-    around: &mut Surroundings,
+    around: &mut CheckScopes,
     by: &Standard,
     k: u32,
     arms: &[Arm],
 ) -> Result<Option<Refusal>, AllocError>
     ensures kept { OnOk result (around.new ≡ around.old) }
-    ensures told { IfOk result (λ r. r ≡ refused_first by.now (arms_spots around.old k (arms_of (map plain_arm arms.now)))) }
+    ensures told { IfOk result (λ r. r ≡ refused_first by.now (arms_sites around.old k (arms_of (map plain_arm arms.now)))) }
 {
     let mut refusal = None;
     for arm in arms {
@@ -117,13 +117,13 @@ fn walk_arms(
 // The choices of each `when`, with its statements.
 #[cycle(statements)]
 fn walk_case_arms(
-    around: &mut Surroundings,
+    around: &mut CheckScopes,
     by: &Standard,
     k: u32,
     arms: &[CaseArm],
 ) -> Result<Option<Refusal>, AllocError>
     ensures kept { OnOk result (around.new ≡ around.old) }
-    ensures told { IfOk result (λ r. r ≡ refused_first by.now (case_arms_spots around.old k (case_arms_of (map plain_case_arm arms.now)))) }
+    ensures told { IfOk result (λ r. r ≡ refused_first by.now (case_arms_sites around.old k (case_arms_of (map plain_case_arm arms.now)))) }
 {
     let mut refusal = None;
     for arm in arms {
@@ -137,13 +137,13 @@ fn walk_case_arms(
 
 #[cycle(statements)]
 fn walk_handlers(
-    around: &mut Surroundings,
+    around: &mut CheckScopes,
     by: &Standard,
     k: u32,
     handlers: &[Handler],
 ) -> Result<Option<Refusal>, AllocError>
     ensures kept { OnOk result (around.new ≡ around.old) }
-    ensures told { IfOk result (λ r. r ≡ refused_first by.now (handlers_spots around.old k (handlers_of (map plain_handler handlers.now)))) }
+    ensures told { IfOk result (λ r. r ≡ refused_first by.now (handlers_sites around.old k (handlers_of (map plain_handler handlers.now)))) }
 {
     let mut refusal = None;
     for handler in handlers {
@@ -161,7 +161,7 @@ fn walk_handlers(
 // The statements of a loop, which see its parameter.
 #[cycle(statements)]
 fn walk_loop(
-    around: &mut Surroundings,
+    around: &mut CheckScopes,
     by: &Standard,
     k: u32,
     name: Option<Word>,
@@ -169,7 +169,7 @@ fn walk_loop(
     list: &[Stmt],
 ) -> Result<Option<Refusal>, AllocError>
     ensures kept { OnOk result (around.new ≡ around.old) }
-    ensures told { IfOk result (λ r. r ≡ refused_first by.now (stmts_spots (in_loop around.old name (option_map plain_scheme scheme.now)) k (row_of (map plain_stmt list.now)))) }
+    ensures told { IfOk result (λ r. r ≡ refused_first by.now (stmts_sites (in_loop around.old name (option_map plain_scheme scheme.now)) k (row_of (map plain_stmt list.now)))) }
 {
     let count = around.enter_loop(name)?;
     declare_parameter(around, scheme)?;
@@ -181,7 +181,7 @@ fn walk_loop(
 // The statements that come first in a statement.
 #[cycle(statements)]
 fn walk_inner(
-    around: &mut Surroundings,
+    around: &mut CheckScopes,
     by: &Standard,
     k: u32,
     stmt: &Stmt,
@@ -210,7 +210,7 @@ fn walk_inner(
 // The statements behind those: of an else part, of a delay, for other choices, of handlers.
 #[cycle(statements)]
 fn walk_rest(
-    around: &mut Surroundings,
+    around: &mut CheckScopes,
     by: &Standard,
     k: u32,
     stmt: &Stmt,
@@ -241,7 +241,7 @@ fn walk_rest(
 
 #[cycle(statements)]
 fn walk_stmt(
-    around: &mut Surroundings,
+    around: &mut CheckScopes,
     by: &Standard,
     k: u32,
     stmt: &Stmt,
@@ -258,13 +258,13 @@ fn walk_stmt(
 // Statements that have that nesting. What stands around them is left as it was.
 #[cycle(statements)]
 fn walk_stmts(
-    around: &mut Surroundings,
+    around: &mut CheckScopes,
     by: &Standard,
     k: u32,
     list: &[Stmt],
 ) -> Result<Option<Refusal>, AllocError>
     ensures kept { OnOk result (around.new ≡ around.old) }
-    ensures told { IfOk result (λ r. r ≡ refused_first by.now (stmts_spots around.old k (row_of (map plain_stmt list.now)))) }
+    ensures told { IfOk result (λ r. r ≡ refused_first by.now (stmts_sites around.old k (row_of (map plain_stmt list.now)))) }
 {
     let mut refusal = None;
     for stmt in list {
@@ -276,13 +276,13 @@ fn walk_stmts(
 
 /// The statements, which have that nesting, and the handlers of a unit. What stands around them is left as it was.
 pub fn walk_body(
-    around: &mut Surroundings,
+    around: &mut CheckScopes,
     by: &Standard,
     k: u32,
     body: &Body,
 ) -> Result<Option<Refusal>, AllocError>
     ensures kept { OnOk result (around.new ≡ around.old) }
-    ensures told { IfOk result (λ r. r ≡ refused_first by.now (body_spots around.old k (plain_body body.now))) }
+    ensures told { IfOk result (λ r. r ≡ refused_first by.now (body_sites around.old k (plain_body body.now))) }
 {
     let inner = walk_stmts(around, by, k, &body.stmts)?;
     let handlers = walk_handlers(around, by, k, &body.handlers)?;

@@ -2,7 +2,7 @@
 
 ghost use Rattle.std.specs.Prelude.{◌≡◌, IfOk};
 ghost use Rattle.ada_tree.specs.PlainStmt.{plain_stmt};
-ghost use Rattle.ada_stmt_copy.specs.Simple.{IsSimple};
+ghost use Rattle.ada_tree.specs.inner.SimpleStmt.{IsSimple};
 
 use crate::building::{abort_of, assign_of, call_of, exit_of, get_of, put_line_of, put_of};
 use ada_expr_copy::{ExprCopy, copy_callees, copy_option, copy_parts};

@@ -14,11 +14,11 @@ use Rattle.ada_phrase_parser.specs.Reading.{again, closed, delayed, end_of, acce
 use Rattle.ada_expr_parser.specs.declared.errors.ParseError.{ParseError}
 use Rattle.ada_expr_parser.specs.Gives.{Fails}
 use Rattle.ada_expr_parser.proofs.Steps.{fails_go_on}
-use Rattle.ada_compound_parts.specs.ReadingHeads.{Guarded, guard, Kinded, terminating}
-use Rattle.ada_compound_parts.specs.ReadingParts.{first_of_alt, head_of}
-use Rattle.ada_stmt_parser.specs.ReadingStatements.{Readers, stmts, any_stmts, alt_at, accept_at}
-use Rattle.ada_stmt_parser.specs.ReadingStatements as reading
-use Rattle.ada_stmt_parser.specs.Turns.{Tail, tail_of, accept_from, alt_kind, alt_from}
+use Rattle.ada_compound_parts.specs.inner.ReadingHeads.{Guarded, guard, Kinded, terminating}
+use Rattle.ada_compound_parts.specs.inner.ReadingParts.{first_of_alt, head_of}
+use Rattle.ada_stmt_parser.specs.inner.ReadingStatements.{Readers, stmts, any_stmts, alt_at, accept_at}
+use Rattle.ada_stmt_parser.specs.inner.ReadingStatements as reading
+use Rattle.ada_stmt_parser.specs.inner.Turns.{Tail, tail_of, accept_from, alt_kind, alt_from}
 use Rattle.ada_stmt_parser.proofs.Onward.{agree, goes, on_goes, below_goes, only}
 
 module _ {A : Type 0} (tree : Span → A) where

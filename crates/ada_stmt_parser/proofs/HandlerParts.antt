@@ -12,7 +12,7 @@ use Rattle.ada_lexer.specs.declared.symbols.Symbol.TheVariants as key
 use Rattle.ada_expr_parser.specs.declared.items.Item.{Item}
 use Rattle.ada_expr_parser.specs.Tests.{symbol}
 use Rattle.ada_expr_parser.proofs.Chains.{front_and_rest}
-use Rattle.ada_stmt_parser.specs.ReadingStatements.{Readers}
+use Rattle.ada_stmt_parser.specs.inner.ReadingStatements.{Readers}
 
 -- the body that is built of a list of statements and one of handlers
 pub body_built :

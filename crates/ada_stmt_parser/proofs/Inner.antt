@@ -4,7 +4,7 @@ use Rattle.ada_tree.specs.declared.naming.Span.{Span}
 use Rattle.ada_expr_parser.specs.declared.items.Item.{Item}
 use Rattle.ada_expr_parser.proofs.Steps.{fails_go_on}
 use Rattle.ada_phrase_parser.specs.Spelling.{Source}
-use Rattle.ada_stmt_parser.specs.ReadingStatements.{readers, inner_at, body_rest}
+use Rattle.ada_stmt_parser.specs.inner.ReadingStatements.{readers, inner_at, body_rest}
 
 -- what reads one level deeper reads at the depth that is less by one
 pub inner_is : (source : Source) (d : ℕ) → 0 < d → inner_at source d ≡ readers source (d - 1)

@@ -13,10 +13,10 @@ use Rattle.ada_expr_parser.proofs.Chains.{front_and_rest}
 use Rattle.ada_phrase_parser.specs.Spelling.{Source}
 use Rattle.ada_phrase_parser.specs.Reading.{is_symbol, key_then}
 use Rattle.ada_phrase_parser.proofs.Marks.{placed}
-use Rattle.ada_compound_parts.specs.ReadingHeads.{begins_loop, while_scheme, range_scheme, for_scheme, loop_scheme}
-use Rattle.ada_simple_stmt_parser.specs.ReadingSimple.{word_rest}
-use Rattle.ada_stmt_parser.specs.ReadingStatements.{Readers, while_rest, for_range, for_rest, loop_rest, named_loop, named_rest}
-use Rattle.ada_stmt_parser.specs.Turns.{any_loop, worded, loop_from}
+use Rattle.ada_compound_parts.specs.inner.ReadingHeads.{begins_loop, while_scheme, range_scheme, for_scheme, loop_scheme}
+use Rattle.ada_simple_stmt_parser.specs.inner.ReadingSimple.{word_rest}
+use Rattle.ada_stmt_parser.specs.inner.ReadingStatements.{Readers, while_rest, for_range, for_rest, loop_rest, named_loop, named_rest}
+use Rattle.ada_stmt_parser.specs.inner.Turns.{any_loop, worded, loop_from}
 use Rattle.ada_stmt_parser.proofs.Onward.{goes, on_goes, below_here}
 
 module _ (e : ℕ) (r : Readers) (name : Option Word) (lead : Span) where

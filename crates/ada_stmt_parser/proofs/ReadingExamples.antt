@@ -12,7 +12,7 @@ use Rattle.ada_expr_parser.specs.declared.items.Item.{Item}
 use Rattle.ada_expr_parser.specs.Tests.{same}
 use Rattle.ada_expr_parser.specs.Grammar.{symbol_item, word_item, number_item}
 use Rattle.ada_phrase_parser.specs.Spelling.{Source}
-use Rattle.ada_stmt_parser.specs.ReadingStatements.{readers}
+use Rattle.ada_stmt_parser.specs.inner.ReadingStatements.{readers}
 
 abbrev at : ℕ → ℕ → Span
 at first last = record { start = first; end = last }

@@ -12,9 +12,9 @@ use Rattle.ada_phrase_parser.specs.Reading.{key_then, closed, delayed}
 use Rattle.ada_expr_parser.specs.declared.errors.ParseError.{ParseError}
 use Rattle.ada_expr_parser.specs.Gives.{Fails}
 use Rattle.ada_expr_parser.proofs.Steps.{fails_go_on}
-use Rattle.ada_compound_parts.specs.ReadingHeads.{CallTail, call_tail_of, or_delay, end_select, selected_call, selected}
-use Rattle.ada_stmt_parser.specs.ReadingStatements.{Readers, stmts, any_stmts, call_rest_of, timed_rest, wait_rest, select_rest}
-use Rattle.ada_stmt_parser.specs.Turns.{call_tail, call_from, select_from}
+use Rattle.ada_compound_parts.specs.inner.ReadingHeads.{CallTail, call_tail_of, or_delay, end_select, selected_call, selected}
+use Rattle.ada_stmt_parser.specs.inner.ReadingStatements.{Readers, stmts, any_stmts, call_rest_of, timed_rest, wait_rest, select_rest}
+use Rattle.ada_stmt_parser.specs.inner.Turns.{call_tail, call_from, select_from}
 use Rattle.ada_stmt_parser.proofs.Onward.{goes, on_goes, look_there}
 
 looks_same : {A : Type 0} (c : Bool) (x y z : A) → x ≡ y → cond c x z ≡ cond c y z

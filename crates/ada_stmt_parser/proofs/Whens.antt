@@ -12,7 +12,7 @@ use Rattle.ada_expr_parser.specs.Tests.{symbol}
 use Rattle.ada_expr_parser.specs.Gives.{Fails, FaultsAt}
 use Rattle.ada_expr_parser.proofs.Steps.{fails_go_on}
 use Rattle.ada_expr_parser.proofs.Chains.{front_and_rest}
-use Rattle.ada_stmt_parser.specs.ReadingStatements.{Whens, with_part, no_whens, whens_in, whens}
+use Rattle.ada_stmt_parser.specs.inner.ReadingStatements.{Whens, with_part, no_whens, whens_in, whens}
 
 -- the parts so far, before those of an answer
 abbrev pub ahead : {A B : Type 0} → List A → Answer Item (Whens A B) → Answer Item (Whens A B)

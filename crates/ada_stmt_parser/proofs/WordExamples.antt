@@ -14,7 +14,7 @@ use Rattle.ada_expr_parser.specs.declared.items.Item.{Item}
 use Rattle.ada_expr_parser.specs.Tests.{same, same_operator}
 use Rattle.ada_expr_parser.specs.Grammar.{symbol_item, word_item, number_item}
 use Rattle.ada_phrase_parser.specs.Spelling.{Source}
-use Rattle.ada_simple_stmt_parser.specs.ReadingSimple.{word_rest}
+use Rattle.ada_simple_stmt_parser.specs.inner.ReadingSimple.{word_rest}
 
 abbrev at : ℕ → ℕ → Span
 at first last = record { start = first; end = last }

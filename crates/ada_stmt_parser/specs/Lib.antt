@@ -1,4 +1,2 @@
-pub mod ReadingStatements
 pub mod Statements
-pub mod StmtViews
-pub mod Turns
+pub mod inner

@@ -6,9 +6,9 @@ ghost use Rattle.ada_tree.specs.PlainStmt.{plain_stmt, plain_arm, plain_case_arm
 ghost use Rattle.ada_lexer.specs.declared.symbols.Symbol.TheVariants as key;
 ghost use Rattle.ada_expr_parser.specs.Gives.{Gives};
 ghost use Rattle.ada_phrase_parser.specs.Reading as reading;
-ghost use Rattle.ada_stmt_parser.specs.ReadingStatements as statements;
+ghost use Rattle.ada_stmt_parser.specs.inner.ReadingStatements as statements;
 ghost use Rattle.ada_phrase_parser.specs.Views.{told};
-ghost use Rattle.ada_stmt_parser.specs.StmtViews.{case_whens};
+ghost use Rattle.ada_stmt_parser.specs.inner.StmtViews.{case_whens};
 
 use crate::sequences::{else_part, stmts};
 use ada_compound_parts::{case_end, if_end, read_choices};

@@ -2,11 +2,11 @@
 //! handlers.
 #![tactic(auto)]
 
-mod bodies;
 mod compound;
+mod handled_statements;
 mod looping;
 mod selecting;
 mod sequences;
 mod statements;
 
-pub use bodies::unit_body;
+pub use handled_statements::unit_body;

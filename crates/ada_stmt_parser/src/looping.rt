@@ -3,8 +3,8 @@
 ghost use Rattle.std.specs.Prelude.{◌<◌, ◌-◌, IfOk, length};
 ghost use Rattle.ada_tree.specs.PlainStmt.{plain_stmt};
 ghost use Rattle.ada_expr_parser.specs.Gives.{Gives};
-ghost use Rattle.ada_stmt_parser.specs.ReadingStatements as statements;
-ghost use Rattle.ada_stmt_parser.specs.Turns as turns;
+ghost use Rattle.ada_stmt_parser.specs.inner.ReadingStatements as statements;
+ghost use Rattle.ada_stmt_parser.specs.inner.Turns as turns;
 ghost use Rattle.ada_phrase_parser.specs.Views.{told};
 
 use crate::sequences::stmts;

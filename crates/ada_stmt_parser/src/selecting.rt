@@ -6,10 +6,10 @@ ghost use Rattle.ada_tree.specs.PlainStmt.{plain_stmt, plain_alt, plain_alt_kind
 ghost use Rattle.ada_lexer.specs.declared.symbols.Symbol.TheVariants as key;
 ghost use Rattle.ada_expr_parser.specs.Gives.{Gives};
 ghost use Rattle.ada_phrase_parser.specs.Reading as reading;
-ghost use Rattle.ada_stmt_parser.specs.ReadingStatements as statements;
-ghost use Rattle.ada_stmt_parser.specs.Turns as turns;
+ghost use Rattle.ada_stmt_parser.specs.inner.ReadingStatements as statements;
+ghost use Rattle.ada_stmt_parser.specs.inner.Turns as turns;
 ghost use Rattle.ada_phrase_parser.specs.Views.{told};
-ghost use Rattle.ada_compound_parts.specs.ReadingHeads as front;
+ghost use Rattle.ada_compound_parts.specs.inner.ReadingHeads as front;
 
 use crate::sequences::{any_stmts, else_part, stmts};
 use ada_compound_parts::{

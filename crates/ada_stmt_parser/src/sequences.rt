@@ -5,7 +5,7 @@ ghost use Rattle.lawful_reader.specs.Readers.{fronted};
 ghost use Rattle.lawful_reader.specs.Readers as lawful;
 ghost use Rattle.ada_tree.specs.PlainStmt.{plain_stmt, seen, seen_maybe};
 ghost use Rattle.ada_expr_parser.specs.Gives.{Gives};
-ghost use Rattle.ada_stmt_parser.specs.ReadingStatements as statements;
+ghost use Rattle.ada_stmt_parser.specs.inner.ReadingStatements as statements;
 ghost use Rattle.ada_phrase_parser.specs.Views.{told};
 
 use crate::statements::read_stmt;

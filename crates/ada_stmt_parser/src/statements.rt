@@ -6,12 +6,12 @@ ghost use Rattle.ada_tree.specs.PlainStmt.{plain_stmt};
 ghost use Rattle.lawful_reader.specs.Readers.{Found, token};
 ghost use Rattle.ada_expr_parser.specs.Tests as tests;
 ghost use Rattle.ada_expr_parser.specs.Gives.{Gives};
-ghost use Rattle.ada_stmt_parser.specs.ReadingStatements as statements;
+ghost use Rattle.ada_stmt_parser.specs.inner.ReadingStatements as statements;
 ghost use Rattle.ada_phrase_parser.specs.Views.{told};
-ghost use Rattle.ada_stmt_parser.specs.Turns as turns;
+ghost use Rattle.ada_stmt_parser.specs.inner.Turns as turns;
 
-use crate::bodies::read_block;
 use crate::compound::{read_case, read_if};
+use crate::handled_statements::read_block;
 use crate::looping::loop_from;
 use crate::selecting::{read_accept, read_select};
 use ada_compound_parts::begins_loop;

@@ -3,7 +3,7 @@
 ghost use Rattle.std.specs.Prelude.{◌≡◌, ◌↔◌, IsTrue};
 ghost use Rattle.ada_tree.specs.PlainStmt.{plain_stmt};
 ghost use Rattle.ada_tree.specs.Same.{SameStmt};
-ghost use Rattle.ada_stmt_same.specs.inner.Simple.{IsSimple};
+ghost use Rattle.ada_tree.specs.inner.SimpleStmt.{IsSimple};
 
 use ada_expr_same::{
     same_call, same_callees, same_expr, same_label, same_option, same_parts, same_target,

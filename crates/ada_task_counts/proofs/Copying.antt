@@ -7,11 +7,11 @@ use Rattle.ada_tree.specs.PlainDecl.{plain_decl, decls_of}
 use Rattle.ada_tree.specs.PlainProgram.{PProgram}
 use Rattle.syn_event.specs.declared.limits.What.TheVariants.{Copies}
 use Rattle.syn_event.specs.CheckRefusals.{CheckRefusal}
-use Rattle.syn_event.specs.Surrounding.{Surrounding, counts}
+use Rattle.syn_event.specs.CheckScope.{CheckScope, counts}
 use Rattle.syn_event.specs.TaskParts.{TaskPart, task_count}
 use Rattle.syn_event.specs.Callees.{body_callees}
 use Rattle.syn_event.specs.Copying.{callees_share, part_share}
-use Rattle.syn_event.specs.Spots.{spot, copies_spots, all_copies_spots}
+use Rattle.syn_event.specs.CheckSites.{site, copies_sites, all_copies_sites}
 use Rattle.ada_rules.specs.declared.counting.Counted.{Counted}
 use Rattle.ada_rules.specs.Amounts.{capped}
 use Rattle.ada_rules.specs.Sooner.{sooner}
@@ -48,33 +48,33 @@ share_by types shares x = capped (capped (task_count types x) * share_of shares 
 abbrev rates_of : TypeTable → List TaskPart → Rates
 rates_of types parts = record { types = types; rows = row_lengths types parts }
 
-with_types : (by : Standard) (around : Surrounding) (parts : List TaskPart) (p : PProgram) (share : ℕ) (own : Counted) (r : Option CheckRefusal)
+with_types : (by : Standard) (around : CheckScope) (parts : List TaskPart) (p : PProgram) (share : ℕ) (own : Counted) (r : Option CheckRefusal)
     → share ≡ shared (rates_of around.types parts) (body_callees p.body)
     → capped own.count ≡ capped (0 + share)
     → own.refusal ≡ refused_first_at by around (counts Copies 0 share p.name.span)
-    → r ≡ sooner own.refusal (refused_first by (copies_spots around (share_by around.types (body_shares (rates_of around.types parts) p.decls)) own.count parts))
-    → r ≡ refused_first by (all_copies_spots around parts p)
+    → r ≡ sooner own.refusal (refused_first by (copies_sites around (share_by around.types (body_shares (rates_of around.types parts) p.decls)) own.count parts))
+    → r ≡ refused_first by (all_copies_sites around parts p)
 with_types by around parts p share own r is_share count refused is =
     let all : ℕ = callees_share around.types parts p.body in
     let same : capped share ≡ capped all = ap capped (is_share ∙ shared_is around.types parts (body_callees p.body)) ∙ capped_twice all in
     let start : capped own.count ≡ capped all = count ∙ ap capped (add_left share) ∙ same in
     is
-    ∙ ap (λ o. sooner o (refused_first by (copies_spots around (share_by around.types (body_shares (rates_of around.types parts) p.decls)) own.count parts))) (refused ∙ at_same by around Copies 0 0 share all p.name.span refl same)
+    ∙ ap (λ o. sooner o (refused_first by (copies_sites around (share_by around.types (body_shares (rates_of around.types parts) p.decls)) own.count parts))) (refused ∙ at_same by around Copies 0 0 share all p.name.span refl same)
     ∙ ap (sooner (refused_first_at by around (counts Copies 0 all p.name.span))) (shares_same by around (share_by around.types (body_shares (rates_of around.types parts) p.decls)) (part_share around.types parts p.decls) (part_share_is around.types parts p.decls) own.count all parts start)
-    ∙ sym (met_cons by around (counts Copies 0 all p.name.span) (copies_spots around (part_share around.types parts p.decls) all parts))
+    ∙ sym (met_cons by around (counts Copies 0 all p.name.span) (copies_sites around (part_share around.types parts p.decls) all parts))
   where
     add_left : (n : ℕ) → 0 + n ≡ n
     add_left n = omega arith
 
-pub copies_met : (by : Standard) (around : Surrounding) (types : TypeTable) (parts : List TaskPart) (p : PProgram) (rates : Rates) (shares : List (ℕ × ℕ)) (share : ℕ) (own : Counted) (r : Option CheckRefusal)
+pub copies_met : (by : Standard) (around : CheckScope) (types : TypeTable) (parts : List TaskPart) (p : PProgram) (rates : Rates) (shares : List (ℕ × ℕ)) (share : ℕ) (own : Counted) (r : Option CheckRefusal)
     → around.types ≡ types
     → rates ≡ record { types = types; rows = row_lengths types parts }
     → shares ≡ body_shares rates p.decls
     → share ≡ shared rates (body_callees p.body)
     → capped own.count ≡ capped (0 + share)
     → own.refusal ≡ refused_first_at by around (counts Copies 0 share p.name.span)
-    → r ≡ sooner own.refusal (refused_first by (copies_spots around (λ (x : TaskPart). capped (capped (task_count types x) * share_of shares x.unit.name.name)) own.count parts))
-    → r ≡ refused_first by (all_copies_spots around parts p)
+    → r ≡ sooner own.refusal (refused_first by (copies_sites around (λ (x : TaskPart). capped (capped (task_count types x) * share_of shares x.unit.name.name)) own.count parts))
+    → r ≡ refused_first by (all_copies_sites around parts p)
 copies_met by around types parts p rates shares share own r same is_rates is_shares is_share count refused is =
     let at : rates ≡ rates_of around.types parts = is_rates ∙ ap (λ t. rates_of t parts) (sym same) in
     with_types by around parts p share own r
@@ -82,5 +82,5 @@ copies_met by around types parts p rates shares share own r same is_rates is_sha
     count
     refused
     (is
-    ∙ ap (λ t. sooner own.refusal (refused_first by (copies_spots around (share_by t shares) own.count parts))) (sym same)
-    ∙ ap (λ s. sooner own.refusal (refused_first by (copies_spots around (share_by around.types s) own.count parts))) (is_shares ∙ ap (λ t. body_shares t p.decls) at))
+    ∙ ap (λ t. sooner own.refusal (refused_first by (copies_sites around (share_by t shares) own.count parts))) (sym same)
+    ∙ ap (λ s. sooner own.refusal (refused_first by (copies_sites around (share_by around.types s) own.count parts))) (is_shares ∙ ap (λ t. body_shares t p.decls) at))

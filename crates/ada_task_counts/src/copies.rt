@@ -2,9 +2,9 @@
 
 ghost use Rattle.std.specs.Prelude.{◌≡◌, ◌*◌, map, IfOk};
 ghost use Rattle.ada_tree.specs.PlainProgram.{plain_program};
-ghost use Rattle.syn_event.specs.Surrounding.{Surrounding};
+ghost use Rattle.syn_event.specs.CheckScope.{CheckScope};
 ghost use Rattle.syn_event.specs.TaskParts.{task_count};
-ghost use Rattle.syn_event.specs.Spots.{copies_spots, all_copies_spots};
+ghost use Rattle.syn_event.specs.CheckSites.{copies_sites, all_copies_sites};
 ghost use Rattle.ada_rules.specs.Amounts.{capped};
 ghost use Rattle.ada_rules.specs.Sooner.{sooner};
 ghost use Rattle.ada_rules.specs.RefusedFirst.{refused_first};
@@ -27,7 +27,7 @@ fn count_copies(
     own: Counted,
     parts: &[TaskPart],
 ) -> Option<Refusal>
-    ensures { (around : Surrounding) → result ≡ sooner own.refusal (refused_first by.now (copies_spots around (λ x. capped (capped (task_count types.now x) * share_of shares.now x.unit.name.name)) own.count (map plain_part parts.now))) }
+    ensures { (around : CheckScope) → result ≡ sooner own.refusal (refused_first by.now (copies_sites around (λ x. capped (capped (task_count types.now x) * share_of shares.now x.unit.name.name)) own.count (map plain_part parts.now))) }
 {
     let mut counted = own;
     for part in parts {
@@ -45,7 +45,7 @@ pub fn refuse_copies(
     parts: &[TaskPart],
     p: &Program,
 ) -> Result<Option<Refusal>, AllocError>
-    ensures { (around : Surrounding) → around.types ≡ types.now → IfOk result (λ r. r ≡ refused_first by.now (all_copies_spots around (map plain_part parts.now) (plain_program p.now))) }
+    ensures { (around : CheckScope) → around.types ≡ types.now → IfOk result (λ r. r ≡ refused_first by.now (all_copies_sites around (map plain_part parts.now) (plain_program p.now))) }
 {
     let rates = Rates::new(alloc, types, parts)?;
     let shares = BodyShares::new(alloc, &rates, &p.decls)?;

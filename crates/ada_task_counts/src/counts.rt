@@ -4,9 +4,9 @@ ghost use Rattle.std.specs.Prelude.{◌≡◌, ◌*◌, ◌-◌, length, map};
 ghost use Rattle.ada_tree.specs.PlainDecl.{plain_entry};
 ghost use Rattle.syn_event.specs.declared.limits.What.{What};
 ghost use Rattle.syn_event.specs.declared.limits.What.TheVariants.{Entries};
-ghost use Rattle.syn_event.specs.Surrounding.{Surrounding};
+ghost use Rattle.syn_event.specs.CheckScope.{CheckScope};
 ghost use Rattle.syn_event.specs.TaskParts.{task_count};
-ghost use Rattle.syn_event.specs.Spots.{numbered, tasks_spots, entries_of_part, entries_spots};
+ghost use Rattle.syn_event.specs.CheckSites.{numbered, tasks_sites, entries_of_part, entries_sites};
 ghost use Rattle.ada_rules.specs.Amounts.{capped};
 ghost use Rattle.ada_rules.specs.RefusedFirst.{refused_first};
 ghost use Rattle.ada_task_objects.specs.PlainParts.{plain_part};
@@ -29,7 +29,7 @@ pub(crate) fn task_count(types: &Types, part: &TaskPart) -> u64
 
 /// The tasks of a program.
 pub fn refuse_tasks(by: &Standard, types: &Types, parts: &[TaskPart]) -> Option<Refusal>
-    ensures { (around : Surrounding) → around.types ≡ types.now → result ≡ refused_first by.now (tasks_spots around 0 (map plain_part parts.now)) }
+    ensures { (around : CheckScope) → around.types ≡ types.now → result ≡ refused_first by.now (tasks_sites around 0 (map plain_part parts.now)) }
 {
     let mut counted = Counted {
         count: 0,
@@ -44,7 +44,7 @@ pub fn refuse_tasks(by: &Standard, types: &Types, parts: &[TaskPart]) -> Option<
 
 // The entries of a task that is declared as one.
 fn count_single(by: &Standard, so_far: Counted, entries: &[EntryDecl]) -> Counted
-    ensures { (around : Surrounding) → IsCounted by.now so_far (numbered around Entries so_far.count (map (λ e. e.span) (map plain_entry entries.now))) (length entries.now) result }
+    ensures { (around : CheckScope) → IsCounted by.now so_far (numbered around Entries so_far.count (map (λ e. e.span) (map plain_entry entries.now))) (length entries.now) result }
 {
     let mut counted = so_far;
     for entry in entries {
@@ -55,7 +55,7 @@ fn count_single(by: &Standard, so_far: Counted, entries: &[EntryDecl]) -> Counte
 
 // The entries of the tasks that a name stands for.
 fn count_entries(by: &Standard, types: &Types, so_far: Counted, part: &TaskPart) -> Counted
-    ensures { (around : Surrounding) → around.types ≡ types.now → IsCounted by.now so_far (entries_of_part around so_far.count (plain_part part.now)) (task_count types.now (plain_part part.now) * length (plain_part part.now).unit.entries) result }
+    ensures { (around : CheckScope) → around.types ≡ types.now → IsCounted by.now so_far (entries_of_part around so_far.count (plain_part part.now)) (task_count types.now (plain_part part.now) * length (plain_part part.now).unit.entries) result }
 {
     let each = part.unit.entries.len() as u64;
     let here = product(task_count(types, part), each);
@@ -73,7 +73,7 @@ fn count_entries(by: &Standard, types: &Types, so_far: Counted, part: &TaskPart)
 
 /// The entries of a program.
 pub fn refuse_entries(by: &Standard, types: &Types, parts: &[TaskPart]) -> Option<Refusal>
-    ensures { (around : Surrounding) → around.types ≡ types.now → result ≡ refused_first by.now (entries_spots around 0 (map plain_part parts.now)) }
+    ensures { (around : CheckScope) → around.types ≡ types.now → result ≡ refused_first by.now (entries_sites around 0 (map plain_part parts.now)) }
 {
     let mut counted = Counted {
         count: 0,

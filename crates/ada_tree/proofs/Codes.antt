@@ -2,8 +2,8 @@
 use Rattle.std.specs.Coded.{Coded, codes}
 use Rattle.ada_tree.specs.PlainExpr.{PExpr}
 use Rattle.ada_tree.specs.PlainStmt.{PStmts, PHandlers}
-use Rattle.ada_tree.specs.ExprCode as expression
-use Rattle.ada_tree.specs.StmtCode as statement
+use Rattle.ada_tree.specs.inner.ExprCode as expression
+use Rattle.ada_tree.specs.inner.StmtCode as statement
 
 pub coded_expr : Coded PExpr
 coded_expr = expression.coded_expr (hlevel codes)

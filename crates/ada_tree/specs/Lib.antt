@@ -1,9 +1,7 @@
 pub mod Attributes
-pub mod BinaryCode
 pub mod Declaring
 pub mod Demand
 pub mod Every
-pub mod ExprCode
 pub mod ExprTypes
 pub mod Lexical
 pub mod NameList
@@ -28,6 +26,6 @@ pub mod Same
 pub mod Scope
 pub mod Sites
 pub mod StaticValue
-pub mod StmtCode
 pub mod TypeTable
 pub mod WellPlaced
+pub mod inner

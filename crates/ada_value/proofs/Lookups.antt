@@ -13,7 +13,7 @@ use Rattle.ada_value.specs.Values.{placed, word}
 use Rattle.ada_value.specs.Evaluating.{literal_value}
 use Rattle.ada_tree.specs.TypeTable.{TypeTable}
 use Rattle.ada_value.specs.Variables.{Object, object_named}
-use Rattle.ada_value.specs.Bindings.{Bound, object_bound, latest_first, plain_vars}
+use Rattle.ada_value.specs.inner.Bindings.{Bound, object_bound, latest_first, plain_vars}
 
 joined : (types : TypeTable) (b : Bound) (t : Bool) (o : Option Object) (p : Option Bound) → o ≡ option_map (object_bound types) p → cond t (Some (object_bound types b)) o ≡ option_map (object_bound types) (cond t (Some b) p)
 joined types b true o p e = refl

@@ -1,7 +1,7 @@
 //! The variables of an expression, as scopes of names with their values.
 
 ghost use Rattle.std.specs.Prelude.{◌≡◌, ◌==◌, find, reverse, option_copied};
-ghost use Rattle.ada_value.specs.Bindings.{latest_first};
+ghost use Rattle.ada_value.specs.inner.Bindings.{latest_first};
 
 use crate::Value;
 use ada_tree::NameId;
@@ -15,7 +15,7 @@ pub struct Vars {
 
 impl Model for Vars {
     ghost use Rattle.std.specs.Prelude.{List};
-    ghost use Rattle.ada_value.specs.Bindings.{Bound};
+    ghost use Rattle.ada_value.specs.inner.Bindings.{Bound};
 
     ghost Value = { List (List Bound) };
 
@@ -51,7 +51,7 @@ pub struct Scope {
 
 impl Model for Scope {
     ghost use Rattle.std.specs.Prelude.{List};
-    ghost use Rattle.ada_value.specs.Bindings.{Bound};
+    ghost use Rattle.ada_value.specs.inner.Bindings.{Bound};
 
     ghost Value = { List Bound };
 
@@ -79,7 +79,7 @@ pub struct Binding {
 }
 
 impl Model for Binding {
-    ghost use Rattle.ada_value.specs.Bindings.{Bound};
+    ghost use Rattle.ada_value.specs.inner.Bindings.{Bound};
 
     ghost Value = { Bound };
 

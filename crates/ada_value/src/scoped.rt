@@ -3,7 +3,7 @@
 ghost use Rattle.std.specs.Prelude.{◌≡◌, pos, option_map, option_copied, slice_index_or};
 ghost use Rattle.ada_tree.specs.PlainExpr.{plain_expr};
 ghost use Rattle.ada_value.specs.Evaluating.{name_value, component_value, evaluated};
-ghost use Rattle.ada_value.specs.Bindings.{object_bound, plain_vars};
+ghost use Rattle.ada_value.specs.inner.Bindings.{object_bound, plain_vars};
 ghost use Rattle.ada_value.specs.declared.values.Value.TheVariants.{Number};
 
 use crate::evaluating::evaluate;

@@ -7,7 +7,7 @@ ghost use Rattle.ada_tree.specs.Scope.{mark_at};
 ghost use Rattle.ada_tree.specs.StaticValue.{is_of_kind};
 ghost use Rattle.ada_value.specs.Values.{position_of, is_true_value, number, word, placed, value_at, based, limits_of, limits_or, integer_limits, truth_limits, limits_of_kind, lies_in, is_empty_range, lower, checked, place_in};
 ghost use Rattle.ada_value.specs.Variables.{form_of_kind, form_of_mark, place_among};
-ghost use Rattle.ada_value.specs.Bindings.{form_or};
+ghost use Rattle.ada_value.specs.inner.Bindings.{form_or};
 
 use crate::{Form, Limits, Raised, Value};
 use ada_tree::{Kind, Mark, Types};

@@ -16,7 +16,7 @@ use Rattle.debug_outcome.specs.declared.refusal.Refusal.TheVariants.{Usage}
 use Rattle.debug_outcome.specs.declared.stopping.Stop.{Stop}
 use Rattle.debug_outcome.specs.declared.stopping.Stop.TheVariants as stop
 use Rattle.debug_outcome.proofs.Comings.{stops_more, stops_come, comes_more, ends_stopped, told_alone}
-use Rattle.debug_files.specs.Giving.{Given, NothingGiven, BytesGiven, SeedGiven, IsGivenBy, given_bytes}
+use Rattle.debug_files.specs.Giving.{Given, IsGivenBy, given_bytes}
 use Rattle.debug_files.specs.Wanting.{wanted_by}
 use Rattle.debug_core.specs.Answers.{Means, CallsFor, GrowsFor, AnswersNoWords, TellsNoWords}
 use Rattle.debug_core.specs.JudgeMeaning.{JudgeMeans}
@@ -36,39 +36,39 @@ has_broken A E e C text status out out' faults faults' called wrote rose = recor
 
 -- ---- files that were loaded
 
-module _ {F : Type 0} (leads : F → Load → F → Type 0) (old new : F) (told : Option (List ToldFile)) (reads reads' : ℕ) (asked : Asked) (contents : List (List ℕ)) (out out' : Option (List ℕ)) (faults faults' : ℕ) (r : Result ℕ Stop)
+module _ {F : Type 0} (leads : F → Load → F → Type 0) (old new : F) (told : Option (List ToldFile)) (file_faults file_faults' : ℕ) (asked : Asked) (contents : List (List ℕ)) (out out' : Option (List ℕ)) (faults faults' : ℕ) (r : Result ℕ Stop)
     (made : HasLoads leads old new (WereLoaded told (wanted_by asked) contents)) where
   -- words and files call for what the bytes call for with the words
-  pub all_loaded : Comes (Means asked contents) Never out out' faults faults' r → HasLoads leads old new (λ loads. Comes (CallsFor asked told reads reads' loads) Never out out' faults faults' r)
+  pub all_loaded : Comes (Means asked contents) Never out out' faults faults' r → HasLoads leads old new (λ loads. Comes (CallsFor asked told file_faults file_faults' loads) Never out out' faults faults' r)
   all_loaded h = record {
     loads = made.loads;
     led = made.led;
     is_so =
-        comes_more (Means asked contents) (CallsFor asked told reads reads' made.loads) Never Never out out' faults faults' r
+        comes_more (Means asked contents) (CallsFor asked told file_faults file_faults' made.loads) Never Never out out' faults faults' r
         (λ o means. inl (record { contents = contents; loaded = made.is_so; means = means })) (λ o never. never) h;
   }
 
   -- the same of a text that grows
   all_growing : Comes (Means asked contents) (Means asked contents) out out' faults faults' r →
-      HasLoads leads old new (λ loads. Comes (CallsFor asked told reads reads' loads) (CallsFor asked told reads reads' loads) out out' faults faults' r)
+      HasLoads leads old new (λ loads. Comes (CallsFor asked told file_faults file_faults' loads) (CallsFor asked told file_faults file_faults' loads) out out' faults faults' r)
   all_growing h = record {
     loads = made.loads;
     led = made.led;
     is_so =
-        comes_more (Means asked contents) (CallsFor asked told reads reads' made.loads) (Means asked contents) (CallsFor asked told reads reads' made.loads) out out' faults faults' r
+        comes_more (Means asked contents) (CallsFor asked told file_faults file_faults' made.loads) (Means asked contents) (CallsFor asked told file_faults file_faults' made.loads) out out' faults faults' r
         (λ o means. inl (record { contents = contents; loaded = made.is_so; means = means }))
         (λ o means. inl (record { contents = contents; loaded = made.is_so; means = means })) h;
   }
 
 -- a file was not loaded
-pub not_loaded : {F : Type 0} (leads : F → Load → F → Type 0) (old new : F) (told : Option (List ToldFile)) (reads reads' : ℕ) (asked : Asked) (G : List Load → Outcome → Type 0) (out : Option (List ℕ)) (faults : ℕ) (stop : Stop) →
-    HasLoads leads old new (λ loads. Stops (AreUnloaded told reads reads' (wanted_by asked) loads) stop) → HasLoads leads old new (λ loads. Comes (CallsFor asked told reads reads' loads) (G loads) out out faults faults (Err stop))
-not_loaded leads old new told reads reads' asked G out faults stop made = record {
+pub not_loaded : {F : Type 0} (leads : F → Load → F → Type 0) (old new : F) (told : Option (List ToldFile)) (file_faults file_faults' : ℕ) (asked : Asked) (G : List Load → Outcome → Type 0) (out : Option (List ℕ)) (faults : ℕ) (stop : Stop) →
+    HasLoads leads old new (λ loads. Stops (AreUnloaded told file_faults file_faults' (wanted_by asked) loads) stop) → HasLoads leads old new (λ loads. Comes (CallsFor asked told file_faults file_faults' loads) (G loads) out out faults faults (Err stop))
+not_loaded leads old new told file_faults file_faults' asked G out faults stop made = record {
   loads = made.loads;
   led = made.led;
   is_so =
-      stops_come (CallsFor asked told reads reads' made.loads) (G made.loads) out faults stop
-      (stops_more (AreUnloaded told reads reads' (wanted_by asked) made.loads) (CallsFor asked told reads reads' made.loads) stop (λ o bad. inr bad) made.is_so);
+      stops_come (CallsFor asked told file_faults file_faults' made.loads) (G made.loads) out faults stop
+      (stops_more (AreUnloaded told file_faults file_faults' (wanted_by asked) made.loads) (CallsFor asked told file_faults file_faults' made.loads) stop (λ o bad. inr bad) made.is_so);
 }
 
 -- ---- the bytes of a run and of a judgement, in the order of the words
@@ -105,22 +105,22 @@ judge_means name sequence text lines bound o (Some list) (Some bytes) there mean
 judge_means name sequence text lines bound o None (Some bytes) there means = absurd (true≢false there)
 judge_means name sequence text lines bound o (Some list) None there means = absurd (true≢false (sym there))
 
-module _ {F : Type 0} (leads : F → Load → F → Type 0) (old new : F) (told : Option (List ToldFile)) (reads reads' : ℕ) (name text : List ℕ) (inputs bytes : Option (List ℕ)) (there : is_some bytes ≡ is_some inputs) (out out' : Option (List ℕ)) (faults faults' : ℕ) (r : Result ℕ Stop) where
+module _ {F : Type 0} (leads : F → Load → F → Type 0) (old new : F) (told : Option (List ToldFile)) (file_faults file_faults' : ℕ) (name text : List ℕ) (inputs bytes : Option (List ℕ)) (there : is_some bytes ≡ is_some inputs) (out out' : Option (List ℕ)) (faults faults' : ℕ) (r : Result ℕ Stop) where
   pub run_loaded : (source : Source) (given : Given) (turns : ℕ) → IsGivenBy source given →
       HasLoads leads old new (WereLoaded told (wanted_by (AsksRun name inputs source turns)) ((text ∷ option_to_list bytes) ++ given_bytes given)) →
       Comes (RunMeans text bytes given turns) (RunMeans text bytes given turns) out out' faults faults' r →
-      HasLoads leads old new (λ loads. Comes (CallsFor (AsksRun name inputs source turns) told reads reads' loads) (GrowsFor (AsksRun name inputs source turns) told reads reads' loads) out out' faults faults' r)
+      HasLoads leads old new (λ loads. Comes (CallsFor (AsksRun name inputs source turns) told file_faults file_faults' loads) (GrowsFor (AsksRun name inputs source turns) told file_faults file_faults' loads) out out' faults faults' r)
   run_loaded source given turns by made h =
-      all_growing leads old new told reads reads' (AsksRun name inputs source turns) ((text ∷ option_to_list bytes) ++ given_bytes given) out out' faults faults' r made
+      all_growing leads old new told file_faults file_faults' (AsksRun name inputs source turns) ((text ∷ option_to_list bytes) ++ given_bytes given) out out' faults faults' r made
       (comes_more (RunMeans text bytes given turns) (Means (AsksRun name inputs source turns) ((text ∷ option_to_list bytes) ++ given_bytes given)) (RunMeans text bytes given turns) (Means (AsksRun name inputs source turns) ((text ∷ option_to_list bytes) ++ given_bytes given)) out out' faults faults' r
       (λ o means. run_means name text turns o inputs bytes source given there by means)
       (λ o means. run_means name text turns o inputs bytes source given there by means) h)
 
   pub judge_loaded : (sequence lines : List ℕ) (bound : ℕ) →
       HasLoads leads old new (WereLoaded told (wanted_by (AsksJudge name inputs sequence bound)) ((text ∷ option_to_list bytes) ++ (lines ∷ []))) → Comes (JudgeMeans text bytes lines bound) Never out out' faults faults' r →
-      HasLoads leads old new (λ loads. Comes (CallsFor (AsksJudge name inputs sequence bound) told reads reads' loads) Never out out' faults faults' r)
+      HasLoads leads old new (λ loads. Comes (CallsFor (AsksJudge name inputs sequence bound) told file_faults file_faults' loads) Never out out' faults faults' r)
   judge_loaded sequence lines bound made h =
-      all_loaded leads old new told reads reads' (AsksJudge name inputs sequence bound) ((text ∷ option_to_list bytes) ++ (lines ∷ [])) out out' faults faults' r made
+      all_loaded leads old new told file_faults file_faults' (AsksJudge name inputs sequence bound) ((text ∷ option_to_list bytes) ++ (lines ∷ [])) out out' faults faults' r made
       (comes_more (JudgeMeans text bytes lines bound) (Means (AsksJudge name inputs sequence bound) ((text ∷ option_to_list bytes) ++ (lines ∷ []))) Never Never out out' faults faults' r
       (λ o means. judge_means name sequence text lines bound o inputs bytes there means) (λ o never. never) h)
 

@@ -31,8 +31,8 @@ use Rattle.syn_event.specs.RuleAbortOrder.{abort_order}
 use Rattle.syn_event.specs.RuleBodyMissing.{body_missing}
 use Rattle.syn_event.specs.RuleExitPlace.{exit_place}
 use Rattle.syn_event.specs.RuleRaisePlace.{raise_place}
-use Rattle.syn_event.specs.Spots.{spots}
-use Rattle.syn_event.specs.Surrounding.{Spot, Asked, declares, counts}
+use Rattle.syn_event.specs.CheckSites.{check_sites}
+use Rattle.syn_event.specs.CheckScope.{CheckSite, CheckDemand, declares, counts}
 use Rattle.debug_outcome.specs.Coming.{IsRefusal}
 use Rattle.debug_outcome.specs.Outcomes.{Outcome}
 use Rattle.debug_outcome.specs.declared.refusal.Refusal.{Refusal}
@@ -93,7 +93,7 @@ passed_fits : (m : Mode) (what : What) (limit : Option ℕ) (before here : ℕ) 
 passed_fits m what (Some limit) before here s h = maybe_fits m _ (record { over = record { what = what; limit = limit }; span = s }) h
 passed_fits m what None before here s h = All-nil (IsLimit m)
 
-limits_fit : (m : Mode) (names : List (List ℕ)) (asked : Asked) → All (IsLimit m) (over_limit m names asked)
+limits_fit : (m : Mode) (names : List (List ℕ)) (asked : CheckDemand) → All (IsLimit m) (over_limit m names asked)
 limits_fit m names (declares w) = passed_fits m counted.Name (limit_of m counted.Name) 0 _ w.span refl
 limits_fit m names (counts what before here s) = passed_fits m what (limit_of m what) before here s refl
 limits_fit m names _ = All-nil (IsLimit m)
@@ -101,29 +101,29 @@ limits_fit m names _ = All-nil (IsLimit m)
 rules_fit : (m : Mode) (n : ℕ) (spans : List Span) → All (Fits m) (by_rule n spans)
 rules_fit m n spans = All-map (Fits m) (λ (s : Span). record { rule = n; over = None; span = s }) spans (λ k d less. tt)
 
-spot_fits : (m : Mode) (names : List (List ℕ)) (x : Spot) → All (Fits m) (refused_at m names x)
-spot_fits m names x =
-    two _ _ (two _ _ (two _ _ (two _ _ (two _ _ (two _ _ (two _ _ (two _ _ (two _ _ (two _ _ (rules_fit m 13 (shared_variable x.around x.asked))
-    (rules_fit m 14 (accept_place x.around x.asked)))
-    (rules_fit m 15 (select_form x.around x.asked)))
-    (rules_fit m 16 (same_entry_twice x.around x.asked)))
-    (rules_fit m 17 (reserved_name m names x.asked)))
-    (rules_fit m 18 (main_entry x.around x.asked)))
-    (rules_fit m 19 (abort_order x.around x.asked)))
-    (rules_fit m 20 (body_missing x.asked)))
-    (rules_fit m 21 (exit_place x.around x.asked)))
-    (rules_fit m 22 (raise_place x.around x.asked)))
-    (All-map (Fits m) (λ (o : OverAt). record { rule = 23; over = Some o.over; span = o.span }) (over_limit m names x.asked) (limits_fit m names x.asked))
+site_fits : (m : Mode) (names : List (List ℕ)) (x : CheckSite) → All (Fits m) (refused_at m names x)
+site_fits m names x =
+    two _ _ (two _ _ (two _ _ (two _ _ (two _ _ (two _ _ (two _ _ (two _ _ (two _ _ (two _ _ (rules_fit m 13 (shared_variable x.scope x.demand))
+    (rules_fit m 14 (accept_place x.scope x.demand)))
+    (rules_fit m 15 (select_form x.scope x.demand)))
+    (rules_fit m 16 (same_entry_twice x.scope x.demand)))
+    (rules_fit m 17 (reserved_name m names x.demand)))
+    (rules_fit m 18 (main_entry x.scope x.demand)))
+    (rules_fit m 19 (abort_order x.scope x.demand)))
+    (rules_fit m 20 (body_missing x.demand)))
+    (rules_fit m 21 (exit_place x.scope x.demand)))
+    (rules_fit m 22 (raise_place x.scope x.demand)))
+    (All-map (Fits m) (λ (o : OverAt). record { rule = 23; over = Some o.over; span = o.span }) (over_limit m names x.demand) (limits_fit m names x.demand))
   where
     two : (xs ys : List CheckRefusal) → All (Fits m) xs → All (Fits m) ys → All (Fits m) (xs ++ ys)
     two xs ys h k = All-append (Fits m) xs ys h k
 
-spots_fit : (m : Mode) (names : List (List ℕ)) (xs : List Spot) → All (Fits m) (flat_map (refused_at m names) xs)
-spots_fit m names [] = All-nil (Fits m)
-spots_fit m names (x ∷ xs) = All-append (Fits m) (refused_at m names x) (flat_map (refused_at m names) xs) (spot_fits m names x) (spots_fit m names xs)
+sites_fit : (m : Mode) (names : List (List ℕ)) (xs : List CheckSite) → All (Fits m) (flat_map (refused_at m names) xs)
+sites_fit m names [] = All-nil (Fits m)
+sites_fit m names (x ∷ xs) = All-append (Fits m) (refused_at m names x) (flat_map (refused_at m names) xs) (site_fits m names x) (sites_fit m names xs)
 
 first_fits : (p : PProgram) (m : Mode) (r : CheckRefusal) → IsFirstCheckRefusal p m r → Fits m r
-first_fits p m r h = All-contains (Fits m) (check_refusals p m) r (spots_fit m p.names (spots p)) h.is_one
+first_fits p m r h = All-contains (Fits m) (check_refusals p m) r (sites_fit m p.names (check_sites p)) h.is_one
 
 -- ---- what an error tells
 

@@ -1,6 +1,5 @@
 -- A program under given choices calls for one outcome.
-use Rattle.std.proofs.Common.{◌≡◌, ℕ, List, inl, inr, sym, ap, subst, ◌∙◌}
-use Rattle.ded_io.specs.Stored.{first_choice, behind_choice}
+use Rattle.std.proofs.Common.{◌≡◌, ℕ, List, inl, inr, sym, subst, ◌∙◌}
 use Rattle.input_file.specs.declared.errors.InputError.{InputError}
 use Rattle.input_file.proofs.Reading.{choices-unique, choices-no_fault, choices-one_fault}
 use Rattle.syn_event.specs.Numbering.{Numbering}

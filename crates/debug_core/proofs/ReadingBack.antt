@@ -1,5 +1,5 @@
 -- The printed text of a program that was read is read back as the same program, and as no other.
-use Rattle.std.proofs.Common.{◌≡◌, ℕ, true, false, List, sym, subst}
+use Rattle.std.proofs.Common.{ℕ, true, false, List, sym, subst}
 use Rattle.lawful_reader.specs.Readers.{Answer, Found, Fault}
 use Rattle.ada_tree.specs.PlainProgram.{PProgram}
 use Rattle.ada_tree.specs.Same.{Same}

@@ -1,5 +1,5 @@
 -- The numbers of a legal program have 32 bits, since its limits do.
-use Rattle.std.proofs.Common.{◌≡◌, ◌≤◌, ◌<◌, ◌^◌, ◌+◌, ◌*◌, ℕ, ℤ, pos, ◌+ℤ◌, zero, suc, if◌then◌else◌, Bool, true, false, ◌&&◌, ◌==◌, nat_lt, nat_le, List, [], ◌∷◌, ◌++◌, map, flat_map, find, length, Option, Some, None, refl, sym, ap, ◌∙◌, subst, true≢false, arith}
+use Rattle.std.proofs.Common.{◌≡◌, ◌≤◌, ◌<◌, ◌^◌, ◌+◌, ◌*◌, ℕ, ℤ, pos, ◌+ℤ◌, zero, suc, if◌then◌else◌, Bool, true, false, ◌&&◌, ◌==◌, nat_lt, nat_le, List, [], ◌∷◌, ◌++◌, map, flat_map, length, Option, Some, None, refl, sym, ap, ◌∙◌, subst, true≢false, arith}
 use Rattle.std.proofs.lemmas.Bool.Decides.{nat_tests}
 use Rattle.std.proofs.lemmas.List.{length-append}
 use Rattle.std.proofs.Math.ListN.{length-map}
@@ -17,14 +17,14 @@ use Rattle.syn_event.specs.declared.numbering.Mode.TheVariants as mode
 use Rattle.syn_event.specs.declared.limits.What.{What}
 use Rattle.syn_event.specs.declared.limits.What.TheVariants.{Tasks, Entries}
 use Rattle.syn_event.specs.AllNumbers.{all_numbers, seat_info, seat_entry, seat_entries}
-use Rattle.syn_event.specs.Extents.{Extent, extent, size, size_of, known_size}
+use Rattle.syn_event.specs.Extents.{Extent, extent, size_of, known_size}
 use Rattle.syn_event.specs.Legal.{Legal}
 use Rattle.syn_event.specs.Limits.{limit_of}
 use Rattle.syn_event.specs.Numbered.{with_origin}
 use Rattle.syn_event.specs.Numbering.{Numbering}
 use Rattle.syn_event.specs.RuleLimit.{passed}
-use Rattle.syn_event.specs.Spots.{spot, spots, numbered, decls_spots, body_spots, body_names, after_decls, around_program, tasks_spots, entries_of_part, entries_spots, all_copies_spots, counted_spots}
-use Rattle.syn_event.specs.Surrounding.{Surrounding, Spot, declares, counts}
+use Rattle.syn_event.specs.CheckSites.{site, check_sites, numbered, decls_sites, body_sites, body_names, after_decls, around_program, tasks_sites, entries_of_part, entries_sites, counted_sites}
+use Rattle.syn_event.specs.CheckScope.{CheckScope, counts}
 use Rattle.syn_event.specs.TaskParts.{TaskPart, part, type_named, parts_of_type, object_parts, with_type, single_part, parts_in, parts_of, row_count, task_count, Seat, seat, numbers_on, indices, row_seats, seats_of, seats}
 use Rattle.syn_event.proofs.Nothing.{test_fails, all_front, all_back}
 use Rattle.syn_event.proofs.Kept.{Kept, kept_all}
@@ -41,8 +41,8 @@ within what limit before here s start h =
     split true true ea eb h = absurd (true≢false h)
     split false b ea eb h = absurd (true≢false (grind (arith, nat_tests)))
 
-module _ (m : Mode) (names : List (List ℕ)) (around : Surrounding) where
-  counted : (what : What) (limit before here : ℕ) (s : Span) → limit_of m what ≡ Some limit → before ≤ limit → Kept m names (spot around (counts what before here s)) → before + here ≤ limit
+module _ (m : Mode) (names : List (List ℕ)) (around : CheckScope) where
+  counted : (what : What) (limit before here : ℕ) (s : Span) → limit_of m what ≡ Some limit → before ≤ limit → Kept m names (site around (counts what before here s)) → before + here ≤ limit
   counted what limit before here s is start kept =
       within what limit before here s start (subst (λ (o : Option ℕ). passed what o before here s ≡ []) is kept.within)
 
@@ -110,8 +110,8 @@ length_seats : (types : TypeTable) (x : TaskPart) (row : Option PDrange) → len
 length_seats types x (Some r) = length-map (indices (extent types r)) (λ i. seat x (Some i)) ∙ length_indices (extent types r)
 length_seats types x None = refl
 
-module _ (m : Mode) (names : List (List ℕ)) (around : Surrounding) (limit : ℕ) where
-  tasks_within : (n : ℕ) (xs : List TaskPart) → limit_of m Tasks ≡ Some limit → n ≤ limit → AllByRecursion (Kept m names) (tasks_spots around n xs) → n + length (flat_map (seats_of around.types) xs) ≤ limit
+module _ (m : Mode) (names : List (List ℕ)) (around : CheckScope) (limit : ℕ) where
+  tasks_within : (n : ℕ) (xs : List TaskPart) → limit_of m Tasks ≡ Some limit → n ≤ limit → AllByRecursion (Kept m names) (tasks_sites around n xs) → n + length (flat_map (seats_of around.types) xs) ≤ limit
   tasks_within n [] is start kept = omega (arith, start)
   tasks_within n (x ∷ xs) is start kept =
       let here : n + task_count around.types x ≤ limit = counted m names around Tasks limit n (task_count around.types x) x.place is start kept.0 in
@@ -143,8 +143,8 @@ part_entries : (types : TypeTable) (x : TaskPart) (row : Option PDrange) → ent
 part_entries types x (Some r) = row_entries x (indices (extent types r)) ∙ ap (λ k. k * length x.unit.entries) (length_indices (extent types r))
 part_entries types x None = omega arith
 
-module _ (m : Mode) (names : List (List ℕ)) (around : Surrounding) (limit : ℕ) (is : limit_of m Entries ≡ Some limit) where
-  part_within : (n : ℕ) (x : TaskPart) (kind : Bool) → IsOne x → x.unit.of_kind ≡ kind → n ≤ limit → AllByRecursion (Kept m names) (if kind then spot around (counts Entries n (task_count around.types x * length x.unit.entries) x.place) ∷ [] else numbered around Entries n (map (λ (e : PEntry). e.span) x.unit.entries)) →
+module _ (m : Mode) (names : List (List ℕ)) (around : CheckScope) (limit : ℕ) (is : limit_of m Entries ≡ Some limit) where
+  part_within : (n : ℕ) (x : TaskPart) (kind : Bool) → IsOne x → x.unit.of_kind ≡ kind → n ≤ limit → AllByRecursion (Kept m names) (if kind then site around (counts Entries n (task_count around.types x * length x.unit.entries) x.place) ∷ [] else numbered around Entries n (map (λ (e : PEntry). e.span) x.unit.entries)) →
       n + task_count around.types x * length x.unit.entries ≤ limit
   part_within n x true one same start kept = counted m names around Entries limit n (task_count around.types x * length x.unit.entries) x.place is start kept.0
   part_within n x false one same start kept =
@@ -153,7 +153,7 @@ module _ (m : Mode) (names : List (List ℕ)) (around : Surrounding) (limit : �
       ap (λ (row : Option PDrange). row_count around.types row * length x.unit.entries) (one same) ∙ omega arith in
       omega (arith, all, single, length-map x.unit.entries (λ (e : PEntry). e.span))
 
-  entries_within : (n : ℕ) (xs : List TaskPart) → AllByRecursion IsOne xs → n ≤ limit → AllByRecursion (Kept m names) (entries_spots around n xs) → n + entries_in (flat_map (seats_of around.types) xs) ≤ limit
+  entries_within : (n : ℕ) (xs : List TaskPart) → AllByRecursion IsOne xs → n ≤ limit → AllByRecursion (Kept m names) (entries_sites around n xs) → n + entries_in (flat_map (seats_of around.types) xs) ≤ limit
   entries_within n [] ones start kept = omega (arith, start)
   entries_within n (x ∷ xs) ones start kept =
       let own : n + task_count around.types x * length x.unit.entries ≤ limit = part_within n x x.unit.of_kind ones.0 refl start (all_front (Kept m names) (entries_of_part around n x) _ kept) in
@@ -192,14 +192,14 @@ few_entries mode.Original = omega arith
 few_entries mode.Any = omega arith
 
 module _ (p : PProgram) (types : TypeTable) (numbers : Numbering) (m : Mode) (legal : Legal p types numbers m) where
-  places : AllByRecursion (Kept m p.names) (spots p)
-  places = kept_all m p.names (spots p) legal.check_rules
+  places : AllByRecursion (Kept m p.names) (check_sites p)
+  places = kept_all m p.names (check_sites p) legal.check_rules
 
-  counted_places : AllByRecursion (Kept m p.names) (counted_spots (around_program p) p)
-  counted_places = all_back (Kept m p.names) (decls_spots (around_program p) (body_names p.decls) p.decls ++ body_spots (after_decls (around_program p) p.decls) 1 p.body) _ places.1
+  counted_places : AllByRecursion (Kept m p.names) (counted_sites (around_program p) p)
+  counted_places = all_back (Kept m p.names) (decls_sites (around_program p) (body_names p.decls) p.decls ++ body_sites (after_decls (around_program p) p.decls) 1 p.body) _ places.1
 
-  counted_parts : AllByRecursion (Kept m p.names) (tasks_spots (around_program p) 0 (parts_of p) ++ entries_spots (around_program p) 0 (parts_of p))
-  counted_parts = all_front (Kept m p.names) (tasks_spots (around_program p) 0 (parts_of p) ++ entries_spots (around_program p) 0 (parts_of p)) _ counted_places
+  counted_parts : AllByRecursion (Kept m p.names) (tasks_sites (around_program p) 0 (parts_of p) ++ entries_sites (around_program p) 0 (parts_of p))
+  counted_parts = all_front (Kept m p.names) (tasks_sites (around_program p) 0 (parts_of p) ++ entries_sites (around_program p) 0 (parts_of p)) _ counted_places
 
   same : numbers ≡ all_numbers (types_in p) p
   same = legal.its_numbers ∙ ap (λ (t : TypeTable). all_numbers t p) legal.its_types
@@ -208,14 +208,14 @@ module _ (p : PProgram) (types : TypeTable) (numbers : Numbering) (m : Mode) (le
   numbered_tasks =
       let all : 0 + length (seats (types_in p) p) ≤ most_tasks m =
       tasks_within m p.names (around_program p) (most_tasks m) 0 (parts_of p) (tasks_limit m) (omega arith)
-      (all_front (Kept m p.names) (tasks_spots (around_program p) 0 (parts_of p)) (entries_spots (around_program p) 0 (parts_of p)) counted_parts) in
+      (all_front (Kept m p.names) (tasks_sites (around_program p) 0 (parts_of p)) (entries_sites (around_program p) 0 (parts_of p)) counted_parts) in
       omega (arith, all, few_tasks m, length-map (seats (types_in p) p) (seat_info p.names))
 
   numbered_entries : length (all_numbers (types_in p) p).entries ≤ 2600
   numbered_entries =
       let all : 0 + entries_in (seats (types_in p) p) ≤ most_entries m =
       entries_within m p.names (around_program p) (most_entries m) (entries_limit m) 0 (parts_of p) (parts_one [] p.decls tt) (omega arith)
-      (all_back (Kept m p.names) (tasks_spots (around_program p) 0 (parts_of p)) (entries_spots (around_program p) 0 (parts_of p)) counted_parts) in
+      (all_back (Kept m p.names) (tasks_sites (around_program p) 0 (parts_of p)) (entries_sites (around_program p) 0 (parts_of p)) counted_parts) in
       omega (arith, all, few_entries m, length-map (seat_entries p.names (types_in p) 1 (seats (types_in p) p)) (with_origin p.names (seat_entries p.names (types_in p) 1 (seats (types_in p) p))), entries_numbered p.names (types_in p) 1 (seats (types_in p) p))
 
   pub short_tasks : length numbers.tasks < 2 ^ 32

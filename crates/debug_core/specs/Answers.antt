@@ -1,5 +1,5 @@
 -- What the words and the bytes of the files call for, and what the program answers: such an outcome, delivered (this project's rules).
-use Rattle.std.specs.Prelude.{◌≡◌, ℕ, List, [], ◌∷◌, Option, Some, None, ◌⊎◌}
+use Rattle.std.specs.Prelude.{ℕ, List, [], ◌∷◌, Option, Some, None, ◌⊎◌}
 use Rattle.ded_io.specs.Told.{ToldFile}
 use Rattle.debug_words.specs.Words.{Asked, AsksPrint, AsksCheck, AsksRun, AsksJudge, NoChoices, ChoicesIn, ChoicesBy}
 use Rattle.debug_words.specs.declared.command.NoWords.{NoWords}
@@ -42,10 +42,27 @@ pub record AreHeld (asked : Asked) (told : Option (List ToldFile)) (loads : List
 abbrev pub CallsFor : Asked → Option (List ToldFile) → ℕ → ℕ → List Load → Outcome → Type 0
 CallsFor asked told faults faults' loads o = AreHeld asked told loads o ⊎ AreUnloaded told faults faults' (wanted_by asked) loads o
 
--- A run writes its lines as its actions are made, so that want of memory may leave a front of its text; every other text is written once nothing more is needed for it.
+-- A run writes its lines as its actions are made, so that a run out of memory may leave a prefix of its text; every other text is written once nothing more is needed for it.
 abbrev pub GrowsFor : Asked → Option (List ToldFile) → ℕ → ℕ → List Load → Outcome → Type 0
 GrowsFor (AsksRun file inputs choices turns) told faults faults' loads o = CallsFor (AsksRun file inputs choices turns) told faults faults' loads o
 GrowsFor asked told faults faults' loads o = ⊥
+
+-- How the files and both outputs stand before a call and after it, by what each of them tells and by its faults, with the loads that the call made.
+abbrev pub sides : {F O E : Type 0} → (F → Option (List ToldFile)) → (F → ℕ) → (O → Option (List ℕ)) → (O → ℕ) → (E → Option (List ℕ)) → (E → ℕ) → F → F → O → O → E → E → List Load → Sides
+sides told_files file_faults told_out out_faults told_err err_faults files files' out out' err err' loads = record {
+  files = told_files files;
+  file_faults = file_faults files;
+  file_faults' = file_faults files';
+  loads = loads;
+  out = told_out out;
+  out' = told_out out';
+  out_faults = out_faults out;
+  out_faults' = out_faults out';
+  err = told_err err;
+  err' = told_err err';
+  err_faults = err_faults err;
+  err_faults' = err_faults err';
+}
 
 -- The status answers what the words ask for: it ends a call that delivers an outcome for which words and files call. Words that are no row are refused, and that needs no memory.
 abbrev pub Answers : Option Asked → Sides → ℕ → Type 0

@@ -1,5 +1,5 @@
 -- The run of a program under the choices that are given, and as what a bad file of choices is told (this project's rules).
-use Rattle.std.specs.Prelude.{◌≡◌, ℕ, List, [], Option, Some, None, ◌⊎◌}
+use Rattle.std.specs.Prelude.{ℕ, List, [], Option, Some, None, ◌⊎◌}
 use Rattle.ded_io.specs.Stored.{first_choice, behind_choice}
 use Rattle.seed_chooser.specs.Seeded.{seeded, word_of, behind_word}
 use Rattle.syn_event.specs.Numbering.{Numbering}

@@ -6,7 +6,7 @@ ghost use Rattle.debug_words.specs.Commands.{asked_as};
 ghost use Rattle.debug_outcome.specs.Coming.{Comes};
 ghost use Rattle.debug_outcome.specs.Delivery.{Sides};
 ghost use Rattle.debug_outcome.specs.Traces.{HasLoads};
-ghost use Rattle.debug_core.specs.Answers.{Answers, AnswersNoWords, CallsFor, GrowsFor, TellsNoWords};
+ghost use Rattle.debug_core.specs.Answers.{sides, Answers, AnswersNoWords, CallsFor, GrowsFor, TellsNoWords};
 
 use crate::check_command::check_command;
 use crate::judge_command::judge_command;
@@ -23,8 +23,8 @@ use std::alloc::Global;
 /// The rows of words are `print FILE`, `check FILE`, `run FILE IN CHOICES TURNS` and `judge FILE IN SEQUENCE STEPS`. The statuses are 0 done; 10 no
 /// action applied any more and 11 all turns were made, of a run; 4 the sequence is infeasible and 5 it is not settled, of a judgement; 1 the
 /// program's text is refused, 2 the words are no row, 3 the sequence is refused, 6 a file cannot be read, 7 an output cannot be written, 8 a limit
-/// is passed, 9 want of memory, 12 the inputs or the choices are refused. With 1, 2, 3, 6, 8, 9 and 12 a line stands on `err`, and with these but 9
-/// nothing on `out`. Behind a write that failed nothing is put.
+/// is passed, 9 out of memory, 12 the inputs or the choices are refused. With 1, 2, 3, 6, 8, 9 and 12 a line stands on `err`, and with these but 9
+/// nothing on `out`. After a write that failed nothing is put.
 pub fn debug_main<F: TracedFiles, O: Sink, E: Sink>(
     alloc: Global,
     words: &[String],
@@ -33,20 +33,7 @@ pub fn debug_main<F: TracedFiles, O: Sink, E: Sink>(
     err: &mut E,
 ) -> u8
     ensures answer { HasLoads F.leads files.old files.new (λ loads. Answers (asked_by (map string_bytes words.now))
-        record {
-          files = F.told files.old;
-          file_faults = F.faults files.old;
-          file_faults' = F.faults files.new;
-          loads = loads;
-          out = O.told out.old;
-          out' = O.told out.new;
-          out_faults = O.faults out.old;
-          out_faults' = O.faults out.new;
-          err = E.told err.old;
-          err' = E.told err.new;
-          err_faults = E.faults err.old;
-          err_faults' = E.faults err.new;
-        } result) }
+        (sides F.told F.faults O.told O.faults E.told E.faults files.old files.new out.old out.new err.old err.new loads) result) }
 {
     match command_of(words) {
         Some(command) => match carry_out(alloc, command, files, out) {
@@ -66,21 +53,9 @@ pub fn debug_program<F: TracedFiles, O: Sink, E: Sink>(
     out: &mut O,
     err: &mut E,
 ) -> u8
-    ensures answer { HasLoads F.leads files.old files.new (λ loads. let sides : Sides = record {
-      files = F.told files.old;
-      file_faults = F.faults files.old;
-      file_faults' = F.faults files.new;
-      loads = loads;
-      out = O.told out.old;
-      out' = O.told out.new;
-      out_faults = O.faults out.old;
-      out_faults' = O.faults out.new;
-      err = E.told err.old;
-      err' = E.told err.new;
-      err_faults = E.faults err.old;
-      err_faults' = E.faults err.new;
-    } in
-        MatchResult words (λ given. Answers (asked_by (map string_bytes given.items)) sides result) (λ why. AnswersNoWords why sides result)) }
+    ensures answer { HasLoads F.leads files.old files.new (λ loads.
+        let s : Sides = sides F.told F.faults O.told O.faults E.told E.faults files.old files.new out.old out.new err.old err.new loads in
+        MatchResult words (λ given. Answers (asked_by (map string_bytes given.items)) s result) (λ why. AnswersNoWords why s result)) }
 {
     match words {
         Ok(words) => debug_main(alloc, words.as_slice(), files, out, err),

@@ -1,5 +1,5 @@
 -- Two programs side by side: each free task reaches what the original's is, what can happen to the one can happen to the other, and an event does the same to both.
-use Rattle.std.proofs.Common.{◌≡◌, ℕ, zero, suc, ◌+◌, ◌<◌, arith, Bool, true, false, not, ◌&&◌, ◌||◌, ◌==◌, if◌then◌else◌, List, [], ◌∷◌, refl, sym, ap, ◌∙◌, subst, ⊎_elim, true≢false, subst₂}
+use Rattle.std.proofs.Common.{◌≡◌, ℕ, zero, suc, ◌+◌, ◌<◌, arith, Bool, true, false, not, ◌&&◌, ◌||◌, ◌==◌, if◌then◌else◌, List, ◌∷◌, refl, sym, ap, ◌∙◌, subst, ⊎_elim, true≢false, subst₂}
 use Rattle.std.specs.Prelude.{ℤ, pred}
 use Rattle.std.proofs.lemmas.Bool.{eqb-true, and_parts, cases_Bool, or_left, or_right, or_cases}
 use Rattle.event_machine.specs.declared.Standing.{Standing}
@@ -7,16 +7,16 @@ use Rattle.event_machine.specs.declared.Standing.TheVariants.{Live, Waiting, Que
 use Rattle.event_machine.specs.declared.Event.{Event}
 use Rattle.event_machine.specs.declared.Event.TheVariants.{R, E, S, D, C, T, F, X, B, Z}
 use Rattle.event_machine.specs.Offers.{Offer, Nothing, Finishes, calls_in, is_any_form, is_conditional, is_timed, waits_with, is_finish, is_end, opens, is_else, is_delay, is_terminate}
-use Rattle.event_machine.specs.Seats.{Ops, Seat, live, completed, is_live, is_closed, is_completed, is_served_by, is_abnormal}
+use Rattle.event_machine.specs.Seats.{Ops, Seat, live, completed, is_live, is_closed, is_completed}
 use Rattle.event_machine.specs.Effects.{fallen}
 use Rattle.event_machine.specs.Programs.{Program, numbered}
-use Rattle.event_machine.specs.Soundness.{IsSound, times}
-use Rattle.event_machine.specs.Worlds.{World, Happen, Step, can_move, happens, acted, offers, others_end, aborts}
-use Rattle.event_machine.proofs.Basics.{both, seat_path, equal_self}
+use Rattle.event_machine.specs.Soundness.{times}
+use Rattle.event_machine.specs.Worlds.{World, Happen, can_move, happens, acted, offers, others_end, aborts}
+use Rattle.event_machine.proofs.Basics.{both, seat_path}
 use Rattle.event_machine.proofs.Standings.{is-Live}
 use Rattle.event_machine.proofs.Offering.{calls_waits, finish_is}
-use Rattle.replay_law.proofs.Facts.{put, put_each, let_go}
-use Rattle.replay_law.proofs.Silently.{met_with, met_is}
+use Rattle.replay_law.proofs.Facts.{put, let_go}
+use Rattle.replay_law.proofs.Silently.{met_is}
 use Rattle.replay_law.proofs.Parting.{parted_is}
 use Rattle.replay_law.proofs.Aborting.{fell, abort_closed, abort_open, abort_self}
 use Rattle.imitation_law.specs.Imitations.{Original, IsComeTo, local_at, ReachesIn, Reaches, Imitates, imitation}

@@ -1,5 +1,5 @@
 -- The law as it is told, and that its premises are met.
-use Rattle.std.proofs.Common.{◌≡◌, ℕ, Bool, not, ◌&&◌, refl, sym, ap, ap₂, ◌∙◌}
+use Rattle.std.proofs.Common.{not, ◌&&◌, refl, ap, ap₂, ◌∙◌}
 use Rattle.std.proofs.lemmas.Bool.{and_parts}
 use Rattle.event_machine.specs.Seats.{is_live}
 use Rattle.imitation_law.specs.Imitations.{local_at}

@@ -1,24 +1,21 @@
 -- Tasks at rest: past the last task nobody lives, where a program has ended its tasks rest, and a quiet end leaves no free task with a local step.
-use Rattle.std.proofs.Common.{◌≡◌, ℕ, suc, ◌<◌, ◌≤◌, Bool, true, false, not, ◌&&◌, ◌||◌, ◌==◌, if◌then◌else◌, List, [], ◌∷◌, refl, sym, ap, ◌∙◌, subst, ⊎_elim, true≢false, arith}
+use Rattle.std.proofs.Common.{◌≡◌, ℕ, ◌<◌, Bool, true, false, not, ◌&&◌, ◌==◌, if◌then◌else◌, List, [], ◌∷◌, refl, sym, ap, ◌∙◌, ⊎_elim, true≢false, arith}
 use Rattle.std.specs.Prelude.{pred}
 use Rattle.std.proofs.lemmas.Bool.{eqb-true, and_parts, le-leb}
-use Rattle.event_machine.specs.declared.Standing.{Standing}
 use Rattle.event_machine.specs.declared.Standing.TheVariants.{Live}
-use Rattle.event_machine.specs.declared.Event.{Event}
 use Rattle.event_machine.specs.declared.Event.TheVariants.{R, E, S, D, C, T, F, X, B, Z}
 use Rattle.event_machine.specs.Offers.{Nothing}
 use Rattle.event_machine.specs.Seats.{Seat, live, is_live, is_completed}
-use Rattle.event_machine.specs.Programs.{Program, numbered}
+use Rattle.event_machine.specs.Programs.{Program}
 use Rattle.event_machine.specs.Queues.{IsSuited}
 use Rattle.event_machine.specs.Laws.{IsQuiet}
-use Rattle.event_machine.specs.Worlds.{World, Move, Step, Happen, still, can_move, moved, happens, acted, is_last, AreMoves, world_after}
+use Rattle.event_machine.specs.Worlds.{World, Move, Step, Happen, still, can_move, moved, happens, AreMoves, world_after}
 use Rattle.event_machine.proofs.Standings.{is-Live}
 use Rattle.event_machine.proofs.Agreeing.{happens_free}
 use Rattle.event_machine.proofs.Effected.{unchanged}
 use Rattle.event_machine.proofs.Following.{serving}
 use Rattle.event_machine.proofs.Killing.{completed_stays}
-use Rattle.event_machine.proofs.Queues.{IsPatientAt, suited_patient}
-use Rattle.replay_law.proofs.Facts.{put}
+use Rattle.event_machine.proofs.Queues.{suited_patient}
 use Rattle.imitation_law.specs.Imitations.{Original, IsComeTo}
 use Rattle.imitation_law.proofs.Following.{IsOver, come_on}
 

@@ -1,16 +1,16 @@
 -- What the runs of the two programs show of each other.
-use Rattle.std.proofs.Common.{◌≡◌, ℕ, ◌<◌, ◌≤◌, Bool, true, false, if◌then◌else◌, List, [], ◌∷◌, ◌++◌, append-nil, refl, sym, ap, ap₂, ◌∙◌, subst, ⊎_elim, true≢false, arith}
+use Rattle.std.proofs.Common.{◌≡◌, ℕ, ◌<◌, ◌≤◌, true, false, List, [], ◌∷◌, ◌++◌, append-nil, refl, sym, ap, ap₂, ◌∙◌, subst, ⊎_elim, true≢false, arith}
 use Rattle.std.proofs.lemmas.Bool.{cases_lt, cases_Bool}
 use Rattle.event_machine.specs.declared.Standing.{Standing}
 use Rattle.event_machine.specs.declared.Standing.TheVariants.{Live, Completed}
 use Rattle.event_machine.specs.declared.Action.{Action}
 use Rattle.event_machine.specs.declared.Event.{Event}
-use Rattle.event_machine.specs.Seats.{Ops, Seat, State, is_live, is_completed}
+use Rattle.event_machine.specs.Seats.{Ops, Seat, State, is_completed}
 use Rattle.event_machine.specs.Runs.{IsRun, end_of, events_of}
 use Rattle.event_machine.specs.Programs.{Program, numbered}
 use Rattle.event_machine.specs.Queues.{suits, IsSuited}
 use Rattle.event_machine.specs.Laws.{IsQuiet, IsErased, IsLifted}
-use Rattle.event_machine.specs.Worlds.{World, Move, happened, still, still_seat, world_of, state_of, IsStill, moved, AreMoves, world_after}
+use Rattle.event_machine.specs.Worlds.{World, Move, happened, still, world_of, state_of, moved, AreMoves, world_after}
 use Rattle.event_machine.proofs.Appends.{moves_append, world_append, happened_append}
 use Rattle.event_machine.proofs.Bases.{IsBase}
 use Rattle.event_machine.proofs.Erasing.{erasing}
@@ -19,8 +19,8 @@ use Rattle.event_machine.proofs.Queues.{run_suited}
 use Rattle.event_machine.proofs.Reaching.{start_still, start_suited, start_base}
 use Rattle.event_machine.proofs.Standings.{is-Live}
 use Rattle.event_machine.proofs.Stills.{still_still}
-use Rattle.imitation_law.specs.Imitations.{Original, start, local_at, IsComeTo, Reaches, Imitates, OpensSo}
-use Rattle.imitation_law.specs.Shown.{Opened, end_from, IsShownBy, AllShownBy}
+use Rattle.imitation_law.specs.Imitations.{Original, start, local_at, IsComeTo, Imitates, OpensSo}
+use Rattle.imitation_law.specs.Shown.{Opened, IsShownBy, AllShownBy}
 use Rattle.imitation_law.proofs.Alike.{program, IsAlike, AreAlike, LocalsAt, alike_reaches, reaches_rests, locals_output, meets_rests}
 use Rattle.imitation_law.proofs.Following.{IsOver, come_on, come_after, Kept, track_moves, Caught, catch_all, Followed, follow_move}
 use Rattle.imitation_law.proofs.Rested.{over_on, over_after, rests_over, quiet_rests}

@@ -5,12 +5,9 @@ use Rattle.event_machine.specs.Lawful.{IsLawful}
 use Rattle.event_machine.specs.Programs.{Program, numbered, IsOpening}
 use Rattle.event_machine.specs.Soundness.{IsSound}
 use Rattle.event_machine.specs.Worlds.{World, Move, world_of, can_move, moved}
+use Rattle.replay_law.specs.Told.{IsYes}
 use Rattle.imitation_law.specs.Imitations.{Original, Imitates, OpensSo, imitation}
 use Rattle.imitation_law.specs.Shown.{ShowSame}
-
--- what a test says
-abbrev pub IsYes : {A : Type 0} → (A → Bool) → A → Type 0
-IsYes test a = test a ≡ true
 
 -- some witness shows it
 abbrev pub IsSeen : {V A : Type 0} → (V → A → Bool) → A → Type 0

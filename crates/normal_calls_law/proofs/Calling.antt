@@ -35,7 +35,7 @@ use Rattle.translation_law.specs.Floors.{IsTranslation}
 use Rattle.translation_law.proofs.Frames.{sees-alike}
 use Rattle.normal_law.specs.Suited.{declared_limits, SameRange, AreMade, IsMeant, HasLists, no_lists, plain_lists, family_lists, AreCopied, none_copied, copied_then, IsCall, is_named, is_member}
 use Rattle.normal_law.specs.Preludes.{Added, AreThere, Hold, hold_value, due_before, due_worth, OldDues, old_no_due, old_passed, old_due}
-use Rattle.normal_law.specs.Actuals.{due_of, actual_dues, opening_values, AreSlots}
+use Rattle.normal_law.specs.inner.Actuals.{due_of, actual_dues, opening_values, AreSlots}
 use Rattle.normal_law.specs.Declared.{HaveSubtypes, subtype_then, dues_of}
 use Rattle.normal_law.proofs.Declared.{subtypes-fit, subtypes-first, subtypes-second, kept-dues, kept-length}
 use Rattle.normal_law.proofs.Actuals.{kept-due, actuals-due, due-append, openings-are, held-value, held-openings}

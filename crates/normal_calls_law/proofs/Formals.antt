@@ -12,7 +12,7 @@ use Rattle.translation_law.specs.Translations.{Programs, types_before, types_aft
 use Rattle.translation_law.specs.Scopes.{AgreeOnTypes}
 use Rattle.normal_law.specs.Suited.{declared_limits, AreMarked, none_marked, marked_then, AreCopied, none_copied, copied_then}
 use Rattle.normal_law.specs.Preludes.{Added}
-use Rattle.normal_law.specs.Actuals.{AreSlots, no_slots, slot_then}
+use Rattle.normal_law.specs.inner.Actuals.{AreSlots, no_slots, slot_then}
 use Rattle.normal_law.specs.Declared.{HaveSubtypes, subtype_then}
 
 module _ (b : Programs) where

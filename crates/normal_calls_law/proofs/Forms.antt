@@ -17,7 +17,7 @@ use Rattle.translation_law.specs.Translations.{Translation}
 use Rattle.translation_law.specs.Controls.{task_in, AreAround}
 use Rattle.normal_law.specs.Meetings.{AreValues}
 use Rattle.normal_law.specs.Preludes.{Reaches, reaches_here, reaches_by}
-use Rattle.normal_law.specs.Met.{Catches, AreBack, CallMet}
+use Rattle.normal_law.specs.inner.Met.{Catches, AreBack, CallMet}
 use Rattle.normal_calls_law.specs.Returns.{HasCall, has_conditional, has_timed}
 
 -- the form of a conditional or timed call

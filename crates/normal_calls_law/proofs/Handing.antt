@@ -25,8 +25,8 @@ use Rattle.translation_law.specs.Floors.{IsTranslation}
 use Rattle.translation_law.proofs.Frames.{add-alike}
 use Rattle.normal_law.specs.Suited.{IsCopied, only_taken, given_back, both_ways, AreCopied, none_copied, copied_then, IsCall}
 use Rattle.normal_law.specs.Preludes.{IsCell, Added, AreThere}
-use Rattle.normal_law.specs.Actuals.{AreSlots, no_slots, slot_then}
-use Rattle.normal_law.specs.Met.{AreBack, in_back, one_back}
+use Rattle.normal_law.specs.inner.Actuals.{AreSlots, no_slots, slot_then}
+use Rattle.normal_law.specs.inner.Met.{AreBack, in_back, one_back}
 use Rattle.normal_law.proofs.Cells.{named-set_other, cell-set, cell-kept}
 use Rattle.normal_law.proofs.Preludes.{apart_numbers, there-set}
 use Rattle.normal_calls_law.specs.Calls.{IsEntryCalled}

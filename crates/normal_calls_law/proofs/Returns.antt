@@ -29,7 +29,7 @@ use Rattle.translation_law.proofs.Frames.{sees-alike, set-alike}
 use Rattle.translation_law.proofs.Locals.{go-there, raise-there}
 use Rattle.normal_law.specs.Preludes.{reaches_here, IsCell, Added}
 use Rattle.normal_calls_law.specs.Returns.{HoldBack, back_over, back_done, back_in, back_give, back_both, gone_back}
-use Rattle.normal_law.specs.Met.{Catches}
+use Rattle.normal_law.specs.inner.Met.{Catches}
 use Rattle.normal_law.proofs.Cells.{named-set_other, cell-kept, apart-old}
 use Rattle.normal_law.proofs.Actuals.{held-value}
 use Rattle.normal_law.proofs.Preludes.{reaches_to}

@@ -34,7 +34,7 @@ use Rattle.translation_law.proofs.Frames.{sees-alike}
 use Rattle.normal_law.specs.Suited.{AreMade, IsCall}
 use Rattle.normal_law.specs.Preludes.{Reaches, IsCell, Added, AreThere, due_worth, worth_then, as_some, old_due, old_no_due, Hold, hold_value, Prelude, given, stopped}
 use Rattle.normal_law.specs.Declared.{HaveSubtypes, subtype_then}
-use Rattle.normal_law.specs.Met.{CallMet, at_raise, at_call, Comes}
+use Rattle.normal_law.specs.inner.Met.{CallMet, at_raise, at_call, Comes}
 use Rattle.normal_law.proofs.Actuals.{held-value}
 use Rattle.normal_law.proofs.Preludes.{prelude, reaches_to}
 use Rattle.normal_law.proofs.Declared.{subtypes-first, subtypes-second}

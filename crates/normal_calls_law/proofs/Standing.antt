@@ -28,7 +28,7 @@ use Rattle.translation_law.proofs.Locals.{go-there}
 use Rattle.normal_law.specs.Suited.{AreMade, AreCopied, none_copied, copied_then, IsCall}
 use Rattle.normal_law.specs.Preludes.{Reaches, reaches_here, Added, AreThere}
 use Rattle.normal_law.specs.Declared.{HaveSubtypes}
-use Rattle.normal_law.specs.Met.{Catches, AreBack, CallMet, at_raise, at_call, Comes}
+use Rattle.normal_law.specs.inner.Met.{Catches, AreBack, CallMet, at_raise, at_call, Comes}
 use Rattle.normal_law.proofs.Declared.{subtypes-fit}
 use Rattle.normal_calls_law.specs.Calls.{IsEntryCalled, MeetsCall, meets_call, meets_none}
 use Rattle.normal_calls_law.specs.Returns.{HoldBack, HasCall, has_plain, gone_back}

@@ -17,7 +17,7 @@ use Rattle.translation_law.specs.Translations.{Programs, Translation}
 use Rattle.translation_law.specs.Controls.{task_in, Under}
 use Rattle.normal_law.specs.Suited.{SameRange, IsCall}
 use Rattle.normal_law.specs.Preludes.{Reaches, Added, AreThere}
-use Rattle.normal_law.specs.Actuals.{AreSlots}
+use Rattle.normal_law.specs.inner.Actuals.{AreSlots}
 
 -- What an entry has that a call comes to, where n variables were made before the call: by both programs the same formals and the same lists, those of the original's with the variables in their places.
 pub record IsEntryCalled (b : Programs) (added : Added b b.original) (s : Span) (c : PCall) (n : ℕ) (asked : IsCall b c) (e : ℕ) : Type 0 where

@@ -4,3 +4,4 @@ pub mod Starting
 pub mod Owners
 pub mod Making
 pub mod Instance
+pub mod Choosing

@@ -1,5 +1,5 @@
 -- The law of normal forms for a program and the normal form that is made from it (this project's rule).
-use Rattle.std.specs.Prelude.{ℤ, List, []}
+use Rattle.std.specs.Prelude.{◌≡◌, ℤ, List, [], length}
 use Rattle.ada_tree.specs.Refusals.{types_in}
 use Rattle.ada_tree.specs.PlainProgram.{PProgram}
 use Rattle.imitation_law.specs.Shown.{ShowSame}
@@ -7,7 +7,8 @@ use Rattle.normal_units.specs.Laws.{numbers_made}
 use Rattle.normal_runs_law.specs.Premises.{IsNormalForm}
 use Rattle.normal_runs_law.specs.Example.{example}
 use Rattle.normal_runs_law.specs.Laws.{opened}
-use Rattle.normal_form_law.specs.Normalisable.{numbers_of, made_for, normal_rewrite, IsNormalisable}
+use Rattle.normal_form_law.specs.Normalisable.{numbers_of, made_for, variables_of, normal_rewrite, IsNormalisable}
+use Rattle.normal_form_law.specs.Choosing.{choosing}
 
 -- What is made from such a program is a normal form of it.
 abbrev pub MadeIsNormal : Type 0
@@ -20,6 +21,6 @@ ProgramsShowSame =
     ShowSame (opened (record { program = p; types = types_in p; inputs = inputs }) (numbers_of p))
     (opened (record { program = made_for p; types = types_in (made_for p); inputs = inputs }) (numbers_made p (types_in p) (numbers_of p)))
 
--- The program of the example is as it is asked.
+-- Two programs are as it is asked: one with a family, a guard and an `in out` formal, and one in which a variable chooses a member of an array of tasks, for a call and for an abort. So what is made from the second, which gets two variables, is a normal form of it.
 abbrev pub IsMet : Type 0
-IsMet = IsNormalisable example []
+IsMet = IsNormalisable example [] × IsNormalisable choosing [] × IsNormalForm (normal_rewrite choosing []) × (length (variables_of choosing 0) ≡ 2)

@@ -1,2 +1,3 @@
 pub mod Normalisable
+pub mod Choosing
 pub mod Laws

@@ -5,8 +5,8 @@
 ghost use Rattle.normal_form_law.specs.Laws.{MadeIsNormal, ProgramsShowSame, IsMet};
 
 /// Carries the law for each program of which is known what `IsNormalisable` of `specs/Normalisable` asks: what is made from it is a normal form of it
-/// (`made`), so the two show the same events and outputs, whatever the inputs and the schedule, in both directions, quiet ends too (`same`). An
-/// example meets what is asked (`met`).
+/// (`made`), so the two show the same events and outputs, whatever the inputs and the schedule, in both directions, quiet ends too (`same`). Two
+/// examples meet what is asked, one of them with an array of tasks (`met`).
 pub fn laws()
     ensures made { MadeIsNormal }
     ensures same { ProgramsShowSame }

@@ -23,7 +23,7 @@ use Rattle.normal_model.specs.Calls.{Slot, actual_before, actuals_before, actual
 use Rattle.translation_law.specs.Translations.{Programs, types_before, types_after}
 use Rattle.translation_law.specs.Scopes.{AgreeOnTypes}
 use Rattle.normal_law.specs.Preludes.{IsCell, Added, Hold, hold_none, hold_passed, hold_value, due_before, worth_then, as_some, due_one, due_worth}
-use Rattle.normal_law.specs.Actuals.{due_of, actual_dues, opening_value, opening_values, AreSlots, no_slots, slot_then}
+use Rattle.normal_law.specs.inner.Actuals.{due_of, actual_dues, opening_value, opening_values, AreSlots, no_slots, slot_then}
 
 -- ---- what stands in front of a call is due
 

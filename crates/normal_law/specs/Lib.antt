@@ -4,6 +4,5 @@ pub mod NormalFloors
 pub mod Meetings
 pub mod Preludes
 pub mod Declared
-pub mod Met
-pub mod Actuals
 pub mod Laws
+pub mod inner

@@ -15,7 +15,7 @@ use Rattle.normal_model.specs.Names.{task_name}
 use Rattle.normal_model.specs.Ranges.{array_range}
 use Rattle.normal_model.specs.Members.{index_literal, kind_of_index}
 use Rattle.normal_pieces.specs.Seen.{literal_seen, member_meant, member_seen}
-use Rattle.normal_meanings.specs.inner.Kept.{AreMembers, members_among, members_at}
+use Rattle.normal_meanings.specs.Kept.{AreMembers, members_among, members_at}
 
 -- what is found where something was taken away
 pub taken_at : {S : Type 0} (old new : HashMap ℕ (Vec Member Global) S) (key q : ℕ) → get nat_eq new q ≡ cond (nat_eq key q) None (get nat_eq old q) → members_at new q ≡ (if key == q then [] else members_at old q)

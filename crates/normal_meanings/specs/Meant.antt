@@ -3,7 +3,7 @@ use Rattle.task_model.specs.Setting.{Setting}
 use Rattle.normal_names.specs.declared.names.NormalNames.{NormalNames}
 use Rattle.normal_names.specs.SoFar.{AreNamesOf}
 use Rattle.normal_meanings.specs.declared.members.Members.{Members}
-use Rattle.normal_meanings.specs.inner.Kept.{AreMembers}
+use Rattle.normal_meanings.specs.Kept.{AreMembers}
 
 -- The members of all arrays of tasks are those of this program.
 abbrev pub AreMembersOf : Setting → Members → Type 0

@@ -7,7 +7,7 @@ ghost use Rattle.syn_event.specs.Numbering.{task_at};
 ghost use Rattle.normal_names.specs.SoFar.{AreNamesOf};
 ghost use Rattle.normal_pieces.specs.Seen.{member_meant, member_seen};
 ghost use Rattle.normal_meanings.specs.Meant.{AreMembersOf};
-ghost use Rattle.normal_meanings.specs.inner.Kept.{AreMembers, members_among, members_at};
+ghost use Rattle.normal_meanings.specs.Kept.{AreMembers, members_among, members_at};
 
 use crate::literals::index_literal;
 use ada_tree::{Memory, NameId};

@@ -49,7 +49,7 @@ use Rattle.normal_law.specs.NormalRows.{normal_rows}
 use Rattle.normal_law.specs.NormalFloors.{AreOpen, accept_body, floor_at, normal}
 use Rattle.normal_law.specs.Meetings.{IsOpened, is_opened, EndAlike}
 use Rattle.normal_law.specs.Preludes.{Reaches, reaches_here, reaches_by, Added}
-use Rattle.normal_law.specs.Met.{Catches, AreBack, CallMet, Meets, in_step, at_raise, at_call, at_wait, at_abort, at_finish, at_end}
+use Rattle.normal_law.specs.inner.Met.{Catches, AreBack, CallMet, Meets, in_step, at_raise, at_call, at_wait, at_abort, at_finish, at_end}
 use Rattle.normal_law.proofs.Rows.{normal-images}
 use Rattle.normal_law.proofs.Floors.{normal-translates}
 use Rattle.normal_law.proofs.Meetings.{body-ends}

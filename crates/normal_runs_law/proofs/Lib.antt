@@ -1,3 +1,4 @@
 pub mod Meeting
 pub mod Imitating
+pub mod ExampleBodies
 pub mod Instance

@@ -20,7 +20,7 @@ use Rattle.translation_law.specs.Translations.{Programs, Translation}
 use Rattle.translation_law.specs.Controls.{AreInside, are_inside, AreAround, are_around}
 use Rattle.normal_law.specs.NormalFloors.{AreOpen, none_open, open_then}
 use Rattle.normal_law.specs.Meetings.{IsOpened}
-use Rattle.normal_law.specs.Met.{AreBack, none_back, in_back, one_back, CallMet, WaitMet, AbortMet, Meets, in_step, at_raise, at_call, at_wait, at_abort, at_finish, at_end}
+use Rattle.normal_law.specs.inner.Met.{AreBack, none_back, in_back, one_back, CallMet, WaitMet, AbortMet, Meets, in_step, at_raise, at_call, at_wait, at_abort, at_finish, at_end}
 
 pub inside-around : (x : Translation) (σ κ : Task) → AreInside x σ κ → AreAround x σ κ
 inside-around x σ κ (are_inside n i w r r' im u) = are_around n i w r r' u

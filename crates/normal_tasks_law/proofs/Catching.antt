@@ -23,7 +23,7 @@ use Rattle.normal_law.specs.NormalFloors.{own_body, accept_body, floor_at, norma
 use Rattle.normal_law.specs.Meetings.{is_opened}
 use Rattle.normal_law.specs.Preludes.{reaches_here, Added}
 use Rattle.normal_law.specs.Declared.{AreDeclared}
-use Rattle.normal_law.specs.Met.{Meets, in_step, at_finish, at_end, Comes}
+use Rattle.normal_law.specs.inner.Met.{Meets, in_step, at_finish, at_end, Comes}
 use Rattle.normal_law.proofs.Rows.{part-begins, walked, normal-images}
 use Rattle.normal_law.proofs.Floors.{normal-translates, are-there}
 use Rattle.normal_law.proofs.Declared.{begun-subtypes}

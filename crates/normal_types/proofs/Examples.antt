@@ -1,14 +1,12 @@
 -- A program by which the laws can be tried: an array of tasks of a type, a constant, a variable, and a body with an array of its own.
-use Rattle.std.specs.Prelude.{◌≡◌, ℕ, ℤ, pos, negsuc, true, false, List, [], ◌∷◌, ◌++◌, length, codes, All, Option, Some, None, refl}
+use Rattle.std.specs.Prelude.{◌≡◌, ℕ, pos, negsuc, true, false, [], ◌∷◌, ◌++◌, codes, All, Some, None, refl}
 use Rattle.std.specs.Fmt.{digits}
 use Rattle.std.proofs.lemmas.List.Elements.{All-nil, All-cons}
-use Rattle.ada_tree.specs.declared.naming.NameId.{NameId}
 use Rattle.ada_tree.specs.declared.naming.Span.{Span}
 use Rattle.ada_tree.specs.declared.naming.Word.{Word}
 use Rattle.ada_tree.specs.NameList.{predefined}
-use Rattle.ada_tree.specs.TypeTable.{TypeTable}
 use Rattle.ada_tree.specs.PlainExpr.{EInteger, EName, PSubind, PDrange, RGiven}
-use Rattle.ada_tree.specs.PlainStmt.{SNull, SCall, SAccept, no_stmt, stmt_then, absent, accepting, body, no_handler}
+use Rattle.ada_tree.specs.PlainStmt.{SCall, SAccept, no_stmt, stmt_then, absent, accepting, body, no_handler}
 use Rattle.ada_tree.specs.PlainDecl.{PEntry, OPlain, ORow, IOne, DObject, DTask, DTaskBody, PDecls, no_decl, decl_then}
 use Rattle.ada_tree.specs.PlainProgram.{PProgram}
 use Rattle.ada_tree.specs.Every.{Rules, EveryWord, EveryFormal, EveryEntry, EveryPriority, EveryBody}
@@ -16,7 +14,6 @@ use Rattle.ada_tree.specs.Refusals.{types_in}
 use Rattle.syn_event.specs.Numbering.{Numbering}
 use Rattle.syn_event.specs.AllNumbers.{all_numbers}
 use Rattle.ada_value.specs.declared.values.Value.TheVariants.{Number}
-use Rattle.ada_value.specs.Variables.{Variables}
 use Rattle.task_model.specs.Starting.{objects_of}
 use Rattle.normal_model.specs.NormalTree.{normal_tree}
 use Rattle.rewritten_types.specs.Agreement.{Agrees}
@@ -53,7 +50,7 @@ up_to n = RGiven record { first = EInteger 1 o; last = EInteger n o }
 -- begin
 --    A(V).E;
 -- end P;
-abbrev declared : PDecls
+abbrev pub declared : PDecls
 declared =
     decl_then (DTask record { name = w 26; of_kind = true; entries = record { name = w 27; family = None; formals = []; span = o } ∷ []; priorities = [] } o)
     (decl_then (DObject (w 28 ∷ []) false (ORow (up_to 2) (marked 26)) None o)
@@ -63,7 +60,7 @@ declared =
     (body (stmt_then (SAccept (accepting record { entry = w 27; index = None; formals = []; span = o } absent) o) no_stmt) no_handler) o)
     no_decl))))
 
-abbrev original : PProgram
+abbrev pub original : PProgram
 original = record {
   names = predefined ++ codes "P" ∷ codes "W" ∷ codes "E" ∷ codes "A" ∷ codes "N" ∷ codes "V" ∷ codes "L" ∷ [];
   text_io = false;
@@ -80,7 +77,7 @@ made = normal_tree original (types_in original) numbers
 
 -- ---- the premises are met
 
-ordered : IsOrdered original
+pub ordered : IsOrdered original
 ordered = record { rules = refl; last = tt }
 
 -- `entry E;`
@@ -100,7 +97,7 @@ name_own id e = All-cons (EveryWord own_names) (w id) [] e (All-nil (EveryWord o
 accept_own : EveryBody own_names 1 (body (stmt_then (SAccept (accepting record { entry = w 27; index = None; formals = []; span = o } absent) o) no_stmt) no_handler)
 accept_own = ((tt, (tt, (refl, tt, All-nil (EveryFormal own_names)), tt), tt), tt, tt)
 
-own : AreOwn original declared
+pub own : AreOwn original declared
 own = (
   (tt, (refl, All-cons (EveryEntry own_names) entry_e [] entry_own (All-nil (EveryEntry own_names)), All-nil (EveryPriority own_names), tt)),
   (

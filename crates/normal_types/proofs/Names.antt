@@ -1,15 +1,13 @@
 -- The names that a normal form adds go behind the program's, and those of variables begin with DED_.
-use Rattle.std.proofs.Common.{◌≡◌, ℕ, zero, suc, ◌+◌, ◌<◌, Bool, true, false, not, ◌&&◌, ◌||◌, nat_lt, if◌then◌else◌, List, [], ◌∷◌, ◌++◌, length, find, position, slice_get, get_or, unwrap_or, codes, decimal, nat_eq, cond, Option, Some, None, refl, sym, ap, ◌∙◌, subst, true≢false, add-one, arith}
+use Rattle.std.proofs.Common.{◌≡◌, ℕ, zero, suc, ◌+◌, ◌<◌, Bool, true, false, not, ◌&&◌, ◌||◌, nat_lt, if◌then◌else◌, List, [], ◌∷◌, ◌++◌, length, find, position, slice_get, unwrap_or, codes, nat_eq, cond, Some, None, refl, sym, ap, ◌∙◌, true≢false, add-one}
 use Rattle.std.specs.List.{list_any, position_or_len, fold, starts_with}
 use Rattle.std.specs.Str.{bytes_eq}
 use Rattle.std.proofs.lemmas.Bool.{or_right, lt-ltb, ltb-true}
 use Rattle.std.proofs.lemmas.Option.{slice_get_within}
 use Rattle.std.proofs.lemmas.List.Folds.{find_at}
 use Rattle.std.proofs.lemmas.Slice.Eq.{bytes_eq-Decides}
-use Rattle.ada_tree.specs.declared.naming.NameId.{NameId}
 use Rattle.ada_tree.specs.NameList.{interned}
 use Rattle.ada_tree.specs.PlainProgram.{PProgram}
-use Rattle.ada_tree.proofs.Interning.{interned-there, interned-new}
 use Rattle.syn_event.specs.Units.{text_of}
 use Rattle.task_model.specs.Setting.{Setting}
 use Rattle.normal_model.specs.Names.{variable_text, member_texts, with_members, with_variables, normal_names, id_of, variable_name}
@@ -27,11 +25,11 @@ interned-begins ts t = by_test (list_any (bytes_eq t) ts)
     by_test true = begins-refl ts
     by_test false = begins-more ts (t ∷ [])
 
-fold-begins : (new ts : List (List ℕ)) → Begins ts (fold interned ts new)
+pub fold-begins : (new ts : List (List ℕ)) → Begins ts (fold interned ts new)
 fold-begins [] ts = begins-refl ts
 fold-begins (t ∷ new) ts = begins-trans (interned-begins ts t) (fold-begins new (interned ts t))
 
-variables-begin : (ts : List (List ℕ)) (n : ℕ) → Begins ts (with_variables ts n)
+pub variables-begin : (ts : List (List ℕ)) (n : ℕ) → Begins ts (with_variables ts n)
 variables-begin ts zero = begins-refl ts
 variables-begin ts (suc n) = begins-trans (variables-begin ts n) (interned-begins (with_variables ts n) (variable_text n))
 
@@ -59,7 +57,7 @@ any-last : {A : Type 0} (p : A → Bool) (xs : List A) (y : A) → p y ≡ true 
 any-last p [] y e = ap (λ b. b || false) e
 any-last p (x ∷ xs) y e = or_right (p x) (list_any p (xs ++ y ∷ [])) (any-last p xs y e)
 
-interned-has : (ts : List (List ℕ)) (t : List ℕ) → list_any (bytes_eq t) (interned ts t) ≡ true
+pub interned-has : (ts : List (List ℕ)) (t : List ℕ) → list_any (bytes_eq t) (interned ts t) ≡ true
 interned-has ts t = by_test (list_any (bytes_eq t) ts) refl
   where
     by_test : (b : Bool) → list_any (bytes_eq t) ts ≡ b → list_any (bytes_eq t) (if b then ts else ts ++ t ∷ []) ≡ true
@@ -67,12 +65,12 @@ interned-has ts t = by_test (list_any (bytes_eq t) ts) refl
     by_test false e = any-last (bytes_eq t) ts t ((bytes_eq-Decides t t).1 refl)
 
 -- the place of a text has that text
-record IsPlace (ts : List (List ℕ)) (t : List ℕ) : Type 0 where
-  at : ℕ
-  position_is : position (bytes_eq t) ts ≡ Some at
-  there : slice_get ts at ≡ Some t
+pub record IsPlace (ts : List (List ℕ)) (t : List ℕ) : Type 0 where
+  pub at : ℕ
+  pub position_is : position (bytes_eq t) ts ≡ Some at
+  pub there : slice_get ts at ≡ Some t
 
-text-place : (ts : List (List ℕ)) (t : List ℕ) → list_any (bytes_eq t) ts ≡ true → IsPlace ts t
+pub text-place : (ts : List (List ℕ)) (t : List ℕ) → list_any (bytes_eq t) ts ≡ true → IsPlace ts t
 text-place ts t e =
     let f = any-found (bytes_eq t) ts e in
     let there = sym (find_at (bytes_eq t) ts) ∙ f.found in

@@ -1,27 +1,24 @@
 -- The tables and the objects of a program and of its normal form.
-use Rattle.std.proofs.Common.{◌≡◌, ℕ, Bool, true, false, List, [], ◌∷◌, ◌++◌, length, map, replicate, flat_map, is_some, Option, Some, None, refl, sym, ap, ap₂, ◌∙◌, subst}
+use Rattle.std.proofs.Common.{◌≡◌, Bool, true, false, List, [], ◌∷◌, ◌++◌, replicate, flat_map, is_some, Some, None, refl, sym, ap, ◌∙◌, subst}
 use Rattle.std.specs.List.{AllByRecursion}
 use Rattle.ada_tree.specs.declared.naming.Word.{Word}
 use Rattle.ada_tree.specs.TypeTable.{TypeTable}
-use Rattle.ada_tree.specs.PlainExpr.{PSubind}
 use Rattle.ada_tree.specs.PlainDecl.{OPlain, PTask, PDecl, DNumber, DObject, DEnumeration, DArray, DSubtype, DException, DIntIo, DPragma, DTask, DTaskBody, PDecls, no_decl, decl_then, decls_of}
-use Rattle.ada_tree.specs.PlainProgram.{PProgram}
-use Rattle.ada_tree.specs.Every.{Rules, EveryDecl, EveryDecls}
+use Rattle.ada_tree.specs.Every.{Rules, EveryDecls}
 use Rattle.ada_tree.specs.Scope.{Scope}
 use Rattle.ada_tree.specs.Declaring.{first_scope, after_decl, after_decls}
 use Rattle.ada_tree.specs.Refusals.{types_in}
-use Rattle.syn_event.specs.Numbering.{Numbering}
 use Rattle.syn_event.specs.Units.{decl_list}
 use Rattle.syn_event.specs.TaskParts.{type_named, with_type}
 use Rattle.ada_value.specs.declared.values.Form.{Form}
 use Rattle.ada_value.specs.Values.{lower, limits_named}
 use Rattle.ada_value.specs.Variables.{Variables, object_with}
 use Rattle.task_model.specs.Setting.{Setting}
-use Rattle.task_model.specs.Starting.{value_count, form_of, declared_objects, after_declaration, objects_of}
+use Rattle.task_model.specs.Starting.{value_count, declared_objects, after_declaration, objects_of}
 use Rattle.normal_model.specs.Names.{variable_name}
 use Rattle.normal_model.specs.Ranges.{word_at, marked}
-use Rattle.normal_model.specs.NormalTree.{mark_of, unless_left, decls_front, first_decls, tasks_beside, task_declared, bodies_of, main_unit, main_variables, variables_needed, normal_decls, normal_tree}
-use Rattle.rewritten_types.specs.Agreement.{Rooted, Agrees}
+use Rattle.normal_model.specs.NormalTree.{mark_of, unless_left, decls_front, first_decls, tasks_beside, task_declared, bodies_of, main_unit, main_variables, variables_needed, normal_tree}
+use Rattle.rewritten_types.specs.Agreement.{Rooted}
 use Rattle.rewritten_types.specs.Rewriting.{IsAdded, AreAdded}
 use Rattle.rewritten_types.specs.Laws.{behind}
 use Rattle.rewritten_types.proofs.Lookups.{all-append, all-weaker}
@@ -33,7 +30,7 @@ use Rattle.rewritten_values.proofs.Named.{literals_are_named}
 use Rattle.rewritten_values.proofs.Objects.{unit-alike, form-alike, marked_has_form}
 use Rattle.rewritten_values.proofs.Staying.{objects_stay}
 use Rattle.normal_types.specs.Own.{own_name}
-use Rattle.normal_types.specs.Laws.{IsOrdered, setting_of, NormalIsRooted, NormalAgrees, NormalValues, AreOwn, MainObjects, BodyObjects, VariableIsObject}
+use Rattle.normal_types.specs.Laws.{setting_of, NormalIsRooted, NormalAgrees, NormalValues, MainObjects, BodyObjects, VariableIsObject}
 use Rattle.normal_types.proofs.Names.{names-begin, added_names_are_new}
 use Rattle.normal_types.proofs.Variables.{IsTaskOrBody, are-added, task-added, tasks-only, bodies-only, unit-new}
 use Rattle.normal_types.proofs.Fronts.{first_decls_are_front}
@@ -41,7 +38,7 @@ use Rattle.normal_types.proofs.Fronts.{first_decls_are_front}
 -- ---- tables
 
 -- declarations one behind the other
-front-after : (ds rest : PDecls) (s : Scope) → after_decls s (decls_front ds rest) ≡ after_decls (after_decls s ds) rest
+pub front-after : (ds rest : PDecls) (s : Scope) → after_decls s (decls_front ds rest) ≡ after_decls (after_decls s ds) rest
 front-after no_decl rest s = refl
 front-after (decl_then d ds) rest s = front-after ds rest (after_decl s d)
 
@@ -101,7 +98,7 @@ no-objects T in_main [] vars h = refl
 no-objects T in_main (x ∷ xs) vars h = ap (objects_of T in_main (decls_of xs)) (no-object T in_main x vars h.0) ∙ no-objects T in_main xs vars h.1
 
 -- what holds of all declarations holds of the first ones
-first-every : (rules : Rules) (ds : PDecls) (kinds : List PTask) → EveryDecls rules ds → EveryDecls rules (first_decls kinds ds)
+pub first-every : (rules : Rules) (ds : PDecls) (kinds : List PTask) → EveryDecls rules ds → EveryDecls rules (first_decls kinds ds)
 first-every rules no_decl kinds h = tt
 first-every rules (decl_then (DTask t s) rest) kinds h = first-every rules rest (with_type kinds t.of_kind t) h.1
 first-every rules (decl_then (DTaskBody w objects its s) rest) kinds h = first-every rules rest kinds h.1

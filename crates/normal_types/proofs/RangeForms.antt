@@ -1,13 +1,11 @@
 -- A variable for the values of a range has the range's bounds.
-use Rattle.std.proofs.Common.{◌≡◌, ℕ, ◌==◌, Bool, true, false, if◌then◌else◌, List, [], ◌∷◌, find, is_some, unwrap_or, Option, Some, None, Result, Ok, Err, is_ok, refl, sym, ap, ap₂, ◌∙◌, subst, true≢false}
+use Rattle.std.proofs.Common.{◌≡◌, ℕ, ◌==◌, Bool, true, false, if◌then◌else◌, List, [], ◌∷◌, find, unwrap_or, Option, Some, None, Result, Ok, Err, is_ok, refl, sym, ap, ◌∙◌, true≢false}
 use Rattle.std.proofs.lemmas.Bool.{eqb-true}
 use Rattle.std.proofs.lemmas.Option.{none-some}
-use Rattle.ada_tree.specs.declared.naming.NameId.{NameId}
 use Rattle.ada_tree.specs.declared.naming.Span.{Span}
-use Rattle.ada_tree.specs.declared.static_types.Kind.{Kind}
 use Rattle.ada_tree.specs.declared.static_types.Mark.{Mark}
 use Rattle.ada_tree.specs.TypeTable.{TypeTable}
-use Rattle.ada_tree.specs.PlainExpr.{PBounds, PSubind, PDrange, RGiven, RMarked}
+use Rattle.ada_tree.specs.PlainExpr.{PBounds, PSubind, RGiven, RMarked}
 use Rattle.ada_tree.specs.PlainDecl.{OPlain}
 use Rattle.ada_tree.specs.Refusals.{types_in}
 use Rattle.ada_tree.specs.Scope.{kind_at, and_then}
@@ -16,10 +14,10 @@ use Rattle.ada_value.specs.declared.values.Raised.{Raised}
 use Rattle.ada_value.specs.declared.values.Limits.{Limits}
 use Rattle.ada_value.specs.Values as values
 use Rattle.ada_value.specs.Values.{limits_of, limits_or, limits_named}
-use Rattle.ada_value.specs.Evaluating.{bounds_of, narrowed, range_of}
-use Rattle.task_model.specs.Starting.{known_range, indicated, marked_form, plain_form, form_of}
+use Rattle.ada_value.specs.Evaluating.{bounds_of, narrowed}
+use Rattle.task_model.specs.Starting.{known_range, marked_form, plain_form, form_of}
 use Rattle.normal_model.specs.Ranges.{word_at, kind_name, range_subtype}
-use Rattle.rewritten_types.specs.Agreement.{IsScalar, mark_of_kind, scalar_only}
+use Rattle.rewritten_types.specs.Agreement.{IsScalar, scalar_only}
 use Rattle.rewritten_types.specs.Laws.{IsNamedKind}
 use Rattle.rewritten_types.proofs.Lookups.{some-same}
 use Rattle.rewritten_types.proofs.Refused.{declared_once}

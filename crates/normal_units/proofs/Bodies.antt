@@ -29,11 +29,11 @@ use Rattle.normal_units.proofs.Tasks.{Tell, tell-at, tasks_keep_numbers}
 -- ---- what is passed over
 
 -- no body
-abbrev IsNoBody : PDecl → Type 0
+abbrev pub IsNoBody : PDecl → Type 0
 IsNoBody (DTaskBody w objects its s) = ⊥
 IsNoBody _ = Prim.Unit {0}
 
-skip-one : (d : PDecl) (rest : PDecls) (n : NameId) → IsNoBody d → unit_among (decl_then d rest) n ≡ unit_among rest n
+pub skip-one : (d : PDecl) (rest : PDecls) (n : NameId) → IsNoBody d → unit_among (decl_then d rest) n ≡ unit_among rest n
 skip-one (DTaskBody w objects its s) rest n h = absurd h
 skip-one (DTask t s) rest n h = refl
 skip-one (DNumber w e s) rest n h = refl
@@ -45,7 +45,7 @@ skip-one (DException ws s) rest n h = refl
 skip-one (DIntIo w s) rest n h = refl
 skip-one (DPragma e s) rest n h = refl
 
-skip-list : (xs ys : List PDecl) (n : NameId) → AllByRecursion IsNoBody xs → unit_among (decls_of (xs ++ ys)) n ≡ unit_among (decls_of ys) n
+pub skip-list : (xs ys : List PDecl) (n : NameId) → AllByRecursion IsNoBody xs → unit_among (decls_of (xs ++ ys)) n ≡ unit_among (decls_of ys) n
 skip-list [] ys n h = refl
 skip-list (x ∷ xs) ys n h = skip-one x (decls_of (xs ++ ys)) n h.0 ∙ skip-list xs ys n h.1
 

@@ -27,13 +27,13 @@ use Rattle.normal_types.proofs.Fronts.{task-taken}
 use Rattle.normal_units.specs.Laws.{count_named, UnitsAreDeclared}
 
 -- the test of a name
-abbrev has_name : NameId → PTask → Bool
+abbrev pub has_name : NameId → PTask → Bool
 has_name id t = t.name.name.0 == id.0
 
 -- ---- once
 
 -- the tasks of a name among declarations
-abbrev named_in : NameId → PDecls → List PTask
+abbrev pub named_in : NameId → PDecls → List PTask
 named_in id ds = filter (has_name id) (tasks_in (decl_list ds))
 
 -- no task has a name that is taken
@@ -53,7 +53,7 @@ none-more (decl_then (DIntIo w sp) rest) s id taken once = none-more rest _ id (
 none-more (decl_then (DPragma e sp) rest) s id taken once = none-more rest _ id (taken-decl (DPragma e sp) s id tt taken) once.1
 
 -- a task that is declared is declared once
-one-there : (ds : PDecls) (s : Scope) (id : NameId) → DeclareOnce s ds → list_any (has_name id) (tasks_in (decl_list ds)) ≡ true → length (named_in id ds) ≡ 1
+pub one-there : (ds : PDecls) (s : Scope) (id : NameId) → DeclareOnce s ds → list_any (has_name id) (tasks_in (decl_list ds)) ≡ true → length (named_in id ds) ≡ 1
 one-there no_decl s id once there = absurd (true≢false (sym there))
 one-there (decl_then (DTask t sp) rest) s id once there = by_test (t.name.name.0 == id.0) refl there (λ any. one-there rest (after_decl s (DTask t sp)) id once.1 any)
   where
@@ -75,7 +75,7 @@ one-there (decl_then (DPragma e sp) rest) s id once there = one-there rest _ id 
 -- ---- there
 
 -- each of a list has a name that one of them has
-each-there : (xs : List PTask) → AllByRecursion (λ (t : PTask). list_any (has_name t.name.name) xs ≡ true) xs
+pub each-there : (xs : List PTask) → AllByRecursion (λ (t : PTask). list_any (has_name t.name.name) xs ≡ true) xs
 each-there [] = tt
 each-there (x ∷ xs) = (
   or_left (x.name.name.0 == x.name.name.0) (list_any (has_name x.name.name) xs) (eq-eqb x.name.name.0 x.name.name.0 refl),
@@ -103,7 +103,7 @@ module _ (Q : PTask → Type 0) where
   type-all true t kinds h k = (h, k)
   type-all false t kinds h k = k
 
-  parts-all : (ds : PDecls) (kinds : List PTask) → AllByRecursion Q kinds → AllByRecursion Q (tasks_in (decl_list ds)) → AllByRecursion (λ (x : TaskPart). Q x.unit) (parts_in kinds ds)
+  pub parts-all : (ds : PDecls) (kinds : List PTask) → AllByRecursion Q kinds → AllByRecursion Q (tasks_in (decl_list ds)) → AllByRecursion (λ (x : TaskPart). Q x.unit) (parts_in kinds ds)
   parts-all no_decl kinds k h = tt
   parts-all (decl_then (DTask t sp) rest) kinds k h =
       all-append (λ (x : TaskPart). Q x.unit) (single_part t.of_kind t sp) _ (single-all t.of_kind t sp h.0) (parts-all rest (with_type kinds t.of_kind t) (type-all t.of_kind t kinds h.0 k) h.1)
@@ -121,7 +121,7 @@ module _ (Q : PTask → Type 0) where
   row-all types x (Some r) h = all-mapped (λ (y : Seat). Q y.unit) (λ i. seat x (Some i)) (λ i. h) (indices (extent types r))
   row-all types x None h = (h, tt)
 
-  seats-all : (types : TypeTable) (xs : List TaskPart) → AllByRecursion (λ (x : TaskPart). Q x.unit) xs → AllByRecursion (λ (y : Seat). Q y.unit) (flat_map (seats_of types) xs)
+  pub seats-all : (types : TypeTable) (xs : List TaskPart) → AllByRecursion (λ (x : TaskPart). Q x.unit) xs → AllByRecursion (λ (y : Seat). Q y.unit) (flat_map (seats_of types) xs)
   seats-all types [] h = tt
   seats-all types (x ∷ xs) h = all-append (λ (y : Seat). Q y.unit) (seats_of types x) _ (row-all types x x.row h.0) (seats-all types xs h.1)
 

@@ -24,11 +24,11 @@ use Rattle.normal_units.specs.Laws.{count_named, TellUnits, numbers_made, TasksK
 -- ---- lists of declarations
 
 -- no task
-abbrev IsNoTask : PDecl → Type 0
+abbrev pub IsNoTask : PDecl → Type 0
 IsNoTask (DTask t s) = ⊥
 IsNoTask _ = Unit {0}
 
-no-tasks : (xs : List PDecl) → AllByRecursion IsNoTask xs → tasks_in xs ≡ []
+pub no-tasks : (xs : List PDecl) → AllByRecursion IsNoTask xs → tasks_in xs ≡ []
 no-tasks [] h = refl
 no-tasks (DTask t s ∷ xs) h = absurd h.0
 no-tasks (DTaskBody w ds b s ∷ xs) h = no-tasks xs h.1
@@ -41,7 +41,7 @@ no-tasks (DException ws s ∷ xs) h = no-tasks xs h.1
 no-tasks (DIntIo w s ∷ xs) h = no-tasks xs h.1
 no-tasks (DPragma e s ∷ xs) h = no-tasks xs h.1
 
-tasks-joined : (xs ys : List PDecl) → tasks_in (xs ++ ys) ≡ tasks_in xs ++ tasks_in ys
+pub tasks-joined : (xs ys : List PDecl) → tasks_in (xs ++ ys) ≡ tasks_in xs ++ tasks_in ys
 tasks-joined [] ys = refl
 tasks-joined (DTask t s ∷ xs) ys = ap (λ l. t ∷ l) (tasks-joined xs ys)
 tasks-joined (DTaskBody w ds b s ∷ xs) ys = tasks-joined xs ys
@@ -54,16 +54,16 @@ tasks-joined (DException ws s ∷ xs) ys = tasks-joined xs ys
 tasks-joined (DIntIo w s ∷ xs) ys = tasks-joined xs ys
 tasks-joined (DPragma e s ∷ xs) ys = tasks-joined xs ys
 
-list-front : (ds rest : PDecls) → decl_list (decls_front ds rest) ≡ decl_list ds ++ decl_list rest
+pub list-front : (ds rest : PDecls) → decl_list (decls_front ds rest) ≡ decl_list ds ++ decl_list rest
 list-front no_decl rest = refl
 list-front (decl_then d ds) rest = ap (λ l. d ∷ l) (list-front ds rest)
 
-list-of : (xs : List PDecl) → decl_list (decls_of xs) ≡ xs
+pub list-of : (xs : List PDecl) → decl_list (decls_of xs) ≡ xs
 list-of [] = refl
 list-of (x ∷ xs) = ap (λ l. x ∷ l) (list-of xs)
 
 -- the first declarations are no tasks
-first-no-task : (ds : PDecls) (kinds : List PTask) → AllByRecursion IsNoTask (decl_list (first_decls kinds ds))
+pub first-no-task : (ds : PDecls) (kinds : List PTask) → AllByRecursion IsNoTask (decl_list (first_decls kinds ds))
 first-no-task no_decl kinds = tt
 first-no-task (decl_then (DTask t s) rest) kinds = first-no-task rest (with_type kinds t.of_kind t)
 first-no-task (decl_then (DTaskBody w ds b s) rest) kinds = first-no-task rest kinds
@@ -95,11 +95,11 @@ copies-no-task g (DPragma e s) = tt
 -- ---- the tasks
 
 -- the test of a name
-abbrev has_name : NameId → PTask → Bool
+abbrev pub has_name : NameId → PTask → Bool
 has_name id t = t.name.name.0 == id.0
 
 -- the tasks that are declared for one task: one for each of its unit's name
-abbrev tasks_made : Setting → TaskInfo → List PTask
+abbrev pub tasks_made : Setting → TaskInfo → List PTask
 tasks_made g info = map (task_under (task_name g info)) (filter (has_name info.unit) (tasks_of g.program))
 
 under-tasks : (unit name : NameId) (ds : List PDecl) → tasks_in (flat_map (declared_under unit name) ds) ≡ map (task_under name) (filter (has_name unit) (tasks_in ds))
@@ -120,7 +120,7 @@ under-tasks unit name (DException ws s ∷ ds) = under-tasks unit name ds
 under-tasks unit name (DIntIo w s ∷ ds) = under-tasks unit name ds
 under-tasks unit name (DPragma e s ∷ ds) = under-tasks unit name ds
 
-made-tasks : (g : Setting) (infos : List TaskInfo) → tasks_in (flat_map (task_declared g) infos) ≡ flat_map (tasks_made g) infos
+pub made-tasks : (g : Setting) (infos : List TaskInfo) → tasks_in (flat_map (task_declared g) infos) ≡ flat_map (tasks_made g) infos
 made-tasks g [] = refl
 made-tasks g (info ∷ infos) =
     tasks-joined (task_declared g info) (flat_map (task_declared g) infos)
@@ -128,7 +128,7 @@ made-tasks g (info ∷ infos) =
 
 module _ (p : PProgram) (types : TypeTable) (numbers : Numbering) where
   -- the tasks of the normal form
-  tasks-of : tasks_of (normal_tree p types numbers) ≡ flat_map (tasks_made (setting_of p types numbers)) (tasks_beside (setting_of p types numbers))
+  pub tasks-of : tasks_of (normal_tree p types numbers) ≡ flat_map (tasks_made (setting_of p types numbers)) (tasks_beside (setting_of p types numbers))
   tasks-of =
       let s = setting_of p types numbers in
       let vars = main_variables s in

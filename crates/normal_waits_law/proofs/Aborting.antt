@@ -37,13 +37,13 @@ use Rattle.normal_law.specs.NormalRows.{Begin, behind_stmt, Normal, normal_then,
 use Rattle.normal_law.specs.NormalFloors.{normal}
 use Rattle.normal_law.specs.Preludes.{Added, AreThere, due_before, old_no_due}
 use Rattle.normal_law.specs.Declared.{AreDeclared, HaveSubtypes, subtype_then, dues_of}
-use Rattle.normal_law.specs.Met.{AbortMet, at_raise, at_abort, Comes}
+use Rattle.normal_law.specs.inner.Met.{AbortMet, at_raise, at_abort, Comes}
 use Rattle.normal_law.proofs.Rows.{normal-images}
 use Rattle.normal_law.proofs.Floors.{normal-translates}
 use Rattle.normal_law.proofs.Declared.{begun-subtypes, subtypes-fit, kept-length}
 use Rattle.normal_callees_law.specs.Callees.{MeetsCallee, meets_task, meets_raise, chosen_with, the_chosen}
 use Rattle.normal_callees_law.proofs.Choosing.{callee-comes}
-use Rattle.normal_waits_law.proofs.Recursion.{declared-length}
+use Rattle.normal_waits_law.proofs.Alternatives.{declared-length}
 
 declared-append : (g : Setting) (s : Span) (xs ys : List PSubind) (k : ℕ) → variables_declared g s (xs ++ ys) k ≡ variables_declared g s xs k ++ variables_declared g s ys (k + length xs)
 declared-append g s [] ys k = let e : k ≡ k + 0 = omega arith in ap (variables_declared g s ys) e

@@ -17,8 +17,7 @@ use Rattle.task_model.specs.Setting.{Setting}
 use Rattle.task_model.specs.Waits.{Open, accept_choice, is_shorter, delay_choice, terminate_choice, else_choice, choices_of, accepts_member}
 use Rattle.normal_model.specs.Waits.{not_held, none_held}
 use Rattle.normal_law.specs.Suited.{Rewritten}
-use Rattle.normal_waits_law.proofs.Alternatives.{OpenAlike, accepts_alike, delays_alike, terminate_alike, MaybeOpen, none_open, some_open, OpensAlike, no_opens, open_more}
-use Rattle.normal_waits_law.proofs.Recursion.{AreTold, none_told, open_told, closed_told}
+use Rattle.normal_waits_law.proofs.Alternatives.{OpenAlike, accepts_alike, delays_alike, terminate_alike, MaybeOpen, none_open, some_open, OpensAlike, no_opens, open_more, AreTold, none_told, open_told, closed_told}
 
 module _ (w : Rewritten) where
   one-accept : {op op' : Open} → OpenAlike w op op' → accept_choice op ≡ accept_choice op'

@@ -39,7 +39,7 @@ use Rattle.normal_law.specs.NormalFloors.{normal}
 use Rattle.normal_law.specs.Meetings.{none_named, AreValues, are_before}
 use Rattle.normal_law.specs.Preludes.{reaches_here, Added, AreThere}
 use Rattle.normal_law.specs.Declared.{AreDeclared}
-use Rattle.normal_law.specs.Met.{Meets, at_raise, at_wait, Comes}
+use Rattle.normal_law.specs.inner.Met.{Meets, at_raise, at_wait, Comes}
 use Rattle.normal_law.proofs.Rows.{part-begins, walked, normal-images}
 use Rattle.normal_law.proofs.Floors.{normal-translates}
 use Rattle.normal_law.proofs.Meetings.{body-opens, accept-opens}
@@ -48,8 +48,7 @@ use Rattle.normal_law.proofs.Declared.{begun-subtypes}
 use Rattle.normal_law.proofs.Static.{entry-named}
 use Rattle.normal_callees_law.proofs.Choosing.{reaches-behind}
 use Rattle.normal_waits_law.proofs.Indexes.{MeetsIndex, index_made, index_raises}
-use Rattle.normal_waits_law.proofs.Alternatives.{accepts_alike, delays_alike, terminate_alike, MaybeOpen, none_open, some_open, OpensAlike, no_opens, open_more, row-behind, maybe-image, head-comes}
-use Rattle.normal_waits_law.proofs.Recursion.{AreTold, MeetsAlts, alts_made, alts_raise, alts-comes}
+use Rattle.normal_waits_law.proofs.Alternatives.{accepts_alike, delays_alike, terminate_alike, MaybeOpen, none_open, some_open, OpensAlike, no_opens, open_more, row-behind, maybe-image, head-comes, AreTold, MeetsAlts, alts_made, alts_raise, alts-comes}
 use Rattle.normal_waits_law.proofs.Choices.{choices-alike, find-alike, all_closed, truth-of, closed-told}
 
 module _ (w : Rewritten) (made : AreMade w.programs) (added : Added w.programs w.programs.original) (declared : AreDeclared w added) (m : ℕ) (number : m ≡ w.number) (i : List ℤ) (out : List ℕ)

@@ -42,11 +42,14 @@ impl Page {
         }
     }
 
-    // What waits is written.
+    // What waits is written. Nothing is put where nothing waits.
     fn flush<K: Sink>(&mut self, out: &mut K)
         ensures drew { Drew (over self.old (K.told out.old) (K.faults out.old)) (over self.new (K.told out.new) (K.faults out.new)) [] }
         ensures empty { self.new.waiting ≡ [] }
     {
+        if self.filled == 0 {
+            return;
+        }
         if self.failed {
             self.filled = 0;
             return;

@@ -12,7 +12,7 @@ use Rattle.event_machine.specs.Worlds.{World, Happen, happens, acted, moved, abo
 use Rattle.replay_law.specs.Permits.{ToAbort, Op, Go, Done, Join, Hold}
 use Rattle.replay_law.specs.Copies.{Copy, Holding, Saying, copy_raised, copy_did, ops_offer, under, is_own}
 use Rattle.replay_law.specs.Rewritings.{Setting, control, idle, twin}
-use Rattle.replay_law.specs.Stages.{image, image_of, image_world, free_of, Stage, Giving, Acted, Parted, Away, Says, place, AwayAt, SeatAt, Inv}
+use Rattle.replay_law.specs.inner.Stages.{image, image_of, image_world, free_of, Stage, Giving, Acted, Parted, Away, Says, place, AwayAt, SeatAt, Inv}
 use Rattle.replay_law.proofs.Facts.{put, put_each, put_other, put_self, offers_at, above_apart, is_below, let_go, let_go_other}
 use Rattle.replay_law.proofs.Images.{image_at, image_put, image_freed, image_let_go}
 use Rattle.replay_law.proofs.Voices.{aborts_by}

@@ -8,7 +8,7 @@ use Rattle.replay_law.specs.Permits.{Permit, permit_of, Op}
 use Rattle.replay_law.specs.Scripts.{closing, takers}
 use Rattle.replay_law.specs.Copies.{Copy, Controlling}
 use Rattle.replay_law.specs.Rewritings.{Setting, control, idle, left}
-use Rattle.replay_law.specs.Stages.{image, image_world, IsReached, Stage, Held, Giving, Asked, Acted, Told, Parted, Over, Away, Asks, Holds, Says, Hears, Gone, place, member, in_order, SeatAt, Commands, ControlAt, behind_event, Fits, Inv}
+use Rattle.replay_law.specs.inner.Stages.{image, image_world, IsReached, Stage, Held, Giving, Asked, Acted, Told, Parted, Over, Away, Asks, Holds, Says, Hears, Gone, place, member, in_order, SeatAt, Commands, ControlAt, behind_event, Fits, Inv}
 use Rattle.replay_law.proofs.Reached.{after_all, known_snoc, reach_event}
 
 -- Behind these events some stage holds.

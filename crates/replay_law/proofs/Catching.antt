@@ -14,7 +14,7 @@ use Rattle.event_machine.proofs.Appends.{moves_append, world_append, happened_ap
 use Rattle.replay_law.specs.Copies.{Copy, copy_ops, copy_steps, copy_stepped, copy_offer}
 use Rattle.replay_law.specs.Rewritings.{Setting, twin, ReachesIn, Reaches, Imitates}
 use Rattle.replay_law.specs.Laws.{backs}
-use Rattle.replay_law.specs.Stages.{Stage, Inv}
+use Rattle.replay_law.specs.inner.Stages.{Stage, Inv}
 use Rattle.replay_law.proofs.Facts.{put, put_self, put_other}
 use Rattle.replay_law.proofs.Matching.{match_move, event_moves}
 use Rattle.replay_law.proofs.Twins.{copy_rests}

@@ -11,7 +11,7 @@ use Rattle.event_machine.proofs.Basics.{both, false_not}
 use Rattle.replay_law.specs.Permits.{ToEnd, Op, Go, Done, Join, Hold}
 use Rattle.replay_law.specs.Copies.{Copy, Holding, Controlling, Handing, ops_offer, is_own}
 use Rattle.replay_law.specs.Rewritings.{Setting, control, idle, left, twin}
-use Rattle.replay_law.specs.Stages.{image, Stage, Held, Giving, Asked, Acted, Told, Parted, Over, Away, place, SeatAt, Inv}
+use Rattle.replay_law.specs.inner.Stages.{image, Stage, Held, Giving, Asked, Acted, Told, Parted, Over, Away, place, SeatAt, Inv}
 use Rattle.replay_law.proofs.Facts.{put, put_each, put_other, put_self, offers_at, above_apart, below_apart, is_beyond}
 use Rattle.replay_law.proofs.Images.{image_stand, image_beyond}
 use Rattle.replay_law.proofs.Voices.{ends_by}

@@ -15,7 +15,7 @@ use Rattle.replay_law.specs.Scripts.{takers, grants}
 use Rattle.replay_law.specs.Copies.{Copy, Holding, Controlling, Handing, copy_raised, ops_offer}
 use Rattle.replay_law.specs.Rewritings.{Setting, control, idle, left, twin}
 use Rattle.replay_law.specs.Laws.{at_entry, stands_for}
-use Rattle.replay_law.specs.Stages.{image, image_world, Stage, Held, Giving, Asked, Acted, Told, Parted, Over, Away, Holds, place, member, in_order, SeatAt, ControlAt, behind_event, Inv}
+use Rattle.replay_law.specs.inner.Stages.{image, image_world, Stage, Held, Giving, Asked, Acted, Told, Parted, Over, Away, Holds, place, member, in_order, SeatAt, ControlAt, behind_event, Inv}
 use Rattle.replay_law.proofs.Facts.{put, put_other, put_self, offers_at, above_apart, below_apart}
 use Rattle.replay_law.proofs.Images.{image_beyond, past_completed}
 use Rattle.replay_law.proofs.Voices.{CallsBy, MeetCall, ElseCall, ExpireCall, FailCall, calls_by}

@@ -21,7 +21,7 @@ use Rattle.replay_law.specs.Scripts.{takers}
 use Rattle.replay_law.specs.Copies.{Copy, Holding, Controlling, Idling, shows, held_offer}
 use Rattle.replay_law.specs.Rewritings.{Setting, control, idle, twin}
 use Rattle.replay_law.specs.Laws.{back, backs, at_entry, stands_for}
-use Rattle.replay_law.specs.Stages.{image, image_world, free_of, Giving, Away, Holds, place, member, SeatAt, Inv}
+use Rattle.replay_law.specs.inner.Stages.{image, image_world, free_of, Giving, Away, Holds, place, member, SeatAt, Inv}
 use Rattle.replay_law.proofs.Facts.{put, put_other, put_self, offers_at, above_apart, below_apart, is_below, is_beyond}
 use Rattle.replay_law.proofs.Images.{image_at, image_beyond}
 use Rattle.replay_law.proofs.Reached.{after_all, reached_sound}

@@ -17,7 +17,7 @@ use Rattle.event_machine.proofs.Extending.{extend, feasible_before}
 use Rattle.replay_law.specs.Copies.{Copy}
 use Rattle.replay_law.specs.Rewritings.{Setting, start, twin}
 use Rattle.replay_law.specs.Laws.{backs}
-use Rattle.replay_law.specs.Stages.{image, image_world, Stage, Held, Giving, Asked, Acted, Told, Parted, Over, member, in_order, Inv}
+use Rattle.replay_law.specs.inner.Stages.{image, image_world, Stage, Held, Giving, Asked, Acted, Told, Parted, Over, member, in_order, Inv}
 use Rattle.replay_law.proofs.Reached.{base, reached_complete}
 use Rattle.replay_law.proofs.Afterwards.{Matched}
 use Rattle.replay_law.proofs.Parting.{IsReady}

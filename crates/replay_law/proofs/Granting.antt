@@ -16,7 +16,7 @@ use Rattle.replay_law.specs.Permits.{permit_of}
 use Rattle.replay_law.specs.Scripts.{takers, is_other}
 use Rattle.replay_law.specs.Copies.{Copy, Based}
 use Rattle.replay_law.specs.Rewritings.{Setting, control, twin}
-use Rattle.replay_law.specs.Stages.{IsReached, image, image_seat, image_world, Giving, Asked, Away, Holds, member, in_order, SeatAt, Inv}
+use Rattle.replay_law.specs.inner.Stages.{IsReached, image, image_seat, image_world, Giving, Asked, Away, Holds, member, in_order, SeatAt, Inv}
 use Rattle.replay_law.proofs.Images.{image_at}
 use Rattle.replay_law.proofs.Reached.{after_all, reached_admitted, reached_others}
 use Rattle.replay_law.proofs.Failing.{live_below}

@@ -9,7 +9,7 @@ use Rattle.event_machine.proofs.Basics.{push_if}
 use Rattle.event_machine.specs.Worlds.{still}
 use Rattle.replay_law.specs.Copies.{Copy, under}
 use Rattle.replay_law.specs.Rewritings.{Setting, start, control}
-use Rattle.replay_law.specs.Stages.{free_of, image_seat, image_of, image}
+use Rattle.replay_law.specs.inner.Stages.{free_of, image_seat, image_of, image}
 use Rattle.replay_law.proofs.Facts.{is_below, is_beyond, below_apart, above_apart, put, let_go, let_go_other, let_go_served}
 
 module _ (x : Setting) where

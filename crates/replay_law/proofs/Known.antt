@@ -35,14 +35,6 @@ over_unserved (Served by abnormal) h = absurd (true≢false (sym h))
 over_unserved Completed h = refl
 over_unserved Killed h = refl
 
-unserved_by : (a : ℕ) (s : Standing) → is_served_by a s ≡ true → is_served s ≡ true
-unserved_by a Live h = absurd (true≢false (sym h))
-unserved_by a Waiting h = absurd (true≢false (sym h))
-unserved_by a Queued h = absurd (true≢false (sym h))
-unserved_by a (Served by abnormal) h = refl
-unserved_by a Completed h = absurd (true≢false (sym h))
-unserved_by a Killed h = absurd (true≢false (sym h))
-
 pub times_append : (t : ℕ) (xs ys : List ℕ) → times t (xs ++ ys) ≡ times t xs + times t ys
 times_append t [] ys = omega arith
 times_append t (x ∷ xs) ys = ap (λ n. (if x == t then 1 else 0) + n) (times_append t xs ys) ∙ shift (if x == t then 1 else 0) (times t xs) (times t ys)

@@ -12,7 +12,7 @@ use Rattle.event_machine.proofs.Basics.{both, equal_self}
 use Rattle.replay_law.specs.Permits.{Permit, ToClose, permit_of}
 use Rattle.replay_law.specs.Copies.{Copy, Holding, copy_ops}
 use Rattle.replay_law.specs.Rewritings.{Setting, control, twin}
-use Rattle.replay_law.specs.Stages.{image, image_world, free_of, Stage, Held, Giving, Asked, Acted, Told, Parted, Over, Away, Holds, place, member, ControlAt, behind_event, Fits, Inv}
+use Rattle.replay_law.specs.inner.Stages.{image, image_world, free_of, Stage, Held, Giving, Asked, Acted, Told, Parted, Over, Away, Holds, place, member, ControlAt, behind_event, Fits, Inv}
 use Rattle.replay_law.proofs.Facts.{offers_at}
 use Rattle.replay_law.proofs.Images.{image_at}
 use Rattle.replay_law.proofs.Voices.{ends_by, terminates_by}

@@ -13,7 +13,7 @@ use Rattle.event_machine.proofs.Updates.{freed_standing}
 use Rattle.replay_law.specs.Copies.{Copy, Based, copy_steps, copy_stepped, under}
 use Rattle.replay_law.specs.Rewritings.{Setting, control, idle, twin}
 use Rattle.replay_law.specs.Laws.{backs}
-use Rattle.replay_law.specs.Stages.{IsReached, image, image_world, Stage, Held, Giving, Asked, Acted, Told, Parted, Over, Place, Away, Asks, Holds, Says, Hears, Gone, place, AwayAt, SeatAt, ControlAt, Fits, Inv}
+use Rattle.replay_law.specs.inner.Stages.{IsReached, image, image_world, Stage, Held, Giving, Asked, Acted, Told, Parted, Over, Place, Away, Asks, Holds, Says, Hears, Gone, place, AwayAt, SeatAt, ControlAt, Fits, Inv}
 use Rattle.replay_law.proofs.Facts.{put, put_each, put_other, above_apart}
 use Rattle.replay_law.proofs.Images.{image_freed}
 use Rattle.replay_law.proofs.Reached.{after_all, reach_step}

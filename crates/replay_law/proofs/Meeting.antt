@@ -16,7 +16,7 @@ use Rattle.replay_law.specs.Scripts.{takers, grants}
 use Rattle.replay_law.specs.Copies.{Copy, Based, Holding, Saying, Controlling, Handing, Sort, AtOriginal, AtShadow, AtGo, AtDone, AtHold, AtJoin, AtNever, AtStop, AtRest, AtNothing, copy_accepted, ops_offer}
 use Rattle.replay_law.specs.Rewritings.{Setting, control, left, twin}
 use Rattle.replay_law.specs.Laws.{back, at_entry, stands_for}
-use Rattle.replay_law.specs.Stages.{image, image_seat, Stage, Held, Giving, Asked, Acted, Told, Parted, Over, Place, Away, Asks, Holds, Says, Hears, Gone, place, member, in_order, SeatAt, behind_event, Fits, Inv}
+use Rattle.replay_law.specs.inner.Stages.{image, image_seat, Stage, Held, Giving, Asked, Acted, Told, Parted, Over, Place, Away, Asks, Holds, Says, Hears, Gone, place, member, in_order, SeatAt, behind_event, Fits, Inv}
 use Rattle.replay_law.proofs.Facts.{put, put_each, put_other, offers_at, above_apart, below_apart}
 use Rattle.replay_law.proofs.Images.{image_put}
 use Rattle.replay_law.proofs.Voices.{CallsBy, MeetCall, ElseCall, ExpireCall, FailCall, calls_by, OpensBy, MeetOpens, NeverOpens, opens_by}
@@ -53,6 +53,19 @@ is_called (AtNever t) = false
 is_called AtStop = true
 is_called AtRest = false
 is_called AtNothing = true
+
+-- each entry is accepted or called
+pub both_not : (s : Sort) → is_accepted s ≡ false → is_called s ≡ false → ⊥
+both_not (AtOriginal f) a b = true≢false a
+both_not (AtShadow f) a b = true≢false b
+both_not AtGo a b = true≢false a
+both_not AtDone a b = true≢false a
+both_not AtHold a b = true≢false a
+both_not (AtJoin t) a b = true≢false b
+both_not (AtNever t) a b = true≢false a
+both_not AtStop a b = true≢false b
+both_not AtRest a b = true≢false a
+both_not AtNothing a b = true≢false b
 
 module _ (x : Setting) where
   -- the two tasks that have a permit
@@ -380,15 +393,3 @@ module _ (x : Setting) where
         go (CallsNobody k) (HearsOf t ops o q entry' index') = absurd (sort_clash e is_accepted AtDone (is_done entry') refl k)
         go (CallsNobody k) (Accepts f' l' m' at' pl' entry' opened) = absurd (sort_clash e is_accepted (AtOriginal f') (is_original f' entry') refl k)
         go (CallsNobody k) (AcceptsNobody q) = absurd (both_not (x.n.sort e) k q)
-          where
-            both_not : (s : Sort) → is_accepted s ≡ false → is_called s ≡ false → ⊥
-            both_not (AtOriginal f) a b = true≢false a
-            both_not (AtShadow f) a b = true≢false b
-            both_not AtGo a b = true≢false a
-            both_not AtDone a b = true≢false a
-            both_not AtHold a b = true≢false a
-            both_not (AtJoin t) a b = true≢false b
-            both_not (AtNever t) a b = true≢false a
-            both_not AtStop a b = true≢false b
-            both_not AtRest a b = true≢false a
-            both_not AtNothing a b = true≢false b

@@ -1,7 +1,7 @@
 -- The order of permits: who has one when an event comes.
 use Rattle.std.proofs.Common.{◌≡◌, ℕ, ◌+◌, true, false, ◌==◌, List, [], ◌∷◌, length, sym, ap, ◌∙◌, inl, inr, ◌⊎◌, ⊎_elim, true≢false, arith}
 use Rattle.std.proofs.lemmas.Bool.{eqb-true, or_cases}
-use Rattle.replay_law.specs.Stages.{member, in_order}
+use Rattle.replay_law.specs.inner.Stages.{member, in_order}
 
 pub order_length : (given more : List ℕ) → length (in_order given more) ≡ length given + length more
 order_length [] more = omega arith

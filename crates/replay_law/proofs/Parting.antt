@@ -18,7 +18,7 @@ use Rattle.replay_law.specs.Permits.{ToFinish, permit_of, Op, Go, Done, Join, Ho
 use Rattle.replay_law.specs.Scripts.{takers, grants}
 use Rattle.replay_law.specs.Copies.{Copy, Based, Holding, Saying, Controlling, Handing, copy_resumed, ops_offer, under, is_own}
 use Rattle.replay_law.specs.Rewritings.{Setting, control, idle, left, twin}
-use Rattle.replay_law.specs.Stages.{image, image_world, image_seat, Stage, Held, Giving, Asked, Acted, Told, Parted, Over, Away, Asks, Holds, Says, Hears, place, member, AwayAt, SeatAt, ControlAt, behind_event, Fits, Inv}
+use Rattle.replay_law.specs.inner.Stages.{image, image_world, image_seat, Stage, Held, Giving, Asked, Acted, Told, Parted, Over, Away, Asks, Holds, Says, Hears, place, member, AwayAt, SeatAt, ControlAt, behind_event, Fits, Inv}
 use Rattle.replay_law.proofs.Facts.{put, put_each, put_other, put_self, offers_at, above_apart, below_apart, is_beyond, let_go, let_go_served}
 use Rattle.replay_law.proofs.Images.{image_at, image_put, image_beyond, image_keeps, image_served, image_let_go, past_completed}
 use Rattle.replay_law.proofs.Voices.{finishes_by}

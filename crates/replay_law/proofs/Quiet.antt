@@ -21,7 +21,7 @@ use Rattle.event_machine.proofs.Determining.{determinacy, killed_by_events}
 use Rattle.replay_law.specs.Copies.{Copy, copy_steps}
 use Rattle.replay_law.specs.Rewritings.{Setting, start, control, twin, ReachesIn, Reaches, Imitates, OpensSo}
 use Rattle.replay_law.specs.Laws.{backs, shown, IsStuck, GoesOn, EndsQuiet, EndsWhole}
-use Rattle.replay_law.specs.Stages.{image, image_world, Stage, Held, Giving, Asked, Acted, Told, Parted, Over, Inv}
+use Rattle.replay_law.specs.inner.Stages.{image, image_world, Stage, Held, Giving, Asked, Acted, Told, Parted, Over, Inv}
 use Rattle.replay_law.proofs.Parting.{IsReady}
 use Rattle.replay_law.proofs.Failing.{live_below}
 use Rattle.replay_law.proofs.Steering.{tell, hear, take, join, steps_too}

@@ -12,7 +12,7 @@ use Rattle.event_machine.proofs.Walking.{sound_moves}
 use Rattle.event_machine.proofs.Reaching.{start_base}
 use Rattle.replay_law.specs.Scripts.{Progress, known, is_other}
 use Rattle.replay_law.specs.Rewritings.{Setting, start}
-use Rattle.replay_law.specs.Stages.{IsReached}
+use Rattle.replay_law.specs.inner.Stages.{IsReached}
 
 pub known_snoc : {G : Type 0} (progress : Progress G) (g : G) (past : List Event) (e : Event) →
     known progress g (past ++ (e ∷ [])) ≡ progress.advance (known progress g past) e

@@ -13,7 +13,7 @@ use Rattle.replay_law.specs.Scripts.{grants}
 use Rattle.replay_law.specs.Copies.{Copy, Based, Saying, Controlling, Handing, under}
 use Rattle.replay_law.specs.Rewritings.{Setting, control, idle, left, twin}
 use Rattle.replay_law.specs.Laws.{back}
-use Rattle.replay_law.specs.Stages.{image, image_seat, IsReached, Stage, Held, Giving, Asked, Acted, Told, Parted, Over, Away, Asks, Holds, Says, Hears, Gone, place, member, SeatAt, ControlAt, behind_event, Fits, Inv}
+use Rattle.replay_law.specs.inner.Stages.{image, image_seat, IsReached, Stage, Held, Giving, Asked, Acted, Told, Parted, Over, Away, Asks, Holds, Says, Hears, Gone, place, member, SeatAt, ControlAt, behind_event, Fits, Inv}
 use Rattle.replay_law.proofs.Facts.{put, put_each, put_other, put_self, above_apart, below_apart}
 use Rattle.replay_law.proofs.Images.{image_beyond, image_keeps}
 use Rattle.replay_law.proofs.Reached.{after_all}

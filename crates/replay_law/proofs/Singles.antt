@@ -20,7 +20,7 @@ use Rattle.replay_law.specs.Scripts.{closing, takers}
 use Rattle.replay_law.specs.Copies.{Copy, Holding, Saying, copy_did, ops_offer, under}
 use Rattle.replay_law.specs.Rewritings.{Setting, twin}
 use Rattle.replay_law.specs.Laws.{back, backs, unless_added, at_entry, stands_for}
-use Rattle.replay_law.specs.Stages.{image, image_world, image_seat, Stage, Giving, Acted, Away, Holds, Says, place, SeatAt, Inv}
+use Rattle.replay_law.specs.inner.Stages.{image, image_world, image_seat, Stage, Giving, Acted, Away, Holds, Says, place, SeatAt, Inv}
 use Rattle.replay_law.proofs.Facts.{put, put_each, put_other, offers_at, above_apart, is_below}
 use Rattle.replay_law.proofs.Images.{image_at, image_freed}
 use Rattle.replay_law.proofs.Voices.{CallsBy, MeetCall, ElseCall, ExpireCall, FailCall, calls_by, else_by, delay_by}

@@ -16,7 +16,7 @@ use Rattle.replay_law.specs.Permits.{Permit, Op, Hold, Go, Done, Join, wants, pe
 use Rattle.replay_law.specs.Copies.{Copy, Based, Holding, Saying, Controlling, Handing, shows, copy_ops, copy_offer, ops_offer}
 use Rattle.replay_law.specs.Rewritings.{Setting, control, idle, left}
 use Rattle.replay_law.specs.Scripts.{grants}
-use Rattle.replay_law.specs.Stages.{Stage, Held, Giving, Asked, Acted, Told, Parted, Over, Place, Away, Asks, Holds, Says, Hears, Gone, place, member, AwayAt, SeatAt, ControlAt, behind_event, Fits, Inv}
+use Rattle.replay_law.specs.inner.Stages.{Stage, Held, Giving, Asked, Acted, Told, Parted, Over, Place, Away, Asks, Holds, Says, Hears, Gone, place, member, AwayAt, SeatAt, ControlAt, behind_event, Fits, Inv}
 use Rattle.replay_law.proofs.Facts.{offers_live}
 use Rattle.replay_law.proofs.Reached.{after_all}
 

@@ -14,7 +14,7 @@ use Rattle.replay_law.specs.Scripts.{takers, grants, is_other}
 use Rattle.replay_law.specs.Copies.{Copy, Based, is_own}
 use Rattle.replay_law.specs.Rewritings.{Setting, control, left}
 use Rattle.event_machine.proofs.Basics.{equal_self}
-use Rattle.replay_law.specs.Stages.{IsReached, image, image_world, free_of, Stage, Held, Giving, Asked, Acted, Told, Parted, Over, Place, Away, Asks, Holds, Says, Hears, Gone, place, member, in_order, AwayAt, SeatAt, ControlAt, behind_event, Fits, Inv}
+use Rattle.replay_law.specs.inner.Stages.{IsReached, image, image_world, free_of, Stage, Held, Giving, Asked, Acted, Told, Parted, Over, Place, Away, Asks, Holds, Says, Hears, Gone, place, member, in_order, AwayAt, SeatAt, ControlAt, behind_event, Fits, Inv}
 use Rattle.replay_law.proofs.Facts.{below_apart, is_below}
 use Rattle.replay_law.proofs.Images.{image_at}
 use Rattle.replay_law.proofs.Reached.{after_all, reached_others}

@@ -19,7 +19,7 @@ use Rattle.replay_law.specs.Scripts.{grants}
 use Rattle.replay_law.specs.Copies.{Copy, Based, Holding, Saying, Controlling, Handing, copy_ops, copy_steps, copy_resumed, copy_raised, op_callers, under}
 use Rattle.replay_law.specs.Rewritings.{Setting, control, left, twin}
 use Rattle.replay_law.specs.Laws.{back, backs, at_entry, stands_for}
-use Rattle.replay_law.specs.Stages.{image, image_seat, image_world, free_of, Stage, Held, Giving, Asked, Acted, Told, Parted, Over, Away, Asks, Holds, Says, Hears, place, member, AwayAt, SeatAt, behind_event, Inv}
+use Rattle.replay_law.specs.inner.Stages.{image, image_seat, image_world, free_of, Stage, Held, Giving, Asked, Acted, Told, Parted, Over, Away, Asks, Holds, Says, Hears, place, member, AwayAt, SeatAt, behind_event, Inv}
 use Rattle.replay_law.proofs.Facts.{put, offers_at, below_apart, is_beyond, let_go, let_go_served}
 use Rattle.replay_law.proofs.Images.{image_at, image_beyond}
 use Rattle.replay_law.proofs.Reached.{after_all}

@@ -12,27 +12,15 @@ use Rattle.event_machine.specs.Worlds.{World, offers}
 use Rattle.event_machine.proofs.Basics.{same_member-true}
 use Rattle.event_machine.proofs.Offering.{calls_waits}
 use Rattle.replay_law.specs.Permits.{Permit, ToMeet, ToElse, ToDelay, wants}
-use Rattle.replay_law.specs.Copies.{Copy, Holding, Sort, AtOriginal, AtShadow, AtGo, AtDone, AtHold, AtJoin, AtNever, AtStop, AtRest, AtNothing, copy_offer, held_offer, shows}
+use Rattle.replay_law.specs.Copies.{Copy, Holding, Sort, AtOriginal, AtGo, AtDone, copy_offer, held_offer, shows}
 use Rattle.replay_law.specs.Rewritings.{Setting, twin}
-use Rattle.replay_law.specs.Stages.{Stage, Giving, Away, Holds, place, member, Inv}
+use Rattle.replay_law.specs.inner.Stages.{Stage, Giving, Away, Holds, place, member, Inv}
 use Rattle.replay_law.proofs.Facts.{offers_live}
 use Rattle.replay_law.proofs.Voices.{CallsBy, MeetCall, ElseCall, ExpireCall, FailCall, calls_by}
 use Rattle.replay_law.proofs.Speaking.{Speaks, Asking, Using, Refused, Reporting, Commanding, Serving, Resting, speaks}
 use Rattle.replay_law.proofs.Singles.{no_call, else_moves, delay_moves}
-use Rattle.replay_law.proofs.Meeting.{Caller, AsksFor, Reports, CallsOn, CallsNobody, Acceptor, GivesTo, HearsOf, Accepts, AcceptsNobody, caller, acceptor, pair_stage, is_accepted, is_called}
+use Rattle.replay_law.proofs.Meeting.{Caller, AsksFor, Reports, CallsOn, CallsNobody, Acceptor, GivesTo, HearsOf, Accepts, AcceptsNobody, caller, acceptor, pair_stage, is_accepted, is_called, both_not}
 use Rattle.replay_law.proofs.Arriving.{IsTidy}
-
-both_not : (s : Sort) → is_accepted s ≡ false → is_called s ≡ false → ⊥
-both_not (AtOriginal f) a b = true≢false a
-both_not (AtShadow f) a b = true≢false b
-both_not AtGo a b = true≢false a
-both_not AtDone a b = true≢false a
-both_not AtHold a b = true≢false a
-both_not (AtJoin t) a b = true≢false b
-both_not (AtNever t) a b = true≢false a
-both_not AtStop a b = true≢false b
-both_not AtRest a b = true≢false a
-both_not AtNothing a b = true≢false b
 
 module _ (x : Setting) (past rest : List Event) (stage : Stage) (w : World (Copy x.L)) (inv : Inv x past rest stage w) (runs : w.ended ≡ false) where
   sorts : (e : ℕ) (s z : Sort) → x.n.sort e ≡ s → x.n.sort e ≡ z → s ≡ z

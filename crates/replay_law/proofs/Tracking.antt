@@ -20,7 +20,7 @@ use Rattle.event_machine.proofs.Reaching.{start_still}
 use Rattle.replay_law.specs.Copies.{Copy, Based, Holding, Saying, Controlling, Handing, Idling, copy_steps, copy_stepped, is_own, under, written}
 use Rattle.replay_law.specs.Rewritings.{Setting, start, control, idle, left, twin, start_copy, ReachesIn, Reaches, Imitates, OpensSo}
 use Rattle.replay_law.specs.Laws.{back, backs, shown, IsReplay, Replays}
-use Rattle.replay_law.specs.Stages.{IsReached, image_seat, image_world, Stage, Away, place, SeatAt, ControlAt, Inv}
+use Rattle.replay_law.specs.inner.Stages.{IsReached, image_seat, image_world, Stage, Away, place, SeatAt, ControlAt, Inv}
 use Rattle.replay_law.proofs.Facts.{put, is_below, is_beyond, above_apart}
 use Rattle.replay_law.proofs.Images.{image_at}
 use Rattle.replay_law.proofs.Reached.{after_all, base, reach_start}

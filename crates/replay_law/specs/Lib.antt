@@ -3,6 +3,6 @@ pub mod Copies
 pub mod Scripts
 pub mod Plainly
 pub mod Rewritings
-pub mod Stages
 pub mod Laws
 pub mod Told
+pub mod inner

@@ -1,5 +1,5 @@
 -- A declaration that gives no old name a meaning keeps the table, in whatever scope it stands.
-use Rattle.std.proofs.Common.{◌≡◌, ℕ, ℤ, Bool, true, false, if◌then◌else◌, List, [], ◌∷◌, Option, Some, None, refl, sym, ap, ◌∙◌, subst, true≢false}
+use Rattle.std.proofs.Common.{◌≡◌, ℕ, ℤ, Bool, true, false, if◌then◌else◌, List, [], ◌∷◌, Option, Some, None, refl, sym, ◌∙◌, subst, true≢false}
 use Rattle.std.specs.List.{AllByRecursion}
 use Rattle.ada_tree.specs.declared.naming.NameId.{NameId}
 use Rattle.ada_tree.specs.declared.naming.Word.{Word}
@@ -8,7 +8,7 @@ use Rattle.ada_tree.specs.PlainExpr.{PBounds, PSubind, PDrange}
 use Rattle.ada_tree.specs.PlainDecl.{PShape, OPlain, ORow, PInit, PDecl, DNumber, DObject, DEnumeration, DArray, DSubtype, DException, DIntIo, DPragma, DTask, DTaskBody, PDecls, no_decl, decl_then}
 use Rattle.ada_tree.specs.Scope.{Scope, Range, Thing, Marking, ScalarMark, ArrayMark, TaskMark, NoMark, UnknownMark, UnclearMark, marking, range_of_mark, integer_kind, and_then}
 use Rattle.ada_tree.specs.ExprTypes.{static_in, static_range}
-use Rattle.ada_tree.specs.Declaring.{with_name, with_names, with_types, Made, made_range, subind_made, made_subind, drange_range, made_array, Declared, plain_object, row_object, declared_object, add_constants, constant_mark, constant_value, with_constants, after_object, made_named_array, renamed, made_subtype, in_body, after_own_object, after_objects, after_decl, after_decls}
+use Rattle.ada_tree.specs.Declaring.{with_name, with_names, with_types, made_range, subind_made, made_subind, drange_range, made_array, plain_object, row_object, declared_object, add_constants, constant_mark, constant_value, with_constants, after_object, renamed, in_body, after_own_object, after_objects, after_decl, after_decls}
 use Rattle.rewritten_types.specs.Agreement.{Keeps}
 use Rattle.rewritten_types.specs.Rewriting.{IsNew, IsAdded, AreAdded}
 use Rattle.rewritten_types.proofs.Keeping.{IsNoOldName, keeps-self, keeps-on, keeps-mark, unnamed, newly_named, keeps-array_kind, keeps-constants}

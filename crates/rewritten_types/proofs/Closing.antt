@@ -1,14 +1,13 @@
 -- Two scopes with one table in which each name means the same, where it means a value or a type: expressions, ranges and subtype indications are the same in both.
-use Rattle.std.proofs.Common.{◌≡◌, ℕ, ℤ, Bool, true, false, ◌&&◌, ◌==◌, if◌then◌else◌, List, [], ◌∷◌, Option, Some, None, refl, sym, ap, ap₂, ◌∙◌, subst}
+use Rattle.std.proofs.Common.{◌≡◌, ℕ, ◌&&◌, if◌then◌else◌, Option, Some, None, refl, sym, ap, ap₂, ◌∙◌}
 use Rattle.ada_tree.specs.declared.naming.NameId.{NameId}
-use Rattle.ada_tree.specs.declared.naming.Word.{Word}
 use Rattle.ada_tree.specs.TypeTable.{TypeTable}
-use Rattle.ada_tree.specs.Attributes.{Attribute, attribute_of}
+use Rattle.ada_tree.specs.Attributes.{attribute_of}
 use Rattle.ada_tree.specs.StaticValue.{is_static, value_of}
 use Rattle.ada_tree.specs.PlainExpr.{PExpr, EInteger, EName, EIndex, EAttribute, EAttributeOf, EParen, EUnary, EBinary, PBounds, PSubind, PDrange, RGiven, RMarked}
-use Rattle.ada_tree.specs.Scope.{Scope, Range, Thing, TypeMark, TaskType, SingleTask, TaskObject, TaskRow, Variable, ConstantObject, Parameter, LoopParameter, Literal, AnException, MainProcedure, AnotherUnit, Unclear, Reading, Marking, ScalarMark, ArrayMark, TaskMark, NoMark, UnknownMark, UnclearMark, reading_of, reading, marking_of, marking_of_mark, marking, scalar_kind, range_of_mark, mark_at, meaning, and_then}
+use Rattle.ada_tree.specs.Scope.{Scope, Thing, TypeMark, TaskType, SingleTask, TaskObject, TaskRow, Variable, ConstantObject, Parameter, LoopParameter, Literal, AnException, MainProcedure, AnotherUnit, Unclear, Marking, ScalarMark, ArrayMark, TaskMark, NoMark, UnknownMark, UnclearMark, reading_of, reading, marking_of, marking, scalar_kind, range_of_mark, meaning, and_then}
 use Rattle.ada_tree.specs.ExprTypes.{name_kind, component_kind, bound_kind, attribute_kind, takes, takes_one, unary_kind, binary_kind, kind_of, is_kind, ok_value, static_in, range_between, static_range}
-use Rattle.ada_tree.specs.Declaring.{Made, made_none, made_range, subind_made, made_subind, given_range, marked_range, drange_range}
+use Rattle.ada_tree.specs.Declaring.{made_none, made_range, subind_made, made_subind, given_range, marked_range, drange_range}
 use Rattle.rewritten_types.specs.Rewriting.{valued}
 
 -- The scopes have one table, both stand in main or both not, and each name means the same, where it means a value or a type.

@@ -1,15 +1,13 @@
 -- Small declarations by which the laws can be tried: what they say of a program with a task type, a task, an array and a body, and why each premise is there.
-use Rattle.std.specs.Prelude.{◌≡◌, ℕ, pos, ◌+◌, Bool, true, false, nat_lt, List, [], ◌∷◌, length, Option, Some, None, refl}
-use Rattle.ada_tree.specs.declared.naming.NameId.{NameId}
+use Rattle.std.specs.Prelude.{◌≡◌, ℕ, pos, Bool, true, false, nat_lt, [], ◌∷◌, Some, None, refl}
 use Rattle.ada_tree.specs.declared.naming.Span.{Span}
 use Rattle.ada_tree.specs.declared.naming.Word.{Word}
-use Rattle.ada_tree.specs.TypeTable.{TypeTable}
-use Rattle.ada_tree.specs.PlainExpr.{PExpr, EInteger, EName, PSubind, PDrange, RGiven, RMarked}
+use Rattle.ada_tree.specs.PlainExpr.{EInteger, EName, PSubind, PDrange, RGiven}
 use Rattle.ada_tree.specs.PlainStmt.{no_stmt, no_handler, body}
 use Rattle.ada_tree.specs.PlainDecl.{OPlain, ORow, IOne, PDecl, DObject, DEnumeration, DArray, DTask, DTaskBody, PDecls, no_decl, decl_then, decls_of}
-use Rattle.ada_tree.specs.StaticValue.{mark_named, constant_named}
+use Rattle.ada_tree.specs.StaticValue.{constant_named}
 use Rattle.ada_tree.specs.Declaring.{first_scope, after_decls}
-use Rattle.rewritten_types.specs.Agreement.{Literal, literal_named, Rooted, Agrees}
+use Rattle.rewritten_types.specs.Agreement.{literal_named, Rooted, Agrees}
 use Rattle.rewritten_types.specs.Rewriting.{AreAdded, staying, DeclareOnce}
 use Rattle.rewritten_types.specs.Laws.{behind}
 use Rattle.rewritten_types.proofs.Rooting.{rewritten_is_rooted, rooted_agrees}

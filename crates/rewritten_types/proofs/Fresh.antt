@@ -1,25 +1,22 @@
 -- A name that main has not declared and that is no predefined one means nothing; and a declaration of other names takes nothing from a name.
-use Rattle.std.proofs.Common.{◌≡◌, ℕ, ◌<◌, ◌≤◌, Bool, true, false, ◌||◌, ◌==◌, if◌then◌else◌, List, [], ◌∷◌, length, find, option_map, Option, Some, None, refl, sym, ap, ◌∙◌, subst, true≢false, arith}
-use Rattle.std.specs.List.{AllByRecursion, list_any}
+use Rattle.std.proofs.Common.{◌≡◌, ℕ, ◌<◌, ◌≤◌, Bool, true, false, ◌||◌, ◌==◌, if◌then◌else◌, List, [], ◌∷◌, find, option_map, Some, None, refl, sym, ap, ◌∙◌, true≢false, arith}
+use Rattle.std.specs.List.{AllByRecursion}
 use Rattle.std.proofs.lemmas.Option.{none-some}
 use Rattle.std.proofs.lemmas.Bool.{or_parts, or_from, or_right, eqb-true, ne_eqb, ltb-false}
 use Rattle.ada_tree.specs.declared.naming.NameId.{NameId}
 use Rattle.ada_tree.specs.declared.naming.Word.{Word}
-use Rattle.ada_tree.specs.PlainDecl.{PDecl, DNumber, DObject, DEnumeration, DArray, DSubtype, DException, DIntIo, DPragma, DTask, DTaskBody, PDecls, no_decl, decl_then}
+use Rattle.ada_tree.specs.PlainDecl.{PDecl, DNumber, DObject, DEnumeration, DArray, DSubtype, DException, DIntIo, DPragma, DTask, DTaskBody}
 use Rattle.ada_tree.specs.Scope.{Scope, Seen, Thing, MainProcedure, meaning}
 use Rattle.ada_tree.specs.RuleDuplicate.{is_predefined, is_among}
-use Rattle.ada_tree.specs.Declaring.{seen_as, with_name, with_names, predefined_names, before_all, first_scope, after_decl}
+use Rattle.ada_tree.specs.Declaring.{seen_as, with_name, with_names, predefined_names, first_scope, after_decl}
 use Rattle.rewritten_types.specs.Rewriting.{valued, IsFree, AreFree, names_declared, IsUsed, IsUnused}
+use Rattle.rewritten_types.proofs.Lookups.{find-none}
 
 -- ---- what means nothing
 
 -- a name that is declared nowhere means nothing
 pub record InHere (s : Scope) : Type 0 where
   pub nothing : (id : NameId) → is_predefined id.0 ≡ false → is_among s.here id.0 ≡ false → meaning s id ≡ None
-
-pub find-nothing : {A : Type 0} (p : A → Bool) (xs : List A) → AllByRecursion (λ x. p x ≡ false) xs → find p xs ≡ None
-find-nothing p [] h = refl
-find-nothing p (x ∷ xs) h = ap (λ b. if b then Some x else find p xs) h.0 ∙ find-nothing p xs h.1
 
 -- a name that is not predefined is none of the first 18
 beyond : (n k : ℕ) → is_predefined n ≡ false → k < 18 → (k == n) ≡ false
@@ -85,7 +82,7 @@ first-here name = record { nothing = none }
     by_name id false e f = ap (option_map (λ (x : Seen). x.thing)) f
 
     none : (id : NameId) → is_predefined id.0 ≡ false → is_among (first_scope name).here id.0 ≡ false → meaning (first_scope name) id ≡ None
-    none id e h = by_name id (name.name.0 == id.0) (or_parts (name.name.0 == id.0) false h).0 (find-nothing (λ (x : Seen). x.name == id.0) predefined_names (not-first id.0 e))
+    none id e h = by_name id (name.name.0 == id.0) (or_parts (name.name.0 == id.0) false h).0 (find-none (λ (x : Seen). x.name == id.0) predefined_names (not-first id.0 e))
 
 here-name : (thing : Thing) (w : Word) (s : Scope) → InHere s → InHere (with_name thing s w)
 here-name thing w s h = record { nothing = none }

@@ -1,18 +1,16 @@
 -- A table keeps itself, and keeps what it had where a mark without an old name, the kind of an array or constants without old names come behind it.
-use Rattle.std.proofs.Common.{◌≡◌, ℕ, ℤ, zero, suc, Bool, true, false, ◌==◌, if◌then◌else◌, List, [], ◌∷◌, ◌++◌, map, find, slice_get, Option, Some, None, refl, sym, ap, ◌∙◌, subst, true≢false, eqb-true}
+use Rattle.std.proofs.Common.{◌≡◌, ℕ, ℤ, zero, suc, Bool, true, false, ◌==◌, if◌then◌else◌, List, [], ◌∷◌, ◌++◌, find, slice_get, Option, Some, None, refl, sym, ap, ◌∙◌, true≢false, eqb-true}
 use Rattle.std.specs.List.{AllByRecursion}
-use Rattle.std.proofs.lemmas.Bool.{both_ways}
 use Rattle.ada_tree.specs.declared.naming.NameId.{NameId}
 use Rattle.ada_tree.specs.declared.naming.Word.{Word}
 use Rattle.ada_tree.specs.declared.static_types.Kind.{Kind}
-use Rattle.ada_tree.specs.declared.static_types.Kind.TheVariants.{Integer, Truth, Enumeration, Array}
+use Rattle.ada_tree.specs.declared.static_types.Kind.TheVariants.{Array}
 use Rattle.ada_tree.specs.declared.static_types.Mark.{Mark}
 use Rattle.ada_tree.specs.declared.static_types.Constant.{Constant}
 use Rattle.ada_tree.specs.TypeTable.{TypeTable}
-use Rattle.ada_tree.specs.Scope.{kind_at, mark_at}
-use Rattle.ada_tree.specs.StaticValue.{is_named, mark_named, constant_named, position_in, first_of_two}
+use Rattle.ada_tree.specs.StaticValue.{is_named, first_of_two}
 use Rattle.ada_tree.specs.Declaring.{add_mark, add_kind, constants_for}
-use Rattle.rewritten_types.specs.Agreement.{scalar_only, literal_among, literal_named, Grows, Keeps}
+use Rattle.rewritten_types.specs.Agreement.{scalar_only, literal_among, Grows, Keeps}
 use Rattle.rewritten_types.specs.Rewriting.{IsNew}
 use Rattle.rewritten_types.proofs.Lookups.{place-more, find-more}
 

@@ -1,6 +1,5 @@
 -- A declaration keeps two scopes close; one of a task, or of an object of a task type, may stand on one side alone.
-use Rattle.std.proofs.Common.{◌≡◌, ℕ, ℤ, pos, ◌-ℤ◌, Bool, true, false, ◌&&◌, ◌==◌, if◌then◌else◌, List, [], ◌∷◌, map, find, length, option_map, Option, Some, None, refl, sym, ap, ap₂, ◌∙◌, subst, eqb-true}
-use Rattle.std.specs.List.{AllByRecursion}
+use Rattle.std.proofs.Common.{◌≡◌, ℕ, pos, ◌-ℤ◌, Bool, true, false, ◌==◌, if◌then◌else◌, List, [], ◌∷◌, map, find, length, option_map, Option, Some, None, refl, sym, ap, ap₂, ◌∙◌, eqb-true}
 use Rattle.ada_tree.specs.declared.naming.NameId.{NameId}
 use Rattle.ada_tree.specs.declared.naming.Span.{Span}
 use Rattle.ada_tree.specs.declared.naming.Word.{Word}
@@ -9,8 +8,7 @@ use Rattle.ada_tree.specs.TypeTable.{TypeTable}
 use Rattle.ada_tree.specs.PlainExpr.{PBounds, PSubind, PDrange}
 use Rattle.ada_tree.specs.PlainDecl.{PShape, OPlain, ORow, PInit, IOne, IList, IOthers, PTask, PDecl, DNumber, DObject, DEnumeration, DArray, DSubtype, DException, DIntIo, DPragma, DTask, DTaskBody}
 use Rattle.ada_tree.specs.Scope.{Scope, Range, EntryPart, Seen, Thing, TypeMark, TaskType, SingleTask, TaskObject, TaskRow, Variable, ConstantObject, Parameter, LoopParameter, Literal, AnException, MainProcedure, AnotherUnit, Unclear, Marking, ScalarMark, ArrayMark, TaskMark, NoMark, UnknownMark, UnclearMark, marking_of, marking, range_of_mark, meaning, integer_kind, and_then}
-use Rattle.ada_tree.specs.ExprTypes.{static_in}
-use Rattle.ada_tree.specs.Declaring.{seen_as, with_name, with_names, with_types, add_kind, Made, made, made_none, subind_made, made_subind, drange_range, made_array, object_of, task_object, task_row, Declared, of_made, plain_object, row_object, declared_object, add_constants, kind_at_mark, constant_mark, initial_value, constant_value, with_constants, after_object, after_enumeration, type_of_mark, after_type, made_named_array, renamed, made_subtype, task_thing, after_task, after_decl}
+use Rattle.ada_tree.specs.Declaring.{seen_as, with_name, with_names, with_types, add_kind, Made, made, made_none, subind_made, made_subind, drange_range, made_array, object_of, task_object, task_row, Declared, of_made, plain_object, row_object, declared_object, add_constants, kind_at_mark, constant_mark, initial_value, constant_value, with_constants, after_object, after_enumeration, type_of_mark, after_type, made_named_array, renamed, made_subtype, task_thing, after_decl}
 use Rattle.rewritten_types.specs.Rewriting.{valued, IsFree, AreFree, mark_of, IsFirst}
 use Rattle.rewritten_types.proofs.Closing.{Close, typed, typed-valued, typed-alike, static-alike, made-alike, drange-alike}
 

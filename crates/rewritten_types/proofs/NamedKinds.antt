@@ -1,5 +1,5 @@
 -- Where main declares each name once, each kind of values has a declared name.
-use Rattle.std.proofs.Common.{◌≡◌, ℕ, zero, suc, ◌<◌, ◌==◌, Bool, true, false, if◌then◌else◌, List, [], ◌∷◌, ◌++◌, length, map, find, slice_get, Option, Some, None, ◌⊎◌, ⊎_elim, refl, sym, ap, ◌∙◌, subst, arith}
+use Rattle.std.proofs.Common.{◌≡◌, ℕ, zero, suc, ◌<◌, ◌==◌, Bool, false, length, map, Some, None, ◌⊎◌, ⊎_elim, refl, sym, ap, ◌∙◌, subst, arith}
 use Rattle.std.specs.List.{AllByRecursion}
 use Rattle.std.proofs.lemmas.Bool.{eq-eqb, ne_eqb}
 use Rattle.std.proofs.lemmas.Option.{none-some, slice_get_within}
@@ -10,7 +10,7 @@ use Rattle.ada_tree.specs.declared.static_types.Kind.TheVariants.{Enumeration}
 use Rattle.ada_tree.specs.declared.static_types.Mark.{Mark}
 use Rattle.ada_tree.specs.TypeTable.{TypeTable}
 use Rattle.ada_tree.specs.PlainDecl.{PDecl, DNumber, DObject, DEnumeration, DArray, DSubtype, DException, DIntIo, DPragma, DTask, DTaskBody, PDecls, no_decl, decl_then}
-use Rattle.ada_tree.specs.Scope.{Scope, kind_at}
+use Rattle.ada_tree.specs.Scope.{Scope}
 use Rattle.ada_tree.specs.StaticValue.{is_named, mark_named}
 use Rattle.ada_tree.specs.Declaring.{predefined_types, first_scope, with_name, with_types, add_kind, made, after_decl, after_decls}
 use Rattle.rewritten_types.specs.Agreement.{scalar_only, HasKind, Grows, Keeps, IsScalar, mark_of_kind, Sound}

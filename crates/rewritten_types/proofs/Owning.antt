@@ -1,18 +1,18 @@
 -- Each table that declarations leave begins with the kinds of INTEGER and BOOLEAN and has a mark of each kind of values.
-use Rattle.std.proofs.Common.{◌≡◌, ℕ, zero, suc, ◌==◌, Bool, true, false, if◌then◌else◌, List, [], ◌∷◌, ◌++◌, length, map, find, slice_get, Option, Some, None, ◌⊎◌, ⊎_elim, refl, sym, ap, ◌∙◌, subst}
+use Rattle.std.proofs.Common.{◌≡◌, ℕ, zero, suc, ◌==◌, Bool, false, List, [], ◌∷◌, length, map, Some, ◌⊎◌, ⊎_elim, refl, sym, ap, ◌∙◌, subst}
 use Rattle.std.specs.List.{AllByRecursion}
 use Rattle.std.proofs.lemmas.Bool.{eq-eqb}
 use Rattle.std.proofs.lemmas.Option.{none-some}
 use Rattle.ada_tree.specs.declared.naming.Word.{Word}
 use Rattle.ada_tree.specs.declared.static_types.Kind.{Kind}
-use Rattle.ada_tree.specs.declared.static_types.Kind.TheVariants.{Integer, Truth, Enumeration, Array}
+use Rattle.ada_tree.specs.declared.static_types.Kind.TheVariants.{Enumeration}
 use Rattle.ada_tree.specs.declared.static_types.Mark.{Mark}
 use Rattle.ada_tree.specs.TypeTable.{TypeTable}
 use Rattle.ada_tree.specs.PlainDecl.{PDecl, DNumber, DObject, DEnumeration, DArray, DSubtype, DException, DIntIo, DPragma, DTask, DTaskBody, PDecls, no_decl, decl_then}
-use Rattle.ada_tree.specs.Scope.{Scope, kind_at}
+use Rattle.ada_tree.specs.Scope.{Scope}
 use Rattle.ada_tree.specs.Declaring.{predefined_types, first_scope, with_name, with_types, add_kind, made, after_decl, after_decls}
 use Rattle.rewritten_types.specs.Agreement.{scalar_only, Grows, Keeps, IsScalar, mark_of_kind, Whole}
-use Rattle.rewritten_types.specs.Rewriting.{IsNew, IsAdded}
+use Rattle.rewritten_types.specs.Rewriting.{IsNew}
 use Rattle.rewritten_types.proofs.Lookups.{find-grown, find-last, earlier-or-last}
 use Rattle.rewritten_types.proofs.Keeping.{grows-on, grows-kind, grows-mark}
 use Rattle.rewritten_types.proofs.Adding.{names-types, keeps-decl}

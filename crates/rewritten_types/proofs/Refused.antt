@@ -1,17 +1,16 @@
 -- A program in which the static rules refuse nothing declares each name of main once.
-use Rattle.std.proofs.Common.{◌≡◌, ℕ, Bool, true, false, ◌&&◌, ◌||◌, ◌==◌, if◌then◌else◌, List, [], ◌∷◌, ◌++◌, map, refl, sym, ap, ◌∙◌, subst}
+use Rattle.std.proofs.Common.{◌≡◌, ℕ, Bool, true, false, ◌&&◌, ◌||◌, ◌==◌, List, [], ◌∷◌, ◌++◌, refl, subst}
 use Rattle.std.specs.List.{AllByRecursion, list_any}
 use Rattle.std.proofs.lemmas.Bool.{or_parts}
 use Rattle.ada_tree.specs.declared.naming.Span.{Span}
 use Rattle.ada_tree.specs.declared.naming.Word.{Word}
 use Rattle.ada_tree.specs.PlainDecl.{PDecl, DNumber, DObject, DEnumeration, DArray, DSubtype, DException, DIntIo, DPragma, DTask, DTaskBody, PDecls, no_decl, decl_then}
-use Rattle.ada_tree.specs.PlainProgram.{PProgram}
 use Rattle.ada_tree.specs.Scope.{Scope}
 use Rattle.ada_tree.specs.Demand.{Demand, declares, Site}
 use Rattle.ada_tree.specs.Sites.{names_sites, decl_sites, decls_sites, body_sites, sites}
-use Rattle.ada_tree.specs.Declaring.{before_all, first_scope, after_decl, inside, after_decls}
+use Rattle.ada_tree.specs.Declaring.{first_scope, after_decl, inside, after_decls}
 use Rattle.ada_tree.specs.RuleDuplicate.{is_predefined, is_among, fixes, introduces, at_word, duplicate}
-use Rattle.ada_tree.specs.Refusals.{Refusal, by_rule, refused_at, refused_from}
+use Rattle.ada_tree.specs.Refusals.{by_rule, refused_at, refused_from}
 use Rattle.rewritten_types.specs.Rewriting.{names_declared, IsUnused, DeclareOnce}
 use Rattle.rewritten_types.specs.Laws.{DeclaredOnce}
 use Rattle.rewritten_types.proofs.Lookups.{all-weaker}

@@ -1,18 +1,16 @@
 -- The tables of a program and of its rewriting keep the table of the declarations that stay.
-use Rattle.std.proofs.Common.{◌≡◌, ℕ, ℤ, Bool, true, false, Option, Some, None, refl, sym, ap, ◌∙◌, subst}
+use Rattle.std.proofs.Common.{◌≡◌, ℕ, ℤ, Bool, true, Some, refl, sym, ◌∙◌, subst}
 use Rattle.ada_tree.specs.declared.naming.NameId.{NameId}
-use Rattle.ada_tree.specs.declared.naming.Word.{Word}
-use Rattle.ada_tree.specs.declared.static_types.Kind.{Kind}
 use Rattle.ada_tree.specs.declared.static_types.Kind.TheVariants.{Array}
 use Rattle.ada_tree.specs.declared.static_types.Mark.{Mark}
 use Rattle.ada_tree.specs.declared.static_types.Constant.{Constant}
 use Rattle.ada_tree.specs.TypeTable.{TypeTable}
-use Rattle.ada_tree.specs.PlainDecl.{PDecls, no_decl, decl_then, DTaskBody, DTask}
+use Rattle.ada_tree.specs.PlainDecl.{PDecls, DTaskBody}
 use Rattle.ada_tree.specs.Scope.{Scope, kind_at, mark_at}
 use Rattle.ada_tree.specs.StaticValue.{mark_named, constant_named, is_named}
 use Rattle.ada_tree.specs.Declaring.{first_scope, in_body, after_decl, after_decls}
-use Rattle.rewritten_types.specs.Agreement.{HasKind, HasMark, Grows, Keeps, HasPart, Sound, IsScalar, mark_of_kind, Rooted, Agrees}
-use Rattle.rewritten_types.specs.Rewriting.{AreAdded, Behind, behind_none, behind_task, behind_body, behind_instance, Front, front_none, front_stays, front_task, front_object, front_body}
+use Rattle.rewritten_types.specs.Agreement.{HasKind, HasMark, Keeps, HasPart, IsScalar, mark_of_kind, Rooted}
+use Rattle.rewritten_types.specs.Rewriting.{Behind, behind_none, behind_task, behind_body, behind_instance, Front, front_none, front_stays, front_task, front_object, front_body}
 use Rattle.rewritten_types.specs.Laws.{RewrittenIsRooted, RootedAgrees}
 use Rattle.rewritten_types.proofs.Lookups.{find-all, place-all}
 use Rattle.rewritten_types.proofs.Keeping.{keeps-self, keeps-on}

@@ -1,5 +1,5 @@
 -- Each table that declarations leave is sound, in whatever scope they stand: no place in it leads out of it.
-use Rattle.std.proofs.Common.{◌≡◌, ℕ, ℤ, Bool, true, false, if◌then◌else◌, List, [], ◌∷◌, ◌++◌, length, option_map, Option, Some, None, refl, sym, ap, ◌∙◌, subst}
+use Rattle.std.proofs.Common.{◌≡◌, ℕ, ℤ, Bool, true, false, if◌then◌else◌, List, [], ◌∷◌, option_map, Option, Some, None, refl, sym, subst}
 use Rattle.std.specs.List.{AllByRecursion}
 use Rattle.ada_tree.specs.declared.naming.NameId.{NameId}
 use Rattle.ada_tree.specs.declared.naming.Word.{Word}
@@ -12,7 +12,7 @@ use Rattle.ada_tree.specs.PlainExpr.{PBounds, PSubind, PDrange}
 use Rattle.ada_tree.specs.PlainDecl.{PShape, OPlain, ORow, PInit, PDecl, DNumber, DObject, DEnumeration, DArray, DSubtype, DException, DIntIo, DPragma, DTask, DTaskBody, PDecls, no_decl, decl_then}
 use Rattle.ada_tree.specs.Scope.{Scope, Range, EntryPart, Thing, TypeMark, TaskType, SingleTask, TaskObject, TaskRow, Variable, ConstantObject, Parameter, LoopParameter, Literal, AnException, MainProcedure, AnotherUnit, Unclear, Marking, ScalarMark, ArrayMark, TaskMark, NoMark, UnknownMark, UnclearMark, kind_at, mark_at, marking_of_kind, marking_of_mark, marking_of, marking, meaning, range_of_mark, integer_kind, and_then}
 use Rattle.ada_tree.specs.ExprTypes.{static_in, range_between}
-use Rattle.ada_tree.specs.Declaring.{predefined_types, first_scope, with_name, with_names, with_types, add_mark, add_kind, Made, made, made_range, subind_made, made_subind, drange_range, made_array, object_of, task_object, task_row, Declared, of_made, plain_object, row_object, declared_object, constants_for, add_constants, constant_mark, constant_value, with_constants, after_object, renamed, in_body, after_own_object, after_objects, after_decl, after_decls}
+use Rattle.ada_tree.specs.Declaring.{first_scope, with_name, with_names, with_types, add_mark, add_kind, Made, made, made_range, subind_made, made_subind, drange_range, made_array, object_of, task_object, task_row, Declared, of_made, plain_object, row_object, declared_object, constants_for, add_constants, constant_mark, constant_value, with_constants, after_object, renamed, in_body, after_own_object, after_objects, after_decl, after_decls}
 use Rattle.rewritten_types.specs.Agreement.{HasKind, HasMark, Grows, HasPart, Sound}
 use Rattle.rewritten_types.proofs.Lookups.{place-last, place-all, all-weaker, all-append}
 use Rattle.rewritten_types.proofs.Keeping.{grows-mark, grows-kind}

@@ -1,15 +1,14 @@
 -- The declarations but tasks, objects of task types and bodies are first declarations.
-use Rattle.std.proofs.Common.{◌≡◌, ℕ, Bool, true, false, List, [], ◌∷◌, Option, Some, None, refl, sym, ap, ◌∙◌, subst, true≢false}
-use Rattle.ada_tree.specs.declared.naming.NameId.{NameId}
+use Rattle.std.proofs.Common.{◌≡◌, ℕ, Bool, true, false, Option, Some, None, refl, sym, ◌∙◌, true≢false}
 use Rattle.ada_tree.specs.declared.static_types.Kind.{Kind}
 use Rattle.ada_tree.specs.declared.static_types.Kind.TheVariants.{Integer, Truth, Enumeration, Array}
 use Rattle.ada_tree.specs.declared.static_types.Mark.{Mark}
 use Rattle.ada_tree.specs.TypeTable.{TypeTable}
-use Rattle.ada_tree.specs.PlainDecl.{PShape, PDecl, DNumber, DObject, DEnumeration, DArray, DSubtype, DException, DIntIo, DPragma, DTask, DTaskBody, PDecls, no_decl, decl_then}
-use Rattle.ada_tree.specs.Scope.{Scope, EntryPart, Thing, TypeMark, TaskType, SingleTask, TaskObject, TaskRow, Variable, ConstantObject, Parameter, LoopParameter, Literal, AnException, MainProcedure, AnotherUnit, Unclear, Marking, kind_at, mark_at, marking_of_kind, marking_of_mark, marking_of, marking, meaning}
+use Rattle.ada_tree.specs.PlainDecl.{DNumber, DObject, DEnumeration, DArray, DSubtype, DException, DIntIo, DPragma, DTask, DTaskBody, PDecls, no_decl, decl_then}
+use Rattle.ada_tree.specs.Scope.{Scope, Thing, TypeMark, TaskType, SingleTask, TaskObject, TaskRow, Variable, ConstantObject, Parameter, LoopParameter, Literal, AnException, MainProcedure, AnotherUnit, Unclear, kind_at, mark_at, marking_of_kind, marking_of_mark, marking_of, marking, meaning}
 use Rattle.ada_tree.specs.WellPlaced.{AreLater, BodiesLast}
 use Rattle.ada_tree.specs.Declaring.{first_scope, after_decl}
-use Rattle.rewritten_types.specs.Rewriting.{valued, IsFree, mark_of, Behind, behind_none, behind_task, behind_body, behind_instance, Front, front_none, front_stays, front_task, front_object, front_body, if_stays, is_no_task, staying, DeclareOnce}
+use Rattle.rewritten_types.specs.Rewriting.{valued, mark_of, Behind, behind_none, behind_task, behind_body, behind_instance, Front, front_none, front_stays, front_task, front_object, front_body, if_stays, is_no_task, staying, DeclareOnce}
 use Rattle.rewritten_types.specs.Laws.{StayingIsFront}
 use Rattle.rewritten_types.proofs.Fresh.{InHere, first-here, here-decl, unused-free, unused-all, meaning-used}
 use Rattle.rewritten_types.proofs.Refused.{declared_once}

@@ -1,5 +1,5 @@
 -- Where main declares each name once, a name that means no value names no type in the table.
-use Rattle.std.proofs.Common.{◌≡◌, ℕ, zero, suc, ◌<◌, ◌≤◌, ℤ, pos, ◌-ℤ◌, Bool, true, false, ◌==◌, if◌then◌else◌, List, [], ◌∷◌, ◌++◌, length, map, find, option_map, Option, Some, None, refl, sym, ap, ◌∙◌, subst, true≢false, arith}
+use Rattle.std.proofs.Common.{◌≡◌, ℕ, zero, suc, ◌<◌, ◌≤◌, ℤ, pos, ◌-ℤ◌, Bool, true, false, ◌==◌, if◌then◌else◌, List, [], ◌∷◌, ◌++◌, length, map, find, option_map, Option, Some, None, refl, sym, ap, ◌∙◌, subst, arith}
 use Rattle.std.specs.List.{AllByRecursion}
 use Rattle.std.proofs.lemmas.Bool.{eqb-true, ne_eqb, ltb-false}
 use Rattle.std.proofs.lemmas.Option.{none-some}
@@ -8,18 +8,17 @@ use Rattle.ada_tree.specs.declared.naming.Word.{Word}
 use Rattle.ada_tree.specs.declared.static_types.Kind.TheVariants.{Enumeration}
 use Rattle.ada_tree.specs.declared.static_types.Mark.{Mark}
 use Rattle.ada_tree.specs.TypeTable.{TypeTable}
-use Rattle.ada_tree.specs.PlainExpr.{PSubind}
 use Rattle.ada_tree.specs.PlainDecl.{PShape, PInit, PDecl, DNumber, DObject, DEnumeration, DArray, DSubtype, DException, DIntIo, DPragma, DTask, DTaskBody, PDecls, no_decl, decl_then}
 use Rattle.ada_tree.specs.Scope.{Scope, Range, Seen, Thing, TypeMark, MainProcedure, meaning, integer_kind, range_of_mark, and_then}
 use Rattle.ada_tree.specs.StaticValue.{is_named, mark_named}
 use Rattle.ada_tree.specs.ExprTypes.{static_in}
-use Rattle.ada_tree.specs.Declaring.{predefined_types, predefined_names, before_all, seen_as, first_scope, with_name, with_names, with_types, add_kind, Made, made, made_subind, drange_range, made_array, declared_object, add_constants, constant_mark, constant_value, with_constants, after_object, type_of_mark, renamed, in_body, after_decl, after_decls}
+use Rattle.ada_tree.specs.Declaring.{predefined_types, predefined_names, before_all, seen_as, first_scope, with_name, with_names, with_types, add_kind, made, made_subind, drange_range, made_array, declared_object, add_constants, constant_mark, constant_value, with_constants, after_object, type_of_mark, renamed, in_body, after_decl, after_decls}
 use Rattle.ada_tree.specs.RuleDuplicate.{is_predefined}
 use Rattle.rewritten_types.specs.Rewriting.{valued, IsFree, names_declared, IsUnused, DeclareOnce}
 use Rattle.rewritten_types.specs.Laws.{UnvaluedHasNoMark}
-use Rattle.rewritten_types.proofs.Lookups.{find-more}
+use Rattle.rewritten_types.proofs.Lookups.{find-more, find-none}
 use Rattle.rewritten_types.proofs.Adding.{names-types, keeps-subind, keeps-shape, keeps-objects}
-use Rattle.rewritten_types.proofs.Fresh.{InHere, find-nothing, first-here, here-decl, unused-free}
+use Rattle.rewritten_types.proofs.Fresh.{InHere, first-here, here-decl, unused-free}
 
 -- ---- what is free was free
 
@@ -146,7 +145,7 @@ decls-unmarked (decl_then d rest) s here once h =
 
 -- a name that is none of the first four
 no-type : (n : ℕ) → 3 < n → mark_named predefined_types record { 0 = n } ≡ None
-no-type n l = find-nothing (λ (x : Mark). is_named record { 0 = n } x.name) predefined_types.marks (less 0 (omega arith), (less 1 (omega arith), (less 2 (omega arith), (less 3 l, tt))))
+no-type n l = find-none (λ (x : Mark). is_named record { 0 = n } x.name) predefined_types.marks (less 0 (omega arith), (less 1 (omega arith), (less 2 (omega arith), (less 3 l, tt))))
   where
     less : (k : ℕ) → k < n → (k == n) ≡ false
     less k m = ne_eqb k n (λ same. let y : ⊥ = omega arith in y)

@@ -1,11 +1,9 @@
 -- How a rewriter may change the declarations of a program (this project's rule): it may leave out tasks, objects of task types and bodies, and put other declarations behind those that stay.
-use Rattle.std.specs.Prelude.{◌≡◌, ℕ, Bool, true, false, ◌||◌, List, [], ◌∷◌, ◌++◌, Option, Some, None}
+use Rattle.std.specs.Prelude.{◌≡◌, ℕ, Bool, true, false, ◌||◌, List, [], ◌∷◌, Option, Some, None}
 use Rattle.std.specs.List.{AllByRecursion}
 use Rattle.ada_tree.specs.declared.naming.NameId.{NameId}
 use Rattle.ada_tree.specs.declared.naming.Span.{Span}
 use Rattle.ada_tree.specs.declared.naming.Word.{Word}
-use Rattle.ada_tree.specs.declared.statements.ParMode.{ParMode}
-use Rattle.ada_tree.specs.PlainExpr.{PExpr, PSubind, PDrange}
 use Rattle.ada_tree.specs.PlainStmt.{PBody}
 use Rattle.ada_tree.specs.PlainDecl.{PShape, OPlain, ORow, PInit, PTask, PDecl, DNumber, DObject, DEnumeration, DArray, DSubtype, DException, DIntIo, DPragma, DTask, DTaskBody, PDecls, no_decl, decl_then}
 use Rattle.ada_tree.specs.Scope.{Scope, Thing, TypeMark, Variable, ConstantObject, Parameter, LoopParameter, Literal, Marking, TaskMark, meaning, marking}

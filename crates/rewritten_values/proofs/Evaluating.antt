@@ -1,16 +1,15 @@
 -- Expressions and ranges in which all names are old come to the same by tables that agree on old names.
-use Rattle.std.proofs.Common.{◌≡◌, ℕ, ℤ, Bool, true, false, if◌then◌else◌, List, [], ◌∷◌, find, slice_get, Option, Some, None, Result, Ok, Err, IfSome, refl, sym, ap, ap₂, ◌∙◌, subst}
+use Rattle.std.proofs.Common.{◌≡◌, ℕ, ℤ, Bool, true, if◌then◌else◌, Option, Some, None, Result, Ok, Err, IfSome, refl, ap, ap₂, ◌∙◌}
 use Rattle.ada_tree.specs.declared.naming.NameId.{NameId}
-use Rattle.ada_tree.specs.declared.expressions.BinaryOp.{BinaryOp}
 use Rattle.ada_tree.specs.TypeTable.{TypeTable}
 use Rattle.ada_tree.specs.Attributes.{Attribute, First, Last, Pos, Val, Succ, Pred, Image, NoAttribute, attribute_of}
-use Rattle.ada_tree.specs.PlainExpr.{PExpr, EInteger, EName, EIndex, EAttribute, EAttributeOf, EParen, EUnary, EBinary, PBounds, PSubind, PDrange, RGiven, RMarked}
+use Rattle.ada_tree.specs.PlainExpr.{PExpr, EInteger, EName, EIndex, EAttribute, EAttributeOf, EParen, EUnary, EBinary, PBounds, PDrange, RGiven, RMarked}
 use Rattle.ada_tree.specs.Every.{EveryExpr, EveryBounds, EveryDrange}
 use Rattle.ada_value.specs.declared.values.Value.{Value}
 use Rattle.ada_value.specs.declared.values.Raised.{Raised}
 use Rattle.ada_value.specs.declared.values.Raised.TheVariants as raised
 use Rattle.ada_value.specs.declared.values.Limits.{Limits}
-use Rattle.ada_value.specs.Values.{and_then, position_of, value_at, based, limits_named}
+use Rattle.ada_value.specs.Values.{and_then, based, limits_named}
 use Rattle.ada_value.specs.Variables.{Object, Variables, object_named}
 use Rattle.ada_value.specs.Evaluating.{name_value, component_value, bound_value, attribute_value, signed_value, operated, evaluated, range_between, bounds_of, narrowed, range_of}
 use Rattle.rewritten_types.specs.Agreement.{Agrees}

@@ -1,5 +1,5 @@
 -- The literals of a program whose names the source can hold have names of it.
-use Rattle.std.proofs.Common.{◌≡◌, ℕ, zero, suc, ◌<◌, Bool, true, false, List, [], ◌∷◌, ◌++◌, length, map, slice_get, All, IsSomeAnd, Option, Some, None, ◌⊎◌, ⊎_elim, refl, sym, ap, ◌∙◌, subst, true≢false}
+use Rattle.std.proofs.Common.{◌≡◌, ℕ, zero, suc, ◌<◌, Bool, true, false, List, [], ◌∷◌, ◌++◌, length, map, slice_get, IsSomeAnd, Option, Some, None, ◌⊎◌, ⊎_elim, refl, sym, ap, ◌∙◌, subst, true≢false}
 use Rattle.std.specs.List.{AllByRecursion}
 use Rattle.std.proofs.lemmas.Option.{none-some, slice_get_within}
 use Rattle.std.proofs.lemmas.List.Elements.{recursion_from_All}
@@ -10,9 +10,8 @@ use Rattle.ada_tree.specs.declared.static_types.Kind.TheVariants.{Integer, Truth
 use Rattle.ada_tree.specs.TypeTable.{TypeTable}
 use Rattle.ada_tree.specs.Lexical.{IsIdentifier}
 use Rattle.ada_tree.specs.PlainDecl.{PDecl, DNumber, DObject, DEnumeration, DArray, DSubtype, DException, DIntIo, DPragma, DTask, DTaskBody, PDecls, no_decl, decl_then}
-use Rattle.ada_tree.specs.PlainProgram.{PProgram}
-use Rattle.ada_tree.specs.Every.{EveryWord, EveryNames, EveryDecl, EveryDecls}
-use Rattle.ada_tree.specs.WellPlaced.{tokens, HasTokens}
+use Rattle.ada_tree.specs.Every.{EveryWord, EveryDecl, EveryDecls}
+use Rattle.ada_tree.specs.WellPlaced.{tokens}
 use Rattle.ada_tree.specs.Scope.{Scope, kind_at}
 use Rattle.ada_tree.specs.Declaring.{first_scope, with_name, with_types, after_decl, after_decls}
 use Rattle.rewritten_types.specs.Agreement.{scalar_only, Keeps}

@@ -1,5 +1,5 @@
 -- The objects of a unit are the same by tables that agree on old names.
-use Rattle.std.proofs.Common.{◌≡◌, ℕ, ℤ, Bool, true, false, if◌then◌else◌, List, [], ◌∷◌, map, replicate, is_some, All, IfSome, Option, Some, None, Result, Ok, Err, refl, sym, ap, ap₂, ◌∙◌, subst, true≢false}
+use Rattle.std.proofs.Common.{◌≡◌, ℕ, Bool, true, false, if◌then◌else◌, List, [], ◌∷◌, map, replicate, is_some, IfSome, Option, Some, None, Result, Ok, Err, refl, sym, ap, ap₂, ◌∙◌, true≢false}
 use Rattle.std.specs.List.{AllByRecursion}
 use Rattle.std.proofs.lemmas.List.Elements.{recursion_from_All}
 use Rattle.ada_tree.specs.declared.naming.NameId.{NameId}
@@ -11,18 +11,18 @@ use Rattle.ada_tree.specs.TypeTable.{TypeTable}
 use Rattle.ada_tree.specs.PlainExpr.{PExpr, PBounds, PSubind, PDrange}
 use Rattle.ada_tree.specs.PlainDecl.{PShape, OPlain, ORow, PInit, IOne, IList, IOthers, PDecl, DNumber, DObject, DEnumeration, DArray, DSubtype, DException, DIntIo, DPragma, DTask, DTaskBody, PDecls, no_decl, decl_then}
 use Rattle.ada_tree.specs.Every.{EveryExpr, EveryBounds, EverySubind, EveryDrange, EveryShape, EveryInit, EveryDecl, EveryDecls}
-use Rattle.ada_tree.specs.Scope.{kind_at, mark_at}
+use Rattle.ada_tree.specs.Scope.{kind_at}
 use Rattle.ada_tree.specs.StaticValue.{mark_named}
 use Rattle.ada_value.specs.declared.values.Value.{Value}
 use Rattle.ada_value.specs.declared.values.Form.{Form}
 use Rattle.ada_value.specs.declared.values.Limits.{Limits}
 use Rattle.ada_value.specs.declared.values.Raised.{Raised}
-use Rattle.ada_value.specs.Values.{position_of, lies_in, lower, limits_of, limits_or, limits_named, value_at}
-use Rattle.ada_value.specs.Variables.{Object, Variables, form_of_kind, form_of_mark, object_with}
+use Rattle.ada_value.specs.Values.{position_of, lies_in, lower, limits_of, limits_or}
+use Rattle.ada_value.specs.Variables.{Variables, form_of_kind, form_of_mark, object_with}
 use Rattle.ada_value.specs.Evaluating.{evaluated}
 use Rattle.task_model.specs.Starting.{known_range, indicated, marked_form, plain_form, row_form, form_of, value_or_lower, initial, value_count, initials, object_of, with_objects, is_in_types, declared_objects, after_declaration, objects_of}
 use Rattle.rewritten_types.specs.Agreement.{scalar_only, Agrees}
-use Rattle.rewritten_values.specs.Values.{is_known, old_names}
+use Rattle.rewritten_values.specs.Values.{old_names}
 use Rattle.rewritten_values.specs.Laws.{FormsAlike, ObjectsAlike, MarkedForm}
 use Rattle.rewritten_values.proofs.Saying.{values-alike}
 use Rattle.rewritten_values.proofs.Evaluating.{expr-alike, narrowed-alike, range-alike}

@@ -1,5 +1,5 @@
 -- Tables that agree on old names say the same of values.
-use Rattle.std.proofs.Common.{◌≡◌, ℕ, zero, suc, ◌+◌, ◌<◌, ◌≤◌, ℤ, pos, negsuc, Bool, true, false, ◌==◌, if◌then◌else◌, List, [], ◌∷◌, ◌++◌, length, find, slice_get, is_some, unwrap_or, option_map, Option, Some, None, refl, sym, ap, ap₂, ◌∙◌, subst, true≢false, arith}
+use Rattle.std.proofs.Common.{◌≡◌, ℕ, zero, suc, ◌+◌, ◌<◌, ℤ, pos, negsuc, Bool, true, false, ◌==◌, if◌then◌else◌, List, [], ◌∷◌, ◌++◌, length, slice_get, is_some, unwrap_or, option_map, Option, Some, None, refl, sym, ap, ap₂, ◌∙◌, subst, true≢false, arith}
 use Rattle.std.specs.Prelude.{nat_le}
 use Rattle.std.specs.List.{AllByRecursion}
 use Rattle.std.proofs.lemmas.Option.{none-some}
@@ -11,15 +11,15 @@ use Rattle.ada_tree.specs.declared.static_types.Constant.{Constant}
 use Rattle.ada_tree.specs.TypeTable.{TypeTable}
 use Rattle.ada_tree.specs.Attributes.{false_name, true_name}
 use Rattle.ada_tree.specs.Scope.{integer_kind, truth_kind, kind_at, mark_at}
-use Rattle.ada_tree.specs.StaticValue.{is_of_kind, is_integer_value, mark_named, constant_named, position_in, first_of_two}
+use Rattle.ada_tree.specs.StaticValue.{is_of_kind, is_integer_value, constant_named, position_in, first_of_two}
 use Rattle.ada_value.specs.declared.values.Value.{Value}
 use Rattle.ada_value.specs.declared.values.Value.TheVariants.{Number, Truth, Place}
 use Rattle.ada_value.specs.Values.{kind_of_value, number, word, placed, value_in, value_at, limits_or, limits_named, limits_of_kind}
 use Rattle.ada_value.specs.Evaluating.{literal_value, constant_value, fixed_value}
 use Rattle.ada_value.specs.Texts.{name_text, literal_text, image}
-use Rattle.rewritten_types.specs.Agreement.{scalar_only, Literal, literal_among, IsScalar, Agrees}
+use Rattle.rewritten_types.specs.Agreement.{scalar_only, Literal, literal_among, Agrees}
 use Rattle.rewritten_types.proofs.Lookups.{some-same}
-use Rattle.rewritten_values.specs.Values.{is_known, AgreeOnValues, LiteralsWithin}
+use Rattle.rewritten_values.specs.Values.{is_known, LiteralsWithin}
 use Rattle.rewritten_values.specs.Laws.{TablesAgreeOnValues}
 
 -- ---- what hangs on the kinds of values alone

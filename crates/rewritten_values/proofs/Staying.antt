@@ -1,16 +1,14 @@
 -- The objects of main are those of the declarations that stay.
-use Rattle.std.proofs.Common.{◌≡◌, ℕ, Bool, true, false, List, [], ◌∷◌, Option, Some, None, refl, sym, ap, ◌∙◌}
-use Rattle.std.specs.List.{AllByRecursion}
+use Rattle.std.proofs.Common.{◌≡◌, true, None, refl, sym, ap, ◌∙◌}
 use Rattle.ada_tree.specs.declared.naming.NameId.{NameId}
-use Rattle.ada_tree.specs.declared.naming.Word.{Word}
 use Rattle.ada_tree.specs.TypeTable.{TypeTable}
-use Rattle.ada_tree.specs.PlainDecl.{PShape, OPlain, ORow, PInit, DObject, PDecls, no_decl, decl_then}
+use Rattle.ada_tree.specs.PlainDecl.{PShape, OPlain, ORow, DObject, PDecls, no_decl, decl_then}
 use Rattle.ada_tree.specs.Scope.{Scope}
 use Rattle.ada_tree.specs.StaticValue.{mark_named}
 use Rattle.ada_tree.specs.Declaring.{first_scope, after_decl, after_decls}
 use Rattle.ada_value.specs.Variables.{Variables}
 use Rattle.task_model.specs.Starting.{plain_form, row_form, form_of, declared_objects, after_declaration, objects_of}
-use Rattle.rewritten_types.specs.Rewriting.{IsUsed, IsFree, mark_of, Behind, behind_none, behind_task, behind_body, behind_instance, Front, front_none, front_stays, front_task, front_object, front_body, DeclareOnce}
+use Rattle.rewritten_types.specs.Rewriting.{IsFree, mark_of, Behind, behind_none, behind_task, behind_body, behind_instance, Front, front_none, front_stays, front_task, front_object, front_body, DeclareOnce}
 use Rattle.rewritten_types.proofs.Fresh.{IsTaken, taken-decl}
 use Rattle.rewritten_types.proofs.Unmarked.{unvalued_has_no_mark}
 use Rattle.rewritten_values.specs.Laws.{ObjectsStay}

@@ -5,7 +5,7 @@ use Rattle.std.proofs.lemmas.List.{length-reverse, get_or-reverse, reverse-rever
 use Rattle.std.proofs.lemmas.Bool.Decides.{nat_tests}
 use Rattle.scoped_names.specs.declared.Slot.{Slot}
 use Rattle.scoped_names.specs.Meaning.{meaning_in}
-use Rattle.scoped_names.specs.Places.{seen, latest_in}
+use Rattle.scoped_names.specs.inner.Places.{seen, latest_in}
 
 abbrev pairs : {T : Type 0} → List (Slot T) → List (ℕ × T)
 pairs slots = map (λ s. (s.name, s.thing)) slots

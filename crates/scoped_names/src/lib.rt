@@ -25,8 +25,8 @@ pub struct ScopedNames<T> {
 
 impl<T> Model for ScopedNames<T> {
     ghost use Rattle.std.specs.Prelude.{ℕ, List};
-    ghost use Rattle.scoped_names.specs.Places.{seen};
-    ghost use Rattle.scoped_names.specs.Linked.{Linked};
+    ghost use Rattle.scoped_names.specs.inner.Places.{seen};
+    ghost use Rattle.scoped_names.specs.inner.Linked.{Linked};
 
     ghost Value = { List (ℕ × T) };
 

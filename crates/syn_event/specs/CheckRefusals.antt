@@ -4,8 +4,8 @@ use Rattle.ada_tree.specs.declared.naming.Span.{Span}
 use Rattle.ada_tree.specs.PlainProgram.{PProgram}
 use Rattle.syn_event.specs.declared.numbering.Mode.{Mode}
 use Rattle.syn_event.specs.Limits.{what_order}
-use Rattle.syn_event.specs.Surrounding.{Spot}
-use Rattle.syn_event.specs.Spots.{spots}
+use Rattle.syn_event.specs.CheckScope.{CheckSite}
+use Rattle.syn_event.specs.CheckSites.{check_sites}
 use Rattle.syn_event.specs.RuleSharedVariable.{shared_variable}
 use Rattle.syn_event.specs.RuleAcceptPlace.{accept_place}
 use Rattle.syn_event.specs.RuleSelectForm.{select_form}
@@ -28,23 +28,23 @@ abbrev pub by_rule : ℕ → List Span → List CheckRefusal
 by_rule n spans = map (λ s. record { rule = n; over = None; span = s }) spans
 
 -- what the rules refuse at one place of a program of these names
-abbrev pub refused_at : Mode → List (List ℕ) → Spot → List CheckRefusal
+abbrev pub refused_at : Mode → List (List ℕ) → CheckSite → List CheckRefusal
 refused_at m names x =
-    by_rule 13 (shared_variable x.around x.asked)
-    ++ by_rule 14 (accept_place x.around x.asked)
-    ++ by_rule 15 (select_form x.around x.asked)
-    ++ by_rule 16 (same_entry_twice x.around x.asked)
-    ++ by_rule 17 (reserved_name m names x.asked)
-    ++ by_rule 18 (main_entry x.around x.asked)
-    ++ by_rule 19 (abort_order x.around x.asked)
-    ++ by_rule 20 (body_missing x.asked)
-    ++ by_rule 21 (exit_place x.around x.asked)
-    ++ by_rule 22 (raise_place x.around x.asked)
-    ++ map (λ o. record { rule = 23; over = Some o.over; span = o.span }) (over_limit m names x.asked)
+    by_rule 13 (shared_variable x.scope x.demand)
+    ++ by_rule 14 (accept_place x.scope x.demand)
+    ++ by_rule 15 (select_form x.scope x.demand)
+    ++ by_rule 16 (same_entry_twice x.scope x.demand)
+    ++ by_rule 17 (reserved_name m names x.demand)
+    ++ by_rule 18 (main_entry x.scope x.demand)
+    ++ by_rule 19 (abort_order x.scope x.demand)
+    ++ by_rule 20 (body_missing x.demand)
+    ++ by_rule 21 (exit_place x.scope x.demand)
+    ++ by_rule 22 (raise_place x.scope x.demand)
+    ++ map (λ o. record { rule = 23; over = Some o.over; span = o.span }) (over_limit m names x.demand)
 
 -- All that the rules refuse in a program.
 abbrev pub check_refusals : PProgram → Mode → List CheckRefusal
-check_refusals p m = flat_map (refused_at m p.names) (spots p)
+check_refusals p m = flat_map (refused_at m p.names) (check_sites p)
 
 -- The program meets the rules.
 abbrev pub MeetsCheckRules : PProgram → Mode → Type 0

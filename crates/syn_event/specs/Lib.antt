@@ -6,11 +6,11 @@ pub mod Numbered
 pub mod TaskText
 pub mod Limits
 pub mod Extents
-pub mod Surrounding
+pub mod CheckScope
 pub mod TaskParts
 pub mod Callees
 pub mod Copying
-pub mod Spots
+pub mod CheckSites
 pub mod RuleSharedVariable
 pub mod RuleAcceptPlace
 pub mod RuleSelectForm

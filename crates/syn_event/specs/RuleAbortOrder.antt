@@ -3,7 +3,7 @@ use Rattle.std.specs.Prelude.{◌==◌, if◌then◌else◌, List, [], ◌∷◌
 use Rattle.ada_tree.specs.declared.naming.Span.{Span}
 use Rattle.syn_event.specs.declared.meanings.Meant.{Meant}
 use Rattle.syn_event.specs.declared.meanings.Meant.TheVariants.{TaskOf}
-use Rattle.syn_event.specs.Surrounding.{Unit, Surrounding, meaning, Asked, aborts_before}
+use Rattle.syn_event.specs.CheckScope.{Unit, CheckScope, meaning, CheckDemand, aborts_before}
 
 -- a task that runs the body in which the place is
 abbrev pub own_task : Option Unit → Option Meant → Span → List Span
@@ -11,6 +11,6 @@ own_task (Some own) (Some (TaskOf unit)) s = if own.name.0 == unit.0 then s ∷ 
 own_task _ _ s = []
 
 -- The names of own tasks with another name behind them.
-abbrev pub abort_order : Surrounding → Asked → List Span
+abbrev pub abort_order : CheckScope → CheckDemand → List Span
 abort_order around (aborts_before w) = own_task around.own (meaning around w.name) w.span
 abort_order around _ = []

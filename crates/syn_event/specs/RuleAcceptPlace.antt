@@ -3,7 +3,7 @@ use Rattle.std.specs.Prelude.{Bool, false, not, ◌||◌, ◌==◌, if◌then◌
 use Rattle.std.specs.List.{list_any}
 use Rattle.ada_tree.specs.declared.naming.NameId.{NameId}
 use Rattle.ada_tree.specs.declared.naming.Span.{Span}
-use Rattle.syn_event.specs.Surrounding.{Unit, Surrounding, Asked, accepts}
+use Rattle.syn_event.specs.CheckScope.{Unit, CheckScope, CheckDemand, accepts}
 
 abbrev pub is_among : List NameId → NameId → Bool
 is_among names name = list_any (λ n. n.0 == name.0) names
@@ -14,7 +14,7 @@ is_own_entry (Some unit) name = is_among unit.entries name
 is_own_entry None name = false
 
 -- The accepts that may not stand where they do.
-abbrev pub accept_place : Surrounding → Asked → List Span
+abbrev pub accept_place : CheckScope → CheckDemand → List Span
 accept_place around (accepts h) =
     if not (is_own_entry around.own h.entry.name) || is_among around.accepting h.entry.name then h.span ∷ [] else []
 accept_place around _ = []

@@ -4,7 +4,7 @@ use Rattle.std.specs.List.{list_any}
 use Rattle.ada_tree.specs.declared.naming.NameId.{NameId}
 use Rattle.ada_tree.specs.declared.naming.Span.{Span}
 use Rattle.ada_tree.specs.declared.naming.Word.{Word}
-use Rattle.syn_event.specs.Surrounding.{Surrounding, Asked, exits}
+use Rattle.syn_event.specs.CheckScope.{CheckScope, CheckDemand, exits}
 
 abbrev pub is_named : NameId → Option NameId → Bool
 is_named name (Some n) = n.0 == name.0
@@ -16,6 +16,6 @@ is_left (Some w) loop = is_named w.name loop
 is_left None loop = true
 
 -- The exits that leave no loop around them in the same accept.
-abbrev pub exit_place : Surrounding → Asked → List Span
+abbrev pub exit_place : CheckScope → CheckDemand → List Span
 exit_place around (exits w s) = if list_any (is_left w) around.loops then [] else s ∷ []
 exit_place around _ = []

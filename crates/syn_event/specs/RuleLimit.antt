@@ -6,7 +6,7 @@ use Rattle.syn_event.specs.declared.limits.What.{What}
 use Rattle.syn_event.specs.declared.limits.What.TheVariants.{Name}
 use Rattle.syn_event.specs.Units.{text_of}
 use Rattle.syn_event.specs.Limits.{limit_of}
-use Rattle.syn_event.specs.Surrounding.{Asked, declares, counts}
+use Rattle.syn_event.specs.CheckScope.{CheckDemand, declares, counts}
 
 -- the limit that is passed
 pub record Over : Type 0 where
@@ -25,7 +25,7 @@ passed what (Some limit) before here s =
 passed what None before here s = []
 
 -- The places where a limit is passed.
-abbrev pub over_limit : Mode → List (List ℕ) → Asked → List OverAt
+abbrev pub over_limit : Mode → List (List ℕ) → CheckDemand → List OverAt
 over_limit m names (declares w) = passed Name (limit_of m Name) 0 (length (text_of names w.name)) w.span
 over_limit m names (counts what before here s) = passed what (limit_of m what) before here s
 over_limit m names _ = []

@@ -3,7 +3,7 @@ use Rattle.std.specs.Prelude.{List, [], ◌∷◌, Option, Some}
 use Rattle.ada_tree.specs.declared.naming.Span.{Span}
 use Rattle.syn_event.specs.declared.meanings.Meant.{Meant}
 use Rattle.syn_event.specs.declared.meanings.Meant.TheVariants.{MainProcedure, TaskType}
-use Rattle.syn_event.specs.Surrounding.{Surrounding, meaning, Asked, addresses}
+use Rattle.syn_event.specs.CheckScope.{CheckScope, meaning, CheckDemand, addresses}
 
 abbrev pub no_task : Option Meant → Span → List Span
 no_task (Some MainProcedure) s = s ∷ []
@@ -11,6 +11,6 @@ no_task (Some TaskType) s = s ∷ []
 no_task _ s = []
 
 -- The names of the procedure and of task types in the place of a task's.
-abbrev pub main_entry : Surrounding → Asked → List Span
+abbrev pub main_entry : CheckScope → CheckDemand → List Span
 main_entry around (addresses w) = no_task (meaning around w.name) w.span
 main_entry around _ = []

@@ -6,7 +6,7 @@ use Rattle.ada_tree.specs.declared.naming.Word.{Word}
 use Rattle.syn_event.specs.declared.numbering.Mode.{Mode}
 use Rattle.syn_event.specs.declared.numbering.Mode.TheVariants as mode
 use Rattle.syn_event.specs.Units.{text_of}
-use Rattle.syn_event.specs.Surrounding.{Asked, declares}
+use Rattle.syn_event.specs.CheckScope.{CheckDemand, declares}
 
 -- _DED_ stands somewhere in the text
 abbrev pub has_mark : List ℕ → Bool
@@ -21,6 +21,6 @@ reserved_in mode.Original names w = if is_reserved (text_of names w.name) then w
 reserved_in mode.Any names w = []
 
 -- The declared names that are left to the rewriters.
-abbrev pub reserved_name : Mode → List (List ℕ) → Asked → List Span
+abbrev pub reserved_name : Mode → List (List ℕ) → CheckDemand → List Span
 reserved_name m names (declares w) = reserved_in m names w
 reserved_name m names _ = []

@@ -8,7 +8,7 @@ use Rattle.ada_tree.specs.PlainExpr.{PExpr}
 use Rattle.ada_tree.specs.PlainStmt.{PHead, PAltKind, AAccept, accepting}
 use Rattle.syn_event.specs.Extents.{fixed}
 use Rattle.syn_event.specs.RuleSelectForm.{alt_kinds}
-use Rattle.syn_event.specs.Surrounding.{Surrounding, Asked, waits}
+use Rattle.syn_event.specs.CheckScope.{CheckScope, CheckDemand, waits}
 
 -- the accepts among the alternatives
 abbrev pub accept_heads : List PAltKind → List PHead
@@ -35,6 +35,6 @@ clashing types before [] = []
 clashing types before (h ∷ rest) = (if list_any (clash types h) before then h.span ∷ [] else []) ++ clashing types (h ∷ before) rest
 
 -- The accepts that clash with an earlier one of the same wait.
-abbrev pub same_entry_twice : Surrounding → Asked → List Span
+abbrev pub same_entry_twice : CheckScope → CheckDemand → List Span
 same_entry_twice around (waits x has_else s) = clashing around.types [] (accept_heads (alt_kinds x))
 same_entry_twice around _ = []

@@ -2,7 +2,7 @@
 use Rattle.std.specs.Prelude.{ℕ, ◌+◌, ◌||◌, ◌==◌, nat_lt, Bool, true, false, if◌then◌else◌, List, [], ◌∷◌, count_by}
 use Rattle.ada_tree.specs.declared.naming.Span.{Span}
 use Rattle.ada_tree.specs.PlainStmt.{PAltKind, AAccept, ADelay, ATerminate, PAlts, no_alt, alt_then, alternative}
-use Rattle.syn_event.specs.Surrounding.{Surrounding, Asked, waits}
+use Rattle.syn_event.specs.CheckScope.{CheckScope, CheckDemand, waits}
 
 -- the alternatives in order, without their guards
 abbrev pub alt_kinds : PAlts → List PAltKind
@@ -37,6 +37,6 @@ abbrev pub is_malformed : List PAltKind → Bool → Bool
 is_malformed xs has_else = (count_by is_accept xs == 0) || nat_lt 1 (count_by is_terminate xs) || nat_lt 1 (kinds_count xs has_else)
 
 -- The selective waits of a wrong form.
-abbrev pub select_form : Surrounding → Asked → List Span
+abbrev pub select_form : CheckScope → CheckDemand → List Span
 select_form around (waits x has_else s) = if is_malformed (alt_kinds x) has_else then s ∷ [] else []
 select_form around _ = []

@@ -3,7 +3,7 @@ use Rattle.std.specs.Prelude.{List, [], ◌∷◌, Option, Some, None}
 use Rattle.ada_tree.specs.declared.naming.Span.{Span}
 use Rattle.syn_event.specs.declared.meanings.Meant.{Meant}
 use Rattle.syn_event.specs.declared.meanings.Meant.TheVariants.{Shared}
-use Rattle.syn_event.specs.Surrounding.{Unit, Surrounding, meaning, Asked, uses}
+use Rattle.syn_event.specs.CheckScope.{Unit, CheckScope, meaning, CheckDemand, uses}
 
 abbrev pub shared_name : Option Meant → Span → List Span
 shared_name (Some Shared) s = s ∷ []
@@ -14,6 +14,6 @@ in_body_of (Some unit) spans = spans
 in_body_of None spans = []
 
 -- The names of variables and array constants of main in bodies of tasks.
-abbrev pub shared_variable : Surrounding → Asked → List Span
+abbrev pub shared_variable : CheckScope → CheckDemand → List Span
 shared_variable around (uses id s) = in_body_of around.own (shared_name (meaning around id) s)
 shared_variable around _ = []

@@ -38,7 +38,7 @@ aborted_before = refl
 --
 -- procedure ABNORMAL is task S is entry E; end S; task A; task K; task body S is begin accept E do null; end E; end S; task body A is begin S.E;
 -- PUT_LINE("AFTER"); end A; task body K is begin abort A; end K; begin null; end ABNORMAL;
-abbrev caller_aborted : PProgram
+abbrev pub caller_aborted : PProgram
 caller_aborted = record { names = (predefined ++ (codes "ABNORMAL" ∷ codes "S" ∷ codes "E" ∷ codes "A" ∷ codes "K" ∷ [])); text_io = false; name = (w 25); decls = (decl_then (DTask (record { name = (w 26); of_kind = false; entries = ((record { name = (w 27); family = None; formals = []; span = o }) ∷ []); priorities = [] }) o) (decl_then (DTask (record { name = (w 28); of_kind = false; entries = []; priorities = [] }) o) (decl_then (DTask (record { name = (w 29); of_kind = false; entries = []; priorities = [] }) o) (decl_then (DTaskBody (w 26) no_decl (body (stmt_then (SAccept (accepting (record { entry = (w 27); index = None; formals = []; span = o }) (present (stmt_then (SNull o) no_stmt))) o) no_stmt) no_handler) o) (decl_then (DTaskBody (w 28) no_decl (body (stmt_then (SCall (record { task = (record { name = (w 26); index = None }); entry = (w 27); args = None }) o) (stmt_then (SPutLine ((PWords (codes "AFTER") o) ∷ []) o) no_stmt)) no_handler) o) (decl_then (DTaskBody (w 29) no_decl (body (stmt_then (SAbort ((record { name = (w 28); index = None }) ∷ []) o) no_stmt) no_handler) o) no_decl)))))); body = (body (stmt_then (SNull o) no_stmt) no_handler) }
 
 -- In the rendezvous: it is abnormal, and completes as the rendezvous ends.

@@ -1,7 +1,7 @@
 pub mod Trees
 pub mod Judging
 mod Waits
-mod Meetings
-mod Aborts
+pub mod Meetings
+pub mod Aborts
 mod Members
 mod Sequences

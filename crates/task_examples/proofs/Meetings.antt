@@ -20,7 +20,7 @@ use Rattle.task_examples.proofs.Judging.{judged, IsFeasible, IsInfeasible, IsUns
 -- Main calls an entry.
 --
 -- procedure ONE is task B is entry PUT; end B; task body B is begin accept PUT; end B; begin B.PUT; end ONE;
-abbrev one_meeting : PProgram
+abbrev pub one_meeting : PProgram
 one_meeting = record { names = (predefined ++ (codes "ONE" ∷ codes "B" ∷ [])); text_io = false; name = (w 25); decls = (decl_then (DTask (record { name = (w 26); of_kind = false; entries = ((record { name = (w 14); family = None; formals = []; span = o }) ∷ []); priorities = [] }) o) (decl_then (DTaskBody (w 26) no_decl (body (stmt_then (SAccept (accepting (record { entry = (w 14); index = None; formals = []; span = o }) absent) o) no_stmt) no_handler) o) no_decl)); body = (body (stmt_then (SCall (record { task = (record { name = (w 26); index = None }); entry = (w 14); args = None }) o) no_stmt) no_handler) }
 
 -- Two arrivals, the start, the end, the completion of the task and the end of the program are six actions.

@@ -9,7 +9,7 @@ use Rattle.event_machine.specs.Worlds.{still}
 use Rattle.task_model.specs.Steps.{block_stmts, block_handlers}
 use Rattle.task_model.specs.Starting.{unit_of, started, nobody}
 use Rattle.task_model.specs.Tasks.{Task}
-use Rattle.task_model.specs.Machine.{Setup, setting_of, first_tasks, opening_of}
+use Rattle.task_model.specs.Machine.{Setup, setting_of, first_tasks}
 use Rattle.task_model.specs.Laws.{program_in, first_world}
 use Rattle.task_model.proofs.Following.{opens}
 use Rattle.task_invariants.specs.AcceptHeads.{InStmts, InHandlers, InBody}

@@ -1,13 +1,13 @@
 -- Frames that are left, entered or raised through keep what holds of their statements and of the formals in them, and no accept body opens or closes.
-use Rattle.std.proofs.Common.{◌≡◌, ℕ, zero, suc, Bool, true, false, List, [], ◌∷◌, ◌++◌, Option, Some, None, drop, refl, sym, ap, ◌∙◌, subst}
+use Rattle.std.proofs.Common.{◌≡◌, Bool, true, false, List, [], ◌∷◌, ◌++◌, Option, Some, None, drop, refl, ◌∙◌}
 use Rattle.std.specs.Prelude.{if◌then◌else◌}
 use Rattle.ada_tree.specs.declared.naming.Word.{Word}
-use Rattle.ada_tree.specs.PlainStmt.{PHead, PStmts, no_stmt, stmt_then, PHandlers, no_handler, handler_then, handler, PHandler}
+use Rattle.ada_tree.specs.PlainStmt.{PHead, PStmts, no_stmt, stmt_then, PHandlers, no_handler, handler_then, handler}
 use Rattle.ada_value.specs.declared.values.Raised.{Raised}
 use Rattle.ada_value.specs.Variables.{Variables}
-use Rattle.task_model.specs.Frames.{Turns, Around, Whole, Block, Handling, Loop, Opened, Part, Control, control, in_front, settled_in, settled, is_for, handler_for, unit_with, block_with, raised_in, is_left, exited_in, brought_by, brought}
+use Rattle.task_model.specs.Frames.{Around, Whole, Block, Handling, Loop, Opened, Part, Control, control, in_front, settled_in, settled, is_for, handler_for, unit_with, block_with, raised_in, is_left, exited_in, brought_by}
 use Rattle.task_invariants.specs.AcceptHeads.{InStmts, InHandlers, InPlace, InParts}
-use Rattle.task_invariants.specs.Holding.{Own, HeldIn, IsHeld, Opening, opening_at, openings_among, openings_in}
+use Rattle.task_invariants.specs.Holding.{HeldIn, IsHeld, Opening, opening_at, openings_among, openings_in}
 
 module _ (Head : PHead → Type 0) where
   -- what holds where a task stands that has opened these accept bodies

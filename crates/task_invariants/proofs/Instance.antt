@@ -1,5 +1,5 @@
 -- The example is as the laws ask.
-use Rattle.std.proofs.Common.{◌≡◌, ℕ, zero, suc, ◌-◌, ◌==◌, Bool, true, false, if◌then◌else◌, None, refl, sym, subst, arith}
+use Rattle.std.proofs.Common.{◌≡◌, ℕ, zero, suc, ◌-◌, ◌==◌, true, false, if◌then◌else◌, None, refl, sym, subst, arith}
 use Rattle.std.specs.Prelude.{slice_get}
 use Rattle.std.proofs.lemmas.Bool.{ne_eqb}
 use Rattle.syn_event.specs.Numbering.{task_at}
@@ -8,10 +8,10 @@ use Rattle.task_model.specs.Setting.{formals_of_info, parameters_of, entry_param
 use Rattle.task_model.specs.Starting.{unit_of}
 use Rattle.task_invariants.specs.AcceptHeads.{InBody}
 use Rattle.task_invariants.specs.Holding.{LowersFit}
-use Rattle.task_invariants.specs.Worlds.{Conforms, IsWellMade}
+use Rattle.task_invariants.specs.Worlds.{Conforms}
 use Rattle.task_invariants.specs.Example.{example_setting, example, IsMet}
 
-not_zero : (k : ℕ) → (suc k == 0) ≡ false
+pub not_zero : (k : ℕ) → (suc k == 0) ≡ false
 not_zero k = ne_eqb (suc k) 0 (λ e. omega (arith, e))
 
 conforms : (t : ℕ) → InBody (Conforms example_setting t) (unit_of example_setting.program example_setting.numbers t).body

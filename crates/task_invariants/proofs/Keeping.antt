@@ -1,6 +1,6 @@
 -- Each move keeps what is true of all tasks.
-use Rattle.std.proofs.Common.{◌≡◌, inl, inr, ◌⊎◌, ⊎_elim, ℕ, ℤ, zero, suc, ◌+◌, ◌<◌, ◌≤◌, Bool, true, false, not, ◌&&◌, ◌==◌, if◌then◌else◌, List, [], ◌∷◌, ◌++◌, map, Option, Some, None, Ok, refl, sym, ap, ◌∙◌, subst, true≢false, arith}
-use Rattle.std.proofs.lemmas.Bool.{and_parts, eqb-true, ne_eqb, cases_lt, cases_Bool}
+use Rattle.std.proofs.Common.{◌≡◌, inl, inr, ◌⊎◌, ⊎_elim, ℕ, ℤ, ◌+◌, ◌<◌, ◌≤◌, Bool, true, false, not, ◌&&◌, ◌==◌, if◌then◌else◌, List, [], ◌∷◌, ◌++◌, Option, Some, None, Ok, refl, sym, ap, ◌∙◌, subst, true≢false, arith}
+use Rattle.std.proofs.lemmas.Bool.{and_parts, eqb-true, cases_lt, cases_Bool}
 use Rattle.ada_tree.specs.PlainStmt.{PCall}
 use Rattle.ada_value.specs.Values.{and_then}
 use Rattle.event_machine.specs.declared.Standing.{Standing}
@@ -8,7 +8,7 @@ use Rattle.event_machine.specs.declared.Standing.TheVariants.{Live, Waiting, Que
 use Rattle.event_machine.specs.declared.Event.{Event}
 use Rattle.event_machine.specs.declared.Event.TheVariants.{R, E, S, D, C, T, F, X, B, Z}
 use Rattle.event_machine.specs.Offers.{calls_in, is_any_form, waits_with, opens}
-use Rattle.event_machine.specs.Seats.{Ops, Seat, live, completed, is_live, is_closed, is_completed, is_served_by, is_abnormal}
+use Rattle.event_machine.specs.Seats.{Seat, live, completed, is_live, is_closed, is_completed, is_served_by, is_abnormal}
 use Rattle.event_machine.specs.Effects.{fallen, released_first, aborted, went_on, abort_seats}
 use Rattle.event_machine.specs.Programs.{Program, numbered}
 use Rattle.event_machine.specs.Soundness.{IsSound, times}
@@ -27,7 +27,7 @@ use Rattle.task_model.specs.Setting.{Setting, task_of, member_index, lists_of, e
 use Rattle.task_model.specs.Frames.{Around, Whole, Block, Handling, Loop, Opened, Part, caller_at, callers_among, callers_in}
 use Rattle.task_model.specs.Tasks.{Task, rest_of, place_of, outer_of, vars_of}
 use Rattle.task_model.specs.Calls.{Called, called_with, call_in, called_by, values_of, values_handed, openings, opened_objects}
-use Rattle.task_model.specs.Waits.{Open, Accepts, Delays, Terminates, alternative_for, accepts_member}
+use Rattle.task_model.specs.Waits.{Open, Accepts, Delays, Terminates, alternative_for}
 use Rattle.task_model.specs.Rendezvous as rendezvous
 use Rattle.task_model.specs.TaskOps.{task_ops}
 use Rattle.task_model.specs.Laws.{IsProper}
@@ -36,7 +36,7 @@ use Rattle.task_invariants.specs.Worlds.{Conforms, IsWellMade, IsIn, IsLinked, A
 use Rattle.task_invariants.proofs.Variables.{chain, ok_path, openings_fit, opened_held}
 use Rattle.task_invariants.proofs.Frames.{Good}
 use Rattle.task_invariants.proofs.Steady.{Goes, Stays, goes_stepped}
-use Rattle.task_invariants.proofs.Meetings.{Leaves, leaves_finished, good_opened, Found, found_for, goes_resumed, goes_failed, goes_else, goes_delay, goes_passed}
+use Rattle.task_invariants.proofs.Meetings.{some_path, none_some, leaves_finished, good_opened, Found, found_for, goes_resumed, goes_failed, goes_else, goes_delay, goes_passed}
 use Rattle.task_invariants.proofs.Offering.{AtCall, at_call, at_accept}
 
 -- ---- one task
@@ -89,12 +89,6 @@ times_head c xs h =
     omega (arith, k)
 
 -- the values of a call fit the formals of its entry
-some_path : {A : Type 0} {a b : A} → ◌≡◌ {A = Option A} (Some a) (Some b) → a ≡ b
-some_path {A} {a} {b} h = let e : ◌≡◌ {A = Option A} (Some a) (Some b) = h in cc
-
-none_some : {A : Type 0} {a : A} → ◌≡◌ {A = Option A} None (Some a) → ⊥
-none_some {A} {a} h = let e : ◌≡◌ {A = Option A} None (Some a) = h in cc
-
 called_fits : (l : Task) (r : Called) → called_by l.setting (vars_of l) (call_in (rest_of l)) ≡ Some (Ok r) → ((e : ℕ) → LowersFit l.setting.types (entry_parameters l.setting e)) →
     ValuesFit l.setting.types (entry_parameters l.setting r.entry) r.values
 called_fits l r h lowers = go (call_in (rest_of l)) h

@@ -1,34 +1,31 @@
 -- What a rendezvous, its end, and the other parts of calls, waits and aborts leave of a task's statements, of its accept bodies and of the formals that they hold (6.2, 9.5, 9.7, 9.10).
-use Rattle.std.proofs.Common.{◌≡◌, inl, inr, ℕ, ℤ, zero, suc, Bool, true, false, ◌&&◌, ◌||◌, List, [], ◌∷◌, ◌++◌, Option, Some, None, Result, Ok, Err, drop, length, refl, sym, ap, ◌∙◌, subst, true≢false}
+use Rattle.std.proofs.Common.{◌≡◌, inl, inr, ℕ, ℤ, Bool, true, false, List, [], ◌∷◌, ◌++◌, Option, Some, None, Result, Ok, Err, drop, length, refl, sym, subst}
 use Rattle.std.specs.Prelude.{find, if◌then◌else◌, ◌+◌, ◌==◌, ◌⊎◌}
-use Rattle.std.specs.List.{filter_map, list_any}
-use Rattle.ada_tree.specs.PlainExpr.{PExpr}
-use Rattle.ada_tree.specs.PlainStmt.{PHead, PCall, PCallee, PStmt, SNull, SAssign, SDelay, SExit, SRaise, SAbort, SCall, SAccept, SWait, SConditional, STimed, SPut, SPutLine, SNewLine, SGet, SIf, SCase, SBlock, SLoop, PStmts, no_stmt, stmt_then, PMaybe, absent, present, PAccept, accepting, PAlt, alternative, PAltKind, AAccept, ADelay, ATerminate, PAlts, no_alt, alt_then}
+use Rattle.ada_tree.specs.PlainStmt.{PHead, PCall, PStmt, SNull, SAssign, SDelay, SExit, SRaise, SAbort, SCall, SAccept, SWait, SConditional, STimed, SPut, SPutLine, SNewLine, SGet, SIf, SCase, SBlock, SLoop, PStmts, no_stmt, stmt_then, PAccept, accepting, alternative, PAltKind, AAccept, ADelay, ATerminate, PAlts, no_alt, alt_then}
 use Rattle.event_machine.specs.declared.Choice.{Choice}
 use Rattle.event_machine.specs.declared.Choice.TheVariants as choice
-use Rattle.event_machine.specs.Offers.{same_member, opens}
 use Rattle.ada_value.specs.declared.values.Value.{Value}
 use Rattle.ada_value.specs.declared.values.Raised.{Raised}
 use Rattle.ada_value.specs.declared.values.Raised.TheVariants as raised
 use Rattle.ada_value.specs.Values.{and_then}
 use Rattle.ada_value.specs.Variables.{Variables}
 use Rattle.task_model.specs.declared.parameters.FormalParameter.{FormalParameter}
-use Rattle.task_model.specs.Setting.{Setting, entry_of, member_index, entry_parameters, parameters_of, lists_of}
-use Rattle.task_model.specs.Frames.{Around, Whole, Block, Handling, Loop, Opened, Part, Control, control, in_front, settled_in, brought}
-use Rattle.task_model.specs.Tasks.{Task, rest_of, place_of, outer_of, vars_of, stmts_or_none, with_vars, gone_to, entered, raised_there}
-use Rattle.task_model.specs.Calls.{Called, called, call_in, opened_objects, Copies, copied_back}
-use Rattle.task_model.specs.Waits.{Open, Accepts, Delays, Terminates, guard_holds, accept_opened, kind_opened, delays_with, opened_if, alternatives_open, open_at, accept_choice, delay_choice, terminate_choice, else_choice, choices_of, accepts_member, first_accepting, accepting_at, alternative_for, delay_part, delay_here, delay_stmts}
+use Rattle.task_model.specs.Setting.{Setting, entry_of, member_index, entry_parameters, lists_of}
+use Rattle.task_model.specs.Frames.{Around, Whole, Block, Handling, Loop, Opened, Part, control, in_front}
+use Rattle.task_model.specs.Tasks.{Task, rest_of, place_of, outer_of, vars_of, stmts_or_none, entered}
+use Rattle.task_model.specs.Calls.{Called, called, call_in, opened_objects, Copies}
+use Rattle.task_model.specs.Waits.{Open, Accepts, Delays, Terminates, guard_holds, accept_opened, kind_opened, delays_with, opened_if, alternatives_open, open_at, accepts_member, first_accepting, accepting_at, alternative_for, delay_part, delay_here, delay_stmts}
 use Rattle.task_model.specs.Rendezvous as rendezvous
-use Rattle.task_invariants.specs.AcceptHeads.{InStmt, InStmts, InMaybe, InAccept, InAltKind, InAlts, InPlace, InParts}
-use Rattle.task_invariants.specs.Holding.{AreHeld, HeldIn, IsHeld, Opening, opening_at, openings_among, openings_in}
-use Rattle.task_invariants.proofs.Variables.{AreSame, same_self, copied_same, ok_path, err_ok, Chain, chain, opened_drop}
-use Rattle.task_invariants.proofs.Frames.{Good, in_front_in, good_settled, good_settle, good_raised}
+use Rattle.task_invariants.specs.AcceptHeads.{InStmt, InStmts, InAccept, InAltKind, InAlts}
+use Rattle.task_invariants.specs.Holding.{AreHeld, HeldIn, Opening, openings_in}
+use Rattle.task_invariants.proofs.Variables.{AreSame, same_self, copied_same, ok_path, chain, opened_drop}
+use Rattle.task_invariants.proofs.Frames.{Good, in_front_in}
 use Rattle.task_invariants.proofs.Steady.{Goes, Stays, goes_gone, goes_changed, goes_raised, goes_raised_with, goes_itself, maybe_in}
 
-some_path : {A : Type 0} {a b : A} → ◌≡◌ {A = Option A} (Some a) (Some b) → a ≡ b
+pub some_path : {A : Type 0} {a b : A} → ◌≡◌ {A = Option A} (Some a) (Some b) → a ≡ b
 some_path {A} {a} {b} h = let e : ◌≡◌ {A = Option A} (Some a) (Some b) = h in cc
 
-none_some : {A : Type 0} {a : A} → ◌≡◌ {A = Option A} None (Some a) → ⊥
+pub none_some : {A : Type 0} {a : A} → ◌≡◌ {A = Option A} None (Some a) → ⊥
 none_some {A} {a} h = let e : ◌≡◌ {A = Option A} None (Some a) = h in cc
 
 module _ (Head : PHead → Type 0) where

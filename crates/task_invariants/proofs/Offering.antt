@@ -1,23 +1,22 @@
 -- What the offers of a call and of a wait say: the call could be evaluated, and an alternative accepts the member (9.5, 9.7.1).
-use Rattle.std.proofs.Common.{◌≡◌, ℕ, ℤ, Bool, true, false, ◌&&◌, ◌||◌, List, [], ◌∷◌, ◌++◌, append-nil, Option, Some, None, Result, Ok, Err, refl, sym, ap, ◌∙◌, subst, true≢false}
+use Rattle.std.proofs.Common.{◌≡◌, ℕ, ℤ, Bool, true, false, ◌||◌, List, [], ◌∷◌, ◌++◌, append-nil, Option, Some, None, Result, Ok, Err, refl, sym, ap, ◌∙◌, true≢false}
 use Rattle.std.specs.Prelude.{find, if◌then◌else◌}
 use Rattle.std.specs.List.{filter_map, list_any, cons_option}
-use Rattle.std.proofs.lemmas.Bool.{and_parts, eqb-true}
-use Rattle.ada_tree.specs.PlainStmt.{PCall, PStmt, SNull, SAssign, SDelay, SExit, SRaise, SAbort, SCall, SAccept, SWait, SConditional, STimed, SPut, SPutLine, SNewLine, SGet, SIf, SCase, SBlock, SLoop, PStmts, no_stmt, stmt_then, PCallee}
+use Rattle.std.proofs.lemmas.Bool.{and_parts}
+use Rattle.ada_tree.specs.PlainStmt.{PStmt, SNull, SAssign, SDelay, SExit, SRaise, SAbort, SCall, SAccept, SWait, SConditional, STimed, SPut, SPutLine, SNewLine, SGet, SIf, SCase, SBlock, SLoop, PStmts, no_stmt, stmt_then}
 use Rattle.event_machine.specs.declared.CallForm.{CallForm}
 use Rattle.event_machine.specs.declared.CallForm.TheVariants as form
 use Rattle.event_machine.specs.declared.Choice.{Choice}
 use Rattle.event_machine.specs.declared.Choice.TheVariants as choice
-use Rattle.event_machine.specs.Offers.{Offer, Nothing, Calls, Waits, Finishes, Ends, Aborts, same_member, opens, calls_in, is_any_form, waits_with}
+use Rattle.event_machine.specs.Offers.{Offer, same_member, opens, calls_in, is_any_form, waits_with}
 use Rattle.event_machine.proofs.Basics.{same_member-true}
 use Rattle.ada_value.specs.declared.values.Raised.{Raised}
-use Rattle.ada_value.specs.Values.{and_then}
 use Rattle.task_model.specs.Setting.{task_of}
 use Rattle.task_model.specs.Frames.{Around, Whole, Block, Handling, Loop, Opened}
 use Rattle.task_model.specs.Tasks.{Task, rest_of, place_of, vars_of}
-use Rattle.task_model.specs.Calls.{Called, called, call_of, call_in, called_by}
+use Rattle.task_model.specs.Calls.{Called, called, call_in, called_by}
 use Rattle.task_model.specs.Waits.{Open, Accepts, Delays, Terminates, open_at, accept_choice, delay_choice, terminate_choice, else_choice, choices_of, is_present, is_shorter, accepts_member, first_accepting, accepting_at, alternative_for}
-use Rattle.task_model.specs.Stands.{Stand, Steps, Raises, At, offered, stand_of, stand_at, stand_behind, stand_with, call_stand, choices_stand, wait_stand, abort_stand, name_stand, offer_of}
+use Rattle.task_model.specs.Stands.{offered, stand_at, stand_behind, stand_with, call_stand, choices_stand, wait_stand, name_stand, offer_of}
 
 -- ---- calls
 

@@ -1,24 +1,24 @@
 -- What a task does by itself keeps its statements, its accept bodies and the formals that they hold (5, 9.5, 11).
-use Rattle.std.proofs.Common.{◌≡◌, ℕ, ℤ, Bool, true, false, List, [], ◌∷◌, ◌++◌, Option, Some, None, Result, Ok, Err, drop, refl, sym, ap, ◌∙◌, subst, true≢false}
+use Rattle.std.proofs.Common.{◌≡◌, ℕ, ℤ, Bool, true, false, List, [], ◌∷◌, ◌++◌, Option, Some, None, Result, Ok, Err, drop, refl, sym, subst}
 use Rattle.std.specs.Prelude.{if◌then◌else◌}
 use Rattle.ada_tree.specs.declared.naming.Word.{Word}
 use Rattle.ada_tree.specs.PlainExpr.{PExpr}
-use Rattle.ada_tree.specs.PlainStmt.{PHead, PStmt, SNull, SAssign, SDelay, SExit, SRaise, SAbort, SCall, SAccept, SWait, SConditional, STimed, SPut, SPutLine, SNewLine, SGet, SIf, SCase, SBlock, SLoop, PStmts, no_stmt, stmt_then, PHandlers, PBody, body, PMaybe, absent, present, PArms, no_arm, arm_then, arm, PCaseArms, no_case_arm, case_arm_then, case_arm, PScheme, LWhile, LFor, PTarget, PPart, PChoice}
+use Rattle.ada_tree.specs.PlainStmt.{PHead, PStmt, SNull, SAssign, SDelay, SExit, SRaise, SAbort, SCall, SAccept, SWait, SConditional, STimed, SPut, SPutLine, SNewLine, SGet, SIf, SCase, SBlock, SLoop, PStmts, no_stmt, stmt_then, PHandlers, body, PMaybe, absent, present, PArms, no_arm, arm_then, arm, PCaseArms, no_case_arm, case_arm_then, case_arm, PScheme, LWhile, LFor, PTarget, PPart}
 use Rattle.ada_value.specs.declared.values.Value.{Value}
 use Rattle.ada_value.specs.declared.values.Raised.{Raised}
 use Rattle.ada_value.specs.declared.values.Raised.TheVariants as raised
 use Rattle.ada_value.specs.declared.values.Limits.{Limits}
 use Rattle.ada_value.specs.Texts.{parts_text}
 use Rattle.ada_value.specs.Values.{and_then, is_empty_range}
-use Rattle.ada_value.specs.Variables.{Object, Variables, checked_for, set_value}
+use Rattle.ada_value.specs.Variables.{Variables, checked_for, set_value}
 use Rattle.task_model.specs.Setting.{Setting}
-use Rattle.task_model.specs.Frames.{Turns, Endless, While, Counting, Around, Whole, Block, Handling, Loop, Opened, Part, Control, control, in_front, settled_in, settled, brought_by, brought}
+use Rattle.task_model.specs.Frames.{Turns, Endless, While, Counting, Around, Whole, Block, Handling, Loop, Opened, Part, control, in_front, brought_by}
 use Rattle.task_model.specs.Tasks.{Task, rest_of, place_of, outer_of, vars_of, value_of, stmts_or_none, with_vars, with_input, with_text, gone_to, entered, pushed, raised_there, or_raised}
 use Rattle.task_model.specs.Steps as steps
 use Rattle.task_model.specs.Stands.{Stand, Steps, Raises, At, stand_of, stepped, stepped_by, stepped_with, stepped_at, stepped_behind}
 use Rattle.task_invariants.specs.AcceptHeads.{InStmt, InStmts, InMaybe, InArms, InCaseArms, InHandlers, InPlace, InParts}
-use Rattle.task_invariants.specs.Holding.{IsHeld, Opening, opening_at, openings_among, openings_in}
-use Rattle.task_invariants.proofs.Variables.{AreSame, same_self, is_held_same, set_same, ok_path, Chain, chain}
+use Rattle.task_invariants.specs.Holding.{IsHeld, openings_in}
+use Rattle.task_invariants.proofs.Variables.{AreSame, is_held_same, set_same, ok_path, chain}
 use Rattle.task_invariants.proofs.Frames.{Good, in_front_in, good_settled, good_settle, good_raised, good_exited}
 
 module _ (Head : PHead → Type 0) where

@@ -14,7 +14,7 @@ use Rattle.ada_value.specs.Variables.{Object, Variables, object_named, value_the
 use Rattle.ada_value.specs.Evaluating.{evaluated}
 use Rattle.task_model.specs.declared.parameters.FormalParameter.{FormalParameter}
 use Rattle.task_model.specs.Frames.{Around, Whole, Block, Handling, Loop, Opened, Part, brought}
-use Rattle.task_model.specs.Calls.{opening, openings, opened_object, opened_objects, variable_of, Copies, stored_back, copies_on, copied_one, copied_back}
+use Rattle.task_model.specs.Calls.{opening, openings, opened_objects, variable_of, Copies, stored_back, copies_on, copied_one, copied_back}
 use Rattle.task_invariants.specs.Holding.{Fits, AreHeld, Own, HeldIn, IsHeld, ValuesFit, LowersFit, AreAlike}
 
 -- ---- results

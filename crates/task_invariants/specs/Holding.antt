@@ -4,7 +4,7 @@ use Rattle.ada_tree.specs.TypeTable.{TypeTable}
 use Rattle.ada_value.specs.declared.values.Value.{Value}
 use Rattle.ada_value.specs.declared.values.Limits.{Limits}
 use Rattle.ada_value.specs.Values.{position_of, lies_in, lower}
-use Rattle.ada_value.specs.Variables.{Object, Variables, value_there}
+use Rattle.ada_value.specs.Variables.{Variables, value_there}
 use Rattle.task_model.specs.declared.parameters.FormalParameter.{FormalParameter}
 use Rattle.task_model.specs.Frames.{Around, Whole, Block, Handling, Loop, Opened, Part, Control, brought}
 

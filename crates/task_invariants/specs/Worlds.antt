@@ -1,5 +1,5 @@
 -- What stays true of all tasks of a program as it runs (this project's rule).
-use Rattle.std.specs.Prelude.{◌≡◌, ℕ, ◌<◌, ◌≤◌, true, List, [], ◌∷◌, length, Some, Ok}
+use Rattle.std.specs.Prelude.{◌≡◌, ℕ, ◌<◌, ◌≤◌, true, List, [], ◌∷◌, Some, Ok}
 use Rattle.ada_tree.specs.PlainStmt.{PHead}
 use Rattle.syn_event.specs.Numbering.{Numbering}
 use Rattle.event_machine.specs.Seats.{is_completed, is_served_by}

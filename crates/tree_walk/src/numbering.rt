@@ -4,7 +4,7 @@ ghost use Rattle.std.specs.Prelude.{◌≡◌, ℕ, OnOk};
 ghost use Rattle.ada_tree.specs.PlainStmt.{SDelay, plain_body, plain_stmt};
 ghost use Rattle.normal_model.specs.Walk.{inside_body};
 ghost use Rattle.tree_walk.specs.Rules.{walk_of};
-ghost use Rattle.tree_walk.specs.Numbering.{numbering};
+ghost use Rattle.tree_walk.specs.inner.Numbering.{numbering};
 
 use crate::pushing::{push_stmt, push_taken};
 use crate::{Rewriter, rewrite_body};

@@ -3,16 +3,16 @@ use Rattle.std.specs.Prelude.{ℕ, List, [], ◌∷◌, ◌++◌}
 use Rattle.ada_tree.specs.declared.naming.Word.{Word}
 use Rattle.ada_tree.specs.PlainStmt.{PBody}
 use Rattle.ada_tree.specs.PlainDecl.{PDecl, DTaskBody, PDecls}
-use Rattle.syn_event.specs.Surrounding.{Surrounding, Spot}
-use Rattle.syn_event.specs.Spots.{in_body, own_spots, after_own, body_spots}
+use Rattle.syn_event.specs.CheckScope.{CheckScope, CheckSite}
+use Rattle.syn_event.specs.CheckSites.{in_body, own_sites, after_own, body_sites}
 
 -- those of a body of a task or task type
-abbrev pub task_body_spots : Surrounding → Word → PDecls → PBody → List Spot
-task_body_spots around w objects its = own_spots (in_body around w) objects ++ body_spots (after_own (in_body around w) objects) 1 its
+abbrev pub task_body_sites : CheckScope → Word → PDecls → PBody → List CheckSite
+task_body_sites around w objects its = own_sites (in_body around w) objects ++ body_sites (after_own (in_body around w) objects) 1 its
 
 -- those of a declaration that is one
-abbrev pub body_part : Surrounding → PDecl → List Spot
-body_part around (DTaskBody w objects its s) = task_body_spots around w objects its
+abbrev pub body_part : CheckScope → PDecl → List CheckSite
+body_part around (DTaskBody w objects its s) = task_body_sites around w objects its
 body_part around d = []
 
 -- names with that of a declaration, where it is one

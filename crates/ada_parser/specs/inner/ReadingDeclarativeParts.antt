@@ -11,7 +11,7 @@ use Rattle.ada_expr_parser.specs.Tests.{symbol, word}
 use Rattle.ada_expr_parser.specs.Trees.{from_to}
 use Rattle.ada_phrase_parser.specs.Spelling.{Source}
 use Rattle.ada_phrase_parser.specs.Reading.{is_symbol, key_then, end_of}
-use Rattle.ada_stmt_parser.specs.ReadingStatements.{readers, body_rest}
+use Rattle.ada_stmt_parser.specs.inner.ReadingStatements.{readers, body_rest}
 use Rattle.ada_parser.specs.inner.ReadingRows.{row}
 use Rattle.ada_decl_parser.specs.inner.ReadingDeclarations.{named_rest, names_behind, type_rest, subtype_rest, instance, object}
 use Rattle.ada_task_parser.specs.inner.ReadingTasks.{priority, task_rest}

@@ -7,8 +7,8 @@ use Rattle.ada_lexer.specs.declared.symbols.Symbol.TheVariants as key
 use Rattle.ada_expr_parser.specs.Gives.{Fails}
 use Rattle.ada_phrase_parser.specs.Reading.{is_symbol, key_then}
 use Rattle.ada_expr_parser.specs.Trees.{from_to}
-use Rattle.ada_compound_parts.specs.ReadingHeads.{kind_of, call_tail_of}
-use Rattle.ada_stmt_parser.specs.ReadingStatements.{inner_at, select_rest, alt_at, begins_stmt, if_arm, case_part, others_part, handler_part, handler_others, whens}
+use Rattle.ada_compound_parts.specs.inner.ReadingHeads.{kind_of, call_tail_of}
+use Rattle.ada_stmt_parser.specs.inner.ReadingStatements.{inner_at, select_rest, alt_at, begins_stmt, if_arm, case_part, others_part, handler_part, handler_others, whens}
 use Rattle.ada_phrase_parser.specs.Views.{told}
 use Rattle.ada_phrase_parser.proofs.Lists.{grown, list_empty, list_over, list_fails, list_goes}
 use Rattle.ada_stmt_parser.proofs.HandlerParts.{body_built, handlers_go}
@@ -113,41 +113,41 @@ compound::read_case_arms-arms-preserved m c =
     whens_step (case_part (c.args.depth - 1) (inner_at (told c.args.source.now) c.args.depth)) (others_part (inner_at (told c.args.source.now) c.args.depth)) (map plain_case_arm c.arms.arms.items) c.arms.rest.now c.args.items.now _ _ _ c.arms.invariant c.in-len1-up.len_at_least c.in-len1-up-behind.len_at_least (there _ _ _ c.stands.ensures.place c.if-not-stands.false)
     (map plain_case_arm c.add.new.list.items) (plain_case_arm c.in_ok-arm.arm) c.in_ok-arm.end.now (grown plain_case_arm c.arms.arms.items c.add.new.list.items c.in_ok-arm.arm c.in_ok-add.ensures.added) (missing _ _ _ c.stands-in-arms.ensures.place c.if-stands.false) c.in_ok-arm.ensures.tree c.in_ok-arm.ensures.shorter
 
-pub bodies::handler_parts-handlers-init : goal.bodies::handler_parts-handlers-init
-bodies::handler_parts-handlers-init m c =
+pub handled_statements::handler_parts-handlers-init : goal.handled_statements::handler_parts-handlers-init
+handled_statements::handler_parts-handlers-init m c =
     subst (λ l. WhensGoOn (handler_part (inner_at (told c.args.source.now) c.args.depth)) (handler_others (inner_at (told c.args.source.now) c.args.depth)) (map plain_handler l) c.args.items.now c.args.items.now) (sym c.new-list.ensures.items) (whens_begin (handler_part (inner_at (told c.args.source.now) c.args.depth)) (handler_others (inner_at (told c.args.source.now) c.args.depth)) c.args.items.now)
 
-pub bodies::handler_parts-returns-in_default-clause-tree : goal.bodies::handler_parts-returns-in_default-clause-tree
-bodies::handler_parts-returns-in_default-clause-tree m c =
+pub handled_statements::handler_parts-returns-in_default-clause-tree : goal.handled_statements::handler_parts-returns-in_default-clause-tree
+handled_statements::handler_parts-returns-in_default-clause-tree m c =
     whens_empty (handler_part (inner_at (told c.args.source.now) c.args.depth)) (handler_others (inner_at (told c.args.source.now) c.args.depth)) (map plain_handler c.handlers.list.items) c.handlers.rest.now c.args.items.now c.handlers.invariant c.in_default.len_below
 
-pub bodies::handler_parts-returns-then-not-stands-clause-tree : goal.bodies::handler_parts-returns-then-not-stands-clause-tree
-bodies::handler_parts-returns-then-not-stands-clause-tree m c =
+pub handled_statements::handler_parts-returns-then-not-stands-clause-tree : goal.handled_statements::handler_parts-returns-then-not-stands-clause-tree
+handled_statements::handler_parts-returns-then-not-stands-clause-tree m c =
     whens_over (handler_part (inner_at (told c.args.source.now) c.args.depth)) (handler_others (inner_at (told c.args.source.now) c.args.depth)) (map plain_handler c.handlers.list.items) c.handlers.rest.now c.args.items.now _ c.handlers.invariant c.in-len1-up.len_at_least (missing _ _ _ c.stands.ensures.place c.if-not-stands.true)
 
-pub bodies::handler_parts-returns-in_err-others-clause-tree : goal.bodies::handler_parts-returns-in_err-others-clause-tree
-bodies::handler_parts-returns-in_err-others-clause-tree m c =
+pub handled_statements::handler_parts-returns-in_err-others-clause-tree : goal.handled_statements::handler_parts-returns-in_err-others-clause-tree
+handled_statements::handler_parts-returns-in_err-others-clause-tree m c =
     let fails : Fails c.in_err-others.field-0.0 (whens (handler_part (inner_at (told c.args.source.now) c.args.depth)) (handler_others (inner_at (told c.args.source.now) c.args.depth)) c.args.items.now) =
     whens_others_fails (handler_part (inner_at (told c.args.source.now) c.args.depth)) (handler_others (inner_at (told c.args.source.now) c.args.depth)) (map plain_handler c.handlers.list.items) c.handlers.rest.now c.args.items.now _ _ _ c.handlers.invariant c.in-len1-up.len_at_least c.in-len1-up-behind.len_at_least (there _ _ _ c.stands.ensures.place c.if-not-stands.false) c.in_err-others.field-0.0 _ (there _ _ _ c.stands-in-handlers.ensures.place c.if-stands.true) c.in_err-others.ensures.tree in
     search (rules, fails)
 
-pub bodies::handler_parts-returns-then-stands-clause-tree : goal.bodies::handler_parts-returns-then-stands-clause-tree
-bodies::handler_parts-returns-then-stands-clause-tree m c =
+pub handled_statements::handler_parts-returns-then-stands-clause-tree : goal.handled_statements::handler_parts-returns-then-stands-clause-tree
+handled_statements::handler_parts-returns-then-stands-clause-tree m c =
     whens_others (handler_part (inner_at (told c.args.source.now) c.args.depth)) (handler_others (inner_at (told c.args.source.now) c.args.depth)) (map plain_handler c.handlers.list.items) c.handlers.rest.now c.args.items.now _ _ _ c.handlers.invariant c.in-len1-up.len_at_least c.in-len1-up-behind.len_at_least (there _ _ _ c.stands.ensures.place c.if-not-stands.false) _ (plain_handler c.in_ok-others.others) c.in_ok-others.end.now (there _ _ _ c.stands-in-handlers.ensures.place c.if-stands.true) c.in_ok-others.ensures.tree
 
-pub bodies::handler_parts-returns-in_err-handler-clause-tree : goal.bodies::handler_parts-returns-in_err-handler-clause-tree
-bodies::handler_parts-returns-in_err-handler-clause-tree m c =
+pub handled_statements::handler_parts-returns-in_err-handler-clause-tree : goal.handled_statements::handler_parts-returns-in_err-handler-clause-tree
+handled_statements::handler_parts-returns-in_err-handler-clause-tree m c =
     let fails : Fails c.in_err-handler.field-0.0 (whens (handler_part (inner_at (told c.args.source.now) c.args.depth)) (handler_others (inner_at (told c.args.source.now) c.args.depth)) c.args.items.now) =
     whens_fails (handler_part (inner_at (told c.args.source.now) c.args.depth)) (handler_others (inner_at (told c.args.source.now) c.args.depth)) (map plain_handler c.handlers.list.items) c.handlers.rest.now c.args.items.now _ _ _ c.handlers.invariant c.in-len1-up.len_at_least c.in-len1-up-behind.len_at_least (there _ _ _ c.stands.ensures.place c.if-not-stands.false) c.in_err-handler.field-0.0 (missing _ _ _ c.stands-in-handlers.ensures.place c.if-stands.false) c.in_err-handler.ensures.tree in
     search (rules, fails)
 
-pub bodies::handler_parts-handlers-preserved : goal.bodies::handler_parts-handlers-preserved
-bodies::handler_parts-handlers-preserved m c =
+pub handled_statements::handler_parts-handlers-preserved : goal.handled_statements::handler_parts-handlers-preserved
+handled_statements::handler_parts-handlers-preserved m c =
     whens_step (handler_part (inner_at (told c.args.source.now) c.args.depth)) (handler_others (inner_at (told c.args.source.now) c.args.depth)) (map plain_handler c.handlers.list.items) c.handlers.rest.now c.args.items.now _ _ _ c.handlers.invariant c.in-len1-up.len_at_least c.in-len1-up-behind.len_at_least (there _ _ _ c.stands.ensures.place c.if-not-stands.false)
     (map plain_handler c.add.new.list.items) (plain_handler c.in_ok-handler.handler) c.in_ok-handler.end.now (grown plain_handler c.handlers.list.items c.add.new.list.items c.in_ok-handler.handler c.in_ok-add.ensures.added) (missing _ _ _ c.stands-in-handlers.ensures.place c.if-stands.false) c.in_ok-handler.ensures.tree c.in_ok-handler.ensures.shorter
 
-pub bodies::body_end-returns-clause-tree : goal.bodies::body_end-returns-clause-tree
-bodies::body_end-returns-clause-tree m c =
+pub handled_statements::body_end-returns-clause-tree : goal.handled_statements::body_end-returns-clause-tree
+handled_statements::body_end-returns-clause-tree m c =
     handlers_go (c.args.depth - 1) (inner_at (told c.args.source.now) c.args.depth) (seen c.args.stmts.items) c.args.items.now c.in_ok-handlers.rest.now _ _ (handlers_of (map plain_handler c.in_ok-handlers.handlers.items))
     c.in-len1-up.len_at_least (there _ _ _ c.stands.ensures.place c.if-not-stands.false) (omega (arith, c.if-inner-eq0.false)) c.in_ok-handlers.ensures.tree
     ∙ ap (λ b. Found b c.in_ok-handlers.rest.now) (sym (body_built c.args.stmts c.in_ok-handlers.handlers))

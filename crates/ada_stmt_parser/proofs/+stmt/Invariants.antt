@@ -3,7 +3,7 @@ use Rattle.std.proofs.Common.{◌+◌, ◌-◌, ◌*◌, length, map}
 use Rattle.ada_tree.specs.PlainStmt.{plain_stmt, plain_arm, plain_alt, plain_case_arm, plain_handler}
 use Rattle.ada_lexer.specs.declared.symbols.Symbol.TheVariants as key
 use Rattle.ada_phrase_parser.specs.Reading.{is_symbol, key_then}
-use Rattle.ada_stmt_parser.specs.ReadingStatements.{inner_at, begins_stmt, if_arm, case_part, others_part, handler_part, handler_others}
+use Rattle.ada_stmt_parser.specs.inner.ReadingStatements.{inner_at, begins_stmt, if_arm, case_part, others_part, handler_part, handler_others}
 use Rattle.ada_phrase_parser.specs.Views.{told}
 use Rattle.ada_phrase_parser.proofs.Lists.{GoesOn}
 use Rattle.ada_stmt_parser.proofs.Whens.{WhensGoOn}
@@ -41,13 +41,13 @@ abbrev pub decreases-compound::read_case_arms-arms :
     goal.decreases-compound::read_case_arms-arms
 decreases-compound::read_case_arms-arms l = length l.rest
 
-abbrev pub invariant-bodies::handler_parts-handlers :
-    goal.invariant-bodies::handler_parts-handlers
-invariant-bodies::handler_parts-handlers l = WhensGoOn (handler_part (inner_at (told l.source) l.depth)) (handler_others (inner_at (told l.source) l.depth)) (map plain_handler l.list.items) l.rest l.initial.rest
+abbrev pub invariant-handled_statements::handler_parts-handlers :
+    goal.invariant-handled_statements::handler_parts-handlers
+invariant-handled_statements::handler_parts-handlers l = WhensGoOn (handler_part (inner_at (told l.source) l.depth)) (handler_others (inner_at (told l.source) l.depth)) (map plain_handler l.list.items) l.rest l.initial.rest
 
-abbrev pub decreases-bodies::handler_parts-handlers :
-    goal.decreases-bodies::handler_parts-handlers
-decreases-bodies::handler_parts-handlers l = length l.rest
+abbrev pub decreases-handled_statements::handler_parts-handlers :
+    goal.decreases-handled_statements::handler_parts-handlers
+decreases-handled_statements::handler_parts-handlers l = length l.rest
 
 abbrev pub decreases-statements::read_stmt : goal.decreases-statements::read_stmt
 decreases-statements::read_stmt l = 64 * l.depth + 40
@@ -118,26 +118,26 @@ decreases-compound::case_part l = 64 * l.depth + 26
 abbrev pub decreases-compound::others_part : goal.decreases-compound::others_part
 decreases-compound::others_part l = 64 * l.depth + 26
 
-abbrev pub decreases-bodies::read_block : goal.decreases-bodies::read_block
-decreases-bodies::read_block l = 64 * l.depth + 31
+abbrev pub decreases-handled_statements::read_block : goal.decreases-handled_statements::read_block
+decreases-handled_statements::read_block l = 64 * l.depth + 31
 
-abbrev pub decreases-bodies::read_body : goal.decreases-bodies::read_body
-decreases-bodies::read_body l = 64 * l.depth + 30
+abbrev pub decreases-handled_statements::read_body : goal.decreases-handled_statements::read_body
+decreases-handled_statements::read_body l = 64 * l.depth + 30
 
-abbrev pub decreases-bodies::handlers_below : goal.decreases-bodies::handlers_below
-decreases-bodies::handlers_below l = 64 * l.depth + 28
+abbrev pub decreases-handled_statements::handlers_below : goal.decreases-handled_statements::handlers_below
+decreases-handled_statements::handlers_below l = 64 * l.depth + 28
 
-abbrev pub decreases-bodies::read_handlers : goal.decreases-bodies::read_handlers
-decreases-bodies::read_handlers l = 64 * l.depth + 40
+abbrev pub decreases-handled_statements::read_handlers : goal.decreases-handled_statements::read_handlers
+decreases-handled_statements::read_handlers l = 64 * l.depth + 40
 
-abbrev pub decreases-bodies::handler_parts : goal.decreases-bodies::handler_parts
-decreases-bodies::handler_parts l = 64 * l.depth + 39
+abbrev pub decreases-handled_statements::handler_parts : goal.decreases-handled_statements::handler_parts
+decreases-handled_statements::handler_parts l = 64 * l.depth + 39
 
-abbrev pub decreases-bodies::read_handler : goal.decreases-bodies::read_handler
-decreases-bodies::read_handler l = 64 * l.depth + 26
+abbrev pub decreases-handled_statements::read_handler : goal.decreases-handled_statements::read_handler
+decreases-handled_statements::read_handler l = 64 * l.depth + 26
 
-abbrev pub decreases-bodies::others_handler : goal.decreases-bodies::others_handler
-decreases-bodies::others_handler l = 64 * l.depth + 26
+abbrev pub decreases-handled_statements::others_handler : goal.decreases-handled_statements::others_handler
+decreases-handled_statements::others_handler l = 64 * l.depth + 26
 
 abbrev pub decreases-sequences::stmts : goal.decreases-sequences::stmts
 decreases-sequences::stmts l = 64 * l.depth + 14
@@ -157,8 +157,8 @@ decreases-sequences::stmt_below l = 64 * l.depth + 12
 abbrev pub decreases-statements::named : goal.decreases-statements::named
 decreases-statements::named l = 64 * l.depth + 35
 
-abbrev pub decreases-bodies::body_end : goal.decreases-bodies::body_end
-decreases-bodies::body_end l = 64 * l.depth + 29
+abbrev pub decreases-handled_statements::body_end : goal.decreases-handled_statements::body_end
+decreases-handled_statements::body_end l = 64 * l.depth + 29
 
 abbrev pub decreases-looping::loop_from : goal.decreases-looping::loop_from
 decreases-looping::loop_from l = 64 * l.depth + 31

@@ -9,7 +9,7 @@ use Rattle.ada_tree.specs.PlainDecl.{PShape, PInit, PTask, PDecl, DNumber, DObje
 use Rattle.ada_tree.specs.TypeTable.{TypeTable}
 use Rattle.syn_event.specs.Numbering.{Numbering}
 use Rattle.task_model.specs.Setting.{Setting}
-use Rattle.ada_tree.specs.BinaryCode.{Binary, tip, node, coded_binary}
+use Rattle.ada_tree.specs.inner.BinaryCode.{Binary, tip, node, coded_binary}
 
 -- what a node holds beside its parts
 pub data DeclHead : Type 0 where

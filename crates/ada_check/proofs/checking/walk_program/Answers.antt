@@ -1,14 +1,14 @@
 use Rattle.std.proofs.Common.{◌≡◌, ap, sym, ◌∙◌, map, None}
 use Rattle.ada_tree.specs.PlainProgram.{plain_program}
 use Rattle.ada_tree.specs.PlainDecl.{plain_decl, decls_of}
-use Rattle.syn_event.specs.Surrounding.{Surrounding}
-use Rattle.syn_event.specs.Spots.{body_names, decls_spots, after_decls}
+use Rattle.syn_event.specs.CheckScope.{CheckScope}
+use Rattle.syn_event.specs.CheckSites.{body_names, decls_sites, after_decls}
 use Rattle.ada_rules.specs.RefusedFirst.{refused_first}
 use Rattle.ada_check.proofs.Programs.{program_met, types_stay}
 use Rattle.ada_check.proofs.checking.walk_program.Goals as goal
 
 pub walk_decls-requires : goal.walk_decls-requires
-walk_decls-requires c = ap (λ (s : Surrounding). s.own) c.requires
+walk_decls-requires c = ap (λ (s : CheckScope). s.own) c.requires
 
 pub returns : goal.returns
 returns c =
@@ -18,7 +18,7 @@ returns c =
       told =
           program_met c.args.by.now c.args.around.now c.walk_decls.new.around p _ _ _ _ _ _ _ c.requires
           (c.refuse_name-name.ensures c.args.around.now)
-          (c.in_ok-declared.ensures.told ∙ ap (λ l. refused_first c.args.by.now (decls_spots c.args.around.now (body_names (decls_of (map plain_decl l))) (decls_of (map plain_decl l)))) c.deref.ensures.value)
+          (c.in_ok-declared.ensures.told ∙ ap (λ l. refused_first c.args.by.now (decls_sites c.args.around.now (body_names (decls_of (map plain_decl l))) (decls_of (map plain_decl l)))) c.deref.ensures.value)
           behind
           c.in_ok-inner.ensures.told
           (c.in_ok-counted.ensures c.args.around.now (sym c.types.ensures))

@@ -1,10 +1,10 @@
 use Rattle.std.proofs.Common.{◌≡◌, ap, ◌∙◌, map}
 use Rattle.ada_tree.specs.PlainStmt.{plain_body}
 use Rattle.ada_tree.specs.PlainDecl.{plain_decl, decls_of}
-use Rattle.syn_event.specs.Spots.{in_body, own_spots, after_own, body_spots}
+use Rattle.syn_event.specs.CheckSites.{in_body, own_sites, after_own, body_sites}
 use Rattle.ada_rules.specs.RefusedFirst.{refused_first}
 use Rattle.ada_rules.proofs.Meeting.{joined}
-use Rattle.ada_surroundings.proofs.Leaving.{room}
+use Rattle.ada_check_scopes.proofs.Leaving.{room}
 use Rattle.ada_declaration_places.proofs.Declaring.{within_body, left_body}
 use Rattle.ada_check.proofs.declarations.walk_task_body.Goals as goal
 
@@ -23,7 +23,7 @@ returns c =
       kept = left_body c.args.around.now c.walk_body.new.around c.leave_body.new.self c.args.name objects c.in_ok-outer.outer c.requires c.in_ok-outer.ensures.count same c.leave_body.ensures;
       told =
           c.first.ensures
-          ∙ joined c.args.by.now (own_spots (in_body c.args.around.now c.args.name) objects) (body_spots (after_own (in_body c.args.around.now c.args.name) objects) 1 (plain_body c.args.body.now)) _ _
-          (c.in_ok-own.ensures.told ∙ ap (λ x. refused_first c.args.by.now (own_spots x objects)) c.in_ok-outer.ensures.around)
-          (c.in_ok-inner.ensures.told ∙ ap (λ x. refused_first c.args.by.now (body_spots x 1 (plain_body c.args.body.now))) around);
+          ∙ joined c.args.by.now (own_sites (in_body c.args.around.now c.args.name) objects) (body_sites (after_own (in_body c.args.around.now c.args.name) objects) 1 (plain_body c.args.body.now)) _ _
+          (c.in_ok-own.ensures.told ∙ ap (λ x. refused_first c.args.by.now (own_sites x objects)) c.in_ok-outer.ensures.around)
+          (c.in_ok-inner.ensures.told ∙ ap (λ x. refused_first c.args.by.now (body_sites x 1 (plain_body c.args.body.now))) around);
     }

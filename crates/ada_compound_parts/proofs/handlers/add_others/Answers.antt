@@ -1,7 +1,7 @@
 use Rattle.std.proofs.Common.{map, option_map, sym, ap, ◌∙◌}
 use Rattle.std.proofs.lemmas.Result.{on_ok_weaker}
 use Rattle.ada_tree.specs.PlainStmt.{plain_handler}
-use Rattle.ada_compound_parts.specs.ReadingParts.{with_others}
+use Rattle.ada_compound_parts.specs.inner.ReadingParts.{with_others}
 use Rattle.ada_phrase_parser.proofs.Lists.{grown}
 use Rattle.ada_compound_parts.proofs.Seen.{others_last}
 use Rattle.ada_compound_parts.proofs.handlers.add_others.Goals as goal

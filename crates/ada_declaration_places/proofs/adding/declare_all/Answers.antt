@@ -1,4 +1,4 @@
-use Rattle.ada_surroundings.proofs.Leaving.{name_more}
+use Rattle.ada_check_scopes.proofs.Leaving.{name_more}
 use Rattle.ada_declaration_places.proofs.adding.declare_all.Goals as goal
 
 pub loop-name-preserved : goal.loop-name-preserved

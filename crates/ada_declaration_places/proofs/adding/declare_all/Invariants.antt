@@ -1,5 +1,5 @@
 use Rattle.std.proofs.Common.{◌≡◌, take}
-use Rattle.syn_event.specs.Spots.{with_meant}
+use Rattle.syn_event.specs.CheckSites.{with_meant}
 use Rattle.ada_declaration_places.proofs.adding.declare_all.Given as goal
 
 -- so many names are declared

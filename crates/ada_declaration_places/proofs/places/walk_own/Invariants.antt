@@ -1,6 +1,6 @@
 use Rattle.std.proofs.Common.{◌≡◌, map, drop}
 use Rattle.ada_tree.specs.PlainDecl.{plain_decl, decls_of}
-use Rattle.syn_event.specs.Spots.{own_spots, after_own}
+use Rattle.syn_event.specs.CheckSites.{own_sites, after_own}
 use Rattle.ada_rules.specs.Sooner.{sooner}
 use Rattle.ada_rules.specs.RefusedFirst.{refused_first}
 use Rattle.ada_declaration_places.proofs.places.walk_own.Given as goal
@@ -8,6 +8,6 @@ use Rattle.ada_declaration_places.proofs.places.walk_own.Given as goal
 -- what is refused so far, and of the objects that are left; what stands around behind them is what stands around behind all
 abbrev pub invariant-loop-decl : goal.invariant-loop-decl
 invariant-loop-decl l = record {
-  told : sooner l.refusal (refused_first l.by (own_spots l.around (decls_of (map plain_decl (drop l.decl-index l.objects))))) ≡ refused_first l.by (own_spots l.fn.around (decls_of (map plain_decl l.objects)));
+  told : sooner l.refusal (refused_first l.by (own_sites l.around (decls_of (map plain_decl (drop l.decl-index l.objects))))) ≡ refused_first l.by (own_sites l.fn.around (decls_of (map plain_decl l.objects)));
   after : after_own l.around (decls_of (map plain_decl (drop l.decl-index l.objects))) ≡ after_own l.fn.around (decls_of (map plain_decl l.objects));
 }

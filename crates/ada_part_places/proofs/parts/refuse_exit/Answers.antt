@@ -2,7 +2,7 @@ use Rattle.std.proofs.Common.{ap, sym, ◌∙◌, [], ◌∷◌, not, if◌then�
 use Rattle.std.specs.List.{list_any}
 use Rattle.syn_event.specs.RuleExitPlace.{is_left}
 use Rattle.ada_rules.specs.Sooner.{found}
-use Rattle.ada_surroundings.proofs.Around.{any_reverse}
+use Rattle.ada_check_scopes.proofs.Around.{any_reverse}
 use Rattle.ada_part_places.proofs.Asking.{exits_at}
 use Rattle.ada_part_places.proofs.parts.refuse_exit.Goals as goal
 

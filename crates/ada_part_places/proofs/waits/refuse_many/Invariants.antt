@@ -1,8 +1,8 @@
 use Rattle.std.proofs.Common.{◌≡◌, map, drop}
 use Rattle.ada_tree.specs.PlainStmt.{plain_alt, alts_of}
 use Rattle.syn_event.specs.declared.limits.What.TheVariants.{Alternatives}
-use Rattle.syn_event.specs.Surrounding.{Surrounding}
-use Rattle.syn_event.specs.Spots.{numbered, alt_places}
+use Rattle.syn_event.specs.CheckScope.{CheckScope}
+use Rattle.syn_event.specs.CheckSites.{numbered, alt_places}
 use Rattle.ada_rules.specs.Sooner.{sooner}
 use Rattle.ada_rules.specs.RefusedFirst.{refused_first}
 use Rattle.ada_part_places.proofs.waits.refuse_many.Given as goal
@@ -10,4 +10,4 @@ use Rattle.ada_part_places.proofs.waits.refuse_many.Given as goal
 -- what is refused so far, and of the alternatives that are left
 abbrev pub invariant-loop-place : goal.invariant-loop-place
 invariant-loop-place l =
-    (around : Surrounding) → sooner l.refusal (refused_first l.by (numbered around Alternatives l.place (alt_places (alts_of (map plain_alt (drop l.place l.alts)))))) ≡ refused_first l.by (numbered around Alternatives 0 (alt_places (alts_of (map plain_alt l.alts))))
+    (around : CheckScope) → sooner l.refusal (refused_first l.by (numbered around Alternatives l.place (alt_places (alts_of (map plain_alt (drop l.place l.alts)))))) ≡ refused_first l.by (numbered around Alternatives 0 (alt_places (alts_of (map plain_alt l.alts))))

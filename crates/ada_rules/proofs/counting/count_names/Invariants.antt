@@ -1,8 +1,8 @@
 use Rattle.std.proofs.Common.{◌≡◌, ◌+◌, map, drop}
 use Rattle.ada_tree.specs.declared.naming.Word.{Word}
 use Rattle.syn_event.specs.declared.limits.What.TheVariants.{Formals}
-use Rattle.syn_event.specs.Surrounding.{Surrounding}
-use Rattle.syn_event.specs.Spots.{numbered}
+use Rattle.syn_event.specs.CheckScope.{CheckScope}
+use Rattle.syn_event.specs.CheckSites.{numbered}
 use Rattle.ada_rules.specs.Amounts.{capped}
 use Rattle.ada_rules.specs.Sooner.{sooner}
 use Rattle.ada_rules.specs.RefusedFirst.{refused_first}
@@ -12,5 +12,5 @@ use Rattle.ada_rules.proofs.counting.count_names.Given as goal
 abbrev pub invariant-loop-name : goal.invariant-loop-name
 invariant-loop-name l = record {
   count : capped l.counted.count ≡ capped (l.initial.counted.count + l.name-index);
-  refusal : (around : Surrounding) → sooner l.counted.refusal (refused_first l.by (numbered around Formals l.counted.count (map (λ (w : Word). w.span) (drop l.name-index l.names)))) ≡ sooner l.initial.counted.refusal (refused_first l.by (numbered around Formals l.initial.counted.count (map (λ (w : Word). w.span) l.names)));
+  refusal : (around : CheckScope) → sooner l.counted.refusal (refused_first l.by (numbered around Formals l.counted.count (map (λ (w : Word). w.span) (drop l.name-index l.names)))) ≡ sooner l.initial.counted.refusal (refused_first l.by (numbered around Formals l.initial.counted.count (map (λ (w : Word). w.span) l.names)));
 }

@@ -3,7 +3,7 @@ use Rattle.lawful_reader.specs.Readers.{items, fronted}
 use Rattle.ada_lexer.specs.declared.symbols.Symbol.TheVariants as key
 use Rattle.ada_expr_parser.specs.Parts.{target}
 use Rattle.ada_phrase_parser.specs.Reading.{is_symbol, key_then}
-use Rattle.ada_simple_stmt_parser.specs.SimpleViews.{as_target}
+use Rattle.ada_simple_stmt_parser.specs.inner.SimpleViews.{as_target}
 use Rattle.ada_expr_parser.specs.Gives.{Fails}
 use Rattle.ada_phrase_parser.proofs.Lists.{grown, list_empty, list_over, list_fails, list_goes}
 use Rattle.ada_simple_stmt_parser.proofs.simple.callees_onto.Goals as goal

@@ -2,7 +2,7 @@ use Rattle.std.proofs.Common.{length, map}
 use Rattle.ada_lexer.specs.declared.symbols.Symbol.TheVariants as key
 use Rattle.ada_expr_parser.specs.Parts.{target}
 use Rattle.ada_phrase_parser.specs.Reading.{is_symbol, key_then}
-use Rattle.ada_simple_stmt_parser.specs.SimpleViews.{as_target}
+use Rattle.ada_simple_stmt_parser.specs.inner.SimpleViews.{as_target}
 use Rattle.ada_phrase_parser.proofs.Lists.{GoesOn}
 use Rattle.ada_simple_stmt_parser.proofs.simple.callees_onto.Given as goal
 

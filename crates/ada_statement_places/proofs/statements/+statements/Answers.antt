@@ -2,10 +2,10 @@ use Rattle.std.proofs.Common.{◌≡◌, ◌∙◌, ap, sym, refl, map, option_m
 use Rattle.ada_tree.specs.PlainStmt.{SPut, SPutLine, plain_part, plain_scheme, plain_stmt, plain_alt, plain_arm, plain_case_arm, plain_handler, plain_formal, row_of, alts_of, arms_of, case_arms_of, handlers_of}
 use Rattle.ada_tree.specs.declared.statements.Accept.{out-Accept}
 use Rattle.syn_event.specs.declared.meanings.Meant.TheVariants.{Inner}
-use Rattle.syn_event.specs.Spots.{with_meant, formal_names, with_parameter, stmts_spots, alts_spots, arms_spots, case_arms_spots, handlers_spots}
+use Rattle.syn_event.specs.CheckSites.{with_meant, formal_names, with_parameter, stmts_sites, alts_sites, arms_sites, case_arms_sites, handlers_sites}
 use Rattle.ada_statement_places.specs.inner.Walked.{stmt_met, alt_met, arm_met, case_arm_met, handler_met}
 use Rattle.ada_rules.proofs.Listing.{turn, row_end}
-use Rattle.ada_surroundings.proofs.Leaving.{room, accepting_in, within_accept, left_accept, left_loop, left_handler}
+use Rattle.ada_check_scopes.proofs.Leaving.{room, accepting_in, within_accept, left_accept, left_loop, left_handler}
 use Rattle.ada_statement_places.proofs.Stating.{arm_told, case_arm_told, handler_told, stmt_next, alts_next, arms_next, case_arms_next, handlers_next}
 use Rattle.ada_statement_places.proofs.statements.+statements.Goals as goal
 
@@ -13,7 +13,7 @@ pub walk_stmts-loop-stmt-preserved : goal.walk_stmts-loop-stmt-preserved
 walk_stmts-loop-stmt-preserved t c = record {
   same = c.in_ok-found.ensures.kept ∙ c.loop-stmt.invariant.same;
   told =
-      turn c.args.by.now plain_stmt (λ s xs. stmts_spots s c.args.k (row_of xs)) (λ s x. stmt_met c.args.by.now s c.args.k x) (λ s x xs. stmt_next c.args.by.now s c.args.k x (row_of xs)) c.args.list.now
+      turn c.args.by.now plain_stmt (λ s xs. stmts_sites s c.args.k (row_of xs)) (λ s x. stmt_met c.args.by.now s c.args.k x) (λ s x xs. stmt_next c.args.by.now s c.args.k x (row_of xs)) c.args.list.now
       c.loop-stmt.stmt-index c.stmt-item.result c.args.around.now c.loop-stmt.around _ _ _ _ c.loop-stmt-test.true c.stmt-item.is c.loop-stmt.invariant.same c.loop-stmt.invariant.told c.in_ok-found.ensures.told c.first-refusal.ensures;
 }
 
@@ -21,7 +21,7 @@ pub walk_stmts-returns : goal.walk_stmts-returns
 walk_stmts-returns t c = record {
   kept = c.loop-stmt.invariant.same;
   told =
-      row_end c.args.by.now plain_stmt (λ xs. stmts_spots c.args.around.now c.args.k (row_of xs)) (λ x. stmt_met c.args.by.now c.args.around.now c.args.k x) (λ x xs. stmt_next c.args.by.now c.args.around.now c.args.k x (row_of xs)) c.args.list.now
+      row_end c.args.by.now plain_stmt (λ xs. stmts_sites c.args.around.now c.args.k (row_of xs)) (λ x. stmt_met c.args.by.now c.args.around.now c.args.k x) (λ x xs. stmt_next c.args.by.now c.args.around.now c.args.k x (row_of xs)) c.args.list.now
       c.loop-stmt.stmt-index _ _ c.loop-stmt-test.false refl c.loop-stmt.invariant.told;
 }
 
@@ -29,7 +29,7 @@ pub walk_alts-loop-alt-preserved : goal.walk_alts-loop-alt-preserved
 walk_alts-loop-alt-preserved t c = record {
   same = c.in_ok-found.ensures.kept ∙ c.loop-alt.invariant.same;
   told =
-      turn c.args.by.now plain_alt (λ s xs. alts_spots s c.args.k (alts_of xs)) (λ s x. alt_met c.args.by.now s c.args.k x) (λ s x xs. alts_next c.args.by.now s c.args.k x (alts_of xs)) c.args.alts.now
+      turn c.args.by.now plain_alt (λ s xs. alts_sites s c.args.k (alts_of xs)) (λ s x. alt_met c.args.by.now s c.args.k x) (λ s x xs. alts_next c.args.by.now s c.args.k x (alts_of xs)) c.args.alts.now
       c.loop-alt.alt-index c.alt-item.result c.args.around.now c.loop-alt.around _ _ _ _ c.loop-alt-test.true c.alt-item.is c.loop-alt.invariant.same c.loop-alt.invariant.told c.in_ok-found.ensures.told c.first-refusal.ensures;
 }
 
@@ -37,7 +37,7 @@ pub walk_alts-returns : goal.walk_alts-returns
 walk_alts-returns t c = record {
   kept = c.loop-alt.invariant.same;
   told =
-      row_end c.args.by.now plain_alt (λ xs. alts_spots c.args.around.now c.args.k (alts_of xs)) (λ x. alt_met c.args.by.now c.args.around.now c.args.k x) (λ x xs. alts_next c.args.by.now c.args.around.now c.args.k x (alts_of xs)) c.args.alts.now
+      row_end c.args.by.now plain_alt (λ xs. alts_sites c.args.around.now c.args.k (alts_of xs)) (λ x. alt_met c.args.by.now c.args.around.now c.args.k x) (λ x xs. alts_next c.args.by.now c.args.around.now c.args.k x (alts_of xs)) c.args.alts.now
       c.loop-alt.alt-index _ _ c.loop-alt-test.false refl c.loop-alt.invariant.told;
 }
 
@@ -45,7 +45,7 @@ pub walk_arms-returns : goal.walk_arms-returns
 walk_arms-returns t c = record {
   kept = c.loop-arm.invariant.same;
   told =
-      row_end c.args.by.now plain_arm (λ xs. arms_spots c.args.around.now c.args.k (arms_of xs)) (λ x. arm_met c.args.by.now c.args.around.now c.args.k x) (λ x xs. arms_next c.args.by.now c.args.around.now c.args.k x (arms_of xs)) c.args.arms.now
+      row_end c.args.by.now plain_arm (λ xs. arms_sites c.args.around.now c.args.k (arms_of xs)) (λ x. arm_met c.args.by.now c.args.around.now c.args.k x) (λ x xs. arms_next c.args.by.now c.args.around.now c.args.k x (arms_of xs)) c.args.arms.now
       c.loop-arm.arm-index _ _ c.loop-arm-test.false refl c.loop-arm.invariant.told;
 }
 
@@ -53,7 +53,7 @@ pub walk_case_arms-returns : goal.walk_case_arms-returns
 walk_case_arms-returns t c = record {
   kept = c.loop-arm.invariant.same;
   told =
-      row_end c.args.by.now plain_case_arm (λ xs. case_arms_spots c.args.around.now c.args.k (case_arms_of xs)) (λ x. case_arm_met c.args.by.now c.args.around.now c.args.k x) (λ x xs. case_arms_next c.args.by.now c.args.around.now c.args.k x (case_arms_of xs)) c.args.arms.now
+      row_end c.args.by.now plain_case_arm (λ xs. case_arms_sites c.args.around.now c.args.k (case_arms_of xs)) (λ x. case_arm_met c.args.by.now c.args.around.now c.args.k x) (λ x xs. case_arms_next c.args.by.now c.args.around.now c.args.k x (case_arms_of xs)) c.args.arms.now
       c.loop-arm.arm-index _ _ c.loop-arm-test.false refl c.loop-arm.invariant.told;
 }
 
@@ -61,7 +61,7 @@ pub walk_handlers-returns : goal.walk_handlers-returns
 walk_handlers-returns t c = record {
   kept = c.loop-handler.invariant.same;
   told =
-      row_end c.args.by.now plain_handler (λ xs. handlers_spots c.args.around.now c.args.k (handlers_of xs)) (λ x. handler_met c.args.by.now c.args.around.now c.args.k x) (λ x xs. handlers_next c.args.by.now c.args.around.now c.args.k x (handlers_of xs)) c.args.handlers.now
+      row_end c.args.by.now plain_handler (λ xs. handlers_sites c.args.around.now c.args.k (handlers_of xs)) (λ x. handler_met c.args.by.now c.args.around.now c.args.k x) (λ x xs. handlers_next c.args.by.now c.args.around.now c.args.k x (handlers_of xs)) c.args.handlers.now
       c.loop-handler.handler-index _ _ c.loop-handler-test.false refl c.loop-handler.invariant.told;
 }
 
@@ -76,7 +76,7 @@ pub walk_arms-loop-arm-preserved : goal.walk_arms-loop-arm-preserved
 walk_arms-loop-arm-preserved t c = record {
   same = c.in_ok-behind.ensures.kept ∙ c.loop-arm.invariant.same;
   told =
-      turn c.args.by.now plain_arm (λ s xs. arms_spots s c.args.k (arms_of xs)) (λ s x. arm_met c.args.by.now s c.args.k x) (λ s x xs. arms_next c.args.by.now s c.args.k x (arms_of xs)) c.args.arms.now
+      turn c.args.by.now plain_arm (λ s xs. arms_sites s c.args.k (arms_of xs)) (λ s x. arm_met c.args.by.now s c.args.k x) (λ s x xs. arms_next c.args.by.now s c.args.k x (arms_of xs)) c.args.arms.now
       c.loop-arm.arm-index c.arm-item.result c.args.around.now c.loop-arm.around _ _ _ _ c.loop-arm-test.true c.arm-item.is c.loop-arm.invariant.same c.loop-arm.invariant.told
       (arm_told c.args.by.now c.loop-arm.around c.args.k c.arm-item.result c.deref.result.now _ _ _ c.first-found.ensures c.in_ok-test.ensures c.in_ok-behind.ensures.told c.deref.ensures.value)
       c.first-refusal.ensures;
@@ -86,7 +86,7 @@ pub walk_case_arms-loop-arm-preserved : goal.walk_case_arms-loop-arm-preserved
 walk_case_arms-loop-arm-preserved t c = record {
   same = c.in_ok-behind.ensures.kept ∙ c.loop-arm.invariant.same;
   told =
-      turn c.args.by.now plain_case_arm (λ s xs. case_arms_spots s c.args.k (case_arms_of xs)) (λ s x. case_arm_met c.args.by.now s c.args.k x) (λ s x xs. case_arms_next c.args.by.now s c.args.k x (case_arms_of xs)) c.args.arms.now
+      turn c.args.by.now plain_case_arm (λ s xs. case_arms_sites s c.args.k (case_arms_of xs)) (λ s x. case_arm_met c.args.by.now s c.args.k x) (λ s x xs. case_arms_next c.args.by.now s c.args.k x (case_arms_of xs)) c.args.arms.now
       c.loop-arm.arm-index c.arm-item.result c.args.around.now c.loop-arm.around _ _ _ _ c.loop-arm-test.true c.arm-item.is c.loop-arm.invariant.same c.loop-arm.invariant.told
       (case_arm_told c.args.by.now c.loop-arm.around c.args.k c.arm-item.result c.deref.result.now c.deref-in-loop-arm.result.now _ _ _ c.first-found.ensures c.in_ok-choices.ensures c.deref.ensures.value c.in_ok-behind.ensures.told c.deref-in-loop-arm.ensures.value)
       c.first-refusal.ensures;
@@ -98,7 +98,7 @@ walk_handlers-loop-handler-preserved t c = record {
       left_handler c.loop-handler.around c.walk_stmts.new.around c.leave_handler.new.self c.enter_handler-before.result (c.in_ok-behind.ensures.kept ∙ c.enter_handler-before.ensures.around) c.enter_handler-before.ensures.before c.leave_handler.ensures
       ∙ c.loop-handler.invariant.same;
   told =
-      turn c.args.by.now plain_handler (λ s xs. handlers_spots s c.args.k (handlers_of xs)) (λ s x. handler_met c.args.by.now s c.args.k x) (λ s x xs. handlers_next c.args.by.now s c.args.k x (handlers_of xs)) c.args.handlers.now
+      turn c.args.by.now plain_handler (λ s xs. handlers_sites s c.args.k (handlers_of xs)) (λ s x. handler_met c.args.by.now s c.args.k x) (λ s x xs. handlers_next c.args.by.now s c.args.k x (handlers_of xs)) c.args.handlers.now
       c.loop-handler.handler-index c.handler-item.result c.args.around.now c.loop-handler.around _ _ _ _ c.loop-handler-test.true c.handler-item.is c.loop-handler.invariant.same c.loop-handler.invariant.told
       (handler_told c.args.by.now c.loop-handler.around c.enter_handler-before.new.self c.args.k c.in_ok-inner.inner c.handler-item.result c.deref.result.now _ _ _ c.first-found.ensures (c.refuse_deep-deep.ensures c.loop-handler.around) c.in_ok-behind.ensures.told c.enter_handler-before.ensures.around c.in_ok-inner.ensures c.deref.ensures.value)
       c.first-refusal.ensures;

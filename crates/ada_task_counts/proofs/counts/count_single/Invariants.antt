@@ -1,8 +1,8 @@
 use Rattle.std.proofs.Common.{◌≡◌, ◌+◌, map, drop}
 use Rattle.ada_tree.specs.PlainDecl.{PEntry, plain_entry}
 use Rattle.syn_event.specs.declared.limits.What.TheVariants.{Entries}
-use Rattle.syn_event.specs.Surrounding.{Surrounding}
-use Rattle.syn_event.specs.Spots.{numbered}
+use Rattle.syn_event.specs.CheckScope.{CheckScope}
+use Rattle.syn_event.specs.CheckSites.{numbered}
 use Rattle.ada_rules.specs.Amounts.{capped}
 use Rattle.ada_rules.specs.Sooner.{sooner}
 use Rattle.ada_rules.specs.RefusedFirst.{refused_first}
@@ -12,5 +12,5 @@ use Rattle.ada_task_counts.proofs.counts.count_single.Given as goal
 abbrev pub invariant-loop-entry : goal.invariant-loop-entry
 invariant-loop-entry l = record {
   count : capped l.counted.count ≡ capped (l.initial.counted.count + l.entry-index);
-  refusal : (around : Surrounding) → sooner l.counted.refusal (refused_first l.by (numbered around Entries l.counted.count (map (λ (e : PEntry). e.span) (map plain_entry (drop l.entry-index l.entries))))) ≡ sooner l.initial.counted.refusal (refused_first l.by (numbered around Entries l.initial.counted.count (map (λ (e : PEntry). e.span) (map plain_entry l.entries))));
+  refusal : (around : CheckScope) → sooner l.counted.refusal (refused_first l.by (numbered around Entries l.counted.count (map (λ (e : PEntry). e.span) (map plain_entry (drop l.entry-index l.entries))))) ≡ sooner l.initial.counted.refusal (refused_first l.by (numbered around Entries l.initial.counted.count (map (λ (e : PEntry). e.span) (map plain_entry l.entries))));
 }

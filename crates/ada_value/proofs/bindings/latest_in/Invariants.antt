@@ -1,5 +1,5 @@
 use Rattle.std.proofs.Common.{◌≡◌, take, find, ◌==◌}
-use Rattle.ada_value.specs.Bindings.{latest_first}
+use Rattle.ada_value.specs.inner.Bindings.{latest_first}
 use Rattle.ada_value.proofs.bindings.latest_in.Given as goal
 
 -- the name is in no scope behind

@@ -1,5 +1,5 @@
 use Rattle.std.proofs.Common.{take}
-use Rattle.normal_meanings.specs.inner.Kept.{AreMembers}
+use Rattle.normal_meanings.specs.Kept.{AreMembers}
 use Rattle.normal_meanings.proofs.members.keep_tasks.Given as goal
 
 -- those of the tasks so far are kept

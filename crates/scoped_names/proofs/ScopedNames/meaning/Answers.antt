@@ -1,6 +1,6 @@
 use Rattle.std.proofs.Common.{◌≡◌, ◌∙◌, sym, arith, reverse, Some, None}
 use Rattle.std.proofs.lemmas.Grind.{common_steps}
-use Rattle.scoped_names.specs.Places.{latest_in}
+use Rattle.scoped_names.specs.inner.Places.{latest_in}
 use Rattle.scoped_names.proofs.Linking.{slot_shows, slot_within, no_slot, no_gap}
 use Rattle.scoped_names.proofs.ScopedNames.meaning.Goals as goal
 

@@ -1,6 +1,6 @@
 use Rattle.std.proofs.Common.{ap, sym, ◌∙◌, option_map}
 use Rattle.ada_value.specs.Evaluating.{component_value}
-use Rattle.ada_value.specs.Bindings.{object_bound}
+use Rattle.ada_value.specs.inner.Bindings.{object_bound}
 use Rattle.ada_value.proofs.Lookups.{object_named_bound}
 use Rattle.ada_value.proofs.scoped.ScopedNamesNameValues.component.Goals as goal
 

@@ -1,6 +1,9 @@
 use Rattle.std.proofs.Common.{refl, []}
-use Rattle.paged_output.proofs.Drawn.{from_inside, flushed, flush_stopped, skipped, counted_same}
+use Rattle.paged_output.proofs.Drawn.{drew_none, from_inside, flushed, flush_stopped, skipped, counted_same}
 use Rattle.paged_output.proofs.paging.Page.flush.Goals as goal
+
+pub returns-then-self-eq0-clause-drew : goal.returns-then-self-eq0-clause-drew
+returns-then-self-eq0-clause-drew g c = drew_none _
 
 pub returns-then-self-clause-drew : goal.returns-then-self-clause-drew
 returns-then-self-clause-drew g c =

@@ -1,0 +1,13 @@
+-- What contracts see of a task or task type.
+use Rattle.std.specs.Prelude.{ℕ, List}
+use Rattle.ada_tree.specs.declared.naming.NameId.{NameId}
+use Rattle.syn_event.specs.CheckScope.{Unit}
+
+abbrev pub id_of : ℕ → NameId
+id_of n = record { 0 = n }
+
+abbrev pub unit : NameId → List NameId → Unit
+unit name entries = record { name = name; entries = entries }
+
+abbrev pub unit_of_id : ℕ → List NameId → Unit
+unit_of_id n entries = unit (id_of n) entries

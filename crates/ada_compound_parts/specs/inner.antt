@@ -1,0 +1,2 @@
+pub mod ReadingHeads
+pub mod ReadingParts

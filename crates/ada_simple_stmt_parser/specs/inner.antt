@@ -1,0 +1,2 @@
+pub mod ReadingSimple
+pub mod SimpleViews

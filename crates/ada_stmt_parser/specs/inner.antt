@@ -1,0 +1,3 @@
+pub mod ReadingStatements
+pub mod StmtViews
+pub mod Turns

@@ -1,0 +1,4 @@
+pub mod BinaryCode
+pub mod ExprCode
+pub mod StmtCode
+pub mod SimpleStmt

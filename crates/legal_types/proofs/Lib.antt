@@ -1,0 +1,12 @@
+pub mod ExprKinds
+pub mod StaticParts
+pub mod TypedValues
+pub mod StaticWorth
+pub mod FirmTables
+pub mod GoodScopes
+pub mod GoodObjects
+pub mod GoodDeclarations
+pub mod LaterTables
+pub mod LaterScopes
+pub mod MainScopes
+pub mod TaskTypes

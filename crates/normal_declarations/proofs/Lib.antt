@@ -1,0 +1,5 @@
+pub mod Calling
+pub mod FirstTasks
+pub mod Firsts
+pub mod Listing
+pub mod NamesBeside

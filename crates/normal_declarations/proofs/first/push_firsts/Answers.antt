@@ -1,0 +1,11 @@
+use Rattle.normal_declarations.proofs.Firsts.{first_end, first_more}
+use Rattle.normal_declarations.proofs.Listing.{cut}
+use Rattle.normal_declarations.proofs.first.push_firsts.Goals as goal
+
+pub loop-decl-preserved : goal.loop-decl-preserved
+loop-decl-preserved c =
+    first_more c.args.decls.now c.loop-decl.decl-index c.decl-item.result _ _ _ _ _ (cut c.args.decls.now c.loop-decl.decl-index c.decl-item.result c.loop-decl-test.true c.decl-item.is) c.loop-decl.invariant
+    c.in_ok-push_first.ensures c.in_ok-know_decl.ensures
+
+pub returns : goal.returns
+returns c = first_end c.args.decls.now c.loop-decl.decl-index _ _ _ c.loop-decl-test.false c.loop-decl.invariant

@@ -1,0 +1,4 @@
+pub mod inner
+pub mod Copies
+pub mod Groups
+pub mod Runners

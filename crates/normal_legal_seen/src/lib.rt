@@ -1,0 +1,2 @@
+//! What the places of a legal program see of its tasks.
+#![tactic(auto)]

@@ -1,0 +1,9 @@
+pub mod Members
+pub mod Alone
+pub mod Typed
+pub mod Heads
+pub mod HeadsAsked
+pub mod Callees
+pub mod CalleesAsked
+pub mod Calls
+pub mod Text

@@ -1,0 +1,16 @@
+pub mod TaskNames
+pub mod DeclaredNames
+pub mod Own
+pub mod Seen
+pub mod AcceptHeads
+pub mod Alike
+pub mod Conforms
+pub mod Fixing
+pub mod Lacking
+pub mod Full
+pub mod Lowers
+pub mod KnownValues
+pub mod Plain
+pub mod ArrayConstants
+pub mod Fields
+pub mod TasksApart

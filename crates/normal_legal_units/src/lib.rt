@@ -1,0 +1,18 @@
+//! That a legal program is as the law of normal forms asks, of its units: its names, tasks, accepts and objects. The crate has no
+//! functions of its own but the one that carries the laws.
+#![tactic(auto)]
+
+ghost use Rattle.normal_legal_units.specs.Laws.{LegalConforms, LegalHasTokens, LegalIsOrdered, LegalNamesTell, LegalTypesAreFull, LocalsAreFree};
+
+/// Carries the laws of the units of a legal program that is well placed, as each one that is read. It meets the rules on types with bodies
+/// last (`ordered`), its words are such as the source can hold (`tokens`), tasks of one name in its normal form run one body (`tell`), its
+/// accepts conform to their entries (`conforms`), none of its types is empty (`full`), and what is no constant of main has the name of no
+/// constant and of no literal (`free`).
+pub fn laws()
+    ensures ordered { LegalIsOrdered }
+    ensures tokens { LegalHasTokens }
+    ensures tell { LegalNamesTell }
+    ensures conforms { LegalConforms }
+    ensures full { LegalTypesAreFull }
+    ensures free { LocalsAreFree }
+{}

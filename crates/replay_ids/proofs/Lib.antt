@@ -1,0 +1,3 @@
+pub mod Told
+pub mod Composed
+pub mod Single

@@ -1,0 +1,38 @@
+-- The numbers of the entries of a replay text, by computation: two tasks of a type with one entry, in an array.
+use Rattle.std.specs.Prelude.{◌≡◌, [], ◌∷◌, refl}
+use Rattle.std.specs.Fmt.{digits}
+use Rattle.ada_tree.specs.Refusals.{types_in}
+use Rattle.syn_event.specs.Numbering.{owner_of}
+use Rattle.syn_event.specs.AllNumbers.{all_numbers}
+use Rattle.task_model.specs.Setting.{Setting}
+use Rattle.replay_model.specs.ReplayTree.{last_task, normal_setting}
+use Rattle.replay_model.specs.ReplayNumbers.{numbers_replayed}
+use Rattle.replay_law.specs.Copies.{Spots, HasOwners, IsNumbered}
+use Rattle.replay_law.proofs.Twins.{numbering, numbering_numbers}
+use Rattle.normal_types.proofs.Examples.{original, ordered}
+use Rattle.replay_spots.specs.Places.{counts, text_spots}
+use Rattle.replay_spots.proofs.Sorted.{spots_are_numbered}
+use Rattle.replay_spots.proofs.Placed.{spots_have_owners}
+use Rattle.replay_spots.proofs.Ordered.{normal_is_in_order}
+
+abbrev form : Setting
+form = normal_setting original (types_in original) (all_numbers (types_in original) original)
+
+abbrev spots : Spots
+spots = text_spots numbering form
+
+-- the two entries, their doubles, and the two more of each task; then those of the controller and of the idle task
+numbers :
+    spots.original 1 ∷ spots.shadow 1 ∷ spots.never 1 ∷ spots.join 1 ∷ spots.original 2 ∷ spots.shadow 2 ∷ spots.never 2 ∷ spots.join 2
+    ∷ spots.go ∷ spots.done ∷ spots.hold ∷ spots.stop ∷ spots.rest ∷ []
+    ≡ 1 ∷ 2 ∷ 3 ∷ 4 ∷ 5 ∷ 6 ∷ 7 ∷ 8 ∷ 9 ∷ 10 ∷ 11 ∷ 12 ∷ 13 ∷ []
+unfolding digits
+numbers = refl
+
+-- what is asked is met
+numbered : IsNumbered spots
+numbered = spots_are_numbered numbering numbering_numbers (counts form.numbers (last_task form.numbers) 1)
+
+owners : HasOwners (owner_of form.numbers) 3 spots (owner_of (numbers_replayed form))
+unfolding digits
+owners = spots_have_owners numbering form (normal_is_in_order original ordered)

@@ -1,0 +1,4 @@
+pub mod Sorted
+pub mod Placed
+pub mod Ordered
+pub mod Examples

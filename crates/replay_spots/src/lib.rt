@@ -1,0 +1,15 @@
+//! The numbers of the entries of a replay text, as the law of replaying asks for them. The crate has no functions of its own but the one
+//! that carries the laws.
+#![tactic(auto)]
+
+ghost use Rattle.replay_spots.specs.Laws.{NormalIsInOrder, SpotsAreNumbered, SpotsAreThere, SpotsHaveOwners};
+
+/// Carries the laws of the numbers of a replay text's entries. No two have one number (`numbered`), the owner of each is the one
+/// that the law of replaying asks for (`owners`), and at its number stands each entry of the definition (`there`), where the
+/// entries of the normal form are numbered task by task, as they are (`order`).
+pub fn laws()
+    ensures numbered { SpotsAreNumbered }
+    ensures owners { SpotsHaveOwners }
+    ensures there { SpotsAreThere }
+    ensures order { NormalIsInOrder }
+{}
