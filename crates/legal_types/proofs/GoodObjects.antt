@@ -34,7 +34,7 @@ use Rattle.legal_types.proofs.GoodScopes.{IsIn, find-split, constants-told}
 -- ---- marks
 
 -- a name that is declared, and whose declaration is not refused, is a mark that is there, a task type, or no mark
-abbrev IsMarked : TypeTable → Marking → Type 0
+abbrev pub IsMarked : TypeTable → Marking → Type 0
 IsMarked T (ScalarMark m k) = Unit {0}
 IsMarked T (ArrayMark m range part) = LeadsOn T m
 IsMarked T (TaskMark entries) = Unit {0}

@@ -10,3 +10,9 @@ pub mod LaterTables
 pub mod LaterScopes
 pub mod MainScopes
 pub mod TaskTypes
+pub mod InnerScopes
+pub mod LoopScopes
+pub mod BodyScopes
+pub mod ApartNames
+pub mod AllClear
+pub mod AllAddressed

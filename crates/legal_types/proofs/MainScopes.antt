@@ -50,6 +50,17 @@ pub record Stands (T : TypeTable) (s : Scope) : Type 0 where
   pub over : IsOver root s
   pub later : IsLaterTable root T
 
+-- The same where the program's table keeps that table: no more types and values have names.
+pub record StandsWhole (T : TypeTable) (s : Scope) : Type 0 where
+  pub stands : Stands T s
+  pub whole : Keeps anybody stands.root T
+
+-- So it is where the bodies of tasks begin.
+abbrev pub AllBodies : TypeTable → Scope → PDecls → Type 0
+AllBodies T s no_decl = Unit {0}
+AllBodies T s (decl_then (DTaskBody w objects its sp) rest) = StandsWhole T s × AllBodies T (after_decl s (DTaskBody w objects its sp)) rest
+AllBodies T s (decl_then d rest) = AllBodies T (after_decl s d) rest
+
 -- So it is at each declaration, where nothing is refused, and behind them all.
 abbrev pub AllStand : TypeTable → Scope → PDecls → Type 0
 AllStand T s no_decl = Stands T s
@@ -234,6 +245,24 @@ to-stand T R typed later (decl_then d rest) s h met = (
   to-stand T R typed later rest (after_decl s d) h.1 (all-back IsMet (decl_sites s d) (decls_sites (after_decl s d) rest) met),
 )
 
+-- a declaration in front, which is no body or stands so itself
+more-bodies : (T : TypeTable) (d : PDecl) (rest : PDecls) (s : Scope) → IsFirst d ⊎ StandsWhole T s → AllBodies T (after_decl s d) rest → AllBodies T s (decl_then d rest)
+more-bodies T (DTaskBody w objects its sp) rest s h k = (⊎_elim (λ no. absurd no) (λ yes. yes) h, k)
+more-bodies T (DNumber name e sp) rest s h k = k
+more-bodies T (DObject ws constant shape init sp) rest s h k = k
+more-bodies T (DEnumeration name literals sp) rest s h k = k
+more-bodies T (DArray name index x sp) rest s h k = k
+more-bodies T (DSubtype name x sp) rest s h k = k
+more-bodies T (DException ws sp) rest s h k = k
+more-bodies T (DIntIo w sp) rest s h k = k
+more-bodies T (DPragma e sp) rest s h k = k
+more-bodies T (DTask t sp) rest s h k = k
+
+to-bodies : (T R : TypeTable) → IsTyped R → IsLaterTable R T → Keeps anybody R T → (ds : PDecls) (s : Scope) → AllOver R s ds → AllBodies T s ds
+to-bodies T R typed later keeps no_decl s h = tt
+to-bodies T R typed later keeps (decl_then d rest) s h =
+    more-bodies T d rest s (inr (record { stands = record { root = R; typed = typed; over = h.0; later = later }; whole = keeps })) (to-bodies T R typed later keeps rest (after_decl s d) h.1)
+
 -- a new name that is no mark
 one-more : (R : TypeTable) (thing : Thing) (w : Word) (s s' : Scope) → s'.types ≡ s.types → ((id : NameId) → meaning s' id ≡ meaning (with_name thing s w) id) → InHere s → IsUnused s w → IsClearThing s.types thing → ((m : ℕ) → thing ≡ TypeMark m → ⊥) → IsOver R s → IsOver R s'
 one-more R thing w s s' same means here unused clear other over =
@@ -303,9 +332,10 @@ grows-decls (decl_then d rest) s = grows-on (grows-decl d s) (grows-decls rest (
 record Walked (s : Scope) (ds : PDecls) : Type 0 where
   later : IsLaterTable s.types (after_decls s ds).types
   all : AllStand (after_decls s ds).types s ds
+  bodies : AllBodies (after_decls s ds).types s ds
 
 walk : (names : List (List ℕ)) (ds : PDecls) (s : Scope) → IsGood s → BodiesLast ds → DeclareOnce s ds → EveryDecls (well_placed names) ds → AllByRecursion IsMet (decls_sites s ds) → IsSmall (after_decls s ds).types → Walked s ds
-walk names no_decl s good last once every met small = record { later = later-self s.types; all = record { root = s.types; typed = good-typed s good small; over = good.over; later = later-self s.types } }
+walk names no_decl s good last once every met small = record { later = later-self s.types; all = record { root = s.types; typed = good-typed s good small; over = good.over; later = later-self s.types }; bodies = tt }
 walk names (decl_then d rest) s good last once every met small =
     ⊎_elim
     (λ h. goes-on h.0 (walk names rest (after_decl s d) (good-next h.0) h.1 once.1 every.1 (all-back IsMet (decl_sites s d) (decls_sites (after_decl s d) rest) met) small))
@@ -328,19 +358,37 @@ walk names (decl_then d rest) s good last once every met small =
             all-front IsMet (decl_sites s d) (decls_sites (after_decl s d) rest) met,
             w.all,
           );
+          bodies = more-bodies (after_decls s (decl_then d rest)).types d rest s (inl first) w.bodies;
         }
 
     ends : AreLater (decl_then d rest) → Walked s (decl_then d rest)
     ends h =
+        let T = (after_decls s (decl_then d rest)).types in
         let typed = good-typed s good here-small in
         let all = all-over s.types (decl_then d rest) s h good.here once good.over in
-        let l = keeps-later s.types (after_decls s (decl_then d rest)).types typed (last-over s.types (decl_then d rest) s all).keeps in
-        record { later = l; all = to-stand (after_decls s (decl_then d rest)).types s.types typed l (decl_then d rest) s all met }
+        let keeps = (last-over s.types (decl_then d rest) s all).keeps in
+        let l = keeps-later s.types T typed keeps in
+        record { later = l; all = to-stand T s.types typed l (decl_then d rest) s all met; bodies = to-bodies T s.types typed l keeps (decl_then d rest) s all }
+
+whole-walk : (p : PProgram) → MeetsTypeRules p → IsWellPlaced p → IsSmall (types_in p) → Walked (first_scope p.name) p.decls
+whole-walk p rules placed small =
+    let once : NamesOnce p.name p.decls = declared_once p rules in
+    let met = (all_met p rules).1 in
+    walk p.names p.decls (first_scope p.name) (good-first p.name once.0.0) placed.1 once.1 placed.2
+    (all-front IsMet (decls_sites (first_scope p.name) p.decls) (body_sites (inside (after_decls (first_scope p.name) p.decls)) p.body) met) small
 
 -- At each declaration of main the scope stands over a firm table, of which the program's is a later one.
 pub main-stands : (p : PProgram) → MeetsTypeRules p → IsWellPlaced p → IsSmall (types_in p) → AllStand (types_in p) (first_scope p.name) p.decls
-main-stands p rules placed small =
-    let once : NamesOnce p.name p.decls = declared_once p rules in
-    let met = (all_met p rules).1 in
-    (walk p.names p.decls (first_scope p.name) (good-first p.name once.0.0) placed.1 once.1 placed.2
-    (all-front IsMet (decls_sites (first_scope p.name) p.decls) (body_sites (inside (after_decls (first_scope p.name) p.decls)) p.body) met) small).all
+main-stands p rules placed small = (whole-walk p rules placed small).all
+
+-- At each body the program's table keeps it.
+pub bodies-stand : (p : PProgram) → MeetsTypeRules p → IsWellPlaced p → IsSmall (types_in p) → AllBodies (types_in p) (first_scope p.name) p.decls
+bodies-stand p rules placed small = (whole-walk p rules placed small).bodies
+
+last-of : (T : TypeTable) (ds : PDecls) (s : Scope) → AllStand T s ds → Stands T (after_decls s ds)
+last-of T no_decl s h = h
+last-of T (decl_then d rest) s h = last-of T rest (after_decl s d) h.2
+
+-- Behind all declarations it does so too.
+pub last-stands : (p : PProgram) → MeetsTypeRules p → IsWellPlaced p → IsSmall (types_in p) → StandsWhole (types_in p) (after_decls (first_scope p.name) p.decls)
+last-stands p rules placed small = let h = last-of (types_in p) p.decls (first_scope p.name) (main-stands p rules placed small) in record { stands = h; whole = h.over.keeps }

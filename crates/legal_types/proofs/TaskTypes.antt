@@ -41,7 +41,7 @@ use Rattle.legal_types.specs.Typed.{HasLimits, HasTypedTasks, IsFirstEntry, IsFi
 use Rattle.legal_types.proofs.ExprKinds.{IsScalarMark, told, scalar-mark}
 use Rattle.legal_types.proofs.StaticParts.{IsStaticIn, AreBounds, static-told, HasRange, drange-met}
 use Rattle.legal_types.proofs.TypedValues.{mark-of}
-use Rattle.legal_types.proofs.StaticWorth.{IsWorth, worth, small-literals}
+use Rattle.legal_types.proofs.StaticWorth.{IsWorth, worth, worth-value, small-literals}
 use Rattle.legal_types.proofs.FirmTables.{scalar-grown, scalar-has, value-grown}
 use Rattle.legal_types.proofs.LaterTables.{mark-later, worth-later}
 use Rattle.legal_types.proofs.MainScopes.{Stands, AllStand, main-stands}
@@ -51,6 +51,9 @@ use Rattle.legal_types.proofs.MainScopes.{Stands, AllStand, main-stands}
 -- a range with its limits by the table, which are those that the scope tells
 pub record IsRangeHere (T : TypeTable) (s : Scope) (r : PDrange) : Type 0 where
   pub limits : HasLimits T r
+  -- its bounds are values
+  pub first : HasValueAt T limits.limits.kind limits.limits.first
+  pub last : HasValueAt T limits.limits.kind limits.limits.last
   pub known : drange_range s r ≡ Some record { kind = limits.limits.kind; first = limits.limits.first; last = limits.limits.last }
 
 module _ (T : TypeTable) (s : Scope) (stands : Stands T s) where
@@ -66,13 +69,25 @@ module _ (T : TypeTable) (s : Scope) (stands : Stands T s) where
         find-all (λ (y : Mark). int_le y.first y.last ≡ true) (λ y. is_named id y.name) stands.root.marks h.leads.mark stands.typed.orders (root-mark id h),
       )
 
+  -- its first and its last value are there
+  bound-here : (id : NameId) (h : IsScalarMark s id) (z : ℤ) → HasValueAt stands.root h.leads.mark.kind z → HasValueAt T h.leads.mark.kind z
+  bound-here id h z f =
+      let k = mark-of stands.root s stands.typed stands.over id h.leads.mark.kind (ap scalar_kind h.marks) in
+      value-grown stands.root T stands.later.grows h.leads.mark.kind z (scalar-has stands.root h.leads.mark.kind k.scalar) f
+
+  first-here : (id : NameId) (h : IsScalarMark s id) → HasValueAt T h.leads.mark.kind h.leads.mark.first
+  first-here id h =
+      bound-here id h h.leads.mark.first
+      (find-all (λ (y : Mark). HasValueAt stands.root y.kind y.first) (λ y. is_named id y.name) stands.root.marks h.leads.mark (recursion_from_All _ stands.root.marks stands.typed.sound.firsts) (root-mark id h))
+
+  last-here : (id : NameId) (h : IsScalarMark s id) → HasValueAt T h.leads.mark.kind h.leads.mark.last
+  last-here id h =
+      bound-here id h h.leads.mark.last
+      (find-all (λ (y : Mark). HasValueAt stands.root y.kind y.last) (λ y. is_named id y.name) stands.root.marks h.leads.mark (recursion_from_All _ stands.root.marks stands.typed.sound.lasts) (root-mark id h))
+
   -- a scalar mark of the scope has that name in the table
   pub name-here : (id : NameId) (h : IsScalarMark s id) → IsScalarName T id
-  name-here id h =
-      let m = mark-here id h in
-      let f = find-all (λ (y : Mark). HasValueAt stands.root y.kind y.first) (λ y. is_named id y.name) stands.root.marks h.leads.mark (recursion_from_All _ stands.root.marks stands.typed.sound.firsts) (root-mark id h) in
-      let k = mark-of stands.root s stands.typed stands.over id h.leads.mark.kind (ap scalar_kind h.marks) in
-      record { mark = h.leads.mark; named = m.0; scalar = m.1; first = value-grown stands.root T stands.later.grows h.leads.mark.kind h.leads.mark.first (scalar-has stands.root h.leads.mark.kind k.scalar) f }
+  name-here id h = let m = mark-here id h in record { mark = h.leads.mark; named = m.0; scalar = m.1; first = first-here id h }
 
   -- a static expression of the scope is worth its value by the table
   pub worth-here : (names : List (List ℕ)) (j k : ℕ) (e : PExpr) → EveryExpr (well_placed names) j e → (h : IsStaticIn s k e) → IsWorth T k e h.value
@@ -107,6 +122,8 @@ module _ (T : TypeTable) (s : Scope) (stands : Stands T s) where
           told = bounds-told h.kind b h.first.value h.last.value x y;
           order = h.order;
         };
+        first = worth-value T h.kind b.first h.first.value x;
+        last = worth-value T h.kind b.last h.last.value y;
         known = ap (λ o. given_range s o b) h.first.kind ∙ bounds-known h.kind b h.first h.last;
       }
   limits-here names (RMarked x) every h = by_bounds x.bounds refl every.1 h.bounds
@@ -130,6 +147,8 @@ module _ (T : TypeTable) (s : Scope) (stands : Stands T s) where
           told = ap (marked_extent T id) e ∙ ap (option_map (λ (z : Mark). record { first = z.first; last = z.last })) m.0;
           order = m.2;
         };
+        first = first-here id h.mark;
+        last = last-here id h.mark;
         known = ap₂ (marked_range s) h.mark.marks e ∙ ap (option_map (λ (z : Mark). record { kind = z.kind; first = z.first; last = z.last })) h.mark.leads.there;
       }
       by_bounds (Some b) e q w =
@@ -144,6 +163,8 @@ module _ (T : TypeTable) (s : Scope) (stands : Stands T s) where
               told = ap (marked_extent T id) e ∙ bounds-told y.kind b w.0.value w.1.value f l;
               order = w.2;
             };
+            first = worth-value T y.kind b.first w.0.value f;
+            last = worth-value T y.kind b.last w.1.value l;
             known = ap₂ (marked_range s) h.mark.marks e ∙ bounds-known y.kind b w.0 w.1;
           }
 

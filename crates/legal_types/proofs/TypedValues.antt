@@ -170,7 +170,7 @@ few-at (x ∷ xs) (suc k) h = few-at xs k h.1
 -- ---- kinds of names and operators
 
 -- a scalar reading of a mark
-kind-read : (j : ℕ) (o : Option Kind) (k : ℕ) → name_kind (reading_of_kind j o) ≡ Some k → (j ≡ k) × ((x : Kind) × (scalar_only o ≡ Some x))
+pub kind-read : (j : ℕ) (o : Option Kind) (k : ℕ) → name_kind (reading_of_kind j o) ≡ Some k → (j ≡ k) × ((x : Kind) × (scalar_only o ≡ Some x))
 kind-read j (Some kind.Integer) k e = (some-same e, (_, refl))
 kind-read j (Some kind.Truth) k e = (some-same e, (_, refl))
 kind-read j (Some (kind.Enumeration names)) k e = (some-same e, (_, refl))
@@ -191,7 +191,7 @@ marked-kind m j (Some (kind.Enumeration names)) k e = (some-same e, (_, refl))
 marked-kind m j (Some (kind.Array index first last part)) k e = absurd (none-some k e)
 marked-kind m j None k e = absurd (none-some k e)
 
-unary-given : (o : Operand) (q : Option ℕ) (k : ℕ) → unary_kind o q ≡ Some k → given_by o ≡ k
+pub unary-given : (o : Operand) (q : Option ℕ) (k : ℕ) → unary_kind o q ≡ Some k → given_by o ≡ k
 unary-given o (Some j) k e = by_test (is_taken o j) e
   where
     by_test : (b : Bool) → (if b then Some (given_by o) else None) ≡ Some k → given_by o ≡ k
@@ -200,16 +200,16 @@ unary-given o (Some j) k e = by_test (is_taken o j) e
 unary-given o None k e = absurd (none-some k e)
 
 -- both operands fit
-record AreTaken (o : Operand) (p q : Option ℕ) (k : ℕ) : Type 0 where
-  left : ℕ
-  right : ℕ
-  first : p ≡ Some left
-  second : q ≡ Some right
-  taken : is_taken o left ≡ true
-  same : (left == right) ≡ true
-  given : given_by o ≡ k
+pub record AreTaken (o : Operand) (p q : Option ℕ) (k : ℕ) : Type 0 where
+  pub left : ℕ
+  pub right : ℕ
+  pub first : p ≡ Some left
+  pub second : q ≡ Some right
+  pub taken : is_taken o left ≡ true
+  pub same : (left == right) ≡ true
+  pub given : given_by o ≡ k
 
-are-taken : (o : Operand) (p q : Option ℕ) (k : ℕ) → binary_kind o p q ≡ Some k → AreTaken o p q k
+pub are-taken : (o : Operand) (p q : Option ℕ) (k : ℕ) → binary_kind o p q ≡ Some k → AreTaken o p q k
 are-taken o (Some i) (Some j) k e = by_tests (is_taken o i) (is_taken o j) (i == j) refl refl e
   where
     by_tests : (a b c : Bool) → is_taken o i ≡ a → (i == j) ≡ c → (if a && b && c then Some (given_by o) else None) ≡ Some k → AreTaken o (Some i) (Some j) k
@@ -221,7 +221,7 @@ are-taken o (Some i) None k e = absurd (none-some k e)
 are-taken o None q k e = absurd (none-some k e)
 
 -- the argument and the result of an attribute
-if-same : (k : ℕ) (q o : Option ℕ) (j : ℕ) → if_kind k q o ≡ Some j → o ≡ Some j
+pub if-same : (k : ℕ) (q o : Option ℕ) (j : ℕ) → if_kind k q o ≡ Some j → o ≡ Some j
 if-same k (Some i) o j e = by_test (k == i) e
   where
     by_test : (b : Bool) → (if b then o else None) ≡ Some j → o ≡ Some j
@@ -242,7 +242,7 @@ literal-none (x ∷ rest) k id e = by_place (position_in id x) e (literal-none r
 module _ (T : TypeTable) (s : Scope) (typed : IsTyped T) (over : IsOver T s) where
   -- ---- names
 
-  scalar-kept : (k : ℕ) → ((x : Kind) × (scalar_only (kind_at s.types k) ≡ Some x)) → IsScalar T k
+  pub scalar-kept : (k : ℕ) → ((x : Kind) × (scalar_only (kind_at s.types k) ≡ Some x)) → IsScalar T k
   scalar-kept k h = (h.0, sym (over.keeps.kinds k) ∙ h.1)
 
   pub mark-of : (id : NameId) (k : ℕ) → scalar_kind (marking s id) ≡ Some k → IsMarkOf T id k

@@ -27,6 +27,7 @@ use Rattle.normal_model.specs.Names.{task_name_at}
 use Rattle.normal_model.specs.Ranges.{subtype_of_range, array_range}
 use Rattle.normal_model.specs.Members.{kind_of_index}
 use Rattle.normal_model.specs.Making.{moving}
+use Rattle.ada_value.specs.StaticLaw.{HasSmallLiterals}
 use Rattle.translation_law.specs.Translations.{Programs}
 use Rattle.normal_law.specs.Suited.{declared_limits, IsMeant, is_named, is_member as member_meant, IsLiteral, HasLiteral, IsCallee}
 use Rattle.legal_sites.specs.Met.{IsMet}
@@ -55,7 +56,7 @@ module _ (p : PProgram) (T : TypeTable) (Typed : Scope → Type 0) (typing : Typ
     pub rows : (id : NameId) (x : TaskPart) (r : PDrange) (range : Range) → find (is_called id) (parts_of p) ≡ Some x → x.row ≡ Some r → IsExtent T r range → RowFacts b T r range
     pub named : (t : ℕ) (x : Seat) → IsTaskOf p T t x → task_named made.numbers (task_name_at (g p T) t) ≡ Some t
 
-  module _ (facts : CalleesKnown) (s : Scope) (x : PCallee) (k : CalleeKnown p T s x) (typed : Typed s) (met : AllByRecursion IsMet (callee_sites s x)) where
+  module _ (facts : CalleesKnown) (s : Scope) (x : PCallee) (k : CalleeKnown p T s x) (typed : Typed s) (small : (e : PExpr) → x.index ≡ Some e → HasSmallLiterals e) (met : AllByRecursion IsMet (callee_sites s x)) where
     id : NameId
     id = x.name.name
 
@@ -69,7 +70,7 @@ module _ (p : PProgram) (T : TypeTable) (Typed : Scope → Type 0) (typing : Typ
     static-member : (r : PDrange) (range : Range) (e : PExpr) → k.stands.part.row ≡ Some r → IsExtent T r range → x.index ≡ Some e → of_other_kind s (Some range.kind) e ≡ [] → out_of s e (Some range) ≡ [] →
         moving T (Some e) ≡ None → (t : ℕ) × (task_meant (g p T) [] x.name.name (Some e) ≡ Ok t)
     static-member r range e row ext q kinded out unmoved =
-        let worth = typing.expr s e typed (index-met e q) in
+        let worth = typing.expr s e typed (small e q) (index-met e q) in
         let w = worth.static (unmoved-static T e unmoved) in
         let same : range.kind ≡ worth.kind = same-kind range.kind (kind_of s e) worth.kind worth.is (no-place (is_other_kind (Some range.kind) (kind_of s e)) (place_of e) kinded) in
         let inside : is_outside range (static_in s range.kind e) ≡ false = no-place (is_outside range (static_in s range.kind e)) (place_of e) out in

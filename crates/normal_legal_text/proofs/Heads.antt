@@ -26,6 +26,7 @@ use Rattle.ada_value.specs.declared.values.Raised.TheVariants as raised
 use Rattle.ada_value.specs.declared.values.Limits.{Limits}
 use Rattle.ada_value.specs.Values.{lies_in, position_of, and_then}
 use Rattle.ada_value.specs.Evaluating.{evaluated}
+use Rattle.ada_value.specs.StaticLaw.{HasSmallLiterals}
 use Rattle.task_model.specs.Setting.{index_in}
 use Rattle.rewritten_types.proofs.Lookups.{find-all}
 use Rattle.legal_sites.specs.Met.{IsMet}
@@ -117,10 +118,10 @@ module _ (p : PProgram) (T : TypeTable) (Typed : Scope → Type 0) (typing : Typ
       by_family None f = absurd (true≢false (sym f))
 
   -- a static index lies in the family's range
-  pub static-inside : (s : Scope) (h : PHead) (t : PTask) (k : EntryKnown t s.own h.entry.name) → Typed s → (r : PDrange) → k.entry.family ≡ Some r → (ranged : IsRanged T k.around r) → (e : PExpr) →
+  pub static-inside : (s : Scope) (h : PHead) (t : PTask) (k : EntryKnown t s.own h.entry.name) → Typed s → (r : PDrange) → k.entry.family ≡ Some r → (ranged : IsRanged T k.around r) → (e : PExpr) → HasSmallLiterals e →
       AllByRecursion IsMet (accept_index_sites s (entry_named s.own h.entry.name) e) → is_static T e ≡ true → (limits : Limits) → limits.first ≡ ranged.range.first → limits.last ≡ ranged.range.last →
       (z : ℤ) × (and_then (evaluated T [] e) (λ v. index_in limits (position_of v)) ≡ Ok z)
-  static-inside s h t k typed r q ranged e met static limits first last =
+  static-inside s h t k typed r q ranged e small met static limits first last =
       let family-is : entry_family k.around k.entry.family ≡ family ranged.range = ap (entry_family k.around) q ∙ ap family_of ranged.known in
       let part : EntryPart = entry_part k.around k.entry in
       let at : AllByRecursion IsMet (expr_of s (Some ranged.range.kind) e ++ site s (must_lie_in e (Some ranged.range)) ∷ []) =
@@ -130,7 +131,7 @@ module _ (p : PProgram) (T : TypeTable) (Typed : Scope → Type 0) (typing : Typ
       let lies = (all_back IsMet (expr_of s (Some ranged.range.kind) e) (site s (must_lie_in e (Some ranged.range)) ∷ []) at).0 in
       let exprs = all_front IsMet (expr_sites s e) (site s (must_be_of e (Some ranged.range.kind)) ∷ []) of_kind in
       let kinded = (all_back IsMet (expr_sites s e) (site s (must_be_of e (Some ranged.range.kind)) ∷ []) of_kind).0 in
-      let worth = typing.expr s e typed exprs in
+      let worth = typing.expr s e typed small exprs in
       let w = worth.static static in
       let same : ranged.range.kind ≡ worth.kind = same-kind ranged.range.kind (kind_of s e) worth.kind worth.is (no-place (is_other_kind (Some ranged.range.kind) (kind_of s e)) (place_of e) kinded.matched) in
       let inside : is_outside ranged.range (static_in s ranged.range.kind e) ≡ false = no-place (is_outside ranged.range (static_in s ranged.range.kind e)) (place_of e) lies.ranged in

@@ -19,6 +19,7 @@ use Rattle.syn_event.specs.TaskParts.{Seat}
 use Rattle.syn_event.proofs.Nothing.{all_front}
 use Rattle.task_model.specs.Setting.{Setting, entry_of, family_limits, member_index}
 use Rattle.normal_model.specs.Making.{moving}
+use Rattle.ada_value.specs.StaticLaw.{HasSmallLiterals}
 use Rattle.translation_law.specs.Translations.{Programs}
 use Rattle.normal_law.specs.Suited.{IsHead}
 use Rattle.legal_sites.specs.Met.{IsMet, IsCheckMet}
@@ -41,7 +42,7 @@ module _ (p : PProgram) (T : TypeTable) (Typed : Scope → Type 0) (typing : Typ
   b = record { original = g p T; made = made; is_old = is_old; is_fixed = is_fixed; is_known = is_known }
 
   -- what is known of an accept's head in the body of a task
-  module _ (t : PTask) (s : Scope) (c : CheckScope) (n : ℕ) (h : PHead) (typed : Typed s) (seen : PlaceSeen p T (Some t) s c)
+  module _ (t : PTask) (s : Scope) (c : CheckScope) (n : ℕ) (h : PHead) (typed : Typed s) (small : (e : PExpr) → h.index ≡ Some e → HasSmallLiterals e) (seen : PlaceSeen p T (Some t) s c)
       (met : AllByRecursion IsMet (head_sites s h)) (checked : AllByRecursion (IsCheckMet mode.Original p.names) (sites.head_sites c n h)) where
     known-entry : EntryKnown p T Typed typing t s.own h.entry.name
     known-entry = own-entry p T Typed typing t s c h seen checked.1.0.accepts
@@ -65,7 +66,7 @@ module _ (p : PProgram) (T : TypeTable) (Typed : Scope → Type 0) (typing : Typ
         by_family : (o : Option PDrange) → known-entry.entry.family ≡ o → FamilyRanged T known-entry.around o → is_some o ≡ true → (z : ℤ) × (member_index (g p T) [] (entry_of (numbers p T) k h.entry.name) (Some e) ≡ Ok z)
         by_family None f ranged there = absurd (true≢false (sym there))
         by_family (Some r) f ranged there =
-            static-inside p T Typed typing s h t known-entry typed r f ranged e (index-met e q) (unmoved-static T e m) (family_limits (entry_at (numbers p T) (entry_of (numbers p T) k h.entry.name)))
+            static-inside p T Typed typing s h t known-entry typed r f ranged e (small e q) (index-met e q) (unmoved-static T e m) (family_limits (entry_at (numbers p T) (entry_of (numbers p T) k h.entry.name)))
             (ap (λ o. (family_limits o).first) has.at ∙ has.first ∙ ap (λ o. first_of (family_extent T o)) f ∙ ap first_of ranged.is.extent)
             (ap (λ o. (family_limits o).last) has.at ∙ has.last ∙ ap (λ o. last_of (family_extent T o)) f ∙ ap last_of ranged.is.extent)
 

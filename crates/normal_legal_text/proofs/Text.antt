@@ -1,5 +1,5 @@
 -- The statements of each unit of a legal program are as the law of normal forms asks.
-use Rattle.std.proofs.Common.{◌≡◌, ℕ, zero, suc, ◌<◌, Bool, true, false, ◌==◌, ◌||◌, not, List, [], ◌∷◌, ◌++◌, length, map, slice_get, unwrap_or, Option, Some, None, refl, sym, ap, ◌∙◌, subst, true≢false, arith}
+use Rattle.std.proofs.Common.{◌+◌, IfSome, ◌≡◌, ℕ, zero, suc, ◌<◌, Bool, true, false, ◌==◌, ◌||◌, not, List, [], ◌∷◌, ◌++◌, length, map, slice_get, unwrap_or, Option, Some, None, refl, sym, ap, ◌∙◌, subst, true≢false, arith}
 use Rattle.std.specs.List.{AllByRecursion}
 use Rattle.std.proofs.lemmas.Bool.{or_left, eq-eqb, eqb-true}
 use Rattle.std.proofs.lemmas.List.{append-nil}
@@ -9,8 +9,9 @@ use Rattle.ada_tree.specs.TypeTable.{TypeTable}
 use Rattle.ada_tree.specs.PlainStmt.{PCallee, PCall, PHead, PScheme, PBody, no_stmt, no_handler}
 use Rattle.ada_tree.specs.PlainDecl.{PTask, no_decl}
 use Rattle.ada_tree.specs.PlainProgram.{PProgram}
-use Rattle.ada_tree.specs.Every.{EveryBody, EveryDecls}
+use Rattle.ada_tree.specs.Every.{Rules, no_rules, EveryExpr, EveryCallee, EveryCall, EveryHead, EveryBody, EveryDecls}
 use Rattle.ada_tree.specs.Scope.{Scope}
+use Rattle.ada_tree.specs.StaticValue.{mark_named}
 use Rattle.ada_tree.specs.Demand.{declares, Site}
 use Rattle.ada_tree.specs.Sites.{if_there, names_sites, callee_sites, call_sites, head_sites, scheme_sites, loop_scope, body_sites, decls_sites, sites}
 use Rattle.ada_tree.specs.Declaring.{before_all, first_scope, inside, after_decls, with_formals}
@@ -31,7 +32,10 @@ use Rattle.task_model.specs.Starting.{unit_among}
 use Rattle.normal_model.specs.NormalTree.{first_running}
 use Rattle.rewritten_types.proofs.Lookups.{all-weaker, find-all, place-all}
 use Rattle.rewritten_types.proofs.Refused.{declared_once}
-use Rattle.rewritten_values.specs.Values.{is_known, old_names}
+use Rattle.rewritten_values.specs.Values.{is_known}
+use Rattle.ada_value.specs.StaticLaw.{HasSmallLiterals}
+use Rattle.ada_tree.specs.Lexical.{IsInteger}
+use Rattle.ada_tree.specs.PlainExpr.{PExpr, EInteger, EName, EIndex, EAttribute, EAttributeOf, EParen, EUnary, EBinary}
 use Rattle.translation_law.specs.Translations.{Programs}
 use Rattle.translation_law.specs.OldTexts.{Asked, OldCall, OldBody, old_body, old_no_stmt, old_no_handler}
 use Rattle.normal_law.specs.Suited.{IsCallee, IsCall, IsHead}
@@ -52,13 +56,31 @@ use Rattle.normal_legal_text.proofs.Callees.{callee-known}
 use Rattle.normal_legal_text.proofs.CalleesAsked.{CalleesKnown, callee-asked}
 use Rattle.normal_legal_text.proofs.Calls.{call-asked}
 
--- a name that an inner scope declares is that of no constant and no literal
-abbrev pub IsLocal : (ℕ → Bool) → Site → Type 0
-IsLocal is_fixed x = (w : Word) → x.demand ≡ declares false w → is_fixed w.name.0 ≡ false
+-- each name is the original's, and each integer literal a number of INTEGER
+abbrev pub text_rules : (ℕ → Bool) → Rules
+text_rules is_old = record no_rules { name = λ id. is_old id.0 ≡ true; integer = IsInteger }
+
+small-literals : (is_old : ℕ → Bool) (e : PExpr) (k : ℕ) → EveryExpr (text_rules is_old) k e → HasSmallLiterals e
+small-literals is_old (EInteger n s) k h = h.1
+small-literals is_old (EName id s) k h = tt
+small-literals is_old (EIndex w e s) k h = small-literals is_old e (k + 1) h.2
+small-literals is_old (EAttribute m w s) k h = tt
+small-literals is_old (EAttributeOf m w e s) k h = small-literals is_old e (k + 1) h.3
+small-literals is_old (EParen e s) k h = small-literals is_old e (k + 1) h.1
+small-literals is_old (EUnary op e s) k h = small-literals is_old e (k + 1) h.2
+small-literals is_old (EBinary op l r s) k h = (small-literals is_old l (k + 1) h.2, small-literals is_old r (k + 1) h.3)
+
+-- an index that may stand there
+small-index : (is_old : ℕ → Bool) (o : Option PExpr) (k : ℕ) → IfSome o (EveryExpr (text_rules is_old) k) → (e : PExpr) → o ≡ Some e → HasSmallLiterals e
+small-index is_old o k h e q = small-literals is_old e k (subst (λ x. IfSome x (EveryExpr (text_rules is_old) k)) q h)
+
+-- a name that an inner scope declares is that of no constant, of no literal and of no type
+abbrev pub IsLocal : TypeTable → (ℕ → Bool) → Site → Type 0
+IsLocal T is_fixed x = (w : Word) → x.demand ≡ declares false w → (is_fixed w.name.0 ≡ false) × (mark_named T w.name ≡ None)
 
 -- what is known of each place
-abbrev pub IsKnownPlace : (ℕ → Bool) → Site → Type 0
-IsKnownPlace is_fixed x = IsMet x × IsLocal is_fixed x
+abbrev pub IsKnownPlace : TypeTable → (ℕ → Bool) → Site → Type 0
+IsKnownPlace T is_fixed x = IsMet x × IsLocal T is_fixed x
 
 module _ (p : PProgram) (made : Setting) (is_old is_fixed : ℕ → Bool) (Typed : Scope → Type 0) where
   abbrev T : TypeTable
@@ -70,30 +92,30 @@ module _ (p : PProgram) (made : Setting) (is_old is_fixed : ℕ → Bool) (Typed
   -- The scopes in bodies are typed: where a body begins, in accepts and in loops.
   pub record AreTyped : Type 0 where
     pub typing : Typing T Typed
-    pub accept : (s : Scope) (h : PHead) → Typed s → AllByRecursion (IsKnownPlace is_fixed) (head_sites s h) → Typed (with_formals (inside s) h.formals)
-    pub loop : (s : Scope) (x : Option PScheme) → Typed s → AllByRecursion (IsKnownPlace is_fixed) (if_there (scheme_sites s) x) → Typed (loop_scope s x)
+    pub accept : (s : Scope) (h : PHead) → Typed s → AllByRecursion (IsKnownPlace T is_fixed) (head_sites s h) → Typed (with_formals (inside s) h.formals)
+    pub loop : (s : Scope) (x : Option PScheme) → Typed s → AllByRecursion (IsKnownPlace T is_fixed) (if_there (scheme_sites s) x) → Typed (loop_scope s x)
     pub main : Typed (inside (after_decls (first_scope p.name) p.decls))
-    pub bodies : BodiesTyped p T (IsKnownPlace is_fixed) (IsCheckMet mode.Original p.names) (old_names is_old) Typed (first_scope p.name) p.decls
+    pub bodies : BodiesTyped p T (IsKnownPlace T is_fixed) (IsCheckMet mode.Original p.names) (text_rules is_old) Typed (first_scope p.name) p.decls
 
   -- What is asked beside the static rules.
   pub record TextPremises : Type 0 where
     pub types : MeetsTypeRules p
     pub checks : MeetsCheckRules p mode.Original
-    pub decls_old : EveryDecls (old_names is_old) p.decls
-    pub body_old : EveryBody (old_names is_old) 1 p.body
-    pub local : AllByRecursion (IsLocal is_fixed) (sites p)
+    pub decls_old : EveryDecls (text_rules is_old) p.decls
+    pub body_old : EveryBody (text_rules is_old) 1 p.body
+    pub local : AllByRecursion (IsLocal T is_fixed) (sites p)
     pub typed : AreTyped
     pub ranged : AreRanged T (first_scope p.name) p.decls
     pub tell : AllByRecursion (λ (x : TaskInfo). AllByRecursion (λ (y : TaskInfo). x.name.0 ≡ y.name.0 → x.unit.0 ≡ y.unit.0) (map (seat_info p.names) (seats T p))) (map (seat_info p.names) (seats T p))
 
   module _ (h : TextPremises) where
     abbrev Place : Site → Type 0
-    Place = IsKnownPlace is_fixed
+    Place = IsKnownPlace T is_fixed
 
     abbrev Checked : CheckSite → Type 0
     Checked = IsCheckMet mode.Original p.names
 
-    both-all : (xs : List Site) → AllByRecursion IsMet xs → AllByRecursion (IsLocal is_fixed) xs → AllByRecursion Place xs
+    both-all : (xs : List Site) → AllByRecursion IsMet xs → AllByRecursion (IsLocal T is_fixed) xs → AllByRecursion Place xs
     both-all [] m l = tt
     both-all (x ∷ xs) m l = ((m.0, l.0), both-all xs m.1 l.1)
 
@@ -159,17 +181,17 @@ module _ (p : PProgram) (made : Setting) (is_old is_fixed : ℕ → Bool) (Typed
     -- ---- what is asked
 
     module _ (facts : CalleesKnown p T Typed h.typed.typing made is_old is_fixed (is_known T) parts-known) where
-      callee-is : (who : Option PTask) (s : Scope) (c : CheckScope) (n : ℕ) (x : PCallee) → PlaceSeen p T who s c → Typed s → AllByRecursion Place (callee_sites s x) → AllByRecursion Checked (checks.callee_sites c n x) → IsCallee b x
-      callee-is who s c n x seen typed at checked =
-          callee-asked p T Typed h.typed.typing made is_old is_fixed (is_known T) parts-known facts s x (callee-known p T Typed h.typed.typing who s c n x typed seen (met (callee_sites s x) at) checked) typed (met (callee_sites s x) at)
+      callee-is : (who : Option PTask) (s : Scope) (c : CheckScope) (n : ℕ) (x : PCallee) → PlaceSeen p T who s c → Typed s → EveryCallee (text_rules is_old) n x → AllByRecursion Place (callee_sites s x) → AllByRecursion Checked (checks.callee_sites c n x) → IsCallee b x
+      callee-is who s c n x seen typed every at checked =
+          callee-asked p T Typed h.typed.typing made is_old is_fixed (is_known T) parts-known facts s x (callee-known p T Typed h.typed.typing who s c n x typed seen (met (callee_sites s x) at) checked) typed (small-index is_old x.index n every.1) (met (callee_sites s x) at)
 
-      call-is : (who : Option PTask) (s : Scope) (c : CheckScope) (n : ℕ) (x : PCall) → PlaceSeen p T who s c → Typed s → OldCall b x → AllByRecursion Place (call_sites s x) → AllByRecursion Checked (checks.call_sites c n x) → IsCall b x
-      call-is who s c n x seen typed old at checked =
+      call-is : (who : Option PTask) (s : Scope) (c : CheckScope) (n : ℕ) (x : PCall) → PlaceSeen p T who s c → Typed s → EveryCall (text_rules is_old) n x → OldCall b x → AllByRecursion Place (call_sites s x) → AllByRecursion Checked (checks.call_sites c n x) → IsCall b x
+      call-is who s c n x seen typed every old at checked =
           let callee_at = all_front Place (callee_sites s x.task) _ at in
           let callee_checked = all_front Checked (checks.callee_sites c n x.task) (checks.if_there (checks.args_sites c n) x.args) checked in
           call-asked p T Typed h.typed.typing made is_old is_fixed (is_known T) parts-known s x
           (callee-known p T Typed h.typed.typing who s c n x.task typed seen (met (callee_sites s x.task) callee_at) callee_checked) old (met (call_sites s x) at)
-          (callee-is who s c n x.task seen typed callee_at callee_checked)
+          (callee-is who s c n x.task seen typed every.0 callee_at callee_checked)
 
       -- an accept stands in no body of main
       no-accept : (s : Scope) (c : CheckScope) (x : PHead) → PlaceSeen p T None s c → accept_place c (check.accepts x) ≡ [] → ⊥
@@ -184,15 +206,15 @@ module _ (p : PProgram) (made : Setting) (is_old is_fixed : ℕ → Bool) (Typed
       abbrev known : Option PTask → Known
       known who = record { place = Place; check_place = Checked; scopes = λ s c. PlaceSeen p T who s c × Typed s }
 
-      gives : (who : Option PTask) (first number : ℕ) → ((s : Scope) (c : CheckScope) (n : ℕ) (x : PHead) → PlaceSeen p T who s c → Typed s → AllByRecursion Place (head_sites s x) → AllByRecursion Checked (checks.head_sites c n x) → IsHead b first number x) →
-          Gives (asked first number) (old_names is_old) (known who)
+      gives : (who : Option PTask) (first number : ℕ) → ((s : Scope) (c : CheckScope) (n : ℕ) (x : PHead) → PlaceSeen p T who s c → Typed s → EveryHead (text_rules is_old) n x → AllByRecursion Place (head_sites s x) → AllByRecursion Checked (checks.head_sites c n x) → IsHead b first number x) →
+          Gives (asked first number) (text_rules is_old) (known who)
       gives who first number heads = record {
         old = λ id m. m;
-        free = λ s w m. m.1 w refl;
+        free = λ s w m. (m.1 w refl).0;
         mark = λ s c w k m. h.typed.typing.mark s w k.1 m.0;
-        callee = λ s c n x k at checked. callee-is who s c n x k.0 k.1 at checked;
-        call = λ s c n x k old at checked. call-is who s c n x k.0 k.1 old at checked;
-        head = λ s c n x k at checked. heads s c n x k.0 k.1 at checked;
+        callee = λ s c n x k every at checked. callee-is who s c n x k.0 k.1 every at checked;
+        call = λ s c n x k every old at checked. call-is who s c n x k.0 k.1 every old at checked;
+        head = λ s c n x k every at checked. heads s c n x k.0 k.1 every at checked;
         in_accept = λ s c n x k at checked. (accept-seen p T who s c x k.0, h.typed.accept s x k.1 at);
         handling = λ s c k. (handling-seen p T who s c k.0, k.1);
         looping = λ s c w x k at. (loop-seen p T who s c w x k.0, h.typed.loop s x k.1 at);
@@ -201,23 +223,23 @@ module _ (p : PProgram) (made : Setting) (is_old is_fixed : ℕ → Bool) (Typed
       -- main
       pub main-text : (first number : ℕ) → OldBody (asked first number) p.body
       main-text first number =
-          body-as-asked (asked first number) (old_names is_old) (known None) (gives None first number (λ s c n x seen typed at checked. absurd (no-accept s c x seen checked.1.0.accepts)))
+          body-as-asked (asked first number) (text_rules is_old) (known None) (gives None first number (λ s c n x seen typed every at checked. absurd (no-accept s c x seen checked.1.0.accepts)))
           p.body main_scope main_around 1 (main-seen p T at-last.0 _ main_around at-last.1, h.typed.main) h.body_old body-known body-checked
 
       -- a task: the seat of its number, and that of the first task that runs its body
       pub task-text : (first number : ℕ) (x y : Seat) → IsTaskOf p T first x → IsTaskOf p T number y → x.unit ≡ y.unit → OldBody (asked first number) (unit_among p.decls y.unit.name.name).body
       task-text first number x y is runs same =
-          by_body _ (bodies-found p T Place Checked (old_names is_old) Typed p.decls [] (first_scope p.name) (checks.around_program p) (checks.body_names p.decls) y.unit.name.name (λ z m. m.0)
+          by_body _ (bodies-found p T Place Checked (text_rules is_old) Typed p.decls [] (first_scope p.name) (checks.around_program p) (checks.body_names p.decls) y.unit.name.name (λ z m. m.0)
           (objects-apart p T p.decls (first_scope p.name) (met _ decls-known)) h.ranged (declared_once p h.types).1 at-first h.typed.bodies h.decls_old decls-known decls-checked)
         where
-          by_body : (its : PBody) → BodyFound p T Place Checked (old_names is_old) Typed y.unit.name.name its → OldBody (asked first number) its
+          by_body : (its : PBody) → BodyFound p T Place Checked (text_rules is_old) Typed y.unit.name.name its → OldBody (asked first number) its
           by_body its nothing_found = old_body no_stmt no_handler old_no_stmt old_no_handler
           by_body its (body_found _ at) =
               let own : IsUnit p T at.seen.task = at.seen.seen.own.0.unit in
               let it : y.unit ≡ at.seen.task = one-unit p T parts-known y.unit at.seen.task runs.unit own (sym (at.seen.named ∙ at.called)) in
-              body-as-asked (asked first number) (old_names is_old) (known (Some at.seen.task))
-              (gives (Some at.seen.task) first number (λ s c n z seen typed places checked.
-              head-asked p T Typed h.typed.typing made is_old is_fixed (is_known T) at.seen.task s c n z typed seen (met (head_sites s z) places) checked first number x y is (same ∙ it) runs it))
+              body-as-asked (asked first number) (text_rules is_old) (known (Some at.seen.task))
+              (gives (Some at.seen.task) first number (λ s c n z seen typed every places checked.
+              head-asked p T Typed h.typed.typing made is_old is_fixed (is_known T) at.seen.task s c n z typed (small-index is_old z.index (n + 1) every.1) seen (met (head_sites s z) places) checked first number x y is (same ∙ it) runs it))
               its at.scope at.around 1 (at.seen.seen, at.typed) at.every at.places at.check_places
 
       -- ---- the first task that runs a body

@@ -13,6 +13,7 @@ use Rattle.ada_tree.specs.Sites.{site, expr_sites}
 use Rattle.ada_value.specs.declared.values.Value.{Value}
 use Rattle.ada_value.specs.Values.{limits_named, position_of}
 use Rattle.ada_value.specs.Evaluating.{evaluated}
+use Rattle.ada_value.specs.StaticLaw.{HasSmallLiterals}
 use Rattle.rewritten_values.specs.Values.{is_known}
 use Rattle.legal_sites.specs.Met.{IsMet}
 
@@ -30,8 +31,8 @@ pub record HasWorth (T : TypeTable) (s : Scope) (e : PExpr) : Type 0 where
   pub is : kind_of s e ≡ Some kind
   pub static : is_static T e ≡ true → IsWorth T s kind e
 
--- What the scopes of a program's places give, where nothing is refused: no name is unclear, marks of scalars lead to known kinds, expressions have kinds and static ones values, in the types of the whole program; and names that inner scopes declare are those of no constant.
+-- What the scopes of a program's places give, where nothing is refused: no name is unclear, marks of scalars lead to known kinds, expressions whose literals are numbers of INTEGER have kinds and static ones values, in the types of the whole program; and names that inner scopes declare are those of no constant.
 pub record Typing (T : TypeTable) (Typed : Scope → Type 0) : Type 0 where
   pub clear : (s : Scope) (id : NameId) → Typed s → meaning s id ≡ Some Unclear → ⊥
   pub mark : (s : Scope) (w : Word) → Typed s → IsMet (site s (stands_as_mark scalar_only w)) → is_known T (limits_named T w.name).kind ≡ true
-  pub expr : (s : Scope) (e : PExpr) → Typed s → AllByRecursion IsMet (expr_sites s e) → HasWorth T s e
+  pub expr : (s : Scope) (e : PExpr) → Typed s → HasSmallLiterals e → AllByRecursion IsMet (expr_sites s e) → HasWorth T s e

@@ -56,10 +56,10 @@ module _ (q : PProgram) where
   abbrev U : TypeTable
   U = types_in q
 
-  begins : Grows predefined_types U
+  pub begins : Grows predefined_types U
   begins = grows-decls q.decls (first_scope q.name)
 
-  predefined-mark : (id : NameId) (m : Mark) → mark_named predefined_types id ≡ Some m → mark_named U id ≡ Some m
+  pub predefined-mark : (id : NameId) (m : Mark) → mark_named predefined_types id ≡ Some m → mark_named U id ≡ Some m
   predefined-mark id m e = find-grown (λ x. is_named id x.name) predefined_types.marks U.marks begins.mark m e
 
   pub truth-form : (s : Span) → HasForm U (truth_subtype s) truth_limits

@@ -1,9 +1,8 @@
 -- An array constant of main stands among no constants of the table, and has a name of its own.
-use Rattle.std.proofs.Common.{◌≡◌, ℕ, Bool, true, false, ◌||◌, ◌&&◌, ◌==◌, if◌then◌else◌, ℤ, List, [], ◌∷◌, ◌++◌, length, Option, Some, None, is_none, refl, sym, ap, subst, ◌∙◌, true≢false}
+use Rattle.std.proofs.Common.{◌≡◌, ℕ, Bool, true, false, ◌||◌, ◌&&◌, ◌==◌, if◌then◌else◌, List, [], ◌∷◌, ◌++◌, length, Option, Some, None, is_none, refl, sym, ap, subst, ◌∙◌, true≢false}
 use Rattle.std.specs.List.{AllByRecursion, list_any}
 use Rattle.std.proofs.lemmas.Bool.{eq-eqb, or_parts, or_left}
 use Rattle.std.proofs.lemmas.List.{append_assoc}
-use Rattle.ada_tree.specs.declared.naming.NameId.{NameId}
 use Rattle.ada_tree.specs.declared.naming.Span.{Span}
 use Rattle.ada_tree.specs.declared.naming.Word.{Word}
 use Rattle.ada_tree.specs.declared.static_types.Kind.{Kind}
@@ -16,10 +15,10 @@ use Rattle.ada_tree.specs.PlainProgram.{PProgram}
 use Rattle.ada_tree.specs.Refusals.{MeetsTypeRules, types_in, refused_at, refused_from}
 use Rattle.ada_tree.specs.StaticValue.{value_named}
 use Rattle.ada_tree.specs.Scope.{Scope, Range, Thing, TypeMark, TaskType, SingleTask, TaskObject, TaskRow, Variable, ConstantObject, Parameter, LoopParameter, Literal, AnException, MainProcedure, AnotherUnit, Unclear, Marking, ScalarMark, ArrayMark, TaskMark, NoMark, UnknownMark, UnclearMark, marking_of_kind, marking_of_mark, marking_of, marking, mark_at, kind_at, meaning, range_of_mark}
-use Rattle.ada_tree.specs.Demand.{Demand, declares, initializes, for_array, Site}
-use Rattle.ada_tree.specs.Sites.{site, if_there, names_sites, shape_sites, array_init_sites, init_sites, object_marking, is_task_object, object_sites, decl_sites, decls_sites, body_sites, sites}
-use Rattle.ada_tree.specs.RuleDuplicate.{is_predefined, is_among, fixes, introduces, duplicate}
-use Rattle.ada_tree.specs.Declaring.{before_all, first_scope, inside, with_types, with_names, add_mark, add_kind, Made, made, subind_made, made_subind, drange_range, made_array, object_of, task_object, task_row, Declared, plain_object, row_object, declared_object, of_made, add_constants, constant_mark, constant_value, kind_at_mark, initial_value, with_constants, after_decl, after_decls}
+use Rattle.ada_tree.specs.Demand.{declares, initializes, for_array, Site}
+use Rattle.ada_tree.specs.Sites.{site, if_there, names_sites, shape_sites, array_init_sites, init_sites, object_marking, is_task_object, decl_sites, decls_sites, body_sites}
+use Rattle.ada_tree.specs.RuleDuplicate.{is_predefined, is_among, fixes, introduces}
+use Rattle.ada_tree.specs.Declaring.{before_all, first_scope, inside, with_types, subind_made, made_subind, drange_range, made_array, object_of, Declared, plain_object, row_object, declared_object, of_made, add_constants, constant_mark, constant_value, kind_at_mark, initial_value, with_constants, after_decl, after_decls}
 use Rattle.ada_value.specs.declared.values.Form.{Form}
 use Rattle.task_model.specs.Starting.{form_of}
 use Rattle.rewritten_types.proofs.Lookups.{place-last, all-weaker}

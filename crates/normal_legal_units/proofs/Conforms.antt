@@ -191,9 +191,9 @@ module _ (p : PProgram) where
     old = λ id h. refl;
     free = λ s w h. refl;
     mark = λ s c w k h. refl;
-    callee = λ s c n x k h m. tt;
-    call = λ s c n x k o h m. tt;
-    head = λ s c n h k l m. f s c n h k l m;
+    callee = λ s c n x k e h m. tt;
+    call = λ s c n x k e o h m. tt;
+    head = λ s c n h k e l m. f s c n h k l m;
     in_accept = λ s c n h k l m. record { own = formals-own h.formals (inside s) ∙ k.own; unit_is = meant-own meant.Inner (check.formal_names h.formals) _ ∙ k.unit_is };
     handling = λ s c k. record { own = k.own; unit_is = k.unit_is };
     looping = λ s c w x k h. record { own = loop-own x s ∙ k.own; unit_is = loop-check-own w x c ∙ k.unit_is };

@@ -1,14 +1,13 @@
 -- What the law of normal forms asks of a program, of each legal program: the fields of IsNormalisable that speak of its names, tasks and accepts.
-use Rattle.std.proofs.Common.{ℕ, zero, suc, Bool, true, if◌then◌else◌, ℤ, List, [], ◌∷◌, is_some, Option, Some, None, sym, ap, subst, arith}
+use Rattle.std.proofs.Common.{ℕ, zero, suc, Bool, true, if◌then◌else◌, ℤ, List, [], ◌∷◌, is_some, Option, Some, None, refl, sym, ap, subst, arith}
 use Rattle.std.specs.List.{AllByRecursion}
 use Rattle.std.proofs.lemmas.Bool.{ne_eqb}
-use Rattle.ada_tree.specs.NameList.{AreNames}
 use Rattle.ada_tree.specs.TypeTable.{TypeTable}
 use Rattle.ada_tree.specs.PlainProgram.{PProgram}
 use Rattle.ada_tree.specs.WellPlaced.{IsWellPlaced}
 use Rattle.ada_tree.specs.Declaring.{first_scope, inside, after_decls}
 use Rattle.ada_tree.specs.Demand.{Site}
-use Rattle.ada_tree.specs.Sites.{decls_sites, body_sites, sites}
+use Rattle.ada_tree.specs.Sites.{decls_sites, body_sites}
 use Rattle.ada_tree.specs.Refusals.{types_in}
 use Rattle.syn_event.specs.declared.numbering.Mode.TheVariants.{Original}
 use Rattle.syn_event.specs.declared.numbering.TaskInfo.{TaskInfo}
@@ -28,15 +27,22 @@ use Rattle.normal_types.specs.Laws.{AreOwn}
 use Rattle.normal_types.proofs.Normal.{normal_values}
 use Rattle.normal_runs_law.specs.Premises.{programs_of, objects_before}
 use Rattle.normal_form_law.specs.Normalisable.{numbers_of, setting_for, made_for, normal_rewrite, IsPlain}
-use Rattle.legal_sites.specs.Met.{IsAddressed}
 use Rattle.legal_sites.proofs.Meeting.{all-front}
-use Rattle.normal_legal_units.specs.Laws.{LegalIsOrdered, LegalHasTokens, LegalNamesTell, LegalConforms, LegalTypesAreFull, IsFreeLocal, LocalsAreFree}
+use Rattle.legal_types.specs.Typed.{IsSmall}
+use Rattle.legal_types.proofs.MainScopes.{main-stands}
+use Rattle.legal_types.proofs.TaskTypes.{tasks-have-types}
+use Rattle.normal_legal_units.specs.Laws.{LegalIsOrdered, LegalHasTokens, LegalNamesTell, LegalConforms, LegalTypesAreFull, IsFreeLocal, LocalsAreFree, LegalIsOwn, LegalIsPlain, LegalIsWell, LightHasFew, FewNamesSmall}
+use Rattle.normal_legal_units.proofs.Apart.{all-addressed}
 use Rattle.normal_legal_units.proofs.Own.{program-own}
 use Rattle.normal_legal_units.proofs.TasksApart.{units-told}
 use Rattle.normal_legal_units.proofs.Conforms.{conforms}
 use Rattle.normal_legal_units.proofs.Lacking.{locals-free}
+use Rattle.normal_legal_units.proofs.Few.{light-has-few}
+use Rattle.normal_legal_units.proofs.Small.{few-names-small}
 use Rattle.normal_legal_units.proofs.Full.{types-full}
 use Rattle.normal_legal_units.proofs.Lowers.{AreWorth, lowers}
+use Rattle.normal_legal_units.proofs.ArrayConstants.{arrays-free}
+use Rattle.normal_legal_units.proofs.TypedNames.{stand-still, formals-worth}
 use Rattle.normal_legal_units.proofs.Plain.{IsPlainObject, ArraysFree, units-plain, main-plain}
 
 pub legal_is_ordered : LegalIsOrdered
@@ -59,9 +65,8 @@ locals_are_free p types numbers legal = locals-free p legal.type_rules
 
 -- ---- with what is taken of types
 
--- the names in declarations are the program's own, where no callee has a declaration that is refused
-pub own-field : (p : PProgram) (types : TypeTable) (numbers : Numbering) → Legal p types numbers Original → IsWellPlaced p → AreNames p.names → AllByRecursion (λ x. IsAddressed x.scope x.demand) (sites p) → AreOwn p p.decls
-own-field p types numbers legal placed names clear = (program-own p legal.type_rules legal.check_rules placed names clear).2
+pub legal_is_own : LegalIsOwn
+legal_is_own p types numbers legal placed names small = (program-own p legal.type_rules legal.check_rules placed names (all-addressed p legal.type_rules placed small)).2
 
 -- the program is well made, where the lower bounds of formals' subtypes are values
 pub well-field : (p : PProgram) (types : TypeTable) (numbers : Numbering) → Legal p types numbers Original → IsWellPlaced p → AreWorth p → IsWellMade (setting_for p)
@@ -105,3 +110,20 @@ module _ (p : PProgram) (types : TypeTable) (numbers : Numbering) (legal : Legal
       is-plain inputs _
       (subst (λ (b : Bool). AllByRecursion Plain (objects_of T (if b then record { in_main = true; decls = p.decls; body = p.body } else unit_of_info p (task_at (numbers_of p) (suc t))).in_main (if b then record { in_main = true; decls = p.decls; body = p.body } else unit_of_info p (task_at (numbers_of p) (suc t))).decls []))
       (sym (ne_eqb (suc t) 0 (λ e. omega (arith, e)))) (info-plain (task_at (numbers_of p) (suc t))))
+
+  -- objects are plain, where enumerations are small
+  pub plain-small : IsSmall (types_in p) → (inputs : List (List ℤ)) (t : ℕ) → AllByRecursion (IsPlain (programs_of (normal_rewrite p inputs))) (objects_before (normal_rewrite p inputs) t)
+  plain-small small inputs t =
+      plain-field (arrays-free (own_name p) T U p.names (made_for p).names agree p refl legal.type_rules (stand-still T p.decls (first_scope p.name) (main-stands p legal.type_rules placed small))) inputs t
+
+pub legal_is_plain : LegalIsPlain
+legal_is_plain p types numbers legal placed names small inputs t = plain-small p types numbers legal placed (legal_is_own p types numbers legal placed names small) small inputs t
+
+pub light_has_few : LightHasFew
+light_has_few p h t = light-has-few p h t
+
+pub legal_is_well : LegalIsWell
+legal_is_well p types numbers legal placed small = well-field p types numbers legal placed (formals-worth p (tasks-have-types p legal.type_rules placed small))
+
+pub few_names_small : FewNamesSmall
+few_names_small p types numbers legal placed few = few-names-small p legal.type_rules placed few

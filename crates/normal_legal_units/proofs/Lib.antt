@@ -12,5 +12,9 @@ pub mod Lowers
 pub mod KnownValues
 pub mod Plain
 pub mod ArrayConstants
+pub mod TypedNames
+pub mod Few
+pub mod Small
 pub mod Fields
 pub mod TasksApart
+pub mod Apart

@@ -1,5 +1,5 @@
 -- The laws: what the law of normal forms asks of the names, tasks and accepts of a program, of each legal program.
-use Rattle.std.specs.Prelude.{◌≡◌, ℕ, int_le, true, false, None}
+use Rattle.std.specs.Prelude.{◌≡◌, ℕ, ℤ, ◌<◌, ◌≤◌, ◌^◌, int_le, true, false, List, length, None}
 use Rattle.std.specs.List.{AllByRecursion}
 use Rattle.ada_tree.specs.NameList.{AreNames}
 use Rattle.ada_tree.specs.TypeTable.{TypeTable}
@@ -14,9 +14,12 @@ use Rattle.syn_event.specs.Numbering.{Numbering}
 use Rattle.syn_event.specs.Legal.{Legal}
 use Rattle.task_model.specs.Starting.{unit_of}
 use Rattle.task_invariants.specs.AcceptHeads.{InBody}
-use Rattle.task_invariants.specs.Worlds.{Conforms}
-use Rattle.normal_types.specs.Laws.{IsOrdered}
-use Rattle.normal_form_law.specs.Normalisable.{numbers_of, setting_for, NamesTell}
+use Rattle.task_invariants.specs.Worlds.{Conforms, IsWellMade}
+use Rattle.normal_types.specs.Laws.{IsOrdered, AreOwn}
+use Rattle.normal_runs_law.specs.Premises.{programs_of, objects_before}
+use Rattle.legal_types.specs.Typed.{IsSmall}
+use Rattle.normal_legal_units.specs.Weights.{IsLight}
+use Rattle.normal_form_law.specs.Normalisable.{numbers_of, setting_for, variables_of, normal_rewrite, NamesTell, IsPlain}
 
 -- A legal program that is well placed, as each one that is read, meets the rules on types with bodies last.
 abbrev pub LegalIsOrdered : Type 0
@@ -46,3 +49,25 @@ IsFreeLocal T _ = Unit {0}
 -- What is declared as a variable of main, or in an inner scope, has the name of no constant and of no literal.
 abbrev pub LocalsAreFree : Type 0
 LocalsAreFree = (p : PProgram) (types : TypeTable) (numbers : Numbering) → Legal p types numbers Original → AllByRecursion (λ x. IsFreeLocal (types_in p) x.demand) (sites p)
+
+-- The names in its declarations are its own, where its enumerations are small.
+abbrev pub LegalIsOwn : Type 0
+LegalIsOwn = (p : PProgram) (types : TypeTable) (numbers : Numbering) → Legal p types numbers Original → IsWellPlaced p → AreNames p.names → IsSmall (types_in p) → AreOwn p p.decls
+
+-- Its objects are plain, where its enumerations are small.
+abbrev pub LegalIsPlain : Type 0
+LegalIsPlain =
+    (p : PProgram) (types : TypeTable) (numbers : Numbering) → Legal p types numbers Original → IsWellPlaced p → AreNames p.names → IsSmall (types_in p) → (inputs : List (List ℤ)) (t : ℕ) →
+    AllByRecursion (IsPlain (programs_of (normal_rewrite p inputs))) (objects_before (normal_rewrite p inputs) t)
+
+-- A unit of a program with light bodies gets few variables.
+abbrev pub LightHasFew : Type 0
+LightHasFew = (p : PProgram) → IsLight p → (t : ℕ) → length (variables_of p t) < 2 ^ 64
+
+-- It is well made, where its enumerations are small: accepts conform to their entries, and no formal has an empty subtype.
+abbrev pub LegalIsWell : Type 0
+LegalIsWell = (p : PProgram) (types : TypeTable) (numbers : Numbering) → Legal p types numbers Original → IsWellPlaced p → IsSmall (types_in p) → IsWellMade (setting_for p)
+
+-- Its enumerations are small, where it has at most 2^31 names.
+abbrev pub FewNamesSmall : Type 0
+FewNamesSmall = (p : PProgram) (types : TypeTable) (numbers : Numbering) → Legal p types numbers Original → IsWellPlaced p → length p.names ≤ 2 ^ 31 → IsSmall (types_in p)

@@ -101,10 +101,10 @@ module _ (a : Asked) (r : Rules) (k : Known) (g : Gives a r k) where
       AllAt (flat_map (callee_sites s) xs) → AllChecked (check.aborted_sites c n xs) → OldCallees a xs
   callees-old s c n [] known e h m = old_no_callee
   callees-old s c n (x ∷ []) known e h m =
-      old_callee x [] (option-old a.programs r g.old x.index n e.0.1) (g.callee s c n x known (front (callee_sites s x) [] h) m) old_no_callee
+      old_callee x [] (option-old a.programs r g.old x.index n e.0.1) (g.callee s c n x known e.0 (front (callee_sites s x) [] h) m) old_no_callee
   callees-old s c n (x ∷ y ∷ rest) known e h m =
       old_callee x (y ∷ rest) (option-old a.programs r g.old x.index n e.0.1)
-      (g.callee s c n x known (front (callee_sites s x) (flat_map (callee_sites s) (y ∷ rest)) h) (check-front (check.callee_sites c n x) (check.aborted_sites c n (y ∷ rest)) m.1))
+      (g.callee s c n x known e.0 (front (callee_sites s x) (flat_map (callee_sites s) (y ∷ rest)) h) (check-front (check.callee_sites c n x) (check.aborted_sites c n (y ∷ rest)) m.1))
       (callees-old s c n (y ∷ rest) known e.1 (back (callee_sites s x) (flat_map (callee_sites s) (y ∷ rest)) h) (check-back (check.callee_sites c n x) (check.aborted_sites c n (y ∷ rest)) m.1))
 
   range-old : (s : Scope) (c : CheckScope) (n : ℕ) (x : PDrange) → k.scopes s c → EveryDrange r n x → AllAt (drange_sites false s x) → OldRange a.programs x
@@ -127,11 +127,11 @@ module _ (a : Asked) (r : Rules) (k : Known) (g : Gives a r k) where
     stmt (SExit w x p) s c n known e h m = old_exit w x p (option-old a.programs r g.old x (n + 1) e.2)
     stmt (SRaise w p) s c n known e h m = old_raise w p
     stmt (SAbort cs p) s c n known e h m = old_abort cs p (callees-old s c (n + 1) cs known (recursion_from_All (EveryCallee r (n + 1)) cs e.2) h m.1)
-    stmt (SCall x p) s c n known e h m = old_call x p (call-old a.programs r g.old x (n + 1) e.1) (g.call s c (n + 1) x known (call-old a.programs r g.old x (n + 1) e.1) h m.1)
+    stmt (SCall x p) s c n known e h m = old_call x p (call-old a.programs r g.old x (n + 1) e.1) (g.call s c (n + 1) x known e.1 (call-old a.programs r g.old x (n + 1) e.1) h m.1)
     stmt (SAccept (accepting d o) p) s c n known e h m =
         let at = front (head_sites s d) (maybe_sites (with_formals (inside s) d.formals) o) h in
         let checked = check-front (check.head_sites c n d) (check.maybe_sites (check.in_accept c d) (n + 1) o) m in
-        old_accept d o p (head-old s c n d e.1 at) (g.head s c n d known at checked)
+        old_accept d o p (head-old s c n d e.1 at) (g.head s c n d known e.1 at checked)
         (maybe o (with_formals (inside s) d.formals) (check.in_accept c d) (n + 1) (g.in_accept s c n d known at checked) e.2
         (back (head_sites s d) (maybe_sites (with_formals (inside s) d.formals) o) h) (check-back (check.head_sites c n d) (check.maybe_sites (check.in_accept c d) (n + 1) o) m))
     stmt (SWait x o p) s c n known e h m =
@@ -149,7 +149,7 @@ module _ (a : Asked) (r : Rules) (k : Known) (g : Gives a r k) where
         let vs : List CheckSite = check.stmts_sites c (n + 1) l in
         let ws : List CheckSite = check.stmts_sites c (n + 1) o in
         old_conditional x l o p (call-old a.programs r g.old x (n + 2) e.2)
-        (g.call s c (n + 2) x known (call-old a.programs r g.old x (n + 2) e.2) (first-of xs ys zs h) (check-first us vs ws m.1.1))
+        (g.call s c (n + 2) x known e.2 (call-old a.programs r g.old x (n + 2) e.2) (first-of xs ys zs h) (check-first us vs ws m.1.1))
         (stmts l s c (n + 1) known e.3 (second-of xs ys zs h) (check-second us vs ws m.1.1))
         (some o s c (n + 1) known e.4 (third-of xs ys zs h) (check-third us vs ws m.1.1))
     stmt (STimed x l d o p) s c n known e h m =
@@ -160,7 +160,7 @@ module _ (a : Asked) (r : Rules) (k : Known) (g : Gives a r k) where
         let vs : List CheckSite = check.stmts_sites c (n + 1) l in
         let ws : List CheckSite = check.stmts_sites c (n + 1) o in
         old_timed x l d o p (call-old a.programs r g.old x (n + 2) e.2)
-        (g.call s c (n + 2) x known (call-old a.programs r g.old x (n + 2) e.2) (first-of xs ys zs h) (check-first us vs ws m.1.1))
+        (g.call s c (n + 2) x known e.2 (call-old a.programs r g.old x (n + 2) e.2) (first-of xs ys zs h) (check-first us vs ws m.1.1))
         (stmts l s c (n + 1) known e.3 (second-of xs ys zs h) (check-second us vs ws m.1.1))
         (stmts o s c (n + 1) known e.5 (third-of xs ys zs h) (check-third us vs ws m.1.1))
     stmt (SPut ps p) s c n known e h m = old_put ps p (parts-old a.programs r g.old ps (n + 1) (recursion_from_All _ ps e.1.1))
@@ -235,7 +235,7 @@ module _ (a : Asked) (r : Rules) (k : Known) (g : Gives a r k) where
         let deeper : List CheckSite = check.maybe_sites (check.in_accept c d) (n + 1) o in
         let two = check-front (check.accept_sites c n (accepting d o)) (check.stmts_sites c n l) m in
         let checked = check-front (check.head_sites c n d) deeper two in
-        old_accepts d o l (head-old s c n d e.0.1 at) (g.head s c n d known at checked)
+        old_accepts d o l (head-old s c n d e.0.1 at) (g.head s c n d known e.0.1 at checked)
         (maybe o (with_formals (inside s) d.formals) (check.in_accept c d) (n + 1) (g.in_accept s c n d known at checked) e.0.2 (back (head_sites s d) inner both) (check-back (check.head_sites c n d) deeper two))
         (stmts l s c n known e.1 (back (accept_sites s (accepting d o)) (stmts_sites s l) h) (check-back (check.accept_sites c n (accepting d o)) (check.stmts_sites c n l) m))
     alt (ADelay d l) s c n guard p known e h m = old_delays d l (stmts l s c n known e.2 h (check-back (check.delay_sites c n guard p) (check.stmts_sites c n l) m))

@@ -4,7 +4,7 @@ use Rattle.std.specs.List.{AllByRecursion}
 use Rattle.ada_tree.specs.declared.naming.NameId.{NameId}
 use Rattle.ada_tree.specs.declared.naming.Word.{Word}
 use Rattle.ada_tree.specs.PlainStmt.{PCallee, PCall, PScheme, PHead}
-use Rattle.ada_tree.specs.Every.{Rules}
+use Rattle.ada_tree.specs.Every.{Rules, EveryCallee, EveryCall, EveryHead}
 use Rattle.ada_tree.specs.Scope.{Scope}
 use Rattle.ada_tree.specs.Demand.{scalar_only, declares, stands_as_mark, Site}
 use Rattle.ada_tree.specs.Sites.{site, if_there, callee_sites, call_sites, head_sites, scheme_sites, loop_scope}
@@ -27,11 +27,11 @@ pub record Gives (a : Asked) (r : Rules) (k : Known) : Type 0 where
   pub free : (s : Scope) (w : Word) → k.place (site s (declares false w)) → IsFree a.programs w.name
   pub mark : (s : Scope) (c : CheckScope) (w : Word) → k.scopes s c → k.place (site s (stands_as_mark scalar_only w)) →
       a.programs.is_known (limits_named (types_before a.programs) w.name).kind ≡ true
-  pub callee : (s : Scope) (c : CheckScope) (n : ℕ) (x : PCallee) → k.scopes s c →
+  pub callee : (s : Scope) (c : CheckScope) (n : ℕ) (x : PCallee) → k.scopes s c → EveryCallee r n x →
       AllByRecursion k.place (callee_sites s x) → AllByRecursion k.check_place (check.callee_sites c n x) → a.callee x
-  pub call : (s : Scope) (c : CheckScope) (n : ℕ) (x : PCall) → k.scopes s c → OldCall a.programs x →
+  pub call : (s : Scope) (c : CheckScope) (n : ℕ) (x : PCall) → k.scopes s c → EveryCall r n x → OldCall a.programs x →
       AllByRecursion k.place (call_sites s x) → AllByRecursion k.check_place (check.call_sites c n x) → a.call x
-  pub head : (s : Scope) (c : CheckScope) (n : ℕ) (h : PHead) → k.scopes s c →
+  pub head : (s : Scope) (c : CheckScope) (n : ℕ) (h : PHead) → k.scopes s c → EveryHead r n h →
       AllByRecursion k.place (head_sites s h) → AllByRecursion k.check_place (check.head_sites c n h) → a.head h
   pub in_accept : (s : Scope) (c : CheckScope) (n : ℕ) (h : PHead) → k.scopes s c →
       AllByRecursion k.place (head_sites s h) → AllByRecursion k.check_place (check.head_sites c n h) → k.scopes (with_formals (inside s) h.formals) (check.in_accept c h)

@@ -12,7 +12,7 @@ use Rattle.ada_tree.specs.PlainProgram.{PProgram}
 use Rattle.syn_event.specs.declared.numbering.TaskInfo.{TaskInfo}
 use Rattle.syn_event.specs.Numbering.{Numbering, task_at}
 use Rattle.syn_event.specs.Numbered.{task_info}
-use Rattle.syn_event.specs.Units.{text_of, decl_list}
+use Rattle.syn_event.specs.Units.{decl_list}
 use Rattle.control_script.specs.declared.Op.{Op}
 use Rattle.task_model.specs.Setting.{Setting}
 use Rattle.task_model.specs.Starting.{Unit, unit_among, unit_of_info, unit_of}
@@ -24,9 +24,8 @@ use Rattle.replay_model.specs.ReplayTree.{behind_own, permit_declared, replay_de
 use Rattle.replay_model.specs.ReplayNumbers.{numbers_replayed}
 use Rattle.rewritten_types.proofs.Lookups.{place-more, all-append, all-weaker}
 use Rattle.normal_units.proofs.Bodies.{IsNoBody, skip-list}
-use Rattle.replay_texts.proofs.Named.{text-there}
 use Rattle.replay_texts.proofs.Listed.{IsPlain, all-behind, sorted-plain}
-use Rattle.replay_texts.proofs.Rooted.{replay-has}
+use Rattle.replay_texts.proofs.Rooted.{ids-apart}
 use Rattle.replay_bodies.specs.Laws.{TasksKeepNumbers, has_body, replayed_unit, UnitsAreReplayed, AddedTasksRun}
 
 -- ---- tasks
@@ -187,22 +186,6 @@ units_are_replayed p types numbers ops t info at there =
           ∙ ap (replayed_unit g f.0 info.unit) (sym (unit-at n g.numbers t info at)),
     )
 
--- the controller's name is not that of the idle task
-other-names : (q : PProgram) → ((added_id q control_text).0 == (added_id q idle_text).0) ≡ false
-other-names q = by_test ((added_id q control_text).0 == (added_id q idle_text).0) refl
-  where
-    apart : control_text ≡ idle_text → ⊥
-    apart e = cc
-
-    by_test : (b : Bool) → ((added_id q control_text).0 == (added_id q idle_text).0) ≡ b → b ≡ false
-    by_test false e = refl
-    by_test true e =
-        let n : (added_id q control_text).0 ≡ (added_id q idle_text).0 = eqb-true _ _ e in
-        absurd (apart
-        (sym (text-there (replay_names q) control_text (replay-has q control_text refl))
-        ∙ (λ i. text_of (replay_names q) record { 0 = n i })
-        ∙ text-there (replay_names q) idle_text (replay-has q idle_text refl)))
-
 pub added_tasks_run : AddedTasksRun
 added_tasks_run p types numbers ops no_control no_idle = record {
   control =
@@ -214,7 +197,7 @@ added_tasks_run p types numbers ops no_control no_idle = record {
       unit-at (replay_of g ops) (numbers_replayed g) (suc (last_task g.numbers)) _ (tasks_keep_numbers p types numbers).idle
       ∙ bodies-alone g idle s ops
       ∙ missing g idle (decl_list n.decls) last no_idle
-      ∙ other g idle (added_word n s control_text) _ _ s (idle_body n s ∷ []) (other-names n)
+      ∙ other g idle (added_word n s control_text) _ _ s (idle_body n s ∷ []) (ids-apart n control_text idle_text refl refl (λ e. cc))
       ∙ same g idle (added_word n s idle_text) _ _ s [] (eq-eqb idle.0 idle.0 refl);
 }
   where

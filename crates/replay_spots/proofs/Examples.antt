@@ -1,6 +1,7 @@
 -- The numbers of the entries of a replay text, by computation: two tasks of a type with one entry, in an array.
 use Rattle.std.specs.Prelude.{◌≡◌, [], ◌∷◌, refl}
 use Rattle.std.specs.Fmt.{digits}
+use Rattle.std.proofs.Common.{arith}
 use Rattle.ada_tree.specs.Refusals.{types_in}
 use Rattle.syn_event.specs.Numbering.{owner_of}
 use Rattle.syn_event.specs.AllNumbers.{all_numbers}
@@ -10,6 +11,7 @@ use Rattle.replay_model.specs.ReplayNumbers.{numbers_replayed}
 use Rattle.replay_law.specs.Copies.{Spots, HasOwners, IsNumbered}
 use Rattle.replay_law.proofs.Twins.{numbering, numbering_numbers}
 use Rattle.normal_types.proofs.Examples.{original, ordered}
+use Rattle.replay_spots.specs.Laws.{AreOriginal}
 use Rattle.replay_spots.specs.Places.{counts, text_spots}
 use Rattle.replay_spots.proofs.Sorted.{spots_are_numbered}
 use Rattle.replay_spots.proofs.Placed.{spots_have_owners}
@@ -36,3 +38,8 @@ numbered = spots_are_numbered numbering numbering_numbers (counts form.numbers (
 owners : HasOwners (owner_of form.numbers) 3 spots (owner_of (numbers_replayed form))
 unfolding digits
 owners = spots_have_owners numbering form (normal_is_in_order original ordered)
+
+-- its entries are such that their doubles stand for them
+are : AreOriginal form
+unfolding digits
+are = record { original = (refl, (refl, tt)); within = (omega arith, (omega arith, tt)); doubles = (refl, (refl, tt)) }

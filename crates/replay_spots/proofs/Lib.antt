@@ -1,4 +1,7 @@
 pub mod Sorted
 pub mod Placed
 pub mod Ordered
+pub mod Looked
+pub mod Counted
+pub mod Standing
 pub mod Examples

@@ -40,7 +40,7 @@ back-again : (k i : ℕ) → k ≤ i → i ≡ k + (i - k)
 back-again k i h = omega (arith, h)
 
 -- an entry by its place
-entry-suc : (numbers : Numbering) (m : ℕ) → entry_at numbers (suc m) ≡ slice_get numbers.entries m
+pub entry-suc : (numbers : Numbering) (m : ℕ) → entry_at numbers (suc m) ≡ slice_get numbers.entries m
 entry-suc numbers m = passed (suc m == 0) _ _ (no-same (suc m) 0 (omega arith)) ∙ ap (slice_get numbers.entries) (let s : suc m - 1 ≡ m = omega arith in s)
 
 module _ (g : Setting) where
@@ -139,16 +139,16 @@ module _ (g : Setting) where
 
   -- ---- numbers of the replay text
 
-  abbrev last : ℕ
+  abbrev pub last : ℕ
   last = last_task g.numbers
 
-  abbrev ks : List ℕ
+  abbrev pub ks : List ℕ
   ks = counts g.numbers last 1
 
-  abbrev infos : List EntryInfo
+  abbrev pub infos : List EntryInfo
   infos = all_infos g last 1 ++ added_infos g.program last
 
-  abbrev Q : Numbering
+  abbrev pub Q : Numbering
   Q = numbers_replayed g
 
   length-is : length infos ≡ bound ks
@@ -217,6 +217,14 @@ module _ (g : Setting) where
         shadow : (e : ℕ) (x : EntryInfo) → entry_at g.numbers e ≡ Some x → IsThere Q ((text_spots far g).shadow e) (double_info g.program x)
         shadow zero x at = absurd (none-some x at)
         shadow (suc i) x at = there-own (double_place ks i) ((text_spots far g).shadow (suc i)) (double_info g.program x) (near (total ks) i (double_place ks) far.shadow (entry-within i x at)) (double-there last 1 i x (entry-place i x at))
+
+    -- the double of an entry, with what it stands for
+    pub double-at : (far : Spots) (i : ℕ) (x : EntryInfo) → entry_at g.numbers (suc i) ≡ Some x →
+        entry_at Q ((text_spots far g).shadow (suc i)) ≡ Some (with_origin (replay_names g.program) infos (double_info g.program x))
+    double-at far i x at =
+        ap (entry_at Q) (near (total ks) i (double_place ks) far.shadow (entry-within i x at))
+        ∙ entry-by (double_place ks i)
+        ∙ ap (option_map (with_origin (replay_names g.program) infos)) (place-more (all_infos g last 1) (added_infos g.program last) (double_place ks i) (double_info g.program x) (double-there last 1 i x (entry-place i x at)))
 
 pub spots_are_there : SpotsAreThere
 spots_are_there far g order = are_there g order far

@@ -1,6 +1,7 @@
 -- The tables of a program and of its replay text.
-use Rattle.std.proofs.Common.{◌≡◌, ℕ, true, false, List, [], ◌∷◌, ◌++◌, map, flat_map, refl, sym, ap, ◌∙◌, subst, append_assoc, arith}
+use Rattle.std.proofs.Common.{◌≡◌, ℕ, ◌==◌, Bool, true, false, List, [], ◌∷◌, ◌++◌, map, flat_map, refl, sym, ap, ◌∙◌, subst, append_assoc, arith}
 use Rattle.std.specs.List.{AllByRecursion}
+use Rattle.std.proofs.lemmas.Bool.{eqb-true}
 use Rattle.ada_tree.specs.declared.naming.Span.{Span}
 use Rattle.ada_tree.specs.TypeTable.{TypeTable}
 use Rattle.ada_tree.specs.PlainDecl.{PDecl, DNumber, DObject, DEnumeration, DArray, DSubtype, DException, DIntIo, DPragma, DTask, DTaskBody, PDecls, no_decl, decl_then, decls_of}
@@ -10,12 +11,12 @@ use Rattle.ada_tree.specs.Scope.{Scope}
 use Rattle.ada_tree.specs.Declaring.{first_scope, after_decls}
 use Rattle.ada_tree.specs.Refusals.{types_in}
 use Rattle.syn_event.specs.Numbering.{Numbering}
-use Rattle.syn_event.specs.Units.{decl_list, tasks_of}
+use Rattle.syn_event.specs.Units.{text_of, decl_list, tasks_of}
 use Rattle.control_script.specs.declared.Op.{Op}
 use Rattle.task_model.specs.Setting.{Setting}
 use Rattle.normal_model.specs.NormalTree.{first_decls, main_unit, variables_needed, normal_tree}
 use Rattle.normal_model.proofs.VariablesLemmas.{Begins, begins-trans}
-use Rattle.replay_model.specs.Names.{kind_text, argument_text, index_text, added_texts, double_texts, replay_names}
+use Rattle.replay_model.specs.Names.{kind_text, argument_text, index_text, added_texts, double_texts, replay_names, added_id}
 use Rattle.replay_model.specs.ReplayTree.{is_added_object, behind_own, permit_declared, replay_decl, last_task, replay_decls, normal_setting, script_of}
 use Rattle.replay_model.specs.Controlling.{control_declared, idle_declared, control_body, idle_body}
 use Rattle.rewritten_types.specs.Agreement.{Rooted}
@@ -31,7 +32,7 @@ use Rattle.normal_types.proofs.Variables.{IsTaskOrBody, are-added, task-added, t
 use Rattle.normal_types.proofs.Fronts.{first_decls_are_front}
 use Rattle.normal_types.proofs.Normal.{front-after, first-every}
 use Rattle.replay_texts.specs.Laws.{ReplayIsRooted, ReplayAgrees}
-use Rattle.replay_texts.proofs.Named.{Has, has-folded, has-front, added-longer, reserved-new, own-within, own-not-added}
+use Rattle.replay_texts.proofs.Named.{text-there, Has, has-folded, has-front, added-longer, reserved-new, own-within, own-not-added}
 use Rattle.replay_texts.proofs.Listed.{all-behind, behind-front, front-of, firsts, vars, tasks, bodies, normal-plain, normal-tasks, normal-bodies}
 
 -- ---- names
@@ -43,6 +44,16 @@ replay-begins q = fold-begins (added_texts ++ flat_map (double_texts q.names) (t
 -- the names that every text adds are there
 pub replay-has : (q : PProgram) (t : List ℕ) → Has added_texts t → Has (replay_names q) t
 replay-has q t h = has-folded (added_texts ++ flat_map (double_texts q.names) (tasks_of q)) q.names t (has-front added_texts (flat_map (double_texts q.names) (tasks_of q)) t h)
+
+-- two of them have two ids
+pub ids-apart : (q : PProgram) (a b : List ℕ) → Has added_texts a → Has added_texts b → (a ≡ b → ⊥) → ((added_id q a).0 == (added_id q b).0) ≡ false
+ids-apart q a b has_a has_b apart = by_test ((added_id q a).0 == (added_id q b).0) refl
+  where
+    by_test : (c : Bool) → ((added_id q a).0 == (added_id q b).0) ≡ c → c ≡ false
+    by_test false e = refl
+    by_test true e =
+        let n : (added_id q a).0 ≡ (added_id q b).0 = eqb-true _ _ e in
+        absurd (apart (sym (text-there (replay_names q) a (replay-has q a has_a)) ∙ (λ i. text_of (replay_names q) record { 0 = n i }) ∙ text-there (replay_names q) b (replay-has q b has_b)))
 
 module _ (p : PProgram) (types : TypeTable) (numbers : Numbering) where
   -- the names of the program stand in front of both

@@ -11,11 +11,11 @@ use Rattle.syn_event.specs.Numbered.{speaks_of, original_number, with_origin, wi
 abbrev pub strip : EntryInfo → EntryInfo
 strip x = record { name = x.name; owner = x.owner; family = x.family; first = x.first; last = x.last; added = x.added; stands_for = None }
 
-prefix-mapped : {A B : Type 0} (f : B → Bool) (h : A → B) (xs : List A) → prefix_len f (map h xs) ≡ prefix_len (λ x. f (h x)) xs
+pub prefix-mapped : {A B : Type 0} (f : B → Bool) (h : A → B) (xs : List A) → prefix_len f (map h xs) ≡ prefix_len (λ x. f (h x)) xs
 prefix-mapped f h [] = refl
 prefix-mapped f h (x ∷ xs) = ap (λ n. cond (f (h x)) (1 + n) 0) (prefix-mapped f h xs)
 
-place-mapped : {A B : Type 0} (f : B → Bool) (h : A → B) (xs : List A) → position f (map h xs) ≡ position (λ x. f (h x)) xs
+pub place-mapped : {A B : Type 0} (f : B → Bool) (h : A → B) (xs : List A) → position f (map h xs) ≡ position (λ x. f (h x)) xs
 place-mapped f h xs = ap₂ (λ n m. cond (nat_lt n m) (Some n) None) (prefix-mapped (λ x. not (f x)) h xs) (length-map xs h)
 
 count-mapped : {A B : Type 0} (f : B → Bool) (h : A → B) (xs : List A) → count_by f (map h xs) ≡ count_by (λ x. f (h x)) xs

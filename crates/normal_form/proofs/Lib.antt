@@ -1,0 +1,4 @@
+pub mod Composing
+pub mod Copying
+pub mod Greatest
+pub mod Numbering

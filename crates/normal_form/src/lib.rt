@@ -1,0 +1,11 @@
+//! The normal form of a program, and its numbers.
+#![tactic(auto)]
+
+mod bodies;
+mod errors;
+mod numbers;
+mod whole;
+
+pub use errors::XformError;
+pub use numbers::normal_numbers;
+pub use whole::normal;

@@ -1,0 +1,46 @@
+-- The law that every legal program has a normal form that shows the same (this project's rule).
+use Rattle.std.specs.Prelude.{ℤ, List}
+use Rattle.ada_tree.specs.NameList.{AreNames}
+use Rattle.ada_tree.specs.Refusals.{types_in}
+use Rattle.ada_tree.specs.PlainProgram.{PProgram}
+use Rattle.ada_tree.specs.WellPlaced.{IsWellPlaced}
+use Rattle.syn_event.specs.declared.numbering.Mode.TheVariants.{Original}
+use Rattle.syn_event.specs.Legal.{Legal}
+use Rattle.imitation_law.specs.Shown.{ShowSame}
+use Rattle.normal_units.specs.Laws.{numbers_made}
+use Rattle.normal_runs_law.specs.Laws.{opened}
+use Rattle.normal_runs_law.specs.Premises.{IsNormalForm}
+use Rattle.normal_form_law.specs.Choosing.{choosing}
+use Rattle.normal_form_law.specs.Normalisable.{numbers_of, made_for, normal_rewrite, IsNormalisable}
+use Rattle.legal_types.specs.Typed.{IsSmall}
+use Rattle.normal_legal_bodies.specs.Literals.{HasLiterals}
+use Rattle.normal_legal_units.specs.Weights.{IsLight}
+use Rattle.normal_legal.specs.Colours.{coloured}
+
+-- What is asked of a program: it is a legal original, well placed, with the names of every program, small enumerations and light bodies; and the indices of arrays of tasks over an enumeration have literals. Names and places are so in each text that is read; of the others that is not proved.
+pub record IsLegal (p : PProgram) : Type 0 where
+  pub legal : Legal p (types_in p) (numbers_of p) Original
+  pub placed : IsWellPlaced p
+  pub names : AreNames p.names
+  pub small : IsSmall (types_in p)
+  pub light : IsLight p
+  pub literals : HasLiterals p
+
+-- Such a program is as the law of normal forms asks, with all inputs.
+abbrev pub LegalIsNormalisable : Type 0
+LegalIsNormalisable = (p : PProgram) → IsLegal p → (inputs : List (List ℤ)) → IsNormalisable p inputs
+
+-- What is made from it is a normal form of it.
+abbrev pub LegalIsNormal : Type 0
+LegalIsNormal = (p : PProgram) → IsLegal p → (inputs : List (List ℤ)) → IsNormalForm (normal_rewrite p inputs)
+
+-- It shows the same as its normal form, whatever the inputs.
+abbrev pub LegalShowsSame : Type 0
+LegalShowsSame =
+    (p : PProgram) → IsLegal p → (inputs : List (List ℤ)) →
+    ShowSame (opened (record { program = p; types = types_in p; inputs = inputs }) (numbers_of p))
+    (opened (record { program = made_for p; types = types_in (made_for p); inputs = inputs }) (numbers_made p (types_in p) (numbers_of p)))
+
+-- Two programs are such ones: one in which a variable chooses a member of an array of tasks, and one with an array of tasks whose index is an enumeration.
+abbrev pub IsMet : Type 0
+IsMet = IsLegal choosing × IsLegal coloured

@@ -1,0 +1,7 @@
+pub mod Named
+pub mod Typing
+pub mod Joined
+pub mod Ranges
+pub mod Rows
+pub mod Literals
+pub mod Fields

@@ -1,0 +1,2 @@
+//! The bodies of legal programs, as the law of normal forms asks for them.
+#![tactic(auto)]

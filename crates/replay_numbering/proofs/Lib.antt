@@ -1,0 +1,3 @@
+pub mod Counted
+pub mod Spoken
+pub mod Owned

@@ -1,0 +1,9 @@
+//! The numbers of a replay text.
+#![tactic(auto)]
+
+mod entries;
+mod numbers;
+mod origins;
+mod owners;
+
+pub use numbers::numbers_by;

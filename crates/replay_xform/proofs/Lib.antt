@@ -1,0 +1,5 @@
+pub mod Spoken
+pub mod Finished
+pub mod Counted
+pub mod Marks
+pub mod Made
