@@ -23,7 +23,7 @@ use Rattle.syn_event.specs.RuleLimit.{over_limit}
 use Rattle.ada_refusals.specs.Ranking.{is_lower}
 use Rattle.ada_refusals.proofs.RankingLaws.{spread, none_left, first_is}
 use Rattle.ada_rules.specs.Sooner.{rank_of, is_before, sooner, least_of}
-use Rattle.ada_rules.specs.RefusedFirst.{Standard, refused_first_at, refused_first}
+use Rattle.ada_rules.specs.RefusedFirst.{refused_first_at, refused_first}
 use Rattle.ada_check.specs.Telling.{refusal_of}
 use Rattle.ada_check.specs.Verdicts.{TellsCheck, TellsWhy}
 use Rattle.ada_check.specs.declared.errors.CheckError.{CheckError}

@@ -1,12 +1,12 @@
 -- What is refused first in a whole program, by its parts.
-use Rattle.std.specs.Prelude.{◌≡◌, ℕ, List, [], ◌∷◌, ◌++◌, Option, refl}
-use Rattle.std.proofs.Common.{sym, ap, ◌∙◌}
+use Rattle.std.specs.Prelude.{◌≡◌, List, ◌∷◌, ◌++◌, Option}
+use Rattle.std.proofs.Common.{ap, ◌∙◌}
 use Rattle.ada_tree.specs.TypeTable.{TypeTable}
 use Rattle.ada_tree.specs.PlainProgram.{PProgram}
 use Rattle.ada_tree.specs.Refusals.{types_in}
 use Rattle.syn_event.specs.CheckRefusals.{CheckRefusal}
 use Rattle.syn_event.specs.CheckScope.{CheckScope, declares}
-use Rattle.syn_event.specs.TaskParts.{TaskPart, parts_of}
+use Rattle.syn_event.specs.NamedTasks.{NamedTasks, task_names_of}
 use Rattle.syn_event.specs.CheckSites.{site, check_sites, around_program, first_around, body_names, decls_sites, after_decls, body_sites, tasks_sites, entries_sites, all_copies_sites, counted_sites}
 use Rattle.ada_rules.specs.Sooner.{sooner}
 use Rattle.ada_rules.specs.RefusedFirst.{Standard, refused_first_at, refused_first}
@@ -14,7 +14,7 @@ use Rattle.ada_rules.proofs.Meeting.{joined, before}
 use Rattle.ada_declaration_places.proofs.Declaring.{types_after}
 
 -- what is counted over the whole
-pub counted_met : (by : Standard) (around : CheckScope) (parts : List TaskPart) (p : PProgram) (a b d ab r : Option CheckRefusal) → parts ≡ parts_of p
+pub counted_met : (by : Standard) (around : CheckScope) (parts : List NamedTasks) (p : PProgram) (a b d ab r : Option CheckRefusal) → parts ≡ task_names_of p
     → a ≡ refused_first by (tasks_sites around 0 parts) → b ≡ refused_first by (entries_sites around 0 parts) → d ≡ refused_first by (all_copies_sites around parts p)
     → ab ≡ sooner a b → r ≡ sooner ab d → r ≡ refused_first by (counted_sites around p)
 counted_met by around parts p a b d ab r same is_a is_b is_d is_ab is =
@@ -22,7 +22,7 @@ counted_met by around parts p a b d ab r same is_a is_b is_d is_ab is =
     ∙ joined by (tasks_sites around 0 parts ++ entries_sites around 0 parts) (all_copies_sites around parts p) ab d
     (is_ab ∙ joined by (tasks_sites around 0 parts) (entries_sites around 0 parts) a b is_a is_b)
     is_d
-    ∙ ap (λ (l : List TaskPart). refused_first by (tasks_sites around 0 l ++ entries_sites around 0 l ++ all_copies_sites around l p)) same
+    ∙ ap (λ (l : List NamedTasks). refused_first by (tasks_sites around 0 l ++ entries_sites around 0 l ++ all_copies_sites around l p)) same
 
 -- the whole
 pub program_met : (by : Standard) (s behind : CheckScope) (p : PProgram) (a b i k ab abi r : Option CheckRefusal) → s ≡ around_program p

@@ -6,6 +6,7 @@ use Rattle.syn_event.specs.CheckRefusals.{CheckRefusal}
 use Rattle.ada_check.specs.declared.errors.CheckError.{CheckError}
 use Rattle.ada_check.specs.declared.errors.CheckError.TheVariants.{Rule, SharedVariable, AcceptPlace, SelectForm, SameEntryTwice, ReservedName, MainEntry, AbortOrder, BodyMissing, ExitPlace, RaisePlace, Limit, Memory}
 
+-- a refusal by the rule with this number at this place, with the limit that is passed where it is one (this project's rule)
 abbrev pub refusal : ℕ → Option Over → Span → CheckRefusal
 refusal rule over span = record { rule = rule; over = over; span = span }
 

@@ -1,6 +1,5 @@
 -- What an error tells of a program, and what is known of one that was gone through.
 use Rattle.std.specs.Prelude.{◌≡◌, Option, Some, None}
-use Rattle.ada_tree.specs.TypeTable.{TypeTable}
 use Rattle.ada_tree.specs.PlainProgram.{PProgram}
 use Rattle.ada_tree.specs.Refusals.{MeetsTypeRules, types_in}
 use Rattle.ada_refusals.specs.declared.errors.TypeError.{TypeError}

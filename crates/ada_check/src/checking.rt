@@ -17,7 +17,7 @@ use ada_rules::{Refusal, Standard, first};
 use ada_statement_places::walk_body;
 use ada_task_counts::{refuse_copies, refuse_entries, refuse_tasks};
 use ada_task_numbers::numbers_for;
-use ada_task_objects::parts_of;
+use ada_task_objects::task_names_of;
 use ada_tree::{Program, Types};
 use ada_types::{TypeError, types_of};
 use std::alloc::{AllocError, Global};
@@ -46,7 +46,7 @@ fn refuse_counts(
 ) -> Result<Option<Refusal>, AllocError>
     ensures { (around : CheckScope) → around.types ≡ types.now → IfOk result (λ r. r ≡ refused_first by.now (counted_sites around (plain_program p.now))) }
 {
-    let found = parts_of(alloc, p)?;
+    let found = task_names_of(alloc, p)?;
     let parts = found.as_slice();
     let tasks = refuse_tasks(by, types, parts);
     let entries = refuse_entries(by, types, parts);

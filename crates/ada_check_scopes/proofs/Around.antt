@@ -1,5 +1,5 @@
 -- Names, loops and units as they are kept, and as the rules see them; what stood around a place is there again behind it.
-use Rattle.std.specs.Prelude.{◌≡◌, ◌==◌, ℕ, ◌+◌, ◌-◌, Bool, true, false, ◌||◌, if◌then◌else◌, List, [], ◌∷◌, ◌++◌, length, map, drop, reverse, find, Option, Some, None, option_map, is_some, unwrap_or, refl}
+use Rattle.std.specs.Prelude.{◌≡◌, ◌==◌, ℕ, ◌+◌, ◌-◌, Bool, true, false, if◌then◌else◌, List, [], ◌∷◌, ◌++◌, length, map, drop, reverse, find, Option, Some, None, option_map, unwrap_or, refl}
 use Rattle.std.proofs.Common.{sym, ap, ◌∙◌, arith, length-append}
 use Rattle.std.specs.List.{list_any}
 use Rattle.std.specs.Option.{option_to_list}
@@ -11,25 +11,7 @@ use Rattle.scoped_names.specs.Meaning.{meaning_in}
 use Rattle.ada_tree.specs.declared.naming.NameId.{NameId}
 use Rattle.syn_event.specs.declared.meanings.Meant.{Meant}
 use Rattle.syn_event.specs.CheckScope.{Unit}
-use Rattle.syn_event.specs.RuleAcceptPlace.{is_among}
-use Rattle.ada_check_scopes.specs.Around.{id_of, unit_of_id}
-
--- ---- a name among others
-
-among_test : {A : Type 0} (s : ℕ × A) (o : Option (ℕ × A)) (b t : Bool) → is_some (option_map (λ x. x.1) o) ≡ b → is_some (option_map (λ x. x.1) (if t then Some s else o)) ≡ (t || b)
-among_test s o b true h = refl
-among_test s o b false h = h
-
-among : {A : Type 0} (names : List (ℕ × A)) (name : ℕ) → is_some (meaning_in names name) ≡ is_among (map (λ s. id_of s.0) names) (id_of name)
-among [] name = refl
-among (s ∷ rest) name = among_test s (find (λ x. x.0 == name) rest) (is_among (map (λ x. id_of x.0) rest) (id_of name)) (s.0 == name) (among rest name)
-
-there_too : {A B : Type 0} (f : A → B) (o : Option A) → is_some (option_map f o) ≡ is_some o
-there_too f None = refl
-there_too f (Some x) = refl
-
-pub is_in : {A B : Type 0} (f : B → A) (o : Option B) (names : List (ℕ × A)) (name : ℕ) → option_map f o ≡ meaning_in names name → is_some o ≡ is_among (map (λ s. id_of s.0) names) (id_of name)
-is_in f o names name h = sym (there_too f o) ∙ ap is_some h ∙ among names name
+use Rattle.ada_check_scopes.specs.Around.{unit_of_id}
 
 -- ---- lists that are kept from the first to the last
 

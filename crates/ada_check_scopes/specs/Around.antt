@@ -2,9 +2,7 @@
 use Rattle.std.specs.Prelude.{ℕ, List}
 use Rattle.ada_tree.specs.declared.naming.NameId.{NameId}
 use Rattle.syn_event.specs.CheckScope.{Unit}
-
-abbrev pub id_of : ℕ → NameId
-id_of n = record { 0 = n }
+use Rattle.name_sets.specs.Numbers.{id_of}
 
 abbrev pub unit : NameId → List NameId → Unit
 unit name entries = record { name = name; entries = entries }

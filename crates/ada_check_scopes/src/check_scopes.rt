@@ -7,8 +7,8 @@ ghost use Rattle.syn_event.specs.CheckSites.{first_around, with_meant, own_unit,
 ghost use Rattle.ada_check_scopes.specs.Around.{unit};
 ghost use Rattle.ada_check_scopes.specs.Nested.{IsWithin, IsOutside};
 
-use crate::name_sets::NameSet;
 use ada_tree::{NameId, Span, Types, Word};
+use name_sets::NameSet;
 use scoped_names::ScopedNames;
 use std::alloc::{AllocError, Global};
 use std::marker::Model;

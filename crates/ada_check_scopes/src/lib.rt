@@ -3,8 +3,6 @@
 
 mod check_scopes;
 mod inner;
-mod name_sets;
 
 pub use check_scopes::{CheckScopes, OutsideAccept};
 pub use inner::{declare_formals, declare_parameter};
-pub use name_sets::NameSet;

@@ -43,7 +43,7 @@ pub(crate) fn read_shape<'a>(
     let (index, (_, rest)) = with(index, expect(Symbol::RightParen, rest))?;
     let (index, (_, rest)) = with(index, expect(Symbol::Of, rest))?;
     let (index, (part, rest)) = with(index, read_subind(alloc, depth, rest))?;
-    Ok((Shape::Row { index, part }, rest))
+    Ok((Shape::ConstrainedArray { index, part }, rest))
 }
 
 // An expression in parentheses.

@@ -1,26 +1,25 @@
 -- Declarations are gone through one after the other, and what they add stands around those behind them.
-use Rattle.std.specs.Prelude.{◌≡◌, ℕ, ◌+◌, ◌-◌, ◌<◌, ◌≤◌, ◌==◌, ◌||◌, not, if◌then◌else◌, Bool, true, false, List, [], ◌∷◌, ◌++◌, length, map, drop, get_or, Option, Some, None, refl}
-use Rattle.std.specs.List.{list_any}
+use Rattle.std.specs.Prelude.{◌≡◌, ℕ, ◌+◌, ◌-◌, ◌<◌, ◌≤◌, not, if◌then◌else◌, Bool, true, false, List, [], ◌∷◌, ◌++◌, length, map, drop, get_or, Option, Some, None, refl}
 use Rattle.std.proofs.Common.{sym, ap, ◌∙◌}
 use Rattle.std.proofs.lemmas.List.{drop_all}
 use Rattle.ada_tree.specs.declared.naming.Span.{Span}
 use Rattle.ada_tree.specs.declared.naming.Word.{Word}
 use Rattle.ada_tree.specs.declared.naming.NameId.{NameId}
+use Rattle.ada_tree.specs.RuleDuplicate.{is_among}
 use Rattle.ada_tree.specs.declared.declarations.Decl.{Decl}
 use Rattle.ada_tree.specs.declared.declarations.EntryDecl.{EntryDecl}
-use Rattle.ada_tree.specs.PlainDecl.{OPlain, ORow, PEntry, plain_entry, PDecl, DNumber, DObject, DEnumeration, DArray, DSubtype, DException, DIntIo, DPragma, DTask, DTaskBody, PDecls, no_decl, decl_then, decls_of, plain_decl}
+use Rattle.ada_tree.specs.PlainDecl.{OPlain, OArray, PEntry, plain_entry, PDecl, DNumber, DObject, DEnumeration, DArray, DSubtype, DException, DIntIo, DPragma, DTask, DTaskBody, PDecls, no_decl, decl_then, decls_of, plain_decl}
 use Rattle.syn_event.specs.declared.meanings.Meant.{Meant}
 use Rattle.syn_event.specs.declared.meanings.Meant.TheVariants.{MainProcedure, TaskType, TaskOf, Shared, Inner}
 use Rattle.syn_event.specs.CheckRefusals.{CheckRefusal}
 use Rattle.syn_event.specs.CheckScope.{Unit as OwnUnit, CheckScope, meaning, CheckDemand, CheckSite, needs_body}
-use Rattle.syn_event.specs.RuleAcceptPlace.{is_among}
 use Rattle.syn_event.specs.CheckSites.{site, with_meant, with_value, with_object, meant_by_task, unit_of, after_decl, after_decls, in_body, after_own_object, after_own}
 use Rattle.ada_rules.specs.Sooner.{sooner, found}
 use Rattle.ada_rules.specs.Rules.{refused}
 use Rattle.ada_rules.specs.declared.refusals.Rule.TheVariants.{BodyMissing}
 use Rattle.ada_rules.specs.RefusedFirst.{Standard, refused_first_at, refused_first}
 use Rattle.ada_check_scopes.specs.Nested.{IsWithin}
-use Rattle.ada_declaration_places.specs.Places.{numbers_in}
+use Rattle.name_sets.specs.Numbers.{numbers_in}
 use Rattle.ada_rules.proofs.Meeting.{at_needs, met_one, met_append, joined, before}
 use Rattle.ada_rules.proofs.Listing.{gone, ended}
 use Rattle.ada_check_scopes.proofs.Leaving.{within_meant}
@@ -34,18 +33,14 @@ entries_back xs k x names more h is_x told is_more =
 
 -- ---- a task without a body
 
-among_numbers : (xs : List NameId) (id : NameId) → list_any (λ n. n == id.0) (numbers_in xs) ≡ is_among xs id
-among_numbers [] id = refl
-among_numbers (x ∷ xs) id = ap (λ (b : Bool). (x.0 == id.0) || b) (among_numbers xs id)
-
 flipped : (b : Bool) (s : Span) → refused BodyMissing (if not b then s ∷ [] else []) ≡ found 20 (if b then [] else s ∷ [])
 flipped true s = refl
 flipped false s = refl
 
-pub bodiless : (by : Standard) (around : CheckScope) (names : List NameId) (w : Word) (s : Span) (b : Bool) → b ≡ is_among names w.name → refused BodyMissing (if not b then s ∷ [] else []) ≡ refused_first_at by around (needs_body (numbers_in names) w s)
+pub bodiless : (by : Standard) (around : CheckScope) (names : List NameId) (w : Word) (s : Span) (b : Bool) → b ≡ is_among (numbers_in names) w.name.0 → refused BodyMissing (if not b then s ∷ [] else []) ≡ refused_first_at by around (needs_body (numbers_in names) w s)
 bodiless by around names w s b h =
-    ap (λ (t : Bool). refused BodyMissing (if not t then s ∷ [] else [])) (h ∙ sym (among_numbers names w.name))
-    ∙ flipped (list_any (λ n. n == w.name.0) (numbers_in names)) s
+    ap (λ (t : Bool). refused BodyMissing (if not t then s ∷ [] else [])) h
+    ∙ flipped (is_among (numbers_in names) w.name.0) s
     ∙ sym (at_needs by around (numbers_in names) w s)
 
 -- a task: its body, its name, its entries and its priorities
@@ -89,7 +84,7 @@ kept_object None s mark b ws = kept_value b s ws
 pub kept_decl : (s : CheckScope) (d : PDecl) → KeepsRest (after_decl s d) s
 kept_decl s (DNumber w e p) = kept_same s
 kept_decl s (DObject ws c (OPlain x) i p) = kept_object (meaning s x.mark.name) s x.mark _ ws
-kept_decl s (DObject ws c (ORow r x) i p) = kept_object (meaning s x.mark.name) s x.mark true ws
+kept_decl s (DObject ws c (OArray r x) i p) = kept_object (meaning s x.mark.name) s x.mark true ws
 kept_decl s (DEnumeration w ws p) = kept_same s
 kept_decl s (DArray w r x p) = kept_same s
 kept_decl s (DSubtype w x p) = kept_same s

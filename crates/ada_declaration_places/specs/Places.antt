@@ -1,13 +1,8 @@
 -- The places of one declaration, as they are gone through.
-use Rattle.std.specs.Prelude.{ℕ, List, [], map}
-use Rattle.ada_tree.specs.declared.naming.NameId.{NameId}
+use Rattle.std.specs.Prelude.{ℕ, List, []}
 use Rattle.ada_tree.specs.PlainDecl.{PDecl, DTaskBody}
 use Rattle.syn_event.specs.CheckScope.{CheckScope, CheckSite}
 use Rattle.syn_event.specs.CheckSites.{decl_sites}
-
--- names by their numbers
-abbrev pub numbers_in : List NameId → List ℕ
-numbers_in names = map (λ n. n.0) names
 
 -- those of a declaration that is no body
 abbrev pub places_of : CheckScope → List ℕ → PDecl → List CheckSite

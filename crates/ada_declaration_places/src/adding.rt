@@ -6,9 +6,10 @@ ghost use Rattle.ada_tree.specs.PlainDecl.{plain_shape, plain_entry, plain_task,
 ghost use Rattle.syn_event.specs.CheckScope.{meaning};
 ghost use Rattle.syn_event.specs.CheckSites.{with_meant, with_object, after_object, meant_by_task, after_task, after_decl};
 
-use ada_check_scopes::{CheckScopes, NameSet};
+use ada_check_scopes::CheckScopes;
 use ada_task_objects::is_array_type;
 use ada_tree::{Decl, DeclKind, EntryDecl, Shape, TaskUnit, Word};
+use name_sets::NameSet;
 use std::alloc::{AllocError, Global};
 use syn_event::Meant;
 
@@ -61,7 +62,7 @@ fn declare_objects(
             let is_shared = !constant || is_array_type(around.types(), subind.mark.name);
             declare_marked(around, subind.mark, is_shared, names)
         }
-        Shape::Row { part, .. } => declare_marked(around, part.mark, true, names),
+        Shape::ConstrainedArray { part, .. } => declare_marked(around, part.mark, true, names),
     }
 }
 

@@ -51,7 +51,7 @@ fn walk_shape(
 {
     match shape {
         Shape::Plain(subind) => walk_subind(around, by, 2, subind),
-        Shape::Row { index, part } => {
+        Shape::ConstrainedArray { index, part } => {
             let range = walk_index(around, by, index)?;
             let component = walk_subind(around, by, 2, part)?;
             Ok(first(range, component))

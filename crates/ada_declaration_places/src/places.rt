@@ -5,15 +5,17 @@ ghost use Rattle.std.specs.Prelude.{◌≡◌, None, map, OnOk, IfOk};
 ghost use Rattle.ada_tree.specs.PlainDecl.{plain_decl, decls_of};
 ghost use Rattle.syn_event.specs.CheckSites.{own_object_sites, after_own_object, own_sites, after_own};
 ghost use Rattle.ada_rules.specs.RefusedFirst.{refused_first};
-ghost use Rattle.ada_declaration_places.specs.Places.{numbers_in, places_of};
+ghost use Rattle.name_sets.specs.Numbers.{numbers_in};
+ghost use Rattle.ada_declaration_places.specs.Places.{places_of};
 
 use crate::adding::declare_all;
 use crate::objects::{walk_index, walk_object};
 use crate::tasks::walk_task;
-use ada_check_scopes::{CheckScopes, NameSet};
+use ada_check_scopes::CheckScopes;
 use ada_part_places::{walk_expr, walk_names, walk_subind};
 use ada_rules::{Refusal, Standard, first};
 use ada_tree::{Decl, DeclKind};
+use name_sets::NameSet;
 use std::alloc::AllocError;
 use syn_event::Meant;
 

@@ -7,13 +7,14 @@ ghost use Rattle.ada_tree.specs.PlainDecl.{plain_entry, plain_priority, plain_ta
 ghost use Rattle.syn_event.specs.CheckScope.{CheckScope, needs_body};
 ghost use Rattle.syn_event.specs.CheckSites.{if_there, expr_sites, family_sites, entry_sites, task_sites};
 ghost use Rattle.ada_rules.specs.RefusedFirst.{Standard as By, refused_first_at, refused_first};
-ghost use Rattle.ada_declaration_places.specs.Places.{numbers_in};
+ghost use Rattle.name_sets.specs.Numbers.{numbers_in};
 
 use crate::objects::refuse_size;
-use ada_check_scopes::{CheckScopes, NameSet};
+use ada_check_scopes::CheckScopes;
 use ada_part_places::{walk_drange, walk_expr, walk_formals};
 use ada_rules::{Refusal, Rule, Standard, first, refuse_formals, refuse_if};
 use ada_tree::{Drange, EntryDecl, Priority, Span, TaskUnit};
+use name_sets::NameSet;
 use std::alloc::AllocError;
 use syn_event::What;
 

@@ -12,7 +12,7 @@ use Rattle.ada_tree.specs.declared.statements.Formal.{Formal}
 use Rattle.ada_tree.specs.TypeTable.{TypeTable}
 use Rattle.ada_tree.specs.PlainExpr.{PExpr, PSubind, PDrange}
 use Rattle.ada_tree.specs.PlainStmt.{PBody, plain_formal}
-use Rattle.ada_tree.specs.PlainDecl.{PShape, OPlain, ORow, PInit, IOne, IList, IOthers, PEntry, PPriority, PTask, PDecl, DNumber, DObject, DEnumeration, DArray, DSubtype, DException, DIntIo, DPragma, DTask, DTaskBody, PDecls, decls_of, plain_decl, plain_entry, plain_task}
+use Rattle.ada_tree.specs.PlainDecl.{PShape, OPlain, OArray, PInit, IOne, IList, IOthers, PEntry, PPriority, PTask, PDecl, DNumber, DObject, DEnumeration, DArray, DSubtype, DException, DIntIo, DPragma, DTask, DTaskBody, PDecls, decls_of, plain_decl, plain_entry, plain_task}
 use Rattle.ada_tree.specs.Scope.{Scope, Range, Thing, Marking, ScalarMark, ArrayMark, TaskMark, NoMark, UnknownMark, UnclearMark, integer_kind, range_of_mark}
 use Rattle.ada_tree.specs.Demand.{declares_entry, for_scalar, for_array, gives_body, must_be_static, must_lie_in, initializes, scalar_only, Site}
 use Rattle.ada_tree.specs.Declaring.{before_all, first_scope, with_name, with_names, inside, in_body, Declared, declared_object, after_own_object, after_objects, after_decl}
@@ -59,7 +59,7 @@ quiet_init scope types UnclearMark v = quiet_all_init scope v
 
 pub quiet_shape : (scope : Scope) (constant : Bool) (x : PShape) (init : Option PInit) → namings_of (shape_sites scope constant x init) ≡ []
 quiet_shape scope constant (OPlain x) init = quiet_subind true (object_marks (may_be_task scope constant x.bounds init) x.bounds) scope x
-quiet_shape scope constant (ORow index x) init =
+quiet_shape scope constant (OArray index x) init =
     quiet_append (drange_sites true scope index) (subind_sites true (component_marks (may_be_task scope constant x.bounds init)) scope x) (quiet_drange true scope index)
     (quiet_subind true (component_marks (may_be_task scope constant x.bounds init)) scope x)
 

@@ -1,5 +1,5 @@
 -- What is named at the places of a program decides rule Duplicate.
-use Rattle.std.specs.Prelude.{◌≡◌, ◌==◌, ◌<◌, ◌≤◌, ◌+◌, ℕ, Bool, true, false, ◌||◌, ◌&&◌, if◌then◌else◌, List, [], ◌∷◌, length, map, drop, find, Option, Some, None, option_map, is_some, refl}
+use Rattle.std.specs.Prelude.{◌≡◌, ◌==◌, ◌<◌, ◌≤◌, ◌+◌, ℕ, Bool, true, false, ◌||◌, ◌&&◌, List, [], ◌∷◌, length, drop, Option, Some, None, refl}
 use Rattle.std.proofs.Common.{sym, ap, ◌∙◌, get_or}
 use Rattle.std.specs.List.{list_any}
 use Rattle.std.proofs.lemmas.List.{drop_more}
@@ -10,29 +10,11 @@ use Rattle.ada_tree.specs.Scope.{Scope}
 use Rattle.ada_tree.specs.Demand.{Demand, declares, declares_entry, labels, gives_body, makes_instance, handles, Site}
 use Rattle.ada_tree.specs.Sites.{site}
 use Rattle.ada_tree.specs.RuleDuplicate.{is_predefined, is_among, fixes, introduces, at_word, duplicate}
-use Rattle.scoped_names.specs.Meaning.{meaning_in}
 use Rattle.ada_refusals.specs.Sooner.{sooner, found}
 use Rattle.ada_refusals.specs.Repeated.{repeated_from}
 use Rattle.ada_duplicates.specs.NamingsInOrder.{naming_in, and_then, namings_of, fixed_by, introduced_by, repeated_by, first_repeated}
 use Rattle.ada_duplicates.specs.declared.namings_in_order.Naming.{Naming}
 use Rattle.ada_refusals.proofs.SoonerLaws.{sooner_assoc, sooner_none}
-
--- ---- a name among others
-
-among_test : {A : Type 0} (s : ℕ × A) (o : Option (ℕ × A)) (b t : Bool) → is_some (option_map (λ x. x.1) o) ≡ b → is_some (option_map (λ x. x.1) (if t then Some s else o)) ≡ (t || b)
-among_test s o b true h = refl
-among_test s o b false h = h
-
-among : {A : Type 0} (names : List (ℕ × A)) (name : ℕ) → is_some (meaning_in names name) ≡ is_among (map (λ s. s.0) names) name
-among [] name = refl
-among (s ∷ rest) name = among_test s (find (λ x. x.0 == name) rest) (is_among (map (λ x. x.0) rest) name) (s.0 == name) (among rest name)
-
-there_too : {A B : Type 0} (f : A → B) (o : Option A) → is_some (option_map f o) ≡ is_some o
-there_too f None = refl
-there_too f (Some x) = refl
-
-pub is_in : {A B : Type 0} (f : B → A) (o : Option B) (names : List (ℕ × A)) (name : ℕ) → option_map f o ≡ meaning_in names name → is_some o ≡ is_among (map (λ s. s.0) names) name
-is_in f o names name h = sym (there_too f o) ∙ ap is_some h ∙ among names name
 
 -- ---- places and namings
 

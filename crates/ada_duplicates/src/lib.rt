@@ -1,7 +1,6 @@
 //! What an Ada program declares or names again though it may not.
 #![tactic(auto)]
 
-mod name_sets;
 pub mod named_so_far;
 mod namings_in_order;
 mod repeats;

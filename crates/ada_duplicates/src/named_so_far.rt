@@ -9,14 +9,15 @@ ghost use Rattle.ada_tree.specs.Demand.{Site};
 ghost use Rattle.ada_tree.specs.Declaring.{before_all, first_scope};
 ghost use Rattle.ada_tree.specs.Sites.{body_sites, entries_sites, entry_sites, names_sites, own_sites, with_words};
 ghost use Rattle.ada_refusals.specs.Repeated.{repeated_from};
+ghost use Rattle.name_sets.specs.Numbers.{numbers_in};
 ghost use Rattle.ada_duplicates.specs.NamingsInOrder.{Named, declared, namings_of};
 ghost use Rattle.ada_duplicates.specs.NamedSoFar.{AreBehind, behind, no_notes, object_words, of_own, with_declared};
 
-use crate::name_sets::NameSet;
 use crate::namings_in_order::{Naming, note_body, note_formals, note_once, note_word, note_words};
 use crate::repeats::refuse_repeats;
 use ada_refusals::refusals::Refusal;
 use ada_tree::{Body, Decl, DeclKind, EntryDecl, TaskUnit, Word};
+use name_sets::NameSet;
 use std::alloc::{AllocError, Global};
 use std::marker::Model;
 
@@ -30,11 +31,12 @@ pub struct Notes {
 }
 
 impl Model for Notes {
+    ghost use Rattle.name_sets.specs.Numbers.{numbers_in};
     ghost use Rattle.ada_duplicates.specs.NamedSoFar.{PlainNotes};
 
     ghost Value = { PlainNotes };
 
-    ghost view = { λ a. record { namings = a.namings.items; here = a.here; bodies = a.bodies; has_instance = a.has_instance } };
+    ghost view = { λ a. record { namings = a.namings.items; here = numbers_in a.here; bodies = numbers_in a.bodies; has_instance = a.has_instance } };
 }
 
 // An entry, behind those of the same task, with its formals.
@@ -44,8 +46,8 @@ fn note_entry(
     names: &mut NameSet,
     entry: &EntryDecl,
 ) -> Result<(), AllocError>
-    ensures namings { OnOk result (Named namings.old.items namings.new.items (λ scope. entry_sites scope names.old (plain_entry entry.now))) }
-    ensures names { OnOk result (names.new ≡ entry.now.name.name.0 ∷ names.old) }
+    ensures namings { OnOk result (Named namings.old.items namings.new.items (λ scope. entry_sites scope (numbers_in names.old) (plain_entry entry.now))) }
+    ensures names { OnOk result (numbers_in names.new ≡ entry.now.name.name.0 ∷ numbers_in names.old) }
 {
     note_once(namings, names, entry.name)?;
     note_formals(alloc, namings, &entry.formals)
@@ -68,8 +70,8 @@ fn note_entries(
 
 // A declaration of a task body: nothing but objects stands there.
 fn note_object(namings: &mut Vec<Naming>, here: &mut NameSet, decl: &Decl) -> Result<(), AllocError>
-    ensures namings { OnOk result (namings.new.items ≡ namings.old.items ++ declared false here.old (object_words (plain_decl decl.now))) }
-    ensures here { OnOk result (here.new ≡ with_words here.old (object_words (plain_decl decl.now))) }
+    ensures namings { OnOk result (namings.new.items ≡ namings.old.items ++ declared false (numbers_in here.old) (object_words (plain_decl decl.now))) }
+    ensures here { OnOk result (numbers_in here.new ≡ with_words (numbers_in here.old) (object_words (plain_decl decl.now))) }
 {
     match &decl.kind {
         DeclKind::Object { names, .. } => note_words(namings, here, false, names),

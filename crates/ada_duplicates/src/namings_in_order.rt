@@ -1,17 +1,18 @@
 // What a program declares or names, in the order of the text: all that rule Duplicate looks at. Lists are gone through by loops, so recursion follows nesting alone.
 
 ghost use Rattle.std.specs.Prelude.{◌≡◌, ◌++◌, ◌∷◌, [], ℕ, Option, OnOk, map, option_map};
-ghost use Rattle.ada_tree.specs.PlainStmt.{plain_formal, plain_scheme, plain_stmt, plain_accept, plain_alt, plain_alt_kind, plain_arm, plain_case_arm, plain_handler, plain_body, row_of, alts_of, arms_of, case_arms_of, handlers_of};
+ghost use Rattle.ada_tree.specs.PlainStmt.{plain_formal, plain_scheme, plain_stmt, plain_accept, plain_alt, plain_alt_kind, plain_arm, plain_case_arm, plain_handler, plain_body, stmts_of, alts_of, arms_of, case_arms_of, handlers_of};
 ghost use Rattle.ada_tree.specs.Scope.{Range};
 ghost use Rattle.ada_tree.specs.Demand.{labels};
 ghost use Rattle.ada_tree.specs.Sites.{site, if_there, with_words, formals_sites, scheme_sites, loop_scope, stmt_sites, stmts_sites, accept_sites, alts_sites, alt_sites, arms_sites, case_arms_sites, body_sites, handlers_sites};
+ghost use Rattle.name_sets.specs.Numbers.{numbers_in};
 ghost use Rattle.ada_duplicates.specs.NamingsInOrder.{Named, declared, named_once};
 ghost use Rattle.ada_duplicates.specs.inner.Noted.{handler_places, handler_words};
 
-use crate::name_sets::NameSet;
 use ada_tree::{
     Accept, Alt, AltKind, Arm, Body, CaseArm, Formal, Handler, Scheme, Stmt, StmtKind, Word,
 };
+use name_sets::NameSet;
 use std::alloc::{AllocError, Global};
 
 /// A place where a name is declared or named.
@@ -39,8 +40,8 @@ pub(crate) fn note_word(
     for_all: bool,
     word: Word,
 ) -> Result<(), AllocError>
-    ensures namings { OnOk result (namings.new.items ≡ namings.old.items ++ declared for_all here.old (word ∷ [])) }
-    ensures here { OnOk result (here.new ≡ word.name.0 ∷ here.old) }
+    ensures namings { OnOk result (namings.new.items ≡ namings.old.items ++ declared for_all (numbers_in here.old) (word ∷ [])) }
+    ensures here { OnOk result (numbers_in here.new ≡ word.name.0 ∷ numbers_in here.old) }
 {
     let again = here.has(word.name);
     namings.push(Naming::Declares {
@@ -58,8 +59,8 @@ pub(crate) fn note_words(
     for_all: bool,
     words: &[Word],
 ) -> Result<(), AllocError>
-    ensures namings { OnOk result (namings.new.items ≡ namings.old.items ++ declared for_all here.old words.now) }
-    ensures here { OnOk result (here.new ≡ with_words here.old words.now) }
+    ensures namings { OnOk result (namings.new.items ≡ namings.old.items ++ declared for_all (numbers_in here.old) words.now) }
+    ensures here { OnOk result (numbers_in here.new ≡ with_words (numbers_in here.old) words.now) }
 {
     for word in words {
         note_word(namings, here, for_all, *word)?;
@@ -73,8 +74,8 @@ pub(crate) fn note_once(
     names: &mut NameSet,
     word: Word,
 ) -> Result<(), AllocError>
-    ensures namings { OnOk result (namings.new.items ≡ namings.old.items ++ named_once names.old (word ∷ [])) }
-    ensures names { OnOk result (names.new ≡ word.name.0 ∷ names.old) }
+    ensures namings { OnOk result (namings.new.items ≡ namings.old.items ++ named_once (numbers_in names.old) (word ∷ [])) }
+    ensures names { OnOk result (numbers_in names.new ≡ word.name.0 ∷ numbers_in names.old) }
 {
     let again = names.has(word.name);
     namings.push(Naming::Once { again, word })?;
@@ -87,8 +88,8 @@ fn note_exceptions(
     names: &mut NameSet,
     words: &[Word],
 ) -> Result<(), AllocError>
-    ensures namings { OnOk result (namings.new.items ≡ namings.old.items ++ named_once names.old words.now) }
-    ensures names { OnOk result (names.new ≡ with_words names.old words.now) }
+    ensures namings { OnOk result (namings.new.items ≡ namings.old.items ++ named_once (numbers_in names.old) words.now) }
+    ensures names { OnOk result (numbers_in names.new ≡ with_words (numbers_in names.old) words.now) }
 {
     for word in words {
         note_once(namings, names, *word)?;
@@ -211,8 +212,8 @@ fn note_handler(
     names: &mut NameSet,
     handler: &Handler,
 ) -> Result<(), AllocError>
-    ensures namings { OnOk result (Named namings.old.items namings.new.items (λ scope. handler_places scope names.old (plain_handler handler.now))) }
-    ensures names { OnOk result (names.new ≡ with_words names.old (handler_words (plain_handler handler.now))) }
+    ensures namings { OnOk result (Named namings.old.items namings.new.items (λ scope. handler_places scope (numbers_in names.old) (plain_handler handler.now))) }
+    ensures names { OnOk result (numbers_in names.new ≡ with_words (numbers_in names.old) (handler_words (plain_handler handler.now))) }
 {
     note_exceptions(namings, names, &handler.names)?;
     note_stmts(alloc, namings, &handler.stmts)
@@ -254,7 +255,7 @@ fn note_loop(
     scheme: &Option<Scheme>,
     list: &[Stmt],
 ) -> Result<(), AllocError>
-    ensures { OnOk result (Named namings.old.items namings.new.items (λ scope. if_there (λ x. site scope (labels x) ∷ []) name ++ if_there (scheme_sites scope) (option_map plain_scheme scheme.now) ++ stmts_sites (loop_scope scope (option_map plain_scheme scheme.now)) (row_of (map plain_stmt list.now)))) }
+    ensures { OnOk result (Named namings.old.items namings.new.items (λ scope. if_there (λ x. site scope (labels x) ∷ []) name ++ if_there (scheme_sites scope) (option_map plain_scheme scheme.now) ++ stmts_sites (loop_scope scope (option_map plain_scheme scheme.now)) (stmts_of (map plain_stmt list.now)))) }
 {
     note_label(namings, name)?;
     note_scheme(namings, scheme)?;
@@ -322,7 +323,7 @@ fn note_stmt(alloc: Global, namings: &mut Vec<Naming>, stmt: &Stmt) -> Result<()
 
 #[cycle(namings)]
 fn note_stmts(alloc: Global, namings: &mut Vec<Naming>, list: &[Stmt]) -> Result<(), AllocError>
-    ensures { OnOk result (Named namings.old.items namings.new.items (λ scope. stmts_sites scope (row_of (map plain_stmt list.now)))) }
+    ensures { OnOk result (Named namings.old.items namings.new.items (λ scope. stmts_sites scope (stmts_of (map plain_stmt list.now)))) }
 {
     for stmt in list {
         note_stmt(alloc, namings, stmt)?;

@@ -3,12 +3,13 @@
 ghost use Rattle.std.specs.Prelude.{◌≡◌, [], OnOk, IfOk};
 ghost use Rattle.ada_tree.specs.RuleDuplicate.{is_predefined};
 ghost use Rattle.ada_refusals.specs.Sooner.{found};
+ghost use Rattle.name_sets.specs.Numbers.{numbers_in};
 ghost use Rattle.ada_duplicates.specs.NamingsInOrder.{fixed_by, introduced_by, repeated_by, first_repeated};
 
-use crate::name_sets::NameSet;
 use crate::namings_in_order::Naming;
 use ada_refusals::refusals::{Refusal, Rule, first, refuse_if};
 use ada_tree::NameId;
+use name_sets::NameSet;
 use std::alloc::{AllocError, Global};
 
 // The names of the language's own types, exceptions, packages and procedures are the first ones.
@@ -20,7 +21,7 @@ fn is_predefined(name: NameId) -> bool
 
 // A naming that is refused behind the names that are declared for all of main, and all that are introduced.
 fn refuse_again(fixed: &NameSet, introduced: &NameSet, naming: Naming) -> Option<Refusal>
-    ensures { result ≡ found 2 (repeated_by fixed.now introduced.now naming) }
+    ensures { result ≡ found 2 (repeated_by (numbers_in fixed.now) (numbers_in introduced.now) naming) }
 {
     match naming {
         Naming::Declares {
@@ -46,7 +47,7 @@ fn refuse_again(fixed: &NameSet, introduced: &NameSet, naming: Naming) -> Option
 
 // A name that is declared for all of main is put among those.
 fn fix(fixed: &mut NameSet, naming: Naming) -> Result<(), AllocError>
-    ensures { OnOk result (fixed.new ≡ fixed_by naming fixed.old) }
+    ensures { OnOk result (numbers_in fixed.new ≡ fixed_by naming (numbers_in fixed.old)) }
 {
     match naming {
         Naming::Declares { for_all, word, .. } => {
@@ -62,7 +63,7 @@ fn fix(fixed: &mut NameSet, naming: Naming) -> Result<(), AllocError>
 
 // A name that is declared or given to a loop is put among those.
 fn introduce(introduced: &mut NameSet, naming: Naming) -> Result<(), AllocError>
-    ensures { OnOk result (introduced.new ≡ introduced_by naming introduced.old) }
+    ensures { OnOk result (numbers_in introduced.new ≡ introduced_by naming (numbers_in introduced.old)) }
 {
     match naming {
         Naming::Declares { word, .. } => introduced.add(word.name),

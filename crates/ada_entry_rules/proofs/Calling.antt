@@ -5,7 +5,7 @@ use Rattle.ada_tree.specs.declared.naming.Word.{Word}
 use Rattle.ada_tree.specs.PlainExpr.{PExpr}
 use Rattle.ada_tree.specs.PlainStmt.{PCallee, PCall}
 use Rattle.ada_tree.specs.Refusals.{Refusal}
-use Rattle.ada_tree.specs.Scope.{Scope, Thing, TaskRow, meaning}
+use Rattle.ada_tree.specs.Scope.{Scope, Thing, TaskArray, meaning}
 use Rattle.ada_tree.specs.Demand.{addresses, calls}
 use Rattle.ada_tree.specs.RuleUnknown.{unseen, unknown_entry}
 use Rattle.ada_tree.specs.RuleMismatch.{no_task, misfit_member}
@@ -35,7 +35,7 @@ addressed scope name o u t m r c is_u is_t is_m is_r is_c =
 
 none_misfit : (scope : Scope) (thing : Option Thing) → None ≡ found 3 (misfit_member scope thing None)
 none_misfit scope None = refl
-none_misfit scope (Some (TaskRow range entries)) = refl
+none_misfit scope (Some (TaskArray range entries)) = refl
 none_misfit scope (Some _) = refl
 
 -- the same without an index

@@ -33,7 +33,7 @@ fn refuse_no_task(thing: Option<&Thing>, name: Word) -> Option<Refusal>
             Thing::TaskType(_)
             | Thing::SingleTask(_)
             | Thing::TaskObject(_)
-            | Thing::TaskRow(..)
+            | Thing::TaskArray(..)
             | Thing::MainProcedure
             | Thing::Unclear => None,
             _ => refuse(Rule::Mismatch, name.span),
@@ -48,7 +48,7 @@ fn member_range(thing: Option<&Thing>) -> Option<Range>
 {
     match thing {
         Some(thing) => match thing {
-            Thing::TaskRow(range, _) => Some(*range),
+            Thing::TaskArray(range, _) => Some(*range),
             _ => None,
         },
         None => None,
@@ -67,7 +67,7 @@ fn refuse_misfit(
 {
     match thing {
         Some(thing) => match thing {
-            Thing::TaskRow(range, _) => refuse_other(Some(range.kind), index, kind),
+            Thing::TaskArray(range, _) => refuse_other(Some(range.kind), index, kind),
             _ => None,
         },
         None => None,
@@ -88,12 +88,12 @@ fn refuse_index(thing: Option<&Thing>, span: Span) -> Option<Refusal>
 }
 
 // An array of tasks behind which no index stands.
-fn refuse_row(thing: Option<&Thing>, span: Span) -> Option<Refusal>
+fn refuse_array(thing: Option<&Thing>, span: Span) -> Option<Refusal>
     ensures { result ≡ found 8 (index_of_callee (option_map (λ t. plain_thing t.now) thing.entry) None span) }
 {
     match thing {
         Some(thing) => match thing {
-            Thing::TaskRow(..) => refuse(Rule::ArgCount, span),
+            Thing::TaskArray(..) => refuse(Rule::ArgCount, span),
             _ => None,
         },
         None => None,
@@ -124,7 +124,7 @@ fn refuse_task(scope: &Scope, name: Word) -> Option<Refusal>
     let thing = scope.meaning(name.name);
     let unknown = refuse_unseen(scope, name.name, name.span);
     let no_task = refuse_no_task(thing, name);
-    let count = refuse_row(thing, name.span);
+    let count = refuse_array(thing, name.span);
     first(unknown, first(no_task, count))
 }
 

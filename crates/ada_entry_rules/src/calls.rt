@@ -24,7 +24,7 @@ fn has_entries(thing: Option<&Thing>) -> bool
 {
     match thing {
         Some(thing) => match thing {
-            Thing::SingleTask(_) | Thing::TaskObject(_) | Thing::TaskRow(..) => true,
+            Thing::SingleTask(_) | Thing::TaskObject(_) | Thing::TaskArray(..) => true,
             _ => false,
         },
         None => false,
@@ -39,7 +39,7 @@ fn called_entry<'a>(thing: Option<&'a Thing>, id: NameId) -> Option<&'a EntryPar
         Some(thing) => match thing {
             Thing::SingleTask(entries) => entries.named(id),
             Thing::TaskObject(entries) => entries.named(id),
-            Thing::TaskRow(_, entries) => entries.named(id),
+            Thing::TaskArray(_, entries) => entries.named(id),
             _ => None,
         },
         None => None,

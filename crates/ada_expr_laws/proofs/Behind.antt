@@ -13,7 +13,8 @@ use Rattle.ada_expr_parser.specs.Trees.{last_operator}
 abbrev pub Follows : BinaryOp → PExpr → Type 0
 Follows op left = level left ≡ binary_level op → GoesOn op left
 
-split_le : (a b : ℕ) → a ≤ b → (a < b) ⊎ (b ≡ a)
+-- what is at most a number is less, or is it
+pub split_le : (a b : ℕ) → a ≤ b → (a < b) ⊎ (b ≡ a)
 split_le a b low = grind (arith, low)
 
 pub fits_follows : (op : BinaryOp) (left : PExpr) → (binary_level op < level left) ⊎ GoesOn op left → Follows op left

@@ -22,9 +22,9 @@ use Rattle.lawful_reader.proofs.Fitting.{law_fit, law_same}
 use Rattle.lawful_reader.proofs.Chaining.{law_chain}
 use Rattle.ada_expr_laws.specs.Stopping.{Ends}
 use Rattle.ada_expr_laws.specs.Laws.{first_operand, GoesOnBehind}
-use Rattle.ada_expr_laws.proofs.Behind.{fits_follows, follows_fits, fits_level}
+use Rattle.ada_expr_laws.proofs.Behind.{split_le}
 use Rattle.ada_expr_laws.proofs.Signs.{OperatorAt}
-use Rattle.ada_expr_laws.proofs.Chains.{Sp, IsOther, tighter_rank, level_low, over_rank, binary_low, lawful_operators}
+use Rattle.ada_expr_laws.proofs.Chains.{Sp, IsOther, chain_opened, chain_closed, binary_low, lawful_operators}
 use Rattle.ada_expr_laws.proofs.Levels.{law_expr}
 
 -- the operators behind this first operand, with their other operands
@@ -41,48 +41,15 @@ BehindAt l p e text = Behind p e text × (rank l ≤ level e)
 abbrev FirstAt : Level → PExpr → PExpr → List Item → Type 0
 FirstAt l p e text = BehindAt l p e text × IsOther l e
 
-split_le : (a b : ℕ) → a ≤ b → (a < b) ⊎ (b ≡ a)
-split_le a b low = grind (arith, low)
-
 -- ---- the chains of a level
 
 opened : (l : Level) (p e : PExpr) (text : List Item) → BehindAt l p e text → FirstAt l p e text ⊎ Joined joined (OperatorAt l) (BehindAt l p) (Sp (tighter l)) e text
-opened l p (EBinary op a b s) text ((front, sign, back, left, spelled, right, (fits, over), from, place), high) = ⊎_elim
-    (λ less. inl (((front, sign, back, left, spelled, right, (fits, over), from, place), high), λ same. omega (arith, less, same)))
-    (λ same. inr (record {
-      left = a;
-      o = op;
-      right = b;
-      front = front;
-      sign = sign;
-      back = back;
-      tree_is = ap (EBinary op a b) place;
-      text_is = from;
-      left_is = (left, let low = fits_level op a fits in omega (arith, low, same));
-      sign_is = (spelled, same, fits_follows op a fits);
-      right_is = (right, tighter_rank l (level b) (omega (arith, over, same)) (level_low b));
-    }))
-    (split_le (rank l) (binary_level op) high)
+opened l p (EBinary op a b s) text (is, high) = chain_opened (Behind p) l op a b s text is high
 opened l p e text is = inl (is, tt)
 
 closed : (l : Level) (p e : PExpr) (text : List Item) → FirstAt l p e text ⊎ Joined joined (OperatorAt l) (BehindAt l p) (Sp (tighter l)) e text → BehindAt l p e text
 closed l p e text (inl (is, other)) = is
-closed l p e text (inr more) =
-    let (spelled, same, follows) = more.sign_is in
-    subst (λ t. BehindAt l p t text) (sym more.tree_is) (
-      (
-        more.front,
-        more.sign,
-        more.back,
-        more.left_is.0,
-        spelled,
-        more.right_is.0,
-        (follows_fits more.o more.left (let low = more.left_is.1 in omega (arith, low, same)) follows, over_rank l more.o (level more.right) same more.right_is.1),
-        more.text_is,
-        refl,
-      ),
-      omega (arith, same),
-    )
+closed l p e text (inr more) = chain_closed (Behind p) l e text (λ op a b s t added. added) more
 
 chains_behind : (l : Level) (p : PExpr) → AreChains joined (OperatorAt l) (FirstAt l p) (Sp (tighter l)) (BehindAt l p)
 chains_behind l p = record { opens = opened l p; closes = closed l p }

@@ -8,7 +8,7 @@ use Rattle.ada_tree.specs.declared.expressions.UnaryOp.TheVariants as unary
 use Rattle.ada_tree.specs.declared.expressions.BinaryOp.{BinaryOp}
 use Rattle.ada_tree.specs.declared.expressions.BinaryOp.TheVariants.{And, Or, Xor, AndThen, OrElse, Equal, NotEqual, Less, LessEqual, Greater, GreaterEqual, Plus, Minus, Times, Divide, Mod, Rem}
 use Rattle.ada_tree.specs.PlainExpr.{PExpr, EInteger, EName, EIndex, EAttribute, EAttributeOf, EParen, EUnary, EBinary}
-use Rattle.ada_tree.specs.WellPlaced.{level, term, primary, binary_level, unary_level}
+use Rattle.ada_tree.specs.WellPlaced.{level, term, primary, binary_level, unary_level, BinaryFits}
 use Rattle.ada_lexer.specs.declared.symbols.Symbol.TheVariants as key
 use Rattle.ada_expr_parser.specs.declared.items.ItemKind.{ItemKind}
 use Rattle.ada_expr_parser.specs.declared.items.ItemKind.TheVariants as item
@@ -16,15 +16,15 @@ use Rattle.ada_expr_parser.specs.declared.items.Item.{Item}
 use Rattle.ada_expr_parser.specs.declared.levels.Level.{Level}
 use Rattle.ada_expr_parser.specs.declared.levels.Level.TheVariants.{Logical, Relation, Simple, Term, Factor, Primary}
 use Rattle.ada_expr_parser.specs.Tests.{same, operator_in, operator_at, if_follows, may_follow, tighter}
-use Rattle.ada_expr_parser.specs.Trees.{last_operator, joined}
+use Rattle.ada_expr_parser.specs.Trees.{last_operator, span_of, from_to, joined}
 use Rattle.ada_expr_parser.specs.Reading.{operators}
-use Rattle.ada_expr_parser.specs.Grammar.{symbol_item, word_item, number_item, prefix_symbol, infix_symbol, Spells, rank}
+use Rattle.ada_expr_parser.specs.Grammar.{symbol_item, word_item, number_item, prefix_symbol, infix_symbol, SpellsOperator, Spells, rank}
 use Rattle.lawful_reader.specs.Grammars.{Joined, AreChains, first_of}
 use Rattle.lawful_reader.specs.Lawful.{LawfulOperators}
 use Rattle.lawful_reader.proofs.Fitting.{first_append}
 use Rattle.ada_expr_laws.specs.Stopping.{Ends}
 use Rattle.ada_expr_laws.proofs.Tokens.{none_is}
-use Rattle.ada_expr_laws.proofs.Behind.{fits_follows, follows_fits, fits_level}
+use Rattle.ada_expr_laws.proofs.Behind.{split_le, fits_follows, follows_fits, fits_level}
 use Rattle.ada_expr_laws.proofs.Signs.{OperatorAt, IsNoSecond, test_in, takes_in, operator_from, reads_operator, begins_operator}
 
 -- the texts of a level of the grammar
@@ -38,9 +38,6 @@ IsOther l e = Unit {0}
 
 abbrev pub First : Level → PExpr → List Item → Type 0
 First l e text = Sp l e text × IsOther l e
-
-split_le : (a b : ℕ) → a ≤ b → (a < b) ⊎ (b ≡ a)
-split_le a b low = grind (arith, low)
 
 pub tighter_rank : (l : Level) (n : ℕ) → rank l < n → n ≤ primary → rank (tighter l) ≤ n
 tighter_rank Logical n low high = omega (arith, low)
@@ -75,8 +72,22 @@ over_rank Term op n same low = omega (arith, same, low)
 over_rank Factor op n same low = let high = binary_low op in absurd (omega (arith, same, high))
 over_rank Primary op n same low = let high = binary_low op in absurd (omega (arith, same, high))
 
-opened : (l : Level) (e : PExpr) (text : List Item) → Sp l e text → First l e text ⊎ Joined joined (OperatorAt l) (Sp l) (Sp (tighter l)) e text
-opened l (EBinary op a b s) text ((front, sign, back, left, spelled, right, (fits, over), from, place), high) = ⊎_elim
+-- ---- an operator with its operands, where T holds of the first one
+
+-- an operator with its operands
+abbrev pub Added : (PExpr → List Item → Type 0) → BinaryOp → PExpr → PExpr → Span → List Item → Type 0
+Added T op a b s text =
+    (front : List Item) × (sign : List Item) × (back : List Item) × T a front × SpellsOperator op sign × Spells b back × BinaryFits op a b
+    × (text ≡ front ++ (sign ++ back)) × (s ≡ from_to (span_of a) (span_of b))
+
+-- of trees of a level or a tighter one
+abbrev pub OnLevel : (PExpr → List Item → Type 0) → Level → PExpr → List Item → Type 0
+OnLevel T l e text = T e text × (rank l ≤ level e)
+
+-- its operator is of that very level, and it is a chain, or it is of a tighter one
+pub chain_opened : (T : PExpr → List Item → Type 0) (l : Level) (op : BinaryOp) (a b : PExpr) (s : Span) (text : List Item) → Added T op a b s text → rank l ≤ binary_level op
+    → ((Added T op a b s text × (rank l ≤ binary_level op)) × (binary_level op ≡ rank l → ⊥)) ⊎ Joined joined (OperatorAt l) (OnLevel T l) (Sp (tighter l)) (EBinary op a b s) text
+chain_opened T l op a b s text (front, sign, back, left, spelled, right, (fits, over), from, place) high = ⊎_elim
     (λ less. inl (((front, sign, back, left, spelled, right, (fits, over), from, place), high), λ same. omega (arith, less, same)))
     (λ same. inr (record {
       left = a;
@@ -92,14 +103,15 @@ opened l (EBinary op a b s) text ((front, sign, back, left, spelled, right, (fit
       right_is = (right, tighter_rank l (level b) (omega (arith, over, same)) (level_low b));
     }))
     (split_le (rank l) (binary_level op) high)
-opened l e text spells = inl (spells, tt)
 
-closed : (l : Level) (e : PExpr) (text : List Item) → First l e text ⊎ Joined joined (OperatorAt l) (Sp l) (Sp (tighter l)) e text → Sp l e text
-closed l e text (inl (spells, other)) = spells
-closed l e text (inr more) =
+-- a chain is such an operator with its operands
+pub chain_closed : (T : PExpr → List Item → Type 0) (l : Level) (e : PExpr) (text : List Item)
+    → ((op : BinaryOp) (a b : PExpr) (s : Span) (text : List Item) → Added T op a b s text → T (EBinary op a b s) text)
+    → Joined joined (OperatorAt l) (OnLevel T l) (Sp (tighter l)) e text → OnLevel T l e text
+chain_closed T l e text makes more =
     let (spelled, same, follows) = more.sign_is in
-    subst (λ t. Sp l t text) (sym more.tree_is) (
-      (
+    subst (λ t. OnLevel T l t text) (sym more.tree_is) (
+      makes more.o more.left more.right (from_to (span_of more.left) (span_of more.right)) text (
         more.front,
         more.sign,
         more.back,
@@ -112,6 +124,14 @@ closed l e text (inr more) =
       ),
       omega (arith, same),
     )
+
+opened : (l : Level) (e : PExpr) (text : List Item) → Sp l e text → First l e text ⊎ Joined joined (OperatorAt l) (Sp l) (Sp (tighter l)) e text
+opened l (EBinary op a b s) text (spells, high) = chain_opened Spells l op a b s text spells high
+opened l e text spells = inl (spells, tt)
+
+closed : (l : Level) (e : PExpr) (text : List Item) → First l e text ⊎ Joined joined (OperatorAt l) (Sp l) (Sp (tighter l)) e text → Sp l e text
+closed l e text (inl (spells, other)) = spells
+closed l e text (inr more) = chain_closed Spells l e text (λ op a b s t added. added) more
 
 pub chains : (l : Level) → AreChains joined (OperatorAt l) (First l) (Sp (tighter l)) (Sp l)
 chains l = record { opens = opened l; closes = closed l }

@@ -23,7 +23,7 @@ use Rattle.lawful_reader.proofs.Fitting.{first_append, starts_is, law_fit}
 use Rattle.lawful_reader.proofs.Chaining.{law_chain}
 use Rattle.ada_expr_laws.specs.Stopping.{Ends}
 use Rattle.ada_expr_laws.proofs.Tokens.{abs_or_not_is, takes_abs_or_not, plus_or_minus_is, takes_plus_or_minus}
-use Rattle.ada_expr_laws.proofs.Behind.{fits_level}
+use Rattle.ada_expr_laws.proofs.Behind.{split_le, fits_level}
 use Rattle.ada_expr_laws.proofs.Chains.{Sp, First, IsOther, chains, lawful_operators}
 use Rattle.ada_expr_laws.proofs.Primaries.{no_place, unary_less, binary_less, law_primary}
 
@@ -121,9 +121,6 @@ signed_spell d e text (inr ((spells, high), low)) = (((spells, omega (arith, hig
   other : (e : PExpr) → term ≤ level e → IsOther Simple e
   other (EBinary op l r s) high = λ is. omega (arith, high, is)
   other e high = tt
-
-split_le : (a b : ℕ) → a ≤ b → (a < b) ⊎ (b ≡ a)
-split_le a b low = grind (arith, low)
 
 above : (n : ℕ) → simple ≤ n → (n ≡ simple → ⊥) → term ≤ n
 above n high other = ⊎_elim (λ less. less) (λ same. absurd (other same)) (split_le simple n high)

@@ -1,5 +1,5 @@
 -- The bytes of an identifier are ASCII.
-use Rattle.std.proofs.Common.{◌≡◌, ℕ, zero, suc, ◌+◌, ◌<◌, ◌≤◌, Bool, true, false, ◌&&◌, ◌||◌, not, cond, List, [], ◌∷◌, length, take, drop, get_or, Option, Some, None, option_map, All, refl, sym, ap, ◌∙◌, inl, inr, arith, true≢false, nat_le, nat_lt, IsTrue, if◌then◌else◌, ◌==◌, position}
+use Rattle.std.proofs.Common.{◌≡◌, ℕ, zero, suc, ◌<◌, Bool, true, false, ◌&&◌, not, cond, List, [], ◌∷◌, length, get_or, Option, Some, None, option_map, refl, ap, inl, inr, arith, nat_lt, ◌==◌, position}
 use Rattle.std.specs.Str.{IsAscii}
 use Rattle.std.proofs.lemmas.Bool.{and_parts, or_cases}
 use Rattle.std.proofs.lemmas.Bool.Decides.{nat_tests}
@@ -13,8 +13,8 @@ use Rattle.ada_lexer.specs.declared.errors.LexError.TheVariants.{BadByte, OpenSt
 use Rattle.ada_lexer.specs.Bytes.{is_letter, is_digit, is_letter_or_digit, is_white, is_printable, begins, every}
 use Rattle.ada_lexer.specs.Words.{delimiter_symbol}
 use Rattle.ada_lexer.specs.Numbers.{number_kind, kind_by_point, integer_value, duration_value, is_point}
-use Rattle.ada_lexer.specs.Pieces.{opens_comment, is_piece, is_comment, is_empty, word_goes_on, number_goes_on}
-use Rattle.ada_lexer.specs.Strings.{is_string_run, ends_inside, content}
+use Rattle.ada_lexer.specs.Pieces.{opens_comment, is_piece, word_goes_on}
+use Rattle.ada_lexer.specs.Strings.{ends_inside, content}
 use Rattle.ada_lexer.specs.Verdicts.{max_content, IsToken, verdict, token_or, word_verdict, number_verdict, string_verdict, mark_verdict, text_or_bad_byte}
 
 -- a token that is found is that of the option

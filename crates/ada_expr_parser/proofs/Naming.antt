@@ -1,7 +1,7 @@
 -- Lemmas on items: names are ASCII, and items stay those of their tokens as the names grow.
-use Rattle.std.proofs.Common.{◌≡◌, ℕ, zero, suc, ◌+◌, ◌<◌, ◌≤◌, Bool, true, false, ◌&&◌, ◌||◌, not, cond, List, [], ◌∷◌, ◌++◌, length, take, get_or, Option, Some, None, slice_get, All, fold, refl, sym, ap, ◌∙◌, ◌⊎◌, inl, inr, arith, true≢false, nat_le, nat_lt, IsTrue, if◌then◌else◌, ◌==◌, position}
+use Rattle.std.proofs.Common.{◌≡◌, ℕ, zero, suc, ◌+◌, ◌<◌, Bool, true, false, cond, List, [], ◌∷◌, ◌++◌, length, take, get_or, Some, slice_get, fold, sym, ap, ◌∙◌}
 use Rattle.std.specs.List.{AllZip, list_any}
-use Rattle.std.specs.Str.{bytes_eq, IsAscii}
+use Rattle.std.specs.Str.{bytes_eq}
 use Rattle.std.proofs.lemmas.List.{take_more}
 use Rattle.std.proofs.lemmas.List.Sums.{fold-append}
 use Rattle.ada_lexer.specs.declared.kinds.Token.{Token}

@@ -1,19 +1,14 @@
 -- How what the code's readers answer fits together.
-use Rattle.std.proofs.Common.{◌≡◌, ℕ, zero, suc, ◌+◌, ◌-◌, ◌<◌, ◌≤◌, max, Bool, true, false, cond, nat_le, List, [], ◌∷◌, Option, Some, None, is_some, Result, Ok, Err, refl, sym, ap, ◌∙◌, arith}
-use Rattle.std.proofs.lemmas.Bool.Decides.{nat_tests}
-use Rattle.lawful_reader.specs.Readers.{Answer, Found, Fault, Reader, go_on, bind, chain, chain_in}
-use Rattle.ada_tree.specs.declared.expressions.BinaryOp.{BinaryOp}
+use Rattle.std.proofs.Common.{◌≡◌, ℕ, zero, suc, ◌+◌, ◌-◌, ◌<◌, ◌≤◌, List, Result, refl, arith}
+use Rattle.lawful_reader.specs.Readers.{Answer, Found, Fault, Reader, go_on, chain, chain_in}
 use Rattle.ada_tree.specs.PlainExpr.{PExpr}
 use Rattle.ada_expr_parser.specs.declared.items.Item.{Item}
 use Rattle.ada_expr_parser.specs.declared.errors.ParseError.{ParseError}
 use Rattle.ada_expr_parser.specs.declared.errors.ParseError.TheVariants.{Syntax, TooDeep, Memory}
 use Rattle.ada_expr_parser.specs.declared.levels.Level.{Level}
 use Rattle.ada_expr_parser.specs.declared.levels.Level.TheVariants.{Logical, Relation, Simple, Term, Factor, Primary}
-use Rattle.ada_expr_parser.specs.Tests.{operator_in}
-use Rattle.ada_expr_parser.specs.Trees.{levels, last_operator, joined}
-use Rattle.ada_expr_parser.specs.Reading.{operators, operator_rest, inner, expr_at, logical_at, relation_at, simple_at, term_at, factor_at, primary_at}
+use Rattle.ada_expr_parser.specs.Reading.{operators, inner, expr_at, logical_at, relation_at, simple_at, term_at, factor_at, primary_at}
 use Rattle.ada_expr_parser.specs.Gives.{Gives, Fails}
-use Rattle.ada_expr_parser.proofs.Places.{span_is}
 
 -- a fault of a reader is that of what goes on behind it
 pub fails_go_on : {A B : Type 0} (e : ParseError) (r : Answer Item A) (f : A → Reader Item B) → Fails e r → Fails e (go_on r f)

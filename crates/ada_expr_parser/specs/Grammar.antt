@@ -21,9 +21,11 @@ use Rattle.ada_expr_parser.specs.Trees.{span_of, levels, from_to}
 abbrev pub symbol_item : Symbol → Span → Item
 symbol_item s at = record { kind = item.Symbol s; span = at }
 
+-- the item of a name where it stands (2.3)
 abbrev pub word_item : Word → Item
 word_item w = record { kind = item.Name w.name; span = w.span }
 
+-- the item of an integer literal with this value, at this place (2.4)
 abbrev pub number_item : ℕ → Span → Item
 number_item n at = record { kind = item.Integer n; span = at }
 
@@ -136,6 +138,7 @@ pub record IsEnclosed (d : ℕ) (e : PExpr) (text : List Item) : Type 0 where
   pub nested : levels e + 1 ≤ d
   pub text_is : text ≡ symbol_item key.LeftParen lead ∷ (part ++ symbol_item key.RightParen close ∷ [])
 
+-- an index in parentheses, or nothing where there is none (4.1.1)
 abbrev pub IsIndex : ℕ → Option PExpr → List Item → Type 0
 IsIndex d None text = text ≡ []
 IsIndex d (Some e) text = IsEnclosed d e text
@@ -164,6 +167,7 @@ AreEnclosed d (e ∷ more) text =
     (lead : Span) × (front : List Item) × (back : List Item) × (close : Span) × Spells e front × (levels e + 1 ≤ d) × AreMore d more back
     × (text ≡ symbol_item key.LeftParen lead ∷ (front ++ (back ++ symbol_item key.RightParen close ∷ [])))
 
+-- the second list in parentheses after an entry's name, or nothing where there is none (6.4, 9.5)
 abbrev pub IsSecondList : ℕ → Option (List PExpr) → List Item → Type 0
 IsSecondList d None text = text ≡ []
 IsSecondList d (Some es) text = AreEnclosed d es text
@@ -188,5 +192,6 @@ abbrev pub IsChoiceOf : ℕ → PExpr → Option PExpr → List Item → Type 0
 IsChoiceOf d first None text = IsExpr Logical d first text
 IsChoiceOf d first (Some last) text = IsBounds d record { first = first; last = last } text
 
+-- a choice of a case statement, an expression or a range (3.7.3, 5.4)
 abbrev pub IsChoice : ℕ → PChoice → List Item → Type 0
 IsChoice d x text = IsChoiceOf d x.first x.last text

@@ -47,6 +47,7 @@ abbrev pub interned_if : TokenKind → List (List ℕ) → List ℕ → List (Li
 interned_if kinds.Name names text = interned names text
 interned_if _ names text = names
 
+-- the names, with that of the token too where it is an identifier (2.3; this project's rule)
 abbrev pub with_token : List ℕ → List (List ℕ) → Token → List (List ℕ)
 with_token src names token = interned_if token.kind names (name_text src token)
 

@@ -1,18 +1,18 @@
 -- How expressions are read: from left to right, by the next item. The depth is how many levels may stand below the root, and inner reads one level deeper.
 use Rattle.std.specs.Prelude.{ℕ, zero, suc, Bool, false, Option, Some, None, is_some, if◌then◌else◌}
-use Rattle.lawful_reader.specs.Readers.{Reader, pure, refuse, bind, on, token, below, items, Operators, chain, chain_in}
+use Rattle.lawful_reader.specs.Readers.{Reader, pure, refuse, bind, on, token, below, Operators, chain, chain_in}
 use Rattle.ada_tree.specs.declared.naming.Span.{Span}
 use Rattle.ada_tree.specs.declared.naming.Word.{Word}
 use Rattle.ada_tree.specs.declared.expressions.BinaryOp.{BinaryOp}
-use Rattle.ada_tree.specs.declared.expressions.BinaryOp.TheVariants.{And, Or, Xor, AndThen, OrElse}
-use Rattle.ada_tree.specs.PlainExpr.{PExpr, EInteger, EName, EIndex, EAttribute, EAttributeOf, EParen, EUnary, EBinary}
+use Rattle.ada_tree.specs.declared.expressions.BinaryOp.TheVariants.{And, Or, AndThen, OrElse}
+use Rattle.ada_tree.specs.PlainExpr.{PExpr, EInteger, EName}
 use Rattle.ada_lexer.specs.declared.symbols.Symbol.{Symbol}
 use Rattle.ada_lexer.specs.declared.symbols.Symbol.TheVariants as key
 use Rattle.ada_expr_parser.specs.declared.items.Item.{Item}
 use Rattle.ada_expr_parser.specs.declared.levels.Level.{Level}
 use Rattle.ada_expr_parser.specs.declared.levels.Level.TheVariants.{Logical, Relation, Simple, Term, Factor, Primary}
 use Rattle.ada_expr_parser.specs.Tests.{same_operator, symbol, word, number, prefix, factor_operator, sign, operator_in}
-use Rattle.ada_expr_parser.specs.Trees.{levels, last_operator, from_to, indexed, attribute, attribute_of, in_parens, with_prefix, joined}
+use Rattle.ada_expr_parser.specs.Trees.{levels, last_operator, indexed, attribute, attribute_of, in_parens, with_prefix, joined}
 
 -- an operator of one word, where it may have no second
 abbrev pub plain_unless : Bool → BinaryOp → Reader Item BinaryOp

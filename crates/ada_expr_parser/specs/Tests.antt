@@ -3,7 +3,6 @@ use Rattle.std.specs.Prelude.{ℕ, Bool, true, false, not, ◌||◌, Option, Som
 use denote.Enum.Bare.{sameb}
 use Rattle.ada_lexer.specs.contracts.symbols.Symbol as symbol_type
 use Rattle.ada_tree.specs.contracts.expressions.BinaryOp as operator_type
-use Rattle.ada_tree.specs.declared.naming.NameId.{NameId}
 use Rattle.ada_tree.specs.declared.naming.Span.{Span}
 use Rattle.ada_tree.specs.declared.naming.Word.{Word}
 use Rattle.ada_tree.specs.declared.expressions.UnaryOp.{UnaryOp}

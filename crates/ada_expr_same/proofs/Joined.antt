@@ -1,5 +1,5 @@
 -- Tests that are all asked, joined by `and`, hold exactly where all of their facts do.
-use Rattle.std.proofs.Common.{◌≡◌, ◌↔◌, ◌&&◌, Bool, true, false, IsTrue, refl, sym, true≢false}
+use Rattle.std.proofs.Common.{◌↔◌, ◌&&◌, Bool, true, false, IsTrue, refl, sym, true≢false}
 
 pub both_hold : {P Q : Type 0} (a b : Bool) → IsTrue a ↔ P → IsTrue b ↔ Q → IsTrue (a && b) ↔ (P × Q)
 both_hold true true p q = (λ e. (p.0 refl, q.0 refl), λ h. refl)

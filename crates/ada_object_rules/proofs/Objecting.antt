@@ -1,6 +1,6 @@
 -- What declarations of objects add to the table.
 use Rattle.std.specs.Prelude.{◌≡◌, ℕ, ℤ, ◌+◌, ◌<◌, Bool, true, ◌&&◌, ◌||◌, if◌then◌else◌, List, [], ◌∷◌, ◌++◌, length, map, take, get_or, Option, Some, None, option_map, refl}
-use Rattle.std.proofs.Common.{sym, ap, ◌∙◌, subst, append_assoc}
+use Rattle.std.proofs.Common.{sym, ap, ◌∙◌, append_assoc}
 use Rattle.std.proofs.lemmas.List.{map_more}
 use Rattle.ada_tree.specs.declared.naming.Word.{Word}
 use Rattle.ada_tree.specs.declared.static_types.Constant.{Constant}
@@ -24,18 +24,18 @@ use Rattle.ada_scopes.specs.declared.denotations.Range.{Range}
 use Rattle.ada_scopes.specs.declared.denotations.Thing.{Thing}
 use Rattle.ada_object_rules.specs.declared.initials.Holder.{Holder}
 use Rattle.ada_expr_rules.specs.declared.ranges.Making.{Making}
-use Rattle.ada_object_rules.specs.declared.plans.Plan.TheVariants.{Row}
+use Rattle.ada_object_rules.specs.declared.plans.Plan.TheVariants.{ConstrainedArray}
 use Rattle.ada_object_rules.specs.declared.plans.Planned.{Planned}
 use Rattle.ada_refusals.proofs.Meeting.{joined, met_append}
 use Rattle.ada_refusals.proofs.Meeting.{names_met}
 
 -- an array of a type of its own
-pub row_declared : (scope between after : Scope) (constant : Bool) (index : Option Range) (making : Making) (part mark : Option ℕ) (thing : Thing)
+pub array_declared : (scope between after : Scope) (constant : Bool) (index : Option Range) (making : Making) (part mark : Option ℕ) (thing : Thing)
     → IsMade scope (made_as scope.types making) between part
     → IsMade between (made_array None between.types (option_map plain_range index) part) after mark
     → plain_thing thing ≡ object_of constant mark
-    → IsDeclared scope (declared_as scope constant (Row index making)) after thing
-row_declared scope between after constant index making part mark thing h g is_thing = record {
+    → IsDeclared scope (declared_as scope constant (ConstrainedArray index making)) after thing
+array_declared scope between after constant index making part mark thing h g is_thing = record {
   scope_is =
       g.scope_is
       ∙ ap (λ s. with_types (made_array None s.types (option_map plain_range index) part).types s) h.scope_is

@@ -6,23 +6,23 @@ use Rattle.ada_tree.specs.declared.static_types.Kind.TheVariants.{Integer, Truth
 use Rattle.ada_tree.specs.declared.static_types.Mark.{Mark}
 use Rattle.ada_tree.specs.TypeTable.{TypeTable}
 use Rattle.ada_tree.specs.PlainExpr.{PBounds, PSubind, PDrange}
-use Rattle.ada_tree.specs.PlainDecl.{PInit, OPlain, ORow}
-use Rattle.ada_tree.specs.Scope.{Scope, Range, Thing, TypeMark, TaskType, SingleTask, TaskObject, TaskRow, Variable, ConstantObject, Parameter, LoopParameter, Literal, AnException, MainProcedure, AnotherUnit, Unclear, Marking, ScalarMark, ArrayMark, TaskMark, NoMark, UnknownMark, UnclearMark, meaning, marking, marking_of, marking_of_mark, marking_of_kind, mark_at, kind_at, range_of_mark}
+use Rattle.ada_tree.specs.PlainDecl.{PInit, OPlain, OArray}
+use Rattle.ada_tree.specs.Scope.{Scope, Range, Thing, TypeMark, TaskType, SingleTask, TaskObject, TaskArray, Variable, ConstantObject, Parameter, LoopParameter, Literal, AnException, MainProcedure, AnotherUnit, Unclear, Marking, ScalarMark, ArrayMark, TaskMark, NoMark, UnknownMark, UnclearMark, meaning, marking, marking_of, marking_of_mark, marking_of_kind, mark_at, kind_at, range_of_mark}
 use Rattle.ada_tree.specs.ExprTypes.{static_in, range_between}
 use Rattle.ada_tree.specs.Demand.{for_scalar, for_array, initializes, Site}
-use Rattle.ada_tree.specs.Declaring.{Declared, of_made, made_none, made_range, made_array, mark_for, add_mark, subind_made, made_subind, marked_range, drange_range, plain_object, row_object}
+use Rattle.ada_tree.specs.Declaring.{Declared, of_made, made_none, made_range, made_array, mark_for, add_mark, subind_made, made_subind, marked_range, drange_range, plain_object, array_object}
 use Rattle.ada_tree.specs.Sites.{site, scalar_init_sites, array_init_sites, init_sites, object_marking}
 use Rattle.ada_scopes.specs.Readings.{plain_marking}
 use Rattle.ada_scopes.specs.Entries.{plain_range}
 use Rattle.ada_object_rules.specs.inner.Initials.{holder_sites}
 use Rattle.ada_expr_rules.specs.Ranges.{made_as}
-use Rattle.ada_object_rules.specs.inner.Plans.{scalar_sites, row_sites, IsPlanned}
+use Rattle.ada_object_rules.specs.inner.Plans.{scalar_sites, array_sites, IsPlanned}
 use Rattle.ada_scopes.specs.declared.denotations.Range as code_range
 use Rattle.ada_scopes.specs.declared.readings.Marking as code
 use Rattle.ada_scopes.specs.declared.readings.Marking.TheVariants as code_mark
 use Rattle.ada_object_rules.specs.declared.initials.Holder.{Holder}
 use Rattle.ada_expr_rules.specs.declared.ranges.Making.{Making}
-use Rattle.ada_object_rules.specs.declared.plans.Plan.TheVariants.{Object, Row}
+use Rattle.ada_object_rules.specs.declared.plans.Plan.TheVariants.{Object, ConstrainedArray}
 
 -- ---- lists that are one longer
 
@@ -86,7 +86,7 @@ found_as types (Some (TypeMark m)) = mark_found types m (mark_at types m) refl
 found_as types (Some (TaskType entries)) = tt
 found_as types (Some (SingleTask entries)) = tt
 found_as types (Some (TaskObject entries)) = tt
-found_as types (Some (TaskRow range entries)) = tt
+found_as types (Some (TaskArray range entries)) = tt
 found_as types (Some (Variable m)) = tt
 found_as types (Some (ConstantObject m)) = tt
 found_as types (Some (Parameter mode m)) = tt
@@ -161,7 +161,7 @@ own_marking types index part =
     ∙ ap (marking_of_kind (length types.marks) (length types.kinds)) (seam types.kinds (Array index.kind index.first index.last part))
 
 own_held : (scope : Scope) (constant : Bool) (types : TypeTable) (index : Range) (part : ℕ) (mark : Mark) (value : PInit) → mark_at types part ≡ Some mark
-    → row_sites scope (Some index) (Some (range_of mark)) value ≡ init_sites scope (array_of types index part) (object_marking (of_made constant (made_array None types (Some index) (Some part)))) value
+    → array_sites scope (Some index) (Some (range_of mark)) value ≡ init_sites scope (array_of types index part) (object_marking (of_made constant (made_array None types (Some index) (Some part)))) value
 own_held scope true types index part mark value h =
     ap (λ o. as_array scope index (option_map range_of o) value) (sym (kept types.marks (array_mark types index) mark part h))
     ∙ ap (λ mk. init_sites scope (array_of types index part) mk value) (sym (own_marking types index part))
@@ -169,36 +169,36 @@ own_held scope false types index part mark value h =
     ap (λ o. as_array scope index (option_map range_of o) value) (sym (kept types.marks (array_mark types index) mark part h))
     ∙ ap (λ mk. init_sites scope (array_of types index part) mk value) (sym (own_marking types index part))
 
-between_row : (scope : Scope) (constant : Bool) (index : Range) (k : ℕ) (low high : Option ℤ) (value : PInit)
-    → row_sites scope (Some index) (range_between k low high) value
+between_array : (scope : Scope) (constant : Bool) (index : Range) (k : ℕ) (low high : Option ℤ) (value : PInit)
+    → array_sites scope (Some index) (range_between k low high) value
     ≡ init_sites scope (made_array None (made_range scope.types (range_between k low high)).types (Some index) (made_range scope.types (range_between k low high)).mark).types
     (object_marking (of_made constant (made_array None (made_range scope.types (range_between k low high)).types (Some index) (made_range scope.types (range_between k low high)).mark))) value
-between_row scope constant index k None high value = none_held scope constant scope.types value
-between_row scope constant index k (Some low) None value = none_held scope constant scope.types value
-between_row scope constant index k (Some low) (Some high) value =
+between_array scope constant index k None high value = none_held scope constant scope.types value
+between_array scope constant index k (Some low) None value = none_held scope constant scope.types value
+between_array scope constant index k (Some low) (Some high) value =
     let mark : Mark = mark_for None record { kind = k; first = low; last = high } in
     own_held scope constant (add_mark scope.types mark) index (length scope.types.marks) mark value (seam scope.types.marks mark)
 
-known_row : (scope : Scope) (constant : Bool) (index : Range) (marking : Marking) (bounds : Option PBounds) (value : PInit) → Found scope.types marking
-    → row_sites scope (Some index) (marked_range scope marking bounds) value
+known_array : (scope : Scope) (constant : Bool) (index : Range) (marking : Marking) (bounds : Option PBounds) (value : PInit) → Found scope.types marking
+    → array_sites scope (Some index) (marked_range scope marking bounds) value
     ≡ init_sites scope (made_array None (subind_made scope marking bounds).types (Some index) (subind_made scope marking bounds).mark).types
     (object_marking (of_made constant (made_array None (subind_made scope marking bounds).types (Some index) (subind_made scope marking bounds).mark))) value
-known_row scope constant index (ScalarMark m k) None value h =
-    ap (λ o. row_sites scope (Some index) (option_map range_of o) value) h.mark_is
+known_array scope constant index (ScalarMark m k) None value h =
+    ap (λ o. array_sites scope (Some index) (option_map range_of o) value) h.mark_is
     ∙ own_held scope constant scope.types index m h.mark value h.mark_is
-known_row scope constant index (ScalarMark m k) (Some b) value h = between_row scope constant index k (static_in scope k b.first) (static_in scope k b.last) value
-known_row scope constant index (ArrayMark m range part) bounds value h = none_held scope constant scope.types value
-known_row scope constant index (TaskMark entries) bounds value h = none_held scope constant scope.types value
-known_row scope constant index NoMark bounds value h = none_held scope constant scope.types value
-known_row scope constant index UnknownMark bounds value h = none_held scope constant scope.types value
-known_row scope constant index UnclearMark bounds value h = none_held scope constant scope.types value
+known_array scope constant index (ScalarMark m k) (Some b) value h = between_array scope constant index k (static_in scope k b.first) (static_in scope k b.last) value
+known_array scope constant index (ArrayMark m range part) bounds value h = none_held scope constant scope.types value
+known_array scope constant index (TaskMark entries) bounds value h = none_held scope constant scope.types value
+known_array scope constant index NoMark bounds value h = none_held scope constant scope.types value
+known_array scope constant index UnknownMark bounds value h = none_held scope constant scope.types value
+known_array scope constant index UnclearMark bounds value h = none_held scope constant scope.types value
 
-pub row_held : (scope : Scope) (constant : Bool) (index : Option Range) (marking : Marking) (bounds : Option PBounds) (value : PInit) → Found scope.types marking
-    → row_sites scope index (marked_range scope marking bounds) value
+pub constrained_held : (scope : Scope) (constant : Bool) (index : Option Range) (marking : Marking) (bounds : Option PBounds) (value : PInit) → Found scope.types marking
+    → array_sites scope index (marked_range scope marking bounds) value
     ≡ init_sites scope (made_array None (subind_made scope marking bounds).types index (subind_made scope marking bounds).mark).types
     (object_marking (of_made constant (made_array None (subind_made scope marking bounds).types index (subind_made scope marking bounds).mark))) value
-row_held scope constant None marking bounds value h = none_held scope constant (subind_made scope marking bounds).types value
-row_held scope constant (Some index) marking bounds value h = known_row scope constant index marking bounds value h
+constrained_held scope constant None marking bounds value h = none_held scope constant (subind_made scope marking bounds).types value
+constrained_held scope constant (Some index) marking bounds value h = known_array scope constant index marking bounds value h
 
 -- ---- plans
 
@@ -246,16 +246,16 @@ of_plain scope constant NoMark x h = refl
 of_plain scope constant UnknownMark x h = refl
 of_plain scope constant UnclearMark x h = refl
 
-abbrev own_row : Scope → Bool → PDrange → PSubind → Declared
-own_row scope constant index x = of_made constant (made_array None (made_subind scope x).types (drange_range scope index) (made_subind scope x).mark)
+abbrev own_array : Scope → Bool → PDrange → PSubind → Declared
+own_array scope constant index x = of_made constant (made_array None (made_subind scope x).types (drange_range scope index) (made_subind scope x).mark)
 
-of_row : (scope : Scope) (constant : Bool) (marking : Marking) (index : PDrange) (x : PSubind) → IsNoTask marking → own_row scope constant index x ≡ row_object scope constant marking index x
-of_row scope constant (ScalarMark m k) index x h = refl
-of_row scope constant (ArrayMark m range part) index x h = refl
-of_row scope constant (TaskMark entries) index x h = absurd h
-of_row scope constant NoMark index x h = refl
-of_row scope constant UnknownMark index x h = refl
-of_row scope constant UnclearMark index x h = refl
+of_array : (scope : Scope) (constant : Bool) (marking : Marking) (index : PDrange) (x : PSubind) → IsNoTask marking → own_array scope constant index x ≡ array_object scope constant marking index x
+of_array scope constant (ScalarMark m k) index x h = refl
+of_array scope constant (ArrayMark m range part) index x h = refl
+of_array scope constant (TaskMark entries) index x h = absurd h
+of_array scope constant NoMark index x h = refl
+of_array scope constant UnknownMark index x h = refl
+of_array scope constant UnclearMark index x h = refl
 
 -- objects of a mark that is none of an array and of tasks
 pub plain_planned : (scope : Scope) (x : PSubind) (making : Making) (holder : Holder) (range : Option Range) → IsPlainMark (marking scope x.mark.name)
@@ -275,14 +275,14 @@ plain_planned scope x making holder range is_plain is_made is_range held constan
     }
 
 -- arrays of a type of their own, whose components are no tasks
-pub row_planned : (scope : Scope) (index : PDrange) (x : PSubind) (at : Option code_range.Range) (making : Making) (holder : Holder) (range : Option Range) → IsNoTask (marking scope x.mark.name)
+pub array_planned : (scope : Scope) (index : PDrange) (x : PSubind) (at : Option code_range.Range) (making : Making) (holder : Holder) (range : Option Range) → IsNoTask (marking scope x.mark.name)
     → option_map plain_range at ≡ drange_range scope index
     → made_as scope.types making ≡ made_subind scope x
     → range ≡ marked_range scope (marking scope x.mark.name) x.bounds
-    → ((s : Scope) (value : PInit) → holder_sites s holder value ≡ row_sites s (option_map plain_range at) range value)
-    → (constant : Bool) → IsPlanned scope constant (ORow index x) record { plan = Row at making; holder = holder }
-row_planned scope index x at making holder range is_row is_index is_made is_range held constant =
-    let same : own_row scope constant index x ≡ row_object scope constant (marking scope x.mark.name) index x = of_row scope constant (marking scope x.mark.name) index x is_row in
+    → ((s : Scope) (value : PInit) → holder_sites s holder value ≡ array_sites s (option_map plain_range at) range value)
+    → (constant : Bool) → IsPlanned scope constant (OArray index x) record { plan = ConstrainedArray at making; holder = holder }
+array_planned scope index x at making holder range is_array is_index is_made is_range held constant =
+    let same : own_array scope constant index x ≡ array_object scope constant (marking scope x.mark.name) index x = of_array scope constant (marking scope x.mark.name) index x is_array in
     record {
       declared_is =
           ap (λ m. of_made constant (made_array None m.types (option_map plain_range at) m.mark)) is_made
@@ -290,8 +290,8 @@ row_planned scope index x at making holder range is_row is_index is_made is_rang
           ∙ same;
       holder_is = λ value.
           held scope value
-          ∙ ap (λ i. row_sites scope i range value) is_index
-          ∙ ap (λ r. row_sites scope (drange_range scope index) r value) is_range
-          ∙ row_held scope constant (drange_range scope index) (marking scope x.mark.name) x.bounds value (found_as scope.types (meaning scope x.mark.name))
+          ∙ ap (λ i. array_sites scope i range value) is_index
+          ∙ ap (λ r. array_sites scope (drange_range scope index) r value) is_range
+          ∙ constrained_held scope constant (drange_range scope index) (marking scope x.mark.name) x.bounds value (found_as scope.types (meaning scope x.mark.name))
           ∙ ap (λ d. init_sites scope d.types (object_marking d) value) same;
     }

@@ -2,7 +2,7 @@
 
 ghost use Rattle.std.specs.Prelude.{◌≡◌, ℕ, if◌then◌else◌, option_map, IfOk, OnOk, Some};
 ghost use Rattle.ada_tree.specs.PlainDecl.{plain_init, plain_shape};
-ghost use Rattle.ada_tree.specs.Declaring.{declared_object, after_object, object_of, task_object, task_row, constant_mark, kind_at_mark, initial_value, add_constants, with_names, with_types};
+ghost use Rattle.ada_tree.specs.Declaring.{declared_object, after_object, object_of, task_object, task_array, constant_mark, kind_at_mark, initial_value, add_constants, with_names, with_types};
 ghost use Rattle.ada_tree.specs.Sites.{if_there, is_task_object, object_sites};
 ghost use Rattle.ada_refusals.specs.RefusedFirst.{refused_first};
 ghost use Rattle.ada_scopes.specs.Entries.{plain_range};
@@ -60,12 +60,12 @@ fn task(in_main: bool, entries: Rc<Entries>) -> Thing
 
 // An array of tasks, which is declared in main alone.
 fn tasks(in_main: bool, range: Option<Range>, entries: Rc<Entries>) -> Thing
-    ensures { plain_thing result ≡ task_row in_main (option_map plain_range range) entries.value }
+    ensures { plain_thing result ≡ task_array in_main (option_map plain_range range) entries.value }
 {
     match range {
         Some(range) => {
             if in_main {
-                Thing::TaskRow(range, entries)
+                Thing::TaskArray(range, entries)
             } else {
                 Thing::Unclear
             }
@@ -83,7 +83,7 @@ fn make_objects(scope: Scope, constant: bool, plan: Plan) -> Result<(Scope, Thin
             let thing = task(scope.is_in_main(), entries);
             Ok((scope, thing))
         }
-        Plan::TaskRow(range, entries) => {
+        Plan::TaskArray(range, entries) => {
             let thing = tasks(scope.is_in_main(), range, entries);
             Ok((scope, thing))
         }
@@ -91,7 +91,7 @@ fn make_objects(scope: Scope, constant: bool, plan: Plan) -> Result<(Scope, Thin
             let (scope, mark) = make(scope, making)?;
             Ok((scope, object(constant, mark)))
         }
-        Plan::Row(index, making) => {
+        Plan::ConstrainedArray(index, making) => {
             let (scope, part) = make(scope, making)?;
             let (scope, mark) = make_array(scope, None, index, part)?;
             Ok((scope, object(constant, mark)))

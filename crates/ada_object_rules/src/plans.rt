@@ -2,7 +2,7 @@
 
 ghost use Rattle.std.specs.Prelude.{◌≡◌, Bool, IfOk, option_map};
 ghost use Rattle.ada_tree.specs.PlainExpr.{plain_subind, plain_drange};
-ghost use Rattle.ada_tree.specs.PlainDecl.{PInit, plain_init, plain_shape, OPlain, ORow};
+ghost use Rattle.ada_tree.specs.PlainDecl.{PInit, plain_init, plain_shape, OPlain, OArray};
 ghost use Rattle.ada_tree.specs.Scope as scope;
 ghost use Rattle.ada_tree.specs.Scope.{marking};
 ghost use Rattle.ada_tree.specs.Declaring.{made_subind, marked_range, drange_range};
@@ -11,10 +11,10 @@ ghost use Rattle.ada_refusals.specs.RefusedFirst.{refused_first};
 ghost use Rattle.ada_scopes.specs.Entries.{plain_range};
 ghost use Rattle.ada_object_rules.specs.inner.Initials.{holder_sites};
 ghost use Rattle.ada_expr_rules.specs.Ranges.{made_as, range_as};
-ghost use Rattle.ada_object_rules.specs.inner.Plans.{scalar_sites, row_sites, IsPlanned, IsShape};
+ghost use Rattle.ada_object_rules.specs.inner.Plans.{scalar_sites, array_sites, IsPlanned, IsShape};
 
 use crate::initials::Holder;
-use crate::shapes::{walk_plain, walk_row};
+use crate::shapes::{walk_array, walk_plain};
 use ada_expr_rules::ranges::{Making, range_made};
 use ada_refusals::refusals::Refusal;
 use ada_scopes::denotations::{Entries, Range};
@@ -28,9 +28,9 @@ use std::rc::Rc;
 #[derive(Drop)]
 pub(crate) enum Plan {
     Task(Rc<Entries>),
-    TaskRow(Option<Range>, Rc<Entries>),
+    TaskArray(Option<Range>, Rc<Entries>),
     Object(Making),
-    Row(Option<Range>, Making),
+    ConstrainedArray(Option<Range>, Making),
 }
 
 /// What a declaration of objects is to make, and what its initial value is for.
@@ -58,8 +58,8 @@ fn scalar_holder(range: Option<Range>) -> Holder
 }
 
 // What the initial value of an array is for.
-fn row_holder(index: Option<Range>, part: Option<Range>) -> Holder
-    ensures { (scope : scope.Scope) (value : PInit) → holder_sites scope result value ≡ row_sites scope (option_map plain_range index) (option_map plain_range part) value }
+fn array_holder(index: Option<Range>, part: Option<Range>) -> Holder
+    ensures { (scope : scope.Scope) (value : PInit) → holder_sites scope result value ≡ array_sites scope (option_map plain_range index) (option_map plain_range part) value }
 {
     match index {
         Some(index) => match part {
@@ -95,7 +95,7 @@ fn plan_plain(scope: &Scope, subind: &Subind, making: Making) -> Result<Planned,
 }
 
 // What objects of an array type of their own make, by the range of its index and what the subtype indication of its components makes.
-fn plan_row(
+fn plan_array(
     scope: &Scope,
     index: &Drange,
     range: Option<Range>,
@@ -105,11 +105,11 @@ fn plan_row(
     requires index { option_map plain_range range ≡ drange_range scope.now (plain_drange index.now) }
     requires made { made_as scope.now.types making ≡ made_subind scope.now (plain_subind part.now) }
     requires range { range_as scope.now.types making ≡ marked_range scope.now (marking scope.now part.now.mark.name) (plain_subind part.now).bounds }
-    ensures { IfOk result (λ planned. (constant : Bool) → IsPlanned scope.now constant (ORow (plain_drange index.now) (plain_subind part.now)) planned) }
+    ensures { IfOk result (λ planned. (constant : Bool) → IsPlanned scope.now constant (OArray (plain_drange index.now) (plain_subind part.now)) planned) }
 {
     match mark_named(scope, part.mark.name) {
         Marking::Task(entries) => Ok(Planned {
-            plan: Plan::TaskRow(range, entries.clone()?),
+            plan: Plan::TaskArray(range, entries.clone()?),
             holder: Holder::Unclear,
         }),
         Marking::Array { .. }
@@ -117,8 +117,8 @@ fn plan_row(
         | Marking::NoMark
         | Marking::Unknown
         | Marking::Unclear => Ok(Planned {
-            plan: Plan::Row(range, making),
-            holder: row_holder(range, range_made(scope, making)),
+            plan: Plan::ConstrainedArray(range, making),
+            holder: array_holder(range, range_made(scope, making)),
         }),
     }
 }
@@ -140,10 +140,10 @@ pub(crate) fn walk_shape(
                 refusal: walked.refusal,
             })
         }
-        Shape::Row { index, part } => {
-            let walked = walk_row(scope, constant, index, part, init);
+        Shape::ConstrainedArray { index, part } => {
+            let walked = walk_array(scope, constant, index, part, init);
             Ok(WalkedShape {
-                planned: plan_row(scope, index, walked.index, part, walked.part)?,
+                planned: plan_array(scope, index, walked.index, part, walked.part)?,
                 refusal: walked.refusal,
             })
         }

@@ -2,11 +2,11 @@
 
 ghost use Rattle.std.specs.Prelude.{◌≡◌, option_map};
 ghost use Rattle.ada_tree.specs.PlainExpr.{plain_bounds, plain_subind, plain_drange};
-ghost use Rattle.ada_tree.specs.PlainDecl.{plain_init, OPlain, ORow};
+ghost use Rattle.ada_tree.specs.PlainDecl.{plain_init, OPlain, OArray};
 ghost use Rattle.ada_tree.specs.Sites.{may_be_task, object_marks, component_marks, shape_sites};
 ghost use Rattle.ada_expr_rules.specs.Plain.{plain_use};
 ghost use Rattle.ada_expr_rules.specs.Ranges.{IsSubind};
-ghost use Rattle.ada_object_rules.specs.inner.Shapes.{IsRow};
+ghost use Rattle.ada_object_rules.specs.inner.Shapes.{IsArray};
 
 use ada_expr_rules::marks::MarkUse;
 use ada_expr_rules::ranges::{Making, WalkedSubind, walk_range, walk_subind};
@@ -17,7 +17,7 @@ use ada_tree::{Bounds, Drange, Init, Subind};
 
 /// The index range of an array that is declared with an object, what its components' subtype indication makes, and the first refusal at the places of both.
 #[derive(Drop)]
-pub(crate) struct WalkedRow {
+pub(crate) struct WalkedArray {
     pub index: Option<Range>,
     pub part: Making,
     pub refusal: Option<Refusal>,
@@ -72,19 +72,19 @@ pub(crate) fn walk_plain(
 }
 
 /// Walks what an object of an array type of its own is declared as.
-pub(crate) fn walk_row(
+pub(crate) fn walk_array(
     scope: &Scope,
     constant: bool,
     index: &Drange,
     part: &Subind,
     init: &Option<Init>,
-) -> WalkedRow
-    ensures { IsRow (shape_sites scope.now constant (ORow (plain_drange index.now) (plain_subind part.now)) (option_map plain_init init.now)) scope.now (plain_drange index.now) (plain_subind part.now) result }
+) -> WalkedArray
+    ensures { IsArray (shape_sites scope.now constant (OArray (plain_drange index.now) (plain_subind part.now)) (option_map plain_init init.now)) scope.now (plain_drange index.now) (plain_subind part.now) result }
 {
     let task = may_be_task(scope, constant, &part.bounds, init);
     let range = walk_range(scope, true, index);
     let component = walk_subind(scope, true, component_use(task), part);
-    WalkedRow {
+    WalkedArray {
         index: range.range,
         part: component.making,
         refusal: first(range.refusal, component.refusal),

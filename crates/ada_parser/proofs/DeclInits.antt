@@ -12,7 +12,7 @@ use Rattle.lawful_reader.proofs.Looking.{careful_look}
 use Rattle.lawful_reader.proofs.Fitting.{law_fit}
 use Rattle.ada_tree.specs.declared.naming.Span.{Span}
 use Rattle.ada_tree.specs.PlainExpr.{PExpr, EInteger, EName, EIndex, EAttribute, EAttributeOf, EParen, EUnary, EBinary, PSubind, PDrange}
-use Rattle.ada_tree.specs.PlainDecl.{PShape, OPlain, ORow, PInit, IOne, IList, IOthers}
+use Rattle.ada_tree.specs.PlainDecl.{PShape, OPlain, OArray, PInit, IOne, IList, IOthers}
 use Rattle.ada_tree.specs.declared.expressions.UnaryOp.{UnaryOp}
 use Rattle.ada_tree.specs.declared.expressions.UnaryOp.TheVariants as unary
 use Rattle.ada_lexer.specs.declared.symbols.Symbol.TheVariants as key
@@ -70,19 +70,19 @@ RowTexts e v = Key key.LeftParen ▷ Drange e v.0 ▷ Key key.RightParen ▷ Key
 abbrev pub Shapes : Texts Item PShape
 Shapes d x text = IsShape d x text
 
-shape_is : (d : ℕ) (x : PShape) (text : List Item) → Or (Then (One (symbol key.Array)) (λ at. Made {V = PDrange × PSubind} (λ v. ORow v.0 v.1) RowTexts)) (Made OPlain Subinds) d x text → IsShape d x text
+shape_is : (d : ℕ) (x : PShape) (text : List Item) → Or (Then (One (symbol key.Array)) (λ at. Made {V = PDrange × PSubind} (λ v. OArray v.0 v.1) RowTexts)) (Made OPlain Subinds) d x text → IsShape d x text
 shape_is d x text (inl is) =
-    let (front, back, from, mark, (v, same, rest)) = key_taken key.Array (Made {V = PDrange × PSubind} (λ v. ORow v.0 v.1) RowTexts) d x text is in rw same (front, back, from, mark, rest)
+    let (front, back, from, mark, (v, same, rest)) = key_taken key.Array (Made {V = PDrange × PSubind} (λ v. OArray v.0 v.1) RowTexts) d x text is in rw same (front, back, from, mark, rest)
 shape_is d x text (inr (y, same, is)) = rw same is
 
-is_shape : (d : ℕ) (x : PShape) (text : List Item) → IsShape d x text → Or (Then (One (symbol key.Array)) (λ at. Made {V = PDrange × PSubind} (λ v. ORow v.0 v.1) RowTexts)) (Made OPlain Subinds) d x text
+is_shape : (d : ℕ) (x : PShape) (text : List Item) → IsShape d x text → Or (Then (One (symbol key.Array)) (λ at. Made {V = PDrange × PSubind} (λ v. OArray v.0 v.1) RowTexts)) (Made OPlain Subinds) d x text
 is_shape d (OPlain y) text is = inr (y, refl, is)
-is_shape d (ORow r y) text (front, back, from, mark, rest) = inl (taken_key key.Array (Made {V = PDrange × PSubind} (λ v. ORow v.0 v.1) RowTexts) d (ORow r y) text (front, back, from, mark, ((r, y), refl, rest)))
+is_shape d (OArray r y) text (front, back, from, mark, rest) = inl (taken_key key.Array (Made {V = PDrange × PSubind} (λ v. OArray v.0 v.1) RowTexts) d (OArray r y) text (front, back, from, mark, ((r, y), refl, rest)))
 
 pub law_shape : (d : ℕ) → Lawful d (reading.shape d) (reading.shape (suc d)) Shapes EndsMark
 law_shape d = law_fit (λ e deep x text is. shape_is e x text is) (is_shape d)
     (law_on {test = symbol key.Array}
-    (λ at. law_array_then ORow (λ r e x. Subind e x) (λ r. made_pure (ORow r) (law_subind d)))
+    (λ at. law_array_then OArray (λ r e x. Subind e x) (λ r. made_pure (OArray r) (law_subind d)))
     (made_pure OPlain (law_subind d)).careful
     (record { begins_with = λ a text x (y, same, is) stop. rw is.text_is refl })
     (symbol_item key.Array no_place) no_place (symbol_takes key.Array no_place))

@@ -9,7 +9,7 @@ use Rattle.lawful_reader.proofs.Fitting.{starts_or, starts_token, first_append, 
 use Rattle.ada_tree.specs.declared.naming.Span.{Span}
 use Rattle.ada_tree.specs.declared.naming.Word.{Word}
 use Rattle.ada_tree.specs.PlainExpr.{PExpr}
-use Rattle.ada_tree.specs.PlainDecl.{PShape, OPlain, ORow, PInit, PDecl, DNumber, DObject, DEnumeration, DArray, DSubtype, DException, DIntIo, DPragma, DTask, DTaskBody}
+use Rattle.ada_tree.specs.PlainDecl.{PShape, OPlain, OArray, PInit, PDecl, DNumber, DObject, DEnumeration, DArray, DSubtype, DException, DIntIo, DPragma, DTask, DTaskBody}
 use Rattle.ada_lexer.specs.declared.symbols.Symbol.{Symbol}
 use Rattle.ada_lexer.specs.declared.symbols.Symbol.TheVariants as key
 use Rattle.ada_expr_parser.specs.declared.items.Item.{Item}
@@ -70,7 +70,7 @@ constant_no_exception at = refl
 -- a shape begins with `array` or a name
 shape_first : (R : Item → Type 0) (d : ℕ) (x : PShape) (text : List Item) (y : Item) → ((at : Span) → R (symbol_item key.Array at)) → ((w : Word) → R (word_item w)) → IsShape d x text → R (first_of y text)
 shape_first R d (OPlain x) text y row name is = rw is.text_is (name x.mark)
-shape_first R d (ORow r x) text y row name (front, back, from, (at, one), rest) = rw from (rw one (row at))
+shape_first R d (OArray r x) text y row name (front, back, from, (at, one), rest) = rw from (rw one (row at))
 
 -- ---- behind `NAME {, NAME} :`
 

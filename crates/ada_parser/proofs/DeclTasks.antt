@@ -19,7 +19,7 @@ use Rattle.ada_expr_parser.specs.Grammar.{symbol_item}
 use Rattle.ada_expr_laws.proofs.Tokens.{symbol_is, symbol_takes}
 use Rattle.ada_expr_laws.proofs.Primaries.{no_place}
 use Rattle.ada_expr_laws.proofs.Plainly.{after_symbol, symbol_then}
-use Rattle.ada_phrase_parser.specs.Spelling.{Source, Spelling, ◌▷◌, Either, Key, Row}
+use Rattle.ada_phrase_parser.specs.Spelling.{Source, Spelling, ◌▷◌, Either, Key, ListOf}
 use Rattle.ada_task_parser.specs.Tasks.{Member, MEntry, MPriority, IsMember, TaskRest}
 use Rattle.ada_task_parser.specs.inner.ReadingTasks as tasks
 use Rattle.ada_parser.proofs.KitPieces.{KeyAt, Closing, closing_key, closing_then, after_key}
@@ -85,11 +85,11 @@ module _ (source : Source) where
     opens (MEntry x) text is = let (lead, back, from, rest) = after_key key.Entry _ text is.0 in (symbol_item key.Entry lead, back, from, entry_begins lead)
     opens (MPriority e) text is = let (lead, back, from, rest) = after_key key.Pragma _ text is in (symbol_item key.Pragma lead, back, from, pragma_begins lead)
 
-  row_many : (d : ℕ) (ms : List Member) (text : List Item) → Row (IsMember source d) ms text → Many MemberTexts d ms text
+  row_many : (d : ℕ) (ms : List Member) (text : List Item) → ListOf (IsMember source d) ms text → Many MemberTexts d ms text
   row_many d [] text none = none
   row_many d (m ∷ ms) text (front, back, from, is, rest) = (front, back, from, is, row_many d ms back rest)
 
-  many_row : (d : ℕ) (ms : List Member) (text : List Item) → Many MemberTexts d ms text → Row (IsMember source d) ms text
+  many_row : (d : ℕ) (ms : List Member) (text : List Item) → Many MemberTexts d ms text → ListOf (IsMember source d) ms text
   many_row d [] text none = none
   many_row d (m ∷ ms) text (front, back, from, is, rest) = (front, back, from, is, many_row d ms back rest)
 
@@ -97,7 +97,7 @@ module _ (source : Source) where
   EndsMembers x = tasks.begins_member x ≡ false
 
   abbrev RowTexts : Texts Item (List Member)
-  RowTexts d ms text = Row (IsMember source d) ms text
+  RowTexts d ms text = ListOf (IsMember source d) ms text
 
   law_members : (d : ℕ) → Lawful d (items tasks.begins_member (tasks.member source d)) (items tasks.begins_member (tasks.member source (suc d))) RowTexts EndsMembers
   law_members d = law_fit (λ e deep ms text is. many_row e ms text is) (row_many d)
@@ -107,7 +107,7 @@ module _ (source : Source) where
 
   abbrev pub RestShut : ℕ → Word → List Member → Span → Spelling
   RestShut d w [] close = Either (KeyAt key.Semicolon close) (Key key.Is ▷ Key key.End ▷ NameEnd w close)
-  RestShut d w (m ∷ ms) close = Key key.Is ▷ Row (IsMember source d) (m ∷ ms) ▷ Key key.End ▷ NameEnd w close
+  RestShut d w (m ∷ ms) close = Key key.Is ▷ ListOf (IsMember source d) (m ∷ ms) ▷ Key key.End ▷ NameEnd w close
 
   closing_either : {Shut Shut' : Span → Spelling} {P Q : Spelling} → Closing Shut P → Closing Shut' Q → Closing (λ close. Either (Shut close) (Shut' close)) (Either P Q)
   closing_either one other = record {
@@ -120,10 +120,10 @@ module _ (source : Source) where
 
   pub rest_closing : (d : ℕ) (w : Word) (ms : List Member) → Closing (RestShut d w ms) (TaskRest source d w ms)
   rest_closing d w [] = closing_either (closing_key key.Semicolon) (closing_then (Key key.Is) (closing_end w))
-  rest_closing d w (m ∷ ms) = closing_then (Key key.Is) (closing_then (Row (IsMember source d) (m ∷ ms)) (closing_end w))
+  rest_closing d w (m ∷ ms) = closing_then (Key key.Is) (closing_then (ListOf (IsMember source d) (m ∷ ms)) (closing_end w))
 
   abbrev MembersTexts : Span → Bool → Word → Texts Item PDecl
-  MembersTexts lead of_kind w = Made {V = List Member × Span} (λ v. DTask (tasks.task_of of_kind w v.0) (from_to lead v.1)) (λ d v. Key key.Is ▷ Row (IsMember source d) v.0 ▷ Key key.End ▷ NameEnd w v.1)
+  MembersTexts lead of_kind w = Made {V = List Member × Span} (λ v. DTask (tasks.task_of of_kind w v.0) (from_to lead v.1)) (λ d v. Key key.Is ▷ ListOf (IsMember source d) v.0 ▷ Key key.End ▷ NameEnd w v.1)
 
   abbrev pub RestTexts : Span → Bool → Word → Texts Item PDecl
   RestTexts lead of_kind w = Made {V = List Member × Span} (λ v. DTask (tasks.task_of of_kind w v.0) (from_to lead v.1)) (λ d v. RestShut d w v.0 v.1)

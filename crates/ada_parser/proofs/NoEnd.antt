@@ -8,13 +8,13 @@ use Rattle.ada_tree.specs.declared.statements.ParMode.{ParMode}
 use Rattle.ada_tree.specs.declared.statements.ParMode.TheVariants.{Take, Give, Both}
 use Rattle.ada_tree.specs.PlainExpr.{PExpr, EInteger, EName, EIndex, EAttribute, EAttributeOf, EParen, EUnary, EBinary, PBounds, PSubind, PDrange, RGiven, RMarked}
 use Rattle.ada_tree.specs.PlainStmt.{PTarget, PCallee, PArgs, PCall, PFormal, PPart, PWords, PValue, PChoice, PScheme, LWhile, LFor, PHead, PStmt, SNull, SAssign, SDelay, SExit, SRaise, SAbort, SCall, SAccept, SWait, SConditional, STimed, SPut, SPutLine, SNewLine, SGet, SIf, SCase, SBlock, SLoop, PStmts, no_stmt, stmt_then, PMaybe, absent, present, PAccept, accepting, PAlt, alternative, PAltKind, AAccept, ADelay, ATerminate, PAlts, no_alt, alt_then, PArm, arm, PArms, no_arm, arm_then, PCaseArm, case_arm, PCaseArms, no_case_arm, case_arm_then, PBody, body, PHandler, handler, PHandlers, no_handler, handler_then}
-use Rattle.ada_tree.specs.PlainDecl.{PShape, OPlain, ORow, PInit, IOne, IList, IOthers, PEntry, PDecl, DNumber, DObject, DEnumeration, DArray, DSubtype, DException, DIntIo, DPragma, DTask, DTaskBody, PDecls, no_decl, decl_then}
+use Rattle.ada_tree.specs.PlainDecl.{PShape, OPlain, OArray, PInit, IOne, IList, IOthers, PEntry, PDecl, DNumber, DObject, DEnumeration, DArray, DSubtype, DException, DIntIo, DPragma, DTask, DTaskBody, PDecls, no_decl, decl_then}
 use Rattle.ada_lexer.specs.declared.symbols.Symbol.{Symbol}
 use Rattle.ada_lexer.specs.declared.symbols.Symbol.TheVariants as key
 use Rattle.ada_expr_parser.specs.declared.items.ItemKind.TheVariants as item
 use Rattle.ada_expr_parser.specs.declared.items.Item.{Item}
 use Rattle.ada_expr_parser.specs.Grammar.{symbol_item, word_item, number_item, SpellsSecond, SpellsOperator, Spells, IsBounds, IsRangeOf, IsIndex, AreMore, AreEnclosed, IsSecondList, AreArgs, IsChoiceOf}
-use Rattle.ada_phrase_parser.specs.Spelling.{Source, Spelling, Nothing, ◌▷◌, Either, May, IfThere, Where, Key, Named, Again, WithId, Duration, StringAt, Behind, Separated, Row, Inside, Placed}
+use Rattle.ada_phrase_parser.specs.Spelling.{Source, Spelling, Nothing, ◌▷◌, Either, May, IfThere, Where, Key, Named, Again, WithId, Duration, StringAt, Behind, Separated, ListOf, Inside, Placed}
 use Rattle.ada_phrase_parser.specs.Phrases.{Names, EndOf, Expression, Operand, Mode, IsFormal, Formals, AcceptHead, Guard, IsPart, PutText, Choice, WhenChoices, WhenOthers, WhenRaised, Reverse, Drange, IsScheme, DelayOf}
 use Rattle.ada_stmt_parser.specs.Statements.{Target, Callee, Call, IsStmt, AnyStmts, Stmts, ElsePart, OthersPart, IsAccept, IsAlt, IsAltKind, IsAlts, MoreAlts, IsArm, IsArms, MoreArms, IsCaseArm, IsCaseArms, IsBody, HandlerPart, MoreHandlers, IsHandler}
 use Rattle.ada_task_parser.specs.Tasks.{IsPriority, IsEntry, Member, MEntry, MPriority, IsMember, TaskWord, TaskRest}
@@ -95,7 +95,7 @@ module _ {A : Type 0} (P : A → Spelling) (each : (a : A) → NoEnd (P a)) wher
   separated s [] = never
   separated s (a ∷ list) = then (each a) (behind s list)
 
-  row : (list : List A) → NoEnd (Row P list)
+  row : (list : List A) → NoEnd (ListOf P list)
   row [] = nothing
   row (a ∷ list) = then (each a) (row list)
 
@@ -381,7 +381,7 @@ module _ (source : Source) where
 
   shape : (d : ℕ) (x : PShape) → NoEnd (IsShape d x)
   shape d (OPlain x) = subind d x
-  shape d (ORow r x) = array_of d r x
+  shape d (OArray r x) = array_of d r x
 
   init : (d : ℕ) (i : PInit) → NoEnd (IsInit d i)
   init d (IOne e) = expression d e

@@ -10,7 +10,6 @@ use Rattle.ada_lexer.proofs.Unique.{splits-unique}
 use Rattle.ada_tree.specs.NameList.{predefined, interned}
 use Rattle.ada_tree.proofs.Interning.{AreNames-predefined}
 use Rattle.ada_lexer.specs.declared.symbols.Symbol.{Symbol}
-use Rattle.ada_lexer.specs.declared.symbols.Symbol.TheVariants as key
 use Rattle.ada_expr_parser.specs.declared.items.ItemKind.{ItemKind}
 use Rattle.ada_expr_parser.specs.declared.items.ItemKind.TheVariants as item
 use Rattle.ada_expr_parser.specs.declared.items.Item.{Item}

@@ -8,7 +8,7 @@ use Rattle.ada_tree.specs.declared.expressions.UnaryOp.{UnaryOp}
 use Rattle.ada_tree.specs.declared.expressions.BinaryOp.{BinaryOp}
 use Rattle.ada_tree.specs.PlainExpr.{PExpr, EInteger, EName, EIndex, EAttribute, EAttributeOf, EParen, EUnary, EBinary, PBounds, PSubind, PDrange, RGiven, RMarked}
 use Rattle.ada_tree.specs.PlainStmt.{PTarget, PCallee, PArgs, PCall, PFormal, PPart, PWords, PValue, PChoice, PScheme, LWhile, LFor, PHead, PStmt, SNull, SAssign, SDelay, SExit, SRaise, SAbort, SCall, SAccept, SWait, SConditional, STimed, SPut, SPutLine, SNewLine, SGet, SIf, SCase, SBlock, SLoop, PStmts, no_stmt, stmt_then, PMaybe, absent, present, PAccept, accepting, PAlt, alternative, PAltKind, AAccept, ADelay, ATerminate, PAlts, no_alt, alt_then, PArm, arm, PArms, no_arm, arm_then, PCaseArm, case_arm, PCaseArms, no_case_arm, case_arm_then, PBody, body, PHandler, handler, PHandlers, no_handler, handler_then}
-use Rattle.ada_tree.specs.PlainDecl.{PShape, OPlain, ORow, PInit, IOne, IList, IOthers, PEntry, PTask, PDecl, DNumber, DObject, DEnumeration, DArray, DSubtype, DException, DIntIo, DPragma, DTask, DTaskBody, PDecls, no_decl, decl_then}
+use Rattle.ada_tree.specs.PlainDecl.{PShape, OPlain, OArray, PInit, IOne, IList, IOthers, PEntry, PTask, PDecl, DNumber, DObject, DEnumeration, DArray, DSubtype, DException, DIntIo, DPragma, DTask, DTaskBody, PDecls, no_decl, decl_then}
 use Rattle.ada_tree.specs.PlainProgram.{PProgram}
 use Rattle.ada_tree.specs.Every.{Rules, EveryWord, EveryExpr, EveryBounds, EverySubind, EveryDrange, EveryTarget, EveryCallee, EveryExprs, EveryArgs, EveryCall, EveryNames, EveryFormal, EveryPart, EveryText, EveryChoice, EveryScheme, EveryHead, stmts_count, alts_count, arms_count, EveryStmt, EveryStmts, EverySome, EveryMaybe, EveryAccept, EveryAlt, EveryAltKind, EveryAlts, EveryArm, EveryArms, EveryCaseArm, EveryCaseArms, EveryBody, EveryHandler, EveryHandlers, EveryShape, EveryInit, EveryEntry, EveryPriority, EveryTask, EveryDecl, EveryDecls, EveryProgram}
 use Rattle.ada_tree.specs.WellPlaced.{level, simple, UnaryFits, BinaryFits, OthersLast, GoUp, IsGiven, AreObjects, BodiesLast}
@@ -16,7 +16,7 @@ use Rattle.ada_lexer.specs.declared.symbols.Symbol.TheVariants as key
 use Rattle.ada_expr_parser.specs.declared.items.ItemKind.{ItemKind}
 use Rattle.ada_expr_parser.specs.declared.items.ItemKind.TheVariants as item
 use Rattle.ada_expr_parser.specs.declared.items.Item.{Item}
-use Rattle.ada_phrase_parser.specs.Spelling.{Source, Spelling, ◌▷◌, IfThere, Where, Key, Named, Duration, said_at, StringAt, Behind, Separated, Row, Inside, Placed}
+use Rattle.ada_phrase_parser.specs.Spelling.{Source, Spelling, ◌▷◌, IfThere, Where, Key, Named, Duration, said_at, StringAt, Behind, Separated, ListOf, Inside, Placed}
 use Rattle.ada_expr_parser.specs.declared.levels.Level.{Level}
 use Rattle.ada_expr_parser.specs.declared.levels.Level.TheVariants.{Logical}
 use Rattle.ada_expr_parser.specs.Trees.{levels}
@@ -422,7 +422,7 @@ module _ (rules : Rules) (source : Source) (suits : Suits rules) where
   abbrev MembersGive : ℕ → List Member → Type 0
   MembersGive before members = All (EveryEntry rules) (entries_in members) × All (EveryPriority rules) (priorities_in before members)
 
-  members_placed : (members : List Member) (before d : ℕ) → 2 + d ≤ 300 → Draws (Row (IsMember source d) members) (MembersGive before members)
+  members_placed : (members : List Member) (before d : ℕ) → 2 + d ≤ 300 → Draws (ListOf (IsMember source d) members) (MembersGive before members)
   members_placed [] before d low text fit is = (All-nil (EveryEntry rules), All-nil (EveryPriority rules))
   members_placed (MEntry x ∷ members) before d low text fit is =
       let (one, (entries, priorities)) = both (entry_placed x d low) (members_placed members (before + 1) d low) text fit is in
@@ -460,7 +460,7 @@ module _ (rules : Rules) (source : Source) (suits : Suits rules) where
 
   shape_placed : (x : PShape) (d : ℕ) → 2 + d ≤ 300 → Draws (IsShape d x) (EveryShape rules x)
   shape_placed (OPlain x) d low = subind_at x d low
-  shape_placed (ORow r x) d low = array_placed r x d low
+  shape_placed (OArray r x) d low = array_placed r x d low
 
   list_placed : (es : List PExpr) (d : ℕ) → 2 + d ≤ 300 → Draws (IsList d es) (rules.parts 2 (length es) × All (EveryExpr rules 2) es)
   list_placed es d low text fit (some, is) = (suits.parts 2 (length es) some, (enclosed_placed es 2 (suc d) (omega (arith, low)) text fit is).1)

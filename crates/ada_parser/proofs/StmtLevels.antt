@@ -3,7 +3,7 @@ use Rattle.std.proofs.Common.{◌≡◌, ℕ, suc, false, inl, inr, List, [], �
 use Rattle.ada_tree.specs.declared.naming.Span.{Span}
 use Rattle.ada_tree.specs.declared.naming.Word.{Word}
 use Rattle.ada_tree.specs.PlainExpr.{PExpr, EInteger}
-use Rattle.ada_tree.specs.PlainStmt.{PStmt, SNull, PStmts, no_stmt, stmt_then, PMaybe, absent, present, PAccept, PAlt, PHandlers, no_handler, handler_then, row_of}
+use Rattle.ada_tree.specs.PlainStmt.{PStmt, SNull, PStmts, no_stmt, stmt_then, PMaybe, absent, present, PAccept, PAlt, PHandlers, no_handler, handler_then, stmts_of}
 use Rattle.ada_tree.specs.WellPlaced.{OthersLast}
 use Rattle.ada_lexer.specs.declared.symbols.Symbol.{Symbol}
 use Rattle.ada_lexer.specs.declared.symbols.Symbol.TheVariants as key
@@ -86,21 +86,21 @@ module _ (source : Source) where
 
   -- ---- lists of statements
 
-  any_is : (e : ℕ) (list : List PStmt) (text : List Item) → Many StmtTexts e list text → AnyStmts source e (row_of list) text
+  any_is : (e : ℕ) (list : List PStmt) (text : List Item) → Many StmtTexts e list text → AnyStmts source e (stmts_of list) text
   any_is e [] text none = none
   any_is e (x ∷ more) text (front, back, from, one, many) = (front, back, from, one, any_is e more back many)
 
-  is_any : (e : ℕ) (l : PStmts) (text : List Item) → AnyStmts source e l text → Made row_of (Many StmtTexts) e l text
+  is_any : (e : ℕ) (l : PStmts) (text : List Item) → AnyStmts source e l text → Made stmts_of (Many StmtTexts) e l text
   is_any e no_stmt text none = ([], refl, none)
   is_any e (stmt_then x l) text (front, back, from, one, rest) =
       let (list, same, many) = is_any e l back rest in
       (x ∷ list, ap (λ k. stmt_then x k) same, (front, back, from, one, many))
 
-  some_is : (e : ℕ) (list : List PStmt) (text : List Item) → Some_of StmtTexts e list text → Stmts source e (row_of list) text
+  some_is : (e : ℕ) (list : List PStmt) (text : List Item) → Some_of StmtTexts e list text → Stmts source e (stmts_of list) text
   some_is e [] text never = absurd never
   some_is e (x ∷ more) text (front, back, from, one, many) = (front, back, from, one, any_is e more back many)
 
-  is_some_stmt : (e : ℕ) (l : PStmts) (text : List Item) → Stmts source e l text → Made row_of (Some_of StmtTexts) e l text
+  is_some_stmt : (e : ℕ) (l : PStmts) (text : List Item) → Stmts source e l text → Made stmts_of (Some_of StmtTexts) e l text
   is_some_stmt e no_stmt text never = absurd never
   is_some_stmt e (stmt_then x l) text (front, back, from, one, rest) =
       let (list, same, many) = is_any e l back rest in
@@ -108,12 +108,12 @@ module _ (source : Source) where
 
   module _ {d : ℕ} {r r' : Readers} (laws : LevelLaws d r r') where
     pub law_any_stmts : Lawful d (any_stmts r) (any_stmts r') AnyTexts EndsStmts
-    law_any_stmts = made_fit row_of (Many StmtTexts) (λ e list text is. any_is e list text is) (λ e l text is. is_any e l text is)
-        (made_pure row_of (law_items laws.stmt laws.opens (λ k is. tt) (λ x stop. tt) (λ x stop. stop)))
+    law_any_stmts = made_fit stmts_of (Many StmtTexts) (λ e list text is. any_is e list text is) (λ e l text is. is_any e l text is)
+        (made_pure stmts_of (law_items laws.stmt laws.opens (λ k is. tt) (λ x stop. tt) (λ x stop. stop)))
 
     pub law_stmts : Lawful d (stmts r) (stmts r') StmtsTexts EndsStmts
-    law_stmts = made_fit row_of (Some_of StmtTexts) (λ e list text is. some_is e list text is) (λ e l text is. is_some_stmt e l text is)
-        (made_pure row_of (law_some_items laws.stmt laws.opens (λ k is. tt) (λ x stop. tt) (λ x stop. stop)))
+    law_stmts = made_fit stmts_of (Some_of StmtTexts) (λ e list text is. some_is e list text is) (λ e l text is. is_some_stmt e l text is)
+        (made_pure stmts_of (law_some_items laws.stmt laws.opens (λ k is. tt) (λ x stop. tt) (λ x stop. stop)))
 
   -- ---- an else part
 

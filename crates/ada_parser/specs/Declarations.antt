@@ -3,7 +3,7 @@ use Rattle.std.specs.Prelude.{ℕ, suc, ◌≤◌, Bool, true, false, List, Opti
 use Rattle.ada_tree.specs.declared.naming.Word.{Word}
 use Rattle.ada_tree.specs.PlainExpr.{PExpr, PSubind, PDrange}
 use Rattle.ada_tree.specs.PlainStmt.{PBody}
-use Rattle.ada_tree.specs.PlainDecl.{PShape, OPlain, ORow, PInit, IOne, IList, IOthers, PDecl, DNumber, DObject, DEnumeration, DArray, DSubtype, DException, DIntIo, DPragma, DTask, DTaskBody, PDecls, no_decl, decl_then}
+use Rattle.ada_tree.specs.PlainDecl.{PShape, OPlain, OArray, PInit, IOne, IList, IOthers, PDecl, DNumber, DObject, DEnumeration, DArray, DSubtype, DException, DIntIo, DPragma, DTask, DTaskBody, PDecls, no_decl, decl_then}
 use Rattle.ada_tree.specs.WellPlaced.{AreObjects}
 use Rattle.ada_lexer.specs.declared.symbols.Symbol.TheVariants as key
 use Rattle.ada_expr_parser.specs.Grammar.{IsSubind, AreEnclosed}
@@ -23,7 +23,7 @@ ArrayOf d r x = Key key.Array ▷ Key key.LeftParen ▷ Drange d r ▷ Key key.R
 -- `subind | array ( drange ) of subind` (3.2)
 abbrev pub IsShape : ℕ → PShape → Spelling
 IsShape d (OPlain x) = Subind d x
-IsShape d (ORow r x) = ArrayOf d r x
+IsShape d (OArray r x) = ArrayOf d r x
 
 -- `( expr , expr {, expr} )` (4.3.2)
 abbrev pub IsList : ℕ → List PExpr → Spelling
@@ -54,6 +54,7 @@ UnitEnd source d name b = IsBody source d b ▷ EndOf name
 
 module _ (source : Source) where
   abbrev mutual
+    -- a declaration at its place, at most d levels below the root of each expression in it (3.1, 9.1, 11.1)
     pub IsDecl : ℕ → PDecl → Spelling
     -- `NAME : constant := expr ;` (3.2.2)
     IsDecl d (DNumber w e s) = Placed s (Named w ▷ Key key.Colon ▷ Key key.Constant ▷ Key key.Becomes ▷ Expression d e ▷ Key key.Semicolon)

@@ -16,6 +16,7 @@ use Rattle.ada_parser.specs.Units.{PUnit, Units}
 abbrev pub deepest : ℕ
 deepest = 298
 
+-- the kind is that of the end of a text (this project's rule)
 abbrev pub is_end_kind : ItemKind → Bool
 is_end_kind item.End = true
 is_end_kind _ = false

@@ -1,5 +1,5 @@
 -- What is refused at one place, by a test of what is known there.
-use Rattle.std.specs.Prelude.{◌≡◌, ℕ, ◌==◌, Bool, true, false, not, ◌&&◌, if◌then◌else◌, List, [], ◌∷◌, Option, Some, None, option_map, is_some, refl}
+use Rattle.std.specs.Prelude.{◌≡◌, Bool, true, false, not, ◌&&◌, if◌then◌else◌, [], ◌∷◌, Option, Some, None, option_map, is_some, refl}
 use Rattle.std.specs.List.{list_any}
 use Rattle.std.proofs.Common.{ap, ◌∙◌}
 use Rattle.ada_tree.specs.declared.naming.NameId.{NameId}

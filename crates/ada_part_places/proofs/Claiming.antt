@@ -3,8 +3,8 @@ use Rattle.std.specs.Prelude.{◌≡◌, ℕ, ℤ, ◌+◌, ◌<◌, ◌≤◌, 
 use Rattle.std.specs.List.{list_any}
 use Rattle.std.specs.Result.{result_ok}
 use Rattle.std.specs.Ordering.{int_eq}
-use Rattle.std.proofs.Common.{sym, ap, ◌∙◌, arith}
-use Rattle.std.proofs.lemmas.List.{drop_more, drop_all, map_more, reverse-append, append-nil}
+use Rattle.std.proofs.Common.{sym, ap, ◌∙◌}
+use Rattle.std.proofs.lemmas.List.{drop_all, map_more, reverse-append, append-nil}
 use Rattle.ada_tree.specs.declared.naming.Span.{Span}
 use Rattle.ada_tree.specs.declared.statements.Alt.{Alt}
 use Rattle.ada_tree.specs.TypeTable.{TypeTable}
@@ -19,7 +19,7 @@ use Rattle.syn_event.specs.RuleAcceptPlace.{is_among}
 use Rattle.syn_event.specs.RuleSelectForm.{alt_kinds}
 use Rattle.syn_event.specs.RuleSameEntryTwice.{accept_heads, are_other_values, differ, clash, clashing}
 use Rattle.ada_rules.specs.Sooner.{sooner, found}
-use Rattle.ada_check_scopes.specs.Around.{id_of}
+use Rattle.name_sets.specs.Numbers.{id_of}
 use Rattle.ada_part_places.specs.inner.Claiming.{index_value, claim_of, meets, is_for, is_whole, is_value, is_member, same_member, AreClaims, IsAccepted, IsClaimed}
 use Rattle.ada_part_places.specs.declared.claims.Claim.{Claim}
 use Rattle.ada_part_places.specs.declared.claims.Claims.{Claims}

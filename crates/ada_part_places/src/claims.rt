@@ -4,8 +4,8 @@ ghost use Rattle.std.specs.Prelude.{◌≡◌, ◌∷◌, [], List, OnOk};
 ghost use Rattle.std.specs.List.{list_any};
 ghost use Rattle.ada_part_places.specs.inner.Claiming.{meets, AreClaims};
 
-use ada_check_scopes::NameSet;
 use ada_tree::NameId;
+use name_sets::NameSet;
 use std::alloc::{AllocError, Global};
 use std::collections::HashSet;
 

@@ -79,6 +79,7 @@ abbrev pub WhenRaised : List Word → Spelling
 WhenRaised [] = WhenOthers
 WhenRaised (w ∷ more) = Key key.When ▷ Separated (Key key.Bar) Named (w ∷ more) ▷ Key key.Arrow
 
+-- `reverse` where the loop goes backwards, else nothing (5.5)
 abbrev pub Reverse : Bool → Spelling
 Reverse true = Key key.Reverse
 Reverse false = Nothing
@@ -96,6 +97,7 @@ IsScheme d (LFor w backwards x) = Key key.For ▷ Named w ▷ Key key.In ▷ Rev
 abbrev pub LoopName : Option Word → Spelling
 LoopName name = IfThere name (λ w. Named w ▷ Key key.Colon)
 
+-- `[NAME]` after the end of a loop, the name that stands before the loop (5.5)
 abbrev pub LoopNameAgain : Option Word → Spelling
 LoopNameAgain name = IfThere name Again
 

@@ -32,6 +32,7 @@ Never text = ⊥
 
 -- the one, and right behind it the other
 infixr 50 ◌▷◌
+-- a piece of the one spelling, and right after it a piece of the other (this project's notation)
 abbrev pub ◌▷◌ : Spelling → Spelling → Spelling
 (P ▷ Q) text = (front : List Item) × (back : List Item) × (text ≡ front ++ back) × P front × Q back
 
@@ -108,9 +109,9 @@ Separated Between Part [] = Never
 Separated Between Part (x ∷ more) = Part x ▷ Behind Between Part more
 
 -- parts one after the other
-abbrev pub Row : {A : Type 0} → (A → Spelling) → List A → Spelling
-Row Part [] = Nothing
-Row Part (x ∷ more) = Part x ▷ Row Part more
+abbrev pub ListOf : {A : Type 0} → (A → Spelling) → List A → Spelling
+ListOf Part [] = Nothing
+ListOf Part (x ∷ more) = Part x ▷ ListOf Part more
 
 -- One level deeper: d levels may stand below this, and one less below what stands in it. Where no level is left nothing does.
 abbrev pub Inside : ℕ → (ℕ → Spelling) → Spelling

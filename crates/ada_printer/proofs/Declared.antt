@@ -1,6 +1,5 @@
 -- Declarations: the entries of a task one by one, each behind the pragmas that stand before it, and the parts of task bodies.
 use Rattle.std.specs.Prelude.{◌≡◌, ◌+◌, ◌<◌, ◌≤◌, ℕ, nat_le, Bool, true, false, List, [], ◌∷◌, length, map, take, drop, codes, refl}
-use Rattle.std.specs.List.{prefix_len}
 use Rattle.std.proofs.Common.{sym, ap, ◌∙◌, subst, get_or, arith}
 use Rattle.std.proofs.lemmas.List.{take-map, drop-map, drop_more, drop_all}
 use Rattle.std.proofs.lemmas.List.{length-map, get_or-map}

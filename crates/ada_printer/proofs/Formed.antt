@@ -1,10 +1,10 @@
 -- The texts of compound statements and their parts from the texts that were put one behind the other. Each lemma is told what the part is, and its level below.
 use Rattle.std.specs.Prelude.{◌≡◌, ◌≤◌, ◌<◌, ℕ, List, [], ◌∷◌, Option, Some, None, codes, length, map}
-use Rattle.std.proofs.Common.{sym, ap, subst}
+use Rattle.std.proofs.Common.{sym, subst}
 use Rattle.ada_tree.specs.declared.naming.Span.{Span}
 use Rattle.ada_tree.specs.declared.naming.Word.{Word}
 use Rattle.ada_tree.specs.PlainExpr.{PExpr}
-use Rattle.ada_tree.specs.PlainStmt.{PCall, PScheme, PChoice, PHead, PStmt, SWait, SConditional, STimed, SIf, SCase, SBlock, SLoop, PStmts, PMaybe, absent, present, PAccept, accepting, PAlt, alternative, PAltKind, AAccept, ADelay, ATerminate, PAlts, PArm, arm, PArms, PCaseArm, case_arm, PCaseArms, PBody, body, PHandler, handler, PHandlers, handlers_of}
+use Rattle.ada_tree.specs.PlainStmt.{PCall, PScheme, PChoice, PHead, PStmt, SWait, SConditional, STimed, SIf, SCase, SBlock, SLoop, PStmts, PMaybe, absent, present, PAccept, accepting, PAlt, alternative, PAltKind, AAccept, ADelay, ATerminate, PAlts, PArm, arm, PArms, PCaseArm, case_arm, PCaseArms, PBody, body, PHandler, handler, handlers_of}
 use Rattle.ded_io.specs.Written.{◌⧺◌}
 use Rattle.ada_printer.specs.Layout.{deeper, indent, separated, word_text, later_word}
 use Rattle.ada_printer.specs.ExprText.{expr_text}

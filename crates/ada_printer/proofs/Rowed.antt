@@ -1,8 +1,8 @@
 -- The text of a row is the texts of its members, one behind the other; and how a list with a first member is put.
 use Rattle.std.specs.Prelude.{◌≡◌, ◌-◌, ◌≤◌, ◌<◌, ℕ, List, [], ◌∷◌, codes, length, map, take, drop, refl}
-use Rattle.std.proofs.Common.{sym, ap, ◌∙◌, subst, get_or, arith}
+use Rattle.std.proofs.Common.{sym, ap, ◌∙◌, subst, get_or}
 use Rattle.std.proofs.lemmas.List.{append-nil}
-use Rattle.ada_tree.specs.PlainStmt.{PStmt, PAlt, PArm, PCaseArm, PHandler, PFormal, row_of, alts_of, arms_of, case_arms_of, handlers_of}
+use Rattle.ada_tree.specs.PlainStmt.{PStmt, PAlt, PArm, PCaseArm, PHandler, PFormal, stmts_of, alts_of, arms_of, case_arms_of, handlers_of}
 use Rattle.ada_tree.specs.PlainDecl.{PDecl, decls_of}
 use Rattle.ded_io.specs.Written.{◌⧺◌, each_text}
 use Rattle.ded_io.proofs.Writes.{joined, joined_assoc}
@@ -14,7 +14,7 @@ use Rattle.paged_output.proofs.Drawn.{drew_none, drew_then}
 use Rattle.ada_printer.proofs.Listed.{not_below_zero, not_below_one, rest_is}
 
 module _ (names : List (List ℕ)) (level : ℕ) where
-  pub stmts_row : (xs : List PStmt) → stmts_text names level (row_of xs) ≡ each_text (stmt_text names level) xs
+  pub stmts_row : (xs : List PStmt) → stmts_text names level (stmts_of xs) ≡ each_text (stmt_text names level) xs
   stmts_row [] = refl
   stmts_row (x ∷ xs) = ap (λ t. stmt_text names level x ⧺ t) (stmts_row xs)
 

@@ -4,12 +4,13 @@ use Rattle.std.specs.List.{prefix_len}
 use Rattle.ada_tree.specs.declared.naming.Word.{Word}
 use Rattle.ada_tree.specs.PlainExpr.{PExpr, PDrange}
 use Rattle.ada_tree.specs.PlainStmt.{PBody}
-use Rattle.ada_tree.specs.PlainDecl.{PShape, OPlain, ORow, PInit, IOne, IList, IOthers, PPriority, PEntry, PTask, PDecl, DNumber, DObject, DEnumeration, DArray, DSubtype, DException, DIntIo, DPragma, DTask, DTaskBody, PDecls, no_decl, decl_then}
+use Rattle.ada_tree.specs.PlainDecl.{PShape, OPlain, OArray, PInit, IOne, IList, IOthers, PPriority, PEntry, PTask, PDecl, DNumber, DObject, DEnumeration, DArray, DSubtype, DException, DIntIo, DPragma, DTask, DTaskBody, PDecls, no_decl, decl_then}
 use Rattle.ded_io.specs.Written.{◌⧺◌, each_text}
 use Rattle.ada_printer.specs.Layout.{deeper, indent, word_text, words_text}
 use Rattle.ada_printer.specs.ExprText.{expr_text, exprs_text, subind_text, drange_text, array_text}
 use Rattle.ada_printer.specs.StmtText.{formals_text, body_text}
 
+-- `constant ` in the declaration of a constant, nothing in that of a variable (3.2.1)
 abbrev pub constant_text : Bool → List ℕ
 constant_text true = codes "constant "
 constant_text false = []
@@ -24,10 +25,12 @@ abbrev pub standing : ℕ → List PPriority → ℕ
 standing before ps = prefix_len (λ p. nat_le p.place before) ps
 
 module _ (names : List (List ℕ)) where
+  -- what an object is declared as: a subtype indication, or an array type of its own (3.2)
   abbrev pub shape_text : PShape → List ℕ
   shape_text (OPlain x) = subind_text names x
-  shape_text (ORow range part) = array_text names range part
+  shape_text (OArray range part) = array_text names range part
 
+  -- an initial value: an expression, a list of components, or one value for all (3.2.1, 4.3.2)
   abbrev pub init_text : PInit → List ℕ
   init_text (IOne e) = expr_text names e
   init_text (IList es s) = exprs_text names es

@@ -46,6 +46,7 @@ module _ (names : List (List ℕ)) where
   abbrev pub name_text : NameId → List ℕ
   name_text id = unwrap_or (slice_get names id.0) []
 
+  -- a name where it stands: the text of the name alone
   abbrev pub word_text : Word → List ℕ
   word_text w = name_text w.name
 

@@ -15,6 +15,7 @@ mode_text Take = codes "in "
 mode_text Give = codes "out "
 mode_text Both = codes "in out "
 
+-- `reverse ` for a loop that goes backwards, else nothing (5.5)
 abbrev pub reverse_text : Bool → List ℕ
 reverse_text true = codes "reverse "
 reverse_text false = []
@@ -45,6 +46,7 @@ module _ (names : List (List ℕ)) where
   second_text None = []
   second_text (Some es) = exprs_text names es
 
+  -- the one or two lists after an entry's name, where there are some (9.5)
   abbrev pub args_text : Option PArgs → List ℕ
   args_text None = []
   args_text (Some x) = exprs_text names x.first ⧺ second_text x.second
@@ -66,6 +68,7 @@ module _ (names : List (List ℕ)) where
   abbrev pub head_text : Word → Option PExpr → List PFormal → List ℕ
   head_text entry index formals = codes "accept " ⧺ (word_text names entry ⧺ (index_text names index ⧺ formals_text formals))
 
+  -- a part of what PUT writes: a string literal or an expression (14.3; this project's rule)
   abbrev pub part_text : PPart → List ℕ
   part_text (PWords content s) = string_text content
   part_text (PValue e) = expr_text names e
@@ -74,6 +77,7 @@ module _ (names : List (List ℕ)) where
   abbrev pub parts_text : List PPart → List ℕ
   parts_text ps = separated (codes " & ") part_text ps
 
+  -- ` .. 4`, the last bound of a choice that is a range; nothing for a single value (3.7.3)
   abbrev pub last_text : Option PExpr → List ℕ
   last_text None = []
   last_text (Some e) = codes " .. " ⧺ expr_text names e
@@ -172,6 +176,7 @@ module _ (names : List (List ℕ)) where
     alts_text level no_alt = []
     alts_text level (alt_then x k) = alt_text (deeper level) x ⧺ more_alts_text level k
 
+    -- the alternatives of a selective wait after the first one, each after its `or` (9.7.1)
     pub more_alts_text : ℕ → PAlts → List ℕ
     more_alts_text level no_alt = []
     more_alts_text level (alt_then x k) = (indent level ⧺ (codes "or\n" ⧺ alt_text (deeper level) x)) ⧺ more_alts_text level k
@@ -185,6 +190,7 @@ module _ (names : List (List ℕ)) where
     arms_text level no_arm = []
     arms_text level (arm_then x k) = (codes "if " ⧺ arm_text level x) ⧺ more_arms_text level k
 
+    -- the branches of an if statement after the first one, each after its `elsif` (5.3)
     pub more_arms_text : ℕ → PArms → List ℕ
     more_arms_text level no_arm = []
     more_arms_text level (arm_then x k) = (indent level ⧺ (codes "elsif " ⧺ arm_text level x)) ⧺ more_arms_text level k
@@ -193,6 +199,7 @@ module _ (names : List (List ℕ)) where
     pub case_arm_text : ℕ → PCaseArm → List ℕ
     case_arm_text level (case_arm cs k) = indent level ⧺ (codes "when " ⧺ (separated (codes " | ") choice_text cs ⧺ (codes " =>\n" ⧺ stmts_text (deeper level) k)))
 
+    -- the alternatives of a case statement at this level, one after the other (5.4)
     pub case_arms_text : ℕ → PCaseArms → List ℕ
     case_arms_text level no_case_arm = []
     case_arms_text level (case_arm_then x k) = case_arm_text level x ⧺ case_arms_text level k
@@ -210,6 +217,7 @@ module _ (names : List (List ℕ)) where
     pub handler_text : ℕ → PHandler → List ℕ
     handler_text level (handler ws k s) = indent level ⧺ (codes "when " ⧺ (caught_text ws ⧺ (codes " =>\n" ⧺ stmts_text (deeper level) k)))
 
+    -- exception handlers at this level, one after the other (11.2)
     pub handlers_text : ℕ → PHandlers → List ℕ
     handlers_text level no_handler = []
     handlers_text level (handler_then x k) = handler_text level x ⧺ handlers_text level k

@@ -29,7 +29,7 @@ fn put_shape<K: Sink>(names: &Names, shape: &Shape, page: &mut Page, out: &mut K
 {
     match shape {
         Shape::Plain(subind) => put_subind(names, subind, page, out),
-        Shape::Row { index, part } => put_array(names, index, part, page, out),
+        Shape::ConstrainedArray { index, part } => put_array(names, index, part, page, out),
     }
 }
 

@@ -6,6 +6,7 @@ use Rattle.ada_tree.specs.declared.naming.Span.{Span}
 use Rattle.ada_refusals.specs.declared.errors.TypeError.{TypeError}
 use Rattle.ada_refusals.specs.declared.errors.TypeError.TheVariants.{Unknown, Duplicate, Mismatch, NotStatic, RangeBad, NotVariable, ReadOut, ArgCount, ChoiceBad, ArrayUse, TextUse, NotException, Memory}
 
+-- a refusal by the rule with this number at this place (this project's rule)
 abbrev pub refusal : ℕ → Span → Refusal
 refusal rule span = record { rule = rule; span = span }
 
@@ -25,6 +26,7 @@ refusal_of (TextUse s) = Some (refusal 11 s)
 refusal_of (NotException s) = Some (refusal 12 s)
 refusal_of Memory = None
 
+-- the refusal is the first one of the program; of no refusal nothing is said (this project's rule)
 abbrev pub IsFirst : PProgram → Option Refusal → Type 0
 IsFirst p (Some r) = IsFirstRefusal p r
 IsFirst p None = Unit {0}

@@ -2,5 +2,6 @@
 #![tactic(auto)]
 
 pub mod errors;
+pub mod ranking;
 pub mod refusals;
 pub mod verdicts;

@@ -1,11 +1,12 @@
 // What the static rules refuse, and which of several refusals comes first.
 
-ghost use Rattle.std.specs.Prelude.{◌≡◌, ◌∷◌, [], Some, None, if◌then◌else◌};
+ghost use Rattle.std.specs.Prelude.{◌≡◌, ◌∷◌, [], Some, if◌then◌else◌};
 ghost use Rattle.ada_refusals.specs.Rules.{number_of};
-ghost use Rattle.ada_refusals.specs.Sooner.{is_before, sooner, found};
+ghost use Rattle.ada_refusals.specs.Sooner.{sooner, found};
 ghost use Rattle.ada_refusals.specs.Telling.{refusal_of};
 
 use crate::errors::TypeError;
+use crate::ranking::{Ranked, first_in_rank};
 use ada_tree::Span;
 use std::marker::Model;
 
@@ -62,31 +63,29 @@ impl Model for Refusal {
     ghost view = { λ a. record { rule = number_of a.rule; span = a.span } };
 }
 
-// Whether a refusal stands before another one.
-fn stands_before(one: &Refusal, other: &Refusal) -> bool
-    ensures { result ≡ is_before one.now other.now }
-{
-    let (rule, other_rule) = (number(one.rule), number(other.rule));
-    one.span.start < other.span.start
-        || one.span.start == other.span.start
-            && (rule < other_rule || rule == other_rule && one.span.end < other.span.end)
+impl Ranked for Refusal {
+    ghost use Rattle.ada_refusals.specs.Sooner.{rank_of};
+
+    ghost rank = { rank_of };
+
+    fn start(&self) -> u32 {
+        self.span.start
+    }
+
+    fn rule_number(&self) -> u32 {
+        number(self.rule)
+    }
+
+    fn last_number(&self) -> u32 {
+        self.span.end
+    }
 }
 
 /// The first of two refusals, where there are some.
 pub fn first(one: Option<Refusal>, other: Option<Refusal>) -> Option<Refusal>
     ensures { result ≡ sooner one other }
 {
-    match one {
-        None => other,
-        Some(one) => match other {
-            None => Some(one),
-            Some(other) => Some(if stands_before(&other, &one) {
-                other
-            } else {
-                one
-            }),
-        },
-    }
+    first_in_rank(one, other)
 }
 
 /// A place that a rule refuses.

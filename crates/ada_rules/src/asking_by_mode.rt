@@ -90,6 +90,8 @@ const MARK: &[u8] = b"DED_";
 
 const INNER_MARK: &[u8] = b"_DED_";
 
+const MARK_ALONE: &[u8] = b"DED";
+
 // Whether _DED_ stands somewhere in the text.
 #[tactic(auto, using(crate::proofs::Marking::mark_at))]
 fn has_mark(text: &[u8]) -> bool
@@ -107,7 +109,7 @@ fn has_mark(text: &[u8]) -> bool
 fn is_reserved(text: &[u8]) -> bool
     ensures { result ≡ is_reserved text.now }
 {
-    text.starts_with(MARK) || has_mark(text)
+    text.starts_with(MARK) || has_mark(text) || text == MARK_ALONE
 }
 
 impl<'n> Standard<'n> {

@@ -4,8 +4,9 @@ ghost use Rattle.std.specs.Prelude.{◌≡◌, ◌∷◌, [], Some, if◌then◌
 ghost use Rattle.syn_event.specs.Limits.{what_order};
 ghost use Rattle.syn_event.specs.CheckRefusals.{over_order};
 ghost use Rattle.ada_rules.specs.Rules.{number_of, over_of, refused, refusal_by};
-ghost use Rattle.ada_rules.specs.Sooner.{is_before, sooner};
+ghost use Rattle.ada_rules.specs.Sooner.{sooner};
 
+use ada_refusals::ranking::{Ranked, first_in_rank};
 use ada_tree::Span;
 use std::marker::Model;
 use syn_event::What;
@@ -97,31 +98,29 @@ impl Refusal {
     }
 }
 
-// Whether a refusal stands before another one.
-fn stands_before(one: &Refusal, other: &Refusal) -> bool
-    ensures { result ≡ is_before one.now other.now }
-{
-    let (rule, other_rule) = (number(one.rule), number(other.rule));
-    one.span.start < other.span.start
-        || one.span.start == other.span.start
-            && (rule < other_rule || rule == other_rule && order(one.rule) < order(other.rule))
+impl Ranked for Refusal {
+    ghost use Rattle.ada_rules.specs.Sooner.{rank_of};
+
+    ghost rank = { rank_of };
+
+    fn start(&self) -> u32 {
+        self.span.start
+    }
+
+    fn rule_number(&self) -> u32 {
+        number(self.rule)
+    }
+
+    fn last_number(&self) -> u32 {
+        order(self.rule)
+    }
 }
 
 /// The first of two refusals, where there are some.
 pub fn first(one: Option<Refusal>, other: Option<Refusal>) -> Option<Refusal>
     ensures { result ≡ sooner one other }
 {
-    match one {
-        None => other,
-        Some(one) => match other {
-            None => Some(one),
-            Some(other) => Some(if stands_before(&other, &one) {
-                other
-            } else {
-                one
-            }),
-        },
-    }
+    first_in_rank(one, other)
 }
 
 /// A place that a rule refuses.

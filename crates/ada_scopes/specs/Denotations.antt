@@ -2,7 +2,7 @@
 use Rattle.std.specs.Prelude.{ℕ, List, map}
 use Rattle.ada_tree.specs.Scope as scope
 use Rattle.ada_scopes.specs.declared.denotations.Thing.{Thing}
-use Rattle.ada_scopes.specs.declared.denotations.Thing.TheVariants.{TypeMark, TaskType, SingleTask, TaskObject, TaskRow, Variable, ConstantObject, Parameter, LoopParameter, Literal, AnException, MainProcedure, AnotherUnit, Unclear}
+use Rattle.ada_scopes.specs.declared.denotations.Thing.TheVariants.{TypeMark, TaskType, SingleTask, TaskObject, TaskArray, Variable, ConstantObject, Parameter, LoopParameter, Literal, AnException, MainProcedure, AnotherUnit, Unclear}
 use Rattle.ada_scopes.specs.Entries.{plain_range}
 
 abbrev pub plain_thing : Thing → scope.Thing
@@ -10,7 +10,7 @@ plain_thing (TypeMark m) = scope.TypeMark m
 plain_thing (TaskType e) = scope.TaskType e.value
 plain_thing (SingleTask e) = scope.SingleTask e.value
 plain_thing (TaskObject e) = scope.TaskObject e.value
-plain_thing (TaskRow r e) = scope.TaskRow (plain_range r) e.value
+plain_thing (TaskArray r e) = scope.TaskArray (plain_range r) e.value
 plain_thing (Variable m) = scope.Variable m
 plain_thing (ConstantObject m) = scope.ConstantObject m
 plain_thing (Parameter mode m) = scope.Parameter mode m

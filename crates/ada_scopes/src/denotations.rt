@@ -114,7 +114,7 @@ pub enum Thing {
     TaskType(Rc<Entries>),
     SingleTask(Rc<Entries>),
     TaskObject(Rc<Entries>),
-    TaskRow(Range, Rc<Entries>),
+    TaskArray(Range, Rc<Entries>),
     Variable(u32),
     ConstantObject(u32),
     Parameter(ParMode, u32),
@@ -135,7 +135,7 @@ impl Thing {
             Thing::TaskType(entries) => Some(&**entries),
             Thing::SingleTask(entries) => Some(&**entries),
             Thing::TaskObject(entries) => Some(&**entries),
-            Thing::TaskRow(_, entries) => Some(&**entries),
+            Thing::TaskArray(_, entries) => Some(&**entries),
             _ => None,
         }
     }
@@ -159,7 +159,7 @@ impl Thing {
             Thing::TaskType(entries) => Thing::TaskType(entries.clone()?),
             Thing::SingleTask(entries) => Thing::SingleTask(entries.clone()?),
             Thing::TaskObject(entries) => Thing::TaskObject(entries.clone()?),
-            Thing::TaskRow(range, entries) => Thing::TaskRow(*range, entries.clone()?),
+            Thing::TaskArray(range, entries) => Thing::TaskArray(*range, entries.clone()?),
             Thing::Variable(mark) => Thing::Variable(*mark),
             Thing::ConstantObject(mark) => Thing::ConstantObject(*mark),
             Thing::Parameter(mode, mark) => Thing::Parameter(*mode, *mark),
@@ -177,7 +177,7 @@ impl Thing {
         ensures { result ≡ is_task_object (plain_thing self.now) }
     {
         match self {
-            Thing::TaskObject(_) | Thing::TaskRow(_, _) => true,
+            Thing::TaskObject(_) | Thing::TaskArray(_, _) => true,
             _ => false,
         }
     }

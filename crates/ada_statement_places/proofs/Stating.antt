@@ -1,7 +1,6 @@
 -- What is refused first in a statement, or in a member of a list of the tree, is what is refused first at its places.
-use Rattle.std.specs.Prelude.{◌≡◌, ℕ, ◌+◌, List, [], ◌∷◌, ◌++◌, map, flat_map, Option, Some, None, refl}
+use Rattle.std.specs.Prelude.{◌≡◌, ℕ, ◌+◌, List, [], ◌∷◌, ◌++◌, map, flat_map, Option, None, refl}
 use Rattle.std.proofs.Common.{sym, ap, ◌∙◌}
-use Rattle.std.proofs.lemmas.List.{append-nil}
 use Rattle.ada_tree.specs.declared.naming.Span.{Span}
 use Rattle.ada_tree.specs.PlainExpr.{PExpr, plain_expr}
 use Rattle.ada_tree.specs.declared.statements.Stmt.{Stmt}
@@ -9,19 +8,19 @@ use Rattle.ada_tree.specs.declared.statements.CaseChoice.{CaseChoice}
 use Rattle.ada_tree.specs.declared.statements.Arm.{Arm, out-Arm}
 use Rattle.ada_tree.specs.declared.statements.CaseArm.{CaseArm, out-CaseArm}
 use Rattle.ada_tree.specs.declared.statements.Handler.{Handler, out-Handler}
-use Rattle.ada_tree.specs.PlainStmt.{plain_stmt, plain_arm, plain_case_arm, plain_choice, plain_handler, row_of, PHead, PAccept, accepting, PStmt, SNull, SAssign, SDelay, SExit, SRaise, SAbort, SCall, SAccept, SWait, SConditional, STimed, SPut, SPutLine, SNewLine, SGet, SIf, SCase, SBlock, SLoop, PStmts, stmt_then, PMaybe, absent, present, PAlt, PAlts, alt_then, alternative, PAltKind, AAccept, ADelay, ATerminate, PArm, PArms, arm_then, arm, PCaseArm, PCaseArms, case_arm_then, case_arm, PBody, body, PHandler, PHandlers, handler_then, handler}
+use Rattle.ada_tree.specs.PlainStmt.{plain_stmt, plain_arm, plain_case_arm, plain_choice, plain_handler, stmts_of, accepting, PStmt, SNull, SAssign, SDelay, SExit, SRaise, SAbort, SCall, SAccept, SWait, SConditional, STimed, SPut, SPutLine, SNewLine, SGet, SIf, SCase, SBlock, SLoop, PStmts, stmt_then, PAlt, PAlts, alt_then, alternative, PAltKind, AAccept, ADelay, ATerminate, PArm, PArms, arm_then, arm, PCaseArm, PCaseArms, case_arm_then, case_arm, body, PHandler, PHandlers, handler_then, handler}
 use Rattle.ada_tree.specs.Sites.{is_present}
 use Rattle.ada_tree.proofs.Rows.{plain_arm-out, plain_case_arm-out, plain_handler-out}
 use Rattle.syn_event.specs.declared.limits.What.TheVariants.{Nesting, Alternatives}
 use Rattle.syn_event.specs.CheckRefusals.{CheckRefusal}
 use Rattle.syn_event.specs.CheckScope.{CheckScope, CheckSite, declares, waits, exits, counts}
-use Rattle.syn_event.specs.CheckSites.{site, stands, if_there, numbered, alt_places, in_accept, in_loop, handling, expr_sites, target_sites, aborted_sites, call_sites, select_sites, part_sites, choice_sites, scheme_sites, head_sites, delay_sites, raise_sites, stmt_sites, stmts_sites, maybe_sites, accept_sites, alts_sites, alt_sites, arms_sites, case_arms_sites, body_sites, handlers_sites}
+use Rattle.syn_event.specs.CheckSites.{site, stands, if_there, numbered, alt_places, in_accept, in_loop, handling, expr_sites, target_sites, aborted_sites, call_sites, select_sites, part_sites, choice_sites, scheme_sites, head_sites, delay_sites, raise_sites, stmt_sites, stmts_sites, maybe_sites, alts_sites, alt_sites, arms_sites, case_arms_sites, handlers_sites}
 use Rattle.ada_rules.specs.Sooner.{sooner}
-use Rattle.ada_rules.specs.RefusedFirst.{Standard, refused_first_at, refused_first}
+use Rattle.ada_rules.specs.RefusedFirst.{Standard, refused_first}
 use Rattle.ada_part_places.specs.inner.WalkedExpr.{deep}
 use Rattle.ada_statement_places.specs.inner.Walked.{kind_own_met, kind_met, alt_met, arm_met, case_arm_met, handler_met, stmt_met}
 use Rattle.ada_rules.proofs.SoonerLaws.{sooner_assoc, sooner_none}
-use Rattle.ada_rules.proofs.Meeting.{met_none, met_cons, met_one, met_append, before, joined}
+use Rattle.ada_rules.proofs.Meeting.{met_none, met_cons, met_append, before, joined}
 use Rattle.ada_part_places.proofs.Walking.{under, alone}
 
 -- places behind others, in one list with those that come before
@@ -122,33 +121,33 @@ stmt_next by around k x l = met_append by (stmt_sites around k x) (stmts_sites a
 -- ---- members of the declared lists
 
 pub arm_told : (by : Standard) (around : CheckScope) (k : ℕ) (x : Arm) (vs : List Stmt) (a b r : Option CheckRefusal) → r ≡ sooner a b
-    → a ≡ refused_first by (expr_sites around k (plain_expr (out-Arm x).test)) → b ≡ refused_first by (stmts_sites around k (row_of (map plain_stmt vs))) → vs ≡ (out-Arm x).stmts.items
+    → a ≡ refused_first by (expr_sites around k (plain_expr (out-Arm x).test)) → b ≡ refused_first by (stmts_sites around k (stmts_of (map plain_stmt vs))) → vs ≡ (out-Arm x).stmts.items
     → r ≡ arm_met by around k (plain_arm x)
 arm_told by around k x vs a b r is is_a is_b same =
     is
     ∙ ap (λ o. sooner o b) is_a
-    ∙ ap (sooner (refused_first by (expr_sites around k (plain_expr (out-Arm x).test)))) (is_b ∙ ap (λ l. refused_first by (stmts_sites around k (row_of (map plain_stmt l)))) same)
+    ∙ ap (sooner (refused_first by (expr_sites around k (plain_expr (out-Arm x).test)))) (is_b ∙ ap (λ l. refused_first by (stmts_sites around k (stmts_of (map plain_stmt l)))) same)
     ∙ ap (arm_met by around k) (sym (plain_arm-out x))
 
 pub case_arm_told : (by : Standard) (around : CheckScope) (k : ℕ) (x : CaseArm) (cs : List CaseChoice) (vs : List Stmt) (a b r : Option CheckRefusal) → r ≡ sooner a b
     → a ≡ refused_first by (flat_map (choice_sites around k) (map plain_choice cs)) → cs ≡ (out-CaseArm x).choices.items
-    → b ≡ refused_first by (stmts_sites around k (row_of (map plain_stmt vs))) → vs ≡ (out-CaseArm x).stmts.items
+    → b ≡ refused_first by (stmts_sites around k (stmts_of (map plain_stmt vs))) → vs ≡ (out-CaseArm x).stmts.items
     → r ≡ case_arm_met by around k (plain_case_arm x)
 case_arm_told by around k x cs vs a b r is is_a same_choices is_b same =
     is
     ∙ ap (λ o. sooner o b) (is_a ∙ ap (λ l. refused_first by (flat_map (choice_sites around k) (map plain_choice l))) same_choices)
-    ∙ ap (sooner (refused_first by (flat_map (choice_sites around k) (map plain_choice (out-CaseArm x).choices.items)))) (is_b ∙ ap (λ l. refused_first by (stmts_sites around k (row_of (map plain_stmt l)))) same)
+    ∙ ap (sooner (refused_first by (flat_map (choice_sites around k) (map plain_choice (out-CaseArm x).choices.items)))) (is_b ∙ ap (λ l. refused_first by (stmts_sites around k (stmts_of (map plain_stmt l)))) same)
     ∙ ap (case_arm_met by around k) (sym (plain_case_arm-out x))
 
 pub handler_told : (by : Standard) (around now : CheckScope) (k n : ℕ) (x : Handler) (vs : List Stmt) (a b r : Option CheckRefusal) → r ≡ sooner a b
-    → a ≡ deep by around k (out-Handler x).span → b ≡ refused_first by (stmts_sites now n (row_of (map plain_stmt vs))) → now ≡ handling around → n ≡ k + 1 → vs ≡ (out-Handler x).stmts.items
+    → a ≡ deep by around k (out-Handler x).span → b ≡ refused_first by (stmts_sites now n (stmts_of (map plain_stmt vs))) → now ≡ handling around → n ≡ k + 1 → vs ≡ (out-Handler x).stmts.items
     → r ≡ handler_met by around k (plain_handler x)
 handler_told by around now k n x vs a b r is is_a is_b inside deeper same =
     is
     ∙ ap (λ o. sooner o b) is_a
     ∙ ap (sooner (deep by around k (out-Handler x).span))
     (is_b
-    ∙ ap (λ s. refused_first by (stmts_sites s n (row_of (map plain_stmt vs)))) inside
-    ∙ ap (λ m. refused_first by (stmts_sites (handling around) m (row_of (map plain_stmt vs)))) deeper
-    ∙ ap (λ l. refused_first by (stmts_sites (handling around) (k + 1) (row_of (map plain_stmt l)))) same)
+    ∙ ap (λ s. refused_first by (stmts_sites s n (stmts_of (map plain_stmt vs)))) inside
+    ∙ ap (λ m. refused_first by (stmts_sites (handling around) m (stmts_of (map plain_stmt vs)))) deeper
+    ∙ ap (λ l. refused_first by (stmts_sites (handling around) (k + 1) (stmts_of (map plain_stmt l)))) same)
     ∙ ap (handler_met by around k) (sym (plain_handler-out x))

@@ -2,7 +2,7 @@
 #![tactic(auto, using(ada_rules::proofs::Meeting::meeting, ada_tree::proofs::Rows::rows))]
 
 ghost use Rattle.std.specs.Prelude.{◌≡◌, OnOk, IfOk, map, option_map};
-ghost use Rattle.ada_tree.specs.PlainStmt.{plain_scheme, plain_accept, plain_alt, plain_alt_kind, plain_arm, plain_case_arm, plain_handler, plain_body, plain_stmt, row_of, alts_of, arms_of, case_arms_of, handlers_of};
+ghost use Rattle.ada_tree.specs.PlainStmt.{plain_scheme, plain_accept, plain_alt, plain_alt_kind, plain_arm, plain_case_arm, plain_handler, plain_body, plain_stmt, stmts_of, alts_of, arms_of, case_arms_of, handlers_of};
 ghost use Rattle.syn_event.specs.CheckSites.{in_loop, alts_sites, arms_sites, case_arms_sites, body_sites, handlers_sites, stmts_sites};
 ghost use Rattle.ada_rules.specs.RefusedFirst.{refused_first};
 ghost use Rattle.ada_statement_places.specs.inner.Walked.{within_met, inner_met, rest_met, kind_met, alt_met, stmt_met};
@@ -169,7 +169,7 @@ fn walk_loop(
     list: &[Stmt],
 ) -> Result<Option<Refusal>, AllocError>
     ensures kept { OnOk result (around.new ≡ around.old) }
-    ensures told { IfOk result (λ r. r ≡ refused_first by.now (stmts_sites (in_loop around.old name (option_map plain_scheme scheme.now)) k (row_of (map plain_stmt list.now)))) }
+    ensures told { IfOk result (λ r. r ≡ refused_first by.now (stmts_sites (in_loop around.old name (option_map plain_scheme scheme.now)) k (stmts_of (map plain_stmt list.now)))) }
 {
     let count = around.enter_loop(name)?;
     declare_parameter(around, scheme)?;
@@ -264,7 +264,7 @@ fn walk_stmts(
     list: &[Stmt],
 ) -> Result<Option<Refusal>, AllocError>
     ensures kept { OnOk result (around.new ≡ around.old) }
-    ensures told { IfOk result (λ r. r ≡ refused_first by.now (stmts_sites around.old k (row_of (map plain_stmt list.now)))) }
+    ensures told { IfOk result (λ r. r ≡ refused_first by.now (stmts_sites around.old k (stmts_of (map plain_stmt list.now)))) }
 {
     let mut refusal = None;
     for stmt in list {

@@ -1,6 +1,6 @@
 -- Alternatives and accept statements, read behind their guards and heads.
 use Rattle.std.proofs.Common.{◌≡◌, ℕ, List, Option, Some, None, refl, sym, ap, subst, ◌∙◌}
-use Rattle.lawful_reader.specs.Readers.{Answer, Found, Reader, pure, bind, go_on, token}
+use Rattle.lawful_reader.specs.Readers.{Found, Reader, pure, bind, go_on, token}
 use Rattle.ada_tree.specs.declared.naming.Span.{Span}
 use Rattle.ada_tree.specs.declared.naming.Word.{Word}
 use Rattle.ada_tree.specs.PlainExpr.{PExpr}
@@ -14,7 +14,7 @@ use Rattle.ada_phrase_parser.specs.Reading.{again, closed, delayed, end_of, acce
 use Rattle.ada_expr_parser.specs.declared.errors.ParseError.{ParseError}
 use Rattle.ada_expr_parser.specs.Gives.{Fails}
 use Rattle.ada_expr_parser.proofs.Steps.{fails_go_on}
-use Rattle.ada_compound_parts.specs.inner.ReadingHeads.{Guarded, guard, Kinded, terminating}
+use Rattle.ada_compound_parts.specs.inner.ReadingHeads.{Guarded, guard, Kinded}
 use Rattle.ada_compound_parts.specs.inner.ReadingParts.{first_of_alt, head_of}
 use Rattle.ada_stmt_parser.specs.inner.ReadingStatements.{Readers, stmts, any_stmts, alt_at, accept_at}
 use Rattle.ada_stmt_parser.specs.inner.ReadingStatements as reading

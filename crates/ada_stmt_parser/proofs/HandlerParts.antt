@@ -6,7 +6,7 @@ use Rattle.ada_tree.specs.declared.naming.Span.{Span}
 use Rattle.ada_tree.specs.declared.statements.Stmt.{Stmt}
 use Rattle.ada_tree.specs.declared.statements.Handler.{Handler}
 use Rattle.ada_tree.specs.declared.statements.Body.{out-Body, roll-Body, the_lemmas}
-use Rattle.ada_tree.specs.PlainStmt.{PStmts, PHandlers, PBody, body, no_handler, row_of, handlers_of, plain_stmt, plain_handler, plain_body, seen}
+use Rattle.ada_tree.specs.PlainStmt.{PStmts, PHandlers, PBody, body, no_handler, stmts_of, handlers_of, plain_stmt, plain_handler, plain_body, seen}
 use Rattle.ada_tree.proofs.Rows.{plain_body-out}
 use Rattle.ada_lexer.specs.declared.symbols.Symbol.TheVariants as key
 use Rattle.ada_expr_parser.specs.declared.items.Item.{Item}
@@ -19,7 +19,7 @@ pub body_built :
     (stmts : Vec Stmt Global) (handlers : Vec Handler Global) →
     plain_body (roll-Body record { stmts = stmts; handlers = handlers }) ≡ body (seen stmts.items) (handlers_of (map plain_handler handlers.items))
 body_built stmts handlers =
-    let opened : body (row_of (map plain_stmt (out-Body (roll-Body record { stmts = stmts; handlers = handlers })).stmts.items)) (handlers_of (map plain_handler (out-Body (roll-Body record { stmts = stmts; handlers = handlers })).handlers.items)) ≡ body (row_of (map plain_stmt stmts.items)) (handlers_of (map plain_handler handlers.items)) = simp the_lemmas in
+    let opened : body (stmts_of (map plain_stmt (out-Body (roll-Body record { stmts = stmts; handlers = handlers })).stmts.items)) (handlers_of (map plain_handler (out-Body (roll-Body record { stmts = stmts; handlers = handlers })).handlers.items)) ≡ body (stmts_of (map plain_stmt stmts.items)) (handlers_of (map plain_handler handlers.items)) = simp the_lemmas in
     plain_body-out (roll-Body record { stmts = stmts; handlers = handlers }) ∙ opened
 
 room : (e : ℕ) → 0 < e → nat_eq e 0 ≡ false

@@ -1,17 +1,17 @@
 -- A loop from its first word on.
-use Rattle.std.proofs.Common.{◌≡◌, ℕ, ◌-◌, ◌<◌, ◌≤◌, nat_eq, Bool, true, false, ◌||◌, cond, List, [], ◌∷◌, Option, Some, None, is_some, length, take, drop, get_or, refl, sym, ap, ◌∙◌, arith}
+use Rattle.std.proofs.Common.{◌≡◌, ℕ, ◌-◌, ◌<◌, ◌≤◌, nat_eq, Bool, true, false, ◌||◌, cond, List, [], ◌∷◌, Option, Some, None, is_some, length, take, drop, get_or, refl, ap, ◌∙◌, arith}
 use Rattle.std.proofs.lemmas.Bool.Decides.{nat_tests}
-use Rattle.lawful_reader.specs.Readers.{Answer, Found, Fault, Reader, pure, refuse, go_on, on, on_token, below, below_token, token}
+use Rattle.lawful_reader.specs.Readers.{Fault, Reader, pure, refuse, go_on, on, below, below_token, token}
 use Rattle.ada_tree.specs.declared.naming.Span.{Span}
 use Rattle.ada_tree.specs.declared.naming.Word.{Word}
-use Rattle.ada_tree.specs.PlainStmt.{PScheme, LWhile, LFor, PStmt}
+use Rattle.ada_tree.specs.PlainStmt.{PStmt}
 use Rattle.ada_lexer.specs.declared.symbols.Symbol.TheVariants as key
 use Rattle.ada_expr_parser.specs.declared.items.Item.{Item}
 use Rattle.ada_expr_parser.specs.Tests.{symbol, word}
 use Rattle.ada_expr_parser.specs.Parts.{expression, drange}
 use Rattle.ada_expr_parser.proofs.Chains.{front_and_rest}
 use Rattle.ada_phrase_parser.specs.Spelling.{Source}
-use Rattle.ada_phrase_parser.specs.Reading.{is_symbol, key_then}
+use Rattle.ada_phrase_parser.specs.Reading.{is_symbol}
 use Rattle.ada_phrase_parser.proofs.Marks.{placed}
 use Rattle.ada_compound_parts.specs.inner.ReadingHeads.{begins_loop, while_scheme, range_scheme, for_scheme, loop_scheme}
 use Rattle.ada_simple_stmt_parser.specs.inner.ReadingSimple.{word_rest}

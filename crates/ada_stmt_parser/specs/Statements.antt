@@ -11,14 +11,17 @@ use Rattle.ada_phrase_parser.specs.Phrases.{EndOf, Operand, Expression, AcceptHe
 abbrev pub Target : ℕ → PTarget → Spelling
 Target d x text = IsTarget d x text
 
+-- a task or a member of an array of tasks, the root of its index one level deeper than the statement (9.5)
 abbrev pub Callee : ℕ → PCallee → Spelling
 Callee d x text = IsCallee d x text
 
+-- an entry call, the roots of its indices and arguments one level deeper than the statement (9.5)
 abbrev pub Call : ℕ → PCall → Spelling
 Call d x text = IsCall d x text
 
 module _ (source : Source) where
   abbrev mutual
+    -- a statement at its place, with at most d levels below it (5.1)
     pub IsStmt : ℕ → PStmt → Spelling
     -- `null ;` (5.1)
     IsStmt d (SNull s) = Placed s (Key key.Null ▷ Key key.Semicolon)
@@ -102,6 +105,7 @@ module _ (source : Source) where
     IsAlts d no_alt = Never
     IsAlts d (alt_then x l) = IsAlt d x ▷ MoreAlts d l
 
+    -- `{or alt}` (9.7.1)
     pub MoreAlts : ℕ → PAlts → Spelling
     MoreAlts d no_alt = Nothing
     MoreAlts d (alt_then x l) = Key key.Or ▷ IsAlt d x ▷ MoreAlts d l
@@ -115,6 +119,7 @@ module _ (source : Source) where
     IsArms d no_arm = Never
     IsArms d (arm_then x l) = IsArm d x ▷ MoreArms d l
 
+    -- `{elsif arm}` (5.3)
     pub MoreArms : ℕ → PArms → Spelling
     MoreArms d no_arm = Nothing
     MoreArms d (arm_then x l) = Key key.Elsif ▷ IsArm d x ▷ MoreArms d l
@@ -123,6 +128,7 @@ module _ (source : Source) where
     pub IsCaseArm : ℕ → PCaseArm → Spelling
     IsCaseArm d (case_arm choices l) = WhenChoices d choices ▷ Stmts d l
 
+    -- `{when choice {| choice} => stmts}` (5.4)
     pub IsCaseArms : ℕ → PCaseArms → Spelling
     IsCaseArms d no_case_arm = Nothing
     IsCaseArms d (case_arm_then x l) = IsCaseArm d x ▷ IsCaseArms d l
@@ -131,10 +137,12 @@ module _ (source : Source) where
     pub IsBody : ℕ → PBody → Spelling
     IsBody d (body l hs) = Where (OthersLast hs) (Key key.Begin ▷ Stmts d l ▷ HandlerPart d hs)
 
+    -- `[exception handler {handler}]` (11.2)
     pub HandlerPart : ℕ → PHandlers → Spelling
     HandlerPart d no_handler = Nothing
     HandlerPart d (handler_then x l) = Key key.Exception ▷ IsHandler d x ▷ MoreHandlers d l
 
+    -- `{handler}` (11.2)
     pub MoreHandlers : ℕ → PHandlers → Spelling
     MoreHandlers d no_handler = Nothing
     MoreHandlers d (handler_then x l) = IsHandler d x ▷ MoreHandlers d l

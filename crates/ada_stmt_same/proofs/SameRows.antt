@@ -1,7 +1,7 @@
 -- Rows that are the same place by place, for the loops that compare lists of statements, alternatives, arms and handlers.
 use Rattle.std.proofs.Common.{◌≡◌, ℕ, ◌+◌, ◌<◌, List, [], ◌∷◌, length, map, take, get_or}
 use Rattle.std.specs.List.{AllZip}
-use Rattle.ada_tree.specs.PlainStmt.{row_of, alts_of, arms_of, case_arms_of, handlers_of, plain_stmt, plain_alt, plain_arm, plain_case_arm, plain_handler}
+use Rattle.ada_tree.specs.PlainStmt.{stmts_of, alts_of, arms_of, case_arms_of, handlers_of, plain_stmt, plain_alt, plain_arm, plain_case_arm, plain_handler}
 use Rattle.ada_tree.specs.Same.{SameStmt, SameStmts, SameAlt, SameAlts, SameArm, SameArms, SameCaseArm, SameCaseArms, SameHandler, SameHandlers}
 use Rattle.ada_expr_same.proofs.SameLemmas.{AllZip-more, AllZip-at, AllZip-length}
 
@@ -45,20 +45,20 @@ module _ {X Row : Type 0} (R : X → X → Type 0) (row : List X → Row) (Rows 
     pub as_long : Zipped → AsLong
     as_long zipped xs ys whole = AllZip-length R f xs ys ((zipped _ _).0 whole)
 
-stmts_zipped : (n m : List (List ℕ)) → Zipped (SameStmt n m) row_of (SameStmts n m)
+stmts_zipped : (n m : List (List ℕ)) → Zipped (SameStmt n m) stmts_of (SameStmts n m)
 stmts_zipped n m [] [] = (λ h. h, λ h. h)
 stmts_zipped n m [] (y ∷ ys) = (λ h. h, λ h. h)
 stmts_zipped n m (x ∷ xs) [] = (λ h. h, λ h. h)
 stmts_zipped n m (x ∷ xs) (y ∷ ys) = let rest = stmts_zipped n m xs ys in (λ h. (h.0, rest.0 h.1), λ h. (h.0, rest.1 h.1))
 
-pub stmts_more : (n m : List (List ℕ)) → More (SameStmt n m) row_of (SameStmts n m) plain_stmt
-stmts_more n m = more (SameStmt n m) row_of (SameStmts n m) plain_stmt (stmts_zipped n m)
+pub stmts_more : (n m : List (List ℕ)) → More (SameStmt n m) stmts_of (SameStmts n m) plain_stmt
+stmts_more n m = more (SameStmt n m) stmts_of (SameStmts n m) plain_stmt (stmts_zipped n m)
 
-pub stmts_at : (n m : List (List ℕ)) → AtPlace (SameStmt n m) row_of (SameStmts n m) plain_stmt
-stmts_at n m = at_place (SameStmt n m) row_of (SameStmts n m) plain_stmt (stmts_zipped n m)
+pub stmts_at : (n m : List (List ℕ)) → AtPlace (SameStmt n m) stmts_of (SameStmts n m) plain_stmt
+stmts_at n m = at_place (SameStmt n m) stmts_of (SameStmts n m) plain_stmt (stmts_zipped n m)
 
-pub stmts_length : (n m : List (List ℕ)) → AsLong (SameStmt n m) row_of (SameStmts n m) plain_stmt
-stmts_length n m = as_long (SameStmt n m) row_of (SameStmts n m) plain_stmt (stmts_zipped n m)
+pub stmts_length : (n m : List (List ℕ)) → AsLong (SameStmt n m) stmts_of (SameStmts n m) plain_stmt
+stmts_length n m = as_long (SameStmt n m) stmts_of (SameStmts n m) plain_stmt (stmts_zipped n m)
 
 pub ruleset same_stmts = (stmts_more, stmts_at, stmts_length)
 

@@ -1,7 +1,7 @@
 // The same statements. Lists are gone through by loops, so recursion follows nesting alone.
 
 ghost use Rattle.std.specs.Prelude.{◌≡◌, ◌↔◌, IsTrue, map};
-ghost use Rattle.ada_tree.specs.PlainStmt.{plain_accept, plain_alt, plain_arm, plain_case_arm, plain_handler, plain_body, plain_stmt, row_of, alts_of, arms_of, case_arms_of, handlers_of};
+ghost use Rattle.ada_tree.specs.PlainStmt.{plain_accept, plain_alt, plain_arm, plain_case_arm, plain_handler, plain_body, plain_stmt, stmts_of, alts_of, arms_of, case_arms_of, handlers_of};
 ghost use Rattle.ada_tree.specs.Same.{SameStmt, SameStmts, SameAccept, SameAlt, SameAlts, SameArm, SameArms, SameCaseArm, SameCaseArms, SameBody, SameHandler, SameHandlers};
 
 use crate::simple::same_simple;
@@ -211,7 +211,7 @@ pub fn same_stmt(left: &Names, right: &Names, a: &Stmt, b: &Stmt) -> bool
 #[cycle(same)]
 #[tactic(auto, using(crate::proofs::SameRows::same_stmts))]
 fn same_stmts(left: &Names, right: &Names, a: &[Stmt], b: &[Stmt]) -> bool
-    ensures { IsTrue result ↔ SameStmts left.now right.now (row_of (map plain_stmt a.now)) (row_of (map plain_stmt b.now)) }
+    ensures { IsTrue result ↔ SameStmts left.now right.now (stmts_of (map plain_stmt a.now)) (stmts_of (map plain_stmt b.now)) }
 {
     if a.len() != b.len() {
         return false;

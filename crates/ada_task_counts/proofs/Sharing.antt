@@ -1,5 +1,5 @@
 -- What callees copy together, list by list.
-use Rattle.std.specs.Prelude.{◌≡◌, ℕ, ◌+◌, ◌*◌, ◌<◌, ◌≤◌, ◌==◌, Bool, true, false, cond, if◌then◌else◌, List, [], ◌∷◌, ◌++◌, length, map, flat_map, take, drop, find, sum_by, min, unwrap_or, Option, Some, None, option_map, refl}
+use Rattle.std.specs.Prelude.{◌≡◌, ℕ, ◌+◌, ◌*◌, ◌<◌, ◌≤◌, ◌==◌, Bool, true, false, cond, if◌then◌else◌, List, [], ◌∷◌, ◌++◌, length, map, flat_map, take, find, sum_by, min, unwrap_or, Option, Some, None, option_map, refl}
 use Rattle.std.proofs.Common.{sym, ap, ◌∙◌, get_or, arith}
 use Rattle.std.proofs.lemmas.List.{map_more, append-nil, take_all}
 use Rattle.std.proofs.lemmas.List.Sums.{sum_by-cons}
@@ -15,16 +15,16 @@ use Rattle.ada_tree.specs.declared.statements.Handler.{Handler, out-Handler}
 use Rattle.ada_tree.proofs.Rows.{plain_arm-out, plain_case_arm-out, plain_handler-out}
 use Rattle.ada_tree.specs.TypeTable.{TypeTable}
 use Rattle.ada_tree.specs.PlainExpr.{PExpr}
-use Rattle.ada_tree.specs.PlainStmt.{PCallee, PStmt, SNull, SAssign, SDelay, SExit, SRaise, SAbort, SCall, SAccept, SWait, SConditional, STimed, SPut, SPutLine, SNewLine, SGet, SIf, SCase, SBlock, SLoop, PAlt, alternative, PArm, arm, PCaseArm, case_arm, PHandler, handler, PBody, plain_stmt, plain_arm, plain_case_arm, plain_handler, row_of, alts_of, arms_of, case_arms_of, handlers_of}
-use Rattle.ada_tree.specs.PlainDecl.{PDecl, DNumber, DObject, DEnumeration, DArray, DSubtype, DException, DIntIo, DPragma, DTask, DTaskBody, PDecls, no_decl, decl_then}
+use Rattle.ada_tree.specs.PlainStmt.{PCallee, PStmt, SNull, SAssign, SDelay, SExit, SRaise, SAbort, SCall, SAccept, SWait, SConditional, STimed, SPut, SPutLine, SNewLine, SGet, SIf, SCase, SBlock, SLoop, PAlt, alternative, PArm, arm, PCaseArm, case_arm, PHandler, handler, PBody, plain_stmt, plain_arm, plain_case_arm, plain_handler, stmts_of, alts_of, arms_of, case_arms_of, handlers_of}
+use Rattle.ada_tree.specs.PlainDecl.{DNumber, DObject, DEnumeration, DArray, DSubtype, DException, DIntIo, DPragma, DTask, DTaskBody, PDecls, no_decl, decl_then}
 use Rattle.ada_tree.specs.StaticValue.{is_static}
-use Rattle.syn_event.specs.TaskParts.{TaskPart, task_count}
+use Rattle.syn_event.specs.NamedTasks.{NamedTasks, task_count}
 use Rattle.syn_event.specs.Callees.{stmt_callees, stmts_callees, accept_callees, alt_callees, alts_callees, arms_callees, case_arms_callees, handlers_callees, body_callees}
-use Rattle.syn_event.specs.Copying.{count_named, length_of_row, callee_share, callees_share, source_length, body_share, part_share}
+use Rattle.syn_event.specs.Copying.{count_named, length_of_array, callee_share, callees_share, source_length, body_share, part_share}
 use Rattle.ada_rules.specs.Amounts.{many, capped, plus}
-use Rattle.ada_task_counts.specs.inner.Shares.{Rates, row_lengths, length_among, index_rate, rate_of, shared, body_shares, share_of}
+use Rattle.ada_task_counts.specs.inner.Shares.{Rates, array_lengths, length_among, index_rate, rate_of, shared, body_shares, share_of}
 use Rattle.ada_task_counts.specs.inner.Copied.{own_callees, inner_callees, rest_callees, each_alt, each_arm, each_case_arm, each_handler}
-use Rattle.ada_rules.proofs.Capping.{capped_twice, capped_left, capped_sum, plus_assoc, capped_product}
+use Rattle.ada_rules.proofs.Capping.{capped_twice, capped_sum, plus_assoc, capped_product}
 
 pub shared_none : (r : Rates) → shared r [] ≡ 0
 unfolding shared
@@ -101,7 +101,7 @@ share_end r f g xs i a done told = told ∙ ap (λ l. shared r (flat_map f (map 
 
 -- ---- lists of the tree, by the callees of each member
 
-pub stmts_flat : (xs : List PStmt) → stmts_callees (row_of xs) ≡ flat_map stmt_callees xs
+pub stmts_flat : (xs : List PStmt) → stmts_callees (stmts_of xs) ≡ flat_map stmt_callees xs
 stmts_flat [] = refl
 stmts_flat (x ∷ xs) = ap (λ l. stmt_callees x ++ l) (stmts_flat xs)
 
@@ -123,14 +123,14 @@ handlers_flat (handler ws l s ∷ xs) = ap (λ r. stmts_callees l ++ r) (handler
 
 -- ---- members with statements
 
-pub arm_told : (r : Rates) (x : Arm) (list : List Stmt) (a : ℕ) → list ≡ (out-Arm x).stmts.items → a ≡ shared r (stmts_callees (row_of (map plain_stmt list))) → a ≡ shared r (each_arm (plain_arm x))
-arm_told r x list a same told = told ∙ ap (λ l. shared r (stmts_callees (row_of (map plain_stmt l)))) same ∙ ap (λ y. shared r (each_arm y)) (sym (plain_arm-out x))
+pub arm_told : (r : Rates) (x : Arm) (list : List Stmt) (a : ℕ) → list ≡ (out-Arm x).stmts.items → a ≡ shared r (stmts_callees (stmts_of (map plain_stmt list))) → a ≡ shared r (each_arm (plain_arm x))
+arm_told r x list a same told = told ∙ ap (λ l. shared r (stmts_callees (stmts_of (map plain_stmt l)))) same ∙ ap (λ y. shared r (each_arm y)) (sym (plain_arm-out x))
 
-pub case_arm_told : (r : Rates) (x : CaseArm) (list : List Stmt) (a : ℕ) → list ≡ (out-CaseArm x).stmts.items → a ≡ shared r (stmts_callees (row_of (map plain_stmt list))) → a ≡ shared r (each_case_arm (plain_case_arm x))
-case_arm_told r x list a same told = told ∙ ap (λ l. shared r (stmts_callees (row_of (map plain_stmt l)))) same ∙ ap (λ y. shared r (each_case_arm y)) (sym (plain_case_arm-out x))
+pub case_arm_told : (r : Rates) (x : CaseArm) (list : List Stmt) (a : ℕ) → list ≡ (out-CaseArm x).stmts.items → a ≡ shared r (stmts_callees (stmts_of (map plain_stmt list))) → a ≡ shared r (each_case_arm (plain_case_arm x))
+case_arm_told r x list a same told = told ∙ ap (λ l. shared r (stmts_callees (stmts_of (map plain_stmt l)))) same ∙ ap (λ y. shared r (each_case_arm y)) (sym (plain_case_arm-out x))
 
-pub handler_told : (r : Rates) (x : Handler) (list : List Stmt) (a : ℕ) → list ≡ (out-Handler x).stmts.items → a ≡ shared r (stmts_callees (row_of (map plain_stmt list))) → a ≡ shared r (each_handler (plain_handler x))
-handler_told r x list a same told = told ∙ ap (λ l. shared r (stmts_callees (row_of (map plain_stmt l)))) same ∙ ap (λ y. shared r (each_handler y)) (sym (plain_handler-out x))
+pub handler_told : (r : Rates) (x : Handler) (list : List Stmt) (a : ℕ) → list ≡ (out-Handler x).stmts.items → a ≡ shared r (stmts_callees (stmts_of (map plain_stmt list))) → a ≡ shared r (each_handler (plain_handler x))
+handler_told r x list a same told = told ∙ ap (λ l. shared r (stmts_callees (stmts_of (map plain_stmt l)))) same ∙ ap (λ y. shared r (each_handler y)) (sym (plain_handler-out x))
 
 -- ---- the parts of a statement
 
@@ -163,15 +163,15 @@ stmt_told r x a b c ab abc h g is_a is_b is_c =
 
 -- ---- what is counted is what is copied, as far as limits go
 
-found_length : (types : TypeTable) (x : TaskPart) (rows : List (ℕ × ℕ)) (parts : List TaskPart) (id : NameId) (b : Bool)
+found_length : (types : TypeTable) (x : NamedTasks) (rows : List (ℕ × ℕ)) (parts : List NamedTasks) (id : NameId) (b : Bool)
     → unwrap_or (meaning_in rows id.0) 0 ≡ capped (count_named types (find (λ y. y.name.name.0 == id.0) parts))
     → unwrap_or (option_map (λ s. s.1) (cond b (Some (x.name.name.0, capped (task_count types x))) (find (λ s. s.0 == id.0) rows))) 0 ≡ capped (count_named types (cond b (Some x) (find (λ y. y.name.name.0 == id.0) parts)))
 found_length types x rows parts id true h = refl
 found_length types x rows parts id false h = h
 
-pub lengths_are : (types : TypeTable) (parts : List TaskPart) (id : NameId) → length_among (row_lengths types parts) id ≡ capped (length_of_row types parts id)
+pub lengths_are : (types : TypeTable) (parts : List NamedTasks) (id : NameId) → length_among (array_lengths types parts) id ≡ capped (length_of_array types parts id)
 lengths_are types [] id = refl
-lengths_are types (x ∷ parts) id = found_length types x (row_lengths types parts) parts id (x.name.name.0 == id.0) (lengths_are types parts id)
+lengths_are types (x ∷ parts) id = found_length types x (array_lengths types parts) parts id (x.name.name.0 == id.0) (lengths_are types parts id)
 
 hundred : (m n : ℕ) → 0 < m → min (100 * min n m) m ≡ min (100 * n) m
 hundred m n h = omega arith
@@ -180,24 +180,24 @@ rate_if : (b : Bool) (n k : ℕ) → n ≡ capped k → (if b then 0 else capped
 rate_if true n k h = refl
 rate_if false n k h = ap (λ x. capped (100 * x)) h ∙ hundred many k (omega arith)
 
-rate_by : (types : TypeTable) (parts : List TaskPart) (w : Word) (o : Option PExpr) → rate_of record { types = types; rows = row_lengths types parts } record { name = w; index = o } ≡ capped (callee_share types parts record { name = w; index = o })
-rate_by types parts w (Some e) = rate_if (is_static types e) (length_among (row_lengths types parts) w.name) (length_of_row types parts w.name) (lengths_are types parts w.name)
+rate_by : (types : TypeTable) (parts : List NamedTasks) (w : Word) (o : Option PExpr) → rate_of record { types = types; rows = array_lengths types parts } record { name = w; index = o } ≡ capped (callee_share types parts record { name = w; index = o })
+rate_by types parts w (Some e) = rate_if (is_static types e) (length_among (array_lengths types parts) w.name) (length_of_array types parts w.name) (lengths_are types parts w.name)
 rate_by types parts w None = refl
 
-rate_is : (types : TypeTable) (parts : List TaskPart) (c : PCallee) → rate_of record { types = types; rows = row_lengths types parts } c ≡ capped (callee_share types parts c)
+rate_is : (types : TypeTable) (parts : List NamedTasks) (c : PCallee) → rate_of record { types = types; rows = array_lengths types parts } c ≡ capped (callee_share types parts c)
 rate_is types parts c = rate_by types parts c.name c.index
 
-pub shared_is : (types : TypeTable) (parts : List TaskPart) (cs : List PCallee) → shared record { types = types; rows = row_lengths types parts } cs ≡ capped (sum_by (callee_share types parts) cs)
+pub shared_is : (types : TypeTable) (parts : List NamedTasks) (cs : List PCallee) → shared record { types = types; rows = array_lengths types parts } cs ≡ capped (sum_by (callee_share types parts) cs)
 unfolding shared
 shared_is types parts [] = refl
 shared_is types parts (c ∷ rest) =
-    ap (λ n. plus n (shared record { types = types; rows = row_lengths types parts } rest)) (rate_is types parts c)
+    ap (λ n. plus n (shared record { types = types; rows = array_lengths types parts } rest)) (rate_is types parts c)
     ∙ ap (plus (capped (callee_share types parts c))) (shared_is types parts rest)
     ∙ capped_sum (callee_share types parts c) (sum_by (callee_share types parts) rest)
     ∙ ap capped (sym (sum_by-cons (callee_share types parts) c rest))
 
 -- the share of a body
-own_share : (types : TypeTable) (parts : List TaskPart) (its : PBody) (s : Span) → plus (source_length s) (shared record { types = types; rows = row_lengths types parts } (body_callees its)) ≡ capped (source_length s + callees_share types parts its)
+own_share : (types : TypeTable) (parts : List NamedTasks) (its : PBody) (s : Span) → plus (source_length s) (shared record { types = types; rows = array_lengths types parts } (body_callees its)) ≡ capped (source_length s + callees_share types parts its)
 own_share types parts its s =
     ap (plus (source_length s)) (shared_is types parts (body_callees its)) ∙ right (source_length s) (callees_share types parts its)
   where
@@ -212,7 +212,7 @@ found_name : (w n k share : ℕ) (rows : List (ℕ × ℕ)) (id : NameId) (b : B
 found_name w n k share rows id true h g = h
 found_name w n k share rows id false h g = g
 
-pub body_shares_are : (types : TypeTable) (parts : List TaskPart) (decls : PDecls) (id : NameId) → share_of (body_shares record { types = types; rows = row_lengths types parts } decls) id ≡ capped (body_share types parts decls id)
+pub body_shares_are : (types : TypeTable) (parts : List NamedTasks) (decls : PDecls) (id : NameId) → share_of (body_shares record { types = types; rows = array_lengths types parts } decls) id ≡ capped (body_share types parts decls id)
 body_shares_are types parts no_decl id = refl
 body_shares_are types parts (decl_then (DNumber w e s) rest) id = body_shares_are types parts rest id
 body_shares_are types parts (decl_then (DObject ws c x i s) rest) id = body_shares_are types parts rest id
@@ -224,15 +224,15 @@ body_shares_are types parts (decl_then (DIntIo w s) rest) id = body_shares_are t
 body_shares_are types parts (decl_then (DPragma e s) rest) id = body_shares_are types parts rest id
 body_shares_are types parts (decl_then (DTask t s) rest) id = body_shares_are types parts rest id
 body_shares_are types parts (decl_then (DTaskBody w objects its s) rest) id =
-    found_name w.name.0 (plus (source_length s) (shared record { types = types; rows = row_lengths types parts } (body_callees its))) (body_share types parts rest id) (source_length s + callees_share types parts its) (body_shares record { types = types; rows = row_lengths types parts } rest) id (w.name.0 == id.0)
+    found_name w.name.0 (plus (source_length s) (shared record { types = types; rows = array_lengths types parts } (body_callees its))) (body_share types parts rest id) (source_length s + callees_share types parts its) (body_shares record { types = types; rows = array_lengths types parts } rest) id (w.name.0 == id.0)
     (own_share types parts its s)
     (body_shares_are types parts rest id)
 
 -- the share of a name that stands for tasks
-pub part_share_is : (types : TypeTable) (parts : List TaskPart) (decls : PDecls) (x : TaskPart)
-    → capped (capped (capped (task_count types x) * share_of (body_shares record { types = types; rows = row_lengths types parts } decls) x.unit.name.name)) ≡ capped (part_share types parts decls x)
+pub part_share_is : (types : TypeTable) (parts : List NamedTasks) (decls : PDecls) (x : NamedTasks)
+    → capped (capped (capped (task_count types x) * share_of (body_shares record { types = types; rows = array_lengths types parts } decls) x.unit.name.name)) ≡ capped (part_share types parts decls x)
 part_share_is types parts decls x =
-    capped_twice (capped (task_count types x) * share_of (body_shares record { types = types; rows = row_lengths types parts } decls) x.unit.name.name)
+    capped_twice (capped (task_count types x) * share_of (body_shares record { types = types; rows = array_lengths types parts } decls) x.unit.name.name)
     ∙ ap (λ n. capped (capped (task_count types x) * n)) (body_shares_are types parts decls x.unit.name.name)
     ∙ capped_product (task_count types x) (body_share types parts decls x.unit.name.name)
 

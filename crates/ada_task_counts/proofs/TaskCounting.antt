@@ -4,11 +4,10 @@ use Rattle.std.proofs.Common.{sym, ap, ◌∙◌, arith}
 use Rattle.ada_tree.specs.declared.declarations.EntryDecl.{EntryDecl}
 use Rattle.ada_tree.specs.TypeTable.{TypeTable}
 use Rattle.ada_tree.specs.PlainDecl.{PEntry, plain_entry}
-use Rattle.syn_event.specs.declared.numbering.Mode.TheVariants as mode
 use Rattle.syn_event.specs.declared.limits.What.TheVariants.{Tasks, Entries, Copies}
 use Rattle.syn_event.specs.CheckRefusals.{CheckRefusal}
 use Rattle.syn_event.specs.CheckScope.{CheckScope, counts, CheckSite}
-use Rattle.syn_event.specs.TaskParts.{TaskPart, task_count}
+use Rattle.syn_event.specs.NamedTasks.{NamedTasks, task_count}
 use Rattle.syn_event.specs.CheckSites.{site, numbered, tasks_sites, entries_of_part, entries_sites, copies_sites}
 use Rattle.ada_rules.specs.declared.counting.Counted.{Counted}
 use Rattle.ada_rules.specs.Amounts.{capped}
@@ -42,27 +41,27 @@ module _ (by : Standard) (around : CheckScope) where
 -- ---- tasks
 
 module _ (by : Standard) (around : CheckScope) where
-  task_next : (n : ℕ) (x : TaskPart) (xs : List TaskPart) → refused_first by (tasks_sites around n (x ∷ xs)) ≡ sooner (refused_first_at by around (counts Tasks n (task_count around.types x) x.place)) (refused_first by (tasks_sites around (n + task_count around.types x) xs))
+  task_next : (n : ℕ) (x : NamedTasks) (xs : List NamedTasks) → refused_first by (tasks_sites around n (x ∷ xs)) ≡ sooner (refused_first_at by around (counts Tasks n (task_count around.types x) x.place)) (refused_first by (tasks_sites around (n + task_count around.types x) xs))
   task_next n x xs = met_cons by around (counts Tasks n (task_count around.types x) x.place) (tasks_sites around (n + task_count around.types x) xs)
 
-  task_same : (b c : ℕ) (x : TaskPart) → capped b ≡ capped c → refused_first_at by around (counts Tasks b (task_count around.types x) x.place) ≡ refused_first_at by around (counts Tasks c (task_count around.types x) x.place)
+  task_same : (b c : ℕ) (x : NamedTasks) → capped b ≡ capped c → refused_first_at by around (counts Tasks b (task_count around.types x) x.place) ≡ refused_first_at by around (counts Tasks c (task_count around.types x) x.place)
   task_same b c x h = at_same by around Tasks b c (task_count around.types x) (task_count around.types x) x.place h refl
 
-  pub tasks_more : {A : Type 0} (see : A → TaskPart) (xs : List A) (i : ℕ) (x : A) (b c : ℕ) (before after all : Option CheckRefusal) → drop i xs ≡ x ∷ drop (i + 1) xs
+  pub tasks_more : {A : Type 0} (see : A → NamedTasks) (xs : List A) (i : ℕ) (x : A) (b c : ℕ) (before after all : Option CheckRefusal) → drop i xs ≡ x ∷ drop (i + 1) xs
       → sooner before (refused_first by (tasks_sites around b (map see (drop i xs)))) ≡ all
       → capped c ≡ capped (b + task_count around.types (see x))
       → after ≡ sooner before (refused_first_at by around (counts Tasks b (task_count around.types (see x)) (see x).place))
       → sooner after (refused_first by (tasks_sites around c (map see (drop (i + 1) xs)))) ≡ all
   tasks_more = count_more by (tasks_sites around) (λ n x. refused_first_at by around (counts Tasks n (task_count around.types x) x.place)) (task_count around.types) (λ n. met_none by) task_next task_same
 
-  pub tasks_end : {A : Type 0} (see : A → TaskPart) (xs : List A) (i : ℕ) (b : ℕ) (a all : Option CheckRefusal) → length xs ≤ i
+  pub tasks_end : {A : Type 0} (see : A → NamedTasks) (xs : List A) (i : ℕ) (b : ℕ) (a all : Option CheckRefusal) → length xs ≤ i
       → sooner a (refused_first by (tasks_sites around b (map see (drop i xs)))) ≡ all
       → a ≡ all
   tasks_end = count_end by (tasks_sites around) (λ n x. refused_first_at by around (counts Tasks n (task_count around.types x) x.place)) (task_count around.types) (λ n. met_none by) task_next task_same
 
   -- ---- entries
 
-  entries_by : (of_kind : Bool) (b c : ℕ) (x : TaskPart) → capped b ≡ capped c → x.unit.of_kind ≡ of_kind → refused_first by (entries_of_part around b x) ≡ refused_first by (entries_of_part around c x)
+  entries_by : (of_kind : Bool) (b c : ℕ) (x : NamedTasks) → capped b ≡ capped c → x.unit.of_kind ≡ of_kind → refused_first by (entries_of_part around b x) ≡ refused_first by (entries_of_part around c x)
   entries_by of_kind b c x h e = by_kind x.unit.of_kind
     where
       by_kind : (k : Bool) → refused_first by (if k then site around (counts Entries b (task_count around.types x * length x.unit.entries) x.place) ∷ [] else numbered around Entries b (map (λ y. y.span) x.unit.entries)) ≡ refused_first by (if k then site around (counts Entries c (task_count around.types x * length x.unit.entries) x.place) ∷ [] else numbered around Entries c (map (λ y. y.span) x.unit.entries))
@@ -72,50 +71,50 @@ module _ (by : Standard) (around : CheckScope) where
           ∙ sym (met_one by around (counts Entries c (task_count around.types x * length x.unit.entries) x.place))
       by_kind false = numbered_same by around Entries b c (map (λ y. y.span) x.unit.entries) h
 
-  part_same : (b c : ℕ) (x : TaskPart) → capped b ≡ capped c → refused_first by (entries_of_part around b x) ≡ refused_first by (entries_of_part around c x)
+  part_same : (b c : ℕ) (x : NamedTasks) → capped b ≡ capped c → refused_first by (entries_of_part around b x) ≡ refused_first by (entries_of_part around c x)
   part_same b c x h = entries_by x.unit.of_kind b c x h refl
 
-  part_next : (n : ℕ) (x : TaskPart) (xs : List TaskPart) → refused_first by (entries_sites around n (x ∷ xs)) ≡ sooner (refused_first by (entries_of_part around n x)) (refused_first by (entries_sites around (n + task_count around.types x * length x.unit.entries) xs))
+  part_next : (n : ℕ) (x : NamedTasks) (xs : List NamedTasks) → refused_first by (entries_sites around n (x ∷ xs)) ≡ sooner (refused_first by (entries_of_part around n x)) (refused_first by (entries_sites around (n + task_count around.types x * length x.unit.entries) xs))
   part_next n x xs = met_append by (entries_of_part around n x) (entries_sites around (n + task_count around.types x * length x.unit.entries) xs)
 
-  pub entries_more : {A : Type 0} (see : A → TaskPart) (xs : List A) (i : ℕ) (x : A) (b c : ℕ) (before after all : Option CheckRefusal) → drop i xs ≡ x ∷ drop (i + 1) xs
+  pub entries_more : {A : Type 0} (see : A → NamedTasks) (xs : List A) (i : ℕ) (x : A) (b c : ℕ) (before after all : Option CheckRefusal) → drop i xs ≡ x ∷ drop (i + 1) xs
       → sooner before (refused_first by (entries_sites around b (map see (drop i xs)))) ≡ all
       → capped c ≡ capped (b + task_count around.types (see x) * length (see x).unit.entries)
       → after ≡ sooner before (refused_first by (entries_of_part around b (see x)))
       → sooner after (refused_first by (entries_sites around c (map see (drop (i + 1) xs)))) ≡ all
   entries_more = count_more by (entries_sites around) (λ n x. refused_first by (entries_of_part around n x)) (λ x. task_count around.types x * length x.unit.entries) (λ n. met_none by) part_next part_same
 
-  pub entries_end : {A : Type 0} (see : A → TaskPart) (xs : List A) (i : ℕ) (b : ℕ) (a all : Option CheckRefusal) → length xs ≤ i
+  pub entries_end : {A : Type 0} (see : A → NamedTasks) (xs : List A) (i : ℕ) (b : ℕ) (a all : Option CheckRefusal) → length xs ≤ i
       → sooner a (refused_first by (entries_sites around b (map see (drop i xs)))) ≡ all
       → a ≡ all
   entries_end = count_end by (entries_sites around) (λ n x. refused_first by (entries_of_part around n x)) (λ x. task_count around.types x * length x.unit.entries) (λ n. met_none by) part_next part_same
 
   -- ---- copies
 
-  module _ (share : TaskPart → ℕ) where
-    copy_next : (n : ℕ) (x : TaskPart) (xs : List TaskPart) → refused_first by (copies_sites around share n (x ∷ xs)) ≡ sooner (refused_first_at by around (counts Copies n (share x) x.name.span)) (refused_first by (copies_sites around share (n + share x) xs))
+  module _ (share : NamedTasks → ℕ) where
+    copy_next : (n : ℕ) (x : NamedTasks) (xs : List NamedTasks) → refused_first by (copies_sites around share n (x ∷ xs)) ≡ sooner (refused_first_at by around (counts Copies n (share x) x.name.span)) (refused_first by (copies_sites around share (n + share x) xs))
     copy_next n x xs = met_cons by around (counts Copies n (share x) x.name.span) (copies_sites around share (n + share x) xs)
 
-    copy_same : (b c : ℕ) (x : TaskPart) → capped b ≡ capped c → refused_first_at by around (counts Copies b (share x) x.name.span) ≡ refused_first_at by around (counts Copies c (share x) x.name.span)
+    copy_same : (b c : ℕ) (x : NamedTasks) → capped b ≡ capped c → refused_first_at by around (counts Copies b (share x) x.name.span) ≡ refused_first_at by around (counts Copies c (share x) x.name.span)
     copy_same b c x h = at_same by around Copies b c (share x) (share x) x.name.span h refl
 
-    copies_from : (b c : ℕ) (xs : List TaskPart) → capped b ≡ capped c → refused_first by (copies_sites around share b xs) ≡ refused_first by (copies_sites around share c xs)
+    copies_from : (b c : ℕ) (xs : List NamedTasks) → capped b ≡ capped c → refused_first by (copies_sites around share b xs) ≡ refused_first by (copies_sites around share c xs)
     copies_from = from_same by (copies_sites around share) (λ n x. refused_first_at by around (counts Copies n (share x) x.name.span)) share (λ n. met_none by) copy_next copy_same
 
-    pub copies_more : {A : Type 0} (see : A → TaskPart) (xs : List A) (i : ℕ) (x : A) (b c : ℕ) (before after all : Option CheckRefusal) → drop i xs ≡ x ∷ drop (i + 1) xs
+    pub copies_more : {A : Type 0} (see : A → NamedTasks) (xs : List A) (i : ℕ) (x : A) (b c : ℕ) (before after all : Option CheckRefusal) → drop i xs ≡ x ∷ drop (i + 1) xs
         → sooner before (refused_first by (copies_sites around share b (map see (drop i xs)))) ≡ all
         → capped c ≡ capped (b + share (see x))
         → after ≡ sooner before (refused_first_at by around (counts Copies b (share (see x)) (see x).name.span))
         → sooner after (refused_first by (copies_sites around share c (map see (drop (i + 1) xs)))) ≡ all
     copies_more = count_more by (copies_sites around share) (λ n x. refused_first_at by around (counts Copies n (share x) x.name.span)) share (λ n. met_none by) copy_next copy_same
 
-    pub copies_end : {A : Type 0} (see : A → TaskPart) (xs : List A) (i : ℕ) (b : ℕ) (a all : Option CheckRefusal) → length xs ≤ i
+    pub copies_end : {A : Type 0} (see : A → NamedTasks) (xs : List A) (i : ℕ) (b : ℕ) (a all : Option CheckRefusal) → length xs ≤ i
         → sooner a (refused_first by (copies_sites around share b (map see (drop i xs)))) ≡ all
         → a ≡ all
     copies_end = count_end by (copies_sites around share) (λ n x. refused_first_at by around (counts Copies n (share x) x.name.span)) share (λ n. met_none by) copy_next copy_same
 
 -- shares that are the same as far as limits go
-pub shares_same : (by : Standard) (around : CheckScope) (f g : TaskPart → ℕ) → ((x : TaskPart) → capped (f x) ≡ capped (g x)) → (b c : ℕ) (xs : List TaskPart) → capped b ≡ capped c → refused_first by (copies_sites around f b xs) ≡ refused_first by (copies_sites around g c xs)
+pub shares_same : (by : Standard) (around : CheckScope) (f g : NamedTasks → ℕ) → ((x : NamedTasks) → capped (f x) ≡ capped (g x)) → (b c : ℕ) (xs : List NamedTasks) → capped b ≡ capped c → refused_first by (copies_sites around f b xs) ≡ refused_first by (copies_sites around g c xs)
 shares_same by around f g e b c [] h = refl
 shares_same by around f g e b c (x ∷ xs) h =
     met_cons by around (counts Copies b (f x) x.name.span) (copies_sites around f (b + f x) xs)
@@ -132,7 +131,7 @@ shares_same by around f g e b c (x ∷ xs) h =
 -- ---- turns of loops over the names that stand for tasks
 
 module _ {A : Type 0} (by : Standard) (around : CheckScope) where
-  pub task_turn : (types : TypeTable) (see : A → TaskPart) (xs : List A) (i : ℕ) (x : A) (here b c : ℕ) (before after all : Option CheckRefusal) → around.types ≡ types → drop i xs ≡ x ∷ drop (i + 1) xs
+  pub task_turn : (types : TypeTable) (see : A → NamedTasks) (xs : List A) (i : ℕ) (x : A) (here b c : ℕ) (before after all : Option CheckRefusal) → around.types ≡ types → drop i xs ≡ x ∷ drop (i + 1) xs
       → sooner before (refused_first by (tasks_sites around b (map see (drop i xs)))) ≡ all
       → here ≡ capped (task_count types (see x))
       → capped c ≡ capped (b + here)
@@ -144,7 +143,7 @@ module _ {A : Type 0} (by : Standard) (around : CheckScope) where
       (count ∙ right_same b here (task_count around.types (see x)) weight)
       (is_after ∙ ap (sooner before) (at_same by around Tasks b b here (task_count around.types (see x)) (see x).place refl weight))
 
-  pub copies_turn : (share : TaskPart → ℕ) (see : A → TaskPart) (xs : List A) (i : ℕ) (x : A) (here b c : ℕ) (before after all : Option CheckRefusal) → drop i xs ≡ x ∷ drop (i + 1) xs
+  pub copies_turn : (share : NamedTasks → ℕ) (see : A → NamedTasks) (xs : List A) (i : ℕ) (x : A) (here b c : ℕ) (before after all : Option CheckRefusal) → drop i xs ≡ x ∷ drop (i + 1) xs
       → sooner before (refused_first by (copies_sites around share b (map see (drop i xs)))) ≡ all
       → here ≡ share (see x)
       → capped c ≡ capped (b + here)
@@ -155,7 +154,7 @@ module _ {A : Type 0} (by : Standard) (around : CheckScope) where
       (count ∙ ap (λ k. capped (b + k)) is_here)
       (is_after ∙ ap (λ k. sooner before (refused_first_at by around (counts Copies b k (see x).name.span))) is_here)
 
-  pub entries_turn : (types : TypeTable) (see : A → TaskPart) (xs : List A) (i : ℕ) (x : A) (counted after : Counted) (all : Option CheckRefusal) → around.types ≡ types → drop i xs ≡ x ∷ drop (i + 1) xs
+  pub entries_turn : (types : TypeTable) (see : A → NamedTasks) (xs : List A) (i : ℕ) (x : A) (counted after : Counted) (all : Option CheckRefusal) → around.types ≡ types → drop i xs ≡ x ∷ drop (i + 1) xs
       → sooner counted.refusal (refused_first by (entries_sites around counted.count (map see (drop i xs)))) ≡ all
       → IsCounted by counted (entries_of_part around counted.count (see x)) (task_count types (see x) * length (see x).unit.entries) after
       → sooner after.refusal (refused_first by (entries_sites around after.count (map see (drop (i + 1) xs)))) ≡ all
@@ -166,7 +165,7 @@ module _ {A : Type 0} (by : Standard) (around : CheckScope) where
 
 -- ---- the entries of a name that stands for tasks
 
-module _ (by : Standard) (around : CheckScope) (x : TaskPart) (counted after : Counted) (here : ℕ) where
+module _ (by : Standard) (around : CheckScope) (x : NamedTasks) (counted after : Counted) (here : ℕ) where
   here_is : (types : TypeTable) → around.types ≡ types → here ≡ capped (capped (task_count types x) * length x.unit.entries) → capped after.count ≡ capped (counted.count + here)
       → capped after.count ≡ capped (counted.count + task_count types x * length x.unit.entries)
   here_is types same is_here count = count ∙ right_same counted.count here (task_count types x * length x.unit.entries) (weight types is_here)

@@ -3,18 +3,18 @@
 ghost use Rattle.std.specs.Prelude.{◌≡◌, ◌*◌, map, IfOk};
 ghost use Rattle.ada_tree.specs.PlainProgram.{plain_program};
 ghost use Rattle.syn_event.specs.CheckScope.{CheckScope};
-ghost use Rattle.syn_event.specs.TaskParts.{task_count};
+ghost use Rattle.syn_event.specs.NamedTasks.{task_count};
 ghost use Rattle.syn_event.specs.CheckSites.{copies_sites, all_copies_sites};
 ghost use Rattle.ada_rules.specs.Amounts.{capped};
 ghost use Rattle.ada_rules.specs.Sooner.{sooner};
 ghost use Rattle.ada_rules.specs.RefusedFirst.{refused_first};
-ghost use Rattle.ada_task_objects.specs.PlainParts.{plain_part};
+ghost use Rattle.ada_task_objects.specs.PlainNames.{plain_named_tasks};
 ghost use Rattle.ada_task_counts.specs.inner.Shares.{share_of};
 
 use crate::counts::task_count;
 use crate::shares::{BodyShares, Rates, body_share};
 use ada_rules::{Counted, Refusal, Standard, count_on, product};
-use ada_task_objects::TaskPart;
+use ada_task_objects::NamedTasks;
 use ada_tree::{Program, Types};
 use std::alloc::{AllocError, Global};
 use syn_event::What;
@@ -25,9 +25,9 @@ fn count_copies(
     types: &Types,
     shares: &BodyShares,
     own: Counted,
-    parts: &[TaskPart],
+    parts: &[NamedTasks],
 ) -> Option<Refusal>
-    ensures { (around : CheckScope) → result ≡ sooner own.refusal (refused_first by.now (copies_sites around (λ x. capped (capped (task_count types.now x) * share_of shares.now x.unit.name.name)) own.count (map plain_part parts.now))) }
+    ensures { (around : CheckScope) → result ≡ sooner own.refusal (refused_first by.now (copies_sites around (λ x. capped (capped (task_count types.now x) * share_of shares.now x.unit.name.name)) own.count (map plain_named_tasks parts.now))) }
 {
     let mut counted = own;
     for part in parts {
@@ -42,10 +42,10 @@ pub fn refuse_copies(
     alloc: Global,
     by: &Standard,
     types: &Types,
-    parts: &[TaskPart],
+    parts: &[NamedTasks],
     p: &Program,
 ) -> Result<Option<Refusal>, AllocError>
-    ensures { (around : CheckScope) → around.types ≡ types.now → IfOk result (λ r. r ≡ refused_first by.now (all_copies_sites around (map plain_part parts.now) (plain_program p.now))) }
+    ensures { (around : CheckScope) → around.types ≡ types.now → IfOk result (λ r. r ≡ refused_first by.now (all_copies_sites around (map plain_named_tasks parts.now) (plain_program p.now))) }
 {
     let rates = Rates::new(alloc, types, parts)?;
     let shares = BodyShares::new(alloc, &rates, &p.decls)?;

@@ -5,31 +5,31 @@ ghost use Rattle.ada_tree.specs.PlainDecl.{plain_entry};
 ghost use Rattle.syn_event.specs.declared.limits.What.{What};
 ghost use Rattle.syn_event.specs.declared.limits.What.TheVariants.{Entries};
 ghost use Rattle.syn_event.specs.CheckScope.{CheckScope};
-ghost use Rattle.syn_event.specs.TaskParts.{task_count};
+ghost use Rattle.syn_event.specs.NamedTasks.{task_count};
 ghost use Rattle.syn_event.specs.CheckSites.{numbered, tasks_sites, entries_of_part, entries_sites};
 ghost use Rattle.ada_rules.specs.Amounts.{capped};
 ghost use Rattle.ada_rules.specs.RefusedFirst.{refused_first};
-ghost use Rattle.ada_task_objects.specs.PlainParts.{plain_part};
+ghost use Rattle.ada_task_objects.specs.PlainNames.{plain_named_tasks};
 ghost use Rattle.ada_rules.specs.inner.Counted.{IsCounted};
 
 use ada_rules::{Counted, Refusal, Standard, count_on, plus, product};
-use ada_task_objects::{TaskPart, size};
+use ada_task_objects::{NamedTasks, size};
 use ada_tree::{EntryDecl, Types};
 use syn_event::What;
 
 /// How many tasks a name stands for.
-pub(crate) fn task_count(types: &Types, part: &TaskPart) -> u64
-    ensures { result ≡ capped (task_count types.now (plain_part part.now)) }
+pub(crate) fn task_count(types: &Types, part: &NamedTasks) -> u64
+    ensures { result ≡ capped (task_count types.now (plain_named_tasks part.now)) }
 {
-    match part.row {
+    match part.index_range {
         Some(range) => size(types, range),
         None => 1,
     }
 }
 
 /// The tasks of a program.
-pub fn refuse_tasks(by: &Standard, types: &Types, parts: &[TaskPart]) -> Option<Refusal>
-    ensures { (around : CheckScope) → around.types ≡ types.now → result ≡ refused_first by.now (tasks_sites around 0 (map plain_part parts.now)) }
+pub fn refuse_tasks(by: &Standard, types: &Types, parts: &[NamedTasks]) -> Option<Refusal>
+    ensures { (around : CheckScope) → around.types ≡ types.now → result ≡ refused_first by.now (tasks_sites around 0 (map plain_named_tasks parts.now)) }
 {
     let mut counted = Counted {
         count: 0,
@@ -54,8 +54,8 @@ fn count_single(by: &Standard, so_far: Counted, entries: &[EntryDecl]) -> Counte
 }
 
 // The entries of the tasks that a name stands for.
-fn count_entries(by: &Standard, types: &Types, so_far: Counted, part: &TaskPart) -> Counted
-    ensures { (around : CheckScope) → around.types ≡ types.now → IsCounted by.now so_far (entries_of_part around so_far.count (plain_part part.now)) (task_count types.now (plain_part part.now) * length (plain_part part.now).unit.entries) result }
+fn count_entries(by: &Standard, types: &Types, so_far: Counted, part: &NamedTasks) -> Counted
+    ensures { (around : CheckScope) → around.types ≡ types.now → IsCounted by.now so_far (entries_of_part around so_far.count (plain_named_tasks part.now)) (task_count types.now (plain_named_tasks part.now) * length (plain_named_tasks part.now).unit.entries) result }
 {
     let each = part.unit.entries.len() as u64;
     let here = product(task_count(types, part), each);
@@ -72,8 +72,8 @@ fn count_entries(by: &Standard, types: &Types, so_far: Counted, part: &TaskPart)
 }
 
 /// The entries of a program.
-pub fn refuse_entries(by: &Standard, types: &Types, parts: &[TaskPart]) -> Option<Refusal>
-    ensures { (around : CheckScope) → around.types ≡ types.now → result ≡ refused_first by.now (entries_sites around 0 (map plain_part parts.now)) }
+pub fn refuse_entries(by: &Standard, types: &Types, parts: &[NamedTasks]) -> Option<Refusal>
+    ensures { (around : CheckScope) → around.types ≡ types.now → result ≡ refused_first by.now (entries_sites around 0 (map plain_named_tasks parts.now)) }
 {
     let mut counted = Counted {
         count: 0,

@@ -4,18 +4,18 @@
 ghost use Rattle.std.specs.Prelude.{◌≡◌, ◌-◌, map, option_map, Some, IfOk, OnOk};
 ghost use Rattle.ada_tree.specs.declared.naming.NameId.{NameId};
 ghost use Rattle.ada_tree.specs.PlainExpr.{plain_expr};
-ghost use Rattle.ada_tree.specs.PlainStmt.{plain_callee, plain_accept, plain_alt, plain_alt_kind, plain_arm, plain_case_arm, plain_handler, plain_body, plain_stmt, row_of, alts_of, arms_of, case_arms_of, handlers_of};
+ghost use Rattle.ada_tree.specs.PlainStmt.{plain_callee, plain_accept, plain_alt, plain_alt_kind, plain_arm, plain_case_arm, plain_handler, plain_body, plain_stmt, stmts_of, alts_of, arms_of, case_arms_of, handlers_of};
 ghost use Rattle.ada_tree.specs.PlainDecl.{plain_decl, decls_of};
 ghost use Rattle.syn_event.specs.Callees.{stmt_callees, stmts_callees, accept_callees, alts_callees, alt_callees, arms_callees, case_arms_callees, body_callees, handlers_callees};
 ghost use Rattle.syn_event.specs.Copying.{source_length};
-ghost use Rattle.ada_task_objects.specs.PlainParts.{plain_part};
+ghost use Rattle.ada_task_objects.specs.PlainNames.{plain_named_tasks};
 ghost use Rattle.ada_task_counts.specs.inner.Copied.{own_callees, inner_callees, rest_callees, each_alt};
-ghost use Rattle.ada_task_counts.specs.inner.Shares.{rate_of, index_rate, length_among, shared, row_lengths, share_of, with_share, body_shares};
+ghost use Rattle.ada_task_counts.specs.inner.Shares.{rate_of, index_rate, length_among, shared, array_lengths, share_of, with_share, body_shares};
 
 use crate::counts::task_count;
 use ada_rules::{plus, product};
 use ada_static_values::static_values::is_static;
-use ada_task_objects::TaskPart;
+use ada_task_objects::NamedTasks;
 use ada_tree::{
     Accept, Alt, AltKind, Arm, Body, Callee, CaseArm, Decl, DeclKind, Expr, Handler, NameId, Span,
     Stmt, StmtKind, Types,
@@ -44,9 +44,9 @@ impl<'t> Rates<'t> {
     pub(crate) fn new(
         alloc: Global,
         types: &'t Types,
-        parts: &[TaskPart],
+        parts: &[NamedTasks],
     ) -> Result<Self, AllocError>
-        ensures { IfOk result (λ rates. rates ≡ record { types = types.now; rows = row_lengths types.now (map plain_part parts.now) }) }
+        ensures { IfOk result (λ rates. rates ≡ record { types = types.now; rows = array_lengths types.now (map plain_named_tasks parts.now) }) }
     {
         let mut rows = ScopedNames::new(alloc);
         for done in 0..parts.len() {
@@ -252,7 +252,7 @@ fn stmt_share(rates: &Rates, stmt: &Stmt) -> u64
 
 #[cycle(shares)]
 fn stmts_share(rates: &Rates, list: &[Stmt]) -> u64
-    ensures { result ≡ shared rates.now (stmts_callees (row_of (map plain_stmt list.now))) }
+    ensures { result ≡ shared rates.now (stmts_callees (stmts_of (map plain_stmt list.now))) }
 {
     let mut share = 0;
     for stmt in list {

@@ -8,12 +8,12 @@ ghost use Rattle.ada_tree.specs.PlainProgram.{plain_program};
 ghost use Rattle.syn_event.specs.Units.{text_of};
 ghost use Rattle.syn_event.specs.Numbered.{is_added_name, task_info, speaks_of, original_number, with_origin, with_origins};
 ghost use Rattle.syn_event.specs.Extents.{count_to, size_of};
-ghost use Rattle.syn_event.specs.TaskParts.{seat, seats_of};
-ghost use Rattle.syn_event.specs.AllNumbers.{seat_info, seat_entry, seat_entries, family_extent, first_of, last_of, all_numbers};
-ghost use Rattle.ada_task_objects.specs.PlainParts.{plain_extent, plain_part};
-ghost use Rattle.ada_task_numbers.specs.inner.Seats.{seats_within};
+ghost use Rattle.syn_event.specs.NamedTasks.{numbered_task, tasks_of_name};
+ghost use Rattle.syn_event.specs.AllNumbers.{info_of_task, entry_of_task, entries_of_tasks, family_extent, first_of, last_of, all_numbers};
+ghost use Rattle.ada_task_objects.specs.PlainNames.{plain_extent, plain_named_tasks};
+ghost use Rattle.ada_task_numbers.specs.inner.TasksWithin.{tasks_within};
 
-use ada_task_objects::{Extent, TaskPart, extent_of, parts_of, width};
+use ada_task_objects::{Extent, NamedTasks, extent_of, task_names_of, width};
 use ada_tree::{Drange, EntryDecl, NameId, Names, Program, Types};
 use std::alloc::{AllocError, Global};
 use syn_event::{EntryInfo, Numbers, TaskInfo};
@@ -68,8 +68,8 @@ fn main_info(names: &Names, name: NameId) -> TaskInfo
 }
 
 // A task that a name stands for.
-fn seat_info(names: &Names, part: &TaskPart, member: Option<i32>) -> TaskInfo
-    ensures { result ≡ seat_info names.now (seat (plain_part part.now) member) }
+fn info_of_task(names: &Names, part: &NamedTasks, member: Option<i32>) -> TaskInfo
+    ensures { result ≡ info_of_task names.now (numbered_task (plain_named_tasks part.now) member) }
 {
     TaskInfo {
         name: part.name.name,
@@ -114,10 +114,10 @@ fn entry_info(
     names: &Names,
     types: &Types,
     owner: u32,
-    part: &TaskPart,
+    part: &NamedTasks,
     entry: &EntryDecl,
 ) -> Result<EntryInfo, AllocError>
-    ensures { IfOk result (λ info. info ≡ seat_entry names.now types.now owner (seat (plain_part part.now) None) (plain_entry entry.now)) }
+    ensures { IfOk result (λ info. info ≡ entry_of_task names.now types.now owner (numbered_task (plain_named_tasks part.now) None) (plain_entry entry.now)) }
 {
     let extent = family_extent(types, &entry.family);
     Ok(EntryInfo {
@@ -137,9 +137,9 @@ fn push_entries(
     types: &Types,
     entries: &mut Vec<EntryInfo>,
     owner: u32,
-    part: &TaskPart,
+    part: &NamedTasks,
 ) -> Result<(), AllocError>
-    ensures { OnOk result (entries.new.items ≡ entries.old.items ++ map (seat_entry names.now types.now owner (seat (plain_part part.now) None)) (map plain_entry part.now.unit.now.entries.items)) }
+    ensures { OnOk result (entries.new.items ≡ entries.old.items ++ map (entry_of_task names.now types.now owner (numbered_task (plain_named_tasks part.now) None)) (map plain_entry part.now.unit.now.entries.items)) }
 {
     for entry in &part.unit.entries {
         entries.push(entry_info(names, types, owner, part, entry)?)?;
@@ -148,19 +148,19 @@ fn push_entries(
 }
 
 // Appends a task with its entries.
-fn push_seat(
+fn push_task(
     names: &Names,
     types: &Types,
     tasks: &mut Vec<TaskInfo>,
     entries: &mut Vec<EntryInfo>,
-    part: &TaskPart,
+    part: &NamedTasks,
     member: Option<i32>,
 ) -> Result<(), AllocError>
-    ensures tasks { OnOk result (tasks.new.items ≡ tasks.old.items ++ seat_info names.now (seat (plain_part part.now) member) ∷ []) }
-    ensures entries { OnOk result (entries.new.items ≡ entries.old.items ++ map (seat_entry names.now types.now (length tasks.old.items) (seat (plain_part part.now) member)) (plain_part part.now).unit.entries) }
+    ensures tasks { OnOk result (tasks.new.items ≡ tasks.old.items ++ info_of_task names.now (numbered_task (plain_named_tasks part.now) member) ∷ []) }
+    ensures entries { OnOk result (entries.new.items ≡ entries.old.items ++ map (entry_of_task names.now types.now (length tasks.old.items) (numbered_task (plain_named_tasks part.now) member)) (plain_named_tasks part.now).unit.entries) }
 {
     push_entries(names, types, entries, number_of(tasks.len())?, part)?;
-    tasks.push(seat_info(names, part, member))?;
+    tasks.push(info_of_task(names, part, member))?;
     Ok(())
 }
 
@@ -170,16 +170,16 @@ fn push_members(
     types: &Types,
     tasks: &mut Vec<TaskInfo>,
     entries: &mut Vec<EntryInfo>,
-    part: &TaskPart,
+    part: &NamedTasks,
     first: i64,
     count: u64,
 ) -> Result<(), AllocError>
-    ensures tasks { OnOk result (tasks.new.items ≡ tasks.old.items ++ map (seat_info names.now) (seats_within (plain_part part.now) first count)) }
-    ensures entries { OnOk result (entries.new.items ≡ entries.old.items ++ seat_entries names.now types.now (length tasks.old.items) (seats_within (plain_part part.now) first count)) }
+    ensures tasks { OnOk result (tasks.new.items ≡ tasks.old.items ++ map (info_of_task names.now) (tasks_within (plain_named_tasks part.now) first count)) }
+    ensures entries { OnOk result (entries.new.items ≡ entries.old.items ++ entries_of_tasks names.now types.now (length tasks.old.items) (tasks_within (plain_named_tasks part.now) first count)) }
 {
     for step in 0..count {
         let index = member_index(first, step)?;
-        push_seat(names, types, tasks, entries, part, index)?;
+        push_task(names, types, tasks, entries, part, index)?;
     }
     Ok(())
 }
@@ -216,22 +216,22 @@ fn size_of(x: Extent) -> Result<u64, AllocError>
 }
 
 // Appends the tasks that a name stands for, with their entries.
-fn push_seats(
+fn push_tasks(
     names: &Names,
     types: &Types,
     tasks: &mut Vec<TaskInfo>,
     entries: &mut Vec<EntryInfo>,
-    part: &TaskPart,
+    part: &NamedTasks,
 ) -> Result<(), AllocError>
-    ensures tasks { OnOk result (tasks.new.items ≡ tasks.old.items ++ map (seat_info names.now) (seats_of types.now (plain_part part.now))) }
-    ensures entries { OnOk result (entries.new.items ≡ entries.old.items ++ seat_entries names.now types.now (length tasks.old.items) (seats_of types.now (plain_part part.now))) }
+    ensures tasks { OnOk result (tasks.new.items ≡ tasks.old.items ++ map (info_of_task names.now) (tasks_of_name types.now (plain_named_tasks part.now))) }
+    ensures entries { OnOk result (entries.new.items ≡ entries.old.items ++ entries_of_tasks names.now types.now (length tasks.old.items) (tasks_of_name types.now (plain_named_tasks part.now))) }
 {
-    match part.row {
+    match part.index_range {
         Some(range) => match extent_of(types, range) {
             Some(x) => push_members(names, types, tasks, entries, part, x.first, size_of(x)?),
             None => Ok(()),
         },
-        None => push_seat(names, types, tasks, entries, part, None),
+        None => push_task(names, types, tasks, entries, part, None),
     }
 }
 
@@ -318,12 +318,12 @@ fn refuse_beyond(tasks: usize, entries: usize) -> Result<(), AllocError>
 pub fn numbers_for(alloc: Global, p: &Program, types: &Types) -> Result<Numbers, AllocError>
     ensures { IfOk result (λ numbers. numbers ≡ all_numbers types.now (plain_program p.now)) }
 {
-    let parts = parts_of(alloc, p)?;
+    let parts = task_names_of(alloc, p)?;
     let mut tasks = Vec::new(alloc);
     let mut entries = Vec::new(alloc);
     tasks.push(main_info(&p.names, p.name.name))?;
     for part in &parts {
-        push_seats(&p.names, types, &mut tasks, &mut entries, part)?;
+        push_tasks(&p.names, types, &mut tasks, &mut entries, part)?;
     }
     let entries = with_origins(alloc, &p.names, &entries)?;
     refuse_beyond(tasks.len(), entries.len())?;

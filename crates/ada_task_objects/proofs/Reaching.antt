@@ -1,6 +1,6 @@
 -- What a static expression answers, and what its value is for sure.
-use Rattle.std.specs.Prelude.{◌≡◌, ℕ, ℤ, pos, negsuc, ◌≤ℤ◌, ◌<ℤ◌, min, Bool, true, false, if◌then◌else◌, Option, Some, None, Result, Ok, Err, refl}
-use Rattle.std.proofs.Common.{sym, ap, ◌∙◌, arith}
+use Rattle.std.specs.Prelude.{◌≡◌, ℕ, ℤ, pos, negsuc, ◌≤ℤ◌, ◌<ℤ◌, Bool, true, false, if◌then◌else◌, Some, None, Result, Ok, Err, refl}
+use Rattle.std.proofs.Common.{sym, ap, arith}
 use Rattle.std.proofs.lemmas.Int.{ints}
 use Rattle.std.proofs.Math.IntN.{nat_abs}
 use Rattle.ada_tree.specs.declared.naming.Span.{Span}
@@ -9,7 +9,7 @@ use Rattle.ada_tree.specs.PlainExpr.{PExpr}
 use Rattle.ada_tree.specs.ExprTypes.{place_of}
 use Rattle.ada_tree.specs.StaticValue.{is_static, value_of}
 use Rattle.ada_refusals.specs.declared.errors.TypeError.{TypeError}
-use Rattle.ada_static_values.specs.StaticAnswer.{static_answer, if_static, answered}
+use Rattle.ada_static_values.specs.StaticAnswer.{static_answer, if_static}
 use Rattle.syn_event.specs.Extents.{value_there, fixed, count_to}
 use Rattle.ada_rules.specs.Amounts.{capped}
 

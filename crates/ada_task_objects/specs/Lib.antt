@@ -1,1 +1,1 @@
-pub mod PlainParts
+pub mod PlainNames

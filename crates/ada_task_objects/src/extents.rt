@@ -4,7 +4,7 @@ ghost use Rattle.std.specs.Prelude.{◌≡◌, pos, ◌+ℤ◌, ◌-ℤ◌, opti
 ghost use Rattle.ada_tree.specs.PlainExpr.{plain_expr, plain_bounds, plain_drange};
 ghost use Rattle.syn_event.specs.Extents.{fixed, bounds_extent, mark_extent, marked_extent, extent, count_to, size_of, known_size, size, range_start, is_array_type};
 ghost use Rattle.ada_rules.specs.Amounts.{capped};
-ghost use Rattle.ada_task_objects.specs.PlainParts.{plain_extent};
+ghost use Rattle.ada_task_objects.specs.PlainNames.{plain_extent};
 
 use ada_static_values::names::mark_of;
 use ada_static_values::static_values::static_value;

@@ -2,7 +2,7 @@
 #![tactic(auto)]
 
 mod extents;
-mod task_parts;
+mod task_names;
 
 pub use extents::{Extent, extent_of, is_array_type, range_start, size, width};
-pub use task_parts::{TaskPart, parts_of};
+pub use task_names::{NamedTasks, task_names_of};

@@ -4,7 +4,7 @@ use Rattle.ada_tree.specs.declared.naming.Word.{Word}
 use Rattle.ada_tree.specs.PlainExpr.{PExpr}
 use Rattle.ada_tree.specs.PlainDecl.{PEntry, PPriority, PTask}
 use Rattle.ada_lexer.specs.declared.symbols.Symbol.TheVariants as key
-use Rattle.ada_phrase_parser.specs.Spelling.{Source, Spelling, ◌▷◌, Either, IfThere, Key, Named, PriorityWord, Row, Placed}
+use Rattle.ada_phrase_parser.specs.Spelling.{Source, Spelling, ◌▷◌, Either, IfThere, Key, Named, PriorityWord, ListOf, Placed}
 use Rattle.ada_phrase_parser.specs.Phrases.{EndOf, Expression, Drange, Formals}
 
 -- `pragma PRIORITY ( expr ) ;` (2.8, 9.8)
@@ -34,6 +34,7 @@ priorities_in before [] = []
 priorities_in before (MEntry x ∷ more) = priorities_in (before + 1) more
 priorities_in before (MPriority e ∷ more) = record { place = before; value = e } ∷ priorities_in before more
 
+-- what stands in a task: an entry's declaration, or a pragma PRIORITY (9.1, 9.8)
 abbrev pub IsMember : Source → ℕ → Member → Spelling
 IsMember source d (MEntry x) = IsEntry d x
 IsMember source d (MPriority e) = IsPriority source d e
@@ -51,7 +52,7 @@ TaskWord false = Key key.Task
 -- `is {entry | pragma} end [NAME]`, or nothing for a task without either (9.1)
 abbrev pub TaskRest : Source → ℕ → Word → List Member → Spelling
 TaskRest source d name [] = Either (Key key.Semicolon) (Key key.Is ▷ EndOf name)
-TaskRest source d name (x ∷ more) = Key key.Is ▷ Row (IsMember source d) (x ∷ more) ▷ EndOf name
+TaskRest source d name (x ∷ more) = Key key.Is ▷ ListOf (IsMember source d) (x ∷ more) ▷ EndOf name
 
 -- `task [type] NAME ; | task [type] NAME is {entry | pragma} end [NAME] ;` (9.1, this project's members)
 abbrev pub IsTask : Source → ℕ → PTask → Spelling

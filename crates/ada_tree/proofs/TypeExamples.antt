@@ -8,8 +8,8 @@ use Rattle.ada_tree.specs.declared.expressions.BinaryOp.TheVariants.{AndThen, Eq
 use Rattle.ada_tree.specs.declared.statements.ParMode.{ParMode}
 use Rattle.ada_tree.specs.declared.statements.ParMode.TheVariants.{Take, Give}
 use Rattle.ada_tree.specs.PlainExpr.{PExpr, EInteger, EName, EAttributeOf, EUnary, EBinary, PSubind, PDrange, RGiven, RMarked}
-use Rattle.ada_tree.specs.PlainStmt.{PTarget, PArgs, PFormal, PValue, PStmt, SAssign, SRaise, SCall, SAccept, SPut, SPutLine, SIf, SCase, no_stmt, absent, present, accepting, arm, no_arm, arm_then, case_arm, no_case_arm, case_arm_then, body, no_handler, row_of}
-use Rattle.ada_tree.specs.PlainDecl.{OPlain, ORow, PInit, IOne, IList, PEntry, PDecl, DObject, DEnumeration, DArray, DSubtype, DTask, DTaskBody, decls_of}
+use Rattle.ada_tree.specs.PlainStmt.{PTarget, PArgs, PFormal, PValue, PStmt, SAssign, SRaise, SCall, SAccept, SPut, SPutLine, SIf, SCase, no_stmt, absent, present, accepting, arm, no_arm, arm_then, case_arm, no_case_arm, case_arm_then, body, no_handler, stmts_of}
+use Rattle.ada_tree.specs.PlainDecl.{OPlain, OArray, PInit, IOne, IList, PEntry, PDecl, DObject, DEnumeration, DArray, DSubtype, DTask, DTaskBody, decls_of}
 use Rattle.ada_tree.specs.PlainProgram.{PProgram}
 use Rattle.ada_tree.specs.declared.static_types.Kind.TheVariants.{Integer, Truth, Enumeration, Array}
 use Rattle.ada_tree.specs.StaticValue.{value_of}
@@ -53,7 +53,7 @@ abbrev task_type : ℕ → List PEntry → PDecl
 task_type id es = DTask record { name = w id 900; of_kind = true; entries = es; priorities = [] } (at 900)
 
 abbrev task_body : ℕ → List PDecl → List PStmt → PDecl
-task_body id os ss = DTaskBody (w id 900) (decls_of os) (body (row_of ss) no_handler) (at 900)
+task_body id os ss = DTaskBody (w id 900) (decls_of os) (body (stmts_of ss) no_handler) (at 900)
 
 abbrev object : ℕ → ℕ → PSubind → Option PInit → PDecl
 object id s x i = DObject (w id s ∷ []) false (OPlain x) i (at s)
@@ -62,7 +62,7 @@ abbrev constant : ℕ → ℕ → PSubind → PExpr → PDecl
 constant id s x e = DObject (w id s ∷ []) true (OPlain x) (Some (IOne e)) (at s)
 
 abbrev program : List PDecl → List PStmt → PProgram
-program ds ss = record { names = []; text_io = false; name = w 25 900; decls = decls_of ds; body = body (row_of ss) no_handler }
+program ds ss = record { names = []; text_io = false; name = w 25 900; decls = decls_of ds; body = body (stmts_of ss) no_handler }
 
 -- the rule and the first byte of each refusal
 abbrev told : PProgram → List (ℕ × ℕ)
@@ -173,7 +173,7 @@ outside : told (program (object 30 3 (ranged 0 4 (lit 1 5) (lit 3 6)) (Some (IOn
 outside = refl
 
 -- `A : array (1 .. 2) of INTEGER := (1, 2, 3);` and `A := 1;`
-array_list : told (program (DObject (w 30 1 ∷ []) false (ORow (dots (lit 1 2) (lit 2 3)) (plain 0 4)) (Some (IList (lit 1 6 ∷ lit 2 7 ∷ lit 3 8 ∷ []) (at 5))) (at 1) ∷ []) (assign 30 10 (lit 1 11) ∷ [])) ≡ (10, 5) ∷ (10, 10) ∷ []
+array_list : told (program (DObject (w 30 1 ∷ []) false (OArray (dots (lit 1 2) (lit 2 3)) (plain 0 4)) (Some (IList (lit 1 6 ∷ lit 2 7 ∷ lit 3 8 ∷ []) (at 5))) (at 1) ∷ []) (assign 30 10 (lit 1 11) ∷ [])) ≡ (10, 5) ∷ (10, 10) ∷ []
 array_list = refl
 
 -- a task type in a body, and as the mark of a subtype
@@ -181,7 +181,7 @@ task_marks : told (program (task_type 26 [] ∷ object 27 1 (plain 26 2) None �
 task_marks = refl
 
 -- an out formal that is read
-read_formal : told (program (task 26 (entry 27 None (formal 29 Give 0 900 ∷ []) ∷ []) ∷ task_body 26 [] (SAccept (accepting record { entry = w 27 1; index = None; formals = formal 29 Give 0 900 ∷ []; span = at 1 } (present (row_of (assign 29 2 (bin Plus (name 29 3) (lit 1 4) 3) ∷ [])))) (at 1) ∷ []) ∷ []) []) ≡ (7, 3) ∷ []
+read_formal : told (program (task 26 (entry 27 None (formal 29 Give 0 900 ∷ []) ∷ []) ∷ task_body 26 [] (SAccept (accepting record { entry = w 27 1; index = None; formals = formal 29 Give 0 900 ∷ []; span = at 1 } (present (stmts_of (assign 29 2 (bin Plus (name 29 3) (lit 1 4) 3) ∷ [])))) (at 1) ∷ []) ∷ []) []) ≡ (7, 3) ∷ []
 read_formal = refl
 
 -- ---- the table: `subtype S is INTEGER range 1 .. 3;` adds two marks, an array two things, a constant one

@@ -6,6 +6,7 @@ use Rattle.ada_tree.specs.declared.naming.NameId.{NameId}
 abbrev pub false_name : ℕ
 false_name = 4
 
+-- the id of the name TRUE (3.5.3)
 abbrev pub true_name : ℕ
 true_name = 5
 
@@ -20,6 +21,7 @@ pub data Attribute : Type 0 where
   Image : Attribute
   NoAttribute : Attribute
 
+-- the attribute that a name stands for, by its fixed id; none where the name is no attribute's (3.5.5)
 abbrev pub attribute_of : NameId → Attribute
 attribute_of id =
     if id.0 == 18 then First

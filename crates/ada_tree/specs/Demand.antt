@@ -20,6 +20,7 @@ pub data Initialized : Type 0 where
   for_scalar : Initialized
   for_array : Range → Initialized
 
+-- what stands at a place that the static rules look at (this project's rule)
 pub data Demand : Type 0 where
   -- a name is declared; the truth value says whether it is a name of main and no variable
   declares : Bool → Word → Demand

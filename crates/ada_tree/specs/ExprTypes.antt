@@ -40,6 +40,7 @@ pub data Operand : Type 0 where
   of_kind : ℕ → Operand
   of_any_kind : Operand
 
+-- what an operator between two operands takes (4.5)
 abbrev pub takes : BinaryOp → Operand
 takes And = of_kind truth_kind
 takes Or = of_kind truth_kind
@@ -59,6 +60,7 @@ takes Divide = of_kind integer_kind
 takes Mod = of_kind integer_kind
 takes Rem = of_kind integer_kind
 
+-- what an operator before one operand takes (4.5.4, 4.5.6)
 abbrev pub takes_one : UnaryOp → Operand
 takes_one unary.Plus = of_kind integer_kind
 takes_one unary.Minus = of_kind integer_kind
@@ -75,6 +77,7 @@ abbrev pub given_by : Operand → ℕ
 given_by (of_kind k) = k
 given_by of_any_kind = truth_kind
 
+-- the kind that an operator with one operand gives, where the operand fits (4.5.4, 4.5.6)
 abbrev pub unary_kind : Operand → Option ℕ → Option ℕ
 unary_kind operand (Some k) = if is_taken operand k then Some (given_by operand) else None
 unary_kind operand None = None
@@ -110,14 +113,17 @@ if_kind k None o = None
 
 -- ---- the kind of an expression
 
+-- the kind of a name without an index, where it stands for a scalar value (4.1)
 abbrev pub name_kind : Reading → Option ℕ
 name_kind (AsScalar k) = Some k
 name_kind _ = None
 
+-- the kind of a component, where the name is an array's and the index is of its kind (4.1.1)
 abbrev pub component_kind : TypeTable → Reading → Option ℕ → Option ℕ
 component_kind types (AsArray index part) o = if_kind index o (kind_of_mark types part)
 component_kind types _ o = None
 
+-- the kind that an attribute with an argument gives, where its mark is a scalar one and the argument fits (3.5.5)
 abbrev pub attribute_kind : Attribute → Option ℕ → Option ℕ → Option ℕ
 attribute_kind a (Some k) o = if_kind (argument_kind a k) o (function_kind a k)
 attribute_kind a None o = None
@@ -138,6 +144,7 @@ abbrev pub is_other_kind : Option ℕ → Option ℕ → Bool
 is_other_kind (Some k) (Some other) = if k == other then false else true
 is_other_kind _ _ = false
 
+-- an expression has a kind, and it is this one (4.4)
 abbrev pub is_kind : ℕ → Option ℕ → Bool
 is_kind k (Some other) = k == other
 is_kind k None = false
@@ -149,6 +156,7 @@ abbrev pub ok_value : Result ℤ Span → Option ℤ
 ok_value (Ok z) = Some z
 ok_value (Err s) = None
 
+-- the value of an expression, where it is of that kind and static and no operation in it raises (4.9)
 abbrev pub static_in : Scope → ℕ → PExpr → Option ℤ
 static_in scope k e = if is_kind k (kind_of scope e) && is_static scope.types e then ok_value (value_of scope.types e) else None
 
@@ -157,5 +165,6 @@ abbrev pub range_between : ℕ → Option ℤ → Option ℤ → Option Range
 range_between k (Some a) (Some b) = Some record { kind = k; first = a; last = b }
 range_between k _ _ = None
 
+-- the range of two bounds, where both are static and of that kind (3.5, 4.9)
 abbrev pub static_range : Scope → ℕ → PBounds → Option Range
 static_range scope k b = range_between k (static_in scope k b.first) (static_in scope k b.last)

@@ -3,7 +3,7 @@ use Rattle.std.specs.Prelude.{ℕ, Bool, List, [], ◌∷◌, Option, map, optio
 use Rattle.ada_tree.specs.declared.naming.Span.{Span}
 use Rattle.ada_tree.specs.declared.naming.Word.{Word}
 use Rattle.ada_tree.specs.declared.declarations.Shape.{Shape}
-use Rattle.ada_tree.specs.declared.declarations.Shape.TheVariants.{Plain, Row}
+use Rattle.ada_tree.specs.declared.declarations.Shape.TheVariants.{Plain, ConstrainedArray}
 use Rattle.ada_tree.specs.declared.declarations.Init.{Init}
 use Rattle.ada_tree.specs.declared.declarations.Init.TheVariants.{One, List as Listed, Others}
 use Rattle.ada_tree.specs.declared.declarations.TaskUnit.{TaskUnit}
@@ -17,7 +17,7 @@ use Rattle.ada_tree.specs.PlainStmt.{PFormal, PBody, plain_formal, plain_body}
 -- what an object is: a scalar or a named array, or an array of its own type
 pub data PShape : Type 0 where
   OPlain : PSubind → PShape
-  ORow : PDrange → PSubind → PShape
+  OArray : PDrange → PSubind → PShape
 
 -- an initial value
 pub data PInit : Type 0 where
@@ -45,6 +45,7 @@ pub record PTask : Type 0 where
   pub priorities : List PPriority
 
 mutual
+  -- a declaration with its place in the text (3.1, 9.1, 11.1)
   pub data PDecl : Type 0 where
     DNumber : Word → PExpr → Span → PDecl
     DObject : List Word → Bool → PShape → Option PInit → Span → PDecl
@@ -57,6 +58,7 @@ mutual
     DTask : PTask → Span → PDecl
     DTaskBody : Word → PDecls → PBody → Span → PDecl
 
+  -- declarations in their order (3.9)
   pub data PDecls : Type 0 where
     no_decl : PDecls
     decl_then : PDecl → PDecls → PDecls
@@ -68,7 +70,7 @@ decls_of (x ∷ xs) = decl_then x (decls_of xs)
 
 abbrev pub plain_shape : Shape → PShape
 plain_shape (Plain x) = OPlain (plain_subind x)
-plain_shape (Row r x) = ORow (plain_drange r) (plain_subind x)
+plain_shape (ConstrainedArray r x) = OArray (plain_drange r) (plain_subind x)
 
 abbrev pub plain_init : Init → PInit
 plain_init (One e) = IOne (plain_expr e)

@@ -1,4 +1,4 @@
--- The plain mirror of statements, bodies, handlers, alternatives and arms, with the view of each type in it. A list of one of these is a row of the family; `row_of` and its kin make the row of a list.
+-- The plain mirror of statements, bodies, handlers, alternatives and arms, with the view of each type in it. A list of one of these is a row of the family; `stmts_of` and its kin make the row of a list.
 use Rattle.std.specs.Prelude.{ℕ, Bool, List, [], ◌∷◌, Option, Some, None, Vec, map, option_map, string_bytes}
 use Rattle.std.specs.declared.alloc.Global.{Global}
 use Rattle.ada_tree.specs.declared.naming.Span.{Span}
@@ -76,6 +76,7 @@ pub record PHead : Type 0 where
   pub span : Span
 
 mutual
+  -- a statement with its place in the text (5.1)
   pub data PStmt : Type 0 where
     SNull : Span → PStmt
     SAssign : PTarget → PExpr → Span → PStmt
@@ -97,6 +98,7 @@ mutual
     SBlock : PBody → Span → PStmt
     SLoop : Option Word → Option PScheme → PStmts → Span → PStmt
 
+  -- statements in their order (5.1)
   pub data PStmts : Type 0 where
     no_stmt : PStmts
     stmt_then : PStmt → PStmts → PStmts
@@ -106,6 +108,7 @@ mutual
     absent : PMaybe
     present : PStmts → PMaybe
 
+  -- an accept statement: its head, and its statements where it has some (9.5)
   pub data PAccept : Type 0 where
     accepting : PHead → PMaybe → PAccept
 
@@ -113,11 +116,13 @@ mutual
   pub data PAlt : Type 0 where
     alternative : Option PExpr → PAltKind → Span → PAlt
 
+  -- what an alternative of a selective wait is: an accept, a delay or a terminate alternative (9.7.1)
   pub data PAltKind : Type 0 where
     AAccept : PAccept → PStmts → PAltKind
     ADelay : ℕ → PStmts → PAltKind
     ATerminate : PAltKind
 
+  -- the alternatives of a selective wait in their order (9.7.1)
   pub data PAlts : Type 0 where
     no_alt : PAlts
     alt_then : PAlt → PAlts → PAlts
@@ -126,6 +131,7 @@ mutual
   pub data PArm : Type 0 where
     arm : PExpr → PStmts → PArm
 
+  -- the conditions of an if statement with their statements, in their order (5.3)
   pub data PArms : Type 0 where
     no_arm : PArms
     arm_then : PArm → PArms → PArms
@@ -134,6 +140,7 @@ mutual
   pub data PCaseArm : Type 0 where
     case_arm : List PChoice → PStmts → PCaseArm
 
+  -- the alternatives of a case statement in their order, without `when others` (5.4)
   pub data PCaseArms : Type 0 where
     no_case_arm : PCaseArms
     case_arm_then : PCaseArm → PCaseArms → PCaseArms
@@ -146,14 +153,15 @@ mutual
   pub data PHandler : Type 0 where
     handler : List Word → PStmts → Span → PHandler
 
+  -- the exception handlers of a body or block, in their order (11.2)
   pub data PHandlers : Type 0 where
     no_handler : PHandlers
     handler_then : PHandler → PHandlers → PHandlers
 
 -- the row of a list
-abbrev pub row_of : List PStmt → PStmts
-row_of [] = no_stmt
-row_of (x ∷ xs) = stmt_then x (row_of xs)
+abbrev pub stmts_of : List PStmt → PStmts
+stmts_of [] = no_stmt
+stmts_of (x ∷ xs) = stmt_then x (stmts_of xs)
 
 abbrev pub alts_of : List PAlt → PAlts
 alts_of [] = no_alt
@@ -174,7 +182,7 @@ handlers_of (x ∷ xs) = handler_then x (handlers_of xs)
 -- statements that may be left out, as an option of a list
 abbrev pub maybe_of : Option (List PStmt) → PMaybe
 maybe_of None = absent
-maybe_of (Some xs) = present (row_of xs)
+maybe_of (Some xs) = present (stmts_of xs)
 
 -- the views of the types outside the family
 abbrev pub plain_target : Target → PTarget
@@ -279,7 +287,7 @@ plain_alt x = alternative (option_map plain_expr x.guard) (plain_alt_kind x.kind
 
 -- the statements of a list of the code, as a row
 abbrev pub seen : List Stmt → PStmts
-seen xs = row_of (map plain_stmt xs)
+seen xs = stmts_of (map plain_stmt xs)
 
 -- the statements of a list of the code that may be left out
 abbrev pub seen_maybe : Option (Vec Stmt Global) → PMaybe

@@ -19,10 +19,12 @@ use Rattle.ada_tree.specs.RuleArrayUse.{array_use}
 use Rattle.ada_tree.specs.RuleTextUse.{text_use}
 use Rattle.ada_tree.specs.RuleNotException.{not_exception}
 
+-- a refusal: the number of the rule, and the place that it refuses (this project's rule)
 pub record Refusal : Type 0 where
   pub rule : ℕ
   pub span : Span
 
+-- these places, each refused by the rule with this number (this project's rule)
 abbrev pub by_rule : ℕ → List Span → List Refusal
 by_rule n spans = map (λ s. record { rule = n; span = s }) spans
 
@@ -42,6 +44,7 @@ refused_at before s =
     ++ by_rule 11 (text_use s.scope s.demand)
     ++ by_rule 12 (not_exception s.scope s.demand)
 
+-- what the rules refuse at these places in their order; `before` are the places before them (this project's rule)
 abbrev pub refused_from : List Site → List Site → List Refusal
 refused_from before [] = []
 refused_from before (s ∷ rest) = refused_at before s ++ refused_from (s ∷ before) rest

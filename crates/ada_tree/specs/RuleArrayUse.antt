@@ -9,14 +9,17 @@ use Rattle.ada_tree.specs.Scope.{Scope, Reading, AsArray, reading}
 use Rattle.ada_tree.specs.ExprTypes.{place_of}
 use Rattle.ada_tree.specs.Demand.{Initialized, for_scalar, for_array, Demand, node, writes, is_actual, initializes}
 
+-- this place, where the name that stands there is an array's (3.6)
 abbrev pub whole_array : Reading → Span → List Span
 whole_array (AsArray index part) s = s ∷ []
 whole_array _ s = []
 
+-- an expression that is the name of a whole array (this project's rule)
 abbrev pub array_in_node : Scope → PExpr → List Span
 array_in_node scope (EName id s) = whole_array (reading scope id) s
 array_in_node scope _ = []
 
+-- a whole array that is written, without an index (this project's rule)
 abbrev pub array_written : Scope → PTarget → List Span
 array_written scope t = without_index t.index
   where

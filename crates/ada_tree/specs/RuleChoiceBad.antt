@@ -26,10 +26,12 @@ mark_of_thing (Some (Parameter mode m)) = Some m
 mark_of_thing (Some (LoopParameter m)) = Some m
 mark_of_thing _ = None
 
+-- the mark of the components of an array (3.6)
 abbrev pub mark_of_part : Reading → Option ℕ
 mark_of_part (AsArray index part) = Some part
 mark_of_part _ = None
 
+-- the mark of the object or component that an expression names, none where it names no object (5.4)
 abbrev pub mark_of_object : Scope → PExpr → Option ℕ
 mark_of_object scope (EName id s) = mark_of_thing (meaning scope id)
 mark_of_object scope (EIndex w e s) = mark_of_part (reading scope w.name)
@@ -55,6 +57,7 @@ last_of choice = or_first choice.last
 abbrev pub choice_range : Scope → ℕ → PChoice → Option Range
 choice_range scope k choice = range_between k (static_in scope k choice.first) (static_in scope k (last_of choice))
 
+-- the place of a choice, from its first bound to its last (3.7.3)
 abbrev pub choice_span : PChoice → Span
 choice_span choice = record { start = (place_of choice.first).start; end = (place_of (last_of choice)).end }
 
@@ -62,10 +65,12 @@ choice_span choice = record { start = (place_of choice.first).start; end = (plac
 abbrev pub do_overlap : Range → Range → Bool
 do_overlap r q = int_le r.first r.last && int_le q.first q.last && int_le r.first q.last && int_le q.first r.last
 
+-- the range of a choice is known, and it has a value in common with one of the ranges seen (5.4)
 abbrev pub overlaps_one : List Range → Option Range → Bool
 overlaps_one seen (Some range) = list_any (do_overlap range) seen
 overlaps_one seen None = false
 
+-- the ranges seen, with one more where it is known
 abbrev pub with_range : Option Range → List Range → List Range
 with_range (Some range) seen = range ∷ seen
 with_range None seen = seen
@@ -82,6 +87,7 @@ abbrev pub is_good : Option Range → Option Range → Bool
 is_good (Some values) (Some range) = int_le range.first range.last && int_le values.first range.first && int_le range.last values.last
 is_good _ _ = false
 
+-- each choice is static, not empty and within the values of the selector, and none overlaps an earlier one (5.4)
 abbrev pub no_choice_refused : Scope → ℕ → Option Range → List PChoice → Bool
 no_choice_refused scope k values choices =
     list_all (λ c. is_good values (choice_range scope k c)) choices && (length (overlapping scope k [] choices) == 0)
@@ -91,6 +97,7 @@ abbrev pub integers_from : ℤ → ℕ → List ℤ
 integers_from z zero = []
 integers_from z (suc n) = z ∷ integers_from (z +ℤ pos 1) n
 
+-- an integer as a number of values, 0 where it is negative
 abbrev pub how_many : ℤ → ℕ
 how_many (pos n) = n
 how_many (negsuc n) = 0
@@ -99,6 +106,7 @@ how_many (negsuc n) = 0
 abbrev pub values_of : Range → List ℤ
 values_of range = integers_from range.first (how_many (range.last -ℤ range.first +ℤ pos 1))
 
+-- the value lies in the range of a choice, where that range is known (5.4)
 abbrev pub is_covered : ℤ → Option Range → Bool
 is_covered z (Some range) = int_le range.first z && int_le z range.last
 is_covered z None = false
@@ -112,6 +120,7 @@ leaves_out scope k None choices = false
 abbrev pub left_out : Scope → ℕ → Option Range → List PChoice → Bool
 left_out scope k values choices = if k == integer_kind then true else no_choice_refused scope k values choices && leaves_out scope k values choices
 
+-- what is refused of a case, where the kind of its selector is known (5.4)
 abbrev pub bad_choices : Scope → Option ℕ → PExpr → List PChoice → Bool → Span → List Span
 bad_choices scope (Some k) e choices others s =
     overlapping scope k [] choices

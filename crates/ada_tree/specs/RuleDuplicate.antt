@@ -10,6 +10,7 @@ use Rattle.ada_tree.specs.Demand.{Demand, declares, declares_entry, labels, give
 abbrev pub is_predefined : ℕ → Bool
 is_predefined name = nat_lt name 18
 
+-- the name is one of these
 abbrev pub is_among : List ℕ → ℕ → Bool
 is_among names name = list_any (λ n. n == name) names
 
@@ -30,6 +31,7 @@ introduces name site = is_introducing site.demand
     is_introducing (labels w) = w.name.0 == name
     is_introducing _ = false
 
+-- the place of the word, where the test holds, else none
 abbrev pub at_word : Bool → Word → List Span
 at_word test w = if test then w.span ∷ [] else []
 

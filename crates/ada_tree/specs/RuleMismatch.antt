@@ -5,7 +5,7 @@ use Rattle.ada_tree.specs.declared.naming.Word.{Word}
 use Rattle.ada_tree.specs.PlainExpr.{PExpr, EInteger, EName, EIndex, EAttribute, EAttributeOf, EParen, EUnary, EBinary}
 use Rattle.ada_tree.specs.PlainStmt.{PTarget}
 use Rattle.ada_tree.specs.Attributes.{Attribute, attribute_of, is_function}
-use Rattle.ada_tree.specs.Scope.{Scope, integer_kind, Thing, TaskType, SingleTask, TaskObject, TaskRow, MainProcedure, Unclear, Reading, AsScalar, AsArray, AsNoValue, reading, Marking, ScalarMark, ArrayMark, TaskMark, NoMark, UnknownMark, UnclearMark, marking, scalar_kind, meaning}
+use Rattle.ada_tree.specs.Scope.{Scope, integer_kind, Thing, TaskType, SingleTask, TaskObject, TaskArray, MainProcedure, Unclear, Reading, AsScalar, AsArray, AsNoValue, reading, Marking, ScalarMark, ArrayMark, TaskMark, NoMark, UnknownMark, UnclearMark, marking, scalar_kind, meaning}
 use Rattle.ada_tree.specs.ExprTypes.{Operand, place_of, kind_of, takes, takes_one, is_taken, argument_kind, is_other_kind, component_kind}
 use Rattle.ada_tree.specs.Demand.{MarkUse, scalar_only, or_array, or_task, or_array_or_task, Demand, stands_as_mark, node, must_be_of, must_be_alike, writes, gets, addresses}
 
@@ -36,6 +36,7 @@ is_allowed allowed NoMark = false
 is_allowed allowed UnknownMark = true
 is_allowed allowed UnclearMark = true
 
+-- the place of a word that is known and is no mark that may stand there (3.3.2; this project's rule)
 abbrev pub wrong_mark : MarkUse → Scope → Word → List Span
 wrong_mark allowed scope w = if is_allowed allowed (marking scope w.name) then [] else w.span ∷ []
 
@@ -56,6 +57,7 @@ misfit_operand operand k l left right =
     else if is_misfit operand l || is_other_kind k l then place_of right ∷ []
     else []
 
+-- what does not fit in an expression, apart from what does not fit within its parts (3.5.5, 4.1.1, 4.5)
 abbrev pub mismatch_in_node : Scope → PExpr → List Span
 mismatch_in_node scope (EInteger n s) = []
 mismatch_in_node scope (EName id s) = no_value (reading scope id) s
@@ -88,7 +90,7 @@ abbrev pub no_task : Option Thing → Word → List Span
 no_task (Some (TaskType entries)) w = []
 no_task (Some (SingleTask entries)) w = []
 no_task (Some (TaskObject entries)) w = []
-no_task (Some (TaskRow range entries)) w = []
+no_task (Some (TaskArray range entries)) w = []
 no_task (Some MainProcedure) w = []
 no_task (Some Unclear) w = []
 no_task None w = []
@@ -96,7 +98,7 @@ no_task (Some _) w = w.span ∷ []
 
 -- the index of an array of tasks
 abbrev pub misfit_member : Scope → Option Thing → Option PExpr → List Span
-misfit_member scope (Some (TaskRow range entries)) (Some e) = of_other_kind scope (Some range.kind) e
+misfit_member scope (Some (TaskArray range entries)) (Some e) = of_other_kind scope (Some range.kind) e
 misfit_member scope thing index = []
 
 -- The parts that do not fit, each where it stands.

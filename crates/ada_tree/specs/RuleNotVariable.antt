@@ -17,10 +17,12 @@ is_variable (Some Unclear) = true
 is_variable (Some _) = false
 is_variable None = true
 
+-- the name stands for an array (3.6)
 abbrev pub is_array : Reading → Bool
 is_array (AsArray index part) = true
 is_array _ = false
 
+-- this place, where the test fails, else none
 abbrev pub unless : Bool → Span → List Span
 unless true s = []
 unless false s = s ∷ []

@@ -3,7 +3,7 @@ use Rattle.std.specs.Prelude.{ℕ, ℤ, int_lt, Bool, false, ◌||◌, ◌&&◌,
 use Rattle.ada_tree.specs.declared.naming.Span.{Span}
 use Rattle.ada_tree.specs.PlainExpr.{PExpr, EInteger, EName, EIndex, EAttribute, EAttributeOf, EParen, EUnary, EBinary}
 use Rattle.ada_tree.specs.StaticValue.{is_static, value_of}
-use Rattle.ada_tree.specs.Scope.{Scope, Range, Thing, TaskRow, meaning}
+use Rattle.ada_tree.specs.Scope.{Scope, Range, Thing, TaskArray, meaning}
 use Rattle.ada_tree.specs.ExprTypes.{place_of, kind_of, static_in}
 use Rattle.ada_tree.specs.Demand.{Demand, whole, must_not_be_empty, must_lie_in, addresses}
 
@@ -27,6 +27,7 @@ raises scope (EParen e s) = raises scope e
 raises scope (EUnary op e s) = if is_fixed scope (EUnary op e s) then raised (value_of scope.types (EUnary op e s)) else raises scope e
 raises scope (EBinary op l r s) = if is_fixed scope (EBinary op l r s) then raised (value_of scope.types (EBinary op l r s)) else raises scope l ++ raises scope r
 
+-- both values are known, and the first is less than the second
 abbrev pub is_below : Option ℤ → Option ℤ → Bool
 is_below (Some a) (Some b) = int_lt a b
 is_below _ _ = false
@@ -36,6 +37,7 @@ abbrev pub empty_range : Scope → PExpr → PExpr → Option ℕ → List Span
 empty_range scope a b (Some k) = if is_below (static_in scope k b) (static_in scope k a) then place_of a ∷ [] else []
 empty_range scope a b None = []
 
+-- the value is known, and it lies outside the range (3.5)
 abbrev pub is_outside : Range → Option ℤ → Bool
 is_outside range (Some z) = int_lt z range.first || int_lt range.last z
 is_outside range None = false
@@ -47,9 +49,10 @@ out_of scope e None = []
 
 -- the index range of an array of tasks
 abbrev pub member_range : Option Thing → Option Range
-member_range (Some (TaskRow range entries)) = Some range
+member_range (Some (TaskArray range entries)) = Some range
 member_range _ = None
 
+-- a static index of a member of an array of tasks that lies outside the index range (this project's rule)
 abbrev pub member_out_of : Scope → Option PExpr → Option Range → List Span
 member_out_of scope (Some e) range = out_of scope e range
 member_out_of scope None range = []

@@ -6,10 +6,12 @@ use Rattle.ada_tree.specs.PlainExpr.{PExpr, EName}
 use Rattle.ada_tree.specs.Scope.{Scope, Thing, Parameter, meaning}
 use Rattle.ada_tree.specs.Demand.{Demand, node, is_actual}
 
+-- this place, where the name that stands there is a formal of mode out (6.2)
 abbrev pub out_formal : Option Thing → Span → List Span
 out_formal (Some (Parameter Give m)) s = s ∷ []
 out_formal _ s = []
 
+-- an expression that is the name of a formal of mode out (6.2)
 abbrev pub read_name : Scope → PExpr → List Span
 read_name scope (EName id s) = out_formal (meaning scope id) s
 read_name scope _ = []

@@ -5,13 +5,14 @@ use Rattle.ada_tree.specs.declared.naming.Span.{Span}
 use Rattle.ada_tree.specs.declared.naming.Word.{Word}
 use Rattle.ada_tree.specs.PlainExpr.{PExpr, EName, EIndex, EAttribute, EAttributeOf}
 use Rattle.ada_tree.specs.Attributes.{Attribute, NoAttribute, attribute_of}
-use Rattle.ada_tree.specs.Scope.{Scope, Thing, SingleTask, TaskObject, TaskType, TaskRow, EntryPart, meaning, entry_named, is_entry_somewhere}
+use Rattle.ada_tree.specs.Scope.{Scope, Thing, SingleTask, TaskObject, TaskType, TaskArray, EntryPart, meaning, entry_named, is_entry_somewhere}
 use Rattle.ada_tree.specs.Demand.{Demand, gives_body, stands_as_mark, node, writes, is_actual, addresses, calls, accepts, names_exception}
 
 -- a name that is not declared before, where it stands
 abbrev pub unseen : Scope → NameId → Span → List Span
 unseen scope id s = if is_some (meaning scope id) then [] else s ∷ []
 
+-- a word whose name is not declared before, where it stands (8.3)
 abbrev pub unseen_word : Scope → Word → List Span
 unseen_word scope w = unseen scope w.name w.span
 
@@ -29,7 +30,7 @@ missing None w = w.span ∷ []
 abbrev pub unknown_entry : Option Thing → Word → List Span
 unknown_entry (Some (SingleTask entries)) w = missing (entry_named entries w.name) w
 unknown_entry (Some (TaskObject entries)) w = missing (entry_named entries w.name) w
-unknown_entry (Some (TaskRow range entries)) w = missing (entry_named entries w.name) w
+unknown_entry (Some (TaskArray range entries)) w = missing (entry_named entries w.name) w
 unknown_entry _ w = []
 
 -- a body is that of a task or a task type
@@ -38,6 +39,7 @@ no_body_of (Some (SingleTask entries)) w = []
 no_body_of (Some (TaskType entries)) w = []
 no_body_of _ w = w.span ∷ []
 
+-- a name or an attribute in an expression that is not known, apart from those within its parts (4.1.4, 8.3)
 abbrev pub unknown_in_node : Scope → PExpr → List Span
 unknown_in_node scope (EName id s) = unseen scope id s
 unknown_in_node scope (EIndex w e s) = unseen_word scope w

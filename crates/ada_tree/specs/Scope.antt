@@ -12,6 +12,7 @@ use Rattle.ada_tree.specs.TypeTable.{TypeTable}
 abbrev pub integer_kind : ℕ
 integer_kind = 0
 
+-- the place of BOOLEAN among the kinds (3.5.3)
 abbrev pub truth_kind : ℕ
 truth_kind = 1
 
@@ -34,6 +35,7 @@ pub data Family : Type 0 where
   family : Range → Family
   unclear : Family
 
+-- an entry of a task: its name, its members and its formal parameters (9.5)
 pub record EntryPart : Type 0 where
   pub name : NameId
   pub family : Family
@@ -48,7 +50,7 @@ pub data Thing : Type 0 where
   SingleTask : List EntryPart → Thing
   TaskObject : List EntryPart → Thing
   -- an array of tasks, with the range of its index
-  TaskRow : Range → List EntryPart → Thing
+  TaskArray : Range → List EntryPart → Thing
   -- an object, by the place of its mark; a named number is a constant of INTEGER
   Variable : ℕ → Thing
   ConstantObject : ℕ → Thing
@@ -94,15 +96,18 @@ meaning scope id = option_map (λ s. s.thing) (find (λ s. s.name == id.0) scope
 abbrev pub kind_at : TypeTable → ℕ → Option Kind
 kind_at types k = slice_get types.kinds k
 
+-- the mark at a place of the table, where there is one
 abbrev pub mark_at : TypeTable → ℕ → Option Mark
 mark_at types m = slice_get types.marks m
 
+-- what f makes of what is there; nothing where nothing is there
 abbrev pub and_then : {A B : Type 0} → (A → Option B) → Option A → Option B
 and_then f None = None
 and_then f (Some x) = f x
 
 -- ---- what a name is in an expression
 
+-- what a name is where it stands in an expression (4.4)
 pub data Reading : Type 0 where
   -- a scalar value of that kind
   AsScalar : ℕ → Reading
@@ -115,15 +120,18 @@ pub data Reading : Type 0 where
   -- its declaration is refused
   AsUnclear : Reading
 
+-- what an object of a kind is in an expression: an array or a scalar; unclear where the kind is missing
 abbrev pub reading_of_kind : ℕ → Option Kind → Reading
 reading_of_kind k (Some (Array index first last part)) = AsArray index part
 reading_of_kind k (Some _) = AsScalar k
 reading_of_kind k None = AsUnclear
 
+-- what an object of a mark is in an expression, by the kind of the mark; unclear where the mark is missing
 abbrev pub reading_of_mark : TypeTable → Option Mark → Reading
 reading_of_mark types (Some m) = reading_of_kind m.kind (kind_at types m.kind)
 reading_of_mark types None = AsUnclear
 
+-- what a name is in an expression, by what it means; it is unknown where it is not declared before
 abbrev pub reading_of : TypeTable → Option Thing → Reading
 reading_of types (Some (Variable m)) = reading_of_mark types (mark_at types m)
 reading_of types (Some (ConstantObject m)) = reading_of_mark types (mark_at types m)
@@ -134,11 +142,13 @@ reading_of types (Some Unclear) = AsUnclear
 reading_of types (Some _) = AsNoValue
 reading_of types None = AsUnknown
 
+-- what a name is in an expression, at a place with that scope (8.3)
 abbrev pub reading : Scope → NameId → Reading
 reading scope id = reading_of scope.types (meaning scope id)
 
 -- ---- what a name is as a mark
 
+-- what a name is where it stands as a mark (3.3.2)
 pub data Marking : Type 0 where
   -- a scalar type or subtype, by the place of its mark and of its kind
   ScalarMark : ℕ → ℕ → Marking
@@ -149,15 +159,18 @@ pub data Marking : Type 0 where
   UnknownMark : Marking
   UnclearMark : Marking
 
+-- what a mark at a place is, by its kind: an array mark or a scalar one; unclear where the kind is missing
 abbrev pub marking_of_kind : ℕ → ℕ → Option Kind → Marking
 marking_of_kind m k (Some (Array index first last part)) = ArrayMark m record { kind = index; first = first; last = last } part
 marking_of_kind m k (Some _) = ScalarMark m k
 marking_of_kind m k None = UnclearMark
 
+-- what a mark at a place is, by the table; unclear where the mark is missing
 abbrev pub marking_of_mark : TypeTable → ℕ → Option Mark → Marking
 marking_of_mark types m (Some mark) = marking_of_kind m mark.kind (kind_at types mark.kind)
 marking_of_mark types m None = UnclearMark
 
+-- what a name is as a mark, by what it means; it is unknown where it is not declared before
 abbrev pub marking_of : TypeTable → Option Thing → Marking
 marking_of types (Some (TypeMark m)) = marking_of_mark types m (mark_at types m)
 marking_of types (Some (TaskType entries)) = TaskMark entries
@@ -165,6 +178,7 @@ marking_of types (Some Unclear) = UnclearMark
 marking_of types (Some _) = NoMark
 marking_of types None = UnknownMark
 
+-- what a name is as a mark, at a place with that scope (8.3)
 abbrev pub marking : Scope → NameId → Marking
 marking scope id = marking_of scope.types (meaning scope id)
 
@@ -183,6 +197,7 @@ range_of_mark types m = option_map (λ mark. record { kind = mark.kind; first = 
 
 -- ---- entries
 
+-- the first of those entries that has the name, where there is one (9.5)
 abbrev pub entry_named : List EntryPart → NameId → Option EntryPart
 entry_named entries id = find (λ e. e.name.0 == id.0) entries
 
@@ -191,7 +206,7 @@ abbrev pub entries_of : Thing → List EntryPart
 entries_of (TaskType entries) = entries
 entries_of (SingleTask entries) = entries
 entries_of (TaskObject entries) = entries
-entries_of (TaskRow range entries) = entries
+entries_of (TaskArray range entries) = entries
 entries_of _ = []
 
 -- a task that is declared before has an entry of that name

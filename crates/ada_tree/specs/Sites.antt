@@ -5,10 +5,10 @@ use Rattle.ada_tree.specs.declared.statements.ParMode.{ParMode}
 use Rattle.ada_tree.specs.declared.statements.ParMode.TheVariants.{Take, Give, Both}
 use Rattle.ada_tree.specs.PlainExpr.{PExpr, EName, PBounds, PSubind, PDrange, RGiven, RMarked}
 use Rattle.ada_tree.specs.PlainStmt.{PTarget, PCallee, PArgs, PCall, PFormal, PPart, PWords, PValue, PChoice, PScheme, LWhile, LFor, PHead, PStmt, SNull, SAssign, SDelay, SExit, SRaise, SAbort, SCall, SAccept, SWait, SConditional, STimed, SPut, SPutLine, SNewLine, SGet, SIf, SCase, SBlock, SLoop, PStmts, no_stmt, stmt_then, PMaybe, absent, present, PAccept, accepting, alternative, PAltKind, AAccept, ADelay, ATerminate, PAlts, no_alt, alt_then, arm, PArms, no_arm, arm_then, case_arm, PCaseArms, no_case_arm, case_arm_then, PBody, body, handler, PHandlers, no_handler, handler_then}
-use Rattle.ada_tree.specs.PlainDecl.{PShape, OPlain, ORow, PInit, IOne, IList, IOthers, PEntry, PTask, PDecl, DNumber, DObject, DEnumeration, DArray, DSubtype, DException, DIntIo, DPragma, DTask, DTaskBody, PDecls, no_decl, decl_then}
+use Rattle.ada_tree.specs.PlainDecl.{PShape, OPlain, OArray, PInit, IOne, IList, IOthers, PEntry, PTask, PDecl, DNumber, DObject, DEnumeration, DArray, DSubtype, DException, DIntIo, DPragma, DTask, DTaskBody, PDecls, no_decl, decl_then}
 use Rattle.ada_tree.specs.PlainProgram.{PProgram}
 use Rattle.ada_tree.specs.TypeTable.{TypeTable}
-use Rattle.ada_tree.specs.Scope.{Scope, integer_kind, truth_kind, Range, Thing, Variable, ConstantObject, TaskObject, TaskRow, Family, single, family, unclear, EntryPart, FormalPart, Marking, ScalarMark, ArrayMark, UnclearMark, marking, marking_of_mark, mark_at, scalar_kind, range_of_mark, meaning, entry_named}
+use Rattle.ada_tree.specs.Scope.{Scope, integer_kind, truth_kind, Range, Thing, Variable, ConstantObject, TaskObject, TaskArray, Family, single, family, unclear, EntryPart, FormalPart, Marking, ScalarMark, ArrayMark, UnclearMark, marking, marking_of_mark, mark_at, scalar_kind, range_of_mark, meaning, entry_named}
 use Rattle.ada_tree.specs.ExprTypes.{nodes, kind_of}
 use Rattle.ada_tree.specs.Demand.{MarkUse, scalar_only, or_array, or_task, or_array_or_task, for_scalar, for_array, Demand, declares, declares_entry, labels, gives_body, makes_instance, stands_as_mark, whole, node, must_be_of, must_be_alike, must_be_static, must_not_be_empty, must_lie_in, writes, gets, is_actual, addresses, calls, accepts, names_exception, handles, chooses, initializes, is_written, Site}
 use Rattle.ada_tree.specs.Declaring.{before_all, first_scope, with_formals, with_loop_parameter, inside, in_body, after_decl, after_own_object, after_decls, after_objects, declared_object, Declared}
@@ -17,6 +17,7 @@ use Rattle.ada_tree.specs.RuleMismatch.{target_kind}
 use Rattle.ada_tree.specs.RuleArgCount.{called_entry}
 use Rattle.ada_tree.specs.RuleChoiceBad.{selected_range}
 
+-- that demand with that scope, as one place
 abbrev pub site : Scope → Demand → Site
 site scope demand = record { scope = scope; demand = demand }
 
@@ -61,6 +62,7 @@ static_if false scope e = []
 
 -- ---- ranges; the truth value says whether the bounds must be static
 
+-- the sites of two bounds (3.5): both expressions, static where that is asked, and the range of both, which must not be empty
 abbrev pub bounds_sites : Bool → Scope → PBounds → List Site
 bounds_sites static scope b =
     expr_sites scope b.first ++ static_if static scope b.first
@@ -72,6 +74,7 @@ abbrev pub constraint_sites : Bool → Scope → Option ℕ → PBounds → List
 constraint_sites static scope k b =
     bounds_sites static scope b ++ site scope (must_be_of b.first k) ∷ site scope (must_be_of b.last k) ∷ []
 
+-- the site of a name that stands as a mark, with the marks that are allowed there (3.3.2)
 abbrev pub mark_sites : MarkUse → Scope → Word → List Site
 mark_sites allowed scope w = site scope (stands_as_mark allowed w) ∷ []
 
@@ -98,13 +101,15 @@ object_marks true (Some b) = scalar_only
 object_marks false None = or_array
 object_marks false (Some b) = scalar_only
 
+-- the marks that components of an array may have: scalar ones, and task types where these are allowed (this project's rule)
 abbrev pub component_marks : Bool → MarkUse
 component_marks true = or_task
 component_marks false = scalar_only
 
+-- the sites of an object's shape (3.2.1): its index range where it has one, and its subtype indication, whose bounds must be static
 abbrev pub shape_sites : Scope → Bool → PShape → Option PInit → List Site
 shape_sites scope constant (OPlain x) init = subind_sites true (object_marks (may_be_task scope constant x.bounds init) x.bounds) scope x
-shape_sites scope constant (ORow index x) init = drange_sites true scope index ++ subind_sites true (component_marks (may_be_task scope constant x.bounds init)) scope x
+shape_sites scope constant (OArray index x) init = drange_sites true scope index ++ subind_sites true (component_marks (may_be_task scope constant x.bounds init)) scope x
 
 -- an initial value in a range
 abbrev pub value_sites : Scope → Option Range → PExpr → List Site
@@ -114,6 +119,7 @@ value_sites scope range e = static_of scope (option_map (λ r. r.kind) range) e 
 abbrev pub free_value_sites : Scope → PExpr → List Site
 free_value_sites scope e = expr_sites scope e ++ site scope (must_be_static e) ∷ []
 
+-- the sites of an initial value whose expressions have no kind to meet, but must be static (this project's rule)
 abbrev pub all_init_sites : Scope → PInit → List Site
 all_init_sites scope (IOne e) = free_value_sites scope e
 all_init_sites scope (IList es s) = flat_map (free_value_sites scope) es
@@ -140,6 +146,7 @@ object_marking d = of_thing d.thing
     of_thing (ConstantObject m) = marking_of_mark d.types m (mark_at d.types m)
     of_thing _ = UnclearMark
 
+-- the sites of an initial value, by the mark of its object (3.2.1): that of a scalar, of an array, or of neither
 abbrev pub init_sites : Scope → TypeTable → Marking → PInit → List Site
 init_sites scope types (ScalarMark m k) value = scalar_init_sites scope (range_of_mark types m) value ++ site scope (initializes for_scalar value) ∷ []
 init_sites scope types (ArrayMark m range part) value = array_init_sites scope (range_of_mark types part) value ++ site scope (initializes (for_array range) value) ∷ []
@@ -148,7 +155,7 @@ init_sites scope types _ value = all_init_sites scope value
 -- a task object is no variable
 abbrev pub is_task_object : Thing → Bool
 is_task_object (TaskObject entries) = true
-is_task_object (TaskRow range entries) = true
+is_task_object (TaskArray range entries) = true
 is_task_object _ = false
 
 -- a name of main that is no variable is declared nowhere else
@@ -160,9 +167,11 @@ object_sites scope names constant shape init d =
 
 -- ---- tasks
 
+-- the sites of the marks of formals (6.1), which must be scalar ones
 abbrev pub formal_mark_sites : Scope → List PFormal → List Site
 formal_mark_sites scope formals = flat_map (λ f. mark_sites scalar_only scope f.mark) formals
 
+-- the names of all the formals, in the order of the text (6.1)
 abbrev pub all_names : List PFormal → List Word
 all_names formals = flat_map (λ f. f.names) formals
 
@@ -170,16 +179,19 @@ all_names formals = flat_map (λ f. f.names) formals
 abbrev pub formals_sites : Scope → List PFormal → List Site
 formals_sites scope formals = names_sites false (inside scope) (all_names formals) ++ formal_mark_sites scope formals
 
+-- the sites of an entry declaration (9.5): its name, its range where it is a family, and its formals
 abbrev pub entry_sites : Scope → List ℕ → PEntry → List Site
 entry_sites scope names e =
     site scope (declares_entry names e.name)
     ∷ if_there (drange_sites true scope) e.family
     ++ formals_sites scope e.formals
 
+-- the sites of a task's entries, after those with these names (9.5)
 abbrev pub entries_sites : Scope → List ℕ → List PEntry → List Site
 entries_sites scope names [] = []
 entries_sites scope names (e ∷ es) = entry_sites scope names e ++ entries_sites scope (e.name.name.0 ∷ names) es
 
+-- the sites of a task or task type (9.1): its name, its entries, and its priorities, each a static INTEGER (9.8)
 abbrev pub task_sites : Scope → PTask → List Site
 task_sites scope t =
     names_sites true scope (t.name ∷ [])
@@ -188,6 +200,7 @@ task_sites scope t =
 
 -- ---- calls, accepts and texts
 
+-- the sites of a task in a call or an abort statement (9.5, 9.10): itself, and its index where it has one
 abbrev pub callee_sites : Scope → PCallee → List Site
 callee_sites scope c = site scope (addresses c) ∷ if_there (expr_sites scope) c.index
 
@@ -196,6 +209,7 @@ abbrev pub written_actual_sites : Scope → ParMode → PExpr → List Site
 written_actual_sites scope mode (EName id s) = site scope (is_actual mode (EName id s)) ∷ []
 written_actual_sites scope mode e = site scope (is_actual mode e) ∷ expr_sites scope e
 
+-- the sites of an actual, by the mode of its formal (6.4.1): of mode in it is an expression, else a variable is asked
 abbrev pub actual_sites : Scope → ParMode → PExpr → List Site
 actual_sites scope Take e = expr_sites scope e
 actual_sites scope Give e = written_actual_sites scope Give e
@@ -215,9 +229,11 @@ free_args_sites scope args = flat_map (expr_sites scope) args.first ++ if_there 
 abbrev pub family_args_sites : Scope → Range → List FormalPart → PArgs → List Site
 family_args_sites scope range formals args = flat_map (expr_of scope (Some range.kind)) args.first ++ if_there (actuals_sites scope formals) args.second
 
+-- the lists after the name of a single entry (9.5): its actuals, and the expressions of a second list where one stands
 abbrev pub single_args_sites : Scope → List FormalPart → PArgs → List Site
 single_args_sites scope formals args = actuals_sites scope formals args.first ++ if_there (flat_map (expr_sites scope)) args.second
 
+-- the sites of the lists after the name of a called entry, by the entry where it is known (9.5)
 abbrev pub args_sites : Scope → Option EntryPart → PArgs → List Site
 args_sites scope (Some entry) args = of_family entry.family
   where
@@ -227,6 +243,7 @@ args_sites scope (Some entry) args = of_family entry.family
     of_family unclear = free_args_sites scope args
 args_sites scope None args = free_args_sites scope args
 
+-- the sites of an entry call (9.5): its task, its entry, and its arguments where it has some
 abbrev pub call_sites : Scope → PCall → List Site
 call_sites scope c =
     callee_sites scope c.task
@@ -242,6 +259,7 @@ accept_index_sites scope (Some entry) e = of_family entry.family
     of_family _ = expr_sites scope e
 accept_index_sites scope None e = expr_sites scope e
 
+-- the sites of an accept statement before its body (9.5): the entry, its index where it has one, and its formals
 abbrev pub head_sites : Scope → PHead → List Site
 head_sites scope h =
     site scope (accepts h)
@@ -258,9 +276,11 @@ abbrev pub part_sites : Scope → Bool → PPart → List Site
 part_sites scope alone (PWords text s) = []
 part_sites scope alone (PValue e) = site scope (whole e) ∷ part_nodes scope e ++ site scope (is_written alone e) ∷ plain_part_sites scope alone e
 
+-- the sites of a variable or component that is written (5.2): itself, and its index where it has one
 abbrev pub target_sites : Scope → PTarget → List Site
 target_sites scope t = site scope (writes t) ∷ if_there (expr_sites scope) t.index
 
+-- the sites of a condition (5.3): an expression that must be of BOOLEAN
 abbrev pub condition : Scope → PExpr → List Site
 condition scope e = expr_of scope (Some truth_kind) e
 
@@ -277,6 +297,7 @@ abbrev pub choices_of : PCaseArms → List PChoice
 choices_of no_case_arm = []
 choices_of (case_arm_then (case_arm choices l) rest) = choices ++ choices_of rest
 
+-- the statements that may be left out stand there
 abbrev pub is_present : PMaybe → Bool
 is_present absent = false
 is_present (present l) = true
@@ -288,12 +309,14 @@ abbrev pub handler_names_sites : Scope → List ℕ → List Word → List Site
 handler_names_sites scope names [] = []
 handler_names_sites scope names (w ∷ ws) = site scope (names_exception w) ∷ site scope (handles names w) ∷ handler_names_sites scope (w.name.0 ∷ names) ws
 
+-- those names, and before them the names of some words
 abbrev pub with_words : List ℕ → List Word → List ℕ
 with_words names [] = names
 with_words names (w ∷ ws) = with_words (w.name.0 ∷ names) ws
 
 -- ---- loops
 
+-- the sites of an iteration scheme (5.5): the condition of a while loop, or the parameter and the range of a for loop
 abbrev pub scheme_sites : Scope → PScheme → List Site
 scheme_sites scope (LWhile e) = condition scope e
 scheme_sites scope (LFor w r x) = names_sites false (inside scope) (w ∷ []) ++ drange_sites false scope x
@@ -307,6 +330,7 @@ loop_scope scope None = scope
 -- ---- statements
 
 abbrev mutual
+  -- the sites of a statement (5.1): what is asked of itself, and of all that stands in it
   pub stmt_sites : Scope → PStmt → List Site
   stmt_sites scope (SNull s) = []
   stmt_sites scope (SAssign t e s) = target_sites scope t ++ expr_of scope (target_kind scope t) e
@@ -332,10 +356,12 @@ abbrev mutual
   stmt_sites scope (SBlock b s) = body_sites scope b
   stmt_sites scope (SLoop w c l s) = if_there (λ x. site scope (labels x) ∷ []) w ++ if_there (scheme_sites scope) c ++ stmts_sites (loop_scope scope c) l
 
+  -- the sites of a sequence of statements, in the order of the text (5.1)
   pub stmts_sites : Scope → PStmts → List Site
   stmts_sites scope no_stmt = []
   stmts_sites scope (stmt_then x l) = stmt_sites scope x ++ stmts_sites scope l
 
+  -- the sites of statements that may be left out: none where they are
   pub maybe_sites : Scope → PMaybe → List Site
   maybe_sites scope absent = []
   maybe_sites scope (present l) = stmts_sites scope l
@@ -344,24 +370,29 @@ abbrev mutual
   pub accept_sites : Scope → PAccept → List Site
   accept_sites scope (accepting h o) = head_sites scope h ++ maybe_sites (with_formals (inside scope) h.formals) o
 
+  -- the sites of the alternatives of a selective wait (9.7.1): of each its guard, where it has one, and what stands in it
   pub alts_sites : Scope → PAlts → List Site
   alts_sites scope no_alt = []
   alts_sites scope (alt_then (alternative g x s) l) = if_there (condition scope) g ++ alt_sites scope x ++ alts_sites scope l
 
+  -- the sites of what stands in an alternative of a selective wait, without its guard (9.7.1)
   pub alt_sites : Scope → PAltKind → List Site
   alt_sites scope (AAccept a l) = accept_sites scope a ++ stmts_sites scope l
   alt_sites scope (ADelay d l) = stmts_sites scope l
   alt_sites scope ATerminate = []
 
+  -- the sites of the arms of an if statement (5.3): the condition and the statements of each
   pub arms_sites : Scope → PArms → List Site
   arms_sites scope no_arm = []
   arms_sites scope (arm_then (arm e l) rest) = condition scope e ++ stmts_sites scope l ++ arms_sites scope rest
 
+  -- the sites of the arms of a case statement (5.4): the choices, by the selector's kind and range, and the statements of each
   pub case_arms_sites : Scope → Option ℕ → Option Range → PCaseArms → List Site
   case_arms_sites scope k range no_case_arm = []
   case_arms_sites scope k range (case_arm_then (case_arm choices l) rest) =
       flat_map (choice_sites scope k range) choices ++ stmts_sites scope l ++ case_arms_sites scope k range rest
 
+  -- the sites of a body or block (5.6): those of its statements, then those of its handlers
   pub body_sites : Scope → PBody → List Site
   body_sites scope (body l hs) = stmts_sites scope l ++ handlers_sites scope [] hs
 
@@ -378,10 +409,12 @@ abbrev pub own_object_sites : Scope → PDecl → List Site
 own_object_sites scope (DObject names constant shape init s) = object_sites scope names constant shape init (declared_object scope constant shape)
 own_object_sites scope _ = []
 
+-- the sites of the declarations of a task body, each in the scope after those before it (9.1)
 abbrev pub own_sites : Scope → PDecls → List Site
 own_sites scope no_decl = []
 own_sites scope (decl_then d rest) = own_object_sites scope d ++ own_sites (after_own_object scope d) rest
 
+-- the sites of a declaration of main (3.9), by its kind
 abbrev pub decl_sites : Scope → PDecl → List Site
 decl_sites scope (DNumber name e s) = names_sites true scope (name ∷ []) ++ static_of scope (Some integer_kind) e
 decl_sites scope (DObject names constant shape init s) = object_sites scope names constant shape init (declared_object scope constant shape)
@@ -397,6 +430,7 @@ decl_sites scope (DTaskBody name objects its s) =
     ∷ own_sites (in_body scope name) objects
     ++ body_sites (inside (after_objects (in_body scope name) objects)) its
 
+-- the sites of declarations of main, each in the scope after those before it (3.9)
 abbrev pub decls_sites : Scope → PDecls → List Site
 decls_sites scope no_decl = []
 decls_sites scope (decl_then d rest) = decl_sites scope d ++ decls_sites (after_decl scope d) rest

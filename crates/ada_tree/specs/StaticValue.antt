@@ -17,6 +17,7 @@ use Rattle.ada_tree.specs.Attributes.{Attribute, First, Last, Pos, Val, Succ, Pr
 
 -- ---- names
 
+-- the name that may be missing is there, and is that one
 abbrev pub is_named : NameId → Option NameId → Bool
 is_named id None = false
 is_named id (Some other) = other.0 == id.0
@@ -39,6 +40,7 @@ abbrev pub position_in : NameId → Kind → Option ℕ
 position_in id (Enumeration names) = position (λ n. n.0 == id.0) names
 position_in id _ = None
 
+-- the position of an enumeration literal, in the first of the kinds that has it (3.5.1)
 abbrev pub literal_position : List Kind → NameId → Option ℕ
 literal_position [] id = None
 literal_position (kind ∷ rest) id = first_of_two (position_in id kind) (literal_position rest id)
@@ -81,10 +83,12 @@ is_integer_value z = int_le (negsuc 2147483647) z && int_le z (pos 2147483647)
 abbrev pub fitted : Span → ℤ → Result ℤ Span
 fitted s z = if is_integer_value z then Ok z else Err s
 
+-- the position of a truth value in BOOLEAN: 0 of FALSE, 1 of TRUE (3.5.3)
 abbrev pub truth : Bool → ℤ
 truth true = pos 1
 truth false = pos 0
 
+-- the value of BOOLEAN is not that of FALSE (3.5.3)
 abbrev pub is_true : ℤ → Bool
 is_true z = not (int_eq z (pos 0))
 
@@ -126,6 +130,7 @@ applied Divide s a b = unless_zero s b (fitted s (int_div a b))
 applied Mod s a b = unless_zero s b (Ok (modulus a b))
 applied Rem s a b = unless_zero s b (Ok (int_rem a b))
 
+-- a unary operator applied to the value of its operand (4.5.4, 4.5.6); `s` is its place
 abbrev pub signed : UnaryOp → Span → ℤ → Result ℤ Span
 signed unary.Plus s a = Ok a
 signed unary.Minus s a = fitted s (neg_ℤ a)
@@ -151,6 +156,7 @@ abbrev pub of_base : TypeTable → Option Mark → Span → ℤ → Result ℤ S
 of_base types (Some m) s z = if is_of_kind (slice_get types.kinds m.kind) z then Ok z else Err s
 of_base types None s z = Err s
 
+-- the value of 'POS, 'VAL, 'SUCC or 'PRED at an argument of that value, or the place that raises (3.5.5)
 abbrev pub attribute_at : TypeTable → Option Mark → Attribute → Span → ℤ → Result ℤ Span
 attribute_at types m Pos s z = Ok z
 attribute_at types m Val s z = of_base types m s z
@@ -160,6 +166,7 @@ attribute_at types m _ s z = Err s
 
 -- ---- values
 
+-- what f makes of a value; where something raised before, its place stays
 abbrev pub then_do : (ℤ → Result ℤ Span) → Result ℤ Span → Result ℤ Span
 then_do f (Ok z) = f z
 then_do f (Err s) = Err s
@@ -170,6 +177,7 @@ operated AndThen s l r = then_do (λ a. if is_true a then r else Ok (pos 0)) l
 operated OrElse s l r = then_do (λ a. if is_true a then Ok (pos 1) else r) l
 operated op s l r = then_do (λ a. then_do (λ b. applied op s a b) r) l
 
+-- the value of a name where it has one; else 0, since nothing is said of an expression that is not static
 abbrev pub named : Option ℤ → Result ℤ Span
 named (Some z) = Ok z
 named None = Ok (pos 0)

@@ -15,21 +15,27 @@ use Rattle.ada_tree.specs.Lexical.{IsIdentifier, IsInteger, IsDuration, IsString
 abbrev pub logical : ℕ
 logical = 0
 
+-- the level of relations (4.4)
 abbrev pub relation : ℕ
 relation = 1
 
+-- the level of simple expressions, which are sums and signed terms (4.4)
 abbrev pub simple : ℕ
 simple = 2
 
+-- the level of terms, which are products (4.4)
 abbrev pub term : ℕ
 term = 3
 
+-- the level of factors, here `abs` and `not` (4.4)
 abbrev pub factor : ℕ
 factor = 4
 
+-- the level of primaries, the tightest one (4.4)
 abbrev pub primary : ℕ
 primary = 5
 
+-- the grammar level of an expression with that binary operator outermost (4.4, 4.5)
 abbrev pub binary_level : BinaryOp → ℕ
 binary_level And = logical
 binary_level Or = logical
@@ -49,6 +55,7 @@ binary_level Divide = term
 binary_level Mod = term
 binary_level Rem = term
 
+-- the grammar level of an expression with that unary operator outermost (4.4, 4.5)
 abbrev pub unary_level : UnaryOp → ℕ
 unary_level unary.Plus = simple
 unary_level unary.Minus = simple
@@ -85,6 +92,7 @@ abbrev pub LastIfOthers : PHandler → PHandlers → Type 0
 LastIfOthers (handler [] l s) (handler_then y k) = ⊥
 LastIfOthers _ _ = Unit {0}
 
+-- of some handlers, only the last may be one for all other exceptions (11.2)
 abbrev pub OthersLast : PHandlers → Type 0
 OthersLast no_handler = Unit {0}
 OthersLast (handler_then x k) = LastIfOthers x k × OthersLast k
@@ -112,6 +120,7 @@ IsLater (DTask t s) = Unit {0}
 IsLater (DIntIo w s) = Unit {0}
 IsLater _ = ⊥
 
+-- all these declarations may stand after a body (3.9)
 abbrev pub AreLater : PDecls → Type 0
 AreLater no_decl = Unit {0}
 AreLater (decl_then x l) = IsLater x × AreLater l

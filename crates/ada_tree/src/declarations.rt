@@ -58,7 +58,7 @@ pub enum DeclKind {
 #[derive(Drop)]
 pub enum Shape {
     Plain(Subind),
-    Row { index: Drange, part: Subind },
+    ConstrainedArray { index: Drange, part: Subind },
 }
 
 /// A subtype indication.

@@ -3,7 +3,7 @@
 ghost use Rattle.std.specs.Prelude.{◌≡◌, IfOk, map, option_map};
 ghost use Rattle.ada_tree.specs.PlainExpr.{plain_expr, plain_subind, plain_drange};
 ghost use Rattle.ada_tree.specs.PlainStmt.{plain_formal, plain_body};
-ghost use Rattle.ada_tree.specs.PlainDecl.{plain_shape, plain_init, plain_priority, plain_entry, plain_task, plain_decl, decls_of, OPlain, ORow, IOne, IList, IOthers, DNumber, DObject, DEnumeration, DArray, DSubtype, DException, DPragma, DTask, DTaskBody};
+ghost use Rattle.ada_tree.specs.PlainDecl.{plain_shape, plain_init, plain_priority, plain_entry, plain_task, plain_decl, decls_of, OPlain, OArray, IOne, IList, IOthers, DNumber, DObject, DEnumeration, DArray, DSubtype, DException, DPragma, DTask, DTaskBody};
 ghost use Rattle.ada_tree.specs.PlainProgram.{plain_program};
 ghost use Rattle.ada_expr_copy.specs.Parts.{OkWith};
 
@@ -170,14 +170,14 @@ pub fn plain_of(mark: Result<Subind, Memory>) -> Result<Shape, Memory>
 }
 
 /// An array of its own type.
-pub fn row_shape_of(
+pub fn array_shape_of(
     index: Result<Drange, Memory>,
     part: Result<Subind, Memory>,
 ) -> Result<Shape, Memory>
-    ensures { IfOk result (λ made. OkWith index (λ r. OkWith part (λ x. plain_shape made ≡ ORow (plain_drange r) (plain_subind x)))) }
+    ensures { IfOk result (λ made. OkWith index (λ r. OkWith part (λ x. plain_shape made ≡ OArray (plain_drange r) (plain_subind x)))) }
 {
     match both(index, part) {
-        Ok((index, part)) => Ok(Shape::Row { index, part }),
+        Ok((index, part)) => Ok(Shape::ConstrainedArray { index, part }),
         Err(e) => Err(e),
     }
 }

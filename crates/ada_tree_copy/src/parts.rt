@@ -6,7 +6,7 @@ ghost use Rattle.ada_tree.specs.PlainDecl.{plain_shape, plain_init, plain_priori
 
 use crate::TreeCopy;
 use crate::building::{
-    entry_of, list_of, one_of, others_of, plain_of, priority_of, row_shape_of, unit_of,
+    array_shape_of, entry_of, list_of, one_of, others_of, plain_of, priority_of, unit_of,
 };
 use ada_expr_copy::{ExprCopy, copy_exprs, copy_formals, put, there};
 use ada_tree::{Drange, EntryDecl, Init, Memory, Priority, Shape, TaskUnit};
@@ -19,7 +19,10 @@ impl TreeCopy for Shape {
     {
         match self {
             Shape::Plain(mark) => plain_of(mark.copy(alloc)),
-            Shape::Row { index, part } => row_shape_of(index.copy(alloc), part.copy(alloc)),
+            Shape::ConstrainedArray { index, part } => array_shape_of(
+                index.copy(alloc),
+                part.copy(alloc),
+            ),
         }
     }
 }

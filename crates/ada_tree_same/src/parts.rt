@@ -14,10 +14,10 @@ pub(crate) fn same_shape(left: &Names, right: &Names, a: &Shape, b: &Shape) -> b
     match a {
         Shape::Plain(a) => match b {
             Shape::Plain(b) => same_subind(left, right, a, b),
-            Shape::Row { .. } => false,
+            Shape::ConstrainedArray { .. } => false,
         },
-        Shape::Row { index, part } => match b {
-            Shape::Row { index: i, part: p } => {
+        Shape::ConstrainedArray { index, part } => match b {
+            Shape::ConstrainedArray { index: i, part: p } => {
                 same_drange(left, right, index, i) && same_subind(left, right, part, p)
             }
             Shape::Plain(_) => false,

@@ -18,7 +18,7 @@ use Rattle.ada_tree.specs.RuleChoiceBad.{selected_range}
 use Rattle.ada_scopes.specs.Entries.{plain_range}
 use Rattle.ada_types.specs.declared.statements.CaseHead.{CaseHead}
 use Rattle.ada_tree.specs.PlainExpr.{PExpr, plain_expr}
-use Rattle.ada_tree.specs.PlainStmt.{PCall, PHead, SCase, accepting, absent, present, maybe_of, plain_stmt, plain_formal, plain_accept, plain_arm, plain_case_arm, plain_handler, PStmt, PAlt, alternative, PArm, arm, PCaseArm, case_arm, PHandler, handler, row_of, alts_of, arms_of, case_arms_of, handlers_of}
+use Rattle.ada_tree.specs.PlainStmt.{PCall, PHead, SCase, accepting, absent, present, maybe_of, plain_stmt, plain_formal, plain_accept, plain_arm, plain_case_arm, plain_handler, PStmt, PAlt, alternative, PArm, arm, PCaseArm, case_arm, PHandler, handler, stmts_of, alts_of, arms_of, case_arms_of, handlers_of}
 use Rattle.ada_tree.specs.Scope.{Scope, Range}
 use Rattle.ada_tree.specs.Declaring.{inside, with_formals}
 use Rattle.ada_tree.specs.Demand.{Site, names_exception, handles, chooses}
@@ -31,7 +31,7 @@ use Rattle.ada_refusals.proofs.Listing.{met_more, taken}
 
 -- ---- lists of the tree, by the places of each member
 
-pub stmts_flat : (scope : Scope) (xs : List PStmt) → stmts_sites scope (row_of xs) ≡ flat_map (stmt_sites scope) xs
+pub stmts_flat : (scope : Scope) (xs : List PStmt) → stmts_sites scope (stmts_of xs) ≡ flat_map (stmt_sites scope) xs
 stmts_flat scope [] = refl
 stmts_flat scope (x ∷ xs) = ap (λ l. stmt_sites scope x ++ l) (stmts_flat scope xs)
 
@@ -81,20 +81,20 @@ handlers_flat scope names (handler ws l s ∷ xs) =
 
 -- ---- statements that hold others, by what is told of their parts
 
-pub arm_told : (s : Scope) (x : Arm) (list : List Stmt) (r a b : Option Refusal) → r ≡ sooner a b → list ≡ (out-Arm x).stmts.items → a ≡ refused_first (condition s (plain_expr (out-Arm x).test)) → b ≡ refused_first (stmts_sites s (row_of (map plain_stmt list)))
+pub arm_told : (s : Scope) (x : Arm) (list : List Stmt) (r a b : Option Refusal) → r ≡ sooner a b → list ≡ (out-Arm x).stmts.items → a ≡ refused_first (condition s (plain_expr (out-Arm x).test)) → b ≡ refused_first (stmts_sites s (stmts_of (map plain_stmt list)))
     → r ≡ refused_first (each_arm s (plain_arm x))
 arm_told s x list r a b is same p q =
     is
-    ∙ joined (condition s (plain_expr (out-Arm x).test)) (stmts_sites s (row_of (map plain_stmt (out-Arm x).stmts.items))) a b p (q ∙ ap (λ l. refused_first (stmts_sites s (row_of (map plain_stmt l)))) same)
+    ∙ joined (condition s (plain_expr (out-Arm x).test)) (stmts_sites s (stmts_of (map plain_stmt (out-Arm x).stmts.items))) a b p (q ∙ ap (λ l. refused_first (stmts_sites s (stmts_of (map plain_stmt l)))) same)
     ∙ ap (λ y. refused_first (each_arm s y)) (sym (plain_arm-out x))
 
 pub handler_told : (s : Scope) (x : Handler) (names : List Word) (list : List Stmt) (r a b : Option Refusal) → r ≡ sooner a b → names ≡ (out-Handler x).names.items → list ≡ (out-Handler x).stmts.items
-    → a ≡ refused_first (handler_names_sites s [] names) → b ≡ refused_first (stmts_sites s (row_of (map plain_stmt list))) → r ≡ refused_first (each_handler s (plain_handler x))
+    → a ≡ refused_first (handler_names_sites s [] names) → b ≡ refused_first (stmts_sites s (stmts_of (map plain_stmt list))) → r ≡ refused_first (each_handler s (plain_handler x))
 handler_told s x names list r a b is named same p q =
     is
-    ∙ joined (flat_map (exception_sites s) (out-Handler x).names.items) (stmts_sites s (row_of (map plain_stmt (out-Handler x).stmts.items))) a b
+    ∙ joined (flat_map (exception_sites s) (out-Handler x).names.items) (stmts_sites s (stmts_of (map plain_stmt (out-Handler x).stmts.items))) a b
     (p ∙ exceptions_flat s [] names ∙ ap (λ ws. refused_first (flat_map (exception_sites s) ws)) named)
-    (q ∙ ap (λ l. refused_first (stmts_sites s (row_of (map plain_stmt l)))) same)
+    (q ∙ ap (λ l. refused_first (stmts_sites s (stmts_of (map plain_stmt l)))) same)
     ∙ ap (λ y. refused_first (each_handler s y)) (sym (plain_handler-out x))
 
 abbrev head_with : Accept → List Formal → PHead
@@ -102,12 +102,12 @@ head_with x formals = record { entry = (out-Accept x).entry; index = option_map 
 
 pub accept_told : (s : Scope) (x : Accept) (v : Vec Stmt Global) (heads formals : List Formal) (list : List Stmt) (r a b : Option Refusal) → (out-Accept x).stmts ≡ Some v → r ≡ sooner a b
     → heads ≡ (out-Accept x).formals.items → formals ≡ (out-Accept x).formals.items → list ≡ v.items
-    → a ≡ refused_first (head_sites s (head_with x heads)) → b ≡ refused_first (stmts_sites (with_formals (inside s) (map plain_formal formals)) (row_of (map plain_stmt list))) → r ≡ refused_first (accept_sites s (plain_accept x))
+    → a ≡ refused_first (head_sites s (head_with x heads)) → b ≡ refused_first (stmts_sites (with_formals (inside s) (map plain_formal formals)) (stmts_of (map plain_stmt list))) → r ≡ refused_first (accept_sites s (plain_accept x))
 accept_told s x v heads formals list r a b some is h f l p q =
     is
-    ∙ joined (head_sites s (head_with x (out-Accept x).formals.items)) (stmts_sites (with_formals (inside s) (map plain_formal (out-Accept x).formals.items)) (row_of (map plain_stmt v.items))) a b
+    ∙ joined (head_sites s (head_with x (out-Accept x).formals.items)) (stmts_sites (with_formals (inside s) (map plain_formal (out-Accept x).formals.items)) (stmts_of (map plain_stmt v.items))) a b
     (p ∙ ap (λ y. refused_first (head_sites s (head_with x y))) h)
-    (q ∙ ap (λ y. refused_first (stmts_sites (with_formals (inside s) (map plain_formal y)) (row_of (map plain_stmt list)))) f ∙ ap (λ y. refused_first (stmts_sites (with_formals (inside s) (map plain_formal (out-Accept x).formals.items)) (row_of (map plain_stmt y)))) l)
+    (q ∙ ap (λ y. refused_first (stmts_sites (with_formals (inside s) (map plain_formal y)) (stmts_of (map plain_stmt list)))) f ∙ ap (λ y. refused_first (stmts_sites (with_formals (inside s) (map plain_formal (out-Accept x).formals.items)) (stmts_of (map plain_stmt y)))) l)
     ∙ ap (λ o. refused_first (accept_sites s (accepting (head_with x (out-Accept x).formals.items) (maybe_of (option_map (λ w. map plain_stmt w.items) o))))) (sym some)
     ∙ ap (λ y. refused_first (accept_sites s y)) (sym (plain_accept-out x))
 
@@ -120,13 +120,13 @@ head_told s x heads a none h p =
     ∙ ap (λ y. refused_first (accept_sites s y)) (sym (plain_accept-out x))
 
 pub branches_told : (s now : Scope) (x : PCall) (behind other vb vo : List Stmt) (r ab a b c : Option Refusal) → r ≡ sooner ab c → ab ≡ sooner a b → now ≡ s → vb ≡ behind → vo ≡ other → a ≡ refused_first (call_sites s x)
-    → b ≡ refused_first (stmts_sites s (row_of (map plain_stmt vb))) → c ≡ refused_first (stmts_sites now (row_of (map plain_stmt vo)))
-    → r ≡ refused_first (call_sites s x ++ stmts_sites s (row_of (map plain_stmt behind)) ++ stmts_sites s (row_of (map plain_stmt other)))
+    → b ≡ refused_first (stmts_sites s (stmts_of (map plain_stmt vb))) → c ≡ refused_first (stmts_sites now (stmts_of (map plain_stmt vo)))
+    → r ≡ refused_first (call_sites s x ++ stmts_sites s (stmts_of (map plain_stmt behind)) ++ stmts_sites s (stmts_of (map plain_stmt other)))
 branches_told s now x behind other vb vo r ab a b c is inner same is_b is_o p q w =
     is
-    ∙ joined (call_sites s x ++ stmts_sites s (row_of (map plain_stmt behind))) (stmts_sites s (row_of (map plain_stmt other))) ab c
-    (inner ∙ joined (call_sites s x) (stmts_sites s (row_of (map plain_stmt behind))) a b p (q ∙ ap (λ l. refused_first (stmts_sites s (row_of (map plain_stmt l)))) is_b))
-    (w ∙ ap (λ z. refused_first (stmts_sites z (row_of (map plain_stmt vo)))) same ∙ ap (λ l. refused_first (stmts_sites s (row_of (map plain_stmt l)))) is_o)
+    ∙ joined (call_sites s x ++ stmts_sites s (stmts_of (map plain_stmt behind))) (stmts_sites s (stmts_of (map plain_stmt other))) ab c
+    (inner ∙ joined (call_sites s x) (stmts_sites s (stmts_of (map plain_stmt behind))) a b p (q ∙ ap (λ l. refused_first (stmts_sites s (stmts_of (map plain_stmt l)))) is_b))
+    (w ∙ ap (λ z. refused_first (stmts_sites z (stmts_of (map plain_stmt vo)))) same ∙ ap (λ l. refused_first (stmts_sites s (stmts_of (map plain_stmt l)))) is_o)
 
 -- the places of a case before its others
 abbrev case_before : Scope → PExpr → List CaseArm → Bool → Span → List Site
@@ -160,10 +160,10 @@ pub case_others : (s now : Scope) (e : PExpr) (arms va vb : List CaseArm) (list 
     → va ≡ arms → vb ≡ arms → vl ≡ list → given ≡ true → now ≡ s
     → IsCaseHead (site s (chooses e (choices_of (case_arms_of (map plain_case_arm va))) given span) ∷ expr_sites s e) s e h
     → inner ≡ refused_first (case_arms_sites s h.kind (option_map plain_range h.values) (case_arms_of (map plain_case_arm vb)))
-    → rest ≡ refused_first (stmts_sites now (row_of (map plain_stmt vl)))
-    → r ≡ refused_first (stmt_sites s (SCase e (case_arms_of (map plain_case_arm arms)) (present (row_of (map plain_stmt list))) span))
+    → rest ≡ refused_first (stmts_sites now (stmts_of (map plain_stmt vl)))
+    → r ≡ refused_first (stmt_sites s (SCase e (case_arms_of (map plain_case_arm arms)) (present (stmts_of (map plain_stmt list))) span))
 case_others s now e arms va vb list vl given span h r hi inner rest is his is_a is_b is_l is_o same head q w =
     is
-    ∙ joined (case_before s e arms true span) (stmts_sites s (row_of (map plain_stmt list))) hi rest
+    ∙ joined (case_before s e arms true span) (stmts_sites s (stmts_of (map plain_stmt list))) hi rest
     (case_told s e arms va vb given true span h hi inner his is_a is_b is_o head q)
-    (w ∙ ap (λ z. refused_first (stmts_sites z (row_of (map plain_stmt vl)))) same ∙ ap (λ l. refused_first (stmts_sites s (row_of (map plain_stmt l)))) is_l)
+    (w ∙ ap (λ z. refused_first (stmts_sites z (stmts_of (map plain_stmt vl)))) same ∙ ap (λ l. refused_first (stmts_sites s (stmts_of (map plain_stmt l)))) is_l)

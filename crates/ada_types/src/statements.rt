@@ -3,7 +3,7 @@
 
 ghost use Rattle.std.specs.Prelude.{◌≡◌, ◌++◌, ◌∷◌, [], ℕ, false, List, OnOk, IfOk, map, flat_map, option_map};
 ghost use Rattle.ada_tree.specs.PlainExpr.{plain_expr, plain_drange};
-ghost use Rattle.ada_tree.specs.PlainStmt.{plain_target, plain_callee, plain_call, plain_part, plain_scheme, plain_accept, plain_alt, plain_alt_kind, plain_arm, plain_case_arm, plain_handler, plain_body, plain_stmt, plain_formal, row_of, alts_of, arms_of, case_arms_of, handlers_of};
+ghost use Rattle.ada_tree.specs.PlainStmt.{plain_target, plain_callee, plain_call, plain_part, plain_scheme, plain_accept, plain_alt, plain_alt_kind, plain_arm, plain_case_arm, plain_handler, plain_body, plain_stmt, plain_formal, stmts_of, alts_of, arms_of, case_arms_of, handlers_of};
 ghost use Rattle.ada_tree.specs.RuleMismatch.{target_kind};
 ghost use Rattle.ada_tree.specs.Demand.{names_exception, chooses};
 ghost use Rattle.ada_tree.specs.Declaring.{with_formals, with_loop_parameter, inside};
@@ -122,7 +122,7 @@ fn walk_inner(
     list: &[Stmt],
 ) -> Result<Option<Refusal>, AllocError>
     ensures kept { OnOk result (scope.new ≡ scope.old) }
-    ensures told { IfOk result (λ r. r ≡ refused_first (stmts_sites (with_formals (inside scope.old) (map plain_formal formals.now)) (row_of (map plain_stmt list.now)))) }
+    ensures told { IfOk result (λ r. r ≡ refused_first (stmts_sites (with_formals (inside scope.old) (map plain_formal formals.now)) (stmts_of (map plain_stmt list.now)))) }
 {
     let outer = scope.enter();
     declare_formals(scope, formals)?;
@@ -338,7 +338,7 @@ fn walk_counted(
     list: &[Stmt],
 ) -> Result<Option<Refusal>, AllocError>
     ensures kept { OnOk result (scope.new ≡ scope.old) }
-    ensures told { IfOk result (λ r. r ≡ refused_first (drange_sites false scope.old (plain_drange range.now) ++ stmts_sites (with_loop_parameter scope.old name (plain_drange range.now)) (row_of (map plain_stmt list.now)))) }
+    ensures told { IfOk result (λ r. r ≡ refused_first (drange_sites false scope.old (plain_drange range.now) ++ stmts_sites (with_loop_parameter scope.old name (plain_drange range.now)) (stmts_of (map plain_stmt list.now)))) }
 {
     let walked = walk_range(scope, false, range);
     let thing = parameter(scope, walked.kind);
@@ -358,7 +358,7 @@ fn walk_loop(
     list: &[Stmt],
 ) -> Result<Option<Refusal>, AllocError>
     ensures kept { OnOk result (scope.new ≡ scope.old) }
-    ensures told { IfOk result (λ r. r ≡ refused_first (if_there (scheme_sites scope.old) (option_map plain_scheme scheme.now) ++ stmts_sites (loop_scope scope.old (option_map plain_scheme scheme.now)) (row_of (map plain_stmt list.now)))) }
+    ensures told { IfOk result (λ r. r ≡ refused_first (if_there (scheme_sites scope.old) (option_map plain_scheme scheme.now) ++ stmts_sites (loop_scope scope.old (option_map plain_scheme scheme.now)) (stmts_of (map plain_stmt list.now)))) }
 {
     match scheme {
         Some(scheme) => match scheme {
@@ -460,7 +460,7 @@ pub(crate) fn walk_stmts(
     list: &[Stmt],
 ) -> Result<Option<Refusal>, AllocError>
     ensures kept { OnOk result (scope.new ≡ scope.old) }
-    ensures told { IfOk result (λ r. r ≡ refused_first (stmts_sites scope.old (row_of (map plain_stmt list.now)))) }
+    ensures told { IfOk result (λ r. r ≡ refused_first (stmts_sites scope.old (stmts_of (map plain_stmt list.now)))) }
 {
     let mut refusal = None;
     for stmt in list {

@@ -39,7 +39,7 @@ fn entries_of(alloc: Global, thing: &Thing) -> Result<Rc<Entries>, AllocError>
         Thing::TaskType(entries) => entries.clone(),
         Thing::SingleTask(entries) => entries.clone(),
         Thing::TaskObject(entries) => entries.clone(),
-        Thing::TaskRow(_, entries) => entries.clone(),
+        Thing::TaskArray(_, entries) => entries.clone(),
         _ => no_entries(alloc),
     }
 }

@@ -21,15 +21,15 @@ use Rattle.ada_tree.specs.PlainExpr.{PExpr, EInteger, EName, EIndex, EAttribute,
 use Rattle.ada_tree.specs.Attributes.{Attribute, First, Last, Pos, Val, Succ, Pred, Image, NoAttribute, attribute_of, is_bound, false_name, true_name}
 use Rattle.ada_tree.specs.Scope.{mark_at}
 use Rattle.ada_tree.specs.StaticValue as static
-use Rattle.ada_tree.specs.StaticValue.{is_integer_value, is_of_kind, have_one_sign, moved, modulus, is_static, keeps_static, value_of, value_named, mark_named, constant_named, literal_position, position_in, first_of_two, truth, is_true, then_do, named}
+use Rattle.ada_tree.specs.StaticValue.{is_integer_value, is_of_kind, have_one_sign, modulus, is_static, keeps_static, value_of, mark_named, constant_named, literal_position, position_in, first_of_two, truth, then_do, named}
 use Rattle.ada_value.specs.declared.values.Value.{Value}
 use Rattle.ada_value.specs.declared.values.Value.TheVariants.{Number, Truth}
 use Rattle.ada_value.specs.declared.values.Raised.{Raised}
 use Rattle.ada_value.specs.declared.values.Raised.TheVariants as raised
 use Rattle.ada_value.specs.Values as values
-use Rattle.ada_value.specs.Values.{and_then, position_of, is_true_value, value_at, value_in, word, placed, based, limits_or, limits_of, limits_named}
+use Rattle.ada_value.specs.Values.{and_then, position_of, is_true_value, value_at, value_in, word, placed, based, limits_or}
 use Rattle.ada_value.specs.Evaluating as evaluating
-use Rattle.ada_value.specs.Evaluating.{evaluated, literal_value, constant_value, fixed_value, bound_value, attribute_value, signed_value, combined}
+use Rattle.ada_value.specs.Evaluating.{evaluated, literal_value, constant_value, bound_value, attribute_value, signed_value, combined}
 use Rattle.ada_value.specs.StaticLaw.{HasValueAt, HasFewLiterals, IsSound, HasSmallLiterals, Agree, StaticLaw}
 
 clash : {A : Type 0} → false ≡ true → A

@@ -1,4 +1,4 @@
-//! Expressions and what is built of them, read from the tokens of a row up to a depth.
+//! Expressions and what is built of them, read from the tokens of a question up to a depth.
 
 use crate::lexing::answer_fault;
 use crate::pieces::items_of;
@@ -8,7 +8,7 @@ use ada_expr_parser::{
 };
 use ada_printer::{expr_len, print_expr};
 use ada_tree::{Call, CaseChoice, Drange, Expr, Memory, Names, Target};
-use case_form::{Row, put_escaped};
+use case_form::{Question, put_escaped};
 use ded_io::MemorySink;
 use std::alloc::Global;
 
@@ -27,23 +27,23 @@ pub enum Wanted {
     Choice,
 }
 
-/// Answers with what is read of a row's items, or with the fault at its place.
+/// Answers with what is read of a question's items, or with the fault at its place.
 pub fn expression(
     alloc: Global,
-    row: &Row<'_>,
+    question: &Question<'_>,
     wanted: Wanted,
     depth: u32,
     out: &mut String,
 ) -> Result<(), Memory> {
-    match items_of(alloc, row.text()) {
-        Ok(items) => answer_wanted(alloc, row, &items, wanted, depth, out),
-        Err(fault) => answer_fault(row, fault, out),
+    match items_of(alloc, question.text()) {
+        Ok(items) => answer_wanted(alloc, question, &items, wanted, depth, out),
+        Err(fault) => answer_fault(question, fault, out),
     }
 }
 
 fn answer_wanted(
     alloc: Global,
-    row: &Row<'_>,
+    question: &Question<'_>,
     items: &Items,
     wanted: Wanted,
     depth: u32,
@@ -51,9 +51,9 @@ fn answer_wanted(
 ) -> Result<(), Memory> {
     let mut answer = String::new(alloc);
     match put_wanted(alloc, items, wanted, depth, &mut answer) {
-        Ok(()) => Ok(row.answer(out, answer.as_str())?),
-        Err(ParseError::Syntax { at }) => Ok(row.answer_at(out, "Syntax", at)?),
-        Err(ParseError::TooDeep { at }) => Ok(row.answer_at(out, "TooDeep", at)?),
+        Ok(()) => Ok(question.answer(out, answer.as_str())?),
+        Err(ParseError::Syntax { at }) => Ok(question.answer_at(out, "Syntax", at)?),
+        Err(ParseError::TooDeep { at }) => Ok(question.answer_at(out, "TooDeep", at)?),
         Err(ParseError::Memory) => Err(Memory),
     }
 }

@@ -3,11 +3,15 @@
 use crate::pieces::{place_of, tokens_of};
 use ada_lexer::{LexError, Token, TokenKind};
 use ada_tree::Memory;
-use case_form::Row;
+use case_form::Question;
 use std::alloc::Global;
 
-/// Writes a row with a mark at the fault of its tokens.
-pub fn answer_fault(row: &Row<'_>, fault: LexError, out: &mut String) -> Result<(), Memory> {
+/// Writes a question with a mark at the fault of its tokens.
+pub fn answer_fault(
+    question: &Question<'_>,
+    fault: LexError,
+    out: &mut String,
+) -> Result<(), Memory> {
     let (answer, at) = match fault {
         LexError::BadByte { at } => ("BadByte", at),
         LexError::OpenString { at } => ("OpenString", at),
@@ -15,23 +19,23 @@ pub fn answer_fault(row: &Row<'_>, fault: LexError, out: &mut String) -> Result<
         LexError::TooLong { at } => ("TooLong", at),
         LexError::Memory => return Err(Memory),
     };
-    row.answer_at(out, answer, at)?;
+    question.answer_at(out, answer, at)?;
     Ok(())
 }
 
-/// `tokens` and `token_places`: the kinds of the row's tokens, with their places where these are asked for, or the first fault.
+/// `tokens` and `token_places`: the kinds of the question's tokens, with their places where these are asked for, or the first fault.
 pub fn tokens(
     alloc: Global,
-    row: &Row<'_>,
+    question: &Question<'_>,
     has_places: bool,
     out: &mut String,
 ) -> Result<(), Memory> {
-    match tokens_of(alloc, row.text()) {
+    match tokens_of(alloc, question.text()) {
         Ok(found) => {
-            row.ask(out)?;
+            question.ask(out)?;
             put_tokens(&found, has_places, out)
         }
-        Err(fault) => answer_fault(row, fault, out),
+        Err(fault) => answer_fault(question, fault, out),
     }
 }
 
@@ -62,23 +66,27 @@ fn put_token(token: Token, has_places: bool, out: &mut String) -> Result<(), Mem
     Ok(())
 }
 
-/// `line_col`: the line and the column of the place that stands behind the row's last blank.
-pub fn line_col(row: &Row<'_>, out: &mut String) -> Result<(), Memory> {
-    row.ask(out)?;
-    let (_, number) = row.written().rsplit_once(' ').unwrap_or(("", "0"));
+/// `line_col`: the line and the column of the place that stands behind the question's last blank.
+pub fn line_col(question: &Question<'_>, out: &mut String) -> Result<(), Memory> {
+    question.ask(out)?;
+    let (_, number) = question.written().rsplit_once(' ').unwrap_or(("", "0"));
     let behind = number.len().saturating_add(1);
-    let len = row.text().len().saturating_sub(behind);
-    let text = row.text().get(..len).unwrap_or(&[]);
+    let len = question.text().len().saturating_sub(behind);
+    let text = question.text().get(..len).unwrap_or(&[]);
     let place = place_of(text, number.parse().unwrap_or(0));
     let (line, col) = (place.line, place.col);
     write!(out, "{line}:{col}")?;
     Ok(())
 }
 
-/// `token_message`: what the first fault of the row's tokens says.
-pub fn token_message(alloc: Global, row: &Row<'_>, out: &mut String) -> Result<(), Memory> {
-    row.ask(out)?;
-    match tokens_of(alloc, row.text()) {
+/// `token_message`: what the first fault of the question's tokens says.
+pub fn token_message(
+    alloc: Global,
+    question: &Question<'_>,
+    out: &mut String,
+) -> Result<(), Memory> {
+    question.ask(out)?;
+    match tokens_of(alloc, question.text()) {
         Ok(_) => out.push_str("no fault")?,
         Err(fault) => write!(out, "{fault}")?,
     }

@@ -1,4 +1,4 @@
-//! The names of programs. The rows of one heading are steps, one behind the other.
+//! The names of programs. The questions of one heading are steps, one behind the other.
 
 use ada_tree::{Memory, NameId, Names};
 use case_form::ask;

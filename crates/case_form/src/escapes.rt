@@ -1,5 +1,5 @@
 //! What stands for bytes in a file of cases: `%41` is a byte, `%-` no bytes and no end of line behind it, `%<NAME>` a text,
-//! `%{3:ab%}` three times `ab` where `%#` is the number of the round, and `%?` the place of a row.
+//! `%{3:ab%}` three times `ab` where `%#` is the number of the round, and `%?` the place of a question.
 
 use crate::texts::{Text, text_named};
 use std::alloc::{AllocError, Global};

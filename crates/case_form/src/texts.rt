@@ -1,9 +1,9 @@
-//! Texts that have a name: what later cases take in, and frames, whose `%?` is where a row stands.
+//! Texts that have a name: what later cases take in, and frames, whose `%?` is where a question stands.
 
 use crate::escapes::{Expansion, expand};
 use std::alloc::{AllocError, Global};
 
-/// A text with its name: the bytes before the place of a row, and those behind it. A text without such a place is all front.
+/// A text with its name: the bytes before the place of a question, and those behind it. A text without such a place is all front.
 #[derive(Drop)]
 pub struct Text {
     name: String,
@@ -28,12 +28,12 @@ impl Text {
         })
     }
 
-    /// The bytes before the place of a row.
+    /// The bytes before the place of a question.
     pub fn front(&self) -> &[u8] {
         &self.front
     }
 
-    /// The bytes behind the place of a row.
+    /// The bytes behind the place of a question.
     pub fn back(&self) -> &[u8] {
         &self.back
     }

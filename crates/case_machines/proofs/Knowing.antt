@@ -1,5 +1,5 @@
 -- What a sequence that was read gives, as judgments ask it.
-use Rattle.std.proofs.Common.{◌≡◌, true, List, [], ◌∷◌}
+use Rattle.std.proofs.Common.{List, [], ◌∷◌}
 use Rattle.event_machine.specs.declared.Event.{Event}
 use Rattle.seq_file.specs.Files.{NothingFollowsEnd}
 use Rattle.seq_file.proofs.EndLemmas.{last_is_end}

@@ -8,14 +8,14 @@ ghost use Rattle.syn_event.specs.Legal.{Legal};
 
 use crate::running::no_inputs;
 use ada_tree::Memory;
-use case_form::{Row, put_comma};
+use case_form::{Question, put_comma};
 use case_rules::{Known, put_fault, sequence_of};
 use feasible::{Cause, Judge, Verdict, judge_all};
 use std::alloc::Global;
 use syn_event::{Event, Mode};
 use task_links::Links;
 
-// The bytes of a sequence of the program: its header, and the row's events with a semicolon between as its lines.
+// The bytes of a sequence of the program: its header, and the question's events with a semicolon between as its lines.
 fn lines_of(alloc: Global, known: &Known, written: &str) -> Result<String, Memory> {
     let numbers = &known.checked.numbers;
     let name = known.program.names.text(numbers.main).unwrap_or("?");
@@ -40,21 +40,21 @@ pub enum Judging {
     Each,
 }
 
-/// `judge_all` and `judge`: the verdict on the row's events, or the verdicts behind each of them, where so many local steps are allowed.
+/// `judge_all` and `judge`: the verdict on the question's events, or the verdicts behind each of them, where so many local steps are allowed.
 #[tactic(auto, using(crate::proofs::Knowing::nothing_follows))]
-pub fn judge_row(
+pub fn judge_question(
     alloc: Global,
     known: &Known,
     judging: Judging,
     bound: u64,
-    row: &Row<'_>,
+    question: &Question<'_>,
     out: &mut String,
 ) -> Result<(), Memory>
     requires placed { IsWellPlaced (plain_program known.now.program) }
     requires legal { Legal (plain_program known.now.program) known.now.checked.types known.now.checked.numbers Mode.Original }
 {
-    let lines = lines_of(alloc, known, row.written())?;
-    row.ask(out)?;
+    let lines = lines_of(alloc, known, question.written())?;
+    question.ask(out)?;
     match sequence_of(alloc, known, Mode::Original, lines.as_bytes()) {
         Ok(events) => put_judged(alloc, known, judging, bound, &events, out),
         Err(error) => put_fault(error, out),

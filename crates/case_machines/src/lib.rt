@@ -5,6 +5,6 @@ mod judging;
 mod running;
 mod valuing;
 
-pub use judging::{Judging, judge_row};
-pub use running::run_row;
+pub use judging::{Judging, judge_question};
+pub use running::run_question;
 pub use valuing::value;

@@ -2,7 +2,7 @@
 
 use ada_tree::Memory;
 use ada_value::Inputs;
-use case_form::Row;
+use case_form::Question;
 use case_rules::Known;
 use ded_io::{ListChooser, MemorySink};
 use interp::{RunEnd, RunError, RunReport, run};
@@ -17,7 +17,7 @@ pub fn no_inputs(alloc: Global) -> Inputs {
     }
 }
 
-// The choices of a row.
+// The choices of a question.
 fn choices_of(alloc: Global, written: &str) -> Result<ListChooser, AllocError> {
     let mut list = Vec::new(alloc);
     for word in written.split_whitespace() {
@@ -28,16 +28,16 @@ fn choices_of(alloc: Global, written: &str) -> Result<ListChooser, AllocError> {
     Ok(ListChooser::new(list))
 }
 
-/// `run`: the events of a run of at most so many turns under the row's choices, and how it ends.
-pub fn run_row(
+/// `run`: the events of a run of at most so many turns under the question's choices, and how it ends.
+pub fn run_question(
     alloc: Global,
     known: &Known,
     turns: u64,
-    row: &Row<'_>,
+    question: &Question<'_>,
     out: &mut String,
 ) -> Result<(), Memory> {
-    let choices = choices_of(alloc, row.written())?;
-    row.ask(out)?;
+    let choices = choices_of(alloc, question.written())?;
+    question.ask(out)?;
     put_run(alloc, known, turns, choices, out)
 }
 

@@ -3,13 +3,13 @@
 use ada_tree::{Kind, Memory, Names, Program, Types};
 use ada_value::{Binding, Raised, Scope, Value, Vars, eval, value_at};
 use case_expressions::put_name;
-use case_form::{Row, Text};
+use case_form::{Question, Text};
 use case_programs::program_of;
 use case_rules::{assigned, types_in};
 use std::alloc::Global;
 
-/// `value VARIABLES`: the value of the row, an expression, or the exception that it raises, by the types of the frame with `null;` in
-/// its place and the variables of the heading. The row is read as what is assigned there to X.
+/// `value VARIABLES`: the value of the question, an expression, or the exception that it raises, by the types of the frame with `null;` in
+/// its place and the variables of the heading. The question is read as what is assigned there to X.
 pub fn value(
     alloc: Global,
     texts: &[Text],
@@ -18,24 +18,24 @@ pub fn value(
     written: &str,
     out: &mut String,
 ) -> Result<(), Memory> {
-    let declared = Row::new(alloc, texts, frame, ("", ""), "null;")?;
-    let row = Row::new(alloc, texts, frame, ("X := ", ";"), written)?;
-    row.ask(out)?;
+    let declared = Question::new(alloc, texts, frame, ("", ""), "null;")?;
+    let question = Question::new(alloc, texts, frame, ("X := ", ";"), written)?;
+    question.ask(out)?;
     match types_in(alloc, declared.text())? {
-        Some(types) => put_value_by(alloc, &row, variables, &types, out),
+        Some(types) => put_value_by(alloc, &question, variables, &types, out),
         None => Ok(out.push_str("no types")?),
     }
 }
 
-// The value of what the row's program assigns, by these types.
+// The value of what the question's program assigns, by these types.
 fn put_value_by(
     alloc: Global,
-    row: &Row<'_>,
+    question: &Question<'_>,
     variables: &str,
     types: &Types,
     out: &mut String,
 ) -> Result<(), Memory> {
-    match program_of(alloc, row.text()) {
+    match program_of(alloc, question.text()) {
         Ok(mut program) => match vars_of(alloc, variables, &mut program.names, types) {
             Ok(vars) => put_valued(&program, &vars, types, out),
             Err(_) => Err(Memory),

@@ -1,4 +1,4 @@
-//! The outside in memory: choices, files and outputs. The rows of one heading are steps, one behind the other.
+//! The outside in memory: choices, files and outputs. The questions of one heading are steps, one behind the other.
 
 use case_form::{Stage, ask, put_quoted};
 use ded_io::{Chooser, Files, ListChooser, LoadError, MemoryFiles, MemorySink, Sink};
@@ -21,7 +21,7 @@ where
     if count == 0 { 0 } else { chooser.pick(count) }
 }
 
-/// `choices WORD..`: the picks of a list of words, each from so many places as the row says.
+/// `choices WORD..`: the picks of a list of words, each from so many places as the question says.
 pub fn choices(alloc: Global, list: &str, steps: &str, out: &mut String) -> Result<(), AllocError> {
     let mut words = Vec::new(alloc);
     for word in list.split_whitespace() {
@@ -88,7 +88,7 @@ where
     Ok(())
 }
 
-/// `sink ROOM NUMBER..`: whether an output of that room takes the row, where the puts of these numbers fail, and what it has then.
+/// `sink ROOM NUMBER..`: whether an output of that room takes the question, where the puts of these numbers fail, and what it has then.
 pub fn sink(alloc: Global, given: &str, steps: &str, out: &mut String) -> Result<(), AllocError> {
     let (room, failing) = given.split_once(' ').unwrap_or((given, ""));
     let failing = numbers_of(alloc, failing)?;

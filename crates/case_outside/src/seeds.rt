@@ -2,7 +2,7 @@
 
 ghost use Rattle.std.specs.Prelude.{◌<◌};
 
-use case_form::Row;
+use case_form::Question;
 use ded_io::Chooser;
 use seed_chooser::SeedChooser;
 use std::alloc::AllocError;
@@ -10,10 +10,10 @@ use std::alloc::AllocError;
 // How many picks are written.
 const PICKS: u32 = 10;
 
-/// `seed SEED`: the first picks of the chooser of that seed, each from so many places as the row says.
-pub fn seeded(seed: &str, row: &Row<'_>, out: &mut String) -> Result<(), AllocError> {
-    row.ask(out)?;
-    match (seed.parse::<u64>(), row.written().parse::<u32>()) {
+/// `seed SEED`: the first picks of the chooser of that seed, each from so many places as the question says.
+pub fn seeded(seed: &str, question: &Question<'_>, out: &mut String) -> Result<(), AllocError> {
+    question.ask(out)?;
+    match (seed.parse::<u64>(), question.written().parse::<u32>()) {
         (Ok(seed), Ok(count)) if count > 0 => put_picks(SeedChooser::new(seed), count, out),
         _ => out.push_str("no seed, or no places"),
     }

@@ -7,4 +7,4 @@ mod reading;
 
 pub use messages::{message, text_message};
 pub use programs::program_of;
-pub use reading::{answer_refused, fronts, print_row, printed, printed_len, read};
+pub use reading::{answer_refused, fronts, print_question, printed, printed_len, read};

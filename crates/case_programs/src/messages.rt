@@ -1,17 +1,21 @@
-//! What errors say: those of texts, and those that no other row can bring about.
+//! What errors say: those of texts, and those that no other question can bring about.
 
 use crate::programs::program_of;
 use ada_lexer::LexError;
 use ada_parser::ReadError;
 use ada_tree::Memory;
-use case_form::Row;
+use case_form::Question;
 use ded_io::{LoadError, SinkError};
 use std::alloc::Global;
 
-/// `text_message`: what the refusal of the row's text says.
-pub fn text_message(alloc: Global, row: &Row<'_>, out: &mut String) -> Result<(), Memory> {
-    row.ask(out)?;
-    match program_of(alloc, row.text()) {
+/// `text_message`: what the refusal of the question's text says.
+pub fn text_message(
+    alloc: Global,
+    question: &Question<'_>,
+    out: &mut String,
+) -> Result<(), Memory> {
+    question.ask(out)?;
+    match program_of(alloc, question.text()) {
         Ok(_) => out.push_str("no fault")?,
         Err(error) => write!(out, "{error}")?,
     }
@@ -19,9 +23,9 @@ pub fn text_message(alloc: Global, row: &Row<'_>, out: &mut String) -> Result<()
 }
 
 /// `messages`: what an error says by its name.
-pub fn message(row: &Row<'_>, out: &mut String) -> Result<(), Memory> {
-    row.ask(out)?;
-    match row.written() {
+pub fn message(question: &Question<'_>, out: &mut String) -> Result<(), Memory> {
+    question.ask(out)?;
+    match question.written() {
         "tokens Memory" => write!(out, "{}", LexError::Memory)?,
         "text Memory" => write!(out, "{}", ReadError::Memory)?,
         "tree Memory" => write!(out, "{}", Memory)?,

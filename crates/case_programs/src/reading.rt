@@ -5,28 +5,32 @@ use ada_parser::ReadError;
 use ada_printer::{print, text_len};
 use ada_tree::{Memory, Program};
 use case_expressions::answer_fault;
-use case_form::{Row, put_escaped};
+use case_form::{Question, put_escaped};
 use ded_io::MemorySink;
 use std::alloc::Global;
 
-// The room for what is printed of a row.
+// The room for what is printed of a question.
 const ROOM: u64 = 20_000;
 
-/// Answers why the row's text is no program, at the place.
-pub fn answer_refused(row: &Row<'_>, error: ReadError, out: &mut String) -> Result<(), Memory> {
+/// Answers why the question's text is no program, at the place.
+pub fn answer_refused(
+    question: &Question<'_>,
+    error: ReadError,
+    out: &mut String,
+) -> Result<(), Memory> {
     match error {
-        ReadError::Lex(fault) => answer_fault(row, fault, out),
-        ReadError::Syntax { at } => Ok(row.answer_at(out, "Syntax", at)?),
-        ReadError::TooDeep { at } => Ok(row.answer_at(out, "TooDeep", at)?),
+        ReadError::Lex(fault) => answer_fault(question, fault, out),
+        ReadError::Syntax { at } => Ok(question.answer_at(out, "Syntax", at)?),
+        ReadError::TooDeep { at } => Ok(question.answer_at(out, "TooDeep", at)?),
         ReadError::Memory => Err(Memory),
     }
 }
 
-/// `read`: whether the row's text is a program, and where it is not.
-pub fn read(alloc: Global, row: &Row<'_>, out: &mut String) -> Result<(), Memory> {
-    match program_of(alloc, row.text()) {
-        Ok(_) => Ok(row.answer(out, "ok")?),
-        Err(error) => answer_refused(row, error, out),
+/// `read`: whether the question's text is a program, and where it is not.
+pub fn read(alloc: Global, question: &Question<'_>, out: &mut String) -> Result<(), Memory> {
+    match program_of(alloc, question.text()) {
+        Ok(_) => Ok(question.answer(out, "ok")?),
+        Err(error) => answer_refused(question, error, out),
     }
 }
 
@@ -39,44 +43,48 @@ pub fn printed(alloc: Global, program: &Program) -> Result<MemorySink, Memory> {
     }
 }
 
-/// `printed`: what is printed of the row's program.
-pub fn print_row(alloc: Global, row: &Row<'_>, out: &mut String) -> Result<(), Memory> {
-    match program_of(alloc, row.text()) {
-        Ok(program) => answer_printed(alloc, row, &program, out),
-        Err(error) => answer_refused(row, error, out),
+/// `printed`: what is printed of the question's program.
+pub fn print_question(
+    alloc: Global,
+    question: &Question<'_>,
+    out: &mut String,
+) -> Result<(), Memory> {
+    match program_of(alloc, question.text()) {
+        Ok(program) => answer_printed(alloc, question, &program, out),
+        Err(error) => answer_refused(question, error, out),
     }
 }
 
 fn answer_printed(
     alloc: Global,
-    row: &Row<'_>,
+    question: &Question<'_>,
     program: &Program,
     out: &mut String,
 ) -> Result<(), Memory> {
     let sink = printed(alloc, program)?;
-    row.ask(out)?;
+    question.ask(out)?;
     put_escaped(out, sink.bytes())?;
     Ok(())
 }
 
-/// `text_len`: the length of the text that is printed of the row's program.
-pub fn printed_len(alloc: Global, row: &Row<'_>, out: &mut String) -> Result<(), Memory> {
-    match program_of(alloc, row.text()) {
-        Ok(program) => answer_len(row, text_len(&program), out),
-        Err(error) => answer_refused(row, error, out),
+/// `text_len`: the length of the text that is printed of the question's program.
+pub fn printed_len(alloc: Global, question: &Question<'_>, out: &mut String) -> Result<(), Memory> {
+    match program_of(alloc, question.text()) {
+        Ok(program) => answer_len(question, text_len(&program), out),
+        Err(error) => answer_refused(question, error, out),
     }
 }
 
-fn answer_len(row: &Row<'_>, len: u64, out: &mut String) -> Result<(), Memory> {
-    row.ask(out)?;
+fn answer_len(question: &Question<'_>, len: u64, out: &mut String) -> Result<(), Memory> {
+    question.ask(out)?;
     write!(out, "{len}")?;
     Ok(())
 }
 
-/// `fronts`: how many first bytes of the row's text are a program, and of how many the end is not in the grammar.
-pub fn fronts(alloc: Global, row: &Row<'_>, out: &mut String) -> Result<(), Memory> {
-    let text = row.text();
-    row.ask(out)?;
+/// `fronts`: how many first bytes of the question's text are a program, and of how many the end is not in the grammar.
+pub fn fronts(alloc: Global, question: &Question<'_>, out: &mut String) -> Result<(), Memory> {
+    let text = question.text();
+    question.ask(out)?;
     let mut last = "";
     for len in 0..=text.len() {
         let found = word_of(alloc, text.get(..len).unwrap_or(&[]))?;

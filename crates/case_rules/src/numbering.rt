@@ -9,7 +9,7 @@ use ada_check::{CheckError, Checked, check};
 use ada_parser::ReadError;
 use ada_tree::{Memory, Names, Program};
 use case_expressions::put_name;
-use case_form::Row;
+use case_form::Question;
 use case_programs::{answer_refused, program_of};
 use ded_io::MemorySink;
 use std::alloc::Global;
@@ -40,25 +40,25 @@ pub fn known_of(alloc: Global, text: &[u8], mode: Mode) -> Result<Option<Known>,
     }
 }
 
-/// `numbers`: the tasks of the row's program from main on, and its entries with their owners, added ones behind `+`.
-pub fn numbers(alloc: Global, row: &Row<'_>, out: &mut String) -> Result<(), Memory> {
-    match program_of(alloc, row.text()) {
+/// `numbers`: the tasks of the question's program from main on, and its entries with their owners, added ones behind `+`.
+pub fn numbers(alloc: Global, question: &Question<'_>, out: &mut String) -> Result<(), Memory> {
+    match program_of(alloc, question.text()) {
         Ok(program) => match check(alloc, &program, Mode::Any) {
-            Ok(checked) => answer_numbers(row, &program.names, &checked.numbers, out),
+            Ok(checked) => answer_numbers(question, &program.names, &checked.numbers, out),
             Err(CheckError::Memory) => Err(Memory),
-            Err(_) => Ok(row.answer(out, "refused")?),
+            Err(_) => Ok(question.answer(out, "refused")?),
         },
-        Err(error) => answer_refused(row, error, out),
+        Err(error) => answer_refused(question, error, out),
     }
 }
 
 fn answer_numbers(
-    row: &Row<'_>,
+    question: &Question<'_>,
     names: &Names,
     numbers: &Numbers,
     out: &mut String,
 ) -> Result<(), Memory> {
-    row.ask(out)?;
+    question.ask(out)?;
     out.push_str("tasks")?;
     for task in &numbers.tasks {
         put_task(names, *task, out)?;
@@ -105,10 +105,10 @@ fn put_entry(names: &Names, entry: EntryInfo, out: &mut String) -> Result<(), Me
 pub fn number(
     alloc: Global,
     known: &mut Known,
-    row: &Row<'_>,
+    question: &Question<'_>,
     out: &mut String,
 ) -> Result<(), Memory> {
-    let mut words = row.written().split_whitespace();
+    let mut words = question.written().split_whitespace();
     let is_task = words.next().unwrap_or("") == "task";
     let owner = if is_task {
         0
@@ -122,7 +122,7 @@ pub fn number(
     } else {
         numbers.entry_named(owner, name)
     };
-    row.ask(out)?;
+    question.ask(out)?;
     match found {
         Some(number) => write!(out, "{number}")?,
         None => out.push_str("none")?,
@@ -170,19 +170,24 @@ fn put_ascii(bytes: &[u8], out: &mut String) -> Result<(), Memory> {
     Ok(())
 }
 
-/// `events`: the text of the row's event, which is read with its numbers.
-pub fn event(alloc: Global, row: &Row<'_>, out: &mut String) -> Result<(), Memory> {
-    row.ask(out)?;
-    match event_of(row.written()) {
+/// `events`: the text of the question's event, which is read with its numbers.
+pub fn event(alloc: Global, question: &Question<'_>, out: &mut String) -> Result<(), Memory> {
+    question.ask(out)?;
+    match event_of(question.written()) {
         Some(event) => put_event(alloc, event, out),
         None => Ok(out.push_str("no event")?),
     }
 }
 
-/// `origins`: the event of the original that the row's event stands for.
-pub fn origin(alloc: Global, known: &Known, row: &Row<'_>, out: &mut String) -> Result<(), Memory> {
-    row.ask(out)?;
-    match event_of(row.written()) {
+/// `origins`: the event of the original that the question's event stands for.
+pub fn origin(
+    alloc: Global,
+    known: &Known,
+    question: &Question<'_>,
+    out: &mut String,
+) -> Result<(), Memory> {
+    question.ask(out)?;
+    match event_of(question.written()) {
         Some(event) => match back(&event, &known.checked.numbers) {
             Some(original) => put_event(alloc, original, out),
             None => Ok(out.push_str("none")?),

@@ -1,4 +1,4 @@
-//! Names in scopes. The rows of one heading are steps, one behind the other.
+//! Names in scopes. The questions of one heading are steps, one behind the other.
 
 use ada_tree::Memory;
 use case_form::ask;

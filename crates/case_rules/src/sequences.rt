@@ -8,7 +8,7 @@ ghost use Rattle.syn_event.specs.Legal.{Legal};
 
 use crate::numbering::{Known, put_event};
 use ada_tree::Memory;
-use case_form::Row;
+use case_form::Question;
 use seq_file::{SeqError, read_seq};
 use std::alloc::Global;
 use syn_event::{Event, Mode};
@@ -35,19 +35,19 @@ pub fn sequence_of(
     }
 }
 
-/// `sequence`: how many events the row's bytes are and which, or the fault of the first bad line.
+/// `sequence`: how many events the question's bytes are and which, or the fault of the first bad line.
 pub fn sequence(
     alloc: Global,
     known: &Known,
     mode: Mode,
-    row: &Row<'_>,
+    question: &Question<'_>,
     out: &mut String,
 ) -> Result<(), Memory>
     requires placed { IsWellPlaced (plain_program known.now.program) }
     requires legal { Legal (plain_program known.now.program) known.now.checked.types known.now.checked.numbers mode }
 {
-    row.ask(out)?;
-    match sequence_of(alloc, known, mode, row.text()) {
+    question.ask(out)?;
+    match sequence_of(alloc, known, mode, question.text()) {
         Ok(events) => put_events(alloc, &events, out),
         Err(error) => put_fault(error, out),
     }

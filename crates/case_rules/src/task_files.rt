@@ -3,26 +3,35 @@
 use crate::numbering::Known;
 use ada_tree::Memory;
 use ada_value::Inputs;
-use case_form::Row;
+use case_form::Question;
 use input_file::{InputError, read_choices, read_inputs};
 use std::alloc::Global;
 
 // Of more numbers only the count, the first and the last are written.
 const MOST: usize = 10;
 
-/// `inputs`: which tasks have something to read by the row's bytes and what, or the fault of the first bad line.
-pub fn inputs(alloc: Global, known: &Known, row: &Row<'_>, out: &mut String) -> Result<(), Memory> {
-    row.ask(out)?;
-    match inputs_of(alloc, known, row.text()) {
+/// `inputs`: which tasks have something to read by the question's bytes and what, or the fault of the first bad line.
+pub fn inputs(
+    alloc: Global,
+    known: &Known,
+    question: &Question<'_>,
+    out: &mut String,
+) -> Result<(), Memory> {
+    question.ask(out)?;
+    match inputs_of(alloc, known, question.text()) {
         Ok(inputs) => put_inputs(&inputs.lists, out),
         Err(error) => put_input_fault(error, out),
     }
 }
 
-/// `choices_file`: the choices of the row's bytes, or the fault of the first bad line.
-pub fn choices_file(alloc: Global, row: &Row<'_>, out: &mut String) -> Result<(), Memory> {
-    row.ask(out)?;
-    match choices_of(alloc, row.text()) {
+/// `choices_file`: the choices of the question's bytes, or the fault of the first bad line.
+pub fn choices_file(
+    alloc: Global,
+    question: &Question<'_>,
+    out: &mut String,
+) -> Result<(), Memory> {
+    question.ask(out)?;
+    match choices_of(alloc, question.text()) {
         Ok(choices) => put_choices(&choices, out),
         Err(error) => put_input_fault(error, out),
     }

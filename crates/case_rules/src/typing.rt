@@ -6,14 +6,14 @@ use ada_tree::{
 };
 use ada_types::{TypeError, static_value, types_of};
 use case_expressions::{place_of, put_name};
-use case_form::{Row, Text, put_comma};
+use case_form::{Question, Text, put_comma};
 use case_programs::program_of;
 use std::alloc::Global;
 
 /// How the place of a refusal is told.
 #[derive(Clone, Copy)]
 pub enum Told {
-    /// By marks in the row.
+    /// By marks in the question.
     Marked,
     /// By its line and column in the whole text.
     Counted,
@@ -40,17 +40,17 @@ fn refusal_of(error: TypeError) -> Result<(&'static str, Span), Memory> {
 
 // Answers with the rule that refuses, at its place.
 fn answer_refusal(
-    row: &Row<'_>,
+    question: &Question<'_>,
     error: TypeError,
     told: Told,
     out: &mut String,
 ) -> Result<(), Memory> {
     let (rule, span) = refusal_of(error)?;
     match told {
-        Told::Marked => row.answer_around(out, rule, (span.start, span.end))?,
+        Told::Marked => question.answer_around(out, rule, (span.start, span.end))?,
         Told::Counted => {
-            row.answer(out, rule)?;
-            let place = place_of(row.text(), span.start);
+            question.answer(out, rule)?;
+            let place = place_of(question.text(), span.start);
             let (line, col) = (place.line, place.col);
             write!(out, " {line}:{col}")?;
         }
@@ -58,51 +58,60 @@ fn answer_refusal(
     Ok(())
 }
 
-/// `types`: the first refusal of the row's program, or that it has types.
-pub fn types(alloc: Global, row: &Row<'_>, told: Told, out: &mut String) -> Result<(), Memory> {
-    match program_of(alloc, row.text()) {
+/// `types`: the first refusal of the question's program, or that it has types.
+pub fn types(
+    alloc: Global,
+    question: &Question<'_>,
+    told: Told,
+    out: &mut String,
+) -> Result<(), Memory> {
+    match program_of(alloc, question.text()) {
         Ok(program) => match types_of(alloc, &program) {
-            Ok(_) => Ok(row.answer(out, "ok")?),
-            Err(error) => answer_refusal(row, error, told, out),
+            Ok(_) => Ok(question.answer(out, "ok")?),
+            Err(error) => answer_refusal(question, error, told, out),
         },
-        Err(error) => answer_unread(row, error, out),
+        Err(error) => answer_unread(question, error, out),
     }
 }
 
-// Answers that the row's text is no program.
-fn answer_unread(row: &Row<'_>, error: ReadError, out: &mut String) -> Result<(), Memory> {
+// Answers that the question's text is no program.
+fn answer_unread(
+    question: &Question<'_>,
+    error: ReadError,
+    out: &mut String,
+) -> Result<(), Memory> {
     match error {
         ReadError::Memory => Err(Memory),
-        _ => Ok(row.answer(out, "no program")?),
+        _ => Ok(question.answer(out, "no program")?),
     }
 }
 
-/// `type_table`: the kinds, marks and constants of the row's program, behind so many kinds and marks.
+/// `type_table`: the kinds, marks and constants of the question's program, behind so many kinds and marks.
 pub fn type_table(
     alloc: Global,
-    row: &Row<'_>,
+    question: &Question<'_>,
     kinds: usize,
     marks: usize,
     out: &mut String,
 ) -> Result<(), Memory> {
-    match program_of(alloc, row.text()) {
+    match program_of(alloc, question.text()) {
         Ok(program) => match types_of(alloc, &program) {
-            Ok(types) => answer_types(row, &program.names, &types, kinds, marks, out),
-            Err(error) => answer_refusal(row, error, Told::Marked, out),
+            Ok(types) => answer_types(question, &program.names, &types, kinds, marks, out),
+            Err(error) => answer_refusal(question, error, Told::Marked, out),
         },
-        Err(error) => answer_unread(row, error, out),
+        Err(error) => answer_unread(question, error, out),
     }
 }
 
 fn answer_types(
-    row: &Row<'_>,
+    question: &Question<'_>,
     names: &Names,
     types: &Types,
     kinds: usize,
     marks: usize,
     out: &mut String,
 ) -> Result<(), Memory> {
-    row.ask(out)?;
+    question.ask(out)?;
     let mut is_first = true;
     for kind in types.kinds.iter().skip(kinds) {
         put_comma(out, is_first)?;
@@ -166,7 +175,7 @@ fn put_constant(names: &Names, constant: Constant, out: &mut String) -> Result<(
     Ok(())
 }
 
-/// `static`: the value of the row, an expression, by the types of the frame with `null;` in its place. The row is read as what is
+/// `static`: the value of the question, an expression, by the types of the frame with `null;` in its place. The question is read as what is
 /// assigned there to X.
 pub fn static_expression(
     alloc: Global,
@@ -175,42 +184,47 @@ pub fn static_expression(
     written: &str,
     out: &mut String,
 ) -> Result<(), Memory> {
-    let declared = Row::new(alloc, texts, frame, ("", ""), "null;")?;
-    let row = Row::new(alloc, texts, frame, ("X := ", ";"), written)?;
+    let declared = Question::new(alloc, texts, frame, ("", ""), "null;")?;
+    let question = Question::new(alloc, texts, frame, ("X := ", ";"), written)?;
     match program_of(alloc, declared.text()) {
         Ok(program) => match types_of(alloc, &program) {
-            Ok(types) => value_in(alloc, &row, &types, out),
+            Ok(types) => value_in(alloc, &question, &types, out),
             Err(error) => answer_refusal(&declared, error, Told::Marked, out),
         },
-        Err(error) => answer_unread(&row, error, out),
+        Err(error) => answer_unread(&question, error, out),
     }
 }
 
-// The value of what the row's program assigns.
-fn value_in(alloc: Global, row: &Row<'_>, types: &Types, out: &mut String) -> Result<(), Memory> {
-    match program_of(alloc, row.text()) {
-        Ok(program) => value_of_last(row, &program, types, out),
-        Err(error) => answer_unread(row, error, out),
+// The value of what the question's program assigns.
+fn value_in(
+    alloc: Global,
+    question: &Question<'_>,
+    types: &Types,
+    out: &mut String,
+) -> Result<(), Memory> {
+    match program_of(alloc, question.text()) {
+        Ok(program) => value_of_last(question, &program, types, out),
+        Err(error) => answer_unread(question, error, out),
     }
 }
 
 fn value_of_last(
-    row: &Row<'_>,
+    question: &Question<'_>,
     program: &Program,
     types: &Types,
     out: &mut String,
 ) -> Result<(), Memory> {
     match assigned(program) {
         Some(expr) => match static_value(expr, types) {
-            Ok(value) => answer_value(row, value, out),
-            Err(error) => answer_refusal(row, error, Told::Marked, out),
+            Ok(value) => answer_value(question, value, out),
+            Err(error) => answer_refusal(question, error, Told::Marked, out),
         },
-        None => Ok(row.answer(out, "no expression")?),
+        None => Ok(question.answer(out, "no expression")?),
     }
 }
 
-fn answer_value(row: &Row<'_>, value: i64, out: &mut String) -> Result<(), Memory> {
-    row.ask(out)?;
+fn answer_value(question: &Question<'_>, value: i64, out: &mut String) -> Result<(), Memory> {
+    question.ask(out)?;
     write!(out, "{value}")?;
     Ok(())
 }

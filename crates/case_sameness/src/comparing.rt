@@ -4,7 +4,7 @@ use crate::outlining::{put_outline, put_same};
 use ada_tree::{Body, Memory, Names, Program, Span, Stmt, StmtKind, Word};
 use ada_tree_copy::TreeCopy;
 use ada_tree_same::TreeSame;
-use case_form::{Row, Text, ask};
+use case_form::{Question, Text, ask};
 use case_programs::{answer_refused, printed, program_of};
 use std::alloc::{AllocError, Global};
 
@@ -19,8 +19,8 @@ pub fn same(
     out: &mut String,
 ) -> Result<(), Memory> {
     let (left, right) = written.split_once(" // ").unwrap_or((written, ""));
-    let one = Row::new(alloc, texts, frame, ("", ""), left)?;
-    let other = Row::new(alloc, texts, frame, ("", ""), right)?;
+    let one = Question::new(alloc, texts, frame, ("", ""), left)?;
+    let other = Question::new(alloc, texts, frame, ("", ""), right)?;
     ask(written, out)?;
     match program_of(alloc, one.text()) {
         Ok(program) => put_compared(alloc, &program, is_behind, other.text(), out),
@@ -63,24 +63,24 @@ fn comparison(there: bool, back: bool) -> &'static str {
     }
 }
 
-/// `copy`: the id and the name of a copy of the row's program, how many statements it has, and whether it is the same.
-pub fn copy(alloc: Global, row: &Row<'_>, out: &mut String) -> Result<(), Memory> {
-    match program_of(alloc, row.text()) {
+/// `copy`: the id and the name of a copy of the question's program, how many statements it has, and whether it is the same.
+pub fn copy(alloc: Global, question: &Question<'_>, out: &mut String) -> Result<(), Memory> {
+    match program_of(alloc, question.text()) {
         Ok(program) => match program.copy(alloc) {
-            Ok(copy) => answer_copy(row, &program, &copy, out),
+            Ok(copy) => answer_copy(question, &program, &copy, out),
             Err(_) => Err(Memory),
         },
-        Err(error) => answer_refused(row, error, out),
+        Err(error) => answer_refused(question, error, out),
     }
 }
 
 fn answer_copy(
-    row: &Row<'_>,
+    question: &Question<'_>,
     program: &Program,
     copy: &Program,
     out: &mut String,
 ) -> Result<(), Memory> {
-    row.ask(out)?;
+    question.ask(out)?;
     let id = copy.name.name.0;
     write!(out, "{id} ")?;
     put_outline(copy, out)?;
@@ -91,16 +91,16 @@ fn answer_copy(
     Ok(())
 }
 
-/// `built`: a program of one null statement is built with the row's first name behind the others: the id of its name, and whether it is
+/// `built`: a program of one null statement is built with the question's first name behind the others: the id of its name, and whether it is
 /// the same as the program that is read of its printed text.
-pub fn built(alloc: Global, row: &Row<'_>, out: &mut String) -> Result<(), Memory> {
-    let mut words = row.written().split_whitespace();
+pub fn built(alloc: Global, question: &Question<'_>, out: &mut String) -> Result<(), Memory> {
+    let mut words = question.written().split_whitespace();
     let name = words.next().unwrap_or("Q");
     let mut names = Names::new(alloc)?;
     for word in words {
         names.intern(word)?;
     }
-    row.ask(out)?;
+    question.ask(out)?;
     match null_program(alloc, names, name) {
         Ok(program) => put_built(alloc, &program, out),
         Err(_) => Err(Memory),

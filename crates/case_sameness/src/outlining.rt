@@ -3,26 +3,26 @@
 use ada_tree::{Memory, Program};
 use ada_tree_same::TreeSame;
 use case_expressions::put_name;
-use case_form::Row;
+use case_form::Question;
 use case_programs::{answer_refused, printed, program_of};
 use std::alloc::Global;
 
-/// `outline`: the name of the row's program, whether it has the context clauses, how many declarations and statements it has, and
+/// `outline`: the name of the question's program, whether it has the context clauses, how many declarations and statements it has, and
 /// whether what is printed of it is read as the same program and printed alike.
-pub fn outline(alloc: Global, row: &Row<'_>, out: &mut String) -> Result<(), Memory> {
-    match program_of(alloc, row.text()) {
-        Ok(program) => answer_outline(alloc, row, &program, out),
-        Err(error) => answer_refused(row, error, out),
+pub fn outline(alloc: Global, question: &Question<'_>, out: &mut String) -> Result<(), Memory> {
+    match program_of(alloc, question.text()) {
+        Ok(program) => answer_outline(alloc, question, &program, out),
+        Err(error) => answer_refused(question, error, out),
     }
 }
 
 fn answer_outline(
     alloc: Global,
-    row: &Row<'_>,
+    question: &Question<'_>,
     program: &Program,
     out: &mut String,
 ) -> Result<(), Memory> {
-    row.ask(out)?;
+    question.ask(out)?;
     put_outline(program, out)?;
     put_again(alloc, program, out)
 }

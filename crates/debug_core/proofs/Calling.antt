@@ -1,16 +1,14 @@
 -- What words and files call for, from what the bytes of the files call for.
-use Rattle.std.proofs.Common.{◌≡◌, ℕ, List, [], ◌∷◌, ◌++◌, Option, Some, None, is_some, option_map, true, false, Result, Ok, Err, inl, inr, refl, sym, subst, true≢false}
+use Rattle.std.proofs.Common.{◌≡◌, ℕ, List, [], ◌∷◌, ◌++◌, Option, Some, None, is_some, option_map, Result, Err, inl, inr, refl, sym, subst, true≢false}
 use Rattle.std.specs.Prelude.{option_to_list}
-use Rattle.ded_io.specs.Counts.{Rose}
 use Rattle.ded_io.specs.Told.{ToldFile}
-use Rattle.ded_io.specs.Written.{Wrote}
 use Rattle.debug_words.specs.Words.{Asked, AsksRun, AsksJudge, Source, NoChoices, ChoicesIn, ChoicesBy}
 use Rattle.debug_words.specs.declared.command.NoWords.{NoWords}
 use Rattle.debug_words.specs.declared.command.NoWords.TheVariants.{NotText, Memory}
-use Rattle.debug_outcome.specs.Coming.{Never, Stops, Comes, HasPut, HasBroken}
+use Rattle.debug_outcome.specs.Coming.{Never, Stops, Comes}
 use Rattle.debug_outcome.specs.Delivery.{Sides}
 use Rattle.debug_outcome.specs.Loads.{WereLoaded, AreUnloaded}
-use Rattle.debug_outcome.specs.Outcomes.{Outcome, writes}
+use Rattle.debug_outcome.specs.Outcomes.{Outcome}
 use Rattle.debug_outcome.specs.Traces.{Load, HasLoads}
 use Rattle.debug_outcome.specs.declared.refusal.Refusal.TheVariants.{Usage}
 use Rattle.debug_outcome.specs.declared.stopping.Stop.{Stop}
@@ -21,18 +19,6 @@ use Rattle.debug_files.specs.Wanting.{wanted_by}
 use Rattle.debug_core.specs.Answers.{Means, CallsFor, GrowsFor, AnswersNoWords, TellsNoWords}
 use Rattle.debug_core.specs.JudgeMeaning.{JudgeMeans}
 use Rattle.debug_core.specs.RunMeaning.{RunMeans}
-
--- a text that is called for was put whole
-pub has_put : (A E : Type 0) (x : A) (C : Outcome → Type 0) (text : List ℕ) (status : ℕ) (out out' : Option (List ℕ)) (faults faults' : ℕ) → C (writes text status) →
-    Wrote {E = E} (Ok x) out out' text → faults' ≡ faults → HasPut C out out' faults faults' status
-unfolding Wrote
-has_put A E x C text status out out' faults faults' called wrote still = record { text = text; called = called; put = (wrote, still) }
-
--- or a front of it was
-pub has_broken : (A E : Type 0) (e : E) (C : Outcome → Type 0) (text : List ℕ) (status : ℕ) (out out' : Option (List ℕ)) (faults faults' : ℕ) → C (writes text status) →
-    Wrote {A = A} (Err e) out out' text → Rose faults faults' → HasBroken C out out' faults faults'
-unfolding Wrote
-has_broken A E e C text status out out' faults faults' called wrote rose = record { text = text; status = status; called = called; put = (wrote, rose) }
 
 -- ---- files that were loaded
 

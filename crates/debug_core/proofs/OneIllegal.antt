@@ -8,6 +8,8 @@ use Rattle.ada_tree.specs.PlainProgram.{PProgram}
 use Rattle.ada_tree.specs.TypeTable.{TypeTable}
 use Rattle.ada_tree.specs.Refusals as typing
 use Rattle.ada_refusals.specs.declared.errors.TypeError.TheVariants as types
+use Rattle.ada_refusals.specs.declared.refusals.Rule.TheVariants as typed
+use Rattle.ada_rules.specs.declared.refusals.Rule.TheVariants as checked
 use Rattle.ada_refusals.specs.Telling as telling
 use Rattle.ada_check.specs.declared.errors.CheckError.{CheckError}
 use Rattle.ada_check.specs.declared.errors.CheckError.TheVariants as check
@@ -38,7 +40,7 @@ use Rattle.debug_outcome.specs.Outcomes.{Outcome}
 use Rattle.debug_outcome.specs.declared.refusal.Refusal.{Refusal}
 use Rattle.debug_outcome.specs.declared.refusal.Refusal.TheVariants.{BadProgram}
 use Rattle.debug_outcome.specs.declared.refusal.Rule.{Rule}
-use Rattle.debug_outcome.specs.declared.refusal.Rule.TheVariants as rule
+use Rattle.debug_outcome.specs.declared.refusal.Rule.TheVariants.{OfTypes, OfCheck}
 use Rattle.debug_outcome.specs.declared.refusal.RuleFault.TheVariants.{Broken, Passed}
 use Rattle.debug_outcome.proofs.Comings.{one_refusal}
 use Rattle.debug_core.specs.RuleFaults.{IsIllegal, refusal_of_error}
@@ -47,12 +49,12 @@ use Rattle.debug_core.specs.RuleFaults.{IsIllegal, refusal_of_error}
 
 abbrev rule_named : ℕ → Rule
 rule_named n =
-    if nat_eq n 1 then rule.Unknown else (if nat_eq n 2 then rule.Duplicate else (if nat_eq n 3 then rule.Mismatch else (if nat_eq n 4 then rule.NotStatic else
-    (if nat_eq n 5 then rule.RangeBad else (if nat_eq n 6 then rule.NotVariable else (if nat_eq n 7 then rule.ReadOut else (if nat_eq n 8 then rule.ArgCount else
-    (if nat_eq n 9 then rule.ChoiceBad else (if nat_eq n 10 then rule.ArrayUse else (if nat_eq n 11 then rule.TextUse else (if nat_eq n 12 then rule.NotException else
-    (if nat_eq n 13 then rule.SharedVariable else (if nat_eq n 14 then rule.AcceptPlace else (if nat_eq n 15 then rule.SelectForm else (if nat_eq n 16 then rule.SameEntryTwice else
-    (if nat_eq n 17 then rule.ReservedName else (if nat_eq n 18 then rule.MainEntry else (if nat_eq n 19 then rule.AbortOrder else (if nat_eq n 20 then rule.BodyMissing else
-    (if nat_eq n 21 then rule.ExitPlace else rule.RaisePlace))))))))))))))))))))
+    if nat_eq n 1 then OfTypes typed.Unknown else (if nat_eq n 2 then OfTypes typed.Duplicate else (if nat_eq n 3 then OfTypes typed.Mismatch else (if nat_eq n 4 then OfTypes typed.NotStatic else
+    (if nat_eq n 5 then OfTypes typed.RangeBad else (if nat_eq n 6 then OfTypes typed.NotVariable else (if nat_eq n 7 then OfTypes typed.ReadOut else (if nat_eq n 8 then OfTypes typed.ArgCount else
+    (if nat_eq n 9 then OfTypes typed.ChoiceBad else (if nat_eq n 10 then OfTypes typed.ArrayUse else (if nat_eq n 11 then OfTypes typed.TextUse else (if nat_eq n 12 then OfTypes typed.NotException else
+    (if nat_eq n 13 then OfCheck checked.SharedVariable else (if nat_eq n 14 then OfCheck checked.AcceptPlace else (if nat_eq n 15 then OfCheck checked.SelectForm else (if nat_eq n 16 then OfCheck checked.SameEntryTwice else
+    (if nat_eq n 17 then OfCheck checked.ReservedName else (if nat_eq n 18 then OfCheck checked.MainEntry else (if nat_eq n 19 then OfCheck checked.AbortOrder else (if nat_eq n 20 then OfCheck checked.BodyMissing else
+    (if nat_eq n 21 then OfCheck checked.ExitPlace else OfCheck checked.RaisePlace))))))))))))))))))))
 
 abbrev what_at : ℕ → What
 what_at n =

@@ -8,8 +8,7 @@ use Rattle.event_machine.specs.declared.Event.{Event}
 use Rattle.event_machine.specs.declared.Event.TheVariants.{R, E, S, D, C, T, F, X, B, Z}
 use Rattle.seq_file.specs.Lines.{is_upper_name}
 use Rattle.seq_file.specs.Short.{IsShort}
-use Rattle.seq_file.specs.declared.errors.SeqError.{SeqError}
-use Rattle.seq_file.proofs.Filing.{reads-unique, reads-no_fault, fault-unique}
+use Rattle.seq_file.proofs.Filing.{reads-unique}
 use Rattle.syn_event.specs.declared.numbering.Mode.TheVariants.{Original}
 use Rattle.syn_event.specs.Legal.{Legal}
 use Rattle.syn_event.specs.Numbering.{Numbering, owner_of}
@@ -24,12 +23,11 @@ use Rattle.task_machine.proofs.Judged.{view_unique}
 use Rattle.task_machine.proofs.OneVerdict.{verdict_unique}
 use Rattle.divergence.specs.JudgeText.{task_part, parts_of, shown_tasks, title_of, report_text, judge_text, event_of, refused_word, event_line, cause_line}
 use Rattle.divergence.specs.ViewText.{number_line, view_lines}
-use Rattle.debug_outcome.specs.Coming.{IsRefusal}
 use Rattle.debug_outcome.specs.Outcomes.{Outcome, writes}
-use Rattle.debug_outcome.proofs.Comings.{one_refusal}
-use Rattle.debug_judge.specs.JudgeOutcomes.{AreSeen, ShowsWhy, IsVerdictText, JudgesLines, refusal_of_sequence, verdict_status}
+use Rattle.debug_judge.specs.JudgeOutcomes.{AreSeen, ShowsWhy, IsVerdictText, JudgesLines, verdict_status}
 use Rattle.seq_file.proofs.MainNames.{main_is_upper}
-use Rattle.debug_core.proofs.ShortNumbers.{short_tasks, short_entries}
+use Rattle.debug_sequence.proofs.Telling.{one_bad_sequence, read_or_bad}
+use Rattle.debug_core.proofs.ShortNumbers.{are_short}
 
 -- ---- the text of a verdict, by what is seen of the tasks that its event needs
 
@@ -86,21 +84,16 @@ one_verdict_text setup numbers bound events o q h k =
 -- ---- of a legal program that was read
 
 module _ (setup : Setup) (numbers : Numbering) (placed : IsWellPlaced setup.program) (legal : Legal setup.program setup.types numbers Original) (lines : List ℕ) (bound : ℕ) where
-  abbrev names : List (List ℕ)
-  names = setup.program.names
-
   short : IsShort numbers
-  short = record { tasks = short_tasks setup.program setup.types numbers Original legal; entries = short_entries setup.program setup.types numbers Original legal }
+  short = are_short setup.program setup.types numbers Original legal
 
-  upper : is_upper_name (text_of names numbers.main) ≡ true
+  upper : is_upper_name (text_of setup.program.names numbers.main) ≡ true
   upper = main_is_upper setup.program setup.types numbers Original placed legal
 
   pub one_judged : (o q : Outcome) → JudgesLines setup numbers lines bound o → JudgesLines setup numbers lines bound q → o ≡ q
   one_judged o q (inl h) (inl k) =
-      let same : h.events ≡ k.events = reads-unique names numbers short lines h.events k.events h.reads k.reads in
+      let same : h.events ≡ k.events = reads-unique setup.program.names numbers short lines h.events k.events h.reads k.reads in
       one_verdict_text setup numbers bound k.events o q (subst (λ (es : List Event). IsVerdictText setup numbers bound es o) same h.judged) k.judged
-  one_judged o q (inl h) (inr k) = absurd (reads-no_fault names numbers short upper lines h.events k.error h.reads k.fault)
-  one_judged o q (inr h) (inl k) = absurd (reads-no_fault names numbers short upper lines k.events h.error k.reads h.fault)
-  one_judged o q (inr h) (inr k) =
-      let same : h.error ≡ k.error = fault-unique names numbers short upper lines h.error k.error h.fault k.fault in
-      one_refusal (refusal_of_sequence k.error) o q (subst (λ (e : SeqError). IsRefusal (refusal_of_sequence e) o) same h.told) k.told
+  one_judged o q (inl h) (inr k) = absurd (read_or_bad setup.program.names numbers short upper lines h.events q h.reads k)
+  one_judged o q (inr h) (inl k) = absurd (read_or_bad setup.program.names numbers short upper lines k.events o k.reads h)
+  one_judged o q (inr h) (inr k) = one_bad_sequence setup.program.names numbers short upper lines o q h k

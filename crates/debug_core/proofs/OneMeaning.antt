@@ -6,20 +6,25 @@ use Rattle.ada_printer.specs.ProgramText.{program_text}
 use Rattle.syn_event.specs.declared.numbering.Mode.TheVariants.{Original, Any}
 use Rattle.syn_event.specs.Numbering.{Numbering}
 use Rattle.debug_text.specs.CheckText.{check_text}
-use Rattle.debug_words.specs.Words.{Asked, AsksPrint, AsksCheck, AsksRun, AsksJudge, NoChoices, ChoicesIn, ChoicesBy}
+use Rattle.debug_words.specs.Words.{Asked, AsksPrint, AsksCheck, AsksRun, AsksJudge, AsksReplay, NoChoices, ChoicesIn, ChoicesBy}
 use Rattle.debug_files.specs.Giving.{Given, NothingGiven, BytesGiven, SeedGiven}
 use Rattle.debug_outcome.specs.Outcomes.{Outcome, writes}
 use Rattle.debug_judge.specs.JudgeOutcomes.{JudgesLines}
+use Rattle.debug_replay.specs.ReplayOutcomes.{ReplaysLines}
+use Rattle.debug_replay.proofs.OneReplay.{one_replay}
 use Rattle.debug_core.specs.Answers.{Means}
 use Rattle.debug_core.specs.CheckMeaning.{CheckMeans}
 use Rattle.debug_core.specs.ChoiceTexts.{RunsUnder}
 use Rattle.debug_core.specs.JudgeMeaning.{JudgeMeans}
 use Rattle.debug_core.specs.PrintMeaning.{PrintMeans}
+use Rattle.debug_core.specs.ReplayMeaning.{ReplayMeans}
 use Rattle.debug_core.specs.RunMeaning.{RunMeans}
 use Rattle.debug_core.proofs.OneJudged.{one_judged}
 use Rattle.debug_core.proofs.OneRun.{one_under}
-use Rattle.debug_core.proofs.OneStart.{one_no_legal, legal_or_not, same_program, same_numbers, one_no_start, start_or_not, start_carries}
+use Rattle.debug_core.proofs.OneStart.{one_no_legal, legal_or_not, same_program, same_numbers, legal_carries, one_no_start, start_or_not, start_carries}
 use Rattle.debug_core.proofs.OneText.{one_program, read_or_no_text, one_no_text}
+use Rattle.debug_core.proofs.ShortNumbers.{are_short}
+use Rattle.seq_file.proofs.MainNames.{main_is_upper}
 
 one_printed : (text : List ℕ) (o q : Outcome) → PrintMeans text o → PrintMeans text q → o ≡ q
 one_printed text o q (inl h) (inl k) = h.is ∙ ap (λ (p : PProgram). writes (program_text p) 0) (one_program text k.program h.program k.is_read h.is_read) ∙ sym k.is
@@ -53,6 +58,15 @@ one_verdict text inputs lines bound o q (inl h) (inr k) = absurd (start_or_not t
 one_verdict text inputs lines bound o q (inr h) (inl k) = absurd (start_or_not text Original inputs k.setup k.numbers o k.is_start h)
 one_verdict text inputs lines bound o q (inr h) (inr k) = one_no_start text Original inputs o q h k
 
+one_replayed : (text lines : List ℕ) (o q : Outcome) → ReplayMeans text lines o → ReplayMeans text lines q → o ≡ q
+one_replayed text lines o q (inl h) (inl k) =
+    one_replay k.program k.types k.numbers (are_short k.program k.types k.numbers Original k.is_legal.legal)
+    (main_is_upper k.program k.types k.numbers Original (read_is_placed text k.program k.is_legal.is_read.reads) k.is_legal.legal) lines o q
+    (legal_carries text Original h.program k.program h.types k.types h.numbers k.numbers h.is_legal k.is_legal (λ p types numbers. ReplaysLines p types numbers lines o) h.replayed) k.replayed
+one_replayed text lines o q (inl h) (inr k) = absurd (legal_or_not text Original h.program h.types h.numbers q h.is_legal k)
+one_replayed text lines o q (inr h) (inl k) = absurd (legal_or_not text Original k.program k.types k.numbers o k.is_legal h)
+one_replayed text lines o q (inr h) (inr k) = one_no_legal text Original o q h k
+
 pub one_meant : (asked : Asked) (contents : List (List ℕ)) (o q : Outcome) → Means asked contents o → Means asked contents q → o ≡ q
 one_meant (AsksPrint file) (text ∷ []) o q h k = one_printed text o q h k
 one_meant (AsksCheck file) (text ∷ []) o q h k = one_checked text o q h k
@@ -64,4 +78,5 @@ one_meant (AsksRun file (Some list) (ChoicesIn name) turns) (text ∷ inputs ∷
 one_meant (AsksRun file (Some list) (ChoicesBy seed) turns) (text ∷ inputs ∷ []) o q h k = one_ran text (Some inputs) (SeedGiven seed) turns o q h k
 one_meant (AsksJudge file None sequence bound) (text ∷ lines ∷ []) o q h k = one_verdict text None lines bound o q h k
 one_meant (AsksJudge file (Some list) sequence bound) (text ∷ inputs ∷ lines ∷ []) o q h k = one_verdict text (Some inputs) lines bound o q h k
+one_meant (AsksReplay file sequence) (text ∷ lines ∷ []) o q h k = one_replayed text lines o q h k
 one_meant asked contents o q h k = absurd h

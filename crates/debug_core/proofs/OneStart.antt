@@ -47,6 +47,10 @@ module _ (text : List ℕ) (m : Mode) where
         h.legal.its_numbers ∙ ap (λ (t : TypeTable). all_numbers t p) same_types ∙ ap (λ (r : PProgram). all_numbers kinds r) same_program
         ∙ sym k.legal.its_numbers
 
+    -- what is so of the one program is so of the other
+    pub legal_carries : (P : PProgram → TypeTable → Numbering → Type 0) → P p types numbers → P q kinds others
+    legal_carries P has = subst (λ (n : Numbering). P q kinds n) same_numbers (subst (λ (t : TypeTable). P q t numbers) same_types (subst (λ (r : PProgram). P r types numbers) same_program has))
+
 -- ---- by the inputs
 
 module _ (numbers : Numbering) (few : length numbers.tasks < 2 ^ 32) where

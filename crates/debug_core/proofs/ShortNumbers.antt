@@ -8,7 +8,7 @@ use Rattle.ada_tree.specs.declared.naming.NameId.{NameId}
 use Rattle.ada_tree.specs.declared.naming.Span.{Span}
 use Rattle.ada_tree.specs.declared.naming.Word.{Word}
 use Rattle.ada_tree.specs.PlainExpr.{PDrange}
-use Rattle.ada_tree.specs.PlainDecl.{PShape, OPlain, ORow, PTask, PEntry, DObject, DTask, PDecls, no_decl, decl_then}
+use Rattle.ada_tree.specs.PlainDecl.{PShape, OPlain, OArray, PTask, PEntry, DObject, DTask, PDecls, no_decl, decl_then}
 use Rattle.ada_tree.specs.PlainProgram.{PProgram}
 use Rattle.ada_tree.specs.Refusals.{types_in}
 use Rattle.ada_tree.specs.TypeTable.{TypeTable}
@@ -16,7 +16,7 @@ use Rattle.syn_event.specs.declared.numbering.Mode.{Mode}
 use Rattle.syn_event.specs.declared.numbering.Mode.TheVariants as mode
 use Rattle.syn_event.specs.declared.limits.What.{What}
 use Rattle.syn_event.specs.declared.limits.What.TheVariants.{Tasks, Entries}
-use Rattle.syn_event.specs.AllNumbers.{all_numbers, seat_info, seat_entry, seat_entries}
+use Rattle.syn_event.specs.AllNumbers.{all_numbers, info_of_task, entry_of_task, entries_of_tasks}
 use Rattle.syn_event.specs.Extents.{Extent, extent, size_of, known_size}
 use Rattle.syn_event.specs.Legal.{Legal}
 use Rattle.syn_event.specs.Limits.{limit_of}
@@ -25,7 +25,8 @@ use Rattle.syn_event.specs.Numbering.{Numbering}
 use Rattle.syn_event.specs.RuleLimit.{passed}
 use Rattle.syn_event.specs.CheckSites.{site, check_sites, numbered, decls_sites, body_sites, body_names, after_decls, around_program, tasks_sites, entries_of_part, entries_sites, counted_sites}
 use Rattle.syn_event.specs.CheckScope.{CheckScope, counts}
-use Rattle.syn_event.specs.TaskParts.{TaskPart, part, type_named, parts_of_type, object_parts, with_type, single_part, parts_in, parts_of, row_count, task_count, Seat, seat, numbers_on, indices, row_seats, seats_of, seats}
+use Rattle.syn_event.specs.NamedTasks.{NamedTasks, named_tasks, type_named, task_names_of_type, object_task_names, with_type, single_task_name, task_names_in, task_names_of, count_of_range, task_count, NumberedTask, numbered_task, numbers_on, indices, tasks_of_range, tasks_of_name, numbered_tasks}
+use Rattle.seq_file.specs.Short.{IsShort}
 use Rattle.syn_event.proofs.Nothing.{test_fails, all_front, all_back}
 use Rattle.syn_event.proofs.Kept.{Kept, kept_all}
 
@@ -55,45 +56,45 @@ module _ (m : Mode) (names : List (List ℕ)) (around : CheckScope) where
 -- ---- the parts of tasks
 
 -- a part whose unit is a single task is one task
-abbrev IsOne : TaskPart → Type 0
-IsOne x = x.unit.of_kind ≡ false → x.row ≡ None
+abbrev IsOne : NamedTasks → Type 0
+IsOne x = x.unit.of_kind ≡ false → x.index_range ≡ None
 
 abbrev AreKinds : List PTask → Type 0
 AreKinds kinds = AllByRecursion (λ (t : PTask). t.of_kind ≡ true) kinds
 
-ones_joined : (xs ys : List TaskPart) → AllByRecursion IsOne xs → AllByRecursion IsOne ys → AllByRecursion IsOne (xs ++ ys)
+ones_joined : (xs ys : List NamedTasks) → AllByRecursion IsOne xs → AllByRecursion IsOne ys → AllByRecursion IsOne (xs ++ ys)
 ones_joined [] ys h k = k
 ones_joined (x ∷ xs) ys h k = (h.0, ones_joined xs ys h.1 k)
 
-kind_parts : (t : PTask) (names : List Word) (row : Option PDrange) → t.of_kind ≡ true → AllByRecursion IsOne (map (λ (w : Word). part w w.span t row) names)
+kind_parts : (t : PTask) (names : List Word) (row : Option PDrange) → t.of_kind ≡ true → AllByRecursion IsOne (map (λ (w : Word). named_tasks w w.span t row) names)
 kind_parts t [] row is = tt
 kind_parts t (w ∷ names) row is = (λ not. absurd (true≢false (sym is ∙ not)), kind_parts t names row is)
 
-typed_parts : (kinds : List PTask) (id : NameId) (names : List Word) (row : Option PDrange) → AreKinds kinds → AllByRecursion IsOne (parts_of_type (type_named kinds id) names row)
+typed_parts : (kinds : List PTask) (id : NameId) (names : List Word) (row : Option PDrange) → AreKinds kinds → AllByRecursion IsOne (task_names_of_type (type_named kinds id) names row)
 typed_parts [] id names row are = tt
 typed_parts (t ∷ kinds) id names row are = split (t.name.name.0 == id.0) (typed_parts kinds id names row are.1)
   where
-    split : (b : Bool) → AllByRecursion IsOne (parts_of_type (type_named kinds id) names row) → AllByRecursion IsOne (parts_of_type (if b then Some t else type_named kinds id) names row)
+    split : (b : Bool) → AllByRecursion IsOne (task_names_of_type (type_named kinds id) names row) → AllByRecursion IsOne (task_names_of_type (if b then Some t else type_named kinds id) names row)
     split true rest = kind_parts t names row are.0
     split false rest = rest
 
-shape_parts : (kinds : List PTask) (names : List Word) (shape : PShape) → AreKinds kinds → AllByRecursion IsOne (object_parts kinds names shape)
+shape_parts : (kinds : List PTask) (names : List Word) (shape : PShape) → AreKinds kinds → AllByRecursion IsOne (object_task_names kinds names shape)
 shape_parts kinds names (OPlain x) are = typed_parts kinds x.mark.name names None are
-shape_parts kinds names (ORow index x) are = typed_parts kinds x.mark.name names (Some index) are
+shape_parts kinds names (OArray index x) are = typed_parts kinds x.mark.name names (Some index) are
 
 kinds_with : (kinds : List PTask) (kind : Bool) (t : PTask) → t.of_kind ≡ kind → AreKinds kinds → AreKinds (with_type kinds kind t)
 kinds_with kinds true t is are = (is, are)
 kinds_with kinds false t is are = are
 
-single_one : (kind : Bool) (t : PTask) (s : Span) → AllByRecursion IsOne (single_part kind t s)
+single_one : (kind : Bool) (t : PTask) (s : Span) → AllByRecursion IsOne (single_task_name kind t s)
 single_one true t s = tt
 single_one false t s = (λ not. refl, tt)
 
-parts_one : (kinds : List PTask) (ds : PDecls) → AreKinds kinds → AllByRecursion IsOne (parts_in kinds ds)
+parts_one : (kinds : List PTask) (ds : PDecls) → AreKinds kinds → AllByRecursion IsOne (task_names_in kinds ds)
 parts_one kinds no_decl are = tt
 parts_one kinds (decl_then (DTask t s) rest) are =
-    ones_joined (single_part t.of_kind t s) (parts_in (with_type kinds t.of_kind t) rest) (single_one t.of_kind t s) (parts_one (with_type kinds t.of_kind t) rest (kinds_with kinds t.of_kind t refl are))
-parts_one kinds (decl_then (DObject names constant shape init s) rest) are = ones_joined (object_parts kinds names shape) (parts_in kinds rest) (shape_parts kinds names shape are) (parts_one kinds rest are)
+    ones_joined (single_task_name t.of_kind t s) (task_names_in (with_type kinds t.of_kind t) rest) (single_one t.of_kind t s) (parts_one (with_type kinds t.of_kind t) rest (kinds_with kinds t.of_kind t refl are))
+parts_one kinds (decl_then (DObject names constant shape init s) rest) are = ones_joined (object_task_names kinds names shape) (task_names_in kinds rest) (shape_parts kinds names shape are) (parts_one kinds rest are)
 parts_one kinds (decl_then _ rest) are = parts_one kinds rest are
 
 -- ---- tasks
@@ -106,60 +107,60 @@ length_indices : (o : Option Extent) → length (indices o) ≡ known_size o
 length_indices (Some x) = length_on x.first (size_of x)
 length_indices None = refl
 
-length_seats : (types : TypeTable) (x : TaskPart) (row : Option PDrange) → length (row_seats types x row) ≡ row_count types row
-length_seats types x (Some r) = length-map (indices (extent types r)) (λ i. seat x (Some i)) ∙ length_indices (extent types r)
-length_seats types x None = refl
+length_tasks : (types : TypeTable) (x : NamedTasks) (row : Option PDrange) → length (tasks_of_range types x row) ≡ count_of_range types row
+length_tasks types x (Some r) = length-map (indices (extent types r)) (λ i. numbered_task x (Some i)) ∙ length_indices (extent types r)
+length_tasks types x None = refl
 
 module _ (m : Mode) (names : List (List ℕ)) (around : CheckScope) (limit : ℕ) where
-  tasks_within : (n : ℕ) (xs : List TaskPart) → limit_of m Tasks ≡ Some limit → n ≤ limit → AllByRecursion (Kept m names) (tasks_sites around n xs) → n + length (flat_map (seats_of around.types) xs) ≤ limit
+  tasks_within : (n : ℕ) (xs : List NamedTasks) → limit_of m Tasks ≡ Some limit → n ≤ limit → AllByRecursion (Kept m names) (tasks_sites around n xs) → n + length (flat_map (tasks_of_name around.types) xs) ≤ limit
   tasks_within n [] is start kept = omega (arith, start)
   tasks_within n (x ∷ xs) is start kept =
       let here : n + task_count around.types x ≤ limit = counted m names around Tasks limit n (task_count around.types x) x.place is start kept.0 in
-      let own : length (seats_of around.types x) ≡ task_count around.types x = length_seats around.types x x.row in
-      let rest : (n + task_count around.types x) + length (flat_map (seats_of around.types) xs) ≤ limit = tasks_within (n + task_count around.types x) xs is here kept.1 in
-      omega (arith, own, rest, length-append (seats_of around.types x) (flat_map (seats_of around.types) xs))
+      let own : length (tasks_of_name around.types x) ≡ task_count around.types x = length_tasks around.types x x.index_range in
+      let rest : (n + task_count around.types x) + length (flat_map (tasks_of_name around.types) xs) ≤ limit = tasks_within (n + task_count around.types x) xs is here kept.1 in
+      omega (arith, own, rest, length-append (tasks_of_name around.types x) (flat_map (tasks_of_name around.types) xs))
 
 -- ---- entries
 
 -- how many entries tasks have
-abbrev entries_in : List Seat → ℕ
+abbrev entries_in : List NumberedTask → ℕ
 entries_in [] = 0
 entries_in (x ∷ rest) = length x.unit.entries + entries_in rest
 
-entries_joined : (xs ys : List Seat) → entries_in (xs ++ ys) ≡ entries_in xs + entries_in ys
+entries_joined : (xs ys : List NumberedTask) → entries_in (xs ++ ys) ≡ entries_in xs + entries_in ys
 entries_joined [] ys = omega arith
 entries_joined (x ∷ xs) ys = omega (arith, entries_joined xs ys)
 
-entries_numbered : (names : List (List ℕ)) (types : TypeTable) (t : ℕ) (xs : List Seat) → length (seat_entries names types t xs) ≡ entries_in xs
+entries_numbered : (names : List (List ℕ)) (types : TypeTable) (t : ℕ) (xs : List NumberedTask) → length (entries_of_tasks names types t xs) ≡ entries_in xs
 entries_numbered names types t [] = refl
 entries_numbered names types t (x ∷ xs) =
-    omega (arith, length-append (map (seat_entry names types t x) x.unit.entries) (seat_entries names types (t + 1) xs), length-map x.unit.entries (seat_entry names types t x), entries_numbered names types (t + 1) xs)
+    omega (arith, length-append (map (entry_of_task names types t x) x.unit.entries) (entries_of_tasks names types (t + 1) xs), length-map x.unit.entries (entry_of_task names types t x), entries_numbered names types (t + 1) xs)
 
-row_entries : (x : TaskPart) (is : List ℤ) → entries_in (map (λ i. seat x (Some i)) is) ≡ length is * length x.unit.entries
+row_entries : (x : NamedTasks) (is : List ℤ) → entries_in (map (λ i. numbered_task x (Some i)) is) ≡ length is * length x.unit.entries
 row_entries x [] = grind arith
 row_entries x (i ∷ is) = grind (arith, row_entries x is)
 
-part_entries : (types : TypeTable) (x : TaskPart) (row : Option PDrange) → entries_in (row_seats types x row) ≡ row_count types row * length x.unit.entries
+part_entries : (types : TypeTable) (x : NamedTasks) (row : Option PDrange) → entries_in (tasks_of_range types x row) ≡ count_of_range types row * length x.unit.entries
 part_entries types x (Some r) = row_entries x (indices (extent types r)) ∙ ap (λ k. k * length x.unit.entries) (length_indices (extent types r))
 part_entries types x None = omega arith
 
 module _ (m : Mode) (names : List (List ℕ)) (around : CheckScope) (limit : ℕ) (is : limit_of m Entries ≡ Some limit) where
-  part_within : (n : ℕ) (x : TaskPart) (kind : Bool) → IsOne x → x.unit.of_kind ≡ kind → n ≤ limit → AllByRecursion (Kept m names) (if kind then site around (counts Entries n (task_count around.types x * length x.unit.entries) x.place) ∷ [] else numbered around Entries n (map (λ (e : PEntry). e.span) x.unit.entries)) →
+  part_within : (n : ℕ) (x : NamedTasks) (kind : Bool) → IsOne x → x.unit.of_kind ≡ kind → n ≤ limit → AllByRecursion (Kept m names) (if kind then site around (counts Entries n (task_count around.types x * length x.unit.entries) x.place) ∷ [] else numbered around Entries n (map (λ (e : PEntry). e.span) x.unit.entries)) →
       n + task_count around.types x * length x.unit.entries ≤ limit
   part_within n x true one same start kept = counted m names around Entries limit n (task_count around.types x * length x.unit.entries) x.place is start kept.0
   part_within n x false one same start kept =
       let all : n + length (map (λ (e : PEntry). e.span) x.unit.entries) ≤ limit = all_counted m names around Entries limit n (map (λ (e : PEntry). e.span) x.unit.entries) is start kept in
-      let single : row_count around.types x.row * length x.unit.entries ≡ length x.unit.entries =
-      ap (λ (row : Option PDrange). row_count around.types row * length x.unit.entries) (one same) ∙ omega arith in
+      let single : count_of_range around.types x.index_range * length x.unit.entries ≡ length x.unit.entries =
+      ap (λ (row : Option PDrange). count_of_range around.types row * length x.unit.entries) (one same) ∙ omega arith in
       omega (arith, all, single, length-map x.unit.entries (λ (e : PEntry). e.span))
 
-  entries_within : (n : ℕ) (xs : List TaskPart) → AllByRecursion IsOne xs → n ≤ limit → AllByRecursion (Kept m names) (entries_sites around n xs) → n + entries_in (flat_map (seats_of around.types) xs) ≤ limit
+  entries_within : (n : ℕ) (xs : List NamedTasks) → AllByRecursion IsOne xs → n ≤ limit → AllByRecursion (Kept m names) (entries_sites around n xs) → n + entries_in (flat_map (tasks_of_name around.types) xs) ≤ limit
   entries_within n [] ones start kept = omega (arith, start)
   entries_within n (x ∷ xs) ones start kept =
       let own : n + task_count around.types x * length x.unit.entries ≤ limit = part_within n x x.unit.of_kind ones.0 refl start (all_front (Kept m names) (entries_of_part around n x) _ kept) in
-      let rest : (n + task_count around.types x * length x.unit.entries) + entries_in (flat_map (seats_of around.types) xs) ≤ limit =
+      let rest : (n + task_count around.types x * length x.unit.entries) + entries_in (flat_map (tasks_of_name around.types) xs) ≤ limit =
       entries_within (n + task_count around.types x * length x.unit.entries) xs ones.1 own (all_back (Kept m names) (entries_of_part around n x) _ kept) in
-      omega (arith, rest, part_entries around.types x x.row, entries_joined (seats_of around.types x) (flat_map (seats_of around.types) xs))
+      omega (arith, rest, part_entries around.types x x.index_range, entries_joined (tasks_of_name around.types x) (flat_map (tasks_of_name around.types) xs))
 
 -- ---- the whole program
 
@@ -198,28 +199,31 @@ module _ (p : PProgram) (types : TypeTable) (numbers : Numbering) (m : Mode) (le
   counted_places : AllByRecursion (Kept m p.names) (counted_sites (around_program p) p)
   counted_places = all_back (Kept m p.names) (decls_sites (around_program p) (body_names p.decls) p.decls ++ body_sites (after_decls (around_program p) p.decls) 1 p.body) _ places.1
 
-  counted_parts : AllByRecursion (Kept m p.names) (tasks_sites (around_program p) 0 (parts_of p) ++ entries_sites (around_program p) 0 (parts_of p))
-  counted_parts = all_front (Kept m p.names) (tasks_sites (around_program p) 0 (parts_of p) ++ entries_sites (around_program p) 0 (parts_of p)) _ counted_places
+  counted_parts : AllByRecursion (Kept m p.names) (tasks_sites (around_program p) 0 (task_names_of p) ++ entries_sites (around_program p) 0 (task_names_of p))
+  counted_parts = all_front (Kept m p.names) (tasks_sites (around_program p) 0 (task_names_of p) ++ entries_sites (around_program p) 0 (task_names_of p)) _ counted_places
 
   same : numbers ≡ all_numbers (types_in p) p
   same = legal.its_numbers ∙ ap (λ (t : TypeTable). all_numbers t p) legal.its_types
 
-  numbered_tasks : length (all_numbers (types_in p) p).tasks ≤ 203
-  numbered_tasks =
-      let all : 0 + length (seats (types_in p) p) ≤ most_tasks m =
-      tasks_within m p.names (around_program p) (most_tasks m) 0 (parts_of p) (tasks_limit m) (omega arith)
-      (all_front (Kept m p.names) (tasks_sites (around_program p) 0 (parts_of p)) (entries_sites (around_program p) 0 (parts_of p)) counted_parts) in
-      omega (arith, all, few_tasks m, length-map (seats (types_in p) p) (seat_info p.names))
+  tasks_counted : length (all_numbers (types_in p) p).tasks ≤ 203
+  tasks_counted =
+      let all : 0 + length (numbered_tasks (types_in p) p) ≤ most_tasks m =
+      tasks_within m p.names (around_program p) (most_tasks m) 0 (task_names_of p) (tasks_limit m) (omega arith)
+      (all_front (Kept m p.names) (tasks_sites (around_program p) 0 (task_names_of p)) (entries_sites (around_program p) 0 (task_names_of p)) counted_parts) in
+      omega (arith, all, few_tasks m, length-map (numbered_tasks (types_in p) p) (info_of_task p.names))
 
   numbered_entries : length (all_numbers (types_in p) p).entries ≤ 2600
   numbered_entries =
-      let all : 0 + entries_in (seats (types_in p) p) ≤ most_entries m =
-      entries_within m p.names (around_program p) (most_entries m) (entries_limit m) 0 (parts_of p) (parts_one [] p.decls tt) (omega arith)
-      (all_back (Kept m p.names) (tasks_sites (around_program p) 0 (parts_of p)) (entries_sites (around_program p) 0 (parts_of p)) counted_parts) in
-      omega (arith, all, few_entries m, length-map (seat_entries p.names (types_in p) 1 (seats (types_in p) p)) (with_origin p.names (seat_entries p.names (types_in p) 1 (seats (types_in p) p))), entries_numbered p.names (types_in p) 1 (seats (types_in p) p))
+      let all : 0 + entries_in (numbered_tasks (types_in p) p) ≤ most_entries m =
+      entries_within m p.names (around_program p) (most_entries m) (entries_limit m) 0 (task_names_of p) (parts_one [] p.decls tt) (omega arith)
+      (all_back (Kept m p.names) (tasks_sites (around_program p) 0 (task_names_of p)) (entries_sites (around_program p) 0 (task_names_of p)) counted_parts) in
+      omega (arith, all, few_entries m, length-map (entries_of_tasks p.names (types_in p) 1 (numbered_tasks (types_in p) p)) (with_origin p.names (entries_of_tasks p.names (types_in p) 1 (numbered_tasks (types_in p) p))), entries_numbered p.names (types_in p) 1 (numbered_tasks (types_in p) p))
 
   pub short_tasks : length numbers.tasks < 2 ^ 32
-  short_tasks = let n : length numbers.tasks ≡ length (all_numbers (types_in p) p).tasks = ap (λ (n : Numbering). length n.tasks) same in omega (arith, n, numbered_tasks)
+  short_tasks = let n : length numbers.tasks ≡ length (all_numbers (types_in p) p).tasks = ap (λ (n : Numbering). length n.tasks) same in omega (arith, n, tasks_counted)
 
   pub short_entries : length numbers.entries < 2 ^ 32
   short_entries = let n : length numbers.entries ≡ length (all_numbers (types_in p) p).entries = ap (λ (n : Numbering). length n.entries) same in omega (arith, n, numbered_entries)
+
+  pub are_short : IsShort numbers
+  are_short = record { tasks = short_tasks; entries = short_entries }

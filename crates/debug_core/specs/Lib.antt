@@ -8,6 +8,7 @@ pub mod PrintMeaning
 pub mod CheckMeaning
 pub mod RunMeaning
 pub mod JudgeMeaning
+pub mod ReplayMeaning
 pub mod Answers
 pub mod OneAnswer
 pub mod inner

@@ -7,6 +7,7 @@ mod judge_command;
 mod laws;
 mod print_command;
 mod reading;
+mod replay_command;
 mod rule_fault;
 mod run_command;
 mod starting;

@@ -6,6 +6,8 @@ ghost use Rattle.debug_core.specs.RuleFaults.{refusal_of_error, refusal_of_types
 
 use ada_check::CheckError;
 use ada_lexer::line_col;
+use ada_refusals::refusals::Rule as TypeRule;
+use ada_rules::Rule as CheckRule;
 use ada_tree::Span;
 use ada_types::TypeError;
 use debug_outcome::{Refusal, Rule, RuleFault, Stop};
@@ -18,16 +20,16 @@ pub(crate) fn rule_failure<'w>(text: &[u8], error: CheckError) -> Stop<'w>
 {
     match error {
         CheckError::Rule(error) => type_failure(text, error),
-        CheckError::SharedVariable { span } => broken(text, Rule::SharedVariable, span),
-        CheckError::AcceptPlace { span } => broken(text, Rule::AcceptPlace, span),
-        CheckError::SelectForm { span } => broken(text, Rule::SelectForm, span),
-        CheckError::SameEntryTwice { span } => broken(text, Rule::SameEntryTwice, span),
-        CheckError::ReservedName { span } => broken(text, Rule::ReservedName, span),
-        CheckError::MainEntry { span } => broken(text, Rule::MainEntry, span),
-        CheckError::AbortOrder { span } => broken(text, Rule::AbortOrder, span),
-        CheckError::BodyMissing { span } => broken(text, Rule::BodyMissing, span),
-        CheckError::ExitPlace { span } => broken(text, Rule::ExitPlace, span),
-        CheckError::RaisePlace { span } => broken(text, Rule::RaisePlace, span),
+        CheckError::SharedVariable { span } => check_broken(text, CheckRule::SharedVariable, span),
+        CheckError::AcceptPlace { span } => check_broken(text, CheckRule::AcceptPlace, span),
+        CheckError::SelectForm { span } => check_broken(text, CheckRule::SelectForm, span),
+        CheckError::SameEntryTwice { span } => check_broken(text, CheckRule::SameEntryTwice, span),
+        CheckError::ReservedName { span } => check_broken(text, CheckRule::ReservedName, span),
+        CheckError::MainEntry { span } => check_broken(text, CheckRule::MainEntry, span),
+        CheckError::AbortOrder { span } => check_broken(text, CheckRule::AbortOrder, span),
+        CheckError::BodyMissing { span } => check_broken(text, CheckRule::BodyMissing, span),
+        CheckError::ExitPlace { span } => check_broken(text, CheckRule::ExitPlace, span),
+        CheckError::RaisePlace { span } => check_broken(text, CheckRule::RaisePlace, span),
         CheckError::Limit { what, limit, .. } => {
             Stop::Refused(Refusal::BadProgram(RuleFault::Passed { what, limit }))
         }
@@ -41,20 +43,36 @@ fn type_failure<'w>(text: &[u8], error: TypeError) -> Stop<'w>
     ensures { result ≡ stop_by (refusal_of_types text.now error) }
 {
     match error {
-        TypeError::Unknown { span } => broken(text, Rule::Unknown, span),
-        TypeError::Duplicate { span } => broken(text, Rule::Duplicate, span),
-        TypeError::Mismatch { span } => broken(text, Rule::Mismatch, span),
-        TypeError::NotStatic { span } => broken(text, Rule::NotStatic, span),
-        TypeError::RangeBad { span } => broken(text, Rule::RangeBad, span),
-        TypeError::NotVariable { span } => broken(text, Rule::NotVariable, span),
-        TypeError::ReadOut { span } => broken(text, Rule::ReadOut, span),
-        TypeError::ArgCount { span } => broken(text, Rule::ArgCount, span),
-        TypeError::ChoiceBad { span } => broken(text, Rule::ChoiceBad, span),
-        TypeError::ArrayUse { span } => broken(text, Rule::ArrayUse, span),
-        TypeError::TextUse { span } => broken(text, Rule::TextUse, span),
-        TypeError::NotException { span } => broken(text, Rule::NotException, span),
+        TypeError::Unknown { span } => type_broken(text, TypeRule::Unknown, span),
+        TypeError::Duplicate { span } => type_broken(text, TypeRule::Duplicate, span),
+        TypeError::Mismatch { span } => type_broken(text, TypeRule::Mismatch, span),
+        TypeError::NotStatic { span } => type_broken(text, TypeRule::NotStatic, span),
+        TypeError::RangeBad { span } => type_broken(text, TypeRule::RangeBad, span),
+        TypeError::NotVariable { span } => type_broken(text, TypeRule::NotVariable, span),
+        TypeError::ReadOut { span } => type_broken(text, TypeRule::ReadOut, span),
+        TypeError::ArgCount { span } => type_broken(text, TypeRule::ArgCount, span),
+        TypeError::ChoiceBad { span } => type_broken(text, TypeRule::ChoiceBad, span),
+        TypeError::ArrayUse { span } => type_broken(text, TypeRule::ArrayUse, span),
+        TypeError::TextUse { span } => type_broken(text, TypeRule::TextUse, span),
+        TypeError::NotException { span } => type_broken(text, TypeRule::NotException, span),
         TypeError::Memory => Stop::Memory,
     }
+}
+
+// The refusal of a program that breaks a rule on names and types at a place.
+fn type_broken<'w>(text: &[u8], rule: TypeRule, span: Span) -> Stop<'w>
+    requires { length text.now < 2 ^ 32 - 1 }
+    ensures { result ≡ stop_by (broken_at text.now (Rule.OfTypes rule) span) }
+{
+    broken(text, Rule::OfTypes(rule), span)
+}
+
+// The refusal of a program that breaks another rule at a place.
+fn check_broken<'w>(text: &[u8], rule: CheckRule, span: Span) -> Stop<'w>
+    requires { length text.now < 2 ^ 32 - 1 }
+    ensures { result ≡ stop_by (broken_at text.now (Rule.OfCheck rule) span) }
+{
+    broken(text, Rule::OfCheck(rule), span)
 }
 
 // The refusal of a program that breaks a rule at a place.

@@ -1,4 +1,4 @@
--- What the files of a run or of a judgement give: their bytes in order, and the choices of a run (this project's rules).
+-- What the files of a run, of a judgement or of a replaying give: their bytes in order, and the choices of a run (this project's rules).
 use Rattle.std.specs.Prelude.{◌≡◌, ◌<◌, ◌-◌, ◌^◌, ℕ, List, [], ◌∷◌, ◌++◌, length, Option, option_map, option_to_list, IfSome, ⊤}
 use Rattle.debug_words.specs.Words.{Source, NoChoices, ChoicesIn, ChoicesBy}
 use Rattle.debug_files.specs.declared.loading.ChoiceBytes.{ChoiceBytes}
@@ -6,6 +6,7 @@ use Rattle.debug_files.specs.declared.loading.ChoiceBytes.TheVariants.{Empty, In
 use Rattle.debug_files.specs.declared.loading.StartFiles.{StartFiles}
 use Rattle.debug_files.specs.declared.loading.RunFiles.{RunFiles}
 use Rattle.debug_files.specs.declared.loading.JudgeFiles.{JudgeFiles}
+use Rattle.debug_files.specs.declared.loading.ReplayFiles.{ReplayFiles}
 
 -- The choices of a run, before any of their lines is read.
 pub data Given : Type 0 where
@@ -47,6 +48,9 @@ run_contents files = start_contents files.start ++ given_bytes (given_as files.c
 abbrev pub judge_contents : JudgeFiles → List (List ℕ)
 judge_contents files = start_contents files.start ++ (files.sequence.items ∷ [])
 
+abbrev pub replay_contents : ReplayFiles → List (List ℕ)
+replay_contents files = files.text.items ∷ files.sequence.items ∷ []
+
 -- there are few enough bytes that each place in them is a number of 32 bits
 abbrev pub IsShort : List ℕ → Type 0
 IsShort bytes = length bytes < 2 ^ 32 - 1
@@ -64,3 +68,6 @@ IsShortRun files = IsShortStart files.start × AreShortChoices files.choices
 
 abbrev pub IsShortJudge : JudgeFiles → Type 0
 IsShortJudge files = IsShortStart files.start × IsShort files.sequence.items
+
+abbrev pub IsShortReplay : ReplayFiles → Type 0
+IsShortReplay files = IsShort files.text.items × IsShort files.sequence.items

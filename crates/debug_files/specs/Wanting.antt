@@ -1,13 +1,14 @@
 -- Which files are loaded for what is asked, and how many bytes each may have (this project's rules).
 use Rattle.std.specs.Prelude.{ℕ, List, [], ◌∷◌, ◌++◌, Option}
-use Rattle.debug_words.specs.Words.{Asked, AsksPrint, AsksCheck, AsksRun, AsksJudge, Source, NoChoices, ChoicesIn, ChoicesBy}
+use Rattle.debug_words.specs.Words.{Asked, AsksPrint, AsksCheck, AsksRun, AsksJudge, AsksReplay, Source, NoChoices, ChoicesIn, ChoicesBy}
 use Rattle.debug_outcome.specs.Loads.{file_named, files_named}
 use Rattle.debug_outcome.specs.Traces.{Wanted}
 
--- a program that is printed or run has at most so many bytes, and one that is checked or judged, an original, so many
+-- a program that is printed or run has at most so many bytes, and one that is checked, judged or replayed, an original, so many; a program that is written has at most as many as one that is run
 abbrev pub text_limit : ℕ
 text_limit = 33554432
 
+-- a program that is checked or judged, an original, has at most so many bytes (this project's limit)
 abbrev pub original_limit : ℕ
 original_limit = 1048576
 
@@ -15,9 +16,11 @@ original_limit = 1048576
 abbrev pub inputs_limit : ℕ
 inputs_limit = 4194304
 
+-- a file of a sequence has at most so many bytes (this project's limit)
 abbrev pub sequence_limit : ℕ
 sequence_limit = 8388608
 
+-- a file of choices has at most so many bytes (this project's limit)
 abbrev pub choices_limit : ℕ
 choices_limit = 16777216
 
@@ -31,11 +34,16 @@ choice_files (ChoicesBy seed) = []
 abbrev pub start_files : List ℕ → ℕ → Option (List ℕ) → List Wanted
 start_files file limit inputs = file_named file limit ∷ files_named inputs inputs_limit
 
+-- the files of a run: the program, the inputs of its tasks where they are named, and the choices where they stand in a file
 abbrev pub run_files : List ℕ → Option (List ℕ) → Source → List Wanted
 run_files file inputs choices = start_files file text_limit inputs ++ choice_files choices
 
+-- the files of a judgement: the original, the inputs of its tasks where they are named, and the sequence
 abbrev pub judge_files : List ℕ → Option (List ℕ) → List ℕ → List Wanted
 judge_files file inputs sequence = start_files file original_limit inputs ++ (file_named sequence sequence_limit ∷ [])
+
+abbrev pub replay_files : List ℕ → List ℕ → List Wanted
+replay_files file sequence = file_named file original_limit ∷ file_named sequence sequence_limit ∷ []
 
 -- The files that are loaded for what is asked, in the order of the words.
 abbrev pub wanted_by : Asked → List Wanted
@@ -43,3 +51,4 @@ wanted_by (AsksPrint file) = file_named file text_limit ∷ []
 wanted_by (AsksCheck file) = file_named file original_limit ∷ []
 wanted_by (AsksRun file inputs choices turns) = run_files file inputs choices
 wanted_by (AsksJudge file inputs sequence bound) = judge_files file inputs sequence
+wanted_by (AsksReplay file sequence) = replay_files file sequence

@@ -4,6 +4,6 @@
 mod loading;
 
 pub use loading::{
-    CHOICES_LIMIT, ChoiceBytes, INPUTS_LIMIT, JudgeFiles, ORIGINAL_LIMIT, RunFiles, SEQUENCE_LIMIT,
-    StartFiles, TEXT_LIMIT, load_judge, load_run,
+    CHOICES_LIMIT, ChoiceBytes, INPUTS_LIMIT, JudgeFiles, ORIGINAL_LIMIT, ReplayFiles, RunFiles,
+    SEQUENCE_LIMIT, StartFiles, TEXT_LIMIT, load_judge, load_replay, load_run,
 };

@@ -1,20 +1,20 @@
-//! Loading the files of a run and of a judgement.
+//! Loading the files of a run, of a judgement and of a replaying.
 
 ghost use Rattle.std.specs.Prelude.{◌≡◌, ◌≤◌, ◌<◌, ◌-◌, ◌^◌, is_some, option_map, IfOk};
 ghost use Rattle.debug_words.specs.Commands.{name_as, source_as};
 ghost use Rattle.debug_outcome.specs.Loads.{CameOf};
 ghost use Rattle.debug_outcome.specs.Traces.{HasLoads};
-ghost use Rattle.debug_files.specs.Giving.{IsGivenBy, given_as, given_bytes, start_contents, run_contents, judge_contents, IsShortStart, AreShortChoices, IsShortRun, IsShortJudge};
-ghost use Rattle.debug_files.specs.Wanting.{choice_files, start_files, run_files, judge_files, text_limit, original_limit};
+ghost use Rattle.debug_files.specs.Giving.{IsGivenBy, given_as, given_bytes, start_contents, run_contents, judge_contents, replay_contents, IsShortStart, AreShortChoices, IsShortRun, IsShortJudge, IsShortReplay};
+ghost use Rattle.debug_files.specs.Wanting.{choice_files, start_files, run_files, judge_files, replay_files, text_limit, original_limit};
 
 use debug_outcome::{Stop, TracedFiles, load_file, load_named};
-use debug_words::{Choices, JudgeWords, RunWords};
+use debug_words::{Choices, JudgeWords, ReplayWords, RunWords};
 use std::alloc::Global;
 
-/// A program that is printed or run has at most this many bytes.
+/// A program that is printed or run has at most this many bytes, and so has one that is written.
 pub const TEXT_LIMIT: u64 = 33_554_432;
 
-/// A program that is checked or judged has at most this many bytes.
+/// A program that is checked, judged or replayed has at most this many bytes.
 pub const ORIGINAL_LIMIT: u64 = 1_048_576;
 
 /// A file of inputs has at most this many bytes.
@@ -55,6 +55,13 @@ pub struct RunFiles {
 #[derive(Drop)]
 pub struct JudgeFiles {
     pub start: StartFiles,
+    pub sequence: Vec<u8>,
+}
+
+/// The bytes of the files of a replaying.
+#[derive(Drop)]
+pub struct ReplayFiles {
+    pub text: Vec<u8>,
     pub sequence: Vec<u8>,
 }
 
@@ -99,6 +106,27 @@ pub fn load_judge<'w, F: TracedFiles>(
     };
     match load_file(alloc, asked.sequence, SEQUENCE_LIMIT, files) {
         Ok(sequence) => Ok(JudgeFiles { start, sequence }),
+        Err(stop) => Err(stop),
+    }
+}
+
+/// Loads the files of a replaying: the program's and the sequence's.
+pub fn load_replay<'w, F: TracedFiles>(
+    alloc: Global,
+    asked: ReplayWords<'w>,
+    files: &mut F,
+) -> Result<ReplayFiles, Stop<'w>>
+    ensures came { HasLoads F.leads files.old files.new (CameOf replay_contents (F.told files.old) (F.faults files.old) (F.faults files.new) (replay_files asked.entry.file.now asked.entry.sequence.now) result) }
+    ensures short { IfOk result IsShortReplay }
+    ensures told_stays { F.told files.new ≡ F.told files.old }
+    ensures count_never_falls { F.faults files.old ≤ F.faults files.new }
+{
+    let text = match load_file(alloc, asked.file, ORIGINAL_LIMIT, files) {
+        Ok(text) => text,
+        Err(stop) => return Err(stop),
+    };
+    match load_file(alloc, asked.sequence, SEQUENCE_LIMIT, files) {
+        Ok(sequence) => Ok(ReplayFiles { text, sequence }),
         Err(stop) => Err(stop),
     }
 }

@@ -1,20 +1,17 @@
--- The outcome of judging: the text of a verdict that was put whole or cut short, and the refusal of a sequence.
-use Rattle.std.proofs.Common.{◌≡◌, ℕ, List, [], length, Option, Ok, Err, ap, refl, ◌∙◌, subst, inr}
+-- The outcome of judging: the text of a verdict that was put whole or cut short.
+use Rattle.std.proofs.Common.{◌≡◌, ℕ, List, [], length, Option, Ok, Err, ap, refl, ◌∙◌, subst}
 use Rattle.ded_io.specs.Counts.{Rose}
 use Rattle.ded_io.specs.Written.{appended, Began, Wrote}
 use Rattle.event_machine.specs.declared.Event.{Event}
 use Rattle.syn_event.specs.Numbering.{Numbering}
-use Rattle.seq_file.specs.declared.errors.SeqError.{SeqError}
-use Rattle.seq_file.specs.declared.errors.SeqError.TheVariants as error
-use Rattle.seq_file.specs.Files.{HasFirstFault}
 use Rattle.task_model.specs.Machine.{Setup}
 use Rattle.task_machine.specs.declared.verdict.Verdict.{Verdict}
 use Rattle.task_machine.specs.Judging.{VerdictIs}
 use Rattle.feasible.specs.Failing.{view_at}
 use Rattle.feasible.specs.Kept.{Kept}
 use Rattle.divergence.specs.JudgeText.{report_text, judge_text, event_of}
-use Rattle.debug_outcome.specs.Coming.{HasPut, HasBroken, Stops, stop_by}
-use Rattle.debug_judge.specs.JudgeOutcomes.{ShowsWhy, IsVerdictText, JudgesLines, refusal_of_sequence, verdict_status}
+use Rattle.debug_outcome.specs.Coming.{HasPut, HasBroken}
+use Rattle.debug_judge.specs.JudgeOutcomes.{ShowsWhy, IsVerdictText, verdict_status}
 
 module _ (setup : Setup) (names : List (List ℕ)) (numbers : Numbering) (bound bound' : ℕ) (events : List Event) (k : Kept) (v : Verdict) (count : ℕ) (e : Option Event) (old new : Option (List ℕ)) (writes writes' : ℕ)
     (verdict_is : VerdictIs setup numbers bound events v) (seen : ShowsWhy setup numbers events (view_at k.tasks) v) (counted : count ≡ length events) (event : e ≡ event_of events v) (bounded : bound' ≡ bound) (named : names ≡ setup.program.names) where
@@ -53,13 +50,3 @@ module _ (setup : Setup) (names : List (List ℕ)) (numbers : Numbering) (bound 
     called = record { verdict = v; verdict_is = verdict_is; views = view_at k.tasks; seen = seen; is = refl };
     put = (subst (λ t. Began old new t) is_text wrote, rose);
   }
-
--- the refusal of a sequence is one that its lines call for
-pub stops_sequence : (setup : Setup) (numbers : Numbering) (lines : List ℕ) (bound : ℕ) (found : SeqError) → HasFirstFault lines numbers setup.program.names found →
-    Stops (JudgesLines setup numbers lines bound) (stop_by (refusal_of_sequence found))
-stops_sequence setup numbers lines bound (error.BadLine line) h = inr (record { error = error.BadLine line; fault = h; told = refl })
-stops_sequence setup numbers lines bound (error.OtherProgram line) h = inr (record { error = error.OtherProgram line; fault = h; told = refl })
-stops_sequence setup numbers lines bound (error.BadNumber line) h = inr (record { error = error.BadNumber line; fault = h; told = refl })
-stops_sequence setup numbers lines bound (error.AfterEnd line) h = inr (record { error = error.AfterEnd line; fault = h; told = refl })
-stops_sequence setup numbers lines bound (error.TooMany limit) h = inr (record { error = error.TooMany limit; fault = h; told = refl })
-stops_sequence setup numbers lines bound error.Memory h = tt

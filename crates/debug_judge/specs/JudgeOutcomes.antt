@@ -1,10 +1,8 @@
 -- What the judging of a sequence comes to: the text of its verdict with the status of that, or the fault of its first bad line (this project's rules).
-use Rattle.std.specs.Prelude.{◌≡◌, ℕ, ◌-◌, List, take, All, IfSome, ⊤, Option, Some, None, ◌⊎◌}
+use Rattle.std.specs.Prelude.{◌≡◌, ℕ, ◌-◌, List, take, All, IfSome, ⊤, ◌⊎◌}
 use Rattle.event_machine.specs.declared.Event.{Event}
 use Rattle.syn_event.specs.Numbering.{Numbering}
-use Rattle.seq_file.specs.declared.errors.SeqError.{SeqError}
-use Rattle.seq_file.specs.declared.errors.SeqError.TheVariants as error
-use Rattle.seq_file.specs.Files.{SeqReads, HasFirstFault}
+use Rattle.seq_file.specs.Files.{SeqReads}
 use Rattle.task_model.specs.Machine.{Setup}
 use Rattle.task_machine.specs.declared.verdict.Verdict.{Verdict}
 use Rattle.task_machine.specs.declared.verdict.Verdict.TheVariants.{Feasible, Infeasible, Unsettled}
@@ -12,12 +10,8 @@ use Rattle.task_machine.specs.Conditions.{needed_of}
 use Rattle.task_machine.specs.Judging.{VerdictIs}
 use Rattle.task_machine.specs.Views.{View, ViewIs}
 use Rattle.divergence.specs.JudgeText.{judge_text, event_of}
-use Rattle.debug_outcome.specs.Coming.{IsRefusal}
 use Rattle.debug_outcome.specs.Outcomes.{Outcome, writes}
-use Rattle.debug_outcome.specs.declared.refusal.Refusal.{Refusal}
-use Rattle.debug_outcome.specs.declared.refusal.Refusal.TheVariants.{BadSequence, TooMany}
-use Rattle.debug_outcome.specs.declared.refusal.Listed.TheVariants.{Events}
-use Rattle.debug_outcome.specs.declared.refusal.SequenceFault.TheVariants as fault
+use Rattle.debug_sequence.specs.BadSequences.{IsBadSequence}
 
 -- the status of a verdict
 abbrev pub verdict_status : Verdict → ℕ
@@ -49,21 +43,6 @@ pub record IsJudged (setup : Setup) (numbers : Numbering) (lines : List ℕ) (bo
   pub reads : SeqReads lines numbers setup.program.names events
   pub judged : IsVerdictText setup numbers bound events o
 
--- the refusal for each error of the reader of sequences; none for want of memory
-abbrev pub refusal_of_sequence : SeqError → Option Refusal
-refusal_of_sequence (error.BadLine line) = Some (BadSequence fault.BadLine line)
-refusal_of_sequence (error.OtherProgram line) = Some (BadSequence fault.OtherProgram line)
-refusal_of_sequence (error.BadNumber line) = Some (BadSequence fault.BadNumber line)
-refusal_of_sequence (error.AfterEnd line) = Some (BadSequence fault.AfterEnd line)
-refusal_of_sequence (error.TooMany limit) = Some (TooMany Events limit)
-refusal_of_sequence error.Memory = None
-
--- The first bad line of the sequence has a fault, and the outcome tells it.
-pub record IsBadSequence (setup : Setup) (numbers : Numbering) (lines : List ℕ) (o : Outcome) : Type 0 where
-  pub error : SeqError
-  pub fault : HasFirstFault lines numbers setup.program.names error
-  pub told : IsRefusal (refusal_of_sequence error) o
-
 -- The lines of a sequence call for this outcome.
 abbrev pub JudgesLines : Setup → Numbering → List ℕ → ℕ → Outcome → Type 0
-JudgesLines setup numbers lines bound o = IsJudged setup numbers lines bound o ⊎ IsBadSequence setup numbers lines o
+JudgesLines setup numbers lines bound o = IsJudged setup numbers lines bound o ⊎ IsBadSequence setup.program.names numbers lines o

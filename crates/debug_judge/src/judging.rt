@@ -6,18 +6,18 @@ ghost use Rattle.event_machine.specs.declared.Event.{Event};
 ghost use Rattle.task_model.specs.Machine.{Setup};
 ghost use Rattle.feasible.specs.Keeping.{NothingFollows};
 ghost use Rattle.divergence.specs.Seen.{AreSettled};
-ghost use Rattle.debug_outcome.specs.Coming.{Comes, Never, stop_by};
-ghost use Rattle.debug_judge.specs.JudgeOutcomes.{JudgesLines, IsVerdictText, refusal_of_sequence, verdict_status};
+ghost use Rattle.debug_outcome.specs.Coming.{Comes, Never};
+ghost use Rattle.debug_judge.specs.JudgeOutcomes.{JudgesLines, IsVerdictText, verdict_status};
 ghost use Rattle.debug_judge.specs.JudgedLines.{IsFoundOf};
 
 use crate::lines::{LinesError, LinesVerdict, judge_lines};
 use ada_tree::{Program, Types};
 use ada_value::Inputs;
-use debug_outcome::{Listed, Refusal, SequenceFault, Stop};
+use debug_outcome::Stop;
+use debug_sequence::sequence_failure;
 use ded_io::Sink;
 use divergence::report;
 use feasible::Verdict;
-use seq_file::SeqError;
 use std::alloc::Global;
 use syn_event::Numbers;
 use task_links::Links;
@@ -84,28 +84,4 @@ fn status_of(verdict: Verdict) -> u8
         Verdict::Infeasible { .. } => 4,
         Verdict::Unsettled { .. } => 5,
     }
-}
-
-// Why a command stops where a sequence is refused.
-fn sequence_failure<'w>(error: SeqError) -> Stop<'w>
-    ensures { result ≡ stop_by (refusal_of_sequence error) }
-{
-    match error {
-        SeqError::BadLine { line } => refused_at(SequenceFault::BadLine, line),
-        SeqError::OtherProgram { line } => refused_at(SequenceFault::OtherProgram, line),
-        SeqError::BadNumber { line } => refused_at(SequenceFault::BadNumber, line),
-        SeqError::AfterEnd { line } => refused_at(SequenceFault::AfterEnd, line),
-        SeqError::TooMany { limit } => Stop::Refused(Refusal::TooMany {
-            what: Listed::Events,
-            limit,
-        }),
-        SeqError::Memory => Stop::Memory,
-    }
-}
-
-// The refusal of a sequence at a line.
-fn refused_at<'w>(fault: SequenceFault, line: u32) -> Stop<'w>
-    ensures { result ≡ Stop.Refused (Refusal.BadSequence fault line) }
-{
-    Stop::Refused(Refusal::BadSequence { fault, line })
 }

@@ -1,13 +1,14 @@
 -- What a part of a command comes to, from that of a smaller part, and how the whole call ends by it.
 use Rattle.std.proofs.Common.{◌≡◌, ◌≢◌, ℕ, List, [], Option, Some, None, Result, Ok, Err, inl, inr, refl, sym, ◌∙◌}
-use Rattle.ded_io.specs.Written.{appended, ◌⧺◌}
+use Rattle.ded_io.specs.Counts.{Rose}
+use Rattle.ded_io.specs.Written.{appended, Wrote, ◌⧺◌}
 use Rattle.ded_io.proofs.Writes.{appended-nil}
 use Rattle.debug_outcome.specs.Outcomes.{Outcome, writes, refuses}
 use Rattle.debug_outcome.specs.Delivery.{Sides, IsDelivered, Ends}
-use Rattle.debug_outcome.specs.Coming.{IsRefusal, stop_by, Stops, Comes, Tells}
+use Rattle.debug_outcome.specs.Coming.{IsRefusal, stop_by, Stops, HasPut, HasBroken, Comes, Tells}
 use Rattle.debug_outcome.specs.Refusals.{refusal_line, first_words, unread_words, memory_line}
 use Rattle.debug_outcome.specs.declared.refusal.Refusal.{Refusal}
-use Rattle.debug_outcome.specs.declared.refusal.Refusal.TheVariants.{BadText, BadProgram, Usage, BadSequence, BadInputs, BadChoices, Unreadable, TooLong, TooMany}
+use Rattle.debug_outcome.specs.declared.refusal.Refusal.TheVariants.{BadText, BadProgram, Usage, BadSequence, BadInputs, BadChoices, Unreadable, TooLong, TooMany, LongText}
 use Rattle.debug_outcome.specs.declared.refusal.Listed.TheVariants.{Events, Inputs, Choices}
 use Rattle.debug_outcome.specs.declared.refusal.TextFault.TheVariants.{Misspelled, LongToken, TooNested}
 use Rattle.debug_outcome.specs.declared.refusal.RuleFault.TheVariants.{Broken, Passed}
@@ -47,6 +48,18 @@ comes_more A B G H out out' faults faults' (Err Memory) more grown (inl h) = inl
 comes_more A B G H out out' faults faults' (Err Memory) more grown (inr h) =
     inr (record { text = h.text; status = h.status; called = grown (writes h.text h.status) h.called; front = h.front; no_fault = h.no_fault })
 
+-- a text that is called for was put whole
+pub has_put : (A E : Type 0) (x : A) (C : Outcome → Type 0) (text : List ℕ) (status : ℕ) (out out' : Option (List ℕ)) (faults faults' : ℕ) → C (writes text status) →
+    Wrote {E = E} (Ok x) out out' text → faults' ≡ faults → HasPut C out out' faults faults' status
+unfolding Wrote
+has_put A E x C text status out out' faults faults' called wrote still = record { text = text; called = called; put = (wrote, still) }
+
+-- or a front of it was
+pub has_broken : (A E : Type 0) (e : E) (C : Outcome → Type 0) (text : List ℕ) (status : ℕ) (out out' : Option (List ℕ)) (faults faults' : ℕ) → C (writes text status) →
+    Wrote {A = A} (Err e) out out' text → Rose faults faults' → HasBroken C out out' faults faults'
+unfolding Wrote
+has_broken A E e C text status out out' faults faults' called wrote rose = record { text = text; status = status; called = called; put = (wrote, rose) }
+
 -- nothing was put, so all of no bytes
 all_of_none : (told told' : Option (List ℕ)) → told' ≡ told → told' ≡ appended told []
 all_of_none told told' same = same ∙ sym (appended-nil told)
@@ -68,6 +81,7 @@ line_is_some (TooLong limit) e = cc
 line_is_some (TooMany Events limit) e = cc
 line_is_some (TooMany Inputs limit) e = cc
 line_is_some (TooMany Choices limit) e = cc
+line_is_some (LongText limit) e = cc
 
 pub memory_is_some : memory_line ≢ []
 unfolding memory_line

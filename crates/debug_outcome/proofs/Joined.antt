@@ -1,11 +1,11 @@
 -- What came of the loading of files, from that of the first ones and of those behind them.
-use Rattle.std.proofs.Common.{◌≡◌, ◌≤◌, ℕ, List, [], ◌∷◌, ◌++◌, Option, inl, inr, refl, sym, ap, subst, ◌∙◌}
+use Rattle.std.proofs.Common.{◌≡◌, ◌≤◌, ℕ, List, [], ◌∷◌, ◌++◌, Option, inl, inr, refl, sym, subst}
 use Rattle.ded_io.specs.Told.{ToldFile}
 use Rattle.ded_io.proofs.Counted.{rose_behind}
 use Rattle.debug_outcome.specs.Coming.{Stops}
-use Rattle.debug_outcome.specs.Loads.{IsUnloaded, AreLoaded, AreUnloaded, WereLoaded, WasFirst, all_gave}
+use Rattle.debug_outcome.specs.Loads.{IsUnloaded, AreLoaded, AreUnloaded, WereLoaded, all_gave}
 use Rattle.debug_outcome.specs.Outcomes.{Outcome}
-use Rattle.debug_outcome.specs.Traces.{Wanted, Load, Led, HasLoads, gave}
+use Rattle.debug_outcome.specs.Traces.{Wanted, Load, Led, HasLoads}
 use Rattle.debug_outcome.specs.declared.stopping.Stop.{Stop}
 use Rattle.debug_outcome.proofs.Comings.{stops_more}
 

@@ -1,10 +1,14 @@
 -- Why the program ends with another status than that of what it was asked for: the status of each refusal, and its line on the error output (this project's rules).
 use Rattle.std.specs.Prelude.{ℕ, List, codes, decimal}
 use Rattle.ded_io.specs.Written.{◌⧺◌}
+use Rattle.ada_refusals.specs.declared.refusals.Rule.{Rule as TypeRule}
+use Rattle.ada_refusals.specs.declared.refusals.Rule.TheVariants as typing
+use Rattle.ada_rules.specs.declared.refusals.Rule.{Rule as CheckRule}
+use Rattle.ada_rules.specs.declared.refusals.Rule.TheVariants as checking
 use Rattle.syn_event.specs.declared.limits.What.{What}
 use Rattle.syn_event.specs.declared.limits.What.TheVariants as counted
 use Rattle.debug_outcome.specs.declared.refusal.Refusal.{Refusal}
-use Rattle.debug_outcome.specs.declared.refusal.Refusal.TheVariants.{BadText, BadProgram, Usage, BadSequence, BadInputs, BadChoices, Unreadable, TooLong, TooMany}
+use Rattle.debug_outcome.specs.declared.refusal.Refusal.TheVariants.{BadText, BadProgram, Usage, BadSequence, BadInputs, BadChoices, Unreadable, TooLong, TooMany, LongText}
 use Rattle.debug_outcome.specs.declared.refusal.TextFault.{TextFault}
 use Rattle.debug_outcome.specs.declared.refusal.TextFault.TheVariants.{Misspelled, LongToken, TooNested}
 use Rattle.debug_outcome.specs.declared.refusal.Misspelling.{Misspelling}
@@ -12,7 +16,7 @@ use Rattle.debug_outcome.specs.declared.refusal.Misspelling.TheVariants as missp
 use Rattle.debug_outcome.specs.declared.refusal.RuleFault.{RuleFault}
 use Rattle.debug_outcome.specs.declared.refusal.RuleFault.TheVariants.{Broken, Passed}
 use Rattle.debug_outcome.specs.declared.refusal.Rule.{Rule}
-use Rattle.debug_outcome.specs.declared.refusal.Rule.TheVariants.{Unknown, Duplicate, Mismatch, NotStatic, RangeBad, NotVariable, ReadOut, ArgCount, ChoiceBad, ArrayUse, TextUse, NotException, SharedVariable, AcceptPlace, SelectForm, SameEntryTwice, ReservedName, MainEntry, AbortOrder, BodyMissing, ExitPlace, RaisePlace}
+use Rattle.debug_outcome.specs.declared.refusal.Rule.TheVariants.{OfTypes, OfCheck}
 use Rattle.debug_outcome.specs.declared.refusal.SequenceFault.{SequenceFault}
 use Rattle.debug_outcome.specs.declared.refusal.SequenceFault.TheVariants as fault
 use Rattle.debug_outcome.specs.declared.refusal.InputFault.{InputFault}
@@ -41,6 +45,7 @@ refusal_status (BadChoices found line) = 12
 refusal_status (Unreadable name) = 6
 refusal_status (TooLong limit) = 8
 refusal_status (TooMany what limit) = 8
+refusal_status (LongText limit) = 8
 
 -- the words before the name of a file that cannot be read; they stay shut, so that they do not compute away
 unfoldable pub unread_words : List ℕ
@@ -62,6 +67,7 @@ first_words (TooLong limit) = codes "ded: limit file "
 first_words (TooMany listed.Events limit) = codes "ded: limit events "
 first_words (TooMany listed.Inputs limit) = codes "ded: limit inputs "
 first_words (TooMany listed.Choices limit) = codes "ded: limit choices "
+first_words (LongText limit) = codes "ded: limit text "
 
 -- the line where there was no memory; it stays shut too
 unfoldable pub memory_line : List ℕ
@@ -74,30 +80,39 @@ misspelling_name misspelling.OpenString = codes "OpenString"
 misspelling_name misspelling.BadNumber = codes "BadNumber"
 misspelling_name misspelling.Syntax = codes "Syntax"
 
+-- the name of a rule on names and types
+abbrev pub type_rule_name : TypeRule → List ℕ
+type_rule_name typing.Unknown = codes "Unknown"
+type_rule_name typing.Duplicate = codes "Duplicate"
+type_rule_name typing.Mismatch = codes "Mismatch"
+type_rule_name typing.NotStatic = codes "NotStatic"
+type_rule_name typing.RangeBad = codes "RangeBad"
+type_rule_name typing.NotVariable = codes "NotVariable"
+type_rule_name typing.ReadOut = codes "ReadOut"
+type_rule_name typing.ArgCount = codes "ArgCount"
+type_rule_name typing.ChoiceBad = codes "ChoiceBad"
+type_rule_name typing.ArrayUse = codes "ArrayUse"
+type_rule_name typing.TextUse = codes "TextUse"
+type_rule_name typing.NotException = codes "NotException"
+
+-- the name of a rule after those
+abbrev pub check_rule_name : CheckRule → List ℕ
+check_rule_name checking.SharedVariable = codes "SharedVariable"
+check_rule_name checking.AcceptPlace = codes "AcceptPlace"
+check_rule_name checking.SelectForm = codes "SelectForm"
+check_rule_name checking.SameEntryTwice = codes "SameEntryTwice"
+check_rule_name checking.ReservedName = codes "ReservedName"
+check_rule_name checking.MainEntry = codes "MainEntry"
+check_rule_name checking.AbortOrder = codes "AbortOrder"
+check_rule_name checking.BodyMissing = codes "BodyMissing"
+check_rule_name checking.ExitPlace = codes "ExitPlace"
+check_rule_name checking.RaisePlace = codes "RaisePlace"
+check_rule_name (checking.Limit what limit) = codes "Limit"
+
 -- the name of a rule
 abbrev pub rule_name : Rule → List ℕ
-rule_name Unknown = codes "Unknown"
-rule_name Duplicate = codes "Duplicate"
-rule_name Mismatch = codes "Mismatch"
-rule_name NotStatic = codes "NotStatic"
-rule_name RangeBad = codes "RangeBad"
-rule_name NotVariable = codes "NotVariable"
-rule_name ReadOut = codes "ReadOut"
-rule_name ArgCount = codes "ArgCount"
-rule_name ChoiceBad = codes "ChoiceBad"
-rule_name ArrayUse = codes "ArrayUse"
-rule_name TextUse = codes "TextUse"
-rule_name NotException = codes "NotException"
-rule_name SharedVariable = codes "SharedVariable"
-rule_name AcceptPlace = codes "AcceptPlace"
-rule_name SelectForm = codes "SelectForm"
-rule_name SameEntryTwice = codes "SameEntryTwice"
-rule_name ReservedName = codes "ReservedName"
-rule_name MainEntry = codes "MainEntry"
-rule_name AbortOrder = codes "AbortOrder"
-rule_name BodyMissing = codes "BodyMissing"
-rule_name ExitPlace = codes "ExitPlace"
-rule_name RaisePlace = codes "RaisePlace"
+rule_name (OfTypes rule) = type_rule_name rule
+rule_name (OfCheck rule) = check_rule_name rule
 
 -- the word for what a limit counts
 abbrev pub what_word : What → List ℕ
@@ -161,3 +176,4 @@ refusal_line (BadChoices found line) = fault_line (first_words (BadChoices found
 refusal_line (Unreadable name) = named_line unread_words name.now
 refusal_line (TooLong limit) = named_line (first_words (TooLong limit)) (decimal limit)
 refusal_line (TooMany what limit) = named_line (first_words (TooMany what limit)) (decimal limit)
+refusal_line (LongText limit) = named_line (first_words (LongText limit)) (decimal limit)

@@ -3,6 +3,8 @@
 ghost use Rattle.std.specs.Prelude.{◌≡◌};
 ghost use Rattle.debug_outcome.specs.Refusals.{refusal_status, text_status, rule_status};
 
+use ada_refusals::refusals::Rule as TypeRule;
+use ada_rules::Rule as CheckRule;
 use syn_event::What;
 
 /// Why a command is refused. Lines and columns count from 1.
@@ -26,6 +28,8 @@ pub enum Refusal<'w> {
     TooLong { limit: u64 },
     /// A file lists more than the limit.
     TooMany { what: Listed, limit: u32 },
+    /// The text that would be written is longer than the limit, in bytes.
+    LongText { limit: u64 },
 }
 
 /// Why a text is read as no program.
@@ -65,31 +69,13 @@ pub enum RuleFault {
     Passed { what: What, limit: u32 },
 }
 
-/// The static rules by their names, without that on limits.
+/// A static rule. A limit that is passed is told as `Passed`.
 #[derive(Clone, Copy)]
 pub enum Rule {
-    Unknown,
-    Duplicate,
-    Mismatch,
-    NotStatic,
-    RangeBad,
-    NotVariable,
-    ReadOut,
-    ArgCount,
-    ChoiceBad,
-    ArrayUse,
-    TextUse,
-    NotException,
-    SharedVariable,
-    AcceptPlace,
-    SelectForm,
-    SameEntryTwice,
-    ReservedName,
-    MainEntry,
-    AbortOrder,
-    BodyMissing,
-    ExitPlace,
-    RaisePlace,
+    /// One of the first twelve rules, which are those on names and types.
+    OfTypes(TypeRule),
+    /// One of the rules that are asked after those.
+    OfCheck(CheckRule),
 }
 
 /// What is wrong with the first bad line of a sequence.
@@ -131,6 +117,7 @@ impl Refusal<'_> {
             Refusal::Unreadable(_) => 6,
             Refusal::TooLong { .. } => 8,
             Refusal::TooMany { .. } => 8,
+            Refusal::LongText { .. } => 8,
         }
     }
 }

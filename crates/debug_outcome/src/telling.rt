@@ -3,11 +3,13 @@
 ghost use Rattle.std.specs.Prelude.{◌≡◌, decimal};
 ghost use Rattle.ded_io.specs.Counts.{HasCause};
 ghost use Rattle.ded_io.specs.Written.{Wrote};
-ghost use Rattle.debug_outcome.specs.Refusals.{refusal_line, first_words, unread_words, fault_name, input_fault_name, named_line, fault_line, place_line, passed_line, text_line, rule_line, misspelling_name, rule_name, what_word};
+ghost use Rattle.debug_outcome.specs.Refusals.{refusal_line, first_words, unread_words, fault_name, input_fault_name, named_line, fault_line, place_line, passed_line, text_line, rule_line, misspelling_name, rule_name, type_rule_name, check_rule_name, what_word};
 
 use crate::refusal::{
     InputFault, Listed, Misspelling, Refusal, Rule, RuleFault, SequenceFault, TextFault,
 };
+use ada_refusals::refusals::Rule as TypeRule;
+use ada_rules::Rule as CheckRule;
 use decimal_text::put_number;
 use ded_io::{Sink, SinkError};
 use syn_event::What;
@@ -50,6 +52,7 @@ pub(crate) fn put_refusal<K: Sink>(refusal: Refusal<'_>, err: &mut K) -> Result<
         Refusal::TooMany { what, limit } => {
             put_limit(Refusal::TooMany { what, limit }, limit as u64, err)
         }
+        Refusal::LongText { limit } => put_limit(Refusal::LongText { limit }, limit, err),
     }
 }
 
@@ -205,28 +208,47 @@ fn rule_name(rule: Rule) -> &'static [u8]
     ensures { result.now ≡ rule_name rule }
 {
     match rule {
-        Rule::Unknown => b"Unknown",
-        Rule::Duplicate => b"Duplicate",
-        Rule::Mismatch => b"Mismatch",
-        Rule::NotStatic => b"NotStatic",
-        Rule::RangeBad => b"RangeBad",
-        Rule::NotVariable => b"NotVariable",
-        Rule::ReadOut => b"ReadOut",
-        Rule::ArgCount => b"ArgCount",
-        Rule::ChoiceBad => b"ChoiceBad",
-        Rule::ArrayUse => b"ArrayUse",
-        Rule::TextUse => b"TextUse",
-        Rule::NotException => b"NotException",
-        Rule::SharedVariable => b"SharedVariable",
-        Rule::AcceptPlace => b"AcceptPlace",
-        Rule::SelectForm => b"SelectForm",
-        Rule::SameEntryTwice => b"SameEntryTwice",
-        Rule::ReservedName => b"ReservedName",
-        Rule::MainEntry => b"MainEntry",
-        Rule::AbortOrder => b"AbortOrder",
-        Rule::BodyMissing => b"BodyMissing",
-        Rule::ExitPlace => b"ExitPlace",
-        Rule::RaisePlace => b"RaisePlace",
+        Rule::OfTypes(rule) => type_rule_name(rule),
+        Rule::OfCheck(rule) => check_rule_name(rule),
+    }
+}
+
+// The name of a rule on names and types.
+fn type_rule_name(rule: TypeRule) -> &'static [u8]
+    ensures { result.now ≡ type_rule_name rule }
+{
+    match rule {
+        TypeRule::Unknown => b"Unknown",
+        TypeRule::Duplicate => b"Duplicate",
+        TypeRule::Mismatch => b"Mismatch",
+        TypeRule::NotStatic => b"NotStatic",
+        TypeRule::RangeBad => b"RangeBad",
+        TypeRule::NotVariable => b"NotVariable",
+        TypeRule::ReadOut => b"ReadOut",
+        TypeRule::ArgCount => b"ArgCount",
+        TypeRule::ChoiceBad => b"ChoiceBad",
+        TypeRule::ArrayUse => b"ArrayUse",
+        TypeRule::TextUse => b"TextUse",
+        TypeRule::NotException => b"NotException",
+    }
+}
+
+// The name of a rule after those on names and types.
+fn check_rule_name(rule: CheckRule) -> &'static [u8]
+    ensures { result.now ≡ check_rule_name rule }
+{
+    match rule {
+        CheckRule::SharedVariable => b"SharedVariable",
+        CheckRule::AcceptPlace => b"AcceptPlace",
+        CheckRule::SelectForm => b"SelectForm",
+        CheckRule::SameEntryTwice => b"SameEntryTwice",
+        CheckRule::ReservedName => b"ReservedName",
+        CheckRule::MainEntry => b"MainEntry",
+        CheckRule::AbortOrder => b"AbortOrder",
+        CheckRule::BodyMissing => b"BodyMissing",
+        CheckRule::ExitPlace => b"ExitPlace",
+        CheckRule::RaisePlace => b"RaisePlace",
+        CheckRule::Limit { .. } => b"Limit",
     }
 }
 
@@ -284,5 +306,6 @@ fn first_words(refusal: Refusal<'_>) -> &'static [u8]
             what: Listed::Choices,
             ..
         } => b"ded: limit choices ",
+        Refusal::LongText { .. } => b"ded: limit text ",
     }
 }

@@ -16,9 +16,11 @@ abbrev pub counts : List (List ℕ) → Numbering → List ℕ
 counts names numbers =
     text_of names numbers.main ⧺ (codes " " ⧺ (decimal (original_tasks numbers) ⧺ (codes " " ⧺ (decimal (original_entries numbers) ⧺ codes "\n"))))
 
+-- the first line: the format, the name of the program, and the counts of the original
 abbrev pub header : List (List ℕ) → Numbering → List ℕ
 header names numbers = codes "ded-run 1 " ⧺ counts names numbers
 
+-- the words that say how a run ended
 abbrev pub end_word : RunEnd → List ℕ
 end_word Ended = codes "end ended "
 end_word Stuck = codes "end stuck "

@@ -1,5 +1,5 @@
--- The rows of words that the program takes (this project's rule).
-use Rattle.std.specs.Prelude.{ℕ, ◌+◌, ◌-◌, ◌*◌, Bool, true, false, not, ◌&&◌, ◌||◌, nat_le, List, [], ◌∷◌, length, drop, nat_eq, Option, Some, None, option_map, option_and_then, if◌then◌else◌, codes, bytes_eq}
+-- The usages: the words that the program takes (this project's rule).
+use Rattle.std.specs.Prelude.{ℕ, ◌+◌, ◌-◌, ◌*◌, Bool, false, not, ◌&&◌, ◌||◌, nat_le, List, [], ◌∷◌, length, drop, nat_eq, Option, Some, None, option_map, option_and_then, if◌then◌else◌, codes, bytes_eq}
 use Rattle.std.specs.List.{starts_with}
 
 -- Where the choices of a run come from.
@@ -21,6 +21,8 @@ pub data Asked : Type 0 where
   AsksRun : List ℕ → Option (List ℕ) → Source → ℕ → Asked
   -- judging the sequence in the last file for the program in the first, with the name of a file of inputs if there is one, and with a number of local steps
   AsksJudge : List ℕ → Option (List ℕ) → List ℕ → ℕ → Asked
+  -- the replay text of the program in the first file and the sequence in the second
+  AsksReplay : List ℕ → List ℕ → Asked
 
 -- the value of decimal digits behind a value so far
 abbrev pub value_behind : ℕ → List ℕ → Option ℕ
@@ -77,12 +79,16 @@ asks_run file inputs choices number =
 abbrev pub asks_judge : List ℕ → List ℕ → List ℕ → List ℕ → Option Asked
 asks_judge file inputs sequence number = option_map (AsksJudge file (inputs_of inputs) sequence) (number_of number)
 
--- the rows of two words
+-- the usages of two words
 abbrev pub asks_of_one : List ℕ → List ℕ → Option Asked
 asks_of_one command file =
     if bytes_eq command (codes "print") then Some (AsksPrint file) else (if bytes_eq command (codes "check") then Some (AsksCheck file) else None)
 
--- the rows of five words
+-- the usage of three words
+abbrev pub asks_of_two : List ℕ → List ℕ → List ℕ → Option Asked
+asks_of_two command file sequence = if bytes_eq command (codes "replay") then Some (AsksReplay file sequence) else None
+
+-- the usages of five words
 abbrev pub asks_of_four : List ℕ → List ℕ → List ℕ → List ℕ → List ℕ → Option Asked
 asks_of_four command file inputs other number =
     if bytes_eq command (codes "run")
@@ -91,8 +97,9 @@ asks_of_four command file inputs other number =
     then asks_judge file inputs other number
     else None)
 
--- print FILE, check FILE, run FILE IN CHOICES TURNS, and judge FILE IN SEQUENCE STEPS
+-- print FILE, check FILE, replay FILE SEQUENCE, run FILE IN CHOICES TURNS, and judge FILE IN SEQUENCE STEPS
 abbrev pub asked_by : List (List ℕ) → Option Asked
 asked_by (command ∷ file ∷ []) = asks_of_one command file
+asked_by (command ∷ file ∷ sequence ∷ []) = asks_of_two command file sequence
 asked_by (command ∷ file ∷ inputs ∷ other ∷ number ∷ []) = asks_of_four command file inputs other number
 asked_by _ = None

@@ -1,7 +1,7 @@
 // The words that the program is called with.
 
 ghost use Rattle.std.specs.Prelude.{◌≡◌, ◌≤◌, map, option_map, string_bytes, length};
-ghost use Rattle.debug_words.specs.Words.{asked_by, asks_of_one, asks_of_four, asks_run, asks_judge, inputs_of, choices_of, seed_of, number_of, value_behind, begins_well, is_zero};
+ghost use Rattle.debug_words.specs.Words.{asked_by, asks_of_one, asks_of_two, asks_of_four, asks_run, asks_judge, inputs_of, choices_of, seed_of, number_of, value_behind, begins_well, is_zero};
 ghost use Rattle.debug_words.specs.Commands.{asked_as, source_as, name_as};
 
 /// What the words ask for.
@@ -15,6 +15,8 @@ pub enum Command<'w> {
     Run(RunWords<'w>),
     /// The verdict on a sequence of events.
     Judge(JudgeWords<'w>),
+    /// The replay text of a program and a sequence of events.
+    Replay(ReplayWords<'w>),
 }
 
 /// Where the choices of a run come from.
@@ -47,24 +49,32 @@ pub struct JudgeWords<'w> {
     pub bound: u64,
 }
 
+/// The replay text of the program in a file and of the sequence in another.
+#[derive(Clone, Copy)]
+pub struct ReplayWords<'w> {
+    pub file: &'w str,
+    pub sequence: &'w str,
+}
+
 /// Why there are no words.
 #[derive(Clone, Copy)]
 pub enum NoWords {
-    /// One of them is no text, so that they are no row of words.
+    /// One of them is no text, so that they are no usage.
     NotText,
     /// There was no memory for them.
     Memory,
 }
 
-/// What the words ask for; none where they are no row of words. The rows are `print FILE`, `check FILE`, `run FILE IN CHOICES TURNS` and
-/// `judge FILE IN SEQUENCE STEPS`, where IN is a file's name, or `-` for no inputs, and CHOICES a file's name, `-` for none, or `seed:` and a
-/// number from 0 to 18,446,744,073,709,551,615 without leading zeros. It takes no memory.
-#[tactic(auto, using(crate::proofs::Rows::no_row))]
+/// What the words ask for; none where they are no usage. The usages are `print FILE`, `check FILE`, `replay FILE SEQUENCE`,
+/// `run FILE IN CHOICES TURNS` and `judge FILE IN SEQUENCE STEPS`, where IN is a file's name, or `-` for no inputs, and CHOICES a file's name,
+/// `-` for none, or `seed:` and a number from 0 to 18,446,744,073,709,551,615 without leading zeros. It takes no memory.
+#[tactic(auto, using(crate::proofs::Usages::no_usage))]
 pub fn command_of<'w>(words: &'w [String]) -> Option<Command<'w>>
     ensures { option_map asked_as result ≡ asked_by (map string_bytes words.now) }
 {
     match words {
         [command, file] => of_one(command.as_str(), file.as_str()),
+        [command, file, sequence] => { of_two(command.as_str(), file.as_str(), sequence.as_str()) }
         [command, file, inputs, other, number] => {
             of_four(
                 command.as_str(),
@@ -76,7 +86,6 @@ pub fn command_of<'w>(words: &'w [String]) -> Option<Command<'w>>
         }
         [] => None,
         [_] => None,
-        [_, _, _] => None,
         [_, _, _, _] => None,
         [_, _, _, _, _, _, ..] => None,
     }
@@ -90,6 +99,17 @@ fn of_one<'w>(command: &str, file: &'w str) -> Option<Command<'w>>
         Some(Command::Print(file))
     } else if command == "check" {
         Some(Command::Check(file))
+    } else {
+        None
+    }
+}
+
+// A command of two words.
+fn of_two<'w>(command: &str, file: &'w str, sequence: &'w str) -> Option<Command<'w>>
+    ensures { option_map asked_as result ≡ asks_of_two command.now file.now sequence.now }
+{
+    if command == "replay" {
+        Some(Command::Replay(ReplayWords { file, sequence }))
     } else {
         None
     }

@@ -3,4 +3,4 @@
 
 mod command;
 
-pub use command::{Choices, Command, JudgeWords, NoWords, RunWords, command_of};
+pub use command::{Choices, Command, JudgeWords, NoWords, ReplayWords, RunWords, command_of};

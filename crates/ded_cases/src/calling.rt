@@ -1,7 +1,7 @@
 //! Whole calls of the program.
 
 use ada_tree::Memory;
-use case_form::{Failing, Row, Stage, ask, put_lines, put_quoted};
+use case_form::{Failing, Question, Stage, ask, put_lines, put_quoted};
 use debug_core::debug_main;
 use ded_io::MemorySink;
 use std::alloc::{AllocError, Global};
@@ -59,8 +59,8 @@ fn put_given(given: &Given, out: &mut String) -> Result<(), Memory> {
     Ok(())
 }
 
-/// `calls`: what a call of the row's words gives over the files of the case; what fails stands before them, with a colon behind.
-pub(crate) fn call_row(
+/// `calls`: what a call of the question's words gives over the files of the case; what fails stands before them, with a colon behind.
+pub(crate) fn call_question(
     alloc: Global,
     stage: &Stage,
     written: &str,
@@ -78,17 +78,17 @@ pub(crate) fn call_row(
     put_given(&called(alloc, stage, &failing, words)?, out)
 }
 
-/// `texts WORDS`: what a call of these words gives where the file P1 has the row's text, beside the files of the case.
-pub(crate) fn text_row(
+/// `texts WORDS`: what a call of these words gives where the file P1 has the question's text, beside the files of the case.
+pub(crate) fn text_question(
     alloc: Global,
     stage: &Stage,
     words: &str,
-    row: &Row<'_>,
+    question: &Question<'_>,
     out: &mut String,
 ) -> Result<(), Memory> {
-    row.ask(out)?;
+    question.ask(out)?;
     let mut staged = Stage::new(alloc);
-    staged.add(alloc, "P1", Vec::from_slice(alloc, row.text())?)?;
+    staged.add(alloc, "P1", Vec::from_slice(alloc, question.text())?)?;
     staged.add_all(alloc, stage)?;
     put_given(&called(alloc, &staged, &Failing::new(alloc), words)?, out)
 }

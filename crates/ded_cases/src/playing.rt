@@ -1,12 +1,13 @@
 //! The cases one behind the other, each heading with what stands under it.
 
-use crate::calling::{call_row, put_call, text_row};
+use crate::calling::{call_question, put_call, text_question};
 use ada_tree::Memory;
 use case_expressions::{Wanted, expression, line_col, names, token_message, tokens};
-use case_form::{Failing, Row, Stage, Text, expand, text_named};
-use case_machines::{Judging, judge_row, run_row, value};
+use case_form::{Failing, Question, Stage, Text, expand, text_named};
+use case_machines::{Judging, judge_question, run_question, value};
 use case_outside::{choices, loads, seeded, sink};
-use case_programs::{fronts, message, print_row, printed_len, read, text_message};
+use case_programs::{fronts, message, print_question, printed_len, read, text_message};
+use case_rewritings::normal_question;
 use case_rules::{
     Told, choices_file, event, inputs, known_of, number, numbers, origin, scopes, sequence,
     static_expression, type_table, types,
@@ -74,7 +75,7 @@ impl Playing {
         if self.is_set(word, rest, body, has_body)? {
             self.put_body(body, has_body)
         } else {
-            self.answer_rows(heading, body, has_body)
+            self.answer_questions(heading, body, has_body)
         }
     }
 
@@ -132,8 +133,13 @@ impl Playing {
         Ok(lines)
     }
 
-    // Answers the rows under a heading.
-    fn answer_rows(&mut self, heading: &str, body: &str, has_body: bool) -> Result<(), Memory> {
+    // Answers the questions under a heading.
+    fn answer_questions(
+        &mut self,
+        heading: &str,
+        body: &str,
+        has_body: bool,
+    ) -> Result<(), Memory> {
         let (front, name) = heading.split_once(" in ").unwrap_or((heading, ""));
         let (subject, rest) = front.split_once(' ').unwrap_or((front, ""));
         let text = text_named(&self.texts, name);
@@ -168,7 +174,7 @@ impl Playing {
     }
 }
 
-// Answers a row.
+// Answers a question.
 fn answer(
     alloc: Global,
     texts: &[Text],
@@ -182,27 +188,27 @@ fn answer(
         "same_behind" => same(alloc, texts, asked.text, true, written, out),
         "static" => static_expression(alloc, texts, asked.text, written, out),
         "value" => value(alloc, texts, asked.text, asked.rest, written, out),
-        "calls" => call_row(alloc, stage, written, out),
+        "calls" => call_question(alloc, stage, written, out),
         "texts" => {
-            let row = Row::new(alloc, texts, asked.text, ("", ""), written)?;
-            text_row(alloc, stage, asked.rest, &row, out)
+            let question = Question::new(alloc, texts, asked.text, ("", ""), written)?;
+            text_question(alloc, stage, asked.rest, &question, out)
         }
         "number" | "origins" | "sequence" | "inputs" | "run" | "judge" | "judge_all" => {
-            let row = Row::new(alloc, texts, None, ("", ""), written)?;
-            answer_of_program(alloc, asked, &row, out)
+            let question = Question::new(alloc, texts, None, ("", ""), written)?;
+            answer_of_program(alloc, asked, &question, out)
         }
         _ => {
-            let row = Row::new(alloc, texts, asked.text, ("", ""), written)?;
-            answer_of_text(alloc, asked, &row, out)
+            let question = Question::new(alloc, texts, asked.text, ("", ""), written)?;
+            answer_of_text(alloc, asked, &question, out)
         }
     }
 }
 
-// Answers a row on the program of the text behind `in`.
+// Answers a question on the program of the text behind `in`.
 fn answer_of_program(
     alloc: Global,
     asked: Asked<'_, '_>,
-    row: &Row<'_>,
+    question: &Question<'_>,
     out: &mut String,
 ) -> Result<(), Memory> {
     let text = match asked.text {
@@ -210,26 +216,32 @@ fn answer_of_program(
         None => &[],
     };
     if asked.subject == "judge" || asked.subject == "judge_all" {
-        return answer_of_original(alloc, asked, text, row, out);
+        return answer_of_original(alloc, asked, text, question, out);
     }
     match known_of(alloc, text, Mode::Any)? {
         Some(mut known) => match asked.subject {
-            "number" => number(alloc, &mut known, row, out),
-            "origins" => origin(alloc, &known, row, out),
-            "sequence" => sequence(alloc, &known, Mode::Any, row, out),
-            "inputs" => inputs(alloc, &known, row, out),
-            _ => run_row(alloc, &known, asked.rest.parse().unwrap_or(0), row, out),
+            "number" => number(alloc, &mut known, question, out),
+            "origins" => origin(alloc, &known, question, out),
+            "sequence" => sequence(alloc, &known, Mode::Any, question, out),
+            "inputs" => inputs(alloc, &known, question, out),
+            _ => run_question(
+                alloc,
+                &known,
+                asked.rest.parse().unwrap_or(0),
+                question,
+                out,
+            ),
         },
-        None => Ok(row.answer(out, "no program")?),
+        None => Ok(question.answer(out, "no program")?),
     }
 }
 
-// Answers a row of events that are judged.
+// Answers a question of events that are judged.
 fn answer_of_original(
     alloc: Global,
     asked: Asked<'_, '_>,
     text: &[u8],
-    row: &Row<'_>,
+    question: &Question<'_>,
     out: &mut String,
 ) -> Result<(), Memory> {
     let judging = if asked.subject == "judge" {
@@ -239,62 +251,63 @@ fn answer_of_original(
     };
     let bound = asked.rest.parse().unwrap_or(0);
     match known_of(alloc, text, Mode::Original)? {
-        Some(known) => judge_row(alloc, &known, judging, bound, row, out),
-        None => Ok(row.answer(out, "no program")?),
+        Some(known) => judge_question(alloc, &known, judging, bound, question, out),
+        None => Ok(question.answer(out, "no program")?),
     }
 }
 
-// Answers a row on its own text.
+// Answers a question on its own text.
 fn answer_of_text(
     alloc: Global,
     asked: Asked<'_, '_>,
-    row: &Row<'_>,
+    question: &Question<'_>,
     out: &mut String,
 ) -> Result<(), Memory> {
     let depth = asked.rest.parse::<u32>().unwrap_or(0);
     match asked.subject {
-        "tokens" => tokens(alloc, row, false, out),
-        "token_places" => tokens(alloc, row, true, out),
-        "line_col" => line_col(row, out),
-        "expression" => expression(alloc, row, Wanted::Expression, depth, out),
-        "measure" => expression(alloc, row, Wanted::Measure, depth, out),
+        "tokens" => tokens(alloc, question, false, out),
+        "token_places" => tokens(alloc, question, true, out),
+        "line_col" => line_col(question, out),
+        "expression" => expression(alloc, question, Wanted::Expression, depth, out),
+        "measure" => expression(alloc, question, Wanted::Measure, depth, out),
         "printed_expression" => {
-            expression(alloc, row, Wanted::Printed(u64::from(depth)), 300, out)
+            expression(alloc, question, Wanted::Printed(u64::from(depth)), 300, out)
         }
-        "range" => expression(alloc, row, Wanted::Range, depth, out),
-        "target" => expression(alloc, row, Wanted::Target, depth, out),
-        "call" => expression(alloc, row, Wanted::Call, depth, out),
-        "choice" => expression(alloc, row, Wanted::Choice, depth, out),
-        "types" => types(alloc, row, Told::Marked, out),
-        "type_places" => types(alloc, row, Told::Counted, out),
-        "type_table" => type_table(alloc, row, 2, 4, out),
-        "all_types" => type_table(alloc, row, 0, 0, out),
-        _ => answer_more(alloc, asked, row, out),
+        "range" => expression(alloc, question, Wanted::Range, depth, out),
+        "target" => expression(alloc, question, Wanted::Target, depth, out),
+        "call" => expression(alloc, question, Wanted::Call, depth, out),
+        "choice" => expression(alloc, question, Wanted::Choice, depth, out),
+        "types" => types(alloc, question, Told::Marked, out),
+        "type_places" => types(alloc, question, Told::Counted, out),
+        "type_table" => type_table(alloc, question, 2, 4, out),
+        "all_types" => type_table(alloc, question, 0, 0, out),
+        _ => answer_more(alloc, asked, question, out),
     }
 }
 
-// Answers a row on its own text, on the other subjects.
+// Answers a question on its own text, on the other subjects.
 fn answer_more(
     alloc: Global,
     asked: Asked<'_, '_>,
-    row: &Row<'_>,
+    question: &Question<'_>,
     out: &mut String,
 ) -> Result<(), Memory> {
     match asked.subject {
-        "read" => read(alloc, row, out),
-        "printed" => print_row(alloc, row, out),
-        "text_len" => printed_len(alloc, row, out),
-        "outline" => outline(alloc, row, out),
-        "fronts" => fronts(alloc, row, out),
-        "copy" => copy(alloc, row, out),
-        "built" => built(alloc, row, out),
-        "numbers" => numbers(alloc, row, out),
-        "events" => event(alloc, row, out),
-        "token_message" => token_message(alloc, row, out),
-        "text_message" => text_message(alloc, row, out),
-        "messages" => message(row, out),
-        "seed" => Ok(seeded(asked.rest, row, out)?),
-        "choices_file" => choices_file(alloc, row, out),
-        _ => Ok(row.answer(out, "no subject of that name")?),
+        "read" => read(alloc, question, out),
+        "printed" => print_question(alloc, question, out),
+        "text_len" => printed_len(alloc, question, out),
+        "outline" => outline(alloc, question, out),
+        "fronts" => fronts(alloc, question, out),
+        "copy" => copy(alloc, question, out),
+        "built" => built(alloc, question, out),
+        "normal" => normal_question(alloc, question, asked.rest, out),
+        "numbers" => numbers(alloc, question, out),
+        "events" => event(alloc, question, out),
+        "token_message" => token_message(alloc, question, out),
+        "text_message" => text_message(alloc, question, out),
+        "messages" => message(question, out),
+        "seed" => Ok(seeded(asked.rest, question, out)?),
+        "choices_file" => choices_file(alloc, question, out),
+        _ => Ok(question.answer(out, "no subject of that name")?),
     }
 }

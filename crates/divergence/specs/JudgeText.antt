@@ -27,6 +27,7 @@ cause_word cause.Offer = codes "offer"
 abbrev pub cause_line : Why → List ℕ
 cause_line why = codes "cause " ⧺ (cause_word why.cause ⧺ number_line (codes " ") why.task)
 
+-- the line of the event that a verdict is about
 abbrev pub event_line : Event → List ℕ
 event_line e = codes "event " ⧺ (event_text e ⧺ codes "\n")
 
@@ -35,6 +36,7 @@ abbrev pub title : List (List ℕ) → ℕ → Option TaskInfo → List ℕ
 title names t None = []
 title names t (Some info) = task_text names t info
 
+-- the number and the name of the task with this number, nothing where the program has no such task
 abbrev pub title_of : List (List ℕ) → Numbering → ℕ → List ℕ
 title_of names numbers t = title names t (task_at numbers t)
 

@@ -1,6 +1,5 @@
 -- What each action does: the state after it and its event, one clause for each (9.4, 9.5, 9.7, 9.10, 11.4.1, 11.5; the rules of abort are this project's).
-use Rattle.std.specs.Prelude.{ℕ, ℤ, Bool, true, false, not, ◌==◌, if◌then◌else◌, List, [], ◌∷◌, ◌++◌, filter, Option, Some, None}
-use Rattle.event_machine.specs.declared.CallForm.{CallForm}
+use Rattle.std.specs.Prelude.{ℕ, ℤ, true, false, not, ◌==◌, if◌then◌else◌, List, [], ◌∷◌, ◌++◌, filter, Option, Some, None}
 use Rattle.event_machine.specs.declared.Standing.{Standing}
 use Rattle.event_machine.specs.declared.Standing.TheVariants.{Live, Waiting, Queued, Served, Completed, Killed}
 use Rattle.event_machine.specs.declared.Action.{Action}
@@ -31,6 +30,7 @@ arrived_standing Finishes = Live
 arrived_standing Ends = Live
 arrived_standing (Aborts x) = Live
 
+-- what arriving makes of the line: a caller joins it at the end, another task does not (9.5)
 abbrev pub arrived_line : ℕ → Offer → List ℕ → List ℕ
 arrived_line t Nothing line = line
 arrived_line t (Calls form e i) line = line ++ t ∷ []
@@ -45,6 +45,7 @@ met_at rules seats c e i =
     stand rules.store (freed rules.store (λ l. rules.ops.accepted e i c (rules.store.at seats c).local l) seats (rules.owner e))
     c (Served (rules.owner e) false)
 
+-- the tasks after the rendezvous that c calls has started; without a call nothing changes (9.5)
 abbrev pub met : {L C : Type 0} → Rules L C → C → ℕ → Offer → C
 met rules seats c Nothing = seats
 met rules seats c (Calls form e i) = met_at rules seats c e i
@@ -104,9 +105,11 @@ abort_seats rules seats t x =
     then went_on rules seats t x
     else aborted rules (went_on rules seats t x) x (if x == t then Completed else Killed)
 
+-- the line after an abort of x: an x that is not closed leaves it (9.10)
 abbrev pub abort_line : {L C : Type 0} → Rules L C → State C → ℕ → List ℕ
 abort_line rules s x = if is_closed (rules.store.at s.seats x).standing then s.line else without x s.line
 
+-- the state after t aborts the task that is named; where none is named nothing changes (9.10)
 abbrev pub after_abort : {L C : Type 0} → Rules L C → State C → ℕ → Option ℕ → State C
 after_abort rules s t None = s
 after_abort rules s t (Some x) = record { seats = abort_seats rules s.seats t x; line = abort_line rules s x; ended = s.ended }
@@ -119,6 +122,7 @@ with_seats s seats = record { seats = seats; line = s.line; ended = s.ended }
 abbrev pub with_left : {C : Type 0} → State C → C → ℕ → State C
 with_left s seats c = record { seats = seats; line = without c s.line; ended = s.ended }
 
+-- what the task t offers in this state
 abbrev pub offer_of_task : {L C : Type 0} → Rules L C → State C → ℕ → Offer
 offer_of_task rules s t = rules.ops.offer (rules.store.at s.seats t).local
 
@@ -150,6 +154,7 @@ call_event make Finishes = None
 call_event make Ends = None
 call_event make (Aborts x) = None
 
+-- the event that t aborts x; none where no task is named (9.10)
 abbrev pub abort_event : ℕ → Option ℕ → Option Event
 abort_event t None = None
 abort_event t (Some x) = Some (B t x)

@@ -1,5 +1,5 @@
 -- What a task offers: what it can do with others where it stands (9.5, 9.7, 9.10), and tests on offers.
-use Rattle.std.specs.Prelude.{ℕ, ℤ, Bool, true, false, ◌&&◌, ◌==◌, List, [], ◌∷◌, Option, Some, None, is_some}
+use Rattle.std.specs.Prelude.{ℕ, ℤ, Bool, true, false, ◌&&◌, ◌==◌, List, Option, Some, None}
 use Rattle.std.specs.List.{list_any}
 use Rattle.std.specs.Ordering.{int_eq}
 use Rattle.event_machine.specs.declared.CallForm.{CallForm}
@@ -33,11 +33,13 @@ queues_up Plain = true
 queues_up Conditional = false
 queues_up Timed = true
 
+-- the call is a conditional entry call (9.7.2)
 abbrev pub is_conditional : CallForm → Bool
 is_conditional Plain = false
 is_conditional Conditional = true
 is_conditional Timed = false
 
+-- the call is a timed entry call (9.7.3)
 abbrev pub is_timed : CallForm → Bool
 is_timed Plain = false
 is_timed Conditional = false
@@ -65,6 +67,7 @@ waits_with test Finishes = false
 waits_with test Ends = false
 waits_with test (Aborts x) = false
 
+-- the offer is that of a task at the end of its innermost accept body (9.5)
 abbrev pub is_finish : Offer → Bool
 is_finish Nothing = false
 is_finish (Calls form e i) = false
@@ -73,6 +76,7 @@ is_finish Finishes = true
 is_finish Ends = false
 is_finish (Aborts x) = false
 
+-- the offer is that of a task at the end of its own body (9.4)
 abbrev pub is_end : Offer → Bool
 is_end Nothing = false
 is_end (Calls form e i) = false
@@ -97,18 +101,21 @@ opens e i Else = false
 opens e i (Delay k) = false
 opens e i Terminate = false
 
+-- the choice is the else part (9.7.1)
 abbrev pub is_else : Choice → Bool
 is_else (Accept e i) = false
 is_else Else = true
 is_else (Delay k) = false
 is_else Terminate = false
 
+-- the choice is the delay alternative with the number k (9.7.1)
 abbrev pub is_delay : ℕ → Choice → Bool
 is_delay k (Accept e i) = false
 is_delay k Else = false
 is_delay k (Delay l) = k == l
 is_delay k Terminate = false
 
+-- the choice is the terminate alternative (9.7.1)
 abbrev pub is_terminate : Choice → Bool
 is_terminate (Accept e i) = false
 is_terminate Else = false

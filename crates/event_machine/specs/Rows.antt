@@ -3,14 +3,14 @@
 use Rattle.std.specs.Prelude.{ℕ, ℤ, Bool, true, false, not, ◌&&◌, ◌||◌, ◌==◌, suc, pred, zero, List, [], ◌∷◌, ◌++◌, filter, Option, Some, None, is_some}
 use Rattle.std.specs.List.{filter_map}
 use Rattle.event_machine.specs.declared.CallForm.{CallForm}
-use Rattle.event_machine.specs.declared.CallForm.TheVariants.{Plain, Conditional, Timed}
 use Rattle.event_machine.specs.declared.Choice.{Choice}
 use Rattle.event_machine.specs.declared.Choice.TheVariants.{Accept, Else as ElseChoice, Delay as DelayChoice, Terminate}
 use Rattle.event_machine.specs.declared.Action.{Action}
 use Rattle.event_machine.specs.declared.Action.TheVariants.{Local, Arrive, Start, Finish, Else, Delay, CallElse, Expire, Fail, Complete, Abort, End}
 use Rattle.event_machine.specs.Offers.{Offer, Nothing, Calls, Waits, Finishes, Ends, Aborts, calls_in, is_any_form, queues_up, is_conditional, is_timed, waits_with, is_finish, is_end, aborted_by, opens, is_else, is_delay, is_terminate}
-use Rattle.event_machine.specs.Seats.{Ops, Seat, State, Store, Rules, Seen, seen, is_live, is_waiting, is_queued, is_completed, is_closed}
+use Rattle.event_machine.specs.Seats.{Ops, Seat, State, Rules, Seen, seen, is_live, is_waiting, is_queued, is_completed, is_closed}
 
+-- what the task with this number offers
 abbrev pub offer_at : {L : Type 0} → Ops L → Seen L → ℕ → Offer
 offer_at ops s t = ops.offer (s.tasks t).local
 
@@ -27,6 +27,7 @@ abbrev pub is_first : ℕ → List ℕ → Bool
 is_first c [] = false
 is_first c (x ∷ xs) = x == c
 
+-- no caller stands in the queue (9.5)
 abbrev pub is_empty : List ℕ → Bool
 is_empty [] = true
 is_empty (x ∷ xs) = false
@@ -75,6 +76,7 @@ calls_owner form_test closed_test owner s Finishes = false
 calls_owner form_test closed_test owner s Ends = false
 calls_owner form_test closed_test owner s (Aborts x) = false
 
+-- the test that the truth value is true, where `not` is the test that it is false
 abbrev pub same : Bool → Bool
 same b = b
 

@@ -35,12 +35,15 @@ pub record Seat (L : Type 0) : Type 0 where
   pub local : L
   pub standing : Standing
 
+-- a task with this state that is live
 abbrev pub live : {L : Type 0} → L → Seat L
 live l = record { local = l; standing = Live }
 
+-- a task with this state that has completed (9.4)
 abbrev pub completed : {L : Type 0} → L → Seat L
 completed l = record { local = l; standing = Completed }
 
+-- it is live: it does not wait, is in no queue and no caller in a rendezvous, and has not completed
 abbrev pub is_live : Standing → Bool
 is_live Live = true
 is_live Waiting = false
@@ -49,6 +52,7 @@ is_live (Served by abnormal) = false
 is_live Completed = false
 is_live Killed = false
 
+-- it waits to accept: at an accept statement or a selective wait (9.5, 9.7.1)
 abbrev pub is_waiting : Standing → Bool
 is_waiting Live = false
 is_waiting Waiting = true
@@ -57,6 +61,7 @@ is_waiting (Served by abnormal) = false
 is_waiting Completed = false
 is_waiting Killed = false
 
+-- it is a caller in an entry's queue (9.5)
 abbrev pub is_queued : Standing → Bool
 is_queued Live = false
 is_queued Waiting = false
@@ -153,5 +158,6 @@ pub record Seen (L : Type 0) : Type 0 where
   pub size : ℕ
   pub line : List ℕ
 
+-- what the conditions of actions read of this state
 abbrev pub seen : {L C : Type 0} → Rules L C → State C → Seen L
 seen rules s = record { tasks = λ t. rules.store.at s.seats t; size = rules.store.size s.seats; line = s.line }

@@ -18,6 +18,7 @@ pub record InputLine : Type 0 where
   pub task : ℕ
   pub values : List ℤ
 
+-- a line with this task's number and these integers
 abbrev pub input_with : ℕ → List ℤ → InputLine
 input_with task values = record { task = task; values = values }
 

@@ -1,8 +1,8 @@
 -- The run loop: where it stands after each turn, and what it has come to as it leaves.
-use Rattle.std.proofs.Common.{◌≡◌, ℕ, zero, suc, ◌+◌, ◌-◌, ◌<◌, ◌≤◌, List, [], ◌∷◌, ◌++◌, ap, sym, subst, ◌∙◌, refl, arith, add-one, zero-add, suc-add, append-nil, append_assoc, Option, Some, None, ◌⊎◌, inl, inr}
+use Rattle.std.proofs.Common.{◌≡◌, ℕ, zero, suc, ◌+◌, ◌-◌, ◌<◌, ◌≤◌, List, [], ◌++◌, ap, sym, subst, ◌∙◌, refl, arith, add-one, zero-add, suc-add, append-nil, append_assoc, Option, Some, None}
 use Rattle.std.specs.Prelude.{option_to_list, unwrap_or}
 use Rattle.ded_io.specs.Counts.{Rose}
-use Rattle.ded_io.specs.Written.{Began, appended, each_text, ◌⧺◌}
+use Rattle.ded_io.specs.Written.{Began, appended}
 use Rattle.ded_io.proofs.Writes.{appended-appended, appended-nil, began_then, joined}
 use Rattle.ded_io.proofs.Members.{each_text-append}
 use Rattle.event_machine.specs.declared.Action.{Action}

@@ -1,5 +1,5 @@
 -- One turn of a run: the picked action applies, and its line is written.
-use Rattle.std.proofs.Common.{◌≡◌, ℕ, zero, suc, ◌+◌, ◌<◌, ◌%◌, Bool, true, false, not, ◌&&◌, List, [], ◌∷◌, length, filter, slice_index_or, ap, sym, subst, ◌∙◌, refl, arith, Option, Some, None, Result, Ok, Err, inl, inr, cond, ◌++◌}
+use Rattle.std.proofs.Common.{◌≡◌, ℕ, zero, suc, ◌+◌, ◌<◌, ◌%◌, Bool, true, false, List, [], ◌∷◌, length, filter, slice_index_or, ap, sym, subst, ◌∙◌, refl, arith, Option, None, Ok, Err, cond, ◌++◌}
 use Rattle.std.proofs.Math.Nat.{mod-lt}
 use Rattle.std.specs.Prelude.{option_to_list}
 use Rattle.ded_io.specs.Counts.{Rose}

@@ -6,7 +6,7 @@ use Rattle.syn_event.specs.Numbering.{Numbering}
 use Rattle.task_model.specs.Machine.{Whole}
 use Rattle.interp.specs.declared.report.RunError.{RunError}
 use Rattle.interp.specs.declared.report.RunError.TheVariants.{Memory, Sink}
-use Rattle.run_model.specs.Picked.{Position, picked}
+use Rattle.run_model.specs.Picked.{picked}
 use Rattle.run_model.specs.Lines.{lines_of}
 
 -- the lines of the first k actions of the picked run

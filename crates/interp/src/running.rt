@@ -6,6 +6,7 @@ ghost use Rattle.ded_io.specs.Counts.{Rose, HasCause};
 ghost use Rattle.ded_io.specs.Written.{Wrote, appended};
 ghost use Rattle.interp.specs.CutOff.{IsCutOff};
 ghost use Rattle.interp.specs.inner.Chosen.{IsChosen, IsBroken};
+ghost use Rattle.interp.specs.inner.Listed.{IsListed, IsListedFor, steps_again};
 ghost use Rattle.run_model.specs.Lines.{event_line, lines_of};
 ghost use Rattle.run_model.specs.Picked.{picked, ending, halted};
 ghost use Rattle.task_model.specs.Machine.{after, event_of, enabled_of};
@@ -71,13 +72,17 @@ enum Turn {
     Make(Action),
 }
 
-// How the run ends here by itself, if it does; `actions` becomes the list of the actions that apply where it does not.
-fn standing(m: &Machine, actions: &mut Vec<Action>) -> Result<Option<RunEnd>, Memory>
+// How the run ends here by itself, if it does; `actions` becomes the list of the actions that apply where it does not. A list that is kept is that already.
+fn standing(m: &Machine, is_kept: bool, actions: &mut Vec<Action>) -> Result<Option<RunEnd>, Memory>
+    requires { is_kept ≡ true → IsListed m.now actions.old.items }
     ensures halted { IfOk result (λ end. end ≡ halted m.now) }
     ensures listed { IfOk result (λ end. end ≡ None → actions.new.items ≡ enabled_of m.now) }
     ensures some { IfOk result (λ end. end ≡ None → 0 < length actions.new.items) }
     ensures few { IfOk result (λ end. end ≡ None → length actions.new.items < 2 ^ 32) }
 {
+    if is_kept {
+        return Ok(None);
+    }
     if m.ended() {
         return Ok(Some(RunEnd::Ended));
     }
@@ -89,16 +94,19 @@ fn standing(m: &Machine, actions: &mut Vec<Action>) -> Result<Option<RunEnd>, Me
     }
 }
 
-// What the next choice picks.
+// What the next choice picks, from a list that is kept or asked for.
 fn choose<C: Chooser>(
     m: &Machine,
     choices: &mut C,
+    is_kept: bool,
     actions: &mut Vec<Action>,
 ) -> Result<Turn, Memory>
+    requires { is_kept ≡ true → IsListed m.now actions.old.items }
     ensures chosen { IfOk result (IsChosen C.word C.next m.now choices.old choices.new) }
+    ensures listed { IfOk result (IsListedFor m.now actions.new.items) }
     ensures unchanged { OnErr result (choices.new ≡ choices.old) }
 {
-    match standing(m, actions)? {
+    match standing(m, is_kept, actions)? {
         Some(end) => Ok(Turn::Halted(end)),
         None => Ok(Turn::Make(pick_of(actions, choices))),
     }
@@ -113,6 +121,16 @@ fn pick_of<C: Chooser>(actions: &[Action], choices: &mut C) -> Action
 {
     let place = choices.pick(actions.len() as u32);
     actions[place as usize]
+}
+
+// The action was a local step of a task that has another one: the actions that apply are the same as before it.
+fn steps_again(m: &Machine, action: Action) -> bool
+    ensures { result ≡ steps_again m.now action }
+{
+    match action {
+        Action::Local { t } => m.can_apply(Action::Local { t }),
+        _ => false,
+    }
 }
 
 // Makes an action, which applies, and writes the line of its event.
@@ -162,17 +180,18 @@ pub fn run<C: Chooser, K: Sink>(
     ensures cause { IsErrOf result RunError.Sink → Rose (K.faults out.old) (K.faults out.new) }
 {
     let mut actions = Vec::new(alloc);
+    let mut is_kept = false;
     for turn in 0..turns {
-        match choose(m, choices, &mut actions) {
+        match choose(m, choices, is_kept, &mut actions) {
             Ok(Turn::Halted(end)) => return Ok(RunReport { end, made: turn }),
             Ok(Turn::Make(action)) => match make(m, action, numbers, out) {
-                Ok(()) => {}
+                Ok(()) => is_kept = steps_again(m, action),
                 Err(e) => return Err(e),
             },
             Err(_) => return Err(RunError::Memory),
         }
     }
-    match standing(m, &mut actions) {
+    match standing(m, is_kept, &mut actions) {
         Ok(Some(end)) => Ok(RunReport { end, made: turns }),
         Ok(None) => Ok(RunReport {
             end: RunEnd::Turns,

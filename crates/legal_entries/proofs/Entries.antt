@@ -1,24 +1,19 @@
 -- The entries of a task in the numbers are those that its task or task type declares.
-use Rattle.std.proofs.Common.{◌≡◌, ℕ, zero, suc, ◌+◌, ◌-◌, ◌<◌, Bool, true, false, ◌==◌, ◌&&◌, cond, if◌then◌else◌, List, [], ◌∷◌, ◌++◌, map, find, slice_get, option_map, unwrap_or, Option, Some, None, is_some, refl, sym, ap, ◌∙◌, subst, true≢false, arith}
-use Rattle.std.specs.List.{AllByRecursion, position}
+use Rattle.std.proofs.Common.{◌≡◌, ℕ, zero, suc, ◌+◌, ◌-◌, Bool, false, ◌==◌, ◌&&◌, if◌then◌else◌, List, [], ◌∷◌, map, find, slice_get, option_map, unwrap_or, Option, Some, None, is_some, refl, sym, ap, ◌∙◌, subst, arith}
 use Rattle.std.proofs.lemmas.Option.{none-some}
-use Rattle.std.proofs.lemmas.Bool.{eq-eqb, eqb-true, ne_eqb, and_left}
+use Rattle.std.proofs.lemmas.Bool.{eq-eqb, eqb-true, ne_eqb}
 use Rattle.ada_tree.specs.declared.naming.NameId.{NameId}
 use Rattle.ada_tree.specs.TypeTable.{TypeTable}
-use Rattle.ada_tree.specs.PlainExpr.{PDrange}
-use Rattle.ada_tree.specs.PlainStmt.{PFormal}
 use Rattle.ada_tree.specs.PlainDecl.{PEntry, PTask}
 use Rattle.ada_tree.specs.PlainProgram.{PProgram}
-use Rattle.syn_event.specs.declared.numbering.TaskInfo.{TaskInfo}
 use Rattle.syn_event.specs.declared.numbering.EntryInfo.{EntryInfo}
-use Rattle.syn_event.specs.Numbering.{Numbering, task_at, entry_at, entry_named}
-use Rattle.syn_event.specs.Numbered.{with_origin, with_origins, task_info}
-use Rattle.syn_event.specs.TaskParts.{Seat, seats}
-use Rattle.syn_event.specs.AllNumbers.{seat_info, seat_entry, seat_entries, all_numbers, family_extent, first_of, last_of}
-use Rattle.task_model.specs.Setting.{Setting, entry_of, is_family, is_family_in, family_limits, unit_named, formals_of_entry, formals_in, formals_of_unit, formals_of_info}
-use Rattle.ada_value.specs.declared.values.Limits.{Limits}
+use Rattle.syn_event.specs.Numbering.{Numbering, task_at, entry_at}
+use Rattle.syn_event.specs.Numbered.{with_origin}
+use Rattle.syn_event.specs.NamedTasks.{NumberedTask, numbered_tasks}
+use Rattle.syn_event.specs.AllNumbers.{info_of_task, entry_of_task, entries_of_tasks, all_numbers, family_extent, first_of, last_of}
+use Rattle.task_model.specs.Setting.{Setting, entry_of, is_family, is_family_in, unit_named, formals_of_entry, formals_in, formals_of_unit, formals_of_info}
 use Rattle.normal_model.specs.Ranges.{range_of_entry, range_in, range_of_unit, range_of_info, family_range}
-use Rattle.legal_entries.proofs.Lists.{some-same, find-front, find-behind, find-mapped, find-nothing, found-passes, found-place}
+use Rattle.legal_entries.proofs.Lists.{some-same, find-front, find-behind, find-mapped, found-passes, found-place}
 
 -- the entry of a name among those that a task declares
 abbrev pub entry_in : PTask → NameId → Option PEntry
@@ -31,30 +26,30 @@ is_of t id info = (info.owner == t) && (info.name.0 == id.0)
 
 module _ (names : List (List ℕ)) (T : TypeTable) where
   -- entries of another owner
-  not-owned : (n t : ℕ) (x : Seat) (id : NameId) → (n == t) ≡ false → (es : List PEntry) → find (is_of t id) (map (seat_entry names T n x) es) ≡ None
+  not-owned : (n t : ℕ) (x : NumberedTask) (id : NameId) → (n == t) ≡ false → (es : List PEntry) → find (is_of t id) (map (entry_of_task names T n x) es) ≡ None
   not-owned n t x id ne [] = refl
   not-owned n t x id ne (e ∷ es) =
-      ap (λ b. if b && (e.name.name.0 == id.0) then Some (seat_entry names T n x e) else find (is_of t id) (map (seat_entry names T n x) es)) ne ∙ not-owned n t x id ne es
+      ap (λ b. if b && (e.name.name.0 == id.0) then Some (entry_of_task names T n x e) else find (is_of t id) (map (entry_of_task names T n x) es)) ne ∙ not-owned n t x id ne es
 
   -- of the owner
-  owned-found : (t : ℕ) (x : Seat) (id : NameId) (es : List PEntry) (e : PEntry) → find (λ (y : PEntry). y.name.name.0 == id.0) es ≡ Some e →
-      find (is_of t id) (map (seat_entry names T t x) es) ≡ Some (seat_entry names T t x e)
+  owned-found : (t : ℕ) (x : NumberedTask) (id : NameId) (es : List PEntry) (e : PEntry) → find (λ (y : PEntry). y.name.name.0 == id.0) es ≡ Some e →
+      find (is_of t id) (map (entry_of_task names T t x) es) ≡ Some (entry_of_task names T t x e)
   owned-found t x id es e f =
-      find-mapped (is_of t id) (λ (y : PEntry). y.name.name.0 == id.0) (seat_entry names T t x) (λ y. ap (λ b. b && (y.name.name.0 == id.0)) (eq-eqb t t refl)) es
-      ∙ ap (option_map (seat_entry names T t x)) f
+      find-mapped (is_of t id) (λ (y : PEntry). y.name.name.0 == id.0) (entry_of_task names T t x) (λ y. ap (λ b. b && (y.name.name.0 == id.0)) (eq-eqb t t refl)) es
+      ∙ ap (option_map (entry_of_task names T t x)) f
 
-  seats-found : (xs : List Seat) (n k t : ℕ) (x : Seat) (id : NameId) (e : PEntry) → t ≡ n + k → slice_get xs k ≡ Some x → entry_in x.unit id ≡ Some e →
-      find (is_of t id) (seat_entries names T n xs) ≡ Some (seat_entry names T t x e)
-  seats-found [] n k t x id e q at f = absurd (none-some x at)
-  seats-found (y ∷ xs) n zero t x id e q at f =
+  numbered-tasks-found : (xs : List NumberedTask) (n k t : ℕ) (x : NumberedTask) (id : NameId) (e : PEntry) → t ≡ n + k → slice_get xs k ≡ Some x → entry_in x.unit id ≡ Some e →
+      find (is_of t id) (entries_of_tasks names T n xs) ≡ Some (entry_of_task names T t x e)
+  numbered-tasks-found [] n k t x id e q at f = absurd (none-some x at)
+  numbered-tasks-found (y ∷ xs) n zero t x id e q at f =
       let same : t ≡ n = omega arith in
       let here : y ≡ x = some-same at in
-      find-front (is_of t id) (map (seat_entry names T n y) y.unit.entries) (seat_entries names T (n + 1) xs) (seat_entry names T t x e)
-      (subst (λ m. find (is_of t id) (map (seat_entry names T m y) y.unit.entries) ≡ Some (seat_entry names T t x e)) same
-      (subst (λ z. find (is_of t id) (map (seat_entry names T t z) z.unit.entries) ≡ Some (seat_entry names T t x e)) (sym here) (owned-found t x id x.unit.entries e f)))
-  seats-found (y ∷ xs) n (suc k) t x id e q at f =
-      find-behind (is_of t id) (map (seat_entry names T n y) y.unit.entries) (seat_entries names T (n + 1) xs) (not-owned n t y id (ne_eqb n t (λ s. omega (arith, s, q))) y.unit.entries)
-      ∙ seats-found xs (n + 1) k t x id e (omega (arith, q)) at f
+      find-front (is_of t id) (map (entry_of_task names T n y) y.unit.entries) (entries_of_tasks names T (n + 1) xs) (entry_of_task names T t x e)
+      (subst (λ m. find (is_of t id) (map (entry_of_task names T m y) y.unit.entries) ≡ Some (entry_of_task names T t x e)) same
+      (subst (λ z. find (is_of t id) (map (entry_of_task names T t z) z.unit.entries) ≡ Some (entry_of_task names T t x e)) (sym here) (owned-found t x id x.unit.entries e f)))
+  numbered-tasks-found (y ∷ xs) n (suc k) t x id e q at f =
+      find-behind (is_of t id) (map (entry_of_task names T n y) y.unit.entries) (entries_of_tasks names T (n + 1) xs) (not-owned n t y id (ne_eqb n t (λ s. omega (arith, s, q))) y.unit.entries)
+      ∙ numbered-tasks-found xs (n + 1) k t x id e (omega (arith, q)) at f
 
 -- ---- in the numbers
 
@@ -66,13 +61,13 @@ module _ (p : PProgram) (T : TypeTable) where
   g = record { program = p; types = T; numbers = numbers }
 
   abbrev plain_entries : List EntryInfo
-  plain_entries = seat_entries p.names T 1 (seats T p)
+  plain_entries = entries_of_tasks p.names T 1 (numbered_tasks T p)
 
   -- the task of a number is of that unit, which is found by its name
-  pub record IsTaskOf (t : ℕ) (x : Seat) : Type 0 where
+  pub record IsTaskOf (t : ℕ) (x : NumberedTask) : Type 0 where
     pub place : ℕ
     pub number : t ≡ suc place
-    pub seat : slice_get (seats T p) place ≡ Some x
+    pub numbered_task : slice_get (numbered_tasks T p) place ≡ Some x
     pub unit : unit_named p x.unit.name.name ≡ Some x.unit
 
   -- What is known of the entry of a name that a task has.
@@ -85,32 +80,32 @@ module _ (p : PProgram) (T : TypeTable) where
     pub first : info.first ≡ first_of (family_extent T e.family)
     pub last : info.last ≡ last_of (family_extent T e.family)
 
-  pub mapped-at : (xs : List Seat) (k : ℕ) (x : Seat) → slice_get xs k ≡ Some x → slice_get (map (seat_info p.names) xs) k ≡ Some (seat_info p.names x)
+  pub mapped-at : (xs : List NumberedTask) (k : ℕ) (x : NumberedTask) → slice_get xs k ≡ Some x → slice_get (map (info_of_task p.names) xs) k ≡ Some (info_of_task p.names x)
   mapped-at [] k x e = absurd (none-some x e)
-  mapped-at (y ∷ xs) zero x e = ap (λ z. Some (seat_info p.names z)) (some-same e)
+  mapped-at (y ∷ xs) zero x e = ap (λ z. Some (info_of_task p.names z)) (some-same e)
   mapped-at (y ∷ xs) (suc k) x e = mapped-at xs k x e
 
-  pub task-there : (t : ℕ) (x : Seat) → IsTaskOf t x → task_at numbers t ≡ Some (seat_info p.names x)
-  task-there t x h = ap (task_at numbers) h.number ∙ mapped-at (seats T p) h.place x h.seat
+  pub task-there : (t : ℕ) (x : NumberedTask) → IsTaskOf t x → task_at numbers t ≡ Some (info_of_task p.names x)
+  task-there t x h = ap (task_at numbers) h.number ∙ mapped-at (numbered_tasks T p) h.place x h.numbered_task
 
   at-number : (k : ℕ) → entry_at numbers (k + 1) ≡ slice_get numbers.entries k
   at-number k =
       let e : (k + 1) - 1 ≡ k = omega arith in
       ap (λ b. if b then None else slice_get numbers.entries ((k + 1) - 1)) (ne_eqb (k + 1) 0 (λ z. omega (arith, z))) ∙ ap (slice_get numbers.entries) e
 
-  pub entry-there : (t : ℕ) (x : Seat) (id : NameId) (e : PEntry) → IsTaskOf t x → entry_in x.unit id ≡ Some e → HasEntry t id e
+  pub entry-there : (t : ℕ) (x : NumberedTask) (id : NameId) (e : PEntry) → IsTaskOf t x → entry_in x.unit id ≡ Some e → HasEntry t id e
   entry-there t x id e h f =
-      let seat-entry : EntryInfo = seat_entry p.names T t x e in
-      let found = seats-found p.names T (seats T p) 1 h.place t x id e (let q : t ≡ 1 + h.place = omega (arith, h.number) in q) h.seat f in
-      let whole : find (is_of t id) numbers.entries ≡ Some (with_origin p.names plain_entries seat-entry) =
+      let numbered-task-entry : EntryInfo = entry_of_task p.names T t x e in
+      let found = numbered-tasks-found p.names T (numbered_tasks T p) 1 h.place t x id e (let q : t ≡ 1 + h.place = omega (arith, h.number) in q) h.numbered_task f in
+      let whole : find (is_of t id) numbers.entries ≡ Some (with_origin p.names plain_entries numbered-task-entry) =
       (find-mapped (is_of t id) (is_of t id) (with_origin p.names plain_entries) (λ y. refl) plain_entries ∙ ap (option_map (with_origin p.names plain_entries)) found) in
       let place = found-place (is_of t id) numbers.entries _ whole in
       let number : entry_of numbers t id ≡ place.0 + 1 = ap (λ o. unwrap_or (option_map (λ k. k + 1) o) 0) place.2 in
-      let there : entry_at numbers (entry_of numbers t id) ≡ Some (with_origin p.names plain_entries seat-entry) = (ap (entry_at numbers) number ∙ at-number place.0 ∙ place.1) in
+      let there : entry_at numbers (entry_of numbers t id) ≡ Some (with_origin p.names plain_entries numbered-task-entry) = (ap (entry_at numbers) number ∙ at-number place.0 ∙ place.1) in
       let named : entry_in x.unit e.name.name ≡ Some e =
       subst (λ n. find (λ (y : PEntry). y.name.name.0 == n) x.unit.entries ≡ Some e) (sym (eqb-true e.name.name.0 id.0 (found-passes (λ (y : PEntry). y.name.name.0 == id.0) x.unit.entries e f))) f in
       record {
-        info = with_origin p.names plain_entries seat-entry;
+        info = with_origin p.names plain_entries numbered-task-entry;
         at = there;
         is_family = ap is_family_in there;
         range = ap (range_of_info g) there ∙ ap (λ o. range_of_unit p o e.name.name) (task-there t x h) ∙ ap (λ o. range_in o e.name.name) h.unit ∙ ap range_of_entry named;

@@ -1,5 +1,5 @@
 -- What is found in lists, and where.
-use Rattle.std.proofs.Common.{◌≡◌, ℕ, zero, suc, ◌+◌, ◌<◌, Bool, true, false, ◌==◌, cond, if◌then◌else◌, List, [], ◌∷◌, ◌++◌, length, map, find, slice_get, option_map, Option, Some, None, refl, sym, ap, ◌∙◌, subst, true≢false, arith, not, nat_lt}
+use Rattle.std.proofs.Common.{◌≡◌, ℕ, suc, ◌+◌, ◌<◌, Bool, true, false, cond, if◌then◌else◌, List, [], ◌∷◌, ◌++◌, length, map, find, slice_get, option_map, Option, Some, None, refl, sym, ap, ◌∙◌, subst, true≢false, arith, not, nat_lt}
 use Rattle.std.specs.List.{AllByRecursion, position, position_or_len}
 use Rattle.std.proofs.lemmas.Option.{none-some}
 use Rattle.std.proofs.lemmas.Bool.{lt-ltb, ltb-true}

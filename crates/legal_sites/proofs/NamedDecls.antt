@@ -11,13 +11,13 @@ use Rattle.ada_tree.specs.declared.static_types.Kind.TheVariants.{Integer, Truth
 use Rattle.ada_tree.specs.declared.static_types.Mark.{Mark}
 use Rattle.ada_tree.specs.TypeTable.{TypeTable}
 use Rattle.ada_tree.specs.PlainExpr.{PExpr, PDrange, PSubind}
-use Rattle.ada_tree.specs.PlainDecl.{PShape, OPlain, ORow, PInit, IOne, IList, IOthers, PPriority, PEntry, PTask, PDecl, DNumber, DObject, DEnumeration, DArray, DSubtype, DException, DIntIo, DPragma, DTask, DTaskBody, PDecls, no_decl, decl_then}
+use Rattle.ada_tree.specs.PlainDecl.{PShape, OPlain, OArray, PInit, IOne, IList, IOthers, PPriority, PEntry, PTask, PDecl, DNumber, DObject, DEnumeration, DArray, DSubtype, DException, DIntIo, DPragma, DTask, DTaskBody, PDecls, no_decl, decl_then}
 use Rattle.ada_tree.specs.PlainProgram.{PProgram}
 use Rattle.ada_tree.specs.Every.{Rules, EveryWord, EveryExpr, EveryDrange, EveryShape, EveryInit, EveryEntry, EveryPriority, EveryTask, EveryDecl, EveryDecls, EveryProgram}
 use Rattle.ada_tree.specs.WellPlaced.{well_placed, AreObjects, IsWellPlaced}
-use Rattle.ada_tree.specs.Scope.{Scope, Range, integer_kind, Seen, Thing, TypeMark, TaskType, SingleTask, TaskObject, TaskRow, Variable, ConstantObject, Parameter, LoopParameter, Literal, AnException, MainProcedure, AnotherUnit, Unclear, EntryPart, Marking, ScalarMark, ArrayMark, TaskMark, NoMark, UnknownMark, UnclearMark, marking_of_kind, marking_of_mark, marking_of, marking, mark_at, kind_at, range_of_mark, meaning}
+use Rattle.ada_tree.specs.Scope.{Scope, Range, integer_kind, Seen, Thing, TypeMark, TaskType, SingleTask, TaskObject, TaskArray, Variable, ConstantObject, Parameter, LoopParameter, Literal, AnException, MainProcedure, AnotherUnit, Unclear, EntryPart, Marking, ScalarMark, ArrayMark, TaskMark, NoMark, UnknownMark, UnclearMark, marking_of_kind, marking_of_mark, marking_of, marking, mark_at, kind_at, range_of_mark, meaning}
 use Rattle.ada_tree.specs.Demand.{scalar_only, declares_entry, initializes, must_lie_in, for_scalar, for_array, Site}
-use Rattle.ada_tree.specs.Declaring.{seen_as, predefined_names, first_scope, with_types, with_name, with_names, inside, declared_object, plain_object, row_object, object_of, task_object, task_row, type_of_mark, task_thing, entry_part, own_entries, in_body, after_decl, after_own_object, after_objects, after_decls, with_constants}
+use Rattle.ada_tree.specs.Declaring.{seen_as, predefined_names, first_scope, with_types, with_name, with_names, inside, declared_object, plain_object, array_object, object_of, task_object, task_array, type_of_mark, task_thing, entry_part, own_entries, in_body, after_decl, after_own_object, after_objects, after_decls, with_constants}
 use Rattle.ada_tree.specs.Sites.{site, if_there, names_sites, static_of, shape_sites, component_marks, may_be_task, subind_sites, drange_sites, value_sites, free_value_sites, all_init_sites, array_init_sites, scalar_init_sites, init_sites, object_marking, is_task_object, object_sites, formals_sites, all_names, formal_mark_sites, entry_sites, entries_sites, task_sites, body_sites, own_object_sites, own_sites, decl_sites, decls_sites, sites}
 use Rattle.ada_tree.specs.RuleUnknown.{no_body_of}
 use Rattle.ada_tree.specs.Refusals.{MeetsTypeRules, types_in}
@@ -70,7 +70,7 @@ module _ (Own : ℕ → Type 0) (first : (k : ℕ) → k < 25 → Own k) (texts 
   thing-marking T (Some (TaskType es)) h = h (TaskType es) refl
   thing-marking T (Some (SingleTask es)) h = tt
   thing-marking T (Some (TaskObject es)) h = tt
-  thing-marking T (Some (TaskRow r es)) h = tt
+  thing-marking T (Some (TaskArray r es)) h = tt
   thing-marking T (Some (Variable m)) h = tt
   thing-marking T (Some (ConstantObject m)) h = tt
   thing-marking T (Some (Parameter mode m)) h = tt
@@ -100,7 +100,7 @@ module _ (Own : ℕ → Type 0) (first : (k : ℕ) → k < 25 → Own k) (texts 
   task-object true es h = (h, tt)
   task-object false es h = (tt, tt)
 
-  task-row : (in_main : Bool) (o : Option Range) (es : List EntryPart) → AllByRecursion (OwnPart Own) es → OwnOther (task_row in_main o es)
+  task-row : (in_main : Bool) (o : Option Range) (es : List EntryPart) → AllByRecursion (OwnPart Own) es → OwnOther (task_array in_main o es)
   task-row true (Some r) es h = (h, tt)
   task-row true None es h = (tt, tt)
   task-row false (Some r) es h = (tt, tt)
@@ -114,7 +114,7 @@ module _ (Own : ℕ → Type 0) (first : (k : ℕ) → k < 25 → Own k) (texts 
   plain-thing s constant UnknownMark x h = object-of constant _
   plain-thing s constant UnclearMark x h = object-of constant _
 
-  row-thing : (s : Scope) (constant : Bool) (m : Marking) (index : PDrange) (x : PSubind) → OwnMarking m → OwnOther (row_object s constant m index x).thing
+  row-thing : (s : Scope) (constant : Bool) (m : Marking) (index : PDrange) (x : PSubind) → OwnMarking m → OwnOther (array_object s constant m index x).thing
   row-thing s constant (TaskMark es) index x h = task-row s.in_main _ es h
   row-thing s constant (ArrayMark m r p) index x h = object-of constant _
   row-thing s constant (ScalarMark m k) index x h = object-of constant _
@@ -124,7 +124,7 @@ module _ (Own : ℕ → Type 0) (first : (k : ℕ) → k < 25 → Own k) (texts 
 
   declared-thing : (s : Scope) (constant : Bool) (x : PShape) → AllByRecursion (OwnSeen Own) s.names → OwnOther (declared_object s constant x).thing
   declared-thing s constant (OPlain x) names = plain-thing s constant (marking s x.mark.name) x (own-marking s x.mark.name names)
-  declared-thing s constant (ORow index x) names = row-thing s constant (marking s x.mark.name) index x (own-marking s x.mark.name names)
+  declared-thing s constant (OArray index x) names = row-thing s constant (marking s x.mark.name) index x (own-marking s x.mark.name names)
 
   typed : (T : TypeTable) (s : Scope) (a : CheckScope) → Around Own s a → Around Own (with_types T s) a
   typed T s a h = record { names = h.names; own = h.own; loops = h.loops; types = h.types; main = h.main }
@@ -184,7 +184,7 @@ module _ (Own : ℕ → Type 0) (first : (k : ℕ) → k < 25 → Own k) (texts 
 
     shape-own : (constant : Bool) (x : PShape) (init : Option PInit) → AllByRecursion IsFit (shape_sites s constant x init) → EveryShape R x
     shape-own constant (OPlain x) init h = subind-own Own first s names true _ 2 x h
-    shape-own constant (ORow index x) init h =
+    shape-own constant (OArray index x) init h =
         let marks = subind_sites true (component_marks (may_be_task s constant x.bounds init)) s x in
         (drange-own Own first s names true 2 index (all-front IsFit (drange_sites true s index) marks h), subind-own Own first s names true _ 2 x (all-back IsFit (drange_sites true s index) marks h))
 
@@ -331,7 +331,7 @@ module _ (Own : ℕ → Type 0) (first : (k : ℕ) → k < 25 → Own k) (texts 
     where
       object-after : (y : PShape) → Around Own (with_names (declared_object s c y).thing (with_types (with_constants s ws i (declared_object s c y)) s) ws) (check_after_object a ws c y)
       object-after (OPlain y) = objects-around _ _ y.mark _ ws _ a (object-words ws x i a m) (declared-thing s c (OPlain y) r.names) (typed _ s a r)
-      object-after (ORow q y) = objects-around _ _ y.mark _ ws _ a (object-words ws x i a m) (declared-thing s c (ORow q y) r.names) (typed _ s a r)
+      object-after (OArray q y) = objects-around _ _ y.mark _ ws _ a (object-words ws x i a m) (declared-thing s c (OArray q y) r.names) (typed _ s a r)
   decl-own (DEnumeration w ws sp) bodies s a p r h m =
       let o = words-own Own first texts declared a (w ∷ ws) m in
       ((tt, o.0, (tt, All-from_recursion (EveryWord R) ws o.1)), names-one Own _ ws _ a o.1 tt tt (name-one Own _ w _ a o.0 tt tt (typed _ s a r)))

@@ -13,7 +13,7 @@ use Rattle.ada_tree.specs.PlainStmt.{PTarget, PCallee, PArgs, PCall, PFormal, PP
 use Rattle.ada_tree.specs.Every.{Rules, no_rules, EveryWord, EveryExpr, EveryBounds, EverySubind, EveryDrange, EveryTarget, EveryCallee, EveryExprs, EveryArgs, EveryCall, EveryFormal, EveryPart, EveryText, EveryChoice}
 use Rattle.ada_tree.specs.Attributes.{Attribute, First, Last, Pos, Val, Succ, Pred, Image, attribute_of}
 use Rattle.ada_tree.specs.ExprTypes.{nodes}
-use Rattle.ada_tree.specs.Scope.{Scope, Range, Thing, SingleTask, TaskType, TaskObject, TaskRow, MainProcedure, Unclear, TypeMark, Variable, ConstantObject, Parameter, LoopParameter, Literal, AnException, AnotherUnit, Family, single, family, unclear, EntryPart, FormalPart, meaning, entry_named, marking, scalar_kind}
+use Rattle.ada_tree.specs.Scope.{Scope, Range, Thing, SingleTask, TaskType, TaskObject, TaskArray, MainProcedure, Unclear, TypeMark, Variable, ConstantObject, Parameter, LoopParameter, Literal, AnException, AnotherUnit, Family, single, family, unclear, EntryPart, FormalPart, meaning, entry_named, marking, scalar_kind}
 use Rattle.ada_tree.specs.Demand.{MarkUse, scalar_only, calls, node, must_not_be_empty, must_lie_in, is_written, Site}
 use Rattle.ada_tree.specs.Sites.{site, if_there, expr_sites, part_nodes, expr_of, static_of, static_if, bounds_sites, constraint_sites, subind_sites, drange_sites, free_value_sites, formal_mark_sites, callee_sites, written_actual_sites, actual_sites, actuals_sites, free_args_sites, args_sites, call_sites, part_sites, plain_part_sites, target_sites, choice_sites}
 use Rattle.ada_tree.specs.RuleUnknown.{no_attribute, missing, unknown_in_node, unknown_entry}
@@ -202,7 +202,7 @@ module _ (Own : ℕ → Type 0) (first : (k : ℕ) → k < 25 → Own k) where
     entry-called c None e clear some task type main entry = absurd (filled-not _ _ (sym (ap (λ (b : Bool). if b then c.entry ∷ [] else []) some)))
     entry-called c (Some (SingleTask es)) e clear some task type main entry = there es c.entry (means Own s c.task.name.name (SingleTask es) names e).1 entry
     entry-called c (Some (TaskObject es)) e clear some task type main entry = there es c.entry (means Own s c.task.name.name (TaskObject es) names e).1 entry
-    entry-called c (Some (TaskRow r es)) e clear some task type main entry = there es c.entry (means Own s c.task.name.name (TaskRow r es) names e).1 entry
+    entry-called c (Some (TaskArray r es)) e clear some task type main entry = there es c.entry (means Own s c.task.name.name (TaskArray r es) names e).1 entry
     entry-called c (Some (TaskType es)) e clear some task type main entry = absurd (type es refl)
     entry-called c (Some MainProcedure) e clear some task type main entry = absurd (main refl)
     entry-called c (Some Unclear) e clear some task type main entry = absurd (clear refl)

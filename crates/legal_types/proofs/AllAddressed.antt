@@ -4,7 +4,7 @@ use Rattle.std.specs.List.{AllByRecursion}
 use Rattle.ada_tree.specs.declared.naming.Word.{Word}
 use Rattle.ada_tree.specs.TypeTable.{TypeTable}
 use Rattle.ada_tree.specs.PlainExpr.{PExpr, PSubind}
-use Rattle.ada_tree.specs.PlainDecl.{PShape, OPlain, ORow, PInit, IOne, IList, IOthers, PPriority, PEntry, PTask, DNumber, DObject, DEnumeration, DArray, DSubtype, DException, DIntIo, DPragma, DTask, DTaskBody, PDecls, no_decl, decl_then}
+use Rattle.ada_tree.specs.PlainDecl.{PShape, OPlain, OArray, PInit, IOne, IList, IOthers, PPriority, PEntry, PTask, DNumber, DObject, DEnumeration, DArray, DSubtype, DException, DIntIo, DPragma, DTask, DTaskBody, PDecls, no_decl, decl_then}
 use Rattle.ada_tree.specs.PlainProgram.{PProgram}
 use Rattle.ada_tree.specs.WellPlaced.{IsWellPlaced}
 use Rattle.ada_tree.specs.Refusals.{MeetsTypeRules, types_in}
@@ -59,7 +59,7 @@ module _ (s : Scope) (c : IsClearScope s) where
 
   shape-clear : (constant : Bool) (shape : PShape) (init : Option PInit) → AllClear (shape_sites s constant shape init)
   shape-clear constant (OPlain x) init = subind-clear (object_marks (may_be_task s constant x.bounds init) x.bounds) x
-  shape-clear constant (ORow index x) init = clear-join (drange_sites true s index) _ (drange-clear s c true index) (subind-clear (component_marks (may_be_task s constant x.bounds init)) x)
+  shape-clear constant (OArray index x) init = clear-join (drange_sites true s index) _ (drange-clear s c true index) (subind-clear (component_marks (may_be_task s constant x.bounds init)) x)
 
   words-clear : (fixed : Bool) (ws : List Word) → AllClear (names_sites fixed s ws)
   words-clear fixed ws = names-clear s c fixed ws s.here

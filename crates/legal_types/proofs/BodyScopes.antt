@@ -9,14 +9,14 @@ use Rattle.ada_tree.specs.declared.static_types.Mark.{Mark}
 use Rattle.ada_tree.specs.TypeTable.{TypeTable}
 use Rattle.ada_tree.specs.PlainExpr.{PExpr, PBounds, PSubind, PDrange, RGiven, RMarked}
 use Rattle.ada_tree.specs.PlainStmt.{PBody}
-use Rattle.ada_tree.specs.PlainDecl.{PShape, OPlain, ORow, PInit, DNumber, DObject, DEnumeration, DArray, DSubtype, DException, DIntIo, DPragma, DTask, DTaskBody, PDecls, no_decl, decl_then}
+use Rattle.ada_tree.specs.PlainDecl.{PShape, OPlain, OArray, PInit, DNumber, DObject, DEnumeration, DArray, DSubtype, DException, DIntIo, DPragma, DTask, DTaskBody, PDecls, no_decl, decl_then}
 use Rattle.ada_tree.specs.Scope.{Scope, Range, Unclear, meaning, EntryPart, Marking, ScalarMark, ArrayMark, TaskMark, NoMark, UnknownMark, UnclearMark, marking, scalar_kind}
 use Rattle.ada_tree.specs.StaticValue.{is_static}
 use Rattle.ada_tree.specs.ExprTypes.{kind_of, static_in, static_range, range_between}
 use Rattle.ada_tree.specs.Demand.{scalar_only, stands_as_mark, Site}
 use Rattle.ada_tree.specs.RuleMismatch.{is_allowed}
 use Rattle.ada_tree.specs.Sites.{site, if_there, names_sites, expr_sites, constraint_sites, subind_sites, drange_sites, may_be_task, object_marks, component_marks, shape_sites, init_sites, object_marking, is_task_object, object_sites, own_object_sites, own_sites, body_sites, decl_sites, decls_sites}
-use Rattle.ada_tree.specs.Declaring.{inside, in_body, with_types, Made, made_range, subind_made, made_subind, given_range, marked_range, drange_range, made_array, object_of, Declared, add_constants, constant_mark, constant_value, plain_object, row_object, declared_object, with_constants, after_object, after_objects, after_decl}
+use Rattle.ada_tree.specs.Declaring.{inside, in_body, with_types, Made, made_range, subind_made, made_subind, given_range, marked_range, drange_range, made_array, object_of, Declared, add_constants, constant_mark, constant_value, plain_object, array_object, declared_object, with_constants, after_object, after_objects, after_decl}
 use Rattle.ada_value.specs.Values.{limits_or, limits_named}
 use Rattle.ada_value.specs.StaticLaw.{HasSmallLiterals}
 use Rattle.rewritten_types.specs.Agreement.{Keeps, Sound}
@@ -128,7 +128,7 @@ module _ (T : TypeTable) (s : Scope) (main : s.in_main ≡ false) (h : StandsWho
       by_marking UnclearMark e known a marked = absurd marked
 
   row-inner : (constant : Bool) (index : PDrange) (x : PSubind) → AllByRecursion IsMet (drange_sites true s index) → AllByRecursion IsMet (subind_sites true scalar_only s x) →
-      IsObject (row_object s constant (marking s x.mark.name) index x).types (row_object s constant (marking s x.mark.name) index x).thing
+      IsObject (array_object s constant (marking s x.mark.name) index x).types (array_object s constant (marking s x.mark.name) index x).thing
   row-inner constant index x mets met =
       let m = met.0 in
       let known = told (is_some (meaning s x.mark.name)) x.mark.span m.known in
@@ -137,7 +137,7 @@ module _ (T : TypeTable) (s : Scope) (main : s.in_main ≡ false) (h : StandsWho
       range : (r : Range) × (drange_range s index ≡ Some r)
       range = drange-light s index (drange-met s h.stands.over.clear index mets)
 
-      by_marking : (m : Marking) → marking s x.mark.name ≡ m → is_some (meaning s x.mark.name) ≡ true → is_allowed scalar_only m ≡ true → IsMarked s.types m → IsObject (row_object s constant m index x).types (row_object s constant m index x).thing
+      by_marking : (m : Marking) → marking s x.mark.name ≡ m → is_some (meaning s x.mark.name) ≡ true → is_allowed scalar_only m ≡ true → IsMarked s.types m → IsObject (array_object s constant m index x).types (array_object s constant m index x).thing
       by_marking (ScalarMark m k) e known a marked =
           light-object constant _ (array-light (made_subind s x) (drange_range s index) range.0 range.1 (subind-light s x (scalar-subtype x known (ap (is_allowed scalar_only) e) met.1)))
       by_marking (ArrayMark m r part) e known a marked = absurd (true≢false (sym a))
@@ -152,7 +152,7 @@ module _ (T : TypeTable) (s : Scope) (main : s.in_main ≡ false) (h : StandsWho
   shape-inner : (constant : Bool) (shape : PShape) (init : Option PInit) → AllByRecursion IsMet (shape_sites s constant shape init) → IsObject (declared_object s constant shape).types (declared_object s constant shape).thing
   shape-inner constant (OPlain x) init met =
       plain-inner constant x (subst (λ b. AllByRecursion IsMet (subind_sites true (object_marks b x.bounds) s x)) (no-task constant x.bounds init) met)
-  shape-inner constant (ORow index x) init met =
+  shape-inner constant (OArray index x) init met =
       let sub = subind_sites true (component_marks (may_be_task s constant x.bounds init)) s x in
       row-inner constant index x (all-front IsMet (drange_sites true s index) sub met)
       (subst (λ b. AllByRecursion IsMet (subind_sites true (component_marks b) s x)) (no-task constant x.bounds init) (all-back IsMet (drange_sites true s index) sub met))

@@ -9,7 +9,7 @@ use Rattle.ada_tree.specs.declared.static_types.Mark.{Mark}
 use Rattle.ada_tree.specs.TypeTable.{TypeTable}
 use Rattle.ada_tree.specs.PlainExpr.{PExpr, EInteger, EName, EIndex, EAttribute, EAttributeOf, EParen, EUnary, EBinary}
 use Rattle.ada_tree.specs.Attributes.{Attribute, First, Last, Pos, Val, Succ, Pred, Image, NoAttribute, attribute_of, is_bound, is_function, is_image}
-use Rattle.ada_tree.specs.Scope.{Scope, integer_kind, Thing, TypeMark, TaskType, SingleTask, TaskObject, TaskRow, Variable, ConstantObject, Parameter, LoopParameter, Literal, AnException, MainProcedure, AnotherUnit, Unclear, meaning, kind_at, mark_at, and_then, Reading, AsScalar, AsArray, AsNoValue, AsUnknown, AsUnclear, reading_of_kind, reading_of_mark, reading_of, reading, ScalarMark, marking_of_kind, marking_of_mark, marking_of, marking, scalar_kind, kind_of_mark}
+use Rattle.ada_tree.specs.Scope.{Scope, integer_kind, Thing, TypeMark, TaskType, SingleTask, TaskObject, TaskArray, Variable, ConstantObject, Parameter, LoopParameter, Literal, AnException, MainProcedure, AnotherUnit, Unclear, meaning, kind_at, mark_at, and_then, Reading, AsScalar, AsArray, AsNoValue, AsUnknown, AsUnclear, reading_of_kind, reading_of_mark, reading_of, reading, ScalarMark, marking_of_kind, marking_of_mark, marking_of, marking, scalar_kind, kind_of_mark}
 use Rattle.ada_tree.specs.ExprTypes.{nodes, Operand, takes, takes_one, is_taken, given_by, unary_kind, binary_kind, argument_kind, function_kind, bound_kind, if_kind, name_kind, component_kind, attribute_kind, kind_of, is_other_kind, place_of}
 use Rattle.ada_tree.specs.Demand.{scalar_only, node}
 use Rattle.ada_tree.specs.Sites.{site}
@@ -37,7 +37,7 @@ IsClearThing T (TypeMark m) = LeadsOn T m
 IsClearThing T (TaskType entries) = Unit {0}
 IsClearThing T (SingleTask entries) = Unit {0}
 IsClearThing T (TaskObject entries) = Unit {0}
-IsClearThing T (TaskRow range entries) = Unit {0}
+IsClearThing T (TaskArray range entries) = Unit {0}
 IsClearThing T (Variable m) = LeadsOn T m
 IsClearThing T (ConstantObject m) = LeadsOn T m
 IsClearThing T (Parameter mode m) = LeadsOn T m
@@ -111,7 +111,7 @@ thing-reads T sound (TypeMark m) h = tt
 thing-reads T sound (TaskType entries) h = tt
 thing-reads T sound (SingleTask entries) h = tt
 thing-reads T sound (TaskObject entries) h = tt
-thing-reads T sound (TaskRow range entries) h = tt
+thing-reads T sound (TaskArray range entries) h = tt
 thing-reads T sound AnException h = tt
 thing-reads T sound MainProcedure h = tt
 thing-reads T sound AnotherUnit h = tt
@@ -151,7 +151,7 @@ module _ (s : Scope) (clear : IsClear s) where
   thing-marks id (TaskType entries) f h e = absurd (true≢false (sym e))
   thing-marks id (SingleTask entries) f h e = absurd (true≢false (sym e))
   thing-marks id (TaskObject entries) f h e = absurd (true≢false (sym e))
-  thing-marks id (TaskRow range entries) f h e = absurd (true≢false (sym e))
+  thing-marks id (TaskArray range entries) f h e = absurd (true≢false (sym e))
   thing-marks id (Variable m) f h e = absurd (true≢false (sym e))
   thing-marks id (ConstantObject m) f h e = absurd (true≢false (sym e))
   thing-marks id (Parameter mode m) f h e = absurd (true≢false (sym e))

@@ -23,7 +23,7 @@ use Rattle.ada_value.specs.StaticLaw.{HasValueAt, HasFewLiterals}
 use Rattle.rewritten_types.specs.Agreement.{scalar_only, HasKind, IsScalar, Grows, Sound, Whole}
 use Rattle.rewritten_types.proofs.Lookups.{some-same, place-last, place-all, find-only, all-weaker, all-append, earlier-or-last}
 use Rattle.rewritten_types.proofs.Keeping.{grows-self, grows-on, grows-mark, grows-kind}
-use Rattle.legal_types.specs.Typed.{IsSmall, IsSmallKind}
+use Rattle.legal_types.specs.Typed.{IsSmall, IsSmallKind, HasLiteral, HasPosition}
 use Rattle.legal_types.proofs.ExprKinds.{LeadsOn, IsScalarMark}
 use Rattle.legal_types.proofs.StaticParts.{IsStaticIn, AreBounds, static-told, HasSubtype, HasRange}
 use Rattle.legal_types.proofs.TypedValues.{IsPlaced, IsTyped, IsOver, mark-of}
@@ -34,8 +34,8 @@ use Rattle.legal_types.proofs.StaticWorth.{worth-value, worth, small-literals}
 -- a mark has a kind, and its bounds are values of it
 pub record IsFirmMark (T : TypeTable) (m : Mark) : Type 0 where
   pub has : HasKind T m.kind
-  pub first : HasValueAt T m.kind m.first
-  pub last : HasValueAt T m.kind m.last
+  pub first : HasPosition T m.kind m.first
+  pub last : HasPosition T m.kind m.last
   pub order : int_le m.first m.last ≡ true
 
 -- a constant has a mark, and a value of its kind
@@ -43,7 +43,7 @@ pub record IsFirmConstant (T : TypeTable) (c : Constant) : Type 0 where
   pub mark : Mark
   pub there : mark_at T c.mark ≡ Some mark
   pub has : HasKind T mark.kind
-  pub value : HasValueAt T mark.kind c.value
+  pub value : HasPosition T mark.kind c.value
 
 -- INTEGER and BOOLEAN stand at their places alone
 abbrev pub IsAlone : ℕ → Kind → Type 0
@@ -77,8 +77,11 @@ placed-kind k Truth a h = a
 placed-kind k (Enumeration names) a h = h.1
 placed-kind k (Array index first last part) a h = tt
 
-firm-constant : (T : TypeTable) (c : Constant) → IsFirmConstant T c → HasValueAt T (limits_or (mark_at T c.mark)).kind c.value
-firm-constant T c h = subst (λ o. HasValueAt T (limits_or o).kind c.value) (sym h.there) h.value
+firm-constant : (T : TypeTable) (c : Constant) → IsFirmConstant T c → HasPosition T (limits_or (mark_at T c.mark)).kind c.value
+firm-constant T c h = subst (λ o. HasPosition T (limits_or o).kind c.value) (sym h.there) h.value
+
+has-value : (T : TypeTable) (k : ℕ) (z : ℤ) → HasPosition T k z → HasValueAt T k z
+has-value T k z h = record { fits = h.fits; same = h.same }
 
 pub typed-from : (T : TypeTable) → Whole T → Sound T → IsFirm T → IsSmall T → IsTyped T
 typed-from T whole root firm small = record {
@@ -86,11 +89,15 @@ typed-from T whole root firm small = record {
   root = root;
   sound = record {
     kinds = All-from_recursion HasFewLiterals T.kinds (all-at HasFewLiterals T.kinds (λ k x e. few-kind k x (small.kinds k x e)));
-    firsts = All-from_recursion _ T.marks (all-weaker (IsFirmMark T) (λ m. HasValueAt T m.kind m.first) T.marks (λ m h. h.first) firm.marks);
-    lasts = All-from_recursion _ T.marks (all-weaker (IsFirmMark T) (λ m. HasValueAt T m.kind m.last) T.marks (λ m h. h.last) firm.marks);
-    constants = All-from_recursion _ T.constants (all-weaker (IsFirmConstant T) (λ c. HasValueAt T (limits_or (mark_at T c.mark)).kind c.value) T.constants (firm-constant T) firm.constants);
+    firsts = All-from_recursion _ T.marks (all-weaker (IsFirmMark T) (λ m. HasValueAt T m.kind m.first) T.marks (λ m h. has-value T m.kind m.first h.first) firm.marks);
+    lasts = All-from_recursion _ T.marks (all-weaker (IsFirmMark T) (λ m. HasValueAt T m.kind m.last) T.marks (λ m h. has-value T m.kind m.last h.last) firm.marks);
+    constants = All-from_recursion _ T.constants
+        (all-weaker (IsFirmConstant T) (λ c. HasValueAt T (limits_or (mark_at T c.mark)).kind c.value) T.constants (λ c h. has-value T (limits_or (mark_at T c.mark)).kind c.value (firm-constant T c h)) firm.constants);
   };
   places = λ k x e. placed-kind k x (firm.alone k x e) (small.kinds k x e);
+  firsts = all-weaker (IsFirmMark T) (λ m. HasPosition T m.kind m.first) T.marks (λ m h. h.first) firm.marks;
+  lasts = all-weaker (IsFirmMark T) (λ m. HasPosition T m.kind m.last) T.marks (λ m h. h.last) firm.marks;
+  constants = all-weaker (IsFirmConstant T) (λ c. HasPosition T (limits_or (mark_at T c.mark)).kind c.value) T.constants (firm-constant T) firm.constants;
   orders = all-weaker (IsFirmMark T) (λ m. int_le m.first m.last ≡ true) T.marks (λ m h. h.order) firm.marks;
 }
 
@@ -117,8 +124,12 @@ module _ (T U : TypeTable) (g : Grows T U) where
   pub scalar-grown : (k : ℕ) → IsScalar T k → IsScalar U k
   scalar-grown k h = (h.0, ap scalar_only (sym (kind-same k (scalar-has T k h))) ∙ h.1)
 
-  pub value-grown : (k : ℕ) (z : ℤ) → HasKind T k → HasValueAt T k z → HasValueAt U k z
-  value-grown k z has h = record { fits = h.fits; same = ap (λ o. position_of (value_in k o z)) (sym (kind-same k has)) ∙ h.same }
+  pub value-grown : (k : ℕ) (z : ℤ) → HasKind T k → HasPosition T k z → HasPosition U k z
+  value-grown k z has h = record {
+    fits = h.fits;
+    same = ap (λ o. position_of (value_in k o z)) (sym (kind-same k has)) ∙ h.same;
+    literal = subst (λ o. HasLiteral o z) (kind-same k has) h.literal;
+  }
 
   mark-grown : (m : Mark) → IsFirmMark T m → IsFirmMark U m
   mark-grown m h = record { has = has-grown m.kind h.has; first = value-grown m.kind m.first h.has h.first; last = value-grown m.kind m.last h.has h.last; order = h.order }
@@ -152,11 +163,11 @@ firm-kind T x firm a =
           (earlier-or-last T.kinds x k);
     }
 
-constants-firm : (T : TypeTable) (names : List Word) (m : ℕ) (z : ℤ) (x : Mark) → mark_at T m ≡ Some x → HasKind T x.kind → HasValueAt T x.kind z → AllByRecursion (IsFirmConstant T) (constants_for names m z)
+constants-firm : (T : TypeTable) (names : List Word) (m : ℕ) (z : ℤ) (x : Mark) → mark_at T m ≡ Some x → HasKind T x.kind → HasPosition T x.kind z → AllByRecursion (IsFirmConstant T) (constants_for names m z)
 constants-firm T [] m z x e h v = tt
 constants-firm T (w ∷ ws) m z x e h v = (record { mark = x; there = e; has = h; value = v }, constants-firm T ws m z x e h v)
 
-pub firm-constants : (T : TypeTable) (names : List Word) (m : ℕ) (z : ℤ) (x : Mark) → IsFirm T → mark_at T m ≡ Some x → HasKind T x.kind → HasValueAt T x.kind z →
+pub firm-constants : (T : TypeTable) (names : List Word) (m : ℕ) (z : ℤ) (x : Mark) → IsFirm T → mark_at T m ≡ Some x → HasKind T x.kind → HasPosition T x.kind z →
     IsFirm (record T { constants = T.constants ++ constants_for names m z })
 firm-constants T names m z x firm e h v =
     let U : TypeTable = record T { constants = T.constants ++ constants_for names m z } in
@@ -184,13 +195,13 @@ pub record HasDrange (s : Scope) (r : PDrange) : Type 0 where
   pub range : Range
   pub known : drange_range s r ≡ Some range
   pub scalar : IsScalar s.types range.kind
-  pub first : HasValueAt s.types range.kind range.first
-  pub last : HasValueAt s.types range.kind range.last
+  pub first : HasPosition s.types range.kind range.first
+  pub last : HasPosition s.types range.kind range.last
   pub order : int_le range.first range.last ≡ true
 
 module _ (s : Scope) (firm : IsFirm s.types) (typed : IsTyped s.types) (over : IsOver s.types s) where
   -- the value of a static expression
-  value-static : (names : List (List ℕ)) (j k : ℕ) (e : PExpr) → EveryExpr (well_placed names) j e → (h : IsStaticIn s k e) → HasValueAt s.types k h.value
+  value-static : (names : List (List ℕ)) (j k : ℕ) (e : PExpr) → EveryExpr (well_placed names) j e → (h : IsStaticIn s k e) → HasPosition s.types k h.value
   value-static names j k e every h = worth-value s.types k e h.value (worth s.types s typed over k e (small-literals names j e every) h)
 
   -- a range of static bounds
@@ -203,7 +214,7 @@ module _ (s : Scope) (firm : IsFirm s.types) (typed : IsTyped s.types) (over : I
   firm-leads : (m : ℕ) (h : LeadsOn s.types m) → IsFirmMark s.types h.mark
   firm-leads m h = place-all (IsFirmMark s.types) s.types.marks m h.mark firm.marks h.there
 
-  new-mark : (k : ℕ) (f l : ℤ) → IsScalar s.types k → HasValueAt s.types k f → HasValueAt s.types k l → int_le f l ≡ true → HasMade s (made s.types (mark_for None record { kind = k; first = f; last = l }))
+  new-mark : (k : ℕ) (f l : ℤ) → IsScalar s.types k → HasPosition s.types k f → HasPosition s.types k l → int_le f l ≡ true → HasMade s (made s.types (mark_for None record { kind = k; first = f; last = l }))
   new-mark k f l scalar first last order =
       let m = mark_for None record { kind = k; first = f; last = l } in
       let has = scalar-has s.types k scalar in
@@ -297,6 +308,9 @@ array-made s name d r h q P holds =
     number-same : (z : ℤ) → is_integer_value z ≡ true → position_of (value_at V (length d.types.kinds) z) ≡ z
     number-same z e = ap (λ o. position_of (value_in (length d.types.kinds) o z)) there ∙ ap (λ b. position_of (if b then Number z else Number (pos 0))) e
 
+    index-position : (z : ℤ) → is_integer_value z ≡ true → HasPosition V (length d.types.kinds) z
+    index-position z e = record { fits = e; same = number-same z e; literal = subst (λ o. HasLiteral o z) (sym there) tt }
+
     both : HasMade s (made V m)
     both = record {
       place = length d.types.marks;
@@ -305,8 +319,8 @@ array-made s name d r h q P holds =
       grows = grows-on h.grows (grows-on (grows-kind d.types x) (grows-mark V m));
       firm = firm-mark V m (firm-kind d.types x h.firm tt) (record {
         has = (x, there);
-        first = record { fits = q.first.fits; same = number-same q.range.first q.first.fits };
-        last = record { fits = q.last.fits; same = number-same q.range.last q.last.fits };
+        first = index-position q.range.first q.first.fits;
+        last = index-position q.range.last q.last.fits;
         order = q.order;
       });
       constants = h.constants;

@@ -1,5 +1,5 @@
 -- A declaration of main at which nothing is refused leaves a scope whose names mean what the table says.
-use Rattle.std.proofs.Common.{int_le, ◌≡◌, ◌≤◌, ◌<◌, ℕ, suc, pos, negsuc, ◌+◌, ◌-ℤ◌, Bool, true, false, not, ◌||◌, ◌&&◌, ◌==◌, cond, nat_lt, List, [], ◌∷◌, ◌++◌, length, map, find, IfSome, option_map, Option, Some, None, ◌⊎◌, inl, inr, ⊎_elim, refl, sym, ap, ◌∙◌, subst, eqb-true, arith}
+use Rattle.std.proofs.Common.{int_le, int_lt, ◌≡◌, ◌≤◌, ◌<◌, ℕ, suc, pos, negsuc, ◌+◌, ◌-ℤ◌, Bool, true, false, not, ◌||◌, ◌&&◌, ◌==◌, cond, nat_lt, List, [], ◌∷◌, ◌++◌, length, map, find, IfSome, option_map, Option, Some, None, ◌⊎◌, inl, inr, ⊎_elim, refl, sym, ap, ◌∙◌, subst, eqb-true, arith}
 use Rattle.std.specs.List.{AllByRecursion, list_any, position_or_len}
 use Rattle.std.proofs.lemmas.Int.{ints}
 use Rattle.std.proofs.lemmas.Bool.{eq-eqb}
@@ -25,7 +25,6 @@ use Rattle.ada_tree.specs.Declaring.{first_mark, with_name, with_names, with_typ
 use Rattle.ada_value.specs.declared.values.Value.{Value}
 use Rattle.ada_value.specs.Values.{position_of, value_in, word, placed}
 use Rattle.ada_value.specs.Evaluating.{literal_value}
-use Rattle.ada_value.specs.StaticLaw.{HasValueAt}
 use Rattle.rewritten_types.specs.Agreement.{Literal as LiteralAt, literal_among, literal_named, scalar_only as only_scalar, Grows, Sound, Whole}
 use Rattle.rewritten_types.specs.Rewriting.{IsFirst, names_declared, IsUnused}
 use Rattle.rewritten_types.proofs.Lookups.{some-same, place-last, place-all}
@@ -37,7 +36,7 @@ use Rattle.rewritten_types.proofs.Fresh.{InHere, here-decl, unused-free}
 use Rattle.rewritten_types.proofs.Unmarked.{AreUnmarked, decl-before, decl-marks}
 use Rattle.legal_sites.specs.Met.{IsMet}
 use Rattle.legal_sites.proofs.Meeting.{all-front, all-back}
-use Rattle.legal_types.specs.Typed.{IsSmall}
+use Rattle.legal_types.specs.Typed.{IsSmall, HasLiteral, HasPosition}
 use Rattle.legal_types.proofs.ExprKinds.{LeadsOn, IsClearThing}
 use Rattle.legal_types.proofs.StaticParts.{IsStaticIn, static-told, met-static, of-kind, subind-met, drange-met}
 use Rattle.legal_types.proofs.TypedValues.{anybody, IsOf, IsTyped, small-word}
@@ -62,7 +61,7 @@ grows-decl (DTask t sp) s = grows-self s.types
 grows-decl (DTaskBody name objects its sp) s = (keeps-decl {old = nobody} (DTaskBody name objects its sp) s tt).grows
 
 -- the value of a literal by its place
-literal-read : (ks : List Kind) (k : ℕ) (id : NameId) → literal_value ks k id ≡ option_map (λ (l : LiteralAt). placed (word l.kind) (pos l.position)) (literal_among ks k id)
+pub literal-read : (ks : List Kind) (k : ℕ) (id : NameId) → literal_value ks k id ≡ option_map (λ (l : LiteralAt). placed (word l.kind) (pos l.position)) (literal_among ks k id)
 literal-read [] k id = refl
 literal-read (x ∷ rest) k id = by_place (position_in id x) (literal-read rest (suc k) id)
   where
@@ -230,6 +229,9 @@ fits-below n h = grind (arith, ints)
 not-negative : (n : ℕ) → int_le (pos 0) (pos n) ≡ true
 not-negative n = grind (arith, ints)
 
+less-literal : (n m : ℕ) → n < m → int_lt (pos n) (pos m) ≡ true
+less-literal n m h = grind (arith, ints)
+
 mark-literal : {A : Type 0} (m k : ℕ) → TypeMark m ≡ Literal k → A
 mark-literal m k e = cc
 
@@ -276,17 +278,24 @@ module _ (s : Scope) (good : IsGood s) (name w : Word) (rest : List Word) (unuse
   grown : Grows T U
   grown = grows-on (grows-kind T enumeration) (grows-mark V m)
 
-  enumeration-value : (n : ℕ) → n ≤ 2147483647 → HasValueAt V (length T.kinds) (pos n)
-  enumeration-value n h = record { fits = fits-below n h; same = ap (λ o. position_of (value_in (length T.kinds) o (pos n))) there ∙ ap pos (small-word n h) }
+  -- a position before the number of literals has a literal
+  has-literal : (n : ℕ) → n < length ids → HasLiteral (kind_at V (length T.kinds)) (pos n)
+  has-literal n l = subst (λ o. HasLiteral o (pos n)) (sym there) (less-literal n (length ids) l)
 
-  last-small : length rest ≤ 2147483647
-  last-small = let e = length-mapped rest in let f = few.0 in omega arith
+  enumeration-value : (n : ℕ) → n < length ids → HasPosition V (length T.kinds) (pos n)
+  enumeration-value n l =
+      let f = few.0 in
+      let h : n ≤ 2147483647 = omega arith in
+      record { fits = fits-below n h; same = ap (λ o. position_of (value_in (length T.kinds) o (pos n))) there ∙ ap pos (small-word n h); literal = has-literal n l }
+
+  last-literal : length rest < length ids
+  last-literal = let e = length-mapped rest in omega arith
 
   firm-after : IsFirm U
   firm-after = firm-mark V m (firm-kind T enumeration good.firm tt) (record {
     has = (enumeration, there);
     first = enumeration-value 0 (omega arith);
-    last = subst (HasValueAt V (length T.kinds)) (sym (before-last (length rest))) (enumeration-value (length rest) last-small);
+    last = subst (HasPosition V (length T.kinds)) (sym (before-last (length rest))) (enumeration-value (length rest) last-literal);
     order = ap (int_le (pos 0)) (before-last (length rest)) ∙ not-negative (length rest);
   })
 
@@ -298,6 +307,7 @@ module _ (s : Scope) (good : IsGood s) (name w : Word) (rest : List Word) (unuse
         scalar = (enumeration, ap only_scalar there);
         kind = few.1;
         same = ap (λ o. value_in (length T.kinds) o (pos (word n))) there ∙ ap (λ i. placed (length T.kinds) (pos i)) small ∙ ap (λ j. placed j (pos n)) (sym few.1);
+        literal = subst (λ i. HasLiteral (kind_at V (length T.kinds)) (pos i)) (sym small) (has-literal n l);
       }
 
   abbrev New : News

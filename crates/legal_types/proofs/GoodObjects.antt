@@ -10,20 +10,20 @@ use Rattle.ada_tree.specs.declared.static_types.Mark.{Mark}
 use Rattle.ada_tree.specs.declared.static_types.Constant.{Constant}
 use Rattle.ada_tree.specs.TypeTable.{TypeTable}
 use Rattle.ada_tree.specs.PlainExpr.{PSubind, PDrange}
-use Rattle.ada_tree.specs.PlainDecl.{PShape, OPlain, ORow, PInit, IOne, IList, IOthers}
+use Rattle.ada_tree.specs.PlainDecl.{PShape, OPlain, OArray, PInit, IOne, IList, IOthers}
 use Rattle.ada_tree.specs.Every.{EverySubind, EveryDrange, EveryShape, EveryInit}
 use Rattle.ada_tree.specs.WellPlaced.{well_placed}
-use Rattle.ada_tree.specs.Scope.{Scope, Range, Thing, TypeMark, TaskType, SingleTask, TaskObject, TaskRow, Variable, ConstantObject, Parameter, LoopParameter, Literal, AnException, MainProcedure, AnotherUnit, Unclear, meaning, EntryPart, Marking, ScalarMark, ArrayMark, TaskMark, NoMark, UnknownMark, UnclearMark, marking_of_kind, marking_of_mark, marking_of, marking, scalar_kind}
+use Rattle.ada_tree.specs.Scope.{Scope, Range, Thing, TypeMark, TaskType, SingleTask, TaskObject, TaskArray, Variable, ConstantObject, Parameter, LoopParameter, Literal, AnException, MainProcedure, AnotherUnit, Unclear, meaning, EntryPart, Marking, ScalarMark, ArrayMark, TaskMark, NoMark, UnknownMark, UnclearMark, marking_of_kind, marking_of_mark, marking_of, marking, scalar_kind}
 use Rattle.ada_tree.specs.StaticValue.{constant_named}
 use Rattle.ada_tree.specs.Demand.{MarkUse, scalar_only}
 use Rattle.ada_tree.specs.Sites.{if_there, constraint_sites, subind_sites, drange_sites, may_be_task, object_marks, component_marks, shape_sites}
 use Rattle.ada_tree.specs.RuleMismatch.{is_allowed}
-use Rattle.ada_tree.specs.Declaring.{Made, made_subind, drange_range, object_of, task_object, task_row, Declared, of_made, plain_object, row_object, declared_object, constants_for, add_constants, kind_at_mark, constant_mark, initial_value, constant_value, with_constants}
-use Rattle.ada_value.specs.StaticLaw.{HasValueAt}
+use Rattle.ada_tree.specs.Declaring.{Made, made_subind, drange_range, object_of, task_object, task_array, Declared, of_made, plain_object, array_object, declared_object, constants_for, add_constants, kind_at_mark, constant_mark, initial_value, constant_value, with_constants}
 use Rattle.rewritten_types.specs.Agreement.{HasKind, Grows}
 use Rattle.rewritten_types.proofs.Keeping.{grows-self}
 use Rattle.legal_sites.specs.Met.{IsMet}
 use Rattle.legal_sites.proofs.Meeting.{all-front, all-back}
+use Rattle.legal_types.specs.Typed.{HasPosition}
 use Rattle.legal_types.proofs.ExprKinds.{LeadsOn, IsClearThing, IsClear, told, scalar-mark, thing-of}
 use Rattle.legal_types.proofs.StaticParts.{static-read, HasSubtype, mark-bounds, drange-met}
 use Rattle.legal_types.proofs.TypedValues.{IsTyped, IsOver}
@@ -54,7 +54,7 @@ thing-marked T (TypeMark m) h =
 thing-marked T (TaskType entries) h = tt
 thing-marked T (SingleTask entries) h = tt
 thing-marked T (TaskObject entries) h = tt
-thing-marked T (TaskRow range entries) h = tt
+thing-marked T (TaskArray range entries) h = tt
 thing-marked T (Variable m) h = tt
 thing-marked T (ConstantObject m) h = tt
 thing-marked T (Parameter mode m) h = tt
@@ -75,7 +75,7 @@ abbrev pub IsObject : TypeTable → Thing → Type 0
 IsObject T (Variable m) = LeadsOn T m
 IsObject T (ConstantObject m) = LeadsOn T m
 IsObject T (TaskObject entries) = Unit {0}
-IsObject T (TaskRow range entries) = Unit {0}
+IsObject T (TaskArray range entries) = Unit {0}
 IsObject T (TypeMark m) = ⊥
 IsObject T (TaskType entries) = ⊥
 IsObject T (SingleTask entries) = ⊥
@@ -91,7 +91,7 @@ pub object-clear : (T : TypeTable) (x : Thing) → IsObject T x → IsClearThing
 object-clear T (Variable m) h = h
 object-clear T (ConstantObject m) h = h
 object-clear T (TaskObject entries) h = tt
-object-clear T (TaskRow range entries) h = tt
+object-clear T (TaskArray range entries) h = tt
 object-clear T (TypeMark m) h = absurd h
 object-clear T (TaskType entries) h = absurd h
 object-clear T (SingleTask entries) h = absurd h
@@ -150,7 +150,7 @@ module _ (s : Scope) (main : s.in_main ≡ true) (firm : IsFirm s.types) (typed 
       by_marking UnclearMark e known a marked = absurd marked
 
   row-made : (names : List (List ℕ)) (constant task : Bool) (index : PDrange) (x : PSubind) → EveryDrange (well_placed names) 2 index → EverySubind (well_placed names) 2 x →
-      AllByRecursion IsMet (drange_sites true s index) → AllByRecursion IsMet (subind_sites true (component_marks task) s x) → HasObject s (row_object s constant (marking s x.mark.name) index x)
+      AllByRecursion IsMet (drange_sites true s index) → AllByRecursion IsMet (subind_sites true (component_marks task) s x) → HasObject s (array_object s constant (marking s x.mark.name) index x)
   row-made names constant task index x everys every hs h =
       let known = told (is_some (meaning s x.mark.name)) x.mark.span h.0.known in
       by_marking (marking s x.mark.name) refl known (told (is_allowed (component_marks task) (marking s x.mark.name)) x.mark.span h.0.matched) (name-marked s over.clear x.mark.name known)
@@ -162,13 +162,13 @@ module _ (s : Scope) (main : s.in_main ≡ true) (firm : IsFirm s.types) (typed 
       no-array true m r part e = true≢false (sym e)
       no-array false m r part e = true≢false (sym e)
 
-      by_marking : (m : Marking) → marking s x.mark.name ≡ m → is_some (meaning s x.mark.name) ≡ true → is_allowed (component_marks task) m ≡ true → IsMarked s.types m → HasObject s (row_object s constant m index x)
+      by_marking : (m : Marking) → marking s x.mark.name ≡ m → is_some (meaning s x.mark.name) ≡ true → is_allowed (component_marks task) m ≡ true → IsMarked s.types m → HasObject s (array_object s constant m index x)
       by_marking (ScalarMark m k) e known a marked =
           of-made s constant _ (array-unnamed s (made_subind s x) index (subind-made s firm typed over names x every (scalar-subtype x known (ap (is_allowed scalar_only) e) h.1)) range)
       by_marking (ArrayMark m r part) e known a marked = absurd (no-array task m r part a)
       by_marking (TaskMark entries) e known a marked =
-          untold (task_row s.in_main (drange_range s index) entries)
-          (subst (λ b. IsObject s.types (task_row b (drange_range s index) entries)) (sym main) (subst (λ o. IsObject s.types (task_row true o entries)) (sym range.known) tt))
+          untold (task_array s.in_main (drange_range s index) entries)
+          (subst (λ b. IsObject s.types (task_array b (drange_range s index) entries)) (sym main) (subst (λ o. IsObject s.types (task_array true o entries)) (sym range.known) tt))
       by_marking NoMark e known a marked = absurd (true≢false (sym a))
       by_marking UnknownMark e known a marked = absurd marked
       by_marking UnclearMark e known a marked = absurd marked
@@ -176,7 +176,7 @@ module _ (s : Scope) (main : s.in_main ≡ true) (firm : IsFirm s.types) (typed 
   -- an object of a shape at which nothing is refused
   pub shape-made : (names : List (List ℕ)) (constant : Bool) (shape : PShape) (init : Option PInit) → EveryShape (well_placed names) shape → AllByRecursion IsMet (shape_sites s constant shape init) → HasObject s (declared_object s constant shape)
   shape-made names constant (OPlain x) init every h = plain-made names constant (object_marks (may_be_task s constant x.bounds init) x.bounds) x every h
-  shape-made names constant (ORow index x) init every h =
+  shape-made names constant (OArray index x) init every h =
       row-made names constant (may_be_task s constant x.bounds init) index x every.0 every.1 (all-front IsMet (drange_sites true s index) (subind_sites true (component_marks (may_be_task s constant x.bounds init)) s x) h)
       (all-back IsMet (drange_sites true s index) (subind_sites true (component_marks (may_be_task s constant x.bounds init)) s x) h)
 
@@ -191,7 +191,7 @@ pub record HasConstants (ws : List Word) (thing : Thing) (T U : TypeTable) : Typ
 pub no-constants : (ws : List Word) (thing : Thing) (T : TypeTable) → IsFirm T → HasConstants ws thing T T
 no-constants ws thing T firm = record { grows = grows-self T; firm = firm; told = λ id c e. inl e }
 
-pub more-constants : (ws : List Word) (m : ℕ) (z : ℤ) (T : TypeTable) (h : LeadsOn T m) → IsFirm T → HasValueAt T h.mark.kind z →
+pub more-constants : (ws : List Word) (m : ℕ) (z : ℤ) (T : TypeTable) (h : LeadsOn T m) → IsFirm T → HasPosition T h.mark.kind z →
     HasConstants ws (ConstantObject m) T (record T { constants = T.constants ++ constants_for ws m z })
 more-constants ws m z T h firm v = record {
   grows = record { kind = λ k y f. f; mark = λ k y f. f };
@@ -201,11 +201,11 @@ more-constants ws m z T h firm v = record {
 
 module _ (s : Scope) (main : s.in_main ≡ true) (firm : IsFirm s.types) (typed : IsTyped s.types) (over : IsOver s.types s) where
   -- the value of a constant is one of its mark's kind
-  initial-fits : (names : List (List ℕ)) (k : ℕ) (init : Option PInit) (z : ℤ) → IfSome init (EveryInit (well_placed names)) → initial_value s k init ≡ Some z → HasKind s.types k × HasValueAt s.types k z
+  initial-fits : (names : List (List ℕ)) (k : ℕ) (init : Option PInit) (z : ℤ) → IfSome init (EveryInit (well_placed names)) → initial_value s k init ≡ Some z → HasKind s.types k × HasPosition s.types k z
   initial-fits names k (Some (IOne e)) z every f =
       let h = static-read s k e z f in
       let w = worth s.types s typed over k e (small-literals names 2 e every) h.0 in
-      (scalar-has s.types k w.kind.scalar, subst (HasValueAt s.types k) h.1 (worth-value s.types k e h.0.value w))
+      (scalar-has s.types k w.kind.scalar, subst (HasPosition s.types k) h.1 (worth-value s.types k e h.0.value w))
   initial-fits names k (Some (IList es sp)) z every f = absurd (none-some z f)
   initial-fits names k (Some (IOthers e sp)) z every f = absurd (none-some z f)
   initial-fits names k None z every f = absurd (none-some z f)
@@ -228,7 +228,7 @@ module _ (s : Scope) (main : s.in_main ≡ true) (firm : IsFirm s.types) (typed 
       by_thing (ConstantObject m) e o = by_value m (initial_value s (kind_at_mark d.types m) init) o refl
       by_thing (Variable m) e o = no-constants ws (Variable m) d.types h.firm
       by_thing (TaskObject entries) e o = no-constants ws (TaskObject entries) d.types h.firm
-      by_thing (TaskRow range entries) e o = no-constants ws (TaskRow range entries) d.types h.firm
+      by_thing (TaskArray range entries) e o = no-constants ws (TaskArray range entries) d.types h.firm
       by_thing (TypeMark m) e o = absurd o
       by_thing (TaskType entries) e o = absurd o
       by_thing (SingleTask entries) e o = absurd o

@@ -1,12 +1,12 @@
 -- Scopes of main whose names mean what the table says, and how a declaration keeps them so.
-use Rattle.std.proofs.Common.{◌≡◌, ℕ, ℤ, Bool, true, false, ◌||◌, ◌==◌, if◌then◌else◌, List, [], ◌∷◌, ◌++◌, find, option_map, Some, ◌⊎◌, inl, inr, ⊎_elim, refl, sym, ap, ◌∙◌, true≢false}
+use Rattle.std.proofs.Common.{◌≡◌, ℕ, ℤ, Bool, true, false, ◌||◌, ◌==◌, if◌then◌else◌, List, [], ◌∷◌, ◌++◌, find, option_map, Some, ◌⊎◌, inl, inr, ⊎_elim, refl, sym, ap, ◌∙◌, subst, true≢false}
 use Rattle.std.specs.List.{AllByRecursion, list_any}
 use Rattle.std.proofs.lemmas.Option.{none-some}
 use Rattle.ada_tree.specs.declared.naming.NameId.{NameId}
 use Rattle.ada_tree.specs.declared.naming.Word.{Word}
 use Rattle.ada_tree.specs.declared.static_types.Constant.{Constant}
 use Rattle.ada_tree.specs.TypeTable.{TypeTable}
-use Rattle.ada_tree.specs.Scope.{Scope, Seen, truth_kind, Thing, TypeMark, TaskType, SingleTask, TaskObject, TaskRow, Variable, ConstantObject, Parameter, LoopParameter, Literal, AnException, MainProcedure, AnotherUnit, Unclear, meaning, kind_at, mark_at}
+use Rattle.ada_tree.specs.Scope.{Scope, Seen, truth_kind, Thing, TypeMark, TaskType, SingleTask, TaskObject, TaskArray, Variable, ConstantObject, Parameter, LoopParameter, Literal, AnException, MainProcedure, AnotherUnit, Unclear, meaning, kind_at, mark_at}
 use Rattle.ada_tree.specs.StaticValue.{is_named, mark_named, constant_named}
 use Rattle.ada_tree.specs.Declaring.{predefined_types, seen_as, with_name, with_names, constants_for}
 use Rattle.ada_value.specs.declared.values.Value.{Value}
@@ -18,7 +18,7 @@ use Rattle.rewritten_types.proofs.Lookups.{some-same, find-grown}
 use Rattle.rewritten_types.proofs.Keeping.{keeps-self}
 use Rattle.rewritten_types.proofs.Fresh.{InHere, other, meaning-used}
 use Rattle.rewritten_types.proofs.Unmarked.{AreUnmarked}
-use Rattle.legal_types.specs.Typed.{IsSmall}
+use Rattle.legal_types.specs.Typed.{IsSmall, HasLiteral}
 use Rattle.legal_types.proofs.ExprKinds.{LeadsOn, IsClearThing}
 use Rattle.legal_types.proofs.TypedValues.{IsOf, IsTyped, IsOver}
 use Rattle.legal_types.proofs.FirmTables.{IsFirm, typed-from, leads-grown, scalar-grown, scalar-has}
@@ -49,7 +49,7 @@ thing-grown T U g (Literal k) h = scalar-grown T U g k h
 thing-grown T U g (TaskType entries) h = tt
 thing-grown T U g (SingleTask entries) h = tt
 thing-grown T U g (TaskObject entries) h = tt
-thing-grown T U g (TaskRow range entries) h = tt
+thing-grown T U g (TaskArray range entries) h = tt
 thing-grown T U g AnException h = tt
 thing-grown T U g MainProcedure h = tt
 thing-grown T U g AnotherUnit h = tt
@@ -59,7 +59,12 @@ pub of-grown : (T U : TypeTable) → Grows T U → (k : ℕ) (v : Value) → IsO
 of-grown T U g k v h =
     let has = scalar-has T k h.scalar in
     let same : kind_at U k ≡ kind_at T k = g.kind k has.0 has.1 ∙ sym has.1 in
-    record { scalar = scalar-grown T U g k h.scalar; kind = h.kind; same = ap (λ o. value_in k o (position_of v)) same ∙ h.same }
+    record {
+      scalar = scalar-grown T U g k h.scalar;
+      kind = h.kind;
+      same = ap (λ o. value_in k o (position_of v)) same ∙ h.same;
+      literal = subst (λ o. HasLiteral o (position_of v)) (sym same) h.literal;
+    }
 
 -- the second scope's names mean what its table says
 pub over-adds : (New : News) (s s' : Scope) → Sound s'.types → Adds New s s' → IsOver s.types s → IsOver s'.types s'

@@ -8,12 +8,12 @@ use Rattle.ada_tree.specs.PlainExpr.{PExpr, EInteger, EName, EIndex, EAttribute,
 use Rattle.ada_tree.specs.Attributes.{Attribute, First, Last, Pos, Val, Succ, Pred, Image, NoAttribute, attribute_of, is_bound}
 use Rattle.ada_tree.specs.Scope.{kind_at}
 use Rattle.ada_tree.specs.StaticValue as static
-use Rattle.ada_tree.specs.StaticValue.{is_static, is_named, is_of_kind, keeps_static, value_of, value_named, mark_named, constant_named, literal_position, first_of_two, named, bound_of, of_base, attribute_at, then_do}
+use Rattle.ada_tree.specs.StaticValue.{is_static, is_named, is_of_kind, keeps_static, value_of, value_named, mark_named, named, bound_of, of_base, attribute_at, then_do}
 use Rattle.ada_value.specs.declared.values.Value.{Value}
 use Rattle.ada_value.specs.declared.values.Raised.{Raised}
 use Rattle.ada_value.specs.declared.values.Raised.TheVariants as raised
 use Rattle.ada_value.specs.Values as values
-use Rattle.ada_value.specs.Values.{position_of, value_in, value_at, based, limits_of, limits_or, limits_named}
+use Rattle.ada_value.specs.Values.{position_of, value_in, based, limits_of, limits_or, limits_named}
 use Rattle.ada_value.specs.Evaluating as evaluating
 use Rattle.ada_value.specs.Evaluating.{evaluated, fixed_value, bound_value, attribute_value, signed_value}
 use Rattle.rewritten_types.specs.Agreement.{HasKind, Grows, Sound}

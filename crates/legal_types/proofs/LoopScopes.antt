@@ -15,7 +15,7 @@ use Rattle.ada_tree.specs.TypeTable.{TypeTable}
 use Rattle.ada_tree.specs.PlainExpr.{PExpr, EInteger, EName, EIndex, EAttribute, EAttributeOf, EParen, EUnary, EBinary, PDrange, RGiven, RMarked}
 use Rattle.ada_tree.specs.PlainStmt.{PScheme, LWhile, LFor}
 use Rattle.ada_tree.specs.Attributes.{Attribute, First, Last, Pos, Val, Succ, Pred, Image, NoAttribute, attribute_of}
-use Rattle.ada_tree.specs.Scope.{Scope, integer_kind, truth_kind, Thing, TypeMark, Variable, ConstantObject, Parameter, LoopParameter, Literal, TaskType, SingleTask, TaskObject, TaskRow, AnException, MainProcedure, AnotherUnit, Unclear, meaning, kind_at, mark_at, and_then, Reading, AsScalar, AsArray, AsNoValue, AsUnknown, AsUnclear, reading_of_mark, reading_of, reading, scalar_kind, marking, kind_of_mark}
+use Rattle.ada_tree.specs.Scope.{Scope, integer_kind, truth_kind, Thing, TypeMark, Variable, ConstantObject, Parameter, LoopParameter, Literal, TaskType, SingleTask, TaskObject, TaskArray, AnException, MainProcedure, AnotherUnit, Unclear, meaning, kind_at, mark_at, and_then, Reading, AsScalar, AsArray, AsNoValue, AsUnknown, AsUnclear, reading_of_mark, reading_of, reading, scalar_kind, marking, kind_of_mark}
 use Rattle.ada_tree.specs.ExprTypes.{takes, takes_one, given_by, argument_kind, function_kind, bound_kind, name_kind, component_kind, attribute_kind, kind_of}
 use Rattle.ada_tree.specs.Demand.{scalar_only, must_be_alike, must_not_be_empty, Site}
 use Rattle.ada_tree.specs.RuleMismatch.{is_allowed}
@@ -107,7 +107,7 @@ module _ (T : TypeTable) (s : Scope) (h : Stands T s) where
       by_thing (Some (TaskType es)) p f = absurd (none-some k f)
       by_thing (Some (SingleTask es)) p f = absurd (none-some k f)
       by_thing (Some (TaskObject es)) p f = absurd (none-some k f)
-      by_thing (Some (TaskRow r es)) p f = absurd (none-some k f)
+      by_thing (Some (TaskArray r es)) p f = absurd (none-some k f)
       by_thing (Some AnException) p f = absurd (none-some k f)
       by_thing (Some MainProcedure) p f = absurd (none-some k f)
       by_thing (Some AnotherUnit) p f = absurd (none-some k f)

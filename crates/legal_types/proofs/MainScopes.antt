@@ -21,7 +21,6 @@ use Rattle.ada_tree.specs.RuleDuplicate.{is_predefined}
 use Rattle.ada_tree.specs.Refusals.{MeetsTypeRules, types_in}
 use Rattle.rewritten_types.specs.Agreement.{Keeps, Grows, Sound}
 use Rattle.rewritten_types.specs.Rewriting.{IsFirst, names_declared, IsUnused, DeclareOnce, NamesOnce}
-use Rattle.ada_value.specs.StaticLaw.{HasValueAt}
 use Rattle.rewritten_types.proofs.Lookups.{some-same, find-all}
 use Rattle.rewritten_types.proofs.Keeping.{grows-self, grows-on, keeps-self, keeps-on}
 use Rattle.rewritten_types.proofs.Adding.{keeps-objects}
@@ -32,7 +31,7 @@ use Rattle.rewritten_types.proofs.Fresh.{InHere, first-here, here-decl}
 use Rattle.rewritten_types.proofs.Unmarked.{first-unmarked}
 use Rattle.legal_sites.specs.Met.{IsMet}
 use Rattle.legal_sites.proofs.Meeting.{all_met, all-front, all-back}
-use Rattle.legal_types.specs.Typed.{IsSmall}
+use Rattle.legal_types.specs.Typed.{IsSmall, HasPosition}
 use Rattle.legal_types.proofs.ExprKinds.{LeadsOn, IsClearThing}
 use Rattle.legal_types.proofs.TypedValues.{anybody, IsTyped, IsOver}
 use Rattle.legal_types.proofs.FirmTables.{IsFirmMark, IsAlone, small-before}
@@ -198,7 +197,7 @@ module _ (name : Word) (unused : is_predefined name.name.0 ≡ false) where
   first-alone (suc zero) x e = subst (IsAlone 1) (some-same e) refl
   first-alone (suc (suc k)) x e = absurd (none-some x e)
 
-  first-mark-firm : (m : Mark) (k : Kind) → kind_at predefined_types m.kind ≡ Some k → HasValueAt predefined_types m.kind m.first → HasValueAt predefined_types m.kind m.last → int_le m.first m.last ≡ true → IsFirmMark predefined_types m
+  first-mark-firm : (m : Mark) (k : Kind) → kind_at predefined_types m.kind ≡ Some k → HasPosition predefined_types m.kind m.first → HasPosition predefined_types m.kind m.last → int_le m.first m.last ≡ true → IsFirmMark predefined_types m
   first-mark-firm m k e f l o = record { has = (k, e); first = f; last = l; order = o }
 
   pub good-first : IsGood first
@@ -210,12 +209,12 @@ module _ (name : Word) (unused : is_predefined name.name.0 ≡ false) where
     root = sound-first name;
     firm = record {
       marks = (
-        first-mark-firm _ Integer refl (record { fits = refl; same = refl }) (record { fits = refl; same = refl }) refl,
+        first-mark-firm _ Integer refl (record { fits = refl; same = refl; literal = tt }) (record { fits = refl; same = refl; literal = tt }) refl,
         (
-          first-mark-firm _ Integer refl (record { fits = refl; same = refl }) (record { fits = refl; same = refl }) refl,
+          first-mark-firm _ Integer refl (record { fits = refl; same = refl; literal = tt }) (record { fits = refl; same = refl; literal = tt }) refl,
           (
-            first-mark-firm _ Integer refl (record { fits = refl; same = refl }) (record { fits = refl; same = refl }) refl,
-            (first-mark-firm _ Truth refl (record { fits = refl; same = refl }) (record { fits = refl; same = refl }) refl, tt),
+            first-mark-firm _ Integer refl (record { fits = refl; same = refl; literal = tt }) (record { fits = refl; same = refl; literal = tt }) refl,
+            (first-mark-firm _ Truth refl (record { fits = refl; same = refl; literal = tt }) (record { fits = refl; same = refl; literal = tt }) refl, tt),
           ),
         ),
       );

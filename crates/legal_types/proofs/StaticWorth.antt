@@ -11,7 +11,7 @@ use Rattle.ada_tree.specs.PlainExpr.{PExpr, EInteger, EName, EIndex, EAttribute,
 use Rattle.ada_tree.specs.Attributes.{Attribute, First, Last, Pos, Val, Succ, Pred, Image, NoAttribute, attribute_of, is_bound, false_name, true_name}
 use Rattle.ada_tree.specs.Every.{EveryExpr}
 use Rattle.ada_tree.specs.WellPlaced.{well_placed}
-use Rattle.ada_tree.specs.Scope.{Scope}
+use Rattle.ada_tree.specs.Scope.{Scope, kind_at}
 use Rattle.ada_tree.specs.StaticValue.{is_integer_value, is_static, keeps_static, value_of, value_named, mark_named, literal_position, position_in, first_of_two, named, bound_of, of_base, attribute_at, then_do, operated, signed}
 use Rattle.ada_value.specs.declared.values.Value.{Value}
 use Rattle.ada_value.specs.declared.values.Value.TheVariants.{Number}
@@ -20,19 +20,20 @@ use Rattle.ada_value.specs.declared.values.Raised.TheVariants as raised
 use Rattle.ada_value.specs.Values as values
 use Rattle.ada_value.specs.Values.{position_of, value_at}
 use Rattle.ada_value.specs.Evaluating.{evaluated, signed_value}
-use Rattle.ada_value.specs.StaticLaw.{HasValueAt, HasSmallLiterals, Agree}
+use Rattle.ada_value.specs.StaticLaw.{HasSmallLiterals, Agree}
 use Rattle.ada_value.proofs.StaticLaws.{static_law}
 use Rattle.rewritten_types.specs.Agreement.{Literal, literal_among, Keeps, Agrees}
 use Rattle.rewritten_types.proofs.Keeping.{keeps-self}
 use Rattle.rewritten_types.proofs.Rooting.{rooted_agrees}
 use Rattle.rewritten_values.proofs.Saying.{bases-alike}
 use Rattle.legal_types.proofs.StaticParts.{IsStaticIn}
+use Rattle.legal_types.specs.Typed.{HasLiteral, HasPosition}
 use Rattle.legal_types.proofs.TypedValues.{anybody, IsOf, IsTyped, IsOver, Gives, typed-gives}
 
 -- ---- tables that agree on all names
 
 -- the position of a literal
-position-among : (ks : List Kind) (k : ℕ) (id : NameId) → literal_position ks id ≡ option_map (λ (l : Literal). l.position) (literal_among ks k id)
+pub position-among : (ks : List Kind) (k : ℕ) (id : NameId) → literal_position ks id ≡ option_map (λ (l : Literal). l.position) (literal_among ks k id)
 position-among [] k id = refl
 position-among (x ∷ rest) k id = by_place (position_in id x) (position-among rest (suc k) id)
   where
@@ -123,8 +124,12 @@ pub record IsWorth (T : TypeTable) (k : ℕ) (e : PExpr) (z : ℤ) : Type 0 wher
   pub fits : is_integer_value z ≡ true
 
 -- the kind has a value at that position
-pub worth-value : (T : TypeTable) (k : ℕ) (e : PExpr) (z : ℤ) → IsWorth T k e z → HasValueAt T k z
-worth-value T k e z h = record { fits = h.fits; same = ap (λ y. position_of (value_at T k y)) (sym h.position) ∙ ap position_of h.kind.same ∙ h.position }
+pub worth-value : (T : TypeTable) (k : ℕ) (e : PExpr) (z : ℤ) → IsWorth T k e z → HasPosition T k z
+worth-value T k e z h = record {
+  fits = h.fits;
+  same = ap (λ y. position_of (value_at T k y)) (sym h.position) ∙ ap position_of h.kind.same ∙ h.position;
+  literal = subst (HasLiteral (kind_at T k)) h.position h.kind.literal;
+}
 
 module _ (T : TypeTable) (s : Scope) (typed : IsTyped T) (over : IsOver T s) where
   agrees : Agrees anybody T s.types

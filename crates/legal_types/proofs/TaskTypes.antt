@@ -10,7 +10,7 @@ use Rattle.ada_tree.specs.declared.static_types.Mark.{Mark}
 use Rattle.ada_tree.specs.TypeTable.{TypeTable}
 use Rattle.ada_tree.specs.PlainExpr.{PExpr, PBounds, PDrange, RGiven, RMarked}
 use Rattle.ada_tree.specs.PlainStmt.{PFormal}
-use Rattle.ada_tree.specs.PlainDecl.{PDecl, PShape, OPlain, ORow, PInit, PEntry, PTask, DNumber, DObject, DEnumeration, DArray, DSubtype, DException, DIntIo, DPragma, DTask, DTaskBody, PDecls, no_decl, decl_then}
+use Rattle.ada_tree.specs.PlainDecl.{PDecl, PShape, OPlain, OArray, PInit, PEntry, PTask, DNumber, DObject, DEnumeration, DArray, DSubtype, DException, DIntIo, DPragma, DTask, DTaskBody, PDecls, no_decl, decl_then}
 use Rattle.ada_tree.specs.PlainProgram.{PProgram}
 use Rattle.ada_tree.specs.Every.{EveryExpr, EveryBounds, EveryDrange, EveryShape, EveryEntry, EveryTask, EveryDecl, EveryDecls}
 use Rattle.ada_tree.specs.WellPlaced.{well_placed, IsWellPlaced}
@@ -26,10 +26,9 @@ use Rattle.ada_tree.specs.RuleMismatch.{is_allowed}
 use Rattle.ada_tree.specs.Refusals.{MeetsTypeRules, types_in}
 use Rattle.syn_event.specs.Units.{decl_list, tasks_in}
 use Rattle.syn_event.specs.Extents.{between, value_there, bounds_extent, marked_extent}
-use Rattle.syn_event.specs.TaskParts.{TaskPart, parts_of_type, object_parts, type_named, with_type, single_part, parts_in}
-use Rattle.ada_value.specs.StaticLaw.{HasValueAt}
+use Rattle.syn_event.specs.NamedTasks.{NamedTasks, task_names_of_type, object_task_names, type_named, with_type, single_task_name, task_names_in}
 use Rattle.ada_value.specs.Values as values
-use Rattle.ada_value.specs.Values.{limits_of, limits_or, limits_named}
+use Rattle.ada_value.specs.Values.{limits_of, limits_or}
 use Rattle.ada_value.specs.Evaluating.{bounds_of, narrowed, range_between}
 use Rattle.rewritten_types.specs.Agreement.{IsScalar}
 use Rattle.rewritten_types.specs.Rewriting.{DeclareOnce}
@@ -37,7 +36,7 @@ use Rattle.rewritten_types.proofs.Lookups.{find-all, all-append}
 use Rattle.rewritten_types.proofs.Refused.{declared_once}
 use Rattle.legal_sites.specs.Met.{IsMet}
 use Rattle.legal_sites.proofs.Meeting.{all-front, all-back, all-flat}
-use Rattle.legal_types.specs.Typed.{HasLimits, HasTypedTasks, IsFirstEntry, IsFirstTask, IsScalarName, IsSmall, IsTypedEntry, IsTypedPart, IsTypedTask}
+use Rattle.legal_types.specs.Typed.{HasLimits, HasPosition, HasTypedTasks, IsFirstEntry, IsFirstTask, IsScalarName, IsSmall, IsTypedEntry, IsTypedPart, IsTypedTask}
 use Rattle.legal_types.proofs.ExprKinds.{IsScalarMark, told, scalar-mark}
 use Rattle.legal_types.proofs.StaticParts.{IsStaticIn, AreBounds, static-told, HasRange, drange-met}
 use Rattle.legal_types.proofs.TypedValues.{mark-of}
@@ -51,9 +50,6 @@ use Rattle.legal_types.proofs.MainScopes.{Stands, AllStand, main-stands}
 -- a range with its limits by the table, which are those that the scope tells
 pub record IsRangeHere (T : TypeTable) (s : Scope) (r : PDrange) : Type 0 where
   pub limits : HasLimits T r
-  -- its bounds are values
-  pub first : HasValueAt T limits.limits.kind limits.limits.first
-  pub last : HasValueAt T limits.limits.kind limits.limits.last
   pub known : drange_range s r ≡ Some record { kind = limits.limits.kind; first = limits.limits.first; last = limits.limits.last }
 
 module _ (T : TypeTable) (s : Scope) (stands : Stands T s) where
@@ -70,20 +66,20 @@ module _ (T : TypeTable) (s : Scope) (stands : Stands T s) where
       )
 
   -- its first and its last value are there
-  bound-here : (id : NameId) (h : IsScalarMark s id) (z : ℤ) → HasValueAt stands.root h.leads.mark.kind z → HasValueAt T h.leads.mark.kind z
+  bound-here : (id : NameId) (h : IsScalarMark s id) (z : ℤ) → HasPosition stands.root h.leads.mark.kind z → HasPosition T h.leads.mark.kind z
   bound-here id h z f =
       let k = mark-of stands.root s stands.typed stands.over id h.leads.mark.kind (ap scalar_kind h.marks) in
       value-grown stands.root T stands.later.grows h.leads.mark.kind z (scalar-has stands.root h.leads.mark.kind k.scalar) f
 
-  first-here : (id : NameId) (h : IsScalarMark s id) → HasValueAt T h.leads.mark.kind h.leads.mark.first
+  first-here : (id : NameId) (h : IsScalarMark s id) → HasPosition T h.leads.mark.kind h.leads.mark.first
   first-here id h =
       bound-here id h h.leads.mark.first
-      (find-all (λ (y : Mark). HasValueAt stands.root y.kind y.first) (λ y. is_named id y.name) stands.root.marks h.leads.mark (recursion_from_All _ stands.root.marks stands.typed.sound.firsts) (root-mark id h))
+      (find-all (λ (y : Mark). HasPosition stands.root y.kind y.first) (λ y. is_named id y.name) stands.root.marks h.leads.mark stands.typed.firsts (root-mark id h))
 
-  last-here : (id : NameId) (h : IsScalarMark s id) → HasValueAt T h.leads.mark.kind h.leads.mark.last
+  last-here : (id : NameId) (h : IsScalarMark s id) → HasPosition T h.leads.mark.kind h.leads.mark.last
   last-here id h =
       bound-here id h h.leads.mark.last
-      (find-all (λ (y : Mark). HasValueAt stands.root y.kind y.last) (λ y. is_named id y.name) stands.root.marks h.leads.mark (recursion_from_All _ stands.root.marks stands.typed.sound.lasts) (root-mark id h))
+      (find-all (λ (y : Mark). HasPosition stands.root y.kind y.last) (λ y. is_named id y.name) stands.root.marks h.leads.mark stands.typed.lasts (root-mark id h))
 
   -- a scalar mark of the scope has that name in the table
   pub name-here : (id : NameId) (h : IsScalarMark s id) → IsScalarName T id
@@ -118,12 +114,12 @@ module _ (T : TypeTable) (s : Scope) (stands : Stands T s) where
           limits = record { kind = h.kind; first = h.first.value; last = h.last.value };
           range = bounds-worth h.kind b h.first.value h.last.value x y;
           scalar = x.kind.scalar;
+          first = worth-value T h.kind b.first h.first.value x;
+          last = worth-value T h.kind b.last h.last.value y;
           name = tt;
           told = bounds-told h.kind b h.first.value h.last.value x y;
           order = h.order;
         };
-        first = worth-value T h.kind b.first h.first.value x;
-        last = worth-value T h.kind b.last h.last.value y;
         known = ap (λ o. given_range s o b) h.first.kind ∙ bounds-known h.kind b h.first h.last;
       }
   limits-here names (RMarked x) every h = by_bounds x.bounds refl every.1 h.bounds
@@ -143,12 +139,12 @@ module _ (T : TypeTable) (s : Scope) (stands : Stands T s) where
           limits = limits_of y;
           range = ap₂ (λ n o. narrowed T [] (limits_or n) o) m.0 e;
           scalar = m.1;
+          first = first-here id h.mark;
+          last = last-here id h.mark;
           name = name-here id h.mark;
           told = ap (marked_extent T id) e ∙ ap (option_map (λ (z : Mark). record { first = z.first; last = z.last })) m.0;
           order = m.2;
         };
-        first = first-here id h.mark;
-        last = last-here id h.mark;
         known = ap₂ (marked_range s) h.mark.marks e ∙ ap (option_map (λ (z : Mark). record { kind = z.kind; first = z.first; last = z.last })) h.mark.leads.there;
       }
       by_bounds (Some b) e q w =
@@ -159,12 +155,12 @@ module _ (T : TypeTable) (s : Scope) (stands : Stands T s) where
               limits = record { kind = y.kind; first = w.0.value; last = w.1.value };
               range = ap₂ (λ n o. narrowed T [] (limits_or n) o) m.0 e ∙ ap (λ r. values.and_then r (λ z. Ok record { kind = y.kind; first = z.first; last = z.last })) (bounds-worth y.kind b w.0.value w.1.value f l);
               scalar = m.1;
+              first = worth-value T y.kind b.first w.0.value f;
+              last = worth-value T y.kind b.last w.1.value l;
               name = name-here id h.mark;
               told = ap (marked_extent T id) e ∙ bounds-told y.kind b w.0.value w.1.value f l;
               order = w.2;
             };
-            first = worth-value T y.kind b.first w.0.value f;
-            last = worth-value T y.kind b.last w.1.value l;
             known = ap₂ (marked_range s) h.mark.marks e ∙ bounds-known y.kind b w.0 w.1;
           }
 
@@ -187,21 +183,21 @@ all-more : {A : Type 0} (P Q : A → Type 0) (xs : List A) → ((x : A) → P x 
 all-more P Q [] f h = tt
 all-more P Q (x ∷ xs) f h = (f x h.0, all-more P Q xs f h.1)
 
-no-word : (b : Bool) (w : Word) → (if b then w.span ∷ [] else []) ≡ [] → b ≡ false
+pub no-word : (b : Bool) (w : Word) → (if b then w.span ∷ [] else []) ≡ [] → b ≡ false
 no-word true w e = cc
 no-word false w e = refl
 
-among-apart : (names : List ℕ) (a b : ℕ) → is_among names a ≡ true → is_among names b ≡ false → (a == b) ≡ false
+pub among-apart : (names : List ℕ) (a b : ℕ) → is_among names a ≡ true → is_among names b ≡ false → (a == b) ≡ false
 among-apart names a b e f = by_test (a == b) refl
   where
     by_test : (t : Bool) → (a == b) ≡ t → t ≡ false
     by_test false p = refl
     by_test true p = absurd (true≢false (sym e ∙ ap (is_among names) (eqb-true a b p) ∙ f))
 
-among-first : (names : List ℕ) (a : ℕ) → is_among (a ∷ names) a ≡ true
+pub among-first : (names : List ℕ) (a : ℕ) → is_among (a ∷ names) a ≡ true
 among-first names a = ap (λ b. b || is_among names a) (eq-eqb a a refl)
 
-among-more : (names : List ℕ) (n a : ℕ) → is_among names a ≡ true → is_among (n ∷ names) a ≡ true
+pub among-more : (names : List ℕ) (n a : ℕ) → is_among names a ≡ true → is_among (n ∷ names) a ≡ true
 among-more names n a h = by_test (n == a)
   where
     by_test : (b : Bool) → (b || is_among names a) ≡ true
@@ -297,33 +293,33 @@ tasks-typed T names (decl_then (DTaskBody w objects its sp) rest) s h every = ta
 
 -- ---- arrays of tasks
 
-parts-of-type : (T : TypeTable) (o : Option PTask) (ws : List Word) (row : Option PDrange) → IfSome row (HasLimits T) → AllByRecursion (IsTypedPart T) (parts_of_type o ws row)
+parts-of-type : (T : TypeTable) (o : Option PTask) (ws : List Word) (row : Option PDrange) → IfSome row (HasLimits T) → AllByRecursion (IsTypedPart T) (task_names_of_type o ws row)
 parts-of-type T None ws row h = tt
 parts-of-type T (Some t) [] row h = tt
 parts-of-type T (Some t) (w ∷ ws) row h = (h, parts-of-type T (Some t) ws row h)
 
 object-parts : (T : TypeTable) (names : List (List ℕ)) (kinds : List PTask) (s : Scope) → Stands T s → (ws : List Word) (constant : Bool) (shape : PShape) (init : Option PInit) → EveryShape (well_placed names) shape →
-    AllByRecursion IsMet (object_sites s ws constant shape init (declared_object s constant shape)) → AllByRecursion (IsTypedPart T) (object_parts kinds ws shape)
+    AllByRecursion IsMet (object_sites s ws constant shape init (declared_object s constant shape)) → AllByRecursion (IsTypedPart T) (object_task_names kinds ws shape)
 object-parts T names kinds s stands ws constant (OPlain x) init every h = parts-of-type T (type_named kinds x.mark.name) ws None tt
-object-parts T names kinds s stands ws constant (ORow index x) init every h =
-    let d = declared_object s constant (ORow index x) in
+object-parts T names kinds s stands ws constant (OArray index x) init every h =
+    let d = declared_object s constant (OArray index x) in
     let first : List Site = names_sites (s.in_main && (constant || is_task_object d.thing)) s ws in
-    let second : List Site = shape_sites s constant (ORow index x) init in
+    let second : List Site = shape_sites s constant (OArray index x) init in
     let third : List Site = if_there (init_sites s d.types (object_marking d)) init in
     let met : AllByRecursion IsMet second = all-back IsMet first second (all-front IsMet (first ++ second) third h) in
     let sub : List Site = subind_sites true (component_marks (may_be_task s constant x.bounds init)) s x in
     parts-of-type T (type_named kinds x.mark.name) ws (Some index) (range-here T s stands names index every.0 (drange-met s stands.over.clear index (all-front IsMet (drange_sites true s index) sub met)))
 
-single-typed : (T : TypeTable) (b : Bool) (t : PTask) (sp : Span) → AllByRecursion (IsTypedPart T) (single_part b t sp)
+single-typed : (T : TypeTable) (b : Bool) (t : PTask) (sp : Span) → AllByRecursion (IsTypedPart T) (single_task_name b t sp)
 single-typed T true t sp = tt
 single-typed T false t sp = (tt, tt)
 
-parts-typed : (T : TypeTable) (names : List (List ℕ)) (ds : PDecls) (kinds : List PTask) (s : Scope) → AllStand T s ds → EveryDecls (well_placed names) ds → AllByRecursion (IsTypedPart T) (parts_in kinds ds)
+parts-typed : (T : TypeTable) (names : List (List ℕ)) (ds : PDecls) (kinds : List PTask) (s : Scope) → AllStand T s ds → EveryDecls (well_placed names) ds → AllByRecursion (IsTypedPart T) (task_names_in kinds ds)
 parts-typed T names no_decl kinds s h every = tt
 parts-typed T names (decl_then (DTask t sp) rest) kinds s h every =
-    all-append (IsTypedPart T) (single_part t.of_kind t sp) _ (single-typed T t.of_kind t sp) (parts-typed T names rest (with_type kinds t.of_kind t) (after_decl s (DTask t sp)) h.2 every.1)
+    all-append (IsTypedPart T) (single_task_name t.of_kind t sp) _ (single-typed T t.of_kind t sp) (parts-typed T names rest (with_type kinds t.of_kind t) (after_decl s (DTask t sp)) h.2 every.1)
 parts-typed T names (decl_then (DObject ws constant shape init sp) rest) kinds s h every =
-    all-append (IsTypedPart T) (object_parts kinds ws shape) _ (object-parts T names kinds s h.0 ws constant shape init every.0.2 h.1) (parts-typed T names rest kinds _ h.2 every.1)
+    all-append (IsTypedPart T) (object_task_names kinds ws shape) _ (object-parts T names kinds s h.0 ws constant shape init every.0.2 h.1) (parts-typed T names rest kinds _ h.2 every.1)
 parts-typed T names (decl_then (DNumber name e sp) rest) kinds s h every = parts-typed T names rest kinds _ h.2 every.1
 parts-typed T names (decl_then (DEnumeration name ws sp) rest) kinds s h every = parts-typed T names rest kinds _ h.2 every.1
 parts-typed T names (decl_then (DArray name index x sp) rest) kinds s h every = parts-typed T names rest kinds _ h.2 every.1
@@ -334,22 +330,22 @@ parts-typed T names (decl_then (DPragma e sp) rest) kinds s h every = parts-type
 parts-typed T names (decl_then (DTaskBody w objects its sp) rest) kinds s h every = parts-typed T names rest kinds _ h.2 every.1
 
 -- the units of parts are tasks that are declared
-units-of-type : (P : PTask → Type 0) (kinds : List PTask) (id : NameId) (ws : List Word) (row : Option PDrange) → AllByRecursion P kinds → AllByRecursion (λ (x : TaskPart). P x.unit) (parts_of_type (type_named kinds id) ws row)
+units-of-type : (P : PTask → Type 0) (kinds : List PTask) (id : NameId) (ws : List Word) (row : Option PDrange) → AllByRecursion P kinds → AllByRecursion (λ (x : NamedTasks). P x.unit) (task_names_of_type (type_named kinds id) ws row)
 units-of-type P kinds id ws row h = by_type (type_named kinds id) refl
   where
-    all-of : (t : PTask) → P t → (vs : List Word) → AllByRecursion (λ (x : TaskPart). P x.unit) (parts_of_type (Some t) vs row)
+    all-of : (t : PTask) → P t → (vs : List Word) → AllByRecursion (λ (x : NamedTasks). P x.unit) (task_names_of_type (Some t) vs row)
     all-of t k [] = tt
     all-of t k (v ∷ vs) = (k, all-of t k vs)
 
-    by_type : (o : Option PTask) → type_named kinds id ≡ o → AllByRecursion (λ (x : TaskPart). P x.unit) (parts_of_type o ws row)
+    by_type : (o : Option PTask) → type_named kinds id ≡ o → AllByRecursion (λ (x : NamedTasks). P x.unit) (task_names_of_type o ws row)
     by_type (Some t) e = all-of t (find-all P (λ u. u.name.name.0 == id.0) kinds t h e) ws
     by_type None e = tt
 
-object-units : (P : PTask → Type 0) (kinds : List PTask) (ws : List Word) (shape : PShape) → AllByRecursion P kinds → AllByRecursion (λ (x : TaskPart). P x.unit) (object_parts kinds ws shape)
+object-units : (P : PTask → Type 0) (kinds : List PTask) (ws : List Word) (shape : PShape) → AllByRecursion P kinds → AllByRecursion (λ (x : NamedTasks). P x.unit) (object_task_names kinds ws shape)
 object-units P kinds ws (OPlain x) h = units-of-type P kinds x.mark.name ws None h
-object-units P kinds ws (ORow index x) h = units-of-type P kinds x.mark.name ws (Some index) h
+object-units P kinds ws (OArray index x) h = units-of-type P kinds x.mark.name ws (Some index) h
 
-single-unit : (P : PTask → Type 0) (b : Bool) (t : PTask) (sp : Span) → P t → AllByRecursion (λ (x : TaskPart). P x.unit) (single_part b t sp)
+single-unit : (P : PTask → Type 0) (b : Bool) (t : PTask) (sp : Span) → P t → AllByRecursion (λ (x : NamedTasks). P x.unit) (single_task_name b t sp)
 single-unit P true t sp h = tt
 single-unit P false t sp h = (h, tt)
 
@@ -357,11 +353,11 @@ more-types : (P : PTask → Type 0) (kinds : List PTask) (b : Bool) (t : PTask) 
 more-types P kinds true t h k = (h, k)
 more-types P kinds false t h k = k
 
-pub part-units : (P : PTask → Type 0) (ds : PDecls) (kinds : List PTask) → AllByRecursion P kinds → AllByRecursion P (tasks_in (decl_list ds)) → AllByRecursion (λ (x : TaskPart). P x.unit) (parts_in kinds ds)
+pub part-units : (P : PTask → Type 0) (ds : PDecls) (kinds : List PTask) → AllByRecursion P kinds → AllByRecursion P (tasks_in (decl_list ds)) → AllByRecursion (λ (x : NamedTasks). P x.unit) (task_names_in kinds ds)
 part-units P no_decl kinds k h = tt
 part-units P (decl_then (DTask t sp) rest) kinds k h =
-    all-append (λ (x : TaskPart). P x.unit) (single_part t.of_kind t sp) _ (single-unit P t.of_kind t sp h.0) (part-units P rest (with_type kinds t.of_kind t) (more-types P kinds t.of_kind t h.0 k) h.1)
-part-units P (decl_then (DObject ws constant shape init sp) rest) kinds k h = all-append (λ (x : TaskPart). P x.unit) (object_parts kinds ws shape) _ (object-units P kinds ws shape k) (part-units P rest kinds k h)
+    all-append (λ (x : NamedTasks). P x.unit) (single_task_name t.of_kind t sp) _ (single-unit P t.of_kind t sp h.0) (part-units P rest (with_type kinds t.of_kind t) (more-types P kinds t.of_kind t h.0 k) h.1)
+part-units P (decl_then (DObject ws constant shape init sp) rest) kinds k h = all-append (λ (x : NamedTasks). P x.unit) (object_task_names kinds ws shape) _ (object-units P kinds ws shape k) (part-units P rest kinds k h)
 part-units P (decl_then (DNumber name e sp) rest) kinds k h = part-units P rest kinds k h
 part-units P (decl_then (DEnumeration name ws sp) rest) kinds k h = part-units P rest kinds k h
 part-units P (decl_then (DArray name index x sp) rest) kinds k h = part-units P rest kinds k h
@@ -387,7 +383,7 @@ tasks-have-types p rules placed small =
 -- the ranges of a declaration are static and not empty, at its scope
 abbrev pub DeclRanges : TypeTable → Scope → PDecl → Type 0
 DeclRanges T s (DTask t sp) = AllByRecursion (λ (e : PEntry). IfSome e.family (IsRangeHere T s)) t.entries
-DeclRanges T s (DObject ws constant (ORow r x) init sp) = IsRangeHere T s r
+DeclRanges T s (DObject ws constant (OArray r x) init sp) = IsRangeHere T s r
 DeclRanges T s _ = Unit {0}
 
 abbrev pub AllRanges : TypeTable → Scope → PDecls → Type 0
@@ -412,10 +408,10 @@ module _ (T : TypeTable) (s : Scope) (stands : Stands T s) (names : List (List �
   decl-ranges (DTask t sp) every h =
       let rest : AllByRecursion IsMet (entries_sites s [] t.entries ++ flat_map (λ q. static_of s (Some 0) q.value) t.priorities) = h.1 in
       entries-ranges [] t.entries (recursion_from_All _ t.entries every.1.1) (all-front IsMet (entries_sites s [] t.entries) (flat_map (λ q. static_of s (Some 0) q.value) t.priorities) rest)
-  decl-ranges (DObject ws constant (ORow index x) init sp) every h =
-      let d = declared_object s constant (ORow index x) in
+  decl-ranges (DObject ws constant (OArray index x) init sp) every h =
+      let d = declared_object s constant (OArray index x) in
       let first : List Site = names_sites (s.in_main && (constant || is_task_object d.thing)) s ws in
-      let second : List Site = shape_sites s constant (ORow index x) init in
+      let second : List Site = shape_sites s constant (OArray index x) init in
       let third : List Site = if_there (init_sites s d.types (object_marking d)) init in
       let met : AllByRecursion IsMet second = all-back IsMet first second (all-front IsMet (first ++ second) third h) in
       let sub : List Site = subind_sites true (component_marks (may_be_task s constant x.bounds init)) s x in

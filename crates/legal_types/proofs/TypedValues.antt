@@ -17,9 +17,9 @@ use Rattle.ada_tree.specs.declared.static_types.Constant.{Constant}
 use Rattle.ada_tree.specs.TypeTable.{TypeTable}
 use Rattle.ada_tree.specs.PlainExpr.{PExpr, EInteger, EName, EIndex, EAttribute, EAttributeOf, EParen, EUnary, EBinary}
 use Rattle.ada_tree.specs.Attributes.{Attribute, First, Last, Pos, Val, Succ, Pred, Image, NoAttribute, attribute_of, is_bound, false_name, true_name}
-use Rattle.ada_tree.specs.Scope.{Scope, integer_kind, truth_kind, Thing, TypeMark, ConstantObject, Literal, kind_at, mark_at, and_then, TaskType, SingleTask, TaskObject, TaskRow, Variable, Parameter, LoopParameter, AnException, MainProcedure, AnotherUnit, Unclear, reading_of_kind, reading_of_mark, reading_of, reading, marking_of_kind, marking_of_mark, marking_of, marking, scalar_kind, meaning}
+use Rattle.ada_tree.specs.Scope.{Scope, integer_kind, truth_kind, Thing, TypeMark, ConstantObject, Literal, kind_at, mark_at, and_then, TaskType, SingleTask, TaskObject, TaskArray, Variable, Parameter, LoopParameter, AnException, MainProcedure, AnotherUnit, Unclear, reading_of_kind, reading_of_mark, reading_of, reading, marking_of_kind, marking_of_mark, marking_of, marking, scalar_kind, meaning}
 use Rattle.ada_tree.specs.StaticValue as static
-use Rattle.ada_tree.specs.StaticValue.{is_integer_value, is_of_kind, is_static, is_named, keeps_static, value_of, value_named, mark_named, constant_named, literal_position, position_in, first_of_two}
+use Rattle.ada_tree.specs.StaticValue.{is_integer_value, is_of_kind, is_static, is_named, keeps_static, value_named, mark_named, constant_named, literal_position, position_in, first_of_two}
 use Rattle.ada_tree.specs.ExprTypes.{Operand, of_kind, takes, takes_one, is_taken, given_by, unary_kind, binary_kind, argument_kind, function_kind, bound_kind, if_kind, name_kind, attribute_kind, kind_of}
 use Rattle.ada_value.specs.declared.values.Value.{Value}
 use Rattle.ada_value.specs.declared.values.Value.TheVariants.{Number, Truth}
@@ -29,9 +29,10 @@ use Rattle.ada_value.specs.Values as values
 use Rattle.ada_value.specs.Values.{position_of, kind_of_value, is_true_value, value_at, value_in, word, placed, based, limits_of, limits_or, limits_named}
 use Rattle.ada_value.specs.Evaluating as evaluating
 use Rattle.ada_value.specs.Evaluating.{evaluated, literal_value, constant_value, fixed_value, bound_value, attribute_value, signed_value, combined}
-use Rattle.ada_value.specs.StaticLaw.{HasValueAt, HasFewLiterals, IsSound}
+use Rattle.ada_value.specs.StaticLaw.{HasFewLiterals, IsSound}
 use Rattle.rewritten_types.specs.Agreement.{scalar_only, HasMark, IsScalar, Keeps, Sound, Whole}
 use Rattle.rewritten_types.proofs.Lookups.{some-same, find-all}
+use Rattle.legal_types.specs.Typed.{HasLiteral, HasPosition}
 use Rattle.legal_types.proofs.ExprKinds.{IsClear}
 
 -- all names are old
@@ -40,11 +41,12 @@ anybody n = true
 
 -- ---- values of a kind
 
--- The value is of the kind that stands at that place, and the one at its position there.
+-- The value is of the kind that stands at that place, and the one at its position there; of an enumeration it is a literal.
 pub record IsOf (T : TypeTable) (k : ℕ) (v : Value) : Type 0 where
   pub scalar : IsScalar T k
   pub kind : kind_of_value v ≡ k
   pub same : value_at T k (position_of v) ≡ v
+  pub literal : HasLiteral (kind_at T k) (position_of v)
 
 -- INTEGER and BOOLEAN stand first alone, and the place of an enumeration is a number of 32 bits
 abbrev pub IsPlaced : ℕ → Kind → Type 0
@@ -59,6 +61,9 @@ pub record IsTyped (T : TypeTable) : Type 0 where
   pub root : Sound T
   pub sound : IsSound T
   pub places : (k : ℕ) (x : Kind) → kind_at T k ≡ Some x → IsPlaced k x
+  pub firsts : AllByRecursion (λ m. HasPosition T m.kind m.first) T.marks
+  pub lasts : AllByRecursion (λ m. HasPosition T m.kind m.last) T.marks
+  pub constants : AllByRecursion (λ c. HasPosition T (limits_or (mark_at T c.mark)).kind c.value) T.constants
   pub orders : AllByRecursion (λ m. int_le m.first m.last ≡ true) T.marks
 
 -- the scope's names mean what the table says, which the scope's own table keeps
@@ -94,11 +99,16 @@ module _ (T : TypeTable) (typed : IsTyped T) where
   truth-scalar = (kind.Truth, ap scalar_only typed.whole.truths)
 
   truth-of : (b : Bool) → IsOf T truth_kind (Truth b)
-  truth-of true = record { scalar = truth-scalar; kind = refl; same = ap (λ o. value_in truth_kind o (pos 1)) typed.whole.truths }
-  truth-of false = record { scalar = truth-scalar; kind = refl; same = ap (λ o. value_in truth_kind o (pos 0)) typed.whole.truths }
+  truth-of true = record { scalar = truth-scalar; kind = refl; same = ap (λ o. value_in truth_kind o (pos 1)) typed.whole.truths; literal = subst (λ o. HasLiteral o (pos 1)) (sym typed.whole.truths) tt }
+  truth-of false = record { scalar = truth-scalar; kind = refl; same = ap (λ o. value_in truth_kind o (pos 0)) typed.whole.truths; literal = subst (λ o. HasLiteral o (pos 0)) (sym typed.whole.truths) tt }
 
   number-of : (z : ℤ) → is_integer_value z ≡ true → IsOf T integer_kind (Number z)
-  number-of z e = record { scalar = (kind.Integer, ap scalar_only typed.whole.integers); kind = refl; same = ap (λ o. value_in integer_kind o z) typed.whole.integers ∙ ap (λ b. if b then Number z else Number (pos 0)) e }
+  number-of z e = record {
+    scalar = (kind.Integer, ap scalar_only typed.whole.integers);
+    kind = refl;
+    same = ap (λ o. value_in integer_kind o z) typed.whole.integers ∙ ap (λ b. if b then Number z else Number (pos 0)) e;
+    literal = subst (λ o. HasLiteral o z) (sym typed.whole.integers) tt;
+  }
 
   fitted-of : (z : ℤ) → Gives (IsOf T integer_kind) (values.fitted z)
   fitted-of z = gives-if (IsOf T integer_kind) (is_integer_value z) (Ok (Number z)) (Err raised.Numeric) (number-of z) (λ e. tt)
@@ -122,8 +132,13 @@ module _ (T : TypeTable) (typed : IsTyped T) where
   place-kind k (Some (kind.Array index first last part)) z x e f = absurd (none-some x e)
   place-kind k None z x e f = absurd (none-some x e)
 
-  pub value-of : (k : ℕ) (z : ℤ) → IsScalar T k → position_of (value_at T k z) ≡ z → IsOf T k (value_at T k z)
-  value-of k z h e = record { scalar = h; kind = place-kind k (kind_at T k) z h.0 h.1 refl; same = ap (value_at T k) e }
+  pub value-of : (k : ℕ) (z : ℤ) → IsScalar T k → position_of (value_at T k z) ≡ z → HasLiteral (kind_at T k) z → IsOf T k (value_at T k z)
+  value-of k z h e l = record {
+    scalar = h;
+    kind = place-kind k (kind_at T k) z h.0 h.1 refl;
+    same = ap (value_at T k) e;
+    literal = subst (HasLiteral (kind_at T k)) (sym e) l;
+  }
 
 -- ---- positions
 
@@ -161,6 +176,14 @@ has-position k (Some (kind.Enumeration names)) (negsuc n) f e =
     absurd (omega (arith, ints))
 has-position k (Some (kind.Array index first last part)) z f e = clash e
 has-position k None z f e = clash e
+
+-- of an enumeration a literal stands there
+base-literal : (o : Option Kind) (z : ℤ) → is_of_kind o z ≡ true → HasLiteral o z
+base-literal (Some (kind.Enumeration names)) z e = right-true (int_le (pos 0) z) (int_lt z (pos (length names))) e
+base-literal (Some kind.Integer) z e = tt
+base-literal (Some kind.Truth) z e = tt
+base-literal (Some (kind.Array index first last part)) z e = tt
+base-literal None z e = tt
 
 few-at : (xs : List Kind) (k : ℕ) → AllByRecursion HasFewLiterals xs → IfSome (slice_get xs k) HasFewLiterals
 few-at [] k h = tt
@@ -267,7 +290,7 @@ module _ (T : TypeTable) (s : Scope) (typed : IsTyped T) (over : IsOver T s) whe
       by_thing (Some (TaskType entries)) p f = absurd (none-some k f)
       by_thing (Some (SingleTask entries)) p f = absurd (none-some k f)
       by_thing (Some (TaskObject entries)) p f = absurd (none-some k f)
-      by_thing (Some (TaskRow range entries)) p f = absurd (none-some k f)
+      by_thing (Some (TaskArray range entries)) p f = absurd (none-some k f)
       by_thing (Some (Variable m)) p f = absurd (none-some k f)
       by_thing (Some (ConstantObject m)) p f = absurd (none-some k f)
       by_thing (Some (Parameter mode m)) p f = absurd (none-some k f)
@@ -286,11 +309,11 @@ module _ (T : TypeTable) (s : Scope) (typed : IsTyped T) (over : IsOver T s) whe
   constant-of : (id : NameId) (c : Constant) (k : ℕ) → constant_named T id ≡ Some c → name_kind (reading s id) ≡ Some k → IsOf T k (constant_value T c)
   constant-of id c k e f =
       let x : HasMark T c.mark = find-all (λ (d : Constant). HasMark T d.mark) (λ d. d.name.0 == id.0) T.constants c typed.root.constants e in
-      let h = find-all (λ (d : Constant). HasValueAt T (limits_or (mark_at T d.mark)).kind d.value) (λ d. d.name.0 == id.0) T.constants c (recursion_from_All _ T.constants typed.sound.constants) e in
+      let h = find-all (λ (d : Constant). HasPosition T (limits_or (mark_at T d.mark)).kind d.value) (λ d. d.name.0 == id.0) T.constants c typed.constants e in
       let r = kind-read x.0.kind (kind_at s.types x.0.kind) k (ap (λ o. name_kind (reading_of_mark s.types o)) (sym (over.keeps.grows.mark c.mark x.0 x.1)) ∙ read-as id (ConstantObject c.mark) k (over.constants id c e) f) in
       let same : (limits_or (mark_at T c.mark)).kind ≡ x.0.kind = ap (λ o. (limits_or o).kind) x.1 in
       subst (λ j. IsOf T j (constant_value T c)) (same ∙ r.0)
-      (value-of T typed (limits_or (mark_at T c.mark)).kind c.value (subst (IsScalar T) (sym same) (scalar-kept x.0.kind r.1)) h.same)
+      (value-of T typed (limits_or (mark_at T c.mark)).kind c.value (subst (IsScalar T) (sym same) (scalar-kept x.0.kind r.1)) h.same h.literal)
 
   name-of : (id : NameId) (k : ℕ) → is_some (value_named T id) ≡ true → name_kind (reading s id) ≡ Some k → IsOf T k (fixed_value T id)
   name-of id k st f = by_tests (id.0 == false_name) (id.0 == true_name) refl refl st
@@ -321,10 +344,10 @@ module _ (T : TypeTable) (s : Scope) (typed : IsTyped T) (over : IsOver T s) whe
       by_mark : (h : IsMarkOf T id k) → IsOf T k (bound_value T (limits_of h.mark) a)
       by_mark h =
           let m = h.mark in
-          let f = find-all (λ (x : Mark). HasValueAt T x.kind x.first) (λ x. is_named id x.name) T.marks m (recursion_from_All _ T.marks typed.sound.firsts) h.named in
-          let l = find-all (λ (x : Mark). HasValueAt T x.kind x.last) (λ x. is_named id x.name) T.marks m (recursion_from_All _ T.marks typed.sound.lasts) h.named in
+          let f = find-all (λ (x : Mark). HasPosition T x.kind x.first) (λ x. is_named id x.name) T.marks m typed.firsts h.named in
+          let l = find-all (λ (x : Mark). HasPosition T x.kind x.last) (λ x. is_named id x.name) T.marks m typed.lasts h.named in
           let scalar : IsScalar T m.kind = subst (IsScalar T) (sym h.kind) h.scalar in
-          subst (λ j. IsOf T j (bound_value T (limits_of m) a)) h.kind (by_attribute a b (value-of T typed m.kind m.first scalar f.same) (value-of T typed m.kind m.last scalar l.same))
+          subst (λ j. IsOf T j (bound_value T (limits_of m) a)) h.kind (by_attribute a b (value-of T typed m.kind m.first scalar f.same f.literal) (value-of T typed m.kind m.last scalar l.same l.literal))
         where
           by_attribute : (a : Attribute) → is_bound a ≡ true → IsOf T h.mark.kind (value_at T h.mark.kind h.mark.first) → IsOf T h.mark.kind (value_at T h.mark.kind h.mark.last) → IsOf T h.mark.kind (bound_value T (limits_of h.mark) a)
           by_attribute First b f l = f
@@ -355,7 +378,7 @@ module _ (T : TypeTable) (s : Scope) (typed : IsTyped T) (over : IsOver T s) whe
   based-of : (k : ℕ) (z : ℤ) → IsScalar T k → Gives (IsOf T k) (based T k z)
   based-of k z h =
       gives-if (IsOf T k) (is_of_kind (kind_at T k) z) (Ok (value_at T k z)) (Err raised.Constraint)
-      (λ e. value-of T typed k z h (has-position k (kind_at T k) z (few-at T.kinds k (recursion_from_All _ T.kinds typed.sound.kinds)) e)) (λ e. tt)
+      (λ e. value-of T typed k z h (has-position k (kind_at T k) z (few-at T.kinds k (recursion_from_All _ T.kinds typed.sound.kinds)) e) (base-literal (kind_at T k) z e)) (λ e. tt)
 
   attribute-of : (id : NameId) (a : Attribute) (k : ℕ) (q : Option ℕ) (v : Value) → keeps_static a ≡ true → attribute_kind a (scalar_kind (marking s id)) q ≡ Some k → Gives (IsOf T k) (attribute_value T (limits_named T id) a v)
   attribute-of id a k q v st e = by_kind (scalar_kind (marking s id)) refl e

@@ -1,5 +1,5 @@
 -- What the static rules leave of the types of a program's tasks: ranges of families and of arrays of tasks, and marks of formals (3.5, 3.6.1, 9.1, 9.5; this project's rule).
-use Rattle.std.specs.Prelude.{◌≡◌, ◌≤◌, ℕ, int_le, true, ◌==◌, List, [], length, find, IfSome, Some, Ok}
+use Rattle.std.specs.Prelude.{◌≡◌, ◌≤◌, ℕ, ℤ, pos, int_le, int_lt, true, ◌==◌, List, [], length, find, IfSome, Option, Some, None, Ok}
 use Rattle.std.specs.List.{AllByRecursion}
 use Rattle.ada_tree.specs.declared.naming.NameId.{NameId}
 use Rattle.ada_tree.specs.declared.static_types.Kind.{Kind}
@@ -10,15 +10,14 @@ use Rattle.ada_tree.specs.PlainExpr.{PDrange, RGiven, RMarked}
 use Rattle.ada_tree.specs.PlainDecl.{PEntry, PTask}
 use Rattle.ada_tree.specs.PlainProgram.{PProgram}
 use Rattle.ada_tree.specs.Scope.{kind_at}
-use Rattle.ada_tree.specs.StaticValue.{mark_named}
+use Rattle.ada_tree.specs.StaticValue.{is_integer_value, mark_named}
 use Rattle.ada_tree.specs.Refusals.{types_in}
 use Rattle.syn_event.specs.Units.{tasks_of}
 use Rattle.syn_event.specs.Extents.{extent}
-use Rattle.syn_event.specs.TaskParts.{TaskPart, parts_of}
+use Rattle.syn_event.specs.NamedTasks.{NamedTasks, task_names_of}
 use Rattle.ada_value.specs.declared.values.Limits.{Limits}
-use Rattle.ada_value.specs.Values.{word}
+use Rattle.ada_value.specs.Values.{word, position_of, value_at}
 use Rattle.ada_value.specs.Evaluating.{range_of}
-use Rattle.ada_value.specs.StaticLaw.{HasValueAt}
 use Rattle.rewritten_types.specs.Agreement.{IsScalar}
 
 -- ---- the size of a table
@@ -34,6 +33,22 @@ IsSmallKind k (Array index first last part) = Unit {0}
 pub record IsSmall (T : TypeTable) : Type 0 where
   pub kinds : (k : ℕ) (x : Kind) → kind_at T k ≡ Some x → IsSmallKind k x
 
+-- ---- positions
+
+-- an enumeration has a literal at the position, if it is not negative; of other kinds nothing is asked
+abbrev pub HasLiteral : Option Kind → ℤ → Type 0
+HasLiteral (Some (Enumeration names)) z = int_lt z (pos (length names)) ≡ true
+HasLiteral (Some Integer) z = Unit {0}
+HasLiteral (Some Truth) z = Unit {0}
+HasLiteral (Some (Array index first last part)) z = Unit {0}
+HasLiteral None z = Unit {0}
+
+-- A kind has a value at a position, which is one of 32 bits: the value of the kind there has that position. Of an enumeration it is a literal (3.5.1).
+pub record HasPosition (T : TypeTable) (k : ℕ) (z : ℤ) : Type 0 where
+  pub fits : is_integer_value z ≡ true
+  pub same : position_of (value_at T k z) ≡ z
+  pub literal : HasLiteral (kind_at T k) z
+
 -- ---- marks and ranges
 
 -- the name is that of a scalar type or subtype
@@ -42,18 +57,20 @@ pub record IsScalarName (T : TypeTable) (id : NameId) : Type 0 where
   pub named : mark_named T id ≡ Some mark
   pub scalar : IsScalar T mark.kind
   -- its first value is there
-  pub first : HasValueAt T mark.kind mark.first
+  pub first : HasPosition T mark.kind mark.first
 
 -- a range that starts with a name starts with that of a type or subtype
 abbrev pub HasTypeName : TypeTable → PDrange → Type 0
 HasTypeName T (RGiven b) = Unit {0}
 HasTypeName T (RMarked x) = IsScalarName T x.mark.name
 
--- The range is static and not empty: it comes to a range of a kind of values, which is what the numbers read.
+-- The range is static and not empty: it comes to a range between two values of a kind, which is what the numbers read.
 pub record HasLimits (T : TypeTable) (r : PDrange) : Type 0 where
   pub limits : Limits
   pub range : range_of T [] r ≡ Ok limits
   pub scalar : IsScalar T limits.kind
+  pub first : HasPosition T limits.kind limits.first
+  pub last : HasPosition T limits.kind limits.last
   pub name : HasTypeName T r
   pub told : extent T r ≡ Some record { first = limits.first; last = limits.last }
   pub order : int_le limits.first limits.last ≡ true
@@ -79,11 +96,11 @@ abbrev pub IsFirstTask : List PTask → PTask → Type 0
 IsFirstTask all t = find (λ x. x.name.name.0 == t.name.name.0) all ≡ Some t
 
 -- the range of an array of tasks is static
-abbrev pub IsTypedPart : TypeTable → TaskPart → Type 0
-IsTypedPart T x = IfSome x.row (HasLimits T)
+abbrev pub IsTypedPart : TypeTable → NamedTasks → Type 0
+IsTypedPart T x = IfSome x.index_range (HasLimits T)
 
 -- The tasks of a legal program have names of their own; ranges of families and of arrays of tasks are static, and marks of formals are scalar.
 pub record HasTypedTasks (p : PProgram) : Type 0 where
   pub found : AllByRecursion (IsFirstTask (tasks_of p)) (tasks_of p)
   pub tasks : AllByRecursion (IsTypedTask (types_in p)) (tasks_of p)
-  pub parts : AllByRecursion (IsTypedPart (types_in p)) (parts_of p)
+  pub parts : AllByRecursion (IsTypedPart (types_in p)) (task_names_of p)

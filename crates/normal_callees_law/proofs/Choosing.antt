@@ -32,7 +32,7 @@ use Rattle.normal_model.specs.Making.{one, moving, variable}
 use Rattle.normal_model.specs.Members.{known_task, known_callee, kind_of_index, index_literal, member_arm, by_member, chosen_if}
 use Rattle.translation_law.specs.Translations.{Translation, types_before, types_after}
 use Rattle.translation_law.specs.OldNames.{OldExpr, OldOption, old_some}
-use Rattle.translation_law.specs.Images.{IsRow, something_there}
+use Rattle.translation_law.specs.Images.{IsSomething, something_there}
 use Rattle.translation_law.specs.Controls.{task_in, Under}
 use Rattle.translation_law.specs.Floors.{IsTranslation}
 use Rattle.translation_law.proofs.Fixed.{fixed-after, fixed-worth}
@@ -99,7 +99,7 @@ first-at p (k ∷ ks) t h =
         go false k = cc
 
 module _ (x : Translation) (laws : IsTranslation x) (made : AreMade x.text.programs) (added : Added x.text.programs x.text.programs.original) (n : ℕ) (i : List ℤ) (out : List ℕ) (p p' : Around) (o o' : List Part)
-    (s : Span) (callee : PCallee) (what : Word → PStmts) (rows : (w : Word) → IsRow (what w)) (behind : PStmts) where
+    (s : Span) (callee : PCallee) (what : Word → PStmts) (rows : (w : Word) → IsSomething (what w)) (behind : PStmts) where
   abbrev g : Setting
   g = x.text.programs.original
 
@@ -177,7 +177,7 @@ module _ (x : Translation) (laws : IsTranslation x) (made : AreMade x.text.progr
   ok-none None e = refl
   ok-none (Some k) e = cc
 
-  entered-row : {r : PStmts} → IsRow r → (first : PStmts) (W : Variables) → entered r behind (at first W) ≡ at (in_front r behind) W
+  entered-row : {r : PStmts} → IsSomething r → (first : PStmts) (W : Variables) → entered r behind (at first W) ≡ at (in_front r behind) W
   entered-row (something_there t l) first W = refl
 
   -- the case statement over a variable that holds the index of a member comes to that member's branch
@@ -202,11 +202,11 @@ module _ (x : Translation) (laws : IsTranslation x) (made : AreMade x.text.progr
   some-old e (old_some d h) = h
 
   -- the values in front of any row
-  prelude-row : {goal : PStmts} → IsRow goal → (V W : Variables) {ds : List (Option PExpr)} → OldDues x.text.programs ds → (k : ℕ) → k + length ds ≤ added.count → Under x p o V p' o' W → AreThere added W →
+  prelude-row : {goal : PStmts} → IsSomething goal → (V W : Variables) {ds : List (Option PExpr)} → OldDues x.text.programs ds → (k : ℕ) → k + length ds ≤ added.count → Under x p o V p' o' W → AreThere added W →
       Prelude x added n i out p o V p' o' (at (in_front (due_before g s ds k) goal) W) goal k W ds
   prelude-row (something_there t r) V W old k l u there = prelude x laws g added n i out p p' o o' V s t r old k W l u there
 
-  row-front : {r : PStmts} → IsRow r → IsRow (in_front r behind)
+  row-front : {r : PStmts} → IsSomething r → IsSomething (in_front r behind)
   row-front (something_there t r) = something_there t _
 
   worth-first : (r : Result (Option Value) Raised) (rs : Result (List (Option Value)) Raised) (v : Option Value) (vs : List (Option Value)) → worth_then r rs ≡ Ok (v ∷ vs) → (r ≡ Ok v) × (rs ≡ Ok vs)

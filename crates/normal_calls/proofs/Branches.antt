@@ -1,6 +1,5 @@
 -- The branches of a case statement over the members of an array.
-use Rattle.std.proofs.Common.{◌≡◌, ℕ, ◌+◌, ◌<◌, List, [], ◌∷◌, ◌++◌, length, map, take, get_or, Result, Ok, Err, IfOk, OnOk, Vec, Global, append_assoc, refl, sym, ap, ◌∙◌}
-use Rattle.std.proofs.lemmas.List.{map-append, take_more}
+use Rattle.std.proofs.Common.{◌≡◌, ℕ, ◌+◌, List, [], ◌∷◌, ◌++◌, map, Result, Ok, Err, IfOk, OnOk, Vec, Global, refl, sym, ap, ◌∙◌}
 use Rattle.ada_tree.specs.declared.shortage.Memory.{Memory}
 use Rattle.ada_tree.specs.declared.statements.CaseArm.{CaseArm}
 use Rattle.ada_expr_copy.specs.Parts.{OkWith}

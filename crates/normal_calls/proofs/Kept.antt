@@ -2,10 +2,10 @@
 use Rattle.std.proofs.Common.{◌≡◌, ℕ, ◌+◌, List, [], ◌∷◌, ◌++◌, length, Option, Some, None, is_some, if◌then◌else◌, Result, Ok, Err, OnOk, subst, refl, sym, ap, ◌∙◌, arith}
 use Rattle.ada_tree.specs.declared.naming.Span.{Span}
 use Rattle.ada_tree.specs.PlainExpr.{PExpr, PSubind}
-use Rattle.ada_tree.specs.PlainStmt.{PStmts, no_stmt, stmt_then}
+use Rattle.ada_tree.specs.PlainStmt.{PStmts, stmt_then}
 use Rattle.task_model.specs.Setting.{Setting}
 use Rattle.task_model.specs.Frames.{in_front}
-use Rattle.normal_model.specs.Making.{one, assigned, Kept, kept_before, kept_if}
+use Rattle.normal_model.specs.Making.{assigned, Kept, kept_before, kept_if}
 use Rattle.normal_pieces.proofs.Fronts.{in_front-joined}
 
 -- how many values are kept

@@ -27,8 +27,8 @@ use Rattle.normal_model.specs.Members.{callee_kept, chosen}
 use Rattle.normal_model.specs.Calls.{Slot, entry_called, lists_called, slots_called, actuals_before, actuals_passed, actual_subtypes, indices_kept, index_number, actual_number, call_before, lists_passed, args_passed, call_to, call_subtypes}
 use Rattle.translation_law.specs.Translations.{Programs, Translation, types_after}
 use Rattle.translation_law.specs.OldNames.{OldExpr, OldOption, old_none, old_some}
-use Rattle.translation_law.specs.OldTexts.{OldExprs, old_no_expr, old_expr, OldRow, old_no_row, old_row, OldArgs, old_args, OldCall}
-use Rattle.translation_law.specs.Images.{IsRow}
+use Rattle.translation_law.specs.OldTexts.{OldExprs, old_no_expr, old_expr, OldList, old_no_list, old_list, OldArgs, old_args, OldCall}
+use Rattle.translation_law.specs.Images.{IsSomething}
 use Rattle.translation_law.specs.Controls.{task_in, Under}
 use Rattle.translation_law.specs.Scopes.{SeeAlike}
 use Rattle.translation_law.specs.Floors.{IsTranslation}
@@ -90,9 +90,9 @@ lists-old b no_lists h = (old_none, old_no_expr)
 lists-old b (plain_lists args) (old_args a first second) = (old_none, first)
 lists-old b (family_lists d second) (old_args a (old_expr e rest old k) more) = (old_some d old, row more)
   where
-    row : {o : Option (List PExpr)} → OldRow b o → OldExprs b (unwrap_or o [])
-    row old_no_row = old_no_expr
-    row (old_row es h) = h
+    row : {o : Option (List PExpr)} → OldList b o → OldExprs b (unwrap_or o [])
+    row old_no_list = old_no_expr
+    row (old_list es h) = h
 
 -- actuals of old names are due so
 due-old : (b : Programs) (m : ParMode) (e : PExpr) (ds : List (Option PExpr)) → OldExpr b e → OldDues b ds → OldDues b (due_of m e ∷ ds)
@@ -364,7 +364,7 @@ module _ (x : Translation) (laws : IsTranslation x) (made : AreMade x.text.progr
       ∙ ap (called_with h W e) (lists-passed g s c n asked.lists refl h.numbers e (family-same b made e ∙ (asked.entries t meant).family))
       ∙ with-held e W asked.index (index_number g s c n) (actual_number g s c n) number-actual facts.slots facts.range ws hold
 
-  pub call-comes : (m : ℕ) (i : List ℤ) (out : List ℕ) (p p' : Around) (o o' : List Part) (V W : Variables) (what : Word → PStmts) → ((w : Word) → IsRow (what w)) → (behind : PStmts) → Under x p o V p' o' W → AreThere added W →
+  pub call-comes : (m : ℕ) (i : List ℤ) (out : List ℕ) (p p' : Around) (o o' : List Part) (V W : Variables) (what : Word → PStmts) → ((w : Word) → IsSomething (what w)) → (behind : PStmts) → Under x p o V p' o' W → AreThere added W →
       MeetsCall x added m i out p o V p' o' (task_in h m i out (control (in_front (call_before g s c n) (in_front (chosen g s c.task n what) behind)) p' o' W)) s c n asked what behind
   call-comes m i out p p' o o' V W what rows behind u there =
       subst (λ r. MeetsCall x added m i out p o V p' o' (task_in h m i out (control (in_front r (in_front (chosen g s c.task n what) behind)) p' o' W)) s c n asked what behind) (sym before-is)

@@ -18,7 +18,7 @@ use Rattle.task_model.specs.Setting.{task_of, entry_of, is_family, member_index,
 use Rattle.task_model.specs.Calls.{Called, called, called_with, opening, openings}
 use Rattle.translation_law.specs.Translations.{Programs, types_before, IsKnown}
 use Rattle.translation_law.specs.OldNames.{OldExpr}
-use Rattle.translation_law.specs.OldTexts.{OldExprs, old_no_expr, old_expr, OldRow, old_no_row, old_row, OldArgs, old_no_args, old_args, OldCall}
+use Rattle.translation_law.specs.OldTexts.{OldExprs, old_no_expr, old_expr, OldList, old_no_list, old_list, OldArgs, old_no_args, old_args, OldCall}
 use Rattle.translation_law.specs.Scopes.{AgreeOnTypes, SeeAlike}
 use Rattle.translation_law.proofs.Results.{Both, both_ok, both_err}
 use Rattle.translation_law.proofs.Evaluating.{KnownValue, known_value, value-alike}
@@ -73,9 +73,9 @@ module _ (b : Programs) (types : AgreeOnTypes b) {V W : Variables} (see : SeeAli
   actuals-old numbers e old_no_args = old_no_expr
   actuals-old numbers e (old_args args first second) = go (is_family numbers e)
     where
-      row : {o : Option (List PExpr)} → OldRow b o → OldExprs b (unwrap_or o [])
-      row old_no_row = old_no_expr
-      row (old_row es h) = h
+      row : {o : Option (List PExpr)} → OldList b o → OldExprs b (unwrap_or o [])
+      row old_no_list = old_no_expr
+      row (old_list es h) = h
 
       go : (t : Bool) → OldExprs b (lists_in t args).actuals
       go true = row second

@@ -27,7 +27,7 @@ use Rattle.normal_model.proofs.WalkLemmas.{in_front-joined}
 use Rattle.translation_law.specs.Translations.{Programs, Translation, types_before}
 use Rattle.translation_law.specs.OldNames.{old_integer}
 use Rattle.translation_law.specs.OldTexts.{OldCall}
-use Rattle.translation_law.specs.Images.{IsRow, something_there}
+use Rattle.translation_law.specs.Images.{IsSomething, something_there}
 use Rattle.translation_law.specs.Controls.{task_in, Under, are_around}
 use Rattle.translation_law.specs.Floors.{IsTranslation}
 use Rattle.translation_law.proofs.Frames.{sees-alike}
@@ -207,7 +207,7 @@ module _ (x : Translation) (laws : IsTranslation x) (made : AreMade x.text.progr
   select-row None = refl
   select-row (Some e) = refl
 
-  what-row : (mv : Option PExpr) (w : Word) → IsRow (what mv w)
+  what-row : (mv : Option PExpr) (w : Word) → IsSomething (what mv w)
   what-row None w = something_there _ _
   what-row (Some e) w = something_there _ _
 

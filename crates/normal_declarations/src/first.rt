@@ -19,7 +19,7 @@ fn mark_of(shape: &Shape) -> NameId
 {
     match shape {
         Shape::Plain(subind) => subind.mark.name,
-        Shape::Row { part, .. } => part.mark.name,
+        Shape::ConstrainedArray { part, .. } => part.mark.name,
     }
 }
 

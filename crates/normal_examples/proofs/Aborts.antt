@@ -5,7 +5,7 @@ use Rattle.ada_tree.specs.NameList.{predefined}
 use Rattle.ada_tree.specs.declared.expressions.BinaryOp.TheVariants as binary
 use Rattle.ada_tree.specs.PlainExpr.{EInteger, EBinary, RGiven}
 use Rattle.ada_tree.specs.PlainStmt.{PWords, SNull, SAssign, SAbort, SCall, SAccept, SPut, SCase, no_stmt, stmt_then, absent, present, accepting, case_arm, no_case_arm, case_arm_then, body, handler, no_handler, handler_then}
-use Rattle.ada_tree.specs.PlainDecl.{OPlain, ORow, IOne, DObject, DTask, DTaskBody, no_decl, decl_then}
+use Rattle.ada_tree.specs.PlainDecl.{OPlain, OArray, IOne, DObject, DTask, DTaskBody, no_decl, decl_then}
 use Rattle.ada_tree.specs.PlainProgram.{PProgram}
 use Rattle.ada_tree.specs.Refusals.{refusals}
 use Rattle.syn_event.specs.CheckRefusals.{check_refusals}
@@ -144,7 +144,7 @@ names_many = refl
 --    A(1).E;
 -- end INDICES;
 abbrev indices : PProgram
-indices = record { names = (predefined ++ (codes "INDICES" ∷ codes "W" ∷ codes "E" ∷ codes "A" ∷ codes "K" ∷ codes "I" ∷ [])); text_io = false; name = (w 25); decls = (decl_then (DTask (record { name = (w 26); of_kind = true; entries = ((record { name = (w 27); family = None; formals = []; span = o }) ∷ []); priorities = [] }) o) (decl_then (DObject ((w 28) ∷ []) false (ORow (RGiven (record { first = (EInteger 1 o); last = (EInteger 2 o) })) (record { mark = (w 26); bounds = None })) None o) (decl_then (DTask (record { name = (w 29); of_kind = false; entries = []; priorities = [] }) o) (decl_then (DTaskBody (w 26) no_decl (body (stmt_then (SAccept (accepting (record { entry = (w 27); index = None; formals = []; span = o }) absent) o) no_stmt) no_handler) o) (decl_then (DTaskBody (w 29) (decl_then (DObject ((w 30) ∷ []) false (OPlain (record { mark = (w 0); bounds = None })) (Some (IOne (EInteger 3 o))) o) no_decl) (body (stmt_then (SAbort ((record { name = (w 28); index = (Some (EInteger 2 o)) }) ∷ (record { name = (w 28); index = (Some (EBinary binary.Minus (n 30) (EInteger 2 o) o)) }) ∷ (record { name = (w 28); index = (Some (n 30)) }) ∷ (record { name = (w 28); index = (Some (EInteger 1 o)) }) ∷ []) o) (stmt_then (SPut ((PWords (codes "NO") o) ∷ []) o) no_stmt)) (handler_then (handler ((w 6) ∷ []) (stmt_then (SPut ((PWords (codes "C") o) ∷ []) o) (stmt_then (SAbort ((record { name = (w 28); index = (Some (EInteger 1 o)) }) ∷ (record { name = (w 29); index = None }) ∷ []) o) no_stmt)) o) no_handler)) o) no_decl))))); body = (body (stmt_then (SCall (record { task = (record { name = (w 28); index = (Some (EInteger 1 o)) }); entry = (w 27); args = None }) o) no_stmt) no_handler) }
+indices = record { names = (predefined ++ (codes "INDICES" ∷ codes "W" ∷ codes "E" ∷ codes "A" ∷ codes "K" ∷ codes "I" ∷ [])); text_io = false; name = (w 25); decls = (decl_then (DTask (record { name = (w 26); of_kind = true; entries = ((record { name = (w 27); family = None; formals = []; span = o }) ∷ []); priorities = [] }) o) (decl_then (DObject ((w 28) ∷ []) false (OArray (RGiven (record { first = (EInteger 1 o); last = (EInteger 2 o) })) (record { mark = (w 26); bounds = None })) None o) (decl_then (DTask (record { name = (w 29); of_kind = false; entries = []; priorities = [] }) o) (decl_then (DTaskBody (w 26) no_decl (body (stmt_then (SAccept (accepting (record { entry = (w 27); index = None; formals = []; span = o }) absent) o) no_stmt) no_handler) o) (decl_then (DTaskBody (w 29) (decl_then (DObject ((w 30) ∷ []) false (OPlain (record { mark = (w 0); bounds = None })) (Some (IOne (EInteger 3 o))) o) no_decl) (body (stmt_then (SAbort ((record { name = (w 28); index = (Some (EInteger 2 o)) }) ∷ (record { name = (w 28); index = (Some (EBinary binary.Minus (n 30) (EInteger 2 o) o)) }) ∷ (record { name = (w 28); index = (Some (n 30)) }) ∷ (record { name = (w 28); index = (Some (EInteger 1 o)) }) ∷ []) o) (stmt_then (SPut ((PWords (codes "NO") o) ∷ []) o) no_stmt)) (handler_then (handler ((w 6) ∷ []) (stmt_then (SPut ((PWords (codes "C") o) ∷ []) o) (stmt_then (SAbort ((record { name = (w 28); index = (Some (EInteger 1 o)) }) ∷ (record { name = (w 29); index = None }) ∷ []) o) no_stmt)) o) no_handler)) o) no_decl))))); body = (body (stmt_then (SCall (record { task = (record { name = (w 28); index = (Some (EInteger 1 o)) }); entry = (w 27); args = None }) o) no_stmt) no_handler) }
 
 -- It is legal.
 indices_is_legal : refusals indices ≡ []

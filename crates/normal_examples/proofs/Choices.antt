@@ -6,7 +6,7 @@ use Rattle.ada_tree.specs.declared.expressions.BinaryOp.TheVariants as binary
 use Rattle.ada_tree.specs.declared.statements.ParMode.TheVariants as mode
 use Rattle.ada_tree.specs.PlainExpr.{EInteger, EBinary, RGiven, RMarked}
 use Rattle.ada_tree.specs.PlainStmt.{PWords, PValue, SNull, SAssign, SCall, SAccept, SConditional, SPut, SIf, SCase, no_stmt, stmt_then, present, accepting, arm, no_arm, arm_then, case_arm, no_case_arm, case_arm_then, body, no_handler}
-use Rattle.ada_tree.specs.PlainDecl.{OPlain, ORow, IOne, DObject, DEnumeration, DIntIo, DTask, DTaskBody, no_decl, decl_then}
+use Rattle.ada_tree.specs.PlainDecl.{OPlain, OArray, IOne, DObject, DEnumeration, DIntIo, DTask, DTaskBody, no_decl, decl_then}
 use Rattle.ada_tree.specs.PlainProgram.{PProgram}
 use Rattle.ada_tree.specs.Refusals.{refusals}
 use Rattle.syn_event.specs.CheckRefusals.{check_refusals}
@@ -48,7 +48,7 @@ use Rattle.normal_examples.proofs.Trees.{o, w, n, numbers_in, normal_in, numbers
 --    null;
 -- end COLORS;
 abbrev colors : PProgram
-colors = record { names = (predefined ++ (codes "COLORS" ∷ codes "INT_IO" ∷ codes "COLOR" ∷ codes "RED" ∷ codes "GREEN" ∷ codes "BLUE" ∷ codes "W" ∷ codes "PRIORITY" ∷ codes "E" ∷ codes "X" ∷ codes "R" ∷ codes "I" ∷ codes "B" ∷ codes "C" ∷ codes "N" ∷ [])); text_io = false; name = (w 25); decls = (decl_then (DIntIo (w 26) o) (decl_then (DEnumeration (w 27) ((w 28) ∷ (w 29) ∷ (w 30) ∷ []) o) (decl_then (DTask (record { name = (w 31); of_kind = true; entries = ((record { name = (w 33); family = (Some (RGiven (record { first = (EInteger 1 o); last = (EInteger 2 o) }))); formals = ((record { names = ((w 34) ∷ []); mode = mode.Both; mark = (w 0) }) ∷ []); span = o }) ∷ []); priorities = ((record { place = 0; value = (EInteger 3 o) }) ∷ []) }) o) (decl_then (DObject ((w 35) ∷ []) false (ORow (RMarked (record { mark = (w 27); bounds = (Some (record { first = (n 29); last = (n 30) })) })) (record { mark = (w 31); bounds = None })) None o) (decl_then (DTaskBody (w 31) (decl_then (DObject ((w 36) ∷ []) false (OPlain (record { mark = (w 0); bounds = None })) (Some (IOne (EInteger 1 o))) o) no_decl) (body (stmt_then (SAccept (accepting (record { entry = (w 33); index = (Some (n 36)); formals = ((record { names = ((w 34) ∷ []); mode = mode.Both; mark = (w 0) }) ∷ []); span = o }) (present (stmt_then (SAssign (record { name = (w 34); index = None }) (EBinary binary.Plus (n 34) (EInteger 1 o) o) o) no_stmt))) o) no_stmt) no_handler) o) (decl_then (DTask (record { name = (w 37); of_kind = false; entries = []; priorities = [] }) o) (decl_then (DTaskBody (w 37) (decl_then (DObject ((w 38) ∷ []) false (OPlain (record { mark = (w 27); bounds = None })) (Some (IOne (n 30))) o) (decl_then (DObject ((w 39) ∷ []) false (OPlain (record { mark = (w 0); bounds = None })) (Some (IOne (EInteger 5 o))) o) no_decl)) (body (stmt_then (SCall (record { task = (record { name = (w 35); index = (Some (n 29)) }); entry = (w 33); args = (Some (record { first = ((EInteger 1 o) ∷ []); second = (Some ((n 39) ∷ [])) })) }) o) (stmt_then (SConditional (record { task = (record { name = (w 35); index = (Some (n 38)) }); entry = (w 33); args = (Some (record { first = ((EInteger 1 o) ∷ []); second = (Some ((n 39) ∷ [])) })) }) (stmt_then (SPut ((PValue (n 39)) ∷ []) o) no_stmt) (stmt_then (SPut ((PWords (codes "ELSE") o) ∷ []) o) no_stmt) o) no_stmt)) no_handler) o) no_decl))))))); body = (body (stmt_then (SNull o) no_stmt) no_handler) }
+colors = record { names = (predefined ++ (codes "COLORS" ∷ codes "INT_IO" ∷ codes "COLOR" ∷ codes "RED" ∷ codes "GREEN" ∷ codes "BLUE" ∷ codes "W" ∷ codes "PRIORITY" ∷ codes "E" ∷ codes "X" ∷ codes "R" ∷ codes "I" ∷ codes "B" ∷ codes "C" ∷ codes "N" ∷ [])); text_io = false; name = (w 25); decls = (decl_then (DIntIo (w 26) o) (decl_then (DEnumeration (w 27) ((w 28) ∷ (w 29) ∷ (w 30) ∷ []) o) (decl_then (DTask (record { name = (w 31); of_kind = true; entries = ((record { name = (w 33); family = (Some (RGiven (record { first = (EInteger 1 o); last = (EInteger 2 o) }))); formals = ((record { names = ((w 34) ∷ []); mode = mode.Both; mark = (w 0) }) ∷ []); span = o }) ∷ []); priorities = ((record { place = 0; value = (EInteger 3 o) }) ∷ []) }) o) (decl_then (DObject ((w 35) ∷ []) false (OArray (RMarked (record { mark = (w 27); bounds = (Some (record { first = (n 29); last = (n 30) })) })) (record { mark = (w 31); bounds = None })) None o) (decl_then (DTaskBody (w 31) (decl_then (DObject ((w 36) ∷ []) false (OPlain (record { mark = (w 0); bounds = None })) (Some (IOne (EInteger 1 o))) o) no_decl) (body (stmt_then (SAccept (accepting (record { entry = (w 33); index = (Some (n 36)); formals = ((record { names = ((w 34) ∷ []); mode = mode.Both; mark = (w 0) }) ∷ []); span = o }) (present (stmt_then (SAssign (record { name = (w 34); index = None }) (EBinary binary.Plus (n 34) (EInteger 1 o) o) o) no_stmt))) o) no_stmt) no_handler) o) (decl_then (DTask (record { name = (w 37); of_kind = false; entries = []; priorities = [] }) o) (decl_then (DTaskBody (w 37) (decl_then (DObject ((w 38) ∷ []) false (OPlain (record { mark = (w 27); bounds = None })) (Some (IOne (n 30))) o) (decl_then (DObject ((w 39) ∷ []) false (OPlain (record { mark = (w 0); bounds = None })) (Some (IOne (EInteger 5 o))) o) no_decl)) (body (stmt_then (SCall (record { task = (record { name = (w 35); index = (Some (n 29)) }); entry = (w 33); args = (Some (record { first = ((EInteger 1 o) ∷ []); second = (Some ((n 39) ∷ [])) })) }) o) (stmt_then (SConditional (record { task = (record { name = (w 35); index = (Some (n 38)) }); entry = (w 33); args = (Some (record { first = ((EInteger 1 o) ∷ []); second = (Some ((n 39) ∷ [])) })) }) (stmt_then (SPut ((PValue (n 39)) ∷ []) o) no_stmt) (stmt_then (SPut ((PWords (codes "ELSE") o) ∷ []) o) no_stmt) o) no_stmt)) no_handler) o) no_decl))))))); body = (body (stmt_then (SNull o) no_stmt) no_handler) }
 
 -- It is legal.
 colors_is_legal : refusals colors ≡ []

@@ -7,7 +7,7 @@ use Rattle.ada_tree.specs.declared.expressions.BinaryOp.TheVariants as binary
 use Rattle.ada_tree.specs.declared.statements.ParMode.TheVariants as mode
 use Rattle.ada_tree.specs.PlainExpr.{EInteger, EUnary, EBinary, RGiven, RMarked}
 use Rattle.ada_tree.specs.PlainStmt.{PWords, PValue, LFor, SNull, SAssign, SCall, SAccept, STimed, SPut, SPutLine, SNewLine, SIf, SCase, SBlock, SLoop, no_stmt, stmt_then, present, accepting, arm, no_arm, arm_then, case_arm, no_case_arm, case_arm_then, body, handler, no_handler, handler_then}
-use Rattle.ada_tree.specs.PlainDecl.{OPlain, ORow, IOne, DObject, DIntIo, DTask, DTaskBody, no_decl, decl_then}
+use Rattle.ada_tree.specs.PlainDecl.{OPlain, OArray, IOne, DObject, DIntIo, DTask, DTaskBody, no_decl, decl_then}
 use Rattle.ada_tree.specs.PlainProgram.{PProgram}
 use Rattle.ada_tree.specs.Refusals.{refusals}
 use Rattle.syn_event.specs.CheckRefusals.{check_refusals}
@@ -48,7 +48,7 @@ use Rattle.normal_examples.proofs.Trees.{o, w, n, numbers_in, normal_in, numbers
 --    null;
 -- end ROW;
 abbrev row : PProgram
-row = record { names = (predefined ++ (codes "ROW" ∷ codes "INT_IO" ∷ codes "W" ∷ codes "E" ∷ codes "X" ∷ codes "A" ∷ codes "K" ∷ codes "N" ∷ codes "I" ∷ [])); text_io = false; name = (w 25); decls = (decl_then (DIntIo (w 26) o) (decl_then (DTask (record { name = (w 27); of_kind = true; entries = ((record { name = (w 28); family = None; formals = ((record { names = ((w 29) ∷ []); mode = mode.Take; mark = (w 0) }) ∷ []); span = o }) ∷ []); priorities = [] }) o) (decl_then (DObject ((w 30) ∷ []) false (ORow (RGiven (record { first = (EInteger 1 o); last = (EInteger 3 o) })) (record { mark = (w 27); bounds = None })) None o) (decl_then (DTask (record { name = (w 31); of_kind = false; entries = []; priorities = [] }) o) (decl_then (DTaskBody (w 27) no_decl (body (stmt_then (SAccept (accepting (record { entry = (w 28); index = None; formals = ((record { names = ((w 29) ∷ []); mode = mode.Take; mark = (w 0) }) ∷ []); span = o }) (present (stmt_then (SPut ((PValue (n 29)) ∷ []) o) (stmt_then (SNewLine o) no_stmt)))) o) no_stmt) no_handler) o) (decl_then (DTaskBody (w 31) (decl_then (DObject ((w 32) ∷ []) false (OPlain (record { mark = (w 0); bounds = None })) (Some (IOne (EInteger 4 o))) o) no_decl) (body (stmt_then (SLoop None (Some (LFor (w 33) true (RGiven (record { first = (EInteger 1 o); last = (EInteger 3 o) })))) (stmt_then (SCall (record { task = (record { name = (w 30); index = (Some (n 33)) }); entry = (w 28); args = (Some (record { first = ((EBinary binary.Times (EInteger 10 o) (n 33) o) ∷ []); second = None })) }) o) no_stmt) o) (stmt_then (SBlock (body (stmt_then (SCall (record { task = (record { name = (w 30); index = (Some (n 32)) }); entry = (w 28); args = (Some (record { first = ((EInteger 0 o) ∷ []); second = None })) }) o) no_stmt) (handler_then (handler ((w 6) ∷ []) (stmt_then (SPutLine ((PWords (codes "RANGE") o) ∷ []) o) no_stmt) o) no_handler)) o) no_stmt)) no_handler) o) no_decl)))))); body = (body (stmt_then (SNull o) no_stmt) no_handler) }
+row = record { names = (predefined ++ (codes "ROW" ∷ codes "INT_IO" ∷ codes "W" ∷ codes "E" ∷ codes "X" ∷ codes "A" ∷ codes "K" ∷ codes "N" ∷ codes "I" ∷ [])); text_io = false; name = (w 25); decls = (decl_then (DIntIo (w 26) o) (decl_then (DTask (record { name = (w 27); of_kind = true; entries = ((record { name = (w 28); family = None; formals = ((record { names = ((w 29) ∷ []); mode = mode.Take; mark = (w 0) }) ∷ []); span = o }) ∷ []); priorities = [] }) o) (decl_then (DObject ((w 30) ∷ []) false (OArray (RGiven (record { first = (EInteger 1 o); last = (EInteger 3 o) })) (record { mark = (w 27); bounds = None })) None o) (decl_then (DTask (record { name = (w 31); of_kind = false; entries = []; priorities = [] }) o) (decl_then (DTaskBody (w 27) no_decl (body (stmt_then (SAccept (accepting (record { entry = (w 28); index = None; formals = ((record { names = ((w 29) ∷ []); mode = mode.Take; mark = (w 0) }) ∷ []); span = o }) (present (stmt_then (SPut ((PValue (n 29)) ∷ []) o) (stmt_then (SNewLine o) no_stmt)))) o) no_stmt) no_handler) o) (decl_then (DTaskBody (w 31) (decl_then (DObject ((w 32) ∷ []) false (OPlain (record { mark = (w 0); bounds = None })) (Some (IOne (EInteger 4 o))) o) no_decl) (body (stmt_then (SLoop None (Some (LFor (w 33) true (RGiven (record { first = (EInteger 1 o); last = (EInteger 3 o) })))) (stmt_then (SCall (record { task = (record { name = (w 30); index = (Some (n 33)) }); entry = (w 28); args = (Some (record { first = ((EBinary binary.Times (EInteger 10 o) (n 33) o) ∷ []); second = None })) }) o) no_stmt) o) (stmt_then (SBlock (body (stmt_then (SCall (record { task = (record { name = (w 30); index = (Some (n 32)) }); entry = (w 28); args = (Some (record { first = ((EInteger 0 o) ∷ []); second = None })) }) o) no_stmt) (handler_then (handler ((w 6) ∷ []) (stmt_then (SPutLine ((PWords (codes "RANGE") o) ∷ []) o) no_stmt) o) no_handler)) o) no_stmt)) no_handler) o) no_decl)))))); body = (body (stmt_then (SNull o) no_stmt) no_handler) }
 
 -- It is legal.
 row_is_legal : refusals row ≡ []
@@ -324,7 +324,7 @@ objects_many = refl
 --    null;
 -- end SIGNS;
 abbrev signs : PProgram
-signs = record { names = (predefined ++ (codes "SIGNS" ∷ codes "INT_IO" ∷ codes "W" ∷ codes "PRIORITY" ∷ codes "E" ∷ codes "X" ∷ codes "Q" ∷ codes "L" ∷ codes "I" ∷ codes "B" ∷ codes "N" ∷ [])); text_io = false; name = (w 25); decls = (decl_then (DIntIo (w 26) o) (decl_then (DTask (record { name = (w 27); of_kind = true; entries = ((record { name = (w 29); family = (Some (RGiven (record { first = (EInteger 1 o); last = (EInteger 2 o) }))); formals = ((record { names = ((w 30) ∷ []); mode = mode.Both; mark = (w 0) }) ∷ []); span = o }) ∷ []); priorities = ((record { place = 0; value = (EInteger 3 o) }) ∷ []) }) o) (decl_then (DObject ((w 31) ∷ []) false (ORow (RGiven (record { first = (EUnary unary.Minus (EInteger 1 o) o); last = (EInteger 0 o) })) (record { mark = (w 27); bounds = None })) None o) (decl_then (DObject ((w 32) ∷ []) false (ORow (RMarked (record { mark = (w 3); bounds = None })) (record { mark = (w 27); bounds = None })) None o) (decl_then (DTaskBody (w 27) (decl_then (DObject ((w 33) ∷ []) false (OPlain (record { mark = (w 0); bounds = None })) (Some (IOne (EInteger 1 o))) o) no_decl) (body (stmt_then (SAccept (accepting (record { entry = (w 29); index = (Some (n 33)); formals = ((record { names = ((w 30) ∷ []); mode = mode.Both; mark = (w 0) }) ∷ []); span = o }) (present (stmt_then (SAssign (record { name = (w 30); index = None }) (EBinary binary.Plus (n 30) (EInteger 1 o) o) o) no_stmt))) o) no_stmt) no_handler) o) (decl_then (DTask (record { name = (w 34); of_kind = false; entries = []; priorities = [] }) o) (decl_then (DTaskBody (w 34) (decl_then (DObject ((w 35) ∷ []) false (OPlain (record { mark = (w 0); bounds = None })) (Some (IOne (EInteger 7 o))) o) no_decl) (body (stmt_then (STimed (record { task = (record { name = (w 31); index = (Some (EBinary binary.Minus (n 35) (EInteger 8 o) o)) }); entry = (w 29); args = (Some (record { first = ((EInteger 1 o) ∷ []); second = (Some ((n 35) ∷ [])) })) }) no_stmt 500 no_stmt o) (stmt_then (SCall (record { task = (record { name = (w 32); index = (Some (EBinary binary.Greater (n 35) (EInteger 7 o) o)) }); entry = (w 29); args = (Some (record { first = ((EInteger 1 o) ∷ []); second = (Some ((n 35) ∷ [])) })) }) o) (stmt_then (SPut ((PValue (n 35)) ∷ []) o) no_stmt))) no_handler) o) no_decl))))))); body = (body (stmt_then (SNull o) no_stmt) no_handler) }
+signs = record { names = (predefined ++ (codes "SIGNS" ∷ codes "INT_IO" ∷ codes "W" ∷ codes "PRIORITY" ∷ codes "E" ∷ codes "X" ∷ codes "Q" ∷ codes "L" ∷ codes "I" ∷ codes "B" ∷ codes "N" ∷ [])); text_io = false; name = (w 25); decls = (decl_then (DIntIo (w 26) o) (decl_then (DTask (record { name = (w 27); of_kind = true; entries = ((record { name = (w 29); family = (Some (RGiven (record { first = (EInteger 1 o); last = (EInteger 2 o) }))); formals = ((record { names = ((w 30) ∷ []); mode = mode.Both; mark = (w 0) }) ∷ []); span = o }) ∷ []); priorities = ((record { place = 0; value = (EInteger 3 o) }) ∷ []) }) o) (decl_then (DObject ((w 31) ∷ []) false (OArray (RGiven (record { first = (EUnary unary.Minus (EInteger 1 o) o); last = (EInteger 0 o) })) (record { mark = (w 27); bounds = None })) None o) (decl_then (DObject ((w 32) ∷ []) false (OArray (RMarked (record { mark = (w 3); bounds = None })) (record { mark = (w 27); bounds = None })) None o) (decl_then (DTaskBody (w 27) (decl_then (DObject ((w 33) ∷ []) false (OPlain (record { mark = (w 0); bounds = None })) (Some (IOne (EInteger 1 o))) o) no_decl) (body (stmt_then (SAccept (accepting (record { entry = (w 29); index = (Some (n 33)); formals = ((record { names = ((w 30) ∷ []); mode = mode.Both; mark = (w 0) }) ∷ []); span = o }) (present (stmt_then (SAssign (record { name = (w 30); index = None }) (EBinary binary.Plus (n 30) (EInteger 1 o) o) o) no_stmt))) o) no_stmt) no_handler) o) (decl_then (DTask (record { name = (w 34); of_kind = false; entries = []; priorities = [] }) o) (decl_then (DTaskBody (w 34) (decl_then (DObject ((w 35) ∷ []) false (OPlain (record { mark = (w 0); bounds = None })) (Some (IOne (EInteger 7 o))) o) no_decl) (body (stmt_then (STimed (record { task = (record { name = (w 31); index = (Some (EBinary binary.Minus (n 35) (EInteger 8 o) o)) }); entry = (w 29); args = (Some (record { first = ((EInteger 1 o) ∷ []); second = (Some ((n 35) ∷ [])) })) }) no_stmt 500 no_stmt o) (stmt_then (SCall (record { task = (record { name = (w 32); index = (Some (EBinary binary.Greater (n 35) (EInteger 7 o) o)) }); entry = (w 29); args = (Some (record { first = ((EInteger 1 o) ∷ []); second = (Some ((n 35) ∷ [])) })) }) o) (stmt_then (SPut ((PValue (n 35)) ∷ []) o) no_stmt))) no_handler) o) no_decl))))))); body = (body (stmt_then (SNull o) no_stmt) no_handler) }
 
 -- It is legal.
 signs_is_legal : refusals signs ≡ []

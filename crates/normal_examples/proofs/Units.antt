@@ -6,7 +6,7 @@ use Rattle.ada_tree.specs.declared.expressions.BinaryOp.TheVariants as binary
 use Rattle.ada_tree.specs.declared.statements.ParMode.TheVariants as mode
 use Rattle.ada_tree.specs.PlainExpr.{EInteger, EIndex, EBinary, RGiven}
 use Rattle.ada_tree.specs.PlainStmt.{PWords, PValue, SNull, SAssign, SExit, SRaise, SCall, SAccept, SConditional, SPut, SLoop, no_stmt, stmt_then, present, accepting, body, handler, no_handler, handler_then}
-use Rattle.ada_tree.specs.PlainDecl.{OPlain, ORow, IOne, IList, IOthers, DNumber, DObject, DArray, DSubtype, DException, DIntIo, DTask, DTaskBody, no_decl, decl_then}
+use Rattle.ada_tree.specs.PlainDecl.{OPlain, OArray, IOne, IList, IOthers, DNumber, DObject, DArray, DSubtype, DException, DIntIo, DTask, DTaskBody, no_decl, decl_then}
 use Rattle.ada_tree.specs.PlainProgram.{PProgram}
 use Rattle.ada_tree.specs.Refusals.{refusals}
 use Rattle.syn_event.specs.CheckRefusals.{check_refusals}
@@ -62,7 +62,7 @@ use Rattle.normal_examples.proofs.Trees.{o, w, n, numbers_in, normal_in, numbers
 --       PUT("GONE");
 -- end ORDER;
 abbrev order : PProgram
-order = record { names = (predefined ++ (codes "ORDER" ∷ codes "LAST_ONE" ∷ codes "T" ∷ codes "E" ∷ codes "X" ∷ codes "SMALL" ∷ codes "LIST" ∷ codes "FAILED" ∷ codes "N" ∷ codes "POOL" ∷ codes "INT_IO" ∷ codes "A" ∷ codes "ALL_OF" ∷ [])); text_io = false; name = (w 25); decls = (decl_then (DNumber (w 26) (EInteger 4 o) o) (decl_then (DTask (record { name = (w 27); of_kind = false; entries = ((record { name = (w 28); family = (Some (RGiven (record { first = (EInteger 1 o); last = (n 26) }))); formals = ((record { names = ((w 29) ∷ []); mode = mode.Take; mark = (w 1) }) ∷ []); span = o }) ∷ []); priorities = [] }) o) (decl_then (DSubtype (w 30) (record { mark = (w 0); bounds = (Some (record { first = (EInteger 0 o); last = (n 26) })) }) o) (decl_then (DArray (w 31) (RGiven (record { first = (EInteger 1 o); last = (n 26) })) (record { mark = (w 30); bounds = None }) o) (decl_then (DException ((w 32) ∷ []) o) (decl_then (DObject ((w 33) ∷ []) false (OPlain (record { mark = (w 30); bounds = None })) (Some (IOne (EInteger 2 o))) o) (decl_then (DTaskBody (w 27) (decl_then (DObject ((w 34) ∷ []) false (ORow (RGiven (record { first = (EInteger 0 o); last = (EInteger 1 o) })) (record { mark = (w 30); bounds = None })) (Some (IList ((EInteger 1 o) ∷ (EInteger 2 o) ∷ []) o)) o) no_decl) (body (stmt_then (SAccept (accepting (record { entry = (w 28); index = (Some (EIndex (w 34) (EInteger 1 o) o)); formals = ((record { names = ((w 29) ∷ []); mode = mode.Take; mark = (w 1) }) ∷ []); span = o }) (present (stmt_then (SAssign (record { name = (w 34); index = (Some (n 29)) }) (EInteger 4 o) o) (stmt_then (SPut ((PValue (EIndex (w 34) (n 29) o)) ∷ []) o) (stmt_then (SRaise (Some (w 32)) o) no_stmt))))) o) no_stmt) (handler_then (handler ((w 32) ∷ []) (stmt_then (SPut ((PWords (codes "T") o) ∷ []) o) no_stmt) o) no_handler)) o) (decl_then (DIntIo (w 35) o) (decl_then (DTask (record { name = (w 36); of_kind = false; entries = []; priorities = [] }) o) (decl_then (DTaskBody (w 36) (decl_then (DObject ((w 37) ∷ []) false (OPlain (record { mark = (w 31); bounds = None })) (Some (IOthers (EInteger 3 o) o)) o) no_decl) (body (stmt_then (SAssign (record { name = (w 37); index = (Some (EInteger 2 o)) }) (EInteger 1 o) o) (stmt_then (SLoop None None (stmt_then (SExit None (Some (EBinary binary.Equal (EIndex (w 37) (EInteger 2 o) o) (EInteger 0 o) o)) o) (stmt_then (SAssign (record { name = (w 37); index = (Some (EInteger 2 o)) }) (EBinary binary.Minus (EIndex (w 37) (EInteger 2 o) o) (EInteger 1 o) o) o) (stmt_then (SConditional (record { task = (record { name = (w 27); index = None }); entry = (w 28); args = (Some (record { first = ((EIndex (w 37) (EInteger 4 o) o) ∷ []); second = (Some ((EIndex (w 37) (EInteger 1 o) o) ∷ [])) })) }) no_stmt (stmt_then (SNull o) no_stmt) o) no_stmt))) o) no_stmt)) no_handler) o) no_decl)))))))))); body = (body (stmt_then (SCall (record { task = (record { name = (w 27); index = None }); entry = (w 28); args = (Some (record { first = ((n 33) ∷ []); second = (Some ((EBinary binary.Minus (n 33) (EInteger 1 o) o) ∷ [])) })) }) o) no_stmt) (handler_then (handler ((w 32) ∷ []) (stmt_then (SPut ((PValue (n 33)) ∷ []) o) no_stmt) o) (handler_then (handler [] (stmt_then (SPut ((PWords (codes "GONE") o) ∷ []) o) no_stmt) o) no_handler))) }
+order = record { names = (predefined ++ (codes "ORDER" ∷ codes "LAST_ONE" ∷ codes "T" ∷ codes "E" ∷ codes "X" ∷ codes "SMALL" ∷ codes "LIST" ∷ codes "FAILED" ∷ codes "N" ∷ codes "POOL" ∷ codes "INT_IO" ∷ codes "A" ∷ codes "ALL_OF" ∷ [])); text_io = false; name = (w 25); decls = (decl_then (DNumber (w 26) (EInteger 4 o) o) (decl_then (DTask (record { name = (w 27); of_kind = false; entries = ((record { name = (w 28); family = (Some (RGiven (record { first = (EInteger 1 o); last = (n 26) }))); formals = ((record { names = ((w 29) ∷ []); mode = mode.Take; mark = (w 1) }) ∷ []); span = o }) ∷ []); priorities = [] }) o) (decl_then (DSubtype (w 30) (record { mark = (w 0); bounds = (Some (record { first = (EInteger 0 o); last = (n 26) })) }) o) (decl_then (DArray (w 31) (RGiven (record { first = (EInteger 1 o); last = (n 26) })) (record { mark = (w 30); bounds = None }) o) (decl_then (DException ((w 32) ∷ []) o) (decl_then (DObject ((w 33) ∷ []) false (OPlain (record { mark = (w 30); bounds = None })) (Some (IOne (EInteger 2 o))) o) (decl_then (DTaskBody (w 27) (decl_then (DObject ((w 34) ∷ []) false (OArray (RGiven (record { first = (EInteger 0 o); last = (EInteger 1 o) })) (record { mark = (w 30); bounds = None })) (Some (IList ((EInteger 1 o) ∷ (EInteger 2 o) ∷ []) o)) o) no_decl) (body (stmt_then (SAccept (accepting (record { entry = (w 28); index = (Some (EIndex (w 34) (EInteger 1 o) o)); formals = ((record { names = ((w 29) ∷ []); mode = mode.Take; mark = (w 1) }) ∷ []); span = o }) (present (stmt_then (SAssign (record { name = (w 34); index = (Some (n 29)) }) (EInteger 4 o) o) (stmt_then (SPut ((PValue (EIndex (w 34) (n 29) o)) ∷ []) o) (stmt_then (SRaise (Some (w 32)) o) no_stmt))))) o) no_stmt) (handler_then (handler ((w 32) ∷ []) (stmt_then (SPut ((PWords (codes "T") o) ∷ []) o) no_stmt) o) no_handler)) o) (decl_then (DIntIo (w 35) o) (decl_then (DTask (record { name = (w 36); of_kind = false; entries = []; priorities = [] }) o) (decl_then (DTaskBody (w 36) (decl_then (DObject ((w 37) ∷ []) false (OPlain (record { mark = (w 31); bounds = None })) (Some (IOthers (EInteger 3 o) o)) o) no_decl) (body (stmt_then (SAssign (record { name = (w 37); index = (Some (EInteger 2 o)) }) (EInteger 1 o) o) (stmt_then (SLoop None None (stmt_then (SExit None (Some (EBinary binary.Equal (EIndex (w 37) (EInteger 2 o) o) (EInteger 0 o) o)) o) (stmt_then (SAssign (record { name = (w 37); index = (Some (EInteger 2 o)) }) (EBinary binary.Minus (EIndex (w 37) (EInteger 2 o) o) (EInteger 1 o) o) o) (stmt_then (SConditional (record { task = (record { name = (w 27); index = None }); entry = (w 28); args = (Some (record { first = ((EIndex (w 37) (EInteger 4 o) o) ∷ []); second = (Some ((EIndex (w 37) (EInteger 1 o) o) ∷ [])) })) }) no_stmt (stmt_then (SNull o) no_stmt) o) no_stmt))) o) no_stmt)) no_handler) o) no_decl)))))))))); body = (body (stmt_then (SCall (record { task = (record { name = (w 27); index = None }); entry = (w 28); args = (Some (record { first = ((n 33) ∷ []); second = (Some ((EBinary binary.Minus (n 33) (EInteger 1 o) o) ∷ [])) })) }) o) no_stmt) (handler_then (handler ((w 32) ∷ []) (stmt_then (SPut ((PValue (n 33)) ∷ []) o) no_stmt) o) (handler_then (handler [] (stmt_then (SPut ((PWords (codes "GONE") o) ∷ []) o) no_stmt) o) no_handler))) }
 
 -- It is legal.
 order_is_legal : refusals order ≡ []
@@ -131,7 +131,7 @@ order_is_checked = refl
 --       PUT("GONE");
 -- end ORDER;
 abbrev order_normal : PProgram
-order_normal = record { names = (predefined ++ (codes "ORDER" ∷ codes "LAST_ONE" ∷ codes "T" ∷ codes "E" ∷ codes "X" ∷ codes "SMALL" ∷ codes "LIST" ∷ codes "FAILED" ∷ codes "N" ∷ codes "POOL" ∷ codes "INT_IO" ∷ codes "A" ∷ codes "ALL_OF" ∷ codes "DED_V1" ∷ codes "DED_V2" ∷ [])); text_io = false; name = (w 25); decls = (decl_then (DNumber (w 26) (EInteger 4 o) o) (decl_then (DSubtype (w 30) (record { mark = (w 0); bounds = (Some (record { first = (EInteger 0 o); last = (n 26) })) }) o) (decl_then (DArray (w 31) (RGiven (record { first = (EInteger 1 o); last = (n 26) })) (record { mark = (w 30); bounds = None }) o) (decl_then (DException ((w 32) ∷ []) o) (decl_then (DObject ((w 33) ∷ []) false (OPlain (record { mark = (w 30); bounds = None })) (Some (IOne (EInteger 2 o))) o) (decl_then (DIntIo (w 35) o) (decl_then (DObject ((w 38) ∷ []) false (OPlain (record { mark = (w 0); bounds = (Some (record { first = (EInteger 1 o); last = (n 26) })) })) None o) (decl_then (DObject ((w 39) ∷ []) false (OPlain (record { mark = (w 1); bounds = None })) None o) (decl_then (DTask (record { name = (w 27); of_kind = false; entries = ((record { name = (w 28); family = (Some (RGiven (record { first = (EInteger 1 o); last = (n 26) }))); formals = ((record { names = ((w 29) ∷ []); mode = mode.Take; mark = (w 1) }) ∷ []); span = o }) ∷ []); priorities = [] }) o) (decl_then (DTask (record { name = (w 36); of_kind = false; entries = []; priorities = [] }) o) (decl_then (DTaskBody (w 27) (decl_then (DObject ((w 34) ∷ []) false (ORow (RGiven (record { first = (EInteger 0 o); last = (EInteger 1 o) })) (record { mark = (w 30); bounds = None })) (Some (IList ((EInteger 1 o) ∷ (EInteger 2 o) ∷ []) o)) o) (decl_then (DObject ((w 38) ∷ []) false (OPlain (record { mark = (w 0); bounds = (Some (record { first = (EInteger 1 o); last = (n 26) })) })) None o) no_decl)) (body (stmt_then (SAssign (record { name = (w 38); index = None }) (EIndex (w 34) (EInteger 1 o) o) o) (stmt_then (SAccept (accepting (record { entry = (w 28); index = (Some (n 38)); formals = ((record { names = ((w 29) ∷ []); mode = mode.Take; mark = (w 1) }) ∷ []); span = o }) (present (stmt_then (SAssign (record { name = (w 34); index = (Some (n 29)) }) (EInteger 4 o) o) (stmt_then (SPut ((PValue (EIndex (w 34) (n 29) o)) ∷ []) o) (stmt_then (SRaise (Some (w 32)) o) no_stmt))))) o) no_stmt)) (handler_then (handler ((w 32) ∷ []) (stmt_then (SPut ((PWords (codes "T") o) ∷ []) o) no_stmt) o) no_handler)) o) (decl_then (DTaskBody (w 36) (decl_then (DObject ((w 37) ∷ []) false (OPlain (record { mark = (w 31); bounds = None })) (Some (IOthers (EInteger 3 o) o)) o) (decl_then (DObject ((w 38) ∷ []) false (OPlain (record { mark = (w 0); bounds = (Some (record { first = (EInteger 1 o); last = (n 26) })) })) None o) (decl_then (DObject ((w 39) ∷ []) false (OPlain (record { mark = (w 1); bounds = None })) None o) no_decl))) (body (stmt_then (SAssign (record { name = (w 37); index = (Some (EInteger 2 o)) }) (EInteger 1 o) o) (stmt_then (SLoop None None (stmt_then (SExit None (Some (EBinary binary.Equal (EIndex (w 37) (EInteger 2 o) o) (EInteger 0 o) o)) o) (stmt_then (SAssign (record { name = (w 37); index = (Some (EInteger 2 o)) }) (EBinary binary.Minus (EIndex (w 37) (EInteger 2 o) o) (EInteger 1 o) o) o) (stmt_then (SAssign (record { name = (w 38); index = None }) (EIndex (w 37) (EInteger 4 o) o) o) (stmt_then (SAssign (record { name = (w 39); index = None }) (EIndex (w 37) (EInteger 1 o) o) o) (stmt_then (SConditional (record { task = (record { name = (w 27); index = None }); entry = (w 28); args = (Some (record { first = ((n 38) ∷ []); second = (Some ((n 39) ∷ [])) })) }) no_stmt (stmt_then (SNull o) no_stmt) o) no_stmt))))) o) no_stmt)) no_handler) o) no_decl)))))))))))); body = (body (stmt_then (SAssign (record { name = (w 38); index = None }) (n 33) o) (stmt_then (SAssign (record { name = (w 39); index = None }) (EBinary binary.Minus (n 33) (EInteger 1 o) o) o) (stmt_then (SCall (record { task = (record { name = (w 27); index = None }); entry = (w 28); args = (Some (record { first = ((n 38) ∷ []); second = (Some ((n 39) ∷ [])) })) }) o) no_stmt))) (handler_then (handler ((w 32) ∷ []) (stmt_then (SPut ((PValue (n 33)) ∷ []) o) no_stmt) o) (handler_then (handler [] (stmt_then (SPut ((PWords (codes "GONE") o) ∷ []) o) no_stmt) o) no_handler))) }
+order_normal = record { names = (predefined ++ (codes "ORDER" ∷ codes "LAST_ONE" ∷ codes "T" ∷ codes "E" ∷ codes "X" ∷ codes "SMALL" ∷ codes "LIST" ∷ codes "FAILED" ∷ codes "N" ∷ codes "POOL" ∷ codes "INT_IO" ∷ codes "A" ∷ codes "ALL_OF" ∷ codes "DED_V1" ∷ codes "DED_V2" ∷ [])); text_io = false; name = (w 25); decls = (decl_then (DNumber (w 26) (EInteger 4 o) o) (decl_then (DSubtype (w 30) (record { mark = (w 0); bounds = (Some (record { first = (EInteger 0 o); last = (n 26) })) }) o) (decl_then (DArray (w 31) (RGiven (record { first = (EInteger 1 o); last = (n 26) })) (record { mark = (w 30); bounds = None }) o) (decl_then (DException ((w 32) ∷ []) o) (decl_then (DObject ((w 33) ∷ []) false (OPlain (record { mark = (w 30); bounds = None })) (Some (IOne (EInteger 2 o))) o) (decl_then (DIntIo (w 35) o) (decl_then (DObject ((w 38) ∷ []) false (OPlain (record { mark = (w 0); bounds = (Some (record { first = (EInteger 1 o); last = (n 26) })) })) None o) (decl_then (DObject ((w 39) ∷ []) false (OPlain (record { mark = (w 1); bounds = None })) None o) (decl_then (DTask (record { name = (w 27); of_kind = false; entries = ((record { name = (w 28); family = (Some (RGiven (record { first = (EInteger 1 o); last = (n 26) }))); formals = ((record { names = ((w 29) ∷ []); mode = mode.Take; mark = (w 1) }) ∷ []); span = o }) ∷ []); priorities = [] }) o) (decl_then (DTask (record { name = (w 36); of_kind = false; entries = []; priorities = [] }) o) (decl_then (DTaskBody (w 27) (decl_then (DObject ((w 34) ∷ []) false (OArray (RGiven (record { first = (EInteger 0 o); last = (EInteger 1 o) })) (record { mark = (w 30); bounds = None })) (Some (IList ((EInteger 1 o) ∷ (EInteger 2 o) ∷ []) o)) o) (decl_then (DObject ((w 38) ∷ []) false (OPlain (record { mark = (w 0); bounds = (Some (record { first = (EInteger 1 o); last = (n 26) })) })) None o) no_decl)) (body (stmt_then (SAssign (record { name = (w 38); index = None }) (EIndex (w 34) (EInteger 1 o) o) o) (stmt_then (SAccept (accepting (record { entry = (w 28); index = (Some (n 38)); formals = ((record { names = ((w 29) ∷ []); mode = mode.Take; mark = (w 1) }) ∷ []); span = o }) (present (stmt_then (SAssign (record { name = (w 34); index = (Some (n 29)) }) (EInteger 4 o) o) (stmt_then (SPut ((PValue (EIndex (w 34) (n 29) o)) ∷ []) o) (stmt_then (SRaise (Some (w 32)) o) no_stmt))))) o) no_stmt)) (handler_then (handler ((w 32) ∷ []) (stmt_then (SPut ((PWords (codes "T") o) ∷ []) o) no_stmt) o) no_handler)) o) (decl_then (DTaskBody (w 36) (decl_then (DObject ((w 37) ∷ []) false (OPlain (record { mark = (w 31); bounds = None })) (Some (IOthers (EInteger 3 o) o)) o) (decl_then (DObject ((w 38) ∷ []) false (OPlain (record { mark = (w 0); bounds = (Some (record { first = (EInteger 1 o); last = (n 26) })) })) None o) (decl_then (DObject ((w 39) ∷ []) false (OPlain (record { mark = (w 1); bounds = None })) None o) no_decl))) (body (stmt_then (SAssign (record { name = (w 37); index = (Some (EInteger 2 o)) }) (EInteger 1 o) o) (stmt_then (SLoop None None (stmt_then (SExit None (Some (EBinary binary.Equal (EIndex (w 37) (EInteger 2 o) o) (EInteger 0 o) o)) o) (stmt_then (SAssign (record { name = (w 37); index = (Some (EInteger 2 o)) }) (EBinary binary.Minus (EIndex (w 37) (EInteger 2 o) o) (EInteger 1 o) o) o) (stmt_then (SAssign (record { name = (w 38); index = None }) (EIndex (w 37) (EInteger 4 o) o) o) (stmt_then (SAssign (record { name = (w 39); index = None }) (EIndex (w 37) (EInteger 1 o) o) o) (stmt_then (SConditional (record { task = (record { name = (w 27); index = None }); entry = (w 28); args = (Some (record { first = ((n 38) ∷ []); second = (Some ((n 39) ∷ [])) })) }) no_stmt (stmt_then (SNull o) no_stmt) o) no_stmt))))) o) no_stmt)) no_handler) o) no_decl)))))))))))); body = (body (stmt_then (SAssign (record { name = (w 38); index = None }) (n 33) o) (stmt_then (SAssign (record { name = (w 39); index = None }) (EBinary binary.Minus (n 33) (EInteger 1 o) o) o) (stmt_then (SCall (record { task = (record { name = (w 27); index = None }); entry = (w 28); args = (Some (record { first = ((n 38) ∷ []); second = (Some ((n 39) ∷ [])) })) }) o) no_stmt))) (handler_then (handler ((w 32) ∷ []) (stmt_then (SPut ((PValue (n 33)) ∷ []) o) no_stmt) o) (handler_then (handler [] (stmt_then (SPut ((PWords (codes "GONE") o) ∷ []) o) no_stmt) o) no_handler))) }
 
 order_is_normal : normal_in order ≡ order_normal
 unfolding digits

@@ -242,25 +242,25 @@ module _ (name : NameId → Type 0) (integer : ℕ → Type 0) (words : List ℕ
     tt,
   )
 
-abbrev Named : ℕ → Type 0
+abbrev pub Named : ℕ → Type 0
 Named k = IsSomeAnd (slice_get choosing.names k) IsIdentifier
 
-n0 : Named 0
+pub n0 : Named 0
 n0 = (refl, omega arith, refl)
 
-n25 : Named 25
+pub n25 : Named 25
 n25 = (refl, omega arith, refl)
 
-n26 : Named 26
+pub n26 : Named 26
 n26 = (refl, omega arith, refl)
 
-n27 : Named 27
+pub n27 : Named 27
 n27 = (refl, omega arith, refl)
 
-n28 : Named 28
+pub n28 : Named 28
 n28 = (refl, omega arith, refl)
 
-n29 : Named 29
+pub n29 : Named 29
 n29 = (refl, omega arith, refl)
 
 has-tokens : HasTokens choosing

@@ -7,8 +7,8 @@ use Rattle.ada_tree.specs.PlainProgram.{PProgram}
 use Rattle.syn_event.specs.declared.numbering.EntryInfo.{EntryInfo}
 use Rattle.syn_event.specs.Numbering.{entry_at}
 use Rattle.syn_event.specs.Numbered.{with_origin, with_origins}
-use Rattle.syn_event.specs.AllNumbers.{seat_entry, seat_entries}
-use Rattle.syn_event.specs.TaskParts.{Seat, seats}
+use Rattle.syn_event.specs.AllNumbers.{entry_of_task, entries_of_tasks}
+use Rattle.syn_event.specs.NamedTasks.{NumberedTask, numbered_tasks}
 use Rattle.rewritten_types.proofs.Lookups.{all-append}
 use Rattle.normal_types.proofs.Variables.{all-mapped}
 use Rattle.normal_form_law.specs.Normalisable.{numbers_of}
@@ -17,13 +17,13 @@ use Rattle.normal_form_law.specs.Normalisable.{numbers_of}
 abbrev IsOwned : EntryInfo → Type 0
 IsOwned info = (t : ℕ) × (info.owner ≡ suc t)
 
-seats-owned : (names : List (List ℕ)) (types : TypeTable) (xs : List Seat) (t : ℕ) → AllByRecursion IsOwned (seat_entries names types (suc t) xs)
-seats-owned names types [] t = tt
-seats-owned names types (x ∷ rest) t =
+numbered-tasks-owned : (names : List (List ℕ)) (types : TypeTable) (xs : List NumberedTask) (t : ℕ) → AllByRecursion IsOwned (entries_of_tasks names types (suc t) xs)
+numbered-tasks-owned names types [] t = tt
+numbered-tasks-owned names types (x ∷ rest) t =
     let e : suc (t + 1) ≡ suc t + 1 = omega arith in
-    all-append IsOwned (map (seat_entry names types (suc t) x) x.unit.entries) (seat_entries names types (suc t + 1) rest)
-    (all-mapped IsOwned (seat_entry names types (suc t) x) (λ e. (t, refl)) x.unit.entries)
-    (subst (λ n. AllByRecursion IsOwned (seat_entries names types n rest)) e (seats-owned names types rest (t + 1)))
+    all-append IsOwned (map (entry_of_task names types (suc t) x) x.unit.entries) (entries_of_tasks names types (suc t + 1) rest)
+    (all-mapped IsOwned (entry_of_task names types (suc t) x) (λ e. (t, refl)) x.unit.entries)
+    (subst (λ n. AllByRecursion IsOwned (entries_of_tasks names types n rest)) e (numbered-tasks-owned names types rest (t + 1)))
 
 origins-owned : (names : List (List ℕ)) (all xs : List EntryInfo) → AllByRecursion IsOwned xs → AllByRecursion IsOwned (map (with_origin names all) xs)
 origins-owned names all [] h = tt
@@ -41,8 +41,8 @@ pub owned : (p : PProgram) (e : ℕ) (info : EntryInfo) → entry_at (numbers_of
 owned p e info h = by_test (e == 0) h
   where
     entries : List EntryInfo
-    entries = seat_entries p.names (types_in p) 1 (seats (types_in p) p)
+    entries = entries_of_tasks p.names (types_in p) 1 (numbered_tasks (types_in p) p)
 
     by_test : (z : Bool) → (if z then None else slice_get (with_origins p.names entries) (e - 1)) ≡ Some info → IsOwned info
     by_test true q = cc
-    by_test false q = got (with_origins p.names entries) (e - 1) info (origins-owned p.names entries entries (seats-owned p.names (types_in p) (seats (types_in p) p) 0)) q
+    by_test false q = got (with_origins p.names entries) (e - 1) info (origins-owned p.names entries entries (numbered-tasks-owned p.names (types_in p) (numbered_tasks (types_in p) p) 0)) q

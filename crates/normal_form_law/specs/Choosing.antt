@@ -7,7 +7,7 @@ use Rattle.ada_tree.specs.declared.naming.Span.{Span}
 use Rattle.ada_tree.specs.NameList.{predefined}
 use Rattle.ada_tree.specs.PlainExpr.{PExpr, EInteger, EName, PDrange, RGiven}
 use Rattle.ada_tree.specs.PlainStmt.{PCallee, PCall, PHead, SAbort, SCall, SAccept, no_stmt, stmt_then, absent, accepting, PBody, body, no_handler}
-use Rattle.ada_tree.specs.PlainDecl.{OPlain, ORow, IOne, PEntry, DObject, DTask, DTaskBody, no_decl, decl_then}
+use Rattle.ada_tree.specs.PlainDecl.{OPlain, OArray, IOne, PEntry, DObject, DTask, DTaskBody, no_decl, decl_then}
 use Rattle.ada_tree.specs.PlainProgram.{PProgram}
 use Rattle.normal_runs_law.specs.Example.{word, integer}
 
@@ -46,7 +46,7 @@ choosing = record {
   text_io = false;
   name = word 25;
   decls = decl_then (DTask (record { name = word 26; of_kind = true; entries = entry ∷ []; priorities = [] }) nowhere)
-      (decl_then (DObject (word 28 ∷ []) false (ORow indices (record { mark = word 26; bounds = None })) None nowhere)
+      (decl_then (DObject (word 28 ∷ []) false (OArray indices (record { mark = word 26; bounds = None })) None nowhere)
       (decl_then (DObject (word 29 ∷ []) false (OPlain integer) (Some (IOne (EInteger 1 nowhere))) nowhere)
       (decl_then (DTaskBody (word 26) no_decl task_body nowhere)
       no_decl)));

@@ -10,7 +10,7 @@ use Rattle.normal_model.specs.Making.{kept_if}
 use Rattle.normal_model.specs.Variables.{variable_declared, variables_declared}
 use Rattle.translation_law.specs.Translations.{Programs}
 use Rattle.normal_law.specs.Suited.{Rewritten}
-use Rattle.normal_law.specs.NormalRows.{Begin}
+use Rattle.normal_law.specs.NormalLists.{Begin}
 use Rattle.normal_law.specs.Preludes.{Added}
 use Rattle.normal_law.specs.Declared.{AreDeclared, HaveSubtypes, no_subtype, subtype_then, dues_of}
 

@@ -11,7 +11,7 @@ use Rattle.task_model.specs.declared.parameters.FormalParameter.{FormalParameter
 use Rattle.task_model.specs.Frames.{Turns, Around, Loop, Opened, Part, Control, control, unit_with, raised_in, exited_in}
 use Rattle.translation_law.specs.Translations.{Standing, Rewriting, IsOld, IsKnown}
 use Rattle.translation_law.specs.Scopes.{AgreeOnTypes, HasKnown, SameObject, no_object, same_object, SeeAlike}
-use Rattle.translation_law.specs.Images.{ImageHandlers, IsEmpty, nothing_there, IsRow, something_there, AreImages}
+use Rattle.translation_law.specs.Images.{ImageHandlers, IsEmpty, nothing_there, IsSomething, something_there, AreImages}
 use Rattle.translation_law.specs.Controls.{frame, Under, on_floor, in_block, in_handler, in_endless, in_while, in_count, inside, Settle}
 use Rattle.translation_law.specs.Floors.{handled_around, AreScopes, AreFloors, IsTranslation}
 use Rattle.translation_law.specs.Itself.{Nowhere}
@@ -125,7 +125,7 @@ module _ (x : Rewriting) (images : AreImages x) (types : AgreeOnTypes x.programs
         Settle (on_floors x (NormalFloor x added B)) (control no_stmt p o V) (control r' p' o' V')
     floor-empty nothing_there f = floor-over f
 
-    floor-some : (s : PStmt) (l : PStmts) {r' : PStmts} → x.image (stmt_then s l) r' → IsRow r' → {p p' : Around} {o o' : List Part} {V V' : Variables} → NormalFloor x added B p o V p' o' V' →
+    floor-some : (s : PStmt) (l : PStmts) {r' : PStmts} → x.image (stmt_then s l) r' → IsSomething r' → {p p' : Around} {o o' : List Part} {V V' : Variables} → NormalFloor x added B p o V p' o' V' →
         Settle (on_floors x (NormalFloor x added B)) (control (stmt_then s l) p o V) (control r' p' o' V')
     floor-some s l im (something_there s' l') f = record { follows = inside (stmt_then s l) (stmt_then s' l') im (on_floor f) }
 

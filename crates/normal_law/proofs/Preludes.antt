@@ -19,7 +19,7 @@ use Rattle.task_model.specs.Stands.{can_step, stepped}
 use Rattle.normal_model.specs.Names.{variable_name}
 use Rattle.normal_model.specs.Making.{assigned}
 use Rattle.translation_law.specs.Translations.{Translation, types_before, types_after}
-use Rattle.translation_law.specs.Images.{IsRow, something_there}
+use Rattle.translation_law.specs.Images.{IsSomething, something_there}
 use Rattle.translation_law.specs.Controls.{task_in, Under}
 use Rattle.translation_law.specs.Floors.{IsTranslation}
 use Rattle.translation_law.proofs.Results.{Both, both_ok, both_err}
@@ -37,7 +37,7 @@ abbrev outcome : PStmts → Task → Variables → NameId → Limits → Result 
 outcome q t W id limits r = or_raised (λ vars. gone_to q (with_vars t vars)) t (and_then r (λ v. and_then (checked limits v) (λ w. Ok (set_value W id 0 w))))
 
 -- statements that are there stay, as frames that are over are left
-settled-row : {r : PStmts} → IsRow r → (p : Around) (o : List Part) (V : Variables) → settled (control r p o V) ≡ control r p o V
+settled-row : {r : PStmts} → IsSomething r → (p : Around) (o : List Part) (V : Variables) → settled (control r p o V) ≡ control r p o V
 settled-row (something_there s l) p o V = refl
 
 -- numbers of which one is below the other are not the same
@@ -65,7 +65,7 @@ module _ (x : Translation) (laws : IsTranslation x) (g : Setting) (added : Added
       ∙ ap (λ b. outcome q (at n i w (stmt_then (assigned g s k e) q) p o W) W (variable_name g k) (added.bounds k) b) f
 
   -- the row behind an assignment is there
-  row-due : (s : Span) (ds : List (Option PExpr)) (k : ℕ) (t : PStmt) (r : PStmts) → IsRow (in_front (due_before g s ds k) (stmt_then t r))
+  row-due : (s : Span) (ds : List (Option PExpr)) (k : ℕ) (t : PStmt) (r : PStmts) → IsSomething (in_front (due_before g s ds k) (stmt_then t r))
   row-due s [] k t r = something_there t r
   row-due s (None ∷ ds) k t r = row-due s ds (k + 1) t r
   row-due s (Some e ∷ ds) k t r = something_there _ _

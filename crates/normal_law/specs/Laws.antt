@@ -17,51 +17,51 @@ use Rattle.translation_law.specs.Scopes.{AgreeOnTypes}
 use Rattle.translation_law.specs.Controls.{task_in, Under, Alike, IsAtLocal, AreInside, AreAround, StepAlike}
 use Rattle.translation_law.specs.Floors.{IsTranslation}
 use Rattle.normal_law.specs.Suited.{Rewritten, unit_of, asked_of}
-use Rattle.normal_law.specs.NormalRows.{Begin, Normal, normal_rows}
+use Rattle.normal_law.specs.NormalLists.{Begin, Normal, normal_lists}
 use Rattle.normal_law.specs.Meetings.{AreValues, IsOpened, EndAlike, AreBefore}
 use Rattle.normal_law.specs.NormalFloors.{Extends, normal}
 use Rattle.normal_law.specs.Preludes.{Added, AreThere, due_before, OldDues, Prelude}
 
 -- The normal form of a unit is a translation of it, whatever its variables, where the tables of types agree.
 abbrev pub NormalTranslates : Type 0
-NormalTranslates = (w : Rewritten) (added : Added w.programs w.programs.original) → AgreeOnTypes w.programs → IsTranslation (normal (normal_rows w) added)
+NormalTranslates = (w : Rewritten) (added : Added w.programs w.programs.original) → AgreeOnTypes w.programs → IsTranslation (normal (normal_lists w) added)
 
 -- A task and its image in the normal form take the same local steps, and behind each they are alike.
 abbrev pub NormalSteps : Type 0
-NormalSteps = (w : Rewritten) (added : Added w.programs w.programs.original) → AgreeOnTypes w.programs → (σ κ : Task) → AreInside (normal (normal_rows w) added) σ κ → IsAtLocal (rest_of σ) (place_of σ) →
-    StepAlike (normal (normal_rows w) added) σ κ
+NormalSteps = (w : Rewritten) (added : Added w.programs w.programs.original) → AgreeOnTypes w.programs → (σ κ : Task) → AreInside (normal (normal_lists w) added) σ κ → IsAtLocal (rest_of σ) (place_of σ) →
+    StepAlike (normal (normal_lists w) added) σ κ
 
 -- At the start of a unit's body in which old names alone stand, and with the unit's objects beside the added variables, the two are alike.
 abbrev pub NormalStarts : Type 0
 NormalStarts = (w : Rewritten) (added : Added w.programs w.programs.original) (its : PBody) (V V' : Variables) (n : ℕ) (input : List ℤ) → OldBody (asked_of w) its → Begin (unit_variables (unit_of w) its) w.vars → Extends w.programs V V' → AreThere added V' →
-    AreInside (normal (normal_rows w) added)
+    AreInside (normal (normal_lists w) added)
     (task_in w.programs.original n input [] (control (block_stmts its) (Whole (block_handlers its) None) [] V))
     (task_in w.programs.made n input [] (control (block_stmts (normal_body (unit_of w) its)) (Whole (block_handlers (normal_body (unit_of w) its)) None) [] V'))
 
 -- An exception that is raised in both, as where a call fails, leaves them alike.
 abbrev pub NormalRaises : Type 0
-NormalRaises = (w : Rewritten) (added : Added w.programs w.programs.original) → AgreeOnTypes w.programs → (σ κ : Task) → AreAround (normal (normal_rows w) added) σ κ → (e : Raised) →
-    Alike (normal (normal_rows w) added) (raised_there e σ) (raised_there e κ)
+NormalRaises = (w : Rewritten) (added : Added w.programs w.programs.original) → AgreeOnTypes w.programs → (σ κ : Task) → AreAround (normal (normal_lists w) added) σ κ → (e : Raised) →
+    Alike (normal (normal_lists w) added) (raised_there e σ) (raised_there e κ)
 
 -- Where both stand before an accept or a selective wait, an accept body that both open leaves them inside images, where the heads have the same formals and the statements of one are images of the other's.
 abbrev pub NormalOpens : Type 0
-NormalOpens = (w : Rewritten) (added : Added w.programs w.programs.original) → AgreeOnTypes w.programs → (σ κ : Task) → AreBefore (normal (normal_rows w) added) σ κ →
+NormalOpens = (w : Rewritten) (added : Added w.programs w.programs.original) → AgreeOnTypes w.programs → (σ κ : Task) → AreBefore (normal (normal_lists w) added) σ κ →
     (caller e : ℕ) (z : ℤ) (h h' : PHead) → h.formals ≡ h'.formals → OldFormals w.programs h.formals → (vs : List Value) → AreValues w.programs vs →
     (l l' d d' : PStmts) → Normal w l l' → Normal w d d' →
-    AreInside (normal (normal_rows w) added) (alternative_opened caller (Some (Accepts e z h l d)) vs σ) (alternative_opened caller (Some (Accepts e z h' l' d')) vs κ)
+    AreInside (normal (normal_lists w) added) (alternative_opened caller (Some (Accepts e z h l d)) vs σ) (alternative_opened caller (Some (Accepts e z h' l' d')) vs κ)
 
 -- An accept body ends alike on both sides: the same values go back, the same exception is pending, and behind it both are alike.
 abbrev pub NormalEnds : Type 0
-NormalEnds = (w : Rewritten) (added : Added w.programs w.programs.original) → AgreeOnTypes w.programs → (σ κ : Task) → AreInside (normal (normal_rows w) added) σ κ → IsOpened (place_of σ) → EndAlike (normal (normal_rows w) added) σ κ
+NormalEnds = (w : Rewritten) (added : Added w.programs w.programs.original) → AgreeOnTypes w.programs → (σ κ : Task) → AreInside (normal (normal_lists w) added) σ κ → IsOpened (place_of σ) → EndAlike (normal (normal_lists w) added) σ κ
 
 -- Where both stand before a call or a wait, another part that both enter leaves them alike.
 abbrev pub NormalEnters : Type 0
-NormalEnters = (w : Rewritten) (added : Added w.programs w.programs.original) → AgreeOnTypes w.programs → (σ κ : Task) → AreBefore (normal (normal_rows w) added) σ κ → (l l' : PStmts) → Normal w l l' →
-    Alike (normal (normal_rows w) added) (entered l (behind_of σ) σ) (entered l' (behind_of κ) κ)
+NormalEnters = (w : Rewritten) (added : Added w.programs w.programs.original) → AgreeOnTypes w.programs → (σ κ : Task) → AreBefore (normal (normal_lists w) added) σ κ → (l l' : PStmts) → Normal w l l' →
+    Alike (normal (normal_lists w) added) (entered l (behind_of σ) σ) (entered l' (behind_of κ) κ)
 
 -- What stands in front of a statement is made: the task comes before the statement with the values in their variables, each of old names worth the same and checked alike, or to a step that raises what the first of them raises, in the same frames.
 abbrev pub NormalPreludes : Type 0
 NormalPreludes = (w : Rewritten) (added : Added w.programs w.programs.original) → AgreeOnTypes w.programs → (n : ℕ) (input : List ℤ) (output : List ℕ) (p p' : Around) (o o' : List Part) (V W : Variables)
-    (s : Span) (next : PStmt) (r : PStmts) (ds : List (Option PExpr)) (k : ℕ) → OldDues w.programs ds → k + length ds ≤ added.count → Under (normal (normal_rows w) added) p o V p' o' W →
-    Prelude (normal (normal_rows w) added) added n input output p o V p' o'
+    (s : Span) (next : PStmt) (r : PStmts) (ds : List (Option PExpr)) (k : ℕ) → OldDues w.programs ds → k + length ds ≤ added.count → Under (normal (normal_lists w) added) p o V p' o' W →
+    Prelude (normal (normal_lists w) added) added n input output p o V p' o'
     (task_in w.programs.made n input output (control (in_front (due_before w.programs.original s ds k) (stmt_then next r)) p' o' W)) (stmt_then next r) k W ds

@@ -1,5 +1,5 @@
 pub mod Suited
-pub mod NormalRows
+pub mod NormalLists
 pub mod NormalFloors
 pub mod Meetings
 pub mod Preludes

@@ -1,14 +1,11 @@
 -- The program in which a variable chooses a member of an array of tasks is as the laws ask.
-use Rattle.std.proofs.Common.{◌≡◌, ℕ, List, [], ◌∷◌, ◌++◌, Some, All, codes, refl, arith, slice_get, lit≤, lit<}
-use Rattle.std.specs.Prelude.{IsSomeAnd}
+use Rattle.std.proofs.Common.{ℕ, [], ◌∷◌, ◌++◌, All, codes, refl, arith, lit≤, lit<}
 use Rattle.std.specs.List.{AllByRecursion}
 use Rattle.std.specs.Fmt.{digits}
 use Rattle.std.proofs.lemmas.List.Elements.{All-nil, All-cons}
-use Rattle.ada_tree.specs.declared.naming.NameId.{NameId}
 use Rattle.ada_tree.specs.declared.static_types.Kind.{Kind}
 use Rattle.ada_tree.specs.declared.static_types.Kind.TheVariants.{Integer, Truth, Enumeration, Array}
 use Rattle.ada_tree.specs.Every.{Rules, EveryWord, EveryFormal, EveryEntry, EveryPriority, EveryCallee, EveryDecls, EveryBody}
-use Rattle.ada_tree.specs.Lexical.{IsIdentifier}
 use Rattle.ada_tree.specs.NameList.{predefined, AreNames}
 use Rattle.ada_tree.proofs.Interning.{AreNames-added, AreNames-predefined}
 use Rattle.ada_tree.specs.Refusals.{types_in}
@@ -19,8 +16,8 @@ use Rattle.rewritten_types.proofs.Lookups.{place-all}
 use Rattle.normal_runs_law.specs.Example.{word}
 use Rattle.normal_form_law.specs.Choosing.{entry, member, main_body, choosing}
 use Rattle.normal_form_law.specs.Normalisable.{numbers_of}
+use Rattle.normal_form_law.proofs.Choosing.{Named, n0, n25, n26, n27, n28, n29}
 use Rattle.legal_types.specs.Typed.{IsSmall, IsSmallKind}
-use Rattle.normal_legal_bodies.specs.Literals.{HasLiterals}
 use Rattle.normal_legal_units.specs.Weights.{IsLight}
 use Rattle.normal_legal.specs.Laws.{IsLegal}
 
@@ -72,27 +69,6 @@ light = (lit< tt, (lit< tt, tt))
 abbrev rules : Rules
 rules = well_placed choosing.names
 
-abbrev Named : ℕ → Type 0
-Named k = IsSomeAnd (slice_get choosing.names k) IsIdentifier
-
-n0 : Named 0
-n0 = (refl, omega arith, refl)
-
-n25 : Named 25
-n25 = (refl, omega arith, refl)
-
-n26 : Named 26
-n26 = (refl, omega arith, refl)
-
-n27 : Named 27
-n27 = (refl, omega arith, refl)
-
-n28 : Named 28
-n28 = (refl, omega arith, refl)
-
-n29 : Named 29
-n29 = (refl, omega arith, refl)
-
 one-name : (k : ℕ) → Named k → All (EveryWord rules) (word k ∷ [])
 one-name k h = All-cons (EveryWord rules) (word k) [] h (All-nil (EveryWord rules))
 
@@ -118,14 +94,6 @@ in-body = (
 placed : IsWellPlaced choosing
 placed = (n25, tt, in-decls, in-body)
 
--- ---- indices
-
-no-enumeration : (ids : List NameId) → Some Integer ≡ Some (Enumeration ids) → ⊥
-no-enumeration ids e = cc
-
-literals : HasLiterals choosing
-literals = ((λ ids e x f i l. absurd (no-enumeration ids e)), tt)
-
 -- So it is as the laws ask.
 pub choosing-is-legal : IsLegal choosing
-choosing-is-legal = record { legal = legal; placed = placed; names = names; small = small; light = light; literals = literals }
+choosing-is-legal = record { legal = legal; placed = placed; names = names; small = small; light = light }

@@ -24,7 +24,7 @@ legal_is_normalisable p h inputs = record {
   scalar = scalar p ready;
   well = legal_is_well p types numbers h.legal h.placed h.small;
   plain = legal_is_plain p types numbers h.legal h.placed h.names h.small inputs;
-  text = legal-text p types numbers h.legal h.placed h.names h.small inputs h.literals;
+  text = legal-text p types numbers h.legal h.placed h.names h.small inputs;
 }
   where
     types : TypeTable

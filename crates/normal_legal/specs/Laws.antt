@@ -13,18 +13,16 @@ use Rattle.normal_runs_law.specs.Premises.{IsNormalForm}
 use Rattle.normal_form_law.specs.Choosing.{choosing}
 use Rattle.normal_form_law.specs.Normalisable.{numbers_of, made_for, normal_rewrite, IsNormalisable}
 use Rattle.legal_types.specs.Typed.{IsSmall}
-use Rattle.normal_legal_bodies.specs.Literals.{HasLiterals}
 use Rattle.normal_legal_units.specs.Weights.{IsLight}
-use Rattle.normal_legal.specs.Colours.{coloured}
+use Rattle.legal_literals.specs.Colours.{coloured}
 
--- What is asked of a program: it is a legal original, well placed, with the names of every program, small enumerations and light bodies; and the indices of arrays of tasks over an enumeration have literals. Names and places are so in each text that is read; of the others that is not proved.
+-- What is asked of a program: it is a legal original, well placed, with the names of every program, small enumerations and light bodies. All but the first is so of each text that is read within the limit of `run` (`read_normal`).
 pub record IsLegal (p : PProgram) : Type 0 where
   pub legal : Legal p (types_in p) (numbers_of p) Original
   pub placed : IsWellPlaced p
   pub names : AreNames p.names
   pub small : IsSmall (types_in p)
   pub light : IsLight p
-  pub literals : HasLiterals p
 
 -- Such a program is as the law of normal forms asks, with all inputs.
 abbrev pub LegalIsNormalisable : Type 0

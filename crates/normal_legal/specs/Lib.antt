@@ -1,2 +1,1 @@
-pub mod Colours
 pub mod Laws

@@ -4,9 +4,9 @@
 ghost use Rattle.normal_legal.specs.Laws.{LegalIsNormalisable, LegalIsNormal, LegalShowsSame, IsMet};
 
 /// Carries the laws of each legal program that is well placed, whose names begin with the predefined ones, and whose enumerations are small and bodies
-/// light, where the indices of arrays of tasks over an enumeration have literals: it is as the law of normal forms asks (`normalisable`), so what is made
-/// from it is a normal form of it (`normal`), and the two show the same events and outputs, whatever the inputs and the schedule (`same`). Two
-/// programs with an array of tasks are such ones, one of them over an enumeration (`met`).
+/// light: it is as the law of normal forms asks (`normalisable`), so what is made from it is a normal form of it (`normal`), and the two show the same
+/// events and outputs, whatever the inputs and the schedule (`same`). Two programs with an array of tasks are such ones, one of them over an
+/// enumeration (`met`).
 pub fn laws()
     ensures normalisable { LegalIsNormalisable }
     ensures normal { LegalIsNormal }

@@ -17,8 +17,8 @@ use Rattle.syn_event.specs.declared.numbering.Mode.TheVariants.{Original}
 use Rattle.syn_event.specs.declared.numbering.TaskInfo.{TaskInfo}
 use Rattle.syn_event.specs.Legal.{Legal}
 use Rattle.syn_event.specs.Numbering.{Numbering, task_at}
-use Rattle.syn_event.specs.TaskParts.{TaskPart, parts_of, seats}
-use Rattle.syn_event.specs.AllNumbers.{seat_info, all_numbers}
+use Rattle.syn_event.specs.NamedTasks.{NamedTasks, task_names_of, numbered_tasks}
+use Rattle.syn_event.specs.AllNumbers.{info_of_task, all_numbers}
 use Rattle.task_model.specs.Starting.{Unit, unit_of_info, unit_among}
 use Rattle.normal_model.specs.NormalTree.{first_running}
 use Rattle.rewritten_values.specs.Values.{is_known}
@@ -36,7 +36,7 @@ use Rattle.normal_legal_units.proofs.Apart.{all-apart}
 use Rattle.normal_legal_units.proofs.TaskNames.{IsShort}
 use Rattle.normal_legal_units.proofs.Fields.{legal_is_ordered, legal_has_tokens, legal_names_tell}
 use Rattle.normal_legal_seen.proofs.Parts.{AreRanged, IsExtent, is_called}
-use Rattle.normal_legal_text.proofs.CalleesAsked.{RowFacts, CalleesKnown}
+use Rattle.normal_legal_text.proofs.CalleesAsked.{RangeFacts, CalleesKnown}
 use Rattle.normal_legal_text.proofs.Text.{text_rules, AreTyped, TextPremises, parts-known, main-text, beside-text}
 use Rattle.normal_legal_bodies.proofs.Named.{task-found}
 use Rattle.normal_legal_bodies.proofs.Typing.{locals-of}
@@ -54,8 +54,8 @@ module _ (p : PProgram) (types : TypeTable) (its_numbers : Numbering) (legal : L
     pub own : EveryProgram (text_rules (own_name p)) p
     pub typed : AreTyped p b.made b.is_old b.is_fixed Typed
     pub ranged : AreRanged T (first_scope p.name) p.decls
-    pub rows : (id : NameId) (x : TaskPart) (r : PDrange) (range : Range) → find (is_called id) (parts_of p) ≡ Some x → x.row ≡ Some r → IsExtent T r range → RowFacts b T r range
-    pub short : AllByRecursion (λ (i : TaskInfo). IsShort i.member) (map (seat_info p.names) (seats T p))
+    pub rows : (id : NameId) (x : NamedTasks) (r : PDrange) (range : Range) → find (is_called id) (task_names_of p) ≡ Some x → x.index_range ≡ Some r → IsExtent T r range → RangeFacts b T r range
+    pub short : AllByRecursion (λ (i : TaskInfo). IsShort i.member) (map (info_of_task p.names) (numbered_tasks T p))
 
   module _ (Typed : Scope → Type 0) (h : TypePremises Typed) where
     ordered : IsOrdered p

@@ -22,7 +22,6 @@ use Rattle.ada_value.specs.declared.values.Raised.TheVariants as raised
 use Rattle.ada_value.specs.Values as values
 use Rattle.ada_value.specs.Values.{position_of, value_in, limits_or}
 use Rattle.ada_value.specs.Evaluating.{evaluated, bound_value}
-use Rattle.ada_value.specs.StaticLaw.{HasValueAt}
 use Rattle.task_model.specs.Starting.{known_range}
 use Rattle.normal_model.specs.Members.{integer_literal, literal_in, kind_of_index}
 use Rattle.normal_model.specs.Ranges.{word_at}
@@ -33,9 +32,9 @@ use Rattle.normal_runs_law.specs.Premises.{programs_of}
 use Rattle.normal_form_law.specs.Normalisable.{made_for, normal_rewrite}
 use Rattle.normal_legal_types.proofs.Forms.{begins, predefined-mark, predefined-own}
 use Rattle.normal_legal_seen.proofs.Parts.{IsExtent}
-use Rattle.normal_legal_bodies.specs.Literals.{HasRowLiterals}
+use Rattle.legal_types.specs.Typed.{HasLimits, HasPosition}
 use Rattle.normal_legal_bodies.proofs.Ranges.{some-bounds}
-use Rattle.normal_legal_bodies.proofs.Rows.{HasValues}
+use Rattle.normal_legal_bodies.proofs.Worth.{HasRangeLiterals}
 
 module _ (p : PProgram) (names : AreNames p.names) (inputs : List (List ℤ)) where
   abbrev T : TypeTable
@@ -118,23 +117,23 @@ module _ (p : PProgram) (names : AreNames p.names) (inputs : List (List ℤ)) wh
   is-literal k sp i h = record { fixed = h.fixed; value = h.value; worth = h.worth; position = h.position }
 
   -- each index in a row has a literal
-  pub row-literal : (r : PDrange) → HasValues T r → HasRowLiterals p r → (range : Range) → IsExtent T r range → (sp : Span) (i : ℤ) → (int_le range.first i && int_le i range.last) ≡ true → IsLiteral b (kind_of_index T (Some r)) sp i
+  pub row-literal : (r : PDrange) (v : HasLimits T r) → HasRangeLiterals p r v → (range : Range) → IsExtent T r range → (sp : Span) (i : ℤ) → (int_le range.first i && int_le i range.last) ≡ true → IsLiteral b (kind_of_index T (Some r)) sp i
   row-literal r v h range ext sp i lies = subst (λ o. IsLiteral b o sp i) (sym kind_is) (is-literal (kind_at T k) sp i (by_kind (kind_at T k) refl))
     where
       k : ℕ
-      k = v.limits.limits.kind
+      k = v.limits.kind
 
       f : ℤ
-      f = v.limits.limits.first
+      f = v.limits.first
 
       l : ℤ
-      l = v.limits.limits.last
+      l = v.limits.last
 
       same : (f ≡ range.first) × (l ≡ range.last)
-      same = some-bounds (record { first = f; last = l }) (record { first = range.first; last = range.last }) (sym v.limits.told ∙ ext.extent)
+      same = some-bounds (record { first = f; last = l }) (record { first = range.first; last = range.last }) (sym v.told ∙ ext.extent)
 
       kind_is : kind_of_index T (Some r) ≡ kind_at T k
-      kind_is = ap (λ q. slice_get T.kinds (known_range q).kind) v.limits.range
+      kind_is = ap (λ q. slice_get T.kinds (known_range q).kind) v.range
 
       here : (int_le f i && int_le i l) ≡ true
       here = ap₂ (λ x y. int_le x i && int_le i y) same.0 same.1 ∙ lies
@@ -148,7 +147,7 @@ module _ (p : PProgram) (names : AreNames p.names) (inputs : List (List ℤ)) wh
       number : IsFor (integer_literal sp i) i
       number = number-for sp i (within-values f l i v.first.fits v.last.fits low high)
 
-      position : (o : Option Kind) (z : ℤ) → kind_at T k ≡ o → HasValueAt T k z → position_of (value_in k o z) ≡ z
+      position : (o : Option Kind) (z : ℤ) → kind_at T k ≡ o → HasPosition T k z → position_of (value_in k o z) ≡ z
       position o z e q = ap (λ x. position_of (value_in k x z)) (sym e) ∙ q.same
 
       by_kind : (o : Option Kind) → kind_at T k ≡ o → IsFor (literal_in o sp i) i
@@ -160,5 +159,5 @@ module _ (p : PProgram) (names : AreNames p.names) (inputs : List (List ℤ)) wh
           let y = truth-position k l (position (Some kind.Truth) l e v.last) in
           truth-for sp i (at-least (pos 0) f i x.0 low) (at-least i l (pos 1) high y.1)
       by_kind (Some (kind.Enumeration ns)) e =
-          let q = h ns (kind_is ∙ e) (record { first = f; last = l }) v.limits.told i here in
+          let q = h ns e i here in
           record { fixed = fixed_name _ sp q.own q.fixed; value = _; worth = refl; position = q.position }

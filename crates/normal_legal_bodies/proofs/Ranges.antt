@@ -6,14 +6,14 @@ use Rattle.ada_tree.specs.declared.naming.NameId.{NameId}
 use Rattle.ada_tree.specs.declared.naming.Span.{Span}
 use Rattle.ada_tree.specs.TypeTable.{TypeTable}
 use Rattle.ada_tree.specs.PlainExpr.{PDrange}
-use Rattle.ada_tree.specs.PlainDecl.{OPlain, ORow, PEntry, DNumber, DObject, DEnumeration, DArray, DSubtype, DException, DIntIo, DPragma, DTask, DTaskBody, PDecls, no_decl, decl_then}
+use Rattle.ada_tree.specs.PlainDecl.{OPlain, OArray, PEntry, DNumber, DObject, DEnumeration, DArray, DSubtype, DException, DIntIo, DPragma, DTask, DTaskBody, PDecls, no_decl, decl_then}
 use Rattle.ada_tree.specs.PlainProgram.{PProgram}
 use Rattle.ada_tree.specs.Refusals.{types_in}
 use Rattle.ada_tree.specs.Every.{EveryDrange}
 use Rattle.ada_tree.specs.Scope.{Scope, Range, and_then}
 use Rattle.ada_tree.specs.Declaring.{after_decl}
 use Rattle.syn_event.specs.Extents.{Extent}
-use Rattle.syn_event.specs.TaskParts.{TaskPart, parts_of}
+use Rattle.syn_event.specs.NamedTasks.{NamedTasks, task_names_of}
 use Rattle.syn_event.specs.AllNumbers.{all_numbers}
 use Rattle.ada_value.specs.Values.{lies_in}
 use Rattle.normal_model.specs.Ranges.{subtype_of_range, array_range}
@@ -48,7 +48,7 @@ entries-known T s (e ∷ es) h = (family-known T s e.family h.0, entries-known T
 pub ranges-known : (T : TypeTable) (ds : PDecls) (s : Scope) → AllRanges T s ds → AreRanged T s ds
 ranges-known T no_decl s h = tt
 ranges-known T (decl_then (DTask t sp) rest) s h = (entries-known T s t.entries h.0, ranges-known T rest (after_decl s (DTask t sp)) h.1)
-ranges-known T (decl_then (DObject ws constant (ORow r x) init sp) rest) s h = (range-known T s r h.0, ranges-known T rest (after_decl s (DObject ws constant (ORow r x) init sp)) h.1)
+ranges-known T (decl_then (DObject ws constant (OArray r x) init sp) rest) s h = (range-known T s r h.0, ranges-known T rest (after_decl s (DObject ws constant (OArray r x) init sp)) h.1)
 ranges-known T (decl_then (DObject ws constant (OPlain x) init sp) rest) s h = (tt, ranges-known T rest (after_decl s (DObject ws constant (OPlain x) init sp)) h.1)
 ranges-known T (decl_then (DNumber w e sp) rest) s h = (tt, ranges-known T rest (after_decl s (DNumber w e sp)) h.1)
 ranges-known T (decl_then (DEnumeration w ws sp) rest) s h = (tt, ranges-known T rest (after_decl s (DEnumeration w ws sp)) h.1)
@@ -72,13 +72,13 @@ module _ (p : PProgram) (ready : IsReady p) where
   V = types_in (normal_tree p T (all_numbers T p))
 
   -- the range of an array of tasks is static, and its names are the program's own
-  pub row-limits : (id : NameId) (x : TaskPart) (r : PDrange) → find (is_called id) (parts_of p) ≡ Some x → x.row ≡ Some r → HasLimits T r × EveryDrange (old_names (own_name p)) 2 r
+  pub row-limits : (id : NameId) (x : NamedTasks) (r : PDrange) → find (is_called id) (task_names_of p) ≡ Some x → x.index_range ≡ Some r → HasLimits T r × EveryDrange (old_names (own_name p)) 2 r
   row-limits id x r found row =
-      let is : array_range p id ≡ Some r = ap (and_then (λ (y : TaskPart). y.row)) found ∙ row in
+      let is : array_range p id ≡ Some r = ap (and_then (λ (y : NamedTasks). y.index_range)) found ∙ row in
       let own = array-own p ready id in
       (subst (λ o. IfSome o (HasLimits T)) is own.0, subst (λ o. IfSome o (EveryDrange (old_names (own_name p)) 2)) is own.1)
 
-  pub row-same : (id : NameId) (x : TaskPart) (r : PDrange) (range : Range) → find (is_called id) (parts_of p) ≡ Some x → x.row ≡ Some r → IsExtent T r range → (sp : Span) (z : ℤ) →
+  pub row-same : (id : NameId) (x : NamedTasks) (r : PDrange) (range : Range) → find (is_called id) (task_names_of p) ≡ Some x → x.index_range ≡ Some r → IsExtent T r range → (sp : Span) (z : ℤ) →
       lies_in (declared_limits V (subtype_of_range T sp (Some r))) z ≡ (int_le range.first z && int_le z range.last)
   row-same id x r range found row ext sp z =
       let h = row-limits id x r found row in

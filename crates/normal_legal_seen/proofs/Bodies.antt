@@ -9,7 +9,7 @@ use Rattle.ada_tree.specs.TypeTable.{TypeTable}
 use Rattle.ada_tree.specs.PlainStmt.{PFormal, PScheme, LWhile, LFor, PHead, PBody}
 use Rattle.ada_tree.specs.PlainDecl.{PTask, DNumber, DObject, DEnumeration, DArray, DSubtype, DException, DIntIo, DPragma, DTask, DTaskBody, PDecls, no_decl, decl_then}
 use Rattle.ada_tree.specs.PlainProgram.{PProgram}
-use Rattle.ada_tree.specs.Scope.{Scope, Seen, Thing, TypeMark, TaskType, SingleTask, TaskObject, TaskRow, Variable, ConstantObject, Parameter, LoopParameter, Literal, AnException, MainProcedure, AnotherUnit, Unclear, meaning, marking}
+use Rattle.ada_tree.specs.Scope.{Scope, Seen, Thing, TypeMark, TaskType, SingleTask, TaskObject, TaskArray, Variable, ConstantObject, Parameter, LoopParameter, Literal, AnException, MainProcedure, AnotherUnit, Unclear, meaning, marking}
 use Rattle.ada_tree.specs.Sites.{loop_scope}
 use Rattle.ada_tree.specs.RuleUnknown.{no_body_of}
 use Rattle.ada_tree.specs.Declaring.{before_all, predefined_names, first_scope, with_name, with_names, with_types, with_constants, declared_object, inside, in_body, own_entries, after_own_object, after_objects, after_decl, after_decls, with_formals, formal_thing, loop_thing}
@@ -18,13 +18,13 @@ use Rattle.syn_event.specs.declared.meanings.Meant.TheVariants as meant
 use Rattle.syn_event.specs.CheckScope.{CheckScope}
 use Rattle.syn_event.specs.CheckScope as check
 use Rattle.syn_event.specs.CheckSites as sites
-use Rattle.syn_event.specs.TaskParts.{TaskPart, parts_in, parts_of}
+use Rattle.syn_event.specs.NamedTasks.{NamedTasks, task_names_in, task_names_of}
 use Rattle.rewritten_types.specs.Rewriting.{IsUnused, DeclareOnce}
 use Rattle.rewritten_types.proofs.Lookups.{find-all}
 use Rattle.rewritten_types.proofs.Fresh.{first-here}
 use Rattle.legal_entries.proofs.Lists.{some-same, find-front}
 use Rattle.normal_legal_seen.proofs.Scopes.{is_one_of, names-all, meant-out, meant-own, names-own, IsNoTask, inner-object, formal-no-task, loop-no-task}
-use Rattle.normal_legal_seen.proofs.Parts.{ObjectsApart, AreRanged, unit_is, IsUnitOf, Stands, IsRow, Means, IsPair, MainSeen, types_after, decl-step, extended, no-task-means, no-task-pair, name-used}
+use Rattle.normal_legal_seen.proofs.Parts.{ObjectsApart, AreRanged, unit_is, IsUnitOf, Stands, IsTaskArray, Means, IsPair, MainSeen, types_after, decl-step, extended, no-task-means, no-task-pair, name-used}
 
 -- ---- predefined names
 
@@ -85,9 +85,9 @@ module _ (p : PProgram) (T : TypeTable) where
 
   -- a name that means a task stands for a part of the program
   abbrev pub SeenAs : NameId → Thing → Type 0
-  SeenAs id (SingleTask es) = Stands p T (parts_of p) id None es
-  SeenAs id (TaskObject es) = Stands p T (parts_of p) id None es
-  SeenAs id (TaskRow range es) = IsRow p T (parts_of p) id range es
+  SeenAs id (SingleTask es) = Stands p T (task_names_of p) id None es
+  SeenAs id (TaskObject es) = Stands p T (task_names_of p) id None es
+  SeenAs id (TaskArray range es) = IsTaskArray p T (task_names_of p) id range es
   SeenAs id _ = Unit {0}
 
   -- in whose body a place is
@@ -100,13 +100,13 @@ module _ (p : PProgram) (T : TypeTable) where
     pub pairs : (id : NameId) (th : Thing) → meaning s id ≡ Some th → IsPair p T (check.meaning c id) th
     pub own : IsIn who s c
 
-  as-seen : (done : List TaskPart) (rest : List TaskPart) (kinds : List PTask) (units : List check.Unit) (id : NameId) (th : Thing) → parts_of p ≡ done ++ rest → Means p T done kinds units id th → SeenAs id th
-  as-seen done rest kinds units id th e m = by_form th (extended p T done (parts_of p) kinds kinds units units id (λ x f. ap (find _) e ∙ find-front _ done rest x f) (λ t f. f) (λ u f. f) th m)
+  as-seen : (done : List NamedTasks) (rest : List NamedTasks) (kinds : List PTask) (units : List check.Unit) (id : NameId) (th : Thing) → task_names_of p ≡ done ++ rest → Means p T done kinds units id th → SeenAs id th
+  as-seen done rest kinds units id th e m = by_form th (extended p T done (task_names_of p) kinds kinds units units id (λ x f. ap (find _) e ∙ find-front _ done rest x f) (λ t f. f) (λ u f. f) th m)
     where
-      by_form : (th : Thing) → Means p T (parts_of p) kinds units id th → SeenAs id th
+      by_form : (th : Thing) → Means p T (task_names_of p) kinds units id th → SeenAs id th
       by_form (SingleTask es) h = h.0
       by_form (TaskObject es) h = h
-      by_form (TaskRow range es) h = h
+      by_form (TaskArray range es) h = h
       by_form (TaskType es) h = tt
       by_form (TypeMark m) h = tt
       by_form (Variable m) h = tt
@@ -132,12 +132,12 @@ module _ (p : PProgram) (T : TypeTable) where
   no-task-seen id (TaskType es) h = absurd h
   no-task-seen id (SingleTask es) h = absurd h
   no-task-seen id (TaskObject es) h = absurd h
-  no-task-seen id (TaskRow range es) h = absurd h
+  no-task-seen id (TaskArray range es) h = absurd h
   no-task-seen id MainProcedure h = absurd h
 
   -- the body of main
   pub main-seen : (kinds : List PTask) (s : Scope) (c : CheckScope) → MainSeen p T kinds no_decl s c → PlaceSeen None (inside s) c
-  main-seen kinds s c m = record { seen = λ id th e. as-seen m.done (parts_in kinds no_decl) kinds c.units id th m.parts (m.means id th e); pairs = m.pairs; own = m.own }
+  main-seen kinds s c m = record { seen = λ id th e. as-seen m.done (task_names_in kinds no_decl) kinds c.units id th m.parts (m.means id th e); pairs = m.pairs; own = m.own }
 
   -- names of one thing that is no task, which the other rules list or not
   names-seen : (who : Option PTask) (thing : Thing) (ws : List Word) (s t : Scope) (c c' : CheckScope) → IsNoTask thing → ((id : NameId) → meaning t id ≡ meaning s id) → t.own ≡ s.own →
@@ -227,7 +227,7 @@ module _ (p : PProgram) (T : TypeTable) where
   body-of kinds ds s c w m (Some (TaskType es)) e h = let d = (m.means w.name (TaskType es) e).0 in record { task = d.task; named = d.named; own = d.own; unit = d.unit }
   body-of kinds ds s c w m (Some (TypeMark k)) e h = absurd (some-not _ _ h)
   body-of kinds ds s c w m (Some (TaskObject es)) e h = absurd (some-not _ _ h)
-  body-of kinds ds s c w m (Some (TaskRow range es)) e h = absurd (some-not _ _ h)
+  body-of kinds ds s c w m (Some (TaskArray range es)) e h = absurd (some-not _ _ h)
   body-of kinds ds s c w m (Some (Variable k)) e h = absurd (some-not _ _ h)
   body-of kinds ds s c w m (Some (ConstantObject k)) e h = absurd (some-not _ _ h)
   body-of kinds ds s c w m (Some (Parameter mode k)) e h = absurd (some-not _ _ h)
@@ -251,7 +251,7 @@ module _ (p : PProgram) (T : TypeTable) where
   task-seen kinds w objects its sp rest s c m h =
       let d = body-of kinds _ s c w m (meaning s w.name) refl h in
       let start : PlaceSeen (Some d.task) (in_body s w) (sites.in_body c w) = record {
-        seen = λ id th e. as-seen m.done (parts_in kinds rest) kinds c.units id th m.parts (m.means id th e);
+        seen = λ id th e. as-seen m.done (task_names_in kinds rest) kinds c.units id th m.parts (m.means id th e);
         pairs = m.pairs;
         own = (d.own, ap (λ o. Some (unwrap_or o record { name = w.name; entries = [] })) d.unit);
       } in

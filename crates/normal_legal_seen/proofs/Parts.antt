@@ -10,9 +10,9 @@ use Rattle.ada_tree.specs.declared.naming.Span.{Span}
 use Rattle.ada_tree.specs.declared.naming.Word.{Word}
 use Rattle.ada_tree.specs.TypeTable.{TypeTable}
 use Rattle.ada_tree.specs.PlainExpr.{PDrange}
-use Rattle.ada_tree.specs.PlainDecl.{PShape, OPlain, ORow, PInit, PEntry, PTask, PDecl, DNumber, DObject, DEnumeration, DArray, DSubtype, DException, DIntIo, DPragma, DTask, DTaskBody, PDecls, no_decl, decl_then}
+use Rattle.ada_tree.specs.PlainDecl.{PShape, OPlain, OArray, PInit, PEntry, PTask, PDecl, DNumber, DObject, DEnumeration, DArray, DSubtype, DException, DIntIo, DPragma, DTask, DTaskBody, PDecls, no_decl, decl_then}
 use Rattle.ada_tree.specs.PlainProgram.{PProgram}
-use Rattle.ada_tree.specs.Scope.{Scope, Thing, TypeMark, TaskType, SingleTask, TaskObject, TaskRow, Variable, ConstantObject, Parameter, LoopParameter, Literal, AnException, MainProcedure, AnotherUnit, Unclear, EntryPart, Range, meaning}
+use Rattle.ada_tree.specs.Scope.{Scope, Thing, TypeMark, TaskType, SingleTask, TaskObject, TaskArray, Variable, ConstantObject, Parameter, LoopParameter, Literal, AnException, MainProcedure, AnotherUnit, Unclear, EntryPart, Range, meaning}
 use Rattle.ada_tree.specs.RuleDuplicate.{is_predefined, is_among}
 use Rattle.ada_tree.specs.Declaring.{with_name, with_names, with_types, entry_part, task_thing, drange_range, declared_object, with_constants, after_decl, type_of_mark}
 use Rattle.syn_event.specs.declared.meanings.Meant.{Meant}
@@ -22,13 +22,13 @@ use Rattle.syn_event.specs.CheckScope as check
 use Rattle.syn_event.specs.CheckSites as sites
 use Rattle.syn_event.specs.Extents.{extent}
 use Rattle.syn_event.specs.Units.{tasks_of, tasks_in, decl_list}
-use Rattle.syn_event.specs.TaskParts.{TaskPart, part, type_named, parts_of_type, object_parts, with_type, single_part, parts_in, parts_of}
+use Rattle.syn_event.specs.NamedTasks.{NamedTasks, named_tasks, type_named, task_names_of_type, object_task_names, with_type, single_task_name, task_names_in, task_names_of}
 use Rattle.task_model.specs.Setting.{unit_named}
 use Rattle.rewritten_types.specs.Rewriting.{names_declared, IsUsed, IsUnused}
 use Rattle.rewritten_types.proofs.Lookups.{all-weaker, all-append, find-all}
 use Rattle.rewritten_types.proofs.Fresh.{InHere, here-decl, other, used-more}
 use Rattle.legal_entries.proofs.Lists.{some-same, find-front, find-behind, find-mapped, find-nothing}
-use Rattle.normal_legal_seen.proofs.Scopes.{has_id, is_one_of, names-all, meant-out, meant-in, meant-units, meant-own, IsNoTask, ObjectThing, no_task_object, one_object, row_of_objects, object-thing, task-type-seen}
+use Rattle.normal_legal_seen.proofs.Scopes.{has_id, is_one_of, names-all, meant-out, meant-in, meant-units, meant-own, IsNoTask, ObjectThing, no_task_object, one_object, array_of_objects, object-thing, task-type-seen}
 
 -- ---- ranges
 
@@ -52,7 +52,7 @@ EntryRanged T s e = FamilyRanged T s e.family
 
 abbrev pub DeclRanged : TypeTable → Scope → PDecl → Type 0
 DeclRanged T s (DTask t sp) = AllByRecursion (EntryRanged T s) t.entries
-DeclRanged T s (DObject names constant (ORow r x) init sp) = IsRanged T s r
+DeclRanged T s (DObject names constant (OArray r x) init sp) = IsRanged T s r
 DeclRanged T s _ = Unit {0}
 
 -- so it is with the ranges of all families and of all arrays of tasks
@@ -62,7 +62,7 @@ AreRanged T s (decl_then d rest) = DeclRanged T s d × AreRanged T (after_decl s
 
 -- ---- what is known of a name
 
-abbrev pub is_called : NameId → TaskPart → Bool
+abbrev pub is_called : NameId → NamedTasks → Bool
 is_called id x = x.name.name.0 == id.0
 
 abbrev pub unit_is : NameId → check.Unit → Bool
@@ -117,10 +117,10 @@ module _ (p : PProgram) (T : TypeTable) where
     pub unit : IsUnit t
 
   -- a name stands for a part of the program
-  pub record Stands (done : List TaskPart) (id : NameId) (its : Option PDrange) (es : List EntryPart) : Type 0 where
-    pub part : TaskPart
+  pub record Stands (done : List NamedTasks) (id : NameId) (its : Option PDrange) (es : List EntryPart) : Type 0 where
+    pub part : NamedTasks
     pub found : find (is_called id) done ≡ Some part
-    pub row : part.row ≡ its
+    pub index_range : part.index_range ≡ its
     pub own : IsUnitOf part.unit es
 
   -- a name is that of a task or task type, which the other rules know too
@@ -130,15 +130,15 @@ module _ (p : PProgram) (T : TypeTable) where
     pub own : IsUnitOf task es
     pub unit : find (unit_is id) units ≡ Some (sites.unit_of task)
 
-  pub record IsRow (done : List TaskPart) (id : NameId) (known : Range) (es : List EntryPart) : Type 0 where
+  pub record IsTaskArray (done : List NamedTasks) (id : NameId) (known : Range) (es : List EntryPart) : Type 0 where
     pub range : PDrange
     pub stands : Stands done id (Some range) es
     pub extent : IsExtent T range known
 
-  abbrev pub Means : List TaskPart → List PTask → List check.Unit → NameId → Thing → Type 0
+  abbrev pub Means : List NamedTasks → List PTask → List check.Unit → NameId → Thing → Type 0
   Means done kinds units id (SingleTask es) = Stands done id None es × IsDeclared units id es
   Means done kinds units id (TaskObject es) = Stands done id None es
-  Means done kinds units id (TaskRow range es) = IsRow done id range es
+  Means done kinds units id (TaskArray range es) = IsTaskArray done id range es
   Means done kinds units id (TaskType es) = (d : IsDeclared units id es) × (type_named kinds id ≡ Some d.task)
   Means done kinds units id _ = Unit {0}
 
@@ -148,7 +148,7 @@ module _ (p : PProgram) (T : TypeTable) where
   IsPair o (TaskType es) = o ≡ Some meant.TaskType
   IsPair o _ = Unit {0}
 
-  pub no-task-means : (done : List TaskPart) (kinds : List PTask) (units : List check.Unit) (id : NameId) (th : Thing) → IsNoTask th → Means done kinds units id th
+  pub no-task-means : (done : List NamedTasks) (kinds : List PTask) (units : List check.Unit) (id : NameId) (th : Thing) → IsNoTask th → Means done kinds units id th
   no-task-means done kinds units id (TypeMark m) h = tt
   no-task-means done kinds units id (Variable m) h = tt
   no-task-means done kinds units id (ConstantObject m) h = tt
@@ -161,7 +161,7 @@ module _ (p : PProgram) (T : TypeTable) where
   no-task-means done kinds units id (TaskType es) h = absurd h
   no-task-means done kinds units id (SingleTask es) h = absurd h
   no-task-means done kinds units id (TaskObject es) h = absurd h
-  no-task-means done kinds units id (TaskRow range es) h = absurd h
+  no-task-means done kinds units id (TaskArray range es) h = absurd h
   no-task-means done kinds units id MainProcedure h = absurd h
 
   pub no-task-pair : (o : Option Meant) (th : Thing) → IsNoTask th → IsPair o th
@@ -177,17 +177,17 @@ module _ (p : PProgram) (T : TypeTable) where
   no-task-pair o (TaskType es) h = absurd h
   no-task-pair o (SingleTask es) h = absurd h
   no-task-pair o (TaskObject es) h = absurd h
-  no-task-pair o (TaskRow range es) h = absurd h
+  no-task-pair o (TaskArray range es) h = absurd h
   no-task-pair o MainProcedure h = absurd h
 
   -- ---- what is known of a place of main, before some declarations
 
   pub record MainSeen (kinds : List PTask) (ds : PDecls) (s : Scope) (c : CheckScope) : Type 0 where
     -- the parts so far, and the tasks
-    pub done : List TaskPart
-    pub parts : parts_of p ≡ done ++ parts_in kinds ds
-    pub parts_used : AllByRecursion (λ (x : TaskPart). IsUsed s x.name.name) done
-    pub parts_units : AllByRecursion (λ (x : TaskPart). IsUnit x.unit) done
+    pub done : List NamedTasks
+    pub parts : task_names_of p ≡ done ++ task_names_in kinds ds
+    pub parts_used : AllByRecursion (λ (x : NamedTasks). IsUsed s x.name.name) done
+    pub parts_units : AllByRecursion (λ (x : NamedTasks). IsUnit x.unit) done
     pub types_units : AllByRecursion IsUnit kinds
     pub before : List PTask
     pub tasks : tasks_of p ≡ before ++ tasks_in (decl_list ds)
@@ -199,23 +199,23 @@ module _ (p : PProgram) (T : TypeTable) where
     pub own : c.own ≡ None
     -- main's own name is none of theirs
     pub main_used : IsUsed s p.name.name
-    pub apart : AllByRecursion (λ (x : TaskPart). (p.name.name.0 == x.name.name.0) ≡ false) done
+    pub apart : AllByRecursion (λ (x : NamedTasks). (p.name.name.0 == x.name.name.0) ≡ false) done
     pub tasks_apart : AllByRecursion (λ (t : PTask). (p.name.name.0 == t.name.name.0) ≡ false) before
     -- of each name there is at most one
     pub once : (id : NameId) → AtMostOnce (is_called id) done
 
   -- ---- one name more, and several
 
-  pub extended : (done more : List TaskPart) (kinds kinds' : List PTask) (units units' : List check.Unit) (id : NameId) →
-      ((x : TaskPart) → find (is_called id) done ≡ Some x → find (is_called id) more ≡ Some x) → ((t : PTask) → type_named kinds id ≡ Some t → type_named kinds' id ≡ Some t) →
+  pub extended : (done more : List NamedTasks) (kinds kinds' : List PTask) (units units' : List check.Unit) (id : NameId) →
+      ((x : NamedTasks) → find (is_called id) done ≡ Some x → find (is_called id) more ≡ Some x) → ((t : PTask) → type_named kinds id ≡ Some t → type_named kinds' id ≡ Some t) →
       ((u : check.Unit) → find (unit_is id) units ≡ Some u → find (unit_is id) units' ≡ Some u) → (th : Thing) → Means done kinds units id th → Means more kinds' units' id th
   extended done more kinds kinds' units units' id f g h (SingleTask es) m = (
-    record { part = m.0.part; found = f m.0.part m.0.found; row = m.0.row; own = m.0.own },
+    record { part = m.0.part; found = f m.0.part m.0.found; index_range = m.0.index_range; own = m.0.own },
     record { task = m.1.task; named = m.1.named; own = m.1.own; unit = h (sites.unit_of m.1.task) m.1.unit },
   )
-  extended done more kinds kinds' units units' id f g h (TaskObject es) m = record { part = m.part; found = f m.part m.found; row = m.row; own = m.own }
-  extended done more kinds kinds' units units' id f g h (TaskRow range es) m =
-      record { range = m.range; stands = record { part = m.stands.part; found = f m.stands.part m.stands.found; row = m.stands.row; own = m.stands.own }; extent = m.extent }
+  extended done more kinds kinds' units units' id f g h (TaskObject es) m = record { part = m.part; found = f m.part m.found; index_range = m.index_range; own = m.own }
+  extended done more kinds kinds' units units' id f g h (TaskArray range es) m =
+      record { range = m.range; stands = record { part = m.stands.part; found = f m.stands.part m.stands.found; index_range = m.stands.index_range; own = m.stands.own }; extent = m.extent }
   extended done more kinds kinds' units units' id f g h (TaskType es) m =
       (record { task = m.0.task; named = m.0.named; own = m.0.own; unit = h (sites.unit_of m.0.task) m.0.unit }, g m.0.task m.1)
   extended done more kinds kinds' units units' id f g h (TypeMark m) x = tt
@@ -259,7 +259,7 @@ module _ (p : PProgram) (T : TypeTable) where
   turned a b e = ne_eqb b a (λ q. eqb-false a b e (sym q))
 
   -- what is used before is no name that was not used
-  none-done : (s : Scope) (done : List TaskPart) (id : NameId) → AllByRecursion (λ (x : TaskPart). IsUsed s x.name.name) done → is_predefined id.0 ≡ false → is_among s.here id.0 ≡ false →
+  none-done : (s : Scope) (done : List NamedTasks) (id : NameId) → AllByRecursion (λ (x : NamedTasks). IsUsed s x.name.name) done → is_predefined id.0 ≡ false → is_among s.here id.0 ≡ false →
       find (is_called id) done ≡ None
   none-done s done id u e f = find-nothing (is_called id) done (all-weaker _ _ done (λ x h. turned id.0 x.name.name.0 (other s.here id.0 x.name.name.0 e f h)) u)
 
@@ -274,7 +274,7 @@ module _ (p : PProgram) (T : TypeTable) where
   Kept s c c' id th = IsNoTask th ⊎ ((meaning s id ≡ Some th) × (check.meaning c' id ≡ check.meaning c id))
 
   plain-step : (kinds : List PTask) (ds rest : PDecls) (s s' : Scope) (c : CheckScope) → MainSeen kinds ds s c →
-      parts_in kinds ds ≡ parts_in kinds rest → tasks_in (decl_list ds) ≡ tasks_in (decl_list rest) → ((id : NameId) → IsUsed s id → IsUsed s' id) → InHere s' → s'.in_main ≡ true →
+      task_names_in kinds ds ≡ task_names_in kinds rest → tasks_in (decl_list ds) ≡ tasks_in (decl_list rest) → ((id : NameId) → IsUsed s id → IsUsed s' id) → InHere s' → s'.in_main ≡ true →
       ((id : NameId) (th : Thing) → meaning s' id ≡ Some th → Kept s c c id th) → MainSeen kinds rest s' c
   plain-step kinds ds rest s s' c m e f used here main kept = record {
     done = m.done;
@@ -330,26 +330,26 @@ module _ (p : PProgram) (T : TypeTable) where
 
   shape-grown : (c : CheckScope) (names : List Word) (constant : Bool) (shape : PShape) → Grown c (sites.after_object c names constant shape) names
   shape-grown c names constant (OPlain x) = object-grown c (check.meaning c x.mark.name) x.mark _ names
-  shape-grown c names constant (ORow r x) = object-grown c (check.meaning c x.mark.name) x.mark true names
+  shape-grown c names constant (OArray r x) = object-grown c (check.meaning c x.mark.name) x.mark true names
 
   -- the parts of an object's names
-  typed-units : (o : Option PTask) (names : List Word) (its : Option PDrange) → ((t : PTask) → o ≡ Some t → IsUnit t) → AllByRecursion (λ (x : TaskPart). IsUnit x.unit) (parts_of_type o names its)
+  typed-units : (o : Option PTask) (names : List Word) (its : Option PDrange) → ((t : PTask) → o ≡ Some t → IsUnit t) → AllByRecursion (λ (x : NamedTasks). IsUnit x.unit) (task_names_of_type o names its)
   typed-units (Some t) [] its h = tt
   typed-units (Some t) (w ∷ ws) its h = (h t refl, typed-units (Some t) ws its h)
   typed-units None names its h = tt
 
-  object-units : (kinds : List PTask) (names : List Word) (shape : PShape) → AllByRecursion IsUnit kinds → AllByRecursion (λ (x : TaskPart). IsUnit x.unit) (object_parts kinds names shape)
+  object-units : (kinds : List PTask) (names : List Word) (shape : PShape) → AllByRecursion IsUnit kinds → AllByRecursion (λ (x : NamedTasks). IsUnit x.unit) (object_task_names kinds names shape)
   object-units kinds names (OPlain x) h = typed-units _ names None (λ t e. find-all IsUnit _ kinds t h e)
-  object-units kinds names (ORow r x) h = typed-units _ names (Some r) (λ t e. find-all IsUnit _ kinds t h e)
+  object-units kinds names (OArray r x) h = typed-units _ names (Some r) (λ t e. find-all IsUnit _ kinds t h e)
 
-  typed-used : (s : Scope) (o : Option PTask) (names : List Word) (its : Option PDrange) → AllByRecursion (λ (w : Word). IsUsed s w.name) names → AllByRecursion (λ (x : TaskPart). IsUsed s x.name.name) (parts_of_type o names its)
+  typed-used : (s : Scope) (o : Option PTask) (names : List Word) (its : Option PDrange) → AllByRecursion (λ (w : Word). IsUsed s w.name) names → AllByRecursion (λ (x : NamedTasks). IsUsed s x.name.name) (task_names_of_type o names its)
   typed-used s (Some t) [] its h = tt
   typed-used s (Some t) (w ∷ ws) its h = (h.0, typed-used s (Some t) ws its h.1)
   typed-used s None names its h = tt
 
-  object-used : (s : Scope) (kinds : List PTask) (names : List Word) (shape : PShape) → AllByRecursion (λ (w : Word). IsUsed s w.name) names → AllByRecursion (λ (x : TaskPart). IsUsed s x.name.name) (object_parts kinds names shape)
+  object-used : (s : Scope) (kinds : List PTask) (names : List Word) (shape : PShape) → AllByRecursion (λ (w : Word). IsUsed s w.name) names → AllByRecursion (λ (x : NamedTasks). IsUsed s x.name.name) (object_task_names kinds names shape)
   object-used s kinds names (OPlain x) h = typed-used s _ names None h
-  object-used s kinds names (ORow r x) h = typed-used s _ names (Some r) h
+  object-used s kinds names (OArray r x) h = typed-used s _ names (Some r) h
 
   found-word : (id : NameId) (ws : List Word) → is_one_of ws id ≡ true → (w : Word) × (find (has_id id) ws ≡ Some w)
   found-word id [] e = absurd (true≢false (sym e))
@@ -360,35 +360,35 @@ module _ (p : PProgram) (T : TypeTable) where
       by_test false f g rest = rest g
 
   -- a declared name stands for the part of its object
-  stands-new : (done : List TaskPart) (kinds : List PTask) (names : List Word) (id : NameId) (t : PTask) (o : Option PTask) (its : Option PDrange) (es : List EntryPart) →
-      find (is_called id) done ≡ None → is_one_of names id ≡ true → o ≡ Some t → IsUnitOf t es → Stands (done ++ parts_of_type o names its) id its es
+  stands-new : (done : List NamedTasks) (kinds : List PTask) (names : List Word) (id : NameId) (t : PTask) (o : Option PTask) (its : Option PDrange) (es : List EntryPart) →
+      find (is_called id) done ≡ None → is_one_of names id ≡ true → o ≡ Some t → IsUnitOf t es → Stands (done ++ task_names_of_type o names its) id its es
   stands-new done kinds names id t o its es none one e own =
       let w = found-word id names one in
-      let image : TaskPart = part w.0 w.0.span t its in
+      let image : NamedTasks = named_tasks w.0 w.0.span t its in
       record {
         part = image;
-        found = find-behind (is_called id) done (parts_of_type o names its) none
-            ∙ ap (λ q. find (is_called id) (parts_of_type q names its)) e
-            ∙ find-mapped (is_called id) (has_id id) (λ v. part v v.span t its) (λ v. refl) names
-            ∙ ap (option_map (λ v. part v v.span t its)) w.1;
-        row = refl;
+        found = find-behind (is_called id) done (task_names_of_type o names its) none
+            ∙ ap (λ q. find (is_called id) (task_names_of_type q names its)) e
+            ∙ find-mapped (is_called id) (has_id id) (λ v. named_tasks v v.span t its) (λ v. refl) names
+            ∙ ap (option_map (λ v. named_tasks v v.span t its)) w.1;
+        index_range = refl;
         own = own;
       }
 
   object-means : (kinds : List PTask) (ds : PDecls) (s : Scope) (c c' : CheckScope) (m : MainSeen kinds ds s c) (names : List Word) (shape : PShape) → DeclRanged T s (DObject names false shape None (record { start = 0; end = 0 })) →
-      AllByRecursion (IsUnused s) names → (th : Thing) → ObjectThing s shape th → (id : NameId) → is_one_of names id ≡ true → Means (m.done ++ object_parts kinds names shape) kinds c'.units id th
+      AllByRecursion (IsUnused s) names → (th : Thing) → ObjectThing s shape th → (id : NameId) → is_one_of names id ≡ true → Means (m.done ++ object_task_names kinds names shape) kinds c'.units id th
   object-means kinds ds s c c' m names shape ranged u th (no_task_object _ h) id one = no-task-means _ kinds c'.units id th h
   object-means kinds ds s c c' m names shape ranged u th (one_object x es in_main q mark) id one =
       let d = m.means x.mark.name (TaskType es) (task-type-seen s x.mark.name es mark) in
       let free = one-unused s names id u one in
-      subst (λ y. Stands (m.done ++ object_parts kinds names y) id None es) (sym q)
+      subst (λ y. Stands (m.done ++ object_task_names kinds names y) id None es) (sym q)
       (stands-new m.done kinds names id d.0.task (type_named kinds x.mark.name) None es (none-done s m.done id m.parts_used free.0 free.1) one d.1 d.0.own)
-  object-means kinds ds s c c' m names shape ranged u th (row_of_objects r x range es in_main q mark known) id one =
+  object-means kinds ds s c c' m names shape ranged u th (array_of_objects r x range es in_main q mark known) id one =
       let d = m.means x.mark.name (TaskType es) (task-type-seen s x.mark.name es mark) in
       let free = one-unused s names id u one in
       record {
         range = r;
-        stands = subst (λ y. Stands (m.done ++ object_parts kinds names y) id (Some r) es) (sym q)
+        stands = subst (λ y. Stands (m.done ++ object_task_names kinds names y) id (Some r) es) (sym q)
             (stands-new m.done kinds names id d.0.task (type_named kinds x.mark.name) (Some r) es (none-done s m.done id m.parts_used free.0 free.1) one d.1 d.0.own);
         extent = (let h : IsRanged T s r = subst (λ y. DeclRanged T s (DObject names false y None (record { start = 0; end = 0 }))) q ranged in subst (IsExtent T r) (some-same (sym h.known ∙ known)) h.is);
       }
@@ -396,45 +396,45 @@ module _ (p : PProgram) (T : TypeTable) where
   object-pair : (o : Option Meant) (s : Scope) (shape : PShape) (th : Thing) → ObjectThing s shape th → IsPair o th
   object-pair o s shape th (no_task_object _ h) = no-task-pair o th h
   object-pair o s shape th (one_object x es in_main q mark) = tt
-  object-pair o s shape th (row_of_objects r x range es in_main q mark known) = tt
+  object-pair o s shape th (array_of_objects r x range es in_main q mark known) = tt
 
   object-ranged : (s : Scope) (names : List Word) (constant : Bool) (shape : PShape) (init : Option PInit) (sp : Span) → DeclRanged T s (DObject names constant shape init sp) →
       DeclRanged T s (DObject names false shape None (record { start = 0; end = 0 }))
   object-ranged s names constant (OPlain x) init sp h = tt
-  object-ranged s names constant (ORow r x) init sp h = h
+  object-ranged s names constant (OArray r x) init sp h = h
 
   typed-apart : (s : Scope) (o : Option PTask) (names : List Word) (its : Option PDrange) → IsUsed s p.name.name → AllByRecursion (IsUnused s) names →
-      AllByRecursion (λ (x : TaskPart). (p.name.name.0 == x.name.name.0) ≡ false) (parts_of_type o names its)
+      AllByRecursion (λ (x : NamedTasks). (p.name.name.0 == x.name.name.0) ≡ false) (task_names_of_type o names its)
   typed-apart s (Some t) [] its h u = tt
   typed-apart s (Some t) (w ∷ ws) its h u = (turned w.name.0 p.name.name.0 (other s.here w.name.0 p.name.name.0 u.0.0 u.0.1 h), typed-apart s (Some t) ws its h u.1)
   typed-apart s None names its h u = tt
 
   object-apart : (s : Scope) (kinds : List PTask) (names : List Word) (shape : PShape) → IsUsed s p.name.name → AllByRecursion (IsUnused s) names →
-      AllByRecursion (λ (x : TaskPart). (p.name.name.0 == x.name.name.0) ≡ false) (object_parts kinds names shape)
+      AllByRecursion (λ (x : NamedTasks). (p.name.name.0 == x.name.name.0) ≡ false) (object_task_names kinds names shape)
   object-apart s kinds names (OPlain x) h u = typed-apart s _ names None h u
-  object-apart s kinds names (ORow r x) h u = typed-apart s _ names (Some r) h u
+  object-apart s kinds names (OArray r x) h u = typed-apart s _ names (Some r) h u
 
   -- the parts of a declaration's names
-  typed-none : (o : Option PTask) (names : List Word) (its : Option PDrange) (id : NameId) → is_one_of names id ≡ false → find (is_called id) (parts_of_type o names its) ≡ None
+  typed-none : (o : Option PTask) (names : List Word) (its : Option PDrange) (id : NameId) → is_one_of names id ≡ false → find (is_called id) (task_names_of_type o names its) ≡ None
   typed-none (Some t) [] its id e = refl
   typed-none (Some t) (w ∷ ws) its id e =
       let h = or_parts (w.name.0 == id.0) (is_one_of ws id) e in
-      ap (λ b. if b then Some (part w w.span t its) else find (is_called id) (parts_of_type (Some t) ws its)) h.0 ∙ typed-none (Some t) ws its id h.1
+      ap (λ b. if b then Some (named_tasks w w.span t its) else find (is_called id) (task_names_of_type (Some t) ws its)) h.0 ∙ typed-none (Some t) ws its id h.1
   typed-none None names its id e = refl
 
-  typed-once : (o : Option PTask) (names : List Word) (its : Option PDrange) (id : NameId) → AllApart names → AtMostOnce (is_called id) (parts_of_type o names its)
+  typed-once : (o : Option PTask) (names : List Word) (its : Option PDrange) (id : NameId) → AllApart names → AtMostOnce (is_called id) (task_names_of_type o names its)
   typed-once (Some t) [] its id h = tt
   typed-once (Some t) (w ∷ ws) its id h =
-      (λ e. subst (λ n. find (λ (x : TaskPart). x.name.name.0 == n) (parts_of_type (Some t) ws its) ≡ None) (eqb-true w.name.0 id.0 e) (typed-none (Some t) ws its w.name h.0), typed-once (Some t) ws its id h.1)
+      (λ e. subst (λ n. find (λ (x : NamedTasks). x.name.name.0 == n) (task_names_of_type (Some t) ws its) ≡ None) (eqb-true w.name.0 id.0 e) (typed-none (Some t) ws its w.name h.0), typed-once (Some t) ws its id h.1)
   typed-once None names its id h = tt
 
-  object-none : (kinds : List PTask) (names : List Word) (shape : PShape) (id : NameId) → is_one_of names id ≡ false → find (is_called id) (object_parts kinds names shape) ≡ None
+  object-none : (kinds : List PTask) (names : List Word) (shape : PShape) (id : NameId) → is_one_of names id ≡ false → find (is_called id) (object_task_names kinds names shape) ≡ None
   object-none kinds names (OPlain x) id e = typed-none _ names None id e
-  object-none kinds names (ORow r x) id e = typed-none _ names (Some r) id e
+  object-none kinds names (OArray r x) id e = typed-none _ names (Some r) id e
 
-  object-once : (kinds : List PTask) (names : List Word) (shape : PShape) (id : NameId) → AllApart names → AtMostOnce (is_called id) (object_parts kinds names shape)
+  object-once : (kinds : List PTask) (names : List Word) (shape : PShape) (id : NameId) → AllApart names → AtMostOnce (is_called id) (object_task_names kinds names shape)
   object-once kinds names (OPlain x) id h = typed-once _ names None id h
-  object-once kinds names (ORow r x) id h = typed-once _ names (Some r) id h
+  object-once kinds names (OArray r x) id h = typed-once _ names (Some r) id h
 
   object-step : (kinds : List PTask) (names : List Word) (constant : Bool) (shape : PShape) (init : Option PInit) (sp : Span) (rest : PDecls) (s : Scope) (c : CheckScope) → AllApart names →
       DeclRanged T s (DObject names constant shape init sp) → AllByRecursion (IsUnused s) names → MainSeen kinds (decl_then (DObject names constant shape init sp) rest) s c →
@@ -442,12 +442,12 @@ module _ (p : PProgram) (T : TypeTable) where
   object-step kinds names constant shape init sp rest s c apart ranged u m =
       let thing : Thing = (declared_object s constant shape).thing in
       let t : Scope = with_types (with_constants s names init (declared_object s constant shape)) s in
-      let more : List TaskPart = object_parts kinds names shape in
+      let more : List NamedTasks = object_task_names kinds names shape in
       let c' : CheckScope = sites.after_object c names constant shape in
       let grown = shape-grown c names constant shape in
       record {
         done = m.done ++ more;
-        parts = m.parts ∙ sym (append_assoc m.done more (parts_in kinds rest));
+        parts = m.parts ∙ sym (append_assoc m.done more (task_names_in kinds rest));
         parts_used = all-append _ m.done more (all-weaker _ _ m.done (λ x h. used-names thing names t x.name.name h) m.parts_used) (object-used (with_names thing t names) kinds names shape (names-used thing names t));
         parts_units = all-append _ m.done more m.parts_units (object-units kinds names shape m.types_units);
         types_units = m.types_units;
@@ -468,10 +468,10 @@ module _ (p : PProgram) (T : TypeTable) where
         once = λ id. once-joined (is_called id) m.done more (m.once id) (object-once kinds names shape id apart) (by_name id);
       }
     where
-      by_name : (id : NameId) → (find (is_called id) m.done ≡ None) ⊎ (find (is_called id) (object_parts kinds names shape) ≡ None)
+      by_name : (id : NameId) → (find (is_called id) m.done ≡ None) ⊎ (find (is_called id) (object_task_names kinds names shape) ≡ None)
       by_name id = by_test (is_one_of names id) refl
         where
-          by_test : (b : Bool) → is_one_of names id ≡ b → (find (is_called id) m.done ≡ None) ⊎ (find (is_called id) (object_parts kinds names shape) ≡ None)
+          by_test : (b : Bool) → is_one_of names id ≡ b → (find (is_called id) m.done ≡ None) ⊎ (find (is_called id) (object_task_names kinds names shape) ≡ None)
           by_test true e = let free = one-unused s names id u e in inl (none-done s m.done id m.parts_used free.0 free.1)
           by_test false e = inr (object-none kinds names shape id e)
 
@@ -496,15 +496,15 @@ module _ (p : PProgram) (T : TypeTable) where
     unit = ap (λ b. if b then Some (sites.unit_of t) else find (unit_is id) c.units) e;
   }
 
-  task-means : (b : Bool) (done : List TaskPart) (kinds : List PTask) (t : PTask) (sp : Span) (s : Scope) (c : CheckScope) (id : NameId) → (t.name.name.0 == id.0) ≡ true → find (is_called id) done ≡ None →
-      AllByRecursion (EntryRanged T s) t.entries → IsUnit t → Means (done ++ single_part b t sp) (with_type kinds b t) (sites.unit_of t ∷ c.units) id (task_thing b (map (entry_part s) t.entries))
+  task-means : (b : Bool) (done : List NamedTasks) (kinds : List PTask) (t : PTask) (sp : Span) (s : Scope) (c : CheckScope) (id : NameId) → (t.name.name.0 == id.0) ≡ true → find (is_called id) done ≡ None →
+      AllByRecursion (EntryRanged T s) t.entries → IsUnit t → Means (done ++ single_task_name b t sp) (with_type kinds b t) (sites.unit_of t ∷ c.units) id (task_thing b (map (entry_part s) t.entries))
   unfolding declared-new
   task-means true done kinds t sp s c id e none ranged unit = (declared-new t s c id e ranged unit, head-found id t kinds e)
   task-means false done kinds t sp s c id e none ranged unit = (
     record {
-      part = part t.name sp t None;
-      found = find-behind (is_called id) done (part t.name sp t None ∷ []) none ∙ ap (λ b. if b then Some (part t.name sp t None) else None) e;
-      row = refl;
+      part = named_tasks t.name sp t None;
+      found = find-behind (is_called id) done (named_tasks t.name sp t None ∷ []) none ∙ ap (λ b. if b then Some (named_tasks t.name sp t None) else None) e;
+      index_range = refl;
       own = record { around = s; entries = refl; ranged = ranged; unit = unit };
     },
     declared-new t s c id e ranged unit,
@@ -514,23 +514,23 @@ module _ (p : PProgram) (T : TypeTable) where
   task-pair true o u es e = e
   task-pair false o u es e = tt
 
-  single-used : (b : Bool) (t : PTask) (sp : Span) (s : Scope) → IsUsed s t.name.name → AllByRecursion (λ (x : TaskPart). IsUsed s x.name.name) (single_part b t sp)
+  single-used : (b : Bool) (t : PTask) (sp : Span) (s : Scope) → IsUsed s t.name.name → AllByRecursion (λ (x : NamedTasks). IsUsed s x.name.name) (single_task_name b t sp)
   single-used true t sp s h = tt
   single-used false t sp s h = (h, tt)
 
-  single-units : (b : Bool) (t : PTask) (sp : Span) → IsUnit t → AllByRecursion (λ (x : TaskPart). IsUnit x.unit) (single_part b t sp)
+  single-units : (b : Bool) (t : PTask) (sp : Span) → IsUnit t → AllByRecursion (λ (x : NamedTasks). IsUnit x.unit) (single_task_name b t sp)
   single-units true t sp h = tt
   single-units false t sp h = (h, tt)
 
-  single-none : (b : Bool) (t : PTask) (sp : Span) (id : NameId) → (t.name.name.0 == id.0) ≡ false → find (is_called id) (single_part b t sp) ≡ None
+  single-none : (b : Bool) (t : PTask) (sp : Span) (id : NameId) → (t.name.name.0 == id.0) ≡ false → find (is_called id) (single_task_name b t sp) ≡ None
   single-none true t sp id e = refl
-  single-none false t sp id e = ap (λ b. if b then Some (part t.name sp t None) else None) e
+  single-none false t sp id e = ap (λ b. if b then Some (named_tasks t.name sp t None) else None) e
 
-  single-once : (b : Bool) (t : PTask) (sp : Span) (id : NameId) → AtMostOnce (is_called id) (single_part b t sp)
+  single-once : (b : Bool) (t : PTask) (sp : Span) (id : NameId) → AtMostOnce (is_called id) (single_task_name b t sp)
   single-once true t sp id = tt
   single-once false t sp id = (λ e. refl, tt)
 
-  single-apart : (b : Bool) (t : PTask) (sp : Span) → (p.name.name.0 == t.name.name.0) ≡ false → AllByRecursion (λ (x : TaskPart). (p.name.name.0 == x.name.name.0) ≡ false) (single_part b t sp)
+  single-apart : (b : Bool) (t : PTask) (sp : Span) → (p.name.name.0 == t.name.name.0) ≡ false → AllByRecursion (λ (x : NamedTasks). (p.name.name.0 == x.name.name.0) ≡ false) (single_task_name b t sp)
   single-apart true t sp h = tt
   single-apart false t sp h = (h, tt)
 
@@ -546,7 +546,7 @@ module _ (p : PProgram) (T : TypeTable) where
       MainSeen kinds (decl_then (DTask t sp) rest) s c → MainSeen (with_type kinds t.of_kind t) rest (after_decl s (DTask t sp)) (sites.after_task c t)
   task-step kinds t sp rest s c ranged u m =
       let thing : Thing = task_thing t.of_kind (map (entry_part s) t.entries) in
-      let more : List TaskPart = single_part t.of_kind t sp in
+      let more : List NamedTasks = single_task_name t.of_kind t sp in
       let kinds' : List PTask = with_type kinds t.of_kind t in
       let c0 : CheckScope = record c { units = sites.unit_of t ∷ c.units } in
       let unit : IsUnit t = task-is-unit kinds t sp rest s c m u in
@@ -554,7 +554,7 @@ module _ (p : PProgram) (T : TypeTable) where
       let no : (id : NameId) → is_one_of (t.name ∷ []) id ≡ false → (t.name.name.0 == id.0) ≡ false = λ id out. (or_parts (t.name.name.0 == id.0) false out).0 in
       record {
         done = m.done ++ more;
-        parts = m.parts ∙ sym (append_assoc m.done more (parts_in kinds' rest));
+        parts = m.parts ∙ sym (append_assoc m.done more (task_names_in kinds' rest));
         parts_used = all-append _ m.done more (all-weaker _ _ m.done (λ x h. used-more s t.name.name.0 x.name.name h) m.parts_used) (single-used t.of_kind t sp (with_name thing s t.name) (name-used thing t.name s));
         parts_units = all-append _ m.done more m.parts_units (single-units t.of_kind t sp unit);
         types_units = type-units t.of_kind t kinds unit m.types_units;
@@ -578,11 +578,11 @@ module _ (p : PProgram) (T : TypeTable) where
         once = λ id. once-joined (is_called id) m.done more (m.once id) (single-once t.of_kind t sp id) (by_name id);
       }
     where
-      by_name : (id : NameId) → (find (is_called id) m.done ≡ None) ⊎ (find (is_called id) (single_part t.of_kind t sp) ≡ None)
+      by_name : (id : NameId) → (find (is_called id) m.done ≡ None) ⊎ (find (is_called id) (single_task_name t.of_kind t sp) ≡ None)
       by_name id = by_test (t.name.name.0 == id.0) refl
         where
-          by_test : (b : Bool) → (t.name.name.0 == id.0) ≡ b → (find (is_called id) m.done ≡ None) ⊎ (find (is_called id) (single_part t.of_kind t sp) ≡ None)
-          by_test true e = inl (subst (λ n. find (λ (x : TaskPart). x.name.name.0 == n) m.done ≡ None) (eqb-true t.name.name.0 id.0 e) (none-done s m.done t.name.name m.parts_used u.0 u.1))
+          by_test : (b : Bool) → (t.name.name.0 == id.0) ≡ b → (find (is_called id) m.done ≡ None) ⊎ (find (is_called id) (single_task_name t.of_kind t sp) ≡ None)
+          by_test true e = inl (subst (λ n. find (λ (x : NamedTasks). x.name.name.0 == n) m.done ≡ None) (eqb-true t.name.name.0 id.0 e) (none-done s m.done t.name.name m.parts_used u.0 u.1))
           by_test false e = inr (single-none t.of_kind t sp id e)
 
   -- ---- one declaration

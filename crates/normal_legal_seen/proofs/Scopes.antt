@@ -6,13 +6,13 @@ use Rattle.ada_tree.specs.declared.naming.NameId.{NameId}
 use Rattle.ada_tree.specs.declared.naming.Word.{Word}
 use Rattle.ada_tree.specs.declared.statements.ParMode.{ParMode}
 use Rattle.ada_tree.specs.PlainExpr.{PSubind, PDrange}
-use Rattle.ada_tree.specs.PlainDecl.{PShape, OPlain, ORow}
+use Rattle.ada_tree.specs.PlainDecl.{PShape, OPlain, OArray}
 use Rattle.ada_tree.specs.TypeTable.{TypeTable}
 use Rattle.ada_tree.specs.declared.static_types.Kind.{Kind}
 use Rattle.ada_tree.specs.declared.static_types.Kind.TheVariants.{Integer, Truth, Enumeration, Array}
 use Rattle.ada_tree.specs.declared.static_types.Mark.{Mark}
-use Rattle.ada_tree.specs.Scope.{Scope, Seen, Thing, TypeMark, TaskType, SingleTask, TaskObject, TaskRow, Variable, ConstantObject, Parameter, LoopParameter, Literal, AnException, MainProcedure, AnotherUnit, Unclear, EntryPart, Range, meaning, Marking, ScalarMark, ArrayMark, TaskMark, NoMark, UnknownMark, UnclearMark, marking_of_kind, marking_of_mark, marking_of, marking, mark_at, kind_at}
-use Rattle.ada_tree.specs.Declaring.{seen_as, with_name, with_names, object_of, plain_object, row_object, declared_object, made_subind, drange_range, task_object, task_row, formal_thing, loop_thing}
+use Rattle.ada_tree.specs.Scope.{Scope, Seen, Thing, TypeMark, TaskType, SingleTask, TaskObject, TaskArray, Variable, ConstantObject, Parameter, LoopParameter, Literal, AnException, MainProcedure, AnotherUnit, Unclear, EntryPart, Range, meaning, Marking, ScalarMark, ArrayMark, TaskMark, NoMark, UnknownMark, UnclearMark, marking_of_kind, marking_of_mark, marking_of, marking, mark_at, kind_at}
+use Rattle.ada_tree.specs.Declaring.{seen_as, with_name, with_names, object_of, plain_object, array_object, declared_object, made_subind, drange_range, task_object, task_array, formal_thing, loop_thing}
 use Rattle.syn_event.specs.declared.meanings.Meant.{Meant}
 use Rattle.syn_event.specs.CheckScope.{CheckScope}
 use Rattle.syn_event.specs.CheckScope as check
@@ -103,7 +103,7 @@ abbrev pub IsNoTask : Thing → Type 0
 IsNoTask (TaskType es) = ⊥
 IsNoTask (SingleTask es) = ⊥
 IsNoTask (TaskObject es) = ⊥
-IsNoTask (TaskRow range es) = ⊥
+IsNoTask (TaskArray range es) = ⊥
 IsNoTask MainProcedure = ⊥
 IsNoTask _ = Unit {0}
 
@@ -117,8 +117,8 @@ object-no-task false None = tt
 pub data ObjectThing (s : Scope) (shape : PShape) : Thing → Type 0 where
   no_task_object : (th : Thing) → IsNoTask th → ObjectThing s shape th
   one_object : (x : PSubind) (es : List EntryPart) → s.in_main ≡ true → shape ≡ OPlain x → marking s x.mark.name ≡ TaskMark es → ObjectThing s shape (TaskObject es)
-  row_of_objects : (r : PDrange) (x : PSubind) (range : Range) (es : List EntryPart) → s.in_main ≡ true → shape ≡ ORow r x → marking s x.mark.name ≡ TaskMark es →
-      drange_range s r ≡ Some range → ObjectThing s shape (TaskRow range es)
+  array_of_objects : (r : PDrange) (x : PSubind) (range : Range) (es : List EntryPart) → s.in_main ≡ true → shape ≡ OArray r x → marking s x.mark.name ≡ TaskMark es →
+      drange_range s r ≡ Some range → ObjectThing s shape (TaskArray range es)
 
 plain-thing : (s : Scope) (constant : Bool) (x : PSubind) (m : Marking) → marking s x.mark.name ≡ m → ObjectThing s (OPlain x) (plain_object s constant m x).thing
 plain-thing s constant x (TaskMark es) e = by_test s.in_main refl
@@ -132,11 +132,11 @@ plain-thing s constant x NoMark e = no_task_object _ (object-no-task constant (m
 plain-thing s constant x UnknownMark e = no_task_object _ (object-no-task constant (made_subind s x).mark)
 plain-thing s constant x UnclearMark e = no_task_object _ (object-no-task constant (made_subind s x).mark)
 
-row-thing : (s : Scope) (constant : Bool) (r : PDrange) (x : PSubind) (m : Marking) → marking s x.mark.name ≡ m → ObjectThing s (ORow r x) (row_object s constant m r x).thing
+row-thing : (s : Scope) (constant : Bool) (r : PDrange) (x : PSubind) (m : Marking) → marking s x.mark.name ≡ m → ObjectThing s (OArray r x) (array_object s constant m r x).thing
 row-thing s constant r x (TaskMark es) e = by_test s.in_main refl (drange_range s r) refl
   where
-    by_test : (b : Bool) → s.in_main ≡ b → (o : Option Range) → drange_range s r ≡ o → ObjectThing s (ORow r x) (task_row b o es)
-    by_test true f (Some range) g = row_of_objects r x range es f refl e g
+    by_test : (b : Bool) → s.in_main ≡ b → (o : Option Range) → drange_range s r ≡ o → ObjectThing s (OArray r x) (task_array b o es)
+    by_test true f (Some range) g = array_of_objects r x range es f refl e g
     by_test true f None g = no_task_object Unclear tt
     by_test false f (Some range) g = no_task_object Unclear tt
     by_test false f None g = no_task_object Unclear tt
@@ -148,7 +148,7 @@ row-thing s constant r x UnclearMark e = no_task_object _ (object-no-task consta
 
 pub object-thing : (s : Scope) (constant : Bool) (shape : PShape) → ObjectThing s shape (declared_object s constant shape).thing
 object-thing s constant (OPlain x) = plain-thing s constant x (marking s x.mark.name) refl
-object-thing s constant (ORow r x) = row-thing s constant r x (marking s x.mark.name) refl
+object-thing s constant (OArray r x) = row-thing s constant r x (marking s x.mark.name) refl
 
 -- in a body objects are no tasks
 pub inner-object : (s : Scope) (constant : Bool) (shape : PShape) → s.in_main ≡ false → IsNoTask (declared_object s constant shape).thing
@@ -157,7 +157,7 @@ inner-object s constant shape e = by_form (declared_object s constant shape).thi
     by_form : (th : Thing) → ObjectThing s shape th → IsNoTask th
     by_form th (no_task_object _ h) = h
     by_form th (one_object x es f q m) = absurd (true≢false (sym f ∙ e))
-    by_form th (row_of_objects r x range es f q m d) = absurd (true≢false (sym f ∙ e))
+    by_form th (array_of_objects r x range es f q m d) = absurd (true≢false (sym f ∙ e))
 
 pub formal-no-task : (mode : ParMode) (m : Marking) → IsNoTask (formal_thing mode m)
 formal-no-task mode (ScalarMark m k) = tt
@@ -197,7 +197,7 @@ mark-type T (Some (TypeMark m)) es e = absurd (mark-no-task T m (mark_at T m) (s
 mark-type T (Some Unclear) es e = absurd (subst IsTaskMark (sym e) tt)
 mark-type T (Some (SingleTask fs)) es e = absurd (subst IsTaskMark (sym e) tt)
 mark-type T (Some (TaskObject fs)) es e = absurd (subst IsTaskMark (sym e) tt)
-mark-type T (Some (TaskRow range fs)) es e = absurd (subst IsTaskMark (sym e) tt)
+mark-type T (Some (TaskArray range fs)) es e = absurd (subst IsTaskMark (sym e) tt)
 mark-type T (Some (Variable m)) es e = absurd (subst IsTaskMark (sym e) tt)
 mark-type T (Some (ConstantObject m)) es e = absurd (subst IsTaskMark (sym e) tt)
 mark-type T (Some (Parameter mode m)) es e = absurd (subst IsTaskMark (sym e) tt)

@@ -11,7 +11,7 @@ use Rattle.ada_tree.specs.PlainExpr.{PExpr, PDrange}
 use Rattle.ada_tree.specs.PlainStmt.{PCallee}
 use Rattle.ada_tree.specs.PlainDecl.{PTask}
 use Rattle.ada_tree.specs.PlainProgram.{PProgram}
-use Rattle.ada_tree.specs.Scope.{Scope, Thing, TypeMark, TaskType, SingleTask, TaskObject, TaskRow, Variable, ConstantObject, Parameter, LoopParameter, Literal, AnException, MainProcedure, AnotherUnit, Unclear, EntryPart, Range, meaning, entry_named}
+use Rattle.ada_tree.specs.Scope.{Scope, Thing, TypeMark, TaskType, SingleTask, TaskObject, TaskArray, Variable, ConstantObject, Parameter, LoopParameter, Literal, AnException, MainProcedure, AnotherUnit, Unclear, EntryPart, Range, meaning, entry_named}
 use Rattle.ada_tree.specs.Sites.{callee_sites}
 use Rattle.ada_tree.specs.RuleUnknown.{missing, unknown_entry}
 use Rattle.ada_tree.specs.RuleMismatch.{of_other_kind, no_task, misfit_member}
@@ -23,7 +23,7 @@ use Rattle.syn_event.specs.CheckScope as check
 use Rattle.syn_event.specs.CheckSites as sites
 use Rattle.syn_event.specs.RuleMainEntry as main
 use Rattle.syn_event.specs.Extents.{count_to}
-use Rattle.syn_event.specs.TaskParts.{TaskPart, parts_of, Seat, seat, numbers_on, indices, row_seats, seats_of}
+use Rattle.syn_event.specs.NamedTasks.{NamedTasks, task_names_of, NumberedTask, numbered_task, numbers_on, indices, tasks_of_range, tasks_of_name}
 use Rattle.ada_value.specs.Values.{and_then, position_of}
 use Rattle.ada_value.specs.Evaluating.{evaluated}
 use Rattle.ada_value.specs.declared.values.Value.{Value}
@@ -31,7 +31,7 @@ use Rattle.ada_value.specs.declared.values.Raised.{Raised}
 use Rattle.task_model.specs.Setting.{member_named, task_meant, task_of}
 use Rattle.legal_sites.specs.Met.{IsMet, IsCheckMet}
 use Rattle.legal_entries.proofs.Entries.{numbers, g, IsTaskOf}
-use Rattle.normal_legal_seen.proofs.Parts.{IsExtent, Stands, IsRow}
+use Rattle.normal_legal_seen.proofs.Parts.{IsExtent, Stands, IsTaskArray}
 use Rattle.normal_legal_seen.proofs.Bodies.{PlaceSeen}
 use Rattle.normal_legal_seen.proofs.Tasks.{PartsKnown, same-units, part-apart, IsFirst, first-task, member-there}
 use Rattle.normal_legal_text.proofs.Typed.{Typing}
@@ -65,12 +65,12 @@ module _ (p : PProgram) (T : TypeTable) where
     one_member : (r : PDrange) (range : Range) (e : PExpr) → IsExtent T r range → x.index ≡ Some e → of_other_kind s (Some range.kind) e ≡ [] → out_of s e (Some range) ≡ [] → CalleeForm s x (Some r)
 
   pub record CalleeKnown (s : Scope) (x : PCallee) : Type 0 where
-    pub row : Option PDrange
+    pub index_range : Option PDrange
     pub entries : List EntryPart
-    pub stands : Stands p T (parts_of p) x.name.name row entries
+    pub stands : Stands p T (task_names_of p) x.name.name index_range entries
     pub called : (name : NameId) → called_entry (meaning s x.name.name) name ≡ entry_named entries name
     pub unknown : (w : Word) → unknown_entry (meaning s x.name.name) w ≡ missing (entry_named entries w.name) w
-    pub form : CalleeForm s x row
+    pub form : CalleeForm s x index_range
 
   module _ (Typed : Scope → Type 0) (typing : Typing T Typed) where
     pub callee-known : (who : Option PTask) (s : Scope) (c : CheckScope) (n : ℕ) (x : PCallee) → Typed s → PlaceSeen p T who s c → AllByRecursion IsMet (callee_sites s x) →
@@ -101,7 +101,7 @@ module _ (p : PProgram) (T : TypeTable) where
         by_form : (o : Option Thing) → meaning s id ≡ o → CalleeKnown s x
         by_form None e = absurd (some-not x.name.span [] (ap (λ o. if is_some o then [] else x.name.span ∷ []) (sym e) ∙ seen-name))
         by_form (Some (SingleTask es)) e = record {
-          row = None;
+          index_range = None;
           entries = es;
           stands = seen.seen id (SingleTask es) e;
           called = λ name. ap (λ o. called_entry o name) e;
@@ -109,24 +109,24 @@ module _ (p : PProgram) (T : TypeTable) where
           form = one_task (there-none x.index (no-place (is_some x.index) x.name.span (ap (λ o. index_of_callee o x.index x.name.span) (sym e) ∙ counted)));
         }
         by_form (Some (TaskObject es)) e = record {
-          row = None;
+          index_range = None;
           entries = es;
           stands = seen.seen id (TaskObject es) e;
           called = λ name. ap (λ o. called_entry o name) e;
           unknown = λ w. ap (λ o. unknown_entry o w) e;
           form = one_task (there-none x.index (no-place (is_some x.index) x.name.span (ap (λ o. index_of_callee o x.index x.name.span) (sym e) ∙ counted)));
         }
-        by_form (Some (TaskRow range es)) e =
+        by_form (Some (TaskArray range es)) e =
             let index = there-some x.index (no-place (is_none x.index) x.name.span (ap (λ o. index_of_callee o x.index x.name.span) (sym e) ∙ counted)) in
-            let row : IsRow p T (parts_of p) id range es = seen.seen id (TaskRow range es) e in
+            let row : IsTaskArray p T (task_names_of p) id range es = seen.seen id (TaskArray range es) e in
             record {
-              row = Some row.range;
+              index_range = Some row.range;
               entries = es;
               stands = row.stands;
               called = λ name. ap (λ o. called_entry o name) e;
               unknown = λ w. ap (λ o. unknown_entry o w) e;
               form = one_member row.range range index.0 row.extent index.1
-                  (ap (misfit_member s (Some (TaskRow range es))) (sym index.1) ∙ ap (λ o. misfit_member s o x.index) (sym e)
+                  (ap (misfit_member s (Some (TaskArray range es))) (sym index.1) ∙ ap (λ o. misfit_member s o x.index) (sym e)
                   ∙ no-back (no_task (meaning s id) x.name) (misfit_member s (meaning s id) x.index) is-task)
                   (ap (λ o. member_out_of s o (Some range)) (sym index.1) ∙ ap (λ o. member_out_of s x.index (member_range o)) (sym e) ∙ inside);
             }
@@ -154,49 +154,49 @@ module _ (p : PProgram) (T : TypeTable) where
       by_form (negsuc n) e = let y : ⊥ = grind (arith, ints) in absurd y
 
   -- the tasks of a part, of which there is a first one
-  pub record HasSeats (part : TaskPart) : Type 0 where
-    pub first : Seat
-    pub more : List Seat
-    pub list : seats_of T part ≡ first ∷ more
+  pub record HasTasks (part : NamedTasks) : Type 0 where
+    pub first : NumberedTask
+    pub more : List NumberedTask
+    pub list : tasks_of_name T part ≡ first ∷ more
     pub unit : first.unit ≡ part.unit
 
-  row-seats : (x : TaskPart) (r : PDrange) (range : Range) → IsExtent T r range → (y : Seat) × (more : List Seat) × (row_seats T x (Some r) ≡ y ∷ more) × (y.unit ≡ x.unit)
-  row-seats x r range h =
+  row-numbered-tasks : (x : NamedTasks) (r : PDrange) (range : Range) → IsExtent T r range → (y : NumberedTask) × (more : List NumberedTask) × (tasks_of_range T x (Some r) ≡ y ∷ more) × (y.unit ≡ x.unit)
+  row-numbered-tasks x r range h =
       let m = some-size range.first range.last h.nonempty in (
-        seat x (Some range.first),
-        map (λ i. seat x (Some i)) (numbers_on (range.first +ℤ pos 1) m.0),
-        ap (λ o. map (λ i. seat x (Some i)) (indices o)) h.extent ∙ ap (λ n. map (λ i. seat x (Some i)) (numbers_on range.first n)) m.1,
+        numbered_task x (Some range.first),
+        map (λ i. numbered_task x (Some i)) (numbers_on (range.first +ℤ pos 1) m.0),
+        ap (λ o. map (λ i. numbered_task x (Some i)) (indices o)) h.extent ∙ ap (λ n. map (λ i. numbered_task x (Some i)) (numbers_on range.first n)) m.1,
         refl,
       )
 
   module _ (s : Scope) (x : PCallee) (k : CalleeKnown s x) where
-    pub callee-seats : HasSeats k.stands.part
-    callee-seats = by_form k.row k.stands.row k.form
+    pub callee-numbered-tasks : HasTasks k.stands.part
+    callee-numbered-tasks = by_form k.index_range k.stands.index_range k.form
       where
-        by_form : (o : Option PDrange) → k.stands.part.row ≡ o → CalleeForm s x o → HasSeats k.stands.part
-        by_form None e (one_task q) = record { first = seat k.stands.part None; more = []; list = ap (row_seats T k.stands.part) e; unit = refl }
+        by_form : (o : Option PDrange) → k.stands.part.index_range ≡ o → CalleeForm s x o → HasTasks k.stands.part
+        by_form None e (one_task q) = record { first = numbered_task k.stands.part None; more = []; list = ap (tasks_of_range T k.stands.part) e; unit = refl }
         by_form (Some _) e (one_member r range y ext q f h) =
-            let z = row-seats k.stands.part r range ext in
-            record { first = z.0; more = z.1; list = ap (row_seats T k.stands.part) e ∙ z.2; unit = z.3 }
+            let z = row-numbered-tasks k.stands.part r range ext in
+            record { first = z.0; more = z.1; list = ap (tasks_of_range T k.stands.part) e ∙ z.2; unit = z.3 }
 
     module _ (known : PartsKnown p T) where
       -- the first task of the name
       pub callee-first : IsFirst p T known x.name.name k.stands.part
-      callee-first = first-task p T known x.name.name k.stands.part callee-seats.first callee-seats.more k.stands.found callee-seats.list callee-seats.unit
+      callee-first = first-task p T known x.name.name k.stands.part callee-numbered-tasks.first callee-numbered-tasks.more k.stands.found callee-numbered-tasks.list callee-numbered-tasks.unit
 
       -- a task that is meant is one of that unit
       pub record IsOneOf (t : ℕ) : Type 0 where
-        pub seat : Seat
-        pub is : IsTaskOf p T t seat
-        pub unit : seat.unit ≡ k.stands.part.unit
+        pub numbered_task : NumberedTask
+        pub is : IsTaskOf p T t numbered_task
+        pub unit : numbered_task.unit ≡ k.stands.part.unit
 
       pub member-one : (z : ℤ) (t : ℕ) → member_named (numbers p T) x.name.name z ≡ Ok t → IsOneOf t
       member-one z t e =
           let m = member-there p T known x.name.name z t (part-apart p T known x.name.name k.stands.part k.stands.found) e in
-          record { seat = m.1.seat; is = m.1.is; unit = same-units p T known t callee-first.number m.0 callee-first.info x.name.name m.1 callee-first.is ∙ callee-first.unit }
+          record { numbered_task = m.1.numbered_task; is = m.1.is; unit = same-units p T known t callee-first.number m.0 callee-first.info x.name.name m.1 callee-first.is ∙ callee-first.unit }
 
       pub first-one : IsOneOf callee-first.number
-      first-one = record { seat = callee-first.is.seat; is = callee-first.is.is; unit = callee-first.unit }
+      first-one = record { numbered_task = callee-first.is.numbered_task; is = callee-first.is.is; unit = callee-first.unit }
 
       ok-same : (a c : ℕ) → and_then {A = ℕ} {B = ℕ} (Ok a) (λ n. Ok n) ≡ Ok c → a ≡ c
       ok-same a c e = cc

@@ -19,7 +19,7 @@ use Rattle.ada_tree.specs.RuleRangeBad.{is_outside, out_of}
 use Rattle.ada_tree.specs.RuleMismatch.{of_other_kind}
 use Rattle.syn_event.specs.declared.numbering.TaskInfo.{TaskInfo}
 use Rattle.syn_event.specs.Numbering.{task_named}
-use Rattle.syn_event.specs.TaskParts.{TaskPart, parts_of, Seat}
+use Rattle.syn_event.specs.NamedTasks.{NamedTasks, task_names_of, NumberedTask}
 use Rattle.ada_value.specs.Values.{lies_in, position_of, and_then}
 use Rattle.ada_value.specs.declared.values.Raised.TheVariants as raised
 use Rattle.task_model.specs.Setting.{Setting, is_member, member_named, task_meant}
@@ -43,7 +43,7 @@ use Rattle.normal_legal_text.proofs.Heads.{same-kind, inside-range}
 use Rattle.normal_legal_text.proofs.HeadsAsked.{unmoved-static}
 
 -- What is to be known of the range of an array of tasks: a variable of it has just the members' indices, and each index has a literal.
-pub record RowFacts (b : Programs) (T : TypeTable) (r : PDrange) (range : Range) : Type 0 where
+pub record RangeFacts (b : Programs) (T : TypeTable) (r : PDrange) (range : Range) : Type 0 where
   pub same : (sp : Span) (z : ℤ) → lies_in (declared_limits b.made.types (subtype_of_range T sp (Some r))) z ≡ (int_le range.first z && int_le z range.last)
   pub literal : (sp : Span) (i : ℤ) → (int_le range.first i && int_le i range.last) ≡ true → IsLiteral b (kind_of_index T (Some r)) sp i
 
@@ -53,21 +53,21 @@ module _ (p : PProgram) (T : TypeTable) (Typed : Scope → Type 0) (typing : Typ
 
   -- Each array of tasks has such a range; and each task is found by its own name in the program that is made.
   pub record CalleesKnown : Type 0 where
-    pub rows : (id : NameId) (x : TaskPart) (r : PDrange) (range : Range) → find (is_called id) (parts_of p) ≡ Some x → x.row ≡ Some r → IsExtent T r range → RowFacts b T r range
-    pub named : (t : ℕ) (x : Seat) → IsTaskOf p T t x → task_named made.numbers (task_name_at (g p T) t) ≡ Some t
+    pub rows : (id : NameId) (x : NamedTasks) (r : PDrange) (range : Range) → find (is_called id) (task_names_of p) ≡ Some x → x.index_range ≡ Some r → IsExtent T r range → RangeFacts b T r range
+    pub named : (t : ℕ) (x : NumberedTask) → IsTaskOf p T t x → task_named made.numbers (task_name_at (g p T) t) ≡ Some t
 
   module _ (facts : CalleesKnown) (s : Scope) (x : PCallee) (k : CalleeKnown p T s x) (typed : Typed s) (small : (e : PExpr) → x.index ≡ Some e → HasSmallLiterals e) (met : AllByRecursion IsMet (callee_sites s x)) where
     id : NameId
     id = x.name.name
 
-    its-row : array_range p x.name.name ≡ k.row
-    its-row = ap (and_then_some (λ (y : TaskPart). y.row)) k.stands.found ∙ k.stands.row
+    its-row : array_range p x.name.name ≡ k.index_range
+    its-row = ap (and_then_some (λ (y : NamedTasks). y.index_range)) k.stands.found ∙ k.stands.index_range
 
     index-met : (e : PExpr) → x.index ≡ Some e → AllByRecursion IsMet (expr_sites s e)
     index-met e q = subst (λ o. AllByRecursion IsMet (if_there (expr_sites s) o)) q met.1
 
     -- a static index is that of a member
-    static-member : (r : PDrange) (range : Range) (e : PExpr) → k.stands.part.row ≡ Some r → IsExtent T r range → x.index ≡ Some e → of_other_kind s (Some range.kind) e ≡ [] → out_of s e (Some range) ≡ [] →
+    static-member : (r : PDrange) (range : Range) (e : PExpr) → k.stands.part.index_range ≡ Some r → IsExtent T r range → x.index ≡ Some e → of_other_kind s (Some range.kind) e ≡ [] → out_of s e (Some range) ≡ [] →
         moving T (Some e) ≡ None → (t : ℕ) × (task_meant (g p T) [] x.name.name (Some e) ≡ Ok t)
     static-member r range e row ext q kinded out unmoved =
         let worth = typing.expr s e typed (small e q) (index-met e q) in
@@ -84,7 +84,7 @@ module _ (p : PProgram) (T : TypeTable) (Typed : Scope → Type 0) (typing : Typ
     one-of t (member_meant e z f q) = member-one p T s x k known z t q
 
     -- the index of a member lies in the range
-    member-within : (r : PDrange) (range : Range) → k.stands.part.row ≡ Some r → IsExtent T r range → (n : ℕ) (info : TaskInfo) (i : ℤ) → (info.name.0 == x.name.name.0) ≡ true → info.member ≡ Some i →
+    member-within : (r : PDrange) (range : Range) → k.stands.part.index_range ≡ Some r → IsExtent T r range → (n : ℕ) (info : TaskInfo) (i : ℤ) → (info.name.0 == x.name.name.0) ≡ true → info.member ≡ Some i →
         slice_get (numbers p T).tasks n ≡ Some info → (int_le range.first i && int_le i range.last) ≡ true
     member-within r range row ext n info i named member at =
         let test : TaskInfo → Bool = λ y. (y.name.0 == x.name.name.0) && is_member i y.member in
@@ -94,12 +94,12 @@ module _ (p : PProgram) (T : TypeTable) (Typed : Scope → Type 0) (typing : Typ
         sym (member-is p T known x.name.name k.stands.part r range k.stands.found row ext i) ∙ ap (λ o. is_ok (ok_or o raised.Constraint)) place.2
 
     pub callee-asked : IsCallee b x
-    callee-asked = by_form k.row k.stands.row its-row k.form
+    callee-asked = by_form k.index_range k.stands.index_range its-row k.form
       where
-        by_form : (o : Option PDrange) → k.stands.part.row ≡ o → array_range p x.name.name ≡ o → CalleeForm p T s x o → IsCallee b x
+        by_form : (o : Option PDrange) → k.stands.part.index_range ≡ o → array_range p x.name.name ≡ o → CalleeForm p T s x o → IsCallee b x
         by_form None row its (one_task q) = record {
           known = λ m. (unwrap_or (task_named (numbers p T) x.name.name) 0, ap (task_meant (g p T) [] x.name.name) q);
-          named = λ t m. let y = one-of t m in facts.named t y.seat y.is;
+          named = λ t m. let y = one-of t m in facts.named t y.numbered_task y.is;
           range = λ e m sp z. absurd (none-some e (sym (ap (moving T) q) ∙ m));
           literals = λ e m sp. absurd (none-some e (sym (ap (moving T) q) ∙ m));
         }
@@ -107,7 +107,7 @@ module _ (p : PProgram) (T : TypeTable) (Typed : Scope → Type 0) (typing : Typ
             let f = facts.rows x.name.name k.stands.part r range k.stands.found row ext in
             record {
               known = λ m. let h = static-member r range y row ext q kinded out (sym (ap (moving T) q) ∙ m) in (h.0, ap (task_meant (g p T) [] x.name.name) q ∙ h.1);
-              named = λ t m. let z = one-of t m in facts.named t z.seat z.is;
+              named = λ t m. let z = one-of t m in facts.named t z.numbered_task z.is;
               range = λ e m sp z.
                   ap (λ o. lies_in (declared_limits made.types (subtype_of_range T sp o)) z) its ∙ f.same sp z ∙ sym (member-is p T known x.name.name k.stands.part r range k.stands.found row ext z);
               literals = λ e m sp.

@@ -25,7 +25,7 @@ use Rattle.task_model.specs.Setting.{Setting}
 use Rattle.normal_model.specs.Calls.{Slot, slots_of}
 use Rattle.translation_law.specs.Translations.{Programs, IsOld}
 use Rattle.translation_law.specs.OldNames.{OldExpr, old_name}
-use Rattle.translation_law.specs.OldTexts.{OldExprs, old_expr, OldRow, old_row, OldArgs, old_args, OldCall}
+use Rattle.translation_law.specs.OldTexts.{OldExprs, old_expr, OldList, old_list, OldArgs, old_args, OldCall}
 use Rattle.normal_law.specs.Suited.{IsMeant, is_named, is_member, IsCallee, HasLists, no_lists, plain_lists, family_lists, IsCopied, only_taken, given_back, both_ways, AreCopied, none_copied, copied_then, IsCall}
 use Rattle.legal_sites.specs.Met.{IsMet}
 use Rattle.normal_legal_seen.proofs.Finding.{no-place}
@@ -126,9 +126,9 @@ module _ (b : Programs) (s : Scope) where
   -- behind a family's index
   second-known : (xs : List Slot) (fs : List FormalPart) (name : NameId) (range : Range) (e : PExpr) (second : Option (List PExpr)) → AreModes xs fs →
       fits_call (family range) (Some (record { first = e ∷ []; second = second })) (length fs) ≡ true →
-      AllByRecursion IsMet (if_there (actuals_sites s fs) second) → OldRow b second → AreCopied b xs (unwrap_or second [])
+      AllByRecursion IsMet (if_there (actuals_sites s fs) second) → OldList b second → AreCopied b xs (unwrap_or second [])
   second-known xs fs name range e None h fit met old = no-copies xs fs h (eqb-true (length fs) 0 fit)
-  second-known xs fs name range e (Some es) h fit met (old_row _ old) =
+  second-known xs fs name range e (Some es) h fit met (old_list _ old) =
       let n = and_parts (not (length fs == 0)) (length es == length fs) fit in
       actuals-copied xs fs es h (eqb-true (length es) (length fs) n.1) met old
 
@@ -183,7 +183,7 @@ module _ (p : PProgram) (T : TypeTable) (Typed : Scope → Type 0) (typing : Typ
 
     -- that of each task that is meant
     entry-of : (t : ℕ) → IsOneOf p T s c.task k known t → HasEntry p T t c.entry.name the-entry.entry
-    entry-of t one = entry-there p T t one.seat c.entry.name the-entry.entry one.is (ap (λ u. entry_in u c.entry.name) one.unit ∙ the-entry.declared)
+    entry-of t one = entry-there p T t one.numbered_task c.entry.name the-entry.entry one.is (ap (λ u. entry_in u c.entry.name) one.unit ∙ the-entry.declared)
 
     called : HasEntry p T (unwrap_or (task_named (numbers p T) c.task.name.name) 0) c.entry.name the-entry.entry
     called = subst (λ n. HasEntry p T n c.entry.name the-entry.entry) (sym (ap (λ o. unwrap_or o 0) (callee-first p T s c.task k known).named)) (entry-of (callee-first p T s c.task k known).number (first-one p T s c.task k known))

@@ -18,7 +18,7 @@ use Rattle.ada_tree.specs.Sites.{site, expr_sites, expr_of, accept_index_sites}
 use Rattle.ada_tree.specs.Declaring.{family_of, entry_family, entry_part}
 use Rattle.ada_tree.specs.RuleRangeBad.{is_outside}
 use Rattle.ada_tree.specs.RuleArgCount.{arg_count, wrong_accept, fits_accept, at_place, are_same, written_formals}
-use Rattle.syn_event.specs.CheckScope.{CheckScope, CheckSite}
+use Rattle.syn_event.specs.CheckScope.{CheckScope}
 use Rattle.syn_event.specs.CheckScope as check
 use Rattle.syn_event.specs.RuleAcceptPlace.{accept_place, is_own_entry, is_among}
 use Rattle.syn_event.proofs.Nothing.{all_front, all_back}

@@ -15,7 +15,7 @@ use Rattle.syn_event.specs.CheckScope.{CheckScope}
 use Rattle.syn_event.specs.CheckSites as sites
 use Rattle.syn_event.specs.AllNumbers.{family_extent, first_of, last_of}
 use Rattle.syn_event.specs.Numbering.{entry_at}
-use Rattle.syn_event.specs.TaskParts.{Seat}
+use Rattle.syn_event.specs.NamedTasks.{NumberedTask}
 use Rattle.syn_event.proofs.Nothing.{all_front}
 use Rattle.task_model.specs.Setting.{Setting, entry_of, family_limits, member_index}
 use Rattle.normal_model.specs.Making.{moving}
@@ -48,7 +48,7 @@ module _ (p : PProgram) (T : TypeTable) (Typed : Scope → Type 0) (typing : Typ
     known-entry = own-entry p T Typed typing t s c h seen checked.1.0.accepts
 
     -- the entry of a task that runs the body
-    entry-at-task : (k : ℕ) (x : Seat) → IsTaskOf p T k x → x.unit ≡ t → HasEntry p T k h.entry.name known-entry.entry
+    entry-at-task : (k : ℕ) (x : NumberedTask) → IsTaskOf p T k x → x.unit ≡ t → HasEntry p T k h.entry.name known-entry.entry
     entry-at-task k x is unit = entry-there p T k x h.entry.name known-entry.entry is (ap (λ u. entry_in u h.entry.name) unit ∙ known-entry.declared)
 
     index-met : (e : PExpr) → h.index ≡ Some e → AllByRecursion IsMet (accept_index_sites s (entry_named s.own h.entry.name) e)
@@ -56,7 +56,7 @@ module _ (p : PProgram) (T : TypeTable) (Typed : Scope → Type 0) (typing : Typ
         subst (λ o. AllByRecursion IsMet (if_there (accept_index_sites s (entry_named s.own h.entry.name)) o)) q
         (all_front IsMet (if_there (accept_index_sites s (entry_named s.own h.entry.name)) h.index) (formals_sites s h.formals) met.1)
 
-    known-index : (k : ℕ) (x : Seat) (is : IsTaskOf p T k x) (unit : x.unit ≡ t) → (o : Option PExpr) → h.index ≡ o → moving T o ≡ None → (z : ℤ) × (member_index (g p T) [] (entry_of (numbers p T) k h.entry.name) o ≡ Ok z)
+    known-index : (k : ℕ) (x : NumberedTask) (is : IsTaskOf p T k x) (unit : x.unit ≡ t) → (o : Option PExpr) → h.index ≡ o → moving T o ≡ None → (z : ℤ) × (member_index (g p T) [] (entry_of (numbers p T) k h.entry.name) o ≡ Ok z)
     known-index k x is unit None q m = (pos 0, refl)
     known-index k x is unit (Some e) q m = by_family known-entry.entry.family refl known-entry.ranged (index-of-family p T Typed typing s h t known-entry met.0.counted e q)
       where
@@ -70,7 +70,7 @@ module _ (p : PProgram) (T : TypeTable) (Typed : Scope → Type 0) (typing : Typ
             (ap (λ o. (family_limits o).first) has.at ∙ has.first ∙ ap (λ o. first_of (family_extent T o)) f ∙ ap first_of ranged.is.extent)
             (ap (λ o. (family_limits o).last) has.at ∙ has.last ∙ ap (λ o. last_of (family_extent T o)) f ∙ ap last_of ranged.is.extent)
 
-    pub head-asked : (first number : ℕ) (x y : Seat) → IsTaskOf p T first x → x.unit ≡ t → IsTaskOf p T number y → y.unit ≡ t → IsHead b first number h
+    pub head-asked : (first number : ℕ) (x y : NumberedTask) → IsTaskOf p T first x → x.unit ≡ t → IsTaskOf p T number y → y.unit ≡ t → IsHead b first number h
     head-asked first number x y is unit runs runs_unit =
         let at-first = entry-at-task first x is unit in
         let at-number = entry-at-task number y runs runs_unit in

@@ -13,8 +13,8 @@ use Rattle.ada_tree.specs.Scope.{Range}
 use Rattle.syn_event.specs.declared.numbering.TaskInfo.{TaskInfo}
 use Rattle.syn_event.specs.Numbered.{task_info}
 use Rattle.syn_event.specs.Extents.{extent, count_to, size_of}
-use Rattle.syn_event.specs.TaskParts.{TaskPart, parts_of, Seat, seat, numbers_on, indices, row_seats, seats_of, seats}
-use Rattle.syn_event.specs.AllNumbers.{seat_info}
+use Rattle.syn_event.specs.NamedTasks.{NamedTasks, task_names_of, NumberedTask, numbered_task, numbers_on, indices, tasks_of_range, tasks_of_name, numbered_tasks}
+use Rattle.syn_event.specs.AllNumbers.{info_of_task}
 use Rattle.ada_value.specs.declared.values.Raised.TheVariants as raised
 use Rattle.task_model.specs.Setting.{is_member, member_named}
 use Rattle.rewritten_types.proofs.Lookups.{all-weaker, find-more}
@@ -22,7 +22,7 @@ use Rattle.legal_entries.proofs.Lists.{some-same, find-behind, find-mapped, find
 use Rattle.normal_legal_seen.proofs.Finding.{no-place-passes}
 use Rattle.legal_entries.proofs.Entries.{numbers}
 use Rattle.normal_legal_seen.proofs.Parts.{IsExtent, is_called, AtMostOnce}
-use Rattle.normal_legal_seen.proofs.Tasks.{PartsKnown, seats-named, part-apart}
+use Rattle.normal_legal_seen.proofs.Tasks.{PartsKnown, numbered-tasks-named, part-apart}
 
 -- ---- consecutive numbers
 
@@ -55,66 +55,66 @@ whole-size f l h z = by_form ((l -ℤ f) +ℤ pos 1) refl
     by_form (negsuc n) e = let y : ⊥ = grind (arith, ints) in absurd y
 
 module _ (p : PProgram) (T : TypeTable) (known : PartsKnown p T) where
-  -- ---- the seat of a name and an index
+  -- ---- the numbered task of a name and an index
 
-  abbrev is_at : NameId → ℤ → Seat → Bool
+  abbrev is_at : NameId → ℤ → NumberedTask → Bool
   is_at id z x = (x.name.0 == id.0) && is_member z x.member
 
-  other-part : (id : NameId) (z : ℤ) (x : TaskPart) → is_called id x ≡ false → find (is_at id z) (seats_of T x) ≡ None
+  other-part : (id : NameId) (z : ℤ) (x : NamedTasks) → is_called id x ≡ false → find (is_at id z) (tasks_of_name T x) ≡ None
   other-part id z x e =
-      find-nothing (is_at id z) (seats_of T x)
-      (all-weaker (λ (y : Seat). y.name ≡ x.name.name) (λ (y : Seat). is_at id z y ≡ false) (seats_of T x) (λ y q. ap (λ (n : NameId). (n.0 == id.0) && is_member z y.member) q ∙ ap (λ b. b && is_member z y.member) e) (seats-named p T known x))
+      find-nothing (is_at id z) (tasks_of_name T x)
+      (all-weaker (λ (y : NumberedTask). y.name ≡ x.name.name) (λ (y : NumberedTask). is_at id z y ≡ false) (tasks_of_name T x) (λ y q. ap (λ (n : NameId). (n.0 == id.0) && is_member z y.member) q ∙ ap (λ b. b && is_member z y.member) e) (numbered-tasks-named p T known x))
 
-  no-part : (id : NameId) (z : ℤ) (xs : List TaskPart) → find (is_called id) xs ≡ None → find (is_at id z) (flat_map (seats_of T) xs) ≡ None
+  no-part : (id : NameId) (z : ℤ) (xs : List NamedTasks) → find (is_called id) xs ≡ None → find (is_at id z) (flat_map (tasks_of_name T) xs) ≡ None
   no-part id z [] e = refl
   no-part id z (x ∷ xs) e = by_test (is_called id x) refl e (no-part id z xs)
     where
-      by_test : (b : Bool) → is_called id x ≡ b → (if b then Some x else find (is_called id) xs) ≡ None → (find (is_called id) xs ≡ None → find (is_at id z) (flat_map (seats_of T) xs) ≡ None) →
-          find (is_at id z) (seats_of T x ++ flat_map (seats_of T) xs) ≡ None
+      by_test : (b : Bool) → is_called id x ≡ b → (if b then Some x else find (is_called id) xs) ≡ None → (find (is_called id) xs ≡ None → find (is_at id z) (flat_map (tasks_of_name T) xs) ≡ None) →
+          find (is_at id z) (tasks_of_name T x ++ flat_map (tasks_of_name T) xs) ≡ None
       by_test true f g rest = absurd (none-some x (sym g))
-      by_test false f g rest = find-behind (is_at id z) (seats_of T x) (flat_map (seats_of T) xs) (other-part id z x f) ∙ rest g
+      by_test false f g rest = find-behind (is_at id z) (tasks_of_name T x) (flat_map (tasks_of_name T) xs) (other-part id z x f) ∙ rest g
 
-  part-seats : (id : NameId) (z : ℤ) (xs : List TaskPart) (x : TaskPart) → AtMostOnce (is_called id) xs → find (is_called id) xs ≡ Some x → find (is_at id z) (flat_map (seats_of T) xs) ≡ find (is_at id z) (seats_of T x)
-  part-seats id z [] x once e = absurd (none-some x e)
-  part-seats id z (y ∷ ys) x once e = by_test (is_called id y) refl e (part-seats id z ys x once.1)
+  part-numbered-tasks : (id : NameId) (z : ℤ) (xs : List NamedTasks) (x : NamedTasks) → AtMostOnce (is_called id) xs → find (is_called id) xs ≡ Some x → find (is_at id z) (flat_map (tasks_of_name T) xs) ≡ find (is_at id z) (tasks_of_name T x)
+  part-numbered-tasks id z [] x once e = absurd (none-some x e)
+  part-numbered-tasks id z (y ∷ ys) x once e = by_test (is_called id y) refl e (part-numbered-tasks id z ys x once.1)
     where
       by_test : (b : Bool) → is_called id y ≡ b → (if b then Some y else find (is_called id) ys) ≡ Some x →
-          (find (is_called id) ys ≡ Some x → find (is_at id z) (flat_map (seats_of T) ys) ≡ find (is_at id z) (seats_of T x)) →
-          find (is_at id z) (seats_of T y ++ flat_map (seats_of T) ys) ≡ find (is_at id z) (seats_of T x)
+          (find (is_called id) ys ≡ Some x → find (is_at id z) (flat_map (tasks_of_name T) ys) ≡ find (is_at id z) (tasks_of_name T x)) →
+          find (is_at id z) (tasks_of_name T y ++ flat_map (tasks_of_name T) ys) ≡ find (is_at id z) (tasks_of_name T x)
       by_test true f g rest =
-          find-more (is_at id z) (seats_of T y) (flat_map (seats_of T) ys) (no-part id z ys (once.0 f)) ∙ ap (λ v. find (is_at id z) (seats_of T v)) (some-same g)
-      by_test false f g rest = find-behind (is_at id z) (seats_of T y) (flat_map (seats_of T) ys) (other-part id z y f) ∙ rest g
+          find-more (is_at id z) (tasks_of_name T y) (flat_map (tasks_of_name T) ys) (no-part id z ys (once.0 f)) ∙ ap (λ v. find (is_at id z) (tasks_of_name T v)) (some-same g)
+      by_test false f g rest = find-behind (is_at id z) (tasks_of_name T y) (flat_map (tasks_of_name T) ys) (other-part id z y f) ∙ rest g
 
   -- an index of the part's range
-  row-at : (id : NameId) (z : ℤ) (x : TaskPart) (is : List ℤ) → is_called id x ≡ true → find (is_at id z) (map (λ i. seat x (Some i)) is) ≡ option_map (λ i. seat x (Some i)) (find (int_eq z) is)
-  row-at id z x is e = find-mapped (is_at id z) (int_eq z) (λ i. seat x (Some i)) (λ i. ap (λ b. b && int_eq z i) e) is
+  row-at : (id : NameId) (z : ℤ) (x : NamedTasks) (is : List ℤ) → is_called id x ≡ true → find (is_at id z) (map (λ i. numbered_task x (Some i)) is) ≡ option_map (λ i. numbered_task x (Some i)) (find (int_eq z) is)
+  row-at id z x is e = find-mapped (is_at id z) (int_eq z) (λ i. numbered_task x (Some i)) (λ i. ap (λ b. b && int_eq z i) e) is
 
   -- the task of a name and an index is found just where the index lies in the range
-  module _ (id : NameId) (x : TaskPart) (r : PDrange) (range : Range) (found : find (is_called id) (parts_of p) ≡ Some x) (row : x.row ≡ Some r) (is : IsExtent T r range) where
+  module _ (id : NameId) (x : NamedTasks) (r : PDrange) (range : Range) (found : find (is_called id) (task_names_of p) ≡ Some x) (row : x.index_range ≡ Some r) (is : IsExtent T r range) where
     abbrev test : ℤ → TaskInfo → Bool
     test z info = (info.name.0 == id.0) && is_member z info.member
 
-    infos-at : (z : ℤ) → find (test z) (numbers p T).tasks ≡ option_map (seat_info p.names) (option_map (λ i. seat x (Some i)) (find (int_eq z) (numbers_on range.first (size_of (record { first = range.first; last = range.last })))))
+    infos-at : (z : ℤ) → find (test z) (numbers p T).tasks ≡ option_map (info_of_task p.names) (option_map (λ i. numbered_task x (Some i)) (find (int_eq z) (numbers_on range.first (size_of (record { first = range.first; last = range.last })))))
     infos-at z =
-        ap (λ b. if b && is_member z None then Some (task_info p.names p.name.name) else find (test z) (map (seat_info p.names) (seats T p))) (part-apart p T known id x found)
-        ∙ find-mapped (test z) (is_at id z) (seat_info p.names) (λ y. refl) (seats T p)
-        ∙ ap (option_map (seat_info p.names))
-        (part-seats id z (parts_of p) x (known.once id) found
-        ∙ ap (λ o. find (is_at id z) (row_seats T x o)) row
-        ∙ row-at id z x (indices (extent T r)) (found-passes (is_called id) (parts_of p) x found)
-        ∙ ap (λ o. option_map (λ i. seat x (Some i)) (find (int_eq z) (indices o))) is.extent)
+        ap (λ b. if b && is_member z None then Some (task_info p.names p.name.name) else find (test z) (map (info_of_task p.names) (numbered_tasks T p))) (part-apart p T known id x found)
+        ∙ find-mapped (test z) (is_at id z) (info_of_task p.names) (λ y. refl) (numbered_tasks T p)
+        ∙ ap (option_map (info_of_task p.names))
+        (part-numbered-tasks id z (task_names_of p) x (known.once id) found
+        ∙ ap (λ o. find (is_at id z) (tasks_of_range T x o)) row
+        ∙ row-at id z x (indices (extent T r)) (found-passes (is_called id) (task_names_of p) x found)
+        ∙ ap (λ o. option_map (λ i. numbered_task x (Some i)) (find (int_eq z) (indices o))) is.extent)
 
     -- within the range
     pub member-in : (z : ℤ) → (int_le range.first z && int_le z range.last) ≡ true → (t : ℕ) × (member_named (numbers p T) id z ≡ Ok t)
     member-in z h =
         let f : find (int_eq z) (numbers_on range.first (size_of (record { first = range.first; last = range.last }))) ≡ Some z = in-numbers _ range.first z (whole-size range.first range.last is.nonempty z ∙ h) in
-        let place = found-place (test z) (numbers p T).tasks (seat_info p.names (seat x (Some z))) (infos-at z ∙ ap (λ o. option_map (seat_info p.names) (option_map (λ i. seat x (Some i)) o)) f) in
+        let place = found-place (test z) (numbers p T).tasks (info_of_task p.names (numbered_task x (Some z))) (infos-at z ∙ ap (λ o. option_map (info_of_task p.names) (option_map (λ i. numbered_task x (Some i)) o)) f) in
         (place.0, ap (λ o. ok_or o raised.Constraint) place.2)
 
     pub member-out : (z : ℤ) → (int_le range.first z && int_le z range.last) ≡ false → member_named (numbers p T) id z ≡ Err raised.Constraint
     member-out z h =
         let f : find (int_eq z) (numbers_on range.first (size_of (record { first = range.first; last = range.last }))) ≡ None = out-numbers _ range.first z (whole-size range.first range.last is.nonempty z ∙ h) in
-        ap (λ o. ok_or o raised.Constraint) (no-place-passes (test z) (numbers p T).tasks (infos-at z ∙ ap (λ o. option_map (seat_info p.names) (option_map (λ i. seat x (Some i)) o)) f))
+        ap (λ o. ok_or o raised.Constraint) (no-place-passes (test z) (numbers p T).tasks (infos-at z ∙ ap (λ o. option_map (info_of_task p.names) (option_map (λ i. numbered_task x (Some i)) o)) f))
 
     pub member-is : (z : ℤ) → is_ok (member_named (numbers p T) id z) ≡ (int_le range.first z && int_le z range.last)
     member-is z = by_test (int_le range.first z && int_le z range.last) refl

@@ -24,8 +24,8 @@ use Rattle.syn_event.specs.CheckSites as checks
 use Rattle.syn_event.specs.CheckRefusals.{MeetsCheckRules}
 use Rattle.syn_event.specs.RuleAcceptPlace.{accept_place, is_own_entry, is_among}
 use Rattle.syn_event.specs.Units.{tasks_of}
-use Rattle.syn_event.specs.TaskParts.{TaskPart, parts_of, Seat, seats}
-use Rattle.syn_event.specs.AllNumbers.{seat_info}
+use Rattle.syn_event.specs.NamedTasks.{NamedTasks, task_names_of, NumberedTask, numbered_tasks}
+use Rattle.syn_event.specs.AllNumbers.{info_of_task}
 use Rattle.syn_event.proofs.Nothing.{all_front, all_back}
 use Rattle.task_model.specs.Setting.{Setting}
 use Rattle.task_model.specs.Starting.{unit_among}
@@ -49,7 +49,7 @@ use Rattle.legal_entries.proofs.Entries.{numbers, g, IsTaskOf}
 use Rattle.normal_legal_seen.proofs.Parts.{AreRanged, IsUnit, MainSeen, is_called, AtMostOnce}
 use Rattle.normal_legal_seen.proofs.Bodies.{PlaceSeen, first-seen, decls-step, main-seen, accept-seen, handling-seen, loop-seen}
 use Rattle.normal_legal_seen.proofs.Units.{objects-apart, BodiesTyped, BodyFound, nothing_found, body_found, bodies-found}
-use Rattle.normal_legal_seen.proofs.Tasks.{PartsKnown, mapped-place, seats-units, one-unit}
+use Rattle.normal_legal_seen.proofs.Tasks.{PartsKnown, mapped-place, numbered-tasks-units, one-unit}
 use Rattle.normal_legal_text.proofs.Typed.{Typing}
 use Rattle.normal_legal_text.proofs.HeadsAsked.{head-asked}
 use Rattle.normal_legal_text.proofs.Callees.{callee-known}
@@ -106,7 +106,7 @@ module _ (p : PProgram) (made : Setting) (is_old is_fixed : ℕ → Bool) (Typed
     pub local : AllByRecursion (IsLocal T is_fixed) (sites p)
     pub typed : AreTyped
     pub ranged : AreRanged T (first_scope p.name) p.decls
-    pub tell : AllByRecursion (λ (x : TaskInfo). AllByRecursion (λ (y : TaskInfo). x.name.0 ≡ y.name.0 → x.unit.0 ≡ y.unit.0) (map (seat_info p.names) (seats T p))) (map (seat_info p.names) (seats T p))
+    pub tell : AllByRecursion (λ (x : TaskInfo). AllByRecursion (λ (y : TaskInfo). x.name.0 ≡ y.name.0 → x.unit.0 ≡ y.unit.0) (map (info_of_task p.names) (numbered_tasks T p))) (map (info_of_task p.names) (numbered_tasks T p))
 
   module _ (h : TextPremises) where
     abbrev Place : Site → Type 0
@@ -164,13 +164,13 @@ module _ (p : PProgram) (made : Setting) (is_old is_fixed : ℕ → Bool) (Typed
     at-last : (kinds : List PTask) × MainSeen p T kinds no_decl (after_decls (first_scope p.name) p.decls) main_around
     at-last = (_, decls-step p T p.decls [] (first_scope p.name) (checks.around_program p) (objects-apart p T p.decls (first_scope p.name) (met _ decls-known)) h.ranged (declared_once p h.types).1 at-first)
 
-    all-parts : parts_of p ≡ at-last.1.done
+    all-parts : task_names_of p ≡ at-last.1.done
     all-parts = at-last.1.parts ∙ append-nil at-last.1.done
 
     pub parts-known : PartsKnown p T
     parts-known = record {
-      units = subst (AllByRecursion (λ (x : TaskPart). IsUnit p T x.unit)) (sym all-parts) at-last.1.parts_units;
-      apart = subst (AllByRecursion (λ (x : TaskPart). (p.name.name.0 == x.name.name.0) ≡ false)) (sym all-parts) at-last.1.apart;
+      units = subst (AllByRecursion (λ (x : NamedTasks). IsUnit p T x.unit)) (sym all-parts) at-last.1.parts_units;
+      apart = subst (AllByRecursion (λ (x : NamedTasks). (p.name.name.0 == x.name.name.0) ≡ false)) (sym all-parts) at-last.1.apart;
       once = λ id. subst (AtMostOnce (is_called id)) (sym all-parts) (at-last.1.once id);
       tell = h.tell;
     }
@@ -226,8 +226,8 @@ module _ (p : PProgram) (made : Setting) (is_old is_fixed : ℕ → Bool) (Typed
           body-as-asked (asked first number) (text_rules is_old) (known None) (gives None first number (λ s c n x seen typed every at checked. absurd (no-accept s c x seen checked.1.0.accepts)))
           p.body main_scope main_around 1 (main-seen p T at-last.0 _ main_around at-last.1, h.typed.main) h.body_old body-known body-checked
 
-      -- a task: the seat of its number, and that of the first task that runs its body
-      pub task-text : (first number : ℕ) (x y : Seat) → IsTaskOf p T first x → IsTaskOf p T number y → x.unit ≡ y.unit → OldBody (asked first number) (unit_among p.decls y.unit.name.name).body
+      -- a task: the numbered task of its number, and that of the first task that runs its body
+      pub task-text : (first number : ℕ) (x y : NumberedTask) → IsTaskOf p T first x → IsTaskOf p T number y → x.unit ≡ y.unit → OldBody (asked first number) (unit_among p.decls y.unit.name.name).body
       task-text first number x y is runs same =
           by_body _ (bodies-found p T Place Checked (text_rules is_old) Typed p.decls [] (first_scope p.name) (checks.around_program p) (checks.body_names p.decls) y.unit.name.name (λ z m. m.0)
           (objects-apart p T p.decls (first_scope p.name) (met _ decls-known)) h.ranged (declared_once p h.types).1 at-first h.typed.bodies h.decls_old decls-known decls-checked)
@@ -250,29 +250,29 @@ module _ (p : PProgram) (made : Setting) (is_old is_fixed : ℕ → Bool) (Typed
       at-some (x ∷ xs) (suc k) l = at-some xs k (omega (arith, l))
 
       -- the first task of a unit is one beside main
-      unit-there : (m : ℕ) (info : TaskInfo) (t : PTask) → IsUnit p T t → slice_get (numbers p T).tasks m ≡ Some info → (info.unit.0 == t.name.name.0) ≡ true → (x : Seat) × IsTaskOf p T m x × (x.unit ≡ t)
+      unit-there : (m : ℕ) (info : TaskInfo) (t : PTask) → IsUnit p T t → slice_get (numbers p T).tasks m ≡ Some info → (info.unit.0 == t.name.name.0) ≡ true → (x : NumberedTask) × IsTaskOf p T m x × (x.unit ≡ t)
       unit-there zero info t unit e f =
           absurd (true≢false (sym (ap (λ (i : TaskInfo). i.unit.0 == t.name.name.0) (some-same e) ∙ f) ∙ find-all (λ (u : PTask). (p.name.name.0 == u.name.name.0) ≡ false) (λ (u : PTask). u.name.name.0 == t.name.name.0) (tasks_of p) t tasks-apart unit))
       unit-there (suc k) info t unit e f =
-          let x = mapped-place p T parts-known (seats T p) k info e in
-          let own : IsUnit p T x.0.unit = place-all (λ (y : Seat). IsUnit p T y.unit) (seats T p) k x.0 (seats-units p T parts-known) x.1 in
+          let x = mapped-place p T parts-known (numbered_tasks T p) k info e in
+          let own : IsUnit p T x.0.unit = place-all (λ (y : NumberedTask). IsUnit p T y.unit) (numbered_tasks T p) k x.0 (numbered-tasks-units p T parts-known) x.1 in
           let named : x.0.unit.name.name.0 ≡ t.name.name.0 = ap (λ (i : TaskInfo). i.unit.0) (sym x.2) ∙ eqb-true info.unit.0 t.name.name.0 f in
-          (x.0, record { place = k; number = refl; seat = x.1; unit = own }, one-unit p T parts-known x.0.unit t own unit named)
+          (x.0, record { place = k; number = refl; numbered_task = x.1; unit = own }, one-unit p T parts-known x.0.unit t own unit named)
 
       -- a task beside main, with the first that runs its body
       pub record IsBeside (k : ℕ) : Type 0 where
         pub info : TaskInfo
         pub at : slice_get (numbers p T).tasks (suc k) ≡ Some info
-        pub seat : Seat
-        pub unit : info.unit ≡ seat.unit.name.name
+        pub numbered_task : NumberedTask
+        pub unit : info.unit ≡ numbered_task.unit.name.name
         pub text : OldBody (asked (first_running (g p T) info.unit) (suc k)) (unit_among p.decls info.unit).body
 
       pub beside-text : (k : ℕ) → suc k < length (numbers p T).tasks → IsBeside k
       beside-text k l =
           let info = at-some (numbers p T).tasks (suc k) l in
-          let x = mapped-place p T parts-known (seats T p) k info.0 info.1 in
-          let own : IsUnit p T x.0.unit = place-all (λ (y : Seat). IsUnit p T y.unit) (seats T p) k x.0 (seats-units p T parts-known) x.1 in
-          let runs : IsTaskOf p T (suc k) x.0 = record { place = k; number = refl; seat = x.1; unit = own } in
+          let x = mapped-place p T parts-known (numbered_tasks T p) k info.0 info.1 in
+          let own : IsUnit p T x.0.unit = place-all (λ (y : NumberedTask). IsUnit p T y.unit) (numbered_tasks T p) k x.0 (numbered-tasks-units p T parts-known) x.1 in
+          let runs : IsTaskOf p T (suc k) x.0 = record { place = k; number = refl; numbered_task = x.1; unit = own } in
           let runs_it : TaskInfo → Bool = λ i. i.unit.0 == info.0.unit.0 in
           let some = found-some runs_it (numbers p T).tasks (suc k) info.0 info.1 (eq-eqb info.0.unit.0 info.0.unit.0 refl) in
           let place = found-place runs_it (numbers p T).tasks some.0 some.1 in
@@ -283,7 +283,7 @@ module _ (p : PProgram) (made : Setting) (is_old is_fixed : ℕ → Bool) (Typed
           record {
             info = info.0;
             at = info.1;
-            seat = x.0;
+            numbered_task = x.0;
             unit = unit;
             text = subst (λ (n : NameId). OldBody (asked (first_running (g p T) info.0.unit) (suc k)) (unit_among p.decls n).body) (sym unit)
                 (subst (λ m. OldBody (asked m (suc k)) (unit_among p.decls x.0.unit.name.name).body) (sym number) (task-text place.0 (suc k) first.0 x.0 first.1 runs first.2));

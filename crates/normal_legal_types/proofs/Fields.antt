@@ -5,7 +5,7 @@ use Rattle.ada_tree.specs.declared.naming.Span.{Span}
 use Rattle.ada_tree.specs.TypeTable.{TypeTable}
 use Rattle.ada_tree.specs.PlainExpr.{PSubind, PDrange}
 use Rattle.ada_tree.specs.PlainStmt.{PFormal}
-use Rattle.ada_tree.specs.PlainDecl.{OPlain, ORow, PDecl, DNumber, DObject, DEnumeration, DArray, DSubtype, DException, DIntIo, DPragma, DTask, DTaskBody}
+use Rattle.ada_tree.specs.PlainDecl.{OPlain, OArray, PDecl, DNumber, DObject, DEnumeration, DArray, DSubtype, DException, DIntIo, DPragma, DTask, DTaskBody}
 use Rattle.ada_tree.specs.PlainProgram.{PProgram}
 use Rattle.ada_tree.specs.Every.{EveryDrange}
 use Rattle.ada_tree.specs.Refusals.{types_in}
@@ -90,7 +90,7 @@ module _ (p : PProgram) where
 
     decl-scalar : (t : ℕ) (d : PDecl) → IsScalarDecl p ready t d → IsScalar V d
     decl-scalar t (DObject ws constant (OPlain x) init s) h = (h.0, h.1.form)
-    decl-scalar t (DObject ws constant (ORow index x) init s) h = tt
+    decl-scalar t (DObject ws constant (OArray index x) init s) h = tt
     decl-scalar t (DNumber name e s) h = tt
     decl-scalar t (DEnumeration name ws s) h = tt
     decl-scalar t (DArray name index x s) h = tt

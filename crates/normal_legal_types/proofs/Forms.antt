@@ -161,12 +161,16 @@ module _ (p : PProgram) (names : AreNames p.names) where
     abbrev last : Scope
     last = behind p.name p.decls
 
+    -- a name that means something behind all declarations is the program's own
+    pub meant-own : (id : NameId) (x : Thing) → meaning last id ≡ Some x → own id.0 ≡ true
+    meant-own id x f = used-own last id.0 (decls-here p.decls (first_scope p.name) every.2 (every.0, tt)) (meaning-used last id x (in-here p.decls (first_scope p.name) (first-here p.name)) f)
+
     -- a name that means nothing names no type
     type-own : (id : NameId) (m : Mark) → mark_named T id ≡ Some m → own id.0 ≡ true
     type-own id m e = by_meaning (meaning last id) refl
       where
         by_meaning : (o : Option Thing) → meaning last id ≡ o → own id.0 ≡ true
-        by_meaning (Some x) f = used-own last id.0 (decls-here p.decls (first_scope p.name) every.2 (every.0, tt)) (meaning-used last id x (in-here p.decls (first_scope p.name) (first-here p.name)) f)
+        by_meaning (Some x) f = meant-own id x f
         by_meaning None f = absurd (none-some m (sym (unvalued_has_no_mark p.name p.decls (declared_once p ordered.rules) id (ap valued f)) ∙ e))
 
     kind-own : (k : ℕ) → IsScalar T k → own (kind_name T k).0 ≡ true

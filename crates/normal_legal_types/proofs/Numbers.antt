@@ -11,8 +11,8 @@ use Rattle.syn_event.specs.declared.numbering.TaskInfo.{TaskInfo}
 use Rattle.syn_event.specs.declared.numbering.EntryInfo.{EntryInfo}
 use Rattle.syn_event.specs.Numbering.{Numbering, entry_at}
 use Rattle.syn_event.specs.Numbered.{task_info, with_origin, with_origins}
-use Rattle.syn_event.specs.AllNumbers.{seat_info, first_of, last_of, family_extent, seat_entry, seat_entries, all_numbers}
-use Rattle.syn_event.specs.TaskParts.{TaskPart, Seat, seat, indices, row_seats, seats_of, seats, parts_of}
+use Rattle.syn_event.specs.AllNumbers.{info_of_task, first_of, last_of, family_extent, entry_of_task, entries_of_tasks, all_numbers}
+use Rattle.syn_event.specs.NamedTasks.{NamedTasks, NumberedTask, numbered_task, indices, tasks_of_range, tasks_of_name, numbered_tasks, task_names_of}
 use Rattle.syn_event.specs.Extents.{extent}
 use Rattle.syn_event.specs.Units.{tasks_of}
 use Rattle.task_model.specs.Setting.{Setting, unit_named, formals_of_entry, formals_in, formals_of_unit, formals_of_info}
@@ -60,21 +60,21 @@ longer : {A : Type 0} (before : List A) (x : A) → length (before ++ x ∷ []) 
 longer [] x = refl
 longer (y ∷ before) x = let e = longer before x in omega arith
 
--- ---- seats
+-- ---- numbered tasks
 
--- what is said of the units of parts is said of those of seats
+-- what is said of the units of parts is said of those of numbered tasks
 module _ (P : PTask → Type 0) (T : TypeTable) where
-  row-units : (x : TaskPart) → P x.unit → (o : Option PDrange) → AllByRecursion (λ (y : Seat). P y.unit) (row_seats T x o)
+  row-units : (x : NamedTasks) → P x.unit → (o : Option PDrange) → AllByRecursion (λ (y : NumberedTask). P y.unit) (tasks_of_range T x o)
   row-units x h None = (h, tt)
   row-units x h (Some r) = members (indices (extent T r))
     where
-      members : (is : List ℤ) → AllByRecursion (λ (y : Seat). P y.unit) (map (λ i. seat x (Some i)) is)
+      members : (is : List ℤ) → AllByRecursion (λ (y : NumberedTask). P y.unit) (map (λ i. numbered_task x (Some i)) is)
       members [] = tt
       members (i ∷ is) = (h, members is)
 
-  seat-units : (xs : List TaskPart) → AllByRecursion (λ (x : TaskPart). P x.unit) xs → AllByRecursion (λ (y : Seat). P y.unit) (flat_map (seats_of T) xs)
-  seat-units [] h = tt
-  seat-units (x ∷ xs) h = all-append (λ (y : Seat). P y.unit) (seats_of T x) (flat_map (seats_of T) xs) (row-units x h.0 x.row) (seat-units xs h.1)
+  numbered-task-units : (xs : List NamedTasks) → AllByRecursion (λ (x : NamedTasks). P x.unit) xs → AllByRecursion (λ (y : NumberedTask). P y.unit) (flat_map (tasks_of_name T) xs)
+  numbered-task-units [] h = tt
+  numbered-task-units (x ∷ xs) h = all-append (λ (y : NumberedTask). P y.unit) (tasks_of_name T x) (flat_map (tasks_of_name T) xs) (row-units x h.0 x.index_range) (numbered-task-units xs h.1)
 
 -- ---- entries
 
@@ -82,23 +82,23 @@ module _ (p : PProgram) (Q : EntryRule) where
   abbrev T : TypeTable
   T = types_in p
 
-  entries-of : (tasks : List TaskInfo) (t : ℕ) (x : Seat) → slice_get tasks t ≡ Some (seat_info p.names x) → IsFirstTask (tasks_of p) x.unit → (es : List PEntry) → AllByRecursion (Q x.unit) es → AllByRecursion (IsFirstEntry x.unit.entries) es →
-      AllByRecursion (IsEntryOf p Q tasks) (map (seat_entry p.names T t x) es)
+  entries-of : (tasks : List TaskInfo) (t : ℕ) (x : NumberedTask) → slice_get tasks t ≡ Some (info_of_task p.names x) → IsFirstTask (tasks_of p) x.unit → (es : List PEntry) → AllByRecursion (Q x.unit) es → AllByRecursion (IsFirstEntry x.unit.entries) es →
+      AllByRecursion (IsEntryOf p Q tasks) (map (entry_of_task p.names T t x) es)
   entries-of tasks t x there first [] q f = tt
   entries-of tasks t x there first (e ∷ es) q f = (
-    record { unit = x.unit; first = first; task = seat_info p.names x; there = there; runs = refl; entry = e; has = q.0; found = f.0; name = refl; family = refl; low = refl; high = refl },
+    record { unit = x.unit; first = first; task = info_of_task p.names x; there = there; runs = refl; entry = e; has = q.0; found = f.0; name = refl; family = refl; low = refl; high = refl },
     entries-of tasks t x there first es q.1 f.1,
   )
 
-  all-entries : (xs : List Seat) (before : List TaskInfo) (t : ℕ) → length before ≡ t → AllByRecursion (λ (y : Seat). IsRuled p Q y.unit) xs →
-      AllByRecursion (IsEntryOf p Q (before ++ map (seat_info p.names) xs)) (seat_entries p.names T t xs)
+  all-entries : (xs : List NumberedTask) (before : List TaskInfo) (t : ℕ) → length before ≡ t → AllByRecursion (λ (y : NumberedTask). IsRuled p Q y.unit) xs →
+      AllByRecursion (IsEntryOf p Q (before ++ map (info_of_task p.names) xs)) (entries_of_tasks p.names T t xs)
   all-entries [] before t e h = tt
   all-entries (x ∷ rest) before t e h =
-      let y = seat_info p.names x in
-      let tasks = before ++ y ∷ map (seat_info p.names) rest in
-      all-append (IsEntryOf p Q tasks) (map (seat_entry p.names T t x) x.unit.entries) (seat_entries p.names T (t + 1) rest)
-      (entries-of tasks t x (subst (λ n. slice_get tasks n ≡ Some y) e (place-behind before y (map (seat_info p.names) rest))) h.0.first x.unit.entries h.0.entries h.0.found)
-      (subst (λ l. AllByRecursion (IsEntryOf p Q l) (seat_entries p.names T (t + 1) rest)) (append-last before y (map (seat_info p.names) rest))
+      let y = info_of_task p.names x in
+      let tasks = before ++ y ∷ map (info_of_task p.names) rest in
+      all-append (IsEntryOf p Q tasks) (map (entry_of_task p.names T t x) x.unit.entries) (entries_of_tasks p.names T (t + 1) rest)
+      (entries-of tasks t x (subst (λ n. slice_get tasks n ≡ Some y) e (place-behind before y (map (info_of_task p.names) rest))) h.0.first x.unit.entries h.0.entries h.0.found)
+      (subst (λ l. AllByRecursion (IsEntryOf p Q l) (entries_of_tasks p.names T (t + 1) rest)) (append-last before y (map (info_of_task p.names) rest))
       (all-entries rest (before ++ y ∷ []) (t + 1) (longer before y ∙ ap (λ n. n + 1) e) h.1))
 
   -- what an entry stands for says nothing of this
@@ -112,14 +112,14 @@ module _ (p : PProgram) (Q : EntryRule) where
   numbers = all_numbers T p
 
   -- each entry in the numbers
-  pub entry-of : AllByRecursion (λ (x : TaskPart). IsRuled p Q x.unit) (parts_of p) → (e : ℕ) (info : EntryInfo) → entry_at numbers e ≡ Some info → IsEntryOf p Q numbers.tasks info
+  pub entry-of : AllByRecursion (λ (x : NamedTasks). IsRuled p Q x.unit) (task_names_of p) → (e : ℕ) (info : EntryInfo) → entry_at numbers e ≡ Some info → IsEntryOf p Q numbers.tasks info
   entry-of h e info f = by_test (e == 0) f
     where
       plain : List EntryInfo
-      plain = seat_entries p.names T 1 (seats T p)
+      plain = entries_of_tasks p.names T 1 (numbered_tasks T p)
 
       all : AllByRecursion (IsEntryOf p Q numbers.tasks) (with_origins p.names plain)
-      all = origins p.names numbers.tasks plain plain (all-entries (seats T p) (task_info p.names p.name.name ∷ []) 1 refl (seat-units (IsRuled p Q) T (parts_of p) h))
+      all = origins p.names numbers.tasks plain plain (all-entries (numbered_tasks T p) (task_info p.names p.name.name ∷ []) 1 refl (numbered-task-units (IsRuled p Q) T (task_names_of p) h))
 
       by_test : (b : Bool) → (if b then None else slice_get numbers.entries (e - 1)) ≡ Some info → IsEntryOf p Q numbers.tasks info
       by_test true g = absurd (none-some info g)

@@ -8,7 +8,7 @@ use Rattle.ada_tree.specs.declared.naming.Word.{Word}
 use Rattle.ada_tree.specs.TypeTable.{TypeTable}
 use Rattle.ada_tree.specs.PlainExpr.{PExpr, PSubind, PDrange}
 use Rattle.ada_tree.specs.PlainStmt.{PCallee, PCall, PFormal, PHead, PStmt, SNull, SAssign, SDelay, SExit, SRaise, SAbort, SCall, SAccept, SWait, SConditional, STimed, SPut, SPutLine, SNewLine, SGet, SIf, SCase, SBlock, SLoop, PAlt, alternative, PAltKind, AAccept, ADelay, ATerminate, PBody}
-use Rattle.ada_tree.specs.PlainDecl.{PShape, OPlain, ORow, PEntry, PTask, PDecl, DNumber, DObject, DEnumeration, DArray, DSubtype, DException, DIntIo, DPragma, DTask, DTaskBody, PDecls, no_decl, decl_then}
+use Rattle.ada_tree.specs.PlainDecl.{PShape, OPlain, OArray, PEntry, PTask, PDecl, DNumber, DObject, DEnumeration, DArray, DSubtype, DException, DIntIo, DPragma, DTask, DTaskBody, PDecls, no_decl, decl_then}
 use Rattle.ada_tree.specs.PlainProgram.{PProgram}
 use Rattle.ada_tree.specs.Every.{Rules, EveryDrange, EveryShape, EveryFormal, EveryEntry, EveryTask, EveryDecls}
 use Rattle.ada_tree.specs.Scope.{and_then}
@@ -17,7 +17,7 @@ use Rattle.syn_event.specs.declared.numbering.EntryInfo.{EntryInfo}
 use Rattle.syn_event.specs.Numbering.{Numbering, entry_at}
 use Rattle.syn_event.specs.AllNumbers.{all_numbers}
 use Rattle.syn_event.specs.Units.{decl_list, tasks_in, tasks_of}
-use Rattle.syn_event.specs.TaskParts.{TaskPart, parts_of_type, object_parts, type_named, with_type, single_part, parts_in, parts_of}
+use Rattle.syn_event.specs.NamedTasks.{NamedTasks, task_names_of_type, object_task_names, type_named, with_type, single_task_name, task_names_in, task_names_of}
 use Rattle.ada_value.specs.declared.values.Limits.{Limits}
 use Rattle.ada_value.specs.Values.{integer_limits, truth_limits, limits_named}
 use Rattle.task_model.specs.Setting.{Setting, formals_of_info}
@@ -57,26 +57,26 @@ tasks-every rules (decl_then (DPragma e sp) rest) h = tasks-every rules rest h.1
 tasks-every rules (decl_then (DTaskBody w objects its sp) rest) h = tasks-every rules rest h.1
 
 -- the range of an array of tasks, as it is declared
-abbrev pub RowEvery : Rules → TaskPart → Type 0
-RowEvery rules x = IfSome x.row (EveryDrange rules 2)
+abbrev pub RangeEvery : Rules → NamedTasks → Type 0
+RangeEvery rules x = IfSome x.index_range (EveryDrange rules 2)
 
-type-rows : (rules : Rules) (o : Option PTask) (ws : List Word) (row : Option PDrange) → IfSome row (EveryDrange rules 2) → AllByRecursion (RowEvery rules) (parts_of_type o ws row)
+type-rows : (rules : Rules) (o : Option PTask) (ws : List Word) (row : Option PDrange) → IfSome row (EveryDrange rules 2) → AllByRecursion (RangeEvery rules) (task_names_of_type o ws row)
 type-rows rules None ws row h = tt
 type-rows rules (Some t) [] row h = tt
 type-rows rules (Some t) (w ∷ ws) row h = (h, type-rows rules (Some t) ws row h)
 
-object-rows : (rules : Rules) (kinds : List PTask) (ws : List Word) (shape : PShape) → EveryShape rules shape → AllByRecursion (RowEvery rules) (object_parts kinds ws shape)
+object-rows : (rules : Rules) (kinds : List PTask) (ws : List Word) (shape : PShape) → EveryShape rules shape → AllByRecursion (RangeEvery rules) (object_task_names kinds ws shape)
 object-rows rules kinds ws (OPlain x) h = type-rows rules (type_named kinds x.mark.name) ws None tt
-object-rows rules kinds ws (ORow index x) h = type-rows rules (type_named kinds x.mark.name) ws (Some index) h.0
+object-rows rules kinds ws (OArray index x) h = type-rows rules (type_named kinds x.mark.name) ws (Some index) h.0
 
-single-rows : (rules : Rules) (b : Bool) (t : PTask) (sp : Span) → AllByRecursion (RowEvery rules) (single_part b t sp)
+single-rows : (rules : Rules) (b : Bool) (t : PTask) (sp : Span) → AllByRecursion (RangeEvery rules) (single_task_name b t sp)
 single-rows rules true t sp = tt
 single-rows rules false t sp = (tt, tt)
 
-parts-every : (rules : Rules) (ds : PDecls) (kinds : List PTask) → EveryDecls rules ds → AllByRecursion (RowEvery rules) (parts_in kinds ds)
+parts-every : (rules : Rules) (ds : PDecls) (kinds : List PTask) → EveryDecls rules ds → AllByRecursion (RangeEvery rules) (task_names_in kinds ds)
 parts-every rules no_decl kinds h = tt
-parts-every rules (decl_then (DTask t sp) rest) kinds h = all-append (RowEvery rules) (single_part t.of_kind t sp) _ (single-rows rules t.of_kind t sp) (parts-every rules rest (with_type kinds t.of_kind t) h.1)
-parts-every rules (decl_then (DObject ws constant shape init sp) rest) kinds h = all-append (RowEvery rules) (object_parts kinds ws shape) _ (object-rows rules kinds ws shape h.0.2) (parts-every rules rest kinds h.1)
+parts-every rules (decl_then (DTask t sp) rest) kinds h = all-append (RangeEvery rules) (single_task_name t.of_kind t sp) _ (single-rows rules t.of_kind t sp) (parts-every rules rest (with_type kinds t.of_kind t) h.1)
+parts-every rules (decl_then (DObject ws constant shape init sp) rest) kinds h = all-append (RangeEvery rules) (object_task_names kinds ws shape) _ (object-rows rules kinds ws shape h.0.2) (parts-every rules rest kinds h.1)
 parts-every rules (decl_then (DNumber name e sp) rest) kinds h = parts-every rules rest kinds h.1
 parts-every rules (decl_then (DEnumeration name ws sp) rest) kinds h = parts-every rules rest kinds h.1
 parts-every rules (decl_then (DArray name index x sp) rest) kinds h = parts-every rules rest kinds h.1
@@ -128,7 +128,7 @@ module _ (p : PProgram) (ready : IsReady p) where
   abbrev V : TypeTable
   V = types_in (normal_tree p T numbers)
 
-  parts-ruled : AllByRecursion (λ (x : TaskPart). IsRuled p (own_rule p) x.unit) (parts_of p)
+  parts-ruled : AllByRecursion (λ (x : NamedTasks). IsRuled p (own_rule p) x.unit) (task_names_of p)
   parts-ruled = part-units (IsRuled p (own_rule p)) p.decls [] tt (tasks-ruled p (tasks_of p) ready.tasks.found ready.tasks.tasks (tasks-every (old_names (own_name p)) p.decls ready.own.2))
 
   -- an entry in the numbers
@@ -155,13 +155,13 @@ module _ (p : PProgram) (ready : IsReady p) where
   family-subtype s e = own-subtype s (family_range g e) (entry-range (entry_at numbers e) e refl)
 
   pub array-own : (id : NameId) → IsOwnRange (array_range p id)
-  array-own id = by_part (find (λ x. x.name.name.0 == id.0) (parts_of p)) refl
+  array-own id = by_part (find (λ x. x.name.name.0 == id.0) (task_names_of p)) refl
     where
-      all : AllByRecursion (λ (x : TaskPart). IsTypedPart T x × RowEvery (old_names (own_name p)) x) (parts_of p)
-      all = all-both (IsTypedPart T) (RowEvery (old_names (own_name p))) (parts_of p) ready.tasks.parts (parts-every (old_names (own_name p)) p.decls [] ready.own.2)
+      all : AllByRecursion (λ (x : NamedTasks). IsTypedPart T x × RangeEvery (old_names (own_name p)) x) (task_names_of p)
+      all = all-both (IsTypedPart T) (RangeEvery (old_names (own_name p))) (task_names_of p) ready.tasks.parts (parts-every (old_names (own_name p)) p.decls [] ready.own.2)
 
-      by_part : (o : Option TaskPart) → find (λ x. x.name.name.0 == id.0) (parts_of p) ≡ o → IsOwnRange (and_then (λ x. x.row) o)
-      by_part (Some x) e = find-all (λ (y : TaskPart). IsTypedPart T y × RowEvery (old_names (own_name p)) y) (λ y. y.name.name.0 == id.0) (parts_of p) x all e
+      by_part : (o : Option NamedTasks) → find (λ x. x.name.name.0 == id.0) (task_names_of p) ≡ o → IsOwnRange (and_then (λ x. x.index_range) o)
+      by_part (Some x) e = find-all (λ (y : NamedTasks). IsTypedPart T y × RangeEvery (old_names (own_name p)) y) (λ y. y.name.name.0 == id.0) (task_names_of p) x all e
       by_part None e = (tt, tt)
 
   array-subtype : (s : Span) (id : NameId) → IsScalarSubtype V (subtype_of_range T s (array_range p id))

@@ -10,15 +10,15 @@ use Rattle.ada_tree.specs.declared.static_types.Kind.TheVariants.{Integer, Truth
 use Rattle.ada_tree.specs.declared.static_types.Mark.{Mark}
 use Rattle.ada_tree.specs.TypeTable.{TypeTable}
 use Rattle.ada_tree.specs.PlainExpr.{PExpr, PSubind, PDrange}
-use Rattle.ada_tree.specs.PlainDecl.{PShape, OPlain, ORow, PInit, IOne, IList, IOthers, PDecl, DNumber, DObject, DEnumeration, DArray, DSubtype, DException, DIntIo, DPragma, DTask, DTaskBody, PDecls, no_decl, decl_then}
+use Rattle.ada_tree.specs.PlainDecl.{PShape, OPlain, OArray, PInit, IOne, IList, IOthers, PDecl, DNumber, DObject, DEnumeration, DArray, DSubtype, DException, DIntIo, DPragma, DTask, DTaskBody, PDecls, no_decl, decl_then}
 use Rattle.ada_tree.specs.PlainProgram.{PProgram}
 use Rattle.ada_tree.specs.Refusals.{MeetsTypeRules, types_in, refused_at, refused_from}
 use Rattle.ada_tree.specs.StaticValue.{value_named}
-use Rattle.ada_tree.specs.Scope.{Scope, Range, Thing, TypeMark, TaskType, SingleTask, TaskObject, TaskRow, Variable, ConstantObject, Parameter, LoopParameter, Literal, AnException, MainProcedure, AnotherUnit, Unclear, Marking, ScalarMark, ArrayMark, TaskMark, NoMark, UnknownMark, UnclearMark, marking_of_kind, marking_of_mark, marking_of, marking, mark_at, kind_at, meaning, range_of_mark}
+use Rattle.ada_tree.specs.Scope.{Scope, Range, Thing, TypeMark, TaskType, SingleTask, TaskObject, TaskArray, Variable, ConstantObject, Parameter, LoopParameter, Literal, AnException, MainProcedure, AnotherUnit, Unclear, Marking, ScalarMark, ArrayMark, TaskMark, NoMark, UnknownMark, UnclearMark, marking_of_kind, marking_of_mark, marking_of, marking, mark_at, kind_at, meaning, range_of_mark}
 use Rattle.ada_tree.specs.Demand.{declares, initializes, for_array, Site}
 use Rattle.ada_tree.specs.Sites.{site, if_there, names_sites, shape_sites, array_init_sites, init_sites, object_marking, is_task_object, decl_sites, decls_sites, body_sites}
 use Rattle.ada_tree.specs.RuleDuplicate.{is_predefined, is_among, fixes, introduces}
-use Rattle.ada_tree.specs.Declaring.{before_all, first_scope, inside, with_types, subind_made, made_subind, drange_range, made_array, object_of, Declared, plain_object, row_object, declared_object, of_made, add_constants, constant_mark, constant_value, kind_at_mark, initial_value, with_constants, after_decl, after_decls}
+use Rattle.ada_tree.specs.Declaring.{before_all, first_scope, inside, with_types, subind_made, made_subind, drange_range, made_array, object_of, Declared, plain_object, array_object, declared_object, of_made, add_constants, constant_mark, constant_value, kind_at_mark, initial_value, with_constants, after_decl, after_decls}
 use Rattle.ada_value.specs.declared.values.Form.{Form}
 use Rattle.task_model.specs.Starting.{form_of}
 use Rattle.rewritten_types.proofs.Lookups.{place-last, all-weaker}
@@ -72,7 +72,7 @@ thing-place T (Some (TypeMark m)) n r part e = subst (λ (j : ℕ). marking_of_m
 thing-place T (Some (TaskType es)) n r part e = absurd (other-mark (TaskMark es) n r part tt e)
 thing-place T (Some (SingleTask es)) n r part e = absurd (other-mark NoMark n r part tt e)
 thing-place T (Some (TaskObject es)) n r part e = absurd (other-mark NoMark n r part tt e)
-thing-place T (Some (TaskRow q es)) n r part e = absurd (other-mark NoMark n r part tt e)
+thing-place T (Some (TaskArray q es)) n r part e = absurd (other-mark NoMark n r part tt e)
 thing-place T (Some (Variable m)) n r part e = absurd (other-mark NoMark n r part tt e)
 thing-place T (Some (ConstantObject m)) n r part e = absurd (other-mark NoMark n r part tt e)
 thing-place T (Some (Parameter mode m)) n r part e = absurd (other-mark NoMark n r part tt e)
@@ -126,8 +126,8 @@ made-adds s i T (Some r) (Some q) h ws = ap (λ z. add_constants ws (Some n) z U
         ap (marking_of_mark (made_array None T (Some r) (Some q)).types (length T.marks)) (place-last T.marks record { name = None; kind = length T.kinds; first = r.first; last = r.last })
         ∙ ap (marking_of_kind (length T.marks) (length T.kinds)) (place-last T.kinds (Array r.kind r.first r.last q))
 
-row-adds : (s : Scope) (index : PDrange) (x : PSubind) (i : Option PInit) (m : Marking) → InitMet s (row_object s true m index x) i → NoConstant s (row_object s true m index x) i
-row-adds s index x i (TaskMark es) h = none-added s (row_object s true (TaskMark es) index x) i (no-row 0 s.in_main (drange_range s index) es)
+row-adds : (s : Scope) (index : PDrange) (x : PSubind) (i : Option PInit) (m : Marking) → InitMet s (array_object s true m index x) i → NoConstant s (array_object s true m index x) i
+row-adds s index x i (TaskMark es) h = none-added s (array_object s true (TaskMark es) index x) i (no-row 0 s.in_main (drange_range s index) es)
 row-adds s index x i (ArrayMark m r p) h = made-adds s i (made_subind s x).types (drange_range s index) (made_subind s x).mark h
 row-adds s index x i (ScalarMark m k) h = made-adds s i (made_subind s x).types (drange_range s index) (made_subind s x).mark h
 row-adds s index x i NoMark h = made-adds s i (made_subind s x).types (drange_range s index) (made_subind s x).mark h
@@ -197,7 +197,7 @@ no-scalar T s x h form e q UnclearMark f = tt
 array-adds : (T : TypeTable) (s : Scope) (ws : List Word) (x : PShape) (i : Option PInit) (sp : Span) → IsScalarStill T s (DObject ws true x i sp) → InitMet s (declared_object s true x) i → (form : Form) → form_of T x ≡ Some form → is_none form.index ≡ false →
     NoConstant s (declared_object s true x) i
 array-adds T s ws (OPlain x) i sp still h form e q = plain-adds s x i (marking s x.mark.name) refl (no-scalar T s x still form e q (marking s x.mark.name) refl) h
-array-adds T s ws (ORow r x) i sp still h form e q = row-adds s r x i (marking s x.mark.name) h
+array-adds T s ws (OArray r x) i sp still h form e q = row-adds s r x i (marking s x.mark.name) h
 
 array-lacks : (n : ℕ) (s : Scope) (ws : List Word) (x : PShape) (i : Option PInit) (sp : Span) → NoConstant s (declared_object s true x) i → Lacks n s.types → Lacks n (after_decl s (DObject ws true x i sp)).types
 array-lacks n s ws x i sp none h = subst (Lacks n) (sym (names-types _ ws (with_types (with_constants s ws i (declared_object s true x)) s))) (by_main s.in_main)

@@ -8,12 +8,12 @@ use Rattle.ada_tree.specs.declared.naming.NameId.{NameId}
 use Rattle.ada_tree.specs.declared.naming.Word.{Word}
 use Rattle.ada_tree.specs.TypeTable.{TypeTable}
 use Rattle.ada_tree.specs.PlainStmt.{PFormal, PHead, PScheme, LWhile, LFor, PBody}
-use Rattle.ada_tree.specs.PlainDecl.{OPlain, ORow, PEntry, PTask, PDecl, DNumber, DObject, DEnumeration, DArray, DSubtype, DException, DIntIo, DPragma, DTask, DTaskBody, PDecls, no_decl, decl_then}
+use Rattle.ada_tree.specs.PlainDecl.{OPlain, OArray, PEntry, PTask, PDecl, DNumber, DObject, DEnumeration, DArray, DSubtype, DException, DIntIo, DPragma, DTask, DTaskBody, PDecls, no_decl, decl_then}
 use Rattle.ada_tree.specs.PlainProgram.{PProgram}
 use Rattle.ada_tree.specs.Every.{EveryBody, EveryDecl, EveryDecls}
 use Rattle.ada_tree.specs.WellPlaced.{tokens, HasTokens}
 use Rattle.ada_tree.specs.Refusals.{MeetsTypeRules, types_in}
-use Rattle.ada_tree.specs.Scope.{Scope, Thing, TypeMark, TaskType, SingleTask, TaskObject, TaskRow, Variable, ConstantObject, Parameter, LoopParameter, Literal, AnException, MainProcedure, AnotherUnit, Unclear, EntryPart, meaning, entry_named}
+use Rattle.ada_tree.specs.Scope.{Scope, Thing, TypeMark, TaskType, SingleTask, TaskObject, TaskArray, Variable, ConstantObject, Parameter, LoopParameter, Literal, AnException, MainProcedure, AnotherUnit, Unclear, EntryPart, meaning, entry_named}
 use Rattle.ada_tree.specs.Sites.{head_sites, body_sites, decl_sites, decls_sites, own_sites, loop_scope}
 use Rattle.ada_tree.specs.Declaring.{first_scope, inside, with_name, with_names, with_formals, formal_parts, entry_part, own_entries, in_body, after_own_object, after_objects, after_decl, after_decls}
 use Rattle.ada_tree.specs.RuleUnknown.{no_body_of}
@@ -28,8 +28,8 @@ use Rattle.syn_event.specs.CheckRefusals.{MeetsCheckRules}
 use Rattle.syn_event.specs.RuleAcceptPlace.{is_among, is_own_entry}
 use Rattle.syn_event.specs.Units.{tasks_of, tasks_in, decl_list}
 use Rattle.syn_event.specs.Numbering.{task_at, Numbering}
-use Rattle.syn_event.specs.AllNumbers.{all_numbers, seat_info}
-use Rattle.syn_event.specs.TaskParts.{Seat, seats, parts_of}
+use Rattle.syn_event.specs.AllNumbers.{all_numbers, info_of_task}
+use Rattle.syn_event.specs.NamedTasks.{NumberedTask, numbered_tasks, task_names_of}
 use Rattle.task_model.specs.Setting.{Setting, unit_named, parameters_of}
 use Rattle.task_model.specs.Starting.{unit_among, unit_of_info, unit_of}
 use Rattle.task_invariants.specs.AcceptHeads.{InBody}
@@ -39,7 +39,7 @@ use Rattle.translation_law.specs.OldTexts.{Asked, OldBody}
 use Rattle.rewritten_types.specs.Rewriting.{IsUsed, IsUnused, names_declared, DeclareOnce}
 use Rattle.rewritten_types.proofs.Lookups.{find-only, find-none, place-all}
 use Rattle.rewritten_types.proofs.Refused.{declared_once}
-use Rattle.normal_units.proofs.Declared.{parts-all, seats-all}
+use Rattle.normal_units.proofs.Declared.{parts-all, numbered-tasks-all}
 use Rattle.normal_legal_walk.specs.Gives.{Known, Gives}
 use Rattle.normal_legal_walk.proofs.Walk.{body-as-asked}
 use Rattle.legal_entries.proofs.Entries.{IsTaskOf, mapped-at, entry-there}
@@ -225,7 +225,7 @@ module _ (p : PProgram) where
       by_thing (Some (TaskType es)) e k = h.things w.name (TaskType es) e
       by_thing (Some (TypeMark m)) e k = absurd (filled-not _ _ k)
       by_thing (Some (TaskObject es)) e k = absurd (filled-not _ _ k)
-      by_thing (Some (TaskRow r es)) e k = absurd (filled-not _ _ k)
+      by_thing (Some (TaskArray r es)) e k = absurd (filled-not _ _ k)
       by_thing (Some (Variable m)) e k = absurd (filled-not _ _ k)
       by_thing (Some (ConstantObject m)) e k = absurd (filled-not _ _ k)
       by_thing (Some (Parameter mode m)) e k = absurd (filled-not _ _ k)
@@ -318,7 +318,7 @@ module _ (p : PProgram) where
 
   decl-check-own : (d : PDecl) (c : CheckScope) → (check.after_decl c d).own ≡ c.own
   decl-check-own (DObject ws k (OPlain x) i sp) c = with-object-own (check_meaning c x.mark.name) x.mark _ ws c
-  decl-check-own (DObject ws k (ORow r x) i sp) c = with-object-own (check_meaning c x.mark.name) x.mark true ws c
+  decl-check-own (DObject ws k (OArray r x) i sp) c = with-object-own (check_meaning c x.mark.name) x.mark true ws c
   decl-check-own (DTask t sp) c = refl
   decl-check-own (DNumber w e sp) c = refl
   decl-check-own (DEnumeration w ws sp) c = refl
@@ -400,27 +400,27 @@ module _ (p : PProgram) where
         p.body (inside (after_decls s0 p.decls)) (check.after_decls c0 p.decls) 1
         record { own = refl; unit_is = decls-check-own p.decls c0 } has.3 (all-back IsMet (decls_sites s0 p.decls) _ places) (all-back met front main check-places))
 
-    units-named : AllByRecursion (λ (x : Seat). unit_named p x.unit.name.name ≡ Some x.unit) (seats T p)
+    units-named : AllByRecursion (λ (x : NumberedTask). unit_named p x.unit.name.name ≡ Some x.unit) (numbered_tasks T p)
     units-named =
         let Q = λ (t : PTask). unit_named p t.name.name ≡ Some t in
-        seats-all Q T (parts_of p) (parts-all Q p.decls [] tt (named-tasks p.decls fits))
+        numbered-tasks-all Q T (task_names_of p) (parts-all Q p.decls [] tt (named-tasks p.decls fits))
 
-    head-conforms : (n : ℕ) (x : Seat) → IsTaskOf p T n x → (h : PHead) → HeadFits x.unit h → Conforms g n h
+    head-conforms : (n : ℕ) (x : NumberedTask) → IsTaskOf p T n x → (h : PHead) → HeadFits x.unit h → Conforms g n h
     head-conforms n x is h k =
         let e = entry-there p T n x h.entry.name k.entry is k.named in
         subst (λ fs. AreAlike (parameters_of T fs) (parameters_of T h.formals)) (sym e.formals) (formals-alike T k.around k.entry.formals h.formals k.same)
 
-    seat-conforms : (n : ℕ) (o : Option Seat) → slice_get (seats T p) n ≡ o → (info : Option TaskInfo) → slice_get (map (seat_info p.names) (seats T p)) n ≡ info → InBody (Conforms g (suc n)) (unit_of_info p info).body
-    seat-conforms n o e None f = (tt, tt)
-    seat-conforms n None e (Some info) f = absurd (none-some info (sym (mapped-none (seats T p) n e) ∙ f))
+    numbered-task-conforms : (n : ℕ) (o : Option NumberedTask) → slice_get (numbered_tasks T p) n ≡ o → (info : Option TaskInfo) → slice_get (map (info_of_task p.names) (numbered_tasks T p)) n ≡ info → InBody (Conforms g (suc n)) (unit_of_info p info).body
+    numbered-task-conforms n o e None f = (tt, tt)
+    numbered-task-conforms n None e (Some info) f = absurd (none-some info (sym (mapped-none (numbered_tasks T p) n e) ∙ f))
       where
-        mapped-none : (xs : List Seat) (k : ℕ) → slice_get xs k ≡ None → slice_get (map (seat_info p.names) xs) k ≡ None
+        mapped-none : (xs : List NumberedTask) (k : ℕ) → slice_get xs k ≡ None → slice_get (map (info_of_task p.names) xs) k ≡ None
         mapped-none [] k q = refl
         mapped-none (y ∷ ys) zero q = absurd (none-some y (sym q))
         mapped-none (y ∷ ys) (suc k) q = mapped-none ys k q
-    seat-conforms n (Some x) e (Some info) f =
-        let is : IsTaskOf p T (suc n) x = record { place = n; number = refl; seat = e; unit = place-all (λ (y : Seat). unit_named p y.unit.name.name ≡ Some y.unit) (seats T p) n x units-named e } in
-        let same : seat_info p.names x ≡ info = some-same (sym (mapped-at p T (seats T p) n x e) ∙ f) in
+    numbered-task-conforms n (Some x) e (Some info) f =
+        let is : IsTaskOf p T (suc n) x = record { place = n; number = refl; numbered_task = e; unit = place-all (λ (y : NumberedTask). unit_named p y.unit.name.name ≡ Some y.unit) (numbered_tasks T p) n x units-named e } in
+        let same : info_of_task p.names x ≡ info = some-same (sym (mapped-at p T (numbered_tasks T p) n x e) ∙ f) in
         subst (λ (i : TaskInfo). InBody (Conforms g (suc n)) (unit_among p.decls i.unit).body) same
         (among-fits (Conforms g (suc n)) p.decls x.unit.name.name x.unit fits is.unit (head-conforms (suc n) x is))
 
@@ -429,4 +429,4 @@ module _ (p : PProgram) where
     conforms zero = main-conforms
     conforms (suc n) =
         subst (λ (b : Bool). InBody (Conforms g (suc n)) (if b then record { in_main = true; decls = p.decls; body = p.body } else unit_of_info p (task_at numbers (suc n))).body)
-        (sym (ne_eqb (suc n) 0 (λ e. omega (arith, e)))) (seat-conforms n (slice_get (seats T p) n) refl (slice_get (map (seat_info p.names) (seats T p)) n) refl)
+        (sym (ne_eqb (suc n) 0 (λ e. omega (arith, e)))) (numbered-task-conforms n (slice_get (numbered_tasks T p) n) refl (slice_get (map (info_of_task p.names) (numbered_tasks T p)) n) refl)

@@ -8,7 +8,7 @@ use Rattle.ada_tree.specs.declared.naming.Span.{Span}
 use Rattle.ada_tree.specs.declared.naming.Word.{Word}
 use Rattle.ada_tree.specs.TypeTable.{TypeTable}
 use Rattle.ada_tree.specs.PlainExpr.{PDrange}
-use Rattle.ada_tree.specs.PlainDecl.{PShape, OPlain, ORow, PTask, PDecl, DNumber, DObject, DEnumeration, DArray, DSubtype, DException, DIntIo, DPragma, DTask, DTaskBody, PDecls, no_decl, decl_then}
+use Rattle.ada_tree.specs.PlainDecl.{PShape, OPlain, OArray, PTask, PDecl, DNumber, DObject, DEnumeration, DArray, DSubtype, DException, DIntIo, DPragma, DTask, DTaskBody, PDecls, no_decl, decl_then}
 use Rattle.ada_tree.specs.PlainProgram.{PProgram}
 use Rattle.ada_tree.specs.Every.{EveryWord, EveryDecl, EveryDecls}
 use Rattle.ada_tree.specs.Lexical.{IsIdentifier}
@@ -17,8 +17,8 @@ use Rattle.syn_event.specs.declared.numbering.Mode.TheVariants.{Original}
 use Rattle.syn_event.specs.declared.numbering.TaskInfo.{TaskInfo}
 use Rattle.syn_event.specs.Units.{text_of}
 use Rattle.syn_event.specs.Extents.{extent}
-use Rattle.syn_event.specs.TaskParts.{TaskPart, type_named, parts_of_type, object_parts, with_type, single_part, parts_in, parts_of, Seat, seat, indices, row_seats, seats_of, seats}
-use Rattle.syn_event.specs.AllNumbers.{seat_info}
+use Rattle.syn_event.specs.NamedTasks.{NamedTasks, type_named, task_names_of_type, object_task_names, with_type, single_task_name, task_names_in, task_names_of, NumberedTask, numbered_task, indices, tasks_of_range, tasks_of_name, numbered_tasks}
+use Rattle.syn_event.specs.AllNumbers.{info_of_task}
 use Rattle.syn_event.specs.CheckScope.{CheckScope, CheckSite, declares}
 use Rattle.syn_event.specs.CheckSites.{site, if_there, names_sites, shape_sites, init_sites, decl_sites, decls_sites, body_sites, after_decl, after_decls, around_program, body_names, counted_sites}
 use Rattle.syn_event.specs.CheckRefusals.{MeetsCheckRules}
@@ -79,26 +79,26 @@ module _ (names : List (List ℕ)) where
 
   -- ---- the names that stand for tasks
 
-  abbrev GoodPart : TaskPart → Type 0
+  abbrev GoodPart : NamedTasks → Type 0
   GoodPart x = GoodWord x.name
 
-  typed-good : (o : Option PTask) (ws : List Word) (row : Option PDrange) → AllByRecursion GoodWord ws → AllByRecursion GoodPart (parts_of_type o ws row)
+  typed-good : (o : Option PTask) (ws : List Word) (row : Option PDrange) → AllByRecursion GoodWord ws → AllByRecursion GoodPart (task_names_of_type o ws row)
   typed-good None ws row h = tt
   typed-good (Some t) [] row h = tt
   typed-good (Some t) (w ∷ ws) row h = (h.0, typed-good (Some t) ws row h.1)
 
-  object-good : (kinds : List PTask) (ws : List Word) (x : PShape) → AllByRecursion GoodWord ws → AllByRecursion GoodPart (object_parts kinds ws x)
+  object-good : (kinds : List PTask) (ws : List Word) (x : PShape) → AllByRecursion GoodWord ws → AllByRecursion GoodPart (object_task_names kinds ws x)
   object-good kinds ws (OPlain x) h = typed-good (type_named kinds x.mark.name) ws None h
-  object-good kinds ws (ORow r x) h = typed-good (type_named kinds x.mark.name) ws (Some r) h
+  object-good kinds ws (OArray r x) h = typed-good (type_named kinds x.mark.name) ws (Some r) h
 
-  single-good : (b : Bool) (t : PTask) (s : Span) → GoodWord t.name → AllByRecursion GoodPart (single_part b t s)
+  single-good : (b : Bool) (t : PTask) (s : Span) → GoodWord t.name → AllByRecursion GoodPart (single_task_name b t s)
   single-good true t s h = tt
   single-good false t s h = (h, tt)
 
-  parts-good : (ds : PDecls) (kinds : List PTask) → AreGood ds → AllByRecursion GoodPart (parts_in kinds ds)
+  parts-good : (ds : PDecls) (kinds : List PTask) → AreGood ds → AllByRecursion GoodPart (task_names_in kinds ds)
   parts-good no_decl kinds h = tt
-  parts-good (decl_then (DTask t s) rest) kinds h = all-append GoodPart (single_part t.of_kind t s) _ (single-good t.of_kind t s h.0.0) (parts-good rest (with_type kinds t.of_kind t) h.1)
-  parts-good (decl_then (DObject ws c x i s) rest) kinds h = all-append GoodPart (object_parts kinds ws x) _ (object-good kinds ws x h.0) (parts-good rest kinds h.1)
+  parts-good (decl_then (DTask t s) rest) kinds h = all-append GoodPart (single_task_name t.of_kind t s) _ (single-good t.of_kind t s h.0.0) (parts-good rest (with_type kinds t.of_kind t) h.1)
+  parts-good (decl_then (DObject ws c x i s) rest) kinds h = all-append GoodPart (object_task_names kinds ws x) _ (object-good kinds ws x h.0) (parts-good rest kinds h.1)
   parts-good (decl_then (DNumber w e s) rest) kinds h = parts-good rest kinds h.1
   parts-good (decl_then (DEnumeration w ws s) rest) kinds h = parts-good rest kinds h.1
   parts-good (decl_then (DArray w r x s) rest) kinds h = parts-good rest kinds h.1
@@ -110,18 +110,18 @@ module _ (names : List (List ℕ)) where
 
   -- ---- the tasks in the numbers
 
-  abbrev GoodSeat : Seat → Type 0
-  GoodSeat x = IsGood names x.name
+  abbrev GoodTask : NumberedTask → Type 0
+  GoodTask x = IsGood names x.name
 
-  row-good : (T : TypeTable) (x : TaskPart) (row : Option PDrange) → GoodPart x → AllByRecursion GoodSeat (row_seats T x row)
-  row-good T x (Some r) h = all-mapped GoodSeat (λ i. seat x (Some i)) (λ i. h) (indices (extent T r))
+  row-good : (T : TypeTable) (x : NamedTasks) (row : Option PDrange) → GoodPart x → AllByRecursion GoodTask (tasks_of_range T x row)
+  row-good T x (Some r) h = all-mapped GoodTask (λ i. numbered_task x (Some i)) (λ i. h) (indices (extent T r))
   row-good T x None h = (h, tt)
 
-  seats-good : (T : TypeTable) (xs : List TaskPart) → AllByRecursion GoodPart xs → AllByRecursion GoodSeat (flat_map (seats_of T) xs)
-  seats-good T [] h = tt
-  seats-good T (x ∷ xs) h = all-append GoodSeat (seats_of T x) _ (row-good T x x.row h.0) (seats-good T xs h.1)
+  numbered-tasks-good : (T : TypeTable) (xs : List NamedTasks) → AllByRecursion GoodPart xs → AllByRecursion GoodTask (flat_map (tasks_of_name T) xs)
+  numbered-tasks-good T [] h = tt
+  numbered-tasks-good T (x ∷ xs) h = all-append GoodTask (tasks_of_name T x) _ (row-good T x x.index_range h.0) (numbered-tasks-good T xs h.1)
 
-  infos-good : (xs : List Seat) → AllByRecursion GoodSeat xs → AllByRecursion (λ (i : TaskInfo). IsGood names i.name) (map (seat_info names) xs)
+  infos-good : (xs : List NumberedTask) → AllByRecursion GoodTask xs → AllByRecursion (λ (i : TaskInfo). IsGood names i.name) (map (info_of_task names) xs)
   infos-good [] h = tt
   infos-good (x ∷ xs) h = (h.0, infos-good xs h.1)
 
@@ -136,5 +136,5 @@ names-good p checks has =
     (all-front (M p.names) front main (all-front (M p.names) (front ++ main) (counted_sites a p) all)).1
 
 -- the names of its tasks
-pub tasks-good : (p : PProgram) (types : TypeTable) → MeetsCheckRules p Original → HasTokens p → AllByRecursion (λ (i : TaskInfo). IsGood p.names i.name) (map (seat_info p.names) (seats types p))
-tasks-good p types checks has = infos-good p.names (seats types p) (seats-good p.names types (parts_of p) (parts-good p.names p.decls [] (names-good p checks has)))
+pub tasks-good : (p : PProgram) (types : TypeTable) → MeetsCheckRules p Original → HasTokens p → AllByRecursion (λ (i : TaskInfo). IsGood p.names i.name) (map (info_of_task p.names) (numbered_tasks types p))
+tasks-good p types checks has = infos-good p.names (numbered_tasks types p) (numbered-tasks-good p.names types (task_names_of p) (parts-good p.names p.decls [] (names-good p checks has)))

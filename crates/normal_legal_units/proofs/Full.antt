@@ -8,7 +8,7 @@ use Rattle.ada_tree.specs.declared.naming.Word.{Word}
 use Rattle.ada_tree.specs.declared.static_types.Mark.{Mark}
 use Rattle.ada_tree.specs.TypeTable.{TypeTable}
 use Rattle.ada_tree.specs.PlainExpr.{PExpr, PBounds, PSubind, PDrange, RGiven, RMarked}
-use Rattle.ada_tree.specs.PlainDecl.{PShape, OPlain, ORow, PInit, PDecl, DNumber, DObject, DEnumeration, DArray, DSubtype, DException, DIntIo, DPragma, DTask, DTaskBody, PDecls, no_decl, decl_then}
+use Rattle.ada_tree.specs.PlainDecl.{PShape, OPlain, OArray, PInit, PDecl, DNumber, DObject, DEnumeration, DArray, DSubtype, DException, DIntIo, DPragma, DTask, DTaskBody, PDecls, no_decl, decl_then}
 use Rattle.ada_tree.specs.PlainProgram.{PProgram}
 use Rattle.ada_tree.specs.Every.{EveryDecl, EveryDecls}
 use Rattle.ada_tree.specs.WellPlaced.{well_placed, IsWellPlaced}
@@ -19,7 +19,7 @@ use Rattle.ada_tree.specs.Sites.{site, if_there, names_sites, expr_sites, static
 use Rattle.ada_tree.specs.ExprTypes.{place_of, ok_value, is_kind, kind_of, static_in, range_between, static_range}
 use Rattle.ada_tree.specs.RuleRangeBad.{is_below, empty_range}
 use Rattle.ada_tree.specs.StaticValue.{is_static, value_of}
-use Rattle.ada_tree.specs.Declaring.{first_scope, inside, with_types, with_names, made_range, subind_made, made_subind, given_range, marked_range, drange_range, made_array, renamed, plain_object, row_object, declared_object, add_constants, with_constants, constant_mark, constant_value, in_body, after_own_object, after_objects, after_decl, after_decls}
+use Rattle.ada_tree.specs.Declaring.{first_scope, inside, with_types, with_names, made_range, subind_made, made_subind, given_range, marked_range, drange_range, made_array, renamed, plain_object, array_object, declared_object, add_constants, with_constants, constant_mark, constant_value, in_body, after_own_object, after_objects, after_decl, after_decls}
 use Rattle.rewritten_types.proofs.Lookups.{all-append, place-all}
 use Rattle.rewritten_types.proofs.Adding.{names-types}
 use Rattle.legal_sites.specs.Met.{IsMet}
@@ -167,7 +167,7 @@ plain-full s constant NoMark x e h = subind-full s (marking s x.mark.name) x.bou
 plain-full s constant UnknownMark x e h = subind-full s (marking s x.mark.name) x.bounds e h
 plain-full s constant UnclearMark x e h = subind-full s (marking s x.mark.name) x.bounds e h
 
-row-full : (s : Scope) (constant : Bool) (m : Marking) (index : PDrange) (x : PSubind) → DrangeMet s index → BoundsMet s x.bounds → IsFull s.types → IsFull (row_object s constant m index x).types
+row-full : (s : Scope) (constant : Bool) (m : Marking) (index : PDrange) (x : PSubind) → DrangeMet s index → BoundsMet s x.bounds → IsFull s.types → IsFull (array_object s constant m index x).types
 row-full s constant (TaskMark es) index x r e h = h
 row-full s constant (ArrayMark m q p) index x r e h = array-full None _ (drange_range s index) (made_subind s x).mark (drange-full s index r h) (subind-full s (marking s x.mark.name) x.bounds e h)
 row-full s constant (ScalarMark m k) index x r e h = array-full None _ (drange_range s index) (made_subind s x).mark (drange-full s index r h) (subind-full s (marking s x.mark.name) x.bounds e h)
@@ -177,7 +177,7 @@ row-full s constant UnclearMark index x r e h = array-full None _ (drange_range 
 
 declared-full : (s : Scope) (constant : Bool) (x : PShape) (init : Option PInit) → AllByRecursion IsMet (shape_sites s constant x init) → IsFull s.types → IsFull (declared_object s constant x).types
 declared-full s constant (OPlain x) init k h = plain-full s constant (marking s x.mark.name) x (subind-met (object_marks (may_be_task s constant x.bounds init) x.bounds) s x k) h
-declared-full s constant (ORow index x) init k h =
+declared-full s constant (OArray index x) init k h =
     let marks = subind_sites true (component_marks (may_be_task s constant x.bounds init)) s x in
     row-full s constant (marking s x.mark.name) index x (drange-met s index (all-front IsMet (drange_sites true s index) marks k)) (subind-met (component_marks (may_be_task s constant x.bounds init)) s x (all-back IsMet (drange_sites true s index) marks k)) h
 

@@ -12,7 +12,7 @@ use Rattle.ada_tree.specs.declared.static_types.Mark.{Mark}
 use Rattle.ada_tree.specs.declared.static_types.Constant.{Constant}
 use Rattle.ada_tree.specs.TypeTable.{TypeTable}
 use Rattle.ada_tree.specs.PlainExpr.{PBounds, PSubind, PDrange}
-use Rattle.ada_tree.specs.PlainDecl.{PShape, OPlain, ORow, PInit, PDecl, DNumber, DObject, DEnumeration, DArray, DSubtype, DException, DIntIo, DPragma, DTask, DTaskBody, PDecls, no_decl, decl_then}
+use Rattle.ada_tree.specs.PlainDecl.{PShape, OPlain, OArray, PInit, PDecl, DNumber, DObject, DEnumeration, DArray, DSubtype, DException, DIntIo, DPragma, DTask, DTaskBody, PDecls, no_decl, decl_then}
 use Rattle.ada_tree.specs.PlainProgram.{PProgram}
 use Rattle.ada_tree.specs.Refusals.{MeetsTypeRules, types_in}
 use Rattle.ada_tree.specs.StaticValue.{constant_named, literal_position, first_of_two, value_named}
@@ -21,7 +21,7 @@ use Rattle.ada_tree.specs.Demand.{Demand, declares, Site}
 use Rattle.ada_tree.specs.Sites.{names_sites, decl_sites, decls_sites, is_task_object, body_sites, sites, shape_sites, init_sites, object_marking, if_there}
 use Rattle.ada_tree.specs.ExprTypes.{static_in, static_range}
 use Rattle.ada_tree.specs.RuleDuplicate.{is_predefined}
-use Rattle.ada_tree.specs.Declaring.{first_scope, inside, with_name, with_names, with_types, add_mark, add_kind, made, made_range, subind_made, made_subind, drange_range, made_array, renamed, object_of, task_object, task_row, plain_object, row_object, declared_object, constants_for, add_constants, constant_mark, constant_value, with_constants, in_body, after_own_object, after_objects, after_decl, after_decls}
+use Rattle.ada_tree.specs.Declaring.{first_scope, inside, with_name, with_names, with_types, add_mark, add_kind, made, made_range, subind_made, made_subind, drange_range, made_array, renamed, object_of, task_object, task_array, plain_object, array_object, declared_object, constants_for, add_constants, constant_mark, constant_value, with_constants, in_body, after_own_object, after_objects, after_decl, after_decls}
 use Rattle.rewritten_types.proofs.Lookups.{all-append, all-weaker, find-none}
 use Rattle.rewritten_types.proofs.Adding.{names-types}
 use Rattle.legal_sites.proofs.Meeting.{all-front, all-back}
@@ -93,7 +93,7 @@ module _ (n : ℕ) where
   plain-lacks s constant UnknownMark x h = subind-lacks s (marking s x.mark.name) x.bounds h
   plain-lacks s constant UnclearMark x h = subind-lacks s (marking s x.mark.name) x.bounds h
 
-  row-lacks : (s : Scope) (constant : Bool) (m : Marking) (index : PDrange) (x : PSubind) → Lacks s.types → Lacks (row_object s constant m index x).types
+  row-lacks : (s : Scope) (constant : Bool) (m : Marking) (index : PDrange) (x : PSubind) → Lacks s.types → Lacks (array_object s constant m index x).types
   row-lacks s constant (TaskMark es) index x h = h
   row-lacks s constant (ArrayMark m r p) index x h = array-lacks None _ (drange_range s index) (made_subind s x).mark (subind-lacks s (marking s x.mark.name) x.bounds h)
   row-lacks s constant (ScalarMark m k) index x h = array-lacks None _ (drange_range s index) (made_subind s x).mark (subind-lacks s (marking s x.mark.name) x.bounds h)
@@ -103,7 +103,7 @@ module _ (n : ℕ) where
 
   pub declared-lacks : (s : Scope) (constant : Bool) (x : PShape) → Lacks s.types → Lacks (declared_object s constant x).types
   declared-lacks s constant (OPlain x) h = plain-lacks s constant (marking s x.mark.name) x h
-  declared-lacks s constant (ORow index x) h = row-lacks s constant (marking s x.mark.name) index x h
+  declared-lacks s constant (OArray index x) h = row-lacks s constant (marking s x.mark.name) index x h
 
   -- a variable is no constant
   no-constant : (o : Option ℕ) → constant_mark (object_of false o) ≡ None
@@ -114,7 +114,7 @@ module _ (n : ℕ) where
   no-task true es = refl
   no-task false es = refl
 
-  pub no-row : (in_main : Bool) (o : Option Range) (es : List EntryPart) → constant_mark (task_row in_main o es) ≡ None
+  pub no-row : (in_main : Bool) (o : Option Range) (es : List EntryPart) → constant_mark (task_array in_main o es) ≡ None
   no-row true (Some r) es = refl
   no-row true None es = refl
   no-row false (Some r) es = refl
@@ -128,7 +128,7 @@ module _ (n : ℕ) where
   plain-variable s UnknownMark x = no-constant _
   plain-variable s UnclearMark x = no-constant _
 
-  row-variable : (s : Scope) (m : Marking) (index : PDrange) (x : PSubind) → constant_mark (row_object s false m index x).thing ≡ None
+  row-variable : (s : Scope) (m : Marking) (index : PDrange) (x : PSubind) → constant_mark (array_object s false m index x).thing ≡ None
   row-variable s (TaskMark es) index x = no-row s.in_main _ es
   row-variable s (ArrayMark m r p) index x = no-constant _
   row-variable s (ScalarMark m k) index x = no-constant _
@@ -138,7 +138,7 @@ module _ (n : ℕ) where
 
   is-variable : (s : Scope) (x : PShape) → constant_mark (declared_object s false x).thing ≡ None
   is-variable s (OPlain x) = plain-variable s (marking s x.mark.name) x
-  is-variable s (ORow index x) = row-variable s (marking s x.mark.name) index x
+  is-variable s (OArray index x) = row-variable s (marking s x.mark.name) index x
 
   -- ---- declarations
 

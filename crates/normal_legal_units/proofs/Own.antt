@@ -1,6 +1,7 @@
 -- Each name in a legal program is its own: one of its ids, whose text does not begin with DED_.
-use Rattle.std.proofs.Common.{◌≡◌, ℕ, ◌<◌, Bool, true, false, not, ◌&&◌, nat_eq, List, [], ◌++◌, length, drop, slice_get, get_or, unwrap_or, codes, Option, Some, None, refl, sym, ap, ◌∙◌}
+use Rattle.std.proofs.Common.{◌≡◌, ℕ, ◌<◌, Bool, true, false, not, ◌&&◌, ◌||◌, nat_eq, List, [], ◌++◌, length, drop, slice_get, get_or, unwrap_or, codes, Option, Some, None, refl, sym, ap, ◌∙◌}
 use Rattle.std.specs.Option.{IsSomeAnd}
+use Rattle.std.specs.Str.{bytes_eq}
 use Rattle.std.specs.List.{AllByRecursion, starts_with}
 use Rattle.std.proofs.lemmas.Bool.{lt-ltb, or_parts}
 use Rattle.std.proofs.lemmas.List.{take-append-drop}
@@ -51,7 +52,7 @@ first-plain p are k l =
     ∙ ap not (place-all IsPlain predefined k t.0 predefined-plain t.1)
 
 free-plain : (p : PProgram) (id : NameId) → is_reserved (text_of p.names id) ≡ false → not (is_added_name p.names id) ≡ true
-free-plain p id e = ap not (or_parts (starts_with nat_eq (text_of p.names id) (codes "DED_")) (has_mark (text_of p.names id)) e).0
+free-plain p id e = ap not (or_parts (starts_with nat_eq (text_of p.names id) (codes "DED_")) (has_mark (text_of p.names id) || bytes_eq (text_of p.names id) (codes "DED")) e).0
 
 -- the names are not added
 abbrev NotAdded : PProgram → Rules

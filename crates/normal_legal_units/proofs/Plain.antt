@@ -7,13 +7,13 @@ use Rattle.ada_tree.specs.declared.naming.Span.{Span}
 use Rattle.ada_tree.specs.declared.naming.Word.{Word}
 use Rattle.ada_tree.specs.TypeTable.{TypeTable}
 use Rattle.ada_tree.specs.PlainExpr.{PDrange, PSubind}
-use Rattle.ada_tree.specs.PlainDecl.{PShape, OPlain, ORow, PInit, PDecl, DNumber, DObject, DEnumeration, DArray, DSubtype, DException, DIntIo, DPragma, DTask, DTaskBody, PDecls, no_decl, decl_then}
+use Rattle.ada_tree.specs.PlainDecl.{PShape, OPlain, OArray, PInit, PDecl, DNumber, DObject, DEnumeration, DArray, DSubtype, DException, DIntIo, DPragma, DTask, DTaskBody, PDecls, no_decl, decl_then}
 use Rattle.ada_tree.specs.Every.{EveryWord, EveryInit, EveryDecls}
 use Rattle.ada_tree.specs.Scope.{Scope, Marking, ScalarMark, ArrayMark, TaskMark, NoMark, UnknownMark, UnclearMark, marking}
 use Rattle.ada_tree.specs.StaticValue.{value_named}
 use Rattle.ada_tree.specs.Demand.{Site}
 use Rattle.ada_tree.specs.Sites.{names_sites, shape_sites, init_sites, object_marking, is_task_object, if_there, own_object_sites, own_sites, decl_sites, decls_sites, body_sites}
-use Rattle.ada_tree.specs.Declaring.{inside, object_of as declared_thing, made_subind, made_array, drange_range, plain_object, row_object, declared_object, in_body, after_own_object, after_objects, after_decl}
+use Rattle.ada_tree.specs.Declaring.{inside, object_of as declared_thing, made_subind, made_array, drange_range, plain_object, array_object, declared_object, in_body, after_own_object, after_objects, after_decl}
 use Rattle.ada_value.specs.declared.values.Form.{Form}
 use Rattle.ada_value.specs.Values.{kind_of_value}
 use Rattle.ada_value.specs.Variables.{Object, Variables, value_there}
@@ -136,7 +136,7 @@ module _ (old : ℕ → Bool) (T U : TypeTable) (before after : List (List ℕ))
   no-task-plain s c UnknownMark x e = no-object c (made_subind s x).mark
   no-task-plain s c UnclearMark x e = no-object c (made_subind s x).mark
 
-  no-task-row : (s : Scope) (c : Bool) (m : Marking) (r : PDrange) (x : PSubind) → is_no_task m ≡ true → is_task_object (row_object s c m r x).thing ≡ false
+  no-task-row : (s : Scope) (c : Bool) (m : Marking) (r : PDrange) (x : PSubind) → is_no_task m ≡ true → is_task_object (array_object s c m r x).thing ≡ false
   no-task-row s c (TaskMark es) r x e = absurd (true≢false (sym e))
   no-task-row s c (ArrayMark m q p) r x e = no-object c (made_array None (made_subind s x).types (drange_range s r) (made_subind s x).mark).mark
   no-task-row s c (ScalarMark m k) r x e = no-object c (made_array None (made_subind s x).types (drange_range s r) (made_subind s x).mark).mark
@@ -146,7 +146,7 @@ module _ (old : ℕ → Bool) (T U : TypeTable) (before after : List (List ℕ))
 
   no-task : (s : Scope) (c : Bool) (x : PShape) → is_no_task (marking s (mark_of x)) ≡ true → is_task_object (declared_object s c x).thing ≡ false
   no-task s c (OPlain x) e = no-task-plain s c (marking s x.mark.name) x e
-  no-task s c (ORow r x) e = no-task-row s c (marking s x.mark.name) r x e
+  no-task s c (OArray r x) e = no-task-row s c (marking s x.mark.name) r x e
 
   no-flag : (b : Bool) → (b && false) ≡ false
   no-flag true = refl

@@ -7,10 +7,10 @@ use Rattle.std.proofs.lemmas.List.{append-nil}
 use Rattle.ada_tree.specs.declared.naming.NameId.{NameId}
 use Rattle.ada_tree.specs.declared.naming.Word.{Word}
 use Rattle.ada_tree.specs.PlainExpr.{PDrange, PSubind}
-use Rattle.ada_tree.specs.PlainDecl.{PShape, OPlain, ORow, PTask, PDecl, DNumber, DObject, DEnumeration, DArray, DSubtype, DException, DIntIo, DPragma, DTask, DTaskBody}
-use Rattle.ada_tree.specs.Scope.{Scope, Range, Seen, Thing, TypeMark, TaskType, SingleTask, TaskObject, TaskRow, Variable, ConstantObject, Parameter, LoopParameter, Literal, AnException, MainProcedure, AnotherUnit, Unclear, EntryPart, Marking, ScalarMark, ArrayMark, TaskMark, NoMark, UnknownMark, UnclearMark, marking, meaning}
+use Rattle.ada_tree.specs.PlainDecl.{PShape, OPlain, OArray, PTask, PDecl, DNumber, DObject, DEnumeration, DArray, DSubtype, DException, DIntIo, DPragma, DTask, DTaskBody}
+use Rattle.ada_tree.specs.Scope.{Scope, Range, Seen, Thing, TypeMark, TaskType, SingleTask, TaskObject, TaskArray, Variable, ConstantObject, Parameter, LoopParameter, Literal, AnException, MainProcedure, AnotherUnit, Unclear, EntryPart, Marking, ScalarMark, ArrayMark, TaskMark, NoMark, UnknownMark, UnclearMark, marking, meaning}
 use Rattle.ada_tree.specs.RuleDuplicate.{is_predefined, is_among}
-use Rattle.ada_tree.specs.Declaring.{seen_as, predefined_names, first_scope, with_name, with_names, declared_object, plain_object, row_object, object_of, task_object, task_row, type_of_mark, task_thing, entry_part, after_decl}
+use Rattle.ada_tree.specs.Declaring.{seen_as, predefined_names, first_scope, with_name, with_names, declared_object, plain_object, array_object, object_of, task_object, task_array, type_of_mark, task_thing, entry_part, after_decl}
 use Rattle.syn_event.specs.declared.meanings.Meant.{Meant}
 use Rattle.syn_event.specs.declared.meanings.Meant.TheVariants as meant
 use Rattle.syn_event.specs.CheckScope.{Unit as CheckUnit, CheckScope, meaning as check_meaning}
@@ -54,7 +54,7 @@ other-seen done units id (SingleTask es) h = absurd h
 other-seen done units id (TaskType es) h = absurd h
 other-seen done units id (TypeMark m) h = tt
 other-seen done units id (TaskObject es) h = tt
-other-seen done units id (TaskRow r es) h = tt
+other-seen done units id (TaskArray r es) h = tt
 other-seen done units id (Variable m) h = tt
 other-seen done units id (ConstantObject m) h = tt
 other-seen done units id (Parameter mode m) h = tt
@@ -95,7 +95,7 @@ task-object-other : (in_main : Bool) (es : List EntryPart) → IsNoUnit (task_ob
 task-object-other true es = tt
 task-object-other false es = tt
 
-task-row-other : (in_main : Bool) (o : Option Range) (es : List EntryPart) → IsNoUnit (task_row in_main o es)
+task-row-other : (in_main : Bool) (o : Option Range) (es : List EntryPart) → IsNoUnit (task_array in_main o es)
 task-row-other true (Some r) es = tt
 task-row-other true None es = tt
 task-row-other false (Some r) es = tt
@@ -109,7 +109,7 @@ plain-other s constant NoMark x = object-other constant _
 plain-other s constant UnknownMark x = object-other constant _
 plain-other s constant UnclearMark x = object-other constant _
 
-row-other : (s : Scope) (constant : Bool) (m : Marking) (index : PDrange) (x : PSubind) → IsNoUnit (row_object s constant m index x).thing
+row-other : (s : Scope) (constant : Bool) (m : Marking) (index : PDrange) (x : PSubind) → IsNoUnit (array_object s constant m index x).thing
 row-other s constant (TaskMark es) index x = task-row-other s.in_main _ es
 row-other s constant (ArrayMark m r p) index x = object-other constant _
 row-other s constant (ScalarMark m k) index x = object-other constant _
@@ -119,7 +119,7 @@ row-other s constant UnclearMark index x = object-other constant _
 
 declared-other : (s : Scope) (constant : Bool) (x : PShape) → IsNoUnit (declared_object s constant x).thing
 declared-other s constant (OPlain x) = plain-other s constant (marking s x.mark.name) x
-declared-other s constant (ORow index x) = row-other s constant (marking s x.mark.name) index x
+declared-other s constant (OArray index x) = row-other s constant (marking s x.mark.name) index x
 
 type-other : (o : Option ℕ) → IsNoUnit (type_of_mark o)
 type-other (Some m) = tt
@@ -180,7 +180,7 @@ task-seen done units t s u h = record {
     later-thing id (TaskType es) f x = later id es f x
     later-thing id (TypeMark m) f x = tt
     later-thing id (TaskObject es) f x = tt
-    later-thing id (TaskRow r es) f x = tt
+    later-thing id (TaskArray r es) f x = tt
     later-thing id (Variable m) f x = tt
     later-thing id (ConstantObject m) f x = tt
     later-thing id (Parameter mode m) f x = tt
@@ -217,7 +217,7 @@ object-units None mark shared ws c = value-units shared ws c
 
 after-object-units : (ws : List Word) (constant : Bool) (x : PShape) (c : CheckScope) → (check_after_object c ws constant x).units ≡ c.units
 after-object-units ws constant (OPlain x) c = object-units (check_meaning c x.mark.name) x.mark _ ws c
-after-object-units ws constant (ORow r x) c = object-units (check_meaning c x.mark.name) x.mark true ws c
+after-object-units ws constant (OArray r x) c = object-units (check_meaning c x.mark.name) x.mark true ws c
 
 -- the tasks that a declaration declares
 abbrev pub tasks_of_decl : PDecl → List PTask

@@ -13,7 +13,7 @@ use Rattle.ada_tree.specs.declared.static_types.Kind.TheVariants.{Integer, Truth
 use Rattle.ada_tree.specs.declared.static_types.Mark.{Mark}
 use Rattle.ada_tree.specs.TypeTable.{TypeTable}
 use Rattle.ada_tree.specs.PlainExpr.{PBounds, PSubind, PDrange}
-use Rattle.ada_tree.specs.PlainDecl.{PShape, OPlain, ORow, PInit, PDecl, DNumber, DObject, DEnumeration, DArray, DSubtype, DException, DIntIo, DPragma, DTask, DTaskBody, PDecls, no_decl, decl_then}
+use Rattle.ada_tree.specs.PlainDecl.{PShape, OPlain, OArray, PInit, PDecl, DNumber, DObject, DEnumeration, DArray, DSubtype, DException, DIntIo, DPragma, DTask, DTaskBody, PDecls, no_decl, decl_then}
 use Rattle.ada_tree.specs.PlainProgram.{PProgram}
 use Rattle.ada_tree.specs.Every.{EveryWord, EveryDecl, EveryDecls}
 use Rattle.ada_tree.specs.Lexical.{IsIdentifier}
@@ -23,7 +23,7 @@ use Rattle.ada_tree.specs.Scope.{Scope, Range, Thing, TypeMark, Literal, AnExcep
 use Rattle.ada_tree.specs.Sites.{names_sites, shape_sites, init_sites, object_marking, is_task_object, if_there, decl_sites, decls_sites, body_sites}
 use Rattle.ada_tree.specs.ExprTypes.{static_in, static_range}
 use Rattle.ada_tree.specs.RuleDuplicate.{is_predefined, is_among}
-use Rattle.ada_tree.specs.Declaring.{predefined_types, first_scope, inside, with_types, with_name, with_names, add_kind, made, made_range, subind_made, made_subind, drange_range, made_array, renamed, declared_object, plain_object, row_object, add_constants, with_constants, constant_mark, constant_value, after_decl, after_decls}
+use Rattle.ada_tree.specs.Declaring.{predefined_types, first_scope, inside, with_types, with_name, with_names, add_kind, made, made_range, subind_made, made_subind, drange_range, made_array, renamed, declared_object, plain_object, array_object, add_constants, with_constants, constant_mark, constant_value, after_decl, after_decls}
 use Rattle.ada_value.specs.Values.{word}
 use Rattle.rewritten_types.specs.Agreement.{scalar_only, Keeps}
 use Rattle.rewritten_types.proofs.Lookups.{earlier-or-last, place-last, some-same}
@@ -197,7 +197,7 @@ plain-kinds s c NoMark x = omega (arith, count (subind-kinds s (marking s x.mark
 plain-kinds s c UnknownMark x = omega (arith, count (subind-kinds s (marking s x.mark.name) x.bounds))
 plain-kinds s c UnclearMark x = omega (arith, count (subind-kinds s (marking s x.mark.name) x.bounds))
 
-row-object-kinds : (s : Scope) (c : Bool) (m : Marking) (index : PDrange) (x : PSubind) → length (row_object s c m index x).types.kinds ≤ length s.types.kinds + 1
+row-object-kinds : (s : Scope) (c : Bool) (m : Marking) (index : PDrange) (x : PSubind) → length (array_object s c m index x).types.kinds ≤ length s.types.kinds + 1
 row-object-kinds s c (TaskMark es) index x = omega arith
 row-object-kinds s c (ArrayMark m r p) index x = row-kinds s index x
 row-object-kinds s c (ScalarMark m k) index x = row-kinds s index x
@@ -207,7 +207,7 @@ row-object-kinds s c UnclearMark index x = row-kinds s index x
 
 declared-kinds : (s : Scope) (c : Bool) (x : PShape) → length (declared_object s c x).types.kinds ≤ length s.types.kinds + 1
 declared-kinds s c (OPlain x) = plain-kinds s c (marking s x.mark.name) x
-declared-kinds s c (ORow index x) = row-object-kinds s c (marking s x.mark.name) index x
+declared-kinds s c (OArray index x) = row-object-kinds s c (marking s x.mark.name) index x
 
 object-kinds : (s : Scope) (ws : List Word) (c : Bool) (x : PShape) (i : Option PInit) → length (with_constants s ws i (declared_object s c x)).kinds ≤ length s.types.kinds + 1
 object-kinds s ws c x i = by_main s.in_main

@@ -1,8 +1,9 @@
 -- The names that tasks get in the normal form tell the tasks: the text of a member's name is that of its array, a mark, and its index, in which no underscore stands.
-use Rattle.std.proofs.Common.{◌≡◌, ℕ, zero, suc, ◌+◌, ◌/◌, ◌%◌, ◌<◌, ◌≤◌, ◌^◌, ℤ, pos, negsuc, Bool, true, false, ◌==◌, nat_eq, if◌then◌else◌, List, [], ◌∷◌, ◌++◌, length, codes, decimal, Option, Some, None, refl, sym, ap, subst, ◌∙◌, true≢false, append_assoc, length-append, arith}
+use Rattle.std.proofs.Common.{◌≡◌, ℕ, zero, suc, ◌+◌, ◌/◌, ◌%◌, ◌<◌, ◌≤◌, ◌^◌, ℤ, pos, negsuc, Bool, true, false, ◌||◌, ◌==◌, nat_eq, if◌then◌else◌, List, [], ◌∷◌, ◌++◌, length, codes, decimal, Option, Some, None, refl, sym, ap, subst, ◌∙◌, true≢false, append_assoc, length-append, arith}
 use Rattle.std.specs.Fmt.{digits, digits_onto, digit_glyph}
 use Rattle.std.specs.List.{AllByRecursion, starts_with}
-use Rattle.std.proofs.lemmas.Bool.{ne_eqb, lt-ltb, or_right}
+use Rattle.std.specs.Str.{bytes_eq}
+use Rattle.std.proofs.lemmas.Bool.{ne_eqb, lt-ltb, or_left, or_right}
 use Rattle.std.proofs.lemmas.Fmt.{decimal_injective}
 use Rattle.syn_event.specs.RuleReservedName.{has_mark, is_reserved}
 use Rattle.normal_model.specs.Names.{index_text, member_text}
@@ -84,7 +85,8 @@ mark-there (x ∷ a) rest = or_right (starts_with nat_eq (x ∷ (a ++ (codes "_D
 
 pub member-reserved : (a : List ℕ) (i : ℤ) → is_reserved (member_text a i) ≡ true
 member-reserved a i =
-    or_right (starts_with nat_eq (member_text a i) (codes "DED_")) (has_mark (member_text a i)) (ap has_mark (append_assoc a (codes "_DED_") (index_text i)) ∙ mark-there a (index_text i))
+    or_right (starts_with nat_eq (member_text a i) (codes "DED_")) (has_mark (member_text a i) || bytes_eq (member_text a i) (codes "DED"))
+    (or_left (has_mark (member_text a i)) (bytes_eq (member_text a i) (codes "DED")) (ap has_mark (append_assoc a (codes "_DED_") (index_text i)) ∙ mark-there a (index_text i)))
 
 -- ---- indices
 

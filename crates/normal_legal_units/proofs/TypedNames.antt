@@ -7,7 +7,7 @@ use Rattle.ada_tree.specs.declared.static_types.Kind.TheVariants.{Integer, Truth
 use Rattle.ada_tree.specs.declared.static_types.Mark.{Mark}
 use Rattle.ada_tree.specs.TypeTable.{TypeTable}
 use Rattle.ada_tree.specs.PlainExpr.{PSubind}
-use Rattle.ada_tree.specs.PlainDecl.{OPlain, ORow, DNumber, DObject, DEnumeration, DArray, DSubtype, DException, DIntIo, DPragma, DTask, DTaskBody, PDecls, no_decl, decl_then}
+use Rattle.ada_tree.specs.PlainDecl.{OPlain, OArray, DNumber, DObject, DEnumeration, DArray, DSubtype, DException, DIntIo, DPragma, DTask, DTaskBody, PDecls, no_decl, decl_then}
 use Rattle.ada_tree.specs.PlainProgram.{PProgram}
 use Rattle.ada_tree.specs.Scope.{Scope, Thing, Marking, ScalarMark, marking_of, marking, meaning, kind_at}
 use Rattle.ada_tree.specs.RuleMismatch.{is_allowed}
@@ -62,7 +62,7 @@ module _ (T : TypeTable) (s : Scope) (stands : Stands T s) where
 pub stand-still : (T : TypeTable) (ds : PDecls) (s : Scope) → AllStand T s ds → AreScalarStill T s ds
 stand-still T no_decl s h = tt
 stand-still T (decl_then (DObject ws true (OPlain x) i sp) rest) s h = ((λ m k. scalar-still T s h.0 x m k), stand-still T rest _ h.2)
-stand-still T (decl_then (DObject ws true (ORow r x) i sp) rest) s h = (tt, stand-still T rest _ h.2)
+stand-still T (decl_then (DObject ws true (OArray r x) i sp) rest) s h = (tt, stand-still T rest _ h.2)
 stand-still T (decl_then (DObject ws false x i sp) rest) s h = (tt, stand-still T rest _ h.2)
 stand-still T (decl_then (DNumber w e sp) rest) s h = (tt, stand-still T rest _ h.2)
 stand-still T (decl_then (DEnumeration w ws sp) rest) s h = (tt, stand-still T rest _ h.2)

@@ -8,7 +8,7 @@ use Rattle.ada_tree.specs.PlainStmt.{PTarget, PArgs, PCall, PPart, PWords, PValu
 use Rattle.ada_tree.specs.Every.{Rules, EveryExpr, EveryExprs, EveryBounds, EveryTarget, EveryArgs, EveryCall, EveryPart, EveryChoice}
 use Rattle.translation_law.specs.Translations.{Programs, IsOld}
 use Rattle.translation_law.specs.OldNames.{OldExpr, old_integer, old_name, old_index, old_attribute, old_attribute_of, old_paren, old_unary, old_binary, OldOption, old_none, old_some, OldBounds, old_unbounded, old_bounded, OldTarget, OldParts, old_no_part, old_words, old_value, OldChoices, old_no_choice, old_choice}
-use Rattle.translation_law.specs.OldTexts.{OldExprs, old_no_expr, old_expr, OldRow, old_no_row, old_row, OldArgs, old_no_args, old_args, OldCall}
+use Rattle.translation_law.specs.OldTexts.{OldExprs, old_no_expr, old_expr, OldList, old_no_list, old_list, OldArgs, old_no_args, old_args, OldCall}
 
 module _ (b : Programs) (r : Rules) (told : (id : NameId) → r.name id → IsOld b id) where
   pub expr-old : (e : PExpr) (k : ℕ) → EveryExpr r k e → OldExpr b e
@@ -39,9 +39,9 @@ module _ (b : Programs) (r : Rules) (told : (id : NameId) → r.name id → IsOl
   list-old : (es : List PExpr) (k : ℕ) → EveryExprs r k es → OldExprs b es
   list-old es k h = exprs-old es k (recursion_from_All (EveryExpr r k) es h.1)
 
-  row-old : (o : Option (List PExpr)) (k : ℕ) → IfSome o (EveryExprs r k) → OldRow b o
-  row-old None k h = old_no_row
-  row-old (Some es) k h = old_row es (list-old es k h)
+  row-old : (o : Option (List PExpr)) (k : ℕ) → IfSome o (EveryExprs r k) → OldList b o
+  row-old None k h = old_no_list
+  row-old (Some es) k h = old_list es (list-old es k h)
 
   args-old : (o : Option PArgs) (k : ℕ) → IfSome o (EveryArgs r k) → OldArgs b o
   args-old None k h = old_no_args

@@ -1,5 +1,5 @@
 -- What is found in lists that are kept by names.
-use Rattle.std.proofs.Common.{◌≡◌, ◌==◌, ◌<◌, ◌+◌, ℕ, suc, Bool, true, false, ◌||◌, List, [], ◌∷◌, ◌++◌, map, take, drop, find, position, get_or, length, Option, Some, None, option_map, is_some, unwrap_or, if◌then◌else◌, refl, sym, ap, ◌∙◌}
+use Rattle.std.proofs.Common.{◌≡◌, ◌==◌, ◌<◌, ◌+◌, ℕ, Bool, true, false, List, [], ◌∷◌, map, drop, find, get_or, length, Option, Some, None, option_map, unwrap_or, if◌then◌else◌, refl, sym, ap, ◌∙◌}
 use Rattle.std.specs.Borrow.{Bor}
 use Rattle.std.proofs.lemmas.List.{drop_more}
 use Rattle.ada_tree.specs.declared.naming.NameId.{NameId}
@@ -9,12 +9,12 @@ use Rattle.ada_tree.specs.TypeTable.{TypeTable}
 use Rattle.ada_tree.specs.Scope.{and_then}
 use Rattle.ada_tree.specs.PlainExpr.{PDrange, plain_drange}
 use Rattle.ada_tree.specs.PlainProgram.{PProgram}
-use Rattle.syn_event.specs.TaskParts.{TaskPart, parts_of}
-use Rattle.ada_task_objects.specs.declared.task_parts.TaskPart as kept
-use Rattle.ada_task_objects.specs.PlainParts.{plain_part}
+use Rattle.syn_event.specs.NamedTasks.{NamedTasks, task_names_of}
+use Rattle.ada_task_objects.specs.declared.task_names.NamedTasks as kept
+use Rattle.ada_task_objects.specs.PlainNames.{plain_named_tasks}
 use Rattle.scoped_names.specs.Meaning.{meaning_in}
 use Rattle.normal_model.specs.Ranges.{array_range, kind_name}
-use Rattle.normal_lookups.specs.inner.Kept.{kinds_named, rows_named, seen_row}
+use Rattle.normal_lookups.specs.inner.Kept.{kinds_named, ranges_named, seen_range}
 
 -- an element of what is made of a list is made of what is found in the list
 pub find_made : {X Y : Type 0} (p : Y → Bool) (f : X → Y) (xs : List X) → find p (map f xs) ≡ option_map f (find (λ x. p (f x)) xs)
@@ -46,7 +46,7 @@ meaning_made {X} {Y} {Z} see name what kept ys k same =
     second None = refl
     second (Some y) = refl
 
--- ---- kinds and rows
+-- ---- kinds and ranges
 
 -- what an option of an option has
 abbrev pub joined : {X : Type 0} → Option (Option X) → Option X
@@ -72,27 +72,27 @@ kind_is types names k o found same =
     by (Some m) = refl
 
 -- the range of an array of tasks
-pub row_is : (p : PProgram) (rows : List (ℕ × Option (Bor Drange))) (name : NameId) (o : Option (Option (Bor Drange))) → meaning_in rows name.0 ≡ o → map seen_row rows ≡ rows_named p → option_map (λ r. plain_drange r.now) (joined o) ≡ array_range p name
-row_is p rows name o found same =
+pub range_is : (p : PProgram) (ranges : List (ℕ × Option (Bor Drange))) (name : NameId) (o : Option (Option (Bor Drange))) → meaning_in ranges name.0 ≡ o → map seen_range ranges ≡ ranges_named p → option_map (λ r. plain_drange r.now) (joined o) ≡ array_range p name
+range_is p ranges name o found same =
     inside o
-    ∙ ap joined (ap (option_map (option_map (λ r. plain_drange r.now))) (sym found) ∙ meaning_made (option_map (λ r. plain_drange r.now)) (λ x. x.name.name.0) (λ x. x.row) rows (parts_of p) name.0 same)
-    ∙ by (find (λ x. x.name.name.0 == name.0) (parts_of p))
+    ∙ ap joined (ap (option_map (option_map (λ r. plain_drange r.now))) (sym found) ∙ meaning_made (option_map (λ r. plain_drange r.now)) (λ x. x.name.name.0) (λ x. x.index_range) ranges (task_names_of p) name.0 same)
+    ∙ by (find (λ x. x.name.name.0 == name.0) (task_names_of p))
   where
     inside : (x : Option (Option (Bor Drange))) → option_map (λ r. plain_drange r.now) (joined x) ≡ joined (option_map (option_map (λ r. plain_drange r.now)) x)
     inside None = refl
     inside (Some y) = refl
 
-    by : (x : Option TaskPart) → joined (option_map (λ y. y.row) x) ≡ and_then (λ y. y.row) x
+    by : (x : Option NamedTasks) → joined (option_map (λ y. y.index_range) x) ≡ and_then (λ y. y.index_range) x
     by None = refl
     by (Some y) = refl
 
 -- ranges by their names, as they are kept
-abbrev pub row_of_part : kept.TaskPart → ℕ × Option (Bor Drange)
-row_of_part x = (x.name.name.0, x.row)
+abbrev pub range_of_kept : kept.NamedTasks → ℕ × Option (Bor Drange)
+range_of_kept x = (x.name.name.0, x.index_range)
 
-abbrev pub row_of_task : TaskPart → ℕ × Option PDrange
-row_of_task x = (x.name.name.0, x.row)
+abbrev pub range_of_named : NamedTasks → ℕ × Option PDrange
+range_of_named x = (x.name.name.0, x.index_range)
 
-pub rows_seen : (parts : List kept.TaskPart) → map seen_row (map row_of_part parts) ≡ map row_of_task (map plain_part parts)
-rows_seen [] = refl
-rows_seen (x ∷ parts) = ap (λ l. seen_row (row_of_part x) ∷ l) (rows_seen parts)
+pub ranges_seen : (parts : List kept.NamedTasks) → map seen_range (map range_of_kept parts) ≡ map range_of_named (map plain_named_tasks parts)
+ranges_seen [] = refl
+ranges_seen (x ∷ parts) = ap (λ l. seen_range (range_of_kept x) ∷ l) (ranges_seen parts)

@@ -1,26 +1,21 @@
 -- What is kept for the formals of entries, and how it is found.
-use Rattle.std.proofs.Common.{◌≡◌, ◌==◌, ◌<◌, ◌+◌, ℕ, List, [], ◌∷◌, ◌++◌, map, take, drop, find, get_or, length, Option, Some, None, option_map, refl, sym, ap, ◌∙◌}
+use Rattle.std.proofs.Common.{◌≡◌, ◌<◌, ◌+◌, ℕ, List, [], ◌∷◌, ◌++◌, map, take, get_or, length, Option, Some, None, option_map, refl, sym, ap, ◌∙◌}
 use Rattle.std.specs.Borrow.{Bor}
-use Rattle.std.proofs.lemmas.List.{take_more, drop_more, map-append, append-nil, append_assoc}
+use Rattle.std.proofs.lemmas.List.{take_more, map-append, append-nil, append_assoc}
 use Rattle.std.proofs.lemmas.Grind.{flat_map-append}
 use Rattle.ada_tree.specs.declared.naming.NameId.{NameId}
 use Rattle.ada_tree.specs.declared.naming.Word.{Word}
-use Rattle.ada_tree.specs.declared.declarations.Decl.{Decl}
 use Rattle.ada_tree.specs.declared.statements.Formal.{Formal}
-use Rattle.ada_tree.specs.declared.statements.ParMode.{ParMode}
 use Rattle.ada_tree.specs.PlainStmt.{PFormal, plain_formal}
-use Rattle.ada_tree.specs.PlainDecl.{PEntry, PTask, PDecl, DNumber, DObject, DEnumeration, DArray, DSubtype, DException, DIntIo, DPragma, DTask, DTaskBody, decls_of, plain_decl}
+use Rattle.ada_tree.specs.PlainDecl.{PTask, PDecl, decls_of}
 use Rattle.ada_tree.specs.PlainProgram.{PProgram}
-use Rattle.syn_event.specs.declared.numbering.TaskInfo.{TaskInfo}
-use Rattle.syn_event.specs.declared.numbering.EntryInfo.{EntryInfo}
-use Rattle.syn_event.specs.Numbering.{Numbering, task_at, entry_at}
 use Rattle.syn_event.specs.Units.{decl_list, tasks_in, tasks_of}
 use Rattle.scoped_names.specs.Meaning.{meaning_in}
 use Rattle.task_model.specs.Setting.{unit_named}
 use Rattle.normal_model.specs.Calls.{Slot, slots_of}
 use Rattle.normal_lookups.specs.declared.forms.EntryForm.{EntryForm}
-use Rattle.normal_lookups.specs.inner.Forms.{Form, form_in, form_of}
-use Rattle.normal_lookups.specs.inner.Kept.{entry_named, seen_entry, seen_form, seen_unit, unit_forms, units_named}
+use Rattle.normal_lookups.specs.inner.Forms.{form_in, form_of}
+use Rattle.normal_lookups.specs.inner.Kept.{entry_named, seen_entry, seen_form, seen_unit, units_named}
 use Rattle.normal_lookups.proofs.Finding.{meaning_made}
 
 -- ---- slots
@@ -59,8 +54,8 @@ row_list : (ds : List PDecl) → decl_list (decls_of ds) ≡ ds
 row_list [] = refl
 row_list (d ∷ ds) = ap (λ l. d ∷ l) (row_list ds)
 
-pub tasks_of_row : (ds : List PDecl) → tasks_in (decl_list (decls_of ds)) ≡ tasks_in ds
-tasks_of_row ds = ap tasks_in (row_list ds)
+pub tasks_of_list : (ds : List PDecl) → tasks_in (decl_list (decls_of ds)) ≡ tasks_in ds
+tasks_of_list ds = ap tasks_in (row_list ds)
 
 -- what is kept for a unit is what its task or task type declares
 unit_is : (kept : List (ℕ × List (ℕ × EntryForm))) (p : PProgram) (unit : NameId) (u : Option (List (ℕ × EntryForm))) → meaning_in kept unit.0 ≡ u → map seen_unit kept ≡ units_named (tasks_of p) →

@@ -5,7 +5,7 @@ mod forms;
 mod kinds;
 mod lookups;
 mod no_variables;
-mod rows;
+mod ranges;
 mod static_names;
 
 pub use lookups::Lookups;

@@ -16,7 +16,7 @@ ghost use Rattle.normal_model.specs.Calls.{entry_called, slots_of};
 use crate::forms::{EntryForm, form_at, forms_of};
 use crate::kinds::{kind_name, kind_names};
 use crate::no_variables::NoVariables;
-use crate::rows::{array_range, rows_of};
+use crate::ranges::{array_range, ranges_of};
 use crate::static_names::{is_static, static_names};
 use ada_expr_copy::ExprCopy;
 use ada_tree::{
@@ -34,7 +34,7 @@ pub struct Lookups<'p> {
     links: &'p Links<'p>,
     known: ScopedNames<bool>,
     kinds: ScopedNames<Option<NameId>>,
-    rows: ScopedNames<Option<&'p Drange>>,
+    ranges: ScopedNames<Option<&'p Drange>>,
     forms: ScopedNames<ScopedNames<EntryForm<'p>>>,
 }
 
@@ -51,7 +51,7 @@ impl<'p> Model for Lookups<'p> {
 
     ghost view = { λ a. a.links.now };
 
-    ghost invariant = { λ a. KeepsAll a.links.now a.known a.kinds a.rows a.forms };
+    ghost invariant = { λ a. KeepsAll a.links.now a.known a.kinds a.ranges a.forms };
 }
 
 // The subtype with these bounds.
@@ -104,13 +104,13 @@ impl<'p> Lookups<'p> {
     {
         let known = static_names(alloc, links.types().types())?;
         let kinds = kind_names(alloc, links.types().types())?;
-        let rows = rows_of(alloc, links.program())?;
+        let ranges = ranges_of(alloc, links.program())?;
         let forms = forms_of(alloc, &links.program().decls)?;
         Ok(Lookups {
             links,
             known,
             kinds,
-            rows,
+            ranges,
             forms,
         })
     }
@@ -147,7 +147,7 @@ impl<'p> Lookups<'p> {
     pub fn array_range(&self, name: NameId) -> Option<&'p Drange>
         ensures { option_map (λ r. plain_drange r.now) result ≡ array_range self.now.program name }
     {
-        array_range(&self.rows, name)
+        array_range(&self.ranges, name)
     }
 
     /// The range of a family, by the entry's number, as its task or its task's type declares it (9.5).

@@ -1,8 +1,7 @@
 -- Members that are kept, one after the other.
-use Rattle.std.proofs.Common.{◌≡◌, ◌==◌, ◌<◌, ◌+◌, ◌&&◌, ℕ, nat_eq, Bool, true, false, cond, List, [], ◌∷◌, ◌++◌, Vec, map, take, length, get_or, Option, Some, None, option_map, is_some, unwrap_or, if◌then◌else◌, Result, Ok, Err, OnOk, true≢false, refl, sym, ap, ◌∙◌, arith}
+use Rattle.std.proofs.Common.{◌≡◌, ◌==◌, ◌<◌, ◌+◌, ◌&&◌, ℕ, nat_eq, Bool, true, false, cond, List, [], ◌∷◌, ◌++◌, Vec, map, take, length, get_or, Some, None, option_map, is_some, unwrap_or, if◌then◌else◌, Result, Ok, Err, OnOk, true≢false, refl, sym, ap, ◌∙◌, arith}
 use Rattle.std.specs.declared.alloc.Global.{Global}
 use Rattle.std.specs.HashMap.{HashMap, get}
-use Rattle.std.specs.List.{filter}
 use Rattle.std.proofs.lemmas.Bool.Decides.{nat_tests}
 use Rattle.std.proofs.lemmas.List.{take_more, map-append, append-nil}
 use Rattle.ada_tree.specs.declared.naming.NameId.{NameId}

@@ -5,12 +5,12 @@ use Rattle.ada_tree.specs.declared.naming.NameId.{NameId}
 use Rattle.ada_tree.specs.declared.naming.Word.{Word}
 use Rattle.ada_tree.specs.TypeTable.{TypeTable}
 use Rattle.ada_tree.specs.PlainStmt.{PBody}
-use Rattle.ada_tree.specs.PlainDecl.{PShape, OPlain, ORow, PTask, PDecl, DObject, DTask, DTaskBody, PDecls, no_decl, decl_then, decls_of}
+use Rattle.ada_tree.specs.PlainDecl.{PShape, OPlain, OArray, PTask, PDecl, DObject, DTask, DTaskBody, PDecls, no_decl, decl_then, decls_of}
 use Rattle.ada_tree.specs.PlainProgram.{PProgram}
 use Rattle.syn_event.specs.declared.numbering.TaskInfo.{TaskInfo}
 use Rattle.syn_event.specs.Numbering.{Numbering}
 use Rattle.syn_event.specs.Units.{decl_list}
-use Rattle.syn_event.specs.TaskParts.{type_named, with_type}
+use Rattle.syn_event.specs.NamedTasks.{type_named, with_type}
 use Rattle.task_model.specs.Setting.{Setting}
 use Rattle.normal_model.specs.Names.{normal_names, task_name}
 use Rattle.normal_model.specs.Ranges.{word_at}
@@ -27,7 +27,7 @@ decls_front (decl_then d more) rest = decl_then d (decls_front more rest)
 -- the mark of an object's shape, or of its components
 abbrev pub mark_of : PShape → NameId
 mark_of (OPlain x) = x.mark.name
-mark_of (ORow range x) = x.mark.name
+mark_of (OArray range x) = x.mark.name
 
 -- a declaration in front, unless it is left out
 abbrev pub unless_left : Bool → PDecl → PDecls → PDecls

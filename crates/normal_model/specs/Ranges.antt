@@ -11,7 +11,7 @@ use Rattle.ada_tree.specs.PlainProgram.{PProgram}
 use Rattle.syn_event.specs.declared.numbering.TaskInfo.{TaskInfo}
 use Rattle.syn_event.specs.declared.numbering.EntryInfo.{EntryInfo}
 use Rattle.syn_event.specs.Numbering.{task_at, entry_at}
-use Rattle.syn_event.specs.TaskParts.{parts_of}
+use Rattle.syn_event.specs.NamedTasks.{task_names_of}
 use Rattle.ada_value.specs.Evaluating.{range_of}
 use Rattle.task_model.specs.Setting.{Setting, unit_named}
 use Rattle.task_model.specs.Starting.{known_range}
@@ -55,7 +55,7 @@ subtype_of_range types s (Some r) = range_subtype types s r
 
 -- The range of an array of tasks, as it is declared (9.1, 3.6).
 abbrev pub array_range : PProgram → NameId → Option PDrange
-array_range p name = and_then (λ x. x.row) (find (λ x. x.name.name.0 == name.0) (parts_of p))
+array_range p name = and_then (λ x. x.index_range) (find (λ x. x.name.name.0 == name.0) (task_names_of p))
 
 -- ---- families
 

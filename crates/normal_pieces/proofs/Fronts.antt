@@ -1,5 +1,5 @@
 -- Rows of statements one in front of the other, and the rows of lists.
-use Rattle.std.proofs.Common.{◌≡◌, ◌==◌, Bool, false, length, List, [], ◌∷◌, ◌++◌, Result, Ok, Err, OnOk, refl, sym, ap, ◌∙◌}
+use Rattle.std.proofs.Common.{◌≡◌, ◌==◌, Bool, false, length, List, [], ◌∷◌, ◌++◌, Result, Ok, Err, OnOk, refl, ap, ◌∙◌}
 use Rattle.ada_tree.specs.declared.naming.Span.{Span}
 use Rattle.ada_tree.specs.declared.statements.Stmt.{Stmt}
 use Rattle.ada_tree.specs.PlainStmt.{PStmts, no_stmt, stmt_then, plain_stmt, seen}

@@ -1,5 +1,5 @@
 -- The entries and the bodies of the example are as the law asks, whichever names count as old, as long as its own do.
-use Rattle.std.proofs.Common.{◌≡◌, ℕ, zero, suc, Bool, ◌-◌, pos, true, false, if◌then◌else◌, [], ◌∷◌, Some, None, Ok, refl, sym, ap, subst, ◌∙◌, arith, slice_get, true≢false}
+use Rattle.std.proofs.Common.{◌≡◌, ℕ, zero, suc, Bool, ◌-◌, pos, true, if◌then◌else◌, [], ◌∷◌, Some, None, Ok, refl, sym, ap, subst, ◌∙◌, arith, slice_get, true≢false}
 use Rattle.std.specs.Fmt.{digits}
 use Rattle.std.proofs.lemmas.Bool.{ne_eqb}
 use Rattle.ada_tree.specs.declared.naming.Span.{Span}
@@ -13,7 +13,7 @@ use Rattle.normal_model.specs.Calls.{entry_called}
 use Rattle.ada_tree.specs.PlainStmt.{no_stmt, no_handler, no_alt}
 use Rattle.translation_law.specs.Translations.{Programs, types_before, types_after}
 use Rattle.translation_law.specs.OldNames.{OldExpr, old_integer, old_name, old_none, old_some}
-use Rattle.translation_law.specs.OldTexts.{OldBody, old_body, old_stmt, old_no_stmt, old_assign, old_call, old_wait, old_absent, old_present, old_no_alt, old_alt, old_accepts, old_terminates, old_no_handler, OldFormals, old_formal, old_no_formal, old_word, old_no_word, old_args, old_expr, old_no_expr, old_row}
+use Rattle.translation_law.specs.OldTexts.{OldBody, old_body, old_stmt, old_no_stmt, old_assign, old_call, old_wait, old_absent, old_present, old_no_alt, old_alt, old_accepts, old_terminates, old_no_handler, OldFormals, old_formal, old_no_formal, old_word, old_no_word, old_args, old_expr, old_no_expr, old_list}
 use Rattle.normal_law.specs.Suited.{SameRange, declared_limits, AreMarked, none_marked, marked_then, IsMeant, is_named, is_member, IsCallee, family_lists, both_ways, none_copied, copied_then, AreTwins, IsCall, IsHead, asked_of}
 use Rattle.normal_model.specs.NormalNumbers.{normal_numbers}
 use Rattle.normal_runs_law.specs.Example.{word, formal, v, yes, the_call, head, main_body, task_body, numbers, after, setting, rewrite}
@@ -102,7 +102,7 @@ module _ (is_old is_known : ℕ → Bool) (old0 : is_old 0 ≡ true) (old5 : is_
   pub main-old : OldBody (asked_of (record { programs = b; first = 0; number = 0; vars = [] })) main_body
   main-old =
       old_body _ no_handler
-      (old_stmt _ no_stmt (old_call the_call _ (record { member = old_none; args = old_args _ (old_expr yes [] yes-old old_no_expr) (old_row (v ∷ []) (old_expr v [] v-old old_no_expr)) }) call) old_no_stmt) old_no_handler
+      (old_stmt _ no_stmt (old_call the_call _ (record { member = old_none; args = old_args _ (old_expr yes [] yes-old old_no_expr) (old_list (v ∷ []) (old_expr v [] v-old old_no_expr)) }) call) old_no_stmt) old_no_handler
 
   head-fits : IsHead b 1 1 head
   head-fits = record { family = λ e f. refl; range = refl; known = λ f. (pos 1, refl) }

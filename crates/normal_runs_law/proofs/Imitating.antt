@@ -45,7 +45,7 @@ use Rattle.translation_law.specs.Controls.{task_in, Under, on_floor, Alike, alik
 use Rattle.translation_law.specs.Floors.{IsTranslation}
 use Rattle.translation_law.proofs.Locals.{raises-alike}
 use Rattle.normal_law.specs.Suited.{Rewritten}
-use Rattle.normal_law.specs.NormalRows.{normal_rows}
+use Rattle.normal_law.specs.NormalLists.{normal_lists}
 use Rattle.normal_law.specs.NormalFloors.{AreOpen, accept_body, floor_at, normal}
 use Rattle.normal_law.specs.Meetings.{IsOpened, is_opened, EndAlike}
 use Rattle.normal_law.specs.Preludes.{Reaches, reaches_here, reaches_by, Added}
@@ -85,17 +85,17 @@ record OpenedFrame (b : Programs) (σ : Task) : Type 0 where
   own : AreOpen b formals objects
 
 module _ (w : Rewritten) (added : Added w.programs w.programs.original) where
-  floor-frame : (k : ℕ) (n : ℕ) (i : List ℤ) (out : List ℕ) (r : PStmts) (p p' : Around) (o o' : List Part) (V W : Variables) → IsOpened p → floor_at (normal_rows w) added k p o V p' o' W →
+  floor-frame : (k : ℕ) (n : ℕ) (i : List ℤ) (out : List ℕ) (r : PStmts) (p p' : Around) (o o' : List Part) (V W : Variables) → IsOpened p → floor_at (normal_lists w) added k p o V p' o' W →
       OpenedFrame w.programs (task_in w.programs.original n i out (control r p o V))
   floor-frame zero n i out r p p' o o' V1 W1 (is_opened c f e) (accept_body q q' a a' V W caller formals pending r1 r2 bs own im below) = absurd below
   floor-frame (suc k) n i out r p p' o o' V1 W1 (is_opened c f e) (accept_body q q' a a' V W caller formals pending r1 r2 bs own im below) =
       record { caller = caller; formals = formals; pending = pending; objects = bs; vars = V; place = refl; named = refl; own = own }
 
-  under-frame : (n : ℕ) (i : List ℤ) (out : List ℕ) (r : PStmts) {p p' : Around} {o o' : List Part} {V W : Variables} → IsOpened p → Under (normal (normal_rows w) added) p o V p' o' W →
+  under-frame : (n : ℕ) (i : List ℤ) (out : List ℕ) (r : PStmts) {p p' : Around} {o o' : List Part} {V W : Variables} → IsOpened p → Under (normal (normal_lists w) added) p o V p' o' W →
       OpenedFrame w.programs (task_in w.programs.original n i out (control r p o V))
   under-frame n i out r {p} {p'} {o} {o'} {V} {W} (is_opened c f e) (on_floor u) = floor-frame u.0 n i out r p p' o o' V W (is_opened c f e) u.1
 
-  opened-frame : (σ κ : Task) → AreInside (normal (normal_rows w) added) σ κ → IsOpened (place_of σ) → OpenedFrame w.programs σ
+  opened-frame : (σ κ : Task) → AreInside (normal (normal_lists w) added) σ κ → IsOpened (place_of σ) → OpenedFrame w.programs σ
   opened-frame σ κ (are_inside n i out r r' im u) q = under-frame n i out r q u
 
 module _ (r : Rewrite) (form : IsNormalForm r) where
@@ -107,10 +107,10 @@ module _ (r : Rewrite) (form : IsNormalForm r) where
 
   -- the translation of a task's unit
   abbrev x : ℕ → Translation
-  x t = normal (normal_rows (unit_at r t)) (form.added t)
+  x t = normal (normal_lists (unit_at r t)) (form.added t)
 
   abbrev laws : (t : ℕ) → IsTranslation (x t)
-  laws t = normal-translates (normal_rows (unit_at r t)) (normal-images (unit_at r t)) form.programs.types (form.added t)
+  laws t = normal-translates (normal_lists (unit_at r t)) (normal-images (unit_at r t)) form.programs.types (form.added t)
 
   abbrev p : Program Task
   p = program_in r.setup r.numbers
@@ -287,7 +287,7 @@ module _ (r : Rewrite) (form : IsNormalForm r) where
         (i, finish-met (x a) (task a) k (meets-at a (task a) k i.number m) f.1)
 
     ended-alike : (a : ℕ) (k : Task) → Finishing (x a) (task a) k → EndAlike (x a) (task a) k
-    ended-alike a k f = body-ends (normal_rows (unit_at r a)) (normal-images (unit_at r a)) form.programs.types (form.added a) (task a) k f.within f.opened
+    ended-alike a k f = body-ends (normal_lists (unit_at r a)) (normal-images (unit_at r a)) form.programs.types (form.added a) (task a) k f.within f.opened
 
     ended : (a : ℕ) (k : Task) → MeetsIn k (task a) → can_move p w (Happen (E a)) ≡ true → ComesTo (finished k) (finished (task a))
     ended a k m h =
@@ -376,10 +376,10 @@ module _ (r : Rewrite) (form : IsNormalForm r) where
   imitates : imit.Imitates original task_ops out MeetsIn
   imitates = record {
     rests = lawful.rests;
-    output = λ k l m. output-same (normal_rows (unit_at r l.number)) (form.added l.number) l k (meets-around (x l.number) l k m);
+    output = λ k l m. output-same (normal_lists (unit_at r l.number)) (form.added l.number) l k (meets-around (x l.number) l k m);
     steps = λ w come t k m h. steps w come t k m h;
     offers = λ w come t k m free rests. offered-same w come t k m rests;
-    callers = λ w come a k m h. callers-same (normal_rows (unit_at r a)) (form.added a) (imit.local_at w a) k (around w come a k (ending w come a k m h).0 m);
+    callers = λ w come a k m h. callers-same (normal_lists (unit_at r a)) (form.added a) (imit.local_at w a) k (around w come a k (ending w come a k m h).0 m);
     accepted = λ w come c e z j k mj mk h. met w come c e z j k mj mk h;
     finished = λ w come a k m h. ended w come a k m h;
     resumed = λ w come a c outer j k callers served mj mk h. resumes w come a c outer j k callers served mj mk h;

@@ -16,7 +16,7 @@ use Rattle.translation_law.specs.OldTexts.{OldBody}
 use Rattle.translation_law.specs.Scopes.{AgreeOnTypes}
 use Rattle.normal_law.specs.Suited.{declared_limits, AreMade, unit_of as unit_rewritten, asked_of}
 use Rattle.normal_model.specs.NormalStmts.{normal_body, unit_variables}
-use Rattle.normal_law.specs.NormalRows.{Begin}
+use Rattle.normal_law.specs.NormalLists.{Begin}
 use Rattle.normal_law.specs.NormalFloors.{Extends, extends_none, extends_old, extends_new}
 use Rattle.normal_law.specs.Preludes.{Added, AreThere}
 use Rattle.normal_law.specs.Declared.{AreDeclared}

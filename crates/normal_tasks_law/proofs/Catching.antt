@@ -18,7 +18,7 @@ use Rattle.translation_law.specs.Controls.{task_in, Under, on_floor, in_block, i
 use Rattle.translation_law.specs.Floors.{IsTranslation}
 use Rattle.translation_law.proofs.Locals.{step-alike}
 use Rattle.normal_law.specs.Suited.{AreMade, Rewritten, unit_of, asked_of}
-use Rattle.normal_law.specs.NormalRows.{Begin, behind_stmt, Normal, normal_none, normal_then, normal_rows}
+use Rattle.normal_law.specs.NormalLists.{Begin, behind_stmt, Normal, normal_none, normal_then, normal_lists}
 use Rattle.normal_law.specs.NormalFloors.{own_body, accept_body, floor_at, normal}
 use Rattle.normal_law.specs.Meetings.{is_opened}
 use Rattle.normal_law.specs.Preludes.{reaches_here, Added}
@@ -35,10 +35,10 @@ use Rattle.normal_waits_law.proofs.Aborting.{abort-comes}
 
 module _ (w : Rewritten) (made : AreMade w.programs) (added : Added w.programs w.programs.original) (declared : AreDeclared w added) where
   abbrev x : Translation
-  x = normal (normal_rows w) added
+  x = normal (normal_lists w) added
 
   abbrev laws : IsTranslation x
-  laws = normal-translates (normal_rows w) (normal-images w) made.types added
+  laws = normal-translates (normal_lists w) (normal-images w) made.types added
 
   abbrev left : ℕ → List ℤ → List ℕ → PStmts → Around → List Part → Variables → Task
   left n i out r p o V = task_in w.programs.original n i out (control r p o V)
@@ -51,7 +51,7 @@ module _ (w : Rewritten) (made : AreMade w.programs) (added : Added w.programs w
 
   -- ---- the end of a frame
 
-  floor-end : (k : ℕ) (n : ℕ) (i : List ℤ) (out : List ℕ) {p p' : Around} {o o' : List Part} {V W : Variables} → floor_at (normal_rows w) added k p o V p' o' W → Under x p o V p' o' W →
+  floor-end : (k : ℕ) (n : ℕ) (i : List ℤ) (out : List ℕ) {p p' : Around} {o o' : List Part} {V W : Variables} → floor_at (normal_lists w) added k p o V p' o' W → Under x p o V p' o' W →
       Meets x (left n i out no_stmt p o V) (right n i out no_stmt p' o' W)
   floor-end zero n i out (own_body hs hs' taken V W h ext there) u = at_end refl refl (are_inside n i out no_stmt no_stmt normal_none u)
   floor-end zero n i out (accept_body q q' a a' V1 W1 caller formals pending r r' bs own im below) u = absurd below
@@ -116,26 +116,26 @@ module _ (w : Rewritten) (made : AreMade w.programs) (added : Added w.programs w
   statement-comes n e i out (old_loop c t l s h k) vars b r r' im u = local-comes (local_loop c t l s) n i out r _ (normal_then vars _ r r' (old_loop c t l s h k) b im) u
   statement-comes n e i out (old_abort cs s old_no_callee) vars b r r' im u = local-comes (local_no_abort s) n i out r _ (normal_then vars _ r r' (old_abort [] s old_no_callee) b im) u
   statement-comes n e i out (old_abort cs s (old_callee c ds h a k)) vars b r r' im {p} {p'} {o} {o'} {V} {W} u =
-      abort-comes w made added declared n i out p p' o o' V c ds s h a k vars b r r' im W u (are-there (normal_rows w) (normal-images w) made.types added u)
+      abort-comes w made added declared n i out p p' o o' V c ds s h a k vars b r r' im W u (are-there (normal_lists w) (normal-images w) made.types added u)
   statement-comes n e i out (old_call c s h a) vars b r r' im {p} {p'} {o} {o'} {V} {W} u =
       plain-comes x laws made added s c a h _ (begun-subtypes w added declared s (call_subtypes w.programs.original s c) vars b) n i out p p' o o' V r r' W im u
-      (are-there (normal_rows w) (normal-images w) made.types added u)
+      (are-there (normal_lists w) (normal-images w) made.types added u)
   statement-comes n e i out (old_accept q a s hd ask ma) vars b r r' im {p} {p'} {o} {o'} {V} {W} u =
-      accept-comes w made added declared n e i out p p' o o' V q a s hd ask ma vars b r r' im W u (are-there (normal_rows w) (normal-images w) made.types added u)
+      accept-comes w made added declared n e i out p p' o o' V q a s hd ask ma vars b r r' im W u (are-there (normal_lists w) (normal-images w) made.types added u)
   statement-comes n e i out (old_wait alts a s oa om) vars b r r' im {p} {p'} {o} {o'} {V} {W} u =
-      wait-comes w made added declared n e i out p p' o o' V alts a s oa om vars b r r' im W u (are-there (normal_rows w) (normal-images w) made.types added u)
+      wait-comes w made added declared n e i out p p' o o' V alts a s oa om vars b r r' im W u (are-there (normal_lists w) (normal-images w) made.types added u)
   statement-comes n e i out (old_conditional c l k s h a ol ok) vars b r r' im {p} {p'} {o} {o'} {V} {W} u =
       let re = normal_rewriter (unit_of w) in
       let t : List PDecl = statement_variables (unit_of w) vars (SConditional c l k s) in
       let b2 : Begin (after_stmts re l t) w.vars = part-begins w (stmts-begin re (normal-adds (unit_of w)) k (after_stmts re l t)) b in
       select-comes x laws made added s c a h _ (begun-subtypes w added declared s (select_subtypes w.programs.original s c) vars (part-begins w (stmts-begin re (normal-adds (unit_of w)) l t) b2))
-      n i out p p' o o' V conditional l _ k _ r r' (walked w ol t b2) (walked w ok (after_stmts re l t) b) im W u (are-there (normal_rows w) (normal-images w) made.types added u)
+      n i out p p' o o' V conditional l _ k _ r r' (walked w ol t b2) (walked w ok (after_stmts re l t) b) im W u (are-there (normal_lists w) (normal-images w) made.types added u)
   statement-comes n e i out (old_timed c l d k s h a ol ok) vars b r r' im {p} {p'} {o} {o'} {V} {W} u =
       let re = normal_rewriter (unit_of w) in
       let t : List PDecl = statement_variables (unit_of w) vars (STimed c l d k s) in
       let b2 : Begin (after_stmts re l t) w.vars = part-begins w (stmts-begin re (normal-adds (unit_of w)) k (after_stmts re l t)) b in
       select-comes x laws made added s c a h _ (begun-subtypes w added declared s (select_subtypes w.programs.original s c) vars (part-begins w (stmts-begin re (normal-adds (unit_of w)) l t) b2))
-      n i out p p' o o' V (timed d) l _ k _ r r' (walked w ol t b2) (walked w ok (after_stmts re l t) b) im W u (are-there (normal_rows w) (normal-images w) made.types added u)
+      n i out p p' o o' V (timed d) l _ k _ r r' (walked w ol t b2) (walked w ok (after_stmts re l t) b) im W u (are-there (normal_lists w) (normal-images w) made.types added u)
 
   -- ---- wherever it stands
 

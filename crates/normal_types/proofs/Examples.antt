@@ -7,7 +7,7 @@ use Rattle.ada_tree.specs.declared.naming.Word.{Word}
 use Rattle.ada_tree.specs.NameList.{predefined}
 use Rattle.ada_tree.specs.PlainExpr.{EInteger, EName, PSubind, PDrange, RGiven}
 use Rattle.ada_tree.specs.PlainStmt.{SCall, SAccept, no_stmt, stmt_then, absent, accepting, body, no_handler}
-use Rattle.ada_tree.specs.PlainDecl.{PEntry, OPlain, ORow, IOne, DObject, DTask, DTaskBody, PDecls, no_decl, decl_then}
+use Rattle.ada_tree.specs.PlainDecl.{PEntry, OPlain, OArray, IOne, DObject, DTask, DTaskBody, PDecls, no_decl, decl_then}
 use Rattle.ada_tree.specs.PlainProgram.{PProgram}
 use Rattle.ada_tree.specs.Every.{Rules, EveryWord, EveryFormal, EveryEntry, EveryPriority, EveryBody}
 use Rattle.ada_tree.specs.Refusals.{types_in}
@@ -53,10 +53,10 @@ up_to n = RGiven record { first = EInteger 1 o; last = EInteger n o }
 abbrev pub declared : PDecls
 declared =
     decl_then (DTask record { name = w 26; of_kind = true; entries = record { name = w 27; family = None; formals = []; span = o } ∷ []; priorities = [] } o)
-    (decl_then (DObject (w 28 ∷ []) false (ORow (up_to 2) (marked 26)) None o)
+    (decl_then (DObject (w 28 ∷ []) false (OArray (up_to 2) (marked 26)) None o)
     (decl_then (DObject (w 29 ∷ []) true (OPlain (marked 0)) (Some (IOne (EInteger 3 o))) o)
     (decl_then (DObject (w 30 ∷ []) false (OPlain (marked 0)) None o)
-    (decl_then (DTaskBody (w 26) (decl_then (DObject (w 31 ∷ []) false (ORow (up_to 3) (marked 0)) None o) no_decl)
+    (decl_then (DTaskBody (w 26) (decl_then (DObject (w 31 ∷ []) false (OArray (up_to 3) (marked 0)) None o) no_decl)
     (body (stmt_then (SAccept (accepting record { entry = w 27; index = None; formals = []; span = o } absent) o) no_stmt) no_handler) o)
     no_decl))))
 

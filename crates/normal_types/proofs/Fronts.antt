@@ -4,12 +4,12 @@ use Rattle.std.specs.List.{AllByRecursion}
 use Rattle.std.proofs.lemmas.Bool.{or_left, or_right, eqb-true, eq-eqb}
 use Rattle.ada_tree.specs.declared.naming.NameId.{NameId}
 use Rattle.ada_tree.specs.declared.naming.Span.{Span}
-use Rattle.ada_tree.specs.PlainDecl.{PShape, OPlain, ORow, PTask, PDecl, DNumber, DObject, DEnumeration, DArray, DSubtype, DException, DIntIo, DPragma, DTask, DTaskBody, PDecls, no_decl, decl_then}
+use Rattle.ada_tree.specs.PlainDecl.{PShape, OPlain, OArray, PTask, PDecl, DNumber, DObject, DEnumeration, DArray, DSubtype, DException, DIntIo, DPragma, DTask, DTaskBody, PDecls, no_decl, decl_then}
 use Rattle.ada_tree.specs.Scope.{Scope, Seen, EntryPart}
 use Rattle.ada_tree.specs.WellPlaced.{AreLater, BodiesLast}
 use Rattle.ada_tree.specs.RuleDuplicate.{is_predefined, is_among}
 use Rattle.ada_tree.specs.Declaring.{seen_as, first_scope, entry_part, task_thing, after_decl}
-use Rattle.syn_event.specs.TaskParts.{type_named, with_type}
+use Rattle.syn_event.specs.NamedTasks.{type_named, with_type}
 use Rattle.normal_model.specs.NormalTree.{mark_of, unless_left, first_decls}
 use Rattle.rewritten_types.specs.Rewriting.{valued, Behind, behind_none, behind_task, behind_body, behind_instance, Front, front_none, front_stays, front_task, front_object, front_body, names_declared, IsUnused, DeclareOnce}
 use Rattle.rewritten_types.specs.Rewriting as rewriting
@@ -20,7 +20,7 @@ use Rattle.normal_types.specs.Laws.{FirstDeclsAreFront}
 -- the mark of an object is the same in the words of both crates
 same-mark : (shape : PShape) → rewriting.mark_of shape ≡ mark_of shape
 same-mark (OPlain x) = refl
-same-mark (ORow index x) = refl
+same-mark (OArray index x) = refl
 
 -- ---- task types
 

@@ -9,7 +9,7 @@ use Rattle.ada_tree.specs.Scope.{Scope}
 use Rattle.ada_tree.specs.Declaring.{first_scope, after_decl, after_decls}
 use Rattle.ada_tree.specs.Refusals.{types_in}
 use Rattle.syn_event.specs.Units.{decl_list}
-use Rattle.syn_event.specs.TaskParts.{type_named, with_type}
+use Rattle.syn_event.specs.NamedTasks.{type_named, with_type}
 use Rattle.ada_value.specs.declared.values.Form.{Form}
 use Rattle.ada_value.specs.Values.{lower, limits_named}
 use Rattle.ada_value.specs.Variables.{Variables, object_with}

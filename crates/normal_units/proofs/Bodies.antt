@@ -1,5 +1,5 @@
 -- The bodies that the tasks of a normal form run.
-use Rattle.std.proofs.Common.{◌≡◌, ℕ, zero, suc, ◌==◌, Bool, true, false, cond, if◌then◌else◌, List, [], ◌∷◌, ◌++◌, map, flat_map, drop, slice_get, option_map, unwrap_or, is_some, Option, Some, None, refl, sym, ap, ap₂, ◌∙◌, subst, append_assoc, true≢false, arith}
+use Rattle.std.proofs.Common.{◌≡◌, ℕ, zero, suc, ◌==◌, Bool, true, false, cond, if◌then◌else◌, List, [], ◌∷◌, ◌++◌, map, flat_map, drop, slice_get, option_map, unwrap_or, is_some, Option, Some, None, refl, sym, ap, ◌∙◌, append_assoc, true≢false, arith}
 use Rattle.std.specs.List.{AllByRecursion, filter}
 use Rattle.std.proofs.lemmas.Bool.{eqb-true, eq-eqb, ne_eqb}
 use Rattle.std.proofs.lemmas.Option.{none-some}
@@ -12,18 +12,17 @@ use Rattle.ada_tree.specs.PlainProgram.{PProgram}
 use Rattle.syn_event.specs.declared.numbering.TaskInfo.{TaskInfo}
 use Rattle.syn_event.specs.Numbering.{Numbering, task_at}
 use Rattle.syn_event.specs.Numbered.{task_info}
-use Rattle.syn_event.specs.TaskParts.{type_named, with_type}
+use Rattle.syn_event.specs.NamedTasks.{type_named, with_type}
 use Rattle.syn_event.specs.Units.{decl_list}
 use Rattle.task_model.specs.Setting.{Setting}
-use Rattle.task_model.specs.Starting.{Unit, no_unit, unit_of_decl, unit_among, unit_of_info, unit_of}
+use Rattle.task_model.specs.Starting.{Unit, unit_among, unit_of_info, unit_of}
 use Rattle.normal_model.specs.Names.{task_name}
-use Rattle.normal_model.specs.Ranges.{word_at}
 use Rattle.normal_model.specs.NormalStmts.{normal_body, unit_variables}
 use Rattle.normal_model.specs.NormalTree.{mark_of, unless_left, decls_front, first_decls, tasks_beside, task_under, declared_under, task_declared, unit_for, body_copy, bodies_of, main_unit, main_variables, normal_tree}
 use Rattle.rewritten_types.proofs.Lookups.{some-same}
 use Rattle.normal_types.specs.Laws.{setting_of}
 use Rattle.normal_types.proofs.Variables.{all-flat, unit-all}
-use Rattle.normal_units.specs.Laws.{TellUnits, numbers_made, normal_unit, unit_made, UnitsAreRewritten}
+use Rattle.normal_units.specs.Laws.{numbers_made, normal_unit, unit_made, UnitsAreRewritten}
 use Rattle.normal_units.proofs.Tasks.{Tell, tell-at, tasks_keep_numbers}
 
 -- ---- what is passed over

@@ -1,5 +1,5 @@
 -- The units of a legal program's tasks are declared once.
-use Rattle.std.proofs.Common.{◌≡◌, ℕ, suc, ◌==◌, ◌||◌, Bool, true, false, cond, List, [], ◌∷◌, ◌++◌, length, map, flat_map, find, Option, Some, None, refl, sym, ap, ◌∙◌, subst, true≢false}
+use Rattle.std.proofs.Common.{◌≡◌, ℕ, ◌==◌, ◌||◌, Bool, true, false, cond, List, [], ◌∷◌, length, map, flat_map, Option, Some, None, refl, sym, ap, ◌∙◌, subst, true≢false}
 use Rattle.std.specs.List.{AllByRecursion, filter, list_any}
 use Rattle.std.proofs.lemmas.Bool.{or_left, or_right, eqb-true, eq-eqb}
 use Rattle.ada_tree.specs.declared.naming.NameId.{NameId}
@@ -7,22 +7,19 @@ use Rattle.ada_tree.specs.declared.naming.Span.{Span}
 use Rattle.ada_tree.specs.declared.naming.Word.{Word}
 use Rattle.ada_tree.specs.TypeTable.{TypeTable}
 use Rattle.ada_tree.specs.PlainExpr.{PDrange}
-use Rattle.ada_tree.specs.PlainDecl.{PShape, OPlain, ORow, PTask, PDecl, DNumber, DObject, DEnumeration, DArray, DSubtype, DException, DIntIo, DPragma, DTask, DTaskBody, PDecls, no_decl, decl_then}
-use Rattle.ada_tree.specs.PlainProgram.{PProgram}
+use Rattle.ada_tree.specs.PlainDecl.{PShape, OPlain, OArray, PTask, DNumber, DObject, DEnumeration, DArray, DSubtype, DException, DIntIo, DPragma, DTask, DTaskBody, PDecls, no_decl, decl_then}
 use Rattle.ada_tree.specs.Scope.{Scope}
 use Rattle.ada_tree.specs.Declaring.{first_scope, after_decl}
 use Rattle.syn_event.specs.declared.numbering.TaskInfo.{TaskInfo}
 use Rattle.syn_event.specs.Extents.{extent}
-use Rattle.syn_event.specs.TaskParts.{TaskPart, part, type_named, parts_of_type, object_parts, with_type, single_part, parts_in, parts_of, Seat, seat, indices, row_seats, seats_of, seats}
-use Rattle.syn_event.specs.AllNumbers.{seat_info, all_numbers}
+use Rattle.syn_event.specs.NamedTasks.{NamedTasks, named_tasks, type_named, task_names_of_type, object_task_names, with_type, single_task_name, task_names_in, task_names_of, NumberedTask, numbered_task, indices, tasks_of_range, tasks_of_name, numbered_tasks}
+use Rattle.syn_event.specs.AllNumbers.{info_of_task}
 use Rattle.syn_event.specs.Units.{decl_list, tasks_in, tasks_of}
-use Rattle.normal_model.specs.NormalTree.{tasks_beside}
-use Rattle.rewritten_types.specs.Rewriting.{names_declared, IsUnused, DeclareOnce}
+use Rattle.rewritten_types.specs.Rewriting.{DeclareOnce}
 use Rattle.rewritten_types.proofs.Lookups.{all-weaker, all-append, find-all}
-use Rattle.rewritten_types.proofs.Fresh.{InHere, IsTaken, taken-decl, unused-others}
+use Rattle.rewritten_types.proofs.Fresh.{IsTaken, taken-decl, unused-others}
 use Rattle.rewritten_types.proofs.Refused.{declared_once}
-use Rattle.normal_types.specs.Laws.{IsOrdered, setting_of}
-use Rattle.normal_types.proofs.Variables.{all-flat, all-mapped}
+use Rattle.normal_types.proofs.Variables.{all-mapped}
 use Rattle.normal_types.proofs.Fronts.{task-taken}
 use Rattle.normal_units.specs.Laws.{count_named, UnitsAreDeclared}
 
@@ -87,15 +84,15 @@ module _ (Q : PTask → Type 0) where
   found-all : (kinds : List PTask) (id : NameId) (t : PTask) → AllByRecursion Q kinds → type_named kinds id ≡ Some t → Q t
   found-all kinds id t h e = find-all Q (λ x. x.name.name.0 == id.0) kinds t h e
 
-  typed-all : (o : Option PTask) (names : List Word) (row : Option PDrange) → ((t : PTask) → o ≡ Some t → Q t) → AllByRecursion (λ (x : TaskPart). Q x.unit) (parts_of_type o names row)
-  typed-all (Some t) names row h = all-mapped (λ (x : TaskPart). Q x.unit) (λ w. part w w.span t row) (λ w. h t refl) names
+  typed-all : (o : Option PTask) (names : List Word) (row : Option PDrange) → ((t : PTask) → o ≡ Some t → Q t) → AllByRecursion (λ (x : NamedTasks). Q x.unit) (task_names_of_type o names row)
+  typed-all (Some t) names row h = all-mapped (λ (x : NamedTasks). Q x.unit) (λ w. named_tasks w w.span t row) (λ w. h t refl) names
   typed-all None names row h = tt
 
-  object-all : (kinds : List PTask) (names : List Word) (shape : PShape) → AllByRecursion Q kinds → AllByRecursion (λ (x : TaskPart). Q x.unit) (object_parts kinds names shape)
+  object-all : (kinds : List PTask) (names : List Word) (shape : PShape) → AllByRecursion Q kinds → AllByRecursion (λ (x : NamedTasks). Q x.unit) (object_task_names kinds names shape)
   object-all kinds names (OPlain x) h = typed-all (type_named kinds x.mark.name) names None (λ t e. found-all kinds x.mark.name t h e)
-  object-all kinds names (ORow index x) h = typed-all (type_named kinds x.mark.name) names (Some index) (λ t e. found-all kinds x.mark.name t h e)
+  object-all kinds names (OArray index x) h = typed-all (type_named kinds x.mark.name) names (Some index) (λ t e. found-all kinds x.mark.name t h e)
 
-  single-all : (b : Bool) (t : PTask) (sp : Span) → Q t → AllByRecursion (λ (x : TaskPart). Q x.unit) (single_part b t sp)
+  single-all : (b : Bool) (t : PTask) (sp : Span) → Q t → AllByRecursion (λ (x : NamedTasks). Q x.unit) (single_task_name b t sp)
   single-all true t sp h = tt
   single-all false t sp h = (h, tt)
 
@@ -103,11 +100,11 @@ module _ (Q : PTask → Type 0) where
   type-all true t kinds h k = (h, k)
   type-all false t kinds h k = k
 
-  pub parts-all : (ds : PDecls) (kinds : List PTask) → AllByRecursion Q kinds → AllByRecursion Q (tasks_in (decl_list ds)) → AllByRecursion (λ (x : TaskPart). Q x.unit) (parts_in kinds ds)
+  pub parts-all : (ds : PDecls) (kinds : List PTask) → AllByRecursion Q kinds → AllByRecursion Q (tasks_in (decl_list ds)) → AllByRecursion (λ (x : NamedTasks). Q x.unit) (task_names_in kinds ds)
   parts-all no_decl kinds k h = tt
   parts-all (decl_then (DTask t sp) rest) kinds k h =
-      all-append (λ (x : TaskPart). Q x.unit) (single_part t.of_kind t sp) _ (single-all t.of_kind t sp h.0) (parts-all rest (with_type kinds t.of_kind t) (type-all t.of_kind t kinds h.0 k) h.1)
-  parts-all (decl_then (DObject names c x i sp) rest) kinds k h = all-append (λ (y : TaskPart). Q y.unit) (object_parts kinds names x) _ (object-all kinds names x k) (parts-all rest kinds k h)
+      all-append (λ (x : NamedTasks). Q x.unit) (single_task_name t.of_kind t sp) _ (single-all t.of_kind t sp h.0) (parts-all rest (with_type kinds t.of_kind t) (type-all t.of_kind t kinds h.0 k) h.1)
+  parts-all (decl_then (DObject names c x i sp) rest) kinds k h = all-append (λ (y : NamedTasks). Q y.unit) (object_task_names kinds names x) _ (object-all kinds names x k) (parts-all rest kinds k h)
   parts-all (decl_then (DTaskBody w objects its sp) rest) kinds k h = parts-all rest kinds k h
   parts-all (decl_then (DNumber name e sp) rest) kinds k h = parts-all rest kinds k h
   parts-all (decl_then (DEnumeration name ws sp) rest) kinds k h = parts-all rest kinds k h
@@ -117,23 +114,23 @@ module _ (Q : PTask → Type 0) where
   parts-all (decl_then (DIntIo w sp) rest) kinds k h = parts-all rest kinds k h
   parts-all (decl_then (DPragma e sp) rest) kinds k h = parts-all rest kinds k h
 
-  row-all : (types : TypeTable) (x : TaskPart) (row : Option PDrange) → Q x.unit → AllByRecursion (λ (y : Seat). Q y.unit) (row_seats types x row)
-  row-all types x (Some r) h = all-mapped (λ (y : Seat). Q y.unit) (λ i. seat x (Some i)) (λ i. h) (indices (extent types r))
+  row-all : (types : TypeTable) (x : NamedTasks) (row : Option PDrange) → Q x.unit → AllByRecursion (λ (y : NumberedTask). Q y.unit) (tasks_of_range types x row)
+  row-all types x (Some r) h = all-mapped (λ (y : NumberedTask). Q y.unit) (λ i. numbered_task x (Some i)) (λ i. h) (indices (extent types r))
   row-all types x None h = (h, tt)
 
-  pub seats-all : (types : TypeTable) (xs : List TaskPart) → AllByRecursion (λ (x : TaskPart). Q x.unit) xs → AllByRecursion (λ (y : Seat). Q y.unit) (flat_map (seats_of types) xs)
-  seats-all types [] h = tt
-  seats-all types (x ∷ xs) h = all-append (λ (y : Seat). Q y.unit) (seats_of types x) _ (row-all types x x.row h.0) (seats-all types xs h.1)
+  pub numbered-tasks-all : (types : TypeTable) (xs : List NamedTasks) → AllByRecursion (λ (x : NamedTasks). Q x.unit) xs → AllByRecursion (λ (y : NumberedTask). Q y.unit) (flat_map (tasks_of_name types) xs)
+  numbered-tasks-all types [] h = tt
+  numbered-tasks-all types (x ∷ xs) h = all-append (λ (y : NumberedTask). Q y.unit) (tasks_of_name types x) _ (row-all types x x.index_range h.0) (numbered-tasks-all types xs h.1)
 
--- what holds of seats holds of the tasks in the numbers
-infos-all : (P : NameId → Type 0) (names : List (List ℕ)) (xs : List Seat) → AllByRecursion (λ (x : Seat). P x.unit.name.name) xs → AllByRecursion (λ (i : TaskInfo). P i.unit) (map (seat_info names) xs)
+-- what holds of numbered tasks holds of the tasks in the numbers
+infos-all : (P : NameId → Type 0) (names : List (List ℕ)) (xs : List NumberedTask) → AllByRecursion (λ (x : NumberedTask). P x.unit.name.name) xs → AllByRecursion (λ (i : TaskInfo). P i.unit) (map (info_of_task names) xs)
 infos-all P names [] h = tt
 infos-all P names (x ∷ xs) h = (h.0, infos-all P names xs h.1)
 
 pub units_are_declared : UnitsAreDeclared
 units_are_declared p types ordered =
-    infos-all (λ id. count_named p id ≡ 1) p.names (seats types p)
-    (all-weaker (λ (x : Seat). list_any (has_name x.unit.name.name) (tasks_of p) ≡ true) _ (seats types p)
+    infos-all (λ id. count_named p id ≡ 1) p.names (numbered_tasks types p)
+    (all-weaker (λ (x : NumberedTask). list_any (has_name x.unit.name.name) (tasks_of p) ≡ true) _ (numbered_tasks types p)
     (λ x e. one-there p.decls (first_scope p.name) x.unit.name.name (declared_once p ordered.rules).1 e)
-    (seats-all (λ (t : PTask). list_any (has_name t.name.name) (tasks_of p) ≡ true) types (parts_of p)
+    (numbered-tasks-all (λ (t : PTask). list_any (has_name t.name.name) (tasks_of p) ≡ true) types (task_names_of p)
     (parts-all (λ (t : PTask). list_any (has_name t.name.name) (tasks_of p) ≡ true) p.decls [] tt (each-there (tasks_of p)))))

@@ -1,5 +1,5 @@
 -- A program whose numbers are as the laws ask: two tasks of a type in an array, and a task of its own.
-use Rattle.std.specs.Prelude.{◌≡◌, ℕ, Bool, true, false, map, List, [], ◌∷◌, ◌++◌, codes, Option, Some, None, refl}
+use Rattle.std.specs.Prelude.{◌≡◌, ℕ, Bool, true, false, map, [], ◌∷◌, ◌++◌, codes, None, refl}
 use Rattle.std.specs.Fmt.{digits}
 use Rattle.std.proofs.Common.{arith}
 use Rattle.ada_tree.specs.declared.naming.Span.{Span}
@@ -7,7 +7,7 @@ use Rattle.ada_tree.specs.declared.naming.Word.{Word}
 use Rattle.ada_tree.specs.NameList.{predefined}
 use Rattle.ada_tree.specs.PlainExpr.{EInteger, RGiven}
 use Rattle.ada_tree.specs.PlainStmt.{SNull, no_stmt, stmt_then, PBody, body, no_handler}
-use Rattle.ada_tree.specs.PlainDecl.{ORow, PDecl, DObject, DTask, DTaskBody, no_decl, decls_of}
+use Rattle.ada_tree.specs.PlainDecl.{OArray, PDecl, DObject, DTask, DTaskBody, no_decl, decls_of}
 use Rattle.ada_tree.specs.PlainProgram.{PProgram}
 use Rattle.ada_tree.specs.Refusals.{types_in}
 use Rattle.syn_event.specs.declared.numbering.TaskInfo.{TaskInfo}
@@ -37,7 +37,7 @@ original = record {
   text_io = false;
   name = w 25;
   decls = decls_of (
-      task 26 true ∷ DObject (w 27 ∷ []) false (ORow (RGiven record { first = EInteger 1 o; last = EInteger 2 o }) record { mark = w 26; bounds = None }) None o
+      task 26 true ∷ DObject (w 27 ∷ []) false (OArray (RGiven record { first = EInteger 1 o; last = EInteger 2 o }) record { mark = w 26; bounds = None }) None o
       ∷ task 28 false ∷ DTaskBody (w 26) no_decl nothing o ∷ DTaskBody (w 28) no_decl nothing o ∷ []);
   body = nothing;
 }

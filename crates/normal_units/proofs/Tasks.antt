@@ -1,25 +1,24 @@
 -- The tasks that a normal form declares.
-use Rattle.std.proofs.Common.{◌≡◌, ℕ, zero, suc, ◌==◌, Bool, true, false, cond, if◌then◌else◌, List, [], ◌∷◌, ◌++◌, length, map, find, flat_map, drop, slice_get, option_map, is_some, Option, Some, None, refl, sym, ap, ap₂, ◌∙◌, subst, append-nil, true≢false, arith}
+use Rattle.std.proofs.Common.{◌≡◌, ℕ, zero, suc, ◌==◌, Bool, true, false, cond, if◌then◌else◌, List, [], ◌∷◌, ◌++◌, length, map, find, flat_map, slice_get, option_map, is_some, Option, Some, None, refl, sym, ap, ap₂, ◌∙◌, append-nil, true≢false, arith}
 use Rattle.std.specs.List.{AllByRecursion, filter}
 use Rattle.std.proofs.lemmas.Bool.{eqb-true, eq-eqb}
 use Rattle.std.proofs.lemmas.Option.{none-some}
 use Rattle.ada_tree.specs.declared.naming.NameId.{NameId}
 use Rattle.ada_tree.specs.TypeTable.{TypeTable}
-use Rattle.ada_tree.specs.PlainStmt.{PFormal}
 use Rattle.ada_tree.specs.PlainDecl.{PEntry, PTask, PDecl, DNumber, DObject, DEnumeration, DArray, DSubtype, DException, DIntIo, DPragma, DTask, DTaskBody, PDecls, no_decl, decl_then, decls_of}
 use Rattle.ada_tree.specs.PlainProgram.{PProgram}
 use Rattle.syn_event.specs.declared.numbering.TaskInfo.{TaskInfo}
-use Rattle.syn_event.specs.Numbering.{Numbering, task_at}
+use Rattle.syn_event.specs.Numbering.{Numbering}
 use Rattle.syn_event.specs.Numbered.{task_info}
-use Rattle.syn_event.specs.TaskParts.{type_named, with_type}
+use Rattle.syn_event.specs.NamedTasks.{type_named, with_type}
 use Rattle.syn_event.specs.Units.{decl_list, tasks_in, tasks_of}
-use Rattle.task_model.specs.Setting.{Setting, unit_named, formals_of_entry, formals_in, formals_of_unit}
+use Rattle.task_model.specs.Setting.{Setting, unit_named, formals_in, formals_of_unit}
 use Rattle.normal_model.specs.Names.{task_name}
-use Rattle.normal_model.specs.NormalTree.{mark_of, unless_left, decls_front, first_decls, tasks_beside, task_under, declared_under, task_declared, bodies_of, main_unit, main_variables, normal_decls, normal_tree}
+use Rattle.normal_model.specs.NormalTree.{mark_of, unless_left, decls_front, first_decls, tasks_beside, task_under, declared_under, task_declared, bodies_of, main_unit, main_variables, normal_tree}
 use Rattle.normal_types.specs.Laws.{setting_of}
 use Rattle.rewritten_types.proofs.Lookups.{some-same, place-all}
 use Rattle.normal_types.proofs.Variables.{all-flat, all-mapped, unit-all}
-use Rattle.normal_units.specs.Laws.{count_named, TellUnits, numbers_made, TasksKeepNumbers, EntriesKeepFormals}
+use Rattle.normal_units.specs.Laws.{count_named, TasksKeepNumbers, EntriesKeepFormals}
 
 -- ---- lists of declarations
 

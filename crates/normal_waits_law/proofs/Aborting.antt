@@ -33,7 +33,7 @@ use Rattle.translation_law.specs.Controls.{task_in, Under, are_around}
 use Rattle.translation_law.specs.Floors.{IsTranslation}
 use Rattle.translation_law.proofs.Locals.{go-there}
 use Rattle.normal_law.specs.Suited.{declared_limits, AreMade, IsCallee, Rewritten, unit_of, asked_of}
-use Rattle.normal_law.specs.NormalRows.{Begin, behind_stmt, Normal, normal_then, normal_rows}
+use Rattle.normal_law.specs.NormalLists.{Begin, behind_stmt, Normal, normal_then, normal_lists}
 use Rattle.normal_law.specs.NormalFloors.{normal}
 use Rattle.normal_law.specs.Preludes.{Added, AreThere, due_before, old_no_due}
 use Rattle.normal_law.specs.Declared.{AreDeclared, HaveSubtypes, subtype_then, dues_of}
@@ -54,10 +54,10 @@ declared-append g s (y ∷ xs) ys k =
 module _ (w : Rewritten) (made : AreMade w.programs) (added : Added w.programs w.programs.original) (declared : AreDeclared w added) (m : ℕ) (i : List ℤ) (out : List ℕ)
     (p p' : Around) (o o' : List Part) (V : Variables) where
   abbrev x : Translation
-  x = normal (normal_rows w) added
+  x = normal (normal_lists w) added
 
   abbrev laws : IsTranslation x
-  laws = normal-translates (normal_rows w) (normal-images w) made.types added
+  laws = normal-translates (normal_lists w) (normal-images w) made.types added
 
   abbrev b : Programs
   b = w.programs

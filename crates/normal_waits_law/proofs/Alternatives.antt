@@ -27,11 +27,11 @@ use Rattle.normal_model.proofs.VariablesLemmas.{normal-adds, stmts-begin, Begins
 use Rattle.translation_law.specs.Translations.{Programs, Translation, types_after}
 use Rattle.translation_law.specs.OldNames.{OldExpr, OldOption, old_none, old_some}
 use Rattle.translation_law.specs.OldTexts.{OldFormals, OldHead, OldMaybe, old_absent, old_present, OldKind, old_accepts, old_delays, old_terminates, OldAlts, old_no_alt, old_alt}
-use Rattle.translation_law.specs.Images.{IsRow, something_there}
+use Rattle.translation_law.specs.Images.{IsSomething, something_there}
 use Rattle.translation_law.specs.Controls.{task_in, Under}
 use Rattle.translation_law.specs.Floors.{IsTranslation}
 use Rattle.normal_law.specs.Suited.{SameRange, declared_limits, AreMade, IsHead, Rewritten, unit_of, asked_of}
-use Rattle.normal_law.specs.NormalRows.{Begin, Normal, normal_none, normal_rows}
+use Rattle.normal_law.specs.NormalLists.{Begin, Normal, normal_none, normal_lists}
 use Rattle.normal_law.specs.NormalFloors.{normal}
 use Rattle.normal_law.specs.Preludes.{Reaches, reaches_here, IsCell, Added, AreThere, due_before, due_worth, old_due, old_no_due, Hold, hold_value, Prelude, given, stopped}
 use Rattle.normal_law.specs.Declared.{AreDeclared, HaveSubtypes, subtype_then, dues_of}
@@ -106,10 +106,10 @@ some-list a c e = cc
 module _ (w : Rewritten) (made : AreMade w.programs) (added : Added w.programs w.programs.original) (declared : AreDeclared w added) (m : ℕ) (number : m ≡ w.number) (i : List ℤ) (out : List ℕ)
     (p p' : Around) (o o' : List Part) (V : Variables) (here there : PStmts) where
   abbrev x : Translation
-  x = normal (normal_rows w) added
+  x = normal (normal_lists w) added
 
   abbrev laws : IsTranslation x
-  laws = normal-translates (normal_rows w) (normal-images w) made.types added
+  laws = normal-translates (normal_lists w) (normal-images w) made.types added
 
   abbrev b : Programs
   b = w.programs
@@ -175,7 +175,7 @@ module _ (w : Rewritten) (made : AreMade w.programs) (added : Added w.programs w
   kept-one s y (Some d) k = refl
 
   -- the index of an accept's head
-  pub head-comes : (s : Span) {goal : PStmts} → IsRow goal → (q : PHead) → OldHead b q → IsHead b w.first w.number q → (k : ℕ) → HaveSubtypes b added (kept_subtypes (accept_kept (unit_of w) s q)) k →
+  pub head-comes : (s : Span) {goal : PStmts} → IsSomething goal → (q : PHead) → OldHead b q → IsHead b w.first w.number q → (k : ℕ) → HaveSubtypes b added (kept_subtypes (accept_kept (unit_of w) s q)) k →
       (W : Variables) → In W → AreThere added W →
       MeetsIndex x laws made added m i out p p' o o' V (right (in_front (kept_before g s (accept_kept (unit_of w) s q) k) goal) W) goal (entry_of g.numbers m q.entry.name) q.index
       (head_left (unit_of w) s q k).index k (k + length (dues_of (moving g.types q.index))) W
@@ -199,7 +199,7 @@ module _ (w : Rewritten) (made : AreMade w.programs) (added : Added w.programs w
   pub same-then : (k n : ℕ) → k ≤ n → (W W1 W2 : Variables) → Same k W W1 → Same n W1 W2 → Same k W W2
   same-then k n l W W1 W2 a c j m1 = c j (omega (arith, l, m1)) ∙ a j m1
 
-  kind-comes : (s : Span) {goal : PStmts} → IsRow goal → {what : PAltKind} → OldKind (asked_of w) what → (t : List PDecl) → Begin (after_kind (normal_rewriter (unit_of w)) what t) w.vars → (k n : ℕ) →
+  kind-comes : (s : Span) {goal : PStmts} → IsSomething goal → {what : PAltKind} → OldKind (asked_of w) what → (t : List PDecl) → Begin (after_kind (normal_rewriter (unit_of w)) what t) w.vars → (k n : ℕ) →
       HaveSubtypes b added (kept_subtypes (kind_kept (unit_of w) s what)) n → (W : Variables) → In W → AreThere added W →
       MeetsKind (right (in_front (kept_before g s (kind_kept (unit_of w) s what) n) goal) W) goal what (kind_left (unit_of w) s (inside_kind (normal_rewriter (unit_of w)) what t) n) k n
       (n + length (kind_kept (unit_of w) s what)) W
@@ -252,7 +252,7 @@ module _ (w : Rewritten) (made : AreMade w.programs) (added : Added w.programs w
         GuardTold guard s n later W1 ro → In W1 → AreThere added W1 → Reaches from (right goal W1) → Same n W W1 → MeetsAlt from goal guard guard' what what' s k n later W
     alt_raises : (a : Raised) → alt_open left guard what k ≡ Err a → Raising from a → MeetsAlt from goal guard guard' what what' s k n later W
 
-  pub row-behind : (a : PStmts) {r : PStmts} → IsRow r → IsRow (in_front a r)
+  pub row-behind : (a : PStmts) {r : PStmts} → IsSomething r → IsSomething (in_front a r)
   row-behind no_stmt q = q
   row-behind (stmt_then c l) q = something_there c _
 
@@ -262,7 +262,7 @@ module _ (w : Rewritten) (made : AreMade w.programs) (added : Added w.programs w
   guard_if s n kept goal W = right (in_front (under_guard (unit_of w) s n kept) goal) W
 
   -- the index is made where the guard holds
-  guard-true : (s : Span) (n : ℕ) (kept : List Kept) {goal : PStmts} → IsRow goal → (W : Variables) (v : Value) → evaluated h.types W (variable g s n) ≡ Ok v → is_true_value v ≡ true →
+  guard-true : (s : Span) (n : ℕ) (kept : List Kept) {goal : PStmts} → IsSomething goal → (W : Variables) (v : Value) → evaluated h.types W (variable g s n) ≡ Ok v → is_true_value v ≡ true →
       Reaches (guard_if s n kept goal W) (right (in_front (kept_before g s kept (n + 1)) goal) W)
   guard-true s n [] row W v e t = reaches_here _
   guard-true s n (y ∷ ys) {goal} row W v e t =
@@ -272,10 +272,10 @@ module _ (w : Rewritten) (made : AreMade w.programs) (added : Added w.programs w
       ∙ ap (λ q. or_raised (λ branch. entered (stmts_or_none branch) goal (guard_if s n (y ∷ ys) goal W)) (guard_if s n (y ∷ ys) goal W)
       (if q then Ok (present (kept_before g s (y ∷ ys) (n + 1))) else Ok absent)) t) refl (reaches_here _)
 
-  gone-row : {goal : PStmts} → IsRow goal → (first : PStmts) (W : Variables) → gone_to goal (right first W) ≡ right goal W
+  gone-row : {goal : PStmts} → IsSomething goal → (first : PStmts) (W : Variables) → gone_to goal (right first W) ≡ right goal W
   gone-row (something_there c l) first W = refl
 
-  guard-false : (s : Span) (n : ℕ) (kept : List Kept) {goal : PStmts} → IsRow goal → (W : Variables) (v : Value) → evaluated h.types W (variable g s n) ≡ Ok v → is_true_value v ≡ false →
+  guard-false : (s : Span) (n : ℕ) (kept : List Kept) {goal : PStmts} → IsSomething goal → (W : Variables) (v : Value) → evaluated h.types W (variable g s n) ≡ Ok v → is_true_value v ≡ false →
       Reaches (guard_if s n kept goal W) (right goal W)
   guard-false s n [] row W v e t = reaches_here _
   guard-false s n (y ∷ ys) {goal} row W v e t =
@@ -314,7 +314,7 @@ module _ (w : Rewritten) (made : AreMade w.programs) (added : Added w.programs w
   first_truth (None ∷ vs) = false
   first_truth (Some v ∷ vs) = is_true_value v
 
-  module _ (s : Span) (goal : PStmts) (row : IsRow goal) (what : PAltKind) (old : OldKind (asked_of w) what) (t : List PDecl) (begins : Begin (after_kind (normal_rewriter (unit_of w)) what t) w.vars) (k n : ℕ) where
+  module _ (s : Span) (goal : PStmts) (row : IsSomething goal) (what : PAltKind) (old : OldKind (asked_of w) what) (t : List PDecl) (begins : Begin (after_kind (normal_rewriter (unit_of w)) what t) w.vars) (k n : ℕ) where
     abbrev kept : List Kept
     kept = kind_kept (unit_of w) s what
 
@@ -532,7 +532,7 @@ module _ (w : Rewritten) (made : AreMade w.programs) (added : Added w.programs w
       go (alt_raises a res stop) =
           alts_raise a (split left guard what rest (delays_with what k) refl ∙ ap (λ c. and_then c (λ y. and_then (alternatives_open left rest (delays_with what k)) (λ ys. Ok (open_then y ys)))) res) stop
 
-  pub alts-comes : {alts : PAlts} → OldAlts (asked_of w) alts → (t : List PDecl) → Begin (after_alts r alts t) w.vars → (k : ℕ) {goal : PStmts} → IsRow goal → (W : Variables) → In W → AreThere added W →
+  pub alts-comes : {alts : PAlts} → OldAlts (asked_of w) alts → (t : List PDecl) → Begin (after_alts r alts t) w.vars → (k : ℕ) {goal : PStmts} → IsSomething goal → (W : Variables) → In W → AreThere added W →
       MeetsAlts (right (in_front (alts_leads r alts t) goal) W) goal alts (inside_alts r alts t) k (length t) (length (after_alts r alts t)) W
   alts-comes old_no_alt t begins k {goal} row W u still =
       alts_made [] [] W refl (λ W2 u2 below. refl) no_opens (λ gs e W2 below. subst (λ l. AreTold h W2 l []) (some-list [] gs e) none_told) u still (reaches_here (right goal W)) (λ j m1. refl)

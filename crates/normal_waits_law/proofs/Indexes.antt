@@ -19,7 +19,7 @@ use Rattle.normal_model.specs.Names.{variable_name}
 use Rattle.normal_model.specs.Making.{moving, variable, index_left}
 use Rattle.translation_law.specs.Translations.{Programs, Translation, types_before, types_after}
 use Rattle.translation_law.specs.OldNames.{OldExpr, OldOption, old_none, old_some}
-use Rattle.translation_law.specs.Images.{IsRow, something_there}
+use Rattle.translation_law.specs.Images.{IsSomething, something_there}
 use Rattle.translation_law.specs.Controls.{task_in, Under}
 use Rattle.translation_law.specs.Floors.{IsTranslation}
 use Rattle.translation_law.proofs.Evaluating.{worth-same}
@@ -60,7 +60,7 @@ module _ (x : Translation) (laws : IsTranslation x) (made : AreMade x.text.progr
     pub stop : stepped (right rest vars) ≡ raised_there a (right rest vars)
 
   -- the values in front of any row
-  pub values-made : (s : Span) {goal : PStmts} → IsRow goal → (W : Variables) {ds : List (Option PExpr)} → OldDues b ds → (k : ℕ) → k + length ds ≤ added.count → Under x p o V p' o' W → AreThere added W →
+  pub values-made : (s : Span) {goal : PStmts} → IsSomething goal → (W : Variables) {ds : List (Option PExpr)} → OldDues b ds → (k : ℕ) → k + length ds ≤ added.count → Under x p o V p' o' W → AreThere added W →
       Prelude x added m i out p o V p' o' (right (in_front (due_before g s ds k) goal) W) goal k W ds
   values-made s (something_there t r) W old k l u there = prelude x laws g added m i out p p' o o' V s t r old k W l u there
 
@@ -85,7 +85,7 @@ module _ (x : Translation) (laws : IsTranslation x) (made : AreMade x.text.progr
   first_position (None ∷ vs) = pos 0
   first_position (Some v ∷ vs) = position_of v
 
-  moved : (s : Span) {goal : PStmts} → IsRow goal → (e : ℕ) (d : PExpr) → OldExpr b d → (k : ℕ) → SameRange (family_limits (entry_at g.numbers e)) (added.bounds k) → k < added.count → (W : Variables) →
+  moved : (s : Span) {goal : PStmts} → IsSomething goal → (e : ℕ) (d : PExpr) → OldExpr b d → (k : ℕ) → SameRange (family_limits (entry_at g.numbers e)) (added.bounds k) → k < added.count → (W : Variables) →
       Under x p o V p' o' W → AreThere added W → MeetsIndex (right (in_front (due_before g s (Some d ∷ []) k) goal) W) goal e (Some d) (Some (variable g s k)) k (k + 1) W
   moved s {goal} row e d old k range l W u there = go (values-made s row W (old_due d [] old old_no_due) k (omega arith) u there)
     where
@@ -110,7 +110,7 @@ module _ (x : Translation) (laws : IsTranslation x) (made : AreMade x.text.progr
   some-old : (d : PExpr) → OldOption b (Some d) → OldExpr b d
   some-old d (old_some e old) = old
 
-  pub index-comes : (s : Span) {goal : PStmts} → IsRow goal → (e : ℕ) (index : Option PExpr) → OldOption b index → (mv : Option PExpr) → moving g.types index ≡ mv →
+  pub index-comes : (s : Span) {goal : PStmts} → IsSomething goal → (e : ℕ) (index : Option PExpr) → OldOption b index → (mv : Option PExpr) → moving g.types index ≡ mv →
       (moving g.types index ≡ None → (z : ℤ) × (member_index g [] e index ≡ Ok z)) → (k : ℕ) → ((d : PExpr) → mv ≡ Some d → SameRange (family_limits (entry_at g.numbers e)) (added.bounds k)) →
       k + length (dues_of mv) ≤ added.count → (W : Variables) → Under x p o V p' o' W → AreThere added W →
       MeetsIndex (right (in_front (due_before g s (dues_of mv) k) goal) W) goal e index (index_left g s k mv index) k (k + length (dues_of mv)) W

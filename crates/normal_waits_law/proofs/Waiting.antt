@@ -29,12 +29,12 @@ use Rattle.normal_model.proofs.WalkLemmas.{in_front-joined}
 use Rattle.normal_model.proofs.VariablesLemmas.{normal-adds, alts-begin, maybe-begins}
 use Rattle.translation_law.specs.Translations.{Translation}
 use Rattle.translation_law.specs.OldTexts.{OldHead, OldMaybe, old_absent, old_present, OldAlts, old_no_alt, old_alt, OldKind, old_accepts, old_delays, old_terminates}
-use Rattle.translation_law.specs.Images.{IsRow, something_there}
+use Rattle.translation_law.specs.Images.{IsSomething, something_there}
 use Rattle.translation_law.specs.Controls.{task_in, Under, inside, Alike, alike, AreInside, are_inside, are_around}
 use Rattle.translation_law.specs.Floors.{IsTranslation}
 use Rattle.translation_law.proofs.Locals.{go-there}
 use Rattle.normal_law.specs.Suited.{AreMade, IsHead, Rewritten, unit_of, asked_of}
-use Rattle.normal_law.specs.NormalRows.{Begin, behind_stmt, Normal, normal_none, normal_rows}
+use Rattle.normal_law.specs.NormalLists.{Begin, behind_stmt, Normal, normal_none, normal_lists}
 use Rattle.normal_law.specs.NormalFloors.{normal}
 use Rattle.normal_law.specs.Meetings.{none_named, AreValues, are_before}
 use Rattle.normal_law.specs.Preludes.{reaches_here, Added, AreThere}
@@ -54,10 +54,10 @@ use Rattle.normal_waits_law.proofs.Choices.{choices-alike, find-alike, all_close
 module _ (w : Rewritten) (made : AreMade w.programs) (added : Added w.programs w.programs.original) (declared : AreDeclared w added) (m : ℕ) (number : m ≡ w.number) (i : List ℤ) (out : List ℕ)
     (p p' : Around) (o o' : List Part) (V : Variables) where
   abbrev x : Translation
-  x = normal (normal_rows w) added
+  x = normal (normal_lists w) added
 
   abbrev laws : IsTranslation x
-  laws = normal-translates (normal_rows w) (normal-images w) made.types added
+  laws = normal-translates (normal_lists w) (normal-images w) made.types added
 
   abbrev g : Setting
   g = w.programs.original
@@ -83,13 +83,13 @@ module _ (w : Rewritten) (made : AreMade w.programs) (added : Added w.programs w
     opened-alike : {ro ro' : Option Open} → MaybeOpen w ro ro' → (W : Variables) → In W → (caller : ℕ) (values : List Value) → AreValues w.programs values →
         Alike x (alternative_opened caller ro values (left (stmt_then s q))) (alternative_opened caller ro' values (right (stmt_then s' q') W))
     opened-alike none_open W u caller values known =
-        inside-alike _ _ (body-opens (normal_rows w) (normal-images w) made.types added m i out s s' q q' no_stmt no_stmt no_stmt no_stmt caller none_named known normal_none normal_none im u)
+        inside-alike _ _ (body-opens (normal_lists w) (normal-images w) made.types added m i out s s' q q' no_stmt no_stmt no_stmt no_stmt caller none_named known normal_none normal_none im u)
     opened-alike (some_open op op' (accepts_alike e z t t' l l' d d' f old il id)) W u caller values known =
-        inside-alike _ _ (accept-opens (normal_rows w) (normal-images w) made.types added (left (stmt_then s q)) (right (stmt_then s' q') W) (are_before m i out s s' q q' im u) caller e z t t' f old values known l l' d d' il id)
+        inside-alike _ _ (accept-opens (normal_lists w) (normal-images w) made.types added (left (stmt_then s q)) (right (stmt_then s' q') W) (are_before m i out s s' q q' im u) caller e z t t' f old values known l l' d d' il id)
     opened-alike (some_open op op' (delays_alike k d l l' c)) W u caller values known =
-        inside-alike _ _ (body-opens (normal_rows w) (normal-images w) made.types added m i out s s' q q' no_stmt no_stmt no_stmt no_stmt caller none_named known normal_none normal_none im u)
+        inside-alike _ _ (body-opens (normal_lists w) (normal-images w) made.types added m i out s s' q q' no_stmt no_stmt no_stmt no_stmt caller none_named known normal_none normal_none im u)
     opened-alike (some_open op op' terminate_alike) W u caller values known =
-        inside-alike _ _ (body-opens (normal_rows w) (normal-images w) made.types added m i out s s' q q' no_stmt no_stmt no_stmt no_stmt caller none_named known normal_none normal_none im u)
+        inside-alike _ _ (body-opens (normal_lists w) (normal-images w) made.types added m i out s s' q q' no_stmt no_stmt no_stmt no_stmt caller none_named known normal_none normal_none im u)
 
     -- both stand before statements with the same choices
     choices-met : (W : Variables) → In W → (cs : List Choice) → stand_of (left (stmt_then s q)) ≡ choices_stand cs → stand_of (right (stmt_then s' q') W) ≡ choices_stand cs →
@@ -268,7 +268,7 @@ module _ (w : Rewritten) (made : AreMade w.programs) (added : Added w.programs w
         test : PStmts
         test = closed_test s oth' (all_guards alts')
 
-        goal-row : IsRow (in_front test there)
+        goal-row : IsSomething (in_front test there)
         goal-row = row-behind w made added declared m number i out p p' o o' V here there test (something_there (SWait alts' oth' s) q')
 
         leads : PStmts

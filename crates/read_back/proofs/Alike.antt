@@ -5,7 +5,7 @@ use Rattle.ada_tree.specs.declared.naming.NameId.{NameId}
 use Rattle.ada_tree.specs.declared.naming.Word.{Word}
 use Rattle.ada_tree.specs.PlainExpr.{PExpr, EInteger, EName, EIndex, EAttribute, EAttributeOf, EParen, EUnary, EBinary, PBounds, PSubind, PDrange, RGiven, RMarked}
 use Rattle.ada_tree.specs.PlainStmt.{PTarget, PCallee, PArgs, PCall, PFormal, PPart, PWords, PValue, PChoice, PScheme, LWhile, LFor, PHead, PStmt, SNull, SAssign, SDelay, SExit, SRaise, SAbort, SCall, SAccept, SWait, SConditional, STimed, SPut, SPutLine, SNewLine, SGet, SIf, SCase, SBlock, SLoop, PStmts, no_stmt, stmt_then, PMaybe, absent, present, PAccept, accepting, PAlt, alternative, PAltKind, AAccept, ADelay, ATerminate, PAlts, no_alt, alt_then, PArm, arm, PArms, no_arm, arm_then, PCaseArm, case_arm, PCaseArms, no_case_arm, case_arm_then, PBody, body, PHandler, handler, PHandlers, no_handler, handler_then}
-use Rattle.ada_tree.specs.PlainDecl.{PShape, OPlain, ORow, PInit, IOne, IList, IOthers, PPriority, PEntry, PTask, PDecl, DNumber, DObject, DEnumeration, DArray, DSubtype, DException, DIntIo, DPragma, DTask, DTaskBody, PDecls, no_decl, decl_then}
+use Rattle.ada_tree.specs.PlainDecl.{PShape, OPlain, OArray, PInit, IOne, IList, IOthers, PPriority, PEntry, PTask, PDecl, DNumber, DObject, DEnumeration, DArray, DSubtype, DException, DIntIo, DPragma, DTask, DTaskBody, PDecls, no_decl, decl_then}
 use Rattle.ada_tree.specs.PlainProgram.{PProgram}
 use Rattle.ada_tree.specs.Same.{SameOption, SameName, SameWord, SameExpr, SameBounds, SameSubind, SameDrange, SameTarget, SameCallee, SameArgs, SameCall, SameFormal, SamePart, SameChoice, SameScheme, SameHead, SameStmt, SameStmts, SameMaybe, SameAccept, SameAlt, SameAltKind, SameAlts, SameArm, SameArms, SameCaseArm, SameCaseArms, SameBody, SameHandler, SameHandlers, SameShape, SameInit, SamePriority, SameEntry, SameTask, SameDecl, SameDecls, Same}
 use Rattle.ded_io.specs.Written.{◌⧺◌, each_text}
@@ -315,9 +315,9 @@ module _ (n m : List (List ℕ)) where
 
   shape_alike : (x y : PShape) → SameShape n m x y → decl.shape_text n x ≡ decl.shape_text m y
   shape_alike (OPlain x) (OPlain y) same = subind_alike x y same
-  shape_alike (ORow r x) (ORow q y) same = array_alike r q x y same.0 same.1
-  shape_alike (OPlain x) (ORow q y) same = absurd same
-  shape_alike (ORow r x) (OPlain y) same = absurd same
+  shape_alike (OArray r x) (OArray q y) same = array_alike r q x y same.0 same.1
+  shape_alike (OPlain x) (OArray q y) same = absurd same
+  shape_alike (OArray r x) (OPlain y) same = absurd same
 
   init_alike : (x y : PInit) → SameInit n m x y → decl.init_text n x ≡ decl.init_text m y
   init_alike (IOne e) (IOne f) same = expr_alike e f same

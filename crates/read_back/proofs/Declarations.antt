@@ -5,7 +5,7 @@ use Rattle.ada_tree.specs.declared.naming.Span.{Span}
 use Rattle.ada_tree.specs.declared.naming.Word.{Word}
 use Rattle.ada_tree.specs.PlainExpr.{PExpr, PSubind, PDrange}
 use Rattle.ada_tree.specs.PlainStmt.{PBody}
-use Rattle.ada_tree.specs.PlainDecl.{PShape, OPlain, ORow, PInit, IOne, IList, IOthers, PTask, PDecl, DNumber, DObject, DEnumeration, DArray, DSubtype, DException, DIntIo, DPragma, DTask, DTaskBody, PDecls, no_decl, decl_then}
+use Rattle.ada_tree.specs.PlainDecl.{PShape, OPlain, OArray, PInit, IOne, IList, IOthers, PTask, PDecl, DNumber, DObject, DEnumeration, DArray, DSubtype, DException, DIntIo, DPragma, DTask, DTaskBody, PDecls, no_decl, decl_then}
 use Rattle.ada_tree.specs.WellPlaced.{IsGiven, AreObjects, IsLater, AreLater, BodiesLast, well_placed}
 use Rattle.ada_tree.specs.Every.{EveryWord, EveryExpr, EveryNames, EveryDrange, EverySubind, EveryShape, EveryInit, EveryTask, EveryBody, EveryDecl, EveryDecls}
 use Rattle.ada_tree.specs.Same.{SameOption, SameExpr, SameDrange, SameSubind, SameShape, SameInit, SameDecl, SameDecls, SameBody}
@@ -92,7 +92,7 @@ module _ (w : Setting) (n : List (List ℕ)) where
 
   read_shape : (d : ℕ) (x : PShape) (at : ℕ) → 300 ≤ 2 + d → EveryShape (well_placed n) x → Found w n (SameShape n m x) Plain Stop (IsShape d) at (shape_text n x)
   read_shape d (OPlain x) at deep good = let y = read_subind w n 2 d x at deep good in (OPlain y.0, y.1)
-  read_shape d (ORow r x) at deep good = let y = read_array d r x at deep good.0 good.1 in (ORow y.0 y.1, y.2)
+  read_shape d (OArray r x) at deep good = let y = read_array d r x at deep good.0 good.1 in (OArray y.0 y.1, y.2)
 
   filled_list : (d : ℕ) (es : List PExpr) → Filled (IsList d es)
   filled_list d [] said = said.1

@@ -13,7 +13,7 @@ use Rattle.ada_tree.specs.Every.{EveryExpr, EveryDrange, EveryEntry, EveryPriori
 use Rattle.ada_tree.specs.Same.{SameOption, SameExpr, SameDrange, SameEntry, SamePriority, SameTask}
 use Rattle.ada_lexer.specs.declared.symbols.Symbol.TheVariants as key
 use Rattle.ada_expr_parser.specs.declared.items.Item.{Item}
-use Rattle.ada_phrase_parser.specs.Spelling.{Source, Spelling, ◌▷◌, IfThere, Key, Row}
+use Rattle.ada_phrase_parser.specs.Spelling.{Source, Spelling, ◌▷◌, IfThere, Key, ListOf}
 use Rattle.ada_phrase_parser.specs.Phrases.{EndOf, Drange}
 use Rattle.ada_task_parser.specs.Tasks.{IsPriority, IsEntry, Member, MEntry, MPriority, entries_in, priorities_in, IsMember, TaskWord, TaskRest, IsTask}
 use Rattle.ded_io.specs.Written.{◌⧺◌}
@@ -76,7 +76,7 @@ all_here before (p ∷ ps) up =
     (here, all_here before ps (subst (λ k. GoUp k before (places ps)) here up.2))
 
 -- what a task has behind `is`, also where it has no members
-rest_is : (source : Source) (d : ℕ) (v : Word) (ms : List Member) (items : List Item) → (Key key.Is ▷ Row (IsMember source d) ms ▷ EndOf v) items → TaskRest source d v ms items
+rest_is : (source : Source) (d : ℕ) (v : Word) (ms : List Member) (items : List Item) → (Key key.Is ▷ ListOf (IsMember source d) ms ▷ EndOf v) items → TaskRest source d v ms items
 rest_is source d v [] items (one, more, is, said, (none, last, then, nothing, end)) =
     inr (one, last, is ∙ ap (λ l. one ++ l) (then ∙ ap (λ l. l ++ last) nothing), said, end)
 rest_is source d v (x ∷ ms) items said = said
@@ -115,8 +115,8 @@ module _ (w : Setting) (n : List (List ℕ)) where
 
   -- pragmas before what follows
   read_priorities : (d level before : ℕ) (ps qs : List PPriority) (es : List PEntry) (u : List ℕ) (ms : List Member) (at : ℕ) → 300 ≤ 2 + d → AllByRecursion (EveryPriority (well_placed n)) ps → AllByRecursion (IsHere before) ps →
-      Told w (Members before d es qs ms) Anything Anything (Row (IsMember src d) ms) (at + length (priorities_text n level ps)) u →
-      (more : List Member) × Told w (Members before d es (ps ++ qs) more) Anything Anything (Row (IsMember src d) more) at (priorities_text n level ps ⧺ u)
+      Told w (Members before d es qs ms) Anything Anything (ListOf (IsMember src d) ms) (at + length (priorities_text n level ps)) u →
+      (more : List Member) × Told w (Members before d es (ps ++ qs) more) Anything Anything (ListOf (IsMember src d) more) at (priorities_text n level ps ⧺ u)
   read_priorities d level before [] qs es u ms at deep good here rest = (ms, told_text w _ _ (empty_shut u) (told_at w _ _ (omega arith) rest))
   read_priorities d level before (p ∷ ps) qs es u ms at deep good here rest =
       let first : List ℕ = priority_text n level p in
@@ -130,7 +130,7 @@ module _ (w : Setting) (n : List (List ℕ)) where
 
   -- entries and pragmas of a task, when so many entries stand before
   read_items : (d level before total : ℕ) (es : List PEntry) (ps : List PPriority) (at : ℕ) → 300 ≤ 2 + d → AllByRecursion (EveryEntry (well_placed n)) es → AllByRecursion (EveryPriority (well_placed n)) ps → GoUp before total (places ps) → before + length es ≡ total →
-      (ms : List Member) × Told w (Members before d es ps ms) Anything Anything (Row (IsMember src d) ms) at (items_text n level before es ps)
+      (ms : List Member) × Told w (Members before d es ps ms) Anything Anything (ListOf (IsMember src d) ms) at (items_text n level before es ps)
   read_items d level before total [] ps at deep fine good up count =
       let here = all_here before ps (subst (λ k. GoUp before k (places ps)) (omega (arith, count)) up) in
       let told = read_priorities d level before ps [] [] [] [] at deep good here (told_same w (told_nothing w {a = Anything}) (λ s. (tt, tt))) in
@@ -141,7 +141,7 @@ module _ (w : Setting) (n : List (List ℕ)) where
       let front : List ℕ = priorities_text n level (take k ps) in
       let one = read_entry d level x (at + length front) deep fine.0 in
       let rest = read_items d level (before + 1) total es (drop k ps) ((at + length front) + length (entry_text n level x)) deep fine.1 (all_drop _ k ps good) split.1 (omega (arith, count)) in
-      let behind : Told w (Members before d (x ∷ es) (drop k ps) (MEntry one.0 ∷ rest.0)) Anything Anything (Row (IsMember src d) (MEntry one.0 ∷ rest.0)) (at + length front) (entry_text n level x ⧺ items_text n level (before + 1) es (drop k ps)) =
+      let behind : Told w (Members before d (x ∷ es) (drop k ps) (MEntry one.0 ∷ rest.0)) Anything Anything (ListOf (IsMember src d) (MEntry one.0 ∷ rest.0)) (at + length front) (entry_text n level x ⧺ items_text n level (before + 1) es (drop k ps)) =
       told_same w (told_then w one.1 rest.1 refl) (λ same. ((same.0, same.1.0), same.1.1)) in
       let told = read_priorities d level before (take k ps) (drop k ps) (x ∷ es) _ (MEntry one.0 ∷ rest.0) at deep (all_take _ k ps good) split.0 behind in
       (told.0, told_same w told.1 (λ same. (same.0, subst (λ l. AllZip (SamePriority n m) l (priorities_in before told.0)) (take-append-drop k ps) same.1)))

@@ -1,5 +1,5 @@
 -- The rendezvous of an accept statement, from its parts.
-use Rattle.std.proofs.Common.{◌≡◌, Result, Ok, Err, IfOk, Vec, sym, ap, ◌∙◌}
+use Rattle.std.proofs.Common.{◌≡◌, Result, IfOk, Vec, sym, ap, ◌∙◌}
 use Rattle.std.specs.declared.alloc.Global.{Global}
 use Rattle.std.proofs.lemmas.Result.{IfOk-weaker}
 use Rattle.ada_tree.specs.declared.naming.Span.{Span}

@@ -1,8 +1,7 @@
 -- Accept statements of a replay text, by ids that are looked up once.
-use Rattle.std.specs.Prelude.{[], Option, Some, None}
 use Rattle.ada_tree.specs.declared.naming.Span.{Span}
 use Rattle.ada_tree.specs.PlainExpr.{PExpr}
-use Rattle.ada_tree.specs.PlainStmt.{PHead, PStmt, SRaise, SAccept, SBlock, PStmts, stmt_then, PMaybe, absent, present, PAccept, accepting, body, PHandlers, no_handler, handler_then, handler, no_arm, arm_then, arm}
+use Rattle.ada_tree.specs.PlainStmt.{PHead, PStmt, SAccept, SBlock, PStmts, stmt_then, PMaybe, absent, present, PAccept, accepting, body, no_arm, arm_then, arm}
 use Rattle.task_model.specs.Setting.{entry_of}
 use Rattle.task_model.specs.Frames.{in_front}
 use Rattle.normal_model.specs.Making.{one}

@@ -24,7 +24,8 @@ use Rattle.replay_model.specs.ReplayTree.{behind_own, permit_declared, replay_de
 use Rattle.replay_model.specs.ReplayNumbers.{numbers_replayed}
 use Rattle.rewritten_types.proofs.Lookups.{place-more, all-append, all-weaker}
 use Rattle.normal_units.proofs.Bodies.{IsNoBody, skip-list}
-use Rattle.replay_texts.proofs.Listed.{IsPlain, all-behind, sorted-plain}
+use Rattle.normal_has_numbers.proofs.Listed.{IsPlain}
+use Rattle.replay_texts.proofs.Listed.{all-behind, sorted-plain}
 use Rattle.replay_texts.proofs.Rooted.{ids-apart}
 use Rattle.replay_bodies.specs.Laws.{TasksKeepNumbers, has_body, replayed_unit, UnitsAreReplayed, AddedTasksRun}
 

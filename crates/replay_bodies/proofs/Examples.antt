@@ -5,7 +5,7 @@ use Rattle.syn_event.specs.Numbering.{Numbering}
 use Rattle.syn_event.specs.AllNumbers.{all_numbers}
 use Rattle.control_script.specs.declared.Op.{Op}
 use Rattle.normal_types.proofs.Examples.{original, ordered, own}
-use Rattle.replay_texts.proofs.Examples.{none_is_ded}
+use Rattle.normal_has_numbers.proofs.Examples.{none_is_ded}
 use Rattle.replay_bodies.specs.Laws.{HasBodies, RunsUnits}
 use Rattle.replay_bodies.proofs.Programs.{programs_run}
 

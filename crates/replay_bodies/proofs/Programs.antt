@@ -14,8 +14,8 @@ use Rattle.ada_tree.specs.Refusals.{types_in}
 use Rattle.syn_event.specs.declared.numbering.TaskInfo.{TaskInfo}
 use Rattle.syn_event.specs.Numbering.{Numbering, task_at}
 use Rattle.syn_event.specs.Numbered.{is_added_name, task_info}
-use Rattle.syn_event.specs.TaskParts.{Seat, seats}
-use Rattle.syn_event.specs.AllNumbers.{seat_info, all_numbers}
+use Rattle.syn_event.specs.NamedTasks.{NumberedTask, numbered_tasks}
+use Rattle.syn_event.specs.AllNumbers.{info_of_task, all_numbers}
 use Rattle.syn_event.specs.Units.{decl_list}
 use Rattle.task_model.specs.Setting.{Setting}
 use Rattle.normal_model.specs.Names.{task_name}
@@ -25,11 +25,11 @@ use Rattle.replay_model.specs.Names.{control_text, idle_text, replay_names, adde
 use Rattle.replay_model.specs.ReplayTree.{normal_setting}
 use Rattle.rewritten_types.proofs.Lookups.{some-same, place-all}
 use Rattle.normal_types.specs.Laws.{IsOrdered, setting_of, AreOwn}
-use Rattle.replay_texts.specs.Laws.{NoneIsDed}
-use Rattle.replay_texts.proofs.Named.{reserved-added}
-use Rattle.replay_texts.proofs.Listed.{IsPlain, IsOneTask, first-plain, firsts, vars, tasks, bodies, vars-plain, tasks-all, normal-list}
+use Rattle.normal_has_numbers.specs.Laws.{NoneIsDed}
+use Rattle.normal_has_numbers.proofs.Named.{reserved-added}
+use Rattle.normal_has_numbers.proofs.Listed.{IsPlain, IsOneTask, first-plain, firsts, vars, tasks, bodies, vars-plain, tasks-all, normal-list}
 use Rattle.replay_texts.proofs.Rooted.{replay-has}
-use Rattle.replay_texts.proofs.Tasked.{under, normal-tasks-of}
+use Rattle.normal_has_numbers.proofs.Tasked.{under, normal-tasks-of}
 use Rattle.replay_texts.proofs.Kept.{all-not-added}
 use Rattle.replay_bodies.specs.Laws.{has_body, HasBodies, ProgramsRun}
 use Rattle.replay_bodies.proofs.Bodies.{units_are_replayed, added_tasks_run}
@@ -176,41 +176,41 @@ module _ (p : PProgram) (ordered : IsOrdered p) (own : AreOwn p p.decls) (ded : 
   normal = normal_tree p types numbers
 
   -- no task has an added name
-  others : (ys : List Seat) (id : NameId) → is_added_name (replay_names normal) id ≡ true → AllByRecursion (λ (y : Seat). is_added_name (replay_names normal) (under g y).name.name ≡ false) ys →
-      AllByRecursion (λ (i : TaskInfo). ((task_name g i).0 == id.0) ≡ false) (map (seat_info p.names) ys)
+  others : (ys : List NumberedTask) (id : NameId) → is_added_name (replay_names normal) id ≡ true → AllByRecursion (λ (y : NumberedTask). is_added_name (replay_names normal) (under g y).name.name ≡ false) ys →
+      AllByRecursion (λ (i : TaskInfo). ((task_name g i).0 == id.0) ≡ false) (map (info_of_task p.names) ys)
   others [] id a h = tt
-  others (y ∷ ys) id a h = (by_test ((task_name g (seat_info p.names y)).0 == id.0) refl, others ys id a h.1)
+  others (y ∷ ys) id a h = (by_test ((task_name g (info_of_task p.names y)).0 == id.0) refl, others ys id a h.1)
     where
-      by_test : (b : Bool) → ((task_name g (seat_info p.names y)).0 == id.0) ≡ b → b ≡ false
+      by_test : (b : Bool) → ((task_name g (info_of_task p.names y)).0 == id.0) ≡ b → b ≡ false
       by_test false e = refl
       by_test true e =
-          let same : (task_name g (seat_info p.names y)).0 ≡ id.0 = eqb-true _ _ e in
+          let same : (task_name g (info_of_task p.names y)).0 ≡ id.0 = eqb-true _ _ e in
           absurd (true≢false (sym a ∙ (λ i. is_added_name (replay_names normal) record { 0 = sym same i }) ∙ h.0))
 
   no-body : (text : List ℕ) → is_added_name (replay_names normal) (added_id normal text) ≡ true → has_body (decl_list normal.decls) (added_id normal text) ≡ false
   no-body text a =
       copies-alone p types numbers (added_id normal text)
-      ∙ copies-none g (decl_list p.decls) (added_id normal text) (others (seats types p) (added_id normal text) a (all-not-added p ordered own ded))
+      ∙ copies-none g (decl_list p.decls) (added_id normal text) (others (numbered_tasks types p) (added_id normal text) a (all-not-added p ordered own ded))
 
   -- the body of a task of the normal form
   own-body : HasBodies p (tasks_beside g) → (k : ℕ) (info : TaskInfo) → task_at (normal_setting p types numbers).numbers (suc k) ≡ Some info → has_body (decl_list normal.decls) info.unit ≡ true
   own-body has k info at =
-      let ys = seats types p in
-      let names : slice_get (map (λ (y : Seat). task_info normal.names (under g y).name.name) ys) k ≡ Some info =
+      let ys = numbered_tasks types p in
+      let names : slice_get (map (λ (y : NumberedTask). task_info normal.names (under g y).name.name) ys) k ≡ Some info =
       ap (λ l. slice_get l k) (sym (mapped ys)) ∙ ap (λ (ts : List PTask). slice_get (map (λ (t : PTask). task_info normal.names t.name.name) ts) k) (sym (normal-tasks-of p types ordered)) ∙ at in
-      by_place (slice_get ys k) refl (sym (slice_get-map (λ (y : Seat). task_info normal.names (under g y).name.name) ys k) ∙ names)
+      by_place (slice_get ys k) refl (sym (slice_get-map (λ (y : NumberedTask). task_info normal.names (under g y).name.name) ys k) ∙ names)
     where
-      mapped : (ys : List Seat) → map (λ (t : PTask). task_info normal.names t.name.name) (map (under g) ys) ≡ map (λ (y : Seat). task_info normal.names (under g y).name.name) ys
+      mapped : (ys : List NumberedTask) → map (λ (t : PTask). task_info normal.names t.name.name) (map (under g) ys) ≡ map (λ (y : NumberedTask). task_info normal.names (under g y).name.name) ys
       mapped [] = refl
       mapped (y ∷ ys) = ap (λ l. task_info normal.names (under g y).name.name ∷ l) (mapped ys)
 
-      by_place : (o : Option Seat) → slice_get (seats types p) k ≡ o → option_map (λ (y : Seat). task_info normal.names (under g y).name.name) o ≡ Some info → has_body (decl_list normal.decls) info.unit ≡ true
+      by_place : (o : Option NumberedTask) → slice_get (numbered_tasks types p) k ≡ o → option_map (λ (y : NumberedTask). task_info normal.names (under g y).name.name) o ≡ Some info → has_body (decl_list normal.decls) info.unit ≡ true
       by_place None e f = absurd (none-some info f)
       by_place (Some y) e f =
-          let there : slice_get (tasks_beside g) k ≡ Some (seat_info p.names y) = slice_get-map (seat_info p.names) (seats types p) k ∙ ap (option_map (seat_info p.names)) e in
+          let there : slice_get (tasks_beside g) k ≡ Some (info_of_task p.names y) = slice_get-map (info_of_task p.names) (numbered_tasks types p) k ∙ ap (option_map (info_of_task p.names)) e in
           ap (λ (i : TaskInfo). has_body (decl_list normal.decls) i.unit) (sym (some-same f))
           ∙ copies-alone p types numbers (under g y).name.name
-          ∙ copies-there g (decl_list p.decls) k (seat_info p.names y) there (place-all (λ (i : TaskInfo). has_body (decl_list p.decls) i.unit ≡ true) (tasks_beside g) k (seat_info p.names y) has there)
+          ∙ copies-there g (decl_list p.decls) k (info_of_task p.names y) there (place-all (λ (i : TaskInfo). has_body (decl_list p.decls) i.unit ≡ true) (tasks_beside g) k (info_of_task p.names y) has there)
 
 pub programs_run : ProgramsRun
 programs_run p ops ordered own ded has = record {

@@ -4,7 +4,7 @@ use Rattle.ada_tree.specs.declared.naming.NameId.{NameId}
 use Rattle.ada_tree.specs.declared.naming.Span.{Span}
 use Rattle.ada_tree.specs.declared.statements.ParMode.TheVariants.{Give}
 use Rattle.ada_tree.specs.PlainExpr.{PExpr, EInteger, PDrange}
-use Rattle.ada_tree.specs.PlainStmt.{PFormal, PStmt, SNull, SAssign, SCall, SAccept, SWait, SBlock, PStmts, stmt_then, PMaybe, absent, present, accepting, alternative, AAccept, ATerminate, no_alt, alt_then, no_stmt, body, no_handler, handler_then, handler, row_of}
+use Rattle.ada_tree.specs.PlainStmt.{PFormal, PStmt, SNull, SAssign, SCall, SAccept, SWait, SBlock, PStmts, stmt_then, PMaybe, absent, present, accepting, alternative, AAccept, ATerminate, no_alt, alt_then, no_stmt, body, no_handler, handler_then, handler, stmts_of}
 use Rattle.ada_tree.specs.PlainDecl.{PEntry, PDecl, DTask, DTaskBody, no_decl}
 use Rattle.syn_event.specs.declared.numbering.TaskInfo.{TaskInfo}
 use Rattle.control_script.specs.declared.Op.{Op}
@@ -75,7 +75,7 @@ op_statement n infos s Hold = accept_by s n.hold None [] absent
 -- ---- bodies
 
 abbrev pub control_body : AddedNames → List TaskInfo → Span → List Op → PDecl
-control_body n infos s ops = DTaskBody (word_at s n.control) no_decl (body (row_of (map (op_statement n infos s) ops)) no_handler) s
+control_body n infos s ops = DTaskBody (word_at s n.control) no_decl (body (stmts_of (map (op_statement n infos s) ops)) no_handler) s
 
 abbrev pub idle_body : AddedNames → Span → PDecl
 idle_body n s =

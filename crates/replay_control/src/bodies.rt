@@ -1,7 +1,7 @@
 // The bodies of the controller and the idle task.
 
 ghost use Rattle.std.specs.Prelude.{◌≡◌, ◌∷◌, [], None, IfOk, OnOk, map};
-ghost use Rattle.ada_tree.specs.PlainStmt.{plain_alt, plain_stmt, alts_of, alt_then, alternative, no_alt, no_stmt, accepting, absent, AAccept, ATerminate, seen, row_of, body, no_handler};
+ghost use Rattle.ada_tree.specs.PlainStmt.{plain_alt, plain_stmt, alts_of, alt_then, alternative, no_alt, no_stmt, accepting, absent, AAccept, ATerminate, seen, stmts_of, body, no_handler};
 ghost use Rattle.ada_tree.specs.PlainDecl.{plain_decl, no_decl, DTaskBody};
 ghost use Rattle.normal_model.specs.Ranges.{word_at};
 ghost use Rattle.ada_expr_copy.specs.Parts.{OkWith};

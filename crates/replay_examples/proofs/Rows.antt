@@ -6,7 +6,7 @@ use Rattle.ada_tree.specs.declared.expressions.BinaryOp.TheVariants as binary
 use Rattle.ada_tree.specs.declared.statements.ParMode.TheVariants as mode
 use Rattle.ada_tree.specs.PlainExpr.{EInteger, EBinary, RGiven}
 use Rattle.ada_tree.specs.PlainStmt.{SNull, SAssign, SRaise, SCall, SAccept, SWait, SIf, SCase, SBlock, no_stmt, stmt_then, absent, present, accepting, alternative, AAccept, ATerminate, no_alt, alt_then, arm, no_arm, arm_then, case_arm, no_case_arm, case_arm_then, body, handler, no_handler, handler_then}
-use Rattle.ada_tree.specs.PlainDecl.{OPlain, ORow, IOne, DObject, DTask, DTaskBody, no_decl, decl_then}
+use Rattle.ada_tree.specs.PlainDecl.{OPlain, OArray, IOne, DObject, DTask, DTaskBody, no_decl, decl_then}
 use Rattle.ada_tree.specs.PlainProgram.{PProgram}
 use Rattle.ada_tree.specs.Refusals.{refusals}
 use Rattle.event_machine.specs.declared.Event.{Event}
@@ -31,7 +31,7 @@ use Rattle.replay_examples.proofs.Trees.{o, w, n, numbers_in, replay_in, replay_
 --    R(1).E;
 -- end ROW;
 abbrev row : PProgram
-row = record { names = (predefined ++ (codes "ROW" ∷ codes "S" ∷ codes "E" ∷ codes "R" ∷ codes "K" ∷ [])); text_io = false; name = (w 25); decls = (decl_then (DTask (record { name = (w 26); of_kind = true; entries = ((record { name = (w 27); family = None; formals = ([]); span = o }) ∷ []); priorities = ([]) }) o) (decl_then (DObject ((w 28) ∷ []) false (ORow (RGiven (record { first = (EInteger 1 o); last = (EInteger 2 o) })) (record { mark = (w 26); bounds = None })) None o) (decl_then (DObject ((w 29) ∷ []) false (OPlain (record { mark = (w 0); bounds = None })) (Some (IOne (EInteger 2 o))) o) (decl_then (DTaskBody (w 26) no_decl (body (stmt_then (SAccept (accepting (record { entry = (w 27); index = None; formals = ([]); span = o }) absent) o) no_stmt) no_handler) o) no_decl)))); body = (body (stmt_then (SCall (record { task = (record { name = (w 28); index = (Some (n 29)) }); entry = (w 27); args = None }) o) (stmt_then (SCall (record { task = (record { name = (w 28); index = (Some (EInteger 1 o)) }); entry = (w 27); args = None }) o) no_stmt)) no_handler) }
+row = record { names = (predefined ++ (codes "ROW" ∷ codes "S" ∷ codes "E" ∷ codes "R" ∷ codes "K" ∷ [])); text_io = false; name = (w 25); decls = (decl_then (DTask (record { name = (w 26); of_kind = true; entries = ((record { name = (w 27); family = None; formals = ([]); span = o }) ∷ []); priorities = ([]) }) o) (decl_then (DObject ((w 28) ∷ []) false (OArray (RGiven (record { first = (EInteger 1 o); last = (EInteger 2 o) })) (record { mark = (w 26); bounds = None })) None o) (decl_then (DObject ((w 29) ∷ []) false (OPlain (record { mark = (w 0); bounds = None })) (Some (IOne (EInteger 2 o))) o) (decl_then (DTaskBody (w 26) no_decl (body (stmt_then (SAccept (accepting (record { entry = (w 27); index = None; formals = ([]); span = o }) absent) o) no_stmt) no_handler) o) no_decl)))); body = (body (stmt_then (SCall (record { task = (record { name = (w 28); index = (Some (n 29)) }); entry = (w 27); args = None }) o) (stmt_then (SCall (record { task = (record { name = (w 28); index = (Some (EInteger 1 o)) }); entry = (w 27); args = None }) o) no_stmt)) no_handler) }
 
 -- It is legal.
 row_is_legal : refusals row ≡ []

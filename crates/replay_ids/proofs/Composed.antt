@@ -4,7 +4,7 @@ use Rattle.std.proofs.lemmas.List.Sums.{fold-append}
 use Rattle.std.specs.List.{filter}
 use Rattle.ada_tree.specs.declared.naming.Span.{Span}
 use Rattle.ada_tree.specs.NameList.{interned}
-use Rattle.ada_tree.specs.PlainStmt.{stmt_then, row_of, body, no_handler}
+use Rattle.ada_tree.specs.PlainStmt.{stmt_then, stmts_of, body, no_handler}
 use Rattle.ada_tree.specs.PlainDecl.{PDecl, DNumber, DObject, DEnumeration, DArray, DSubtype, DException, DIntIo, DPragma, DTask, DTaskBody, no_decl, decls_of}
 use Rattle.ada_tree.specs.PlainProgram.{PProgram}
 use Rattle.syn_event.specs.declared.numbering.TaskInfo.{TaskInfo}
@@ -47,7 +47,7 @@ named : (g : Setting) (o : Option TaskInfo) → ((info : TaskInfo) → o ≡ Som
 named g None single = refl
 named g (Some info) single = sym (ap (member_name g info.name) (single info refl))
 
-ops-is : (g : Setting) (s : Span) → AreSingle g → (ops : List Op) → row_of (map (op_statement (added_in (replay_names g.program)) g.numbers.tasks s) ops) ≡ model.op_statements g s ops
+ops-is : (g : Setting) (s : Span) → AreSingle g → (ops : List Op) → stmts_of (map (op_statement (added_in (replay_names g.program)) g.numbers.tasks s) ops) ≡ model.op_statements g s ops
 ops-is g s single [] = refl
 ops-is g s single (Go t kind arg index ∷ ops) = ap (stmt_then (model.op_statement g s (Go t kind arg index))) (ops-is g s single ops)
 ops-is g s single (Done t ∷ ops) = ap (stmt_then (model.op_statement g s (Done t))) (ops-is g s single ops)

@@ -1,5 +1,5 @@
 -- What an entry stands for, found among the entries that are not added by the names of their doubles.
-use Rattle.std.proofs.Common.{◌≡◌, ℕ, zero, suc, ◌+◌, ◌<◌, ◌==◌, ◌&&◌, not, Bool, true, false, cond, nat_eq, nat_lt, List, [], ◌∷◌, ◌++◌, codes, length, map, take, get_or, slice_get, count_by, position, option_map, unwrap_or, Option, Some, None, Result, Ok, Err, IfOk, Decides, refl, sym, ap, ◌∙◌, arith}
+use Rattle.std.proofs.Common.{◌≡◌, ℕ, ◌+◌, ◌<◌, ◌==◌, ◌&&◌, not, Bool, true, false, cond, nat_eq, List, [], ◌∷◌, ◌++◌, codes, length, map, take, get_or, slice_get, position, option_map, unwrap_or, Option, Some, None, Result, Ok, Err, IfOk, refl, sym, ap, ◌∙◌, arith}
 use Rattle.std.specs.List.{filter, position_from, starts_with}
 use Rattle.std.specs.Str.{bytes_eq}
 use Rattle.std.specs.Cmp.Lexicographic.{pointwise}

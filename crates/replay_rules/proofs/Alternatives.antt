@@ -1,5 +1,5 @@
 -- The alternatives of a row that a list makes, and the only one of a list of callees.
-use Rattle.std.proofs.Common.{◌≡◌, ℕ, suc, ◌==◌, Bool, true, false, not, List, [], ◌∷◌, length, map, slice_get, option_map, None, refl, ap, arith}
+use Rattle.std.proofs.Common.{◌≡◌, ℕ, suc, ◌==◌, true, false, not, List, [], ◌∷◌, length, map, slice_get, option_map, None, refl, ap, arith}
 use Rattle.ada_tree.specs.declared.statements.Callee.{Callee}
 use Rattle.std.proofs.lemmas.Bool.Decides.{nat_tests}
 use Rattle.ada_tree.specs.declared.naming.Span.{Span}

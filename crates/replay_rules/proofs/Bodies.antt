@@ -1,9 +1,8 @@
 -- The body of a unit by ids is that of the definitions, where the ids are theirs.
-use Rattle.std.proofs.Common.{◌≡◌, ℕ, refl, sym, ap, ◌∙◌}
+use Rattle.std.proofs.Common.{◌≡◌, ℕ, refl, ap}
 use Rattle.ada_tree.specs.declared.naming.Span.{Span}
-use Rattle.ada_tree.specs.PlainStmt.{PStmt, PBody, no_stmt}
+use Rattle.ada_tree.specs.PlainStmt.{PBody}
 use Rattle.normal_model.specs.Waits.{Unit}
-use Rattle.normal_model.specs.Walk.{inside_body}
 use Rattle.replay_model.specs.ReplayStmts.{replay_rewriter, replay_body}
 use Rattle.tree_walk.specs.Rules.{walk_of}
 use Rattle.replay_rules.specs.Replayed.{rule_of, asking_at_end, body_image}

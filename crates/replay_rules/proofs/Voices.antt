@@ -1,17 +1,16 @@
 -- What stands in the place of a statement by ids is what stands there by the definitions, where the ids are theirs.
-use Rattle.std.proofs.Common.{◌≡◌, ℕ, ◌+◌, List, [], ◌∷◌, ◌++◌, refl, sym, ap, ◌∙◌}
+use Rattle.std.proofs.Common.{◌≡◌, ℕ, ◌+◌, List, [], ◌∷◌, ◌++◌, refl, ap, ◌∙◌}
 use Rattle.ada_tree.specs.declared.naming.Span.{Span}
-use Rattle.ada_tree.specs.PlainStmt.{PStmt, SNull, SAssign, SDelay, SExit, SRaise, SAbort, SCall, SAccept, SWait, SConditional, STimed, SPut, SPutLine, SNewLine, SGet, SIf, SCase, SBlock, SLoop, PStmts, stmt_then, PMaybe, absent, present, PAccept, accepting, PAlt, alternative, AAccept, ADelay, ATerminate, PAlts, no_alt, alt_then, alts_of, PArm, arm, PArms, arm_then, no_arm, arms_of}
+use Rattle.ada_tree.specs.PlainStmt.{PStmt, SNull, SAssign, SDelay, SExit, SRaise, SAbort, SCall, SAccept, SWait, SConditional, STimed, SPut, SPutLine, SNewLine, SGet, SIf, SCase, SBlock, SLoop, stmt_then, PMaybe, absent, present, PAccept, accepting, alternative, AAccept, ADelay, ATerminate, PAlts, no_alt, alt_then, alts_of, PArm, arm, arm_then, arms_of}
 use Rattle.task_model.specs.Frames.{in_front}
 use Rattle.normal_model.specs.Waits.{Unit, head_of}
-use Rattle.replay_model.specs.Asking as model
 use Rattle.replay_model.specs.Serving as model_serving
 use Rattle.replay_model.specs.Waiting.{Pause, pauses_of, and_guard, only_pause, alternative_branches}
 use Rattle.replay_model.specs.Waiting as model_waiting
 use Rattle.replay_model.specs.ReplayStmts.{replay_image}
-use Rattle.replay_asking.specs.Spoken.{done, is_kind, ask_which}
-use Rattle.replay_asking.specs.Served.{is_served, serve, accept_image}
-use Rattle.replay_waiting.specs.Waited.{is_due, pause_alt, pause_alts, select_of, pausing, ending, passing, branch_of, next_number, branches, else_branch, wait_image}
+use Rattle.replay_asking.specs.Spoken.{done, ask_which}
+use Rattle.replay_asking.specs.Served.{is_served, serve}
+use Rattle.replay_waiting.specs.Waited.{is_due, pause_alt, pause_alts, select_of, pausing, branch_of, branches, else_branch, wait_image}
 use Rattle.replay_rules.specs.Replayed.{call_image, choice_image, delay_image, image, alt_list}
 use Rattle.replay_rules.specs.Meant.{voice_in}
 

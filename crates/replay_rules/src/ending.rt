@@ -12,7 +12,7 @@ use crate::replaying::{Nothing, Replaying};
 use ada_stmt_copy::building::{block_of, body_of};
 use ada_tree::{Body, Handler, Memory, Span, Stmt};
 use replay_asking::{Speaker, ask_only, whatever};
-use replay_making::{before, put_row, take_body};
+use replay_making::{before, put_list, take_body};
 use std::alloc::Global;
 use tree_making::{null_stmt, one_stmt, take_stmts};
 use tree_walk::rewrite_body;
@@ -51,7 +51,7 @@ fn ask_at_end(alloc: Global, x: &Speaker, place: &mut Body, s: Span) -> Result<(
     let nothing = one_stmt(alloc, Ok(null_stmt(s)));
     let block = block_of(body_of(rows, whatever(alloc, nothing, s)), s);
     let rows = before(alloc, block, ask_only(alloc, x, last_kind(x.task), s));
-    put_row(&mut place.stmts, rows)
+    put_list(&mut place.stmts, rows)
 }
 
 /// The body of a unit becomes its body in a replay text. After want of memory nothing is said of it.

@@ -9,7 +9,7 @@ ghost use Rattle.replay_asking.specs.Looked.{voice_of};
 use crate::aborting::abort_by;
 use ada_tree::{Alt, Call, Memory, Span, Stmt, StmtKind};
 use replay_asking::{Speaker, accept_image, conditional_image, plain_image, timed_image};
-use replay_making::put_row;
+use replay_making::put_list;
 use replay_waiting::wait_image;
 use std::alloc::Global;
 use tree_making::{take_maybe, take_stmts};
@@ -70,7 +70,7 @@ fn put_call(
 ) -> Result<(), Memory>
     ensures { OnOk result (seen out.new.items ≡ in_front (seen out.old.items) (call_image (voice_of x.now) s (plain_call call.now))) }
 {
-    put_row(out, plain_image(alloc, x, call, s))
+    put_list(out, plain_image(alloc, x, call, s))
 }
 
 // The same of a conditional call.
@@ -85,7 +85,7 @@ fn put_conditional(
 ) -> Result<(), Memory>
     ensures { OnOk result (seen out.new.items ≡ in_front (seen out.old.items) (choice_image (voice_of x.now) s (plain_call call.now) (seen behind.items) (seen otherwise.items))) }
 {
-    put_row(out, conditional_image(alloc, x, call, behind, otherwise, s))
+    put_list(out, conditional_image(alloc, x, call, behind, otherwise, s))
 }
 
 // The same of a timed call.
@@ -101,7 +101,7 @@ fn put_timed(
 ) -> Result<(), Memory>
     ensures { OnOk result (seen out.new.items ≡ in_front (seen out.old.items) (delay_image (voice_of x.now) s (plain_call call.now) (seen behind.items) thousandths (seen after.items))) }
 {
-    put_row(
+    put_list(
         out,
         timed_image(alloc, x, call, behind, thousandths, after, s),
     )
@@ -133,12 +133,12 @@ fn put_image(alloc: Global, x: &Speaker, stmt: &mut Stmt, out: &mut Vec<Stmt>) -
             let after = take_stmts(alloc, after);
             put_timed(alloc, x, call, behind, *thousandths, after, s, out)
         }
-        StmtKind::Accept(accept) => put_row(out, accept_image(alloc, x, accept, s)),
+        StmtKind::Accept(accept) => put_list(out, accept_image(alloc, x, accept, s)),
         StmtKind::Wait { alts, otherwise } => {
             let otherwise = take_maybe(otherwise);
-            put_row(out, wait_image(alloc, x, alts, otherwise, s))
+            put_list(out, wait_image(alloc, x, alts, otherwise, s))
         }
-        StmtKind::Abort { names } => put_row(out, abort_by(alloc, x, names, s)),
+        StmtKind::Abort { names } => put_list(out, abort_by(alloc, x, names, s)),
         _ => push_taken(out, stmt),
     }
 }

@@ -13,7 +13,7 @@ use Rattle.replay_model.specs.ReplayTree.{last_task}
 use Rattle.replay_model.specs.ReplayNumbers.{double_info, all_infos, added_infos, numbers_replayed}
 use Rattle.replay_law.specs.Copies.{Spots}
 use Rattle.rewritten_types.proofs.Lookups.{place-all}
-use Rattle.replay_texts.proofs.Named.{text-there, text-longer}
+use Rattle.normal_has_numbers.proofs.Named.{text-there, text-longer}
 use Rattle.replay_texts.proofs.Rooted.{replay-begins}
 use Rattle.replay_spots.specs.Places.{counts, text_spots}
 use Rattle.replay_spots.specs.Laws.{IsInOrder, AreOriginal, is_named_so, DoublesStand}

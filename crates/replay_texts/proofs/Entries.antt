@@ -10,16 +10,16 @@ use Rattle.ada_tree.specs.PlainDecl.{PEntry, PTask}
 use Rattle.ada_tree.specs.PlainProgram.{PProgram}
 use Rattle.syn_event.specs.declared.numbering.EntryInfo.{EntryInfo}
 use Rattle.syn_event.specs.Numbered.{is_added_name, with_origin}
-use Rattle.syn_event.specs.TaskParts.{Seat}
-use Rattle.syn_event.specs.AllNumbers.{first_of, last_of, family_extent, seat_entry, seat_entries}
+use Rattle.syn_event.specs.NamedTasks.{NumberedTask}
+use Rattle.syn_event.specs.AllNumbers.{first_of, last_of, family_extent, entry_of_task, entries_of_tasks}
 use Rattle.syn_event.specs.Units.{text_of}
 use Rattle.task_model.specs.Setting.{Setting}
 use Rattle.replay_model.specs.Names.{control_text, go_text, done_text, hold_text, idle_text, stop_text, rest_text, never_text, join_text, double_text, added_texts, replay_names, added_id, added_word}
 use Rattle.replay_model.specs.Controlling.{added_entry, all_tasks, permit_formals}
 use Rattle.replay_model.specs.ReplayTree.{double_entry, more_entries}
 use Rattle.replay_model.specs.ReplayNumbers.{plain_info, family_info, double_info, own_entries, more_infos, all_infos, added_infos}
-use Rattle.replay_texts.proofs.Named.{Has, IsReserved, reserved-added}
-use Rattle.replay_texts.proofs.Seats.{single_seat}
+use Rattle.normal_has_numbers.proofs.Named.{Has, IsReserved, reserved-added}
+use Rattle.normal_has_numbers.proofs.TasksNumbered.{single_task}
 use Rattle.replay_texts.proofs.Listed.{more_task, added_tasks}
 use Rattle.replay_texts.proofs.Rooted.{replay-has}
 use Rattle.replay_texts.proofs.Stripped.{strip}
@@ -51,12 +51,12 @@ module _ (n : PProgram) (before : List (List ℕ)) (T U : TypeTable) where
     pub added : is_added_name (replay_names n) e.name.name ≡ is_added_name before e.name.name
     pub double : Has (replay_names n) (double_text (text_of n.names e.name.name))
 
-  module _ (all : List EntryInfo) (t : ℕ) (y : Seat) (x : PTask) (same : is_added_name (replay_names n) x.name.name ≡ is_added_name before y.name) where
+  module _ (all : List EntryInfo) (t : ℕ) (y : NumberedTask) (x : PTask) (same : is_added_name (replay_names n) x.name.name ≡ is_added_name before y.name) where
     -- an entry in the replay text
     abbrev numbered : PEntry → EntryInfo
-    numbered e = strip (seat_entry (replay_names n) U t (single_seat x) e)
+    numbered e = strip (entry_of_task (replay_names n) U t (single_task x) e)
 
-    original : (e : PEntry) → IsKept e → numbered e ≡ strip (with_origin before all (seat_entry before T t y e))
+    original : (e : PEntry) → IsKept e → numbered e ≡ strip (with_origin before all (entry_of_task before T t y e))
     original e kept = λ i. record {
       name = e.name.name;
       owner = t;
@@ -67,7 +67,7 @@ module _ (n : PProgram) (before : List (List ℕ)) (T U : TypeTable) where
       stands_for = None;
     }
 
-    double : (e : PEntry) → IsKept e → numbered (double_entry n e) ≡ strip (double_info n (with_origin before all (seat_entry before T t y e)))
+    double : (e : PEntry) → IsKept e → numbered (double_entry n e) ≡ strip (double_info n (with_origin before all (entry_of_task before T t y e)))
     double e kept = λ i. record {
       name = added_id n (double_text (text_of n.names e.name.name));
       owner = t;
@@ -78,36 +78,36 @@ module _ (n : PProgram) (before : List (List ℕ)) (T U : TypeTable) where
       stands_for = None;
     }
 
-    originals : (es : List PEntry) → AllByRecursion IsKept es → map strip (map (seat_entry (replay_names n) U t (single_seat x)) es) ≡ map strip (told before T all t y es)
+    originals : (es : List PEntry) → AllByRecursion IsKept es → map strip (map (entry_of_task (replay_names n) U t (single_task x)) es) ≡ map strip (told before T all t y es)
     originals [] h = refl
     originals (e ∷ es) h = λ i. original e h.0 i ∷ originals es h.1 i
 
     doubles : (es : List PEntry) → AllByRecursion IsKept es →
-        map strip (map (seat_entry (replay_names n) U t (single_seat x)) (map (double_entry n) es)) ≡ map strip (map (double_info n) (told before T all t y es))
+        map strip (map (entry_of_task (replay_names n) U t (single_task x)) (map (double_entry n) es)) ≡ map strip (map (double_info n) (told before T all t y es))
     doubles [] h = refl
     doubles (e ∷ es) h = λ i. double e h.0 i ∷ doubles es h.1 i
 
   -- an entry that a text adds
   plain-added : (t u : ℕ) → t ≡ u → (x : PTask) (s : Span) (text : List ℕ) → (is_added_name (replay_names n) x.name.name || is_added_name (replay_names n) (added_id n text)) ≡ true →
-      strip (seat_entry (replay_names n) U t (single_seat x) (added_entry n s text None [])) ≡ strip (plain_info n u text)
+      strip (entry_of_task (replay_names n) U t (single_task x) (added_entry n s text None [])) ≡ strip (plain_info n u text)
   plain-added t u e x s text a = λ i. record { name = added_id n text; owner = e i; family = false; first = pos 0; last = pos 0; added = a i; stands_for = None }
 
   family-added : (t u : ℕ) → t ≡ u → (x : PTask) (s : Span) (text : List ℕ) (last : ℕ) (formals : List PFormal) →
       (is_added_name (replay_names n) x.name.name || is_added_name (replay_names n) (added_id n text)) ≡ true →
-      strip (seat_entry (replay_names n) U t (single_seat x) (added_entry n s text (all_tasks s last) formals)) ≡ strip (family_info n u text last)
+      strip (entry_of_task (replay_names n) U t (single_task x) (added_entry n s text (all_tasks s last) formals)) ≡ strip (family_info n u text last)
   family-added t u e x s text last formals a = λ i. record { name = added_id n text; owner = e i; family = true; first = pos 0; last = pos last; added = a i; stands_for = None }
 
   -- ---- one task
 
-  -- the entries of a task, which are those of its seat in the program, with their doubles and two more
+  -- the entries of a task, which are those of its numbered task in the program, with their doubles and two more
   block :
-      (g : Setting) → g.program ≡ n → (all : List EntryInfo) (t : ℕ) (y : Seat) (x : PTask) →
+      (g : Setting) → g.program ≡ n → (all : List EntryInfo) (t : ℕ) (y : NumberedTask) (x : PTask) →
       is_added_name (replay_names n) x.name.name ≡ is_added_name before y.name →
       AllByRecursion IsKept x.entries →
       own_entries g.numbers t ≡ told before T all t y x.entries →
-      map strip (map (seat_entry (replay_names n) U t (single_seat (more_task n x))) (more_entries n x)) ≡ map strip (more_infos g t)
+      map strip (map (entry_of_task (replay_names n) U t (single_task (more_task n x))) (more_entries n x)) ≡ map strip (more_infos g t)
   block g program all t y x same kept own =
-      mapped-parts strip (seat_entry (replay_names n) U t (single_seat (more_task n x))) x.entries (map (double_entry n) x.entries) (never ∷ join ∷ [])
+      mapped-parts strip (entry_of_task (replay_names n) U t (single_task (more_task n x))) x.entries (map (double_entry n) x.entries) (never ∷ join ∷ [])
       ∙ (λ i. originals all t y x same x.entries kept i ++ doubles all t y x same x.entries kept i ++ (plain-added t t refl x x.name.span never_text (late never_text refl refl) i ∷ plain-added t t refl x x.name.span join_text (late join_text refl refl) i ∷ []))
       ∙ sym
       (joined-parts strip (own_entries g.numbers t) (map (double_info g.program) (own_entries g.numbers t)) (plain_info g.program t never_text ∷ plain_info g.program t join_text ∷ [])
@@ -124,19 +124,19 @@ module _ (n : PProgram) (before : List (List ℕ)) (T U : TypeTable) where
 
   -- ---- all tasks
 
-  -- the seat's task in the normal form is added there where the seat is in the program, and its entries are kept
-  pub record IsSeatKept (under : Seat → PTask) (y : Seat) : Type 0 where
+  -- the numbered task's task in the normal form is added there where the numbered task is in the program, and its entries are kept
+  pub record IsTaskKept (under : NumberedTask → PTask) (y : NumberedTask) : Type 0 where
     pub added : is_added_name (replay_names n) (under y).name.name ≡ is_added_name before y.name
     pub entries : AllByRecursion IsKept (under y).entries
 
   pub whole :
-      (g : Setting) → g.program ≡ n → (all : List EntryInfo) (under : Seat → PTask) → ((y : Seat) → (under y).entries ≡ y.unit.entries) → (ys : List Seat) (t : ℕ) →
-      AllByRecursion (IsSeatKept under) ys →
-      ((k : ℕ) (y : Seat) → slice_get ys k ≡ Some y → own_entries g.numbers (t + k) ≡ told before T all (t + k) y y.unit.entries) →
-      map strip (seat_entries (replay_names n) U t (map single_seat (map (more_task n) (map under ys)))) ≡ map strip (all_infos g (length ys) t)
+      (g : Setting) → g.program ≡ n → (all : List EntryInfo) (under : NumberedTask → PTask) → ((y : NumberedTask) → (under y).entries ≡ y.unit.entries) → (ys : List NumberedTask) (t : ℕ) →
+      AllByRecursion (IsTaskKept under) ys →
+      ((k : ℕ) (y : NumberedTask) → slice_get ys k ≡ Some y → own_entries g.numbers (t + k) ≡ told before T all (t + k) y y.unit.entries) →
+      map strip (entries_of_tasks (replay_names n) U t (map single_task (map (more_task n) (map under ys)))) ≡ map strip (all_infos g (length ys) t)
   whole g program all under entries [] t kept own = refl
   whole g program all under entries (y ∷ ys) t kept own =
-      map-append strip (map (seat_entry (replay_names n) U t (single_seat (more_task n (under y)))) (more_entries n (under y))) (seat_entries (replay_names n) U (t + 1) (map single_seat (map (more_task n) (map under ys))))
+      map-append strip (map (entry_of_task (replay_names n) U t (single_task (more_task n (under y)))) (more_entries n (under y))) (entries_of_tasks (replay_names n) U (t + 1) (map single_task (map (more_task n) (map under ys))))
       ∙ ap₂ (λ (a b : List EntryInfo). a ++ b)
       (block g program all t y (under y) kept.0.added kept.0.entries (subst (λ v. own_entries g.numbers v ≡ told before T all v y y.unit.entries) (plus-none t) (own 0 y refl) ∙ ap (told before T all t y) (sym (entries y))))
       (whole g program all under entries ys (t + 1) kept.1 (λ k z at. subst (λ v. own_entries g.numbers v ≡ told before T all v z z.unit.entries) (plus-more t k) (own (suc k) z at)))
@@ -145,7 +145,7 @@ module _ (n : PProgram) (before : List (List ℕ)) (T U : TypeTable) where
   -- ---- the controller and the idle task
 
   pub added-part : (s : Span) (t last : ℕ) → t ≡ last + 1 →
-      map strip (seat_entries (replay_names n) U t (map single_seat (added_tasks n s last))) ≡ map strip (added_infos n last)
+      map strip (entries_of_tasks (replay_names n) U t (map single_task (added_tasks n s last))) ≡ map strip (added_infos n last)
   added-part s t last e = λ i.
       family-added t (last + 1) e control s go_text last (permit_formals n s) (of_control go_text) i
       ∷ family-added t (last + 1) e control s done_text last [] (of_control done_text) i

@@ -1,11 +1,7 @@
-pub mod Extents
-pub mod Named
-pub mod Seats
 pub mod Listed
 pub mod Rooted
 pub mod Stripped
 pub mod Owned
-pub mod Tasked
 pub mod Entries
 pub mod Kept
 pub mod Numbered

@@ -1,34 +1,24 @@
--- The declarations of a normal form, and those of a replay text, as lists.
-use Rattle.std.proofs.Common.{◌≡◌, ℕ, ◌==◌, Bool, true, false, not, ◌||◌, cond, if◌then◌else◌, List, [], ◌∷◌, ◌++◌, map, flat_map, is_some, refl, ap, ap₂, ◌∙◌, append-nil}
+-- The declarations of a replay text, by those of the normal form.
+use Rattle.std.proofs.Common.{◌≡◌, ℕ, Bool, true, false, not, ◌||◌, cond, if◌then◌else◌, List, [], ◌∷◌, ◌++◌, map, refl, ap, ap₂, ◌∙◌, append-nil}
 use Rattle.std.specs.List.{AllByRecursion, filter}
 use Rattle.std.proofs.lemmas.List.Elements.{filter-append}
-use Rattle.ada_tree.specs.declared.naming.NameId.{NameId}
 use Rattle.ada_tree.specs.declared.naming.Span.{Span}
 use Rattle.ada_tree.specs.TypeTable.{TypeTable}
 use Rattle.ada_tree.specs.PlainDecl.{PTask, PDecl, DNumber, DObject, DEnumeration, DArray, DSubtype, DException, DIntIo, DPragma, DTask, DTaskBody, PDecls, no_decl, decl_then, decls_of}
 use Rattle.ada_tree.specs.PlainProgram.{PProgram}
-use Rattle.syn_event.specs.declared.numbering.TaskInfo.{TaskInfo}
 use Rattle.syn_event.specs.Numbering.{Numbering}
-use Rattle.syn_event.specs.TaskParts.{type_named, with_type}
 use Rattle.syn_event.specs.Units.{decl_list, tasks_in, tasks_of}
 use Rattle.control_script.specs.declared.Op.{Op}
 use Rattle.task_model.specs.Setting.{Setting}
-use Rattle.normal_model.specs.Names.{task_name}
-use Rattle.normal_model.specs.NormalTree.{mark_of, unless_left, decls_front, first_decls, tasks_beside, task_under, declared_under, task_declared, bodies_of, main_unit, main_variables, normal_tree}
+use Rattle.normal_model.specs.NormalTree.{decls_front, normal_tree}
 use Rattle.replay_model.specs.ReplayTree.{is_added_object, behind_own, permit_declared, more_entries, replay_decl, is_task, is_body, last_task, replay_decls}
 use Rattle.replay_model.specs.Controlling.{control_declared, idle_declared, control_body, idle_body}
 use Rattle.rewritten_types.proofs.Lookups.{all-weaker}
 use Rattle.normal_types.specs.Laws.{setting_of}
-use Rattle.normal_types.proofs.Variables.{all-flat, all-mapped, unit-all}
-use Rattle.normal_units.proofs.Tasks.{list-front, list-of, tasks-joined}
+use Rattle.normal_units.proofs.Tasks.{tasks-joined}
+use Rattle.normal_has_numbers.proofs.Listed.{IsPlain, IsOneTask, IsOneBody, tasks-all, bodies-all, first-plain, firsts, vars, tasks, bodies, vars-plain, normal-list}
 
 -- ---- what declarations are
-
--- neither a task nor a body
-abbrev pub IsPlain : PDecl → Type 0
-IsPlain (DTask t s) = ⊥
-IsPlain (DTaskBody w objects its s) = ⊥
-IsPlain _ = Unit {0}
 
 -- the tests of a plain declaration
 pub plain-tests : (d : PDecl) → IsPlain d → (is_task d ≡ false) × (is_body d ≡ false)
@@ -42,15 +32,6 @@ plain-tests (DSubtype w x s) h = (refl, refl)
 plain-tests (DException ws s) h = (refl, refl)
 plain-tests (DIntIo w s) h = (refl, refl)
 plain-tests (DPragma e s) h = (refl, refl)
-
--- a single task, and a body
-abbrev pub IsOneTask : PDecl → Type 0
-IsOneTask (DTask t s) = t.of_kind ≡ false
-IsOneTask _ = ⊥
-
-abbrev pub IsOneBody : PDecl → Type 0
-IsOneBody (DTaskBody w objects its s) = Prim.Unit {0}
-IsOneBody _ = ⊥
 
 task-tests : (d : PDecl) → IsOneTask d → (is_task d ≡ true) × (is_body d ≡ false)
 task-tests (DTask t s) h = (refl, refl)
@@ -75,59 +56,6 @@ body-tests (DSubtype w x s) h = absurd h
 body-tests (DException ws s) h = absurd h
 body-tests (DIntIo w s) h = absurd h
 body-tests (DPragma e s) h = absurd h
-
--- what a normal form declares for a task is a single task, and the copies of a body are bodies
-under-one : (unit name : NameId) (d : PDecl) → AllByRecursion IsOneTask (declared_under unit name d)
-under-one unit name (DTask t s) = by_test (t.name.name.0 == unit.0)
-  where
-    by_test : (b : Bool) → AllByRecursion IsOneTask (if b then DTask (task_under name t) s ∷ [] else [])
-    by_test true = (refl, tt)
-    by_test false = tt
-under-one unit name (DTaskBody w objects its s) = tt
-under-one unit name (DNumber w e s) = tt
-under-one unit name (DObject ws c x i s) = tt
-under-one unit name (DEnumeration w ws s) = tt
-under-one unit name (DArray w r x s) = tt
-under-one unit name (DSubtype w x s) = tt
-under-one unit name (DException ws s) = tt
-under-one unit name (DIntIo w s) = tt
-under-one unit name (DPragma e s) = tt
-
-pub tasks-all : (g : Setting) → AllByRecursion IsOneTask (flat_map (task_declared g) (tasks_beside g))
-tasks-all g = all-flat IsOneTask (task_declared g) (λ info. all-flat IsOneTask (declared_under info.unit (task_name g info)) (under-one info.unit (task_name g info)) (decl_list g.program.decls)) (tasks_beside g)
-
-copies-all : (g : Setting) (d : PDecl) → AllByRecursion IsOneBody (bodies_of g d)
-copies-all g (DTaskBody w objects its s) = all-mapped IsOneBody _ (λ (info : TaskInfo). tt) _
-copies-all g (DTask t s) = tt
-copies-all g (DNumber w e s) = tt
-copies-all g (DObject ws c x i s) = tt
-copies-all g (DEnumeration w ws s) = tt
-copies-all g (DArray w r x s) = tt
-copies-all g (DSubtype w x s) = tt
-copies-all g (DException ws s) = tt
-copies-all g (DIntIo w s) = tt
-copies-all g (DPragma e s) = tt
-
-pub bodies-all : (g : Setting) → AllByRecursion IsOneBody (flat_map (bodies_of g) (decl_list g.program.decls))
-bodies-all g = all-flat IsOneBody (bodies_of g) (copies-all g) (decl_list g.program.decls)
-
--- the first declarations of a normal form are plain
-pub first-plain : (ds : PDecls) (kinds : List PTask) → AllByRecursion IsPlain (decl_list (first_decls kinds ds))
-first-plain no_decl kinds = tt
-first-plain (decl_then (DTask t s) rest) kinds = first-plain rest (with_type kinds t.of_kind t)
-first-plain (decl_then (DTaskBody w ds b s) rest) kinds = first-plain rest kinds
-first-plain (decl_then (DObject ws c x i s) rest) kinds = by_test (is_some (type_named kinds (mark_of x))) (first-plain rest kinds)
-  where
-    by_test : (b : Bool) → AllByRecursion IsPlain (decl_list (first_decls kinds rest)) → AllByRecursion IsPlain (decl_list (unless_left b (DObject ws c x i s) (first_decls kinds rest)))
-    by_test true h = h
-    by_test false h = (tt, h)
-first-plain (decl_then (DNumber w e s) rest) kinds = (tt, first-plain rest kinds)
-first-plain (decl_then (DEnumeration w ws s) rest) kinds = (tt, first-plain rest kinds)
-first-plain (decl_then (DArray w r x s) rest) kinds = (tt, first-plain rest kinds)
-first-plain (decl_then (DSubtype w x s) rest) kinds = (tt, first-plain rest kinds)
-first-plain (decl_then (DException ws s) rest) kinds = (tt, first-plain rest kinds)
-first-plain (decl_then (DIntIo w s) rest) kinds = (tt, first-plain rest kinds)
-first-plain (decl_then (DPragma e s) rest) kinds = (tt, first-plain rest kinds)
 
 -- ---- lists
 
@@ -261,65 +189,47 @@ module _ (g : Setting) (s : Span) (ops : List Op) where
 -- ---- the declarations of a normal form
 
 module _ (p : PProgram) (types : TypeTable) (numbers : Numbering) where
-  abbrev pub firsts : List PDecl
-  firsts = decl_list (first_decls [] p.decls)
-
-  abbrev pub vars : List PDecl
-  vars = main_variables (setting_of p types numbers)
-
-  abbrev pub tasks : List PDecl
-  tasks = flat_map (task_declared (setting_of p types numbers)) (tasks_beside (setting_of p types numbers))
-
-  abbrev pub bodies : List PDecl
-  bodies = flat_map (bodies_of (setting_of p types numbers)) (decl_list p.decls)
-
-  pub vars-plain : AllByRecursion IsPlain vars
-  vars-plain = unit-all IsPlain (main_unit (setting_of p types numbers)) (λ s x k. tt) p.body
-
-  pub normal-list : decl_list (normal_tree p types numbers).decls ≡ firsts ++ (vars ++ tasks ++ bodies)
-  normal-list = list-front (first_decls [] p.decls) (decls_of (vars ++ tasks ++ bodies)) ∙ ap (λ l. firsts ++ l) (list-of (vars ++ tasks ++ bodies))
-
   -- what passes a test among them
-  sorted : (f : PDecl → Bool) (a b c d : List PDecl) → filter f firsts ≡ a → filter f vars ≡ b → filter f tasks ≡ c → filter f bodies ≡ d → filter f (decl_list (normal_tree p types numbers).decls) ≡ a ++ (b ++ c ++ d)
+  sorted : (f : PDecl → Bool) (a b c d : List PDecl) → filter f (firsts p types numbers) ≡ a → filter f (vars p types numbers) ≡ b → filter f (tasks p types numbers) ≡ c → filter f (bodies p types numbers) ≡ d → filter f (decl_list (normal_tree p types numbers).decls) ≡ a ++ (b ++ c ++ d)
   sorted f a b c d first second third fourth =
-      ap (filter f) normal-list
-      ∙ filter-append f firsts (vars ++ tasks ++ bodies)
+      ap (filter f) (normal-list p types numbers)
+      ∙ filter-append f (firsts p types numbers) (vars p types numbers ++ tasks p types numbers ++ bodies p types numbers)
       ∙ ap₂ (λ (l k : List PDecl). l ++ k) first
-      (filter-append f (vars ++ tasks) bodies ∙ ap₂ (λ (l k : List PDecl). l ++ k) (filter-append f vars tasks ∙ ap₂ (λ (l k : List PDecl). l ++ k) second third) fourth)
+      (filter-append f (vars p types numbers ++ tasks p types numbers) (bodies p types numbers) ∙ ap₂ (λ (l k : List PDecl). l ++ k) (filter-append f (vars p types numbers) (tasks p types numbers) ∙ ap₂ (λ (l k : List PDecl). l ++ k) second third) fourth)
 
-  firsts-all : (f : PDecl → Bool) (b : Bool) → ((d : PDecl) → IsPlain d → f d ≡ b) → AllByRecursion (λ d. f d ≡ b) firsts
-  firsts-all f b h = all-weaker IsPlain _ firsts h (first-plain p.decls [])
+  firsts-all : (f : PDecl → Bool) (b : Bool) → ((d : PDecl) → IsPlain d → f d ≡ b) → AllByRecursion (λ d. f d ≡ b) (firsts p types numbers)
+  firsts-all f b h = all-weaker IsPlain _ (firsts p types numbers) h (first-plain p.decls [])
 
-  vars-all : (f : PDecl → Bool) (b : Bool) → ((d : PDecl) → IsPlain d → f d ≡ b) → AllByRecursion (λ d. f d ≡ b) vars
-  vars-all f b h = all-weaker IsPlain _ vars h vars-plain
+  vars-all : (f : PDecl → Bool) (b : Bool) → ((d : PDecl) → IsPlain d → f d ≡ b) → AllByRecursion (λ d. f d ≡ b) (vars p types numbers)
+  vars-all f b h = all-weaker IsPlain _ (vars p types numbers) h (vars-plain p types numbers)
 
   -- the plain ones, the tasks and the bodies
-  pub normal-plain : filter (λ d. not (is_task d || is_body d)) (decl_list (normal_tree p types numbers).decls) ≡ firsts ++ vars
+  pub normal-plain : filter (λ d. not (is_task d || is_body d)) (decl_list (normal_tree p types numbers).decls) ≡ firsts p types numbers ++ vars p types numbers
   normal-plain =
       let f : PDecl → Bool = λ d. not (is_task d || is_body d) in
       let g = setting_of p types numbers in
-      sorted f firsts vars [] []
-      (filter-all f firsts (firsts-all f true (λ d h. ap₂ (λ (a b : Bool). not (a || b)) (plain-tests d h).0 (plain-tests d h).1)))
-      (filter-all f vars (vars-all f true (λ d h. ap₂ (λ (a b : Bool). not (a || b)) (plain-tests d h).0 (plain-tests d h).1)))
-      (filter-none f tasks (all-weaker IsOneTask _ tasks (λ d h. ap₂ (λ (a b : Bool). not (a || b)) (task-tests d h).0 (task-tests d h).1) (tasks-all g)))
-      (filter-none f bodies (all-weaker IsOneBody _ bodies (λ d h. ap₂ (λ (a b : Bool). not (a || b)) (body-tests d h).0 (body-tests d h).1) (bodies-all g)))
-      ∙ ap (λ l. firsts ++ l) (append-nil (vars ++ []) ∙ append-nil vars)
+      sorted f (firsts p types numbers) (vars p types numbers) [] []
+      (filter-all f (firsts p types numbers) (firsts-all f true (λ d h. ap₂ (λ (a b : Bool). not (a || b)) (plain-tests d h).0 (plain-tests d h).1)))
+      (filter-all f (vars p types numbers) (vars-all f true (λ d h. ap₂ (λ (a b : Bool). not (a || b)) (plain-tests d h).0 (plain-tests d h).1)))
+      (filter-none f (tasks p types numbers) (all-weaker IsOneTask _ (tasks p types numbers) (λ d h. ap₂ (λ (a b : Bool). not (a || b)) (task-tests d h).0 (task-tests d h).1) (tasks-all g)))
+      (filter-none f (bodies p types numbers) (all-weaker IsOneBody _ (bodies p types numbers) (λ d h. ap₂ (λ (a b : Bool). not (a || b)) (body-tests d h).0 (body-tests d h).1) (bodies-all g)))
+      ∙ ap (λ l. firsts p types numbers ++ l) (append-nil (vars p types numbers ++ []) ∙ append-nil (vars p types numbers))
 
-  pub normal-tasks : filter is_task (decl_list (normal_tree p types numbers).decls) ≡ tasks
+  pub normal-tasks : filter is_task (decl_list (normal_tree p types numbers).decls) ≡ tasks p types numbers
   normal-tasks =
       let g = setting_of p types numbers in
-      sorted is_task [] [] tasks []
-      (filter-none is_task firsts (firsts-all is_task false (λ d h. (plain-tests d h).0)))
-      (filter-none is_task vars (vars-all is_task false (λ d h. (plain-tests d h).0)))
-      (filter-all is_task tasks (all-weaker IsOneTask _ tasks (λ d h. (task-tests d h).0) (tasks-all g)))
-      (filter-none is_task bodies (all-weaker IsOneBody _ bodies (λ d h. (body-tests d h).0) (bodies-all g)))
-      ∙ append-nil tasks
+      sorted is_task [] [] (tasks p types numbers) []
+      (filter-none is_task (firsts p types numbers) (firsts-all is_task false (λ d h. (plain-tests d h).0)))
+      (filter-none is_task (vars p types numbers) (vars-all is_task false (λ d h. (plain-tests d h).0)))
+      (filter-all is_task (tasks p types numbers) (all-weaker IsOneTask _ (tasks p types numbers) (λ d h. (task-tests d h).0) (tasks-all g)))
+      (filter-none is_task (bodies p types numbers) (all-weaker IsOneBody _ (bodies p types numbers) (λ d h. (body-tests d h).0) (bodies-all g)))
+      ∙ append-nil (tasks p types numbers)
 
-  pub normal-bodies : filter is_body (decl_list (normal_tree p types numbers).decls) ≡ bodies
+  pub normal-bodies : filter is_body (decl_list (normal_tree p types numbers).decls) ≡ bodies p types numbers
   normal-bodies =
       let g = setting_of p types numbers in
-      sorted is_body [] [] [] bodies
-      (filter-none is_body firsts (firsts-all is_body false (λ d h. (plain-tests d h).1)))
-      (filter-none is_body vars (vars-all is_body false (λ d h. (plain-tests d h).1)))
-      (filter-none is_body tasks (all-weaker IsOneTask _ tasks (λ d h. (task-tests d h).1) (tasks-all g)))
-      (filter-all is_body bodies (all-weaker IsOneBody _ bodies (λ d h. (body-tests d h).1) (bodies-all g)))
+      sorted is_body [] [] [] (bodies p types numbers)
+      (filter-none is_body (firsts p types numbers) (firsts-all is_body false (λ d h. (plain-tests d h).1)))
+      (filter-none is_body (vars p types numbers) (vars-all is_body false (λ d h. (plain-tests d h).1)))
+      (filter-none is_body (tasks p types numbers) (all-weaker IsOneTask _ (tasks p types numbers) (λ d h. (task-tests d h).1) (tasks-all g)))
+      (filter-all is_body (bodies p types numbers) (all-weaker IsOneBody _ (bodies p types numbers) (λ d h. (body-tests d h).1) (bodies-all g)))

@@ -13,8 +13,8 @@ use Rattle.syn_event.specs.declared.numbering.TaskInfo.{TaskInfo}
 use Rattle.syn_event.specs.declared.numbering.EntryInfo.{EntryInfo}
 use Rattle.syn_event.specs.Numbering.{Numbering}
 use Rattle.syn_event.specs.Numbered.{task_info}
-use Rattle.syn_event.specs.TaskParts.{Seat, seats}
-use Rattle.syn_event.specs.AllNumbers.{seat_entries, all_numbers}
+use Rattle.syn_event.specs.NamedTasks.{NumberedTask, numbered_tasks}
+use Rattle.syn_event.specs.AllNumbers.{entries_of_tasks, all_numbers}
 use Rattle.syn_event.specs.Units.{tasks_in, tasks_of}
 use Rattle.control_script.specs.declared.Op.{Op}
 use Rattle.task_model.specs.Setting.{Setting}
@@ -27,30 +27,22 @@ use Rattle.rewritten_types.proofs.Lookups.{all-append, all-weaker}
 use Rattle.normal_types.specs.Own.{own_name}
 use Rattle.normal_types.specs.Laws.{IsOrdered, setting_of, AreOwn}
 use Rattle.normal_units.proofs.Tasks.{list-of}
-use Rattle.replay_texts.specs.Laws.{NoneIsDed, ReplayNumbered}
-use Rattle.replay_texts.proofs.Named.{added-longer, own-within, begins-within}
-use Rattle.replay_texts.proofs.Seats.{IsSingle, single_seat, single_numbers, numbers-single, entries-joined}
-use Rattle.replay_texts.proofs.Listed.{IsPlain, IsOneTask, IsOneBody, first-plain, all-behind, more_task, added_tasks, replay-tasks, firsts, vars, tasks, bodies, vars-plain, tasks-all, bodies-all}
-use Rattle.replay_texts.proofs.Rooted.{replay-begins, normal-begins, replay-list, replay_agrees}
+use Rattle.normal_has_numbers.specs.Laws.{NoneIsDed}
+use Rattle.replay_texts.specs.Laws.{ReplayNumbered}
+use Rattle.normal_has_numbers.proofs.Named.{added-longer, own-within, begins-within}
+use Rattle.normal_has_numbers.proofs.TasksNumbered.{IsSingle, single_task, single_numbers, numbers-single, entries-joined}
+use Rattle.normal_has_numbers.proofs.Listed.{IsPlain, IsOneTask, IsOneBody, first-plain, firsts, vars, tasks, bodies, vars-plain, tasks-all, bodies-all}
+use Rattle.replay_texts.proofs.Listed.{all-behind, more_task, added_tasks, replay-tasks}
+use Rattle.replay_texts.proofs.Rooted.{replay-begins, replay-list, replay_agrees}
 use Rattle.replay_texts.proofs.Stripped.{strip, origins-alike}
 use Rattle.replay_texts.proofs.Owned.{own-at}
-use Rattle.replay_texts.proofs.Tasked.{under, normal-tasks-of}
+use Rattle.normal_has_numbers.proofs.Tasked.{under, normal-tasks-of}
 use Rattle.replay_texts.proofs.Entries.{whole, added-part}
-use Rattle.replay_texts.proofs.Kept.{all-kept, all-named}
+use Rattle.normal_has_numbers.proofs.TaskNames.{IsNamed, normal-begins, all-named}
+use Rattle.normal_has_numbers.proofs.Numbered.{plain-single}
+use Rattle.replay_texts.proofs.Kept.{all-kept}
 
 -- ---- each task is a single one
-
-plain-single : (d : PDecl) → IsPlain d → IsSingle d
-plain-single (DTask t s) h = absurd h
-plain-single (DTaskBody w objects its s) h = tt
-plain-single (DNumber w e s) h = tt
-plain-single (DObject ws c x i s) h = tt
-plain-single (DEnumeration w ws s) h = tt
-plain-single (DArray w r x s) h = tt
-plain-single (DSubtype w x s) h = tt
-plain-single (DException ws s) h = tt
-plain-single (DIntIo w s) h = tt
-plain-single (DPragma e s) h = tt
 
 task-single : (g : Setting) (ds : List PDecl) → AllByRecursion IsOneTask ds → AllByRecursion IsSingle (map (replay_decl g) ds)
 task-single g [] h = tt
@@ -84,7 +76,7 @@ info-longer : (before names : List (List ℕ)) (id : NameId) → Begins before n
 info-longer before names id b within = ap (λ a. record { name = id; added = a; unit = id; member = None }) (added-longer before names id b within)
 
 -- the numbers of tasks whose names stand in front
-infos-longer : (n : PProgram) (under : Seat → PTask) (ys : List Seat) → AllByRecursion (λ (y : Seat). (under y).name.name.0 < length n.names) ys →
+infos-longer : (n : PProgram) (under : NumberedTask → PTask) (ys : List NumberedTask) → AllByRecursion (λ (y : NumberedTask). (under y).name.name.0 < length n.names) ys →
     map (λ (t : PTask). task_info (replay_names n) t.name.name) (map (more_task n) (map under ys)) ≡ map (λ (t : PTask). task_info n.names t.name.name) (map under ys)
 infos-longer n under [] h = refl
 infos-longer n under (y ∷ ys) h = λ i. info-longer n.names (replay_names n) (under y).name.name (replay-begins n) h.0 i ∷ infos-longer n under ys h.1 i
@@ -117,10 +109,10 @@ module _ (p : PProgram) (ordered : IsOrdered p) (main : own_name p p.name.name.0
   abbrev last : ℕ
   last = last_task form.numbers
 
-  abbrev ys : List Seat
-  ys = seats T p
+  abbrev ys : List NumberedTask
+  ys = numbered_tasks T p
 
-  abbrev its : Seat → PTask
+  abbrev its : NumberedTask → PTask
   its = under (setting_of p T numbers)
 
   all-single : AllByRecursion IsSingle (replay_decls form s ops)
@@ -155,27 +147,27 @@ module _ (p : PProgram) (ordered : IsOrdered p) (main : own_name p p.name.name.0
       (info-longer normal.names (replay_names normal) p.name.name (replay-begins normal) (begins-within p.names normal.names p.name.name.0 (normal-begins p T numbers) (own-within p p.name.name.0 main)))
       (map-append (λ (t : PTask). task_info (replay_names normal) t.name.name) (map (more_task normal) (map its ys)) (added_tasks normal s last)
       ∙ ap (λ l. l ++ task_info (replay_names normal) (added_id normal control_text) ∷ task_info (replay_names normal) (added_id normal idle_text) ∷ [])
-      (infos-longer normal its ys (all-named p ordered own ded) ∙ ap (map (λ (t : PTask). task_info normal.names t.name.name)) (sym (normal-tasks-of p T ordered))))
+      (infos-longer normal its ys (all-weaker (λ (y : NumberedTask). IsNamed p (its y).name.name y.name) _ ys (λ y h. h.within) (all-named p own ded)) ∙ ap (map (λ (t : PTask). task_info normal.names t.name.name)) (sym (normal-tasks-of p T ordered))))
 
   -- the entries, but for what they stand for
-  entries-are : map strip (seat_entries (replay_names normal) U 1 (map single_seat (map (more_task normal) (map its ys) ++ added_tasks normal s last))) ≡ map strip (all_infos form last 1 ++ added_infos normal last)
+  entries-are : map strip (entries_of_tasks (replay_names normal) U 1 (map single_task (map (more_task normal) (map its ys) ++ added_tasks normal s last))) ≡ map strip (all_infos form last 1 ++ added_infos normal last)
   entries-are =
-      let first = map single_seat (map (more_task normal) (map its ys)) in
-      let second = map single_seat (added_tasks normal s last) in
-      ap (λ l. map strip (seat_entries (replay_names normal) U 1 l)) (map-append single_seat (map (more_task normal) (map its ys)) (added_tasks normal s last))
+      let first = map single_task (map (more_task normal) (map its ys)) in
+      let second = map single_task (added_tasks normal s last) in
+      ap (λ l. map strip (entries_of_tasks (replay_names normal) U 1 l)) (map-append single_task (map (more_task normal) (map its ys)) (added_tasks normal s last))
       ∙ ap (map strip) (entries-joined (replay_names normal) U 1 first second)
-      ∙ map-append strip (seat_entries (replay_names normal) U 1 first) (seat_entries (replay_names normal) U (1 + length first) second)
+      ∙ map-append strip (entries_of_tasks (replay_names normal) U 1 first) (entries_of_tasks (replay_names normal) U (1 + length first) second)
       ∙ ap₂ (λ (a b : List EntryInfo). a ++ b)
-      (whole normal p.names T U form refl (seat_entries p.names T 1 ys) its (λ y. refl) ys 1 (all-kept p ordered own ded U (replay_agrees p T numbers events ordered own))
-      (λ k y at. own-at p.names T (seat_entries p.names T 1 ys) ys k (1 + k) 1 y refl at)
+      (whole normal p.names T U form refl (entries_of_tasks p.names T 1 ys) its (λ y. refl) ys 1 (all-kept p ordered own ded U (replay_agrees p T numbers events ordered own))
+      (λ k y at. own-at p.names T (entries_of_tasks p.names T 1 ys) ys k (1 + k) 1 y refl at)
       ∙ ap (λ n. map strip (all_infos form n 1)) (sym last-is))
       (added-part normal p.names T U s (1 + length first) last (count first (how-many)))
       ∙ sym (map-append strip (all_infos form last 1) (added_infos normal last))
     where
-      how-many : length (map single_seat (map (more_task normal) (map its ys))) ≡ last
-      how-many = length-map (map (more_task normal) (map its ys)) single_seat ∙ length-map (map its ys) (more_task normal) ∙ length-map ys its ∙ sym last-is
+      how-many : length (map single_task (map (more_task normal) (map its ys))) ≡ last
+      how-many = length-map (map (more_task normal) (map its ys)) single_task ∙ length-map (map its ys) (more_task normal) ∙ length-map ys its ∙ sym last-is
 
-      count : (xs : List Seat) → length xs ≡ last → 1 + length xs ≡ last + 1
+      count : (xs : List NumberedTask) → length xs ≡ last → 1 + length xs ≡ last + 1
       count xs e = omega (arith, e)
 
   numbered : all_numbers U text ≡ numbers_replayed form

@@ -14,7 +14,7 @@ use Rattle.syn_event.specs.Numbering.{Numbering}
 use Rattle.syn_event.specs.Units.{text_of, decl_list, tasks_of}
 use Rattle.control_script.specs.declared.Op.{Op}
 use Rattle.task_model.specs.Setting.{Setting}
-use Rattle.normal_model.specs.NormalTree.{first_decls, main_unit, variables_needed, normal_tree}
+use Rattle.normal_model.specs.NormalTree.{first_decls, main_unit, normal_tree}
 use Rattle.normal_model.proofs.VariablesLemmas.{Begins, begins-trans}
 use Rattle.replay_model.specs.Names.{kind_text, argument_text, index_text, added_texts, double_texts, replay_names, added_id}
 use Rattle.replay_model.specs.ReplayTree.{is_added_object, behind_own, permit_declared, replay_decl, last_task, replay_decls, normal_setting, script_of}
@@ -27,13 +27,15 @@ use Rattle.rewritten_types.proofs.Rooting.{rewritten_is_rooted, rooted_agrees}
 use Rattle.rewritten_values.specs.Values.{old_names}
 use Rattle.normal_types.specs.Own.{own_name}
 use Rattle.normal_types.specs.Laws.{setting_of, AreOwn}
-use Rattle.normal_types.proofs.Names.{fold-begins, names-begin, added_names_are_new}
+use Rattle.normal_types.proofs.Names.{fold-begins, added_names_are_new}
 use Rattle.normal_types.proofs.Variables.{IsTaskOrBody, are-added, task-added, tasks-only, bodies-only, unit-new}
 use Rattle.normal_types.proofs.Fronts.{first_decls_are_front}
 use Rattle.normal_types.proofs.Normal.{front-after, first-every}
 use Rattle.replay_texts.specs.Laws.{ReplayIsRooted, ReplayAgrees}
-use Rattle.replay_texts.proofs.Named.{text-there, Has, has-folded, has-front, added-longer, reserved-new, own-within, own-not-added}
-use Rattle.replay_texts.proofs.Listed.{all-behind, behind-front, front-of, firsts, vars, tasks, bodies, normal-plain, normal-tasks, normal-bodies}
+use Rattle.normal_has_numbers.proofs.Named.{text-there, Has, has-folded, has-front, added-longer, reserved-new, own-within, own-not-added}
+use Rattle.normal_has_numbers.proofs.Listed.{firsts, vars, tasks, bodies}
+use Rattle.normal_has_numbers.proofs.TaskNames.{normal-begins}
+use Rattle.replay_texts.proofs.Listed.{all-behind, behind-front, front-of, normal-plain, normal-tasks, normal-bodies}
 
 -- ---- names
 
@@ -56,12 +58,9 @@ ids-apart q a b has_a has_b apart = by_test ((added_id q a).0 == (added_id q b).
         absurd (apart (sym (text-there (replay_names q) a (replay-has q a has_a)) ∙ (λ i. text_of (replay_names q) record { 0 = n i }) ∙ text-there (replay_names q) b (replay-has q b has_b)))
 
 module _ (p : PProgram) (types : TypeTable) (numbers : Numbering) where
-  -- the names of the program stand in front of both
-  pub normal-begins : Begins p.names (normal_tree p types numbers).names
-  normal-begins = names-begin (setting_of p types numbers) (variables_needed (setting_of p types numbers))
-
+  -- the names of the program stand in front
   pub text-begins : Begins p.names (replay_names (normal_tree p types numbers))
-  text-begins = begins-trans normal-begins (replay-begins (normal_tree p types numbers))
+  text-begins = begins-trans (normal-begins p types numbers) (replay-begins (normal_tree p types numbers))
 
   -- the variables of a permit have new names
   permit-new : (s : Span) → IsAdded (own_name p) (permit_declared (normal_tree p types numbers) s)

@@ -1,8 +1,6 @@
 -- The laws of the types and numbers of a replay text.
-use Rattle.std.specs.Prelude.{◌≡◌, ℕ, Bool, true, List, [], is_some, codes}
-use Rattle.std.specs.List.{AllByRecursion}
+use Rattle.std.specs.Prelude.{◌≡◌, ℕ, Bool, true, List, []}
 use Rattle.event_machine.specs.declared.Event.{Event}
-use Rattle.ada_tree.specs.declared.naming.NameId.{NameId}
 use Rattle.ada_tree.specs.TypeTable.{TypeTable}
 use Rattle.ada_tree.specs.PlainExpr.{PDrange}
 use Rattle.ada_tree.specs.PlainProgram.{PProgram}
@@ -10,9 +8,7 @@ use Rattle.ada_tree.specs.Every.{EveryDrange}
 use Rattle.ada_tree.specs.Refusals.{types_in}
 use Rattle.syn_event.specs.Numbering.{Numbering}
 use Rattle.syn_event.specs.Extents.{extent}
-use Rattle.syn_event.specs.TaskParts.{TaskPart, parts_of}
 use Rattle.syn_event.specs.AllNumbers.{all_numbers}
-use Rattle.syn_event.specs.Units.{text_of}
 use Rattle.normal_model.specs.NormalTree.{first_decls}
 use Rattle.replay_model.specs.ReplayTree.{replay_tree}
 use Rattle.replay_model.specs.ReplayNumbers.{replay_numbers}
@@ -21,6 +17,7 @@ use Rattle.rewritten_types.specs.Laws.{behind}
 use Rattle.rewritten_values.specs.Values.{old_names}
 use Rattle.normal_types.specs.Own.{own_name}
 use Rattle.normal_types.specs.Laws.{IsOrdered, AreOwn}
+use Rattle.normal_has_numbers.specs.Laws.{NoneIsDed}
 
 -- ---- types
 
@@ -41,14 +38,6 @@ abbrev pub ExtentsAlike : Type 0
 ExtentsAlike = (old : ℕ → Bool) (T U : TypeTable) → Agrees old T U → (r : PDrange) (k : ℕ) → EveryDrange (old_names old) k r → extent T r ≡ extent U r
 
 -- ---- numbers
-
--- the name is not DED
-abbrev pub IsNotDed : PProgram → NameId → Type 0
-IsNotDed p id = text_of p.names id ≡ codes "DED" → ⊥
-
--- No array of tasks is named DED: the names of its members would begin with DED_, so that they counted as added.
-abbrev pub NoneIsDed : PProgram → Type 0
-NoneIsDed p = AllByRecursion (λ (x : TaskPart). is_some x.row ≡ true → IsNotDed p x.name.name) (parts_of p)
 
 -- The replay text of a program that meets the static rules and declares own names has the numbers of the definition.
 abbrev pub ReplayNumbered : Type 0

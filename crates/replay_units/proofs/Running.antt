@@ -1,6 +1,6 @@
 -- The first task that runs a body, found by the names of bodies.
-use Rattle.std.proofs.Common.{◌≡◌, ◌==◌, ℕ, ◌+◌, ◌<◌, Bool, cond, nat_lt, List, [], ◌∷◌, length, map, not, Option, Some, None, position, refl, ap, ◌∙◌}
-use Rattle.std.specs.List.{position_or_len, prefix_len}
+use Rattle.std.proofs.Common.{◌≡◌, ◌==◌, ◌+◌, Bool, cond, nat_lt, List, [], ◌∷◌, map, not, Some, None, position, refl, ap, ◌∙◌}
+use Rattle.std.specs.List.{prefix_len}
 use Rattle.std.proofs.lemmas.List.{length-map}
 use Rattle.ada_tree.specs.declared.naming.NameId.{NameId}
 use Rattle.syn_event.specs.Numbering.{Numbering, task_named}

@@ -5,10 +5,10 @@ use Rattle.ada_tree.specs.declared.naming.NameId.{NameId}
 use Rattle.ada_tree.specs.declared.naming.Word.{Word}
 use Rattle.ada_tree.specs.TypeTable.{TypeTable}
 use Rattle.ada_tree.specs.PlainExpr.{PBounds, PSubind, PDrange}
-use Rattle.ada_tree.specs.PlainDecl.{PShape, OPlain, ORow, PInit, PDecl, DNumber, DObject, DEnumeration, DArray, DSubtype, DException, DIntIo, DPragma, DTask, DTaskBody, PDecls, no_decl, decl_then}
+use Rattle.ada_tree.specs.PlainDecl.{PShape, OPlain, OArray, PInit, PDecl, DNumber, DObject, DEnumeration, DArray, DSubtype, DException, DIntIo, DPragma, DTask, DTaskBody, PDecls, no_decl, decl_then}
 use Rattle.ada_tree.specs.Scope.{Scope, Range, Thing, Marking, ScalarMark, ArrayMark, TaskMark, NoMark, UnknownMark, UnclearMark, marking, range_of_mark, integer_kind, and_then}
 use Rattle.ada_tree.specs.ExprTypes.{static_in, static_range}
-use Rattle.ada_tree.specs.Declaring.{with_name, with_names, with_types, made_range, subind_made, made_subind, drange_range, made_array, plain_object, row_object, declared_object, add_constants, constant_mark, constant_value, with_constants, after_object, renamed, in_body, after_own_object, after_objects, after_decl, after_decls}
+use Rattle.ada_tree.specs.Declaring.{with_name, with_names, with_types, made_range, subind_made, made_subind, drange_range, made_array, plain_object, array_object, declared_object, add_constants, constant_mark, constant_value, with_constants, after_object, renamed, in_body, after_own_object, after_objects, after_decl, after_decls}
 use Rattle.rewritten_types.specs.Agreement.{Keeps}
 use Rattle.rewritten_types.specs.Rewriting.{IsNew, IsAdded, AreAdded}
 use Rattle.rewritten_types.proofs.Keeping.{IsNoOldName, keeps-self, keeps-on, keeps-mark, unnamed, newly_named, keeps-array_kind, keeps-constants}
@@ -68,7 +68,7 @@ module _ {old : ℕ → Bool} where
   keeps-own_array : (s : Scope) (index : PDrange) (x : PSubind) → Keeps old s.types (made_array None (made_subind s x).types (drange_range s index) (made_subind s x).mark).types
   keeps-own_array s index x = keeps-on (keeps-subind s x) (keeps-array None (made_subind s x).types (drange_range s index) (made_subind s x).mark (unnamed old))
 
-  keeps-row : (s : Scope) (constant : Bool) (m : Marking) (index : PDrange) (x : PSubind) → Keeps old s.types (row_object s constant m index x).types
+  keeps-row : (s : Scope) (constant : Bool) (m : Marking) (index : PDrange) (x : PSubind) → Keeps old s.types (array_object s constant m index x).types
   keeps-row s constant (TaskMark entries) index x = keeps-self s.types
   keeps-row s constant (ArrayMark m r part) index x = keeps-own_array s index x
   keeps-row s constant (ScalarMark m k) index x = keeps-own_array s index x
@@ -78,7 +78,7 @@ module _ {old : ℕ → Bool} where
 
   pub keeps-shape : (s : Scope) (constant : Bool) (shape : PShape) → Keeps old s.types (declared_object s constant shape).types
   keeps-shape s constant (OPlain x) = keeps-plain s constant (marking s x.mark.name) x
-  keeps-shape s constant (ORow index x) = keeps-row s constant (marking s x.mark.name) index x
+  keeps-shape s constant (OArray index x) = keeps-row s constant (marking s x.mark.name) index x
 
   keeps-add : (names : List Word) (m : Option ℕ) (z : Option ℤ) (T : TypeTable) → AllByRecursion (IsNew old) names → Keeps old T (add_constants names m z T)
   keeps-add names (Some m) (Some z) T n = keeps-constants T names m z n

@@ -5,7 +5,7 @@ use Rattle.ada_tree.specs.TypeTable.{TypeTable}
 use Rattle.ada_tree.specs.Attributes.{attribute_of}
 use Rattle.ada_tree.specs.StaticValue.{is_static, value_of}
 use Rattle.ada_tree.specs.PlainExpr.{PExpr, EInteger, EName, EIndex, EAttribute, EAttributeOf, EParen, EUnary, EBinary, PBounds, PSubind, PDrange, RGiven, RMarked}
-use Rattle.ada_tree.specs.Scope.{Scope, Thing, TypeMark, TaskType, SingleTask, TaskObject, TaskRow, Variable, ConstantObject, Parameter, LoopParameter, Literal, AnException, MainProcedure, AnotherUnit, Unclear, Marking, ScalarMark, ArrayMark, TaskMark, NoMark, UnknownMark, UnclearMark, reading_of, reading, marking_of, marking, scalar_kind, range_of_mark, meaning, and_then}
+use Rattle.ada_tree.specs.Scope.{Scope, Thing, TypeMark, TaskType, SingleTask, TaskObject, TaskArray, Variable, ConstantObject, Parameter, LoopParameter, Literal, AnException, MainProcedure, AnotherUnit, Unclear, Marking, ScalarMark, ArrayMark, TaskMark, NoMark, UnknownMark, UnclearMark, reading_of, reading, marking_of, marking, scalar_kind, range_of_mark, meaning, and_then}
 use Rattle.ada_tree.specs.ExprTypes.{name_kind, component_kind, bound_kind, attribute_kind, takes, takes_one, unary_kind, binary_kind, kind_of, is_kind, ok_value, static_in, range_between, static_range}
 use Rattle.ada_tree.specs.Declaring.{made_none, made_range, subind_made, made_subind, given_range, marked_range, drange_range}
 use Rattle.rewritten_types.specs.Rewriting.{valued}
@@ -27,7 +27,7 @@ kind-valued T (Some (TypeMark m)) = refl
 kind-valued T (Some (TaskType entries)) = refl
 kind-valued T (Some (SingleTask entries)) = refl
 kind-valued T (Some (TaskObject entries)) = refl
-kind-valued T (Some (TaskRow r entries)) = refl
+kind-valued T (Some (TaskArray r entries)) = refl
 kind-valued T (Some (Variable m)) = refl
 kind-valued T (Some (ConstantObject m)) = refl
 kind-valued T (Some (Parameter mode m)) = refl
@@ -45,7 +45,7 @@ component-valued T (Some (TypeMark m)) k = refl
 component-valued T (Some (TaskType entries)) k = refl
 component-valued T (Some (SingleTask entries)) k = refl
 component-valued T (Some (TaskObject entries)) k = refl
-component-valued T (Some (TaskRow r entries)) k = refl
+component-valued T (Some (TaskArray r entries)) k = refl
 component-valued T (Some (Variable m)) k = refl
 component-valued T (Some (ConstantObject m)) k = refl
 component-valued T (Some (Parameter mode m)) k = refl
@@ -68,7 +68,7 @@ typed-valued T (Some (TypeMark m)) = refl
 typed-valued T (Some (TaskType entries)) = refl
 typed-valued T (Some (SingleTask entries)) = refl
 typed-valued T (Some (TaskObject entries)) = refl
-typed-valued T (Some (TaskRow r entries)) = refl
+typed-valued T (Some (TaskArray r entries)) = refl
 typed-valued T (Some (Variable m)) = refl
 typed-valued T (Some (ConstantObject m)) = refl
 typed-valued T (Some (Parameter mode m)) = refl

@@ -4,7 +4,7 @@ use Rattle.ada_tree.specs.declared.naming.Span.{Span}
 use Rattle.ada_tree.specs.declared.naming.Word.{Word}
 use Rattle.ada_tree.specs.PlainExpr.{EInteger, EName, PSubind, PDrange, RGiven}
 use Rattle.ada_tree.specs.PlainStmt.{no_stmt, no_handler, body}
-use Rattle.ada_tree.specs.PlainDecl.{OPlain, ORow, IOne, PDecl, DObject, DEnumeration, DArray, DTask, DTaskBody, PDecls, no_decl, decl_then, decls_of}
+use Rattle.ada_tree.specs.PlainDecl.{OPlain, OArray, IOne, PDecl, DObject, DEnumeration, DArray, DTask, DTaskBody, PDecls, no_decl, decl_then, decls_of}
 use Rattle.ada_tree.specs.StaticValue.{constant_named}
 use Rattle.ada_tree.specs.Declaring.{first_scope, after_decls}
 use Rattle.rewritten_types.specs.Agreement.{literal_named, Rooted, Agrees}
@@ -35,7 +35,7 @@ task id kind = DTask record { name = w id; of_kind = kind; entries = []; priorit
 
 -- a body that declares an array of its own
 abbrev body_with_array : ℕ → PDecl
-body_with_array id = DTaskBody (w id) (decl_then (DObject (w 40 ∷ []) false (ORow (up_to 3) (marked 0)) None at) no_decl) (body no_stmt no_handler) at
+body_with_array id = DTaskBody (w id) (decl_then (DObject (w 40 ∷ []) false (OArray (up_to 3) (marked 0)) None at) no_decl) (body no_stmt no_handler) at
 
 abbrev colour : PDecl
 colour = DEnumeration (w 30) (w 31 ∷ w 32 ∷ []) at

@@ -6,9 +6,9 @@ use Rattle.ada_tree.specs.declared.naming.Word.{Word}
 use Rattle.ada_tree.specs.declared.static_types.Kind.TheVariants.{Enumeration}
 use Rattle.ada_tree.specs.TypeTable.{TypeTable}
 use Rattle.ada_tree.specs.PlainExpr.{PBounds, PSubind, PDrange}
-use Rattle.ada_tree.specs.PlainDecl.{PShape, OPlain, ORow, PInit, IOne, IList, IOthers, PTask, PDecl, DNumber, DObject, DEnumeration, DArray, DSubtype, DException, DIntIo, DPragma, DTask, DTaskBody}
-use Rattle.ada_tree.specs.Scope.{Scope, Range, EntryPart, Seen, Thing, TypeMark, TaskType, SingleTask, TaskObject, TaskRow, Variable, ConstantObject, Parameter, LoopParameter, Literal, AnException, MainProcedure, AnotherUnit, Unclear, Marking, ScalarMark, ArrayMark, TaskMark, NoMark, UnknownMark, UnclearMark, marking_of, marking, range_of_mark, meaning, integer_kind, and_then}
-use Rattle.ada_tree.specs.Declaring.{seen_as, with_name, with_names, with_types, add_kind, Made, made, made_none, subind_made, made_subind, drange_range, made_array, object_of, task_object, task_row, Declared, of_made, plain_object, row_object, declared_object, add_constants, kind_at_mark, constant_mark, initial_value, constant_value, with_constants, after_object, after_enumeration, type_of_mark, after_type, made_named_array, renamed, made_subtype, task_thing, after_decl}
+use Rattle.ada_tree.specs.PlainDecl.{PShape, OPlain, OArray, PInit, IOne, IList, IOthers, PTask, PDecl, DNumber, DObject, DEnumeration, DArray, DSubtype, DException, DIntIo, DPragma, DTask, DTaskBody}
+use Rattle.ada_tree.specs.Scope.{Scope, Range, EntryPart, Seen, Thing, TypeMark, TaskType, SingleTask, TaskObject, TaskArray, Variable, ConstantObject, Parameter, LoopParameter, Literal, AnException, MainProcedure, AnotherUnit, Unclear, Marking, ScalarMark, ArrayMark, TaskMark, NoMark, UnknownMark, UnclearMark, marking_of, marking, range_of_mark, meaning, integer_kind, and_then}
+use Rattle.ada_tree.specs.Declaring.{seen_as, with_name, with_names, with_types, add_kind, Made, made, made_none, subind_made, made_subind, drange_range, made_array, object_of, task_object, task_array, Declared, of_made, plain_object, array_object, declared_object, add_constants, kind_at_mark, constant_mark, initial_value, constant_value, with_constants, after_object, after_enumeration, type_of_mark, after_type, made_named_array, renamed, made_subtype, task_thing, after_decl}
 use Rattle.rewritten_types.specs.Rewriting.{valued, IsFree, AreFree, mark_of, IsFirst}
 use Rattle.rewritten_types.proofs.Closing.{Close, typed, typed-valued, typed-alike, static-alike, made-alike, drange-alike}
 
@@ -90,11 +90,11 @@ no_task_value : (main : Bool) (entries : List EntryPart) → valued (Some (task_
 no_task_value true entries = refl
 no_task_value false entries = refl
 
-no_row_value : (main : Bool) (r : Option Range) (entries : List EntryPart) → valued (Some (task_row main r entries)) ≡ None
-no_row_value true (Some r) entries = refl
-no_row_value true None entries = refl
-no_row_value false (Some r) entries = refl
-no_row_value false None entries = refl
+no_array_value : (main : Bool) (r : Option Range) (entries : List EntryPart) → valued (Some (task_array main r entries)) ≡ None
+no_array_value true (Some r) entries = refl
+no_array_value true None entries = refl
+no_array_value false (Some r) entries = refl
+no_array_value false None entries = refl
 
 no_array : (T : TypeTable) (r : Option Range) → made_array None T r None ≡ made_none T
 no_array T (Some r) = refl
@@ -138,9 +138,9 @@ plain-typed s constant UnknownMark x e = refl
 plain-typed s constant UnclearMark x e = refl
 
 row-typed : (s : Scope) (constant : Bool) (m : Marking) (index : PDrange) (x : PSubind) → marking s x.mark.name ≡ m →
-    valued_of (row_object s constant m index x) ≡ valued_of (row_object s constant (typed m) index x)
+    valued_of (array_object s constant m index x) ≡ valued_of (array_object s constant (typed m) index x)
 row-typed s constant (TaskMark entries) index x e =
-    ap (λ o. record { types = s.types; thing = o }) (no_row_value s.in_main (drange_range s index) entries) ∙ sym (empty-array s constant index x (ap typed e))
+    ap (λ o. record { types = s.types; thing = o }) (no_array_value s.in_main (drange_range s index) entries) ∙ sym (empty-array s constant index x (ap typed e))
 row-typed s constant (ScalarMark m k) index x e = refl
 row-typed s constant (ArrayMark m r part) index x e = refl
 row-typed s constant NoMark index x e = refl
@@ -152,9 +152,9 @@ empty-shape : (s : Scope) (constant : Bool) (shape : PShape) → IsFree s (mark_
 empty-shape s constant (OPlain x) free =
     let e : typed (marking s x.mark.name) ≡ NoMark = typed-valued s.types (meaning s x.mark.name) ∙ ap (λ o. typed (marking_of s.types o)) free in
     plain-typed s constant (marking s x.mark.name) x refl ∙ ap (λ m. valued_of (plain_object s constant m x)) e ∙ empty-object s constant x e
-empty-shape s constant (ORow index x) free =
+empty-shape s constant (OArray index x) free =
     let e : typed (marking s x.mark.name) ≡ NoMark = typed-valued s.types (meaning s x.mark.name) ∙ ap (λ o. typed (marking_of s.types o)) free in
-    row-typed s constant (marking s x.mark.name) index x refl ∙ ap (λ m. valued_of (row_object s constant m index x)) e ∙ empty-array s constant index x e
+    row-typed s constant (marking s x.mark.name) index x refl ∙ ap (λ m. valued_of (array_object s constant m index x)) e ∙ empty-array s constant index x e
 
 -- the mark of a constant is told by its value alone
 abbrev valued_mark : Option Thing → Option ℕ
@@ -166,7 +166,7 @@ mark-valued (TypeMark m) = refl
 mark-valued (TaskType entries) = refl
 mark-valued (SingleTask entries) = refl
 mark-valued (TaskObject entries) = refl
-mark-valued (TaskRow r entries) = refl
+mark-valued (TaskArray r entries) = refl
 mark-valued (Variable m) = refl
 mark-valued (ConstantObject m) = refl
 mark-valued (Parameter mode m) = refl
@@ -219,9 +219,9 @@ module _ (s s' : Scope) (close : Close s s') where
   array-alike constant index x =
       ap₂ (λ (d : Made) r. valued_of (of_made constant (made_array None d.types r d.mark))) (made-alike s s' close x) (drange-alike s s' close index)
 
-  row-alike : (constant : Bool) (m : Marking) (index : PDrange) (x : PSubind) → valued_of (row_object s constant m index x) ≡ valued_of (row_object s' constant m index x)
+  row-alike : (constant : Bool) (m : Marking) (index : PDrange) (x : PSubind) → valued_of (array_object s constant m index x) ≡ valued_of (array_object s' constant m index x)
   row-alike constant (TaskMark entries) index x =
-      ap₂ (λ T o. record { types = T; thing = o }) close.types (no_row_value s.in_main (drange_range s index) entries ∙ sym (no_row_value s'.in_main (drange_range s' index) entries))
+      ap₂ (λ T o. record { types = T; thing = o }) close.types (no_array_value s.in_main (drange_range s index) entries ∙ sym (no_array_value s'.in_main (drange_range s' index) entries))
   row-alike constant (ArrayMark m r part) index x = array-alike constant index x
   row-alike constant (ScalarMark m k) index x = array-alike constant index x
   row-alike constant NoMark index x = array-alike constant index x
@@ -235,9 +235,9 @@ module _ (s s' : Scope) (close : Close s s') where
       ∙ ap (λ m. valued_of (plain_object s constant m x)) (typed-alike s s' close x.mark.name)
       ∙ plain-alike constant (typed (marking s' x.mark.name)) x
       ∙ sym (plain-typed s' constant (marking s' x.mark.name) x refl)
-  shape-alike constant (ORow index x) =
+  shape-alike constant (OArray index x) =
       row-typed s constant (marking s x.mark.name) index x refl
-      ∙ ap (λ m. valued_of (row_object s constant m index x)) (typed-alike s s' close x.mark.name)
+      ∙ ap (λ m. valued_of (array_object s constant m index x)) (typed-alike s s' close x.mark.name)
       ∙ row-alike constant (typed (marking s' x.mark.name)) index x
       ∙ sym (row-typed s' constant (marking s' x.mark.name) index x refl)
 

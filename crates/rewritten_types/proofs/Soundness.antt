@@ -9,10 +9,10 @@ use Rattle.ada_tree.specs.declared.static_types.Mark.{Mark}
 use Rattle.ada_tree.specs.declared.static_types.Constant.{Constant}
 use Rattle.ada_tree.specs.TypeTable.{TypeTable}
 use Rattle.ada_tree.specs.PlainExpr.{PBounds, PSubind, PDrange}
-use Rattle.ada_tree.specs.PlainDecl.{PShape, OPlain, ORow, PInit, PDecl, DNumber, DObject, DEnumeration, DArray, DSubtype, DException, DIntIo, DPragma, DTask, DTaskBody, PDecls, no_decl, decl_then}
-use Rattle.ada_tree.specs.Scope.{Scope, Range, EntryPart, Thing, TypeMark, TaskType, SingleTask, TaskObject, TaskRow, Variable, ConstantObject, Parameter, LoopParameter, Literal, AnException, MainProcedure, AnotherUnit, Unclear, Marking, ScalarMark, ArrayMark, TaskMark, NoMark, UnknownMark, UnclearMark, kind_at, mark_at, marking_of_kind, marking_of_mark, marking_of, marking, meaning, range_of_mark, integer_kind, and_then}
+use Rattle.ada_tree.specs.PlainDecl.{PShape, OPlain, OArray, PInit, PDecl, DNumber, DObject, DEnumeration, DArray, DSubtype, DException, DIntIo, DPragma, DTask, DTaskBody, PDecls, no_decl, decl_then}
+use Rattle.ada_tree.specs.Scope.{Scope, Range, EntryPart, Thing, TypeMark, TaskType, SingleTask, TaskObject, TaskArray, Variable, ConstantObject, Parameter, LoopParameter, Literal, AnException, MainProcedure, AnotherUnit, Unclear, Marking, ScalarMark, ArrayMark, TaskMark, NoMark, UnknownMark, UnclearMark, kind_at, mark_at, marking_of_kind, marking_of_mark, marking_of, marking, meaning, range_of_mark, integer_kind, and_then}
 use Rattle.ada_tree.specs.ExprTypes.{static_in, range_between}
-use Rattle.ada_tree.specs.Declaring.{first_scope, with_name, with_names, with_types, add_mark, add_kind, Made, made, made_range, subind_made, made_subind, drange_range, made_array, object_of, task_object, task_row, Declared, of_made, plain_object, row_object, declared_object, constants_for, add_constants, constant_mark, constant_value, with_constants, after_object, renamed, in_body, after_own_object, after_objects, after_decl, after_decls}
+use Rattle.ada_tree.specs.Declaring.{first_scope, with_name, with_names, with_types, add_mark, add_kind, Made, made, made_range, subind_made, made_subind, drange_range, made_array, object_of, task_object, task_array, Declared, of_made, plain_object, array_object, declared_object, constants_for, add_constants, constant_mark, constant_value, with_constants, after_object, renamed, in_body, after_own_object, after_objects, after_decl, after_decls}
 use Rattle.rewritten_types.specs.Agreement.{HasKind, HasMark, Grows, HasPart, Sound}
 use Rattle.rewritten_types.proofs.Lookups.{place-last, place-all, all-weaker, all-append}
 use Rattle.rewritten_types.proofs.Keeping.{grows-mark, grows-kind}
@@ -103,7 +103,7 @@ marking-places T (Some (TypeMark m)) = mark-places T m (mark_at T m) refl
 marking-places T (Some (TaskType entries)) = tt
 marking-places T (Some (SingleTask entries)) = tt
 marking-places T (Some (TaskObject entries)) = tt
-marking-places T (Some (TaskRow r entries)) = tt
+marking-places T (Some (TaskArray r entries)) = tt
 marking-places T (Some (Variable m)) = tt
 marking-places T (Some (ConstantObject m)) = tt
 marking-places T (Some (Parameter mode m)) = tt
@@ -150,7 +150,7 @@ task-mark : (T : TypeTable) (main : Bool) (entries : List EntryPart) → HasIf T
 task-mark T true entries = tt
 task-mark T false entries = tt
 
-row-mark : (T : TypeTable) (main : Bool) (r : Option Range) (entries : List EntryPart) → HasIf T (constant_mark (task_row main r entries))
+row-mark : (T : TypeTable) (main : Bool) (r : Option Range) (entries : List EntryPart) → HasIf T (constant_mark (task_array main r entries))
 row-mark T true (Some r) entries = tt
 row-mark T true None entries = tt
 row-mark T false (Some r) entries = tt
@@ -169,7 +169,7 @@ sound-own s name index x h =
     let k = sound-subind s x h in
     sound-array name (made_subind s x).types (drange_range s index) (made_subind s x).mark k.0 k.1
 
-sound-row : (s : Scope) (constant : Bool) (m : Marking) (index : PDrange) (x : PSubind) → Sound s.types → IsDeclared (row_object s constant m index x)
+sound-row : (s : Scope) (constant : Bool) (m : Marking) (index : PDrange) (x : PSubind) → Sound s.types → IsDeclared (array_object s constant m index x)
 sound-row s constant (TaskMark entries) index x h = (h, row-mark s.types s.in_main (drange_range s index) entries)
 sound-row s constant (ArrayMark m r part) index x h = sound-of_made constant _ (sound-own s None index x h)
 sound-row s constant (ScalarMark m k) index x h = sound-of_made constant _ (sound-own s None index x h)
@@ -179,7 +179,7 @@ sound-row s constant UnclearMark index x h = sound-of_made constant _ (sound-own
 
 sound-shape : (s : Scope) (constant : Bool) (shape : PShape) → Sound s.types → IsDeclared (declared_object s constant shape)
 sound-shape s constant (OPlain x) h = sound-plain s constant (marking s x.mark.name) x h (marking-places s.types (meaning s x.mark.name))
-sound-shape s constant (ORow index x) h = sound-row s constant (marking s x.mark.name) index x h
+sound-shape s constant (OArray index x) h = sound-row s constant (marking s x.mark.name) index x h
 
 sound-if : (b : Bool) (T U : TypeTable) → Sound T → Sound U → Sound (if b then U else T)
 sound-if true T U h k = k

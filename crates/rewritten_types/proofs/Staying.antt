@@ -5,7 +5,7 @@ use Rattle.ada_tree.specs.declared.static_types.Kind.TheVariants.{Integer, Truth
 use Rattle.ada_tree.specs.declared.static_types.Mark.{Mark}
 use Rattle.ada_tree.specs.TypeTable.{TypeTable}
 use Rattle.ada_tree.specs.PlainDecl.{DNumber, DObject, DEnumeration, DArray, DSubtype, DException, DIntIo, DPragma, DTask, DTaskBody, PDecls, no_decl, decl_then}
-use Rattle.ada_tree.specs.Scope.{Scope, Thing, TypeMark, TaskType, SingleTask, TaskObject, TaskRow, Variable, ConstantObject, Parameter, LoopParameter, Literal, AnException, MainProcedure, AnotherUnit, Unclear, kind_at, mark_at, marking_of_kind, marking_of_mark, marking_of, marking, meaning}
+use Rattle.ada_tree.specs.Scope.{Scope, Thing, TypeMark, TaskType, SingleTask, TaskObject, TaskArray, Variable, ConstantObject, Parameter, LoopParameter, Literal, AnException, MainProcedure, AnotherUnit, Unclear, kind_at, mark_at, marking_of_kind, marking_of_mark, marking_of, marking, meaning}
 use Rattle.ada_tree.specs.WellPlaced.{AreLater, BodiesLast}
 use Rattle.ada_tree.specs.Declaring.{first_scope, after_decl}
 use Rattle.rewritten_types.specs.Rewriting.{valued, mark_of, Behind, behind_none, behind_task, behind_body, behind_instance, Front, front_none, front_stays, front_task, front_object, front_body, if_stays, is_no_task, staying, DeclareOnce}
@@ -48,7 +48,7 @@ task-there T (Some (TypeMark m)) e = absurd (true≢false (sym (mark-no-task T m
 task-there T (Some (TaskType entries)) e = (TaskType entries, refl, refl)
 task-there T (Some (SingleTask entries)) e = absurd (true≢false e)
 task-there T (Some (TaskObject entries)) e = absurd (true≢false e)
-task-there T (Some (TaskRow r entries)) e = absurd (true≢false e)
+task-there T (Some (TaskArray r entries)) e = absurd (true≢false e)
 task-there T (Some (Variable m)) e = absurd (true≢false e)
 task-there T (Some (ConstantObject m)) e = absurd (true≢false e)
 task-there T (Some (Parameter mode m)) e = absurd (true≢false e)

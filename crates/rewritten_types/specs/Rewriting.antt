@@ -5,7 +5,7 @@ use Rattle.ada_tree.specs.declared.naming.NameId.{NameId}
 use Rattle.ada_tree.specs.declared.naming.Span.{Span}
 use Rattle.ada_tree.specs.declared.naming.Word.{Word}
 use Rattle.ada_tree.specs.PlainStmt.{PBody}
-use Rattle.ada_tree.specs.PlainDecl.{PShape, OPlain, ORow, PInit, PTask, PDecl, DNumber, DObject, DEnumeration, DArray, DSubtype, DException, DIntIo, DPragma, DTask, DTaskBody, PDecls, no_decl, decl_then}
+use Rattle.ada_tree.specs.PlainDecl.{PShape, OPlain, OArray, PInit, PTask, PDecl, DNumber, DObject, DEnumeration, DArray, DSubtype, DException, DIntIo, DPragma, DTask, DTaskBody, PDecls, no_decl, decl_then}
 use Rattle.ada_tree.specs.Scope.{Scope, Thing, TypeMark, Variable, ConstantObject, Parameter, LoopParameter, Literal, Marking, TaskMark, meaning, marking}
 use Rattle.ada_tree.specs.Declaring.{before_all, first_scope, after_decl}
 use Rattle.ada_tree.specs.RuleDuplicate.{is_predefined, is_among}
@@ -61,7 +61,7 @@ IsUsed scope id = (is_predefined id.0 || is_among scope.here id.0) ≡ true
 -- the mark of an object, or of its components
 abbrev pub mark_of : PShape → NameId
 mark_of (OPlain x) = x.mark.name
-mark_of (ORow index x) = x.mark.name
+mark_of (OArray index x) = x.mark.name
 
 -- a declaration that is no body
 abbrev pub IsFirst : PDecl → Type 0

@@ -1,5 +1,5 @@
 -- The objects of a unit are the same by tables that agree on old names.
-use Rattle.std.proofs.Common.{◌≡◌, ℕ, Bool, true, false, if◌then◌else◌, List, [], ◌∷◌, map, replicate, is_some, IfSome, Option, Some, None, Result, Ok, Err, refl, sym, ap, ap₂, ◌∙◌, true≢false}
+use Rattle.std.proofs.Common.{◌≡◌, ℕ, Bool, true, if◌then◌else◌, List, [], ◌∷◌, map, replicate, is_some, IfSome, Option, Some, None, Result, Ok, Err, refl, sym, ap, ap₂, ◌∙◌, true≢false}
 use Rattle.std.specs.List.{AllByRecursion}
 use Rattle.std.proofs.lemmas.List.Elements.{recursion_from_All}
 use Rattle.ada_tree.specs.declared.naming.NameId.{NameId}
@@ -9,7 +9,7 @@ use Rattle.ada_tree.specs.declared.static_types.Kind.TheVariants as kind
 use Rattle.ada_tree.specs.declared.static_types.Mark.{Mark}
 use Rattle.ada_tree.specs.TypeTable.{TypeTable}
 use Rattle.ada_tree.specs.PlainExpr.{PExpr, PBounds, PSubind, PDrange}
-use Rattle.ada_tree.specs.PlainDecl.{PShape, OPlain, ORow, PInit, IOne, IList, IOthers, PDecl, DNumber, DObject, DEnumeration, DArray, DSubtype, DException, DIntIo, DPragma, DTask, DTaskBody, PDecls, no_decl, decl_then}
+use Rattle.ada_tree.specs.PlainDecl.{PShape, OPlain, OArray, PInit, IOne, IList, IOthers, PDecl, DNumber, DObject, DEnumeration, DArray, DSubtype, DException, DIntIo, DPragma, DTask, DTaskBody, PDecls, no_decl, decl_then}
 use Rattle.ada_tree.specs.Every.{EveryExpr, EveryBounds, EverySubind, EveryDrange, EveryShape, EveryInit, EveryDecl, EveryDecls}
 use Rattle.ada_tree.specs.Scope.{kind_at}
 use Rattle.ada_tree.specs.StaticValue.{mark_named}
@@ -20,7 +20,7 @@ use Rattle.ada_value.specs.declared.values.Raised.{Raised}
 use Rattle.ada_value.specs.Values.{position_of, lies_in, lower, limits_of, limits_or}
 use Rattle.ada_value.specs.Variables.{Variables, form_of_kind, form_of_mark, object_with}
 use Rattle.ada_value.specs.Evaluating.{evaluated}
-use Rattle.task_model.specs.Starting.{known_range, indicated, marked_form, plain_form, row_form, form_of, value_or_lower, initial, value_count, initials, object_of, with_objects, is_in_types, declared_objects, after_declaration, objects_of}
+use Rattle.task_model.specs.Starting.{known_range, indicated, marked_form, plain_form, array_form, form_of, value_or_lower, initial, value_count, initials, object_of, with_objects, is_in_types, declared_objects, after_declaration, objects_of}
 use Rattle.rewritten_types.specs.Agreement.{scalar_only, Agrees}
 use Rattle.rewritten_values.specs.Values.{old_names}
 use Rattle.rewritten_values.specs.Laws.{FormsAlike, ObjectsAlike, MarkedForm}
@@ -55,14 +55,14 @@ module _ (old : ℕ → Bool) (T U : TypeTable) (h : Agrees old T U) where
       let f = mark-form x.mark.name m p.0 e in
       ap Some (marked-alike x m (form_of_mark T m).index p f ∙ ap (λ (g : Form). marked_form U x m g.index) f)
 
-  row-alike : (index : PDrange) (x : PSubind) (o : Option Mark) → EveryDrange (old_names old) 2 index → EverySubind (old_names old) 2 x → row_form T index x o ≡ row_form U index x o
+  row-alike : (index : PDrange) (x : PSubind) (o : Option Mark) → EveryDrange (old_names old) 2 index → EverySubind (old_names old) 2 x → array_form T index x o ≡ array_form U index x o
   row-alike index x None q p = refl
   row-alike index x (Some m) q p =
       ap Some (ap₂ (λ l r. record { limits = l; index = Some (known_range r) }) (indicated-alike m x.bounds p.1) (range-alike old T U h index 2 q []))
 
   pub form-alike : (shape : PShape) → EveryShape (old_names old) shape → form_of T shape ≡ form_of U shape
   form-alike (OPlain x) p = plain-alike x (mark_named T x.mark.name) p refl ∙ ap (plain_form U x) (h.marks x.mark.name p.0)
-  form-alike (ORow index x) p = row-alike index x (mark_named T x.mark.name) p.0 p.1 ∙ ap (row_form U index x) (h.marks x.mark.name p.1.0)
+  form-alike (OArray index x) p = row-alike index x (mark_named T x.mark.name) p.0 p.1 ∙ ap (array_form U index x) (h.marks x.mark.name p.1.0)
 
   -- ---- initial values
 

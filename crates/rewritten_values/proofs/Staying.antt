@@ -2,12 +2,12 @@
 use Rattle.std.proofs.Common.{◌≡◌, true, None, refl, sym, ap, ◌∙◌}
 use Rattle.ada_tree.specs.declared.naming.NameId.{NameId}
 use Rattle.ada_tree.specs.TypeTable.{TypeTable}
-use Rattle.ada_tree.specs.PlainDecl.{PShape, OPlain, ORow, DObject, PDecls, no_decl, decl_then}
+use Rattle.ada_tree.specs.PlainDecl.{PShape, OPlain, OArray, DObject, PDecls, no_decl, decl_then}
 use Rattle.ada_tree.specs.Scope.{Scope}
 use Rattle.ada_tree.specs.StaticValue.{mark_named}
 use Rattle.ada_tree.specs.Declaring.{first_scope, after_decl, after_decls}
 use Rattle.ada_value.specs.Variables.{Variables}
-use Rattle.task_model.specs.Starting.{plain_form, row_form, form_of, declared_objects, after_declaration, objects_of}
+use Rattle.task_model.specs.Starting.{plain_form, array_form, form_of, declared_objects, after_declaration, objects_of}
 use Rattle.rewritten_types.specs.Rewriting.{IsFree, mark_of, Behind, behind_none, behind_task, behind_body, behind_instance, Front, front_none, front_stays, front_task, front_object, front_body, DeclareOnce}
 use Rattle.rewritten_types.proofs.Fresh.{IsTaken, taken-decl}
 use Rattle.rewritten_types.proofs.Unmarked.{unvalued_has_no_mark}
@@ -21,7 +21,7 @@ taken-decls (decl_then d rest) s id once h = taken-decls rest (after_decl s d) i
 -- what has no mark is no object
 no-form : (T : TypeTable) (shape : PShape) → mark_named T (mark_of shape) ≡ None → form_of T shape ≡ None
 no-form T (OPlain x) e = ap (plain_form T x) e
-no-form T (ORow index x) e = ap (row_form T index x) e
+no-form T (OArray index x) e = ap (array_form T index x) e
 
 -- behind the first body no objects stand
 behind-none : (T : TypeTable) {ds es : PDecls} → Behind ds es → (vars : Variables) → objects_of T true ds vars ≡ vars

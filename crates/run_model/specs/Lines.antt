@@ -1,5 +1,5 @@
 -- The lines of a run's events (this project's format).
-use Rattle.std.specs.Prelude.{ℕ, List, [], ◌∷◌, Option, Some, None, codes}
+use Rattle.std.specs.Prelude.{ℕ, List, Option, Some, None, codes}
 use Rattle.ded_io.specs.Written.{◌⧺◌, each_text}
 use Rattle.event_machine.specs.declared.Event.{Event}
 use Rattle.syn_event.specs.EventText.{event_text}
@@ -11,6 +11,7 @@ abbrev pub line_by : Event → Option Event → List ℕ
 line_by event (Some original) = event_text original ⧺ codes "\n"
 line_by event None = codes "- " ⧺ (event_text event ⧺ codes "\n")
 
+-- the line of an event: that of the original for which it stands, or its own after a dash
 abbrev pub event_line : Numbering → Event → List ℕ
 event_line numbers event = line_by event (back_of numbers event)
 

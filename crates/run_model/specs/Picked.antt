@@ -18,6 +18,7 @@ pub record Position (C : Type 0) : Type 0 where
 abbrev pub at_start : {C : Type 0} → Whole → C → Position C
 at_start m c = record { machine = m; chooser = c; events = []; made = 0 }
 
+-- the list has no action
 abbrev pub is_nil : List Action → Bool
 is_nil [] = true
 is_nil (action ∷ actions) = false
@@ -44,6 +45,7 @@ abbrev pub turned_by : {C : Type 0} → (C → ℕ) → (C → C) → Position C
 turned_by word next p (Some end) = p
 turned_by word next p None = went_on next p (picked_action p.machine (word p.chooser))
 
+-- where the run stands after one turn more (this project's rule)
 abbrev pub turned : {C : Type 0} → (C → ℕ) → (C → C) → Position C → Position C
 turned word next p = turned_by word next p (halted p.machine)
 

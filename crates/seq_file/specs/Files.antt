@@ -22,6 +22,7 @@ abbrev pub header_line : List (List ℕ) → Numbering → List ℕ
 header_line names numbers =
     codes "ded-seq 1 " ⧺ (text_of names numbers.main ⧺ (codes " " ⧺ (decimal (original_tasks numbers) ⧺ (codes " " ⧺ (decimal (original_entries numbers) ⧺ codes "\n")))))
 
+-- the line of an event
 abbrev pub event_line : Event → List ℕ
 event_line event = event_text event ⧺ codes "\n"
 
@@ -29,6 +30,7 @@ event_line event = event_text event ⧺ codes "\n"
 abbrev pub SeqText : List (List ℕ) → Numbering → List Event → List ℕ
 SeqText names numbers events = header_line names numbers ⧺ each_text event_line events
 
+-- the event is Z, the end of the program
 abbrev pub is_end : Event → Bool
 is_end Z = true
 is_end _ = false
@@ -65,6 +67,7 @@ abbrev pub is_header_of : List ℕ → ℕ → ℕ → Header → Bool
 is_header_of main tasks entries header =
     bytes_eq header.main main && (nat_eq header.tasks tasks && nat_eq header.entries entries)
 
+-- the fault of a first line that writes this header, if any: it is out of the grammar, or another program's
 abbrev pub fault_of_header : List ℕ → ℕ → ℕ → Option Header → Option SeqError
 fault_of_header main tasks entries (Some header) = if is_header_of main tasks entries header then None else Some (OtherProgram 1)
 fault_of_header main tasks entries None = Some (BadLine 1)
@@ -75,6 +78,7 @@ header_fault names numbers bytes =
     fault_of_header (text_of names numbers.main) (original_tasks numbers) (original_entries numbers)
     (option_and_then header_of_line (first_line bytes))
 
+-- the fault of a line that writes this event, if any: it is out of the grammar, or has a number that the program has not
 abbrev pub fault_of_event : Numbering → ℕ → Option Event → Option SeqError
 fault_of_event numbers line (Some event) = if is_known numbers event then None else Some (BadNumber line)
 fault_of_event numbers line None = Some (BadLine line)

@@ -31,6 +31,7 @@ is_member numbers e i = option_map_or (fits_entry i) (entry_at numbers e) false
 abbrev pub is_alternative : ℕ → Bool
 is_alternative k = nat_le 1 k && nat_le k 32
 
+-- the numbers of a caller and of an entry, with the index of a member of that entry
 abbrev pub is_call : Numbering → ℕ → ℕ → ℤ → Bool
 is_call numbers c e i = is_task numbers c && is_member numbers e i
 

@@ -11,6 +11,7 @@ with_two make (Some a) (Some b) = Some (make a b)
 with_two make (Some a) None = None
 with_two make None b = None
 
+-- what is made of three values, where all three are there
 abbrev pub with_three : {A B C X : Type 0} → (A → B → C → X) → Option A → Option B → Option C → Option X
 with_three make (Some a) b c = with_two (make a) b c
 with_three make None b c = None
@@ -85,9 +86,11 @@ pub record Header : Type 0 where
   pub tasks : ℕ
   pub entries : ℕ
 
+-- a header with the name of a program, its tasks beside main and its entries
 abbrev pub header_with : List ℕ → ℕ → ℕ → Header
 header_with main tasks entries = record { main = main; tasks = tasks; entries = entries }
 
+-- the word, where it is an identifier in upper case (2.3)
 abbrev pub upper_name : List ℕ → Option (List ℕ)
 upper_name word = if is_upper_name word then Some word else None
 

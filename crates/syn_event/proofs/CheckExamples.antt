@@ -4,8 +4,8 @@ use Rattle.ada_tree.specs.declared.naming.Span.{Span}
 use Rattle.ada_tree.specs.declared.naming.Word.{Word}
 use Rattle.ada_tree.specs.declared.statements.ParMode.TheVariants.{Take}
 use Rattle.ada_tree.specs.PlainExpr.{PExpr, EInteger, EName, EIndex, EParen, PSubind, PDrange, RGiven}
-use Rattle.ada_tree.specs.PlainStmt.{SIf, SConditional, LFor, arm, no_arm, arm_then, PTarget, PCallee, PFormal, PHead, PStmt, SNull, SAssign, SExit, SRaise, SAbort, SCall, SAccept, SWait, SBlock, SLoop, no_stmt, PMaybe, absent, present, accepting, PAltKind, AAccept, ADelay, ATerminate, PAlts, no_alt, alt_then, alternative, no_handler, handler_then, handler, body, row_of}
-use Rattle.ada_tree.specs.PlainDecl.{OPlain, ORow, PEntry, PDecl, DObject, DArray, DTask, DTaskBody, decls_of}
+use Rattle.ada_tree.specs.PlainStmt.{SIf, SConditional, LFor, arm, no_arm, arm_then, PTarget, PCallee, PFormal, PHead, PStmt, SNull, SAssign, SExit, SRaise, SAbort, SCall, SAccept, SWait, SBlock, SLoop, no_stmt, PMaybe, absent, present, accepting, PAltKind, AAccept, ADelay, ATerminate, PAlts, no_alt, alt_then, alternative, no_handler, handler_then, handler, body, stmts_of}
+use Rattle.ada_tree.specs.PlainDecl.{OPlain, OArray, PEntry, PDecl, DObject, DArray, DTask, DTaskBody, decls_of}
 use Rattle.ada_tree.specs.PlainProgram.{PProgram}
 use Rattle.ada_tree.specs.Refusals.{types_in}
 use Rattle.syn_event.specs.declared.numbering.Mode.{Mode}
@@ -44,20 +44,20 @@ abbrev task_type : ℕ → ℕ → List PEntry → PDecl
 task_type id s es = DTask record { name = w id (s + 1); of_kind = true; entries = es; priorities = [] } (at s)
 
 abbrev task_body : ℕ → List PDecl → List PStmt → PDecl
-task_body id os ss = DTaskBody (w id 900) (decls_of os) (body (row_of ss) no_handler) (at 900)
+task_body id os ss = DTaskBody (w id 900) (decls_of os) (body (stmts_of ss) no_handler) (at 900)
 
 abbrev object : ℕ → ℕ → ℕ → PDecl
 object id s mark = DObject (w id s ∷ []) false (OPlain (plain mark)) None (at s)
 
 abbrev row : ℕ → ℕ → PDrange → ℕ → PDecl
-row id s r mark = DObject (w id s ∷ []) false (ORow r (plain mark)) None (at s)
+row id s r mark = DObject (w id s ∷ []) false (OArray r (plain mark)) None (at s)
 
 -- the ids: 0 INTEGER, 9 TASKING_ERROR, 25 Q, 26 T, 27 E, 28 F, 29 X, 30 Y, 31 W, 32 A, 33 L
 abbrev texts : List (List ℕ)
-texts = replicate 25 (codes "P") ++ codes "Q" ∷ codes "T" ∷ codes "E" ∷ codes "F" ∷ codes "X" ∷ codes "Y" ∷ codes "W" ∷ codes "A" ∷ codes "L" ∷ codes "DED_Z" ∷ codes "Z_DED_1" ∷ codes "DED" ∷ []
+texts = replicate 25 (codes "P") ++ codes "Q" ∷ codes "T" ∷ codes "E" ∷ codes "F" ∷ codes "X" ∷ codes "Y" ∷ codes "W" ∷ codes "A" ∷ codes "L" ∷ codes "DED_Z" ∷ codes "Z_DED_1" ∷ codes "DED" ∷ codes "ZDED" ∷ []
 
 abbrev program : List PDecl → List PStmt → PProgram
-program ds ss = record { names = texts; text_io = false; name = w 25 900; decls = decls_of ds; body = body (row_of ss) no_handler }
+program ds ss = record { names = texts; text_io = false; name = w 25 900; decls = decls_of ds; body = body (stmts_of ss) no_handler }
 
 -- the rule and the first byte of each refusal
 abbrev told : PProgram → List (ℕ × ℕ)
@@ -90,7 +90,7 @@ abbrev accept : ℕ → ℕ → Option PExpr → PStmt
 accept id s i = SAccept (accepting (head id s i) absent) (at s)
 
 abbrev accept_do : ℕ → ℕ → List PStmt → PStmt
-accept_do id s ss = SAccept (accepting (head id s None) (present (row_of ss))) (at s)
+accept_do id s ss = SAccept (accepting (head id s None) (present (stmts_of ss))) (at s)
 
 abbrev callee : ℕ → ℕ → Option PExpr → PCallee
 callee id s i = record { name = w id s; index = i }
@@ -114,7 +114,7 @@ abbrev wait : PAlts → PMaybe → PStmt
 wait x o = SWait x o (at 1)
 
 abbrev loop : Option Word → List PStmt → PStmt
-loop n ss = SLoop n None (row_of ss) (at 900)
+loop n ss = SLoop n None (stmts_of ss) (at 900)
 
 abbrev exit : Option Word → PStmt
 exit n = SExit n None (at 1)
@@ -175,7 +175,7 @@ other_member = refl
 unknown_member : told (with_body (object 32 900 0 ∷ []) (wait (alt_accept 28 3 (Some (lit 1 4)) (alt_accept 28 6 (Some (name 32 7)) no_alt)) absent ∷ [])) ≡ (16, 6) ∷ []
 unknown_member = refl
 
-reserved_object : told (program (object 34 1 0 ∷ object 35 3 0 ∷ object 36 5 0 ∷ []) []) ≡ (17, 1) ∷ (17, 3) ∷ []
+reserved_object : told (program (object 34 1 0 ∷ object 35 3 0 ∷ object 36 5 0 ∷ object 37 7 0 ∷ []) []) ≡ (17, 1) ∷ (17, 3) ∷ (17, 5) ∷ []
 reserved_object = refl
 
 reserved_in_any : check_refusals (program (object 34 1 0 ∷ object 35 3 0 ∷ []) []) Any ≡ []
@@ -215,7 +215,7 @@ exit_of_accept = refl
 raise_without_handler : told (with_stmts (SRaise None (at 1) ∷ [])) ≡ (22, 1) ∷ []
 raise_without_handler = refl
 
-raise_in_handler : told (with_stmts (SBlock (body no_stmt (handler_then (handler [] (row_of (SRaise None (at 1) ∷ [])) (at 900)) no_handler)) (at 900) ∷ [])) ≡ []
+raise_in_handler : told (with_stmts (SBlock (body no_stmt (handler_then (handler [] (stmts_of (SRaise None (at 1) ∷ [])) (at 900)) no_handler)) (at 900) ∷ [])) ≡ []
 raise_in_handler = refl
 
 -- ---- limits
@@ -243,7 +243,7 @@ long_name = refl
 many_tasks : over Original (program (task_type 31 900 [] ∷ row 32 3 (dots 1 150 900) 31 ∷ row 33 5 (dots 1 51 900) 31 ∷ task_body 31 [] [] ∷ []) []) ≡ limit Tasks 200 5 ∷ []
 many_tasks = refl
 
-many_entries : over Original (program (task_type 31 900 (entry 27 900 None [] ∷ entry 28 900 None [] ∷ entry 29 900 None [] ∷ entry 30 900 None [] ∷ entry 36 900 None [] ∷ []) ∷ row 32 3 (dots 1 200 900) 31 ∷ task 26 5 (entry 27 7 None [] ∷ entry 28 9 None [] ∷ []) ∷ task_body 31 [] [] ∷ task_body 26 [] [] ∷ []) []) ≡ limit Tasks 200 5 ∷ limit Entries 1000 7 ∷ []
+many_entries : over Original (program (task_type 31 900 (entry 27 900 None [] ∷ entry 28 900 None [] ∷ entry 29 900 None [] ∷ entry 30 900 None [] ∷ entry 37 900 None [] ∷ []) ∷ row 32 3 (dots 1 200 900) 31 ∷ task 26 5 (entry 27 7 None [] ∷ entry 28 9 None [] ∷ []) ∷ task_body 31 [] [] ∷ task_body 26 [] [] ∷ []) []) ≡ limit Tasks 200 5 ∷ limit Entries 1000 7 ∷ []
 many_entries = refl
 
 many_members : over Original (program (task 26 900 (entry 27 900 (Some (dots 1 1001 3)) [] ∷ []) ∷ task_body 26 [] [] ∷ []) []) ≡ limit Members 1000 3 ∷ []
@@ -267,7 +267,7 @@ many_formals = refl
 
 -- the body of T is 4194304 bytes long, and calls a member of A once by an index that is not static
 abbrev copied : ℕ → PProgram
-copied length = program (task_type 31 900 (entry 27 900 None [] ∷ []) ∷ row 32 900 (dots 1 2 900) 31 ∷ task 26 5 [] ∷ DTaskBody (w 26 900) (decls_of (object 29 900 0 ∷ [])) (body (row_of (call 32 900 (Some (name 29 900)) ∷ [])) no_handler) record { start = 100; end = 100 + length } ∷ DTaskBody (w 31 900) (decls_of []) (body no_stmt no_handler) record { start = 900; end = 902 } ∷ []) []
+copied length = program (task_type 31 900 (entry 27 900 None [] ∷ []) ∷ row 32 900 (dots 1 2 900) 31 ∷ task 26 5 [] ∷ DTaskBody (w 26 900) (decls_of (object 29 900 0 ∷ [])) (body (stmts_of (call 32 900 (Some (name 29 900)) ∷ [])) no_handler) record { start = 100; end = 100 + length } ∷ DTaskBody (w 31 900) (decls_of []) (body no_stmt no_handler) record { start = 900; end = 902 } ∷ []) []
 
 copies_enough : over Original (copied 4194100) ≡ []
 copies_enough = refl
@@ -280,21 +280,21 @@ copies_in_any = refl
 
 -- ---- what hides, and what stands in what
 
-accept_with_formal : told (with_stmts (SAccept (accepting (record (head 27 900 None) { formals = record { names = w 29 900 ∷ []; mode = Take; mark = w 0 900 } ∷ [] }) (present (row_of (SIf (arm_then (arm (name 29 3) no_stmt) no_arm) absent (at 900) ∷ [])))) (at 900) ∷ assign 29 5 (lit 1 7) ∷ [])) ≡ (13, 5) ∷ []
+accept_with_formal : told (with_stmts (SAccept (accepting (record (head 27 900 None) { formals = record { names = w 29 900 ∷ []; mode = Take; mark = w 0 900 } ∷ [] }) (present (stmts_of (SIf (arm_then (arm (name 29 3) no_stmt) no_arm) absent (at 900) ∷ [])))) (at 900) ∷ assign 29 5 (lit 1 7) ∷ [])) ≡ (13, 5) ∷ []
 accept_with_formal = refl
 
 -- a loop parameter hides in its loop, and not in its own range
-loop_with_parameter : told (with_stmts (SLoop None (Some (LFor (w 29 900) false (RGiven record { first = lit 1 900; last = name 29 3 }))) (row_of (SIf (arm_then (arm (name 29 5) no_stmt) no_arm) absent (at 900) ∷ [])) (at 900) ∷ [])) ≡ (13, 3) ∷ []
+loop_with_parameter : told (with_stmts (SLoop None (Some (LFor (w 29 900) false (RGiven record { first = lit 1 900; last = name 29 3 }))) (stmts_of (SIf (arm_then (arm (name 29 5) no_stmt) no_arm) absent (at 900) ∷ [])) (at 900) ∷ [])) ≡ (13, 3) ∷ []
 loop_with_parameter = refl
 
 loop_in_accept : told (with_stmts (loop None (accept_do 27 900 (loop (Some (w 33 900)) (exit None ∷ exit (Some (w 33 3)) ∷ []) ∷ []) ∷ exit None ∷ []) ∷ [])) ≡ []
 loop_in_accept = refl
 
 -- what stands behind the accept of an alternative is not in it
-behind_accept : told (with_stmts (loop None (wait (alt 900 (AAccept (accepting (head 27 900 None) absent) (row_of (exit None ∷ accept 27 900 None ∷ []))) no_alt) absent ∷ []) ∷ [])) ≡ []
+behind_accept : told (with_stmts (loop None (wait (alt 900 (AAccept (accepting (head 27 900 None) absent) (stmts_of (exit None ∷ accept 27 900 None ∷ []))) no_alt) absent ∷ []) ∷ [])) ≡ []
 behind_accept = refl
 
-raise_in_accept_of_handler : told (with_stmts (SBlock (body no_stmt (handler_then (handler [] (row_of (accept_do 27 900 (SRaise None (at 1) ∷ []) ∷ [])) (at 900)) no_handler)) (at 900) ∷ SRaise None (at 3) ∷ [])) ≡ (22, 3) ∷ []
+raise_in_accept_of_handler : told (with_stmts (SBlock (body no_stmt (handler_then (handler [] (stmts_of (accept_do 27 900 (SRaise None (at 1) ∷ []) ∷ [])) (at 900)) no_handler)) (at 900) ∷ SRaise None (at 3) ∷ [])) ≡ (22, 3) ∷ []
 raise_in_accept_of_handler = refl
 
 conditional_call_of_type : told (program (task_type 31 900 (entry 27 900 None [] ∷ []) ∷ task_body 31 [] [] ∷ []) (SConditional record { task = callee 31 3 None; entry = w 27 900; args = None } no_stmt no_stmt (at 1) ∷ [])) ≡ (18, 3) ∷ []
@@ -307,10 +307,10 @@ deep_argument = refl
 -- blocks in one another, so many, around some statements
 abbrev blocks : ℕ → List PStmt → List PStmt
 blocks zero ss = ss
-blocks (suc n) ss = SBlock (body (row_of (blocks n ss)) no_handler) (at 900) ∷ []
+blocks (suc n) ss = SBlock (body (stmts_of (blocks n ss)) no_handler) (at 900) ∷ []
 
 -- behind 37 blocks a wait has nesting 38, its alternatives 39, what stands in them 40, and what stands in the accept of one 41
-deep_alternative : over Original (with_stmts (blocks 37 (wait (alt 900 (AAccept (accepting (head 27 900 None) (present (row_of (SNull (at 3) ∷ [])))) (row_of (SNull (at 900) ∷ []))) (alt_delay 900 no_alt)) absent ∷ []))) ≡ limit Nesting 40 3 ∷ []
+deep_alternative : over Original (with_stmts (blocks 37 (wait (alt 900 (AAccept (accepting (head 27 900 None) (present (stmts_of (SNull (at 3) ∷ [])))) (stmts_of (SNull (at 900) ∷ []))) (alt_delay 900 no_alt)) absent ∷ []))) ≡ limit Nesting 40 3 ∷ []
 deep_alternative = refl
 
 deeper_delay : over Original (with_stmts (blocks 38 (wait (alt 5 (AAccept (accepting (head 27 3 None) absent) no_stmt) (alt_delay 7 (alt_then (alternative (Some (lit 1 9)) (ADelay 0 no_stmt) (at 8)) no_alt))) absent ∷ []))) ≡ limit Nesting 40 3 ∷ limit Nesting 40 7 ∷ limit Nesting 40 9 ∷ []

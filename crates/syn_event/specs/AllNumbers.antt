@@ -9,28 +9,30 @@ use Rattle.syn_event.specs.declared.numbering.EntryInfo.{EntryInfo}
 use Rattle.syn_event.specs.Numbering.{Numbering}
 use Rattle.syn_event.specs.Numbered.{is_added_name, with_origins, task_info}
 use Rattle.syn_event.specs.Extents.{Extent, extent}
-use Rattle.syn_event.specs.TaskParts.{Seat, seats}
+use Rattle.syn_event.specs.NamedTasks.{NumberedTask, numbered_tasks}
 
 -- a task is added where its name is a rewriter's; a member of an array has the array's name
-abbrev pub seat_info : List (List ℕ) → Seat → TaskInfo
-seat_info names x = record { name = x.name; added = is_added_name names x.name; unit = x.unit.name.name; member = x.member }
+abbrev pub info_of_task : List (List ℕ) → NumberedTask → TaskInfo
+info_of_task names x = record { name = x.name; added = is_added_name names x.name; unit = x.unit.name.name; member = x.member }
 
 -- the first and the last index of a family; 0 of a plain entry
 abbrev pub first_of : Option Extent → ℤ
 first_of (Some x) = x.first
 first_of None = pos 0
 
+-- the last index of a range that is known; 0 where there is none, as of a plain entry (this project's rule)
 abbrev pub last_of : Option Extent → ℤ
 last_of (Some x) = x.last
 last_of None = pos 0
 
+-- the first and the last index of an entry family, where both are known (9.5); none of a plain entry
 abbrev pub family_extent : TypeTable → Option PDrange → Option Extent
 family_extent types (Some r) = extent types r
 family_extent types None = None
 
 -- an entry of a task, before it is known what it stands for; it is added where its own name or its task's is
-abbrev pub seat_entry : List (List ℕ) → TypeTable → ℕ → Seat → PEntry → EntryInfo
-seat_entry names types owner x e = record {
+abbrev pub entry_of_task : List (List ℕ) → TypeTable → ℕ → NumberedTask → PEntry → EntryInfo
+entry_of_task names types owner x e = record {
   name = e.name.name;
   owner = owner;
   family = is_some e.family;
@@ -41,14 +43,14 @@ seat_entry names types owner x e = record {
 }
 
 -- the entries of tasks that are numbered from `t` on
-abbrev pub seat_entries : List (List ℕ) → TypeTable → ℕ → List Seat → List EntryInfo
-seat_entries names types t [] = []
-seat_entries names types t (x ∷ rest) = map (seat_entry names types t x) x.unit.entries ++ seat_entries names types (t + 1) rest
+abbrev pub entries_of_tasks : List (List ℕ) → TypeTable → ℕ → List NumberedTask → List EntryInfo
+entries_of_tasks names types t [] = []
+entries_of_tasks names types t (x ∷ rest) = map (entry_of_task names types t x) x.unit.entries ++ entries_of_tasks names types (t + 1) rest
 
 -- The numbers of a program with those types.
 abbrev pub all_numbers : TypeTable → PProgram → Numbering
 all_numbers types p = record {
   main = p.name.name;
-  tasks = task_info p.names p.name.name ∷ map (seat_info p.names) (seats types p);
-  entries = with_origins p.names (seat_entries p.names types 1 (seats types p));
+  tasks = task_info p.names p.name.name ∷ map (info_of_task p.names) (numbered_tasks types p);
+  entries = with_origins p.names (entries_of_tasks p.names types 1 (numbered_tasks types p));
 }

@@ -24,6 +24,7 @@ pub record CheckRefusal : Type 0 where
   pub over : Option Over
   pub span : Span
 
+-- the refusals of the rule of that number, one for each place; none of them tells a limit (this project's rule)
 abbrev pub by_rule : ℕ → List Span → List CheckRefusal
 by_rule n spans = map (λ s. record { rule = n; over = None; span = s }) spans
 

@@ -9,9 +9,11 @@ use Rattle.ded_io.specs.Written.{◌⧺◌}
 abbrev pub call_text : List ℕ → ℕ → ℕ → ℤ → List ℕ
 call_text letter c e i = letter ⧺ (decimal c ⧺ (codes " " ⧺ (decimal e ⧺ (codes " " ⧺ signed_decimal i))))
 
+-- a letter with its blank, and one number (this project's format)
 abbrev pub one_text : List ℕ → ℕ → List ℕ
 one_text letter a = letter ⧺ decimal a
 
+-- a letter with its blank, and two numbers with one blank between them (this project's format)
 abbrev pub two_text : List ℕ → ℕ → ℕ → List ℕ
 two_text letter a b = letter ⧺ (decimal a ⧺ (codes " " ⧺ decimal b))
 

@@ -16,6 +16,7 @@ abbrev pub value_there : Result ℤ Span → Option ℤ
 value_there (Ok z) = Some z
 value_there (Err s) = None
 
+-- the value of an expression, where it is static and nothing in it raises (4.9)
 abbrev pub fixed : TypeTable → PExpr → Option ℤ
 fixed types e = if is_static types e then value_there (value_of types e) else None
 
@@ -24,10 +25,12 @@ pub record Extent : Type 0 where
   pub first : ℤ
   pub last : ℤ
 
+-- the extent from one value to another, where both are known
 abbrev pub between : Option ℤ → Option ℤ → Option Extent
 between (Some a) (Some b) = Some record { first = a; last = b }
 between _ _ = None
 
+-- the extent of two bounds, where both are static and nothing in them raises (4.9)
 abbrev pub bounds_extent : TypeTable → PBounds → Option Extent
 bounds_extent types b = between (fixed types b.first) (fixed types b.last)
 
@@ -40,6 +43,7 @@ abbrev pub marked_extent : TypeTable → NameId → Option PBounds → Option Ex
 marked_extent types id (Some b) = bounds_extent types b
 marked_extent types id None = mark_extent types id
 
+-- the extent of a discrete range, where it is known (3.6.1)
 abbrev pub extent : TypeTable → PDrange → Option Extent
 extent types (RGiven b) = bounds_extent types b
 extent types (RMarked x) = marked_extent types x.mark.name x.bounds
@@ -49,6 +53,7 @@ abbrev pub count_to : ℤ → ℕ
 count_to (pos n) = n
 count_to (negsuc n) = 0
 
+-- how many values an extent has; 0 where it is empty (3.5)
 abbrev pub size_of : Extent → ℕ
 size_of x = count_to ((x.last -ℤ x.first) +ℤ pos 1)
 
@@ -57,6 +62,7 @@ abbrev pub known_size : Option Extent → ℕ
 known_size (Some x) = size_of x
 known_size None = 0
 
+-- how many values a discrete range has (3.6.1); 0 where its bounds are not known
 abbrev pub size : TypeTable → PDrange → ℕ
 size types r = known_size (extent types r)
 
@@ -67,10 +73,12 @@ abbrev pub range_start : PDrange → Span
 range_start (RGiven b) = place_of b.first
 range_start (RMarked x) = x.mark.span
 
+-- the kind is that of an array type (3.6)
 abbrev pub is_array_kind : Option Kind → Bool
 is_array_kind (Some (Array index first last part)) = true
 is_array_kind _ = false
 
+-- the mark is that of an array type (3.6)
 abbrev pub is_array_mark : TypeTable → Option Mark → Bool
 is_array_mark types (Some m) = is_array_kind (kind_at types m.kind)
 is_array_mark types None = false

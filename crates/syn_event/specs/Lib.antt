@@ -7,7 +7,7 @@ pub mod TaskText
 pub mod Limits
 pub mod Extents
 pub mod CheckScope
-pub mod TaskParts
+pub mod NamedTasks
 pub mod Callees
 pub mod Copying
 pub mod CheckSites

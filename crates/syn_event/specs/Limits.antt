@@ -29,6 +29,7 @@ any_limit Alternatives = Some 33
 any_limit Formals = Some 17
 any_limit Copies = None
 
+-- the limit of that in a program of that mode; none where it has no limit (this project's rule)
 abbrev pub limit_of : Mode → What → Option ℕ
 limit_of mode.Original what = original_limit what
 limit_of mode.Any what = any_limit what

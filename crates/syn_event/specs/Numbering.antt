@@ -11,9 +11,11 @@ pub record Numbering : Type 0 where
   pub tasks : List TaskInfo
   pub entries : List EntryInfo
 
+-- the task of that number, 0 being main, where there is one (this project's rule)
 abbrev pub task_at : Numbering → ℕ → Option TaskInfo
 task_at numbers t = slice_get numbers.tasks t
 
+-- the entry of that number, counted from 1, where there is one (this project's rule)
 abbrev pub entry_at : Numbering → ℕ → Option EntryInfo
 entry_at numbers e = if e == 0 then None else slice_get numbers.entries (e - 1)
 
@@ -25,9 +27,11 @@ owner_of numbers e = option_map_or (λ info. info.owner) (entry_at numbers e) 0
 abbrev pub is_added_task : Numbering → ℕ → Bool
 is_added_task numbers t = option_map_or (λ info. info.added) (task_at numbers t) false
 
+-- no rewriter added the task
 abbrev pub is_original_task : TaskInfo → Bool
 is_original_task info = not info.added
 
+-- no rewriter added the entry
 abbrev pub is_original_entry : EntryInfo → Bool
 is_original_entry info = not info.added
 
@@ -35,6 +39,7 @@ is_original_entry info = not info.added
 abbrev pub original_tasks : Numbering → ℕ
 original_tasks numbers = count_by is_original_task (drop 1 numbers.tasks)
 
+-- how many of the entries are the original's (this project's rule)
 abbrev pub original_entries : Numbering → ℕ
 original_entries numbers = count_by is_original_entry numbers.entries
 

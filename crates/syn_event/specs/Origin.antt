@@ -14,6 +14,7 @@ entry_number numbers e (Some info) = number_for info.stands_for
     number_for (Some n) = Some n
     number_for None = if info.added then None else Some (count_by is_original_entry (take e numbers.entries))
 
+-- the number in the original of an entry, or of the one that it stands for; none of any other (this project's rule)
 abbrev pub original_entry : Numbering → ℕ → Option ℕ
 original_entry numbers e = entry_number numbers e (entry_at numbers e)
 

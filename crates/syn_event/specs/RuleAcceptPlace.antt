@@ -5,6 +5,7 @@ use Rattle.ada_tree.specs.declared.naming.NameId.{NameId}
 use Rattle.ada_tree.specs.declared.naming.Span.{Span}
 use Rattle.syn_event.specs.CheckScope.{Unit, CheckScope, CheckDemand, accepts}
 
+-- the name is one of those
 abbrev pub is_among : List NameId → NameId → Bool
 is_among names name = list_any (λ n. n.0 == name.0) names
 

@@ -6,6 +6,7 @@ use Rattle.ada_tree.specs.declared.naming.Span.{Span}
 use Rattle.ada_tree.specs.declared.naming.Word.{Word}
 use Rattle.syn_event.specs.CheckScope.{CheckScope, CheckDemand, exits}
 
+-- the loop has that name; a loop without a name has not (5.7)
 abbrev pub is_named : NameId → Option NameId → Bool
 is_named name (Some n) = n.0 == name.0
 is_named name None = false

@@ -5,6 +5,7 @@ use Rattle.syn_event.specs.declared.meanings.Meant.{Meant}
 use Rattle.syn_event.specs.declared.meanings.Meant.TheVariants.{MainProcedure, TaskType}
 use Rattle.syn_event.specs.CheckScope.{CheckScope, meaning, CheckDemand, addresses}
 
+-- the place of a name that means the main procedure or a task type; none of any other name (9.5, 9.10)
 abbrev pub no_task : Option Meant → Span → List Span
 no_task (Some MainProcedure) s = s ∷ []
 no_task (Some TaskType) s = s ∷ []

@@ -16,6 +16,7 @@ accept_heads [] = []
 accept_heads (AAccept (accepting h o) l ∷ rest) = h ∷ accept_heads rest
 accept_heads (_ ∷ rest) = accept_heads rest
 
+-- both values are known, and they differ
 abbrev pub are_other_values : Option ℤ → Option ℤ → Bool
 are_other_values (Some a) (Some b) = not (int_eq a b)
 are_other_values _ _ = false

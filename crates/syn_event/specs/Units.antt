@@ -19,5 +19,6 @@ tasks_in [] = []
 tasks_in (DTask task span ∷ rest) = task ∷ tasks_in rest
 tasks_in (_ ∷ rest) = tasks_in rest
 
+-- the tasks and task types that a program declares, in order (9.1)
 abbrev pub tasks_of : PProgram → List PTask
 tasks_of p = tasks_in (decl_list p.decls)

@@ -7,7 +7,7 @@ use Rattle.ada_tree.specs.declared.expressions.BinaryOp.TheVariants as binary
 use Rattle.ada_tree.specs.declared.statements.ParMode.TheVariants as mode
 use Rattle.ada_tree.specs.PlainExpr.{EInteger, EIndex, EAttributeOf, EUnary, EBinary, RGiven}
 use Rattle.ada_tree.specs.PlainStmt.{PWords, PValue, LFor, SNull, SAssign, SExit, SRaise, SCall, SAccept, SWait, SConditional, STimed, SPut, SPutLine, SNewLine, SIf, SBlock, SLoop, no_stmt, stmt_then, absent, present, accepting, alternative, AAccept, ATerminate, no_alt, alt_then, arm, no_arm, arm_then, body, handler, no_handler, handler_then}
-use Rattle.ada_tree.specs.PlainDecl.{OPlain, ORow, IOne, DNumber, DObject, DSubtype, DException, DIntIo, DTask, DTaskBody, no_decl, decl_then}
+use Rattle.ada_tree.specs.PlainDecl.{OPlain, OArray, IOne, DNumber, DObject, DSubtype, DException, DIntIo, DTask, DTaskBody, no_decl, decl_then}
 use Rattle.ada_tree.specs.PlainProgram.{PProgram}
 use Rattle.event_machine.specs.declared.Event.TheVariants as event
 use Rattle.event_machine.specs.declared.CallForm.TheVariants as form
@@ -152,7 +152,7 @@ long_way_run = refl
 -- begin for I in 1 .. 3 loop BUFFER.GET(V); PUT_LINE("C2" & INTEGER'IMAGE(V)); end loop; end C2;
 -- begin null; end BUFFERED;
 abbrev bounded_buffer : PProgram
-bounded_buffer = record { names = (predefined ++ (codes "BUFFERED" ∷ codes "INT_IO" ∷ codes "SIZE" ∷ codes "ITEM" ∷ codes "BUFFER" ∷ codes "X" ∷ codes "P1" ∷ codes "P2" ∷ codes "P3" ∷ codes "C1" ∷ codes "C2" ∷ codes "POOL" ∷ codes "COUNT" ∷ codes "HEAD" ∷ codes "TAIL" ∷ codes "I" ∷ codes "V" ∷ [])); text_io = true; name = (w 25); decls = (decl_then (DIntIo (w 26) o) (decl_then (DNumber (w 27) (EInteger 2 o) o) (decl_then (DSubtype (w 28) (record { mark = (w 0); bounds = (Some (record { first = (EInteger 0 o); last = (EInteger 999 o) })) }) o) (decl_then (DTask (record { name = (w 29); of_kind = false; entries = ((record { name = (w 14); family = None; formals = ((record { names = ((w 30) ∷ []); mode = mode.Take; mark = (w 28) }) ∷ []); span = o }) ∷ (record { name = (w 17); family = None; formals = ((record { names = ((w 30) ∷ []); mode = mode.Give; mark = (w 28) }) ∷ []); span = o }) ∷ []); priorities = ((record { place = 0; value = (EInteger 5 o) }) ∷ []) }) o) (decl_then (DTask (record { name = (w 31); of_kind = false; entries = []; priorities = [] }) o) (decl_then (DTask (record { name = (w 32); of_kind = false; entries = []; priorities = [] }) o) (decl_then (DTask (record { name = (w 33); of_kind = false; entries = []; priorities = [] }) o) (decl_then (DTask (record { name = (w 34); of_kind = false; entries = []; priorities = [] }) o) (decl_then (DTask (record { name = (w 35); of_kind = false; entries = []; priorities = [] }) o) (decl_then (DTaskBody (w 29) (decl_then (DObject ((w 36) ∷ []) false (ORow (RGiven (record { first = (EInteger 1 o); last = (n 27) })) (record { mark = (w 28); bounds = None })) None o) (decl_then (DObject ((w 37) ∷ []) false (OPlain (record { mark = (w 0); bounds = (Some (record { first = (EInteger 0 o); last = (n 27) })) })) (Some (IOne (EInteger 0 o))) o) (decl_then (DObject ((w 38) ∷ (w 39) ∷ []) false (OPlain (record { mark = (w 0); bounds = (Some (record { first = (EInteger 1 o); last = (n 27) })) })) (Some (IOne (EInteger 1 o))) o) no_decl))) (body (stmt_then (SLoop None None (stmt_then (SWait (alt_then (alternative (Some (EBinary binary.Less (n 37) (n 27) o)) (AAccept (accepting (record { entry = (w 14); index = None; formals = ((record { names = ((w 30) ∷ []); mode = mode.Take; mark = (w 28) }) ∷ []); span = o }) (present (stmt_then (SAssign (record { name = (w 36); index = (Some (n 39)) }) (n 30) o) no_stmt))) (stmt_then (SAssign (record { name = (w 39); index = None }) (EBinary binary.Plus (EBinary binary.Mod (n 39) (n 27) o) (EInteger 1 o) o) o) (stmt_then (SAssign (record { name = (w 37); index = None }) (EBinary binary.Plus (n 37) (EInteger 1 o) o) o) no_stmt))) o) (alt_then (alternative (Some (EBinary binary.Greater (n 37) (EInteger 0 o) o)) (AAccept (accepting (record { entry = (w 17); index = None; formals = ((record { names = ((w 30) ∷ []); mode = mode.Give; mark = (w 28) }) ∷ []); span = o }) (present (stmt_then (SAssign (record { name = (w 30); index = None }) (EIndex (w 36) (n 38) o) o) no_stmt))) (stmt_then (SAssign (record { name = (w 38); index = None }) (EBinary binary.Plus (EBinary binary.Mod (n 38) (n 27) o) (EInteger 1 o) o) o) (stmt_then (SAssign (record { name = (w 37); index = None }) (EBinary binary.Minus (n 37) (EInteger 1 o) o) o) no_stmt))) o) (alt_then (alternative None ATerminate o) no_alt))) absent o) no_stmt) o) no_stmt) no_handler) o) (decl_then (DTaskBody (w 31) no_decl (body (stmt_then (SLoop None (Some (LFor (w 40) false (RGiven (record { first = (EInteger 1 o); last = (EInteger 2 o) })))) (stmt_then (SCall (record { task = (record { name = (w 29); index = None }); entry = (w 14); args = (Some (record { first = ((EBinary binary.Plus (EInteger 10 o) (n 40) o) ∷ []); second = None })) }) o) no_stmt) o) no_stmt) no_handler) o) (decl_then (DTaskBody (w 32) no_decl (body (stmt_then (SLoop None (Some (LFor (w 40) false (RGiven (record { first = (EInteger 1 o); last = (EInteger 2 o) })))) (stmt_then (SCall (record { task = (record { name = (w 29); index = None }); entry = (w 14); args = (Some (record { first = ((EBinary binary.Plus (EInteger 20 o) (n 40) o) ∷ []); second = None })) }) o) no_stmt) o) no_stmt) no_handler) o) (decl_then (DTaskBody (w 33) no_decl (body (stmt_then (SLoop None (Some (LFor (w 40) false (RGiven (record { first = (EInteger 1 o); last = (EInteger 2 o) })))) (stmt_then (SCall (record { task = (record { name = (w 29); index = None }); entry = (w 14); args = (Some (record { first = ((EBinary binary.Plus (EInteger 30 o) (n 40) o) ∷ []); second = None })) }) o) no_stmt) o) no_stmt) no_handler) o) (decl_then (DTaskBody (w 34) (decl_then (DObject ((w 41) ∷ []) false (OPlain (record { mark = (w 28); bounds = None })) None o) no_decl) (body (stmt_then (SLoop None (Some (LFor (w 40) false (RGiven (record { first = (EInteger 1 o); last = (EInteger 3 o) })))) (stmt_then (SCall (record { task = (record { name = (w 29); index = None }); entry = (w 17); args = (Some (record { first = ((n 41) ∷ []); second = None })) }) o) (stmt_then (SPutLine ((PWords (codes "C1") o) ∷ (PValue (EAttributeOf (w 0) (w 24) (n 41) o)) ∷ []) o) no_stmt)) o) no_stmt) no_handler) o) (decl_then (DTaskBody (w 35) (decl_then (DObject ((w 41) ∷ []) false (OPlain (record { mark = (w 28); bounds = None })) None o) no_decl) (body (stmt_then (SLoop None (Some (LFor (w 40) false (RGiven (record { first = (EInteger 1 o); last = (EInteger 3 o) })))) (stmt_then (SCall (record { task = (record { name = (w 29); index = None }); entry = (w 17); args = (Some (record { first = ((n 41) ∷ []); second = None })) }) o) (stmt_then (SPutLine ((PWords (codes "C2") o) ∷ (PValue (EAttributeOf (w 0) (w 24) (n 41) o)) ∷ []) o) no_stmt)) o) no_stmt) no_handler) o) no_decl))))))))))))))); body = (body (stmt_then (SNull o) no_stmt) no_handler) }
+bounded_buffer = record { names = (predefined ++ (codes "BUFFERED" ∷ codes "INT_IO" ∷ codes "SIZE" ∷ codes "ITEM" ∷ codes "BUFFER" ∷ codes "X" ∷ codes "P1" ∷ codes "P2" ∷ codes "P3" ∷ codes "C1" ∷ codes "C2" ∷ codes "POOL" ∷ codes "COUNT" ∷ codes "HEAD" ∷ codes "TAIL" ∷ codes "I" ∷ codes "V" ∷ [])); text_io = true; name = (w 25); decls = (decl_then (DIntIo (w 26) o) (decl_then (DNumber (w 27) (EInteger 2 o) o) (decl_then (DSubtype (w 28) (record { mark = (w 0); bounds = (Some (record { first = (EInteger 0 o); last = (EInteger 999 o) })) }) o) (decl_then (DTask (record { name = (w 29); of_kind = false; entries = ((record { name = (w 14); family = None; formals = ((record { names = ((w 30) ∷ []); mode = mode.Take; mark = (w 28) }) ∷ []); span = o }) ∷ (record { name = (w 17); family = None; formals = ((record { names = ((w 30) ∷ []); mode = mode.Give; mark = (w 28) }) ∷ []); span = o }) ∷ []); priorities = ((record { place = 0; value = (EInteger 5 o) }) ∷ []) }) o) (decl_then (DTask (record { name = (w 31); of_kind = false; entries = []; priorities = [] }) o) (decl_then (DTask (record { name = (w 32); of_kind = false; entries = []; priorities = [] }) o) (decl_then (DTask (record { name = (w 33); of_kind = false; entries = []; priorities = [] }) o) (decl_then (DTask (record { name = (w 34); of_kind = false; entries = []; priorities = [] }) o) (decl_then (DTask (record { name = (w 35); of_kind = false; entries = []; priorities = [] }) o) (decl_then (DTaskBody (w 29) (decl_then (DObject ((w 36) ∷ []) false (OArray (RGiven (record { first = (EInteger 1 o); last = (n 27) })) (record { mark = (w 28); bounds = None })) None o) (decl_then (DObject ((w 37) ∷ []) false (OPlain (record { mark = (w 0); bounds = (Some (record { first = (EInteger 0 o); last = (n 27) })) })) (Some (IOne (EInteger 0 o))) o) (decl_then (DObject ((w 38) ∷ (w 39) ∷ []) false (OPlain (record { mark = (w 0); bounds = (Some (record { first = (EInteger 1 o); last = (n 27) })) })) (Some (IOne (EInteger 1 o))) o) no_decl))) (body (stmt_then (SLoop None None (stmt_then (SWait (alt_then (alternative (Some (EBinary binary.Less (n 37) (n 27) o)) (AAccept (accepting (record { entry = (w 14); index = None; formals = ((record { names = ((w 30) ∷ []); mode = mode.Take; mark = (w 28) }) ∷ []); span = o }) (present (stmt_then (SAssign (record { name = (w 36); index = (Some (n 39)) }) (n 30) o) no_stmt))) (stmt_then (SAssign (record { name = (w 39); index = None }) (EBinary binary.Plus (EBinary binary.Mod (n 39) (n 27) o) (EInteger 1 o) o) o) (stmt_then (SAssign (record { name = (w 37); index = None }) (EBinary binary.Plus (n 37) (EInteger 1 o) o) o) no_stmt))) o) (alt_then (alternative (Some (EBinary binary.Greater (n 37) (EInteger 0 o) o)) (AAccept (accepting (record { entry = (w 17); index = None; formals = ((record { names = ((w 30) ∷ []); mode = mode.Give; mark = (w 28) }) ∷ []); span = o }) (present (stmt_then (SAssign (record { name = (w 30); index = None }) (EIndex (w 36) (n 38) o) o) no_stmt))) (stmt_then (SAssign (record { name = (w 38); index = None }) (EBinary binary.Plus (EBinary binary.Mod (n 38) (n 27) o) (EInteger 1 o) o) o) (stmt_then (SAssign (record { name = (w 37); index = None }) (EBinary binary.Minus (n 37) (EInteger 1 o) o) o) no_stmt))) o) (alt_then (alternative None ATerminate o) no_alt))) absent o) no_stmt) o) no_stmt) no_handler) o) (decl_then (DTaskBody (w 31) no_decl (body (stmt_then (SLoop None (Some (LFor (w 40) false (RGiven (record { first = (EInteger 1 o); last = (EInteger 2 o) })))) (stmt_then (SCall (record { task = (record { name = (w 29); index = None }); entry = (w 14); args = (Some (record { first = ((EBinary binary.Plus (EInteger 10 o) (n 40) o) ∷ []); second = None })) }) o) no_stmt) o) no_stmt) no_handler) o) (decl_then (DTaskBody (w 32) no_decl (body (stmt_then (SLoop None (Some (LFor (w 40) false (RGiven (record { first = (EInteger 1 o); last = (EInteger 2 o) })))) (stmt_then (SCall (record { task = (record { name = (w 29); index = None }); entry = (w 14); args = (Some (record { first = ((EBinary binary.Plus (EInteger 20 o) (n 40) o) ∷ []); second = None })) }) o) no_stmt) o) no_stmt) no_handler) o) (decl_then (DTaskBody (w 33) no_decl (body (stmt_then (SLoop None (Some (LFor (w 40) false (RGiven (record { first = (EInteger 1 o); last = (EInteger 2 o) })))) (stmt_then (SCall (record { task = (record { name = (w 29); index = None }); entry = (w 14); args = (Some (record { first = ((EBinary binary.Plus (EInteger 30 o) (n 40) o) ∷ []); second = None })) }) o) no_stmt) o) no_stmt) no_handler) o) (decl_then (DTaskBody (w 34) (decl_then (DObject ((w 41) ∷ []) false (OPlain (record { mark = (w 28); bounds = None })) None o) no_decl) (body (stmt_then (SLoop None (Some (LFor (w 40) false (RGiven (record { first = (EInteger 1 o); last = (EInteger 3 o) })))) (stmt_then (SCall (record { task = (record { name = (w 29); index = None }); entry = (w 17); args = (Some (record { first = ((n 41) ∷ []); second = None })) }) o) (stmt_then (SPutLine ((PWords (codes "C1") o) ∷ (PValue (EAttributeOf (w 0) (w 24) (n 41) o)) ∷ []) o) no_stmt)) o) no_stmt) no_handler) o) (decl_then (DTaskBody (w 35) (decl_then (DObject ((w 41) ∷ []) false (OPlain (record { mark = (w 28); bounds = None })) None o) no_decl) (body (stmt_then (SLoop None (Some (LFor (w 40) false (RGiven (record { first = (EInteger 1 o); last = (EInteger 3 o) })))) (stmt_then (SCall (record { task = (record { name = (w 29); index = None }); entry = (w 17); args = (Some (record { first = ((n 41) ∷ []); second = None })) }) o) (stmt_then (SPutLine ((PWords (codes "C2") o) ∷ (PValue (EAttributeOf (w 0) (w 24) (n 41) o)) ∷ []) o) no_stmt)) o) no_stmt) no_handler) o) no_decl))))))))))))))); body = (body (stmt_then (SNull o) no_stmt) no_handler) }
 
 -- 128 actions by count: the buffer turns 13 times and waits 13 times, and takes three more steps for each of 12 items; a producer takes 8 actions, a
 -- consumer 14.

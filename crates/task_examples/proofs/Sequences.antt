@@ -6,7 +6,7 @@ use Rattle.ada_tree.specs.declared.expressions.UnaryOp.TheVariants as unary
 use Rattle.ada_tree.specs.declared.expressions.BinaryOp.TheVariants as binary
 use Rattle.ada_tree.specs.PlainExpr.{EInteger, EIndex, EAttribute, EAttributeOf, EUnary, EBinary, RGiven}
 use Rattle.ada_tree.specs.PlainStmt.{PWords, PValue, LWhile, LFor, SNull, SAssign, SExit, SPut, SPutLine, SNewLine, SGet, SCase, SBlock, SLoop, no_stmt, stmt_then, present, case_arm, no_case_arm, case_arm_then, body, handler, no_handler, handler_then}
-use Rattle.ada_tree.specs.PlainDecl.{OPlain, ORow, IOne, DObject, DEnumeration, DTask, DTaskBody, no_decl, decl_then}
+use Rattle.ada_tree.specs.PlainDecl.{OPlain, OArray, IOne, DObject, DEnumeration, DTask, DTaskBody, no_decl, decl_then}
 use Rattle.ada_tree.specs.PlainProgram.{PProgram}
 use Rattle.event_machine.specs.declared.Event.TheVariants as event
 use Rattle.task_examples.specs.Picking.{Ended}
@@ -43,7 +43,7 @@ turns_of_loops_run = refl
 -- => PUT("I"); end; begin GET(A(1)); exception when CONSTRAINT_ERROR => PUT("O"); end; GET(A(2)); PUT(A(2)); PUT(A(1)); GET(I); exception when END_ERROR
 -- => PUT("E"); end T; begin null; end ORDEROFGET;
 abbrev order_of_get : PProgram
-order_of_get = record { names = (predefined ++ (codes "ORDEROFGET" ∷ codes "T" ∷ codes "A" ∷ codes "I" ∷ [])); text_io = false; name = (w 25); decls = (decl_then (DTask (record { name = (w 26); of_kind = false; entries = []; priorities = [] }) o) (decl_then (DTaskBody (w 26) (decl_then (DObject ((w 27) ∷ []) false (ORow (RGiven (record { first = (EInteger 1 o); last = (EInteger 2 o) })) (record { mark = (w 1); bounds = None })) None o) (decl_then (DObject ((w 28) ∷ []) false (OPlain (record { mark = (w 0); bounds = None })) (Some (IOne (EInteger 3 o))) o) no_decl)) (body (stmt_then (SBlock (body (stmt_then (SGet (record { name = (w 27); index = (Some (n 28)) }) o) no_stmt) (handler_then (handler ((w 6) ∷ []) (stmt_then (SPut ((PWords (codes "I") o) ∷ []) o) no_stmt) o) no_handler)) o) (stmt_then (SBlock (body (stmt_then (SGet (record { name = (w 27); index = (Some (EInteger 1 o)) }) o) no_stmt) (handler_then (handler ((w 6) ∷ []) (stmt_then (SPut ((PWords (codes "O") o) ∷ []) o) no_stmt) o) no_handler)) o) (stmt_then (SGet (record { name = (w 27); index = (Some (EInteger 2 o)) }) o) (stmt_then (SPut ((PValue (EIndex (w 27) (EInteger 2 o) o)) ∷ []) o) (stmt_then (SPut ((PValue (EIndex (w 27) (EInteger 1 o) o)) ∷ []) o) (stmt_then (SGet (record { name = (w 28); index = None }) o) no_stmt)))))) (handler_then (handler ((w 11) ∷ []) (stmt_then (SPut ((PWords (codes "E") o) ∷ []) o) no_stmt) o) no_handler)) o) no_decl)); body = (body (stmt_then (SNull o) no_stmt) no_handler) }
+order_of_get = record { names = (predefined ++ (codes "ORDEROFGET" ∷ codes "T" ∷ codes "A" ∷ codes "I" ∷ [])); text_io = false; name = (w 25); decls = (decl_then (DTask (record { name = (w 26); of_kind = false; entries = []; priorities = [] }) o) (decl_then (DTaskBody (w 26) (decl_then (DObject ((w 27) ∷ []) false (OArray (RGiven (record { first = (EInteger 1 o); last = (EInteger 2 o) })) (record { mark = (w 1); bounds = None })) None o) (decl_then (DObject ((w 28) ∷ []) false (OPlain (record { mark = (w 0); bounds = None })) (Some (IOne (EInteger 3 o))) o) no_decl)) (body (stmt_then (SBlock (body (stmt_then (SGet (record { name = (w 27); index = (Some (n 28)) }) o) no_stmt) (handler_then (handler ((w 6) ∷ []) (stmt_then (SPut ((PWords (codes "I") o) ∷ []) o) no_stmt) o) no_handler)) o) (stmt_then (SBlock (body (stmt_then (SGet (record { name = (w 27); index = (Some (EInteger 1 o)) }) o) no_stmt) (handler_then (handler ((w 6) ∷ []) (stmt_then (SPut ((PWords (codes "O") o) ∷ []) o) no_stmt) o) no_handler)) o) (stmt_then (SGet (record { name = (w 27); index = (Some (EInteger 2 o)) }) o) (stmt_then (SPut ((PValue (EIndex (w 27) (EInteger 2 o) o)) ∷ []) o) (stmt_then (SPut ((PValue (EIndex (w 27) (EInteger 1 o) o)) ∷ []) o) (stmt_then (SGet (record { name = (w 28); index = None }) o) no_stmt)))))) (handler_then (handler ((w 11) ∷ []) (stmt_then (SPut ((PWords (codes "E") o) ∷ []) o) no_stmt) o) no_handler)) o) no_decl)); body = (body (stmt_then (SNull o) no_stmt) no_handler) }
 
 order_of_get_run : outcome order_of_get (([]) ∷ ((negsuc 4) ∷ (pos 8) ∷ []) ∷ []) [] 100 ≡ gives (event.X 1 ∷ event.Z ∷ []) 14 Ended ([] ∷ codes "IO80E" ∷ [])
 unfolding digits
@@ -56,7 +56,7 @@ order_of_get_run = refl
 -- INTEGER'IMAGE(1 / Z)); exception when NUMERIC_ERROR => PUT("N"); end; PUT(BOOLEAN'IMAGE(C = GREEN or else 1 / Z = 1)); exception when NUMERIC_ERROR =>
 -- PUT("M"); end T; begin null; end PARTSOFPUT;
 abbrev parts_of_put : PProgram
-parts_of_put = record { names = (predefined ++ (codes "PARTSOFPUT" ∷ codes "COLOR" ∷ codes "RED" ∷ codes "GREEN" ∷ codes "T" ∷ codes "Z" ∷ codes "C" ∷ codes "B" ∷ [])); text_io = false; name = (w 25); decls = (decl_then (DEnumeration (w 26) ((w 27) ∷ (w 28) ∷ []) o) (decl_then (DTask (record { name = (w 29); of_kind = false; entries = []; priorities = [] }) o) (decl_then (DTaskBody (w 29) (decl_then (DObject ((w 30) ∷ []) false (OPlain (record { mark = (w 0); bounds = None })) (Some (IOne (EInteger 0 o))) o) (decl_then (DObject ((w 31) ∷ []) false (OPlain (record { mark = (w 26); bounds = None })) None o) (decl_then (DObject ((w 32) ∷ []) false (ORow (RGiven (record { first = (EInteger 2 o); last = (EInteger 3 o) })) (record { mark = (w 2); bounds = None })) None o) no_decl))) (body (stmt_then (SPutLine ((PWords (codes "a") o) ∷ (PValue (EAttributeOf (w 0) (w 24) (EInteger 7 o) o)) ∷ (PValue (EAttributeOf (w 0) (w 24) (EUnary unary.Minus (EInteger 7 o) o) o)) ∷ (PValue (EAttributeOf (w 26) (w 24) (EAttributeOf (w 26) (w 22) (n 31) o) o)) ∷ []) o) (stmt_then (SPut ((PValue (EUnary unary.Minus (EInteger 3 o) o)) ∷ []) o) (stmt_then (SNewLine o) (stmt_then (SNewLine o) (stmt_then (SPut ((PValue (EIndex (w 32) (EInteger 3 o) o)) ∷ []) o) (stmt_then (SBlock (body (stmt_then (SPut ((PWords (codes "b") o) ∷ (PValue (EAttributeOf (w 0) (w 24) (EBinary binary.Divide (EInteger 1 o) (n 30) o) o)) ∷ []) o) no_stmt) (handler_then (handler ((w 7) ∷ []) (stmt_then (SPut ((PWords (codes "N") o) ∷ []) o) no_stmt) o) no_handler)) o) (stmt_then (SPut ((PValue (EAttributeOf (w 3) (w 24) (EBinary binary.OrElse (EBinary binary.Equal (n 31) (n 28) o) (EBinary binary.Equal (EBinary binary.Divide (EInteger 1 o) (n 30) o) (EInteger 1 o) o) o) o)) ∷ []) o) no_stmt))))))) (handler_then (handler ((w 7) ∷ []) (stmt_then (SPut ((PWords (codes "M") o) ∷ []) o) no_stmt) o) no_handler)) o) no_decl))); body = (body (stmt_then (SNull o) no_stmt) no_handler) }
+parts_of_put = record { names = (predefined ++ (codes "PARTSOFPUT" ∷ codes "COLOR" ∷ codes "RED" ∷ codes "GREEN" ∷ codes "T" ∷ codes "Z" ∷ codes "C" ∷ codes "B" ∷ [])); text_io = false; name = (w 25); decls = (decl_then (DEnumeration (w 26) ((w 27) ∷ (w 28) ∷ []) o) (decl_then (DTask (record { name = (w 29); of_kind = false; entries = []; priorities = [] }) o) (decl_then (DTaskBody (w 29) (decl_then (DObject ((w 30) ∷ []) false (OPlain (record { mark = (w 0); bounds = None })) (Some (IOne (EInteger 0 o))) o) (decl_then (DObject ((w 31) ∷ []) false (OPlain (record { mark = (w 26); bounds = None })) None o) (decl_then (DObject ((w 32) ∷ []) false (OArray (RGiven (record { first = (EInteger 2 o); last = (EInteger 3 o) })) (record { mark = (w 2); bounds = None })) None o) no_decl))) (body (stmt_then (SPutLine ((PWords (codes "a") o) ∷ (PValue (EAttributeOf (w 0) (w 24) (EInteger 7 o) o)) ∷ (PValue (EAttributeOf (w 0) (w 24) (EUnary unary.Minus (EInteger 7 o) o) o)) ∷ (PValue (EAttributeOf (w 26) (w 24) (EAttributeOf (w 26) (w 22) (n 31) o) o)) ∷ []) o) (stmt_then (SPut ((PValue (EUnary unary.Minus (EInteger 3 o) o)) ∷ []) o) (stmt_then (SNewLine o) (stmt_then (SNewLine o) (stmt_then (SPut ((PValue (EIndex (w 32) (EInteger 3 o) o)) ∷ []) o) (stmt_then (SBlock (body (stmt_then (SPut ((PWords (codes "b") o) ∷ (PValue (EAttributeOf (w 0) (w 24) (EBinary binary.Divide (EInteger 1 o) (n 30) o) o)) ∷ []) o) no_stmt) (handler_then (handler ((w 7) ∷ []) (stmt_then (SPut ((PWords (codes "N") o) ∷ []) o) no_stmt) o) no_handler)) o) (stmt_then (SPut ((PValue (EAttributeOf (w 3) (w 24) (EBinary binary.OrElse (EBinary binary.Equal (n 31) (n 28) o) (EBinary binary.Equal (EBinary binary.Divide (EInteger 1 o) (n 30) o) (EInteger 1 o) o) o) o)) ∷ []) o) no_stmt))))))) (handler_then (handler ((w 7) ∷ []) (stmt_then (SPut ((PWords (codes "M") o) ∷ []) o) no_stmt) o) no_handler)) o) no_decl))); body = (body (stmt_then (SNull o) no_stmt) no_handler) }
 
 parts_of_put_run : outcome parts_of_put [] [] 100 ≡ gives (event.X 1 ∷ event.Z ∷ []) 13 Ended ([] ∷ codes "a 7-7GREEN\n-3\n\n1NM" ∷ [])
 unfolding digits

@@ -2,6 +2,7 @@ pub mod Ending
 pub mod Finishing
 pub mod Mapping
 pub mod Filtered
+pub mod Fewer
 pub mod Listed
 pub mod TaskLaws
 pub mod Tabled

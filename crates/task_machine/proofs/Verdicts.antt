@@ -6,7 +6,7 @@ use Rattle.syn_event.specs.Numbering.{Numbering}
 use Rattle.task_model.specs.Machine.{Setup}
 use Rattle.task_machine.specs.declared.verdict.Why.{Why}
 use Rattle.task_machine.specs.declared.verdict.Verdict.TheVariants.{Feasible, Infeasible, Unsettled}
-use Rattle.task_machine.specs.Views.{IsFeasible, IsOpen, View}
+use Rattle.task_machine.specs.Views.{IsFeasible, IsPastBound, View}
 use Rattle.task_machine.specs.Conditions.{needed_of, conditions_of, first_failing}
 use Rattle.task_machine.specs.Judging.{AreViews, NoneOpen, IsReached, VerdictIs}
 use Rattle.task_machine.proofs.Tabled.{failing_none}
@@ -69,7 +69,7 @@ module _ (setup : Setup) (numbers : Numbering) (bound : ℕ) where
 
   -- One more event that finds a task open.
   pub verdict_held : (events : List Event) (e : Event) (task : ℕ) (earlier later : List ℕ) → VerdictIs setup numbers bound events Feasible →
-      needed_of numbers e ≡ (earlier ++ task ∷ later) → NoneOpen setup numbers bound events earlier → IsOpen setup numbers events task bound →
+      needed_of numbers e ≡ (earlier ++ task ∷ later) → NoneOpen setup numbers bound events earlier → IsPastBound setup numbers events task bound →
       VerdictIs setup numbers bound (events ++ e ∷ []) (Unsettled (length events + 1) task)
   verdict_held events e task earlier later well order none stays = record {
     before = events;

@@ -28,6 +28,7 @@ is_served_view Abnormal = true
 is_served_view Busy = true
 is_served_view (At offer) = false
 
+-- it has completed (9.4)
 abbrev pub is_completed_view : View → Bool
 is_completed_view Completed = true
 is_completed_view Abnormal = false
@@ -49,15 +50,19 @@ pub record Condition : Type 0 where
   pub test : View → Bool
   pub cause : Cause
 
+-- t is neither completed nor abnormal; where it is, the cause is that it is closed (9.4, 9.10)
 abbrev pub not_closed : ℕ → Condition
 not_closed t = record { task = t; test = λ v. not (is_closed_view v); cause = cause.Closed }
 
+-- t is no caller in a rendezvous; where it is one, the cause is that it is busy (9.5)
 abbrev pub not_served : ℕ → Condition
 not_served t = record { task = t; test = λ v. not (is_served_view v); cause = cause.Busy }
 
+-- t is closed; where it is not, the cause is that it is open (9.5, 9.10)
 abbrev pub closed : ℕ → Condition
 closed t = record { task = t; test = is_closed_view; cause = cause.NotClosed }
 
+-- t makes an offer that passes the test; where it does not, the cause is the offer
 abbrev pub at_offer : ℕ → (Offer → Bool) → Condition
 at_offer t test = record { task = t; test = is_at test; cause = cause.Offer }
 
@@ -121,6 +126,7 @@ holds views condition = condition.test (views condition.task)
 abbrev pub all_hold : Numbering → (ℕ → View) → Event → Bool
 all_hold numbers views e = list_all (holds views) (conditions_of numbers e)
 
+-- what is told of a condition that fails: its cause and its task
 abbrev pub why_of : Condition → Why
 why_of condition = record { cause = condition.cause; task = condition.task }
 

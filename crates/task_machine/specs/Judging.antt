@@ -8,7 +8,7 @@ use Rattle.task_model.specs.Machine.{Setup}
 use Rattle.task_machine.specs.declared.verdict.Why.{Why}
 use Rattle.task_machine.specs.declared.verdict.Verdict.{Verdict}
 use Rattle.task_machine.specs.declared.verdict.Verdict.TheVariants.{Feasible, Infeasible, Unsettled}
-use Rattle.task_machine.specs.Views.{IsFeasible, IsOpen, Stands, View, ViewIs}
+use Rattle.task_machine.specs.Views.{IsFeasible, IsPastBound, Stands, View, ViewIs}
 use Rattle.task_machine.specs.Conditions.{is_closed_view, needed_of, first_failing}
 
 -- The views of the tasks that the event needs; of any other task it counts only whether it is closed.
@@ -18,7 +18,7 @@ pub record AreViews (setup : Setup) (numbers : Numbering) (events : List Event) 
 
 -- none of the tasks is open at the bound after the events
 abbrev pub NoneOpen : Setup → Numbering → ℕ → List Event → List ℕ → Type 0
-NoneOpen setup numbers bound events tasks = All (λ t. IsOpen setup numbers events t bound → ⊥) tasks
+NoneOpen setup numbers bound events tasks = All (λ t. IsPastBound setup numbers events t bound → ⊥) tasks
 
 -- Each event in turn finds none of the tasks that it needs open, and is feasible behind those before it.
 abbrev pub AllFeasible : Setup → Numbering → ℕ → List Event → Type 0
@@ -53,7 +53,7 @@ pub record IsHeldUp (setup : Setup) (numbers : Numbering) (bound : ℕ) (events 
   pub later : List ℕ
   pub order : needed_of numbers event ≡ earlier ++ task ∷ later
   pub none_open : NoneOpen setup numbers bound before earlier
-  pub stays_open : IsOpen setup numbers before task bound
+  pub stays_open : IsPastBound setup numbers before task bound
 
 -- The verdict of a list of events, where a task may make so many local steps since the last event that changed it.
 abbrev pub VerdictIs : Setup → Numbering → ℕ → List Event → Verdict → Type 0

@@ -30,8 +30,8 @@ abbrev pub StandsIn : Setup → Numbering → List Event → ℕ → (Standing �
 StandsIn setup numbers events t test = (z : Standing) × Stands setup numbers events t z × (test z ≡ true)
 
 -- t is open at n: it is free, has made n local steps since the last event that changed it, and has one more.
-abbrev pub IsOpen : Setup → Numbering → List Event → ℕ → ℕ → Type 0
-IsOpen setup numbers events t n = (task : Task) × IsRest setup numbers events t n task × (can_step task ≡ true)
+abbrev pub IsPastBound : Setup → Numbering → List Event → ℕ → ℕ → Type 0
+IsPastBound setup numbers events t n = (task : Task) × IsRest setup numbers events t n task × (can_step task ≡ true)
 
 -- What is seen of a task that is closed, in a rendezvous, or free and at rest.
 pub data View : Type 0 where

@@ -1,14 +1,15 @@
 // The list of the actions that apply.
 
-ghost use Rattle.std.specs.Prelude.{◌≡◌, ◌++◌, ◌<◌, ◌^◌, [], ◌∷◌, length, filter, option_to_list, OnOk};
+ghost use Rattle.std.specs.Prelude.{◌≡◌, ◌++◌, ◌<◌, ◌^◌, [], ◌∷◌, length, filter, option_to_list, OnOk, true};
 ghost use Rattle.std.specs.List.{filter_map};
 ghost use Rattle.event_machine.specs.Rows.{rows_of, rows_below, delay_rows, delay_row};
+ghost use Rattle.event_machine.specs.Seats.{is_live, is_waiting, is_queued};
 ghost use Rattle.task_model.specs.TaskOps.{task_ops};
 ghost use Rattle.task_machine.specs.Table.{row_of, seen_in, seat_of, offer_in_seat};
 
 use crate::Action;
-use crate::rows::row;
-use crate::seats::{Seat, offer_at};
+use crate::rows::{has_step, row};
+use crate::seats::{Seat, is_live, is_queued, is_waiting, offer_at, standing_at};
 use ada_tree::Memory;
 use event_machine::Choice;
 use syn_event::Numbers;
@@ -31,7 +32,7 @@ pub(crate) fn list_tasks(
     Ok(())
 }
 
-// Appends the actions of one task that apply, in their order.
+// Appends the actions of one task that apply, in their order. What cannot apply where the task stands so is not asked.
 fn list_task(
     seats: &[Seat],
     line: &[u32],
@@ -42,23 +43,85 @@ fn list_task(
     requires { length seats.now < 2 ^ 32 }
     ensures { OnOk result (out.new.items ≡ out.old.items ++ filter (row_of numbers.now seats.now line.now) (rows_of task_ops (seen_in seats.now line.now) t)) }
 {
-    let first = [
-        Action::Local { t },
+    let standing = standing_at(seats, t);
+    if is_live(standing) {
+        return list_live(seats, line, numbers, t, out);
+    }
+    if is_waiting(standing) {
+        return list_waiting(seats, line, numbers, t, out);
+    }
+    if is_queued(standing) {
+        return list_queued(seats, line, numbers, t, out);
+    }
+    push_if(seats, line, numbers, Action::Start { c: t }, out)?;
+    Ok(())
+}
+
+// The same of a live task.
+fn list_live(
+    seats: &[Seat],
+    line: &[u32],
+    numbers: &Numbers,
+    t: u32,
+    out: &mut Vec<Action>,
+) -> Result<(), Memory>
+    requires few { length seats.now < 2 ^ 32 }
+    requires live { is_live (seat_of seats.now t).standing ≡ true }
+    ensures { OnOk result (out.new.items ≡ out.old.items ++ filter (row_of numbers.now seats.now line.now) (rows_of task_ops (seen_in seats.now line.now) t)) }
+{
+    if has_step(seats, t) {
+        push_if(seats, line, numbers, Action::Local { t }, out)?;
+        return Ok(());
+    }
+    let actions = [
         Action::Arrive { t },
         Action::Start { c: t },
         Action::Finish { a: t },
-        Action::Else { a: t },
-    ];
-    list(seats, line, numbers, &first, out)?;
-    list_delays(seats, line, numbers, t, out)?;
-    let last = [
         Action::CallElse { c: t },
-        Action::Expire { c: t },
         Action::Fail { c: t },
         Action::Complete { a: t },
         Action::Abort { t },
     ];
-    list(seats, line, numbers, &last, out)?;
+    list(seats, line, numbers, &actions, out)?;
+    Ok(())
+}
+
+// The same of a task that waits.
+fn list_waiting(
+    seats: &[Seat],
+    line: &[u32],
+    numbers: &Numbers,
+    t: u32,
+    out: &mut Vec<Action>,
+) -> Result<(), Memory>
+    requires few { length seats.now < 2 ^ 32 }
+    requires waiting { is_waiting (seat_of seats.now t).standing ≡ true }
+    ensures { OnOk result (out.new.items ≡ out.old.items ++ filter (row_of numbers.now seats.now line.now) (rows_of task_ops (seen_in seats.now line.now) t)) }
+{
+    let actions = [Action::Start { c: t }, Action::Else { a: t }];
+    list(seats, line, numbers, &actions, out)?;
+    list_delays(seats, line, numbers, t, out)?;
+    Ok(())
+}
+
+// The same of a task that is queued.
+fn list_queued(
+    seats: &[Seat],
+    line: &[u32],
+    numbers: &Numbers,
+    t: u32,
+    out: &mut Vec<Action>,
+) -> Result<(), Memory>
+    requires few { length seats.now < 2 ^ 32 }
+    requires queued { is_queued (seat_of seats.now t).standing ≡ true }
+    ensures { OnOk result (out.new.items ≡ out.old.items ++ filter (row_of numbers.now seats.now line.now) (rows_of task_ops (seen_in seats.now line.now) t)) }
+{
+    let actions = [
+        Action::Start { c: t },
+        Action::Expire { c: t },
+        Action::Fail { c: t },
+    ];
+    list(seats, line, numbers, &actions, out)?;
     Ok(())
 }
 

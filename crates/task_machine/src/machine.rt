@@ -11,6 +11,7 @@ use crate::Action;
 use crate::effects::{fail, finish, set_standing, step, take_delay, take_else};
 use crate::listing::{list_tasks, push_if};
 use crate::moving::{abort_next, arrive, leave_line, start};
+use crate::rows::row;
 use crate::seats::{Seat, offer_at};
 use crate::starting::start_all;
 use ada_tree::Memory;
@@ -93,6 +94,13 @@ impl<'p> Machine<'p> {
                 Err(e)
             }
         }
+    }
+
+    /// Whether the action applies.
+    pub fn can_apply(&self, action: Action) -> bool
+        ensures { result ≡ can self.now action }
+    {
+        !self.ended && row(&self.seats, &self.line, self.links.numbers(), action)
     }
 
     /// Makes one action, which applies, and answers its event, if it has one.

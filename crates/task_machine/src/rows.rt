@@ -55,7 +55,7 @@ pub(crate) fn row(seats: &[Seat], line: &[u32], numbers: &Numbers, action: Actio
 }
 
 // The task has a local step.
-fn has_step(seats: &[Seat], t: u32) -> bool
+pub(crate) fn has_step(seats: &[Seat], t: u32) -> bool
     ensures { result ≡ can_step (seat_of seats.now t).local }
 {
     matches!(offer_at(seats, t), Offer::None)

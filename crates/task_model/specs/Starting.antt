@@ -6,7 +6,7 @@ use Rattle.ada_tree.specs.declared.static_types.Mark.{Mark}
 use Rattle.ada_tree.specs.TypeTable.{TypeTable}
 use Rattle.ada_tree.specs.PlainExpr.{PExpr, PBounds, PSubind, PDrange}
 use Rattle.ada_tree.specs.PlainStmt.{no_stmt, no_handler, PBody, body}
-use Rattle.ada_tree.specs.PlainDecl.{PShape, OPlain, ORow, PInit, IOne, IList, IOthers, PDecl, DObject, DTaskBody, PDecls, no_decl, decl_then}
+use Rattle.ada_tree.specs.PlainDecl.{PShape, OPlain, OArray, PInit, IOne, IList, IOthers, PDecl, DObject, DTaskBody, PDecls, no_decl, decl_then}
 use Rattle.ada_tree.specs.PlainProgram.{PProgram}
 use Rattle.ada_tree.specs.StaticValue.{mark_named}
 use Rattle.syn_event.specs.declared.numbering.TaskInfo.{TaskInfo}
@@ -46,15 +46,15 @@ plain_form types x None = None
 plain_form types x (Some m) = Some (marked_form types x m (form_of_mark types m).index)
 
 -- an object of a constrained array definition, by its index range and the subtype of its components; an array of tasks is no object (3.6, 9.1)
-abbrev pub row_form : TypeTable → PDrange → PSubind → Option Mark → Option Form
-row_form types index x None = None
-row_form types index x (Some m) =
+abbrev pub array_form : TypeTable → PDrange → PSubind → Option Mark → Option Form
+array_form types index x None = None
+array_form types index x (Some m) =
     Some record { limits = indicated types m x.bounds; index = Some (known_range (range_of types [] index)) }
 
 -- What an object of a shape is; task objects are none of these.
 abbrev pub form_of : TypeTable → PShape → Option Form
 form_of types (OPlain x) = plain_form types x (mark_named types x.mark.name)
-form_of types (ORow index x) = row_form types index x (mark_named types x.mark.name)
+form_of types (OArray index x) = array_form types index x (mark_named types x.mark.name)
 
 -- ---- initial values (3.2.1)
 

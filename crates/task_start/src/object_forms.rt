@@ -5,7 +5,7 @@ ghost use Rattle.ada_tree.specs.PlainExpr.{plain_bounds, plain_drange, plain_sub
 ghost use Rattle.ada_tree.specs.PlainDecl.{plain_shape};
 ghost use Rattle.ada_tree.specs.StaticValue.{mark_named};
 ghost use Rattle.ada_value.specs.Variables.{form_of_mark};
-ghost use Rattle.task_model.specs.Starting.{form_of, indicated, known_range, marked_form, plain_form, row_form};
+ghost use Rattle.task_model.specs.Starting.{form_of, indicated, known_range, marked_form, plain_form, array_form};
 
 use crate::static_names::StaticNames;
 use ada_tree::{Bounds, Drange, Mark, Shape, Subind};
@@ -54,8 +54,8 @@ fn plain_form(names: &TypeNames, part: &Subind) -> Option<Form>
 }
 
 // What an object of a constrained array definition is; where the components have no mark it is no object (3.6).
-fn row_form(names: &TypeNames, index: &Drange, part: &Subind) -> Option<Form>
-    ensures { result ≡ row_form names.now (plain_drange index.now) (plain_subind part.now) (mark_named names.now part.now.mark.name) }
+fn array_form(names: &TypeNames, index: &Drange, part: &Subind) -> Option<Form>
+    ensures { result ≡ array_form names.now (plain_drange index.now) (plain_subind part.now) (mark_named names.now part.now.mark.name) }
 {
     match names.mark_named(part.mark.name) {
         Some(mark) => Some(Form {
@@ -72,6 +72,6 @@ pub(crate) fn form_of(names: &TypeNames, shape: &Shape) -> Option<Form>
 {
     match shape {
         Shape::Plain(part) => plain_form(names, part),
-        Shape::Row { index, part } => row_form(names, index, part),
+        Shape::ConstrainedArray { index, part } => array_form(names, index, part),
     }
 }

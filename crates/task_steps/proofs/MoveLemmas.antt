@@ -1,9 +1,7 @@
 -- The steps of single statements, from the moves of which they are made.
-use Rattle.std.proofs.Common.{◌≡◌, ℕ, ℤ, pos, Bool, true, false, List, [], ◌∷◌, ◌++◌, drop, Option, Some, None, Result, Ok, Err, refl, sym, ap, ◌∙◌, append-nil, true≢false}
+use Rattle.std.proofs.Common.{◌≡◌, ℕ, ℤ, true, false, List, [], ◌∷◌, ◌++◌, drop, Option, Some, None, Result, Ok, Err, refl, sym, ap, ◌∙◌, append-nil, true≢false}
 use Rattle.std.specs.Prelude.{if◌then◌else◌, option_map, slice_get, OnOk}
-use Rattle.ada_tree.specs.declared.naming.Word.{Word}
-use Rattle.ada_tree.specs.PlainExpr.{PExpr}
-use Rattle.ada_tree.specs.PlainStmt.{PTarget, PStmts, no_stmt}
+use Rattle.ada_tree.specs.PlainStmt.{PTarget}
 use Rattle.ada_value.specs.declared.values.Value.{Value}
 use Rattle.ada_value.specs.declared.values.Value.TheVariants.{Number}
 use Rattle.ada_value.specs.declared.values.Raised.{Raised}
@@ -11,9 +9,9 @@ use Rattle.ada_value.specs.declared.values.Raised.TheVariants as raised
 use Rattle.ada_value.specs.Values.{and_then}
 use Rattle.ada_value.specs.Variables.{checked_for, set_value}
 use Rattle.put_text.specs.Written.{exception_of, written_with}
-use Rattle.task_model.specs.Frames.{Turns, Endless, While, Counting, Loop}
+use Rattle.task_model.specs.Frames.{Turns, Endless, While, Counting}
 use Rattle.task_model.specs.Tasks.{Task, rest_of, place_of, vars_of, with_text, with_vars, with_input, gone_to, raised_there, or_raised}
-use Rattle.task_model.specs.Steps.{target_object, got, counted_on, counted_so_far, has_turn, loop_left}
+use Rattle.task_model.specs.Steps.{target_object, got, counted_on, counted_so_far, loop_left}
 use Rattle.task_model.specs.Rendezvous.{behind_of}
 use Rattle.task_state.specs.Plain.{BeginsTurn, LeavesLoop}
 use Rattle.task_steps.specs.inner.Storing.{store_step}

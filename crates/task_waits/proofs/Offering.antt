@@ -1,11 +1,11 @@
 -- What a task stands at, by what was found of its statement.
-use Rattle.std.specs.Prelude.{◌≡◌, ◌<◌, ◌≤◌, ◌+◌, ℕ, ℤ, suc, ◌&&◌, ◌==◌, Bool, true, false, List, [], ◌∷◌, ◌++◌, length, map, Option, Some, None, option_map, Result, Ok, Err, IsOk, refl}
+use Rattle.std.specs.Prelude.{◌≡◌, ◌<◌, ◌≤◌, ◌+◌, ℕ, ℤ, ◌&&◌, ◌==◌, Bool, true, false, List, [], ◌∷◌, ◌++◌, length, map, Option, Some, None, Result, Ok, Err, IsOk, refl}
 use Rattle.std.specs.List.{filter_map}
 use Rattle.std.specs.Ordering.{int_eq}
-use Rattle.std.proofs.Common.{◌∙◌, sym, ap, subst, arith}
-use Rattle.std.proofs.lemmas.List.{append_assoc, length-append}
+use Rattle.std.proofs.Common.{◌∙◌, sym, ap, arith}
+use Rattle.std.proofs.lemmas.List.{append_assoc}
 use Rattle.ada_tree.specs.declared.statements.Alt.{Alt}
-use Rattle.ada_tree.specs.PlainStmt.{PHead, PMaybe, PAccept, accepting, PStmts, no_stmt, plain_alt, alts_of}
+use Rattle.ada_tree.specs.PlainStmt.{PHead, PAccept, accepting, PStmts, no_stmt, plain_alt, alts_of}
 use Rattle.event_machine.specs.declared.Choice.{Choice}
 use Rattle.event_machine.specs.declared.Choice.TheVariants as choice
 use Rattle.event_machine.specs.Offers.{Waits}
@@ -17,7 +17,6 @@ use Rattle.task_model.specs.Setting.{entry_of, member_index}
 use Rattle.task_model.specs.Tasks.{Task, vars_of, stmts_or_none}
 use Rattle.task_model.specs.Waits.{Open, Accepts, accept_opened, alternatives_open, else_choice, choices_of}
 use Rattle.task_model.specs.Stands.{At, Raises, choices_stand, wait_stand}
-use Rattle.task_waits.specs.declared.choosing.Sort.{Sort}
 use Rattle.task_waits.specs.declared.choosing.Sort.TheVariants as sort
 use Rattle.task_waits.specs.inner.Choosing.{member_accepted, duration_of, least_among, chosen, opens_or_none, accepts_in}
 use Rattle.task_waits.proofs.Opens.{least_of}

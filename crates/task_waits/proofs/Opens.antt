@@ -6,7 +6,7 @@ use Rattle.std.proofs.lemmas.List.{drop_all, append-nil, length-append}
 use Rattle.std.proofs.Math.Seq.{append_snoc}
 use Rattle.ada_tree.specs.declared.statements.Alt.{Alt}
 use Rattle.ada_tree.specs.PlainExpr.{plain_expr}
-use Rattle.ada_tree.specs.PlainStmt.{PAlt, alternative, PAltKind, PAlts, PStmts, no_stmt, plain_alt, plain_alt_kind, alts_of}
+use Rattle.ada_tree.specs.PlainStmt.{PStmts, no_stmt, plain_alt, plain_alt_kind, alts_of}
 use Rattle.event_machine.specs.declared.Choice.{Choice}
 use Rattle.ada_value.specs.declared.values.Raised.{Raised}
 use Rattle.ada_value.specs.Values.{and_then}
@@ -15,7 +15,7 @@ use Rattle.task_model.specs.Waits.{Open, guard_holds, kind_opened, opened_if, de
 use Rattle.task_calls.proofs.Walking.{here_at}
 use Rattle.task_waits.specs.declared.choosing.Sort.{Sort}
 use Rattle.task_waits.specs.Standing.{Parts, parts_in, parts_opened}
-use Rattle.task_waits.specs.inner.Choosing.{if_open, alternative_open, duration_of, duration_if, lesser, least_among, chosen, chosen_if, with_choice, opens_or_none, delay_at, taken, taken_if}
+use Rattle.task_waits.specs.inner.Choosing.{if_open, alternative_open, duration_of, duration_if, lesser, least_among, chosen, chosen_if, with_choice, opens_or_none, delay_at, taken_if}
 use Rattle.task_model.specs.Waits.{accepts_member, delay_part, delay_here, delay_stmts}
 
 -- an alternative in front of the open ones behind it

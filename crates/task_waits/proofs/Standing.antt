@@ -1,9 +1,8 @@
 -- What is evaluated at a statement is the same in every task of the same setting, number and variables.
-use Rattle.std.specs.Prelude.{◌≡◌, ℕ, ℤ, Bool, false, [], ◌∷◌, Option, Some, None, Result, Ok, Err, refl}
-use Rattle.std.proofs.Common.{◌∙◌, sym, ap}
+use Rattle.std.specs.Prelude.{◌≡◌, ℕ, false, [], ◌∷◌, Option, Some, None, Ok, refl}
+use Rattle.std.proofs.Common.{ap}
 use Rattle.ada_tree.specs.PlainExpr.{PExpr}
 use Rattle.ada_tree.specs.PlainStmt.{PStmt, SNull, SAssign, SDelay, SExit, SRaise, SAbort, SCall, SAccept, SWait, SConditional, STimed, SPut, SPutLine, SNewLine, SGet, SIf, SCase, SBlock, SLoop, PAccept, accepting, alternative, PAltKind, AAccept, ADelay, ATerminate, PAlts, no_alt, alt_then, PStmts, no_stmt}
-use Rattle.ada_value.specs.declared.values.Raised.{Raised}
 use Rattle.ada_value.specs.Values.{and_then}
 use Rattle.task_model.specs.Tasks.{Task, vars_of}
 use Rattle.task_model.specs.Waits.{guard_holds, accept_opened, kind_opened, opened_if, delays_with, alternatives_open, open_at, is_present}

@@ -1,6 +1,6 @@
 -- The widest wait among the members of a list, and in a statement by its parts.
 use Rattle.std.specs.Prelude.{◌≡◌, ◌<◌, ◌≤◌, ◌+◌, ℕ, suc, max, List, [], ◌∷◌, length, drop, map, refl}
-use Rattle.std.proofs.Common.{◌∙◌, sym, ap, get_or, arith}
+use Rattle.std.proofs.Common.{◌∙◌, ap, get_or, arith}
 use Rattle.std.proofs.lemmas.List.{drop_all}
 use Rattle.ada_tree.specs.declared.statements.Alt.{Alt}
 use Rattle.ada_tree.specs.declared.statements.Arm.{Arm, out-Arm}
@@ -10,7 +10,7 @@ use Rattle.ada_tree.specs.declared.statements.Stmt.{Stmt}
 use Rattle.ada_tree.specs.PlainStmt.{PStmt, SNull, SAssign, SDelay, SExit, SRaise, SAbort, SCall, SAccept, SWait, SConditional, STimed, SPut, SPutLine, SNewLine, SGet, SIf, SCase, SBlock, SLoop, arm_then, case_arm_then, handler_then, plain_alt, plain_alt_kind, plain_arm, plain_case_arm, plain_handler, plain_stmt, alts_of, arms_of, case_arms_of, handlers_of, seen}
 use Rattle.ada_tree.proofs.Rows.{plain_arm-out, plain_case_arm-out, plain_handler-out}
 use Rattle.task_calls.proofs.Walking.{here_at}
-use Rattle.task_waits.specs.Room.{alternatives_in, room_at, widest_stmt, widest_stmts, widest_maybe, widest_accept, widest_kind, widest_alts, widest_arms, widest_case_arms, widest_body, widest_handlers}
+use Rattle.task_waits.specs.Room.{alternatives_in, room_at, widest_stmt, widest_stmts, widest_kind, widest_alts, widest_arms, widest_case_arms, widest_handlers}
 use Rattle.task_waits.specs.inner.Widths.{inner_width, rest_width}
 
 -- a width over a list, by the width of each member

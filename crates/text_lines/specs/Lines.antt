@@ -2,9 +2,11 @@
 use Rattle.std.specs.Prelude.{ℕ, Bool, ◌==◌, ◌+◌, List, [], ◌∷◌, take, drop, position, Option, Some, None, option_map}
 use Rattle.std.specs.List.{slice_split}
 
+-- the byte is a line feed
 abbrev pub is_line_end : ℕ → Bool
 is_line_end b = b == 10
 
+-- the byte is a blank
 abbrev pub is_blank : ℕ → Bool
 is_blank b = b == 32
 

@@ -10,7 +10,7 @@ use Rattle.ada_value.specs.Variables.{Object, Variables, object_named, with_valu
 use Rattle.task_model.specs.Frames.{Counting, Around, Loop, Part, Control, control, block_with, raised_in, is_left, exited_in}
 use Rattle.translation_law.specs.Translations.{Translation, IsOld, IsKnown}
 use Rattle.translation_law.specs.Scopes.{HasKnown, SameObject, same_object, SeeAlike}
-use Rattle.translation_law.specs.Images.{IsEmpty, nothing_there, IsRow, something_there}
+use Rattle.translation_law.specs.Images.{IsEmpty, nothing_there, IsSomething, something_there}
 use Rattle.translation_law.specs.Controls.{frame, Under, on_floor, in_block, in_handler, in_endless, in_while, in_count, inside, Settle}
 use Rattle.translation_law.specs.Floors.{handled_around, IsTranslation}
 use Rattle.translation_law.proofs.Handlers.{Taken, not_taken, taken, handler-alike}
@@ -19,9 +19,9 @@ use Rattle.translation_law.proofs.Evaluating.{known-with}
 module _ (x : Translation) (laws : IsTranslation x) where
   -- ---- ends
 
-  at_row : {p p' : Around} {o o' : List Part} {V V' : Variables} (s : PStmt) (l : PStmts) {r' : PStmts} → IsRow r' → x.text.image (stmt_then s l) r' → Under x p o V p' o' V' →
+  at_something : {p p' : Around} {o o' : List Part} {V V' : Variables} (s : PStmt) (l : PStmts) {r' : PStmts} → IsSomething r' → x.text.image (stmt_then s l) r' → Under x p o V p' o' V' →
       Settle x (control (stmt_then s l) p o V) (control r' p' o' V')
-  at_row s l (something_there s' l') im u = record { follows = inside (stmt_then s l) (stmt_then s' l') im u }
+  at_something s l (something_there s' l') im u = record { follows = inside (stmt_then s l) (stmt_then s' l') im u }
 
   at_none : {p p' : Around} {o o' : List Part} {V V' : Variables} {r' : PStmts} → IsEmpty r' → Settle x (control no_stmt p o V) (control no_stmt p' o' V') →
       Settle x (control no_stmt p o V) (control r' p' o' V')
@@ -30,7 +30,7 @@ module _ (x : Translation) (laws : IsTranslation x) where
   settle_by : {p p' : Around} {o o' : List Part} {V V' : Variables} (r r' : PStmts) → x.text.image r r' → Under x p o V p' o' V' → Settle x (control no_stmt p o V) (control no_stmt p' o' V') →
       Settle x (control r p o V) (control r' p' o' V')
   settle_by no_stmt r' im u end = at_none (laws.images.nothing r' im) end
-  settle_by (stmt_then s l) r' im u end = at_row s l (laws.images.something s l r' im) im u
+  settle_by (stmt_then s l) r' im u end = at_something s l (laws.images.something s l r' im) im u
 
   -- the end of a frame's statements
   pub settle-end : {p p' : Around} {o o' : List Part} {V V' : Variables} → Under x p o V p' o' V' → Settle x (control no_stmt p o V) (control no_stmt p' o' V')

@@ -19,7 +19,7 @@ use Rattle.task_model.specs.Steps as steps
 use Rattle.translation_law.specs.Translations.{Translation, types_before, types_after, IsOld, IsFree, IsKnown}
 use Rattle.translation_law.specs.OldNames.{OldExpr, OldOption, old_none, old_some, OldRange, old_given, old_marked, OldTarget, OldParts, old_no_part, OldChoices, old_no_choice, old_choice, OldScheme, old_endless, old_while, old_for}
 use Rattle.translation_law.specs.Scopes.{SameObject, no_object, same_object}
-use Rattle.translation_law.specs.Images.{ImageMaybe, image_absent, image_present, ImageArms, image_no_arm, image_arm, ImageCaseArms, image_no_case_arm, image_case_arm, ImageStmt, image_null, image_assign, image_delay, image_exit, image_raise, image_no_abort, image_put, image_put_line, image_new_line, image_get, image_if, image_case, image_block, image_loop, ImageRow, image_row, IsEmpty, nothing_there}
+use Rattle.translation_law.specs.Images.{ImageMaybe, image_absent, image_present, ImageArms, image_no_arm, image_arm, ImageCaseArms, image_no_case_arm, image_case_arm, ImageStmt, image_null, image_assign, image_delay, image_exit, image_raise, image_no_abort, image_put, image_put_line, image_new_line, image_get, image_if, image_case, image_block, image_loop, ImageList, image_list, IsEmpty, nothing_there}
 use Rattle.translation_law.specs.Controls.{frame, Under, on_floor, in_block, in_endless, in_while, in_count, Settle, task_in, Alike, alike, IsAtLocal, at_statement, at_turn, AreInside, are_inside, AreAround, are_around, StepAlike}
 use Rattle.translation_law.specs.Floors.{handled_around, IsTranslation}
 use Rattle.translation_law.proofs.Results.{Both, both_ok, both_err, Equal, equal, both_then}
@@ -354,9 +354,9 @@ module _ (x : Translation) (laws : IsTranslation x) where
 
   -- ---- the theorem
 
-  at-row : (n : ℕ) (i : List ℤ) (w : List ℕ) {p p' : Around} {o o' : List Part} {V V' : Variables} → Under x p o V p' o' V' → (s : PStmt) (q : PStmts) {r' : PStmts} → ImageRow x.text s q r' →
+  at-row : (n : ℕ) (i : List ℤ) (w : List ℕ) {p p' : Around} {o o' : List Part} {V V' : Variables} → Under x p o V p' o' V' → (s : PStmt) (q : PStmts) {r' : PStmts} → ImageList x.text s q r' →
       StepAlike x (left n i w (stmt_then s q) p o V) (right n i w r' p' o' V')
-  at-row n i w u s q (image_row t t' rest rest' h im) = row-alike n i w u rest rest' im h
+  at-row n i w u s q (image_list t t' rest rest' h im) = row-alike n i w u rest rest' im h
 
   at-end : (n : ℕ) (i : List ℤ) (w : List ℕ) {r' : PStmts} {p p' : Around} {o o' : List Part} {V V' : Variables} → IsAtLocal no_stmt p → IsEmpty r' → Under x p o V p' o' V' →
       StepAlike x (left n i w no_stmt p o V) (right n i w r' p' o' V')

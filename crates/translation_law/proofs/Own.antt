@@ -12,10 +12,10 @@ use Rattle.task_model.specs.Frames.{Turns, Around, Loop, Part, control, in_front
 use Rattle.task_model.specs.Starting.{Unit as TaskUnit, started_in, unit_of}
 use Rattle.translation_law.specs.OldNames.{OldExpr, old_integer, old_name, old_index, old_attribute, old_attribute_of, old_paren, old_unary, old_binary, OldOption, old_none, old_some, OldBounds, old_unbounded, old_bounded, OldRange, old_given, old_marked, OldTarget, OldParts, old_no_part, old_words, old_value, OldChoices, old_no_choice, old_choice, OldScheme, old_endless, old_while, old_for}
 use Rattle.translation_law.specs.Scopes.{AgreeOnTypes, SameObject, no_object, same_object, SeeAlike}
-use Rattle.translation_law.specs.Images.{ImageMaybe, image_absent, image_present, ImageArms, image_no_arm, image_arm, ImageCaseArms, image_no_case_arm, image_case_arm, ImageHandlers, image_no_handler, image_handler, ImageStmt, image_null, image_assign, image_delay, image_exit, image_raise, image_no_abort, image_put, image_put_line, image_new_line, image_get, image_if, image_case, image_block, image_loop, ImageRow, image_row, IsLocal, local_null, local_assign, local_delay, local_exit, local_raise, local_no_abort, local_put, local_put_line, local_new_line, local_get, local_if, local_case, local_block, local_loop, IsEmpty, nothing_there, IsRow, something_there, AreImages}
+use Rattle.translation_law.specs.Images.{ImageMaybe, image_absent, image_present, ImageArms, image_no_arm, image_arm, ImageCaseArms, image_no_case_arm, image_case_arm, ImageHandlers, image_no_handler, image_handler, ImageStmt, image_null, image_assign, image_delay, image_exit, image_raise, image_no_abort, image_put, image_put_line, image_new_line, image_get, image_if, image_case, image_block, image_loop, ImageList, image_list, IsLocal, local_null, local_assign, local_delay, local_exit, local_raise, local_no_abort, local_put, local_put_line, local_new_line, local_get, local_if, local_case, local_block, local_loop, IsEmpty, nothing_there, IsSomething, something_there, AreImages}
 use Rattle.translation_law.specs.Controls.{on_floor, inside, Settle, AreInside, are_inside}
 use Rattle.translation_law.specs.Floors.{handled_around, AreScopes, AreFloors}
-use Rattle.translation_law.specs.Itself.{SameRow, same_row, SameFloor, same_whole, same_opened, itself}
+use Rattle.translation_law.specs.Itself.{SameList, same_list, SameFloor, same_whole, same_opened, itself}
 use Rattle.translation_law.specs.Laws.{MetByItself}
 
 module _ (g : Setting) where
@@ -64,19 +64,19 @@ module _ (g : Setting) where
 
   own-maybe : (o : PMaybe) → ImageMaybe (itself g).text o o
   own-maybe absent = image_absent
-  own-maybe (present l) = image_present l l (same_row l)
+  own-maybe (present l) = image_present l l (same_list l)
 
   own-arms : (a : PArms) → ImageArms (itself g).text a a
   own-arms no_arm = image_no_arm
-  own-arms (arm_then (arm e l) rest) = image_arm e l l rest rest (own-expr e) (same_row l) (own-arms rest)
+  own-arms (arm_then (arm e l) rest) = image_arm e l l rest rest (own-expr e) (same_list l) (own-arms rest)
 
   own-case_arms : (a : PCaseArms) → ImageCaseArms (itself g).text a a
   own-case_arms no_case_arm = image_no_case_arm
-  own-case_arms (case_arm_then (case_arm cs l) rest) = image_case_arm cs l l rest rest (own-choices cs) (same_row l) (own-case_arms rest)
+  own-case_arms (case_arm_then (case_arm cs l) rest) = image_case_arm cs l l rest rest (own-choices cs) (same_list l) (own-case_arms rest)
 
   own-handlers : (hs : PHandlers) → ImageHandlers (itself g).text hs hs
   own-handlers no_handler = image_no_handler
-  own-handlers (handler_then (handler ws l s) rest) = image_handler ws l l s s rest rest (same_row l) (own-handlers rest)
+  own-handlers (handler_then (handler ws l s) rest) = image_handler ws l l s s rest rest (same_list l) (own-handlers rest)
 
   own-stmt : {s : PStmt} → IsLocal s → ImageStmt (itself g).text s s
   own-stmt (local_null s) = image_null s
@@ -91,24 +91,24 @@ module _ (g : Setting) where
   own-stmt (local_get t s) = image_get t s (own-target t)
   own-stmt (local_if arms o s) = image_if arms arms o o s (own-arms arms) (own-maybe o)
   own-stmt (local_case e arms o s) = image_case e arms arms o o s (own-expr e) (own-case_arms arms) (own-maybe o)
-  own-stmt (local_block (body l hs) s) = image_block l l hs hs s (same_row l) (own-handlers hs)
-  own-stmt (local_loop w c l s) = image_loop w c l l s (own-scheme c) (same_row l)
+  own-stmt (local_block (body l hs) s) = image_block l l hs hs s (same_list l) (own-handlers hs)
+  own-stmt (local_loop w c l s) = image_loop w c l l s (own-scheme c) (same_list l)
 
-  own-nothing : {r : PStmts} → SameRow no_stmt r → IsEmpty r
-  own-nothing (same_row t) = nothing_there
+  own-nothing : {r : PStmts} → SameList no_stmt r → IsEmpty r
+  own-nothing (same_list t) = nothing_there
 
-  own-something : {s : PStmt} {rest r : PStmts} → SameRow (stmt_then s rest) r → IsRow r
-  own-something {s} {rest} (same_row t) = something_there s rest
+  own-something : {s : PStmt} {rest r : PStmts} → SameList (stmt_then s rest) r → IsSomething r
+  own-something {s} {rest} (same_list t) = something_there s rest
 
-  own-local : {s : PStmt} {rest r : PStmts} → IsLocal s → SameRow (stmt_then s rest) r → ImageRow (itself g).text s rest r
-  own-local {s} {rest} h (same_row t) = image_row s s rest rest (own-stmt h) (same_row rest)
+  own-local : {s : PStmt} {rest r : PStmts} → IsLocal s → SameList (stmt_then s rest) r → ImageList (itself g).text s rest r
+  own-local {s} {rest} h (same_list t) = image_list s s rest rest (own-stmt h) (same_list rest)
 
-  own-joined : {a a' b b' : PStmts} → SameRow a a' → SameRow b b' → SameRow (in_front a b) (in_front a' b')
-  own-joined (same_row a) (same_row b) = same_row (in_front a b)
+  own-joined : {a a' b b' : PStmts} → SameList a a' → SameList b b' → SameList (in_front a b) (in_front a' b')
+  own-joined (same_list a) (same_list b) = same_list (in_front a b)
 
   own-images : AreImages (itself g).text
   own-images = record {
-    empty = same_row no_stmt;
+    empty = same_list no_stmt;
     nothing = λ r h. own-nothing h;
     something = λ s rest r h. own-something h;
     local = λ s rest r h k. own-local h k;
@@ -118,15 +118,15 @@ module _ (g : Setting) where
   -- ---- floors
 
   own-over : {p p' : Around} {o o' : List Part} {V V' : Variables} → SameFloor p o V p' o' V' → Settle (itself g) (control no_stmt p o V) (control no_stmt p' o' V')
-  own-over (same_whole hs taken [] V) = record { follows = inside no_stmt no_stmt (same_row no_stmt) (on_floor (same_whole hs taken [] V)) }
-  own-over (same_whole hs taken (part ∷ parts) V) = record { follows = inside no_stmt no_stmt (same_row no_stmt) (on_floor (same_whole hs taken (part ∷ parts) V)) }
-  own-over (same_opened caller formals pending [] V) = record { follows = inside no_stmt no_stmt (same_row no_stmt) (on_floor (same_opened caller formals pending [] V)) }
+  own-over (same_whole hs taken [] V) = record { follows = inside no_stmt no_stmt (same_list no_stmt) (on_floor (same_whole hs taken [] V)) }
+  own-over (same_whole hs taken (part ∷ parts) V) = record { follows = inside no_stmt no_stmt (same_list no_stmt) (on_floor (same_whole hs taken (part ∷ parts) V)) }
+  own-over (same_opened caller formals pending [] V) = record { follows = inside no_stmt no_stmt (same_list no_stmt) (on_floor (same_opened caller formals pending [] V)) }
   own-over (same_opened caller formals pending (part ∷ parts) V) =
-      record { follows = inside no_stmt no_stmt (same_row no_stmt) (on_floor (same_opened caller formals pending (part ∷ parts) V)) }
+      record { follows = inside no_stmt no_stmt (same_list no_stmt) (on_floor (same_opened caller formals pending (part ∷ parts) V)) }
 
   own-settles : (r : PStmts) {p p' : Around} {o o' : List Part} {V V' : Variables} → SameFloor p o V p' o' V' → Settle (itself g) (control r p o V) (control r p' o' V')
   own-settles no_stmt f = own-over f
-  own-settles (stmt_then s rest) f = record { follows = inside (stmt_then s rest) (stmt_then s rest) (same_row (stmt_then s rest)) (on_floor f) }
+  own-settles (stmt_then s rest) f = record { follows = inside (stmt_then s rest) (stmt_then s rest) (same_list (stmt_then s rest)) (on_floor f) }
 
   own-handled : (t : Option PStmts) (e : Raised) (hs : PHandlers) (o : List Part) (V : Variables) → Settle (itself g) (unit_with t e hs o V) (unit_with t e hs o V)
   own-handled None e hs o V = own-settles no_stmt (same_whole hs None o V)
@@ -195,7 +195,7 @@ module _ (g : Setting) where
   }
 
   own-start : (n : ℕ) (unit : TaskUnit) (input : List ℤ) → AreInside (itself g) (started_in g n unit input) (started_in g n unit input)
-  own-start n unit input = are_inside n input [] _ _ (same_row _) (on_floor (same_whole _ None [] _))
+  own-start n unit input = are_inside n input [] _ _ (same_list _) (on_floor (same_whole _ None [] _))
 
 pub met_by_itself : MetByItself
 met_by_itself g = record {

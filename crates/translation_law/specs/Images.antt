@@ -55,8 +55,8 @@ pub data ImageStmt (x : Rewriting) : PStmt → PStmt → Type 0 where
   image_loop : (w : Option Word) (c : Option PScheme) (l l' : PStmts) (s : Span) → OldScheme x.programs c → x.image l l' → ImageStmt x (SLoop w c l s) (SLoop w c l' s)
 
 -- A row that begins with such a statement, and its image.
-pub data ImageRow (x : Rewriting) : PStmt → PStmts → PStmts → Type 0 where
-  image_row : (s s' : PStmt) (rest rest' : PStmts) → ImageStmt x s s' → x.image rest rest' → ImageRow x s rest (stmt_then s' rest')
+pub data ImageList (x : Rewriting) : PStmt → PStmts → PStmts → Type 0 where
+  image_list : (s s' : PStmt) (rest rest' : PStmts) → ImageStmt x s s' → x.image rest rest' → ImageList x s rest (stmt_then s' rest')
 
 -- a statement that does not synchronize
 pub data IsLocal : PStmt → Type 0 where
@@ -81,13 +81,13 @@ pub data IsLocal : PStmt → Type 0 where
 pub data IsEmpty : PStmts → Type 0 where
   nothing_there : IsEmpty no_stmt
 
-pub data IsRow : PStmts → Type 0 where
-  something_there : (s : PStmt) (rest : PStmts) → IsRow (stmt_then s rest)
+pub data IsSomething : PStmts → Type 0 where
+  something_there : (s : PStmt) (rest : PStmts) → IsSomething (stmt_then s rest)
 
 -- Images go statement by statement: that of nothing is nothing, that of something is something, a statement that does not synchronize stays in front of an image of those behind it, and images that stand one behind the other are one of both rows.
 pub record AreImages (x : Rewriting) : Type 0 where
   pub empty : x.image no_stmt no_stmt
   pub nothing : (r : PStmts) → x.image no_stmt r → IsEmpty r
-  pub something : (s : PStmt) (rest r : PStmts) → x.image (stmt_then s rest) r → IsRow r
-  pub local : (s : PStmt) (rest r : PStmts) → IsLocal s → x.image (stmt_then s rest) r → ImageRow x s rest r
+  pub something : (s : PStmt) (rest r : PStmts) → x.image (stmt_then s rest) r → IsSomething r
+  pub local : (s : PStmt) (rest r : PStmts) → IsLocal s → x.image (stmt_then s rest) r → ImageList x s rest r
   pub joined : (a a' b b' : PStmts) → x.image a a' → x.image b b' → x.image (in_front a b) (in_front a' b')

@@ -9,8 +9,8 @@ use Rattle.task_model.specs.Frames.{Around, Whole, Opened, Part, Control}
 use Rattle.translation_law.specs.Translations.{Translation}
 
 -- a row is its own image
-pub data SameRow : PStmts → PStmts → Type 0 where
-  same_row : (r : PStmts) → SameRow r r
+pub data SameList : PStmts → PStmts → Type 0 where
+  same_list : (r : PStmts) → SameList r r
 
 -- the unit's own body and each accept body is a floor, with all that stands outside of it
 pub data SameFloor : Around → List Part → Variables → Around → List Part → Variables → Type 0 where
@@ -24,7 +24,7 @@ pub data Nowhere : Control → Control → Type 0 where
 -- The translation of a program into itself.
 abbrev pub itself : Setting → Translation
 itself g = record {
-  text = record { programs = record { original = g; made = g; is_old = λ id. true; is_fixed = λ id. false; is_known = λ k. true }; image = SameRow };
+  text = record { programs = record { original = g; made = g; is_old = λ id. true; is_fixed = λ id. false; is_known = λ k. true }; image = SameList };
   floor = SameFloor;
   beyond = Nowhere;
 }

@@ -27,14 +27,14 @@ pub data OldExprs (b : Programs) : List PExpr → Type 0 where
   old_expr : (e : PExpr) (rest : List PExpr) → OldExpr b e → OldExprs b rest → OldExprs b (e ∷ rest)
 
 -- a list of expressions that may be left out
-pub data OldRow (b : Programs) : Option (List PExpr) → Type 0 where
-  old_no_row : OldRow b None
-  old_row : (es : List PExpr) → OldExprs b es → OldRow b (Some es)
+pub data OldList (b : Programs) : Option (List PExpr) → Type 0 where
+  old_no_list : OldList b None
+  old_list : (es : List PExpr) → OldExprs b es → OldList b (Some es)
 
 -- the lists of a call
 pub data OldArgs (b : Programs) : Option PArgs → Type 0 where
   old_no_args : OldArgs b None
-  old_args : (args : PArgs) → OldExprs b args.first → OldRow b args.second → OldArgs b (Some args)
+  old_args : (args : PArgs) → OldExprs b args.first → OldList b args.second → OldArgs b (Some args)
 
 pub record OldCall (b : Programs) (c : PCall) : Type 0 where
   pub member : OldOption b c.task.index

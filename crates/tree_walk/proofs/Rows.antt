@@ -1,7 +1,7 @@
 -- Rows that are rewritten: what a loop adds to them in one turn, and the rows of lists.
 use Rattle.std.proofs.Common.{◌≡◌, List, [], ◌∷◌, ◌++◌, Result, Ok, Err, OnOk, refl, sym, ap, ◌∙◌}
 use Rattle.ada_tree.specs.declared.statements.Stmt.{Stmt}
-use Rattle.ada_tree.specs.PlainStmt.{PStmt, PStmts, no_stmt, stmt_then, PAlt, alternative, PAlts, no_alt, alt_then, PArm, arm, PArms, no_arm, arm_then, PCaseArm, case_arm, PCaseArms, no_case_arm, case_arm_then, PHandler, handler, PHandlers, no_handler, handler_then, row_of, alts_of, arms_of, case_arms_of, handlers_of, plain_stmt, seen}
+use Rattle.ada_tree.specs.PlainStmt.{PStmt, PStmts, no_stmt, stmt_then, PAlt, alternative, PAlts, no_alt, alt_then, PArm, arm, PArms, no_arm, arm_then, PCaseArm, case_arm, PCaseArms, no_case_arm, case_arm_then, PHandler, handler, PHandlers, no_handler, handler_then, stmts_of, alts_of, arms_of, case_arms_of, handlers_of, plain_stmt, seen}
 use Rattle.task_model.specs.Frames.{in_front}
 use Rattle.normal_model.specs.Walk.{Rewriter, after_parts, after_stmts, after_alts, after_alt, after_arms, after_case_arms, after_handlers, alts_leads, rewritten, image_of, inside_alts, inside_arms, inside_case_arms, inside_handlers}
 use Rattle.tree_walk.specs.Rules.{after_arm, inside_arm, after_case_arm, inside_case_arm, after_handler, inside_handler, behind_alt, inside_alt}
@@ -17,7 +17,7 @@ in_front-joined no_stmt b c = refl
 in_front-joined (stmt_then x l) b c = ap (stmt_then x) (in_front-joined l b c)
 
 -- one more behind a row
-pub row-more : (xs : List PStmt) (x : PStmt) → row_of (xs ++ x ∷ []) ≡ in_front (row_of xs) (stmt_then x no_stmt)
+pub row-more : (xs : List PStmt) (x : PStmt) → stmts_of (xs ++ x ∷ []) ≡ in_front (stmts_of xs) (stmt_then x no_stmt)
 row-more [] x = refl
 row-more (y ∷ xs) x = ap (stmt_then y) (row-more xs x)
 
@@ -34,15 +34,15 @@ pushed (Err e) xs ys x h = tt
 module _ {S : Type 0} (w : Rewriter S) where
   -- ---- statements
 
-  pub after-more : (xs : List PStmt) (x : PStmt) (t : S) → after_stmts w (row_of (xs ++ x ∷ [])) t ≡ after_parts w x (w.entered (after_stmts w (row_of xs) t) x)
+  pub after-more : (xs : List PStmt) (x : PStmt) (t : S) → after_stmts w (stmts_of (xs ++ x ∷ [])) t ≡ after_parts w x (w.entered (after_stmts w (stmts_of xs) t) x)
   after-more [] x t = refl
   after-more (y ∷ xs) x t = after-more xs x (after_parts w y (w.entered t y))
 
-  pub rewritten-more : (xs : List PStmt) (x : PStmt) (t : S) → rewritten w (row_of (xs ++ x ∷ [])) t ≡ in_front (rewritten w (row_of xs) t) (image_of w x (after_stmts w (row_of xs) t))
+  pub rewritten-more : (xs : List PStmt) (x : PStmt) (t : S) → rewritten w (stmts_of (xs ++ x ∷ [])) t ≡ in_front (rewritten w (stmts_of xs) t) (image_of w x (after_stmts w (stmts_of xs) t))
   rewritten-more [] x t = in_front-nil (image_of w x t)
   rewritten-more (y ∷ xs) x t =
       ap (in_front (image_of w y t)) (rewritten-more xs x (after_parts w y (w.entered t y)))
-      ∙ sym (in_front-joined (image_of w y t) (rewritten w (row_of xs) (after_parts w y (w.entered t y))) _)
+      ∙ sym (in_front-joined (image_of w y t) (rewritten w (stmts_of xs) (after_parts w y (w.entered t y))) _)
 
 -- ---- rows with one more at their end
 

@@ -3,7 +3,7 @@ use Rattle.std.proofs.Common.{◌≡◌, ℕ, zero, suc, ◌+◌, ◌<◌, ◌�
 use Rattle.std.proofs.lemmas.List.{map-append, take_more}
 use Rattle.ada_tree.specs.declared.statements.Alt.{Alt}
 use Rattle.ada_tree.specs.declared.statements.Stmt.{Stmt}
-use Rattle.ada_tree.specs.PlainStmt.{PStmts, row_of, alts_of, plain_stmt, plain_alt, seen}
+use Rattle.ada_tree.specs.PlainStmt.{PStmts, stmts_of, alts_of, plain_stmt, plain_alt, seen}
 use Rattle.task_model.specs.Frames.{in_front}
 use Rattle.normal_model.specs.Walk.{Rewriter, after_parts, after_stmts, after_alts, alts_leads, rewritten, image_of}
 use Rattle.tree_walk.proofs.Rows.{in_front-joined, after-more, rewritten-more, leads-more}
@@ -68,7 +68,7 @@ module _ {S : Type 0} (w : Rewriter S) where
       step
       ∙ (λ j. after_parts w (plain_stmt (left.1 i d (omega arith) j)) (w.entered (so_far j) (plain_stmt (left.1 i d (omega arith) j))))
       ∙ sym (after-more w (map plain_stmt (take i xs)) (plain_stmt (get_or xs i d)) t)
-      ∙ sym (ap (λ l. after_stmts w (row_of l) t) (seen-more plain_stmt xs i d (omega (arith, h, left.0))))
+      ∙ sym (ap (λ l. after_stmts w (stmts_of l) t) (seen-more plain_stmt xs i d (omega (arith, h, left.0))))
 
   pub stmts-tree-turn :
       (xs ys : List Stmt) (i : ℕ) (d : Stmt) (t u : S) (front before behind : PStmts) →
@@ -83,7 +83,7 @@ module _ {S : Type 0} (w : Rewriter S) where
       ∙ (λ j. in_front (so_far j) (image_of w (plain_stmt (left.1 i d (omega arith) j)) (state j)))
       ∙ in_front-joined front (rewritten w (seen (take i xs)) t) (image_of w (plain_stmt (get_or xs i d)) (after_stmts w (seen (take i xs)) t))
       ∙ sym (ap (in_front front) (rewritten-more w (map plain_stmt (take i xs)) (plain_stmt (get_or xs i d)) t))
-      ∙ sym (ap (λ l. in_front front (rewritten w (row_of l) t)) (seen-more plain_stmt xs i d (omega (arith, h, left.0))))
+      ∙ sym (ap (λ l. in_front front (rewritten w (stmts_of l) t)) (seen-more plain_stmt xs i d (omega (arith, h, left.0))))
 
   pub leads-turn :
       (xs ys : List Alt) (i : ℕ) (d : Alt) (t u : S) (front before behind : PStmts) →

@@ -4,7 +4,7 @@ use Rattle.lawful_reader.specs.Readers.{Reader, pure, refuse, bind, on, token, l
 use Rattle.ada_tree.specs.declared.naming.Span.{Span}
 use Rattle.ada_tree.specs.declared.naming.Word.{Word}
 use Rattle.ada_tree.specs.PlainExpr.{PExpr, PSubind, PDrange}
-use Rattle.ada_tree.specs.PlainDecl.{PShape, OPlain, ORow, PInit, IOne, IList, IOthers, PDecl, DNumber, DObject, DEnumeration, DArray, DSubtype, DException, DIntIo}
+use Rattle.ada_tree.specs.PlainDecl.{PShape, OPlain, OArray, PInit, IOne, IList, IOthers, PDecl, DNumber, DObject, DEnumeration, DArray, DSubtype, DException, DIntIo}
 use Rattle.ada_lexer.specs.declared.symbols.Symbol.TheVariants as key
 use Rattle.ada_expr_parser.specs.declared.items.Item.{Item}
 use Rattle.ada_expr_parser.specs.Tests.{symbol, word}
@@ -21,7 +21,7 @@ array_then d next =
 
 -- `subind | array ( drange ) of subind` (3.2)
 abbrev pub shape : ℕ → Reader Item PShape
-shape d = on (symbol key.Array) (λ at. array_then d (λ r x. pure (ORow r x))) (bind (subind d) (λ x. pure (OPlain x)))
+shape d = on (symbol key.Array) (λ at. array_then d (λ r x. pure (OArray r x))) (bind (subind d) (λ x. pure (OPlain x)))
 
 -- behind `( expr` and what was no comma: the parentheses stand for one level, and the expression may go on behind them
 abbrev pub parens_rest : ℕ → Span → PExpr → Reader Item PInit

@@ -4,23 +4,23 @@ use Rattle.ada_tree.specs.PlainDecl.{PShape, PInit}
 use Rattle.ada_tree.specs.Scope as scope
 use Rattle.ada_tree.specs.Scope.{Scope}
 use Rattle.ada_tree.specs.Demand.{for_scalar, for_array, initializes, Site}
-use Rattle.ada_tree.specs.Declaring.{Declared, task_object, task_row, of_made, made_array, declared_object}
+use Rattle.ada_tree.specs.Declaring.{Declared, task_object, task_array, of_made, made_array, declared_object}
 use Rattle.ada_tree.specs.Sites.{site, scalar_init_sites, array_init_sites, all_init_sites, init_sites, object_marking}
 use Rattle.ada_refusals.specs.RefusedFirst.{refused_first}
 use Rattle.ada_scopes.specs.Entries.{plain_range}
 use Rattle.ada_object_rules.specs.inner.Initials.{holder_sites}
 use Rattle.ada_expr_rules.specs.Ranges.{made_as}
 use Rattle.ada_object_rules.specs.declared.plans.Plan.{Plan}
-use Rattle.ada_object_rules.specs.declared.plans.Plan.TheVariants.{Task, TaskRow, Object, Row}
+use Rattle.ada_object_rules.specs.declared.plans.Plan.TheVariants.{Task, TaskArray, Object, ConstrainedArray}
 use Rattle.ada_object_rules.specs.declared.plans.Planned.{Planned}
 use Rattle.ada_object_rules.specs.declared.plans.WalkedShape.{WalkedShape}
 
 -- the table that a plan leaves, and what its objects are
 abbrev pub declared_as : Scope → Bool → Plan → Declared
 declared_as scope constant (Task entries) = record { types = scope.types; thing = task_object scope.in_main entries.value }
-declared_as scope constant (TaskRow range entries) = record { types = scope.types; thing = task_row scope.in_main (option_map plain_range range) entries.value }
+declared_as scope constant (TaskArray range entries) = record { types = scope.types; thing = task_array scope.in_main (option_map plain_range range) entries.value }
 declared_as scope constant (Object making) = of_made constant (made_as scope.types making)
-declared_as scope constant (Row index making) = of_made constant (made_array None (made_as scope.types making).types (option_map plain_range index) (made_as scope.types making).mark)
+declared_as scope constant (ConstrainedArray index making) = of_made constant (made_array None (made_as scope.types making).types (option_map plain_range index) (made_as scope.types making).mark)
 
 -- the places of an initial value of a scalar, by its range where that is known
 abbrev pub scalar_sites : Scope → Option scope.Range → PInit → List Site
@@ -28,10 +28,10 @@ scalar_sites scope (Some range) value = scalar_init_sites scope (Some range) val
 scalar_sites scope None value = all_init_sites scope value
 
 -- those of an array, by the ranges of its index and of its components where both are known
-abbrev pub row_sites : Scope → Option scope.Range → Option scope.Range → PInit → List Site
-row_sites scope (Some index) (Some part) value = array_init_sites scope (Some part) value ++ site scope (initializes (for_array index) value) ∷ []
-row_sites scope (Some index) None value = all_init_sites scope value
-row_sites scope None part value = all_init_sites scope value
+abbrev pub array_sites : Scope → Option scope.Range → Option scope.Range → PInit → List Site
+array_sites scope (Some index) (Some part) value = array_init_sites scope (Some part) value ++ site scope (initializes (for_array index) value) ∷ []
+array_sites scope (Some index) None value = all_init_sites scope value
+array_sites scope None part value = all_init_sites scope value
 
 -- the plan makes what the objects are declared as, and the initial value stands at the places of one of theirs
 pub record IsPlanned (scope : Scope) (constant : Bool) (shape : PShape) (planned : Planned) : Type 0 where

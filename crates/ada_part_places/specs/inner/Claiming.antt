@@ -10,7 +10,7 @@ use Rattle.syn_event.specs.CheckRefusals.{CheckRefusal}
 use Rattle.syn_event.specs.RuleAcceptPlace.{is_among}
 use Rattle.syn_event.specs.RuleSameEntryTwice.{accept_heads, are_other_values, clash, clashing}
 use Rattle.ada_rules.specs.Sooner.{found}
-use Rattle.ada_check_scopes.specs.Around.{id_of}
+use Rattle.name_sets.specs.Numbers.{id_of}
 use Rattle.ada_part_places.specs.declared.claims.Claim.{Claim}
 use Rattle.ada_part_places.specs.declared.claims.Claims.{Claims}
 use Rattle.ada_part_places.specs.declared.claims.Member.{Member}

@@ -2,7 +2,7 @@
 use Rattle.std.specs.Prelude.{ℕ, ◌+◌, [], ◌∷◌, ◌++◌, flat_map, Option, None}
 use Rattle.ada_tree.specs.declared.naming.Span.{Span}
 use Rattle.ada_tree.specs.PlainExpr.{PExpr}
-use Rattle.ada_tree.specs.PlainStmt.{PAccept, accepting, PStmt, SNull, SAssign, SDelay, SExit, SRaise, SAbort, SCall, SAccept, SWait, SConditional, STimed, SPut, SPutLine, SNewLine, SGet, SIf, SCase, SBlock, SLoop, PAlt, alternative, PAltKind, AAccept, ADelay, ATerminate, PArm, arm, PCaseArm, case_arm, PBody, body, PHandler, handler}
+use Rattle.ada_tree.specs.PlainStmt.{PAccept, accepting, PStmt, SNull, SAssign, SDelay, SExit, SRaise, SAbort, SCall, SAccept, SWait, SConditional, STimed, SPut, SPutLine, SNewLine, SGet, SIf, SCase, SBlock, SLoop, PAlt, alternative, PAltKind, AAccept, ADelay, ATerminate, PArm, arm, PCaseArm, case_arm, body, PHandler, handler}
 use Rattle.ada_tree.specs.Sites.{is_present}
 use Rattle.syn_event.specs.declared.limits.What.TheVariants.{Alternatives}
 use Rattle.syn_event.specs.CheckRefusals.{CheckRefusal}

@@ -4,7 +4,7 @@ use Rattle.lawful_reader.specs.Readers.{Reader, pure, refuse, bind, on, token, b
 use Rattle.ada_tree.specs.declared.naming.Span.{Span}
 use Rattle.ada_tree.specs.declared.naming.Word.{Word}
 use Rattle.ada_tree.specs.PlainExpr.{PExpr}
-use Rattle.ada_tree.specs.PlainStmt.{PCall, PScheme, LWhile, LFor, PStmt, SNull, SDelay, SRaise, SAbort, SAccept, SWait, SConditional, STimed, SIf, SCase, SBlock, SLoop, PStmts, PMaybe, absent, present, PAccept, accepting, PAlt, alternative, AAccept, ADelay, ATerminate, alts_of, PArm, arm, arms_of, PCaseArm, case_arm, case_arms_of, PBody, body, PHandler, handler, PHandlers, no_handler, handlers_of, row_of}
+use Rattle.ada_tree.specs.PlainStmt.{PCall, PScheme, LWhile, LFor, PStmt, SNull, SDelay, SRaise, SAbort, SAccept, SWait, SConditional, STimed, SIf, SCase, SBlock, SLoop, PStmts, PMaybe, absent, present, PAccept, accepting, PAlt, alternative, AAccept, ADelay, ATerminate, alts_of, PArm, arm, arms_of, PCaseArm, case_arm, case_arms_of, PBody, body, PHandler, handler, PHandlers, no_handler, handlers_of, stmts_of}
 use Rattle.ada_lexer.specs.declared.symbols.Symbol.TheVariants as key
 use Rattle.ada_expr_parser.specs.declared.items.Item.{Item}
 use Rattle.ada_expr_parser.specs.Tests.{symbol, word}
@@ -28,10 +28,10 @@ accept_span (accepting h o) = h.span
 
 -- statements, none or some; and one at least (5.1)
 abbrev pub any_stmts : Readers → Reader Item PStmts
-any_stmts r = bind (items begins_stmt r.stmt) (λ l. pure (row_of l))
+any_stmts r = bind (items begins_stmt r.stmt) (λ l. pure (stmts_of l))
 
 abbrev pub stmts : Readers → Reader Item PStmts
-stmts r = bind (some_items begins_stmt r.stmt) (λ l. pure (row_of l))
+stmts r = bind (some_items begins_stmt r.stmt) (λ l. pure (stmts_of l))
 
 -- `[else stmts]`
 abbrev pub else_part : Readers → Reader Item PMaybe

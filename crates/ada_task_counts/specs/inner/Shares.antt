@@ -1,5 +1,5 @@
 -- What the rewriters would copy, as it is counted up to a number beyond every limit.
-use Rattle.std.specs.Prelude.{ℕ, ◌+◌, ◌*◌, if◌then◌else◌, List, [], ◌∷◌, map, Option, Some, None, unwrap_or}
+use Rattle.std.specs.Prelude.{ℕ, ◌*◌, if◌then◌else◌, List, [], ◌∷◌, map, Option, Some, None, unwrap_or}
 use Rattle.scoped_names.specs.Meaning.{meaning_in}
 use Rattle.ada_tree.specs.declared.naming.NameId.{NameId}
 use Rattle.ada_tree.specs.TypeTable.{TypeTable}
@@ -7,7 +7,7 @@ use Rattle.ada_tree.specs.PlainExpr.{PExpr}
 use Rattle.ada_tree.specs.PlainStmt.{PCallee}
 use Rattle.ada_tree.specs.PlainDecl.{PDecl, DTaskBody, PDecls, no_decl, decl_then}
 use Rattle.ada_tree.specs.StaticValue.{is_static}
-use Rattle.syn_event.specs.TaskParts.{TaskPart, task_count}
+use Rattle.syn_event.specs.NamedTasks.{NamedTasks, task_count}
 use Rattle.syn_event.specs.Callees.{body_callees}
 use Rattle.syn_event.specs.Copying.{source_length}
 use Rattle.ada_rules.specs.Amounts.{capped, plus}
@@ -18,8 +18,8 @@ pub record Rates : Type 0 where
   pub rows : List (ℕ × ℕ)
 
 -- the names that stand for tasks, with how many they stand for
-abbrev pub row_lengths : TypeTable → List TaskPart → List (ℕ × ℕ)
-row_lengths types parts = map (λ x. (x.name.name.0, capped (task_count types x))) parts
+abbrev pub array_lengths : TypeTable → List NamedTasks → List (ℕ × ℕ)
+array_lengths types parts = map (λ x. (x.name.name.0, capped (task_count types x))) parts
 
 abbrev pub length_among : List (ℕ × ℕ) → NameId → ℕ
 length_among rows id = unwrap_or (meaning_in rows id.0) 0

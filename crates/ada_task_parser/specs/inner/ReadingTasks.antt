@@ -9,7 +9,7 @@ use Rattle.ada_lexer.specs.declared.symbols.Symbol.TheVariants as key
 use Rattle.ada_expr_parser.specs.declared.items.Item.{Item}
 use Rattle.ada_expr_parser.specs.Grammar.{word_item}
 use Rattle.ada_expr_parser.specs.Tests.{symbol, word}
-use Rattle.ada_expr_parser.specs.Trees.{levels, from_to}
+use Rattle.ada_expr_parser.specs.Trees.{from_to}
 use Rattle.ada_expr_parser.specs.Parts.{expression, drange}
 use Rattle.ada_phrase_parser.specs.Spelling.{Source, id_of}
 use Rattle.ada_task_parser.specs.Tasks.{Member, MEntry, MPriority, entries_in, priorities_in}

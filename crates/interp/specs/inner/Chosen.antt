@@ -1,5 +1,5 @@
 -- What the code's turn decides, and how the making of an action may break off.
-use Rattle.std.specs.Prelude.{◌≡◌, ℕ, Bool, true, List, Option, Some, None, option_to_list}
+use Rattle.std.specs.Prelude.{◌≡◌, ℕ, true, List, Option, Some, None, option_to_list}
 use Rattle.ded_io.specs.Counts.{Rose}
 use Rattle.ded_io.specs.Written.{Began}
 use Rattle.event_machine.specs.declared.Action.{Action}

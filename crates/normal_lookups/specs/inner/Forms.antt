@@ -1,5 +1,5 @@
 -- What an entry asks of its calls: the range of its index, and the modes and marks of its formals.
-use Rattle.std.specs.Prelude.{ℕ, ◌==◌, List, [], map, find, Option, Some, None, option_map, unwrap_or}
+use Rattle.std.specs.Prelude.{ℕ, ◌==◌, List, [], map, find, Option, Some, None, option_map}
 use Rattle.ada_tree.specs.declared.naming.NameId.{NameId}
 use Rattle.ada_tree.specs.declared.naming.Word.{Word}
 use Rattle.ada_tree.specs.declared.statements.ParMode.{ParMode}

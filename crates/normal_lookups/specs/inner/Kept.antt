@@ -1,7 +1,6 @@
 -- What is kept beside the links of a program, so that what the normal form asks is found in one step.
-use Rattle.std.specs.Prelude.{◌≡◌, ℕ, ◌==◌, Bool, ◌||◌, List, map, Option, option_map, is_some}
+use Rattle.std.specs.Prelude.{◌≡◌, ℕ, Bool, ◌||◌, List, map, Option, option_map, is_some}
 use Rattle.std.specs.Borrow.{Bor}
-use Rattle.std.specs.List.{list_any}
 use Rattle.ada_tree.specs.declared.naming.NameId.{NameId}
 use Rattle.ada_tree.specs.declared.declarations.Drange.{Drange}
 use Rattle.ada_tree.specs.TypeTable.{TypeTable}
@@ -10,7 +9,7 @@ use Rattle.ada_tree.specs.PlainExpr.{PDrange, plain_drange}
 use Rattle.ada_tree.specs.PlainDecl.{PEntry, PTask}
 use Rattle.ada_tree.specs.PlainProgram.{PProgram}
 use Rattle.syn_event.specs.Units.{tasks_of}
-use Rattle.syn_event.specs.TaskParts.{parts_of}
+use Rattle.syn_event.specs.NamedTasks.{task_names_of}
 use Rattle.scoped_names.specs.Meaning.{meaning_in}
 use Rattle.task_model.specs.Setting.{Setting}
 use Rattle.normal_lookups.specs.declared.forms.EntryForm.{EntryForm}
@@ -30,12 +29,12 @@ kinds_named types = map (λ m. (m.kind, m.name)) types.marks
 
 -- ---- arrays of tasks
 
-abbrev pub seen_row : ℕ × Option (Bor Drange) → ℕ × Option PDrange
-seen_row s = (s.0, option_map (λ r. plain_drange r.now) s.1)
+abbrev pub seen_range : ℕ × Option (Bor Drange) → ℕ × Option PDrange
+seen_range s = (s.0, option_map (λ r. plain_drange r.now) s.1)
 
 -- the ranges of what stands for tasks, each by its name
-abbrev pub rows_named : PProgram → List (ℕ × Option PDrange)
-rows_named p = map (λ x. (x.name.name.0, x.row)) (parts_of p)
+abbrev pub ranges_named : PProgram → List (ℕ × Option PDrange)
+ranges_named p = map (λ x. (x.name.name.0, x.index_range)) (task_names_of p)
 
 -- ---- entries
 
@@ -62,8 +61,8 @@ units_named tasks = map unit_forms tasks
 -- ---- all of it
 
 -- All that is kept for a setting.
-pub record KeepsAll (g : Setting) (known : List (ℕ × Bool)) (kinds : List (ℕ × Option NameId)) (rows : List (ℕ × Option (Bor Drange))) (forms : List (ℕ × List (ℕ × EntryForm))) : Type 0 where
+pub record KeepsAll (g : Setting) (known : List (ℕ × Bool)) (kinds : List (ℕ × Option NameId)) (ranges : List (ℕ × Option (Bor Drange))) (forms : List (ℕ × List (ℕ × EntryForm))) : Type 0 where
   pub known_are : AreStatic g.types known
   pub kinds_are : kinds ≡ kinds_named g.types
-  pub rows_are : map seen_row rows ≡ rows_named g.program
+  pub ranges_are : map seen_range ranges ≡ ranges_named g.program
   pub forms_are : map seen_unit forms ≡ units_named (tasks_of g.program)

@@ -1,7 +1,6 @@
 -- Entries that are not added, by the names of their doubles: an entry stands for one of them where it has such a name.
 use Rattle.std.specs.Prelude.{ℕ, List, [], map, Option, None, codes, nat_eq, if◌then◌else◌}
 use Rattle.std.specs.List.{filter, starts_with}
-use Rattle.ada_tree.specs.declared.naming.NameId.{NameId}
 use Rattle.syn_event.specs.declared.numbering.EntryInfo.{EntryInfo}
 use Rattle.syn_event.specs.Numbering.{Numbering, is_original_entry, entry_named}
 use Rattle.syn_event.specs.Units.{text_of}

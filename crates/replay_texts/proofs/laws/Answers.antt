@@ -1,4 +1,4 @@
-use Rattle.replay_texts.proofs.Extents.{extent-alike}
+use Rattle.normal_has_numbers.proofs.Extents.{extent-alike}
 use Rattle.replay_texts.proofs.Rooted.{replay_is_rooted, replay_agrees}
 use Rattle.replay_texts.proofs.Numbered.{replay_numbered}
 use Rattle.replay_texts.proofs.laws.Goals as goal

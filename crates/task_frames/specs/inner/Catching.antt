@@ -4,7 +4,7 @@ use Rattle.ada_tree.specs.declared.naming.Word.{Word}
 use Rattle.ada_tree.specs.PlainStmt.{PStmts, no_stmt, PHandlers}
 use Rattle.ada_value.specs.declared.values.Raised.{Raised}
 use Rattle.task_model.specs.Frames as model
-use Rattle.task_model.specs.Frames.{Part, handler_for, handled_at, is_left, brought_by}
+use Rattle.task_model.specs.Frames.{Part, handler_for, is_left, brought_by}
 use Rattle.task_frames.specs.declared.places.Place.{Place}
 use Rattle.task_frames.specs.declared.places.Place.TheVariants as stands
 use Rattle.task_frames.specs.Seen.{turns_as, seen_handlers, around}

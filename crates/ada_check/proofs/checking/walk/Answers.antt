@@ -1,8 +1,4 @@
-use Rattle.std.proofs.Common.{◌≡◌, ap, ◌∙◌}
 use Rattle.ada_tree.specs.PlainProgram.{plain_program}
-use Rattle.syn_event.specs.CheckScope.{CheckScope}
-use Rattle.syn_event.specs.CheckSites.{check_sites}
-use Rattle.ada_rules.specs.RefusedFirst.{Standard, refused_first}
 use Rattle.ada_check.proofs.Programs.{around_is}
 use Rattle.ada_check.proofs.checking.walk.Goals as goal
 

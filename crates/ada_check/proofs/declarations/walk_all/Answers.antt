@@ -1,8 +1,7 @@
-use Rattle.std.proofs.Common.{refl, map, drop}
-use Rattle.ada_tree.specs.PlainDecl.{PDecls, PDecl, plain_decl}
-use Rattle.syn_event.specs.CheckScope.{CheckScope}
+use Rattle.std.proofs.Common.{refl}
+use Rattle.ada_tree.specs.PlainDecl.{plain_decl}
 use Rattle.syn_event.specs.CheckSites.{decl_sites, after_decl, decls_sites, after_decls}
-use Rattle.ada_declaration_places.specs.Places.{numbers_in}
+use Rattle.name_sets.specs.Numbers.{numbers_in}
 use Rattle.ada_rules.proofs.Listing.{cut}
 use Rattle.ada_declaration_places.proofs.Declaring.{decl_more, decl_end, after_more, after_end, own_none}
 use Rattle.ada_check.proofs.declarations.walk_all.Goals as goal

@@ -1,7 +1,7 @@
 use Rattle.std.proofs.Common.{ap, ◌∙◌}
 use Rattle.ada_tree.specs.PlainDecl.{plain_decl}
 use Rattle.ada_rules.specs.RefusedFirst.{refused_first}
-use Rattle.ada_declaration_places.specs.Places.{numbers_in}
+use Rattle.name_sets.specs.Numbers.{numbers_in}
 use Rattle.ada_check.specs.inner.TaskBodies.{body_part}
 use Rattle.ada_check.proofs.Bodies.{parted}
 use Rattle.ada_declaration_places.proofs.Declaring.{own_none}

@@ -1,4 +1,4 @@
-use Rattle.std.proofs.Common.{refl, map, drop}
+use Rattle.std.proofs.Common.{refl}
 use Rattle.syn_event.specs.CheckSites.{own_object_sites, after_own_object, own_sites, after_own}
 use Rattle.ada_rules.proofs.Listing.{cut}
 use Rattle.ada_declaration_places.proofs.Declaring.{decl_more, decl_end, after_more, after_end}

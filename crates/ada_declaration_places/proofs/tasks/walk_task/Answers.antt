@@ -4,7 +4,7 @@ use Rattle.ada_tree.specs.PlainDecl.{PPriority, plain_entry, plain_priority}
 use Rattle.syn_event.specs.CheckScope.{declares, needs_body}
 use Rattle.syn_event.specs.CheckSites.{expr_sites, entry_sites}
 use Rattle.ada_rules.specs.RefusedFirst.{refused_first}
-use Rattle.ada_declaration_places.specs.Places.{numbers_in}
+use Rattle.name_sets.specs.Numbers.{numbers_in}
 use Rattle.ada_declaration_places.proofs.Declaring.{task_met}
 use Rattle.ada_declaration_places.proofs.tasks.walk_task.Goals as goal
 

@@ -1,7 +1,8 @@
 use Rattle.ada_refusals.proofs.Outcomes.{on_ok}
+use Rattle.name_sets.specs.Numbers.{numbers_in}
 use Rattle.ada_duplicates.proofs.Behind.{entry_of}
 use Rattle.ada_duplicates.proofs.named_so_far.note_entry.Goals as goal
 
 pub returns-clause-namings : goal.returns-clause-namings
 returns-clause-namings c =
-    on_ok c.note_formals.result (λ q. entry_of c.args.namings.now.items c.note_once.new.namings.items c.note_formals.new.namings.items c.args.names.now c.args.entry.now c.deref.result.now c.deref.ensures.value c.in_ok-note_once.ensures.namings q) c.note_formals.ensures
+    on_ok c.note_formals.result (λ q. entry_of c.args.namings.now.items c.note_once.new.namings.items c.note_formals.new.namings.items (numbers_in c.args.names.now) c.args.entry.now c.deref.result.now c.deref.ensures.value c.in_ok-note_once.ensures.namings q) c.note_formals.ensures

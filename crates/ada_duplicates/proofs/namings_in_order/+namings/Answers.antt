@@ -1,10 +1,11 @@
 use Rattle.std.proofs.Common.{◌≡◌, ◌∙◌, ◌+◌, ap, subst, map, drop, option_map, refl, arith}
-use Rattle.ada_tree.specs.PlainStmt.{plain_stmt, plain_accept, plain_alt, plain_alt_kind, plain_arm, plain_case_arm, plain_handler, row_of, alts_of, arms_of, case_arms_of, handlers_of}
+use Rattle.ada_tree.specs.PlainStmt.{plain_stmt, plain_accept, plain_alt, plain_alt_kind, plain_arm, plain_case_arm, plain_handler, stmts_of, alts_of, arms_of, case_arms_of, handlers_of}
 use Rattle.ada_tree.specs.PlainExpr.{plain_expr}
 use Rattle.ada_tree.specs.PlainStmt.{plain_scheme, plain_call, stmt_at, seen_maybe, SWait, SConditional, STimed, SIf, SCase, SLoop, AAccept, ADelay, ATerminate}
 use Rattle.ada_tree.specs.declared.statements.Accept.{out-Accept}
 use Rattle.ada_tree.proofs.Rows.{rows}
 use Rattle.ada_tree.specs.Sites.{stmt_sites, stmts_sites, alts_sites, arms_sites, case_arms_sites, handlers_sites, with_words}
+use Rattle.name_sets.specs.Numbers.{numbers_in}
 use Rattle.ada_duplicates.specs.NamingsInOrder.{Named}
 use Rattle.ada_duplicates.specs.inner.Noted.{alt_places, arm_places, case_arm_places, handler_places, handler_words}
 use Rattle.ada_refusals.proofs.Outcomes.{on_ok}
@@ -14,11 +15,11 @@ use Rattle.ada_duplicates.proofs.namings_in_order.+namings.Goals as goal
 pub note_stmts-loop-stmt-preserved : goal.note_stmts-loop-stmt-preserved
 note_stmts-loop-stmt-preserved t c = λ new q.
     c.loop-stmt.invariant new
-    (member_named plain_stmt (λ s. stmt_sites s (plain_stmt c.stmt-item.result)) (λ s ps. stmts_sites s (row_of ps)) (λ s ps. stmts_sites s (row_of ps)) c.args.list.now c.loop-stmt.stmt-index c.stmt-item.result c.loop-stmt-test.true c.stmt-item.is (λ s ps. refl)
+    (member_named plain_stmt (λ s. stmt_sites s (plain_stmt c.stmt-item.result)) (λ s ps. stmts_sites s (stmts_of ps)) (λ s ps. stmts_sites s (stmts_of ps)) c.args.list.now c.loop-stmt.stmt-index c.stmt-item.result c.loop-stmt-test.true c.stmt-item.is (λ s ps. refl)
     c.loop-stmt.namings.items c.note_stmt.new.namings.items new c.in_ok-note_stmt.ensures q)
 
 pub note_stmts-returns : goal.note_stmts-returns
-note_stmts-returns t c = c.loop-stmt.invariant c.loop-stmt.namings.items (members_over plain_stmt (λ s ps. stmts_sites s (row_of ps)) c.args.list.now c.loop-stmt.stmt-index c.loop-stmt-test.false (λ s. refl) c.loop-stmt.namings.items)
+note_stmts-returns t c = c.loop-stmt.invariant c.loop-stmt.namings.items (members_over plain_stmt (λ s ps. stmts_sites s (stmts_of ps)) c.args.list.now c.loop-stmt.stmt-index c.loop-stmt-test.false (λ s. refl) c.loop-stmt.namings.items)
 
 pub note_alts-loop-alt-preserved : goal.note_alts-loop-alt-preserved
 note_alts-loop-alt-preserved t c = λ new q.
@@ -50,20 +51,20 @@ note_case_arms-returns t c = λ k range. c.loop-arm.invariant k range c.loop-arm
 pub note_handlers-loop-handler-preserved : goal.note_handlers-loop-handler-preserved
 note_handlers-loop-handler-preserved t c = λ new q.
     c.loop-handler.invariant new
-    (member_named plain_handler (λ s. handler_places s c.loop-handler.names (plain_handler c.handler-item.result)) (λ s ps. handlers_sites s c.loop-handler.names (handlers_of ps)) (λ s ps. handlers_sites s (with_words c.loop-handler.names (handler_words (plain_handler c.handler-item.result))) (handlers_of ps)) c.args.handlers.now c.loop-handler.handler-index c.handler-item.result c.loop-handler-test.true c.handler-item.is (handlers_law c.loop-handler.names (plain_handler c.handler-item.result))
+    (member_named plain_handler (λ s. handler_places s (numbers_in c.loop-handler.names) (plain_handler c.handler-item.result)) (λ s ps. handlers_sites s (numbers_in c.loop-handler.names) (handlers_of ps)) (λ s ps. handlers_sites s (with_words (numbers_in c.loop-handler.names) (handler_words (plain_handler c.handler-item.result))) (handlers_of ps)) c.args.handlers.now c.loop-handler.handler-index c.handler-item.result c.loop-handler-test.true c.handler-item.is (handlers_law (numbers_in c.loop-handler.names) (plain_handler c.handler-item.result))
     c.loop-handler.namings.items c.note_handler.new.namings.items new c.in_ok-note_handler.ensures.namings
     (subst (λ names. Named c.note_handler.new.namings.items new (λ s. handlers_sites s names (handlers_of (map plain_handler (drop (c.loop-handler.handler-index + 1) c.args.handlers.now))))) c.in_ok-note_handler.ensures.names q))
 
 pub note_handlers-returns : goal.note_handlers-returns
-note_handlers-returns t c = c.loop-handler.invariant c.loop-handler.namings.items (members_over plain_handler (λ s ps. handlers_sites s c.loop-handler.names (handlers_of ps)) c.args.handlers.now c.loop-handler.handler-index c.loop-handler-test.false (λ s. refl) c.loop-handler.namings.items)
+note_handlers-returns t c = c.loop-handler.invariant c.loop-handler.namings.items (members_over plain_handler (λ s ps. handlers_sites s (numbers_in c.loop-handler.names) (handlers_of ps)) c.args.handlers.now c.loop-handler.handler-index c.loop-handler-test.false (λ s. refl) c.loop-handler.namings.items)
 
 pub note_handler-returns-clause-namings : goal.note_handler-returns-clause-namings
 note_handler-returns-clause-namings t c =
-    on_ok c.note_stmts.result (λ q. handler_of c.args.namings.now.items c.note_exceptions.new.namings.items c.note_stmts.new.namings.items c.args.names.now c.args.handler.now c.deref.result.now c.deref-2.result.now c.deref.ensures.value c.deref-2.ensures.value c.in_ok-note_exceptions.ensures.namings q) c.note_stmts.ensures
+    on_ok c.note_stmts.result (λ q. handler_of c.args.namings.now.items c.note_exceptions.new.namings.items c.note_stmts.new.namings.items (numbers_in c.args.names.now) c.args.handler.now c.deref.result.now c.deref-2.result.now c.deref.ensures.value c.deref-2.ensures.value c.in_ok-note_exceptions.ensures.namings q) c.note_stmts.ensures
 
 pub note_handler-returns-clause-names : goal.note_handler-returns-clause-names
 note_handler-returns-clause-names t c =
-    on_ok c.note_stmts.result (λ q. c.in_ok-note_exceptions.ensures.names ∙ words_of c.args.names.now c.args.handler.now c.deref.result.now c.deref.ensures.value) c.note_stmts.ensures
+    on_ok c.note_stmts.result (λ q. c.in_ok-note_exceptions.ensures.names ∙ words_of (numbers_in c.args.names.now) c.args.handler.now c.deref.result.now c.deref.ensures.value) c.note_stmts.ensures
 
 pub note_body-returns : goal.note_body-returns
 note_body-returns t c =
@@ -81,13 +82,13 @@ note_accept-returns-in-None t c =
 
 pub note_kind-returns-in_ok-note_accept-in-Accept : goal.note_kind-returns-in_ok-note_accept-in-Accept
 note_kind-returns-in_ok-note_accept-in-Accept t c =
-    let tree : plain_alt_kind c.args.kind.now ≡ AAccept (plain_accept c.in-Accept.accept) (row_of (map plain_stmt c.in-Accept.stmts.items)) = grind (arith, rows) in
+    let tree : plain_alt_kind c.args.kind.now ≡ AAccept (plain_accept c.in-Accept.accept) (stmts_of (map plain_stmt c.in-Accept.stmts.items)) = grind (arith, rows) in
     on_ok c.note_stmts.result (λ q. alt_is c.args.namings.now.items c.note_stmts.new.namings.items _ _ tree
     (kind_of_accept c.args.namings.now.items c.note_accept.new.namings.items c.note_stmts.new.namings.items (plain_accept c.in-Accept.accept) c.in-Accept.stmts.items c.deref.result.now c.deref.ensures.value c.in_ok-note_accept-in-Accept.ensures q)) c.note_stmts.ensures
 
 pub note_kind-returns-in-Delay : goal.note_kind-returns-in-Delay
 note_kind-returns-in-Delay t c =
-    let tree : plain_alt_kind c.args.kind.now ≡ ADelay c.in-Delay.thousandths (row_of (map plain_stmt c.in-Delay.stmts.items)) = grind (arith, rows) in
+    let tree : plain_alt_kind c.args.kind.now ≡ ADelay c.in-Delay.thousandths (stmts_of (map plain_stmt c.in-Delay.stmts.items)) = grind (arith, rows) in
     on_ok c.note_stmts-in-Delay.result (λ q. alt_is c.args.namings.now.items c.note_stmts-in-Delay.new.namings.items _ _ tree
     (list_is c.args.namings.now.items c.note_stmts-in-Delay.new.namings.items c.deref-in-Delay.result.now c.in-Delay.stmts.items c.deref-in-Delay.ensures.value q)) c.note_stmts-in-Delay.ensures
 
@@ -97,7 +98,7 @@ note_kind-returns-in-Terminate t c =
 
 pub note_loop-returns : goal.note_loop-returns
 note_loop-returns t c =
-    on_ok c.note_stmts.result (λ q. loop_named c.args.namings.now.items c.note_label.new.namings.items c.note_scheme.new.namings.items c.note_stmts.new.namings.items c.args.name (option_map plain_scheme c.args.scheme.now) (row_of (map plain_stmt c.args.list.now))
+    on_ok c.note_stmts.result (λ q. loop_named c.args.namings.now.items c.note_label.new.namings.items c.note_scheme.new.namings.items c.note_stmts.new.namings.items c.args.name (option_map plain_scheme c.args.scheme.now) (stmts_of (map plain_stmt c.args.list.now))
     c.in_ok-note_label.ensures c.in_ok-note_scheme.ensures q) c.note_stmts.ensures
 
 pub note_stmt-returns-in-Some : goal.note_stmt-returns-in-Some
@@ -114,15 +115,15 @@ note_stmt-returns-in-None t c =
 
 pub note_stmt-returns-in_ok-note_stmts-in-Conditional : goal.note_stmt-returns-in_ok-note_stmts-in-Conditional
 note_stmt-returns-in_ok-note_stmts-in-Conditional t c =
-    let tree : plain_stmt c.args.stmt.now ≡ SConditional (plain_call c.in-Conditional.call) (row_of (map plain_stmt c.in-Conditional.behind.items)) (row_of (map plain_stmt c.in-Conditional.otherwise.items)) c.args.stmt.now.span = grind (arith, rows) in
-    on_ok c.note_stmts-in-Conditional-2.result (λ q. stmt_is c.args.namings.now.items c.note_stmts-in-Conditional-2.new.namings.items _ _ tree (branches_named c.args.namings.now.items c.note_stmts-in-Conditional.new.namings.items c.note_stmts-in-Conditional-2.new.namings.items (plain_call c.in-Conditional.call) (row_of (map plain_stmt c.in-Conditional.behind.items)) (row_of (map plain_stmt c.in-Conditional.otherwise.items))
+    let tree : plain_stmt c.args.stmt.now ≡ SConditional (plain_call c.in-Conditional.call) (stmts_of (map plain_stmt c.in-Conditional.behind.items)) (stmts_of (map plain_stmt c.in-Conditional.otherwise.items)) c.args.stmt.now.span = grind (arith, rows) in
+    on_ok c.note_stmts-in-Conditional-2.result (λ q. stmt_is c.args.namings.now.items c.note_stmts-in-Conditional-2.new.namings.items _ _ tree (branches_named c.args.namings.now.items c.note_stmts-in-Conditional.new.namings.items c.note_stmts-in-Conditional-2.new.namings.items (plain_call c.in-Conditional.call) (stmts_of (map plain_stmt c.in-Conditional.behind.items)) (stmts_of (map plain_stmt c.in-Conditional.otherwise.items))
     (list_is c.args.namings.now.items c.note_stmts-in-Conditional.new.namings.items c.deref-in-Conditional.result.now c.in-Conditional.behind.items c.deref-in-Conditional.ensures.value c.in_ok-note_stmts-in-Conditional.ensures)
     (list_is c.note_stmts-in-Conditional.new.namings.items c.note_stmts-in-Conditional-2.new.namings.items c.deref-in-Conditional-2.result.now c.in-Conditional.otherwise.items c.deref-in-Conditional-2.ensures.value q))) c.note_stmts-in-Conditional-2.ensures
 
 pub note_stmt-returns-in_ok-note_stmts-in-Timed : goal.note_stmt-returns-in_ok-note_stmts-in-Timed
 note_stmt-returns-in_ok-note_stmts-in-Timed t c =
-    let tree : plain_stmt c.args.stmt.now ≡ STimed (plain_call c.in-Timed.call) (row_of (map plain_stmt c.in-Timed.behind.items)) c.in-Timed.thousandths (row_of (map plain_stmt c.in-Timed.after.items)) c.args.stmt.now.span = grind (arith, rows) in
-    on_ok c.note_stmts-in-Timed-2.result (λ q. stmt_is c.args.namings.now.items c.note_stmts-in-Timed-2.new.namings.items _ _ tree (branches_named c.args.namings.now.items c.note_stmts-in-Timed.new.namings.items c.note_stmts-in-Timed-2.new.namings.items (plain_call c.in-Timed.call) (row_of (map plain_stmt c.in-Timed.behind.items)) (row_of (map plain_stmt c.in-Timed.after.items))
+    let tree : plain_stmt c.args.stmt.now ≡ STimed (plain_call c.in-Timed.call) (stmts_of (map plain_stmt c.in-Timed.behind.items)) c.in-Timed.thousandths (stmts_of (map plain_stmt c.in-Timed.after.items)) c.args.stmt.now.span = grind (arith, rows) in
+    on_ok c.note_stmts-in-Timed-2.result (λ q. stmt_is c.args.namings.now.items c.note_stmts-in-Timed-2.new.namings.items _ _ tree (branches_named c.args.namings.now.items c.note_stmts-in-Timed.new.namings.items c.note_stmts-in-Timed-2.new.namings.items (plain_call c.in-Timed.call) (stmts_of (map plain_stmt c.in-Timed.behind.items)) (stmts_of (map plain_stmt c.in-Timed.after.items))
     (list_is c.args.namings.now.items c.note_stmts-in-Timed.new.namings.items c.deref-in-Timed.result.now c.in-Timed.behind.items c.deref-in-Timed.ensures.value c.in_ok-note_stmts-in-Timed.ensures)
     (list_is c.note_stmts-in-Timed.new.namings.items c.note_stmts-in-Timed-2.new.namings.items c.deref-in-Timed-2.result.now c.in-Timed.after.items c.deref-in-Timed-2.ensures.value q))) c.note_stmts-in-Timed-2.ensures
 
@@ -152,7 +153,7 @@ note_stmt-returns-in-None-others t c =
 
 pub note_stmt-returns-in-Loop : goal.note_stmt-returns-in-Loop
 note_stmt-returns-in-Loop t c =
-    let tree : plain_stmt c.args.stmt.now ≡ SLoop c.in-Loop.name (option_map plain_scheme c.in-Loop.scheme) (row_of (map plain_stmt c.in-Loop.stmts.items)) c.args.stmt.now.span = grind (arith, rows) in
+    let tree : plain_stmt c.args.stmt.now ≡ SLoop c.in-Loop.name (option_map plain_scheme c.in-Loop.scheme) (stmts_of (map plain_stmt c.in-Loop.stmts.items)) c.args.stmt.now.span = grind (arith, rows) in
     on_ok c.note_loop.result (λ q. stmt_is c.args.namings.now.items c.note_loop.new.namings.items _ _ tree (loop_is c.args.namings.now.items c.note_loop.new.namings.items c.in-Loop.name (option_map plain_scheme c.in-Loop.scheme) c.deref-in-Loop.result.now c.in-Loop.stmts.items c.deref-in-Loop.ensures.value q)) c.note_loop.ensures
 
 pub note_stmt-returns-in-Null : goal.note_stmt-returns-in-Null

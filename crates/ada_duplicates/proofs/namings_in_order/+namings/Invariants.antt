@@ -1,14 +1,15 @@
 use Rattle.std.proofs.Common.{ℕ, List, Option, [], map, drop}
-use Rattle.ada_tree.specs.PlainStmt.{plain_stmt, plain_alt, plain_arm, plain_case_arm, plain_handler, row_of, alts_of, arms_of, case_arms_of, handlers_of}
+use Rattle.ada_tree.specs.PlainStmt.{plain_stmt, plain_alt, plain_arm, plain_case_arm, plain_handler, stmts_of, alts_of, arms_of, case_arms_of, handlers_of}
 use Rattle.ada_tree.specs.Scope.{Range}
 use Rattle.ada_tree.specs.Sites.{stmts_sites, alts_sites, arms_sites, case_arms_sites, handlers_sites}
+use Rattle.name_sets.specs.Numbers.{numbers_in}
 use Rattle.ada_duplicates.specs.NamingsInOrder.{Named}
 use Rattle.ada_duplicates.specs.declared.namings_in_order.Naming.{Naming}
 use Rattle.ada_duplicates.proofs.namings_in_order.+namings.Given as goal
 
 -- what is still to be noted makes what is noted so far the whole
 abbrev pub invariant-note_stmts-loop-stmt : goal.invariant-note_stmts-loop-stmt
-invariant-note_stmts-loop-stmt l = (new : List Naming) → Named l.namings.items new (λ s. stmts_sites s (row_of (map plain_stmt (drop l.stmt-index l.list)))) → Named l.fn.namings.items new (λ s. stmts_sites s (row_of (map plain_stmt l.list)))
+invariant-note_stmts-loop-stmt l = (new : List Naming) → Named l.namings.items new (λ s. stmts_sites s (stmts_of (map plain_stmt (drop l.stmt-index l.list)))) → Named l.fn.namings.items new (λ s. stmts_sites s (stmts_of (map plain_stmt l.list)))
 
 abbrev pub invariant-note_alts-loop-alt : goal.invariant-note_alts-loop-alt
 invariant-note_alts-loop-alt l = (new : List Naming) → Named l.namings.items new (λ s. alts_sites s (alts_of (map plain_alt (drop l.alt-index l.alts)))) → Named l.fn.namings.items new (λ s. alts_sites s (alts_of (map plain_alt l.alts)))
@@ -20,4 +21,4 @@ abbrev pub invariant-note_case_arms-loop-arm : goal.invariant-note_case_arms-loo
 invariant-note_case_arms-loop-arm l = (k : Option ℕ) (range : Option Range) (new : List Naming) → Named l.namings.items new (λ s. case_arms_sites s k range (case_arms_of (map plain_case_arm (drop l.arm-index l.arms)))) → Named l.fn.namings.items new (λ s. case_arms_sites s k range (case_arms_of (map plain_case_arm l.arms)))
 
 abbrev pub invariant-note_handlers-loop-handler : goal.invariant-note_handlers-loop-handler
-invariant-note_handlers-loop-handler l = (new : List Naming) → Named l.namings.items new (λ s. handlers_sites s l.names (handlers_of (map plain_handler (drop l.handler-index l.handlers)))) → Named l.fn.namings.items new (λ s. handlers_sites s [] (handlers_of (map plain_handler l.handlers)))
+invariant-note_handlers-loop-handler l = (new : List Naming) → Named l.namings.items new (λ s. handlers_sites s (numbers_in l.names) (handlers_of (map plain_handler (drop l.handler-index l.handlers)))) → Named l.fn.namings.items new (λ s. handlers_sites s [] (handlers_of (map plain_handler l.handlers)))

@@ -1,11 +1,12 @@
 use Rattle.std.proofs.Common.{◌≡◌, ◌++◌, drop}
 use Rattle.ada_tree.specs.Sites.{with_words}
+use Rattle.name_sets.specs.Numbers.{numbers_in}
 use Rattle.ada_duplicates.specs.NamingsInOrder.{named_once}
 use Rattle.ada_duplicates.proofs.namings_in_order.note_exceptions.Given as goal
 
 -- what is noted so far, and what is still to come
 abbrev pub invariant-loop-word : goal.invariant-loop-word
 invariant-loop-word l = record {
-  noted : l.namings.items ++ named_once l.names (drop l.word-index l.words) ≡ l.fn.namings.items ++ named_once l.fn.names l.words;
-  names : with_words l.names (drop l.word-index l.words) ≡ with_words l.fn.names l.words;
+  noted : l.namings.items ++ named_once (numbers_in l.names) (drop l.word-index l.words) ≡ l.fn.namings.items ++ named_once (numbers_in l.fn.names) l.words;
+  names : with_words (numbers_in l.names) (drop l.word-index l.words) ≡ with_words (numbers_in l.fn.names) l.words;
 }

@@ -12,4 +12,4 @@ returns c =
     ∙ addressed_alone c.args.scope.now c.args.name _ _ _
     c.refuse_unseen-unknown.ensures
     (c.refuse_no_task-no_task.ensures ∙ ap (λ o. found 3 (no_task o c.args.name)) c.meaning-thing.ensures)
-    (c.refuse_row-count.ensures ∙ ap (λ o. found 8 (index_of_callee o None c.args.name.span)) c.meaning-thing.ensures)
+    (c.refuse_array-count.ensures ∙ ap (λ o. found 8 (index_of_callee o None c.args.name.span)) c.meaning-thing.ensures)

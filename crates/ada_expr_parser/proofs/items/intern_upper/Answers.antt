@@ -1,5 +1,3 @@
-use Rattle.std.proofs.Common.{◌≡◌, subst}
-use Rattle.ada_lexer.specs.Verdicts.{IsToken}
 use Rattle.ada_expr_parser.proofs.NameBytes.{name_is_ascii}
 use Rattle.ada_expr_parser.proofs.items.intern_upper.Goals as goal
 

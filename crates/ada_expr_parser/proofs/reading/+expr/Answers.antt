@@ -1,4 +1,4 @@
-use Rattle.std.proofs.Common.{◌≡◌, arith}
+use Rattle.std.proofs.Common.{arith}
 use Rattle.ada_expr_parser.specs.declared.levels.Level.TheVariants.{Logical, Relation, Simple, Term, Factor}
 use Rattle.ada_expr_parser.specs.Reading.{inner, relation_at, simple_at, signed_at, factor_at}
 use Rattle.ada_expr_parser.proofs.Steps.{chained}

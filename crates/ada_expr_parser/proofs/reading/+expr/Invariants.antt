@@ -1,5 +1,5 @@
 -- Each call reads fewer items, or the same at a tighter level.
-use Rattle.std.proofs.Common.{ℕ, ◌+◌, ◌*◌, length}
+use Rattle.std.proofs.Common.{◌+◌, ◌*◌, length}
 use Rattle.ada_expr_parser.proofs.reading.+expr.Given as goal
 
 abbrev pub decreases-logical : goal.decreases-logical

@@ -1,4 +1,3 @@
-use Rattle.std.proofs.Common.{refl}
 use Rattle.ada_tree.specs.PlainDecl.{plain_entry, plain_priority}
 use Rattle.paged_output.proofs.Drawn.{drew_then}
 use Rattle.ada_printer.proofs.Declared.{front_none, front_more, front_all, items_parted, items_end}

@@ -1,4 +1,4 @@
-use Rattle.std.proofs.Common.{◌≡◌, ◌≤◌, ◌<◌, Some, None, sym, ap, map, option_map, length, refl, rules, arith}
+use Rattle.std.proofs.Common.{◌≡◌, ◌≤◌, ◌<◌, Some, None, sym, map, option_map, length, refl, rules, arith}
 use denote.Param.Weighed.{most}
 use Rattle.ada_tree.proofs.Rows.{rows}
 use Rattle.ada_tree.proofs.statements.Stmt.TheLaws.{the_size}
@@ -8,8 +8,8 @@ use Rattle.ada_tree.specs.declared.statements.Arm.{out-Arm}
 use Rattle.ada_tree.specs.declared.statements.Body.{out-Body}
 use Rattle.ada_tree.specs.declared.statements.Handler.{out-Handler}
 use Rattle.ada_tree.specs.PlainExpr.{plain_expr}
-use Rattle.ada_tree.specs.PlainStmt.{SNull, SAssign, SDelay, SExit, SRaise, SAbort, SCall, SAccept, SWait, SConditional, STimed, SPut, SPutLine, SNewLine, SGet, SIf, SCase, SBlock, SLoop, present, absent, accepting, alternative, AAccept, ADelay, ATerminate, arm, case_arm, body, handler, alts_of, arms_of, case_arms_of, handlers_of, seen, seen_maybe, plain_target, plain_callee, plain_call, plain_formal, plain_part, plain_choice, plain_scheme, plain_stmt, plain_accept, plain_alt, plain_alt_kind, plain_arm, plain_case_arm, plain_body, plain_handler}
-use Rattle.ada_printer.specs.StmtText.{stmt_text, later_alt_text, later_arm_text, case_arm_text, handler_text, alt_kind_text}
+use Rattle.ada_tree.specs.PlainStmt.{SNull, SAssign, SDelay, SExit, SRaise, SAbort, SCall, SAccept, SWait, SConditional, STimed, SPut, SPutLine, SNewLine, SGet, SIf, SCase, SBlock, SLoop, present, absent, accepting, alternative, AAccept, ADelay, ATerminate, arm, case_arm, body, handler, alts_of, arms_of, case_arms_of, handlers_of, seen, plain_target, plain_callee, plain_call, plain_formal, plain_part, plain_choice, plain_scheme, plain_stmt, plain_accept, plain_alt, plain_alt_kind, plain_arm, plain_case_arm, plain_body, plain_handler}
+use Rattle.ada_printer.specs.StmtText.{stmt_text, later_alt_text, later_arm_text, case_arm_text, handler_text}
 use Rattle.paged_output.proofs.Drawn.{drew_none}
 use Rattle.ada_printer.proofs.Listed.{drew_seen_member, drew_seen_all}
 use Rattle.ada_printer.proofs.Rowed.{drew_as, stmts_row, case_arms_row, handlers_row, alts_there, alts_none, arms_there, arms_none}

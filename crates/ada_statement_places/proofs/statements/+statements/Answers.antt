@@ -1,5 +1,5 @@
-use Rattle.std.proofs.Common.{◌≡◌, ◌∙◌, ap, sym, refl, map, option_map, arith}
-use Rattle.ada_tree.specs.PlainStmt.{SPut, SPutLine, plain_part, plain_scheme, plain_stmt, plain_alt, plain_arm, plain_case_arm, plain_handler, plain_formal, row_of, alts_of, arms_of, case_arms_of, handlers_of}
+use Rattle.std.proofs.Common.{◌≡◌, ◌∙◌, ap, refl, map, option_map}
+use Rattle.ada_tree.specs.PlainStmt.{plain_scheme, plain_stmt, plain_alt, plain_arm, plain_case_arm, plain_handler, plain_formal, stmts_of, alts_of, arms_of, case_arms_of, handlers_of}
 use Rattle.ada_tree.specs.declared.statements.Accept.{out-Accept}
 use Rattle.syn_event.specs.declared.meanings.Meant.TheVariants.{Inner}
 use Rattle.syn_event.specs.CheckSites.{with_meant, formal_names, with_parameter, stmts_sites, alts_sites, arms_sites, case_arms_sites, handlers_sites}
@@ -13,7 +13,7 @@ pub walk_stmts-loop-stmt-preserved : goal.walk_stmts-loop-stmt-preserved
 walk_stmts-loop-stmt-preserved t c = record {
   same = c.in_ok-found.ensures.kept ∙ c.loop-stmt.invariant.same;
   told =
-      turn c.args.by.now plain_stmt (λ s xs. stmts_sites s c.args.k (row_of xs)) (λ s x. stmt_met c.args.by.now s c.args.k x) (λ s x xs. stmt_next c.args.by.now s c.args.k x (row_of xs)) c.args.list.now
+      turn c.args.by.now plain_stmt (λ s xs. stmts_sites s c.args.k (stmts_of xs)) (λ s x. stmt_met c.args.by.now s c.args.k x) (λ s x xs. stmt_next c.args.by.now s c.args.k x (stmts_of xs)) c.args.list.now
       c.loop-stmt.stmt-index c.stmt-item.result c.args.around.now c.loop-stmt.around _ _ _ _ c.loop-stmt-test.true c.stmt-item.is c.loop-stmt.invariant.same c.loop-stmt.invariant.told c.in_ok-found.ensures.told c.first-refusal.ensures;
 }
 
@@ -21,7 +21,7 @@ pub walk_stmts-returns : goal.walk_stmts-returns
 walk_stmts-returns t c = record {
   kept = c.loop-stmt.invariant.same;
   told =
-      row_end c.args.by.now plain_stmt (λ xs. stmts_sites c.args.around.now c.args.k (row_of xs)) (λ x. stmt_met c.args.by.now c.args.around.now c.args.k x) (λ x xs. stmt_next c.args.by.now c.args.around.now c.args.k x (row_of xs)) c.args.list.now
+      row_end c.args.by.now plain_stmt (λ xs. stmts_sites c.args.around.now c.args.k (stmts_of xs)) (λ x. stmt_met c.args.by.now c.args.around.now c.args.k x) (λ x xs. stmt_next c.args.by.now c.args.around.now c.args.k x (stmts_of xs)) c.args.list.now
       c.loop-stmt.stmt-index _ _ c.loop-stmt-test.false refl c.loop-stmt.invariant.told;
 }
 

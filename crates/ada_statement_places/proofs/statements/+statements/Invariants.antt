@@ -1,5 +1,5 @@
 use Rattle.std.proofs.Common.{◌≡◌, map, drop}
-use Rattle.ada_tree.specs.PlainStmt.{plain_stmt, plain_alt, plain_arm, plain_case_arm, plain_handler, row_of, alts_of, arms_of, case_arms_of, handlers_of}
+use Rattle.ada_tree.specs.PlainStmt.{plain_stmt, plain_alt, plain_arm, plain_case_arm, plain_handler, stmts_of, alts_of, arms_of, case_arms_of, handlers_of}
 use Rattle.syn_event.specs.CheckSites.{stmts_sites, alts_sites, arms_sites, case_arms_sites, handlers_sites}
 use Rattle.ada_rules.specs.Sooner.{sooner}
 use Rattle.ada_rules.specs.RefusedFirst.{refused_first}
@@ -10,7 +10,7 @@ abbrev pub invariant-walk_stmts-loop-stmt :
     goal.invariant-walk_stmts-loop-stmt
 invariant-walk_stmts-loop-stmt l = record {
   same : l.around ≡ l.fn.around;
-  told : sooner l.refusal (refused_first l.by (stmts_sites l.fn.around l.k (row_of (map plain_stmt (drop l.stmt-index l.list))))) ≡ refused_first l.by (stmts_sites l.fn.around l.k (row_of (map plain_stmt l.list)));
+  told : sooner l.refusal (refused_first l.by (stmts_sites l.fn.around l.k (stmts_of (map plain_stmt (drop l.stmt-index l.list))))) ≡ refused_first l.by (stmts_sites l.fn.around l.k (stmts_of (map plain_stmt l.list)));
 }
 
 abbrev pub invariant-walk_alts-loop-alt :

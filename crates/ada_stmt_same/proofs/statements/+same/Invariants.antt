@@ -1,11 +1,11 @@
 use Rattle.std.proofs.Common.{map, take}
-use Rattle.ada_tree.specs.PlainStmt.{row_of, alts_of, arms_of, case_arms_of, handlers_of, plain_stmt, plain_alt, plain_arm, plain_case_arm, plain_handler}
+use Rattle.ada_tree.specs.PlainStmt.{stmts_of, alts_of, arms_of, case_arms_of, handlers_of, plain_stmt, plain_alt, plain_arm, plain_case_arm, plain_handler}
 use Rattle.ada_tree.specs.Same.{SameStmts, SameAlts, SameArms, SameCaseArms, SameHandlers}
 use Rattle.ada_stmt_same.proofs.statements.+same.Given as goal
 
 abbrev pub invariant-same_stmts-loop-i :
     goal.invariant-same_stmts-loop-i
-invariant-same_stmts-loop-i l = SameStmts l.left l.right (row_of (map plain_stmt (take l.i l.a))) (row_of (map plain_stmt (take l.i l.b)))
+invariant-same_stmts-loop-i l = SameStmts l.left l.right (stmts_of (map plain_stmt (take l.i l.a))) (stmts_of (map plain_stmt (take l.i l.b)))
 
 abbrev pub invariant-same_alts-loop-i :
     goal.invariant-same_alts-loop-i

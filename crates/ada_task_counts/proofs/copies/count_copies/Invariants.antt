@@ -1,16 +1,16 @@
 use Rattle.std.proofs.Common.{◌≡◌, ◌*◌, map, drop}
 use Rattle.syn_event.specs.CheckScope.{CheckScope}
-use Rattle.syn_event.specs.TaskParts.{TaskPart, task_count}
+use Rattle.syn_event.specs.NamedTasks.{NamedTasks, task_count}
 use Rattle.syn_event.specs.CheckSites.{copies_sites}
 use Rattle.ada_rules.specs.Amounts.{capped}
 use Rattle.ada_rules.specs.Sooner.{sooner}
 use Rattle.ada_rules.specs.RefusedFirst.{refused_first}
-use Rattle.ada_task_objects.specs.PlainParts.{plain_part}
+use Rattle.ada_task_objects.specs.PlainNames.{plain_named_tasks}
 use Rattle.ada_task_counts.specs.inner.Shares.{share_of}
 use Rattle.ada_task_counts.proofs.copies.count_copies.Given as goal
 
 -- what is refused so far, and of the names that are left
 abbrev pub invariant-loop-part : goal.invariant-loop-part
 invariant-loop-part l =
-    (around : CheckScope) → sooner l.counted.refusal (refused_first l.by (copies_sites around (λ (x : TaskPart). capped (capped (task_count l.types x) * share_of l.shares x.unit.name.name)) l.counted.count (map plain_part (drop l.part-index l.parts))))
-    ≡ sooner l.initial.counted.refusal (refused_first l.by (copies_sites around (λ (x : TaskPart). capped (capped (task_count l.types x) * share_of l.shares x.unit.name.name)) l.initial.counted.count (map plain_part l.parts)))
+    (around : CheckScope) → sooner l.counted.refusal (refused_first l.by (copies_sites around (λ (x : NamedTasks). capped (capped (task_count l.types x) * share_of l.shares x.unit.name.name)) l.counted.count (map plain_named_tasks (drop l.part-index l.parts))))
+    ≡ sooner l.initial.counted.refusal (refused_first l.by (copies_sites around (λ (x : NamedTasks). capped (capped (task_count l.types x) * share_of l.shares x.unit.name.name)) l.initial.counted.count (map plain_named_tasks l.parts)))

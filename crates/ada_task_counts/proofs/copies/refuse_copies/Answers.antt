@@ -1,14 +1,14 @@
 use Rattle.std.proofs.Common.{map, ap, ◌∙◌}
 use Rattle.ada_tree.specs.PlainDecl.{plain_decl, decls_of}
 use Rattle.ada_tree.specs.PlainProgram.{plain_program}
-use Rattle.ada_task_objects.specs.PlainParts.{plain_part}
+use Rattle.ada_task_objects.specs.PlainNames.{plain_named_tasks}
 use Rattle.ada_task_counts.specs.inner.Shares.{body_shares}
 use Rattle.ada_task_counts.proofs.Copying.{copies_met}
 use Rattle.ada_task_counts.proofs.copies.refuse_copies.Goals as goal
 
 pub returns : goal.returns
 returns c = λ around same.
-    copies_met c.args.by.now around c.args.types.now (map plain_part c.args.parts.now) (plain_program c.args.p.now) _ _ c.body_share.result c.count_on-own.result _ same
+    copies_met c.args.by.now around c.args.types.now (map plain_named_tasks c.args.parts.now) (plain_program c.args.p.now) _ _ c.body_share.result c.count_on-own.result _ same
     c.in_ok-rates.ensures
     (c.in_ok-shares.ensures ∙ ap (λ l. body_shares c.in_ok-rates.rates (decls_of (map plain_decl l))) c.deref.ensures.value)
     c.body_share.ensures

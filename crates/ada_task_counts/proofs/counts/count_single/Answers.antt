@@ -1,4 +1,3 @@
-use Rattle.std.proofs.Common.{ap, ◌∙◌}
 use Rattle.ada_rules.proofs.Listing.{cut}
 use Rattle.ada_rules.proofs.Capping.{count_step, count_all}
 use Rattle.ada_task_counts.proofs.TaskCounting.{entry_more, entry_end}

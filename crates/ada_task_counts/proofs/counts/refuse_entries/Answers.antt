@@ -1,11 +1,11 @@
-use Rattle.ada_task_objects.specs.PlainParts.{plain_part}
+use Rattle.ada_task_objects.specs.PlainNames.{plain_named_tasks}
 use Rattle.ada_rules.proofs.Listing.{cut}
 use Rattle.ada_task_counts.proofs.TaskCounting.{entries_turn, entries_end}
 use Rattle.ada_task_counts.proofs.counts.refuse_entries.Goals as goal
 
 pub loop-part-preserved : goal.loop-part-preserved
 loop-part-preserved c = λ around same.
-    entries_turn c.args.by.now around c.args.types.now plain_part c.args.parts.now c.loop-part.part-index c.part-item.result c.loop-part.counted c.count_entries-counted.result _ same (cut c.args.parts.now c.loop-part.part-index c.part-item.result c.loop-part-test.true c.part-item.is) (c.loop-part.invariant around same) (c.count_entries-counted.ensures around same)
+    entries_turn c.args.by.now around c.args.types.now plain_named_tasks c.args.parts.now c.loop-part.part-index c.part-item.result c.loop-part.counted c.count_entries-counted.result _ same (cut c.args.parts.now c.loop-part.part-index c.part-item.result c.loop-part-test.true c.part-item.is) (c.loop-part.invariant around same) (c.count_entries-counted.ensures around same)
 
 pub returns : goal.returns
-returns c = λ around same. entries_end c.args.by.now around plain_part c.args.parts.now c.loop-part.part-index _ _ _ c.loop-part-test.false (c.loop-part.invariant around same)
+returns c = λ around same. entries_end c.args.by.now around plain_named_tasks c.args.parts.now c.loop-part.part-index _ _ _ c.loop-part-test.false (c.loop-part.invariant around same)

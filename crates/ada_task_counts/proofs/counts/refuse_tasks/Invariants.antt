@@ -3,10 +3,10 @@ use Rattle.syn_event.specs.CheckScope.{CheckScope}
 use Rattle.syn_event.specs.CheckSites.{tasks_sites}
 use Rattle.ada_rules.specs.Sooner.{sooner}
 use Rattle.ada_rules.specs.RefusedFirst.{refused_first}
-use Rattle.ada_task_objects.specs.PlainParts.{plain_part}
+use Rattle.ada_task_objects.specs.PlainNames.{plain_named_tasks}
 use Rattle.ada_task_counts.proofs.counts.refuse_tasks.Given as goal
 
 -- what is refused so far, and of the names that are left
 abbrev pub invariant-loop-part : goal.invariant-loop-part
 invariant-loop-part l =
-    (around : CheckScope) → around.types ≡ l.types → sooner l.counted.refusal (refused_first l.by (tasks_sites around l.counted.count (map plain_part (drop l.part-index l.parts)))) ≡ refused_first l.by (tasks_sites around 0 (map plain_part l.parts))
+    (around : CheckScope) → around.types ≡ l.types → sooner l.counted.refusal (refused_first l.by (tasks_sites around l.counted.count (map plain_named_tasks (drop l.part-index l.parts)))) ≡ refused_first l.by (tasks_sites around 0 (map plain_named_tasks l.parts))

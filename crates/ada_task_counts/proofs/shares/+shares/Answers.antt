@@ -1,4 +1,4 @@
-use Rattle.std.proofs.Common.{◌≡◌, ◌∙◌, sym, ap, map, arith}
+use Rattle.std.proofs.Common.{◌∙◌, sym, ap, map}
 use Rattle.ada_tree.specs.PlainStmt.{plain_stmt, plain_alt, plain_arm, plain_case_arm, plain_handler}
 use Rattle.syn_event.specs.Callees.{stmt_callees}
 use Rattle.ada_task_counts.specs.inner.Shares.{shared}

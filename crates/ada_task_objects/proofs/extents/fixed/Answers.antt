@@ -1,4 +1,4 @@
-use Rattle.std.proofs.Common.{◌≡◌, Some, None, rules}
+use Rattle.std.proofs.Common.{◌≡◌, Some, rules}
 use Rattle.ada_tree.specs.PlainExpr.{plain_expr}
 use Rattle.syn_event.specs.Extents.{fixed}
 use Rattle.ada_task_objects.proofs.Reaching.{fixed_there, fixed_not}

@@ -1,7 +1,7 @@
 use Rattle.std.proofs.Common.{◌≡◌, ◌∙◌, sym, ap, map, option_map, arith, true, false, is_some, []}
 use Rattle.ada_tree.specs.declared.statements.Accept.{out-Accept}
 use Rattle.ada_tree.specs.PlainExpr.{plain_expr}
-use Rattle.ada_tree.specs.PlainStmt.{SConditional, STimed, SCase, absent, present, plain_stmt, plain_alt, plain_arm, plain_case_arm, plain_handler, plain_call, plain_formal, row_of, case_arms_of}
+use Rattle.ada_tree.specs.PlainStmt.{SConditional, STimed, SCase, absent, present, plain_stmt, plain_alt, plain_arm, plain_case_arm, plain_handler, plain_call, plain_formal, stmts_of, case_arms_of}
 use Rattle.ada_tree.specs.Declaring.{with_name, with_formals}
 use Rattle.ada_tree.specs.Sites.{stmt_sites}
 use Rattle.ada_tree.proofs.Rows.{rows}
@@ -90,21 +90,21 @@ walk_accept-returns-in-None-clause-told t c = head_told c.args.scope.now c.args.
 
 pub walk_stmt-returns-in_ok-other-in-Conditional-clause-told : goal.walk_stmt-returns-in_ok-other-in-Conditional-clause-told
 walk_stmt-returns-in_ok-other-in-Conditional-clause-told t c =
-    let shape : plain_stmt c.args.stmt.now ≡ SConditional (plain_call c.in-Conditional.call) (row_of (map plain_stmt c.in-Conditional.behind.items)) (row_of (map plain_stmt c.in-Conditional.otherwise.items)) c.args.stmt.now.span = grind (arith, rows) in
+    let shape : plain_stmt c.args.stmt.now ≡ SConditional (plain_call c.in-Conditional.call) (stmts_of (map plain_stmt c.in-Conditional.behind.items)) (stmts_of (map plain_stmt c.in-Conditional.otherwise.items)) c.args.stmt.now.span = grind (arith, rows) in
     branches_told c.args.scope.now c.walk_stmts-in-Conditional.new.scope (plain_call c.in-Conditional.call) c.in-Conditional.behind.items c.in-Conditional.otherwise.items c.deref-in-Conditional.result.now c.deref-in-Conditional-2.result.now _ _ _ _ _
     c.first-in-Conditional-2.ensures c.first-in-Conditional.ensures c.in_ok-behind-in-Conditional.ensures.kept c.deref-in-Conditional.ensures.value c.deref-in-Conditional-2.ensures.value c.walk_call-head.ensures c.in_ok-behind-in-Conditional.ensures.told c.in_ok-other-in-Conditional.ensures.told
     ∙ ap (λ p. refused_first (stmt_sites c.args.scope.now p)) (sym shape)
 
 pub walk_stmt-returns-in_ok-other-in-Timed-clause-told : goal.walk_stmt-returns-in_ok-other-in-Timed-clause-told
 walk_stmt-returns-in_ok-other-in-Timed-clause-told t c =
-    let shape : plain_stmt c.args.stmt.now ≡ STimed (plain_call c.in-Timed.call) (row_of (map plain_stmt c.in-Timed.behind.items)) c.in-Timed.thousandths (row_of (map plain_stmt c.in-Timed.after.items)) c.args.stmt.now.span = grind (arith, rows) in
+    let shape : plain_stmt c.args.stmt.now ≡ STimed (plain_call c.in-Timed.call) (stmts_of (map plain_stmt c.in-Timed.behind.items)) c.in-Timed.thousandths (stmts_of (map plain_stmt c.in-Timed.after.items)) c.args.stmt.now.span = grind (arith, rows) in
     branches_told c.args.scope.now c.walk_stmts-in-Timed.new.scope (plain_call c.in-Timed.call) c.in-Timed.behind.items c.in-Timed.after.items c.deref-in-Timed.result.now c.deref-in-Timed-2.result.now _ _ _ _ _
     c.first-in-Timed-2.ensures c.first-in-Timed.ensures c.in_ok-behind-in-Timed.ensures.kept c.deref-in-Timed.ensures.value c.deref-in-Timed-2.ensures.value c.walk_call-head-in-Timed.ensures c.in_ok-behind-in-Timed.ensures.told c.in_ok-other-in-Timed.ensures.told
     ∙ ap (λ p. refused_first (stmt_sites c.args.scope.now p)) (sym shape)
 
 pub walk_stmt-returns-in_ok-rest-in-Some-others-clause-told : goal.walk_stmt-returns-in_ok-rest-in-Some-others-clause-told
 walk_stmt-returns-in_ok-rest-in-Some-others-clause-told t c =
-    let shape : plain_stmt c.args.stmt.now ≡ SCase (plain_expr c.in-Case.selector) (case_arms_of (map plain_case_arm c.in-Case.arms.items)) (present (row_of (map plain_stmt c.in-Some-others.list.items))) c.args.stmt.now.span = grind (arith, rows) in
+    let shape : plain_stmt c.args.stmt.now ≡ SCase (plain_expr c.in-Case.selector) (case_arms_of (map plain_case_arm c.in-Case.arms.items)) (present (stmts_of (map plain_stmt c.in-Some-others.list.items))) c.args.stmt.now.span = grind (arith, rows) in
     let others : c.is_some.result ≡ true = c.is_some.ensures ∙ ap is_some c.in-Some-others.is in
     case_others c.args.scope.now c.walk_case_arms.new.scope (plain_expr c.in-Case.selector) c.in-Case.arms.items c.deref-in-Case.result.now c.deref-in-Case-2.result.now c.in-Some-others.list.items c.deref-in-Some-others.result.now c.is_some.result c.args.stmt.now.span c.in_ok-head-in-Case.head _ _ _ _
     c.first-in-Some-others-2.ensures c.first-in-Some-others.ensures c.deref-in-Case.ensures.value c.deref-in-Case-2.ensures.value c.deref-in-Some-others.ensures.value others c.in_ok-inner-in-Case.ensures.kept c.in_ok-head-in-Case.ensures c.in_ok-inner-in-Case.ensures.told c.in_ok-rest-in-Some-others.ensures.told

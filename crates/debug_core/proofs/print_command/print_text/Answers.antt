@@ -2,7 +2,7 @@ use Rattle.std.proofs.Common.{refl, inl}
 use Rattle.ada_tree.specs.PlainProgram.{PProgram, plain_program}
 use Rattle.ada_printer.specs.ProgramText.{program_text}
 use Rattle.debug_core.specs.PrintMeaning.{PrintMeans}
-use Rattle.debug_core.proofs.Calling.{has_put, has_broken}
+use Rattle.debug_outcome.proofs.Comings.{has_put, has_broken}
 use Rattle.debug_core.proofs.ReadingBack.{printed_back}
 use Rattle.debug_core.proofs.print_command.print_text.Goals as goal
 

@@ -8,3 +8,6 @@ returns-in-Run g c = rw c.in-Run.is c.run_command.ensures
 
 pub returns-in-Judge : goal.returns-in-Judge
 returns-in-Judge g c = rw c.in-Judge.is c.judge_command.ensures
+
+pub returns-in-Replay : goal.returns-in-Replay
+returns-in-Replay g c = rw c.in-Replay.is c.replay_command.ensures

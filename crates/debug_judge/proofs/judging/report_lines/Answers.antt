@@ -1,15 +1,16 @@
-use Rattle.std.proofs.Common.{Err, sym, subst, refl, inl}
+use Rattle.std.proofs.Common.{Err, sym, subst, refl, inl, inr}
 use Rattle.ada_tree.specs.PlainProgram.{plain_program}
 use Rattle.task_model.specs.Setting.{Setting}
 use Rattle.task_model.specs.Machine.{Setup}
 use Rattle.task_machine.specs.Table.{setup_in}
 use Rattle.debug_outcome.specs.Coming.{Comes, Never, stop_by}
 use Rattle.debug_outcome.specs.declared.stopping.Stop.{Stop}
-use Rattle.debug_outcome.proofs.Comings.{comes_more, stops_come}
-use Rattle.debug_judge.specs.JudgeOutcomes.{IsVerdictText, JudgesLines, refusal_of_sequence}
+use Rattle.debug_outcome.proofs.Comings.{comes_more, stops_come, stops_more}
+use Rattle.debug_sequence.specs.BadSequences.{IsBadSequence, refusal_of_sequence}
+use Rattle.debug_sequence.proofs.Telling.{stops_sequence}
+use Rattle.debug_judge.specs.JudgeOutcomes.{IsVerdictText, JudgesLines}
 use Rattle.debug_judge.specs.JudgedLines.{AreFound, FailsBy}
 use Rattle.debug_judge.proofs.Giving.{nothing_follows}
-use Rattle.debug_judge.proofs.Judged.{stops_sequence}
 use Rattle.debug_judge.proofs.judging.report_lines.Goals as goal
 
 pub put_verdict-requires-clause-numbers : goal.put_verdict-requires-clause-numbers
@@ -38,6 +39,7 @@ returns-in-Err-Seq g c =
     (g.K.Sink.faults c.args.out.now) (Err stop))
     (sym c.sequence_failure.ensures)
     (stops_come (JudgesLines setup c.args.numbers.now c.args.lines.now c.args.bound) Never (g.K.Sink.told c.args.out.now) (g.K.Sink.faults c.args.out.now) (stop_by (refusal_of_sequence c.in-Err-Seq.error))
-    (stops_sequence setup c.args.numbers.now c.args.lines.now c.args.bound c.in-Err-Seq.error
+    (stops_more (IsBadSequence setup.program.names c.args.numbers.now c.args.lines.now) (JudgesLines setup c.args.numbers.now c.args.lines.now c.args.bound) (stop_by (refusal_of_sequence c.in-Err-Seq.error)) (λ o bad. inr bad)
+    (stops_sequence setup.program.names c.args.numbers.now c.args.lines.now c.in-Err-Seq.error
     (subst (FailsBy setup c.args.numbers.now c.args.lines.now) c.in-Err-Seq.field-0-is
-    (subst (λ (s : Setting). FailsBy (setup_in s c.args.inputs.now) s.numbers c.args.lines.now c.in-Err-Seq.field-0) c.in-Ok.ensures c.in-Err-Seq.ensures.fault))))
+    (subst (λ (s : Setting). FailsBy (setup_in s c.args.inputs.now) s.numbers c.args.lines.now c.in-Err-Seq.field-0) c.in-Ok.ensures c.in-Err-Seq.ensures.fault)))))

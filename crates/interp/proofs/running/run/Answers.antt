@@ -1,7 +1,6 @@
-use Rattle.std.proofs.Common.{◌≡◌, ◌∙◌, arith, Some, refl}
-use Rattle.interp.specs.inner.Chosen.{IsPicked}
-use Rattle.run_model.specs.Picked.{halted}
-use Rattle.interp.proofs.Reaching.{Reached, reached_more, Stopped, stopped, cut_between, cut_within}
+use Rattle.std.proofs.Common.{◌∙◌, arith, refl, sym, true≢false}
+use Rattle.interp.proofs.Keeping.{listed_on}
+use Rattle.interp.proofs.Reaching.{reached_more, reached_none, Stopped, stopped, cut_between, cut_within}
 use Rattle.interp.proofs.running.run.Goals as goal
 use Rattle.interp.proofs.running.run.Given as given
 
@@ -51,4 +50,19 @@ loop-turn-preserved g c =
           c.make.new.m c.loop-turn.choices c.choose.new.choices c.in-Ok-Make.action (g.K.Sink.told c.args.out.now) (g.K.Sink.told c.loop-turn.out)
           (g.K.Sink.told c.make.new.out) c.loop-turn.invariant.0 chosen c.in-Ok.ensures.machine c.in-Ok.ensures.lines,
       c.in-Ok.ensures.no_fault ∙ c.loop-turn.invariant.1,
+      λ kept. listed_on c.loop-turn.m c.make.new.m c.in-Ok-Make.action c.choose.new.actions.items
+          (rw c.in-Ok-Make.field-0-is at c.in-Ok-Make.ensures.listed) chosen.applies c.in-Ok.ensures.machine (sym c.steps_again-is_kept.ensures ∙ kept),
     )
+
+pub loop-turn-init : goal.loop-turn-init
+loop-turn-init g c = (
+  reached_none g.C.Chooser.word g.C.Chooser.next c.args.numbers.now c.args.m.now c.args.choices.now (g.K.Sink.told c.args.out.now),
+  refl,
+  λ kept. absurd (true≢false (sym kept)),
+)
+
+pub choose-requires : goal.choose-requires
+choose-requires g c = c.loop-turn.invariant.2
+
+pub standing-requires : goal.standing-requires
+standing-requires g c = c.loop-turn.invariant.2

@@ -1,4 +1,4 @@
-use Rattle.std.proofs.Common.{◌≡◌, ◌++◌, map, take}
+use Rattle.std.proofs.Common.{◌≡◌, map, take}
 use Rattle.ada_tree.specs.PlainStmt.{plain_formal}
 use Rattle.normal_model.specs.Calls.{slots_of}
 use Rattle.normal_lookups.proofs.forms.marks_of.Given as goal

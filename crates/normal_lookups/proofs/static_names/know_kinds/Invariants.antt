@@ -1,4 +1,4 @@
-use Rattle.std.proofs.Common.{◌≡◌, ◌||◌, ℕ, is_some, take}
+use Rattle.std.proofs.Common.{◌≡◌, ◌||◌, is_some, take}
 use Rattle.ada_tree.specs.declared.naming.NameId.{NameId}
 use Rattle.ada_tree.specs.StaticValue.{literal_position}
 use Rattle.scoped_names.specs.Meaning.{meaning_in}

@@ -1,4 +1,4 @@
-use Rattle.std.proofs.Common.{◌≡◌, length, take, ap, sym, ◌∙◌, refl}
+use Rattle.std.proofs.Common.{length, take, ap, sym, ◌∙◌, refl}
 use Rattle.std.proofs.lemmas.Option.{slice_get_within}
 use Rattle.replay_names.proofs.Places.{id_there, id_nowhere, take-interned}
 use Rattle.replay_names.proofs.finding.find.Goals as goal

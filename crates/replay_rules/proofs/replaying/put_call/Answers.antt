@@ -8,4 +8,4 @@ use Rattle.replay_rules.proofs.replaying.put_call.Goals as goal
 pub returns : goal.returns
 unfolding call_image
 returns c =
-    row-put (plain_image (voice_of c.args.x.now) c.args.s (plain_call c.args.call.now)) (seen c.args.out.now.items) (seen c.put_row.new.out.items) c.put_row.result c.plain_image.result c.put_row.ensures c.plain_image.ensures
+    row-put (plain_image (voice_of c.args.x.now) c.args.s (plain_call c.args.call.now)) (seen c.args.out.now.items) (seen c.put_list.new.out.items) c.put_list.result c.plain_image.result c.put_list.ensures c.plain_image.ensures

@@ -8,4 +8,4 @@ use Rattle.replay_rules.proofs.replaying.put_conditional.Goals as goal
 pub returns : goal.returns
 unfolding choice_image
 returns c =
-    row-put (conditional_image (voice_of c.args.x.now) c.args.s (plain_call c.args.call.now) (seen c.args.behind.items) (seen c.args.otherwise.items)) (seen c.args.out.now.items) (seen c.put_row.new.out.items) c.put_row.result c.conditional_image.result c.put_row.ensures c.conditional_image.ensures
+    row-put (conditional_image (voice_of c.args.x.now) c.args.s (plain_call c.args.call.now) (seen c.args.behind.items) (seen c.args.otherwise.items)) (seen c.args.out.now.items) (seen c.put_list.new.out.items) c.put_list.result c.conditional_image.result c.put_list.ensures c.conditional_image.ensures

@@ -8,4 +8,4 @@ use Rattle.replay_rules.proofs.replaying.put_timed.Goals as goal
 pub returns : goal.returns
 unfolding delay_image
 returns c =
-    row-put (timed_image (voice_of c.args.x.now) c.args.s (plain_call c.args.call.now) (seen c.args.behind.items) c.args.thousandths (seen c.args.after.items)) (seen c.args.out.now.items) (seen c.put_row.new.out.items) c.put_row.result c.timed_image.result c.put_row.ensures c.timed_image.ensures
+    row-put (timed_image (voice_of c.args.x.now) c.args.s (plain_call c.args.call.now) (seen c.args.behind.items) c.args.thousandths (seen c.args.after.items)) (seen c.args.out.now.items) (seen c.put_list.new.out.items) c.put_list.result c.timed_image.result c.put_list.ensures c.timed_image.ensures

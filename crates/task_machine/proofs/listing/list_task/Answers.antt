@@ -1,13 +1,22 @@
-use Rattle.std.proofs.Common.{[], ◌∷◌}
-use Rattle.event_machine.specs.declared.Action.TheVariants.{Local, Arrive, Start, Finish, Else, CallElse, Expire, Fail, Complete, Abort}
-use Rattle.event_machine.specs.Rows.{delay_rows}
-use Rattle.task_machine.specs.Table.{row_of, seat_of, offer_in_seat}
-use Rattle.task_machine.proofs.Filtered.{filter_three}
+use Rattle.std.proofs.Common.{[], ◌∷◌, ◌∙◌, ap, sym}
+use Rattle.event_machine.specs.declared.Action.TheVariants.{Start}
+use Rattle.event_machine.specs.Rows.{rows_of}
+use Rattle.event_machine.specs.Seats.{is_live, is_waiting, is_queued}
+use Rattle.syn_event.specs.Numbering.{owner_of}
+use Rattle.task_model.specs.TaskOps.{task_ops}
+use Rattle.task_machine.specs.Table.{row_of, seen_in}
+use Rattle.task_machine.proofs.Fewer.{of_other, appended_fewer}
 use Rattle.task_machine.proofs.listing.list_task.Goals as goal
 
 pub returns : goal.returns
 returns c =
+    let p = row_of c.args.numbers.now c.args.seats.now c.args.line.now in
+    let s = seen_in c.args.seats.now c.args.line.now in
+    let owner = owner_of c.args.numbers.now in
     let t = c.args.t in
-    filter_three (row_of c.args.numbers.now c.args.seats.now c.args.line.now) c.args.out.now.items c.list.new.out.items c.list_delays.new.out.items
-    c.list-2.new.out.items (Local t ∷ Arrive t ∷ Start t ∷ Finish t ∷ Else t ∷ []) (delay_rows t (offer_in_seat (seat_of c.args.seats.now t)))
-    (CallElse t ∷ Expire t ∷ Fail t ∷ Complete t ∷ Abort t ∷ []) c.in_ok-list.ensures c.in_ok-list_delays.ensures c.in_ok-list-2.ensures
+    appended_fewer p c.args.out.now.items c.push_if.new.out.items (rows_of task_ops s t) (Start t ∷ [])
+    (of_other task_ops owner s t
+    (ap is_live (sym c.standing_at-standing.ensures) ∙ sym c.is_live.ensures ∙ c.if-is_live.false)
+    (ap is_waiting (sym c.standing_at-standing.ensures) ∙ sym c.is_waiting.ensures ∙ c.if-is_waiting.false)
+    (ap is_queued (sym c.standing_at-standing.ensures) ∙ sym c.is_queued.ensures ∙ c.if-is_queued.false))
+    c.in_ok-push_if.ensures

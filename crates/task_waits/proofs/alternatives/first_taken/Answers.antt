@@ -1,4 +1,4 @@
-use Rattle.std.proofs.Common.{refl, ◌∙◌, sym, ap, option_map}
+use Rattle.std.proofs.Common.{refl}
 use Rattle.task_waits.specs.Standing.{task_here, plain_parts}
 use Rattle.task_waits.proofs.Opens.{opens_all, taken_first, taken_more, taken_found, taken_none}
 use Rattle.task_waits.proofs.alternatives.first_taken.Goals as goal

@@ -1,6 +1,6 @@
 use Rattle.ada_tree.specs.PlainStmt.{plain_accept}
 use Rattle.task_waits.specs.Standing.{task_here}
-use Rattle.task_waits.proofs.Offering.{accept_is_for, accept_not_for}
+use Rattle.task_waits.proofs.Offering.{accept_not_for}
 use Rattle.task_waits.proofs.alternatives.is_for.Goals as goal
 
 pub returns-in-Err : goal.returns-in-Err

@@ -1,11 +1,11 @@
-use Rattle.std.proofs.Common.{◌≡◌, ◌≤◌, ◌+◌, ◌∙◌, ◌++◌, refl, sym, ap, subst, length, map, vec_capacity, Option, Ok, arith}
+use Rattle.std.proofs.Common.{◌+◌, ◌∙◌, ◌++◌, refl, sym, ap, subst, map, arith}
 use Rattle.std.proofs.lemmas.List.{length-append}
 use Rattle.std.specs.List.{filter_map}
 use Rattle.ada_tree.specs.PlainStmt.{plain_alt, alts_of}
-use Rattle.task_model.specs.Waits.{Open, alternatives_open}
+use Rattle.task_model.specs.Waits.{alternatives_open}
 use Rattle.task_waits.specs.Standing.{task_here}
 use Rattle.task_waits.specs.inner.Choosing.{chosen, with_choice, opens_or_none, alternative_open}
-use Rattle.task_waits.proofs.Opens.{delays_before, delays_none, delays_more, counted_with, opens_from, opens_all, AreLeft, choices_first, choices_more, choices_end, left_within}
+use Rattle.task_waits.proofs.Opens.{delays_none, delays_more, counted_with, opens_from, opens_all, AreLeft, choices_first, choices_more, choices_end, left_within}
 use Rattle.task_waits.proofs.choosing.put_choices.Goals as goal
 
 pub loop-alt-init : goal.loop-alt-init

@@ -1,4 +1,4 @@
-use Rattle.std.proofs.Common.{refl, ◌∙◌, sym, ap, arith}
+use Rattle.std.proofs.Common.{refl, arith}
 use Rattle.ada_tree.specs.PlainStmt.{seen}
 use Rattle.task_waits.proofs.Opens.{delay_more, delay_found, delay_none}
 use Rattle.task_waits.proofs.delays.delay_stmts.Goals as goal

@@ -1,4 +1,4 @@
-use Rattle.std.proofs.Common.{◌≡◌, ◌∙◌, sym, ap, arith}
+use Rattle.std.proofs.Common.{◌∙◌, ap}
 use Rattle.ada_tree.specs.PlainStmt.{plain_stmt, seen}
 use Rattle.task_waits.specs.Room.{widest_stmts}
 use Rattle.task_waits.proofs.Widths.{width_more, width_end, stmt_one, stmt_all, stmt_widths, alt_one, alt_all, alt_widths, arm_one, arm_all, arm_widths, case_arm_one, case_arm_all, case_arm_widths, handler_one, handler_all, handler_widths, widest_of}

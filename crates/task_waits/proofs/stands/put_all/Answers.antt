@@ -1,13 +1,12 @@
-use Rattle.std.proofs.Common.{◌≡◌, ◌≤◌, ◌+◌, ◌∙◌, ◌++◌, refl, sym, ap, length, map, arith, List}
+use Rattle.std.proofs.Common.{◌∙◌, refl, ap, length, map, arith}
 use Rattle.std.proofs.lemmas.List.{length-append}
 use Rattle.std.specs.List.{filter_map}
-use Rattle.event_machine.specs.declared.Choice.{Choice}
 use Rattle.ada_tree.specs.PlainStmt.{plain_alt, alts_of}
 use Rattle.task_model.specs.Waits.{alternatives_open, else_choice}
 use Rattle.task_waits.specs.Standing.{task_here}
 use Rattle.task_waits.specs.declared.choosing.Sort.TheVariants as sort
 use Rattle.task_waits.specs.inner.Choosing.{chosen, opens_or_none}
-use Rattle.task_waits.proofs.Offering.{open_then, all_fit, else_few, all_put}
+use Rattle.task_waits.proofs.Offering.{all_fit, else_few, all_put}
 use Rattle.task_waits.proofs.stands.put_all.Goals as goal
 
 pub put_choices-requires-clause-room : goal.put_choices-requires-clause-room

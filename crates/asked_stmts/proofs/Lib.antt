@@ -1,0 +1,5 @@
+pub mod Lists
+pub mod Placed
+pub mod Typed
+pub mod Checked
+pub mod Together

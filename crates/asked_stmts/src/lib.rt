@@ -1,0 +1,2 @@
+//! What is asked of the statements of a body, statement by statement.
+#![tactic(auto)]

@@ -1,0 +1,2 @@
+pub mod TextOutcomes
+pub mod OneReplay

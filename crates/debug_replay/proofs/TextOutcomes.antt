@@ -1,0 +1,70 @@
+-- What the parts of replaying come to: the printed text, the limits, and the refusal of a sequence.
+use Rattle.std.proofs.Common.{◌≡◌, ◌<◌, ◌≤◌, ℕ, Bool, true, false, nat_lt, List, length, Result, Ok, Err, inl, inr, sym, ap, ◌∙◌, subst, arith}
+use Rattle.std.specs.Prelude.{◌⊎◌, min, if◌then◌else◌}
+use Rattle.std.proofs.lemmas.Bool.Decides.{nat_tests}
+use Rattle.ded_io.specs.Counts.{last_count}
+use Rattle.ada_tree.specs.PlainProgram.{PProgram}
+use Rattle.ada_tree.specs.TypeTable.{TypeTable}
+use Rattle.ada_printer.specs.ProgramText.{program_text}
+use Rattle.event_machine.specs.declared.Event.{Event}
+use Rattle.syn_event.specs.Numbering.{Numbering}
+use Rattle.seq_file.specs.Files.{SeqReads}
+use Rattle.normal_form.specs.declared.errors.XformError.{XformError}
+use Rattle.normal_form.specs.declared.errors.XformError.TheVariants as error
+use Rattle.replay_model.specs.ReplayTree.{most_events, replay_tree, replayed}
+use Rattle.debug_files.specs.Wanting.{text_limit}
+use Rattle.debug_outcome.specs.Coming.{Stops, stop_by}
+use Rattle.debug_outcome.specs.Outcomes.{Outcome, writes, refuses}
+use Rattle.debug_outcome.specs.declared.refusal.Refusal.TheVariants.{LongText, TooMany}
+use Rattle.debug_outcome.specs.declared.refusal.Listed.TheVariants.{Events}
+use Rattle.debug_replay.specs.ReplayOutcomes.{ReplaysLines, printed_outcome, replay_outcome, refusal_of_replay}
+
+lesser : (a b : ℕ) → a < b → nat_lt a b ≡ true
+lesser a b h = grind (arith, nat_tests)
+
+not_lesser : (a b : ℕ) → b ≤ a → nat_lt a b ≡ false
+not_lesser a b h = grind (arith, nat_tests)
+
+-- ---- the length of a text
+
+module _ (p : PProgram) where
+  pub long_text : nat_lt text_limit (length (program_text p)) ≡ true → refuses (LongText text_limit) ≡ printed_outcome p
+  long_text h = sym (ap (λ (b : Bool). if b then refuses (LongText text_limit) else writes (program_text p) 0) h)
+
+  pub short_text : nat_lt text_limit (length (program_text p)) ≡ false → writes (program_text p) 0 ≡ printed_outcome p
+  short_text h = sym (ap (λ (b : Bool). if b then refuses (LongText text_limit) else writes (program_text p) 0) h)
+
+  -- the same by the length that was counted
+  pub long_by : (n : ℕ) → n ≡ min (length (program_text p)) last_count → text_limit < n → refuses (LongText text_limit) ≡ printed_outcome p
+  long_by n counted more = long_text (lesser text_limit (length (program_text p)) (omega (arith, counted, more)))
+
+  pub short_by : (n : ℕ) → n ≡ min (length (program_text p)) last_count → n ≤ text_limit → writes (program_text p) 0 ≡ printed_outcome p
+  short_by n counted less = short_text (not_lesser text_limit (length (program_text p)) (omega (arith, counted, less)))
+
+-- ---- the error of an answer
+
+abbrev error_or : {A : Type 0} → Result A XformError → XformError → XformError
+error_or (Ok x) d = d
+error_or (Err e) d = e
+
+pub one_error : {A : Type 0} (r : Result A XformError) (e d : XformError) → r ≡ Err e → r ≡ Err d → e ≡ d
+one_error {A} r e d h k = ap (λ (x : Result A XformError). error_or x e) (sym h ∙ k)
+
+-- ---- the replay text of the events that the lines are
+
+module _ (p : PProgram) (types : TypeTable) (numbers : Numbering) (lines : List ℕ) (events : List Event) (reads : SeqReads lines numbers p.names events) where
+  pub text_called : (text : PProgram) (o : Outcome) → replayed p types numbers events ≡ Ok text → o ≡ printed_outcome text → ReplaysLines p types numbers lines o
+  text_called text o made is = inl (record { events = events; reads = reads; is = is ∙ sym (ap replay_outcome made) })
+
+  too_many : nat_lt most_events (length events) ≡ true → ReplaysLines p types numbers lines (refuses (TooMany Events most_events))
+  too_many h =
+      inl (record {
+        events = events;
+        reads = reads;
+        is = sym (ap (λ (b : Bool). replay_outcome (if b then Err most_events else Ok (replay_tree p types numbers events))) h);
+      })
+
+  pub stops_replay : (e : XformError) → (nat_lt most_events (length events) ≡ true → e ≡ error.TooManyEvents most_events) → (e ≡ error.Memory) ⊎ (nat_lt most_events (length events) ≡ true) →
+      Stops (ReplaysLines p types numbers lines) (stop_by (refusal_of_replay e))
+  stops_replay e limit (inl none) = subst (λ (x : XformError). Stops (ReplaysLines p types numbers lines) (stop_by (refusal_of_replay x))) (sym none) tt
+  stops_replay e limit (inr long) = subst (λ (x : XformError). Stops (ReplaysLines p types numbers lines) (stop_by (refusal_of_replay x))) (sym (limit long)) (too_many long)

@@ -1,0 +1,72 @@
+//! The replay text of a program and of the lines of a sequence, on the output.
+
+ghost use Rattle.std.specs.Prelude.{◌≡◌, ◌<◌, ◌-◌, ◌^◌, length, true};
+ghost use Rattle.ada_tree.specs.PlainProgram.{plain_program};
+ghost use Rattle.syn_event.specs.Units.{text_of};
+ghost use Rattle.seq_file.specs.Lines.{is_upper_name};
+ghost use Rattle.debug_outcome.specs.Coming.{Comes, Never, stop_by};
+ghost use Rattle.debug_replay.specs.ReplayOutcomes.{ReplaysLines, printed_outcome, refusal_of_replay};
+
+use ada_printer::{print, text_len};
+use ada_tree::{Program, Types};
+use debug_files::TEXT_LIMIT;
+use debug_outcome::{Listed, Refusal, Stop};
+use debug_sequence::sequence_failure;
+use ded_io::Sink;
+use normal_form::XformError;
+use replay_xform::replay;
+use seq_file::read_seq;
+use std::alloc::Global;
+use syn_event::Numbers;
+
+/// Writes the replay text of a program with these types and numbers and of the sequence that the lines are, and answers 0. Lines that are no
+/// sequence of the program are refused with the fault of the first bad one; so are more events than are replayed, and a text that is longer than
+/// a program that is run. All of the text is made before any of it is put.
+pub fn write_replay<'w, K: Sink>(
+    alloc: Global,
+    program: &Program,
+    types: &Types,
+    numbers: &Numbers,
+    lines: &[u8],
+    out: &mut K,
+) -> Result<u8, Stop<'w>>
+    requires length { length lines.now < 2 ^ 32 - 1 }
+    requires name { is_upper_name (text_of program.now.names numbers.now.main) ≡ true }
+    ensures { Comes (ReplaysLines (plain_program program.now) types.now numbers.now lines.now) Never (K.told out.old) (K.told out.new) (K.faults out.old) (K.faults out.new) result }
+{
+    let events = match read_seq(alloc, lines, numbers, &program.names) {
+        Ok(events) => events,
+        Err(error) => return Err(sequence_failure(error)),
+    };
+    match replay(alloc, program, types, numbers, &events) {
+        Ok(text) => put_text(&text, out),
+        Err(error) => Err(replay_failure(error)),
+    }
+}
+
+// Writes the text of a program, unless it is longer than a program that is run.
+fn put_text<'w, K: Sink>(text: &Program, out: &mut K) -> Result<u8, Stop<'w>>
+    ensures { Comes (λ o. o ≡ printed_outcome (plain_program text.now)) Never (K.told out.old) (K.told out.new) (K.faults out.old) (K.faults out.new) result }
+{
+    if text_len(text) > TEXT_LIMIT {
+        return Err(Stop::Refused(Refusal::LongText { limit: TEXT_LIMIT }));
+    }
+    match print(text, out) {
+        Ok(()) => Ok(0),
+        Err(_) => Err(Stop::OutputFailed),
+    }
+}
+
+// Why a command stops where a sequence is not replayed.
+fn replay_failure<'w>(error: XformError) -> Stop<'w>
+    ensures { result ≡ stop_by (refusal_of_replay error) }
+{
+    match error {
+        XformError::TooManyEvents { limit } => Stop::Refused(Refusal::TooMany {
+            what: Listed::Events,
+            limit,
+        }),
+        XformError::Memory => Stop::Memory,
+        XformError::HasAbort { .. } => Stop::Memory,
+    }
+}

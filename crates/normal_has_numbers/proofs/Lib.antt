@@ -1,0 +1,9 @@
+pub mod Extents
+pub mod Named
+pub mod TasksNumbered
+pub mod Listed
+pub mod Tasked
+pub mod TaskNames
+pub mod Origins
+pub mod Numbered
+pub mod Examples

@@ -1,6 +1,0 @@
-use Rattle.std.proofs.Common.{◌≡◌, map, drop}
-use Rattle.normal_lookups.proofs.rows.parts_named.Given as goal
-
--- the parts from a place on stand there
-abbrev pub invariant-loop-place : goal.invariant-loop-place
-invariant-loop-place l = l.rows ≡ map (λ x. (x.name.name.0, x.row)) (drop l.place l.parts)

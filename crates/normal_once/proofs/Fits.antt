@@ -1,0 +1,106 @@
+-- What a program names is fit in its parts: its declarations, what stands in its tasks and bodies, and the first declarations of its normal form.
+use Rattle.std.proofs.Common.{◌≡◌, ℕ, true, List, [], ◌∷◌, ◌++◌, refl, ap, ◌∙◌, subst}
+use Rattle.std.specs.List.{AllByRecursion}
+use Rattle.std.proofs.lemmas.Grind.{flat_map-append}
+use Rattle.ada_tree.specs.PlainProgram.{PProgram}
+use Rattle.ada_tree.specs.Scope.{Scope}
+use Rattle.ada_tree.specs.Demand.{Site}
+use Rattle.ada_tree.specs.Declaring.{before_all, first_scope, inside, after_decls}
+use Rattle.ada_tree.specs.Sites.{names_sites, decls_sites, body_sites, sites}
+use Rattle.ada_tree.specs.Refusals.{MeetsTypeRules}
+use Rattle.syn_event.specs.Units.{decl_list}
+use Rattle.rewritten_types.proofs.Refused.{declared_once}
+use Rattle.legal_sites.proofs.Meeting.{all-front, all-back}
+use Rattle.normal_once.specs.Naming.{Naming, namings_of}
+use Rattle.normal_once.specs.Apart.{IsFreeOf, AreApart, AreDistinct, IsAlone, fixed_name, loose_name, fixed_names, loose_names, IsFitIn, AreFit}
+use Rattle.normal_once.specs.Names.{body_names, IsFitDecl}
+use Rattle.normal_once.specs.Laws.{FirstIsFit, TaskNamesAreFixed, InnerIsFit}
+use Rattle.normal_once.proofs.Quiet.{namings_append}
+use Rattle.normal_once.proofs.Once.{apart-front, apart-back, distinct-front, distinct-back}
+use Rattle.normal_once.proofs.Leaving.{Leaves, leaves-alone, leaves-fixed, leaves-loose, leaves-distinct}
+use Rattle.normal_once.proofs.TaskTypes.{first-types}
+use Rattle.normal_once.proofs.FirstDecls.{first-leaves}
+use Rattle.normal_once.proofs.Places.{body-is}
+use Rattle.normal_once.proofs.Parts.{all-fit-in, decls-fit-in}
+use Rattle.normal_once.proofs.TaskNames.{names-fixed}
+use Rattle.normal_once.proofs.Rules.{program-fit}
+
+-- ---- parts of namings
+
+distinct-parts : (a b : List Naming) → AreFit (a ++ b) → AreDistinct (fixed_names a ++ fixed_names b)
+distinct-parts a b h = subst AreDistinct (flat_map-append fixed_name a b) h.distinct
+
+apart-parts : (a b : List Naming) → AreFit (a ++ b) → AreApart (fixed_names a ++ fixed_names b) (loose_names a ++ loose_names b)
+apart-parts a b h =
+    subst (λ (l : List ℕ). AreApart (fixed_names a ++ fixed_names b) l) (flat_map-append loose_name a b)
+    (subst (λ (l : List ℕ). AreApart l (loose_names (a ++ b))) (flat_map-append fixed_name a b) h.apart)
+
+-- what stands in front is fit, and what stands behind
+pub fit-front : (a b : List Naming) → AreFit (a ++ b) → AreFit a
+fit-front a b h = record {
+  alone = all-front IsAlone a b h.alone;
+  distinct = distinct-front (fixed_names a) (fixed_names b) (distinct-parts a b h);
+  apart = all-front (IsFreeOf (fixed_names a)) (loose_names a) (loose_names b) (apart-front (fixed_names a) (fixed_names b) (loose_names a ++ loose_names b) (apart-parts a b h));
+}
+
+pub fit-back : (a b : List Naming) → AreFit (a ++ b) → AreFit b
+fit-back a b h = record {
+  alone = all-back IsAlone a b h.alone;
+  distinct = distinct-back (fixed_names a) (fixed_names b) (distinct-parts a b h);
+  apart = all-back (IsFreeOf (fixed_names b)) (loose_names a) (loose_names b) (apart-back (fixed_names a) (fixed_names b) (loose_names a ++ loose_names b) (apart-parts a b h));
+}
+
+-- what is left of fit namings is fit
+pub leaves-fit : {A B : List Naming} → Leaves A B → AreFit A → AreFit B
+leaves-fit {A = A} {B = B} l h = record {
+  alone = leaves-alone l h.alone;
+  distinct = leaves-distinct l h.distinct;
+  apart = leaves-fixed l (loose_names B) (leaves-loose l (fixed_names A) h.apart);
+}
+
+-- ---- programs
+
+module _ (p : PProgram) (meets : MeetsTypeRules p) where
+  abbrev s : Scope
+  s = first_scope p.name
+
+  abbrev first : List Site
+  first = names_sites true before_all (p.name ∷ [])
+
+  abbrev decls : List Site
+  decls = decls_sites s p.decls
+
+  abbrev last : List Site
+  last = body_sites (inside (after_decls s p.decls)) p.body
+
+  -- what is named in three parts
+  parts : namings_of (sites p) ≡ (namings_of first ++ namings_of decls) ++ namings_of last
+  parts = namings_append (first ++ decls) last ∙ ap (λ (l : List Naming). l ++ namings_of last) (namings_append first decls)
+
+  pub decls-fit : AreFit (namings_of decls)
+  decls-fit = fit-back (namings_of first) (namings_of decls) (fit-front (namings_of first ++ namings_of decls) (namings_of last) (subst AreFit parts (program-fit p meets)))
+
+  abbrev fixed : List ℕ
+  fixed = fixed_names (namings_of (sites p))
+
+  all-fit : AllByRecursion (IsFitIn fixed) ((namings_of first ++ namings_of decls) ++ namings_of last)
+  all-fit = subst (AllByRecursion (IsFitIn fixed)) parts (all-fit-in fixed (namings_of (sites p)) (program-fit p meets).alone (program-fit p meets).apart)
+
+  inner : AllByRecursion (IsFitDecl fixed) (decl_list p.decls) × AllByRecursion (IsFitIn fixed) (body_names p.body)
+  inner = (
+    decls-fit-in fixed p.decls s (all-back (IsFitIn fixed) (namings_of first) (namings_of decls) (all-front (IsFitIn fixed) (namings_of first ++ namings_of decls) (namings_of last) all-fit)),
+    subst (AllByRecursion (IsFitIn fixed)) (body-is (inside (after_decls s p.decls)) p.body) (all-back (IsFitIn fixed) (namings_of first ++ namings_of decls) (namings_of last) all-fit),
+  )
+
+pub inner_is_fit : InnerIsFit
+inner_is_fit p e = inner p e
+
+pub task_names_are_fixed : TaskNamesAreFixed
+task_names_are_fixed p e = names-fixed p.decls [] (first_scope p.name) refl tt (declared_once p e).1
+
+pub first_is_fit : FirstIsFit
+first_is_fit p e =
+    leaves-fit
+    (first-leaves p.decls [] (first_scope p.name) (first_scope p.name)
+    record { main = refl; main' = refl; here = λ x h. h; instance = λ h. h; types = first-types p.name; types' = first-types p.name })
+    (decls-fit p e)

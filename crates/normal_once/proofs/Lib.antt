@@ -1,0 +1,13 @@
+pub mod Once
+pub mod Quiet
+pub mod Places
+pub mod Rewritten
+pub mod Leaving
+pub mod TaskTypes
+pub mod FirstDecls
+pub mod Rules
+pub mod Parts
+pub mod TaskNames
+pub mod Fits
+pub mod Declared
+pub mod Whole

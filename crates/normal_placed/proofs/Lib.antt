@@ -1,0 +1,12 @@
+pub mod Depth
+pub mod Calls
+pub mod Guards
+pub mod Made
+pub mod Texts
+pub mod Names
+pub mod Subtypes
+pub mod Whole
+pub mod Tables
+pub mod Tasks
+pub mod Originals
+pub mod Instance

@@ -1,0 +1,3 @@
+pub mod Placeable
+pub mod Example
+pub mod Laws
