@@ -3,7 +3,6 @@ use Rattle.std.specs.Prelude.{◌≡◌, ◌==◌, ℕ, ◌+◌, ◌-◌, Bool, 
 use Rattle.std.proofs.Common.{sym, ap, ◌∙◌, arith, length-append}
 use Rattle.std.specs.List.{list_any}
 use Rattle.std.specs.Option.{option_to_list}
-use Rattle.std.proofs.lemmas.Bool.Decides.{nat_tests}
 use Rattle.std.proofs.lemmas.List.{reverse-append}
 use Rattle.std.proofs.lemmas.List.Sorted.{list_any-IsPermutation, IsPermutation-reverse}
 use Rattle.std.proofs.Math.Seq.{drop-append_seam}
@@ -12,6 +11,7 @@ use Rattle.ada_tree.specs.declared.naming.NameId.{NameId}
 use Rattle.syn_event.specs.declared.meanings.Meant.{Meant}
 use Rattle.syn_event.specs.CheckScope.{Unit}
 use Rattle.ada_check_scopes.specs.Around.{unit_of_id}
+use Rattle.common_lemmas.proofs.Numbers.{equal_is, seam_at}
 
 -- ---- lists that are kept from the first to the last
 
@@ -30,9 +30,6 @@ popped old new (Some x) h g = sym (ap (λ l. drop 1 (reverse l)) h ∙ ap (drop 
 
 -- ---- names that are left
 
-seam_at : (m n k : ℕ) → m ≡ n + k → m - k ≡ n
-seam_at m n k h = omega (arith, h)
-
 behind_new : (outer new names : List (ℕ × Meant)) (count : ℕ) → count ≡ length outer → names ≡ new ++ outer → drop (length names - count) names ≡ outer
 behind_new outer new names count counted named =
     let many : length names ≡ length new + count = ap length named ∙ length-append new outer ∙ ap (λ n. length new + n) (sym counted) in
@@ -44,9 +41,6 @@ pub left_names : (outer inner new names left : List (ℕ × Meant)) (count : ℕ
 left_names outer inner new names left count counted within named leaves = leaves ∙ behind_new outer new names count counted (named ∙ within)
 
 -- ---- the entries of a unit
-
-eq_is : (a b : ℕ) → (a == b) ≡ true → a ≡ b
-eq_is a b h = grind (arith, nat_tests)
 
 abbrev entries_at : Option (List NameId) → List NameId
 entries_at (Some l) = l
@@ -62,7 +56,7 @@ module _ {T : Type 0} (f : T → List NameId) where
 
   entries_seen : (units : List (ℕ × T)) (name : ℕ) → unwrap_or (find (λ u. u.name.0 == name) (map (λ x. unit_of_id x.0 (f x.1)) units)) (unit_of_id name []) ≡ unit_of_id name (entries_at (option_map f (meaning_in units name)))
   entries_seen [] name = refl
-  entries_seen (s ∷ rest) name = at_unit s rest name (s.0 == name) (eq_is s.0 name) (entries_seen rest name)
+  entries_seen (s ∷ rest) name = at_unit s rest name (s.0 == name) (equal_is s.0 name) (entries_seen rest name)
 
   pub unit_there : (units : List (ℕ × T)) (all : List Unit) (name : ℕ) (o : Option T) (e : T) → o ≡ meaning_in units name → o ≡ Some e → map (λ x. unit_of_id x.0 (f x.1)) units ≡ all
       → unwrap_or (find (λ u. u.name.0 == name) all) (unit_of_id name []) ≡ unit_of_id name (f e)

@@ -1,6 +1,6 @@
 -- Names are declared around the statements of an accept or a loop, and what stood around it is there again behind it.
 use Rattle.std.specs.Prelude.{◌≡◌, ℕ, ◌+◌, ◌<◌, ◌≤◌, Bool, true, List, [], ◌∷◌, ◌++◌, length, map, take, drop, Option, Some, None, refl}
-use Rattle.std.proofs.Common.{sym, ap, ◌∙◌, arith, get_or, length-append}
+use Rattle.std.proofs.Common.{sym, ap, ◌∙◌, get_or, length-append}
 use Rattle.std.proofs.lemmas.List.{map_more, append-nil}
 use Rattle.std.proofs.lemmas.Grind.{take_at_read, flat_map-append}
 use Rattle.ada_tree.specs.declared.naming.NameId.{NameId}
@@ -13,6 +13,7 @@ use Rattle.syn_event.specs.CheckScope.{CheckScope}
 use Rattle.syn_event.specs.CheckSites.{with_meant, formal_names, with_parameter}
 use Rattle.ada_check_scopes.specs.Nested.{IsWithin, IsOutside}
 use Rattle.ada_check_scopes.specs.declared.check_scopes.OutsideAccept.{OutsideAccept}
+use Rattle.common_lemmas.proofs.Numbers.{within_sum}
 
 abbrev known : Meant → Word → ℕ × Meant
 known m w = (w.name.0, m)
@@ -63,11 +64,8 @@ declared_only : (m : Meant) (s : CheckScope) (ws : List Word) (names : List (ℕ
 declared_only m s [] names = refl
 declared_only m s (w ∷ ws) names = declared_only m (record s { names = known m w ∷ s.names }) ws names
 
-longer : (count all new old : ℕ) → count ≡ old → all ≡ new + old → count ≤ all
-longer count all new old p q = omega arith
-
 pub room : (s now : CheckScope) (count : ℕ) → count ≡ length s.names → IsWithin now s → count ≤ length now.names
-room s now count h within = longer count (length now.names) (length within.0) (length s.names) h (ap length within.1 ∙ length-append within.0 s.names)
+room s now count h within = within_sum count (length now.names) (length within.0) (length s.names) h (ap length within.1 ∙ length-append within.0 s.names)
 
 -- ---- an accept
 

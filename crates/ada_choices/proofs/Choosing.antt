@@ -3,8 +3,7 @@ use Rattle.std.specs.Prelude.{◌≡◌, ◌↔◌, ◌⊎◌, ℕ, zero, suc, �
 use Rattle.std.specs.List.{list_any, list_all}
 use Rattle.std.proofs.Common.{sym, ap, ◌∙◌, subst, inl, inr, ⊎_elim, arith, get_or, ◌<◌, ◌≤◌, ◌+◌}
 use Rattle.std.proofs.lemmas.Int.{ints, by_lt_z}
-use Rattle.std.proofs.lemmas.Bool.{and_from as both_true, and_parts, or_cases, or_left, or_right}
-use Rattle.std.proofs.lemmas.Bool.Decides.{nat_tests}
+use Rattle.std.proofs.lemmas.Bool.{and_from as both_true, or_cases, or_left, or_right}
 use Rattle.std.proofs.lemmas.List.{map_more, append-nil, take_all}
 use Rattle.std.proofs.Common.{append_assoc}
 use Rattle.ada_tree.specs.declared.naming.Span.{Span}
@@ -26,20 +25,10 @@ use Rattle.ada_choices.specs.inner.Chosen.{AreChosen, Shows, contains, seen_afte
 use Rattle.ada_choices.specs.declared.choices.Chosen.{Chosen}
 use Rattle.ada_refusals.proofs.SoonerLaws.{sooner_assoc, sooner_none, found_append}
 use Rattle.ada_refusals.proofs.Meeting.{met_append, met_cons, met_one}
+use Rattle.common_lemmas.proofs.Numbers.{int_le_is, int_le_true, next_not_zero}
+use Rattle.common_lemmas.proofs.Truth.{and_left, and_right, or_false}
 
 -- ---- tests
-
-le_true : (a b : ℤ) → a ≤ℤ b → int_le a b ≡ true
-le_true a b h = grind (arith, ints)
-
-true_le : (a b : ℤ) → int_le a b ≡ true → a ≤ℤ b
-true_le a b h = grind (arith, ints)
-
-left_true : (p q : Bool) → (p && q) ≡ true → p ≡ true
-left_true p q h = (and_parts p q h).0
-
-right_true : (p q : Bool) → (p && q) ≡ true → q ≡ true
-right_true p q h = (and_parts p q h).1
 
 -- a test is what it decides
 decided : {P : Type 0} (p q : Bool) → (p ≡ true → P) → (P → p ≡ true) → (q ≡ true → P) → (P → q ≡ true) → p ≡ q
@@ -51,12 +40,12 @@ decided false false a b c d = refl
 -- ---- values that ranges have
 
 within : (z : ℤ) (r : Range) → r.first ≤ℤ z → z ≤ℤ r.last → contains z r ≡ true
-within z r g h = both_true (int_le r.first z) (int_le z r.last) (le_true r.first z g) (le_true z r.last h)
+within z r g h = both_true (int_le r.first z) (int_le z r.last) (int_le_true r.first z g) (int_le_true z r.last h)
 
 meeting_one : (r q : Range) (z : ℤ) → r.first ≤ℤ z → z ≤ℤ r.last → contains z q ≡ true → do_overlap r q ≡ true
 meeting_one r q z g h c =
-    let a : q.first ≤ℤ z = true_le q.first z (left_true (int_le q.first z) (int_le z q.last) c) in
-    let b : z ≤ℤ q.last = true_le z q.last (right_true (int_le q.first z) (int_le z q.last) c) in
+    let a : q.first ≤ℤ z = int_le_is q.first z (and_left (int_le q.first z) (int_le z q.last) c) in
+    let b : z ≤ℤ q.last = int_le_is z q.last (and_right (int_le q.first z) (int_le z q.last) c) in
     let i : int_le r.first r.last ≡ true = grind (arith, ints) in
     let j : int_le q.first q.last ≡ true = grind (arith, ints) in
     let k : int_le r.first q.last ≡ true = grind (arith, ints) in
@@ -73,10 +62,10 @@ itself a = grind (arith, ints)
 shared : (r q : Range) → do_overlap r q ≡ true → (z : ℤ) × ((r.first ≤ℤ z) × (z ≤ℤ r.last) × (contains z q ≡ true))
 shared r q h =
     let all : (int_le r.first r.last && int_le q.first q.last && int_le r.first q.last && int_le q.first r.last) ≡ true = h in
-    let i : r.first ≤ℤ r.last = true_le _ _ (left_true _ _ (left_true _ _ (left_true _ _ all))) in
-    let j : q.first ≤ℤ q.last = true_le _ _ (right_true _ _ (left_true _ _ (left_true _ _ all))) in
-    let k : r.first ≤ℤ q.last = true_le _ _ (right_true _ _ (left_true _ _ all)) in
-    let l : q.first ≤ℤ r.last = true_le _ _ (right_true _ _ all) in
+    let i : r.first ≤ℤ r.last = int_le_is _ _ (and_left _ _ (and_left _ _ (and_left _ _ all))) in
+    let j : q.first ≤ℤ q.last = int_le_is _ _ (and_right _ _ (and_left _ _ (and_left _ _ all))) in
+    let k : r.first ≤ℤ q.last = int_le_is _ _ (and_right _ _ (and_left _ _ all)) in
+    let l : q.first ≤ℤ r.last = int_le_is _ _ (and_right _ _ all) in
     by_lt_z r.first q.first
     (λ u. (q.first, (short r.first q.first u, l, within q.first q (itself q.first) j)))
     (λ u. (r.first, (itself r.first, i, within r.first q u k)))
@@ -139,14 +128,14 @@ shows_added old new seen r shows h z = (
       (λ a. or_right (contains z r) (list_any (contains z) seen) ((shows z).0 a))
       (λ a. or_left (contains z r) (list_any (contains z) seen) (within z r a.0 a.1)) ((h z).0 c),
   λ c. (h z).1 (⊎_elim
-      (λ a. inr (true_le r.first z (left_true (int_le r.first z) (int_le z r.last) a), true_le z r.last (right_true (int_le r.first z) (int_le z r.last) a)))
+      (λ a. inr (int_le_is r.first z (and_left (int_le r.first z) (int_le z r.last) a), int_le_is z r.last (and_right (int_le r.first z) (int_le z r.last) a)))
       (λ a. inl ((shows z).1 a)) (or_cases (contains z r) (list_any (contains z) seen) c)),
 )
 
 empty_has : (z : ℤ) (r : Range) → r.last <ℤ r.first → contains z r ≡ true → ⊥
 empty_has z r h c =
-    let a : r.first ≤ℤ z = true_le r.first z (left_true (int_le r.first z) (int_le z r.last) c) in
-    let b : z ≤ℤ r.last = true_le z r.last (right_true (int_le r.first z) (int_le z r.last) c) in
+    let a : r.first ≤ℤ z = int_le_is r.first z (and_left (int_le r.first z) (int_le z r.last) c) in
+    let b : z ≤ℤ r.last = int_le_is z r.last (and_right (int_le r.first z) (int_le z r.last) c) in
     grind (arith, ints)
 
 -- an empty range has no values
@@ -213,9 +202,6 @@ chosen_turn scope k values done xs i x new inside at h =
 
 -- ---- values that are left out
 
-no_more : (z : ℤ) → z +ℤ pos 0 ≡ z
-no_more z = grind (arith, ints)
-
 any_none : (p : ℤ → Bool) (first : ℤ) (n : ℕ) → ((z : ℤ) → first ≤ℤ z → z <ℤ (first +ℤ pos n) → p z ≡ false) → list_any p (integers_from first n) ≡ false
 any_none p first zero h = refl
 any_none p first (suc n) h =
@@ -275,10 +261,6 @@ any_after scope k z seen (c ∷ cs) = any_after scope k z (with_range (choice_ra
     moved None b = refl
     moved (Some r) b = swapped b (contains z r) (list_any (contains z) seen)
 
-or_false : (b : Bool) → (b || false) ≡ b
-or_false true = refl
-or_false false = refl
-
 pub chosen_values : (scope : Scope) (k : ℕ) (values : Option Range) (cs : List PChoice) (chosen : Chosen) → AreChosen scope k values cs chosen
     → (z : ℤ) → Covers chosen.covered z ↔ (list_any (λ c. is_covered z (choice_range scope k c)) cs ≡ true)
 chosen_values scope k values cs chosen h z =
@@ -288,12 +270,9 @@ some_least : (r : Refusal) (o : Option Refusal) → is_none (sooner (Some r) o) 
 some_least r None = refl
 some_least r (Some q) = refl
 
-not_zero : (n : ℕ) → (suc n == 0) ≡ false
-not_zero n = grind (arith, nat_tests)
-
 pub none_found : (n : ℕ) (xs : List Span) → is_none (found n xs) ≡ (length xs == 0)
 none_found n [] = refl
-none_found n (x ∷ xs) = some_least record { rule = n; span = x } (least_of (by_rule n xs)) ∙ sym (not_zero (length xs))
+none_found n (x ∷ xs) = some_least record { rule = n; span = x } (least_of (by_rule n xs)) ∙ sym (next_not_zero (length xs))
 
 -- ---- the places of a choice
 

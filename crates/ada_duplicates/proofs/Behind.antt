@@ -116,7 +116,7 @@ still_in_main scope (DTaskBody w ds b s) = refl
 
 -- ---- the objects of a task body
 
-own_step : (scope : Scope) (d : PDecl) → scope.in_main ≡ false → namings_of (own_object_sites scope d) ≡ declared false scope.here (object_words d)
+pub own_step : (scope : Scope) (d : PDecl) → scope.in_main ≡ false → namings_of (own_object_sites scope d) ≡ declared false scope.here (object_words d)
 own_step scope (DObject ws c x i s) h = object_is scope ws c x i (declared_object scope c x) ∙ ap (λ b. declared (b && (c || is_task_object (declared_object scope c x).thing)) scope.here ws) h
 own_step scope (DNumber w e s) h = quiet_none
 own_step scope (DEnumeration w ws s) h = quiet_none
@@ -128,7 +128,7 @@ own_step scope (DPragma e s) h = quiet_none
 own_step scope (DTask t s) h = quiet_none
 own_step scope (DTaskBody w ds b s) h = quiet_none
 
-own_here : (scope : Scope) (d : PDecl) → (after_own_object scope d).here ≡ with_words scope.here (object_words d)
+pub own_here : (scope : Scope) (d : PDecl) → (after_own_object scope d).here ≡ with_words scope.here (object_words d)
 own_here scope (DObject ws c x i s) = ap (λ t. t.here) (with_names_is _ _ ws)
 own_here scope (DNumber w e s) = refl
 own_here scope (DEnumeration w ws s) = refl
@@ -140,7 +140,7 @@ own_here scope (DPragma e s) = refl
 own_here scope (DTask t s) = refl
 own_here scope (DTaskBody w ds b s) = refl
 
-own_main : (scope : Scope) (d : PDecl) → (after_own_object scope d).in_main ≡ scope.in_main
+pub own_main : (scope : Scope) (d : PDecl) → (after_own_object scope d).in_main ≡ scope.in_main
 own_main scope (DObject ws c x i s) = ap (λ t. t.in_main) (with_names_is _ _ ws)
 own_main scope (DNumber w e s) = refl
 own_main scope (DEnumeration w ws s) = refl
@@ -219,7 +219,7 @@ exception_behind old new b ws s h = λ scope at tasks.
     declared_behind old new scope (after_decl scope (DException ws s)) true ws (decl_sites scope (DException ws s)) at (names_are true scope ws)
     (ap (λ t. t.here) (with_names_is _ _ ws)) (ap (λ t. t.bodies) (with_names_is _ _ ws)) (ap (λ t. t.has_instance) (with_names_is _ _ ws)) h
 
-instance_is : (scope : Scope) (w : Word) (s : Span) → namings_of (decl_sites scope (DIntIo w s)) ≡ Once scope.has_instance w ∷ declared true scope.here (w ∷ [])
+pub instance_is : (scope : Scope) (w : Word) (s : Span) → namings_of (decl_sites scope (DIntIo w s)) ≡ Once scope.has_instance w ∷ declared true scope.here (w ∷ [])
 unfolding namings_of
 instance_is scope w s = refl
 

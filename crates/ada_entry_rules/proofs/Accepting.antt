@@ -15,6 +15,7 @@ use Rattle.ada_scopes.specs.Entries.{plain_part}
 use Rattle.ada_entry_rules.specs.inner.Accepts.{written_of}
 use Rattle.ada_scopes.specs.declared.denotations.FormalPart.{FormalPart}
 use Rattle.ada_refusals.proofs.Meeting.{names_met, met_append, joined, before}
+use Rattle.common_lemmas.proofs.Lists.{short_empty}
 
 pub formals_met : (scope : Scope) (formals : List PFormal) (p : Option Refusal) → p ≡ refused_first (formal_mark_sites scope formals) → p ≡ refused_first (formals_sites scope formals)
 formals_met scope formals p is_p =
@@ -40,14 +41,10 @@ left_over f [] i behind h = absurd (omega arith)
 left_over f (w ∷ ws) zero behind h = refl
 left_over f (w ∷ ws) (suc i) behind h = left_over f ws i behind (omega arith)
 
-nothing : {A : Type 0} (xs : List A) → length xs < 1 → xs ≡ []
-nothing [] h = refl
-nothing (x ∷ xs) h = absurd (omega arith)
-
 pub no_part : (f : PFormal) (names : List Word) (i : ℕ) (behind : List Written) (rest : List FormalPart) (all : Bool) → i < length names → length rest < 1
     → are_same (map (written_of f) (drop i names) ++ behind) (map plain_part rest) ≡ all
     → all ≡ false
 no_part f names i behind rest all h g before =
     sym before
-    ∙ ap (λ fs. are_same (map (written_of f) (drop i names) ++ behind) (map plain_part fs)) (nothing rest g)
+    ∙ ap (λ fs. are_same (map (written_of f) (drop i names) ++ behind) (map plain_part fs)) (short_empty rest g)
     ∙ left_over f names i behind h

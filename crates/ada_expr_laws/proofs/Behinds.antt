@@ -23,8 +23,8 @@ use Rattle.lawful_reader.proofs.Chaining.{law_chain}
 use Rattle.ada_expr_laws.specs.Stopping.{Ends}
 use Rattle.ada_expr_laws.specs.Laws.{first_operand, GoesOnBehind}
 use Rattle.ada_expr_laws.proofs.Behind.{split_le}
-use Rattle.ada_expr_laws.proofs.Signs.{OperatorAt}
-use Rattle.ada_expr_laws.proofs.Chains.{Sp, IsOther, chain_opened, chain_closed, binary_low, lawful_operators}
+use Rattle.ada_expr_laws.proofs.Signs.{OperatorAt, low_binary}
+use Rattle.ada_expr_laws.proofs.Chains.{Sp, IsOther, chain_opened, chain_closed, lawful_operators}
 use Rattle.ada_expr_laws.proofs.Levels.{law_expr}
 
 -- the operators behind this first operand, with their other operands
@@ -67,11 +67,11 @@ first_tighter l p e text next low tight (((same, none), high), other) = ((same, 
 
 -- the primary itself
 only_first : (p e : PExpr) (text : List Item) → BehindAt Factor p e text → (e ≡ p) × (text ≡ [])
-only_first p (EBinary op a b s) text (is, high) = let low = binary_low op in absurd (omega (arith, high, low))
+only_first p (EBinary op a b s) text (is, high) = let low = low_binary op in absurd (omega (arith, high, low))
 only_first p e text (is, high) = is
 
 pub first_itself : (p : PExpr) → primary ≤ level p → BehindAt Factor p p []
-first_itself (EBinary op a b s) tight = let low = binary_low op in absurd (omega (arith, tight, low))
+first_itself (EBinary op a b s) tight = let low = low_binary op in absurd (omega (arith, tight, low))
 first_itself p tight = ((refl, refl), omega (arith, tight))
 
 -- ---- one level on the other

@@ -24,16 +24,12 @@ use Rattle.lawful_reader.proofs.Deepening.{law_below}
 use Rattle.lawful_reader.proofs.Fitting.{starts_is, starts_or, starts_token, law_fit, law_same}
 use Rattle.ada_expr_laws.specs.Stopping.{Ends, EndsTarget, EndsChoice}
 use Rattle.ada_expr_laws.proofs.Tokens.{symbol_is, symbol_takes}
-use Rattle.ada_expr_laws.proofs.Primaries.{no_place, some_word}
+use Rattle.ada_expr_laws.proofs.Primaries.{no_place, some_word, close_ends}
 use Rattle.ada_expr_laws.proofs.Plainly.{after_symbol, symbol_then, after_word, word_then, made, make, ExprTexts, law_is_expr}
 
 -- what reads one level deeper
 pub law_inner : (d e : ℕ) → d ≡ suc e → Lawful e (inner d Logical) (inner (suc d) Logical) (ExprTexts Logical) (Ends Logical)
 law_inner d e is = subst (λ n. Lawful e (inner n Logical) (inner (suc n) Logical) (ExprTexts Logical) (Ends Logical)) (sym is) (law_is_expr e Logical)
-
-pub close_ends : (at : Span) → Ends Logical (symbol_item key.RightParen at)
-unfolding same
-close_ends at = (((((refl, refl), refl), refl), refl), refl)
 
 pub comma_ends : (at : Span) → Ends Logical (symbol_item key.Comma at)
 unfolding same

@@ -1,5 +1,5 @@
 -- The chains of each level of the grammar, and what the law of chains asks of their operators.
-use Rattle.std.proofs.Common.{◌≡◌, ℕ, ◌≤◌, ◌<◌, true, true≢false, ◌⊎◌, inl, inr, ⊎_elim, List, [], ◌∷◌, ◌++◌, Option, Some, None, refl, sym, ap, ◌∙◌, subst, arith}
+use Rattle.std.proofs.Common.{◌≡◌, ℕ, ◌≤◌, ◌<◌, true, ◌⊎◌, inl, inr, ⊎_elim, List, [], ◌∷◌, ◌++◌, Option, Some, None, refl, sym, ap, ◌∙◌, subst, arith}
 use Rattle.std.specs.Prelude.{if◌then◌else◌, is_some}
 use Rattle.ada_tree.specs.declared.naming.Span.{Span}
 use Rattle.ada_tree.specs.declared.naming.Word.{Word}
@@ -8,7 +8,7 @@ use Rattle.ada_tree.specs.declared.expressions.UnaryOp.TheVariants as unary
 use Rattle.ada_tree.specs.declared.expressions.BinaryOp.{BinaryOp}
 use Rattle.ada_tree.specs.declared.expressions.BinaryOp.TheVariants.{And, Or, Xor, AndThen, OrElse, Equal, NotEqual, Less, LessEqual, Greater, GreaterEqual, Plus, Minus, Times, Divide, Mod, Rem}
 use Rattle.ada_tree.specs.PlainExpr.{PExpr, EInteger, EName, EIndex, EAttribute, EAttributeOf, EParen, EUnary, EBinary}
-use Rattle.ada_tree.specs.WellPlaced.{level, term, primary, binary_level, unary_level, BinaryFits}
+use Rattle.ada_tree.specs.WellPlaced.{level, primary, binary_level, unary_level, BinaryFits}
 use Rattle.ada_lexer.specs.declared.symbols.Symbol.TheVariants as key
 use Rattle.ada_expr_parser.specs.declared.items.ItemKind.{ItemKind}
 use Rattle.ada_expr_parser.specs.declared.items.ItemKind.TheVariants as item
@@ -25,7 +25,8 @@ use Rattle.lawful_reader.proofs.Fitting.{first_append}
 use Rattle.ada_expr_laws.specs.Stopping.{Ends}
 use Rattle.ada_expr_laws.proofs.Tokens.{none_is}
 use Rattle.ada_expr_laws.proofs.Behind.{split_le, fits_follows, follows_fits, fits_level}
-use Rattle.ada_expr_laws.proofs.Signs.{OperatorAt, IsNoSecond, test_in, takes_in, operator_from, reads_operator, begins_operator}
+use Rattle.ada_expr_laws.proofs.Signs.{OperatorAt, IsNoSecond, test_in, takes_in, operator_from, reads_operator, begins_operator, low_binary}
+use Rattle.common_lemmas.proofs.Options.{some_there}
 
 -- the texts of a level of the grammar
 abbrev pub Sp : Level → PExpr → List Item → Type 0
@@ -55,12 +56,8 @@ unary_low : (op : UnaryOp) → unary_level op ≤ primary
 unary_low unary.Plus = omega arith
 unary_low op = omega arith
 
-pub binary_low : (op : BinaryOp) → binary_level op ≤ term
-binary_low And = omega arith
-binary_low op = omega arith
-
 pub level_low : (e : PExpr) → level e ≤ primary
-level_low (EBinary op a b s) = let low = binary_low op in omega (arith, low)
+level_low (EBinary op a b s) = let low = low_binary op in omega (arith, low)
 level_low (EUnary op a s) = unary_low op
 level_low e = omega arith
 
@@ -69,8 +66,8 @@ over_rank Logical op n same low = omega (arith, same, low)
 over_rank Relation op n same low = omega (arith, same, low)
 over_rank Simple op n same low = omega (arith, same, low)
 over_rank Term op n same low = omega (arith, same, low)
-over_rank Factor op n same low = let high = binary_low op in absurd (omega (arith, same, high))
-over_rank Primary op n same low = let high = binary_low op in absurd (omega (arith, same, high))
+over_rank Factor op n same low = let high = low_binary op in absurd (omega (arith, same, high))
+over_rank Primary op n same low = let high = low_binary op in absurd (omega (arith, same, high))
 
 -- ---- an operator with its operands, where T holds of the first one
 
@@ -186,16 +183,12 @@ operator_ends Term Divide at is = (refl, refl)
 operator_ends Term Mod at is = (refl, refl)
 operator_ends Term Rem at is = (refl, refl)
 operator_ends Term op at is = absurd (omega (arith, is))
-operator_ends Factor op at is = let low = binary_low op in absurd (omega (arith, is, low))
-operator_ends Primary op at is = let low = binary_low op in absurd (omega (arith, is, low))
-
-pub some_of : {A : Type 0} (m : Option A) → is_some m ≡ true → (x : A) × (m ≡ Some x)
-some_of (Some x) e = (x, refl)
-some_of None e = absurd (true≢false (sym e))
+operator_ends Factor op at is = let low = low_binary op in absurd (omega (arith, is, low))
+operator_ends Primary op at is = let low = low_binary op in absurd (omega (arith, is, low))
 
 goes_ends : (l : Level) (left : PExpr) (k : Item) → is_some (test_in l left k) ≡ true → Ends (tighter l) k
 goes_ends l left k goes =
-    let (b, some) = some_of (test_in l left k) goes in
+    let (b, some) = some_there (test_in l left k) goes in
     let (kind, lev, plain, may) = operator_from l (last_operator left) k.kind b some in
     subst (Ends (tighter l)) (ap (λ t. record { kind = t; span = k.span }) (sym kind)) (operator_ends l b k.span lev)
 
@@ -250,7 +243,7 @@ lawful_operators l = record {
   joined = λ left o right. omega arith;
   reads = λ d left. reads_operator l d left;
   begins_so = goes_so l;
-  some_operator = λ left k goes. let (b, some) = some_of (test_in l left k) goes in begins_operator l left k b some;
+  some_operator = λ left k goes. let (b, some) = some_there (test_in l left k) goes in begins_operator l left k b some;
   some_operand = (EInteger 0 no_place, number_item 0 no_place ∷ [], (refl, rank_low (tighter l)), refl);
   before_operand = λ right text x spells stop. no_second right text x spells.0;
   before_operator = goes_ends l;

@@ -1,5 +1,5 @@
 -- The laws of entry calls (9.5).
-use Rattle.std.proofs.Common.{◌≡◌, ℕ, zero, suc, Bool, true, false, true≢false, inl, inr, List, [], ◌∷◌, ◌++◌, Option, Some, None, refl, sym, ap, ◌∙◌, subst, arith}
+use Rattle.std.proofs.Common.{◌≡◌, ℕ, zero, suc, Bool, true, false, inl, inr, List, [], ◌∷◌, ◌++◌, Option, Some, None, refl, sym, ap, ◌∙◌, subst, arith}
 use Rattle.std.specs.Prelude.{is_some, if◌then◌else◌, nat_eq}
 use Rattle.std.proofs.lemmas.List.{append-nil, append_assoc}
 use Rattle.ada_tree.specs.declared.naming.Span.{Span}
@@ -21,9 +21,10 @@ use Rattle.lawful_reader.proofs.Deepening.{law_below, law_raised}
 use Rattle.lawful_reader.proofs.Fitting.{starts_is, starts_token, starts_then, law_fit, law_same, opens_token}
 use Rattle.ada_expr_laws.specs.Stopping.{Ends, EndsTarget}
 use Rattle.ada_expr_laws.proofs.Tokens.{symbol_is, symbol_takes}
-use Rattle.ada_expr_laws.proofs.Primaries.{no_place, some_word}
+use Rattle.ada_expr_laws.proofs.Primaries.{no_place, some_word, close_ends}
 use Rattle.ada_expr_laws.proofs.Plainly.{after_symbol, symbol_then, after_word, word_then, made, make, ExprTexts}
-use Rattle.ada_expr_laws.proofs.Calling.{law_inner, close_ends, comma_ends, a_number, law_target}
+use Rattle.ada_expr_laws.proofs.Calling.{law_inner, comma_ends, a_number, law_target}
+use Rattle.common_lemmas.proofs.Options.{some_there}
 
 -- ---- expressions with commas between
 
@@ -33,15 +34,11 @@ CommaTexts = Then (One (symbol key.Comma)) (λ comma. ExprTexts Logical)
 abbrev EndsList : Item → Type 0
 EndsList x = Ends Logical x × (symbol key.Comma x ≡ None)
 
-some_of : {A : Type 0} (m : Option A) → is_some m ≡ true → (x : A) × (m ≡ Some x)
-some_of (Some x) e = (x, refl)
-some_of None e = absurd (true≢false (sym e))
-
 law_next : (d e : ℕ) → d ≡ suc e → Lawful e (parts.next_expr d) (parts.next_expr (suc d)) CommaTexts (Ends Logical)
 law_next d e is = law_then (law_token (symbol_item key.Comma no_place) no_place (symbol_takes key.Comma no_place)) (λ comma. law_inner d e is)
 
 comma_item : (k : Item) → parts.is_comma k ≡ true → Ends Logical k
-comma_item k is = let (at, some) = some_of (symbol key.Comma k) is in subst (Ends Logical) (sym (symbol_is key.Comma k at some)) (comma_ends at)
+comma_item k is = let (at, some) = some_there (symbol key.Comma k) is in subst (Ends Logical) (sym (symbol_is key.Comma k at some)) (comma_ends at)
 
 law_more : (d e : ℕ) → d ≡ suc e → Lawful e (parts.more_exprs d) (parts.more_exprs (suc d)) (Many CommaTexts) EndsList
 law_more d e is = law_items (law_next d e is) (opens_token (λ k at some. ap is_some some)) comma_item (λ x stop. stop.0) (λ x stop. ap is_some stop.1)
@@ -62,7 +59,7 @@ law_exprs d e is = law_bind (law_inner d e is)
     (λ a. law_bind (law_more d e is) (λ more. law_pure e (a ∷ more) EndsList) (λ more. starts_is (λ x stop. stop)))
     (λ a. starts_then (more_starts e) (λ more. starts_is (λ x stop. stop)))
 
-close_list : (at : Span) → EndsList (symbol_item key.RightParen at)
+pub close_list : (at : Span) → EndsList (symbol_item key.RightParen at)
 unfolding same
 close_list at = (close_ends at, refl)
 
@@ -245,7 +242,7 @@ law_call_rest d task = law_then (law_token (symbol_item key.Dot no_place) no_pla
     (λ dot. law_then (law_token (word_item some_word) some_word refl)
     (λ entry. law_bind (law_args d) (λ lists. law_pure d (of_call task entry lists) EndsTarget) (λ lists. starts_is (λ x stop. stop))))
 
-dot_target : (at : Span) → EndsTarget (symbol_item key.Dot at)
+pub dot_target : (at : Span) → EndsTarget (symbol_item key.Dot at)
 unfolding same
 dot_target at = refl
 

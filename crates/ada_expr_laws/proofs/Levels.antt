@@ -25,7 +25,8 @@ use Rattle.ada_expr_laws.specs.Stopping.{Ends}
 use Rattle.ada_expr_laws.proofs.Tokens.{abs_or_not_is, takes_abs_or_not, plus_or_minus_is, takes_plus_or_minus}
 use Rattle.ada_expr_laws.proofs.Behind.{split_le, fits_level}
 use Rattle.ada_expr_laws.proofs.Chains.{Sp, First, IsOther, chains, lawful_operators}
-use Rattle.ada_expr_laws.proofs.Primaries.{no_place, unary_less, binary_less, law_primary}
+use Rattle.ada_expr_laws.proofs.Primaries.{no_place, unary_less, law_primary}
+use Rattle.ada_expr_laws.proofs.Signs.{low_binary}
 
 -- an operator and its operand
 abbrev Prefixed : (Symbol → Option UnaryOp) → Level → Texts Item PExpr
@@ -74,7 +75,7 @@ spell_factor d (EUnary op e s) text (((part, at, spells, fits, from, place), hig
       subst (λ p. Below (Then (Up_to levels (Sp Primary)) (λ x. Is (with_prefix (record { op = op; span = at }) x))) d (EUnary op e p) part) (sym place)
           (is_prefixed d Primary (record { op = op; span = at }) e part spells (omega (arith, lev, fits)) (omega (arith, low))),
     )
-spell_factor d (EBinary op l r s) text ((spells, high), low) = let less = binary_less op in absurd (omega (arith, high, less))
+spell_factor d (EBinary op l r s) text ((spells, high), low) = let less = low_binary op in absurd (omega (arith, high, less))
 spell_factor d (EInteger n s) text ((spells, high), low) = inr ((spells, omega arith), low)
 spell_factor d (EName n s) text ((spells, high), low) = inr ((spells, omega arith), low)
 spell_factor d (EIndex w e s) text ((spells, high), low) = inr ((spells, omega arith), low)
@@ -91,7 +92,7 @@ primary_first (EAttribute m w s) text x (tick, from, place) high = rw from refl
 primary_first (EAttributeOf m w e s) text x (part, tick, lead, close, spelled, from, place) high = rw from refl
 primary_first (EParen e s) text x (part, lead, close, spelled, from, place) high = rw from refl
 primary_first (EUnary op e s) text x spelled high = let less = unary_less op in absurd (omega (arith, high, less))
-primary_first (EBinary op l r s) text x spelled high = let less = binary_less op in absurd (omega (arith, high, less))
+primary_first (EBinary op l r s) text x spelled high = let less = low_binary op in absurd (omega (arith, high, less))
 
 no_sign : (op : UnaryOp) (at : Span) → term ≤ unary_level op → prefix sign (symbol_item (prefix_symbol op) at) ≡ None
 no_sign unary.Plus at high = absurd (omega (arith, high))

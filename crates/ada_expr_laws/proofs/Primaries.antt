@@ -4,10 +4,8 @@ use Rattle.ada_tree.specs.declared.naming.Span.{Span}
 use Rattle.ada_tree.specs.declared.naming.Word.{Word}
 use Rattle.ada_tree.specs.declared.expressions.UnaryOp.{UnaryOp}
 use Rattle.ada_tree.specs.declared.expressions.UnaryOp.TheVariants as unary
-use Rattle.ada_tree.specs.declared.expressions.BinaryOp.{BinaryOp}
-use Rattle.ada_tree.specs.declared.expressions.BinaryOp.TheVariants.{And}
 use Rattle.ada_tree.specs.PlainExpr.{PExpr, EInteger, EName, EIndex, EAttribute, EAttributeOf, EParen, EUnary, EBinary}
-use Rattle.ada_tree.specs.WellPlaced.{term, factor, binary_level, unary_level}
+use Rattle.ada_tree.specs.WellPlaced.{factor, unary_level}
 use Rattle.ada_lexer.specs.declared.symbols.Symbol.TheVariants as key
 use Rattle.ada_expr_parser.specs.declared.items.Item.{Item}
 use Rattle.ada_expr_parser.specs.declared.levels.Level.{Level}
@@ -27,6 +25,7 @@ use Rattle.lawful_reader.proofs.Fitting.{starts_is, starts_never, starts_or, sta
 use Rattle.ada_expr_laws.specs.Stopping.{EndsPrimary, Ends}
 use Rattle.ada_expr_laws.proofs.Tokens.{symbol_is, symbol_takes, word_is, number_is}
 use Rattle.ada_expr_laws.proofs.Chains.{Sp}
+use Rattle.ada_expr_laws.proofs.Signs.{low_binary}
 
 pub no_place : Span
 no_place = record { start = 0; end = 0 }
@@ -42,7 +41,7 @@ Content tree = Then (Up_to levels (Sp Logical)) (λ part. Closed (tree part))
 pub law_closed : (d : ℕ) (tree : Span → PExpr) (S : Item → Type 0) → Lawful d (reading.closed tree) (reading.closed tree) (Closed tree) S
 law_closed d tree S = law_then (law_token (symbol_item key.RightParen no_place) no_place (symbol_takes key.RightParen no_place)) (λ close. law_pure d (tree close) S)
 
-close_ends : (at : Span) → Ends Logical (symbol_item key.RightParen at)
+pub close_ends : (at : Span) → Ends Logical (symbol_item key.RightParen at)
 unfolding same
 close_ends at = (((((refl, refl), refl), refl), refl), refl)
 
@@ -147,10 +146,6 @@ module _ (d : ℕ) (i i' : reading.Inner) (inner : (e : ℕ) → d ≡ suc e →
 pub unary_less : (op : UnaryOp) → unary_level op ≤ factor
 unary_less unary.Plus = omega arith
 unary_less op = omega arith
-
-pub binary_less : (op : BinaryOp) → binary_level op ≤ term
-binary_less And = omega arith
-binary_less op = omega arith
 
 parens_spell : (d : ℕ) (e : PExpr) (text : List Item) → Then (One (symbol key.LeftParen)) (λ lead. Below (Content (in_parens lead))) d e text → Up_to levels (Sp Primary) d e text
 parens_spell zero e text (lead, one, back, from, token, never) = absurd never
@@ -298,7 +293,7 @@ spell_primary (suc d) (EParen e s) text (((part, lead, close, spells, from, plac
       subst (λ p. Content (in_parens lead) d (EParen e p) (part ++ symbol_item key.RightParen close ∷ [])) (sym place) (is_content (in_parens lead) d e part close spells (omega (arith, low))),
     )
 spell_primary d (EUnary op e s) text ((spells, high), low) = let less = unary_less op in absurd (omega (arith, high, less))
-spell_primary d (EBinary op l r s) text ((spells, high), low) = let less = binary_less op in absurd (omega (arith, high, less))
+spell_primary d (EBinary op l r s) text ((spells, high), low) = let less = low_binary op in absurd (omega (arith, high, less))
 
 pub law_primary : (d : ℕ) (i i' : reading.Inner) → ((e : ℕ) → d ≡ suc e → (l : Level) → Lawful e (i l) (i' l) (Up_to levels (Sp l)) (Ends l)) →
     Lawful d (reading.primary_at d i) (reading.primary_at (suc d) i') (Up_to levels (Sp Primary)) EndsPrimary

@@ -25,8 +25,9 @@ use Rattle.lawful_reader.specs.Lawful.{Careful, Lawful}
 use Rattle.lawful_reader.proofs.Binding.{law_pure}
 use Rattle.lawful_reader.proofs.Choosing.{careful_refuse, careful_on, law_on}
 use Rattle.lawful_reader.proofs.Fitting.{starts_is, starts_never, careful_fit}
-use Rattle.ada_expr_laws.proofs.Tokens.{none_is, some_is, symbol_is, symbol_takes}
+use Rattle.ada_expr_laws.proofs.Tokens.{none_is, symbol_is, symbol_takes}
 use Rattle.ada_expr_laws.proofs.Behind.{Follows, arithmetic_follows, relation_follows, follows_relation, loose_binary}
+use Rattle.common_lemmas.proofs.Options.{some_same}
 
 -- the first word of an operator as an operator of its own
 abbrev pub plain_of : BinaryOp → BinaryOp
@@ -64,30 +65,30 @@ law_rest d last op = law_pure d op IsNoSecond
 
 -- the operators that a symbol is, or begins
 logical_is : (s : Symbol) (op : BinaryOp) → logical_operator s ≡ Some op → (s ≡ infix_symbol op) × (binary_level op ≡ logical) × (plain_of op ≡ op)
-logical_is key.And op e = rw⁻¹ (some_is e) (refl, refl, refl)
-logical_is key.Or op e = rw⁻¹ (some_is e) (refl, refl, refl)
-logical_is key.Xor op e = rw⁻¹ (some_is e) (refl, refl, refl)
+logical_is key.And op e = rw⁻¹ (some_same e) (refl, refl, refl)
+logical_is key.Or op e = rw⁻¹ (some_same e) (refl, refl, refl)
+logical_is key.Xor op e = rw⁻¹ (some_same e) (refl, refl, refl)
 logical_is s op e = absurd (none_is e)
 
 relational_is : (s : Symbol) (op : BinaryOp) → relational_operator s ≡ Some op → (s ≡ infix_symbol op) × (binary_level op ≡ relation) × (plain_of op ≡ op)
-relational_is key.Equal op e = rw⁻¹ (some_is e) (refl, refl, refl)
-relational_is key.NotEqual op e = rw⁻¹ (some_is e) (refl, refl, refl)
-relational_is key.Less op e = rw⁻¹ (some_is e) (refl, refl, refl)
-relational_is key.LessEqual op e = rw⁻¹ (some_is e) (refl, refl, refl)
-relational_is key.Greater op e = rw⁻¹ (some_is e) (refl, refl, refl)
-relational_is key.GreaterEqual op e = rw⁻¹ (some_is e) (refl, refl, refl)
+relational_is key.Equal op e = rw⁻¹ (some_same e) (refl, refl, refl)
+relational_is key.NotEqual op e = rw⁻¹ (some_same e) (refl, refl, refl)
+relational_is key.Less op e = rw⁻¹ (some_same e) (refl, refl, refl)
+relational_is key.LessEqual op e = rw⁻¹ (some_same e) (refl, refl, refl)
+relational_is key.Greater op e = rw⁻¹ (some_same e) (refl, refl, refl)
+relational_is key.GreaterEqual op e = rw⁻¹ (some_same e) (refl, refl, refl)
 relational_is s op e = absurd (none_is e)
 
 adding_is : (s : Symbol) (op : BinaryOp) → adding_operator s ≡ Some op → (s ≡ infix_symbol op) × (binary_level op ≡ simple) × (plain_of op ≡ op)
-adding_is key.Plus op e = rw⁻¹ (some_is e) (refl, refl, refl)
-adding_is key.Minus op e = rw⁻¹ (some_is e) (refl, refl, refl)
+adding_is key.Plus op e = rw⁻¹ (some_same e) (refl, refl, refl)
+adding_is key.Minus op e = rw⁻¹ (some_same e) (refl, refl, refl)
 adding_is s op e = absurd (none_is e)
 
 multiplying_is : (s : Symbol) (op : BinaryOp) → multiplying_operator s ≡ Some op → (s ≡ infix_symbol op) × (binary_level op ≡ term) × (plain_of op ≡ op)
-multiplying_is key.Star op e = rw⁻¹ (some_is e) (refl, refl, refl)
-multiplying_is key.Slash op e = rw⁻¹ (some_is e) (refl, refl, refl)
-multiplying_is key.Mod op e = rw⁻¹ (some_is e) (refl, refl, refl)
-multiplying_is key.Rem op e = rw⁻¹ (some_is e) (refl, refl, refl)
+multiplying_is key.Star op e = rw⁻¹ (some_same e) (refl, refl, refl)
+multiplying_is key.Slash op e = rw⁻¹ (some_same e) (refl, refl, refl)
+multiplying_is key.Mod op e = rw⁻¹ (some_same e) (refl, refl, refl)
+multiplying_is key.Rem op e = rw⁻¹ (some_same e) (refl, refl, refl)
 multiplying_is s op e = absurd (none_is e)
 
 operator_is : (l : Level) (s : Symbol) (op : BinaryOp) → operator_at l s ≡ Some op → (s ≡ infix_symbol op) × (binary_level op ≡ rank l) × (plain_of op ≡ op)
@@ -98,7 +99,7 @@ operator_is Term s op e = multiplying_is s op e
 operator_is Factor s op e = absurd (none_is e)
 operator_is Primary s op e = absurd (none_is e)
 
-low_binary : (op : BinaryOp) → binary_level op ≤ term
+pub low_binary : (op : BinaryOp) → binary_level op ≤ term
 low_binary And = omega arith
 low_binary op = omega arith
 
@@ -131,7 +132,7 @@ takes_operator Primary op is = let low = low_binary op in absurd (omega (arith, 
 follows_from : (l : Level) (last m : Option BinaryOp) (op : BinaryOp) → if_follows l last m ≡ Some op → (m ≡ Some op) × (may_follow l last op ≡ true)
 follows_from l last (Some b) op e = may_from (may_follow l last b) refl e where
   may_from : (yes_is : Bool) → may_follow l last b ≡ yes_is → (if yes_is then Some b else None) ≡ Some op → (Some b ≡ Some op) × (may_follow l last op ≡ true)
-  may_from true is e = (e, subst (λ t. may_follow l last t ≡ true) (some_is e) is)
+  may_from true is e = (e, subst (λ t. may_follow l last t ≡ true) (some_same e) is)
   may_from false is e = absurd (none_is e)
 follows_from l last None op e = absurd (none_is e)
 
@@ -248,11 +249,11 @@ goes_last OrElse left is g = absurd g
 goes_last op left is g = absurd (omega (arith, is))
 
 last_goes : (op : BinaryOp) (left : PExpr) → binary_level op ≡ logical → last_operator left ≡ Some op → GoesOn op left
-last_goes And (EBinary oq l r s) is e = (some_is e, refl)
-last_goes Or (EBinary oq l r s) is e = (some_is e, refl)
-last_goes Xor (EBinary oq l r s) is e = (some_is e, refl)
-last_goes AndThen (EBinary oq l r s) is e = (some_is e, refl)
-last_goes OrElse (EBinary oq l r s) is e = (some_is e, refl)
+last_goes And (EBinary oq l r s) is e = (some_same e, refl)
+last_goes Or (EBinary oq l r s) is e = (some_same e, refl)
+last_goes Xor (EBinary oq l r s) is e = (some_same e, refl)
+last_goes AndThen (EBinary oq l r s) is e = (some_same e, refl)
+last_goes OrElse (EBinary oq l r s) is e = (some_same e, refl)
 last_goes And left is e = absurd (none_is e)
 last_goes Or left is e = absurd (none_is e)
 last_goes Xor left is e = absurd (none_is e)
@@ -261,7 +262,7 @@ last_goes OrElse left is e = absurd (none_is e)
 last_goes op left is e = absurd (omega (arith, is))
 
 first_if : (left : PExpr) → (level left ≡ logical → ⊥) → IsFirst (last_operator left)
-first_if (EBinary op l r s) other oq e is = other (ap binary_level (some_is e) ∙ is)
+first_if (EBinary op l r s) other oq e is = other (ap binary_level (some_same e) ∙ is)
 first_if left other oq e is = absurd (none_is e)
 
 decide_zero : (n : ℕ) → (n ≡ 0) ⊎ (n ≡ 0 → ⊥)

@@ -15,6 +15,7 @@ use Rattle.ada_expr_parser.specs.declared.items.ItemKind.TheVariants as item
 use Rattle.ada_expr_parser.specs.declared.items.Item.{Item}
 use Rattle.ada_expr_parser.specs.Tests.{same, symbol, symbol_in, word, word_in, Number, number, number_in, Prefix, prefix, unary_in, with_place, factor_operator, sign}
 use Rattle.ada_expr_parser.specs.Grammar.{symbol_item, word_item, number_item, prefix_symbol}
+use Rattle.common_lemmas.proofs.Options.{some_same}
 
 abbrev IsFull : {A : Type 0} → Option A → Type 0
 IsFull (Some x) = Unit {0}
@@ -27,9 +28,6 @@ abbrev or_else : {A : Type 0} → A → Option A → A
 or_else x (Some y) = y
 or_else x None = x
 
-pub some_is : {A : Type 0} {x y : A} → Some x ≡ Some y → x ≡ y
-some_is {x = x} e = ap (or_else x) e
-
 pub same_self : (s : Symbol) → same s s ≡ true
 unfolding same
 same_self s = true_same symbol_type.the_type s s refl
@@ -40,7 +38,7 @@ same_is s t e = same_true symbol_type.the_type tt s t e
 
 -- a symbol
 symbol_from : (s t : Symbol) (at b : Span) (yes_is : Bool) → same t s ≡ yes_is → (if yes_is then Some at else None) ≡ Some b → (t ≡ s) × (at ≡ b)
-symbol_from s t at b true is e = (same_is t s is, some_is e)
+symbol_from s t at b true is e = (same_is t s is, some_same e)
 symbol_from s t at b false is e = absurd (none_is e)
 
 symbol_kind : (s : Symbol) (kind : ItemKind) (at b : Span) → symbol_in s kind at ≡ Some b → (kind ≡ item.Symbol s) × (at ≡ b)
@@ -62,7 +60,7 @@ symbol_takes s at = rw (same_self s) refl
 
 -- an identifier
 word_kind : (kind : ItemKind) (at : Span) (w : Word) → word_in kind at ≡ Some w → record { kind = kind; span = at } ≡ word_item w
-word_kind (item.Name n) at w e = ap word_item (some_is e)
+word_kind (item.Name n) at w e = ap word_item (some_same e)
 word_kind (item.Symbol t) at w e = absurd (none_is e)
 word_kind (item.Integer n) at w e = absurd (none_is e)
 word_kind (item.Duration n) at w e = absurd (none_is e)
@@ -77,7 +75,7 @@ abbrev of_number : Number → Item
 of_number n = number_item n.value n.span
 
 number_kind : (kind : ItemKind) (at : Span) (n : Number) → number_in kind at ≡ Some n → record { kind = kind; span = at } ≡ number_item n.value n.span
-number_kind (item.Integer m) at n e = ap of_number (some_is e)
+number_kind (item.Integer m) at n e = ap of_number (some_same e)
 number_kind (item.Symbol t) at n e = absurd (none_is e)
 number_kind (item.Name m) at n e = absurd (none_is e)
 number_kind (item.Duration m) at n e = absurd (none_is e)
@@ -89,17 +87,17 @@ number_is k n e = number_kind k.kind k.span n e
 
 -- an operator with one operand
 factor_operator_is : (s : Symbol) (op : UnaryOp) → factor_operator s ≡ Some op → (s ≡ prefix_symbol op) × (unary_level op ≡ factor)
-factor_operator_is key.Abs op e = rw⁻¹ (some_is e) (refl, refl)
-factor_operator_is key.Not op e = rw⁻¹ (some_is e) (refl, refl)
+factor_operator_is key.Abs op e = rw⁻¹ (some_same e) (refl, refl)
+factor_operator_is key.Not op e = rw⁻¹ (some_same e) (refl, refl)
 factor_operator_is s op e = absurd (none_is e)
 
 sign_is : (s : Symbol) (op : UnaryOp) → sign s ≡ Some op → (s ≡ prefix_symbol op) × (unary_level op ≡ simple)
-sign_is key.Plus op e = rw⁻¹ (some_is e) (refl, refl)
-sign_is key.Minus op e = rw⁻¹ (some_is e) (refl, refl)
+sign_is key.Plus op e = rw⁻¹ (some_same e) (refl, refl)
+sign_is key.Minus op e = rw⁻¹ (some_same e) (refl, refl)
 sign_is s op e = absurd (none_is e)
 
 with_place_is : (m : Option UnaryOp) (at : Span) (p : Prefix) → with_place m at ≡ Some p → (m ≡ Some p.op) × (at ≡ p.span)
-with_place_is (Some op) at p e = let same = some_is e in (ap (λ q. Some q.op) same, ap (λ q. q.span) same)
+with_place_is (Some op) at p e = let same = some_same e in (ap (λ q. Some q.op) same, ap (λ q. q.span) same)
 with_place_is None at p e = absurd (none_is e)
 
 unary_kind : (which : Symbol → Option UnaryOp) (kind : ItemKind) (op : UnaryOp) → unary_in which kind ≡ Some op → (s : Symbol) × (kind ≡ item.Symbol s) × (which s ≡ Some op)

@@ -1,6 +1,5 @@
 -- How a chain goes on, as the code reads it.
 use Rattle.std.proofs.Common.{◌≡◌, ℕ, zero, suc, ◌+◌, ◌-◌, ◌<◌, ◌≤◌, Bool, true, false, cond, nat_le, List, [], ◌∷◌, max, length, take, drop, get_or, Option, Some, None, is_some, Result, refl, sym, ap, ◌∙◌, arith}
-use Rattle.std.proofs.lemmas.Bool.Decides.{nat_tests}
 use Rattle.lawful_reader.specs.Readers.{Answer, Found, Fault, Reader, go_on, bind, on_token, refuse, too_deep, chain_in}
 use Rattle.ada_tree.specs.declared.expressions.BinaryOp.{BinaryOp}
 use Rattle.ada_tree.specs.PlainExpr.{PExpr}
@@ -12,6 +11,7 @@ use Rattle.ada_expr_parser.specs.Trees.{levels, last_operator, joined}
 use Rattle.ada_expr_parser.specs.Reading.{operators, operator_rest, behind_operator, inner}
 use Rattle.ada_expr_parser.specs.Gives.{Gives}
 use Rattle.std.proofs.Math.Seq.{take-length}
+use Rattle.common_lemmas.proofs.Numbers.{le_false, le_true}
 
 -- a list that is not empty, by its first member and the others as the code has them
 pub front_and_rest : (ts : List Item) (d : Item) → 1 ≤ length ts → ts ≡ get_or ts 0 d ∷ take (length ts - 1) (drop 1 ts)
@@ -36,12 +36,6 @@ on_end : (o : Option BinaryOp) (goes ends : Answer Item PExpr) → o ≡ None �
 on_end None goes ends e = refl
 on_end (Some p) goes ends e = cc
 
-full_is : (d h : ℕ) → d ≤ h → nat_le d h ≡ true
-full_is d h le = grind (arith, nat_tests)
-
-room_is : (d h : ℕ) → h < d → nat_le d h ≡ false
-room_is d h lt = grind (arith, nat_tests)
-
 -- what is read behind an operator
 abbrev pub onward : Level → ℕ → Reader Item PExpr → ℕ → PExpr → BinaryOp → Reader Item PExpr
 onward level d operand turns left o = bind operand (λ right. chain_in (operators level) d operand turns (joined left o right))
@@ -55,14 +49,14 @@ goes_cons level d operand (suc t) left x rest op is room enough = (
   t,
   omega arith,
   on_goes (operator_in level (last_operator left) x.kind) op (nat_le d (levels left)) (operator_rest (last_operator left)) (onward level d operand t left) x rest
-      (bind ((operators level).operator left) (onward level d operand t left)) (Found left (x ∷ rest)) refl is (room_is d (levels left) room),
+      (bind ((operators level).operator left) (onward level d operand t left)) (Found left (x ∷ rest)) refl is (le_false d (levels left) room),
 )
 
 deep_cons :
     (level : Level) (d : ℕ) (operand : Reader Item PExpr) (turns : ℕ) (left : PExpr) (x : Item) (rest : List Item) (op : BinaryOp) →
     operator_in level (last_operator left) x.kind ≡ Some op → d ≤ levels left → chain_in (operators level) d operand turns left (x ∷ rest) ≡ Fault true (x ∷ rest)
 deep_cons level d operand zero left x rest op is full = on_deep (operator_in level (last_operator left) x.kind) op true too_deep (x ∷ rest) (Found left (x ∷ rest)) is refl
-deep_cons level d operand (suc t) left x rest op is full = on_deep (operator_in level (last_operator left) x.kind) op (nat_le d (levels left)) (bind ((operators level).operator left) (onward level d operand t left)) (x ∷ rest) (Found left (x ∷ rest)) is (full_is d (levels left) full)
+deep_cons level d operand (suc t) left x rest op is full = on_deep (operator_in level (last_operator left) x.kind) op (nat_le d (levels left)) (bind ((operators level).operator left) (onward level d operand t left)) (x ∷ rest) (Found left (x ∷ rest)) is (le_true d (levels left) full)
 
 end_cons :
     (level : Level) (d : ℕ) (operand : Reader Item PExpr) (turns : ℕ) (left : PExpr) (x : Item) (rest : List Item) →

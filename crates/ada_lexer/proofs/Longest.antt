@@ -272,7 +272,7 @@ simple-measured b ys same most k =
     inl (omega arith, longest_from b ys (is_mark b) 0 same (omega arith) (mark-one b ∙ k) most)
 
 -- a piece is not empty
-is_piece-nil : is_piece [] ≡ true → ⊥
+pub is_piece-nil : is_piece [] ≡ true → ⊥
 unfolding is_piece
 is_piece-nil h = false≢true h
 

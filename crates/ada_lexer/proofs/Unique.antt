@@ -1,7 +1,6 @@
 -- A text has one split or one first fault, and never both.
-use Rattle.std.proofs.Common.{◌≡◌, ℕ, ◌+◌, ◌<◌, ◌≤◌, true, List, [], ◌∷◌, length, take, drop, refl, ap, ◌∙◌, sym, subst, arith, inl, inr}
+use Rattle.std.proofs.Common.{◌≡◌, ℕ, ◌+◌, ◌<◌, ◌≤◌, List, [], ◌∷◌, length, take, drop, refl, ap, ◌∙◌, sym, subst, arith, inl, inr}
 use Rattle.std.proofs.lemmas.List.{length-take}
-use Rattle.std.proofs.lemmas.Bool.{false≢true}
 use Rattle.std.specs.Prelude.{IsTrue}
 use Rattle.ada_lexer.specs.declared.kinds.Token.{Token}
 use Rattle.ada_lexer.specs.declared.errors.LexError.{LexError}
@@ -10,10 +9,7 @@ use Rattle.ada_lexer.specs.declared.verdicts.Verdict.TheVariants.{Gap, Kind, Fau
 use Rattle.ada_lexer.specs.Pieces.{is_piece, IsLongest}
 use Rattle.ada_lexer.specs.Verdicts.{verdict}
 use Rattle.ada_lexer.specs.Split.{FallsInto, tokens_of, IsSound, AreSound, Splits, FailsHere, place_behind, HasFirstFault}
-
-is_piece-nil : is_piece [] ≡ true → ⊥
-unfolding is_piece
-is_piece-nil h = false≢true h
+use Rattle.ada_lexer.proofs.Longest.{is_piece-nil}
 
 pub longest-some : (p text : List ℕ) → IsLongest p text → 0 < length p
 longest-some [] text h = absurd (is_piece-nil h.is_one)

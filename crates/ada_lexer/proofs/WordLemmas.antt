@@ -6,6 +6,7 @@ use Rattle.std.specs.Prelude.{◌&&◌, ◌==◌, suc}
 use Rattle.ada_lexer.specs.declared.symbols.Symbol.{Symbol}
 use Rattle.ada_lexer.specs.Bytes.{lower}
 use Rattle.ada_lexer.specs.Words.{same_text, symbol_in, two_letters, three_letters, four_letters, five_letters, six_letters, seven_letters, eight_letters, nine_letters, reserved_words, reserved_symbol}
+use Rattle.common_lemmas.proofs.Truth.{and_false}
 
 -- the two texts from a place on, by the bytes at the place
 pub same_text-more : (w s : List ℕ) (n : ℕ) → n < length w → n < length s → same_text (map lower (drop n w)) (drop n s) ≡ (lower (get_or w n 0) == get_or s n 0) && same_text (map lower (drop (n + 1) w)) (drop (n + 1) s)
@@ -17,17 +18,13 @@ pub same_text-end : (w s : List ℕ) (n : ℕ) → length w ≤ n → length s �
 same_text-end w s n p q =
     ap (λ t. same_text (map lower t) (drop n s)) (drop_all n w p) ∙ ap (λ t. same_text (map lower []) t) (drop_all n s q)
 
-pub and-false : (b : Bool) → (b && false) ≡ false
-and-false true = refl
-and-false false = refl
-
 -- texts of different lengths differ
 pub same_text-unequal : (w s : List ℕ) → (length w ≡ length s → ⊥) → same_text w s ≡ false
 same_text-unequal [] [] h = absurd (h refl)
 same_text-unequal [] (c ∷ s) h = refl
 same_text-unequal (b ∷ w) [] h = refl
 same_text-unequal (b ∷ w) (c ∷ s) h =
-    ap (λ t. (b == c) && t) (same_text-unequal w s (λ e. h (ap (λ n. suc n) e))) ∙ and-false (b == c)
+    ap (λ t. (b == c) && t) (same_text-unequal w s (λ e. h (ap (λ n. suc n) e))) ∙ and_false (b == c)
 
 pub same_text-lower_unequal : (w s : List ℕ) → (length w ≡ length s → ⊥) → same_text (map lower w) s ≡ false
 same_text-lower_unequal w s h = same_text-unequal (map lower w) s (λ e. h (sym (length-map w lower) ∙ e))

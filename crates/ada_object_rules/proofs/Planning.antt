@@ -23,18 +23,13 @@ use Rattle.ada_scopes.specs.declared.readings.Marking.TheVariants as code_mark
 use Rattle.ada_object_rules.specs.declared.initials.Holder.{Holder}
 use Rattle.ada_expr_rules.specs.declared.ranges.Making.{Making}
 use Rattle.ada_object_rules.specs.declared.plans.Plan.TheVariants.{Object, ConstrainedArray}
+use Rattle.common_lemmas.proofs.Lists.{last_at}
+use Rattle.common_lemmas.proofs.Options.{not_missing}
 
 -- ---- lists that are one longer
 
-seam : {X : Type 0} (xs : List X) (y : X) → slice_get (xs ++ y ∷ []) (length xs) ≡ Some y
-seam [] y = refl
-seam (x ∷ xs) y = seam xs y
-
-none_is_some : {X : Type 0} (x : X) → None ≡ Some x → ⊥
-none_is_some x h = cc
-
 kept : {X : Type 0} (xs : List X) (y x : X) (i : ℕ) → slice_get xs i ≡ Some x → slice_get (xs ++ y ∷ []) i ≡ Some x
-kept [] y x i h = absurd (none_is_some x h)
+kept [] y x i h = absurd (not_missing x h)
 kept (z ∷ xs) y x zero h = h
 kept (z ∷ xs) y x (suc i) h = kept xs y x i h
 
@@ -126,7 +121,7 @@ between_held scope constant m k (Some low) (Some high) value h =
     let range : Range = record { kind = k; first = low; last = high } in
     let types = add_mark scope.types (mark_for None range) in
     let n = length scope.types.marks in
-    let at : mark_at types n ≡ Some (mark_for None range) = seam scope.types.marks (mark_for None range) in
+    let at : mark_at types n ≡ Some (mark_for None range) = last_at scope.types.marks (mark_for None range) in
     scalar_held scope constant types n k range value (ap (marking_of_mark types n) at ∙ h.kind_is n) (ap (option_map range_of) at)
 
 pub object_held : (scope : Scope) (constant : Bool) (marking : Marking) (bounds : Option PBounds) (value : PInit) → Found scope.types marking
@@ -157,8 +152,8 @@ array_mark types index = record { name = None; kind = length types.kinds; first 
 
 own_marking : (types : TypeTable) (index : Range) (part : ℕ) → marking_of_mark (array_of types index part) (length types.marks) (mark_at (array_of types index part) (length types.marks)) ≡ ArrayMark (length types.marks) index part
 own_marking types index part =
-    ap (marking_of_mark (array_of types index part) (length types.marks)) (seam types.marks (array_mark types index))
-    ∙ ap (marking_of_kind (length types.marks) (length types.kinds)) (seam types.kinds (Array index.kind index.first index.last part))
+    ap (marking_of_mark (array_of types index part) (length types.marks)) (last_at types.marks (array_mark types index))
+    ∙ ap (marking_of_kind (length types.marks) (length types.kinds)) (last_at types.kinds (Array index.kind index.first index.last part))
 
 own_held : (scope : Scope) (constant : Bool) (types : TypeTable) (index : Range) (part : ℕ) (mark : Mark) (value : PInit) → mark_at types part ≡ Some mark
     → array_sites scope (Some index) (Some (range_of mark)) value ≡ init_sites scope (array_of types index part) (object_marking (of_made constant (made_array None types (Some index) (Some part)))) value
@@ -177,7 +172,7 @@ between_array scope constant index k None high value = none_held scope constant 
 between_array scope constant index k (Some low) None value = none_held scope constant scope.types value
 between_array scope constant index k (Some low) (Some high) value =
     let mark : Mark = mark_for None record { kind = k; first = low; last = high } in
-    own_held scope constant (add_mark scope.types mark) index (length scope.types.marks) mark value (seam scope.types.marks mark)
+    own_held scope constant (add_mark scope.types mark) index (length scope.types.marks) mark value (last_at scope.types.marks mark)
 
 known_array : (scope : Scope) (constant : Bool) (index : Range) (marking : Marking) (bounds : Option PBounds) (value : PInit) → Found scope.types marking
     → array_sites scope (Some index) (marked_range scope marking bounds) value

@@ -258,7 +258,7 @@ law_entry_behind d = law_fit (λ e deep a text is. behind_is e a text is) (is_be
 
 -- ---- entries
 
-semicolon_formals : (at : Span) → EndsFormals (symbol_item key.Semicolon at)
+pub semicolon_formals : (at : Span) → EndsFormals (symbol_item key.Semicolon at)
 unfolding same
 semicolon_formals at = refl
 

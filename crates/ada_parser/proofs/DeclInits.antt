@@ -1,5 +1,5 @@
 -- The laws of shapes and of initial values (3.2.1, 3.6, 4.3.2).
-use Rattle.std.proofs.Common.{◌≡◌, ℕ, suc, ◌+◌, ◌≤◌, true, false, true≢false, ◌⊎◌, inl, inr, List, [], ◌∷◌, ◌++◌, length, Option, Some, None, refl, sym, ap, ◌∙◌, subst, arith}
+use Rattle.std.proofs.Common.{◌≡◌, ℕ, suc, ◌+◌, ◌≤◌, true, false, true≢false, ◌⊎◌, inl, inr, List, [], ◌∷◌, ◌++◌, length, Some, None, refl, sym, ap, ◌∙◌, subst, arith}
 use Rattle.std.specs.Prelude.{is_some, not}
 use Rattle.std.proofs.lemmas.List.{append_assoc}
 use Rattle.lawful_reader.specs.Readers.{Reader, Fault, pure, bind, on, token}
@@ -26,9 +26,9 @@ use Rattle.ada_expr_parser.specs.Parts.{expression, expr_behind, subind}
 use Rattle.ada_expr_laws.specs.Stopping.{Ends, EndsMark, EndsRange}
 use Rattle.ada_expr_laws.specs.Laws.{first_operand}
 use Rattle.ada_expr_laws.proofs.Tokens.{symbol_is, symbol_takes}
-use Rattle.ada_expr_laws.proofs.Primaries.{no_place}
+use Rattle.ada_expr_laws.proofs.Primaries.{no_place, close_ends}
 use Rattle.ada_expr_laws.proofs.Building.{law_subind, law_drange}
-use Rattle.ada_expr_laws.proofs.Calling.{close_ends, comma_ends, a_number}
+use Rattle.ada_expr_laws.proofs.Calling.{comma_ends, a_number}
 use Rattle.ada_expr_laws.proofs.Behinds.{Behind, BehindAt, law_levels, behind_spells, spells_behind}
 use Rattle.ada_phrase_parser.specs.Spelling.{Spelling, ◌▷◌, Key, Stands, last_place}
 use Rattle.ada_phrase_parser.specs.Spelling as spelling
@@ -41,6 +41,8 @@ use Rattle.ada_parser.proofs.KitPieces.{KeyAt, Closing, closing_key, closing_the
 use Rattle.ada_parser.proofs.KitReading.{Made, Both, made_key, made_bind, made_then, made_pure, law_symbol, law_last, law_more, starts_key, starts_last, key_taken, taken_key}
 use Rattle.ada_parser.proofs.KitDeeper.{Expressions, law_expression}
 use Rattle.ada_parser.proofs.Narrowing.{Narrow, narrow_where, narrow_starts, passed_by, law_either, Room, careful_room}
+use Rattle.ada_expr_laws.proofs.Entries.{close_list}
+use Rattle.common_lemmas.proofs.Options.{none_there}
 
 abbrev pub Subinds : Texts Item PSubind
 Subinds d x text = Subind d x text
@@ -100,10 +102,6 @@ ParensTexts lead e = Made {V = Span × PExpr} (λ v. IOne v.1) (λ d v. KeyAt ke
 abbrev EndsList : Item → Type 0
 EndsList x = Ends Logical x × (symbol key.Comma x ≡ None)
 
-close_list : (at : Span) → EndsList (symbol_item key.RightParen at)
-unfolding same
-close_list at = (close_ends at, refl)
-
 abbrev list_reader : ℕ → Span → PExpr → Reader Item PInit
 list_reader d lead e = bind (more_behind key.Comma (expression d)) (λ more. last_key key.RightParen (λ close. IList (e ∷ more) (from_to lead close)))
 
@@ -121,12 +119,8 @@ law_parens d lead e low = made_then (λ close whole. IOne whole) (λ close d who
     (law_symbol d key.RightParen Anything)
     (λ close. made_pure IOne (law_levels (in_parens lead e close) (omega arith) d low))
 
-no_some : {A : Type 0} (m : Option A) → is_some m ≡ false → m ≡ None
-no_some (Some x) e = absurd (true≢false e)
-no_some None e = refl
-
 parens_pass : (lead : Span) (e : PExpr) (n : ℕ) (k : Item) (ts : List Item) → is_symbol key.RightParen k ≡ false → parens_reader lead e n (k ∷ ts) ≡ Fault false (k ∷ ts)
-parens_pass lead e n k ts off = rw (no_some (symbol key.RightParen k) off) refl
+parens_pass lead e n k ts off = rw (none_there (symbol key.RightParen k) off) refl
 
 parens_begin : (lead : Span) (e : PExpr) (k : Item) → is_symbol key.RightParen k ≡ true → Begins (ParensTexts lead e (levels e + 1)) (k ∷ [])
 parens_begin lead e k is =
@@ -328,7 +322,7 @@ first_single : (e : PExpr) → IsSingle (first_operand e)
 first_single (EBinary op l r s) = first_single l
 first_single e = tt
 
-first_levels : (e : PExpr) → levels (first_operand e) ≤ levels e
+pub first_levels : (e : PExpr) → levels (first_operand e) ≤ levels e
 first_levels (EBinary op l r s) = let low = first_levels l in omega (arith, low)
 first_levels e = omega arith
 

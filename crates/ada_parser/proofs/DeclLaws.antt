@@ -36,16 +36,12 @@ use Rattle.ada_parser.proofs.KitReading.{Made, Both, made_key, made_bind, made_t
 use Rattle.ada_parser.proofs.KitLeading.{among, symbol_at, Led, led_refuse, led_on}
 use Rattle.ada_parser.proofs.KitDeeper.{NameEnd, law_end_of, closing_end}
 use Rattle.ada_parser.proofs.StmtLevels.{LevelLaws}
-use Rattle.ada_parser.proofs.StmtBodies.{EndsBody, BodyTexts, law_body, begun_same}
+use Rattle.ada_parser.proofs.StmtBodies.{BodyTexts, law_body, begun_same, end_body}
 use Rattle.ada_parser.proofs.DeclNames.{WordDecls, law_word_decl, IsObjectDecl, ObjectDecls, object_name, law_object}
 use Rattle.ada_parser.proofs.DeclTypes.{NameIs, law_name_is, TypeTexts, law_type, SubtypeTexts, law_subtype, InstanceTexts, law_instance, PriorityShut, law_priority}
 use Rattle.ada_parser.proofs.DeclTasks.{RestTexts, law_rest}
 
 -- ---- bodies
-
-body_end : (at : Span) → EndsBody (symbol_item key.End at)
-unfolding same
-body_end at = ((refl, refl), refl)
 
 module _ (source : Source) where
   -- the end of a unit as it is read
@@ -56,7 +52,7 @@ module _ (source : Source) where
       Lawful d (declarative.unit_end source d w tree) (declarative.unit_end source (suc d) w tree) (UnitTexts w tree) S
   law_unit_end d w tree S laws = made_key key.Begin (λ v. tree v.0 v.1) (Both (BodyTexts source) (λ b d close. Key key.End ▷ NameEnd w close))
       (made_bind tree (λ b d close. Key key.End ▷ NameEnd w close) (law_body source d laws) (λ b. law_end_of d w (tree b) S)
-      (λ b. starts_key key.End (tree b) (λ d close. NameEnd w close) body_end))
+      (λ b. starts_key key.End (tree b) (λ d close. NameEnd w close) end_body))
 
   pub unit_same : (d : ℕ) (b : PBody) (E : Spelling) → Same (Key key.Begin ▷ BodyTexts source d b ▷ E) (IsBody source d b ▷ E)
   unit_same d b E = same_through (same_grouped (Key key.Begin) (BodyTexts source d b) E) (same_then (begun_same source d b) (same_self E))

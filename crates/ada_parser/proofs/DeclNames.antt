@@ -13,12 +13,11 @@ use Rattle.ada_tree.specs.PlainDecl.{PShape, OPlain, OArray, PInit, PDecl, DNumb
 use Rattle.ada_lexer.specs.declared.symbols.Symbol.{Symbol}
 use Rattle.ada_lexer.specs.declared.symbols.Symbol.TheVariants as key
 use Rattle.ada_expr_parser.specs.declared.items.Item.{Item}
-use Rattle.ada_expr_parser.specs.declared.levels.Level.TheVariants.{Logical}
 use Rattle.ada_expr_parser.specs.Tests.{same, symbol, word}
 use Rattle.ada_expr_parser.specs.Trees.{from_to}
 use Rattle.ada_expr_parser.specs.Grammar.{symbol_item, word_item}
 use Rattle.ada_expr_parser.specs.Parts.{expression}
-use Rattle.ada_expr_laws.specs.Stopping.{Ends, EndsMark}
+use Rattle.ada_expr_laws.specs.Stopping.{EndsMark}
 use Rattle.ada_expr_laws.proofs.Tokens.{symbol_is, symbol_takes, none_is}
 use Rattle.ada_expr_laws.proofs.Primaries.{no_place}
 use Rattle.ada_phrase_parser.specs.Spelling.{Source, Spelling, ◌▷◌, IfThere, Key, Named, Behind}
@@ -32,12 +31,10 @@ use Rattle.ada_parser.proofs.KitReading.{Made, made_key, made_bind, law_word, la
 use Rattle.ada_parser.proofs.KitDeeper.{law_expression}
 use Rattle.ada_parser.proofs.Formals.{word_same, colon_names}
 use Rattle.ada_parser.proofs.DeclInits.{law_shape, law_init}
+use Rattle.ada_parser.proofs.StmtSimple.{semicolon_ends}
+use Rattle.ada_parser.proofs.WordRest.{no_first}
 
 -- ---- what ends what
-
-pub semicolon_ends : (at : Span) → Ends Logical (symbol_item key.Semicolon at)
-unfolding same
-semicolon_ends at = (((((refl, refl), refl), refl), refl), refl)
 
 pub semicolon_mark : (at : Span) → EndsMark (symbol_item key.Semicolon at)
 unfolding same
@@ -225,10 +222,6 @@ law_names_behind d next next' Rest w S law = law_bind {R = IsPassed (symbol key.
     (λ more. law_key key.Colon (law more))
     (λ more. record { begins_with = λ a text x (front, back, from, (at, one), rest) stop. rw from (rw one (colon_names at)) })
 
--- no symbol is a name
-pub no_key : (s : Symbol) (Q : Spelling) (w : Word) (text : List Item) → (Key s ▷ Q) (word_item w ∷ text) → ⊥
-no_key s Q w text (front, back, from, (at, one), rest) = none_is (sym (ap word (ap (first_of (word_item w)) (from ∙ ap (λ l. l ++ back) one))))
-
 abbrev pub IsObjectDecl : PDecl → Type 0
 IsObjectDecl (DObject ws c x i s) = Unit {0}
 IsObjectDecl _ = ⊥
@@ -376,16 +369,16 @@ module _ (source : Source) where
               (f2, b2, from2, mark, (close, ap (λ l. DException l s) names ∙ ap (DException (w ∷ more)) place, rest))),
         ),
       )
-  is_named w d (DEnumeration v ws s) text (spelled, place) = absurd (no_key key.«Type» _ w text spelled)
-  is_named w d (DArray v r x s) text (spelled, place) = absurd (no_key key.«Type» _ w text spelled)
-  is_named w d (DSubtype v x s) text (spelled, place) = absurd (no_key key.Subtype _ w text spelled)
-  is_named w d (DIntIo v s) text (spelled, place) = absurd (no_key key.Package _ w text spelled)
-  is_named w d (DPragma e s) text (spelled, place) = absurd (no_key key.Pragma _ w text spelled)
+  is_named w d (DEnumeration v ws s) text (spelled, place) = absurd (no_first key.«Type» _ w text spelled)
+  is_named w d (DArray v r x s) text (spelled, place) = absurd (no_first key.«Type» _ w text spelled)
+  is_named w d (DSubtype v x s) text (spelled, place) = absurd (no_first key.Subtype _ w text spelled)
+  is_named w d (DIntIo v s) text (spelled, place) = absurd (no_first key.Package _ w text spelled)
+  is_named w d (DPragma e s) text (spelled, place) = absurd (no_first key.Pragma _ w text spelled)
   is_named w d (DTask t s) text ((members, are, spelled), place) = absurd (no_task t.of_kind spelled) where
     no_task : (b : Bool) → (TaskWord b ▷ Named t.name ▷ TaskRest source d t.name members) (word_item w ∷ text) → ⊥
     no_task true (front, back, from, (f, b, split, (at, one), rest), more) = none_is (sym (ap word (ap (first_of (word_item w)) (from ∙ ap (λ l. l ++ back) (split ∙ ap (λ l. l ++ b) one)))))
-    no_task false is = no_key key.Task _ w text is
-  is_named w d (DTaskBody v ds b s) text (spelled, place) = absurd (no_key key.Task _ w text spelled)
+    no_task false is = no_first key.Task _ w text is
+  is_named w d (DTaskBody v ds b s) text (spelled, place) = absurd (no_first key.Task _ w text spelled)
 
   pub law_word_decl : (d : ℕ) (w : Word) (S : Item → Type 0) → Lawful d (reading.names_behind (reading.named_rest d) w) (reading.names_behind (reading.named_rest (suc d)) w) (WordDecls w) S
   law_word_decl d w S = law_fit (λ e deep a text is. named_is w e a text is) (λ a text is. is_named w d a text is)

@@ -1,5 +1,5 @@
 -- The laws of types, subtypes, instances of INTEGER_IO and pragmas, behind their first word (3.3, 3.5.1, 3.6, 9.8, 12.3).
-use Rattle.std.proofs.Common.{◌≡◌, ℕ, suc, Bool, true, false, inl, inr, List, [], ◌∷◌, ◌++◌, Option, Some, None, refl, sym, ap, ◌∙◌, subst, codes, arith}
+use Rattle.std.proofs.Common.{◌≡◌, ℕ, suc, inl, inr, List, [], ◌∷◌, ◌++◌, Option, Some, None, refl, sym, ap, ◌∙◌, subst, codes}
 use Rattle.std.specs.Prelude.{◌==◌, if◌then◌else◌}
 use Rattle.std.proofs.lemmas.List.{append_assoc}
 use Rattle.lawful_reader.specs.Readers.{Reader, bind, token}
@@ -19,10 +19,9 @@ use Rattle.ada_expr_parser.specs.declared.items.Item.{Item}
 use Rattle.ada_expr_parser.specs.Tests.{same, symbol, word}
 use Rattle.ada_expr_parser.specs.Trees.{from_to}
 use Rattle.ada_expr_parser.specs.Grammar.{symbol_item, word_item}
-use Rattle.ada_expr_laws.proofs.Tokens.{symbol_is, symbol_takes, word_is, some_is, none_is}
-use Rattle.ada_expr_laws.proofs.Primaries.{no_place}
+use Rattle.ada_expr_laws.proofs.Tokens.{symbol_is, symbol_takes, word_is, none_is}
+use Rattle.ada_expr_laws.proofs.Primaries.{no_place, close_ends}
 use Rattle.ada_expr_laws.proofs.Building.{law_subind}
-use Rattle.ada_expr_laws.proofs.Calling.{close_ends}
 use Rattle.ada_phrase_parser.specs.Spelling.{Source, Spelling, ◌▷◌, May, Key, Named, Again, WithId, Predefined, PriorityWord, id_of}
 use Rattle.ada_phrase_parser.specs.Phrases.{Names, Expression, Drange}
 use Rattle.ada_parser.specs.Declarations.{Subind, ArrayOf}
@@ -32,20 +31,17 @@ use Rattle.ada_task_parser.specs.inner.ReadingTasks as tasks
 use Rattle.ada_parser.specs.inner.ReadingDeclarativeParts as declarative
 use Rattle.ada_parser.proofs.KitPieces.{KeyAt, Closing, closing_key, closing_then, closing_same, Same, same_self, same_grouped, same_through, same_behind}
 use Rattle.ada_parser.proofs.KitReading.{Made, Both, made_key, made_bind, law_word, law_key, law_closed, law_separated, starts_key, starts_last}
-use Rattle.ada_parser.proofs.KitDeeper.{Expressions, law_expression}
+use Rattle.ada_parser.proofs.KitDeeper.{Expressions, law_expression, again_from}
 use Rattle.ada_parser.proofs.DeclInits.{law_array_then}
 use Rattle.ada_parser.proofs.DeclNames.{semicolon_mark}
+use Rattle.common_lemmas.proofs.Numbers.{equal_self}
 
 -- ---- a name with a known id
-
-id_from : (n m : ℕ) (w v : Word) (b : Bool) → (n == m) ≡ b → (if b then Some w else None) ≡ Some v → (n ≡ m) × (w ≡ v)
-id_from n m w v true is e = (grind (arith, is), some_is e)
-id_from n m w v false is e = absurd (none_is e)
 
 with_id_word : (id : ℕ) (m : Option Word) (v : Word) → with_id_if id m ≡ Some v → (m ≡ Some v) × (v.name.0 ≡ id)
 with_id_word id None v e = absurd (none_is e)
 with_id_word id (Some w) v e =
-    let (is, same) = id_from w.name.0 id w v (w.name.0 == id) refl e in
+    let (is, same) = again_from w.name.0 id w v (w.name.0 == id) refl e in
     (ap Some same, ap (λ u. u.name.0) (sym same) ∙ is)
 
 abbrev word_of : ℕ → Span → Word
@@ -56,11 +52,8 @@ with_id_is id k v e =
     let (is, number) = with_id_word id (word k) v e in
     (v.span, word_is k v is ∙ ap (λ n. word_item (word_of n v.span)) number)
 
-same_number : (n : ℕ) → (n == n) ≡ true
-same_number n = grind arith
-
 pub with_id_takes : (id : ℕ) (at : Span) → with_id id (word_item (word_of id at)) ≡ Some (word_of id at)
-with_id_takes id at = ap (λ b. if b then Some (word_of id at) else None) (same_number id)
+with_id_takes id at = ap (λ b. if b then Some (word_of id at) else None) (equal_self id)
 
 module _ {A : Type 0} (id : ℕ) where
   id_taken : (E : Texts Item A) (e : ℕ) (a : A) (text : List Item) → Then (One (with_id id)) (λ w. E) e a text → (WithId id ▷ E e a) text

@@ -17,13 +17,14 @@ use Rattle.ada_lexer.specs.declared.symbols.Symbol.TheVariants as key
 use Rattle.ada_expr_parser.specs.declared.items.Item.{Item}
 use Rattle.ada_expr_parser.specs.Tests.{same, symbol, word}
 use Rattle.ada_expr_parser.specs.Grammar.{symbol_item, word_item}
-use Rattle.ada_expr_laws.proofs.Tokens.{symbol_is, symbol_takes, some_is}
+use Rattle.ada_expr_laws.proofs.Tokens.{symbol_is, symbol_takes}
 use Rattle.ada_expr_laws.proofs.Primaries.{no_place}
 use Rattle.ada_phrase_parser.specs.Spelling.{Spelling, ◌▷◌, Key, Named, Behind, Separated}
 use Rattle.ada_phrase_parser.specs.Phrases.{Names, Mode, IsFormal, Formals}
 use Rattle.ada_phrase_parser.specs.Reading as reading
 use Rattle.ada_parser.proofs.KitPieces.{KeyAt, same_grouped}
 use Rattle.ada_parser.proofs.KitReading.{Made, made_key, made_bind, made_then, made_pure, law_word, law_last, law_more, starts_key, starts_last, key_taken, taken_key}
+use Rattle.common_lemmas.proofs.Options.{some_same}
 
 -- ---- modes
 
@@ -104,7 +105,7 @@ tail_of (x ∷ list) = list
 
 -- the same first name
 pub word_same : (v w : Word) (back text : List Item) → word_item w ∷ text ≡ word_item v ∷ back → v ≡ w
-word_same v w back text from = some_is (sym (ap word (ap (first_of (word_item w)) from)))
+word_same v w back text from = some_same (sym (ap word (ap (first_of (word_item w)) from)))
 
 names_formal : (w : Word) (d : ℕ) (ws : List Word) (m : ParMode) (mark : Word) (text : List Item) → (Names ws ▷ Key key.Colon ▷ Mode m ▷ Named mark) (word_item w ∷ text) → FromTexts w d (record { names = ws; mode = m; mark = mark }) text
 names_formal w d [] m mark text (front, back, from, never, rest) = absurd never

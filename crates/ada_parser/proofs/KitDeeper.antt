@@ -28,12 +28,14 @@ use Rattle.lawful_reader.proofs.Deepening.{law_shifted}
 use Rattle.lawful_reader.proofs.Looking.{decided, careful_look, too_deep_where}
 use Rattle.lawful_reader.proofs.Fitting.{starts_never, law_fit, careful_fit, careful_same}
 use Rattle.ada_expr_laws.specs.Stopping.{Ends}
-use Rattle.ada_expr_laws.proofs.Tokens.{symbol_is, word_is, some_is, none_is, abs_or_not_is, plus_or_minus_is}
+use Rattle.ada_expr_laws.proofs.Tokens.{symbol_is, word_is, none_is, abs_or_not_is, plus_or_minus_is}
 use Rattle.ada_expr_laws.proofs.Primaries.{no_place, unary_less}
 use Rattle.ada_expr_laws.proofs.Plainly.{law_is_expr}
 use Rattle.ada_parser.proofs.KitPieces.{KeyAt, Closing, closing_key, closing_then, below_inside, inside_below}
 use Rattle.ada_parser.proofs.KitReading.{Made, Both, made_key, law_closed}
-use Rattle.ada_parser.proofs.KitLeading.{some_of}
+use Rattle.common_lemmas.proofs.Numbers.{equal_self}
+use Rattle.common_lemmas.proofs.Options.{none_there, some_same, some_there}
+use Rattle.common_lemmas.proofs.Truth.{or_both}
 
 -- ---- one level deeper
 
@@ -74,19 +76,11 @@ not_symbol : (s : Symbol) (at : Span) (ts : List Item) → symbol_in key.LeftPar
     expression 0 (symbol_item s at ∷ ts) ≡ Fault false (symbol_item s at ∷ ts)
 not_symbol s at ts paren factor plus = rw plus (rw factor (rw paren refl))
 
-pub neither : (a b : Bool) → (a || b) ≡ false → (a ≡ false) × (b ≡ false)
-neither true b e = absurd (true≢false e)
-neither false b e = (refl, e)
-
-pub no_some : {A : Type 0} (m : Option A) → is_some m ≡ false → m ≡ None
-no_some (Some x) e = absurd (true≢false e)
-no_some None e = refl
-
 passes_kind : (kind : ItemKind) (at : Span) (ts : List Item) → begins_in kind at ≡ false → expression 0 (record { kind = kind; span = at } ∷ ts) ≡ Fault false (record { kind = kind; span = at } ∷ ts)
 passes_kind (item.Symbol s) at ts e =
-    let (more, plus) = neither (is_some (symbol_in key.LeftParen (item.Symbol s) at) || is_some (factor_operator s)) (is_some (sign s)) e in
-    let (paren, factor) = neither (is_some (symbol_in key.LeftParen (item.Symbol s) at)) (is_some (factor_operator s)) more in
-    not_symbol s at ts (no_some (symbol_in key.LeftParen (item.Symbol s) at) paren) (no_some (factor_operator s) factor) (no_some (sign s) plus)
+    let (more, plus) = or_both (is_some (symbol_in key.LeftParen (item.Symbol s) at) || is_some (factor_operator s)) (is_some (sign s)) e in
+    let (paren, factor) = or_both (is_some (symbol_in key.LeftParen (item.Symbol s) at)) (is_some (factor_operator s)) more in
+    not_symbol s at ts (none_there (symbol_in key.LeftParen (item.Symbol s) at) paren) (none_there (factor_operator s) factor) (none_there (sign s) plus)
 passes_kind (item.Name n) at ts e = absurd (true≢false e)
 passes_kind (item.Integer n) at ts e = absurd (true≢false e)
 passes_kind (item.Duration n) at ts e = refl
@@ -125,14 +119,14 @@ placed_at at op = record { op = op; span = at }
 symbol_begins : (s : Symbol) (at : Span) (paren factor plus : Bool) → is_some (symbol_in key.LeftParen (item.Symbol s) at) ≡ paren → is_some (factor_operator s) ≡ factor → is_some (sign s) ≡ plus →
     ((paren || factor) || plus) ≡ true → (e : ℕ) × Begins (λ b text. Expression e b text) (symbol_item s at ∷ [])
 symbol_begins s at true factor plus is is' is'' e =
-    let (b, some) = some_of (symbol key.LeftParen (symbol_item s at)) is in
+    let (b, some) = some_there (symbol key.LeftParen (symbol_item s at)) is in
     subst (λ k. (e : ℕ) × Begins (λ b text. Expression e b text) (k ∷ [])) (sym (symbol_is key.LeftParen (symbol_item s at) b some)) (paren_begins b)
 symbol_begins s at false true plus is is' is'' e =
-    let (op, some) = some_of (factor_operator s) is' in
+    let (op, some) = some_there (factor_operator s) is' in
     let (from, level) = abs_or_not_is (symbol_item s at) (placed_at at op) (ap (λ m. with_place m at) some) in
     subst (λ k. (e : ℕ) × Begins (λ b text. Expression e b text) (k ∷ [])) (sym from) (prefix_begins op at)
 symbol_begins s at false false true is is' is'' e =
-    let (op, some) = some_of (sign s) is'' in
+    let (op, some) = some_there (sign s) is'' in
     let (from, level) = plus_or_minus_is (symbol_item s at) (placed_at at op) (ap (λ m. with_place m at) some) in
     subst (λ k. (e : ℕ) × Begins (λ b text. Expression e b text) (k ∷ [])) (sym from) (prefix_begins op at)
 symbol_begins s at false false false is is' is'' e = absurd (true≢false (sym e))
@@ -163,8 +157,8 @@ operand_careful d = careful_fit (λ e deep a text is. below_inside (λ b i. Expr
 
 -- ---- `end [NAME] ;`
 
-again_from : (n m : ℕ) (w v : Word) (b : Bool) → (n == m) ≡ b → (if b then Some w else None) ≡ Some v → (n ≡ m) × (w ≡ v)
-again_from n m w v true is e = (grind (arith, is), some_is e)
+pub again_from : (n m : ℕ) (w v : Word) (b : Bool) → (n == m) ≡ b → (if b then Some w else None) ≡ Some v → (n ≡ m) × (w ≡ v)
+again_from n m w v true is e = (grind (arith, is), some_same e)
 again_from n m w v false is e = absurd (none_is e)
 
 again_word : (name : Word) (m : Option Word) (v : Word) → again_if name m ≡ Some v → (m ≡ Some v) × (v.name.0 ≡ name.name.0)
@@ -184,11 +178,8 @@ again_is name k v e =
     let (is, number) = again_word name (word k) v e in
     (v.span, word_is k v is ∙ ap (λ n. named_at v.span (numbered n)) number)
 
-same_number : (n : ℕ) → (n == n) ≡ true
-same_number n = grind arith
-
 pub again_takes : (name : Word) (at : Span) → again name (word_item record { name = name.name; span = at }) ≡ Some (record { name = name.name; span = at })
-again_takes name at = ap (λ b. if b then Some (record { name = name.name; span = at }) else None) (same_number name.name.0)
+again_takes name at = ap (λ b. if b then Some (record { name = name.name; span = at }) else None) (equal_self name.name.0)
 
 abbrev pub NameEnd : Word → Span → Spelling
 NameEnd name close = May (Again name) ▷ KeyAt key.Semicolon close

@@ -1,5 +1,5 @@
 -- Choices by the next item: which symbols each choice begins with, so that no test takes what another should.
-use Rattle.std.proofs.Common.{◌≡◌, ℕ, suc, Bool, true, false, ◌⊎◌, inl, inr, ⊎_elim, List, [], ◌∷◌, Option, Some, None, refl, sym, ap, ◌∙◌, subst, true≢false}
+use Rattle.std.proofs.Common.{◌≡◌, ℕ, suc, Bool, true, false, ◌⊎◌, inl, inr, ⊎_elim, List, [], ◌∷◌, Some, None, refl, sym, ap, ◌∙◌, subst, true≢false}
 use Rattle.std.specs.Prelude.{is_some, not, ◌&&◌, ◌||◌}
 use Rattle.ada_tree.specs.declared.naming.Span.{Span}
 use Rattle.ada_tree.specs.declared.naming.Word.{Word}
@@ -15,6 +15,8 @@ use Rattle.lawful_reader.proofs.Choosing.{careful_refuse, careful_on}
 use Rattle.lawful_reader.proofs.Deepening.{careful_below}
 use Rattle.lawful_reader.proofs.Fitting.{starts_never, starts_or, starts_token}
 use Rattle.ada_expr_laws.proofs.Tokens.{symbol_is, symbol_takes, word_is}
+use Rattle.common_lemmas.proofs.Options.{some_there}
+use Rattle.common_lemmas.proofs.Truth.{and_both}
 
 -- one of these symbols, or a name where names are among them
 abbrev pub among : Bool → List Symbol → Item → Bool
@@ -26,23 +28,15 @@ abbrev pub fresh : Symbol → List Symbol → Bool
 fresh s [] = true
 fresh s (t ∷ more) = not (same t s) && fresh s more
 
-pub some_of : {A : Type 0} (m : Option A) → is_some m ≡ true → (x : A) × (m ≡ Some x)
-some_of (Some x) e = (x, refl)
-some_of None e = absurd (true≢false (sym e))
-
 pub or_is : (a b : Bool) → (a || b) ≡ true → (a ≡ true) ⊎ (b ≡ true)
 or_is true b e = inl refl
 or_is false b e = inr e
 
-pub and_is : (a b : Bool) → (a && b) ≡ true → (a ≡ true) × (b ≡ true)
-and_is true b e = (refl, e)
-and_is false b e = absurd (true≢false (sym e))
-
 pub symbol_at : (s : Symbol) (k : Item) → is_symbol s k ≡ true → (at : Span) × (k ≡ symbol_item s at)
-symbol_at s k e = let (at, some) = some_of (symbol s k) e in (at, symbol_is s k at some)
+symbol_at s k e = let (at, some) = some_there (symbol s k) e in (at, symbol_is s k at some)
 
 pub word_at : (k : Item) → is_some (word k) ≡ true → (w : Word) × (k ≡ word_item w)
-word_at k e = let (w, some) = some_of (word k) e in (w, word_is k w some)
+word_at k e = let (w, some) = some_there (word k) e in (w, word_is k w some)
 
 pub is_itself : (s : Symbol) (at : Span) → is_symbol s (symbol_item s at) ≡ true
 is_itself s at = ap is_some (symbol_takes s at)
@@ -80,8 +74,8 @@ passed s words [] k new is = words_passed words is where
   words_passed true is = let (w, from) = word_at k is in rw from refl
   words_passed false is = absurd (true≢false (sym is))
 passed s words (t ∷ more) k new is = ⊎_elim
-    (λ yes_is. let (at, from) = symbol_at t k yes_is in rw from (not_same s t at (and_is (not (same t s)) (fresh s more) new).0))
-    (λ other. passed s words more k (and_is (not (same t s)) (fresh s more) new).1 other)
+    (λ yes_is. let (at, from) = symbol_at t k yes_is in rw from (not_same s t at (and_both (not (same t s)) (fresh s more) new).0))
+    (λ other. passed s words more k (and_both (not (same t s)) (fresh s more) new).1 other)
     (or_is (is_symbol t k) (among words more k) is)
 
 -- A choice, careful and by the symbols that its texts begin with.

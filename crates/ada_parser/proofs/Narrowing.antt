@@ -9,6 +9,7 @@ use Rattle.lawful_reader.proofs.Basics.{not_empty}
 use Rattle.lawful_reader.proofs.Choosing.{careful_on, careful_refuse}
 use Rattle.lawful_reader.proofs.Fitting.{starts_never, starts_token, careful_fit, careful_same}
 use Rattle.lawful_reader.proofs.Looking.{decided, CarefulWhere, careful_look, too_deep_where}
+use Rattle.common_lemmas.proofs.Numbers.{le_false, le_is_not, le_true, le_is}
 
 -- the texts that begin with a token of the test
 pub record Narrow {K A : Type 0} (test : K → Bool) (D : Texts K A) (d : ℕ) (a : A) (text : List K) : Type 0 where
@@ -102,26 +103,14 @@ Room n D d a text = (n ≤ d) × D d a text
 abbrev pub room : {K A : Type 0} → ℕ → (K → Bool) → (ℕ → Reader K A) → ℕ → Reader K A
 room n test p d ts = if nat_le n d then p d ts else look test too_deep refuse ts
 
-le_is : (a b : ℕ) → a ≤ b → nat_le a b ≡ true
-le_is a b low = grind (arith, low)
-
-not_le : (a b : ℕ) → b < a → nat_le a b ≡ false
-not_le a b low = grind (arith, low)
-
-le_says : (a b : ℕ) → nat_le a b ≡ true → a ≤ b
-le_says a b e = grind (arith, e)
-
-lt_says : (a b : ℕ) → nat_le a b ≡ false → b < a
-lt_says a b e = grind (arith, e)
-
 module _ {K A : Type 0} (n : ℕ) {test : K → Bool} (p : ℕ → Reader K A) {D : Texts K A} {S : K → Type 0}
     (laws : (e : ℕ) → n ≤ e → Careful e (p e) (p (suc e)) D S) (deep_text : (k : K) → test k ≡ true → Begins (D n) (k ∷ []))
     (passes : (k : K) (ts : List K) → test k ≡ false → p n (k ∷ ts) ≡ Fault false (k ∷ ts)) (none : p n [] ≡ Fault false []) where
   with_room : (d : ℕ) (ts : List K) → n ≤ d → room n test p d ts ≡ p d ts
-  with_room d ts low = ap (λ b. if b then p d ts else look test too_deep refuse ts) (le_is n d low)
+  with_room d ts low = ap (λ b. if b then p d ts else look test too_deep refuse ts) (le_true n d low)
 
   without : (d : ℕ) (ts : List K) → d < n → room n test p d ts ≡ look test too_deep refuse ts
-  without d ts low = ap (λ b. if b then p d ts else look test too_deep refuse ts) (not_le n d low)
+  without d ts low = ap (λ b. if b then p d ts else look test too_deep refuse ts) (le_false n d low)
 
   looked : (ts : List K) → p n ts ≡ look test (p n) refuse ts
   looked [] = none
@@ -144,10 +133,10 @@ module _ {K A : Type 0} (n : ℕ) {test : K → Bool} (p : ℕ → Reader K A) {
 
   pub careful_room : (d : ℕ) → n ≤ suc d → Careful d (room n test p d) (room n test p (suc d)) (Room n D) S
   careful_room d near = ⊎_elim
-      (λ yes_is. let low = le_says n d yes_is in careful_same (λ ts. with_room d ts low) (λ ts. with_room (suc d) ts (omega (arith, low)))
+      (λ yes_is. let low = le_is n d yes_is in careful_same (λ ts. with_room d ts low) (λ ts. with_room (suc d) ts (omega (arith, low)))
       (careful_fit (λ e deep a text is. (omega (arith, low, deep), is)) (λ a text is. is.1) (laws d low)))
       (λ no_is.
-      let high = lt_says n d no_is in
+      let high = le_is_not n d no_is in
       let edge : suc d ≡ n = omega (arith, near, high) in
       careful_same (λ ts. without d ts high) (λ ts. with_room (suc d) ts near ∙ ap (λ m. p m ts) edge ∙ looked ts) (at_edge d edge))
       (decided (nat_le n d))

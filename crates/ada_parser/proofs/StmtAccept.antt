@@ -13,7 +13,7 @@ use Rattle.ada_expr_parser.specs.declared.items.Item.{Item}
 use Rattle.ada_expr_parser.specs.declared.levels.Level.TheVariants.{Logical}
 use Rattle.ada_expr_parser.specs.Tests.{same, symbol, word, begins_expr}
 use Rattle.ada_expr_parser.specs.Trees.{from_to, attribute}
-use Rattle.ada_expr_parser.specs.Grammar.{symbol_item, word_item, number_item, prefix_symbol, Spells}
+use Rattle.ada_expr_parser.specs.Grammar.{symbol_item, word_item, number_item, Spells}
 use Rattle.ada_expr_parser.specs.Reading.{inner, name_rest}
 use Rattle.ada_expr_parser.specs.Parts.{expr_behind}
 use Rattle.ada_phrase_parser.specs.Spelling.{Source, Spelling, Nothing, ◌▷◌, Key, Named, Separated, Inside, Stands}
@@ -33,15 +33,14 @@ use Rattle.lawful_reader.proofs.Deepening.{law_below}
 use Rattle.lawful_reader.proofs.Fitting.{law_fit, careful_same, starts_is}
 use Rattle.ada_expr_laws.specs.Stopping.{Ends}
 use Rattle.ada_expr_laws.proofs.Tokens.{symbol_takes, word_is}
-use Rattle.ada_expr_laws.proofs.Primaries.{no_place, some_word}
+use Rattle.ada_expr_laws.proofs.Primaries.{no_place, some_word, close_ends}
 use Rattle.ada_expr_laws.proofs.Plainly.{after_symbol, symbol_then}
-use Rattle.ada_expr_laws.proofs.Calling.{close_ends}
 use Rattle.ada_expr_laws.proofs.Chains.{spells_first}
 use Rattle.ada_expr_laws.proofs.Stopper.{stopper, stopper_ends}
 use Rattle.ada_expr_laws.proofs.Behinds.{behind_spells}
 use Rattle.ada_parser.proofs.KitPieces.{KeyAt, Closing, closing_key, closing_then, placed_key, key_placed, key_then, after_key, Same, same_self, same_turn, same_through, same_then, same_grouped, tail_of}
 use Rattle.ada_parser.proofs.KitReading.{Made, Both, made_fit, made_bind, made_then, made_key, made_pure, law_word, law_closed, key_taken, taken_key, starts_key, starts_last}
-use Rattle.ada_parser.proofs.KitDeeper.{careful_in_deeper, careful_behind, operand_careful, NameEnd, law_end_of, closing_end, neither, no_some}
+use Rattle.ada_parser.proofs.KitDeeper.{careful_in_deeper, careful_behind, operand_careful, NameEnd, law_end_of, closing_end}
 use Rattle.ada_parser.proofs.KitLeading.{symbol_at, or_is}
 use Rattle.ada_parser.proofs.Narrowing.{Narrow, narrow_where, narrow_starts, passed_by, law_either}
 use Rattle.ada_parser.proofs.Formals.{FormalsBehind, law_formals_from, FormalsTexts, EndsFormals, law_formals, formals_start}
@@ -49,7 +48,12 @@ use Rattle.ada_parser.proofs.WordExpr.{FromTexts, law_from, operates, stays, som
 use Rattle.ada_parser.proofs.WordGet.{goes_so}
 use Rattle.ada_parser.proofs.StmtLevels.{EndsStmts, StmtsTexts, AcceptTexts, LevelLaws, law_stmts, Has, has_then, has_key, has_at, nulls, has_nulls, end_stmts}
 use Rattle.ada_parser.proofs.StmtSimple.{LedBy}
-use Rattle.ada_parser.proofs.StmtLoops.{same_longer, placed_same}
+use Rattle.ada_parser.proofs.StmtLoops.{placed_same}
+use Rattle.ada_parser.proofs.DeclEntries.{semicolon_formals}
+use Rattle.ada_parser.proofs.DeclTypes.{pushed}
+use Rattle.ada_parser.proofs.WordPut.{paren_begins, prefix_begins}
+use Rattle.common_lemmas.proofs.Options.{none_there}
+use Rattle.common_lemmas.proofs.Truth.{or_both}
 
 abbrev Found_behind : Type 0
 Found_behind = Behind PExpr
@@ -128,12 +132,12 @@ module _ (w : Word) where
 
   passes_from : (k : Item) (ts : List Item) → goes_on k ≡ false → from_name 0 (k ∷ ts) ≡ Fault false (k ∷ ts)
   passes_from k ts off =
-      let (open_, close) = neither (goes_on_name k || is_symbol key.LeftParen k) (is_symbol key.RightParen k) off in
-      let (goes, paren) = neither (goes_on_name k) (is_symbol key.LeftParen k) open_ in
-      let (tick, none) = neither (is_symbol key.Tick k) (operates k) (sym (goes_so k) ∙ goes) in
-      let named : name_rest 0 (inner 0) w (k ∷ ts) ≡ Found (EName w.name w.span) (k ∷ ts) = rw (no_some (symbol key.LeftParen k) paren) (rw (no_some (symbol key.Tick k) tick) refl) in
+      let (open_, close) = or_both (goes_on_name k || is_symbol key.LeftParen k) (is_symbol key.RightParen k) off in
+      let (goes, paren) = or_both (goes_on_name k) (is_symbol key.LeftParen k) open_ in
+      let (tick, none) = or_both (is_symbol key.Tick k) (operates k) (sym (goes_so k) ∙ goes) in
+      let named : name_rest 0 (inner 0) w (k ∷ ts) ≡ Found (EName w.name w.span) (k ∷ ts) = rw (none_there (symbol key.LeftParen k) paren) (rw (none_there (symbol key.Tick k) tick) refl) in
       ap (λ a. go_on (go_on a (expr_behind 0)) behind_index) named ∙ ap (λ a. go_on a behind_index) (stays (EName w.name w.span) refl 0 k ts none) ∙
-      refuses (EName w.name w.span) k ts (no_some (symbol key.RightParen k) close)
+      refuses (EName w.name w.span) k ts (none_there (symbol key.RightParen k) close)
 
   abbrev refused : Bool → List Item → Answer Item PExpr
   refused b ts = if b then Fault true ts else Fault false ts
@@ -247,18 +251,6 @@ formals_name (x ∷ more) text (front, back, from, (f, b, split, is, many), one)
     let (w, rest, first) = formal_name x.names (Key key.Colon ▷ Mode x.mode ▷ Named x.mark) f is in
     (w, (rest ++ b) ++ back, from ∙ ap (λ l. l ++ back) (split ∙ ap (λ l. l ++ b) first))
 
--- an expression is not empty
-paren_begins : (s : Span) → begins_expr (symbol_item key.LeftParen s) ≡ true
-unfolding same
-paren_begins s = refl
-
-prefix_begins : (op : UnaryOp) (s : Span) → begins_expr (symbol_item (prefix_symbol op) s) ≡ true
-unfolding same
-prefix_begins unary.Plus s = refl
-prefix_begins unary.Minus s = refl
-prefix_begins unary.Abs s = refl
-prefix_begins unary.Not s = refl
-
 no_expr : (e : PExpr) → Spells e [] → ⊥
 no_expr e is = true≢false (sym (spells_first (λ k. begins_expr k ≡ true) (λ w. refl) (λ n s. refl) paren_begins prefix_begins e [] (record { kind = item.End; span = no_place }) is))
 
@@ -315,7 +307,7 @@ enclosed_same (suc e) i = record {
 }
 
 index_same : (d : ℕ) (i : PExpr) (fs : List PFormal) → Same (Key key.LeftParen ▷ (Operand d i ▷ CloseFormals i d fs)) (Index d (Some i) ▷ Formals fs)
-index_same d i fs = same_through (same_longer (Key key.LeftParen) (same_grouped (Operand d i) (Key key.RightParen) (Formals fs))) (same_then (enclosed_same d i) (same_self (Formals fs)))
+index_same d i fs = same_through (pushed (Key key.LeftParen) (same_grouped (Operand d i) (Key key.RightParen) (Formals fs))) (same_then (enclosed_same d i) (same_self (Formals fs)))
 
 abbrev LeadTexts : Texts Item Found_behind
 LeadTexts = Or (Then (One (symbol key.LeftParen)) (λ lead. InTexts)) (Is (formals_alone []))
@@ -354,10 +346,6 @@ AcceptEnd = Span ⊎ (PStmts × Span)
 do_no_paren : (at : Span) → EndsFormals (symbol_item key.Do at)
 unfolding same
 do_no_paren at = refl
-
-semicolon_no_paren : (at : Span) → EndsFormals (symbol_item key.Semicolon at)
-unfolding same
-semicolon_no_paren at = refl
 
 semicolon_no_do : (at : Span) → symbol key.Do (symbol_item key.Semicolon at) ≡ None
 unfolding same
@@ -419,7 +407,7 @@ module _ (source : Source) where
     ends_start : (d : ℕ) → Starts d (Made (accept_tree lead w x) (EndSpelled w)) Anything EndsFormals
     ends_start d = record { begins_with = λ a text k is stop. starts a text k is } where
       starts : (a : PAccept) (text : List Item) (k : Item) → Made (accept_tree lead w x) (EndSpelled w) d a text → EndsFormals (first_of k text)
-      starts a text k (inl close, same, is) = rw is (semicolon_no_paren close)
+      starts a text k (inl close, same, is) = rw is (semicolon_formals close)
       starts a text k (inr v, same, (front, back, from, (at, one), rest)) = rw from (rw one (do_no_paren at))
 
   abbrev AcceptBehind : Word → ℕ → Found_behind × AcceptEnd → Spelling
@@ -435,7 +423,7 @@ module _ (source : Source) where
   -- ---- as the grammar has it
 
   head_same : (d : ℕ) (h : PHead) (End : Spelling) → Same (Key key.Accept ▷ (Named h.entry ▷ ((Index d h.index ▷ Formals h.formals) ▷ End))) (AcceptHead d h ▷ End)
-  head_same d h End = same_longer (Key key.Accept) (same_grouped (Named h.entry) (Index d h.index ▷ Formals h.formals) End)
+  head_same d h End = pushed (Key key.Accept) (same_grouped (Named h.entry) (Index d h.index ▷ Formals h.formals) End)
 
   abbrev LongEnd : Word → ℕ → PStmts → Spelling → Spelling
   LongEnd w d l End = Key key.Do ▷ (Inside d (λ i. Stmts source i l) ▷ End)

@@ -324,7 +324,7 @@ abbrev pub IsBlock : PStmt → Type 0
 IsBlock (SBlock b s) = Unit {0}
 IsBlock x = ⊥
 
-end_body : (at : Span) → EndsBody (symbol_item key.End at)
+pub end_body : (at : Span) → EndsBody (symbol_item key.End at)
 unfolding same
 end_body at = ((refl, refl), refl)
 

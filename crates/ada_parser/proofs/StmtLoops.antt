@@ -26,7 +26,7 @@ use Rattle.lawful_reader.proofs.Choosing.{law_on}
 use Rattle.lawful_reader.proofs.Listing.{law_token}
 use Rattle.lawful_reader.proofs.Fitting.{law_fit, careful_fit, first_append}
 use Rattle.ada_expr_laws.specs.Stopping.{Ends, EndsRange}
-use Rattle.ada_expr_laws.proofs.Tokens.{symbol_takes, some_is}
+use Rattle.ada_expr_laws.proofs.Tokens.{symbol_takes}
 use Rattle.ada_expr_laws.proofs.Primaries.{no_place, some_word}
 use Rattle.ada_expr_laws.proofs.Chains.{spells_first}
 use Rattle.ada_expr_laws.proofs.Building.{law_drange}
@@ -36,11 +36,10 @@ use Rattle.ada_parser.proofs.KitDeeper.{Expressions, law_expression, again_is, a
 use Rattle.ada_parser.proofs.KitLeading.{Led, led_refuse, led_on}
 use Rattle.ada_parser.proofs.StmtLevels.{EndsStmts, StmtsTexts, LevelLaws, law_stmts, Has, has_then, has_nothing, has_key, has_at, has_word, zero_is, has_zero, nulls, has_nulls, end_stmts}
 use Rattle.ada_parser.proofs.StmtSimple.{LedBelow}
+use Rattle.ada_parser.proofs.DeclTypes.{pushed}
+use Rattle.common_lemmas.proofs.Options.{some_same}
 
 -- ---- what is spelled alike
-
-pub same_longer : (P : Spelling) {X Y T : Spelling} → Same X (Y ▷ T) → Same (P ▷ X) ((P ▷ Y) ▷ T)
-same_longer P {X} {Y} {T} same = same_through (same_behind P same) (same_grouped P Y T)
 
 pub placed_same : {P Q : Spelling} → Same P Q → (s : Span) (text : List Item) → Placed s P text → Placed s Q text
 placed_same same s text (is, place) = (same.to text is, place)
@@ -65,7 +64,7 @@ module _ (source : Source) where
   LoopInside e c l = IfThere c (IsScheme e) ▷ Key key.Loop ▷ Stmts source e l
 
   inside_same : (e : ℕ) (c : Option PScheme) (l : PStmts) (End : Spelling) → Same (IfThere c (IsScheme e) ▷ LoopBody e l End) (LoopInside e c l ▷ End)
-  inside_same e c l End = same_longer (IfThere c (IsScheme e)) (same_grouped (Key key.Loop) (Stmts source e l) End)
+  inside_same e c l End = pushed (IfThere c (IsScheme e)) (same_grouped (Key key.Loop) (Stmts source e l) End)
 
   abbrev WhileBehind : ℕ → PExpr → PStmts → Spelling → Spelling
   WhileBehind e test l End = Expression e test ▷ LoopBody e l End
@@ -77,7 +76,7 @@ module _ (source : Source) where
   while_same e test l End = same_grouped (Key key.While) (Expression e test) (LoopBody e l End)
 
   for_same : (e : ℕ) (w : Word) (b : Bool) (x : PDrange) (l : PStmts) (End : Spelling) → Same (Key key.For ▷ ForBehind e w b x l End) (IfThere (Some (LFor w b x)) (IsScheme e) ▷ LoopBody e l End)
-  for_same e w b x l End = same_longer (Key key.For) (same_longer (Named w) (same_longer (Key key.In) (same_grouped (Reverse b) (Drange e x) (LoopBody e l End))))
+  for_same e w b x l End = pushed (Key key.For) (pushed (Named w) (pushed (Key key.In) (same_grouped (Reverse b) (Drange e x) (LoopBody e l End))))
 
   loop_same : (e : ℕ) (l : PStmts) (End : Spelling) → Same (LoopBody e l End) (IfThere None (IsScheme e) ▷ LoopBody e l End)
   loop_same e l End = same_begun (LoopBody e l End)
@@ -405,7 +404,7 @@ module _ (source : Source) where
       let placed : Placed s (Named v ▷ (Key key.Colon ▷ (IfThere c (IsScheme e) ▷ LoopBody source e l (LoopEnd (Some v) (Key key.Semicolon))))) (word_item w ∷ symbol_item key.Colon at ∷ text) =
       placed_same (same_turn (named_same source v e c l (Key key.Semicolon))) s (word_item w ∷ symbol_item key.Colon at ∷ text) is in
       let (back, from, rest) = after_word v (Key key.Colon ▷ (IfThere c (IsScheme e) ▷ LoopBody source e l (LoopEnd (Some v) (Key key.Semicolon)))) (word_item w ∷ symbol_item key.Colon at ∷ text) placed.0 in
-      let named : v ≡ w = some_is (sym (ap (head_word w) from)) in
+      let named : v ≡ w = some_same (sym (ap (head_word w) from)) in
       by named placed where
         by : v ≡ w → Placed s (Named v ▷ (Key key.Colon ▷ (IfThere c (IsScheme e) ▷ LoopBody source e l (LoopEnd (Some v) (Key key.Semicolon))))) (word_item w ∷ symbol_item key.Colon at ∷ text) →
             Made (named_tree source w) (NamedSpelled source w) e (SLoop (Some v) c l s) text

@@ -31,8 +31,8 @@ use Rattle.ada_parser.proofs.KitReading.{Made, Both, made_fit, made_bind, made_t
 use Rattle.ada_parser.proofs.StmtLevels.{EndsStmts, EndsElse, StmtsTexts, AnyTexts, AltTexts, LevelLaws, law_stmts, law_any_stmts, law_else, else_starts, Has, has_then, has_nothing}
 use Rattle.ada_parser.proofs.StmtSimple.{LedBelow, DelayedTexts, law_delayed}
 use Rattle.ada_parser.proofs.StmtIf.{EndShut, end_closing, has_end, law_end}
-use Rattle.ada_parser.proofs.StmtLoops.{same_longer}
 use Rattle.ada_parser.proofs.StmtAlts.{alt_first}
+use Rattle.ada_parser.proofs.DeclTypes.{pushed}
 
 -- ---- selective waits
 
@@ -239,7 +239,7 @@ module _ (source : Source) where
   DelayInside e c l n m = Calls e c ▷ Key key.Semicolon ▷ AnyStmts source e l ▷ Key key.Or ▷ DelayOf n ▷ AnyStmts source e m
 
   else_same : (e : ℕ) (c : PCall) (l o : PStmts) (close : Span) → Same (CallSpelled e (c, (l, inl (o, close)))) (ElseInside e c l o ▷ EndShut key.Select e close)
-  else_same e c l o close = same_longer (Calls e c) (same_longer (Key key.Semicolon) (same_longer (AnyStmts source e l) (same_grouped (Key key.Else) (Stmts source e o) (EndShut key.Select e close))))
+  else_same e c l o close = pushed (Calls e c) (pushed (Key key.Semicolon) (pushed (AnyStmts source e l) (same_grouped (Key key.Else) (Stmts source e o) (EndShut key.Select e close))))
 
   -- with the place of the semicolon behind the duration
   abbrev DelayShut : Delayed → Spelling
@@ -247,7 +247,7 @@ module _ (source : Source) where
 
   delay_same : (e : ℕ) (c : PCall) (l : PStmts) (x : Delayed) (m : PStmts) (close : Span) →
       Same (CallSpelled e (c, (l, inr (x, (m, close))))) ((Calls e c ▷ Key key.Semicolon ▷ AnyStmts source e l ▷ Key key.Or ▷ DelayShut x ▷ AnyStmts source e m) ▷ EndShut key.Select e close)
-  delay_same e c l x m close = same_longer (Calls e c) (same_longer (Key key.Semicolon) (same_longer (AnyStmts source e l) (same_longer (Key key.Or)
+  delay_same e c l x m close = pushed (Calls e c) (pushed (Key key.Semicolon) (pushed (AnyStmts source e l) (pushed (Key key.Or)
       (same_through (same_grouped (Key key.Delay) (DelayedTexts e x) (AnyStmts source e m ▷ EndShut key.Select e close)) (same_grouped (DelayShut x) (AnyStmts source e m) (EndShut key.Select e close))))))
 
   -- nested pieces, one of which is said otherwise

@@ -28,7 +28,7 @@ use Rattle.lawful_reader.proofs.Listing.{law_token}
 use Rattle.lawful_reader.proofs.Deepening.{law_below}
 use Rattle.lawful_reader.proofs.Fitting.{law_fit}
 use Rattle.ada_expr_laws.specs.Stopping.{Ends, EndsTarget}
-use Rattle.ada_expr_laws.proofs.Tokens.{symbol_is, word_is, none_is, some_is}
+use Rattle.ada_expr_laws.proofs.Tokens.{symbol_is, word_is, none_is}
 use Rattle.ada_expr_laws.proofs.Primaries.{no_place, some_word}
 use Rattle.ada_expr_laws.proofs.Plainly.{after_symbol, symbol_then}
 use Rattle.ada_expr_laws.proofs.Calling.{law_target}
@@ -36,6 +36,7 @@ use Rattle.ada_parser.proofs.KitPieces.{KeyAt, Closing, closing_key, closing_the
 use Rattle.ada_parser.proofs.KitReading.{Made, Both, made_fit, made_bind, made_then, made_pure, law_closed, law_separated, starts_last}
 use Rattle.ada_parser.proofs.KitDeeper.{Expressions, law_expression}
 use Rattle.ada_parser.proofs.StmtLevels.{Has, zero_is, has_zero, has_then, has_at}
+use Rattle.common_lemmas.proofs.Options.{some_same}
 
 -- what is a statement of this kind when it stands behind the symbol
 abbrev pub LedBy : Source → (PStmt → Type 0) → Symbol → Span → Texts Item PStmt
@@ -73,7 +74,7 @@ abbrev item_as : ItemKind → Span → Item
 item_as kind at = record { kind = kind; span = at }
 
 duration_kind : (kind : ItemKind) (at : Span) (n : ℕ) → duration_in kind ≡ Some n → item_as kind at ≡ item_as (item.Duration n) at
-duration_kind (item.Duration m) at n e = ap (λ v. item_as (item.Duration v) at) (some_is e)
+duration_kind (item.Duration m) at n e = ap (λ v. item_as (item.Duration v) at) (some_same e)
 duration_kind (item.Symbol t) at n e = absurd (none_is e)
 duration_kind (item.Name m) at n e = absurd (none_is e)
 duration_kind (item.Integer m) at n e = absurd (none_is e)
@@ -184,7 +185,7 @@ WhenTest d e = IfThere e (λ test. Key key.When ▷ Operand d test)
 abbrev ExitSpelled : Option Word → ℕ → Option PExpr × Span → Spelling
 ExitSpelled w d v = WhenTest d v.0 ▷ KeyAt key.Semicolon v.1
 
-semicolon_ends : (at : Span) → Ends Logical (symbol_item key.Semicolon at)
+pub semicolon_ends : (at : Span) → Ends Logical (symbol_item key.Semicolon at)
 unfolding same
 semicolon_ends at = (((((refl, refl), refl), refl), refl), refl)
 

@@ -19,12 +19,12 @@ use Rattle.lawful_reader.specs.Lawful.{Lawful, Anything, IsPassed}
 use Rattle.lawful_reader.proofs.Binding.{law_bind}
 use Rattle.lawful_reader.proofs.Deepening.{law_below}
 use Rattle.lawful_reader.proofs.Fitting.{starts_or, starts_token, starts_then}
-use Rattle.ada_expr_laws.specs.Stopping.{Ends, EndsTarget}
-use Rattle.ada_expr_laws.proofs.Tokens.{symbol_is, some_is}
+use Rattle.ada_expr_laws.specs.Stopping.{EndsTarget}
+use Rattle.ada_expr_laws.proofs.Tokens.{symbol_is}
 use Rattle.ada_expr_laws.proofs.Primaries.{no_place}
 use Rattle.ada_expr_laws.proofs.Plainly.{after_symbol, symbol_then, ExprTexts, law_is_expr}
 use Rattle.ada_expr_laws.proofs.Calling.{a_number, of_name, TargetRest, law_target_rest, target_is, is_target}
-use Rattle.ada_expr_laws.proofs.Entries.{CallRest, law_call_rest, call_rest_is, is_call_rest}
+use Rattle.ada_expr_laws.proofs.Entries.{CallRest, law_call_rest, call_rest_is, is_call_rest, dot_target}
 use Rattle.ada_phrase_parser.specs.Spelling.{Source, Placed, Stands, last_place, Key, ◌▷◌}
 use Rattle.ada_phrase_parser.specs.Phrases.{Operand}
 use Rattle.ada_stmt_parser.specs.Statements.{Target, Call}
@@ -34,6 +34,8 @@ use Rattle.ada_parser.proofs.KitPieces as pieces
 use Rattle.ada_parser.proofs.KitPieces.{KeyAt, last_is}
 use Rattle.ada_parser.proofs.KitReading.{Made, law_closed, starts_last}
 use Rattle.ada_parser.proofs.WordLaw.{WordTexts}
+use Rattle.ada_parser.proofs.StmtSimple.{semicolon_ends}
+use Rattle.common_lemmas.proofs.Options.{some_same}
 
 -- ---- a semicolon, and the tree by its place
 
@@ -80,10 +82,6 @@ CallTexts t = Then (CallRest (callee_of t)) (λ c. ClosedTexts (called t c))
 
 abbrev pub AssignTexts : PTarget → Texts Item PStmt
 AssignTexts t = Or (Then (One (symbol key.Becomes)) (λ at. Below (ValueTexts t))) (CallTexts t)
-
-semicolon_ends : (at : Span) → Ends Logical (symbol_item key.Semicolon at)
-unfolding same
-semicolon_ends at = (((((refl, refl), refl), refl), refl), refl)
 
 semicolon_target : (at : Span) → EndsTarget (symbol_item key.Semicolon at)
 unfolding same
@@ -136,10 +134,6 @@ PlainTexts w = Then (TargetRest w) AssignTexts
 becomes_target : (at : Span) → EndsTarget (symbol_item key.Becomes at)
 unfolding same
 becomes_target at = refl
-
-dot_target : (at : Span) → EndsTarget (symbol_item key.Dot at)
-unfolding same
-dot_target at = refl
 
 pub law_plain : (d : ℕ) (w : Word) → Lawful d (plain_rest d w) (plain_rest (suc d) w) (PlainTexts w) Anything
 law_plain d w = law_bind (law_target_rest d w) (law_assign d) (λ t. assign_starts EndsTarget t becomes_target dot_target)
@@ -214,7 +208,7 @@ module _ (source : Source) where
 -- the name that stands first is the variable's
 pub first_name : (w v : Word) (text more : List Item) → word_item w ∷ text ≡ word_item v ∷ more → (w ≡ v) × (text ≡ more)
 first_name w v text more e =
-    let same : w ≡ v = some_is (ap word (ap (first_of (word_item w)) e)) in
+    let same : w ≡ v = some_same (ap word (ap (first_of (word_item w)) e)) in
     (same, append_cancel_left (word_item v ∷ []) text more (ap (λ u. word_item u ∷ text) (sym same) ∙ e))
 
 named_target : (d : ℕ) (w : Word) (t : PTarget) (front more text : List Item) → word_item w ∷ text ≡ front ++ more → IsTarget d t front →

@@ -26,12 +26,15 @@ use Rattle.lawful_reader.proofs.Fitting.{first_append, law_fit}
 use Rattle.lawful_reader.proofs.Turning.{chain_deep, chain_end}
 use Rattle.ada_expr_laws.specs.Stopping.{Ends, EndsPrimary}
 use Rattle.ada_expr_laws.specs.Laws.{first_operand}
-use Rattle.ada_expr_laws.proofs.Tokens.{none_is, some_is}
-use Rattle.ada_expr_laws.proofs.Chains.{binary_low, lawful_operators}
+use Rattle.ada_expr_laws.proofs.Tokens.{none_is}
+use Rattle.ada_expr_laws.proofs.Chains.{lawful_operators}
 use Rattle.ada_expr_laws.proofs.Primaries.{no_place, NameRest, law_name, name_spell, spell_primary}
 use Rattle.ada_expr_laws.proofs.Behinds.{Behind, BehindAt, first_itself, law_inner, law_levels, behind_spells, spells_behind}
 use Rattle.ada_phrase_parser.specs.Reading.{expression_from}
-use Rattle.ada_parser.proofs.KitDeeper.{neither}
+use Rattle.ada_expr_laws.proofs.Signs.{low_binary}
+use Rattle.ada_parser.proofs.DeclInits.{first_levels}
+use Rattle.common_lemmas.proofs.Options.{some_same}
+use Rattle.common_lemmas.proofs.Truth.{or_both}
 
 -- ---- items that begin an operator
 
@@ -82,9 +85,9 @@ module _ (p : PExpr) (alone : last_operator p ≡ None) (d : ℕ) where
   -- no operator: the primary alone
   pub stays : (k : Item) (ts : List Item) → operates k ≡ false → expr_behind d p (k ∷ ts) ≡ Found p (k ∷ ts)
   stays k ts none =
-      let (t, more) = neither (begins_at Term k) (begins_at Simple k || (begins_at Relation k || begins_at Logical k)) none in
-      let (s, rest) = neither (begins_at Simple k) (begins_at Relation k || begins_at Logical k) more in
-      let (r, l) = neither (begins_at Relation k) (begins_at Logical k) rest in
+      let (t, more) = or_both (begins_at Term k) (begins_at Simple k || (begins_at Relation k || begins_at Logical k)) none in
+      let (s, rest) = or_both (begins_at Simple k) (begins_at Relation k || begins_at Logical k) more in
+      let (r, l) = or_both (begins_at Relation k) (begins_at Logical k) rest in
       ap (λ a. go_on a after_term) (ends_at Term (inner d Factor) k ts t) ∙ ap (λ a. go_on a after_simple) (ends_at Simple (inner d Term) k ts s) ∙
       ap (λ a. go_on a after_relation) (ends_at Relation (inner d Simple) k ts r) ∙ ends_at Logical (inner d Relation) k ts l
 
@@ -107,7 +110,7 @@ pub some_behind : (p : PExpr) → primary ≤ level p → last_operator p ≡ No
 some_behind p tight alone k is =
     let (l, yes_is) = operates_at k is in
     let (o, more, (spelled, same, follows)) = (lawful_operators l).some_operator p k (goes p alone 0 l k true yes_is) in
-    let low = binary_low o in (
+    let low = low_binary o in (
       joined p o (EInteger 0 no_place),
       more ++ (number_item 0 no_place ∷ []),
       ([], k ∷ more, number_item 0 no_place ∷ [], (first_itself p tight).0, spelled, refl, (inl (omega (arith, low, tight)), omega (arith, low)), refl, refl),
@@ -175,10 +178,6 @@ first_single (EAttributeOf m w e s) = tt
 first_single (EParen e s) = tt
 first_single (EUnary op e s) = tt
 
-first_levels : (e : PExpr) → levels (first_operand e) ≤ levels e
-first_levels (EBinary op l r s) = let low = first_levels l in omega (arith, low)
-first_levels e = omega arith
-
 -- its first operand is a primary
 first_tight : (w : Word) (p : PExpr) (items rest text : List Item) → word_item w ∷ text ≡ items ++ rest → IsOperand p → Spells p items → primary ≤ level p
 first_tight w (EBinary op l r s) items rest text split single spelled = absurd single
@@ -198,7 +197,7 @@ named_first d w p items rest text split spelled tight low = ⊎_elim
     (λ other. ⊎_elim
     (λ (v, one, back, from, (k, one_is, some), content).
     let head : word_item w ≡ k = ap (first_of (word_item w)) (split ∙ ap (λ l. l ++ rest) (from ∙ ap (λ l. l ++ back) one_is)) in
-    (back, from ∙ ap (λ l. l ++ back) one_is ∙ ap (λ t. t ∷ back) (sym head), subst (λ u. NameRest u d p back) (sym (some_is (ap word head ∙ some))) content))
+    (back, from ∙ ap (λ l. l ++ back) one_is ∙ ap (λ t. t ∷ back) (sym head), subst (λ u. NameRest u d p back) (sym (some_same (ap word head ∙ some))) content))
     (λ never. absurd never)
     other)
     other)

@@ -25,21 +25,23 @@ use Rattle.ada_expr_parser.specs.Reading.{inner, name_rest}
 use Rattle.ada_expr_parser.specs.Parts.{expression, expr_behind}
 use Rattle.ada_expr_parser.specs.Grammar.{symbol_item, word_item, number_item, IsExpr}
 use Rattle.ada_expr_laws.proofs.Tokens.{symbol_is, symbol_takes}
-use Rattle.ada_expr_laws.proofs.Primaries.{no_place, some_word}
+use Rattle.ada_expr_laws.proofs.Primaries.{no_place, some_word, close_ends}
 use Rattle.ada_expr_laws.proofs.Plainly.{ExprTexts, law_is_expr}
-use Rattle.ada_expr_laws.proofs.Calling.{close_ends, a_number, of_name}
+use Rattle.ada_expr_laws.proofs.Calling.{a_number, of_name}
 use Rattle.ada_expr_laws.proofs.Behinds.{BehindAt, law_levels, behind_spells}
 use Rattle.ada_phrase_parser.specs.Spelling.{Key, ◌▷◌}
 use Rattle.ada_phrase_parser.specs.Reading.{is_symbol, key_then, in_deeper, goes_on_name, expression_from}
 use Rattle.ada_simple_stmt_parser.specs.inner.ReadingSimple.{assign_or_call, is_close, goes_on_target, get_index, get_or_index, get_indexed, get_name, get_rest}
 use Rattle.ada_parser.proofs.Narrowing.{Narrow, narrow_where, narrow_starts, passed_by, law_either, Room, careful_room}
 use Rattle.ada_parser.proofs.KitReading.{law_key}
-use Rattle.ada_parser.proofs.KitDeeper.{operand_careful, neither, no_some}
-use Rattle.ada_parser.proofs.KitLeading.{symbol_at, is_itself, or_is, and_is}
+use Rattle.ada_parser.proofs.KitDeeper.{operand_careful}
+use Rattle.ada_parser.proofs.KitLeading.{symbol_at, is_itself, or_is}
 use Rattle.ada_parser.proofs.WordBranches.{careful_only, look_other, careful_filled}
 use Rattle.ada_parser.proofs.WordCalls.{AssignTexts, law_assign, assign_no_end, key_starts}
 use Rattle.ada_parser.proofs.WordExpr.{operates, stays, is_full, some_behind, FromTexts, law_from, behind_levels}
 use Rattle.ada_parser.proofs.WordPut.{OperandTexts}
+use Rattle.common_lemmas.proofs.Options.{none_there}
+use Rattle.common_lemmas.proofs.Truth.{and_both, not_true, or_both}
 
 -- ---- tests
 
@@ -50,10 +52,6 @@ and_not false b e = inl refl
 not_some : {A : Type 0} (m : Option A) → not (is_some m) ≡ true → m ≡ None
 not_some (Some x) e = absurd (true≢false (sym e))
 not_some None e = refl
-
-not_true : (b : Bool) → not b ≡ true → b ≡ false
-not_true true e = absurd (true≢false (sym e))
-not_true false e = refl
 
 -- what goes on behind a name is a tick or an operator
 one_and_four : (a b c d e : Bool) → (a || b || c || d || e) ≡ (a || (b || (c || (d || e))))
@@ -100,8 +98,8 @@ module _ (w : Word) where
 
   assign_refuses : (n : ℕ) (t : PTarget) (k : Item) (ts : List Item) → goes_on_target k ≡ false → assign_or_call n t (k ∷ ts) ≡ Fault false (k ∷ ts)
   assign_refuses n t k ts no_is =
-      let (dot, becomes) = neither (is_symbol key.Dot k) (is_symbol key.Becomes k) no_is in
-      rw (no_some (symbol key.Becomes k) becomes) (rw (no_some (symbol key.Dot k) dot) refl)
+      let (dot, becomes) = or_both (is_symbol key.Dot k) (is_symbol key.Becomes k) no_is in
+      rw (none_there (symbol key.Becomes k) becomes) (rw (none_there (symbol key.Dot k) dot) refl)
 
   some_becomes : (n : ℕ) (t : PTarget) (at : Span) → Begins (AssignTexts t (n + 1)) (symbol_item key.Becomes at ∷ [])
   some_becomes n t at =
@@ -196,12 +194,12 @@ module _ (w : Word) where
 
     filled_at : (e : ℕ) (k : Item) (ts : List Item) → e ≤ levels this → goes k ≡ true → behind_open (suc e) this (k ∷ ts) ≡ Fault true (k ∷ ts)
     filled_at e k ts full yes_is =
-        let (open_is, some) = and_is (open_yet k) (operates k) yes_is in
+        let (open_is, some) = and_both (open_yet k) (operates k) yes_is in
         ap (λ b. if b then bind (expr_behind e this) (get_index (suc e) w) (k ∷ ts) else Fault false (k ∷ ts)) open_is ∙ ap (λ a. go_on a (get_index (suc e) w)) (is_full this refl e k ts some full)
 
     deeper_at : (d : ℕ) → d ≤ suc (suc (levels this)) → (k : Item) → goes k ≡ true → (e : ℕ) × (d ≤ e) × Begins (Narrow open_yet (BehindTexts this) e) (k ∷ [])
     deeper_at d deep k yes_is =
-        let (open_is, some) = and_is (open_yet k) (operates k) yes_is in
+        let (open_is, some) = and_both (open_yet k) (operates k) yes_is in
         let (a, more, behind, low) = some_behind this (omega arith) refl k some in
         let (s, g, end) = index_some (suc (suc (levels this))) a in (
           suc (suc (levels this)),
@@ -298,9 +296,9 @@ module _ (w : Word) where
     -- the name alone, and then no parenthesis
     alone : (k : Item) (ts : List Item) → elsewhere k ≡ true → goes_on_name k ≡ false → from_rest 1 x (k ∷ ts) ≡ Fault false (k ∷ ts)
     alone k ts there no_is =
-        let (lead, shut) = and_is (passed_by (symbol key.LeftParen) k) (open_yet k) there in
-        let (tick, none) = neither (is_symbol key.Tick k) (operates k) (sym (goes_so k) ∙ no_is) in
-        let named : name_rest 0 (inner 0) x (k ∷ ts) ≡ Found (EName x.name x.span) (k ∷ ts) = rw (not_some (symbol key.LeftParen k) lead) (rw (no_some (symbol key.Tick k) tick) refl) in
+        let (lead, shut) = and_both (passed_by (symbol key.LeftParen) k) (open_yet k) there in
+        let (tick, none) = or_both (is_symbol key.Tick k) (operates k) (sym (goes_so k) ∙ no_is) in
+        let named : name_rest 0 (inner 0) x (k ∷ ts) ≡ Found (EName x.name x.span) (k ∷ ts) = rw (not_some (symbol key.LeftParen k) lead) (rw (none_there (symbol key.Tick k) tick) refl) in
         ap (λ a. go_on (go_on a (expr_behind 0)) (get_index 1 w)) named ∙ ap (λ a. go_on a (get_index 1 w)) (stays (EName x.name x.span) refl 0 k ts none) ∙
         index_refuses 1 (EName x.name x.span) k ts shut
 
@@ -318,7 +316,7 @@ module _ (w : Word) where
 
     deeper_from : (k : Item) → goes_from k ≡ true → (e : ℕ) × (0 ≤ e) × Begins (Narrow elsewhere (FromIndexTexts x) e) (k ∷ [])
     deeper_from k yes_is =
-        let (there, on) = and_is (elsewhere k) (goes_on_name k) yes_is in
+        let (there, on) = and_both (elsewhere k) (goes_on_name k) yes_is in
         ⊎_elim
         (λ tick. let (at, named) = symbol_at key.Tick k tick in
         (1, omega arith, some_from 0 k (attribute x some_word) (word_item some_word ∷ []) there (record { spells = (at, ap (λ t. word_item x ∷ t ∷ word_item some_word ∷ []) named, refl); fits = omega arith; nested = omega arith })))
@@ -328,7 +326,7 @@ module _ (w : Word) where
 
     careful_from : (d : ℕ) → Careful d (from_elsewhere d x) (from_elsewhere (suc d) x) (Narrow elsewhere (FromIndexTexts x)) Anything
     careful_from zero = careful_filled (from_elsewhere 0 x) (from_elsewhere 1 x) (Narrow elsewhere (FromIndexTexts x)) Anything goes_from
-        (λ k ts is. let (there, on) = and_is (elsewhere k) (goes_on_name k) is in no_level k ts true true there on)
+        (λ k ts is. let (there, on) = and_both (elsewhere k) (goes_on_name k) is in no_level k ts true true there on)
         (λ k ts is. no_level k ts (elsewhere k) (goes_on_name k) refl refl ∙ ap (λ b. Fault b (k ∷ ts)) is)
         one_level refl refl
         (λ s text is. let (a, f, g, from, never, end) = is.spells in absurd never)
@@ -361,10 +359,10 @@ module _ (w : Word) where
     ApartTexts = Or (ShutTexts (of_name x None) (EName x.name x.span)) (Narrow elsewhere (FromIndexTexts x))
 
     from_open : {d : ℕ} {S : Item → Type 0} → Starts d (Narrow elsewhere (FromIndexTexts x)) S (IsNo is_close)
-    from_open = record { begins_with = λ s text k is stop. rw is.text_is (not_true (is_close is.k) (and_is (passed_by (symbol key.LeftParen) is.k) (open_yet is.k) is.passes).1) }
+    from_open = record { begins_with = λ s text k is stop. rw is.text_is (not_true (is_close is.k) (and_both (passed_by (symbol key.LeftParen) is.k) (open_yet is.k) is.passes).1) }
 
     from_no_lead : {d : ℕ} {S : Item → Type 0} → Starts d (Narrow elsewhere (FromIndexTexts x)) S (IsPassed (symbol key.LeftParen))
-    from_no_lead = record { begins_with = λ s text k is stop. rw is.text_is (not_some (symbol key.LeftParen is.k) (and_is (passed_by (symbol key.LeftParen) is.k) (open_yet is.k) is.passes).0) }
+    from_no_lead = record { begins_with = λ s text k is stop. rw is.text_is (not_some (symbol key.LeftParen is.k) (and_both (passed_by (symbol key.LeftParen) is.k) (open_yet is.k) is.passes).0) }
 
     close_no_lead : (at : Span) → IsPassed (symbol key.LeftParen) (symbol_item key.RightParen at)
     unfolding same

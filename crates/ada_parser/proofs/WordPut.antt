@@ -25,10 +25,10 @@ use Rattle.lawful_reader.proofs.Choosing.{law_on}
 use Rattle.lawful_reader.proofs.Looking.{careful_look}
 use Rattle.lawful_reader.proofs.Fitting.{starts_is, starts_or, starts_then, law_fit}
 use Rattle.ada_expr_laws.specs.Stopping.{Ends}
-use Rattle.ada_expr_laws.proofs.Tokens.{symbol_takes, none_is, some_is}
-use Rattle.ada_expr_laws.proofs.Primaries.{no_place}
+use Rattle.ada_expr_laws.proofs.Tokens.{symbol_takes, none_is}
+use Rattle.ada_expr_laws.proofs.Primaries.{no_place, close_ends}
 use Rattle.ada_expr_laws.proofs.Plainly.{after_symbol, symbol_then}
-use Rattle.ada_expr_laws.proofs.Calling.{close_ends, of_name}
+use Rattle.ada_expr_laws.proofs.Calling.{of_name}
 use Rattle.ada_phrase_parser.specs.Spelling.{Source, Key, ◌▷◌, Behind, Separated, said_at, is_graphic}
 use Rattle.ada_phrase_parser.specs.Phrases.{Operand, IsPart, PutText}
 use Rattle.ada_phrase_parser.specs.Reading.{is_symbol, key_then, more_behind, part, string, string_in}
@@ -39,6 +39,7 @@ use Rattle.ada_parser.proofs.KitReading.{Made, Both, made_bind, made_key, law_ke
 use Rattle.ada_parser.proofs.KitDeeper.{operand_careful}
 use Rattle.ada_parser.proofs.KitLeading.{symbol_at, is_itself}
 use Rattle.ada_parser.proofs.WordCalls.{AssignTexts, law_assign, assign_no_end, key_starts, TargetThen}
+use Rattle.common_lemmas.proofs.Options.{some_same}
 
 -- ---- an expression one level deeper
 
@@ -49,14 +50,14 @@ OperandTexts d e text = Operand d e text
 abbrev pub BeginsSo : (Item → Bool) → List Item → Type 0
 BeginsSo test text = (k : Item) × (more : List Item) × (text ≡ k ∷ more) × (test k ≡ true)
 
-prefix_begins : (op : UnaryOp) (at : Span) → begins_expr (symbol_item (prefix_symbol op) at) ≡ true
+pub prefix_begins : (op : UnaryOp) (at : Span) → begins_expr (symbol_item (prefix_symbol op) at) ≡ true
 unfolding same
 prefix_begins unary.Plus at = refl
 prefix_begins unary.Minus at = refl
 prefix_begins unary.Abs at = refl
 prefix_begins unary.Not at = refl
 
-paren_begins : (at : Span) → begins_expr (symbol_item key.LeftParen at) ≡ true
+pub paren_begins : (at : Span) → begins_expr (symbol_item key.LeftParen at) ≡ true
 unfolding same
 paren_begins at = refl
 
@@ -110,7 +111,7 @@ abbrev text_item : Span → Item
 text_item at = record { kind = item.Text; span = at }
 
 if_some : {A : Type 0} (b : Bool) (x y : A) → (if b then Some x else None) ≡ Some y → (b ≡ true) × (y ≡ x)
-if_some true x y e = (refl, sym (some_is e))
+if_some true x y e = (refl, sym (some_same e))
 if_some false x y e = absurd (none_is e)
 
 string_kind : (source : Source) (kind : ItemKind) (at : Span) (p : PPart) → string_in source kind at ≡ Some p → (kind ≡ item.Text) × (is_graphic (said_at source at) ≡ true) × (p ≡ PWords (said_at source at) at)

@@ -33,6 +33,7 @@ use Rattle.ada_parser.proofs.WordGet as get
 use Rattle.ada_parser.proofs.WordPut.{law_put_rest, PutTexts, PutSpelled, put_spelled, spelled_put, target_put}
 use Rattle.ada_parser.proofs.WordGet.{law_get_rest}
 use Rattle.ada_parser.proofs.WordGetTexts.{GetTexts, GetSpelled, get_spelled, spelled_get, target_get}
+use Rattle.common_lemmas.proofs.Numbers.{equal_is}
 
 -- ---- names
 
@@ -40,14 +41,11 @@ use Rattle.ada_parser.proofs.WordGetTexts.{GetTexts, GetSpelled, get_spelled, sp
 abbrev IsId : List ℕ → Word → Type 0
 IsId t w = w.name.0 ≡ id_of predefined t
 
-same_ids : (n m : ℕ) → (n == m) ≡ true → n ≡ m
-same_ids n m is = grind (arith, is)
-
 ids_same : (n m : ℕ) → (n == m) ≡ false → n ≡ m → ⊥
 ids_same n m no_is is = grind (arith, no_is, is)
 
 is_id : (t : List ℕ) (w : Word) → is_predefined t w ≡ true → IsId t w
-is_id t w is = same_ids w.name.0 (id_of predefined t) is
+is_id t w is = equal_is w.name.0 (id_of predefined t) is
 
 no_id : (t : List ℕ) (w : Word) → is_predefined t w ≡ false → IsId t w → ⊥
 no_id t w no_is is = ids_same w.name.0 (id_of predefined t) no_is is
@@ -67,7 +65,7 @@ no_key : (s : Symbol) (Q : Spelling) (w : Word) (front back text : List Item) �
 no_key s Q w front back text (f, g, from, (at, one), rest) split =
     none_is (sym (ap word (ap (first_of (word_item w)) (split ∙ ap (λ l. l ++ back) (from ∙ ap (λ l. l ++ g) one)))))
 
-no_first : (s : Symbol) (Q : Spelling) (w : Word) (text : List Item) → (Key s ▷ Q) (word_item w ∷ text) → ⊥
+pub no_first : (s : Symbol) (Q : Spelling) (w : Word) (text : List Item) → (Key s ▷ Q) (word_item w ∷ text) → ⊥
 no_first s Q w text (front, back, split, (at, one), rest) = none_is (sym (ap word (ap (first_of (word_item w)) (split ∙ ap (λ l. l ++ back) one))))
 
 -- ---- which statements begin with a name

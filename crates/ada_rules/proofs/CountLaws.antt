@@ -1,8 +1,7 @@
 -- Parts that are counted, one after the other, as far as limits go.
-use Rattle.std.specs.Prelude.{◌≡◌, ℕ, ◌+◌, ◌<◌, ◌≤◌, nat_lt, Bool, true, if◌then◌else◌, List, [], ◌∷◌, ◌++◌, length, map, drop, suc, Option, Some, None, refl}
+use Rattle.std.specs.Prelude.{◌≡◌, ℕ, ◌+◌, ◌≤◌, nat_lt, Bool, true, if◌then◌else◌, List, [], ◌∷◌, ◌++◌, length, map, drop, suc, Option, Some, None, refl}
 use Rattle.std.proofs.Common.{sym, ap, ◌∙◌, arith}
 use Rattle.std.proofs.lemmas.List.{drop_all, map-append, length-map}
-use Rattle.std.proofs.lemmas.Bool.Decides.{nat_tests}
 use Rattle.ada_tree.specs.declared.naming.Span.{Span}
 use Rattle.ada_tree.specs.declared.naming.Word.{Word}
 use Rattle.ada_tree.specs.declared.statements.Formal.{Formal}
@@ -25,6 +24,7 @@ use Rattle.ada_rules.proofs.Capping.{capped_twice, capped_left, over_same}
 use Rattle.ada_rules.proofs.SoonerLaws.{sooner_assoc, sooner_none}
 use Rattle.ada_rules.proofs.Meeting.{at_counts, met_none, met_cons}
 use Rattle.ada_rules.proofs.Listing.{gone}
+use Rattle.common_lemmas.proofs.Numbers.{lt_is}
 
 -- ---- what is counted as far as limits go is refused as the numbers are
 
@@ -52,13 +52,10 @@ limit_below mode.Any Alternatives = refl
 limit_below mode.Any Formals = refl
 limit_below mode.Any Copies = tt
 
-below : (n m : ℕ) → nat_lt n m ≡ true → n < m
-below n m h = grind (arith, nat_tests)
-
 passed_capped : (what : What) (l : Option ℕ) (b h : ℕ) (s : Span) → IsBelow l → passed what l (capped b) (capped h) s ≡ passed what l b h s
 passed_capped what (Some n) b h s le =
     let told : Bool → List OverAt = λ t. if t then record { over = record { what = what; limit = n }; span = s } ∷ [] else [] in
-    ap told (over_same n b h (below n many le))
+    ap told (over_same n b h (lt_is n many le))
 passed_capped what None b h s le = refl
 
 at_capped : (by : Standard) (around : CheckScope) (what : What) (b h : ℕ) (s : Span) → refused_first_at by around (counts what (capped b) (capped h) s) ≡ refused_first_at by around (counts what b h s)

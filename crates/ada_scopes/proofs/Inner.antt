@@ -1,6 +1,6 @@
 -- Names are declared in an inner scope, and what stood before it is there again behind it.
 use Rattle.std.specs.Prelude.{◌≡◌, ℕ, ◌+◌, ◌<◌, ◌≤◌, List, [], ◌∷◌, ◌++◌, length, map, take, refl}
-use Rattle.std.proofs.Common.{sym, ap, ◌∙◌, arith, get_or, length-append}
+use Rattle.std.proofs.Common.{sym, ap, ◌∙◌, get_or, length-append}
 use Rattle.std.proofs.lemmas.List.{map_more}
 use Rattle.std.proofs.lemmas.Grind.{take_at_read}
 use Rattle.ada_tree.specs.declared.naming.Word.{Word}
@@ -11,6 +11,7 @@ use Rattle.ada_tree.specs.Declaring.{with_name, with_names, with_formals, formal
 use Rattle.ada_scopes.specs.declared.scope.Outer.{Outer}
 use Rattle.ada_scopes.specs.Nested.{IsOuter, IsWithin}
 use Rattle.ada_scopes.specs.inner.Inner.{IsInner}
+use Rattle.common_lemmas.proofs.Numbers.{within_sum}
 
 -- one name more at the end
 names_end : (t : Thing) (s : Scope) (ws : List Word) (w : Word) → with_names t s (ws ++ w ∷ []) ≡ with_name t (with_names t s ws) w
@@ -83,13 +84,10 @@ inner_formals s fs = inner_groups (inside s) s fs (inner_start s)
 pub inner_parameter : (t : Thing) (s : Scope) (w : Word) → IsInner (with_name t (inside s) w) s
 inner_parameter t s w = inner_name t (inside s) s w (inner_start s)
 
-longer : (count all new old : ℕ) → count ≡ old → all ≡ new + old → count ≤ all
-longer count all new old p q = omega arith
-
 -- there are the names of the outer scope
 pub room : (s i now : Scope) (outer : Outer) → IsOuter s outer → IsInner i s → now ≡ i → outer.count ≤ length now.names
 room s i now outer is h same =
-    longer outer.count (length now.names) (length h.within.0) (length s.names) is.count_is
+    within_sum outer.count (length now.names) (length h.within.0) (length s.names) is.count_is
     (ap (λ x. length x.names) same ∙ ap length h.within.1 ∙ length-append h.within.0 s.names)
 
 -- behind an inner scope all is as before it

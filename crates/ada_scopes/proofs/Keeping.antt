@@ -1,39 +1,16 @@
 -- What is looked up in a list that is one longer.
-use Rattle.std.specs.Prelude.{◌≡◌, ◌==◌, ◌<◌, ◌≤◌, ◌+◌, ℕ, nat_eq, nat_lt, Bool, true, false, if◌then◌else◌, List, [], ◌∷◌, ◌++◌, length, take, find, position, Option, Some, None, refl, Result, Ok, Err, OnOk, IfOk}
+use Rattle.std.specs.Prelude.{◌≡◌, ◌==◌, ◌<◌, ◌≤◌, ◌+◌, ℕ, nat_eq, nat_lt, Bool, true, false, if◌then◌else◌, List, [], ◌∷◌, ◌++◌, length, take, position, Option, Some, None, refl}
 use Rattle.std.proofs.Common.{sym, ap, ◌∙◌, get_or, arith}
 use Rattle.std.specs.HashMap.{HashMap, get}
-use Rattle.std.specs.List.{position_or_len}
-use Rattle.std.proofs.lemmas.List.{length_push, take_more, length-take-le}
-use Rattle.std.proofs.lemmas.List.Folds.{position_or_len_push}
-use Rattle.std.proofs.lemmas.List.Sums.{prefix_len-le-length}
 use Rattle.std.proofs.lemmas.Bool.Decides.{nat_tests}
 use Rattle.ada_tree.specs.declared.naming.NameId.{NameId}
 use Rattle.ada_tree.specs.declared.static_types.Kind.{Kind}
 use Rattle.ada_tree.specs.StaticValue.{first_of_two, position_in, literal_position}
-
-pub on_ok : {A E P Q : Type 0} (r : Result A E) → (P → Q) → OnOk r P → OnOk r Q
-on_ok (Ok x) f h = f h
-on_ok (Err e) f h = h
-
-pub if_ok : {A E : Type 0} {P Q : A → Type 0} (r : Result A E) → ((x : A) → P x → Q x) → IfOk r P → IfOk r Q
-if_ok (Ok x) f h = f x h
-if_ok (Err e) f h = h
-
-pub first_of_three : {A : Type 0} (a b c : Option A) → first_of_two (first_of_two a b) c ≡ first_of_two a (first_of_two b c)
-first_of_three None b c = refl
-first_of_three (Some x) b c = refl
-
-pub or_none : {A : Type 0} (a : Option A) → first_of_two a None ≡ a
-or_none None = refl
-or_none (Some x) = refl
+use Rattle.tree_lemmas.proofs.FirstOfTwo.{find_push, first_of_three, first_or_none, position_more, position_push}
 
 found_test : {X : Type 0} (x : X) (o r q : Option X) (b : Bool) → o ≡ first_of_two r q → (if b then Some x else o) ≡ first_of_two (if b then Some x else r) q
 found_test x o r q true h = refl
 found_test x o r q false h = h
-
-pub find_push : {X : Type 0} (p : X → Bool) (xs : List X) (y : X) → find p (xs ++ y ∷ []) ≡ first_of_two (find p xs) (if p y then Some y else None)
-find_push p [] y = refl
-find_push p (x ∷ xs) y = found_test x (find p (xs ++ y ∷ [])) (find p xs) (if p y then Some y else None) (p x) (find_push p xs y)
 
 abbrev place_in : ℕ → ℕ → Option ℕ
 place_in place count = if nat_lt place count then Some place else None
@@ -42,21 +19,9 @@ at_end : (place count : ℕ) (b : Bool) → place ≤ count → place_in (if pla
 at_end place count true h = grind (arith, nat_tests)
 at_end place count false h = grind (arith, nat_tests)
 
-pub position_push : {X : Type 0} (p : X → Bool) (xs : List X) (y : X) → position p (xs ++ y ∷ []) ≡ first_of_two (position p xs) (if p y then Some (length xs) else None)
-position_push p xs y =
-    ap (λ n. place_in n (length (xs ++ y ∷ []))) (position_or_len_push p xs y)
-    ∙ ap (place_in _) (length_push xs y)
-    ∙ at_end (position_or_len p xs) (length xs) (p y) (prefix_len-le-length _ xs)
-
 pub literal_push : (kinds : List Kind) (kind : Kind) (id : NameId) → literal_position (kinds ++ kind ∷ []) id ≡ first_of_two (literal_position kinds id) (position_in id kind)
-literal_push [] kind id = or_none (position_in id kind)
+literal_push [] kind id = first_or_none (position_in id kind)
 literal_push (k ∷ kinds) kind id = ap (first_of_two (position_in id k)) (literal_push kinds kind id) ∙ sym (first_of_three (position_in id k) (literal_position kinds id) (position_in id kind))
-
-pub position_more : {X : Type 0} (p : X → Bool) (xs : List X) (i : ℕ) (d : X) → i < length xs → position p (take (i + 1) xs) ≡ first_of_two (position p (take i xs)) (if p (get_or xs i d) then Some i else None)
-position_more p xs i d h =
-    ap (position p) (take_more xs i d h)
-    ∙ position_push p (take i xs) (get_or xs i d)
-    ∙ ap (λ n. first_of_two (position p (take i xs)) (if p (get_or xs i d) then Some n else None)) (length-take-le i xs (omega (arith, h)))
 
 -- the positions that are kept behind a literal more
 pub literal_more : {S : Type 0} (start so_far grown : HashMap ℕ ℕ S) (names : List NameId) (i place : ℕ) (d : NameId) → i < length names → place ≡ i
@@ -95,4 +60,4 @@ kind_kept kinds longer kind literals grown is kept grows id =
     ∙ sym (literal_push kinds kind id)
     ∙ ap (λ l. literal_position l id) (sym is)
 
-pub ruleset keeping = (find_push, position_push, position_more, or_none, first_of_three)
+pub ruleset keeping = (find_push, position_push, position_more, first_or_none, first_of_three)

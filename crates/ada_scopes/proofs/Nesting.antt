@@ -14,6 +14,7 @@ use Rattle.ada_scopes.specs.declared.denotations.Thing.{Thing}
 use Rattle.ada_scopes.specs.declared.scope.Outer.{Outer}
 use Rattle.ada_scopes.specs.Denotations.{plain_thing, plain_names}
 use Rattle.ada_scopes.specs.Nested.{IsOuter, IsWithin}
+use Rattle.common_lemmas.proofs.Numbers.{seam_at}
 
 -- the numbers of the innermost names
 here_names : (names : List (ℕ × Thing)) (n : ℕ) → map (λ s. s.0) (take n names) ≡ map (λ s. s.name) (take n (plain_names names))
@@ -31,9 +32,6 @@ outer_is s names base count named here counted within = record {
       ∙ ap (λ l. map (λ x. x.name) (take (count - base) l)) (sym named);
   base_within = subst (λ n. base ≤ n) (sym counted) within;
 }
-
-seam_at : (m n k : ℕ) → m ≡ n + k → m - k ≡ n
-seam_at m n k h = omega (arith, h)
 
 -- what is behind the new names
 behind_new : (s : Scope) (new : List Seen) (names : List (ℕ × Thing)) (count : ℕ) → count ≡ length s.names → plain_names names ≡ new ++ s.names → plain_names (drop (length names - count) names) ≡ s.names

@@ -1,6 +1,5 @@
 -- A body with handlers, as the code reads and builds it.
-use Rattle.std.proofs.Common.{◌≡◌, ℕ, ◌-◌, ◌<◌, ◌≤◌, nat_eq, false, true, cond, List, ◌∷◌, Some, Vec, Global, map, length, take, drop, get_or, ap, ◌∙◌, arith}
-use Rattle.std.proofs.lemmas.Bool.Decides.{nat_tests}
+use Rattle.std.proofs.Common.{◌≡◌, ℕ, ◌-◌, ◌<◌, ◌≤◌, true, cond, List, ◌∷◌, Some, Vec, Global, map, length, take, drop, get_or, ap, ◌∙◌}
 use Rattle.lawful_reader.specs.Readers.{Reader, Found, Fault, go_on, bind, pure, below, below_token}
 use Rattle.ada_tree.specs.declared.naming.Span.{Span}
 use Rattle.ada_tree.specs.declared.statements.Stmt.{Stmt}
@@ -13,6 +12,7 @@ use Rattle.ada_expr_parser.specs.declared.items.Item.{Item}
 use Rattle.ada_expr_parser.specs.Tests.{symbol}
 use Rattle.ada_expr_parser.proofs.Chains.{front_and_rest}
 use Rattle.ada_stmt_parser.specs.inner.ReadingStatements.{Readers}
+use Rattle.common_lemmas.proofs.Numbers.{above_zero}
 
 -- the body that is built of a list of statements and one of handlers
 pub body_built :
@@ -21,9 +21,6 @@ pub body_built :
 body_built stmts handlers =
     let opened : body (stmts_of (map plain_stmt (out-Body (roll-Body record { stmts = stmts; handlers = handlers })).stmts.items)) (handlers_of (map plain_handler (out-Body (roll-Body record { stmts = stmts; handlers = handlers })).handlers.items)) ≡ body (stmts_of (map plain_stmt stmts.items)) (handlers_of (map plain_handler handlers.items)) = simp the_lemmas in
     plain_body-out (roll-Body record { stmts = stmts; handlers = handlers }) ∙ opened
-
-room : (e : ℕ) → 0 < e → nat_eq e 0 ≡ false
-room e some = grind (arith, nat_tests)
 
 -- handlers behind `exception`, where there is a level for them
 pub handlers_go :
@@ -35,5 +32,5 @@ handlers_go e r l ts rest dummy at hs some is deep found =
     let other : Reader Item PBody = pure (body l no_handler) in
     ap (below e (symbol key.Exception) next other) (front_and_rest ts dummy some)
     ∙ (ap (λ o. below_token e o next other (get_or ts 0 dummy) (take (length ts - 1) (drop 1 ts))) is
-    ∙ (ap (λ b. cond b (Fault true (get_or ts 0 dummy ∷ take (length ts - 1) (drop 1 ts))) (go_on (r.handlers (take (length ts - 1) (drop 1 ts))) (λ hs. pure (body l hs)))) (room e deep)
+    ∙ (ap (λ b. cond b (Fault true (get_or ts 0 dummy ∷ take (length ts - 1) (drop 1 ts))) (go_on (r.handlers (take (length ts - 1) (drop 1 ts))) (λ hs. pure (body l hs)))) (above_zero e deep)
     ∙ ap (λ a. go_on a (λ hs. pure (body l hs))) found))

@@ -18,6 +18,7 @@ use Rattle.ada_simple_stmt_parser.specs.inner.ReadingSimple.{word_rest}
 use Rattle.ada_stmt_parser.specs.inner.ReadingStatements.{Readers, while_rest, for_range, for_rest, loop_rest, named_loop, named_rest}
 use Rattle.ada_stmt_parser.specs.inner.Turns.{any_loop, worded, loop_from}
 use Rattle.ada_stmt_parser.proofs.Onward.{goes, on_goes, below_here}
+use Rattle.common_lemmas.proofs.Numbers.{above_zero}
 
 module _ (e : ℕ) (r : Readers) (name : Option Word) (lead : Span) where
   while_is : (ts : List Item) → while_rest e r name lead ts ≡ go_on (while_scheme e ts) (loop_rest r name lead)
@@ -49,18 +50,15 @@ none_of false true c no_a no_b no_c is = cc
 none_of false false true no_a no_b no_c is = cc
 none_of false false false no_a no_b no_c is = cc
 
-room : (d : ℕ) → 0 < d → nat_eq d 0 ≡ false
-room d some = grind (arith, nat_tests)
-
 full : (d : ℕ) → d ≡ 0 → nat_eq d 0 ≡ true
 full d none = grind (arith, nat_tests)
 
 module _ (source : Source) (d : ℕ) (r : Readers) (x : Item) (xs : List Item) where
   loop_at : 0 < d → begins_loop x ≡ true → any_loop source d r (x ∷ xs) ≡ loop_from (d - 1) r None x.span (x ∷ xs)
   loop_at some is =
-      below_here d (symbol key.While x) (λ e lead. while_rest e r None lead) (λ at. while_scheme (d - 1)) _ _ (loop_rest r None x.span) x xs x.span (placed key.While x.kind x.span) (room d some) (while_is (d - 1) r None x.span xs)
-      (λ no_while. below_here d (symbol key.For x) (λ e lead. for_rest e r None lead) (λ at. for_scheme (d - 1)) _ _ (loop_rest r None x.span) x xs x.span (placed key.For x.kind x.span) (room d some) (for_is (d - 1) r None x.span xs)
-      (λ no_for. below_here d (symbol key.Loop x) (λ e lead. loop_rest r None lead None) (λ at. pure None) _ _ (loop_rest r None x.span) x xs x.span (placed key.Loop x.kind x.span) (room d some) refl
+      below_here d (symbol key.While x) (λ e lead. while_rest e r None lead) (λ at. while_scheme (d - 1)) _ _ (loop_rest r None x.span) x xs x.span (placed key.While x.kind x.span) (above_zero d some) (while_is (d - 1) r None x.span xs)
+      (λ no_while. below_here d (symbol key.For x) (λ e lead. for_rest e r None lead) (λ at. for_scheme (d - 1)) _ _ (loop_rest r None x.span) x xs x.span (placed key.For x.kind x.span) (above_zero d some) (for_is (d - 1) r None x.span xs)
+      (λ no_for. below_here d (symbol key.Loop x) (λ e lead. loop_rest r None lead None) (λ at. pure None) _ _ (loop_rest r None x.span) x xs x.span (placed key.Loop x.kind x.span) (above_zero d some) refl
       (λ no_loop. absurd (none_of (is_symbol key.While x) (is_symbol key.For x) (is_symbol key.Loop x) no_while no_for no_loop is))))
 
   too_deep_token : {A : Type 0} (t : Option Span) (f : ℕ → Span → Reader Item A) (other : Reader Item A) → d ≡ 0 → (is_some t ≡ false → other (x ∷ xs) ≡ Fault true (x ∷ xs)) → below_token d t f other x xs ≡ Fault true (x ∷ xs)
@@ -92,8 +90,8 @@ module _ (source : Source) (d : ℕ) (r : Readers) (x : Item) (xs : List Item) w
 -- where a loop stands next
 pub loop_goes :
     (source : Source) (d : ℕ) (r : Readers) (ts : List Item) (dummy : Item) → 1 ≤ length ts → begins_loop (get_or ts 0 dummy) ≡ true → 0 < d → any_loop source d r ts ≡ loop_from (d - 1) r None (get_or ts 0 dummy).span ts
-loop_goes source d r [] dummy some is room = absurd (omega arith)
-loop_goes source d r (x ∷ xs) dummy some is room = loop_at source d r x xs room is
+loop_goes source d r [] dummy some is above_zero = absurd (omega arith)
+loop_goes source d r (x ∷ xs) dummy some is above_zero = loop_at source d r x xs above_zero is
 
 pub loop_deep : (source : Source) (d : ℕ) (r : Readers) (ts : List Item) (dummy : Item) → 1 ≤ length ts → begins_loop (get_or ts 0 dummy) ≡ true → d ≡ 0 → any_loop source d r ts ≡ Fault true ts
 loop_deep source d r [] dummy some is none = absurd (omega arith)
@@ -113,7 +111,7 @@ named_goes source d r w ts dummy at some is deep =
     let other : Reader Item PStmt = word_rest source d w in
     ap (below d (symbol key.Colon) next other) (front_and_rest ts dummy some)
     ∙ (ap (λ o. below_token d o next other (get_or ts 0 dummy) (take (length ts - 1) (drop 1 ts))) is
-    ∙ (ap (λ b. cond b (Fault true (get_or ts 0 dummy ∷ take (length ts - 1) (drop 1 ts))) (named_loop (d - 1) r w (take (length ts - 1) (drop 1 ts)))) (room d deep)
+    ∙ (ap (λ b. cond b (Fault true (get_or ts 0 dummy ∷ take (length ts - 1) (drop 1 ts))) (named_loop (d - 1) r w (take (length ts - 1) (drop 1 ts)))) (above_zero d deep)
     ∙ named_loop_is (d - 1) r w (take (length ts - 1) (drop 1 ts))))
 
 pub ruleset loops = (loop_goes, loop_deep, no_loop)

@@ -13,9 +13,7 @@ use Rattle.syn_event.specs.Numbered.{task_info, with_origins}
 use Rattle.syn_event.specs.NamedTasks.{NamedTasks, task_names_of, NumberedTask, numbered_task, numbers_on, tasks_of_name, numbered_tasks}
 use Rattle.syn_event.specs.AllNumbers.{info_of_task, entry_of_task, entries_of_tasks, all_numbers}
 use Rattle.ada_task_numbers.specs.inner.TasksWithin.{tasks_within}
-
-no_step : (z : ℤ) → z +ℤ pos 0 ≡ z
-no_step z = omega (arith, ints)
+use Rattle.common_lemmas.proofs.Numbers.{int_more_zero}
 
 one_step : (z : ℤ) (n : ℕ) → (z +ℤ pos 1) +ℤ pos n ≡ z +ℤ pos (suc n)
 one_step z n = omega (arith, ints)
@@ -24,7 +22,7 @@ suc_more : (n : ℕ) → suc n + 1 ≡ suc (n + 1)
 suc_more n = omega arith
 
 numbers_more : (first : ℤ) (n : ℕ) → numbers_on first (n + 1) ≡ numbers_on first n ++ (first +ℤ pos n) ∷ []
-numbers_more first zero = ap (λ z. z ∷ []) (sym (no_step first))
+numbers_more first zero = ap (λ z. z ∷ []) (sym (int_more_zero first))
 numbers_more first (suc n) = ap (numbers_on first) (suc_more n) ∙ ap (λ l. first ∷ l) (numbers_more (first +ℤ pos 1) n ∙ ap (λ z. numbers_on (first +ℤ pos 1) n ++ z ∷ []) (one_step first n))
 
 numbers_length : (first : ℤ) (n : ℕ) → length (numbers_on first n) ≡ n

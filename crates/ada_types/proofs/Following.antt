@@ -1,6 +1,6 @@
 -- Declarations, one after the other: what can be used behind them, and what is refused first at their places.
 use Rattle.std.specs.Prelude.{◌≡◌, ℕ, ◌+◌, ◌<◌, ◌≤◌, false, List, [], ◌∷◌, ◌++◌, length, map, drop, get_or, Option, None, refl}
-use Rattle.std.proofs.Common.{sym, ap, ◌∙◌, subst, arith, length-append}
+use Rattle.std.proofs.Common.{sym, ap, ◌∙◌, subst, length-append}
 use Rattle.std.proofs.lemmas.List.{drop_all}
 use Rattle.ada_tree.specs.declared.naming.Span.{Span}
 use Rattle.ada_tree.specs.declared.naming.Word.{Word}
@@ -24,6 +24,7 @@ use Rattle.ada_types.specs.declared.walked_decls.WalkedDecls.{WalkedDecls}
 use Rattle.ada_refusals.proofs.SoonerLaws.{sooner_assoc}
 use Rattle.ada_refusals.proofs.Meeting.{met_none, met_append}
 use Rattle.ada_refusals.proofs.Listing.{cut, ended}
+use Rattle.common_lemmas.proofs.Numbers.{within_sum}
 
 -- the declarations from a place on
 abbrev pub from : ℕ → List Decl → PDecls
@@ -125,14 +126,11 @@ behind_objects s inner (decl_then d rest) h = behind_objects s (after_own_object
 pub behind_body : (s : Scope) (name : Word) (ds : PDecls) → IsBehind s (after_objects (in_body s name) ds)
 behind_body s name ds = behind_objects s (in_body s name) ds record { bodies_are = refl; instance_is = refl; within = ([], refl) }
 
-longer : (count all new old : ℕ) → count ≡ old → all ≡ new + old → count ≤ all
-longer count all new old p q = omega arith
-
 -- there are the names of main
 pub body_room : (s now : Scope) (name : Word) (ds : PDecls) (outer : Outer) → IsOuter s outer → now ≡ after_objects (in_body s name) ds → outer.count ≤ length now.names
 body_room s now name ds outer is same =
     let h = behind_body s name ds in
-    longer outer.count (length now.names) (length h.within.0) (length s.names) is.count_is
+    within_sum outer.count (length now.names) (length h.within.0) (length s.names) is.count_is
     (ap (λ x. length x.names) same ∙ ap length h.within.1 ∙ length-append h.within.0 s.names)
 
 -- behind a body there is what was before it, with the marks of its objects

@@ -1,5 +1,5 @@
 -- A static expression is worth its static value where it is evaluated.
-use Rattle.std.proofs.Common.{◌≡◌, ◌≤◌, ◌<◌, ℕ, zero, suc, ℤ, pos, negsuc, neg_ℤ, ◌+ℤ◌, ◌-ℤ◌, ◌*ℤ◌, ◌≤ℤ◌, int_le, int_lt, int_rem, int_div, unsigned_abs, Bool, true, false, ◌&&◌, ◌||◌, ◌==◌, if◌then◌else◌, List, [], ◌∷◌, length, All, IfSome, find, slice_get, is_some, nat_lt, Option, Some, None, Result, Ok, Err, option_map, refl, sym, ap, subst, arith, true≢false, ⊎_elim, cond}
+use Rattle.std.proofs.Common.{◌≡◌, ◌≤◌, ◌<◌, ℕ, zero, suc, ℤ, pos, negsuc, neg_ℤ, ◌+ℤ◌, ◌-ℤ◌, ◌*ℤ◌, ◌≤ℤ◌, int_le, int_lt, int_rem, int_div, unsigned_abs, Bool, true, false, ◌&&◌, ◌||◌, ◌==◌, if◌then◌else◌, List, [], ◌∷◌, length, All, IfSome, find, slice_get, is_some, nat_lt, Option, Some, None, Result, Ok, Err, option_map, refl, sym, ap, subst, arith, ⊎_elim, cond}
 use Rattle.std.specs.Prelude.{⊤, unwrap_or}
 use Rattle.std.specs.List.{position_or_len}
 use Rattle.std.proofs.lemmas.Option.{slice_get_cases}
@@ -31,9 +31,8 @@ use Rattle.ada_value.specs.Values.{and_then, position_of, is_true_value, value_a
 use Rattle.ada_value.specs.Evaluating as evaluating
 use Rattle.ada_value.specs.Evaluating.{evaluated, literal_value, constant_value, bound_value, attribute_value, signed_value, combined}
 use Rattle.ada_value.specs.StaticLaw.{HasValueAt, HasFewLiterals, IsSound, HasSmallLiterals, Agree, StaticLaw}
-
-clash : {A : Type 0} → false ≡ true → A
-clash h = absurd (true≢false (sym h))
+use Rattle.common_lemmas.proofs.Numbers.{int_le_is, int_le_true}
+use Rattle.common_lemmas.proofs.Truth.{and_left, and_right, both_true, clash}
 
 -- ---- numbers of INTEGER
 
@@ -50,33 +49,16 @@ agree_from (Ok z) (Err x) h = h
 agree_from (Err s) (Ok v) h = h
 agree_from (Err s) (Err x) h = h
 
-le_true : (a b : ℤ) → a ≤ℤ b → int_le a b ≡ true
-le_true a b h = grind (arith, ints)
-
-true_le : (a b : ℤ) → int_le a b ≡ true → a ≤ℤ b
-true_le a b h = grind (arith, ints)
-
-both_true : (p q : Bool) → p ≡ true → q ≡ true → (p && q) ≡ true
-both_true p q g h = cc
-
-left_true : (p q : Bool) → (p && q) ≡ true → p ≡ true
-left_true true q h = refl
-left_true false q h = h
-
-right_true : (p q : Bool) → (p && q) ≡ true → q ≡ true
-right_true true q h = h
-right_true false q h = clash h
-
 integer_between : (z : ℤ) → negsuc 2147483647 ≤ℤ z → z ≤ℤ pos 2147483647 → is_integer_value z ≡ true
-integer_between z g h = both_true (int_le (negsuc 2147483647) z) (int_le z (pos 2147483647)) (le_true (negsuc 2147483647) z g) (le_true z (pos 2147483647) h)
+integer_between z g h = both_true (int_le (negsuc 2147483647) z) (int_le z (pos 2147483647)) (int_le_true (negsuc 2147483647) z g) (int_le_true z (pos 2147483647) h)
 
 not_under : (z : ℤ) → is_integer_value z ≡ true → negsuc 2147483647 ≤ℤ z
-not_under z h = true_le (negsuc 2147483647) z (left_true (int_le (negsuc 2147483647) z) (int_le z (pos 2147483647)) h)
+not_under z h = int_le_is (negsuc 2147483647) z (and_left (int_le (negsuc 2147483647) z) (int_le z (pos 2147483647)) h)
 
 not_over : (z : ℤ) → is_integer_value z ≡ true → z ≤ℤ pos 2147483647
-not_over z h = true_le z (pos 2147483647) (right_true (int_le (negsuc 2147483647) z) (int_le z (pos 2147483647)) h)
+not_over z h = int_le_is z (pos 2147483647) (and_right (int_le (negsuc 2147483647) z) (int_le z (pos 2147483647)) h)
 
-natural_integer : (n : ℕ) → n ≤ 2147483647 → is_integer_value (pos n) ≡ true
+pub natural_integer : (n : ℕ) → n ≤ 2147483647 → is_integer_value (pos n) ≡ true
 natural_integer n h = integer_between (pos n) (omega (arith, ints)) (omega (arith, ints))
 
 -- ---- results
@@ -206,7 +188,7 @@ signed_fits unary.Not s v h = truth_fits _
 abbrev Few : Option Kind → Type 0
 Few o = IfSome o HasFewLiterals
 
-small_word : (n : ℕ) → n ≤ 2147483647 → word n ≡ n
+pub small_word : (n : ℕ) → n ≤ 2147483647 → word n ≡ n
 small_word n h = grind arith
 
 number_same : (z : ℤ) → is_integer_value z ≡ true → position_of (values.number z) ≡ z
@@ -217,18 +199,18 @@ kind_has k (Some kind.Integer) z f e = (number_same z e, e)
 kind_has k (Some kind.Truth) (pos zero) f e = (refl, refl)
 kind_has k (Some kind.Truth) (pos (suc zero)) f e = (refl, refl)
 kind_has k (Some kind.Truth) (pos (suc (suc n))) f e =
-    let no = true_le (pos (suc (suc n))) (pos 1) (right_true (int_le (pos 0) (pos (suc (suc n)))) (int_le (pos (suc (suc n))) (pos 1)) e) in
+    let no = int_le_is (pos (suc (suc n))) (pos 1) (and_right (int_le (pos 0) (pos (suc (suc n)))) (int_le (pos (suc (suc n))) (pos 1)) e) in
     absurd (omega (arith, ints))
 kind_has k (Some kind.Truth) (negsuc n) f e =
-    let no = true_le (pos 0) (negsuc n) (left_true (int_le (pos 0) (negsuc n)) (int_le (negsuc n) (pos 1)) e) in
+    let no = int_le_is (pos 0) (negsuc n) (and_left (int_le (pos 0) (negsuc n)) (int_le (negsuc n) (pos 1)) e) in
     absurd (omega (arith, ints))
 kind_has k (Some (kind.Enumeration names)) (pos n) f e =
-    let under : int_lt (pos n) (pos (length names)) ≡ true = right_true (int_le (pos 0) (pos n)) (int_lt (pos n) (pos (length names))) e in
+    let under : int_lt (pos n) (pos (length names)) ≡ true = and_right (int_le (pos 0) (pos n)) (int_lt (pos n) (pos (length names))) e in
     let less : n < length names = grind (arith, ints) in
     let small : n ≤ 2147483647 = omega arith in
     (ap pos (small_word n small), natural_integer n small)
 kind_has k (Some (kind.Enumeration names)) (negsuc n) f e =
-    let no = true_le (pos 0) (negsuc n) (left_true (int_le (pos 0) (negsuc n)) (int_lt (negsuc n) (pos (length names))) e) in
+    let no = int_le_is (pos 0) (negsuc n) (and_left (int_le (pos 0) (negsuc n)) (int_lt (negsuc n) (pos (length names))) e) in
     absurd (omega (arith, ints))
 kind_has k (Some (kind.Array index first last part)) z f e = clash e
 kind_has k None z f e = clash e
@@ -332,18 +314,18 @@ static_fits types (EName id s) t l h = name_fits types (id.0 == false_name) (id.
 static_fits types (EIndex w e s) t l h = clash h
 static_fits types (EAttribute m w s) t l h =
     bound_fits types (mark_named types m.name) (attribute_of w.name) (found_has _ _ types.marks t.firsts) (found_has _ _ types.marks t.lasts)
-    (left_true (is_bound (attribute_of w.name)) (is_some (mark_named types m.name)) h) (right_true (is_bound (attribute_of w.name)) (is_some (mark_named types m.name)) h)
+    (and_left (is_bound (attribute_of w.name)) (is_some (mark_named types m.name)) h) (and_right (is_bound (attribute_of w.name)) (is_some (mark_named types m.name)) h)
 static_fits types (EAttributeOf m w e s) t l h =
-    let outer : (keeps_static (attribute_of w.name) && is_some (mark_named types m.name)) ≡ true = left_true (keeps_static (attribute_of w.name) && is_some (mark_named types m.name)) (is_static types e) h in
-    let inner : is_static types e ≡ true = right_true (keeps_static (attribute_of w.name) && is_some (mark_named types m.name)) (is_static types e) h in
+    let outer : (keeps_static (attribute_of w.name) && is_some (mark_named types m.name)) ≡ true = and_left (keeps_static (attribute_of w.name) && is_some (mark_named types m.name)) (is_static types e) h in
+    let inner : is_static types e ≡ true = and_right (keeps_static (attribute_of w.name) && is_some (mark_named types m.name)) (is_static types e) h in
     then_fits (value_of types e) (evaluated types [] e) _ _ (static_fits types e t l inner)
     (λ v i. attribute_fits types (mark_named types m.name) (attribute_of w.name) s v t.kinds
-    (left_true (keeps_static (attribute_of w.name)) (is_some (mark_named types m.name)) outer) (right_true (keeps_static (attribute_of w.name)) (is_some (mark_named types m.name)) outer) i)
+    (and_left (keeps_static (attribute_of w.name)) (is_some (mark_named types m.name)) outer) (and_right (keeps_static (attribute_of w.name)) (is_some (mark_named types m.name)) outer) i)
 static_fits types (EParen e s) t l h = static_fits types e t l h
 static_fits types (EUnary op e s) t l h = then_fits (value_of types e) (evaluated types [] e) _ _ (static_fits types e t l h) (λ v i. signed_fits op s v i)
 static_fits types (EBinary op x y s) t l h =
     operated_fits op s (value_of types x) (value_of types y) (evaluated types [] x) (evaluated types [] y)
-    (static_fits types x t l.0 (left_true (is_static types x) (is_static types y) h)) (static_fits types y t l.1 (right_true (is_static types x) (is_static types y) h))
+    (static_fits types x t l.0 (and_left (is_static types x) (is_static types y) h)) (static_fits types y t l.1 (and_right (is_static types x) (is_static types y) h))
 
 pub static_law : StaticLaw
 static_law types e t l h = agree_from (value_of types e) (evaluated types [] e) (static_fits types e t l h)

@@ -8,10 +8,10 @@ use Rattle.ada_tree.specs.Sites.{with_words}
 use Rattle.syn_event.specs.CheckScope.{CheckScope, CheckSite, declares}
 use Rattle.syn_event.specs.declared.limits.What.TheVariants.{Alternatives}
 use Rattle.syn_event.specs.CheckSites as check
-use Rattle.syn_event.proofs.Nothing.{all_front, all_back}
 use Rattle.asked_stmts.specs.Asked.{Asks, AskedStmt, AskedStmts, AskedSome, AskedMaybe, AskedAccept, AskedAlts, AskedKind, AskedArms, AskedCaseArms, AskedBody, AskedHandlers}
 use Rattle.asked_stmts.specs.Kinds.{check_asks, before_sites}
-use Rattle.asked_stmts.proofs.Lists.{all_join, all_first, all_second, all_third, all_three}
+use Rattle.asked_stmts.proofs.Lists.{all_first, all_second, all_third, all_three}
+use Rattle.common_lemmas.proofs.Lists.{all_back, all_front, all_joined}
 
 module _ (P : CheckSite → Type 0) where
   abbrev a : Asks CheckScope
@@ -42,7 +42,7 @@ module _ (P : CheckSite → Type 0) where
   aborted : (c : CheckScope) (k : ℕ) (xs : List PCallee) → At (before_sites c xs) → AllByRecursion (a.callee c k) xs → At (check.aborted_sites c k xs)
   aborted c k [] h g = tt
   aborted c k (x ∷ []) h g = g.0
-  aborted c k (x ∷ y ∷ rest) h g = (h.0, all_join P (check.callee_sites c k x) (check.aborted_sites c k (y ∷ rest)) g.0 (aborted c k (y ∷ rest) h.1 g.1))
+  aborted c k (x ∷ y ∷ rest) h g = (h.0, all_joined P (check.callee_sites c k x) (check.aborted_sites c k (y ∷ rest)) g.0 (aborted c k (y ∷ rest) h.1 g.1))
 
   -- ---- from the places
 
@@ -146,40 +146,40 @@ module _ (P : CheckSite → Type 0) where
     stmt' c k (SNewLine s) h = h
     stmt' c k (SGet x s) h = h
     stmt' c k (SAbort xs s) h = (h.0, aborted c (k + 1) xs h.1 h.2)
-    stmt' c k (SCall x s) h = (h.0, all_join P (check.callee_sites c (k + 1) x.task) (check.if_there (check.args_sites c (k + 1)) x.args) h.1 h.2)
+    stmt' c k (SCall x s) h = (h.0, all_joined P (check.callee_sites c (k + 1) x.task) (check.if_there (check.args_sites c (k + 1)) x.args) h.1 h.2)
     stmt' c k (SAccept x s) h = accept' c k x h
     stmt' c k (SWait x o s) h = (h.0, (h.2.0, all_three P (check.numbered c Alternatives 0 (check.alt_places x)) (check.alts_sites c (k + 1) x) (check.maybe_sites c (k + 1) o) h.2.1 (alts' c (k + 1) x h.3) (maybe' c (k + 1) o h.4)))
     stmt' c k (SConditional x l o s) h =
-        (h.0, (h.1, all_three P (check.call_sites c (k + 2) x) (check.stmts_sites c (k + 1) l) (check.stmts_sites c (k + 1) o) (all_join P (check.callee_sites c (k + 2) x.task) (check.if_there (check.args_sites c (k + 2)) x.args) h.2 h.3) (stmts' c (k + 1) l h.4) (some' c (k + 1) o h.5)))
+        (h.0, (h.1, all_three P (check.call_sites c (k + 2) x) (check.stmts_sites c (k + 1) l) (check.stmts_sites c (k + 1) o) (all_joined P (check.callee_sites c (k + 2) x.task) (check.if_there (check.args_sites c (k + 2)) x.args) h.2 h.3) (stmts' c (k + 1) l h.4) (some' c (k + 1) o h.5)))
     stmt' c k (STimed x l n o s) h =
-        (h.0, (h.1, all_three P (check.call_sites c (k + 2) x) (check.stmts_sites c (k + 1) l) (check.stmts_sites c (k + 1) o) (all_join P (check.callee_sites c (k + 2) x.task) (check.if_there (check.args_sites c (k + 2)) x.args) h.2 h.3) (stmts' c (k + 1) l h.5) (stmts' c (k + 1) o h.6)))
-    stmt' c k (SIf x o s) h = (h.0, all_join P (check.arms_sites c (k + 1) x) (check.maybe_sites c (k + 1) o) (arms' c (k + 1) x h.2) (maybe' c (k + 1) o h.3))
+        (h.0, (h.1, all_three P (check.call_sites c (k + 2) x) (check.stmts_sites c (k + 1) l) (check.stmts_sites c (k + 1) o) (all_joined P (check.callee_sites c (k + 2) x.task) (check.if_there (check.args_sites c (k + 2)) x.args) h.2 h.3) (stmts' c (k + 1) l h.5) (stmts' c (k + 1) o h.6)))
+    stmt' c k (SIf x o s) h = (h.0, all_joined P (check.arms_sites c (k + 1) x) (check.maybe_sites c (k + 1) o) (arms' c (k + 1) x h.2) (maybe' c (k + 1) o h.3))
     stmt' c k (SCase e x o s) h = (h.0, all_three P (check.expr_sites c (k + 1) e) (check.case_arms_sites c (k + 1) x) (check.maybe_sites c (k + 1) o) h.1 (case_arms' c (k + 1) e x h.2) (maybe' c (k + 1) o h.3))
     stmt' c k (SBlock x s) h = (h.0, body-of' c (k + 1) x h.1)
-    stmt' c k (SLoop w x l s) h = (h.0, all_join P (check.if_there (λ y. check.site c (declares y) ∷ []) w ++ check.if_there (check.scheme_sites c (k + 1)) x) (check.stmts_sites (a.looping c w x) (k + 1) l) h.1 (some' (a.looping c w x) (k + 1) l h.2))
+    stmt' c k (SLoop w x l s) h = (h.0, all_joined P (check.if_there (λ y. check.site c (declares y) ∷ []) w ++ check.if_there (check.scheme_sites c (k + 1)) x) (check.stmts_sites (a.looping c w x) (k + 1) l) h.1 (some' (a.looping c w x) (k + 1) l h.2))
 
     stmts' : (c : CheckScope) (k : ℕ) (l : PStmts) → AskedStmts a c k l → At (check.stmts_sites c k l)
     stmts' c k no_stmt h = tt
-    stmts' c k (stmt_then x l) h = all_join P (check.stmt_sites c k x) (check.stmts_sites c k l) (stmt' c k x h.0) (stmts' c k l h.1)
+    stmts' c k (stmt_then x l) h = all_joined P (check.stmt_sites c k x) (check.stmts_sites c k l) (stmt' c k x h.0) (stmts' c k l h.1)
 
     some' : (c : CheckScope) (k : ℕ) (l : PStmts) → AskedSome a c k l → At (check.stmts_sites c k l)
     some' c k no_stmt h = tt
-    some' c k (stmt_then x l) h = all_join P (check.stmt_sites c k x) (check.stmts_sites c k l) (stmt' c k x h.1) (stmts' c k l h.2)
+    some' c k (stmt_then x l) h = all_joined P (check.stmt_sites c k x) (check.stmts_sites c k l) (stmt' c k x h.1) (stmts' c k l h.2)
 
     maybe' : (c : CheckScope) (k : ℕ) (o : PMaybe) → AskedMaybe a c k o → At (check.maybe_sites c k o)
     maybe' c k absent h = tt
     maybe' c k (present l) h = some' c k l h
 
     accept' : (c : CheckScope) (k : ℕ) (x : PAccept) → AskedAccept a c k x → At (check.accept_sites c k x)
-    accept' c k (accepting i o) h = all_join P (check.head_sites c k i) (check.maybe_sites (a.accepting c i) (k + 1) o) h.0 (maybe' (a.accepting c i) (k + 1) o h.1)
+    accept' c k (accepting i o) h = all_joined P (check.head_sites c k i) (check.maybe_sites (a.accepting c i) (k + 1) o) h.0 (maybe' (a.accepting c i) (k + 1) o h.1)
 
     alts' : (c : CheckScope) (k : ℕ) (x : PAlts) → AskedAlts a c k x → At (check.alts_sites c k x)
     alts' c k no_alt h = tt
     alts' c k (alt_then (alternative g x s) l) h = (h.0, all_three P (check.if_there (check.expr_sites c (k + 1)) g) (check.alt_sites c (k + 1) g s x) (check.alts_sites c k l) (guard' c (k + 1) g h.1) (kind' c (k + 1) g s x h.2) (alts' c k l h.3))
 
     kind' : (c : CheckScope) (k : ℕ) (g : Option PExpr) (s : Span) (x : PAltKind) → AskedKind a c k g s x → At (check.alt_sites c k g s x)
-    kind' c k g s (AAccept x l) h = all_join P (check.accept_sites c k x) (check.stmts_sites c k l) (accept' c k x h.0) (stmts' c k l h.1)
-    kind' c k g s (ADelay n l) h = all_join P (check.delay_sites c k g s) (check.stmts_sites c k l) h.0 (stmts' c k l h.2)
+    kind' c k g s (AAccept x l) h = all_joined P (check.accept_sites c k x) (check.stmts_sites c k l) (accept' c k x h.0) (stmts' c k l h.1)
+    kind' c k g s (ADelay n l) h = all_joined P (check.delay_sites c k g s) (check.stmts_sites c k l) h.0 (stmts' c k l h.2)
     kind' c k g s ATerminate h = tt
 
     arms' : (c : CheckScope) (k : ℕ) (x : PArms) → AskedArms a c k x → At (check.arms_sites c k x)
@@ -191,11 +191,11 @@ module _ (P : CheckSite → Type 0) where
     case_arms' c k e (case_arm_then (case_arm cs l) rest) h = all_three P (flat_map (check.choice_sites c k) cs) (check.stmts_sites c k l) (check.case_arms_sites c k rest) h.0 (some' c k l h.1) (case_arms' c k e rest h.2)
 
     body-of' : (c : CheckScope) (k : ℕ) (x : PBody) → AskedBody a c k x → At (check.body_sites c k x)
-    body-of' c k (body l hs) h = all_join P (check.stmts_sites c k l) (check.handlers_sites c k hs) (some' c k l h.0) (handlers' c k [] hs h.2)
+    body-of' c k (body l hs) h = all_joined P (check.stmts_sites c k l) (check.handlers_sites c k hs) (some' c k l h.0) (handlers' c k [] hs h.2)
 
     handlers' : (c : CheckScope) (k : ℕ) (names : List ℕ) (x : PHandlers) → AskedHandlers a c k names x → At (check.handlers_sites c k x)
     handlers' c k names no_handler h = tt
-    handlers' c k names (handler_then (handler ws l s) rest) h = (h.0, all_join P (check.stmts_sites (a.handling c) (k + 1) l) (check.handlers_sites c k rest) (some' (a.handling c) (k + 1) l h.2) (handlers' c k (with_words names ws) rest h.3))
+    handlers' c k names (handler_then (handler ws l s) rest) h = (h.0, all_joined P (check.stmts_sites (a.handling c) (k + 1) l) (check.handlers_sites c k rest) (some' (a.handling c) (k + 1) l h.2) (handlers' c k (with_words names ws) rest h.3))
 
   -- A body of whose places something holds is as that asks, and the other way round.
   pub checked_asked : (c : CheckScope) (k : ℕ) (x : PBody) → At (check.body_sites c k x) → AskedBody a c k x

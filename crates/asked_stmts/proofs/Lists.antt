@@ -1,11 +1,7 @@
 -- What holds of each element of lists that are joined or made of lists.
 use Rattle.std.proofs.Common.{List, [], ◌∷◌, ◌++◌, flat_map}
 use Rattle.std.specs.List.{AllByRecursion}
-use Rattle.syn_event.proofs.Nothing.{all_front, all_back}
-
-pub all_join : {A : Type 0} (P : A → Type 0) (xs ys : List A) → AllByRecursion P xs → AllByRecursion P ys → AllByRecursion P (xs ++ ys)
-all_join P [] ys h g = g
-all_join P (x ∷ xs) ys h g = (h.0, all_join P xs ys h.1 g)
+use Rattle.common_lemmas.proofs.Lists.{all_back, all_front, all_joined}
 
 -- of three lists
 pub all_first : {A : Type 0} (P : A → Type 0) (xs ys zs : List A) → AllByRecursion P (xs ++ ys ++ zs) → AllByRecursion P xs
@@ -18,7 +14,7 @@ pub all_third : {A : Type 0} (P : A → Type 0) (xs ys zs : List A) → AllByRec
 all_third P xs ys zs h = all_back P (xs ++ ys) zs h
 
 pub all_three : {A : Type 0} (P : A → Type 0) (xs ys zs : List A) → AllByRecursion P xs → AllByRecursion P ys → AllByRecursion P zs → AllByRecursion P (xs ++ ys ++ zs)
-all_three P xs ys zs h g f = all_join P (xs ++ ys) zs (all_join P xs ys h g) f
+all_three P xs ys zs h g f = all_joined P (xs ++ ys) zs (all_joined P xs ys h g) f
 
 pub all_unflat : {A B : Type 0} (P : B → Type 0) (f : A → List B) (xs : List A) → AllByRecursion P (flat_map f xs) → AllByRecursion (λ x. AllByRecursion P (f x)) xs
 all_unflat P f [] h = tt
@@ -26,4 +22,4 @@ all_unflat P f (x ∷ xs) h = (all_front P (f x) (flat_map f xs) h, all_unflat P
 
 pub all_flat : {A B : Type 0} (P : B → Type 0) (f : A → List B) (xs : List A) → AllByRecursion (λ x. AllByRecursion P (f x)) xs → AllByRecursion P (flat_map f xs)
 all_flat P f [] h = tt
-all_flat P f (x ∷ xs) h = all_join P (f x) (flat_map f xs) h.0 (all_flat P f xs h.1)
+all_flat P f (x ∷ xs) h = all_joined P (f x) (flat_map f xs) h.0 (all_flat P f xs h.1)

@@ -4,17 +4,17 @@ use Rattle.std.specs.List.{AllByRecursion}
 use Rattle.ada_tree.specs.declared.naming.Span.{Span}
 use Rattle.ada_tree.specs.PlainExpr.{PExpr}
 use Rattle.ada_tree.specs.PlainStmt.{PStmt, SNull, SAssign, SDelay, SExit, SRaise, SAbort, SCall, SAccept, SWait, SConditional, STimed, SPut, SPutLine, SNewLine, SGet, SIf, SCase, SBlock, SLoop, PStmts, no_stmt, stmt_then, PMaybe, absent, present, PAccept, accepting, alternative, PAltKind, AAccept, ADelay, ATerminate, PAlts, no_alt, alt_then, PArms, no_arm, arm_then, arm, PCaseArms, no_case_arm, case_arm_then, case_arm, PBody, body, PHandlers, no_handler, handler_then, handler}
-use Rattle.ada_tree.specs.Sites.{with_words, choices_of, is_present}
+use Rattle.ada_tree.specs.Sites.{with_words}
 use Rattle.ada_tree.specs.Scope.{Scope, meaning}
 use Rattle.ada_tree.specs.ExprTypes.{kind_of}
 use Rattle.ada_tree.specs.RuleArgCount.{called_entry}
 use Rattle.ada_tree.specs.RuleChoiceBad.{selected_range}
 use Rattle.ada_tree.specs.Demand.{labels, calls, Site}
 use Rattle.ada_tree.specs.Sites as typed
-use Rattle.syn_event.proofs.Nothing.{all_front, all_back}
 use Rattle.asked_stmts.specs.Asked.{Asks, AskedStmt, AskedStmts, AskedSome, AskedMaybe, AskedAccept, AskedAlts, AskedKind, AskedArms, AskedCaseArms, AskedBody, AskedHandlers}
 use Rattle.asked_stmts.specs.Kinds.{type_asks}
-use Rattle.asked_stmts.proofs.Lists.{all_join, all_first, all_second, all_third, all_three, all_unflat, all_flat}
+use Rattle.asked_stmts.proofs.Lists.{all_first, all_second, all_third, all_three, all_unflat, all_flat}
+use Rattle.common_lemmas.proofs.Lists.{all_back, all_front, all_joined}
 
 module _ (P : Site → Type 0) where
   abbrev a : Asks Scope
@@ -128,39 +128,39 @@ module _ (P : Site → Type 0) where
     stmt' c k (SNewLine s) h = h
     stmt' c k (SGet x s) h = h
     stmt' c k (SAbort xs s) h = all_flat P (typed.callee_sites c) xs h.2
-    stmt' c k (SCall x s) h = all_join P (typed.callee_sites c x.task) (typed.site c (calls x) ∷ typed.if_there (typed.args_sites c (called_entry (meaning c x.task.name.name) x.entry.name)) x.args) h.1 h.2
+    stmt' c k (SCall x s) h = all_joined P (typed.callee_sites c x.task) (typed.site c (calls x) ∷ typed.if_there (typed.args_sites c (called_entry (meaning c x.task.name.name) x.entry.name)) x.args) h.1 h.2
     stmt' c k (SAccept x s) h = accept' c k x h
-    stmt' c k (SWait x o s) h = all_join P (typed.alts_sites c x) (typed.maybe_sites c o) (alts' c (k + 1) x h.3) (maybe' c (k + 1) o h.4)
+    stmt' c k (SWait x o s) h = all_joined P (typed.alts_sites c x) (typed.maybe_sites c o) (alts' c (k + 1) x h.3) (maybe' c (k + 1) o h.4)
     stmt' c k (SConditional x l o s) h =
-        all_three P (typed.call_sites c x) (typed.stmts_sites c l) (typed.stmts_sites c o) (all_join P (typed.callee_sites c x.task) (typed.site c (calls x) ∷ typed.if_there (typed.args_sites c (called_entry (meaning c x.task.name.name) x.entry.name)) x.args) h.2 h.3) (stmts' c (k + 1) l h.4) (some' c (k + 1) o h.5)
+        all_three P (typed.call_sites c x) (typed.stmts_sites c l) (typed.stmts_sites c o) (all_joined P (typed.callee_sites c x.task) (typed.site c (calls x) ∷ typed.if_there (typed.args_sites c (called_entry (meaning c x.task.name.name) x.entry.name)) x.args) h.2 h.3) (stmts' c (k + 1) l h.4) (some' c (k + 1) o h.5)
     stmt' c k (STimed x l n o s) h =
-        all_three P (typed.call_sites c x) (typed.stmts_sites c l) (typed.stmts_sites c o) (all_join P (typed.callee_sites c x.task) (typed.site c (calls x) ∷ typed.if_there (typed.args_sites c (called_entry (meaning c x.task.name.name) x.entry.name)) x.args) h.2 h.3) (stmts' c (k + 1) l h.5) (stmts' c (k + 1) o h.6)
-    stmt' c k (SIf x o s) h = all_join P (typed.arms_sites c x) (typed.maybe_sites c o) (arms' c (k + 1) x h.2) (maybe' c (k + 1) o h.3)
+        all_three P (typed.call_sites c x) (typed.stmts_sites c l) (typed.stmts_sites c o) (all_joined P (typed.callee_sites c x.task) (typed.site c (calls x) ∷ typed.if_there (typed.args_sites c (called_entry (meaning c x.task.name.name) x.entry.name)) x.args) h.2 h.3) (stmts' c (k + 1) l h.5) (stmts' c (k + 1) o h.6)
+    stmt' c k (SIf x o s) h = all_joined P (typed.arms_sites c x) (typed.maybe_sites c o) (arms' c (k + 1) x h.2) (maybe' c (k + 1) o h.3)
     stmt' c k (SCase e x o s) h = (h.1.0, all_three P (typed.expr_sites c e) (typed.case_arms_sites c (kind_of c e) (selected_range c e) x) (typed.maybe_sites c o) h.1.1 (case_arms' c (k + 1) e x h.2) (maybe' c (k + 1) o h.3))
     stmt' c k (SBlock x s) h = body-of' c (k + 1) x h.1
-    stmt' c k (SLoop w x l s) h = all_join P (typed.if_there (λ y. typed.site c (labels y) ∷ []) w ++ typed.if_there (typed.scheme_sites c) x) (typed.stmts_sites (a.looping c w x) l) h.1 (some' (a.looping c w x) (k + 1) l h.2)
+    stmt' c k (SLoop w x l s) h = all_joined P (typed.if_there (λ y. typed.site c (labels y) ∷ []) w ++ typed.if_there (typed.scheme_sites c) x) (typed.stmts_sites (a.looping c w x) l) h.1 (some' (a.looping c w x) (k + 1) l h.2)
 
     stmts' : (c : Scope) (k : ℕ) (l : PStmts) → AskedStmts a c k l → At (typed.stmts_sites c l)
     stmts' c k no_stmt h = tt
-    stmts' c k (stmt_then x l) h = all_join P (typed.stmt_sites c x) (typed.stmts_sites c l) (stmt' c k x h.0) (stmts' c k l h.1)
+    stmts' c k (stmt_then x l) h = all_joined P (typed.stmt_sites c x) (typed.stmts_sites c l) (stmt' c k x h.0) (stmts' c k l h.1)
 
     some' : (c : Scope) (k : ℕ) (l : PStmts) → AskedSome a c k l → At (typed.stmts_sites c l)
     some' c k no_stmt h = tt
-    some' c k (stmt_then x l) h = all_join P (typed.stmt_sites c x) (typed.stmts_sites c l) (stmt' c k x h.1) (stmts' c k l h.2)
+    some' c k (stmt_then x l) h = all_joined P (typed.stmt_sites c x) (typed.stmts_sites c l) (stmt' c k x h.1) (stmts' c k l h.2)
 
     maybe' : (c : Scope) (k : ℕ) (o : PMaybe) → AskedMaybe a c k o → At (typed.maybe_sites c o)
     maybe' c k absent h = tt
     maybe' c k (present l) h = some' c k l h
 
     accept' : (c : Scope) (k : ℕ) (x : PAccept) → AskedAccept a c k x → At (typed.accept_sites c x)
-    accept' c k (accepting i o) h = all_join P (typed.head_sites c i) (typed.maybe_sites (a.accepting c i) o) h.0 (maybe' (a.accepting c i) (k + 1) o h.1)
+    accept' c k (accepting i o) h = all_joined P (typed.head_sites c i) (typed.maybe_sites (a.accepting c i) o) h.0 (maybe' (a.accepting c i) (k + 1) o h.1)
 
     alts' : (c : Scope) (k : ℕ) (x : PAlts) → AskedAlts a c k x → At (typed.alts_sites c x)
     alts' c k no_alt h = tt
     alts' c k (alt_then (alternative g x s) l) h = all_three P (typed.if_there (typed.condition c) g) (typed.alt_sites c x) (typed.alts_sites c l) (guard' c (k + 1) g h.1) (kind' c (k + 1) g s x h.2) (alts' c k l h.3)
 
     kind' : (c : Scope) (k : ℕ) (g : Option PExpr) (s : Span) (x : PAltKind) → AskedKind a c k g s x → At (typed.alt_sites c x)
-    kind' c k g s (AAccept x l) h = all_join P (typed.accept_sites c x) (typed.stmts_sites c l) (accept' c k x h.0) (stmts' c k l h.1)
+    kind' c k g s (AAccept x l) h = all_joined P (typed.accept_sites c x) (typed.stmts_sites c l) (accept' c k x h.0) (stmts' c k l h.1)
     kind' c k g s (ADelay n l) h = stmts' c k l h.2
     kind' c k g s ATerminate h = tt
 
@@ -173,7 +173,7 @@ module _ (P : Site → Type 0) where
     case_arms' c k e (case_arm_then (case_arm cs l) rest) h = all_three P (flat_map (typed.choice_sites c (kind_of c e) (selected_range c e)) cs) (typed.stmts_sites c l) (typed.case_arms_sites c (kind_of c e) (selected_range c e) rest) h.0 (some' c k l h.1) (case_arms' c k e rest h.2)
 
     body-of' : (c : Scope) (k : ℕ) (x : PBody) → AskedBody a c k x → At (typed.body_sites c x)
-    body-of' c k (body l hs) h = all_join P (typed.stmts_sites c l) (typed.handlers_sites c [] hs) (some' c k l h.0) (handlers' c k [] hs h.2)
+    body-of' c k (body l hs) h = all_joined P (typed.stmts_sites c l) (typed.handlers_sites c [] hs) (some' c k l h.0) (handlers' c k [] hs h.2)
 
     handlers' : (c : Scope) (k : ℕ) (names : List ℕ) (x : PHandlers) → AskedHandlers a c k names x → At (typed.handlers_sites c names x)
     handlers' c k names no_handler h = tt

@@ -1,4 +1,4 @@
--- What the grammar, the first twelve static rules and the other static rules ask of a body, statement by statement; and what two ask together (this project's rule).
+-- What the grammar, the first twelve static rules and the other static rules ask of a body, statement by statement; what asks nothing; and what two ask together (this project's rule).
 use Rattle.std.specs.Prelude.{List, [], ◌∷◌, ◌++◌, length, flat_map, IfSome, All}
 use Rattle.std.specs.List.{AllByRecursion}
 use Rattle.ada_tree.specs.PlainStmt.{PCallee}
@@ -14,6 +14,32 @@ use Rattle.syn_event.specs.CheckScope.{CheckScope, CheckSite, declares, aborts_b
 use Rattle.syn_event.specs.declared.limits.What.TheVariants.{Nesting, Alternatives}
 use Rattle.syn_event.specs.CheckSites as check
 use Rattle.asked_stmts.specs.Asked.{Asks}
+
+-- ---- what asks nothing
+
+-- nothing is asked, and nothing stands around; what asks something of one form of statement alone is told by that
+abbrev pub no_asks : Asks (Unit {0})
+no_asks = record {
+  outer = λ c k s. Unit {0};
+  many = λ n. Unit {0};
+  duration = λ n. Unit {0};
+  plain = λ c k x. Unit {0};
+  callee = λ c k x. Unit {0};
+  call = λ c k x. Unit {0};
+  aborts = λ c k xs. Unit {0};
+  condition = λ c k e. Unit {0};
+  selector = λ c k e xs others s. Unit {0};
+  choices = λ c k e xs. Unit {0};
+  loop = λ c k w x. Unit {0};
+  head = λ c k h. Unit {0};
+  wait = λ c k x others s. Unit {0};
+  delay = λ c k e s. Unit {0};
+  handlers = λ hs. Unit {0};
+  handler = λ c k names ws. Unit {0};
+  accepting = λ c h. c;
+  looping = λ c w x. c;
+  handling = λ c. c;
+}
 
 -- ---- what the grammar asks
 

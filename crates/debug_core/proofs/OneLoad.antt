@@ -6,16 +6,14 @@ use Rattle.ded_io.specs.Told.{ToldFile, file_bytes}
 use Rattle.debug_outcome.specs.Loads.{WasLoaded, IsUnread, IsTooLong, IsUnloaded, AreLoaded, AreUnloaded}
 use Rattle.debug_outcome.specs.Outcomes.{Outcome}
 use Rattle.debug_outcome.specs.Traces.{Wanted, Load}
+use Rattle.common_lemmas.proofs.Options.{not_missing}
 
 -- the same option holds one thing, and not nothing
 one_some : {A : Type 0} (o : Option A) (x y : A) → o ≡ Some x → o ≡ Some y → x ≡ y
 one_some o x y h k = ap (λ z. unwrap_or z x) (sym h ∙ k)
 
-none_is_none : {A : Type 0} (x : A) → None ≡ Some x → ⊥
-none_is_none x e = cc
-
 none_some : {A : Type 0} (o : Option A) (x : A) → o ≡ None → o ≡ Some x → ⊥
-none_some o x h k = none_is_none x (sym h ∙ k)
+none_some o x h k = not_missing x (sym h ∙ k)
 
 module _ (files : List ToldFile) (f f' g g' : ℕ) (still : Rose f f' → ⊥) (also : Rose g g' → ⊥) where
   one_load : (w : Wanted) (a b : List ℕ) → WasLoaded (Some files) w a → WasLoaded (Some files) w b → a ≡ b

@@ -27,8 +27,9 @@ use Rattle.syn_event.specs.CheckSites.{site, check_sites, numbered, decls_sites,
 use Rattle.syn_event.specs.CheckScope.{CheckScope, counts}
 use Rattle.syn_event.specs.NamedTasks.{NamedTasks, named_tasks, type_named, task_names_of_type, object_task_names, with_type, single_task_name, task_names_in, task_names_of, count_of_range, task_count, NumberedTask, numbered_task, numbers_on, indices, tasks_of_range, tasks_of_name, numbered_tasks}
 use Rattle.seq_file.specs.Short.{IsShort}
-use Rattle.syn_event.proofs.Nothing.{test_fails, all_front, all_back}
+use Rattle.syn_event.proofs.Nothing.{test_fails}
 use Rattle.syn_event.proofs.Kept.{Kept, kept_all}
+use Rattle.common_lemmas.proofs.Lists.{all_back, all_front}
 
 -- ---- one count
 

@@ -1,7 +1,6 @@
 -- What the parts of replaying come to: the printed text, the limits, and the refusal of a sequence.
 use Rattle.std.proofs.Common.{◌≡◌, ◌<◌, ◌≤◌, ℕ, Bool, true, false, nat_lt, List, length, Result, Ok, Err, inl, inr, sym, ap, ◌∙◌, subst, arith}
 use Rattle.std.specs.Prelude.{◌⊎◌, min, if◌then◌else◌}
-use Rattle.std.proofs.lemmas.Bool.Decides.{nat_tests}
 use Rattle.ded_io.specs.Counts.{last_count}
 use Rattle.ada_tree.specs.PlainProgram.{PProgram}
 use Rattle.ada_tree.specs.TypeTable.{TypeTable}
@@ -18,12 +17,7 @@ use Rattle.debug_outcome.specs.Outcomes.{Outcome, writes, refuses}
 use Rattle.debug_outcome.specs.declared.refusal.Refusal.TheVariants.{LongText, TooMany}
 use Rattle.debug_outcome.specs.declared.refusal.Listed.TheVariants.{Events}
 use Rattle.debug_replay.specs.ReplayOutcomes.{ReplaysLines, printed_outcome, replay_outcome, refusal_of_replay}
-
-lesser : (a b : ℕ) → a < b → nat_lt a b ≡ true
-lesser a b h = grind (arith, nat_tests)
-
-not_lesser : (a b : ℕ) → b ≤ a → nat_lt a b ≡ false
-not_lesser a b h = grind (arith, nat_tests)
+use Rattle.common_lemmas.proofs.Numbers.{lt_false, lt_true}
 
 -- ---- the length of a text
 
@@ -36,10 +30,10 @@ module _ (p : PProgram) where
 
   -- the same by the length that was counted
   pub long_by : (n : ℕ) → n ≡ min (length (program_text p)) last_count → text_limit < n → refuses (LongText text_limit) ≡ printed_outcome p
-  long_by n counted more = long_text (lesser text_limit (length (program_text p)) (omega (arith, counted, more)))
+  long_by n counted more = long_text (lt_true text_limit (length (program_text p)) (omega (arith, counted, more)))
 
   pub short_by : (n : ℕ) → n ≡ min (length (program_text p)) last_count → n ≤ text_limit → writes (program_text p) 0 ≡ printed_outcome p
-  short_by n counted less = short_text (not_lesser text_limit (length (program_text p)) (omega (arith, counted, less)))
+  short_by n counted less = short_text (lt_false text_limit (length (program_text p)) (omega (arith, counted, less)))
 
 -- ---- the error of an answer
 

@@ -9,9 +9,9 @@ use Rattle.std.proofs.lemmas.List.Sums.{passes_at_first}
 use Rattle.ded_io.specs.Written.{◌⧺◌, each_text}
 use Rattle.ded_io.proofs.Writes.{joined, joined_nil, joined_assoc}
 use Rattle.text_lines.specs.Lines.{is_line_end}
-use Rattle.text_lines.proofs.Capping.{clash}
 use Rattle.text_lines.proofs.Walks.{split-Some, split-None}
 use Rattle.debug_text.specs.OutputText.{pieces_of, but_last, last_of, bar_line, angle_line, output_text}
+use Rattle.common_lemmas.proofs.Truth.{clash}
 
 -- an output has a piece at least
 some_piece : (output : List ℕ) → 0 < length (pieces_of output)

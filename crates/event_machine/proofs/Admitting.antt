@@ -12,10 +12,11 @@ use Rattle.event_machine.specs.Programs.{Program}
 use Rattle.event_machine.specs.Worlds.{happens, offers, others_end}
 use Rattle.event_machine.specs.Soundness.{IsSound, times}
 use Rattle.event_machine.specs.Admitting.{IsAdmitted}
-use Rattle.event_machine.proofs.Basics.{split, not_false}
+use Rattle.event_machine.proofs.Basics.{split}
 use Rattle.event_machine.proofs.Standings.{is-Live}
 use Rattle.event_machine.proofs.Offering.{finish_is, end_is, calls_waits}
 use Rattle.event_machine.proofs.Sound.{first_served}
+use Rattle.common_lemmas.proofs.Truth.{not_true}
 
 -- a live or completed task is no caller
 free_or_over : (z : Standing) → (is_completed z || is_live z) ≡ true → is_served z ≡ false
@@ -61,9 +62,9 @@ module _ {L : Type 0} (p : Program L) (IsProper : L → Type 0) (lawful : IsLawf
   admitted (S a) tasks sound beyond h = is-Live (tasks a).standing (split h).0
   admitted (D a k) tasks sound beyond h = is-Live (tasks a).standing (split h).0
   admitted (C c e i) tasks sound beyond h =
-      (is-Live (tasks c).standing (and_parts (is_live (tasks c).standing) _ (split h).0).0, not_false (is_closed (tasks (p.owner e)).standing) (split h).1)
+      (is-Live (tasks c).standing (and_parts (is_live (tasks c).standing) _ (split h).0).0, not_true (is_closed (tasks (p.owner e)).standing) (split h).1)
   admitted (T c e i) tasks sound beyond h =
-      (is-Live (tasks c).standing (and_parts (is_live (tasks c).standing) _ (split h).0).0, not_false (is_closed (tasks (p.owner e)).standing) (split h).1)
+      (is-Live (tasks c).standing (and_parts (is_live (tasks c).standing) _ (split h).0).0, not_true (is_closed (tasks (p.owner e)).standing) (split h).1)
   admitted (F c e i) tasks sound beyond h =
       (is-Live (tasks c).standing (and_parts (is_live (tasks c).standing) _ (split h).0).0, (split h).1)
   admitted (X a) tasks sound beyond h =

@@ -1,7 +1,7 @@
 -- What an event reads and writes: its conditions and its effects go by the free tasks that it needs and by the served ones, and tasks that it does
 -- not change stay.
 use Rattle.std.proofs.Common.{◌≡◌, ℕ, zero, suc, pred, ◌<◌, ◌≤◌, Bool, true, false, not, ◌&&◌, ◌||◌, ◌==◌, refl, sym, ap, ap₂, ◌∙◌, subst, inl, inr, ◌⊎◌, ⊎_elim, true≢false, arith}
-use Rattle.std.proofs.lemmas.Bool.{eqb-true, eqb-false, ne_eqb, and_parts, or_cases, or_left, or_right, le-leb, leb-true, cases_lt}
+use Rattle.std.proofs.lemmas.Bool.{eqb-true, and_parts, or_cases, or_left, or_right, le-leb, leb-true, cases_lt}
 use Rattle.event_machine.specs.declared.Standing.TheVariants.{Live}
 use Rattle.event_machine.specs.declared.Event.{Event}
 use Rattle.event_machine.specs.declared.Event.TheVariants.{R, E, S, D, C, T, F, X, B, Z}
@@ -9,12 +9,9 @@ use Rattle.event_machine.specs.Offers.{Offer, calls_in, is_any_form, is_conditio
 use Rattle.event_machine.specs.Seats.{Seat, is_live, is_closed, is_completed, is_served}
 use Rattle.event_machine.specs.Programs.{Program}
 use Rattle.event_machine.specs.Worlds.{happens, offers, aborts, needs, others_end}
-use Rattle.event_machine.proofs.Basics.{split, equal_self}
+use Rattle.event_machine.proofs.Basics.{split}
 use Rattle.event_machine.proofs.Standings.{is-Live}
-
--- two numbers that are not the same, either way
-pub other_way : (m n : ℕ) → (m == n) ≡ false → (n == m) ≡ false
-other_way m n h = ne_eqb n m (λ q. eqb-false m n h (sym q))
+use Rattle.common_lemmas.proofs.Numbers.{equal_self}
 
 module _ {L : Type 0} (p : Program L) where
   -- The tasks stand alike, and those that the event needs, where they are free, are the same.

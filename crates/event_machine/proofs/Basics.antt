@@ -1,14 +1,12 @@
 -- Small facts on tests, seats and lists of actions that the laws' proofs share.
-use Rattle.std.proofs.Common.{◌≡◌, ℕ, Bool, true, false, not, ◌&&◌, ◌==◌, if◌then◌else◌, refl, sym, ap, Option, Some, None}
+use Rattle.std.proofs.Common.{◌≡◌, ℕ, Bool, true, false, not, ◌&&◌, ◌==◌, if◌then◌else◌, refl, ap, Option, Some, None}
 use Rattle.std.specs.Ordering.{int_eq}
 use Rattle.std.specs.Prelude.{ℤ}
-use Rattle.std.proofs.lemmas.Bool.{eq-eqb, eqb-true, and_parts, and_from}
+use Rattle.std.proofs.lemmas.Bool.{eqb-true, and_parts, and_from}
 use Rattle.std.proofs.lemmas.Bool.Decides.{Decides-int_eq}
 use Rattle.event_machine.specs.Offers.{same_member}
 use Rattle.event_machine.specs.Seats.{Seat}
-
-pub equal_self : (n : ℕ) → (n == n) ≡ true
-equal_self n = eq-eqb n n refl
+use Rattle.common_lemmas.proofs.Numbers.{equal_self}
 
 -- a function of an `if`
 pub push_if : {A B : Type 0} (f : A → B) (b : Bool) (x y : A) → f (if b then x else y) ≡ (if b then f x else f y)
@@ -26,10 +24,6 @@ both {a} {b} h k = and_from a b h k
 
 pub false_not : {b : Bool} → b ≡ false → not b ≡ true
 false_not h = ap not h
-
-pub not_false : (b : Bool) → not b ≡ true → b ≡ false
-not_false true h = sym h
-not_false false h = refl
 
 pub same_member-refl : (e : ℕ) (i : ℤ) → same_member e i e i ≡ true
 same_member-refl e i = both (equal_self e) ((Decides-int_eq i i).1 refl)

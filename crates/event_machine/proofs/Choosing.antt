@@ -13,7 +13,7 @@ use Rattle.event_machine.specs.Worlds.{World, world_of, needs}
 use Rattle.event_machine.specs.Settling.{ran, HasSteps, Settles, run_on, fired, Fires, Leads}
 use Rattle.event_machine.specs.Tallies.{RestIs, StandsAfter, HasNoEnd}
 use Rattle.event_machine.specs.Laws.{IsVictim, CanChoose, HasChosen, FirstLaw, IsJudged, SecondLaw, FeasibleAdmitted}
-use Rattle.event_machine.proofs.Basics.{both, split, equal_self, seat_path}
+use Rattle.event_machine.proofs.Basics.{both, split, seat_path}
 use Rattle.event_machine.proofs.Standings.{is-Live}
 use Rattle.event_machine.proofs.Admitting.{admitted}
 use Rattle.event_machine.proofs.Agreeing.{ReadsSame, happens_same}
@@ -23,6 +23,7 @@ use Rattle.event_machine.proofs.Walking.{leads_append, leads_split}
 use Rattle.event_machine.proofs.Returning.{CanKillAll, leads_open}
 use Rattle.event_machine.proofs.Reaching.{IsLed, run_leads, IsReached, reached, feasible_back, start_base}
 use Rattle.event_machine.proofs.Resting.{feasible_leads, stands_there, stands_is, rest_steps, rest_back}
+use Rattle.common_lemmas.proofs.Numbers.{equal_self}
 
 -- a part of a list without the end of the program has none
 no_end_before : (xs ys : List Event) → HasNoEnd (xs ++ ys) → HasNoEnd xs

@@ -12,10 +12,12 @@ use Rattle.event_machine.specs.Rows.{is_first}
 use Rattle.event_machine.specs.Effects.{freed, met_at, parted, released_first, parted_both, released, fallen, aborted, went_on, abort_seats}
 use Rattle.event_machine.specs.Programs.{Program, numbered}
 use Rattle.event_machine.specs.Worlds.{happens, acted, offers, needs, changes}
-use Rattle.event_machine.proofs.Basics.{split, equal_self, not_false}
+use Rattle.event_machine.proofs.Basics.{split}
 use Rattle.event_machine.proofs.Standings.{is-Live, served_served}
 use Rattle.event_machine.proofs.Updates.{put_at, put_other}
-use Rattle.event_machine.proofs.Agreeing.{AgreesFor, other_way}
+use Rattle.event_machine.proofs.Agreeing.{AgreesFor}
+use Rattle.common_lemmas.proofs.Numbers.{equal_self, unequal_turned}
+use Rattle.common_lemmas.proofs.Truth.{not_true}
 
 module _ {L : Type 0} (p : Program L) where
   -- ---- what it changes
@@ -43,7 +45,7 @@ module _ {L : Type 0} (p : Program L) where
   first_other : (tasks : ℕ → Seat L) (a : ℕ) (acceptor : L) (callers : List ℕ) (u : ℕ) → is_first u callers ≡ false →
       released_first (numbered p) a acceptor callers tasks u ≡ tasks u
   first_other tasks a acceptor [] u q = refl
-  first_other tasks a acceptor (c ∷ callers) u q = put_other p tasks c (parted p.ops a acceptor (tasks c)) u (other_way c u q)
+  first_other tasks a acceptor (c ∷ callers) u q = put_other p tasks c (parted p.ops a acceptor (tasks c)) u (unequal_turned c u q)
 
   pub went_other : (tasks : ℕ → Seat L) (t x u : ℕ) → (u == t) ≡ false → went_on (numbered p) tasks t x u ≡ tasks u
   went_other tasks t x u q = go (x == t)
@@ -242,7 +244,7 @@ module _ {L : Type 0} (p : Program L) where
   acted_same (B u x) tasks others h k serving t change =
       ⊎_elim (λ q. inl (same (subst (λ v. others v ≡ tasks v) (sym (eqb-true t u q)) hu)))
       (λ q. let parts = split q in
-      ⊎_elim (λ r. at_x r (not_false _ parts.0)) (λ r. inl (same (h.served t (served_served x (tasks t).standing r))))
+      ⊎_elim (λ r. at_x r (not_true _ parts.0)) (λ r. inl (same (h.served t (served_served x (tasks t).standing r))))
       (or_cases (t == x) (is_served_by x (tasks t).standing) parts.1))
       (or_cases (t == u) _ change)
     where

@@ -17,10 +17,12 @@ use Rattle.event_machine.specs.Programs.{Program, numbered}
 use Rattle.event_machine.specs.Worlds.{still, still_seat, world_of, acted, happens, offers, others_end, aborts, is_last, Move, Step, Happen, moved, AreMoves, world_after, happened, counts_after, recount}
 use Rattle.event_machine.specs.Tallies.{tallied, is_changed, is_step_of}
 use Rattle.event_machine.specs.Laws.{IsErased, Erasing}
-use Rattle.event_machine.proofs.Basics.{split, both, seat_path, same_member-refl, equal_self, not_false, none_some, some_path}
+use Rattle.event_machine.proofs.Basics.{split, both, seat_path, same_member-refl, none_some, some_path}
 use Rattle.event_machine.proofs.Standings.{is-Live, still_live, still_waiting, still_queued, first_passes}
 use Rattle.event_machine.proofs.Stills.{still_acted, still_changes, still_freed, still_closed, still_completed}
 use Rattle.event_machine.proofs.Appends.{moves_append, world_append, happened_append, counts_append}
+use Rattle.common_lemmas.proofs.Numbers.{equal_self}
+use Rattle.common_lemmas.proofs.Truth.{not_true}
 
 -- a local step, or an arrival
 abbrev pub is_silent : Action → Bool
@@ -316,16 +318,16 @@ module _ {L : Type 0} (p : Program L) where
   pub erased_step : (s : State (ℕ → Seat L)) (action : Action) → can (numbered p) s action ≡ true → IsErasedStep s action
   erased_step s (Local t) h = local_step s t h
   erased_step s (Arrive t) h = arrive_step s t h
-  erased_step s (Start c) h = event_step s (Start c) (not_false _ (split h).0) (start_row s c (split h).1)
-  erased_step s (Finish a) h = event_step s (Finish a) (not_false _ (split h).0) (finish_row s a (split h).1)
-  erased_step s (Else a) h = event_step s (Else a) (not_false _ (split h).0) (take_else_row s a (split h).1)
-  erased_step s (Delay a k) h = event_step s (Delay a k) (not_false _ (split h).0) (delay_row s a k (split h).1)
-  erased_step s (CallElse c) h = event_step s (CallElse c) (not_false _ (split h).0) (else_row s c (split h).1)
-  erased_step s (Expire c) h = event_step s (Expire c) (not_false _ (split h).0) (expire_row s c (split h).1)
-  erased_step s (Fail c) h = event_step s (Fail c) (not_false _ (split h).0) (fail_row s c (split h).1)
-  erased_step s (Complete a) h = event_step s (Complete a) (not_false _ (split h).0) (complete_row s a (split h).1)
-  erased_step s (Abort t) h = event_step s (Abort t) (not_false _ (split h).0) (abort_row s t (split h).1)
-  erased_step s End h = event_step s End (not_false _ (split h).0) (end_row s (split h).1)
+  erased_step s (Start c) h = event_step s (Start c) (not_true _ (split h).0) (start_row s c (split h).1)
+  erased_step s (Finish a) h = event_step s (Finish a) (not_true _ (split h).0) (finish_row s a (split h).1)
+  erased_step s (Else a) h = event_step s (Else a) (not_true _ (split h).0) (take_else_row s a (split h).1)
+  erased_step s (Delay a k) h = event_step s (Delay a k) (not_true _ (split h).0) (delay_row s a k (split h).1)
+  erased_step s (CallElse c) h = event_step s (CallElse c) (not_true _ (split h).0) (else_row s c (split h).1)
+  erased_step s (Expire c) h = event_step s (Expire c) (not_true _ (split h).0) (expire_row s c (split h).1)
+  erased_step s (Fail c) h = event_step s (Fail c) (not_true _ (split h).0) (fail_row s c (split h).1)
+  erased_step s (Complete a) h = event_step s (Complete a) (not_true _ (split h).0) (complete_row s a (split h).1)
+  erased_step s (Abort t) h = event_step s (Abort t) (not_true _ (split h).0) (abort_row s t (split h).1)
+  erased_step s End h = event_step s End (not_true _ (split h).0) (end_row s (split h).1)
 
   -- ---- the moves of a run
 

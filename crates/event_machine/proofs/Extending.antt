@@ -15,7 +15,7 @@ use Rattle.event_machine.specs.Settling.{ran, HasSteps, run_on, Fires, CountsFor
 use Rattle.event_machine.specs.Soundness.{IsSound, times}
 use Rattle.event_machine.specs.Tallies.{HasNoEnd, before_end, ComesTo}
 use Rattle.event_machine.specs.Laws.{IsQuiet, IsErased}
-use Rattle.event_machine.proofs.Basics.{both, split, not_false, seat_path}
+use Rattle.event_machine.proofs.Basics.{both, split, seat_path}
 use Rattle.event_machine.proofs.Stills.{still_closed, still_served_by}
 use Rattle.event_machine.proofs.Standings.{is-Live, still_live}
 use Rattle.event_machine.proofs.Stepping.{settles_once, settles_most}
@@ -28,6 +28,7 @@ use Rattle.event_machine.proofs.Bases.{steps_settle}
 use Rattle.event_machine.proofs.Walking.{Walk, walk_all, leads_split, sound_moves}
 use Rattle.event_machine.proofs.Resting.{feasible_leads}
 use Rattle.event_machine.proofs.Reaching.{feasible_back, start_base}
+use Rattle.common_lemmas.proofs.Truth.{not_true}
 
 -- ---- who is served
 
@@ -68,7 +69,7 @@ still_quiet ops seats quiet t free = quiet t (still_live (seats t).standing free
 pub before_end-same : (events : List Event) → HasNoEnd events → before_end events ≡ events
 before_end-same [] h = refl
 before_end-same (e ∷ events) h = let k = split h in
-    ap (λ b. if b then [] else e ∷ before_end events) (not_false (is_last e) k.0) ∙ ap (λ es. e ∷ es) (before_end-same events k.1)
+    ap (λ b. if b then [] else e ∷ before_end events) (not_true (is_last e) k.0) ∙ ap (λ es. e ∷ es) (before_end-same events k.1)
 
 module _ {L : Type 0} (p : Program L) where
   -- ---- conditions where the needed tasks rest

@@ -13,11 +13,12 @@ use Rattle.event_machine.specs.Worlds.{World, Step, Happen, happens, acted, need
 use Rattle.event_machine.specs.Settling.{ran, HasSteps, Settles, run_on, fired, Fires, Leads, CountsFor, IsRunOn, Follows}
 use Rattle.event_machine.specs.Soundness.{IsSound, times}
 use Rattle.event_machine.specs.Laws.{Deterministic}
-use Rattle.event_machine.proofs.Basics.{both, not_false, seat_path}
+use Rattle.event_machine.proofs.Basics.{both, seat_path}
 use Rattle.event_machine.proofs.Standings.{is-Live, served_served}
 use Rattle.event_machine.proofs.Stepping.{settles_once}
 use Rattle.event_machine.proofs.Agreeing.{AgreesFor, happens_same, happens_free}
 use Rattle.event_machine.proofs.Effected.{changes_same, unchanged, acted_same, Falls, IsServing}
+use Rattle.common_lemmas.proofs.Truth.{not_true}
 
 module _ {L : Type 0} (p : Program L) where
   -- ---- determinism
@@ -173,7 +174,7 @@ module _ {L : Type 0} (p : Program L) where
         fires = record {
           steps = steps_to;
           settles = λ t. settled t (needs p e t && is_live (bases.tasks t).standing) refl;
-          runs = sym f.ended ∙ not_false w.ended (and_parts (not w.ended) (happens p w.tasks e) h).0;
+          runs = sym f.ended ∙ not_true w.ended (and_parts (not w.ended) (happens p w.tasks e) h).0;
           holds = holds_found;
           becomes = refl;
         }

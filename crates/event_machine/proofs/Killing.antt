@@ -12,9 +12,11 @@ use Rattle.event_machine.specs.Rows.{is_first}
 use Rattle.event_machine.specs.Effects.{freed, met_at, parted, released_first, released, fallen, aborted, went_on, abort_seats}
 use Rattle.event_machine.specs.Programs.{Program, numbered}
 use Rattle.event_machine.specs.Worlds.{happens, acted, offers, needs, changes, is_last}
-use Rattle.event_machine.proofs.Basics.{split, both, equal_self, not_false}
+use Rattle.event_machine.proofs.Basics.{split, both}
 use Rattle.event_machine.proofs.Standings.{is-Live}
 use Rattle.event_machine.proofs.Effected.{IsServing, killed_at, went_other, released_other}
+use Rattle.common_lemmas.proofs.Numbers.{equal_self}
+use Rattle.common_lemmas.proofs.Truth.{not_true}
 
 -- the event is the abort of t by another task
 abbrev pub is_victim : Event → ℕ → Bool
@@ -73,7 +75,7 @@ module _ {L : Type 0} (p : Program L) where
   victim_needless (T c e i) t h = absurd (true≢false (sym h))
   victim_needless (F c e i) t h = absurd (true≢false (sym h))
   victim_needless (X a) t h = absurd (true≢false (sym h))
-  victim_needless (B u x) t h = ap (λ v. v == u) (eqb-true t x (split h).0) ∙ not_false (x == u) (split h).1
+  victim_needless (B u x) t h = ap (λ v. v == u) (eqb-true t x (split h).0) ∙ not_true (x == u) (split h).1
   victim_needless Z t h = absurd (true≢false (sym h))
 
   -- ---- completed tasks
@@ -287,7 +289,7 @@ module _ {L : Type 0} (p : Program L) where
   victim_falls (B u x) tasks t h free = subst (λ v. acted (numbered p) tasks (B u x) v ≡ record { local = (tasks v).local; standing = Killed })
       (sym (eqb-true t x (split h).0))
       (let here : (tasks x).standing ≡ Live = subst (λ v. (tasks v).standing ≡ Live) (eqb-true t x (split h).0) free in
-      killed_at p tasks u x (not_false (x == u) (split h).1) (ap is_closed here) (ap is_served here))
+      killed_at p tasks u x (not_true (x == u) (split h).1) (ap is_closed here) (ap is_served here))
   victim_falls Z tasks t h free = absurd (true≢false (sym h))
 
 -- the abort that has a victim
@@ -302,5 +304,5 @@ victim_abort (F c e i) t h = absurd (true≢false (sym h))
 victim_abort (X a) t h = absurd (true≢false (sym h))
 victim_abort (B u x) t h =
     let q : t ≡ x = eqb-true t x (split h).0 in
-    (u, ap (B u) (sym q), λ r. eqb-false x u (not_false (x == u) (split h).1) (sym q ∙ sym r))
+    (u, ap (B u) (sym q), λ r. eqb-false x u (not_true (x == u) (split h).1) (sym q ∙ sym r))
 victim_abort Z t h = absurd (true≢false (sym h))

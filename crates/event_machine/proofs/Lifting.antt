@@ -18,13 +18,15 @@ use Rattle.event_machine.specs.Programs.{Program, numbered}
 use Rattle.event_machine.specs.Worlds.{World, still, world_of, state_of, IsStill, acted, happens, offers, others_end, Move, Step, Happen, can_move, moved, AreMoves, recount}
 use Rattle.event_machine.specs.Tallies.{tallied, tallies}
 use Rattle.event_machine.specs.Laws.{IsLifted, Lifting}
-use Rattle.event_machine.proofs.Basics.{split, both, seat_path, same_member-refl, equal_self, not_false}
+use Rattle.event_machine.proofs.Basics.{split, both, seat_path, same_member-refl}
 use Rattle.event_machine.proofs.Standings.{is-Live}
 use Rattle.event_machine.proofs.Stills.{still_acted, still_freed}
 use Rattle.event_machine.proofs.Updates.{stand_self, stand_local, stand_other}
 use Rattle.event_machine.proofs.Offering.{calls_is, waits_is, aborts_is, timed_queues, else_conditional, no_caller, calls_waits}
 use Rattle.event_machine.proofs.Erasing.{IsEvent, event_row, event_world, event_counts, arrive_world}
 use Rattle.event_machine.proofs.Appends.{run_append, end_append, events_append, tallies_append, happened_append}
+use Rattle.common_lemmas.proofs.Numbers.{equal_self}
+use Rattle.common_lemmas.proofs.Truth.{not_true}
 
 module _ {L : Type 0} (p : Program L) where
   -- ---- arrivals
@@ -469,7 +471,7 @@ module _ {L : Type 0} (p : Program L) where
     exact = λ r. refl;
     counts = λ count. refl;
   }
-  lift_move w (Happen e) still' h = lift_happen w e still' (not_false _ (split h).0) (split h).1
+  lift_move w (Happen e) still' h = lift_happen w e still' (not_true _ (split h).0) (split h).1
 
   -- after the end of the program nothing moves
   ended_last : (w : World L) (moves : List Move) → w.ended ≡ true → AreMoves p w moves → moves ≡ []
@@ -477,8 +479,8 @@ module _ {L : Type 0} (p : Program L) where
   ended_last w (move ∷ moves) e h = absurd (stuck move h.0)
     where
       stuck : (move : Move) → can_move p w move ≡ true → ⊥
-      stuck (Step t) k = true≢false (sym e ∙ not_false _ (split k).0)
-      stuck (Happen f) k = true≢false (sym e ∙ not_false _ (split k).0)
+      stuck (Step t) k = true≢false (sym e ∙ not_true _ (split k).0)
+      stuck (Happen f) k = true≢false (sym e ∙ not_true _ (split k).0)
 
   lift_more : (w : World L) (move : Move) (moves : List Move) (first : IsLifted p w (move ∷ [])) → IsLifted p (moved p w move) moves →
       (moved p w move).ended ≡ false → IsLifted p w (move ∷ moves)

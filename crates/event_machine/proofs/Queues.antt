@@ -16,9 +16,10 @@ use Rattle.event_machine.specs.Programs.{Program, numbered}
 use Rattle.event_machine.specs.Worlds.{still, acted}
 use Rattle.event_machine.specs.Soundness.{times}
 use Rattle.event_machine.specs.Queues.{suits, IsSuited, IsLined}
-use Rattle.event_machine.proofs.Basics.{split, equal_self}
+use Rattle.event_machine.proofs.Basics.{split}
 use Rattle.event_machine.proofs.Standings.{is-Live, is-Waiting}
 use Rattle.event_machine.proofs.Erasing.{event_or_silent, is_silent}
+use Rattle.common_lemmas.proofs.Numbers.{equal_self}
 
 -- ---- offers that suit
 

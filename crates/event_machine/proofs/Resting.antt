@@ -12,12 +12,13 @@ use Rattle.event_machine.specs.Worlds.{World, still, world_of}
 use Rattle.event_machine.specs.Settling.{ran, HasSteps, Leads, CountsFor}
 use Rattle.event_machine.specs.Tallies.{tallies, ComesTo, RestIs, StandsAfter, HasNoEnd}
 use Rattle.event_machine.specs.Laws.{FeasibleExactly, RestExactly}
-use Rattle.event_machine.proofs.Basics.{equal_self, seat_path}
+use Rattle.event_machine.proofs.Basics.{seat_path}
 use Rattle.event_machine.proofs.Following.{leads_once}
 use Rattle.event_machine.proofs.Killing.{is_victim}
 use Rattle.event_machine.proofs.Bases.{IsBase, base_fires, base_leads, completed_leads, victim_killed}
 use Rattle.event_machine.proofs.Returning.{CanKillAll}
 use Rattle.event_machine.proofs.Reaching.{IsLed, run_leads, feasible_back, IsReached, reached, start_base}
+use Rattle.common_lemmas.proofs.Numbers.{equal_self}
 
 module _ {L : Type 0} (p : Program L) (IsProper : L → Type 0) (lawful : IsLawful p.ops IsProper) where
   -- victims can run on by their numbers where the killed tasks at the end could

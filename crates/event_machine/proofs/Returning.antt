@@ -1,5 +1,5 @@
 -- What bases lead to is had by moves: the needed tasks run until they rest, the victim of an abort runs as far as one likes, and then the event happens.
-use Rattle.std.proofs.Common.{◌≡◌, ℕ, ◌+◌, Bool, true, false, not, ◌&&◌, ◌||◌, if◌then◌else◌, List, [], ◌∷◌, ◌++◌, refl, sym, ap, ap₂, ◌∙◌, subst, inl, inr, ⊎_elim, true≢false, arith}
+use Rattle.std.proofs.Common.{◌≡◌, ℕ, ◌+◌, Bool, true, false, not, ◌&&◌, ◌||◌, if◌then◌else◌, List, [], ◌∷◌, ◌++◌, refl, sym, ap, ap₂, ◌∙◌, subst, inl, inr, ⊎_elim, true≢false}
 use Rattle.std.proofs.lemmas.Bool.{and_parts, and_right, and_left, cases_Bool, false_from_ne_true}
 use Rattle.event_machine.specs.declared.Standing.{Standing}
 use Rattle.event_machine.specs.declared.Standing.TheVariants.{Live, Waiting, Queued, Served, Completed, Killed}
@@ -11,7 +11,7 @@ use Rattle.event_machine.specs.Worlds.{World, Move, Happen, still, happens, need
 use Rattle.event_machine.specs.Settling.{ran, HasSteps, run_on, Fires, Leads, CountsFor, Follows}
 use Rattle.event_machine.specs.Soundness.{IsSound}
 use Rattle.event_machine.specs.Tallies.{HasNoEnd}
-use Rattle.event_machine.proofs.Basics.{split, both, not_false}
+use Rattle.event_machine.proofs.Basics.{split, both}
 use Rattle.event_machine.proofs.Standings.{is-Live}
 use Rattle.event_machine.proofs.Agreeing.{happens_same}
 use Rattle.event_machine.proofs.Effected.{unchanged}
@@ -20,6 +20,8 @@ use Rattle.event_machine.proofs.Killing.{is_victim, needs_changes, victim_change
 use Rattle.event_machine.proofs.Bases.{IsBase, base_fires, completed_fires, next_tasks, last_same, found_idle, found_steps, steps_idle, sound_found}
 use Rattle.event_machine.proofs.Walking.{Walk, walk_all, sound_moves}
 use Rattle.event_machine.proofs.Appends.{moves_append, world_append, happened_append, counts_append}
+use Rattle.common_lemmas.proofs.Numbers.{more_zero}
+use Rattle.common_lemmas.proofs.Truth.{not_true}
 
 -- a task that is open, serves as no caller, and neither waits nor is queued is live
 open_live : (s : Standing) → is_closed s ≡ false → is_served s ≡ false → still s ≡ s → s ≡ Live
@@ -30,16 +32,13 @@ open_live (Served by abnormal) h k e = absurd (true≢false k)
 open_live Completed h k e = absurd (true≢false h)
 open_live Killed h k e = absurd (true≢false h)
 
-completed_idle : (s : Standing) → is_completed s ≡ true → is_live s ≡ false
+pub completed_idle : (s : Standing) → is_completed s ≡ true → is_live s ≡ false
 completed_idle Live h = absurd (true≢false (sym h))
 completed_idle Waiting h = refl
 completed_idle Queued h = refl
 completed_idle (Served by abnormal) h = refl
 completed_idle Completed h = refl
 completed_idle Killed h = refl
-
-plus_zero : (n : ℕ) → n + 0 ≡ n
-plus_zero n = omega arith
 
 module _ {L : Type 0} (p : Program L) (IsProper : L → Type 0) (lawful : IsLawful p.ops IsProper) (number : ℕ → ℕ) where
   -- A killed task has run on by its number.
@@ -95,7 +94,7 @@ module _ {L : Type 0} (p : Program L) (IsProper : L → Type 0) (lawful : IsLawf
     walked : Walk p bases w (λ t. 0) add
     walked = walk_all p p.size bases w (λ t. 0) add at (at.ended ∙ f.runs)
         (λ t. ⊎_elim
-        (λ q. inr ((at.each t).standing ∙ is-Live (bases.tasks t).standing q, subst (λ n. HasSteps p.ops n (bases.tasks t).local) (sym (plus_zero (add t))) (add_steps t)))
+        (λ q. inr ((at.each t).standing ∙ is-Live (bases.tasks t).standing q, subst (λ n. HasSteps p.ops n (bases.tasks t).local) (sym (more_zero (add t))) (add_steps t)))
         (λ q. inl (add_idle t q))
         (cases_Bool (is_live (bases.tasks t).standing)))
         (λ t l. add_idle t (completed_idle (bases.tasks t).standing (base.beyond t l)))
@@ -107,7 +106,7 @@ module _ {L : Type 0} (p : Program L) (IsProper : L → Type 0) (lawful : IsLawf
     count = counts_after p w walked.moves (λ t. 0)
 
     count_is : (t : ℕ) → count t ≡ add t
-    count_is t = walked.counts t ∙ plus_zero (add t)
+    count_is t = walked.counts t ∙ more_zero (add t)
 
     sound_before : IsSound p.ops IsProper before.tasks
     sound_before = sound_moves p IsProper lawful walked.moves w sound walked.made
@@ -201,7 +200,7 @@ module _ {L : Type 0} (p : Program L) (IsProper : L → Type 0) (lawful : IsLawf
       events_are = happened_append walked.moves (Happen e ∷ []) ∙ ap (λ xs. xs ++ e ∷ []) walked.silent;
       follows = subst (λ v. Follows p next v (counts_after p w (walked.moves ++ Happen e ∷ []) (λ t. 0))) (sym (world_append p w walked.moves (Happen e ∷ [])))
           (subst (Follows p next (moved p before (Happen e))) (sym (counts_append p w walked.moves (Happen e ∷ []) (λ t. 0))) follows_there);
-      zero_counts = λ h t. ap (λ (c : ℕ → ℕ). c t) (counts_append p w walked.moves (Happen e ∷ []) (λ u. 0)) ∙ none_left (not_false (is_last e) (split h).0) t;
+      zero_counts = λ h t. ap (λ (c : ℕ → ℕ). c t) (counts_append p w walked.moves (Happen e ∷ []) (λ u. 0)) ∙ none_left (not_true (is_last e) (split h).0) t;
       numbers = subst (HasNumbers next) (sym (world_append p w walked.moves (Happen e ∷ []))) numbers_there;
     }
 
@@ -259,4 +258,4 @@ module _ {L : Type 0} (p : Program L) (IsProper : L → Type 0) (lawful : IsLawf
   pub leads_open : (events : List Event) (w last : World L) → HasNoEnd events → w.ended ≡ false → Leads p w events last → last.ended ≡ false
   leads_open [] w last h runs k = ap (λ (v : World L). v.ended) (sym k) ∙ runs
   leads_open (e ∷ events) w last h runs (next, f, k) =
-      leads_open events next last (split h).1 (ap (λ (v : World L). v.ended) f.becomes ∙ ap (λ b. b || w.ended) (not_false (is_last e) (split h).0) ∙ runs) k
+      leads_open events next last (split h).1 (ap (λ (v : World L). v.ended) f.becomes ∙ ap (λ b. b || w.ended) (not_true (is_last e) (split h).0) ∙ runs) k

@@ -13,10 +13,11 @@ use Rattle.event_machine.specs.Lawful.{IsLawful, Keeps}
 use Rattle.event_machine.specs.Programs.{Program, numbered}
 use Rattle.event_machine.specs.Worlds.{World, Move, Step, Happen, happens, acted, offers, can_move, moved}
 use Rattle.event_machine.specs.Soundness.{IsSound, times}
-use Rattle.event_machine.proofs.Basics.{split, push_if, equal_self}
+use Rattle.event_machine.proofs.Basics.{split, push_if}
 use Rattle.event_machine.proofs.Standings.{is-Live, served_closed, served_one, fallen_served_by, fallen_closed}
 use Rattle.event_machine.proofs.Updates.{put_self, put_at, put_other, freed_standing}
 use Rattle.event_machine.proofs.Offering.{finish_is, end_is, calls_waits}
+use Rattle.common_lemmas.proofs.Numbers.{equal_self}
 
 module _ {L : Type 0} (p : Program L) (IsProper : L → Type 0) (lawful : IsLawful p.ops IsProper) where
   -- ---- tasks that stand as before, with the callers that they had

@@ -6,7 +6,7 @@ use Rattle.event_machine.specs.declared.Standing.TheVariants.{Live}
 use Rattle.event_machine.specs.Seats.{Seat, live}
 use Rattle.event_machine.specs.Effects.{freed, stand}
 use Rattle.event_machine.specs.Programs.{Program, numbered}
-use Rattle.event_machine.proofs.Basics.{equal_self}
+use Rattle.common_lemmas.proofs.Numbers.{equal_self}
 
 module _ {L : Type 0} (p : Program L) (tasks : ℕ → Seat L) (t : ℕ) where
   pub put_self : (seat : Seat L) → (numbered p).store.put tasks t seat t ≡ seat

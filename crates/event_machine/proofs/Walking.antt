@@ -10,12 +10,13 @@ use Rattle.event_machine.specs.Programs.{Program}
 use Rattle.event_machine.specs.Worlds.{World, Move, Step, Happen, can_move, moved, AreMoves, world_after, happened, counts_after, recount}
 use Rattle.event_machine.specs.Settling.{ran, HasSteps, Leads, CountsFor, Follows}
 use Rattle.event_machine.specs.Soundness.{IsSound}
-use Rattle.event_machine.proofs.Basics.{both, equal_self}
+use Rattle.event_machine.proofs.Basics.{both}
 use Rattle.event_machine.proofs.Stepping.{step_before}
 use Rattle.event_machine.proofs.Updates.{put_other}
 use Rattle.event_machine.proofs.Sound.{sound_moved}
 use Rattle.event_machine.proofs.Following.{same_base, follow_step, follow_event}
 use Rattle.event_machine.proofs.Appends.{moves_append, world_append, happened_append, counts_append}
+use Rattle.common_lemmas.proofs.Numbers.{equal_self}
 
 module _ {L : Type 0} (p : Program L) where
   -- ---- what bases lead to, one list after the other

@@ -13,7 +13,7 @@ use Rattle.event_machine.specs.Programs.{Program}
 use Rattle.event_machine.specs.Worlds.{happens, offers, still}
 use Rattle.event_machine.specs.Admitting.{IsAdmitted}
 use Rattle.event_machine.specs.Soundness.{IsSound, times}
-use Rattle.event_machine.proofs.Basics.{both, equal_self, not_false}
+use Rattle.event_machine.proofs.Basics.{both}
 use Rattle.event_machine.proofs.Offering.{finish_is, end_is}
 use Rattle.event_machine.proofs.Admitting.{admitted}
 use Rattle.event_machine.proofs.Extending.{caller_served}
@@ -21,6 +21,8 @@ use Rattle.event_progress.specs.Known.{Party, Known, party, is_free, is_closed a
 use Rattle.event_progress.specs.Laws.{server_of}
 use Rattle.event_progress.proofs.Parties.{all_at, all_of}
 use Rattle.event_progress.proofs.Telling.{Tells}
+use Rattle.common_lemmas.proofs.Numbers.{equal_self}
+use Rattle.common_lemmas.proofs.Truth.{not_true}
 
 -- it is known whether a task is served
 served_known : (z : Standing) → is_some (server_of z) ≡ is_served z
@@ -113,17 +115,17 @@ module _ {L : Type 0} (p : Program L) (IsProper : L → Type 0) (lawful : IsLawf
     suits_admitted (R c e i) h =
         let more = and_parts (is_free k c) (is_free k (p.owner e) && not (c == p.owner e)) h in
         let last = and_parts (is_free k (p.owner e)) (not (c == p.owner e)) more.1 in
-        (is_live_there c more.0, is_live_there (p.owner e) last.0, eqb-false c (p.owner e) (not_false (c == p.owner e) last.1))
+        (is_live_there c more.0, is_live_there (p.owner e) last.0, eqb-false c (p.owner e) (not_true (c == p.owner e) last.1))
     suits_admitted (E a) h = let more = and_parts (is_free k a) (has_callers (party k a).callers) h in (is_live_there a more.0, has_caller a (is_live_there a more.0) more.1)
     suits_admitted (S a) h = is_live_there a h
     suits_admitted (D a n) h = is_live_there a h
     suits_admitted (C c e i) h = let more = and_parts (is_free k c) (not (known_closed k (p.owner e))) h in
-        (is_live_there c more.0, sym (closed_is (p.owner e)) ∙ not_false (known_closed k (p.owner e)) more.1)
+        (is_live_there c more.0, sym (closed_is (p.owner e)) ∙ not_true (known_closed k (p.owner e)) more.1)
     suits_admitted (T c e i) h = let more = and_parts (is_free k c) (not (known_closed k (p.owner e))) h in
-        (is_live_there c more.0, sym (closed_is (p.owner e)) ∙ not_false (known_closed k (p.owner e)) more.1)
+        (is_live_there c more.0, sym (closed_is (p.owner e)) ∙ not_true (known_closed k (p.owner e)) more.1)
     suits_admitted (F c e i) h = let more = and_parts (is_free k c) (known_closed k (p.owner e)) h in (is_live_there c more.0, sym (closed_is (p.owner e)) ∙ more.1)
     suits_admitted (X a) h = let more = and_parts (is_free k a) (not (has_callers (party k a).callers)) h in
-        (is_live_there a more.0, no_caller a (is_live_there a more.0) (not_false (has_callers (party k a).callers) more.1))
+        (is_live_there a more.0, no_caller a (is_live_there a more.0) (not_true (has_callers (party k a).callers) more.1))
     suits_admitted (B t x) h = is_live_there t h
     suits_admitted Z h = λ t. sym (served_known (tasks t).standing) ∙ sym (ap (λ (y : Party). is_some y.server) (tells t)) ∙
-        not_false (is_some (party k t).server) (all_of (λ y. not (is_some y.server)) k.parties refl h t)
+        not_true (is_some (party k t).server) (all_of (λ y. not (is_some y.server)) k.parties refl h t)

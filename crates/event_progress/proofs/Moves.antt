@@ -7,12 +7,12 @@ use Rattle.event_machine.specs.Lawful.{IsLawful}
 use Rattle.event_machine.specs.Programs.{Program}
 use Rattle.event_machine.specs.Worlds.{World, Move, Step, Happen, moved, AreMoves, world_after, happened, happens, is_last}
 use Rattle.event_machine.specs.Soundness.{IsSound}
-use Rattle.event_machine.proofs.Basics.{not_false}
 use Rattle.event_machine.proofs.Standings.{is-Live}
 use Rattle.event_machine.proofs.Sound.{sound_moved}
 use Rattle.event_progress.specs.Known.{Known, advanced, known_from}
 use Rattle.event_progress.proofs.Parties.{advanced_ended}
 use Rattle.event_progress.proofs.Telling.{Tells, tells_freed, tells_acted}
+use Rattle.common_lemmas.proofs.Truth.{not_true}
 
 -- what is known after the events, and one more
 pub known_last : (owner : ℕ → ℕ) (k : Known) (events : List Event) (e : Event) → known_from owner k (events ++ e ∷ []) ≡ advanced owner (known_from owner k events) e
@@ -62,7 +62,7 @@ module _ {L : Type 0} (p : Program L) (IsProper : L → Type 0) (lawful : IsLawf
       record { moves = Step t ∷ r.moves; made = (h.0, r.made); before = r.before; runs = r.runs; holds = r.holds }
   last_comes (Happen d ∷ moves) w [] e h q =
       let parts = and_parts (not w.ended) (happens p w.tasks d) h.0 in
-      record { moves = []; made = tt; before = refl; runs = not_false w.ended parts.0; holds = subst (λ f. happens p w.tasks f ≡ true) (head_is q) parts.1 }
+      record { moves = []; made = tt; before = refl; runs = not_true w.ended parts.0; holds = subst (λ f. happens p w.tasks f ≡ true) (head_is q) parts.1 }
     where
       head_is : d ∷ happened moves ≡ e ∷ [] → d ≡ e
       head_is k = cc

@@ -192,7 +192,3 @@ settled_all (suc n) tasks size h = subst (All (IsSettled tasks)) (sym (tasks_to-
 -- one more is settled
 pub settled_more : (tasks : Tasks) (t : ℕ) → All (IsSettled tasks) (tasks_below t) → IsSettled tasks t → All (IsSettled tasks) (tasks_below (t + 1))
 settled_more tasks t h s = subst (λ n. All (IsSettled tasks) (tasks_below n)) (let e : suc t ≡ t + 1 = omega arith in e) (All-push (IsSettled tasks) (tasks_below t) t h s)
-
-pub below_last : (n t : ℕ) → t < n → t ≤ pred n
-below_last zero t l = absurd (omega arith)
-below_last (suc n) t l = omega arith

@@ -10,13 +10,14 @@ use Rattle.event_machine.specs.Offers.{Offer, Nothing, calls_in, is_any_form, is
 use Rattle.event_machine.specs.Seats.{Ops, Seat, live, is_live, is_closed, is_completed}
 use Rattle.event_machine.specs.Programs.{Program}
 use Rattle.event_machine.specs.Worlds.{World, Move, Step, Happen, can_move, moved, happens, happened, is_last, offers, others_end, aborts, AreMoves, world_after}
-use Rattle.event_machine.proofs.Basics.{both, not_false}
+use Rattle.event_machine.proofs.Basics.{both}
 use Rattle.event_machine.proofs.Standings.{is-Live}
 use Rattle.event_machine.proofs.Appends.{moves_append, world_append, happened_append}
 use Rattle.event_machine.proofs.Sound.{sound_moved}
 use Rattle.replay_law.proofs.Facts.{put, put_self, put_other}
 use Rattle.imitation_law.specs.Imitations.{Original, IsComeTo, local_at, ReachesIn, Reaches, Imitates}
 use Rattle.imitation_law.proofs.Alike.{program, IsAlike, AreAlike, LocalsAt, alike_reaches, freed_alike, happens_too, acts_alike}
+use Rattle.common_lemmas.proofs.Truth.{not_true}
 
 module _ (x : Original) where
   -- what the original comes to it comes to from there
@@ -72,7 +73,7 @@ module _ (x : Original) {K : Type 0} (ops : Ops K) (out : K → List ℕ) (Meets
       free = sym (alike t).standing ∙ is-Live (v.tasks t).standing more.0
 
       runs : w.ended ≡ false
-      runs = sym ended ∙ not_false v.ended parts.0
+      runs = sym ended ∙ not_true v.ended parts.0
 
       reach : Reaches x ops out Meets (v.tasks t).local (local_at w t)
       reach = alike_reaches x ops out Meets imitates t (v.tasks t) (w.tasks t) (alike t) free
@@ -102,7 +103,7 @@ module _ (x : Original) {K : Type 0} (ops : Ops K) (out : K → List ℕ) (Meets
       }
   track_move v w come alike ended (Happen e) h =
       let parts = and_parts (not v.ended) (happens Q v.tasks e) h in
-      let runs : w.ended ≡ false = sym ended ∙ not_false v.ended parts.0 in
+      let runs : w.ended ≡ false = sym ended ∙ not_true v.ended parts.0 in
       let can : can_move x.p w (Happen e) ≡ true = both (ap not runs) (happens_too x ops out Meets imitates w come runs v.tasks alike e parts.1) in
       record {
         moves = Happen e ∷ [];
@@ -264,7 +265,7 @@ module _ (x : Original) {K : Type 0} (ops : Ops K) (out : K → List ℕ) (Meets
   follow_move v w come over alike ended (Step t) h =
       let parts = and_parts (not w.ended) (is_live (w.tasks t).standing && x.p.ops.can_step (local_at w t)) h in
       let more = and_parts (is_live (w.tasks t).standing) (x.p.ops.can_step (local_at w t)) parts.1 in
-      let runs : v.ended ≡ false = ended ∙ not_false w.ended parts.0 in
+      let runs : v.ended ≡ false = ended ∙ not_true w.ended parts.0 in
       let free : (w.tasks t).standing ≡ Live = is-Live (w.tasks t).standing more.0 in
       let o : CaughtOne v w t = catch_one v w t runs alike in
       let v1 : World K = world_after Q v o.moves in
@@ -280,7 +281,7 @@ module _ (x : Original) {K : Type 0} (ops : Ops K) (out : K → List ℕ) (Meets
       }
   follow_move v w come over alike ended (Happen e) h =
       let parts = and_parts (not w.ended) (happens x.p w.tasks e) h in
-      let runs : v.ended ≡ false = ended ∙ not_false w.ended parts.0 in
+      let runs : v.ended ≡ false = ended ∙ not_true w.ended parts.0 in
       let c : Caught v w x.p.size = catch_all x.p.size v w runs alike in
       let v1 : World K = world_after Q v c.moves in
       let holds : happens Q v1.tasks e ≡ true = happens_back v1.tasks w come c.alike
@@ -291,6 +292,6 @@ module _ (x : Original) {K : Type 0} (ops : Ops K) (out : K → List ℕ) (Meets
         made = moves_append Q v c.moves (Happen e ∷ []) c.made (both (ap not (c.ended ∙ runs)) holds, tt);
         same = happened_append c.moves (Happen e ∷ []) ∙ ap (λ xs. xs ++ (e ∷ [])) c.silent;
         alike = subst (λ (z : World K). Alike z.tasks (moved x.p w (Happen e)).tasks) (sym is)
-            (acts_alike x ops out Meets imitates v1.tasks w come c.alike (not_false w.ended parts.0) e holds);
+            (acts_alike x ops out Meets imitates v1.tasks w come c.alike (not_true w.ended parts.0) e holds);
         ended = ap (λ (z : World K). z.ended) is ∙ ap (λ b. is_last e || b) (c.ended ∙ ended);
       }

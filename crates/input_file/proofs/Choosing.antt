@@ -8,13 +8,13 @@ use Rattle.std.proofs.lemmas.List.Folds.{concat-append}
 use Rattle.std.proofs.lemmas.List.Sums.{sum_by-append, sum_by-cons, sum_by_push}
 use Rattle.text_lines.specs.Lines.{words_of, all_of}
 use Rattle.text_lines.specs.Numerals.{small_number, is_small_number}
-use Rattle.text_lines.proofs.Capping.{clash}
 use Rattle.text_lines.proofs.Filing.{Laws}
 use Rattle.text_lines.proofs.Joining.{joined-free, joined-words, words-joined, has-words, all-written, AreSpelled, all-spelled}
 use Rattle.text_lines.proofs.Marking.{IsFreeOf, free-prefix, decimal-free}
 use Rattle.text_lines.proofs.Narrowing.{number-small, small_number-of_decimal, word-of_small_number}
 use Rattle.input_file.specs.declared.errors.InputError.TheVariants.{TooMany}
 use Rattle.input_file.specs.ChoiceFiles.{most_choices, choice_text, choices_of_line, IsChoiceLine, choice_count, AreChoices, choice_fault, choice_format}
+use Rattle.common_lemmas.proofs.Truth.{clash}
 
 -- the count is within the limit exactly where the line has no fault
 within-sound : (n : ℕ) → n ≤ most_choices → cond (nat_le n most_choices) None (Some (TooMany most_choices)) ≡ None

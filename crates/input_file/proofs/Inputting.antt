@@ -2,13 +2,12 @@
 use Rattle.std.proofs.Common.{◌≡◌, ℕ, ℤ, ◌+◌, ◌^◌, ◌<◌, ◌≤◌, Bool, true, false, cond, List, [], ◌∷◌, ◌++◌, length, map, All, Option, None, Some, refl, ap, ◌∙◌, sym, subst, arith, decimal}
 use Rattle.std.specs.Fmt.{signed_decimal}
 use Rattle.std.specs.Prelude.{◌==◌, ◌||◌, nat_le, is_some, codes}
-use Rattle.std.proofs.lemmas.Bool.{le-leb, leb-true, ltb-true, ne_eqb, eqb-false}
+use Rattle.std.proofs.lemmas.Bool.{le-leb, leb-true, ltb-true}
 use Rattle.std.proofs.lemmas.List.Elements.{All-nil, All-cons, All-head, All-tail, All-push}
 use Rattle.std.proofs.lemmas.List.Sums.{sum_by-append, sum_by-cons, sum_by_push}
 use Rattle.syn_event.specs.Numbering.{Numbering}
 use Rattle.text_lines.specs.Lines.{words_of, with_two, all_of}
 use Rattle.text_lines.specs.Numerals.{count, small_integer, is_small_integer}
-use Rattle.text_lines.proofs.Capping.{clash}
 use Rattle.text_lines.proofs.Filing.{Laws}
 use Rattle.text_lines.proofs.Joining.{joined-free, joined-words, words-joined, all-written, AreSpelled, all-spelled, two-case}
 use Rattle.text_lines.proofs.Marking.{IsFreeOf, free-prefix, decimal-free, signed-free}
@@ -17,30 +16,21 @@ use Rattle.text_lines.proofs.Spelling.{count-of_decimal, word-of_count}
 use Rattle.input_file.specs.declared.errors.InputError.{InputError}
 use Rattle.input_file.specs.declared.errors.InputError.TheVariants.{BadLine, UnknownTask, TooMany}
 use Rattle.input_file.specs.InputFiles.{most_inputs, InputLine, input_with, input_text, input_of_words, input_of_line, has_line, input_count, has_task, AreApart, IsInputLine, AreInputs, input_fault, input_format}
-
-or-left : (a b : Bool) → (a || b) ≡ false → a ≡ false
-or-left true b h = clash (sym h)
-or-left false b h = refl
-
-or-right : (a b : Bool) → (a || b) ≡ false → b ≡ false
-or-right true b h = clash (sym h)
-or-right false b h = h
+use Rattle.common_lemmas.proofs.Numbers.{unequal_turned}
+use Rattle.common_lemmas.proofs.Truth.{clash, or_left, or_right}
 
 or-none : (a b : Bool) → a ≡ false → b ≡ false → (a || b) ≡ false
 or-none a b h k = ap (λ t. t || b) h ∙ k
 
-eq-turned : (m n : ℕ) → (m == n) ≡ false → (n == m) ≡ false
-eq-turned m n h = ne_eqb n m (λ e. eqb-false m n h (sym e))
-
 -- no two of the lines are those of one task: the lines before the next, and the next
 middle-other : (t : ℕ) (xs : List InputLine) (y : InputLine) (ys : List InputLine) → has_line t (xs ++ (y ∷ ys)) ≡ false → (y.task == t) ≡ false
-middle-other t [] y ys h = or-left (y.task == t) (has_line t ys) h
-middle-other t (x ∷ xs) y ys h = middle-other t xs y ys (or-right (x.task == t) (has_line t (xs ++ (y ∷ ys))) h)
+middle-other t [] y ys h = or_left (y.task == t) (has_line t ys) h
+middle-other t (x ∷ xs) y ys h = middle-other t xs y ys (or_right (x.task == t) (has_line t (xs ++ (y ∷ ys))) h)
 
 apart-there : (xs : List InputLine) (y : InputLine) (ys : List InputLine) → AreApart (xs ++ (y ∷ ys)) → has_line y.task xs ≡ false
 apart-there [] y ys h = refl
 apart-there (x ∷ xs) y ys h =
-    or-none (x.task == y.task) (has_line y.task xs) (eq-turned y.task x.task (middle-other x.task xs y ys h.0)) (apart-there xs y ys h.1)
+    or-none (x.task == y.task) (has_line y.task xs) (unequal_turned y.task x.task (middle-other x.task xs y ys h.0)) (apart-there xs y ys h.1)
 
 pub has-push_other : (t : ℕ) (xs : List InputLine) (y : InputLine) → (y.task == t) ≡ false → has_line t (xs ++ (y ∷ [])) ≡ has_line t xs
 has-push_other t [] y h = ap (λ b. b || false) h
@@ -49,7 +39,7 @@ has-push_other t (x ∷ xs) y h = ap (λ b. (x.task == t) || b) (has-push_other 
 apart-push : (xs : List InputLine) (y : InputLine) → AreApart xs → has_line y.task xs ≡ false → AreApart (xs ++ (y ∷ []))
 apart-push [] y h k = (refl, tt)
 apart-push (x ∷ xs) y h k =
-    (has-push_other x.task xs y (eq-turned x.task y.task (or-left (x.task == y.task) (has_line y.task xs) k)) ∙ h.0, apart-push xs y h.1 (or-right (x.task == y.task) (has_line y.task xs) k))
+    (has-push_other x.task xs y (unequal_turned x.task y.task (or_left (x.task == y.task) (has_line y.task xs) k)) ∙ h.0, apart-push xs y h.1 (or_right (x.task == y.task) (has_line y.task xs) k))
 
 -- what it means that a line has no fault
 pub record IsSoundBehind (numbers : Numbering) (before : List InputLine) (line : InputLine) : Type 0 where

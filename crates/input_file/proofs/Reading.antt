@@ -5,7 +5,6 @@ use Rattle.std.specs.Prelude.{◌==◌, codes, is_some, unwrap_or, option_and_th
 use Rattle.syn_event.specs.Numbering.{Numbering}
 use Rattle.std.proofs.lemmas.List.{length-map}
 use Rattle.std.proofs.lemmas.Bool.{le-leb, lt-leb}
-use Rattle.text_lines.proofs.Capping.{clash}
 use Rattle.text_lines.specs.Lines.{is_line_end, first_line, cut}
 use Rattle.text_lines.specs.LineFiles.{Format, begins_with_line, HasFirstFault}
 use Rattle.text_lines.proofs.Filing.{IsReadTo, lines-unique, no-fault, fault-unique, read-start, read-more, read-end, read-fault}
@@ -20,6 +19,7 @@ use Rattle.input_file.specs.inner.Tables.{IsTableOf, capped_line}
 use Rattle.input_file.proofs.Choosing.{choice-laws, concat-push, concat-length}
 use Rattle.input_file.proofs.Inputting.{input-laws}
 use Rattle.input_file.proofs.Tabling.{lists-ext}
+use Rattle.common_lemmas.proofs.Truth.{clash}
 
 -- what stands behind a line is shorter
 pub cut-shorter : (m : ℕ) (text a b : List ℕ) → cut (λ x. x == m) text ≡ Some (a, b) → length b < length text

@@ -1,6 +1,6 @@
 -- The table of inputs, behind each line.
 use Rattle.std.proofs.Common.{◌≡◌, ℕ, ℤ, zero, suc, ◌+◌, ◌^◌, ◌<◌, ◌≤◌, Bool, true, false, cond, List, [], ◌∷◌, ◌++◌, length, map, get_or, Option, None, Some, refl, ap, ◌∙◌, sym, subst, arith, inl, inr}
-use Rattle.std.specs.Prelude.{◌==◌, ◌||◌, nat_lt, nat_le}
+use Rattle.std.specs.Prelude.{◌==◌, ◌||◌, nat_le}
 use Rattle.std.proofs.Math.ListN.{set}
 use Rattle.std.proofs.lemmas.Bool.{cases_Bool, ltb-true, lt-ltb, cases_lt, eqb-true, eqb-false}
 use Rattle.std.proofs.lemmas.List.{get_or-set_same, get_or-set_other, length-set, ext_get_or}
@@ -8,13 +8,15 @@ use Rattle.std.proofs.lemmas.List.{get_or_past}
 use Rattle.std.proofs.lemmas.List.Sums.{sum_by_push}
 use Rattle.syn_event.specs.Numbering.{Numbering}
 use Rattle.text_lines.specs.Capped.{capped}
-use Rattle.text_lines.proofs.Capping.{clash, capped-small, capped-large}
+use Rattle.text_lines.proofs.Capping.{capped-small, capped-large}
 use Rattle.input_file.specs.declared.errors.InputError.{InputError}
 use Rattle.input_file.specs.declared.errors.InputError.TheVariants.{BadLine, UnknownTask, TooMany}
 use Rattle.input_file.specs.declared.table.Table.{Table}
 use Rattle.input_file.specs.inner.Tables.{IsTableOf, capped_line}
 use Rattle.input_file.specs.InputFiles.{most_inputs, InputLine, has_line, values_of, input_count, has_task, input_fault, AreListsOf}
 use Rattle.input_file.proofs.Inputting.{IsSoundBehind, sound-to, has-push_other}
+use Rattle.common_lemmas.proofs.Numbers.{lt_false}
+use Rattle.common_lemmas.proofs.Truth.{or_left, or_right}
 
 -- so many empty lists
 pub lists-none : AreListsOf 0 [] []
@@ -48,19 +50,11 @@ has-push_same t (x ∷ xs) y h = ap (λ b. (x.task == t) || b) (has-push_same t 
     or-true true = refl
     or-true false = refl
 
-or-left : (a b : Bool) → (a || b) ≡ false → a ≡ false
-or-left true b h = clash (sym h)
-or-left false b h = refl
-
-or-right : (a b : Bool) → (a || b) ≡ false → b ≡ false
-or-right true b h = clash (sym h)
-or-right false b h = h
-
 values-push_same : (t : ℕ) (xs : List InputLine) (y : InputLine) → (y.task == t) ≡ true → has_line t xs ≡ false → values_of t (xs ++ (y ∷ [])) ≡ y.values
 values-push_same t [] y h first = ap (λ b. cond b y.values []) h
 values-push_same t (x ∷ xs) y h first =
-    ap (λ b. cond b x.values (values_of t (xs ++ (y ∷ [])))) (or-left (x.task == t) (has_line t xs) first)
-    ∙ values-push_same t xs y h (or-right (x.task == t) (has_line t xs) first)
+    ap (λ b. cond b x.values (values_of t (xs ++ (y ∷ [])))) (or_left (x.task == t) (has_line t xs) first)
+    ∙ values-push_same t xs y h (or_right (x.task == t) (has_line t xs) first)
 
 values-push_other : (t : ℕ) (xs : List InputLine) (y : InputLine) → (y.task == t) ≡ false → values_of t (xs ++ (y ∷ [])) ≡ values_of t xs
 values-push_other t [] y h = ap (λ b. cond b y.values []) h
@@ -105,13 +99,6 @@ seen-capped seen task short = elim (cases_lt task (2 ^ 32)) [
       ∙ get_or_past seen (2 ^ 32) false (omega (arith, short)) ∙ sym (get_or_past seen task false (omega (arith, short, ge)))
 ]
 
--- the number of a task of the program does not see the cap either
-no-lt : (m n : ℕ) → n ≤ m → nat_lt m n ≡ false
-no-lt m n h = elim (cases_Bool (nat_lt m n)) [
-  | inl e ↦ absurd (omega (arith, h, ltb-true m n e))
-  | inr e ↦ e
-]
-
 capped-past : (n task : ℕ) → n < 2 ^ 32 → n ≤ capped task → n ≤ task
 capped-past n task short h = elim (cases_lt task (2 ^ 32)) [
   | inl lt ↦ omega (arith, h, capped-small task (omega (arith, lt)))
@@ -153,7 +140,7 @@ fault-unknown numbers lines table line added number is at same marked past =
     let beyond : length numbers.tasks ≤ added.task = capped-past (length numbers.tasks) added.task is.small (omega (arith, past, is.seen_count, ap (λ l. l.task) same)) in
     ap (λ n. Some (UnknownTask n)) at
     ∙ sym (ap (λ b. cond b (Some (BadLine (length lines + 2))) (rest-of numbers lines added)) (sym (says numbers lines table line added is same).marked ∙ marked)
-    ∙ ap (λ b. cond b (cond (nat_le (input_count lines + length added.values) most_inputs) None (Some (TooMany most_inputs))) (Some (UnknownTask (length lines + 2)))) (no-lt added.task (length numbers.tasks) beyond))
+    ∙ ap (λ b. cond b (cond (nat_le (input_count lines + length added.values) most_inputs) None (Some (TooMany most_inputs))) (Some (UnknownTask (length lines + 2)))) (lt_false added.task (length numbers.tasks) beyond))
 
 pub fault-count : (numbers : Numbering) (lines : List InputLine) (table : Table) (line added : InputLine) (number : ℕ) (fits : Bool) → IsTableOf (length numbers.tasks) lines table → number ≡ length lines + 2 → line ≡ capped_line added →
     get_or table.seen.items line.task false ≡ false → line.task < length table.seen.items → fits ≡ nat_le (table.count + length line.values) most_inputs →

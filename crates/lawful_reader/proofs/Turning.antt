@@ -3,15 +3,7 @@ use Rattle.std.proofs.Common.{◌≡◌, ℕ, zero, suc, ◌+◌, ◌≤◌, ◌
 use Rattle.std.specs.Prelude.{if◌then◌else◌, nat_le}
 use Rattle.lawful_reader.specs.Readers.{Answer, Found, Fault, Reader, Operators, go_on, bind, too_deep, chain_in, chain_more}
 use Rattle.lawful_reader.proofs.Looking.{decided}
-
-le_is : (a b : ℕ) → a ≤ b → nat_le a b ≡ true
-le_is a b low = grind (arith, low)
-
-not_le : (a b : ℕ) → b < a → nat_le a b ≡ false
-not_le a b low = grind (arith, low)
-
-lt_says : (a b : ℕ) → nat_le a b ≡ false → b < a
-lt_says a b e = grind (arith, e)
+use Rattle.common_lemmas.proofs.Numbers.{le_false, le_true}
 
 module _ {K A O : Type 0} (ops : Operators K A O) (higher : (left : A) (o : O) (right : A) → ops.height left < ops.height (ops.join left o right)) (d : ℕ) (operand : Reader K A) where
   abbrev behind : (turns : ℕ) (left : A) → Reader K A
@@ -42,10 +34,10 @@ module _ {K A O : Type 0} (ops : Operators K A O) (higher : (left : A) (o : O) (
   chain_turns zero zero left ts few enough = refl
   chain_turns zero (suc m) left [] few enough = refl
   chain_turns zero (suc m) left (k ∷ ts) few enough = ap (λ t. if ops.goes_on left k then t else Found left (k ∷ ts))
-      (rw (le_is d (ops.height left) (omega (arith, few))) refl)
+      (rw (le_true d (ops.height left) (omega (arith, few))) refl)
   chain_turns (suc n) zero left [] few enough = refl
   chain_turns (suc n) zero left (k ∷ ts) few enough = ap (λ t. if ops.goes_on left k then t else Found left (k ∷ ts))
-      (rw (le_is d (ops.height left) (omega (arith, enough))) refl)
+      (rw (le_true d (ops.height left) (omega (arith, enough))) refl)
   chain_turns (suc n) (suc m) left [] few enough = refl
   chain_turns (suc n) (suc m) left (k ∷ ts) few enough = ap (λ t. if ops.goes_on left k then t else Found left (k ∷ ts))
       (turn_alike n m left (k ∷ ts) few enough (λ o right rest one other. chain_turns n m (ops.join left o right) rest one other))
@@ -55,7 +47,7 @@ module _ {K A O : Type 0} (ops : Operators K A O) (higher : (left : A) (o : O) (
       chain_more ops d operand left (k ∷ ts) ≡ go_on (ops.operator left (k ∷ ts)) (λ o. bind operand (λ right. chain_more ops d operand (ops.join left o right)))
   chain_step left k ts goes low = chain_turns d (suc d) left (k ∷ ts) (omega arith) (omega arith) ∙
       ap (λ b. if b then (if nat_le d (ops.height left) then too_deep else behind d left) (k ∷ ts) else Found left (k ∷ ts)) goes ∙
-      ap (λ b. (if b then too_deep else behind d left) (k ∷ ts)) (not_le d (ops.height left) low)
+      ap (λ b. (if b then too_deep else behind d left) (k ∷ ts)) (le_false d (ops.height left) low)
 
   -- no level is left for the operand
   pub chain_deep : (left : A) (k : K) (ts : List K) → ops.goes_on left k ≡ true → d ≤ ops.height left → chain_more ops d operand left (k ∷ ts) ≡ Fault true (k ∷ ts)

@@ -13,7 +13,9 @@ use Rattle.syn_event.specs.NamedTasks.{NumberedTask, numbered_tasks}
 use Rattle.syn_event.specs.AllNumbers.{info_of_task, entry_of_task, entries_of_tasks, all_numbers, family_extent, first_of, last_of}
 use Rattle.task_model.specs.Setting.{Setting, entry_of, is_family, is_family_in, unit_named, formals_of_entry, formals_in, formals_of_unit, formals_of_info}
 use Rattle.normal_model.specs.Ranges.{range_of_entry, range_in, range_of_unit, range_of_info, family_range}
-use Rattle.legal_entries.proofs.Lists.{some-same, find-front, find-behind, find-mapped, found-passes, found-place}
+use Rattle.legal_entries.proofs.Lists.{find-behind, find-mapped, found-place}
+use Rattle.common_lemmas.proofs.Lists.{find_front, found_passes}
+use Rattle.common_lemmas.proofs.Options.{some_same}
 
 -- the entry of a name among those that a task declares
 abbrev pub entry_in : PTask → NameId → Option PEntry
@@ -43,8 +45,8 @@ module _ (names : List (List ℕ)) (T : TypeTable) where
   numbered-tasks-found [] n k t x id e q at f = absurd (none-some x at)
   numbered-tasks-found (y ∷ xs) n zero t x id e q at f =
       let same : t ≡ n = omega arith in
-      let here : y ≡ x = some-same at in
-      find-front (is_of t id) (map (entry_of_task names T n y) y.unit.entries) (entries_of_tasks names T (n + 1) xs) (entry_of_task names T t x e)
+      let here : y ≡ x = some_same at in
+      find_front (is_of t id) (map (entry_of_task names T n y) y.unit.entries) (entries_of_tasks names T (n + 1) xs) (entry_of_task names T t x e)
       (subst (λ m. find (is_of t id) (map (entry_of_task names T m y) y.unit.entries) ≡ Some (entry_of_task names T t x e)) same
       (subst (λ z. find (is_of t id) (map (entry_of_task names T t z) z.unit.entries) ≡ Some (entry_of_task names T t x e)) (sym here) (owned-found t x id x.unit.entries e f)))
   numbered-tasks-found (y ∷ xs) n (suc k) t x id e q at f =
@@ -82,7 +84,7 @@ module _ (p : PProgram) (T : TypeTable) where
 
   pub mapped-at : (xs : List NumberedTask) (k : ℕ) (x : NumberedTask) → slice_get xs k ≡ Some x → slice_get (map (info_of_task p.names) xs) k ≡ Some (info_of_task p.names x)
   mapped-at [] k x e = absurd (none-some x e)
-  mapped-at (y ∷ xs) zero x e = ap (λ z. Some (info_of_task p.names z)) (some-same e)
+  mapped-at (y ∷ xs) zero x e = ap (λ z. Some (info_of_task p.names z)) (some_same e)
   mapped-at (y ∷ xs) (suc k) x e = mapped-at xs k x e
 
   pub task-there : (t : ℕ) (x : NumberedTask) → IsTaskOf t x → task_at numbers t ≡ Some (info_of_task p.names x)
@@ -103,7 +105,7 @@ module _ (p : PProgram) (T : TypeTable) where
       let number : entry_of numbers t id ≡ place.0 + 1 = ap (λ o. unwrap_or (option_map (λ k. k + 1) o) 0) place.2 in
       let there : entry_at numbers (entry_of numbers t id) ≡ Some (with_origin p.names plain_entries numbered-task-entry) = (ap (entry_at numbers) number ∙ at-number place.0 ∙ place.1) in
       let named : entry_in x.unit e.name.name ≡ Some e =
-      subst (λ n. find (λ (y : PEntry). y.name.name.0 == n) x.unit.entries ≡ Some e) (sym (eqb-true e.name.name.0 id.0 (found-passes (λ (y : PEntry). y.name.name.0 == id.0) x.unit.entries e f))) f in
+      subst (λ n. find (λ (y : PEntry). y.name.name.0 == n) x.unit.entries ≡ Some e) (sym (eqb-true e.name.name.0 id.0 (found_passes (λ (y : PEntry). y.name.name.0 == id.0) x.unit.entries e f))) f in
       record {
         info = with_origin p.names plain_entries numbered-task-entry;
         at = there;

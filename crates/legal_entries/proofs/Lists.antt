@@ -1,19 +1,9 @@
 -- What is found in lists, and where.
-use Rattle.std.proofs.Common.{◌≡◌, ℕ, suc, ◌+◌, ◌<◌, Bool, true, false, cond, if◌then◌else◌, List, [], ◌∷◌, ◌++◌, length, map, find, slice_get, option_map, Option, Some, None, refl, sym, ap, ◌∙◌, subst, true≢false, arith, not, nat_lt}
-use Rattle.std.specs.List.{AllByRecursion, position, position_or_len}
+use Rattle.std.proofs.Common.{◌≡◌, ℕ, suc, ◌+◌, ◌<◌, Bool, true, false, cond, if◌then◌else◌, List, [], ◌∷◌, ◌++◌, length, map, find, slice_get, option_map, Option, Some, None, refl, sym, ap, ◌∙◌, true≢false, arith, not, nat_lt}
+use Rattle.std.specs.List.{position, position_or_len}
 use Rattle.std.proofs.lemmas.Option.{none-some}
 use Rattle.std.proofs.lemmas.Bool.{lt-ltb, ltb-true}
-
-pub some-same : {A : Type 0} {x y : A} → Some x ≡ Some y → x ≡ y
-some-same e = cc
-
-pub find-front : {A : Type 0} (p : A → Bool) (xs ys : List A) (x : A) → find p xs ≡ Some x → find p (xs ++ ys) ≡ Some x
-find-front p [] ys x e = absurd (none-some x e)
-find-front p (y ∷ xs) ys x e = by_test (p y) e (find-front p xs ys x)
-  where
-    by_test : (b : Bool) → (if b then Some y else find p xs) ≡ Some x → (find p xs ≡ Some x → find p (xs ++ ys) ≡ Some x) → (if b then Some y else find p (xs ++ ys)) ≡ Some x
-    by_test true f rest = f
-    by_test false f rest = rest f
+use Rattle.common_lemmas.proofs.Options.{some_same}
 
 pub find-behind : {A : Type 0} (p : A → Bool) (xs ys : List A) → find p xs ≡ None → find p (xs ++ ys) ≡ find p ys
 find-behind p [] ys e = refl
@@ -34,19 +24,6 @@ find-mapped p q f same (x ∷ xs) = by_test (p (f x)) (q x) (same x) (find-mappe
     by_test false true e rest = absurd (true≢false (sym e))
     by_test false false e rest = rest
 
-pub find-nothing : {A : Type 0} (p : A → Bool) (xs : List A) → AllByRecursion (λ x. p x ≡ false) xs → find p xs ≡ None
-find-nothing p [] h = refl
-find-nothing p (x ∷ xs) h = ap (λ b. if b then Some x else find p xs) h.0 ∙ find-nothing p xs h.1
-
--- what is found passes
-pub found-passes : {A : Type 0} (p : A → Bool) (xs : List A) (x : A) → find p xs ≡ Some x → p x ≡ true
-found-passes p [] x e = absurd (none-some x e)
-found-passes p (y ∷ xs) x e = by_test (p y) refl e (found-passes p xs x)
-  where
-    by_test : (b : Bool) → p y ≡ b → (if b then Some y else find p xs) ≡ Some x → (find p xs ≡ Some x → p x ≡ true) → p x ≡ true
-    by_test true f g rest = subst (λ z. p z ≡ true) (some-same g) f
-    by_test false f g rest = rest g
-
 -- ---- places
 
 -- where the first that passes stands, told whether the first of all does
@@ -64,7 +41,7 @@ one-more n m k e = by_test (nat_lt n m) refl e
     by_test : (b : Bool) → nat_lt n m ≡ b → cond b (Some n) None ≡ Some k → place-behind false n m ≡ Some (suc k)
     by_test true f g =
         let l : n < m = ltb-true n m f in
-        let same : n ≡ k = some-same g in
+        let same : n ≡ k = some_same g in
         let h : 1 + n ≡ suc k = omega arith in
         ap (λ b. cond b (Some (1 + n)) None) (lt-ltb (1 + n) (suc m) (omega arith)) ∙ ap (λ i. Some i) h
     by_test false f g = absurd (none-some k g)

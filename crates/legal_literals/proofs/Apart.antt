@@ -1,9 +1,8 @@
 -- Names that one declaration declares differ, and each of names that differ is found at its own place.
-use Rattle.std.proofs.Common.{◌≡◌, ◌<◌, ◌+◌, ℕ, zero, suc, Bool, true, false, not, ◌||◌, ◌&&◌, ◌==◌, cond, nat_lt, List, [], ◌∷◌, length, map, slice_get, Some, None, ap, ◌∙◌, arith}
+use Rattle.std.proofs.Common.{◌≡◌, ◌+◌, ℕ, zero, suc, Bool, true, false, not, ◌||◌, ◌&&◌, ◌==◌, cond, nat_lt, List, [], ◌∷◌, length, map, slice_get, Some, None, ap, ◌∙◌, arith}
 use Rattle.std.specs.Prelude.{position}
 use Rattle.std.specs.List.{AllByRecursion, list_any, position_or_len}
 use Rattle.std.proofs.lemmas.Bool.{or_parts, eq-eqb}
-use Rattle.std.proofs.lemmas.Bool.Decides.{nat_tests}
 use Rattle.std.proofs.lemmas.Option.{none-some, slice_get_within}
 use Rattle.ada_tree.specs.declared.naming.NameId.{NameId}
 use Rattle.ada_tree.specs.declared.naming.Word.{Word}
@@ -11,9 +10,11 @@ use Rattle.ada_tree.specs.Scope.{Scope}
 use Rattle.ada_tree.specs.Demand.{declares, Site}
 use Rattle.ada_tree.specs.Sites.{names_sites}
 use Rattle.ada_tree.specs.RuleDuplicate.{is_predefined, is_among, fixes, introduces, duplicate}
-use Rattle.rewritten_types.proofs.Lookups.{some-same, place-all}
+use Rattle.rewritten_types.proofs.Lookups.{place-all}
 use Rattle.legal_sites.specs.Met.{IsMet}
 use Rattle.legal_types.proofs.TaskTypes.{no-word, among-apart, among-first, among-more}
+use Rattle.common_lemmas.proofs.Numbers.{lt_true}
+use Rattle.common_lemmas.proofs.Options.{some_same}
 
 -- the name is none of these
 abbrev pub IsNoneOf : ℕ → List NameId → Type 0
@@ -55,18 +56,15 @@ names-apart fixed (w ∷ ws) s h =
 place-found : (ids : List NameId) → AreApart ids → (i : ℕ) (id : NameId) → slice_get ids i ≡ Some id → position_or_len (λ (y : NameId). y.0 == id.0) ids ≡ i
 place-found [] h i id e = absurd (none-some id e)
 place-found (x ∷ xs) h zero id e =
-    ap (λ b. cond (not b) (1 + position_or_len (λ (y : NameId). y.0 == id.0) xs) 0) (eq-eqb x.0 id.0 (ap (λ (y : NameId). y.0) (some-same e)))
+    ap (λ b. cond (not b) (1 + position_or_len (λ (y : NameId). y.0 == id.0) xs) 0) (eq-eqb x.0 id.0 (ap (λ (y : NameId). y.0) (some_same e)))
 place-found (x ∷ xs) h (suc i) id e =
     let other : (x.0 == id.0) ≡ false = place-all (λ (y : NameId). (x.0 == y.0) ≡ false) xs i id h.0 e in
     let rest = place-found xs h.1 i id e in
     let more : 1 + i ≡ suc i = omega arith in
     ap (λ b. cond (not b) (1 + position_or_len (λ (y : NameId). y.0 == id.0) xs) 0) other ∙ ap (λ n. 1 + n) rest ∙ more
 
-less-true : (a b : ℕ) → a < b → nat_lt a b ≡ true
-less-true a b h = grind (arith, nat_tests)
-
 -- Each of names that differ is found at its own place.
 pub found-first : (ids : List NameId) → AreApart ids → (i : ℕ) (id : NameId) → slice_get ids i ≡ Some id → position (λ (y : NameId). y.0 == id.0) ids ≡ Some i
 found-first ids h i id e =
     ap (λ n. cond (nat_lt n (length ids)) (Some n) None) (place-found ids h i id e)
-    ∙ ap (λ b. cond b (Some i) None) (less-true i (length ids) (slice_get_within ids i id e))
+    ∙ ap (λ b. cond b (Some i) None) (lt_true i (length ids) (slice_get_within ids i id e))

@@ -9,17 +9,17 @@ use Rattle.ada_tree.specs.Lexical.{IsIdentifier}
 use Rattle.ada_tree.specs.Refusals.{types_in}
 use Rattle.ada_tree.specs.WellPlaced.{well_placed}
 use Rattle.ada_tree.specs.Scope.{kind_at}
-use Rattle.rewritten_types.proofs.Lookups.{some-same}
 use Rattle.legal_types.specs.Typed.{IsSmallKind}
 use Rattle.legal_literals.specs.Laws.{HasRules}
 use Rattle.legal_literals.specs.Colours.{word, green_member, colour_body, coloured}
+use Rattle.common_lemmas.proofs.Options.{some_same}
 
 -- ---- sizes
 
 small-at : (k : ℕ) (x : Kind) → kind_at (types_in coloured) k ≡ Some x → IsSmallKind k x
-small-at zero x e = subst (IsSmallKind 0) (some-same e) tt
-small-at (suc zero) x e = subst (IsSmallKind 1) (some-same e) tt
-small-at (suc (suc zero)) x e = subst (IsSmallKind 2) (some-same e) (lit≤ tt, refl)
+small-at zero x e = subst (IsSmallKind 0) (some_same e) tt
+small-at (suc zero) x e = subst (IsSmallKind 1) (some_same e) tt
+small-at (suc (suc zero)) x e = subst (IsSmallKind 2) (some_same e) (lit≤ tt, refl)
 small-at (suc (suc (suc k))) x e = absurd (none-some x e)
 
 -- ---- places

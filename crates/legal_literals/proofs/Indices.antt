@@ -1,5 +1,5 @@
 -- Each literal of a legal program stands for itself, and each index of an array of tasks over an enumeration has one.
-use Rattle.std.proofs.Common.{◌≡◌, ◌<◌, ℕ, ℤ, pos, negsuc, Bool, true, false, ◌&&◌, List, [], length, get_or, IfSome, Option, Some, None, Result, Ok, int_le, int_lt, refl, sym, ap, ◌∙◌, subst, true≢false, arith}
+use Rattle.std.proofs.Common.{◌≡◌, ◌<◌, ℕ, ℤ, pos, negsuc, true, List, [], length, get_or, IfSome, Option, Some, None, Result, Ok, int_le, int_lt, refl, sym, ap, ◌∙◌, subst, arith}
 use Rattle.std.proofs.lemmas.Int.{ints}
 use Rattle.std.proofs.lemmas.Option.{slice_get-get_or}
 use Rattle.ada_tree.specs.declared.naming.NameId.{NameId}
@@ -14,7 +14,6 @@ use Rattle.ada_value.specs.declared.values.Limits.{Limits}
 use Rattle.ada_value.specs.declared.values.Raised.{Raised}
 use Rattle.ada_value.specs.Values.{position_of, placed, value_in, lies_in}
 use Rattle.ada_value.specs.Evaluating.{range_of}
-use Rattle.rewritten_types.proofs.Lookups.{all-weaker}
 use Rattle.rewritten_types.proofs.Refused.{declared_once}
 use Rattle.rewritten_types.proofs.Fresh.{first-here}
 use Rattle.legal_types.specs.Typed.{HasLiteral, HasLimits, IsTypedPart}
@@ -24,6 +23,8 @@ use Rattle.legal_literals.specs.Literals.{LiteralsStand, HasLiteralAt, HasIndexL
 use Rattle.legal_literals.specs.Laws.{LiteralsHaveValues, IndicesAreLiterals}
 use Rattle.legal_literals.proofs.Named.{AreFirst, first-decls, first-predefined}
 use Rattle.legal_literals.proofs.Values.{first-stands}
+use Rattle.common_lemmas.proofs.Lists.{all_weaker}
+use Rattle.common_lemmas.proofs.Truth.{and_both}
 
 pub literals-have-values : LiteralsHaveValues
 literals-have-values p h k ids e i id at = first-stands T (after_decls first p.decls) (last-stands p h.rules h.placed h.small) id k i (all-first k ids e i id at) h.small ids e at
@@ -53,10 +54,6 @@ less-of n m l a b = grind (arith, ints)
 below-clash : (f : ℤ) (n : ℕ) → int_le (pos 0) f ≡ true → int_le f (negsuc n) ≡ true → ⊥
 below-clash f n a b = grind (arith, ints)
 
-both-true : (x y : Bool) → (x && y) ≡ true → (x ≡ true) × (y ≡ true)
-both-true true y e = (refl, e)
-both-true false y e = absurd (true≢false (sym e))
-
 same-limits : (x : Result Limits Raised) (a b : Limits) → x ≡ Ok a → x ≡ Ok b → a ≡ b
 same-limits x a b e f = cc
 
@@ -72,10 +69,10 @@ index-literals T r stand h limits e =
     at-limits : (ids : List NameId) → kind_at T k ≡ Some (Enumeration ids) → (z : ℤ) → lies_in h.limits z ≡ true → HasLiteralAt T k ids z
     at-limits ids f (negsuc n) lies =
         let low = not-negative k h.limits.first (ap (λ o. position_of (value_in k o h.limits.first)) (sym f) ∙ h.first.same) in
-        absurd (below-clash h.limits.first n low (both-true (int_le h.limits.first (negsuc n)) _ lies).0)
+        absurd (below-clash h.limits.first n low (and_both (int_le h.limits.first (negsuc n)) _ lies).0)
     at-limits ids f (pos n) lies =
         let high : int_lt h.limits.last (pos (length ids)) ≡ true = subst (λ o. HasLiteral o h.limits.last) f h.last.literal in
-        let within = less-of n (length ids) h.limits.last (both-true (int_le h.limits.first (pos n)) _ lies).1 high in
+        let within = less-of n (length ids) h.limits.last (and_both (int_le h.limits.first (pos n)) _ lies).1 high in
         let there = slice_get-get_or ids n (record { 0 = 0 }) within in
         record { place = n; position = refl; id = get_or ids n (record { 0 = 0 }); there = there; stands = stand k ids f n _ there }
 
@@ -87,4 +84,4 @@ pub indices-are-literals : IndicesAreLiterals
 indices-are-literals p h =
     let T = types_in p in
     let stand = literals-have-values p h in
-    all-weaker (IsTypedPart T) (λ (x : NamedTasks). IfSome x.index_range (HasIndexLiterals T)) (task_names_of p) (λ x q. row-literals T stand x.index_range q) (tasks-have-types p h.rules h.placed h.small).parts
+    all_weaker (IsTypedPart T) (λ (x : NamedTasks). IfSome x.index_range (HasIndexLiterals T)) (task_names_of p) (λ x q. row-literals T stand x.index_range q) (tasks-have-types p h.rules h.placed h.small).parts

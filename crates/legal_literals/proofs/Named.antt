@@ -16,7 +16,7 @@ use Rattle.ada_tree.specs.Declaring.{predefined_types, with_name, with_types, ad
 use Rattle.ada_value.specs.Values.{word, placed}
 use Rattle.rewritten_types.specs.Agreement.{scalar_only, Literal, literal_among, literal_named, Keeps}
 use Rattle.rewritten_types.specs.Rewriting.{IsUnused, DeclareOnce, names_declared}
-use Rattle.rewritten_types.proofs.Lookups.{some-same, place-last, place-all, earlier-or-last}
+use Rattle.rewritten_types.proofs.Lookups.{place-all, earlier-or-last}
 use Rattle.rewritten_types.proofs.Adding.{names-types, keeps-decl}
 use Rattle.rewritten_types.proofs.Owning.{nobody, all-new}
 use Rattle.rewritten_types.proofs.Fresh.{InHere, here-decl}
@@ -26,6 +26,8 @@ use Rattle.legal_types.proofs.GoodDeclarations.{literal-read}
 use Rattle.legal_types.proofs.MainScopes.{Stands, AllStand}
 use Rattle.legal_literals.proofs.Apart.{AreApart, names-apart, found-first}
 use Rattle.legal_literals.proofs.Among.{at_kind, among-last}
+use Rattle.common_lemmas.proofs.Lists.{last_at}
+use Rattle.common_lemmas.proofs.Options.{some_same}
 
 -- each literal is the first of its name
 abbrev pub AreFirst : TypeTable → Type 0
@@ -57,7 +59,7 @@ first-more T m new apart fresh h k ids e i id at = among-last T.kinds 0 x id ∙
 
     by_last : k ≡ length T.kinds → first_of_two (literal_among T.kinds 0 id) last ≡ Some record { kind = k; position = i }
     by_last here =
-        let is : new ≡ ids = same-ids new ids (some-same (sym (place-last T.kinds x) ∙ ap (slice_get (T.kinds ++ x ∷ [])) (sym here) ∙ e)) in
+        let is : new ≡ ids = same-ids new ids (some_same (sym (last_at T.kinds x) ∙ ap (slice_get (T.kinds ++ x ∷ [])) (sym here) ∙ e)) in
         let there : slice_get new i ≡ Some id = ap (λ l. slice_get l i) is ∙ at in
         let place : length T.kinds + 0 ≡ k = omega arith in
         ap₂ (λ a b. first_of_two a (at_kind (length T.kinds + 0) b)) (place-all (IsFresh T) new i id fresh there) (found-first new apart i id there)

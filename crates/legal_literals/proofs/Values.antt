@@ -14,11 +14,12 @@ use Rattle.ada_value.specs.Values.{word, placed, value_in}
 use Rattle.ada_value.specs.Evaluating.{literal_value, constant_value, fixed_value}
 use Rattle.rewritten_types.specs.Agreement.{Literal as LiteralAt, literal_named}
 use Rattle.legal_types.specs.Typed.{IsSmall}
-use Rattle.legal_types.proofs.TypedValues.{IsOf, small-word}
+use Rattle.legal_types.proofs.TypedValues.{IsOf}
 use Rattle.legal_types.proofs.StaticWorth.{position-among}
 use Rattle.legal_types.proofs.GoodDeclarations.{literal-read}
 use Rattle.legal_types.proofs.MainScopes.{StandsWhole}
 use Rattle.legal_literals.specs.Literals.{StandsFor}
+use Rattle.ada_value.proofs.StaticLaws.{small_word}
 
 -- ---- meanings
 
@@ -90,4 +91,4 @@ module _ (T : TypeTable) (s : Scope) (h : StandsWhole T s) (id : NameId) (k i : 
       let within : i < length ids = slice_get_within ids i id at in
       let f = few.0 in
       let low : i ≤ 2147483647 = omega arith in
-      record { static = told; worth = worth ∙ ap₂ Place few.1 (small-word i low) }
+      record { static = told; worth = worth ∙ ap₂ Place few.1 (small_word i low) }

@@ -13,19 +13,17 @@ use Rattle.syn_event.specs.declared.meanings.Meant.{Meant}
 use Rattle.syn_event.specs.declared.meanings.Meant.TheVariants as meant
 use Rattle.syn_event.specs.CheckScope.{CheckScope, meaning as check_meaning}
 use Rattle.syn_event.specs.CheckSites.{with_meant}
-use Rattle.legal_sites.proofs.Meeting.{filled-not}
-
-pub some-same : {A : Type 0} {x y : A} → Some x ≡ Some y → x ≡ y
-some-same e = cc
+use Rattle.common_lemmas.proofs.Lists.{not_empty}
+use Rattle.common_lemmas.proofs.Options.{some_same}
 
 -- a test that leaves nothing holds
 pub test-holds : (b : Bool) (s : Span) → (if b then [] else s ∷ []) ≡ [] → b ≡ true
 test-holds true s e = refl
-test-holds false s e = absurd (filled-not s [] e)
+test-holds false s e = absurd (not_empty s [] e)
 
 -- a test that would give something fails
 pub test-fails : (b : Bool) (s : Span) → (if b then s ∷ [] else []) ≡ [] → b ≡ false
-test-fails true s e = absurd (filled-not s [] e)
+test-fails true s e = absurd (not_empty s [] e)
 test-fails false s e = refl
 
 -- what means a task type or the main procedure
@@ -72,7 +70,7 @@ module _ (Own : ℕ → Type 0) where
   found (y ∷ ys) n x h e = by_test (y.name == n) refl e (found ys n x h.1)
     where
       by_test : (b : Bool) → (y.name == n) ≡ b → (if b then Some y else find (λ z. z.name == n) ys) ≡ Some x → (find (λ z. z.name == n) ys ≡ Some x → Own n × OwnThing x.thing) → Own n × OwnThing x.thing
-      by_test true f g rest = (subst Own (eqb-true y.name n f) h.0.0, subst (λ (z : Seen). OwnThing z.thing) (some-same g) h.0.1)
+      by_test true f g rest = (subst Own (eqb-true y.name n f) h.0.0, subst (λ (z : Seen). OwnThing z.thing) (some_same g) h.0.1)
       by_test false f g rest = rest g
 
   pub means : (s : Scope) (id : NameId) (thing : Thing) → AllByRecursion OwnSeen s.names → meaning s id ≡ Some thing → Own id.0 × OwnThing thing
@@ -80,7 +78,7 @@ module _ (Own : ℕ → Type 0) where
     where
       by_find : (o : Option Seen) → find (λ x. x.name == id.0) s.names ≡ o → option_map (λ (x : Seen). x.thing) o ≡ Some thing → Own id.0 × OwnThing thing
       by_find None f g = absurd (none-some thing g)
-      by_find (Some x) f g = let r = found s.names id.0 x h f in (r.0, subst OwnThing (some-same g) r.1)
+      by_find (Some x) f g = let r = found s.names id.0 x h f in (r.0, subst OwnThing (some_same g) r.1)
 
   -- a name that is declared before
   pub seen : (s : Scope) (id : NameId) (sp : Span) → AllByRecursion OwnSeen s.names → unseen s id sp ≡ [] → Own id.0
@@ -141,12 +139,12 @@ module _ (Own : ℕ → Type 0) where
     where
       types : (id : NameId) (es : List EntryPart) (b : Bool) → option_map (λ (x : Seen). x.thing) (if b then Some (seen_as thing w.name.0) else find (λ x. x.name == id.0) s.names) ≡ Some (TaskType es) →
           option_map (λ (y : ℕ × Meant). y.1) (if b then Some (w.name.0, m) else find (λ y. y.0 == id.0) a.names) ≡ Some meant.TaskType
-      types id es true e = absurd (other-type thing es p (some-same e))
+      types id es true e = absurd (other-type thing es p (some_same e))
       types id es false e = h.types id es e
 
       main : (id : NameId) (b : Bool) → option_map (λ (x : Seen). x.thing) (if b then Some (seen_as thing w.name.0) else find (λ x. x.name == id.0) s.names) ≡ Some MainProcedure →
           option_map (λ (y : ℕ × Meant). y.1) (if b then Some (w.name.0, m) else find (λ y. y.0 == id.0) a.names) ≡ Some meant.MainProcedure
-      main id true e = absurd (other-main thing p (some-same e))
+      main id true e = absurd (other-main thing p (some_same e))
       main id false e = h.main id e
 
   pub names-both : (thing : Thing) (m : Meant) (ws : List Word) (s : Scope) (a : CheckScope) → AllByRecursion OwnWord ws → OwnThing thing → IsOther thing → Around s a → Around (with_names thing s ws) (with_meant m a ws)
@@ -165,12 +163,12 @@ module _ (Own : ℕ → Type 0) where
     where
       types : (id : NameId) (es : List EntryPart) (b : Bool) → option_map (λ (x : Seen). x.thing) (if b then Some (seen_as thing w.name.0) else find (λ x. x.name == id.0) s.names) ≡ Some (TaskType es) →
           check_meaning a id ≡ Some meant.TaskType
-      types id es true e = absurd (other-type thing es p (some-same e))
+      types id es true e = absurd (other-type thing es p (some_same e))
       types id es false e = h.types id es e
 
       main : (id : NameId) (b : Bool) → option_map (λ (x : Seen). x.thing) (if b then Some (seen_as thing w.name.0) else find (λ x. x.name == id.0) s.names) ≡ Some MainProcedure →
           check_meaning a id ≡ Some meant.MainProcedure
-      main id true e = absurd (other-main thing p (some-same e))
+      main id true e = absurd (other-main thing p (some_same e))
       main id false e = h.main id e
 
   pub names-one : (thing : Thing) (ws : List Word) (s : Scope) (a : CheckScope) → AllByRecursion OwnWord ws → OwnThing thing → IsOther thing → Around s a → Around (with_names thing s ws) a

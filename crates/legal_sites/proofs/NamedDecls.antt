@@ -32,10 +32,12 @@ use Rattle.syn_event.specs.CheckSites.{with_object, formal_names, site as check_
 use Rattle.syn_event.specs.RuleReservedName.{is_reserved}
 use Rattle.legal_sites.specs.Met.{IsMet, IsCheckMet, IsAddressed}
 use Rattle.legal_sites.specs.Laws.{NamesAreDeclared}
-use Rattle.legal_sites.proofs.Meeting.{all-front, all-back, all_met, all_check_met, filled-not}
-use Rattle.legal_sites.proofs.Around.{some-same, IsOther, OwnPart, OwnThing, OwnSeen, OwnWord, Around, means, name-both, names-both, name-one, names-one}
+use Rattle.legal_sites.proofs.Meeting.{all_met, all_check_met}
+use Rattle.legal_sites.proofs.Around.{IsOther, OwnPart, OwnThing, OwnSeen, OwnWord, Around, means, name-both, names-both, name-one, names-one}
 use Rattle.legal_sites.proofs.NamedParts.{IsFit, Q, static-of-own, free-value-own, subind-own, drange-own, formals-own}
 use Rattle.legal_sites.proofs.NamedStmts.{declared-own, words-own, body-own}
+use Rattle.common_lemmas.proofs.Lists.{all_back, all_front, not_empty}
+use Rattle.common_lemmas.proofs.Options.{some_same}
 
 module _ (Own : ℕ → Type 0) (first : (k : ℕ) → k < 25 → Own k) (texts : List (List ℕ)) (declared : (id : NameId) → is_reserved (text_of texts id) ≡ false → Own id.0) where
   abbrev R : Rules
@@ -146,15 +148,15 @@ module _ (Own : ℕ → Type 0) (first : (k : ℕ) → k < 25 → Own k) (texts 
 
   module _ (s : Scope) (names : AllByRecursion (OwnSeen Own) s.names) where
     value-own : (range : Option Range) (e : PExpr) → AllByRecursion IsFit (value_sites s range e) → EveryExpr R 2 e
-    value-own range e h = static-of-own Own first s names 2 (option_map (λ r. r.kind) range) e (all-front IsFit (static_of s (option_map (λ r. r.kind) range) e) (site s (must_lie_in e range) ∷ []) h)
+    value-own range e h = static-of-own Own first s names 2 (option_map (λ r. r.kind) range) e (all_front IsFit (static_of s (option_map (λ r. r.kind) range) e) (site s (must_lie_in e range) ∷ []) h)
 
     values-list : (range : Option Range) (es : List PExpr) → AllByRecursion IsFit (flat_map (value_sites s range) es) → AllByRecursion (EveryExpr R 2) es
     values-list range [] h = tt
-    values-list range (e ∷ es) h = (value-own range e (all-front IsFit (value_sites s range e) _ h), values-list range es (all-back IsFit (value_sites s range e) _ h))
+    values-list range (e ∷ es) h = (value-own range e (all_front IsFit (value_sites s range e) _ h), values-list range es (all_back IsFit (value_sites s range e) _ h))
 
     frees-list : (es : List PExpr) → AllByRecursion IsFit (flat_map (free_value_sites s) es) → AllByRecursion (EveryExpr R 2) es
     frees-list [] h = tt
-    frees-list (e ∷ es) h = (free-value-own Own first s names 2 e (all-front IsFit (free_value_sites s e) _ h), frees-list es (all-back IsFit (free_value_sites s e) _ h))
+    frees-list (e ∷ es) h = (free-value-own Own first s names 2 e (all_front IsFit (free_value_sites s e) _ h), frees-list es (all_back IsFit (free_value_sites s e) _ h))
 
     listed : (es : List PExpr) → AllByRecursion (EveryExpr R 2) es → All (EveryExpr R 2) es
     listed es h = All-from_recursion (EveryExpr R 2) es h
@@ -175,8 +177,8 @@ module _ (Own : ℕ → Type 0) (first : (k : ℕ) → k < 25 → Own k) (texts 
     scalar-init range (IOthers e sp) h = free-value-own Own first s names 2 e h
 
     init-own : (T : TypeTable) (m : Marking) (x : PInit) → AllByRecursion IsFit (init_sites s T m x) → EveryInit R x
-    init-own T (ScalarMark m k) x h = scalar-init (range_of_mark T m) x (all-front IsFit (scalar_init_sites s (range_of_mark T m) x) (site s (initializes for_scalar x) ∷ []) h)
-    init-own T (ArrayMark m r p) x h = array-init (range_of_mark T p) x (all-front IsFit (array_init_sites s (range_of_mark T p) x) (site s (initializes (for_array r) x) ∷ []) h)
+    init-own T (ScalarMark m k) x h = scalar-init (range_of_mark T m) x (all_front IsFit (scalar_init_sites s (range_of_mark T m) x) (site s (initializes for_scalar x) ∷ []) h)
+    init-own T (ArrayMark m r p) x h = array-init (range_of_mark T p) x (all_front IsFit (array_init_sites s (range_of_mark T p) x) (site s (initializes (for_array r) x) ∷ []) h)
     init-own T (TaskMark es) x h = any-init x h
     init-own T NoMark x h = any-init x h
     init-own T UnknownMark x h = any-init x h
@@ -186,13 +188,13 @@ module _ (Own : ℕ → Type 0) (first : (k : ℕ) → k < 25 → Own k) (texts 
     shape-own constant (OPlain x) init h = subind-own Own first s names true _ 2 x h
     shape-own constant (OArray index x) init h =
         let marks = subind_sites true (component_marks (may_be_task s constant x.bounds init)) s x in
-        (drange-own Own first s names true 2 index (all-front IsFit (drange_sites true s index) marks h), subind-own Own first s names true _ 2 x (all-back IsFit (drange_sites true s index) marks h))
+        (drange-own Own first s names true 2 index (all_front IsFit (drange_sites true s index) marks h), subind-own Own first s names true _ 2 x (all_back IsFit (drange_sites true s index) marks h))
 
   object-words : (ws : List Word) (x : PShape) (init : Option PInit) (a : CheckScope) → AllByRecursion M (check_object_sites a ws x init) → AllByRecursion (OwnWord Own) ws
   object-words ws x init a m =
       words-own Own first texts declared a ws
-      (all-front M (check_names_sites a ws) (check_shape_sites a x)
-      (all-front M (check_names_sites a ws ++ check_shape_sites a x) (check_if_there (check_init_sites a) init) m))
+      (all_front M (check_names_sites a ws) (check_shape_sites a x)
+      (all_front M (check_names_sites a ws ++ check_shape_sites a x) (check_if_there (check_init_sites a) init) m))
 
   object-own : (ws : List Word) (constant : Bool) (x : PShape) (init : Option PInit) (sp : Span) (s : Scope) (a : CheckScope) → Around Own s a →
       AllByRecursion IsFit (object_sites s ws constant x init (declared_object s constant x)) → AllByRecursion (OwnWord Own) ws → EveryDecl R (DObject ws constant x init sp)
@@ -202,9 +204,9 @@ module _ (Own : ℕ → Type 0) (first : (k : ℕ) → k < 25 → Own k) (texts 
       let value = if_there (init_sites s d.types (object_marking d)) init in (
         tt,
         (tt, All-from_recursion (EveryWord R) ws o),
-        shape-own s r.names constant x init (all-back IsFit named (shape_sites s constant x init) (all-front IsFit (named ++ shape_sites s constant x init) value h)),
+        shape-own s r.names constant x init (all_back IsFit named (shape_sites s constant x init) (all_front IsFit (named ++ shape_sites s constant x init) value h)),
         tt,
-        if-met (init_sites s d.types (object_marking d)) init (EveryInit R) (init-own s r.names d.types (object_marking d)) (all-back IsFit (named ++ shape_sites s constant x init) value h),
+        if-met (init_sites s d.types (object_marking d)) init (EveryInit R) (init-own s r.names d.types (object_marking d)) (all_back IsFit (named ++ shape_sites s constant x init) value h),
       )
 
   -- ---- the objects of a body
@@ -214,11 +216,11 @@ module _ (Own : ℕ → Type 0) (first : (k : ℕ) → k < 25 → Own k) (texts 
   own-objects no_decl s a o r h m = (tt, r)
   own-objects (decl_then (DObject ws c x i sp) rest) s a o r h m =
       let d = DObject ws c x i sp in
-      let words = object-words ws x i a (all-front M (check_object_sites a ws x i) (check_own_sites (check_after_own_object a d) rest) m) in
+      let words = object-words ws x i a (all_front M (check_object_sites a ws x i) (check_own_sites (check_after_own_object a d) rest) m) in
       let t = declared-thing s c x r.names in
       let more = own-objects rest (after_own_object s d) (check_after_own_object a d) o (names-both Own _ meant.Inner ws _ a words t.0 t.1 (typed _ s a r))
-      (all-back IsFit (own_object_sites s d) (own_sites (after_own_object s d) rest) h) (all-back M (check_object_sites a ws x i) (check_own_sites (check_after_own_object a d) rest) m) in
-      ((object-own ws c x i sp s a r (all-front IsFit (own_object_sites s d) (own_sites (after_own_object s d) rest) h) words, more.0), more.1)
+      (all_back IsFit (own_object_sites s d) (own_sites (after_own_object s d) rest) h) (all_back M (check_object_sites a ws x i) (check_own_sites (check_after_own_object a d) rest) m) in
+      ((object-own ws c x i sp s a r (all_front IsFit (own_object_sites s d) (own_sites (after_own_object s d) rest) h) words, more.0), more.1)
   own-objects (decl_then (DNumber w e sp) rest) s a o r h m = absurd o
   own-objects (decl_then (DEnumeration w ws sp) rest) s a o r h m = absurd o
   own-objects (decl_then (DArray w i x sp) rest) s a o r h m = absurd o
@@ -233,7 +235,7 @@ module _ (Own : ℕ → Type 0) (first : (k : ℕ) → k < 25 → Own k) (texts 
 
   entries-named : (a : CheckScope) (es : List PEntry) → AllByRecursion M (flat_map (check_entry_sites a) es) → AllByRecursion (λ (e : PEntry). Own e.name.name.0) es
   entries-named a [] m = tt
-  entries-named a (e ∷ es) m = (declared-own Own first texts declared a e.name (all-front M (check_entry_sites a e) _ m).0, entries-named a es (all-back M (check_entry_sites a e) _ m))
+  entries-named a (e ∷ es) m = (declared-own Own first texts declared a e.name (all_front M (check_entry_sites a e) _ m).0, entries-named a es (all_back M (check_entry_sites a e) _ m))
 
   parts-named : (s : Scope) (es : List PEntry) → AllByRecursion (λ (e : PEntry). Own e.name.name.0) es → AllByRecursion (OwnPart Own) (map (entry_part s) es)
   parts-named s [] h = tt
@@ -247,23 +249,23 @@ module _ (Own : ℕ → Type 0) (first : (k : ℕ) → k < 25 → Own k) (texts 
       let three = numbered a Formals 0 (map (λ w. w.span) (formal_names e.formals)) in (
         tt,
         declared-own Own first texts declared a e.name m.0,
-        if-met (drange_sites true s) e.family (EveryDrange R 2) (drange-own Own first s r.names true 2) (all-front IsFit front (formals_sites s e.formals) h).1,
-        formals-own Own first s r.names e.formals (words-own Own first texts declared a (formal_names e.formals) (all-back M one two (all-front M (one ++ two) three m)))
-            (all-back IsFit (names_sites false (inside s) (all_names e.formals)) (formal_mark_sites s e.formals) (all-back IsFit front (formals_sites s e.formals) h)),
+        if-met (drange_sites true s) e.family (EveryDrange R 2) (drange-own Own first s r.names true 2) (all_front IsFit front (formals_sites s e.formals) h).1,
+        formals-own Own first s r.names e.formals (words-own Own first texts declared a (formal_names e.formals) (all_back M one two (all_front M (one ++ two) three m)))
+            (all_back IsFit (names_sites false (inside s) (all_names e.formals)) (formal_mark_sites s e.formals) (all_back IsFit front (formals_sites s e.formals) h)),
       )
 
   entries-list : (es : List PEntry) (before : List ℕ) (s : Scope) (a : CheckScope) → Around Own s a → AllByRecursion IsFit (entries_sites s before es) → AllByRecursion M (flat_map (check_entry_sites a) es) → AllByRecursion (EveryEntry R) es
   entries-list [] before s a r h m = tt
   entries-list (e ∷ es) before s a r h m = (
-    entry-own e before s a r (all-front IsFit (entry_sites s before e) _ h) (all-front M (check_entry_sites a e) _ m),
-    entries-list es (e.name.name.0 ∷ before) s a r (all-back IsFit (entry_sites s before e) _ h) (all-back M (check_entry_sites a e) _ m),
+    entry-own e before s a r (all_front IsFit (entry_sites s before e) _ h) (all_front M (check_entry_sites a e) _ m),
+    entries-list es (e.name.name.0 ∷ before) s a r (all_back IsFit (entry_sites s before e) _ h) (all_back M (check_entry_sites a e) _ m),
   )
 
   priorities-list : (ps : List PPriority) (s : Scope) → AllByRecursion (OwnSeen Own) s.names → AllByRecursion IsFit (flat_map (λ p. static_of s (Some integer_kind) p.value) ps) → AllByRecursion (EveryPriority R) ps
   priorities-list [] s names h = tt
   priorities-list (p ∷ ps) s names h = (
-    (tt, static-of-own Own first s names 2 (Some integer_kind) p.value (all-front IsFit (static_of s (Some integer_kind) p.value) _ h)),
-    priorities-list ps s names (all-back IsFit (static_of s (Some integer_kind) p.value) _ h),
+    (tt, static-of-own Own first s names 2 (Some integer_kind) p.value (all_front IsFit (static_of s (Some integer_kind) p.value) _ h)),
+    priorities-list ps s names (all_back IsFit (static_of s (Some integer_kind) p.value) _ h),
   )
 
   task-own : (t : PTask) (bodies : List ℕ) (sp : Span) (s : Scope) (a : CheckScope) → Around Own s a → AllByRecursion IsFit (task_sites s t) → AllByRecursion M (check_task_sites a bodies t sp) →
@@ -272,15 +274,15 @@ module _ (Own : ℕ → Type 0) (first : (k : ℕ) → k < 25 → Own k) (texts 
       let one = names_sites true s (t.name ∷ []) in
       let two = entries_sites s [] t.entries in
       let three = flat_map (λ (p : PPriority). static_of s (Some integer_kind) p.value) t.priorities in
-      let lower = all-front IsFit (one ++ two) three h in
+      let lower = all_front IsFit (one ++ two) three h in
       let front = check_site a (needs_body bodies t.name sp) ∷ check_site a (declares t.name) ∷ [] in
       let entries = flat_map (check_entry_sites a) t.entries in
-      let checked = (all-front M (front ++ entries) (flat_map (λ (p : PPriority). check_expr_sites a 2 p.value) t.priorities) m).1.1 in
+      let checked = (all_front M (front ++ entries) (flat_map (λ (p : PPriority). check_expr_sites a 2 p.value) t.priorities) m).1.1 in
       let name = declared-own Own first texts declared a t.name m.1.0 in (
         (
           name,
-          All-from_recursion (EveryEntry R) t.entries (entries-list t.entries [] s a r (all-back IsFit one two lower) checked),
-          All-from_recursion (EveryPriority R) t.priorities (priorities-list t.priorities s r.names (all-back IsFit (one ++ two) three h)),
+          All-from_recursion (EveryEntry R) t.entries (entries-list t.entries [] s a r (all_back IsFit one two lower) checked),
+          All-from_recursion (EveryPriority R) t.priorities (priorities-list t.priorities s r.names (all_back IsFit (one ++ two) three h)),
           tt,
         ),
         (name, entries-named a t.entries checked),
@@ -301,7 +303,7 @@ module _ (Own : ℕ → Type 0) (first : (k : ℕ) → k < 25 → Own k) (texts 
 
       main : (id : NameId) (b : Bool) → option_map (λ (x : Seen). x.thing) (if b then Some (seen_as (TaskType es) w.name.0) else find (λ x. x.name == id.0) s.names) ≡ Some MainProcedure →
           option_map (λ (y : ℕ × Meant). y.1) (if b then Some (w.name.0, meant.TaskType) else find (λ y. y.0 == id.0) a.names) ≡ Some meant.MainProcedure
-      main id true e = absurd (subst NotMain (some-same e) tt)
+      main id true e = absurd (subst NotMain (some_same e) tt)
       main id false e = h.main id e
   task-around false es w n s a o p h = name-both Own (SingleTask es) (meant.TaskOf n) w s a o p tt h
 
@@ -317,7 +319,7 @@ module _ (Own : ℕ → Type 0) (first : (k : ℕ) → k < 25 → Own k) (texts 
   body-entries s id (Some thing) names e = (means Own s id thing names e).1
 
   body-name : (s : Scope) (w : Word) (o : Option Thing) → AllByRecursion (OwnSeen Own) s.names → meaning s w.name ≡ o → no_body_of o w ≡ [] → Own w.name.0
-  body-name s w None names e n = absurd (filled-not _ _ n)
+  body-name s w None names e n = absurd (not_empty _ _ n)
   body-name s w (Some thing) names e n = (means Own s w.name thing names e).0
 
   decl-own : (d : PDecl) (bodies : List ℕ) (s : Scope) (a : CheckScope) → EveryDecl (well_placed texts) d → Around Own s a → AllByRecursion IsFit (decl_sites s d) → AllByRecursion M (check_decl_sites a bodies d) →
@@ -341,8 +343,8 @@ module _ (Own : ℕ → Type 0) (first : (k : ℕ) → k < 25 → Own k) (texts 
         (
           tt,
           o,
-          drange-own Own first s r.names true 2 i (all-front IsFit (drange_sites true s i) (subind_sites true scalar_only s x) h.1),
-          subind-own Own first s r.names true scalar_only 2 x (all-back IsFit (drange_sites true s i) (subind_sites true scalar_only s x) h.1),
+          drange-own Own first s r.names true 2 i (all_front IsFit (drange_sites true s i) (subind_sites true scalar_only s x) h.1),
+          subind-own Own first s r.names true scalar_only 2 x (all_back IsFit (drange_sites true s i) (subind_sites true scalar_only s x) h.1),
         ),
         name-one Own _ w _ a o t.0 t.1 (typed _ s a r),
       )
@@ -368,8 +370,8 @@ module _ (Own : ℕ → Type 0) (first : (k : ℕ) → k < 25 → Own k) (texts 
       let inner = in_body s w in
       let check = check_in_body a w in
       let around : Around Own inner check = record { names = r.names; own = body-entries s w.name (meaning s w.name) r.names refl; loops = r.loops; types = r.types; main = r.main } in
-      let objects = own-objects ds inner check p.2 around (all-front IsFit (own_sites inner ds) (body_sites (inside (after_objects inner ds)) b) h.1)
-      (all-front M (check_own_sites check ds) (check_body_sites (check_after_own check ds) 1 b) m) in (
+      let objects = own-objects ds inner check p.2 around (all_front IsFit (own_sites inner ds) (body_sites (inside (after_objects inner ds)) b) h.1)
+      (all_front M (check_own_sites check ds) (check_body_sites (check_after_own check ds) 1 b) m) in (
         (
           tt,
           body-name s w (meaning s w.name) r.names refl h.0.met.known,
@@ -377,8 +379,8 @@ module _ (Own : ℕ → Type 0) (first : (k : ℕ) → k < 25 → Own k) (texts 
           objects.0,
           body-own Own first texts declared b (inside (after_objects inner ds)) (check_after_own check ds) 1 1
               record { names = objects.1.names; own = objects.1.own; loops = objects.1.loops; types = objects.1.types; main = objects.1.main }
-              (all-back IsFit (own_sites inner ds) (body_sites (inside (after_objects inner ds)) b) h.1)
-              (all-back M (check_own_sites check ds) (check_body_sites (check_after_own check ds) 1 b) m),
+              (all_back IsFit (own_sites inner ds) (body_sites (inside (after_objects inner ds)) b) h.1)
+              (all_back M (check_own_sites check ds) (check_body_sites (check_after_own check ds) 1 b) m),
         ),
         record { names = r.names; own = r.own; loops = r.loops; types = r.types; main = r.main },
       )
@@ -387,9 +389,9 @@ module _ (Own : ℕ → Type 0) (first : (k : ℕ) → k < 25 → Own k) (texts 
       EveryDecls R ds × Around Own (after_decls s ds) (check_after_decls a ds)
   decls-own no_decl bodies s a p r h m = (tt, r)
   decls-own (decl_then d rest) bodies s a p r h m =
-      let one = decl-own d bodies s a p.0 r (all-front IsFit (decl_sites s d) (decls_sites (after_decl s d) rest) h) (all-front M (check_decl_sites a bodies d) (check_decls_sites (check_after_decl a d) bodies rest) m) in
-      let more = decls-own rest bodies (after_decl s d) (check_after_decl a d) p.1 one.1 (all-back IsFit (decl_sites s d) (decls_sites (after_decl s d) rest) h)
-      (all-back M (check_decl_sites a bodies d) (check_decls_sites (check_after_decl a d) bodies rest) m) in
+      let one = decl-own d bodies s a p.0 r (all_front IsFit (decl_sites s d) (decls_sites (after_decl s d) rest) h) (all_front M (check_decl_sites a bodies d) (check_decls_sites (check_after_decl a d) bodies rest) m) in
+      let more = decls-own rest bodies (after_decl s d) (check_after_decl a d) p.1 one.1 (all_back IsFit (decl_sites s d) (decls_sites (after_decl s d) rest) h)
+      (all_back M (check_decl_sites a bodies d) (check_decls_sites (check_after_decl a d) bodies rest) m) in
       ((one.0, more.0), more.1)
 
   -- ---- the whole
@@ -447,7 +449,7 @@ module _ (Own : ℕ → Type 0) (first : (k : ℕ) → k < 25 → Own k) (texts 
   others (x ∷ xs) id thing h e = by_test (x.name == id.0) e (others xs id thing h.1)
     where
       by_test : (b : Bool) → option_map (λ (y : Seen). y.thing) (if b then Some x else find (λ y. y.name == id.0) xs) ≡ Some thing → (option_map (λ (y : Seen). y.thing) (find (λ y. y.name == id.0) xs) ≡ Some thing → IsOther thing) → IsOther thing
-      by_test true f rest = subst IsOther (some-same f) h.0
+      by_test true f rest = subst IsOther (some_same f) h.0
       by_test false f rest = rest f
 
   predefined-others : AllByRecursion (λ (x : Seen). IsOther x.thing) predefined_names
@@ -464,7 +466,7 @@ module _ (Own : ℕ → Type 0) (first : (k : ℕ) → k < 25 → Own k) (texts 
     where
       types : (id : NameId) (es : List EntryPart) (b : Bool) → option_map (λ (x : Seen). x.thing) (if b then Some (seen_as MainProcedure w.name.0) else find (λ x. x.name == id.0) predefined_names) ≡ Some (TaskType es) →
           option_map (λ (y : ℕ × Meant). y.1) (if b then Some (w.name.0, meant.MainProcedure) else None) ≡ Some meant.TaskType
-      types id es true e = absurd (subst NotMain (sym (some-same e)) tt)
+      types id es true e = absurd (subst NotMain (sym (some_same e)) tt)
       types id es false e = absurd (others predefined_names id (TaskType es) predefined-others e)
 
       main : (id : NameId) (b : Bool) → option_map (λ (x : Seen). x.thing) (if b then Some (seen_as MainProcedure w.name.0) else find (λ x. x.name == id.0) predefined_names) ≡ Some MainProcedure →
@@ -486,16 +488,16 @@ module _ (Own : ℕ → Type 0) (first : (k : ℕ) → k < 25 → Own k) (texts 
       let front = check_site a (declares p.name) ∷ check_decls_sites a (body_names p.decls) p.decls in
       let main = check_body_sites (check_after_decls a p.decls) 1 p.body in
       let checked : AllByRecursion M (check_sites p) = subst (λ ts. AllByRecursion (IsCheckMet Original ts) (check_sites p)) same (all_check_met p Original checks) in
-      let lower = all-front M (front ++ main) (counted_sites a p) checked in
+      let lower = all_front M (front ++ main) (counted_sites a p) checked in
       let name = declared-own Own first texts declared a p.name lower.0 in
       let ds = decls-own p.decls (body_names p.decls) s a (subst (λ ts. EveryDecls (well_placed ts) p.decls) same placed.2) (first-around (types_in p) p.name name)
-      (all-front IsFit one two fit.1) (all-front M front main lower).1 in (
+      (all_front IsFit one two fit.1) (all_front M front main lower).1 in (
         name,
         tt,
         ds.0,
         body-own Own first texts declared p.body (inside (after_decls s p.decls)) (check_after_decls a p.decls) 1 1
             record { names = ds.1.names; own = ds.1.own; loops = ds.1.loops; types = ds.1.types; main = ds.1.main }
-            (all-back IsFit one two fit.1) (all-back M front main lower),
+            (all_back IsFit one two fit.1) (all_back M front main lower),
       )
 
 -- What holds of the predefined names and of each name that is not reserved holds of each name in a legal program.

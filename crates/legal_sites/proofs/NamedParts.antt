@@ -23,8 +23,8 @@ use Rattle.syn_event.specs.CheckScope.{CheckScope}
 use Rattle.syn_event.specs.RuleMainEntry.{main_entry, no_task as check_no_task}
 use Rattle.syn_event.specs.CheckScope.{addresses as check_addresses}
 use Rattle.legal_sites.specs.Met.{IsMet, IsAddressed}
-use Rattle.legal_sites.proofs.Meeting.{filled-not, front-empty, back-empty, all-front, all-back}
 use Rattle.legal_sites.proofs.Around.{test-holds, OwnPart, OwnSeen, OwnWord, Around, means, seen, entry-own}
+use Rattle.common_lemmas.proofs.Lists.{all_back, all_front, back_empty, front_empty, not_empty}
 
 -- ---- attributes
 
@@ -44,7 +44,7 @@ attribute-first id s =
     (step id.0 21 Val _ s (omega arith)
     (step id.0 22 Succ _ s (omega arith)
     (step id.0 23 Pred _ s (omega arith)
-    (step id.0 24 Image _ s (omega arith) (λ e. absurd (filled-not s [] e))))))))
+    (step id.0 24 Image _ s (omega arith) (λ e. absurd (not_empty s [] e))))))))
 
 -- ---- places
 
@@ -72,16 +72,16 @@ module _ (Own : ℕ → Type 0) (first : (k : ℕ) → k < 25 → Own k) where
     nodes-own k (EInteger n sp) h = (tt, tt)
     nodes-own k (EName id sp) h = (tt, seen Own s id sp names h.0)
     nodes-own k (EIndex w e sp) h = (tt, seen Own s w.name w.span names h.0, nodes-own (k + 1) e h.1)
-    nodes-own k (EAttribute m w sp) h = (tt, seen Own s m.name m.span names (front-empty _ _ h.0), first w.name.0 (attribute-first w.name w.span (back-empty _ _ h.0)))
+    nodes-own k (EAttribute m w sp) h = (tt, seen Own s m.name m.span names (front_empty _ _ h.0), first w.name.0 (attribute-first w.name w.span (back_empty _ _ h.0)))
     nodes-own k (EAttributeOf m w e sp) h = (
       tt,
-      seen Own s m.name m.span names (front-empty _ _ h.0),
-      first w.name.0 (attribute-first w.name w.span (back-empty _ _ h.0)),
+      seen Own s m.name m.span names (front_empty _ _ h.0),
+      first w.name.0 (attribute-first w.name w.span (back_empty _ _ h.0)),
       nodes-own (k + 1) e h.1,
     )
     nodes-own k (EParen e sp) h = (tt, nodes-own (k + 1) e h.1)
     nodes-own k (EUnary op e sp) h = (tt, tt, nodes-own (k + 1) e h.1)
-    nodes-own k (EBinary op l r sp) h = (tt, tt, nodes-own (k + 1) l (all-front NodeMet (nodes l) (nodes r) h.1), nodes-own (k + 1) r (all-back NodeMet (nodes l) (nodes r) h.1))
+    nodes-own k (EBinary op l r sp) h = (tt, tt, nodes-own (k + 1) l (all_front NodeMet (nodes l) (nodes r) h.1), nodes-own (k + 1) r (all_back NodeMet (nodes l) (nodes r) h.1))
 
     node-places : (es : List PExpr) → AllByRecursion IsFit (map (λ n. site s (node false n)) es) → AllByRecursion NodeMet es
     node-places [] h = tt
@@ -91,21 +91,21 @@ module _ (Own : ℕ → Type 0) (first : (k : ℕ) → k < 25 → Own k) where
     expr-own k e h = nodes-own k e (node-places (nodes e) h.1)
 
     pub expr-of-own : (k : ℕ) (o : Option ℕ) (e : PExpr) → AllByRecursion IsFit (expr_of s o e) → EveryExpr Q k e
-    expr-of-own k o e h = expr-own k e (all-front IsFit (expr_sites s e) _ h)
+    expr-of-own k o e h = expr-own k e (all_front IsFit (expr_sites s e) _ h)
 
     pub static-of-own : (k : ℕ) (o : Option ℕ) (e : PExpr) → AllByRecursion IsFit (static_of s o e) → EveryExpr Q k e
-    static-of-own k o e h = expr-of-own k o e (all-front IsFit (expr_of s o e) _ h)
+    static-of-own k o e h = expr-of-own k o e (all_front IsFit (expr_of s o e) _ h)
 
     pub free-value-own : (k : ℕ) (e : PExpr) → AllByRecursion IsFit (free_value_sites s e) → EveryExpr Q k e
-    free-value-own k e h = expr-own k e (all-front IsFit (expr_sites s e) _ h)
+    free-value-own k e h = expr-own k e (all_front IsFit (expr_sites s e) _ h)
 
     pub exprs-own : (k : ℕ) (es : List PExpr) → AllByRecursion IsFit (flat_map (expr_sites s) es) → AllByRecursion (EveryExpr Q k) es
     exprs-own k [] h = tt
-    exprs-own k (e ∷ es) h = (expr-own k e (all-front IsFit (expr_sites s e) _ h), exprs-own k es (all-back IsFit (expr_sites s e) _ h))
+    exprs-own k (e ∷ es) h = (expr-own k e (all_front IsFit (expr_sites s e) _ h), exprs-own k es (all_back IsFit (expr_sites s e) _ h))
 
     exprs-of-own : (k : ℕ) (o : Option ℕ) (es : List PExpr) → AllByRecursion IsFit (flat_map (expr_of s o) es) → AllByRecursion (EveryExpr Q k) es
     exprs-of-own k o [] h = tt
-    exprs-of-own k o (e ∷ es) h = (expr-of-own k o e (all-front IsFit (expr_of s o e) _ h), exprs-of-own k o es (all-back IsFit (expr_of s o e) _ h))
+    exprs-of-own k o (e ∷ es) h = (expr-of-own k o e (all_front IsFit (expr_of s o e) _ h), exprs-of-own k o es (all_back IsFit (expr_of s o e) _ h))
 
     pub maybe-expr : (k : ℕ) (o : Option PExpr) → AllByRecursion IsFit (if_there (expr_sites s) o) → IfSome o (EveryExpr Q k)
     maybe-expr k o h = if-some (expr_sites s) o (EveryExpr Q k) (expr-own k) h
@@ -118,11 +118,11 @@ module _ (Own : ℕ → Type 0) (first : (k : ℕ) → k < 25 → Own k) where
         let two = static_if static s b.first in
         let three = expr_sites s b.last in
         let four = static_if static s b.last in
-        let lower = all-front IsFit (one ++ two ++ three) four (all-front IsFit (one ++ two ++ three ++ four) (site s (must_not_be_empty b.first b.last) ∷ []) h) in
-        (tt, expr-own k b.first (all-front IsFit one two (all-front IsFit (one ++ two) three lower)), expr-own k b.last (all-back IsFit (one ++ two) three lower))
+        let lower = all_front IsFit (one ++ two ++ three) four (all_front IsFit (one ++ two ++ three ++ four) (site s (must_not_be_empty b.first b.last) ∷ []) h) in
+        (tt, expr-own k b.first (all_front IsFit one two (all_front IsFit (one ++ two) three lower)), expr-own k b.last (all_back IsFit (one ++ two) three lower))
 
     constraint-own : (static : Bool) (o : Option ℕ) (k : ℕ) (b : PBounds) → AllByRecursion IsFit (constraint_sites static s o b) → EveryBounds Q k b
-    constraint-own static o k b h = bounds-own static k b (all-front IsFit (bounds_sites static s b) _ h)
+    constraint-own static o k b h = bounds-own static k b (all_front IsFit (bounds_sites static s b) _ h)
 
     pub subind-own : (static : Bool) (allowed : MarkUse) (k : ℕ) (x : PSubind) → AllByRecursion IsFit (subind_sites static allowed s x) → EverySubind Q k x
     subind-own static allowed k x h = (
@@ -131,7 +131,7 @@ module _ (Own : ℕ → Type 0) (first : (k : ℕ) → k < 25 → Own k) where
     )
 
     pub drange-own : (static : Bool) (k : ℕ) (x : PDrange) → AllByRecursion IsFit (drange_sites static s x) → EveryDrange Q k x
-    drange-own static k (RGiven b) h = bounds-own static k b (all-front IsFit (bounds_sites static s b) _ h)
+    drange-own static k (RGiven b) h = bounds-own static k b (all_front IsFit (bounds_sites static s b) _ h)
     drange-own static k (RMarked x) h = subind-own static scalar_only k x h
 
     -- ---- calls
@@ -159,18 +159,18 @@ module _ (Own : ℕ → Type 0) (first : (k : ℕ) → k < 25 → Own k) where
 
     actuals-own : (k : ℕ) (formals : List FormalPart) (es : List PExpr) → AllByRecursion IsFit (actuals_sites s formals es) → AllByRecursion (EveryExpr Q k) es
     actuals-own k formals [] h = tt
-    actuals-own k [] (e ∷ es) h = (expr-own k e (all-front IsFit (expr_sites s e) _ h), actuals-own k [] es (all-back IsFit (expr_sites s e) _ h))
+    actuals-own k [] (e ∷ es) h = (expr-own k e (all_front IsFit (expr_sites s e) _ h), actuals-own k [] es (all_back IsFit (expr_sites s e) _ h))
     actuals-own k (f ∷ fs) (e ∷ es) h =
-        let more = all-back IsFit (actual_sites s f.mode e) _ h in
-        (actual-own k f.mode e (all-front IsFit (actual_sites s f.mode e) _ h), actuals-own k fs es more.1)
+        let more = all_back IsFit (actual_sites s f.mode e) _ h in
+        (actual-own k f.mode e (all_front IsFit (actual_sites s f.mode e) _ h), actuals-own k fs es more.1)
 
     several : (k : ℕ) (es : List PExpr) → AllByRecursion (EveryExpr Q k) es → EveryExprs Q k es
     several k es h = (tt, All-from_recursion (EveryExpr Q k) es h)
 
     free-args-own : (k : ℕ) (args : PArgs) → AllByRecursion IsFit (free_args_sites s args) → EveryArgs Q k args
     free-args-own k args h = (
-      several k args.first (exprs-own k args.first (all-front IsFit (flat_map (expr_sites s) args.first) _ h)),
-      if-some (flat_map (expr_sites s)) args.second (EveryExprs Q k) (λ es g. several k es (exprs-own k es g)) (all-back IsFit (flat_map (expr_sites s) args.first) _ h),
+      several k args.first (exprs-own k args.first (all_front IsFit (flat_map (expr_sites s) args.first) _ h)),
+      if-some (flat_map (expr_sites s)) args.second (EveryExprs Q k) (λ es g. several k es (exprs-own k es g)) (all_back IsFit (flat_map (expr_sites s) args.first) _ h),
     )
 
     args-own : (k : ℕ) (o : Option EntryPart) (args : PArgs) → AllByRecursion IsFit (args_sites s o args) → EveryArgs Q k args
@@ -179,12 +179,12 @@ module _ (Own : ℕ → Type 0) (first : (k : ℕ) → k < 25 → Own k) where
       where
         by_family : (f : Family) → AllByRecursion IsFit (args_sites s (Some (record entry { family = f })) args) → EveryArgs Q k args
         by_family single g = (
-          several k args.first (actuals-own k entry.formals args.first (all-front IsFit (actuals_sites s entry.formals args.first) _ g)),
-          if-some (flat_map (expr_sites s)) args.second (EveryExprs Q k) (λ es q. several k es (exprs-own k es q)) (all-back IsFit (actuals_sites s entry.formals args.first) _ g),
+          several k args.first (actuals-own k entry.formals args.first (all_front IsFit (actuals_sites s entry.formals args.first) _ g)),
+          if-some (flat_map (expr_sites s)) args.second (EveryExprs Q k) (λ es q. several k es (exprs-own k es q)) (all_back IsFit (actuals_sites s entry.formals args.first) _ g),
         )
         by_family (family range) g = (
-          several k args.first (exprs-of-own k (Some range.kind) args.first (all-front IsFit (flat_map (expr_of s (Some range.kind)) args.first) _ g)),
-          if-some (actuals_sites s entry.formals) args.second (EveryExprs Q k) (λ es q. several k es (actuals-own k entry.formals es q)) (all-back IsFit (flat_map (expr_of s (Some range.kind)) args.first) _ g),
+          several k args.first (exprs-of-own k (Some range.kind) args.first (all_front IsFit (flat_map (expr_of s (Some range.kind)) args.first) _ g)),
+          if-some (actuals_sites s entry.formals) args.second (EveryExprs Q k) (λ es q. several k es (actuals-own k entry.formals es q)) (all_back IsFit (flat_map (expr_of s (Some range.kind)) args.first) _ g),
         )
         by_family unclear g = free-args-own k args g
 
@@ -193,34 +193,34 @@ module _ (Own : ℕ → Type 0) (first : (k : ℕ) → k < 25 → Own k) where
     there es w h e = entry-own Own es w.name h (by_entry (entry_named es w.name) e)
       where
         by_entry : (o : Option EntryPart) → missing o w ≡ [] → is_some o ≡ true
-        by_entry None g = absurd (filled-not _ _ g)
+        by_entry None g = absurd (not_empty _ _ g)
         by_entry (Some x) g = refl
 
     -- the entry that is called: the callee is a task
     entry-called : (c : PCall) (o : Option Thing) → meaning s c.task.name.name ≡ o → (o ≡ Some Unclear → ⊥) → is_some o ≡ true → no_task o c.task.name ≡ [] →
         ((es : List EntryPart) → o ≡ Some (TaskType es) → ⊥) → (o ≡ Some MainProcedure → ⊥) → unknown_entry o c.entry ≡ [] → Own c.entry.name.0
-    entry-called c None e clear some task type main entry = absurd (filled-not _ _ (sym (ap (λ (b : Bool). if b then c.entry ∷ [] else []) some)))
+    entry-called c None e clear some task type main entry = absurd (not_empty _ _ (sym (ap (λ (b : Bool). if b then c.entry ∷ [] else []) some)))
     entry-called c (Some (SingleTask es)) e clear some task type main entry = there es c.entry (means Own s c.task.name.name (SingleTask es) names e).1 entry
     entry-called c (Some (TaskObject es)) e clear some task type main entry = there es c.entry (means Own s c.task.name.name (TaskObject es) names e).1 entry
     entry-called c (Some (TaskArray r es)) e clear some task type main entry = there es c.entry (means Own s c.task.name.name (TaskArray r es) names e).1 entry
     entry-called c (Some (TaskType es)) e clear some task type main entry = absurd (type es refl)
     entry-called c (Some MainProcedure) e clear some task type main entry = absurd (main refl)
     entry-called c (Some Unclear) e clear some task type main entry = absurd (clear refl)
-    entry-called c (Some (TypeMark m)) e clear some task type main entry = absurd (filled-not _ _ task)
-    entry-called c (Some (Variable m)) e clear some task type main entry = absurd (filled-not _ _ task)
-    entry-called c (Some (ConstantObject m)) e clear some task type main entry = absurd (filled-not _ _ task)
-    entry-called c (Some (Parameter mode m)) e clear some task type main entry = absurd (filled-not _ _ task)
-    entry-called c (Some (LoopParameter m)) e clear some task type main entry = absurd (filled-not _ _ task)
-    entry-called c (Some (Literal k)) e clear some task type main entry = absurd (filled-not _ _ task)
-    entry-called c (Some AnException) e clear some task type main entry = absurd (filled-not _ _ task)
-    entry-called c (Some AnotherUnit) e clear some task type main entry = absurd (filled-not _ _ task)
+    entry-called c (Some (TypeMark m)) e clear some task type main entry = absurd (not_empty _ _ task)
+    entry-called c (Some (Variable m)) e clear some task type main entry = absurd (not_empty _ _ task)
+    entry-called c (Some (ConstantObject m)) e clear some task type main entry = absurd (not_empty _ _ task)
+    entry-called c (Some (Parameter mode m)) e clear some task type main entry = absurd (not_empty _ _ task)
+    entry-called c (Some (LoopParameter m)) e clear some task type main entry = absurd (not_empty _ _ task)
+    entry-called c (Some (Literal k)) e clear some task type main entry = absurd (not_empty _ _ task)
+    entry-called c (Some AnException) e clear some task type main entry = absurd (not_empty _ _ task)
+    entry-called c (Some AnotherUnit) e clear some task type main entry = absurd (not_empty _ _ task)
 
     module _ (a : CheckScope) (around : Around Own s a) where
       -- an entry call, whose callee is neither main nor a task type
       pub call-own : (k : ℕ) (c : PCall) → main_entry a (check_addresses c.task.name) ≡ [] → AllByRecursion IsFit (call_sites s c) → EveryCall Q k c
       call-own k c e h = (
         callee-own k c.task front,
-        entry-called c (meaning s c.task.name.name) refl front.0.clear (known (meaning s c.task.name.name) front.0.met.known) (front-empty _ _ front.0.met.matched) type main back.0.met.known,
+        entry-called c (meaning s c.task.name.name) refl front.0.clear (known (meaning s c.task.name.name) front.0.met.known) (front_empty _ _ front.0.met.matched) type main back.0.met.known,
         if-some (args_sites s (called_entry (meaning s c.task.name.name) c.entry.name)) c.args (EveryArgs Q k) (args-own k _) back.1,
       )
         where
@@ -228,19 +228,19 @@ module _ (Own : ℕ → Type 0) (first : (k : ℕ) → k < 25 → Own k) where
           lists = if_there (args_sites s (called_entry (meaning s c.task.name.name) c.entry.name)) c.args
 
           front : AllByRecursion IsFit (callee_sites s c.task)
-          front = all-front IsFit (callee_sites s c.task) (site s (calls c) ∷ lists) h
+          front = all_front IsFit (callee_sites s c.task) (site s (calls c) ∷ lists) h
 
           back : AllByRecursion IsFit (site s (calls c) ∷ lists)
-          back = all-back IsFit (callee_sites s c.task) (site s (calls c) ∷ lists) h
+          back = all_back IsFit (callee_sites s c.task) (site s (calls c) ∷ lists) h
 
           known : (o : Option Thing) → (if is_some o then [] else c.task.name.span ∷ []) ≡ [] → is_some o ≡ true
           known o f = test-holds (is_some o) c.task.name.span f
 
           type : (es : List EntryPart) → meaning s c.task.name.name ≡ Some (TaskType es) → ⊥
-          type es f = filled-not c.task.name.span [] (ap (λ o. check_no_task o c.task.name.span) (sym (around.types c.task.name.name es f)) ∙ e)
+          type es f = not_empty c.task.name.span [] (ap (λ o. check_no_task o c.task.name.span) (sym (around.types c.task.name.name es f)) ∙ e)
 
           main : meaning s c.task.name.name ≡ Some MainProcedure → ⊥
-          main f = filled-not c.task.name.span [] (ap (λ o. check_no_task o c.task.name.span) (sym (around.main c.task.name.name f)) ∙ e)
+          main f = not_empty c.task.name.span [] (ap (λ o. check_no_task o c.task.name.span) (sym (around.main c.task.name.name f)) ∙ e)
 
     -- ---- texts
 
@@ -256,11 +256,11 @@ module _ (Own : ℕ → Type 0) (first : (k : ℕ) → k < 25 → Own k) where
 
     part-own : (k : ℕ) (alone : Bool) (x : PPart) → AllByRecursion IsFit (part_sites s alone x) → EveryPart Q k x
     part-own k alone (PWords t sp) h = tt
-    part-own k alone (PValue e) h = nodes-own k e (part-places e (all-front IsFit (part_nodes s e) (site s (is_written alone e) ∷ plain_part_sites s alone e) h.1))
+    part-own k alone (PValue e) h = nodes-own k e (part-places e (all_front IsFit (part_nodes s e) (site s (is_written alone e) ∷ plain_part_sites s alone e) h.1))
 
     parts-own : (k : ℕ) (alone : Bool) (ps : List PPart) → AllByRecursion IsFit (flat_map (part_sites s alone) ps) → AllByRecursion (EveryPart Q k) ps
     parts-own k alone [] h = tt
-    parts-own k alone (x ∷ ps) h = (part-own k alone x (all-front IsFit (part_sites s alone x) _ h), parts-own k alone ps (all-back IsFit (part_sites s alone x) _ h))
+    parts-own k alone (x ∷ ps) h = (part-own k alone x (all_front IsFit (part_sites s alone x) _ h), parts-own k alone ps (all_back IsFit (part_sites s alone x) _ h))
 
     pub text-own : (k : ℕ) (alone : Bool) (ps : List PPart) → AllByRecursion IsFit (flat_map (part_sites s alone) ps) → EveryText Q k ps
     text-own k alone ps h = (tt, All-from_recursion (EveryPart Q k) ps (parts-own k alone ps h))
@@ -270,14 +270,14 @@ module _ (Own : ℕ → Type 0) (first : (k : ℕ) → k < 25 → Own k) where
     choice-own : (k : ℕ) (o : Option ℕ) (range : Option Range) (c : PChoice) → AllByRecursion IsFit (choice_sites s o range c) → EveryChoice Q k c
     choice-own k o range c h =
         let last = λ (e : PExpr). static_of s o e ++ (site s (must_lie_in e range) ∷ site s (must_not_be_empty c.first e) ∷ []) in (
-          static-of-own k o c.first (all-front IsFit (static_of s o c.first) (site s (must_lie_in c.first range) ∷ if_there last c.last) h),
-          if-some last c.last (λ l. Unit {0} × EveryExpr Q k l) (λ e g. (tt, static-of-own k o e (all-front IsFit (static_of s o e) _ g)))
-              (all-back IsFit (static_of s o c.first) (site s (must_lie_in c.first range) ∷ if_there last c.last) h).1,
+          static-of-own k o c.first (all_front IsFit (static_of s o c.first) (site s (must_lie_in c.first range) ∷ if_there last c.last) h),
+          if-some last c.last (λ l. Unit {0} × EveryExpr Q k l) (λ e g. (tt, static-of-own k o e (all_front IsFit (static_of s o e) _ g)))
+              (all_back IsFit (static_of s o c.first) (site s (must_lie_in c.first range) ∷ if_there last c.last) h).1,
         )
 
     choices-list : (k : ℕ) (o : Option ℕ) (range : Option Range) (cs : List PChoice) → AllByRecursion IsFit (flat_map (choice_sites s o range) cs) → AllByRecursion (EveryChoice Q k) cs
     choices-list k o range [] h = tt
-    choices-list k o range (c ∷ cs) h = (choice-own k o range c (all-front IsFit (choice_sites s o range c) _ h), choices-list k o range cs (all-back IsFit (choice_sites s o range c) _ h))
+    choices-list k o range (c ∷ cs) h = (choice-own k o range c (all_front IsFit (choice_sites s o range c) _ h), choices-list k o range cs (all_back IsFit (choice_sites s o range c) _ h))
 
     pub choices-own : (k : ℕ) (o : Option ℕ) (range : Option Range) (cs : List PChoice) → AllByRecursion IsFit (flat_map (choice_sites s o range) cs) → All (EveryChoice Q k) cs
     choices-own k o range cs h = All-from_recursion (EveryChoice Q k) cs (choices-list k o range cs h)
@@ -287,8 +287,8 @@ module _ (Own : ℕ → Type 0) (first : (k : ℕ) → k < 25 → Own k) where
     formals-list : (formals : List PFormal) → AllByRecursion (OwnWord Own) (flat_map (λ f. f.names) formals) → AllByRecursion IsFit (formal_mark_sites s formals) → AllByRecursion (EveryFormal Q) formals
     formals-list [] w h = tt
     formals-list (f ∷ fs) w h = (
-      ((tt, All-from_recursion (EveryWord Q) f.names (all-front (OwnWord Own) f.names _ w)), seen Own s f.mark.name f.mark.span names h.0.met.known),
-      formals-list fs (all-back (OwnWord Own) f.names _ w) h.1,
+      ((tt, All-from_recursion (EveryWord Q) f.names (all_front (OwnWord Own) f.names _ w)), seen Own s f.mark.name f.mark.span names h.0.met.known),
+      formals-list fs (all_back (OwnWord Own) f.names _ w) h.1,
     )
 
     pub formals-own : (formals : List PFormal) → AllByRecursion (OwnWord Own) (flat_map (λ f. f.names) formals) → AllByRecursion IsFit (formal_mark_sites s formals) → All (EveryFormal Q) formals

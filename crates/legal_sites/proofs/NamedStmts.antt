@@ -26,9 +26,9 @@ use Rattle.syn_event.specs.CheckSites.{with_meant, formal_names, in_accept, in_l
 use Rattle.syn_event.specs.RuleReservedName.{is_reserved}
 use Rattle.syn_event.specs.RuleExitPlace.{is_left}
 use Rattle.legal_sites.specs.Met.{IsCheckMet}
-use Rattle.legal_sites.proofs.Meeting.{all-front, all-back}
 use Rattle.legal_sites.proofs.Around.{test-holds, test-fails, IsOther, OwnThing, OwnLoop, OwnWord, Around, seen, entry-somewhere, name-both, names-both, meant-joined}
 use Rattle.legal_sites.proofs.NamedParts.{IsFit, Q, expr-own, expr-of-own, drange-own, target-own, callee-own, call-own, text-own, choices-own, formals-own}
+use Rattle.common_lemmas.proofs.Lists.{all_back, all_front}
 
 module _ (Own : ℕ → Type 0) (first : (k : ℕ) → k < 25 → Own k) (texts : List (List ℕ)) (declared : (id : NameId) → is_reserved (text_of texts id) ≡ false → Own id.0) where
   abbrev R : Rules
@@ -66,8 +66,8 @@ module _ (Own : ℕ → Type 0) (first : (k : ℕ) → k < 25 → Own k) (texts 
       let thing = formal_thing f.mode (marking s f.mark.name) in
       let t = formal-thing f.mode (marking s f.mark.name) in
       subst (Around Own (with_formals (with_names thing s f.names) fs)) (sym (meant-joined meant.Inner a f.names (formal_names fs)))
-      (formals-around fs (with_names thing s f.names) (with_meant meant.Inner a f.names) (all-back (OwnWord Own) f.names (formal_names fs) o)
-      (names-both Own thing meant.Inner f.names s a (all-front (OwnWord Own) f.names (formal_names fs) o) t.0 t.1 h))
+      (formals-around fs (with_names thing s f.names) (with_meant meant.Inner a f.names) (all_back (OwnWord Own) f.names (formal_names fs) o)
+      (names-both Own thing meant.Inner f.names s a (all_front (OwnWord Own) f.names (formal_names fs) o) t.0 t.1 h))
 
   accept-around : (h : PHead) (s : Scope) (a : CheckScope) → AllByRecursion (OwnWord Own) (formal_names h.formals) → Around Own s a → Around Own (with_formals (inside s) h.formals) (in_accept a h)
   accept-around h s a o r =
@@ -120,20 +120,20 @@ module _ (Own : ℕ → Type 0) (first : (k : ℕ) → k < 25 → Own k) (texts 
         by_family : (f : Family) → AllByRecursion IsFit (accept_index_sites s (Some (record entry { family = f })) e) → EveryExpr R k e
         by_family single g = expr-own Own first s around.names k e g
         by_family unclear g = expr-own Own first s around.names k e g
-        by_family (family r) g = expr-of-own Own first s around.names k (Some r.kind) e (all-front IsFit (expr_of s (Some r.kind) e) _ g)
+        by_family (family r) g = expr-of-own Own first s around.names k (Some r.kind) e (all_front IsFit (expr_of s (Some r.kind) e) _ g)
 
     head-words : (j : ℕ) (h : PHead) → AllByRecursion M (check_head_sites a j h) → AllByRecursion (OwnWord Own) (formal_names h.formals)
     head-words j h m =
         words-own a (formal_names h.formals)
-        (all-back M (stands a j h.span ∷ check_site a (check_accepts h) ∷ check_if_there (check_expr_sites a (j + 1)) h.index) (check_names_sites a (formal_names h.formals)) m)
+        (all_back M (stands a j h.span ∷ check_site a (check_accepts h) ∷ check_if_there (check_expr_sites a (j + 1)) h.index) (check_names_sites a (formal_names h.formals)) m)
 
     head-own : (k j : ℕ) (h : PHead) → AllByRecursion IsFit (head_sites s h) → AllByRecursion M (check_head_sites a j h) → EveryHead R k h
     head-own k j h f m =
         let index = if_there (accept_index_sites s (entry_named s.own h.entry.name)) h.index in
-        let formals = all-back IsFit index (formals_sites s h.formals) f.1 in (
+        let formals = all_back IsFit index (formals_sites s h.formals) f.1 in (
           entry-somewhere Own s h.entry.name around.names around.own (test-holds _ h.entry.span f.0.met.known),
-          if-met (accept_index_sites s (entry_named s.own h.entry.name)) h.index (EveryExpr R (k + 1)) (λ e g. index-own (k + 1) (entry_named s.own h.entry.name) e g) (all-front IsFit index (formals_sites s h.formals) f.1),
-          formals-own Own first s around.names h.formals (head-words j h m) (all-back IsFit (names_sites false (inside s) (all_names h.formals)) (formal_mark_sites s h.formals) formals),
+          if-met (accept_index_sites s (entry_named s.own h.entry.name)) h.index (EveryExpr R (k + 1)) (λ e g. index-own (k + 1) (entry_named s.own h.entry.name) e g) (all_front IsFit index (formals_sites s h.formals) f.1),
+          formals-own Own first s around.names h.formals (head-words j h m) (all_back IsFit (names_sites false (inside s) (all_names h.formals)) (formal_mark_sites s h.formals) formals),
         )
 
     -- ---- loops and handlers
@@ -157,7 +157,7 @@ module _ (Own : ℕ → Type 0) (first : (k : ℕ) → k < 25 → Own k) (texts 
 
     callees-list : (k : ℕ) (cs : List PCallee) → AllByRecursion IsFit (flat_map (callee_sites s) cs) → AllByRecursion (EveryCallee R k) cs
     callees-list k [] h = tt
-    callees-list k (c ∷ cs) h = (callee-own Own first s around.names k c (all-front IsFit (callee_sites s c) _ h), callees-list k cs (all-back IsFit (callee_sites s c) _ h))
+    callees-list k (c ∷ cs) h = (callee-own Own first s around.names k c (all_front IsFit (callee_sites s c) _ h), callees-list k cs (all_back IsFit (callee_sites s c) _ h))
 
   -- ---- statements
 
@@ -170,8 +170,8 @@ module _ (Own : ℕ → Type 0) (first : (k : ℕ) → k < 25 → Own k) (texts 
     stmt-own (SNull sp) s a k j r h m = tt
     stmt-own (SAssign t e sp) s a k j r h m = (
       tt,
-      target-own Own first s r.names (k + 1) t (all-front IsFit (target_sites s t) (expr_of s (target_kind s t) e) h),
-      expr-of-own Own first s r.names (k + 1) (target_kind s t) e (all-back IsFit (target_sites s t) (expr_of s (target_kind s t) e) h),
+      target-own Own first s r.names (k + 1) t (all_front IsFit (target_sites s t) (expr_of s (target_kind s t) e) h),
+      expr-of-own Own first s r.names (k + 1) (target_kind s t) e (all_back IsFit (target_sites s t) (expr_of s (target_kind s t) e) h),
     )
     stmt-own (SDelay d sp) s a k j r h m = (tt, tt)
     stmt-own (SExit w e sp) s a k j r h m = (
@@ -189,42 +189,42 @@ module _ (Own : ℕ → Type 0) (first : (k : ℕ) → k < 25 → Own k) (texts 
         let maybe = check_maybe_sites a (j + 1) o in (
           tt,
           tt,
-          alts-own x s a (k + 1) (j + 1) r (all-front IsFit (alts_sites s x) (maybe_sites s o) h) (all-back M front alts (all-front M (front ++ alts) maybe m)),
-          maybe-own o s a (k + 1) (j + 1) r (all-back IsFit (alts_sites s x) (maybe_sites s o) h) (all-back M (front ++ alts) maybe m),
+          alts-own x s a (k + 1) (j + 1) r (all_front IsFit (alts_sites s x) (maybe_sites s o) h) (all_back M front alts (all_front M (front ++ alts) maybe m)),
+          maybe-own o s a (k + 1) (j + 1) r (all_back IsFit (alts_sites s x) (maybe_sites s o) h) (all_back M (front ++ alts) maybe m),
         )
     stmt-own (SConditional c b o sp) s a k j r h m =
         let front = stands a j sp ∷ check_select_sites a j c in
         let one = check_stmts_sites a (j + 1) b in
         let two = check_stmts_sites a (j + 1) o in
-        let behind = all-front IsFit (call_sites s c ++ stmts_sites s b) (stmts_sites s o) h in (
+        let behind = all_front IsFit (call_sites s c ++ stmts_sites s b) (stmts_sites s o) h in (
           tt,
           tt,
-          call-own Own first s r.names a r (k + 2) c m.1.1.0.main (all-front IsFit (call_sites s c) (stmts_sites s b) behind),
-          stmts-own b s a (k + 1) (j + 1) r (all-back IsFit (call_sites s c) (stmts_sites s b) behind) (all-back M front one (all-front M (front ++ one) two m)),
-          some-of (k + 1) o (stmts-own o s a (k + 1) (j + 1) r (all-back IsFit (call_sites s c ++ stmts_sites s b) (stmts_sites s o) h) (all-back M (front ++ one) two m)),
+          call-own Own first s r.names a r (k + 2) c m.1.1.0.main (all_front IsFit (call_sites s c) (stmts_sites s b) behind),
+          stmts-own b s a (k + 1) (j + 1) r (all_back IsFit (call_sites s c) (stmts_sites s b) behind) (all_back M front one (all_front M (front ++ one) two m)),
+          some-of (k + 1) o (stmts-own o s a (k + 1) (j + 1) r (all_back IsFit (call_sites s c ++ stmts_sites s b) (stmts_sites s o) h) (all_back M (front ++ one) two m)),
         )
     stmt-own (STimed c b d o sp) s a k j r h m =
         let front = stands a j sp ∷ check_select_sites a j c in
         let one = check_stmts_sites a (j + 1) b in
         let two = check_stmts_sites a (j + 1) o in
-        let behind = all-front IsFit (call_sites s c ++ stmts_sites s b) (stmts_sites s o) h in (
+        let behind = all_front IsFit (call_sites s c ++ stmts_sites s b) (stmts_sites s o) h in (
           tt,
           tt,
-          call-own Own first s r.names a r (k + 2) c m.1.1.0.main (all-front IsFit (call_sites s c) (stmts_sites s b) behind),
-          stmts-own b s a (k + 1) (j + 1) r (all-back IsFit (call_sites s c) (stmts_sites s b) behind) (all-back M front one (all-front M (front ++ one) two m)),
+          call-own Own first s r.names a r (k + 2) c m.1.1.0.main (all_front IsFit (call_sites s c) (stmts_sites s b) behind),
+          stmts-own b s a (k + 1) (j + 1) r (all_back IsFit (call_sites s c) (stmts_sites s b) behind) (all_back M front one (all_front M (front ++ one) two m)),
           tt,
-          stmts-own o s a (k + 1) (j + 1) r (all-back IsFit (call_sites s c ++ stmts_sites s b) (stmts_sites s o) h) (all-back M (front ++ one) two m),
+          stmts-own o s a (k + 1) (j + 1) r (all_back IsFit (call_sites s c ++ stmts_sites s b) (stmts_sites s o) h) (all_back M (front ++ one) two m),
         )
     stmt-own (SPut ps sp) s a k j r h m = (tt, text-own Own first s r.names (k + 1) (length ps == 1) ps h)
     stmt-own (SPutLine ps sp) s a k j r h m = (tt, text-own Own first s r.names (k + 1) false ps h)
     stmt-own (SNewLine sp) s a k j r h m = tt
-    stmt-own (SGet t sp) s a k j r h m = (tt, target-own Own first s r.names (k + 1) t (all-front IsFit (target_sites s t) (site s (gets t) ∷ []) h))
+    stmt-own (SGet t sp) s a k j r h m = (tt, target-own Own first s r.names (k + 1) t (all_front IsFit (target_sites s t) (site s (gets t) ∷ []) h))
     stmt-own (SIf x o sp) s a k j r h m =
         let front = stands a j sp ∷ check_arms_sites a (j + 1) x in (
           tt,
           tt,
-          arms-own x s a (k + 1) (j + 1) r (all-front IsFit (arms_sites s x) (maybe_sites s o) h) (all-front M front (check_maybe_sites a (j + 1) o) m).1,
-          maybe-own o s a (k + 1) (j + 1) r (all-back IsFit (arms_sites s x) (maybe_sites s o) h) (all-back M front (check_maybe_sites a (j + 1) o) m),
+          arms-own x s a (k + 1) (j + 1) r (all_front IsFit (arms_sites s x) (maybe_sites s o) h) (all_front M front (check_maybe_sites a (j + 1) o) m).1,
+          maybe-own o s a (k + 1) (j + 1) r (all_back IsFit (arms_sites s x) (maybe_sites s o) h) (all_back M front (check_maybe_sites a (j + 1) o) m),
         )
     stmt-own (SCase e x o sp) s a k j r h m =
         let front = stands a j sp ∷ check_expr_sites a (j + 1) e in
@@ -232,11 +232,11 @@ module _ (Own : ℕ → Type 0) (first : (k : ℕ) → k < 25 → Own k) (texts 
         let maybe = check_maybe_sites a (j + 1) o in
         let choose = site s (chooses e (choices_of x) (is_present o) sp) ∷ expr_sites s e in
         let choices = case_arms_sites s (kind_of s e) (selected_range s e) x in
-        let lower = all-front IsFit (choose ++ choices) (maybe_sites s o) h in (
+        let lower = all_front IsFit (choose ++ choices) (maybe_sites s o) h in (
           tt,
-          expr-own Own first s r.names (k + 1) e (all-front IsFit choose choices lower).1,
-          case-arms-own x s a (k + 1) (j + 1) (kind_of s e) (selected_range s e) r (all-back IsFit choose choices lower) (all-back M front arms (all-front M (front ++ arms) maybe m)),
-          maybe-own o s a (k + 1) (j + 1) r (all-back IsFit (choose ++ choices) (maybe_sites s o) h) (all-back M (front ++ arms) maybe m),
+          expr-own Own first s r.names (k + 1) e (all_front IsFit choose choices lower).1,
+          case-arms-own x s a (k + 1) (j + 1) (kind_of s e) (selected_range s e) r (all_back IsFit choose choices lower) (all_back M front arms (all_front M (front ++ arms) maybe m)),
+          maybe-own o s a (k + 1) (j + 1) r (all_back IsFit (choose ++ choices) (maybe_sites s o) h) (all_back M (front ++ arms) maybe m),
         )
     stmt-own (SBlock b sp) s a k j r h m = (tt, body-own b s a (k + 1) (j + 1) r h m.1)
     stmt-own (SLoop w c l sp) s a k j r h m =
@@ -244,24 +244,24 @@ module _ (Own : ℕ → Type 0) (first : (k : ℕ) → k < 25 → Own k) (texts 
         let front = stands a j sp ∷ check_if_there named w in
         let schemes = check_if_there (check_scheme_sites a (j + 1)) c in
         let inner = check_stmts_sites (in_loop a w c) (j + 1) l in
-        let lower = all-front M (front ++ schemes) inner m in
-        let label = if-checked named w (OwnWord Own) (λ x g. declared-own a x g.0) (all-front M front schemes lower).1 in
+        let lower = all_front M (front ++ schemes) inner m in
+        let label = if-checked named w (OwnWord Own) (λ x g. declared-own a x g.0) (all_front M front schemes lower).1 in
         let one = if_there (λ (x : Word). site s (labels x) ∷ []) w in
         let two = if_there (scheme_sites s) c in
         let three = stmts_sites (loop_scope s c) l in (
           tt,
           label,
-          schemes-own s a r (k + 1) c (j + 1) (all-back IsFit one two (all-front IsFit (one ++ two) three h)) (all-back M front schemes lower),
+          schemes-own s a r (k + 1) c (j + 1) (all_back IsFit one two (all_front IsFit (one ++ two) three h)) (all_back M front schemes lower),
           some-of (k + 1) l
-              (stmts-own l (loop_scope s c) (in_loop a w c) (k + 1) (j + 1) (loop-around w c s a label (parameter-own s a r c (j + 1) (all-back M front schemes lower)) r)
-              (all-back IsFit (one ++ two) three h) (all-back M (front ++ schemes) inner m)),
+              (stmts-own l (loop_scope s c) (in_loop a w c) (k + 1) (j + 1) (loop-around w c s a label (parameter-own s a r c (j + 1) (all_back M front schemes lower)) r)
+              (all_back IsFit (one ++ two) three h) (all_back M (front ++ schemes) inner m)),
         )
 
     stmts-own : (l : PStmts) (s : Scope) (a : CheckScope) (k j : ℕ) → Around Own s a → AllByRecursion IsFit (stmts_sites s l) → AllByRecursion M (check_stmts_sites a j l) → EveryStmts R k l
     stmts-own no_stmt s a k j r h m = tt
     stmts-own (stmt_then x l) s a k j r h m = (
-      stmt-own x s a k j r (all-front IsFit (stmt_sites s x) (stmts_sites s l) h) (all-front M (check_stmt_sites a j x) (check_stmts_sites a j l) m),
-      stmts-own l s a k j r (all-back IsFit (stmt_sites s x) (stmts_sites s l) h) (all-back M (check_stmt_sites a j x) (check_stmts_sites a j l) m),
+      stmt-own x s a k j r (all_front IsFit (stmt_sites s x) (stmts_sites s l) h) (all_front M (check_stmt_sites a j x) (check_stmts_sites a j l) m),
+      stmts-own l s a k j r (all_back IsFit (stmt_sites s x) (stmts_sites s l) h) (all_back M (check_stmt_sites a j x) (check_stmts_sites a j l) m),
     )
 
     maybe-own : (o : PMaybe) (s : Scope) (a : CheckScope) (k j : ℕ) → Around Own s a → AllByRecursion IsFit (maybe_sites s o) → AllByRecursion M (check_maybe_sites a j o) → EveryMaybe R k o
@@ -272,11 +272,11 @@ module _ (Own : ℕ → Type 0) (first : (k : ℕ) → k < 25 → Own k) (texts 
     accept-own (accepting x o) s a k j r h m =
         let inner = maybe_sites (with_formals (inside s) x.formals) o in
         let check = check_maybe_sites (in_accept a x) (j + 1) o in
-        let head = all-front M (check_head_sites a j x) check m in (
+        let head = all_front M (check_head_sites a j x) check m in (
           tt,
-          head-own s a r k j x (all-front IsFit (head_sites s x) inner h) head,
+          head-own s a r k j x (all_front IsFit (head_sites s x) inner h) head,
           maybe-own o (with_formals (inside s) x.formals) (in_accept a x) (k + 1) (j + 1) (accept-around x s a (head-words s a r j x head) r)
-              (all-back IsFit (head_sites s x) inner h) (all-back M (check_head_sites a j x) check m),
+              (all_back IsFit (head_sites s x) inner h) (all_back M (check_head_sites a j x) check m),
         )
 
     alts-own : (l : PAlts) (s : Scope) (a : CheckScope) (k j : ℕ) → Around Own s a → AllByRecursion IsFit (alts_sites s l) → AllByRecursion M (check_alts_sites a j l) → EveryAlts R k l
@@ -285,35 +285,35 @@ module _ (Own : ℕ → Type 0) (first : (k : ℕ) → k < 25 → Own k) (texts 
         let guard = if_there (condition s) g in
         let one = stands a j sp ∷ check_if_there (check_expr_sites a (j + 1)) g in
         let two = check_alt_sites a (j + 1) g sp x in
-        let lower = all-front IsFit (guard ++ alt_sites s x) (alts_sites s l) h in (
+        let lower = all_front IsFit (guard ++ alt_sites s x) (alts_sites s l) h in (
           (
             tt,
-            if-met (condition s) g (EveryExpr R (k + 1)) (λ e f. expr-of-own Own first s r.names (k + 1) (Some truth_kind) e f) (all-front IsFit guard (alt_sites s x) lower),
-            alt-own x g sp s a (k + 1) (j + 1) r (all-back IsFit guard (alt_sites s x) lower) (all-back M one two (all-front M (one ++ two) (check_alts_sites a j l) m)),
+            if-met (condition s) g (EveryExpr R (k + 1)) (λ e f. expr-of-own Own first s r.names (k + 1) (Some truth_kind) e f) (all_front IsFit guard (alt_sites s x) lower),
+            alt-own x g sp s a (k + 1) (j + 1) r (all_back IsFit guard (alt_sites s x) lower) (all_back M one two (all_front M (one ++ two) (check_alts_sites a j l) m)),
           ),
-          alts-own l s a k j r (all-back IsFit (guard ++ alt_sites s x) (alts_sites s l) h) (all-back M (one ++ two) (check_alts_sites a j l) m),
+          alts-own l s a k j r (all_back IsFit (guard ++ alt_sites s x) (alts_sites s l) h) (all_back M (one ++ two) (check_alts_sites a j l) m),
         )
 
     alt-own : (x : PAltKind) (g : Option PExpr) (sp : Span) (s : Scope) (a : CheckScope) (k j : ℕ) → Around Own s a → AllByRecursion IsFit (alt_sites s x) → AllByRecursion M (check_alt_sites a j g sp x) → EveryAltKind R k x
     alt-own (AAccept x l) g sp s a k j r h m = (
-      accept-own x s a k j r (all-front IsFit (accept_sites s x) (stmts_sites s l) h) (all-front M (check_accept_sites a j x) (check_stmts_sites a j l) m),
-      stmts-own l s a k j r (all-back IsFit (accept_sites s x) (stmts_sites s l) h) (all-back M (check_accept_sites a j x) (check_stmts_sites a j l) m),
+      accept-own x s a k j r (all_front IsFit (accept_sites s x) (stmts_sites s l) h) (all_front M (check_accept_sites a j x) (check_stmts_sites a j l) m),
+      stmts-own l s a k j r (all_back IsFit (accept_sites s x) (stmts_sites s l) h) (all_back M (check_accept_sites a j x) (check_stmts_sites a j l) m),
     )
-    alt-own (ADelay d l) g sp s a k j r h m = (tt, tt, stmts-own l s a k j r h (all-back M (delay_sites a j g sp) (check_stmts_sites a j l) m))
+    alt-own (ADelay d l) g sp s a k j r h m = (tt, tt, stmts-own l s a k j r h (all_back M (delay_sites a j g sp) (check_stmts_sites a j l) m))
     alt-own ATerminate g sp s a k j r h m = tt
 
     arms-own : (l : PArms) (s : Scope) (a : CheckScope) (k j : ℕ) → Around Own s a → AllByRecursion IsFit (arms_sites s l) → AllByRecursion M (check_arms_sites a j l) → EveryArms R k l
     arms-own no_arm s a k j r h m = tt
     arms-own (arm_then (arm e l) rest) s a k j r h m =
-        let lower = all-front IsFit (condition s e ++ stmts_sites s l) (arms_sites s rest) h in
+        let lower = all_front IsFit (condition s e ++ stmts_sites s l) (arms_sites s rest) h in
         let check = check_expr_sites a j e in (
           (
-            expr-of-own Own first s r.names k (Some truth_kind) e (all-front IsFit (condition s e) (stmts_sites s l) lower),
+            expr-of-own Own first s r.names k (Some truth_kind) e (all_front IsFit (condition s e) (stmts_sites s l) lower),
             some-of k l
-                (stmts-own l s a k j r (all-back IsFit (condition s e) (stmts_sites s l) lower)
-                (all-back M check (check_stmts_sites a j l) (all-front M (check ++ check_stmts_sites a j l) (check_arms_sites a j rest) m))),
+                (stmts-own l s a k j r (all_back IsFit (condition s e) (stmts_sites s l) lower)
+                (all_back M check (check_stmts_sites a j l) (all_front M (check ++ check_stmts_sites a j l) (check_arms_sites a j rest) m))),
           ),
-          arms-own rest s a k j r (all-back IsFit (condition s e ++ stmts_sites s l) (arms_sites s rest) h) (all-back M (check ++ check_stmts_sites a j l) (check_arms_sites a j rest) m),
+          arms-own rest s a k j r (all_back IsFit (condition s e ++ stmts_sites s l) (arms_sites s rest) h) (all_back M (check ++ check_stmts_sites a j l) (check_arms_sites a j rest) m),
         )
 
     case-arms-own : (l : PCaseArms) (s : Scope) (a : CheckScope) (k j : ℕ) (o : Option ℕ) (range : Option Range) → Around Own s a → AllByRecursion IsFit (case_arms_sites s o range l) → AllByRecursion M (check_case_arms_sites a j l) → EveryCaseArms R k l
@@ -321,23 +321,23 @@ module _ (Own : ℕ → Type 0) (first : (k : ℕ) → k < 25 → Own k) (texts 
     case-arms-own (case_arm_then (case_arm cs l) rest) s a k j o range r h m =
         let choices = flat_map (choice_sites s o range) cs in
         let behind = case_arms_sites s o range rest in
-        let lower = all-front IsFit (choices ++ stmts_sites s l) behind h in
+        let lower = all_front IsFit (choices ++ stmts_sites s l) behind h in
         let check = flat_map (check_choice_sites a j) cs in (
           (
             tt,
-            choices-own Own first s r.names k o range cs (all-front IsFit choices (stmts_sites s l) lower),
+            choices-own Own first s r.names k o range cs (all_front IsFit choices (stmts_sites s l) lower),
             some-of k l
-                (stmts-own l s a k j r (all-back IsFit choices (stmts_sites s l) lower)
-                (all-back M check (check_stmts_sites a j l) (all-front M (check ++ check_stmts_sites a j l) (check_case_arms_sites a j rest) m))),
+                (stmts-own l s a k j r (all_back IsFit choices (stmts_sites s l) lower)
+                (all_back M check (check_stmts_sites a j l) (all_front M (check ++ check_stmts_sites a j l) (check_case_arms_sites a j rest) m))),
           ),
-          case-arms-own rest s a k j o range r (all-back IsFit (choices ++ stmts_sites s l) behind h) (all-back M (check ++ check_stmts_sites a j l) (check_case_arms_sites a j rest) m),
+          case-arms-own rest s a k j o range r (all_back IsFit (choices ++ stmts_sites s l) behind h) (all_back M (check ++ check_stmts_sites a j l) (check_case_arms_sites a j rest) m),
         )
 
     pub body-own : (b : PBody) (s : Scope) (a : CheckScope) (k j : ℕ) → Around Own s a → AllByRecursion IsFit (body_sites s b) → AllByRecursion M (check_body_sites a j b) → EveryBody R k b
     body-own (body l hs) s a k j r h m = (
-      some-of k l (stmts-own l s a k j r (all-front IsFit (stmts_sites s l) (handlers_sites s [] hs) h) (all-front M (check_stmts_sites a j l) (check_handlers_sites a j hs) m)),
+      some-of k l (stmts-own l s a k j r (all_front IsFit (stmts_sites s l) (handlers_sites s [] hs) h) (all_front M (check_stmts_sites a j l) (check_handlers_sites a j hs) m)),
       tt,
-      handlers-own hs s a k j [] r (all-back IsFit (stmts_sites s l) (handlers_sites s [] hs) h) (all-back M (check_stmts_sites a j l) (check_handlers_sites a j hs) m),
+      handlers-own hs s a k j [] r (all_back IsFit (stmts_sites s l) (handlers_sites s [] hs) h) (all_back M (check_stmts_sites a j l) (check_handlers_sites a j hs) m),
     )
 
     handlers-own : (l : PHandlers) (s : Scope) (a : CheckScope) (k j : ℕ) (before : List ℕ) → Around Own s a → AllByRecursion IsFit (handlers_sites s before l) → AllByRecursion M (check_handlers_sites a j l) → EveryHandlers R k l
@@ -345,14 +345,14 @@ module _ (Own : ℕ → Type 0) (first : (k : ℕ) → k < 25 → Own k) (texts 
     handlers-own (handler_then (handler ws l sp) rest) s a k j before r h m =
         let raised = handler_names_sites s before ws in
         let behind = handlers_sites s (with_words before ws) rest in
-        let lower = all-front IsFit (raised ++ stmts_sites s l) behind h in
+        let lower = all_front IsFit (raised ++ stmts_sites s l) behind h in
         let one = stands a j sp ∷ check_stmts_sites (handling a) (j + 1) l in (
           (
             tt,
-            All-from_recursion (EveryWord R) ws (raised-list s a r before ws (all-front IsFit raised (stmts_sites s l) lower)),
+            All-from_recursion (EveryWord R) ws (raised-list s a r before ws (all_front IsFit raised (stmts_sites s l) lower)),
             some-of (k + 1) l
                 (stmts-own l s (handling a) (k + 1) (j + 1) record { names = r.names; own = r.own; loops = r.loops; types = r.types; main = r.main }
-                (all-back IsFit raised (stmts_sites s l) lower) (all-front M one (check_handlers_sites a j rest) m).1),
+                (all_back IsFit raised (stmts_sites s l) lower) (all_front M one (check_handlers_sites a j rest) m).1),
           ),
-          handlers-own rest s a k j (with_words before ws) r (all-back IsFit (raised ++ stmts_sites s l) behind h) (all-back M one (check_handlers_sites a j rest) m),
+          handlers-own rest s a k j (with_words before ws) r (all_back IsFit (raised ++ stmts_sites s l) behind h) (all_back M one (check_handlers_sites a j rest) m),
         )

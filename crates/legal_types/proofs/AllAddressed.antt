@@ -14,12 +14,13 @@ use Rattle.ada_tree.specs.Sites.{if_there, names_sites, expr_sites, static_of, s
 use Rattle.ada_tree.specs.Declaring.{first_scope, inside, in_body, with_types, declared_object, after_object, after_objects, after_decl, after_decls}
 use Rattle.rewritten_types.proofs.Adding.{names-main}
 use Rattle.legal_sites.specs.Met.{IsMet, IsAddressed}
-use Rattle.legal_sites.proofs.Meeting.{all_met, all-front, all-back}
+use Rattle.legal_sites.proofs.Meeting.{all_met}
 use Rattle.legal_types.specs.Typed.{IsSmall}
 use Rattle.legal_types.proofs.MainScopes.{Stands, StandsWhole, AllStand, AllBodies, main-stands, bodies-stand, last-stands}
 use Rattle.legal_types.proofs.InnerScopes.{AreApart, same-stands, inside-stands}
 use Rattle.legal_types.proofs.BodyScopes.{no-unclear, object-stands, body-stands}
 use Rattle.legal_types.proofs.AllClear.{IsClearScope, AllClear, clear-join, clear-flat, clear-if, clear-three, IsPlace, mets, aparts, expr-clear, static-clear, drange-clear, constraint-clear, names-clear, formals-clear, body-clear}
+use Rattle.common_lemmas.proofs.Lists.{all_back, all_front}
 
 module _ (s : Scope) (c : IsClearScope s) where
   value-clear : (r : Option Range) (e : PExpr) → AllClear (value_sites s r e)
@@ -94,9 +95,9 @@ module _ (T : TypeTable) where
   own-clear (decl_then (DObject ws constant shape init sp) rest) s main h k =
       let one = own_object_sites s (DObject ws constant shape init sp) in
       let more = own_sites (after_object s ws constant shape init) rest in
-      let known = all-front (IsPlace T) one more k in
+      let known = all_front (IsPlace T) one more k in
       clear-join one more (object-clear s (whole-clear s h) ws constant shape init)
-      (own-clear rest (after_object s ws constant shape init) (names-main _ ws (with_types _ s) ∙ main) (object-stands T s main h ws constant shape init (mets T one known) (aparts T one known)) (all-back _ one more k))
+      (own-clear rest (after_object s ws constant shape init) (names-main _ ws (with_types _ s) ∙ main) (object-stands T s main h ws constant shape init (mets T one known) (aparts T one known)) (all_back _ one more k))
   own-clear (decl_then (DNumber w e sp) rest) s main h k = own-clear rest s main h k
   own-clear (decl_then (DEnumeration w ws sp) rest) s main h k = own-clear rest s main h k
   own-clear (decl_then (DArray w i x sp) rest) s main h k = own-clear rest s main h k
@@ -119,33 +120,33 @@ module _ (T : TypeTable) where
       let more = decls_sites (after_decl s (DTaskBody w objects its sp)) rest in
       let own = own_sites (in_body s w) objects in
       let inner = body_sites (inside (after_objects (in_body s w) objects)) its in
-      let known = all-front (IsPlace T) one more k in
+      let known = all_front (IsPlace T) one more k in
       let known1 : Known (own ++ inner) = known.1 in
       clear-join one more (
         main-clear s h.0,
-        clear-join own inner (own-clear objects (in_body s w) refl (same-stands T s (in_body s w) refl (λ id. refl) b.0) (all-front _ own inner known1))
-            (body-clear T its (inside (after_objects (in_body s w) objects)) (body-stands T s w objects its sp b.0 (mets T one known) (aparts T one known)) (all-back _ own inner known1)),
+        clear-join own inner (own-clear objects (in_body s w) refl (same-stands T s (in_body s w) refl (λ id. refl) b.0) (all_front _ own inner known1))
+            (body-clear T its (inside (after_objects (in_body s w) objects)) (body-stands T s w objects its sp b.0 (mets T one known) (aparts T one known)) (all_back _ own inner known1)),
       )
-      (decls-clear rest (after_decl s (DTaskBody w objects its sp)) h.2 b.1 (all-back _ one more k))
+      (decls-clear rest (after_decl s (DTaskBody w objects its sp)) h.2 b.1 (all_back _ one more k))
   decls-clear (decl_then (DNumber w e sp) rest) s h b k =
-      let c = main-clear s h.0 in clear-join (decl_sites s (DNumber w e sp)) _ (c, static-clear s c (Some integer_kind) e) (decls-clear rest _ h.2 b (all-back _ (decl_sites s (DNumber w e sp)) _ k))
+      let c = main-clear s h.0 in clear-join (decl_sites s (DNumber w e sp)) _ (c, static-clear s c (Some integer_kind) e) (decls-clear rest _ h.2 b (all_back _ (decl_sites s (DNumber w e sp)) _ k))
   decls-clear (decl_then (DObject ws x shape init sp) rest) s h b k =
-      clear-join (decl_sites s (DObject ws x shape init sp)) _ (object-clear s (main-clear s h.0) ws x shape init) (decls-clear rest _ h.2 b (all-back _ (decl_sites s (DObject ws x shape init sp)) _ k))
+      clear-join (decl_sites s (DObject ws x shape init sp)) _ (object-clear s (main-clear s h.0) ws x shape init) (decls-clear rest _ h.2 b (all_back _ (decl_sites s (DObject ws x shape init sp)) _ k))
   decls-clear (decl_then (DEnumeration w ws sp) rest) s h b k =
-      clear-join (decl_sites s (DEnumeration w ws sp)) _ (words-clear s (main-clear s h.0) true (w ∷ ws)) (decls-clear rest _ h.2 b (all-back _ (decl_sites s (DEnumeration w ws sp)) _ k))
+      clear-join (decl_sites s (DEnumeration w ws sp)) _ (words-clear s (main-clear s h.0) true (w ∷ ws)) (decls-clear rest _ h.2 b (all_back _ (decl_sites s (DEnumeration w ws sp)) _ k))
   decls-clear (decl_then (DArray w i x sp) rest) s h b k =
       let c = main-clear s h.0 in
-      clear-join (decl_sites s (DArray w i x sp)) _ (c, clear-join (drange_sites true s i) _ (drange-clear s c true i) (subind-clear s c scalar_only x)) (decls-clear rest _ h.2 b (all-back _ (decl_sites s (DArray w i x sp)) _ k))
+      clear-join (decl_sites s (DArray w i x sp)) _ (c, clear-join (drange_sites true s i) _ (drange-clear s c true i) (subind-clear s c scalar_only x)) (decls-clear rest _ h.2 b (all_back _ (decl_sites s (DArray w i x sp)) _ k))
   decls-clear (decl_then (DSubtype w x sp) rest) s h b k =
-      let c = main-clear s h.0 in clear-join (decl_sites s (DSubtype w x sp)) _ (c, subind-clear s c scalar_only x) (decls-clear rest _ h.2 b (all-back _ (decl_sites s (DSubtype w x sp)) _ k))
+      let c = main-clear s h.0 in clear-join (decl_sites s (DSubtype w x sp)) _ (c, subind-clear s c scalar_only x) (decls-clear rest _ h.2 b (all_back _ (decl_sites s (DSubtype w x sp)) _ k))
   decls-clear (decl_then (DException ws sp) rest) s h b k =
-      clear-join (decl_sites s (DException ws sp)) _ (words-clear s (main-clear s h.0) true ws) (decls-clear rest _ h.2 b (all-back _ (decl_sites s (DException ws sp)) _ k))
+      clear-join (decl_sites s (DException ws sp)) _ (words-clear s (main-clear s h.0) true ws) (decls-clear rest _ h.2 b (all_back _ (decl_sites s (DException ws sp)) _ k))
   decls-clear (decl_then (DIntIo w sp) rest) s h b k =
-      let c = main-clear s h.0 in clear-join (decl_sites s (DIntIo w sp)) _ (c, (c, tt)) (decls-clear rest _ h.2 b (all-back _ (decl_sites s (DIntIo w sp)) _ k))
+      let c = main-clear s h.0 in clear-join (decl_sites s (DIntIo w sp)) _ (c, (c, tt)) (decls-clear rest _ h.2 b (all_back _ (decl_sites s (DIntIo w sp)) _ k))
   decls-clear (decl_then (DPragma e sp) rest) s h b k =
-      clear-join (decl_sites s (DPragma e sp)) _ (static-clear s (main-clear s h.0) (Some integer_kind) e) (decls-clear rest _ h.2 b (all-back _ (decl_sites s (DPragma e sp)) _ k))
+      clear-join (decl_sites s (DPragma e sp)) _ (static-clear s (main-clear s h.0) (Some integer_kind) e) (decls-clear rest _ h.2 b (all_back _ (decl_sites s (DPragma e sp)) _ k))
   decls-clear (decl_then (DTask t sp) rest) s h b k =
-      clear-join (decl_sites s (DTask t sp)) _ (task-clear s (main-clear s h.0) t) (decls-clear rest _ h.2 b (all-back _ (decl_sites s (DTask t sp)) _ k))
+      clear-join (decl_sites s (DTask t sp)) _ (task-clear s (main-clear s h.0) t) (decls-clear rest _ h.2 b (all_back _ (decl_sites s (DTask t sp)) _ k))
 
 -- ---- whole programs
 
@@ -172,6 +173,6 @@ callees-told p rules placed small apart =
     let known : AllByRecursion (IsPlace T) (ds ++ inner) = (both T (sites p) (all_met p rules) apart).1 in (
       tt,
       all-addressed (ds ++ inner)
-          (clear-join ds inner (decls-clear T p.decls s (main-stands p rules placed small) (bodies-stand p rules placed small) (all-front _ ds inner known))
-          (body-clear T p.body last (inside-stands T (after_decls s p.decls) (last-stands p rules placed small)) (all-back _ ds inner known))),
+          (clear-join ds inner (decls-clear T p.decls s (main-stands p rules placed small) (bodies-stand p rules placed small) (all_front _ ds inner known))
+          (body-clear T p.body last (inside-stands T (after_decls s p.decls) (last-stands p rules placed small)) (all_back _ ds inner known))),
     )

@@ -17,13 +17,12 @@ use Rattle.ada_tree.specs.RuleChoiceBad.{selected_range}
 use Rattle.ada_tree.specs.Demand.{node, labels, must_be_of, Site}
 use Rattle.ada_tree.specs.Sites.{site, if_there, names_sites, expr_sites, part_nodes, expr_of, static_of, static_if, bounds_sites, constraint_sites, mark_sites, drange_sites, condition, all_names, formals_sites, callee_sites, written_actual_sites, actual_sites, actuals_sites, free_args_sites, args_sites, call_sites, accept_index_sites, head_sites, plain_part_sites, part_sites, target_sites, choice_sites, handler_names_sites, with_words, scheme_sites, loop_scope, stmt_sites, stmts_sites, maybe_sites, accept_sites, alts_sites, alt_sites, arms_sites, case_arms_sites, body_sites, handlers_sites}
 use Rattle.ada_tree.specs.Declaring.{inside, with_formals}
-use Rattle.rewritten_types.proofs.Lookups.{all-append}
 use Rattle.legal_sites.specs.Met.{IsMet}
-use Rattle.legal_sites.proofs.Meeting.{all-front, all-back}
 use Rattle.legal_types.proofs.MainScopes.{StandsWhole}
 use Rattle.legal_types.proofs.InnerScopes.{IsApartLocal, AreApart, accept-stands}
 use Rattle.legal_types.proofs.LoopScopes.{loop-stands}
 use Rattle.legal_types.proofs.BodyScopes.{no-unclear}
+use Rattle.common_lemmas.proofs.Lists.{all_back, all_front, all_joined}
 
 -- no name is unclear there
 abbrev pub IsClearScope : Scope → Type 0
@@ -33,7 +32,7 @@ abbrev pub AllClear : List Site → Type 0
 AllClear xs = AllByRecursion (λ (x : Site). IsClearScope x.scope) xs
 
 pub clear-join : (xs ys : List Site) → AllClear xs → AllClear ys → AllClear (xs ++ ys)
-clear-join xs ys h k = all-append (λ (x : Site). IsClearScope x.scope) xs ys h k
+clear-join xs ys h k = all_joined (λ (x : Site). IsClearScope x.scope) xs ys h k
 
 pub clear-flat : {A : Type 0} (f : A → List Site) → ((x : A) → AllClear (f x)) → (xs : List A) → AllClear (flat_map f xs)
 clear-flat f h [] = tt
@@ -175,13 +174,13 @@ module _ (s : Scope) (c : IsClearScope s) where
 -- ---- three parts of a list
 
 pub first-of : {A : Type 0} (P : A → Type 0) (xs ys zs : List A) → AllByRecursion P (xs ++ ys ++ zs) → AllByRecursion P xs
-first-of P xs ys zs h = all-front P xs ys (all-front P (xs ++ ys) zs h)
+first-of P xs ys zs h = all_front P xs ys (all_front P (xs ++ ys) zs h)
 
 pub second-of : {A : Type 0} (P : A → Type 0) (xs ys zs : List A) → AllByRecursion P (xs ++ ys ++ zs) → AllByRecursion P ys
-second-of P xs ys zs h = all-back P xs ys (all-front P (xs ++ ys) zs h)
+second-of P xs ys zs h = all_back P xs ys (all_front P (xs ++ ys) zs h)
 
 pub third-of : {A : Type 0} (P : A → Type 0) (xs ys zs : List A) → AllByRecursion P (xs ++ ys ++ zs) → AllByRecursion P zs
-third-of P xs ys zs h = all-back P (xs ++ ys) zs h
+third-of P xs ys zs h = all_back P (xs ++ ys) zs h
 
 pub clear-three : (xs ys zs : List Site) → AllClear xs → AllClear ys → AllClear zs → AllClear (xs ++ ys ++ zs)
 clear-three xs ys zs h k l = clear-join (xs ++ ys) zs (clear-join xs ys h k) l
@@ -217,7 +216,7 @@ module _ (T : TypeTable) where
     stmt-clear (SAbort cs sp) s h k = clear-flat (callee_sites s) (callee-clear s (clear-of s h)) cs
     stmt-clear (SCall x sp) s h k = call-clear s (clear-of s h) x
     stmt-clear (SAccept a sp) s h k = accept-clear a s h k
-    stmt-clear (SWait x o sp) s h k = clear-join (alts_sites s x) (maybe_sites s o) (alts-clear x s h (all-front _ (alts_sites s x) (maybe_sites s o) k)) (maybe-clear o s h (all-back _ (alts_sites s x) (maybe_sites s o) k))
+    stmt-clear (SWait x o sp) s h k = clear-join (alts_sites s x) (maybe_sites s o) (alts-clear x s h (all_front _ (alts_sites s x) (maybe_sites s o) k)) (maybe-clear o s h (all_back _ (alts_sites s x) (maybe_sites s o) k))
     stmt-clear (SConditional x b o sp) s h k =
         clear-three (call_sites s x) (stmts_sites s b) (stmts_sites s o) (call-clear s (clear-of s h) x) (stmts-clear b s h (second-of _ (call_sites s x) (stmts_sites s b) (stmts_sites s o) k)) (stmts-clear o s h (third-of _ (call_sites s x) (stmts_sites s b) (stmts_sites s o) k))
     stmt-clear (STimed x b d a sp) s h k =
@@ -226,7 +225,7 @@ module _ (T : TypeTable) where
     stmt-clear (SPutLine ps sp) s h k = clear-flat _ (part-clear s (clear-of s h) false) ps
     stmt-clear (SNewLine sp) s h k = tt
     stmt-clear (SGet t sp) s h k = clear-join (target_sites s t) _ (target-clear s (clear-of s h) t) (clear-of s h, tt)
-    stmt-clear (SIf x o sp) s h k = clear-join (arms_sites s x) (maybe_sites s o) (arms-clear x s h (all-front _ (arms_sites s x) (maybe_sites s o) k)) (maybe-clear o s h (all-back _ (arms_sites s x) (maybe_sites s o) k))
+    stmt-clear (SIf x o sp) s h k = clear-join (arms_sites s x) (maybe_sites s o) (arms-clear x s h (all_front _ (arms_sites s x) (maybe_sites s o) k)) (maybe-clear o s h (all_back _ (arms_sites s x) (maybe_sites s o) k))
     stmt-clear (SCase e x o sp) s h k =
         let arms = case_arms_sites s (kind_of s e) (selected_range s e) x in (
           clear-of s h,
@@ -243,7 +242,7 @@ module _ (T : TypeTable) where
 
     stmts-clear : (l : PStmts) (s : Scope) → StandsWhole T s → Known (stmts_sites s l) → AllClear (stmts_sites s l)
     stmts-clear no_stmt s h k = tt
-    stmts-clear (stmt_then x l) s h k = clear-join (stmt_sites s x) (stmts_sites s l) (stmt-clear x s h (all-front _ (stmt_sites s x) (stmts_sites s l) k)) (stmts-clear l s h (all-back _ (stmt_sites s x) (stmts_sites s l) k))
+    stmts-clear (stmt_then x l) s h k = clear-join (stmt_sites s x) (stmts_sites s l) (stmt-clear x s h (all_front _ (stmt_sites s x) (stmts_sites s l) k)) (stmts-clear l s h (all_back _ (stmt_sites s x) (stmts_sites s l) k))
 
     maybe-clear : (o : PMaybe) (s : Scope) → StandsWhole T s → Known (maybe_sites s o) → AllClear (maybe_sites s o)
     maybe-clear absent s h k = tt
@@ -252,9 +251,9 @@ module _ (T : TypeTable) where
     accept-clear : (a : PAccept) (s : Scope) → StandsWhole T s → Known (accept_sites s a) → AllClear (accept_sites s a)
     accept-clear (accepting d o) s h k =
         let inner = with_formals (inside s) d.formals in
-        let known = all-front (IsPlace T) (head_sites s d) (maybe_sites inner o) k in
+        let known = all_front (IsPlace T) (head_sites s d) (maybe_sites inner o) k in
         clear-join (head_sites s d) (maybe_sites inner o) (head-clear s (clear-of s h) d)
-        (maybe-clear o inner (accept-stands T s d h (mets T (head_sites s d) known) (aparts T (head_sites s d) known)) (all-back _ (head_sites s d) (maybe_sites inner o) k))
+        (maybe-clear o inner (accept-stands T s d h (mets T (head_sites s d) known) (aparts T (head_sites s d) known)) (all_back _ (head_sites s d) (maybe_sites inner o) k))
 
     alts-clear : (l : PAlts) (s : Scope) → StandsWhole T s → Known (alts_sites s l) → AllClear (alts_sites s l)
     alts-clear no_alt s h k = tt
@@ -263,7 +262,7 @@ module _ (T : TypeTable) where
         clear-three guard (alt_sites s x) (alts_sites s l) (clear-if (condition s) (of-clear s (clear-of s h) (Some truth_kind)) g) (alt-clear x s h (second-of _ guard (alt_sites s x) (alts_sites s l) k)) (alts-clear l s h (third-of _ guard (alt_sites s x) (alts_sites s l) k))
 
     alt-clear : (x : PAltKind) (s : Scope) → StandsWhole T s → Known (alt_sites s x) → AllClear (alt_sites s x)
-    alt-clear (AAccept a l) s h k = clear-join (accept_sites s a) (stmts_sites s l) (accept-clear a s h (all-front _ (accept_sites s a) (stmts_sites s l) k)) (stmts-clear l s h (all-back _ (accept_sites s a) (stmts_sites s l) k))
+    alt-clear (AAccept a l) s h k = clear-join (accept_sites s a) (stmts_sites s l) (accept-clear a s h (all_front _ (accept_sites s a) (stmts_sites s l) k)) (stmts-clear l s h (all_back _ (accept_sites s a) (stmts_sites s l) k))
     alt-clear (ADelay d l) s h k = stmts-clear l s h k
     alt-clear ATerminate s h k = tt
 
@@ -279,7 +278,7 @@ module _ (T : TypeTable) where
         clear-three choices (stmts_sites s l) (case_arms_sites s n r rest) (clear-flat (choice_sites s n r) (choice-clear s (clear-of s h) n r) cs) (stmts-clear l s h (second-of _ choices (stmts_sites s l) (case_arms_sites s n r rest) k)) (case-arms-clear rest n r s h (third-of _ choices (stmts_sites s l) (case_arms_sites s n r rest) k))
 
     pub body-clear : (b : PBody) (s : Scope) → StandsWhole T s → Known (body_sites s b) → AllClear (body_sites s b)
-    body-clear (body l hs) s h k = clear-join (stmts_sites s l) (handlers_sites s [] hs) (stmts-clear l s h (all-front _ (stmts_sites s l) (handlers_sites s [] hs) k)) (handlers-clear hs [] s h (all-back _ (stmts_sites s l) (handlers_sites s [] hs) k))
+    body-clear (body l hs) s h k = clear-join (stmts_sites s l) (handlers_sites s [] hs) (stmts-clear l s h (all_front _ (stmts_sites s l) (handlers_sites s [] hs) k)) (handlers-clear hs [] s h (all_back _ (stmts_sites s l) (handlers_sites s [] hs) k))
 
     handlers-clear : (l : PHandlers) (ns : List ℕ) (s : Scope) → StandsWhole T s → Known (handlers_sites s ns l) → AllClear (handlers_sites s ns l)
     handlers-clear no_handler ns s h k = tt

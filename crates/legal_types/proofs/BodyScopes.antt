@@ -20,14 +20,12 @@ use Rattle.ada_tree.specs.Declaring.{inside, in_body, with_types, Made, made_ran
 use Rattle.ada_value.specs.Values.{limits_or, limits_named}
 use Rattle.ada_value.specs.StaticLaw.{HasSmallLiterals}
 use Rattle.rewritten_types.specs.Agreement.{Keeps, Sound}
-use Rattle.rewritten_types.proofs.Lookups.{place-last}
 use Rattle.rewritten_types.proofs.Keeping.{keeps-on}
 use Rattle.rewritten_types.proofs.Adding.{names-types, names-main, keeps-shape}
 use Rattle.rewritten_types.proofs.Soundness.{sound-decl}
 use Rattle.rewritten_values.specs.Values.{is_known}
 use Rattle.legal_sites.specs.Met.{IsMet}
-use Rattle.legal_sites.proofs.Meeting.{all-front, all-back}
-use Rattle.legal_types.proofs.ExprKinds.{LeadsOn, IsClearThing, told, scalar-mark}
+use Rattle.legal_types.proofs.ExprKinds.{LeadsOn, IsClearThing, scalar-mark}
 use Rattle.legal_types.proofs.StaticParts.{IsStaticIn, static-told, AreBounds, HasSubtype, HasRange, met-kind, raise-free, mark-bounds, drange-met}
 use Rattle.legal_types.proofs.TypedValues.{anybody}
 use Rattle.legal_types.proofs.StaticWorth.{IsWorth, keeps-agrees, static-same, worth}
@@ -38,6 +36,8 @@ use Rattle.legal_types.proofs.LaterScopes.{over-more}
 use Rattle.legal_types.proofs.MainScopes.{StandsWhole, AllBodies}
 use Rattle.legal_types.proofs.InnerScopes.{AreApart, names-apart, names-stand, same-stands, inside-stands}
 use Rattle.legal_types.proofs.TaskTypes.{name-here}
+use Rattle.common_lemmas.proofs.Lists.{all_back, all_front, last_at}
+use Rattle.legal_sites.proofs.Around.{test-holds}
 
 -- ---- marks that are made
 
@@ -63,7 +63,7 @@ subind-light s x h = subst (λ m. HasLight (subind_made s m x.bounds)) (sym h.ma
         (record {
           place = length s.types.marks;
           made = refl;
-          leads = record { mark = record { name = None; kind = k; first = q.0.value; last = q.1.value }; there = place-last s.types.marks _; kind = h.mark.leads.kind; known = h.mark.leads.known };
+          leads = record { mark = record { name = None; kind = k; first = q.0.value; last = q.1.value }; there = last_at s.types.marks _; kind = h.mark.leads.kind; known = h.mark.leads.known };
         })
 
 drange-light : (s : Scope) (r : PDrange) → HasRange s r → (range : Range) × (drange_range s r ≡ Some range)
@@ -84,9 +84,9 @@ array-light d o range e h =
       made = refl;
       leads = record {
         mark = record { name = None; kind = length d.types.kinds; first = range.first; last = range.last };
-        there = place-last d.types.marks _;
+        there = last_at d.types.marks _;
         kind = Array range.kind range.first range.last h.place;
-        known = place-last d.types.kinds _;
+        known = last_at d.types.kinds _;
       };
     }))
 
@@ -112,8 +112,8 @@ module _ (T : TypeTable) (s : Scope) (main : s.in_main ≡ false) (h : StandsWho
   plain-inner : (constant : Bool) (x : PSubind) → AllByRecursion IsMet (subind_sites true (object_marks false x.bounds) s x) → IsObject (plain_object s constant (marking s x.mark.name) x).types (plain_object s constant (marking s x.mark.name) x).thing
   plain-inner constant x met =
       let m = met.0 in
-      let known = told (is_some (meaning s x.mark.name)) x.mark.span m.known in
-      by_marking (marking s x.mark.name) refl known (told (is_allowed (object_marks false x.bounds) (marking s x.mark.name)) x.mark.span m.matched) (name-marked s h.stands.over.clear x.mark.name known)
+      let known = test-holds (is_some (meaning s x.mark.name)) x.mark.span m.known in
+      by_marking (marking s x.mark.name) refl known (test-holds (is_allowed (object_marks false x.bounds) (marking s x.mark.name)) x.mark.span m.matched) (name-marked s h.stands.over.clear x.mark.name known)
     where
       array-object : (b : Bool) (m : ℕ) → LeadsOn s.types m → IsObject s.types (object_of b (Some m))
       array-object true m l = l
@@ -131,8 +131,8 @@ module _ (T : TypeTable) (s : Scope) (main : s.in_main ≡ false) (h : StandsWho
       IsObject (array_object s constant (marking s x.mark.name) index x).types (array_object s constant (marking s x.mark.name) index x).thing
   row-inner constant index x mets met =
       let m = met.0 in
-      let known = told (is_some (meaning s x.mark.name)) x.mark.span m.known in
-      by_marking (marking s x.mark.name) refl known (told (is_allowed scalar_only (marking s x.mark.name)) x.mark.span m.matched) (name-marked s h.stands.over.clear x.mark.name known)
+      let known = test-holds (is_some (meaning s x.mark.name)) x.mark.span m.known in
+      by_marking (marking s x.mark.name) refl known (test-holds (is_allowed scalar_only (marking s x.mark.name)) x.mark.span m.matched) (name-marked s h.stands.over.clear x.mark.name known)
     where
       range : (r : Range) × (drange_range s index ≡ Some r)
       range = drange-light s index (drange-met s h.stands.over.clear index mets)
@@ -154,8 +154,8 @@ module _ (T : TypeTable) (s : Scope) (main : s.in_main ≡ false) (h : StandsWho
       plain-inner constant x (subst (λ b. AllByRecursion IsMet (subind_sites true (object_marks b x.bounds) s x)) (no-task constant x.bounds init) met)
   shape-inner constant (OArray index x) init met =
       let sub = subind_sites true (component_marks (may_be_task s constant x.bounds init)) s x in
-      row-inner constant index x (all-front IsMet (drange_sites true s index) sub met)
-      (subst (λ b. AllByRecursion IsMet (subind_sites true (component_marks b) s x)) (no-task constant x.bounds init) (all-back IsMet (drange_sites true s index) sub met))
+      row-inner constant index x (all_front IsMet (drange_sites true s index) sub met)
+      (subst (λ b. AllByRecursion IsMet (subind_sites true (component_marks b) s x)) (no-task constant x.bounds init) (all_back IsMet (drange_sites true s index) sub met))
 
   -- behind the objects of one declaration
   pub object-stands : (ws : List Word) (constant : Bool) (shape : PShape) (init : Option PInit) → AllByRecursion IsMet (object_sites s ws constant shape init (declared_object s constant shape)) → AreApart T (object_sites s ws constant shape init (declared_object s constant shape)) → StandsWhole T (after_object s ws constant shape init)
@@ -164,8 +164,8 @@ module _ (T : TypeTable) (s : Scope) (main : s.in_main ≡ false) (h : StandsWho
       let first : List Site = names_sites (s.in_main && fixed) s ws in
       let second : List Site = shape_sites s constant shape init in
       let third : List Site = if_there (init_sites s d.types (object_marking d)) init in
-      let object : IsObject d.types d.thing = shape-inner constant shape init (all-back IsMet first second (all-front IsMet (first ++ second) third met)) in
-      let names : AreApart T (names_sites false s ws) = subst (λ b. AreApart T (names_sites (b && fixed) s ws)) main (all-front _ first second (all-front _ (first ++ second) third apart)) in
+      let object : IsObject d.types d.thing = shape-inner constant shape init (all_back IsMet first second (all_front IsMet (first ++ second) third met)) in
+      let names : AreApart T (names_sites false s ws) = subst (λ b. AreApart T (names_sites (b && fixed) s ws)) main (all_front _ first second (all_front _ (first ++ second) third apart)) in
       names-stand T d.thing ws (with_types U s) (names-apart T ws s names) (subst (λ V. IsClearThing V d.thing) (sym same) (object-clear d.types d.thing object)) (λ j e. subst (IsObject d.types) e object) typed
     where
       d : Declared
@@ -204,8 +204,8 @@ own-stands T (decl_then (DObject ws constant shape init sp) rest) s main h met a
     let one = own_object_sites s (DObject ws constant shape init sp) in
     let more = own_sites (after_object s ws constant shape init) rest in
     own-stands T rest (after_object s ws constant shape init) (names-main _ ws (with_types _ s) ∙ main)
-    (object-stands T s main h ws constant shape init (all-front IsMet one more met) (all-front _ one more apart))
-    (all-back IsMet one more met) (all-back _ one more apart)
+    (object-stands T s main h ws constant shape init (all_front IsMet one more met) (all_front _ one more apart))
+    (all_back IsMet one more met) (all_back _ one more apart)
 own-stands T (decl_then (DNumber w e sp) rest) s main h met apart = own-stands T rest s main h met apart
 own-stands T (decl_then (DEnumeration w ws sp) rest) s main h met apart = own-stands T rest s main h met apart
 own-stands T (decl_then (DArray w i x sp) rest) s main h met apart = own-stands T rest s main h met apart
@@ -225,7 +225,7 @@ body-stands T s w objects its sp h met apart =
     let met1 : AllByRecursion IsMet (own ++ body) = met.1 in
     let apart1 : AreApart T (own ++ body) = apart.1 in
     inside-stands T (after_objects (in_body s w) objects)
-    (own-stands T objects (in_body s w) refl (same-stands T s (in_body s w) refl (λ id. refl) h) (all-front IsMet own body met1) (all-front _ own body apart1))
+    (own-stands T objects (in_body s w) refl (same-stands T s (in_body s w) refl (λ id. refl) h) (all_front IsMet own body met1) (all_front _ own body apart1))
 
 -- So it is with each body among declarations.
 abbrev pub BodiesStand : TypeTable → Scope → PDecls → Type 0
@@ -238,18 +238,18 @@ bodies-all T no_decl s h met apart = tt
 bodies-all T (decl_then (DTaskBody w objects its sp) rest) s h met apart =
     let one = decl_sites s (DTaskBody w objects its sp) in
     let more = decls_sites (after_decl s (DTaskBody w objects its sp)) rest in (
-      body-stands T s w objects its sp h.0 (all-front IsMet one more met) (all-front _ one more apart),
-      bodies-all T rest (after_decl s (DTaskBody w objects its sp)) h.1 (all-back IsMet one more met) (all-back _ one more apart),
+      body-stands T s w objects its sp h.0 (all_front IsMet one more met) (all_front _ one more apart),
+      bodies-all T rest (after_decl s (DTaskBody w objects its sp)) h.1 (all_back IsMet one more met) (all_back _ one more apart),
     )
-bodies-all T (decl_then (DNumber w e sp) rest) s h met apart = bodies-all T rest _ h (all-back IsMet (decl_sites s (DNumber w e sp)) _ met) (all-back _ (decl_sites s (DNumber w e sp)) _ apart)
-bodies-all T (decl_then (DObject ws k x i sp) rest) s h met apart = bodies-all T rest _ h (all-back IsMet (decl_sites s (DObject ws k x i sp)) _ met) (all-back _ (decl_sites s (DObject ws k x i sp)) _ apart)
-bodies-all T (decl_then (DEnumeration w ws sp) rest) s h met apart = bodies-all T rest _ h (all-back IsMet (decl_sites s (DEnumeration w ws sp)) _ met) (all-back _ (decl_sites s (DEnumeration w ws sp)) _ apart)
-bodies-all T (decl_then (DArray w i x sp) rest) s h met apart = bodies-all T rest _ h (all-back IsMet (decl_sites s (DArray w i x sp)) _ met) (all-back _ (decl_sites s (DArray w i x sp)) _ apart)
-bodies-all T (decl_then (DSubtype w x sp) rest) s h met apart = bodies-all T rest _ h (all-back IsMet (decl_sites s (DSubtype w x sp)) _ met) (all-back _ (decl_sites s (DSubtype w x sp)) _ apart)
-bodies-all T (decl_then (DException ws sp) rest) s h met apart = bodies-all T rest _ h (all-back IsMet (decl_sites s (DException ws sp)) _ met) (all-back _ (decl_sites s (DException ws sp)) _ apart)
-bodies-all T (decl_then (DIntIo w sp) rest) s h met apart = bodies-all T rest _ h (all-back IsMet (decl_sites s (DIntIo w sp)) _ met) (all-back _ (decl_sites s (DIntIo w sp)) _ apart)
-bodies-all T (decl_then (DPragma e sp) rest) s h met apart = bodies-all T rest _ h (all-back IsMet (decl_sites s (DPragma e sp)) _ met) (all-back _ (decl_sites s (DPragma e sp)) _ apart)
-bodies-all T (decl_then (DTask t sp) rest) s h met apart = bodies-all T rest _ h (all-back IsMet (decl_sites s (DTask t sp)) _ met) (all-back _ (decl_sites s (DTask t sp)) _ apart)
+bodies-all T (decl_then (DNumber w e sp) rest) s h met apart = bodies-all T rest _ h (all_back IsMet (decl_sites s (DNumber w e sp)) _ met) (all_back _ (decl_sites s (DNumber w e sp)) _ apart)
+bodies-all T (decl_then (DObject ws k x i sp) rest) s h met apart = bodies-all T rest _ h (all_back IsMet (decl_sites s (DObject ws k x i sp)) _ met) (all_back _ (decl_sites s (DObject ws k x i sp)) _ apart)
+bodies-all T (decl_then (DEnumeration w ws sp) rest) s h met apart = bodies-all T rest _ h (all_back IsMet (decl_sites s (DEnumeration w ws sp)) _ met) (all_back _ (decl_sites s (DEnumeration w ws sp)) _ apart)
+bodies-all T (decl_then (DArray w i x sp) rest) s h met apart = bodies-all T rest _ h (all_back IsMet (decl_sites s (DArray w i x sp)) _ met) (all_back _ (decl_sites s (DArray w i x sp)) _ apart)
+bodies-all T (decl_then (DSubtype w x sp) rest) s h met apart = bodies-all T rest _ h (all_back IsMet (decl_sites s (DSubtype w x sp)) _ met) (all_back _ (decl_sites s (DSubtype w x sp)) _ apart)
+bodies-all T (decl_then (DException ws sp) rest) s h met apart = bodies-all T rest _ h (all_back IsMet (decl_sites s (DException ws sp)) _ met) (all_back _ (decl_sites s (DException ws sp)) _ apart)
+bodies-all T (decl_then (DIntIo w sp) rest) s h met apart = bodies-all T rest _ h (all_back IsMet (decl_sites s (DIntIo w sp)) _ met) (all_back _ (decl_sites s (DIntIo w sp)) _ apart)
+bodies-all T (decl_then (DPragma e sp) rest) s h met apart = bodies-all T rest _ h (all_back IsMet (decl_sites s (DPragma e sp)) _ met) (all_back _ (decl_sites s (DPragma e sp)) _ apart)
+bodies-all T (decl_then (DTask t sp) rest) s h met apart = bodies-all T rest _ h (all_back IsMet (decl_sites s (DTask t sp)) _ met) (all_back _ (decl_sites s (DTask t sp)) _ apart)
 
 -- ---- what such a scope tells
 
@@ -260,7 +260,7 @@ no-unclear T s id h e = h.stands.over.clear.things id Unclear e
 -- a scalar mark has a known kind in the program's table
 pub mark-known : (T : TypeTable) (s : Scope) (w : Word) → StandsWhole T s → IsMet (site s (stands_as_mark scalar_only w)) → is_known T (limits_named T w.name).kind ≡ true
 mark-known T s w h m =
-    let mark = scalar-mark s h.stands.over.clear w.name (told (is_some (meaning s w.name)) w.span m.known) (told (is_allowed scalar_only (marking s w.name)) w.span m.matched) in
+    let mark = scalar-mark s h.stands.over.clear w.name (test-holds (is_some (meaning s w.name)) w.span m.known) (test-holds (is_allowed scalar_only (marking s w.name)) w.span m.matched) in
     let n = name-here T s h.stands w.name mark in
     ap (λ o. is_known T (limits_or o).kind) n.named ∙ ap is_some n.scalar.1
 

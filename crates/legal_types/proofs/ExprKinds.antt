@@ -1,5 +1,5 @@
 -- Where nothing is refused in an expression, it has a kind.
-use Rattle.std.proofs.Common.{◌≡◌, ℕ, Bool, true, false, not, ◌&&◌, ◌||◌, ◌==◌, if◌then◌else◌, [], ◌∷◌, is_some, option_map, Option, Some, None, refl, sym, ap, ap₂, ◌∙◌, subst, true≢false}
+use Rattle.std.proofs.Common.{◌≡◌, ℕ, Bool, true, false, not, ◌&&◌, ◌||◌, ◌==◌, if◌then◌else◌, [], ◌∷◌, is_some, option_map, Some, None, refl, sym, ap, ap₂, ◌∙◌, subst, true≢false}
 use Rattle.std.specs.List.{AllByRecursion}
 use Rattle.ada_tree.specs.declared.naming.NameId.{NameId}
 use Rattle.ada_tree.specs.declared.naming.Span.{Span}
@@ -20,7 +20,9 @@ use Rattle.ada_tree.specs.RuleArrayUse.{whole_array}
 use Rattle.rewritten_types.specs.Agreement.{HasMark, HasPart, IsScalar, Sound}
 use Rattle.rewritten_types.proofs.Lookups.{place-all}
 use Rattle.legal_sites.specs.Met.{IsMet}
-use Rattle.legal_sites.proofs.Meeting.{filled-not, front-empty, back-empty, all-front, all-back}
+use Rattle.common_lemmas.proofs.Lists.{all_back, all_front, back_empty, front_empty, not_empty}
+use Rattle.common_lemmas.proofs.Options.{some_there}
+use Rattle.legal_sites.proofs.Around.{test-fails, test-holds}
 
 -- ---- what a scope tells
 
@@ -58,18 +60,6 @@ abbrev pub AreMetNodes : Scope → PExpr → Type 0
 AreMetNodes s e = AllByRecursion (λ n. IsMet (site s (node false n))) (nodes e)
 
 -- ---- tests
-
-pub told : (b : Bool) (s : Span) → (if b then [] else s ∷ []) ≡ [] → b ≡ true
-told true s e = refl
-told false s e = absurd (filled-not s [] e)
-
-pub untold : (b : Bool) (s : Span) → (if b then s ∷ [] else []) ≡ [] → b ≡ false
-untold true s e = absurd (filled-not s [] e)
-untold false s e = refl
-
-pub some-of : {A : Type 0} (o : Option A) → is_some o ≡ true → (x : A) × (o ≡ Some x)
-some-of (Some x) e = (x, refl)
-some-of None e = absurd (true≢false (sym e))
 
 -- two numbers of which a test says that they are no other ones
 pub same-kind : (k j : ℕ) → is_other_kind (Some k) (Some j) ≡ false → (k == j) ≡ true
@@ -133,7 +123,7 @@ pub record IsScalarMark (s : Scope) (id : NameId) : Type 0 where
 
 module _ (s : Scope) (clear : IsClear s) where
   pub thing-of : (id : NameId) → is_some (meaning s id) ≡ true → (x : Thing) × (meaning s id ≡ Some x) × IsClearThing s.types x
-  thing-of id e = let x = some-of (meaning s id) e in (x.0, x.1, clear.things id x.0 x.1)
+  thing-of id e = let x = some_there (meaning s id) e in (x.0, x.1, clear.things id x.0 x.1)
 
   name-reads : (id : NameId) → is_some (meaning s id) ≡ true → Reads s.types (reading s id)
   name-reads id e = let x = thing-of id e in subst (λ o. Reads s.types (reading_of s.types o)) (sym x.1) (thing-reads s.types clear.sound x.0 x.2)
@@ -170,20 +160,20 @@ module _ (s : Scope) (clear : IsClear s) where
 
   scalar-read : (r : Reading) (sp : Span) → Reads s.types r → no_value r sp ≡ [] → whole_array r sp ≡ [] → (k : ℕ) × (name_kind r ≡ Some k)
   scalar-read (AsScalar k) sp h e f = (k, refl)
-  scalar-read (AsArray index part) sp h e f = absurd (filled-not sp [] f)
-  scalar-read AsNoValue sp h e f = absurd (filled-not sp [] e)
+  scalar-read (AsArray index part) sp h e f = absurd (not_empty sp [] f)
+  scalar-read AsNoValue sp h e f = absurd (not_empty sp [] e)
   scalar-read AsUnknown sp h e f = absurd h
   scalar-read AsUnclear sp h e f = absurd h
 
   component-read : (r : Reading) (sp : Span) (e : PExpr) (k : ℕ) → kind_of s e ≡ Some k → Reads s.types r → no_value r sp ≡ [] → index_on_scalar r sp ≡ [] →
       ((index part : ℕ) → r ≡ AsArray index part → is_other_kind (Some index) (kind_of s e) ≡ false) → (j : ℕ) × (component_kind s.types r (kind_of s e) ≡ Some j)
-  component-read (AsScalar j) sp e k q h f g fits = absurd (filled-not sp [] g)
+  component-read (AsScalar j) sp e k q h f g fits = absurd (not_empty sp [] g)
   component-read (AsArray index part) sp e k q h f g fits =
       let same : (index == k) ≡ true = same-kind index k (ap (is_other_kind (Some index)) (sym q) ∙ fits index part refl) in (
         h.0.kind,
         ap (λ o. if_kind index o (kind_of_mark s.types part)) q ∙ ap (λ b. if b then kind_of_mark s.types part else None) same ∙ ap (option_map (λ (m : Mark). m.kind)) h.1,
       )
-  component-read AsNoValue sp e k q h f g fits = absurd (filled-not sp [] f)
+  component-read AsNoValue sp e k q h f g fits = absurd (not_empty sp [] f)
   component-read AsUnknown sp e k q h f g fits = absurd h
   component-read AsUnclear sp e k q h f g fits = absurd h
 
@@ -191,23 +181,23 @@ module _ (s : Scope) (clear : IsClear s) where
 bound-has : (a : Attribute) (k : ℕ) (sp : Span) → no_attribute a sp ≡ [] → at_place (is_function a) sp ≡ [] → bound_kind a k ≡ Some k
 bound-has First k sp e f = refl
 bound-has Last k sp e f = refl
-bound-has Pos k sp e f = absurd (filled-not sp [] f)
-bound-has Val k sp e f = absurd (filled-not sp [] f)
-bound-has Succ k sp e f = absurd (filled-not sp [] f)
-bound-has Pred k sp e f = absurd (filled-not sp [] f)
-bound-has Image k sp e f = absurd (filled-not sp [] f)
-bound-has NoAttribute k sp e f = absurd (filled-not sp [] e)
+bound-has Pos k sp e f = absurd (not_empty sp [] f)
+bound-has Val k sp e f = absurd (not_empty sp [] f)
+bound-has Succ k sp e f = absurd (not_empty sp [] f)
+bound-has Pred k sp e f = absurd (not_empty sp [] f)
+bound-has Image k sp e f = absurd (not_empty sp [] f)
+bound-has NoAttribute k sp e f = absurd (not_empty sp [] e)
 
 -- one that takes an argument and gives a value
 function-has : (a : Attribute) (k : ℕ) (sp : Span) → no_attribute a sp ≡ [] → at_place (is_bound a) sp ≡ [] → is_image a ≡ false → (is_function a ≡ true) × ((j : ℕ) × (function_kind a k ≡ Some j))
-function-has First k sp e f g = absurd (filled-not sp [] f)
-function-has Last k sp e f g = absurd (filled-not sp [] f)
+function-has First k sp e f g = absurd (not_empty sp [] f)
+function-has Last k sp e f g = absurd (not_empty sp [] f)
 function-has Pos k sp e f g = (refl, (integer_kind, refl))
 function-has Val k sp e f g = (refl, (k, refl))
 function-has Succ k sp e f g = (refl, (k, refl))
 function-has Pred k sp e f g = (refl, (k, refl))
 function-has Image k sp e f g = absurd (true≢false g)
-function-has NoAttribute k sp e f g = absurd (filled-not sp [] e)
+function-has NoAttribute k sp e f g = absurd (not_empty sp [] e)
 
 -- an operand that fits its operator
 unary-has : (o : Operand) (k : ℕ) → is_misfit o (Some k) ≡ false → unary_kind o (Some k) ≡ Some (given_by o)
@@ -224,52 +214,52 @@ binary-has o k j l r e = by_tests (is_taken o k) (is_taken o j) (k == j) e
     by_tests : (a b c : Bool) → (if not a then place_of l ∷ [] else if not b || (if c then false else true) then place_of r ∷ [] else []) ≡ [] →
         (if a && b && c then Some (given_by o) else None) ≡ Some (given_by o)
     by_tests true true true f = refl
-    by_tests true true false f = absurd (filled-not _ [] f)
-    by_tests true false c f = absurd (filled-not _ [] f)
-    by_tests false b c f = absurd (filled-not _ [] f)
+    by_tests true true false f = absurd (not_empty _ [] f)
+    by_tests true false c f = absurd (not_empty _ [] f)
+    by_tests false b c f = absurd (not_empty _ [] f)
 
 module _ (s : Scope) (clear : IsClear s) where
   -- An expression at whose parts nothing is refused has a kind.
   pub has-kind : (e : PExpr) → AreMetNodes s e → (k : ℕ) × (kind_of s e ≡ Some k)
   has-kind (EInteger n sp) h = (integer_kind, refl)
   has-kind (EName id sp) h =
-      let known = told (is_some (meaning s id)) sp h.0.known in
+      let known = test-holds (is_some (meaning s id)) sp h.0.known in
       scalar-read s clear (reading s id) sp (name-reads s clear id known) h.0.matched h.0.arrays
   has-kind (EIndex w e sp) h =
-      let known = told (is_some (meaning s w.name)) w.span h.0.known in
+      let known = test-holds (is_some (meaning s w.name)) w.span h.0.known in
       let k = has-kind e h.1 in
-      component-read s clear (reading s w.name) w.span e k.0 k.1 (name-reads s clear w.name known) (front-empty _ _ h.0.matched) h.0.counted
-      (λ index part f. untold (is_other_kind (Some index) (kind_of s e)) (place_of e)
-      (ap (λ r. misfit_index s r e) (sym f) ∙ back-empty (no_value (reading s w.name) w.span) _ h.0.matched))
+      component-read s clear (reading s w.name) w.span e k.0 k.1 (name-reads s clear w.name known) (front_empty _ _ h.0.matched) h.0.counted
+      (λ index part f. test-fails (is_other_kind (Some index) (kind_of s e)) (place_of e)
+      (ap (λ r. misfit_index s r e) (sym f) ∙ back_empty (no_value (reading s w.name) w.span) _ h.0.matched))
   has-kind (EAttribute m w sp) h =
-      let known = told (is_some (meaning s m.name)) m.span (front-empty _ _ h.0.known) in
-      let mark = scalar-mark s clear m.name known (told (is_allowed scalar_only (marking s m.name)) m.span h.0.matched) in
+      let known = test-holds (is_some (meaning s m.name)) m.span (front_empty _ _ h.0.known) in
+      let mark = scalar-mark s clear m.name known (test-holds (is_allowed scalar_only (marking s m.name)) m.span h.0.matched) in
       let k = mark.leads.mark.kind in (
         k,
         ap (λ x. and_then (bound_kind (attribute_of w.name)) (scalar_kind x)) mark.marks
-            ∙ bound-has (attribute_of w.name) k w.span (back-empty (unseen_word s m) _ h.0.known) h.0.counted,
+            ∙ bound-has (attribute_of w.name) k w.span (back_empty (unseen_word s m) _ h.0.known) h.0.counted,
       )
   has-kind (EAttributeOf m w e sp) h =
       let a = attribute_of w.name in
-      let known = told (is_some (meaning s m.name)) m.span (front-empty _ _ h.0.known) in
-      let mark = scalar-mark s clear m.name known (told (is_allowed scalar_only (marking s m.name)) m.span (front-empty (wrong_mark scalar_only s m) _ h.0.matched)) in
+      let known = test-holds (is_some (meaning s m.name)) m.span (front_empty _ _ h.0.known) in
+      let mark = scalar-mark s clear m.name known (test-holds (is_allowed scalar_only (marking s m.name)) m.span (front_empty (wrong_mark scalar_only s m) _ h.0.matched)) in
       let k = mark.leads.mark.kind in
-      let f = function-has a k w.span (back-empty (unseen_word s m) _ h.0.known) h.0.counted (untold (is_image a) sp h.0.texts) in
+      let f = function-has a k w.span (back_empty (unseen_word s m) _ h.0.known) h.0.counted (test-fails (is_image a) sp h.0.texts) in
       let i = has-kind e h.1 in
       let fits : (if is_function a then of_other_kind s (Some (argument_kind a k)) e else []) ≡ [] =
-      ap (λ x. misfit_argument s a (scalar_kind x) e) (sym mark.marks) ∙ back-empty (wrong_mark scalar_only s m) _ h.0.matched in
+      ap (λ x. misfit_argument s a (scalar_kind x) e) (sym mark.marks) ∙ back_empty (wrong_mark scalar_only s m) _ h.0.matched in
       let alike : of_other_kind s (Some (argument_kind a k)) e ≡ [] = ap (λ b. if b then of_other_kind s (Some (argument_kind a k)) e else []) (sym f.0) ∙ fits in
-      let same : (argument_kind a k == i.0) ≡ true = same-kind (argument_kind a k) i.0 (ap (is_other_kind (Some (argument_kind a k))) (sym i.1) ∙ untold (is_other_kind (Some (argument_kind a k)) (kind_of s e)) (place_of e) alike) in (
+      let same : (argument_kind a k == i.0) ≡ true = same-kind (argument_kind a k) i.0 (ap (is_other_kind (Some (argument_kind a k))) (sym i.1) ∙ test-fails (is_other_kind (Some (argument_kind a k)) (kind_of s e)) (place_of e) alike) in (
         f.1.0,
         ap₂ (λ x o. attribute_kind a (scalar_kind x) o) mark.marks i.1 ∙ ap (λ b. if b then function_kind a k else None) same ∙ f.1.1,
       )
   has-kind (EParen e sp) h = has-kind e h.1
   has-kind (EUnary op e sp) h =
       let k = has-kind e h.1 in
-      (given_by (takes_one op), ap (unary_kind (takes_one op)) k.1 ∙ unary-has (takes_one op) k.0 (ap (is_misfit (takes_one op)) (sym k.1) ∙ untold (is_misfit (takes_one op) (kind_of s e)) (place_of e) h.0.matched))
+      (given_by (takes_one op), ap (unary_kind (takes_one op)) k.1 ∙ unary-has (takes_one op) k.0 (ap (is_misfit (takes_one op)) (sym k.1) ∙ test-fails (is_misfit (takes_one op) (kind_of s e)) (place_of e) h.0.matched))
   has-kind (EBinary op l r sp) h =
-      let k = has-kind l (all-front _ (nodes l) (nodes r) h.1) in
-      let j = has-kind r (all-back _ (nodes l) (nodes r) h.1) in (
+      let k = has-kind l (all_front _ (nodes l) (nodes r) h.1) in
+      let j = has-kind r (all_back _ (nodes l) (nodes r) h.1) in (
         given_by (takes op),
         ap₂ (binary_kind (takes op)) k.1 j.1
             ∙ binary-has (takes op) k.0 j.0 l r (sym (ap₂ (λ a b. misfit_operand (takes op) a b l r) k.1 j.1) ∙ h.0.matched),

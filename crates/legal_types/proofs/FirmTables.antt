@@ -1,5 +1,5 @@
 -- Tables whose bounds and constants are values of their kinds, and how they stay so where a declaration adds to them.
-use Rattle.std.proofs.Common.{int_le, ◌≡◌, ℕ, ℤ, suc, pos, true, if◌then◌else◌, List, [], ◌∷◌, ◌++◌, length, IfSome, slice_get, option_map, Option, Some, None, refl, sym, ap, ap₂, ◌∙◌, subst, ⊎_elim}
+use Rattle.std.proofs.Common.{int_le, ◌≡◌, ℕ, ℤ, pos, true, if◌then◌else◌, List, [], ◌∷◌, ◌++◌, length, IfSome, slice_get, option_map, Option, Some, None, refl, sym, ap, ap₂, ◌∙◌, subst, ⊎_elim}
 use Rattle.std.specs.List.{AllByRecursion}
 use Rattle.std.proofs.lemmas.Option.{none-some}
 use Rattle.std.proofs.lemmas.List.Elements.{All-from_recursion}
@@ -21,13 +21,15 @@ use Rattle.ada_value.specs.Values.{position_of, value_at, value_in, limits_or}
 use Rattle.ada_value.specs.declared.values.Value.TheVariants.{Number}
 use Rattle.ada_value.specs.StaticLaw.{HasValueAt, HasFewLiterals}
 use Rattle.rewritten_types.specs.Agreement.{scalar_only, HasKind, IsScalar, Grows, Sound, Whole}
-use Rattle.rewritten_types.proofs.Lookups.{some-same, place-last, place-all, find-only, all-weaker, all-append, earlier-or-last}
+use Rattle.rewritten_types.proofs.Lookups.{place-all, find-only, earlier-or-last}
 use Rattle.rewritten_types.proofs.Keeping.{grows-self, grows-on, grows-mark, grows-kind}
 use Rattle.legal_types.specs.Typed.{IsSmall, IsSmallKind, HasLiteral, HasPosition}
 use Rattle.legal_types.proofs.ExprKinds.{LeadsOn, IsScalarMark}
 use Rattle.legal_types.proofs.StaticParts.{IsStaticIn, AreBounds, static-told, HasSubtype, HasRange}
 use Rattle.legal_types.proofs.TypedValues.{IsPlaced, IsTyped, IsOver, mark-of}
 use Rattle.legal_types.proofs.StaticWorth.{worth-value, worth, small-literals}
+use Rattle.common_lemmas.proofs.Lists.{all_by_place, all_joined, all_weaker, last_at}
+use Rattle.common_lemmas.proofs.Options.{some_same}
 
 -- ---- one table
 
@@ -61,10 +63,6 @@ pub record IsFirm (T : TypeTable) : Type 0 where
 pub small-before : (T U : TypeTable) → Grows T U → IsSmall U → IsSmall T
 small-before T U g h = record { kinds = λ k x e. h.kinds k x (g.kind k x e) }
 
-all-at : {A : Type 0} (P : A → Type 0) (xs : List A) → ((k : ℕ) (x : A) → slice_get xs k ≡ Some x → P x) → AllByRecursion P xs
-all-at P [] h = tt
-all-at P (x ∷ xs) h = (h 0 x refl, all-at P xs (λ k y e. h (suc k) y e))
-
 few-kind : (k : ℕ) (x : Kind) → IsSmallKind k x → HasFewLiterals x
 few-kind k Integer h = tt
 few-kind k Truth h = tt
@@ -88,17 +86,17 @@ typed-from T whole root firm small = record {
   whole = whole;
   root = root;
   sound = record {
-    kinds = All-from_recursion HasFewLiterals T.kinds (all-at HasFewLiterals T.kinds (λ k x e. few-kind k x (small.kinds k x e)));
-    firsts = All-from_recursion _ T.marks (all-weaker (IsFirmMark T) (λ m. HasValueAt T m.kind m.first) T.marks (λ m h. has-value T m.kind m.first h.first) firm.marks);
-    lasts = All-from_recursion _ T.marks (all-weaker (IsFirmMark T) (λ m. HasValueAt T m.kind m.last) T.marks (λ m h. has-value T m.kind m.last h.last) firm.marks);
+    kinds = All-from_recursion HasFewLiterals T.kinds (all_by_place HasFewLiterals T.kinds (λ k x e. few-kind k x (small.kinds k x e)));
+    firsts = All-from_recursion _ T.marks (all_weaker (IsFirmMark T) (λ m. HasValueAt T m.kind m.first) T.marks (λ m h. has-value T m.kind m.first h.first) firm.marks);
+    lasts = All-from_recursion _ T.marks (all_weaker (IsFirmMark T) (λ m. HasValueAt T m.kind m.last) T.marks (λ m h. has-value T m.kind m.last h.last) firm.marks);
     constants = All-from_recursion _ T.constants
-        (all-weaker (IsFirmConstant T) (λ c. HasValueAt T (limits_or (mark_at T c.mark)).kind c.value) T.constants (λ c h. has-value T (limits_or (mark_at T c.mark)).kind c.value (firm-constant T c h)) firm.constants);
+        (all_weaker (IsFirmConstant T) (λ c. HasValueAt T (limits_or (mark_at T c.mark)).kind c.value) T.constants (λ c h. has-value T (limits_or (mark_at T c.mark)).kind c.value (firm-constant T c h)) firm.constants);
   };
   places = λ k x e. placed-kind k x (firm.alone k x e) (small.kinds k x e);
-  firsts = all-weaker (IsFirmMark T) (λ m. HasPosition T m.kind m.first) T.marks (λ m h. h.first) firm.marks;
-  lasts = all-weaker (IsFirmMark T) (λ m. HasPosition T m.kind m.last) T.marks (λ m h. h.last) firm.marks;
-  constants = all-weaker (IsFirmConstant T) (λ c. HasPosition T (limits_or (mark_at T c.mark)).kind c.value) T.constants (firm-constant T) firm.constants;
-  orders = all-weaker (IsFirmMark T) (λ m. int_le m.first m.last ≡ true) T.marks (λ m h. h.order) firm.marks;
+  firsts = all_weaker (IsFirmMark T) (λ m. HasPosition T m.kind m.first) T.marks (λ m h. h.first) firm.marks;
+  lasts = all_weaker (IsFirmMark T) (λ m. HasPosition T m.kind m.last) T.marks (λ m h. h.last) firm.marks;
+  constants = all_weaker (IsFirmConstant T) (λ c. HasPosition T (limits_or (mark_at T c.mark)).kind c.value) T.constants (firm-constant T) firm.constants;
+  orders = all_weaker (IsFirmMark T) (λ m. int_le m.first m.last ≡ true) T.marks (λ m h. h.order) firm.marks;
 }
 
 -- ---- more entries
@@ -145,8 +143,8 @@ firm-mark T m firm h =
     let U = add_mark T m in
     let g = grows-mark T m in
     record {
-      marks = all-append (IsFirmMark U) T.marks (m ∷ []) (all-weaker (IsFirmMark T) (IsFirmMark U) T.marks (mark-grown T U g) firm.marks) (mark-grown T U g m h, tt);
-      constants = all-weaker (IsFirmConstant T) (IsFirmConstant U) T.constants (constant-grown T U g) firm.constants;
+      marks = all_joined (IsFirmMark U) T.marks (m ∷ []) (all_weaker (IsFirmMark T) (IsFirmMark U) T.marks (mark-grown T U g) firm.marks) (mark-grown T U g m h, tt);
+      constants = all_weaker (IsFirmConstant T) (IsFirmConstant U) T.constants (constant-grown T U g) firm.constants;
       alone = firm.alone;
     }
 
@@ -155,11 +153,11 @@ firm-kind T x firm a =
     let U = add_kind T x in
     let g = grows-kind T x in
     record {
-      marks = all-weaker (IsFirmMark T) (IsFirmMark U) T.marks (mark-grown T U g) firm.marks;
-      constants = all-weaker (IsFirmConstant T) (IsFirmConstant U) T.constants (constant-grown T U g) firm.constants;
+      marks = all_weaker (IsFirmMark T) (IsFirmMark U) T.marks (mark-grown T U g) firm.marks;
+      constants = all_weaker (IsFirmConstant T) (IsFirmConstant U) T.constants (constant-grown T U g) firm.constants;
       alone = λ k y e. ⊎_elim
           (λ same. firm.alone k y (sym same ∙ e))
-          (λ last. subst (IsAlone k) (some-same (sym (place-last T.kinds x) ∙ ap (slice_get (T.kinds ++ x ∷ [])) (sym last) ∙ e)) (subst (λ n. IsAlone n x) (sym last) a))
+          (λ last. subst (IsAlone k) (some_same (sym (last_at T.kinds x) ∙ ap (slice_get (T.kinds ++ x ∷ [])) (sym last) ∙ e)) (subst (λ n. IsAlone n x) (sym last) a))
           (earlier-or-last T.kinds x k);
     }
 
@@ -173,9 +171,9 @@ firm-constants T names m z x firm e h v =
     let U : TypeTable = record T { constants = T.constants ++ constants_for names m z } in
     let g : Grows T U = record { kind = λ k y f. f; mark = λ k y f. f } in
     record {
-      marks = all-weaker (IsFirmMark T) (IsFirmMark U) T.marks (mark-grown T U g) firm.marks;
-      constants = all-append (IsFirmConstant U) T.constants (constants_for names m z) (all-weaker (IsFirmConstant T) (IsFirmConstant U) T.constants (constant-grown T U g) firm.constants)
-          (all-weaker (IsFirmConstant T) (IsFirmConstant U) (constants_for names m z) (constant-grown T U g) (constants-firm T names m z x e h v));
+      marks = all_weaker (IsFirmMark T) (IsFirmMark U) T.marks (mark-grown T U g) firm.marks;
+      constants = all_joined (IsFirmConstant U) T.constants (constants_for names m z) (all_weaker (IsFirmConstant T) (IsFirmConstant U) T.constants (constant-grown T U g) firm.constants)
+          (all_weaker (IsFirmConstant T) (IsFirmConstant U) (constants_for names m z) (constant-grown T U g) (constants-firm T names m z x e h v));
       alone = firm.alone;
     }
 
@@ -221,7 +219,7 @@ module _ (s : Scope) (firm : IsFirm s.types) (typed : IsTyped s.types) (over : I
       record {
         place = length s.types.marks;
         made = refl;
-        leads = record { mark = m; there = place-last s.types.marks m; kind = has.0; known = has.1 };
+        leads = record { mark = m; there = last_at s.types.marks m; kind = has.0; known = has.1 };
         grows = grows-mark s.types m;
         firm = firm-mark s.types m firm (record { has = has; first = first; last = last; order = order });
         constants = refl;
@@ -284,7 +282,7 @@ pub record HasNamed (s : Scope) (name : NameId) (d : Made) : Type 0 where
 
 -- the last mark is found where it has the name and none before it has
 pub last-named : (T : TypeTable) (m : Mark) (id : NameId) → is_named id m.name ≡ true → mark_named T id ≡ None → mark_named (add_mark T m) id ≡ mark_at (add_mark T m) (length T.marks)
-last-named T m id e n = find-only (λ (x : Mark). is_named id x.name) T.marks m n e ∙ sym (place-last T.marks m)
+last-named T m id e n = find-only (λ (x : Mark). is_named id x.name) T.marks m n e ∙ sym (last_at T.marks m)
 
 -- an array of a static range, with its mark
 pub array-made : (s : Scope) (name : Option NameId) (d : Made) (r : PDrange) → HasMade s d → HasDrange s r →
@@ -303,7 +301,7 @@ array-made s name d r h q P holds =
     m = record { name = name; kind = length d.types.kinds; first = q.range.first; last = q.range.last }
 
     there : kind_at V (length d.types.kinds) ≡ Some x
-    there = place-last d.types.kinds x
+    there = last_at d.types.kinds x
 
     number-same : (z : ℤ) → is_integer_value z ≡ true → position_of (value_at V (length d.types.kinds) z) ≡ z
     number-same z e = ap (λ o. position_of (value_in (length d.types.kinds) o z)) there ∙ ap (λ b. position_of (if b then Number z else Number (pos 0))) e
@@ -315,7 +313,7 @@ array-made s name d r h q P holds =
     both = record {
       place = length d.types.marks;
       made = refl;
-      leads = record { mark = m; there = place-last V.marks m; kind = x; known = there };
+      leads = record { mark = m; there = last_at V.marks m; kind = x; known = there };
       grows = grows-on h.grows (grows-on (grows-kind d.types x) (grows-mark V m));
       firm = firm-mark V m (firm-kind d.types x h.firm tt) (record {
         has = (x, there);

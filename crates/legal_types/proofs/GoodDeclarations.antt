@@ -17,7 +17,7 @@ use Rattle.ada_tree.specs.PlainDecl.{PShape, PInit, PDecl, DNumber, DObject, DEn
 use Rattle.ada_tree.specs.Every.{EveryExpr, EverySubind, EveryDrange, EveryShape, EveryInit, EveryDecl}
 use Rattle.ada_tree.specs.WellPlaced.{well_placed}
 use Rattle.ada_tree.specs.Scope.{Scope, integer_kind, Thing, TypeMark, ConstantObject, Literal, AnException, AnotherUnit, meaning, kind_at, mark_at, range_of_mark, and_then, EntryPart}
-use Rattle.ada_tree.specs.StaticValue.{is_integer_value, is_named, mark_named, constant_named, position_in, first_of_two}
+use Rattle.ada_tree.specs.StaticValue.{is_named, mark_named, constant_named, position_in, first_of_two}
 use Rattle.ada_tree.specs.ExprTypes.{static_in}
 use Rattle.ada_tree.specs.Demand.{scalar_only, must_be_of, must_be_static, Site}
 use Rattle.ada_tree.specs.Sites.{site, if_there, names_sites, expr_sites, expr_of, static_of, subind_sites, drange_sites, shape_sites, init_sites, object_marking, is_task_object, object_sites, decl_sites}
@@ -27,7 +27,7 @@ use Rattle.ada_value.specs.Values.{position_of, value_in, word, placed}
 use Rattle.ada_value.specs.Evaluating.{literal_value}
 use Rattle.rewritten_types.specs.Agreement.{Literal as LiteralAt, literal_among, literal_named, scalar_only as only_scalar, Grows, Sound, Whole}
 use Rattle.rewritten_types.specs.Rewriting.{IsFirst, names_declared, IsUnused}
-use Rattle.rewritten_types.proofs.Lookups.{some-same, place-last, place-all}
+use Rattle.rewritten_types.proofs.Lookups.{place-all}
 use Rattle.rewritten_types.proofs.Keeping.{grows-self, grows-on, grows-mark, grows-kind}
 use Rattle.rewritten_types.proofs.Adding.{names-types, names-main, keeps-subind, keeps-decl}
 use Rattle.rewritten_types.proofs.Owning.{nobody, all-new, whole-decls}
@@ -35,15 +35,17 @@ use Rattle.rewritten_types.proofs.Soundness.{sound-decl}
 use Rattle.rewritten_types.proofs.Fresh.{InHere, here-decl, unused-free}
 use Rattle.rewritten_types.proofs.Unmarked.{AreUnmarked, decl-before, decl-marks}
 use Rattle.legal_sites.specs.Met.{IsMet}
-use Rattle.legal_sites.proofs.Meeting.{all-front, all-back}
 use Rattle.legal_types.specs.Typed.{IsSmall, HasLiteral, HasPosition}
 use Rattle.legal_types.proofs.ExprKinds.{LeadsOn, IsClearThing}
 use Rattle.legal_types.proofs.StaticParts.{IsStaticIn, static-told, met-static, of-kind, subind-met, drange-met}
-use Rattle.legal_types.proofs.TypedValues.{anybody, IsOf, IsTyped, small-word}
+use Rattle.legal_types.proofs.TypedValues.{anybody, IsOf, IsTyped}
 use Rattle.legal_types.proofs.StaticWorth.{worth, worth-value, small-literals}
 use Rattle.legal_types.proofs.FirmTables.{IsFirmMark, IsFirm, small-before, firm-mark, firm-kind, HasMade, leads-grown, subind-made, drange-made, last-named, array-made}
 use Rattle.legal_types.proofs.GoodScopes.{News, Adds, over-adds, thing-grown, IsIn, names-told, names-new, names-kept, unused-apart, IsGood, good-typed}
 use Rattle.legal_types.proofs.GoodObjects.{IsObject, object-clear, shape-made, more-constants, object-constants}
+use Rattle.ada_value.proofs.StaticLaws.{natural_integer, small_word}
+use Rattle.common_lemmas.proofs.Lists.{all_back, all_front, last_at}
+use Rattle.common_lemmas.proofs.Options.{some_same}
 
 -- ---- tables
 
@@ -160,7 +162,7 @@ in-single w id h = ap (λ n. record { 0 = n }) (eqb-true w.name.0 id.0 (by_test 
     by_test true e = refl
     by_test false e = e
 
-type-place : (a b : ℕ) → TypeMark a ≡ TypeMark b → a ≡ b
+pub type-place : (a b : ℕ) → TypeMark a ≡ TypeMark b → a ≡ b
 type-place a b e = cc
 
 -- a name of a type or subtype that is made
@@ -194,7 +196,7 @@ position-in (w ∷ ws) id e = by_test (w.name.0 == id.0) e (position-in ws id)
     by_test false f rest = rest (lt-down _ _ f)
 
 place-of : (p n count : ℕ) (b : Bool) → nat_lt p count ≡ b → cond b (Some p) None ≡ Some n → (nat_lt p count ≡ true) × (n < count)
-place-of p n count true e f = let same : p ≡ n = some-same f in let less : p < count = grind (arith, nat_tests) in (e, subst (λ k. k < count) same less)
+place-of p n count true e f = let same : p ≡ n = some_same f in let less : p < count = grind (arith, nat_tests) in (e, subst (λ k. k < count) same less)
 place-of p n count false e f = absurd (none-some n f)
 
 found-at : (ws : List Word) (id : NameId) (n : ℕ) → position_in id (Enumeration (map (λ (w : Word). w.name) ws)) ≡ Some n → IsIn ws id × (n < length (map (λ (w : Word). w.name) ws))
@@ -210,7 +212,7 @@ literal-split [] k x id v e = by_place (position_in id x) refl e
   where
     by_place : (o : Option ℕ) → position_in id x ≡ o → first_of_two (option_map (λ n. placed (word k) (pos n)) o) None ≡ Some v →
         (None ≡ Some v) ⊎ ((n : ℕ) × (position_in id x ≡ Some n) × (v ≡ placed (word (0 + k)) (pos n)))
-    by_place (Some n) p f = let z : 0 + k ≡ k = omega arith in inr (n, p, sym (some-same f) ∙ ap (λ j. placed (word j) (pos n)) (sym z))
+    by_place (Some n) p f = let z : 0 + k ≡ k = omega arith in inr (n, p, sym (some_same f) ∙ ap (λ j. placed (word j) (pos n)) (sym z))
     by_place None p f = absurd (none-some v f)
 literal-split (y ∷ ks) k x id v e = by_place (position_in id y) e (literal-split ks (suc k) x id v)
   where
@@ -223,9 +225,6 @@ literal-split (y ∷ ks) k x id v e = by_place (position_in id y) e (literal-spl
 before-last : (n : ℕ) → pos (suc n) -ℤ pos 1 ≡ pos n
 before-last n = omega (arith, ints)
 
-fits-below : (n : ℕ) → n ≤ 2147483647 → is_integer_value (pos n) ≡ true
-fits-below n h = grind (arith, ints)
-
 not-negative : (n : ℕ) → int_le (pos 0) (pos n) ≡ true
 not-negative n = grind (arith, ints)
 
@@ -235,7 +234,7 @@ less-literal n m h = grind (arith, ints)
 mark-literal : {A : Type 0} (m k : ℕ) → TypeMark m ≡ Literal k → A
 mark-literal m k e = cc
 
-length-mapped : (ws : List Word) → length (map (λ (x : Word). x.name) ws) ≡ length ws
+pub length-mapped : (ws : List Word) → length (map (λ (x : Word). x.name) ws) ≡ length ws
 length-mapped [] = refl
 length-mapped (w ∷ ws) = ap suc (length-mapped ws)
 
@@ -270,7 +269,7 @@ module _ (s : Scope) (good : IsGood s) (name w : Word) (rest : List Word) (unuse
   same = names-over (Literal (length s.types.kinds)) (w ∷ rest) U named
 
   there : kind_at U (length T.kinds) ≡ Some enumeration
-  there = place-last T.kinds enumeration
+  there = last_at T.kinds enumeration
 
   few : (length ids ≤ 2147483648) × (word (length T.kinds) ≡ length T.kinds)
   few = (subst (λ t. IsSmall t.types) same small).kinds (length T.kinds) enumeration there
@@ -286,7 +285,7 @@ module _ (s : Scope) (good : IsGood s) (name w : Word) (rest : List Word) (unuse
   enumeration-value n l =
       let f = few.0 in
       let h : n ≤ 2147483647 = omega arith in
-      record { fits = fits-below n h; same = ap (λ o. position_of (value_in (length T.kinds) o (pos n))) there ∙ ap pos (small-word n h); literal = has-literal n l }
+      record { fits = natural_integer n h; same = ap (λ o. position_of (value_in (length T.kinds) o (pos n))) there ∙ ap pos (small_word n h); literal = has-literal n l }
 
   last-literal : length rest < length ids
   last-literal = let e = length-mapped rest in omega arith
@@ -302,7 +301,7 @@ module _ (s : Scope) (good : IsGood s) (name w : Word) (rest : List Word) (unuse
   literal-of : (n : ℕ) → n < length ids → IsOf U (length T.kinds) (placed (word (length T.kinds)) (pos n))
   literal-of n l =
       let f = few.0 in
-      let small : word n ≡ n = small-word n (omega arith) in
+      let small : word n ≡ n = small_word n (omega arith) in
       record {
         scalar = (enumeration, ap only_scalar there);
         kind = few.1;
@@ -316,7 +315,7 @@ module _ (s : Scope) (good : IsGood s) (name w : Word) (rest : List Word) (unuse
   new-clear : (id : NameId) (x : Thing) → New id x → IsClearThing U x
   new-clear id x h =
       ⊎_elim
-      (λ type. subst (IsClearThing U) (sym type.1) (record { mark = m; there = place-last T.marks m; kind = enumeration; known = there }))
+      (λ type. subst (IsClearThing U) (sym type.1) (record { mark = m; there = last_at T.marks m; kind = enumeration; known = there }))
       (λ literal. subst (IsClearThing U) (sym literal.1) (enumeration, ap only_scalar there))
       h
 
@@ -382,10 +381,10 @@ module _ (names : List (List ℕ)) (s : Scope) (good : IsGood s) (small : IsSmal
   good-number name e unused every h next =
       let asked : List Site = site s (must_be_of e (Some integer_kind)) ∷ [] in
       let static : List Site = site s (must_be_static e) ∷ [] in
-      let h1 : AllByRecursion IsMet (expr_sites s e ++ asked) = all-front IsMet (expr_of s (Some integer_kind) e) static h in
-      let q : AllByRecursion IsMet static = all-back IsMet (expr_of s (Some integer_kind) e) static h in
-      let r : AllByRecursion IsMet asked = all-back IsMet (expr_sites s e) asked h1 in
-      let k = met-static s good.over.clear e (all-front IsMet (expr_sites s e) asked h1) q.0 in
+      let h1 : AllByRecursion IsMet (expr_sites s e ++ asked) = all_front IsMet (expr_of s (Some integer_kind) e) static h in
+      let q : AllByRecursion IsMet static = all_back IsMet (expr_of s (Some integer_kind) e) static h in
+      let r : AllByRecursion IsMet asked = all_back IsMet (expr_sites s e) asked h1 in
+      let k = met-static s good.over.clear e (all_front IsMet (expr_sites s e) asked h1) q.0 in
       let t : IsStaticIn s integer_kind e = of-kind s good.over.clear integer_kind k.0 e k.1 r.0 in
       let told = static-told s integer_kind e t in
       let v = worth-value s.types integer_kind e t.value (worth s.types s typed good.over integer_kind e (small-literals names 2 e every) t) in
@@ -411,7 +410,7 @@ module _ (names : List (List ℕ)) (s : Scope) (good : IsGood s) (small : IsSmal
       let first : List Site = names_sites (s.in_main && (constant || is_task_object d.thing)) s ws in
       let second : List Site = shape_sites s constant shape init in
       let third : List Site = if_there (init_sites s d.types (object_marking d)) init in
-      let met : AllByRecursion IsMet second = all-back IsMet first second (all-front IsMet (first ++ second) third h) in
+      let met : AllByRecursion IsMet second = all_back IsMet first second (all_front IsMet (first ++ second) third h) in
       let o = shape-made s good.main good.firm typed good.over names constant shape init every met in
       let c = object-constants s good.main good.firm typed good.over names ws init inits d o in
       let U : TypeTable = with_constants s ws init d in
@@ -427,13 +426,13 @@ module _ (names : List (List ℕ)) (s : Scope) (good : IsGood s) (small : IsSmal
       ((id : NameId) → literal_named (made_named_array s name index x).types id ≡ literal_named s.types id) → IsNext (after_type s name (made_named_array s name index x)) → IsGood (after_type s name (made_named_array s name index x))
   good-array name index x unused everys every h literals next =
       let d = made_subind s x in
-      let sub = subind-made s good.firm typed good.over names x every (subind-met s good.over.clear x (all-back IsMet (drange_sites true s index) (subind_sites true scalar_only s x) h)) in
-      let range = drange-made s good.firm typed good.over names index everys (drange-met s good.over.clear index (all-front IsMet (drange_sites true s index) (subind_sites true scalar_only s x) h)) in
+      let sub = subind-made s good.firm typed good.over names x every (subind-met s good.over.clear x (all_back IsMet (drange_sites true s index) (subind_sites true scalar_only s x) h)) in
+      let range = drange-made s good.firm typed good.over names index everys (drange-met s good.over.clear index (all_front IsMet (drange_sites true s index) (subind_sites true scalar_only s x) h)) in
       array-made s (Some name.name) d index sub range
       (λ q. ((id : NameId) → literal_named q.types id ≡ literal_named s.types id) → IsNext (after_type s name q) → IsGood (after_type s name q))
       (λ y j e both lits n.
       good-type s good name unused (made (add_kind d.types y) j) both
-      (last-named (add_kind d.types y) j name.name (ap (is_named name.name) e ∙ eq-eqb name.name.0 name.name.0 refl) (unnamed-before s good name unused x) ∙ ap (mark_at (made (add_kind d.types y) j).types) (some-same both.made))
+      (last-named (add_kind d.types y) j name.name (ap (is_named name.name) e ∙ eq-eqb name.name.0 name.name.0 refl) (unnamed-before s good name unused x) ∙ ap (mark_at (made (add_kind d.types y) j).types) (some_same both.made))
       lits n)
       literals next
 
@@ -449,7 +448,7 @@ module _ (names : List (List ℕ)) (s : Scope) (good : IsGood s) (small : IsSmal
       let both : HasMade s (made d.types j) = record {
         place = length d.types.marks;
         made = refl;
-        leads = record { mark = j; there = place-last d.types.marks j; kind = sub.leads.kind; known = sub.leads.known };
+        leads = record { mark = j; there = last_at d.types.marks j; kind = sub.leads.kind; known = sub.leads.known };
         grows = grows-on sub.grows (grows-mark d.types j);
         firm = firm-mark d.types j sub.firm (record { has = f.has; first = f.first; last = f.last; order = f.order });
         constants = sub.constants;

@@ -22,14 +22,15 @@ use Rattle.ada_tree.specs.Declaring.{Made, made_subind, drange_range, object_of,
 use Rattle.rewritten_types.specs.Agreement.{HasKind, Grows}
 use Rattle.rewritten_types.proofs.Keeping.{grows-self}
 use Rattle.legal_sites.specs.Met.{IsMet}
-use Rattle.legal_sites.proofs.Meeting.{all-front, all-back}
 use Rattle.legal_types.specs.Typed.{HasPosition}
-use Rattle.legal_types.proofs.ExprKinds.{LeadsOn, IsClearThing, IsClear, told, scalar-mark, thing-of}
+use Rattle.legal_types.proofs.ExprKinds.{LeadsOn, IsClearThing, IsClear, scalar-mark, thing-of}
 use Rattle.legal_types.proofs.StaticParts.{static-read, HasSubtype, mark-bounds, drange-met}
 use Rattle.legal_types.proofs.TypedValues.{IsTyped, IsOver}
 use Rattle.legal_types.proofs.FirmTables.{IsFirm, HasMade, HasDrange, subind-made, drange-made, array-unnamed, firm-constants, value-grown, scalar-has}
 use Rattle.legal_types.proofs.StaticWorth.{worth, worth-value, small-literals}
 use Rattle.legal_types.proofs.GoodScopes.{IsIn, find-split, constants-told}
+use Rattle.common_lemmas.proofs.Lists.{all_back, all_front}
+use Rattle.legal_sites.proofs.Around.{test-holds}
 
 -- ---- marks
 
@@ -137,8 +138,8 @@ module _ (s : Scope) (main : s.in_main ≡ true) (firm : IsFirm s.types) (typed 
 
   plain-made : (names : List (List ℕ)) (constant : Bool) (allowed : MarkUse) (x : PSubind) → EverySubind (well_placed names) 2 x → AllByRecursion IsMet (subind_sites true allowed s x) → HasObject s (plain_object s constant (marking s x.mark.name) x)
   plain-made names constant allowed x every h =
-      let known = told (is_some (meaning s x.mark.name)) x.mark.span h.0.known in
-      by_marking (marking s x.mark.name) refl known (told (is_allowed allowed (marking s x.mark.name)) x.mark.span h.0.matched) (name-marked s over.clear x.mark.name known)
+      let known = test-holds (is_some (meaning s x.mark.name)) x.mark.span h.0.known in
+      by_marking (marking s x.mark.name) refl known (test-holds (is_allowed allowed (marking s x.mark.name)) x.mark.span h.0.matched) (name-marked s over.clear x.mark.name known)
     where
       by_marking : (m : Marking) → marking s x.mark.name ≡ m → is_some (meaning s x.mark.name) ≡ true → is_allowed allowed m ≡ true → IsMarked s.types m → HasObject s (plain_object s constant m x)
       by_marking (ScalarMark m k) e known a marked =
@@ -152,8 +153,8 @@ module _ (s : Scope) (main : s.in_main ≡ true) (firm : IsFirm s.types) (typed 
   row-made : (names : List (List ℕ)) (constant task : Bool) (index : PDrange) (x : PSubind) → EveryDrange (well_placed names) 2 index → EverySubind (well_placed names) 2 x →
       AllByRecursion IsMet (drange_sites true s index) → AllByRecursion IsMet (subind_sites true (component_marks task) s x) → HasObject s (array_object s constant (marking s x.mark.name) index x)
   row-made names constant task index x everys every hs h =
-      let known = told (is_some (meaning s x.mark.name)) x.mark.span h.0.known in
-      by_marking (marking s x.mark.name) refl known (told (is_allowed (component_marks task) (marking s x.mark.name)) x.mark.span h.0.matched) (name-marked s over.clear x.mark.name known)
+      let known = test-holds (is_some (meaning s x.mark.name)) x.mark.span h.0.known in
+      by_marking (marking s x.mark.name) refl known (test-holds (is_allowed (component_marks task) (marking s x.mark.name)) x.mark.span h.0.matched) (name-marked s over.clear x.mark.name known)
     where
       range : HasDrange s index
       range = drange-made s firm typed over names index everys (drange-met s over.clear index hs)
@@ -177,8 +178,8 @@ module _ (s : Scope) (main : s.in_main ≡ true) (firm : IsFirm s.types) (typed 
   pub shape-made : (names : List (List ℕ)) (constant : Bool) (shape : PShape) (init : Option PInit) → EveryShape (well_placed names) shape → AllByRecursion IsMet (shape_sites s constant shape init) → HasObject s (declared_object s constant shape)
   shape-made names constant (OPlain x) init every h = plain-made names constant (object_marks (may_be_task s constant x.bounds init) x.bounds) x every h
   shape-made names constant (OArray index x) init every h =
-      row-made names constant (may_be_task s constant x.bounds init) index x every.0 every.1 (all-front IsMet (drange_sites true s index) (subind_sites true (component_marks (may_be_task s constant x.bounds init)) s x) h)
-      (all-back IsMet (drange_sites true s index) (subind_sites true (component_marks (may_be_task s constant x.bounds init)) s x) h)
+      row-made names constant (may_be_task s constant x.bounds init) index x every.0 every.1 (all_front IsMet (drange_sites true s index) (subind_sites true (component_marks (may_be_task s constant x.bounds init)) s x) h)
+      (all_back IsMet (drange_sites true s index) (subind_sites true (component_marks (may_be_task s constant x.bounds init)) s x) h)
 
 -- ---- constants
 

@@ -14,7 +14,7 @@ use Rattle.ada_value.specs.Values.{value_in, position_of}
 use Rattle.ada_value.specs.Evaluating.{literal_value}
 use Rattle.rewritten_types.specs.Agreement.{Grows, Sound, Whole}
 use Rattle.rewritten_types.specs.Rewriting.{IsUnused}
-use Rattle.rewritten_types.proofs.Lookups.{some-same, find-grown}
+use Rattle.rewritten_types.proofs.Lookups.{find-grown}
 use Rattle.rewritten_types.proofs.Keeping.{keeps-self}
 use Rattle.rewritten_types.proofs.Fresh.{InHere, other, meaning-used}
 use Rattle.rewritten_types.proofs.Unmarked.{AreUnmarked}
@@ -22,6 +22,7 @@ use Rattle.legal_types.specs.Typed.{IsSmall, HasLiteral}
 use Rattle.legal_types.proofs.ExprKinds.{LeadsOn, IsClearThing}
 use Rattle.legal_types.proofs.TypedValues.{IsOf, IsTyped, IsOver}
 use Rattle.legal_types.proofs.FirmTables.{IsFirm, typed-from, leads-grown, scalar-grown, scalar-has}
+use Rattle.common_lemmas.proofs.Options.{some_same}
 
 -- ---- what a declaration adds
 
@@ -115,7 +116,7 @@ module _ (thing : Thing) where
     where
       by_test : (b : Bool) → (w.name.0 == id.0) ≡ b → option_map (λ (y : Seen). y.thing) (if b then Some (seen_as thing w.name.0) else find (λ y. y.name == id.0) s.names) ≡ Some x →
           ((w.name.0 == id.0) ≡ true) × (x ≡ thing) ⊎ (meaning s id ≡ Some x)
-      by_test true p f = inl (p, sym (some-same f))
+      by_test true p f = inl (p, sym (some_same f))
       by_test false p f = inr f
 
   name-new : (w : Word) (s : Scope) (id : NameId) → (w.name.0 == id.0) ≡ true → meaning (with_name thing s w) id ≡ Some thing
@@ -175,7 +176,7 @@ constants-told (w ∷ ws) m z id c e = by_test (w.name.0 == id.0) refl e (consta
   where
     by_test : (b : Bool) → (w.name.0 == id.0) ≡ b → (if b then Some record { name = w.name; mark = m; value = z } else find (λ (d : Constant). d.name.0 == id.0) (constants_for ws m z)) ≡ Some c →
         (find (λ (d : Constant). d.name.0 == id.0) (constants_for ws m z) ≡ Some c → IsIn ws id × (c.mark ≡ m)) → IsIn (w ∷ ws) id × (c.mark ≡ m)
-    by_test true p f rest = (in-first w ws id p, ap (λ (d : Constant). d.mark) (sym (some-same f)))
+    by_test true p f rest = (in-first w ws id p, ap (λ (d : Constant). d.mark) (sym (some_same f)))
     by_test false p f rest = let h = rest f in (in-later w ws id h.0, h.1)
 
 -- ---- scopes of main

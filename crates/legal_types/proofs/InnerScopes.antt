@@ -17,13 +17,14 @@ use Rattle.rewritten_types.specs.Agreement.{Keeps, Sound}
 use Rattle.rewritten_types.proofs.Keeping.{grows-self}
 use Rattle.rewritten_types.proofs.Adding.{names-types}
 use Rattle.legal_sites.specs.Met.{IsMet}
-use Rattle.legal_sites.proofs.Meeting.{all-front, all-back, all-flat}
-use Rattle.legal_types.proofs.ExprKinds.{LeadsOn, IsClearThing, IsScalarMark, told, scalar-mark}
+use Rattle.legal_types.proofs.ExprKinds.{LeadsOn, IsClearThing, IsScalarMark, scalar-mark}
 use Rattle.legal_types.proofs.TypedValues.{anybody, IsOver}
 use Rattle.legal_types.proofs.GoodScopes.{News, IsIn, names-told, names-kept}
 use Rattle.legal_types.proofs.LaterScopes.{over-more}
 use Rattle.legal_types.proofs.MainScopes.{StandsWhole}
 use Rattle.legal_types.proofs.TaskTypes.{name-here}
+use Rattle.common_lemmas.proofs.Lists.{all_back, all_flat, all_front}
+use Rattle.legal_sites.proofs.Around.{test-holds}
 
 -- the name is that of no type and of no value
 pub record IsApartName (T : TypeTable) (id : NameId) : Type 0 where
@@ -133,10 +134,10 @@ module _ (T : TypeTable) where
   formal-marks s h [] met = tt
   formal-marks s h (f ∷ fs) met =
       let m = met.0.0 in
-      (scalar-mark s h.stands.over.clear f.mark.name (told (is_some (meaning s f.mark.name)) f.mark.span m.known) (told (is_allowed scalar_only (marking s f.mark.name)) f.mark.span m.matched), formal-marks s h fs met.1)
+      (scalar-mark s h.stands.over.clear f.mark.name (test-holds (is_some (meaning s f.mark.name)) f.mark.span m.known) (test-holds (is_allowed scalar_only (marking s f.mark.name)) f.mark.span m.matched), formal-marks s h fs met.1)
 
   all-split : (P : Word → Type 0) (fs : List PFormal) → AllByRecursion P (all_names fs) → AllByRecursion (λ (f : PFormal). AllByRecursion P f.names) fs
-  all-split P fs h = all-flat P (λ f. f.names) fs h
+  all-split P fs h = all_flat P (λ f. f.names) fs h
 
   pub inside-stands : (s : Scope) → StandsWhole T s → StandsWhole T (inside s)
   inside-stands s h = same-stands T s (inside s) refl (λ id. refl) h
@@ -148,9 +149,9 @@ module _ (T : TypeTable) where
       let names = names_sites false (inside s) (all_names h.formals) in
       let marks = formal_mark_sites s h.formals in
       let met1 : AllByRecursion IsMet (index ++ formals_sites s h.formals) = met.1 in
-      let met2 : AllByRecursion IsMet (names ++ marks) = all-back IsMet index (formals_sites s h.formals) met1 in
+      let met2 : AllByRecursion IsMet (names ++ marks) = all_back IsMet index (formals_sites s h.formals) met1 in
       let apart1 : AreApart T (index ++ formals_sites s h.formals) = apart.1 in
-      let apart2 : AreApart T (names ++ marks) = all-back _ index (formals_sites s h.formals) apart1 in
+      let apart2 : AreApart T (names ++ marks) = all_back _ index (formals_sites s h.formals) apart1 in
       formals-stand s stands h.formals (inside s) refl (λ id v. refl) (inside-stands s stands)
-      (all-split _ h.formals (names-apart T (all_names h.formals) (inside s) (all-front _ names marks apart2)))
-      (formal-marks s stands h.formals (all-flat IsMet (λ f. mark_sites scalar_only s f.mark) h.formals (all-back IsMet names marks met2)))
+      (all-split _ h.formals (names-apart T (all_names h.formals) (inside s) (all_front _ names marks apart2)))
+      (formal-marks s stands h.formals (all_flat IsMet (λ f. mark_sites scalar_only s f.mark) h.formals (all_back IsMet names marks met2)))

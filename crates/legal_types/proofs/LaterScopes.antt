@@ -25,11 +25,12 @@ use Rattle.rewritten_types.proofs.Keeping.{grows-on, grows-mark, grows-kind, kee
 use Rattle.rewritten_types.proofs.Adding.{names-types, keeps-decl}
 use Rattle.rewritten_types.proofs.Rooting.{rooted_agrees}
 use Rattle.rewritten_values.proofs.Saying.{fixed-alike}
-use Rattle.legal_types.proofs.ExprKinds.{LeadsOn, IsClearThing, some-of}
+use Rattle.legal_types.proofs.ExprKinds.{LeadsOn, IsClearThing}
 use Rattle.legal_types.proofs.TypedValues.{anybody, IsTyped, IsOver, literal-none}
 use Rattle.legal_types.proofs.StaticWorth.{named-alike, keeps-agrees}
 use Rattle.legal_types.proofs.GoodScopes.{News, thing-grown, unused-apart, IsGood}
 use Rattle.legal_types.proofs.LaterTables.{IsLaterTable}
+use Rattle.common_lemmas.proofs.Options.{some_there}
 
 -- ---- names with a value
 
@@ -70,7 +71,7 @@ module _ (T : TypeTable) (id : NameId) where
     where
       by_constant : (o : Option Constant) → is_some (first_of_two (option_map (λ (d : Constant). d.value) o) (option_map (λ n. pos n) (literal_position T.kinds id))) ≡ true
       by_constant (Some c) = refl
-      by_constant None = let n = some-of (literal_position T.kinds id) (literal-some T.kinds 0 id v e) in ap (λ o. is_some (option_map (λ k. pos k) o)) n.1
+      by_constant None = let n = some_there (literal_position T.kinds id) (literal-some T.kinds 0 id v e) in ap (λ o. is_some (option_map (λ k. pos k) o)) n.1
 
 -- what a name with a value is: FALSE, TRUE, a constant or a literal
 pub data IsValued (T : TypeTable) (id : NameId) : Type 0 where

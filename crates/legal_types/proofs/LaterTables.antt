@@ -1,5 +1,5 @@
 -- What a static expression is worth is the same by the tables of later scopes.
-use Rattle.std.proofs.Common.{◌≡◌, ℕ, ℤ, pos, ◌+ℤ◌, ◌-ℤ◌, Bool, true, false, ◌&&◌, if◌then◌else◌, [], is_some, Option, Some, None, Result, Ok, Err, refl, sym, ap, ap₂, ◌∙◌, true≢false}
+use Rattle.std.proofs.Common.{◌≡◌, ℕ, ℤ, pos, ◌+ℤ◌, ◌-ℤ◌, true, false, ◌&&◌, if◌then◌else◌, [], is_some, Option, Some, None, Result, Ok, Err, refl, sym, ap, ap₂, ◌∙◌, true≢false}
 use Rattle.ada_tree.specs.declared.naming.NameId.{NameId}
 use Rattle.ada_tree.specs.declared.naming.Span.{Span}
 use Rattle.ada_tree.specs.declared.static_types.Mark.{Mark}
@@ -20,6 +20,7 @@ use Rattle.rewritten_types.specs.Agreement.{HasKind, Grows, Sound}
 use Rattle.rewritten_types.proofs.Lookups.{find-grown, find-all}
 use Rattle.legal_types.proofs.GoodScopes.{of-grown}
 use Rattle.legal_types.proofs.StaticWorth.{IsWorth}
+use Rattle.common_lemmas.proofs.Truth.{and_left, and_right}
 
 -- The second table has whatever the first one has, and names with a value keep it.
 pub record IsLaterTable (T U : TypeTable) : Type 0 where
@@ -36,14 +37,6 @@ later-on T U V a b = record {
   named = λ id h. b.named id (ap is_some (a.named id h) ∙ h) ∙ a.named id h;
   fixed = λ id h. b.fixed id (ap is_some (a.named id h) ∙ h) ∙ a.fixed id h;
 }
-
-left-true : (p q : Bool) → (p && q) ≡ true → p ≡ true
-left-true true q h = refl
-left-true false q h = h
-
-right-true : (p q : Bool) → (p && q) ≡ true → q ≡ true
-right-true true q h = h
-right-true false q h = absurd (true≢false (sym h))
 
 module _ (T U : TypeTable) (root : Sound T) (later : IsLaterTable T U) where
   -- a mark that has the name has it still
@@ -86,32 +79,32 @@ module _ (T U : TypeTable) (root : Sound T) (later : IsLaterTable T U) where
   static-later (EInteger n s) h = refl
   static-later (EName id s) h = ap is_some (later.named id h) ∙ h
   static-later (EIndex w e s) h = h
-  static-later (EAttribute m w s) h = ap (λ o. is_bound (attribute_of w.name) && is_some o) (mark-same m.name (right-true (is_bound (attribute_of w.name)) (is_some (mark_named T m.name)) h)) ∙ h
+  static-later (EAttribute m w s) h = ap (λ o. is_bound (attribute_of w.name) && is_some o) (mark-same m.name (and_right (is_bound (attribute_of w.name)) (is_some (mark_named T m.name)) h)) ∙ h
   static-later (EAttributeOf m w e s) h =
-      let outer = left-true (keeps_static (attribute_of w.name) && is_some (mark_named T m.name)) (is_static T e) h in
-      ap₂ (λ o b. keeps_static (attribute_of w.name) && is_some o && b) (mark-same m.name (right-true (keeps_static (attribute_of w.name)) (is_some (mark_named T m.name)) outer))
-      (static-later e (right-true (keeps_static (attribute_of w.name) && is_some (mark_named T m.name)) (is_static T e) h) ∙ sym (right-true (keeps_static (attribute_of w.name) && is_some (mark_named T m.name)) (is_static T e) h)) ∙ h
+      let outer = and_left (keeps_static (attribute_of w.name) && is_some (mark_named T m.name)) (is_static T e) h in
+      ap₂ (λ o b. keeps_static (attribute_of w.name) && is_some o && b) (mark-same m.name (and_right (keeps_static (attribute_of w.name)) (is_some (mark_named T m.name)) outer))
+      (static-later e (and_right (keeps_static (attribute_of w.name) && is_some (mark_named T m.name)) (is_static T e) h) ∙ sym (and_right (keeps_static (attribute_of w.name) && is_some (mark_named T m.name)) (is_static T e) h)) ∙ h
   static-later (EParen e s) h = static-later e h
   static-later (EUnary op e s) h = static-later e h
   static-later (EBinary op l r s) h =
-      let a = left-true (is_static T l) (is_static T r) h in
-      let b = right-true (is_static T l) (is_static T r) h in
+      let a = and_left (is_static T l) (is_static T r) h in
+      let b = and_right (is_static T l) (is_static T r) h in
       ap₂ (λ x y. x && y) (static-later l a) (static-later r b)
 
   pub value-later : (e : PExpr) → is_static T e ≡ true → value_of U e ≡ value_of T e
   value-later (EInteger n s) h = refl
   value-later (EName id s) h = ap named (later.named id h)
   value-later (EIndex w e s) h = refl
-  value-later (EAttribute m w s) h = ap (λ o. Ok (bound_of (attribute_of w.name) o)) (mark-same m.name (right-true (is_bound (attribute_of w.name)) (is_some (mark_named T m.name)) h))
+  value-later (EAttribute m w s) h = ap (λ o. Ok (bound_of (attribute_of w.name) o)) (mark-same m.name (and_right (is_bound (attribute_of w.name)) (is_some (mark_named T m.name)) h))
   value-later (EAttributeOf m w e s) h =
-      let outer = left-true (keeps_static (attribute_of w.name) && is_some (mark_named T m.name)) (is_static T e) h in
-      let same = mark-same m.name (right-true (keeps_static (attribute_of w.name)) (is_some (mark_named T m.name)) outer) in
-      ap (then_do (attribute_at U (mark_named U m.name) (attribute_of w.name) s)) (value-later e (right-true (keeps_static (attribute_of w.name) && is_some (mark_named T m.name)) (is_static T e) h))
+      let outer = and_left (keeps_static (attribute_of w.name) && is_some (mark_named T m.name)) (is_static T e) h in
+      let same = mark-same m.name (and_right (keeps_static (attribute_of w.name)) (is_some (mark_named T m.name)) outer) in
+      ap (then_do (attribute_at U (mark_named U m.name) (attribute_of w.name) s)) (value-later e (and_right (keeps_static (attribute_of w.name) && is_some (mark_named T m.name)) (is_static T e) h))
       ∙ ap (λ o. then_do (attribute_at U o (attribute_of w.name) s) (value_of T e)) same
       ∙ then-same (value_of T e) _ _ (λ z. attribute-same m.name (mark_named T m.name) (attribute_of w.name) s z refl)
   value-later (EParen e s) h = value-later e h
   value-later (EUnary op e s) h = ap (then_do (static.signed op s)) (value-later e h)
-  value-later (EBinary op l r s) h = ap₂ (static.operated op s) (value-later l (left-true (is_static T l) (is_static T r) h)) (value-later r (right-true (is_static T l) (is_static T r) h))
+  value-later (EBinary op l r s) h = ap₂ (static.operated op s) (value-later l (and_left (is_static T l) (is_static T r) h)) (value-later r (and_right (is_static T l) (is_static T r) h))
 
   -- and is worth the same
   bound-same : (id : NameId) (m : Mark) (a : Attribute) → mark_named T id ≡ Some m → bound_value U (limits_of m) a ≡ bound_value T (limits_of m) a
@@ -153,21 +146,21 @@ module _ (T U : TypeTable) (root : Sound T) (later : IsLaterTable T U) where
   evaluated-later (EName id s) h = ap Ok (later.fixed id h)
   evaluated-later (EIndex w e s) h = absurd (true≢false (sym h))
   evaluated-later (EAttribute m w s) h =
-      let q = some-mark m.name (right-true (is_bound (attribute_of w.name)) (is_some (mark_named T m.name)) h) in
+      let q = some-mark m.name (and_right (is_bound (attribute_of w.name)) (is_some (mark_named T m.name)) h) in
       ap (λ o. Ok (bound_value U (limits_or o) (attribute_of w.name))) (mark-later m.name q.0 q.1)
       ∙ ap Ok (bound-same m.name q.0 (attribute_of w.name) q.1)
       ∙ ap (λ o. Ok (bound_value T (limits_or o) (attribute_of w.name))) (sym q.1)
   evaluated-later (EAttributeOf m w e s) h =
-      let outer = left-true (keeps_static (attribute_of w.name) && is_some (mark_named T m.name)) (is_static T e) h in
-      let q = some-mark m.name (right-true (keeps_static (attribute_of w.name)) (is_some (mark_named T m.name)) outer) in
-      ap (λ r. values.and_then r (λ v. attribute_value U (limits_named U m.name) (attribute_of w.name) v)) (evaluated-later e (right-true (keeps_static (attribute_of w.name) && is_some (mark_named T m.name)) (is_static T e) h))
+      let outer = and_left (keeps_static (attribute_of w.name) && is_some (mark_named T m.name)) (is_static T e) h in
+      let q = some-mark m.name (and_right (keeps_static (attribute_of w.name)) (is_some (mark_named T m.name)) outer) in
+      ap (λ r. values.and_then r (λ v. attribute_value U (limits_named U m.name) (attribute_of w.name) v)) (evaluated-later e (and_right (keeps_static (attribute_of w.name) && is_some (mark_named T m.name)) (is_static T e) h))
       ∙ and-same (evaluated T [] e) _ _
       (λ v. ap (λ o. attribute_value U (limits_or o) (attribute_of w.name) v) (mark-later m.name q.0 q.1)
       ∙ worth-same m.name q.0 (attribute_of w.name) v q.1
       ∙ ap (λ o. attribute_value T (limits_or o) (attribute_of w.name) v) (sym q.1))
   evaluated-later (EParen e s) h = evaluated-later e h
   evaluated-later (EUnary op e s) h = ap (λ r. values.and_then r (λ v. signed_value op v)) (evaluated-later e h)
-  evaluated-later (EBinary op l r s) h = ap₂ (evaluating.operated op) (evaluated-later l (left-true (is_static T l) (is_static T r) h)) (evaluated-later r (right-true (is_static T l) (is_static T r) h))
+  evaluated-later (EBinary op l r s) h = ap₂ (evaluating.operated op) (evaluated-later l (and_left (is_static T l) (is_static T r) h)) (evaluated-later r (and_right (is_static T l) (is_static T r) h))
 
   pub worth-later : (k : ℕ) (e : PExpr) (z : ℤ) → IsWorth T k e z → IsWorth U k e z
   worth-later k e z h = record {

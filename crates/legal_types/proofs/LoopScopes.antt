@@ -1,5 +1,5 @@
 -- The parameter of a loop has the first mark of its range's kind, so the loop's scope stands over the same table.
-use Rattle.std.proofs.Common.{◌≡◌, ℕ, zero, suc, ◌+◌, Bool, true, false, ◌==◌, if◌then◌else◌, cond, List, [], ◌∷◌, ◌++◌, find, position, is_some, option_map, slice_get, Option, Some, None, refl, sym, ap, ◌∙◌, subst, arith}
+use Rattle.std.proofs.Common.{◌≡◌, ℕ, suc, ◌+◌, Bool, true, false, ◌==◌, if◌then◌else◌, cond, List, [], ◌∷◌, ◌++◌, find, position, is_some, option_map, slice_get, Option, Some, None, refl, sym, ap, ◌∙◌, subst, arith}
 use Rattle.std.specs.List.{AllByRecursion, position_from}
 use Rattle.std.proofs.lemmas.Bool.{eq-eqb}
 use Rattle.std.proofs.lemmas.Iterator.Adapters.{position_from-zero}
@@ -22,15 +22,17 @@ use Rattle.ada_tree.specs.RuleMismatch.{is_allowed}
 use Rattle.ada_tree.specs.Sites.{site, if_there, expr_sites, bounds_sites, drange_sites, scheme_sites, loop_scope}
 use Rattle.ada_tree.specs.Declaring.{inside, with_name, first_mark_of, loop_thing, drange_kind}
 use Rattle.rewritten_types.specs.Agreement.{scalar_only as only_scalar, HasKind, IsScalar, mark_of_kind}
-use Rattle.rewritten_types.proofs.Lookups.{some-same, place-all}
+use Rattle.rewritten_types.proofs.Lookups.{place-all}
 use Rattle.rewritten_types.proofs.Owning.{own-kept}
 use Rattle.legal_sites.specs.Met.{IsMet}
-use Rattle.legal_sites.proofs.Meeting.{all-front}
-use Rattle.legal_types.proofs.ExprKinds.{LeadsOn, told, scalar-mark}
+use Rattle.legal_types.proofs.ExprKinds.{LeadsOn, scalar-mark}
 use Rattle.legal_types.proofs.StaticParts.{met-kind}
 use Rattle.legal_types.proofs.TypedValues.{mark-of, kind-read, if-same, unary-given, are-taken}
 use Rattle.legal_types.proofs.MainScopes.{Stands, StandsWhole}
 use Rattle.legal_types.proofs.InnerScopes.{AreApart, one-stands, inside-stands}
+use Rattle.common_lemmas.proofs.Lists.{all_front, found_some}
+use Rattle.common_lemmas.proofs.Options.{some_same}
+use Rattle.legal_sites.proofs.Around.{test-holds}
 
 -- ---- the first mark of a kind
 
@@ -47,26 +49,16 @@ find-from {A = A} p i (x ∷ xs) y e = by_test (p x) e (find-from p (i + 1) xs y
 find-place : {A : Type 0} (p : A → Bool) (xs : List A) (y : A) → find p xs ≡ Some y → (j : ℕ) × (position p xs ≡ Some j) × (slice_get xs j ≡ Some y)
 find-place p xs y e = let h = find-from p 0 xs y e in let z : 0 + h.0 ≡ h.0 = omega arith in (h.0, position_from-zero p xs ∙ h.1 ∙ ap Some z, h.2)
 
--- what stands there and passes is found, or another before it
-place-found : {A : Type 0} (p : A → Bool) (xs : List A) (k : ℕ) (y : A) → slice_get xs k ≡ Some y → p y ≡ true → (z : A) × (find p xs ≡ Some z)
-place-found p [] k y e f = absurd (none-some y e)
-place-found p (x ∷ xs) zero y e f = (x, ap (λ b. if b then Some x else find p xs) (ap p (some-same e) ∙ f))
-place-found {A = A} p (x ∷ xs) (suc k) y e f = by_test (p x) (place-found p xs k y e f)
-  where
-    by_test : (b : Bool) → (z : A) × (find p xs ≡ Some z) → (z : A) × ((if b then Some x else find p xs) ≡ Some z)
-    by_test true h = (x, refl)
-    by_test false h = h
-
 -- a kind has a mark
 abbrev HasMarkFor : TypeTable → ℕ → Type 0
 HasMarkFor T k = (m : Mark) × (mark_of_kind T k ≡ Some m)
 
 mark-there : (T : TypeTable) (i : ℕ) (x : Mark) (k : ℕ) → mark_at T i ≡ Some x → x.kind ≡ k → HasMarkFor T k
-mark-there T i x k e f = place-found (λ y. y.kind == k) T.marks i x e (eq-eqb x.kind k f)
+mark-there T i x k e f = found_some (λ y. y.kind == k) T.marks i x e (eq-eqb x.kind k f)
 
 bound-same : (a : Attribute) (j k : ℕ) → bound_kind a j ≡ Some k → j ≡ k
-bound-same First j k e = some-same e
-bound-same Last j k e = some-same e
+bound-same First j k e = some_same e
+bound-same Last j k e = some_same e
 bound-same Pos j k e = absurd (none-some k e)
 bound-same Val j k e = absurd (none-some k e)
 bound-same Succ j k e = absurd (none-some k e)
@@ -102,7 +94,7 @@ module _ (T : TypeTable) (s : Scope) (h : Stands T s) where
       by_thing (Some (LoopParameter m)) p f = leads-marked m k (h.over.clear.things id (LoopParameter m) p) f
       by_thing (Some (Literal j)) p f =
           let q = h.over.clear.things id (Literal j) p in
-          subst (HasMarkFor s.types) (some-same f) (scalar-marked j (q.0, sym (h.over.keeps.kinds j) ∙ q.1))
+          subst (HasMarkFor s.types) (some_same f) (scalar-marked j (q.0, sym (h.over.keeps.kinds j) ∙ q.1))
       by_thing (Some (TypeMark m)) p f = absurd (none-some k f)
       by_thing (Some (TaskType es)) p f = absurd (none-some k f)
       by_thing (Some (SingleTask es)) p f = absurd (none-some k f)
@@ -118,7 +110,7 @@ module _ (T : TypeTable) (s : Scope) (h : Stands T s) where
   part-marked part k e = by_mark (mark_at s.types part) refl e
     where
       by_mark : (o : Option Mark) → mark_at s.types part ≡ o → option_map (λ (m : Mark). m.kind) o ≡ Some k → HasMarkFor s.types k
-      by_mark (Some x) p f = mark-there s.types part x k p (some-same f)
+      by_mark (Some x) p f = mark-there s.types part x k p (some_same f)
       by_mark None p f = absurd (none-some k f)
 
   index-marked : (r : Reading) (q : Option ℕ) (k : ℕ) → component_kind s.types r q ≡ Some k → HasMarkFor s.types k
@@ -142,10 +134,10 @@ module _ (T : TypeTable) (s : Scope) (h : Stands T s) where
   attribute-marked id a q k e = by_kind (scalar_kind (marking s id)) refl e
     where
       by_attribute : (a : Attribute) (j : ℕ) → scalar_kind (marking s id) ≡ Some j → function_kind a j ≡ Some k → HasMarkFor s.types k
-      by_attribute Pos j p f = subst (HasMarkFor s.types) (some-same f) integer-marked
-      by_attribute Val j p f = subst (HasMarkFor s.types) (some-same f) (type-marked id j p)
-      by_attribute Succ j p f = subst (HasMarkFor s.types) (some-same f) (type-marked id j p)
-      by_attribute Pred j p f = subst (HasMarkFor s.types) (some-same f) (type-marked id j p)
+      by_attribute Pos j p f = subst (HasMarkFor s.types) (some_same f) integer-marked
+      by_attribute Val j p f = subst (HasMarkFor s.types) (some_same f) (type-marked id j p)
+      by_attribute Succ j p f = subst (HasMarkFor s.types) (some_same f) (type-marked id j p)
+      by_attribute Pred j p f = subst (HasMarkFor s.types) (some_same f) (type-marked id j p)
       by_attribute First j p f = absurd (none-some k f)
       by_attribute Last j p f = absurd (none-some k f)
       by_attribute Image j p f = absurd (none-some k f)
@@ -182,7 +174,7 @@ module _ (T : TypeTable) (s : Scope) (h : Stands T s) where
 
   -- the kind of an expression has a mark
   kind-has-mark : (e : PExpr) (k : ℕ) → kind_of s e ≡ Some k → HasMarkFor s.types k
-  kind-has-mark (EInteger n sp) k e = subst (HasMarkFor s.types) (some-same e) integer-marked
+  kind-has-mark (EInteger n sp) k e = subst (HasMarkFor s.types) (some_same e) integer-marked
   kind-has-mark (EName id sp) k e = name-marked id k e
   kind-has-mark (EIndex w x sp) k e = index-marked (reading s w.name) (kind_of s x) k e
   kind-has-mark (EAttribute m w sp) k e = bound-marked m.name (attribute_of w.name) k e
@@ -195,18 +187,18 @@ module _ (T : TypeTable) (s : Scope) (h : Stands T s) where
   range-has-mark : (r : PDrange) → AllByRecursion IsMet (drange_sites false s r) → (k : ℕ) × (drange_kind s r ≡ Some k) × HasMarkFor s.types k
   range-has-mark (RMarked x) met =
       let m = met.0 in
-      let mark = scalar-mark s h.over.clear x.mark.name (told (is_some (meaning s x.mark.name)) x.mark.span m.known) (told (is_allowed scalar_only (marking s x.mark.name)) x.mark.span m.matched) in
+      let mark = scalar-mark s h.over.clear x.mark.name (test-holds (is_some (meaning s x.mark.name)) x.mark.span m.known) (test-holds (is_allowed scalar_only (marking s x.mark.name)) x.mark.span m.matched) in
       let e = ap scalar_kind mark.marks in
       (mark.leads.mark.kind, e, type-marked x.mark.name mark.leads.mark.kind e)
   range-has-mark (RGiven b) met =
       let f = expr_sites s b.first in
       let l = expr_sites s b.last in
       let order : List Site = site s (must_not_be_empty b.first b.last) ∷ [] in
-      let h5 : AllByRecursion IsMet (f ++ [] ++ l ++ [] ++ order) = all-front IsMet (bounds_sites false s b) (site s (must_be_alike b.first b.last) ∷ []) met in
-      let h4 : AllByRecursion IsMet (f ++ [] ++ l ++ []) = all-front IsMet (f ++ [] ++ l ++ []) order h5 in
-      let h3 : AllByRecursion IsMet (f ++ [] ++ l) = all-front IsMet (f ++ [] ++ l) [] h4 in
-      let h2 : AllByRecursion IsMet (f ++ []) = all-front IsMet (f ++ []) l h3 in
-      let k = met-kind s h.over.clear b.first (all-front IsMet f [] h2) in
+      let h5 : AllByRecursion IsMet (f ++ [] ++ l ++ [] ++ order) = all_front IsMet (bounds_sites false s b) (site s (must_be_alike b.first b.last) ∷ []) met in
+      let h4 : AllByRecursion IsMet (f ++ [] ++ l ++ []) = all_front IsMet (f ++ [] ++ l ++ []) order h5 in
+      let h3 : AllByRecursion IsMet (f ++ [] ++ l) = all_front IsMet (f ++ [] ++ l) [] h4 in
+      let h2 : AllByRecursion IsMet (f ++ []) = all_front IsMet (f ++ []) l h3 in
+      let k = met-kind s h.over.clear b.first (all_front IsMet f [] h2) in
       (k.0, k.1, kind-has-mark b.first k.0 k.1)
 
 -- the statements of a loop

@@ -21,7 +21,7 @@ use Rattle.ada_tree.specs.RuleDuplicate.{is_predefined}
 use Rattle.ada_tree.specs.Refusals.{MeetsTypeRules, types_in}
 use Rattle.rewritten_types.specs.Agreement.{Keeps, Grows, Sound}
 use Rattle.rewritten_types.specs.Rewriting.{IsFirst, names_declared, IsUnused, DeclareOnce, NamesOnce}
-use Rattle.rewritten_types.proofs.Lookups.{some-same, find-all}
+use Rattle.rewritten_types.proofs.Lookups.{find-all}
 use Rattle.rewritten_types.proofs.Keeping.{grows-self, grows-on, keeps-self, keeps-on}
 use Rattle.rewritten_types.proofs.Adding.{keeps-objects}
 use Rattle.rewritten_types.proofs.Owning.{whole-first}
@@ -30,15 +30,17 @@ use Rattle.rewritten_types.proofs.Refused.{declared_once}
 use Rattle.rewritten_types.proofs.Fresh.{InHere, first-here, here-decl}
 use Rattle.rewritten_types.proofs.Unmarked.{first-unmarked}
 use Rattle.legal_sites.specs.Met.{IsMet}
-use Rattle.legal_sites.proofs.Meeting.{all_met, all-front, all-back}
+use Rattle.legal_sites.proofs.Meeting.{all_met}
 use Rattle.legal_types.specs.Typed.{IsSmall, HasPosition}
 use Rattle.legal_types.proofs.ExprKinds.{LeadsOn, IsClearThing}
 use Rattle.legal_types.proofs.TypedValues.{anybody, IsTyped, IsOver}
 use Rattle.legal_types.proofs.FirmTables.{IsFirmMark, IsAlone, small-before}
 use Rattle.legal_types.proofs.GoodScopes.{News, IsIn, names-told, names-kept, unused-apart, IsGood, good-typed}
-use Rattle.legal_types.proofs.GoodDeclarations.{grows-decl, good-decl}
+use Rattle.legal_types.proofs.GoodDeclarations.{grows-decl, good-decl, type-place}
 use Rattle.legal_types.proofs.LaterTables.{IsLaterTable, later-self, later-on}
 use Rattle.legal_types.proofs.LaterScopes.{valued-means, over-more, keeps-later, later-decl}
+use Rattle.common_lemmas.proofs.Lists.{all_back, all_front}
+use Rattle.common_lemmas.proofs.Options.{some_same}
 
 -- ---- what is said of each scope
 
@@ -73,15 +75,12 @@ find-name [] n y e = absurd (none-some y e)
 find-name (x ∷ xs) n y e = by_test (x.name == n) refl e (find-name xs n y)
   where
     by_test : (b : Bool) → (x.name == n) ≡ b → (if b then Some x else find (λ (z : Seen). z.name == n) xs) ≡ Some y → (find (λ (z : Seen). z.name == n) xs ≡ Some y → y.name ≡ n) → y.name ≡ n
-    by_test true p f rest = ap (λ (z : Seen). z.name) (sym (some-same f)) ∙ eqb-true x.name n p
+    by_test true p f rest = ap (λ (z : Seen). z.name) (sym (some_same f)) ∙ eqb-true x.name n p
     by_test false p f rest = rest f
-
-type-place : (a b : ℕ) → TypeMark a ≡ TypeMark b → a ≡ b
-type-place a b e = cc
 
 -- what a name means is what is found
 found-thing : (o : Option Seen) (x : Thing) → option_map (λ (y : Seen). y.thing) o ≡ Some x → (y : Seen) × (o ≡ Some y) × (y.thing ≡ x)
-found-thing (Some y) x e = (y, refl, some-same e)
+found-thing (Some y) x e = (y, refl, some_same e)
 found-thing None x e = absurd (none-some x e)
 
 module _ (name : Word) (unused : is_predefined name.name.0 ≡ false) where
@@ -193,8 +192,8 @@ module _ (name : Word) (unused : is_predefined name.name.0 ≡ false) where
           ∙ find-all IsMarkedSo (λ (z : Seen). z.name == id.0) first.names h.0 all-marked h.1 m h.2
 
   first-alone : (k : ℕ) (x : Kind) → kind_at predefined_types k ≡ Some x → IsAlone k x
-  first-alone zero x e = subst (IsAlone 0) (some-same e) refl
-  first-alone (suc zero) x e = subst (IsAlone 1) (some-same e) refl
+  first-alone zero x e = subst (IsAlone 0) (some_same e) refl
+  first-alone (suc zero) x e = subst (IsAlone 1) (some_same e) refl
   first-alone (suc (suc k)) x e = absurd (none-some x e)
 
   first-mark-firm : (m : Mark) (k : Kind) → kind_at predefined_types m.kind ≡ Some k → HasPosition predefined_types m.kind m.first → HasPosition predefined_types m.kind m.last → int_le m.first m.last ≡ true → IsFirmMark predefined_types m
@@ -240,8 +239,8 @@ to-stand : (T R : TypeTable) → IsTyped R → IsLaterTable R T → (ds : PDecls
 to-stand T R typed later no_decl s h met = record { root = R; typed = typed; over = h; later = later }
 to-stand T R typed later (decl_then d rest) s h met = (
   record { root = R; typed = typed; over = h.0; later = later },
-  all-front IsMet (decl_sites s d) (decls_sites (after_decl s d) rest) met,
-  to-stand T R typed later rest (after_decl s d) h.1 (all-back IsMet (decl_sites s d) (decls_sites (after_decl s d) rest) met),
+  all_front IsMet (decl_sites s d) (decls_sites (after_decl s d) rest) met,
+  to-stand T R typed later rest (after_decl s d) h.1 (all_back IsMet (decl_sites s d) (decls_sites (after_decl s d) rest) met),
 )
 
 -- a declaration in front, which is no body or stands so itself
@@ -337,7 +336,7 @@ walk : (names : List (List ℕ)) (ds : PDecls) (s : Scope) → IsGood s → Bodi
 walk names no_decl s good last once every met small = record { later = later-self s.types; all = record { root = s.types; typed = good-typed s good small; over = good.over; later = later-self s.types }; bodies = tt }
 walk names (decl_then d rest) s good last once every met small =
     ⊎_elim
-    (λ h. goes-on h.0 (walk names rest (after_decl s d) (good-next h.0) h.1 once.1 every.1 (all-back IsMet (decl_sites s d) (decls_sites (after_decl s d) rest) met) small))
+    (λ h. goes-on h.0 (walk names rest (after_decl s d) (good-next h.0) h.1 once.1 every.1 (all_back IsMet (decl_sites s d) (decls_sites (after_decl s d) rest) met) small))
     (λ h. ends h)
     (first-or-later d rest last)
   where
@@ -345,7 +344,7 @@ walk names (decl_then d rest) s good last once every met small =
     here-small = small-before s.types (after_decls s (decl_then d rest)).types (grows-decls (decl_then d rest) s) small
 
     good-next : IsFirst d → IsGood (after_decl s d)
-    good-next first = good-decl names d s good (small-before (after_decl s d).types (after_decls s (decl_then d rest)).types (grows-decls rest (after_decl s d)) small) first once.0 every.0 (all-front IsMet (decl_sites s d) (decls_sites (after_decl s d) rest) met)
+    good-next first = good-decl names d s good (small-before (after_decl s d).types (after_decls s (decl_then d rest)).types (grows-decls rest (after_decl s d)) small) first once.0 every.0 (all_front IsMet (decl_sites s d) (decls_sites (after_decl s d) rest) met)
 
     goes-on : IsFirst d → Walked (after_decl s d) rest → Walked s (decl_then d rest)
     goes-on first w =
@@ -354,7 +353,7 @@ walk names (decl_then d rest) s good last once every met small =
           later = l;
           all = (
             record { root = s.types; typed = good-typed s good here-small; over = good.over; later = l },
-            all-front IsMet (decl_sites s d) (decls_sites (after_decl s d) rest) met,
+            all_front IsMet (decl_sites s d) (decls_sites (after_decl s d) rest) met,
             w.all,
           );
           bodies = more-bodies (after_decls s (decl_then d rest)).types d rest s (inl first) w.bodies;
@@ -374,7 +373,7 @@ whole-walk p rules placed small =
     let once : NamesOnce p.name p.decls = declared_once p rules in
     let met = (all_met p rules).1 in
     walk p.names p.decls (first_scope p.name) (good-first p.name once.0.0) placed.1 once.1 placed.2
-    (all-front IsMet (decls_sites (first_scope p.name) p.decls) (body_sites (inside (after_decls (first_scope p.name) p.decls)) p.body) met) small
+    (all_front IsMet (decls_sites (first_scope p.name) p.decls) (body_sites (inside (after_decls (first_scope p.name) p.decls)) p.body) met) small
 
 -- At each declaration of main the scope stands over a firm table, of which the program's is a later one.
 pub main-stands : (p : PProgram) → MeetsTypeRules p → IsWellPlaced p → IsSmall (types_in p) → AllStand (types_in p) (first_scope p.name) p.decls

@@ -13,9 +13,10 @@ use Rattle.ada_tree.specs.Sites.{site, if_there, expr_sites, bounds_sites, const
 use Rattle.ada_tree.specs.RuleMismatch.{is_allowed}
 use Rattle.ada_tree.specs.RuleRangeBad.{raised, raises, is_below, empty_range}
 use Rattle.legal_sites.specs.Met.{IsMet}
-use Rattle.legal_sites.proofs.Meeting.{filled-not, all-front, all-back}
-use Rattle.rewritten_types.proofs.Lookups.{some-same}
-use Rattle.legal_types.proofs.ExprKinds.{IsClear, IsScalarMark, told, untold, same-kind, scalar-mark, has-kind}
+use Rattle.legal_types.proofs.ExprKinds.{IsClear, IsScalarMark, same-kind, scalar-mark, has-kind}
+use Rattle.common_lemmas.proofs.Lists.{all_back, all_front, not_empty}
+use Rattle.common_lemmas.proofs.Options.{some_same}
+use Rattle.legal_sites.proofs.Around.{test-fails, test-holds}
 
 pub all-mapped-of : {A B : Type 0} (P : B → Type 0) (f : A → B) (xs : List A) → AllByRecursion P (map f xs) → AllByRecursion (λ x. P (f x)) xs
 all-mapped-of P f [] h = tt
@@ -29,7 +30,7 @@ named-ok None = (pos 0, refl)
 
 not-raised : (r : Result ℤ Span) → raised r ≡ [] → (z : ℤ) × (r ≡ Ok z)
 not-raised (Ok z) e = (z, refl)
-not-raised (Err s) e = absurd (filled-not s [] e)
+not-raised (Err s) e = absurd (not_empty s [] e)
 
 fixed-value : (a b : Bool) (r : Result ℤ Span) (ys : List Span) → a ≡ true → b ≡ true → (if a && b then raised r else ys) ≡ [] → (z : ℤ) × (r ≡ Ok z)
 fixed-value true true r ys e f h = not-raised r h
@@ -70,7 +71,7 @@ static-read s k e z f = by_kind (kind_of s e) refl f
     clash g = absurd (true≢false (ap is_some (sym g)))
 
     by_worth : (r : Result ℤ Span) → value_of s.types e ≡ r → kind_of s e ≡ Some k → is_static s.types e ≡ true → ok_value r ≡ Some z → (h : IsStaticIn s k e) × (h.value ≡ z)
-    by_worth (Ok y) w p t g = (record { kind = p; static = t; value = y; worth = w }, some-same g)
+    by_worth (Ok y) w p t g = (record { kind = p; static = t; value = y; worth = w }, some_same g)
     by_worth (Err sp) w p t g = clash g
 
     by_static : (b : Bool) → is_static s.types e ≡ b → kind_of s e ≡ Some k → (if b then ok_value (value_of s.types e) else None) ≡ Some z → (h : IsStaticIn s k e) × (h.value ≡ z)
@@ -94,7 +95,7 @@ AreBounds s k b = (f : IsStaticIn s k b.first) × (l : IsStaticIn s k b.last) ×
 
 static-of : (a b : Bool) (sp : Span) → a ≡ true → (if a && not b then sp ∷ [] else []) ≡ [] → b ≡ true
 static-of true true sp e f = refl
-static-of true false sp e f = absurd (filled-not sp [] f)
+static-of true false sp e f = absurd (not_empty sp [] f)
 static-of false b sp e f = absurd (true≢false (sym e))
 
 module _ (s : Scope) (clear : IsClear s) where
@@ -114,7 +115,7 @@ module _ (s : Scope) (clear : IsClear s) where
   -- and where it must be of a kind it is of that one
   pub of-kind : (k j : ℕ) (e : PExpr) → IsStaticIn s j e → IsMet (site s (must_be_of e (Some k))) → IsStaticIn s k e
   of-kind k j e h m =
-      let other : is_other_kind (Some k) (Some j) ≡ false = ap (is_other_kind (Some k)) (sym h.kind) ∙ untold (is_other_kind (Some k) (kind_of s e)) (place_of e) m.matched in
+      let other : is_other_kind (Some k) (Some j) ≡ false = ap (is_other_kind (Some k)) (sym h.kind) ∙ test-fails (is_other_kind (Some k) (kind_of s e)) (place_of e) m.matched in
       subst (λ n. IsStaticIn s n e) (sym (eqb-true k j (same-kind k j other))) h
 
   -- both bounds
@@ -125,28 +126,28 @@ module _ (s : Scope) (clear : IsClear s) where
       let fs : List Site = site s (must_be_static b.first) ∷ [] in
       let ls : List Site = site s (must_be_static b.last) ∷ [] in
       let order : List Site = site s (must_not_be_empty b.first b.last) ∷ [] in
-      let h5 : AllByRecursion IsMet order = all-back IsMet (f ++ fs ++ l ++ ls) order h in
-      let h4 : AllByRecursion IsMet (f ++ fs ++ l ++ ls) = all-front IsMet (f ++ fs ++ l ++ ls) order h in
-      let h3 : AllByRecursion IsMet (f ++ fs ++ l) = all-front IsMet (f ++ fs ++ l) ls h4 in
-      let h2 : AllByRecursion IsMet (f ++ fs) = all-front IsMet (f ++ fs) l h3 in
-      let q : AllByRecursion IsMet fs = all-back IsMet f fs h2 in
-      let r : AllByRecursion IsMet ls = all-back IsMet (f ++ fs ++ l) ls h4 in
-      (met-static b.first (all-front IsMet f fs h2) q.0, met-static b.last (all-back IsMet (f ++ fs) l h3) r.0, h5.0)
+      let h5 : AllByRecursion IsMet order = all_back IsMet (f ++ fs ++ l ++ ls) order h in
+      let h4 : AllByRecursion IsMet (f ++ fs ++ l ++ ls) = all_front IsMet (f ++ fs ++ l ++ ls) order h in
+      let h3 : AllByRecursion IsMet (f ++ fs ++ l) = all_front IsMet (f ++ fs ++ l) ls h4 in
+      let h2 : AllByRecursion IsMet (f ++ fs) = all_front IsMet (f ++ fs) l h3 in
+      let q : AllByRecursion IsMet fs = all_back IsMet f fs h2 in
+      let r : AllByRecursion IsMet ls = all_back IsMet (f ++ fs ++ l) ls h4 in
+      (met-static b.first (all_front IsMet f fs h2) q.0, met-static b.last (all_back IsMet (f ++ fs) l h3) r.0, h5.0)
 
   -- static bounds of one kind between which a value lies
   in-order : (k : ℕ) (b : PBounds) (f : IsStaticIn s k b.first) (l : IsStaticIn s k b.last) → IsMet (site s (must_not_be_empty b.first b.last)) → int_le f.value l.value ≡ true
   in-order k b f l m =
       let e : empty_range s b.first b.last (Some k) ≡ [] = ap (empty_range s b.first b.last) (sym f.kind) ∙ m.ranged in
       let below : int_lt l.value f.value ≡ false =
-      ap₂ is_below (sym (static-told s k b.last l)) (sym (static-told s k b.first f)) ∙ untold (is_below (static_in s k b.last) (static_in s k b.first)) (place_of b.first) e in
+      ap₂ is_below (sym (static-told s k b.last l)) (sym (static-told s k b.first f)) ∙ test-fails (is_below (static_in s k b.last) (static_in s k b.first)) (place_of b.first) e in
       not-below l.value f.value below
 
   -- bounds behind a mark of a kind
   pub constraint-met : (k : ℕ) (b : PBounds) → AllByRecursion IsMet (constraint_sites true s (Some k) b) → AreBounds s k b
   constraint-met k b h =
       let ms : List Site = site s (must_be_of b.first (Some k)) ∷ site s (must_be_of b.last (Some k)) ∷ [] in
-      let r = bounds-met b (all-front IsMet (bounds_sites true s b) ms h) in
-      let q : AllByRecursion IsMet ms = all-back IsMet (bounds_sites true s b) ms h in
+      let r = bounds-met b (all_front IsMet (bounds_sites true s b) ms h) in
+      let q : AllByRecursion IsMet ms = all_back IsMet (bounds_sites true s b) ms h in
       let first = of-kind k r.0.0 b.first r.0.1 q.0 in
       let last = of-kind k r.1.0 b.last r.1.1 q.1.0 in
       (first, last, in-order k b first last r.2)
@@ -177,8 +178,8 @@ module _ (s : Scope) (clear : IsClear s) where
 
   pub subind-met : (x : PSubind) → AllByRecursion IsMet (subind_sites true scalar_only s x) → HasSubtype s x
   subind-met x h =
-      let known = told (is_some (meaning s x.mark.name)) x.mark.span h.0.known in
-      let mark = scalar-mark s clear x.mark.name known (told (is_allowed scalar_only (marking s x.mark.name)) x.mark.span h.0.matched) in
+      let known = test-holds (is_some (meaning s x.mark.name)) x.mark.span h.0.known in
+      let mark = scalar-mark s clear x.mark.name known (test-holds (is_allowed scalar_only (marking s x.mark.name)) x.mark.span h.0.matched) in
       record { mark = mark; bounds = mark-bounds (scalar_kind (marking s x.mark.name)) mark.leads.mark.kind x.bounds (ap scalar_kind mark.marks) h.1 }
 
   -- A range of a declaration at which nothing is refused is static.
@@ -186,10 +187,10 @@ module _ (s : Scope) (clear : IsClear s) where
   drange-met (RMarked x) h = subind-met x h
   drange-met (RGiven b) h =
       let ms : List Site = site s (must_be_alike b.first b.last) ∷ [] in
-      let r = bounds-met s clear b (all-front IsMet (bounds_sites true s b) ms h) in
-      let qs : AllByRecursion IsMet ms = all-back IsMet (bounds_sites true s b) ms h in
+      let r = bounds-met s clear b (all_front IsMet (bounds_sites true s b) ms h) in
+      let qs : AllByRecursion IsMet ms = all_back IsMet (bounds_sites true s b) ms h in
       let q = qs.0 in
       let other : is_other_kind (Some r.0.0) (Some r.1.0) ≡ false =
-      ap₂ is_other_kind (sym r.0.1.kind) (sym r.1.1.kind) ∙ untold (is_other_kind (kind_of s b.first) (kind_of s b.last)) (place_of b.last) q.matched in
+      ap₂ is_other_kind (sym r.0.1.kind) (sym r.1.1.kind) ∙ test-fails (is_other_kind (kind_of s b.first) (kind_of s b.last)) (place_of b.last) q.matched in
       let last = subst (λ n. IsStaticIn s n b.last) (sym (eqb-true r.0.0 r.1.0 (same-kind r.0.0 r.1.0 other))) r.1.1 in
       record { kind = r.0.0; first = r.0.1; last = last; order = in-order s clear r.0.0 b r.0.1 last r.2 }

@@ -32,18 +32,19 @@ use Rattle.ada_value.specs.Values.{limits_of, limits_or}
 use Rattle.ada_value.specs.Evaluating.{bounds_of, narrowed, range_between}
 use Rattle.rewritten_types.specs.Agreement.{IsScalar}
 use Rattle.rewritten_types.specs.Rewriting.{DeclareOnce}
-use Rattle.rewritten_types.proofs.Lookups.{find-all, all-append}
+use Rattle.rewritten_types.proofs.Lookups.{find-all}
 use Rattle.rewritten_types.proofs.Refused.{declared_once}
 use Rattle.legal_sites.specs.Met.{IsMet}
-use Rattle.legal_sites.proofs.Meeting.{all-front, all-back, all-flat}
 use Rattle.legal_types.specs.Typed.{HasLimits, HasPosition, HasTypedTasks, IsFirstEntry, IsFirstTask, IsScalarName, IsSmall, IsTypedEntry, IsTypedPart, IsTypedTask}
-use Rattle.legal_types.proofs.ExprKinds.{IsScalarMark, told, scalar-mark}
+use Rattle.legal_types.proofs.ExprKinds.{IsScalarMark, scalar-mark}
 use Rattle.legal_types.proofs.StaticParts.{IsStaticIn, AreBounds, static-told, HasRange, drange-met}
 use Rattle.legal_types.proofs.TypedValues.{mark-of}
 use Rattle.legal_types.proofs.StaticWorth.{IsWorth, worth, worth-value, small-literals}
 use Rattle.legal_types.proofs.FirmTables.{scalar-grown, scalar-has, value-grown}
 use Rattle.legal_types.proofs.LaterTables.{mark-later, worth-later}
 use Rattle.legal_types.proofs.MainScopes.{Stands, AllStand, main-stands}
+use Rattle.common_lemmas.proofs.Lists.{all_back, all_flat, all_front, all_joined, all_weaker, append_last}
+use Rattle.legal_sites.proofs.Around.{test-holds}
 
 -- ---- marks and ranges
 
@@ -171,17 +172,9 @@ find-behind : {A : Type 0} (p : A → Bool) (before : List A) (x : A) (behind : 
 find-behind p [] x behind h e = ap (λ b. if b then Some x else find p behind) e
 find-behind p (y ∷ before) x behind h e = ap (λ b. if b then Some y else find p (before ++ x ∷ behind)) h.0 ∙ find-behind p before x behind h.1 e
 
-append-last : {A : Type 0} (before : List A) (x : A) (behind : List A) → (before ++ x ∷ []) ++ behind ≡ before ++ x ∷ behind
-append-last [] x behind = refl
-append-last (y ∷ before) x behind = ap (λ l. y ∷ l) (append-last before x behind)
-
 all-last : {A : Type 0} (P : A → Type 0) (xs : List A) (y : A) → AllByRecursion P xs → P y → AllByRecursion P (xs ++ y ∷ [])
 all-last P [] y h k = (k, tt)
 all-last P (x ∷ xs) y h k = (h.0, all-last P xs y h.1 k)
-
-all-more : {A : Type 0} (P Q : A → Type 0) (xs : List A) → ((x : A) → P x → Q x) → AllByRecursion P xs → AllByRecursion Q xs
-all-more P Q [] f h = tt
-all-more P Q (x ∷ xs) f h = (f x h.0, all-more P Q xs f h.1)
 
 pub no-word : (b : Bool) (w : Word) → (if b then w.span ∷ [] else []) ≡ [] → b ≡ false
 no-word true w e = cc
@@ -210,7 +203,7 @@ module _ (T : TypeTable) (s : Scope) (stands : Stands T s) (names : List (List �
   formals-typed (f ∷ fs) h =
       let m = h.0.0 in (
         name-here T s stands f.mark.name
-            (scalar-mark s stands.over.clear f.mark.name (told (is_some (meaning s f.mark.name)) f.mark.span m.known) (told (is_allowed scalar_only (marking s f.mark.name)) f.mark.span m.matched)),
+            (scalar-mark s stands.over.clear f.mark.name (test-holds (is_some (meaning s f.mark.name)) f.mark.span m.known) (test-holds (is_allowed scalar_only (marking s f.mark.name)) f.mark.span m.matched)),
         formals-typed fs h.1,
       )
 
@@ -222,10 +215,10 @@ module _ (T : TypeTable) (s : Scope) (stands : Stands T s) (names : List (List �
   entry-typed before e every h =
       let family = if_there (drange_sites true s) e.family in
       let rest : AllByRecursion IsMet (family ++ formals_sites s e.formals) = h.1 in
-      let formals : AllByRecursion IsMet (formals_sites s e.formals) = all-back IsMet family (formals_sites s e.formals) rest in (
+      let formals : AllByRecursion IsMet (formals_sites s e.formals) = all_back IsMet family (formals_sites s e.formals) rest in (
         record {
-          family = family-typed e.family every.2 (all-front IsMet family (formals_sites s e.formals) rest);
-          formals = formals-typed e.formals (all-flat IsMet (λ f. mark_sites scalar_only s f.mark) e.formals (all-back IsMet (names_sites false (inside s) (all_names e.formals)) (formal_mark_sites s e.formals) formals));
+          family = family-typed e.family every.2 (all_front IsMet family (formals_sites s e.formals) rest);
+          formals = formals-typed e.formals (all_flat IsMet (λ f. mark_sites scalar_only s f.mark) e.formals (all_back IsMet (names_sites false (inside s) (all_names e.formals)) (formal_mark_sites s e.formals) formals));
         },
         no-word (is_among before e.name.name.0) e.name h.0.once,
       )
@@ -234,15 +227,15 @@ module _ (T : TypeTable) (s : Scope) (stands : Stands T s) (names : List (List �
       AllByRecursion (IsTypedEntry T) es × AllByRecursion (IsFirstEntry (seen ++ es)) es
   entries-typed before seen [] used every h = (tt, tt)
   entries-typed before seen (e ∷ es) used every h =
-      let q = entry-typed before e every.0 (all-front IsMet (entry_sites s before e) (entries_sites s (e.name.name.0 ∷ before) es) h) in
+      let q = entry-typed before e every.0 (all_front IsMet (entry_sites s before e) (entries_sites s (e.name.name.0 ∷ before) es) h) in
       let n = e.name.name.0 in
       let r = entries-typed (n ∷ before) (seen ++ e ∷ []) es
-      (all-last _ seen e (all-more _ _ seen (λ x u. among-more before n x.name.name.0 u) used) (among-first before n)) every.1
-      (all-back IsMet (entry_sites s before e) (entries_sites s (n ∷ before) es) h) in (
+      (all-last _ seen e (all_weaker _ _ seen (λ x u. among-more before n x.name.name.0 u) used) (among-first before n)) every.1
+      (all_back IsMet (entry_sites s before e) (entries_sites s (n ∷ before) es) h) in (
         (q.0, r.0),
         (
-          find-behind (λ x. x.name.name.0 == n) seen e es (all-more _ _ seen (λ x u. among-apart before x.name.name.0 n u q.1) used) (eq-eqb n n refl),
-          subst (λ l. AllByRecursion (IsFirstEntry l) es) (append-last seen e es) r.1,
+          find-behind (λ x. x.name.name.0 == n) seen e es (all_weaker _ _ seen (λ x u. among-apart before x.name.name.0 n u q.1) used) (eq-eqb n n refl),
+          subst (λ l. AllByRecursion (IsFirstEntry l) es) (append_last seen e es) r.1,
         ),
       )
 
@@ -250,7 +243,7 @@ module _ (T : TypeTable) (s : Scope) (stands : Stands T s) (names : List (List �
   task-typed t every h =
       let es = entries_sites s [] t.entries in
       let rest : AllByRecursion IsMet (es ++ flat_map (λ q. static_of s (Some 0) q.value) t.priorities) = h.1 in
-      let r = entries-typed [] [] t.entries tt (recursion_from_All _ t.entries every.1) (all-front IsMet es (flat_map (λ q. static_of s (Some 0) q.value) t.priorities) rest) in
+      let r = entries-typed [] [] t.entries tt (recursion_from_All _ t.entries every.1) (all_front IsMet es (flat_map (λ q. static_of s (Some 0) q.value) t.priorities) rest) in
       record { entries = r.0; found = r.1 }
 
 -- ---- tasks
@@ -264,17 +257,17 @@ tasks-found : (ds : PDecls) (s : Scope) (seen : List PTask) → AllByRecursion (
 tasks-found no_decl s seen used once = tt
 tasks-found (decl_then (DTask t sp) rest) s seen used once =
     let n = t.name.name.0 in (
-      find-behind (λ x. x.name.name.0 == n) seen t (tasks_in (decl_list rest)) (all-more _ _ seen (λ x u. among-apart s.here x.name.name.0 n u once.0.0.1) used) (eq-eqb n n refl),
-      subst (λ l. AllByRecursion (IsFirstTask l) (tasks_in (decl_list rest))) (append-last seen t (tasks_in (decl_list rest)))
-          (tasks-found rest (after_decl s (DTask t sp)) (seen ++ t ∷ []) (all-last _ seen t (all-more _ _ seen (λ x u. among-more s.here n x.name.name.0 u) used) (among-first s.here n)) once.1),
+      find-behind (λ x. x.name.name.0 == n) seen t (tasks_in (decl_list rest)) (all_weaker _ _ seen (λ x u. among-apart s.here x.name.name.0 n u once.0.0.1) used) (eq-eqb n n refl),
+      subst (λ l. AllByRecursion (IsFirstTask l) (tasks_in (decl_list rest))) (append_last seen t (tasks_in (decl_list rest)))
+          (tasks-found rest (after_decl s (DTask t sp)) (seen ++ t ∷ []) (all-last _ seen t (all_weaker _ _ seen (λ x u. among-more s.here n x.name.name.0 u) used) (among-first s.here n)) once.1),
     )
-tasks-found (decl_then (DNumber name e sp) rest) s seen used once = tasks-found rest _ seen (all-more _ _ seen (λ x u. among-more s.here name.name.0 x.name.name.0 u) used) once.1
-tasks-found (decl_then (DObject ws constant shape init sp) rest) s seen used once = tasks-found rest _ seen (all-more _ _ seen (λ x u. among-names _ ws _ x.name.name.0 u) used) once.1
-tasks-found (decl_then (DEnumeration name ws sp) rest) s seen used once = tasks-found rest _ seen (all-more _ _ seen (λ x u. among-names _ ws _ x.name.name.0 (among-more s.here name.name.0 x.name.name.0 u)) used) once.1
-tasks-found (decl_then (DArray name index x sp) rest) s seen used once = tasks-found rest _ seen (all-more _ _ seen (λ x u. among-more s.here name.name.0 x.name.name.0 u) used) once.1
-tasks-found (decl_then (DSubtype name x sp) rest) s seen used once = tasks-found rest _ seen (all-more _ _ seen (λ x u. among-more s.here name.name.0 x.name.name.0 u) used) once.1
-tasks-found (decl_then (DException ws sp) rest) s seen used once = tasks-found rest _ seen (all-more _ _ seen (λ x u. among-names _ ws _ x.name.name.0 u) used) once.1
-tasks-found (decl_then (DIntIo name sp) rest) s seen used once = tasks-found rest _ seen (all-more _ _ seen (λ x u. among-more s.here name.name.0 x.name.name.0 u) used) once.1
+tasks-found (decl_then (DNumber name e sp) rest) s seen used once = tasks-found rest _ seen (all_weaker _ _ seen (λ x u. among-more s.here name.name.0 x.name.name.0 u) used) once.1
+tasks-found (decl_then (DObject ws constant shape init sp) rest) s seen used once = tasks-found rest _ seen (all_weaker _ _ seen (λ x u. among-names _ ws _ x.name.name.0 u) used) once.1
+tasks-found (decl_then (DEnumeration name ws sp) rest) s seen used once = tasks-found rest _ seen (all_weaker _ _ seen (λ x u. among-names _ ws _ x.name.name.0 (among-more s.here name.name.0 x.name.name.0 u)) used) once.1
+tasks-found (decl_then (DArray name index x sp) rest) s seen used once = tasks-found rest _ seen (all_weaker _ _ seen (λ x u. among-more s.here name.name.0 x.name.name.0 u) used) once.1
+tasks-found (decl_then (DSubtype name x sp) rest) s seen used once = tasks-found rest _ seen (all_weaker _ _ seen (λ x u. among-more s.here name.name.0 x.name.name.0 u) used) once.1
+tasks-found (decl_then (DException ws sp) rest) s seen used once = tasks-found rest _ seen (all_weaker _ _ seen (λ x u. among-names _ ws _ x.name.name.0 u) used) once.1
+tasks-found (decl_then (DIntIo name sp) rest) s seen used once = tasks-found rest _ seen (all_weaker _ _ seen (λ x u. among-more s.here name.name.0 x.name.name.0 u) used) once.1
 tasks-found (decl_then (DPragma e sp) rest) s seen used once = tasks-found rest _ seen used once.1
 tasks-found (decl_then (DTaskBody w objects its sp) rest) s seen used once = tasks-found rest _ seen used once.1
 
@@ -306,9 +299,9 @@ object-parts T names kinds s stands ws constant (OArray index x) init every h =
     let first : List Site = names_sites (s.in_main && (constant || is_task_object d.thing)) s ws in
     let second : List Site = shape_sites s constant (OArray index x) init in
     let third : List Site = if_there (init_sites s d.types (object_marking d)) init in
-    let met : AllByRecursion IsMet second = all-back IsMet first second (all-front IsMet (first ++ second) third h) in
+    let met : AllByRecursion IsMet second = all_back IsMet first second (all_front IsMet (first ++ second) third h) in
     let sub : List Site = subind_sites true (component_marks (may_be_task s constant x.bounds init)) s x in
-    parts-of-type T (type_named kinds x.mark.name) ws (Some index) (range-here T s stands names index every.0 (drange-met s stands.over.clear index (all-front IsMet (drange_sites true s index) sub met)))
+    parts-of-type T (type_named kinds x.mark.name) ws (Some index) (range-here T s stands names index every.0 (drange-met s stands.over.clear index (all_front IsMet (drange_sites true s index) sub met)))
 
 single-typed : (T : TypeTable) (b : Bool) (t : PTask) (sp : Span) → AllByRecursion (IsTypedPart T) (single_task_name b t sp)
 single-typed T true t sp = tt
@@ -317,9 +310,9 @@ single-typed T false t sp = (tt, tt)
 parts-typed : (T : TypeTable) (names : List (List ℕ)) (ds : PDecls) (kinds : List PTask) (s : Scope) → AllStand T s ds → EveryDecls (well_placed names) ds → AllByRecursion (IsTypedPart T) (task_names_in kinds ds)
 parts-typed T names no_decl kinds s h every = tt
 parts-typed T names (decl_then (DTask t sp) rest) kinds s h every =
-    all-append (IsTypedPart T) (single_task_name t.of_kind t sp) _ (single-typed T t.of_kind t sp) (parts-typed T names rest (with_type kinds t.of_kind t) (after_decl s (DTask t sp)) h.2 every.1)
+    all_joined (IsTypedPart T) (single_task_name t.of_kind t sp) _ (single-typed T t.of_kind t sp) (parts-typed T names rest (with_type kinds t.of_kind t) (after_decl s (DTask t sp)) h.2 every.1)
 parts-typed T names (decl_then (DObject ws constant shape init sp) rest) kinds s h every =
-    all-append (IsTypedPart T) (object_task_names kinds ws shape) _ (object-parts T names kinds s h.0 ws constant shape init every.0.2 h.1) (parts-typed T names rest kinds _ h.2 every.1)
+    all_joined (IsTypedPart T) (object_task_names kinds ws shape) _ (object-parts T names kinds s h.0 ws constant shape init every.0.2 h.1) (parts-typed T names rest kinds _ h.2 every.1)
 parts-typed T names (decl_then (DNumber name e sp) rest) kinds s h every = parts-typed T names rest kinds _ h.2 every.1
 parts-typed T names (decl_then (DEnumeration name ws sp) rest) kinds s h every = parts-typed T names rest kinds _ h.2 every.1
 parts-typed T names (decl_then (DArray name index x sp) rest) kinds s h every = parts-typed T names rest kinds _ h.2 every.1
@@ -356,8 +349,8 @@ more-types P kinds false t h k = k
 pub part-units : (P : PTask → Type 0) (ds : PDecls) (kinds : List PTask) → AllByRecursion P kinds → AllByRecursion P (tasks_in (decl_list ds)) → AllByRecursion (λ (x : NamedTasks). P x.unit) (task_names_in kinds ds)
 part-units P no_decl kinds k h = tt
 part-units P (decl_then (DTask t sp) rest) kinds k h =
-    all-append (λ (x : NamedTasks). P x.unit) (single_task_name t.of_kind t sp) _ (single-unit P t.of_kind t sp h.0) (part-units P rest (with_type kinds t.of_kind t) (more-types P kinds t.of_kind t h.0 k) h.1)
-part-units P (decl_then (DObject ws constant shape init sp) rest) kinds k h = all-append (λ (x : NamedTasks). P x.unit) (object_task_names kinds ws shape) _ (object-units P kinds ws shape k) (part-units P rest kinds k h)
+    all_joined (λ (x : NamedTasks). P x.unit) (single_task_name t.of_kind t sp) _ (single-unit P t.of_kind t sp h.0) (part-units P rest (with_type kinds t.of_kind t) (more-types P kinds t.of_kind t h.0 k) h.1)
+part-units P (decl_then (DObject ws constant shape init sp) rest) kinds k h = all_joined (λ (x : NamedTasks). P x.unit) (object_task_names kinds ws shape) _ (object-units P kinds ws shape k) (part-units P rest kinds k h)
 part-units P (decl_then (DNumber name e sp) rest) kinds k h = part-units P rest kinds k h
 part-units P (decl_then (DEnumeration name ws sp) rest) kinds k h = part-units P rest kinds k h
 part-units P (decl_then (DArray name index x sp) rest) kinds k h = part-units P rest kinds k h
@@ -398,24 +391,24 @@ module _ (T : TypeTable) (s : Scope) (stands : Stands T s) (names : List (List �
   entries-ranges : (before : List ℕ) (es : List PEntry) → AllByRecursion (EveryEntry (well_placed names)) es → AllByRecursion IsMet (entries_sites s before es) → AllByRecursion (λ (e : PEntry). IfSome e.family (IsRangeHere T s)) es
   entries-ranges before [] every h = tt
   entries-ranges before (e ∷ es) every h =
-      let first : AllByRecursion IsMet (entry_sites s before e) = all-front IsMet (entry_sites s before e) (entries_sites s (e.name.name.0 ∷ before) es) h in
+      let first : AllByRecursion IsMet (entry_sites s before e) = all_front IsMet (entry_sites s before e) (entries_sites s (e.name.name.0 ∷ before) es) h in
       let rest : AllByRecursion IsMet (if_there (drange_sites true s) e.family ++ formals_sites s e.formals) = first.1 in (
-        family-range e.family every.0.2 (all-front IsMet (if_there (drange_sites true s) e.family) (formals_sites s e.formals) rest),
-        entries-ranges (e.name.name.0 ∷ before) es every.1 (all-back IsMet (entry_sites s before e) (entries_sites s (e.name.name.0 ∷ before) es) h),
+        family-range e.family every.0.2 (all_front IsMet (if_there (drange_sites true s) e.family) (formals_sites s e.formals) rest),
+        entries-ranges (e.name.name.0 ∷ before) es every.1 (all_back IsMet (entry_sites s before e) (entries_sites s (e.name.name.0 ∷ before) es) h),
       )
 
   decl-ranges : (d : PDecl) → EveryDecl (well_placed names) d → AllByRecursion IsMet (decl_sites s d) → DeclRanges T s d
   decl-ranges (DTask t sp) every h =
       let rest : AllByRecursion IsMet (entries_sites s [] t.entries ++ flat_map (λ q. static_of s (Some 0) q.value) t.priorities) = h.1 in
-      entries-ranges [] t.entries (recursion_from_All _ t.entries every.1.1) (all-front IsMet (entries_sites s [] t.entries) (flat_map (λ q. static_of s (Some 0) q.value) t.priorities) rest)
+      entries-ranges [] t.entries (recursion_from_All _ t.entries every.1.1) (all_front IsMet (entries_sites s [] t.entries) (flat_map (λ q. static_of s (Some 0) q.value) t.priorities) rest)
   decl-ranges (DObject ws constant (OArray index x) init sp) every h =
       let d = declared_object s constant (OArray index x) in
       let first : List Site = names_sites (s.in_main && (constant || is_task_object d.thing)) s ws in
       let second : List Site = shape_sites s constant (OArray index x) init in
       let third : List Site = if_there (init_sites s d.types (object_marking d)) init in
-      let met : AllByRecursion IsMet second = all-back IsMet first second (all-front IsMet (first ++ second) third h) in
+      let met : AllByRecursion IsMet second = all_back IsMet first second (all_front IsMet (first ++ second) third h) in
       let sub : List Site = subind_sites true (component_marks (may_be_task s constant x.bounds init)) s x in
-      limits-here T s stands names index every.2.0 (drange-met s stands.over.clear index (all-front IsMet (drange_sites true s index) sub met))
+      limits-here T s stands names index every.2.0 (drange-met s stands.over.clear index (all_front IsMet (drange_sites true s index) sub met))
   decl-ranges (DObject ws constant (OPlain x) init sp) every h = tt
   decl-ranges (DNumber name e sp) every h = tt
   decl-ranges (DEnumeration name ws sp) every h = tt

@@ -1,5 +1,5 @@
 -- What a static expression of a kind is worth is a value of that kind.
-use Rattle.std.proofs.Common.{◌≡◌, ℕ, ℤ, zero, suc, pos, negsuc, ◌+ℤ◌, ◌-ℤ◌, Bool, true, false, ◌&&◌, ◌==◌, if◌then◌else◌, List, [], ◌∷◌, is_some, option_map, unwrap_or, IfSome, int_le, int_lt, int_div, int_rem, neg_ℤ, ◌*ℤ◌, length, slice_get, ◌<◌, ◌≤◌, ◌≤ℤ◌, arith, Option, Some, None, Result, Ok, Err, refl, sym, ap, ◌∙◌, subst, true≢false, eqb-true}
+use Rattle.std.proofs.Common.{◌≡◌, ℕ, ℤ, zero, suc, pos, negsuc, ◌+ℤ◌, ◌-ℤ◌, Bool, true, false, ◌&&◌, ◌==◌, if◌then◌else◌, List, [], ◌∷◌, is_some, option_map, unwrap_or, IfSome, int_le, int_lt, int_div, int_rem, neg_ℤ, ◌*ℤ◌, length, slice_get, ◌<◌, arith, Option, Some, None, Result, Ok, Err, refl, sym, ap, ◌∙◌, subst, eqb-true}
 use Rattle.std.specs.Ordering.{int_eq}
 use Rattle.std.specs.List.{AllByRecursion}
 use Rattle.std.proofs.lemmas.Int.{ints}
@@ -31,9 +31,13 @@ use Rattle.ada_value.specs.Evaluating as evaluating
 use Rattle.ada_value.specs.Evaluating.{evaluated, literal_value, constant_value, fixed_value, bound_value, attribute_value, signed_value, combined}
 use Rattle.ada_value.specs.StaticLaw.{HasFewLiterals, IsSound}
 use Rattle.rewritten_types.specs.Agreement.{scalar_only, HasMark, IsScalar, Keeps, Sound, Whole}
-use Rattle.rewritten_types.proofs.Lookups.{some-same, find-all}
+use Rattle.rewritten_types.proofs.Lookups.{find-all}
 use Rattle.legal_types.specs.Typed.{HasLiteral, HasPosition}
 use Rattle.legal_types.proofs.ExprKinds.{IsClear}
+use Rattle.ada_value.proofs.StaticLaws.{small_word}
+use Rattle.common_lemmas.proofs.Numbers.{int_le_is}
+use Rattle.common_lemmas.proofs.Options.{some_same}
+use Rattle.common_lemmas.proofs.Truth.{and_left, and_right, clash}
 
 -- all names are old
 abbrev pub anybody : ℕ → Bool
@@ -75,9 +79,6 @@ pub record IsOver (T : TypeTable) (s : Scope) : Type 0 where
   pub literals : (id : NameId) (v : Value) → literal_value T.kinds 0 id ≡ Some v → (k : ℕ) × (meaning s id ≡ Some (Literal k)) × IsOf T k v
   pub falses : (id : NameId) → (id.0 == false_name) ≡ true → meaning s id ≡ Some (Literal truth_kind)
   pub trues : (id : NameId) → (id.0 == true_name) ≡ true → meaning s id ≡ Some (Literal truth_kind)
-
-clash : {A : Type 0} → false ≡ true → A
-clash h = absurd (true≢false (sym h))
 
 -- ---- results
 
@@ -142,44 +143,30 @@ module _ (T : TypeTable) (typed : IsTyped T) where
 
 -- ---- positions
 
-le-true : (a b : ℤ) → int_le a b ≡ true → a ≤ℤ b
-le-true a b h = grind (arith, ints)
-
-left-true : (p q : Bool) → (p && q) ≡ true → p ≡ true
-left-true true q h = refl
-left-true false q h = h
-
-right-true : (p q : Bool) → (p && q) ≡ true → q ≡ true
-right-true true q h = h
-right-true false q h = clash h
-
-pub small-word : (n : ℕ) → n ≤ 2147483647 → word n ≡ n
-small-word n h = grind arith
-
 -- a value of a kind at a position that the kind has is there
 has-position : (k : ℕ) (o : Option Kind) (z : ℤ) → IfSome o HasFewLiterals → is_of_kind o z ≡ true → position_of (value_in k o z) ≡ z
 has-position k (Some kind.Integer) z f e = ap (λ b. position_of (if b then Number z else Number (pos 0))) e
 has-position k (Some kind.Truth) (pos zero) f e = refl
 has-position k (Some kind.Truth) (pos (suc zero)) f e = refl
 has-position k (Some kind.Truth) (pos (suc (suc n))) f e =
-    let no = le-true (pos (suc (suc n))) (pos 1) (right-true (int_le (pos 0) (pos (suc (suc n)))) (int_le (pos (suc (suc n))) (pos 1)) e) in
+    let no = int_le_is (pos (suc (suc n))) (pos 1) (and_right (int_le (pos 0) (pos (suc (suc n)))) (int_le (pos (suc (suc n))) (pos 1)) e) in
     absurd (omega (arith, ints))
 has-position k (Some kind.Truth) (negsuc n) f e =
-    let no = le-true (pos 0) (negsuc n) (left-true (int_le (pos 0) (negsuc n)) (int_le (negsuc n) (pos 1)) e) in
+    let no = int_le_is (pos 0) (negsuc n) (and_left (int_le (pos 0) (negsuc n)) (int_le (negsuc n) (pos 1)) e) in
     absurd (omega (arith, ints))
 has-position k (Some (kind.Enumeration names)) (pos n) f e =
-    let under : int_lt (pos n) (pos (length names)) ≡ true = right-true (int_le (pos 0) (pos n)) (int_lt (pos n) (pos (length names))) e in
+    let under : int_lt (pos n) (pos (length names)) ≡ true = and_right (int_le (pos 0) (pos n)) (int_lt (pos n) (pos (length names))) e in
     let less : n < length names = grind (arith, ints) in
-    ap pos (small-word n (omega arith))
+    ap pos (small_word n (omega arith))
 has-position k (Some (kind.Enumeration names)) (negsuc n) f e =
-    let no = le-true (pos 0) (negsuc n) (left-true (int_le (pos 0) (negsuc n)) (int_lt (negsuc n) (pos (length names))) e) in
+    let no = int_le_is (pos 0) (negsuc n) (and_left (int_le (pos 0) (negsuc n)) (int_lt (negsuc n) (pos (length names))) e) in
     absurd (omega (arith, ints))
 has-position k (Some (kind.Array index first last part)) z f e = clash e
 has-position k None z f e = clash e
 
 -- of an enumeration a literal stands there
 base-literal : (o : Option Kind) (z : ℤ) → is_of_kind o z ≡ true → HasLiteral o z
-base-literal (Some (kind.Enumeration names)) z e = right-true (int_le (pos 0) z) (int_lt z (pos (length names))) e
+base-literal (Some (kind.Enumeration names)) z e = and_right (int_le (pos 0) z) (int_lt z (pos (length names))) e
 base-literal (Some kind.Integer) z e = tt
 base-literal (Some kind.Truth) z e = tt
 base-literal (Some (kind.Array index first last part)) z e = tt
@@ -194,9 +181,9 @@ few-at (x ∷ xs) (suc k) h = few-at xs k h.1
 
 -- a scalar reading of a mark
 pub kind-read : (j : ℕ) (o : Option Kind) (k : ℕ) → name_kind (reading_of_kind j o) ≡ Some k → (j ≡ k) × ((x : Kind) × (scalar_only o ≡ Some x))
-kind-read j (Some kind.Integer) k e = (some-same e, (_, refl))
-kind-read j (Some kind.Truth) k e = (some-same e, (_, refl))
-kind-read j (Some (kind.Enumeration names)) k e = (some-same e, (_, refl))
+kind-read j (Some kind.Integer) k e = (some_same e, (_, refl))
+kind-read j (Some kind.Truth) k e = (some_same e, (_, refl))
+kind-read j (Some (kind.Enumeration names)) k e = (some_same e, (_, refl))
 kind-read j (Some (kind.Array index first last part)) k e = absurd (none-some k e)
 kind-read j None k e = absurd (none-some k e)
 
@@ -208,9 +195,9 @@ pub record IsMarkOf (T : TypeTable) (id : NameId) (k : ℕ) : Type 0 where
   pub scalar : IsScalar T k
 
 marked-kind : (m j : ℕ) (o : Option Kind) (k : ℕ) → scalar_kind (marking_of_kind m j o) ≡ Some k → (j ≡ k) × ((x : Kind) × (scalar_only o ≡ Some x))
-marked-kind m j (Some kind.Integer) k e = (some-same e, (_, refl))
-marked-kind m j (Some kind.Truth) k e = (some-same e, (_, refl))
-marked-kind m j (Some (kind.Enumeration names)) k e = (some-same e, (_, refl))
+marked-kind m j (Some kind.Integer) k e = (some_same e, (_, refl))
+marked-kind m j (Some kind.Truth) k e = (some_same e, (_, refl))
+marked-kind m j (Some (kind.Enumeration names)) k e = (some_same e, (_, refl))
 marked-kind m j (Some (kind.Array index first last part)) k e = absurd (none-some k e)
 marked-kind m j None k e = absurd (none-some k e)
 
@@ -218,7 +205,7 @@ pub unary-given : (o : Operand) (q : Option ℕ) (k : ℕ) → unary_kind o q �
 unary-given o (Some j) k e = by_test (is_taken o j) e
   where
     by_test : (b : Bool) → (if b then Some (given_by o) else None) ≡ Some k → given_by o ≡ k
-    by_test true f = some-same f
+    by_test true f = some_same f
     by_test false f = absurd (none-some k f)
 unary-given o None k e = absurd (none-some k e)
 
@@ -236,7 +223,7 @@ pub are-taken : (o : Operand) (p q : Option ℕ) (k : ℕ) → binary_kind o p q
 are-taken o (Some i) (Some j) k e = by_tests (is_taken o i) (is_taken o j) (i == j) refl refl e
   where
     by_tests : (a b c : Bool) → is_taken o i ≡ a → (i == j) ≡ c → (if a && b && c then Some (given_by o) else None) ≡ Some k → AreTaken o (Some i) (Some j) k
-    by_tests true true true p q f = record { left = i; right = j; first = refl; second = refl; taken = p; same = q; given = some-same f }
+    by_tests true true true p q f = record { left = i; right = j; first = refl; second = refl; taken = p; same = q; given = some_same f }
     by_tests true true false p q f = absurd (none-some k f)
     by_tests true false c p q f = absurd (none-some k f)
     by_tests false b c p q f = absurd (none-some k f)
@@ -321,7 +308,7 @@ module _ (T : TypeTable) (s : Scope) (typed : IsTyped T) (over : IsOver T s) whe
       by_literal : (l : Option Value) → literal_value T.kinds 0 id ≡ l → is_some (option_map (λ n. pos n) (literal_position T.kinds id)) ≡ true → IsOf T k (unwrap_or l (Number (pos 0)))
       by_literal (Some v) q g =
           let x = over.literals id v q in
-          subst (λ j. IsOf T j v) (some-same (read-as id (Literal x.0) k x.1 f)) x.2
+          subst (λ j. IsOf T j v) (some_same (read-as id (Literal x.0) k x.1 f)) x.2
       by_literal None q g = clash (ap (λ o. is_some (option_map (λ n. pos n) o)) (sym (literal-none T.kinds 0 id q)) ∙ g)
 
       by_constant : (c : Option Constant) → constant_named T id ≡ c → is_some (first_of_two (option_map (λ d. d.value) c) (option_map (λ n. pos n) (literal_position T.kinds id))) ≡ true →
@@ -332,8 +319,8 @@ module _ (T : TypeTable) (s : Scope) (typed : IsTyped T) (over : IsOver T s) whe
       by_tests : (a b : Bool) → (id.0 == false_name) ≡ a → (id.0 == true_name) ≡ b →
           is_some (if a then Some (pos 0) else if b then Some (pos 1) else first_of_two (option_map (λ d. d.value) (constant_named T id)) (option_map (λ n. pos n) (literal_position T.kinds id))) ≡ true →
           IsOf T k (if a then Truth false else if b then Truth true else unwrap_or (first_of_two (option_map (constant_value T) (constant_named T id)) (literal_value T.kinds 0 id)) (Number (pos 0)))
-      by_tests true b p q g = subst (λ j. IsOf T j (Truth false)) (some-same (read-as id (Literal truth_kind) k (over.falses id p) f)) (truth-of T typed false)
-      by_tests false true p q g = subst (λ j. IsOf T j (Truth true)) (some-same (read-as id (Literal truth_kind) k (over.trues id q) f)) (truth-of T typed true)
+      by_tests true b p q g = subst (λ j. IsOf T j (Truth false)) (some_same (read-as id (Literal truth_kind) k (over.falses id p) f)) (truth-of T typed false)
+      by_tests false true p q g = subst (λ j. IsOf T j (Truth true)) (some_same (read-as id (Literal truth_kind) k (over.trues id q) f)) (truth-of T typed true)
       by_tests false false p q g = by_constant (constant_named T id) refl g
 
   -- ---- attributes
@@ -360,8 +347,8 @@ module _ (T : TypeTable) (s : Scope) (typed : IsTyped T) (over : IsOver T s) whe
           by_attribute NoAttribute b f l = clash b
 
       bound-same : (a : Attribute) (j : ℕ) → is_bound a ≡ true → bound_kind a j ≡ Some k → j ≡ k
-      bound-same First j b f = some-same f
-      bound-same Last j b f = some-same f
+      bound-same First j b f = some_same f
+      bound-same Last j b f = some_same f
       bound-same Pos j b f = clash b
       bound-same Val j b f = clash b
       bound-same Succ j b f = clash b
@@ -384,10 +371,10 @@ module _ (T : TypeTable) (s : Scope) (typed : IsTyped T) (over : IsOver T s) whe
   attribute-of id a k q v st e = by_kind (scalar_kind (marking s id)) refl e
     where
       by_attribute : (j : ℕ) (h : IsMarkOf T id j) (a : Attribute) → keeps_static a ≡ true → function_kind a j ≡ Some k → Gives (IsOf T k) (attribute_value T (limits_of h.mark) a v)
-      by_attribute j h Pos st f = subst (λ i. Gives (IsOf T i) (values.fitted (position_of v))) (some-same f) (fitted-of T typed (position_of v))
-      by_attribute j h Val st f = subst (λ i. Gives (IsOf T i) (based T h.mark.kind (position_of v))) (h.kind ∙ some-same f) (based-of h.mark.kind _ (subst (IsScalar T) (sym h.kind) h.scalar))
-      by_attribute j h Succ st f = subst (λ i. Gives (IsOf T i) (based T h.mark.kind (position_of v +ℤ pos 1))) (h.kind ∙ some-same f) (based-of h.mark.kind _ (subst (IsScalar T) (sym h.kind) h.scalar))
-      by_attribute j h Pred st f = subst (λ i. Gives (IsOf T i) (based T h.mark.kind (position_of v -ℤ pos 1))) (h.kind ∙ some-same f) (based-of h.mark.kind _ (subst (IsScalar T) (sym h.kind) h.scalar))
+      by_attribute j h Pos st f = subst (λ i. Gives (IsOf T i) (values.fitted (position_of v))) (some_same f) (fitted-of T typed (position_of v))
+      by_attribute j h Val st f = subst (λ i. Gives (IsOf T i) (based T h.mark.kind (position_of v))) (h.kind ∙ some_same f) (based-of h.mark.kind _ (subst (IsScalar T) (sym h.kind) h.scalar))
+      by_attribute j h Succ st f = subst (λ i. Gives (IsOf T i) (based T h.mark.kind (position_of v +ℤ pos 1))) (h.kind ∙ some_same f) (based-of h.mark.kind _ (subst (IsScalar T) (sym h.kind) h.scalar))
+      by_attribute j h Pred st f = subst (λ i. Gives (IsOf T i) (based T h.mark.kind (position_of v -ℤ pos 1))) (h.kind ∙ some_same f) (based-of h.mark.kind _ (subst (IsScalar T) (sym h.kind) h.scalar))
       by_attribute j h First st f = clash st
       by_attribute j h Last st f = clash st
       by_attribute j h Image st f = clash st
@@ -459,13 +446,13 @@ module _ (T : TypeTable) (s : Scope) (typed : IsTyped T) (over : IsOver T s) whe
 
   -- What a static expression of a kind is worth without variables is a value of that kind.
   pub typed-gives : (e : PExpr) → is_static T e ≡ true → (k : ℕ) → kind_of s e ≡ Some k → Gives (IsOf T k) (evaluated T [] e)
-  typed-gives (EInteger n sp) st k e = subst (λ j. Gives (IsOf T j) (values.fitted (pos n))) (some-same e) (fitted-of T typed (pos n))
+  typed-gives (EInteger n sp) st k e = subst (λ j. Gives (IsOf T j) (values.fitted (pos n))) (some_same e) (fitted-of T typed (pos n))
   typed-gives (EName id sp) st k e = name-of id k st e
   typed-gives (EIndex w x sp) st k e = clash st
-  typed-gives (EAttribute m w sp) st k e = bound-of m.name (attribute_of w.name) k (left-true (is_bound (attribute_of w.name)) _ st) e
+  typed-gives (EAttribute m w sp) st k e = bound-of m.name (attribute_of w.name) k (and_left (is_bound (attribute_of w.name)) _ st) e
   typed-gives (EAttributeOf m w x sp) st k e =
       gives-then (IsOf T k) (evaluated T [] x) _
-      (λ v f. attribute-of m.name (attribute_of w.name) k (kind_of s x) v (left-true (keeps_static (attribute_of w.name)) _ (left-true _ (is_static T x) st)) e)
+      (λ v f. attribute-of m.name (attribute_of w.name) k (kind_of s x) v (and_left (keeps_static (attribute_of w.name)) _ (and_left _ (is_static T x) st)) e)
   typed-gives (EParen x sp) st k e = typed-gives x st k e
   typed-gives (EUnary op x sp) st k e =
       gives-then (IsOf T k) (evaluated T [] x) _
@@ -473,4 +460,4 @@ module _ (T : TypeTable) (s : Scope) (typed : IsTyped T) (over : IsOver T s) whe
   typed-gives (EBinary op l r sp) st k e =
       let h = are-taken (takes op) (kind_of s l) (kind_of s r) k e in
       subst (λ j. Gives (IsOf T j) (evaluating.operated op (evaluated T [] l) (evaluated T [] r))) h.given
-      (operated-of op (evaluated T [] l) (evaluated T [] r) (λ f. typed-gives r (right-true (is_static T l) (is_static T r) st) truth_kind (right-truth op (kind_of s l) (kind_of s r) k h f)))
+      (operated-of op (evaluated T [] l) (evaluated T [] r) (λ f. typed-gives r (and_right (is_static T l) (is_static T r) st) truth_kind (right-truth op (kind_of s l) (kind_of s r) k h f)))

@@ -1,8 +1,6 @@
 -- Lists of statements that are as asked, and the variables of a statement by their numbers.
-use Rattle.std.proofs.Common.{◌≡◌, ℕ, ◌+◌, ◌<◌, List, [], ◌∷◌, ◌++◌, length, Some, slice_get, refl, sym, ap, subst, ◌∙◌, arith, length-append}
+use Rattle.std.proofs.Common.{◌≡◌, ℕ, ◌+◌, List, [], ◌∷◌, ◌++◌, length, Some, slice_get, refl, sym, ap, subst, ◌∙◌, arith, length-append}
 use Rattle.std.proofs.lemmas.List.{append_assoc}
-use Rattle.std.proofs.lemmas.Option.{slice_get_read}
-use Rattle.std.proofs.Math.Seq.{get_or-append_seam}
 use Rattle.ada_tree.specs.declared.naming.Span.{Span}
 use Rattle.ada_tree.specs.PlainExpr.{PSubind}
 use Rattle.ada_tree.specs.PlainStmt.{PStmts, no_stmt, stmt_then}
@@ -13,6 +11,7 @@ use Rattle.normal_model.specs.Variables.{variable_declared, variables_declared}
 use Rattle.normal_model.proofs.VariablesLemmas.{Begins}
 use Rattle.asked_stmts.specs.Asked.{Asks, AskedStmts, AskedSome}
 use Rattle.normal_asked.specs.Pieces.{AreVariables}
+use Rattle.common_lemmas.proofs.Lists.{seam_there}
 
 -- ---- lists of statements
 
@@ -47,11 +46,6 @@ module _ {D : Type 0} (a : Asks D) where
 
 -- ---- variables
 
-seam : {X : Type 0} (pre : List X) (x : X) (rest : List X) → slice_get (pre ++ x ∷ rest) (length pre) ≡ Some x
-seam pre x rest =
-    let m : length pre < length (pre ++ x ∷ rest) = rw (length-append pre (x ∷ rest)) (omega arith) in
-    slice_get_read (pre ++ x ∷ rest) (length (pre ++ x ∷ rest)) (length pre) x refl m (sym (get_or-append_seam pre x rest x))
-
 module _ (g : Setting) (vars : List PDecl) (s : Span) where
   pub variables-there : (xs : List PSubind) (pre more : List PDecl) (k : ℕ) → k ≡ length pre → vars ≡ (pre ++ variables_declared g s xs k) ++ more → AreVariables g vars s xs k
   variables-there [] pre more k e f = tt
@@ -59,7 +53,7 @@ module _ (g : Setting) (vars : List PDecl) (s : Span) where
       let v : PDecl = variable_declared g s x k in
       let rest : List PDecl = variables_declared g s xs (k + 1) in
       let split : (pre ++ v ∷ rest) ++ more ≡ pre ++ v ∷ (rest ++ more) = append_assoc pre (v ∷ rest) more in
-      let one : slice_get vars k ≡ Some v = ap (slice_get vars) e ∙ ap (λ l. slice_get l (length pre)) (f ∙ split) ∙ seam pre v (rest ++ more) in
+      let one : slice_get vars k ≡ Some v = ap (slice_get vars) e ∙ ap (λ l. slice_get l (length pre)) (f ∙ split) ∙ seam_there pre v (rest ++ more) in
       let next : k + 1 ≡ length (pre ++ v ∷ []) = rw (length-append pre (v ∷ [])) (omega arith) in
       let same : pre ++ v ∷ rest ≡ (pre ++ v ∷ []) ++ rest = sym (append_assoc pre (v ∷ []) rest) in
       (one, variables-there xs (pre ++ v ∷ []) more (k + 1) next (f ∙ ap (λ l. l ++ more) same))

@@ -22,7 +22,7 @@ use Rattle.ada_value.specs.Values.{and_then, checked, lies_in, position_of}
 use Rattle.ada_value.specs.Variables.{Variables}
 use Rattle.ada_value.specs.Evaluating.{evaluated}
 use Rattle.task_model.specs.Setting.{Setting, is_member, member_named, task_meant, task_of}
-use Rattle.task_model.specs.Frames.{Around, Part, control, in_front}
+use Rattle.task_model.specs.Frames.{Around, PFrame, control, in_front}
 use Rattle.task_model.specs.Tasks.{Task, entered, stmts_or_none, or_raised}
 use Rattle.task_model.specs.Steps.{lies_between, choices_fit, case_taken}
 use Rattle.task_model.specs.Stands.{stepped}
@@ -98,7 +98,7 @@ first-at p (k ∷ ks) t h =
         go true k = cc
         go false k = cc
 
-module _ (x : Translation) (laws : IsTranslation x) (made : AreMade x.text.programs) (added : Added x.text.programs x.text.programs.original) (n : ℕ) (i : List ℤ) (out : List ℕ) (p p' : Around) (o o' : List Part)
+module _ (x : Translation) (laws : IsTranslation x) (made : AreMade x.text.programs) (added : Added x.text.programs x.text.programs.original) (n : ℕ) (i : List ℤ) (out : List ℕ) (p p' : Around) (o o' : List PFrame)
     (s : Span) (callee : PCallee) (what : Word → PStmts) (rows : (w : Word) → IsSomething (what w)) (behind : PStmts) where
   abbrev g : Setting
   g = x.text.programs.original

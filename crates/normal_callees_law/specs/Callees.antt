@@ -8,7 +8,7 @@ use Rattle.ada_value.specs.declared.values.Raised.{Raised}
 use Rattle.ada_value.specs.Values.{and_then}
 use Rattle.ada_value.specs.Variables.{Variables}
 use Rattle.task_model.specs.Setting.{task_of}
-use Rattle.task_model.specs.Frames.{Around, Part, control, in_front}
+use Rattle.task_model.specs.Frames.{Around, PFrame, control, in_front}
 use Rattle.task_model.specs.Tasks.{Task, raised_there}
 use Rattle.task_model.specs.Stands.{can_step, stepped}
 use Rattle.normal_model.specs.Names.{task_name_at}
@@ -30,7 +30,7 @@ abbrev pub the_chosen : ℕ → List (Option Value) → Chosen
 the_chosen t ws = record { task = t; values = ws }
 
 -- What becomes of a task of the normal form before the assignments of a callee's index and of these expressions, which are numbered from k on, in front of what stands for the callee, beside a task with the variables V.
-pub data MeetsCallee (x : Translation) (added : Added x.text.programs x.text.programs.original) (n : ℕ) (input : List ℤ) (output : List ℕ) (p : Around) (o : List Part) (V : Variables) (p' : Around) (o' : List Part)
+pub data MeetsCallee (x : Translation) (added : Added x.text.programs x.text.programs.original) (n : ℕ) (input : List ℤ) (output : List ℕ) (p : Around) (o : List PFrame) (V : Variables) (p' : Around) (o' : List PFrame)
     (from : Task) (callee : PCallee) (what : Word → PStmts) (behind : PStmts) (k : ℕ) (ds : List (Option PExpr)) : Type 0 where
   -- it comes before what stands for the task that is meant, with the values in their variables
   meets_task : (t : ℕ) (w : Word) (ws : List (Option Value)) (W : Variables) → task_of x.text.programs.original V callee ≡ Ok t → IsMeant x.text.programs callee t → w.name ≡ task_name_at x.text.programs.original t →

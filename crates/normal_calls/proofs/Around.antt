@@ -1,9 +1,6 @@
 -- The assignments around a call, one actual after the other.
-use Rattle.std.proofs.Common.{◌≡◌, ℕ, zero, suc, ◌+◌, ◌<◌, ◌≤◌, List, [], ◌∷◌, length, map, drop, get_or, slice_get, Bor, Option, Some, None, option_copied, refl, sym, ap, ◌∙◌, add-one, arith}
-use Rattle.std.specs.Slice.{IsItemAt}
-use Rattle.std.proofs.lemmas.Option.{slice_get_within, slice_get_past, slice_get_read, get_or_from_slice_get}
+use Rattle.std.proofs.Common.{◌≡◌, ℕ, ◌+◌, ◌<◌, ◌≤◌, List, [], ◌∷◌, length, map, drop, get_or, slice_get, Some, None, refl, sym, ap, ◌∙◌, arith}
 use Rattle.std.proofs.lemmas.List.{drop_all}
-use Rattle.std.proofs.Math.Seq.{drop-cons}
 use Rattle.ada_tree.specs.declared.naming.Span.{Span}
 use Rattle.ada_tree.specs.declared.statements.ParMode.{ParMode}
 use Rattle.ada_tree.specs.declared.expressions.Expr.{Expr}
@@ -12,8 +9,10 @@ use Rattle.ada_tree.specs.PlainStmt.{PStmts, no_stmt}
 use Rattle.task_model.specs.Setting.{Setting}
 use Rattle.task_model.specs.Frames.{in_front}
 use Rattle.normal_model.specs.Calls.{Slot, actual_before, actual_behind, actuals_before, actuals_behind}
-use Rattle.normal_pieces.proofs.Fronts.{in_front-nil, in_front-joined}
+use Rattle.normal_pieces.proofs.Fronts.{in_front-nil}
 use Rattle.normal_calls.specs.inner.Modes.{each_actual, modes_before, modes_behind}
+use Rattle.common_lemmas.proofs.Lists.{rest_at, rest_none, rest_there}
+use Rattle.normal_model.proofs.WalkLemmas.{in_front-joined}
 
 -- ---- modes in place of formals
 
@@ -28,23 +27,6 @@ behind-modes g s (x ∷ xs) [] k = refl
 behind-modes g s (x ∷ xs) (e ∷ es) k = ap (in_front (actual_behind g s x.mode e k)) (behind-modes g s xs es (k + 1))
 
 -- ---- a list from a place on
-
-pub here_at : {X : Type 0} (xs : List X) (i : ℕ) (x d : X) → i < length xs → x ≡ get_or xs i d → drop i xs ≡ x ∷ drop (i + 1) xs
-here_at xs i x d h is = drop-cons xs i d h ∙ (λ k. sym is k ∷ drop (sym (add-one i) k) xs)
-
-there_at : {X : Type 0} (xs : List X) (i : ℕ) (x : X) → Some x ≡ slice_get xs i → drop i xs ≡ x ∷ drop (i + 1) xs
-there_at xs i x e = here_at xs i x x (slice_get_within xs i x (sym e)) (sym (get_or_from_slice_get xs i x x (sym e)))
-
-none_at : {X : Type 0} (xs : List X) (i : ℕ) → None ≡ slice_get xs i → drop i xs ≡ []
-none_at [] zero e = refl
-none_at [] (suc i) e = refl
-none_at (x ∷ xs) zero e = absurd (cc)
-none_at (x ∷ xs) (suc i) e = none_at xs i e
-
--- what a look at a place lends is the element there, if there is one
-pub lent_at : {X : Type 0} (xs : List X) (i : ℕ) (r : Option (Bor X)) → IsItemAt xs i r → option_copied r ≡ slice_get xs i
-lent_at xs i None is = sym (slice_get_past xs i is.3)
-lent_at xs i (Some x) is = sym (slice_get_read xs (length xs) i x.now refl is.3.0 is.1)
 
 -- ---- a loop over the modes
 
@@ -63,7 +45,7 @@ pub each-turn :
     all ≡ in_front behind (left_of f ms es k (i + 1))
 each-turn f ms es k i n m d e before behind all h mode actual number step so_far =
     so_far
-    ∙ (λ j. in_front before (each_actual f (here_at ms i m d h mode j) (map plain_expr (there_at es i e actual j)) (k + i)))
+    ∙ (λ j. in_front before (each_actual f (rest_at ms i m d h mode j) (map plain_expr (rest_there es i e actual j)) (k + i)))
     ∙ (λ j. in_front before (in_front (f m (plain_expr e) (sym number j)) (each_actual f (drop (i + 1) ms) (map plain_expr (drop (i + 1) es)) (counted j))))
     ∙ sym (in_front-joined before (f m (plain_expr e) n) (left_of f ms es k (i + 1)))
     ∙ ap (λ b. in_front b (left_of f ms es k (i + 1))) (sym step)
@@ -82,7 +64,7 @@ pub each-past :
     all ≡ in_front before (left_of f ms es k i) →
     before ≡ all
 each-past f ms es k i before all actual so_far =
-    sym (so_far ∙ ap (λ l. in_front before (each_actual f (drop i ms) (map plain_expr l) (k + i))) (none_at es i actual) ∙ ap (in_front before) (each-empty f (drop i ms) (k + i)) ∙ in_front-nil before)
+    sym (so_far ∙ ap (λ l. in_front before (each_actual f (drop i ms) (map plain_expr l) (k + i))) (rest_none es i actual) ∙ ap (in_front before) (each-empty f (drop i ms) (k + i)) ∙ in_front-nil before)
 
 -- or where there is no mode
 pub each-end :

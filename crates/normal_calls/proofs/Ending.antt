@@ -13,8 +13,9 @@ use Rattle.task_model.specs.Frames.{in_front}
 use Rattle.normal_model.specs.Making.{one}
 use Rattle.normal_model.specs.Members.{callee_kept}
 use Rattle.normal_model.specs.Aborts.{abort_image, callee_aborted, callees_aborted}
-use Rattle.normal_pieces.proofs.Fronts.{in_front-nil, in_front-joined}
-use Rattle.normal_calls.proofs.Around.{here_at}
+use Rattle.normal_pieces.proofs.Fronts.{in_front-nil}
+use Rattle.common_lemmas.proofs.Lists.{rest_at}
+use Rattle.normal_model.proofs.WalkLemmas.{in_front-joined}
 
 pub abort-turn :
     (g : Setting) (s : Span) (cs : List Callee) (i n next : ℕ) (c d : Callee) (before behind all : PStmts) →
@@ -26,7 +27,7 @@ pub abort-turn :
     all ≡ in_front behind (callees_aborted g s (map plain_callee (drop (i + 1) cs)) next)
 abort-turn g s cs i n next c d before behind all h is number step so_far =
     so_far
-    ∙ ap (λ l. in_front before (callees_aborted g s (map plain_callee l) n)) (here_at cs i c d h is)
+    ∙ ap (λ l. in_front before (callees_aborted g s (map plain_callee l) n)) (rest_at cs i c d h is)
     ∙ ap (λ k. in_front before (in_front (callee_aborted g s (plain_callee c) n) (callees_aborted g s (map plain_callee (drop (i + 1) cs)) k))) (sym number)
     ∙ sym (in_front-joined before (callee_aborted g s (plain_callee c) n) (callees_aborted g s (map plain_callee (drop (i + 1) cs)) next))
     ∙ ap (λ b. in_front b (callees_aborted g s (map plain_callee (drop (i + 1) cs)) next)) (sym step)

@@ -6,7 +6,7 @@ use Rattle.ada_tree.specs.PlainStmt.{PStmts, stmt_then}
 use Rattle.task_model.specs.Setting.{Setting}
 use Rattle.task_model.specs.Frames.{in_front}
 use Rattle.normal_model.specs.Making.{assigned, Kept, kept_before, kept_if}
-use Rattle.normal_pieces.proofs.Fronts.{in_front-joined}
+use Rattle.normal_model.proofs.WalkLemmas.{in_front-joined}
 
 -- how many values are kept
 pub kept-length : (x : PSubind) (o : Option PExpr) (n : ℕ) → n + length (kept_if x o) ≡ (if is_some o then n + 1 else n)

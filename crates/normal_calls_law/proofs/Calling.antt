@@ -17,7 +17,7 @@ use Rattle.ada_value.specs.Values.{and_then, lies_in, position_of}
 use Rattle.ada_value.specs.Variables.{Variables}
 use Rattle.ada_value.specs.Evaluating.{evaluated}
 use Rattle.task_model.specs.Setting.{Setting, member_named, task_meant, task_of, entry_of, is_family, family_limits, index_in, parameters_of, formals_of_info, entry_parameters, Lists, lists_in, lists_of}
-use Rattle.task_model.specs.Frames.{Around, Part, control, in_front}
+use Rattle.task_model.specs.Frames.{Around, PFrame, control, in_front}
 use Rattle.task_model.specs.Tasks.{Task}
 use Rattle.task_model.specs.Calls.{Called, called, called_with, openings}
 use Rattle.normal_model.specs.Names.{task_name_at}
@@ -364,7 +364,7 @@ module _ (x : Translation) (laws : IsTranslation x) (made : AreMade x.text.progr
       ∙ ap (called_with h W e) (lists-passed g s c n asked.lists refl h.numbers e (family-same b made e ∙ (asked.entries t meant).family))
       ∙ with-held e W asked.index (index_number g s c n) (actual_number g s c n) number-actual facts.slots facts.range ws hold
 
-  pub call-comes : (m : ℕ) (i : List ℤ) (out : List ℕ) (p p' : Around) (o o' : List Part) (V W : Variables) (what : Word → PStmts) → ((w : Word) → IsSomething (what w)) → (behind : PStmts) → Under x p o V p' o' W → AreThere added W →
+  pub call-comes : (m : ℕ) (i : List ℤ) (out : List ℕ) (p p' : Around) (o o' : List PFrame) (V W : Variables) (what : Word → PStmts) → ((w : Word) → IsSomething (what w)) → (behind : PStmts) → Under x p o V p' o' W → AreThere added W →
       MeetsCall x added m i out p o V p' o' (task_in h m i out (control (in_front (call_before g s c n) (in_front (chosen g s c.task n what) behind)) p' o' W)) s c n asked what behind
   call-comes m i out p p' o o' V W what rows behind u there =
       subst (λ r. MeetsCall x added m i out p o V p' o' (task_in h m i out (control (in_front r (in_front (chosen g s c.task n what) behind)) p' o' W)) s c n asked what behind) (sym before-is)

@@ -7,7 +7,7 @@ use Rattle.event_machine.specs.declared.CallForm.TheVariants.{Conditional, Timed
 use Rattle.ada_value.specs.declared.values.Value.{Value}
 use Rattle.ada_value.specs.Variables.{Variables}
 use Rattle.task_model.specs.Setting.{Setting, entry_parameters}
-use Rattle.task_model.specs.Frames.{Around, Part, control, in_front}
+use Rattle.task_model.specs.Frames.{Around, PFrame, control, in_front}
 use Rattle.task_model.specs.Tasks.{Task, gone_to, entered}
 use Rattle.task_model.specs.Calls.{Called, called, values_of, values_handed}
 use Rattle.task_model.specs.Stands.{call_stand, stand_of}
@@ -44,22 +44,22 @@ has-call s (timed d) call met other = has_timed call met d other s
 
 module _ (s : Span) (m : ℕ) (i : List ℤ) (out : List ℕ) where
   -- `null;` where nothing stands
-  pub null-row : (t : Setting) (p : Around) (o : List Part) (r q rest : PStmts) (W : Variables) →
+  pub null-row : (t : Setting) (p : Around) (o : List PFrame) (r q rest : PStmts) (W : Variables) →
       Reaches (gone_to (in_front (or_null s r) q) (task_in t m i out (control rest p o W))) (gone_to (in_front r q) (task_in t m i out (control rest p o W)))
   null-row t p o no_stmt q rest W = reaches_by _ _ refl refl (reaches_here (gone_to q (task_in t m i out (control (stmt_then (SNull s) q) p o W))))
   null-row t p o (stmt_then a r) q rest W = reaches_here _
 
-  pub stands-at : (f : Form) (t : Setting) (call : PCall) (met other q : PStmts) (p : Around) (o : List Part) (V : Variables) →
+  pub stands-at : (f : Form) (t : Setting) (call : PCall) (met other q : PStmts) (p : Around) (o : List PFrame) (V : Variables) →
       stand_of (task_in t m i out (control (stmt_then (statement s f call met other) q) p o V)) ≡ call_stand (form_of f) (called t V call)
   stands-at conditional t call met other q p o V = refl
   stands-at (timed d) t call met other q p o V = refl
 
-  pub handed-at : (f : Form) (t : Setting) (call : PCall) (met other q : PStmts) (p : Around) (o : List Part) (V : Variables) →
+  pub handed-at : (f : Form) (t : Setting) (call : PCall) (met other q : PStmts) (p : Around) (o : List PFrame) (V : Variables) →
       values_handed (task_in t m i out (control (stmt_then (statement s f call met other) q) p o V)) ≡ values_of (Some (called t V call))
   handed-at conditional t call met other q p o V = refl
   handed-at (timed d) t call met other q p o V = refl
 
-  pub other-at : (f : Form) (t : Setting) (call : PCall) (met other q : PStmts) (p : Around) (o : List Part) (V : Variables) →
+  pub other-at : (f : Form) (t : Setting) (call : PCall) (met other q : PStmts) (p : Around) (o : List PFrame) (V : Variables) →
       other_of f (task_in t m i out (control (stmt_then (statement s f call met other) q) p o V)) ≡ entered other q (task_in t m i out (control (stmt_then (statement s f call met other) q) p o V))
   other-at conditional t call met other q p o V = refl
   other-at (timed d) t call met other q p o V = refl

@@ -12,7 +12,7 @@ use Rattle.ada_value.specs.Values.{and_then, lies_in, position_of}
 use Rattle.ada_value.specs.Variables.{Variables, object_named, checked_for, set_value}
 use Rattle.task_model.specs.declared.parameters.FormalParameter.{FormalParameter}
 use Rattle.task_model.specs.Setting.{Setting, entry_parameters}
-use Rattle.task_model.specs.Frames.{Around, Part, control, in_front}
+use Rattle.task_model.specs.Frames.{Around, PFrame, control, in_front}
 use Rattle.task_model.specs.Tasks.{with_vars, gone_to}
 use Rattle.task_model.specs.Calls.{Called, Copies, called, comes_back, copied_one, copied_back, copies_on}
 use Rattle.task_model.specs.Rendezvous.{come_back, call_ended, returned}
@@ -28,9 +28,10 @@ use Rattle.normal_law.specs.Preludes.{IsCell, Added, AreThere}
 use Rattle.normal_law.specs.inner.Actuals.{AreSlots, no_slots, slot_then}
 use Rattle.normal_law.specs.inner.Met.{AreBack, in_back, one_back}
 use Rattle.normal_law.proofs.Cells.{named-set_other, cell-set, cell-kept}
-use Rattle.normal_law.proofs.Preludes.{apart_numbers, there-set}
+use Rattle.normal_law.proofs.Preludes.{there-set}
 use Rattle.normal_calls_law.specs.Calls.{IsEntryCalled}
 use Rattle.normal_calls_law.specs.Returns.{HoldBack, back_over, back_done, back_in, back_give, back_both, HasCall, has_plain, has_conditional, has_timed, AreFinals, finals_over, finals_done, final_in, final_give, final_both, gone_back}
+use Rattle.common_lemmas.proofs.Numbers.{unequal_above}
 
 -- ---- the values that come back
 
@@ -66,7 +67,7 @@ module _ (b : Programs) (added : Added b b.original) where
 
 -- ---- the variables get them
 
-module _ (x : Translation) (laws : IsTranslation x) (g : Setting) (added : Added x.text.programs g) (s : Span) (p p' : Around) (o o' : List Part) (V : Variables) where
+module _ (x : Translation) (laws : IsTranslation x) (g : Setting) (added : Added x.text.programs g) (s : Span) (p p' : Around) (o o' : List PFrame) (V : Variables) where
   -- the variables of the image once the values have come to them
   pub record Handed (W : Variables) (fs : List FormalParameter) (xs : List Slot) (es : List PExpr) (vs : List Value) (k : ℕ) : Type 0 where
     pub vars : Variables
@@ -113,7 +114,7 @@ module _ (x : Translation) (laws : IsTranslation x) (g : Setting) (added : Added
         there = h.there;
         hold = back_give f y fs xs id at es v vs k m m' l old known
             (cell-kept (set_value W (variable_name g k) 0 v) h.vars (variable_name g k) (added.bounds k) v (h.below k (omega arith)) (cell-set W (variable_name g k) (added.bounds k) c.0 v c.1)) h.hold;
-        below = λ j m1. h.below j (omega arith) ∙ named-set_other W (variable_name g k) 0 v (variable_name g j) (added.apart k j l (omega arith) (apart_numbers k j m1));
+        below = λ j m1. h.below j (omega arith) ∙ named-set_other W (variable_name g k) 0 v (variable_name g j) (added.apart k j l (omega arith) (unequal_above k j m1));
       }
   hand (final_both f y fs xs id at es v vs k m m' l old known lies more) W u there =
       let c = there k l in
@@ -126,13 +127,13 @@ module _ (x : Translation) (laws : IsTranslation x) (g : Setting) (added : Added
         there = h.there;
         hold = back_both f y fs xs id at es v vs k m m' l old known
             (cell-kept (set_value W (variable_name g k) 0 v) h.vars (variable_name g k) (added.bounds k) v (h.below k (omega arith)) (cell-set W (variable_name g k) (added.bounds k) c.0 v c.1)) h.hold;
-        below = λ j m1. h.below j (omega arith) ∙ named-set_other W (variable_name g k) 0 v (variable_name g j) (added.apart k j l (omega arith) (apart_numbers k j m1));
+        below = λ j m1. h.below j (omega arith) ∙ named-set_other W (variable_name g k) 0 v (variable_name g j) (added.apart k j l (omega arith) (unequal_above k j m1));
       }
 
 -- ---- the caller
 
 -- a caller comes back with what was copied
-back-has : {next : PStmt} {call : PCall} {l : PStmts} → HasCall next call l → (q : PStmts) (g : Setting) (n : ℕ) (i : List ℤ) (w : List ℕ) (p : Around) (o : List Part) (V : Variables) (c : Copies) (e : Option Raised) →
+back-has : {next : PStmt} {call : PCall} {l : PStmts} → HasCall next call l → (q : PStmts) (g : Setting) (n : ℕ) (i : List ℤ) (w : List ℕ) (p : Around) (o : List PFrame) (V : Variables) (c : Copies) (e : Option Raised) →
     come_back (task_in g n i w (control (stmt_then next q) p o V)) c e ≡ gone_back (in_front l q) (task_in g n i w (control (stmt_then next q) p o V)) c.vars e
 back-has (has_plain call s) q g n i w p o V c None = refl
 back-has (has_plain call s) q g n i w p o V c (Some e) = refl
@@ -141,7 +142,7 @@ back-has (has_conditional call l m s) q g n i w p o V c (Some e) = refl
 back-has (has_timed call l d m s) q g n i w p o V c None = refl
 back-has (has_timed call l d m s) q g n i w p o V c (Some e) = refl
 
-returned-has : {next : PStmt} {call : PCall} {l : PStmts} → HasCall next call l → (q : PStmts) (g : Setting) (n : ℕ) (i : List ℤ) (w : List ℕ) (p : Around) (o : List Part) (V : Variables) (values : List Value) (c : Copies) →
+returned-has : {next : PStmt} {call : PCall} {l : PStmts} → HasCall next call l → (q : PStmts) (g : Setting) (n : ℕ) (i : List ℤ) (w : List ℕ) (p : Around) (o : List PFrame) (V : Variables) (values : List Value) (c : Copies) →
     call_ended (task_in g n i w (control (stmt_then next q) p o V)) call (called g V call) values ≡ c →
     returned values (task_in g n i w (control (stmt_then next q) p o V)) ≡ gone_back (in_front l q) (task_in g n i w (control (stmt_then next q) p o V)) c.vars c.stopped
 returned-has (has_plain call s) q g n i w p o V values c e =
@@ -151,7 +152,7 @@ returned-has (has_conditional call l m s) q g n i w p o V values c e =
 returned-has (has_timed call l d m s) q g n i w p o V values c e =
     ap (λ b. come_back (task_in g n i w (control (stmt_then (STimed call l d m s) q) p o V)) b b.stopped) e ∙ back-has (has_timed call l d m s) q g n i w p o V c c.stopped
 
-module _ (b : Programs) (added : Added b b.original) (s : Span) (c : PCall) (n : ℕ) (asked : IsCall b c) (m : ℕ) (i : List ℤ) (out : List ℕ) (p : Around) (o : List Part) (V : Variables) (q : PStmts) (values : List Value) (r : Called)
+module _ (b : Programs) (added : Added b b.original) (s : Span) (c : PCall) (n : ℕ) (asked : IsCall b c) (m : ℕ) (i : List ℤ) (out : List ℕ) (p : Around) (o : List PFrame) (V : Variables) (q : PStmts) (values : List Value) (r : Called)
     (facts : IsEntryCalled b added s c n asked r.entry) where
   -- what is copied back in the original
   abbrev pub copies_before : Copies

@@ -13,7 +13,7 @@ use Rattle.ada_value.specs.Values.{and_then, lies_in, position_of}
 use Rattle.ada_value.specs.Variables.{Object, Variables, object_named, checked_for, set_value}
 use Rattle.task_model.specs.declared.parameters.FormalParameter.{FormalParameter}
 use Rattle.task_model.specs.Setting.{Setting}
-use Rattle.task_model.specs.Frames.{Around, Part, control, in_front}
+use Rattle.task_model.specs.Frames.{Around, PFrame, control, in_front}
 use Rattle.task_model.specs.Tasks.{Task, with_vars, gone_to, raised_there, or_raised}
 use Rattle.task_model.specs.Stands.{stepped}
 use Rattle.task_model.specs.Calls.{Copies, copied_one, copied_back, copies_on}
@@ -46,7 +46,7 @@ module _ (x : Translation) (laws : IsTranslation x) (g : Setting) (added : Added
   same-set : (W0 W : Variables) (id : NameId) (v : Value) → IsOld x.text.programs id → SameCells W0 W → SameCells W0 (set_value W id 0 v)
   same-set W0 W id v old same k l = named-set_other W id 0 v (variable_name g k) (apart-old added id old k l) ∙ same k l
 
-  module _ (n : ℕ) (i : List ℤ) (w : List ℕ) (p p' : Around) (o o' : List Part) (s : Span) (r r0 q q' : PStmts) (im : x.text.image q q') where
+  module _ (n : ℕ) (i : List ℤ) (w : List ℕ) (p p' : Around) (o o' : List PFrame) (s : Span) (r r0 q q' : PStmts) (im : x.text.image q q') where
     -- the original at its call, and the image before statements
     abbrev left : Variables → Task
     left V = task_in x.text.programs.original n i w (control r p o V)

@@ -14,7 +14,7 @@ use Rattle.ada_value.specs.Values.{and_then, fitted, lies_in, position_of, is_tr
 use Rattle.ada_value.specs.Variables.{Variables, object_named}
 use Rattle.ada_value.specs.Evaluating.{combined}
 use Rattle.task_model.specs.Setting.{Setting, entry_parameters}
-use Rattle.task_model.specs.Frames.{Around, Part, control, in_front}
+use Rattle.task_model.specs.Frames.{Around, PFrame, control, in_front}
 use Rattle.task_model.specs.Tasks.{Task, gone_to, entered, stmts_or_none, or_raised}
 use Rattle.task_model.specs.Calls.{Called, called, values_of}
 use Rattle.task_model.specs.Stands.{Raises, call_stand, stand_of, stepped}
@@ -49,7 +49,7 @@ use Rattle.normal_calls_law.proofs.Standing.{Goes, actuals-fit, returns-on, what
 
 module _ (x : Translation) (laws : IsTranslation x) (made : AreMade x.text.programs) (added : Added x.text.programs x.text.programs.original) (s : Span) (c : PCall) (asked : IsCall x.text.programs c)
     (old : OldCall x.text.programs c) (n : ℕ) (subtypes : HaveSubtypes x.text.programs added (select_subtypes x.text.programs.original s c) n)
-    (m : ℕ) (i : List ℤ) (out : List ℕ) (p p' : Around) (o o' : List Part) (V : Variables)
+    (m : ℕ) (i : List ℤ) (out : List ℕ) (p p' : Around) (o o' : List PFrame) (V : Variables)
     (f : Form) (l l' other other' q q' : PStmts) (iml : x.text.image l l') (imo : x.text.image other other') (im : x.text.image q q') where
   abbrev b : Programs
   b = x.text.programs

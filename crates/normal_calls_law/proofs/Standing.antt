@@ -9,7 +9,7 @@ use Rattle.event_machine.specs.declared.CallForm.TheVariants.{Plain}
 use Rattle.ada_value.specs.declared.values.Value.{Value}
 use Rattle.ada_value.specs.Variables.{Variables}
 use Rattle.task_model.specs.Setting.{Setting, entry_parameters}
-use Rattle.task_model.specs.Frames.{Around, Part, control, in_front}
+use Rattle.task_model.specs.Frames.{Around, PFrame, control, in_front}
 use Rattle.task_model.specs.Tasks.{Task, gone_to}
 use Rattle.task_model.specs.Calls.{Called, called, values_of}
 use Rattle.task_model.specs.Stands.{call_stand}
@@ -40,7 +40,7 @@ use Rattle.normal_calls_law.proofs.Handing.{finals-fit, hand, copies_before, ret
 use Rattle.normal_calls_law.proofs.Knowing.{called-known}
 
 -- where the rows left of a task of the normal form come to others, its variables but those of the call may have changed
-pub record Goes (x : Translation) (added : Added x.text.programs x.text.programs.original) (s : Span) (c : PCall) (n : ℕ) (asked : IsCall x.text.programs c) (r : Called) (values : List Value) (p : Around) (o : List Part) (V : Variables) (p' : Around) (o' : List Part)
+pub record Goes (x : Translation) (added : Added x.text.programs x.text.programs.original) (s : Span) (c : PCall) (n : ℕ) (asked : IsCall x.text.programs c) (r : Called) (values : List Value) (p : Around) (o : List PFrame) (V : Variables) (p' : Around) (o' : List PFrame)
     (from : Task) (m : ℕ) (i : List ℤ) (out : List ℕ) (goal : PStmts) : Type 0 where
   pub vars : Variables
   pub rest : PStmts
@@ -54,7 +54,7 @@ copied-length b (copied_then x xs e es h more) = ap suc (copied-length b more)
 
 module _ (x : Translation) (laws : IsTranslation x) (made : AreMade x.text.programs) (added : Added x.text.programs x.text.programs.original) (s : Span) (c : PCall) (asked : IsCall x.text.programs c)
     (old : OldCall x.text.programs c) (n : ℕ) (subtypes : HaveSubtypes x.text.programs added (call_subtypes x.text.programs.original s c) n)
-    (m : ℕ) (i : List ℤ) (out : List ℕ) (p p' : Around) (o o' : List Part) (V : Variables) where
+    (m : ℕ) (i : List ℤ) (out : List ℕ) (p p' : Around) (o o' : List PFrame) (V : Variables) where
   abbrev b : Programs
   b = x.text.programs
 

@@ -8,7 +8,7 @@ use Rattle.syn_event.specs.Numbering.{entry_at}
 use Rattle.ada_value.specs.declared.values.Raised.{Raised}
 use Rattle.ada_value.specs.Variables.{Variables}
 use Rattle.task_model.specs.Setting.{family_limits, entry_parameters, lists_of}
-use Rattle.task_model.specs.Frames.{Around, Part, control, in_front}
+use Rattle.task_model.specs.Frames.{Around, PFrame, control, in_front}
 use Rattle.task_model.specs.Tasks.{Task, raised_there}
 use Rattle.task_model.specs.Stands.{can_step, stepped}
 use Rattle.task_model.specs.Calls.{Called, called}
@@ -28,7 +28,7 @@ pub record IsEntryCalled (b : Programs) (added : Added b b.original) (s : Span) 
   pub range : (d : PExpr) → asked.index ≡ Some d → SameRange (family_limits (entry_at b.original.numbers e)) (added.bounds (index_number b.original s c n))
 
 -- What becomes of a task of the normal form before what stands in front of a call, in front of what stands for its callee.
-pub data MeetsCall (x : Translation) (added : Added x.text.programs x.text.programs.original) (m : ℕ) (input : List ℤ) (output : List ℕ) (p : Around) (o : List Part) (V : Variables) (p' : Around) (o' : List Part)
+pub data MeetsCall (x : Translation) (added : Added x.text.programs x.text.programs.original) (m : ℕ) (input : List ℤ) (output : List ℕ) (p : Around) (o : List PFrame) (V : Variables) (p' : Around) (o' : List PFrame)
     (from : Task) (s : Span) (c : PCall) (n : ℕ) (asked : IsCall x.text.programs c) (what : Word → PStmts) (behind : PStmts) : Type 0 where
   -- it comes before what stands for the task that is meant, where both calls come to the same
   meets_call : (r : Called) (w : Word) (W : Variables) → called x.text.programs.original V c ≡ Ok r → called x.text.programs.made W (call_to x.text.programs.original s c n w) ≡ Ok r →

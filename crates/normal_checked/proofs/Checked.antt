@@ -1,5 +1,5 @@
 -- Each piece that the normal form makes meets the rules 13 to 23.
-use Rattle.std.proofs.Common.{◌≡◌, ℕ, ◌+◌, ◌≤◌, ◌<◌, Bool, true, false, not, ◌||◌, if◌then◌else◌, zero, suc, ◌==◌, ℤ, pos, negsuc, unsigned_abs, List, [], ◌∷◌, ◌++◌, length, map, flat_map, Option, Some, None, option_map, IfSome, All, unwrap_or, slice_get, refl, sym, ap, subst, ◌∙◌, arith}
+use Rattle.std.proofs.Common.{◌≡◌, ℕ, ◌+◌, ◌≤◌, ◌<◌, Bool, true, false, if◌then◌else◌, zero, suc, ◌==◌, ℤ, pos, negsuc, unsigned_abs, List, [], ◌∷◌, length, Option, Some, None, option_map, IfSome, unwrap_or, slice_get, refl, sym, subst, arith}
 use Rattle.std.specs.List.{AllByRecursion, fold}
 use Rattle.std.specs.Ordering.{int_eq}
 use Rattle.std.proofs.lemmas.List.Elements.{recursion_from_All}
@@ -14,12 +14,12 @@ use Rattle.ada_tree.specs.declared.expressions.BinaryOp.TheVariants as binary
 use Rattle.ada_tree.specs.ExprTypes.{place_of}
 use Rattle.ada_tree.specs.Attributes.{false_name, true_name}
 use Rattle.ada_tree.specs.PlainExpr.{PExpr, EInteger, EName, EIndex, EAttribute, EAttributeOf, EParen, EUnary, EBinary, PSubind, PDrange}
-use Rattle.ada_tree.specs.PlainStmt.{PCallee, PArgs, PCall, PHead, PStmt, accepting, alternative, AAccept, ADelay, ATerminate, PAlts, no_alt, alt_then}
+use Rattle.ada_tree.specs.PlainStmt.{PCallee, PArgs, PCall, PHead, accepting, alternative, AAccept, ADelay, ATerminate, PAlts, no_alt, alt_then}
 use Rattle.ada_tree.specs.PlainDecl.{PDecl}
-use Rattle.ada_tree.specs.Every.{Rules, EveryExpr, EveryArgs, EveryExprs, EveryHead, EveryChoice, alts_count}
+use Rattle.ada_tree.specs.Every.{Rules, EveryExpr, EveryArgs, EveryExprs, EveryChoice, alts_count}
 use Rattle.syn_event.specs.declared.numbering.Mode.TheVariants.{Original, Any}
 use Rattle.syn_event.specs.declared.limits.What.TheVariants.{Nesting, Alternatives}
-use Rattle.syn_event.specs.CheckScope.{CheckScope, CheckSite, uses, addresses, waits, counts}
+use Rattle.syn_event.specs.CheckScope.{CheckScope, CheckSite, uses, addresses, counts}
 use Rattle.syn_event.specs.CheckSites as check
 use Rattle.syn_event.specs.RuleSelectForm.{alt_kinds}
 use Rattle.syn_event.specs.RuleSameEntryTwice.{accept_heads}
@@ -27,31 +27,29 @@ use Rattle.syn_event.specs.Units.{text_of}
 use Rattle.syn_event.specs.Extents.{fixed}
 use Rattle.syn_event.specs.RuleMainEntry.{main_entry}
 use Rattle.syn_event.specs.RuleSharedVariable.{shared_variable}
-use Rattle.syn_event.proofs.Nothing.{all_front, all_back}
 use Rattle.legal_sites.specs.Met.{IsCheckMet}
 use Rattle.task_model.specs.Setting.{Setting, is_family, first_expr, lists_in, lists_of}
 use Rattle.task_model.specs.Calls.{variable_of}
-use Rattle.normal_model.specs.Names.{task_name}
 use Rattle.normal_model.specs.Ranges.{word_at, kind_of_range, subtype_of_range, array_range, family_range}
 use Rattle.normal_model.specs.Members.{integer_literal, truth_literal, literal_in, kind_of_index, index_literal}
 use Rattle.normal_model.specs.Calls.{Slot, actuals_passed, actual_subtypes, entry_called, lists_called, slots_called, lists_passed, args_passed, index_number, actual_number}
 use Rattle.normal_model.specs.Making.{variable, assigned, kept_subtypes, kept_if, moving, index_left}
-use Rattle.normal_model.specs.Waits.{Unit, head_left, not_held, none_held}
+use Rattle.normal_model.specs.Waits.{Unit, head_left, not_held}
 use Rattle.normal_model.specs.Variables.{variable_declared}
-use Rattle.normal_model.specs.Walk.{Rewriter, after_kind, inside_alts}
+use Rattle.normal_model.specs.Walk.{inside_alts}
 use Rattle.normal_model.specs.NormalStmts.{normal_rewriter}
 use Rattle.asked_stmts.specs.Asked.{Asks, AskedAlts}
 use Rattle.asked_stmts.specs.Kinds.{place_asks, check_asks, both}
-use Rattle.asked_stmts.proofs.Lists.{all_join, all_flat}
-use Rattle.normal_asked.specs.Pieces.{IsVariable, AreVariables, IsGuard, member_choice, IsAmong, first_among, later_among, IsTarget, named, IsPair, first_pair, later_pair, Pieces}
+use Rattle.normal_asked.specs.Pieces.{IsVariable, AreVariables, IsGuard, member_choice, IsAmong, first_among, later_among, IsPair, first_pair, later_pair, Pieces}
 use Rattle.normal_asked.proofs.CallVariables.{family-there, actuals-there}
 use Rattle.normal_placed.proofs.Depth.{depth-of, expr-depth, few-alternatives}
 use Rattle.normal_placed.proofs.Calls.{moves}
-use Rattle.normal_checked.specs.Around.{own_rules, IsBeside, AreBeside, callee_asks, IsLiteralOf, is_false, is_true, is_enumerated, IsAround}
+use Rattle.normal_checked.specs.Around.{own_rules, IsBeside, callee_asks, IsLiteralOf, is_false, is_true, is_enumerated, IsAround}
 use Rattle.normal_checked.proofs.Places.{met-deep, met-alternative, met-use, met-callee, met-wait}
 use Rattle.normal_checked.proofs.Scopes.{accept-around, loop-around, handler-around}
 use Rattle.normal_checked.proofs.Stays.{expr-stays, choices-stay, loop-stays, accept-stays, head-stays, formals-stay, plain-stays}
 use Rattle.normal_checked.proofs.Waits.{form-kept, IsAgreed, accepts-kept}
+use Rattle.common_lemmas.proofs.Lists.{all_back, all_front, all_joined}
 
 module _ (u : Unit) (own : ℕ → Bool) (vars : List PDecl) (names names' : List (List ℕ)) (texts : (id : NameId) → own id.0 ≡ true → text_of names' id ≡ text_of names id) where
   abbrev g : Setting
@@ -239,11 +237,11 @@ module _ (u : Unit) (own : ℕ → Bool) (vars : List PDecl) (names names' : Lis
     passed-met s [] es z q le v = tt
     passed-met s (x ∷ xs) [] z q le v = tt
     passed-met s (x ∷ xs) (e ∷ es) z q le v =
-        all_join (IsCheckMet Any names') (check.expr_sites d q (variable g s z)) (check.exprs_sites d q (actuals_passed g s xs es (z + 1))) (variable-met c d rel s s _ z q v.0 le) (passed-met s xs es (z + 1) q le v.1)
+        all_joined (IsCheckMet Any names') (check.expr_sites d q (variable g s z)) (check.exprs_sites d q (actuals_passed g s xs es (z + 1))) (variable-met c d rel s s _ z q v.0 le) (passed-met s xs es (z + 1) q le v.1)
 
     list-moved : (k q : ℕ) (es : List PExpr) → q ≤ k + 5 → AllByRecursion (Fits c.1.0 k) es → At' (check.exprs_sites d q es)
     list-moved k q [] le h = tt
-    list-moved k q (e ∷ es) le h = all_join (IsCheckMet Any names') (check.expr_sites d q e) (check.exprs_sites d q es) (moved k q e h.0 le) (list-moved k q es le h.1)
+    list-moved k q (e ∷ es) le h = all_joined (IsCheckMet Any names') (check.expr_sites d q e) (check.exprs_sites d q es) (moved k q e h.0 le) (list-moved k q es le h.1)
 
     args-depth : (k : ℕ) (args : PArgs) → EveryArgs r k args → AllByRecursion (Fits c.1.0 k) args.first → k ≤ 40
     args-depth k args h f = go args.first h.0.0 f
@@ -286,13 +284,13 @@ module _ (u : Unit) (own : ℕ → Bool) (vars : List PDecl) (names names' : Lis
           let deep : k ≤ 40 = args-depth k args h fits.0 in
           let small : q ≤ 300 = omega (arith, deep, le) in
           let one : At' (check.exprs_sites d q (variable g s (index_number g s x j) ∷ [])) =
-          all_join (IsCheckMet Any names') (check.expr_sites d q (variable g s (index_number g s x j))) [] (variable-met c d rel s s family (index_number g s x j) q (index-variable args.first h.0.0 i) small) tt in
-          all_join (IsCheckMet Any names') (check.exprs_sites d q (variable g s (index_number g s x j) ∷ []))
+          all_joined (IsCheckMet Any names') (check.expr_sites d q (variable g s (index_number g s x j))) [] (variable-met c d rel s s family (index_number g s x j) q (index-variable args.first h.0.0 i) small) tt in
+          all_joined (IsCheckMet Any names') (check.exprs_sites d q (variable g s (index_number g s x j) ∷ []))
           (check.if_there (check.exprs_sites d q) (option_map (λ es. actuals_passed g s slots es (actual_number g s x j)) args.second)) one (second-passed args.second small v)
       lists-met false args h m i v =
           let fits = args-fit c.1.0 k args h m in
           let deep : k ≤ 40 = args-depth k args h fits.0 in
-          all_join (IsCheckMet Any names') (check.exprs_sites d q (actuals_passed g s slots args.first (actual_number g s x j))) (check.if_there (check.exprs_sites d q) args.second)
+          all_joined (IsCheckMet Any names') (check.exprs_sites d q (actuals_passed g s slots args.first (actual_number g s x j))) (check.if_there (check.exprs_sites d q) args.second)
           (passed-met s slots args.first (actual_number g s x j) q (omega (arith, deep, le)) v) (second-moved args.second fits.1)
 
       args-met : (o : Option PArgs) → IfSome o (EveryArgs r k) → Met (check.if_there (check.args_sites c.1.0 k) o) →
@@ -314,7 +312,7 @@ module _ (u : Unit) (own : ℕ → Bool) (vars : List PDecl) (names names' : Lis
     more-met [] s test deep one h all q le = h q (omega (arith, le))
     more-met (e ∷ es) s test deep one h all q le =
         more-met es s (EBinary binary.And test (not_held s e) s) (deep + 1) (omega arith)
-        (λ n few. (met-deep names' d n s (omega (arith, few)), all_join (IsCheckMet Any names') (check.expr_sites d (n + 1) test) (check.expr_sites d (n + 1) (not_held s e)) (h (n + 1) (omega (arith, few))) (not-met (n + 1) s e (omega (arith, few, one)) all.0)))
+        (λ n few. (met-deep names' d n s (omega (arith, few)), all_joined (IsCheckMet Any names') (check.expr_sites d (n + 1) test) (check.expr_sites d (n + 1) (not_held s e)) (h (n + 1) (omega (arith, few))) (not-met (n + 1) s e (omega (arith, few, one)) all.0)))
         all.1 q (omega (arith, le))
 
     -- ---- accepts and waits
@@ -384,7 +382,7 @@ module _ (u : Unit) (own : ℕ → Bool) (vars : List PDecl) (names names' : Lis
     chosen = λ c d k n s x e j info rel h f v i le.
         let deep : k ≤ 40 = fits-depth c.1.0 k e (callee-fits c k x e h f) in
         let first : At' (check.expr_sites d n (member_choice g s x info).first) = index-met c d rel (kind_of_index g.types (array_range g.program x.name.name)) info.member s n (omega (arith, deep, le)) (kind-there c d rel (array_range g.program x.name.name)) in
-        all_join (IsCheckMet Any names') (check.choice_sites d n (member_choice g s x info)) [] (all_join (IsCheckMet Any names') (check.expr_sites d n (member_choice g s x info).first) [] first tt) tt;
+        all_joined (IsCheckMet Any names') (check.choice_sites d n (member_choice g s x info)) [] (all_joined (IsCheckMet Any names') (check.expr_sites d n (member_choice g s x info).first) [] first tt) tt;
     called = λ c d k n s x j w rel h i t v le. args-met c d rel k n s x j le x.args i.0.1 i.1.0 (family-there g vars s x j v) (actuals-there g vars s x j v);
     family_index = λ c d k n s x e j rel h i f v le. kept c d rel k n s _ e j (some-fits c.1.0 k (lists_called g x).index e f (lists-fit c.1.0 k x i.0.1 i.1.0).0) v le;
     actual_before = λ c d k n s x slot e j rel h i pair f v le. kept c d rel k n s _ e j (pair-fits c.1.0 k slot e (slots_called g x) (lists_called g x).actuals pair (lists-fit c.1.0 k x i.0.1 i.1.0).1) v le;
@@ -398,7 +396,7 @@ module _ (u : Unit) (own : ℕ → Bool) (vars : List PDecl) (names names' : Lis
     flag_test = λ c d k n s j rel h v le.
         let deep : n + 40 ≤ 300 = shallow c.1.0 k n s h.1.0 le in (
           met-deep names' d n s (omega (arith, deep)),
-          all_join (IsCheckMet Any names') (check.expr_sites d (n + 1) (variable g s j)) (check.expr_sites d (n + 1) (EInteger 1 s)) (variable-met c d rel s s _ j (n + 1) v (omega (arith, deep))) (met-deep names' d (n + 1) s (omega (arith, deep)), tt),
+          all_joined (IsCheckMet Any names') (check.expr_sites d (n + 1) (variable g s j)) (check.expr_sites d (n + 1) (EInteger 1 s)) (variable-met c d rel s s _ j (n + 1) v (omega (arith, deep))) (met-deep names' d (n + 1) s (omega (arith, deep)), tt),
         );
     aborted = λ c d k n xs w rel h le. tt;
     no_abort = λ c d k rel h. tt;
@@ -408,7 +406,7 @@ module _ (u : Unit) (own : ℕ → Bool) (vars : List PDecl) (names names' : Lis
           met-deep names' d k h.span (omega (arith, deep)),
           (
             accept-stays g own vars names names' texts c.1.0 d rel h (head_left u s h j) refl refl i.1.0.1.0,
-            all_join (IsCheckMet Any names') (check.if_there (check.expr_sites d (k + 1)) (head_left u s h j).index) (check.names_sites d (check.formal_names h.formals))
+            all_joined (IsCheckMet Any names') (check.if_there (check.expr_sites d (k + 1)) (head_left u s h j).index) (check.names_sites d (check.formal_names h.formals))
                 (index-site c d rel (k + 1) s _ j (moving g.types h.index) h.index e f v (omega (arith, deep)))
                 (formals-stay g own vars names names' texts c.1.0 d rel h.formals i.0.1.2 (all_back (IsCheckMet Original names) (check.if_there (check.expr_sites c.1.0 (k + 1)) h.index) (check.names_sites c.1.0 (check.formal_names h.formals)) i.1.0.1.1)),
           ),

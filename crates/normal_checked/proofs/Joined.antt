@@ -7,7 +7,6 @@ use Rattle.syn_event.specs.declared.numbering.Mode.{Mode}
 use Rattle.syn_event.specs.CheckScope.{CheckSite}
 use Rattle.syn_event.specs.CheckSites.{check_sites}
 use Rattle.syn_event.specs.CheckRefusals.{CheckRefusal, by_rule, refused_at, MeetsCheckRules}
-use Rattle.syn_event.specs.RuleSharedVariable.{shared_variable}
 use Rattle.syn_event.specs.RuleAcceptPlace.{accept_place}
 use Rattle.syn_event.specs.RuleSelectForm.{select_form}
 use Rattle.syn_event.specs.RuleSameEntryTwice.{same_entry_twice}

@@ -1,5 +1,5 @@
 -- What stands around the statements of main: no own task, and of the normal form no task type.
-use Rattle.std.proofs.Common.{◌≡◌, ℕ, ◌<◌, ◌==◌, ◌||◌, not, Bool, true, false, cond, if◌then◌else◌, List, [], ◌∷◌, ◌++◌, length, map, flat_map, find, Option, Some, None, is_some, option_map, refl, sym, ap, subst, ◌∙◌, true≢false}
+use Rattle.std.proofs.Common.{◌≡◌, ℕ, ◌==◌, ◌||◌, not, Bool, true, false, cond, if◌then◌else◌, List, [], ◌∷◌, ◌++◌, flat_map, find, Option, Some, None, is_some, option_map, refl, sym, ap, subst, ◌∙◌, true≢false}
 use Rattle.std.specs.List.{AllByRecursion}
 use Rattle.std.proofs.lemmas.Bool.{eqb-true, eq-eqb}
 use Rattle.ada_tree.specs.declared.naming.NameId.{NameId}
@@ -7,17 +7,16 @@ use Rattle.ada_tree.specs.declared.naming.Span.{Span}
 use Rattle.ada_tree.specs.declared.naming.Word.{Word}
 use Rattle.ada_tree.specs.TypeTable.{TypeTable}
 use Rattle.ada_tree.specs.PlainExpr.{PExpr}
-use Rattle.ada_tree.specs.PlainStmt.{PBody}
 use Rattle.ada_tree.specs.PlainDecl.{PShape, OPlain, OArray, PInit, PTask, PDecl, DNumber, DObject, DEnumeration, DArray, DSubtype, DException, DIntIo, DPragma, DTask, DTaskBody, PDecls, no_decl, decl_then, decls_of}
 use Rattle.ada_tree.specs.Every.{EveryExpr}
 use Rattle.syn_event.specs.declared.numbering.TaskInfo.{TaskInfo}
 use Rattle.syn_event.specs.declared.meanings.Meant.{Meant}
 use Rattle.syn_event.specs.declared.meanings.Meant.TheVariants.{MainProcedure, TaskType, TaskOf, Shared, Inner}
-use Rattle.syn_event.specs.CheckScope.{Unit, CheckScope, meaning, uses, addresses}
-use Rattle.syn_event.specs.CheckSites.{with_meant, with_value, with_object, after_object, after_task, unit_of, after_decl, after_decls, first_around}
+use Rattle.syn_event.specs.CheckScope.{CheckScope, meaning, uses}
+use Rattle.syn_event.specs.CheckSites.{with_meant, with_value, with_object, after_object, after_task, after_decl, after_decls, first_around}
 use Rattle.syn_event.specs.Extents.{fixed, is_array_type}
 use Rattle.syn_event.specs.NamedTasks.{type_named, with_type}
-use Rattle.syn_event.specs.RuleMainEntry.{no_task, main_entry}
+use Rattle.syn_event.specs.RuleMainEntry.{no_task}
 use Rattle.syn_event.specs.RuleSharedVariable.{shared_name, in_body_of, shared_variable}
 use Rattle.syn_event.specs.RuleAcceptPlace.{is_own_entry}
 use Rattle.syn_event.specs.Units.{decl_list}
@@ -26,8 +25,8 @@ use Rattle.normal_model.specs.Names.{variable_name, task_name}
 use Rattle.normal_model.specs.NormalTree.{decls_front, mark_of, unless_left, first_decls, tasks_beside, task_under, declared_under, task_declared, bodies_of, main_unit, main_variables, normal_decls}
 use Rattle.normal_asked.specs.Pieces.{IsAmong}
 use Rattle.normal_types.proofs.Variables.{all-mapped, unit-all}
-use Rattle.asked_stmts.proofs.Lists.{all_join}
 use Rattle.normal_checked.specs.Around.{own_rules, IsAround}
+use Rattle.common_lemmas.proofs.Lists.{all_joined}
 
 -- ---- what declarations leave as it is
 
@@ -42,7 +41,7 @@ pub record IsFrameOf (c d : CheckScope) : Type 0 where
 frame-refl : (c : CheckScope) → IsFrameOf c c
 frame-refl c = record { types = refl; own = refl; accepting = refl; loops = refl; in_handler = refl }
 
-frame-trans : (c d e : CheckScope) → IsFrameOf c d → IsFrameOf d e → IsFrameOf c e
+pub frame-trans : (c d e : CheckScope) → IsFrameOf c d → IsFrameOf d e → IsFrameOf c e
 frame-trans c d e h i = record {
   types = i.types ∙ h.types;
   own = i.own ∙ h.own;
@@ -213,7 +212,7 @@ module _ (main : ℕ) where
 
   flat-types : {A : Type 0} (f : A → List PDecl) → ((x : A) → AllByRecursion IsNoType (f x)) → (xs : List A) → AllByRecursion IsNoType (flat_map f xs)
   flat-types f each [] = tt
-  flat-types f each (x ∷ xs) = all_join IsNoType (f x) (flat_map f xs) (each x) (flat-types f each xs)
+  flat-types f each (x ∷ xs) = all_joined IsNoType (f x) (flat_map f xs) (each x) (flat-types f each xs)
 
   copy-types : (g : Setting) (d : PDecl) → AllByRecursion IsNoType (bodies_of g d)
   copy-types g (DTaskBody w objects its s) = all-mapped IsNoType _ (λ (info : TaskInfo). tt) _
@@ -231,8 +230,8 @@ module _ (main : ℕ) where
   normal-types g =
       types-front (first_decls [] g.program.decls) (decls_of (main_variables g ++ flat_map (task_declared g) (tasks_beside g) ++ flat_map (bodies_of g) (decl_list g.program.decls))) (types-first [] g.program.decls)
       (types-list (main_variables g ++ flat_map (task_declared g) (tasks_beside g) ++ flat_map (bodies_of g) (decl_list g.program.decls))
-      (all_join IsNoType (main_variables g ++ flat_map (task_declared g) (tasks_beside g)) (flat_map (bodies_of g) (decl_list g.program.decls))
-      (all_join IsNoType (main_variables g) (flat_map (task_declared g) (tasks_beside g)) (unit-all IsNoType (main_unit g) (λ s x k. tt) g.program.body)
+      (all_joined IsNoType (main_variables g ++ flat_map (task_declared g) (tasks_beside g)) (flat_map (bodies_of g) (decl_list g.program.decls))
+      (all_joined IsNoType (main_variables g) (flat_map (task_declared g) (tasks_beside g)) (unit-all IsNoType (main_unit g) (λ s x k. tt) g.program.body)
       (flat-types (task_declared g) (λ info. flat-types (declared_under info.unit (task_name g info)) (types-under info.unit (task_name g info)) (decl_list g.program.decls)) (tasks_beside g)))
       (flat-types (bodies_of g) (copy-types g) (decl_list g.program.decls))))
 

@@ -1,5 +1,5 @@
 -- Places at which none of the rules 13 to 23 refuses anything in any text, one form of demand after the other.
-use Rattle.std.proofs.Common.{◌≡◌, ℕ, ◌+◌, ◌≤◌, Bool, true, false, ◌&&◌, nat_le, nat_lt, if◌then◌else◌, List, [], ◌∷◌, length, Option, Some, None, refl, sym, ap, subst, ◌∙◌, arith}
+use Rattle.std.proofs.Common.{◌≡◌, ℕ, ◌+◌, ◌≤◌, Bool, nat_le, nat_lt, if◌then◌else◌, List, [], ◌∷◌, length, Option, Some, refl, ap, arith}
 use Rattle.std.proofs.lemmas.Bool.{le-ltb}
 use Rattle.ada_tree.specs.declared.naming.NameId.{NameId}
 use Rattle.ada_tree.specs.declared.naming.Span.{Span}
@@ -20,16 +20,13 @@ use Rattle.syn_event.specs.RuleExitPlace.{exit_place}
 use Rattle.syn_event.specs.RuleRaisePlace.{raise_place}
 use Rattle.syn_event.specs.RuleLimit.{passed}
 use Rattle.legal_sites.specs.Met.{IsCheckMet}
-
-and-false : (a b : Bool) → b ≡ false → (a && b) ≡ false
-and-false true b e = e
-and-false false b e = refl
+use Rattle.common_lemmas.proofs.Truth.{false_behind}
 
 -- a limit that is kept to
 pub passed-not : (what : What) (limit before here : ℕ) (s : Span) → before + here ≤ limit → passed what (Some limit) before here s ≡ []
 passed-not what limit before here s h =
     ap (λ (t : Bool). if t then record { over = record { what = what; limit = limit }; span = s } ∷ [] else [])
-    (and-false (nat_le before limit) (nat_lt limit (before + here)) (le-ltb limit (before + here) h))
+    (false_behind (nat_le before limit) (nat_lt limit (before + here)) (le-ltb limit (before + here) h))
 
 module _ (names : List (List ℕ)) (d : CheckScope) where
   pub met-deep : (n : ℕ) (s : Span) → n ≤ 300 → IsCheckMet Any names (site d (counts Nesting 0 n s))

@@ -1,13 +1,12 @@
 -- What stands around stays so in accepts, loops and handlers.
-use Rattle.std.proofs.Common.{◌≡◌, ℕ, ◌<◌, ◌==◌, Bool, true, false, cond, List, [], ◌∷◌, ◌++◌, length, find, Option, Some, None, option_map, refl, sym, ap, subst, ◌∙◌}
+use Rattle.std.proofs.Common.{◌≡◌, ℕ, ◌==◌, Bool, true, false, cond, List, [], ◌∷◌, find, Option, Some, None, option_map, refl, ap}
 use Rattle.ada_tree.specs.declared.naming.NameId.{NameId}
 use Rattle.ada_tree.specs.declared.naming.Span.{Span}
 use Rattle.ada_tree.specs.declared.naming.Word.{Word}
 use Rattle.ada_tree.specs.PlainStmt.{PScheme, LWhile, LFor, PHead}
 use Rattle.ada_tree.specs.PlainDecl.{PDecl}
-use Rattle.syn_event.specs.declared.meanings.Meant.{Meant}
 use Rattle.syn_event.specs.declared.meanings.Meant.TheVariants.{Inner}
-use Rattle.syn_event.specs.CheckScope.{Unit, CheckScope, meaning, uses, addresses}
+use Rattle.syn_event.specs.CheckScope.{Unit, CheckScope, uses, addresses}
 use Rattle.syn_event.specs.CheckSites.{with_meant, formal_names, in_accept, in_loop, handling}
 use Rattle.syn_event.specs.RuleMainEntry.{no_task, main_entry}
 use Rattle.syn_event.specs.RuleSharedVariable.{shared_name, in_body_of, shared_variable}
@@ -20,14 +19,14 @@ nothing-in (Some x) = refl
 nothing-in None = refl
 
 -- a name that is no shared variable is none where an inner name is added
-use-under : (c : CheckScope) (n : ℕ) (id : NameId) (s : Span) → shared_variable c (uses id s) ≡ [] → shared_variable (record c { names = (n, Inner) ∷ c.names }) (uses id s) ≡ []
+pub use-under : (c : CheckScope) (n : ℕ) (id : NameId) (s : Span) → shared_variable c (uses id s) ≡ [] → shared_variable (record c { names = (n, Inner) ∷ c.names }) (uses id s) ≡ []
 use-under c n id s h = go (n == id.0)
   where
     go : (t : Bool) → in_body_of c.own (shared_name (option_map (λ k. k.1) (cond t (Some (n, Inner)) (find (λ k. k.0 == id.0) c.names))) s) ≡ []
     go true = nothing-in c.own
     go false = h
 
-callee-under : (c : CheckScope) (n : ℕ) (w : Word) → main_entry c (addresses w) ≡ [] → main_entry (record c { names = (n, Inner) ∷ c.names }) (addresses w) ≡ []
+pub callee-under : (c : CheckScope) (n : ℕ) (w : Word) → main_entry c (addresses w) ≡ [] → main_entry (record c { names = (n, Inner) ∷ c.names }) (addresses w) ≡ []
 callee-under c n w h = go (n == w.name.0)
   where
     go : (t : Bool) → no_task (option_map (λ k. k.1) (cond t (Some (n, Inner)) (find (λ k. k.0 == w.name.0) c.names))) w.span ≡ []

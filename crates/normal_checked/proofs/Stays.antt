@@ -1,30 +1,29 @@
 -- What stays in the normal form meets the rules 13 to 23 there, where it does in the program, also a few levels deeper.
-use Rattle.std.proofs.Common.{◌≡◌, ℕ, ◌+◌, ◌≤◌, ◌<◌, Bool, true, false, not, ◌||◌, if◌then◌else◌, List, [], ◌∷◌, ◌++◌, length, flat_map, Option, Some, None, IfSome, All, unwrap_or, slice_get, refl, sym, ap, subst, ◌∙◌, arith}
+use Rattle.std.proofs.Common.{◌≡◌, ℕ, ◌+◌, ◌≤◌, Bool, true, not, ◌||◌, if◌then◌else◌, List, [], ◌∷◌, ◌++◌, length, flat_map, Option, Some, None, IfSome, All, refl, sym, ap, ◌∙◌, arith}
 use Rattle.std.specs.List.{AllByRecursion, list_any}
 use Rattle.std.proofs.lemmas.List.Elements.{recursion_from_All}
 use Rattle.ada_tree.specs.declared.naming.NameId.{NameId}
 use Rattle.ada_tree.specs.declared.naming.Span.{Span}
 use Rattle.ada_tree.specs.declared.naming.Word.{Word}
-use Rattle.ada_tree.specs.PlainExpr.{PExpr, EInteger, EName, EIndex, EAttribute, EAttributeOf, EParen, EUnary, EBinary, PBounds, PSubind, PDrange, RGiven, RMarked}
+use Rattle.ada_tree.specs.PlainExpr.{PExpr, EInteger, EName, EIndex, EAttribute, EAttributeOf, EParen, EUnary, EBinary, PBounds, PDrange, RGiven, RMarked}
 use Rattle.ada_tree.specs.PlainStmt.{PTarget, PFormal, PPart, PWords, PValue, PChoice, PScheme, LWhile, LFor, PHead, PStmt, SNull, SAssign, SDelay, SExit, SRaise, SAbort, SCall, SAccept, SWait, SConditional, STimed, SPut, SPutLine, SNewLine, SGet, SIf, SCase, SBlock, SLoop}
 use Rattle.ada_tree.specs.PlainDecl.{PDecl}
-use Rattle.ada_tree.specs.Every.{Rules, EveryWord, EveryExpr, EveryBounds, EverySubind, EveryDrange, EveryTarget, EveryFormal, EveryPart, EveryChoice, EveryScheme, EveryHead, EveryStmt}
+use Rattle.ada_tree.specs.Every.{Rules, EveryWord, EveryExpr, EveryBounds, EveryDrange, EveryTarget, EveryFormal, EveryPart, EveryChoice, EveryScheme, EveryHead, EveryStmt}
 use Rattle.syn_event.specs.declared.numbering.Mode.TheVariants.{Original, Any}
 use Rattle.syn_event.specs.declared.limits.What.TheVariants.{Nesting}
-use Rattle.syn_event.specs.CheckScope.{CheckScope, CheckSite, declares, uses, accepts, exits, raises_again, counts}
+use Rattle.syn_event.specs.CheckScope.{CheckScope, CheckSite, declares, uses, accepts, exits, counts}
 use Rattle.syn_event.specs.CheckSites as check
 use Rattle.syn_event.specs.Units.{text_of}
 use Rattle.syn_event.specs.RuleAcceptPlace.{is_among, is_own_entry}
 use Rattle.syn_event.specs.RuleExitPlace.{is_left}
-use Rattle.syn_event.proofs.Nothing.{all_front, all_back}
 use Rattle.legal_sites.specs.Met.{IsCheckMet}
 use Rattle.task_model.specs.Setting.{Setting}
-use Rattle.asked_stmts.proofs.Lists.{all_join, all_flat, all_unflat}
 use Rattle.normal_asked.specs.Pieces.{IsPlain}
 use Rattle.normal_placed.proofs.Depth.{depth-of}
 use Rattle.normal_placed.proofs.Tasks.{declared-length}
 use Rattle.normal_checked.specs.Around.{own_rules, IsAround}
 use Rattle.normal_checked.proofs.Places.{met-deep, met-name, met-use, met-accept, met-exit, met-raise}
+use Rattle.common_lemmas.proofs.Lists.{all_back, all_front, all_joined}
 
 module _ (g : Setting) (own : ℕ → Bool) (vars : List PDecl) (names names' : List (List ℕ)) (texts : (id : NameId) → own id.0 ≡ true → text_of names' id ≡ text_of names id) (c d : CheckScope) (rel : IsAround g own vars c d) where
   abbrev r : Rules
@@ -63,7 +62,7 @@ module _ (g : Setting) (own : ℕ → Bool) (vars : List PDecl) (names names' : 
   expr-stays k n (EUnary op e s) le h m = (deep k n s le m.0, expr-stays (k + 1) (n + 1) e (omega (arith, le)) h.2 m.1)
   expr-stays k n (EBinary op x y s) le h m = (
     deep k n s le m.0,
-    all_join M' (check.expr_sites d (n + 1) x) (check.expr_sites d (n + 1) y)
+    all_joined M' (check.expr_sites d (n + 1) x) (check.expr_sites d (n + 1) y)
         (expr-stays (k + 1) (n + 1) x (omega (arith, le)) h.2 (all_front M (check.expr_sites c (k + 1) x) (check.expr_sites c (k + 1) y) m.1))
         (expr-stays (k + 1) (n + 1) y (omega (arith, le)) h.3 (all_back M (check.expr_sites c (k + 1) x) (check.expr_sites c (k + 1) y) m.1)),
   )
@@ -74,7 +73,7 @@ module _ (g : Setting) (own : ℕ → Bool) (vars : List PDecl) (names names' : 
 
   bounds-stay : (k : ℕ) (x : PBounds) → EveryBounds r k x → At (check.bounds_sites c k x) → At' (check.bounds_sites d k x)
   bounds-stay k x h m =
-      all_join M' (check.expr_sites d k x.first) (check.expr_sites d k x.last)
+      all_joined M' (check.expr_sites d k x.first) (check.expr_sites d k x.last)
       (expr-stays k k x.first (omega arith) h.1 (all_front M (check.expr_sites c k x.first) (check.expr_sites c k x.last) m))
       (expr-stays k k x.last (omega arith) h.2 (all_back M (check.expr_sites c k x.first) (check.expr_sites c k x.last) m))
 
@@ -96,7 +95,7 @@ module _ (g : Setting) (own : ℕ → Bool) (vars : List PDecl) (names names' : 
   parts-stay : (k : ℕ) (xs : List PPart) → AllByRecursion (EveryPart r k) xs → At (flat_map (check.part_sites c k) xs) → At' (flat_map (check.part_sites d k) xs)
   parts-stay k [] h m = tt
   parts-stay k (x ∷ xs) h m =
-      all_join M' (check.part_sites d k x) (flat_map (check.part_sites d k) xs)
+      all_joined M' (check.part_sites d k x) (flat_map (check.part_sites d k) xs)
       (part-stays k x h.0 (all_front M (check.part_sites c k x) (flat_map (check.part_sites c k) xs) m))
       (parts-stay k xs h.1 (all_back M (check.part_sites c k x) (flat_map (check.part_sites c k) xs) m))
 
@@ -106,14 +105,14 @@ module _ (g : Setting) (own : ℕ → Bool) (vars : List PDecl) (names names' : 
 
   choice-stays : (k : ℕ) (x : PChoice) → EveryChoice r k x → At (check.choice_sites c k x) → At' (check.choice_sites d k x)
   choice-stays k x h m =
-      all_join M' (check.expr_sites d k x.first) (check.if_there (check.expr_sites d k) x.last)
+      all_joined M' (check.expr_sites d k x.first) (check.if_there (check.expr_sites d k) x.last)
       (expr-stays k k x.first (omega arith) h.0 (all_front M (check.expr_sites c k x.first) (check.if_there (check.expr_sites c k) x.last) m))
       (last-stays k x.first x.last h.1 (all_back M (check.expr_sites c k x.first) (check.if_there (check.expr_sites c k) x.last) m))
 
   pub choices-stay : (k : ℕ) (xs : List PChoice) → AllByRecursion (EveryChoice r k) xs → At (flat_map (check.choice_sites c k) xs) → At' (flat_map (check.choice_sites d k) xs)
   choices-stay k [] h m = tt
   choices-stay k (x ∷ xs) h m =
-      all_join M' (check.choice_sites d k x) (flat_map (check.choice_sites d k) xs)
+      all_joined M' (check.choice_sites d k x) (flat_map (check.choice_sites d k) xs)
       (choice-stays k x h.0 (all_front M (check.choice_sites c k x) (flat_map (check.choice_sites c k) xs) m))
       (choices-stay k xs h.1 (all_back M (check.choice_sites c k x) (flat_map (check.choice_sites c k) xs) m))
 
@@ -131,7 +130,7 @@ module _ (g : Setting) (own : ℕ → Bool) (vars : List PDecl) (names names' : 
   pub loop-stays : (k : ℕ) (w : Option Word) (x : Option PScheme) → IfSome w (EveryWord r) × IfSome x (EveryScheme r k) → At (check.if_there (λ y. check.site c (declares y) ∷ []) w ++ check.if_there (check.scheme_sites c k) x) →
       At' (check.if_there (λ y. check.site d (declares y) ∷ []) w ++ check.if_there (check.scheme_sites d k) x)
   loop-stays k w x h m =
-      all_join M' (check.if_there (λ y. check.site d (declares y) ∷ []) w) (check.if_there (check.scheme_sites d k) x)
+      all_joined M' (check.if_there (λ y. check.site d (declares y) ∷ []) w) (check.if_there (check.scheme_sites d k) x)
       (label-stays w h.0 (all_front M (check.if_there (λ y. check.site c (declares y) ∷ []) w) (check.if_there (check.scheme_sites c k) x) m))
       (scheme-stays k x h.1 (all_back M (check.if_there (λ y. check.site c (declares y) ∷ []) w) (check.if_there (check.scheme_sites c k) x) m))
 
@@ -141,7 +140,7 @@ module _ (g : Setting) (own : ℕ → Bool) (vars : List PDecl) (names names' : 
 
   formal-words : (fs : List PFormal) → AllByRecursion (EveryFormal r) fs → AllByRecursion (EveryWord r) (check.formal_names fs)
   formal-words [] h = tt
-  formal-words (f ∷ fs) h = all_join (EveryWord r) f.names (check.formal_names fs) (recursion_from_All (EveryWord r) f.names h.0.0.1) (formal-words fs h.1)
+  formal-words (f ∷ fs) h = all_joined (EveryWord r) f.names (check.formal_names fs) (recursion_from_All (EveryWord r) f.names h.0.0.1) (formal-words fs h.1)
 
   pub formals-stay : (fs : List PFormal) → All (EveryFormal r) fs → At (check.names_sites c (check.formal_names fs)) → At' (check.names_sites d (check.formal_names fs))
   formals-stay fs h m = words-stay (check.formal_names fs) (formal-words fs (recursion_from_All (EveryFormal r) fs h)) m
@@ -163,7 +162,7 @@ module _ (g : Setting) (own : ℕ → Bool) (vars : List PDecl) (names names' : 
         deep k k h.span (omega arith) m.0,
         (
           accept-stays h h refl refl m.1.0,
-          all_join M' (check.if_there (check.expr_sites d (k + 1)) h.index) (check.names_sites d (check.formal_names h.formals))
+          all_joined M' (check.if_there (check.expr_sites d (k + 1)) h.index) (check.names_sites d (check.formal_names h.formals))
               (option-stays (k + 1) h.index i.1 (all_front M index formals m.1.1)) (formals-stay h.formals i.2 (all_back M index formals m.1.1)),
         ),
       )
@@ -181,7 +180,7 @@ module _ (g : Setting) (own : ℕ → Bool) (vars : List PDecl) (names names' : 
   plain-stays k (SNull s) p h m = (deep k k s (omega arith) m.0, tt)
   plain-stays k (SAssign t e s) p h m = (
     deep k k s (omega arith) m.0,
-    all_join M' (check.target_sites d (k + 1) t) (check.expr_sites d (k + 1) e)
+    all_joined M' (check.target_sites d (k + 1) t) (check.expr_sites d (k + 1) e)
         (target-stays (k + 1) t h.1 (all_front M (check.target_sites c (k + 1) t) (check.expr_sites c (k + 1) e) m.1))
         (expr-stays (k + 1) (k + 1) e (omega arith) h.2 (all_back M (check.target_sites c (k + 1) t) (check.expr_sites c (k + 1) e) m.1)),
   )

@@ -1,21 +1,20 @@
 -- A selective wait of the normal form is of a right form, and no two of its accepts are for one caller, where it is so in the program.
-use Rattle.std.proofs.Common.{◌≡◌, ℕ, ◌+◌, ◌≤◌, ◌<◌, ◌==◌, ℤ, Bool, true, false, not, ◌&&◌, ◌||◌, nat_lt, cond, if◌then◌else◌, List, [], ◌∷◌, ◌++◌, length, count_by, Option, Some, None, IfSome, refl, sym, ap, subst, ◌∙◌, true≢false, arith}
+use Rattle.std.proofs.Common.{◌≡◌, ℕ, ◌+◌, ◌==◌, ℤ, Bool, true, false, not, ◌&&◌, ◌||◌, nat_lt, cond, if◌then◌else◌, List, [], ◌∷◌, ◌++◌, length, count_by, Option, Some, None, IfSome, refl, sym, ap, subst, ◌∙◌, true≢false}
 use Rattle.std.specs.List.{AllByRecursion, list_any}
 use Rattle.std.proofs.lemmas.List.Sums.{sum_by-cons}
 use Rattle.ada_tree.specs.declared.naming.Span.{Span}
 use Rattle.ada_tree.specs.TypeTable.{TypeTable}
 use Rattle.ada_tree.specs.StaticValue.{is_static, value_of}
 use Rattle.ada_tree.specs.PlainExpr.{PExpr}
-use Rattle.ada_tree.specs.PlainStmt.{PHead, PStmts, PAccept, accepting, PAlt, alternative, PAltKind, AAccept, ADelay, ATerminate, PAlts, no_alt, alt_then}
+use Rattle.ada_tree.specs.PlainStmt.{PHead, accepting, alternative, PAltKind, AAccept, ADelay, ATerminate, PAlts, no_alt, alt_then}
 use Rattle.ada_tree.specs.PlainDecl.{PDecl}
 use Rattle.syn_event.specs.Extents.{value_there, fixed}
-use Rattle.syn_event.specs.RuleSelectForm.{alt_kinds, is_accept, is_delay, is_terminate, some, one_if, kinds_count, is_malformed}
+use Rattle.syn_event.specs.RuleSelectForm.{alt_kinds, is_accept, is_delay, is_terminate, some, one_if, is_malformed}
 use Rattle.syn_event.specs.RuleSameEntryTwice.{accept_heads, are_other_values, differ, clash, clashing}
 use Rattle.syn_event.proofs.Nothing.{append_nothing, test_fails}
-use Rattle.task_model.specs.Setting.{Setting}
-use Rattle.normal_model.specs.Making.{unless_static, moving, index_left}
-use Rattle.normal_model.specs.Walk.{Rewriter, after_kind, inside_kind, inside_alts}
-use Rattle.normal_model.specs.Waits.{Unit, head_left, kind_left, behind_guard}
+use Rattle.normal_model.specs.Making.{moving, index_left}
+use Rattle.normal_model.specs.Walk.{Rewriter, inside_alts}
+use Rattle.normal_model.specs.Waits.{Unit, head_left, behind_guard}
 use Rattle.normal_model.specs.NormalStmts.{normal_rewriter}
 
 -- ---- the kinds of alternatives

@@ -19,6 +19,7 @@ use Rattle.task_model.specs.Setting.{Setting}
 use Rattle.normal_model.specs.Names.{variable_name, task_name}
 use Rattle.normal_model.specs.NormalTree.{tasks_beside}
 use Rattle.asked_stmts.specs.Asked.{Asks}
+use Rattle.asked_stmts.specs.Kinds.{no_asks}
 use Rattle.normal_asked.specs.Pieces.{IsAmong, IsTarget}
 
 -- each name is one of the program's own, and each list has as many parts as the grammar asks at least
@@ -39,27 +40,7 @@ AreBeside g x = (w : Word) → IsTarget g x w → IsBeside g w.name
 
 -- what is asked of callees alone
 abbrev pub callee_asks : Setting → Asks (Unit {0})
-callee_asks g = record {
-  outer = λ c k s. Unit {0};
-  many = λ n. Unit {0};
-  duration = λ n. Unit {0};
-  plain = λ c k x. Unit {0};
-  callee = λ c k x. AreBeside g x;
-  call = λ c k x. Unit {0};
-  aborts = λ c k xs. Unit {0};
-  condition = λ c k e. Unit {0};
-  selector = λ c k e xs others s. Unit {0};
-  choices = λ c k e xs. Unit {0};
-  loop = λ c k w x. Unit {0};
-  head = λ c k h. Unit {0};
-  wait = λ c k x others s. Unit {0};
-  delay = λ c k e s. Unit {0};
-  handlers = λ hs. Unit {0};
-  handler = λ c k names ws. Unit {0};
-  accepting = λ c h. c;
-  looping = λ c w x. c;
-  handling = λ c. c;
-}
+callee_asks g = record no_asks { callee = λ c k x. AreBeside g x }
 
 -- ---- literals
 

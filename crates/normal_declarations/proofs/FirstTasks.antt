@@ -3,7 +3,8 @@ use Rattle.std.proofs.Common.{◌≡◌, ◌==◌, ◌<◌, ◌+◌, ℕ, nat_eq
 use Rattle.std.specs.HashMap.{HashMap, get}
 use Rattle.ada_tree.specs.StaticValue.{first_of_two}
 use Rattle.syn_event.specs.declared.numbering.TaskInfo.{TaskInfo}
-use Rattle.task_links.proofs.KeepingLemmas.{more, position_more}
+use Rattle.task_links.proofs.KeepingLemmas.{more}
+use Rattle.tree_lemmas.proofs.FirstOfTwo.{position_more}
 
 pub first_step : {S : Type 0} (start so_far grown : HashMap ℕ ℕ S) (tasks : List TaskInfo) (i number : ℕ) (d : TaskInfo) → i < length tasks → number ≡ i
     → ((q : ℕ) → get nat_eq so_far q ≡ first_of_two (get nat_eq start q) (position (λ info. info.unit.0 == q) (take i tasks)))

@@ -10,17 +10,13 @@ use Rattle.ada_tree.specs.PlainProgram.{PProgram}
 use Rattle.syn_event.specs.Units.{decl_list}
 use Rattle.task_model.specs.Setting.{Setting}
 use Rattle.normal_model.specs.NormalTree.{decls_front}
+use Rattle.syn_event.proofs.DeclLists.{listed_back}
 
 -- ---- rows
 
--- the list of the row of a list
-pub row_list : (ds : List PDecl) → decl_list (decls_of ds) ≡ ds
-row_list [] = refl
-row_list (d ∷ ds) = ap (λ l. d ∷ l) (row_list ds)
-
 -- the declarations of a program as a list
 pub rows_of : (g : Setting) (p : PProgram) (ds : List PDecl) → p ≡ g.program → p.decls ≡ decls_of ds → ds ≡ decl_list g.program.decls
-rows_of g p ds same row = sym (row_list ds) ∙ ap decl_list (sym row ∙ ap (λ q. q.decls) same)
+rows_of g p ds same row = sym (listed_back ds) ∙ ap decl_list (sym row ∙ ap (λ q. q.decls) same)
 
 -- rows in front of rows
 pub front_rows : (xs ys : List PDecl) → decls_front (decls_of xs) (decls_of ys) ≡ decls_of (xs ++ ys)

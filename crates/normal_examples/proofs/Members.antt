@@ -51,11 +51,11 @@ abbrev row : PProgram
 row = record { names = (predefined ++ (codes "ROW" ∷ codes "INT_IO" ∷ codes "W" ∷ codes "E" ∷ codes "X" ∷ codes "A" ∷ codes "K" ∷ codes "N" ∷ codes "I" ∷ [])); text_io = false; name = (w 25); decls = (decl_then (DIntIo (w 26) o) (decl_then (DTask (record { name = (w 27); of_kind = true; entries = ((record { name = (w 28); family = None; formals = ((record { names = ((w 29) ∷ []); mode = mode.Take; mark = (w 0) }) ∷ []); span = o }) ∷ []); priorities = [] }) o) (decl_then (DObject ((w 30) ∷ []) false (OArray (RGiven (record { first = (EInteger 1 o); last = (EInteger 3 o) })) (record { mark = (w 27); bounds = None })) None o) (decl_then (DTask (record { name = (w 31); of_kind = false; entries = []; priorities = [] }) o) (decl_then (DTaskBody (w 27) no_decl (body (stmt_then (SAccept (accepting (record { entry = (w 28); index = None; formals = ((record { names = ((w 29) ∷ []); mode = mode.Take; mark = (w 0) }) ∷ []); span = o }) (present (stmt_then (SPut ((PValue (n 29)) ∷ []) o) (stmt_then (SNewLine o) no_stmt)))) o) no_stmt) no_handler) o) (decl_then (DTaskBody (w 31) (decl_then (DObject ((w 32) ∷ []) false (OPlain (record { mark = (w 0); bounds = None })) (Some (IOne (EInteger 4 o))) o) no_decl) (body (stmt_then (SLoop None (Some (LFor (w 33) true (RGiven (record { first = (EInteger 1 o); last = (EInteger 3 o) })))) (stmt_then (SCall (record { task = (record { name = (w 30); index = (Some (n 33)) }); entry = (w 28); args = (Some (record { first = ((EBinary binary.Times (EInteger 10 o) (n 33) o) ∷ []); second = None })) }) o) no_stmt) o) (stmt_then (SBlock (body (stmt_then (SCall (record { task = (record { name = (w 30); index = (Some (n 32)) }); entry = (w 28); args = (Some (record { first = ((EInteger 0 o) ∷ []); second = None })) }) o) no_stmt) (handler_then (handler ((w 6) ∷ []) (stmt_then (SPutLine ((PWords (codes "RANGE") o) ∷ []) o) no_stmt) o) no_handler)) o) no_stmt)) no_handler) o) no_decl)))))); body = (body (stmt_then (SNull o) no_stmt) no_handler) }
 
 -- It is legal.
-row_is_legal : refusals row ≡ []
+pub row_is_legal : refusals row ≡ []
 unfolding digits
 row_is_legal = refl
 
-row_is_checked : check_refusals row mode_of.Original ≡ []
+pub row_is_checked : check_refusals row mode_of.Original ≡ []
 unfolding digits
 row_is_checked = refl
 

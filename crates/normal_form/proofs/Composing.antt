@@ -16,8 +16,9 @@ use Rattle.normal_model.specs.NormalStmts.{normal_body}
 use Rattle.normal_model.specs.NormalTree.{bodies_of, first_decls, greatest, main_unit, main_variables, normal_decls, normal_tree, task_declared, tasks_beside, variables_needed, variables_of_body}
 use Rattle.normal_names.specs.declared.names.NormalNames.{NormalNames}
 use Rattle.normal_names.specs.SoFar.{AreNamesOf}
-use Rattle.normal_declarations.proofs.Listing.{row_front, row_list}
+use Rattle.normal_declarations.proofs.Listing.{row_front}
 use Rattle.normal_form.specs.inner.Whole.{all_decls, named_behind}
+use Rattle.syn_event.proofs.DeclLists.{listed_back}
 
 decls_are : (g : Setting) → decls_of (all_decls g (main_variables g)) ≡ normal_decls g
 decls_are g = row_front (first_decls [] g.program.decls) _
@@ -50,7 +51,7 @@ filled g ds again begun firsts mine tasks all vars (Ok u) row same a b c h =
     let three = flat_map (task_declared g) (tasks_beside g) in
     let four = flat_map (bodies_of g) (decl_list g.program.decls) in
     h
-    ∙ ap (λ l. tasks ++ flat_map (bodies_of g) l) (same ∙ sym (row_list ds) ∙ ap decl_list (sym row))
+    ∙ ap (λ l. tasks ++ flat_map (bodies_of g) l) (same ∙ sym (listed_back ds) ∙ ap decl_list (sym row))
     ∙ ap (λ l. l ++ four) (c ∙ ap (λ l. l ++ three) (b ∙ ap (λ l. l ++ vars) (a ∙ ap (λ d. begun ++ decl_list (first_decls [] d)) (sym row))))
     ∙ joined begun one vars three four
   where
@@ -62,7 +63,7 @@ pub counted : {T E : Type 0} (g : Setting) (ds : List PDecl) (begun before behin
     OnOk r (behind ≡ max before (greatest (map (variables_of_body g) ds))) → OnOk r (behind ≡ named_behind g begun)
 counted g ds begun before behind (Err e) row same h = tt
 counted g ds begun before behind (Ok u) row same h =
-    h ∙ ap (λ n. max n (greatest (map (variables_of_body g) ds))) same ∙ ap (λ l. max begun (greatest (map (variables_of_body g) l))) (sym (row_list ds) ∙ ap decl_list (sym row))
+    h ∙ ap (λ n. max n (greatest (map (variables_of_body g) ds))) same ∙ ap (λ l. max begun (greatest (map (variables_of_body g) l))) (sym (listed_back ds) ∙ ap decl_list (sym row))
 
 -- ---- the program
 

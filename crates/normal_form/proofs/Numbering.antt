@@ -1,29 +1,17 @@
 -- The tasks among declarations, one declaration after the other.
-use Rattle.std.proofs.Common.{◌≡◌, ◌<◌, ◌+◌, ℕ, List, [], ◌∷◌, ◌++◌, map, take, length, get_or, refl, sym, ap, ◌∙◌, append_assoc}
+use Rattle.std.proofs.Common.{◌≡◌, ◌<◌, ◌+◌, ℕ, List, [], ◌∷◌, ◌++◌, map, take, length, get_or, sym, ap, ◌∙◌, append_assoc}
 use Rattle.std.proofs.lemmas.List.{map_more, map-append}
 use Rattle.ada_tree.specs.declared.declarations.Decl.{Decl}
-use Rattle.ada_tree.specs.PlainDecl.{PDecl, PTask, DNumber, DObject, DEnumeration, DArray, DSubtype, DException, DIntIo, DPragma, DTask, DTaskBody, decls_of, plain_decl}
+use Rattle.ada_tree.specs.PlainDecl.{PDecl, PTask, decls_of, plain_decl}
 use Rattle.ada_tree.specs.PlainProgram.{PProgram}
 use Rattle.syn_event.specs.declared.numbering.TaskInfo.{TaskInfo}
 use Rattle.syn_event.specs.Numbering.{Numbering}
 use Rattle.syn_event.specs.Numbered.{task_info}
 use Rattle.syn_event.specs.Units.{decl_list, tasks_in, tasks_of}
 use Rattle.normal_model.specs.NormalNumbers.{normal_numbers}
-use Rattle.normal_declarations.proofs.Listing.{row_list}
 use Rattle.normal_form.specs.inner.Infos.{infos_of}
-
-tasks_push : (ds : List PDecl) (d : PDecl) → tasks_in (ds ++ d ∷ []) ≡ tasks_in ds ++ tasks_in (d ∷ [])
-tasks_push [] d = refl
-tasks_push (DTask t s ∷ ds) d = ap (λ l. t ∷ l) (tasks_push ds d)
-tasks_push (DTaskBody w objects its s ∷ ds) d = tasks_push ds d
-tasks_push (DObject names constant shape init s ∷ ds) d = tasks_push ds d
-tasks_push (DNumber w e s ∷ ds) d = tasks_push ds d
-tasks_push (DEnumeration w ws s ∷ ds) d = tasks_push ds d
-tasks_push (DArray w r x s ∷ ds) d = tasks_push ds d
-tasks_push (DSubtype w x s ∷ ds) d = tasks_push ds d
-tasks_push (DException ws s ∷ ds) d = tasks_push ds d
-tasks_push (DIntIo w s ∷ ds) d = tasks_push ds d
-tasks_push (DPragma e s ∷ ds) d = tasks_push ds d
+use Rattle.syn_event.proofs.DeclLists.{listed_back}
+use Rattle.task_links.proofs.UnitsLemmas.{tasks_push}
 
 -- what is made of the tasks of one declaration more
 pub infos_more : (names : List (List ℕ)) (xs : List Decl) (i : ℕ) (x : Decl) (start so_far grown : List TaskInfo) → i < length xs → x ≡ get_or xs i x →
@@ -44,7 +32,7 @@ infos_more names xs i x start so_far grown lt is before grows =
 pub numbers_are : (q : PProgram) (numbers made : Numbering) (ds : List PDecl) → q.decls ≡ decls_of ds → made.main ≡ numbers.main →
     made.tasks ≡ task_info q.names q.name.name ∷ infos_of q.names (tasks_in ds) → made.entries ≡ numbers.entries → made ≡ normal_numbers q numbers
 numbers_are q numbers made ds row main tasks entries =
-    let same : tasks_in ds ≡ tasks_of q = ap tasks_in (sym (row_list ds) ∙ ap decl_list (sym row)) in
+    let same : tasks_in ds ≡ tasks_of q = ap tasks_in (sym (listed_back ds) ∙ ap decl_list (sym row)) in
     let all : made.tasks ≡ task_info q.names q.name.name ∷ infos_of q.names (tasks_of q) = tasks ∙ ap (λ l. task_info q.names q.name.name ∷ infos_of q.names l) same in
     ap (λ m. record { main = m; tasks = made.tasks; entries = made.entries }) main
     ∙ ap (λ l. record { main = numbers.main; tasks = l; entries = made.entries }) all

@@ -48,6 +48,7 @@ use Rattle.normal_runs_law.specs.Premises.{Rewrite, programs_of, unit_at, unit_b
 use Rattle.normal_runs_law.specs.Example.{word}
 use Rattle.normal_form_law.specs.Normalisable.{numbers_of, setting_for, made_for, first_task, variables_of, normal_rewrite, NamesTell, IsScalar, IsPlain, IsNormalisable}
 use Rattle.normal_form_law.specs.Choosing.{indices, entry, index, member, the_call, head, main_body, task_body, choosing}
+use Rattle.common_lemmas.proofs.Numbers.{next_not_zero}
 
 abbrev rewrite : Rewrite
 rewrite = normal_rewrite choosing []
@@ -287,12 +288,9 @@ tell = (((λ e. refl), ((λ e. refl), tt)), (((λ e. refl), ((λ e. refl), tt)),
 
 -- ---- numbers, variables and objects
 
-not_zero : (k : ℕ) → (suc k == 0) ≡ false
-not_zero k = ne_eqb (suc k) 0 (λ e. omega (arith, e))
-
 nothing-runs : (t : ℕ) → unit_of choosing numbers (suc (suc (suc t))) ≡ no_unit
 unfolding digits
-nothing-runs t = ap (λ q. if q then record { in_main = true; decls = choosing.decls; body = choosing.body } else unit_of_info choosing (task_at numbers (suc (suc (suc t))))) (not_zero (suc (suc t)))
+nothing-runs t = ap (λ q. if q then record { in_main = true; decls = choosing.decls; body = choosing.body } else unit_of_info choosing (task_at numbers (suc (suc (suc t))))) (next_not_zero (suc (suc t)))
 
 conforms : (t : ℕ) → InBody (Conforms (setting_for choosing) t) (unit_of choosing numbers t).body
 unfolding digits

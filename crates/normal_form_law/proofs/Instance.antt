@@ -22,12 +22,12 @@ use Rattle.normal_types.specs.Laws.{IsOrdered, AreOwn}
 use Rattle.translation_law.specs.Translations.{Programs, IsKnown}
 use Rattle.translation_law.specs.OldTexts.{OldBody}
 use Rattle.normal_law.specs.Suited.{asked_of}
-use Rattle.task_invariants.proofs.Instance.{not_zero}
 use Rattle.normal_runs_law.specs.Premises.{Rewrite, programs_of, unit_at, unit_before, objects_before}
 use Rattle.normal_runs_law.specs.Example.{word, formal, v, yes, example}
 use Rattle.normal_runs_law.proofs.Instance.{well}
 use Rattle.normal_runs_law.proofs.ExampleBodies.{marks, families, main-old, task-old}
 use Rattle.normal_form_law.specs.Normalisable.{numbers_of, setting_for, made_for, first_task, variables_of, normal_rewrite, NamesTell, IsScalar, IsPlain, IsNormalisable}
+use Rattle.common_lemmas.proofs.Numbers.{next_not_zero}
 
 abbrev rewrite : Rewrite
 rewrite = normal_rewrite example []
@@ -116,7 +116,7 @@ own = (
 -- ---- numbers and variables
 
 nothing-runs : (t : ℕ) → unit_of example (numbers_of example) (suc (suc t)) ≡ no_unit
-nothing-runs t = ap (λ q. if q then record { in_main = true; decls = example.decls; body = example.body } else unit_of_info example (task_at (numbers_of example) (suc (suc t)))) (not_zero (suc t))
+nothing-runs t = ap (λ q. if q then record { in_main = true; decls = example.decls; body = example.body } else unit_of_info example (task_at (numbers_of example) (suc (suc t)))) (next_not_zero (suc t))
 
 abbrev at : ℕ → Unit
 at t = record { setting = setting_for example; task = first_task example (suc (suc t)) }

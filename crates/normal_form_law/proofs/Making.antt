@@ -45,6 +45,7 @@ use Rattle.normal_form_law.proofs.Names.{names-apart}
 use Rattle.normal_form_law.proofs.Numbered.{AreNumbered, unit-numbered}
 use Rattle.normal_form_law.proofs.Owners.{owned}
 use Rattle.normal_form_law.proofs.Starting.{Stand, plain-extends, variables-stand}
+use Rattle.common_lemmas.proofs.Lists.{element_at}
 
 -- ---- lists
 
@@ -59,11 +60,6 @@ same-length f (x ∷ xs) [] h = absurd (let none : ⊥ = some-none (h 0) in none
     some-none : {A : Type 0} {a : A} → Some a ≡ None → ⊥
     some-none e = cc
 same-length f (x ∷ xs) (y ∷ ys) h = ap suc (same-length f xs ys (λ t. h (suc t)))
-
-some-at : {A : Type 0} (xs : List A) (t : ℕ) → t < length xs → (x : A) × (slice_get xs t ≡ Some x)
-some-at [] t l = absurd (omega (arith, l))
-some-at (x ∷ xs) zero l = (x, refl)
-some-at (x ∷ xs) (suc t) l = some-at xs t (let m : suc t < length (x ∷ xs) = l in omega (arith, m))
 
 beside : {A : Type 0} (xs : List A) (t : ℕ) → slice_get xs (suc t) ≡ slice_get (drop 1 xs) t
 beside [] t = refl
@@ -200,7 +196,7 @@ module _ (p : PProgram) (inputs : List (List ℤ)) (can : IsNormalisable p input
 
   beside-main : (t : ℕ) → suc t < length r.numbers.tasks → Beside t
   beside-main t l =
-      let q = some-at r.numbers.tasks (suc t) l in
+      let q = element_at r.numbers.tasks (suc t) l in
       let e : slice_get (tasks_beside g) t ≡ Some q.0 = sym (beside r.numbers.tasks t) ∙ q.1 in
       record {
         info = q.0;

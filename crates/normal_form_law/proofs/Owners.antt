@@ -9,9 +9,10 @@ use Rattle.syn_event.specs.Numbering.{entry_at}
 use Rattle.syn_event.specs.Numbered.{with_origin, with_origins}
 use Rattle.syn_event.specs.AllNumbers.{entry_of_task, entries_of_tasks}
 use Rattle.syn_event.specs.NamedTasks.{NumberedTask, numbered_tasks}
-use Rattle.rewritten_types.proofs.Lookups.{all-append}
 use Rattle.normal_types.proofs.Variables.{all-mapped}
 use Rattle.normal_form_law.specs.Normalisable.{numbers_of}
+use Rattle.common_lemmas.proofs.Lists.{all_joined}
+use Rattle.common_lemmas.proofs.Options.{some_same}
 
 -- the entry's task is one beside main
 abbrev IsOwned : EntryInfo → Type 0
@@ -21,7 +22,7 @@ numbered-tasks-owned : (names : List (List ℕ)) (types : TypeTable) (xs : List 
 numbered-tasks-owned names types [] t = tt
 numbered-tasks-owned names types (x ∷ rest) t =
     let e : suc (t + 1) ≡ suc t + 1 = omega arith in
-    all-append IsOwned (map (entry_of_task names types (suc t) x) x.unit.entries) (entries_of_tasks names types (suc t + 1) rest)
+    all_joined IsOwned (map (entry_of_task names types (suc t) x) x.unit.entries) (entries_of_tasks names types (suc t + 1) rest)
     (all-mapped IsOwned (entry_of_task names types (suc t) x) (λ e. (t, refl)) x.unit.entries)
     (subst (λ n. AllByRecursion IsOwned (entries_of_tasks names types n rest)) e (numbered-tasks-owned names types rest (t + 1)))
 
@@ -29,12 +30,9 @@ origins-owned : (names : List (List ℕ)) (all xs : List EntryInfo) → AllByRec
 origins-owned names all [] h = tt
 origins-owned names all (x ∷ xs) h = (h.0, origins-owned names all xs h.1)
 
-some-of : {A : Type 0} {a c : A} → Some a ≡ Some c → a ≡ c
-some-of e = cc
-
 got : (xs : List EntryInfo) (k : ℕ) (info : EntryInfo) → AllByRecursion IsOwned xs → slice_get xs k ≡ Some info → IsOwned info
 got [] k info h e = cc
-got (x ∷ xs) zero info h e = subst IsOwned (some-of e) h.0
+got (x ∷ xs) zero info h e = subst IsOwned (some_same e) h.0
 got (x ∷ xs) (suc k) info h e = got xs k info h.1 e
 
 pub owned : (p : PProgram) (e : ℕ) (info : EntryInfo) → entry_at (numbers_of p) e ≡ Some info → (t : ℕ) × (info.owner ≡ suc t)

@@ -1,7 +1,7 @@
 -- A unit's variables beside its objects, as a task starts: each is there, with the lower bound of its subtype.
 use Rattle.std.proofs.Common.{◌≡◌, ℕ, suc, ◌+◌, ◌<◌, ◌≤◌, Bool, true, false, cond, ◌==◌, List, [], ◌∷◌, length, Some, None, refl, sym, ap, subst, ◌∙◌, arith, slice_get, ⊎_elim}
 use Rattle.std.specs.List.{AllByRecursion}
-use Rattle.std.proofs.lemmas.Bool.{eqb-false, eqb-true, cases_lt}
+use Rattle.std.proofs.lemmas.Bool.{eqb-true, cases_lt}
 use Rattle.ada_tree.specs.declared.naming.Span.{Span}
 use Rattle.ada_tree.specs.TypeTable.{TypeTable}
 use Rattle.ada_tree.specs.PlainExpr.{PSubind}
@@ -21,14 +21,7 @@ use Rattle.normal_law.specs.NormalFloors.{Extends, extends_none, extends_old, ex
 use Rattle.normal_law.specs.Preludes.{IsCell, cell, Added}
 use Rattle.normal_form_law.specs.Normalisable.{IsScalar, IsPlain}
 use Rattle.normal_form_law.proofs.Numbered.{AreNumbered, none_numbered, numbered_then}
-
--- a number is itself
-itself : (n : ℕ) → (n == n) ≡ true
-itself n = go (n == n) refl
-  where
-    go : (t : Bool) → (n == n) ≡ t → t ≡ true
-    go true e = refl
-    go false e = absurd (eqb-false n n e refl)
+use Rattle.common_lemmas.proofs.Numbers.{equal_self}
 
 module _ (b : Programs) (added : Added b b.original) (U : TypeTable) (in_main : Bool) where
   abbrev g : Setting
@@ -58,7 +51,7 @@ module _ (b : Programs) (added : Added b b.original) (U : TypeTable) (in_main : 
         (q.0, record { name = q.1.name; found = ap (λ t. cond t (Some (cell (variable_name g k) limits (lower U limits))) (object_named V (variable_name g j))) (added.apart k j l c (ne k j a)) ∙ q.1.found }))
         (λ (a : k ≤ j). let q : k ≡ j = omega (arith, a, m) in
         subst (λ n. (v : Value) × IsCell (cell (variable_name g k) limits (lower U limits) ∷ V) (variable_name g n) (added.bounds n) v) q
-        (lower U limits, record { name = variable_name g k; found = ap (λ t. cond t (Some (cell (variable_name g k) limits (lower U limits))) (object_named V (variable_name g k))) (itself (variable_name g k).0) ∙ ap (λ y. Some (cell (variable_name g k) y (lower U limits))) (sym e) }))
+        (lower U limits, record { name = variable_name g k; found = ap (λ t. cond t (Some (cell (variable_name g k) limits (lower U limits))) (object_named V (variable_name g k))) (equal_self (variable_name g k).0) ∙ ap (λ y. Some (cell (variable_name g k) y (lower U limits))) (sym e) }))
         (cases_lt j k);
   }
     where

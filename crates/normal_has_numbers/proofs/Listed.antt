@@ -14,7 +14,8 @@ use Rattle.normal_model.specs.Names.{task_name}
 use Rattle.normal_model.specs.NormalTree.{mark_of, unless_left, first_decls, tasks_beside, task_under, declared_under, task_declared, bodies_of, main_unit, main_variables, normal_tree}
 use Rattle.normal_types.specs.Laws.{setting_of}
 use Rattle.normal_types.proofs.Variables.{all-flat, all-mapped, unit-all}
-use Rattle.normal_units.proofs.Tasks.{list-front, list-of}
+use Rattle.normal_units.proofs.Tasks.{list-front}
+use Rattle.syn_event.proofs.DeclLists.{listed_back}
 
 -- ---- what declarations are
 
@@ -105,4 +106,4 @@ module _ (p : PProgram) (types : TypeTable) (numbers : Numbering) where
   vars-plain = unit-all IsPlain (main_unit (setting_of p types numbers)) (λ s x k. tt) p.body
 
   pub normal-list : decl_list (normal_tree p types numbers).decls ≡ firsts ++ (vars ++ tasks ++ bodies)
-  normal-list = list-front (first_decls [] p.decls) (decls_of (vars ++ tasks ++ bodies)) ∙ ap (λ l. firsts ++ l) (list-of (vars ++ tasks ++ bodies))
+  normal-list = list-front (first_decls [] p.decls) (decls_of (vars ++ tasks ++ bodies)) ∙ ap (λ l. firsts ++ l) (listed_back (vars ++ tasks ++ bodies))

@@ -13,10 +13,10 @@ use Rattle.syn_event.specs.Units.{text_of}
 use Rattle.syn_event.specs.Numbered.{is_added_name}
 use Rattle.normal_model.specs.Names.{id_of}
 use Rattle.normal_model.proofs.VariablesLemmas.{Begins}
-use Rattle.rewritten_types.proofs.Lookups.{some-same}
 use Rattle.rewritten_values.proofs.Saying.{place-within}
 use Rattle.normal_types.specs.Own.{own_name}
 use Rattle.normal_types.proofs.Names.{fold-begins, interned-has, text-place}
+use Rattle.common_lemmas.proofs.Options.{some_same}
 
 -- ---- names that are there
 
@@ -110,10 +110,10 @@ begins-within xs ys k b h = let e : length ys ≡ length xs + length b.more = ap
 -- what one of a list gives is among what all give
 pub has-flat : {A : Type 0} (f : A → List (List ℕ)) (xs : List A) (k : ℕ) (x : A) (t : List ℕ) → slice_get xs k ≡ Some x → Has (f x) t → Has (flat_map f xs) t
 has-flat f [] k x t at h = absurd (none-some x at)
-has-flat f (y ∷ xs) zero x t at h = has-front (f y) (flat_map f xs) t (subst (λ z. Has (f z) t) (sym (some-same at)) h)
+has-flat f (y ∷ xs) zero x t at h = has-front (f y) (flat_map f xs) t (subst (λ z. Has (f z) t) (sym (some_same at)) h)
 has-flat f (y ∷ xs) (suc k) x t at h = has-back (f y) (flat_map f xs) t (has-flat f xs k x t at h)
 
 pub has-mapped : {A : Type 0} (f : A → List ℕ) (xs : List A) (k : ℕ) (x : A) → slice_get xs k ≡ Some x → Has (map f xs) (f x)
 has-mapped f [] k x at = absurd (none-some x at)
-has-mapped f (y ∷ xs) zero x at = or_left (bytes_eq (f x) (f y)) _ (ap (λ z. bytes_eq (f x) (f z)) (some-same at) ∙ (bytes_eq-Decides (f x) (f x)).1 refl)
+has-mapped f (y ∷ xs) zero x at = or_left (bytes_eq (f x) (f y)) _ (ap (λ z. bytes_eq (f x) (f z)) (some_same at) ∙ (bytes_eq-Decides (f x) (f x)).1 refl)
 has-mapped f (y ∷ xs) (suc k) x at = or_right (bytes_eq (f x) (f y)) _ (has-mapped f xs k x at)

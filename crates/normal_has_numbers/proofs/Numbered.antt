@@ -15,7 +15,6 @@ use Rattle.syn_event.specs.Units.{decl_list, tasks_of}
 use Rattle.normal_model.specs.NormalTree.{normal_tree}
 use Rattle.normal_model.proofs.VariablesLemmas.{Begins}
 use Rattle.rewritten_types.specs.Agreement.{Agrees}
-use Rattle.rewritten_types.proofs.Lookups.{all-append, all-weaker}
 use Rattle.rewritten_values.specs.Values.{old_names}
 use Rattle.normal_types.specs.Own.{own_name}
 use Rattle.normal_types.specs.Laws.{IsOrdered, setting_of, AreOwn}
@@ -28,6 +27,7 @@ use Rattle.normal_has_numbers.proofs.Listed.{IsPlain, IsOneTask, IsOneBody, firs
 use Rattle.normal_has_numbers.proofs.Tasked.{under, normal-tasks-of}
 use Rattle.normal_has_numbers.proofs.TaskNames.{IsNamed, normal-begins, all-named, entries-own, family-kept}
 use Rattle.normal_has_numbers.proofs.Origins.{IsWithin, origins-longer}
+use Rattle.common_lemmas.proofs.Lists.{all_joined, all_weaker}
 
 -- ---- each task is a single one
 
@@ -67,15 +67,15 @@ body-single (DException ws s) h = tt
 body-single (DIntIo w s) h = tt
 body-single (DPragma e s) h = tt
 
-normal-single : (p : PProgram) (types : TypeTable) (numbers : Numbering) → AllByRecursion IsSingle (decl_list (normal_tree p types numbers).decls)
+pub normal-single : (p : PProgram) (types : TypeTable) (numbers : Numbering) → AllByRecursion IsSingle (decl_list (normal_tree p types numbers).decls)
 normal-single p types numbers =
     subst (AllByRecursion IsSingle) (sym (normal-list p types numbers))
-    (all-append IsSingle (firsts p types numbers) _ (all-weaker IsPlain IsSingle _ plain-single (first-plain p.decls []))
-    (all-append IsSingle (vars p types numbers ++ tasks p types numbers) _
-    (all-append IsSingle (vars p types numbers) _
-    (all-weaker IsPlain IsSingle _ plain-single (vars-plain p types numbers))
-    (all-weaker IsOneTask IsSingle _ task-single (tasks-all (setting_of p types numbers))))
-    (all-weaker IsOneBody IsSingle _ body-single (bodies-all (setting_of p types numbers)))))
+    (all_joined IsSingle (firsts p types numbers) _ (all_weaker IsPlain IsSingle _ plain-single (first-plain p.decls []))
+    (all_joined IsSingle (vars p types numbers ++ tasks p types numbers) _
+    (all_joined IsSingle (vars p types numbers) _
+    (all_weaker IsPlain IsSingle _ plain-single (vars-plain p types numbers))
+    (all_weaker IsOneTask IsSingle _ task-single (tasks-all (setting_of p types numbers))))
+    (all_weaker IsOneBody IsSingle _ body-single (bodies-all (setting_of p types numbers)))))
 
 -- ---- entries
 
@@ -132,7 +132,7 @@ module _ (p : PProgram) (ordered : IsOrdered p) (own : AreOwn p p.decls) (ded : 
 
   tasks-within : (zs : List NumberedTask) (t : ℕ) → AllByRecursion (λ (y : NumberedTask). AllByRecursion Own y.unit.entries) zs → AllByRecursion (IsWithin p.names normal.names begins) (entries_of_tasks p.names T t zs)
   tasks-within [] t h = tt
-  tasks-within (y ∷ zs) t h = all-append (IsWithin p.names normal.names begins) (map (entry_of_task p.names T t y) y.unit.entries) _ (entries-within t y y.unit.entries h.0) (tasks-within zs (t + 1) h.1)
+  tasks-within (y ∷ zs) t h = all_joined (IsWithin p.names normal.names begins) (map (entry_of_task p.names T t y) y.unit.entries) _ (entries-within t y y.unit.entries h.0) (tasks-within zs (t + 1) h.1)
 
   numbered : all_numbers U normal ≡ numbers_made p T (all_numbers T p)
   numbered =

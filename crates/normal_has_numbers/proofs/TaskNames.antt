@@ -27,7 +27,7 @@ use Rattle.normal_model.specs.NormalTree.{variables_needed, normal_tree}
 use Rattle.normal_model.proofs.VariablesLemmas.{Begins}
 use Rattle.rewritten_types.specs.Agreement.{Agrees}
 use Rattle.rewritten_types.specs.Rewriting.{names_declared}
-use Rattle.rewritten_types.proofs.Lookups.{all-append, all-weaker, place-all}
+use Rattle.rewritten_types.proofs.Lookups.{place-all}
 use Rattle.rewritten_values.specs.Values.{old_names}
 use Rattle.normal_types.specs.Own.{own_name}
 use Rattle.normal_types.specs.Laws.{setting_of, AreOwn}
@@ -37,16 +37,11 @@ use Rattle.normal_units.proofs.Declared.{parts-all, numbered-tasks-all}
 use Rattle.normal_has_numbers.specs.Laws.{IsNotDed, NoneIsDed}
 use Rattle.normal_has_numbers.proofs.Extents.{extent-alike}
 use Rattle.normal_has_numbers.proofs.Named.{Has, has-folded, has-flat, has-mapped, text-there, added-longer, own-within, own-not-added, id-within, begins-within}
-use Rattle.normal_has_numbers.proofs.Tasked.{all-places, under}
+use Rattle.normal_has_numbers.proofs.Tasked.{under}
+use Rattle.common_lemmas.proofs.Lists.{all_by_place, all_joined, all_weaker}
+use Rattle.common_lemmas.proofs.Truth.{and_false, false_behind}
 
 -- ---- the names of tasks
-
-and-none : (b : Bool) → (b && false) ≡ false
-and-none true = refl
-and-none false = refl
-
-and-more : (a b : Bool) → b ≡ false → (a && b) ≡ false
-and-more a b e = ap (λ c. a && c) e ∙ and-none a
 
 -- three tests that do not all pass
 not-three : (a b c : Bool) → (a ≡ true → b ≡ true → c ≡ true → ⊥) → (a && (b && (c && true))) ≡ false
@@ -58,8 +53,8 @@ not-three true true true h = absurd (h refl refl refl)
 -- the text of a member's name begins with DED_ only where the array is DED or does so itself
 member-not : (a : List ℕ) (i : ℤ) → starts_with nat_eq a (codes "DED_") ≡ false → (a ≡ codes "DED" → ⊥) → starts_with nat_eq (member_text a i) (codes "DED_") ≡ false
 member-not [] i e n = refl
-member-not (x ∷ []) i e n = and-none (nat_eq 68 x)
-member-not (x ∷ y ∷ []) i e n = and-more (nat_eq 68 x) _ (and-none (nat_eq 69 y))
+member-not (x ∷ []) i e n = and_false (nat_eq 68 x)
+member-not (x ∷ y ∷ []) i e n = false_behind (nat_eq 68 x) _ (and_false (nat_eq 69 y))
 member-not (x ∷ y ∷ z ∷ []) i e n =
     not-three (nat_eq 68 x) (nat_eq 69 y) (nat_eq 68 z) (λ a b c. n (λ j. sym (eqb-true 68 x a) j ∷ sym (eqb-true 69 y b) j ∷ sym (eqb-true 68 z c) j ∷ []))
 member-not (x ∷ y ∷ z ∷ w ∷ a) i e n = e
@@ -94,8 +89,8 @@ module _ (Q : NameId → Type 0) where
 
   pub task-names : (ds : PDecls) (kinds : List PTask) → AreNamed ds → AllByRecursion QNamed (task_names_in kinds ds)
   task-names no_decl kinds h = tt
-  task-names (decl_then (DTask t s) rest) kinds h = all-append QNamed (single_task_name t.of_kind t s) _ (single-names t.of_kind t s h.0.0) (task-names rest (with_type kinds t.of_kind t) h.1)
-  task-names (decl_then (DObject ws c x i s) rest) kinds h = all-append QNamed (object_task_names kinds ws x) _ (object-names kinds ws x h.0) (task-names rest kinds h.1)
+  task-names (decl_then (DTask t s) rest) kinds h = all_joined QNamed (single_task_name t.of_kind t s) _ (single-names t.of_kind t s h.0.0) (task-names rest (with_type kinds t.of_kind t) h.1)
+  task-names (decl_then (DObject ws c x i s) rest) kinds h = all_joined QNamed (object_task_names kinds ws x) _ (object-names kinds ws x h.0) (task-names rest kinds h.1)
   task-names (decl_then (DTaskBody w objects its s) rest) kinds h = task-names rest kinds h.1
   task-names (decl_then (DNumber w e s) rest) kinds h = task-names rest kinds h.1
   task-names (decl_then (DEnumeration w ws s) rest) kinds h = task-names rest kinds h.1
@@ -155,7 +150,7 @@ module _ (p : PProgram) where
   numbered-tasks-fine : (types : TypeTable) (xs : List NamedTasks) → AllByRecursion (λ (x : NamedTasks). Own x.name.name) xs → AllByRecursion (λ (x : NamedTasks). is_some x.index_range ≡ true → IsNotDed p x.name.name) xs →
       AllByRecursion IsFine (flat_map (tasks_of_name types) xs)
   numbered-tasks-fine types [] own ded = tt
-  numbered-tasks-fine types (x ∷ xs) own ded = all-append IsFine (tasks_of_name types x) _ (row-fine types x x.index_range own.0 ded.0) (numbered-tasks-fine types xs own.1 ded.1)
+  numbered-tasks-fine types (x ∷ xs) own ded = all_joined IsFine (tasks_of_name types x) _ (row-fine types x x.index_range own.0 ded.0) (numbered-tasks-fine types xs own.1 ded.1)
 
 -- ---- each task
 
@@ -217,14 +212,14 @@ module _ (p : PProgram) where
 
   -- every task is so named
   pub all-named : AreOwn p p.decls → NoneIsDed p → AllByRecursion (λ (y : NumberedTask). IsNamed (under form y).name.name y.name) (numbered_tasks types p)
-  all-named own ded = all-places _ (numbered_tasks types p) (λ k y at. named k y at (place-all (IsFine p) (numbered_tasks types p) k y (all-fine own ded) at))
+  all-named own ded = all_by_place _ (numbered_tasks types p) (λ k y at. named k y at (place-all (IsFine p) (numbered_tasks types p) k y (all-fine own ded) at))
 
 -- ---- entries
 
 -- the entries of each task have own names
 pub entries-own : (p : PProgram) → AreOwn p p.decls → (types : TypeTable) → AllByRecursion (λ (y : NumberedTask). AllByRecursion (EveryEntry (old_names (own_name p))) y.unit.entries) (numbered_tasks types p)
 entries-own p own types =
-    all-weaker (λ (y : NumberedTask). EveryTask (old_names (own_name p)) y.unit) _ (numbered_tasks types p)
+    all_weaker (λ (y : NumberedTask). EveryTask (old_names (own_name p)) y.unit) _ (numbered_tasks types p)
     (λ y h. recursion_from_All (EveryEntry (old_names (own_name p))) y.unit.entries h.1)
     (numbered-tasks-all (EveryTask (old_names (own_name p))) types (task_names_of p) (parts-all (EveryTask (old_names (own_name p))) p.decls [] tt (tasks-own p p.decls own)))
 

@@ -13,18 +13,20 @@ use Rattle.syn_event.specs.Units.{tasks_of}
 use Rattle.task_model.specs.Setting.{Setting}
 use Rattle.normal_model.specs.Names.{task_name}
 use Rattle.normal_model.specs.NormalTree.{task_under, normal_tree}
-use Rattle.rewritten_types.proofs.Lookups.{some-same, place-all}
+use Rattle.rewritten_types.proofs.Lookups.{place-all}
 use Rattle.rewritten_types.proofs.Refused.{declared_once}
 use Rattle.normal_types.specs.Laws.{IsOrdered, setting_of}
 use Rattle.normal_units.proofs.Tasks.{tasks_made, tasks-of}
 use Rattle.normal_units.proofs.Declared.{has_name, one-there, each-there, parts-all, numbered-tasks-all}
+use Rattle.common_lemmas.proofs.Lists.{all_by_place}
+use Rattle.common_lemmas.proofs.Options.{some_same}
 
 -- ---- lists
 
 -- what passes is among those that do
 filter-has : {A : Type 0} (f : A → Bool) (xs : List A) (k : ℕ) (x : A) → slice_get xs k ≡ Some x → f x ≡ true → (j : ℕ) × (slice_get (filter f xs) j ≡ Some x)
 filter-has f [] k x at e = absurd (none-some x at)
-filter-has f (y ∷ xs) zero x at e = (0, ap (λ b. slice_get (cond b (y ∷ filter f xs) (filter f xs)) 0) (ap f (some-same at) ∙ e) ∙ at)
+filter-has f (y ∷ xs) zero x at e = (0, ap (λ b. slice_get (cond b (y ∷ filter f xs) (filter f xs)) 0) (ap f (some_same at) ∙ e) ∙ at)
 filter-has f (y ∷ xs) (suc k) x at e = by_test (f y) (filter-has f xs k x at e)
   where
     by_test : (b : Bool) → (j : ℕ) × (slice_get (filter f xs) j ≡ Some x) → (j : ℕ) × (slice_get (cond b (y ∷ filter f xs) (filter f xs)) j ≡ Some x)
@@ -33,14 +35,9 @@ filter-has f (y ∷ xs) (suc k) x at e = by_test (f y) (filter-has f xs k x at e
 
 one-only : {A : Type 0} (xs : List A) (j : ℕ) (x : A) → length xs ≡ 1 → slice_get xs j ≡ Some x → xs ≡ x ∷ []
 one-only [] j x one at = absurd (none-some x at)
-one-only (y ∷ []) zero x one at = ap (λ z. z ∷ []) (some-same at)
+one-only (y ∷ []) zero x one at = ap (λ z. z ∷ []) (some_same at)
 one-only (y ∷ []) (suc j) x one at = absurd (none-some x at)
 one-only (y ∷ z ∷ xs) j x one at = let h : ⊥ = omega (arith, one) in absurd h
-
--- what holds at each place holds of all
-pub all-places : {A : Type 0} (P : A → Type 0) (xs : List A) → ((k : ℕ) (x : A) → slice_get xs k ≡ Some x → P x) → AllByRecursion P xs
-all-places P [] h = tt
-all-places P (x ∷ xs) h = (h 0 x refl, all-places P xs (λ k y at. h (suc k) y at))
 
 -- ---- units
 
@@ -49,7 +46,7 @@ abbrev pub IsOne : PProgram → PTask → Type 0
 IsOne p t = filter (has_name t.name.name) (tasks_of p) ≡ t ∷ []
 
 tasks-one : (p : PProgram) → IsOrdered p → AllByRecursion (IsOne p) (tasks_of p)
-tasks-one p ordered = all-places (IsOne p) (tasks_of p) (λ k t at. one k t at)
+tasks-one p ordered = all_by_place (IsOne p) (tasks_of p) (λ k t at. one k t at)
   where
     one : (k : ℕ) (t : PTask) → slice_get (tasks_of p) k ≡ Some t → IsOne p t
     one k t at =

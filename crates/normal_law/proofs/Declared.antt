@@ -1,8 +1,6 @@
 -- Variables that are declared behind others have the subtypes of their declarations.
-use Rattle.std.proofs.Common.{◌≡◌, ℕ, ◌+◌, ◌<◌, ◌≤◌, List, [], ◌∷◌, ◌++◌, length, map, Option, Some, None, slice_get, refl, sym, ap, subst, ◌∙◌, arith, length-append}
+use Rattle.std.proofs.Common.{◌≡◌, ℕ, ◌+◌, ◌≤◌, List, [], ◌∷◌, ◌++◌, length, map, Option, Some, None, slice_get, refl, sym, ap, subst, ◌∙◌, arith, length-append}
 use Rattle.std.proofs.lemmas.List.{append_assoc, append-nil}
-use Rattle.std.proofs.Math.Seq.{get_or-append_seam}
-use Rattle.std.proofs.lemmas.Option.{slice_get_read}
 use Rattle.ada_tree.specs.declared.naming.Span.{Span}
 use Rattle.ada_tree.specs.PlainExpr.{PExpr, PSubind}
 use Rattle.ada_tree.specs.PlainDecl.{PDecl}
@@ -13,13 +11,7 @@ use Rattle.normal_law.specs.Suited.{Rewritten}
 use Rattle.normal_law.specs.NormalLists.{Begin}
 use Rattle.normal_law.specs.Preludes.{Added}
 use Rattle.normal_law.specs.Declared.{AreDeclared, HaveSubtypes, no_subtype, subtype_then, dues_of}
-
--- the element behind a list
-seam : {X : Type 0} (pre : List X) (d : X) (rest : List X) → slice_get (pre ++ d ∷ rest) (length pre) ≡ Some d
-seam pre d rest =
-    let l : length (pre ++ d ∷ rest) ≡ length pre + length (d ∷ rest) = length-append pre (d ∷ rest) in
-    let m : length pre < length (pre ++ d ∷ rest) = omega arith in
-    slice_get_read (pre ++ d ∷ rest) (length (pre ++ d ∷ rest)) (length pre) d refl m (sym (get_or-append_seam pre d rest d))
+use Rattle.common_lemmas.proofs.Lists.{seam_there}
 
 module _ (w : Rewritten) (added : Added w.programs w.programs.original) (declared : AreDeclared w added) where
   pub declared-behind : (s : Span) (xs : List PSubind) (pre more : List PDecl) → w.vars ≡ (pre ++ variables_declared w.programs.original s xs (length pre)) ++ more →
@@ -39,7 +31,7 @@ module _ (w : Rewritten) (added : Added w.programs w.programs.original) (declare
       let c : added.count ≡ length w.vars = declared.count in
       let l : length (pre ++ d ∷ []) ≡ length pre + 1 = length-append pre (d ∷ []) in
       subtype_then x xs (length pre) (omega arith)
-      (declared.bounds (length pre) s x (ap (λ l1. slice_get l1 (length pre)) f ∙ seam pre d (rest ++ more)))
+      (declared.bounds (length pre) s x (ap (λ l1. slice_get l1 (length pre)) f ∙ seam_there pre d (rest ++ more)))
       (subst (λ k. HaveSubtypes w.programs added xs k) l
       (declared-behind s xs (pre ++ d ∷ []) more
       (f ∙ sym (append_assoc pre (d ∷ []) (rest ++ more)) ∙ sym (append_assoc (pre ++ d ∷ []) rest more)

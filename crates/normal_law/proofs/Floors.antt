@@ -8,7 +8,7 @@ use Rattle.ada_value.specs.declared.values.Value.{Value}
 use Rattle.ada_value.specs.declared.values.Raised.{Raised}
 use Rattle.ada_value.specs.Variables.{Object, Variables, object_named, with_value, set_value}
 use Rattle.task_model.specs.declared.parameters.FormalParameter.{FormalParameter}
-use Rattle.task_model.specs.Frames.{Turns, Around, Loop, Opened, Part, Control, control, unit_with, raised_in, exited_in}
+use Rattle.task_model.specs.Frames.{Turns, Around, Loop, Opened, PFrame, Control, control, unit_with, raised_in, exited_in}
 use Rattle.translation_law.specs.Translations.{Standing, Rewriting, IsOld, IsKnown}
 use Rattle.translation_law.specs.Scopes.{AgreeOnTypes, HasKnown, SameObject, no_object, same_object, SeeAlike}
 use Rattle.translation_law.specs.Images.{ImageHandlers, IsEmpty, nothing_there, IsSomething, something_there, AreImages}
@@ -116,20 +116,20 @@ module _ (x : Rewriting) (images : AreImages x) (types : AgreeOnTypes x.programs
   -- ---- floors over what may stand below
 
   module _ (B : Standing) where
-    floor-over : {p p' : Around} {o o' : List Part} {V V' : Variables} → NormalFloor x added B p o V p' o' V' → Settle (on_floors x (NormalFloor x added B)) (control no_stmt p o V) (control no_stmt p' o' V')
+    floor-over : {p p' : Around} {o o' : List PFrame} {V V' : Variables} → NormalFloor x added B p o V p' o' V' → Settle (on_floors x (NormalFloor x added B)) (control no_stmt p o V) (control no_stmt p' o' V')
     floor-over (own_body hs hs' handling V V' h e c) = record { follows = inside no_stmt no_stmt images.empty (on_floor (own_body hs hs' handling V V' h e c)) }
     floor-over (accept_body p p' o o' V V' caller formals pending r r' bs own im below) =
         record { follows = inside no_stmt no_stmt images.empty (on_floor (accept_body p p' o o' V V' caller formals pending r r' bs own im below)) }
 
-    floor-empty : {r' : PStmts} → IsEmpty r' → {p p' : Around} {o o' : List Part} {V V' : Variables} → NormalFloor x added B p o V p' o' V' →
+    floor-empty : {r' : PStmts} → IsEmpty r' → {p p' : Around} {o o' : List PFrame} {V V' : Variables} → NormalFloor x added B p o V p' o' V' →
         Settle (on_floors x (NormalFloor x added B)) (control no_stmt p o V) (control r' p' o' V')
     floor-empty nothing_there f = floor-over f
 
-    floor-some : (s : PStmt) (l : PStmts) {r' : PStmts} → x.image (stmt_then s l) r' → IsSomething r' → {p p' : Around} {o o' : List Part} {V V' : Variables} → NormalFloor x added B p o V p' o' V' →
+    floor-some : (s : PStmt) (l : PStmts) {r' : PStmts} → x.image (stmt_then s l) r' → IsSomething r' → {p p' : Around} {o o' : List PFrame} {V V' : Variables} → NormalFloor x added B p o V p' o' V' →
         Settle (on_floors x (NormalFloor x added B)) (control (stmt_then s l) p o V) (control r' p' o' V')
     floor-some s l im (something_there s' l') f = record { follows = inside (stmt_then s l) (stmt_then s' l') im (on_floor f) }
 
-    floor-row : (r r' : PStmts) → x.image r r' → {p p' : Around} {o o' : List Part} {V V' : Variables} → NormalFloor x added B p o V p' o' V' →
+    floor-row : (r r' : PStmts) → x.image r r' → {p p' : Around} {o o' : List PFrame} {V V' : Variables} → NormalFloor x added B p o V p' o' V' →
         Settle (on_floors x (NormalFloor x added B)) (control r p o V) (control r' p' o' V')
     floor-row no_stmt r' im f = floor-empty (images.nothing r' im) f
     floor-row (stmt_then s l) r' im f = floor-some s l im (images.something s l r' im) f
@@ -139,16 +139,16 @@ module _ (x : Rewriting) (images : AreImages x) (types : AgreeOnTypes x.programs
     unit-taken e hs hs' V V' not_taken h ext c = floor-over (own_body hs hs' None V V' h ext c)
     unit-taken e hs hs' V V' (taken l l' im) h ext c = floor-row l l' im (own_body hs hs' (Some e) V V' h ext c)
 
-    floor-raised : (e : Raised) {p p' : Around} {o o' : List Part} {V V' : Variables} → NormalFloor x added B p o V p' o' V' → Settle (on_floors x (NormalFloor x added B)) (raised_in e o p V) (raised_in e o' p' V')
+    floor-raised : (e : Raised) {p p' : Around} {o o' : List PFrame} {V V' : Variables} → NormalFloor x added B p o V p' o' V' → Settle (on_floors x (NormalFloor x added B)) (raised_in e o p V) (raised_in e o' p' V')
     floor-raised e (own_body hs hs' None V V' h ext c) = unit-taken e hs hs' V V' (handler-alike x e h) h ext c
     floor-raised e (own_body hs hs' (Some y) V V' h ext c) = floor-over (own_body hs hs' (Some y) V V' h ext c)
     floor-raised e (accept_body p p' o o' V V' caller formals pending r r' bs own im below) = floor-over (accept_body p p' o o' V V' caller formals (Some e) r r' bs own im below)
 
-    floor-exited : (w : Option Word) {p p' : Around} {o o' : List Part} {V V' : Variables} → NormalFloor x added B p o V p' o' V' → Settle (on_floors x (NormalFloor x added B)) (exited_in w o p V) (exited_in w o' p' V')
+    floor-exited : (w : Option Word) {p p' : Around} {o o' : List PFrame} {V V' : Variables} → NormalFloor x added B p o V p' o' V' → Settle (on_floors x (NormalFloor x added B)) (exited_in w o p V) (exited_in w o' p' V')
     floor-exited w (own_body hs hs' handling V V' h ext c) = floor-over (own_body hs hs' handling V V' h ext c)
     floor-exited w (accept_body p p' o o' V V' caller formals pending r r' bs own im below) = floor-over (accept_body p p' o o' V V' caller formals pending r r' bs own im below)
 
-    floor-apart : {name : Option Word} {turns : Turns} {l : PStmts} {p' : Around} {o o' : List Part} {V V' : Variables} → NormalFloor x added B (Loop name turns l) o V p' o' V' → ⊥
+    floor-apart : {name : Option Word} {turns : Turns} {l : PStmts} {p' : Around} {o o' : List PFrame} {V V' : Variables} → NormalFloor x added B (Loop name turns l) o V p' o' V' → ⊥
     floor-apart f = elim f [ ]
 
     floor-floors : AreFloors (on_floors x (NormalFloor x added B))
@@ -160,27 +160,27 @@ module _ (x : Rewriting) (images : AreImages x) (types : AgreeOnTypes x.programs
     }
 
     module _ (below : AreScopes (on_floors x B)) where
-      floor-sees : {p p' : Around} {o o' : List Part} {V V' : Variables} → NormalFloor x added B p o V p' o' V' → SeeAlike x.programs V V'
+      floor-sees : {p p' : Around} {o o' : List PFrame} {V V' : Variables} → NormalFloor x added B p o V p' o' V' → SeeAlike x.programs V V'
       floor-sees (own_body hs hs' handling V V' h ext c) = extends-sees ext
       floor-sees (accept_body p p' o o' V V' caller formals pending r r' bs own im u) = own-sees own (below.sees p p' o o' V V' u)
 
-      from-fronts : {p p' : Around} {o o' : List Part} (caller : ℕ) (formals : List FormalParameter) (pending : Option Raised) (r r' : PStmts) → x.image r r' → {W W' : Variables} →
+      from-fronts : {p p' : Around} {o o' : List PFrame} (caller : ℕ) (formals : List FormalParameter) (pending : Option Raised) (r r' : PStmts) → x.image r r' → {W W' : Variables} →
           Fronts (λ V V'. B p o V p' o' V') formals W W' → NormalFloor x added B (Opened caller formals pending) (frame r p ∷ o) W (Opened caller formals pending) (frame r' p' ∷ o') W'
       from-fronts {p} {p'} {o} {o'} caller formals pending r r' im (fronts bs W W' own u) = accept_body p p' o o' W W' caller formals pending r r' bs own im u
 
-      floor-set : (id : NameId) (k : ℕ) (v : Value) → IsOld x.programs id → IsKnown x.programs v → {p p' : Around} {o o' : List Part} {V V' : Variables} → NormalFloor x added B p o V p' o' V' →
+      floor-set : (id : NameId) (k : ℕ) (v : Value) → IsOld x.programs id → IsKnown x.programs v → {p p' : Around} {o o' : List PFrame} {V V' : Variables} → NormalFloor x added B p o V p' o' V' →
           NormalFloor x added B p o (set_value V id k v) p' o' (set_value V' id k v)
       floor-set id k v old known (own_body hs hs' handling V V' h ext c) = own_body hs hs' handling _ _ h (extends-set id k v old known ext) (there-any added V' id k v c)
       floor-set id k v old known (accept_body p p' o o' V V' caller formals pending r r' bs own im u) =
           from-fronts caller formals pending r r' im (own-set {B = λ W W'. B p o W p' o' W'} id k v known own V V' u (below.set p p' o o' V V' id k v old known u))
 
-      floor-add : (id : NameId) (k : ℕ) (v : Value) → x.programs.is_old id.0 ≡ false → {p p' : Around} {o o' : List Part} {V V' : Variables} → NormalFloor x added B p o V p' o' V' →
+      floor-add : (id : NameId) (k : ℕ) (v : Value) → x.programs.is_old id.0 ≡ false → {p p' : Around} {o o' : List PFrame} {V V' : Variables} → NormalFloor x added B p o V p' o' V' →
           NormalFloor x added B p o V p' o' (set_value V' id k v)
       floor-add id k v fresh (own_body hs hs' handling V V' h ext c) = own_body hs hs' handling _ _ h (extends-add id k v fresh ext) (there-any added V' id k v c)
       floor-add id k v fresh (accept_body p p' o o' V V' caller formals pending r r' bs own im u) =
           from-fronts caller formals pending r r' im (own-add {B = λ W W'. B p o W p' o' W'} id k v fresh own V V' (below.add p p' o o' V V' id k v fresh u))
 
-      floor-handled : {p p' : Around} {o o' : List Part} {V V' : Variables} → NormalFloor x added B p o V p' o' V' → handled_around p o ≡ handled_around p' o'
+      floor-handled : {p p' : Around} {o o' : List PFrame} {V V' : Variables} → NormalFloor x added B p o V p' o' V' → handled_around p o ≡ handled_around p' o'
       floor-handled (own_body hs hs' handling V V' h ext c) = refl
       floor-handled (accept_body p p' o o' V V' caller formals pending r r' bs own im u) = below.handled p p' o o' V V' u
 
@@ -249,7 +249,7 @@ module _ (x : Rewriting) (images : AreImages x) (types : AgreeOnTypes x.programs
   there-formals none_open W there = there
   there-formals (open_then f o fs rest old known h) W there = there-front o old (rest ++ W) (there-formals h W there)
 
-  there-under : (F : Standing) → ((p p' : Around) (o o' : List Part) (V W : Variables) → F p o V p' o' W → AreThere added W) → {p p' : Around} {o o' : List Part} {V W : Variables} →
+  there-under : (F : Standing) → ((p p' : Around) (o o' : List PFrame) (V W : Variables) → F p o V p' o' W → AreThere added W) → {p p' : Around} {o o' : List PFrame} {V W : Variables} →
       Under (on_floors x F) p o V p' o' W → AreThere added W
   there-under F h (on_floor f) = h _ _ _ _ _ _ f
   there-under F h (in_block hs hs' r r' k im u) = there-under F h u
@@ -258,11 +258,11 @@ module _ (x : Rewriting) (images : AreImages x) (types : AgreeOnTypes x.programs
   there-under F h (in_while name e l l' r r' old k im u) = there-under F h u
   there-under F h (in_count {V' = V'} name backwards last l l' r r' b old known k im u) = there-front b old V' (there-under F h u)
 
-  there-at : (k : ℕ) (p p' : Around) (o o' : List Part) (V W : Variables) → floor_at x added k p o V p' o' W → AreThere added W
+  there-at : (k : ℕ) (p p' : Around) (o o' : List PFrame) (V W : Variables) → floor_at x added k p o V p' o' W → AreThere added W
   there-at zero p p' o o' V W (own_body hs hs' handling V1 V1' h ext c) = c
   there-at zero p p' o o' V W (accept_body q q' a a' V1 V1' caller formals pending r r' bs own im below) = absurd below
   there-at (suc k) p p' o o' V W (own_body hs hs' handling V1 V1' h ext c) = c
   there-at (suc k) p p' o o' V W (accept_body q q' a a' V1 V1' caller formals pending r r' bs own im u) = there-formals own V1' (there-under (floor_at x added k) (there-at k) u)
 
-  pub are-there : {p p' : Around} {o o' : List Part} {V W : Variables} → Under (normal x added) p o V p' o' W → AreThere added W
+  pub are-there : {p p' : Around} {o o' : List PFrame} {V W : Variables} → Under (normal x added) p o V p' o' W → AreThere added W
   are-there u = there-under (normal_floor x added) (λ p p' o o' V W f. there-at f.0 p p' o o' V W f.1) u

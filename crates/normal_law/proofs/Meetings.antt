@@ -10,7 +10,7 @@ use Rattle.ada_value.specs.Values.{lower, limits_named}
 use Rattle.ada_value.specs.Variables.{Object, Variables}
 use Rattle.task_model.specs.declared.parameters.FormalParameter.{FormalParameter}
 use Rattle.task_model.specs.Setting.{parameters_in, parameters_of}
-use Rattle.task_model.specs.Frames.{Around, Opened, Part, control, in_front}
+use Rattle.task_model.specs.Frames.{Around, Opened, PFrame, control, in_front}
 use Rattle.task_model.specs.Tasks.{Task, place_of, entered}
 use Rattle.task_model.specs.Calls.{opened_object, opened_objects, finals_in, finals_if, comes_back}
 use Rattle.task_model.specs.Rendezvous.{body_opened, alternative_opened, going_on, behind_of}
@@ -33,7 +33,7 @@ use Rattle.normal_law.specs.Preludes.{Added}
 module _ (x : Rewriting) (images : AreImages x) (types : AgreeOnTypes x.programs) {g : Setting} (added : Added x.programs g) where
   -- ---- how many accept bodies are open
 
-  lowered : {p p' : Around} {o o' : List Part} {V V' : Variables} → Under (normal x added) p o V p' o' V' → (k : ℕ) × Under (on_floors x (floor_at x added k)) p o V p' o' V'
+  lowered : {p p' : Around} {o o' : List PFrame} {V V' : Variables} → Under (normal x added) p o V p' o' V' → (k : ℕ) × Under (on_floors x (floor_at x added k)) p o V p' o' V'
   lowered (on_floor f) = (f.0, on_floor f.1)
   lowered (in_block hs hs' r r' h im u) = let l = lowered u in (l.0, in_block hs hs' r r' h im l.1)
   lowered (in_handler e r r' im u) = let l = lowered u in (l.0, in_handler e r r' im l.1)
@@ -41,7 +41,7 @@ module _ (x : Rewriting) (images : AreImages x) (types : AgreeOnTypes x.programs
   lowered (in_while name e l l' r r' old h im u) = let m = lowered u in (m.0, in_while name e l l' r r' old h im m.1)
   lowered (in_count name backwards last l l' r r' b old known h im u) = let m = lowered u in (m.0, in_count name backwards last l l' r r' b old known h im m.1)
 
-  lifted : (k : ℕ) {p p' : Around} {o o' : List Part} {V V' : Variables} → Under (on_floors x (floor_at x added k)) p o V p' o' V' → Under (normal x added) p o V p' o' V'
+  lifted : (k : ℕ) {p p' : Around} {o o' : List PFrame} {V V' : Variables} → Under (on_floors x (floor_at x added k)) p o V p' o' V' → Under (normal x added) p o V p' o' V'
   lifted k u = under-map x (floor_at x added k) (normal_floor x added) Nowhere (λ p p' o o' V V' f. (k, f)) u
 
   -- ---- formals
@@ -79,7 +79,7 @@ module _ (x : Rewriting) (images : AreImages x) (types : AgreeOnTypes x.programs
 
   -- ---- an accept body opens
 
-  pub body-opens : (n : ℕ) (i : List ℤ) (w : List ℕ) (s s' : PStmt) (q q' l l' d d' : PStmts) {p p' : Around} {o o' : List Part} {V V' : Variables} (caller : ℕ) {fs : List FormalParameter} {vs : List Value} →
+  pub body-opens : (n : ℕ) (i : List ℤ) (w : List ℕ) (s s' : PStmt) (q q' l l' d d' : PStmts) {p p' : Around} {o o' : List PFrame} {V V' : Variables} (caller : ℕ) {fs : List FormalParameter} {vs : List Value} →
       AreNamed x.programs fs → AreValues x.programs vs → x.image l l' → x.image d d' → x.image q q' → Under (normal x added) p o V p' o' V' →
       AreInside (normal x added) (body_opened caller fs l d vs (task_in x.programs.original n i w (control (stmt_then s q) p o V)))
       (body_opened caller fs l' d' vs (task_in x.programs.made n i w (control (stmt_then s' q') p' o' V')))
@@ -95,7 +95,7 @@ module _ (x : Rewriting) (images : AreImages x) (types : AgreeOnTypes x.programs
       )))
 
   -- an accept or an alternative with the same formals
-  opened-at : (n : ℕ) (i : List ℤ) (w : List ℕ) (s s' : PStmt) (q q' l l' d d' : PStmts) {p p' : Around} {o o' : List Part} {V V' : Variables} (caller e : ℕ) (z : ℤ) (h h' : PHead) →
+  opened-at : (n : ℕ) (i : List ℤ) (w : List ℕ) (s s' : PStmt) (q q' l l' d d' : PStmts) {p p' : Around} {o o' : List PFrame} {V V' : Variables} (caller e : ℕ) (z : ℤ) (h h' : PHead) →
       h.formals ≡ h'.formals → OldFormals x.programs h.formals → {vs : List Value} → AreValues x.programs vs → x.image l l' → x.image d d' → x.image q q' → Under (normal x added) p o V p' o' V' →
       AreInside (normal x added) (alternative_opened caller (Some (Accepts e z h l d)) vs (task_in x.programs.original n i w (control (stmt_then s q) p o V)))
       (alternative_opened caller (Some (Accepts e z h' l' d')) vs (task_in x.programs.made n i w (control (stmt_then s' q') p' o' V')))
@@ -129,12 +129,12 @@ module _ (x : Rewriting) (images : AreImages x) (types : AgreeOnTypes x.programs
   finals-open none_open V V' = refl
   finals-open (open_then f o fs os old known h) V V' = finals-one (comes_back f.mode) o (finals_in fs (os ++ V)) (finals_in fs (os ++ V')) (finals-open h V V')
 
-  going-on : (n : ℕ) (i : List ℤ) (w : List ℕ) (r r' : PStmts) {p p' : Around} {o o' : List Part} {V V' : Variables} → x.image r r' → Under (normal x added) p o V p' o' V' → (pending : Option Raised) →
+  going-on : (n : ℕ) (i : List ℤ) (w : List ℕ) (r r' : PStmts) {p p' : Around} {o o' : List PFrame} {V V' : Variables} → x.image r r' → Under (normal x added) p o V p' o' V' → (pending : Option Raised) →
       Alike (normal x added) (going_on pending (task_in x.programs.original n i w (control r p o V))) (going_on pending (task_in x.programs.made n i w (control r' p' o' V')))
   going-on n i w r r' im u None = go-there (normal x added) (normal-translates x images types added) n i w r r' r r' im u
   going-on n i w r r' im u (Some e) = raise-there (normal x added) (normal-translates x images types added) n i w r r' u e
 
-  ended : (n : ℕ) (i : List ℤ) (w : List ℕ) (q q' r r' : PStmts) {p p' : Around} {o o' : List Part} (V V' : Variables) (caller : ℕ) (fs : List FormalParameter) (pending : Option Raised) (bs : List Object) →
+  ended : (n : ℕ) (i : List ℤ) (w : List ℕ) (q q' r r' : PStmts) {p p' : Around} {o o' : List PFrame} (V V' : Variables) (caller : ℕ) (fs : List FormalParameter) (pending : Option Raised) (bs : List Object) →
       AreOpen x.programs fs bs → x.image r r' → Under (normal x added) p o V p' o' V' →
       EndAlike (normal x added) (task_in x.programs.original n i w (control q (Opened caller fs pending) (frame r p ∷ o) (bs ++ V)))
       (task_in x.programs.made n i w (control q' (Opened caller fs pending) (frame r' p' ∷ o') (bs ++ V')))
@@ -147,12 +147,12 @@ module _ (x : Rewriting) (images : AreImages x) (types : AgreeOnTypes x.programs
     pending = refl;
   }
 
-  at-floor : (n : ℕ) (i : List ℤ) (w : List ℕ) (q q' : PStmts) {p p' : Around} {o o' : List Part} {V V' : Variables} → IsOpened p → (k : ℕ) → floor_at x added k p o V p' o' V' →
+  at-floor : (n : ℕ) (i : List ℤ) (w : List ℕ) (q q' : PStmts) {p p' : Around} {o o' : List PFrame} {V V' : Variables} → IsOpened p → (k : ℕ) → floor_at x added k p o V p' o' V' →
       EndAlike (normal x added) (task_in x.programs.original n i w (control q p o V)) (task_in x.programs.made n i w (control q' p' o' V'))
   at-floor n i w q q' (is_opened c f e) zero (accept_body p p' o o' V V' caller fs pending r r' bs own im below) = absurd below
   at-floor n i w q q' (is_opened c f e) (suc k) (accept_body p p' o o' V V' caller fs pending r r' bs own im below) = ended n i w q q' r r' V V' caller fs pending bs own im (lifted k below)
 
-  at-end : (n : ℕ) (i : List ℤ) (w : List ℕ) (q q' : PStmts) {p p' : Around} {o o' : List Part} {V V' : Variables} → IsOpened p → Under (normal x added) p o V p' o' V' →
+  at-end : (n : ℕ) (i : List ℤ) (w : List ℕ) (q q' : PStmts) {p p' : Around} {o o' : List PFrame} {V V' : Variables} → IsOpened p → Under (normal x added) p o V p' o' V' →
       EndAlike (normal x added) (task_in x.programs.original n i w (control q p o V)) (task_in x.programs.made n i w (control q' p' o' V'))
   at-end n i w q q' (is_opened c f e) (on_floor g) = at-floor n i w q q' (is_opened c f e) g.0 g.1
 

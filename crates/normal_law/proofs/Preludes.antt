@@ -13,7 +13,7 @@ use Rattle.ada_value.specs.Values.{and_then, checked, lies_in, position_of}
 use Rattle.ada_value.specs.Variables.{Variables, checked_for, set_value}
 use Rattle.ada_value.specs.Evaluating.{evaluated}
 use Rattle.task_model.specs.Setting.{Setting}
-use Rattle.task_model.specs.Frames.{Around, Part, control, in_front, settled}
+use Rattle.task_model.specs.Frames.{Around, PFrame, control, in_front, settled}
 use Rattle.task_model.specs.Tasks.{Task, with_vars, gone_to, raised_there, or_raised}
 use Rattle.task_model.specs.Stands.{can_step, stepped}
 use Rattle.normal_model.specs.Names.{variable_name}
@@ -27,6 +27,7 @@ use Rattle.translation_law.proofs.Evaluating.{KnownValue, known_value, value-ali
 use Rattle.translation_law.proofs.Frames.{sees-alike, add-alike}
 use Rattle.normal_law.specs.Preludes.{Reaches, reaches_here, reaches_by, IsCell, Added, AreThere, hold_none, hold_passed, hold_value, due_before, worth_then, as_some, due_worth, OldDues, old_no_due, old_passed, old_due, Prelude, given, stopped}
 use Rattle.normal_law.proofs.Cells.{named-set_other, cell-set, cell-kept}
+use Rattle.common_lemmas.proofs.Numbers.{unequal_above}
 
 -- a step to a task that is told, and on from there
 pub reaches_to : {κ κ1 κ2 : Task} → can_step κ ≡ true → stepped κ ≡ κ1 → κ1.output ≡ κ.output → Reaches κ1 κ2 → Reaches κ κ2
@@ -37,26 +38,15 @@ abbrev outcome : PStmts → Task → Variables → NameId → Limits → Result 
 outcome q t W id limits r = or_raised (λ vars. gone_to q (with_vars t vars)) t (and_then r (λ v. and_then (checked limits v) (λ w. Ok (set_value W id 0 w))))
 
 -- statements that are there stay, as frames that are over are left
-settled-row : {r : PStmts} → IsSomething r → (p : Around) (o : List Part) (V : Variables) → settled (control r p o V) ≡ control r p o V
+settled-row : {r : PStmts} → IsSomething r → (p : Around) (o : List PFrame) (V : Variables) → settled (control r p o V) ≡ control r p o V
 settled-row (something_there s l) p o V = refl
-
--- numbers of which one is below the other are not the same
-pub apart_numbers : (k j : ℕ) → j < k → (k == j) ≡ false
-apart_numbers k j l = go (k == j) refl
-  where
-    go : (t : Bool) → (k == j) ≡ t → t ≡ false
-    go false e = refl
-    go true e = let m : k ≡ j = eqb-true k j e in absurd (below l m)
-      where
-        below : j < k → k ≡ j → ⊥
-        below l m = omega arith
 
 module _ (x : Translation) (laws : IsTranslation x) (g : Setting) (added : Added x.text.programs g) where
   -- a task of the normal form
-  abbrev at : ℕ → List ℤ → List ℕ → PStmts → Around → List Part → Variables → Task
+  abbrev at : ℕ → List ℤ → List ℕ → PStmts → Around → List PFrame → Variables → Task
   at n i w r p o V = task_in x.text.programs.made n i w (control r p o V)
 
-  assign-is : (n : ℕ) (i : List ℤ) (w : List ℕ) (s : Span) (k : ℕ) (e : PExpr) (q : PStmts) (p : Around) (o : List Part) (W : Variables) (u : Value) → IsCell W (variable_name g k) (added.bounds k) u →
+  assign-is : (n : ℕ) (i : List ℤ) (w : List ℕ) (s : Span) (k : ℕ) (e : PExpr) (q : PStmts) (p : Around) (o : List PFrame) (W : Variables) (u : Value) → IsCell W (variable_name g k) (added.bounds k) u →
       (r : Result Value Raised) → evaluated (types_after x.text.programs) W e ≡ r →
       stepped (at n i w (stmt_then (assigned g s k e) q) p o W) ≡ outcome q (at n i w (stmt_then (assigned g s k e) q) p o W) W (variable_name g k) (added.bounds k) r
   assign-is n i w s k e q p o W u c r f =
@@ -84,7 +74,7 @@ module _ (x : Translation) (laws : IsTranslation x) (g : Setting) (added : Added
 
   -- ---- one value after the other
 
-  module _ (n : ℕ) (i : List ℤ) (w : List ℕ) (p p' : Around) (o o' : List Part) (V : Variables) (s : Span) (t : PStmt) (r : PStmts) where
+  module _ (n : ℕ) (i : List ℤ) (w : List ℕ) (p p' : Around) (o o' : List PFrame) (V : Variables) (s : Span) (t : PStmt) (r : PStmts) where
     -- the expressions from number k on, in front of t
     abbrev before : List (Option PExpr) → ℕ → PStmts
     before ds k = in_front (due_before g s ds k) (stmt_then t r)
@@ -113,7 +103,7 @@ module _ (x : Translation) (laws : IsTranslation x) (g : Setting) (added : Added
         given (Some v ∷ vs) W' (ap (λ a. worth_then (as_some a) (worth ds (k + 1))) one ∙ ap (λ a. worth_then (Ok (Some v)) a) res) u
         (reaches_to refl step refl reach) there
         (hold_value k e v ds vs (cell-kept (set_value W (variable_name g k) 0 v) W' (variable_name g k) (added.bounds k) v (same k (omega arith)) (cell-set W (variable_name g k) (added.bounds k) c.0 v c.1)) lies hold)
-        (λ j m. same j (omega arith) ∙ named-set_other W (variable_name g k) 0 v (variable_name g j) (added.apart k j l (omega arith) (apart_numbers k j m)))
+        (λ j m. same j (omega arith) ∙ named-set_other W (variable_name g k) 0 v (variable_name g j) (added.apart k j l (omega arith) (unequal_above k j m)))
     more e ds k W v l c lies one step (stopped a q W' res u reach can stop there) =
         stopped a q W' (ap (λ a. worth_then (as_some a) (worth ds (k + 1))) one ∙ ap (λ a. worth_then (Ok (Some v)) a) res) u
         (reaches_to refl step refl reach) can stop there

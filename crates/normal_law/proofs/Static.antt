@@ -17,11 +17,7 @@ use Rattle.translation_law.specs.Scopes.{SeeAlike}
 use Rattle.translation_law.specs.Fixed.{FixedExpr, fixed_integer, fixed_name, fixed_attribute, fixed_attribute_of, fixed_paren, fixed_unary, fixed_binary}
 use Rattle.translation_law.proofs.Fixed.{fixed-before, fixed-worth}
 use Rattle.normal_law.specs.Suited.{AreMade}
-
-both-true : (a b : Bool) → (a && b) ≡ true → (a ≡ true) × (b ≡ true)
-both-true true true e = (refl, refl)
-both-true true false e = absurd (let n : ⊥ = cc in n)
-both-true false b e = absurd (let n : ⊥ = cc in n)
+use Rattle.common_lemmas.proofs.Truth.{and_both}
 
 module _ (b : Programs) (made : AreMade b) where
   pub static-fixed : {e : PExpr} → OldExpr b e → is_static (types_before b) e ≡ true → FixedExpr b e
@@ -30,11 +26,11 @@ module _ (b : Programs) (made : AreMade b) where
   static-fixed (old_index w e s old k) h = absurd (let n : ⊥ = cc in n)
   static-fixed (old_attribute m w s old) h = fixed_attribute m w s
   static-fixed (old_attribute_of m w e s old k) h =
-      fixed_attribute_of m w e s (static-fixed k (both-true (keeps_static (attribute_of w.name) && is_some (mark_named (types_before b) m.name)) (is_static (types_before b) e) h).1)
+      fixed_attribute_of m w e s (static-fixed k (and_both (keeps_static (attribute_of w.name) && is_some (mark_named (types_before b) m.name)) (is_static (types_before b) e) h).1)
   static-fixed (old_paren e s k) h = fixed_paren e s (static-fixed k h)
   static-fixed (old_unary op e s k) h = fixed_unary op e s (static-fixed k h)
   static-fixed (old_binary op l r s k j) h =
-      let t = both-true (is_static (types_before b) l) (is_static (types_before b) r) h in fixed_binary op l r s (static-fixed k t.0) (static-fixed j t.1)
+      let t = and_both (is_static (types_before b) l) (is_static (types_before b) r) h in fixed_binary op l r s (static-fixed k t.0) (static-fixed j t.1)
 
   stays-static : (e : PExpr) → moving (types_before b) (Some e) ≡ None → is_static (types_before b) e ≡ true
   stays-static e h = go (is_static (types_before b) e) h

@@ -6,7 +6,7 @@ use Rattle.ada_tree.specs.PlainStmt.{PHead, PStmt, PStmts, stmt_then, PBody}
 use Rattle.ada_value.specs.declared.values.Value.{Value}
 use Rattle.ada_value.specs.declared.values.Raised.{Raised}
 use Rattle.ada_value.specs.Variables.{Variables}
-use Rattle.task_model.specs.Frames.{Around, Whole, Part, control, in_front}
+use Rattle.task_model.specs.Frames.{Around, OwnBody, PFrame, control, in_front}
 use Rattle.task_model.specs.Steps.{block_stmts, block_handlers}
 use Rattle.task_model.specs.Tasks.{Task, rest_of, place_of, entered, raised_there}
 use Rattle.task_model.specs.Rendezvous.{alternative_opened, behind_of}
@@ -35,8 +35,8 @@ NormalSteps = (w : Rewritten) (added : Added w.programs w.programs.original) →
 abbrev pub NormalStarts : Type 0
 NormalStarts = (w : Rewritten) (added : Added w.programs w.programs.original) (its : PBody) (V V' : Variables) (n : ℕ) (input : List ℤ) → OldBody (asked_of w) its → Begin (unit_variables (unit_of w) its) w.vars → Extends w.programs V V' → AreThere added V' →
     AreInside (normal (normal_lists w) added)
-    (task_in w.programs.original n input [] (control (block_stmts its) (Whole (block_handlers its) None) [] V))
-    (task_in w.programs.made n input [] (control (block_stmts (normal_body (unit_of w) its)) (Whole (block_handlers (normal_body (unit_of w) its)) None) [] V'))
+    (task_in w.programs.original n input [] (control (block_stmts its) (OwnBody (block_handlers its) None) [] V))
+    (task_in w.programs.made n input [] (control (block_stmts (normal_body (unit_of w) its)) (OwnBody (block_handlers (normal_body (unit_of w) its)) None) [] V'))
 
 -- An exception that is raised in both, as where a call fails, leaves them alike.
 abbrev pub NormalRaises : Type 0
@@ -61,7 +61,7 @@ NormalEnters = (w : Rewritten) (added : Added w.programs w.programs.original) �
 
 -- What stands in front of a statement is made: the task comes before the statement with the values in their variables, each of old names worth the same and checked alike, or to a step that raises what the first of them raises, in the same frames.
 abbrev pub NormalPreludes : Type 0
-NormalPreludes = (w : Rewritten) (added : Added w.programs w.programs.original) → AgreeOnTypes w.programs → (n : ℕ) (input : List ℤ) (output : List ℕ) (p p' : Around) (o o' : List Part) (V W : Variables)
+NormalPreludes = (w : Rewritten) (added : Added w.programs w.programs.original) → AgreeOnTypes w.programs → (n : ℕ) (input : List ℤ) (output : List ℕ) (p p' : Around) (o o' : List PFrame) (V W : Variables)
     (s : Span) (next : PStmt) (r : PStmts) (ds : List (Option PExpr)) (k : ℕ) → OldDues w.programs ds → k + length ds ≤ added.count → Under (normal (normal_lists w) added) p o V p' o' W →
     Prelude (normal (normal_lists w) added) added n input output p o V p' o'
     (task_in w.programs.made n input output (control (in_front (due_before w.programs.original s ds k) (stmt_then next r)) p' o' W)) (stmt_then next r) k W ds

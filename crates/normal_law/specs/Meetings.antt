@@ -4,7 +4,7 @@ use Rattle.ada_tree.specs.PlainStmt.{PStmt, PStmts, stmt_then}
 use Rattle.ada_value.specs.declared.values.Value.{Value}
 use Rattle.ada_value.specs.declared.values.Raised.{Raised}
 use Rattle.task_model.specs.declared.parameters.FormalParameter.{FormalParameter}
-use Rattle.task_model.specs.Frames.{Around, Opened, Part, control}
+use Rattle.task_model.specs.Frames.{Around, Opened, PFrame, control}
 use Rattle.ada_value.specs.Variables.{Variables}
 use Rattle.task_model.specs.Tasks.{Task}
 use Rattle.task_model.specs.Rendezvous.{finished, finals_of, pending_of}
@@ -33,5 +33,5 @@ pub record EndAlike (x : Translation) (σ κ : Task) : Type 0 where
 
 -- A task and its image in frames that go together, each with one more statement before images of what is left: the synchronizing statements of both.
 pub data AreBefore (x : Translation) : Task → Task → Type 0 where
-  are_before : {p p' : Around} {o o' : List Part} {V V' : Variables} (n : ℕ) (input : List ℤ) (output : List ℕ) (s s' : PStmt) (q q' : PStmts) → x.text.image q q' → Under x p o V p' o' V' →
+  are_before : {p p' : Around} {o o' : List PFrame} {V V' : Variables} (n : ℕ) (input : List ℤ) (output : List ℕ) (s s' : PStmt) (q q' : PStmts) → x.text.image q q' → Under x p o V p' o' V' →
       AreBefore x (task_in x.text.programs.original n input output (control (stmt_then s q) p o V)) (task_in x.text.programs.made n input output (control (stmt_then s' q') p' o' V'))

@@ -4,7 +4,7 @@ use Rattle.ada_tree.specs.PlainStmt.{PStmts, PHandlers}
 use Rattle.ada_value.specs.declared.values.Raised.{Raised}
 use Rattle.ada_value.specs.Variables.{Object, Variables}
 use Rattle.task_model.specs.declared.parameters.FormalParameter.{FormalParameter}
-use Rattle.task_model.specs.Frames.{Around, Whole, Opened, Part}
+use Rattle.task_model.specs.Frames.{Around, OwnBody, Opened, PFrame}
 use Rattle.translation_law.specs.Translations.{Standing, Programs, Rewriting, Translation, IsOld}
 use Rattle.translation_law.specs.Scopes.{HasKnown}
 use Rattle.translation_law.specs.Images.{ImageHandlers}
@@ -25,10 +25,10 @@ pub data AreOpen (b : Programs) : List FormalParameter → List Object → Type 
   open_then : (f : FormalParameter) (o : Object) (fs : List FormalParameter) (os : List Object) → IsOld b o.name → HasKnown b o → AreOpen b fs os → AreOpen b (f ∷ fs) (o ∷ os)
 
 -- The floors over what may stand below an accept body. The unit's added variables are there.
-pub data NormalFloor (x : Rewriting) {g : Setting} (added : Added x.programs g) (Below : Standing) : Around → List Part → Variables → Around → List Part → Variables → Type 0 where
+pub data NormalFloor (x : Rewriting) {g : Setting} (added : Added x.programs g) (Below : Standing) : Around → List PFrame → Variables → Around → List PFrame → Variables → Type 0 where
   own_body : (hs hs' : PHandlers) (taken : Option Raised) (V V' : Variables) → ImageHandlers x hs hs' → Extends x.programs V V' → AreThere added V' →
-      NormalFloor x added Below (Whole hs taken) [] V (Whole hs' taken) [] V'
-  accept_body : (p p' : Around) (o o' : List Part) (V V' : Variables) (caller : ℕ) (formals : List FormalParameter) (pending : Option Raised) (r r' : PStmts) (bs : List Object) →
+      NormalFloor x added Below (OwnBody hs taken) [] V (OwnBody hs' taken) [] V'
+  accept_body : (p p' : Around) (o o' : List PFrame) (V V' : Variables) (caller : ℕ) (formals : List FormalParameter) (pending : Option Raised) (r r' : PStmts) (bs : List Object) →
       AreOpen x.programs formals bs → x.image r r' → Below p o V p' o' V' →
       NormalFloor x added Below (Opened caller formals pending) (frame r p ∷ o) (bs ++ V) (Opened caller formals pending) (frame r' p' ∷ o') (bs ++ V')
 

@@ -12,7 +12,7 @@ use Rattle.ada_value.specs.Values.{and_then, checked, lies_in, position_of}
 use Rattle.ada_value.specs.Variables.{Object, Variables, object_named}
 use Rattle.ada_value.specs.Evaluating.{evaluated}
 use Rattle.task_model.specs.Setting.{Setting}
-use Rattle.task_model.specs.Frames.{Around, Part, control}
+use Rattle.task_model.specs.Frames.{Around, PFrame, control}
 use Rattle.task_model.specs.Tasks.{Task, raised_there}
 use Rattle.task_model.specs.Stands.{can_step, stepped}
 use Rattle.normal_model.specs.Names.{variable_name}
@@ -90,7 +90,7 @@ pub data Hold {b : Programs} {g : Setting} (added : Added b g) (W : Variables) :
       lies_in (added.bounds k) (position_of v) ≡ true → Hold added W (k + 1) ds vs → Hold added W k (Some e ∷ ds) (Some v ∷ vs)
 
 -- What becomes of a task of the normal form that stands before the assignments of these expressions to the variables from number k on, in front of these statements.
-pub data Prelude (x : Translation) {g : Setting} (added : Added x.text.programs g) (n : ℕ) (input : List ℤ) (output : List ℕ) (p : Around) (o : List Part) (V : Variables) (p' : Around) (o' : List Part)
+pub data Prelude (x : Translation) {g : Setting} (added : Added x.text.programs g) (n : ℕ) (input : List ℤ) (output : List ℕ) (p : Around) (o : List PFrame) (V : Variables) (p' : Around) (o' : List PFrame)
     (from : Task) (goal : PStmts) (k : ℕ) (W : Variables) (ds : List (Option PExpr)) : Type 0 where
   -- they come to these: it comes before the statements, with the values in their variables, and the variables below as they were
   given : (vs : List (Option Value)) (W' : Variables) → due_worth (types_before x.text.programs) V added.bounds ds k ≡ Ok vs → Under x p o V p' o' W' →

@@ -92,7 +92,7 @@ module _ (p : PProgram) (types : TypeTable) (its_numbers : Numbering) (legal : L
       }
       p own (legal_has_tokens p placed)
 
-  premises : TypePremises p types its_numbers legal placed names inputs (StandsWhole T)
+  pub premises : TypePremises p types its_numbers legal placed names inputs (StandsWhole T)
   premises = record {
     own = texts;
     typed = are-typed p b.made b.is_old legal.type_rules placed small;

@@ -64,7 +64,7 @@ module _ (p : PProgram) (types : TypeTable) (its_numbers : Numbering) (legal : L
     tell : TellUnits (setting_of p (types_in p) (all_numbers (types_in p) p))
     tell = record { declared = units_are_declared p T ordered; named = legal_names_tell p types its_numbers legal placed names }
 
-    premises : TextPremises p b.made b.is_old b.is_fixed Typed
+    pub premises : TextPremises p b.made b.is_old b.is_fixed Typed
     premises = record {
       types = legal.type_rules;
       checks = legal.check_rules;
@@ -76,7 +76,7 @@ module _ (p : PProgram) (types : TypeTable) (its_numbers : Numbering) (legal : L
       tell = names_tell_units p T ordered;
     }
 
-    facts : CalleesKnown p T Typed premises.typed.typing b.made b.is_old b.is_fixed (is_known T) (parts-known p b.made b.is_old b.is_fixed Typed premises)
+    pub facts : CalleesKnown p T Typed premises.typed.typing b.made b.is_old b.is_fixed (is_known T) (parts-known p b.made b.is_old b.is_fixed Typed premises)
     facts = record {
       rows = h.rows;
       named = task-found p ordered legal.check_rules (legal_has_tokens p placed) names (parts-known p b.made b.is_old b.is_fixed Typed premises) tell h.short;

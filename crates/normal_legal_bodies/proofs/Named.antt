@@ -25,14 +25,16 @@ use Rattle.normal_units.specs.Laws.{TellUnits, numbers_made}
 use Rattle.normal_units.proofs.Tasks.{tasks_keep_numbers}
 use Rattle.rewritten_types.proofs.Lookups.{place-all}
 use Rattle.legal_sites.proofs.Meeting.{all_check_met}
-use Rattle.legal_entries.proofs.Lists.{some-same, found-passes, found-place}
+use Rattle.legal_entries.proofs.Lists.{found-place}
 use Rattle.legal_entries.proofs.Entries.{IsTaskOf, mapped-at}
 use Rattle.normal_legal_units.proofs.DeclaredNames.{IsGood, tasks-good}
 use Rattle.normal_legal_units.proofs.TaskNames.{IsShort}
 use Rattle.normal_legal_units.proofs.TasksApart.{IsNamed, all-named, members-there, tasks-apart, tasks-told}
-use Rattle.normal_legal_seen.proofs.Finding.{found-some, no-place}
+use Rattle.normal_legal_seen.proofs.Finding.{no-place}
 use Rattle.normal_legal_seen.proofs.Tasks.{PartsKnown, mapped-place, numbered-tasks-apart}
 use Rattle.normal_legal_text.proofs.Alone.{numbered-tasks-alone}
+use Rattle.common_lemmas.proofs.Lists.{found_passes, found_some}
+use Rattle.common_lemmas.proofs.Options.{some_same}
 
 module _ (p : PProgram) (ordered : IsOrdered p) (checks : MeetsCheckRules p Original) (has : HasTokens p) (are : AreNames p.names) (known : PartsKnown p (types_in p)) where
   abbrev T : TypeTable
@@ -72,7 +74,7 @@ module _ (p : PProgram) (ordered : IsOrdered p) (checks : MeetsCheckRules p Orig
     is-it k x at zero y here e =
         let info : TaskInfo = info_of_task p.names x in
         let named = place-all (IsNamed g) (map (info_of_task p.names) (numbered_tasks T p)) k info beside-named (mapped-at p T (numbered_tasks T p) k x at) in
-        let same : p.name.name.0 ≡ (task_name g info).0 = ap (λ (i : TaskInfo). i.name.0) (some-same here) ∙ e in
+        let same : p.name.name.0 ≡ (task_name g info).0 = ap (λ (i : TaskInfo). i.name.0) (some_same here) ∙ e in
         let r = tasks-apart g are (task_info p.names p.name.name) info main-named named same in
         absurd (true≢false (sym (eq-eqb p.name.name.0 x.name.0 r.0) ∙ place-all (λ (z : NumberedTask). (p.name.name.0 == z.name.0) ≡ false) (numbered_tasks T p) k x (numbered-tasks-apart p T known) at))
     is-it k x at (suc j) y here e = by_place (slice_get (map (info_of_task p.names) (numbered_tasks T p)) j) refl (sym (made-at j) ∙ here)
@@ -85,7 +87,7 @@ module _ (p : PProgram) (ordered : IsOrdered p) (checks : MeetsCheckRules p Orig
         by_place (Some b) f q =
             let there = mapped-at p T (numbered_tasks T p) k x at in
             let other = mapped-place p T known (numbered_tasks T p) j b f in
-            let name : (task_name g b).0 ≡ (task_name g (info_of_task p.names x)).0 = ap (λ (i : TaskInfo). i.name.0) (some-same q) ∙ e in
+            let name : (task_name g b).0 ≡ (task_name g (info_of_task p.names x)).0 = ap (λ (i : TaskInfo). i.name.0) (some_same q) ∙ e in
             let both = place-all (λ (c : TaskInfo). (task_name g b).0 ≡ (task_name g c).0 → (b.name.0 ≡ c.name.0) × (b.member ≡ c.member)) (map (info_of_task p.names) (numbered_tasks T p)) k (info_of_task p.names x)
             (place-all (λ (a : TaskInfo). AllByRecursion (λ (c : TaskInfo). (task_name g a).0 ≡ (task_name g c).0 → (a.name.0 ≡ c.name.0) × (a.member ≡ c.member)) (map (info_of_task p.names) (numbered_tasks T p))) (map (info_of_task p.names) (numbered_tasks T p)) j b apart f) there name in
             ap suc (numbered-tasks-alone p T known j k other.0 x other.1 at (ap (λ (i : TaskInfo). i.name.0) (sym other.2) ∙ both.0) (ap (λ (i : TaskInfo). i.member) (sym other.2) ∙ both.1))
@@ -96,9 +98,9 @@ module _ (p : PProgram) (ordered : IsOrdered p) (checks : MeetsCheckRules p Orig
         let q : TaskInfo → Bool = λ i. i.name.0 == (task_name g info).0 in
         let there : slice_get made.tasks (suc k) ≡ Some (task_info (normal_tree p T numbers).names (task_name g info)) =
         (made-at k ∙ ap (option_map (λ (i : TaskInfo). task_info (normal_tree p T numbers).names (task_name g i))) (mapped-at p T (numbered_tasks T p) k x at)) in
-        let some = found-some q made.tasks (suc k) _ there (eq-eqb (task_name g info).0 (task_name g info).0 refl) in
+        let some = found_some q made.tasks (suc k) _ there (eq-eqb (task_name g info).0 (task_name g info).0 refl) in
         let place = found-place q made.tasks some.0 some.1 in
-        place.2 ∙ ap (λ m. Some m) (is-it k x at place.0 some.0 place.1 (eqb-true some.0.name.0 (task_name g info).0 (found-passes q made.tasks some.0 some.1)))
+        place.2 ∙ ap (λ m. Some m) (is-it k x at place.0 some.0 place.1 (eqb-true some.0.name.0 (task_name g info).0 (found_passes q made.tasks some.0 some.1)))
 
     -- each task is found by its own name
     pub task-found : (t : ℕ) (x : NumberedTask) → IsTaskOf p T t x → task_named made (task_name_at g t) ≡ Some t

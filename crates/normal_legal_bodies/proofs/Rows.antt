@@ -10,9 +10,9 @@ use Rattle.syn_event.specs.declared.numbering.TaskInfo.{TaskInfo}
 use Rattle.syn_event.specs.Extents.{count_to}
 use Rattle.syn_event.specs.NamedTasks.{NamedTasks, NumberedTask, numbered_task, numbers_on, indices, tasks_of_range, tasks_of_name}
 use Rattle.syn_event.specs.AllNumbers.{info_of_task}
-use Rattle.rewritten_types.proofs.Lookups.{all-append}
 use Rattle.legal_types.specs.Typed.{HasLimits, IsTypedPart}
 use Rattle.normal_legal_units.proofs.TaskNames.{IsShort}
+use Rattle.common_lemmas.proofs.Lists.{all_joined}
 
 -- ---- short indices
 
@@ -55,7 +55,7 @@ row-short T x (Some r) h =
 
 numbered-tasks-short : (T : TypeTable) (xs : List NamedTasks) → AllByRecursion (IsTypedPart T) xs → AllByRecursion IsShortTask (flat_map (tasks_of_name T) xs)
 numbered-tasks-short T [] h = tt
-numbered-tasks-short T (x ∷ xs) h = all-append IsShortTask (tasks_of_name T x) (flat_map (tasks_of_name T) xs) (row-short T x x.index_range h.0) (numbered-tasks-short T xs h.1)
+numbered-tasks-short T (x ∷ xs) h = all_joined IsShortTask (tasks_of_name T x) (flat_map (tasks_of_name T) xs) (row-short T x x.index_range h.0) (numbered-tasks-short T xs h.1)
 
 infos-short : (names : List (List ℕ)) (xs : List NumberedTask) → AllByRecursion IsShortTask xs → AllByRecursion (λ (i : TaskInfo). IsShort i.member) (map (info_of_task names) xs)
 infos-short names [] h = tt

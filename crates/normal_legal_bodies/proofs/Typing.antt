@@ -1,5 +1,5 @@
 -- The scopes of the bodies of a legal program stand over its table, so they are typed as the statements ask.
-use Rattle.std.proofs.Common.{◌≡◌, ℕ, Bool, false, List, [], ◌∷◌, is_some, Option, Some, None, refl, ap, subst, true≢false}
+use Rattle.std.proofs.Common.{◌≡◌, ℕ, Bool, false, List, [], ◌∷◌, is_some, None, refl, ap, subst}
 use Rattle.std.specs.List.{AllByRecursion}
 use Rattle.ada_tree.specs.declared.naming.Word.{Word}
 use Rattle.ada_tree.specs.TypeTable.{TypeTable}
@@ -19,7 +19,7 @@ use Rattle.syn_event.specs.CheckScope.{CheckSite}
 use Rattle.task_model.specs.Setting.{Setting}
 use Rattle.ada_value.specs.StaticLaw.{HasSmallLiterals}
 use Rattle.legal_sites.specs.Met.{IsMet, IsCheckMet}
-use Rattle.legal_sites.proofs.Meeting.{all_met, all-front}
+use Rattle.legal_sites.proofs.Meeting.{all_met}
 use Rattle.legal_types.specs.Typed.{IsSmall}
 use Rattle.legal_types.proofs.MainScopes.{StandsWhole, bodies-stand, last-stands}
 use Rattle.legal_types.proofs.InnerScopes.{IsApartName, IsApartLocal, AreApart, inside-stands, accept-stands}
@@ -29,6 +29,8 @@ use Rattle.normal_legal_units.proofs.Apart.{all-apart}
 use Rattle.normal_legal_seen.proofs.Units.{BodiesTyped}
 use Rattle.normal_legal_text.proofs.Typed.{HasWorth, Typing}
 use Rattle.normal_legal_text.proofs.Text.{text_rules, IsLocal, IsKnownPlace, AreTyped}
+use Rattle.common_lemmas.proofs.Lists.{all_front}
+use Rattle.common_lemmas.proofs.Options.{none_there}
 
 -- the names that have a value
 abbrev pub has_value : TypeTable → ℕ → Bool
@@ -39,12 +41,8 @@ pub locals-of : (T : TypeTable) (xs : List Site) → AreApart T xs → AllByRecu
 locals-of T [] h = tt
 locals-of T (x ∷ xs) h = (λ w e. let n : IsApartName T w.name = subst (IsApartLocal T) e h.0 in (ap is_some n.value, n.mark), locals-of T xs h.1)
 
-is-none : {A : Type 0} (o : Option A) → is_some o ≡ false → o ≡ None
-is-none None e = refl
-is-none (Some x) e = absurd (true≢false e)
-
 local-apart : (T : TypeTable) (d : Demand) → ((w : Word) → d ≡ declares false w → (has_value T w.name.0 ≡ false) × (mark_named T w.name ≡ None)) → IsApartLocal T d
-local-apart T (declares false w) h = record { value = is-none (value_named T w.name) (h w refl).0; mark = (h w refl).1 }
+local-apart T (declares false w) h = record { value = none_there (value_named T w.name) (h w refl).0; mark = (h w refl).1 }
 local-apart T _ h = tt
 
 module _ (T : TypeTable) where
@@ -103,6 +101,6 @@ are-typed p made is_old rules placed small =
       main = inside-stands T (after_decls first p.decls) (last-stands p rules placed small);
       bodies = bodies-typed p T (Place T) (IsCheckMet Original p.names) (text_rules is_old) p.decls first
           (bodies-all T p.decls first (bodies-stand p rules placed small)
-          (all-front IsMet (decls_sites first p.decls) body (all_met p rules).1)
-          (all-front _ (decls_sites first p.decls) body (all-apart p rules).1));
+          (all_front IsMet (decls_sites first p.decls) body (all_met p rules).1)
+          (all_front _ (decls_sites first p.decls) body (all-apart p rules).1));
     }

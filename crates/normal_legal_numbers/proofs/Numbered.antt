@@ -6,13 +6,13 @@ use Rattle.ada_tree.specs.PlainProgram.{PProgram}
 use Rattle.syn_event.specs.NamedTasks.{NamedTasks, task_names_of}
 use Rattle.syn_event.specs.RuleReservedName.{is_reserved}
 use Rattle.syn_event.proofs.Weaker.{placed_tokens}
-use Rattle.rewritten_types.proofs.Lookups.{all-weaker}
 use Rattle.normal_has_numbers.specs.Laws.{IsNotDed}
 use Rattle.normal_has_numbers.proofs.TaskNames.{AreNamed, task-names}
 use Rattle.normal_has_numbers.proofs.Numbered.{normal_has_numbers}
 use Rattle.normal_legal_units.proofs.DeclaredNames.{IsGood, AreGood, names-good}
 use Rattle.normal_legal_units.proofs.Fields.{legal_is_ordered, legal_is_own}
 use Rattle.normal_legal_numbers.specs.Laws.{NoneLegalIsDed, LegalHasNumbers}
+use Rattle.common_lemmas.proofs.Lists.{all_weaker}
 
 -- a name that is left to no rewriter is not DED
 good-not : (p : PProgram) (id : NameId) → IsGood p.names id → IsNotDed p id
@@ -24,7 +24,7 @@ good-named names (decl_then d rest) h = (h.0, good-named names rest h.1)
 
 pub none_legal_is_ded : NoneLegalIsDed
 none_legal_is_ded p types numbers legal placed =
-    all-weaker (λ (x : NamedTasks). IsGood p.names x.name.name) (λ (x : NamedTasks). is_some x.index_range ≡ true → IsNotDed p x.name.name) (task_names_of p)
+    all_weaker (λ (x : NamedTasks). IsGood p.names x.name.name) (λ (x : NamedTasks). is_some x.index_range ≡ true → IsNotDed p x.name.name) (task_names_of p)
     (λ x h e. good-not p x.name.name h)
     (task-names (IsGood p.names) p.decls [] (good-named p.names p.decls (names-good p legal.check_rules (placed_tokens p placed))))
 

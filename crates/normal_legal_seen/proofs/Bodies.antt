@@ -22,18 +22,16 @@ use Rattle.syn_event.specs.NamedTasks.{NamedTasks, task_names_in, task_names_of}
 use Rattle.rewritten_types.specs.Rewriting.{IsUnused, DeclareOnce}
 use Rattle.rewritten_types.proofs.Lookups.{find-all}
 use Rattle.rewritten_types.proofs.Fresh.{first-here}
-use Rattle.legal_entries.proofs.Lists.{some-same, find-front}
 use Rattle.normal_legal_seen.proofs.Scopes.{is_one_of, names-all, meant-out, meant-own, names-own, IsNoTask, inner-object, formal-no-task, loop-no-task}
 use Rattle.normal_legal_seen.proofs.Parts.{ObjectsApart, AreRanged, unit_is, IsUnitOf, Stands, IsTaskArray, Means, IsPair, MainSeen, types_after, decl-step, extended, no-task-means, no-task-pair, name-used}
+use Rattle.common_lemmas.proofs.Lists.{find_front, not_empty}
+use Rattle.common_lemmas.proofs.Options.{some_same}
 
 -- ---- predefined names
 
-some-not : {A : Type 0} (x : A) (xs : List A) → x ∷ xs ≡ [] → ⊥
-some-not x xs e = cc
-
 seen-of : (o : Option Seen) (th : Thing) → option_map (λ (x : Seen). x.thing) o ≡ Some th → (x : Seen) × (o ≡ Some x) × (x.thing ≡ th)
 seen-of None th e = absurd (none-some th e)
-seen-of (Some x) th e = (x, refl, some-same e)
+seen-of (Some x) th e = (x, refl, some_same e)
 
 -- no predefined name is that of a task
 first-no-task : (id : NameId) (th : Thing) → meaning before_all id ≡ Some th → IsNoTask th
@@ -101,7 +99,7 @@ module _ (p : PProgram) (T : TypeTable) where
     pub own : IsIn who s c
 
   as-seen : (done : List NamedTasks) (rest : List NamedTasks) (kinds : List PTask) (units : List check.Unit) (id : NameId) (th : Thing) → task_names_of p ≡ done ++ rest → Means p T done kinds units id th → SeenAs id th
-  as-seen done rest kinds units id th e m = by_form th (extended p T done (task_names_of p) kinds kinds units units id (λ x f. ap (find _) e ∙ find-front _ done rest x f) (λ t f. f) (λ u f. f) th m)
+  as-seen done rest kinds units id th e m = by_form th (extended p T done (task_names_of p) kinds kinds units units id (λ x f. ap (find _) e ∙ find_front _ done rest x f) (λ t f. f) (λ u f. f) th m)
     where
       by_form : (th : Thing) → Means p T (task_names_of p) kinds units id th → SeenAs id th
       by_form (SingleTask es) h = h.0
@@ -225,19 +223,19 @@ module _ (p : PProgram) (T : TypeTable) where
   body-of : (kinds : List PTask) (ds : PDecls) (s : Scope) (c : CheckScope) (w : Word) (m : MainSeen p T kinds ds s c) → (o : Option Thing) → meaning s w.name ≡ o → no_body_of o w ≡ [] → IsBodyOf c.units o w
   body-of kinds ds s c w m (Some (SingleTask es)) e h = let d = (m.means w.name (SingleTask es) e).1 in record { task = d.task; named = d.named; own = d.own; unit = d.unit }
   body-of kinds ds s c w m (Some (TaskType es)) e h = let d = (m.means w.name (TaskType es) e).0 in record { task = d.task; named = d.named; own = d.own; unit = d.unit }
-  body-of kinds ds s c w m (Some (TypeMark k)) e h = absurd (some-not _ _ h)
-  body-of kinds ds s c w m (Some (TaskObject es)) e h = absurd (some-not _ _ h)
-  body-of kinds ds s c w m (Some (TaskArray range es)) e h = absurd (some-not _ _ h)
-  body-of kinds ds s c w m (Some (Variable k)) e h = absurd (some-not _ _ h)
-  body-of kinds ds s c w m (Some (ConstantObject k)) e h = absurd (some-not _ _ h)
-  body-of kinds ds s c w m (Some (Parameter mode k)) e h = absurd (some-not _ _ h)
-  body-of kinds ds s c w m (Some (LoopParameter k)) e h = absurd (some-not _ _ h)
-  body-of kinds ds s c w m (Some (Literal k)) e h = absurd (some-not _ _ h)
-  body-of kinds ds s c w m (Some AnException) e h = absurd (some-not _ _ h)
-  body-of kinds ds s c w m (Some MainProcedure) e h = absurd (some-not _ _ h)
-  body-of kinds ds s c w m (Some AnotherUnit) e h = absurd (some-not _ _ h)
-  body-of kinds ds s c w m (Some Unclear) e h = absurd (some-not _ _ h)
-  body-of kinds ds s c w m None e h = absurd (some-not _ _ h)
+  body-of kinds ds s c w m (Some (TypeMark k)) e h = absurd (not_empty _ _ h)
+  body-of kinds ds s c w m (Some (TaskObject es)) e h = absurd (not_empty _ _ h)
+  body-of kinds ds s c w m (Some (TaskArray range es)) e h = absurd (not_empty _ _ h)
+  body-of kinds ds s c w m (Some (Variable k)) e h = absurd (not_empty _ _ h)
+  body-of kinds ds s c w m (Some (ConstantObject k)) e h = absurd (not_empty _ _ h)
+  body-of kinds ds s c w m (Some (Parameter mode k)) e h = absurd (not_empty _ _ h)
+  body-of kinds ds s c w m (Some (LoopParameter k)) e h = absurd (not_empty _ _ h)
+  body-of kinds ds s c w m (Some (Literal k)) e h = absurd (not_empty _ _ h)
+  body-of kinds ds s c w m (Some AnException) e h = absurd (not_empty _ _ h)
+  body-of kinds ds s c w m (Some MainProcedure) e h = absurd (not_empty _ _ h)
+  body-of kinds ds s c w m (Some AnotherUnit) e h = absurd (not_empty _ _ h)
+  body-of kinds ds s c w m (Some Unclear) e h = absurd (not_empty _ _ h)
+  body-of kinds ds s c w m None e h = absurd (not_empty _ _ h)
 
   -- the body of a task: who it is, and what is seen there
   pub record TaskSeen (w : Word) (s : Scope) (c : CheckScope) : Type 0 where

@@ -25,10 +25,12 @@ use Rattle.syn_event.specs.Units.{tasks_of, tasks_in, decl_list}
 use Rattle.syn_event.specs.NamedTasks.{NamedTasks, named_tasks, type_named, task_names_of_type, object_task_names, with_type, single_task_name, task_names_in, task_names_of}
 use Rattle.task_model.specs.Setting.{unit_named}
 use Rattle.rewritten_types.specs.Rewriting.{names_declared, IsUsed, IsUnused}
-use Rattle.rewritten_types.proofs.Lookups.{all-weaker, all-append, find-all}
+use Rattle.rewritten_types.proofs.Lookups.{find-all}
 use Rattle.rewritten_types.proofs.Fresh.{InHere, here-decl, other, used-more}
-use Rattle.legal_entries.proofs.Lists.{some-same, find-front, find-behind, find-mapped, find-nothing}
+use Rattle.legal_entries.proofs.Lists.{find-behind, find-mapped}
 use Rattle.normal_legal_seen.proofs.Scopes.{has_id, is_one_of, names-all, meant-out, meant-in, meant-units, meant-own, IsNoTask, ObjectThing, no_task_object, one_object, array_of_objects, object-thing, task-type-seen}
+use Rattle.common_lemmas.proofs.Lists.{all_joined, all_weaker, find_front, found_none}
+use Rattle.common_lemmas.proofs.Options.{some_same}
 
 -- ---- ranges
 
@@ -261,11 +263,11 @@ module _ (p : PProgram) (T : TypeTable) where
   -- what is used before is no name that was not used
   none-done : (s : Scope) (done : List NamedTasks) (id : NameId) → AllByRecursion (λ (x : NamedTasks). IsUsed s x.name.name) done → is_predefined id.0 ≡ false → is_among s.here id.0 ≡ false →
       find (is_called id) done ≡ None
-  none-done s done id u e f = find-nothing (is_called id) done (all-weaker _ _ done (λ x h. turned id.0 x.name.name.0 (other s.here id.0 x.name.name.0 e f h)) u)
+  none-done s done id u e f = found_none (is_called id) done (all_weaker _ _ done (λ x h. turned id.0 x.name.name.0 (other s.here id.0 x.name.name.0 e f h)) u)
 
   none-before : (s : Scope) (ts : List PTask) (id : NameId) → AllByRecursion (λ (t : PTask). IsUsed s t.name.name) ts → is_predefined id.0 ≡ false → is_among s.here id.0 ≡ false →
       find (λ (t : PTask). t.name.name.0 == id.0) ts ≡ None
-  none-before s ts id u e f = find-nothing _ ts (all-weaker _ _ ts (λ t h. turned id.0 t.name.name.0 (other s.here id.0 t.name.name.0 e f h)) u)
+  none-before s ts id u e f = found_none _ ts (all_weaker _ _ ts (λ t h. turned id.0 t.name.name.0 (other s.here id.0 t.name.name.0 e f h)) u)
 
   -- ---- declarations that are no tasks and no objects
 
@@ -279,12 +281,12 @@ module _ (p : PProgram) (T : TypeTable) where
   plain-step kinds ds rest s s' c m e f used here main kept = record {
     done = m.done;
     parts = m.parts ∙ ap (λ l. m.done ++ l) e;
-    parts_used = all-weaker _ _ m.done (λ x h. used x.name.name h) m.parts_used;
+    parts_used = all_weaker _ _ m.done (λ x h. used x.name.name h) m.parts_used;
     parts_units = m.parts_units;
     types_units = m.types_units;
     before = m.before;
     tasks = m.tasks ∙ ap (λ l. m.before ++ l) f;
-    tasks_used = all-weaker _ _ m.before (λ t h. used t.name.name h) m.tasks_used;
+    tasks_used = all_weaker _ _ m.before (λ t h. used t.name.name h) m.tasks_used;
     here = here;
     main = main;
     means = λ id th q. ⊎_elim (λ h. no-task-means m.done kinds c.units id th h) (λ h. m.means id th h.0) (kept id th q);
@@ -390,7 +392,7 @@ module _ (p : PProgram) (T : TypeTable) where
         range = r;
         stands = subst (λ y. Stands (m.done ++ object_task_names kinds names y) id (Some r) es) (sym q)
             (stands-new m.done kinds names id d.0.task (type_named kinds x.mark.name) (Some r) es (none-done s m.done id m.parts_used free.0 free.1) one d.1 d.0.own);
-        extent = (let h : IsRanged T s r = subst (λ y. DeclRanged T s (DObject names false y None (record { start = 0; end = 0 }))) q ranged in subst (IsExtent T r) (some-same (sym h.known ∙ known)) h.is);
+        extent = (let h : IsRanged T s r = subst (λ y. DeclRanged T s (DObject names false y None (record { start = 0; end = 0 }))) q ranged in subst (IsExtent T r) (some_same (sym h.known ∙ known)) h.is);
       }
 
   object-pair : (o : Option Meant) (s : Scope) (shape : PShape) (th : Thing) → ObjectThing s shape th → IsPair o th
@@ -448,22 +450,22 @@ module _ (p : PProgram) (T : TypeTable) where
       record {
         done = m.done ++ more;
         parts = m.parts ∙ sym (append_assoc m.done more (task_names_in kinds rest));
-        parts_used = all-append _ m.done more (all-weaker _ _ m.done (λ x h. used-names thing names t x.name.name h) m.parts_used) (object-used (with_names thing t names) kinds names shape (names-used thing names t));
-        parts_units = all-append _ m.done more m.parts_units (object-units kinds names shape m.types_units);
+        parts_used = all_joined _ m.done more (all_weaker _ _ m.done (λ x h. used-names thing names t x.name.name h) m.parts_used) (object-used (with_names thing t names) kinds names shape (names-used thing names t));
+        parts_units = all_joined _ m.done more m.parts_units (object-units kinds names shape m.types_units);
         types_units = m.types_units;
         before = m.before;
         tasks = m.tasks;
-        tasks_used = all-weaker _ _ m.before (λ x h. used-names thing names t x.name.name h) m.tasks_used;
+        tasks_used = all_weaker _ _ m.before (λ x h. used-names thing names t x.name.name h) m.tasks_used;
         here = here-decl (DObject names constant shape init sp) s m.here;
         main = main-names thing names t ∙ m.main;
         means = names-all (Means (m.done ++ more) kinds c'.units) thing names t
-            (λ id th out e. extended m.done (m.done ++ more) kinds kinds c.units c'.units id (λ x f. find-front (is_called id) m.done more x f) (λ y f. f) (λ y f. ap (find (unit_is id)) grown.units ∙ f) th (m.means id th e))
+            (λ id th out e. extended m.done (m.done ++ more) kinds kinds c.units c'.units id (λ x f. find_front (is_called id) m.done more x f) (λ y f. f) (λ y f. ap (find (unit_is id)) grown.units ∙ f) th (m.means id th e))
             (λ id one. object-means kinds _ s c c' m names shape (object-ranged s names constant shape init sp ranged) u thing (object-thing s constant shape) id one);
         pairs = names-all (λ id th. IsPair (check.meaning c' id) th) thing names t (λ id th out e. subst (λ o. IsPair o th) (sym (grown.out id out)) (m.pairs id th e))
             (λ id one. object-pair (check.meaning c' id) s shape thing (object-thing s constant shape));
         own = grown.own ∙ m.own;
         main_used = used-names thing names t p.name.name m.main_used;
-        apart = all-append _ m.done more m.apart (object-apart s kinds names shape m.main_used u);
+        apart = all_joined _ m.done more m.apart (object-apart s kinds names shape m.main_used u);
         tasks_apart = m.tasks_apart;
         once = λ id. once-joined (is_called id) m.done more (m.once id) (object-once kinds names shape id apart) (by_name id);
       }
@@ -555,16 +557,16 @@ module _ (p : PProgram) (T : TypeTable) where
       record {
         done = m.done ++ more;
         parts = m.parts ∙ sym (append_assoc m.done more (task_names_in kinds' rest));
-        parts_used = all-append _ m.done more (all-weaker _ _ m.done (λ x h. used-more s t.name.name.0 x.name.name h) m.parts_used) (single-used t.of_kind t sp (with_name thing s t.name) (name-used thing t.name s));
-        parts_units = all-append _ m.done more m.parts_units (single-units t.of_kind t sp unit);
+        parts_used = all_joined _ m.done more (all_weaker _ _ m.done (λ x h. used-more s t.name.name.0 x.name.name h) m.parts_used) (single-used t.of_kind t sp (with_name thing s t.name) (name-used thing t.name s));
+        parts_units = all_joined _ m.done more m.parts_units (single-units t.of_kind t sp unit);
         types_units = type-units t.of_kind t kinds unit m.types_units;
         before = m.before ++ t ∷ [];
         tasks = m.tasks ∙ sym (append_assoc m.before (t ∷ []) (tasks_in (decl_list rest)));
-        tasks_used = all-append _ m.before (t ∷ []) (all-weaker _ _ m.before (λ x h. used-more s t.name.name.0 x.name.name h) m.tasks_used) (name-used thing t.name s, tt);
+        tasks_used = all_joined _ m.before (t ∷ []) (all_weaker _ _ m.before (λ x h. used-more s t.name.name.0 x.name.name h) m.tasks_used) (name-used thing t.name s, tt);
         here = here-decl (DTask t sp) s m.here;
         main = m.main;
         means = names-all (Means (m.done ++ more) kinds' (sites.unit_of t ∷ c.units)) thing (t.name ∷ []) s
-            (λ id th out e. extended m.done (m.done ++ more) kinds kinds' c.units (sites.unit_of t ∷ c.units) id (λ x f. find-front (is_called id) m.done more x f) (λ y f. type-kept t.of_kind kinds t y id (no id out) f)
+            (λ id th out e. extended m.done (m.done ++ more) kinds kinds' c.units (sites.unit_of t ∷ c.units) id (λ x f. find_front (is_called id) m.done more x f) (λ y f. type-kept t.of_kind kinds t y id (no id out) f)
             (λ y f. ap (λ b. if b then Some (sites.unit_of t) else find (unit_is id) c.units) (no id out) ∙ f) th (m.means id th e))
             (λ id one. task-means t.of_kind m.done kinds t sp s c id (only id one)
             (subst (λ n. find (is_called record { 0 = n }) m.done ≡ None) (eqb-true t.name.name.0 id.0 (only id one)) (none-done s m.done t.name.name m.parts_used u.0 u.1)) ranged unit);
@@ -573,8 +575,8 @@ module _ (p : PProgram) (T : TypeTable) where
             (λ id one. task-pair t.of_kind _ t.name.name _ (meant-in (sites.meant_by_task t) (t.name ∷ []) c0 id one));
         own = m.own;
         main_used = used-more s t.name.name.0 p.name.name m.main_used;
-        apart = all-append _ m.done more m.apart (single-apart t.of_kind t sp (turned t.name.name.0 p.name.name.0 (other s.here t.name.name.0 p.name.name.0 u.0 u.1 m.main_used)));
-        tasks_apart = all-append _ m.before (t ∷ []) m.tasks_apart (turned t.name.name.0 p.name.name.0 (other s.here t.name.name.0 p.name.name.0 u.0 u.1 m.main_used), tt);
+        apart = all_joined _ m.done more m.apart (single-apart t.of_kind t sp (turned t.name.name.0 p.name.name.0 (other s.here t.name.name.0 p.name.name.0 u.0 u.1 m.main_used)));
+        tasks_apart = all_joined _ m.before (t ∷ []) m.tasks_apart (turned t.name.name.0 p.name.name.0 (other s.here t.name.name.0 p.name.name.0 u.0 u.1 m.main_used), tt);
         once = λ id. once-joined (is_called id) m.done more (m.once id) (single-once t.of_kind t sp id) (by_name id);
       }
     where

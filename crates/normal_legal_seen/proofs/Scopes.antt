@@ -17,7 +17,7 @@ use Rattle.syn_event.specs.declared.meanings.Meant.{Meant}
 use Rattle.syn_event.specs.CheckScope.{CheckScope}
 use Rattle.syn_event.specs.CheckScope as check
 use Rattle.syn_event.specs.CheckSites.{with_meant}
-use Rattle.legal_entries.proofs.Lists.{some-same}
+use Rattle.common_lemmas.proofs.Options.{some_same}
 
 -- ---- names
 
@@ -60,7 +60,7 @@ pub names-all : (P : NameId → Thing → Type 0) (thing : Thing) (ws : List Wor
 names-all P thing ws s old new id th e = by_test (is_one_of ws id) refl
   where
     by_test : (b : Bool) → is_one_of ws id ≡ b → P id th
-    by_test true f = subst (P id) (some-same (sym (meaning-in thing ws s id f) ∙ e)) (new id f)
+    by_test true f = subst (P id) (some_same (sym (meaning-in thing ws s id f) ∙ e)) (new id f)
     by_test false f = old id th f (sym (meaning-out thing ws s id f) ∙ e)
 
 -- ---- names of the other scope

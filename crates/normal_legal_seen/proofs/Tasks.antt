@@ -17,10 +17,12 @@ use Rattle.syn_event.specs.NamedTasks.{NamedTasks, task_names_of, NumberedTask, 
 use Rattle.syn_event.specs.Extents.{extent}
 use Rattle.syn_event.specs.AllNumbers.{info_of_task}
 use Rattle.task_model.specs.Setting.{is_member, member_named}
-use Rattle.rewritten_types.proofs.Lookups.{all-append, all-weaker, place-all, find-all}
-use Rattle.legal_entries.proofs.Lists.{some-same, find-front, find-behind, find-mapped, find-nothing, found-passes, found-place}
+use Rattle.rewritten_types.proofs.Lookups.{place-all, find-all}
+use Rattle.legal_entries.proofs.Lists.{find-behind, find-mapped, found-place}
 use Rattle.legal_entries.proofs.Entries.{numbers, IsTaskOf, mapped-at}
 use Rattle.normal_legal_seen.proofs.Parts.{is_called, IsUnit, AtMostOnce}
+use Rattle.common_lemmas.proofs.Lists.{all_joined, all_weaker, find_front, found_none, found_passes}
+use Rattle.common_lemmas.proofs.Options.{some_same}
 
 module _ (p : PProgram) (T : TypeTable) where
   -- ---- what holds of parts holds of their tasks
@@ -36,7 +38,7 @@ module _ (p : PProgram) (T : TypeTable) where
 
     pub numbered-tasks-all : (P : NamedTasks → Type 0) → ((x : NamedTasks) (m : Option ℤ) → P x → Q (numbered_task x m)) → (xs : List NamedTasks) → AllByRecursion P xs → AllByRecursion Q (flat_map (tasks_of_name T) xs)
     numbered-tasks-all P h [] a = tt
-    numbered-tasks-all P h (x ∷ xs) a = all-append Q (tasks_of_name T x) (flat_map (tasks_of_name T) xs) (row-all x x.index_range (λ m. h x m a.0)) (numbered-tasks-all P h xs a.1)
+    numbered-tasks-all P h (x ∷ xs) a = all_joined Q (tasks_of_name T x) (flat_map (tasks_of_name T) xs) (row-all x x.index_range (λ m. h x m a.0)) (numbered-tasks-all P h xs a.1)
 
   -- what is known of the parts of the program: each is found by its unit's name, and none has the name of main
   pub record PartsKnown : Type 0 where
@@ -58,7 +60,7 @@ module _ (p : PProgram) (T : TypeTable) where
 
     pub mapped-place : (xs : List NumberedTask) (k : ℕ) (info : TaskInfo) → slice_get (map (info_of_task p.names) xs) k ≡ Some info → (x : NumberedTask) × (slice_get xs k ≡ Some x) × (info ≡ info_of_task p.names x)
     mapped-place [] k info e = absurd (none-some info e)
-    mapped-place (x ∷ xs) zero info e = (x, refl, sym (some-same e))
+    mapped-place (x ∷ xs) zero info e = (x, refl, sym (some_same e))
     mapped-place (x ∷ xs) (suc k) info e = mapped-place xs k info e
 
     -- a task of another name than main's is one beside it
@@ -70,7 +72,7 @@ module _ (p : PProgram) (T : TypeTable) where
 
     numbered-task-there : (t : ℕ) (info : TaskInfo) (id : NameId) → (p.name.name.0 == id.0) ≡ false → slice_get (numbers p T).tasks t ≡ Some info → (info.name.0 == id.0) ≡ true → IsNumberedTask t info id
     numbered-task-there zero info id apart e f =
-        absurd (true≢false (sym f ∙ ap (λ (i : TaskInfo). i.name.0 == id.0) (sym (some-same e)) ∙ apart))
+        absurd (true≢false (sym f ∙ ap (λ (i : TaskInfo). i.name.0 == id.0) (sym (some_same e)) ∙ apart))
     numbered-task-there (suc k) info id apart e f =
         let x = mapped-place (numbered_tasks T p) k info e in
         record {
@@ -82,7 +84,7 @@ module _ (p : PProgram) (T : TypeTable) where
 
     -- units of one name are one
     pub one-unit : (t u : PTask) → IsUnit p T t → IsUnit p T u → t.name.name.0 ≡ u.name.name.0 → t ≡ u
-    one-unit t u h k e = some-same (sym h ∙ ap (λ n. find (λ (x : PTask). x.name.name.0 == n) (tasks_of p)) e ∙ k)
+    one-unit t u h k e = some_same (sym h ∙ ap (λ n. find (λ (x : PTask). x.name.name.0 == n) (tasks_of p)) e ∙ k)
 
     -- tasks of one name are of one unit
     pub same-units : (t u : ℕ) (i j : TaskInfo) (id : NameId) → (a : IsNumberedTask t i id) (b : IsNumberedTask u j id) → a.numbered_task.unit ≡ b.numbered_task.unit
@@ -95,7 +97,7 @@ module _ (p : PProgram) (T : TypeTable) where
     -- a part that is found is none of main's name
     pub part-apart : (id : NameId) (x : NamedTasks) → find (is_called id) (task_names_of p) ≡ Some x → (p.name.name.0 == id.0) ≡ false
     part-apart id x e =
-        subst (λ n. (p.name.name.0 == n) ≡ false) (eqb-true x.name.name.0 id.0 (found-passes (is_called id) (task_names_of p) x e))
+        subst (λ n. (p.name.name.0 == n) ≡ false) (eqb-true x.name.name.0 id.0 (found_passes (is_called id) (task_names_of p) x e))
         (found-all (task_names_of p) known.apart e)
       where
         found-all : (xs : List NamedTasks) → AllByRecursion (λ (y : NamedTasks). (p.name.name.0 == y.name.name.0) ≡ false) xs → find (is_called id) xs ≡ Some x → (p.name.name.0 == x.name.name.0) ≡ false
@@ -115,14 +117,14 @@ module _ (p : PProgram) (T : TypeTable) where
             (find (is_called id) ys ≡ Some part → tasks_of_name T part ≡ x ∷ more → find (λ (y : NumberedTask). y.name.0 == id.0) (flat_map (tasks_of_name T) ys) ≡ Some x) →
             find (λ (y : NumberedTask). y.name.0 == id.0) (tasks_of_name T y ++ flat_map (tasks_of_name T) ys) ≡ Some x
         by_test true g h rest =
-            let same : y ≡ part = some-same h in
+            let same : y ≡ part = some_same h in
             let list : tasks_of_name T y ≡ x ∷ more = ap (tasks_of_name T) same ∙ f in
             let named : (x.name ≡ y.name.name) × AllByRecursion (λ (z : NumberedTask). z.name ≡ y.name.name) more = subst (AllByRecursion (λ (z : NumberedTask). z.name ≡ y.name.name)) list (numbered-tasks-named y) in
-            find-front (λ (z : NumberedTask). z.name.0 == id.0) (tasks_of_name T y) (flat_map (tasks_of_name T) ys) x
+            find_front (λ (z : NumberedTask). z.name.0 == id.0) (tasks_of_name T y) (flat_map (tasks_of_name T) ys) x
             (ap (find (λ (z : NumberedTask). z.name.0 == id.0)) list ∙ ap (λ b. if b then Some x else find (λ (z : NumberedTask). z.name.0 == id.0) more) (ap (λ (n : NameId). n.0 == id.0) named.0 ∙ g))
         by_test false g h rest =
             find-behind (λ (z : NumberedTask). z.name.0 == id.0) (tasks_of_name T y) (flat_map (tasks_of_name T) ys)
-            (find-nothing (λ (z : NumberedTask). z.name.0 == id.0) (tasks_of_name T y) (all-weaker _ _ (tasks_of_name T y) (λ z q. ap (λ (n : NameId). n.0 == id.0) q ∙ g) (numbered-tasks-named y)))
+            (found_none (λ (z : NumberedTask). z.name.0 == id.0) (tasks_of_name T y) (all_weaker _ _ (tasks_of_name T y) (λ z q. ap (λ (n : NameId). n.0 == id.0) q ∙ g) (numbered-tasks-named y)))
             ∙ rest h f
 
     -- the task of that name that comes first
@@ -142,7 +144,7 @@ module _ (p : PProgram) (T : TypeTable) where
         let whole : find (λ (i : TaskInfo). i.name.0 == id.0) (numbers p T).tasks ≡ Some (info_of_task p.names x) =
         (ap (λ b. if b then Some (task_info p.names p.name.name) else find (λ (i : TaskInfo). i.name.0 == id.0) (map (info_of_task p.names) (numbered_tasks T p))) apart ∙ beside) in
         let place = found-place (λ (i : TaskInfo). i.name.0 == id.0) (numbers p T).tasks (info_of_task p.names x) whole in
-        let passes : (x.name.0 == id.0) ≡ true = found-passes (λ (i : TaskInfo). i.name.0 == id.0) (numbers p T).tasks (info_of_task p.names x) whole in
+        let passes : (x.name.0 == id.0) ≡ true = found_passes (λ (i : TaskInfo). i.name.0 == id.0) (numbers p T).tasks (info_of_task p.names x) whole in
         let there = numbered-task-there place.0 (info_of_task p.names x) id apart place.1 passes in
         let own : IsUnit p T part.unit = find-all (λ (y : NamedTasks). IsUnit p T y.unit) (is_called id) (task_names_of p) part known.units e in
         record {

@@ -17,7 +17,6 @@ use Rattle.ada_tree.specs.RuleDuplicate.{is_predefined, is_among, fixes, introdu
 use Rattle.ada_tree.specs.Declaring.{declared_object, inside, in_body, after_objects, after_decl}
 use Rattle.syn_event.specs.CheckScope.{CheckScope, CheckSite}
 use Rattle.syn_event.specs.CheckSites as sites
-use Rattle.syn_event.proofs.Nothing.{all_front, all_back}
 use Rattle.task_model.specs.Starting.{unit_among}
 use Rattle.rewritten_types.specs.Rewriting.{DeclareOnce}
 use Rattle.legal_sites.specs.Met.{IsMet}
@@ -25,6 +24,7 @@ use Rattle.normal_legal_seen.proofs.Finding.{no-place}
 use Rattle.normal_legal_seen.proofs.Scopes.{is_one_of}
 use Rattle.normal_legal_seen.proofs.Parts.{AllApart, NamesApart, ObjectsApart, AreRanged, MainSeen, types_after, decl-step}
 use Rattle.normal_legal_seen.proofs.Bodies.{TaskSeen, task-seen}
+use Rattle.common_lemmas.proofs.Lists.{all_back, all_front}
 
 module _ (p : PProgram) (T : TypeTable) where
   -- the rules at the places of main's declarations, from which the names of objects differ

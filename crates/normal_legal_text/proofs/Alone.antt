@@ -12,12 +12,12 @@ use Rattle.ada_tree.specs.PlainExpr.{PDrange}
 use Rattle.ada_tree.specs.PlainProgram.{PProgram}
 use Rattle.syn_event.specs.Extents.{Extent, extent, size_of}
 use Rattle.syn_event.specs.NamedTasks.{NamedTasks, task_names_of, NumberedTask, numbered_task, numbers_on, indices, tasks_of_range, tasks_of_name, numbered_tasks}
-use Rattle.rewritten_types.proofs.Lookups.{all-weaker}
-use Rattle.legal_entries.proofs.Lists.{some-same, find-behind, find-mapped, find-nothing}
-use Rattle.normal_legal_seen.proofs.Finding.{found-some}
+use Rattle.legal_entries.proofs.Lists.{find-behind, find-mapped}
 use Rattle.normal_legal_seen.proofs.Parts.{is_called, AtMostOnce, once-joined}
 use Rattle.normal_legal_seen.proofs.Tasks.{PartsKnown, numbered-tasks-named}
 use Rattle.normal_legal_text.proofs.Members.{is_within, out-numbers}
+use Rattle.common_lemmas.proofs.Lists.{all_weaker, found_none, found_some}
+use Rattle.common_lemmas.proofs.Options.{some_same}
 
 -- one index and another, or none and none
 abbrev pub same_member : Option ℤ → Option ℤ → Bool
@@ -36,11 +36,11 @@ pub one-place : {A : Type 0} (q : A → Bool) (xs : List A) (j k : ℕ) (x y : A
 one-place q [] j k x y once e f g h = absurd (none-some x e)
 one-place q (z ∷ xs) zero zero x y once e f g h = refl
 one-place q (z ∷ xs) zero (suc k) x y once e f g h =
-    let s = found-some q xs k y g h in
-    absurd (none-some s.0 (sym (once.0 (subst (λ v. q v ≡ true) (sym (some-same e)) f)) ∙ s.1))
+    let s = found_some q xs k y g h in
+    absurd (none-some s.0 (sym (once.0 (subst (λ v. q v ≡ true) (sym (some_same e)) f)) ∙ s.1))
 one-place q (z ∷ xs) (suc j) zero x y once e f g h =
-    let s = found-some q xs j x e f in
-    absurd (none-some s.0 (sym (once.0 (subst (λ v. q v ≡ true) (sym (some-same g)) h)) ∙ s.1))
+    let s = found_some q xs j x e f in
+    absurd (none-some s.0 (sym (once.0 (subst (λ v. q v ≡ true) (sym (some_same g)) h)) ∙ s.1))
 one-place q (z ∷ xs) (suc j) (suc k) x y once e f g h = ap suc (one-place q xs j k x y once.1 e f g h)
 
 -- where none passes, at most one does
@@ -79,8 +79,8 @@ module _ (p : PProgram) (T : TypeTable) (known : PartsKnown p T) where
 
   other-numbered-tasks : (id : NameId) (m : Option ℤ) (x : NamedTasks) → is_called id x ≡ false → find (is_task_named id m) (tasks_of_name T x) ≡ None
   other-numbered-tasks id m x e =
-      find-nothing (is_task_named id m) (tasks_of_name T x)
-      (all-weaker (λ (y : NumberedTask). y.name ≡ x.name.name) (λ (y : NumberedTask). is_task_named id m y ≡ false) (tasks_of_name T x) (λ y q. ap (λ (n : NameId). (n.0 == id.0) && same_member m y.member) q ∙ ap (λ b. b && same_member m y.member) e) (numbered-tasks-named p T known x))
+      found_none (is_task_named id m) (tasks_of_name T x)
+      (all_weaker (λ (y : NumberedTask). y.name ≡ x.name.name) (λ (y : NumberedTask). is_task_named id m y ≡ false) (tasks_of_name T x) (λ y q. ap (λ (n : NameId). (n.0 == id.0) && same_member m y.member) q ∙ ap (λ b. b && same_member m y.member) e) (numbered-tasks-named p T known x))
 
   no-numbered-tasks : (id : NameId) (m : Option ℤ) (xs : List NamedTasks) → find (is_called id) xs ≡ None → find (is_task_named id m) (flat_map (tasks_of_name T) xs) ≡ None
   no-numbered-tasks id m [] e = refl

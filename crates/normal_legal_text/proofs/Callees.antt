@@ -36,8 +36,9 @@ use Rattle.normal_legal_seen.proofs.Bodies.{PlaceSeen}
 use Rattle.normal_legal_seen.proofs.Tasks.{PartsKnown, same-units, part-apart, IsFirst, first-task, member-there}
 use Rattle.normal_legal_text.proofs.Typed.{Typing}
 use Rattle.normal_legal_seen.proofs.Finding.{no-place}
+use Rattle.common_lemmas.proofs.Options.{none_there}
 
-some-not : (s : Span) (l : List Span) → s ∷ l ≡ [] → ⊥
+pub some-not : (s : Span) (l : List Span) → s ∷ l ≡ [] → ⊥
 some-not s l e = cc
 
 no-front : (xs ys : List Span) → xs ++ ys ≡ [] → xs ≡ []
@@ -47,10 +48,6 @@ no-front (x ∷ xs) ys e = absurd (some-not x (xs ++ ys) e)
 no-back : (xs ys : List Span) → xs ++ ys ≡ [] → ys ≡ []
 no-back [] ys e = e
 no-back (x ∷ xs) ys e = absurd (some-not x (xs ++ ys) e)
-
-there-none : {A : Type 0} (o : Option A) → is_some o ≡ false → o ≡ None
-there-none None e = refl
-there-none (Some x) e = absurd (true≢false e)
 
 there-some : {A : Type 0} (o : Option A) → is_none o ≡ false → (x : A) × (o ≡ Some x)
 there-some None e = absurd (true≢false e)
@@ -106,7 +103,7 @@ module _ (p : PProgram) (T : TypeTable) where
           stands = seen.seen id (SingleTask es) e;
           called = λ name. ap (λ o. called_entry o name) e;
           unknown = λ w. ap (λ o. unknown_entry o w) e;
-          form = one_task (there-none x.index (no-place (is_some x.index) x.name.span (ap (λ o. index_of_callee o x.index x.name.span) (sym e) ∙ counted)));
+          form = one_task (none_there x.index (no-place (is_some x.index) x.name.span (ap (λ o. index_of_callee o x.index x.name.span) (sym e) ∙ counted)));
         }
         by_form (Some (TaskObject es)) e = record {
           index_range = None;
@@ -114,7 +111,7 @@ module _ (p : PProgram) (T : TypeTable) where
           stands = seen.seen id (TaskObject es) e;
           called = λ name. ap (λ o. called_entry o name) e;
           unknown = λ w. ap (λ o. unknown_entry o w) e;
-          form = one_task (there-none x.index (no-place (is_some x.index) x.name.span (ap (λ o. index_of_callee o x.index x.name.span) (sym e) ∙ counted)));
+          form = one_task (none_there x.index (no-place (is_some x.index) x.name.span (ap (λ o. index_of_callee o x.index x.name.span) (sym e) ∙ counted)));
         }
         by_form (Some (TaskArray range es)) e =
             let index = there-some x.index (no-place (is_none x.index) x.name.span (ap (λ o. index_of_callee o x.index x.name.span) (sym e) ∙ counted)) in

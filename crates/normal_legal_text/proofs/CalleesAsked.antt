@@ -32,7 +32,7 @@ use Rattle.translation_law.specs.Translations.{Programs}
 use Rattle.normal_law.specs.Suited.{declared_limits, IsMeant, is_named, is_member as member_meant, IsLiteral, HasLiteral, IsCallee}
 use Rattle.legal_sites.specs.Met.{IsMet}
 use Rattle.legal_entries.proofs.Lists.{found-place}
-use Rattle.normal_legal_seen.proofs.Finding.{no-place, found-some, all-places, all-filtered}
+use Rattle.normal_legal_seen.proofs.Finding.{no-place, all-filtered}
 use Rattle.legal_entries.proofs.Entries.{numbers, g, IsTaskOf}
 use Rattle.normal_legal_seen.proofs.Parts.{IsExtent, is_called}
 use Rattle.normal_legal_seen.proofs.Tasks.{PartsKnown}
@@ -41,6 +41,7 @@ use Rattle.normal_legal_text.proofs.Callees.{CalleeForm, one_task, one_member, C
 use Rattle.normal_legal_text.proofs.Typed.{Typing}
 use Rattle.normal_legal_text.proofs.Heads.{same-kind, inside-range}
 use Rattle.normal_legal_text.proofs.HeadsAsked.{unmoved-static}
+use Rattle.common_lemmas.proofs.Lists.{all_by_place, found_some}
 
 -- What is to be known of the range of an array of tasks: a variable of it has just the members' indices, and each index has a literal.
 pub record RangeFacts (b : Programs) (T : TypeTable) (r : PDrange) (range : Range) : Type 0 where
@@ -89,7 +90,7 @@ module _ (p : PProgram) (T : TypeTable) (Typed : Scope → Type 0) (typing : Typ
     member-within r range row ext n info i named member at =
         let test : TaskInfo → Bool = λ y. (y.name.0 == x.name.name.0) && is_member i y.member in
         let same : int_eq i i ≡ true = grind (arith, Decides-int_eq) in
-        let found = found-some test (numbers p T).tasks n info at (and_from (info.name.0 == x.name.name.0) (is_member i info.member) named (ap (is_member i) member ∙ same)) in
+        let found = found_some test (numbers p T).tasks n info at (and_from (info.name.0 == x.name.name.0) (is_member i info.member) named (ap (is_member i) member ∙ same)) in
         let place = found-place test (numbers p T).tasks found.0 found.1 in
         sym (member-is p T known x.name.name k.stands.part r range k.stands.found row ext i) ∙ ap (λ o. is_ok (ok_or o raised.Constraint)) place.2
 
@@ -112,6 +113,6 @@ module _ (p : PProgram) (T : TypeTable) (Typed : Scope → Type 0) (typing : Typ
                   ap (λ o. lies_in (declared_limits made.types (subtype_of_range T sp o)) z) its ∙ f.same sp z ∙ sym (member-is p T known x.name.name k.stands.part r range k.stands.found row ext z);
               literals = λ e m sp.
                   all-filtered (HasLiteral b (kind_of_index T (array_range p x.name.name)) sp) _ (numbers p T).tasks
-                  (all-places _ (numbers p T).tasks (λ n info at test i member.
+                  (all_by_place _ (numbers p T).tasks (λ n info at test i member.
                   subst (λ o. IsLiteral b (kind_of_index T o) sp i) (sym its) (f.literal sp i (member-within r range row ext n info i (and_parts (info.name.0 == x.name.name.0) (is_some info.member) test).0 member at))));
             }

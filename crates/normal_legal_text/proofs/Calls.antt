@@ -20,7 +20,6 @@ use Rattle.ada_tree.specs.Declaring.{formal_parts, family_of, entry_family, entr
 use Rattle.ada_tree.specs.RuleUnknown.{missing}
 use Rattle.ada_tree.specs.RuleArgCount.{called_entry, wrong_call, fits_call}
 use Rattle.syn_event.specs.Numbering.{task_named}
-use Rattle.syn_event.proofs.Nothing.{all_front, all_back}
 use Rattle.task_model.specs.Setting.{Setting}
 use Rattle.normal_model.specs.Calls.{Slot, slots_of}
 use Rattle.translation_law.specs.Translations.{Programs, IsOld}
@@ -32,12 +31,10 @@ use Rattle.normal_legal_seen.proofs.Finding.{no-place}
 use Rattle.legal_entries.proofs.Entries.{entry_in, numbers, g, HasEntry, entry-there}
 use Rattle.normal_legal_seen.proofs.Parts.{FamilyRanged}
 use Rattle.normal_legal_seen.proofs.Tasks.{PartsKnown}
-use Rattle.normal_legal_text.proofs.Callees.{CalleeKnown, callee-first, IsOneOf, first-one, named-one, member-one}
+use Rattle.normal_legal_text.proofs.Callees.{CalleeKnown, callee-first, IsOneOf, first-one, named-one, member-one, some-not}
 use Rattle.normal_legal_text.proofs.Typed.{Typing}
 use Rattle.normal_legal_text.proofs.Heads.{EntryKnown, entry-known, entry-said}
-
-some-not : (s : Span) (l : List Span) → s ∷ l ≡ [] → ⊥
-some-not s l e = cc
+use Rattle.common_lemmas.proofs.Lists.{all_back, all_front}
 
 -- ---- formals one by one
 

@@ -21,7 +21,6 @@ use Rattle.ada_tree.specs.RuleArgCount.{arg_count, wrong_accept, fits_accept, at
 use Rattle.syn_event.specs.CheckScope.{CheckScope}
 use Rattle.syn_event.specs.CheckScope as check
 use Rattle.syn_event.specs.RuleAcceptPlace.{accept_place, is_own_entry, is_among}
-use Rattle.syn_event.proofs.Nothing.{all_front, all_back}
 use Rattle.ada_value.specs.declared.values.Raised.TheVariants as raised
 use Rattle.ada_value.specs.declared.values.Limits.{Limits}
 use Rattle.ada_value.specs.Values.{lies_in, position_of, and_then}
@@ -36,6 +35,7 @@ use Rattle.legal_entries.proofs.Entries.{entry_in}
 use Rattle.normal_legal_seen.proofs.Parts.{IsRanged, FamilyRanged, EntryRanged, IsUnitOf}
 use Rattle.normal_legal_seen.proofs.Bodies.{PlaceSeen}
 use Rattle.normal_legal_text.proofs.Typed.{Typing}
+use Rattle.common_lemmas.proofs.Lists.{all_back, all_front}
 
 -- ---- tests
 

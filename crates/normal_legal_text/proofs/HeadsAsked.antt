@@ -16,7 +16,6 @@ use Rattle.syn_event.specs.CheckSites as sites
 use Rattle.syn_event.specs.AllNumbers.{family_extent, first_of, last_of}
 use Rattle.syn_event.specs.Numbering.{entry_at}
 use Rattle.syn_event.specs.NamedTasks.{NumberedTask}
-use Rattle.syn_event.proofs.Nothing.{all_front}
 use Rattle.task_model.specs.Setting.{Setting, entry_of, family_limits, member_index}
 use Rattle.normal_model.specs.Making.{moving}
 use Rattle.ada_value.specs.StaticLaw.{HasSmallLiterals}
@@ -28,6 +27,7 @@ use Rattle.normal_legal_seen.proofs.Parts.{FamilyRanged}
 use Rattle.normal_legal_seen.proofs.Bodies.{PlaceSeen}
 use Rattle.normal_legal_text.proofs.Typed.{Typing}
 use Rattle.normal_legal_text.proofs.Heads.{EntryKnown, own-entry, index-of-family, static-inside}
+use Rattle.common_lemmas.proofs.Lists.{all_front}
 
 -- an index that does not move is static
 pub unmoved-static : (T : TypeTable) (e : PExpr) → moving T (Some e) ≡ None → is_static T e ≡ true

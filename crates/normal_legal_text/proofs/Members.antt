@@ -17,12 +17,14 @@ use Rattle.syn_event.specs.NamedTasks.{NamedTasks, task_names_of, NumberedTask, 
 use Rattle.syn_event.specs.AllNumbers.{info_of_task}
 use Rattle.ada_value.specs.declared.values.Raised.TheVariants as raised
 use Rattle.task_model.specs.Setting.{is_member, member_named}
-use Rattle.rewritten_types.proofs.Lookups.{all-weaker, find-more}
-use Rattle.legal_entries.proofs.Lists.{some-same, find-behind, find-mapped, find-nothing, found-passes, found-place}
+use Rattle.rewritten_types.proofs.Lookups.{find-more}
+use Rattle.legal_entries.proofs.Lists.{find-behind, find-mapped, found-place}
 use Rattle.normal_legal_seen.proofs.Finding.{no-place-passes}
 use Rattle.legal_entries.proofs.Entries.{numbers}
 use Rattle.normal_legal_seen.proofs.Parts.{IsExtent, is_called, AtMostOnce}
 use Rattle.normal_legal_seen.proofs.Tasks.{PartsKnown, numbered-tasks-named, part-apart}
+use Rattle.common_lemmas.proofs.Lists.{all_weaker, found_none, found_passes}
+use Rattle.common_lemmas.proofs.Options.{some_same}
 
 -- ---- consecutive numbers
 
@@ -62,8 +64,8 @@ module _ (p : PProgram) (T : TypeTable) (known : PartsKnown p T) where
 
   other-part : (id : NameId) (z : ℤ) (x : NamedTasks) → is_called id x ≡ false → find (is_at id z) (tasks_of_name T x) ≡ None
   other-part id z x e =
-      find-nothing (is_at id z) (tasks_of_name T x)
-      (all-weaker (λ (y : NumberedTask). y.name ≡ x.name.name) (λ (y : NumberedTask). is_at id z y ≡ false) (tasks_of_name T x) (λ y q. ap (λ (n : NameId). (n.0 == id.0) && is_member z y.member) q ∙ ap (λ b. b && is_member z y.member) e) (numbered-tasks-named p T known x))
+      found_none (is_at id z) (tasks_of_name T x)
+      (all_weaker (λ (y : NumberedTask). y.name ≡ x.name.name) (λ (y : NumberedTask). is_at id z y ≡ false) (tasks_of_name T x) (λ y q. ap (λ (n : NameId). (n.0 == id.0) && is_member z y.member) q ∙ ap (λ b. b && is_member z y.member) e) (numbered-tasks-named p T known x))
 
   no-part : (id : NameId) (z : ℤ) (xs : List NamedTasks) → find (is_called id) xs ≡ None → find (is_at id z) (flat_map (tasks_of_name T) xs) ≡ None
   no-part id z [] e = refl
@@ -82,7 +84,7 @@ module _ (p : PProgram) (T : TypeTable) (known : PartsKnown p T) where
           (find (is_called id) ys ≡ Some x → find (is_at id z) (flat_map (tasks_of_name T) ys) ≡ find (is_at id z) (tasks_of_name T x)) →
           find (is_at id z) (tasks_of_name T y ++ flat_map (tasks_of_name T) ys) ≡ find (is_at id z) (tasks_of_name T x)
       by_test true f g rest =
-          find-more (is_at id z) (tasks_of_name T y) (flat_map (tasks_of_name T) ys) (no-part id z ys (once.0 f)) ∙ ap (λ v. find (is_at id z) (tasks_of_name T v)) (some-same g)
+          find-more (is_at id z) (tasks_of_name T y) (flat_map (tasks_of_name T) ys) (no-part id z ys (once.0 f)) ∙ ap (λ v. find (is_at id z) (tasks_of_name T v)) (some_same g)
       by_test false f g rest = find-behind (is_at id z) (tasks_of_name T y) (flat_map (tasks_of_name T) ys) (other-part id z y f) ∙ rest g
 
   -- an index of the part's range
@@ -101,7 +103,7 @@ module _ (p : PProgram) (T : TypeTable) (known : PartsKnown p T) where
         ∙ ap (option_map (info_of_task p.names))
         (part-numbered-tasks id z (task_names_of p) x (known.once id) found
         ∙ ap (λ o. find (is_at id z) (tasks_of_range T x o)) row
-        ∙ row-at id z x (indices (extent T r)) (found-passes (is_called id) (task_names_of p) x found)
+        ∙ row-at id z x (indices (extent T r)) (found_passes (is_called id) (task_names_of p) x found)
         ∙ ap (λ o. option_map (λ i. numbered_task x (Some i)) (find (int_eq z) (indices o))) is.extent)
 
     -- within the range

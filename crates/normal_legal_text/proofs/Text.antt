@@ -26,11 +26,10 @@ use Rattle.syn_event.specs.RuleAcceptPlace.{accept_place, is_own_entry, is_among
 use Rattle.syn_event.specs.Units.{tasks_of}
 use Rattle.syn_event.specs.NamedTasks.{NamedTasks, task_names_of, NumberedTask, numbered_tasks}
 use Rattle.syn_event.specs.AllNumbers.{info_of_task}
-use Rattle.syn_event.proofs.Nothing.{all_front, all_back}
 use Rattle.task_model.specs.Setting.{Setting}
 use Rattle.task_model.specs.Starting.{unit_among}
 use Rattle.normal_model.specs.NormalTree.{first_running}
-use Rattle.rewritten_types.proofs.Lookups.{all-weaker, find-all, place-all}
+use Rattle.rewritten_types.proofs.Lookups.{find-all, place-all}
 use Rattle.rewritten_types.proofs.Refused.{declared_once}
 use Rattle.rewritten_values.specs.Values.{is_known}
 use Rattle.ada_value.specs.StaticLaw.{HasSmallLiterals}
@@ -43,8 +42,8 @@ use Rattle.legal_sites.specs.Met.{IsMet, IsCheckMet}
 use Rattle.legal_sites.proofs.Meeting.{all_met, all_check_met}
 use Rattle.normal_legal_walk.specs.Gives.{Known, Gives}
 use Rattle.normal_legal_walk.proofs.Walk.{body-as-asked}
-use Rattle.legal_entries.proofs.Lists.{some-same, found-place, found-passes}
-use Rattle.normal_legal_seen.proofs.Finding.{found-some, no-place}
+use Rattle.legal_entries.proofs.Lists.{found-place}
+use Rattle.normal_legal_seen.proofs.Finding.{no-place}
 use Rattle.legal_entries.proofs.Entries.{numbers, g, IsTaskOf}
 use Rattle.normal_legal_seen.proofs.Parts.{AreRanged, IsUnit, MainSeen, is_called, AtMostOnce}
 use Rattle.normal_legal_seen.proofs.Bodies.{PlaceSeen, first-seen, decls-step, main-seen, accept-seen, handling-seen, loop-seen}
@@ -55,6 +54,8 @@ use Rattle.normal_legal_text.proofs.HeadsAsked.{head-asked}
 use Rattle.normal_legal_text.proofs.Callees.{callee-known}
 use Rattle.normal_legal_text.proofs.CalleesAsked.{CalleesKnown, callee-asked}
 use Rattle.normal_legal_text.proofs.Calls.{call-asked}
+use Rattle.common_lemmas.proofs.Lists.{all_back, all_front, all_weaker, found_passes, found_some}
+use Rattle.common_lemmas.proofs.Options.{some_same}
 
 -- each name is the original's, and each integer literal a number of INTEGER
 abbrev pub text_rules : (ℕ → Bool) → Rules
@@ -120,7 +121,7 @@ module _ (p : PProgram) (made : Setting) (is_old is_fixed : ℕ → Bool) (Typed
     both-all (x ∷ xs) m l = ((m.0, l.0), both-all xs m.1 l.1)
 
     met : (xs : List Site) → AllByRecursion Place xs → AllByRecursion IsMet xs
-    met xs at = all-weaker Place IsMet xs (λ x m. m.0) at
+    met xs at = all_weaker Place IsMet xs (λ x m. m.0) at
 
     -- ---- the places of the program
 
@@ -252,7 +253,7 @@ module _ (p : PProgram) (made : Setting) (is_old is_fixed : ℕ → Bool) (Typed
       -- the first task of a unit is one beside main
       unit-there : (m : ℕ) (info : TaskInfo) (t : PTask) → IsUnit p T t → slice_get (numbers p T).tasks m ≡ Some info → (info.unit.0 == t.name.name.0) ≡ true → (x : NumberedTask) × IsTaskOf p T m x × (x.unit ≡ t)
       unit-there zero info t unit e f =
-          absurd (true≢false (sym (ap (λ (i : TaskInfo). i.unit.0 == t.name.name.0) (some-same e) ∙ f) ∙ find-all (λ (u : PTask). (p.name.name.0 == u.name.name.0) ≡ false) (λ (u : PTask). u.name.name.0 == t.name.name.0) (tasks_of p) t tasks-apart unit))
+          absurd (true≢false (sym (ap (λ (i : TaskInfo). i.unit.0 == t.name.name.0) (some_same e) ∙ f) ∙ find-all (λ (u : PTask). (p.name.name.0 == u.name.name.0) ≡ false) (λ (u : PTask). u.name.name.0 == t.name.name.0) (tasks_of p) t tasks-apart unit))
       unit-there (suc k) info t unit e f =
           let x = mapped-place p T parts-known (numbered_tasks T p) k info e in
           let own : IsUnit p T x.0.unit = place-all (λ (y : NumberedTask). IsUnit p T y.unit) (numbered_tasks T p) k x.0 (numbered-tasks-units p T parts-known) x.1 in
@@ -274,10 +275,10 @@ module _ (p : PProgram) (made : Setting) (is_old is_fixed : ℕ → Bool) (Typed
           let own : IsUnit p T x.0.unit = place-all (λ (y : NumberedTask). IsUnit p T y.unit) (numbered_tasks T p) k x.0 (numbered-tasks-units p T parts-known) x.1 in
           let runs : IsTaskOf p T (suc k) x.0 = record { place = k; number = refl; numbered_task = x.1; unit = own } in
           let runs_it : TaskInfo → Bool = λ i. i.unit.0 == info.0.unit.0 in
-          let some = found-some runs_it (numbers p T).tasks (suc k) info.0 info.1 (eq-eqb info.0.unit.0 info.0.unit.0 refl) in
+          let some = found_some runs_it (numbers p T).tasks (suc k) info.0 info.1 (eq-eqb info.0.unit.0 info.0.unit.0 refl) in
           let place = found-place runs_it (numbers p T).tasks some.0 some.1 in
           let unit : info.0.unit ≡ x.0.unit.name.name = ap (λ (i : TaskInfo). i.unit) x.2 in
-          let passes : (some.0.unit.0 == x.0.unit.name.name.0) ≡ true = subst (λ (n : NameId). (some.0.unit.0 == n.0) ≡ true) unit (found-passes runs_it (numbers p T).tasks some.0 some.1) in
+          let passes : (some.0.unit.0 == x.0.unit.name.name.0) ≡ true = subst (λ (n : NameId). (some.0.unit.0 == n.0) ≡ true) unit (found_passes runs_it (numbers p T).tasks some.0 some.1) in
           let first = unit-there place.0 some.0 x.0.unit own place.1 passes in
           let number : first_running (g p T) info.0.unit ≡ place.0 = ap (λ o. unwrap_or o 0) place.2 in
           record {

@@ -17,7 +17,6 @@ use Rattle.ada_value.specs.Values.{lies_in, integer_limits, truth_limits, limits
 use Rattle.task_model.specs.Setting.{is_family, is_family_in, family_limits, formals_of_info}
 use Rattle.task_model.specs.Starting.{unit_of}
 use Rattle.normal_model.specs.Ranges.{marked, integer_subtype, truth_subtype, subtype_of_range, range_subtype, family_range, range_of_info}
-use Rattle.rewritten_types.proofs.Lookups.{all-weaker}
 use Rattle.rewritten_values.specs.Values.{old_names}
 use Rattle.normal_types.specs.Own.{own_name}
 use Rattle.normal_law.specs.Suited.{SameRange, limits_of_form, declared_limits, AreMarked, none_marked, marked_then}
@@ -30,6 +29,7 @@ use Rattle.normal_legal_types.specs.Laws.{LegalIsReady, MarksAgree, FamiliesAgre
 use Rattle.normal_legal_types.proofs.Numbers.{IsEntryOf, range-is}
 use Rattle.normal_legal_types.proofs.Forms.{HasForm, truth-form, integer-form, mark-form, range-form}
 use Rattle.normal_legal_types.proofs.Subtypes.{own_rule, entry-known, IsScalarFormal, formals-known, IsScalarDecl, unit-scalar}
+use Rattle.common_lemmas.proofs.Lists.{all_weaker}
 
 -- A legal program that is well placed, with the names of every program, small enumerations and names of its own.
 pub ready-legal : LegalIsReady
@@ -102,8 +102,8 @@ module _ (p : PProgram) where
     decl-scalar t (DTaskBody w ds b s) h = tt
 
     pub scalar : (t : ℕ) → AllByRecursion (IsScalar V) (variables_of p t)
-    scalar zero = all-weaker _ _ (variables_of p zero) (decl-scalar 0) (unit-scalar p ready 0 p.body)
-    scalar (suc t) = all-weaker _ _ (variables_of p (suc t)) (decl-scalar (first_task p (suc t))) (unit-scalar p ready (first_task p (suc t)) (unit_of p (numbers_of p) (suc t)).body)
+    scalar zero = all_weaker _ _ (variables_of p zero) (decl-scalar 0) (unit-scalar p ready 0 p.body)
+    scalar (suc t) = all_weaker _ _ (variables_of p (suc t)) (decl-scalar (first_task p (suc t))) (unit-scalar p ready (first_task p (suc t)) (unit_of p (numbers_of p) (suc t)).body)
 
 pub marks : MarksAgree
 marks p inputs ready e = marks-are p ready inputs e

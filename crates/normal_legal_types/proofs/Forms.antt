@@ -1,7 +1,6 @@
 -- The subtypes of variables by the table of types of the normal form.
-use Rattle.std.proofs.Common.{◌≡◌, ◌<◌, ℕ, zero, suc, Bool, true, false, not, ◌||◌, ◌&&◌, ◌==◌, nat_lt, nat_eq, List, [], ◌∷◌, length, take, is_some, slice_get, unwrap_or, codes, Option, Some, None, refl, sym, ap, ap₂, ◌∙◌, subst, true≢false, eqb-true, arith}
+use Rattle.std.proofs.Common.{◌≡◌, ◌<◌, ℕ, zero, suc, Bool, true, false, not, ◌||◌, ◌&&◌, ◌==◌, nat_eq, List, [], ◌∷◌, length, take, is_some, slice_get, unwrap_or, codes, Option, Some, None, refl, sym, ap, ap₂, ◌∙◌, subst, true≢false, eqb-true, arith}
 use Rattle.std.specs.List.{AllByRecursion, starts_with}
-use Rattle.std.proofs.lemmas.Bool.Decides.{nat_tests}
 use Rattle.std.proofs.lemmas.Option.{none-some, slice_get_within}
 use Rattle.std.proofs.lemmas.List.Elements.{recursion_from_All}
 use Rattle.ada_tree.specs.declared.naming.NameId.{NameId}
@@ -42,6 +41,8 @@ use Rattle.normal_types.proofs.Normal.{normal_agrees}
 use Rattle.normal_types.proofs.RangeForms.{range_forms}
 use Rattle.legal_types.specs.Typed.{HasLimits, HasTypeName, IsScalarName}
 use Rattle.legal_types.proofs.MainScopes.{grows-decls}
+use Rattle.common_lemmas.proofs.Lists.{element_at}
+use Rattle.common_lemmas.proofs.Numbers.{lt_is, lt_true}
 
 -- a scalar subtype of a variable
 pub record HasForm (U : TypeTable) (x : PSubind) (limits : Limits) : Type 0 where
@@ -82,17 +83,6 @@ taken-at (suc n) [] k y g = absurd (none-some y g)
 taken-at (suc n) (x ∷ xs) zero y g = g
 taken-at (suc n) (x ∷ xs) (suc k) y g = taken-at n xs k y g
 
-within : {A : Type 0} (xs : List A) (k : ℕ) → k < length xs → (x : A) × (slice_get xs k ≡ Some x)
-within [] k l = let y : ⊥ = omega (arith, l) in absurd y
-within (x ∷ xs) zero l = (x, refl)
-within (x ∷ xs) (suc k) l = within xs k (omega (arith, l))
-
-less-true : (a b : ℕ) → a < b → nat_lt a b ≡ true
-less-true a b l = grind (arith, nat_tests)
-
-less-of : (a b : ℕ) → nat_lt a b ≡ true → a < b
-less-of a b e = grind (arith, nat_tests)
-
 -- no predefined name begins with DED_
 all-plain : AllByRecursion (λ t. starts_with nat_eq t (codes "DED_") ≡ false) predefined
 all-plain = (
@@ -104,9 +94,9 @@ module _ (p : PProgram) (names : AreNames p.names) where
   -- a predefined name is the program's own
   pub predefined-own : (n : ℕ) → n < 18 → own_name p n ≡ true
   predefined-own n l =
-      let t = within predefined n (omega (arith, l)) in
+      let t = element_at predefined n (omega (arith, l)) in
       let at : slice_get p.names n ≡ Some t.0 = taken-at (length predefined) p.names n t.0 (ap (λ x. slice_get x n) names.begins ∙ t.1) in
-      ap₂ (λ a b. a && not (starts_with nat_eq b (codes "DED_"))) (less-true n (length p.names) (slice_get_within p.names n t.0 at)) (ap (λ o. unwrap_or o []) at)
+      ap₂ (λ a b. a && not (starts_with nat_eq b (codes "DED_"))) (lt_true n (length p.names) (slice_get_within p.names n t.0 at)) (ap (λ o. unwrap_or o []) at)
       ∙ ap not (place-all (λ x. starts_with nat_eq x (codes "DED_") ≡ false) predefined n t.0 all-plain t.1)
 
   abbrev own : ℕ → Bool
@@ -151,7 +141,7 @@ module _ (p : PProgram) (names : AreNames p.names) where
   used-own s n h e = by_test (is_predefined n) refl e
     where
       by_test : (b : Bool) → is_predefined n ≡ b → (b || is_among s.here n) ≡ true → own n ≡ true
-      by_test true f g = predefined-own n (less-of n 18 f)
+      by_test true f g = predefined-own n (lt_is n 18 f)
       by_test false f g = among-own s.here n h g
 
   module _ (ordered : IsOrdered p) (every : EveryProgram (old_names own) p) where

@@ -19,7 +19,8 @@ use Rattle.task_model.specs.Setting.{Setting, unit_named, formals_of_entry, form
 use Rattle.normal_model.specs.Ranges.{range_of_entry, range_in, range_of_unit, range_of_info}
 use Rattle.normal_types.specs.Laws.{setting_of}
 use Rattle.legal_types.specs.Typed.{IsFirstEntry, IsFirstTask}
-use Rattle.rewritten_types.proofs.Lookups.{all-append, place-all}
+use Rattle.rewritten_types.proofs.Lookups.{place-all}
+use Rattle.common_lemmas.proofs.Lists.{all_joined, append_last, seam_there}
 
 -- what is asked of each entry with its task
 abbrev pub EntryRule : Type 1
@@ -48,14 +49,6 @@ pub record IsRuled (p : PProgram) (Q : EntryRule) (t : PTask) : Type 0 where
 
 -- ---- lists
 
-place-behind : {A : Type 0} (before : List A) (x : A) (behind : List A) → slice_get (before ++ x ∷ behind) (length before) ≡ Some x
-place-behind [] x behind = refl
-place-behind (y ∷ before) x behind = place-behind before x behind
-
-append-last : {A : Type 0} (before : List A) (x : A) (behind : List A) → (before ++ x ∷ []) ++ behind ≡ before ++ x ∷ behind
-append-last [] x behind = refl
-append-last (y ∷ before) x behind = ap (λ l. y ∷ l) (append-last before x behind)
-
 longer : {A : Type 0} (before : List A) (x : A) → length (before ++ x ∷ []) ≡ length before + 1
 longer [] x = refl
 longer (y ∷ before) x = let e = longer before x in omega arith
@@ -74,7 +67,7 @@ module _ (P : PTask → Type 0) (T : TypeTable) where
 
   numbered-task-units : (xs : List NamedTasks) → AllByRecursion (λ (x : NamedTasks). P x.unit) xs → AllByRecursion (λ (y : NumberedTask). P y.unit) (flat_map (tasks_of_name T) xs)
   numbered-task-units [] h = tt
-  numbered-task-units (x ∷ xs) h = all-append (λ (y : NumberedTask). P y.unit) (tasks_of_name T x) (flat_map (tasks_of_name T) xs) (row-units x h.0 x.index_range) (numbered-task-units xs h.1)
+  numbered-task-units (x ∷ xs) h = all_joined (λ (y : NumberedTask). P y.unit) (tasks_of_name T x) (flat_map (tasks_of_name T) xs) (row-units x h.0 x.index_range) (numbered-task-units xs h.1)
 
 -- ---- entries
 
@@ -96,9 +89,9 @@ module _ (p : PProgram) (Q : EntryRule) where
   all-entries (x ∷ rest) before t e h =
       let y = info_of_task p.names x in
       let tasks = before ++ y ∷ map (info_of_task p.names) rest in
-      all-append (IsEntryOf p Q tasks) (map (entry_of_task p.names T t x) x.unit.entries) (entries_of_tasks p.names T (t + 1) rest)
-      (entries-of tasks t x (subst (λ n. slice_get tasks n ≡ Some y) e (place-behind before y (map (info_of_task p.names) rest))) h.0.first x.unit.entries h.0.entries h.0.found)
-      (subst (λ l. AllByRecursion (IsEntryOf p Q l) (entries_of_tasks p.names T (t + 1) rest)) (append-last before y (map (info_of_task p.names) rest))
+      all_joined (IsEntryOf p Q tasks) (map (entry_of_task p.names T t x) x.unit.entries) (entries_of_tasks p.names T (t + 1) rest)
+      (entries-of tasks t x (subst (λ n. slice_get tasks n ≡ Some y) e (seam_there before y (map (info_of_task p.names) rest))) h.0.first x.unit.entries h.0.entries h.0.found)
+      (subst (λ l. AllByRecursion (IsEntryOf p Q l) (entries_of_tasks p.names T (t + 1) rest)) (append_last before y (map (info_of_task p.names) rest))
       (all-entries rest (before ++ y ∷ []) (t + 1) (longer before y ∙ ap (λ n. n + 1) e) h.1))
 
   -- what an entry stands for says nothing of this

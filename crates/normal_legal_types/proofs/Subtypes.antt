@@ -30,7 +30,7 @@ use Rattle.normal_model.specs.Aborts.{abort_subtypes}
 use Rattle.normal_model.specs.Variables.{variables_declared, more_variables, statement_variables}
 use Rattle.normal_model.specs.NormalStmts.{normal_rewriter, unit_variables}
 use Rattle.normal_model.specs.NormalTree.{normal_tree}
-use Rattle.rewritten_types.proofs.Lookups.{find-all, all-append}
+use Rattle.rewritten_types.proofs.Lookups.{find-all}
 use Rattle.rewritten_values.specs.Values.{old_names}
 use Rattle.normal_types.specs.Own.{own_name}
 use Rattle.normal_types.specs.Laws.{setting_of}
@@ -40,6 +40,7 @@ use Rattle.legal_types.proofs.TaskTypes.{part-units}
 use Rattle.normal_legal_types.specs.Ready.{IsReady}
 use Rattle.normal_legal_types.proofs.Numbers.{EntryRule, IsRuled, IsEntryOf, entry-of, formals-are, range-is}
 use Rattle.normal_legal_types.proofs.Forms.{HasForm, truth-form, integer-form, mark-form, range-form}
+use Rattle.common_lemmas.proofs.Lists.{all_joined}
 
 -- ---- tasks and parts, with names that are the program's own
 
@@ -75,8 +76,8 @@ single-rows rules false t sp = (tt, tt)
 
 parts-every : (rules : Rules) (ds : PDecls) (kinds : List PTask) → EveryDecls rules ds → AllByRecursion (RangeEvery rules) (task_names_in kinds ds)
 parts-every rules no_decl kinds h = tt
-parts-every rules (decl_then (DTask t sp) rest) kinds h = all-append (RangeEvery rules) (single_task_name t.of_kind t sp) _ (single-rows rules t.of_kind t sp) (parts-every rules rest (with_type kinds t.of_kind t) h.1)
-parts-every rules (decl_then (DObject ws constant shape init sp) rest) kinds h = all-append (RangeEvery rules) (object_task_names kinds ws shape) _ (object-rows rules kinds ws shape h.0.2) (parts-every rules rest kinds h.1)
+parts-every rules (decl_then (DTask t sp) rest) kinds h = all_joined (RangeEvery rules) (single_task_name t.of_kind t sp) _ (single-rows rules t.of_kind t sp) (parts-every rules rest (with_type kinds t.of_kind t) h.1)
+parts-every rules (decl_then (DObject ws constant shape init sp) rest) kinds h = all_joined (RangeEvery rules) (object_task_names kinds ws shape) _ (object-rows rules kinds ws shape h.0.2) (parts-every rules rest kinds h.1)
 parts-every rules (decl_then (DNumber name e sp) rest) kinds h = parts-every rules rest kinds h.1
 parts-every rules (decl_then (DEnumeration name ws sp) rest) kinds h = parts-every rules rest kinds h.1
 parts-every rules (decl_then (DArray name index x sp) rest) kinds h = parts-every rules rest kinds h.1
@@ -191,7 +192,7 @@ module _ (p : PProgram) (ready : IsReady p) where
 
   slots-of : (fs : List PFormal) → AllByRecursion IsScalarFormal fs → AllByRecursion IsScalarSlot (slots_of fs)
   slots-of [] h = tt
-  slots-of (f ∷ fs) h = all-append IsScalarSlot (map (λ w. record { mode = f.mode; mark = f.mark }) f.names) (slots_of fs) (of-names f.names) (slots-of fs h.1)
+  slots-of (f ∷ fs) h = all_joined IsScalarSlot (map (λ w. record { mode = f.mode; mark = f.mark }) f.names) (slots_of fs) (of-names f.names) (slots-of fs h.1)
     where
       of-names : (ws : List Word) → AllByRecursion IsScalarSlot (map (λ w. record { mode = f.mode; mark = f.mark }) ws)
       of-names [] = tt
@@ -217,7 +218,7 @@ module _ (p : PProgram) (ready : IsReady p) where
 
   call-scalar : (s : Span) (c : PCall) → AreScalar (call_subtypes g s c)
   call-scalar s c =
-      all-append (IsScalarSubtype V) (kept_subtypes (indices_kept g s c)) (actual_subtypes (slots_called g c) (lists_called g c).actuals)
+      all_joined (IsScalarSubtype V) (kept_subtypes (indices_kept g s c)) (actual_subtypes (slots_called g c) (lists_called g c).actuals)
       (kept-append (callee_kept g s c.task) _ (callee-scalar s c.task) (kept-scalar _ (lists_called g c).index (family-subtype s (entry_called g c))))
       (actuals-scalar (slots_called g c) (lists_called g c).actuals (slots-of _ (formals-known (entry_at numbers (entry_called g c)) (entry_called g c) refl)))
 
@@ -226,11 +227,11 @@ module _ (p : PProgram) (ready : IsReady p) where
   flag-scalar false s = tt
 
   select-scalar : (s : Span) (c : PCall) → AreScalar (select_subtypes g s c)
-  select-scalar s c = all-append (IsScalarSubtype V) (call_subtypes g s c) (flag_subtypes (is_chosen g c) s) (call-scalar s c) (flag-scalar (is_chosen g c) s)
+  select-scalar s c = all_joined (IsScalarSubtype V) (call_subtypes g s c) (flag_subtypes (is_chosen g c) s) (call-scalar s c) (flag-scalar (is_chosen g c) s)
 
   aborts-scalar : (s : Span) (cs : List PCallee) → AreScalar (abort_subtypes g s cs)
   aborts-scalar s [] = tt
-  aborts-scalar s (c ∷ cs) = all-append (IsScalarSubtype V) (kept_subtypes (callee_kept g s c)) (abort_subtypes g s cs) (callee-scalar s c) (aborts-scalar s cs)
+  aborts-scalar s (c ∷ cs) = all_joined (IsScalarSubtype V) (kept_subtypes (callee_kept g s c)) (abort_subtypes g s cs) (callee-scalar s c) (aborts-scalar s cs)
 
   module _ (task : ℕ) where
     abbrev u : Unit
@@ -249,7 +250,7 @@ module _ (p : PProgram) (ready : IsReady p) where
     guard-scalar s (Some e) = ((truth_limits, truth-form (normal_tree p T numbers) s), tt)
 
     alternative-scalar : (x : PAlt) → AreScalar (alternative_subtypes u x)
-    alternative-scalar (alternative guard what s) = all-append (IsScalarSubtype V) (guard_subtypes s guard) (kept_subtypes (kind_kept u s what)) (guard-scalar s guard) (kind-scalar s what)
+    alternative-scalar (alternative guard what s) = all_joined (IsScalarSubtype V) (guard_subtypes s guard) (kept_subtypes (kind_kept u s what)) (guard-scalar s guard) (kind-scalar s what)
 
     -- a declared variable of a scalar subtype
     abbrev pub IsScalarDecl : PDecl → Type 0
@@ -261,7 +262,7 @@ module _ (p : PProgram) (ready : IsReady p) where
     declared-scalar s (x ∷ xs) k h = (h.0, declared-scalar s xs (k + 1) h.1)
 
     more-scalar : (s : Span) (xs : List PSubind) (vars : List PDecl) → AreScalar xs → AllByRecursion IsScalarDecl vars → AllByRecursion IsScalarDecl (more_variables u s xs vars)
-    more-scalar s xs vars h k = all-append IsScalarDecl vars (variables_declared g s xs (length vars)) k (declared-scalar s xs (length vars) h)
+    more-scalar s xs vars h k = all_joined IsScalarDecl vars (variables_declared g s xs (length vars)) k (declared-scalar s xs (length vars) h)
 
     statement-scalar : (vars : List PDecl) (x : PStmt) → AllByRecursion IsScalarDecl vars → AllByRecursion IsScalarDecl (statement_variables u vars x)
     statement-scalar vars (SCall c s) h = more-scalar s _ vars (call-scalar s c) h

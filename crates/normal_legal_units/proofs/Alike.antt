@@ -1,5 +1,5 @@
 -- Formals that the rule ArgCount finds the same have the same modes and subtypes.
-use Rattle.std.proofs.Common.{◌≡◌, ℕ, Bool, true, false, ◌&&◌, ◌==◌, List, [], ◌∷◌, ◌++◌, map, refl, sym, ap, ap₂, subst, ◌∙◌, true≢false}
+use Rattle.std.proofs.Common.{◌≡◌, ℕ, true, false, ◌&&◌, ◌==◌, List, [], ◌∷◌, ◌++◌, map, refl, sym, ap, ap₂, subst, ◌∙◌, true≢false}
 use Rattle.std.proofs.lemmas.Bool.{eqb-true}
 use Rattle.std.proofs.lemmas.List.{map-append}
 use Rattle.ada_tree.specs.declared.naming.NameId.{NameId}
@@ -15,10 +15,7 @@ use Rattle.ada_value.specs.Values.{limits_named}
 use Rattle.task_model.specs.declared.parameters.FormalParameter.{FormalParameter}
 use Rattle.task_model.specs.Setting.{parameters_of}
 use Rattle.task_invariants.specs.Holding.{AreAlike}
-
-pub and-both : (a b : Bool) → (a && b) ≡ true → (a ≡ true) × (b ≡ true)
-and-both true b e = (refl, e)
-and-both false b e = absurd (true≢false (sym e))
+use Rattle.common_lemmas.proofs.Truth.{and_both}
 
 mode-same : (m n : ParMode) → same_mode m n ≡ true → n ≡ m
 mode-same Take Take e = refl
@@ -67,9 +64,9 @@ module _ (T : TypeTable) where
   rows-alike [] (f ∷ fs) e = absurd (true≢false (sym e))
   rows-alike (w ∷ ws) [] e = absurd (true≢false (sym e))
   rows-alike (w ∷ ws) (f ∷ fs) e =
-      let last = and-both ((w.name.0 == f.name.0) && same_mode w.mode f.mode && (w.mark.0 == f.mark.0)) (are_same ws fs) e in
-      let third = and-both ((w.name.0 == f.name.0) && same_mode w.mode f.mode) (w.mark.0 == f.mark.0) last.0 in
-      let second = and-both (w.name.0 == f.name.0) (same_mode w.mode f.mode) third.0 in
+      let last = and_both ((w.name.0 == f.name.0) && same_mode w.mode f.mode && (w.mark.0 == f.mark.0)) (are_same ws fs) e in
+      let third = and_both ((w.name.0 == f.name.0) && same_mode w.mode f.mode) (w.mark.0 == f.mark.0) last.0 in
+      let second = and_both (w.name.0 == f.name.0) (same_mode w.mode f.mode) third.0 in
       ((mode-same w.mode f.mode second.1, ap (λ (n : ℕ). limits_named T record { 0 = n }) (sym (eqb-true w.mark.0 f.mark.0 third.1))), rows-alike ws fs last.1)
 
   -- formals that are the same

@@ -12,17 +12,17 @@ use Rattle.legal_types.proofs.ApartNames.{marks-lack}
 use Rattle.legal_types.proofs.InnerScopes.{IsApartLocal, AreApart}
 use Rattle.legal_types.proofs.AllAddressed.{callees-told}
 use Rattle.legal_sites.specs.Met.{IsAddressed}
-use Rattle.legal_sites.proofs.Meeting.{all-front}
 use Rattle.normal_legal_units.specs.Laws.{IsFreeLocal}
 use Rattle.normal_legal_units.proofs.Fixing.{IsApart, locals-apart}
 use Rattle.normal_legal_units.proofs.Lacking.{locals-free}
+use Rattle.common_lemmas.proofs.Lists.{all_front}
 
 local-apart : (p : PProgram) (d : Demand) → IsApart [] (sites p) d → IsFreeLocal (types_in p) d → IsApartLocal (types_in p) d
 local-apart p (declares false w) h free =
     let s = first_scope p.name in
     record {
       value = free;
-      mark = marks-lack w.name.0 p.name p.decls h.0 (all-front _ (decls_sites s p.decls) (body_sites (inside (after_decls s p.decls)) p.body) h.1.1.1);
+      mark = marks-lack w.name.0 p.name p.decls h.0 (all_front _ (decls_sites s p.decls) (body_sites (inside (after_decls s p.decls)) p.body) h.1.1.1);
     }
 local-apart p _ h free = tt
 

@@ -21,20 +21,21 @@ use Rattle.ada_tree.specs.RuleDuplicate.{is_predefined, is_among, fixes, introdu
 use Rattle.ada_tree.specs.Declaring.{before_all, first_scope, inside, with_types, subind_made, made_subind, drange_range, made_array, object_of, Declared, plain_object, array_object, declared_object, of_made, add_constants, constant_mark, constant_value, kind_at_mark, initial_value, with_constants, after_decl, after_decls}
 use Rattle.ada_value.specs.declared.values.Form.{Form}
 use Rattle.task_model.specs.Starting.{form_of}
-use Rattle.rewritten_types.proofs.Lookups.{place-last, all-weaker}
 use Rattle.rewritten_types.proofs.Adding.{names-types}
 use Rattle.legal_sites.specs.Met.{IsMet}
-use Rattle.legal_sites.proofs.Meeting.{all-front, all-back, all_met, filled-not, front-empty, back-empty}
-use Rattle.normal_legal_units.proofs.Fixing.{Differs, AllDiffer, no-word, duplicate-at, all-before, later}
+use Rattle.legal_sites.proofs.Meeting.{all_met}
+use Rattle.normal_legal_units.proofs.Fixing.{Differs, AllDiffer, all-before, later}
 use Rattle.rewritten_values.specs.Values.{AgreeOnValues}
 use Rattle.normal_legal_units.proofs.Plain.{ArrayFree, ArraysFree}
 use Rattle.normal_legal_units.proofs.Lacking.{Lacks, no-task, no-row, declared-lacks, decl-lacks, decl-main, decls-lack, first-lacks, lacks-value}
+use Rattle.common_lemmas.proofs.Lists.{all_back, all_front, all_weaker, back_empty, front_empty, last_at, not_empty}
+use Rattle.rewritten_types.proofs.Refused.{no_duplicate, no_word}
 
 -- ---- an array constant adds no constant
 
 -- the initial value of an array is no single expression
 no-single : (s : Scope) (r : Range) (e : PExpr) → IsMet (site s (initializes (for_array r) (IOne e))) → ⊥
-no-single s r e h = filled-not _ _ h.arrays
+no-single s r e h = not_empty _ _ h.arrays
 
 init-none : (s : Scope) (T : TypeTable) (m : Marking) (k : ℕ) (i : Option PInit) (mark : ℕ) (r : Range) (part : ℕ) → m ≡ ArrayMark mark r part → AllByRecursion IsMet (if_there (init_sites s T m) i) → initial_value s k i ≡ None
 init-none s T m k None mark r part e h = refl
@@ -42,7 +43,7 @@ init-none s T m k (Some (IList es sp)) mark r part e h = refl
 init-none s T m k (Some (IOthers x sp)) mark r part e h = refl
 init-none s T m k (Some (IOne x)) mark r part e h =
     let g : AllByRecursion IsMet (init_sites s T (ArrayMark mark r part) (IOne x)) = subst (λ (n : Marking). AllByRecursion IsMet (init_sites s T n (IOne x))) e h in
-    absurd (no-single s r x (all-back IsMet (array_init_sites s (range_of_mark T part) (IOne x)) (site s (initializes (for_array r) (IOne x)) ∷ []) g).0)
+    absurd (no-single s r x (all_back IsMet (array_init_sites s (range_of_mark T part) (IOne x)) (site s (initializes (for_array r) (IOne x)) ∷ []) g).0)
 
 -- an array's mark, or another
 abbrev IsNoArray : Marking → Type 0
@@ -123,8 +124,8 @@ made-adds s i T (Some r) (Some q) h ws = ap (λ z. add_constants ws (Some n) z U
 
     is-array : marking_of_mark (made_array None T (Some r) (Some q)).types (length T.marks) (mark_at (made_array None T (Some r) (Some q)).types (length T.marks)) ≡ ArrayMark (length T.marks) record { kind = r.kind; first = r.first; last = r.last } q
     is-array =
-        ap (marking_of_mark (made_array None T (Some r) (Some q)).types (length T.marks)) (place-last T.marks record { name = None; kind = length T.kinds; first = r.first; last = r.last })
-        ∙ ap (marking_of_kind (length T.marks) (length T.kinds)) (place-last T.kinds (Array r.kind r.first r.last q))
+        ap (marking_of_mark (made_array None T (Some r) (Some q)).types (length T.marks)) (last_at T.marks record { name = None; kind = length T.kinds; first = r.first; last = r.last })
+        ∙ ap (marking_of_kind (length T.marks) (length T.kinds)) (last_at T.kinds (Array r.kind r.first r.last q))
 
 row-adds : (s : Scope) (index : PDrange) (x : PSubind) (i : Option PInit) (m : Marking) → InitMet s (array_object s true m index x) i → NoConstant s (array_object s true m index x) i
 row-adds s index x i (TaskMark es) h = none-added s (array_object s true (TaskMark es) index x) i (no-row 0 s.in_main (drange_range s index) es)
@@ -144,7 +145,7 @@ onto (x ∷ xs) before = onto xs (x ∷ before)
 behind : (xs ys before : List Site) → refused_from before (xs ++ ys) ≡ [] → refused_from (onto xs before) ys ≡ []
 unfolding onto
 behind [] ys before e = e
-behind (x ∷ xs) ys before e = behind xs ys (x ∷ before) (back-empty (refused_at before x) (refused_from (x ∷ before) (xs ++ ys)) e)
+behind (x ∷ xs) ys before e = behind xs ys (x ∷ before) (back_empty (refused_at before x) (refused_from (x ∷ before) (xs ++ ys)) e)
 
 onto-differ : (n : ℕ) (xs before : List Site) → AllDiffer n (onto xs before) → AllDiffer n xs × AllDiffer n before
 unfolding onto
@@ -160,18 +161,18 @@ words-alone fixed [] s before more e = tt
 words-alone fixed (w ∷ ws) s before more e =
     let x = site s (declares fixed w) in
     let names = names_sites fixed (record s { here = w.name.0 ∷ s.here }) ws in
-    let d = duplicate-at before x (front-empty (refused_at before x) (refused_from (x ∷ before) (names ++ more)) e) in
-    let rest = back-empty (refused_at before x) (refused_from (x ∷ before) (names ++ more)) e in
-    let none = or_parts (is_predefined w.name.0 || is_among s.here w.name.0 || list_any (fixes w.name.0) before) (fixed && list_any (introduces w.name.0) before) (no-word _ w d) in
+    let d = no_duplicate before x (front_empty (refused_at before x) (refused_from (x ∷ before) (names ++ more)) e) in
+    let rest = back_empty (refused_at before x) (refused_from (x ∷ before) (names ++ more)) e in
+    let none = or_parts (is_predefined w.name.0 || is_among s.here w.name.0 || list_any (fixes w.name.0) before) (fixed && list_any (introduces w.name.0) before) (no_word _ w d) in
     let fixing = or_parts (is_predefined w.name.0 || is_among s.here w.name.0) (list_any (fixes w.name.0) before) none.0 in (
       (
         (or_parts (is_predefined w.name.0) (is_among s.here w.name.0) fixing.0).0,
         (
           all-before before w.name.0 fixing.1,
-          all-back (λ (y : Site). Differs w.name.0 y.demand) names more (later (names ++ more) (x ∷ before) w.name.0 rest (or_left (w.name.0 == w.name.0) (list_any (introduces w.name.0) before) (eq-eqb w.name.0 w.name.0 refl))),
+          all_back (λ (y : Site). Differs w.name.0 y.demand) names more (later (names ++ more) (x ∷ before) w.name.0 rest (or_left (w.name.0 == w.name.0) (list_any (introduces w.name.0) before) (eq-eqb w.name.0 w.name.0 refl))),
         ),
       ),
-      all-weaker _ _ ws (λ v h. (h.0, (h.1.0.1, h.1.1))) (words-alone fixed ws (record s { here = w.name.0 ∷ s.here }) (x ∷ before) more rest),
+      all_weaker _ _ ws (λ v h. (h.0, (h.1.0.1, h.1.1))) (words-alone fixed ws (record s { here = w.name.0 ∷ s.here }) (x ∷ before) more rest),
     )
 
 -- ---- along the declarations of main
@@ -232,10 +233,10 @@ module _ (old : ℕ → Bool) (T U : TypeTable) (before after : List (List ℕ))
       let two = shape_sites s true x i in
       let three = if_there (init_sites s d.types (object_marking d)) i in
       let four = decls_sites (after_decl s (DObject ws true x i sp)) rest in
-      let none = array-adds T s ws x i sp still (all-back IsMet (one ++ two) three m) form f g in
+      let none = array-adds T s ws x i sp still (all_back IsMet (one ++ two) three m) form f g in
       array-words ws ws x i sp rest s done (two ++ (three ++ (four ++ tail))) main none
       (words-alone fixed ws s done (two ++ (three ++ (four ++ tail))) (ap (refused_from done) (sym (joined-three one two three four tail)) ∙ e))
-      (λ n h. all-front (λ (y : Site). Differs n y.demand) four tail (all-back (λ (y : Site). Differs n y.demand) three (four ++ tail) (all-back (λ (y : Site). Differs n y.demand) two (three ++ (four ++ tail)) h)))
+      (λ n h. all_front (λ (y : Site). Differs n y.demand) four tail (all_back (λ (y : Site). Differs n y.demand) three (four ++ tail) (all_back (λ (y : Site). Differs n y.demand) two (three ++ (four ++ tail)) h)))
       hist q
   decl-free (DObject ws false x i sp) rest s done tail e main m still hist q = tt
   decl-free (DNumber w x sp) rest s done tail e main m still hist q = tt
@@ -252,10 +253,10 @@ module _ (old : ℕ → Bool) (T U : TypeTable) (before after : List (List ℕ))
       ((n : ℕ) → AllDiffer n done → Lacks n s.types) → T ≡ (after_decls s ds).types → ArraysFree old T U before after agree ds
   decls-free no_decl s done tail e main m still hist q = tt
   decls-free (decl_then d rest) s done tail e main m still hist q = (
-    decl-free d rest s done tail e main (all-front IsMet (decl_sites s d) (decls_sites (after_decl s d) rest) m) still.0 hist q,
+    decl-free d rest s done tail e main (all_front IsMet (decl_sites s d) (decls_sites (after_decl s d) rest) m) still.0 hist q,
     decls-free rest (after_decl s d) (onto (decl_sites s d) done) tail
         (behind (decl_sites s d) (decls_sites (after_decl s d) rest ++ tail) done (ap (refused_from done) (sym (append_assoc (decl_sites s d) (decls_sites (after_decl s d) rest) tail)) ∙ e))
-        (decl-main 0 d s ∙ main) (all-back IsMet (decl_sites s d) (decls_sites (after_decl s d) rest) m) still.1
+        (decl-main 0 d s ∙ main) (all_back IsMet (decl_sites s d) (decls_sites (after_decl s d) rest) m) still.1
         (λ n h. let r = onto-differ n (decl_sites s d) done h in decl-lacks n d s main r.0 (hist n r.1)) q,
   )
 
@@ -265,5 +266,5 @@ module _ (old : ℕ → Bool) (T U : TypeTable) (before after : List (List ℕ))
       let s = first_scope p.name in
       let first = site before_all (declares true p.name) in
       let tail = body_sites (inside (after_decls s p.decls)) p.body in
-      decls-free p.decls s (first ∷ []) tail (back-empty (refused_at [] first) (refused_from (first ∷ []) (decls_sites s p.decls ++ tail)) types) refl
-      (all-front IsMet (decls_sites s p.decls) tail (all_met p types).1) still (λ n h. first-lacks n p.name) e
+      decls-free p.decls s (first ∷ []) tail (back_empty (refused_at [] first) (refused_from (first ∷ []) (decls_sites s p.decls ++ tail)) types) refl
+      (all_front IsMet (decls_sites s p.decls) tail (all_met p types).1) still (λ n h. first-lacks n p.name) e

@@ -37,18 +37,21 @@ use Rattle.task_invariants.specs.Holding.{AreAlike}
 use Rattle.task_invariants.specs.Worlds.{Conforms}
 use Rattle.translation_law.specs.OldTexts.{Asked, OldBody}
 use Rattle.rewritten_types.specs.Rewriting.{IsUsed, IsUnused, names_declared, DeclareOnce}
-use Rattle.rewritten_types.proofs.Lookups.{find-only, find-none, place-all}
+use Rattle.rewritten_types.proofs.Lookups.{find-only, place-all}
 use Rattle.rewritten_types.proofs.Refused.{declared_once}
 use Rattle.normal_units.proofs.Declared.{parts-all, numbered-tasks-all}
 use Rattle.normal_legal_walk.specs.Gives.{Known, Gives}
 use Rattle.normal_legal_walk.proofs.Walk.{body-as-asked}
 use Rattle.legal_entries.proofs.Entries.{IsTaskOf, mapped-at, entry-there}
 use Rattle.legal_sites.specs.Met.{IsMet, IsCheckMet}
-use Rattle.legal_sites.proofs.Meeting.{all-front, all-back, all_met, all_check_met, filled-not}
-use Rattle.legal_sites.proofs.Around.{some-same, test-fails}
+use Rattle.legal_sites.proofs.Meeting.{all_met, all_check_met}
+use Rattle.legal_sites.proofs.Around.{test-fails}
 use Rattle.normal_legal_units.proofs.AcceptHeads.{in-body}
-use Rattle.normal_legal_units.proofs.Alike.{and-both, formals-alike}
-use Rattle.normal_legal_units.proofs.Seen.{is_task, IsSeen, AreSeen, tasks_of_decl, decl-seen, first-seen, find-front, others-before}
+use Rattle.normal_legal_units.proofs.Alike.{formals-alike}
+use Rattle.normal_legal_units.proofs.Seen.{is_task, IsSeen, AreSeen, tasks_of_decl, decl-seen, first-seen, others-before}
+use Rattle.common_lemmas.proofs.Lists.{all_back, all_front, find_front, found_none, not_empty}
+use Rattle.common_lemmas.proofs.Options.{some_same}
+use Rattle.common_lemmas.proofs.Truth.{and_both}
 
 -- ---- what stays in a body
 
@@ -130,7 +133,7 @@ named-found around (x ∷ es) id e h = by_test (x.name.name.0 == id.0) h (named-
   where
     by_test : (b : Bool) → (if b then Some x else find (λ y. y.name.name.0 == id.0) es) ≡ Some e → (find (λ y. y.name.name.0 == id.0) es ≡ Some e → entry_named (map (entry_part around) es) id ≡ Some (entry_part around e)) →
         (if b then Some (entry_part around x) else entry_named (map (entry_part around) es) id) ≡ Some (entry_part around e)
-    by_test true f rest = ap (λ (y : PEntry). Some (entry_part around y)) (some-same f)
+    by_test true f rest = ap (λ (y : PEntry). Some (entry_part around y)) (some_same f)
     by_test false f rest = rest f
 
 not-false : (b : Bool) → not b ≡ false → b ≡ true
@@ -152,7 +155,7 @@ module _ (names : List (List ℕ)) where
       let part : entry_named s.own h.entry.name ≡ Some (entry_part around found.0) = ap (λ l. entry_named l h.entry.name) e ∙ named-found around t.entries h.entry.name found.0 found.1 in
       let counted : wrong_accept (Some (entry_part around found.0)) h ≡ [] = ap (λ o. wrong_accept o h) (sym part) ∙ k.0.counted in
       let fits = not-false (fits_accept (entry_part around found.0).family h.index && are_same (written_formals h.formals) (formal_parts around found.0.formals)) (test-fails _ h.entry.span counted) in
-      record { entry = found.0; named = found.1; around = around; same = (and-both (fits_accept (entry_part around found.0).family h.index) _ fits).1 }
+      record { entry = found.0; named = found.1; around = around; same = (and_both (fits_accept (entry_part around found.0).family h.index) _ fits).1 }
 
 module _ (p : PProgram) where
   abbrev T : TypeTable
@@ -223,19 +226,19 @@ module _ (p : PProgram) where
       by_thing : (o : Option Thing) → meaning s w.name ≡ o → no_body_of o w ≡ [] → IsSeen done units w.name (own_entries o)
       by_thing (Some (SingleTask es)) e k = h.things w.name (SingleTask es) e
       by_thing (Some (TaskType es)) e k = h.things w.name (TaskType es) e
-      by_thing (Some (TypeMark m)) e k = absurd (filled-not _ _ k)
-      by_thing (Some (TaskObject es)) e k = absurd (filled-not _ _ k)
-      by_thing (Some (TaskArray r es)) e k = absurd (filled-not _ _ k)
-      by_thing (Some (Variable m)) e k = absurd (filled-not _ _ k)
-      by_thing (Some (ConstantObject m)) e k = absurd (filled-not _ _ k)
-      by_thing (Some (Parameter mode m)) e k = absurd (filled-not _ _ k)
-      by_thing (Some (LoopParameter m)) e k = absurd (filled-not _ _ k)
-      by_thing (Some (Literal m)) e k = absurd (filled-not _ _ k)
-      by_thing (Some AnException) e k = absurd (filled-not _ _ k)
-      by_thing (Some MainProcedure) e k = absurd (filled-not _ _ k)
-      by_thing (Some AnotherUnit) e k = absurd (filled-not _ _ k)
-      by_thing (Some Unclear) e k = absurd (filled-not _ _ k)
-      by_thing None e k = absurd (filled-not _ _ k)
+      by_thing (Some (TypeMark m)) e k = absurd (not_empty _ _ k)
+      by_thing (Some (TaskObject es)) e k = absurd (not_empty _ _ k)
+      by_thing (Some (TaskArray r es)) e k = absurd (not_empty _ _ k)
+      by_thing (Some (Variable m)) e k = absurd (not_empty _ _ k)
+      by_thing (Some (ConstantObject m)) e k = absurd (not_empty _ _ k)
+      by_thing (Some (Parameter mode m)) e k = absurd (not_empty _ _ k)
+      by_thing (Some (LoopParameter m)) e k = absurd (not_empty _ _ k)
+      by_thing (Some (Literal m)) e k = absurd (not_empty _ _ k)
+      by_thing (Some AnException) e k = absurd (not_empty _ _ k)
+      by_thing (Some MainProcedure) e k = absurd (not_empty _ _ k)
+      by_thing (Some AnotherUnit) e k = absurd (not_empty _ _ k)
+      by_thing (Some Unclear) e k = absurd (not_empty _ _ k)
+      by_thing None e k = absurd (not_empty _ _ k)
 
   body-fits : (done rest : List PTask) (w : Word) (ds : PDecls) (b : PBody) (s : Scope) (c : CheckScope) → tasks_of p ≡ done ++ rest → AreSeen done c.units s → no_body_of (meaning s w.name) w ≡ [] → EveryBody (tokens p.names) 1 b →
       AllByRecursion IsMet (body_sites (inside (after_objects (in_body s w) ds)) b) → AllByRecursion met (check.body_sites (check.after_own (check.in_body c w) ds) 1 b) → BodyFits w b
@@ -243,7 +246,7 @@ module _ (p : PProgram) where
       let u = unit-seen done c.units s w seen named in
       record {
         task = u.task;
-        named = ap (find (is_task w.name)) tasks ∙ find-front (is_task w.name) done rest u.task u.found;
+        named = ap (find (is_task w.name)) tasks ∙ find_front (is_task w.name) done rest u.task u.found;
         fits = body-as-asked (asked (HeadFits u.task)) (tokens p.names) (known (map (entry_part u.around) u.task.entries) (Some (check.unit_of u.task)))
             (gives (map (entry_part u.around) u.task.entries) (Some (check.unit_of u.task)) (HeadFits u.task) (λ s c n h k l q. head-fits p.names u.task u.around s c n h k.own k.unit_is l q))
             b (inside (after_objects (in_body s w) ds)) (check.after_own (check.in_body c w) ds) 1
@@ -270,8 +273,8 @@ module _ (p : PProgram) where
   last-named : (done rest : List PTask) (t : PTask) (s : Scope) → tasks_of p ≡ (done ++ t ∷ []) ++ rest → IsUnused s t.name → AllByRecursion (λ (x : PTask). IsUsed s x.name.name) done → unit_named p t.name.name ≡ Some t
   last-named done rest t s e u h =
       ap (find (is_task t.name.name)) e
-      ∙ find-front (is_task t.name.name) (done ++ t ∷ []) rest t
-      (find-only (is_task t.name.name) done t (find-none (is_task t.name.name) done (others-before done s t.name t.name.name refl u h)) (eq-eqb t.name.name.0 t.name.name.0 refl))
+      ∙ find_front (is_task t.name.name) (done ++ t ∷ []) rest t
+      (find-only (is_task t.name.name) done t (found_none (is_task t.name.name) done (others-before done s t.name t.name.name refl u h)) (eq-eqb t.name.name.0 t.name.name.0 refl))
 
   next-tasks : (done : List PTask) (d : PDecl) (rest : PDecls) → tasks_of p ≡ done ++ tasks_in (decl_list (decl_then d rest)) → tasks_of p ≡ (done ++ tasks_of_decl d) ++ tasks_in (decl_list rest)
   next-tasks done d rest e = e ∙ ap (λ (l : List PTask). done ++ l) (tasks-step d rest) ∙ sym (append_assoc done (tasks_of_decl d) (tasks_in (decl_list rest)))
@@ -281,8 +284,8 @@ module _ (p : PProgram) where
   decl-fits (DTask t sp) rest done bodies s c e u seen has h m = last-named done (tasks_in (decl_list rest)) t s (next-tasks done (DTask t sp) rest e) u.0 seen.used
   decl-fits (DTaskBody w ds b sp) rest done bodies s c e u seen has h m =
       body-fits done (tasks_in (decl_list rest)) w ds b s c e seen h.0.known has.4
-      (all-back IsMet (own_sites (in_body s w) ds) (body_sites (inside (after_objects (in_body s w) ds)) b) h.1)
-      (all-back met (check.own_sites (check.in_body c w) ds) (check.body_sites (check.after_own (check.in_body c w) ds) 1 b) m)
+      (all_back IsMet (own_sites (in_body s w) ds) (body_sites (inside (after_objects (in_body s w) ds)) b) h.1)
+      (all_back met (check.own_sites (check.in_body c w) ds) (check.body_sites (check.after_own (check.in_body c w) ds) 1 b) m)
   decl-fits (DNumber w x sp) rest done bodies s c e u seen has h m = tt
   decl-fits (DObject ws k x i sp) rest done bodies s c e u seen has h m = tt
   decl-fits (DEnumeration w ws sp) rest done bodies s c e u seen has h m = tt
@@ -296,10 +299,10 @@ module _ (p : PProgram) where
       EveryDecls (tokens p.names) ds → AllByRecursion IsMet (decls_sites s ds) → AllByRecursion met (check.decls_sites c bodies ds) → DeclsFit ds
   decls-fit no_decl done bodies s c e once seen has h m = tt
   decls-fit (decl_then d rest) done bodies s c e once seen has h m = (
-    decl-fits d rest done bodies s c e once.0 seen has.0 (all-front IsMet (decl_sites s d) (decls_sites (after_decl s d) rest) h)
-        (all-front met (check.decl_sites c bodies d) (check.decls_sites (check.after_decl c d) bodies rest) m),
+    decl-fits d rest done bodies s c e once.0 seen has.0 (all_front IsMet (decl_sites s d) (decls_sites (after_decl s d) rest) h)
+        (all_front met (check.decl_sites c bodies d) (check.decls_sites (check.after_decl c d) bodies rest) m),
     decls-fit rest (done ++ tasks_of_decl d) bodies (after_decl s d) (check.after_decl c d) (next-tasks done d rest e) once.1 (decl-seen done d s c once.0 seen) has.1
-        (all-back IsMet (decl_sites s d) (decls_sites (after_decl s d) rest) h) (all-back met (check.decl_sites c bodies d) (check.decls_sites (check.after_decl c d) bodies rest) m),
+        (all_back IsMet (decl_sites s d) (decls_sites (after_decl s d) rest) h) (all_back met (check.decl_sites c bodies d) (check.decls_sites (check.after_decl c d) bodies rest) m),
   )
 
   -- ---- main
@@ -355,7 +358,7 @@ module _ (p : PProgram) where
       by_test : (q : Bool) → (w.name.0 == id.0) ≡ q → InBody H (unit_among rest id).body → InBody H (unwrap_or (if q then Some (record { in_main = false; decls = ds; body = b }) else None) (unit_among rest id)).body
       by_test false g later = later
       by_test true g later =
-          let same : h.0.task ≡ t = some-same (sym h.0.named ∙ ap (λ (n : ℕ). unit_named p record { 0 = n }) (eqb-true w.name.0 id.0 g) ∙ e) in
+          let same : h.0.task ≡ t = some_same (sym h.0.named ∙ ap (λ (n : ℕ). unit_named p record { 0 = n }) (eqb-true w.name.0 id.0 g) ∙ e) in
           in-body (asked (HeadFits h.0.task)) H (λ x y. f x (subst (λ u. HeadFits u x) same y)) h.0.fits
   among-fits H (decl_then (DTask x sp) rest) id t h e f = among-fits H rest id t h.1 e f
   among-fits H (decl_then (DNumber w x sp) rest) id t h e f = among-fits H rest id t h.1 e f
@@ -385,11 +388,11 @@ module _ (p : PProgram) where
 
     check-places : AllByRecursion met (front ++ main)
     unfolding front main
-    check-places = all-front met (front ++ main) (check.counted_sites c0 p) (all_check_met p Original checks)
+    check-places = all_front met (front ++ main) (check.counted_sites c0 p) (all_check_met p Original checks)
 
     fits : DeclsFit p.decls
     unfolding front main
-    fits = decls-fit p.decls [] (check.body_names p.decls) s0 c0 refl (declared_once p types).1 (first-seen p.name) has.2 (all-front IsMet (decls_sites s0 p.decls) _ places) (all-front met front main check-places).1
+    fits = decls-fit p.decls [] (check.body_names p.decls) s0 c0 refl (declared_once p types).1 (first-seen p.name) has.2 (all_front IsMet (decls_sites s0 p.decls) _ places) (all_front met front main check-places).1
 
     main-conforms : InBody (Conforms g 0) p.body
     unfolding front main
@@ -398,7 +401,7 @@ module _ (p : PProgram) where
         (body-as-asked (asked (Conforms g 0)) (tokens p.names) (known (after_decls s0 p.decls).own None)
         (gives (after_decls s0 p.decls).own None (Conforms g 0) (λ s c n h k l q. absurd (true≢false (sym (ap (λ o. is_own_entry o h.entry.name) (sym k.unit_is) ∙ own-entry p.names c n h q)))))
         p.body (inside (after_decls s0 p.decls)) (check.after_decls c0 p.decls) 1
-        record { own = refl; unit_is = decls-check-own p.decls c0 } has.3 (all-back IsMet (decls_sites s0 p.decls) _ places) (all-back met front main check-places))
+        record { own = refl; unit_is = decls-check-own p.decls c0 } has.3 (all_back IsMet (decls_sites s0 p.decls) _ places) (all_back met front main check-places))
 
     units-named : AllByRecursion (λ (x : NumberedTask). unit_named p x.unit.name.name ≡ Some x.unit) (numbered_tasks T p)
     units-named =
@@ -420,7 +423,7 @@ module _ (p : PProgram) where
         mapped-none (y ∷ ys) (suc k) q = mapped-none ys k q
     numbered-task-conforms n (Some x) e (Some info) f =
         let is : IsTaskOf p T (suc n) x = record { place = n; number = refl; numbered_task = e; unit = place-all (λ (y : NumberedTask). unit_named p y.unit.name.name ≡ Some y.unit) (numbered_tasks T p) n x units-named e } in
-        let same : info_of_task p.names x ≡ info = some-same (sym (mapped-at p T (numbered_tasks T p) n x e) ∙ f) in
+        let same : info_of_task p.names x ≡ info = some_same (sym (mapped-at p T (numbered_tasks T p) n x e) ∙ f) in
         subst (λ (i : TaskInfo). InBody (Conforms g (suc n)) (unit_among p.decls i.unit).body) same
         (among-fits (Conforms g (suc n)) p.decls x.unit.name.name x.unit fits is.unit (head-conforms (suc n) x is))
 

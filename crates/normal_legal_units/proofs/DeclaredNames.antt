@@ -24,11 +24,11 @@ use Rattle.syn_event.specs.CheckSites.{site, if_there, names_sites, shape_sites,
 use Rattle.syn_event.specs.CheckRefusals.{MeetsCheckRules}
 use Rattle.syn_event.specs.RuleReservedName.{is_reserved}
 use Rattle.rewritten_types.specs.Rewriting.{names_declared}
-use Rattle.rewritten_types.proofs.Lookups.{all-append}
 use Rattle.normal_types.proofs.Variables.{all-mapped}
 use Rattle.legal_sites.specs.Met.{IsCheckMet}
-use Rattle.legal_sites.proofs.Meeting.{all-front, all-back, all_check_met}
+use Rattle.legal_sites.proofs.Meeting.{all_check_met}
 use Rattle.legal_sites.proofs.Around.{test-fails}
+use Rattle.common_lemmas.proofs.Lists.{all_back, all_front, all_joined}
 
 -- a name that the source can hold and that is left to no rewriter
 pub record IsGood (names : List (List ℕ)) (id : NameId) : Type 0 where
@@ -55,7 +55,7 @@ module _ (names : List (List ℕ)) where
   decl-good : (d : PDecl) (bodies : List ℕ) (a : CheckScope) → EveryDecl (tokens names) d → AllByRecursion M (decl_sites a bodies d) → AllByRecursion GoodWord (names_declared d)
   decl-good (DNumber w e s) bodies a h m = (word-good a w h.1 m.0, tt)
   decl-good (DObject ws c x i s) bodies a h m =
-      words-good a ws h.1.1 (all-front M (names_sites a ws) (shape_sites a x) (all-front M (names_sites a ws ++ shape_sites a x) (if_there (init_sites a) i) m))
+      words-good a ws h.1.1 (all_front M (names_sites a ws) (shape_sites a x) (all_front M (names_sites a ws ++ shape_sites a x) (if_there (init_sites a) i) m))
   decl-good (DEnumeration w ws s) bodies a h m = (word-good a w h.1 m.0, words-good a ws h.2.1 m.1)
   decl-good (DArray w r x s) bodies a h m = (word-good a w h.1 m.0, tt)
   decl-good (DSubtype w x s) bodies a h m = (word-good a w h.1 m.0, tt)
@@ -73,8 +73,8 @@ module _ (names : List (List ℕ)) where
   decls-good : (ds : PDecls) (bodies : List ℕ) (a : CheckScope) → EveryDecls (tokens names) ds → AllByRecursion M (decls_sites a bodies ds) → AreGood ds
   decls-good no_decl bodies a h m = tt
   decls-good (decl_then d rest) bodies a h m = (
-    decl-good d bodies a h.0 (all-front M (decl_sites a bodies d) (decls_sites (after_decl a d) bodies rest) m),
-    decls-good rest bodies (after_decl a d) h.1 (all-back M (decl_sites a bodies d) (decls_sites (after_decl a d) bodies rest) m),
+    decl-good d bodies a h.0 (all_front M (decl_sites a bodies d) (decls_sites (after_decl a d) bodies rest) m),
+    decls-good rest bodies (after_decl a d) h.1 (all_back M (decl_sites a bodies d) (decls_sites (after_decl a d) bodies rest) m),
   )
 
   -- ---- the names that stand for tasks
@@ -97,8 +97,8 @@ module _ (names : List (List ℕ)) where
 
   parts-good : (ds : PDecls) (kinds : List PTask) → AreGood ds → AllByRecursion GoodPart (task_names_in kinds ds)
   parts-good no_decl kinds h = tt
-  parts-good (decl_then (DTask t s) rest) kinds h = all-append GoodPart (single_task_name t.of_kind t s) _ (single-good t.of_kind t s h.0.0) (parts-good rest (with_type kinds t.of_kind t) h.1)
-  parts-good (decl_then (DObject ws c x i s) rest) kinds h = all-append GoodPart (object_task_names kinds ws x) _ (object-good kinds ws x h.0) (parts-good rest kinds h.1)
+  parts-good (decl_then (DTask t s) rest) kinds h = all_joined GoodPart (single_task_name t.of_kind t s) _ (single-good t.of_kind t s h.0.0) (parts-good rest (with_type kinds t.of_kind t) h.1)
+  parts-good (decl_then (DObject ws c x i s) rest) kinds h = all_joined GoodPart (object_task_names kinds ws x) _ (object-good kinds ws x h.0) (parts-good rest kinds h.1)
   parts-good (decl_then (DNumber w e s) rest) kinds h = parts-good rest kinds h.1
   parts-good (decl_then (DEnumeration w ws s) rest) kinds h = parts-good rest kinds h.1
   parts-good (decl_then (DArray w r x s) rest) kinds h = parts-good rest kinds h.1
@@ -119,7 +119,7 @@ module _ (names : List (List ℕ)) where
 
   numbered-tasks-good : (T : TypeTable) (xs : List NamedTasks) → AllByRecursion GoodPart xs → AllByRecursion GoodTask (flat_map (tasks_of_name T) xs)
   numbered-tasks-good T [] h = tt
-  numbered-tasks-good T (x ∷ xs) h = all-append GoodTask (tasks_of_name T x) _ (row-good T x x.index_range h.0) (numbered-tasks-good T xs h.1)
+  numbered-tasks-good T (x ∷ xs) h = all_joined GoodTask (tasks_of_name T x) _ (row-good T x x.index_range h.0) (numbered-tasks-good T xs h.1)
 
   infos-good : (xs : List NumberedTask) → AllByRecursion GoodTask xs → AllByRecursion (λ (i : TaskInfo). IsGood names i.name) (map (info_of_task names) xs)
   infos-good [] h = tt
@@ -133,7 +133,7 @@ names-good p checks has =
     let main = body_sites (after_decls a p.decls) 1 p.body in
     let all = all_check_met p Original checks in
     decls-good p.names p.decls (body_names p.decls) a has.2
-    (all-front (M p.names) front main (all-front (M p.names) (front ++ main) (counted_sites a p) all)).1
+    (all_front (M p.names) front main (all_front (M p.names) (front ++ main) (counted_sites a p) all)).1
 
 -- the names of its tasks
 pub tasks-good : (p : PProgram) (types : TypeTable) → MeetsCheckRules p Original → HasTokens p → AllByRecursion (λ (i : TaskInfo). IsGood p.names i.name) (map (info_of_task p.names) (numbered_tasks types p))

@@ -27,7 +27,6 @@ use Rattle.normal_types.specs.Laws.{AreOwn}
 use Rattle.normal_types.proofs.Normal.{normal_values}
 use Rattle.normal_runs_law.specs.Premises.{programs_of, objects_before}
 use Rattle.normal_form_law.specs.Normalisable.{numbers_of, setting_for, made_for, normal_rewrite, IsPlain}
-use Rattle.legal_sites.proofs.Meeting.{all-front}
 use Rattle.legal_types.specs.Typed.{IsSmall}
 use Rattle.legal_types.proofs.MainScopes.{main-stands}
 use Rattle.legal_types.proofs.TaskTypes.{tasks-have-types}
@@ -44,6 +43,7 @@ use Rattle.normal_legal_units.proofs.Lowers.{AreWorth, lowers}
 use Rattle.normal_legal_units.proofs.ArrayConstants.{arrays-free}
 use Rattle.normal_legal_units.proofs.TypedNames.{stand-still, formals-worth}
 use Rattle.normal_legal_units.proofs.Plain.{IsPlainObject, ArraysFree, units-plain, main-plain}
+use Rattle.common_lemmas.proofs.Lists.{all_front}
 
 pub legal_is_ordered : LegalIsOrdered
 legal_is_ordered p types numbers legal placed = record { rules = legal.type_rules; last = placed.1 }
@@ -94,7 +94,7 @@ module _ (p : PProgram) (types : TypeTable) (numbers : Numbering) (legal : Legal
   is-plain inputs (o ∷ vars) h = ((h.0.old_name, (h.0.known, ap (λ (v : Option ℤ). is_some v) h.0.free)), is-plain inputs vars h.1)
 
   places : AllByRecursion (λ (x : Site). IsFreeLocal T x.demand) (decls_sites (first_scope p.name) p.decls)
-  places = all-front (λ (x : Site). IsFreeLocal T x.demand) (decls_sites (first_scope p.name) p.decls) (body_sites (inside (after_decls (first_scope p.name) p.decls)) p.body) (locals-free p legal.type_rules).1
+  places = all_front (λ (x : Site). IsFreeLocal T x.demand) (decls_sites (first_scope p.name) p.decls) (body_sites (inside (after_decls (first_scope p.name) p.decls)) p.body) (locals-free p legal.type_rules).1
 
   info-plain : (info : Option TaskInfo) → AllByRecursion Plain (objects_of T (unit_of_info p info).in_main (unit_of_info p info).decls [])
   info-plain None = tt

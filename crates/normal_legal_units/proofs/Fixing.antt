@@ -2,15 +2,14 @@
 use Rattle.std.proofs.Common.{◌≡◌, ℕ, Bool, true, false, ◌||◌, ◌==◌, List, [], ◌∷◌, refl, sym, ap, ◌∙◌, true≢false}
 use Rattle.std.specs.List.{AllByRecursion, list_any}
 use Rattle.std.proofs.lemmas.Bool.{eqb-true, eq-eqb, or_parts, or_left, or_right}
-use Rattle.ada_tree.specs.declared.naming.Word.{Word}
 use Rattle.ada_tree.specs.PlainProgram.{PProgram}
 use Rattle.ada_tree.specs.Scope.{Scope}
 use Rattle.ada_tree.specs.Demand.{Demand, declares, Site}
 use Rattle.ada_tree.specs.Sites.{site, sites}
-use Rattle.ada_tree.specs.RuleDuplicate.{is_predefined, is_among, fixes, introduces, at_word, duplicate}
+use Rattle.ada_tree.specs.RuleDuplicate.{is_predefined, is_among, fixes, introduces, duplicate}
 use Rattle.ada_tree.specs.Refusals.{MeetsTypeRules, refused_at, refused_from}
-use Rattle.rewritten_types.proofs.Lookups.{all-weaker}
-use Rattle.legal_sites.proofs.Meeting.{filled-not, front-empty, back-empty, no_spans}
+use Rattle.common_lemmas.proofs.Lists.{all_weaker, back_empty, front_empty}
+use Rattle.rewritten_types.proofs.Refused.{no_duplicate, no_word}
 
 -- the place does not declare this name for all of main
 abbrev pub Differs : ℕ → Demand → Type 0
@@ -21,17 +20,6 @@ abbrev pub AllDiffer : ℕ → List Site → Type 0
 AllDiffer n xs = AllByRecursion (λ (x : Site). Differs n x.demand) xs
 
 -- ---- one place
-
-pub no-word : (test : Bool) (w : Word) → at_word test w ≡ [] → test ≡ false
-no-word true w e = absurd (filled-not _ _ e)
-no-word false w e = refl
-
-pub duplicate-at : (before : List Site) (x : Site) → refused_at before x ≡ [] → duplicate before x.scope x.demand ≡ []
-duplicate-at before x e =
-    no_spans 2 _
-    (back-empty _ _
-    (front-empty _ _ (front-empty _ _ (front-empty _ _ (front-empty _ _ (front-empty _ _
-    (front-empty _ _ (front-empty _ _ (front-empty _ _ (front-empty _ _ (front-empty _ _ e)))))))))))
 
 fixes-differs : (n : ℕ) (s : Scope) (d : Demand) → fixes n (site s d) ≡ false → Differs n d
 fixes-differs n s (declares true w) e = e
@@ -46,7 +34,7 @@ fixed-new : (before : List Site) (s : Scope) (n : ℕ) (d : Demand) → duplicat
 fixed-new before s n (declares true w) e h = by_test (w.name.0 == n) refl
   where
     parts : list_any (introduces w.name.0) before ≡ false
-    parts = (or_parts (is_predefined w.name.0 || is_among s.here w.name.0 || list_any (fixes w.name.0) before) (list_any (introduces w.name.0) before) (no-word _ w e)).1
+    parts = (or_parts (is_predefined w.name.0 || is_among s.here w.name.0 || list_any (fixes w.name.0) before) (list_any (introduces w.name.0) before) (no_word _ w e)).1
 
     by_test : (b : Bool) → (w.name.0 == n) ≡ b → b ≡ false
     by_test false f = refl
@@ -56,8 +44,8 @@ fixed-new before s n _ e h = tt
 pub later : (xs before : List Site) (n : ℕ) → refused_from before xs ≡ [] → list_any (introduces n) before ≡ true → AllDiffer n xs
 later [] before n e h = tt
 later (x ∷ xs) before n e h = (
-  fixed-new before x.scope n x.demand (duplicate-at before x (front-empty (refused_at before x) (refused_from (x ∷ before) xs) e)) h,
-  later xs (x ∷ before) n (back-empty (refused_at before x) (refused_from (x ∷ before) xs) e) (or_right (introduces n x) (list_any (introduces n) before) h),
+  fixed-new before x.scope n x.demand (no_duplicate before x (front_empty (refused_at before x) (refused_from (x ∷ before) xs) e)) h,
+  later xs (x ∷ before) n (back_empty (refused_at before x) (refused_from (x ∷ before) xs) e) (or_right (introduces n x) (list_any (introduces n) before) h),
 )
 
 -- ---- all places
@@ -69,7 +57,7 @@ IsApart before xs _ = Unit {0}
 
 local-apart : (before xs : List Site) (s : Scope) (d : Demand) → duplicate before s d ≡ [] → refused_from (site s d ∷ before) xs ≡ [] → IsApart before (site s d ∷ xs) d
 local-apart before xs s (declares false w) e f =
-    let none = or_parts (is_predefined w.name.0 || is_among s.here w.name.0 || list_any (fixes w.name.0) before) false (no-word _ w e) in
+    let none = or_parts (is_predefined w.name.0 || is_among s.here w.name.0 || list_any (fixes w.name.0) before) false (no_word _ w e) in
     let fixing = or_parts (is_predefined w.name.0 || is_among s.here w.name.0) (list_any (fixes w.name.0) before) none.0 in (
       (or_parts (is_predefined w.name.0) (is_among s.here w.name.0) fixing.0).0,
       (
@@ -86,9 +74,9 @@ moved before xs x _ h = tt
 all-apart : (xs before : List Site) → refused_from before xs ≡ [] → AllByRecursion (λ (x : Site). IsApart before xs x.demand) xs
 all-apart [] before e = tt
 all-apart (x ∷ xs) before e =
-    let rest = back-empty (refused_at before x) (refused_from (x ∷ before) xs) e in (
-      local-apart before xs x.scope x.demand (duplicate-at before x (front-empty (refused_at before x) (refused_from (x ∷ before) xs) e)) rest,
-      all-weaker _ _ xs (λ y h. moved before xs x y.demand h) (all-apart xs (x ∷ before) rest),
+    let rest = back_empty (refused_at before x) (refused_from (x ∷ before) xs) e in (
+      local-apart before xs x.scope x.demand (no_duplicate before x (front_empty (refused_at before x) (refused_from (x ∷ before) xs) e)) rest,
+      all_weaker _ _ xs (λ y h. moved before xs x y.demand h) (all-apart xs (x ∷ before) rest),
     )
 
 -- What is declared as a name that is not fixed is fixed nowhere in the program.

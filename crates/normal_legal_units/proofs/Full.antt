@@ -20,11 +20,12 @@ use Rattle.ada_tree.specs.ExprTypes.{place_of, ok_value, is_kind, kind_of, stati
 use Rattle.ada_tree.specs.RuleRangeBad.{is_below, empty_range}
 use Rattle.ada_tree.specs.StaticValue.{is_static, value_of}
 use Rattle.ada_tree.specs.Declaring.{first_scope, inside, with_types, with_names, made_range, subind_made, made_subind, given_range, marked_range, drange_range, made_array, renamed, plain_object, array_object, declared_object, add_constants, with_constants, constant_mark, constant_value, in_body, after_own_object, after_objects, after_decl, after_decls}
-use Rattle.rewritten_types.proofs.Lookups.{all-append, place-all}
+use Rattle.rewritten_types.proofs.Lookups.{place-all}
 use Rattle.rewritten_types.proofs.Adding.{names-types}
 use Rattle.legal_sites.specs.Met.{IsMet}
-use Rattle.legal_sites.proofs.Meeting.{all-front, all-back, all_met}
+use Rattle.legal_sites.proofs.Meeting.{all_met}
 use Rattle.legal_sites.proofs.Around.{test-fails}
+use Rattle.common_lemmas.proofs.Lists.{all_back, all_front, all_joined}
 
 -- a type or subtype has a value
 abbrev pub IsFullMark : Mark → Type 0
@@ -75,7 +76,7 @@ static-full s k b h = by_kind (kind_of s b.first) refl h.ranged
 -- ---- places of ranges
 
 bounds-met : (s : Scope) (b : PBounds) → AllByRecursion IsMet (bounds_sites true s b) → IsMet (site s (must_not_be_empty b.first b.last))
-bounds-met s b h = (all-back IsMet (expr_sites s b.first ++ static_if true s b.first ++ expr_sites s b.last ++ static_if true s b.last) (site s (must_not_be_empty b.first b.last) ∷ []) h).0
+bounds-met s b h = (all_back IsMet (expr_sites s b.first ++ static_if true s b.first ++ expr_sites s b.last ++ static_if true s b.last) (site s (must_not_be_empty b.first b.last) ∷ []) h).0
 
 -- the bounds of a subtype indication
 abbrev BoundsMet : Scope → Option PBounds → Type 0
@@ -87,20 +88,20 @@ subind-met allowed s x h = by_bounds x.bounds h.1
   where
     by_bounds : (o : Option PBounds) → AllByRecursion IsMet (if_there (constraint_sites true s (scalar_kind (marking s x.mark.name))) o) → BoundsMet s o
     by_bounds None k = tt
-    by_bounds (Some b) k = bounds-met s b (all-front IsMet (bounds_sites true s b) _ k)
+    by_bounds (Some b) k = bounds-met s b (all_front IsMet (bounds_sites true s b) _ k)
 
 abbrev DrangeMet : Scope → PDrange → Type 0
 DrangeMet s (RGiven b) = IsMet (site s (must_not_be_empty b.first b.last))
 DrangeMet s (RMarked x) = BoundsMet s x.bounds
 
 drange-met : (s : Scope) (r : PDrange) → AllByRecursion IsMet (drange_sites true s r) → DrangeMet s r
-drange-met s (RGiven b) h = bounds-met s b (all-front IsMet (bounds_sites true s b) _ h)
+drange-met s (RGiven b) h = bounds-met s b (all_front IsMet (bounds_sites true s b) _ h)
 drange-met s (RMarked x) h = subind-met scalar_only s x h
 
 -- ---- tables that grow
 
 range-added : (T : TypeTable) (o : Option Range) → RangeFull o → IsFull T → IsFull (made_range T o).types
-range-added T (Some r) e h = all-append IsFullMark T.marks _ h (e, tt)
+range-added T (Some r) e h = all_joined IsFullMark T.marks _ h (e, tt)
 range-added T None e h = h
 
 subind-full : (s : Scope) (m : Marking) (b : Option PBounds) → BoundsMet s b → IsFull s.types → IsFull (subind_made s m b).types
@@ -138,13 +139,13 @@ drange-full s (RGiven b) e h = given-full s (kind_of s b.first) b e
 drange-full s (RMarked x) e h = marked-full s (marking s x.mark.name) x.bounds e h
 
 array-full : (name : Option NameId) (T : TypeTable) (o : Option Range) (part : Option ℕ) → RangeFull o → IsFull T → IsFull (made_array name T o part).types
-array-full name T (Some r) (Some part) e h = all-append IsFullMark T.marks _ h (e, tt)
+array-full name T (Some r) (Some part) e h = all_joined IsFullMark T.marks _ h (e, tt)
 array-full name T (Some r) None e h = h
 array-full name T None (Some part) e h = h
 array-full name T None None e h = h
 
 renamed-full : (w : Word) (T : TypeTable) (o : Option Range) → RangeFull o → IsFull T → IsFull (renamed w T o).types
-renamed-full w T (Some r) e h = all-append IsFullMark T.marks _ h (e, tt)
+renamed-full w T (Some r) e h = all_joined IsFullMark T.marks _ h (e, tt)
 renamed-full w T None e h = h
 
 then-full : (T : TypeTable) (o : Option ℕ) → IsFull T → RangeFull (and_then (range_of_mark T) o)
@@ -179,7 +180,7 @@ declared-full : (s : Scope) (constant : Bool) (x : PShape) (init : Option PInit)
 declared-full s constant (OPlain x) init k h = plain-full s constant (marking s x.mark.name) x (subind-met (object_marks (may_be_task s constant x.bounds init) x.bounds) s x k) h
 declared-full s constant (OArray index x) init k h =
     let marks = subind_sites true (component_marks (may_be_task s constant x.bounds init)) s x in
-    row-full s constant (marking s x.mark.name) index x (drange-met s index (all-front IsMet (drange_sites true s index) marks k)) (subind-met (component_marks (may_be_task s constant x.bounds init)) s x (all-back IsMet (drange_sites true s index) marks k)) h
+    row-full s constant (marking s x.mark.name) index x (drange-met s index (all_front IsMet (drange_sites true s index) marks k)) (subind-met (component_marks (may_be_task s constant x.bounds init)) s x (all_back IsMet (drange_sites true s index) marks k)) h
 
 object-full : (ws : List Word) (constant : Bool) (x : PShape) (i : Option PInit) (s : Scope) → AllByRecursion IsMet (object_sites s ws constant x i (declared_object s constant x)) → IsFull s.types →
     IsFull (with_names (declared_object s constant x).thing (with_types (with_constants s ws i (declared_object s constant x)) s) ws).types
@@ -187,7 +188,7 @@ object-full ws constant x i s k h =
     let d = declared_object s constant x in
     let one = names_sites (s.in_main && (constant || is_task_object d.thing)) s ws in
     let three = if_there (init_sites s d.types (object_marking d)) i in
-    let full = declared-full s constant x i (all-back IsMet one (shape_sites s constant x i) (all-front IsMet (one ++ shape_sites s constant x i) three k)) h in
+    let full = declared-full s constant x i (all_back IsMet one (shape_sites s constant x i) (all_front IsMet (one ++ shape_sites s constant x i) three k)) h in
     subst IsFull (sym (names-types d.thing ws (with_types (with_constants s ws i d) s))) (by_main s.in_main full)
   where
     by_main : (b : Bool) → IsFull (declared_object s constant x).types →
@@ -210,7 +211,7 @@ own-full (DTaskBody w ds b sp) s m h = h
 owns-full : (ds : PDecls) (s : Scope) → AllByRecursion IsMet (own_sites s ds) → IsFull s.types → IsFull (after_objects s ds).types
 owns-full no_decl s m h = h
 owns-full (decl_then d rest) s m h =
-    owns-full rest (after_own_object s d) (all-back IsMet (own_object_sites s d) (own_sites (after_own_object s d) rest) m) (own-full d s (all-front IsMet (own_object_sites s d) (own_sites (after_own_object s d) rest) m) h)
+    owns-full rest (after_own_object s d) (all_back IsMet (own_object_sites s d) (own_sites (after_own_object s d) rest) m) (own-full d s (all_front IsMet (own_object_sites s d) (own_sites (after_own_object s d) rest) m) h)
 
 -- ---- declarations
 
@@ -221,11 +222,11 @@ literals-full (w ∷ ws) h = grind (arith, ints)
 decl-full : (names : List (List ℕ)) (d : PDecl) (s : Scope) → EveryDecl (well_placed names) d → AllByRecursion IsMet (decl_sites s d) → IsFull s.types → IsFull (after_decl s d).types
 decl-full names (DNumber w e sp) s p m h = constants-full (w ∷ []) (Some 0) (static_in s 0 e) s.types h
 decl-full names (DObject ws k x i sp) s p m h = object-full ws k x i s m h
-decl-full names (DEnumeration w ws sp) s p m h = subst IsFull (sym (names-types _ ws _)) (all-append IsFullMark s.types.marks _ h (literals-full ws p.2.0, tt))
+decl-full names (DEnumeration w ws sp) s p m h = subst IsFull (sym (names-types _ ws _)) (all_joined IsFullMark s.types.marks _ h (literals-full ws p.2.0, tt))
 decl-full names (DArray w i x sp) s p m h =
     let k = m.1 in
-    array-full (Some w.name) _ (drange_range s i) (made_subind s x).mark (drange-full s i (drange-met s i (all-front IsMet (drange_sites true s i) (subind_sites true scalar_only s x) k)) h)
-    (subind-full s (marking s x.mark.name) x.bounds (subind-met scalar_only s x (all-back IsMet (drange_sites true s i) (subind_sites true scalar_only s x) k)) h)
+    array-full (Some w.name) _ (drange_range s i) (made_subind s x).mark (drange-full s i (drange-met s i (all_front IsMet (drange_sites true s i) (subind_sites true scalar_only s x) k)) h)
+    (subind-full s (marking s x.mark.name) x.bounds (subind-met scalar_only s x (all_back IsMet (drange_sites true s i) (subind_sites true scalar_only s x) k)) h)
 decl-full names (DSubtype w x sp) s p m h =
     let full = subind-full s (marking s x.mark.name) x.bounds (subind-met scalar_only s x m.1) h in
     renamed-full w _ (and_then (range_of_mark (made_subind s x).types) (made_subind s x).mark) (then-full (made_subind s x).types (made_subind s x).mark full) full
@@ -234,16 +235,16 @@ decl-full names (DIntIo w sp) s p m h = h
 decl-full names (DPragma e sp) s p m h = h
 decl-full names (DTask t sp) s p m h = h
 decl-full names (DTaskBody w ds b sp) s p m h =
-    owns-full ds (in_body s w) (all-front IsMet (own_sites (in_body s w) ds) (body_sites (inside (after_objects (in_body s w) ds)) b) m.1) h
+    owns-full ds (in_body s w) (all_front IsMet (own_sites (in_body s w) ds) (body_sites (inside (after_objects (in_body s w) ds)) b) m.1) h
 
 decls-full : (names : List (List ℕ)) (ds : PDecls) (s : Scope) → EveryDecls (well_placed names) ds → AllByRecursion IsMet (decls_sites s ds) → IsFull s.types → IsFull (after_decls s ds).types
 decls-full names no_decl s p m h = h
 decls-full names (decl_then d rest) s p m h =
-    decls-full names rest (after_decl s d) p.1 (all-back IsMet (decl_sites s d) (decls_sites (after_decl s d) rest) m)
-    (decl-full names d s p.0 (all-front IsMet (decl_sites s d) (decls_sites (after_decl s d) rest) m) h)
+    decls-full names rest (after_decl s d) p.1 (all_back IsMet (decl_sites s d) (decls_sites (after_decl s d) rest) m)
+    (decl-full names d s p.0 (all_front IsMet (decl_sites s d) (decls_sites (after_decl s d) rest) m) h)
 
 -- No type and no subtype of a legal program is empty.
 pub types-full : (p : PProgram) → MeetsTypeRules p → IsWellPlaced p → IsFull (types_in p)
 types-full p types placed =
     decls-full p.names p.decls (first_scope p.name) placed.2
-    (all-front IsMet (decls_sites (first_scope p.name) p.decls) (body_sites (inside (after_decls (first_scope p.name) p.decls)) p.body) (all_met p types).1) (refl, (refl, (refl, (refl, tt))))
+    (all_front IsMet (decls_sites (first_scope p.name) p.decls) (body_sites (inside (after_decls (first_scope p.name) p.decls)) p.body) (all_met p types).1) (refl, (refl, (refl, (refl, tt))))

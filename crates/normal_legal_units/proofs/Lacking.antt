@@ -22,11 +22,10 @@ use Rattle.ada_tree.specs.Sites.{names_sites, decl_sites, decls_sites, is_task_o
 use Rattle.ada_tree.specs.ExprTypes.{static_in, static_range}
 use Rattle.ada_tree.specs.RuleDuplicate.{is_predefined}
 use Rattle.ada_tree.specs.Declaring.{first_scope, inside, with_name, with_names, with_types, add_mark, add_kind, made, made_range, subind_made, made_subind, drange_range, made_array, renamed, object_of, task_object, task_array, plain_object, array_object, declared_object, constants_for, add_constants, constant_mark, constant_value, with_constants, in_body, after_own_object, after_objects, after_decl, after_decls}
-use Rattle.rewritten_types.proofs.Lookups.{all-append, all-weaker, find-none}
 use Rattle.rewritten_types.proofs.Adding.{names-types}
-use Rattle.legal_sites.proofs.Meeting.{all-front, all-back}
 use Rattle.normal_legal_units.specs.Laws.{IsFreeLocal}
 use Rattle.normal_legal_units.proofs.Fixing.{AllDiffer, IsApart, locals-apart}
+use Rattle.common_lemmas.proofs.Lists.{all_back, all_front, all_joined, all_weaker, found_none}
 
 module _ (n : ℕ) where
   -- the kind has no literal of the name
@@ -48,7 +47,7 @@ module _ (n : ℕ) where
   marked T m h = record { constants = h.constants; kinds = h.kinds }
 
   arrayed : (T : TypeTable) (k : ℕ) (a b : ℤ) (part : ℕ) (m : Mark) → Lacks T → Lacks (made (add_kind T (Array k a b part)) m).types
-  arrayed T k a b part m h = record { constants = h.constants; kinds = all-append KindLacks T.kinds (Array k a b part ∷ []) h.kinds (tt, tt) }
+  arrayed T k a b part m h = record { constants = h.constants; kinds = all_joined KindLacks T.kinds (Array k a b part ∷ []) h.kinds (tt, tt) }
 
   range-lacks : (T : TypeTable) (o : Option Range) → Lacks T → Lacks (made_range T o).types
   range-lacks T (Some r) h = marked T _ h
@@ -78,7 +77,7 @@ module _ (n : ℕ) where
   constants-differ (w ∷ ws) m z h = (h.0, constants-differ ws m z h.1)
 
   constants-lack : (ws : List Word) (m : Option ℕ) (z : Option ℤ) (T : TypeTable) → WordsDiffer ws → Lacks T → Lacks (add_constants ws m z T)
-  constants-lack ws (Some m) (Some z) T d h = record { constants = all-append (λ (c : Constant). (c.name.0 == n) ≡ false) T.constants (constants_for ws m z) h.constants (constants-differ ws m z d); kinds = h.kinds }
+  constants-lack ws (Some m) (Some z) T d h = record { constants = all_joined (λ (c : Constant). (c.name.0 == n) ≡ false) T.constants (constants_for ws m z) h.constants (constants-differ ws m z d); kinds = h.kinds }
   constants-lack ws (Some m) None T d h = h
   constants-lack ws None (Some z) T d h = h
   constants-lack ws None None T d h = h
@@ -230,10 +229,10 @@ module _ (n : ℕ) where
       let one = names_sites (s.in_main && (k || is_task_object (declared_object s k x).thing)) s ws in
       let three = if_there (init_sites s (declared_object s k x).types (object_marking (declared_object s k x))) i in
       subst Lacks (sym (names-types _ ws (with_types (with_constants s ws i (declared_object s k x)) s)))
-      (object-lacks s ws k x i main (all-front _ one (shape_sites s k x i) (all-front _ (one ++ shape_sites s k x i) three d)) h)
+      (object-lacks s ws k x i main (all_front _ one (shape_sites s k x i) (all_front _ (one ++ shape_sites s k x i) three d)) h)
   decl-lacks (DEnumeration w ws sp) s main d h =
       subst Lacks (sym (names-types _ ws _))
-      record { constants = h.constants; kinds = all-append KindLacks s.types.kinds _ h.kinds (literals-lack ws (fixed-words true (record s { here = w.name.0 ∷ s.here }) ws refl d.1), tt) }
+      record { constants = h.constants; kinds = all_joined KindLacks s.types.kinds _ h.kinds (literals-lack ws (fixed-words true (record s { here = w.name.0 ∷ s.here }) ws refl d.1), tt) }
   decl-lacks (DArray w i x sp) s main d h = array-lacks (Some w.name) _ (drange_range s i) (made_subind s x).mark (subind-lacks s (marking s x.mark.name) x.bounds h)
   decl-lacks (DSubtype w x sp) s main d h = renamed-lacks w _ (and_then (range_of_mark (made_subind s x).types) (made_subind s x).mark) (subind-lacks s (marking s x.mark.name) x.bounds h)
   decl-lacks (DException ws sp) s main d h = subst Lacks (sym (names-types _ ws s)) h
@@ -245,7 +244,7 @@ module _ (n : ℕ) where
   pub decls-lack : (ds : PDecls) (s : Scope) → s.in_main ≡ true → AllDiffer n (decls_sites s ds) → Lacks s.types → Lacks (after_decls s ds).types
   decls-lack no_decl s main d h = h
   decls-lack (decl_then x rest) s main d h =
-      decls-lack rest (after_decl s x) (decl-main x s ∙ main) (all-back _ (decl_sites s x) (decls_sites (after_decl s x) rest) d) (decl-lacks x s main (all-front _ (decl_sites s x) (decls_sites (after_decl s x) rest) d) h)
+      decls-lack rest (after_decl s x) (decl-main x s ∙ main) (all_back _ (decl_sites s x) (decls_sites (after_decl s x) rest) d) (decl-lacks x s main (all_front _ (decl_sites s x) (decls_sites (after_decl s x) rest) d) h)
 
   pub first-lacks : (w : Word) → Lacks (first_scope w).types
   first-lacks w = record { constants = tt; kinds = (tt, (tt, tt)) }
@@ -274,7 +273,7 @@ lacks-value T id e h =
     let above : 18 ≤ id.0 = ltb-false id.0 18 e in
     ap (λ b. if b then Some (pos 0) else if id.0 == 5 then Some (pos 1) else first_of_two (option_map (λ (c : Constant). c.value) (constant_named T id)) (option_map (λ k. pos k) (literal_position T.kinds id))) (ne_eqb id.0 4 (λ q. omega (arith, q, above)))
     ∙ ap (λ b. if b then Some (pos 1) else first_of_two (option_map (λ (c : Constant). c.value) (constant_named T id)) (option_map (λ k. pos k) (literal_position T.kinds id))) (ne_eqb id.0 5 (λ q. omega (arith, q, above)))
-    ∙ ap (λ o. first_of_two (option_map (λ (c : Constant). c.value) o) (option_map (λ k. pos k) (literal_position T.kinds id))) (find-none (λ (c : Constant). c.name.0 == id.0) T.constants h.constants)
+    ∙ ap (λ o. first_of_two (option_map (λ (c : Constant). c.value) o) (option_map (λ k. pos k) (literal_position T.kinds id))) (found_none (λ (c : Constant). c.name.0 == id.0) T.constants h.constants)
     ∙ ap (λ o. first_of_two None (option_map (λ k. pos k) o)) (literal-none T.kinds id h.kinds)
 
 -- ---- names that are declared and not fixed
@@ -283,9 +282,9 @@ local-free : (p : PProgram) (d : Demand) → IsApart [] (sites p) d → IsFreeLo
 local-free p (declares false w) h =
     let s = first_scope p.name in
     lacks-value (types_in p) w.name h.0
-    (decls-lack w.name.0 p.decls s refl (all-front _ (decls_sites s p.decls) (body_sites (inside (after_decls s p.decls)) p.body) h.1.1.1) (first-lacks w.name.0 p.name))
+    (decls-lack w.name.0 p.decls s refl (all_front _ (decls_sites s p.decls) (body_sites (inside (after_decls s p.decls)) p.body) h.1.1.1) (first-lacks w.name.0 p.name))
 local-free p _ h = tt
 
 -- What is declared as a name that is not fixed is the name of no constant and of no literal.
 pub locals-free : (p : PProgram) → MeetsTypeRules p → AllByRecursion (λ (x : Site). IsFreeLocal (types_in p) x.demand) (sites p)
-locals-free p e = all-weaker _ _ (sites p) (λ x h. local-free p x.demand h) (locals-apart p e)
+locals-free p e = all_weaker _ _ (sites p) (λ x h. local-free p x.demand h) (locals-apart p e)

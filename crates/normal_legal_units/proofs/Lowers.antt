@@ -1,5 +1,5 @@
 -- No formal of an entry has an empty subtype: its lower bound lies in it.
-use Rattle.std.proofs.Common.{◌≡◌, ℕ, ℤ, int_le, Bool, true, false, ◌&&◌, ◌==◌, List, [], ◌∷◌, ◌++◌, map, find, Option, Some, None, refl, sym, subst, arith}
+use Rattle.std.proofs.Common.{◌≡◌, ℕ, ℤ, int_le, true, ◌&&◌, ◌==◌, List, [], ◌∷◌, ◌++◌, map, find, Option, Some, None, refl, sym, subst, arith}
 use Rattle.std.specs.List.{AllByRecursion}
 use Rattle.std.proofs.lemmas.Int.{ints}
 use Rattle.ada_tree.specs.declared.naming.NameId.{NameId}
@@ -22,6 +22,7 @@ use Rattle.task_model.specs.Setting.{Setting, parameters_of, unit_named, formals
 use Rattle.task_invariants.specs.Holding.{Fits, LowersFit}
 use Rattle.rewritten_types.proofs.Lookups.{find-all}
 use Rattle.normal_legal_units.proofs.Full.{IsFullMark, IsFull, types-full}
+use Rattle.common_lemmas.proofs.Truth.{both_true}
 
 -- the name is that of a type or subtype whose lower bound is a value of it
 pub record IsWorth (T : TypeTable) (id : NameId) : Type 0 where
@@ -42,17 +43,13 @@ AreWorth p = AllByRecursion (TaskWorth (types_in p)) (tasks_of p)
 same-le : (z : ℤ) → int_le z z ≡ true
 same-le z = grind (arith, ints)
 
-both-true : (a b : Bool) → a ≡ true → b ≡ true → (a && b) ≡ true
-both-true true b e f = f
-both-true false b e f = e
-
 module _ (T : TypeTable) (full : IsFull T) where
   named-fits : (id : NameId) → IsWorth T id → Fits (limits_named T id) (lower T (limits_named T id))
   named-fits id h =
       let m = h.mark in
       let whole : int_le m.first m.last ≡ true = find-all IsFullMark _ T.marks m full h.named in
       let fits : lies_in (limits_of m) (position_of (value_at T m.kind m.first)) ≡ true =
-      subst (λ z. (int_le m.first z && int_le z m.last) ≡ true) (sym h.first) (both-true (int_le m.first m.first) (int_le m.first m.last) (same-le m.first) whole) in
+      subst (λ z. (int_le m.first z && int_le z m.last) ≡ true) (sym h.first) (both_true (int_le m.first m.first) (int_le m.first m.last) (same-le m.first) whole) in
       subst (λ o. Fits (limits_or o) (lower T (limits_or o))) (sym h.named) fits
 
   row-fits : (f : PFormal) (ws : List Word) (rest : List FormalParameter) → IsWorth T f.mark.name → LowersFit T rest →

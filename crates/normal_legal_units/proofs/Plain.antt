@@ -20,10 +20,10 @@ use Rattle.ada_value.specs.Variables.{Object, Variables, value_there}
 use Rattle.task_model.specs.Starting.{form_of, object_of, with_objects, declared_objects, after_declaration, objects_of, unit_among}
 use Rattle.rewritten_types.specs.Rewriting.{mark_of, if_stays, is_no_task, staying}
 use Rattle.rewritten_values.specs.Values.{is_known, old_names, AgreeOnValues}
-use Rattle.legal_sites.proofs.Meeting.{all-front, all-back}
 use Rattle.normal_legal_units.proofs.KnownValues.{InitOld, initials-known, there-known}
 use Rattle.normal_legal_units.specs.Laws.{IsFreeLocal}
 use Rattle.normal_legal_units.proofs.Lacking.{own-main}
+use Rattle.common_lemmas.proofs.Lists.{all_back, all_front}
 
 module _ (old : ℕ → Bool) (T U : TypeTable) (before after : List (List ℕ)) (agree : AgreeOnValues old T U before after) where
   -- a plain object
@@ -68,7 +68,7 @@ module _ (old : ℕ → Bool) (T U : TypeTable) (before after : List (List ℕ))
       by_form (Some form) =
           let fixed = s.in_main && (c || is_task_object (declared_object s c x).thing) in
           let named = names_sites fixed s ws in
-          let places = all-front Free named (shape_sites s c x i) (all-front Free (named ++ shape_sites s c x i) (if_there (init_sites s (declared_object s c x).types (object_marking (declared_object s c x))) i) f) in
+          let places = all_front Free named (shape_sites s c x i) (all_front Free (named ++ shape_sites s c x i) (if_there (init_sites s (declared_object s c x).types (object_marking (declared_object s c x))) i) f) in
           words-plain form i ws vars own.0.4 (recursion_from_All (EveryWord (old_names old)) ws own.0.1.1) (free-words fixed s ws flag places) h
   own-plain (DNumber w e sp) rest s vars main f own h = h
   own-plain (DEnumeration w ws sp) rest s vars main f own h = h
@@ -83,32 +83,32 @@ module _ (old : ℕ → Bool) (T U : TypeTable) (before after : List (List ℕ))
   pub owns-plain : (ds : PDecls) (s : Scope) (vars : Variables) → s.in_main ≡ false → AllByRecursion Free (own_sites s ds) → EveryDecls (old_names old) ds → AllByRecursion IsPlainObject vars → AllByRecursion IsPlainObject (objects_of T false ds vars)
   owns-plain no_decl s vars main f own h = h
   owns-plain (decl_then d rest) s vars main f own h =
-      owns-plain rest (after_own_object s d) (after_declaration T false d vars) (own-main 0 d s ∙ main) (all-back Free (own_object_sites s d) (own_sites (after_own_object s d) rest) f) own.1
-      (own-plain d rest s vars main (all-front Free (own_object_sites s d) (own_sites (after_own_object s d) rest) f) own h)
+      owns-plain rest (after_own_object s d) (after_declaration T false d vars) (own-main 0 d s ∙ main) (all_back Free (own_object_sites s d) (own_sites (after_own_object s d) rest) f) own.1
+      (own-plain d rest s vars main (all_front Free (own_object_sites s d) (own_sites (after_own_object s d) rest) f) own h)
 
   -- the objects of the unit of a name
   pub units-plain : (ds : PDecls) (s : Scope) (id : NameId) → AllByRecursion Free (decls_sites s ds) → EveryDecls (old_names old) ds →
       AllByRecursion IsPlainObject (objects_of T (unit_among ds id).in_main (unit_among ds id).decls [])
   units-plain no_decl s id f own = tt
   units-plain (decl_then (DTaskBody w ds b sp) rest) s id f own = by_test (w.name.0 == id.0)
-      (units-plain rest (after_decl s (DTaskBody w ds b sp)) id (all-back Free (decl_sites s (DTaskBody w ds b sp)) (decls_sites (after_decl s (DTaskBody w ds b sp)) rest) f) own.1)
+      (units-plain rest (after_decl s (DTaskBody w ds b sp)) id (all_back Free (decl_sites s (DTaskBody w ds b sp)) (decls_sites (after_decl s (DTaskBody w ds b sp)) rest) f) own.1)
     where
       places : AllByRecursion Free (decl_sites s (DTaskBody w ds b sp))
-      places = all-front Free (decl_sites s (DTaskBody w ds b sp)) (decls_sites (after_decl s (DTaskBody w ds b sp)) rest) f
+      places = all_front Free (decl_sites s (DTaskBody w ds b sp)) (decls_sites (after_decl s (DTaskBody w ds b sp)) rest) f
 
       by_test : (q : Bool) → AllByRecursion IsPlainObject (objects_of T (unit_among rest id).in_main (unit_among rest id).decls []) →
           AllByRecursion IsPlainObject (objects_of T (unwrap_or (if q then Some (record { in_main = false; decls = ds; body = b }) else None) (unit_among rest id)).in_main (unwrap_or (if q then Some (record { in_main = false; decls = ds; body = b }) else None) (unit_among rest id)).decls [])
       by_test false later = later
-      by_test true later = owns-plain ds (in_body s w) [] refl (all-front Free (own_sites (in_body s w) ds) (body_sites (inside (after_objects (in_body s w) ds)) b) places.1) own.0.3 tt
-  units-plain (decl_then (DObject ws c x i sp) rest) s id f own = units-plain rest (after_decl s (DObject ws c x i sp)) id (all-back Free (decl_sites s (DObject ws c x i sp)) (decls_sites (after_decl s (DObject ws c x i sp)) rest) f) own.1
-  units-plain (decl_then (DNumber w e sp) rest) s id f own = units-plain rest (after_decl s (DNumber w e sp)) id (all-back Free (decl_sites s (DNumber w e sp)) (decls_sites (after_decl s (DNumber w e sp)) rest) f) own.1
-  units-plain (decl_then (DEnumeration w ws sp) rest) s id f own = units-plain rest (after_decl s (DEnumeration w ws sp)) id (all-back Free (decl_sites s (DEnumeration w ws sp)) (decls_sites (after_decl s (DEnumeration w ws sp)) rest) f) own.1
-  units-plain (decl_then (DArray w i x sp) rest) s id f own = units-plain rest (after_decl s (DArray w i x sp)) id (all-back Free (decl_sites s (DArray w i x sp)) (decls_sites (after_decl s (DArray w i x sp)) rest) f) own.1
-  units-plain (decl_then (DSubtype w x sp) rest) s id f own = units-plain rest (after_decl s (DSubtype w x sp)) id (all-back Free (decl_sites s (DSubtype w x sp)) (decls_sites (after_decl s (DSubtype w x sp)) rest) f) own.1
-  units-plain (decl_then (DException ws sp) rest) s id f own = units-plain rest (after_decl s (DException ws sp)) id (all-back Free (decl_sites s (DException ws sp)) (decls_sites (after_decl s (DException ws sp)) rest) f) own.1
-  units-plain (decl_then (DIntIo w sp) rest) s id f own = units-plain rest (after_decl s (DIntIo w sp)) id (all-back Free (decl_sites s (DIntIo w sp)) (decls_sites (after_decl s (DIntIo w sp)) rest) f) own.1
-  units-plain (decl_then (DPragma e sp) rest) s id f own = units-plain rest (after_decl s (DPragma e sp)) id (all-back Free (decl_sites s (DPragma e sp)) (decls_sites (after_decl s (DPragma e sp)) rest) f) own.1
-  units-plain (decl_then (DTask t sp) rest) s id f own = units-plain rest (after_decl s (DTask t sp)) id (all-back Free (decl_sites s (DTask t sp)) (decls_sites (after_decl s (DTask t sp)) rest) f) own.1
+      by_test true later = owns-plain ds (in_body s w) [] refl (all_front Free (own_sites (in_body s w) ds) (body_sites (inside (after_objects (in_body s w) ds)) b) places.1) own.0.3 tt
+  units-plain (decl_then (DObject ws c x i sp) rest) s id f own = units-plain rest (after_decl s (DObject ws c x i sp)) id (all_back Free (decl_sites s (DObject ws c x i sp)) (decls_sites (after_decl s (DObject ws c x i sp)) rest) f) own.1
+  units-plain (decl_then (DNumber w e sp) rest) s id f own = units-plain rest (after_decl s (DNumber w e sp)) id (all_back Free (decl_sites s (DNumber w e sp)) (decls_sites (after_decl s (DNumber w e sp)) rest) f) own.1
+  units-plain (decl_then (DEnumeration w ws sp) rest) s id f own = units-plain rest (after_decl s (DEnumeration w ws sp)) id (all_back Free (decl_sites s (DEnumeration w ws sp)) (decls_sites (after_decl s (DEnumeration w ws sp)) rest) f) own.1
+  units-plain (decl_then (DArray w i x sp) rest) s id f own = units-plain rest (after_decl s (DArray w i x sp)) id (all_back Free (decl_sites s (DArray w i x sp)) (decls_sites (after_decl s (DArray w i x sp)) rest) f) own.1
+  units-plain (decl_then (DSubtype w x sp) rest) s id f own = units-plain rest (after_decl s (DSubtype w x sp)) id (all_back Free (decl_sites s (DSubtype w x sp)) (decls_sites (after_decl s (DSubtype w x sp)) rest) f) own.1
+  units-plain (decl_then (DException ws sp) rest) s id f own = units-plain rest (after_decl s (DException ws sp)) id (all_back Free (decl_sites s (DException ws sp)) (decls_sites (after_decl s (DException ws sp)) rest) f) own.1
+  units-plain (decl_then (DIntIo w sp) rest) s id f own = units-plain rest (after_decl s (DIntIo w sp)) id (all_back Free (decl_sites s (DIntIo w sp)) (decls_sites (after_decl s (DIntIo w sp)) rest) f) own.1
+  units-plain (decl_then (DPragma e sp) rest) s id f own = units-plain rest (after_decl s (DPragma e sp)) id (all_back Free (decl_sites s (DPragma e sp)) (decls_sites (after_decl s (DPragma e sp)) rest) f) own.1
+  units-plain (decl_then (DTask t sp) rest) s id f own = units-plain rest (after_decl s (DTask t sp)) id (all_back Free (decl_sites s (DTask t sp)) (decls_sites (after_decl s (DTask t sp)) rest) f) own.1
 
   -- ---- the objects of main
 
@@ -165,7 +165,7 @@ module _ (old : ℕ → Bool) (T U : TypeTable) (before after : List (List ℕ))
       by_form (Some form) =
           let fixed = s.in_main && (false || is_task_object (declared_object s false x).thing) in
           let named = names_sites fixed s ws in
-          let places = all-front Free named (shape_sites s false x i) (all-front Free (named ++ shape_sites s false x i) (if_there (init_sites s (declared_object s false x).types (object_marking (declared_object s false x))) i) f) in
+          let places = all_front Free named (shape_sites s false x i) (all_front Free (named ++ shape_sites s false x i) (if_there (init_sites s (declared_object s false x).types (object_marking (declared_object s false x))) i) f) in
           words-plain form i ws vars own.0.4 (recursion_from_All (EveryWord (old_names old)) ws own.0.1.1) (free-words fixed s ws flag places) h
   main-object ws true x i sp rest s vars other f own arrays h = by_form (form_of T x) refl
     where
@@ -180,20 +180,20 @@ module _ (old : ℕ → Bool) (T U : TypeTable) (before after : List (List ℕ))
   pub main-plain : (ds : PDecls) (s : Scope) (vars : Variables) → AllByRecursion Free (decls_sites s ds) → EveryDecls (old_names old) ds → ArraysFree ds → AllByRecursion IsPlainObject vars → AllByRecursion IsPlainObject (objects_of T true (staying s ds) vars)
   main-plain no_decl s vars f own arrays h = h
   main-plain (decl_then (DObject ws c x i sp) rest) s vars f own arrays h = by_test (is_no_task (marking s (mark_of x))) refl
-      (λ more k. main-plain rest (after_decl s (DObject ws c x i sp)) more (all-back Free (decl_sites s (DObject ws c x i sp)) (decls_sites (after_decl s (DObject ws c x i sp)) rest) f) own.1 arrays.1 k)
+      (λ more k. main-plain rest (after_decl s (DObject ws c x i sp)) more (all_back Free (decl_sites s (DObject ws c x i sp)) (decls_sites (after_decl s (DObject ws c x i sp)) rest) f) own.1 arrays.1 k)
     where
       by_test : (b : Bool) → is_no_task (marking s (mark_of x)) ≡ b → ((more : Variables) → AllByRecursion IsPlainObject more → AllByRecursion IsPlainObject (objects_of T true (staying (after_decl s (DObject ws c x i sp)) rest) more)) →
           AllByRecursion IsPlainObject (objects_of T true (if_stays b (DObject ws c x i sp) (staying (after_decl s (DObject ws c x i sp)) rest)) vars)
       by_test false e later = later vars h
       by_test true e later =
           later (after_declaration T true (DObject ws c x i sp) vars)
-          (main-object ws c x i sp rest s vars e (all-front Free (decl_sites s (DObject ws c x i sp)) (decls_sites (after_decl s (DObject ws c x i sp)) rest) f) own arrays.0 h)
-  main-plain (decl_then (DTask t sp) rest) s vars f own arrays h = main-plain rest (after_decl s (DTask t sp)) vars (all-back Free (decl_sites s (DTask t sp)) (decls_sites (after_decl s (DTask t sp)) rest) f) own.1 arrays.1 h
-  main-plain (decl_then (DTaskBody w ds b sp) rest) s vars f own arrays h = main-plain rest (after_decl s (DTaskBody w ds b sp)) vars (all-back Free (decl_sites s (DTaskBody w ds b sp)) (decls_sites (after_decl s (DTaskBody w ds b sp)) rest) f) own.1 arrays.1 h
-  main-plain (decl_then (DNumber w e sp) rest) s vars f own arrays h = main-plain rest (after_decl s (DNumber w e sp)) vars (all-back Free (decl_sites s (DNumber w e sp)) (decls_sites (after_decl s (DNumber w e sp)) rest) f) own.1 arrays.1 h
-  main-plain (decl_then (DEnumeration w ws sp) rest) s vars f own arrays h = main-plain rest (after_decl s (DEnumeration w ws sp)) vars (all-back Free (decl_sites s (DEnumeration w ws sp)) (decls_sites (after_decl s (DEnumeration w ws sp)) rest) f) own.1 arrays.1 h
-  main-plain (decl_then (DArray w i x sp) rest) s vars f own arrays h = main-plain rest (after_decl s (DArray w i x sp)) vars (all-back Free (decl_sites s (DArray w i x sp)) (decls_sites (after_decl s (DArray w i x sp)) rest) f) own.1 arrays.1 h
-  main-plain (decl_then (DSubtype w x sp) rest) s vars f own arrays h = main-plain rest (after_decl s (DSubtype w x sp)) vars (all-back Free (decl_sites s (DSubtype w x sp)) (decls_sites (after_decl s (DSubtype w x sp)) rest) f) own.1 arrays.1 h
-  main-plain (decl_then (DException ws sp) rest) s vars f own arrays h = main-plain rest (after_decl s (DException ws sp)) vars (all-back Free (decl_sites s (DException ws sp)) (decls_sites (after_decl s (DException ws sp)) rest) f) own.1 arrays.1 h
-  main-plain (decl_then (DIntIo w sp) rest) s vars f own arrays h = main-plain rest (after_decl s (DIntIo w sp)) vars (all-back Free (decl_sites s (DIntIo w sp)) (decls_sites (after_decl s (DIntIo w sp)) rest) f) own.1 arrays.1 h
-  main-plain (decl_then (DPragma e sp) rest) s vars f own arrays h = main-plain rest (after_decl s (DPragma e sp)) vars (all-back Free (decl_sites s (DPragma e sp)) (decls_sites (after_decl s (DPragma e sp)) rest) f) own.1 arrays.1 h
+          (main-object ws c x i sp rest s vars e (all_front Free (decl_sites s (DObject ws c x i sp)) (decls_sites (after_decl s (DObject ws c x i sp)) rest) f) own arrays.0 h)
+  main-plain (decl_then (DTask t sp) rest) s vars f own arrays h = main-plain rest (after_decl s (DTask t sp)) vars (all_back Free (decl_sites s (DTask t sp)) (decls_sites (after_decl s (DTask t sp)) rest) f) own.1 arrays.1 h
+  main-plain (decl_then (DTaskBody w ds b sp) rest) s vars f own arrays h = main-plain rest (after_decl s (DTaskBody w ds b sp)) vars (all_back Free (decl_sites s (DTaskBody w ds b sp)) (decls_sites (after_decl s (DTaskBody w ds b sp)) rest) f) own.1 arrays.1 h
+  main-plain (decl_then (DNumber w e sp) rest) s vars f own arrays h = main-plain rest (after_decl s (DNumber w e sp)) vars (all_back Free (decl_sites s (DNumber w e sp)) (decls_sites (after_decl s (DNumber w e sp)) rest) f) own.1 arrays.1 h
+  main-plain (decl_then (DEnumeration w ws sp) rest) s vars f own arrays h = main-plain rest (after_decl s (DEnumeration w ws sp)) vars (all_back Free (decl_sites s (DEnumeration w ws sp)) (decls_sites (after_decl s (DEnumeration w ws sp)) rest) f) own.1 arrays.1 h
+  main-plain (decl_then (DArray w i x sp) rest) s vars f own arrays h = main-plain rest (after_decl s (DArray w i x sp)) vars (all_back Free (decl_sites s (DArray w i x sp)) (decls_sites (after_decl s (DArray w i x sp)) rest) f) own.1 arrays.1 h
+  main-plain (decl_then (DSubtype w x sp) rest) s vars f own arrays h = main-plain rest (after_decl s (DSubtype w x sp)) vars (all_back Free (decl_sites s (DSubtype w x sp)) (decls_sites (after_decl s (DSubtype w x sp)) rest) f) own.1 arrays.1 h
+  main-plain (decl_then (DException ws sp) rest) s vars f own arrays h = main-plain rest (after_decl s (DException ws sp)) vars (all_back Free (decl_sites s (DException ws sp)) (decls_sites (after_decl s (DException ws sp)) rest) f) own.1 arrays.1 h
+  main-plain (decl_then (DIntIo w sp) rest) s vars f own arrays h = main-plain rest (after_decl s (DIntIo w sp)) vars (all_back Free (decl_sites s (DIntIo w sp)) (decls_sites (after_decl s (DIntIo w sp)) rest) f) own.1 arrays.1 h
+  main-plain (decl_then (DPragma e sp) rest) s vars f own arrays h = main-plain rest (after_decl s (DPragma e sp)) vars (all_back Free (decl_sites s (DPragma e sp)) (decls_sites (after_decl s (DPragma e sp)) rest) f) own.1 arrays.1 h

@@ -16,9 +16,10 @@ use Rattle.syn_event.specs.declared.meanings.Meant.TheVariants as meant
 use Rattle.syn_event.specs.CheckScope.{Unit as CheckUnit, CheckScope, meaning as check_meaning}
 use Rattle.syn_event.specs.CheckSites.{with_meant, with_object, with_value, after_decl as check_after_decl, after_object as check_after_object, unit_of}
 use Rattle.rewritten_types.specs.Rewriting.{IsUsed, IsUnused, names_declared}
-use Rattle.rewritten_types.proofs.Lookups.{all-weaker, all-append, find-only, find-none}
+use Rattle.rewritten_types.proofs.Lookups.{find-only}
 use Rattle.rewritten_types.proofs.Fresh.{other, used-more}
-use Rattle.legal_sites.proofs.Around.{some-same}
+use Rattle.common_lemmas.proofs.Lists.{all_joined, all_weaker, find_front, found_none}
+use Rattle.common_lemmas.proofs.Options.{some_same}
 
 abbrev pub is_task : NameId → PTask → Bool
 is_task id t = t.name.name.0 == id.0
@@ -73,10 +74,10 @@ module _ (done : List PTask) (units : List CheckUnit) where
   }
 
   name-seen : (thing : Thing) (w : Word) (s : Scope) → IsNoUnit thing → AreSeen done units s → AreSeen done units (with_name thing s w)
-  name-seen thing w s n h = record { things = λ id th e. by_test id th (w.name.0 == id.0) e; used = all-weaker _ _ done (λ t u. used-more s w.name.0 t.name.name u) h.used }
+  name-seen thing w s n h = record { things = λ id th e. by_test id th (w.name.0 == id.0) e; used = all_weaker _ _ done (λ t u. used-more s w.name.0 t.name.name u) h.used }
     where
       by_test : (id : NameId) (th : Thing) (b : Bool) → option_map (λ (x : Seen). x.thing) (if b then Some (seen_as thing w.name.0) else find (λ x. x.name == id.0) s.names) ≡ Some th → ThingSeen done units id th
-      by_test id th true e = subst (ThingSeen done units id) (some-same e) (other-seen done units id thing n)
+      by_test id th true e = subst (ThingSeen done units id) (some_same e) (other-seen done units id thing n)
       by_test id th false e = h.things id th e
 
   names-seen : (thing : Thing) (ws : List Word) (s : Scope) → IsNoUnit thing → AreSeen done units s → AreSeen done units (with_names thing s ws)
@@ -127,17 +128,9 @@ type-other None = tt
 
 -- ---- a task
 
-pub find-front : {A : Type 0} (p : A → Bool) (xs ys : List A) (x : A) → find p xs ≡ Some x → find p (xs ++ ys) ≡ Some x
-find-front p [] ys x e = absurd (none-some x e)
-find-front p (y ∷ xs) ys x e = by_test (p y) e (find-front p xs ys x)
-  where
-    by_test : (b : Bool) → (if b then Some y else find p xs) ≡ Some x → (find p xs ≡ Some x → find p (xs ++ ys) ≡ Some x) → (if b then Some y else find p (xs ++ ys)) ≡ Some x
-    by_test true f rest = f
-    by_test false f rest = rest f
-
 -- the tasks before have other names
 pub others-before : (done : List PTask) (s : Scope) (w : Word) (id : NameId) → w.name.0 ≡ id.0 → IsUnused s w → AllByRecursion (λ (t : PTask). IsUsed s t.name.name) done → AllByRecursion (λ (t : PTask). is_task id t ≡ false) done
-others-before done s w id e u h = all-weaker _ _ done one h
+others-before done s w id e u h = all_weaker _ _ done one h
   where
     one : (t : PTask) → IsUsed s t.name.name → is_task id t ≡ false
     one t k = by_test (t.name.name.0 == id.0) refl
@@ -149,7 +142,7 @@ others-before done s w id e u h = all-weaker _ _ done one h
 task-seen : (done : List PTask) (units : List CheckUnit) (t : PTask) (s : Scope) → IsUnused s t.name → AreSeen done units s → AreSeen (done ++ t ∷ []) (unit_of t ∷ units) (with_name (task_thing t.of_kind (map (entry_part s) t.entries)) s t.name)
 task-seen done units t s u h = record {
   things = λ id th e. by_test id th (t.name.name.0 == id.0) refl e;
-  used = all-append _ done (t ∷ []) (all-weaker _ _ done (λ x k. used-more s t.name.name.0 x.name.name k) h.used)
+  used = all_joined _ done (t ∷ []) (all_weaker _ _ done (λ x k. used-more s t.name.name.0 x.name.name k) h.used)
       (or_right (is_predefined t.name.name.0) _ (or_left (t.name.name.0 == t.name.name.0) (is_among s.here t.name.name.0) (eq-eqb t.name.name.0 t.name.name.0 refl)), tt);
 }
   where
@@ -158,7 +151,7 @@ task-seen done units t s u h = record {
       task = t;
       around = s;
       entries = refl;
-      found = find-only (is_task id) done t (find-none (is_task id) done (others-before done s t.name id (eqb-true t.name.name.0 id.0 f) u h.used)) f;
+      found = find-only (is_task id) done t (found_none (is_task id) done (others-before done s t.name id (eqb-true t.name.name.0 id.0 f) u h.used)) f;
       unit = ap (λ b. if b then Some (unit_of t) else find (is_unit id) units) f;
     }
 
@@ -171,7 +164,7 @@ task-seen done units t s u h = record {
       task = x.task;
       around = x.around;
       entries = x.entries;
-      found = find-front (is_task id) done (t ∷ []) x.task x.found;
+      found = find_front (is_task id) done (t ∷ []) x.task x.found;
       unit = ap (λ b. if b then Some (unit_of t) else find (is_unit id) units) f ∙ x.unit;
     }
 
@@ -193,7 +186,7 @@ task-seen done units t s u h = record {
 
     by_test : (id : NameId) (th : Thing) (b : Bool) → (t.name.name.0 == id.0) ≡ b →
         option_map (λ (x : Seen). x.thing) (if b then Some (seen_as (task_thing t.of_kind (map (entry_part s) t.entries)) t.name.name.0) else find (λ x. x.name == id.0) s.names) ≡ Some th → ThingSeen (done ++ t ∷ []) (unit_of t ∷ units) id th
-    by_test id th true f e = subst (ThingSeen (done ++ t ∷ []) (unit_of t ∷ units) id) (some-same e) (new-thing id t.of_kind f)
+    by_test id th true f e = subst (ThingSeen (done ++ t ∷ []) (unit_of t ∷ units) id) (some_same e) (new-thing id t.of_kind f)
     by_test id th false f e = later-thing id th f (h.things id th e)
 
 -- ---- declarations
@@ -264,7 +257,7 @@ first-others [] id thing h e = absurd (none-some thing e)
 first-others (x ∷ xs) id thing h e = by_test (x.name == id.0) e (first-others xs id thing h.1)
   where
     by_test : (b : Bool) → option_map (λ (y : Seen). y.thing) (if b then Some x else find (λ y. y.name == id.0) xs) ≡ Some thing → (option_map (λ (y : Seen). y.thing) (find (λ y. y.name == id.0) xs) ≡ Some thing → IsNoUnit thing) → IsNoUnit thing
-    by_test true f rest = subst IsNoUnit (some-same f) h.0
+    by_test true f rest = subst IsNoUnit (some_same f) h.0
     by_test false f rest = rest f
 
 pub first-seen : (w : Word) → AreSeen [] [] (first_scope w)

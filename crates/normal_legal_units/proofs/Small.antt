@@ -26,14 +26,17 @@ use Rattle.ada_tree.specs.RuleDuplicate.{is_predefined, is_among}
 use Rattle.ada_tree.specs.Declaring.{predefined_types, first_scope, inside, with_types, with_name, with_names, add_kind, made, made_range, subind_made, made_subind, drange_range, made_array, renamed, declared_object, plain_object, array_object, add_constants, with_constants, constant_mark, constant_value, after_decl, after_decls}
 use Rattle.ada_value.specs.Values.{word}
 use Rattle.rewritten_types.specs.Agreement.{scalar_only, Keeps}
-use Rattle.rewritten_types.proofs.Lookups.{earlier-or-last, place-last, some-same}
+use Rattle.rewritten_types.proofs.Lookups.{earlier-or-last}
 use Rattle.rewritten_types.proofs.Adding.{names-types, keeps-decl}
 use Rattle.rewritten_types.proofs.Owning.{nobody, all-new}
 use Rattle.legal_types.specs.Typed.{IsSmallKind, IsSmall}
 use Rattle.legal_types.proofs.FirmTables.{scalar-kind}
 use Rattle.legal_sites.specs.Met.{IsMet}
-use Rattle.legal_sites.proofs.Meeting.{all-front, all-back, all_met}
-use Rattle.normal_legal_units.proofs.Fixing.{no-word}
+use Rattle.legal_sites.proofs.Meeting.{all_met}
+use Rattle.common_lemmas.proofs.Lists.{all_back, all_front, last_at}
+use Rattle.common_lemmas.proofs.Options.{some_same}
+use Rattle.legal_types.proofs.GoodDeclarations.{length-mapped}
+use Rattle.rewritten_types.proofs.Refused.{no_word}
 
 -- ---- numbers below a bound that differ
 
@@ -112,7 +115,7 @@ Fresh here (w ∷ ws) = (is_among here w.name.0 ≡ false) × Fresh (w.name.0 �
 names-fresh : (fixed : Bool) (s : Scope) (ws : List Word) → AllByRecursion IsMet (names_sites fixed s ws) → Fresh s.here ws
 names-fresh fixed s [] h = tt
 names-fresh fixed s (w ∷ ws) h = (
-  (or_parts (is_predefined w.name.0) (is_among s.here w.name.0) (or_parts (is_predefined w.name.0 || is_among s.here w.name.0) _ (or_parts (is_predefined w.name.0 || is_among s.here w.name.0 || _) _ (no-word _ w h.0.once)).0).0).1,
+  (or_parts (is_predefined w.name.0) (is_among s.here w.name.0) (or_parts (is_predefined w.name.0 || is_among s.here w.name.0) _ (or_parts (is_predefined w.name.0 || is_among s.here w.name.0 || _) _ (no_word _ w h.0.once)).0).0).1,
   names-fresh fixed (record s { here = w.name.0 ∷ s.here }) ws h.1,
 )
 
@@ -147,10 +150,6 @@ module _ (names : List (List ℕ)) where
   good-words thing (w ∷ ws) s b f h =
       let r = good-words thing ws (with_name thing s w) b.1 f.1 record { below = (b.0, h.below); distinct = (f.0, h.distinct) } in
       (r.0, r.1 ∙ (let q : length ws + suc (length s.here) ≡ suc (length ws) + length s.here = omega arith in q))
-
-literal-count : (ws : List Word) → length (map (λ (w : Word). w.name) ws) ≡ length ws
-literal-count [] = refl
-literal-count (w ∷ ws) = ap suc (literal-count ws)
 
 -- ---- kinds
 
@@ -252,7 +251,7 @@ module _ (names : List (List ℕ)) (few : length names ≤ 2147483648) where
       by_place : (k : ℕ) (x : Kind) → kind_at (made (add_kind T (Enumeration ids)) m).types k ≡ Some x → (slice_get (T.kinds ++ Enumeration ids ∷ []) k ≡ slice_get T.kinds k) ⊎ (k ≡ length T.kinds) → IsSmallKind k x
       by_place k x e o =
           ⊎_elim (λ (same : slice_get (T.kinds ++ Enumeration ids ∷ []) k ≡ slice_get T.kinds k). small.kinds k x (sym same ∙ e))
-          (λ (end : k ≡ length T.kinds). subst (IsSmallKind k) (some-same (sym (place-last T.kinds (Enumeration ids)) ∙ ap (slice_get (T.kinds ++ Enumeration ids ∷ [])) (sym end) ∙ e)) (few-ids, last k end)) o
+          (λ (end : k ≡ length T.kinds). subst (IsSmallKind k) (some_same (sym (last_at T.kinds (Enumeration ids)) ∙ ap (slice_get (T.kinds ++ Enumeration ids ∷ [])) (sym end) ∙ e)) (few-ids, last k end)) o
 
   -- one name more
   one-here : (w : Word) (s : Scope) → EveryWord (well_placed names) w → AllByRecursion IsMet (names_sites true s (w ∷ [])) → GoodHere names s.here → GoodHere names (w.name.0 ∷ s.here)
@@ -267,7 +266,7 @@ module _ (names : List (List ℕ)) (few : length names ≤ 2147483648) where
   decl-counted (DObject ws k x i sp) s first h m c =
       let named = names_sites (s.in_main && (k || is_task_object (declared_object s k x).thing)) s ws in
       let three = if_there (init_sites s (declared_object s k x).types (object_marking (declared_object s k x))) i in
-      let fresh = names-fresh _ s ws (all-front IsMet named (shape_sites s k x i) (all-front IsMet (named ++ shape_sites s k x i) three m)) in
+      let fresh = names-fresh _ s ws (all_front IsMet named (shape_sites s k x i) (all_front IsMet (named ++ shape_sites s k x i) three m)) in
       let r = good-words names (declared_object s k x).thing ws (with_types (with_constants s ws i (declared_object s k x)) s) (words-below names ws h.1.1) fresh c.here in
       record {
         here = r.0;
@@ -286,7 +285,7 @@ module _ (names : List (List ℕ)) (few : length names ≤ 2147483648) where
       let same : (with_names (Literal (length s.types.kinds)) named ws).types ≡ U = names-types (Literal (length s.types.kinds)) ws named in
       let kinds : length (with_names (Literal (length s.types.kinds)) named ws).types.kinds ≡ length U.kinds = ap (λ (T : TypeTable). length T.kinds) same in
       let added : length U.kinds ≡ length s.types.kinds + 1 = length-append s.types.kinds (Enumeration ids ∷ []) in
-      let written : length ids ≡ length ws = literal-count ws in
+      let written : length ids ≡ length ws = length-mapped ws in
       record {
         here = r.0;
         kinds = omega (arith, c.kinds, r.1, h.2.0, kinds, added);
@@ -329,7 +328,7 @@ module _ (names : List (List ℕ)) (few : length names ≤ 2147483648) where
 
   next : (d : PDecl) (rest : PDecls) (s : Scope) → IsFirstDecl d → EveryDecls (well_placed names) (decl_then d rest) → AllByRecursion IsMet (decls_sites s (decl_then d rest)) → Counted s → (AllByRecursion IsMet (decls_sites (after_decl s d) rest) → Counted (after_decl s d) → IsSmall (after_decls (after_decl s d) rest).types) →
       IsSmall (after_decls (after_decl s d) rest).types
-  next d rest s first h m c more = more (all-back IsMet (decl_sites s d) (decls_sites (after_decl s d) rest) m) (decl-counted d s first h.0 (all-front IsMet (decl_sites s d) (decls_sites (after_decl s d) rest) m) c)
+  next d rest s first h m c more = more (all_back IsMet (decl_sites s d) (decls_sites (after_decl s d) rest) m) (decl-counted d s first h.0 (all_front IsMet (decl_sites s d) (decls_sites (after_decl s d) rest) m) c)
 
   decls-small : (ds : PDecls) (s : Scope) → BodiesLast ds → EveryDecls (well_placed names) ds → AllByRecursion IsMet (decls_sites s ds) → Counted s → IsSmall (after_decls s ds).types
   decls-small no_decl s l h m c = c.small
@@ -345,15 +344,15 @@ module _ (names : List (List ℕ)) (few : length names ≤ 2147483648) where
   decls-small (decl_then (DTask t sp) rest) s l h m c = next (DTask t sp) rest s tt h m c (λ q z. decls-small rest (after_decl s (DTask t sp)) l h.1 q z)
 
 first-small : (k : ℕ) (x : Kind) → kind_at predefined_types k ≡ Some x → IsSmallKind k x
-first-small zero x e = subst (IsSmallKind 0) (some-same e) tt
-first-small (suc zero) x e = subst (IsSmallKind 1) (some-same e) tt
+first-small zero x e = subst (IsSmallKind 0) (some_same e) tt
+first-small (suc zero) x e = subst (IsSmallKind 1) (some_same e) tt
 first-small (suc (suc k)) x e = absurd (none-some x e)
 
 -- A legal program with few names has small enumerations.
 pub few-names-small : (p : PProgram) → MeetsTypeRules p → IsWellPlaced p → length p.names ≤ 2 ^ 31 → IsSmall (types_in p)
 few-names-small p types placed few =
     decls-small p.names (omega (arith, few)) p.decls (first_scope p.name) placed.1 placed.2
-    (all-front IsMet (decls_sites (first_scope p.name) p.decls) (body_sites (inside (after_decls (first_scope p.name) p.decls)) p.body) (all_met p types).1)
+    (all_front IsMet (decls_sites (first_scope p.name) p.decls) (body_sites (inside (after_decls (first_scope p.name) p.decls)) p.body) (all_met p types).1)
     record {
       here = record { below = (word-below p.names p.name placed.0, tt); distinct = (refl, tt) };
       kinds = omega arith;

@@ -7,6 +7,7 @@ use Rattle.std.proofs.lemmas.Bool.{ne_eqb, lt-ltb, or_left, or_right}
 use Rattle.std.proofs.lemmas.Fmt.{decimal_injective}
 use Rattle.syn_event.specs.RuleReservedName.{has_mark, is_reserved}
 use Rattle.normal_model.specs.Names.{index_text, member_text}
+use Rattle.normal_runs_law.proofs.Imitating.{first-caller}
 
 -- ---- digits
 
@@ -42,9 +43,6 @@ index-plain (negsuc n) = (refl, decimal-plain 95 (omega arith) (suc n))
 
 -- ---- the last underscore
 
-head-same : {x y : ℕ} {xs ys : List ℕ} → x ∷ xs ≡ y ∷ ys → x ≡ y
-head-same e = cc
-
 tail-same : {x y : ℕ} {xs ys : List ℕ} → x ∷ xs ≡ y ∷ ys → xs ≡ ys
 tail-same e = cc
 
@@ -56,14 +54,14 @@ last-line : (xs ys i j : List ℕ) → NoLine i → NoLine j → xs ++ 95 ∷ i 
 last-line [] [] i j h k e = (refl, tail-same e)
 last-line [] (y ∷ ys) i j h k e = absurd (line-there ys j (subst NoLine (tail-same e) h))
 last-line (x ∷ xs) [] i j h k e = absurd (line-there xs i (subst NoLine (sym (tail-same e)) k))
-last-line (x ∷ xs) (y ∷ ys) i j h k e = let r = last-line xs ys i j h k (tail-same e) in (ap (λ (z : ℕ). z ∷ xs) (head-same e) ∙ ap (λ (zs : List ℕ). y ∷ zs) r.0, r.1)
+last-line (x ∷ xs) (y ∷ ys) i j h k e = let r = last-line xs ys i j h k (tail-same e) in (ap (λ (z : ℕ). z ∷ xs) (first-caller e) ∙ ap (λ (zs : List ℕ). y ∷ zs) r.0, r.1)
 
 -- what stands in front of the same is the same
 front-same : (xs ys zs : List ℕ) → xs ++ zs ≡ ys ++ zs → xs ≡ ys
 front-same [] [] zs e = refl
 front-same [] (y ∷ ys) zs e = absurd (omega (arith, ap (λ (l : List ℕ). length l) e, length-append (y ∷ ys) zs))
 front-same (x ∷ xs) [] zs e = absurd (omega (arith, ap (λ (l : List ℕ). length l) e, length-append (x ∷ xs) zs))
-front-same (x ∷ xs) (y ∷ ys) zs e = ap (λ (z : ℕ). z ∷ xs) (head-same e) ∙ ap (λ (l : List ℕ). y ∷ l) (front-same xs ys zs (tail-same e))
+front-same (x ∷ xs) (y ∷ ys) zs e = ap (λ (z : ℕ). z ∷ xs) (first-caller e) ∙ ap (λ (l : List ℕ). y ∷ l) (front-same xs ys zs (tail-same e))
 
 -- the mark but its last underscore
 abbrev mark : List ℕ

@@ -24,10 +24,10 @@ use Rattle.rewritten_values.proofs.Saying.{place-within}
 use Rattle.normal_types.specs.Laws.{IsOrdered, setting_of}
 use Rattle.normal_types.proofs.Names.{fold-begins, interned-has, text-place}
 use Rattle.normal_units.proofs.Pairs.{names_tell_units}
-use Rattle.legal_sites.proofs.Meeting.{all-flat}
-use Rattle.legal_sites.proofs.Around.{some-same}
 use Rattle.normal_legal_units.proofs.TaskNames.{IsShort, SameIndex, index-same, members-same, member-reserved}
 use Rattle.normal_legal_units.proofs.DeclaredNames.{IsGood, tasks-good}
+use Rattle.common_lemmas.proofs.Lists.{all_flat}
+use Rattle.common_lemmas.proofs.Options.{some_same}
 
 -- the text of a task's name in the normal form
 abbrev pub full_text : List ℕ → Option ℤ → List ℕ
@@ -70,7 +70,7 @@ module _ (g : Setting) where
   HasMembers info = AllByRecursion (IsIn (with_members g)) (texts_of_member (text_of names info.name) info.member)
 
   pub members-there : AllByRecursion HasMembers g.numbers.tasks
-  members-there = all-flat (IsIn (with_members g)) (λ (info : TaskInfo). texts_of_member (text_of names info.name) info.member) g.numbers.tasks (fold-has (member_texts names g.numbers.tasks) names)
+  members-there = all_flat (IsIn (with_members g)) (λ (info : TaskInfo). texts_of_member (text_of names info.name) info.member) g.numbers.tasks (fold-has (member_texts names g.numbers.tasks) names)
 
   begins : Begins names (with_members g)
   begins = fold-begins (member_texts names g.numbers.tasks) names
@@ -109,7 +109,7 @@ module _ (g : Setting) where
 
   pub tasks-apart : AreNames names → (a b : TaskInfo) → IsNamed a → IsNamed b → (task_name g a).0 ≡ (task_name g b).0 → (a.name.0 ≡ b.name.0) × SameIndex a.member b.member
   tasks-apart are a b n m e =
-      let r = texts-same n.text m.text a.member b.member n.free m.free (some-same (sym n.found ∙ ap (slice_get (with_members g)) e ∙ m.found)) in
+      let r = texts-same n.text m.text a.member b.member n.free m.free (some_same (sym n.found ∙ ap (slice_get (with_members g)) e ∙ m.found)) in
       (are.distinct n.text a.name.0 b.name.0 n.there (m.there ∙ ap Some (sym r.0)), r.1)
 
 -- ---- all tasks of a program

@@ -18,14 +18,14 @@ use Rattle.ada_value.specs.Variables.{form_of_kind, form_of_mark}
 use Rattle.syn_event.specs.Units.{tasks_of}
 use Rattle.task_model.specs.Starting.{marked_form, plain_form, form_of}
 use Rattle.rewritten_types.specs.Agreement.{scalar_only as scalar_kind_only}
-use Rattle.rewritten_types.proofs.Lookups.{all-weaker}
 use Rattle.legal_types.specs.Typed.{IsScalarName, HasTypedTasks}
 use Rattle.legal_types.proofs.ExprKinds.{scalar-mark}
 use Rattle.legal_types.proofs.MainScopes.{Stands, AllStand}
 use Rattle.legal_types.proofs.TaskTypes.{name-here}
-use Rattle.legal_sites.proofs.Around.{some-same}
 use Rattle.normal_legal_units.proofs.Lowers.{AreWorth}
 use Rattle.normal_legal_units.proofs.ArrayConstants.{AreScalarStill}
+use Rattle.common_lemmas.proofs.Lists.{all_weaker}
+use Rattle.common_lemmas.proofs.Options.{some_same}
 
 -- a scalar mark is no array
 scalar-index : (T : TypeTable) (y : Mark) (o : Option Kind) (k : Kind) → scalar_kind_only o ≡ Some k → (form_of_kind T y o).index ≡ None
@@ -55,7 +55,7 @@ module _ (T : TypeTable) (s : Scope) (stands : Stands T s) where
   scalar-still x m k e form f =
       let h = named x.mark.name m k e in
       let index : (form_of_mark T h.mark).index ≡ None = scalar-index T h.mark (kind_at T h.mark.kind) h.scalar.0 h.scalar.1 in
-      let same : marked_form T x h.mark (form_of_mark T h.mark).index ≡ form = some-same (sym (ap (plain_form T x) h.named) ∙ f) in
+      let same : marked_form T x h.mark (form_of_mark T h.mark).index ≡ form = some_same (sym (ap (plain_form T x) h.named) ∙ f) in
       sym (ap (λ (y : Form). is_none y.index) same) ∙ ap (λ (o : Option Limits). is_none (marked_form T x h.mark o).index) index
 
 -- so it is along the declarations of main
@@ -77,5 +77,5 @@ stand-still T (decl_then (DTaskBody w ds b sp) rest) s h = (tt, stand-still T re
 -- the marks of formals have lower bounds that are values
 pub formals-worth : (p : PProgram) → HasTypedTasks p → AreWorth p
 formals-worth p h =
-    all-weaker _ _ (tasks_of p)
-    (λ t k. all-weaker _ _ t.entries (λ e q. all-weaker _ _ e.formals (λ f n. record { mark = n.mark; named = n.named; first = n.first.same }) q.formals) k.entries) h.tasks
+    all_weaker _ _ (tasks_of p)
+    (λ t k. all_weaker _ _ t.entries (λ e q. all_weaker _ _ e.formals (λ f n. record { mark = n.mark; named = n.named; first = n.first.same }) q.formals) k.entries) h.tasks

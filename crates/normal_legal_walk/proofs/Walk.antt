@@ -22,7 +22,7 @@ use Rattle.translation_law.specs.OldNames.{OldRange, old_given, old_marked, OldS
 use Rattle.translation_law.specs.OldTexts.{Asked, OldCallees, old_no_callee, old_callee, OldWords, old_no_word, old_word, OldFormals, old_no_formal, old_formal, OldHead, OldStmt, old_null, old_assign, old_delay, old_exit, old_raise, old_abort, old_call, old_accept, old_wait, old_conditional, old_timed, old_put, old_put_line, old_new_line, old_get, old_if, old_case, old_block, old_loop, OldStmts, old_no_stmt, old_stmt, OldMaybe, old_absent, old_present, OldAlts, old_no_alt, old_alt, OldKind, old_accepts, old_delays, old_terminates, OldArms, old_no_arm, old_arm, OldCaseArms, old_no_case_arm, old_case_arm, OldHandlers, old_no_handler, old_handler, OldBody, old_body}
 use Rattle.normal_legal_walk.specs.Gives.{Known, Gives}
 use Rattle.normal_legal_walk.proofs.Names.{expr-old, option-old, bounds-old, target-old, call-old, parts-old, choices-old}
-use Rattle.syn_event.proofs.Nothing.{all_front, all_back}
+use Rattle.common_lemmas.proofs.Lists.{all_back, all_front}
 
 module _ (a : Asked) (r : Rules) (k : Known) (g : Gives a r k) where
   abbrev AllAt : List Site → Type 0

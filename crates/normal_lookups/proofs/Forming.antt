@@ -17,6 +17,7 @@ use Rattle.normal_lookups.specs.declared.forms.EntryForm.{EntryForm}
 use Rattle.normal_lookups.specs.inner.Forms.{form_in, form_of}
 use Rattle.normal_lookups.specs.inner.Kept.{entry_named, seen_entry, seen_form, seen_unit, units_named}
 use Rattle.normal_lookups.proofs.Finding.{meaning_made}
+use Rattle.syn_event.proofs.DeclLists.{listed_back}
 
 -- ---- slots
 
@@ -50,12 +51,8 @@ slots_more f formals i x what words so_far grown lt is made same before grows =
 
 -- ---- units
 
-row_list : (ds : List PDecl) → decl_list (decls_of ds) ≡ ds
-row_list [] = refl
-row_list (d ∷ ds) = ap (λ l. d ∷ l) (row_list ds)
-
 pub tasks_of_list : (ds : List PDecl) → tasks_in (decl_list (decls_of ds)) ≡ tasks_in ds
-tasks_of_list ds = ap tasks_in (row_list ds)
+tasks_of_list ds = ap tasks_in (listed_back ds)
 
 -- what is kept for a unit is what its task or task type declares
 unit_is : (kept : List (ℕ × List (ℕ × EntryForm))) (p : PProgram) (unit : NameId) (u : Option (List (ℕ × EntryForm))) → meaning_in kept unit.0 ≡ u → map seen_unit kept ≡ units_named (tasks_of p) →

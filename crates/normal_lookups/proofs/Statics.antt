@@ -1,5 +1,5 @@
 -- Names that are known to be static, one after the other.
-use Rattle.std.proofs.Common.{◌≡◌, ◌==◌, ◌<◌, ◌+◌, ℕ, zero, suc, Bool, true, false, ◌||◌, List, [], ◌∷◌, ◌++◌, take, find, position, get_or, length, Option, Some, None, option_map, is_some, cond, nat_lt, slice_get, pos, Result, Ok, Err, OnOk, if◌then◌else◌, refl, sym, ap, ◌∙◌, arith}
+use Rattle.std.proofs.Common.{◌≡◌, ◌==◌, ◌<◌, ◌+◌, ℕ, zero, suc, Bool, true, false, ◌||◌, List, [], ◌∷◌, ◌++◌, take, find, position, get_or, length, Option, Some, None, option_map, is_some, cond, nat_lt, slice_get, pos, if◌then◌else◌, refl, sym, ap, ◌∙◌, arith}
 use Rattle.std.specs.List.{list_any, position_or_len}
 use Rattle.std.proofs.lemmas.Bool.{ltb-true, ltb-false}
 use Rattle.std.proofs.lemmas.List.{take_more}
@@ -13,16 +13,10 @@ use Rattle.ada_tree.specs.StaticValue.{first_of_two, constant_named, literal_pos
 use Rattle.ada_tree.specs.Attributes.{false_name, true_name}
 use Rattle.scoped_names.specs.Meaning.{meaning_in}
 use Rattle.normal_lookups.specs.inner.Kept.{AreStatic}
+use Rattle.common_lemmas.proofs.Options.{mapped_there}
+use Rattle.common_lemmas.proofs.Truth.{or_false, or_grouped}
 
 -- ---- one name more
-
-or_false : (b : Bool) → (b || false) ≡ b
-or_false true = refl
-or_false false = refl
-
-or_more : (a b c : Bool) → ((a || b) || c) ≡ (a || (b || c))
-or_more true b c = refl
-or_more false b c = refl
 
 or_swap : (a b : Bool) → (a || b) ≡ (b || a)
 or_swap true true = refl
@@ -40,7 +34,7 @@ known_more n q t known = by (n == q) ∙ or_swap (n == q) (is_some (meaning_in k
 
 any_push : {X : Type 0} (p : X → Bool) (xs : List X) (y : X) → list_any p (xs ++ y ∷ []) ≡ (list_any p xs || p y)
 any_push p [] y = or_false (p y)
-any_push p (x ∷ xs) y = ap (λ b. p x || b) (any_push p xs y) ∙ sym (or_more (p x) (list_any p xs) (p y))
+any_push p (x ∷ xs) y = ap (λ b. p x || b) (any_push p xs y) ∙ sym (or_grouped (p x) (list_any p xs) (p y))
 
 -- one turn of a loop over what has names
 pub known_step : {X : Type 0} (name : X → ℕ) (xs : List X) (i : ℕ) (d : X) (t : Bool) (start so_far grown : List (ℕ × Bool)) → i < length xs →
@@ -51,7 +45,7 @@ known_step name xs i d t start so_far grown lt grows before q =
     ap (λ l. is_some (meaning_in l q)) grows
     ∙ known_more (name (get_or xs i d)) q t so_far
     ∙ ap (λ b. b || (name (get_or xs i d) == q)) (before q)
-    ∙ or_more (is_some (meaning_in start q)) (list_any (λ x. name x == q) (take i xs)) (name (get_or xs i d) == q)
+    ∙ or_grouped (is_some (meaning_in start q)) (list_any (λ x. name x == q) (take i xs)) (name (get_or xs i d) == q)
     ∙ ap (λ b. is_some (meaning_in start q) || b) (sym (ap (list_any (λ x. name x == q)) (take_more xs i d lt) ∙ any_push (λ x. name x == q) (take i xs) (get_or xs i d)))
 
 -- ---- literals
@@ -60,16 +54,12 @@ some_of_two : {X : Type 0} (a b : Option X) → is_some (first_of_two a b) ≡ (
 some_of_two None b = refl
 some_of_two (Some x) b = refl
 
-some_mapped : {X A : Type 0} (f : X → A) (o : Option X) → is_some (option_map f o) ≡ is_some o
-some_mapped f None = refl
-some_mapped f (Some x) = refl
-
 literals_push : (kinds : List Kind) (kind : Kind) (id : NameId) → is_some (literal_position (kinds ++ kind ∷ []) id) ≡ (is_some (literal_position kinds id) || is_some (position_in id kind))
 literals_push [] kind id = some_of_two (position_in id kind) None ∙ or_false (is_some (position_in id kind))
 literals_push (k ∷ kinds) kind id =
     some_of_two (position_in id k) (literal_position (kinds ++ kind ∷ []) id)
     ∙ ap (λ b. is_some (position_in id k) || b) (literals_push kinds kind id)
-    ∙ sym (or_more (is_some (position_in id k)) (is_some (literal_position kinds id)) (is_some (position_in id kind)))
+    ∙ sym (or_grouped (is_some (position_in id k)) (is_some (literal_position kinds id)) (is_some (position_in id kind)))
     ∙ ap (λ b. b || is_some (position_in id kind)) (sym (some_of_two (position_in id k) (literal_position kinds id)))
 
 -- one turn of the loop over kinds
@@ -80,7 +70,7 @@ pub kinds_step : (kinds : List Kind) (i : ℕ) (kind : Kind) (start so_far grown
 kinds_step kinds i kind start so_far grown lt is grows before id =
     grows id
     ∙ ap (λ b. b || is_some (position_in id kind)) (before id)
-    ∙ or_more (is_some (meaning_in start id.0)) (is_some (literal_position (take i kinds) id)) (is_some (position_in id kind))
+    ∙ or_grouped (is_some (meaning_in start id.0)) (is_some (literal_position (take i kinds) id)) (is_some (position_in id kind))
     ∙ ap (λ b. is_some (meaning_in start id.0) || b) (sym (ap (λ l. is_some (literal_position l id)) (take_more kinds i kind lt ∙ ap (λ k. take i kinds ++ k ∷ []) (sym is)) ∙ literals_push (take i kinds) kind id))
 
 -- ---- all of them
@@ -115,18 +105,14 @@ static_name types known id are = by (id.0 == false_name) (id.0 == true_name)
     rest : is_some (first_of_two (option_map (λ c. c.value) (constant_named types id)) (option_map (λ k. pos k) (literal_position types.kinds id))) ≡ is_some (meaning_in known id.0)
     rest =
         some_of_two (option_map (λ c. c.value) (constant_named types id)) (option_map (λ k. pos k) (literal_position types.kinds id))
-        ∙ ap (λ b. b || is_some (option_map (λ k. pos k) (literal_position types.kinds id))) (some_mapped (λ c. c.value) (constant_named types id))
-        ∙ ap (λ b. is_some (constant_named types id) || b) (some_mapped (λ k. pos k) (literal_position types.kinds id))
+        ∙ ap (λ b. b || is_some (option_map (λ k. pos k) (literal_position types.kinds id))) (mapped_there (λ c. c.value) (constant_named types id))
+        ∙ ap (λ b. is_some (constant_named types id) || b) (mapped_there (λ k. pos k) (literal_position types.kinds id))
         ∙ sym (are id)
 
     by : (a b : Bool) → is_some (if a then Some (pos 0) else if b then Some (pos 1) else first_of_two (option_map (λ c. c.value) (constant_named types id)) (option_map (λ k. pos k) (literal_position types.kinds id))) ≡ (a || (b || is_some (meaning_in known id.0)))
     by true b = refl
     by false true = refl
     by false false = rest
-
-pub on_ok : {A E P Q : Type 0} (r : Result A E) → (P → Q) → OnOk r P → OnOk r Q
-on_ok (Ok x) f h = f h
-on_ok (Err e) f h = h
 
 -- the names of constants and then those of literals are all
 pub all_known : (types : TypeTable) (start first last : List (ℕ × Bool)) (constants : List Constant) (kinds : List Kind) → start ≡ [] → constants ≡ types.constants → kinds ≡ types.kinds →

@@ -1,5 +1,5 @@
 -- Members that are kept, one after the other.
-use Rattle.std.proofs.Common.{◌≡◌, ◌==◌, ◌<◌, ◌+◌, ◌&&◌, ℕ, nat_eq, Bool, true, false, cond, List, [], ◌∷◌, ◌++◌, Vec, map, take, length, get_or, Some, None, option_map, is_some, unwrap_or, if◌then◌else◌, Result, Ok, Err, OnOk, true≢false, refl, sym, ap, ◌∙◌, arith}
+use Rattle.std.proofs.Common.{◌≡◌, ◌==◌, ◌<◌, ◌+◌, ◌&&◌, ℕ, nat_eq, Bool, true, false, cond, List, [], ◌∷◌, ◌++◌, Vec, map, take, length, get_or, Some, None, option_map, is_some, unwrap_or, if◌then◌else◌, true≢false, refl, sym, ap, ◌∙◌, arith}
 use Rattle.std.specs.declared.alloc.Global.{Global}
 use Rattle.std.specs.HashMap.{HashMap, get}
 use Rattle.std.proofs.lemmas.Bool.Decides.{nat_tests}
@@ -57,10 +57,6 @@ task_step g tasks i d so_far grown lt before grows array s =
     ∙ sym (ap (λ l. map (member_meant g s array) (members_among l array)) (take_more tasks i d lt)
     ∙ ap (map (member_meant g s array)) (among_push (take i tasks) (get_or tasks i d) array)
     ∙ map-append (member_meant g s array) (members_among (take i tasks) array) (members_among (get_or tasks i d ∷ []) array))
-
-pub on_ok : {A E P Q : Type 0} (r : Result A E) → (P → Q) → OnOk r P → OnOk r Q
-on_ok (Ok x) f h = f h
-on_ok (Err e) f h = h
 
 -- a member that is kept is what it is in the normal form
 pub kept_task : {S : Type 0} (g : Setting) (old new : HashMap ℕ (Vec Member Global) S) (info : TaskInfo) (member : Member) → is_some info.member ≡ true →

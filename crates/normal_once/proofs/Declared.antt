@@ -10,13 +10,15 @@ use Rattle.ada_tree.specs.Sites.{with_words, decl_sites, decls_sites}
 use Rattle.syn_event.specs.Units.{tasks_in}
 use Rattle.normal_model.specs.NormalTree.{decls_front}
 use Rattle.ada_duplicates.specs.NamedSoFar.{object_words}
-use Rattle.ada_duplicates.proofs.Behind.{with_names_is, still_in_main}
+use Rattle.ada_duplicates.proofs.Behind.{with_names_is, still_in_main, object_is}
 use Rattle.normal_has_numbers.proofs.Listed.{IsOneTask, IsOneBody}
-use Rattle.normal_once.specs.Naming.{Naming, Once, namings_of, declared}
+use Rattle.ada_duplicates.specs.NamingsInOrder.{namings_of, declared}
+use Rattle.ada_duplicates.specs.declared.namings_in_order.Naming.{Naming}
+use Rattle.ada_duplicates.specs.declared.namings_in_order.Naming.TheVariants.{Once}
 use Rattle.normal_once.specs.Names.{inner_names, tasks_names, bodies_names}
-use Rattle.normal_once.proofs.Quiet.{namings_append, none-named, declared-append, object-is}
 use Rattle.normal_once.proofs.TaskTypes.{HasTypes, types-after, no-task}
 use Rattle.normal_once.proofs.Parts.{task-is, task-body-is}
+use Rattle.ada_duplicates.proofs.Noting.{declared_append, namings_append, quiet_none}
 
 -- ---- lists of declarations
 
@@ -41,7 +43,7 @@ IsVariable _ = ⊥
 
 variable-is : (s : Scope) (d : PDecl) → IsVariable d → s.in_main ≡ true → HasTypes [] s → namings_of (decl_sites s d) ≡ declared false s.here (object_words d)
 variable-is s (DObject ws false (OPlain x) None sp) h main types =
-    object-is s ws false (OPlain x) None (declared_object s false (OPlain x)) ∙ ap₂ (λ a b. declared (a && (false || b)) s.here ws) main (no-task [] s false (OPlain x) types refl)
+    object_is s ws false (OPlain x) None (declared_object s false (OPlain x)) ∙ ap₂ (λ a b. declared (a && (false || b)) s.here ws) main (no-task [] s false (OPlain x) types refl)
 variable-is s _ h main types = absurd h
 
 variable-types : (s : Scope) (d : PDecl) → IsVariable d → HasTypes [] s → HasTypes [] (after_decl s d)
@@ -53,16 +55,16 @@ variable-here s (DObject ws false (OPlain x) None sp) h = ap (λ (t : Scope). t.
 variable-here s _ h = absurd h
 
 pub variables-are : (ds : List PDecl) (s : Scope) → AllByRecursion IsVariable ds → s.in_main ≡ true → HasTypes [] s → namings_of (decls_sites s (decls_of ds)) ≡ declared false s.here (flat_map object_words ds)
-variables-are [] s h main types = none-named
+variables-are [] s h main types = quiet_none
 variables-are (d ∷ ds) s h main types =
     then-named s d (decls_of ds) _ _ (variable-is s d h.0 main types) (variables-are ds (after_decl s d) h.1 (still_in_main s d ∙ main) (variable-types s d h.0 types))
     ∙ ap (λ (l : List ℕ). declared false s.here (object_words d) ++ declared false l (flat_map object_words ds)) (variable-here s d h.0)
-    ∙ sym (declared-append false s.here (object_words d) (flat_map object_words ds))
+    ∙ sym (declared_append false s.here (object_words d) (flat_map object_words ds))
 
 -- ---- tasks
 
 pub tasks-are : (ds : List PDecl) (s : Scope) → AllByRecursion IsOneTask ds → namings_of (decls_sites s (decls_of ds)) ≡ tasks_names s.here (tasks_in ds)
-tasks-are [] s h = none-named
+tasks-are [] s h = quiet_none
 tasks-are (DTask t sp ∷ ds) s h = then-named s (DTask t sp) (decls_of ds) _ _ (task-is s t) (tasks-are ds (after_decl s (DTask t sp)) h.1)
 tasks-are (DTaskBody w objects its sp ∷ ds) s h = absurd h.0
 tasks-are (DNumber w e sp ∷ ds) s h = absurd h.0
@@ -77,7 +79,7 @@ tasks-are (DPragma e sp ∷ ds) s h = absurd h.0
 -- ---- bodies
 
 pub bodies-are : (ds : List PDecl) (s : Scope) → AllByRecursion IsOneBody ds → namings_of (decls_sites s (decls_of ds)) ≡ bodies_names s.bodies ds
-bodies-are [] s h = none-named
+bodies-are [] s h = quiet_none
 bodies-are (DTaskBody w objects its sp ∷ ds) s h =
     then-named s (DTaskBody w objects its sp) (decls_of ds) (Once _ w ∷ inner_names objects its) (bodies_names (w.name.0 ∷ s.bodies) ds) (task-body-is s w objects its sp) (bodies-are ds (after_decl s (DTaskBody w objects its sp)) h.1)
 bodies-are (DTask t sp ∷ ds) s h = absurd h.0

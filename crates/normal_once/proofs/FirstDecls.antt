@@ -3,21 +3,21 @@ use Rattle.std.proofs.Common.{◌≡◌, ℕ, Bool, true, false, ◌||◌, ◌&&
 use Rattle.std.proofs.lemmas.Bool.{or_parts, or_from}
 use Rattle.ada_tree.specs.declared.naming.Span.{Span}
 use Rattle.ada_tree.specs.declared.naming.Word.{Word}
-use Rattle.ada_tree.specs.PlainExpr.{PExpr, PSubind, PDrange}
+use Rattle.ada_tree.specs.PlainExpr.{PExpr}
 use Rattle.ada_tree.specs.PlainDecl.{PShape, PInit, PTask, PDecl, DNumber, DObject, DEnumeration, DArray, DSubtype, DException, DIntIo, DPragma, DTask, DTaskBody, PDecls, no_decl, decl_then}
 use Rattle.ada_tree.specs.Scope.{Scope, integer_kind}
 use Rattle.ada_tree.specs.RuleDuplicate.{is_among}
-use Rattle.ada_tree.specs.Demand.{scalar_only}
-use Rattle.ada_tree.specs.Sites.{static_of, names_sites, drange_sites, subind_sites, with_words, decl_sites, decls_sites}
+use Rattle.ada_tree.specs.Sites.{with_words, decl_sites, decls_sites}
 use Rattle.ada_tree.specs.Declaring.{declared_object, after_decl}
 use Rattle.syn_event.specs.NamedTasks.{type_named, with_type}
 use Rattle.normal_model.specs.NormalTree.{mark_of, unless_left, first_decls}
 use Rattle.rewritten_types.specs.Rewriting.{names_declared}
-use Rattle.ada_duplicates.proofs.Noting.{quiet_static, quiet_subind, quiet_drange}
-use Rattle.ada_duplicates.proofs.Behind.{with_names_is, still_in_main}
-use Rattle.normal_once.specs.Naming.{Naming, Once, namings_of, declared}
+use Rattle.ada_duplicates.proofs.Noting.{quiet_static, namings_append, quiet_none}
+use Rattle.ada_duplicates.proofs.Behind.{with_names_is, still_in_main, array_is, instance_is, names_are, number_is, object_is, subtype_is}
+use Rattle.ada_duplicates.specs.NamingsInOrder.{namings_of, declared}
+use Rattle.ada_duplicates.specs.declared.namings_in_order.Naming.{Naming}
+use Rattle.ada_duplicates.specs.declared.namings_in_order.Naming.TheVariants.{Once}
 use Rattle.normal_once.specs.Apart.{IsFreeOf}
-use Rattle.normal_once.proofs.Quiet.{namings_append, none-named, quiet, then-quiet, names-are, object-is}
 use Rattle.normal_once.proofs.Leaving.{Leaves, leaves_none, leaves_once, leaves-all, leaves-joined, leaves-names}
 use Rattle.normal_once.proofs.TaskTypes.{HasTypes, types-after, kinds_after, no-task}
 
@@ -109,46 +109,30 @@ one-after kinds d s t e h = record {
 
 -- ---- one declaration
 
-number-is : (s : Scope) (w : Word) (e : PExpr) (sp : Span) → namings_of (decl_sites s (DNumber w e sp)) ≡ declared true s.here (w ∷ [])
-number-is s w e sp = then-quiet (names_sites true s (w ∷ [])) (static_of s (Some integer_kind) e) _ (names-are true s (w ∷ [])) (quiet (static_of s (Some integer_kind) e) (quiet_static s (Some integer_kind) e))
-
-array-is : (s : Scope) (w : Word) (r : PDrange) (x : PSubind) (sp : Span) → namings_of (decl_sites s (DArray w r x sp)) ≡ declared true s.here (w ∷ [])
-array-is s w r x sp =
-    then-quiet (names_sites true s (w ∷ []) ++ drange_sites true s r) (subind_sites true scalar_only s x) _
-    (then-quiet (names_sites true s (w ∷ [])) (drange_sites true s r) _ (names-are true s (w ∷ [])) (quiet (drange_sites true s r) (quiet_drange true s r)))
-    (quiet (subind_sites true scalar_only s x) (quiet_subind true scalar_only s x))
-
-subtype-is : (s : Scope) (w : Word) (x : PSubind) (sp : Span) → namings_of (decl_sites s (DSubtype w x sp)) ≡ declared true s.here (w ∷ [])
-subtype-is s w x sp = then-quiet (names_sites true s (w ∷ [])) (subind_sites true scalar_only s x) _ (names-are true s (w ∷ [])) (quiet (subind_sites true scalar_only s x) (quiet_subind true scalar_only s x))
-
 object-leaves : (kinds : List PTask) (s t : Scope) (ws : List Word) (c : Bool) (x : PShape) (i : Option PInit) (sp : Span) → Beside kinds s t → is_some (type_named kinds (mark_of x)) ≡ false →
     Leaves (namings_of (decl_sites s (DObject ws c x i sp))) (namings_of (decl_sites t (DObject ws c x i sp)))
 object-leaves kinds s t ws c x i sp h e =
     let f : Bool = c || false in
     subst (λ (l : List Naming). Leaves l (namings_of (decl_sites t (DObject ws c x i sp))))
-    (sym (object-is s ws c x i (declared_object s c x) ∙ ap₂ (λ (a b : Bool). declared (a && (c || b)) s.here ws) h.main (no-task kinds s c x h.types e)))
+    (sym (object_is s ws c x i (declared_object s c x) ∙ ap₂ (λ (a b : Bool). declared (a && (c || b)) s.here ws) h.main (no-task kinds s c x h.types e)))
     (subst (λ (l : List Naming). Leaves (declared f s.here ws) l)
-    (sym (object-is t ws c x i (declared_object t c x) ∙ ap₂ (λ (a b : Bool). declared (a && (c || b)) t.here ws) h.main' (no-task [] t c x h.types' refl)))
+    (sym (object_is t ws c x i (declared_object t c x) ∙ ap₂ (λ (a b : Bool). declared (a && (c || b)) t.here ws) h.main' (no-task [] t c x h.types' refl)))
     (leaves-names f s.here t.here h.here ws))
 
 -- names that are declared for all of main, and nothing else
 fixed-leaves : (kinds : List PTask) (s t : Scope) (ws : List Word) (A B : List Naming) → Beside kinds s t → A ≡ declared true s.here ws → B ≡ declared true t.here ws → Leaves A B
 fixed-leaves kinds s t ws A B h p q = subst (λ (l : List Naming). Leaves l B) (sym p) (subst (λ (l : List Naming). Leaves (declared true s.here ws) l) (sym q) (leaves-names true s.here t.here h.here ws))
 
-instance-is : (s : Scope) (w : Word) (sp : Span) → namings_of (decl_sites s (DIntIo w sp)) ≡ Once s.has_instance w ∷ declared true s.here (w ∷ [])
-unfolding namings_of
-instance-is s w sp = refl
-
 instance-leaves : (kinds : List PTask) (s t : Scope) (w : Word) (sp : Span) → Beside kinds s t → Leaves (namings_of (decl_sites s (DIntIo w sp))) (namings_of (decl_sites t (DIntIo w sp)))
 instance-leaves kinds s t w sp h =
-    subst (λ (l : List Naming). Leaves l (namings_of (decl_sites t (DIntIo w sp)))) (sym (instance-is s w sp))
-    (subst (λ (l : List Naming). Leaves (Once s.has_instance w ∷ declared true s.here (w ∷ [])) l) (sym (instance-is t w sp))
+    subst (λ (l : List Naming). Leaves l (namings_of (decl_sites t (DIntIo w sp)))) (sym (instance_is s w sp))
+    (subst (λ (l : List Naming). Leaves (Once s.has_instance w ∷ declared true s.here (w ∷ [])) l) (sym (instance_is t w sp))
     (leaves_once s.has_instance t.has_instance w _ _ h.instance (leaves-names true s.here t.here h.here (w ∷ []))))
 
 pragma-leaves : (s t : Scope) (e : PExpr) (sp : Span) → Leaves (namings_of (decl_sites s (DPragma e sp))) (namings_of (decl_sites t (DPragma e sp)))
 pragma-leaves s t e sp =
-    subst (λ (l : List Naming). Leaves l (namings_of (decl_sites t (DPragma e sp)))) (sym (quiet (static_of s (Some integer_kind) e) (quiet_static s (Some integer_kind) e)))
-    (subst (λ (l : List Naming). Leaves [] l) (sym (quiet (static_of t (Some integer_kind) e) (quiet_static t (Some integer_kind) e))) leaves_none)
+    subst (λ (l : List Naming). Leaves l (namings_of (decl_sites t (DPragma e sp)))) (sym ((quiet_static s (Some integer_kind) e)))
+    (subst (λ (l : List Naming). Leaves [] l) (sym ((quiet_static t (Some integer_kind) e))) leaves_none)
 
 -- ---- all of them
 
@@ -168,7 +152,7 @@ one-leaves d s ds B k =
 
 -- What the first declarations name is what all name, but for what is left out.
 pub first-leaves : (ds : PDecls) (kinds : List PTask) (s t : Scope) → Beside kinds s t → Leaves (namings_of (decls_sites s ds)) (namings_of (decls_sites t (first_decls kinds ds)))
-first-leaves no_decl kinds s t h = subst (λ (l : List Naming). Leaves l l) (sym none-named) leaves_none
+first-leaves no_decl kinds s t h = subst (λ (l : List Naming). Leaves l l) (sym quiet_none) leaves_none
 first-leaves (decl_then (DTask d sp) rest) kinds s t h = one-leaves (DTask d sp) s rest _ (first-leaves rest (with_type kinds d.of_kind d) _ t (one-after kinds (DTask d sp) s t (λ e. e) h))
 first-leaves (decl_then (DTaskBody w objects its sp) rest) kinds s t h = one-leaves (DTaskBody w objects its sp) s rest _ (first-leaves rest kinds _ t (one-after kinds (DTaskBody w objects its sp) s t (λ e. e) h))
 first-leaves (decl_then (DObject ws c x i sp) rest) kinds s t h = by_test (is_some (type_named kinds (mark_of x))) refl (λ s' t' h'. first-leaves rest kinds s' t' h')
@@ -182,15 +166,15 @@ first-leaves (decl_then (DObject ws c x i sp) rest) kinds s t h = by_test (is_so
     by_test true e later = one-leaves d s rest _ (later (after_decl s d) t (one-after kinds d s t (λ k. k) h))
     by_test false e later = both-leave d s t rest (first_decls kinds rest) (object-leaves kinds s t ws c x i sp h e) (later (after_decl s d) (after_decl t d) (both-after kinds d s t refl refl h))
 first-leaves (decl_then (DNumber w e sp) rest) kinds s t h =
-    both-leave (DNumber w e sp) s t rest (first_decls kinds rest) (fixed-leaves kinds s t (w ∷ []) _ _ h (number-is s w e sp) (number-is t w e sp)) (first-leaves rest kinds _ _ (both-after kinds (DNumber w e sp) s t refl refl h))
+    both-leave (DNumber w e sp) s t rest (first_decls kinds rest) (fixed-leaves kinds s t (w ∷ []) _ _ h (number_is s w e sp) (number_is t w e sp)) (first-leaves rest kinds _ _ (both-after kinds (DNumber w e sp) s t refl refl h))
 first-leaves (decl_then (DEnumeration w ws sp) rest) kinds s t h =
-    both-leave (DEnumeration w ws sp) s t rest (first_decls kinds rest) (fixed-leaves kinds s t (w ∷ ws) _ _ h (names-are true s (w ∷ ws)) (names-are true t (w ∷ ws))) (first-leaves rest kinds _ _ (both-after kinds (DEnumeration w ws sp) s t refl refl h))
+    both-leave (DEnumeration w ws sp) s t rest (first_decls kinds rest) (fixed-leaves kinds s t (w ∷ ws) _ _ h (names_are true s (w ∷ ws)) (names_are true t (w ∷ ws))) (first-leaves rest kinds _ _ (both-after kinds (DEnumeration w ws sp) s t refl refl h))
 first-leaves (decl_then (DArray w r x sp) rest) kinds s t h =
-    both-leave (DArray w r x sp) s t rest (first_decls kinds rest) (fixed-leaves kinds s t (w ∷ []) _ _ h (array-is s w r x sp) (array-is t w r x sp)) (first-leaves rest kinds _ _ (both-after kinds (DArray w r x sp) s t refl refl h))
+    both-leave (DArray w r x sp) s t rest (first_decls kinds rest) (fixed-leaves kinds s t (w ∷ []) _ _ h (array_is s w r x sp) (array_is t w r x sp)) (first-leaves rest kinds _ _ (both-after kinds (DArray w r x sp) s t refl refl h))
 first-leaves (decl_then (DSubtype w x sp) rest) kinds s t h =
-    both-leave (DSubtype w x sp) s t rest (first_decls kinds rest) (fixed-leaves kinds s t (w ∷ []) _ _ h (subtype-is s w x sp) (subtype-is t w x sp)) (first-leaves rest kinds _ _ (both-after kinds (DSubtype w x sp) s t refl refl h))
+    both-leave (DSubtype w x sp) s t rest (first_decls kinds rest) (fixed-leaves kinds s t (w ∷ []) _ _ h (subtype_is s w x sp) (subtype_is t w x sp)) (first-leaves rest kinds _ _ (both-after kinds (DSubtype w x sp) s t refl refl h))
 first-leaves (decl_then (DException ws sp) rest) kinds s t h =
-    both-leave (DException ws sp) s t rest (first_decls kinds rest) (fixed-leaves kinds s t ws _ _ h (names-are true s ws) (names-are true t ws)) (first-leaves rest kinds _ _ (both-after kinds (DException ws sp) s t refl refl h))
+    both-leave (DException ws sp) s t rest (first_decls kinds rest) (fixed-leaves kinds s t ws _ _ h (names_are true s ws) (names_are true t ws)) (first-leaves rest kinds _ _ (both-after kinds (DException ws sp) s t refl refl h))
 first-leaves (decl_then (DIntIo w sp) rest) kinds s t h =
     both-leave (DIntIo w sp) s t rest (first_decls kinds rest) (instance-leaves kinds s t w sp h) (first-leaves rest kinds _ _ (both-after kinds (DIntIo w sp) s t refl refl h))
 first-leaves (decl_then (DPragma e sp) rest) kinds s t h =

@@ -10,12 +10,11 @@ use Rattle.ada_tree.specs.Sites.{names_sites, decls_sites, body_sites, sites}
 use Rattle.ada_tree.specs.Refusals.{MeetsTypeRules}
 use Rattle.syn_event.specs.Units.{decl_list}
 use Rattle.rewritten_types.proofs.Refused.{declared_once}
-use Rattle.legal_sites.proofs.Meeting.{all-front, all-back}
-use Rattle.normal_once.specs.Naming.{Naming, namings_of}
+use Rattle.ada_duplicates.specs.NamingsInOrder.{namings_of}
+use Rattle.ada_duplicates.specs.declared.namings_in_order.Naming.{Naming}
 use Rattle.normal_once.specs.Apart.{IsFreeOf, AreApart, AreDistinct, IsAlone, fixed_name, loose_name, fixed_names, loose_names, IsFitIn, AreFit}
 use Rattle.normal_once.specs.Names.{body_names, IsFitDecl}
 use Rattle.normal_once.specs.Laws.{FirstIsFit, TaskNamesAreFixed, InnerIsFit}
-use Rattle.normal_once.proofs.Quiet.{namings_append}
 use Rattle.normal_once.proofs.Once.{apart-front, apart-back, distinct-front, distinct-back}
 use Rattle.normal_once.proofs.Leaving.{Leaves, leaves-alone, leaves-fixed, leaves-loose, leaves-distinct}
 use Rattle.normal_once.proofs.TaskTypes.{first-types}
@@ -24,6 +23,8 @@ use Rattle.normal_once.proofs.Places.{body-is}
 use Rattle.normal_once.proofs.Parts.{all-fit-in, decls-fit-in}
 use Rattle.normal_once.proofs.TaskNames.{names-fixed}
 use Rattle.normal_once.proofs.Rules.{program-fit}
+use Rattle.ada_duplicates.proofs.Noting.{namings_append}
+use Rattle.common_lemmas.proofs.Lists.{all_back, all_front}
 
 -- ---- parts of namings
 
@@ -38,16 +39,16 @@ apart-parts a b h =
 -- what stands in front is fit, and what stands behind
 pub fit-front : (a b : List Naming) → AreFit (a ++ b) → AreFit a
 fit-front a b h = record {
-  alone = all-front IsAlone a b h.alone;
+  alone = all_front IsAlone a b h.alone;
   distinct = distinct-front (fixed_names a) (fixed_names b) (distinct-parts a b h);
-  apart = all-front (IsFreeOf (fixed_names a)) (loose_names a) (loose_names b) (apart-front (fixed_names a) (fixed_names b) (loose_names a ++ loose_names b) (apart-parts a b h));
+  apart = all_front (IsFreeOf (fixed_names a)) (loose_names a) (loose_names b) (apart-front (fixed_names a) (fixed_names b) (loose_names a ++ loose_names b) (apart-parts a b h));
 }
 
 pub fit-back : (a b : List Naming) → AreFit (a ++ b) → AreFit b
 fit-back a b h = record {
-  alone = all-back IsAlone a b h.alone;
+  alone = all_back IsAlone a b h.alone;
   distinct = distinct-back (fixed_names a) (fixed_names b) (distinct-parts a b h);
-  apart = all-back (IsFreeOf (fixed_names b)) (loose_names a) (loose_names b) (apart-back (fixed_names a) (fixed_names b) (loose_names a ++ loose_names b) (apart-parts a b h));
+  apart = all_back (IsFreeOf (fixed_names b)) (loose_names a) (loose_names b) (apart-back (fixed_names a) (fixed_names b) (loose_names a ++ loose_names b) (apart-parts a b h));
 }
 
 -- what is left of fit namings is fit
@@ -88,8 +89,8 @@ module _ (p : PProgram) (meets : MeetsTypeRules p) where
 
   inner : AllByRecursion (IsFitDecl fixed) (decl_list p.decls) × AllByRecursion (IsFitIn fixed) (body_names p.body)
   inner = (
-    decls-fit-in fixed p.decls s (all-back (IsFitIn fixed) (namings_of first) (namings_of decls) (all-front (IsFitIn fixed) (namings_of first ++ namings_of decls) (namings_of last) all-fit)),
-    subst (AllByRecursion (IsFitIn fixed)) (body-is (inside (after_decls s p.decls)) p.body) (all-back (IsFitIn fixed) (namings_of first ++ namings_of decls) (namings_of last) all-fit),
+    decls-fit-in fixed p.decls s (all_back (IsFitIn fixed) (namings_of first) (namings_of decls) (all_front (IsFitIn fixed) (namings_of first ++ namings_of decls) (namings_of last) all-fit)),
+    subst (AllByRecursion (IsFitIn fixed)) (body-is (inside (after_decls s p.decls)) p.body) (all_back (IsFitIn fixed) (namings_of first ++ namings_of decls) (namings_of last) all-fit),
   )
 
 pub inner_is_fit : InnerIsFit

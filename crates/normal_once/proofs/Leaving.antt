@@ -4,11 +4,12 @@ use Rattle.std.specs.List.{AllByRecursion}
 use Rattle.std.proofs.lemmas.Bool.{or_parts, or_from}
 use Rattle.ada_tree.specs.declared.naming.Word.{Word}
 use Rattle.ada_tree.specs.RuleDuplicate.{is_predefined, is_among}
-use Rattle.rewritten_types.proofs.Lookups.{all-append}
-use Rattle.legal_sites.proofs.Meeting.{all-back, all-front}
-use Rattle.normal_once.specs.Naming.{Naming, Declares, Once, declared}
+use Rattle.ada_duplicates.specs.NamingsInOrder.{declared}
+use Rattle.ada_duplicates.specs.declared.namings_in_order.Naming.{Naming}
+use Rattle.ada_duplicates.specs.declared.namings_in_order.Naming.TheVariants.{Declares, Once}
 use Rattle.normal_once.specs.Apart.{IsFreeOf, AreApart, AreDistinct, IsAlone, fixed_name, loose_name, fixed_names, loose_names}
 use Rattle.normal_once.proofs.Once.{one-free, apart-front, apart-back, apart-both, apart-turned, distinct-back}
+use Rattle.common_lemmas.proofs.Lists.{all_back, all_front, all_joined}
 
 -- the second list is the first one without some namings
 pub data Leaves : List Naming → List Naming → Type 0 where
@@ -57,9 +58,9 @@ leaves-fixed (leaves_once a b w A B f l) zs h = leaves-fixed l zs h
 -- and so it is with the other names
 pub leaves-loose : {A B : List Naming} → Leaves A B → (zs : List ℕ) → AreApart zs (loose_names A) → AreApart zs (loose_names B)
 leaves-loose leaves_none zs h = h
-leaves-loose (leaves_one n A B l) zs h = leaves-loose l zs (all-back (IsFreeOf zs) (loose_name n) (loose_names A) h)
+leaves-loose (leaves_one n A B l) zs h = leaves-loose l zs (all_back (IsFreeOf zs) (loose_name n) (loose_names A) h)
 leaves-loose (leaves_declared fixed a b w A B f l) zs h =
-    all-append (IsFreeOf zs) (loose_name (Declares fixed b w)) (loose_names B) (same fixed (all-front (IsFreeOf zs) (loose_name (Declares fixed a w)) (loose_names A) h)) (leaves-loose l zs (all-back (IsFreeOf zs) (loose_name (Declares fixed a w)) (loose_names A) h))
+    all_joined (IsFreeOf zs) (loose_name (Declares fixed b w)) (loose_names B) (same fixed (all_front (IsFreeOf zs) (loose_name (Declares fixed a w)) (loose_names A) h)) (leaves-loose l zs (all_back (IsFreeOf zs) (loose_name (Declares fixed a w)) (loose_names A) h))
   where
     same : (fixed : Bool) → AreApart zs (loose_name (Declares fixed a w)) → AreApart zs (loose_name (Declares fixed b w))
     same true k = k

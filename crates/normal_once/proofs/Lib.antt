@@ -1,5 +1,4 @@
 pub mod Once
-pub mod Quiet
 pub mod Places
 pub mod Rewritten
 pub mod Leaving

@@ -1,13 +1,15 @@
 -- No naming is refused just where each is fine alone, no two fixed names are one, and no other name is a fixed one.
-use Rattle.std.proofs.Common.{◌≡◌, ℕ, Bool, true, false, ◌||◌, ◌==◌, List, [], ◌∷◌, ◌++◌, refl, sym, ◌∙◌, true≢false}
+use Rattle.std.proofs.Common.{◌≡◌, ℕ, true, false, ◌||◌, ◌==◌, List, [], ◌∷◌, ◌++◌, refl, sym, ◌∙◌}
 use Rattle.std.specs.List.{AllByRecursion}
-use Rattle.std.proofs.lemmas.Bool.{or_parts, or_from, eqb-true, eq-eqb}
+use Rattle.std.proofs.lemmas.Bool.{or_parts, or_from}
 use Rattle.std.proofs.lemmas.List.Folds.{list_any-append}
 use Rattle.ada_tree.specs.RuleDuplicate.{is_predefined, is_among}
-use Rattle.rewritten_types.proofs.Lookups.{all-append, all-weaker}
-use Rattle.legal_sites.proofs.Meeting.{all-front, all-back}
-use Rattle.normal_once.specs.Naming.{Naming, Declares, Labels, Once}
+use Rattle.ada_duplicates.specs.declared.namings_in_order.Naming.{Naming}
+use Rattle.ada_duplicates.specs.declared.namings_in_order.Naming.TheVariants.{Declares, Labels, Once}
 use Rattle.normal_once.specs.Apart.{is_repeated, IsFreeOf, AreApart, AreDistinct, IsAlone, fixed_name, loose_name, fixed_names, loose_names, NoneRepeated, AreFit}
+use Rattle.common_lemmas.proofs.Lists.{all_back, all_front, all_joined, all_weaker}
+use Rattle.common_lemmas.proofs.Numbers.{unequal_turned}
+use Rattle.common_lemmas.proofs.Truth.{or_false}
 
 -- ---- names
 
@@ -21,25 +23,14 @@ free-back xs ys y h = (or_parts (is_among xs y) (is_among ys y) (sym (list_any-a
 pub free-both : (xs ys : List ℕ) (y : ℕ) → IsFreeOf xs y → IsFreeOf ys y → IsFreeOf (xs ++ ys) y
 free-both xs ys y h k = list_any-append (λ n. n == y) xs ys ∙ or_from (is_among xs y) (is_among ys y) h k
 
-pub or-none : (b : Bool) → (b || false) ≡ b
-or-none true = refl
-or-none false = refl
-
-pub eq-turned : (a b : ℕ) → (a == b) ≡ false → (b == a) ≡ false
-eq-turned a b e = by_test (b == a) refl
-  where
-    by_test : (t : Bool) → (b == a) ≡ t → t ≡ false
-    by_test false f = refl
-    by_test true f = absurd (true≢false (sym (eq-eqb a b (sym (eqb-true b a f))) ∙ e))
-
 -- one name is none of these just where none of these is it
 pub one-apart : (ys : List ℕ) (w : ℕ) → IsFreeOf ys w → AreApart (w ∷ []) ys
 one-apart [] w h = tt
-one-apart (y ∷ ys) w h = let r = or_parts (y == w) (is_among ys w) h in (or-none (w == y) ∙ eq-turned y w r.0, one-apart ys w r.1)
+one-apart (y ∷ ys) w h = let r = or_parts (y == w) (is_among ys w) h in (or_false (w == y) ∙ unequal_turned y w r.0, one-apart ys w r.1)
 
 pub one-free : (ys : List ℕ) (w : ℕ) → AreApart (w ∷ []) ys → IsFreeOf ys w
 one-free [] w h = refl
-one-free (y ∷ ys) w h = or_from (y == w) (is_among ys w) (eq-turned w y (sym (or-none (w == y)) ∙ h.0)) (one-free ys w h.1)
+one-free (y ∷ ys) w h = or_from (y == w) (is_among ys w) (unequal_turned w y (sym (or_false (w == y)) ∙ h.0)) (one-free ys w h.1)
 
 -- ---- lists of names
 
@@ -48,10 +39,10 @@ apart-none [] = tt
 apart-none (y ∷ ys) = (refl, apart-none ys)
 
 pub apart-front : (xs ys zs : List ℕ) → AreApart (xs ++ ys) zs → AreApart xs zs
-apart-front xs ys zs h = all-weaker (IsFreeOf (xs ++ ys)) (IsFreeOf xs) zs (λ z e. free-front xs ys z e) h
+apart-front xs ys zs h = all_weaker (IsFreeOf (xs ++ ys)) (IsFreeOf xs) zs (λ z e. free-front xs ys z e) h
 
 pub apart-back : (xs ys zs : List ℕ) → AreApart (xs ++ ys) zs → AreApart ys zs
-apart-back xs ys zs h = all-weaker (IsFreeOf (xs ++ ys)) (IsFreeOf ys) zs (λ z e. free-back xs ys z e) h
+apart-back xs ys zs h = all_weaker (IsFreeOf (xs ++ ys)) (IsFreeOf ys) zs (λ z e. free-back xs ys z e) h
 
 pub apart-both : (xs ys zs : List ℕ) → AreApart xs zs → AreApart ys zs → AreApart (xs ++ ys) zs
 apart-both xs ys [] h k = tt
@@ -150,14 +141,14 @@ all-alone fixed introduced (n ∷ ns) h = ((behind fixed introduced n h.0).alone
 loose-later : (fixed introduced : List ℕ) (ns : List Naming) → NoneRepeated fixed introduced ns → AreApart fixed (loose_names ns)
 loose-later fixed introduced [] h = tt
 loose-later fixed introduced (n ∷ ns) h =
-    all-append (IsFreeOf fixed) (loose_name n) (loose_names ns) (behind fixed introduced n h.0).loose
+    all_joined (IsFreeOf fixed) (loose_name n) (loose_names ns) (behind fixed introduced n h.0).loose
     (apart-back (fixed_name n) fixed (loose_names ns) (loose-later (fixed_name n ++ fixed) ((fixed_name n ++ loose_name n) ++ introduced) ns h.1))
 
 -- no fixed name was introduced before
 fixed-later : (fixed introduced : List ℕ) (ns : List Naming) → NoneRepeated fixed introduced ns → AreApart introduced (fixed_names ns)
 fixed-later fixed introduced [] h = tt
 fixed-later fixed introduced (n ∷ ns) h =
-    all-append (IsFreeOf introduced) (fixed_name n) (fixed_names ns) (behind fixed introduced n h.0).new
+    all_joined (IsFreeOf introduced) (fixed_name n) (fixed_names ns) (behind fixed introduced n h.0).new
     (apart-back (fixed_name n ++ loose_name n) introduced (fixed_names ns) (fixed-later (fixed_name n ++ fixed) ((fixed_name n ++ loose_name n) ++ introduced) ns h.1))
 
 -- the names that are fixed later are none of a naming's
@@ -168,9 +159,9 @@ all-apart : (fixed introduced : List ℕ) (ns : List Naming) → NoneRepeated fi
 all-apart fixed introduced [] h = tt
 all-apart fixed introduced (n ∷ ns) h =
     apart-both (fixed_name n) (fixed_names ns) (loose_name n ++ loose_names ns)
-    (all-append (IsFreeOf (fixed_name n)) (loose_name n) (loose_names ns) (self-apart n)
+    (all_joined (IsFreeOf (fixed_name n)) (loose_name n) (loose_names ns) (self-apart n)
     (apart-front (fixed_name n) fixed (loose_names ns) (loose-later (fixed_name n ++ fixed) ((fixed_name n ++ loose_name n) ++ introduced) ns h.1)))
-    (all-append (IsFreeOf (fixed_names ns)) (loose_name n) (loose_names ns)
+    (all_joined (IsFreeOf (fixed_names ns)) (loose_name n) (loose_names ns)
     (apart-turned (loose_name n) (fixed_names ns) (apart-back (fixed_name n) (loose_name n) (fixed_names ns) (later-apart fixed introduced n ns h.1)))
     (all-apart (fixed_name n ++ fixed) ((fixed_name n ++ loose_name n) ++ introduced) ns h.1))
 
@@ -194,7 +185,7 @@ next-fit : (n : Naming) (ns : List Naming) → AreFit (n ∷ ns) → AreFit ns
 next-fit n ns h = record {
   alone = h.alone.1;
   distinct = distinct-back (fixed_name n) (fixed_names ns) h.distinct;
-  apart = all-back (IsFreeOf (fixed_names ns)) (loose_name n) (loose_names ns) (apart-back (fixed_name n) (fixed_names ns) (loose_name n ++ loose_names ns) h.apart);
+  apart = all_back (IsFreeOf (fixed_names ns)) (loose_name n) (loose_names ns) (apart-back (fixed_name n) (fixed_names ns) (loose_name n ++ loose_names ns) h.apart);
 }
 
 next-behind : (fixed introduced : List ℕ) (n : Naming) (ns : List Naming) → AreBehind fixed introduced (n ∷ ns) → AreBehind (fixed_name n ++ fixed) ((fixed_name n ++ loose_name n) ++ introduced) ns
@@ -204,12 +195,12 @@ next-behind fixed introduced n ns h =
     let here : AreApart (fixed_name n) f = distinct-apart (fixed_name n) f h.fit.distinct in
     record {
       fit = next-fit n ns h.fit;
-      loose = (apart-both (fixed_name n) fixed l (all-back (IsFreeOf (fixed_name n)) (loose_name n) l (apart-front (fixed_name n) f (loose_name n ++ l) h.fit.apart)) (all-back (IsFreeOf fixed) (loose_name n) l h.loose));
+      loose = (apart-both (fixed_name n) fixed l (all_back (IsFreeOf (fixed_name n)) (loose_name n) l (apart-front (fixed_name n) f (loose_name n ++ l) h.fit.apart)) (all_back (IsFreeOf fixed) (loose_name n) l h.loose));
       new = (apart-both (fixed_name n ++ loose_name n) introduced f
           (apart-both (fixed_name n) (loose_name n) f here
-          (apart-turned f (loose_name n) (all-front (IsFreeOf f) (loose_name n) l (apart-back (fixed_name n) f (loose_name n ++ l) h.fit.apart))))
-          (all-back (IsFreeOf introduced) (fixed_name n) f h.new));
-      unfixed = (apart-both (fixed_name n) fixed f here (all-back (IsFreeOf fixed) (fixed_name n) f h.unfixed));
+          (apart-turned f (loose_name n) (all_front (IsFreeOf f) (loose_name n) l (apart-back (fixed_name n) f (loose_name n ++ l) h.fit.apart))))
+          (all_back (IsFreeOf introduced) (fixed_name n) f h.new));
+      unfixed = (apart-both (fixed_name n) fixed f here (all_back (IsFreeOf fixed) (fixed_name n) f h.unfixed));
     }
 
 none-repeated : (fixed introduced : List ℕ) (ns : List Naming) → AreBehind fixed introduced ns → NoneRepeated fixed introduced ns
@@ -217,9 +208,9 @@ none-repeated fixed introduced [] h = tt
 none-repeated fixed introduced (n ∷ ns) h = (
   unrefused fixed introduced n record {
     alone = h.fit.alone.0;
-    loose = all-front (IsFreeOf fixed) (loose_name n) (loose_names ns) h.loose;
-    new = all-front (IsFreeOf introduced) (fixed_name n) (fixed_names ns) h.new;
-    unfixed = all-front (IsFreeOf fixed) (fixed_name n) (fixed_names ns) h.unfixed;
+    loose = all_front (IsFreeOf fixed) (loose_name n) (loose_names ns) h.loose;
+    new = all_front (IsFreeOf introduced) (fixed_name n) (fixed_names ns) h.new;
+    unfixed = all_front (IsFreeOf fixed) (fixed_name n) (fixed_names ns) h.unfixed;
   },
   none-repeated (fixed_name n ++ fixed) ((fixed_name n ++ loose_name n) ++ introduced) ns (next-behind fixed introduced n ns h),
 )

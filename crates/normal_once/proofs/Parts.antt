@@ -11,20 +11,21 @@ use Rattle.ada_tree.specs.Declaring.{inside, in_body, after_decl, after_objects}
 use Rattle.ada_tree.specs.RuleDuplicate.{is_among}
 use Rattle.ada_tree.specs.Sites.{site, static_of, names_sites, entries_sites, task_sites, own_sites, body_sites, decl_sites, decls_sites}
 use Rattle.syn_event.specs.Units.{decl_list}
-use Rattle.ada_duplicates.proofs.Behind.{quiet_priorities}
-use Rattle.legal_sites.proofs.Meeting.{all-front, all-back}
-use Rattle.rewritten_types.proofs.Lookups.{all-append}
-use Rattle.normal_once.specs.Naming.{Naming, Declares, Once, namings_of}
+use Rattle.ada_duplicates.proofs.Behind.{quiet_priorities, names_are, own_are, then_quiet}
+use Rattle.ada_duplicates.specs.NamingsInOrder.{namings_of}
+use Rattle.ada_duplicates.specs.declared.namings_in_order.Naming.{Naming}
+use Rattle.ada_duplicates.specs.declared.namings_in_order.Naming.TheVariants.{Declares, Once}
 use Rattle.normal_once.specs.Apart.{IsFreeOf, AreApart, IsAlone, loose_name, loose_names, IsFitIn}
 use Rattle.normal_once.specs.Names.{entries_names, inner_names, IsFitDecl}
-use Rattle.normal_once.proofs.Quiet.{namings_append, quiet, then-quiet, names-are, own-are}
 use Rattle.normal_once.proofs.Places.{entries-are, body-is}
+use Rattle.ada_duplicates.proofs.Noting.{namings_append}
+use Rattle.common_lemmas.proofs.Lists.{all_back, all_front, all_joined}
 
 -- ---- one naming beside fixed names
 
 pub all-fit-in : (fixed : List ℕ) (ns : List Naming) → AllByRecursion IsAlone ns → AreApart fixed (loose_names ns) → AllByRecursion (IsFitIn fixed) ns
 all-fit-in fixed [] h k = tt
-all-fit-in fixed (n ∷ ns) h k = ((h.0, all-front (IsFreeOf fixed) (loose_name n) (loose_names ns) k), all-fit-in fixed ns h.1 (all-back (IsFreeOf fixed) (loose_name n) (loose_names ns) k))
+all-fit-in fixed (n ∷ ns) h k = ((h.0, all_front (IsFreeOf fixed) (loose_name n) (loose_names ns) k), all-fit-in fixed ns h.1 (all_back (IsFreeOf fixed) (loose_name n) (loose_names ns) k))
 
 pub fit-in-alone : (fixed : List ℕ) (ns : List Naming) → AllByRecursion (IsFitIn fixed) ns → AllByRecursion IsAlone ns
 fit-in-alone fixed [] h = tt
@@ -32,7 +33,7 @@ fit-in-alone fixed (n ∷ ns) h = (h.0.0, fit-in-alone fixed ns h.1)
 
 pub fit-in-apart : (fixed : List ℕ) (ns : List Naming) → AllByRecursion (IsFitIn fixed) ns → AreApart fixed (loose_names ns)
 fit-in-apart fixed [] h = tt
-fit-in-apart fixed (n ∷ ns) h = all-append (IsFreeOf fixed) (loose_name n) (loose_names ns) h.0.1 (fit-in-apart fixed ns h.1)
+fit-in-apart fixed (n ∷ ns) h = all_joined (IsFreeOf fixed) (loose_name n) (loose_names ns) h.0.1 (fit-in-apart fixed ns h.1)
 
 -- ---- bodies
 
@@ -52,7 +53,7 @@ task-body-is s w objects its sp =
     body-named s w (own_sites (in_body s w) objects ++ body_sites (inside (after_objects (in_body s w) objects)) its) _
     (namings_append (own_sites (in_body s w) objects) (body_sites (inside (after_objects (in_body s w) objects)) its)
     ∙ ap₂ (λ (a b : List Naming). a ++ b)
-    (ap (λ (ds : PDecls). namings_of (own_sites (in_body s w) ds)) (sym (list-again objects)) ∙ own-are (in_body s w) (decl_list objects) refl)
+    (ap (λ (ds : PDecls). namings_of (own_sites (in_body s w) ds)) (sym (list-again objects)) ∙ own_are (in_body s w) (decl_list objects) refl)
     (body-is (inside (after_objects (in_body s w) objects)) its))
 
 -- ---- declarations
@@ -60,9 +61,9 @@ task-body-is s w objects its sp =
 -- what a task declares: its name, and its entries with their formals
 pub task-is : (s : Scope) (t : PTask) → namings_of (task_sites s t) ≡ Declares true (is_among s.here t.name.name.0) t.name ∷ entries_names [] t.entries
 task-is s t =
-    then-quiet (names_sites true s (t.name ∷ []) ++ entries_sites s [] t.entries) (flat_map (λ p. static_of s (Some integer_kind) p.value) t.priorities) _
-    (namings_append (names_sites true s (t.name ∷ [])) (entries_sites s [] t.entries) ∙ ap₂ (λ (a b : List Naming). a ++ b) (names-are true s (t.name ∷ [])) (entries-are s [] t.entries))
-    (quiet (flat_map (λ p. static_of s (Some integer_kind) p.value) t.priorities) (quiet_priorities s t.priorities))
+    then_quiet (names_sites true s (t.name ∷ []) ++ entries_sites s [] t.entries) (flat_map (λ p. static_of s (Some integer_kind) p.value) t.priorities) _
+    (namings_append (names_sites true s (t.name ∷ [])) (entries_sites s [] t.entries) ∙ ap₂ (λ (a b : List Naming). a ++ b) (names_are true s (t.name ∷ [])) (entries-are s [] t.entries))
+    ((quiet_priorities s t.priorities))
 
 decl-fits : (fixed : List ℕ) (s : Scope) (d : PDecl) → AllByRecursion (IsFitIn fixed) (namings_of (decl_sites s d)) → IsFitDecl fixed d
 decl-fits fixed s (DTask t sp) h = (subst (AllByRecursion (IsFitIn fixed)) (task-is s t) h).1
@@ -81,4 +82,4 @@ pub decls-fit-in : (fixed : List ℕ) (ds : PDecls) (s : Scope) → AllByRecursi
 decls-fit-in fixed no_decl s h = tt
 decls-fit-in fixed (decl_then d rest) s h =
     let k = subst (AllByRecursion (IsFitIn fixed)) (namings_append (decl_sites s d) (decls_sites (after_decl s d) rest)) h in
-    (decl-fits fixed s d (all-front (IsFitIn fixed) (namings_of (decl_sites s d)) _ k), decls-fit-in fixed rest (after_decl s d) (all-back (IsFitIn fixed) (namings_of (decl_sites s d)) _ k))
+    (decl-fits fixed s d (all_front (IsFitIn fixed) (namings_of (decl_sites s d)) _ k), decls-fit-in fixed rest (after_decl s d) (all_back (IsFitIn fixed) (namings_of (decl_sites s d)) _ k))

@@ -22,7 +22,8 @@ use Rattle.normal_model.specs.Aborts.{abort_of, callee_aborted, callees_aborted,
 use Rattle.normal_model.specs.Variables.{statement_variables, alternative_variables}
 use Rattle.normal_model.specs.Walk.{Rewriter, after_parts, after_stmts, after_accept, after_kind, after_alt, after_alts, after_arms, after_case_arms, alts_leads, leads, inside, rewritten, inside_maybe, inside_accept, inside_kind, inside_alts, inside_arms, inside_case_arms, inside_body, inside_handlers}
 use Rattle.normal_model.specs.NormalStmts.{normal_image, normal_rewriter, normal_body}
-use Rattle.normal_once.specs.Naming.{Naming, declared, named_once}
+use Rattle.ada_duplicates.specs.NamingsInOrder.{declared, named_once}
+use Rattle.ada_duplicates.specs.declared.namings_in_order.Naming.{Naming}
 use Rattle.normal_once.specs.Names.{label_names, scheme_names, stmt_names, stmts_names, maybe_names, accept_names, alts_names, kind_names, arms_names, case_arms_names, body_names, handlers_names}
 
 -- ---- lists of statements

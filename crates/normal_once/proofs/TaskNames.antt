@@ -17,13 +17,14 @@ use Rattle.ada_tree.specs.RuleDuplicate.{is_predefined, is_among}
 use Rattle.syn_event.specs.NamedTasks.{NamedTasks, named_tasks, type_named, with_type, task_names_of_type, object_task_names, single_task_name, task_names_in}
 use Rattle.rewritten_types.specs.Rewriting.{names_declared, IsUsed, IsUnused, DeclareOnce}
 use Rattle.rewritten_types.proofs.Fresh.{other}
-use Rattle.rewritten_types.proofs.Lookups.{all-append, all-weaker}
-use Rattle.ada_duplicates.proofs.Behind.{still_in_main}
-use Rattle.normal_once.specs.Naming.{Naming, namings_of, declared}
+use Rattle.ada_duplicates.proofs.Behind.{still_in_main, object_is}
+use Rattle.ada_duplicates.specs.NamingsInOrder.{namings_of, declared}
+use Rattle.ada_duplicates.specs.declared.namings_in_order.Naming.{Naming}
 use Rattle.normal_once.specs.Apart.{fixed_name, fixed_names}
-use Rattle.normal_once.proofs.Quiet.{namings_append, object-is}
 use Rattle.normal_once.proofs.FirstDecls.{here-after}
 use Rattle.normal_once.proofs.Parts.{task-is}
+use Rattle.ada_duplicates.proofs.Noting.{namings_append}
+use Rattle.common_lemmas.proofs.Lists.{all_joined, all_weaker}
 
 -- ---- the task types that can be used
 
@@ -80,13 +81,13 @@ means-after s (DTask t sp) id h = means-one _ t.name s.names id h.0
 means-after s (DTaskBody w objects its sp) id h = refl
 
 others-of : (s : Scope) (id : NameId) (ws : List Word) → IsUsed s id → AllByRecursion (IsUnused s) ws → AreOthers id ws
-others-of s id ws h u = all-weaker (IsUnused s) (λ (w : Word). (w.name.0 == id.0) ≡ false) ws (λ w k. other s.here w.name.0 id.0 k.0 k.1 h) u
+others-of s id ws h u = all_weaker (IsUnused s) (λ (w : Word). (w.name.0 == id.0) ≡ false) ws (λ w k. other s.here w.name.0 id.0 k.0 k.1 h) u
 
 stands-after : (s : Scope) (d : PDecl) (id : NameId) → AllByRecursion (IsUnused s) (names_declared d) → StandsFor s id → StandsFor (after_decl s d) id
 stands-after s d id u h = record { used = used-after s d id h.used; type = subst IsTypeThing (sym (means-after s d id (others-of s id (names_declared d) h.used u))) h.type }
 
 all-stand : (s : Scope) (d : PDecl) (kinds : List PTask) → AllByRecursion (IsUnused s) (names_declared d) → TypesStand kinds s → TypesStand kinds (after_decl s d)
-all-stand s d kinds u h = all-weaker (λ (t : PTask). StandsFor s t.name.name) (λ (t : PTask). StandsFor (after_decl s d) t.name.name) kinds (λ t k. stands-after s d t.name.name u k) h
+all-stand s d kinds u h = all_weaker (λ (t : PTask). StandsFor s t.name.name) (λ (t : PTask). StandsFor (after_decl s d) t.name.name) kinds (λ t k. stands-after s d t.name.name u k) h
 
 -- a task type stands for itself behind its declaration
 type-stands : (b : Bool) (s : Scope) (t : PTask) (entries : List EntryPart) (kinds : List PTask) → TypesStand kinds (with_name (task_thing b entries) s t.name) → TypesStand (with_type kinds b t) (with_name (task_thing b entries) s t.name)
@@ -139,7 +140,7 @@ declared-in : (here : List ℕ) (ws : List Word) → AllByRecursion (λ (w : Wor
 declared-in here [] = tt
 declared-in here (w ∷ ws) = (
   or_left (w.name.0 == w.name.0) (is_among (fixed_names (declared true (w.name.0 ∷ here) ws)) w.name.0) (eq-eqb w.name.0 w.name.0 refl),
-  all-weaker (λ (v : Word). IsIn (fixed_names (declared true (w.name.0 ∷ here) ws)) v.name.0) (λ (v : Word). IsIn (w.name.0 ∷ fixed_names (declared true (w.name.0 ∷ here) ws)) v.name.0) ws
+  all_weaker (λ (v : Word). IsIn (fixed_names (declared true (w.name.0 ∷ here) ws)) v.name.0) (λ (v : Word). IsIn (w.name.0 ∷ fixed_names (declared true (w.name.0 ∷ here) ws)) v.name.0) ws
       (λ v e. or_right (w.name.0 == v.name.0) (is_among (fixed_names (declared true (w.name.0 ∷ here) ws)) v.name.0) e) (declared-in (w.name.0 ∷ here) ws),
 )
 
@@ -149,12 +150,12 @@ IsFixed ns x = x.index_range ≡ None → IsIn (fixed_names ns) x.name.name.0
 
 fixed-behind : (a b : List Naming) (xs : List NamedTasks) → AllByRecursion (IsFixed b) xs → AllByRecursion (IsFixed (a ++ b)) xs
 fixed-behind a b xs h =
-    all-weaker (IsFixed b) (IsFixed (a ++ b)) xs
+    all_weaker (IsFixed b) (IsFixed (a ++ b)) xs
     (λ x k e. subst (λ (l : List ℕ). IsIn l x.name.name.0) (sym (flat_map-append fixed_name a b)) (in-back (fixed_names a) (fixed_names b) x.name.name.0 (k e))) h
 
 fixed-before : (a b : List Naming) (xs : List NamedTasks) → AllByRecursion (IsFixed a) xs → AllByRecursion (IsFixed (a ++ b)) xs
 fixed-before a b xs h =
-    all-weaker (IsFixed a) (IsFixed (a ++ b)) xs
+    all_weaker (IsFixed a) (IsFixed (a ++ b)) xs
     (λ x k e. subst (λ (l : List ℕ). IsIn l x.name.name.0) (sym (flat_map-append fixed_name a b)) (in-front (fixed_names a) (fixed_names b) x.name.name.0 (k e))) h
 
 -- names of an object declaration whose names are fixed
@@ -176,7 +177,7 @@ object-fixed : (kinds : List PTask) (s : Scope) (ws : List Word) (c : Bool) (x :
 object-fixed kinds s ws c (OPlain x) i sp main h =
     typed-fixed (namings_of (decl_sites s (DObject ws c (OPlain x) i sp))) (type_named kinds x.mark.name) ws
     (λ t e. subst (λ (l : List Naming). AllByRecursion (λ (w : Word). IsIn (fixed_names l) w.name.0) ws)
-    (sym (object-is s ws c (OPlain x) i (declared_object s c (OPlain x))
+    (sym (object_is s ws c (OPlain x) i (declared_object s c (OPlain x))
     ∙ ap₂ (λ (a b : Bool). declared (a && (c || b)) s.here ws) main (object-is-task s c (marking s x.mark.name) x main (mark-is s (meaning s x.mark.name) (found-stands s kinds x.mark.name t h e)))
     ∙ ap (λ (b : Bool). declared b s.here ws) (either c)))
     (declared-in s.here ws))
@@ -205,7 +206,7 @@ names-fixed (decl_then (DTask t sp) rest) kinds s main h once =
     let first : List Naming = namings_of (decl_sites s d) in
     let later : List Naming = namings_of (decls_sites (after_decl s d) rest) in
     subst (λ (l : List Naming). AllByRecursion (IsFixed l) (single_task_name t.of_kind t sp ++ task_names_in (with_type kinds t.of_kind t) rest)) (sym (namings_append (decl_sites s d) (decls_sites (after_decl s d) rest)))
-    (all-append (IsFixed (first ++ later)) (single_task_name t.of_kind t sp) (task_names_in (with_type kinds t.of_kind t) rest)
+    (all_joined (IsFixed (first ++ later)) (single_task_name t.of_kind t sp) (task_names_in (with_type kinds t.of_kind t) rest)
     (fixed-before first later (single_task_name t.of_kind t sp) (single-fixed t.of_kind s t sp))
     (fixed-behind first later (task_names_in (with_type kinds t.of_kind t) rest)
     (names-fixed rest (with_type kinds t.of_kind t) (after_decl s d) main (type-stands t.of_kind s t _ kinds (all-stand s d kinds once.0 h)) once.1)))
@@ -214,7 +215,7 @@ names-fixed (decl_then (DObject ws c x i sp) rest) kinds s main h once =
     let first : List Naming = namings_of (decl_sites s d) in
     let later : List Naming = namings_of (decls_sites (after_decl s d) rest) in
     subst (λ (l : List Naming). AllByRecursion (IsFixed l) (object_task_names kinds ws x ++ task_names_in kinds rest)) (sym (namings_append (decl_sites s d) (decls_sites (after_decl s d) rest)))
-    (all-append (IsFixed (first ++ later)) (object_task_names kinds ws x) (task_names_in kinds rest)
+    (all_joined (IsFixed (first ++ later)) (object_task_names kinds ws x) (task_names_in kinds rest)
     (fixed-before first later (object_task_names kinds ws x) (object-fixed kinds s ws c x i sp main h))
     (fixed-behind first later (task_names_in kinds rest) (names-fixed rest kinds (after_decl s d) (still_in_main s d ∙ main) (all-stand s d kinds once.0 h) once.1)))
 names-fixed (decl_then (DTaskBody w objects its sp) rest) kinds s main h once = next-fixed (DTaskBody w objects its sp) rest kinds s (names-fixed rest kinds _ (still_in_main s (DTaskBody w objects its sp) ∙ main) (all-stand s (DTaskBody w objects its sp) kinds once.0 h) once.1)

@@ -16,7 +16,8 @@ use Rattle.ada_tree.specs.Sites.{is_task_object}
 use Rattle.ada_tree.specs.Declaring.{with_name, with_names, first_scope, object_of, task_object, task_array, plain_object, array_object, declared_object, type_of_mark, task_thing, after_decl}
 use Rattle.syn_event.specs.NamedTasks.{type_named, with_type}
 use Rattle.normal_model.specs.NormalTree.{mark_of}
-use Rattle.rewritten_types.proofs.Lookups.{some-same, find-all}
+use Rattle.rewritten_types.proofs.Lookups.{find-all}
+use Rattle.common_lemmas.proofs.Options.{some_same}
 
 -- ---- things and marks
 
@@ -224,7 +225,7 @@ found-passes id [] x f = absurd (none-some x f)
 found-passes id (y ∷ names) x f = by_test (y.name == id.0) refl f (found-passes id names x)
   where
     by_test : (b : Bool) → (y.name == id.0) ≡ b → (if b then Some y else find (λ (z : Seen). z.name == id.0) names) ≡ Some x → (find (λ (z : Seen). z.name == id.0) names ≡ Some x → (x.name == id.0) ≡ true) → (x.name == id.0) ≡ true
-    by_test true e g rest = ap (λ (z : Seen). z.name == id.0) (sym (some-same g)) ∙ e
+    by_test true e g rest = ap (λ (z : Seen). z.name == id.0) (sym (some_same g)) ∙ e
     by_test false e g rest = rest g
 
 -- a name that is none of a task type means none

@@ -13,12 +13,13 @@ use Rattle.normal_types.proofs.Normal.{front-after}
 use Rattle.normal_types.proofs.Variables.{unit-all}
 use Rattle.ada_duplicates.proofs.Behind.{with_names_is, still_in_main}
 use Rattle.normal_has_numbers.proofs.Listed.{IsPlain, IsOneTask, tasks-all, bodies-all, first-plain, vars, tasks, bodies}
-use Rattle.normal_once.specs.Naming.{Naming, namings_of}
+use Rattle.ada_duplicates.specs.NamingsInOrder.{namings_of}
+use Rattle.ada_duplicates.specs.declared.namings_in_order.Naming.{Naming}
 use Rattle.normal_once.specs.Names.{bodies_names}
 use Rattle.normal_once.specs.Laws.{behind_first, behind_variables, NormalDeclares}
-use Rattle.normal_once.proofs.Quiet.{namings_append}
 use Rattle.normal_once.proofs.TaskTypes.{HasTypes, first-types, types-after, kinds_after}
 use Rattle.normal_once.proofs.Declared.{IsVariable, front-sites, list-front, variables-are, tasks-are, bodies-are}
+use Rattle.ada_duplicates.proofs.Noting.{namings_append}
 
 -- ---- scopes in front of tasks and bodies
 

@@ -2,7 +2,8 @@
 use Rattle.std.specs.Prelude.{◌≡◌, ℕ, Bool, true, false, ◌||◌, ◌&&◌, List, [], ◌∷◌, ◌++◌, flat_map}
 use Rattle.std.specs.List.{AllByRecursion}
 use Rattle.ada_tree.specs.RuleDuplicate.{is_predefined, is_among}
-use Rattle.normal_once.specs.Naming.{Naming, Declares, Labels, Once}
+use Rattle.ada_duplicates.specs.declared.namings_in_order.Naming.{Naming}
+use Rattle.ada_duplicates.specs.declared.namings_in_order.Naming.TheVariants.{Declares, Labels, Once}
 
 -- ---- names
 

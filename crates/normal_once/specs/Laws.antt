@@ -20,7 +20,7 @@ use Rattle.normal_model.specs.NormalStmts.{normal_body}
 use Rattle.normal_types.specs.Laws.{setting_of}
 use Rattle.ada_duplicates.specs.NamedSoFar.{object_words}
 use Rattle.normal_once.specs.Once.{AllOnce}
-use Rattle.normal_once.specs.Naming.{namings_of, declared}
+use Rattle.ada_duplicates.specs.NamingsInOrder.{namings_of, declared}
 use Rattle.normal_once.specs.Apart.{fixed_names, IsFitIn, AreFit}
 use Rattle.normal_once.specs.Names.{body_names, tasks_names, bodies_names, IsFitDecl}
 

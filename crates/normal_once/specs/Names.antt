@@ -8,7 +8,9 @@ use Rattle.ada_tree.specs.RuleDuplicate.{is_among}
 use Rattle.ada_tree.specs.Sites.{all_names, with_words}
 use Rattle.syn_event.specs.Units.{decl_list}
 use Rattle.ada_duplicates.specs.NamedSoFar.{object_words}
-use Rattle.normal_once.specs.Naming.{Naming, Declares, Labels, Once, declared, named_once}
+use Rattle.ada_duplicates.specs.NamingsInOrder.{declared, named_once}
+use Rattle.ada_duplicates.specs.declared.namings_in_order.Naming.{Naming}
+use Rattle.ada_duplicates.specs.declared.namings_in_order.Naming.TheVariants.{Declares, Labels, Once}
 use Rattle.normal_once.specs.Apart.{IsFitIn}
 
 -- the name of a loop

@@ -6,14 +6,11 @@ use Rattle.ada_tree.specs.PlainStmt.{PStmts, no_stmt, stmt_then, plain_stmt, see
 use Rattle.ada_expr_copy.specs.Parts.{OkWith}
 use Rattle.task_model.specs.Frames.{in_front}
 use Rattle.normal_model.specs.Making.{or_null}
+use Rattle.normal_model.proofs.WalkLemmas.{in_front-joined}
 
 pub in_front-nil : (a : PStmts) → in_front a no_stmt ≡ a
 in_front-nil no_stmt = refl
 in_front-nil (stmt_then x l) = ap (stmt_then x) (in_front-nil l)
-
-pub in_front-joined : (a b c : PStmts) → in_front (in_front a b) c ≡ in_front a (in_front b c)
-in_front-joined no_stmt b c = refl
-in_front-joined (stmt_then x l) b c = ap (stmt_then x) (in_front-joined l b c)
 
 -- the row of two lists, one behind the other
 pub seen-append : (xs ys : List Stmt) → seen (xs ++ ys) ≡ in_front (seen xs) (seen ys)

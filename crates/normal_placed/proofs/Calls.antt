@@ -1,7 +1,7 @@
 -- What a call has: its index and its actuals are well placed, and not deep.
-use Rattle.std.proofs.Common.{◌≡◌, ℕ, ◌+◌, ◌≤◌, ◌<◌, Bool, true, false, if◌then◌else◌, List, [], ◌∷◌, ◌++◌, length, flat_map, Option, Some, None, option_map, IfSome, unwrap_or, All, refl, sym, ap, subst, ◌∙◌, arith}
+use Rattle.std.proofs.Common.{◌≡◌, ℕ, ◌≤◌, Bool, true, false, if◌then◌else◌, List, [], ◌∷◌, length, Option, Some, None, IfSome, unwrap_or, subst, arith}
 use Rattle.std.specs.List.{AllByRecursion}
-use Rattle.std.proofs.lemmas.List.Elements.{All-from_recursion, recursion_from_All}
+use Rattle.std.proofs.lemmas.List.Elements.{recursion_from_All}
 use Rattle.ada_tree.specs.declared.naming.NameId.{NameId}
 use Rattle.ada_tree.specs.declared.naming.Span.{Span}
 use Rattle.ada_tree.specs.TypeTable.{TypeTable}
@@ -13,16 +13,16 @@ use Rattle.ada_tree.specs.WellPlaced.{well_placed}
 use Rattle.syn_event.specs.declared.numbering.Mode.TheVariants.{Original}
 use Rattle.syn_event.specs.CheckScope.{CheckScope, CheckSite}
 use Rattle.syn_event.specs.CheckSites as check
-use Rattle.syn_event.proofs.Nothing.{all_front, all_back}
 use Rattle.legal_sites.specs.Met.{IsCheckMet}
 use Rattle.asked_stmts.proofs.Lists.{all_unflat}
 use Rattle.task_model.specs.Setting.{Setting, is_family, first_expr, lists_in, lists_of}
 use Rattle.task_model.specs.Calls.{variable_of}
-use Rattle.normal_model.specs.Making.{unless_static, moving}
-use Rattle.normal_model.specs.Calls.{Slot, actuals_passed, entry_called, lists_called, slots_called, lists_passed}
+use Rattle.normal_model.specs.Making.{moving}
+use Rattle.normal_model.specs.Calls.{Slot, actuals_passed, entry_called, lists_called, slots_called}
 use Rattle.normal_asked.specs.Pieces.{IsPair, first_pair, later_pair}
 use Rattle.normal_placed.specs.Placeable.{AreTaken}
 use Rattle.normal_placed.proofs.Depth.{expr-depth}
+use Rattle.common_lemmas.proofs.Lists.{all_back, all_front}
 
 -- ---- what moves
 

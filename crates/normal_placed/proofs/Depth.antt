@@ -1,5 +1,5 @@
 -- How deep parts of an original stand: at most 40, and its waits have at most 32 alternatives. So a part of it may stand some deeper.
-use Rattle.std.proofs.Common.{◌≡◌, ℕ, ◌+◌, ◌≤◌, Bool, true, false, ◌&&◌, nat_le, nat_lt, cond, List, [], ◌∷◌, ◌++◌, length, Option, Some, None, refl, sym, ap, subst, ◌∙◌, arith}
+use Rattle.std.proofs.Common.{◌≡◌, ℕ, ◌+◌, ◌≤◌, Bool, true, false, ◌&&◌, nat_le, nat_lt, List, arith}
 use Rattle.std.specs.List.{AllByRecursion}
 use Rattle.std.proofs.lemmas.Bool.{ltb-false, le-leb}
 use Rattle.ada_tree.specs.declared.naming.Span.{Span}
@@ -11,8 +11,9 @@ use Rattle.syn_event.specs.declared.numbering.Mode.TheVariants.{Original}
 use Rattle.syn_event.specs.declared.limits.What.TheVariants.{Nesting, Alternatives}
 use Rattle.syn_event.specs.CheckScope.{CheckScope, CheckSite, counts}
 use Rattle.syn_event.specs.CheckSites.{site, expr_sites, numbered, alt_places}
-use Rattle.syn_event.proofs.Nothing.{test_fails, all_front, all_back}
+use Rattle.syn_event.proofs.Nothing.{test_fails}
 use Rattle.legal_sites.specs.Met.{IsCheckMet}
+use Rattle.common_lemmas.proofs.Lists.{all_back, all_front}
 
 module _ (names : List (List ℕ)) where
   abbrev At : List CheckSite → Type 0

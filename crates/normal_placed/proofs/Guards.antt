@@ -1,5 +1,5 @@
 -- The test that no guard holds is well placed.
-use Rattle.std.proofs.Common.{◌≡◌, ℕ, ◌+◌, ◌≤◌, ◌<◌, ◌⊎◌, inl, inr, List, [], ◌∷◌, length, refl, sym, ap, subst, arith}
+use Rattle.std.proofs.Common.{ℕ, ◌+◌, ◌≤◌, ◌<◌, ◌⊎◌, inl, inr, List, [], ◌∷◌, length, refl, arith}
 use Rattle.std.specs.List.{AllByRecursion}
 use Rattle.ada_tree.specs.declared.naming.Span.{Span}
 use Rattle.ada_tree.specs.declared.expressions.BinaryOp.TheVariants.{And}

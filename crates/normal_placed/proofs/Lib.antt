@@ -4,6 +4,7 @@ pub mod Guards
 pub mod Made
 pub mod Texts
 pub mod Names
+pub mod Added
 pub mod Subtypes
 pub mod Whole
 pub mod Tables

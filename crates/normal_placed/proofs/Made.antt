@@ -1,6 +1,6 @@
 -- Each piece that the normal form makes is well placed.
-use Rattle.std.proofs.Common.{◌≡◌, ℕ, ◌+◌, ◌≤◌, ◌<◌, ◌&&◌, ◌==◌, ℤ, pos, negsuc, Bool, true, false, cond, if◌then◌else◌, zero, suc, List, [], ◌∷◌, ◌++◌, length, Option, Some, None, option_map, is_some, IfSome, IsSomeAnd, unwrap_or, slice_get, unsigned_abs, Ok, Err, Result, All, inl, inr, refl, sym, ap, subst, ◌∙◌, arith}
-use Rattle.std.specs.List.{AllByRecursion, filter}
+use Rattle.std.proofs.Common.{◌≡◌, ℕ, ◌+◌, ◌≤◌, ◌<◌, ◌==◌, ℤ, pos, negsuc, Bool, true, false, if◌then◌else◌, zero, suc, List, [], ◌∷◌, length, Option, Some, None, option_map, IfSome, unwrap_or, slice_get, unsigned_abs, inl, refl, sym, subst, arith}
+use Rattle.std.specs.List.{AllByRecursion}
 use Rattle.std.specs.Ordering.{int_eq}
 use Rattle.std.proofs.lemmas.List.Elements.{All-from_recursion}
 use Rattle.std.proofs.lemmas.Option.{slice_get_within}
@@ -11,12 +11,9 @@ use Rattle.ada_tree.specs.declared.naming.Word.{Word}
 use Rattle.ada_tree.specs.declared.static_types.Kind.{Kind}
 use Rattle.ada_tree.specs.declared.static_types.Kind.TheVariants as kind
 use Rattle.ada_tree.specs.declared.expressions.UnaryOp.TheVariants as unary
-use Rattle.ada_tree.specs.declared.expressions.BinaryOp.TheVariants.{Equal}
-use Rattle.ada_tree.specs.TypeTable.{TypeTable}
 use Rattle.ada_tree.specs.Attributes.{false_name, true_name}
-use Rattle.ada_tree.specs.ExprTypes.{place_of}
-use Rattle.ada_tree.specs.PlainExpr.{PExpr, EInteger, EName, EAttribute, EUnary, EBinary, PSubind, PDrange}
-use Rattle.ada_tree.specs.PlainStmt.{PCallee, PArgs, PCall, PHead, PStmt, SAssign, SRaise, SNull, PAlts, PHandlers, no_handler, handler_then, handler}
+use Rattle.ada_tree.specs.PlainExpr.{PExpr, EInteger, EName, EAttribute, EUnary, PSubind, PDrange}
+use Rattle.ada_tree.specs.PlainStmt.{PCallee, PArgs, PCall, PHead, SAssign, PHandlers, no_handler, handler_then, handler}
 use Rattle.ada_tree.specs.PlainDecl.{PDecl}
 use Rattle.ada_tree.specs.Every.{Rules, EveryExpr, EveryExprs, EveryArgs, EveryChoice, EveryHead, EveryStmt, alts_count}
 use Rattle.ada_tree.specs.WellPlaced.{OthersLast, well_placed}
@@ -24,30 +21,29 @@ use Rattle.syn_event.specs.declared.numbering.Mode.TheVariants.{Original}
 use Rattle.syn_event.specs.declared.numbering.TaskInfo.{TaskInfo}
 use Rattle.syn_event.specs.CheckScope.{CheckScope, CheckSite, counts}
 use Rattle.syn_event.specs.declared.limits.What.TheVariants.{Nesting}
-use Rattle.syn_event.proofs.Nothing.{all_front, all_back}
 use Rattle.syn_event.specs.CheckSites as check
 use Rattle.syn_event.specs.Numbering.{task_at}
 use Rattle.legal_sites.specs.Met.{IsCheckMet}
-use Rattle.ada_value.specs.declared.values.Raised.{Raised}
 use Rattle.task_model.specs.Setting.{Setting, is_family, task_of, first_expr, lists_in, lists_of}
-use Rattle.normal_model.specs.Names.{variable_name, task_name, name_of_task, task_name_at}
+use Rattle.normal_model.specs.Names.{variable_name, task_name, name_of_task}
 use Rattle.normal_model.specs.Ranges.{word_at, subtype_of_range, array_range, family_range}
 use Rattle.normal_model.specs.Making.{variable, assigned, kept_subtypes, kept_if, moving, index_left}
-use Rattle.normal_model.specs.Members.{negative_literal, integer_literal, truth_literal, literal_in, kind_of_index, index_literal, known_task, known_callee, members_of}
-use Rattle.normal_model.specs.Calls.{Slot, actual_subtypes, actuals_passed, entry_called, lists_called, slots_called, lists_passed, args_passed, call_to, index_number, actual_number}
-use Rattle.normal_model.specs.Waits.{Unit, head_left, none_held}
+use Rattle.normal_model.specs.Members.{negative_literal, integer_literal, truth_literal, literal_in, kind_of_index, index_literal, known_task, members_of}
+use Rattle.normal_model.specs.Calls.{Slot, actual_subtypes, actuals_passed, entry_called, slots_called, lists_passed, args_passed, index_number, actual_number}
+use Rattle.normal_model.specs.Waits.{Unit, head_left}
 use Rattle.normal_model.specs.Variables.{variable_declared}
-use Rattle.normal_model.specs.Walk.{Rewriter, after_stmts, inside_handlers}
+use Rattle.normal_model.specs.Walk.{after_stmts, inside_handlers}
 use Rattle.normal_model.specs.NormalStmts.{normal_rewriter}
 use Rattle.normal_model.specs.NormalTree.{variables_needed}
 use Rattle.asked_stmts.specs.Asked.{Asks}
 use Rattle.asked_stmts.specs.Kinds.{place_asks, check_asks, both}
-use Rattle.normal_asked.specs.Pieces.{IsVariable, AreVariables, IsGuard, member_choice, member_choices, IsAmong, first_among, later_among, IsTarget, is_known, is_member, named, IsPair, Pieces}
+use Rattle.normal_asked.specs.Pieces.{IsVariable, AreVariables, IsGuard, member_choice, IsAmong, first_among, later_among, IsTarget, is_known, is_member, Pieces}
 use Rattle.normal_placed.specs.Placeable.{IsName, AreTaken, call_asks, HasNames, KindsHaveNames, IsSmallIndex, HasSmallIndex}
 use Rattle.normal_placed.proofs.Depth.{depth-of, expr-depth, expr-moved, few-alternatives}
 use Rattle.normal_placed.proofs.Calls.{moves, name-of, args-depth, Fits, list-fits, index-fits, pair-fits, passed-some}
 use Rattle.normal_asked.proofs.CallVariables.{family-there, actuals-there}
-use Rattle.normal_placed.proofs.Guards.{IsPlacedBy, IsPrimary, none-placed}
+use Rattle.normal_placed.proofs.Guards.{IsPrimary, none-placed}
+use Rattle.common_lemmas.proofs.Lists.{all_back, all_front, all_kept, holds_at}
 
 -- ---- names
 
@@ -62,19 +58,6 @@ pub record AreNamed (g : Setting) (names : List (List ℕ)) : Type 0 where
 among : {A : Type 0} (P : A → Type 0) (x : A) (xs : List A) → IsAmong x xs → AllByRecursion P xs → P x
 among P x xs (first_among ys) h = h.0
 among P x xs (later_among y ys i) h = among P x ys i h.1
-
-at-place : {A : Type 0} (P : A → Type 0) (xs : List A) (k : ℕ) (x : A) → slice_get xs k ≡ Some x → AllByRecursion P xs → P x
-at-place P [] k x e h = cc
-at-place P (y ∷ ys) zero x e h = let f : y ≡ x = cc in subst P f h.0
-at-place P (y ∷ ys) (suc k) x e h = at-place P ys k x e h.1
-
-pub kept : {A : Type 0} (P : A → Type 0) (p : A → Bool) (xs : List A) → AllByRecursion P xs → AllByRecursion P (filter p xs)
-kept P p [] h = tt
-kept P p (x ∷ xs) h = by_test (p x) (kept P p xs h.1)
-  where
-    by_test : (b : Bool) → AllByRecursion P (filter p xs) → AllByRecursion P (cond b (x ∷ filter p xs) (filter p xs))
-    by_test true rest = (h.0, rest)
-    by_test false rest = rest
 
 module _ (u : Unit) (vars : List PDecl) (names names' : List (List ℕ)) (known : AreNamed u.setting names') (few : length vars ≤ variables_needed u.setting) where
   abbrev g : Setting
@@ -109,10 +92,10 @@ module _ (u : Unit) (vars : List PDecl) (names names' : List (List ℕ)) (known 
 
   name-known : (o : Option TaskInfo) (t : ℕ) → task_at g.numbers t ≡ o → IsName names' (name_of_task g o)
   name-known None t e = known.first 0 (omega arith)
-  name-known (Some info) t e = at-place (λ i. IsName names' (task_name g i)) g.numbers.tasks t info e known.tasks
+  name-known (Some info) t e = holds_at (λ i. IsName names' (task_name g i)) g.numbers.tasks t info e known.tasks
 
   member-named : (name : NameId) (info : TaskInfo) → IsAmong info (members_of g name) → IsName names' (task_name g info)
-  member-named name info i = among (λ y. IsName names' (task_name g y)) info (members_of g name) i (kept (λ y. IsName names' (task_name g y)) _ g.numbers.tasks known.tasks)
+  member-named name info i = among (λ y. IsName names' (task_name g y)) info (members_of g name) i (all_kept (λ y. IsName names' (task_name g y)) _ g.numbers.tasks known.tasks)
 
   target-named : (x : PCallee) (w : Word) → IsTarget g x w → IsName names' w.name
   target-named x w (is_known e f) =
@@ -167,7 +150,7 @@ module _ (u : Unit) (vars : List PDecl) (names names' : List (List ℕ)) (known 
   choice-placed : (s : Span) (x : PCallee) (info : TaskInfo) (q : ℕ) → q + 1 ≤ 300 → IsAmong info (members_of g x.name.name) → EveryChoice r q (member_choice g s x info)
   choice-placed s x info q le i = (
     index-placed (kind_of_index g.types (array_range g.program x.name.name)) info.member q s le (kind-named (array_range g.program x.name.name))
-        (among HasSmallIndex info (members_of g x.name.name) i (kept HasSmallIndex _ g.numbers.tasks known.indices)),
+        (among HasSmallIndex info (members_of g x.name.name) i (all_kept HasSmallIndex _ g.numbers.tasks known.indices)),
     tt,
   )
 

@@ -1,5 +1,5 @@
 -- The names of a normal form are such as the source can hold.
-use Rattle.std.proofs.Common.{◌≡◌, ℕ, zero, suc, ◌+◌, ◌<◌, ◌≤◌, ◌^◌, ℤ, Bool, true, false, nat_le, IsTrue, List, [], ◌∷◌, ◌++◌, length, take, Option, Some, None, IfSome, IsSomeAnd, slice_get, get_or, position, unwrap_or, refl, sym, ap, subst, ◌∙◌, arith}
+use Rattle.std.proofs.Common.{◌≡◌, ℕ, zero, suc, ◌<◌, ◌≤◌, ◌^◌, ℤ, Bool, true, false, nat_le, List, [], ◌∷◌, length, take, Option, Some, None, IfSome, IsSomeAnd, slice_get, get_or, position, unwrap_or, refl, sym, ap, subst, ◌∙◌, arith}
 use Rattle.std.specs.List.{AllByRecursion}
 use Rattle.std.specs.Str.{bytes_eq}
 use Rattle.std.proofs.lemmas.Bool.{leb-true, leb-false}
@@ -7,7 +7,7 @@ use Rattle.std.proofs.lemmas.List.Quantifiers.{position-Some}
 use Rattle.std.proofs.lemmas.Option.{slice_get_within, slice_get-get_or}
 use Rattle.std.proofs.lemmas.Slice.Eq.{bytes_eq-Decides}
 use Rattle.ada_tree.specs.declared.naming.NameId.{NameId}
-use Rattle.ada_tree.specs.NameList.{predefined, AreNames, interned}
+use Rattle.ada_tree.specs.NameList.{predefined, AreNames}
 use Rattle.ada_tree.specs.Lexical.{is_word, IsIdentifier}
 use Rattle.syn_event.specs.declared.numbering.TaskInfo.{TaskInfo}
 use Rattle.syn_event.specs.Units.{text_of}
@@ -17,11 +17,12 @@ use Rattle.normal_model.specs.NormalTree.{variables_needed}
 use Rattle.normal_model.proofs.VariablesLemmas.{Begins, begins-refl, begins-trans}
 use Rattle.normal_types.proofs.Names.{interned-begins, fold-begins, variables-begin, names-begin, variable-there}
 use Rattle.rewritten_values.proofs.Saying.{place-within}
-use Rattle.normal_placed.specs.Placeable.{IsName, HasNames, KindsHaveNames, HasSmallIndex, IsShortIndex, IsTask, IsPlaceable}
+use Rattle.normal_placed.specs.Placeable.{IsName, HasNames, IsShortIndex, IsTask, IsPlaceable}
 use Rattle.ada_tree.specs.declared.static_types.Kind.{Kind}
 use Rattle.ada_tree.specs.declared.static_types.Kind.TheVariants.{Integer, Truth, Enumeration, Array}
 use Rattle.normal_placed.proofs.Made.{AreNamed}
 use Rattle.normal_placed.proofs.Texts.{variable-identifier, member-identifier}
+use Rattle.common_lemmas.proofs.Lists.{holds_at}
 
 -- ---- names that stay
 
@@ -50,17 +51,12 @@ first-there xs ys n k t e h = go xs n k (ap (λ zs. slice_get zs k) e ∙ h)
 predefined-named : AllByRecursion IsIdentifier predefined
 predefined-named = ((refl, omega arith, refl), ((refl, omega arith, refl), ((refl, omega arith, refl), ((refl, omega arith, refl), ((refl, omega arith, refl), ((refl, omega arith, refl), ((refl, omega arith, refl), ((refl, omega arith, refl), ((refl, omega arith, refl), ((refl, omega arith, refl), ((refl, omega arith, refl), ((refl, omega arith, refl), ((refl, omega arith, refl), ((refl, omega arith, refl), ((refl, omega arith, refl), ((refl, omega arith, refl), ((refl, omega arith, refl), ((refl, omega arith, refl), ((refl, omega arith, refl), ((refl, omega arith, refl), ((refl, omega arith, refl), ((refl, omega arith, refl), ((refl, omega arith, refl), ((refl, omega arith, refl), ((refl, omega arith, refl), tt)))))))))))))))))))))))))
 
-place-all : {A : Type 0} (P : A → Type 0) (xs : List A) (k : ℕ) (x : A) → slice_get xs k ≡ Some x → AllByRecursion P xs → P x
-place-all P [] k x e h = cc
-place-all P (y ∷ ys) zero x e h = let f : y ≡ x = cc in subst P f h.0
-place-all P (y ∷ ys) (suc k) x e h = place-all P ys k x e h.1
-
 pub first-named : (names : List (List ℕ)) → AreNames names → (k : ℕ) → k < 25 → IsName names (record { 0 = k })
 first-named names are k l =
     let t : List ℕ = get_or predefined k [] in
     let e : slice_get predefined k ≡ Some t = slice_get-get_or predefined k [] l in
     let f : slice_get names k ≡ Some t = first-there names predefined (length predefined) k t are.begins e in
-    subst (λ o. IsSomeAnd o IsIdentifier) (sym f) (place-all IsIdentifier predefined k t e predefined-named)
+    subst (λ o. IsSomeAnd o IsIdentifier) (sym f) (holds_at IsIdentifier predefined k t e predefined-named)
 
 -- ---- variables
 

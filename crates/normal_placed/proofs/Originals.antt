@@ -1,5 +1,4 @@
 -- An original with its own types and numbers is as the law asks, where it has room.
-use Rattle.std.proofs.Common.{ℕ, List}
 use Rattle.ada_tree.specs.NameList.{AreNames}
 use Rattle.ada_tree.specs.PlainProgram.{PProgram}
 use Rattle.ada_tree.specs.Refusals.{types_in}
@@ -8,7 +7,6 @@ use Rattle.syn_event.specs.AllNumbers.{all_numbers}
 use Rattle.syn_event.specs.CheckRefusals.{MeetsCheckRules}
 use Rattle.syn_event.specs.declared.numbering.Mode.TheVariants.{Original}
 use Rattle.legal_sites.proofs.Meeting.{all_check_met}
-use Rattle.task_model.specs.Setting.{Setting}
 use Rattle.normal_placed.specs.Placeable.{HasRoom, IsPlaceable}
 use Rattle.normal_placed.specs.Laws.{NormalIsPlaced, OriginalIsPlaced}
 use Rattle.normal_placed.proofs.Names.{first-named}

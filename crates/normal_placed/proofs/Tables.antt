@@ -1,24 +1,23 @@
 -- The names in the table of types of a program that is well placed are such as the source can hold.
-use Rattle.std.proofs.Common.{ℕ, ◌<◌, ℤ, Bool, true, false, if◌then◌else◌, List, [], ◌∷◌, ◌++◌, map, Option, Some, None, IfSome, All, sym, subst, arith}
+use Rattle.std.proofs.Common.{ℕ, ◌<◌, ℤ, Bool, true, false, if◌then◌else◌, List, [], ◌∷◌, map, Option, Some, None, IfSome, sym, subst, arith}
 use Rattle.std.specs.List.{AllByRecursion}
 use Rattle.std.proofs.lemmas.List.Elements.{recursion_from_All}
 use Rattle.ada_tree.specs.declared.naming.NameId.{NameId}
 use Rattle.ada_tree.specs.declared.naming.Word.{Word}
 use Rattle.ada_tree.specs.declared.static_types.Kind.TheVariants.{Enumeration}
-use Rattle.ada_tree.specs.declared.static_types.Mark.{Mark}
 use Rattle.ada_tree.specs.TypeTable.{TypeTable}
 use Rattle.ada_tree.specs.PlainExpr.{PBounds, PSubind, PDrange}
 use Rattle.ada_tree.specs.PlainDecl.{PShape, OPlain, OArray, PInit, PDecl, DNumber, DObject, DEnumeration, DArray, DSubtype, DException, DIntIo, DPragma, DTask, DTaskBody, PDecls, no_decl, decl_then}
 use Rattle.ada_tree.specs.PlainProgram.{PProgram}
-use Rattle.ada_tree.specs.Scope.{Scope, Range, Thing, EntryPart, Marking, ScalarMark, ArrayMark, TaskMark, NoMark, UnknownMark, UnclearMark, marking, integer_kind}
+use Rattle.ada_tree.specs.Scope.{Scope, Range, Thing, Marking, ScalarMark, ArrayMark, TaskMark, NoMark, UnknownMark, UnclearMark, marking, integer_kind}
 use Rattle.ada_tree.specs.ExprTypes.{static_in, range_between}
-use Rattle.ada_tree.specs.Declaring.{first_scope, with_names, with_types, made_range, subind_made, made_subind, drange_range, made_array, made_named_array, made_subtype, renamed, array_object, plain_object, declared_object, add_constants, constant_mark, constant_value, with_constants, after_object, in_body, after_own_object, after_objects, after_decl, after_decls}
+use Rattle.ada_tree.specs.Declaring.{first_scope, with_names, with_types, made_range, subind_made, made_subind, drange_range, made_array, renamed, array_object, plain_object, declared_object, add_constants, constant_mark, constant_value, with_constants, after_object, in_body, after_own_object, after_objects, after_decl, after_decls}
 use Rattle.ada_tree.specs.Refusals.{types_in}
 use Rattle.ada_tree.specs.Every.{EveryWord, EveryDecl, EveryDecls}
 use Rattle.ada_tree.specs.WellPlaced.{well_placed}
 use Rattle.rewritten_types.proofs.Adding.{names-types}
-use Rattle.asked_stmts.proofs.Lists.{all_join}
 use Rattle.normal_placed.specs.Placeable.{IsName, HasNames, KindsHaveNames, MarksHaveNames}
+use Rattle.common_lemmas.proofs.Lists.{all_joined}
 
 module _ (names : List (List ℕ)) where
   -- the table's enumerations and marks have names
@@ -26,7 +25,7 @@ module _ (names : List (List ℕ)) where
   IsNamed T = KindsHaveNames names T × MarksHaveNames names T
 
   named-range : (T : TypeTable) (r : Option Range) → IsNamed T → IsNamed (made_range T r).types
-  named-range T (Some r) h = (h.0, all_join (λ m. IfSome m.name (IsName names)) T.marks _ h.1 (tt, tt))
+  named-range T (Some r) h = (h.0, all_joined (λ m. IfSome m.name (IsName names)) T.marks _ h.1 (tt, tt))
   named-range T None h = h
 
   named-between : (T : TypeTable) (k : ℕ) (a b : Option ℤ) → IsNamed T → IsNamed (made_range T (range_between k a b)).types
@@ -47,7 +46,7 @@ module _ (names : List (List ℕ)) where
   named-subind s x h = named-marking s (marking s x.mark.name) x.bounds h
 
   named-array : (name : Option NameId) (T : TypeTable) (r : Option Range) (part : Option ℕ) → IfSome name (IsName names) → IsNamed T → IsNamed (made_array name T r part).types
-  named-array name T (Some r) (Some part) n h = (all_join (HasNames names) T.kinds _ h.0 (tt, tt), all_join (λ m. IfSome m.name (IsName names)) T.marks _ h.1 (n, tt))
+  named-array name T (Some r) (Some part) n h = (all_joined (HasNames names) T.kinds _ h.0 (tt, tt), all_joined (λ m. IfSome m.name (IsName names)) T.marks _ h.1 (n, tt))
   named-array name T (Some r) None n h = h
   named-array name T None part n h = h
 
@@ -118,7 +117,7 @@ module _ (names : List (List ℕ)) where
   literals-named (w ∷ ws) h = (h.0, literals-named ws h.1)
 
   named-renamed : (w : Word) (T : TypeTable) (r : Option Range) → IsName names w.name → IsNamed T → IsNamed (renamed w T r).types
-  named-renamed w T (Some r) n h = (h.0, all_join (λ m. IfSome m.name (IsName names)) T.marks _ h.1 (n, tt))
+  named-renamed w T (Some r) n h = (h.0, all_joined (λ m. IfSome m.name (IsName names)) T.marks _ h.1 (n, tt))
   named-renamed w T None n h = h
 
   named-decl : (d : PDecl) (s : Scope) → EveryDecl (well_placed names) d → IsNamed s.types → IsNamed (after_decl s d).types
@@ -126,8 +125,8 @@ module _ (names : List (List ℕ)) where
   named-decl (DObject ws constant shape init sp) s p h = named-object s ws constant shape init h
   named-decl (DEnumeration w ws sp) s p h =
       named-words _ ws _ (
-        all_join (HasNames names) s.types.kinds (Enumeration (map (λ v. v.name) ws) ∷ []) h.0 (literals-named ws (recursion_from_All (EveryWord (well_placed names)) ws p.2.1), tt),
-        all_join (λ m. IfSome m.name (IsName names)) s.types.marks _ h.1 (p.1, tt),
+        all_joined (HasNames names) s.types.kinds (Enumeration (map (λ v. v.name) ws) ∷ []) h.0 (literals-named ws (recursion_from_All (EveryWord (well_placed names)) ws p.2.1), tt),
+        all_joined (λ m. IfSome m.name (IsName names)) s.types.marks _ h.1 (p.1, tt),
       )
   named-decl (DArray w q x sp) s p h = named-own s (Some w.name) q x p.1 h
   named-decl (DSubtype w x sp) s p h = named-renamed w (made_subind s x).types _ p.1 (named-subind s x h)

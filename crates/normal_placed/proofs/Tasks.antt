@@ -1,5 +1,5 @@
 -- The tasks of an original have names that the source can hold, of at most 120 bytes.
-use Rattle.std.proofs.Common.{◌≡◌, ℕ, ◌+◌, ◌≤◌, ◌<◌, ◌^◌, ℤ, pos, negsuc, Bool, true, false, ◌&&◌, nat_le, nat_lt, List, [], ◌∷◌, ◌++◌, length, map, flat_map, Option, Some, None, IfSome, IsSomeAnd, unwrap_or, slice_get, All, refl, sym, ap, subst, ◌∙◌, arith}
+use Rattle.std.proofs.Common.{◌≡◌, ℕ, ◌+◌, ◌≤◌, ℤ, pos, negsuc, Bool, true, false, ◌&&◌, nat_le, nat_lt, List, [], ◌∷◌, ◌++◌, length, map, flat_map, Option, Some, None, IfSome, IsSomeAnd, unwrap_or, slice_get, refl, ap, arith}
 use Rattle.std.specs.List.{AllByRecursion}
 use Rattle.std.proofs.lemmas.Bool.{ltb-false}
 use Rattle.std.proofs.lemmas.List.Elements.{recursion_from_All}
@@ -9,22 +9,22 @@ use Rattle.ada_tree.specs.declared.naming.Word.{Word}
 use Rattle.ada_tree.specs.Lexical.{IsIdentifier}
 use Rattle.ada_tree.specs.TypeTable.{TypeTable}
 use Rattle.ada_tree.specs.PlainExpr.{PDrange}
-use Rattle.ada_tree.specs.PlainDecl.{PShape, OPlain, OArray, PInit, PTask, PDecl, DNumber, DObject, DEnumeration, DArray, DSubtype, DException, DIntIo, DPragma, DTask, DTaskBody, PDecls, no_decl, decl_then}
+use Rattle.ada_tree.specs.PlainDecl.{PShape, OPlain, OArray, PTask, DNumber, DObject, DEnumeration, DArray, DSubtype, DException, DIntIo, DPragma, DTask, DTaskBody, PDecls, no_decl, decl_then}
 use Rattle.ada_tree.specs.PlainProgram.{PProgram}
-use Rattle.ada_tree.specs.Every.{EveryWord, EveryDecls, EveryNames}
+use Rattle.ada_tree.specs.Every.{EveryWord, EveryDecls}
 use Rattle.ada_tree.specs.WellPlaced.{well_placed, IsWellPlaced}
 use Rattle.syn_event.specs.declared.numbering.Mode.TheVariants.{Original}
 use Rattle.syn_event.specs.declared.numbering.TaskInfo.{TaskInfo}
-use Rattle.syn_event.specs.CheckScope.{CheckScope, CheckSite, declares, needs_body}
+use Rattle.syn_event.specs.CheckScope.{CheckScope, CheckSite, declares}
 use Rattle.syn_event.specs.CheckSites as check
-use Rattle.syn_event.specs.Extents.{extent, Extent}
+use Rattle.syn_event.specs.Extents.{extent}
 use Rattle.syn_event.specs.NamedTasks.{NamedTasks, type_named, task_names_of_type, object_task_names, with_type, single_task_name, task_names_in, task_names_of, NumberedTask, numbered_task, indices, tasks_of_range, tasks_of_name, numbered_tasks}
 use Rattle.syn_event.specs.AllNumbers.{info_of_task, all_numbers}
 use Rattle.syn_event.specs.Units.{text_of}
-use Rattle.syn_event.proofs.Nothing.{test_fails, all_front, all_back}
+use Rattle.syn_event.proofs.Nothing.{test_fails}
 use Rattle.legal_sites.specs.Met.{IsCheckMet}
-use Rattle.asked_stmts.proofs.Lists.{all_join}
 use Rattle.normal_placed.specs.Placeable.{IsName, IsSmallIndex, IsShortIndex, HasSmallIndex, IsTask}
+use Rattle.common_lemmas.proofs.Lists.{all_back, all_front, all_joined}
 
 module _ (names : List (List ℕ)) where
   abbrev M : CheckSite → Type 0
@@ -80,7 +80,7 @@ module _ (names : List (List ℕ)) where
   tasks-short : (bodies : List ℕ) (kinds : List PTask) (ds : PDecls) (c : CheckScope) → EveryDecls (well_placed names) ds → AllByRecursion M (check.decls_sites c bodies ds) → AllByRecursion ShortTasks (task_names_in kinds ds)
   tasks-short bodies kinds no_decl c h m = tt
   tasks-short bodies kinds (decl_then (DTask t s) rest) c h m =
-      all_join ShortTasks (single_task_name t.of_kind t s) (task_names_in (with_type kinds t.of_kind t) rest)
+      all_joined ShortTasks (single_task_name t.of_kind t s) (task_names_in (with_type kinds t.of_kind t) rest)
       (single-short t.of_kind t s (declared-short c t.name h.0.1.0 (all_front M (check.decl_sites c bodies (DTask t s)) (check.decls_sites (check.after_decl c (DTask t s)) bodies rest) m).1.0))
       (tasks-short bodies (with_type kinds t.of_kind t) rest (check.after_decl c (DTask t s)) h.1 (all_back M (check.decl_sites c bodies (DTask t s)) (check.decls_sites (check.after_decl c (DTask t s)) bodies rest) m))
   tasks-short bodies kinds (decl_then (DObject ws o x i s) rest) c h m =
@@ -88,7 +88,7 @@ module _ (names : List (List ℕ)) where
       all_front M (check.decl_sites c bodies (DObject ws o x i s)) (check.decls_sites (check.after_decl c (DObject ws o x i s)) bodies rest) m in
       let first : AllByRecursion M (check.names_sites c ws) =
       all_front M (check.names_sites c ws) (check.shape_sites c x) (all_front M (check.names_sites c ws ++ check.shape_sites c x) (check.if_there (check.init_sites c) i) here) in
-      all_join ShortTasks (object_task_names kinds ws x) (task_names_in kinds rest)
+      all_joined ShortTasks (object_task_names kinds ws x) (task_names_in kinds rest)
       (object-short kinds ws x (words-short c ws (recursion_from_All (EveryWord (well_placed names)) ws h.0.1.1) first))
       (tasks-short bodies kinds rest (check.after_decl c (DObject ws o x i s)) h.1 (all_back M (check.decl_sites c bodies (DObject ws o x i s)) (check.decls_sites (check.after_decl c (DObject ws o x i s)) bodies rest) m))
   tasks-short bodies kinds (decl_then (DNumber w e s) rest) c h m = tasks-short bodies kinds rest c h.1 (all_back M (check.decl_sites c bodies (DNumber w e s)) (check.decls_sites c bodies rest) m)
@@ -115,7 +115,7 @@ module _ (names : List (List ℕ)) where
 
   numbered-short : (T : TypeTable) (xs : List NamedTasks) → AllByRecursion ShortTasks xs → AllByRecursion ShortTask (flat_map (tasks_of_name T) xs)
   numbered-short T [] h = tt
-  numbered-short T (x ∷ xs) h = all_join ShortTask (tasks_of_name T x) (flat_map (tasks_of_name T) xs) (range-short T x x.index_range h.0) (numbered-short T xs h.1)
+  numbered-short T (x ∷ xs) h = all_joined ShortTask (tasks_of_name T x) (flat_map (tasks_of_name T) xs) (range-short T x x.index_range h.0) (numbered-short T xs h.1)
 
   infos-short : (xs : List NumberedTask) → AllByRecursion ShortTask xs → AllByRecursion (λ (i : TaskInfo). IsShortName i.name) (map (info_of_task names) xs)
   infos-short [] h = tt

@@ -1,15 +1,16 @@
 -- The texts of the names that the normal form adds are identifiers.
-use Rattle.std.proofs.Common.{◌≡◌, ℕ, zero, suc, ◌+◌, ◌/◌, ◌%◌, ◌<◌, ◌≤◌, ◌^◌, ℤ, pos, negsuc, Bool, true, false, not, ◌&&◌, ◌||◌, ◌==◌, nat_eq, nat_le, nat_lt, IsTrue, if◌then◌else◌, List, [], ◌∷◌, ◌++◌, length, codes, decimal, refl, sym, ap, subst, ◌∙◌, true≢false, append_assoc, length-append, arith}
+use Rattle.std.proofs.Common.{◌≡◌, ℕ, zero, suc, ◌+◌, ◌/◌, ◌%◌, ◌<◌, ◌≤◌, ◌^◌, ℤ, pos, negsuc, Bool, true, false, not, ◌&&◌, ◌||◌, ◌==◌, nat_le, if◌then◌else◌, List, [], ◌∷◌, ◌++◌, length, codes, decimal, refl, sym, ap, ◌∙◌, true≢false, append_assoc, length-append, arith}
 use Rattle.std.specs.Fmt.{digits, digits_onto, digit_glyph}
 use Rattle.std.specs.List.{AllByRecursion, list_any}
 use Rattle.std.specs.Str.{bytes_eq}
-use Rattle.std.proofs.lemmas.Bool.{le-leb, lt-ltb, or_left, or_right}
+use Rattle.std.proofs.lemmas.Bool.{le-leb, lt-ltb, or_right}
 use Rattle.std.proofs.lemmas.Fmt.{length-decimal-le}
 use Rattle.std.proofs.lemmas.Bool.Decides.{nat_tests}
 use Rattle.std.proofs.lemmas.Slice.Eq.{bytes_eq-Decides}
 use Rattle.ada_tree.specs.Lexical.{reserved, is_upper_letter, is_digit, goes_on, is_word, IsIdentifier}
 use Rattle.normal_placed.specs.Placeable.{IsShortIndex}
 use Rattle.normal_model.specs.Names.{index_text, member_text, variable_text}
+use Rattle.common_lemmas.proofs.Truth.{and_left, and_right, or_both}
 
 -- ---- digits
 
@@ -93,14 +94,6 @@ index-follows : (i : ℤ) → goes_on true (index_text i) ≡ true
 index-follows (pos n) = digits-follow (decimal n) (decimal-filled n) (decimal-digits n)
 index-follows (negsuc n) = digits-go (decimal (suc n)) (decimal-digits (suc n))
 
-and-left : (a b : Bool) → (a && b) ≡ true → a ≡ true
-and-left true b e = refl
-and-left false b e = e
-
-and-right : (a b : Bool) → (a && b) ≡ true → b ≡ true
-and-right true b e = e
-and-right false b e = absurd (true≢false (sym e))
-
 -- what goes on stays so where more is put behind it
 goes-append : (under : Bool) (bs rest : List ℕ) → goes_on under bs ≡ true → goes_on false rest ≡ true → goes_on under (bs ++ rest) ≡ true
 goes-append true [] rest h g = absurd (true≢false (sym h))
@@ -110,15 +103,15 @@ goes-append under (b ∷ bs) rest h g = by_test (b == 95) h (λ v e. goes-append
     by_test : (t : Bool) → (if t then not under && goes_on true bs else (is_upper_letter b || is_digit b) && goes_on false bs) ≡ true →
         ((v : Bool) → goes_on v bs ≡ true → goes_on v (bs ++ rest) ≡ true) →
         (if t then not under && goes_on true (bs ++ rest) else (is_upper_letter b || is_digit b) && goes_on false (bs ++ rest)) ≡ true
-    by_test true e more = ap (λ c. c && goes_on true (bs ++ rest)) (and-left (not under) (goes_on true bs) e) ∙ more true (and-right (not under) (goes_on true bs) e)
+    by_test true e more = ap (λ c. c && goes_on true (bs ++ rest)) (and_left (not under) (goes_on true bs) e) ∙ more true (and_right (not under) (goes_on true bs) e)
     by_test false e more =
-        ap (λ c. c && goes_on false (bs ++ rest)) (and-left (is_upper_letter b || is_digit b) (goes_on false bs) e)
-        ∙ more false (and-right (is_upper_letter b || is_digit b) (goes_on false bs) e)
+        ap (λ c. c && goes_on false (bs ++ rest)) (and_left (is_upper_letter b || is_digit b) (goes_on false bs) e)
+        ∙ more false (and_right (is_upper_letter b || is_digit b) (goes_on false bs) e)
 
 word-append : (t rest : List ℕ) → is_word t ≡ true → goes_on false rest ≡ true → is_word (t ++ rest) ≡ true
 word-append [] rest h g = absurd (true≢false (sym h))
 word-append (b ∷ bs) rest h g =
-    ap (λ c. c && goes_on false (bs ++ rest)) (and-left (is_upper_letter b) (goes_on false bs) h) ∙ goes-append false bs rest (and-right (is_upper_letter b) (goes_on false bs) h) g
+    ap (λ c. c && goes_on false (bs ++ rest)) (and_left (is_upper_letter b) (goes_on false bs) h) ∙ goes-append false bs rest (and_right (is_upper_letter b) (goes_on false bs) h) g
 
 -- ---- no reserved word
 
@@ -126,17 +119,13 @@ has-line : (t rest : List ℕ) → list_any (λ b. b == 95) (t ++ 95 ∷ rest) �
 has-line [] rest = refl
 has-line (b ∷ bs) rest = or_right (b == 95) (list_any (λ c. c == 95) (bs ++ 95 ∷ rest)) (has-line bs rest)
 
-both_false : (a b : Bool) → (a || b) ≡ false → (a ≡ false) × (b ≡ false)
-both_false true b e = absurd (true≢false e)
-both_false false b e = (refl, e)
-
 -- a text with an underscore is none of words without one
 no-word : (t : List ℕ) (ws : List (List ℕ)) → list_any (λ b. b == 95) t ≡ true → list_any (λ w. list_any (λ b. b == 95) w) ws ≡ false → list_any (bytes_eq t) ws ≡ false
 no-word t [] h g = refl
-no-word t (w ∷ ws) h g = by_test (bytes_eq t w) refl (no-word t ws h (both_false (list_any (λ b. b == 95) w) (list_any (λ v. list_any (λ b. b == 95) v) ws) g).1)
+no-word t (w ∷ ws) h g = by_test (bytes_eq t w) refl (no-word t ws h (or_both (list_any (λ b. b == 95) w) (list_any (λ v. list_any (λ b. b == 95) v) ws) g).1)
   where
     parts : (list_any (λ b. b == 95) w ≡ false) × (list_any (λ v. list_any (λ b. b == 95) v) ws ≡ false)
-    parts = both_false (list_any (λ b. b == 95) w) (list_any (λ v. list_any (λ b. b == 95) v) ws) g
+    parts = or_both (list_any (λ b. b == 95) w) (list_any (λ v. list_any (λ b. b == 95) v) ws) g
 
     by_test : (c : Bool) → bytes_eq t w ≡ c → list_any (bytes_eq t) ws ≡ false → (c || list_any (bytes_eq t) ws) ≡ false
     by_test true e rest = absurd (true≢false (sym h ∙ ap (list_any (λ b. b == 95)) ((bytes_eq-Decides t w).0 e) ∙ parts.0))

@@ -1,38 +1,35 @@
 -- The normal form of a program is well placed: its declarations, its tasks, its bodies and main's.
-use Rattle.std.proofs.Common.{◌≡◌, ℕ, zero, suc, ◌+◌, ◌≤◌, ◌<◌, ◌==◌, max, Bool, true, false, cond, if◌then◌else◌, List, [], ◌∷◌, ◌++◌, length, map, flat_map, Option, Some, None, is_some, IfSome, All, refl, sym, ap, subst, ◌∙◌, arith, length-append, append_assoc, drop}
-use Rattle.std.specs.List.{AllByRecursion, filter}
-use Rattle.std.proofs.lemmas.List.Elements.{All-from_recursion, recursion_from_All}
+use Rattle.std.proofs.Common.{◌≡◌, ℕ, ◌+◌, ◌≤◌, ◌<◌, ◌==◌, Bool, true, false, if◌then◌else◌, List, [], ◌∷◌, ◌++◌, length, map, flat_map, Option, Some, None, is_some, IfSome, refl, sym, subst, arith, append_assoc, drop}
+use Rattle.std.specs.List.{AllByRecursion}
+use Rattle.std.proofs.lemmas.List.Elements.{All-from_recursion}
 use Rattle.ada_tree.specs.declared.naming.NameId.{NameId}
 use Rattle.ada_tree.specs.declared.naming.Span.{Span}
 use Rattle.ada_tree.specs.declared.naming.Word.{Word}
 use Rattle.ada_tree.specs.declared.static_types.Mark.{Mark}
 use Rattle.ada_tree.specs.PlainExpr.{PSubind}
 use Rattle.ada_tree.specs.PlainStmt.{PBody}
-use Rattle.ada_tree.specs.PlainDecl.{PShape, OPlain, OArray, PInit, PTask, PDecl, DNumber, DObject, DEnumeration, DArray, DSubtype, DException, DIntIo, DPragma, DTask, DTaskBody, PDecls, no_decl, decl_then, decls_of}
+use Rattle.ada_tree.specs.PlainDecl.{PShape, PInit, PTask, PDecl, DNumber, DObject, DEnumeration, DArray, DSubtype, DException, DIntIo, DPragma, DTask, DTaskBody, PDecls, no_decl, decl_then, decls_of}
 use Rattle.ada_tree.specs.PlainProgram.{PProgram}
-use Rattle.ada_tree.specs.Every.{Rules, EveryWord, EveryTask, EveryDecl, EveryDecls, EveryBody, EveryProgram}
+use Rattle.ada_tree.specs.Every.{Rules, EveryWord, EveryTask, EverySubind, EveryDecl, EveryDecls, EveryBody, EveryProgram}
 use Rattle.ada_tree.specs.WellPlaced.{AreObjects, AreLater, BodiesLast, well_placed, IsWellPlaced}
 use Rattle.syn_event.specs.declared.numbering.Mode.TheVariants.{Original}
 use Rattle.syn_event.specs.declared.numbering.TaskInfo.{TaskInfo}
 use Rattle.syn_event.specs.CheckScope.{CheckScope, CheckSite}
 use Rattle.syn_event.specs.CheckSites as check
 use Rattle.syn_event.specs.NamedTasks.{type_named, with_type}
-use Rattle.syn_event.specs.Units.{decl_list, tasks_in}
-use Rattle.syn_event.proofs.Nothing.{all_front, all_back}
+use Rattle.syn_event.specs.Units.{decl_list}
 use Rattle.legal_sites.specs.Met.{IsCheckMet}
-use Rattle.legal_sites.proofs.Both.{AskBoth, together}
+use Rattle.legal_sites.proofs.Both.{together}
 use Rattle.legal_sites.proofs.Meeting.{all_check_met}
 use Rattle.task_model.specs.Setting.{Setting}
 use Rattle.normal_model.specs.Names.{variable_name, task_name}
 use Rattle.normal_model.specs.Ranges.{word_at}
-use Rattle.normal_model.specs.Variables.{variable_declared}
 use Rattle.normal_model.specs.Waits.{Unit}
-use Rattle.normal_model.specs.NormalStmts.{normal_rewriter, normal_body, unit_variables}
-use Rattle.normal_model.specs.NormalTree.{decls_front, mark_of, unless_left, first_decls, tasks_beside, task_under, declared_under, task_declared, unit_for, running, body_copy, bodies_of, main_unit, main_variables, variables_if, variables_of_body, greatest, variables_needed, normal_decls, normal_tree}
-use Rattle.normal_model.proofs.VariablesLemmas.{Begins, begins-refl}
-use Rattle.asked_stmts.specs.Asked.{Asks, AskedBody}
+use Rattle.normal_model.specs.NormalStmts.{normal_body, unit_variables}
+use Rattle.normal_model.specs.NormalTree.{decls_front, mark_of, unless_left, first_decls, tasks_beside, task_under, declared_under, task_declared, unit_for, running, body_copy, bodies_of, main_variables, variables_if, variables_of_body, greatest, variables_needed, normal_decls, normal_tree}
+use Rattle.normal_model.proofs.VariablesLemmas.{begins-refl}
+use Rattle.asked_stmts.specs.Asked.{AskedBody}
 use Rattle.asked_stmts.specs.Kinds.{place_asks, check_asks, both}
-use Rattle.asked_stmts.proofs.Lists.{all_join}
 use Rattle.asked_stmts.proofs.Placed.{placed_asked, asked_placed}
 use Rattle.asked_stmts.proofs.Checked.{checked_asked}
 use Rattle.asked_stmts.proofs.Together.{both_asked}
@@ -40,22 +37,24 @@ use Rattle.normal_asked.specs.Pieces.{IsAmong, first_among, later_among}
 use Rattle.normal_asked.proofs.Walk.{body-keeps}
 use Rattle.normal_types.proofs.Variables.{IsTaskOrBody, tasks-only, bodies-only}
 use Rattle.normal_placed.specs.Placeable.{IsName, call_asks, MarksHaveNames, TakesCalls, IsPlaceable}
-use Rattle.normal_placed.proofs.Made.{AreNamed, kept, pieces}
+use Rattle.normal_placed.proofs.Made.{AreNamed, pieces}
 use Rattle.normal_placed.proofs.Names.{made_names, old-named, are-named}
-use Rattle.normal_placed.proofs.Subtypes.{IsVariableAt, AreVariablesFrom, unit-from}
+use Rattle.normal_placed.proofs.Added.{AreSubtypes, IsVariableAt, AreVariablesFrom, unit-from}
+use Rattle.normal_placed.proofs.Subtypes.{subtypes-placed}
+use Rattle.common_lemmas.proofs.Lists.{all_back, all_front, all_joined, all_kept}
 
 -- ---- lists
 
 flat-all : {A B : Type 0} (P : A → Type 0) (Q : B → Type 0) (f : A → List B) → ((x : A) → P x → AllByRecursion Q (f x)) → (xs : List A) → AllByRecursion P xs → AllByRecursion Q (flat_map f xs)
 flat-all P Q f each [] h = tt
-flat-all P Q f each (x ∷ xs) h = all_join Q (f x) (flat_map f xs) (each x h.0) (flat-all P Q f each xs h.1)
+flat-all P Q f each (x ∷ xs) h = all_joined Q (f x) (flat_map f xs) (each x h.0) (flat-all P Q f each xs h.1)
 
 -- what holds of each that is among a list
-each-of : {A : Type 0} (P : A → Type 0) (xs : List A) → ((x : A) → IsAmong x xs → P x) → AllByRecursion P xs
+pub each-of : {A : Type 0} (P : A → Type 0) (xs : List A) → ((x : A) → IsAmong x xs → P x) → AllByRecursion P xs
 each-of P [] h = tt
 each-of P (x ∷ xs) h = (h x (first_among xs), each-of P xs (λ y i. h y (later_among x xs i)))
 
-among-all : {A : Type 0} (P : A → Type 0) (x : A) (xs : List A) → IsAmong x xs → AllByRecursion P xs → P x
+pub among-all : {A : Type 0} (P : A → Type 0) (x : A) (xs : List A) → IsAmong x xs → AllByRecursion P xs → P x
 among-all P x xs (first_among ys) h = h.0
 among-all P x xs (later_among y ys i) h = among-all P x ys i h.1
 
@@ -63,7 +62,7 @@ among-greatest : (n : ℕ) (ns : List ℕ) → IsAmong n ns → n ≤ greatest n
 among-greatest n ns (first_among ms) = omega arith
 among-greatest n ns (later_among m ms i) = let h : n ≤ greatest ms = among-greatest n ms i in omega (arith, h)
 
-among-mapped : {A B : Type 0} (f : A → B) (x : A) (xs : List A) → IsAmong x xs → IsAmong (f x) (map f xs)
+pub among-mapped : {A B : Type 0} (f : A → B) (x : A) (xs : List A) → IsAmong x xs → IsAmong (f x) (map f xs)
 among-mapped f x xs (first_among ys) = first_among (map f ys)
 among-mapped f x xs (later_among y ys i) = later_among (f y) (map f ys) (among-mapped f x ys i)
 
@@ -206,23 +205,29 @@ module _ (g : Setting) (h : IsPlaceable g) where
 
   -- ---- the variables of a unit
 
-  variable-decl : (k : ℕ) (d : PDecl) → k < variables_needed g → IsVariableAt g names' marks known.first whole.2 k d → EveryDecl r d
+  abbrev Fits : PSubind → Type 0
+  Fits x = EverySubind r 2 x
+
+  its-placed : AreSubtypes g Fits
+  its-placed = subtypes-placed g names' marks known.first whole.2
+
+  variable-decl : (k : ℕ) (d : PDecl) → k < variables_needed g → IsVariableAt g Fits k d → EveryDecl r d
   variable-decl k d l v =
       let one : AllByRecursion (EveryWord r) (word_at v.place (variable_name g k) ∷ []) = (known.variables k l, tt) in
       subst (EveryDecl r) (sym v.is) (omega arith, (omega arith, All-from_recursion (EveryWord r) (word_at v.place (variable_name g k) ∷ []) one), v.fits, tt, tt)
 
-  variable-decls : (k : ℕ) (ds : List PDecl) → k + length ds ≤ variables_needed g → AreVariablesFrom g names' marks known.first whole.2 k ds → AllByRecursion (EveryDecl r) ds
+  variable-decls : (k : ℕ) (ds : List PDecl) → k + length ds ≤ variables_needed g → AreVariablesFrom g Fits k ds → AllByRecursion (EveryDecl r) ds
   variable-decls k [] l v = tt
   variable-decls k (d ∷ ds) l v = (variable-decl k d (omega (arith, l)) v.0, variable-decls (k + 1) ds (omega (arith, l)) v.1)
 
   unit-decls : (t : ℕ) (b : PBody) → length (unit_variables (record { setting = g; task = t }) b) ≤ variables_needed g → AllByRecursion (EveryDecl r) (unit_variables (record { setting = g; task = t }) b)
-  unit-decls t b few = variable-decls 0 (unit_variables (record { setting = g; task = t }) b) (omega (arith, few)) (unit-from g names' marks known.first whole.2 t b)
+  unit-decls t b few = variable-decls 0 (unit_variables (record { setting = g; task = t }) b) (omega (arith, few)) (unit-from g Fits its-placed t b)
 
-  variables-last : (k : ℕ) (ds : List PDecl) (ys : List PDecl) → AreVariablesFrom g names' marks known.first whole.2 k ds → BodiesLast (decls_of ys) → BodiesLast (decls_of (ds ++ ys))
+  variables-last : (k : ℕ) (ds : List PDecl) (ys : List PDecl) → AreVariablesFrom g Fits k ds → BodiesLast (decls_of ys) → BodiesLast (decls_of (ds ++ ys))
   variables-last k [] ys v i = i
   variables-last k (d ∷ ds) ys v i = subst (λ x. BodiesLast (decls_of (x ∷ (ds ++ ys)))) (sym v.0.is) (variables-last (k + 1) ds ys v.1 i)
 
-  variables-objects : (k : ℕ) (ds : List PDecl) → AreVariablesFrom g names' marks known.first whole.2 k ds → AreObjects (decls_of ds)
+  variables-objects : (k : ℕ) (ds : List PDecl) → AreVariablesFrom g Fits k ds → AreObjects (decls_of ds)
   variables-objects k [] v = tt
   variables-objects k (d ∷ ds) v = subst (λ x. AreObjects (decls_of (x ∷ ds))) (sym v.0.is) (variables-objects (k + 1) ds v.1)
 
@@ -295,11 +300,11 @@ module _ (g : Setting) (h : IsPlaceable g) where
           omega (arith, e, l)
 
       named : (info : TaskInfo) → IsAmong info (running g w.name) → IsName names' (task_name g info)
-      named info k = among-all (λ y. IsName names' (task_name g y)) info (running g w.name) k (kept (λ y. IsName names' (task_name g y)) (λ y. y.unit.0 == w.name.0) (tasks_beside g) beside-named)
+      named info k = among-all (λ y. IsName names' (task_name g y)) info (running g w.name) k (all_kept (λ y. IsName names' (task_name g y)) (λ y. y.unit.0 == w.name.0) (tasks_beside g) beside-named)
 
       one : (info : TaskInfo) → IsAmong info (running g w.name) → EveryDecl r (DTaskBody (word_at w.span (task_name g info)) (decls_front objects (decls_of vars)) (normal_body u its) s)
       one info k =
-          let objs : AreObjects (decls_of vars) = variables-objects 0 vars (unit-from g names' marks known.first whole.2 u.task its) in (
+          let objs : AreObjects (decls_of vars) = variables-objects 0 vars (unit-from g Fits its-placed u.task its) in (
             j.0,
             named info k,
             objects-front objects (decls_of vars) j.2 objs,
@@ -328,7 +333,7 @@ module _ (g : Setting) (h : IsPlaceable g) where
   bodies-placed (decl_then d rest) c all i calls m =
       let here : List CheckSite = check.decl_sites c (check.body_names p.decls) d in
       let more : List CheckSite = check.decls_sites (check.after_decl c d) (check.body_names p.decls) rest in
-      all_join (EveryDecl r) (bodies_of g d) (flat_map (bodies_of g) (decl_list rest))
+      all_joined (EveryDecl r) (bodies_of g d) (flat_map (bodies_of g) (decl_list rest))
       (copies-placed d c (all d (first_among (decl_list rest))) i.0 calls.0 (all_front M here more m))
       (bodies-placed rest (check.after_decl c d) (λ y k. all y (later_among d (decl_list rest) k)) i.1 calls.1 (all_back M here more m))
 
@@ -359,16 +364,16 @@ module _ (g : Setting) (h : IsPlaceable g) where
   decls-placed =
       front-placed r (first_decls [] p.decls) (decls_of (main_variables g ++ flat_map (task_declared g) (tasks_beside g) ++ flat_map (bodies_of g) (decl_list p.decls))) (first-placed r [] p.decls whole.2)
       (list-placed r (main_variables g ++ flat_map (task_declared g) (tasks_beside g) ++ flat_map (bodies_of g) (decl_list p.decls))
-      (all_join (EveryDecl r) (main_variables g ++ flat_map (task_declared g) (tasks_beside g)) (flat_map (bodies_of g) (decl_list p.decls))
-      (all_join (EveryDecl r) (main_variables g) (flat_map (task_declared g) (tasks_beside g)) (unit-decls 0 p.body few-main) tasks-placed)
+      (all_joined (EveryDecl r) (main_variables g ++ flat_map (task_declared g) (tasks_beside g)) (flat_map (bodies_of g) (decl_list p.decls))
+      (all_joined (EveryDecl r) (main_variables g) (flat_map (task_declared g) (tasks_beside g)) (unit-decls 0 p.body few-main) tasks-placed)
       (bodies-placed p.decls around (λ d k. k) whole.2 h.room.bodies (all_front M main its two-met))))
 
   order-kept : BodiesLast (normal_decls g)
   order-kept =
       first-last [] p.decls (decls_of (main_variables g ++ flat_map (task_declared g) (tasks_beside g) ++ flat_map (bodies_of g) (decl_list p.decls)))
       (subst (λ ds. BodiesLast (decls_of ds)) (sym (append_assoc (main_variables g) (flat_map (task_declared g) (tasks_beside g)) (flat_map (bodies_of g) (decl_list p.decls))))
-      (variables-last 0 (main_variables g) added (unit-from g names' marks known.first whole.2 0 p.body)
-      (tasks-last added (all_join IsTaskOrBody (flat_map (task_declared g) (tasks_beside g)) (flat_map (bodies_of g) (decl_list p.decls)) (tasks-only g) (bodies-only g)))))
+      (variables-last 0 (main_variables g) added (unit-from g Fits its-placed 0 p.body)
+      (tasks-last added (all_joined IsTaskOrBody (flat_map (task_declared g) (tasks_beside g)) (flat_map (bodies_of g) (decl_list p.decls)) (tasks-only g) (bodies-only g)))))
 
   -- The normal form of the program is well placed.
   pub normal_is_placed : IsWellPlaced (normal_tree g.program g.types g.numbers)

@@ -1,7 +1,7 @@
 -- A program as the law of well-placed normal forms asks.
 --
 -- procedure P is task T is entry E (X : in INTEGER); end T; task body T is begin accept E (X : in INTEGER); end T; begin T.E (1); end P;
-use Rattle.std.specs.Prelude.{ℕ, false, codes, List, [], ◌∷◌, ◌++◌, Some, None}
+use Rattle.std.specs.Prelude.{ℕ, false, codes, [], ◌∷◌, ◌++◌, Some, None}
 use Rattle.ada_tree.specs.declared.naming.Span.{Span}
 use Rattle.ada_tree.specs.declared.naming.Word.{Word}
 use Rattle.ada_tree.specs.declared.statements.ParMode.TheVariants.{Take}

@@ -1,5 +1,5 @@
 -- What well-placedness of a normal form hangs on (this project's rule).
-use Rattle.std.specs.Prelude.{◌≡◌, ℕ, suc, ◌+◌, ◌<◌, ◌≤◌, ◌^◌, ℤ, pos, negsuc, List, [], ◌∷◌, length, Option, Some, None, IfSome, IsSomeAnd, slice_get, All}
+use Rattle.std.specs.Prelude.{◌≡◌, ℕ, suc, ◌<◌, ◌≤◌, ◌^◌, ℤ, pos, negsuc, List, [], ◌∷◌, length, Some, IfSome, IsSomeAnd, slice_get}
 use Rattle.std.specs.List.{AllByRecursion}
 use Rattle.ada_tree.specs.declared.naming.NameId.{NameId}
 use Rattle.ada_tree.specs.declared.static_types.Kind.{Kind}
@@ -18,6 +18,7 @@ use Rattle.syn_event.specs.declared.numbering.Mode.TheVariants.{Original}
 use Rattle.syn_event.specs.CheckRefusals.{MeetsCheckRules}
 use Rattle.syn_event.specs.Units.{decl_list}
 use Rattle.asked_stmts.specs.Asked.{Asks, AskedBody}
+use Rattle.asked_stmts.specs.Kinds.{no_asks}
 use Rattle.normal_asked.specs.Pieces.{IsAmong}
 
 -- the id is that of a text that the source can hold as a name
@@ -33,27 +34,7 @@ AreTaken xs es = Unit {0}
 
 -- what is asked of calls alone: actuals are for formals
 abbrev pub call_asks : Setting → Asks (Unit {0})
-call_asks g = record {
-  outer = λ c k s. Unit {0};
-  many = λ n. Unit {0};
-  duration = λ n. Unit {0};
-  plain = λ c k x. Unit {0};
-  callee = λ c k x. Unit {0};
-  call = λ c k x. AreTaken (slots_called g x) (lists_called g x).actuals;
-  aborts = λ c k xs. Unit {0};
-  condition = λ c k e. Unit {0};
-  selector = λ c k e xs others s. Unit {0};
-  choices = λ c k e xs. Unit {0};
-  loop = λ c k w x. Unit {0};
-  head = λ c k h. Unit {0};
-  wait = λ c k x others s. Unit {0};
-  delay = λ c k e s. Unit {0};
-  handlers = λ hs. Unit {0};
-  handler = λ c k names ws. Unit {0};
-  accepting = λ c h. c;
-  looping = λ c w x. c;
-  handling = λ c. c;
-}
+call_asks g = record no_asks { call = λ c k x. AreTaken (slots_called g x) (lists_called g x).actuals }
 
 -- ---- names
 

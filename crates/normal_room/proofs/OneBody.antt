@@ -1,5 +1,5 @@
 -- Each body of a program that meets the rules on types is the one of its name: the body that each task of that name runs.
-use Rattle.std.proofs.Common.{◌≡◌, ℕ, ◌==◌, ◌||◌, Bool, true, false, if◌then◌else◌, ℤ, pos, ◌-ℤ◌, List, [], ◌∷◌, ◌++◌, length, map, Option, Some, None, unwrap_or, refl, sym, ap, subst, ◌∙◌, true≢false}
+use Rattle.std.proofs.Common.{◌≡◌, ℕ, ◌==◌, true, false, if◌then◌else◌, pos, ◌-ℤ◌, List, [], ◌∷◌, length, map, Some, None, unwrap_or, refl, sym, ap, ◌∙◌}
 use Rattle.std.specs.List.{AllByRecursion}
 use Rattle.std.proofs.lemmas.Bool.{eq-eqb}
 use Rattle.ada_tree.specs.declared.naming.NameId.{NameId}
@@ -9,14 +9,15 @@ use Rattle.ada_tree.specs.PlainDecl.{PDecl, DNumber, DObject, DEnumeration, DArr
 use Rattle.ada_tree.specs.PlainStmt.{PBody}
 use Rattle.ada_tree.specs.declared.static_types.Kind.TheVariants.{Enumeration}
 use Rattle.ada_tree.specs.Scope.{Scope, Thing, TypeMark, Literal, AnException}
-use Rattle.ada_tree.specs.Demand.{gives_body, Site}
 use Rattle.ada_tree.specs.Declaring.{with_name, with_names, with_types, made, add_kind, declared_object, with_constants, after_decl}
-use Rattle.ada_tree.specs.RuleDuplicate.{is_among, at_word, duplicate}
-use Rattle.ada_tree.specs.Sites.{site, decl_sites, decls_sites}
+use Rattle.ada_tree.specs.RuleDuplicate.{is_among}
+use Rattle.ada_tree.specs.Sites.{decl_sites, decls_sites}
 use Rattle.syn_event.specs.Units.{decl_list}
-use Rattle.syn_event.proofs.Nothing.{test_fails, all_front, all_back}
+use Rattle.syn_event.proofs.Nothing.{test_fails}
 use Rattle.legal_sites.specs.Met.{IsMet}
 use Rattle.task_model.specs.Starting.{unit_among}
+use Rattle.common_lemmas.proofs.Lists.{all_back, all_front}
+use Rattle.common_lemmas.proofs.Truth.{or_both}
 
 names-bodies : (thing : Thing) (ws : List Word) (s : Scope) → (with_names thing s ws).bodies ≡ s.bodies
 names-bodies thing [] s = refl
@@ -31,16 +32,12 @@ IsTheBody all _ = Unit {0}
 abbrev AreLeft : PDecls → List ℕ → PDecls → Type 0
 AreLeft all bodies ds = (name : NameId) → is_among bodies name.0 ≡ false → unit_among all name ≡ unit_among ds name
 
-both-false : (a b : Bool) → (a || b) ≡ false → (a ≡ false) × (b ≡ false)
-both-false true b e = absurd (true≢false e)
-both-false false b e = (refl, e)
-
 kept-left : (all : PDecls) (bodies more : List ℕ) (ds : PDecls) → more ≡ bodies → AreLeft all bodies ds → AreLeft all more ds
 kept-left all bodies more ds e h name n = h name (ap (λ l. is_among l name.0) (sym e) ∙ n)
 
 body-left : (all : PDecls) (w : Word) (objects : PDecls) (its : PBody) (s : Span) (rest : PDecls) (bodies : List ℕ) → AreLeft all bodies (decl_then (DTaskBody w objects its s) rest) → AreLeft all (w.name.0 ∷ bodies) rest
 body-left all w objects its s rest bodies h name n =
-    let e : ((w.name.0 == name.0) ≡ false) × (is_among bodies name.0 ≡ false) = both-false (w.name.0 == name.0) (is_among bodies name.0) n in
+    let e : ((w.name.0 == name.0) ≡ false) × (is_among bodies name.0 ≡ false) = or_both (w.name.0 == name.0) (is_among bodies name.0) n in
     h name e.1 ∙ ap (λ t. unwrap_or (if t then Some record { in_main = false; decls = objects; body = its } else None) (unit_among rest name)) e.0
 
 pub bodies-once : (all : PDecls) (ds : PDecls) (s : Scope) → AllByRecursion IsMet (decls_sites s ds) → AreLeft all s.bodies ds → AllByRecursion (IsTheBody all) (decl_list ds)

@@ -18,7 +18,7 @@ use Rattle.task_model.specs.declared.parameters.FormalParameter.{FormalParameter
 use Rattle.task_model.specs.Setting.{Setting, entry_parameters}
 use Rattle.ada_tree.specs.PlainStmt.{PStmts}
 use Rattle.ada_value.specs.Variables.{Object, Variables}
-use Rattle.task_model.specs.Frames.{Around, Whole, Opened, Part, control, caller_at, callers_among, callers_in}
+use Rattle.task_model.specs.Frames.{Around, OwnBody, Opened, PFrame, control, caller_at, callers_among, callers_in}
 use Rattle.task_model.specs.Steps.{block_stmts, block_handlers}
 use Rattle.task_model.specs.Tasks.{Task, place_of, outer_of, vars_of, raised_there}
 use Rattle.task_model.specs.Calls.{finals_in}
@@ -70,7 +70,7 @@ opened-number caller (Some Terminates) values t = refl
 inside-alike : (x : Translation) (σ κ : Task) → AreInside x σ κ → Alike x σ κ
 inside-alike x σ κ (are_inside n i w r r' im u) = alike n i w (control r _ _ _) (control r' _ _ _) (inside r r' im u)
 
-first-caller : {a c : ℕ} {xs ys : List ℕ} → a ∷ xs ≡ c ∷ ys → a ≡ c
+pub first-caller : {a c : ℕ} {xs ys : List ℕ} → a ∷ xs ≡ c ∷ ys → a ≡ c
 first-caller e = cc
 
 -- an accept body in which a task and its image stand: its formals are the latest variables
@@ -85,13 +85,13 @@ record OpenedFrame (b : Programs) (σ : Task) : Type 0 where
   own : AreOpen b formals objects
 
 module _ (w : Rewritten) (added : Added w.programs w.programs.original) where
-  floor-frame : (k : ℕ) (n : ℕ) (i : List ℤ) (out : List ℕ) (r : PStmts) (p p' : Around) (o o' : List Part) (V W : Variables) → IsOpened p → floor_at (normal_lists w) added k p o V p' o' W →
+  floor-frame : (k : ℕ) (n : ℕ) (i : List ℤ) (out : List ℕ) (r : PStmts) (p p' : Around) (o o' : List PFrame) (V W : Variables) → IsOpened p → floor_at (normal_lists w) added k p o V p' o' W →
       OpenedFrame w.programs (task_in w.programs.original n i out (control r p o V))
   floor-frame zero n i out r p p' o o' V1 W1 (is_opened c f e) (accept_body q q' a a' V W caller formals pending r1 r2 bs own im below) = absurd below
   floor-frame (suc k) n i out r p p' o o' V1 W1 (is_opened c f e) (accept_body q q' a a' V W caller formals pending r1 r2 bs own im below) =
       record { caller = caller; formals = formals; pending = pending; objects = bs; vars = V; place = refl; named = refl; own = own }
 
-  under-frame : (n : ℕ) (i : List ℤ) (out : List ℕ) (r : PStmts) {p p' : Around} {o o' : List Part} {V W : Variables} → IsOpened p → Under (normal (normal_lists w) added) p o V p' o' W →
+  under-frame : (n : ℕ) (i : List ℤ) (out : List ℕ) (r : PStmts) {p p' : Around} {o o' : List PFrame} {V W : Variables} → IsOpened p → Under (normal (normal_lists w) added) p o V p' o' W →
       OpenedFrame w.programs (task_in w.programs.original n i out (control r p o V))
   under-frame n i out r {p} {p'} {o} {o'} {V} {W} (is_opened c f e) (on_floor u) = floor-frame u.0 n i out r p p' o o' V W (is_opened c f e) u.1
 
@@ -410,7 +410,7 @@ module _ (r : Rewrite) (form : IsNormalForm r) where
   starts t l =
       caught t (started g r.setup.inputs t) (started (setting_of r.made r.made_numbers) r.made.inputs t) refl
       (subst (λ inputs. Alike (x t) (started g r.setup.inputs t) (started (setting_of r.made r.made_numbers) inputs t)) (sym form.inputs)
-      (subst (λ its. Alike (x t) (started g r.setup.inputs t) (task_in (setting_of r.made r.made_numbers) t (slice_index_or r.setup.inputs t []) [] (control (block_stmts its) (Whole (block_handlers its) None) [] (objects_after r t))))
+      (subst (λ its. Alike (x t) (started g r.setup.inputs t) (task_in (setting_of r.made r.made_numbers) t (slice_index_or r.setup.inputs t []) [] (control (block_stmts its) (OwnBody (block_handlers its) None) [] (objects_after r t))))
       (sym (form.bodies t l))
       (inside-alike (x t) _ _ (normal_starts (unit_at r t) (form.added t) (unit_before r t).body (objects_before r t) (objects_after r t) t (slice_index_or r.setup.inputs t []) (form.text t l) (form.begins t l) (form.objects t l) (form.there t l)))))
 

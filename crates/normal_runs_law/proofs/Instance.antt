@@ -23,10 +23,10 @@ use Rattle.normal_law.specs.Declared.{AreDeclared}
 use Rattle.task_invariants.specs.AcceptHeads.{InBody}
 use Rattle.task_invariants.specs.Holding.{LowersFit}
 use Rattle.task_invariants.specs.Worlds.{Conforms, IsWellMade}
-use Rattle.task_invariants.proofs.Instance.{not_zero}
 use Rattle.normal_runs_law.specs.Premises.{programs_of, unit_at, unit_before, unit_after, objects_after, objects_before, IsNormalForm}
 use Rattle.normal_runs_law.specs.Example.{example, numbers, before, after, setting, variables, rewrite, IsMet}
 use Rattle.normal_runs_law.proofs.ExampleBodies.{entry-none, formals-same, marks, families, main-old, task-old}
+use Rattle.common_lemmas.proofs.Numbers.{next_not_zero}
 
 abbrev b : Programs
 b = programs_of rewrite
@@ -78,7 +78,7 @@ made = record {
 
 -- no task beyond T runs a body
 nothing-runs : (t : ℕ) → unit_of example numbers (suc (suc t)) ≡ no_unit
-nothing-runs t = ap (λ q. if q then record { in_main = true; decls = example.decls; body = example.body } else unit_of_info example (task_at numbers (suc (suc t)))) (not_zero (suc t))
+nothing-runs t = ap (λ q. if q then record { in_main = true; decls = example.decls; body = example.body } else unit_of_info example (task_at numbers (suc (suc t)))) (next_not_zero (suc t))
 
 conforms : (t : ℕ) → InBody (Conforms setting t) (unit_of setting.program setting.numbers t).body
 conforms zero = ((tt, tt), tt)
@@ -163,7 +163,7 @@ objects zero l = extends_new _ _ _ refl (extends_new _ _ _ refl (extends_old _ [
 objects (suc zero) l = extends_new _ _ _ refl extends_none
 objects (suc (suc t)) l = absurd (omega (arith, l))
 
-text : (t : ℕ) → t < 2 → OldBody (asked_of (unit_at rewrite t)) (unit_before rewrite t).body
+pub text : (t : ℕ) → t < 2 → OldBody (asked_of (unit_at rewrite t)) (unit_before rewrite t).body
 text zero l = main-old old (λ k. true) refl refl refl refl
 text (suc zero) l = task-old old (λ k. true) refl refl refl refl
 text (suc (suc t)) l = absurd (omega (arith, l))

@@ -3,7 +3,7 @@ use Rattle.std.proofs.Common.{◌≡◌, ℕ, zero, suc, ℤ, List, [], refl}
 use Rattle.ada_tree.specs.PlainDecl.{PDecl}
 use Rattle.ada_tree.specs.PlainStmt.{PStmt, SConditional, STimed, PStmts, no_stmt, stmt_then}
 use Rattle.ada_value.specs.Variables.{Variables}
-use Rattle.task_model.specs.Frames.{Around, Part, control, in_front}
+use Rattle.task_model.specs.Frames.{Around, PFrame, control, in_front}
 use Rattle.task_model.specs.Tasks.{Task}
 use Rattle.task_model.specs.Stands.{Steps, stand_of}
 use Rattle.normal_model.specs.Calls.{call_subtypes, select_subtypes}
@@ -40,10 +40,10 @@ module _ (w : Rewritten) (made : AreMade w.programs) (added : Added w.programs w
   abbrev laws : IsTranslation x
   laws = normal-translates (normal_lists w) (normal-images w) made.types added
 
-  abbrev left : ℕ → List ℤ → List ℕ → PStmts → Around → List Part → Variables → Task
+  abbrev left : ℕ → List ℤ → List ℕ → PStmts → Around → List PFrame → Variables → Task
   left n i out r p o V = task_in w.programs.original n i out (control r p o V)
 
-  abbrev right : ℕ → List ℤ → List ℕ → PStmts → Around → List Part → Variables → Task
+  abbrev right : ℕ → List ℤ → List ℕ → PStmts → Around → List PFrame → Variables → Task
   right n i out r p o W = task_in w.programs.made n i out (control r p o W)
 
   at-once : {σ κ : Task} → Meets x σ κ → Comes x σ κ
@@ -51,7 +51,7 @@ module _ (w : Rewritten) (made : AreMade w.programs) (added : Added w.programs w
 
   -- ---- the end of a frame
 
-  floor-end : (k : ℕ) (n : ℕ) (i : List ℤ) (out : List ℕ) {p p' : Around} {o o' : List Part} {V W : Variables} → floor_at (normal_lists w) added k p o V p' o' W → Under x p o V p' o' W →
+  floor-end : (k : ℕ) (n : ℕ) (i : List ℤ) (out : List ℕ) {p p' : Around} {o o' : List PFrame} {V W : Variables} → floor_at (normal_lists w) added k p o V p' o' W → Under x p o V p' o' W →
       Meets x (left n i out no_stmt p o V) (right n i out no_stmt p' o' W)
   floor-end zero n i out (own_body hs hs' taken V W h ext there) u = at_end refl refl (are_inside n i out no_stmt no_stmt normal_none u)
   floor-end zero n i out (accept_body q q' a a' V1 W1 caller formals pending r r' bs own im below) u = absurd below
@@ -59,7 +59,7 @@ module _ (w : Rewritten) (made : AreMade w.programs) (added : Added w.programs w
   floor-end (suc k) n i out (accept_body q q' a a' V1 W1 caller formals pending r r' bs own im below) u =
       at_finish refl refl (are_inside n i out no_stmt no_stmt normal_none u) (is_opened caller formals pending)
 
-  frame-end : (n : ℕ) (i : List ℤ) (out : List ℕ) {p p' : Around} {o o' : List Part} {V W : Variables} → Under x p o V p' o' W → Meets x (left n i out no_stmt p o V) (right n i out no_stmt p' o' W)
+  frame-end : (n : ℕ) (i : List ℤ) (out : List ℕ) {p p' : Around} {o o' : List PFrame} {V W : Variables} → Under x p o V p' o' W → Meets x (left n i out no_stmt p o V) (right n i out no_stmt p' o' W)
   frame-end n i out (on_floor f) = floor-end f.0 n i out f.1 (on_floor f)
   frame-end n i out (in_block hs hs' r r' h im u) =
       in_step refl (are_around n i out no_stmt no_stmt (in_block hs hs' r r' h im u)) (record { steps = refl; steps_too = refl; after = alike n i out _ _ (inside no_stmt no_stmt normal_none (in_block hs hs' r r' h im u)) })
@@ -77,7 +77,7 @@ module _ (w : Rewritten) (made : AreMade w.programs) (added : Added w.programs w
 
   -- ---- statements
 
-  local-stands : {s : PStmt} → IsLocal s → (n : ℕ) (i : List ℤ) (out : List ℕ) (r : PStmts) (p : Around) (o : List Part) (V : Variables) → stand_of (left n i out (stmt_then s r) p o V) ≡ Steps
+  local-stands : {s : PStmt} → IsLocal s → (n : ℕ) (i : List ℤ) (out : List ℕ) (r : PStmts) (p : Around) (o : List PFrame) (V : Variables) → stand_of (left n i out (stmt_then s r) p o V) ≡ Steps
   local-stands (local_null s) n i out r p o V = refl
   local-stands (local_assign t e s) n i out r p o V = refl
   local-stands (local_delay d s) n i out r p o V = refl
@@ -93,13 +93,13 @@ module _ (w : Rewritten) (made : AreMade w.programs) (added : Added w.programs w
   local-stands (local_block c s) n i out r p o V = refl
   local-stands (local_loop c t l s) n i out r p o V = refl
 
-  local-comes : {s : PStmt} → IsLocal s → (n : ℕ) (i : List ℤ) (out : List ℕ) (r r' : PStmts) {p p' : Around} {o o' : List Part} {V W : Variables} → Normal w (stmt_then s r) r' → Under x p o V p' o' W →
+  local-comes : {s : PStmt} → IsLocal s → (n : ℕ) (i : List ℤ) (out : List ℕ) (r r' : PStmts) {p p' : Around} {o o' : List PFrame} {V W : Variables} → Normal w (stmt_then s r) r' → Under x p o V p' o' W →
       Comes x (left n i out (stmt_then s r) p o V) (right n i out r' p' o' W)
   local-comes {s} loc n i out r r' {p} {p'} {o} {o'} {V} {W} im u =
       at-once (in_step (local-stands loc n i out r p o V) (are_around n i out (stmt_then s r) r' u) (step-alike x laws _ _ (are_inside n i out (stmt_then s r) r' im u) (at_statement s r _ loc)))
 
   statement-comes : (n : ℕ) → n ≡ w.number → (i : List ℤ) (out : List ℕ) {s : PStmt} → OldStmt (asked_of w) s → (vars : List PDecl) → Begin (behind_stmt w s vars) w.vars → (r r' : PStmts) → Normal w r r' →
-      {p p' : Around} {o o' : List Part} {V W : Variables} → Under x p o V p' o' W →
+      {p p' : Around} {o o' : List PFrame} {V W : Variables} → Under x p o V p' o' W →
       Comes x (left n i out (stmt_then s r) p o V) (right n i out (in_front (image_of (normal_rewriter (unit_of w)) s vars) r') p' o' W)
   statement-comes n e i out (old_null s) vars b r r' im u = local-comes (local_null s) n i out r _ (normal_then vars _ r r' (old_null s) b im) u
   statement-comes n e i out (old_assign t y s h k) vars b r r' im u = local-comes (local_assign t y s) n i out r _ (normal_then vars _ r r' (old_assign t y s h k) b im) u
@@ -139,7 +139,7 @@ module _ (w : Rewritten) (made : AreMade w.programs) (added : Added w.programs w
 
   -- ---- wherever it stands
 
-  row-comes : (n : ℕ) → n ≡ w.number → (i : List ℤ) (out : List ℕ) {r r' : PStmts} → Normal w r r' → {p p' : Around} {o o' : List Part} {V W : Variables} → Under x p o V p' o' W →
+  row-comes : (n : ℕ) → n ≡ w.number → (i : List ℤ) (out : List ℕ) {r r' : PStmts} → Normal w r r' → {p p' : Around} {o o' : List PFrame} {V W : Variables} → Under x p o V p' o' W →
       Comes x (left n i out r p o V) (right n i out r' p' o' W)
   row-comes n e i out normal_none u = at-once (frame-end n i out u)
   row-comes n e i out (normal_then vars s r r' old b im) u = statement-comes n e i out old vars b r r' im u

@@ -21,7 +21,6 @@ use Rattle.normal_model.specs.NormalTree.{mark_of, unless_left, decls_front, fir
 use Rattle.rewritten_types.specs.Agreement.{Rooted}
 use Rattle.rewritten_types.specs.Rewriting.{IsAdded, AreAdded}
 use Rattle.rewritten_types.specs.Laws.{behind}
-use Rattle.rewritten_types.proofs.Lookups.{all-append, all-weaker}
 use Rattle.rewritten_types.proofs.Rooting.{rewritten_is_rooted, rooted_agrees}
 use Rattle.rewritten_types.proofs.Refused.{declared_once}
 use Rattle.rewritten_values.specs.Values.{AgreeOnValues, old_names}
@@ -34,6 +33,7 @@ use Rattle.normal_types.specs.Laws.{setting_of, NormalIsRooted, NormalAgrees, No
 use Rattle.normal_types.proofs.Names.{names-begin, added_names_are_new}
 use Rattle.normal_types.proofs.Variables.{IsTaskOrBody, are-added, task-added, tasks-only, bodies-only, unit-new}
 use Rattle.normal_types.proofs.Fronts.{first_decls_are_front}
+use Rattle.common_lemmas.proofs.Lists.{all_joined, all_weaker}
 
 -- ---- tables
 
@@ -50,9 +50,9 @@ added-new : (g : Setting) → AreAdded (own_name g.program) (decls_of (added_of 
 added-new g =
     let old = own_name g.program in
     are-added old (added_of g)
-    (all-append (IsAdded old) (main_variables g ++ flat_map (task_declared g) (tasks_beside g)) _
-    (all-append (IsAdded old) (main_variables g) _ (unit-new old (main_unit g) (added_names_are_new g) g.program.body) (all-weaker _ _ _ (task-added old) (tasks-only g)))
-    (all-weaker _ _ _ (task-added old) (bodies-only g)))
+    (all_joined (IsAdded old) (main_variables g ++ flat_map (task_declared g) (tasks_beside g)) _
+    (all_joined (IsAdded old) (main_variables g) _ (unit-new old (main_unit g) (added_names_are_new g) g.program.body) (all_weaker _ _ _ (task-added old) (tasks-only g)))
+    (all_weaker _ _ _ (task-added old) (bodies-only g)))
 
 pub normal_is_rooted : NormalIsRooted
 normal_is_rooted p types numbers ordered =

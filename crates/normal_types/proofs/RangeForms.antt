@@ -1,7 +1,6 @@
 -- A variable for the values of a range has the range's bounds.
-use Rattle.std.proofs.Common.{◌≡◌, ℕ, ◌==◌, Bool, true, false, if◌then◌else◌, List, [], ◌∷◌, find, unwrap_or, Option, Some, None, Result, Ok, Err, is_ok, refl, sym, ap, ◌∙◌, true≢false}
+use Rattle.std.proofs.Common.{◌≡◌, ℕ, ◌==◌, true, false, [], unwrap_or, Option, Some, None, Result, Ok, Err, is_ok, sym, ap, ◌∙◌, true≢false}
 use Rattle.std.proofs.lemmas.Bool.{eqb-true}
-use Rattle.std.proofs.lemmas.Option.{none-some}
 use Rattle.ada_tree.specs.declared.naming.Span.{Span}
 use Rattle.ada_tree.specs.declared.static_types.Mark.{Mark}
 use Rattle.ada_tree.specs.TypeTable.{TypeTable}
@@ -19,7 +18,6 @@ use Rattle.task_model.specs.Starting.{known_range, marked_form, plain_form, form
 use Rattle.normal_model.specs.Ranges.{word_at, kind_name, range_subtype}
 use Rattle.rewritten_types.specs.Agreement.{IsScalar, scalar_only}
 use Rattle.rewritten_types.specs.Laws.{IsNamedKind}
-use Rattle.rewritten_types.proofs.Lookups.{some-same}
 use Rattle.rewritten_types.proofs.Refused.{declared_once}
 use Rattle.rewritten_types.proofs.NamedKinds.{kinds_are_named}
 use Rattle.rewritten_values.specs.Values.{is_known}
@@ -28,6 +26,7 @@ use Rattle.rewritten_values.proofs.Objects.{form-alike, no-index}
 use Rattle.normal_types.specs.Own.{own_name}
 use Rattle.normal_types.specs.Laws.{RangeForms}
 use Rattle.normal_types.proofs.Normal.{normal_agrees}
+use Rattle.common_lemmas.proofs.Lists.{found_passes}
 
 -- ---- limits
 
@@ -54,15 +53,6 @@ scalar-form T x m limits e known n =
     ∙ ap (λ o. Some (marked_form T x m o)) (no-index T m (kind_at T m.kind) known)
     ∙ ap (λ r. Some record { limits = known_range r; index = None }) n
 
--- what is found passes
-find-passes : {A : Type 0} (p : A → Bool) (xs : List A) (y : A) → find p xs ≡ Some y → p y ≡ true
-find-passes p [] y e = absurd (none-some y e)
-find-passes p (x ∷ xs) y e = by_test (p x) refl e (find-passes p xs y)
-  where
-    by_test : (b : Bool) → p x ≡ b → (if b then Some x else find p xs) ≡ Some y → (find p xs ≡ Some y → p y ≡ true) → p y ≡ true
-    by_test true f g rest = ap p (sym (some-same g)) ∙ f
-    by_test false f g rest = rest g
-
 -- the name of a kind
 named-kind : (T : TypeTable) (k : ℕ) (h : IsNamedKind T k) → kind_name T k ≡ h.id
 named-kind T k h = ap (λ o. unwrap_or (and_then (λ (m : Mark). m.name) o) (record { 0 = 0 })) h.first ∙ ap (λ o. unwrap_or o (record { 0 = 0 })) h.name
@@ -71,7 +61,7 @@ given-form : (T : TypeTable) (s : Span) (b : PBounds) (limits : Limits) → ((k 
     form_of T (OPlain (range_subtype T s (RGiven b))) ≡ Some record { limits = limits; index = None }
 given-form T s b limits names e known =
     let h = names limits.kind (known-scalar (scalar_only (kind_at T limits.kind)) known) in
-    let same : h.mark.kind ≡ limits.kind = eqb-true h.mark.kind limits.kind (find-passes (λ (m : Mark). m.kind == limits.kind) T.marks h.mark h.first) in
+    let same : h.mark.kind ≡ limits.kind = eqb-true h.mark.kind limits.kind (found_passes (λ (m : Mark). m.kind == limits.kind) T.marks h.mark h.first) in
     ap (λ r. form_of T (OPlain record { mark = word_at s (kind_name T (known_range r).kind); bounds = Some b })) e
     ∙ ap (λ id. form_of T (OPlain record { mark = word_at s id; bounds = Some b })) (named-kind T limits.kind h)
     ∙ scalar-form T (record { mark = word_at s h.id; bounds = Some b }) h.mark limits h.found (ap (is_known T) same ∙ known)

@@ -15,14 +15,14 @@ use Rattle.normal_model.specs.Variables.{variable_declared, variables_declared, 
 use Rattle.normal_model.specs.NormalStmts.{normal_rewriter, unit_variables}
 use Rattle.normal_model.specs.NormalTree.{tasks_beside, task_under, declared_under, task_declared, bodies_of}
 use Rattle.rewritten_types.specs.Rewriting.{IsAdded, AreAdded}
-use Rattle.rewritten_types.proofs.Lookups.{all-append}
 use Rattle.normal_types.proofs.Walking.{body-keeps}
+use Rattle.common_lemmas.proofs.Lists.{all_joined}
 
 -- ---- lists
 
 pub all-flat : {A B : Type 0} (P : B → Type 0) (f : A → List B) → ((x : A) → AllByRecursion P (f x)) → (xs : List A) → AllByRecursion P (flat_map f xs)
 all-flat P f h [] = tt
-all-flat P f h (x ∷ xs) = all-append P (f x) (flat_map f xs) (h x) (all-flat P f h xs)
+all-flat P f h (x ∷ xs) = all_joined P (f x) (flat_map f xs) (h x) (all-flat P f h xs)
 
 pub all-mapped : {A B : Type 0} (P : B → Type 0) (f : A → B) → ((x : A) → P (f x)) → (xs : List A) → AllByRecursion P (map f xs)
 all-mapped P f h [] = tt
@@ -95,7 +95,7 @@ module _ (P : PDecl → Type 0) (u : Unit) (each : (s : Span) (x : PSubind) (k :
   declared-all s (x ∷ xs) k = (each s x k, declared-all s xs (k + 1))
 
   more-all : (s : Span) (xs : List PSubind) (vars : List PDecl) → AllByRecursion P vars → AllByRecursion P (more_variables u s xs vars)
-  more-all s xs vars h = all-append P vars _ h (declared-all s xs (length vars))
+  more-all s xs vars h = all_joined P vars _ h (declared-all s xs (length vars))
 
   statement-all : (vars : List PDecl) (x : PStmt) → AllByRecursion P vars → AllByRecursion P (statement_variables u vars x)
   statement-all vars (SCall c s) h = more-all s _ vars h

@@ -19,11 +19,12 @@ use Rattle.task_model.specs.Starting.{Unit, unit_among, unit_of_info, unit_of}
 use Rattle.normal_model.specs.Names.{task_name}
 use Rattle.normal_model.specs.NormalStmts.{normal_body, unit_variables}
 use Rattle.normal_model.specs.NormalTree.{mark_of, unless_left, decls_front, first_decls, tasks_beside, task_under, declared_under, task_declared, unit_for, body_copy, bodies_of, main_unit, main_variables, normal_tree}
-use Rattle.rewritten_types.proofs.Lookups.{some-same}
 use Rattle.normal_types.specs.Laws.{setting_of}
 use Rattle.normal_types.proofs.Variables.{all-flat, unit-all}
 use Rattle.normal_units.specs.Laws.{numbers_made, normal_unit, unit_made, UnitsAreRewritten}
 use Rattle.normal_units.proofs.Tasks.{Tell, tell-at, tasks_keep_numbers}
+use Rattle.common_lemmas.proofs.Numbers.{unequal_turned}
+use Rattle.common_lemmas.proofs.Options.{some_same}
 
 -- ---- what is passed over
 
@@ -86,14 +87,6 @@ under-no-body unit name (DPragma e s) = tt
 tasks-no-body : (g : Setting) → AllByRecursion IsNoBody (flat_map (task_declared g) (tasks_beside g))
 tasks-no-body g = all-flat IsNoBody (task_declared g) (λ i. all-flat IsNoBody (declared_under i.unit (task_name g i)) (under-no-body i.unit (task_name g i)) (decl_list g.program.decls)) (tasks_beside g)
 
--- the tests of two numbers
-swapped : (a b : ℕ) → (a == b) ≡ false → (b == a) ≡ false
-swapped a b e = by_test (b == a) refl
-  where
-    by_test : (x : Bool) → (b == a) ≡ x → x ≡ false
-    by_test true f = absurd (true≢false (sym (eq-eqb a b (sym (eqb-true b a f))) ∙ e))
-    by_test false f = refl
-
 -- ---- copies of a body
 
 -- what each copy of a body has
@@ -119,14 +112,14 @@ module _ (g : Setting) (info : TaskInfo) (w : Word) (objects : PDecls) (its : PB
           ((k : ℕ) → slice_get infos k ≡ Some info → unit_among (decls_of (copies g w objects its s infos ++ rest)) (task_name g info) ≡ copied g w objects its) →
           unwrap_or (if b then Some (copied g w objects its) else None) (unit_among (decls_of (copies g w objects its s infos ++ rest)) (task_name g info)) ≡ copied g w objects its
       by_name true e t at later = refl
-      by_name false e zero at later = absurd (true≢false (sym (eq-eqb _ _ refl) ∙ ap (λ (x : TaskInfo). (task_name g i).0 == (task_name g x).0) (some-same at) ∙ e))
+      by_name false e zero at later = absurd (true≢false (sym (eq-eqb _ _ refl) ∙ ap (λ (x : TaskInfo). (task_name g i).0 == (task_name g x).0) (some_same at) ∙ e))
       by_name false e (suc k) at later = later k at
 
       by_run : (b : Bool) → (i.unit.0 == w.name.0) ≡ b → (t : ℕ) → slice_get (i ∷ infos) t ≡ Some info →
           ((k : ℕ) → slice_get infos k ≡ Some info → unit_among (decls_of (copies g w objects its s infos ++ rest)) (task_name g info) ≡ copied g w objects its) →
           unit_among (decls_of (map (copy_for g w objects its s) (cond b (i ∷ filter (λ (x : TaskInfo). x.unit.0 == w.name.0) infos) (filter (λ (x : TaskInfo). x.unit.0 == w.name.0) infos)) ++ rest)) (task_name g info) ≡ copied g w objects its
       by_run true e t at later = by_name ((task_name g i).0 == (task_name g info).0) refl t at later
-      by_run false e zero at later = absurd (true≢false (sym runs ∙ ap (λ (x : TaskInfo). x.unit.0 == w.name.0) (sym (some-same at)) ∙ e))
+      by_run false e zero at later = absurd (true≢false (sym runs ∙ ap (λ (x : TaskInfo). x.unit.0 == w.name.0) (sym (some_same at)) ∙ e))
       by_run false e (suc k) at later = later k at
 
   -- copies of another body are passed over
@@ -160,7 +153,7 @@ module _ (g : Setting) (info : TaskInfo) (t : ℕ) (at : slice_get (tasks_beside
       by_test true e later =
           found-copy g info w objects its s (tasks_beside g) t (flat_map (bodies_of g) (decl_list rest)) at (eq-eqb _ _ (sym (eqb-true _ _ e)))
           ∙ ap (λ n. normal_unit g record { 0 = n } record { in_main = false; decls = objects; body = its }) (eqb-true _ _ e)
-      by_test false e later = other-copies g info w objects its s (tasks_beside g) (flat_map (bodies_of g) (decl_list rest)) tell (swapped w.name.0 info.unit.0 e) ∙ later
+      by_test false e later = other-copies g info w objects its s (tasks_beside g) (flat_map (bodies_of g) (decl_list rest)) tell (unequal_turned w.name.0 info.unit.0 e) ∙ later
   body-found (decl_then (DTask x s) rest) = body-found rest
   body-found (decl_then (DNumber w e s) rest) = body-found rest
   body-found (decl_then (DObject ws c x i s) rest) = body-found rest

@@ -16,12 +16,13 @@ use Rattle.syn_event.specs.NamedTasks.{NamedTasks, named_tasks, type_named, task
 use Rattle.syn_event.specs.AllNumbers.{info_of_task}
 use Rattle.syn_event.specs.Units.{decl_list, tasks_in, tasks_of}
 use Rattle.rewritten_types.specs.Rewriting.{DeclareOnce}
-use Rattle.rewritten_types.proofs.Lookups.{all-weaker, all-append, find-all}
+use Rattle.rewritten_types.proofs.Lookups.{find-all}
 use Rattle.rewritten_types.proofs.Fresh.{IsTaken, taken-decl, unused-others}
 use Rattle.rewritten_types.proofs.Refused.{declared_once}
 use Rattle.normal_types.proofs.Variables.{all-mapped}
 use Rattle.normal_types.proofs.Fronts.{task-taken}
 use Rattle.normal_units.specs.Laws.{count_named, UnitsAreDeclared}
+use Rattle.common_lemmas.proofs.Lists.{all_joined, all_weaker}
 
 -- the test of a name
 abbrev pub has_name : NameId → PTask → Bool
@@ -76,7 +77,7 @@ pub each-there : (xs : List PTask) → AllByRecursion (λ (t : PTask). list_any 
 each-there [] = tt
 each-there (x ∷ xs) = (
   or_left (x.name.name.0 == x.name.name.0) (list_any (has_name x.name.name) xs) (eq-eqb x.name.name.0 x.name.name.0 refl),
-  all-weaker (λ (t : PTask). list_any (has_name t.name.name) xs ≡ true) _ xs (λ t e. or_right (x.name.name.0 == t.name.name.0) (list_any (has_name t.name.name) xs) e) (each-there xs),
+  all_weaker (λ (t : PTask). list_any (has_name t.name.name) xs ≡ true) _ xs (λ t e. or_right (x.name.name.0 == t.name.name.0) (list_any (has_name t.name.name) xs) e) (each-there xs),
 )
 
 -- what holds of the tasks among declarations holds of the units of the names that stand for tasks
@@ -103,8 +104,8 @@ module _ (Q : PTask → Type 0) where
   pub parts-all : (ds : PDecls) (kinds : List PTask) → AllByRecursion Q kinds → AllByRecursion Q (tasks_in (decl_list ds)) → AllByRecursion (λ (x : NamedTasks). Q x.unit) (task_names_in kinds ds)
   parts-all no_decl kinds k h = tt
   parts-all (decl_then (DTask t sp) rest) kinds k h =
-      all-append (λ (x : NamedTasks). Q x.unit) (single_task_name t.of_kind t sp) _ (single-all t.of_kind t sp h.0) (parts-all rest (with_type kinds t.of_kind t) (type-all t.of_kind t kinds h.0 k) h.1)
-  parts-all (decl_then (DObject names c x i sp) rest) kinds k h = all-append (λ (y : NamedTasks). Q y.unit) (object_task_names kinds names x) _ (object-all kinds names x k) (parts-all rest kinds k h)
+      all_joined (λ (x : NamedTasks). Q x.unit) (single_task_name t.of_kind t sp) _ (single-all t.of_kind t sp h.0) (parts-all rest (with_type kinds t.of_kind t) (type-all t.of_kind t kinds h.0 k) h.1)
+  parts-all (decl_then (DObject names c x i sp) rest) kinds k h = all_joined (λ (y : NamedTasks). Q y.unit) (object_task_names kinds names x) _ (object-all kinds names x k) (parts-all rest kinds k h)
   parts-all (decl_then (DTaskBody w objects its sp) rest) kinds k h = parts-all rest kinds k h
   parts-all (decl_then (DNumber name e sp) rest) kinds k h = parts-all rest kinds k h
   parts-all (decl_then (DEnumeration name ws sp) rest) kinds k h = parts-all rest kinds k h
@@ -120,7 +121,7 @@ module _ (Q : PTask → Type 0) where
 
   pub numbered-tasks-all : (types : TypeTable) (xs : List NamedTasks) → AllByRecursion (λ (x : NamedTasks). Q x.unit) xs → AllByRecursion (λ (y : NumberedTask). Q y.unit) (flat_map (tasks_of_name types) xs)
   numbered-tasks-all types [] h = tt
-  numbered-tasks-all types (x ∷ xs) h = all-append (λ (y : NumberedTask). Q y.unit) (tasks_of_name types x) _ (row-all types x x.index_range h.0) (numbered-tasks-all types xs h.1)
+  numbered-tasks-all types (x ∷ xs) h = all_joined (λ (y : NumberedTask). Q y.unit) (tasks_of_name types x) _ (row-all types x x.index_range h.0) (numbered-tasks-all types xs h.1)
 
 -- what holds of numbered tasks holds of the tasks in the numbers
 infos-all : (P : NameId → Type 0) (names : List (List ℕ)) (xs : List NumberedTask) → AllByRecursion (λ (x : NumberedTask). P x.unit.name.name) xs → AllByRecursion (λ (i : TaskInfo). P i.unit) (map (info_of_task names) xs)
@@ -130,7 +131,7 @@ infos-all P names (x ∷ xs) h = (h.0, infos-all P names xs h.1)
 pub units_are_declared : UnitsAreDeclared
 units_are_declared p types ordered =
     infos-all (λ id. count_named p id ≡ 1) p.names (numbered_tasks types p)
-    (all-weaker (λ (x : NumberedTask). list_any (has_name x.unit.name.name) (tasks_of p) ≡ true) _ (numbered_tasks types p)
+    (all_weaker (λ (x : NumberedTask). list_any (has_name x.unit.name.name) (tasks_of p) ≡ true) _ (numbered_tasks types p)
     (λ x e. one-there p.decls (first_scope p.name) x.unit.name.name (declared_once p ordered.rules).1 e)
     (numbered-tasks-all (λ (t : PTask). list_any (has_name t.name.name) (tasks_of p) ≡ true) types (task_names_of p)
     (parts-all (λ (t : PTask). list_any (has_name t.name.name) (tasks_of p) ≡ true) p.decls [] tt (each-there (tasks_of p)))))

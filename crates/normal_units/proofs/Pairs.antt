@@ -16,11 +16,11 @@ use Rattle.syn_event.specs.Extents.{extent}
 use Rattle.syn_event.specs.NamedTasks.{NamedTasks, named_tasks, type_named, task_names_of_type, object_task_names, with_type, single_task_name, task_names_in, task_names_of, NumberedTask, numbered_task, indices, tasks_of_range, tasks_of_name, numbered_tasks}
 use Rattle.syn_event.specs.AllNumbers.{info_of_task}
 use Rattle.rewritten_types.specs.Rewriting.{IsUsed, IsUnused, DeclareOnce}
-use Rattle.rewritten_types.proofs.Lookups.{all-weaker, all-append}
 use Rattle.rewritten_types.proofs.Fresh.{other, used-more}
 use Rattle.rewritten_types.proofs.Refused.{declared_once}
 use Rattle.normal_types.proofs.Variables.{all-mapped}
 use Rattle.normal_units.specs.Laws.{NamesTellUnits}
+use Rattle.common_lemmas.proofs.Lists.{all_joined, all_weaker}
 
 -- ---- used names
 
@@ -75,9 +75,9 @@ single-others s false t sp id h u = (unused-other s t.name id h u, tt)
 parts-others : (ds : PDecls) (kinds : List PTask) (s : Scope) (id : NameId) → IsUsed s id → DeclareOnce s ds → AreOthers id (task_names_in kinds ds)
 parts-others no_decl kinds s id h once = tt
 parts-others (decl_then (DTask t sp) rest) kinds s id h once =
-    all-append _ (single_task_name t.of_kind t sp) _ (single-others s t.of_kind t sp id h once.0.0) (parts-others rest (with_type kinds t.of_kind t) _ id (used-decl (DTask t sp) s id h) once.1)
+    all_joined _ (single_task_name t.of_kind t sp) _ (single-others s t.of_kind t sp id h once.0.0) (parts-others rest (with_type kinds t.of_kind t) _ id (used-decl (DTask t sp) s id h) once.1)
 parts-others (decl_then (DObject names c x i sp) rest) kinds s id h once =
-    all-append _ (object_task_names kinds names x) _ (object-others s kinds names x id h once.0) (parts-others rest kinds _ id (used-decl (DObject names c x i sp) s id h) once.1)
+    all_joined _ (object_task_names kinds names x) _ (object-others s kinds names x id h once.0) (parts-others rest kinds _ id (used-decl (DObject names c x i sp) s id h) once.1)
 parts-others (decl_then (DTaskBody w objects its sp) rest) kinds s id h once = parts-others rest kinds _ id (used-decl (DTaskBody w objects its sp) s id h) once.1
 parts-others (decl_then (DNumber name e sp) rest) kinds s id h once = parts-others rest kinds _ id (used-decl (DNumber name e sp) s id h) once.1
 parts-others (decl_then (DEnumeration name ws sp) rest) kinds s id h once = parts-others rest kinds _ id (used-decl (DEnumeration name ws sp) s id h) once.1
@@ -117,17 +117,17 @@ turned (x ∷ xs) ys h = both ys h.0 (turned xs ys h.1)
 
 pairs-joined : (xs ys : List NamedTasks) → ArePairs xs → ArePairs ys → AllByRecursion (λ (a : NamedTasks). AreOthers a.name.name ys) xs → ArePairs (xs ++ ys)
 pairs-joined xs ys p q h =
-    all-append _ xs ys
+    all_joined _ xs ys
     (joined xs p h)
     (with-front ys q (turned xs ys h))
   where
     joined : (front : List NamedTasks) → AllByRecursion (λ a. AllByRecursion (OneUnit a) xs) front → AllByRecursion (λ (a : NamedTasks). AreOthers a.name.name ys) front → AllByRecursion (λ a. AllByRecursion (OneUnit a) (xs ++ ys)) front
     joined [] p h = tt
-    joined (a ∷ front) p h = (all-append (OneUnit a) xs ys p.0 (all-weaker _ (OneUnit a) ys (λ b e. differ a b e) h.0), joined front p.1 h.1)
+    joined (a ∷ front) p h = (all_joined (OneUnit a) xs ys p.0 (all_weaker _ (OneUnit a) ys (λ b e. differ a b e) h.0), joined front p.1 h.1)
 
     with-front : (bs : List NamedTasks) → AllByRecursion (λ b. AllByRecursion (OneUnit b) ys) bs → AllByRecursion (λ b. AllByRecursion (OneUnit b) xs) bs → AllByRecursion (λ b. AllByRecursion (OneUnit b) (xs ++ ys)) bs
     with-front [] q r = tt
-    with-front (b ∷ bs) q r = (all-append (OneUnit b) xs ys r.0 q.0, with-front bs q.1 r.1)
+    with-front (b ∷ bs) q r = (all_joined (OneUnit b) xs ys r.0 q.0, with-front bs q.1 r.1)
 
 -- names of one declaration are of one unit
 typed-pairs : (o : Option PTask) (names : List Word) (row : Option PDrange) → ArePairs (task_names_of_type o names row)
@@ -166,7 +166,7 @@ parts-pairs (decl_then (DTask t sp) rest) kinds s once =
 parts-pairs (decl_then (DObject names c x i sp) rest) kinds s once =
     pairs-joined (object_task_names kinds names x) (task_names_in kinds rest) (object-pairs kinds names x) (parts-pairs rest kinds (after_decl s (DObject names c x i sp)) once.1)
     (object-cross s (task_names_in kinds rest) kinds names x
-    (all-weaker _ _ names (λ w u. parts-others rest kinds (after_decl s (DObject names c x i sp)) w.name u once.1) (names-used _ names _)))
+    (all_weaker _ _ names (λ w u. parts-others rest kinds (after_decl s (DObject names c x i sp)) w.name u once.1) (names-used _ names _)))
 parts-pairs (decl_then (DTaskBody w objects its sp) rest) kinds s once = parts-pairs rest kinds _ once.1
 parts-pairs (decl_then (DNumber name e sp) rest) kinds s once = parts-pairs rest kinds _ once.1
 parts-pairs (decl_then (DEnumeration name ws sp) rest) kinds s once = parts-pairs rest kinds _ once.1
@@ -186,7 +186,7 @@ module _ (P : NameId → NameId → Type 0) (types : TypeTable) (names : List (L
 
   part-numbered-tasks : (xs : List NamedTasks) → AllByRecursion (λ (x : NamedTasks). P x.name.name x.unit.name.name) xs → AllByRecursion (λ (y : NumberedTask). P y.name y.unit.name.name) (flat_map (tasks_of_name types) xs)
   part-numbered-tasks [] h = tt
-  part-numbered-tasks (x ∷ xs) h = all-append _ (tasks_of_name types x) _ (row-infos x x.index_range h.0) (part-numbered-tasks xs h.1)
+  part-numbered-tasks (x ∷ xs) h = all_joined _ (tasks_of_name types x) _ (row-infos x x.index_range h.0) (part-numbered-tasks xs h.1)
 
   numbered-task-infos : (xs : List NumberedTask) → AllByRecursion (λ (y : NumberedTask). P y.name y.unit.name.name) xs → AllByRecursion (λ (i : TaskInfo). P i.name i.unit) (map (info_of_task names) xs)
   numbered-task-infos [] h = tt
@@ -198,4 +198,4 @@ module _ (P : NameId → NameId → Type 0) (types : TypeTable) (names : List (L
 pub names_tell_units : NamesTellUnits
 names_tell_units p types ordered =
     part-infos (λ id unit. AllByRecursion (λ (b : TaskInfo). id.0 ≡ b.name.0 → unit.0 ≡ b.unit.0) (map (info_of_task p.names) (numbered_tasks types p))) types p.names (task_names_of p)
-    (all-weaker _ _ (task_names_of p) (λ a h. part-infos (λ id unit. a.name.name.0 ≡ id.0 → a.unit.name.name.0 ≡ unit.0) types p.names (task_names_of p) h) (parts-pairs p.decls [] (first_scope p.name) (declared_once p ordered.rules).1))
+    (all_weaker _ _ (task_names_of p) (λ a h. part-infos (λ id unit. a.name.name.0 ≡ id.0 → a.unit.name.name.0 ≡ unit.0) types p.names (task_names_of p) h) (parts-pairs p.decls [] (first_scope p.name) (declared_once p ordered.rules).1))

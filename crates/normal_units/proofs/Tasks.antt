@@ -16,9 +16,11 @@ use Rattle.task_model.specs.Setting.{Setting, unit_named, formals_in, formals_of
 use Rattle.normal_model.specs.Names.{task_name}
 use Rattle.normal_model.specs.NormalTree.{mark_of, unless_left, decls_front, first_decls, tasks_beside, task_under, declared_under, task_declared, bodies_of, main_unit, main_variables, normal_tree}
 use Rattle.normal_types.specs.Laws.{setting_of}
-use Rattle.rewritten_types.proofs.Lookups.{some-same, place-all}
+use Rattle.rewritten_types.proofs.Lookups.{place-all}
 use Rattle.normal_types.proofs.Variables.{all-flat, all-mapped, unit-all}
 use Rattle.normal_units.specs.Laws.{count_named, TasksKeepNumbers, EntriesKeepFormals}
+use Rattle.common_lemmas.proofs.Options.{some_same}
+use Rattle.syn_event.proofs.DeclLists.{listed_back}
 
 -- ---- lists of declarations
 
@@ -56,10 +58,6 @@ tasks-joined (DPragma e s ∷ xs) ys = tasks-joined xs ys
 pub list-front : (ds rest : PDecls) → decl_list (decls_front ds rest) ≡ decl_list ds ++ decl_list rest
 list-front no_decl rest = refl
 list-front (decl_then d ds) rest = ap (λ l. d ∷ l) (list-front ds rest)
-
-pub list-of : (xs : List PDecl) → decl_list (decls_of xs) ≡ xs
-list-of [] = refl
-list-of (x ∷ xs) = ap (λ l. x ∷ l) (list-of xs)
 
 -- the first declarations are no tasks
 pub first-no-task : (ds : PDecls) (kinds : List PTask) → AllByRecursion IsNoTask (decl_list (first_decls kinds ds))
@@ -134,7 +132,7 @@ module _ (p : PProgram) (types : TypeTable) (numbers : Numbering) where
       let tasks = flat_map (task_declared s) (tasks_beside s) in
       let bodies = flat_map (bodies_of s) (decl_list p.decls) in
       ap tasks_in (list-front (first_decls [] p.decls) (decls_of (vars ++ tasks ++ bodies)))
-      ∙ ap (λ l. tasks_in (decl_list (first_decls [] p.decls) ++ l)) (list-of (vars ++ tasks ++ bodies))
+      ∙ ap (λ l. tasks_in (decl_list (first_decls [] p.decls) ++ l)) (listed_back (vars ++ tasks ++ bodies))
       ∙ tasks-joined (decl_list (first_decls [] p.decls)) (vars ++ tasks ++ bodies)
       ∙ ap (λ l. l ++ tasks_in (vars ++ tasks ++ bodies)) (no-tasks (decl_list (first_decls [] p.decls)) (first-no-task p.decls []))
       ∙ tasks-joined (vars ++ tasks) bodies
@@ -225,7 +223,7 @@ module _ (g : Setting) (info : TaskInfo) where
       by_test true e t at rest =
           first-made (task_name g info) (task_name g b) (filter (has_name b.unit) (tasks_of g.program)) (flat_map (tasks_made g) infos) one.0 e
           ∙ ap (λ n. entries_in (first_one (filter (λ (x : PTask). x.name.name.0 == n) (tasks_of g.program)))) (sym (tell.0 (sym (eqb-true _ _ e))))
-      by_test false e zero at rest = absurd (true≢false (sym (eq-eqb _ _ refl) ∙ ap (λ (i : TaskInfo). (task_name g b).0 == (task_name g i).0) (some-same at) ∙ e))
+      by_test false e zero at rest = absurd (true≢false (sym (eq-eqb _ _ refl) ∙ ap (λ (i : TaskInfo). (task_name g b).0 == (task_name g i).0) (some_same at) ∙ e))
       by_test false e (suc k) at rest =
           ap entries_in (skip-made (task_name g info) (task_name g b) (filter (has_name b.unit) (tasks_of g.program)) (flat_map (tasks_made g) infos) e) ∙ rest k at
 

@@ -28,10 +28,7 @@ use Rattle.normal_model.specs.Variables.{more_variables, variable_declared, vari
 use Rattle.normal_variables.specs.declared.track.Track.{Track}
 use Rattle.normal_variables.specs.Track.{Enters, IsTrack, variables_of}
 use Rattle.normal_variables.specs.inner.Adding.{Adds, lists_subtypes}
-
-pub on_ok : {A E P Q : Type 0} (r : Result A E) → (P → Q) → OnOk r P → OnOk r Q
-on_ok (Ok x) f h = f h
-on_ok (Err e) f h = h
+use Rattle.common_lemmas.proofs.Numbers.{most_of_three}
 
 -- ---- declarations
 
@@ -54,9 +51,6 @@ grown {g} {s} {xs} {a} {b} h =
     ∙ ap (λ n. n + length (variables_declared g s xs (length a.decls.items))) (length-map a.decls.items plain_decl)
     ∙ ap (λ n. length a.decls.items + n) (declared_length g s xs (length a.decls.items))
 
-most : (a b c m n : ℕ) → m ≤ n → b ≡ max a m → c ≡ max b n → c ≡ max a n
-most a b c m n le h k = omega arith
-
 pub adds_none : (g : Setting) (s : Span) (a : Track) → IsTrack g a → Adds g s [] a a
 adds_none g s a h = record { names = h.names; decls = sym (append-nil (map plain_decl a.decls.items)); count = enough (length a.names.variables.items) (length a.decls.items) h.enough }
   where
@@ -72,7 +66,7 @@ adds_then g s xs ys zs a b c joined h k = record {
       ∙ append_assoc (map plain_decl a.decls.items) (variables_declared g s xs (length a.decls.items)) (variables_declared g s ys (length b.decls.items))
       ∙ ap (λ n. map plain_decl a.decls.items ++ (variables_declared g s xs (length a.decls.items) ++ variables_declared g s ys n)) (grown h)
       ∙ ap (λ l. map plain_decl a.decls.items ++ l) (sym (declared_joined g s xs ys (length a.decls.items)) ∙ ap (λ l. variables_declared g s l (length a.decls.items)) joined);
-  count = most (length a.names.variables.items) (length b.names.variables.items) (length c.names.variables.items) (length b.decls.items) (length c.decls.items) (longer (length b.decls.items) (length c.decls.items) (length ys) (grown k)) h.count k.count;
+  count = most_of_three (length a.names.variables.items) (length b.names.variables.items) (length c.names.variables.items) (length b.decls.items) (length c.decls.items) (longer (length b.decls.items) (length c.decls.items) (length ys) (grown k)) h.count k.count;
 }
   where
     longer : (m n d : ℕ) → n ≡ m + d → m ≤ n

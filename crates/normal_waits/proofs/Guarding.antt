@@ -1,7 +1,6 @@
 -- The guards of alternatives, and the test that none holds.
-use Rattle.std.proofs.Common.{◌≡◌, ℕ, ◌+◌, ◌<◌, ◌≤◌, Bool, true, false, List, [], ◌∷◌, length, map, drop, fold, get_or, Option, Some, None, is_some, option_map, Result, Ok, Err, IfOk, OnOk, refl, sym, ap, ◌∙◌, add-one, arith}
+use Rattle.std.proofs.Common.{◌≡◌, ℕ, ◌+◌, ◌<◌, ◌≤◌, Bool, true, false, List, [], ◌∷◌, length, map, drop, fold, get_or, Option, Some, None, is_some, option_map, Result, Ok, Err, IfOk, OnOk, refl, sym, ap, ◌∙◌, arith}
 use Rattle.std.proofs.lemmas.List.{drop_all}
-use Rattle.std.proofs.Math.Seq.{drop-cons}
 use Rattle.ada_tree.specs.declared.naming.Span.{Span}
 use Rattle.ada_tree.specs.declared.expressions.BinaryOp.TheVariants.{And}
 use Rattle.ada_tree.specs.declared.statements.Alt.{Alt}
@@ -17,6 +16,7 @@ use Rattle.normal_model.specs.Making.{one}
 use Rattle.normal_model.specs.Ranges.{word_at}
 use Rattle.normal_model.specs.Waits.{all_guards, closed_test, guard_then, none_held, not_held}
 use Rattle.normal_waits.specs.inner.Closing.{closed_from, guard_or, guards_in}
+use Rattle.common_lemmas.proofs.Lists.{rest_at}
 
 -- ---- the guards
 
@@ -36,10 +36,6 @@ guarded-on : (e : PExpr) (o : Option (List PExpr)) → is_some (guard_then (Some
 guarded-on e None = refl
 guarded-on e (Some es) = refl
 
--- a list from a place on
-here_at : {X : Type 0} (xs : List X) (i : ℕ) (x d : X) → i < length xs → x ≡ get_or xs i d → drop i xs ≡ x ∷ drop (i + 1) xs
-here_at xs i x d h is = drop-cons xs i d h ∙ (λ k. sym is k ∷ drop (sym (add-one i) k) xs)
-
 -- what is left of the alternatives from a place on
 abbrev pub left_from : List Alt → ℕ → List PAlt
 left_from alts i = map plain_alt (drop i alts)
@@ -53,7 +49,7 @@ pub guarded-turn :
     all ≡ is_some (all_guards (alts_of (left_from alts (i + 1))))
 guarded-turn alts i a d e all h is guard so_far =
     so_far
-    ∙ ap (λ l. is_some (all_guards (alts_of (map plain_alt l)))) (here_at alts i a d h is)
+    ∙ ap (λ l. is_some (all_guards (alts_of (map plain_alt l)))) (rest_at alts i a d h is)
     ∙ ap (λ g. is_some (guard_then g (all_guards (alts_of (left_from alts (i + 1)))))) guard
     ∙ guarded-on e (all_guards (alts_of (left_from alts (i + 1))))
 
@@ -67,7 +63,7 @@ pub guarded-stop :
 guarded-stop alts i a d all h is guard so_far =
     sym
     (so_far
-    ∙ ap (λ l. is_some (all_guards (alts_of (map plain_alt l)))) (here_at alts i a d h is)
+    ∙ ap (λ l. is_some (all_guards (alts_of (map plain_alt l)))) (rest_at alts i a d h is)
     ∙ ap (λ g. is_some (guard_then g (all_guards (alts_of (left_from alts (i + 1)))))) guard)
 
 pub guarded-end : (alts : List Alt) (i : ℕ) (all : Bool) → length alts ≤ i → all ≡ is_some (all_guards (alts_of (left_from alts i))) → true ≡ all
@@ -89,7 +85,7 @@ pub test-turn :
 test-turn s alts i a d before behind all h is step so_far =
     ap (λ t. closed_from s t (guards_in (left_from alts (i + 1)))) step
     ∙ sym (guard-by-guard s before (option_map plain_expr a.guard) (guards_in (left_from alts (i + 1))))
-    ∙ sym (ap (λ l. closed_from s before (guards_in (map plain_alt l))) (here_at alts i a d h is))
+    ∙ sym (ap (λ l. closed_from s before (guards_in (map plain_alt l))) (rest_at alts i a d h is))
     ∙ so_far
 
 pub test-end : (s : Span) (alts : List Alt) (i : ℕ) (before all : Option PExpr) → length alts ≤ i → closed_from s before (guards_in (left_from alts i)) ≡ all → before ≡ all

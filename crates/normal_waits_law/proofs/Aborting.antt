@@ -13,7 +13,7 @@ use Rattle.ada_value.specs.declared.values.Raised.{Raised}
 use Rattle.ada_value.specs.Values.{lies_in}
 use Rattle.ada_value.specs.Variables.{Variables}
 use Rattle.task_model.specs.Setting.{Setting, member_named, task_of}
-use Rattle.task_model.specs.Frames.{Around, Part, control, in_front}
+use Rattle.task_model.specs.Frames.{Around, PFrame, control, in_front}
 use Rattle.task_model.specs.Tasks.{Task}
 use Rattle.task_model.specs.Stands.{At, name_stand}
 use Rattle.task_model.specs.Rendezvous.{names_left}
@@ -52,7 +52,7 @@ declared-append g s (y ∷ xs) ys k =
     ap (λ l. variables_declared g s (y ∷ []) k ++ l) (declared-append g s xs ys (k + 1) ∙ ap (λ j. variables_declared g s xs (k + 1) ++ variables_declared g s ys j) e)
 
 module _ (w : Rewritten) (made : AreMade w.programs) (added : Added w.programs w.programs.original) (declared : AreDeclared w added) (m : ℕ) (i : List ℤ) (out : List ℕ)
-    (p p' : Around) (o o' : List Part) (V : Variables) where
+    (p p' : Around) (o o' : List PFrame) (V : Variables) where
   abbrev x : Translation
   x = normal (normal_lists w) added
 

@@ -14,7 +14,7 @@ use Rattle.ada_value.specs.Values.{and_then, checked, truth_limits, lies_in, pos
 use Rattle.ada_value.specs.Variables.{Variables}
 use Rattle.ada_value.specs.Evaluating.{evaluated}
 use Rattle.task_model.specs.Setting.{Setting, entry_of, family_limits, member_index}
-use Rattle.task_model.specs.Frames.{Around, Part, control, in_front}
+use Rattle.task_model.specs.Frames.{Around, PFrame, control, in_front}
 use Rattle.task_model.specs.Tasks.{Task, gone_to, entered, stmts_or_none, or_raised}
 use Rattle.task_model.specs.Waits.{Open, Accepts, Delays, Terminates, guard_holds, kind_opened, opened_if, delays_with, alternatives_open}
 use Rattle.normal_model.specs.Names.{variable_name}
@@ -104,7 +104,7 @@ some-list : (a c : List PExpr) → Some a ≡ Some c → a ≡ c
 some-list a c e = cc
 
 module _ (w : Rewritten) (made : AreMade w.programs) (added : Added w.programs w.programs.original) (declared : AreDeclared w added) (m : ℕ) (number : m ≡ w.number) (i : List ℤ) (out : List ℕ)
-    (p p' : Around) (o o' : List Part) (V : Variables) (here there : PStmts) where
+    (p p' : Around) (o o' : List PFrame) (V : Variables) (here there : PStmts) where
   abbrev x : Translation
   x = normal (normal_lists w) added
 

@@ -18,6 +18,7 @@ use Rattle.task_model.specs.Waits.{Open, accept_choice, is_shorter, delay_choice
 use Rattle.normal_model.specs.Waits.{not_held, none_held}
 use Rattle.normal_law.specs.Suited.{Rewritten}
 use Rattle.normal_waits_law.proofs.Alternatives.{OpenAlike, accepts_alike, delays_alike, terminate_alike, MaybeOpen, none_open, some_open, OpensAlike, no_opens, open_more, AreTold, none_told, open_told, closed_told}
+use Rattle.common_lemmas.proofs.Truth.{and_false, and_true}
 
 module _ (w : Rewritten) where
   one-accept : {op op' : Open} → OpenAlike w op op' → accept_choice op ≡ accept_choice op'
@@ -83,14 +84,6 @@ pub truth-of : (t : Bool) → is_true_value (Truth t) ≡ t
 truth-of true = refl
 truth-of false = refl
 
-and-false : (t : Bool) → (t && false) ≡ false
-and-false true = refl
-and-false false = refl
-
-and-true : (t : Bool) → (t && true) ≡ t
-and-true true = refl
-and-true false = refl
-
 module _ (h : Setting) (W : Variables) (s : Span) where
   -- `not G` of a guard that is told
   not-told : (e : PExpr) (v : Value) (t : Bool) → evaluated h.types W e ≡ Ok v → is_true_value v ≡ t → evaluated h.types W (not_held s e) ≡ Ok (Truth (not t))
@@ -106,12 +99,12 @@ module _ (h : Setting) (W : Variables) (s : Span) where
 
   fold-told : {es : List PExpr} {os : List Open} → AreTold h W es os → (test : PExpr) (t : Bool) → evaluated h.types W test ≡ Ok (Truth t) →
       evaluated h.types W (fold (λ test1 e. EBinary binary.And test1 (not_held s e) s) test es) ≡ Ok (Truth (t && all_closed os))
-  fold-told none_told test t a = a ∙ ap (λ y. Ok (Truth y)) (sym (and-true t))
+  fold-told none_told test t a = a ∙ ap (λ y. Ok (Truth y)) (sym (and_true t))
   fold-told (open_told e v op es ops c d more) test t a =
       fold-told more (EBinary binary.And test (not_held s e) s) (t && false) (and-told test t a e v true c d)
-      ∙ ap (λ y. Ok (Truth (y && all_closed ops))) (and-false t) ∙ ap (λ y. Ok (Truth y)) (sym (and-false t))
+      ∙ ap (λ y. Ok (Truth (y && all_closed ops))) (and_false t) ∙ ap (λ y. Ok (Truth y)) (sym (and_false t))
   fold-told (closed_told e v es ops c d more) test t a =
-      fold-told more (EBinary binary.And test (not_held s e) s) (t && true) (and-told test t a e v false c d) ∙ ap (λ y. Ok (Truth (y && all_closed ops))) (and-true t)
+      fold-told more (EBinary binary.And test (not_held s e) s) (t && true) (and-told test t a e v false c d) ∙ ap (λ y. Ok (Truth (y && all_closed ops))) (and_true t)
 
   -- the test in front of a wait says whether all alternatives are closed
   pub closed-told : {e : PExpr} {es : List PExpr} {os : List Open} → AreTold h W (e ∷ es) os → evaluated h.types W (none_held s e es) ≡ Ok (Truth (all_closed os))

@@ -12,7 +12,7 @@ use Rattle.ada_value.specs.Values.{and_then, lies_in, position_of}
 use Rattle.ada_value.specs.Variables.{Variables, object_named}
 use Rattle.ada_value.specs.Evaluating.{evaluated}
 use Rattle.task_model.specs.Setting.{Setting, family_limits, index_in, member_index}
-use Rattle.task_model.specs.Frames.{Around, Part, control, in_front}
+use Rattle.task_model.specs.Frames.{Around, PFrame, control, in_front}
 use Rattle.task_model.specs.Tasks.{Task, raised_there}
 use Rattle.task_model.specs.Stands.{can_step, stepped}
 use Rattle.normal_model.specs.Names.{variable_name}
@@ -33,7 +33,7 @@ use Rattle.normal_law.proofs.Preludes.{prelude}
 use Rattle.normal_law.proofs.Static.{moving-is, index-stays, entry-same}
 use Rattle.normal_callees_law.proofs.Choosing.{one-due}
 
-module _ (x : Translation) (laws : IsTranslation x) (made : AreMade x.text.programs) (added : Added x.text.programs x.text.programs.original) (m : ℕ) (i : List ℤ) (out : List ℕ) (p p' : Around) (o o' : List Part) (V : Variables) where
+module _ (x : Translation) (laws : IsTranslation x) (made : AreMade x.text.programs) (added : Added x.text.programs x.text.programs.original) (m : ℕ) (i : List ℤ) (out : List ℕ) (p p' : Around) (o o' : List PFrame) (V : Variables) where
   abbrev b : Programs
   b = x.text.programs
 

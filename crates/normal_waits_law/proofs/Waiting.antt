@@ -14,7 +14,7 @@ use Rattle.ada_value.specs.declared.values.Raised.TheVariants as raised
 use Rattle.ada_value.specs.Values.{and_then, is_true_value}
 use Rattle.ada_value.specs.Variables.{Variables}
 use Rattle.task_model.specs.Setting.{Setting, entry_of, member_index}
-use Rattle.task_model.specs.Frames.{Around, Part, control, in_front}
+use Rattle.task_model.specs.Frames.{Around, PFrame, control, in_front}
 use Rattle.task_model.specs.Tasks.{Task, entered, stmts_or_none, or_raised}
 use Rattle.task_model.specs.Waits.{Open, Accepts, alternatives_open, choices_of, is_present, accepts_member, first_accepting, alternative_for, delays_with, delay_here, delay_part, delay_stmts}
 use Rattle.task_model.specs.Stands.{choices_stand, wait_stand, stand_of, steps_at, stepped_by, stepped}
@@ -52,7 +52,7 @@ use Rattle.normal_waits_law.proofs.Alternatives.{accepts_alike, delays_alike, te
 use Rattle.normal_waits_law.proofs.Choices.{choices-alike, find-alike, all_closed, truth-of, closed-told}
 
 module _ (w : Rewritten) (made : AreMade w.programs) (added : Added w.programs w.programs.original) (declared : AreDeclared w added) (m : ℕ) (number : m ≡ w.number) (i : List ℤ) (out : List ℕ)
-    (p p' : Around) (o o' : List Part) (V : Variables) where
+    (p p' : Around) (o o' : List PFrame) (V : Variables) where
   abbrev x : Translation
   x = normal (normal_lists w) added
 

@@ -20,6 +20,7 @@ use Rattle.normal_variables.specs.declared.track.Track.{Track}
 use Rattle.normal_variables.specs.Track.{Enters, IsTrack}
 use Rattle.normal_walk.specs.Begun.{Begins}
 use Rattle.normal_walk.specs.inner.Walking.{FitsUnit, normal_rule}
+use Rattle.common_lemmas.proofs.Numbers.{most_of_three}
 
 -- the walk of the rule is the rewriter of the unit
 pub rule_walks : (u : Unit) → walk_of (normal_rule u) ≡ normal_rewriter u
@@ -29,15 +30,12 @@ rule_walks u = refl
 pub variables_counted : (ds : List Decl) → length (map plain_decl ds) ≡ length ds
 variables_counted ds = length-map ds plain_decl
 
-most : (a b c m n : ℕ) → m ≤ n → b ≡ max a m → c ≡ max b n → c ≡ max a n
-most a b c m n le h k = omega arith
-
 -- a track fits behind a statement or an alternative
 pub fits_more : (g : Setting) (members : Members) (begun : ℕ) (old new : Track) (variables : List PDecl) → FitsUnit g members begun old → Enters g variables old new → FitsUnit g members begun new
 fits_more g members begun old new variables f h = record {
   track = h.track;
   members_are = f.members_are;
-  count = most begun (length old.names.variables.items) (length new.names.variables.items) (length old.decls.items) (length new.decls.items) h.longer f.count h.count;
+  count = most_of_three begun (length old.names.variables.items) (length new.names.variables.items) (length old.decls.items) (length new.decls.items) h.longer f.count h.count;
 }
 
 -- the names and members of a track that fits
@@ -59,11 +57,6 @@ fits_begun g members t h = record {
     none_more n m e = omega arith
 
 -- ---- results
-
--- what follows from what is known of a call that went well
-pub on_ok : {A E P Q : Type 0} (r : Result A E) → (P → Q) → OnOk r P → OnOk r Q
-on_ok (Ok x) f h = f h
-on_ok (Err e) f h = h
 
 -- ---- the whole body
 

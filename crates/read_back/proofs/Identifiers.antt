@@ -17,6 +17,7 @@ use Rattle.ada_lexer.specs.Verdicts.{max_name, word_verdict, verdict}
 use Rattle.ada_tree.specs.Lexical.{reserved, is_upper_letter, is_digit, goes_on, IsIdentifier}
 use Rattle.read_back.proofs.Classes.{WordEnd}
 use Rattle.read_back.proofs.Pieces.{Ends, word_ends}
+use Rattle.common_lemmas.proofs.Truth.{not_true}
 
 -- a byte of an identifier in upper case
 abbrev is_part : ℕ → Bool
@@ -116,10 +117,6 @@ no_symbol : (w : List ℕ) → all_parts w ≡ true → list_any (bytes_eq w) re
 unfolding reserved_symbol
 no_symbol w parts free = not_in reserved_words w parts free all_reserved
 
-not_false : (b : Bool) → not b ≡ true → b ≡ false
-not_false true h = absurd (false≢true h)
-not_false false h = refl
-
 pub identifier_is : (w : List ℕ) → IsIdentifier w → IsName w
 unfolding verdict word_verdict
 identifier_is [] h = absurd (false≢true h.0)
@@ -128,7 +125,7 @@ identifier_is (b ∷ bs) h =
     let first = upper_letter b both.0 in
     let rest = word_on false bs both.1 in
     let parts : all_parts (b ∷ bs) ≡ true = and_from _ _ first.2 rest.2 in
-    let kind = no_symbol (b ∷ bs) parts (not_false _ h.2) in
+    let kind = no_symbol (b ∷ bs) parts (not_true _ h.2) in
     record {
       ends = word_ends b bs first.1 rest.0;
       verdict_is = λ at. cond-false (is_white b) _ _ first.0 ∙ cond-true (is_letter b) _ _ first.1 ∙ rw (ap (option_map kinds.Symbol) kind) (cond-true (leb (length (b ∷ bs)) max_name) _ _ (le-leb (length (b ∷ bs)) max_name h.1));

@@ -2,7 +2,7 @@
 use Rattle.std.proofs.Common.{◌≡◌, ℕ, zero, suc, ◌+◌, ◌≤◌, Bool, true, false, leb, List, [], ◌∷◌, ◌++◌, length, take, drop, map, codes, Option, None, Some, IfSome, refl, ap, ◌∙◌, subst, arith, inl, inr, append-nil, one-add}
 use Rattle.std.proofs.lemmas.Bool.{cond-true, cond-false, cases_Bool, leb-true}
 use Rattle.std.proofs.lemmas.Bool.Decides.{nat_tests}
-use Rattle.std.proofs.lemmas.List.{length-append, take-append-drop}
+use Rattle.std.proofs.lemmas.List.{take-append-drop}
 use Rattle.std.proofs.lemmas.List.Elements.{recursion_from_All}
 use Rattle.std.specs.List.{AllZip, AllByRecursion}
 use Rattle.ada_tree.specs.declared.naming.Word.{Word}
@@ -25,6 +25,7 @@ use Rattle.read_back.proofs.Words.{new_word, told_word}
 use Rattle.read_back.proofs.Phrases.{group, Found, assoc_shut, nil_shut, is_expression, read_drange, read_formals}
 use Rattle.read_back.proofs.Productions.{filled_behind}
 use Rattle.read_back.proofs.Compounds.{read_end}
+use Rattle.ded_io.proofs.Writes.{length-joined}
 
 -- ---- lists
 
@@ -37,10 +38,6 @@ pub all_drop : {A : Type 0} (P : A → Type 0) (k : ℕ) (xs : List A) → AllBy
 all_drop P zero xs all = all
 all_drop P (suc k) [] all = tt
 all_drop P (suc k) (x ∷ xs) all = all_drop P k xs all.1
-
-length_shut : (t u : List ℕ) → length (t ⧺ u) ≡ length t + length u
-unfolding ◌⧺◌
-length_shut t u = length-append t u
 
 pub empty_shut : (u : List ℕ) → u ≡ [] ⧺ u
 unfolding ◌⧺◌
@@ -120,7 +117,7 @@ module _ (w : Setting) (n : List (List ℕ)) where
   read_priorities d level before [] qs es u ms at deep good here rest = (ms, told_text w _ _ (empty_shut u) (told_at w _ _ (omega arith) rest))
   read_priorities d level before (p ∷ ps) qs es u ms at deep good here rest =
       let first : List ℕ = priority_text n level p in
-      let place : at + length (first ⧺ priorities_text n level ps) ≡ (at + length first) + length (priorities_text n level ps) = omega (arith, length_shut first (priorities_text n level ps)) in
+      let place : at + length (first ⧺ priorities_text n level ps) ≡ (at + length first) + length (priorities_text n level ps) = omega (arith, length-joined first (priorities_text n level ps)) in
       let later = read_priorities d level before ps qs es u ms (at + length first) deep good.1 here.1 (told_at w _ _ place rest) in
       let one = read_pragma d p.value (at + length (indent level)) deep good.0.1 in (
         MPriority one.0 ∷ later.0,

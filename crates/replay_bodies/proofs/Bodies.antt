@@ -22,12 +22,13 @@ use Rattle.replay_model.specs.Controlling.{control_declared, idle_declared, cont
 use Rattle.replay_model.specs.ReplayStmts.{replay_body}
 use Rattle.replay_model.specs.ReplayTree.{behind_own, permit_declared, replay_decl, is_task, is_body, last_task, replay_decls, normal_setting, replay_of}
 use Rattle.replay_model.specs.ReplayNumbers.{numbers_replayed}
-use Rattle.rewritten_types.proofs.Lookups.{place-more, all-append, all-weaker}
+use Rattle.rewritten_types.proofs.Lookups.{place-more}
 use Rattle.normal_units.proofs.Bodies.{IsNoBody, skip-list}
 use Rattle.normal_has_numbers.proofs.Listed.{IsPlain}
 use Rattle.replay_texts.proofs.Listed.{all-behind, sorted-plain}
 use Rattle.replay_texts.proofs.Rooted.{ids-apart}
 use Rattle.replay_bodies.specs.Laws.{TasksKeepNumbers, has_body, replayed_unit, UnitsAreReplayed, AddedTasksRun}
+use Rattle.common_lemmas.proofs.Lists.{all_joined, all_weaker}
 
 -- ---- tasks
 
@@ -162,8 +163,8 @@ module _ (g : Setting) (name : NameId) where
       let last = control_body g s ops ∷ idle_body q s ∷ [] in
       ap among (append_assoc (first ++ tasks ++ control) bodies last)
       ∙ skip-list (first ++ tasks ++ control) (bodies ++ last) name
-      (all-append IsNoBody (first ++ tasks) control
-      (all-append IsNoBody first tasks (all-behind IsNoBody q.names permit plain tt (all-weaker IsPlain IsNoBody plain plain-no-body (sorted-plain ds))) (tasks-no-body g ds))
+      (all_joined IsNoBody (first ++ tasks) control
+      (all_joined IsNoBody first tasks (all-behind IsNoBody q.names permit plain tt (all_weaker IsPlain IsNoBody plain plain-no-body (sorted-plain ds))) (tasks-no-body g ds))
       (tt, (tt, tt)))
 
 -- ---- the program

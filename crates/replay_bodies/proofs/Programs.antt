@@ -23,7 +23,7 @@ use Rattle.normal_model.specs.NormalTree.{tasks_beside, unit_for, body_copy, bod
 use Rattle.normal_model.specs.NormalStmts.{normal_body, unit_variables}
 use Rattle.replay_model.specs.Names.{control_text, idle_text, replay_names, added_id}
 use Rattle.replay_model.specs.ReplayTree.{normal_setting}
-use Rattle.rewritten_types.proofs.Lookups.{some-same, place-all}
+use Rattle.rewritten_types.proofs.Lookups.{place-all}
 use Rattle.normal_types.specs.Laws.{IsOrdered, setting_of, AreOwn}
 use Rattle.normal_has_numbers.specs.Laws.{NoneIsDed}
 use Rattle.normal_has_numbers.proofs.Named.{reserved-added}
@@ -33,6 +33,7 @@ use Rattle.normal_has_numbers.proofs.Tasked.{under, normal-tasks-of}
 use Rattle.replay_texts.proofs.Kept.{all-not-added}
 use Rattle.replay_bodies.specs.Laws.{has_body, HasBodies, ProgramsRun}
 use Rattle.replay_bodies.proofs.Bodies.{units_are_replayed, added_tasks_run}
+use Rattle.common_lemmas.proofs.Options.{some_same}
 
 -- ---- whether a body is declared
 
@@ -91,8 +92,8 @@ module _ (g : Setting) (w : Word) (objects : PDecls) (its : PBody) (s : Span) wh
   copy-there [] k info at runs = absurd (none-some info at)
   copy-there (i ∷ infos) zero info at runs =
       ap (λ b. has_body (map copy (cond b (i ∷ filter (λ (x : TaskInfo). x.unit.0 == w.name.0) infos) (filter (λ (x : TaskInfo). x.unit.0 == w.name.0) infos))) (task_name g info))
-      (ap (λ (x : TaskInfo). x.unit.0 == w.name.0) (some-same at) ∙ runs)
-      ∙ or_left ((task_name g i).0 == (task_name g info).0) _ (eq-eqb _ _ (ap (λ (x : TaskInfo). (task_name g x).0) (some-same at)))
+      (ap (λ (x : TaskInfo). x.unit.0 == w.name.0) (some_same at) ∙ runs)
+      ∙ or_left ((task_name g i).0 == (task_name g info).0) _ (eq-eqb _ _ (ap (λ (x : TaskInfo). (task_name g x).0) (some_same at)))
   copy-there (i ∷ infos) (suc k) info at runs = by_test (i.unit.0 == w.name.0) (copy-there infos k info at runs)
     where
       by_test : (b : Bool) → has_body (map copy (filter (λ (x : TaskInfo). x.unit.0 == w.name.0) infos)) (task_name g info) ≡ true →
@@ -208,7 +209,7 @@ module _ (p : PProgram) (ordered : IsOrdered p) (own : AreOwn p p.decls) (ded : 
       by_place None e f = absurd (none-some info f)
       by_place (Some y) e f =
           let there : slice_get (tasks_beside g) k ≡ Some (info_of_task p.names y) = slice_get-map (info_of_task p.names) (numbered_tasks types p) k ∙ ap (option_map (info_of_task p.names)) e in
-          ap (λ (i : TaskInfo). has_body (decl_list normal.decls) i.unit) (sym (some-same f))
+          ap (λ (i : TaskInfo). has_body (decl_list normal.decls) i.unit) (sym (some_same f))
           ∙ copies-alone p types numbers (under g y).name.name
           ∙ copies-there g (decl_list p.decls) k (info_of_task p.names y) there (place-all (λ (i : TaskInfo). has_body (decl_list p.decls) i.unit ≡ true) (tasks_beside g) k (info_of_task p.names y) has there)
 

@@ -36,11 +36,6 @@ pub names-is : (q : PProgram) → fold interned (with_added q.names) (flat_map (
 unfolding with_added
 names-is q = sym (fold-append interned q.names added_texts (flat_map (double_texts q.names) (tasks_in (decl_list q.decls))))
 
--- the declarations of a row that a list makes
-pub decl_list-of : (ds : List PDecl) → decl_list (decls_of ds) ≡ ds
-decl_list-of [] = refl
-decl_list-of (d ∷ ds) = ap (λ es. d ∷ es) (decl_list-of ds)
-
 -- ---- the controller
 
 named : (g : Setting) (o : Option TaskInfo) → ((info : TaskInfo) → o ≡ Some info → info.member ≡ None) → unwrap_or (option_map (λ info. info.name) o) record { 0 = 0 } ≡ name_of_task g o

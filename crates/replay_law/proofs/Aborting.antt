@@ -13,7 +13,7 @@ use Rattle.replay_law.specs.Permits.{ToAbort, Op, Go, Done, Join, Hold}
 use Rattle.replay_law.specs.Copies.{Copy, Holding, Saying, copy_raised, copy_did, ops_offer, under, is_own}
 use Rattle.replay_law.specs.Rewritings.{Setting, control, idle, twin}
 use Rattle.replay_law.specs.inner.Stages.{image, image_of, image_world, free_of, Stage, Giving, Acted, Parted, Away, Says, place, AwayAt, SeatAt, Inv}
-use Rattle.replay_law.proofs.Facts.{put, put_each, put_other, put_self, offers_at, above_apart, is_below, let_go, let_go_other}
+use Rattle.replay_law.proofs.Facts.{put, put_each, put_other, put_self, offers_at, let_go, let_go_other}
 use Rattle.replay_law.proofs.Images.{image_at, image_put, image_freed, image_let_go}
 use Rattle.replay_law.proofs.Voices.{aborts_by}
 use Rattle.replay_law.proofs.Reached.{reached_sound}
@@ -23,6 +23,7 @@ use Rattle.replay_law.proofs.Afterwards.{Matched, permitted_in, after_event}
 use Rattle.replay_law.proofs.Situations.{IsCalling}
 use Rattle.replay_law.proofs.Singles.{Moves, matched_event, image_live, sole, away_then, one_acts}
 use Rattle.replay_law.proofs.Standing.{image_closed, away_free}
+use Rattle.common_lemmas.proofs.Numbers.{lt_true, unequal_above}
 
 -- ---- what an abort makes of the tasks
 
@@ -201,7 +202,7 @@ module _ (x : Setting) where
 
         outside : (u : ℕ) → x.p.size ≤ u → tasks' u ≡ w.tasks u
         outside u m = put_other (λ z. let_go raise v (w.tasks z)) v u (record { local = (let_go raise v (w.tasks v)).local; standing = fallen Completed (let_go raise v (w.tasks v)).standing })
-            (above_apart u v (omega (arith, m, victim_below))) ∙ let_go_other raise v (w.tasks u) (outside_unserved u m)
+            (unequal_above u v (omega (arith, m, victim_below))) ∙ let_go_other raise v (w.tasks u) (outside_unserved u m)
 
         at_v : tasks' v ≡ record { local = Holding t (ToAbort v) l; standing = Completed }
         at_v = put_self (λ z. let_go raise v (w.tasks z)) v (record { local = (let_go raise v (w.tasks v)).local; standing = fallen Completed (let_go raise v (w.tasks v)).standing }) ∙
@@ -265,9 +266,9 @@ module _ (x : Setting) where
 
         outside : (u : ℕ) → x.p.size ≤ u → tasks' u ≡ w.tasks u
         outside u m =
-            let same : on u ≡ w.tasks u = put_other w.tasks t u (live (Saying t (x.p.ops.passed l))) (above_apart u t (omega (arith, m, below))) in
+            let same : on u ≡ w.tasks u = put_other w.tasks t u (live (Saying t (x.p.ops.passed l))) (unequal_above u t (omega (arith, m, below))) in
             put_other (λ z. let_go raise v (on z)) v u (record { local = (let_go raise v (on v)).local; standing = fallen Killed (let_go raise v (on v)).standing })
-            (above_apart u v (omega (arith, m, victim_below))) ∙ ap (let_go raise v) same ∙ let_go_other raise v (w.tasks u) (outside_unserved u m)
+            (unequal_above u v (omega (arith, m, victim_below))) ∙ ap (let_go raise v) same ∙ let_go_other raise v (w.tasks u) (outside_unserved u m)
 
         seats : (u : ℕ) → u < x.p.size → SeatAt x (place (Acted t) u) u (tasks' u)
         seats u m = put_each (λ z seat. SeatAt x (place (Acted t) z) z seat) (λ z. let_go raise v (on z)) v
@@ -309,7 +310,7 @@ module _ (x : Setting) where
             let here : Inv x past rest (Giving (B t v) k.tail (t ∷ []) []) w = subst (λ z. Inv x past rest z w) st inv in
             let now : w.tasks t ≡ live (Holding t (ToAbort v) l) = at ∙ ap (λ z. live (Holding t z l)) s.0 in
             matched_event x past w (B t v) (B t v)
-            (ap₂ (λ a b. if a && b then Some (B t v) else None) (is_below t x.p.size m) (is_below v x.p.size (victim_below past rest w t v k.tail here l m now s.1)))
+            (ap₂ (λ a b. if a && b then Some (B t v) else None) (lt_true t x.p.size m) (lt_true v x.p.size (victim_below past rest w t v k.tail here l m now s.1)))
             (l, now, s.1, calling past rest w t v k.tail here l m now s.1)
             (abort_acts past rest w t v k.tail here l m now s.1)
         go (Refused permit l m at k) = absurd (true≢false (sym k))

@@ -5,7 +5,6 @@ use Rattle.std.specs.List.{list_any}
 use Rattle.std.proofs.lemmas.Bool.{eqb-true, eqb-false, and_parts, or_cases, or_left, or_right, cases_Bool, ne_eqb, false_from_ne_true}
 use Rattle.event_machine.specs.declared.CallForm.{CallForm}
 use Rattle.event_machine.specs.declared.CallForm.TheVariants.{Plain, Conditional, Timed}
-use Rattle.event_machine.proofs.Agreeing.{other_way}
 use Rattle.event_machine.specs.declared.Choice.{Choice}
 use Rattle.event_machine.specs.declared.Choice.TheVariants.{Accept, Else as ElseChoice, Delay as DelayChoice, Terminate}
 use Rattle.event_machine.specs.declared.Standing.{Standing}
@@ -23,7 +22,7 @@ use Rattle.event_machine.specs.Programs.{Program, numbered}
 use Rattle.event_machine.specs.Queues.{suits, IsSuited, IsLined}
 use Rattle.event_machine.specs.Soundness.{times}
 use Rattle.event_machine.specs.Worlds.{World, Step, Happen, still, world_of, happens, offers, others_end, aborts, can_move, moved}
-use Rattle.event_machine.proofs.Basics.{both, equal_self, same_member-refl, not_false}
+use Rattle.event_machine.proofs.Basics.{both, same_member-refl}
 use Rattle.event_machine.proofs.Standings.{is-Live}
 use Rattle.event_machine.proofs.Stills.{still_freed, still_closed, still_completed}
 use Rattle.event_machine.proofs.Updates.{stand_self, stand_other}
@@ -31,6 +30,8 @@ use Rattle.event_machine.proofs.Offering.{calls_is, waits_is, finish_is, end_is,
 use Rattle.event_machine.proofs.Erasing.{event_row, event_world, arrive_world}
 use Rattle.event_machine.proofs.Appends.{run_append, end_append, events_append}
 use Rattle.event_machine.proofs.Queues.{run_suited, run_lined}
+use Rattle.common_lemmas.proofs.Numbers.{equal_self, unequal_turned}
+use Rattle.common_lemmas.proofs.Truth.{not_true}
 
 -- In a world nobody is in anybody's way: a member that is accepted has one caller, a wait with an else part or a delay has none, and nobody accepts
 -- what a conditional call calls.
@@ -349,7 +350,7 @@ module _ {L : Type 0} (p : Program L) (rests : (l : L) → p.ops.can_step l ≡ 
           let k = and_parts (offers p.ops (calls_in is_timed e i) ((world_of s).tasks c)) (not (is_closed (still (s.seats (p.owner e)).standing))) h in
           let (form, q, timed) = calls_is is_timed e i (p.ops.offer (s.seats c).local) (test_of (calls_in is_timed e i) c k.0) in
           let w : ArrivedAs s c Queued = arrive_call s c form e i suited runs (free_of (calls_in is_timed e i) c k.0) q (timed_queues form timed)
-          (sym (still_closed (s.seats (p.owner e)).standing) ∙ not_false (is_closed (still (s.seats (p.owner e)).standing)) k.1) in
+          (sym (still_closed (s.seats (p.owner e)).standing) ∙ not_true (is_closed (still (s.seats (p.owner e)).standing)) k.1) in
           let now : p.ops.offer ((behind s w.arrived).seats c).local ≡ Calls form e i = ap p.ops.offer (same_local s w.arrived c) ∙ q in
           had_by s w.arrived (Expire c) (T c e i)
           (both (ap not (same_ended s w.arrived ∙ runs)) (both (ap is_queued w.at)
@@ -371,7 +372,7 @@ module _ {L : Type 0} (p : Program L) (rests : (l : L) → p.ops.can_step l ≡ 
             (subst (λ v. waits_with (opens e i) (p.ops.offer (s.seats v).local) ≡ true) (sym q) (test_of (waits_with (opens e i)) (p.owner e) waited)))
 
         other' : (p.owner e == c) ≡ false
-        other' = other_way c (p.owner e) other
+        other' = unequal_turned c (p.owner e) other
 
         owner_waits : ArrivedAs s (p.owner e) Waiting
         owner_waits =

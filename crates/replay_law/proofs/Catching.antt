@@ -8,7 +8,7 @@ use Rattle.event_machine.specs.declared.Event.TheVariants.{R, E, S, D, C, T, F, 
 use Rattle.event_machine.specs.Offers.{Offer, Nothing, calls_in, is_any_form, is_conditional, is_timed, waits_with, is_finish, is_end, opens, is_else, is_delay, is_terminate}
 use Rattle.event_machine.specs.Seats.{Ops, Seat, live, is_live, is_closed, is_completed}
 use Rattle.event_machine.specs.Worlds.{World, Move, Step, Happen, can_move, moved, happens, happened, is_last, offers, others_end, aborts, AreMoves, world_after}
-use Rattle.event_machine.proofs.Basics.{both, not_false}
+use Rattle.event_machine.proofs.Basics.{both}
 use Rattle.event_machine.proofs.Standings.{is-Live}
 use Rattle.event_machine.proofs.Appends.{moves_append, world_append, happened_append}
 use Rattle.replay_law.specs.Copies.{Copy, copy_ops, copy_steps, copy_stepped, copy_offer}
@@ -19,6 +19,7 @@ use Rattle.replay_law.proofs.Facts.{put, put_self, put_other}
 use Rattle.replay_law.proofs.Matching.{match_move, event_moves}
 use Rattle.replay_law.proofs.Twins.{copy_rests}
 use Rattle.replay_law.proofs.Alike.{rewritten, LocalsAt, IsAlike, AreAlike, freed_alike, acts_alike}
+use Rattle.common_lemmas.proofs.Truth.{not_true}
 
 module _ (x : Setting) {K : Type 0} (ops : Ops K) (out : K → List ℕ) (Meets : K → Copy x.L → Type 0) (imitates : Imitates x ops out Meets) where
   -- ---- one task catches up
@@ -169,7 +170,7 @@ module _ (x : Setting) {K : Type 0} (ops : Ops K) (out : K → List ℕ) (Meets 
   follow_move past rest stage v w inv alike ended (Step t) h =
       let parts = and_parts (not w.ended) (is_live (w.tasks t).standing && copy_steps x.p.ops x.n (w.tasks t).local) h in
       let more = and_parts (is_live (w.tasks t).standing) (copy_steps x.p.ops x.n (w.tasks t).local) parts.1 in
-      let runs : v.ended ≡ false = ended ∙ not_false w.ended parts.0 in
+      let runs : v.ended ≡ false = ended ∙ not_true w.ended parts.0 in
       let free : (w.tasks t).standing ≡ Live = is-Live (w.tasks t).standing more.0 in
       let o : CaughtOne v w t = catch_one v w t runs alike in
       let v1 : World K = world_after (rewritten x ops out Meets imitates) v o.moves in
@@ -187,12 +188,12 @@ module _ (x : Setting) {K : Type 0} (ops : Ops K) (out : K → List ℕ) (Meets 
       }
   follow_move past rest stage v w inv alike ended (Happen e) h =
       let parts = and_parts (not w.ended) (happens (twin x) w.tasks e) h in
-      let runs : v.ended ≡ false = ended ∙ not_false w.ended parts.0 in
+      let runs : v.ended ≡ false = ended ∙ not_true w.ended parts.0 in
       let c : Caught v w (suc (suc x.p.size)) = catch_all (suc (suc x.p.size)) v w runs alike in
       let v1 : World K = world_after (rewritten x ops out Meets imitates) v c.moves in
       let holds : happens (rewritten x ops out Meets imitates) v1.tasks e ≡ true = happens_back v1.tasks w c.alike
       (λ t free. ⊎_elim (λ (m : t < suc (suc x.p.size)). c.meets t m free) (λ (m : suc (suc x.p.size) ≤ t). absurd (live_idle (w.tasks t).standing (inv.beyond t m) free)) (cases_lt t (suc (suc x.p.size)))) e parts.1 in
-      let situation = (event_moves x past rest stage w inv (not_false w.ended parts.0) e parts.1).0 in
+      let situation = (event_moves x past rest stage w inv (not_true w.ended parts.0) e parts.1).0 in
       let is : world_after (rewritten x ops out Meets imitates) v (c.moves ++ (Happen e ∷ [])) ≡ moved (rewritten x ops out Meets imitates) v1 (Happen e) =
       world_append (rewritten x ops out Meets imitates) v c.moves (Happen e ∷ []) in
       record {

@@ -12,7 +12,7 @@ use Rattle.replay_law.specs.Permits.{ToEnd, Op, Go, Done, Join, Hold}
 use Rattle.replay_law.specs.Copies.{Copy, Holding, Controlling, Handing, ops_offer, is_own}
 use Rattle.replay_law.specs.Rewritings.{Setting, control, idle, left, twin}
 use Rattle.replay_law.specs.inner.Stages.{image, Stage, Held, Giving, Asked, Acted, Told, Parted, Over, Away, place, SeatAt, Inv}
-use Rattle.replay_law.proofs.Facts.{put, put_each, put_other, put_self, offers_at, above_apart, below_apart, is_beyond}
+use Rattle.replay_law.proofs.Facts.{put, put_each, put_other, put_self, offers_at, below_apart}
 use Rattle.replay_law.proofs.Images.{image_stand, image_beyond}
 use Rattle.replay_law.proofs.Voices.{ends_by}
 use Rattle.replay_law.proofs.Reached.{after_all}
@@ -21,6 +21,7 @@ use Rattle.replay_law.proofs.Speaking.{Speaks, Asking, Using, Refused, Reporting
 use Rattle.replay_law.proofs.Afterwards.{Matched, permitted_in, after_event}
 use Rattle.replay_law.proofs.Singles.{Moves, matched_event, unless_below, image_live, sole, away_then}
 use Rattle.replay_law.proofs.Silently.{matched_silent, unseen}
+use Rattle.common_lemmas.proofs.Numbers.{lt_false, unequal_above}
 
 module _ (x : Setting) where
   controlling : {ops more : List Op} → live {L = Copy x.L} (Controlling ops) ≡ live (Controlling more) → ops ≡ more
@@ -39,7 +40,7 @@ module _ (x : Setting) where
     completes = after_event x past rest (X a) tail (a ∷ []) w inv (Join a) (Parted a) (put w.tasks a gone) refl refl
         (both (false_not other) (offers_at x.p.ops is_end (image x w.tasks a) l (image_live x w.tasks a (Holding a ToEnd l) below at) ends))
         (sym (image_stand x w.tasks a Completed below))
-        (λ t h. put_other w.tasks a t gone (above_apart t a (omega (arith, h, below))))
+        (λ t h. put_other w.tasks a t gone (unequal_above t a (omega (arith, h, below))))
         (inv.fits.0, below, ap (λ (y : Seat (Copy x.L)). is_completed y.standing) (put_self w.tasks a gone))
         (λ seat h. h)
         (λ u m. put_each (λ v seat. SeatAt x Away v seat) w.tasks a gone u
@@ -60,8 +61,8 @@ module _ (x : Setting) where
           stage = Giving e tail given more;
           inv = unseen x past rest (Giving e tail given more) (Giving e tail given more) w closed_tasks inv
               (image_beyond x w.tasks (control x) (record { local = (w.tasks (control x)).local; standing = Completed }) (omega arith))
-              (put_other w.tasks (control x) (idle x) (record { local = (w.tasks (control x)).local; standing = Completed }) (above_apart (idle x) (control x) (omega arith)))
-              (λ t m. put_other w.tasks (control x) t (record { local = (w.tasks (control x)).local; standing = Completed }) (above_apart t (control x) (omega (arith, m))))
+              (put_other w.tasks (control x) (idle x) (record { local = (w.tasks (control x)).local; standing = Completed }) (unequal_above (idle x) (control x) (omega arith)))
+              (λ t m. put_other w.tasks (control x) t (record { local = (w.tasks (control x)).local; standing = Completed }) (unequal_above t (control x) (omega (arith, m))))
               inv.fits
               (inr (controlling (sym q ∙ h), ap (λ (y : Seat (Copy x.L)). y.standing) (put_self w.tasks (control x) (record { local = (w.tasks (control x)).local; standing = Completed }))))
               (λ u m. subst (SeatAt x (place (Giving e tail given more) u) u) (sym (put_other w.tasks (control x) u (record { local = (w.tasks (control x)).local; standing = Completed }) (below_apart u (control x) m)))
@@ -82,7 +83,7 @@ module _ (x : Setting) where
         parts = and_parts (not (a == 0)) (offers (twin x).ops is_end (w.tasks a)) h
 
         commands : (ops : List Op) → a ≡ control x → w.tasks (control x) ≡ live (Controlling ops) → is_end (ops_offer x.n ops) ≡ true → Moves x past w (X a)
-        commands [] at q k = matched_silent x past w (X a) (ap (λ b. if b then Some (X a) else None) (is_beyond a x.p.size (omega (arith, at)))) tt
+        commands [] at q k = matched_silent x past w (X a) (ap (λ b. if b then Some (X a) else None) (lt_false a x.p.size (omega (arith, at)))) tt
             (subst (λ v. Matched x past (moved (twin x) w (Happen (X v)))) (sym at) (controller_ends past rest w runs stage inv q))
         commands (Go t permit ∷ ops) at q k = absurd (true≢false (sym k))
         commands (Done t ∷ ops) at q k = absurd (true≢false (sym k))

@@ -11,7 +11,6 @@ use Rattle.event_machine.specs.Runs.{IsRun, end_of, events_of, Feasible}
 use Rattle.event_machine.specs.Programs.{Program, numbered}
 use Rattle.event_machine.specs.Queues.{IsSuited, IsLined, suits}
 use Rattle.event_machine.specs.Worlds.{World, Move, Step, Happen, world_of, moved, happens, happened, offers, AreMoves}
-use Rattle.event_machine.proofs.Basics.{not_false}
 use Rattle.event_machine.proofs.Appends.{run_append, events_append}
 use Rattle.event_machine.proofs.Queues.{run_suited, run_lined}
 use Rattle.event_machine.specs.Seats.{is_live, is_queued}
@@ -25,6 +24,7 @@ use Rattle.replay_law.proofs.Tidying.{tidy}
 use Rattle.replay_law.proofs.Tracking.{Tracks, track_move, run_tracks}
 use Rattle.replay_law.proofs.Going.{Far, goes_all}
 use Rattle.replay_law.proofs.Catching.{follow_moves_of}
+use Rattle.common_lemmas.proofs.Truth.{not_true}
 
 module _ (x : Setting) {K : Type 0} (ops : Ops K) (out : K → List ℕ) (Meets : K → Copy x.L → Type 0) (imitates : Imitates x ops out Meets) where
   abbrev program : Program K
@@ -66,7 +66,7 @@ module _ (x : Setting) {K : Type 0} (ops : Ops K) (out : K → List ℕ) (Meets 
       AreMoves program (world_of s) moves → Ran s moves
   run_moves [] s past k suited lined h = record { actions = []; run = tt; events = refl }
   run_moves (Step t ∷ moves) s past k suited lined h =
-      let runs : s.ended ≡ false = not_false s.ended (and_parts (not s.ended) (is_live ((world_of s).tasks t).standing && ops.can_step (s.seats t).local) h.0).0 in
+      let runs : s.ended ≡ false = not_true s.ended (and_parts (not s.ended) (is_live ((world_of s).tasks t).standing && ops.can_step (s.seats t).local) h.0).0 in
       let can = had_step program imitates.rests s suited lined runs t h.0 in
       let next : State (ℕ → Seat K) = after (numbered program) s (Local t) in
       let is : world_of next ≡ moved program (world_of s) (Step t) = step_world program imitates.rests s t in
@@ -78,7 +78,7 @@ module _ (x : Setting) {K : Type 0} (ops : Ops K) (out : K → List ℕ) (Meets 
       (Step t ∷ moves) refl
   run_moves (Happen e ∷ moves) s past k suited lined h =
       let parts = and_parts (not s.ended) (happens program (world_of s).tasks e) h.0 in
-      let runs : s.ended ≡ false = not_false s.ended parts.0 in
+      let runs : s.ended ≡ false = not_true s.ended parts.0 in
       let a : Had program imitates.rests s e = had program imitates.rests s suited lined runs (tracked_tidy past (world_of s) k runs) e parts.1 in
       let next : State (ℕ → Seat K) = end_of (numbered program) s a.actions in
       ran_on s a.actions moves (e ∷ []) a.run a.events

@@ -1,26 +1,13 @@
 -- Small facts on tests, and on what writes of tasks by their numbers leave.
-use Rattle.std.proofs.Common.{◌≡◌, ℕ, ◌<◌, ◌≤◌, Bool, true, false, ◌==◌, if◌then◌else◌, refl, ap, ◌∙◌, arith}
-use Rattle.std.specs.Prelude.{nat_lt}
-use Rattle.std.proofs.lemmas.Bool.{ne_eqb, lt-ltb, le-ltb, and_parts}
+use Rattle.std.proofs.Common.{◌≡◌, ℕ, ◌<◌, Bool, true, false, ◌==◌, if◌then◌else◌, refl, ap, ◌∙◌, arith}
+use Rattle.std.proofs.lemmas.Bool.{ne_eqb, and_parts}
 use Rattle.event_machine.specs.Offers.{Offer}
 use Rattle.event_machine.specs.Seats.{Ops, Seat, live, completed, is_live, is_served_by, is_abnormal}
 use Rattle.event_machine.specs.Worlds.{offers}
-use Rattle.event_machine.proofs.Basics.{equal_self}
-
-pub is_below : (t n : ℕ) → t < n → nat_lt t n ≡ true
-is_below t n l = lt-ltb t n l
-
-pub is_beyond : (t n : ℕ) → n ≤ t → nat_lt t n ≡ false
-is_beyond t n l = le-ltb t n l
-
-pub apart : (m n : ℕ) → (m ≡ n → ⊥) → (m == n) ≡ false
-apart m n h = ne_eqb m n h
+use Rattle.common_lemmas.proofs.Numbers.{equal_self}
 
 pub below_apart : (m n : ℕ) → m < n → (m == n) ≡ false
 below_apart m n l = ne_eqb m n (λ e. omega (arith, l, e))
-
-pub above_apart : (m n : ℕ) → n < m → (m == n) ≡ false
-above_apart m n l = ne_eqb m n (λ e. omega (arith, l, e))
 
 -- a write of one task
 abbrev pub put : {A : Type 0} → (ℕ → A) → ℕ → A → ℕ → A

@@ -9,14 +9,14 @@ use Rattle.event_machine.specs.Offers.{calls_in, is_any_form}
 use Rattle.event_machine.specs.Seats.{Seat, live, is_closed}
 use Rattle.event_machine.specs.Worlds.{World, happens, offers}
 use Rattle.event_machine.specs.Admitting.{IsAdmitted}
-use Rattle.event_machine.proofs.Basics.{both, split, equal_self, same_member-true}
+use Rattle.event_machine.proofs.Basics.{both, split, same_member-true}
 use Rattle.replay_law.specs.Permits.{Permit, ToFail, permit_of, Op, Go, Done, Join, Hold}
 use Rattle.replay_law.specs.Scripts.{takers, grants}
 use Rattle.replay_law.specs.Copies.{Copy, Holding, Controlling, Handing, copy_raised, ops_offer}
 use Rattle.replay_law.specs.Rewritings.{Setting, control, idle, left, twin}
 use Rattle.replay_law.specs.Laws.{at_entry, stands_for}
 use Rattle.replay_law.specs.inner.Stages.{image, image_world, Stage, Held, Giving, Asked, Acted, Told, Parted, Over, Away, Holds, place, member, in_order, SeatAt, ControlAt, behind_event, Inv}
-use Rattle.replay_law.proofs.Facts.{put, put_other, put_self, offers_at, above_apart, below_apart}
+use Rattle.replay_law.proofs.Facts.{put, put_other, put_self, offers_at, below_apart}
 use Rattle.replay_law.proofs.Images.{image_beyond, past_completed}
 use Rattle.replay_law.proofs.Voices.{CallsBy, MeetCall, ElseCall, ExpireCall, FailCall, calls_by}
 use Rattle.replay_law.proofs.Reached.{after_all, reached_admitted}
@@ -29,6 +29,7 @@ use Rattle.replay_law.proofs.Singles.{Moves, matched_event, back_shadow, image_l
 use Rattle.replay_law.proofs.Silently.{matched_silent, unseen, says_acted}
 use Rattle.replay_law.proofs.Parting.{Next, next}
 use Rattle.replay_law.proofs.Standing.{image_closed, control_open}
+use Rattle.common_lemmas.proofs.Numbers.{equal_self, unequal_above}
 
 module _ (x : Setting) where
   controlling : {ops more : List Op} → live {L = Copy x.L} (Controlling ops) ≡ live (Controlling more) → ops ≡ more
@@ -87,8 +88,8 @@ module _ (x : Setting) where
     joins b n inv =
         let seat : Seat (Copy x.L) = live (Controlling (left x (after_all x past) rest)) in
         unseen x past rest (Parted b) n.stage w (put w.tasks (control x) seat) inv (image_beyond x w.tasks (control x) seat (omega arith))
-        (put_other w.tasks (control x) (idle x) seat (above_apart (idle x) (control x) (omega arith)))
-        (λ t m. put_other w.tasks (control x) t seat (above_apart t (control x) (omega (arith, m))))
+        (put_other w.tasks (control x) (idle x) seat (unequal_above (idle x) (control x) (omega arith)))
+        (λ t m. put_other w.tasks (control x) t seat (unequal_above t (control x) (omega (arith, m))))
         (n.fits (record { tasks = put w.tasks (control x) seat; ended = w.ended }) runs)
         (subst (ControlAt x (after_all x past) rest n.stage) (sym (put_self w.tasks (control x) seat)) n.controls)
         (λ u m. subst (SeatAt x (place n.stage u) u) (sym (put_other w.tasks (control x) u seat (below_apart u (control x) m)))

@@ -13,7 +13,7 @@ use Rattle.event_machine.specs.declared.Event.TheVariants.{R, E, S, D, C, T, F, 
 use Rattle.event_machine.specs.Offers.{Offer, Nothing, Calls, Waits, Finishes, Ends, Aborts, calls_in, is_any_form, is_conditional, is_timed, waits_with, is_finish, is_end, opens, is_else, is_delay, is_terminate, same_member}
 use Rattle.event_machine.specs.Seats.{Seat, live, is_live, is_closed, is_completed}
 use Rattle.event_machine.specs.Worlds.{World, Move, Happen, can_move, moved, happens, happened, offers, others_end, aborts, AreMoves}
-use Rattle.event_machine.proofs.Basics.{both, equal_self, same_member-refl, false_not}
+use Rattle.event_machine.proofs.Basics.{both, same_member-refl, false_not}
 use Rattle.event_machine.proofs.Standings.{is-Live}
 use Rattle.event_machine.proofs.Offering.{calls_waits}
 use Rattle.replay_law.specs.Permits.{Permit, permit_of, wants}
@@ -22,7 +22,7 @@ use Rattle.replay_law.specs.Copies.{Copy, Holding, Controlling, Idling, shows, h
 use Rattle.replay_law.specs.Rewritings.{Setting, control, idle, twin}
 use Rattle.replay_law.specs.Laws.{back, backs, at_entry, stands_for}
 use Rattle.replay_law.specs.inner.Stages.{image, image_world, free_of, Giving, Away, Holds, place, member, SeatAt, Inv}
-use Rattle.replay_law.proofs.Facts.{put, put_other, put_self, offers_at, above_apart, below_apart, is_below, is_beyond}
+use Rattle.replay_law.proofs.Facts.{put, put_other, put_self, offers_at, below_apart}
 use Rattle.replay_law.proofs.Images.{image_at, image_beyond}
 use Rattle.replay_law.proofs.Reached.{after_all, reached_sound}
 use Rattle.replay_law.proofs.Silently.{unseen}
@@ -31,6 +31,7 @@ use Rattle.replay_law.proofs.Failing.{live_below}
 use Rattle.replay_law.proofs.Standing.{image_closed, order_member, member_append, taken_last}
 use Rattle.replay_law.proofs.Steering.{Unseen}
 use Rattle.replay_law.proofs.Granting.{taker_free}
+use Rattle.common_lemmas.proofs.Numbers.{equal_self, lt_false, lt_true, unequal_above}
 
 -- a call in one form is one in any form
 any_form : (test : CallForm → Bool) (e : ℕ) (i : ℤ) (o : Offer) → calls_in test e i o ≡ true → calls_in is_any_form e i o ≡ true
@@ -129,7 +130,7 @@ module _ (x : Setting) where
         (or_cases (is_completed (image x w.tasks (suc t)).standing) (offers x.p.ops (waits_with is_terminate) (image x w.tasks (suc t))) (one_end (pred x.p.size) t parts.1 (omega (arith, m))))
       where
         not_main : (suc t == 0) ≡ false
-        not_main = above_apart (suc t) 0 (omega arith)
+        not_main = unequal_above (suc t) 0 (omega arith)
 
         here : offers x.p.ops (waits_with is_terminate) (image x w.tasks (suc t)) ≡ true → offers (twin x).ops (waits_with is_terminate) (w.tasks (suc t)) ≡ true
         here c =
@@ -171,15 +172,15 @@ module _ (x : Setting) where
     -- the controller completes
     pub closes : w.tasks (control x) ≡ live (Controlling []) → Unseen x past rest (Giving Z tail given []) w (X (control x))
     closes h = record {
-      can = both (ap not runs) (both (false_not (above_apart (control x) 0 x.main)) (offers_at (twin x).ops is_end (w.tasks (control x)) (Controlling []) h refl));
+      can = both (ap not runs) (both (false_not (unequal_above (control x) 0 x.main)) (offers_at (twin x).ops is_end (w.tasks (control x)) (Controlling []) h refl));
       inv = unseen x past rest (Giving Z tail given []) (Giving Z tail given []) w (put w.tasks (control x) gone) inv unchanged
-          (put_other w.tasks (control x) (idle x) gone (above_apart (idle x) (control x) (omega arith)))
-          (λ t m. put_other w.tasks (control x) t gone (above_apart t (control x) (omega (arith, m))))
+          (put_other w.tasks (control x) (idle x) gone (unequal_above (idle x) (control x) (omega arith)))
+          (λ t m. put_other w.tasks (control x) t gone (unequal_above t (control x) (omega (arith, m))))
           inv.fits
           (inr (refl, ap (λ (y : Seat (Copy x.L)). y.standing) (put_self w.tasks (control x) gone)))
           (λ u m. subst (SeatAt x (place (Giving Z tail given []) u) u) (sym (put_other w.tasks (control x) u gone (below_apart u (control x) m))) (inv.seats u m));
       same = unchanged;
-      none = ap (λ c. if c then Some (X (control x)) else None) (is_beyond (control x) x.p.size (omega arith));
+      none = ap (λ c. if c then Some (X (control x)) else None) (lt_false (control x) x.p.size (omega arith));
       more = refl;
     }
       where
@@ -250,14 +251,14 @@ module _ (x : Setting) where
       shown_by w (E a) (record {
         event = E a;
         can = both (ap not runs) (shows_here past rest (E a) tail given w inv runs holds a k is_finish (offered past rest (E a) tail given w inv runs holds a k is_finish holds) refl);
-        stands = ap (λ b. if b then Some (E a) else None) (is_below a x.p.size k.below);
+        stands = ap (λ b. if b then Some (E a) else None) (lt_true a x.p.size k.below);
       })
   fire past rest (S a) tail given w inv runs holds =
       let k = holder past rest (S a) tail given w inv runs holds a (single a) in
       shown_by w (S a) (record {
         event = S a;
         can = both (ap not runs) (shows_here past rest (S a) tail given w inv runs holds a k (waits_with is_else) (offered past rest (S a) tail given w inv runs holds a k (waits_with is_else) holds) refl);
-        stands = ap (λ b. if b then Some (S a) else None) (is_below a x.p.size k.below);
+        stands = ap (λ b. if b then Some (S a) else None) (lt_true a x.p.size k.below);
       })
   fire past rest (D a d) tail given w inv runs holds =
       let k = holder past rest (D a d) tail given w inv runs holds a (single a) in
@@ -265,7 +266,7 @@ module _ (x : Setting) where
         event = D a d;
         can = both (ap not runs) (shows_here past rest (D a d) tail given w inv runs holds a k (waits_with (is_delay d)) (offered past rest (D a d) tail given w inv runs holds a k (waits_with (is_delay d)) holds)
             (ap (λ b. b || false) (equal_self d)));
-        stands = ap (λ b. if b then Some (D a d) else None) (is_below a x.p.size k.below);
+        stands = ap (λ b. if b then Some (D a d) else None) (lt_true a x.p.size k.below);
       })
   fire past rest (C c f i) tail given w inv runs holds =
       let k = holder past rest (C c f i) tail given w inv runs holds c (single c) in
@@ -303,7 +304,7 @@ module _ (x : Setting) where
       shown_by w (X a) (record {
         event = X a;
         can = both (ap not runs) (both h.0 (shows_here past rest (X a) tail given w inv runs holds a k is_end (both h.0 (offered past rest (X a) tail given w inv runs holds a k is_end h.1)) refl));
-        stands = ap (λ b. if b then Some (X a) else None) (is_below a x.p.size k.below);
+        stands = ap (λ b. if b then Some (X a) else None) (lt_true a x.p.size k.below);
       })
   fire past rest (B t v) tail given w inv runs holds =
       let k = holder past rest (B t v) tail given w inv runs holds t (single t) in
@@ -311,7 +312,7 @@ module _ (x : Setting) where
       shown_by w (B t v) (record {
         event = B t v;
         can = both (ap not runs) (shows_here past rest (B t v) tail given w inv runs holds t k (aborts v) names (equal_self v));
-        stands = ap₂ (λ a b. if a && b then Some (B t v) else None) (is_below t x.p.size k.below)
-            (is_below v x.p.size (x.aborts_tasks k.l v (proper past rest (B t v) tail given w inv runs holds t k) names));
+        stands = ap₂ (λ a b. if a && b then Some (B t v) else None) (lt_true t x.p.size k.below)
+            (lt_true v x.p.size (x.aborts_tasks k.l v (proper past rest (B t v) tail given w inv runs holds t k) names));
       })
   fire past rest Z tail given w inv runs holds = last_shown past rest tail given w inv runs holds

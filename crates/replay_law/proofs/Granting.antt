@@ -9,7 +9,6 @@ use Rattle.event_machine.specs.Offers.{is_end}
 use Rattle.event_machine.specs.Seats.{Seat, live, is_live}
 use Rattle.event_machine.specs.Soundness.{times}
 use Rattle.event_machine.specs.Worlds.{World, Happen, happens, moved, needs, offers, others_end}
-use Rattle.event_machine.proofs.Basics.{equal_self}
 use Rattle.event_machine.proofs.Standings.{is-Live}
 use Rattle.event_machine.proofs.Following.{happens_rest}
 use Rattle.replay_law.specs.Permits.{permit_of}
@@ -22,6 +21,7 @@ use Rattle.replay_law.proofs.Reached.{after_all, reached_admitted, reached_other
 use Rattle.replay_law.proofs.Failing.{live_below}
 use Rattle.replay_law.proofs.Known.{times_append}
 use Rattle.replay_law.proofs.Steering.{Unseen, Led, led_here, led_on, ask, take, away_based}
+use Rattle.common_lemmas.proofs.Numbers.{equal_self}
 
 times_order : (t : ℕ) (given more : List ℕ) → times t (in_order given more) ≡ times t given + times t more
 times_order t [] more = omega arith

@@ -10,16 +10,17 @@ use Rattle.event_machine.specs.Worlds.{still}
 use Rattle.replay_law.specs.Copies.{Copy, under}
 use Rattle.replay_law.specs.Rewritings.{Setting, start, control}
 use Rattle.replay_law.specs.inner.Stages.{free_of, image_seat, image_of, image}
-use Rattle.replay_law.proofs.Facts.{is_below, is_beyond, below_apart, above_apart, put, let_go, let_go_other, let_go_served}
+use Rattle.replay_law.proofs.Facts.{below_apart, put, let_go, let_go_other, let_go_served}
+use Rattle.common_lemmas.proofs.Numbers.{lt_false, lt_true, unequal_above}
 
 module _ (x : Setting) where
   -- ---- one task
 
   pub image_at : (t : ℕ) (seat : Seat (Copy x.L)) → t < x.p.size → image_of x t seat ≡ image_seat x seat
-  image_at t seat l = ap (λ b. if b then image_seat x seat else (start x).tasks t) (is_below t x.p.size l)
+  image_at t seat l = ap (λ b. if b then image_seat x seat else (start x).tasks t) (lt_true t x.p.size l)
 
   pub image_past : (t : ℕ) (seat : Seat (Copy x.L)) → x.p.size ≤ t → image_of x t seat ≡ (start x).tasks t
-  image_past t seat l = ap (λ b. if b then image_seat x seat else (start x).tasks t) (is_beyond t x.p.size l)
+  image_past t seat l = ap (λ b. if b then image_seat x seat else (start x).tasks t) (lt_false t x.p.size l)
 
   -- past the last task stands nobody
   pub past_completed : (t : ℕ) (seat : Seat (Copy x.L)) → x.p.size ≤ t → (image_of x t seat).standing ≡ Completed
@@ -75,7 +76,7 @@ module _ (x : Setting) where
       go true q = sym (ap (λ v. v == a) (eqb-true by (control x) q) ∙ not_it)
         where
           not_it : (control x == a) ≡ false
-          not_it = above_apart (control x) a l
+          not_it = unequal_above (control x) a l
       go false q = refl
   free_served a Completed l = refl
   free_served a Killed l = refl

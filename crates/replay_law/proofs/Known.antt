@@ -14,7 +14,7 @@ use Rattle.event_machine.specs.Programs.{Program}
 use Rattle.event_machine.specs.Soundness.{IsSound, times}
 use Rattle.event_machine.specs.Admitting.{IsAdmitted}
 use Rattle.event_machine.specs.Worlds.{World, Move, Step, Happen, can_move, moved, happens, happened, offers, AreMoves, world_after}
-use Rattle.event_machine.proofs.Basics.{both, not_false, false_not, equal_self}
+use Rattle.event_machine.proofs.Basics.{both, false_not}
 use Rattle.event_machine.proofs.Standings.{is-Live}
 use Rattle.event_machine.proofs.Offering.{finish_is, end_is}
 use Rattle.event_machine.proofs.Sound.{sound_moved}
@@ -24,8 +24,9 @@ use Rattle.event_machine.proofs.Extending.{caller_served}
 use Rattle.event_machine.proofs.Walking.{sound_moves, follow_moves, follows_self}
 use Rattle.replay_law.specs.Scripts.{Progress, known, IsProgress}
 use Rattle.replay_law.specs.Plainly.{seen_tasks, none_served, live_others, can_come, plain_progress}
-use Rattle.replay_law.proofs.Facts.{is_below, is_beyond}
 use Rattle.replay_law.proofs.Plainly.{seen_freed, seen_acted}
+use Rattle.common_lemmas.proofs.Numbers.{equal_self, lt_false, lt_true}
+use Rattle.common_lemmas.proofs.Truth.{not_true}
 
 over_unserved : (s : Standing) → is_completed s ≡ true → is_served s ≡ false
 over_unserved Live h = refl
@@ -45,7 +46,7 @@ times_append t (x ∷ xs) ys = ap (λ n. (if x == t then 1 else 0) + n) (times_a
 -- the tasks that are listed, each once
 listed_once : (tasks : ℕ → Seat (List ℕ)) (n t : ℕ) → times t (live_others tasks n) ≡ (if nat_lt 0 t && (nat_lt t n && is_live (tasks t).standing) then 1 else 0)
 listed_once tasks zero t = sym (ap (λ b. if b then 1 else 0) (and_right (nat_lt 0 t) (nat_lt t 0 && is_live (tasks t).standing)
-    (and_left (nat_lt t 0) (is_live (tasks t).standing) (is_beyond t 0 (omega arith)))))
+    (and_left (nat_lt t 0) (is_live (tasks t).standing) (lt_false t 0 (omega arith)))))
 listed_once tasks (suc n) t = times_append t (live_others tasks n) (if nat_lt 0 n && is_live (tasks n).standing then n ∷ [] else []) ∙
     ap (λ v. v + times t (if nat_lt 0 n && is_live (tasks n).standing then n ∷ [] else [])) (listed_once tasks n t) ∙
     ⊎_elim (λ (m : t < n). below m) (λ (m : n ≤ t). ⊎_elim (λ (k : t < suc n). let e : n ≡ t = omega (arith, m, k) in here e) (λ (k : suc n ≤ t). above k) (cases_lt t (suc n))) (cases_lt t n)
@@ -61,13 +62,13 @@ listed_once tasks (suc n) t = times_append t (live_others tasks n) (if nat_lt 0 
         (if nat_lt 0 t && (nat_lt t (suc n) && is_live (tasks t).standing) then 1 else 0)
     below m = plus_zero (if nat_lt 0 t && (nat_lt t n && is_live (tasks t).standing) then 1 else 0) (times t (if nat_lt 0 n && is_live (tasks n).standing then n ∷ [] else []))
         (none (ne_eqb n t (λ q. omega (arith, m, q))) (nat_lt 0 n && is_live (tasks n).standing)) ∙
-        ap (λ b. if nat_lt 0 t && (b && is_live (tasks t).standing) then 1 else 0) (is_below t n m ∙ sym (is_below t (suc n) (omega (arith, m))))
+        ap (λ b. if nat_lt 0 t && (b && is_live (tasks t).standing) then 1 else 0) (lt_true t n m ∙ sym (lt_true t (suc n) (omega (arith, m))))
 
     above : n < t → (if nat_lt 0 t && (nat_lt t n && is_live (tasks t).standing) then 1 else 0) + times t (if nat_lt 0 n && is_live (tasks n).standing then n ∷ [] else []) ≡
         (if nat_lt 0 t && (nat_lt t (suc n) && is_live (tasks t).standing) then 1 else 0)
     above m = plus_zero (if nat_lt 0 t && (nat_lt t n && is_live (tasks t).standing) then 1 else 0) (times t (if nat_lt 0 n && is_live (tasks n).standing then n ∷ [] else []))
         (none (ne_eqb n t (λ q. omega (arith, m, q))) (nat_lt 0 n && is_live (tasks n).standing)) ∙
-        ap (λ b. if nat_lt 0 t && (b && is_live (tasks t).standing) then 1 else 0) (is_beyond t n (omega (arith, m)) ∙ sym (is_beyond t (suc n) m))
+        ap (λ b. if nat_lt 0 t && (b && is_live (tasks t).standing) then 1 else 0) (lt_false t n (omega (arith, m)) ∙ sym (lt_false t (suc n) m))
 
     once : (b : Bool) → 0 + times n (if b then n ∷ [] else []) ≡ (if b then 1 else 0)
     once true = let k : ◌≡◌ {A = ℕ} (if n == n then 1 else 0) 1 = ap (λ c. if c then 1 else 0) (equal_self n) in omega (arith, k)
@@ -76,9 +77,9 @@ listed_once tasks (suc n) t = times_append t (live_others tasks n) (if nat_lt 0 
     here_n : (if nat_lt 0 n && (nat_lt n n && is_live (tasks n).standing) then 1 else 0) + times n (if nat_lt 0 n && is_live (tasks n).standing then n ∷ [] else []) ≡
         (if nat_lt 0 n && (nat_lt n (suc n) && is_live (tasks n).standing) then 1 else 0)
     here_n = ap (λ b. (if b then 1 else 0) + times n (if nat_lt 0 n && is_live (tasks n).standing then n ∷ [] else []))
-        (and_right (nat_lt 0 n) (nat_lt n n && is_live (tasks n).standing) (and_left (nat_lt n n) (is_live (tasks n).standing) (is_beyond n n (omega arith)))) ∙
+        (and_right (nat_lt 0 n) (nat_lt n n && is_live (tasks n).standing) (and_left (nat_lt n n) (is_live (tasks n).standing) (lt_false n n (omega arith)))) ∙
         once (nat_lt 0 n && is_live (tasks n).standing) ∙
-        ap (λ b. if nat_lt 0 n && (b && is_live (tasks n).standing) then 1 else 0) (sym (is_below n (suc n) (omega arith)))
+        ap (λ b. if nat_lt 0 n && (b && is_live (tasks n).standing) then 1 else 0) (sym (lt_true n (suc n) (omega arith)))
 
     here : n ≡ t → (if nat_lt 0 t && (nat_lt t n && is_live (tasks t).standing) then 1 else 0) + times t (if nat_lt 0 n && is_live (tasks n).standing then n ∷ [] else []) ≡
         (if nat_lt 0 t && (nat_lt t (suc n) && is_live (tasks t).standing) then 1 else 0)
@@ -94,7 +95,7 @@ module _ {L : Type 0} (p : Program L) (IsProper : L → Type 0) (lawful : IsLawf
     unserved_below (suc n) t h l =
         let k = and_parts (none_served (seen_tasks p tasks) n) (not (is_served (tasks n).standing)) h in
         ⊎_elim (λ (m : t < n). unserved_below n t k.0 m)
-        (λ (m : n ≤ t). let e : n ≡ t = omega (arith, m, l) in subst (λ u. is_served (tasks u).standing ≡ false) e (not_false (is_served (tasks n).standing) k.1)) (cases_lt t n)
+        (λ (m : n ≤ t). let e : n ≡ t = omega (arith, m, l) in subst (λ u. is_served (tasks u).standing ≡ false) e (not_true (is_served (tasks n).standing) k.1)) (cases_lt t n)
 
     none_below : ((t : ℕ) → is_served (tasks t).standing ≡ false) → (n : ℕ) → none_served (seen_tasks p tasks) n ≡ true
     none_below h zero = refl
@@ -123,7 +124,7 @@ module _ {L : Type 0} (p : Program L) (IsProper : L → Type 0) (lawful : IsLawf
     come_admitted (R c e i) h =
         let k = and_parts (is_live (tasks c).standing) (is_live (tasks (p.owner e)).standing && not (c == p.owner e)) h in
         let l = and_parts (is_live (tasks (p.owner e)).standing) (not (c == p.owner e)) k.1 in
-        (is-Live (tasks c).standing k.0, is-Live (tasks (p.owner e)).standing l.0, eqb-false c (p.owner e) (not_false (c == p.owner e) l.1))
+        (is-Live (tasks c).standing k.0, is-Live (tasks (p.owner e)).standing l.0, eqb-false c (p.owner e) (not_true (c == p.owner e) l.1))
     come_admitted (E a) h =
         let k = and_parts (is_live (tasks a).standing) (not (is_empty (p.ops.callers (tasks a).local))) h in
         let free : (tasks a).standing ≡ Live = is-Live (tasks a).standing k.0 in
@@ -132,10 +133,10 @@ module _ {L : Type 0} (p : Program L) (IsProper : L → Type 0) (lawful : IsLawf
     come_admitted (D a k) h = is-Live (tasks a).standing h
     come_admitted (C c e i) h =
         let k = and_parts (is_live (tasks c).standing) (not (is_closed (tasks (p.owner e)).standing)) h in
-        (is-Live (tasks c).standing k.0, not_false (is_closed (tasks (p.owner e)).standing) k.1)
+        (is-Live (tasks c).standing k.0, not_true (is_closed (tasks (p.owner e)).standing) k.1)
     come_admitted (T c e i) h =
         let k = and_parts (is_live (tasks c).standing) (not (is_closed (tasks (p.owner e)).standing)) h in
-        (is-Live (tasks c).standing k.0, not_false (is_closed (tasks (p.owner e)).standing) k.1)
+        (is-Live (tasks c).standing k.0, not_true (is_closed (tasks (p.owner e)).standing) k.1)
     come_admitted (F c e i) h =
         let k = and_parts (is_live (tasks c).standing) (is_closed (tasks (p.owner e)).standing) h in (is-Live (tasks c).standing k.0, k.1)
     come_admitted (X a) h =

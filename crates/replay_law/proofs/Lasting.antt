@@ -8,7 +8,7 @@ use Rattle.event_machine.specs.declared.Event.TheVariants.{Z}
 use Rattle.event_machine.specs.Offers.{is_end, is_terminate, waits_with}
 use Rattle.event_machine.specs.Seats.{Seat, live, is_completed}
 use Rattle.event_machine.specs.Worlds.{World, Happen, happens, moved, offers, others_end}
-use Rattle.event_machine.proofs.Basics.{both, equal_self}
+use Rattle.event_machine.proofs.Basics.{both}
 use Rattle.replay_law.specs.Permits.{Permit, ToClose, permit_of}
 use Rattle.replay_law.specs.Copies.{Copy, Holding, copy_ops}
 use Rattle.replay_law.specs.Rewritings.{Setting, control, twin}
@@ -21,6 +21,7 @@ use Rattle.replay_law.proofs.Telling.{of_close}
 use Rattle.replay_law.proofs.Speaking.{Speaks, Asking, Using, Refused, Reporting, Commanding, Serving, Resting, speaks}
 use Rattle.replay_law.proofs.Singles.{Moves, matched_event, image_live, no_wait}
 use Rattle.replay_law.proofs.Standing.{seat_own, grants_nothing}
+use Rattle.common_lemmas.proofs.Numbers.{equal_self}
 
 module _ (x : Setting) where
   over_free : (s : Standing) → is_completed s ≡ true → is_completed (free_of x s) ≡ true

@@ -7,14 +7,14 @@ use Rattle.event_machine.specs.declared.Event.{Event}
 use Rattle.event_machine.specs.declared.Event.TheVariants.{R, E, S, D, C, T, F, X, B, Z}
 use Rattle.event_machine.specs.Seats.{Seat, live, is_live, is_completed}
 use Rattle.event_machine.specs.Worlds.{World, Move, Step, Happen, can_move, moved, happens, happened}
-use Rattle.event_machine.proofs.Basics.{both, not_false, seat_path}
+use Rattle.event_machine.proofs.Basics.{both, seat_path}
 use Rattle.event_machine.proofs.Standings.{is-Live}
 use Rattle.event_machine.proofs.Updates.{freed_standing}
 use Rattle.replay_law.specs.Copies.{Copy, Based, copy_steps, copy_stepped, under}
 use Rattle.replay_law.specs.Rewritings.{Setting, control, idle, twin}
 use Rattle.replay_law.specs.Laws.{backs}
 use Rattle.replay_law.specs.inner.Stages.{IsReached, image, image_world, Stage, Held, Giving, Asked, Acted, Told, Parted, Over, Place, Away, Asks, Holds, Says, Hears, Gone, place, AwayAt, SeatAt, ControlAt, Fits, Inv}
-use Rattle.replay_law.proofs.Facts.{put, put_each, put_other, above_apart}
+use Rattle.replay_law.proofs.Facts.{put, put_each, put_other}
 use Rattle.replay_law.proofs.Images.{image_freed}
 use Rattle.replay_law.proofs.Reached.{after_all, reach_step}
 use Rattle.replay_law.proofs.Afterwards.{Matched}
@@ -26,6 +26,8 @@ use Rattle.replay_law.proofs.Completing.{complete_moves}
 use Rattle.replay_law.proofs.Aborting.{abort_moves}
 use Rattle.replay_law.proofs.Lasting.{last_moves}
 use Rattle.replay_law.proofs.Standing.{not_gone}
+use Rattle.common_lemmas.proofs.Numbers.{unequal_above}
+use Rattle.common_lemmas.proofs.Truth.{not_true}
 
 module _ (x : Setting) where
   module _ (past rest : List Event) (stage : Stage) (w : World (Copy x.L)) (inv : Inv x past rest stage w) (runs : w.ended ≡ false) where
@@ -106,13 +108,13 @@ module _ (x : Setting) where
       reached = subst (IsReached x past) (λ i. record { tasks = sym is i; ended = w.ended })
           (reach_step x past (image_world x w) t inv.reached (both (ap not runs) (both (ap (λ (y : Seat x.L). is_live y.standing) image_t) (ap (λ (y : Seat x.L). x.p.ops.can_step y.local) image_t ∙ k.can))));
       fits = fits stage inv.fits;
-      controls = subst (ControlAt x (after_all x past) rest stage) (sym (put_other w.tasks t (control x) (live next) (above_apart (control x) t k.below))) inv.controls;
-      idles = put_other w.tasks t (idle x) (live next) (above_apart (idle x) t (let m = k.below in omega (arith, m))) ∙ inv.idles;
+      controls = subst (ControlAt x (after_all x past) rest stage) (sym (put_other w.tasks t (control x) (live next) (unequal_above (control x) t k.below))) inv.controls;
+      idles = put_other w.tasks t (idle x) (live next) (unequal_above (idle x) t (let m = k.below in omega (arith, m))) ∙ inv.idles;
       seats = λ u m. put_each (λ v seat. SeatAt x (place stage v) v seat) w.tasks t (live next) u
           (λ q. subst (λ pl. SeatAt x pl u (live next)) (sym (ap (λ v. place stage v) (eqb-true u t q) ∙ k.away))
           (x.p.ops.stepped k.l, stepped ∙ ap (λ v. Based v (x.p.ops.stepped k.l)) (sym (eqb-true u t q))))
           (λ q. inv.seats u m);
-      beyond = λ u m. ap (λ (y : Seat (Copy x.L)). is_completed y.standing) (put_other w.tasks t u (live next) (above_apart u t (let n = k.below in omega (arith, m, n)))) ∙ inv.beyond u m;
+      beyond = λ u m. ap (λ (y : Seat (Copy x.L)). is_completed y.standing) (put_other w.tasks t u (live next) (unequal_above u t (let n = k.below in omega (arith, m, n)))) ∙ inv.beyond u m;
     }
       where
         next : Copy x.L
@@ -156,7 +158,7 @@ module _ (x : Setting) where
   match_move past rest stage w inv (Step t) h =
       let k = and_parts (not w.ended) (is_live (w.tasks t).standing && copy_steps x.p.ops x.n (w.tasks t).local) h in
       let l = and_parts (is_live (w.tasks t).standing) (copy_steps x.p.ops x.n (w.tasks t).local) k.1 in
-      let runs : w.ended ≡ false = not_false w.ended k.0 in
+      let runs : w.ended ≡ false = not_true w.ended k.0 in
       record {
         rest = rest;
         stage = stage;
@@ -165,4 +167,4 @@ module _ (x : Setting) where
       }
   match_move past rest stage w inv (Happen e) h =
       let k = and_parts (not w.ended) (happens (twin x) w.tasks e) h in
-      (event_moves past rest stage w inv (not_false w.ended k.0) e k.1).1
+      (event_moves past rest stage w inv (not_true w.ended k.0) e k.1).1

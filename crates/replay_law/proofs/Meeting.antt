@@ -17,7 +17,7 @@ use Rattle.replay_law.specs.Copies.{Copy, Based, Holding, Saying, Controlling, H
 use Rattle.replay_law.specs.Rewritings.{Setting, control, left, twin}
 use Rattle.replay_law.specs.Laws.{back, at_entry, stands_for}
 use Rattle.replay_law.specs.inner.Stages.{image, image_seat, Stage, Held, Giving, Asked, Acted, Told, Parted, Over, Place, Away, Asks, Holds, Says, Hears, Gone, place, member, in_order, SeatAt, behind_event, Fits, Inv}
-use Rattle.replay_law.proofs.Facts.{put, put_each, put_other, offers_at, above_apart, below_apart}
+use Rattle.replay_law.proofs.Facts.{put, put_each, put_other, offers_at, below_apart}
 use Rattle.replay_law.proofs.Images.{image_put}
 use Rattle.replay_law.proofs.Voices.{CallsBy, MeetCall, ElseCall, ExpireCall, FailCall, calls_by, OpensBy, MeetOpens, NeverOpens, opens_by}
 use Rattle.replay_law.proofs.Reached.{after_all}
@@ -28,6 +28,7 @@ use Rattle.replay_law.proofs.Afterwards.{after_event}
 use Rattle.replay_law.proofs.Situations.{MetGo, MetDone, MetBoth}
 use Rattle.replay_law.proofs.Singles.{Moves, matched_event, image_live}
 use Rattle.replay_law.proofs.Silently.{met_with, met_is, matched_silent, GoesTo, goes_to, says_acted, served_tasks, asks, tells}
+use Rattle.common_lemmas.proofs.Numbers.{unequal_above}
 
 -- an entry that a task accepts, and one that a task calls
 abbrev pub is_accepted : Sort → Bool
@@ -334,7 +335,7 @@ module _ (x : Setting) where
             (ap (λ v. offers x.p.ops (waits_with (opens f i)) (image x w.tasks v)) owner' ∙ offers_at x.p.ops (waits_with (opens f i)) (image x w.tasks o) m image_o opened)
 
         outside : (t : ℕ) → x.p.size ≤ t → tasks' t ≡ w.tasks t
-        outside t h = put_other (put w.tasks o opener) c t served (above_apart t c (omega (arith, h, cl))) ∙ put_other w.tasks o t opener (above_apart t o (omega (arith, h, ol)))
+        outside t h = put_other (put w.tasks o opener) c t served (unequal_above t c (omega (arith, h, cl))) ∙ put_other w.tasks o t opener (unequal_above t o (omega (arith, h, ol)))
 
         seats : (u : ℕ) → u < x.p.size → SeatAt x (place (Acted o) u) u (tasks' u)
         seats u h = put_each P (put w.tasks o opener) c served u

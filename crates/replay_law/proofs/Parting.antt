@@ -11,7 +11,6 @@ use Rattle.event_machine.specs.Effects.{released_first}
 use Rattle.event_machine.specs.Programs.{Program, numbered}
 use Rattle.event_machine.specs.Worlds.{World, Happen, happens, acted, moved}
 use Rattle.event_machine.specs.Soundness.{IsSound}
-use Rattle.event_machine.proofs.Basics.{equal_self}
 use Rattle.event_machine.proofs.Offering.{finish_is}
 use Rattle.event_machine.proofs.Sound.{first_served}
 use Rattle.replay_law.specs.Permits.{ToFinish, permit_of, Op, Go, Done, Join, Hold}
@@ -19,7 +18,7 @@ use Rattle.replay_law.specs.Scripts.{takers, grants}
 use Rattle.replay_law.specs.Copies.{Copy, Based, Holding, Saying, Controlling, Handing, copy_resumed, ops_offer, under, is_own}
 use Rattle.replay_law.specs.Rewritings.{Setting, control, idle, left, twin}
 use Rattle.replay_law.specs.inner.Stages.{image, image_world, image_seat, Stage, Held, Giving, Asked, Acted, Told, Parted, Over, Away, Asks, Holds, Says, Hears, place, member, AwayAt, SeatAt, ControlAt, behind_event, Fits, Inv}
-use Rattle.replay_law.proofs.Facts.{put, put_each, put_other, put_self, offers_at, above_apart, below_apart, is_beyond, let_go, let_go_served}
+use Rattle.replay_law.proofs.Facts.{put, put_each, put_other, put_self, offers_at, below_apart, let_go, let_go_served}
 use Rattle.replay_law.proofs.Images.{image_at, image_put, image_beyond, image_keeps, image_served, image_let_go, past_completed}
 use Rattle.replay_law.proofs.Voices.{finishes_by}
 use Rattle.replay_law.proofs.Reached.{after_all, reached_sound}
@@ -29,6 +28,7 @@ use Rattle.replay_law.proofs.Afterwards.{Matched, permitted_in, after_event}
 use Rattle.replay_law.proofs.Situations.{IsCalling, Ended, EndedGo, EndedDone, EndedBoth}
 use Rattle.replay_law.proofs.Singles.{Moves, matched_event, unless_below, image_live, sole, away_then}
 use Rattle.replay_law.proofs.Silently.{matched_silent, unseen}
+use Rattle.common_lemmas.proofs.Numbers.{equal_self, lt_false, unequal_above}
 
 -- what the end of a rendezvous makes of the tasks
 pub parted_is : {L : Type 0} (p : Program L) (tasks : ℕ → Seat L) (a : ℕ) (k : L) (c : ℕ) (callers : List ℕ) → tasks a ≡ live k → p.ops.callers k ≡ c ∷ callers → (c == a) ≡ false →
@@ -101,11 +101,11 @@ module _ (x : Setting) where
     freed_tasks ops k = put (put w.tasks (control x) (live (Controlling ops))) b (live k)
 
     freed_outside : (ops : List Op) (k : Copy x.L) (t : ℕ) → control x < t → freed_tasks ops k t ≡ w.tasks t
-    freed_outside ops k t l = put_other (put w.tasks (control x) (live (Controlling ops))) b t (live k) (above_apart t b (omega (arith, l, below))) ∙
-        put_other w.tasks (control x) t (live (Controlling ops)) (above_apart t (control x) l)
+    freed_outside ops k t l = put_other (put w.tasks (control x) (live (Controlling ops))) b t (live k) (unequal_above t b (omega (arith, l, below))) ∙
+        put_other w.tasks (control x) t (live (Controlling ops)) (unequal_above t (control x) l)
 
     freed_control : (ops : List Op) (k : Copy x.L) → freed_tasks ops k (control x) ≡ live (Controlling ops)
-    freed_control ops k = put_other (put w.tasks (control x) (live (Controlling ops))) b (control x) (live k) (above_apart (control x) b below) ∙
+    freed_control ops k = put_other (put w.tasks (control x) (live (Controlling ops))) b (control x) (live k) (unequal_above (control x) b below) ∙
         put_self w.tasks (control x) (live (Controlling ops))
 
     pub freed_image : (ops : List Op) (k own : Copy x.L) → w.tasks b ≡ record { local = own; standing = Served (control x) false } → under x.p.ops.nobody k ≡ under x.p.ops.nobody own →
@@ -289,8 +289,8 @@ module _ (x : Setting) where
     parts = subst (Inv x (past ++ (E a ∷ [])) tail (Acted a)) (λ j. record { tasks = sym twin_acts j; ended = w.ended })
         (after_event x past rest (E a) tail (a ∷ []) w inv (Done a) (Acted a) tasks' refl refl
         (offers_at x.p.ops is_finish (image x w.tasks a) l image_a finishes) acts
-        (λ t h. put_other (put w.tasks a (live (Saying a (x.p.ops.finished l)))) caller t (let_go (λ k. resume k) a (w.tasks caller)) (above_apart t caller (omega (arith, h, caller_below))) ∙
-        put_other w.tasks a t (live (Saying a (x.p.ops.finished l))) (above_apart t a (omega (arith, h, below))))
+        (λ t h. put_other (put w.tasks a (live (Saying a (x.p.ops.finished l)))) caller t (let_go (λ k. resume k) a (w.tasks caller)) (unequal_above t caller (omega (arith, h, caller_below))) ∙
+        put_other w.tasks a t (live (Saying a (x.p.ops.finished l))) (unequal_above t a (omega (arith, h, below))))
         (inv.fits.0, below) (λ seat h. h) seats)
       where
         P : ℕ → Seat (Copy x.L) → Type 0
@@ -326,7 +326,7 @@ module _ (x : Setting) where
         go (Commanding ops at q k) = absurd (no_finish ops k)
         go (Serving op ops at q k) =
             let c = part_control past rest w runs stage inv op ops q in
-            matched_silent x past w (E a) (ap (λ b. if b then Some (E a) else None) (is_beyond a x.p.size (omega (arith, at))))
+            matched_silent x past w (E a) (ap (λ b. if b then Some (E a) else None) (lt_false a x.p.size (omega (arith, at))))
             (subst (λ v. Ended x w v) (sym at) c.0)
             (subst (λ v. Matched x past (moved (twin x) w (Happen (E v)))) (sym at) c.1)
         go (Resting at k) = absurd (true≢false (sym k))

@@ -14,7 +14,7 @@ use Rattle.event_machine.specs.Programs.{Program, numbered}
 use Rattle.event_machine.specs.Tallies.{tallies, ComesTo}
 use Rattle.event_machine.specs.Laws.{IsQuiet}
 use Rattle.event_machine.specs.Worlds.{World, Move, Step, Happen, still, world_of, can_move, moved, happens, happened, AreMoves, world_after}
-use Rattle.event_machine.proofs.Basics.{both, not_false}
+use Rattle.event_machine.proofs.Basics.{both}
 use Rattle.event_machine.proofs.Standings.{is-Live}
 use Rattle.event_machine.proofs.Following.{happens_rest}
 use Rattle.event_machine.proofs.Determining.{determinacy, killed_by_events}
@@ -30,6 +30,7 @@ use Rattle.replay_law.proofs.Arriving.{Had, had, had_step}
 use Rattle.replay_law.proofs.Tracking.{Tracks, run_tracks, lifted, original_run, original_events, original_world, same_output}
 use Rattle.replay_law.proofs.Catching.{follow_moves_of}
 use Rattle.replay_law.proofs.Continuing.{tracked_tidy, suited_there, lined_there, goes_on_there}
+use Rattle.common_lemmas.proofs.Truth.{not_true}
 
 module _ (x : Setting) where
   -- ---- the original at rest
@@ -90,12 +91,12 @@ module _ (x : Setting) where
         -- the rewritten program has no move
         no_move : (move : Move) → can_move program (world_of (end_of (numbered program) at actions)) move ≡ true → ⊥
         no_move (Step t) h =
-            let runs : (end_of (numbered program) at actions).ended ≡ false = not_false (end_of (numbered program) at actions).ended
+            let runs : (end_of (numbered program) at actions).ended ≡ false = not_true (end_of (numbered program) at actions).ended
             (and_parts (not (end_of (numbered program) at actions).ended) (is_live ((world_of (end_of (numbered program) at actions)).tasks t).standing && ops.can_step ((end_of (numbered program) at actions).seats t).local) h).0 in
             stuck (Local t) (had_step program imitates.rests (end_of (numbered program) at actions) (suited_there x ops out Meets imitates at opens actions run) (lined_there x ops out Meets imitates at opens actions run) runs t h)
         no_move (Happen e) h =
             let parts = and_parts (not (end_of (numbered program) at actions).ended) (happens program (world_of (end_of (numbered program) at actions)).tasks e) h in
-            let runs : (end_of (numbered program) at actions).ended ≡ false = not_false (end_of (numbered program) at actions).ended parts.0 in
+            let runs : (end_of (numbered program) at actions).ended ≡ false = not_true (end_of (numbered program) at actions).ended parts.0 in
             let a : Had program imitates.rests (end_of (numbered program) at actions) e =
             had program imitates.rests (end_of (numbered program) at actions) (suited_there x ops out Meets imitates at opens actions run) (lined_there x ops out Meets imitates at opens actions run) runs
             (tracked_tidy x ops out Meets imitates (shown x program out at actions) (world_of (end_of (numbered program) at actions)) k runs) e parts.1 in
@@ -119,7 +120,7 @@ module _ (x : Setting) where
             reach = subst (λ s. LocalsAt x ops out Meets imitates s ((world_of (end_of (numbered program) at actions)).tasks t).local (k.w.tasks t).local) free (k.alike t).locals
 
             steps : ops.can_step ((world_of (end_of (numbered program) at actions)).tasks t).local ≡ true → ⊥
-            steps can = no_move (Step t) (both (ap not (k.ended ∙ not_false k.w.ended parts.0)) (both (ap is_live ((k.alike t).standing ∙ free)) can))
+            steps can = no_move (Step t) (both (ap not (k.ended ∙ not_true k.w.ended parts.0)) (both (ap is_live ((k.alike t).standing ∙ free)) can))
 
             go : (n : ℕ) → ReachesIn x ops out Meets n ((world_of (end_of (numbered program) at actions)).tasks t).local (k.w.tasks t).local → ⊥
             go zero r = steps (imitates.steps ((world_of (end_of (numbered program) at actions)).tasks t).local (k.w.tasks t).local r more.1).0

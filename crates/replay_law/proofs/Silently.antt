@@ -7,19 +7,19 @@ use Rattle.event_machine.specs.declared.Event.{Event}
 use Rattle.event_machine.specs.declared.Event.TheVariants.{R, E, S, D, C, T, F, X, B, Z}
 use Rattle.event_machine.specs.Seats.{Seat, live, is_completed}
 use Rattle.event_machine.specs.Worlds.{World, Happen, moved}
-use Rattle.event_machine.proofs.Basics.{equal_self}
 use Rattle.replay_law.specs.Permits.{Permit, permit_of, Op, Go, Done, Join, Hold}
 use Rattle.replay_law.specs.Scripts.{grants}
 use Rattle.replay_law.specs.Copies.{Copy, Based, Saying, Controlling, Handing, under}
 use Rattle.replay_law.specs.Rewritings.{Setting, control, idle, left, twin}
 use Rattle.replay_law.specs.Laws.{back}
 use Rattle.replay_law.specs.inner.Stages.{image, image_seat, IsReached, Stage, Held, Giving, Asked, Acted, Told, Parted, Over, Away, Asks, Holds, Says, Hears, Gone, place, member, SeatAt, ControlAt, behind_event, Fits, Inv}
-use Rattle.replay_law.proofs.Facts.{put, put_each, put_other, put_self, above_apart, below_apart}
+use Rattle.replay_law.proofs.Facts.{put, put_each, put_other, put_self, below_apart}
 use Rattle.replay_law.proofs.Images.{image_beyond, image_keeps}
 use Rattle.replay_law.proofs.Reached.{after_all}
 use Rattle.replay_law.proofs.Afterwards.{Matched}
 use Rattle.replay_law.proofs.Situations.{Situation}
 use Rattle.replay_law.proofs.Singles.{Moves}
+use Rattle.common_lemmas.proofs.Numbers.{equal_self, unequal_above}
 
 -- a rendezvous that starts: the acceptor is so, and the caller is served
 abbrev pub met_with : {L : Type 0} → (ℕ → Seat L) → ℕ → ℕ → L → ℕ → Seat L
@@ -142,11 +142,11 @@ module _ (x : Setting) where
     served_tasks k own = put (put w.tasks (control x) (live k)) c (record { local = own; standing = Served (control x) false })
 
     apart : (control x == c) ≡ false
-    apart = above_apart (control x) c below
+    apart = unequal_above (control x) c below
 
     served_outside : (k own : Copy x.L) (t : ℕ) → control x < t → served_tasks k own t ≡ w.tasks t
-    served_outside k own t l = put_other (put w.tasks (control x) (live k)) c t (record { local = own; standing = Served (control x) false }) (above_apart t c (omega (arith, l, below))) ∙
-        put_other w.tasks (control x) t (live k) (above_apart t (control x) l)
+    served_outside k own t l = put_other (put w.tasks (control x) (live k)) c t (record { local = own; standing = Served (control x) false }) (unequal_above t c (omega (arith, l, below))) ∙
+        put_other w.tasks (control x) t (live k) (unequal_above t (control x) l)
 
     served_control : (k own : Copy x.L) → served_tasks k own (control x) ≡ live k
     served_control k own = put_other (put w.tasks (control x) (live k)) c (control x) (record { local = own; standing = Served (control x) false }) apart ∙

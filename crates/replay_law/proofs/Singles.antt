@@ -21,7 +21,7 @@ use Rattle.replay_law.specs.Copies.{Copy, Holding, Saying, copy_did, ops_offer, 
 use Rattle.replay_law.specs.Rewritings.{Setting, twin}
 use Rattle.replay_law.specs.Laws.{back, backs, unless_added, at_entry, stands_for}
 use Rattle.replay_law.specs.inner.Stages.{image, image_world, image_seat, Stage, Giving, Acted, Away, Holds, Says, place, SeatAt, Inv}
-use Rattle.replay_law.proofs.Facts.{put, put_each, put_other, offers_at, above_apart, is_below}
+use Rattle.replay_law.proofs.Facts.{put, put_each, put_other, offers_at}
 use Rattle.replay_law.proofs.Images.{image_at, image_freed}
 use Rattle.replay_law.proofs.Voices.{CallsBy, MeetCall, ElseCall, ExpireCall, FailCall, calls_by, else_by, delay_by}
 use Rattle.replay_law.proofs.Reached.{after_all, reached_admitted}
@@ -30,6 +30,7 @@ use Rattle.replay_law.proofs.Telling.{of_else, of_delay, of_call_else, of_expire
 use Rattle.replay_law.proofs.Speaking.{Speaks, Asking, Using, Refused, Reporting, Commanding, Serving, Resting, speaks}
 use Rattle.replay_law.proofs.Situations.{Situation}
 use Rattle.replay_law.proofs.Afterwards.{Matched, Permitted, permitted_in, after_event}
+use Rattle.common_lemmas.proofs.Numbers.{lt_true, unequal_above}
 
 module _ (x : Setting) where
   -- Where the tasks are at the event, and behind it some stage holds, with one event more where it stands for one.
@@ -43,7 +44,7 @@ module _ (x : Setting) where
   matched_event past w e f h at m = (at, subst (λ es. Matched x (past ++ es) (moved (twin x) w (Happen e))) (sym (backs_some e f h)) m)
 
   pub unless_below : (t : ℕ) (e : Event) → t < x.p.size → unless_added x t e ≡ Some e
-  unless_below t e m = ap (λ b. if b then Some e else None) (is_below t x.p.size m)
+  unless_below t e m = ap (λ b. if b then Some e else None) (lt_true t x.p.size m)
 
   pub back_shadow : (make : ℕ → Event) (e f : ℕ) → e ≡ x.n.shadow f → at_entry make (stands_for (x.n.sort e)) ≡ Some (make f)
   back_shadow make e f q = ap (λ s. at_entry make (stands_for s)) (ap x.n.sort q ∙ x.numbers.shadow f)
@@ -73,7 +74,7 @@ module _ (x : Setting) where
       stage = Acted a;
       inv = after_event x past rest e tail (a ∷ []) w inv (Done a) (Acted a) (put w.tasks a (live (g (w.tasks a).local))) c more holds
           (acts ∙ sym (image_freed x w.tasks a (g (w.tasks a).local) f m (ap (under x.p.ops.nobody) now ∙ ap (λ (y : Seat (Copy x.L)). f (under x.p.ops.nobody y.local)) (sym at))))
-          (λ t k. put_other w.tasks a t (live (g (w.tasks a).local)) (above_apart t a (omega (arith, k, m))))
+          (λ t k. put_other w.tasks a t (live (g (w.tasks a).local)) (unequal_above t a (omega (arith, k, m))))
           (inv.fits.0, m)
           (λ seat k. k)
           seats;

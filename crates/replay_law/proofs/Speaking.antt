@@ -8,7 +8,7 @@ use Rattle.event_machine.specs.declared.Standing.{Standing}
 use Rattle.event_machine.specs.declared.Standing.TheVariants.{Live, Waiting, Queued, Served, Completed, Killed}
 use Rattle.event_machine.specs.declared.Event.{Event}
 use Rattle.event_machine.specs.Offers.{Offer, Nothing, Calls, Waits, Finishes}
-use Rattle.event_machine.specs.Seats.{Seat, live, is_live, is_completed}
+use Rattle.event_machine.specs.Seats.{Seat, live, is_live}
 use Rattle.event_machine.specs.Worlds.{World, offers}
 use Rattle.event_machine.proofs.Basics.{seat_path}
 use Rattle.event_machine.proofs.Standings.{is-Live}
@@ -19,14 +19,7 @@ use Rattle.replay_law.specs.Scripts.{grants}
 use Rattle.replay_law.specs.inner.Stages.{Stage, Held, Giving, Asked, Acted, Told, Parted, Over, Place, Away, Asks, Holds, Says, Hears, Gone, place, member, AwayAt, SeatAt, ControlAt, behind_event, Fits, Inv}
 use Rattle.replay_law.proofs.Facts.{offers_live}
 use Rattle.replay_law.proofs.Reached.{after_all}
-
-live_idle : (s : Standing) → is_completed s ≡ true → is_live s ≡ false
-live_idle Live h = absurd (true≢false (sym h))
-live_idle Waiting h = refl
-live_idle Queued h = refl
-live_idle (Served by abnormal) h = refl
-live_idle Completed h = refl
-live_idle Killed h = refl
+use Rattle.event_machine.proofs.Returning.{completed_idle}
 
 module _ (x : Setting) (stage : Stage) (w : World (Copy x.L)) (test : Offer → Bool) where
   -- A task whose offer passes the test.
@@ -135,7 +128,7 @@ module _ (x : Setting) (stage : Stage) (w : World (Copy x.L)) (test : Offer → 
           (λ (k : suc x.p.size ≤ a). ⊎_elim
           (λ (j : a < suc (suc x.p.size)). let e : a ≡ idle x = omega arith in
           Resting e (sym (ap (λ (y : Seat (Copy x.L)). test (copy_offer x.p.ops x.n y.local)) (ap w.tasks e ∙ inv.idles)) ∙ passes))
-          (λ (j : suc (suc x.p.size) ≤ a). not_live refl (live_idle (w.tasks a).standing (inv.beyond a j)))
+          (λ (j : suc (suc x.p.size) ≤ a). not_live refl (completed_idle (w.tasks a).standing (inv.beyond a j)))
           (cases_lt a (suc (suc x.p.size))))
           (cases_lt a (suc x.p.size)))
           (cases_lt a x.p.size)

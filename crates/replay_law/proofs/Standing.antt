@@ -13,11 +13,11 @@ use Rattle.replay_law.specs.Permits.{Permit, permit_of, Op, Go, Done, Join}
 use Rattle.replay_law.specs.Scripts.{takers, grants, is_other}
 use Rattle.replay_law.specs.Copies.{Copy, Based, is_own}
 use Rattle.replay_law.specs.Rewritings.{Setting, control, left}
-use Rattle.event_machine.proofs.Basics.{equal_self}
 use Rattle.replay_law.specs.inner.Stages.{IsReached, image, image_world, free_of, Stage, Held, Giving, Asked, Acted, Told, Parted, Over, Place, Away, Asks, Holds, Says, Hears, Gone, place, member, in_order, AwayAt, SeatAt, ControlAt, behind_event, Fits, Inv}
-use Rattle.replay_law.proofs.Facts.{below_apart, is_below}
+use Rattle.replay_law.proofs.Facts.{below_apart}
 use Rattle.replay_law.proofs.Images.{image_at}
 use Rattle.replay_law.proofs.Reached.{after_all, reached_others}
+use Rattle.common_lemmas.proofs.Numbers.{equal_self, lt_true}
 
 module _ (x : Setting) where
   -- ---- places
@@ -145,8 +145,8 @@ module _ (x : Setting) where
       (inl (times_member (suc c) (x.progress.others (after_all x past)) 0 (reached_others x past (image_world x w) r (suc c) runs h ∙ ap (λ b. if b then 1 else 0) other)))
     where
       other : is_other x.p (image_world x w) (suc c) ≡ true
-      other = and_from (nat_lt 0 (suc c)) (nat_lt (suc c) x.p.size && is_live (image x w.tasks (suc c)).standing) (is_below 0 (suc c) (omega arith))
-          (and_from (nat_lt (suc c) x.p.size) (is_live (image x w.tasks (suc c)).standing) (is_below (suc c) x.p.size m) (ap is_live l))
+      other = and_from (nat_lt 0 (suc c)) (nat_lt (suc c) x.p.size && is_live (image x w.tasks (suc c)).standing) (lt_true 0 (suc c) (omega arith))
+          (and_from (nat_lt (suc c) x.p.size) (is_live (image x w.tasks (suc c)).standing) (lt_true (suc c) x.p.size m) (ap is_live l))
 
   -- the controller has not completed while a task still asks for a permit
   pub control_open : (past rest : List Event) (stage : Stage) (w : World (Copy x.L)) (c : ℕ) (l : x.L) → Inv x past rest stage w → w.ended ≡ false → c < x.p.size →

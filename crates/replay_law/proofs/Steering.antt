@@ -12,7 +12,7 @@ use Rattle.event_machine.specs.Offers.{Nothing, Calls, calls_in, is_any_form, wa
 use Rattle.event_machine.specs.Seats.{Seat, live, is_live, is_closed, is_completed}
 use Rattle.event_machine.specs.Programs.{numbered}
 use Rattle.event_machine.specs.Worlds.{World, Move, Step, Happen, can_move, moved, acted, happened, is_last, offers, AreMoves, world_after}
-use Rattle.event_machine.proofs.Basics.{both, equal_self, same_member-refl, seat_path}
+use Rattle.event_machine.proofs.Basics.{both, same_member-refl, seat_path}
 use Rattle.event_machine.proofs.Standings.{is-Live}
 use Rattle.replay_law.specs.Permits.{Permit, permit_of, Op, Go, Done, Join}
 use Rattle.replay_law.specs.Scripts.{grants}
@@ -20,7 +20,7 @@ use Rattle.replay_law.specs.Copies.{Copy, Based, Holding, Saying, Controlling, H
 use Rattle.replay_law.specs.Rewritings.{Setting, control, left, twin}
 use Rattle.replay_law.specs.Laws.{back, backs, at_entry, stands_for}
 use Rattle.replay_law.specs.inner.Stages.{image, image_seat, image_world, free_of, Stage, Held, Giving, Asked, Acted, Told, Parted, Over, Away, Asks, Holds, Says, Hears, place, member, AwayAt, SeatAt, behind_event, Inv}
-use Rattle.replay_law.proofs.Facts.{put, offers_at, below_apart, is_beyond, let_go, let_go_served}
+use Rattle.replay_law.proofs.Facts.{put, offers_at, below_apart, let_go, let_go_served}
 use Rattle.replay_law.proofs.Images.{image_at, image_beyond}
 use Rattle.replay_law.proofs.Reached.{after_all}
 use Rattle.replay_law.proofs.Silently.{served_tasks, served_image, asks, tells}
@@ -29,6 +29,7 @@ use Rattle.replay_law.proofs.Parting.{IsReady, next, parted_is, freed_tasks, fre
 use Rattle.replay_law.proofs.Failing.{joins, live_below}
 use Rattle.replay_law.proofs.Standing.{away_free}
 use Rattle.replay_law.proofs.Matching.{Steps, step_inv, step_image}
+use Rattle.common_lemmas.proofs.Numbers.{equal_self, lt_false}
 
 completed_closed : (s : Standing) → is_completed s ≡ true → is_closed s ≡ true
 completed_closed Live h = absurd (true≢false (sym h))
@@ -97,7 +98,7 @@ module _ (x : Setting) where
     can = both (ap not runs) (offers_at (twin x).ops is_finish (w.tasks (control x)) (Handing op ops) commands refl);
     inv = subst (Inv x past rest next') (λ j. record { tasks = sym acts j; ended = w.ended }) there;
     same = ap (λ g. image x g) acts ∙ freed_image x past rest w b m ops k own at same;
-    none = ap (λ c. if c then Some (E (control x)) else None) (is_beyond (control x) x.p.size (omega arith));
+    none = ap (λ c. if c then Some (E (control x)) else None) (lt_false (control x) x.p.size (omega arith));
     more = refl;
   }
     where

@@ -11,7 +11,6 @@ use Rattle.event_machine.specs.Runs.{IsRun, end_of, events_of}
 use Rattle.event_machine.specs.Programs.{Program, numbered}
 use Rattle.event_machine.specs.Worlds.{World, Move, Step, Happen, still, still_seat, world_of, state_of, can_move, moved, happens, happened, is_last, AreMoves, world_after}
 use Rattle.event_machine.specs.Laws.{IsErased, IsLifted}
-use Rattle.event_machine.proofs.Basics.{equal_self, not_false}
 use Rattle.event_machine.proofs.Standings.{is-Live}
 use Rattle.event_machine.proofs.Appends.{happened_append}
 use Rattle.event_machine.proofs.Erasing.{erasing}
@@ -21,13 +20,15 @@ use Rattle.replay_law.specs.Copies.{Copy, Based, Holding, Saying, Controlling, H
 use Rattle.replay_law.specs.Rewritings.{Setting, start, control, idle, left, twin, start_copy, ReachesIn, Reaches, Imitates, OpensSo}
 use Rattle.replay_law.specs.Laws.{back, backs, shown, IsReplay, Replays}
 use Rattle.replay_law.specs.inner.Stages.{IsReached, image_seat, image_world, Stage, Away, place, SeatAt, ControlAt, Inv}
-use Rattle.replay_law.proofs.Facts.{put, is_below, is_beyond, above_apart}
+use Rattle.replay_law.proofs.Facts.{put}
 use Rattle.replay_law.proofs.Images.{image_at}
 use Rattle.replay_law.proofs.Reached.{after_all, base, reach_start}
 use Rattle.replay_law.proofs.Parting.{Next, next}
 use Rattle.replay_law.proofs.Standing.{seat_own}
 use Rattle.replay_law.proofs.Matching.{who_steps, step_inv, event_moves}
 use Rattle.replay_law.proofs.Alike.{rewritten, LocalsAt, IsAlike, AreAlike, locals_output, happens_too, freed_alike, acts_alike}
+use Rattle.common_lemmas.proofs.Numbers.{equal_self, lt_false, lt_true, unequal_above}
+use Rattle.common_lemmas.proofs.Truth.{not_true}
 
 pub backs_append : (x : Setting) (xs ys : List Event) → backs x (xs ++ ys) ≡ backs x xs ++ backs x ys
 backs_append x [] ys = refl
@@ -50,11 +51,11 @@ written_own out nobody Idling h = absurd (true≢false (sym h))
 module _ (x : Setting) where
   pub start_own : (t : ℕ) → t < x.p.size → start_copy x t ≡ live (Based t (x.opening.seats t).local)
   start_own t m = ap (λ b. if b then live (Based t (x.opening.seats t).local)
-      else (if t == control x then live (Controlling (left x x.progress.start x.s)) else (if t == idle x then live Idling else completed Idling))) (is_below t x.p.size m)
+      else (if t == control x then live (Controlling (left x x.progress.start x.s)) else (if t == idle x then live Idling else completed Idling))) (lt_true t x.p.size m)
 
   start_other : (t : ℕ) → x.p.size ≤ t → start_copy x t ≡ (if t == control x then live (Controlling (left x x.progress.start x.s)) else (if t == idle x then live Idling else completed Idling))
   start_other t m = ap (λ b. if b then live (Based t (x.opening.seats t).local)
-      else (if t == control x then live (Controlling (left x x.progress.start x.s)) else (if t == idle x then live Idling else completed Idling))) (is_beyond t x.p.size m)
+      else (if t == control x then live (Controlling (left x x.progress.start x.s)) else (if t == idle x then live Idling else completed Idling))) (lt_false t x.p.size m)
 
   pub start_control : start_copy x (control x) ≡ live (Controlling (left x x.progress.start x.s))
   start_control = start_other (control x) (omega arith) ∙
@@ -62,13 +63,13 @@ module _ (x : Setting) where
 
   pub start_idle : start_copy x (idle x) ≡ live Idling
   start_idle = start_other (idle x) (omega arith) ∙
-      ap (λ b. if b then live (Controlling (left x x.progress.start x.s)) else (if idle x == idle x then live Idling else completed Idling)) (above_apart (idle x) (control x) (omega arith)) ∙
+      ap (λ b. if b then live (Controlling (left x x.progress.start x.s)) else (if idle x == idle x then live Idling else completed Idling)) (unequal_above (idle x) (control x) (omega arith)) ∙
       ap (λ b. if b then live Idling else completed Idling) (equal_self (idle x))
 
   pub start_past : (t : ℕ) → suc (suc x.p.size) ≤ t → start_copy x t ≡ completed Idling
   start_past t m = start_other t (omega (arith, m)) ∙
-      ap (λ b. if b then live (Controlling (left x x.progress.start x.s)) else (if t == idle x then live Idling else completed Idling)) (above_apart t (control x) (omega (arith, m))) ∙
-      ap (λ b. if b then live Idling else completed Idling) (above_apart t (idle x) (omega (arith, m)))
+      ap (λ b. if b then live (Controlling (left x x.progress.start x.s)) else (if t == idle x then live Idling else completed Idling)) (unequal_above t (control x) (omega (arith, m))) ∙
+      ap (λ b. if b then live Idling else completed Idling) (unequal_above t (idle x) (omega (arith, m)))
 
   abbrev pub start_world : World (Copy x.L)
   start_world = record { tasks = start_copy x; ended = false }
@@ -160,11 +161,11 @@ module _ (x : Setting) where
         reach = subst (λ s. LocalsAt x ops out Meets imitates s (v.tasks t).local (k.w.tasks t).local) free (k.alike t).locals
 
         go : (n : ℕ) → ReachesIn x ops out Meets n (v.tasks t).local (k.w.tasks t).local → Tracks past (moved program v (Step t))
-        go zero r = with_copy past v t k (not_false v.ended parts.0) free r more.1
+        go zero r = with_copy past v t k (not_true v.ended parts.0) free r more.1
         go (suc n) r = nearer past v t k n free r.2
     track_move past v (Happen e) k h =
         let parts = and_parts (not v.ended) (happens program v.tasks e) h in
-        let runs : k.w.ended ≡ false = sym k.ended ∙ not_false v.ended parts.0 in
+        let runs : k.w.ended ≡ false = sym k.ended ∙ not_true v.ended parts.0 in
         let m = event_moves x past k.rest k.stage k.w k.inv runs e (happens_too x ops out Meets imitates v.tasks k.w.tasks k.alike e parts.1) in
         record {
           rest = m.1.rest;

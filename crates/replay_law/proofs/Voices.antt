@@ -7,9 +7,10 @@ use Rattle.event_machine.specs.declared.CallForm.TheVariants.{Plain, Conditional
 use Rattle.event_machine.specs.declared.Choice.TheVariants.{Accept, Terminate}
 use Rattle.event_machine.specs.Offers.{Offer, Calls, Waits, Ends, calls_in, is_any_form, is_conditional, is_timed, waits_with, is_finish, is_end, opens, is_else, is_delay, is_terminate}
 use Rattle.event_machine.specs.Worlds.{aborts}
-use Rattle.event_machine.proofs.Basics.{same_member-true, not_false}
+use Rattle.event_machine.proofs.Basics.{same_member-true}
 use Rattle.replay_law.specs.Permits.{Permit, ToMeet, ToFinish, ToElse, ToDelay, ToCallElse, ToExpire, ToFail, ToEnd, ToAbort, ToClose, wants}
 use Rattle.replay_law.specs.Copies.{Spots, shows}
+use Rattle.common_lemmas.proofs.Truth.{not_true}
 
 -- one of the two parts of an `or` whose second part is false
 first_part : (a b : Bool) → (a || b) ≡ true → b ≡ false → a ≡ true
@@ -178,7 +179,7 @@ module _ (n : Spots) (t : ℕ) (offer : Offer) where
   ends_by (ToCallElse f j) w h = absurd (true≢false (sym h))
   ends_by (ToExpire f j) w h = absurd (true≢false (sym h))
   ends_by (ToFail f j) w h = absurd (true≢false (sym h))
-  ends_by ToEnd w h = let k = and_parts (not (t == 0)) (is_end offer) w in inl (refl, not_false (t == 0) k.0, k.1)
+  ends_by ToEnd w h = let k = and_parts (not (t == 0)) (is_end offer) w in inl (refl, not_true (t == 0) k.0, k.1)
   ends_by (ToAbort v) w h = absurd (true≢false (sym h))
   ends_by ToClose w h = go (t == 0) refl w h
     where

@@ -10,6 +10,7 @@ use Rattle.syn_event.specs.declared.numbering.EntryInfo.{EntryInfo}
 use Rattle.replay_asking.specs.Voice.{Voice}
 use Rattle.replay_numbering.specs.Replayed.{lists_from, infos_of, infos_from}
 use Rattle.replay_numbering.specs.inner.Owners.{put_at, put_for}
+use Rattle.common_lemmas.proofs.Numbers.{unequal}
 
 -- ---- lists by their owners
 
@@ -53,18 +54,11 @@ set-at [] k d l x within is = absurd (omega (arith, within))
 set-at (m ∷ ls) zero d l x within is = ap (λ i. i ∷ map (λ l. l.items) ls) is
 set-at (m ∷ ls) (suc k) d l x within is = ap (λ i. m.items ∷ i) (set-at ls k d l x (omega (arith, within)) is)
 
-differ : (a b : ℕ) → (a ≡ b → ⊥) → (a == b) ≡ false
-differ a b apart = by (a == b) refl
-  where
-    by : (c : Bool) → (a == b) ≡ c → (a == b) ≡ false
-    by false is = is
-    by true is = absurd (apart ((Decides-eqb a b).0 is))
-
 -- where no list is the owner's
 pub none-for : (x : EntryInfo) (ls : List (List EntryInfo)) (t : ℕ) → (x.owner < t) ⊎ (t + length ls ≤ x.owner) → put_for x ls t ≡ ls
 none-for x [] t out = refl
 none-for x (l ∷ ls) t out =
-    let other : (x.owner == t) ≡ false = differ x.owner t (λ e. elim out [ inl h ↦ omega (arith, h, e) | inr h ↦ omega (arith, h, e) ]) in
+    let other : (x.owner == t) ≡ false = unequal x.owner t (λ e. elim out [ inl h ↦ omega (arith, h, e) | inr h ↦ omega (arith, h, e) ]) in
     λ i. cond (other i) (l ++ x ∷ []) l ∷ none-for x ls (t + 1) (further out) i
   where
     further : (x.owner < t) ⊎ (t + suc (length ls) ≤ x.owner) → (x.owner < t + 1) ⊎ (t + 1 + length ls ≤ x.owner)
@@ -79,7 +73,7 @@ at-owner x (l ∷ ls) t zero is within =
     let rest : put_for x ls (t + 1) ≡ ls = none-for x ls (t + 1) (inl (omega (arith, is))) in
     sym (λ i. cond (own i) (l ++ x ∷ []) l ∷ rest i)
 at-owner x (l ∷ ls) t (suc k) is within =
-    let other : (x.owner == t) ≡ false = differ x.owner t (λ e. omega (arith, is, e)) in
+    let other : (x.owner == t) ≡ false = unequal x.owner t (λ e. omega (arith, is, e)) in
     let rest : put_for x ls (t + 1) ≡ put_at k x ls = sym (at-owner x ls (t + 1) k (omega (arith, is)) (omega (arith, within))) in
     sym (λ i. cond (other i) (l ++ x ∷ []) l ∷ rest i)
 

@@ -12,9 +12,7 @@ use Rattle.event_machine.specs.Worlds.{still}
 use Rattle.event_progress.specs.Known.{Party, Known, is_closed as known_closed}
 use Rattle.event_progress.proofs.Parties.{known_below}
 use Rattle.replay_progress.specs.ByEvents.{others}
-
-zero_more : (n : ℕ) → 0 + n ≡ n
-zero_more n = omega arith
+use Rattle.common_lemmas.proofs.Numbers.{zero_more}
 
 -- ---- a list, and what a test keeps of it
 

@@ -15,6 +15,7 @@ use Rattle.replay_model.specs.ReplayNumbers.{plain_info, double_info, own_entrie
 use Rattle.replay_spots.specs.Places.{total, original_place, counts}
 use Rattle.replay_spots.proofs.Sorted.{less-rest, not-less, original-within}
 use Rattle.replay_spots.proofs.Placed.{end-is}
+use Rattle.common_lemmas.proofs.Lists.{all_kept}
 
 -- what stands in front of a place behind the first list
 take-past : {A : Type 0} (xs ys : List A) (n m : ℕ) → n ≡ length xs → take (n + m) (xs ++ ys) ≡ xs ++ take m ys
@@ -35,17 +36,9 @@ kept-all : (xs : List EntryInfo) → AllByRecursion (λ (x : EntryInfo). x.added
 kept-all [] h = refl
 kept-all (x ∷ xs) h = ap₂ (λ b l. cond (not b) (x ∷ l) l) h.0 (kept-all xs h.1)
 
-filter-keeps : {A : Type 0} (P : A → Type 0) (f : A → Bool) (xs : List A) → AllByRecursion P xs → AllByRecursion P (filter f xs)
-filter-keeps P f [] h = tt
-filter-keeps P f (x ∷ xs) h = by_test (f x) (filter-keeps P f xs h.1)
-  where
-    by_test : (b : Bool) → AllByRecursion P (filter f xs) → AllByRecursion P (cond b (x ∷ filter f xs) (filter f xs))
-    by_test true k = (h.0, k)
-    by_test false k = k
-
 module _ (g : Setting) (original : AllByRecursion (λ (x : EntryInfo). x.added ≡ false) g.numbers.entries) where
   own-original : (t : ℕ) → AllByRecursion (λ (x : EntryInfo). x.added ≡ false) (own_entries g.numbers t)
-  own-original t = filter-keeps (λ (x : EntryInfo). x.added ≡ false) (λ x. x.owner == t) g.numbers.entries original
+  own-original t = all_kept (λ (x : EntryInfo). x.added ≡ false) (λ x. x.owner == t) g.numbers.entries original
 
   doubles-none : (xs : List EntryInfo) → kept (map (double_info g.program) xs) ≡ []
   doubles-none [] = refl

@@ -16,13 +16,15 @@ use Rattle.replay_model.specs.Names.{go_text, done_text, hold_text, stop_text, r
 use Rattle.replay_model.specs.ReplayTree.{last_task}
 use Rattle.replay_model.specs.ReplayNumbers.{plain_info, family_info, double_info, own_entries, more_infos, all_infos, added_infos, numbers_replayed}
 use Rattle.replay_law.specs.Copies.{Spots}
-use Rattle.rewritten_types.proofs.Lookups.{some-same}
 use Rattle.replay_texts.proofs.Rooted.{ids-apart}
 use Rattle.replay_texts.proofs.Stripped.{place-mapped}
 use Rattle.replay_spots.specs.Places.{total, end_place, original_place, counts, entries_from, text_spots}
 use Rattle.replay_spots.specs.Laws.{IsInOrder, EntriesAreFound, AreFound, AddedAreFound}
-use Rattle.replay_spots.proofs.Sorted.{chosen, passed, yes-less, no-less, not-less, original-within}
+use Rattle.replay_spots.proofs.Sorted.{not-less, original-within}
 use Rattle.replay_spots.proofs.Placed.{end-is, total-is}
+use Rattle.common_lemmas.proofs.Numbers.{lt_false, lt_true}
+use Rattle.common_lemmas.proofs.Options.{some_same}
+use Rattle.common_lemmas.proofs.Truth.{if_false, if_true}
 
 -- ---- the first place that passes
 
@@ -55,7 +57,7 @@ module _ (f : EntryInfo → Bool) where
       by_test true h later = absurd (let z : ⊥ = omega (arith, h) in z)
       by_test false h later = ap (λ n. 1 + n) (later (omega (arith, h))) ∙ (let e : 1 + (length xs + first ys) ≡ suc (length xs) + first ys = omega arith in e)
 
-  -- one behind which nothing passed
+  -- one behind which nothing if_false
   more : (x : EntryInfo) (xs : List EntryInfo) → f x ≡ false → first xs ≡ length xs → first (x ∷ xs) ≡ suc (length xs)
   more x xs e h = ap (λ b. cond (not b) (1 + first xs) 0) e ∙ (let s : 1 + first xs ≡ suc (length xs) = omega (arith, h) in s)
 
@@ -63,13 +65,13 @@ module _ (f : EntryInfo → Bool) where
   both-past xs ys h k = past xs ys h ∙ ap (λ n. length xs + n) k ∙ sym (length-append xs ys)
 
   pub there : (xs : List EntryInfo) → first xs < length xs → position f xs ≡ Some (first xs)
-  there xs h = ap (λ b. cond b (Some (first xs)) None) (yes-less (first xs) (length xs) h)
+  there xs h = ap (λ b. cond b (Some (first xs)) None) (lt_true (first xs) (length xs) h)
 
   found-at : (xs : List EntryInfo) (i : ℕ) → position f xs ≡ Some i → (first xs ≡ i) × (first xs < length xs)
   found-at xs i e = by_test (nat_lt (first xs) (length xs)) refl e
     where
       by_test : (b : Bool) → nat_lt (first xs) (length xs) ≡ b → cond b (Some (first xs)) None ≡ Some i → (first xs ≡ i) × (first xs < length xs)
-      by_test true k g = (some-same g, ltb-true _ _ k)
+      by_test true k g = (some_same g, ltb-true _ _ k)
       by_test false k g = absurd (none-some i g)
 
 -- the test of a look-up
@@ -148,11 +150,11 @@ module _ (g : Setting) (u : ℕ) (test : EntryInfo → Bool) (test-other : (x : 
       Goal = first test (more_infos g t ++ after) ≡ original_place (length (own_entries g.numbers t) ∷ counts g.numbers n (t + 1)) (first test (own_entries g.numbers t ++ rest))
 
       place-first : (m : ℕ) → m < k → original_place (k ∷ counts g.numbers n (t + 1)) m ≡ m
-      place-first m l = chosen (nat_lt m k) _ _ (yes-less m k l)
+      place-first m l = if_true (nat_lt m k) _ _ (lt_true m k l)
 
       place-behind : (m : ℕ) → original_place (k ∷ counts g.numbers n (t + 1)) (k + m) ≡ (k + k + 2) + original_place (counts g.numbers n (t + 1)) m
       place-behind m =
-          passed (nat_lt (k + m) k) _ _ (no-less (k + m) k (omega arith)) ∙ ap (λ j. (k + k + 2) + original_place (counts g.numbers n (t + 1)) j) (let e : (k + m) - k ≡ m = omega arith in e)
+          if_false (nat_lt (k + m) k) _ _ (lt_false (k + m) k (omega arith)) ∙ ap (λ j. (k + k + 2) + original_place (counts g.numbers n (t + 1)) j) (let e : (k + m) - k ≡ m = omega arith in e)
 
       more-length : length (more_infos g t) ≡ k + k + 2
       more-length =
@@ -225,13 +227,13 @@ entries_are_found far g order u id e named = by_place (position (looks u id) g.n
     ks = counts g.numbers (last_task g.numbers) 1
 
     near : (i : ℕ) → i < total ks → (text_spots far g).original (suc i) ≡ suc (original_place ks i)
-    near i l = chosen (nat_lt i (total ks)) _ _ (yes-less i (total ks) l)
+    near i l = if_true (nat_lt i (total ks)) _ _ (lt_true i (total ks) l)
 
     by_place : (o : Option ℕ) → position (looks u id) g.numbers.entries ≡ o → option_map (λ k. k + 1) o ≡ Some e → entry_named (numbers_replayed g) u id ≡ Some ((text_spots far g).original e)
     by_place None at k = absurd (none-some e k)
     by_place (Some i) at k =
         let f = first-own g u (looks u id) (looks-other u id) i order at in
-        let one : suc i ≡ e = (let s = some-same k in omega (arith, s)) in
+        let one : suc i ≡ e = (let s = some_same k in omega (arith, s)) in
         looked g u id (original_place ks i) f.1 f.2
         ∙ ap Some ((let s : original_place ks i + 1 ≡ suc (original_place ks i) = omega arith in s) ∙ sym (near i f.0) ∙ ap (text_spots far g).original one)
 

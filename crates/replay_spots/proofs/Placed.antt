@@ -15,7 +15,9 @@ use Rattle.replay_law.specs.Copies.{Spots, HasOwners}
 use Rattle.rewritten_types.proofs.Lookups.{place-more}
 use Rattle.replay_spots.specs.Places.{total, end_place, original_place, double_place, never_place, join_place, bound, number_or, counts, entries_from, text_spots}
 use Rattle.replay_spots.specs.Laws.{IsInOrder, IsThere, AreThere, SpotsAreThere, SpotsHaveOwners}
-use Rattle.replay_spots.proofs.Sorted.{not-less, no-same, chosen, passed, yes-less, no-less}
+use Rattle.replay_spots.proofs.Sorted.{not-less}
+use Rattle.common_lemmas.proofs.Numbers.{lt_false, lt_true, unequal_above}
+use Rattle.common_lemmas.proofs.Truth.{if_false, if_true}
 
 -- ---- places in lists
 
@@ -41,7 +43,7 @@ back-again k i h = omega (arith, h)
 
 -- an entry by its place
 pub entry-suc : (numbers : Numbering) (m : ℕ) → entry_at numbers (suc m) ≡ slice_get numbers.entries m
-entry-suc numbers m = passed (suc m == 0) _ _ (no-same (suc m) 0 (omega arith)) ∙ ap (slice_get numbers.entries) (let s : suc m - 1 ≡ m = omega arith in s)
+entry-suc numbers m = if_false (suc m == 0) _ _ (unequal_above (suc m) 0 (omega arith)) ∙ ap (slice_get numbers.entries) (let s : suc m - 1 ≡ m = omega arith in s)
 
 module _ (g : Setting) where
   abbrev own : ℕ → List EntryInfo
@@ -175,13 +177,13 @@ module _ (g : Setting) where
 
   -- a number of what is there, and of what is not
   near : (n i : ℕ) (f h : ℕ → ℕ) → i < n → number_or ks n f h (suc i) ≡ suc (f i)
-  near n i f h l = chosen (nat_lt i n) _ _ (yes-less i n l)
+  near n i f h l = if_true (nat_lt i n) _ _ (lt_true i n l)
 
   nobody : (m : ℕ) → bound ks ≤ m → owner_of Q (suc m) ≡ 0
   nobody m h = ap (λ o. option_map_or (λ (info : EntryInfo). info.owner) o 0) (entry-by m ∙ ap (option_map (with_origin (replay_names g.program) infos)) (past-end infos m (subst (λ n. n ≤ m) (sym length-is) h)))
 
   nobody-far : (n i : ℕ) (f h : ℕ → ℕ) → n ≤ i → owner_of Q (number_or ks n f h (suc i)) ≡ 0
-  nobody-far n i f h l = ap (owner_of Q) (passed (nat_lt i n) _ _ (no-less i n l)) ∙ nobody (bound ks + h (suc i)) (omega arith)
+  nobody-far n i f h l = ap (owner_of Q) (if_false (nat_lt i n) _ _ (lt_false i n l)) ∙ nobody (bound ks + h (suc i)) (omega arith)
 
   pub owner-there : (e : ℕ) (x : EntryInfo) → IsThere Q e x → owner_of Q e ≡ x.owner
   owner-there e x h = ap (λ o. option_map_or (λ (info : EntryInfo). info.owner) o 0) h.at ∙ h.same.owner

@@ -5,71 +5,49 @@ use Rattle.std.proofs.lemmas.Bool.{ltb-true}
 use Rattle.replay_law.specs.Copies.{Sort, AtOriginal, AtShadow, AtGo, AtDone, AtHold, AtJoin, AtNever, AtStop, AtRest}
 use Rattle.replay_spots.specs.Laws.{SpotsAreNumbered}
 use Rattle.replay_spots.specs.Places.{total, end_place, original_place, double_place, never_place, join_place, behind, last_sort, sort_at, bound, number_or, sort_of}
+use Rattle.common_lemmas.proofs.Numbers.{le_false, le_true, lt_false, lt_true, one_more, unequal_above, zero_more}
+use Rattle.common_lemmas.proofs.Truth.{if_false, if_true}
 
 -- ---- tests
-
-pub no-less : (m n : ℕ) → n ≤ m → nat_lt m n ≡ false
-no-less m n h = grind (arith, nat_tests)
-
-pub yes-less : (m n : ℕ) → m < n → nat_lt m n ≡ true
-yes-less m n h = grind (arith, nat_tests)
-
-pub no-same : (m n : ℕ) → n < m → (m == n) ≡ false
-no-same m n h = grind (arith, nat_tests)
 
 yes-same : (m n : ℕ) → m ≡ n → (m == n) ≡ true
 yes-same m n h = grind (arith, nat_tests)
 
-yes-most : (m n : ℕ) → m ≤ n → nat_le m n ≡ true
-yes-most m n h = grind (arith, nat_tests)
-
-no-most : (m n : ℕ) → n < m → nat_le m n ≡ false
-no-most m n h = grind (arith, nat_tests)
-
 pub not-less : (m n : ℕ) → nat_lt m n ≡ false → n ≤ m
 not-less m n e = grind (arith, nat_tests)
-
--- a choice of which the test is known
-pub chosen : {A : Type 0} (b : Bool) (x y : A) → b ≡ true → (if b then x else y) ≡ x
-chosen true x y e = refl
-chosen false x y e = cc
-
-pub passed : {A : Type 0} (b : Bool) (x y : A) → b ≡ false → (if b then x else y) ≡ y
-passed false x y e = refl
-passed true x y e = cc
 
 -- ---- one task
 
 module _ (k : ℕ) (ks : List ℕ) where
   at-own : (m : ℕ) → m < k → sort_at (k ∷ ks) m ≡ AtOriginal m
-  at-own m h = chosen (nat_lt m k) _ _ (yes-less m k h)
+  at-own m h = if_true (nat_lt m k) _ _ (lt_true m k h)
 
   -- what is behind the task's own entries
   past-own : (m : ℕ) → k ≤ m → sort_at (k ∷ ks) m
       ≡ (if nat_lt m (k + k) then AtShadow (m - k) else if m == k + k then AtNever 0 else if m == k + k + 1 then AtJoin 0 else behind k (sort_at ks (m - (k + k + 2))))
-  past-own m h = passed (nat_lt m k) _ _ (no-less m k h)
+  past-own m h = if_false (nat_lt m k) _ _ (lt_false m k h)
 
   at-double : (i : ℕ) → i < k → sort_at (k ∷ ks) (k + i) ≡ AtShadow i
-  at-double i h = past-own (k + i) (omega arith) ∙ chosen (nat_lt (k + i) (k + k)) _ _ (yes-less (k + i) (k + k) (omega (arith, h))) ∙ ap AtShadow (let e : (k + i) - k ≡ i = omega arith in e)
+  at-double i h = past-own (k + i) (omega arith) ∙ if_true (nat_lt (k + i) (k + k)) _ _ (lt_true (k + i) (k + k) (omega (arith, h))) ∙ ap AtShadow (let e : (k + i) - k ≡ i = omega arith in e)
 
   at-never : sort_at (k ∷ ks) (k + k) ≡ AtNever 0
   at-never =
-      past-own (k + k) (omega arith) ∙ passed (nat_lt (k + k) (k + k)) _ _ (no-less (k + k) (k + k) (omega arith)) ∙ chosen ((k + k) == (k + k)) _ _ (yes-same (k + k) (k + k) refl)
+      past-own (k + k) (omega arith) ∙ if_false (nat_lt (k + k) (k + k)) _ _ (lt_false (k + k) (k + k) (omega arith)) ∙ if_true ((k + k) == (k + k)) _ _ (yes-same (k + k) (k + k) refl)
 
   at-join : sort_at (k ∷ ks) (k + k + 1) ≡ AtJoin 0
   at-join =
       past-own (k + k + 1) (omega arith)
-      ∙ passed (nat_lt (k + k + 1) (k + k)) _ _ (no-less (k + k + 1) (k + k) (omega arith))
-      ∙ passed ((k + k + 1) == (k + k)) _ _ (no-same (k + k + 1) (k + k) (omega arith))
-      ∙ chosen ((k + k + 1) == (k + k + 1)) _ _ (yes-same (k + k + 1) (k + k + 1) refl)
+      ∙ if_false (nat_lt (k + k + 1) (k + k)) _ _ (lt_false (k + k + 1) (k + k) (omega arith))
+      ∙ if_false ((k + k + 1) == (k + k)) _ _ (unequal_above (k + k + 1) (k + k) (omega arith))
+      ∙ if_true ((k + k + 1) == (k + k + 1)) _ _ (yes-same (k + k + 1) (k + k + 1) refl)
 
   at-behind : (m : ℕ) → sort_at (k ∷ ks) ((k + k + 2) + m) ≡ behind k (sort_at ks m)
   at-behind m =
       let n = (k + k + 2) + m in
       past-own n (omega arith)
-      ∙ passed (nat_lt n (k + k)) _ _ (no-less n (k + k) (omega arith))
-      ∙ passed (n == (k + k)) _ _ (no-same n (k + k) (omega arith))
-      ∙ passed (n == (k + k + 1)) _ _ (no-same n (k + k + 1) (omega arith))
+      ∙ if_false (nat_lt n (k + k)) _ _ (lt_false n (k + k) (omega arith))
+      ∙ if_false (n == (k + k)) _ _ (unequal_above n (k + k) (omega arith))
+      ∙ if_false (n == (k + k + 1)) _ _ (unequal_above n (k + k + 1) (omega arith))
       ∙ ap (λ j. behind k (sort_at ks j)) (let e : n - (k + k + 2) ≡ m = omega arith in e)
 
 -- ---- all tasks
@@ -117,11 +95,8 @@ IsLast x = (k : ℕ) → behind k x ≡ x
 last-behind : (a b j : ℕ) → (a + b) + j ≡ a + (b + j)
 last-behind a b j = omega arith
 
-none-more : (j : ℕ) → 0 + j ≡ j
-none-more j = omega arith
-
 last-at : (ks : List ℕ) (j : ℕ) (x : Sort) → last_sort j ≡ x → IsLast x → sort_at ks (end_place ks + j) ≡ x
-last-at [] j x e l = ap last_sort (none-more j) ∙ e
+last-at [] j x e l = ap last_sort (zero_more j) ∙ e
 last-at (k ∷ ks) j x e l =
     ap (sort_at (k ∷ ks)) (last-behind (k + k + 2) (end_place ks) j)
     ∙ at-behind k ks (end_place ks + j)
@@ -161,11 +136,11 @@ join-within (k ∷ ks) (suc t) h = let l = join-within ks t (omega (arith, h)) i
 module _ (ks : List ℕ) (far : ℕ → Sort) where
   far-number : (x : ℕ) → sort_of ks far (suc (bound ks + x)) ≡ far x
   far-number x =
-      passed (nat_le (suc (bound ks + x)) (bound ks)) _ _ (no-most (suc (bound ks + x)) (bound ks) (omega arith))
+      if_false (nat_le (suc (bound ks + x)) (bound ks)) _ _ (le_false (suc (bound ks + x)) (bound ks) (omega arith))
       ∙ ap far (let e : suc (bound ks + x) - suc (bound ks) ≡ x = omega arith in e)
 
   near-number : (m : ℕ) → suc m ≤ bound ks → sort_of ks far (suc m) ≡ behind 1 (sort_at ks m)
-  near-number m h = chosen (nat_le (suc m) (bound ks)) _ _ (yes-most (suc m) (bound ks) h) ∙ ap (λ j. behind 1 (sort_at ks j)) (let e : suc m - 1 ≡ m = omega arith in e)
+  near-number m h = if_true (nat_le (suc m) (bound ks)) _ _ (le_true (suc m) (bound ks) h) ∙ ap (λ j. behind 1 (sort_at ks j)) (let e : suc m - 1 ≡ m = omega arith in e)
 
   -- what is counted from 1
   counted : (n : ℕ) (near f : ℕ → ℕ) (At : ℕ → Sort) → ((e : ℕ) → far (f e) ≡ At e) → ((i : ℕ) → i < n → near i < end_place ks) → ((i : ℕ) → i < n → behind 1 (sort_at ks (near i)) ≡ At (suc i)) →
@@ -184,13 +159,10 @@ module _ (ks : List ℕ) (far : ℕ → Sort) where
       ∙ ap (behind 1) (last-at ks j x e l)
       ∙ l 1
 
-one-more : (i : ℕ) → 1 + i ≡ suc i
-one-more i = omega arith
-
 pub spots_are_numbered : SpotsAreNumbered
 spots_are_numbered far numbered ks = record {
-  original = counted ks far.sort (total ks) (original_place ks) far.original AtOriginal numbered.original (original-within ks) (λ i h. ap (behind 1) (original-sort ks i h) ∙ ap AtOriginal (one-more i));
-  shadow = counted ks far.sort (total ks) (double_place ks) far.shadow AtShadow numbered.shadow (double-within ks) (λ i h. ap (behind 1) (double-sort ks i h) ∙ ap AtShadow (one-more i));
+  original = counted ks far.sort (total ks) (original_place ks) far.original AtOriginal numbered.original (original-within ks) (λ i h. ap (behind 1) (original-sort ks i h) ∙ ap AtOriginal (one_more i));
+  shadow = counted ks far.sort (total ks) (double_place ks) far.shadow AtShadow numbered.shadow (double-within ks) (λ i h. ap (behind 1) (double-sort ks i h) ∙ ap AtShadow (one_more i));
   go = last-number ks far.sort 0 AtGo (omega arith) refl (λ k. refl);
   done = last-number ks far.sort 1 AtDone (omega arith) refl (λ k. refl);
   hold = last-number ks far.sort 2 AtHold (omega arith) refl (λ k. refl);

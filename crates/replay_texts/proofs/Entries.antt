@@ -24,9 +24,7 @@ use Rattle.replay_texts.proofs.Listed.{more_task, added_tasks}
 use Rattle.replay_texts.proofs.Rooted.{replay-has}
 use Rattle.replay_texts.proofs.Stripped.{strip}
 use Rattle.replay_texts.proofs.Owned.{told}
-
-plus-none : (t : ℕ) → t + 0 ≡ t
-plus-none t = omega arith
+use Rattle.common_lemmas.proofs.Numbers.{more_zero}
 
 plus-more : (t k : ℕ) → t + suc k ≡ (t + 1) + k
 plus-more t k = omega arith
@@ -138,7 +136,7 @@ module _ (n : PProgram) (before : List (List ℕ)) (T U : TypeTable) where
   whole g program all under entries (y ∷ ys) t kept own =
       map-append strip (map (entry_of_task (replay_names n) U t (single_task (more_task n (under y)))) (more_entries n (under y))) (entries_of_tasks (replay_names n) U (t + 1) (map single_task (map (more_task n) (map under ys))))
       ∙ ap₂ (λ (a b : List EntryInfo). a ++ b)
-      (block g program all t y (under y) kept.0.added kept.0.entries (subst (λ v. own_entries g.numbers v ≡ told before T all v y y.unit.entries) (plus-none t) (own 0 y refl) ∙ ap (told before T all t y) (sym (entries y))))
+      (block g program all t y (under y) kept.0.added kept.0.entries (subst (λ v. own_entries g.numbers v ≡ told before T all v y y.unit.entries) (more_zero t) (own 0 y refl) ∙ ap (told before T all t y) (sym (entries y))))
       (whole g program all under entries ys (t + 1) kept.1 (λ k z at. subst (λ v. own_entries g.numbers v ≡ told before T all v z z.unit.entries) (plus-more t k) (own (suc k) z at)))
       ∙ sym (map-append strip (more_infos g t) (all_infos g (length ys) (t + 1)))
 

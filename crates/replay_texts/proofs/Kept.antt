@@ -22,9 +22,10 @@ use Rattle.normal_types.specs.Laws.{IsOrdered, setting_of, AreOwn}
 use Rattle.normal_has_numbers.specs.Laws.{NoneIsDed}
 use Rattle.normal_has_numbers.proofs.Named.{has-folded, has-back, has-flat, has-mapped, added-longer, own-within, own-not-added}
 use Rattle.replay_texts.proofs.Rooted.{replay-begins, text-begins}
-use Rattle.normal_has_numbers.proofs.Tasked.{all-places, under, normal-tasks-of}
+use Rattle.normal_has_numbers.proofs.Tasked.{under, normal-tasks-of}
 use Rattle.normal_has_numbers.proofs.TaskNames.{IsFine, IsNamed, all-fine, all-named, entries-own, family-kept}
 use Rattle.replay_texts.proofs.Entries.{IsKept, IsTaskKept}
+use Rattle.common_lemmas.proofs.Lists.{all_by_place}
 
 module _ (p : PProgram) (ordered : IsOrdered p) (own : AreOwn p p.decls) (ded : NoneIsDed p) where
   abbrev types : TypeTable
@@ -57,9 +58,9 @@ module _ (p : PProgram) (ordered : IsOrdered p) (own : AreOwn p p.decls) (ded : 
 
     -- every task with its entries
     pub all-kept : AllByRecursion (IsTaskKept normal p.names types U (under form)) (numbered_tasks types p)
-    all-kept = all-places (IsTaskKept normal p.names types U (under form)) (numbered_tasks types p) (λ k y at. record {
+    all-kept = all_by_place (IsTaskKept normal p.names types U (under form)) (numbered_tasks types p) (λ k y at. record {
       added = added-kept y (place-all (λ (z : NumberedTask). IsNamed p (under form z).name.name z.name) (numbered_tasks types p) k y (all-named p own ded) at);
-      entries = all-places (IsKept normal p.names types U) y.unit.entries (λ j e there. entry-kept k y at j e there (place-all (EveryEntry (old_names (own_name p))) y.unit.entries j e (its-own k y at) there));
+      entries = all_by_place (IsKept normal p.names types U) y.unit.entries (λ j e there. entry-kept k y at j e there (place-all (EveryEntry (old_names (own_name p))) y.unit.entries j e (its-own k y at) there));
     })
       where
         its-own : (k : ℕ) (y : NumberedTask) → slice_get (numbered_tasks types p) k ≡ Some y → AllByRecursion (EveryEntry (old_names (own_name p))) y.unit.entries
@@ -67,6 +68,6 @@ module _ (p : PProgram) (ordered : IsOrdered p) (own : AreOwn p p.decls) (ded : 
 
   -- none of them is added
   pub all-not-added : AllByRecursion (λ (y : NumberedTask). is_added_name (replay_names normal) (under form y).name.name ≡ false) (numbered_tasks types p)
-  all-not-added = all-places _ (numbered_tasks types p) (λ k y at.
+  all-not-added = all_by_place _ (numbered_tasks types p) (λ k y at.
       added-kept y (place-all (λ (z : NumberedTask). IsNamed p (under form z).name.name z.name) (numbered_tasks types p) k y (all-named p own ded) at)
       ∙ own-not-added p y.name (place-all (IsFine p) (numbered_tasks types p) k y (all-fine p own ded) at).0)

@@ -13,10 +13,10 @@ use Rattle.task_model.specs.Setting.{Setting}
 use Rattle.normal_model.specs.NormalTree.{decls_front, normal_tree}
 use Rattle.replay_model.specs.ReplayTree.{is_added_object, behind_own, permit_declared, more_entries, replay_decl, is_task, is_body, last_task, replay_decls}
 use Rattle.replay_model.specs.Controlling.{control_declared, idle_declared, control_body, idle_body}
-use Rattle.rewritten_types.proofs.Lookups.{all-weaker}
 use Rattle.normal_types.specs.Laws.{setting_of}
 use Rattle.normal_units.proofs.Tasks.{tasks-joined}
 use Rattle.normal_has_numbers.proofs.Listed.{IsPlain, IsOneTask, IsOneBody, tasks-all, bodies-all, first-plain, firsts, vars, tasks, bodies, vars-plain, normal-list}
+use Rattle.common_lemmas.proofs.Lists.{all_weaker}
 
 -- ---- what declarations are
 
@@ -198,10 +198,10 @@ module _ (p : PProgram) (types : TypeTable) (numbers : Numbering) where
       (filter-append f (vars p types numbers ++ tasks p types numbers) (bodies p types numbers) ∙ ap₂ (λ (l k : List PDecl). l ++ k) (filter-append f (vars p types numbers) (tasks p types numbers) ∙ ap₂ (λ (l k : List PDecl). l ++ k) second third) fourth)
 
   firsts-all : (f : PDecl → Bool) (b : Bool) → ((d : PDecl) → IsPlain d → f d ≡ b) → AllByRecursion (λ d. f d ≡ b) (firsts p types numbers)
-  firsts-all f b h = all-weaker IsPlain _ (firsts p types numbers) h (first-plain p.decls [])
+  firsts-all f b h = all_weaker IsPlain _ (firsts p types numbers) h (first-plain p.decls [])
 
   vars-all : (f : PDecl → Bool) (b : Bool) → ((d : PDecl) → IsPlain d → f d ≡ b) → AllByRecursion (λ d. f d ≡ b) (vars p types numbers)
-  vars-all f b h = all-weaker IsPlain _ (vars p types numbers) h (vars-plain p types numbers)
+  vars-all f b h = all_weaker IsPlain _ (vars p types numbers) h (vars-plain p types numbers)
 
   -- the plain ones, the tasks and the bodies
   pub normal-plain : filter (λ d. not (is_task d || is_body d)) (decl_list (normal_tree p types numbers).decls) ≡ firsts p types numbers ++ vars p types numbers
@@ -211,8 +211,8 @@ module _ (p : PProgram) (types : TypeTable) (numbers : Numbering) where
       sorted f (firsts p types numbers) (vars p types numbers) [] []
       (filter-all f (firsts p types numbers) (firsts-all f true (λ d h. ap₂ (λ (a b : Bool). not (a || b)) (plain-tests d h).0 (plain-tests d h).1)))
       (filter-all f (vars p types numbers) (vars-all f true (λ d h. ap₂ (λ (a b : Bool). not (a || b)) (plain-tests d h).0 (plain-tests d h).1)))
-      (filter-none f (tasks p types numbers) (all-weaker IsOneTask _ (tasks p types numbers) (λ d h. ap₂ (λ (a b : Bool). not (a || b)) (task-tests d h).0 (task-tests d h).1) (tasks-all g)))
-      (filter-none f (bodies p types numbers) (all-weaker IsOneBody _ (bodies p types numbers) (λ d h. ap₂ (λ (a b : Bool). not (a || b)) (body-tests d h).0 (body-tests d h).1) (bodies-all g)))
+      (filter-none f (tasks p types numbers) (all_weaker IsOneTask _ (tasks p types numbers) (λ d h. ap₂ (λ (a b : Bool). not (a || b)) (task-tests d h).0 (task-tests d h).1) (tasks-all g)))
+      (filter-none f (bodies p types numbers) (all_weaker IsOneBody _ (bodies p types numbers) (λ d h. ap₂ (λ (a b : Bool). not (a || b)) (body-tests d h).0 (body-tests d h).1) (bodies-all g)))
       ∙ ap (λ l. firsts p types numbers ++ l) (append-nil (vars p types numbers ++ []) ∙ append-nil (vars p types numbers))
 
   pub normal-tasks : filter is_task (decl_list (normal_tree p types numbers).decls) ≡ tasks p types numbers
@@ -221,8 +221,8 @@ module _ (p : PProgram) (types : TypeTable) (numbers : Numbering) where
       sorted is_task [] [] (tasks p types numbers) []
       (filter-none is_task (firsts p types numbers) (firsts-all is_task false (λ d h. (plain-tests d h).0)))
       (filter-none is_task (vars p types numbers) (vars-all is_task false (λ d h. (plain-tests d h).0)))
-      (filter-all is_task (tasks p types numbers) (all-weaker IsOneTask _ (tasks p types numbers) (λ d h. (task-tests d h).0) (tasks-all g)))
-      (filter-none is_task (bodies p types numbers) (all-weaker IsOneBody _ (bodies p types numbers) (λ d h. (body-tests d h).0) (bodies-all g)))
+      (filter-all is_task (tasks p types numbers) (all_weaker IsOneTask _ (tasks p types numbers) (λ d h. (task-tests d h).0) (tasks-all g)))
+      (filter-none is_task (bodies p types numbers) (all_weaker IsOneBody _ (bodies p types numbers) (λ d h. (body-tests d h).0) (bodies-all g)))
       ∙ append-nil (tasks p types numbers)
 
   pub normal-bodies : filter is_body (decl_list (normal_tree p types numbers).decls) ≡ bodies p types numbers
@@ -231,5 +231,5 @@ module _ (p : PProgram) (types : TypeTable) (numbers : Numbering) where
       sorted is_body [] [] [] (bodies p types numbers)
       (filter-none is_body (firsts p types numbers) (firsts-all is_body false (λ d h. (plain-tests d h).1)))
       (filter-none is_body (vars p types numbers) (vars-all is_body false (λ d h. (plain-tests d h).1)))
-      (filter-none is_body (tasks p types numbers) (all-weaker IsOneTask _ (tasks p types numbers) (λ d h. (task-tests d h).1) (tasks-all g)))
-      (filter-all is_body (bodies p types numbers) (all-weaker IsOneBody _ (bodies p types numbers) (λ d h. (body-tests d h).1) (bodies-all g)))
+      (filter-none is_body (tasks p types numbers) (all_weaker IsOneTask _ (tasks p types numbers) (λ d h. (task-tests d h).1) (tasks-all g)))
+      (filter-all is_body (bodies p types numbers) (all_weaker IsOneBody _ (bodies p types numbers) (λ d h. (body-tests d h).1) (bodies-all g)))

@@ -23,10 +23,8 @@ use Rattle.normal_model.proofs.VariablesLemmas.{Begins}
 use Rattle.replay_model.specs.Names.{control_text, idle_text, replay_names, added_id}
 use Rattle.replay_model.specs.ReplayTree.{permit_declared, replay_decl, replay_decls, last_task, normal_setting, script_of, replay_tree}
 use Rattle.replay_model.specs.ReplayNumbers.{all_infos, added_infos, numbers_replayed}
-use Rattle.rewritten_types.proofs.Lookups.{all-append, all-weaker}
 use Rattle.normal_types.specs.Own.{own_name}
 use Rattle.normal_types.specs.Laws.{IsOrdered, setting_of, AreOwn}
-use Rattle.normal_units.proofs.Tasks.{list-of}
 use Rattle.normal_has_numbers.specs.Laws.{NoneIsDed}
 use Rattle.replay_texts.specs.Laws.{ReplayNumbered}
 use Rattle.normal_has_numbers.proofs.Named.{added-longer, own-within, begins-within}
@@ -41,6 +39,8 @@ use Rattle.replay_texts.proofs.Entries.{whole, added-part}
 use Rattle.normal_has_numbers.proofs.TaskNames.{IsNamed, normal-begins, all-named}
 use Rattle.normal_has_numbers.proofs.Numbered.{plain-single}
 use Rattle.replay_texts.proofs.Kept.{all-kept}
+use Rattle.common_lemmas.proofs.Lists.{all_joined, all_weaker}
+use Rattle.syn_event.proofs.DeclLists.{listed_back}
 
 -- ---- each task is a single one
 
@@ -118,12 +118,12 @@ module _ (p : PProgram) (ordered : IsOrdered p) (main : own_name p p.name.name.0
   all-single : AllByRecursion IsSingle (replay_decls form s ops)
   all-single =
       subst (AllByRecursion IsSingle) (sym (replay-list p T numbers ops own s))
-      (all-append IsSingle (firsts p T numbers) _ (all-weaker IsPlain IsSingle _ plain-single (first-plain p.decls []))
-      (all-append IsSingle _ _
-      (all-append IsSingle _ _
-      (all-append IsSingle _ _
-      (all-append IsSingle _ _
-      (all-behind IsSingle normal.names (permit_declared normal s) (vars p T numbers) tt (all-weaker IsPlain IsSingle _ plain-single (vars-plain p T numbers)))
+      (all_joined IsSingle (firsts p T numbers) _ (all_weaker IsPlain IsSingle _ plain-single (first-plain p.decls []))
+      (all_joined IsSingle _ _
+      (all_joined IsSingle _ _
+      (all_joined IsSingle _ _
+      (all_joined IsSingle _ _
+      (all-behind IsSingle normal.names (permit_declared normal s) (vars p T numbers) tt (all_weaker IsPlain IsSingle _ plain-single (vars-plain p T numbers)))
       (task-single form (tasks p T numbers) (tasks-all (setting_of p T numbers))))
       (refl, (refl, tt)))
       (body-single form (bodies p T numbers) (bodies-all (setting_of p T numbers))))
@@ -132,7 +132,7 @@ module _ (p : PProgram) (ordered : IsOrdered p) (main : own_name p p.name.name.0
   -- the tasks of the text
   its-tasks : tasks_of text ≡ map (more_task normal) (map its ys) ++ added_tasks normal s last
   its-tasks =
-      ap tasks_in (list-of (replay_decls form s ops))
+      ap tasks_in (listed_back (replay_decls form s ops))
       ∙ replay-tasks form s ops
       ∙ ap (λ ts. map (more_task normal) ts ++ added_tasks normal s last) (normal-tasks-of p T ordered)
 
@@ -147,7 +147,7 @@ module _ (p : PProgram) (ordered : IsOrdered p) (main : own_name p p.name.name.0
       (info-longer normal.names (replay_names normal) p.name.name (replay-begins normal) (begins-within p.names normal.names p.name.name.0 (normal-begins p T numbers) (own-within p p.name.name.0 main)))
       (map-append (λ (t : PTask). task_info (replay_names normal) t.name.name) (map (more_task normal) (map its ys)) (added_tasks normal s last)
       ∙ ap (λ l. l ++ task_info (replay_names normal) (added_id normal control_text) ∷ task_info (replay_names normal) (added_id normal idle_text) ∷ [])
-      (infos-longer normal its ys (all-weaker (λ (y : NumberedTask). IsNamed p (its y).name.name y.name) _ ys (λ y h. h.within) (all-named p own ded)) ∙ ap (map (λ (t : PTask). task_info normal.names t.name.name)) (sym (normal-tasks-of p T ordered))))
+      (infos-longer normal its ys (all_weaker (λ (y : NumberedTask). IsNamed p (its y).name.name y.name) _ ys (λ y h. h.within) (all-named p own ded)) ∙ ap (map (λ (t : PTask). task_info normal.names t.name.name)) (sym (normal-tasks-of p T ordered))))
 
   -- the entries, but for what they stand for
   entries-are : map strip (entries_of_tasks (replay_names normal) U 1 (map single_task (map (more_task normal) (map its ys) ++ added_tasks normal s last))) ≡ map strip (all_infos form last 1 ++ added_infos normal last)
@@ -172,7 +172,7 @@ module _ (p : PProgram) (ordered : IsOrdered p) (main : own_name p p.name.name.0
 
   numbered : all_numbers U text ≡ numbers_replayed form
   numbered =
-      numbers-single U text (subst (AllByRecursion IsSingle) (sym (list-of (replay_decls form s ops))) all-single)
+      numbers-single U text (subst (AllByRecursion IsSingle) (sym (listed_back (replay_decls form s ops))) all-single)
       ∙ ap (single_numbers (replay_names normal) U p.name.name) its-tasks
       ∙ (λ i. record {
         main = p.name.name;

@@ -12,7 +12,7 @@ use Rattle.syn_event.specs.declared.numbering.EntryInfo.{EntryInfo}
 use Rattle.syn_event.specs.Numbered.{with_origin}
 use Rattle.syn_event.specs.NamedTasks.{NumberedTask}
 use Rattle.syn_event.specs.AllNumbers.{entry_of_task, entries_of_tasks}
-use Rattle.rewritten_types.proofs.Lookups.{some-same}
+use Rattle.common_lemmas.proofs.Options.{some_same}
 
 module _ (names : List (List ℕ)) (types : TypeTable) (all : List EntryInfo) where
   -- the entries of a task with a number
@@ -59,7 +59,7 @@ module _ (names : List (List ℕ)) (types : TypeTable) (all : List EntryInfo) wh
   own-at [] k t u y e at = absurd (none-some y at)
   own-at (z ∷ ys) zero t u y e at =
       let same : t ≡ u = omega (arith, e) in
-      ap (λ v. owned t (all_told v (z ∷ ys))) (sym same) ∙ own-first ys t z ∙ ap (λ (x : NumberedTask). told t x x.unit.entries) (some-same at)
+      ap (λ v. owned t (all_told v (z ∷ ys))) (sym same) ∙ own-first ys t z ∙ ap (λ (x : NumberedTask). told t x x.unit.entries) (some_same at)
   own-at (z ∷ ys) (suc k) t u y e at =
       in-front t u z ys
       ∙ ap₂ (λ (a b : List EntryInfo). a ++ b) (other-block t u (earlier t u k e) z z.unit.entries) (own-at ys k t (u + 1) y (omega (arith, e)) at)

@@ -22,7 +22,6 @@ use Rattle.replay_model.specs.Controlling.{control_declared, idle_declared, cont
 use Rattle.rewritten_types.specs.Agreement.{Rooted}
 use Rattle.rewritten_types.specs.Rewriting.{IsAdded, AreAdded}
 use Rattle.rewritten_types.specs.Laws.{behind}
-use Rattle.rewritten_types.proofs.Lookups.{all-append, all-weaker}
 use Rattle.rewritten_types.proofs.Rooting.{rewritten_is_rooted, rooted_agrees}
 use Rattle.rewritten_values.specs.Values.{old_names}
 use Rattle.normal_types.specs.Own.{own_name}
@@ -36,6 +35,7 @@ use Rattle.normal_has_numbers.proofs.Named.{text-there, Has, has-folded, has-fro
 use Rattle.normal_has_numbers.proofs.Listed.{firsts, vars, tasks, bodies}
 use Rattle.normal_has_numbers.proofs.TaskNames.{normal-begins}
 use Rattle.replay_texts.proofs.Listed.{all-behind, behind-front, front-of, normal-plain, normal-tasks, normal-bodies}
+use Rattle.common_lemmas.proofs.Lists.{all_joined, all_weaker}
 
 -- ---- names
 
@@ -148,14 +148,14 @@ module _ (p : PProgram) (types : TypeTable) (numbers : Numbering) (ops : List Op
       let old = own_name p in
       let g = setting_of p types numbers in
       are-added old (added_of s)
-      (all-append (IsAdded old) _ _
-      (all-append (IsAdded old) _ _
-      (all-append (IsAdded old) _ _
-      (all-append (IsAdded old) _ _
+      (all_joined (IsAdded old) _ _
+      (all_joined (IsAdded old) _ _
+      (all_joined (IsAdded old) _ _
+      (all_joined (IsAdded old) _ _
       (all-behind (IsAdded old) normal.names (permit_declared normal s) (vars p types numbers) (permit-new p types numbers s) (unit-new old (main_unit g) (added_names_are_new g) p.body))
-      (all-weaker _ _ _ (task-added old) (replayed-units form (tasks p types numbers) (tasks-only g))))
+      (all_weaker _ _ _ (task-added old) (replayed-units form (tasks p types numbers) (tasks-only g))))
       (tt, (tt, tt)))
-      (all-weaker _ _ _ (task-added old) (replayed-units form (bodies p types numbers) (bodies-only g))))
+      (all_weaker _ _ _ (task-added old) (replayed-units form (bodies p types numbers) (bodies-only g))))
       (tt, (tt, tt)))
 
 pub replay_is_rooted : ReplayIsRooted

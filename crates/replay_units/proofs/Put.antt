@@ -12,7 +12,7 @@ use Rattle.replay_model.specs.ReplayTree.{behind_own}
 use Rattle.replay_asking.specs.Voice.{Voice}
 use Rattle.replay_rules.specs.Replayed.{body_image}
 use Rattle.replay_ids.specs.Arranged.{voice_at}
-use Rattle.replay_ids.proofs.Composed.{decl_list-of}
+use Rattle.syn_event.proofs.DeclLists.{listed_back}
 
 -- a declaration that comes as a result
 pub decl-put :
@@ -63,7 +63,7 @@ pub objects-put :
     OnOk done (map plain_decl new ≡ behind_own names d (map plain_decl old)) →
     OnOk done (decls_of (map plain_decl new) ≡ decls_of (behind_own names d (decl_list (decls_of (map plain_decl old)))))
 objects-put names d old new (Err e) put = tt
-objects-put names d old new (Ok u) put = ap decls_of (put ∙ ap (behind_own names d) (sym (decl_list-of (map plain_decl old))))
+objects-put names d old new (Ok u) put = ap decls_of (put ∙ ap (behind_own names d) (sym (listed_back (map plain_decl old))))
 
 -- the body of a unit, by the number of a task that runs it
 pub body-put :

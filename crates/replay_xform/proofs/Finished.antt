@@ -19,8 +19,9 @@ use Rattle.replay_asking.specs.Looked.{voice_of}
 use Rattle.replay_rules.specs.Replayed.{body_image}
 use Rattle.replay_ids.specs.Arranged.{decls_image}
 use Rattle.replay_ids.specs.Looking.{AreTables, AreSingle}
-use Rattle.replay_ids.proofs.Composed.{composed, decl_list-of, names-is}
+use Rattle.replay_ids.proofs.Composed.{composed, names-is}
 use Rattle.replay_xform.proofs.Spoken.{main-voice}
+use Rattle.syn_event.proofs.DeclLists.{listed_back}
 
 -- the names of a program, with those that are added
 pub named :
@@ -34,7 +35,7 @@ named q before after decls (Ok u) begins lent step =
     step
     ∙ ap (λ ns. fold interned (with_added ns) (flat_map (double_texts q.names) (tasks_in (map plain_decl decls)))) begins
     ∙ ap (λ (ds : List Decl). fold interned (with_added q.names) (flat_map (double_texts q.names) (tasks_in (map plain_decl ds)))) lent
-    ∙ ap (λ (ds : List PDecl). fold interned (with_added q.names) (flat_map (double_texts q.names) (tasks_in ds))) (sym (decl_list-of (map plain_decl q.decls.items)))
+    ∙ ap (λ (ds : List PDecl). fold interned (with_added q.names) (flat_map (double_texts q.names) (tasks_in ds))) (sym (listed_back (map plain_decl q.decls.items)))
     ∙ names-is (plain_program q)
 
 -- what stands at the head of all units is that of the program
@@ -65,7 +66,7 @@ pub finished :
 finished g ops x q old new names last (Err e) single tables numbers task program copied are is_last is_names is_io is_name is_decls is_body = tt
 finished g ops x q old new names last (Ok u) single tables numbers task program copied are is_last is_names is_io is_name is_decls is_body =
     let named : names ≡ replay_names g.program = are ∙ ap replay_names program in
-    let declared = sym (decl_list-of (map plain_decl old.decls.items)) ∙ ap (λ (p : PProgram). decl_list p.decls) copied in
+    let declared = sym (listed_back (map plain_decl old.decls.items)) ∙ ap (λ (p : PProgram). decl_list p.decls) copied in
     composed g ops (voice_of x) (plain_program new) single (main-voice g x names named tables numbers task)
     (is_names ∙ named)
     (is_io ∙ ap (λ (p : PProgram). p.text_io) copied)

@@ -1,5 +1,5 @@
 -- The marks of entries, one more.
-use Rattle.std.proofs.Common.{◌≡◌, ℕ, zero, suc, ◌+◌, ◌-◌, ◌<◌, ◌≤◌, cond, List, [], ◌∷◌, ◌++◌, length, map, take, slice_get, Option, Some, None, refl, ap, ◌∙◌, arith, ne_eqb}
+use Rattle.std.proofs.Common.{◌≡◌, ℕ, ◌+◌, ◌-◌, ◌<◌, ◌≤◌, cond, List, [], ◌∷◌, ◌++◌, length, map, take, slice_get, Option, Some, None, ap, ◌∙◌, arith, ne_eqb}
 use Rattle.std.proofs.lemmas.List.{take_all}
 use Rattle.ada_tree.specs.declared.naming.NameId.{NameId}
 use Rattle.syn_event.specs.declared.numbering.EntryInfo.{EntryInfo}
@@ -8,11 +8,7 @@ use Rattle.task_model.specs.Setting.{Setting}
 use Rattle.normal_model.specs.Ranges.{range_of_info}
 use Rattle.replay_names.proofs.Places.{mapped_more}
 use Rattle.replay_ids.specs.Looking.{mark_of_range, mark_at}
-
-there : {X : Type 0} (xs : List X) (i : ℕ) → i < length xs → (x : X) × (slice_get xs i ≡ Some x)
-there [] i within = absurd (omega (arith, within))
-there (x ∷ xs) zero within = (x, refl)
-there (x ∷ xs) (suc i) within = there xs i (omega (arith, within))
+use Rattle.common_lemmas.proofs.Lists.{element_at}
 
 next-entry : (g : Setting) (i : ℕ) → entry_at g.numbers (i + 1) ≡ slice_get g.numbers.entries i
 next-entry g i =
@@ -29,7 +25,7 @@ pub marks-turn :
     behind ≡ map (λ info. mark_of_range g.types (range_of_info g (Some info))) (take (i + 1) g.numbers.entries)
 marks-turn g entries i n before behind same within number so_far step =
     let long = ap length same in
-    let x = there g.numbers.entries i (omega (arith, within, long)) in
+    let x = element_at g.numbers.entries i (omega (arith, within, long)) in
     step
     ∙ ap (λ k. before ++ mark_at g k ∷ []) number
     ∙ ap (λ o. before ++ mark_of_range g.types (range_of_info g o) ∷ []) (next-entry g i ∙ x.1)

@@ -10,7 +10,7 @@ use Rattle.ada_tree.specs.Scope.{Scope, Seen, Thing, MainProcedure, meaning}
 use Rattle.ada_tree.specs.RuleDuplicate.{is_predefined, is_among}
 use Rattle.ada_tree.specs.Declaring.{seen_as, with_name, with_names, predefined_names, first_scope, after_decl}
 use Rattle.rewritten_types.specs.Rewriting.{valued, IsFree, AreFree, names_declared, IsUsed, IsUnused}
-use Rattle.rewritten_types.proofs.Lookups.{find-none}
+use Rattle.common_lemmas.proofs.Lists.{found_none}
 
 -- ---- what means nothing
 
@@ -82,7 +82,7 @@ first-here name = record { nothing = none }
     by_name id false e f = ap (option_map (λ (x : Seen). x.thing)) f
 
     none : (id : NameId) → is_predefined id.0 ≡ false → is_among (first_scope name).here id.0 ≡ false → meaning (first_scope name) id ≡ None
-    none id e h = by_name id (name.name.0 == id.0) (or_parts (name.name.0 == id.0) false h).0 (find-none (λ (x : Seen). x.name == id.0) predefined_names (not-first id.0 e))
+    none id e h = by_name id (name.name.0 == id.0) (or_parts (name.name.0 == id.0) false h).0 (found_none (λ (x : Seen). x.name == id.0) predefined_names (not-first id.0 e))
 
 here-name : (thing : Thing) (w : Word) (s : Scope) → InHere s → InHere (with_name thing s w)
 here-name thing w s h = record { nothing = none }

@@ -1,21 +1,14 @@
 -- What is found in a list that got more behind it.
-use Rattle.std.proofs.Common.{◌≡◌, ℕ, zero, suc, Bool, true, false, if◌then◌else◌, List, [], ◌∷◌, ◌++◌, length, find, slice_get, unwrap_or, Some, None, ◌⊎◌, inl, inr, ⊎_elim, refl, sym, ap, ◌∙◌, subst}
+use Rattle.std.proofs.Common.{◌≡◌, ℕ, zero, suc, Bool, true, false, if◌then◌else◌, List, [], ◌∷◌, ◌++◌, length, find, slice_get, Some, None, ◌⊎◌, inl, inr, ⊎_elim, refl, sym, ap, subst}
 use Rattle.std.proofs.lemmas.Option.{none-some}
 use Rattle.std.specs.List.{AllByRecursion}
-
-pub some-same : {A : Type 0} {x y : A} → Some x ≡ Some y → x ≡ y
-some-same {x = x} e = ap (λ o. unwrap_or o x) e
+use Rattle.common_lemmas.proofs.Options.{some_same}
 
 -- what stood at a place stands there still
 pub place-more : {A : Type 0} (xs ys : List A) (k : ℕ) (x : A) → slice_get xs k ≡ Some x → slice_get (xs ++ ys) k ≡ Some x
 place-more [] ys k x e = absurd (none-some x e)
 place-more (y ∷ xs) ys zero x e = e
 place-more (y ∷ xs) ys (suc k) x e = place-more xs ys k x e
-
--- the place behind all others has what is put there
-pub place-last : {A : Type 0} (xs : List A) (y : A) → slice_get (xs ++ y ∷ []) (length xs) ≡ Some y
-place-last [] y = refl
-place-last (x ∷ xs) y = place-last xs y
 
 -- nothing more is found where nothing behind passes
 pub find-more : {A : Type 0} (p : A → Bool) (xs ys : List A) → find p ys ≡ None → find p (xs ++ ys) ≡ find p xs
@@ -28,30 +21,21 @@ find-all P p [] y h e = absurd (none-some y e)
 find-all P p (x ∷ xs) y h e = by_test (p x) (find-all P p xs y h.1) e
   where
     by_test : (b : Bool) → (find p xs ≡ Some y → P y) → (if b then Some x else find p xs) ≡ Some y → P y
-    by_test true rest f = subst P (some-same f) h.0
+    by_test true rest f = subst P (some_same f) h.0
     by_test false rest f = rest f
 
 -- what stands at a place has what all have
 pub place-all : {A : Type 0} (P : A → Type 0) (xs : List A) (k : ℕ) (y : A) → AllByRecursion P xs → slice_get xs k ≡ Some y → P y
 place-all P [] k y h e = absurd (none-some y e)
-place-all P (x ∷ xs) zero y h e = subst P (some-same e) h.0
+place-all P (x ∷ xs) zero y h e = subst P (some_same e) h.0
 place-all P (x ∷ xs) (suc k) y h e = place-all P xs k y h.1 e
-
--- all have more, and those behind too
-pub all-weaker : {A : Type 0} (P Q : A → Type 0) (xs : List A) → ((x : A) → P x → Q x) → AllByRecursion P xs → AllByRecursion Q xs
-all-weaker P Q [] f h = tt
-all-weaker P Q (x ∷ xs) f h = (f x h.0, all-weaker P Q xs f h.1)
-
-pub all-append : {A : Type 0} (P : A → Type 0) (xs ys : List A) → AllByRecursion P xs → AllByRecursion P ys → AllByRecursion P (xs ++ ys)
-all-append P [] ys h k = k
-all-append P (x ∷ xs) ys h k = (h.0, all-append P xs ys h.1 k)
 
 -- what was found first is found first in a list that has the same at each place, and more behind
 pub find-grown : {A : Type 0} (p : A → Bool) (xs ys : List A) → ((i : ℕ) (x : A) → slice_get xs i ≡ Some x → slice_get ys i ≡ Some x) → (y : A) → find p xs ≡ Some y → find p ys ≡ Some y
 find-grown p [] ys g y e = absurd (none-some y e)
 find-grown p (x ∷ xs) [] g y e = absurd (none-some x (g 0 x refl))
 find-grown p (x ∷ xs) (z ∷ zs) g y e =
-    subst (λ v. (if p v then Some v else find p zs) ≡ Some y) (sym (some-same (g 0 x refl))) (by_test (p x) e (find-grown p xs zs (λ i v f. g (suc i) v f) y))
+    subst (λ v. (if p v then Some v else find p zs) ≡ Some y) (sym (some_same (g 0 x refl))) (by_test (p x) e (find-grown p xs zs (λ i v f. g (suc i) v f) y))
   where
     by_test : (b : Bool) → (if b then Some x else find p xs) ≡ Some y → (find p xs ≡ Some y → find p zs ≡ Some y) → (if b then Some x else find p zs) ≡ Some y
     by_test true f rest = f
@@ -81,8 +65,3 @@ find-only {A = A} p (x ∷ xs) y n e = by_test (p x) n (find-only p xs y)
     by_test : (b : Bool) → (if b then Some x else find p xs) ≡ None → (find p xs ≡ None → p y ≡ true → find p (xs ++ y ∷ []) ≡ Some y) → (if b then Some x else find p (xs ++ y ∷ [])) ≡ Some y
     by_test true f rest = absurd (none-some x (sym f))
     by_test false f rest = rest f e
-
--- none is found where none passes
-pub find-none : {A : Type 0} (p : A → Bool) (xs : List A) → AllByRecursion (λ x. p x ≡ false) xs → find p xs ≡ None
-find-none p [] h = refl
-find-none p (x ∷ xs) h = ap (λ b. if b then Some x else find p xs) h.0 ∙ find-none p xs h.1

@@ -16,13 +16,14 @@ use Rattle.ada_tree.specs.Declaring.{predefined_types, first_scope, with_name, w
 use Rattle.rewritten_types.specs.Agreement.{scalar_only, HasKind, Grows, Keeps, IsScalar, mark_of_kind, Sound}
 use Rattle.rewritten_types.specs.Rewriting.{names_declared, IsUnused, DeclareOnce}
 use Rattle.rewritten_types.specs.Laws.{IsNamedKind, KindsAreNamed}
-use Rattle.rewritten_types.proofs.Lookups.{find-grown, find-only, find-none, earlier-or-last, all-weaker}
+use Rattle.rewritten_types.proofs.Lookups.{find-grown, find-only, earlier-or-last}
 use Rattle.rewritten_types.proofs.Keeping.{grows-on, grows-kind, grows-mark}
 use Rattle.rewritten_types.proofs.Adding.{names-types, keeps-decl}
 use Rattle.rewritten_types.proofs.Owning.{own-kept, nobody, all-new}
 use Rattle.rewritten_types.proofs.Soundness.{sound-decl, sound-first}
 use Rattle.rewritten_types.proofs.Fresh.{InHere, first-here, here-decl, unused-free}
 use Rattle.rewritten_types.proofs.Unmarked.{AreUnmarked, decl-before, decl-marks, first-unmarked}
+use Rattle.common_lemmas.proofs.Lists.{all_weaker, found_none}
 
 -- each kind of values has a declared name
 abbrev AreNamed : TypeTable → Type 0
@@ -46,7 +47,7 @@ are-kept old T U keeps h k s = kind-kept T U keeps.grows k (h k (s.0, sym (keeps
 
 -- no mark is of a kind that is not there
 no-mark : (T : TypeTable) → Sound T → mark_of_kind T (length T.kinds) ≡ None
-no-mark T sound = find-none (λ (m : Mark). m.kind == length T.kinds) T.marks (all-weaker (λ (m : Mark). HasKind T m.kind) _ T.marks another sound.marks)
+no-mark T sound = found_none (λ (m : Mark). m.kind == length T.kinds) T.marks (all_weaker (λ (m : Mark). HasKind T m.kind) _ T.marks another sound.marks)
   where
     another : (m : Mark) → HasKind T m.kind → (m.kind == length T.kinds) ≡ false
     another m h =

@@ -1,5 +1,5 @@
 -- A program in which the static rules refuse nothing declares each name of main once.
-use Rattle.std.proofs.Common.{◌≡◌, ℕ, Bool, true, false, ◌&&◌, ◌||◌, ◌==◌, List, [], ◌∷◌, ◌++◌, refl, subst}
+use Rattle.std.proofs.Common.{◌≡◌, ℕ, Bool, true, false, ◌&&◌, ◌||◌, ◌==◌, List, [], ◌∷◌, refl}
 use Rattle.std.specs.List.{AllByRecursion, list_any}
 use Rattle.std.proofs.lemmas.Bool.{or_parts}
 use Rattle.ada_tree.specs.declared.naming.Span.{Span}
@@ -13,32 +13,13 @@ use Rattle.ada_tree.specs.RuleDuplicate.{is_predefined, is_among, fixes, introdu
 use Rattle.ada_tree.specs.Refusals.{by_rule, refused_at, refused_from}
 use Rattle.rewritten_types.specs.Rewriting.{names_declared, IsUnused, DeclareOnce}
 use Rattle.rewritten_types.specs.Laws.{DeclaredOnce}
-use Rattle.rewritten_types.proofs.Lookups.{all-weaker}
+use Rattle.common_lemmas.proofs.Lists.{all_back, all_front, all_weaker, back_empty, front_empty, not_empty}
 
 -- ---- empty lists
 
 abbrev IsFilled : {A : Type 0} → List A → Type 0
 IsFilled [] = ⊥
 IsFilled (x ∷ xs) = Unit {0}
-
-filled-not : {A : Type 0} (x : A) (xs : List A) → x ∷ xs ≡ [] → ⊥
-filled-not x xs e = subst IsFilled e tt
-
-front-empty : {A : Type 0} (xs ys : List A) → xs ++ ys ≡ [] → xs ≡ []
-front-empty [] ys e = refl
-front-empty (x ∷ xs) ys e = absurd (filled-not x (xs ++ ys) e)
-
-back-empty : {A : Type 0} (xs ys : List A) → xs ++ ys ≡ [] → ys ≡ []
-back-empty [] ys e = e
-back-empty (x ∷ xs) ys e = absurd (filled-not x (xs ++ ys) e)
-
-all-front : {A : Type 0} (P : A → Type 0) (xs ys : List A) → AllByRecursion P (xs ++ ys) → AllByRecursion P xs
-all-front P [] ys h = tt
-all-front P (x ∷ xs) ys h = (h.0, all-front P xs ys h.1)
-
-all-back : {A : Type 0} (P : A → Type 0) (xs ys : List A) → AllByRecursion P (xs ++ ys) → AllByRecursion P ys
-all-back P [] ys h = h
-all-back P (x ∷ xs) ys h = all-back P xs ys h.1
 
 -- ---- one place
 
@@ -52,10 +33,10 @@ IsOnce s = DeclaresUnused s.scope s.demand
 
 no_spans : (n : ℕ) (spans : List Span) → by_rule n spans ≡ [] → spans ≡ []
 no_spans n [] e = refl
-no_spans n (s ∷ ss) e = absurd (filled-not _ _ e)
+no_spans n (s ∷ ss) e = absurd (not_empty _ _ e)
 
-no_word : (test : Bool) (w : Word) → at_word test w ≡ [] → test ≡ false
-no_word true w e = absurd (filled-not _ _ e)
+pub no_word : (test : Bool) (w : Word) → at_word test w ≡ [] → test ≡ false
+no_word true w e = absurd (not_empty _ _ e)
 no_word false w e = refl
 
 unused : (before : List Site) (scope : Scope) (fixed : Bool) (w : Word) → duplicate before scope (declares fixed w) ≡ [] → IsUnused scope w
@@ -71,18 +52,18 @@ once-demand before scope (declares fixed w) e = unused before scope fixed w e
 once-demand before scope _ e = tt
 
 -- of what is refused at a place, what rule Duplicate refuses
-no_duplicate : (before : List Site) (s : Site) → refused_at before s ≡ [] → duplicate before s.scope s.demand ≡ []
+pub no_duplicate : (before : List Site) (s : Site) → refused_at before s ≡ [] → duplicate before s.scope s.demand ≡ []
 no_duplicate before s e =
     no_spans 2 _
-    (back-empty _ _
-    (front-empty _ _ (front-empty _ _ (front-empty _ _ (front-empty _ _ (front-empty _ _
-    (front-empty _ _ (front-empty _ _ (front-empty _ _ (front-empty _ _ (front-empty _ _ e)))))))))))
+    (back_empty _ _
+    (front_empty _ _ (front_empty _ _ (front_empty _ _ (front_empty _ _ (front_empty _ _
+    (front_empty _ _ (front_empty _ _ (front_empty _ _ (front_empty _ _ (front_empty _ _ e)))))))))))
 
 all-once : (xs before : List Site) → refused_from before xs ≡ [] → AllByRecursion IsOnce xs
 all-once [] before e = tt
 all-once (x ∷ xs) before e = (
-  once-demand before x.scope x.demand (no_duplicate before x (front-empty (refused_at before x) (refused_from (x ∷ before) xs) e)),
-  all-once xs (x ∷ before) (back-empty (refused_at before x) (refused_from (x ∷ before) xs) e),
+  once-demand before x.scope x.demand (no_duplicate before x (front_empty (refused_at before x) (refused_from (x ∷ before) xs) e)),
+  all-once xs (x ∷ before) (back_empty (refused_at before x) (refused_from (x ∷ before) xs) e),
 )
 
 -- ---- one declaration
@@ -93,11 +74,11 @@ unused-before scope n w h = (h.0, (or_parts (n == w.name.0) (is_among scope.here
 names-once : (fixed : Bool) (ws : List Word) (scope : Scope) → AllByRecursion IsOnce (names_sites fixed scope ws) → AllByRecursion (IsUnused scope) ws
 names-once fixed [] scope h = tt
 names-once fixed (w ∷ ws) scope h =
-    (h.0, all-weaker _ (IsUnused scope) ws (unused-before scope w.name.0) (names-once fixed ws (record scope { here = w.name.0 ∷ scope.here }) h.1))
+    (h.0, all_weaker _ (IsUnused scope) ws (unused-before scope w.name.0) (names-once fixed ws (record scope { here = w.name.0 ∷ scope.here }) h.1))
 
 decl-once : (d : PDecl) (s : Scope) → AllByRecursion IsOnce (decl_sites s d) → AllByRecursion (IsUnused s) (names_declared d)
 decl-once (DNumber name e sp) s h = (h.0, tt)
-decl-once (DObject names constant shape init sp) s h = names-once _ names s (all-front IsOnce _ _ (all-front IsOnce _ _ h))
+decl-once (DObject names constant shape init sp) s h = names-once _ names s (all_front IsOnce _ _ (all_front IsOnce _ _ h))
 decl-once (DEnumeration name literals sp) s h = names-once true (name ∷ literals) s h
 decl-once (DArray name index x sp) s h = (h.0, tt)
 decl-once (DSubtype name x sp) s h = (h.0, tt)
@@ -109,9 +90,9 @@ decl-once (DTaskBody name objects its sp) s h = tt
 
 decls-once : (ds : PDecls) (s : Scope) → AllByRecursion IsOnce (decls_sites s ds) → DeclareOnce s ds
 decls-once no_decl s h = tt
-decls-once (decl_then d rest) s h = (decl-once d s (all-front IsOnce (decl_sites s d) _ h), decls-once rest (after_decl s d) (all-back IsOnce (decl_sites s d) _ h))
+decls-once (decl_then d rest) s h = (decl-once d s (all_front IsOnce (decl_sites s d) _ h), decls-once rest (after_decl s d) (all_back IsOnce (decl_sites s d) _ h))
 
 pub declared_once : DeclaredOnce
 declared_once p e =
     let h : AllByRecursion IsOnce (sites p) = all-once (sites p) [] e in
-    (h.0, decls-once p.decls (first_scope p.name) (all-front IsOnce (decls_sites (first_scope p.name) p.decls) (body_sites (inside (after_decls (first_scope p.name) p.decls)) p.body) h.1))
+    (h.0, decls-once p.decls (first_scope p.name) (all_front IsOnce (decls_sites (first_scope p.name) p.decls) (body_sites (inside (after_decls (first_scope p.name) p.decls)) p.body) h.1))

@@ -14,9 +14,10 @@ use Rattle.ada_tree.specs.Scope.{Scope, Range, EntryPart, Thing, TypeMark, TaskT
 use Rattle.ada_tree.specs.ExprTypes.{static_in, range_between}
 use Rattle.ada_tree.specs.Declaring.{first_scope, with_name, with_names, with_types, add_mark, add_kind, Made, made, made_range, subind_made, made_subind, drange_range, made_array, object_of, task_object, task_array, Declared, of_made, plain_object, array_object, declared_object, constants_for, add_constants, constant_mark, constant_value, with_constants, after_object, renamed, in_body, after_own_object, after_objects, after_decl, after_decls}
 use Rattle.rewritten_types.specs.Agreement.{HasKind, HasMark, Grows, HasPart, Sound}
-use Rattle.rewritten_types.proofs.Lookups.{place-last, place-all, all-weaker, all-append}
+use Rattle.rewritten_types.proofs.Lookups.{place-all}
 use Rattle.rewritten_types.proofs.Keeping.{grows-mark, grows-kind}
 use Rattle.rewritten_types.proofs.Adding.{names-types}
+use Rattle.common_lemmas.proofs.Lists.{all_joined, all_weaker, last_at}
 
 -- ---- one entry more
 
@@ -34,17 +35,17 @@ part-grown T U g (Enumeration names) h = tt
 
 sound-mark : (T : TypeTable) (m : Mark) → Sound T → HasKind T m.kind → Sound (add_mark T m)
 sound-mark T m s h = record {
-  constants = all-weaker _ _ T.constants (λ c. mark-grown T (add_mark T m) (grows-mark T m) c.mark) s.constants;
-  marks = all-append _ T.marks (m ∷ []) s.marks (h, tt);
-  kinds = all-weaker _ _ T.kinds (part-grown T (add_mark T m) (grows-mark T m)) s.kinds;
+  constants = all_weaker _ _ T.constants (λ c. mark-grown T (add_mark T m) (grows-mark T m) c.mark) s.constants;
+  marks = all_joined _ T.marks (m ∷ []) s.marks (h, tt);
+  kinds = all_weaker _ _ T.kinds (part-grown T (add_mark T m) (grows-mark T m)) s.kinds;
   first = mark-grown T (add_mark T m) (grows-mark T m) 0 s.first;
 }
 
 sound-kind : (T : TypeTable) (x : Kind) → Sound T → HasPart T x → Sound (add_kind T x)
 sound-kind T x s h = record {
   constants = s.constants;
-  marks = all-weaker _ _ T.marks (λ m. kind-grown T (add_kind T x) (grows-kind T x) m.kind) s.marks;
-  kinds = all-append _ T.kinds (x ∷ []) (all-weaker _ _ T.kinds (part-grown T (add_kind T x) (grows-kind T x)) s.kinds) (part-grown T (add_kind T x) (grows-kind T x) x h, tt);
+  marks = all_weaker _ _ T.marks (λ m. kind-grown T (add_kind T x) (grows-kind T x) m.kind) s.marks;
+  kinds = all_joined _ T.kinds (x ∷ []) (all_weaker _ _ T.kinds (part-grown T (add_kind T x) (grows-kind T x)) s.kinds) (part-grown T (add_kind T x) (grows-kind T x) x h, tt);
   first = s.first;
 }
 
@@ -59,7 +60,7 @@ HasIf T None = Unit {0}
 
 sound-constants : (T : TypeTable) (names : List Word) (m : Option ℕ) (z : Option ℤ) → Sound T → HasIf T m → Sound (add_constants names m z T)
 sound-constants T names (Some m) (Some z) s h = record {
-  constants = all-append _ T.constants (constants_for names m z) s.constants (constants-sound T names m z h);
+  constants = all_joined _ T.constants (constants_for names m z) s.constants (constants-sound T names m z h);
   marks = s.marks;
   kinds = s.kinds;
   first = s.first;
@@ -74,7 +75,7 @@ abbrev pub IsMade : Made → Type 0
 IsMade d = Sound d.types × HasIf d.types d.mark
 
 sound-made : (T : TypeTable) (m : Mark) → Sound T → HasKind T m.kind → IsMade (made T m)
-sound-made T m s h = (sound-mark T m s h, (m, place-last T.marks m))
+sound-made T m s h = (sound-mark T m s h, (m, last_at T.marks m))
 
 sound-range : (T : TypeTable) (k : ℕ) (a b : Option ℤ) → Sound T → HasKind T k → IsMade (made_range T (range_between k a b))
 sound-range T k (Some a) (Some b) s h = sound-made T _ s h
@@ -128,7 +129,7 @@ sound-subind : (s : Scope) (x : PSubind) → Sound s.types → IsMade (made_subi
 sound-subind s x h = sound-marking s (marking s x.mark.name) x.bounds h (marking-places s.types (meaning s x.mark.name))
 
 sound-array : (name : Option NameId) (T : TypeTable) (r : Option Range) (part : Option ℕ) → Sound T → HasIf T part → IsMade (made_array name T r part)
-sound-array name T (Some r) (Some part) s h = sound-made _ _ (sound-kind T _ s h) (Array r.kind r.first r.last part, place-last T.kinds _)
+sound-array name T (Some r) (Some part) s h = sound-made _ _ (sound-kind T _ s h) (Array r.kind r.first r.last part, last_at T.kinds _)
 sound-array name T (Some r) None s h = (s, tt)
 sound-array name T None part s h = (s, tt)
 
@@ -227,7 +228,7 @@ sound-decl (DNumber name e sp) s h = sound-constants s.types (name ∷ []) (Some
 sound-decl (DObject names constant shape init sp) s h = sound-object s names constant shape init h
 sound-decl (DEnumeration name literals sp) s h =
     sound-named _ literals (with_name _ (with_types _ s) name)
-    (sound-made (add_kind s.types (Enumeration _)) _ (sound-kind s.types (Enumeration _) h tt) (Enumeration _, place-last s.types.kinds (Enumeration _))).0
+    (sound-made (add_kind s.types (Enumeration _)) _ (sound-kind s.types (Enumeration _) h tt) (Enumeration _, last_at s.types.kinds (Enumeration _))).0
 sound-decl (DArray name index x sp) s h = (sound-own s (Some name.name) index x h).0
 sound-decl (DSubtype name x sp) s h = (sound-renamed name (made_subind s x).types (made_subind s x).mark (sound-subind s x h).0).0
 sound-decl (DException names sp) s h = sound-named _ names s h

@@ -16,9 +16,10 @@ use Rattle.ada_tree.specs.Declaring.{predefined_types, predefined_names, before_
 use Rattle.ada_tree.specs.RuleDuplicate.{is_predefined}
 use Rattle.rewritten_types.specs.Rewriting.{valued, IsFree, names_declared, IsUnused, DeclareOnce}
 use Rattle.rewritten_types.specs.Laws.{UnvaluedHasNoMark}
-use Rattle.rewritten_types.proofs.Lookups.{find-more, find-none}
+use Rattle.rewritten_types.proofs.Lookups.{find-more}
 use Rattle.rewritten_types.proofs.Adding.{names-types, keeps-subind, keeps-shape, keeps-objects}
 use Rattle.rewritten_types.proofs.Fresh.{InHere, first-here, here-decl, unused-free}
+use Rattle.common_lemmas.proofs.Lists.{found_none}
 
 -- ---- what is free was free
 
@@ -145,7 +146,7 @@ decls-unmarked (decl_then d rest) s here once h =
 
 -- a name that is none of the first four
 no-type : (n : ℕ) → 3 < n → mark_named predefined_types record { 0 = n } ≡ None
-no-type n l = find-none (λ (x : Mark). is_named record { 0 = n } x.name) predefined_types.marks (less 0 (omega arith), (less 1 (omega arith), (less 2 (omega arith), (less 3 l, tt))))
+no-type n l = found_none (λ (x : Mark). is_named record { 0 = n } x.name) predefined_types.marks (less 0 (omega arith), (less 1 (omega arith), (less 2 (omega arith), (less 3 l, tt))))
   where
     less : (k : ℕ) → k < n → (k == n) ≡ false
     less k m = ne_eqb k n (λ same. let y : ⊥ = omega arith in y)

@@ -15,11 +15,13 @@ use Rattle.ada_tree.specs.WellPlaced.{tokens}
 use Rattle.ada_tree.specs.Scope.{Scope, kind_at}
 use Rattle.ada_tree.specs.Declaring.{first_scope, with_name, with_types, after_decl, after_decls}
 use Rattle.rewritten_types.specs.Agreement.{scalar_only, Keeps}
-use Rattle.rewritten_types.proofs.Lookups.{some-same, earlier-or-last, place-last}
+use Rattle.rewritten_types.proofs.Lookups.{earlier-or-last}
 use Rattle.rewritten_types.proofs.Adding.{names-types, keeps-decl}
 use Rattle.rewritten_types.proofs.Owning.{nobody, all-new}
 use Rattle.rewritten_values.specs.Values.{LiteralsWithin}
 use Rattle.rewritten_values.specs.Laws.{LiteralsAreNamed}
+use Rattle.common_lemmas.proofs.Lists.{last_at}
+use Rattle.common_lemmas.proofs.Options.{some_same}
 
 -- a name that the source can hold is one of the names
 name-within : (names : List (List ℕ)) (n : ℕ) (o : Option (List ℕ)) → slice_get names n ≡ o → IsSomeAnd o IsIdentifier → n < length names
@@ -52,7 +54,7 @@ unfolding ids_of
 within-more n ks new h m k ids e =
     ⊎_elim
     (λ same. h k ids (sym same ∙ e))
-    (λ last. subst (AllByRecursion (λ (id : NameId). id.0 < n)) (ap ids_of (some-same (sym (place-last ks (Enumeration new)) ∙ ap (slice_get (ks ++ Enumeration new ∷ [])) (sym last) ∙ e))) m)
+    (λ last. subst (AllByRecursion (λ (id : NameId). id.0 < n)) (ap ids_of (some_same (sym (last_at ks (Enumeration new)) ∙ ap (slice_get (ks ++ Enumeration new ∷ [])) (sym last) ∙ e))) m)
     (earlier-or-last ks (Enumeration new) k)
 
 module _ (names : List (List ℕ)) where

@@ -18,9 +18,9 @@ use Rattle.ada_value.specs.Values.{kind_of_value, number, word, placed, value_in
 use Rattle.ada_value.specs.Evaluating.{literal_value, constant_value, fixed_value}
 use Rattle.ada_value.specs.Texts.{name_text, literal_text, image}
 use Rattle.rewritten_types.specs.Agreement.{scalar_only, Literal, literal_among, Agrees}
-use Rattle.rewritten_types.proofs.Lookups.{some-same}
 use Rattle.rewritten_values.specs.Values.{is_known, LiteralsWithin}
 use Rattle.rewritten_values.specs.Laws.{TablesAgreeOnValues}
+use Rattle.common_lemmas.proofs.Options.{some_same}
 
 -- ---- what hangs on the kinds of values alone
 
@@ -95,7 +95,7 @@ enumerated (x ∷ rest) k id l e = by_place (position_in id x) refl e (enumerate
   where
     by_place : (o : Option ℕ) → position_in id x ≡ o → first_of_two (option_map (λ n. record { kind = k; position = n }) o) (literal_among rest (suc k) id) ≡ Some l →
         (literal_among rest (suc k) id ≡ Some l → IsEnumerated rest (suc k) l) → IsEnumerated (x ∷ rest) k l
-    by_place (Some n) f g later = subst (IsEnumerated (x ∷ rest) k) (some-same g) (enumerated-here x rest k id n f)
+    by_place (Some n) f g later = subst (IsEnumerated (x ∷ rest) k) (some_same g) (enumerated-here x rest k id n f)
     by_place None f g later = enumerated-behind x rest k l (later g)
 
 -- ---- texts

@@ -3,7 +3,7 @@ use Rattle.std.proofs.Common.{◌≡◌, ℕ, ℤ, ◌^◌, ◌<◌, arith, Bool
 use Rattle.std.proofs.lemmas.Bool.{cases_Bool, and_parts}
 use Rattle.std.specs.Int.{w32, w64}
 use Rattle.std.specs.Int.Signed.{mag}
-use Rattle.std.specs.Prelude.{◌&&◌, is_some, unwrap_or, pos, negsuc, neg_ℤ, zero, suc, ◌≤◌, FitsSigned}
+use Rattle.std.specs.Prelude.{◌&&◌, is_some, pos, negsuc, neg_ℤ, zero, suc, ◌≤◌, FitsSigned}
 use Rattle.event_machine.specs.declared.Event.{Event}
 use Rattle.syn_event.specs.Numbering.{Numbering}
 use Rattle.seq_file.specs.declared.lines.Verdict.TheVariants.{Known, BadNumber}
@@ -11,12 +11,11 @@ use Rattle.text_lines.specs.Capped.{capped, capped_integer}
 use Rattle.seq_file.specs.Known.{is_task, is_member, is_call, is_index, is_known}
 use Rattle.seq_file.specs.Lines.{with_three}
 use Rattle.seq_file.specs.inner.Verdicts.{verdict_of}
-use Rattle.text_lines.proofs.Capping.{clash, some-is, capped-le}
+use Rattle.text_lines.proofs.Capping.{some-is, capped-le}
 use Rattle.seq_file.proofs.Indexing.{index-same, index-exact, index-fits, member-test}
 use Rattle.seq_file.proofs.Knowing.{IsTest, task-test, low-same}
-
-some-integer : {i j : ℤ} → Some i ≡ Some j → i ≡ j
-some-integer h = ap (λ o. unwrap_or o (pos 0)) h
+use Rattle.common_lemmas.proofs.Truth.{clash}
+use Rattle.text_lines.proofs.Narrowing.{integer-is}
 
 pub three-read : (numbers : Numbering) (make : ℕ → ℕ → ℤ → Event) → length numbers.tasks < 2 ^ 32 → length numbers.entries < 2 ^ 32 →
     ((x y : ℕ) (z : ℤ) → is_known numbers (make x y z) ≡ is_call numbers x y z) →
@@ -31,7 +30,7 @@ three-read numbers make ht he is (Some x) (Some y) None m n j a b i k hc h' hi e
 three-read numbers make ht he is (Some x) (Some y) (Some z) m n j a b i k hc h' hi ek small ea eb ei =
     let em : m ≡ capped x = some-is hc in
     let en : n ≡ capped y = some-is h' in
-    let ej : j ≡ capped_integer z = some-integer hi in
+    let ej : j ≡ capped_integer z = integer-is hi in
     let tasks : IsTest (is_task numbers) = task-test numbers ht in
     let members : IsTest (λ e. is_member numbers e z) = member-test numbers z he in
     let kk : k ≡ (is_task numbers x && is_member numbers y z) =
@@ -62,4 +61,4 @@ capped-fits_one (negsuc n) = record { sfits = neg-small (capped (suc n)) (capped
 -- a capped index has 64 bits
 pub capped-fits : (o : Option ℤ) (j : ℤ) → Some j ≡ option_map capped_integer o → FitsSigned w64 j
 capped-fits None j h = clash (sym (ap is_some h))
-capped-fits (Some z) j h = subst (FitsSigned w64) (sym (some-integer h)) (capped-fits_one z)
+capped-fits (Some z) j h = subst (FitsSigned w64) (sym (integer-is h)) (capped-fits_one z)

@@ -1,7 +1,7 @@
 -- A file read event by event: what was read so far, and that one file has one list of events or one first fault.
 use Rattle.std.proofs.Common.{◌≡◌, ◌≢◌, ℕ, ◌+◌, ◌<◌, Bool, true, false, cond, List, [], ◌∷◌, ◌++◌, length, drop, None, Some, refl, ap, ◌∙◌, sym, subst, arith, ◌⊎◌, inl, inr, append_assoc, append-nil, length-append, All}
-use Rattle.std.specs.Prelude.{◌||◌, ◌==◌, is_some, unwrap_or, option_and_then}
-use Rattle.std.proofs.lemmas.Bool.{cases_Bool, lt-ltb, eqb-true, eqb-false}
+use Rattle.std.specs.Prelude.{◌||◌, is_some, unwrap_or, option_and_then}
+use Rattle.std.proofs.lemmas.Bool.{cases_Bool, lt-ltb}
 use Rattle.std.proofs.lemmas.List.Elements.{All-nil, All-head, All-tail, All-push}
 use Rattle.std.proofs.Math.Seq.{drop-append_seam}
 use Rattle.ded_io.specs.Written.{◌⧺◌, each_text}
@@ -18,10 +18,11 @@ use Rattle.seq_file.specs.Known.{is_known}
 use Rattle.text_lines.specs.Lines.{is_line_end, first_line, cut}
 use Rattle.seq_file.specs.Lines.{event_of_line, is_upper_name}
 use Rattle.seq_file.specs.inner.NextEvents.{IsNextEvent, IsEventLine, IsBehindHeader}
-use Rattle.text_lines.proofs.Capping.{clash}
 use Rattle.seq_file.proofs.Heading.{header-sound, header-begins}
 use Rattle.text_lines.proofs.Marking.{left_of, right_of, cut-at_mark, cut-parts, first-line_cut}
 use Rattle.seq_file.proofs.Wording.{event-read, event-free, event-written}
+use Rattle.common_lemmas.proofs.Lists.{never_empty}
+use Rattle.common_lemmas.proofs.Truth.{clash, or_false}
 
 abbrev lines : List Event → List ℕ
 lines events = each_text event_line events
@@ -45,12 +46,9 @@ lines-append [] ys = refl
 lines-append (x ∷ xs) ys =
     ap (λ t. event_line x ++ t) (lines-append xs ys) ∙ sym (append_assoc (event_line x) (lines xs) (lines ys))
 
-nil-clash : {A X : Type 0} (xs : List X) (y : X) (ys : List X) → xs ++ (y ∷ ys) ≡ [] → A
-nil-clash xs y ys h = absurd (omega (arith, ap length h, length-append xs (y ∷ ys)))
-
 lines-nil : (events : List Event) → lines events ++ [] ≡ [] → events ≡ []
 lines-nil [] h = refl
-lines-nil (event ∷ events) h = nil-clash (event_text event) 10 (lines events ++ []) (sym (lines-cons event events []) ∙ h)
+lines-nil (event ∷ events) h = never_empty (event_text event) 10 (lines events ++ []) (sym (lines-cons event events []) ∙ h)
 
 -- the first line of the lines of events
 line-cut : (numbers : Numbering) → IsShort numbers → (event : Event) (events : List Event) (rest : List ℕ) → is_known numbers event ≡ true → cut is_line_end (lines (event ∷ events) ++ rest) ≡ Some (event_text event, lines events ++ rest)
@@ -92,7 +90,7 @@ compare numbers short (x ∷ xs) (y ∷ ys) r s kx ky h =
 not-ended : (xs : List Event) (y : Event) (ys : List Event) → NothingFollowsEnd (xs ++ (y ∷ ys)) → has_ended xs ≡ false
 not-ended [] y ys h = refl
 not-ended (x ∷ xs) y ys h = elim (cases_Bool (is_end x)) [
-  | inl e ↦ nil-clash xs y ys (h.0 e)
+  | inl e ↦ never_empty xs y ys (h.0 e)
   | inr e ↦ ap (λ t. t || has_ended xs) e ∙ not-ended xs y ys h.1
 ]
 
@@ -135,7 +133,7 @@ reads-unique names numbers short bytes xs ys rx ry =
 
 rest-nil : (more : List Event) (rest : List ℕ) → lines more ++ rest ≡ [] → rest ≡ []
 rest-nil [] rest h = h
-rest-nil (event ∷ events) rest h = nil-clash (event_text event) 10 (lines events ++ rest) (sym (lines-cons event events rest) ∙ h)
+rest-nil (event ∷ events) rest h = never_empty (event_text event) 10 (lines events ++ rest) (sym (lines-cons event events rest) ∙ h)
 
 more-nil : (xs all more : List Event) → all ≡ xs ++ more → all ≡ xs → more ≡ []
 more-nil xs all [] e same = refl
@@ -212,12 +210,8 @@ push-follows (x ∷ xs) y h no' = elim (cases_Bool (is_end x)) [
   | inr e ↦ (λ yes'. clash (sym e ∙ yes'), push-follows xs y h.1 (sym (ap (λ t. t || has_ended xs) e) ∙ no'))
 ]
 
-or-no : (b : Bool) → (b || false) ≡ b
-or-no true = refl
-or-no false = refl
-
 pub push-ended : (xs : List Event) (y : Event) → has_ended xs ≡ false → has_ended (xs ++ (y ∷ [])) ≡ is_end y
-push-ended [] y no' = or-no (is_end y)
+push-ended [] y no' = or_false (is_end y)
 push-ended (x ∷ xs) y no' = elim (cases_Bool (is_end x)) [
   | inl e ↦ clash (sym (sym (ap (λ t. t || has_ended xs) e) ∙ no'))
   | inr e ↦ ap (λ t. t || has_ended (xs ++ (y ∷ []))) e ∙ push-ended xs y (sym (ap (λ t. t || has_ended xs) e) ∙ no')
@@ -274,11 +268,3 @@ read-fault bytes numbers names events rest ended error to more fault = inr recor
 pub next-shorter : (numbers : Numbering) (ended : Bool) (count : ℕ) (rest behind : List ℕ) (event : Event) → IsNextEvent numbers ended count rest event behind → length behind < length rest
 next-shorter numbers ended count rest behind event next =
     omega (arith, ap length (cut-parts 10 rest next.line behind next.cuts), length-append next.line (10 ∷ behind))
-
--- a text without bytes, and one with some
-pub nil-by : (xs : List ℕ) → (length xs == 0) ≡ true → xs ≡ []
-nil-by [] h = refl
-nil-by (x ∷ xs) h = absurd (omega (arith, eqb-true (length (x ∷ xs)) 0 h))
-
-pub some-by : (xs : List ℕ) → (length xs == 0) ≡ false → xs ≢ []
-some-by xs h e = eqb-false (length xs) 0 h (ap length e)

@@ -18,9 +18,10 @@ use Rattle.seq_file.specs.Files.{header_line, is_header_of, fault_of_header, hea
 use Rattle.text_lines.specs.Lines.{is_blank, is_line_end, words_of, cut}
 use Rattle.seq_file.specs.Lines.{Header, is_capital, is_name_part, name_goes_on, every, begins, is_upper_name, upper_name, header_with, header_of_words, header_of_line, with_three}
 use Rattle.text_lines.specs.Numerals.{is_digit, count}
-use Rattle.text_lines.proofs.Capping.{clash, capped-small, capped-large}
+use Rattle.text_lines.proofs.Capping.{capped-small, capped-large}
 use Rattle.text_lines.proofs.Marking.{IsFreeOf, free-cons, free-prefix, decimal-free, cut-at_mark, cut-parts, first-line_cut}
 use Rattle.text_lines.proofs.Spelling.{count-of_decimal, word-of_count}
+use Rattle.common_lemmas.proofs.Truth.{clash}
 
 -- a number within 32 bits is not the cap
 pub same-number : (m k : ℕ) → k < 2 ^ 32 → nat_eq (capped m) k ≡ nat_eq m k

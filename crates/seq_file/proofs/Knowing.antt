@@ -1,6 +1,6 @@
 -- Tests of numbers that don't see the cap, and what a line comes to by them.
 use Rattle.std.proofs.Common.{◌≡◌, ℕ, ◌^◌, ◌<◌, ◌≤◌, Bool, true, false, cond, length, ap, ◌∙◌, sym, arith, inl, inr, Some, None, Option, option_map, true≢false}
-use Rattle.std.proofs.lemmas.Bool.{cases_Bool, cases_lt, ltb-true, leb-true, and_parts, and_right}
+use Rattle.std.proofs.lemmas.Bool.{cases_Bool, cases_lt, and_parts, and_right}
 use Rattle.std.specs.Prelude.{◌&&◌, nat_lt, nat_le, is_some}
 use Rattle.event_machine.specs.declared.Event.{Event}
 use Rattle.syn_event.specs.Numbering.{Numbering}
@@ -9,24 +9,14 @@ use Rattle.text_lines.specs.Capped.{capped}
 use Rattle.seq_file.specs.Known.{is_task, is_task_beside_main, is_alternative, is_known}
 use Rattle.seq_file.specs.Lines.{with_two}
 use Rattle.seq_file.specs.inner.Verdicts.{verdict_of}
-use Rattle.text_lines.proofs.Capping.{capped-small, capped-large, clash, some-is}
+use Rattle.text_lines.proofs.Capping.{capped-small, capped-large, some-is}
+use Rattle.common_lemmas.proofs.Numbers.{le_false, lt_false}
+use Rattle.common_lemmas.proofs.Truth.{clash}
 
 -- a test that no number from the cap on passes, and to which the cap is like every such number
 pub record IsTest (P : ℕ → Bool) : Type 0 where
   pub same : (m : ℕ) → P (capped m) ≡ P m
   pub small : (m : ℕ) → P m ≡ true → m < 2 ^ 32
-
-no-lt : (a l : ℕ) → l ≤ a → nat_lt a l ≡ false
-no-lt a l h = elim (cases_Bool (nat_lt a l)) [
-  | inl e ↦ absurd (omega (arith, h, ltb-true a l e))
-  | inr e ↦ e
-]
-
-no-le : (a l : ℕ) → l < a → nat_le a l ≡ false
-no-le a l h = elim (cases_Bool (nat_le a l)) [
-  | inl e ↦ absurd (omega (arith, h, leb-true a l e))
-  | inr e ↦ e
-]
 
 -- a test that fails from the cap on
 pub test_by : (P : ℕ → Bool) → ((m : ℕ) → 2 ^ 32 ≤ m → P m ≡ false) → IsTest P
@@ -42,14 +32,14 @@ test_by P fails = record {
 }
 
 pub task-test : (numbers : Numbering) → length numbers.tasks < 2 ^ 32 → IsTest (is_task numbers)
-task-test numbers h = test_by (is_task numbers) (λ m ge. no-lt m (length numbers.tasks) (omega (arith, h, ge)))
+task-test numbers h = test_by (is_task numbers) (λ m ge. lt_false m (length numbers.tasks) (omega (arith, h, ge)))
 
 pub beside-test : (numbers : Numbering) → length numbers.tasks < 2 ^ 32 → IsTest (is_task_beside_main numbers)
 beside-test numbers h = test_by (is_task_beside_main numbers)
-    (λ m ge. ap (λ t. t && nat_lt 0 m) (no-lt m (length numbers.tasks) (omega (arith, h, ge))))
+    (λ m ge. ap (λ t. t && nat_lt 0 m) (lt_false m (length numbers.tasks) (omega (arith, h, ge))))
 
 pub alternative-test : IsTest is_alternative
-alternative-test = test_by is_alternative (λ m ge. and_right (nat_le 1 m) (nat_le m 32) (no-le m 32 (omega (arith, ge))))
+alternative-test = test_by is_alternative (λ m ge. and_right (nat_le 1 m) (nat_le m 32) (le_false m 32 (omega (arith, ge))))
 
 low-is : (m n a : ℕ) → n ≡ capped m → m < 2 ^ 32 → (n < 2 ^ 32 → a ≡ n) → a ≡ m
 low-is m n a e lt h = let same : n ≡ m = e ∙ capped-small m (omega (arith, lt)) in h (omega (arith, same, lt)) ∙ same

@@ -12,7 +12,7 @@ use Rattle.seq_file.specs.Files.{most_events}
 use Rattle.seq_file.specs.Known.{is_known}
 use Rattle.seq_file.specs.inner.NextEvents.{IsNextEvent, IsEventLine}
 use Rattle.seq_file.specs.inner.Verdicts.{verdict_of}
-use Rattle.text_lines.proofs.Capping.{clash}
+use Rattle.common_lemmas.proofs.Truth.{clash}
 
 abbrev event_in : Verdict → Event
 event_in (Known event) = event

@@ -20,11 +20,11 @@ use Rattle.seq_file.specs.Known.{is_task, is_task_beside_main, is_alternative, i
 use Rattle.text_lines.specs.Lines.{is_blank, words_of}
 use Rattle.seq_file.specs.Lines.{with_two, with_three, lone_event, task_event, pair_event, call_event, event_of_words, event_of_line}
 use Rattle.text_lines.specs.Numerals.{count, integer}
-use Rattle.text_lines.proofs.Capping.{clash}
 use Rattle.seq_file.proofs.Indexing.{fits-index, index-small, member-test}
 use Rattle.seq_file.proofs.Knowing.{IsTest, task-test, beside-test, alternative-test}
 use Rattle.text_lines.proofs.Marking.{IsFreeOf, free-cons, free-one, decimal-free, signed-free}
 use Rattle.text_lines.proofs.Spelling.{count-of_decimal, integer-of_signed, word-of_count, word-of_integer}
+use Rattle.common_lemmas.proofs.Truth.{clash}
 
 abbrev wide : (n : ℕ) → n < 2 ^ 32 → n < 2 ^ 64
 wide n h = omega (arith, h)

@@ -3,3 +3,4 @@ pub mod Nothing
 pub mod Kept
 pub mod NameTexts
 pub mod Weaker
+pub mod DeclLists

@@ -5,12 +5,12 @@ use Rattle.std.proofs.lemmas.Bool.{eqb-true, eqb-false, ne_eqb}
 use Rattle.std.proofs.lemmas.List.{length-set, length-map}
 use Rattle.std.proofs.lemmas.List.Sums.{count_by-le-length}
 use Rattle.event_machine.specs.Soundness.{times}
-use Rattle.event_machine.proofs.Basics.{equal_self}
 use Rattle.event_progress.specs.Known.{Party, Known, party, put, meet, with_server, with_callers, is_by, is_free}
 use Rattle.event_progress.proofs.Parties.{put_self, put_other}
 use Rattle.syn_progress.specs.declared.task_records.Member.{Member}
 use Rattle.syn_progress.specs.TaskRecords.{member_at, chain, open_server, seen, known_of, IsLinked, called, met}
 use Rattle.syn_progress.proofs.Tables.{at_known, at_self, at_other, set_keeps, count_set, count_keeps, count_same, open_same, open_some, open_none, free_parts, open_below, chain_apart, known_by}
+use Rattle.common_lemmas.proofs.Numbers.{equal_self}
 
 module _ (ms : List Member) (served : ℕ) (linked : IsLinked ms served) (c a : ℕ) (caller_free : is_free (known_of ms false) c ≡ true) (acceptor_free : is_free (known_of ms false) a ≡ true)
     (apart : (c == a) ≡ false) where

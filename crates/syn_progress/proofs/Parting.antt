@@ -4,12 +4,12 @@ use Rattle.std.specs.Prelude.{count_by}
 use Rattle.std.proofs.lemmas.Bool.{eqb-true, eqb-false, ne_eqb}
 use Rattle.std.proofs.lemmas.List.{length-set, length-map}
 use Rattle.event_machine.specs.Soundness.{times}
-use Rattle.event_machine.proofs.Basics.{equal_self}
 use Rattle.event_progress.specs.Known.{Party, Known, party, put, part, with_server, with_callers, has_callers, is_by, is_free}
 use Rattle.event_progress.proofs.Parties.{put_self, put_other}
 use Rattle.syn_progress.specs.declared.task_records.Member.{Member}
 use Rattle.syn_progress.specs.TaskRecords.{member_at, chain, open_server, seen, known_of, IsLinked, left, parted}
 use Rattle.syn_progress.proofs.Tables.{at_known, member_below, at_self, at_other, set_keeps, count_set, count_keeps, count_same, is_by-self, open_same, open_some, free_parts, open_below, chain_same, known_by}
+use Rattle.common_lemmas.proofs.Numbers.{equal_self}
 
 -- a task with callers has at least one
 abbrev HasDepth : ℕ → Type 0

@@ -6,10 +6,10 @@ use Rattle.std.proofs.lemmas.Bool.{cases_lt, eqb-true, eqb-false, and_parts}
 use Rattle.std.proofs.lemmas.List.{get_or-set_same, get_or-set_other, get_or_past, length-map, ext_get_or}
 use Rattle.std.proofs.lemmas.List.Sums.{sum_by-set, sum_by-cons}
 use Rattle.event_machine.specs.Soundness.{times}
-use Rattle.event_machine.proofs.Basics.{not_false}
 use Rattle.event_progress.specs.Known.{Party, nobody, party, is_by, is_free}
 use Rattle.syn_progress.specs.declared.task_records.Member.{Member}
 use Rattle.syn_progress.specs.TaskRecords.{no_member, member_at, chain, open_server, seen, known_of}
+use Rattle.common_lemmas.proofs.Truth.{not_true}
 
 pub at_known : (ms : List Member) (ended : Bool) (t : ℕ) → party (known_of ms ended) t ≡ seen ms (member_at ms t)
 at_known ms ended t = get_or-map (seen ms) ms t no_member
@@ -92,7 +92,7 @@ open_none ms (Some x) b h k = go (x == b) refl
 
 -- a free task is open, and has no open server
 pub free_parts : (ms : List Member) (t : ℕ) → is_free (known_of ms false) t ≡ true → ((member_at ms t).closed ≡ false) × (open_server ms (member_at ms t).server ≡ None)
-free_parts ms t h = (not_false (member_at ms t).closed parts.0, none_is (open_server ms (member_at ms t).server) (not_false (is_some (open_server ms (member_at ms t).server)) parts.1))
+free_parts ms t h = (not_true (member_at ms t).closed parts.0, none_is (open_server ms (member_at ms t).server) (not_true (is_some (open_server ms (member_at ms t).server)) parts.1))
   where
     parts : (not (member_at ms t).closed ≡ true) × (not (is_some (open_server ms (member_at ms t).server)) ≡ true)
     parts = and_parts (not (member_at ms t).closed) (not (is_some (open_server ms (member_at ms t).server)))

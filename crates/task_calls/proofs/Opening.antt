@@ -1,5 +1,5 @@
 -- The opening values of formals, one by one.
-use Rattle.std.specs.Prelude.{◌≡◌, ◌<◌, ◌≤◌, ◌+◌, ℕ, ℤ, List, [], ◌∷◌, ◌++◌, length, drop, map, slice_get, Option, Some, None, option_map, Result, Ok, Err, OnOk, refl}
+use Rattle.std.specs.Prelude.{◌≡◌, ◌<◌, ◌≤◌, ◌+◌, ℕ, ℤ, List, [], ◌∷◌, ◌++◌, length, drop, map, slice_get, Option, Some, None, option_map, Result, Ok, Err, refl}
 use Rattle.std.proofs.Common.{◌∙◌, sym, ap, get_or}
 use Rattle.std.proofs.lemmas.List.{drop_all, append-nil}
 use Rattle.std.proofs.lemmas.Option.{slice_get-map}
@@ -19,7 +19,8 @@ use Rattle.task_model.specs.Setting.{Setting, member_named, task_meant, task_of,
 use Rattle.task_model.specs.Calls.{Called, openings, called_with, called, values_of}
 use Rattle.task_calls.specs.declared.calls.Member.{Member}
 use Rattle.task_calls.specs.Looks.{raised_by, member_called, values_or_none, opening_or}
-use Rattle.task_calls.proofs.Walking.{first_at, behind_at, here_at}
+use Rattle.task_calls.proofs.Walking.{first_at, behind_at}
+use Rattle.common_lemmas.proofs.Lists.{rest_at}
 
 -- an opening value in front of others
 abbrev pub with_first : Result Value Raised → Result (List Value) Raised → Result (List Value) Raised
@@ -34,7 +35,7 @@ openings_first types vars f fs (e ∷ es) = refl
 pub openings_from : (types : TypeTable) (vars : Variables) (fs : List FormalParameter) (es : List PExpr) (i : ℕ) (f d : FormalParameter) → i < length fs → f ≡ get_or fs i d →
     openings types vars (drop i fs) (drop i es) ≡ with_first (opening_or types vars f (slice_get es i)) (openings types vars (drop (i + 1) fs) (drop (i + 1) es))
 openings_from types vars fs es i f d h is =
-    ap (λ l. openings types vars l (drop i es)) (here_at fs i f d h is)
+    ap (λ l. openings types vars l (drop i es)) (rest_at fs i f d h is)
     ∙ openings_first types vars f (drop (i + 1) fs) (drop i es)
     ∙ (λ k. with_first (opening_or types vars f (first_at es i k)) (openings types vars (drop (i + 1) fs) (behind_at es i k)))
 
@@ -188,8 +189,3 @@ pub task_by_index : (g : Setting) (vars : Variables) (name : NameId) (e : PExpr)
     → r ≡ member_named g.numbers name i → r ≡ task_meant g vars name (Some e)
 task_by_index g vars name e v i r found at is =
     is ∙ ap (member_named g.numbers name) at ∙ ap (λ (o : Result Value Raised). and_then o (λ w. member_named g.numbers name (position_of w))) found
-
--- what holds where a call came out is told by what the call says of it
-pub on_ok : {A E P Q : Type 0} (r : Result A E) → (P → Q) → OnOk r P → OnOk r Q
-on_ok (Ok x) f p = f p
-on_ok (Err e) f p = p

@@ -15,7 +15,8 @@ use Rattle.ada_value.specs.Variables.{Object, Variables}
 use Rattle.task_model.specs.declared.parameters.FormalParameter.{FormalParameter}
 use Rattle.task_model.specs.Calls.{comes_back, finals_if, finals_in, Copies, variable_of, stored_back, copies_on, copied_one, copied_back, opened_object, opened_objects}
 use Rattle.task_calls.specs.Looks.{raised_by, vars_or, value_or_lower}
-use Rattle.task_calls.proofs.Walking.{first_at, behind_at, here_at, there_at, none_at}
+use Rattle.task_calls.proofs.Walking.{first_at, behind_at}
+use Rattle.common_lemmas.proofs.Lists.{rest_at, rest_none, rest_there}
 
 -- ---- what comes back
 
@@ -29,7 +30,7 @@ pub finals_on : (fs : List FormalParameter) (vars : Variables) (i : ℕ) (f d : 
     → all ≡ ws ++ finals_in (drop (i + 1) fs) (drop (i + 1) vars)
 finals_on fs vars i f d o vs ws all h is at grows before =
     before
-    ∙ (λ k. vs ++ finals_in (here_at fs i f d h is k) (there_at vars i o at k))
+    ∙ (λ k. vs ++ finals_in (rest_at fs i f d h is k) (rest_there vars i o at k))
     ∙ finals_after vs (comes_back f.mode) o (finals_in (drop (i + 1) fs) (drop (i + 1) vars))
     ∙ ap (λ l. l ++ finals_in (drop (i + 1) fs) (drop (i + 1) vars)) (sym grows)
 
@@ -40,7 +41,7 @@ finals_none (f ∷ fs) = refl
 pub finals_past : (fs : List FormalParameter) (vars : Variables) (i : ℕ) (vs all : List Value)
     → None ≡ slice_get vars i → all ≡ vs ++ finals_in (drop i fs) (drop i vars) → vs ≡ all
 finals_past fs vars i vs all at before =
-    sym (before ∙ ap (λ l. vs ++ finals_in (drop i fs) l) (none_at vars i at) ∙ ap (λ l. vs ++ l) (finals_none (drop i fs)) ∙ append-nil vs)
+    sym (before ∙ ap (λ l. vs ++ finals_in (drop i fs) l) (rest_none vars i at) ∙ ap (λ l. vs ++ l) (finals_none (drop i fs)) ∙ append-nil vs)
 
 pub finals_all : (fs : List FormalParameter) (vars : Variables) (i : ℕ) (vs all : List Value)
     → length fs ≤ i → all ≡ vs ++ finals_in (drop i fs) (drop i vars) → vs ≡ all
@@ -97,7 +98,7 @@ copy_past fs es vs i j vars all past before =
 at_formal : (fs : List FormalParameter) (es : List PExpr) (vs : List Value) (i j : ℕ) (f d : FormalParameter) (e : PExpr) (vars : Variables)
     → i < length fs → f ≡ get_or fs i d → i < length es → e ≡ get_or es i e
     → left_to_copy fs es vs i j vars ≡ copied_one (λ ws changed. copied_back (drop (i + 1) fs) (drop (i + 1) es) ws changed) f.mode e (drop j vs) vars
-at_formal fs es vs i j f d e vars h is he ise = λ k. copied_back (here_at fs i f d h is k) (here_at es i e e he ise k) (drop j vs) vars
+at_formal fs es vs i j f d e vars h is he ise = λ k. copied_back (rest_at fs i f d h is k) (rest_at es i e e he ise k) (drop j vs) vars
 
 pub copy_passes : (fs : List FormalParameter) (es : List PExpr) (vs : List Value) (i j : ℕ) (f d : FormalParameter) (e : PExpr) (b : Bool) (vars : Variables) (all : Copies)
     → i < length fs → f ≡ get_or fs i d → i < length es → e ≡ get_or es i e → b ≡ comes_back f.mode → b ≡ false
@@ -123,7 +124,7 @@ at_value : (fs : List FormalParameter) (es : List PExpr) (vs : List Value) (i j 
 at_value fs es vs i j f d e v w vars h is he ise back hv isv =
     let more : List Value → Variables → Copies = λ ws changed. copied_back (drop (i + 1) fs) (drop (i + 1) es) ws changed in
     at_formal fs es vs i j f d e vars h is he ise
-    ∙ ap (λ l. copied_one more f.mode e l vars) (here_at vs j v w hv isv)
+    ∙ ap (λ l. copied_one more f.mode e l vars) (rest_at vs j v w hv isv)
     ∙ stores_one more f.mode e v (drop (j + 1) vs) vars back
 
 pub copy_stores : (fs : List FormalParameter) (es : List PExpr) (vs : List Value) (i j : ℕ) (f d : FormalParameter) (e : PExpr) (b : Bool) (o : Option NameId) (v w : Value) (vars changed : Variables) (all : Copies)
@@ -172,12 +173,12 @@ opens_one types fs vs done place f d o v old now later h at is found there befor
     ∙ ap (λ n. opened_object f (value_or_lower types f (slice_get vs place)) ∷ (opened_from types fs vs n ++ old)) (sym next)
     ∙ ap (λ l. l ++ old)
     (sym
-    (ap (λ l. opened_objects types l (drop place vs)) (here_at fs place f d within is)
+    (ap (λ l. opened_objects types l (drop place vs)) (rest_at fs place f d within is)
     ∙ opened_first types f (drop (place + 1) fs) (drop place vs)
     ∙ (λ k. opened_object f (value_or_lower types f (first_at vs place k)) ∷ opened_objects types (drop (place + 1) fs) (behind_at vs place k))))
     ∙ ap (λ n. opened_from types fs vs n ++ old) here
 
-length_opened : (types : TypeTable) (fs : List FormalParameter) (vs : List Value) → length (opened_objects types fs vs) ≡ length fs
+pub length_opened : (types : TypeTable) (fs : List FormalParameter) (vs : List Value) → length (opened_objects types fs vs) ≡ length fs
 length_opened types [] vs = refl
 length_opened types (f ∷ fs) [] = ap suc (length_opened types fs [])
 length_opened types (f ∷ fs) (v ∷ vs) = ap suc (length_opened types fs vs)

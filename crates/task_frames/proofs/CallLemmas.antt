@@ -10,7 +10,7 @@ use Rattle.ada_tree.specs.PlainStmt.{PStmts, no_stmt, seen}
 use Rattle.ada_value.specs.declared.values.Raised.{Raised}
 use Rattle.task_model.specs.declared.parameters.FormalParameter.{FormalParameter}
 use Rattle.task_model.specs.Frames as model
-use Rattle.task_model.specs.Frames.{Part, is_for, handler_for}
+use Rattle.task_model.specs.Frames.{PFrame, is_for, handler_for}
 use Rattle.task_frames.specs.declared.places.Place.{Place}
 use Rattle.task_frames.specs.declared.places.Place.TheVariants as stands
 use Rattle.task_frames.specs.declared.places.Turns.{Turns}
@@ -162,18 +162,18 @@ closes_from top below caller formals pending outer inner held landed new count g
     (closes caller formals.now pending gone (seen top.rest.now) (stack_of below (reverse inner)) landed new left settles))
 
 -- a frame at its end that is no accept body closes none
-nothing_closed : (rest : List Stmt) (place : Place) (parts : List Part) → is_over rest place ≡ false →
+nothing_closed : (rest : List Stmt) (place : Place) (parts : List PFrame) → is_over rest place ≡ false →
     ((caller : ℕ) (formals : Bor (List FormalParameter)) (pending : Option Raised) → place ≡ stands.Opened caller formals pending → ⊥) →
     Closes 0 (on_parts (seen rest) place parts) (on_parts (seen rest) place parts)
 nothing_closed [] stands.Inside parts h other over t = absurd (true≢false h)
-nothing_closed [] (stands.Whole handlers taken) parts h other over t = refl
+nothing_closed [] (stands.OwnBody handlers taken) parts h other over t = refl
 nothing_closed [] (stands.Block handlers) parts h other over t = refl
 nothing_closed [] (stands.Handling x) parts h other over t = refl
 nothing_closed [] (stands.Loop name turns stmts) parts h other over t = refl
 nothing_closed [] (stands.Opened caller formals pending) parts h other over t = absurd (other caller formals pending refl)
 nothing_closed (s ∷ rest) stands.Inside [] h other over t = absurd (cc)
 nothing_closed (s ∷ rest) stands.Inside (p ∷ ps) h other over t = absurd (cc)
-nothing_closed (s ∷ rest) (stands.Whole handlers taken) parts h other over t = absurd (cc)
+nothing_closed (s ∷ rest) (stands.OwnBody handlers taken) parts h other over t = absurd (cc)
 nothing_closed (s ∷ rest) (stands.Block handlers) parts h other over t = absurd (cc)
 nothing_closed (s ∷ rest) (stands.Handling x) parts h other over t = absurd (cc)
 nothing_closed (s ∷ rest) (stands.Loop name turns stmts) parts h other over t = absurd (cc)
@@ -186,18 +186,18 @@ closes_nothing top outer held view h other = subst (λ s. Closes 0 s s) view (no
 -- ---- loops
 
 -- a frame at its end that is no loop
-no_loop : (rest : List Stmt) (place : Place) (parts : List Part) (name : Option Word) (turns : model.Turns) (stmts : PStmts) → is_over rest place ≡ false →
+no_loop : (rest : List Stmt) (place : Place) (parts : List PFrame) (name : Option Word) (turns : model.Turns) (stmts : PStmts) → is_over rest place ≡ false →
     ((own : Option Word) (way : Turns) (turn : Bor (List Stmt)) → place ≡ stands.Loop own way turn → ⊥) →
     (on_parts (seen rest) place parts).top.rest ≡ no_stmt → (on_parts (seen rest) place parts).top.place ≡ model.Loop name turns stmts → ⊥
 no_loop [] stands.Inside parts name turns stmts h other over at = true≢false h
-no_loop [] (stands.Whole handlers taken) parts name turns stmts h other over at = cc
+no_loop [] (stands.OwnBody handlers taken) parts name turns stmts h other over at = cc
 no_loop [] (stands.Block handlers) parts name turns stmts h other over at = cc
 no_loop [] (stands.Handling x) parts name turns stmts h other over at = cc
 no_loop [] (stands.Loop own way turn) parts name turns stmts h other over at = other own way turn refl
 no_loop [] (stands.Opened caller formals pending) parts name turns stmts h other over at = cc
 no_loop (s ∷ rest) stands.Inside [] name turns stmts h other over at = cc
 no_loop (s ∷ rest) stands.Inside (p ∷ ps) name turns stmts h other over at = cc
-no_loop (s ∷ rest) (stands.Whole handlers taken) parts name turns stmts h other over at = cc
+no_loop (s ∷ rest) (stands.OwnBody handlers taken) parts name turns stmts h other over at = cc
 no_loop (s ∷ rest) (stands.Block handlers) parts name turns stmts h other over at = cc
 no_loop (s ∷ rest) (stands.Handling x) parts name turns stmts h other over at = cc
 no_loop (s ∷ rest) (stands.Loop own way turn) parts name turns stmts h other over at = cc

@@ -8,7 +8,7 @@ use Rattle.ada_tree.proofs.Rows.{plain_handler-out}
 use Rattle.ada_value.specs.declared.values.Raised.{Raised}
 use Rattle.task_model.specs.Frames.{raised_name, is_for, handler_for}
 use Rattle.task_frames.specs.Seen.{seen_handlers}
-use Rattle.task_frames.proofs.StackLemmas.{if_true, if_false}
+use Rattle.common_lemmas.proofs.Truth.{if_false, if_true}
 
 -- names that are some are for an exception that is one of them
 pub is_for_named : (x : Raised) (ws : List Word) → (length ws == 0) ≡ false → list_any (λ v. v.name.0 == raised_name x) ws ≡ is_for x ws

@@ -14,4 +14,4 @@ abbrev pub IsNext : Next → PStmts → model.Around → Type 0
 IsNext (next.Stmt s) rest place = rest ≡ stmt_then (plain_stmt s.now) (behind_in rest)
 IsNext (next.Turn turns) rest place = (rest ≡ no_stmt) × ((name : Option Word) × (stmts : PStmts) × (place ≡ model.Loop name (turns_as turns) stmts))
 IsNext (next.EndOfBody caller formals pending) rest place = (rest ≡ no_stmt) × (place ≡ model.Opened caller formals.now pending)
-IsNext next.EndOfUnit rest place = (rest ≡ no_stmt) × ((handlers : PHandlers) × (taken : Option Raised) × (place ≡ model.Whole handlers taken))
+IsNext next.EndOfUnit rest place = (rest ≡ no_stmt) × ((handlers : PHandlers) × (taken : Option Raised) × (place ≡ model.OwnBody handlers taken))

@@ -1,14 +1,14 @@
 -- The frames of a task without its variables, as plain data, and the task that has them.
 use Rattle.std.specs.Prelude.{ℕ, Bool, List, drop}
 use Rattle.ada_value.specs.Variables.{Variables}
-use Rattle.task_model.specs.Frames.{Part, Control}
+use Rattle.task_model.specs.Frames.{PFrame, Control}
 use Rattle.task_model.specs.Tasks.{Task, vars_of, with_control}
 use Rattle.task_model.specs.Rendezvous.{behind_in}
 
 -- The frames of a task: the innermost, and the others, the inner ones first.
 pub record Stack : Type 0 where
-  pub top : Part
-  pub outer : List Part
+  pub top : PFrame
+  pub outer : List PFrame
 
 -- What a contract sees of the frames that are held: the frames, and whether there is room for one more, so that it takes no memory.
 pub record Held : Type 0 where
@@ -16,7 +16,7 @@ pub record Held : Type 0 where
   pub reserved : Bool
 
 -- a frame inside of others
-abbrev pub with_part : Part → List Part → Stack
+abbrev pub with_part : PFrame → List PFrame → Stack
 with_part part parts = record { top = part; outer = parts }
 
 -- the frames behind the next statement, where none is left yet

@@ -34,7 +34,7 @@ pub(crate) fn end_of<'p>(place: Place<'p>) -> Next<'p>
 {
     match place {
         Place::Inside => Next::EndOfUnit,
-        Place::Whole { .. } => Next::EndOfUnit,
+        Place::OwnBody { .. } => Next::EndOfUnit,
         Place::Block { .. } => Next::EndOfUnit,
         Place::Handling { .. } => Next::EndOfUnit,
         Place::Loop { turns, .. } => Next::Turn(turns),

@@ -2,7 +2,7 @@
 
 ghost use Rattle.std.specs.Prelude.{◌≡◌, ◌+◌, [], true, Some, None, IsOk, OnOk, OnErr, slice_get};
 ghost use Rattle.ada_tree.specs.PlainStmt.{seen};
-ghost use Rattle.task_model.specs.Frames.{Whole, Block, Loop, handled_by, callers_in};
+ghost use Rattle.task_model.specs.Frames.{OwnBody, Block, Loop, handled_by, callers_in};
 ghost use Rattle.task_frames.specs.Stack.{control_on};
 ghost use Rattle.task_frames.specs.Moves.{GoesOn, Enters, IsPushed, Opens, Closes, Raises, Exits, BeginsTurn, LeavesLoop};
 
@@ -54,12 +54,12 @@ impl<'p> Frames<'p> {
 
     /// The frames of a unit before its first statement, with its handlers. It takes no memory.
     pub fn new(alloc: Global, stmts: &'p [Stmt], handlers: &'p [Handler]) -> Frames<'p>
-        ensures { result.stack ≡ record { top = record { rest = seen stmts.now; place = Whole (seen_handlers handlers.now) None }; outer = [] } }
+        ensures { result.stack ≡ record { top = record { rest = seen stmts.now; place = OwnBody (seen_handlers handlers.now) None }; outer = [] } }
     {
         Frames {
             top: Frame {
                 rest: stmts,
-                place: Place::Whole {
+                place: Place::OwnBody {
                     handlers,
                     taken: None,
                 },

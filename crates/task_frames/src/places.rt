@@ -23,7 +23,7 @@ pub(crate) enum Place<'p> {
     /// A piece: its statements stand in front of those of the next frame.
     Inside,
     /// The unit's own body, with its handlers and the exception whose handler was taken.
-    Whole {
+    OwnBody {
         handlers: &'p [Handler],
         taken: Option<Raised>,
     },
@@ -119,7 +119,7 @@ impl<'p> Frame<'p> {
         }
         match self.place {
             Place::Inside => true,
-            Place::Whole { .. } => false,
+            Place::OwnBody { .. } => false,
             Place::Block { .. } => true,
             Place::Handling { .. } => true,
             Place::Loop { .. } => false,
@@ -134,11 +134,11 @@ impl<'p> Frame<'p> {
     {
         match self.place {
             Place::Inside => None,
-            Place::Whole {
+            Place::OwnBody {
                 handlers,
                 taken: None,
             } => Some(unit_caught(raised, handlers)),
-            Place::Whole { taken: Some(_), .. } => Some(self.at_end()),
+            Place::OwnBody { taken: Some(_), .. } => Some(self.at_end()),
             Place::Block { handlers } => block_caught(raised, handlers),
             Place::Handling { .. } => None,
             Place::Loop { .. } => None,
@@ -163,7 +163,7 @@ impl<'p> Frame<'p> {
     {
         match self.place {
             Place::Inside => false,
-            Place::Whole { .. } => true,
+            Place::OwnBody { .. } => true,
             Place::Block { .. } => false,
             Place::Handling { .. } => false,
             Place::Loop { .. } => false,
@@ -177,7 +177,7 @@ impl<'p> Frame<'p> {
     {
         match self.place {
             Place::Inside => false,
-            Place::Whole { .. } => false,
+            Place::OwnBody { .. } => false,
             Place::Block { .. } => false,
             Place::Handling { .. } => false,
             Place::Loop { name: own, .. } => is_left(name, own),
@@ -192,7 +192,7 @@ impl<'p> Frame<'p> {
     {
         match self.place {
             Place::Inside => 0,
-            Place::Whole { .. } => 0,
+            Place::OwnBody { .. } => 0,
             Place::Block { .. } => 0,
             Place::Handling { .. } => 0,
             Place::Loop { turns, .. } => turns.brought(),
@@ -206,7 +206,7 @@ impl<'p> Frame<'p> {
     {
         match self.place {
             Place::Inside => None,
-            Place::Whole { taken, .. } => taken,
+            Place::OwnBody { taken, .. } => taken,
             Place::Block { .. } => None,
             Place::Handling { raised } => Some(raised),
             Place::Loop { .. } => None,
@@ -220,7 +220,7 @@ impl<'p> Frame<'p> {
     {
         match self.place {
             Place::Inside => None,
-            Place::Whole { .. } => None,
+            Place::OwnBody { .. } => None,
             Place::Block { .. } => None,
             Place::Handling { .. } => None,
             Place::Loop { .. } => None,
@@ -243,14 +243,14 @@ fn unit_caught<'p>(raised: Raised, handlers: &'p [Handler]) -> Frame<'p>
     match handler_for(raised, handlers) {
         Some(stmts) => Frame {
             rest: stmts,
-            place: Place::Whole {
+            place: Place::OwnBody {
                 handlers,
                 taken: Some(raised),
             },
         },
         None => Frame {
             rest: &[],
-            place: Place::Whole {
+            place: Place::OwnBody {
                 handlers,
                 taken: None,
             },

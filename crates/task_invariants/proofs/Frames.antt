@@ -5,7 +5,7 @@ use Rattle.ada_tree.specs.declared.naming.Word.{Word}
 use Rattle.ada_tree.specs.PlainStmt.{PHead, PStmts, no_stmt, stmt_then, PHandlers, no_handler, handler_then, handler}
 use Rattle.ada_value.specs.declared.values.Raised.{Raised}
 use Rattle.ada_value.specs.Variables.{Variables}
-use Rattle.task_model.specs.Frames.{Around, Whole, Block, Handling, Loop, Opened, Part, Control, control, in_front, settled_in, settled, is_for, handler_for, unit_with, block_with, raised_in, is_left, exited_in, brought_by}
+use Rattle.task_model.specs.Frames.{Around, OwnBody, Block, Handling, Loop, Opened, PFrame, Control, control, in_front, settled_in, settled, is_for, handler_for, unit_with, block_with, raised_in, is_left, exited_in, brought_by}
 use Rattle.task_invariants.specs.AcceptHeads.{InStmts, InHandlers, InPlace, InParts}
 use Rattle.task_invariants.specs.Holding.{HeldIn, IsHeld, Opening, opening_at, openings_among, openings_in}
 
@@ -22,13 +22,13 @@ module _ (Head : PHead → Type 0) where
   in_front_in no_stmt b h k = k
   in_front_in (stmt_then s more) b h k = (h.0, in_front_in more b h.1 k)
 
-  pub good_settled : (outer : List Part) (rest : PStmts) (place : Around) (vars : Variables) → InStmts Head rest → InPlace Head place → InParts Head outer → IsHeld place outer vars →
+  pub good_settled : (outer : List PFrame) (rest : PStmts) (place : Around) (vars : Variables) → InStmts Head rest → InPlace Head place → InParts Head outer → IsHeld place outer vars →
       Good (opening_at place ++ openings_among outer) (settled_in outer rest place vars)
   good_settled outer (stmt_then s rest) place vars i p o h = record { rest = i; place = p; outer = o; held = h; same = refl }
   good_settled [] no_stmt place vars i p o h = record { rest = i; place = p; outer = o; held = h; same = refl }
   good_settled (part ∷ parts) no_stmt (Block handlers) vars i p o h = good_settled parts part.rest part.place vars o.0.0 o.0.1 o.1 h.1
   good_settled (part ∷ parts) no_stmt (Handling x) vars i p o h = good_settled parts part.rest part.place vars o.0.0 o.0.1 o.1 h.1
-  good_settled (part ∷ parts) no_stmt (Whole handlers taken) vars i p o h = record { rest = i; place = p; outer = o; held = h; same = refl }
+  good_settled (part ∷ parts) no_stmt (OwnBody handlers taken) vars i p o h = record { rest = i; place = p; outer = o; held = h; same = refl }
   good_settled (part ∷ parts) no_stmt (Loop name turns stmts) vars i p o h = record { rest = i; place = p; outer = o; held = h; same = refl }
   good_settled (part ∷ parts) no_stmt (Opened caller formals pending) vars i p o h = record { rest = i; place = p; outer = o; held = h; same = refl }
 
@@ -52,20 +52,20 @@ module _ (Head : PHead → Type 0) where
       go later true = h.0
       go later false = later
 
-  good_unit : (o : Option PStmts) (x : Raised) (handlers : PHandlers) (outer : List Part) (vars : Variables) → InOption o → InHandlers Head handlers → InParts Head outer → HeldIn outer vars →
+  good_unit : (o : Option PStmts) (x : Raised) (handlers : PHandlers) (outer : List PFrame) (vars : Variables) → InOption o → InHandlers Head handlers → InParts Head outer → HeldIn outer vars →
       Good (openings_among outer) (unit_with o x handlers outer vars)
   good_unit None x handlers outer vars i p o h = record { rest = tt; place = p; outer = o; held = (tt, h); same = refl }
   good_unit (Some stmts) x handlers outer vars i p o h = record { rest = i; place = p; outer = o; held = (tt, h); same = refl }
 
-  good_block : (o : Option PStmts) (x : Raised) (outer : List Part) (vars : Variables) (beyond : Control) → InOption o → InParts Head outer → HeldIn outer vars →
+  good_block : (o : Option PStmts) (x : Raised) (outer : List PFrame) (vars : Variables) (beyond : Control) → InOption o → InParts Head outer → HeldIn outer vars →
       Good (openings_among outer) beyond → Good (openings_among outer) (block_with o x outer vars beyond)
   good_block None x outer vars beyond i o h g = g
   good_block (Some stmts) x outer vars beyond i o h g = record { rest = i; place = tt; outer = o; held = (tt, h); same = refl }
 
-  pub good_raised : (x : Raised) (outer : List Part) (place : Around) (vars : Variables) → InPlace Head place → InParts Head outer → IsHeld place outer vars →
+  pub good_raised : (x : Raised) (outer : List PFrame) (place : Around) (vars : Variables) → InPlace Head place → InParts Head outer → IsHeld place outer vars →
       Good (opening_at place ++ openings_among outer) (raised_in x outer place vars)
-  good_raised x outer (Whole handlers None) vars p o h = good_unit (handler_for x handlers) x handlers outer vars (handler_in x handlers p) p o h.1
-  good_raised x outer (Whole handlers (Some y)) vars p o h = record { rest = tt; place = p; outer = o; held = h; same = refl }
+  good_raised x outer (OwnBody handlers None) vars p o h = good_unit (handler_for x handlers) x handlers outer vars (handler_in x handlers p) p o h.1
+  good_raised x outer (OwnBody handlers (Some y)) vars p o h = record { rest = tt; place = p; outer = o; held = h; same = refl }
   good_raised x outer (Opened caller formals pending) vars p o h = record { rest = tt; place = tt; outer = o; held = h; same = refl }
   good_raised x [] (Block handlers) vars p o h = record { rest = tt; place = p; outer = o; held = h; same = refl }
   good_raised x [] (Handling y) vars p o h = record { rest = tt; place = p; outer = o; held = h; same = refl }
@@ -79,7 +79,7 @@ module _ (Head : PHead → Type 0) where
   good_if true openings c d g h = g
   good_if false openings c d g h = h
 
-  pub good_exited : (w : Option Word) (outer : List Part) (place : Around) (vars : Variables) → InPlace Head place → InParts Head outer → IsHeld place outer vars →
+  pub good_exited : (w : Option Word) (outer : List PFrame) (place : Around) (vars : Variables) → InPlace Head place → InParts Head outer → IsHeld place outer vars →
       Good (opening_at place ++ openings_among outer) (exited_in w outer place vars)
   good_exited w [] place vars p o h = record { rest = tt; place = p; outer = o; held = h; same = refl }
   good_exited w (part ∷ parts) (Block handlers) vars p o h = good_exited w parts part.place vars o.0.1 o.1 h.1
@@ -87,5 +87,5 @@ module _ (Head : PHead → Type 0) where
   good_exited w (part ∷ parts) (Loop name turns stmts) vars p o h =
       good_if (is_left w name) (openings_among (part ∷ parts)) (control part.rest part.place parts (drop (brought_by turns) vars)) (exited_in w parts part.place (drop (brought_by turns) vars))
       (record { rest = o.0.0; place = o.0.1; outer = o.1; held = h.1; same = refl }) (good_exited w parts part.place (drop (brought_by turns) vars) o.0.1 o.1 h.1)
-  good_exited w (part ∷ parts) (Whole handlers taken) vars p o h = record { rest = tt; place = p; outer = o; held = h; same = refl }
+  good_exited w (part ∷ parts) (OwnBody handlers taken) vars p o h = record { rest = tt; place = p; outer = o; held = h; same = refl }
   good_exited w (part ∷ parts) (Opened caller formals pending) vars p o h = record { rest = tt; place = p; outer = o; held = h; same = refl }

@@ -13,7 +13,7 @@ use Rattle.event_machine.specs.Effects.{fallen, released_first, aborted, went_on
 use Rattle.event_machine.specs.Programs.{Program, numbered}
 use Rattle.event_machine.specs.Soundness.{IsSound, times}
 use Rattle.event_machine.specs.Worlds.{World, Move, Step, Happen, can_move, moved, happens, acted, offers}
-use Rattle.event_machine.proofs.Basics.{equal_self, same_member-true}
+use Rattle.event_machine.proofs.Basics.{same_member-true, none_some, some_path}
 use Rattle.event_machine.proofs.Standings.{is-Live}
 use Rattle.event_machine.proofs.Effected.{unchanged}
 use Rattle.event_machine.proofs.Following.{serving}
@@ -24,7 +24,7 @@ use Rattle.replay_law.proofs.Silently.{met_is}
 use Rattle.replay_law.proofs.Aborting.{fell, abort_closed, abort_open, abort_self}
 use Rattle.task_model.specs.declared.parameters.FormalParameter.{FormalParameter}
 use Rattle.task_model.specs.Setting.{Setting, task_of, member_index, lists_of, entry_of, entry_parameters, parameters_of}
-use Rattle.task_model.specs.Frames.{Around, Whole, Block, Handling, Loop, Opened, Part, caller_at, callers_among, callers_in}
+use Rattle.task_model.specs.Frames.{Around, OwnBody, Block, Handling, Loop, Opened, PFrame, caller_at, callers_among, callers_in}
 use Rattle.task_model.specs.Tasks.{Task, rest_of, place_of, outer_of, vars_of}
 use Rattle.task_model.specs.Calls.{Called, called_with, call_in, called_by, values_of, values_handed, openings, opened_objects}
 use Rattle.task_model.specs.Waits.{Open, Accepts, Delays, Terminates, alternative_for}
@@ -36,8 +36,9 @@ use Rattle.task_invariants.specs.Worlds.{Conforms, IsWellMade, IsIn, IsLinked, A
 use Rattle.task_invariants.proofs.Variables.{chain, ok_path, openings_fit, opened_held}
 use Rattle.task_invariants.proofs.Frames.{Good}
 use Rattle.task_invariants.proofs.Steady.{Goes, Stays, goes_stepped}
-use Rattle.task_invariants.proofs.Meetings.{some_path, none_some, leaves_finished, good_opened, Found, found_for, goes_resumed, goes_failed, goes_else, goes_delay, goes_passed}
+use Rattle.task_invariants.proofs.Meetings.{leaves_finished, good_opened, Found, found_for, goes_resumed, goes_failed, goes_else, goes_delay, goes_passed}
 use Rattle.task_invariants.proofs.Offering.{AtCall, at_call, at_accept}
+use Rattle.common_lemmas.proofs.Numbers.{equal_self}
 
 -- ---- one task
 
@@ -61,13 +62,13 @@ callers_append [] ys = refl
 callers_append (x ∷ xs) ys = ap (λ cs. x.caller ∷ cs) (callers_append xs ys)
 
 callers_at : (place : Around) → callers_of (opening_at place) ≡ caller_at place
-callers_at (Whole handlers taken) = refl
+callers_at (OwnBody handlers taken) = refl
 callers_at (Block handlers) = refl
 callers_at (Handling x) = refl
 callers_at (Loop name turns stmts) = refl
 callers_at (Opened caller formals pending) = refl
 
-callers_there : (parts : List Part) → callers_of (openings_among parts) ≡ callers_among parts
+callers_there : (parts : List PFrame) → callers_of (openings_among parts) ≡ callers_among parts
 callers_there [] = refl
 callers_there (part ∷ parts) = callers_append (opening_at part.place) (openings_among parts) ∙ ap (λ cs. cs ++ callers_of (openings_among parts)) (callers_at part.place) ∙
     ap (λ cs. caller_at part.place ++ cs) (callers_there parts)

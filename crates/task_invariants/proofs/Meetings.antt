@@ -9,7 +9,7 @@ use Rattle.ada_value.specs.Values.{and_then}
 use Rattle.ada_value.specs.Variables.{Variables}
 use Rattle.task_model.specs.declared.parameters.FormalParameter.{FormalParameter}
 use Rattle.task_model.specs.Setting.{Setting, entry_of, member_index, entry_parameters, lists_of}
-use Rattle.task_model.specs.Frames.{Around, Whole, Block, Handling, Loop, Opened, Part, control, in_front}
+use Rattle.task_model.specs.Frames.{Around, OwnBody, Block, Handling, Loop, Opened, PFrame, control, in_front}
 use Rattle.task_model.specs.Tasks.{Task, rest_of, place_of, outer_of, vars_of, stmts_or_none, entered}
 use Rattle.task_model.specs.Calls.{Called, called, call_in, opened_objects, Copies}
 use Rattle.task_model.specs.Waits.{Open, Accepts, Delays, Terminates, guard_holds, accept_opened, kind_opened, delays_with, opened_if, alternatives_open, open_at, accepts_member, first_accepting, accepting_at, alternative_for, delay_part, delay_here, delay_stmts}
@@ -19,12 +19,7 @@ use Rattle.task_invariants.specs.Holding.{AreHeld, HeldIn, Opening, openings_in}
 use Rattle.task_invariants.proofs.Variables.{AreSame, same_self, copied_same, ok_path, chain, opened_drop}
 use Rattle.task_invariants.proofs.Frames.{Good, in_front_in}
 use Rattle.task_invariants.proofs.Steady.{Goes, Stays, goes_gone, goes_changed, goes_raised, goes_raised_with, goes_itself, maybe_in}
-
-pub some_path : {A : Type 0} {a b : A} → ◌≡◌ {A = Option A} (Some a) (Some b) → a ≡ b
-some_path {A} {a} {b} h = let e : ◌≡◌ {A = Option A} (Some a) (Some b) = h in cc
-
-pub none_some : {A : Type 0} {a : A} → ◌≡◌ {A = Option A} None (Some a) → ⊥
-none_some {A} {a} h = let e : ◌≡◌ {A = Option A} None (Some a) = h in cc
+use Rattle.event_machine.proofs.Basics.{none_some, some_path}
 
 module _ (Head : PHead → Type 0) where
   -- ---- open alternatives
@@ -156,12 +151,12 @@ module _ (Head : PHead → Type 0) where
   goes_on None t k = goes_gone Head (rest_of t) t k.rest k
   goes_on (Some x) t k = goes_raised Head x t k
 
-  abbrev task_at : Setting → ℕ → List ℤ → List ℕ → PStmts → Around → List Part → Variables → Task
+  abbrev task_at : Setting → ℕ → List ℤ → List ℕ → PStmts → Around → List PFrame → Variables → Task
   task_at g n input output rest place outer vars = record { setting = g; number = n; control = control rest place outer vars; input = input; output = output }
 
-  leaves_at : (g : Setting) (n : ℕ) (input : List ℤ) (output : List ℕ) (rest : PStmts) (place : Around) (outer : List Part) (vars : Variables) →
+  leaves_at : (g : Setting) (n : ℕ) (input : List ℤ) (output : List ℕ) (rest : PStmts) (place : Around) (outer : List PFrame) (vars : Variables) →
       Stays Head (task_at g n input output rest place outer vars) → Leaves (task_at g n input output rest place outer vars) (rendezvous.finished (task_at g n input output rest place outer vars))
-  leaves_at g n input output rest (Whole handlers taken) outer vars k = leaves_goes _ _ (goes_itself Head _ k)
+  leaves_at g n input output rest (OwnBody handlers taken) outer vars k = leaves_goes _ _ (goes_itself Head _ k)
   leaves_at g n input output rest (Block handlers) outer vars k = leaves_goes _ _ (goes_itself Head _ k)
   leaves_at g n input output rest (Handling x) outer vars k = leaves_goes _ _ (goes_itself Head _ k)
   leaves_at g n input output rest (Loop name turns stmts) outer vars k = leaves_goes _ _ (goes_itself Head _ k)

@@ -12,7 +12,7 @@ use Rattle.event_machine.specs.Offers.{Offer, same_member, opens, calls_in, is_a
 use Rattle.event_machine.proofs.Basics.{same_member-true}
 use Rattle.ada_value.specs.declared.values.Raised.{Raised}
 use Rattle.task_model.specs.Setting.{task_of}
-use Rattle.task_model.specs.Frames.{Around, Whole, Block, Handling, Loop, Opened}
+use Rattle.task_model.specs.Frames.{Around, OwnBody, Block, Handling, Loop, Opened}
 use Rattle.task_model.specs.Tasks.{Task, rest_of, place_of, vars_of}
 use Rattle.task_model.specs.Calls.{Called, called, call_in, called_by}
 use Rattle.task_model.specs.Waits.{Open, Accepts, Delays, Terminates, open_at, accept_choice, delay_choice, terminate_choice, else_choice, choices_of, is_present, is_shorter, accepts_member, first_accepting, accepting_at, alternative_for}
@@ -47,7 +47,7 @@ name_call e i (Ok x) h = true≢false (sym h)
 name_call e i (Err x) h = true≢false (sym h)
 
 behind_call : (e : ℕ) (i : ℤ) (place : Around) → calls_in is_any_form e i (offered (stand_behind place)) ≡ true → ⊥
-behind_call e i (Whole handlers taken) h = true≢false (sym h)
+behind_call e i (OwnBody handlers taken) h = true≢false (sym h)
 behind_call e i (Block handlers) h = true≢false (sym h)
 behind_call e i (Handling x) h = true≢false (sym h)
 behind_call e i (Loop name turns stmts) h = true≢false (sym h)
@@ -160,7 +160,7 @@ name_wait e i (Ok x) h = true≢false (sym h)
 name_wait e i (Err x) h = true≢false (sym h)
 
 behind_wait : (e : ℕ) (i : ℤ) (place : Around) → waits_with (opens e i) (offered (stand_behind place)) ≡ true → ⊥
-behind_wait e i (Whole handlers taken) h = true≢false (sym h)
+behind_wait e i (OwnBody handlers taken) h = true≢false (sym h)
 behind_wait e i (Block handlers) h = true≢false (sym h)
 behind_wait e i (Handling x) h = true≢false (sym h)
 behind_wait e i (Loop name turns stmts) h = true≢false (sym h)

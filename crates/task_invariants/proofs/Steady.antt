@@ -12,7 +12,7 @@ use Rattle.ada_value.specs.Texts.{parts_text}
 use Rattle.ada_value.specs.Values.{and_then, is_empty_range}
 use Rattle.ada_value.specs.Variables.{Variables, checked_for, set_value}
 use Rattle.task_model.specs.Setting.{Setting}
-use Rattle.task_model.specs.Frames.{Turns, Endless, While, Counting, Around, Whole, Block, Handling, Loop, Opened, Part, control, in_front, brought_by}
+use Rattle.task_model.specs.Frames.{Turns, Endless, While, Counting, Around, OwnBody, Block, Handling, Loop, Opened, PFrame, control, in_front, brought_by}
 use Rattle.task_model.specs.Tasks.{Task, rest_of, place_of, outer_of, vars_of, value_of, stmts_or_none, with_vars, with_input, with_text, gone_to, entered, pushed, raised_there, or_raised}
 use Rattle.task_model.specs.Steps as steps
 use Rattle.task_model.specs.Stands.{Stand, Steps, Raises, At, stand_of, stepped, stepped_by, stepped_with, stepped_at, stepped_behind}
@@ -195,10 +195,10 @@ module _ (Head : PHead → Type 0) where
   goes_stepped_at (STimed call more duration after s) behind t i b k = goes_itself t k
 
   -- a task of these parts
-  abbrev task_at : Setting → ℕ → List ℤ → List ℕ → PStmts → Around → List Part → Variables → Task
+  abbrev task_at : Setting → ℕ → List ℤ → List ℕ → PStmts → Around → List PFrame → Variables → Task
   task_at g n input output rest place outer vars = record { setting = g; number = n; control = control rest place outer vars; input = input; output = output }
 
-  goes_left : (g : Setting) (n : ℕ) (input : List ℤ) (output : List ℕ) (rest : PStmts) (name : Option Word) (turns : Turns) (stmts : PStmts) (outer : List Part) (vars : Variables) →
+  goes_left : (g : Setting) (n : ℕ) (input : List ℤ) (output : List ℕ) (rest : PStmts) (name : Option Word) (turns : Turns) (stmts : PStmts) (outer : List PFrame) (vars : Variables) →
       Stays (task_at g n input output rest (Loop name turns stmts) outer vars) →
       Goes (task_at g n input output rest (Loop name turns stmts) outer vars) (steps.loop_left turns (task_at g n input output rest (Loop name turns stmts) outer vars))
   goes_left g n input output rest name turns stmts [] vars k = goes_itself (task_at g n input output rest (Loop name turns stmts) [] vars) k
@@ -206,13 +206,13 @@ module _ (Head : PHead → Type 0) where
       record { good = good_settled Head parts part.rest part.place (drop (brought_by turns) vars) k.outer.0.0 k.outer.0.1 k.outer.1 k.held.1; setting = refl; number = refl }
 
   -- the loop parameter is another, and is not asked for
-  counted_held : (g : Setting) (n : ℕ) (input : List ℤ) (output : List ℕ) (rest : PStmts) (name : Option Word) (backwards : Bool) (last : ℤ) (stmts : PStmts) (outer : List Part) (vars : Variables) →
+  counted_held : (g : Setting) (n : ℕ) (input : List ℤ) (output : List ℕ) (rest : PStmts) (name : Option Word) (backwards : Bool) (last : ℤ) (stmts : PStmts) (outer : List PFrame) (vars : Variables) →
       IsHeld (Loop name (Counting backwards last) stmts) outer vars →
       IsHeld (Loop name (Counting backwards last) stmts) outer (steps.counted_on (task_at g n input output rest (Loop name (Counting backwards last) stmts) outer vars) backwards vars)
   counted_held g n input output rest name backwards last stmts outer [] h = h
   counted_held g n input output rest name backwards last stmts outer (o ∷ vars) h = h
 
-  goes_turn : (g : Setting) (n : ℕ) (input : List ℤ) (output : List ℕ) (rest : PStmts) (name : Option Word) (turns : Turns) (stmts : PStmts) (outer : List Part) (vars : Variables) →
+  goes_turn : (g : Setting) (n : ℕ) (input : List ℤ) (output : List ℕ) (rest : PStmts) (name : Option Word) (turns : Turns) (stmts : PStmts) (outer : List PFrame) (vars : Variables) →
       Stays (task_at g n input output rest (Loop name turns stmts) outer vars) →
       Goes (task_at g n input output rest (Loop name turns stmts) outer vars) (steps.turn_step turns stmts (task_at g n input output rest (Loop name turns stmts) outer vars))
   goes_turn g n input output rest name Endless stmts outer vars k = goes_gone stmts (task_at g n input output rest (Loop name Endless stmts) outer vars) k.place k
@@ -231,9 +231,9 @@ module _ (Head : PHead → Type 0) where
       })
       (goes_left g n input output rest name (Counting backwards last) stmts outer vars k)
 
-  goes_behind : (g : Setting) (n : ℕ) (input : List ℤ) (output : List ℕ) (rest : PStmts) (place : Around) (outer : List Part) (vars : Variables) →
+  goes_behind : (g : Setting) (n : ℕ) (input : List ℤ) (output : List ℕ) (rest : PStmts) (place : Around) (outer : List PFrame) (vars : Variables) →
       Stays (task_at g n input output rest place outer vars) → Goes (task_at g n input output rest place outer vars) (stepped_behind place (task_at g n input output rest place outer vars))
-  goes_behind g n input output rest (Whole handlers taken) outer vars k = goes_itself _ k
+  goes_behind g n input output rest (OwnBody handlers taken) outer vars k = goes_itself _ k
   goes_behind g n input output rest (Block handlers) outer vars k = goes_itself _ k
   goes_behind g n input output rest (Handling x) outer vars k = goes_itself _ k
   goes_behind g n input output rest (Loop name turns stmts) outer vars k = goes_turn g n input output rest name turns stmts outer vars k

@@ -13,7 +13,7 @@ use Rattle.ada_value.specs.Values.{and_then, position_of, lies_in, lower, checke
 use Rattle.ada_value.specs.Variables.{Object, Variables, object_named, value_there, checked_for, with_value, set_value}
 use Rattle.ada_value.specs.Evaluating.{evaluated}
 use Rattle.task_model.specs.declared.parameters.FormalParameter.{FormalParameter}
-use Rattle.task_model.specs.Frames.{Around, Whole, Block, Handling, Loop, Opened, Part, brought}
+use Rattle.task_model.specs.Frames.{Around, OwnBody, Block, Handling, Loop, Opened, PFrame, brought}
 use Rattle.task_model.specs.Calls.{opening, openings, opened_objects, variable_of, Copies, stored_back, copies_on, copied_one, copied_back}
 use Rattle.task_invariants.specs.Holding.{Fits, AreHeld, Own, HeldIn, IsHeld, ValuesFit, LowersFit, AreAlike}
 
@@ -141,13 +141,13 @@ held_same (formal ∷ formals) [] (p ∷ others) h k = absurd h
 held_same (formal ∷ formals) (o ∷ vars) [] h k = absurd h
 
 own_same : (place : Around) (vars others : Variables) → AreSame vars others → Own place vars → Own place others
-own_same (Whole handlers taken) vars others h k = tt
+own_same (OwnBody handlers taken) vars others h k = tt
 own_same (Block handlers) vars others h k = tt
 own_same (Handling x) vars others h k = tt
 own_same (Loop name turns stmts) vars others h k = tt
 own_same (Opened caller formals pending) vars others h k = held_same formals vars others h k
 
-held_in_same : (parts : List Part) (vars others : Variables) → AreSame vars others → HeldIn parts vars → HeldIn parts others
+held_in_same : (parts : List PFrame) (vars others : Variables) → AreSame vars others → HeldIn parts vars → HeldIn parts others
 held_in_same [] vars others h k = tt
 held_in_same (part ∷ parts) vars others h k = (
   own_same part.place vars others h k.0,
@@ -155,7 +155,7 @@ held_in_same (part ∷ parts) vars others h k = (
 )
 
 -- What is held of variables is held of the same with other values.
-pub is_held_same : (place : Around) (outer : List Part) (vars others : Variables) → AreSame vars others → IsHeld place outer vars → IsHeld place outer others
+pub is_held_same : (place : Around) (outer : List PFrame) (vars others : Variables) → AreSame vars others → IsHeld place outer vars → IsHeld place outer others
 is_held_same place outer vars others h k = (
   own_same place vars others h k.0,
   held_in_same outer (drop (brought place) vars) (drop (brought place) others) (same_drop (brought place) vars others h) k.1,

@@ -1,7 +1,7 @@
 -- What holds of every accept statement in statements, whatever it is (9.5).
 use Rattle.std.specs.Prelude.{List, [], ◌∷◌}
 use Rattle.ada_tree.specs.PlainStmt.{PHead, PStmt, SNull, SAssign, SDelay, SExit, SRaise, SAbort, SCall, SAccept, SWait, SConditional, STimed, SPut, SPutLine, SNewLine, SGet, SIf, SCase, SBlock, SLoop, PStmts, no_stmt, stmt_then, PMaybe, absent, present, PAccept, accepting, PAlt, alternative, PAltKind, AAccept, ADelay, ATerminate, PAlts, no_alt, alt_then, PArm, arm, PArms, no_arm, arm_then, PCaseArm, case_arm, PCaseArms, no_case_arm, case_arm_then, PBody, body, PHandler, handler, PHandlers, no_handler, handler_then}
-use Rattle.task_model.specs.Frames.{Around, Whole, Block, Handling, Loop, Opened, Part}
+use Rattle.task_model.specs.Frames.{Around, OwnBody, Block, Handling, Loop, Opened, PFrame}
 
 module _ (Head : PHead → Type 0) where
   abbrev mutual
@@ -75,13 +75,13 @@ module _ (Head : PHead → Type 0) where
 
   -- of every accept statement in what a frame stands in
   abbrev pub InPlace : Around → Type 0
-  InPlace (Whole handlers taken) = InHandlers handlers
+  InPlace (OwnBody handlers taken) = InHandlers handlers
   InPlace (Block handlers) = InHandlers handlers
   InPlace (Handling x) = Unit {0}
   InPlace (Loop name turns stmts) = InStmts stmts
   InPlace (Opened caller formals pending) = Unit {0}
 
   -- and in frames
-  abbrev pub InParts : List Part → Type 0
+  abbrev pub InParts : List PFrame → Type 0
   InParts [] = Unit {0}
   InParts (part ∷ parts) = (InStmts part.rest × InPlace part.place) × InParts parts

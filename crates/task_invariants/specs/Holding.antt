@@ -6,7 +6,7 @@ use Rattle.ada_value.specs.declared.values.Limits.{Limits}
 use Rattle.ada_value.specs.Values.{position_of, lies_in, lower}
 use Rattle.ada_value.specs.Variables.{Variables, value_there}
 use Rattle.task_model.specs.declared.parameters.FormalParameter.{FormalParameter}
-use Rattle.task_model.specs.Frames.{Around, Whole, Block, Handling, Loop, Opened, Part, Control, brought}
+use Rattle.task_model.specs.Frames.{Around, OwnBody, Block, Handling, Loop, Opened, PFrame, Control, brought}
 
 -- a value lies in a subtype (3.3)
 abbrev pub Fits : Limits → Value → Type 0
@@ -20,19 +20,19 @@ AreHeld (formal ∷ formals) (o ∷ vars) = ((o.limits ≡ formal.limits) × Fit
 
 -- the variables of one frame: of an accept body its formals
 abbrev pub Own : Around → Variables → Type 0
-Own (Whole handlers taken) vars = Unit {0}
+Own (OwnBody handlers taken) vars = Unit {0}
 Own (Block handlers) vars = Unit {0}
 Own (Handling x) vars = Unit {0}
 Own (Loop name turns stmts) vars = Unit {0}
 Own (Opened caller formals pending) vars = AreHeld formals vars
 
 -- of frames, the inner ones first
-abbrev pub HeldIn : List Part → Variables → Type 0
+abbrev pub HeldIn : List PFrame → Variables → Type 0
 HeldIn [] vars = Unit {0}
 HeldIn (part ∷ parts) vars = Own part.place vars × HeldIn parts (drop (brought part.place) vars)
 
 -- The formals of all accept bodies that are open are held.
-abbrev pub IsHeld : Around → List Part → Variables → Type 0
+abbrev pub IsHeld : Around → List PFrame → Variables → Type 0
 IsHeld place outer vars = Own place vars × HeldIn outer (drop (brought place) vars)
 
 -- values fit formals in order: each lies in its formal's subtype; a formal without value opens with its lower bound, which does (6.4.1)
@@ -60,13 +60,13 @@ pub record Opening : Type 0 where
   pub formals : List FormalParameter
 
 abbrev pub opening_at : Around → List Opening
-opening_at (Whole handlers taken) = []
+opening_at (OwnBody handlers taken) = []
 opening_at (Block handlers) = []
 opening_at (Handling x) = []
 opening_at (Loop name turns stmts) = []
 opening_at (Opened caller formals pending) = record { caller = caller; formals = formals } ∷ []
 
-abbrev pub openings_among : List Part → List Opening
+abbrev pub openings_among : List PFrame → List Opening
 openings_among [] = []
 openings_among (part ∷ parts) = opening_at part.place ++ openings_among parts
 

@@ -1,15 +1,12 @@
 -- Maps in which the first that comes for a key is kept: what they have after one more.
-use Rattle.std.specs.Prelude.{◌≡◌, ◌==◌, ◌<◌, ◌≤◌, ◌+◌, ℕ, ℤ, pos, suc, nat_eq, nat_lt, Bool, true, false, cond, if◌then◌else◌, ◌&&◌, List, [], ◌∷◌, ◌++◌, length, take, find, position, Option, Some, None, option_map, is_some, refl, Result, Ok, Err, OnOk}
+use Rattle.std.specs.Prelude.{◌≡◌, ◌==◌, ◌<◌, ◌≤◌, ◌+◌, ℕ, ℤ, pos, suc, nat_eq, nat_lt, Bool, true, false, cond, if◌then◌else◌, ◌&&◌, List, [], ◌∷◌, ◌++◌, length, take, find, position, Option, Some, None, option_map, is_some, refl}
 use Rattle.std.proofs.Common.{sym, ap, ◌∙◌, get_or, arith}
 use Rattle.std.specs.Cmp.{IsEquivalence}
 use Rattle.std.specs.Ordering.{int_eq}
 use Rattle.std.proofs.lemmas.Cmp.{nat_eq_equiv, int_eq_equiv, on_equiv, and_equiv}
 use Rattle.std.specs.HashMap.{HashMap, get}
 use Rattle.std.specs.Map.{lookup}
-use Rattle.std.specs.List.{position_or_len}
-use Rattle.std.proofs.lemmas.List.{length_push, take_more, length-take-le}
-use Rattle.std.proofs.lemmas.List.Folds.{position_or_len_push}
-use Rattle.std.proofs.lemmas.List.Sums.{prefix_len-le-length}
+use Rattle.std.proofs.lemmas.List.{take_more, length-take-le}
 use Rattle.std.proofs.lemmas.Bool.Decides.{nat_tests}
 use Rattle.ada_tree.specs.declared.naming.NameId.{NameId}
 use Rattle.ada_tree.specs.declared.static_types.Kind.{Kind}
@@ -25,20 +22,10 @@ use Rattle.syn_event.specs.declared.numbering.TaskInfo.{TaskInfo}
 use Rattle.syn_event.specs.declared.numbering.EntryInfo.{EntryInfo}
 use Rattle.task_model.specs.Setting.{is_member}
 use Rattle.task_links.specs.inner.Keys.{entry_eq, member_eq}
-
-pub on_ok : {A E P Q : Type 0} (r : Result A E) → (P → Q) → OnOk r P → OnOk r Q
-on_ok (Ok x) f h = f h
-on_ok (Err e) f h = h
+use Rattle.common_lemmas.proofs.Numbers.{zero_more}
+use Rattle.tree_lemmas.proofs.FirstOfTwo.{find_push, first_of_three, first_or_none, position_more}
 
 -- ---- the first of two
-
-pub first_of_three : {A : Type 0} (a b c : Option A) → first_of_two (first_of_two a b) c ≡ first_of_two a (first_of_two b c)
-first_of_three None b c = refl
-first_of_three (Some x) b c = refl
-
-pub or_none : {A : Type 0} (a : Option A) → first_of_two a None ≡ a
-or_none None = refl
-or_none (Some x) = refl
 
 pub map_first : {A B : Type 0} (f : A → B) (a b : Option A) → option_map f (first_of_two a b) ≡ first_of_two (option_map f a) (option_map f b)
 map_first f None b = refl
@@ -58,10 +45,6 @@ more start so_far grown done all here kept grows longer =
 found_test : {X : Type 0} (x : X) (o r q : Option X) (b : Bool) → o ≡ first_of_two r q → (if b then Some x else o) ≡ first_of_two (if b then Some x else r) q
 found_test x o r q true h = refl
 found_test x o r q false h = h
-
-pub find_push : {X : Type 0} (p : X → Bool) (xs : List X) (y : X) → find p (xs ++ y ∷ []) ≡ first_of_two (find p xs) (if p y then Some y else None)
-find_push p [] y = refl
-find_push p (x ∷ xs) y = found_test x (find p (xs ++ y ∷ [])) (find p xs) (if p y then Some y else None) (p x) (find_push p xs y)
 
 pub find_more : {X : Type 0} (p : X → Bool) (xs : List X) (i : ℕ) (d : X) → i < length xs → find p (take (i + 1) xs) ≡ first_of_two (find p (take i xs)) (if p (get_or xs i d) then Some (get_or xs i d) else None)
 find_more p xs i d h = ap (find p) (take_more xs i d h) ∙ find_push p (take i xs) (get_or xs i d)
@@ -86,18 +69,6 @@ at_end : (place count : ℕ) (b : Bool) → place ≤ count → place_in (if pla
 at_end place count true h = grind (arith, nat_tests)
 at_end place count false h = grind (arith, nat_tests)
 
-position_push : {X : Type 0} (p : X → Bool) (xs : List X) (y : X) → position p (xs ++ y ∷ []) ≡ first_of_two (position p xs) (if p y then Some (length xs) else None)
-position_push p xs y =
-    ap (λ n. place_in n (length (xs ++ y ∷ []))) (position_or_len_push p xs y)
-    ∙ ap (place_in _) (length_push xs y)
-    ∙ at_end (position_or_len p xs) (length xs) (p y) (prefix_len-le-length _ xs)
-
-pub position_more : {X : Type 0} (p : X → Bool) (xs : List X) (i : ℕ) (d : X) → i < length xs → position p (take (i + 1) xs) ≡ first_of_two (position p (take i xs)) (if p (get_or xs i d) then Some i else None)
-position_more p xs i d h =
-    ap (position p) (take_more xs i d h)
-    ∙ position_push p (take i xs) (get_or xs i d)
-    ∙ ap (λ n. first_of_two (position p (take i xs)) (if p (get_or xs i d) then Some n else None)) (length-take-le i xs (omega (arith, h)))
-
 -- the same, where something is made of the place
 pub placed_more : {X A : Type 0} (f : ℕ → A) (p : X → Bool) (xs : List X) (i : ℕ) (d : X) → i < length xs → option_map f (position p (take (i + 1) xs)) ≡ first_of_two (option_map f (position p (take i xs))) (if p (get_or xs i d) then Some (f i) else None)
 placed_more f p xs i d h =
@@ -117,14 +88,11 @@ one_behind : (k n : ℕ) → suc k + n ≡ k + suc n
 one_behind k n = omega arith
 
 literal_push : (kinds : List Kind) (k : ℕ) (kind : Kind) (id : NameId) → literal_value (kinds ++ kind ∷ []) k id ≡ first_of_two (literal_value kinds k id) (literal_at id kind (k + length kinds))
-literal_push [] k kind id = or_none (literal_at id kind k) ∙ ap (literal_at id kind) (no_more k)
+literal_push [] k kind id = first_or_none (literal_at id kind k) ∙ ap (literal_at id kind) (no_more k)
 literal_push (first ∷ kinds) k kind id =
     ap (first_of_two (literal_at id first k)) (literal_push kinds (suc k) kind id)
     ∙ sym (first_of_three (literal_at id first k) (literal_value kinds (suc k) id) (literal_at id kind (suc k + length kinds)))
     ∙ ap (λ n. first_of_two (first_of_two (literal_at id first k) (literal_value kinds (suc k) id)) (literal_at id kind n)) (one_behind k (length kinds))
-
-none_before : (i : ℕ) → 0 + i ≡ i
-none_before i = omega arith
 
 pub literal_of : (place kind : ℕ) (names more_names : List NameId) (whole : Kind) (id : NameId) (start grown : Option Value) → kind ≡ word place → more_names ≡ names → ((position (λ n. n.0 == id.0) names) ≡ position_in id whole)
     → grown ≡ first_of_two start (option_map (λ n. placed kind (pos n)) (position (λ n. n.0 == id.0) more_names)) → grown ≡ first_of_two start (literal_at id whole place)
@@ -138,7 +106,7 @@ pub literals_more : (kinds : List Kind) (i : ℕ) (kind : Kind) (id : NameId) �
 literals_more kinds i kind id h is =
     ap (λ l. literal_value l 0 id) (take_more kinds i kind h)
     ∙ literal_push (take i kinds) 0 (get_or kinds i kind) id
-    ∙ ap (λ n. first_of_two (literal_value (take i kinds) 0 id) (literal_at id (get_or kinds i kind) n)) (none_before (length (take i kinds)) ∙ length-take-le i kinds (omega (arith, h)))
+    ∙ ap (λ n. first_of_two (literal_value (take i kinds) 0 id) (literal_at id (get_or kinds i kind) n)) (zero_more (length (take i kinds)) ∙ length-take-le i kinds (omega (arith, h)))
     ∙ ap (λ k. first_of_two (literal_value (take i kinds) 0 id) (literal_at id k i)) (sym is)
 
 -- ---- keys of any sort
@@ -155,12 +123,12 @@ is_some_not : {X : Type 0} (here : Option X) (x : X) → here ≡ Some x → is_
 is_some_not here x e h = cc
 
 pub kept_test : {X : Type 0} (b : Bool) (here there : Option X) (v : X) → (b ≡ true → here ≡ there) → is_some here ≡ true → there ≡ first_of_two there (if b then Some v else None)
-kept_test false here there v same h = sym (or_none there)
+kept_test false here there v same h = sym (first_or_none there)
 kept_test true here (Some x) v same h = refl
 kept_test true here None v same h = absurd (is_none_not here (same refl) h)
 
 put_test : {X : Type 0} (b : Bool) (here there grown : Option X) (v : X) → (b ≡ true → here ≡ there) → is_some here ≡ false → grown ≡ cond b (Some v) there → grown ≡ first_of_two there (if b then Some v else None)
-put_test false here there grown v same h e = e ∙ sym (or_none there)
+put_test false here there grown v same h e = e ∙ sym (first_or_none there)
 put_test true here (Some x) grown v same h e = absurd (is_some_not here x (same refl) h)
 put_test true here None grown v same h e = e
 
@@ -253,11 +221,11 @@ member_equiv = and_equiv (on_equiv (λ t. t.0) nat_eq_equiv) (on_equiv (λ t. t.
 
 -- what is no member is kept for no index
 pub none_kept : (g : Option ℕ) (b : Bool) (n : ℕ) → g ≡ first_of_two g (if b && false then Some n else None)
-none_kept g true n = sym (or_none g)
-none_kept g false n = sym (or_none g)
+none_kept g true n = sym (first_or_none g)
+none_kept g false n = sym (first_or_none g)
 
 -- a member is kept for its index
 pub same_index : (g : Option ℕ) (b : Bool) (n : ℕ) (j i : ℤ) → first_of_two g (if b && int_eq j i then Some n else None) ≡ first_of_two g (if b && int_eq i j then Some n else None)
 same_index g b n j i = ap (λ t. first_of_two g (if b && t then Some n else None)) (int_eq_equiv.symm j i)
 
-pub ruleset keeping = (or_none, first_of_three)
+pub ruleset keeping = (first_or_none, first_of_three)

@@ -1,9 +1,8 @@
 -- The formals of the entries of one task more.
 use Rattle.std.specs.Prelude.{◌≡◌, ◌==◌, ◌<◌, ◌≤◌, ◌+◌, ℕ, nat_eq, Bool, true, false, if◌then◌else◌, ◌&&◌, List, [], ◌∷◌, ◌++◌, Vec, length, take, map, find, Option, Some, None, option_map, is_some, cond, refl}
-use Rattle.std.proofs.Common.{sym, ap, ◌∙◌, get_or, arith}
+use Rattle.std.proofs.Common.{sym, ap, ◌∙◌, get_or}
 use Rattle.std.specs.HashMap.{HashMap, get}
 use Rattle.std.specs.declared.alloc.Global.{Global}
-use Rattle.std.proofs.lemmas.Bool.Decides.{nat_tests}
 use Rattle.std.proofs.lemmas.List.{take_more, take_all, map-append}
 use Rattle.ada_tree.specs.declared.declarations.Decl.{Decl}
 use Rattle.ada_tree.specs.declared.declarations.EntryDecl.{EntryDecl}
@@ -17,24 +16,17 @@ use Rattle.task_model.specs.Setting.{parameters_of}
 use Rattle.task_model.specs.declared.parameters.FormalParameter.{FormalParameter}
 use Rattle.task_links.specs.inner.Keys.{entry_eq}
 use Rattle.task_links.specs.inner.Made.{KeepsUnits, formals_at, formals_among, formals_declared_in, formals_declared}
-use Rattle.task_links.proofs.KeepingLemmas.{or_none, more, map_first, map_if, find_push, made_push, lookup_same, kept_test, put, entry_equiv}
+use Rattle.task_links.proofs.KeepingLemmas.{more, map_first, map_if, made_push, lookup_same, kept_test, put, entry_equiv}
+use Rattle.common_lemmas.proofs.Numbers.{equal_is}
+use Rattle.common_lemmas.proofs.Options.{mapped_there, none_there}
+use Rattle.syn_event.proofs.DeclLists.{listed_back}
+use Rattle.tree_lemmas.proofs.FirstOfTwo.{find_push, first_or_none}
 
 abbrev name_of : PTask → ℕ
 name_of t = t.name.name.0
 
 abbrev named : ℕ → PTask → Bool
 named k t = t.name.name.0 == k
-
-same_name : (a k : ℕ) → (a == k) ≡ true → a ≡ k
-same_name a k h = grind (arith, nat_tests)
-
-some_mapped : {X A : Type 0} (f : X → A) (o : Option X) → is_some (option_map f o) ≡ is_some o
-some_mapped f None = refl
-some_mapped f (Some x) = refl
-
-none_of : {X : Type 0} (o : Option X) → is_some o ≡ false → o ≡ None
-none_of None h = refl
-none_of (Some x) h = cc
 
 false_true : false ≡ true → ⊥
 false_true h = cc
@@ -51,12 +43,12 @@ already true None x h = absurd (false_true (h refl))
 found_before : (ts : List PTask) (t : PTask) (k : ℕ) → is_some (find (named (name_of t)) ts) ≡ true → find (named k) (ts ++ t ∷ []) ≡ find (named k) ts
 found_before ts t k h =
     find_push (named k) ts t
-    ∙ already (named k t) (find (named k) ts) t (λ same. ap (λ n. is_some (find (named n) ts)) (sym (same_name (name_of t) k same)) ∙ h)
+    ∙ already (named k t) (find (named k) ts) t (λ same. ap (λ n. is_some (find (named n) ts)) (sym (equal_is (name_of t) k same)) ∙ h)
 
 pub known_step : {S R : Type 0} (types : TypeTable) (ts : List PTask) (t : PTask) (units : HashMap ℕ ℕ S) (formals : HashMap (ℕ × ℕ) (Vec FormalParameter Global) R) → is_some (get nat_eq units t.name.name.0) ≡ true
     → KeepsUnits types ts units formals → KeepsUnits types (ts ++ t ∷ []) units formals
 known_step types ts t units formals known keeps =
-    let here = sym (some_mapped name_of (find (named (name_of t)) ts)) ∙ ap is_some (sym (keeps.units_are (name_of t))) ∙ known in
+    let here = sym (mapped_there name_of (find (named (name_of t)) ts)) ∙ ap is_some (sym (keeps.units_are (name_of t))) ∙ known in
     record {
       units_are = λ k. keeps.units_are k ∙ ap (option_map name_of) (sym (found_before ts t k here));
       formals_are = λ q. keeps.formals_are q ∙ ap (λ o. formals_declared_in types o q.1) (sym (found_before ts t q.0 here));
@@ -66,7 +58,7 @@ one_more : (types : TypeTable) (b : Bool) (o : Option PTask) (t : PTask) (n : �
     → first_of_two (formals_declared_in types o n) (if b then formals_among types t.entries n else None) ≡ formals_declared_in types (first_of_two o (if b then Some t else None)) n
 one_more types true None t n h = refl
 one_more types false None t n h = refl
-one_more types false (Some x) t n h = or_none (formals_declared_in types (Some x) n)
+one_more types false (Some x) t n h = first_or_none (formals_declared_in types (Some x) n)
 one_more types true (Some x) t n h = absurd (some_not_none (Some x) x refl (h refl))
 
 pub new_step : {S R : Type 0} (types : TypeTable) (ts : List PTask) (t : PTask) (units more_units : HashMap ℕ ℕ S) (formals more_formals : HashMap (ℕ × ℕ) (Vec FormalParameter Global) R) → is_some (get nat_eq units t.name.name.0) ≡ false
@@ -74,7 +66,7 @@ pub new_step : {S R : Type 0} (types : TypeTable) (ts : List PTask) (t : PTask) 
     → ((q : ℕ × ℕ) → formals_at more_formals q ≡ first_of_two (formals_at formals q) (if t.name.name.0 == q.0 then formals_among types t.entries q.1 else None))
     → KeepsUnits types ts units formals → KeepsUnits types (ts ++ t ∷ []) more_units more_formals
 new_step types ts t units more_units formals more_formals unknown units_grow formals_grow keeps =
-    let none : find (named (name_of t)) ts ≡ None = none_of (find (named (name_of t)) ts) (sym (some_mapped name_of (find (named (name_of t)) ts)) ∙ ap is_some (sym (keeps.units_are (name_of t))) ∙ unknown) in
+    let none : find (named (name_of t)) ts ≡ None = none_there (find (named (name_of t)) ts) (sym (mapped_there name_of (find (named (name_of t)) ts)) ∙ ap is_some (sym (keeps.units_are (name_of t))) ∙ unknown) in
     record {
       units_are = λ k.
           units_grow k
@@ -83,7 +75,7 @@ new_step types ts t units more_units formals more_formals unknown units_grow for
       formals_are = λ q.
           formals_grow q
           ∙ ap (λ o. first_of_two o (if named q.0 t then formals_among types t.entries q.1 else None)) (keeps.formals_are q)
-          ∙ one_more types (named q.0 t) (find (named q.0) ts) t q.1 (λ same. ap (λ n. find (named n) ts) (sym (same_name (name_of t) q.0 same)) ∙ none)
+          ∙ one_more types (named q.0 t) (find (named q.0) ts) t q.1 (λ same. ap (λ n. find (named n) ts) (sym (equal_is (name_of t) q.0 same)) ∙ none)
           ∙ ap (λ o. formals_declared_in types o q.1) (sym (find_push (named q.0) ts t));
     }
 
@@ -101,7 +93,7 @@ pub kept_before : {S : Type 0} (m : HashMap (ℕ × ℕ) (Vec FormalParameter Gl
 kept_before m key q l h =
     kept_test (entry_eq key q) (formals_at m key) (formals_at m q) l
     (λ t. ap (option_map (λ (v : Vec FormalParameter Global). v.items)) (lookup_same entry_eq entry_equiv key q t m.entries))
-    (some_mapped (λ (v : Vec FormalParameter Global). v.items) (get entry_eq m key) ∙ h)
+    (mapped_there (λ (v : Vec FormalParameter Global). v.items) (get entry_eq m key) ∙ h)
 
 -- an entry that is new
 pub kept_now : {S : Type 0} (m grown : HashMap (ℕ × ℕ) (Vec FormalParameter Global) S) (key q : ℕ × ℕ) (v : Vec FormalParameter Global) (l : List FormalParameter) → is_some (get entry_eq m key) ≡ false → get entry_eq grown q ≡ cond (entry_eq key q) (Some v) (get entry_eq m q)
@@ -139,11 +131,7 @@ entry_more types unit start so_far grown entries i e formals h is formals_are be
 
 -- ---- declarations
 
-row_list : (ds : List PDecl) → decl_list (decls_of ds) ≡ ds
-row_list [] = refl
-row_list (d ∷ ds) = ap (λ l. d ∷ l) (row_list ds)
-
-tasks_push : (ds : List PDecl) (d : PDecl) → tasks_in (ds ++ d ∷ []) ≡ tasks_in ds ++ tasks_in (d ∷ [])
+pub tasks_push : (ds : List PDecl) (d : PDecl) → tasks_in (ds ++ d ∷ []) ≡ tasks_in ds ++ tasks_in (d ∷ [])
 tasks_push [] d = refl
 tasks_push (DNumber w e s ∷ ds) d = tasks_push ds d
 tasks_push (DObject ws c x i s ∷ ds) d = tasks_push ds d
@@ -166,7 +154,7 @@ tasks_more ds i d h is =
     ∙ ap (λ l. tasks_in (map plain_decl l)) (sym (take_more ds i d h))
 
 tasks_all : (ds : List Decl) → tasks_in (map plain_decl ds) ≡ tasks_in (decl_list (decls_of (map plain_decl ds)))
-tasks_all ds = ap tasks_in (sym (row_list (map plain_decl ds)))
+tasks_all ds = ap tasks_in (sym (listed_back (map plain_decl ds)))
 
 pub tasks_end : (ds : List Decl) (i : ℕ) → length ds ≤ i → tasks_in (map plain_decl (take i ds)) ≡ tasks_in (decl_list (decls_of (map plain_decl ds)))
 tasks_end ds i h = ap (λ l. tasks_in (map plain_decl l)) (take_all i ds h) ∙ tasks_all ds

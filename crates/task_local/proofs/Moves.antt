@@ -9,9 +9,9 @@ use Rattle.task_model.specs.Stands as model
 use Rattle.task_model.specs.Stands.{stand_of, stepped, stepped_by, name_stand}
 use Rattle.task_model.specs.Rendezvous.{behind_of, passed, took_delay, took_else}
 use Rattle.task_steps.specs.Sequential.{sequential_by, sequential_step}
-use Rattle.task_calls.proofs.Walking.{here_at}
 use Rattle.task_local.specs.inner.Local.{IsWithin, behind_names, names_in}
 use Rattle.task_local.proofs.Names.{none_passed, no_delay, no_else, step_alike, names_on, names_end, stands_at_name}
+use Rattle.common_lemmas.proofs.Lists.{rest_at}
 
 -- ---- local steps
 
@@ -64,4 +64,4 @@ pub name_next : (xs : List Callee) (k : ℕ) (x : Callee) (t : Task) → map pla
     name_stand (task_of t.setting (vars_of t) (plain_callee x)) ≡ stand_of (behind_names k t)
 name_next xs k x t h more is =
     sym (stands_at_name k t (plain_callee x) (map plain_callee (drop (k + 1) xs))
-    (ap (drop k) (sym h) ∙ drop-map plain_callee k xs ∙ ap (map plain_callee) (here_at xs k x x more is)))
+    (ap (drop k) (sym h) ∙ drop-map plain_callee k xs ∙ ap (map plain_callee) (rest_at xs k x x more is)))

@@ -7,13 +7,14 @@ use Rattle.ada_value.specs.declared.values.Value.{Value}
 use Rattle.ada_value.specs.declared.values.Raised.{Raised}
 use Rattle.ada_value.specs.Variables.{Variables}
 use Rattle.task_model.specs.Setting.{Setting, task_of}
-use Rattle.task_model.specs.Frames.{Around, Part, control}
+use Rattle.task_model.specs.Frames.{Around, PFrame, control}
 use Rattle.task_model.specs.Tasks.{Task, rest_of, place_of, outer_of, vars_of, gone_to, raised_there, with_control}
 use Rattle.task_model.specs.Calls.{call_in, called_by, values_of, values_handed}
 use Rattle.task_model.specs.Waits.{alternative_for}
-use Rattle.task_model.specs.Stands.{Steps, stand_of, abort_stand, name_stand, offered, offer_of}
+use Rattle.task_model.specs.Stands.{Steps, stand_of, abort_stand, name_stand, offer_of}
 use Rattle.task_model.specs.Rendezvous.{behind_in, behind_of, alternative_opened, returned, took_else, took_delay, else_taken_in, delay_taken_in, passed, passed_at, passed_in}
 use Rattle.task_local.specs.inner.Local.{named_from, left_from, behind_names, names_in, IsWithin}
+use Rattle.task_rendezvous.proofs.Standing.{abort_not}
 
 -- ---- none
 
@@ -32,7 +33,7 @@ none_passed t = ap (λ rest. record { setting = t.setting; number = t.number; co
 -- ---- what is done there
 
 -- a task of these parts
-abbrev task_at : Setting → ℕ → List ℤ → List ℕ → PStmts → Around → List Part → Variables → Task
+abbrev task_at : Setting → ℕ → List ℤ → List ℕ → PStmts → Around → List PFrame → Variables → Task
 task_at g n input output rest place outer vars = record { setting = g; number = n; control = control rest place outer vars; input = input; output = output }
 
 -- an accept body that is opened with these values (9.5)
@@ -40,7 +41,7 @@ abbrev pub opened_at : ℕ → ℤ → ℕ → List Value → Task → Task
 opened_at e i caller values t = alternative_opened caller (alternative_for t e i) values t
 
 -- what does not ask for names is the same
-ends_alike : (k : ℕ) (g : Setting) (n : ℕ) (input : List ℤ) (output : List ℕ) (rest : PStmts) (place : Around) (outer : List Part) (vars : Variables) (values : List Value) →
+ends_alike : (k : ℕ) (g : Setting) (n : ℕ) (input : List ℤ) (output : List ℕ) (rest : PStmts) (place : Around) (outer : List PFrame) (vars : Variables) (values : List Value) →
     returned values (task_at g n input output (left_from k rest) place outer vars) ≡ returned values (task_at g n input output rest place outer vars)
 ends_alike k g n input output no_stmt place outer vars values = refl
 ends_alike k g n input output (stmt_then (SAbort cs s) rest) place outer vars values = refl
@@ -49,7 +50,7 @@ ends_alike k g n input output (stmt_then s rest) place outer vars values = refl
 pub returned_alike : (k : ℕ) (t : Task) (values : List Value) → returned values (behind_names k t) ≡ returned values t
 returned_alike k t values = ends_alike k t.setting t.number t.input t.output (rest_of t) (place_of t) (outer_of t) (vars_of t) values
 
-opens_alike : (k : ℕ) (g : Setting) (n : ℕ) (input : List ℤ) (output : List ℕ) (rest : PStmts) (place : Around) (outer : List Part) (vars : Variables) (e : ℕ) (i : ℤ) (caller : ℕ) (values : List Value) →
+opens_alike : (k : ℕ) (g : Setting) (n : ℕ) (input : List ℤ) (output : List ℕ) (rest : PStmts) (place : Around) (outer : List PFrame) (vars : Variables) (e : ℕ) (i : ℤ) (caller : ℕ) (values : List Value) →
     opened_at e i caller values (task_at g n input output (left_from k rest) place outer vars) ≡ opened_at e i caller values (task_at g n input output rest place outer vars)
 opens_alike k g n input output no_stmt place outer vars e i caller values = refl
 opens_alike k g n input output (stmt_then (SAbort cs s) rest) place outer vars e i caller values = refl
@@ -71,19 +72,11 @@ raised_alike k t x = refl
 
 -- ---- the end of an accept body
 
-abort_finishes : (t : Task) (cs : List PCallee) → offered (abort_stand t cs) ≡ Finishes → ⊥
-abort_finishes t [] h = cc
-abort_finishes t (c ∷ cs) h = named_finishes (task_of t.setting (vars_of t) c) h
-  where
-    named_finishes : (r : Result ℕ Raised) → offered (name_stand r) ≡ Finishes → ⊥
-    named_finishes (Ok x) k = cc
-    named_finishes (Err x) k = cc
-
 -- a task at the end of an accept body is behind none of its names
-finishes_alike : (k : ℕ) (g : Setting) (n : ℕ) (input : List ℤ) (output : List ℕ) (rest : PStmts) (place : Around) (outer : List Part) (vars : Variables) →
+finishes_alike : (k : ℕ) (g : Setting) (n : ℕ) (input : List ℤ) (output : List ℕ) (rest : PStmts) (place : Around) (outer : List PFrame) (vars : Variables) →
     offer_of (task_at g n input output (left_from k rest) place outer vars) ≡ Finishes → task_at g n input output (left_from k rest) place outer vars ≡ task_at g n input output rest place outer vars
 finishes_alike k g n input output no_stmt place outer vars h = refl
-finishes_alike k g n input output (stmt_then (SAbort cs s) rest) place outer vars h = absurd (abort_finishes (task_at g n input output (left_from k (stmt_then (SAbort cs s) rest)) place outer vars) (drop k cs) h)
+finishes_alike k g n input output (stmt_then (SAbort cs s) rest) place outer vars h = absurd (abort_not (task_at g n input output (left_from k (stmt_then (SAbort cs s) rest)) place outer vars) (drop k cs) h)
 finishes_alike k g n input output (stmt_then s rest) place outer vars h = refl
 
 pub finish_alike : (k : ℕ) (t : Task) → offer_of (behind_names k t) ≡ Finishes → behind_names k t ≡ t
@@ -107,7 +100,7 @@ abort_steps t (c ∷ cs) h = absurd (named_steps (task_of t.setting (vars_of t) 
     named_steps (Err x) k = cc
 
 -- a task that is behind names of an abort statement has no step, but for an exception
-steps_alike : (k : ℕ) (g : Setting) (n : ℕ) (input : List ℤ) (output : List ℕ) (rest : PStmts) (place : Around) (outer : List Part) (vars : Variables) → IsWithin (suc k) rest →
+steps_alike : (k : ℕ) (g : Setting) (n : ℕ) (input : List ℤ) (output : List ℕ) (rest : PStmts) (place : Around) (outer : List PFrame) (vars : Variables) → IsWithin (suc k) rest →
     stand_of (task_at g n input output (left_from (suc k) rest) place outer vars) ≡ Steps → task_at g n input output (left_from (suc k) rest) place outer vars ≡ task_at g n input output rest place outer vars
 steps_alike k g n input output no_stmt place outer vars w h = refl
 steps_alike k g n input output (stmt_then (SAbort cs s) rest) place outer vars w h = absurd (more_left PCallee (suc k) cs (w (omega arith)) (abort_steps (task_at g n input output (left_from (suc k) (stmt_then (SAbort cs s) rest)) place outer vars) (drop (suc k) cs) h))
@@ -185,7 +178,7 @@ no_delay m k t w = takes_no_delay m k (rest_of t) (behind_names (suc k) t) w
 
 -- ---- what the task stands at
 
-stands_named : (k : ℕ) (g : Setting) (n : ℕ) (input : List ℤ) (output : List ℕ) (rest : PStmts) (place : Around) (outer : List Part) (vars : Variables) (c : PCallee) (cs : List PCallee) → drop k (names_in rest) ≡ c ∷ cs →
+stands_named : (k : ℕ) (g : Setting) (n : ℕ) (input : List ℤ) (output : List ℕ) (rest : PStmts) (place : Around) (outer : List PFrame) (vars : Variables) (c : PCallee) (cs : List PCallee) → drop k (names_in rest) ≡ c ∷ cs →
     stand_of (task_at g n input output (left_from k rest) place outer vars) ≡ name_stand (task_of g vars c)
 stands_named k g n input output no_stmt place outer vars c cs h = absurd (none_behind PCallee k c cs h)
 stands_named k g n input output (stmt_then (SAbort ds s) rest) place outer vars c cs h = ap (abort_stand (task_at g n input output (left_from k (stmt_then (SAbort ds s) rest)) place outer vars)) h

@@ -13,6 +13,7 @@ use Rattle.event_machine.specs.Offers.{Offer, Nothing, Calls, Waits, Finishes, E
 use Rattle.event_machine.specs.Rows.{row, arrives, starts, has_no_caller, calls_owner, same, delay_row, delay_rows, rows_of}
 use Rattle.event_machine.specs.Seats.{Ops, Seen, is_live, is_waiting, is_queued}
 use Rattle.event_machine.proofs.Standings.{is-Live, is-Waiting, is-Queued}
+use Rattle.common_lemmas.proofs.Truth.{and_false}
 
 -- Of both lists the same elements pass the test.
 pub record Sieves {A : Type 0} (p : A → Bool) (xs ys : List A) : Type 0 where
@@ -28,10 +29,6 @@ without_one p x {xs} {ys} h e = record { same = ap (λ b. cond b (x ∷ filter p
 -- an element stands before both
 with_one : {A : Type 0} (p : A → Bool) (x : A) {xs ys : List A} → Sieves p xs ys → Sieves p (x ∷ xs) (x ∷ ys)
 with_one p x {xs} {ys} e = record { same = ap (λ zs. cond (p x) (x ∷ zs) zs) e.same }
-
-never : (b : Bool) → (b && false) ≡ false
-never true = refl
-never false = refl
 
 -- what a list of delays of a wait leaves, where none of them passes
 no_delays : (p : Action → Bool) (t : ℕ) → ((k : ℕ) → p (Delay t k) ≡ false) → (choices : List Choice) → filter p (filter_map (delay_row t) choices) ≡ []
@@ -90,7 +87,7 @@ module _ {L : Type 0} (ops : Ops L) (owner : ℕ → ℕ) (s : Seen L) (t : ℕ)
   no_fail h k = λ i. (h i || k i) && calls_owner is_any_form same owner s offer
 
   no_complete : is_live z ≡ false → p (Complete t) ≡ false
-  no_complete h = ap (λ b. not (t == 0) && (b && is_end offer)) h ∙ never (not (t == 0))
+  no_complete h = ap (λ b. not (t == 0) && (b && is_end offer)) h ∙ and_false (not (t == 0))
 
   no_abort : is_live z ≡ false → p (Abort t) ≡ false
   no_abort h = ap (λ b. b && is_some (aborted_by offer)) h
@@ -125,22 +122,22 @@ module _ {L : Type 0} (ops : Ops L) (owner : ℕ → ℕ) (s : Seen L) (t : ℕ)
   pub of_stepping : offer ≡ Nothing → Sieves p (rows_of ops s t) (Local t ∷ [])
   of_stepping q =
       with_one p (Local t)
-      (without_one p (Arrive t) (ap (λ o. is_live z && arrives owner s o) q ∙ never (is_live z))
+      (without_one p (Arrive t) (ap (λ o. is_live z && arrives owner s o) q ∙ and_false (is_live z))
       (without_one p (Start t) (ap (λ o. starts ops owner s t o) q)
-      (without_one p (Finish t) (ap (λ o. is_live z && is_finish o) q ∙ never (is_live z))
-      (without_one p (Else t) (ap (λ o. is_waiting z && (waits_with is_else o && has_no_caller ops s o)) q ∙ never (is_waiting z))
+      (without_one p (Finish t) (ap (λ o. is_live z && is_finish o) q ∙ and_false (is_live z))
+      (without_one p (Else t) (ap (λ o. is_waiting z && (waits_with is_else o && has_no_caller ops s o)) q ∙ and_false (is_waiting z))
       (nothing_before q
-      (without_one p (CallElse t) (ap (λ o. is_live z && (calls_owner is_conditional not owner s o && not (starts ops owner s t o))) q ∙ never (is_live z))
-      (without_one p (Expire t) (ap (λ o. is_queued z && calls_owner is_timed not owner s o) q ∙ never (is_queued z))
-      (without_one p (Fail t) (ap (λ o. (is_live z || is_queued z) && calls_owner is_any_form same owner s o) q ∙ never (is_live z || is_queued z))
-      (without_one p (Complete t) (ap (λ o. not (t == 0) && (is_live z && is_end o)) q ∙ ap (λ b. not (t == 0) && b) (never (is_live z)) ∙ never (not (t == 0)))
-      (without_one p (Abort t) (ap (λ o. is_live z && is_some (aborted_by o)) q ∙ never (is_live z)) (both_end p [])))))))))))
+      (without_one p (CallElse t) (ap (λ o. is_live z && (calls_owner is_conditional not owner s o && not (starts ops owner s t o))) q ∙ and_false (is_live z))
+      (without_one p (Expire t) (ap (λ o. is_queued z && calls_owner is_timed not owner s o) q ∙ and_false (is_queued z))
+      (without_one p (Fail t) (ap (λ o. (is_live z || is_queued z) && calls_owner is_any_form same owner s o) q ∙ and_false (is_live z || is_queued z))
+      (without_one p (Complete t) (ap (λ o. not (t == 0) && (is_live z && is_end o)) q ∙ ap (λ b. not (t == 0) && b) (and_false (is_live z)) ∙ and_false (not (t == 0)))
+      (without_one p (Abort t) (ap (λ o. is_live z && is_some (aborted_by o)) q ∙ and_false (is_live z)) (both_end p [])))))))))))
 
   -- a live task that has none
   pub of_live : is_live z ≡ true → steps ≡ false → Sieves p (rows_of ops s t) (Arrive t ∷ Start t ∷ Finish t ∷ CallElse t ∷ Fail t ∷ Complete t ∷ Abort t ∷ [])
   of_live live n =
       let h : z ≡ Live = is-Live z live in
-      without_one p (Local t) (ap (λ b. is_live z && b) n ∙ never (is_live z))
+      without_one p (Local t) (ap (λ b. is_live z && b) n ∙ and_false (is_live z))
       (with_one p (Arrive t) (with_one p (Start t) (with_one p (Finish t)
       (without_one p (Else t) (no_else (ap is_waiting h))
       (without_delays (ap is_waiting h)

@@ -1,8 +1,8 @@
 -- The table of conditions says of views what the machine without queues asks of tasks, and which tasks an event needs.
-use Rattle.std.proofs.Common.{◌≡◌, ℕ, zero, suc, pred, ◌+◌, ◌<◌, ◌≤◌, Bool, true, false, not, ◌&&◌, ◌||◌, ◌==◌, nat_le, if◌then◌else◌, List, [], ◌∷◌, length, refl, sym, ap, ◌∙◌, subst, slice_index_or, ⊎_elim, arith, length-append, Option, Some, None, true≢false}
+use Rattle.std.proofs.Common.{◌≡◌, ℕ, zero, suc, pred, ◌+◌, ◌<◌, ◌≤◌, Bool, true, false, not, ◌&&◌, ◌||◌, ◌==◌, if◌then◌else◌, List, [], ◌∷◌, length, refl, sym, ap, ◌∙◌, subst, slice_index_or, ⊎_elim, arith, length-append, Option, Some, None, true≢false}
 use Rattle.std.specs.Prelude.{All, find, option_map}
 use Rattle.std.specs.List.{list_all}
-use Rattle.std.proofs.lemmas.Bool.{cases_lt, and_parts, eq-eqb, eqb-true, le-leb, leb-true}
+use Rattle.std.proofs.lemmas.Bool.{cases_lt, and_parts, eqb-true}
 use Rattle.std.proofs.lemmas.List.{get_or_append_left, get_or_push}
 use Rattle.std.proofs.lemmas.List.Elements.{All-nil, All-cons}
 use Rattle.std.proofs.lemmas.List.Folds.{list_all-append}
@@ -22,16 +22,14 @@ use Rattle.task_model.specs.TaskOps.{task_ops}
 use Rattle.task_machine.specs.declared.verdict.Why.{Why}
 use Rattle.task_machine.specs.Views.{View, view_in, view_of}
 use Rattle.task_machine.specs.Conditions.{is_closed_view, is_served_view, is_completed_view, is_at, Condition, others_may_end, is_end_of, tasks_to, needed_of, holds, all_hold, why_of, failing_in}
+use Rattle.common_lemmas.proofs.Numbers.{equal_self, le_is, le_true}
+use Rattle.common_lemmas.proofs.Truth.{and_true}
 
 -- the program of these numbers, with so many tasks
 abbrev pub sized : Numbering → ℕ → Program Task
 sized numbers size = record { ops = task_ops; owner = owner_of numbers; size = size }
 
 -- ---- conditions
-
-and_true : (b : Bool) → (b && true) ≡ b
-and_true true = refl
-and_true false = refl
 
 and_assoc : (a b c : Bool) → ((a && b) && c) ≡ (a && (b && c))
 and_assoc true b c = refl
@@ -89,12 +87,6 @@ or_right : (a : Bool) {b : Bool} → b ≡ true → (a || b) ≡ true
 or_right true h = refl
 or_right false h = h
 
-same_task : (t : ℕ) → (t == t) ≡ true
-same_task t = eq-eqb t t refl
-
-le_test : (t n : ℕ) → t ≤ n → nat_le t n ≡ true
-le_test t n h = le-leb t n h
-
 module _ (numbers : Numbering) (size : ℕ) (e : Event) (views : ℕ → View) (tasks : ℕ → Seat Task) (seen : AreSeen numbers size e views tasks) where
   -- what is asked of a needed task that acts
   acts_at : (t : ℕ) (test : Offer → Bool) (rest : Bool) → needs (sized numbers size) e t ≡ true →
@@ -120,34 +112,34 @@ module _ (numbers : Numbering) (size : ℕ) (e : Event) (views : ℕ → View) (
 pub table_happens : (numbers : Numbering) (size : ℕ) → size ≡ length numbers.tasks → (e : Event) (views : ℕ → View) (tasks : ℕ → Seat Task) →
     AreSeen numbers size e views tasks → all_hold numbers views e ≡ happens (sized numbers size) tasks e
 table_happens numbers size count (R c e i) views tasks seen =
-    acts_at numbers size (R c e i) views tasks seen c (calls_in is_any_form e i) _ (or_left (c == owner_of numbers e) (same_task c))
+    acts_at numbers size (R c e i) views tasks seen c (calls_in is_any_form e i) _ (or_left (c == owner_of numbers e) (equal_self c))
     ∙ ap (λ b. (is_live (tasks c).standing && calls_in is_any_form e i (offer_of (tasks c).local)) && b)
-    (acts_alone numbers size (R c e i) views tasks seen (owner_of numbers e) (waits_with (opens e i)) (or_right (owner_of numbers e == c) (same_task (owner_of numbers e))))
-table_happens numbers size count (E a) views tasks seen = acts_alone numbers size (E a) views tasks seen a is_finish (same_task a)
-table_happens numbers size count (S a) views tasks seen = acts_alone numbers size (S a) views tasks seen a (waits_with is_else) (same_task a)
-table_happens numbers size count (D a k) views tasks seen = acts_alone numbers size (D a k) views tasks seen a (waits_with (is_delay k)) (same_task a)
+    (acts_alone numbers size (R c e i) views tasks seen (owner_of numbers e) (waits_with (opens e i)) (or_right (owner_of numbers e == c) (equal_self (owner_of numbers e))))
+table_happens numbers size count (E a) views tasks seen = acts_alone numbers size (E a) views tasks seen a is_finish (equal_self a)
+table_happens numbers size count (S a) views tasks seen = acts_alone numbers size (S a) views tasks seen a (waits_with is_else) (equal_self a)
+table_happens numbers size count (D a k) views tasks seen = acts_alone numbers size (D a k) views tasks seen a (waits_with (is_delay k)) (equal_self a)
 table_happens numbers size count (C c e i) views tasks seen =
-    acts_at numbers size (C c e i) views tasks seen c (calls_in is_conditional e i) _ (same_task c)
+    acts_at numbers size (C c e i) views tasks seen c (calls_in is_conditional e i) _ (equal_self c)
     ∙ ap (λ b. (is_live (tasks c).standing && calls_in is_conditional e i (offer_of (tasks c).local)) && b)
     (and_true (not (is_closed_view (views (owner_of numbers e)))) ∙ ap not (seen.closed (owner_of numbers e)))
 table_happens numbers size count (T c e i) views tasks seen =
-    acts_at numbers size (T c e i) views tasks seen c (calls_in is_timed e i) _ (same_task c)
+    acts_at numbers size (T c e i) views tasks seen c (calls_in is_timed e i) _ (equal_self c)
     ∙ ap (λ b. (is_live (tasks c).standing && calls_in is_timed e i (offer_of (tasks c).local)) && b)
     (and_true (not (is_closed_view (views (owner_of numbers e)))) ∙ ap not (seen.closed (owner_of numbers e)))
 table_happens numbers size count (F c e i) views tasks seen =
-    acts_at numbers size (F c e i) views tasks seen c (calls_in is_any_form e i) _ (same_task c)
+    acts_at numbers size (F c e i) views tasks seen c (calls_in is_any_form e i) _ (equal_self c)
     ∙ ap (λ b. (is_live (tasks c).standing && calls_in is_any_form e i (offer_of (tasks c).local)) && b)
     (and_true (is_closed_view (views (owner_of numbers e))) ∙ seen.closed (owner_of numbers e))
 table_happens numbers size count (X a) views tasks seen =
-    acts_alone numbers size (X a) views tasks seen a (is_end_of a) (same_task a)
+    acts_alone numbers size (X a) views tasks seen a (is_end_of a) (equal_self a)
     ∙ and_swap (is_live (tasks a).standing) (not (a == 0)) (is_end (offer_of (tasks a).local))
-table_happens numbers size count (B t x) views tasks seen = acts_alone numbers size (B t x) views tasks seen t (aborts x) (same_task t)
+table_happens numbers size count (B t x) views tasks seen = acts_alone numbers size (B t x) views tasks seen t (aborts x) (equal_self t)
 table_happens numbers size count Z views tasks seen =
-    ap (λ v. not (is_served_view v) && (is_at is_end v && list_all (holds views) (others_may_end (pred (length numbers.tasks))))) (seen.needed 0 (le_test 0 (pred size) (omega arith)))
+    ap (λ v. not (is_served_view v) && (is_at is_end v && list_all (holds views) (others_may_end (pred (length numbers.tasks))))) (seen.needed 0 (le_true 0 (pred size) (omega arith)))
     ∙ ends_then (tasks 0).standing (offer_of (tasks 0).local) is_end _ (seen.stills 0)
     ∙ ap (λ n. (is_live (tasks 0).standing && is_end (offer_of (tasks 0).local)) && list_all (holds views) (others_may_end (pred n))) (sym count)
     ∙ ap (λ b. (is_live (tasks 0).standing && is_end (offer_of (tasks 0).local)) && b)
-    (others_at numbers size Z views tasks seen (pred size) (λ t h. le_test t (pred size) h))
+    (others_at numbers size Z views tasks seen (pred size) (λ t h. le_true t (pred size) h))
 
 -- ---- needed tasks
 
@@ -168,9 +160,6 @@ all_to P n h k d less = subst P (sym (at_to n k d (let e : length (tasks_to n) �
 
 pub to_all : (P : ℕ → Type 0) (n : ℕ) → All P (tasks_to n) → (t : ℕ) → t ≤ n → P t
 to_all P n h t le = subst P (at_to n t 0 le) (h t 0 (let e : length (tasks_to n) ≡ suc n = length_to n in omega arith))
-
-le_from : (t n : ℕ) → nat_le t n ≡ true → t ≤ n
-le_from t n h = leb-true t n h
 
 all_one : (P : ℕ → Type 0) (a : ℕ) → P a → All P (a ∷ [])
 all_one P a h = All-cons P a [] h (All-nil P)
@@ -194,22 +183,22 @@ needed_at numbers size count P (T c e i) h t need = one_all P c t h need
 needed_at numbers size count P (F c e i) h t need = one_all P c t h need
 needed_at numbers size count P (X a) h t need = one_all P a t h need
 needed_at numbers size count P (B u x) h t need = one_all P u t h need
-needed_at numbers size count P Z h t need = to_all P (pred size) (subst (λ n. All P (tasks_to (pred n))) (sym count) h) t (le_from t (pred size) need)
+needed_at numbers size count P Z h t need = to_all P (pred size) (subst (λ n. All P (tasks_to (pred n))) (sym count) h) t (le_is t (pred size) need)
 
 -- And back.
 pub needed_all : (numbers : Numbering) (size : ℕ) → size ≡ length numbers.tasks → (P : ℕ → Type 0) (e : Event) →
     ((t : ℕ) → needs (sized numbers size) e t ≡ true → P t) → All P (needed_of numbers e)
 needed_all numbers size count P (R c e i) h =
-    All-cons P c (owner_of numbers e ∷ []) (h c (or_left (c == owner_of numbers e) (same_task c))) (all_one P (owner_of numbers e) (h (owner_of numbers e) (or_right (owner_of numbers e == c) (same_task (owner_of numbers e)))))
-needed_all numbers size count P (E a) h = all_one P a (h a (same_task a))
-needed_all numbers size count P (S a) h = all_one P a (h a (same_task a))
-needed_all numbers size count P (D a k) h = all_one P a (h a (same_task a))
-needed_all numbers size count P (C c e i) h = all_one P c (h c (same_task c))
-needed_all numbers size count P (T c e i) h = all_one P c (h c (same_task c))
-needed_all numbers size count P (F c e i) h = all_one P c (h c (same_task c))
-needed_all numbers size count P (X a) h = all_one P a (h a (same_task a))
-needed_all numbers size count P (B u x) h = all_one P u (h u (same_task u))
-needed_all numbers size count P Z h = subst (λ n. All P (tasks_to (pred n))) count (all_to P (pred size) (λ t le. h t (le_test t (pred size) le)))
+    All-cons P c (owner_of numbers e ∷ []) (h c (or_left (c == owner_of numbers e) (equal_self c))) (all_one P (owner_of numbers e) (h (owner_of numbers e) (or_right (owner_of numbers e == c) (equal_self (owner_of numbers e)))))
+needed_all numbers size count P (E a) h = all_one P a (h a (equal_self a))
+needed_all numbers size count P (S a) h = all_one P a (h a (equal_self a))
+needed_all numbers size count P (D a k) h = all_one P a (h a (equal_self a))
+needed_all numbers size count P (C c e i) h = all_one P c (h c (equal_self c))
+needed_all numbers size count P (T c e i) h = all_one P c (h c (equal_self c))
+needed_all numbers size count P (F c e i) h = all_one P c (h c (equal_self c))
+needed_all numbers size count P (X a) h = all_one P a (h a (equal_self a))
+needed_all numbers size count P (B u x) h = all_one P u (h u (equal_self u))
+needed_all numbers size count P Z h = subst (λ n. All P (tasks_to (pred n))) count (all_to P (pred size) (λ t le. h t (le_true t (pred size) le)))
 
 -- ---- the first condition that fails
 

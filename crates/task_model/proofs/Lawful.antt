@@ -15,7 +15,7 @@ use Rattle.ada_value.specs.declared.values.Limits.{Limits}
 use Rattle.ada_value.specs.Values.{and_then, is_empty_range}
 use Rattle.ada_value.specs.Variables.{Variables}
 use Rattle.task_model.specs.Setting.{Setting, task_of}
-use Rattle.task_model.specs.Frames.{Turns, Endless, While, Counting, Around, Whole, Block, Handling, Loop, Opened, Part, Control, control, in_front, settled_in, settled, unit_with, block_with, handler_for, raised_in, is_left, exited_in, without_own, caller_at, callers_among, callers_in}
+use Rattle.task_model.specs.Frames.{Turns, Endless, While, Counting, Around, OwnBody, Block, Handling, Loop, Opened, PFrame, Control, control, in_front, settled_in, settled, unit_with, block_with, handler_for, raised_in, is_left, exited_in, without_own, caller_at, callers_among, callers_in}
 use Rattle.task_model.specs.Tasks.{Task, rest_of, place_of, outer_of, vars_of, value_of, stmts_or_none, with_vars, with_input, with_text, gone_to, entered, pushed, raised_there, or_raised}
 use Rattle.task_model.specs.Steps as steps
 use Rattle.task_model.specs.Calls.{Called, Copies, called, values_handed}
@@ -32,13 +32,13 @@ record Good (callers : List ℕ) (c : Control) : Type 0 where
 
 -- ---- frames
 
-good-settled : (outer : List Part) (rest : PStmts) (place : Around) (vars : Variables) → IsStack place outer →
+good-settled : (outer : List PFrame) (rest : PStmts) (place : Around) (vars : Variables) → IsStack place outer →
     Good (caller_at place ++ callers_among outer) (settled_in outer rest place vars)
 good-settled outer (stmt_then s rest) place vars h = record { stack = h; same = refl }
 good-settled [] no_stmt place vars h = record { stack = h; same = refl }
 good-settled (part ∷ parts) no_stmt (Block handlers) vars h = good-settled parts part.rest part.place vars h
 good-settled (part ∷ parts) no_stmt (Handling x) vars h = good-settled parts part.rest part.place vars h
-good-settled (part ∷ parts) no_stmt (Whole handlers taken) vars h = record { stack = h; same = refl }
+good-settled (part ∷ parts) no_stmt (OwnBody handlers taken) vars h = record { stack = h; same = refl }
 good-settled (part ∷ parts) no_stmt (Loop name turns stmts) vars h = record { stack = h; same = refl }
 good-settled (part ∷ parts) no_stmt (Opened caller formals pending) vars h = record { stack = h; same = refl }
 
@@ -47,23 +47,23 @@ good-settle callers c g =
     let s = good-settled c.outer c.top.rest c.top.place c.vars g.stack in
     record { stack = s.stack; same = s.same ∙ g.same }
 
-good-unit : (o : Option PStmts) (x : Raised) (handlers : PHandlers) (outer : List Part) (vars : Variables) → outer ≡ [] →
+good-unit : (o : Option PStmts) (x : Raised) (handlers : PHandlers) (outer : List PFrame) (vars : Variables) → outer ≡ [] →
     Good (callers_among outer) (unit_with o x handlers outer vars)
 good-unit None x handlers outer vars h = record { stack = h; same = refl }
 good-unit (Some stmts) x handlers outer vars h = record { stack = h; same = refl }
 
-good-block : (o : Option PStmts) (x : Raised) (part : Part) (parts : List Part) (vars : Variables) (beyond : Control) → IsStack part.place parts →
+good-block : (o : Option PStmts) (x : Raised) (part : PFrame) (parts : List PFrame) (vars : Variables) (beyond : Control) → IsStack part.place parts →
     Good (callers_among (part ∷ parts)) beyond → Good (callers_among (part ∷ parts)) (block_with o x (part ∷ parts) vars beyond)
 good-block None x part parts vars beyond h g = g
 good-block (Some stmts) x part parts vars beyond h g = record { stack = h; same = refl }
 
-good-raised : (x : Raised) (outer : List Part) (place : Around) (vars : Variables) → IsStack place outer →
+good-raised : (x : Raised) (outer : List PFrame) (place : Around) (vars : Variables) → IsStack place outer →
     Good (caller_at place ++ callers_among outer) (raised_in x outer place vars)
-good-raised x outer (Whole handlers None) vars h = good-unit (handler_for x handlers) x handlers outer vars h
-good-raised x outer (Whole handlers (Some y)) vars h = record { stack = h; same = refl }
+good-raised x outer (OwnBody handlers None) vars h = good-unit (handler_for x handlers) x handlers outer vars h
+good-raised x outer (OwnBody handlers (Some y)) vars h = record { stack = h; same = refl }
 good-raised x outer (Opened caller formals pending) vars h = record { stack = opened outer h; same = refl }
   where
-    opened : (outer : List Part) → IsStack (Opened caller formals pending) outer → IsStack (Opened caller formals (Some x)) outer
+    opened : (outer : List PFrame) → IsStack (Opened caller formals pending) outer → IsStack (Opened caller formals (Some x)) outer
     opened [] k = k
     opened (part ∷ parts) k = k
 good-raised x [] (Block handlers) vars h = absurd h
@@ -78,14 +78,14 @@ good-if : (b : Bool) (callers : List ℕ) (c d : Control) → Good callers c →
 good-if true callers c d g h = g
 good-if false callers c d g h = h
 
-good-exited : (w : Option Word) (outer : List Part) (place : Around) (vars : Variables) → IsStack place outer →
+good-exited : (w : Option Word) (outer : List PFrame) (place : Around) (vars : Variables) → IsStack place outer →
     Good (caller_at place ++ callers_among outer) (exited_in w outer place vars)
 good-exited w [] place vars h = record { stack = h; same = refl }
 good-exited w (part ∷ parts) (Block handlers) vars h = good-exited w parts part.place vars h
 good-exited w (part ∷ parts) (Handling x) vars h = good-exited w parts part.place vars h
 good-exited w (part ∷ parts) (Loop name turns stmts) vars h =
     good-if (is_left w name) (callers_among (part ∷ parts)) _ _ (record { stack = h; same = refl }) (good-exited w parts part.place _ h)
-good-exited w (part ∷ parts) (Whole handlers taken) vars h = record { stack = h; same = refl }
+good-exited w (part ∷ parts) (OwnBody handlers taken) vars h = record { stack = h; same = refl }
 good-exited w (part ∷ parts) (Opened caller formals pending) vars h = record { stack = h; same = refl }
 
 -- ---- tasks
@@ -193,15 +193,15 @@ kept-stepped_at (SConditional call more otherwise s) behind t p = kept-itself t 
 kept-stepped_at (STimed call more duration after s) behind t p = kept-itself t p
 
 -- a task of these parts
-abbrev task_at : Setting → ℕ → List ℤ → List ℕ → PStmts → Around → List Part → Variables → Task
+abbrev task_at : Setting → ℕ → List ℤ → List ℕ → PStmts → Around → List PFrame → Variables → Task
 task_at g n input output rest place outer vars = record { setting = g; number = n; control = control rest place outer vars; input = input; output = output }
 
-kept-left : (g : Setting) (n : ℕ) (input : List ℤ) (output : List ℕ) (rest : PStmts) (name : Option Word) (turns : Turns) (stmts : PStmts) (outer : List Part) (vars : Variables) →
+kept-left : (g : Setting) (n : ℕ) (input : List ℤ) (output : List ℕ) (rest : PStmts) (name : Option Word) (turns : Turns) (stmts : PStmts) (outer : List PFrame) (vars : Variables) →
     IsStack (Loop name turns stmts) outer → Kept (task_at g n input output rest (Loop name turns stmts) outer vars) (steps.loop_left turns (task_at g n input output rest (Loop name turns stmts) outer vars))
 kept-left g n input output rest name turns stmts [] vars h = absurd h
 kept-left g n input output rest name turns stmts (part ∷ parts) vars h = of_good _ _ (good-settled parts part.rest part.place _ h)
 
-kept-turn : (g : Setting) (n : ℕ) (input : List ℤ) (output : List ℕ) (rest : PStmts) (name : Option Word) (turns : Turns) (stmts : PStmts) (outer : List Part) (vars : Variables) →
+kept-turn : (g : Setting) (n : ℕ) (input : List ℤ) (output : List ℕ) (rest : PStmts) (name : Option Word) (turns : Turns) (stmts : PStmts) (outer : List PFrame) (vars : Variables) →
     IsStack (Loop name turns stmts) outer → Kept (task_at g n input output rest (Loop name turns stmts) outer vars) (steps.turn_step turns stmts (task_at g n input output rest (Loop name turns stmts) outer vars))
 kept-turn g n input output rest name Endless stmts outer vars h = kept-gone stmts (task_at g n input output rest (Loop name Endless stmts) outer vars) h
 kept-turn g n input output rest name (While e) stmts outer vars h =
@@ -213,9 +213,9 @@ kept-turn g n input output rest name (Counting backwards last) stmts outer vars 
     (let k = kept-gone stmts (with_vars t (steps.counted_on t backwards vars)) h in record { proper = k.proper; same = k.same })
     (kept-left g n input output rest name (Counting backwards last) stmts outer vars h)
 
-kept-behind : (g : Setting) (n : ℕ) (input : List ℤ) (output : List ℕ) (rest : PStmts) (place : Around) (outer : List Part) (vars : Variables) →
+kept-behind : (g : Setting) (n : ℕ) (input : List ℤ) (output : List ℕ) (rest : PStmts) (place : Around) (outer : List PFrame) (vars : Variables) →
     IsStack place outer → Kept (task_at g n input output rest place outer vars) (stepped_behind place (task_at g n input output rest place outer vars))
-kept-behind g n input output rest (Whole handlers taken) outer vars h = record { proper = h; same = refl }
+kept-behind g n input output rest (OwnBody handlers taken) outer vars h = record { proper = h; same = refl }
 kept-behind g n input output rest (Block handlers) outer vars h = record { proper = h; same = refl }
 kept-behind g n input output rest (Handling x) outer vars h = record { proper = h; same = refl }
 kept-behind g n input output rest (Loop name turns stmts) outer vars h = kept-turn g n input output rest name turns stmts outer vars h
@@ -327,12 +327,12 @@ going : (o : Option Raised) (t : Task) → IsProper t → Kept t (rendezvous.goi
 going None t p = kept-gone (rest_of t) t p
 going (Some x) t p = kept-raised x t p
 
-finishing : (g : Setting) (n : ℕ) (input : List ℤ) (output : List ℕ) (rest : PStmts) (place : Around) (outer : List Part) (vars : Variables) →
+finishing : (g : Setting) (n : ℕ) (input : List ℤ) (output : List ℕ) (rest : PStmts) (place : Around) (outer : List PFrame) (vars : Variables) →
     IsStack place outer → offer_of (task_at g n input output rest place outer vars) ≡ offers.Finishes →
     (c : ℕ) × IsProper (rendezvous.finished (task_at g n input output rest place outer vars)) ×
     ((caller_at place ++ callers_among outer) ≡ c ∷ callers_in (rendezvous.finished (task_at g n input output rest place outer vars)).control)
 finishing g n input output (stmt_then s rest) place outer vars p h = absurd (no-finish (task_at g n input output (stmt_then s rest) place outer vars) s h)
-finishing g n input output no_stmt (Whole handlers taken) outer vars p h = let e : ◌≡◌ {A = offers.Offer} offers.Ends offers.Finishes = h in absurd (cc)
+finishing g n input output no_stmt (OwnBody handlers taken) outer vars p h = let e : ◌≡◌ {A = offers.Offer} offers.Ends offers.Finishes = h in absurd (cc)
 finishing g n input output no_stmt (Block handlers) outer vars p h = let e : ◌≡◌ {A = offers.Offer} offers.Nothing offers.Finishes = h in absurd (cc)
 finishing g n input output no_stmt (Handling x) outer vars p h = let e : ◌≡◌ {A = offers.Offer} offers.Nothing offers.Finishes = h in absurd (cc)
 finishing g n input output no_stmt (Loop name turns stmts) outer vars p h = let e : ◌≡◌ {A = offers.Offer} offers.Nothing offers.Finishes = h in absurd (cc)
@@ -341,10 +341,10 @@ finishing g n input output no_stmt (Opened caller formals pending) (part ∷ par
     let k = going pending (task_at g n input output part.rest part.place parts (without_own (Opened caller formals pending) vars)) p in
     (caller, k.proper, ap (λ cs. caller ∷ cs) (sym k.same))
 
-ending : (g : Setting) (n : ℕ) (input : List ℤ) (output : List ℕ) (rest : PStmts) (place : Around) (outer : List Part) (vars : Variables) →
+ending : (g : Setting) (n : ℕ) (input : List ℤ) (output : List ℕ) (rest : PStmts) (place : Around) (outer : List PFrame) (vars : Variables) →
     IsStack place outer → offer_of (task_at g n input output rest place outer vars) ≡ offers.Ends → (caller_at place ++ callers_among outer) ≡ []
 ending g n input output (stmt_then s rest) place outer vars p h = absurd (no-end (task_at g n input output (stmt_then s rest) place outer vars) s h)
-ending g n input output no_stmt (Whole handlers taken) outer vars p h = ap callers_among p
+ending g n input output no_stmt (OwnBody handlers taken) outer vars p h = ap callers_among p
 ending g n input output no_stmt (Block handlers) outer vars p h = let e : ◌≡◌ {A = offers.Offer} offers.Nothing offers.Ends = h in absurd (cc)
 ending g n input output no_stmt (Handling x) outer vars p h = let e : ◌≡◌ {A = offers.Offer} offers.Nothing offers.Ends = h in absurd (cc)
 ending g n input output no_stmt (Loop name turns stmts) outer vars p h = let e : ◌≡◌ {A = offers.Offer} offers.Nothing offers.Ends = h in absurd (cc)

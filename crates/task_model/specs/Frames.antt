@@ -19,7 +19,7 @@ pub data Turns : Type 0 where
 -- What a frame stands in.
 pub data Around : Type 0 where
   -- the unit's own body, with its handlers and the exception whose handler was taken
-  Whole : PHandlers → Option Raised → Around
+  OwnBody : PHandlers → Option Raised → Around
   -- the statements of a block, with the block's handlers
   Block : PHandlers → Around
   -- a handler of a block, taken for this exception
@@ -30,18 +30,18 @@ pub data Around : Type 0 where
   Opened : ℕ → List FormalParameter → Option Raised → Around
 
 -- A frame: the statements that are left, and what it stands in.
-pub record Part : Type 0 where
+pub record PFrame : Type 0 where
   pub rest : PStmts
   pub place : Around
 
 -- Where a task stands: its innermost frame, the others, the inner ones first, and its variables, the inner ones first.
 pub record Control : Type 0 where
-  pub top : Part
-  pub outer : List Part
+  pub top : PFrame
+  pub outer : List PFrame
   pub vars : Variables
 
 -- where a task stands, of the parts of its innermost frame, the other frames and the variables
-abbrev pub control : PStmts → Around → List Part → Variables → Control
+abbrev pub control : PStmts → Around → List PFrame → Variables → Control
 control rest place outer vars = record { top = record { rest = rest; place = place }; outer = outer; vars = vars }
 
 -- statements in front of others
@@ -52,7 +52,7 @@ in_front (stmt_then s more) rest = stmt_then s (in_front more rest)
 -- ---- the end of a frame
 
 -- Settled: a block or handler of a block that is over is left, without a step (this project's rule); the end of a loop's statements, of an accept body and of the unit stay. Only the innermost frame is left so, and never one around an opened accept body.
-abbrev pub settled_in : List Part → PStmts → Around → Variables → Control
+abbrev pub settled_in : List PFrame → PStmts → Around → Variables → Control
 settled_in outer (stmt_then s rest) place vars = control (stmt_then s rest) place outer vars
 settled_in (part ∷ parts) no_stmt (Block handlers) vars = settled_in parts part.rest part.place vars
 settled_in (part ∷ parts) no_stmt (Handling x) vars = settled_in parts part.rest part.place vars
@@ -72,7 +72,7 @@ brought_by (Counting backwards last) = 1
 
 -- how many variables a frame of any sort has brought, which go with it (8.2). Only an accept body's end asks it, so it matters at `Opened` alone: a loop is left by `brought_by`, and the other frames bring none
 abbrev pub brought : Around → ℕ
-brought (Whole handlers taken) = 0
+brought (OwnBody handlers taken) = 0
 brought (Block handlers) = 0
 brought (Handling x) = 0
 brought (Loop name turns stmts) = brought_by turns
@@ -116,19 +116,19 @@ handler_for x no_handler = None
 handler_for x (handler_then (handler names stmts s) rest) = if is_for x names then Some stmts else handler_for x rest
 
 -- where an exception comes to in the unit's body: its handler, in place of its statements, or the end of the body, which it leaves (11.4.1)
-abbrev pub unit_with : Option PStmts → Raised → PHandlers → List Part → Variables → Control
-unit_with (Some stmts) x handlers outer vars = control stmts (Whole handlers (Some x)) outer vars
-unit_with None x handlers outer vars = control no_stmt (Whole handlers None) outer vars
+abbrev pub unit_with : Option PStmts → Raised → PHandlers → List PFrame → Variables → Control
+unit_with (Some stmts) x handlers outer vars = control stmts (OwnBody handlers (Some x)) outer vars
+unit_with None x handlers outer vars = control no_stmt (OwnBody handlers None) outer vars
 
 -- where an exception comes to in a block: its handler, in place of its statements, or beyond the block
-abbrev pub block_with : Option PStmts → Raised → List Part → Variables → Control → Control
+abbrev pub block_with : Option PStmts → Raised → List PFrame → Variables → Control → Control
 block_with (Some stmts) x outer vars beyond = control stmts (Handling x) outer vars
 block_with None x outer vars beyond = beyond
 
 -- Where a task stands as an exception is raised in a frame (11.4.1, 11.5). A block's handler takes its place; a block without one for it, a handler and a loop are left, and the exception is raised behind them. In an accept body it stays pending at the body's end. In the unit's body it comes to the unit's handler, if none of them has been taken yet, or to the body's end. A block, a handler or a loop that stands in no frame, as in no legal program, comes to its own end.
-abbrev pub raised_in : Raised → List Part → Around → Variables → Control
-raised_in x outer (Whole handlers None) vars = unit_with (handler_for x handlers) x handlers outer vars
-raised_in x outer (Whole handlers (Some y)) vars = control no_stmt (Whole handlers (Some y)) outer vars
+abbrev pub raised_in : Raised → List PFrame → Around → Variables → Control
+raised_in x outer (OwnBody handlers None) vars = unit_with (handler_for x handlers) x handlers outer vars
+raised_in x outer (OwnBody handlers (Some y)) vars = control no_stmt (OwnBody handlers (Some y)) outer vars
 raised_in x outer (Opened caller formals pending) vars = control no_stmt (Opened caller formals (Some x)) outer vars
 raised_in x (part ∷ parts) (Block handlers) vars = block_with (handler_for x handlers) x (part ∷ parts) vars (raised_in x parts part.place vars)
 raised_in x (part ∷ parts) (Handling y) vars = raised_in x parts part.place vars
@@ -137,7 +137,7 @@ raised_in x [] place vars = control no_stmt place [] vars
 
 -- the exception whose handler a frame is
 abbrev pub handled_at : Around → Option Raised
-handled_at (Whole handlers taken) = taken
+handled_at (OwnBody handlers taken) = taken
 handled_at (Block handlers) = None
 handled_at (Handling x) = Some x
 handled_at (Loop name turns stmts) = None
@@ -149,7 +149,7 @@ or_else (Some x) o = Some x
 or_else None o = o
 
 -- the exception of the innermost handler among frames, if one of them is a handler (11.3)
-abbrev pub handled_among : List Part → Option Raised
+abbrev pub handled_among : List PFrame → Option Raised
 handled_among [] = None
 handled_among (part ∷ parts) = or_else (handled_at part.place) (handled_among parts)
 
@@ -166,7 +166,7 @@ is_left (Some w) None = false
 is_left (Some w) (Some v) = w.name.0 == v.name.0
 
 -- Where a task stands behind the loop that an exit leaves. It leaves no accept body and no unit; there, as in no legal program, it leads to the end.
-abbrev pub exited_in : Option Word → List Part → Around → Variables → Control
+abbrev pub exited_in : Option Word → List PFrame → Around → Variables → Control
 exited_in w (part ∷ parts) (Loop name turns stmts) vars =
     if is_left w name
     then control part.rest part.place parts (drop (brought_by turns) vars)
@@ -179,14 +179,14 @@ exited_in w outer place vars = control no_stmt place outer vars
 
 -- the caller of an opened accept body; no other frame has one (9.5)
 abbrev pub caller_at : Around → List ℕ
-caller_at (Whole handlers taken) = []
+caller_at (OwnBody handlers taken) = []
 caller_at (Block handlers) = []
 caller_at (Handling x) = []
 caller_at (Loop name turns stmts) = []
 caller_at (Opened caller formals pending) = caller ∷ []
 
 -- the callers of the accept bodies among frames, the innermost first
-abbrev pub callers_among : List Part → List ℕ
+abbrev pub callers_among : List PFrame → List ℕ
 callers_among [] = []
 callers_among (part ∷ parts) = caller_at part.place ++ callers_among parts
 

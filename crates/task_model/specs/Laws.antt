@@ -10,14 +10,14 @@ use Rattle.event_machine.specs.Worlds.{World, world_of}
 use Rattle.event_machine.specs.Settling.{ran, HasSteps, Leads}
 use Rattle.event_machine.specs.Laws.{Determinacy, FirstLaw, SecondLaw, KilledByEvents, FeasibleAdmitted}
 use Rattle.syn_event.specs.Numbering.{Numbering, owner_of}
-use Rattle.task_model.specs.Frames.{Around, Whole, Part}
+use Rattle.task_model.specs.Frames.{Around, OwnBody, PFrame}
 use Rattle.task_model.specs.Tasks.{Task}
 use Rattle.task_model.specs.TaskOps.{task_ops}
 use Rattle.task_model.specs.Machine.{Setup, rules_of, opening_of}
 
 -- The unit's own body is the outermost frame, and each other one stands in a frame.
-abbrev pub IsStack : Around → List Part → Type 0
-IsStack (Whole handlers taken) parts = parts ≡ []
+abbrev pub IsStack : Around → List PFrame → Type 0
+IsStack (OwnBody handlers taken) parts = parts ≡ []
 IsStack place [] = ⊥
 IsStack place (part ∷ parts) = IsStack part.place parts
 

@@ -8,7 +8,7 @@ use Rattle.ada_value.specs.declared.values.Raised.TheVariants as raised
 use Rattle.ada_value.specs.Variables.{Variables}
 use Rattle.task_model.specs.declared.parameters.FormalParameter.{FormalParameter}
 use Rattle.task_model.specs.Setting.{parameters_of, entry_parameters, lists_of}
-use Rattle.task_model.specs.Frames.{Around, Opened, Part, control, in_front, without_own}
+use Rattle.task_model.specs.Frames.{Around, Opened, PFrame, control, in_front, without_own}
 use Rattle.task_model.specs.Tasks.{Task, rest_of, place_of, outer_of, vars_of, with_control, with_vars, gone_to, stmts_or_none, entered, raised_there}
 use Rattle.task_model.specs.Calls.{Called, called, call_in, opened_objects, values_handed, finals_in, Copies, copied_back}
 use Rattle.task_model.specs.Waits.{Open, Accepts, Delays, Terminates, alternative_for, delay_stmts}
@@ -69,7 +69,7 @@ going_on None t = gone_to (rest_of t) t
 going_on (Some x) t = raised_there x t
 
 -- the task behind its innermost frame, without the frame's own variables
-abbrev pub frame_left : Task → List Part → Task
+abbrev pub frame_left : Task → List PFrame → Task
 frame_left t [] = t
 frame_left t (part ∷ parts) = with_control t (control part.rest part.place parts (without_own (place_of t) (vars_of t)))
 

@@ -8,7 +8,7 @@ use Rattle.event_machine.specs.Offers.{Offer, Nothing, Calls, Waits, Finishes, E
 use Rattle.ada_value.specs.declared.values.Raised.{Raised}
 use Rattle.ada_value.specs.declared.values.Raised.TheVariants as raised
 use Rattle.task_model.specs.Setting.{task_of}
-use Rattle.task_model.specs.Frames.{Around, Whole, Block, Handling, Loop, Opened}
+use Rattle.task_model.specs.Frames.{Around, OwnBody, Block, Handling, Loop, Opened}
 use Rattle.task_model.specs.Tasks.{Task, rest_of, place_of, vars_of, gone_to, raised_there}
 use Rattle.task_model.specs.Steps.{assign_step, get_step, put_step, line_end, if_step, case_step, block_step, exit_step, raise_step, loop_step, turn_step}
 use Rattle.task_model.specs.Calls.{Called, called}
@@ -62,7 +62,7 @@ stand_at t _ = Steps
 
 -- What it stands at behind the last statement of a frame: the end of the unit, of an accept body, or of a loop's statements. The end of a block or handler is left at once, so nothing stands there.
 abbrev pub stand_behind : Around → Stand
-stand_behind (Whole handlers taken) = At Ends
+stand_behind (OwnBody handlers taken) = At Ends
 stand_behind (Block handlers) = Steps
 stand_behind (Handling x) = Steps
 stand_behind (Loop name turns stmts) = Steps
@@ -124,7 +124,7 @@ stepped_at (STimed call more duration after s) behind t = t
 -- the step at the end of a frame: a loop turns or is left
 abbrev pub stepped_behind : Around → Task → Task
 stepped_behind (Loop name turns stmts) t = turn_step turns stmts t
-stepped_behind (Whole handlers taken) t = t
+stepped_behind (OwnBody handlers taken) t = t
 stepped_behind (Block handlers) t = t
 stepped_behind (Handling x) t = t
 stepped_behind (Opened caller formals pending) t = t

@@ -20,7 +20,7 @@ use Rattle.ada_value.specs.Values.{position_of, lies_in, lower, limits_of, integ
 use Rattle.ada_value.specs.Variables.{Object, Variables, form_of_mark, object_with}
 use Rattle.ada_value.specs.Evaluating.{evaluated, range_of, narrowed}
 use Rattle.task_model.specs.Setting.{Setting}
-use Rattle.task_model.specs.Frames.{Whole, control}
+use Rattle.task_model.specs.Frames.{OwnBody, control}
 use Rattle.task_model.specs.Steps.{block_stmts, block_handlers}
 use Rattle.task_model.specs.Tasks.{Task}
 
@@ -152,7 +152,7 @@ abbrev pub started_in : Setting → ℕ → Unit → List ℤ → Task
 started_in g t unit input = record {
   setting = g;
   number = t;
-  control = control (block_stmts unit.body) (Whole (block_handlers unit.body) None) [] (objects_of g.types unit.in_main unit.decls []);
+  control = control (block_stmts unit.body) (OwnBody (block_handlers unit.body) None) [] (objects_of g.types unit.in_main unit.decls []);
   input = input;
   output = [];
 }

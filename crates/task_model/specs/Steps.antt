@@ -12,7 +12,7 @@ use Rattle.ada_value.specs.Values.{and_then, position_of, value_at, limits_named
 use Rattle.ada_value.specs.Variables.{Object, Variables, object_named, value_there, component_place, checked_for, set_value}
 use Rattle.ada_value.specs.Evaluating.{condition_of, range_of}
 use Rattle.ada_value.specs.Texts.{parts_text}
-use Rattle.task_model.specs.Frames.{Turns, Endless, While, Counting, Block, Loop, Part, settled, settled_in, raised_named, handled_by, exited_in, brought_by}
+use Rattle.task_model.specs.Frames.{Turns, Endless, While, Counting, Block, Loop, PFrame, settled, settled_in, raised_named, handled_by, exited_in, brought_by}
 use Rattle.task_model.specs.Tasks.{Task, place_of, outer_of, vars_of, value_of, with_control, with_input, with_text, with_vars, gone_to, stmts_or_none, entered, pushed, raised_there, or_raised}
 
 -- the truth of a condition where a task stands (5.3, 5.5, 5.7)
@@ -191,7 +191,7 @@ loop_step name (Some (LFor w backwards range)) stmts behind t =
     or_raised (λ r. counting_begun name w backwards stmts behind t r) t (counted_range t range)
 
 -- the task behind the loop in which it stands
-abbrev pub left_in : Turns → List Part → Variables → Task → Task
+abbrev pub left_in : Turns → List PFrame → Variables → Task → Task
 left_in turns [] vars t = t
 left_in turns (part ∷ parts) vars t = with_control t (settled_in parts part.rest part.place (drop (brought_by turns) vars))
 

@@ -7,7 +7,7 @@ use Rattle.ada_value.specs.declared.values.Raised.{Raised}
 use Rattle.ada_value.specs.Variables.{Variables}
 use Rattle.ada_value.specs.Evaluating.{evaluated}
 use Rattle.task_model.specs.Setting.{Setting}
-use Rattle.task_model.specs.Frames.{Around, Part, Control, control, in_front, settled_in, settled, raised_in}
+use Rattle.task_model.specs.Frames.{Around, PFrame, Control, control, in_front, settled_in, settled, raised_in}
 
 -- A task: what it reads of its program, its number, where it stands, the integers left of its input, and what it has written.
 pub record Task : Type 0 where
@@ -28,7 +28,7 @@ abbrev pub place_of : Task → Around
 place_of t = t.control.top.place
 
 -- the other frames of a task, the inner ones first
-abbrev pub outer_of : Task → List Part
+abbrev pub outer_of : Task → List PFrame
 outer_of t = t.control.outer
 
 -- the variables of a task, the inner ones first

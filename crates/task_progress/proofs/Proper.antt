@@ -2,7 +2,7 @@
 use Rattle.std.proofs.Common.{◌≡◌, Bool, true, false, List, [], ◌∷◌, refl, true≢false, sym}
 use Rattle.event_machine.specs.Seats.{Ops}
 use Rattle.event_machine.specs.Lawful.{IsLawful, Keeps}
-use Rattle.task_model.specs.Frames.{Around, Whole, Block, Handling, Loop, Opened, Part}
+use Rattle.task_model.specs.Frames.{Around, OwnBody, Block, Handling, Loop, Opened, PFrame}
 use Rattle.task_model.specs.Tasks.{Task}
 use Rattle.task_model.specs.Laws.{IsStack, IsProper}
 
@@ -32,18 +32,18 @@ module _ {L : Type 0} (ops : Ops L) (P Q : L → Type 0) (to : (l : L) → P l �
 -- ---- the test of a program's tasks
 
 -- the frames stand so, told by a test
-abbrev pub is_stack : Around → List Part → Bool
-is_stack (Whole handlers taken) [] = true
-is_stack (Whole handlers taken) (part ∷ parts) = false
+abbrev pub is_stack : Around → List PFrame → Bool
+is_stack (OwnBody handlers taken) [] = true
+is_stack (OwnBody handlers taken) (part ∷ parts) = false
 is_stack place [] = false
 is_stack place (part ∷ parts) = is_stack part.place parts
 
 abbrev pub is_proper : Task → Bool
 is_proper t = is_stack t.control.top.place t.control.outer
 
-stack_yes : (parts : List Part) (place : Around) → IsStack place parts → is_stack place parts ≡ true
-stack_yes [] (Whole handlers taken) h = refl
-stack_yes (part ∷ parts) (Whole handlers taken) h = absurd (let k : ◌≡◌ {A = List Part} (part ∷ parts) [] = h in cc)
+stack_yes : (parts : List PFrame) (place : Around) → IsStack place parts → is_stack place parts ≡ true
+stack_yes [] (OwnBody handlers taken) h = refl
+stack_yes (part ∷ parts) (OwnBody handlers taken) h = absurd (let k : ◌≡◌ {A = List PFrame} (part ∷ parts) [] = h in cc)
 stack_yes [] (Block handlers) h = absurd h
 stack_yes [] (Handling x) h = absurd h
 stack_yes [] (Loop name turns stmts) h = absurd h
@@ -53,9 +53,9 @@ stack_yes (part ∷ parts) (Handling x) h = stack_yes parts part.place h
 stack_yes (part ∷ parts) (Loop name turns stmts) h = stack_yes parts part.place h
 stack_yes (part ∷ parts) (Opened caller formals pending) h = stack_yes parts part.place h
 
-yes_stack : (parts : List Part) (place : Around) → is_stack place parts ≡ true → IsStack place parts
-yes_stack [] (Whole handlers taken) h = refl
-yes_stack (part ∷ parts) (Whole handlers taken) h = absurd (true≢false (sym h))
+yes_stack : (parts : List PFrame) (place : Around) → is_stack place parts ≡ true → IsStack place parts
+yes_stack [] (OwnBody handlers taken) h = refl
+yes_stack (part ∷ parts) (OwnBody handlers taken) h = absurd (true≢false (sym h))
 yes_stack [] (Block handlers) h = absurd (true≢false (sym h))
 yes_stack [] (Handling x) h = absurd (true≢false (sym h))
 yes_stack [] (Loop name turns stmts) h = absurd (true≢false (sym h))

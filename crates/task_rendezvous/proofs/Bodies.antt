@@ -1,5 +1,5 @@
 -- The accept body that is opened, and the formals of its entry.
-use Rattle.std.proofs.Common.{◌≡◌, ◌++◌, ◌∷◌, ℕ, suc, ℤ, List, [], drop, length, Option, Some, None, refl, sym, ap, ◌∙◌}
+use Rattle.std.proofs.Common.{◌≡◌, ◌++◌, ℕ, ℤ, List, drop, length, Option, Some, None, refl, sym, ap, ◌∙◌}
 use Rattle.std.proofs.Math.Seq.{drop-append_seam}
 use Rattle.ada_tree.specs.TypeTable.{TypeTable}
 use Rattle.ada_tree.specs.PlainStmt.{PStmt, PStmts, stmt_then}
@@ -17,6 +17,7 @@ use Rattle.task_state.specs.declared.state.TaskState.{TaskState}
 use Rattle.task_state.specs.Plain.{plain_task}
 use Rattle.task_waits.specs.Standing.{Parts, parts_opened, task_with}
 use Rattle.task_waits.proofs.Standing.{open_alike}
+use Rattle.task_calls.proofs.Returning.{length_opened}
 
 -- ---- the accept that is taken
 
@@ -49,11 +50,6 @@ pub opens_from : (s : TaskState) (frames : Held) (objects : Variables) (caller :
     plain_task (record s { frames = frames; objects = objects }) ≡ body_opened caller fs body behind values (plain_task s)
 opens_from s frames objects caller fs body behind values opened opens =
     ap (λ vars. plain_task (record s { frames = frames; objects = vars })) opened ∙ opens (plain_task s) values
-
-length_opened : (types : TypeTable) (fs : List FormalParameter) (vs : List Value) → length (opened_objects types fs vs) ≡ length fs
-length_opened types [] vs = refl
-length_opened types (f ∷ fs) [] = ap suc (length_opened types fs [])
-length_opened types (f ∷ fs) (v ∷ vs) = ap suc (length_opened types fs vs)
 
 -- without the formals the variables are as before
 pub formals_left : (types : TypeTable) (fs : List FormalParameter) (vs : List Value) (old opened left : Variables) → opened ≡ opened_objects types fs vs ++ old →

@@ -13,17 +13,14 @@ use Rattle.ada_tree.specs.TypeTable.{TypeTable}
 use Rattle.ada_tree.specs.PlainStmt.{plain_formal}
 use Rattle.ada_value.specs.declared.values.Limits.{Limits}
 use Rattle.ada_value.specs.Values.{limits_named}
-use Rattle.task_calls.proofs.Walking.{here_at}
 use Rattle.task_links.specs.inner.Made.{parameter_named}
 use Rattle.task_model.specs.declared.parameters.FormalParameter.{FormalParameter}
 use Rattle.task_model.specs.Setting.{parameters_of}
 use Rattle.task_rendezvous.specs.inner.Conforming.{are_same, is_alike, same_limits}
+use Rattle.common_lemmas.proofs.Lists.{rest_at, short_empty}
+use Rattle.common_lemmas.proofs.Truth.{and_both, both_true}
 
 -- ---- what a comparison says
-
-both : (a b : Bool) → (a && b) ≡ true → (a ≡ true) × (b ≡ true)
-both true b is = (refl, is)
-both false b is = absurd (true≢false (sym is))
 
 mode_is : (m n : ParMode) → same_mode m n ≡ true → m ≡ n
 mode_is Take Take is = refl
@@ -41,13 +38,10 @@ mode_alike Take = refl
 mode_alike Give = refl
 mode_alike Both = refl
 
-and_true : (a b : Bool) → a ≡ true → b ≡ true → (a && b) ≡ true
-and_true a b is_a is_b = ap (λ c. c && b) is_a ∙ is_b
-
 limits_are : (a b : Limits) → same_limits a b ≡ true → a ≡ b
 limits_are a b is =
-    let kinds = both (a.kind == b.kind) (int_eq a.first b.first && int_eq a.last b.last) is in
-    let bounds = both (int_eq a.first b.first) (int_eq a.last b.last) kinds.1 in
+    let kinds = and_both (a.kind == b.kind) (int_eq a.first b.first && int_eq a.last b.last) is in
+    let bounds = and_both (int_eq a.first b.first) (int_eq a.last b.last) kinds.1 in
     let kind : a.kind ≡ b.kind = eqb-true a.kind b.kind kinds.0 in
     let first : a.first ≡ b.first = (Decides-int_eq a.first b.first).0 bounds.0 in
     let last : a.last ≡ b.last = (Decides-int_eq a.last b.last).0 bounds.1 in
@@ -55,13 +49,13 @@ limits_are a b is =
 
 limits_alike : (a : Limits) → same_limits a a ≡ true
 limits_alike a =
-    and_true (a.kind == a.kind) (int_eq a.first a.first && int_eq a.last a.last) (eq-eqb a.kind a.kind refl)
-    (and_true (int_eq a.first a.first) (int_eq a.last a.last) ((Decides-int_eq a.first a.first).1 refl) ((Decides-int_eq a.last a.last).1 refl))
+    both_true (a.kind == a.kind) (int_eq a.first a.first && int_eq a.last a.last) (eq-eqb a.kind a.kind refl)
+    (both_true (int_eq a.first a.first) (int_eq a.last a.last) ((Decides-int_eq a.first a.first).1 refl) ((Decides-int_eq a.last a.last).1 refl))
 
 alike_are : (p q : FormalParameter) → is_alike p q ≡ true → p ≡ q
 alike_are p q is =
-    let names = both (p.name.0 == q.name.0) (same_mode p.mode q.mode && same_limits p.limits q.limits) is in
-    let modes = both (same_mode p.mode q.mode) (same_limits p.limits q.limits) names.1 in
+    let names = and_both (p.name.0 == q.name.0) (same_mode p.mode q.mode && same_limits p.limits q.limits) is in
+    let modes = and_both (same_mode p.mode q.mode) (same_limits p.limits q.limits) names.1 in
     let name : p.name.0 ≡ q.name.0 = eqb-true p.name.0 q.name.0 names.0 in
     let mode : p.mode ≡ q.mode = mode_is p.mode q.mode modes.0 in
     let limits : p.limits ≡ q.limits = limits_are p.limits q.limits modes.1 in
@@ -69,22 +63,22 @@ alike_are p q is =
 
 alike_self : (p : FormalParameter) → is_alike p p ≡ true
 alike_self p =
-    and_true (p.name.0 == p.name.0) (same_mode p.mode p.mode && same_limits p.limits p.limits) (eq-eqb p.name.0 p.name.0 refl)
-    (and_true (same_mode p.mode p.mode) (same_limits p.limits p.limits) (mode_alike p.mode) (limits_alike p.limits))
+    both_true (p.name.0 == p.name.0) (same_mode p.mode p.mode && same_limits p.limits p.limits) (eq-eqb p.name.0 p.name.0 refl)
+    (both_true (same_mode p.mode p.mode) (same_limits p.limits p.limits) (mode_alike p.mode) (limits_alike p.limits))
 
 same_are : (ps qs : List FormalParameter) → are_same ps qs ≡ true → ps ≡ qs
 same_are [] [] is = refl
 same_are [] (q ∷ qs) is = absurd (true≢false (sym is))
 same_are (p ∷ ps) [] is = absurd (true≢false (sym is))
 same_are (p ∷ ps) (q ∷ qs) is =
-    let parts = both (is_alike p q) (are_same ps qs) is in
+    let parts = and_both (is_alike p q) (are_same ps qs) is in
     let first : p ≡ q = alike_are p q parts.0 in
     let rest : ps ≡ qs = same_are ps qs parts.1 in
     λ k. first k ∷ rest k
 
 same_self : (ps : List FormalParameter) → are_same ps ps ≡ true
 same_self [] = refl
-same_self (p ∷ ps) = and_true (is_alike p p) (are_same ps ps) (alike_self p) (same_self ps)
+same_self (p ∷ ps) = both_true (is_alike p p) (are_same ps ps) (alike_self p) (same_self ps)
 
 -- the comparison is true exactly where the lists are one
 pub same_means : (b : Bool) (ps qs : List FormalParameter) → b ≡ are_same ps qs → IsTrue b ↔ (ps ≡ qs)
@@ -99,14 +93,10 @@ left_over mode limits [] i behind h = absurd (omega arith)
 left_over mode limits (w ∷ ws) zero behind h = refl
 left_over mode limits (w ∷ ws) (suc i) behind h = left_over mode limits ws i behind (omega arith)
 
-nothing : {A : Type 0} (xs : List A) → length xs < 1 → xs ≡ []
-nothing [] h = refl
-nothing (x ∷ xs) h = absurd (omega arith)
-
 pub none_left : (mode : ParMode) (limits : Limits) (names : List Word) (i : ℕ) (behind rest : List FormalParameter) (all : Bool) → i < length names → length rest < 1 →
     are_same (map (parameter_named mode limits) (drop i names) ++ behind) rest ≡ all → all ≡ false
 none_left mode limits names i behind rest all h g before =
-    sym before ∙ ap (are_same (map (parameter_named mode limits) (drop i names) ++ behind)) (nothing rest g) ∙ left_over mode limits names i behind h
+    sym before ∙ ap (are_same (map (parameter_named mode limits) (drop i names) ++ behind)) (short_empty rest g) ∙ left_over mode limits names i behind h
 
 -- an accept whose next formals are not those that are left differs from its entry
 pub differs_here : (types : TypeTable) (formals : List Formal) (i : ℕ) (f : Formal) (words : List Word) (limits : Limits) (rest : List FormalParameter) (all : Bool) → i < length formals → f ≡ get_or formals i f →
@@ -116,5 +106,5 @@ differs_here types formals i f words limits rest all h is words_are limits_are d
     let behind : List FormalParameter = parameters_of types (map plain_formal (drop (i + 1) formals)) in
     sym (differs behind)
     ∙ (λ k. are_same (map (parameter_named f.mode (limits_are k)) (words_are k) ++ behind) rest)
-    ∙ ap (λ l. are_same (parameters_of types (map plain_formal l)) rest) (sym (here_at formals i f f h is))
+    ∙ ap (λ l. are_same (parameters_of types (map plain_formal l)) rest) (sym (rest_at formals i f f h is))
     ∙ before

@@ -38,7 +38,7 @@ name_not : (r : Result ℕ Raised) → offered (name_stand r) ≡ Finishes → �
 name_not (Ok n) is = cc
 name_not (Err x) is = cc
 
-abort_not : (t : Task) (callees : List PCallee) → offered (abort_stand t callees) ≡ Finishes → ⊥
+pub abort_not : (t : Task) (callees : List PCallee) → offered (abort_stand t callees) ≡ Finishes → ⊥
 abort_not t [] is = cc
 abort_not t (callee ∷ callees) is = name_not (task_of t.setting (vars_of t) callee) is
 

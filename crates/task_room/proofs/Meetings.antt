@@ -5,7 +5,7 @@ use Rattle.ada_tree.specs.PlainStmt.{PStmt, SNull, SAssign, SDelay, SExit, SRais
 use Rattle.ada_value.specs.declared.values.Value.{Value}
 use Rattle.ada_value.specs.declared.values.Raised.{Raised}
 use Rattle.ada_value.specs.declared.values.Raised.TheVariants as raised
-use Rattle.task_model.specs.Frames.{Around, Whole, Block, Handling, Loop, Opened, Part}
+use Rattle.task_model.specs.Frames.{Around, OwnBody, Block, Handling, Loop, Opened, PFrame}
 use Rattle.task_model.specs.Tasks.{Task, rest_of, place_of, outer_of, stmts_or_none, with_vars, gone_to}
 use Rattle.task_model.specs.Calls.{Copies}
 use Rattle.task_model.specs.Waits.{delay_stmts}
@@ -27,12 +27,12 @@ module _ (n : ℕ) where
   going_has_room None t k = gone_has_room n (rest_of t) t k.0.0 k
   going_has_room (Some x) t k = raised_has_room n x t k
 
-  left_has_room : (t : Task) (outer : List Part) → FitsParts n outer → HasRoom n t → HasRoom n (frame_left t outer)
+  left_has_room : (t : Task) (outer : List PFrame) → FitsParts n outer → HasRoom n t → HasRoom n (frame_left t outer)
   left_has_room t [] o k = k
   left_has_room t (part ∷ parts) o k = o
 
   closed_has_room : (place : Around) (t : Task) → HasRoom n t → HasRoom n (body_closed place t)
-  closed_has_room (Whole handlers taken) t k = k
+  closed_has_room (OwnBody handlers taken) t k = k
   closed_has_room (Block handlers) t k = k
   closed_has_room (Handling x) t k = k
   closed_has_room (Loop name turns stmts) t k = k

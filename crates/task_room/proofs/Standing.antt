@@ -3,7 +3,7 @@ use Rattle.std.specs.Prelude.{◌≡◌, ℕ, ℤ, ◌≤◌, List, [], ◌∷�
 use Rattle.std.proofs.Common.{subst, arith}
 use Rattle.ada_tree.specs.PlainStmt.{PStmt, SNull, SAssign, SDelay, SExit, SRaise, SAbort, SCall, SAccept, SWait, SConditional, STimed, SPut, SPutLine, SNewLine, SGet, SIf, SCase, SBlock, SLoop, PStmts, no_stmt, stmt_then, PBody, body}
 use Rattle.task_model.specs.Setting.{Setting}
-use Rattle.task_model.specs.Frames.{Around, Whole, Block, Handling, Loop, Opened, Part}
+use Rattle.task_model.specs.Frames.{Around, OwnBody, Block, Handling, Loop, Opened, PFrame}
 use Rattle.task_model.specs.Steps.{block_stmts, block_handlers}
 use Rattle.task_model.specs.Tasks.{Task, rest_of}
 use Rattle.task_model.specs.Starting as starting
@@ -65,16 +65,16 @@ module _ (n m : ℕ) (more : n ≤ m) where
   wider k h = omega (arith, more)
 
   wider_place : (place : Around) → FitsPlace n place → FitsPlace m place
-  wider_place (Whole handlers taken) h = wider _ h
+  wider_place (OwnBody handlers taken) h = wider _ h
   wider_place (Block handlers) h = wider _ h
   wider_place (Handling x) h = tt
   wider_place (Loop name turns stmts) h = wider _ h
   wider_place (Opened caller formals pending) h = tt
 
-  wider_part : (part : Part) → FitsPart n part → FitsPart m part
+  wider_part : (part : PFrame) → FitsPart n part → FitsPart m part
   wider_part part h = (wider _ h.0, wider_place part.place h.1)
 
-  wider_parts : (parts : List Part) → FitsParts n parts → FitsParts m parts
+  wider_parts : (parts : List PFrame) → FitsParts n parts → FitsParts m parts
   wider_parts [] h = tt
   wider_parts (part ∷ parts) h = (wider_part part h.0, wider_parts parts h.1)
 

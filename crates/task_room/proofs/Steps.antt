@@ -10,7 +10,7 @@ use Rattle.ada_value.specs.declared.values.Limits.{Limits}
 use Rattle.ada_value.specs.Texts.{parts_text}
 use Rattle.ada_value.specs.Values.{and_then, is_empty_range}
 use Rattle.ada_value.specs.Variables.{Variables}
-use Rattle.task_model.specs.Frames.{Turns, Endless, While, Counting, Around, Whole, Block, Handling, Loop, Opened, Part, in_front, raised_in, exited_in, brought_by}
+use Rattle.task_model.specs.Frames.{Turns, Endless, While, Counting, Around, OwnBody, Block, Handling, Loop, Opened, PFrame, in_front, raised_in, exited_in, brought_by}
 use Rattle.task_model.specs.Tasks.{Task, rest_of, place_of, outer_of, vars_of, value_of, stmts_or_none, with_vars, with_input, with_text, gone_to, entered, pushed, raised_there, or_raised}
 use Rattle.task_model.specs.Steps as steps
 use Rattle.task_model.specs.Stands.{Stand, Steps, Raises, At, stand_of, stepped, stepped_by, stepped_with, stepped_at, stepped_behind}
@@ -114,7 +114,7 @@ module _ (n : ℕ) where
   loop_has_room name (Some (LFor w backwards range)) stmts behind t i b k =
       or_always (λ r. steps.counting_begun name w backwards stmts behind t r) t (steps.counted_range t range) k (λ r. begun_has_room name w backwards stmts behind t r i b k)
 
-  left_has_room : (turns : Turns) (outer : List Part) (vars : Variables) (t : Task) → FitsParts n outer → HasRoom n t → HasRoom n (steps.left_in turns outer vars t)
+  left_has_room : (turns : Turns) (outer : List PFrame) (vars : Variables) (t : Task) → FitsParts n outer → HasRoom n t → HasRoom n (steps.left_in turns outer vars t)
   left_has_room turns [] vars t o k = k
   left_has_room turns (part ∷ parts) vars t o k = settled_in_fits n parts part.rest part.place (drop (brought_by turns) vars) o.0.0 o.0.1 o.1
 
@@ -161,7 +161,7 @@ module _ (n : ℕ) where
   stepped_at_has_room (STimed call more duration after s) behind t i b k = k
 
   stepped_behind_has_room : (place : Around) (t : Task) → FitsPlace n place → HasRoom n t → HasRoom n (stepped_behind place t)
-  stepped_behind_has_room (Whole handlers taken) t p k = k
+  stepped_behind_has_room (OwnBody handlers taken) t p k = k
   stepped_behind_has_room (Block handlers) t p k = k
   stepped_behind_has_room (Handling x) t p k = k
   stepped_behind_has_room (Loop name turns stmts) t p k = turn_has_room turns stmts t p k

@@ -1,7 +1,7 @@
 // The start of a task (9.3).
 
 ghost use Rattle.std.specs.Prelude.{◌≡◌, [], None, IfOk};
-ghost use Rattle.task_model.specs.Frames.{Whole};
+ghost use Rattle.task_model.specs.Frames.{OwnBody};
 ghost use Rattle.task_model.specs.Starting.{started_in, unit_of};
 ghost use Rattle.task_model.specs.Steps.{block_handlers, block_stmts};
 ghost use Rattle.task_start.specs.Plain.{plain_unit};
@@ -17,7 +17,7 @@ use task_state::TaskState;
 
 // The frames of a unit before its first statement.
 fn frames_of<'p>(alloc: Global, unit: Unit<'p>) -> Frames<'p>
-    ensures { result.stack ≡ record { top = record { rest = block_stmts (plain_unit unit.entry).body; place = Whole (block_handlers (plain_unit unit.entry).body) None }; outer = [] } }
+    ensures { result.stack ≡ record { top = record { rest = block_stmts (plain_unit unit.entry).body; place = OwnBody (block_handlers (plain_unit unit.entry).body) None }; outer = [] } }
 {
     match unit.body {
         Some(body) => Frames::new(alloc, &body.stmts, &body.handlers),

@@ -11,7 +11,7 @@ use Rattle.event_machine.specs.Offers.{Ends, Finishes}
 use Rattle.ada_value.specs.declared.values.Raised.{Raised}
 use Rattle.task_model.specs.declared.parameters.FormalParameter.{FormalParameter}
 use Rattle.task_model.specs.Setting.{task_of}
-use Rattle.task_model.specs.Frames.{Turns, Around, Whole, Loop, Opened}
+use Rattle.task_model.specs.Frames.{Turns, Around, OwnBody, Loop, Opened}
 use Rattle.task_model.specs.Tasks.{Task, rest_of, place_of, vars_of, gone_to}
 use Rattle.task_model.specs.Calls.{Called}
 use Rattle.task_model.specs.Waits.{Open, choices_of}
@@ -103,5 +103,5 @@ turn_steps t name turns stmts rest at =
 pub body_stands : (t : Task) (caller : ℕ) (formals : List FormalParameter) (pending : Option Raised) → rest_of t ≡ no_stmt → place_of t ≡ Opened caller formals pending → stand_of t ≡ At Finishes
 body_stands t caller formals pending rest at = stand_at_end t (Opened caller formals pending) rest at
 
-pub unit_stands : (t : Task) (handlers : PHandlers) (taken : Option Raised) → rest_of t ≡ no_stmt → place_of t ≡ Whole handlers taken → stand_of t ≡ At Ends
-unit_stands t handlers taken rest at = stand_at_end t (Whole handlers taken) rest at
+pub unit_stands : (t : Task) (handlers : PHandlers) (taken : Option Raised) → rest_of t ≡ no_stmt → place_of t ≡ OwnBody handlers taken → stand_of t ≡ At Ends
+unit_stands t handlers taken rest at = stand_at_end t (OwnBody handlers taken) rest at

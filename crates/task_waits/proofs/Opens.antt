@@ -12,11 +12,11 @@ use Rattle.ada_value.specs.declared.values.Raised.{Raised}
 use Rattle.ada_value.specs.Values.{and_then}
 use Rattle.task_model.specs.Tasks.{Task}
 use Rattle.task_model.specs.Waits.{Open, guard_holds, kind_opened, opened_if, delays_with, alternatives_open}
-use Rattle.task_calls.proofs.Walking.{here_at}
 use Rattle.task_waits.specs.declared.choosing.Sort.{Sort}
 use Rattle.task_waits.specs.Standing.{Parts, parts_in, parts_opened}
 use Rattle.task_waits.specs.inner.Choosing.{if_open, alternative_open, duration_of, duration_if, lesser, least_among, chosen, chosen_if, with_choice, opens_or_none, delay_at, taken_if}
 use Rattle.task_model.specs.Waits.{accepts_member, delay_part, delay_here, delay_stmts}
+use Rattle.common_lemmas.proofs.Lists.{rest_at}
 
 -- an alternative in front of the open ones behind it
 abbrev pub in_front : Option Open → Result (List Open) Raised → Result (List Open) Raised
@@ -69,7 +69,7 @@ pub opens_next : (t : Task) (alts : List Alt) (i : ℕ) (a : Alt) → i < length
 opens_next t alts i a h is =
     let k = delays_before alts i 0 in
     let rest = alts_of (map plain_alt (drop (i + 1) alts)) in
-    ap (λ l. alternatives_open t (alts_of (map plain_alt l)) k) (here_at alts i a a h is)
+    ap (λ l. alternatives_open t (alts_of (map plain_alt l)) k) (rest_at alts i a a h is)
     ∙ opened_first (guard_holds t (option_map plain_expr a.guard)) (kind_opened t (plain_alt_kind a.kind) k) (alternatives_open t rest (counted_with a k))
     ∙ ap (λ n. with_front (alternative_open t (plain_alt a) k) (alternatives_open t rest n)) (sym (delays_more alts i 0 a h is))
 
@@ -232,7 +232,7 @@ delay_from alts i m k = delay_stmts (alts_of (map plain_alt (drop i alts))) m k
 
 delay_next : (alts : List Alt) (i m k : ℕ) (a : Alt) → i < length alts → a ≡ get_or alts i a
     → delay_from alts i m k ≡ delay_here (delay_part (plain_alt_kind a.kind)) (k == m + 1) (delay_from alts (i + 1) (counted_with a m) k)
-delay_next alts i m k a h is = ap (λ l. delay_stmts (alts_of (map plain_alt l)) m k) (here_at alts i a a h is)
+delay_next alts i m k a h is = ap (λ l. delay_stmts (alts_of (map plain_alt l)) m k) (rest_at alts i a a h is)
 
 pub delay_more : (alts : List Alt) (i m k next : ℕ) (a : Alt) (p : Option PStmts) (whole : PStmts) → i < length alts → a ≡ get_or alts i a
     → p ≡ delay_at (plain_alt_kind a.kind) m k → p ≡ None → next ≡ counted_with a m

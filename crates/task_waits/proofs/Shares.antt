@@ -16,6 +16,7 @@ use Rattle.task_waits.specs.declared.choosing.Sort.{Sort}
 use Rattle.task_waits.specs.declared.choosing.Sort.TheVariants as sort
 use Rattle.task_waits.specs.inner.Choosing.{duration_of, lesser, least_among, is_longer, chosen}
 use Rattle.task_waits.proofs.Opens.{lesser_none}
+use Rattle.common_lemmas.proofs.Truth.{or_grouped}
 
 -- ---- the choices of each sort
 
@@ -37,10 +38,6 @@ or_none : (b : Bool) → b ≡ (b || false)
 or_none true = refl
 or_none false = refl
 
-or_more : (a b c : Bool) → ((a || b) || c) ≡ (a || (b || c))
-or_more true b c = refl
-or_more false b c = refl
-
 lesser_longer : (m d n : ℕ) → is_longer (lesser (Some m) (Some d)) n ≡ (nat_lt m n || nat_lt d n)
 lesser_longer m d n = grind (arith, nat_tests)
 
@@ -57,7 +54,7 @@ longer_than_least [] m n = or_none (is_longer m n)
 longer_than_least (o ∷ os) m n =
     longer_than_least os (lesser m (duration_of o)) n
     ∙ ap (λ b. b || list_any (is_shorter n) os) (longer_than_lesser m o n)
-    ∙ or_more (is_longer m n) (is_shorter n o) (list_any (is_shorter n) os)
+    ∙ or_grouped (is_longer m n) (is_shorter n o) (list_any (is_shorter n) os)
 
 delays_chosen : (all : List Open) (o : Open) → chosen (sort.Delays (least_among None all)) o ≡ delay_choice all o
 delays_chosen all (Accepts e i head stmts behind) = refl

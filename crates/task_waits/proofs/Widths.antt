@@ -9,9 +9,9 @@ use Rattle.ada_tree.specs.declared.statements.Handler.{Handler, out-Handler}
 use Rattle.ada_tree.specs.declared.statements.Stmt.{Stmt}
 use Rattle.ada_tree.specs.PlainStmt.{PStmt, SNull, SAssign, SDelay, SExit, SRaise, SAbort, SCall, SAccept, SWait, SConditional, STimed, SPut, SPutLine, SNewLine, SGet, SIf, SCase, SBlock, SLoop, arm_then, case_arm_then, handler_then, plain_alt, plain_alt_kind, plain_arm, plain_case_arm, plain_handler, plain_stmt, alts_of, arms_of, case_arms_of, handlers_of, seen}
 use Rattle.ada_tree.proofs.Rows.{plain_arm-out, plain_case_arm-out, plain_handler-out}
-use Rattle.task_calls.proofs.Walking.{here_at}
 use Rattle.task_waits.specs.Room.{alternatives_in, room_at, widest_stmt, widest_stmts, widest_kind, widest_alts, widest_arms, widest_case_arms, widest_handlers}
 use Rattle.task_waits.specs.inner.Widths.{inner_width, rest_width}
+use Rattle.common_lemmas.proofs.Lists.{rest_at}
 
 -- a width over a list, by the width of each member
 pub record IsWidth {X : Type 0} (one : X → ℕ) (all : List X → ℕ) : Type 0 where
@@ -22,7 +22,7 @@ pub width_more : {X : Type 0} (one : X → ℕ) (all : List X → ℕ) → IsWid
     → i < length xs → x ≡ get_or xs i x → found ≡ one x → now ≡ max width found
     → max width (all (drop i xs)) ≡ whole → max now (all (drop (i + 1) xs)) ≡ whole
 width_more one all is_width xs i x width found now whole h is finds grows before =
-    let here : all (drop i xs) ≡ max (one x) (all (drop (i + 1) xs)) = ap all (here_at xs i x x h is) ∙ is_width.of_more x (drop (i + 1) xs) in
+    let here : all (drop i xs) ≡ max (one x) (all (drop (i + 1) xs)) = ap all (rest_at xs i x x h is) ∙ is_width.of_more x (drop (i + 1) xs) in
     omega (arith, here)
 
 pub width_end : {X : Type 0} (one : X → ℕ) (all : List X → ℕ) → IsWidth one all → (xs : List X) (i width whole : ℕ)

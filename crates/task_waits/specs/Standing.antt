@@ -6,7 +6,7 @@ use Rattle.event_machine.specs.Offers.{Calls, Waits, Finishes, Ends, Aborts}
 use Rattle.ada_value.specs.Variables.{Variables}
 use Rattle.task_calls.specs.declared.here.Here.{Here}
 use Rattle.task_model.specs.Setting.{Setting}
-use Rattle.task_model.specs.Frames.{Whole, control}
+use Rattle.task_model.specs.Frames.{OwnBody, control}
 use Rattle.task_model.specs.Tasks.{Task, stmts_or_none}
 use Rattle.task_model.specs.Waits.{Open, Accepts, Delays, Terminates}
 use Rattle.task_model.specs.Stands as model
@@ -16,7 +16,7 @@ use Rattle.task_waits.specs.declared.alternatives.Accepting.{Accepting}
 
 -- A task of this setting and number with these variables and with no statement left. What is evaluated at a statement is the same in every task of the same setting, number and variables (`proofs/Standing`).
 abbrev pub task_with : Setting → ℕ → Variables → Task
-task_with g n vars = record { setting = g; number = n; control = control no_stmt (Whole no_handler None) [] vars; input = []; output = [] }
+task_with g n vars = record { setting = g; number = n; control = control no_stmt (OwnBody no_handler None) [] vars; input = []; output = [] }
 
 -- the task that evaluates
 abbrev pub task_here : Here → Task

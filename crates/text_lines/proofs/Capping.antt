@@ -1,11 +1,12 @@
 -- Numbers up to the cap, by a walk over their digits.
-use Rattle.std.proofs.Common.{◌≡◌, ℕ, ◌+◌, ◌-◌, ◌*◌, ◌^◌, ◌<◌, ◌≤◌, Bool, true, false, List, [], ◌∷◌, length, get_or, drop, refl, ap, ◌∙◌, sym, arith, rules, zero, suc, ℤ, pos, negsuc, neg_ℤ, Some, None, Option, option_map, true≢false, ◌≢◌}
+use Rattle.std.proofs.Common.{◌≡◌, ℕ, ◌+◌, ◌-◌, ◌*◌, ◌^◌, ◌<◌, ◌≤◌, Bool, true, false, List, [], ◌∷◌, length, get_or, drop, refl, ap, ◌∙◌, sym, arith, rules, zero, suc, ℤ, pos, negsuc, neg_ℤ, Some, None, Option, option_map, ◌≢◌}
 use Rattle.std.proofs.lemmas.List.{at_drop_more}
 use Rattle.std.proofs.lemmas.Bool.{and_parts, and_from}
 use Rattle.std.specs.Int.Signed.{mag}
 use Rattle.std.specs.Prelude.{unwrap_or, is_some, option_and_then}
 use Rattle.text_lines.specs.Numerals.{are_digits, is_digit, is_natural, value_behind, below_zero, counted}
 use Rattle.text_lines.specs.Capped.{capped, capped_integer}
+use Rattle.common_lemmas.proofs.Truth.{clash}
 
 pub capped-small : (n : ℕ) → n ≤ 2 ^ 32 → capped n ≡ n
 unfolding capped
@@ -47,9 +48,6 @@ pub natural-digits : (xs : List ℕ) → is_natural xs ≡ true → are_digits x
 natural-digits [] h = search rules
 natural-digits (b ∷ []) h = and_from (is_digit b) true h refl
 natural-digits (b ∷ c ∷ rest) h = (and_parts _ _ h).1
-
-pub clash : {A : Type 0} → false ≡ true → A
-clash h = absurd (true≢false (sym h))
 
 pub some-is : {a b : ℕ} → Some a ≡ Some b → a ≡ b
 some-is h = ap (λ o. unwrap_or o 0) h

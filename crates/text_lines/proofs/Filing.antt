@@ -2,14 +2,15 @@
 use Rattle.std.proofs.Common.{◌≡◌, ◌≢◌, ℕ, true, false, List, [], ◌∷◌, ◌++◌, length, drop, Option, None, Some, refl, ap, ◌∙◌, sym, subst, arith, ◌⊎◌, inl, inr, append_assoc, append-nil, length-append, All}
 use Rattle.std.specs.Prelude.{◌==◌, is_some, unwrap_or, option_and_then, bytes_eq}
 use Rattle.std.specs.Option.{option_map_or}
-use Rattle.std.proofs.lemmas.Bool.{eqb-true, eqb-false}
+use Rattle.std.proofs.lemmas.Bool.{eqb-false}
 use Rattle.std.proofs.lemmas.List.Elements.{All-head, All-tail}
 use Rattle.std.proofs.lemmas.Slice.Eq.{bytes_eq-Decides}
 use Rattle.std.proofs.Math.Seq.{drop-append_seam}
 use Rattle.text_lines.specs.Lines.{is_line_end, first_line, cut}
 use Rattle.text_lines.specs.LineFiles.{Format, lines_text, file_text, IsFile, begins_with_line, FailsBehind, HasFirstFault}
-use Rattle.text_lines.proofs.Capping.{clash}
 use Rattle.text_lines.proofs.Marking.{IsFreeOf, left_of, right_of, cut-at_mark, cut-parts, first-line_cut}
+use Rattle.common_lemmas.proofs.Lists.{never_empty}
+use Rattle.common_lemmas.proofs.Truth.{clash}
 
 -- What a format has to keep: its tests and its texts fit together on the lines that may stand in a file, which are all good.
 pub record Laws {L E : Type 0} (format : Format L E) (Good : L → Type 0) : Type 0 where
@@ -51,16 +52,13 @@ file-append format xs ys rest =
     ∙ ap (λ t. t ++ rest) (sym (append_assoc h (lines_text format.text xs) (lines_text format.text ys)))
     ∙ append_assoc (h ++ lines_text format.text xs) (lines_text format.text ys) rest
 
-nil-clash : {A X : Type 0} (xs : List X) (y : X) (ys : List X) → xs ++ (y ∷ ys) ≡ [] → A
-nil-clash xs y ys h = absurd (omega (arith, ap length h, length-append xs (y ∷ ys)))
-
 rest-nil : {L : Type 0} (text : L → List ℕ) (xs : List L) (rest : List ℕ) → lines_text text xs ++ rest ≡ [] → rest ≡ []
 rest-nil text [] rest h = h
-rest-nil text (x ∷ xs) rest h = nil-clash (text x) 10 (lines_text text xs ++ rest) (sym (line-joined text x xs rest) ∙ h)
+rest-nil text (x ∷ xs) rest h = never_empty (text x) 10 (lines_text text xs ++ rest) (sym (line-joined text x xs rest) ∙ h)
 
 lines-nil : {L : Type 0} (text : L → List ℕ) (xs : List L) → lines_text text xs ++ [] ≡ [] → xs ≡ []
 lines-nil text [] h = refl
-lines-nil text (x ∷ xs) h = nil-clash (text x) 10 (lines_text text xs ++ []) (sym (line-joined text x xs []) ∙ h)
+lines-nil text (x ∷ xs) h = never_empty (text x) 10 (lines_text text xs ++ []) (sym (line-joined text x xs []) ∙ h)
 
 more-nil : {L : Type 0} (xs all more : List L) → all ≡ xs ++ more → all ≡ xs → more ≡ []
 more-nil xs all [] e same = refl
@@ -210,11 +208,6 @@ read-end format bytes rest xs to none = record {
 pub read-fault : {L E : Type 0} (format : Format L E) (bytes rest : List ℕ) (xs : List L) (error : E) → IsReadTo format bytes xs rest → rest ≢ [] →
     format.fault xs (option_and_then format.read (first_line rest)) ≡ Some error → HasFirstFault format bytes error
 read-fault format bytes rest xs error to more fault = inr record { lines = xs; rest = rest; text = to.text; fit = to.fit; more = more; fault = fault }
-
--- the file is read to its end, or bytes are left
-pub nil-by : (xs : List ℕ) → (length xs == 0) ≡ true → xs ≡ []
-nil-by [] h = refl
-nil-by (x ∷ xs) h = absurd (omega (arith, eqb-true (length (x ∷ xs)) 0 h))
 
 pub some-by : (xs : List ℕ) → (length xs == 0) ≡ false → xs ≢ []
 some-by xs h e = eqb-false (length xs) 0 h (ap length e)

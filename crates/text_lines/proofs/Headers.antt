@@ -5,8 +5,8 @@ use Rattle.std.specs.Option.{option_map_or}
 use Rattle.std.proofs.lemmas.Slice.Eq.{bytes_eq-Decides}
 use Rattle.text_lines.specs.Lines.{is_line_end, cut}
 use Rattle.text_lines.specs.LineFiles.{begins_with_line}
-use Rattle.text_lines.proofs.Capping.{clash}
 use Rattle.text_lines.proofs.Marking.{first-line_cut}
+use Rattle.common_lemmas.proofs.Truth.{clash}
 
 pub header-same : (text line header behind : List ℕ) → Some (line, behind) ≡ cut is_line_end text → bytes_eq line header ≡ true → cut is_line_end text ≡ Some (header, behind)
 header-same text line header behind cuts same = sym cuts ∙ ap (λ t. Some (t, behind)) ((bytes_eq-Decides line header).0 same)

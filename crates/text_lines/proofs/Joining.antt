@@ -5,8 +5,8 @@ use Rattle.std.specs.Prelude.{◌==◌, is_some, unwrap_or, count_by}
 use Rattle.std.proofs.lemmas.List.Elements.{All-nil, All-cons, All-head, All-tail, All-append}
 use Rattle.std.proofs.lemmas.List.Splits.{slice_split_at, slice_split_none, join_with_byte-slice_split, length-slice_split}
 use Rattle.text_lines.specs.Lines.{is_blank, words_of, with_two, all_of}
-use Rattle.text_lines.proofs.Capping.{clash}
 use Rattle.text_lines.proofs.Marking.{IsFreeOf, free-cons}
+use Rattle.common_lemmas.proofs.Truth.{clash}
 
 -- a mark that stands in no word and is no blank stands in no line
 pub joined-free : (m : ℕ) (words : List (List ℕ)) → (32 == m) ≡ false → All (IsFreeOf m) words → IsFreeOf m (join_with_byte 32 words)

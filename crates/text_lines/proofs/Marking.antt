@@ -10,8 +10,9 @@ use Rattle.std.proofs.lemmas.List.Sums.{split_at_first, passes_at_first}
 use Rattle.std.proofs.Math.Seq.{take-append_seam, drop-append-add}
 use Rattle.text_lines.specs.Numerals.{are_digits, is_digit}
 use Rattle.text_lines.specs.Lines.{first_line, is_line_end, cut}
-use Rattle.text_lines.proofs.Capping.{clash}
 use Rattle.text_lines.proofs.Spelling.{decimal-digits}
+use Rattle.common_lemmas.proofs.Numbers.{one_more}
+use Rattle.common_lemmas.proofs.Truth.{clash, not_true}
 
 -- no byte is the mark
 abbrev pub IsFreeOf : ℕ → List ℕ → Type 0
@@ -38,9 +39,6 @@ pub signed-free : (m : ℕ) (z : ℤ) → m < 45 → mag z < 2 ^ 63 → IsFreeOf
 signed-free m (pos n) h lt = decimal-free m n h (omega (arith, lt))
 signed-free m (negsuc n) h lt = free-cons m 45 (decimal (suc n)) (ne_eqb 45 m (λ e. absurd (omega (arith, e, h)))) (decimal-free m (suc n) h (omega (arith, lt)))
 
-one-more : (n : ℕ) → 1 + n ≡ suc n
-one-more n = omega arith
-
 abbrev pub left_of : Option (List ℕ × List ℕ) → List ℕ
 left_of None = []
 left_of (Some (a, b)) = a
@@ -54,15 +52,11 @@ abbrev are_free : ℕ → List ℕ → Bool
 are_free m [] = true
 are_free m (b ∷ rest) = not (b == m) && are_free m rest
 
-not-mark : (b : Bool) → not b ≡ true → b ≡ false
-not-mark true h = clash h
-not-mark false h = refl
-
 pub free-prefix : (m : ℕ) (front back : List ℕ) → are_free m front ≡ true → IsFreeOf m back → IsFreeOf m (front ++ back)
 free-prefix m [] back h k = k
 free-prefix m (b ∷ front) back h k =
     let both = and_parts (not (b == m)) (are_free m front) h in
-    free-cons m b (front ++ back) (not-mark (b == m) both.0) (free-prefix m front back both.1 k)
+    free-cons m b (front ++ back) (not_true (b == m) both.0) (free-prefix m front back both.1 k)
 
 -- a text in front of the first mark
 pub place-of_mark : (m : ℕ) (text rest : List ℕ) → IsFreeOf m text → position_or_len (λ b. b == m) (text ++ (m ∷ rest)) ≡ length text
@@ -70,7 +64,7 @@ place-of_mark m [] rest free = ap (λ t. cond (not t) (1 + position_or_len (λ b
 place-of_mark m (b ∷ text) rest free =
     ap (λ t. cond (not t) (1 + position_or_len (λ x. x == m) (text ++ (m ∷ rest))) 0) (All-head (λ x. (x == m) ≡ false) b text free)
     ∙ ap (λ t. 1 + t) (place-of_mark m text rest (All-tail (λ x. (x == m) ≡ false) b text free))
-    ∙ one-more (length text)
+    ∙ one_more (length text)
 
 pub cut-at_mark : (m : ℕ) (text rest : List ℕ) → IsFreeOf m text → cut (λ b. b == m) (text ++ (m ∷ rest)) ≡ Some (text, rest)
 cut-at_mark m text rest free =

@@ -6,8 +6,9 @@ use Rattle.std.specs.Prelude.{int_le, nat_lt, is_some, unwrap_or, option_and_the
 use Rattle.std.proofs.lemmas.Bool.{cases_Bool, cases_lt, and_parts, leb-true, ltb-true}
 use Rattle.text_lines.specs.Numerals.{natural, integer, only_if, is_small_integer, small_integer, is_small_number, small_number}
 use Rattle.text_lines.specs.Capped.{capped, capped_integer}
-use Rattle.text_lines.proofs.Capping.{clash, some-is, capped-small, capped-large}
+use Rattle.text_lines.proofs.Capping.{some-is, capped-small, capped-large}
 use Rattle.text_lines.proofs.Spelling.{natural-of_decimal, integer-of_signed, word-of_natural, word-of_integer}
+use Rattle.common_lemmas.proofs.Truth.{clash}
 
 integer-exact : (z : ℤ) → is_small_integer z ≡ true → capped_integer z ≡ z
 integer-exact (pos n) h = ap pos (capped-small n (omega (arith, leb-true n 2147483647 h)))
@@ -42,7 +43,7 @@ number-same n = elim (cases_lt n (2 ^ 32)) [
       | inr e ↦ e
     ]
 
-integer-is : {i j : ℤ} → Some i ≡ Some j → i ≡ j
+pub integer-is : {i j : ℤ} → Some i ≡ Some j → i ≡ j
 integer-is h = ap (λ o. unwrap_or o (pos 0)) h
 
 pub narrow-integer : (i : ℤ) (o : Option ℤ) → Some i ≡ option_map capped_integer o → only_if is_small_integer i ≡ option_and_then (only_if is_small_integer) o

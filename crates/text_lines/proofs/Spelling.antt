@@ -7,7 +7,8 @@ use Rattle.std.proofs.lemmas.Bool.{cases_Bool, cases_lt, and_parts, and_from, ne
 use Rattle.std.proofs.lemmas.Fmt.{digits_decimal, digits_value-decimal, decimal-digits_value, decimal_nonempty, first_decimal, decimal_digit}
 use Rattle.std.proofs.lemmas.Str.Parse.{IsNumeralModel, numerals_by_fold}
 use Rattle.text_lines.specs.Numerals.{are_digits, is_digit, is_natural, value_behind, natural, integer, counted, count, below_zero}
-use Rattle.text_lines.proofs.Capping.{clash, some-is, natural-digits}
+use Rattle.text_lines.proofs.Capping.{some-is, natural-digits}
+use Rattle.common_lemmas.proofs.Truth.{clash}
 
 own : IsNumeralModel (λ ds. are_digits ds ≡ true) (value_behind 0)
 own = numerals_by_fold (λ ds. are_digits ds ≡ true) (search rules) value_behind (search rules)

@@ -1,5 +1,5 @@
 -- Walks over the digits of a word, and a text cut at its first mark.
-use Rattle.std.proofs.Common.{◌≡◌, ℕ, ◌+◌, ◌<◌, Bool, true, false, List, [], ◌∷◌, length, get_or, take, drop, ap, ◌∙◌, sym, arith, None, Some, inl, inr, cond, rules}
+use Rattle.std.proofs.Common.{◌≡◌, ℕ, ◌+◌, ◌<◌, Bool, true, false, List, [], ◌∷◌, length, get_or, take, drop, ap, ◌∙◌, sym, arith, None, Some, inl, inr, cond}
 use Rattle.std.proofs.lemmas.List.{at_drop_more}
 use Rattle.std.proofs.lemmas.Bool.{cases_Bool, ltb-true, ltb-false}
 use Rattle.std.proofs.lemmas.List.Splits.{length-slice_split, slice_split_first, slice_split_none}
@@ -7,15 +7,13 @@ use Rattle.std.proofs.lemmas.List.Sums.{fails_before_first}
 use Rattle.std.specs.Prelude.{◌&&◌, position, nat_lt, ◌==◌, unwrap_or, is_some}
 use Rattle.std.specs.List.{slice_split, position_or_len}
 use Rattle.text_lines.specs.Numerals.{are_digits, is_digit}
+use Rattle.common_lemmas.proofs.Truth.{clash}
 
 pub digits-more : (xs : List ℕ) (n : ℕ) → n < length xs → is_digit (get_or xs n 0) ≡ true → are_digits (drop (n + 1) xs) ≡ are_digits (drop n xs)
 digits-more xs n lt h = sym (at_drop_more are_digits xs n 0 lt ∙ ap (λ b. b && are_digits (drop (n + 1) xs)) h)
 
 pub digits-no : (xs : List ℕ) (n : ℕ) → n < length xs → is_digit (get_or xs n 0) ≡ false → are_digits (drop n xs) ≡ false
 digits-no xs n lt h = at_drop_more are_digits xs n 0 lt ∙ ap (λ b. b && are_digits (drop (n + 1) xs)) h
-
-clash : {A : Type 0} → false ≡ true → A
-clash h = search rules
 
 pub split-Some : (m : ℕ) (xs a b : List ℕ) (n : ℕ) → position (λ x. x == m) xs ≡ Some n → a ≡ take n xs → b ≡ drop (n + 1) xs → slice_split (λ x. x == m) xs ≡ a ∷ slice_split (λ x. x == m) b
 split-Some m xs a b n h ea eb =

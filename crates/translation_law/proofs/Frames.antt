@@ -7,7 +7,7 @@ use Rattle.ada_tree.specs.PlainStmt.{PStmt, PStmts, no_stmt, stmt_then}
 use Rattle.ada_value.specs.declared.values.Value.{Value}
 use Rattle.ada_value.specs.declared.values.Raised.{Raised}
 use Rattle.ada_value.specs.Variables.{Object, Variables, object_named, with_value, set_value}
-use Rattle.task_model.specs.Frames.{Counting, Around, Loop, Part, Control, control, block_with, raised_in, is_left, exited_in}
+use Rattle.task_model.specs.Frames.{Counting, Around, Loop, PFrame, Control, control, block_with, raised_in, is_left, exited_in}
 use Rattle.translation_law.specs.Translations.{Translation, IsOld, IsKnown}
 use Rattle.translation_law.specs.Scopes.{HasKnown, SameObject, same_object, SeeAlike}
 use Rattle.translation_law.specs.Images.{IsEmpty, nothing_there, IsSomething, something_there}
@@ -19,21 +19,21 @@ use Rattle.translation_law.proofs.Evaluating.{known-with}
 module _ (x : Translation) (laws : IsTranslation x) where
   -- ---- ends
 
-  at_something : {p p' : Around} {o o' : List Part} {V V' : Variables} (s : PStmt) (l : PStmts) {r' : PStmts} → IsSomething r' → x.text.image (stmt_then s l) r' → Under x p o V p' o' V' →
+  at_something : {p p' : Around} {o o' : List PFrame} {V V' : Variables} (s : PStmt) (l : PStmts) {r' : PStmts} → IsSomething r' → x.text.image (stmt_then s l) r' → Under x p o V p' o' V' →
       Settle x (control (stmt_then s l) p o V) (control r' p' o' V')
   at_something s l (something_there s' l') im u = record { follows = inside (stmt_then s l) (stmt_then s' l') im u }
 
-  at_none : {p p' : Around} {o o' : List Part} {V V' : Variables} {r' : PStmts} → IsEmpty r' → Settle x (control no_stmt p o V) (control no_stmt p' o' V') →
+  at_none : {p p' : Around} {o o' : List PFrame} {V V' : Variables} {r' : PStmts} → IsEmpty r' → Settle x (control no_stmt p o V) (control no_stmt p' o' V') →
       Settle x (control no_stmt p o V) (control r' p' o' V')
   at_none nothing_there end = end
 
-  settle_by : {p p' : Around} {o o' : List Part} {V V' : Variables} (r r' : PStmts) → x.text.image r r' → Under x p o V p' o' V' → Settle x (control no_stmt p o V) (control no_stmt p' o' V') →
+  settle_by : {p p' : Around} {o o' : List PFrame} {V V' : Variables} (r r' : PStmts) → x.text.image r r' → Under x p o V p' o' V' → Settle x (control no_stmt p o V) (control no_stmt p' o' V') →
       Settle x (control r p o V) (control r' p' o' V')
   settle_by no_stmt r' im u end = at_none (laws.images.nothing r' im) end
   settle_by (stmt_then s l) r' im u end = at_something s l (laws.images.something s l r' im) im u
 
   -- the end of a frame's statements
-  pub settle-end : {p p' : Around} {o o' : List Part} {V V' : Variables} → Under x p o V p' o' V' → Settle x (control no_stmt p o V) (control no_stmt p' o' V')
+  pub settle-end : {p p' : Around} {o o' : List PFrame} {V V' : Variables} → Under x p o V p' o' V' → Settle x (control no_stmt p o V) (control no_stmt p' o' V')
   settle-end (on_floor f) = laws.floors.over _ _ _ _ _ _ f
   settle-end (in_block hs hs' r r' h im u) = record { follows = (settle_by r r' im u (settle-end u)).follows }
   settle-end (in_handler e r r' im u) = record { follows = (settle_by r r' im u (settle-end u)).follows }
@@ -43,17 +43,17 @@ module _ (x : Translation) (laws : IsTranslation x) where
       record { follows = inside no_stmt no_stmt laws.images.empty (in_count name backwards last l l' r r' b old known h im u) }
 
   -- statements in frames that go together
-  pub settle : {p p' : Around} {o o' : List Part} {V V' : Variables} (r r' : PStmts) → x.text.image r r' → Under x p o V p' o' V' → Settle x (control r p o V) (control r' p' o' V')
+  pub settle : {p p' : Around} {o o' : List PFrame} {V V' : Variables} (r r' : PStmts) → x.text.image r r' → Under x p o V p' o' V' → Settle x (control r p o V) (control r' p' o' V')
   settle r r' im u = settle_by r r' im u (settle-end u)
 
   -- ---- exceptions
 
-  block-alike : {p p' : Around} {o o' : List Part} {V V' : Variables} (e : Raised) (r r' : PStmts) {t t' : Option PStmts} {c d : Control} → Taken x.text t t' → x.text.image r r' →
+  block-alike : {p p' : Around} {o o' : List PFrame} {V V' : Variables} (e : Raised) (r r' : PStmts) {t t' : Option PStmts} {c d : Control} → Taken x.text t t' → x.text.image r r' →
       Under x p o V p' o' V' → Settle x c d → Settle x (block_with t e (frame r p ∷ o) V c) (block_with t' e (frame r' p' ∷ o') V' d)
   block-alike e r r' not_taken im u k = k
   block-alike e r r' (taken l l' h) im u k = settle l l' h (in_handler e r r' im u)
 
-  pub raised-alike : (e : Raised) {p p' : Around} {o o' : List Part} {V V' : Variables} → Under x p o V p' o' V' → Settle x (raised_in e o p V) (raised_in e o' p' V')
+  pub raised-alike : (e : Raised) {p p' : Around} {o o' : List PFrame} {V V' : Variables} → Under x p o V p' o' V' → Settle x (raised_in e o p V) (raised_in e o' p' V')
   raised-alike e (on_floor f) = laws.floors.raised e _ _ _ _ _ _ f
   raised-alike e (in_block hs hs' r r' h im u) = block-alike e r r' (handler-alike x.text e h) im u (raised-alike e u)
   raised-alike e (in_handler y r r' im u) = raised-alike e u
@@ -67,7 +67,7 @@ module _ (x : Translation) (laws : IsTranslation x) where
   either-settles true h k = h
   either-settles false h k = k
 
-  pub exited-alike : (w : Option Word) {p p' : Around} {o o' : List Part} {V V' : Variables} → Under x p o V p' o' V' → Settle x (exited_in w o p V) (exited_in w o' p' V')
+  pub exited-alike : (w : Option Word) {p p' : Around} {o o' : List PFrame} {V V' : Variables} → Under x p o V p' o' V' → Settle x (exited_in w o p V) (exited_in w o' p' V')
   exited-alike w (on_floor f) = laws.floors.exited w _ _ _ _ _ _ f
   exited-alike w (in_block hs hs' r r' h im u) = exited-alike w u
   exited-alike w (in_handler y r r' im u) = exited-alike w u
@@ -77,7 +77,7 @@ module _ (x : Translation) (laws : IsTranslation x) where
 
   -- ---- the innermost handler
 
-  pub handled-alike : {p p' : Around} {o o' : List Part} {V V' : Variables} → Under x p o V p' o' V' → handled_around p o ≡ handled_around p' o'
+  pub handled-alike : {p p' : Around} {o o' : List PFrame} {V V' : Variables} → Under x p o V p' o' V' → handled_around p o ≡ handled_around p' o'
   handled-alike (on_floor f) = laws.scopes.handled _ _ _ _ _ _ f
   handled-alike (in_block hs hs' r r' h im u) = handled-alike u
   handled-alike (in_handler y r r' im u) = refl
@@ -94,7 +94,7 @@ module _ (x : Translation) (laws : IsTranslation x) where
       go id true h = same_object b known
       go id false h = h
 
-  pub sees-alike : {p p' : Around} {o o' : List Part} {V V' : Variables} → Under x p o V p' o' V' → SeeAlike x.text.programs V V'
+  pub sees-alike : {p p' : Around} {o o' : List PFrame} {V V' : Variables} → Under x p o V p' o' V' → SeeAlike x.text.programs V V'
   sees-alike (on_floor f) = laws.scopes.sees _ _ _ _ _ _ f
   sees-alike (in_block hs hs' r r' h im u) = sees-alike u
   sees-alike (in_handler y r r' im u) = sees-alike u
@@ -103,7 +103,7 @@ module _ (x : Translation) (laws : IsTranslation x) where
   sees-alike (in_count name backwards last l l' r r' b old known h im u) = in_front-sees b known (sees-alike u)
 
   -- the same value goes to an old name on both sides
-  pub set-alike : (id : NameId) (k : ℕ) (v : Value) → IsOld x.text.programs id → IsKnown x.text.programs v → {p p' : Around} {o o' : List Part} {V V' : Variables} → Under x p o V p' o' V' →
+  pub set-alike : (id : NameId) (k : ℕ) (v : Value) → IsOld x.text.programs id → IsKnown x.text.programs v → {p p' : Around} {o o' : List PFrame} {V V' : Variables} → Under x p o V p' o' V' →
       Under x p o (set_value V id k v) p' o' (set_value V' id k v)
   set-alike id k v old known (on_floor f) = on_floor (laws.scopes.set _ _ _ _ _ _ id k v old known f)
   set-alike id k v old known (in_block hs hs' r r' h im u) = in_block hs hs' r r' h im (set-alike id k v old known u)
@@ -119,7 +119,7 @@ module _ (x : Translation) (laws : IsTranslation x) where
       go false ih = in_count name backwards last l l' r r' b w given h im ih
 
   -- a value goes to an added name of the image
-  pub add-alike : (id : NameId) (k : ℕ) (v : Value) → x.text.programs.is_old id.0 ≡ false → {p p' : Around} {o o' : List Part} {V V' : Variables} → Under x p o V p' o' V' →
+  pub add-alike : (id : NameId) (k : ℕ) (v : Value) → x.text.programs.is_old id.0 ≡ false → {p p' : Around} {o o' : List PFrame} {V V' : Variables} → Under x p o V p' o' V' →
       Under x p o V p' o' (set_value V' id k v)
   add-alike id k v new (on_floor f) = on_floor (laws.scopes.add _ _ _ _ _ _ id k v new f)
   add-alike id k v new (in_block hs hs' r r' h im u) = in_block hs hs' r r' h im (add-alike id k v new u)

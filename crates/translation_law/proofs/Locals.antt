@@ -13,7 +13,7 @@ use Rattle.ada_value.specs.Values.{position_of, value_at, limits_of_kind, lies_i
 use Rattle.ada_value.specs.declared.values.Limits.{Limits}
 use Rattle.ada_value.specs.Variables.{Object, Variables, value_there, component_place, checked_for, set_value}
 use Rattle.ada_tree.specs.TypeTable.{TypeTable}
-use Rattle.task_model.specs.Frames.{While, Counting, Around, Loop, Part, Control, control, settled, raised_named}
+use Rattle.task_model.specs.Frames.{While, Counting, Around, Loop, PFrame, Control, control, settled, raised_named}
 use Rattle.task_model.specs.Tasks.{Task, rest_of, place_of, value_of, with_text, gone_to, stmts_or_none, entered, pushed, raised_there, or_raised}
 use Rattle.task_model.specs.Steps as steps
 use Rattle.translation_law.specs.Translations.{Translation, types_before, types_after, IsOld, IsFree, IsKnown}
@@ -28,24 +28,24 @@ use Rattle.translation_law.proofs.Frames.{settle, raised-alike, exited-alike, ha
 
 module _ (x : Translation) (laws : IsTranslation x) where
   -- a task and its image, in frames
-  abbrev left : ℕ → List ℤ → List ℕ → PStmts → Around → List Part → Variables → Task
+  abbrev left : ℕ → List ℤ → List ℕ → PStmts → Around → List PFrame → Variables → Task
   left n i w r p o V = task_in x.text.programs.original n i w (control r p o V)
 
-  abbrev right : ℕ → List ℤ → List ℕ → PStmts → Around → List Part → Variables → Task
+  abbrev right : ℕ → List ℤ → List ℕ → PStmts → Around → List PFrame → Variables → Task
   right n i w r p o V = task_in x.text.programs.made n i w (control r p o V)
 
   pub of_settle : (n : ℕ) (i : List ℤ) (w : List ℕ) {c d : Control} → Settle x c d → Alike x (task_in x.text.programs.original n i w (settled c)) (task_in x.text.programs.made n i w (settled d))
   of_settle n i w {c} {d} h = alike n i w (settled c) (settled d) h.follows
 
-  pub raise-there : (n : ℕ) (i : List ℤ) (w : List ℕ) (r r' : PStmts) {p p' : Around} {o o' : List Part} {V V' : Variables} → Under x p o V p' o' V' → (e : Raised) →
+  pub raise-there : (n : ℕ) (i : List ℤ) (w : List ℕ) (r r' : PStmts) {p p' : Around} {o o' : List PFrame} {V V' : Variables} → Under x p o V p' o' V' → (e : Raised) →
       Alike x (raised_there e (left n i w r p o V)) (raised_there e (right n i w r' p' o' V'))
   raise-there n i w r r' u e = of_settle n i w (raised-alike x laws e u)
 
-  pub go-there : (n : ℕ) (i : List ℤ) (w : List ℕ) (r r' q q' : PStmts) {p p' : Around} {o o' : List Part} {V V' : Variables} → x.text.image q q' → Under x p o V p' o' V' →
+  pub go-there : (n : ℕ) (i : List ℤ) (w : List ℕ) (r r' q q' : PStmts) {p p' : Around} {o o' : List PFrame} {V V' : Variables} → x.text.image q q' → Under x p o V p' o' V' →
       Alike x (gone_to q (left n i w r p o V)) (gone_to q' (right n i w r' p' o' V'))
   go-there n i w r r' q q' im u = of_settle n i w (settle x laws q q' im u)
 
-  or-raise : (n : ℕ) (i : List ℤ) (w : List ℕ) (r r' : PStmts) {p p' : Around} {o o' : List Part} {V V' : Variables} → Under x p o V p' o' V' →
+  or-raise : (n : ℕ) (i : List ℤ) (w : List ℕ) (r r' : PStmts) {p p' : Around} {o o' : List PFrame} {V V' : Variables} → Under x p o V p' o' V' →
       {A B : Type 0} {R : A → B → Type 0} {f : A → Task} {f' : B → Task} {a : Result A Raised} {b : Result B Raised} → Both R a b →
       ((c : A) (d : B) → R c d → Alike x (f c) (f' d)) → Alike x (or_raised f (left n i w r p o V) a) (or_raised f' (right n i w r' p' o' V') b)
   or-raise n i w r r' u (both_ok c d h) k = k c d h
@@ -65,12 +65,12 @@ module _ (x : Translation) (laws : IsTranslation x) where
   component-alike no_object v v' (known_value u h) = both_err raised.Constraint
   component-alike (same_object o k) v v' (known_value u h) = same-place (component_place (Some o) u)
 
-  aim-alike : (n : ℕ) (i : List ℤ) (w : List ℕ) (r r' : PStmts) {p p' : Around} {o o' : List Part} {V V' : Variables} → Under x p o V p' o' V' → {a b : Option Object} → SameObject x.text.programs a b →
+  aim-alike : (n : ℕ) (i : List ℤ) (w : List ℕ) (r r' : PStmts) {p p' : Around} {o o' : List PFrame} {V V' : Variables} → Under x p o V p' o' V' → {a b : Option Object} → SameObject x.text.programs a b →
       {index : Option PExpr} → OldOption x.text.programs index → Both Equal (steps.aim_at (left n i w r p o V) a index) (steps.aim_at (right n i w r' p' o' V') b index)
   aim-alike n i w r r' u same old_none = both_ok 0 0 (equal 0)
   aim-alike n i w r r' u same (old_some e h) = both_then (value-alike x.text.programs laws.types (sees-alike x laws u) h) (component-alike same)
 
-  target-alike : (n : ℕ) (i : List ℤ) (w : List ℕ) (r r' : PStmts) {p p' : Around} {o o' : List Part} {V V' : Variables} → Under x p o V p' o' V' → {t : PTarget} → OldTarget x.text.programs t →
+  target-alike : (n : ℕ) (i : List ℤ) (w : List ℕ) (r r' : PStmts) {p p' : Around} {o o' : List PFrame} {V V' : Variables} → Under x p o V p' o' V' → {t : PTarget} → OldTarget x.text.programs t →
       Both Equal (steps.aim_of (left n i w r p o V) t) (steps.aim_of (right n i w r' p' o' V') t)
   target-alike n i w r r' u {t} h = aim-alike n i w r r' u ((sees-alike x laws u).named t.name.name h.name) h.index
 
@@ -85,7 +85,7 @@ module _ (x : Translation) (laws : IsTranslation x) where
   checked_for-alike no_object v v' (known_value u h) = both_ok u u (known_value u h)
   checked_for-alike (same_object o k) v v' (known_value u h) = checked-alike o.limits u h
 
-  stored-alike : (n : ℕ) (i : List ℤ) (w : List ℕ) (r r' : PStmts) {p p' : Around} {o o' : List Part} {V V' : Variables} → Under x p o V p' o' V' → (t : PTarget) → OldTarget x.text.programs t →
+  stored-alike : (n : ℕ) (i : List ℤ) (w : List ℕ) (r r' : PStmts) {p p' : Around} {o o' : List PFrame} {V V' : Variables} → Under x p o V p' o' V' → (t : PTarget) → OldTarget x.text.programs t →
       (k k' : ℕ) → Equal k k' → (v v' : Value) → KnownValue x.text.programs v v' →
       Both (λ W W'. Under x p o W p' o' W') (steps.stored (left n i w r p o V) t k v) (steps.stored (right n i w r' p' o' V') t k' v')
   stored-alike n i w r r' {p} {p'} {o} {o'} {V} {V'} u t h k k' (equal j) v v' q = both_then (checked_for-alike ((sees-alike x laws u).named t.name.name h.name) v v' q) go
@@ -95,13 +95,13 @@ module _ (x : Translation) (laws : IsTranslation x) where
 
   -- ---- assignment and GET
 
-  assign-alike : (n : ℕ) (i : List ℤ) (w : List ℕ) (s s' q q' : PStmts) {p p' : Around} {o o' : List Part} {V V' : Variables} → x.text.image q q' → Under x p o V p' o' V' →
+  assign-alike : (n : ℕ) (i : List ℤ) (w : List ℕ) (s s' q q' : PStmts) {p p' : Around} {o o' : List PFrame} {V V' : Variables} → x.text.image q q' → Under x p o V p' o' V' →
       (t : PTarget) (e : PExpr) → OldTarget x.text.programs t → OldExpr x.text.programs e → Alike x (steps.assign_step t e q (left n i w s p o V)) (steps.assign_step t e q' (right n i w s' p' o' V'))
   assign-alike n i w s s' q q' im u t e ht he = or-raise n i w s s' u
       (both_then (target-alike n i w s s' u ht) (λ k k' hk. both_then (value-alike x.text.programs laws.types (sees-alike x laws u) he) (λ v v' hv. stored-alike n i w s s' u t ht k k' hk v v' hv)))
       (λ W W' h. go-there n i w s s' q q' im h)
 
-  got-alike : (n : ℕ) (i : List ℤ) (w : List ℕ) (s s' q q' : PStmts) {p p' : Around} {o o' : List Part} {V V' : Variables} → x.text.image q q' → Under x p o V p' o' V' →
+  got-alike : (n : ℕ) (i : List ℤ) (w : List ℕ) (s s' q q' : PStmts) {p p' : Around} {o o' : List PFrame} {V V' : Variables} → x.text.image q q' → Under x p o V p' o' V' →
       (t : PTarget) → OldTarget x.text.programs t → (k k' : ℕ) → Equal k k' → (zs : List ℤ) → Alike x (steps.got t q (left n i w s p o V) k zs) (steps.got t q' (right n i w s' p' o' V') k' zs)
   got-alike n i w s s' q q' im u t ht k k' hk [] = raise-there n i w s s' u raised.End
   got-alike n i w s s' q q' im u t ht k k' hk (z ∷ rest) = or-raise n rest w s s' u
@@ -114,11 +114,11 @@ module _ (x : Translation) (laws : IsTranslation x) where
   branch-alike image_absent = laws.images.empty
   branch-alike (image_present l l' im) = im
 
-  enter-alike : (n : ℕ) (i : List ℤ) (w : List ℕ) (s s' q q' : PStmts) {p p' : Around} {o o' : List Part} {V V' : Variables} → x.text.image q q' → Under x p o V p' o' V' →
+  enter-alike : (n : ℕ) (i : List ℤ) (w : List ℕ) (s s' q q' : PStmts) {p p' : Around} {o o' : List PFrame} {V V' : Variables} → x.text.image q q' → Under x p o V p' o' V' →
       (a b : PMaybe) → ImageMaybe x.text a b → Alike x (entered (stmts_or_none a) q (left n i w s p o V)) (entered (stmts_or_none b) q' (right n i w s' p' o' V'))
   enter-alike n i w s s' q q' im u a b h = go-there n i w s s' _ _ (laws.images.joined _ _ _ _ (branch-alike h) im) u
 
-  arms-alike : (n : ℕ) (i : List ℤ) (w : List ℕ) (s s' : PStmts) {p p' : Around} {o o' : List Part} {V V' : Variables} → Under x p o V p' o' V' →
+  arms-alike : (n : ℕ) (i : List ℤ) (w : List ℕ) (s s' : PStmts) {p p' : Around} {o o' : List PFrame} {V V' : Variables} → Under x p o V p' o' V' →
       {arms arms' : PArms} → ImageArms x.text arms arms' → {c d : PMaybe} → ImageMaybe x.text c d → Both (ImageMaybe x.text) (steps.arm_taken (left n i w s p o V) arms c) (steps.arm_taken (right n i w s' p' o' V') arms' d)
   arms-alike n i w s s' u image_no_arm {c} {d} h = both_ok c d h
   arms-alike n i w s s' {p} {p'} {o} {o'} {V} {V'} u (image_arm e l l' rest rest' old im more) {c} {d} h =
@@ -133,19 +133,19 @@ module _ (x : Translation) (laws : IsTranslation x) where
           Both (ImageMaybe x.text) (if a then Ok (present l) else steps.arm_taken (left n i w s p o V) rest c) (if b then Ok (present l') else steps.arm_taken (right n i w s' p' o' V') rest' d)
       go a b (equal t) k = choose t k
 
-  end-alike : (n : ℕ) (i : List ℤ) (w : List ℕ) (s s' : PStmts) {p p' : Around} {o o' : List Part} {V V' : Variables} → Under x p o V p' o' V' →
+  end-alike : (n : ℕ) (i : List ℤ) (w : List ℕ) (s s' : PStmts) {p p' : Around} {o o' : List PFrame} {V V' : Variables} → Under x p o V p' o' V' →
       {e : Option PExpr} → OldOption x.text.programs e → (v v' : Value) → KnownValue x.text.programs v v' → Both (KnownValue x.text.programs) (steps.choice_end (left n i w s p o V) e v) (steps.choice_end (right n i w s' p' o' V') e v')
   end-alike n i w s s' u old_none v v' h = both_ok v v' h
   end-alike n i w s s' u (old_some e he) v v' h = value-alike x.text.programs laws.types (sees-alike x laws u) he
 
-  fits-alike : (n : ℕ) (i : List ℤ) (w : List ℕ) (s s' : PStmts) {p p' : Around} {o o' : List Part} {V V' : Variables} → Under x p o V p' o' V' → (v v' : Value) → KnownValue x.text.programs v v' →
+  fits-alike : (n : ℕ) (i : List ℤ) (w : List ℕ) (s s' : PStmts) {p p' : Around} {o o' : List PFrame} {V V' : Variables} → Under x p o V p' o' V' → (v v' : Value) → KnownValue x.text.programs v v' →
       (c : PChoice) → OldExpr x.text.programs c.first → OldOption x.text.programs c.last → Both Equal (steps.choice_fits (left n i w s p o V) v c) (steps.choice_fits (right n i w s' p' o' V') v' c)
   fits-alike n i w s s' u v v' hv c h k = both_then (value-alike x.text.programs laws.types (sees-alike x laws u) h) (λ a a' ha. both_then (end-alike n i w s s' u k a a' ha) (λ b b' hb. go v v' hv a a' ha b b' hb))
     where
       go : (v v' : Value) → KnownValue x.text.programs v v' → (a a' : Value) → KnownValue x.text.programs a a' → (b b' : Value) → KnownValue x.text.programs b b' → Both Equal (Ok (steps.lies_between a b v)) (Ok (steps.lies_between a' b' v'))
       go v v' (known_value v1 h1) a a' (known_value a1 h2) b b' (known_value b1 h3) = both_ok _ _ (equal (steps.lies_between a1 b1 v1))
 
-  choices-alike : (n : ℕ) (i : List ℤ) (w : List ℕ) (s s' : PStmts) {p p' : Around} {o o' : List Part} {V V' : Variables} → Under x p o V p' o' V' → (v v' : Value) → KnownValue x.text.programs v v' →
+  choices-alike : (n : ℕ) (i : List ℤ) (w : List ℕ) (s s' : PStmts) {p p' : Around} {o o' : List PFrame} {V V' : Variables} → Under x p o V p' o' V' → (v v' : Value) → KnownValue x.text.programs v v' →
       {cs : List PChoice} → OldChoices x.text.programs cs → Both Equal (steps.choices_fit (left n i w s p o V) v cs) (steps.choices_fit (right n i w s' p' o' V') v' cs)
   choices-alike n i w s s' u v v' hv old_no_choice = both_ok false false (equal false)
   choices-alike n i w s s' {p} {p'} {o} {o'} {V} {V'} u v v' hv (old_choice c rest h k more) =
@@ -160,7 +160,7 @@ module _ (x : Translation) (laws : IsTranslation x) where
           Both Equal (if a then Ok true else steps.choices_fit (left n i w s p o V) v rest) (if b then Ok true else steps.choices_fit (right n i w s' p' o' V') v' rest)
       go a b (equal t) j = choose t j
 
-  case-alike : (n : ℕ) (i : List ℤ) (w : List ℕ) (s s' : PStmts) {p p' : Around} {o o' : List Part} {V V' : Variables} → Under x p o V p' o' V' → (v v' : Value) → KnownValue x.text.programs v v' →
+  case-alike : (n : ℕ) (i : List ℤ) (w : List ℕ) (s s' : PStmts) {p p' : Around} {o o' : List PFrame} {V V' : Variables} → Under x p o V p' o' V' → (v v' : Value) → KnownValue x.text.programs v v' →
       {arms arms' : PCaseArms} → ImageCaseArms x.text arms arms' → {c d : PMaybe} → ImageMaybe x.text c d →
       Both (ImageMaybe x.text) (steps.case_taken (left n i w s p o V) v arms c) (steps.case_taken (right n i w s' p' o' V') v' arms' d)
   case-alike n i w s s' u v v' hv image_no_case_arm {c} {d} h = both_ok c d h
@@ -178,7 +178,7 @@ module _ (x : Translation) (laws : IsTranslation x) where
 
   -- ---- texts
 
-  put-alike : (n : ℕ) (i : List ℤ) (w : List ℕ) (s s' q q' : PStmts) {p p' : Around} {o o' : List Part} {V V' : Variables} → x.text.image q q' → Under x p o V p' o' V' →
+  put-alike : (n : ℕ) (i : List ℤ) (w : List ℕ) (s s' q q' : PStmts) {p p' : Around} {o o' : List PFrame} {V V' : Variables} → x.text.image q q' → Under x p o V p' o' V' →
       (ps : List PPart) → OldParts x.text.programs ps → (closing : List ℕ) → Alike x (steps.put_step ps closing q (left n i w s p o V)) (steps.put_step ps closing q' (right n i w s' p' o' V'))
   put-alike n i w s s' q q' {p} {p'} {o} {o'} {V} {V'} im u ps h closing = or-raise n i w s s' u (parts-alike x.text.programs laws.types (sees-alike x laws u) h) go
     where
@@ -187,16 +187,16 @@ module _ (x : Translation) (laws : IsTranslation x) where
 
   -- ---- exits and exceptions
 
-  exit_to-alike : (n : ℕ) (i : List ℤ) (w : List ℕ) (s s' : PStmts) (name : Option Word) {p p' : Around} {o o' : List Part} {V V' : Variables} → Under x p o V p' o' V' →
+  exit_to-alike : (n : ℕ) (i : List ℤ) (w : List ℕ) (s s' : PStmts) (name : Option Word) {p p' : Around} {o o' : List PFrame} {V V' : Variables} → Under x p o V p' o' V' →
       Alike x (steps.exited name (left n i w s p o V)) (steps.exited name (right n i w s' p' o' V'))
   exit_to-alike n i w s s' name u = of_settle n i w (exited-alike x laws name u)
 
-  test-alike : (n : ℕ) (i : List ℤ) (w : List ℕ) (s s' : PStmts) {p p' : Around} {o o' : List Part} {V V' : Variables} → Under x p o V p' o' V' → {e : Option PExpr} → OldOption x.text.programs e →
+  test-alike : (n : ℕ) (i : List ℤ) (w : List ℕ) (s s' : PStmts) {p p' : Around} {o o' : List PFrame} {V V' : Variables} → Under x p o V p' o' V' → {e : Option PExpr} → OldOption x.text.programs e →
       Both Equal (steps.exit_test (left n i w s p o V) e) (steps.exit_test (right n i w s' p' o' V') e)
   test-alike n i w s s' u old_none = both_ok true true (equal true)
   test-alike n i w s s' u (old_some e h) = condition-alike x.text.programs laws.types (sees-alike x laws u) h
 
-  exit-alike : (n : ℕ) (i : List ℤ) (w : List ℕ) (s s' q q' : PStmts) {p p' : Around} {o o' : List Part} {V V' : Variables} → x.text.image q q' → Under x p o V p' o' V' →
+  exit-alike : (n : ℕ) (i : List ℤ) (w : List ℕ) (s s' q q' : PStmts) {p p' : Around} {o o' : List PFrame} {V V' : Variables} → x.text.image q q' → Under x p o V p' o' V' →
       (name : Option Word) {e : Option PExpr} → OldOption x.text.programs e → Alike x (steps.exit_step name e q (left n i w s p o V)) (steps.exit_step name e q' (right n i w s' p' o' V'))
   exit-alike n i w s s' q q' {p} {p'} {o} {o'} {V} {V'} im u name h = or-raise n i w s s' u (test-alike n i w s s' u h) go
     where
@@ -204,7 +204,7 @@ module _ (x : Translation) (laws : IsTranslation x) where
           (if b then steps.exited name (right n i w s' p' o' V') else gone_to q' (right n i w s' p' o' V'))
       go a b (equal t) = either-alike t (exit_to-alike n i w s s' name u) (go-there n i w s s' q q' im u)
 
-  raise-alike : (n : ℕ) (i : List ℤ) (w : List ℕ) (s s' : PStmts) {p p' : Around} {o o' : List Part} {V V' : Variables} → Under x p o V p' o' V' →
+  raise-alike : (n : ℕ) (i : List ℤ) (w : List ℕ) (s s' : PStmts) {p p' : Around} {o o' : List PFrame} {V V' : Variables} → Under x p o V p' o' V' →
       (name : Option Word) → Alike x (steps.raise_step name (left n i w s p o V)) (steps.raise_step name (right n i w s' p' o' V'))
   raise-alike n i w s s' u (Some name) = raise-there n i w s s' u (raised_named name.name)
   raise-alike n i w s s' {p} {p'} {o} {o'} {V} {V'} u None =
@@ -213,7 +213,7 @@ module _ (x : Translation) (laws : IsTranslation x) where
 
   -- ---- loops
 
-  push-alike : (n : ℕ) (i : List ℤ) (w : List ℕ) (s s' q q' l l' : PStmts) {p p' a a' : Around} {o o' : List Part} (V V' : Variables) {W W' : Variables} → x.text.image l l' →
+  push-alike : (n : ℕ) (i : List ℤ) (w : List ℕ) (s s' q q' l l' : PStmts) {p p' a a' : Around} {o o' : List PFrame} (V V' : Variables) {W W' : Variables} → x.text.image l l' →
       Under x a (frame q p ∷ o) W a' (frame q' p' ∷ o') W' → Alike x (pushed l a W q (left n i w s p o V)) (pushed l' a' W' q' (right n i w s' p' o' V'))
   push-alike n i w s s' q q' l l' V V' im u = of_settle n i w (settle x laws l l' im u)
 
@@ -236,14 +236,14 @@ module _ (x : Translation) (laws : IsTranslation x) where
   range_checked-alike : (mark mark' : Limits) → mark ≡ mark' → (r r' : Limits) → KnownRange x.text.programs r r' → Both (KnownRange x.text.programs) (steps.range_checked mark r) (steps.range_checked mark' r')
   range_checked-alike mark mark' e r r' (known_range q known) = subst (λ m. Both (KnownRange x.text.programs) (steps.range_checked mark q) (steps.range_checked m q)) e (range_checked-here mark q known)
 
-  counted-alike : (n : ℕ) (i : List ℤ) (w : List ℕ) (s s' : PStmts) {p p' : Around} {o o' : List Part} {V V' : Variables} → Under x p o V p' o' V' → {range : PDrange} → OldRange x.text.programs range →
+  counted-alike : (n : ℕ) (i : List ℤ) (w : List ℕ) (s s' : PStmts) {p p' : Around} {o o' : List PFrame} {V V' : Variables} → Under x p o V p' o' V' → {range : PDrange} → OldRange x.text.programs range →
       Both (KnownRange x.text.programs) (steps.counted_range (left n i w s p o V) range) (steps.counted_range (right n i w s' p' o' V') range)
   counted-alike n i w s s' u (old_given b h k) = bounds-alike x.text.programs laws.types (sees-alike x laws u) b h k
   counted-alike n i w s s' u (old_marked m old known h) =
       both_then (narrowed-alike x.text.programs laws.types (sees-alike x laws u) _ _ (laws.types.marks m.mark.name old) known h)
       (range_checked-alike _ _ (laws.types.marks m.mark.name old))
 
-  begun-alike : (n : ℕ) (i : List ℤ) (w : List ℕ) (s s' q q' l l' : PStmts) {p p' : Around} {o o' : List Part} {V V' : Variables} → x.text.image q q' → x.text.image l l' → Under x p o V p' o' V' →
+  begun-alike : (n : ℕ) (i : List ℤ) (w : List ℕ) (s s' q q' l l' : PStmts) {p p' : Around} {o o' : List PFrame} {V V' : Variables} → x.text.image q q' → x.text.image l l' → Under x p o V p' o' V' →
       (name : Option Word) (c : Word) → IsOld x.text.programs c.name → IsFree x.text.programs c.name → (backwards : Bool) (r r' : Limits) → KnownRange x.text.programs r r' →
       Alike x (steps.counting_begun name c backwards l q (left n i w s p o V) r) (steps.counting_begun name c backwards l' q' (right n i w s' p' o' V') r')
   begun-alike n i w s s' q q' l l' {p} {p'} {o} {o'} {V} {V'} im iml u name c old free backwards r r' (known_range t known) =
@@ -258,7 +258,7 @@ module _ (x : Translation) (laws : IsTranslation x) where
           (in_count name backwards last l l' q q' (counter (types_before x.text.programs) c.name t.kind z) old
           (single-known x.text.programs laws.types c.name (limits_of_kind (types_before x.text.programs) t.kind) None (value_at (types_before x.text.programs) t.kind z) free (laws.types.values_known t.kind z)) iml im u))
 
-  loop-alike : (n : ℕ) (i : List ℤ) (w : List ℕ) (s s' q q' l l' : PStmts) {p p' : Around} {o o' : List Part} {V V' : Variables} → x.text.image q q' → x.text.image l l' → Under x p o V p' o' V' →
+  loop-alike : (n : ℕ) (i : List ℤ) (w : List ℕ) (s s' q q' l l' : PStmts) {p p' : Around} {o o' : List PFrame} {V V' : Variables} → x.text.image q q' → x.text.image l l' → Under x p o V p' o' V' →
       (name : Option Word) {c : Option PScheme} → OldScheme x.text.programs c → Alike x (steps.loop_step name c l q (left n i w s p o V)) (steps.loop_step name c l' q' (right n i w s' p' o' V'))
   loop-alike n i w s s' q q' l l' {V = V} {V' = V'} im iml u name old_endless = push-alike n i w s s' q q' l l' V V' iml (in_endless name l l' q q' iml im u)
   loop-alike n i w s s' q q' l l' {p = p} {p' = p'} {o = o} {o' = o'} {V = V} {V' = V'} im iml u name (old_while e h) =
@@ -272,7 +272,7 @@ module _ (x : Translation) (laws : IsTranslation x) where
 
   -- ---- statements
 
-  row-alike : (n : ℕ) (i : List ℤ) (w : List ℕ) {p p' : Around} {o o' : List Part} {V V' : Variables} → Under x p o V p' o' V' → (q q' : PStmts) → x.text.image q q' → {s s' : PStmt} → ImageStmt x.text s s' →
+  row-alike : (n : ℕ) (i : List ℤ) (w : List ℕ) {p p' : Around} {o o' : List PFrame} {V V' : Variables} → Under x p o V p' o' V' → (q q' : PStmts) → x.text.image q q' → {s s' : PStmt} → ImageStmt x.text s s' →
       StepAlike x (left n i w (stmt_then s q) p o V) (right n i w (stmt_then s' q') p' o' V')
   row-alike n i w u q q' im (image_null s) = record { steps = refl; steps_too = refl; after = go-there n i w (stmt_then (SNull s) q) (stmt_then (SNull s) q') q q' im u }
   row-alike n i w u q q' im (image_assign t e s ht he) = record { steps = refl; steps_too = refl; after = assign-alike n i w (stmt_then (SAssign t e s) q) (stmt_then (SAssign t e s) q') q q' im u t e ht he }
@@ -308,7 +308,7 @@ module _ (x : Translation) (laws : IsTranslation x) where
 
   -- ---- turns
 
-  leave-alike : (n : ℕ) (i : List ℤ) (w : List ℕ) (r r' : PStmts) {p p' : Around} {o o' : List Part} {V V' : Variables} → x.text.image r r' → Under x p o V p' o' V' →
+  leave-alike : (n : ℕ) (i : List ℤ) (w : List ℕ) (r r' : PStmts) {p p' : Around} {o o' : List PFrame} {V V' : Variables} → x.text.image r r' → Under x p o V p' o' V' →
       Alike x (task_in x.text.programs.original n i w (settled (control r p o V))) (task_in x.text.programs.made n i w (settled (control r' p' o' V')))
   leave-alike n i w r r' im u = of_settle n i w (settle x laws r r' im u)
 
@@ -316,7 +316,7 @@ module _ (x : Translation) (laws : IsTranslation x) where
   next-same : (b : Object) (z : ℤ) → single b.name b.limits b.index (value_at (types_before x.text.programs) b.limits.kind z) ≡ single b.name b.limits b.index (value_at (types_after x.text.programs) b.limits.kind z)
   next-same b z = ap (λ v. single b.name b.limits b.index v) (laws.types.values b.limits.kind z)
 
-  turn-alike : (n : ℕ) (i : List ℤ) (w : List ℕ) {p p' : Around} {o o' : List Part} {V V' : Variables} → IsAtLocal no_stmt p → Under x p o V p' o' V' →
+  turn-alike : (n : ℕ) (i : List ℤ) (w : List ℕ) {p p' : Around} {o o' : List PFrame} {V V' : Variables} → IsAtLocal no_stmt p → Under x p o V p' o' V' →
       StepAlike x (left n i w no_stmt p o V) (right n i w no_stmt p' o' V')
   turn-alike n i w (at_turn name turns l) (on_floor f) = absurd (laws.floors.apart name turns l _ _ _ _ _ f)
   turn-alike n i w (at_turn name turns l) (in_endless name1 l1 l1' r r' h im u) = record {
@@ -354,15 +354,15 @@ module _ (x : Translation) (laws : IsTranslation x) where
 
   -- ---- the theorem
 
-  at-row : (n : ℕ) (i : List ℤ) (w : List ℕ) {p p' : Around} {o o' : List Part} {V V' : Variables} → Under x p o V p' o' V' → (s : PStmt) (q : PStmts) {r' : PStmts} → ImageList x.text s q r' →
+  at-row : (n : ℕ) (i : List ℤ) (w : List ℕ) {p p' : Around} {o o' : List PFrame} {V V' : Variables} → Under x p o V p' o' V' → (s : PStmt) (q : PStmts) {r' : PStmts} → ImageList x.text s q r' →
       StepAlike x (left n i w (stmt_then s q) p o V) (right n i w r' p' o' V')
   at-row n i w u s q (image_list t t' rest rest' h im) = row-alike n i w u rest rest' im h
 
-  at-end : (n : ℕ) (i : List ℤ) (w : List ℕ) {r' : PStmts} {p p' : Around} {o o' : List Part} {V V' : Variables} → IsAtLocal no_stmt p → IsEmpty r' → Under x p o V p' o' V' →
+  at-end : (n : ℕ) (i : List ℤ) (w : List ℕ) {r' : PStmts} {p p' : Around} {o o' : List PFrame} {V V' : Variables} → IsAtLocal no_stmt p → IsEmpty r' → Under x p o V p' o' V' →
       StepAlike x (left n i w no_stmt p o V) (right n i w r' p' o' V')
   at-end n i w at nothing_there u = turn-alike n i w at u
 
-  at-local : (n : ℕ) (i : List ℤ) (w : List ℕ) {r r' : PStmts} {p p' : Around} {o o' : List Part} {V V' : Variables} → IsAtLocal r p → x.text.image r r' → Under x p o V p' o' V' →
+  at-local : (n : ℕ) (i : List ℤ) (w : List ℕ) {r r' : PStmts} {p p' : Around} {o o' : List PFrame} {V V' : Variables} → IsAtLocal r p → x.text.image r r' → Under x p o V p' o' V' →
       StepAlike x (left n i w r p o V) (right n i w r' p' o' V')
   at-local n i w {r' = r'} (at_statement s q p loc) im u = at-row n i w u s q (laws.images.local s q r' loc im)
   at-local n i w {r' = r'} (at_turn name turns l) im u = at-end n i w (at_turn name turns l) (laws.images.nothing r' im) u

@@ -1,7 +1,7 @@
 -- Translations of the same rows whose floors lie one in the other: what stands on the one stands on the other.
 use Rattle.std.proofs.Common.{List}
 use Rattle.ada_value.specs.Variables.{Variables}
-use Rattle.task_model.specs.Frames.{Around, Part, Control}
+use Rattle.task_model.specs.Frames.{Around, PFrame, Control}
 use Rattle.translation_law.specs.Translations.{Standing, Rewriting, Translation}
 use Rattle.translation_law.specs.Controls.{Under, on_floor, in_block, in_handler, in_endless, in_while, in_count, Follows, inside, behind, Settle}
 
@@ -9,8 +9,8 @@ use Rattle.translation_law.specs.Controls.{Under, on_floor, in_block, in_handler
 abbrev pub floored : Rewriting → Standing → (Control → Control → Type 0) → Translation
 floored t F B = record { text = t; floor = F; beyond = B }
 
-module _ (t : Rewriting) (F G : Standing) (B : Control → Control → Type 0) (lies : (p p' : Around) (o o' : List Part) (V V' : Variables) → F p o V p' o' V' → G p o V p' o' V') where
-  pub under-map : {p p' : Around} {o o' : List Part} {V V' : Variables} → Under (floored t F B) p o V p' o' V' → Under (floored t G B) p o V p' o' V'
+module _ (t : Rewriting) (F G : Standing) (B : Control → Control → Type 0) (lies : (p p' : Around) (o o' : List PFrame) (V V' : Variables) → F p o V p' o' V' → G p o V p' o' V') where
+  pub under-map : {p p' : Around} {o o' : List PFrame} {V V' : Variables} → Under (floored t F B) p o V p' o' V' → Under (floored t G B) p o V p' o' V'
   under-map (on_floor f) = on_floor (lies _ _ _ _ _ _ f)
   under-map (in_block hs hs' r r' h im u) = in_block hs hs' r r' h im (under-map u)
   under-map (in_handler e r r' im u) = in_handler e r r' im (under-map u)

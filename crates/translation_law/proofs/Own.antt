@@ -8,7 +8,7 @@ use Rattle.ada_value.specs.declared.values.Value.{Value}
 use Rattle.ada_value.specs.declared.values.Raised.{Raised}
 use Rattle.ada_value.specs.Variables.{Object, Variables, object_named, set_value}
 use Rattle.task_model.specs.Setting.{Setting}
-use Rattle.task_model.specs.Frames.{Turns, Around, Loop, Part, control, in_front, handler_for, unit_with, raised_in, exited_in}
+use Rattle.task_model.specs.Frames.{Turns, Around, Loop, PFrame, control, in_front, handler_for, unit_with, raised_in, exited_in}
 use Rattle.task_model.specs.Starting.{Unit as TaskUnit, started_in, unit_of}
 use Rattle.translation_law.specs.OldNames.{OldExpr, old_integer, old_name, old_index, old_attribute, old_attribute_of, old_paren, old_unary, old_binary, OldOption, old_none, old_some, OldBounds, old_unbounded, old_bounded, OldRange, old_given, old_marked, OldTarget, OldParts, old_no_part, old_words, old_value, OldChoices, old_no_choice, old_choice, OldScheme, old_endless, old_while, old_for}
 use Rattle.translation_law.specs.Scopes.{AgreeOnTypes, SameObject, no_object, same_object, SeeAlike}
@@ -117,33 +117,33 @@ module _ (g : Setting) where
 
   -- ---- floors
 
-  own-over : {p p' : Around} {o o' : List Part} {V V' : Variables} → SameFloor p o V p' o' V' → Settle (itself g) (control no_stmt p o V) (control no_stmt p' o' V')
+  own-over : {p p' : Around} {o o' : List PFrame} {V V' : Variables} → SameFloor p o V p' o' V' → Settle (itself g) (control no_stmt p o V) (control no_stmt p' o' V')
   own-over (same_whole hs taken [] V) = record { follows = inside no_stmt no_stmt (same_list no_stmt) (on_floor (same_whole hs taken [] V)) }
   own-over (same_whole hs taken (part ∷ parts) V) = record { follows = inside no_stmt no_stmt (same_list no_stmt) (on_floor (same_whole hs taken (part ∷ parts) V)) }
   own-over (same_opened caller formals pending [] V) = record { follows = inside no_stmt no_stmt (same_list no_stmt) (on_floor (same_opened caller formals pending [] V)) }
   own-over (same_opened caller formals pending (part ∷ parts) V) =
       record { follows = inside no_stmt no_stmt (same_list no_stmt) (on_floor (same_opened caller formals pending (part ∷ parts) V)) }
 
-  own-settles : (r : PStmts) {p p' : Around} {o o' : List Part} {V V' : Variables} → SameFloor p o V p' o' V' → Settle (itself g) (control r p o V) (control r p' o' V')
+  own-settles : (r : PStmts) {p p' : Around} {o o' : List PFrame} {V V' : Variables} → SameFloor p o V p' o' V' → Settle (itself g) (control r p o V) (control r p' o' V')
   own-settles no_stmt f = own-over f
   own-settles (stmt_then s rest) f = record { follows = inside (stmt_then s rest) (stmt_then s rest) (same_list (stmt_then s rest)) (on_floor f) }
 
-  own-handled : (t : Option PStmts) (e : Raised) (hs : PHandlers) (o : List Part) (V : Variables) → Settle (itself g) (unit_with t e hs o V) (unit_with t e hs o V)
+  own-handled : (t : Option PStmts) (e : Raised) (hs : PHandlers) (o : List PFrame) (V : Variables) → Settle (itself g) (unit_with t e hs o V) (unit_with t e hs o V)
   own-handled None e hs o V = own-settles no_stmt (same_whole hs None o V)
   own-handled (Some l) e hs o V = own-settles l (same_whole hs (Some e) o V)
 
-  own-raised : (e : Raised) {p p' : Around} {o o' : List Part} {V V' : Variables} → SameFloor p o V p' o' V' → Settle (itself g) (raised_in e o p V) (raised_in e o' p' V')
+  own-raised : (e : Raised) {p p' : Around} {o o' : List PFrame} {V V' : Variables} → SameFloor p o V p' o' V' → Settle (itself g) (raised_in e o p V) (raised_in e o' p' V')
   own-raised e (same_whole hs None o V) = own-handled (handler_for e hs) e hs o V
   own-raised e (same_whole hs (Some y) o V) = own-settles no_stmt (same_whole hs (Some y) o V)
   own-raised e (same_opened caller formals pending o V) = own-settles no_stmt (same_opened caller formals (Some e) o V)
 
-  own-exited : (w : Option Word) {p p' : Around} {o o' : List Part} {V V' : Variables} → SameFloor p o V p' o' V' → Settle (itself g) (exited_in w o p V) (exited_in w o' p' V')
+  own-exited : (w : Option Word) {p p' : Around} {o o' : List PFrame} {V V' : Variables} → SameFloor p o V p' o' V' → Settle (itself g) (exited_in w o p V) (exited_in w o' p' V')
   own-exited w (same_whole hs taken [] V) = own-settles no_stmt (same_whole hs taken [] V)
   own-exited w (same_whole hs taken (part ∷ parts) V) = own-settles no_stmt (same_whole hs taken (part ∷ parts) V)
   own-exited w (same_opened caller formals pending [] V) = own-settles no_stmt (same_opened caller formals pending [] V)
   own-exited w (same_opened caller formals pending (part ∷ parts) V) = own-settles no_stmt (same_opened caller formals pending (part ∷ parts) V)
 
-  own-apart : {name : Option Word} {turns : Turns} {l : PStmts} {p' : Around} {o o' : List Part} {V V' : Variables} → SameFloor (Loop name turns l) o V p' o' V' → ⊥
+  own-apart : {name : Option Word} {turns : Turns} {l : PStmts} {p' : Around} {o o' : List PFrame} {V V' : Variables} → SameFloor (Loop name turns l) o V p' o' V' → ⊥
   own-apart f = elim f [ ]
 
   own-floors : AreFloors (itself g)
@@ -160,15 +160,15 @@ module _ (g : Setting) where
   own-object None = no_object
   own-object (Some o) = same_object o (λ k. refl, refl)
 
-  own-sees : {p p' : Around} {o o' : List Part} {V V' : Variables} → SameFloor p o V p' o' V' → SeeAlike (itself g).text.programs V V'
+  own-sees : {p p' : Around} {o o' : List PFrame} {V V' : Variables} → SameFloor p o V p' o' V' → SeeAlike (itself g).text.programs V V'
   own-sees (same_whole hs taken o V) = record { named = λ id old. own-object (object_named V id) }
   own-sees (same_opened caller formals pending o V) = record { named = λ id old. own-object (object_named V id) }
 
-  own-set : (id : NameId) (k : ℕ) (v : Value) {p p' : Around} {o o' : List Part} {V V' : Variables} → SameFloor p o V p' o' V' → SameFloor p o (set_value V id k v) p' o' (set_value V' id k v)
+  own-set : (id : NameId) (k : ℕ) (v : Value) {p p' : Around} {o o' : List PFrame} {V V' : Variables} → SameFloor p o V p' o' V' → SameFloor p o (set_value V id k v) p' o' (set_value V' id k v)
   own-set id k v (same_whole hs taken o V) = same_whole hs taken o (set_value V id k v)
   own-set id k v (same_opened caller formals pending o V) = same_opened caller formals pending o (set_value V id k v)
 
-  own-around : {p p' : Around} {o o' : List Part} {V V' : Variables} → SameFloor p o V p' o' V' → handled_around p o ≡ handled_around p' o'
+  own-around : {p p' : Around} {o o' : List PFrame} {V V' : Variables} → SameFloor p o V p' o' V' → handled_around p o ≡ handled_around p' o'
   own-around (same_whole hs taken o V) = refl
   own-around (same_opened caller formals pending o V) = refl
 

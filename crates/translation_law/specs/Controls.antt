@@ -6,7 +6,7 @@ use Rattle.ada_tree.specs.PlainStmt.{PStmt, PStmts, no_stmt, stmt_then, PHandler
 use Rattle.ada_value.specs.declared.values.Raised.{Raised}
 use Rattle.ada_value.specs.Variables.{Object, Variables}
 use Rattle.task_model.specs.Setting.{Setting}
-use Rattle.task_model.specs.Frames.{Turns, Endless, While, Counting, Around, Block, Handling, Loop, Part, Control, control, settled}
+use Rattle.task_model.specs.Frames.{Turns, Endless, While, Counting, Around, Block, Handling, Loop, PFrame, Control, control, settled}
 use Rattle.task_model.specs.Tasks.{Task}
 use Rattle.task_model.specs.Stands.{can_step, stepped}
 use Rattle.translation_law.specs.Translations.{Translation, IsOld}
@@ -15,28 +15,28 @@ use Rattle.translation_law.specs.Scopes.{HasKnown}
 use Rattle.translation_law.specs.Images.{ImageHandlers, IsLocal}
 
 -- a frame, of the statements left in it and what it stands in
-abbrev pub frame : PStmts → Around → Part
+abbrev pub frame : PStmts → Around → PFrame
 frame rest place = record { rest = rest; place = place }
 
 -- What a frame stands in, with the frames outside of it and the variables, and the same of the image: down to the floor each block, handler and loop has its image. A loop parameter is the same variable on both sides.
-pub data Under (x : Translation) : Around → List Part → Variables → Around → List Part → Variables → Type 0 where
-  on_floor : {p p' : Around} {o o' : List Part} {V V' : Variables} → x.floor p o V p' o' V' → Under x p o V p' o' V'
-  in_block : {p p' : Around} {o o' : List Part} {V V' : Variables} (hs hs' : PHandlers) (r r' : PStmts) → ImageHandlers x.text hs hs' → x.text.image r r' → Under x p o V p' o' V' →
+pub data Under (x : Translation) : Around → List PFrame → Variables → Around → List PFrame → Variables → Type 0 where
+  on_floor : {p p' : Around} {o o' : List PFrame} {V V' : Variables} → x.floor p o V p' o' V' → Under x p o V p' o' V'
+  in_block : {p p' : Around} {o o' : List PFrame} {V V' : Variables} (hs hs' : PHandlers) (r r' : PStmts) → ImageHandlers x.text hs hs' → x.text.image r r' → Under x p o V p' o' V' →
       Under x (Block hs) (frame r p ∷ o) V (Block hs') (frame r' p' ∷ o') V'
-  in_handler : {p p' : Around} {o o' : List Part} {V V' : Variables} (e : Raised) (r r' : PStmts) → x.text.image r r' → Under x p o V p' o' V' →
+  in_handler : {p p' : Around} {o o' : List PFrame} {V V' : Variables} (e : Raised) (r r' : PStmts) → x.text.image r r' → Under x p o V p' o' V' →
       Under x (Handling e) (frame r p ∷ o) V (Handling e) (frame r' p' ∷ o') V'
-  in_endless : {p p' : Around} {o o' : List Part} {V V' : Variables} (name : Option Word) (l l' r r' : PStmts) → x.text.image l l' → x.text.image r r' → Under x p o V p' o' V' →
+  in_endless : {p p' : Around} {o o' : List PFrame} {V V' : Variables} (name : Option Word) (l l' r r' : PStmts) → x.text.image l l' → x.text.image r r' → Under x p o V p' o' V' →
       Under x (Loop name Endless l) (frame r p ∷ o) V (Loop name Endless l') (frame r' p' ∷ o') V'
-  in_while : {p p' : Around} {o o' : List Part} {V V' : Variables} (name : Option Word) (e : PExpr) (l l' r r' : PStmts) → OldExpr x.text.programs e → x.text.image l l' → x.text.image r r' → Under x p o V p' o' V' →
+  in_while : {p p' : Around} {o o' : List PFrame} {V V' : Variables} (name : Option Word) (e : PExpr) (l l' r r' : PStmts) → OldExpr x.text.programs e → x.text.image l l' → x.text.image r r' → Under x p o V p' o' V' →
       Under x (Loop name (While e) l) (frame r p ∷ o) V (Loop name (While e) l') (frame r' p' ∷ o') V'
-  in_count : {p p' : Around} {o o' : List Part} {V V' : Variables} (name : Option Word) (backwards : Bool) (last : ℤ) (l l' r r' : PStmts) (b : Object) → IsOld x.text.programs b.name → HasKnown x.text.programs b →
+  in_count : {p p' : Around} {o o' : List PFrame} {V V' : Variables} (name : Option Word) (backwards : Bool) (last : ℤ) (l l' r r' : PStmts) (b : Object) → IsOld x.text.programs b.name → HasKnown x.text.programs b →
       x.text.image l l' → x.text.image r r' → Under x p o V p' o' V' →
       Under x (Loop name (Counting backwards last) l) (frame r p ∷ o) (b ∷ V) (Loop name (Counting backwards last) l') (frame r' p' ∷ o') (b ∷ V')
 
 -- Where a task stands and where its image stands.
 pub data Follows (x : Translation) : Control → Control → Type 0 where
   -- in statements and an image of them
-  inside : {p p' : Around} {o o' : List Part} {V V' : Variables} (r r' : PStmts) → x.text.image r r' → Under x p o V p' o' V' → Follows x (control r p o V) (control r' p' o' V')
+  inside : {p p' : Around} {o o' : List PFrame} {V V' : Variables} (r r' : PStmts) → x.text.image r r' → Under x p o V p' o' V' → Follows x (control r p o V) (control r' p' o' V')
   -- behind those of the floor
   behind : (c d : Control) → x.beyond c d → Follows x c d
 
@@ -61,12 +61,12 @@ pub data IsAtLocal : PStmts → Around → Type 0 where
 
 -- A task and its image in statements that are translated.
 pub data AreInside (x : Translation) : Task → Task → Type 0 where
-  are_inside : {p p' : Around} {o o' : List Part} {V V' : Variables} (n : ℕ) (input : List ℤ) (output : List ℕ) (r r' : PStmts) → x.text.image r r' → Under x p o V p' o' V' →
+  are_inside : {p p' : Around} {o o' : List PFrame} {V V' : Variables} (n : ℕ) (input : List ℤ) (output : List ℕ) (r r' : PStmts) → x.text.image r r' → Under x p o V p' o' V' →
       AreInside x (task_in x.text.programs.original n input output (control r p o V)) (task_in x.text.programs.made n input output (control r' p' o' V'))
 
 -- A task and its image in frames that go together, whatever is left of the statements in the innermost.
 pub data AreAround (x : Translation) : Task → Task → Type 0 where
-  are_around : {p p' : Around} {o o' : List Part} {V V' : Variables} (n : ℕ) (input : List ℤ) (output : List ℕ) (r r' : PStmts) → Under x p o V p' o' V' →
+  are_around : {p p' : Around} {o o' : List PFrame} {V V' : Variables} (n : ℕ) (input : List ℤ) (output : List ℕ) (r r' : PStmts) → Under x p o V p' o' V' →
       AreAround x (task_in x.text.programs.original n input output (control r p o V)) (task_in x.text.programs.made n input output (control r' p' o' V'))
 
 -- Both have a local step, and behind it they are alike again.

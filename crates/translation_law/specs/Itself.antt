@@ -5,7 +5,7 @@ use Rattle.ada_value.specs.declared.values.Raised.{Raised}
 use Rattle.ada_value.specs.Variables.{Variables}
 use Rattle.task_model.specs.declared.parameters.FormalParameter.{FormalParameter}
 use Rattle.task_model.specs.Setting.{Setting}
-use Rattle.task_model.specs.Frames.{Around, Whole, Opened, Part, Control}
+use Rattle.task_model.specs.Frames.{Around, OwnBody, Opened, PFrame, Control}
 use Rattle.translation_law.specs.Translations.{Translation}
 
 -- a row is its own image
@@ -13,9 +13,9 @@ pub data SameList : PStmts → PStmts → Type 0 where
   same_list : (r : PStmts) → SameList r r
 
 -- the unit's own body and each accept body is a floor, with all that stands outside of it
-pub data SameFloor : Around → List Part → Variables → Around → List Part → Variables → Type 0 where
-  same_whole : (hs : PHandlers) (taken : Option Raised) (o : List Part) (V : Variables) → SameFloor (Whole hs taken) o V (Whole hs taken) o V
-  same_opened : (caller : ℕ) (formals : List FormalParameter) (pending : Option Raised) (o : List Part) (V : Variables) →
+pub data SameFloor : Around → List PFrame → Variables → Around → List PFrame → Variables → Type 0 where
+  same_whole : (hs : PHandlers) (taken : Option Raised) (o : List PFrame) (V : Variables) → SameFloor (OwnBody hs taken) o V (OwnBody hs taken) o V
+  same_opened : (caller : ℕ) (formals : List FormalParameter) (pending : Option Raised) (o : List PFrame) (V : Variables) →
       SameFloor (Opened caller formals pending) o V (Opened caller formals pending) o V
 
 -- nothing stands beyond a floor

@@ -5,7 +5,7 @@ use Rattle.ada_tree.specs.PlainStmt.{PStmts}
 use Rattle.ada_value.specs.declared.values.Raised.{Raised}
 use Rattle.ada_value.specs.Variables.{Variables}
 use Rattle.task_model.specs.Setting.{Setting}
-use Rattle.task_model.specs.Frames.{Around, Part, Control}
+use Rattle.task_model.specs.Frames.{Around, PFrame, Control}
 use Rattle.task_model.specs.Tasks.{Task, rest_of, place_of, value_of, raised_there}
 use Rattle.task_model.specs.Starting.{started}
 use Rattle.translation_law.specs.Translations.{Programs, Translation}
@@ -28,10 +28,10 @@ IsPair {I} {A} pairs a b = (i : I) × (pairs.before i ≡ a) × (pairs.after i �
 -- what a frame stands in, with the frames outside of it and the variables
 pub record Spot : Type 0 where
   pub place : Around
-  pub outer : List Part
+  pub outer : List PFrame
   pub vars : Variables
 
-abbrev pub spot : Around → List Part → Variables → Spot
+abbrev pub spot : Around → List PFrame → Variables → Spot
 spot p o V = record { place = p; outer = o; vars = V }
 
 -- A translation as it is told: the two programs, and the pairs of rows, of floors and of places beyond.

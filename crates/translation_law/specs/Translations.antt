@@ -7,11 +7,11 @@ use Rattle.ada_value.specs.declared.values.Value.{Value}
 use Rattle.ada_value.specs.Values.{kind_of_value}
 use Rattle.ada_value.specs.Variables.{Variables}
 use Rattle.task_model.specs.Setting.{Setting}
-use Rattle.task_model.specs.Frames.{Around, Part, Control}
+use Rattle.task_model.specs.Frames.{Around, PFrame, Control}
 
 -- What stands inside a frame: what the frame stands in, the frames outside of it, and the variables; of a task and of its image.
 abbrev pub Standing : Type 1
-Standing = Around → List Part → Variables → Around → List Part → Variables → Type 0
+Standing = Around → List PFrame → Variables → Around → List PFrame → Variables → Type 0
 
 -- Two programs, of which the second is made from the first, and what they have in common.
 pub record Programs : Type 0 where

@@ -5,16 +5,13 @@ use Rattle.ada_tree.specs.PlainStmt.{PStmt, PStmts, no_stmt, stmt_then, PAlt, al
 use Rattle.task_model.specs.Frames.{in_front}
 use Rattle.normal_model.specs.Walk.{Rewriter, after_parts, after_stmts, after_alts, after_alt, after_arms, after_case_arms, after_handlers, alts_leads, rewritten, image_of, inside_alts, inside_arms, inside_case_arms, inside_handlers}
 use Rattle.tree_walk.specs.Rules.{after_arm, inside_arm, after_case_arm, inside_case_arm, after_handler, inside_handler, behind_alt, inside_alt}
+use Rattle.normal_model.proofs.WalkLemmas.{in_front-joined}
 
 -- ---- rows in front of others
 
 pub in_front-nil : (a : PStmts) → in_front a no_stmt ≡ a
 in_front-nil no_stmt = refl
 in_front-nil (stmt_then x l) = ap (stmt_then x) (in_front-nil l)
-
-pub in_front-joined : (a b c : PStmts) → in_front (in_front a b) c ≡ in_front a (in_front b c)
-in_front-joined no_stmt b c = refl
-in_front-joined (stmt_then x l) b c = ap (stmt_then x) (in_front-joined l b c)
 
 -- one more behind a row
 pub row-more : (xs : List PStmt) (x : PStmt) → stmts_of (xs ++ x ∷ []) ≡ in_front (stmts_of xs) (stmt_then x no_stmt)

@@ -6,7 +6,8 @@ use Rattle.ada_tree.specs.declared.statements.Stmt.{Stmt}
 use Rattle.ada_tree.specs.PlainStmt.{PStmts, stmts_of, alts_of, plain_stmt, plain_alt, seen}
 use Rattle.task_model.specs.Frames.{in_front}
 use Rattle.normal_model.specs.Walk.{Rewriter, after_parts, after_stmts, after_alts, alts_leads, rewritten, image_of}
-use Rattle.tree_walk.proofs.Rows.{in_front-joined, after-more, rewritten-more, leads-more}
+use Rattle.tree_walk.proofs.Rows.{after-more, rewritten-more, leads-more}
+use Rattle.normal_model.proofs.WalkLemmas.{in_front-joined}
 
 -- the list has its length, and what was not gone through is as it was
 abbrev pub Left : {X : Type 0} → ℕ → List X → List X → Type 0

@@ -4,26 +4,26 @@ use Rattle.ada_tree.specs.declared.naming.Word.{Word}
 use Rattle.ada_tree.specs.PlainStmt.{PStmts, no_stmt, PHandlers}
 use Rattle.ada_value.specs.declared.values.Raised.{Raised}
 use Rattle.task_model.specs.Frames as model
-use Rattle.task_model.specs.Frames.{Part, handler_for, is_left, brought_by}
+use Rattle.task_model.specs.Frames.{PFrame, handler_for, is_left, brought_by}
 use Rattle.task_frames.specs.declared.places.Place.{Place}
 use Rattle.task_frames.specs.declared.places.Place.TheVariants as stands
 use Rattle.task_frames.specs.Seen.{turns_as, seen_handlers, around}
 
 -- the unit's body as an exception comes to it, with its handler for the exception if it has one
-abbrev pub unit_caught : Option PStmts → Raised → PHandlers → Part
-unit_caught (Some stmts) x handlers = record { rest = stmts; place = model.Whole handlers (Some x) }
-unit_caught None x handlers = record { rest = no_stmt; place = model.Whole handlers None }
+abbrev pub unit_caught : Option PStmts → Raised → PHandlers → PFrame
+unit_caught (Some stmts) x handlers = record { rest = stmts; place = model.OwnBody handlers (Some x) }
+unit_caught None x handlers = record { rest = no_stmt; place = model.OwnBody handlers None }
 
 -- a block as an exception comes to it, if it has a handler for the exception
-abbrev pub block_caught : Option PStmts → Raised → Option Part
+abbrev pub block_caught : Option PStmts → Raised → Option PFrame
 block_caught (Some stmts) x = Some record { rest = stmts; place = model.Handling x }
 block_caught None x = None
 
 -- The frame in place of one in which an exception is raised, where it goes no further; a piece lets it pass.
-abbrev pub caught_in : Raised → Place → Option Part
+abbrev pub caught_in : Raised → Place → Option PFrame
 caught_in x stands.Inside = None
-caught_in x (stands.Whole handlers None) = Some (unit_caught (handler_for x (seen_handlers handlers.now)) x (seen_handlers handlers.now))
-caught_in x (stands.Whole handlers (Some y)) = Some record { rest = no_stmt; place = around (stands.Whole handlers (Some y)) }
+caught_in x (stands.OwnBody handlers None) = Some (unit_caught (handler_for x (seen_handlers handlers.now)) x (seen_handlers handlers.now))
+caught_in x (stands.OwnBody handlers (Some y)) = Some record { rest = no_stmt; place = around (stands.OwnBody handlers (Some y)) }
 caught_in x (stands.Block handlers) = block_caught (handler_for x (seen_handlers handlers.now)) x
 caught_in x (stands.Handling y) = None
 caught_in x (stands.Loop name turns stmts) = None
@@ -32,7 +32,7 @@ caught_in x (stands.Opened caller formals pending) = Some record { rest = no_stm
 -- no exit goes beyond a frame of this sort
 abbrev pub holds_exits : Place → Bool
 holds_exits stands.Inside = false
-holds_exits (stands.Whole handlers taken) = true
+holds_exits (stands.OwnBody handlers taken) = true
 holds_exits (stands.Block handlers) = false
 holds_exits (stands.Handling x) = false
 holds_exits (stands.Loop name turns stmts) = false
@@ -41,7 +41,7 @@ holds_exits (stands.Opened caller formals pending) = true
 -- the frame is the loop that an exit leaves
 abbrev pub is_exited : Option Word → Place → Bool
 is_exited w stands.Inside = false
-is_exited w (stands.Whole handlers taken) = false
+is_exited w (stands.OwnBody handlers taken) = false
 is_exited w (stands.Block handlers) = false
 is_exited w (stands.Handling x) = false
 is_exited w (stands.Loop name turns stmts) = is_left w name
@@ -50,7 +50,7 @@ is_exited w (stands.Opened caller formals pending) = false
 -- how many variables go as an exception or an exit leaves a frame of this sort
 abbrev pub parameters_in : Place → ℕ
 parameters_in stands.Inside = 0
-parameters_in (stands.Whole handlers taken) = 0
+parameters_in (stands.OwnBody handlers taken) = 0
 parameters_in (stands.Block handlers) = 0
 parameters_in (stands.Handling x) = 0
 parameters_in (stands.Loop name turns stmts) = brought_by (turns_as turns)
@@ -59,7 +59,7 @@ parameters_in (stands.Opened caller formals pending) = 0
 -- the exception whose handler a frame is; a piece is none
 abbrev pub handled_in : Place → Option Raised
 handled_in stands.Inside = None
-handled_in (stands.Whole handlers taken) = taken
+handled_in (stands.OwnBody handlers taken) = taken
 handled_in (stands.Block handlers) = None
 handled_in (stands.Handling x) = Some x
 handled_in (stands.Loop name turns stmts) = None
@@ -68,7 +68,7 @@ handled_in (stands.Opened caller formals pending) = None
 -- the caller of an opened accept body; no other frame has one
 abbrev pub caller_in : Place → Option ℕ
 caller_in stands.Inside = None
-caller_in (stands.Whole handlers taken) = None
+caller_in (stands.OwnBody handlers taken) = None
 caller_in (stands.Block handlers) = None
 caller_in (stands.Handling x) = None
 caller_in (stands.Loop name turns stmts) = None

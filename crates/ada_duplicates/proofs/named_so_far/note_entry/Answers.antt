@@ -1,6 +1,6 @@
-use Rattle.ada_refusals.proofs.Outcomes.{on_ok}
 use Rattle.name_sets.specs.Numbers.{numbers_in}
 use Rattle.ada_duplicates.proofs.Behind.{entry_of}
+use Rattle.common_lemmas.proofs.Results.{on_ok}
 use Rattle.ada_duplicates.proofs.named_so_far.note_entry.Goals as goal
 
 pub returns-clause-namings : goal.returns-clause-namings

@@ -8,8 +8,8 @@ use Rattle.ada_tree.specs.Sites.{stmt_sites, stmts_sites, alts_sites, arms_sites
 use Rattle.name_sets.specs.Numbers.{numbers_in}
 use Rattle.ada_duplicates.specs.NamingsInOrder.{Named}
 use Rattle.ada_duplicates.specs.inner.Noted.{alt_places, arm_places, case_arm_places, handler_places, handler_words}
-use Rattle.ada_refusals.proofs.Outcomes.{on_ok}
 use Rattle.ada_duplicates.proofs.Noting.{is_leaf, leaf_named, stmt_is, loop_is, alts_are, arms_are, case_arms_are, wait_named, branches_named, if_named, case_of, accept_of, with_list, without_list, alt_is, list_is, kind_of_accept, none_named, loop_named, member_named, members_over, alt_of, arm_of, case_arm_of, handler_of, words_of, body_of, alts_law, arms_law, case_arms_law, handlers_law}
+use Rattle.common_lemmas.proofs.Results.{on_ok}
 use Rattle.ada_duplicates.proofs.namings_in_order.+namings.Goals as goal
 
 pub note_stmts-loop-stmt-preserved : goal.note_stmts-loop-stmt-preserved

@@ -1,7 +1,7 @@
 use Rattle.std.proofs.Common.{ap, sym, ◌∙◌, ◌==◌, nat_eq, position}
 use Rattle.std.specs.HashMap.{get}
 use Rattle.ada_tree.specs.StaticValue.{first_of_two, position_in}
-use Rattle.ada_scopes.proofs.Keeping.{on_ok}
+use Rattle.common_lemmas.proofs.Results.{on_ok}
 use Rattle.ada_scopes.proofs.table.keep_positions.Goals as goal
 
 pub returns-in-Enumeration : goal.returns-in-Enumeration

@@ -7,10 +7,10 @@ use Rattle.ada_tree.specs.Sites.{names_sites, object_sites}
 use Rattle.ada_tree.proofs.Rows.{rows}
 use Rattle.ada_refusals.specs.RefusedFirst.{refused_first}
 use Rattle.ada_types.specs.declared.walked_decls.WalkedDecl.{WalkedDecl}
-use Rattle.ada_refusals.proofs.Outcomes.{if_ok}
 use Rattle.ada_refusals.proofs.Meeting.{names_met}
 use Rattle.ada_types.proofs.TaskDecls.{instance_met}
 use Rattle.ada_types.proofs.Following.{of_kind, of_plain}
+use Rattle.common_lemmas.proofs.Results.{if_ok}
 use Rattle.ada_types.proofs.declarations.walk_decl.Goals as goal
 
 pub returns-in_ok-walked-in-Object : goal.returns-in_ok-walked-in-Object

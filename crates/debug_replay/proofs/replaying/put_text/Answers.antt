@@ -4,7 +4,7 @@ use Rattle.ada_tree.specs.PlainProgram.{PProgram, plain_program}
 use Rattle.ada_printer.specs.ProgramText.{program_text}
 use Rattle.debug_outcome.proofs.Comings.{has_put, has_broken}
 use Rattle.debug_replay.specs.ReplayOutcomes.{printed_outcome}
-use Rattle.debug_replay.proofs.TextOutcomes.{long_by, short_by}
+use Rattle.debug_replay.proofs.TextOutcomes.{short_by}
 use Rattle.debug_replay.proofs.replaying.put_text.Goals as goal
 
 pub returns-in-Ok : goal.returns-in-Ok

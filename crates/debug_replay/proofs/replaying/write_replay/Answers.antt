@@ -1,4 +1,4 @@
-use Rattle.std.proofs.Common.{◌≡◌, ℕ, nat_lt, true, List, length, Ok, Err, inr, refl, sym, subst}
+use Rattle.std.proofs.Common.{◌≡◌, nat_lt, true, List, length, Ok, Err, inr, refl, sym, subst}
 use Rattle.std.specs.Prelude.{◌⊎◌}
 use Rattle.ada_tree.specs.PlainProgram.{PProgram, plain_program}
 use Rattle.ada_tree.specs.declared.whole.Program.{Program}

@@ -3,7 +3,8 @@ use Rattle.std.specs.Prelude.{All}
 use Rattle.task_machine.specs.Conditions.{tasks_to}
 use Rattle.feasible.specs.Keeping.{IsSettled}
 use Rattle.feasible.specs.inner.Needs.{tasks_below}
-use Rattle.feasible.proofs.Running.{stuck_next, have_run_on, all_stay, tasks_from, settled_all, settled_more, below_last}
+use Rattle.feasible.proofs.Running.{stuck_next, have_run_on, all_stay, tasks_from, settled_all, settled_more}
+use Rattle.common_lemmas.proofs.Numbers.{below_pred}
 use Rattle.feasible.proofs.settling.settle_all.Goals as goal
 
 pub returns-then-not-branch-clause-run : goal.returns-then-not-branch-clause-run
@@ -12,7 +13,7 @@ returns-then-not-branch-clause-run c = have_run_on c.args.bound c.loop-t.invaria
 pub returns-then-not-branch-clause-settled : goal.returns-then-not-branch-clause-settled
 returns-then-not-branch-clause-settled c =
     let n = pred (length c.args.seats.now) in
-    let parts = tasks_from n c.loop-t.t (below_last (length c.args.seats.now) c.loop-t.t c.loop-t-test.true) in
+    let parts = tasks_from n c.loop-t.t (below_pred (length c.args.seats.now) c.loop-t.t c.loop-t-test.true) in
     stuck_next c.args.bound c.settle.new.seats c.settle.new.steps (tasks_below c.loop-t.t) parts.0 (tasks_to n) c.loop-t.t parts.1
     (all_stay c.args.bound c.in_ok-settle.ensures.run (tasks_below c.loop-t.t) c.loop-t.invariant.1) (c.in_ok-settle.ensures.stuck c.if-not-branch.true)
 

@@ -1,8 +1,9 @@
 use Rattle.std.proofs.Common.{sym, subst, ◌∙◌, inl, inr}
-use Rattle.text_lines.proofs.Filing.{nil-by, some-by}
+use Rattle.text_lines.proofs.Filing.{some-by}
 use Rattle.input_file.specs.declared.errors.InputError.TheVariants.{BadLine}
 use Rattle.input_file.specs.ChoiceFiles.{choice_format}
 use Rattle.input_file.proofs.Reading.{ChoicesReadTo, other-header, choices-start, choices-more, choices-fault, choices-end, choices-unique, choices-no_fault, choices-one_fault, memory-cases}
+use Rattle.common_lemmas.proofs.Lists.{empty_by}
 use Rattle.input_file.proofs.choices.read_choices.Goals as goal
 
 -- the first line is another
@@ -43,9 +44,9 @@ returns-in-Err-clause-only_fault c = λ fault h ne.
 pub returns-clause-only_choices : goal.returns-clause-only_choices
 returns-clause-only_choices c = λ wanted h.
     choices-unique c.args.bytes.now c.loop-rest.choices.items wanted
-    (choices-end c.args.bytes.now c.loop-rest.choices.items c.loop-rest.rest.now c.loop-rest.number c.loop-rest.invariant (nil-by c.loop-rest.rest.now (sym c.is_empty.ensures ∙ c.loop-rest-test.false))) h
+    (choices-end c.args.bytes.now c.loop-rest.choices.items c.loop-rest.rest.now c.loop-rest.number c.loop-rest.invariant (empty_by c.loop-rest.rest.now (sym c.is_empty.ensures ∙ c.loop-rest-test.false))) h
 
 pub returns-clause-only_fault : goal.returns-clause-only_fault
 returns-clause-only_fault c = λ fault h.
     choices-no_fault c.args.bytes.now c.loop-rest.choices.items fault
-    (choices-end c.args.bytes.now c.loop-rest.choices.items c.loop-rest.rest.now c.loop-rest.number c.loop-rest.invariant (nil-by c.loop-rest.rest.now (sym c.is_empty.ensures ∙ c.loop-rest-test.false))) h
+    (choices-end c.args.bytes.now c.loop-rest.choices.items c.loop-rest.rest.now c.loop-rest.number c.loop-rest.invariant (empty_by c.loop-rest.rest.now (sym c.is_empty.ensures ∙ c.loop-rest-test.false))) h

@@ -1,10 +1,11 @@
 use Rattle.std.proofs.Common.{◌^◌, ◌<◌, sym, subst, ◌∙◌, [], inl, inr, length}
-use Rattle.text_lines.proofs.Filing.{nil-by, some-by}
+use Rattle.text_lines.proofs.Filing.{some-by}
 use Rattle.input_file.specs.declared.errors.InputError.TheVariants.{BadLine}
 use Rattle.input_file.specs.InputFiles.{input_format}
 use Rattle.input_file.specs.inner.NextLines.{IsNextInputs}
 use Rattle.input_file.specs.inner.Tables.{IsTableOf}
 use Rattle.input_file.proofs.Reading.{cut-shorter, other-header, inputs-start, inputs-more, inputs-fault, inputs-end, inputs-unique, inputs-no_fault, inputs-one_fault, memory-cases}
+use Rattle.common_lemmas.proofs.Lists.{empty_by}
 use Rattle.input_file.proofs.inputs.read_inputs.Goals as goal
 
 -- the first line is another
@@ -62,10 +63,10 @@ returns-clause-only_inputs c = λ wanted h.
     let short : length c.args.numbers.now.tasks < 2 ^ 32 = subst (λ n. n < 2 ^ 32) c.task_count-tasks.ensures.is c.task_count-tasks.ensures.small in
     rw c.lists_of.ensures
     (inputs-unique c.args.numbers.now short c.args.bytes.now _ wanted
-    (inputs-end c.args.numbers.now c.args.bytes.now c.loop-rest.rest.now c.loop-rest.table c.loop-rest.number c.loop-rest.invariant (nil-by c.loop-rest.rest.now (sym c.is_empty.ensures ∙ c.loop-rest-test.false))) h)
+    (inputs-end c.args.numbers.now c.args.bytes.now c.loop-rest.rest.now c.loop-rest.table c.loop-rest.number c.loop-rest.invariant (empty_by c.loop-rest.rest.now (sym c.is_empty.ensures ∙ c.loop-rest-test.false))) h)
 
 pub returns-clause-only_fault : goal.returns-clause-only_fault
 returns-clause-only_fault c = λ fault h.
     let short : length c.args.numbers.now.tasks < 2 ^ 32 = subst (λ n. n < 2 ^ 32) c.task_count-tasks.ensures.is c.task_count-tasks.ensures.small in
     inputs-no_fault c.args.numbers.now short c.args.bytes.now _ fault
-    (inputs-end c.args.numbers.now c.args.bytes.now c.loop-rest.rest.now c.loop-rest.table c.loop-rest.number c.loop-rest.invariant (nil-by c.loop-rest.rest.now (sym c.is_empty.ensures ∙ c.loop-rest-test.false))) h
+    (inputs-end c.args.numbers.now c.args.bytes.now c.loop-rest.rest.now c.loop-rest.table c.loop-rest.number c.loop-rest.invariant (empty_by c.loop-rest.rest.now (sym c.is_empty.ensures ∙ c.loop-rest-test.false))) h

@@ -1,7 +1,8 @@
 use Rattle.std.proofs.Common.{None, Some, refl}
 use Rattle.ada_tree.specs.PlainStmt.{seen}
 use Rattle.normal_model.specs.Calls.{actual_before}
-use Rattle.normal_calls.proofs.Around.{each-turn, each-past, each-end, lent_at}
+use Rattle.normal_calls.proofs.Around.{each-turn, each-past, each-end}
+use Rattle.common_lemmas.proofs.Lists.{lent_at}
 use Rattle.normal_calls.proofs.actuals.push_actuals.Goals as goal
 
 pub returns-in-None : goal.returns-in-None

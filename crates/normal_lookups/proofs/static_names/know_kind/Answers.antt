@@ -3,7 +3,8 @@ use Rattle.std.specs.List.{list_any}
 use Rattle.ada_tree.specs.declared.naming.NameId.{NameId}
 use Rattle.ada_tree.specs.StaticValue.{position_in}
 use Rattle.scoped_names.specs.Meaning.{meaning_in}
-use Rattle.normal_lookups.proofs.Statics.{on_ok, placed_any}
+use Rattle.normal_lookups.proofs.Statics.{placed_any}
+use Rattle.common_lemmas.proofs.Results.{on_ok}
 use Rattle.normal_lookups.proofs.static_names.know_kind.Goals as goal
 
 pub returns-in-Enumeration : goal.returns-in-Enumeration

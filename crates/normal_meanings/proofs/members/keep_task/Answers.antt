@@ -1,7 +1,8 @@
 use Rattle.std.proofs.Common.{ap, ◌∙◌, is_some}
 use Rattle.normal_model.specs.Names.{name_of_task}
 use Rattle.normal_model.specs.Members.{index_literal}
-use Rattle.normal_meanings.proofs.Keeping.{kept_task, on_ok}
+use Rattle.normal_meanings.proofs.Keeping.{kept_task}
+use Rattle.common_lemmas.proofs.Results.{on_ok}
 use Rattle.normal_meanings.proofs.members.keep_task.Goals as goal
 
 pub returns-in-Some : goal.returns-in-Some

@@ -1,7 +1,8 @@
 use Rattle.syn_event.specs.Numbering.{entry_at}
 use Rattle.task_model.specs.Setting.{formals_of_info}
 use Rattle.normal_model.specs.Calls.{slots_of}
-use Rattle.normal_variables.proofs.Behind.{actuals_added, on_ok}
+use Rattle.normal_variables.proofs.Behind.{actuals_added}
+use Rattle.common_lemmas.proofs.Results.{on_ok}
 use Rattle.normal_variables.proofs.calls.add_actuals.Goals as goal
 
 pub returns : goal.returns

@@ -1,5 +1,6 @@
 use Rattle.ada_tree.specs.PlainStmt.{plain_call}
-use Rattle.normal_variables.proofs.Behind.{call_added, on_ok}
+use Rattle.normal_variables.proofs.Behind.{call_added}
+use Rattle.common_lemmas.proofs.Results.{on_ok}
 use Rattle.normal_variables.proofs.calls.add_call.Goals as goal
 
 pub returns : goal.returns

@@ -1,6 +1,7 @@
 use Rattle.std.proofs.Common.{sym, ◌∙◌}
 use Rattle.ada_tree.specs.PlainStmt.{plain_call}
-use Rattle.normal_variables.proofs.Behind.{on_ok, select_added}
+use Rattle.normal_variables.proofs.Behind.{select_added}
+use Rattle.common_lemmas.proofs.Results.{on_ok}
 use Rattle.normal_variables.proofs.calls.add_select.Goals as goal
 
 pub returns-then-moves : goal.returns-then-moves

@@ -2,7 +2,8 @@ use Rattle.std.proofs.Common.{ap, sym}
 use Rattle.ada_tree.specs.PlainStmt.{stmt_at}
 use Rattle.normal_model.specs.Variables.{statement_variables}
 use Rattle.normal_variables.specs.Track.{variables_of}
-use Rattle.normal_variables.proofs.Behind.{enters, on_ok}
+use Rattle.normal_variables.proofs.Behind.{enters}
+use Rattle.common_lemmas.proofs.Results.{on_ok}
 use Rattle.normal_variables.proofs.entering.enter_statement.Goals as goal
 
 pub returns-in-Conditional : goal.returns-in-Conditional

@@ -2,7 +2,8 @@ use Rattle.std.proofs.Common.{sym, ◌∙◌, option_map}
 use Rattle.ada_tree.specs.PlainExpr.{plain_expr}
 use Rattle.normal_model.specs.Making.{moving}
 use Rattle.normal_model.specs.Ranges.{family_range}
-use Rattle.normal_variables.proofs.Behind.{index_added, on_ok}
+use Rattle.normal_variables.proofs.Behind.{index_added}
+use Rattle.common_lemmas.proofs.Results.{on_ok}
 use Rattle.normal_variables.proofs.waits.add_index.Goals as goal
 
 pub returns-then-moves : goal.returns-then-moves

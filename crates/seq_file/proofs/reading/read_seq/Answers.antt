@@ -1,7 +1,9 @@
 use Rattle.std.proofs.Common.{◌≡◌, ◌≢◌, sym, subst, ◌∙◌, [], ◌∷◌, ◌++◌, length, inl, rules, Some, false}
 use Rattle.seq_file.specs.Files.{line_fault}
 use Rattle.seq_file.specs.inner.NextEvents.{IsNextEvent}
-use Rattle.seq_file.proofs.Filing.{IsReadTo, read-start, read-more, read-end, read-fault, reads-no_fault, reads-unique, fault-unique, nil-by, some-by}
+use Rattle.seq_file.proofs.Filing.{IsReadTo, read-start, read-more, read-end, read-fault, reads-no_fault, reads-unique, fault-unique}
+use Rattle.common_lemmas.proofs.Lists.{empty_by}
+use Rattle.text_lines.proofs.Filing.{some-by}
 use Rattle.seq_file.proofs.reading.read_seq.Goals as goal
 
 -- the header is bad
@@ -21,12 +23,12 @@ loop-rest-init c =
 pub returns-clause-only_events : goal.returns-clause-only_events
 returns-clause-only_events c wanted h =
     reads-unique c.args.names.now c.args.numbers.now c.behind_header.ensures.short c.args.bytes.now c.loop-rest.events.items wanted
-    (read-end c.args.bytes.now c.args.numbers.now c.args.names.now c.loop-rest.events.items c.loop-rest.rest.now c.loop-rest.ended c.loop-rest.invariant (nil-by c.loop-rest.rest.now (sym c.is_empty.ensures ∙ c.loop-rest-test.false))) h
+    (read-end c.args.bytes.now c.args.numbers.now c.args.names.now c.loop-rest.events.items c.loop-rest.rest.now c.loop-rest.ended c.loop-rest.invariant (empty_by c.loop-rest.rest.now (sym c.is_empty.ensures ∙ c.loop-rest-test.false))) h
 
 pub returns-clause-only_fault : goal.returns-clause-only_fault
 returns-clause-only_fault c fault h =
     reads-no_fault c.args.names.now c.args.numbers.now c.behind_header.ensures.short c.requires.name c.args.bytes.now c.loop-rest.events.items fault
-    (read-end c.args.bytes.now c.args.numbers.now c.args.names.now c.loop-rest.events.items c.loop-rest.rest.now c.loop-rest.ended c.loop-rest.invariant (nil-by c.loop-rest.rest.now (sym c.is_empty.ensures ∙ c.loop-rest-test.false))) h
+    (read-end c.args.bytes.now c.args.numbers.now c.args.names.now c.loop-rest.events.items c.loop-rest.rest.now c.loop-rest.ended c.loop-rest.invariant (empty_by c.loop-rest.rest.now (sym c.is_empty.ensures ∙ c.loop-rest-test.false))) h
 
 -- the next line is bad
 pub returns-in-Err-next_event-clause-only_events : goal.returns-in-Err-next_event-clause-only_events

@@ -1,6 +1,6 @@
 use Rattle.std.proofs.Common.{◌∙◌, refl, arith}
-use Rattle.task_calls.proofs.Walking.{lent_at}
 use Rattle.task_calls.proofs.Returning.{opens_one, opens_none, opens_first, opens_whole}
+use Rattle.common_lemmas.proofs.Lists.{lent_at}
 use Rattle.task_calls.proofs.formals.open_formals.Goals as goal
 
 pub loop-done-init : goal.loop-done-init

@@ -4,8 +4,8 @@ use Rattle.task_frames.specs.declared.places.Place.TheVariants as stands
 use Rattle.task_frames.specs.Seen.{around, seen_handlers}
 use Rattle.task_frames.proofs.coming.end_of.Goals as goal
 
-pub returns-in-Whole : goal.returns-in-Whole
-returns-in-Whole c = rw c.in-Whole.is (refl, (seen_handlers c.in-Whole.handlers.now, c.in-Whole.taken, refl))
+pub returns-in-OwnBody : goal.returns-in-OwnBody
+returns-in-OwnBody c = rw c.in-OwnBody.is (refl, (seen_handlers c.in-OwnBody.handlers.now, c.in-OwnBody.taken, refl))
 
 pub returns-in-Loop : goal.returns-in-Loop
 returns-in-Loop c =

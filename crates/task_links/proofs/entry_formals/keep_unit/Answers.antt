@@ -2,8 +2,8 @@ use Rattle.std.proofs.Common.{ap, sym, ◌∙◌, ◌==◌, map, None, if◌then
 use Rattle.ada_tree.specs.StaticValue.{first_of_two}
 use Rattle.ada_tree.specs.PlainDecl.{plain_entry, plain_task}
 use Rattle.task_links.specs.inner.Made.{formals_at, formals_among}
-use Rattle.task_links.proofs.KeepingLemmas.{on_ok}
 use Rattle.task_links.proofs.UnitsLemmas.{known_step, new_step}
+use Rattle.common_lemmas.proofs.Results.{on_ok}
 use Rattle.task_links.proofs.entry_formals.keep_unit.Goals as goal
 
 pub returns-then-known : goal.returns-then-known

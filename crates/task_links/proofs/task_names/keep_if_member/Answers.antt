@@ -4,7 +4,8 @@ use Rattle.std.specs.HashMap.{get}
 use Rattle.ada_tree.specs.StaticValue.{first_of_two}
 use Rattle.task_model.specs.Setting.{is_member}
 use Rattle.task_links.specs.inner.Keys.{member_eq}
-use Rattle.task_links.proofs.KeepingLemmas.{on_ok, none_kept, same_index}
+use Rattle.task_links.proofs.KeepingLemmas.{none_kept, same_index}
+use Rattle.common_lemmas.proofs.Results.{on_ok}
 use Rattle.task_links.proofs.task_names.keep_if_member.Goals as goal
 
 pub returns-in-Some : goal.returns-in-Some

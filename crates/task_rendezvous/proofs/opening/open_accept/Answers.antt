@@ -2,8 +2,8 @@ use Rattle.std.proofs.Common.{◌∙◌}
 use Rattle.task_model.specs.Waits.{alternative_for}
 use Rattle.task_state.specs.Plain.{plain_task}
 use Rattle.task_waits.specs.Standing.{plain_parts}
-use Rattle.task_calls.proofs.Opening.{on_ok}
 use Rattle.task_rendezvous.proofs.Bodies.{opens_alternative}
+use Rattle.common_lemmas.proofs.Results.{on_ok}
 use Rattle.task_rendezvous.proofs.opening.open_accept.Goals as goal
 
 pub returns-in-Some-clause-ok : goal.returns-in-Some-clause-ok

@@ -4,8 +4,8 @@ use Rattle.ada_tree.specs.PlainStmt.{plain_body}
 use Rattle.ada_tree.specs.PlainDecl.{DTaskBody, decl_at, decls_of, plain_decl, plain_shape, plain_init}
 use Rattle.ada_tree.proofs.Rows.{rows}
 use Rattle.ada_duplicates.specs.NamedSoFar.{with_declared}
-use Rattle.ada_refusals.proofs.Outcomes.{on_ok}
 use Rattle.ada_duplicates.proofs.Behind.{decl_is, number_behind, object_behind, enumeration_behind, array_behind, subtype_behind, exception_behind, pragma_behind}
+use Rattle.common_lemmas.proofs.Results.{on_ok}
 use Rattle.ada_duplicates.proofs.named_so_far.Notes.note.Goals as goal
 
 pub returns-in-Number : goal.returns-in-Number

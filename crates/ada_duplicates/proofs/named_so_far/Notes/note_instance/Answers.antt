@@ -1,5 +1,5 @@
-use Rattle.ada_refusals.proofs.Outcomes.{on_ok}
 use Rattle.ada_duplicates.proofs.Behind.{instance_noted}
+use Rattle.common_lemmas.proofs.Results.{on_ok}
 use Rattle.ada_duplicates.proofs.named_so_far.Notes.note_instance.Goals as goal
 
 pub returns : goal.returns

@@ -1,7 +1,7 @@
 use Rattle.std.proofs.Common.{◌∙◌}
-use Rattle.ada_refusals.proofs.Outcomes.{on_ok}
 use Rattle.name_sets.specs.Numbers.{numbers_in}
 use Rattle.ada_duplicates.proofs.Behind.{task_noted}
+use Rattle.common_lemmas.proofs.Results.{on_ok}
 use Rattle.ada_duplicates.proofs.named_so_far.Notes.note_task.Goals as goal
 
 pub returns : goal.returns

@@ -1,9 +1,9 @@
 use Rattle.std.proofs.Common.{map}
 use Rattle.ada_tree.specs.PlainStmt.{plain_body}
 use Rattle.ada_tree.specs.PlainDecl.{decls_of, plain_decl}
-use Rattle.ada_refusals.proofs.Outcomes.{on_ok}
 use Rattle.name_sets.specs.Numbers.{numbers_in}
 use Rattle.ada_duplicates.proofs.Behind.{task_body_noted}
+use Rattle.common_lemmas.proofs.Results.{on_ok}
 use Rattle.ada_duplicates.proofs.named_so_far.Notes.note_task_body.Goals as goal
 
 pub returns : goal.returns

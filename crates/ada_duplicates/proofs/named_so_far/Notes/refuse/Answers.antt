@@ -1,8 +1,8 @@
 use Rattle.std.proofs.Common.{◌∙◌, [], ap}
 use Rattle.ada_tree.specs.PlainStmt.{plain_body}
 use Rattle.ada_duplicates.specs.NamingsInOrder.{first_repeated}
-use Rattle.ada_refusals.proofs.Outcomes.{if_ok}
 use Rattle.ada_duplicates.proofs.Behind.{refused_by}
+use Rattle.common_lemmas.proofs.Results.{if_ok}
 use Rattle.ada_duplicates.proofs.named_so_far.Notes.refuse.Goals as goal
 
 pub returns : goal.returns

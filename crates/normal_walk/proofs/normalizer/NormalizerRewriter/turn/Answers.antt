@@ -1,4 +1,4 @@
-use Rattle.normal_walk.proofs.Walking.{on_ok}
+use Rattle.common_lemmas.proofs.Results.{on_ok}
 use Rattle.normal_walk.proofs.normalizer.NormalizerRewriter.turn.Goals as goal
 
 pub returns : goal.returns

@@ -1,5 +1,6 @@
 use Rattle.ada_tree.specs.PlainStmt.{plain_call}
-use Rattle.task_calls.proofs.Opening.{values_by_owner, values_by_none, on_ok}
+use Rattle.task_calls.proofs.Opening.{values_by_owner, values_by_none}
+use Rattle.common_lemmas.proofs.Results.{on_ok}
 use Rattle.task_calls.proofs.here.Here.actuals.Goals as goal
 
 pub returns-in-Ok-clause-ok : goal.returns-in-Ok-clause-ok

@@ -2,7 +2,8 @@ use Rattle.std.proofs.Common.{◌∙◌, ap, Some}
 use Rattle.task_model.specs.Setting.{Lists, member_index, entry_parameters}
 use Rattle.task_model.specs.Calls.{openings, called_with, values_of}
 use Rattle.task_calls.specs.Looks.{values_or_none, plain_lists}
-use Rattle.task_calls.proofs.Opening.{call_opens, index_opens, on_ok}
+use Rattle.task_calls.proofs.Opening.{call_opens, index_opens}
+use Rattle.common_lemmas.proofs.Results.{on_ok}
 use Rattle.task_calls.proofs.here.Here.put_actuals.Goals as goal
 
 pub returns-in-Ok-clause-ok : goal.returns-in-Ok-clause-ok

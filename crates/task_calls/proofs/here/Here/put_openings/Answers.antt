@@ -1,8 +1,8 @@
 use Rattle.std.proofs.Common.{refl, ◌∙◌, sym, ap, map, drop}
 use Rattle.ada_tree.specs.PlainExpr.{plain_expr}
 use Rattle.task_model.specs.Calls.{openings}
-use Rattle.task_calls.proofs.Walking.{lent_at}
 use Rattle.task_calls.proofs.Opening.{behind_values, behind_none, puts_on, puts_none, puts_all}
+use Rattle.common_lemmas.proofs.Lists.{lent_at}
 use Rattle.task_calls.proofs.here.Here.put_openings.Goals as goal
 
 pub loop-place-init : goal.loop-place-init

@@ -1,7 +1,7 @@
 use Rattle.std.proofs.Common.{refl, map, drop}
 use Rattle.ada_tree.specs.PlainExpr.{plain_expr}
-use Rattle.task_calls.proofs.Walking.{lent_at}
 use Rattle.task_calls.proofs.Opening.{raises_on, raises_here, raises_none}
+use Rattle.common_lemmas.proofs.Lists.{lent_at}
 use Rattle.task_calls.proofs.here.Here.raised_in_actuals.Goals as goal
 
 pub returns-in-Err : goal.returns-in-Err

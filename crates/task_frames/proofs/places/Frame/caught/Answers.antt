@@ -2,8 +2,8 @@ use Rattle.std.proofs.Common.{Some}
 use Rattle.task_frames.proofs.CallLemmas.{unit_grounded, block_grounded, opened_grounded}
 use Rattle.task_frames.proofs.places.Frame.caught.Goals as goal
 
-pub returns-in-Whole-default-None-clause-grounded : goal.returns-in-Whole-default-None-clause-grounded
-returns-in-Whole-default-None-clause-grounded c fs grounded =
+pub returns-in-OwnBody-default-None-clause-grounded : goal.returns-in-OwnBody-default-None-clause-grounded
+returns-in-OwnBody-default-None-clause-grounded c fs grounded =
     unit_grounded c.args.self.place c.unit_caught.result.place fs c.unit_caught.ensures.unit grounded
 
 pub returns-in-Block-clause-grounded : goal.returns-in-Block-clause-grounded

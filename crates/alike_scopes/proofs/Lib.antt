@@ -1,0 +1,14 @@
+pub mod Marks
+pub mod Readings
+pub mod Exprs
+pub mod Tables
+pub mod Naming
+pub mod Objects
+pub mod Inner
+pub mod Mains
+pub mod Faces
+pub mod Selectors
+pub mod Nodes
+pub mod Demands
+pub mod Calls
+pub mod Examples

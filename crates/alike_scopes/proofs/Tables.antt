@@ -1,0 +1,69 @@
+-- Tables that say the same of old names: two that keep a sound one, one with itself, and two that keep such tables.
+use Rattle.std.proofs.Common.{◌≡◌, ℕ, suc, pos, Bool, true, ◌==◌, if◌then◌else◌, List, [], ◌∷◌, Option, Some, None, option_map, refl, sym, ap, ap₂, ◌∙◌}
+use Rattle.ada_tree.specs.declared.naming.NameId.{NameId}
+use Rattle.ada_tree.specs.declared.static_types.Kind.{Kind}
+use Rattle.ada_tree.specs.declared.static_types.Constant.{Constant}
+use Rattle.ada_tree.specs.TypeTable.{TypeTable}
+use Rattle.ada_tree.specs.Attributes.{false_name, true_name}
+use Rattle.ada_tree.specs.StaticValue.{constant_named, position_in, first_of_two, literal_position, value_named}
+use Rattle.rewritten_types.specs.Agreement.{Literal, literal_among, literal_named, Keeps, Whole}
+use Rattle.rewritten_types.proofs.Owning.{own-kept}
+use Rattle.alike_scopes.specs.Alike.{SameTypes}
+use Rattle.alike_scopes.specs.Laws.{RootedIsSame}
+
+-- ---- values
+
+-- the position of a literal is that of the literal with its kind
+literal-place : (ks : List Kind) (k : ℕ) (id : NameId) → literal_position ks id ≡ option_map (λ (l : Literal). l.position) (literal_among ks k id)
+literal-place [] k id = refl
+literal-place (x ∷ ks) k id = by_position (position_in id x) (literal-place ks (suc k) id)
+  where
+    by_position : (o : Option ℕ) → literal_position ks id ≡ option_map (λ (l : Literal). l.position) (literal_among ks (suc k) id) →
+        first_of_two o (literal_position ks id)
+        ≡ option_map (λ (l : Literal). l.position) (first_of_two (option_map (λ n. record { kind = k; position = n }) o) (literal_among ks (suc k) id))
+    by_position (Some n) e = refl
+    by_position None e = e
+
+-- the value of a name is told by its constant and its literal
+value-told : (T U : TypeTable) (id : NameId) → constant_named T id ≡ constant_named U id → literal_named T id ≡ literal_named U id → value_named T id ≡ value_named U id
+value-told T U id c l =
+    ap₂
+    (λ (x : Option Constant) (y : Option ℕ).
+    if id.0 == false_name then Some (pos 0)
+    else if id.0 == true_name then Some (pos 1)
+    else first_of_two (option_map (λ z. z.value) x) (option_map (λ k. pos k) y))
+    c
+    (literal-place T.kinds 0 id ∙ ap (option_map (λ (x : Literal). x.position)) l ∙ sym (literal-place U.kinds 0 id))
+
+module _ (old : ℕ → Bool) where
+  pub value-kept : (T U : TypeTable) → Keeps old T U → (id : NameId) → old id.0 ≡ true → value_named U id ≡ value_named T id
+  value-kept T U k id o = value-told U T id (k.constants id o) (k.literals id)
+
+  -- ---- tables
+
+  -- a table says the same of names as itself
+  pub types-self : (T : TypeTable) → Whole T → SameTypes old T T
+  types-self T w = record {
+    values = λ id o. refl;
+    marks = λ id o. refl;
+    mark_kinds = λ id m o e. refl;
+    kinds = λ k x e. e;
+    first_marks = λ k h. let m = w.own k h in (m.0, m.1, m.1);
+    integers = w.integers;
+    truths = w.truths;
+  }
+
+  -- tables that keep two that say the same say the same
+  pub types-kept : (T U T' U' : TypeTable) → SameTypes old T U → Keeps old T T' → Keeps old U U' → SameTypes old T' U'
+  types-kept T U T' U' same a b = record {
+    values = λ id o. value-kept T T' a id o ∙ same.values id o ∙ sym (value-kept U U' b id o);
+    marks = λ id o. a.marks id o ∙ same.marks id o ∙ sym (b.marks id o);
+    mark_kinds = λ id m o e. a.kinds m.kind ∙ same.mark_kinds id m o (sym (a.marks id o) ∙ e) ∙ sym (b.kinds m.kind);
+    kinds = λ k x e. b.kinds k ∙ same.kinds k x (sym (a.kinds k) ∙ e);
+    first_marks = λ k h. let m = same.first_marks k (h.0, sym (a.kinds k) ∙ h.1) in (m.0, own-kept T T' a.grows k m.0 m.1, own-kept U U' b.grows k m.0 m.2);
+    integers = a.grows.kind 0 _ same.integers;
+    truths = a.grows.kind 1 _ same.truths;
+  }
+
+pub rooted_is_same : RootedIsSame
+rooted_is_same old root T U r = types-kept old root root T U (types-self old root r.whole) r.left r.right

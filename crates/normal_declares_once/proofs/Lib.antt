@@ -1,0 +1,11 @@
+pub mod Apart
+pub mod Ids
+pub mod Good
+pub mod Inner
+pub mod Words
+pub mod Firsts
+pub mod Tasks
+pub mod Variables
+pub mod Bodies
+pub mod Whole
+pub mod Examples

@@ -1,0 +1,17 @@
+-- The law of what the normal form of a legal program declares (8.3; this project's rule).
+use Rattle.std.specs.Prelude.{[]}
+use Rattle.ada_tree.specs.PlainProgram.{PProgram}
+use Rattle.ada_tree.specs.Sites.{sites}
+use Rattle.normal_form_law.specs.Choosing.{choosing}
+use Rattle.normal_form_law.specs.Normalisable.{made_for}
+use Rattle.legal_literals.specs.Colours.{coloured}
+use Rattle.normal_legal.specs.Laws.{IsLegal}
+use Rattle.normal_once.specs.Once.{AllOnce}
+
+-- Rule Duplicate refuses nothing in the normal form of a legal program.
+abbrev pub NormalDeclaresOnce : Type 0
+NormalDeclaresOnce = (p : PProgram) → IsLegal p → AllOnce [] (sites (made_for p))
+
+-- So it is with two programs that are as the law of legal programs asks: one in which a variable chooses a member of an array of tasks, and one with an array of tasks whose index is an enumeration.
+abbrev pub IsMet : Type 0
+IsMet = AllOnce [] (sites (made_for choosing)) × AllOnce [] (sites (made_for coloured))

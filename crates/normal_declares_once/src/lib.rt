@@ -1,0 +1,10 @@
+//! That the normal form of a legal program declares no name twice. The crate has no functions of its own but the one that carries the laws.
+#![tactic(auto)]
+
+ghost use Rattle.normal_declares_once.specs.Laws.{IsMet, NormalDeclaresOnce};
+
+/// Carries the law that rule Duplicate refuses nothing in the normal form of a legal program (`once`); so it is with two programs (`met`).
+pub fn laws()
+    ensures once { NormalDeclaresOnce }
+    ensures met { IsMet }
+{}

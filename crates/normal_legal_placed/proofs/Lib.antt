@@ -1,0 +1,5 @@
+pub mod Indices
+pub mod Sizes
+pub mod Calling
+pub mod Placed
+pub mod Examples

@@ -1,0 +1,26 @@
+-- The law that a printed normal form is read back (this project's rule).
+use Rattle.std.specs.Prelude.{ℕ, List}
+use Rattle.ada_tree.specs.PlainProgram.{PProgram}
+use Rattle.ada_tree.specs.Same.{Same}
+use Rattle.ada_parser.specs.Reads.{Reads}
+use Rattle.ada_printer.specs.ProgramText.{program_text}
+use Rattle.normal_form_law.specs.Normalisable.{made_for}
+use Rattle.normal_legal.specs.Laws.{IsLegal}
+use Rattle.read_normal.specs.Example.{calling_text, calling}
+use Rattle.read_normal.specs.Laws.{IsLegalText}
+
+-- what is printed of a program is read, as a program that is the same
+abbrev pub IsReadAsSame : PProgram → Type 0
+IsReadAsSame p = (q : PProgram) × Reads (program_text p) q × Same p q
+
+-- So is the normal form of each legal program.
+abbrev pub NormalIsReadBack : Type 0
+NormalIsReadBack = (p : PProgram) → IsLegal p → IsReadAsSame (made_for p)
+
+-- Where the program was read from a text within the limit, nothing is asked but that it meets the static rules of an original.
+abbrev pub TextIsReadBack : Type 0
+TextIsReadBack = (bytes : List ℕ) (p : PProgram) → IsLegalText bytes p → IsReadAsSame (made_for p)
+
+-- A text with a task and a call is so.
+abbrev pub IsMet : Type 0
+IsMet = IsLegalText calling_text calling

@@ -1,0 +1,2 @@
+//! That the scopes of a normal form are alike those of the program.
+#![tactic(auto)]

@@ -1,0 +1,16 @@
+pub mod Places
+pub mod Variables
+pub mod Literals
+pub mod Subtypes
+pub mod Choices
+pub mod Tests
+pub mod Cases
+pub mod Callees
+pub mod Calls
+pub mod Stays
+pub mod Scopes
+pub mod Heads
+pub mod Actuals
+pub mod Typed
+pub mod Declared
+pub mod StaticMet

@@ -1,0 +1,107 @@
+-- All places of the normal form of a legal program meet the static rules 1 and 3 to 12, where main's scope and the places of its bodies are as they should be.
+use Rattle.std.proofs.Common.{true, List, [], ◌∷◌, ◌++◌, flat_map, sym, subst}
+use Rattle.common_lemmas.proofs.Lists.{all_joined, all_front, all_back}
+use Rattle.ada_tree.specs.PlainDecl.{PDecl, PDecls, no_decl, decl_then, decls_of}
+use Rattle.ada_tree.specs.PlainProgram.{PProgram}
+use Rattle.ada_tree.specs.Every.{EveryProgram}
+use Rattle.ada_tree.specs.WellPlaced.{well_placed}
+use Rattle.ada_tree.specs.Scope.{Scope}
+use Rattle.ada_tree.specs.Sites.{names_sites, decl_sites, decls_sites, body_sites, sites}
+use Rattle.ada_tree.specs.Declaring.{before_all, first_scope, inside, after_decl, after_decls}
+use Rattle.ada_tree.specs.Refusals.{types_in}
+use Rattle.syn_event.specs.Units.{decl_list}
+use Rattle.task_model.specs.Setting.{Setting}
+use Rattle.normal_model.specs.NormalStmts.{normal_body}
+use Rattle.normal_model.specs.NormalTree.{decls_front, first_decls, tasks_beside, task_declared, bodies_of, main_unit, main_variables, normal_decls}
+use Rattle.normal_model.proofs.VariablesLemmas.{begins-refl}
+use Rattle.rewritten_values.specs.Values.{old_names}
+use Rattle.legal_sites.proofs.Both.{together}
+use Rattle.normal_form_law.specs.Normalisable.{numbers_of, made_for}
+use Rattle.normal_checked.specs.Around.{own_rules}
+use Rattle.normal_legal.specs.Laws.{IsLegal}
+use Rattle.alike_scopes.specs.Laws.{IsMetBut}
+use Rattle.normal_typed.specs.ScopeOf.{IsScopeOf}
+use Rattle.normal_typed.proofs.Places.{met-declares}
+use Rattle.normal_typed.proofs.Variables.{AllMetBut}
+use Rattle.normal_typed.proofs.Typed.{body-met}
+use Rattle.normal_legal_asked.proofs.KnownKinds.{known-kinds}
+use Rattle.normal_legal_asked.proofs.Bodies.{main-asked}
+use Rattle.normal_scopes.specs.Plain.{plain_name}
+use Rattle.normal_scopes.proofs.Main.{decls-frame, g, last, first, every, rules, tasked, made, list-after}
+use Rattle.normal_typed_decls.proofs.Fronts.{firsts-met}
+use Rattle.normal_typed_decls.proofs.Tasks.{tasks-met}
+use Rattle.normal_typed_decls.proofs.Variables.{variables-met}
+
+-- ---- declarations one behind the other
+
+front-met : (a b : PDecls) (s : Scope) → AllMetBut (decls_sites s a) → AllMetBut (decls_sites (after_decls s a) b) → AllMetBut (decls_sites s (decls_front a b))
+front-met no_decl b s h k = k
+front-met (decl_then d rest) b s h k =
+    all_joined IsMetBut (decl_sites s d) (decls_sites (after_decl s d) (decls_front rest b)) (all_front IsMetBut (decl_sites s d) (decls_sites (after_decl s d) rest) h)
+    (front-met rest b (after_decl s d) (all_back IsMetBut (decl_sites s d) (decls_sites (after_decl s d) rest) h) k)
+
+lists-met : (xs ys : List PDecl) (s : Scope) → AllMetBut (decls_sites s (decls_of xs)) → AllMetBut (decls_sites (after_decls s (decls_of xs)) (decls_of ys)) → AllMetBut (decls_sites s (decls_of (xs ++ ys)))
+lists-met [] ys s h k = k
+lists-met (d ∷ xs) ys s h k =
+    all_joined IsMetBut (decl_sites s d) (decls_sites (after_decl s d) (decls_of (xs ++ ys))) (all_front IsMetBut (decl_sites s d) (decls_sites (after_decl s d) (decls_of xs)) h)
+    (lists-met xs ys (after_decl s d) (all_back IsMetBut (decl_sites s d) (decls_sites (after_decl s d) (decls_of xs)) h) k)
+
+-- ---- a legal program
+
+module _ (p : PProgram) (legal : IsLegal p) where
+  abbrev G : Setting
+  G = g p legal
+
+  -- each name of the program is plain, and each list is as long as the grammar asks
+  pub program-rules : EveryProgram (own_rules (plain_name p)) p
+  program-rules =
+      together (old_names (plain_name p)) (well_placed p.names) (own_rules (plain_name p))
+      record {
+        name = λ id a c. a;
+        integer = λ n a c. tt;
+        duration = λ n a c. tt;
+        words = λ t a c. tt;
+        unary = λ op e a c. tt;
+        binary = λ op l r a c. tt;
+        bounds = λ l r a c. tt;
+        parts = λ n k a c. c;
+        handlers = λ hs a c. tt;
+        pragmas = λ n ps a c. tt;
+        object = λ b o a c. tt;
+        inner = λ ds a c. tt;
+        outer = λ ds a c. tt;
+        nested = λ k a c. tt;
+      }
+      p (every p legal) legal.placed
+
+  -- ---- declarations
+
+  abbrev pub bodies : List PDecl
+  bodies = flat_map (bodies_of G) (decl_list p.decls)
+
+  abbrev tasks : List PDecl
+  tasks = flat_map (task_declared G) (tasks_beside G)
+
+  -- The declarations of the normal form meet the rules, where its bodies do.
+  pub decls-met : AllMetBut (decls_sites (tasked p legal) (decls_of bodies)) → AllMetBut (decls_sites (first_scope p.name) (normal_decls G))
+  decls-met h =
+      front-met (first_decls [] p.decls) (decls_of (main_variables G ++ tasks ++ bodies)) (first_scope p.name) (firsts-met p legal program-rules.2)
+      (lists-met (main_variables G ++ tasks) bodies (first p legal) (lists-met (main_variables G) tasks (first p legal) (variables-met p legal program-rules.2) (tasks-met p legal program-rules.2))
+      (subst (λ s. AllMetBut (decls_sites s (decls_of bodies))) (sym (list-after (main_variables G) tasks (first p legal))) h))
+
+  -- ---- main
+
+  -- The statements of main meet the rules, where its scope in the normal form is as it should be.
+  pub main-met : IsScopeOf (main_unit G) (plain_name p) (main_variables G) (inside (last p legal)) (inside (made p legal)) → AllMetBut (body_sites (inside (made p legal)) (normal_body (main_unit G) p.body))
+  main-met h =
+      body-met (main_unit G) (plain_name p) (main_variables G) [] (known-kinds p (rules p legal) legal.placed legal.small) (tt, (inside (last p legal), tt)) (inside (made p legal)) 1 p.body
+      (h, (decls-frame p.decls (first_scope p.name)).own) (main-asked p (types_in p) (numbers_of p) legal.legal legal.placed legal.names legal.small (plain_name p) program-rules) (begins-refl (main_variables G))
+
+  -- ---- all places
+
+  -- So each place of the normal form meets them.
+  pub sites-met : IsScopeOf (main_unit G) (plain_name p) (main_variables G) (inside (last p legal)) (inside (made p legal)) → AllMetBut (decls_sites (tasked p legal) (decls_of bodies)) → AllMetBut (sites (made_for p))
+  sites-met at-main at-bodies =
+      let ds = decls_sites (first_scope p.name) (normal_decls G) in
+      let first = names_sites true before_all (p.name ∷ []) in
+      all_joined IsMetBut (first ++ ds) (body_sites (inside (made p legal)) (normal_body (main_unit G) p.body)) (all_joined IsMetBut first ds (met-declares before_all true p.name, tt) (decls-met at-bodies)) (main-met at-main)

@@ -1,0 +1,11 @@
+pub mod Objects
+pub mod Fronts
+pub mod Outs
+pub mod Known
+pub mod Tasks
+pub mod Subtypes
+pub mod Meant
+pub mod Rows
+pub mod Variables
+pub mod Joined
+pub mod Bodies

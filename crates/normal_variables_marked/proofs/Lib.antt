@@ -1,0 +1,5 @@
+pub mod Static
+pub mod Subtypes
+pub mod Steps
+pub mod Scopes
+pub mod Bodies

@@ -1,0 +1,11 @@
+pub mod Rooted
+pub mod Form
+pub mod Sorted
+pub mod Kept
+pub mod KeptPieces
+pub mod KeptDecls
+pub mod KeptNames
+pub mod Ranges
+pub mod Tasks
+pub mod Whole
+pub mod Instance

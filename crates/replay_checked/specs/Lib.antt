@@ -1,0 +1,4 @@
+pub mod Around
+pub mod Checkable
+pub mod Example
+pub mod Laws

@@ -1,0 +1,12 @@
+pub mod Statements
+pub mod Ids
+pub mod Grown
+pub mod Plain
+pub mod Units
+pub mod Listed
+pub mod Added
+pub mod Whole
+pub mod Named
+pub mod Texts
+pub mod Legal
+pub mod Examples

@@ -1,0 +1,39 @@
+-- The replay text of a legal program is legal, where its places meet the rules.
+use Rattle.std.proofs.Common.{refl, sym}
+use Rattle.ada_tree.specs.Refusals.{types_in}
+use Rattle.normal_form_law.specs.Normalisable.{numbers_of}
+use Rattle.normal_legal_numbers.proofs.Numbered.{none_legal_is_ded}
+use Rattle.normal_meets_checks.proofs.Facts as facts
+use Rattle.normal_meets_checks.proofs.Joined.{normal_meets_checks}
+use Rattle.normal_is_legal.proofs.Places.{meets_by_places}
+use Rattle.replay_model.specs.ReplayTree.{script_of, replay_of}
+use Rattle.replay_texts.proofs.Numbered.{replay_numbered}
+use Rattle.replay_checked.proofs.Whole.{replay_meets_checks}
+use Rattle.replay_declares_once.proofs.Legal.{legal_replay_declares_once}
+use Rattle.replay_legal_placed.proofs.Carried.{all_legal_placed}
+use Rattle.replay_checkable.specs.Prepared.{form_for}
+use Rattle.replay_checkable.proofs.Whole.{normal_is_checkable}
+use Rattle.replay_is_legal.proofs.Prepared.{legal_is_prepared}
+use Rattle.replay_is_legal.specs.Laws.{LegalReplayHasNumbers, LegalReplayMeetsTypes, LegalReplayMeetsChecks, ReplayIsLegal, ReplayIsAsPromised}
+
+pub legal_replay_has_numbers : LegalReplayHasNumbers
+legal_replay_has_numbers p events h =
+    let own = facts.olds p h in
+    replay_numbered p events (facts.ordered p h) own.0 own.2 (none_legal_is_ded p (types_in p) (numbers_of p) h.legal h.placed)
+
+pub legal_replay_meets_types : LegalReplayMeetsTypes
+legal_replay_meets_types p ops h met = meets_by_places (replay_of (form_for p) ops) met (legal_replay_declares_once p h ops)
+
+pub legal_replay_meets_checks : LegalReplayMeetsChecks
+legal_replay_meets_checks p ops h ready = replay_meets_checks (form_for p) ops ready (normal_meets_checks p h)
+
+pub replay_is_legal : ReplayIsLegal
+replay_is_legal p events h met = record {
+  type_rules = legal_replay_meets_types p (script_of (numbers_of p) events) h met.places;
+  check_rules = legal_replay_meets_checks p (script_of (numbers_of p) events) h (normal_is_checkable p events (legal_is_prepared p events h met.kept));
+  its_types = refl;
+  its_numbers = sym (legal_replay_has_numbers p events h);
+}
+
+pub replay_is_as_promised : ReplayIsAsPromised
+replay_is_as_promised p events h met held = record { text = refl; legal = replay_is_legal p events h met; placed = all_legal_placed p events h held.small held.literals }

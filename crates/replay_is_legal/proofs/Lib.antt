@@ -1,0 +1,4 @@
+pub mod Kept
+pub mod Prepared
+pub mod Legal
+pub mod Examples

@@ -1,0 +1,9 @@
+pub mod Moved
+pub mod Tests
+pub mod Made
+pub mod Named
+pub mod Controlled
+pub mod Declared
+pub mod Scripted
+pub mod Instance
+pub mod Carried

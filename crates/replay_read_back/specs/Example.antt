@@ -1,0 +1,13 @@
+-- A sequence of the program with a task and a call (`Example` of `read_normal`): main calls the entry, the rendezvous ends, the task completes, and the program ends.
+use Rattle.std.specs.Prelude.{ℕ, pos, List, [], ◌∷◌}
+use Rattle.event_machine.specs.declared.Event.{Event}
+use Rattle.event_machine.specs.declared.Event.TheVariants.{R, E, X, Z}
+use Rattle.seq_file.specs.Files.{SeqText}
+use Rattle.normal_form_law.specs.Normalisable.{numbers_of}
+use Rattle.read_normal.specs.Example.{calling}
+
+abbrev pub calling_events : List Event
+calling_events = R 0 1 (pos 0) ∷ E 1 ∷ X 1 ∷ Z ∷ []
+
+abbrev pub calling_lines : List ℕ
+calling_lines = SeqText calling.names (numbers_of calling) calling_events

@@ -1,0 +1,2 @@
+pub mod ScopeOf
+pub mod Controller
