@@ -14,22 +14,19 @@ use Rattle.syn_event.specs.CheckSites.{with_meant, formal_names, with_parameter}
 use Rattle.ada_check_scopes.specs.Nested.{IsWithin, IsOutside}
 use Rattle.ada_check_scopes.specs.declared.check_scopes.OutsideAccept.{OutsideAccept}
 use Rattle.common_lemmas.proofs.Numbers.{within_sum}
+use Rattle.syn_event.proofs.CheckScopes.{meant_joined}
 
 abbrev known : Meant → Word → ℕ × Meant
 known m w = (w.name.0, m)
 
 -- ---- names one after the other
 
-pub meant_append : (m : Meant) (s : CheckScope) (ws vs : List Word) → with_meant m s (ws ++ vs) ≡ with_meant m (with_meant m s ws) vs
-meant_append m s [] vs = refl
-meant_append m s (w ∷ ws) vs = meant_append m (record s { names = known m w ∷ s.names }) ws vs
-
 -- one name more
 pub name_more : (m : Meant) (s now new : CheckScope) (ws : List Word) (i : ℕ) (d : Word) → i < length ws → now ≡ with_meant m s (take i ws) → new ≡ with_meant m now (get_or ws i d ∷ []) → new ≡ with_meant m s (take (i + 1) ws)
 name_more m s now new ws i d inside before is =
     is
     ∙ ap (λ x. with_meant m x (get_or ws i d ∷ [])) before
-    ∙ sym (meant_append m s (take i ws) (get_or ws i d ∷ []))
+    ∙ sym (meant_joined m s (take i ws) (get_or ws i d ∷ []))
     ∙ ap (with_meant m s) (sym (take_at_read ws i d inside).1)
 
 -- one formal more
@@ -47,7 +44,7 @@ formal_more s now new fs i f names inside at before is named =
     is
     ∙ ap (with_meant Inner now) named
     ∙ ap (λ x. with_meant Inner x f.names.items) before
-    ∙ sym (meant_append Inner s (formal_names (map plain_formal (take i fs))) f.names.items)
+    ∙ sym (meant_joined Inner s (formal_names (map plain_formal (take i fs))) f.names.items)
     ∙ ap (with_meant Inner s) (sym (grown fs i f inside at))
 
 -- ---- what is within

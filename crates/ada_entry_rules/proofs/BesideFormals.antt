@@ -11,7 +11,8 @@ use Rattle.ada_refusals.specs.Sooner.{sooner}
 use Rattle.ada_refusals.specs.RefusedFirst.{refused_first}
 use Rattle.ada_entry_rules.specs.inner.Actuals.{beside}
 use Rattle.ada_refusals.proofs.Meeting.{met_append}
-use Rattle.ada_refusals.proofs.Listing.{cut, gone, ended}
+use Rattle.ada_refusals.proofs.Listing.{gone, ended}
+use Rattle.common_lemmas.proofs.Lists.{rest_at}
 
 one_more : (xs : List Site) (x : Site) (rest : List Site) → refused_first (xs ++ (x ∷ rest)) ≡ sooner (refused_first (xs ++ (x ∷ []))) (refused_first rest)
 one_more xs x rest = ap refused_first (sym (append_assoc xs (x ∷ []) rest)) ∙ met_append (xs ++ (x ∷ [])) rest
@@ -32,7 +33,7 @@ module _ {F E : Type 0} (formal : F → scope.FormalPart) (see : E → PExpr) (s
   actuals_more fs xs i x a b c all h is_x before is_b is_c =
       ap (λ o. sooner o (refused_first (actuals_sites s (map formal (drop (i + 1) fs)) (map see (drop (i + 1) xs))))) is_c
       ∙ gone a b all (refused_first (actuals_sites s (map formal (drop (i + 1) fs)) (map see (drop (i + 1) xs)))) (refused_first (actuals_sites s (map formal (drop i fs)) (map see (drop i xs))))
-      (ap (λ ys. refused_first (actuals_sites s (map formal (drop i fs)) (map see ys))) (cut xs i x h is_x)
+      (ap (λ ys. refused_first (actuals_sites s (map formal (drop i fs)) (map see ys))) (rest_at xs i x x h is_x)
       ∙ after_suc fs i (see x) (map see (drop (i + 1) xs))
       ∙ ap (λ k. sooner (refused_first (beside s (option_map formal (slice_get fs i)) (see x))) (refused_first (actuals_sites s (map formal (drop k fs)) (map see (drop (i + 1) xs))))) (sym (add-one i))
       ∙ ap (λ o. sooner o (refused_first (actuals_sites s (map formal (drop (i + 1) fs)) (map see (drop (i + 1) xs))))) (sym is_b))

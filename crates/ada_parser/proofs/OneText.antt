@@ -1,14 +1,13 @@
 -- The items of a text are one list: a token says one thing alone, since no text has two ids.
-use Rattle.std.proofs.Common.{◌≡◌, ℕ, zero, suc, Bool, true, false, cond, List, [], ◌∷◌, ◌++◌, length, Some, slice_get, fold, true≢false, refl, sym, ap, ap₂, ◌∙◌, subst, arith, ◌⊎◌, inl, inr, ◌||◌}
+use Rattle.std.proofs.Common.{◌≡◌, ℕ, Bool, true, false, cond, List, [], ◌∷◌, ◌++◌, length, Some, slice_get, fold, refl, sym, ap, ap₂, ◌∙◌, subst, ◌⊎◌, inl, inr}
 use Rattle.std.specs.List.{AllZip, list_any}
 use Rattle.std.specs.Str.{bytes_eq}
-use Rattle.std.proofs.lemmas.Slice.Eq.{bytes_eq-Decides}
 use Rattle.ada_lexer.specs.declared.kinds.Token.{Token}
 use Rattle.ada_lexer.specs.declared.kinds.TokenKind.{TokenKind}
 use Rattle.ada_lexer.specs.declared.kinds.TokenKind.TheVariants as kinds
 use Rattle.ada_lexer.proofs.Unique.{splits-unique}
 use Rattle.ada_tree.specs.NameList.{predefined, interned}
-use Rattle.ada_tree.proofs.Interning.{AreNames-predefined}
+use Rattle.ada_tree.proofs.Interning.{AreNames-predefined, nowhere, in_longer}
 use Rattle.ada_lexer.specs.declared.symbols.Symbol.{Symbol}
 use Rattle.ada_expr_parser.specs.declared.items.ItemKind.{ItemKind}
 use Rattle.ada_expr_parser.specs.declared.items.ItemKind.TheVariants as item
@@ -45,25 +44,6 @@ no_name kind item.End named is = is
 -- no text has two ids
 abbrev Differ : List (List ℕ) → Type 0
 Differ names = (t : List ℕ) (i j : ℕ) → slice_get names i ≡ Some t → slice_get names j ≡ Some t → i ≡ j
-
-nowhere : (t : List ℕ) (names : List (List ℕ)) (i : ℕ) → list_any (bytes_eq t) names ≡ false → slice_get names i ≡ Some t → ⊥
-nowhere t [] i none at = cc
-nowhere t (u ∷ names) zero none at =
-    let e : u ≡ t = cc in
-    let same : bytes_eq t u ≡ true = (bytes_eq-Decides t u).1 (sym e) in
-    true≢false (sym (ap (λ b. b || list_any (bytes_eq t) names) same) ∙ none)
-nowhere t (u ∷ names) (suc i) none at = nowhere t names i (tail (bytes_eq t u) none) at
-  where
-    tail : (b : Bool) {c : Bool} → (b || c) ≡ false → c ≡ false
-    tail true e = absurd (true≢false e)
-    tail false e = e
-
-in_longer : (names : List (List ℕ)) (t u : List ℕ) (i : ℕ) → slice_get (names ++ t ∷ []) i ≡ Some u → (slice_get names i ≡ Some u) ⊎ ((i ≡ length names) × (t ≡ u))
-in_longer [] t u zero at = inr (refl, cc)
-in_longer [] t u (suc i) at = cc
-in_longer (x ∷ names) t u zero at = inl at
-in_longer (x ∷ names) t u (suc i) at =
-    elim (in_longer names t u i at) [ inl h ↦ inl h | inr h ↦ inr (omega (arith, h.0), h.1) ]
 
 differ_added : (names : List (List ℕ)) (t : List ℕ) → Differ names → list_any (bytes_eq t) names ≡ false → Differ (names ++ t ∷ [])
 differ_added names t differ none u i j at_i at_j = place (in_longer names t u i at_i) (in_longer names t u j at_j)

@@ -10,10 +10,7 @@ use Rattle.syn_event.specs.RuleSelectForm.{alt_kinds, is_accept, is_delay, is_te
 use Rattle.ada_part_places.specs.inner.Waiting.{with_kind, no_forms, forms_behind, forms_in, wrong_form}
 use Rattle.ada_part_places.specs.declared.waits.Forms.{Forms}
 use Rattle.ada_rules.proofs.Listing.{cut}
-
-or_none : (b : Bool) → b ≡ (b || false)
-or_none true = refl
-or_none false = refl
+use Rattle.common_lemmas.proofs.Truth.{or_none}
 
 or_true : (b : Bool) → true ≡ (b || true)
 or_true true = refl

@@ -1,7 +1,7 @@
 -- What is refused first at lists, one element after the other.
 use Rattle.std.specs.Prelude.{◌≡◌, ℕ, ◌+◌, ◌<◌, ◌≤◌, List, [], ◌∷◌, length, map, flat_map, drop, get_or, Option, Some, None, ◌++◌, take}
 use Rattle.std.proofs.Common.{sym, ap, ◌∙◌, get_or}
-use Rattle.std.proofs.lemmas.List.{drop_more, drop_all, map_more, append-nil, take_all, length-map}
+use Rattle.std.proofs.lemmas.List.{drop_all, map_more, append-nil, take_all, length-map}
 use Rattle.ada_tree.specs.Refusals.{Refusal}
 use Rattle.ada_tree.specs.Demand.{Site}
 use Rattle.ada_tree.specs.Sites.{if_there}
@@ -12,9 +12,7 @@ use Rattle.ada_refusals.proofs.Meeting.{met_none, met_append, joined, met_cons, 
 use Rattle.std.proofs.lemmas.Grind.{flat_map-append}
 use Rattle.ada_tree.specs.Scope.{Scope}
 use Rattle.ada_tree.specs.Declaring.{inside}
-
-pub cut : {A : Type 0} (xs : List A) (i : ℕ) (x : A) → i < length xs → x ≡ get_or xs i x → drop i xs ≡ x ∷ drop (i + 1) xs
-cut xs i x h is_x = drop_more xs i x h ∙ ap (λ y. y ∷ drop (i + 1) xs) (sym is_x)
+use Rattle.common_lemmas.proofs.Lists.{rest_at}
 
 -- what is refused so far and what is refused from there on are all
 pub gone : (a b all rest whole : Option Refusal) → whole ≡ sooner b rest → sooner a whole ≡ all → sooner (sooner a b) rest ≡ all
@@ -33,7 +31,7 @@ module _ {A B : Type 0} (see : A → B) (sites : B → List Site) where
       let rest = flat_map sites (map see (drop (i + 1) xs)) in
       ap (λ o. sooner o (refused_first rest)) is_c
       ∙ gone a b all (refused_first rest) (refused_first (flat_map sites (map see (drop i xs))))
-      (ap (λ ys. refused_first (flat_map sites (map see ys))) (cut xs i x h is_x)
+      (ap (λ ys. refused_first (flat_map sites (map see ys))) (rest_at xs i x x h is_x)
       ∙ met_append (sites (see x)) rest
       ∙ ap (λ o. sooner o (refused_first rest)) (sym is_b))
       before

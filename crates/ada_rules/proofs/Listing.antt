@@ -2,13 +2,17 @@
 use Rattle.std.specs.Prelude.{◌≡◌, ℕ, ◌+◌, ◌<◌, ◌≤◌, List, [], ◌∷◌, length, map, flat_map, drop, get_or, Option, refl}
 use Rattle.std.proofs.Common.{sym, ap, ◌∙◌}
 use Rattle.std.proofs.lemmas.List.{drop_all}
-pub use Rattle.ada_refusals.proofs.Listing.{cut}
 use Rattle.syn_event.specs.CheckRefusals.{CheckRefusal}
 use Rattle.syn_event.specs.CheckScope.{CheckScope, CheckSite}
 use Rattle.ada_rules.specs.Sooner.{sooner}
 use Rattle.ada_rules.specs.RefusedFirst.{Standard, refused_first}
 use Rattle.ada_rules.proofs.SoonerLaws.{sooner_assoc, sooner_none}
 use Rattle.ada_rules.proofs.Meeting.{met_none, met_append}
+use Rattle.common_lemmas.proofs.Lists.{rest_at}
+
+-- the element at a place, and what stands behind it
+pub cut : {A : Type 0} (xs : List A) (i : ℕ) (x : A) → i < length xs → x ≡ get_or xs i x → drop i xs ≡ x ∷ drop (i + 1) xs
+cut xs i x h is_x = rest_at xs i x x h is_x
 
 -- what is refused so far and what is refused from there on are all
 pub gone : (a b all rest whole : Option CheckRefusal) → whole ≡ sooner b rest → sooner a whole ≡ all → sooner (sooner a b) rest ≡ all

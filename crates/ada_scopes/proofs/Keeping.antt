@@ -1,23 +1,14 @@
 -- What is looked up in a list that is one longer.
-use Rattle.std.specs.Prelude.{◌≡◌, ◌==◌, ◌<◌, ◌≤◌, ◌+◌, ℕ, nat_eq, nat_lt, Bool, true, false, if◌then◌else◌, List, [], ◌∷◌, ◌++◌, length, take, position, Option, Some, None, refl}
-use Rattle.std.proofs.Common.{sym, ap, ◌∙◌, get_or, arith}
+use Rattle.std.specs.Prelude.{◌≡◌, ◌==◌, ◌<◌, ◌+◌, ℕ, nat_eq, nat_lt, if◌then◌else◌, List, [], ◌∷◌, ◌++◌, length, take, position, Option, Some, None}
+use Rattle.std.proofs.Common.{sym, ap, ◌∙◌, get_or}
 use Rattle.std.specs.HashMap.{HashMap, get}
-use Rattle.std.proofs.lemmas.Bool.Decides.{nat_tests}
 use Rattle.ada_tree.specs.declared.naming.NameId.{NameId}
 use Rattle.ada_tree.specs.declared.static_types.Kind.{Kind}
 use Rattle.ada_tree.specs.StaticValue.{first_of_two, position_in, literal_position}
 use Rattle.tree_lemmas.proofs.FirstOfTwo.{find_push, first_of_three, first_or_none, position_more, position_push}
 
-found_test : {X : Type 0} (x : X) (o r q : Option X) (b : Bool) → o ≡ first_of_two r q → (if b then Some x else o) ≡ first_of_two (if b then Some x else r) q
-found_test x o r q true h = refl
-found_test x o r q false h = h
-
 abbrev place_in : ℕ → ℕ → Option ℕ
 place_in place count = if nat_lt place count then Some place else None
-
-at_end : (place count : ℕ) (b : Bool) → place ≤ count → place_in (if place == count then count + (if b then 0 else 1) else place) (count + 1) ≡ first_of_two (place_in place count) (if b then Some count else None)
-at_end place count true h = grind (arith, nat_tests)
-at_end place count false h = grind (arith, nat_tests)
 
 pub literal_push : (kinds : List Kind) (kind : Kind) (id : NameId) → literal_position (kinds ++ kind ∷ []) id ≡ first_of_two (literal_position kinds id) (position_in id kind)
 literal_push [] kind id = first_or_none (position_in id kind)

@@ -1,5 +1,5 @@
 -- The tasks of a program and their entries, one behind the other.
-use Rattle.std.specs.Prelude.{◌≡◌, ℕ, ℤ, zero, suc, pos, ◌+ℤ◌, ◌+◌, ◌<◌, List, [], ◌∷◌, ◌++◌, length, map, flat_map, take, Option, Some, refl}
+use Rattle.std.specs.Prelude.{◌≡◌, ℕ, ℤ, zero, suc, pos, ◌+ℤ◌, ◌+◌, ◌<◌, List, [], ◌∷◌, ◌++◌, length, map, flat_map, take, Option, Some}
 use Rattle.std.proofs.Common.{sym, ap, ◌∙◌, get_or, append_assoc, arith}
 use Rattle.std.proofs.lemmas.Int.{ints}
 use Rattle.std.proofs.lemmas.List.{map_more, append-nil, map-append, length-append, length-map}
@@ -14,6 +14,7 @@ use Rattle.syn_event.specs.NamedTasks.{NamedTasks, task_names_of, NumberedTask, 
 use Rattle.syn_event.specs.AllNumbers.{info_of_task, entry_of_task, entries_of_tasks, all_numbers}
 use Rattle.ada_task_numbers.specs.inner.TasksWithin.{tasks_within}
 use Rattle.common_lemmas.proofs.Numbers.{int_more_zero}
+use Rattle.syn_event.proofs.Counts.{numbers_length}
 
 one_step : (z : ℤ) (n : ℕ) → (z +ℤ pos 1) +ℤ pos n ≡ z +ℤ pos (suc n)
 one_step z n = omega (arith, ints)
@@ -24,10 +25,6 @@ suc_more n = omega arith
 numbers_more : (first : ℤ) (n : ℕ) → numbers_on first (n + 1) ≡ numbers_on first n ++ (first +ℤ pos n) ∷ []
 numbers_more first zero = ap (λ z. z ∷ []) (sym (int_more_zero first))
 numbers_more first (suc n) = ap (numbers_on first) (suc_more n) ∙ ap (λ l. first ∷ l) (numbers_more (first +ℤ pos 1) n ∙ ap (λ z. numbers_on (first +ℤ pos 1) n ++ z ∷ []) (one_step first n))
-
-numbers_length : (first : ℤ) (n : ℕ) → length (numbers_on first n) ≡ n
-numbers_length first zero = refl
-numbers_length first (suc n) = ap suc (numbers_length (first +ℤ pos 1) n)
 
 pub within_more : (x : NamedTasks) (first : ℤ) (n : ℕ) → tasks_within x first (n + 1) ≡ tasks_within x first n ++ numbered_task x (Some (first +ℤ pos n)) ∷ []
 within_more x first n = ap (map (λ i. numbered_task x (Some i))) (numbers_more first n) ∙ map-append (λ (i : ℤ). numbered_task x (Some i)) (numbers_on first n) ((first +ℤ pos n) ∷ [])

@@ -9,6 +9,7 @@ use Rattle.std.proofs.lemmas.List.Sums.{fold-append}
 use Rattle.std.proofs.lemmas.Option.{slice_get-map, slice_get-get_or, slice_get_within}
 use Rattle.indexmap.specs.IndexSet.{insert_key}
 use Rattle.ada_tree.specs.NameList.{predefined, AreNames, interned}
+use Rattle.common_lemmas.proofs.Lists.{last_at}
 
 -- a test of the texts is a test of the keys
 pub list_any-map : {K : Type 0} (p : List ℕ → Bool) (g : K → List ℕ) (ks : List K) → list_any p (map g ks) ≡ list_any (λ k. p (g k)) ks
@@ -29,7 +30,7 @@ found_text g t ks i h =
     slice_get-map g ks i ∙ ap (option_map g) f.1 ∙ ap Some (sym ((bytes_eq-Decides t (g f.0)).0 f.2))
 
 -- a text that no test finds is nowhere
-nowhere : (t : List ℕ) (ts : List (List ℕ)) (i : ℕ) → list_any (bytes_eq t) ts ≡ false → slice_get ts i ≡ Some t → ⊥
+pub nowhere : (t : List ℕ) (ts : List (List ℕ)) (i : ℕ) → list_any (bytes_eq t) ts ≡ false → slice_get ts i ≡ Some t → ⊥
 nowhere t [] i none at = cc
 nowhere t (u ∷ ts) zero none at =
     let e : u ≡ t = cc in
@@ -42,17 +43,12 @@ nowhere t (u ∷ ts) (suc i) none at = nowhere t ts i (tail (bytes_eq t u) none)
     tail false e = e
 
 -- what stands in a list with one more at its end
-in_longer : (ts : List (List ℕ)) (t u : List ℕ) (i : ℕ) → slice_get (ts ++ t ∷ []) i ≡ Some u → (slice_get ts i ≡ Some u) ⊎ ((i ≡ length ts) × (t ≡ u))
+pub in_longer : (ts : List (List ℕ)) (t u : List ℕ) (i : ℕ) → slice_get (ts ++ t ∷ []) i ≡ Some u → (slice_get ts i ≡ Some u) ⊎ ((i ≡ length ts) × (t ≡ u))
 in_longer [] t u zero at = inr (refl, cc)
 in_longer [] t u (suc i) at = cc
 in_longer (x ∷ ts) t u zero at = inl at
 in_longer (x ∷ ts) t u (suc i) at =
     elim (in_longer ts t u i at) [ inl h ↦ inl h | inr h ↦ inr (omega (arith, h.0), h.1) ]
-
--- the last of a list with one more at its end
-pub slice_get-last : {X : Type 0} (xs : List X) (x : X) → slice_get (xs ++ x ∷ []) (length xs) ≡ Some x
-slice_get-last [] x = refl
-slice_get-last (y ∷ xs) x = slice_get-last xs x
 
 -- the names stay names where one is added that was not there
 pub AreNames-added : (ts : List (List ℕ)) (t : List ℕ) → AreNames ts → list_any (bytes_eq t) ts ≡ false → length ts < 2 ^ 32 → AreNames (ts ++ t ∷ [])
@@ -132,7 +128,7 @@ fold_distinct ts (u ∷ us) distinct =
     append_assoc ts (u ∷ []) us
   where
     at_seam : slice_get (ts ++ u ∷ us) (length ts) ≡ Some u
-    at_seam = rw append_assoc at (slice_get-longer (ts ++ u ∷ []) us u (length ts) (slice_get-last ts u))
+    at_seam = rw append_assoc at (slice_get-longer (ts ++ u ∷ []) us u (length ts) (last_at ts u))
 
     none : (b : Bool) → list_any (bytes_eq u) ts ≡ b → list_any (bytes_eq u) ts ≡ false
     none false e = e

@@ -23,15 +23,16 @@ use Rattle.ada_types.specs.declared.walked_decls.WalkedDecl.{WalkedDecl}
 use Rattle.ada_types.specs.declared.walked_decls.WalkedDecls.{WalkedDecls}
 use Rattle.ada_refusals.proofs.SoonerLaws.{sooner_assoc}
 use Rattle.ada_refusals.proofs.Meeting.{met_none, met_append}
-use Rattle.ada_refusals.proofs.Listing.{cut, ended}
+use Rattle.ada_refusals.proofs.Listing.{ended}
 use Rattle.common_lemmas.proofs.Numbers.{within_sum}
+use Rattle.common_lemmas.proofs.Lists.{rest_at}
 
 -- the declarations from a place on
 abbrev pub from : ℕ → List Decl → PDecls
 from i xs = decls_of (map plain_decl (drop i xs))
 
 from_more : (xs : List Decl) (i : ℕ) (x : Decl) → i < length xs → x ≡ get_or xs i x → from i xs ≡ decl_then (plain_decl x) (from (i + 1) xs)
-from_more xs i x h is_x = ap (λ l. decls_of (map plain_decl l)) (cut xs i x h is_x)
+from_more xs i x h is_x = ap (λ l. decls_of (map plain_decl l)) (rest_at xs i x x h is_x)
 
 from_end : (xs : List Decl) (i : ℕ) → length xs ≤ i → from i xs ≡ no_decl
 from_end xs i h = ap (λ l. decls_of (map plain_decl l)) (drop_all i xs h)

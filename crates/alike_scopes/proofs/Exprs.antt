@@ -6,8 +6,7 @@ use Rattle.ada_tree.specs.declared.expressions.UnaryOp.{UnaryOp}
 use Rattle.ada_tree.specs.declared.expressions.UnaryOp.TheVariants as unary
 use Rattle.ada_tree.specs.declared.expressions.BinaryOp.{BinaryOp}
 use Rattle.ada_tree.specs.declared.expressions.BinaryOp.TheVariants.{And, Or, Xor, AndThen, OrElse, Equal, NotEqual, Less, LessEqual, Greater, GreaterEqual, Plus, Minus, Times, Divide, Mod, Rem}
-use Rattle.ada_tree.specs.declared.static_types.Kind.{Kind}
-use Rattle.ada_tree.specs.declared.static_types.Kind.TheVariants.{Integer, Truth, Enumeration, Array}
+use Rattle.ada_tree.specs.declared.static_types.Kind.TheVariants.{Integer, Truth}
 use Rattle.ada_tree.specs.declared.static_types.Mark.{Mark}
 use Rattle.ada_tree.specs.TypeTable.{TypeTable}
 use Rattle.ada_tree.specs.Attributes.{Attribute, First, Last, Pos, Val, Succ, Pred, Image, NoAttribute, attribute_of, is_bound}
@@ -22,16 +21,9 @@ use Rattle.alike_scopes.specs.Old.{IsOldExpr, IsOldBounds, IsOldDrange}
 use Rattle.alike_scopes.specs.Laws.{SameExpr, SameDrange, ExprsAreSame, DrangesAreSame}
 use Rattle.alike_scopes.proofs.Marks.{kind-ranged}
 use Rattle.alike_scopes.proofs.Readings.{IsNoMark, is_task_mark, is_no_mark, is_unknown_mark, SameReading, both_scalar, both_rows, both_nothing, both_unclear, SameMarking, both_scalars, both_arrays, both_no_marks, both_unclear_marks, reading-same, marking-same, name-same, component-same, scalar-same, nothing-kind, nothing-part, no-mark-kind}
+use Rattle.rewritten_types.proofs.Lookups.{of-kind-only}
 
 -- ---- static values
-
--- whether a value is one of a kind hangs on kinds of values alone
-of-kind-only : (o : Option Kind) (z : ℤ) → is_of_kind o z ≡ is_of_kind (scalar_only o) z
-of-kind-only (Some Integer) z = refl
-of-kind-only (Some Truth) z = refl
-of-kind-only (Some (Enumeration names)) z = refl
-of-kind-only (Some (Array index first last part)) z = refl
-of-kind-only None z = refl
 
 -- what comes after a value is the same where it is so for each value
 then-same : (f g : ℤ → Result ℤ Span) → ((z : ℤ) → f z ≡ g z) → (r : Result ℤ Span) → then_do f r ≡ then_do g r

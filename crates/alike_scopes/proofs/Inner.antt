@@ -1,10 +1,8 @@
 -- The objects of a body, the formals of an accept and the parameter of a loop keep two scopes alike; so do objects of new names on the right side alone.
-use Rattle.std.proofs.Common.{◌≡◌, ℕ, suc, ◌+◌, Bool, true, false, ◌==◌, cond, if◌then◌else◌, List, [], ◌∷◌, find, position, slice_get, Option, Some, None, option_map, refl, sym, ap, ◌∙◌, subst, arith}
-use Rattle.std.proofs.lemmas.Option.{none-some}
-use Rattle.std.specs.List.{AllByRecursion, position_from}
-use Rattle.std.proofs.lemmas.Iterator.Adapters.{position_from-zero}
+use Rattle.std.proofs.Common.{◌≡◌, ℕ, Bool, false, ◌==◌, List, [], ◌∷◌, Option, Some, None, option_map, refl, sym, ap, ◌∙◌, subst}
+use Rattle.std.specs.List.{AllByRecursion}
 use Rattle.common_lemmas.proofs.Numbers.{equal_is}
-use Rattle.common_lemmas.proofs.Lists.{found_passes}
+use Rattle.common_lemmas.proofs.Lists.{found_passes, found_at}
 use Rattle.common_lemmas.proofs.Truth.{if_false}
 use Rattle.ada_tree.specs.declared.naming.Word.{Word}
 use Rattle.ada_tree.specs.declared.statements.ParMode.{ParMode}
@@ -24,7 +22,8 @@ use Rattle.alike_scopes.specs.Laws.{InsideIsAlike, FormalsAreAlike, LoopIsAlike,
 use Rattle.alike_scopes.proofs.Readings.{IsNoMark, is_task_mark, is_no_mark, is_unknown_mark, SameMarking, both_scalars, both_arrays, both_no_marks, both_unclear_marks}
 use Rattle.alike_scopes.proofs.Exprs.{mark-same, drange-same, drange-scalar}
 use Rattle.alike_scopes.proofs.Objects.{declared-same}
-use Rattle.alike_scopes.proofs.Naming.{name-both, names-both, names-new, tables-kept, table-right, alike-on, inside-alike, names-own}
+use Rattle.alike_scopes.proofs.Naming.{name-both, names-both, names-new, tables-kept, table-right, alike-on, inside-alike}
+use Rattle.tree_lemmas.proofs.Declared.{formals_own, names_own}
 
 -- ---- objects
 
@@ -39,7 +38,7 @@ object-behind s names constant shape init main =
     (if_false s.in_main _ (declared_object s constant shape).types main)
 
 pub object-own : (s : Scope) (names : List Word) (constant : Bool) (shape : PShape) (init : Option PInit) → (after_object s names constant shape init).own ≡ s.own
-object-own s names constant shape init = names-own (declared_object s constant shape).thing names (with_types (with_constants s names init (declared_object s constant shape)) s)
+object-own s names constant shape init = names_own (declared_object s constant shape).thing names (with_types (with_constants s names init (declared_object s constant shape)) s)
 
 pub object-main : (s : Scope) (names : List Word) (constant : Bool) (shape : PShape) (init : Option PInit) → (after_object s names constant shape init).in_main ≡ s.in_main
 object-main s names constant shape init = names-main (declared_object s constant shape).thing names (with_types (with_constants s names init (declared_object s constant shape)) s)
@@ -142,30 +141,12 @@ module _ (old : ℕ → Bool) where
       (formal-same s.types t.types f.mode (marking s f.mark.name) (marking t f.mark.name) (mark-same old s t n f.mark.name o.0)))
       o.1
 
-formals-own : (fs : List PFormal) (s : Scope) → (with_formals s fs).own ≡ s.own
-formals-own [] s = refl
-formals-own (f ∷ fs) s =
-    formals-own fs (with_names (formal_thing f.mode (marking s f.mark.name)) s f.names) ∙ names-own (formal_thing f.mode (marking s f.mark.name)) f.names s
-
 formals-main : (fs : List PFormal) (s : Scope) → (with_formals s fs).in_main ≡ s.in_main
 formals-main [] s = refl
 formals-main (f ∷ fs) s =
     formals-main fs (with_names (formal_thing f.mode (marking s f.mark.name)) s f.names) ∙ names-main (formal_thing f.mode (marking s f.mark.name)) f.names s
 
 -- ---- loops
-
--- what is found has a first place
-found-from : {A : Type 0} (p : A → Bool) (i : ℕ) (xs : List A) (y : A) → find p xs ≡ Some y → (j : ℕ) × (position_from p i xs ≡ Some (i + j)) × (slice_get xs j ≡ Some y)
-found-from p i [] y e = absurd (none-some y e)
-found-from {A = A} p i (x ∷ xs) y e = by_test (p x) e (found-from p (i + 1) xs y)
-  where
-    by_test : (b : Bool) → (if b then Some x else find p xs) ≡ Some y → (find p xs ≡ Some y → (j : ℕ) × (position_from p (i + 1) xs ≡ Some ((i + 1) + j)) × (slice_get xs j ≡ Some y)) →
-        (j : ℕ) × (cond b (Some i) (position_from p (i + 1) xs) ≡ Some (i + j)) × (slice_get (x ∷ xs) j ≡ Some y)
-    by_test true f rest = let z : i ≡ i + 0 = omega arith in (0, ap Some z, f)
-    by_test false f rest = let h = rest f in let z : (i + 1) + h.0 ≡ i + suc h.0 = omega arith in (suc h.0, h.1 ∙ ap Some z, h.2)
-
-found-place : {A : Type 0} (p : A → Bool) (xs : List A) (y : A) → find p xs ≡ Some y → (j : ℕ) × (position p xs ≡ Some j) × (slice_get xs j ≡ Some y)
-found-place p xs y e = let h = found-from p 0 xs y e in let z : 0 + h.0 ≡ h.0 = omega arith in (h.0, position_from-zero p xs ∙ h.1 ∙ ap Some z, h.2)
 
 -- the mark at the first place of a kind
 abbrev bounds_of : Mark → Range
@@ -175,8 +156,8 @@ module _ (old : ℕ → Bool) (s t : Scope) (n : SameNames old s t) where
   first-same : (k : ℕ) → IsScalar s.types k → (i : ℕ) × (j : ℕ) × (first_mark_of s.types k ≡ Some i) × (first_mark_of t.types k ≡ Some j) × SameScalar s.types t.types i j
   first-same k h =
       let m = n.types.first_marks k h in
-      let a = found-place (λ (x : Mark). x.kind == k) s.types.marks m.0 m.1 in
-      let b = found-place (λ (x : Mark). x.kind == k) t.types.marks m.0 m.2 in (
+      let a = found_at (λ (x : Mark). x.kind == k) s.types.marks m.0 m.1 in
+      let b = found_at (λ (x : Mark). x.kind == k) t.types.marks m.0 m.2 in (
         a.0,
         b.0,
         a.1,
@@ -211,7 +192,7 @@ pub inside_is_alike : InsideIsAlike
 inside_is_alike old s t a = inside-alike old s t a
 
 pub formals_are_alike : FormalsAreAlike
-formals_are_alike old s t a fs o = alike-on old s t _ _ a (formals-names old fs s t a.names o) (formals-own fs s) (formals-own fs t) (formals-main fs s) (formals-main fs t)
+formals_are_alike old s t a fs o = alike-on old s t _ _ a (formals-names old fs s t a.names o) (formals_own fs s) (formals_own fs t) (formals-main fs s) (formals-main fs t)
 
 pub loop_is_alike : LoopIsAlike
 loop_is_alike old s t a w x o = alike-on old s t _ _ a (loop-names old s t a.names w x o) refl refl refl refl

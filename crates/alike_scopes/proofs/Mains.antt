@@ -16,7 +16,7 @@ use Rattle.alike_scopes.proofs.Naming.{name-left, name-right, names-new, table-r
 use Rattle.alike_scopes.proofs.Inner.{object-own, object-main}
 
 -- a task is no value
-task-none : (of_kind : Bool) (entries : List EntryPart) → IsNoValue (Some (task_thing of_kind entries))
+pub task-none : (of_kind : Bool) (entries : List EntryPart) → IsNoValue (Some (task_thing of_kind entries))
 task-none true entries = a_task_type entries refl
 task-none false entries = a_task entries refl
 

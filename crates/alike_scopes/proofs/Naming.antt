@@ -96,8 +96,3 @@ module _ (old : ℕ → Bool) where
 
   pub inside-alike : (s t : Scope) → Alike old s t → Alike old (inside s) (inside t)
   inside-alike s t a = record { names = record { types = a.names.types; things = a.names.things }; own = a.own; main = a.main }
-
--- names change neither the own entries nor the place
-pub names-own : (x : Thing) (ws : List Word) (s : Scope) → (with_names x s ws).own ≡ s.own
-names-own x [] s = refl
-names-own x (w ∷ ws) s = names-own x ws (with_name x s w)

@@ -19,6 +19,7 @@ use Rattle.alike_scopes.specs.Old.{IsOldBounds, IsOldSubind, IsOldDrange, IsOldS
 use Rattle.alike_scopes.proofs.Marks.{values-grown}
 use Rattle.alike_scopes.proofs.Readings.{IsNoMark, is_task_mark, is_no_mark, is_unknown_mark, SameMarking, both_scalars, both_arrays, both_no_marks, both_unclear_marks}
 use Rattle.alike_scopes.proofs.Exprs.{mark-same, range-same, drange-same}
+use Rattle.rewritten_types.proofs.Moving.{no_array}
 
 -- ---- marks that are made
 
@@ -163,14 +164,10 @@ unclear_here s = record { types = s.types; thing = Unclear }
 unmade-object : (s : Scope) (constant : Bool) (m : Made) → m ≡ made_none s.types → of_made constant m ≡ unclear_here s
 unmade-object s constant m e = ap (of_made constant) e ∙ ap (λ o. record { types = s.types; thing = o }) (unclear-object constant)
 
-no_row : (T : TypeTable) (o : Option Range) → made_array None T o None ≡ made_none T
-no_row T (Some r) = refl
-no_row T None = refl
-
 unmade-row : (s : Scope) (constant : Bool) (o : Option Range) (m : Made) → m ≡ made_none s.types → of_made constant (made_array None m.types o m.mark) ≡ unclear_here s
 unmade-row s constant o m e =
     ap (λ (x : Made). of_made constant (made_array None x.types o x.mark)) e
-    ∙ ap (of_made constant) (no_row s.types o)
+    ∙ ap (of_made constant) (no_array s.types o)
     ∙ ap (λ x. record { types = s.types; thing = x }) (unclear-object constant)
 
 no_task_row : (o : Option Range) (entries : List EntryPart) → task_array false o entries ≡ Unclear

@@ -1,28 +1,17 @@
 -- Tables that say the same of old names: two that keep a sound one, one with itself, and two that keep such tables.
-use Rattle.std.proofs.Common.{◌≡◌, ℕ, suc, pos, Bool, true, ◌==◌, if◌then◌else◌, List, [], ◌∷◌, Option, Some, None, option_map, refl, sym, ap, ap₂, ◌∙◌}
+use Rattle.std.proofs.Common.{◌≡◌, ℕ, pos, Bool, true, ◌==◌, if◌then◌else◌, Option, Some, option_map, refl, sym, ap, ap₂, ◌∙◌}
 use Rattle.ada_tree.specs.declared.naming.NameId.{NameId}
-use Rattle.ada_tree.specs.declared.static_types.Kind.{Kind}
 use Rattle.ada_tree.specs.declared.static_types.Constant.{Constant}
 use Rattle.ada_tree.specs.TypeTable.{TypeTable}
 use Rattle.ada_tree.specs.Attributes.{false_name, true_name}
-use Rattle.ada_tree.specs.StaticValue.{constant_named, position_in, first_of_two, literal_position, value_named}
-use Rattle.rewritten_types.specs.Agreement.{Literal, literal_among, literal_named, Keeps, Whole}
+use Rattle.ada_tree.specs.StaticValue.{constant_named, first_of_two, value_named}
+use Rattle.rewritten_types.specs.Agreement.{Literal, literal_named, Keeps, Whole}
 use Rattle.rewritten_types.proofs.Owning.{own-kept}
 use Rattle.alike_scopes.specs.Alike.{SameTypes}
 use Rattle.alike_scopes.specs.Laws.{RootedIsSame}
+use Rattle.rewritten_types.proofs.Lookups.{position-among}
 
 -- ---- values
-
--- the position of a literal is that of the literal with its kind
-literal-place : (ks : List Kind) (k : ℕ) (id : NameId) → literal_position ks id ≡ option_map (λ (l : Literal). l.position) (literal_among ks k id)
-literal-place [] k id = refl
-literal-place (x ∷ ks) k id = by_position (position_in id x) (literal-place ks (suc k) id)
-  where
-    by_position : (o : Option ℕ) → literal_position ks id ≡ option_map (λ (l : Literal). l.position) (literal_among ks (suc k) id) →
-        first_of_two o (literal_position ks id)
-        ≡ option_map (λ (l : Literal). l.position) (first_of_two (option_map (λ n. record { kind = k; position = n }) o) (literal_among ks (suc k) id))
-    by_position (Some n) e = refl
-    by_position None e = e
 
 -- the value of a name is told by its constant and its literal
 value-told : (T U : TypeTable) (id : NameId) → constant_named T id ≡ constant_named U id → literal_named T id ≡ literal_named U id → value_named T id ≡ value_named U id
@@ -33,7 +22,7 @@ value-told T U id c l =
     else if id.0 == true_name then Some (pos 1)
     else first_of_two (option_map (λ z. z.value) x) (option_map (λ k. pos k) y))
     c
-    (literal-place T.kinds 0 id ∙ ap (option_map (λ (x : Literal). x.position)) l ∙ sym (literal-place U.kinds 0 id))
+    (position-among T.kinds 0 id ∙ ap (option_map (λ (x : Literal). x.position)) l ∙ sym (position-among U.kinds 0 id))
 
 module _ (old : ℕ → Bool) where
   pub value-kept : (T U : TypeTable) → Keeps old T U → (id : NameId) → old id.0 ≡ true → value_named U id ≡ value_named T id

@@ -10,8 +10,7 @@ use Rattle.syn_event.specs.declared.limits.What.TheVariants.{Alternatives}
 use Rattle.syn_event.specs.CheckSites as check
 use Rattle.asked_stmts.specs.Asked.{Asks, AskedStmt, AskedStmts, AskedSome, AskedMaybe, AskedAccept, AskedAlts, AskedKind, AskedArms, AskedCaseArms, AskedBody, AskedHandlers}
 use Rattle.asked_stmts.specs.Kinds.{check_asks, before_sites}
-use Rattle.asked_stmts.proofs.Lists.{all_first, all_second, all_third, all_three}
-use Rattle.common_lemmas.proofs.Lists.{all_back, all_front, all_joined}
+use Rattle.common_lemmas.proofs.Lists.{all_back, all_front, all_joined, all_three, all_first, all_second, all_third}
 
 module _ (P : CheckSite → Type 0) where
   abbrev a : Asks CheckScope

@@ -1,4 +1,3 @@
-pub mod Lists
 pub mod Placed
 pub mod Typed
 pub mod Checked

@@ -13,8 +13,7 @@ use Rattle.ada_tree.specs.Demand.{labels, calls, Site}
 use Rattle.ada_tree.specs.Sites as typed
 use Rattle.asked_stmts.specs.Asked.{Asks, AskedStmt, AskedStmts, AskedSome, AskedMaybe, AskedAccept, AskedAlts, AskedKind, AskedArms, AskedCaseArms, AskedBody, AskedHandlers}
 use Rattle.asked_stmts.specs.Kinds.{type_asks}
-use Rattle.asked_stmts.proofs.Lists.{all_first, all_second, all_third, all_three, all_unflat, all_flat}
-use Rattle.common_lemmas.proofs.Lists.{all_back, all_front, all_joined}
+use Rattle.common_lemmas.proofs.Lists.{all_back, all_front, all_joined, all_three, all_first, all_second, all_third, all_unflat, all_flat}
 
 module _ (P : Site → Type 0) where
   abbrev a : Asks Scope

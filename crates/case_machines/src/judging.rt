@@ -41,7 +41,7 @@ pub enum Judging {
 }
 
 /// `judge_all` and `judge`: the verdict on the question's events, or the verdicts behind each of them, where so many local steps are allowed.
-#[tactic(auto, using(crate::proofs::Knowing::nothing_follows))]
+#[tactic(auto, using(debug_judge::proofs::Giving::nothing_follows))]
 pub fn judge_question(
     alloc: Global,
     known: &Known,

@@ -1,11 +1,14 @@
 -- Lists: what stands at a place, what holds of all elements, what is found.
-use Rattle.std.proofs.Common.{◌≡◌, ◌==◌, ◌<◌, ◌+◌, ℕ, zero, suc, Bool, true, false, cond, if◌then◌else◌, Option, Some, None, List, [], ◌∷◌, ◌++◌, length, map, flat_map, find, drop, get_or, slice_get, option_copied, Bor, refl, sym, ap, ◌∙◌, subst, arith}
-use Rattle.std.specs.List.{AllByRecursion, filter}
+use Rattle.std.proofs.Common.{◌≡◌, ◌==◌, ◌<◌, ◌+◌, ℕ, zero, suc, Bool, true, false, cond, if◌then◌else◌, Option, Some, None, List, [], ◌∷◌, ◌++◌, length, map, flat_map, find, drop, get_or, slice_get, option_copied, Bor, refl, sym, ap, ◌∙◌, subst, arith, position, true≢false}
+use Rattle.std.specs.List.{AllByRecursion, filter, position_from}
 use Rattle.std.specs.Slice.{IsItemAt}
 use Rattle.std.proofs.lemmas.Option.{none-some, slice_get_within, slice_get_past, slice_get_read, get_or_from_slice_get}
 use Rattle.std.proofs.lemmas.Bool.{eqb-true}
 use Rattle.std.proofs.lemmas.List.{drop_more}
 use Rattle.common_lemmas.proofs.Options.{some_same}
+use Rattle.std.proofs.lemmas.Iterator.Adapters.{position_from-zero}
+use Rattle.std.specs.Str.{bytes_eq}
+use Rattle.std.proofs.lemmas.Slice.Eq.{bytes_eq-Decides}
 
 -- ---- empty or not
 
@@ -39,6 +42,16 @@ empty_by (x ∷ xs) h = absurd (omega (arith, eqb-true (length (x ∷ xs)) 0 h))
 pub append_last : {A : Type 0} (before : List A) (x : A) (behind : List A) → (before ++ x ∷ []) ++ behind ≡ before ++ x ∷ behind
 append_last [] x behind = refl
 append_last (y ∷ before) x behind = ap (λ l. y ∷ l) (append_last before x behind)
+
+pub mapped_length : {A B : Type 0} (f : A → B) (xs : List A) → length (map f xs) ≡ length xs
+mapped_length f [] = refl
+mapped_length f (x ∷ xs) = ap suc (mapped_length f xs)
+
+pub first_same : {A : Type 0} {x y : A} {xs ys : List A} → x ∷ xs ≡ y ∷ ys → x ≡ y
+first_same e = cc
+
+pub rest_same : {A : Type 0} {x y : A} {xs ys : List A} → x ∷ xs ≡ y ∷ ys → xs ≡ ys
+rest_same e = cc
 
 -- ---- at a place
 
@@ -84,13 +97,40 @@ pub all_joined : {A : Type 0} (P : A → Type 0) (xs ys : List A) → AllByRecur
 all_joined P [] ys h k = k
 all_joined P (x ∷ xs) ys h k = (h.0, all_joined P xs ys h.1 k)
 
+pub all_first : {A : Type 0} (P : A → Type 0) (xs ys zs : List A) → AllByRecursion P (xs ++ ys ++ zs) → AllByRecursion P xs
+all_first P xs ys zs h = all_front P xs ys (all_front P (xs ++ ys) zs h)
+
+pub all_second : {A : Type 0} (P : A → Type 0) (xs ys zs : List A) → AllByRecursion P (xs ++ ys ++ zs) → AllByRecursion P ys
+all_second P xs ys zs h = all_back P xs ys (all_front P (xs ++ ys) zs h)
+
+pub all_third : {A : Type 0} (P : A → Type 0) (xs ys zs : List A) → AllByRecursion P (xs ++ ys ++ zs) → AllByRecursion P zs
+all_third P xs ys zs h = all_back P (xs ++ ys) zs h
+
+pub all_three : {A : Type 0} (P : A → Type 0) (xs ys zs : List A) → AllByRecursion P xs → AllByRecursion P ys → AllByRecursion P zs → AllByRecursion P (xs ++ ys ++ zs)
+all_three P xs ys zs h g f = all_joined P (xs ++ ys) zs (all_joined P xs ys h g) f
+
 pub all_weaker : {A : Type 0} (P Q : A → Type 0) (xs : List A) → ((x : A) → P x → Q x) → AllByRecursion P xs → AllByRecursion Q xs
 all_weaker P Q [] f h = tt
 all_weaker P Q (x ∷ xs) f h = (f x h.0, all_weaker P Q xs f h.1)
 
-pub all_flat : {A B : Type 0} (P : B → Type 0) (f : A → List B) (xs : List A) → AllByRecursion P (flat_map f xs) → AllByRecursion (λ x. AllByRecursion P (f x)) xs
+pub all_unflat : {A B : Type 0} (P : B → Type 0) (f : A → List B) (xs : List A) → AllByRecursion P (flat_map f xs) → AllByRecursion (λ x. AllByRecursion P (f x)) xs
+all_unflat P f [] h = tt
+all_unflat P f (x ∷ xs) h = (all_front P (f x) (flat_map f xs) h, all_unflat P f xs (all_back P (f x) (flat_map f xs) h))
+
+pub all_flat : {A B : Type 0} (P : B → Type 0) (f : A → List B) (xs : List A) → AllByRecursion (λ x. AllByRecursion P (f x)) xs → AllByRecursion P (flat_map f xs)
 all_flat P f [] h = tt
-all_flat P f (x ∷ xs) h = (all_front P (f x) (flat_map f xs) h, all_flat P f xs (all_back P (f x) (flat_map f xs) h))
+all_flat P f (x ∷ xs) h = all_joined P (f x) (flat_map f xs) h.0 (all_flat P f xs h.1)
+
+pub all_through : {A B : Type 0} (P : A → Type 0) (Q : B → Type 0) (f : A → List B) → ((x : A) → P x → AllByRecursion Q (f x)) → (xs : List A) → AllByRecursion P xs → AllByRecursion Q (flat_map f xs)
+all_through P Q f each xs h = all_flat Q f xs (all_weaker P (λ x. AllByRecursion Q (f x)) xs each h)
+
+pub all_unmapped : {A B : Type 0} (P : B → Type 0) (f : A → B) (xs : List A) → AllByRecursion P (map f xs) → AllByRecursion (λ x. P (f x)) xs
+all_unmapped P f [] h = tt
+all_unmapped P f (x ∷ xs) h = (h.0, all_unmapped P f xs h.1)
+
+pub all_paired : {A : Type 0} (P Q : A → Type 0) (xs : List A) → AllByRecursion P xs → AllByRecursion Q xs → AllByRecursion (λ x. P x × Q x) xs
+all_paired P Q [] h k = tt
+all_paired P Q (x ∷ xs) h k = ((h.0, k.0), all_paired P Q xs h.1 k.1)
 
 pub all_by_place : {A : Type 0} (P : A → Type 0) (xs : List A) → ((k : ℕ) (x : A) → slice_get xs k ≡ Some x → P x) → AllByRecursion P xs
 all_by_place P [] h = tt
@@ -139,3 +179,21 @@ found_some {A} p (y ∷ xs) (suc k) x e h = by_test (p y) (found_some p xs k x e
     by_test : (b : Bool) → (z : A) × (find p xs ≡ Some z) → (z : A) × ((if b then Some y else find p xs) ≡ Some z)
     by_test true r = (y, refl)
     by_test false r = r
+
+-- what is found has a first place
+found_at_from : {A : Type 0} (p : A → Bool) (i : ℕ) (xs : List A) (y : A) → find p xs ≡ Some y → (j : ℕ) × (position_from p i xs ≡ Some (i + j)) × (slice_get xs j ≡ Some y)
+found_at_from p i [] y e = absurd (none-some y e)
+found_at_from {A = A} p i (x ∷ xs) y e = by_test (p x) e (found_at_from p (i + 1) xs y)
+  where
+    by_test : (b : Bool) → (if b then Some x else find p xs) ≡ Some y → (find p xs ≡ Some y → (j : ℕ) × (position_from p (i + 1) xs ≡ Some ((i + 1) + j)) × (slice_get xs j ≡ Some y)) →
+        (j : ℕ) × (cond b (Some i) (position_from p (i + 1) xs) ≡ Some (i + j)) × (slice_get (x ∷ xs) j ≡ Some y)
+    by_test true f rest = let z : i ≡ i + 0 = omega arith in (0, ap Some z, f)
+    by_test false f rest = let h = rest f in let z : (i + 1) + h.0 ≡ i + suc h.0 = omega arith in (suc h.0, h.1 ∙ ap Some z, h.2)
+
+pub found_at : {A : Type 0} (p : A → Bool) (xs : List A) (y : A) → find p xs ≡ Some y → (j : ℕ) × (position p xs ≡ Some j) × (slice_get xs j ≡ Some y)
+found_at p xs y e = let h = found_at_from p 0 xs y e in let z : 0 + h.0 ≡ h.0 = omega arith in (h.0, position_from-zero p xs ∙ h.1 ∙ ap Some z, h.2)
+
+-- ---- texts
+
+pub texts_differ : (a b : List ℕ) → bytes_eq a b ≡ false → a ≡ b → ⊥
+texts_differ a b h e = true≢false (sym ((bytes_eq-Decides a b).1 e) ∙ h)

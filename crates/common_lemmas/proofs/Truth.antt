@@ -43,6 +43,13 @@ pub or_false : (b : Bool) → (b || false) ≡ b
 or_false true = refl
 or_false false = refl
 
+pub or_none : (b : Bool) → b ≡ (b || false)
+or_none b = sym (or_false b)
+
+pub or_true : (b : Bool) → (b || true) ≡ true
+or_true true = refl
+or_true false = refl
+
 pub or_both : (a b : Bool) → (a || b) ≡ false → (a ≡ false) × (b ≡ false)
 or_both true b e = clash (sym e)
 or_both false b e = (refl, e)

@@ -1,5 +1,5 @@
 -- The numbers of a legal program have 32 bits, since its limits do.
-use Rattle.std.proofs.Common.{◌≡◌, ◌≤◌, ◌<◌, ◌^◌, ◌+◌, ◌*◌, ℕ, ℤ, pos, ◌+ℤ◌, zero, suc, if◌then◌else◌, Bool, true, false, ◌&&◌, ◌==◌, nat_lt, nat_le, List, [], ◌∷◌, ◌++◌, map, flat_map, length, Option, Some, None, refl, sym, ap, ◌∙◌, subst, true≢false, arith}
+use Rattle.std.proofs.Common.{◌≡◌, ◌≤◌, ◌<◌, ◌^◌, ◌+◌, ◌*◌, ℕ, ℤ, if◌then◌else◌, Bool, true, false, ◌&&◌, ◌==◌, nat_lt, nat_le, List, [], ◌∷◌, ◌++◌, map, flat_map, length, Option, Some, None, refl, sym, ap, ◌∙◌, subst, true≢false, arith}
 use Rattle.std.proofs.lemmas.Bool.Decides.{nat_tests}
 use Rattle.std.proofs.lemmas.List.{length-append}
 use Rattle.std.proofs.Math.ListN.{length-map}
@@ -17,7 +17,7 @@ use Rattle.syn_event.specs.declared.numbering.Mode.TheVariants as mode
 use Rattle.syn_event.specs.declared.limits.What.{What}
 use Rattle.syn_event.specs.declared.limits.What.TheVariants.{Tasks, Entries}
 use Rattle.syn_event.specs.AllNumbers.{all_numbers, info_of_task, entry_of_task, entries_of_tasks}
-use Rattle.syn_event.specs.Extents.{Extent, extent, size_of, known_size}
+use Rattle.syn_event.specs.Extents.{extent}
 use Rattle.syn_event.specs.Legal.{Legal}
 use Rattle.syn_event.specs.Limits.{limit_of}
 use Rattle.syn_event.specs.Numbered.{with_origin}
@@ -25,11 +25,12 @@ use Rattle.syn_event.specs.Numbering.{Numbering}
 use Rattle.syn_event.specs.RuleLimit.{passed}
 use Rattle.syn_event.specs.CheckSites.{site, check_sites, numbered, decls_sites, body_sites, body_names, after_decls, around_program, tasks_sites, entries_of_part, entries_sites, counted_sites}
 use Rattle.syn_event.specs.CheckScope.{CheckScope, counts}
-use Rattle.syn_event.specs.NamedTasks.{NamedTasks, named_tasks, type_named, task_names_of_type, object_task_names, with_type, single_task_name, task_names_in, task_names_of, count_of_range, task_count, NumberedTask, numbered_task, numbers_on, indices, tasks_of_range, tasks_of_name, numbered_tasks}
+use Rattle.syn_event.specs.NamedTasks.{NamedTasks, named_tasks, type_named, task_names_of_type, object_task_names, with_type, single_task_name, task_names_in, task_names_of, count_of_range, task_count, NumberedTask, numbered_task, indices, tasks_of_range, tasks_of_name, numbered_tasks}
 use Rattle.seq_file.specs.Short.{IsShort}
 use Rattle.syn_event.proofs.Nothing.{test_fails}
 use Rattle.syn_event.proofs.Kept.{Kept, kept_all}
 use Rattle.common_lemmas.proofs.Lists.{all_back, all_front}
+use Rattle.syn_event.proofs.Counts.{indices_length, tasks_length}
 
 -- ---- one count
 
@@ -100,24 +101,12 @@ parts_one kinds (decl_then _ rest) are = parts_one kinds rest are
 
 -- ---- tasks
 
-length_on : (first : ℤ) (n : ℕ) → length (numbers_on first n) ≡ n
-length_on first zero = refl
-length_on first (suc n) = ap suc (length_on (first +ℤ pos 1) n)
-
-length_indices : (o : Option Extent) → length (indices o) ≡ known_size o
-length_indices (Some x) = length_on x.first (size_of x)
-length_indices None = refl
-
-length_tasks : (types : TypeTable) (x : NamedTasks) (row : Option PDrange) → length (tasks_of_range types x row) ≡ count_of_range types row
-length_tasks types x (Some r) = length-map (indices (extent types r)) (λ i. numbered_task x (Some i)) ∙ length_indices (extent types r)
-length_tasks types x None = refl
-
 module _ (m : Mode) (names : List (List ℕ)) (around : CheckScope) (limit : ℕ) where
   tasks_within : (n : ℕ) (xs : List NamedTasks) → limit_of m Tasks ≡ Some limit → n ≤ limit → AllByRecursion (Kept m names) (tasks_sites around n xs) → n + length (flat_map (tasks_of_name around.types) xs) ≤ limit
   tasks_within n [] is start kept = omega (arith, start)
   tasks_within n (x ∷ xs) is start kept =
       let here : n + task_count around.types x ≤ limit = counted m names around Tasks limit n (task_count around.types x) x.place is start kept.0 in
-      let own : length (tasks_of_name around.types x) ≡ task_count around.types x = length_tasks around.types x x.index_range in
+      let own : length (tasks_of_name around.types x) ≡ task_count around.types x = tasks_length around.types x x.index_range in
       let rest : (n + task_count around.types x) + length (flat_map (tasks_of_name around.types) xs) ≤ limit = tasks_within (n + task_count around.types x) xs is here kept.1 in
       omega (arith, own, rest, length-append (tasks_of_name around.types x) (flat_map (tasks_of_name around.types) xs))
 
@@ -142,7 +131,7 @@ row_entries x [] = grind arith
 row_entries x (i ∷ is) = grind (arith, row_entries x is)
 
 part_entries : (types : TypeTable) (x : NamedTasks) (row : Option PDrange) → entries_in (tasks_of_range types x row) ≡ count_of_range types row * length x.unit.entries
-part_entries types x (Some r) = row_entries x (indices (extent types r)) ∙ ap (λ k. k * length x.unit.entries) (length_indices (extent types r))
+part_entries types x (Some r) = row_entries x (indices (extent types r)) ∙ ap (λ k. k * length x.unit.entries) (indices_length (extent types r))
 part_entries types x None = omega arith
 
 module _ (m : Mode) (names : List (List ℕ)) (around : CheckScope) (limit : ℕ) (is : limit_of m Entries ≡ Some limit) where

@@ -4,7 +4,6 @@ use Rattle.std.specs.Prelude.{All, IfSome, slice_get, ◌&&◌, not}
 use Rattle.std.proofs.lemmas.Bool.{cases_Bool}
 use Rattle.std.proofs.lemmas.List.{get_or_append_left}
 use Rattle.std.proofs.lemmas.Option.{slice_get-get_or}
-use Rattle.ada_tree.proofs.Interning.{slice_get-last}
 use Rattle.event_machine.specs.declared.Event.{Event}
 use Rattle.event_machine.specs.Tallies.{HasNoEnd}
 use Rattle.syn_event.specs.Numbering.{Numbering}
@@ -26,6 +25,7 @@ use Rattle.divergence.specs.Seen.{AreSettled}
 use Rattle.debug_judge.specs.declared.lines.LinesVerdict.{LinesVerdict}
 use Rattle.debug_judge.specs.JudgeOutcomes.{AreSeen, ShowsWhy}
 use Rattle.debug_judge.specs.JudgedLines.{IsFoundOf, event_with}
+use Rattle.common_lemmas.proofs.Lists.{last_at}
 
 pub nothing_follows : (events : List Event) → NothingFollowsEnd events → NothingFollows events
 nothing_follows [] h = tt
@@ -81,9 +81,9 @@ found_first setup numbers bound k s same_numbers same_bound =
 placed_last : (events : List Event) (e : Event) (n : ℕ) (v : Verdict) → Counts (events ++ e ∷ []) n v → length events ≤ n → is_feasible v ≡ false → event_of (events ++ e ∷ []) v ≡ Some e
 placed_last events e n Feasible c past h = absurd (true≢false h)
 placed_last events e n (Infeasible at why) c past h =
-    ap (λ (k : ℕ). slice_get (events ++ e ∷ []) k) (let k : at - 1 ≡ length events = omega (arith, c.0, c.1, length-append events (e ∷ [])) in k) ∙ slice_get-last events e
+    ap (λ (k : ℕ). slice_get (events ++ e ∷ []) k) (let k : at - 1 ≡ length events = omega (arith, c.0, c.1, length-append events (e ∷ [])) in k) ∙ last_at events e
 placed_last events e n (Unsettled at t) c past h =
-    ap (λ (k : ℕ). slice_get (events ++ e ∷ []) k) (let k : at - 1 ≡ length events = omega (arith, c.0, c.1, length-append events (e ∷ [])) in k) ∙ slice_get-last events e
+    ap (λ (k : ℕ). slice_get (events ++ e ∷ []) k) (let k : at - 1 ≡ length events = omega (arith, c.0, c.1, length-append events (e ∷ [])) in k) ∙ last_at events e
 
 -- an event that is there stays where it is
 stays_placed : (events : List Event) (e d : Event) (k : ℕ) → k < length events → slice_get events k ≡ slice_get (events ++ e ∷ []) k

@@ -3,7 +3,7 @@ use Rattle.std.proofs.Common.{◌≡◌, ℕ, Bool, true, false, ◌==◌, cond,
 use Rattle.std.proofs.lemmas.Bool.{eqb-true}
 use Rattle.event_machine.specs.declared.Standing.{Standing}
 use Rattle.event_machine.specs.declared.Standing.TheVariants.{Live, Waiting, Queued, Served, Completed, Killed}
-use Rattle.event_machine.specs.Seats.{is_live, is_waiting, is_queued, is_closed, is_served, is_served_by, is_abnormal}
+use Rattle.event_machine.specs.Seats.{is_live, is_waiting, is_queued, is_closed, is_served, is_served_by, is_abnormal, is_completed}
 use Rattle.event_machine.specs.Effects.{fallen}
 use Rattle.event_machine.specs.Rows.{is_first}
 use Rattle.event_machine.specs.Worlds.{still}
@@ -98,3 +98,11 @@ fallen_closed closing Queued h = h
 fallen_closed closing (Served by abnormal) h = refl
 fallen_closed closing Completed h = refl
 fallen_closed closing Killed h = refl
+
+pub completed_closed : (z : Standing) → is_completed z ≡ true → is_closed z ≡ true
+completed_closed Live h = absurd (true≢false (sym h))
+completed_closed Waiting h = absurd (true≢false (sym h))
+completed_closed Queued h = absurd (true≢false (sym h))
+completed_closed (Served by abnormal) h = absurd (true≢false (sym h))
+completed_closed Completed h = refl
+completed_closed Killed h = refl

@@ -5,7 +5,7 @@ use Rattle.event_machine.specs.declared.Event.TheVariants.{Z}
 use Rattle.event_machine.specs.declared.Standing.{Standing}
 use Rattle.event_machine.specs.declared.Standing.TheVariants as z
 use Rattle.event_machine.specs.Programs.{Program, numbered}
-use Rattle.event_machine.specs.Seats.{Ops, Seat, is_closed, is_completed, is_abnormal}
+use Rattle.event_machine.specs.Seats.{Ops, Seat, is_closed, is_abnormal}
 use Rattle.event_machine.specs.Settling.{Fires, Leads, IsRunOn, run_on}
 use Rattle.event_machine.specs.Tallies.{RestIs, StandsAfter, before_end}
 use Rattle.event_machine.specs.Worlds.{World, acted, changes, is_last}
@@ -25,15 +25,7 @@ use Rattle.feasible.specs.Keeping.{AreKept, StandsFor, IsSettled}
 use Rattle.feasible.specs.Kept.{Kept}
 use Rattle.feasible.specs.Shown.{IsShown, Shows}
 use Rattle.feasible.proofs.Continuing.{seat_settled}
-
--- completed and abnormal ones are closed
-closed_completed : (s : Standing) → is_completed s ≡ true → is_closed s ≡ true
-closed_completed z.Live h = h
-closed_completed z.Waiting h = h
-closed_completed z.Queued h = h
-closed_completed (z.Served by abnormal) h = absurd (true≢false (sym h))
-closed_completed z.Completed h = refl
-closed_completed z.Killed h = refl
+use Rattle.event_machine.proofs.Standings.{completed_closed}
 
 closed_abnormal : (s : Standing) → is_abnormal s ≡ true → is_closed s ≡ true
 closed_abnormal z.Live h = h
@@ -44,7 +36,7 @@ closed_abnormal z.Completed h = absurd (true≢false (sym h))
 closed_abnormal z.Killed h = absurd (true≢false (sym h))
 
 shown_view : (setup : Setup) (numbers : Numbering) (events : List Event) (t : ℕ) (v : View) (task : TaskView) → ViewIs setup numbers events t v → Shows v task → IsShown setup numbers events t task
-shown_view setup numbers events t Completed task (s, stands, h) e = subst (IsShown setup numbers events t) (sym e) (s, stands, closed_completed s h)
+shown_view setup numbers events t Completed task (s, stands, h) e = subst (IsShown setup numbers events t) (sym e) (s, stands, completed_closed s h)
 shown_view setup numbers events t Abnormal task (s, stands, h) e = subst (IsShown setup numbers events t) (sym e) (s, stands, closed_abnormal s h)
 shown_view setup numbers events t Busy task h e = subst (IsShown setup numbers events t) (sym e) h
 shown_view setup numbers events t (At offer) shown.Closed h e = absurd e

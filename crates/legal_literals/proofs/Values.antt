@@ -15,11 +15,11 @@ use Rattle.ada_value.specs.Evaluating.{literal_value, constant_value, fixed_valu
 use Rattle.rewritten_types.specs.Agreement.{Literal as LiteralAt, literal_named}
 use Rattle.legal_types.specs.Typed.{IsSmall}
 use Rattle.legal_types.proofs.TypedValues.{IsOf}
-use Rattle.legal_types.proofs.StaticWorth.{position-among}
 use Rattle.legal_types.proofs.GoodDeclarations.{literal-read}
 use Rattle.legal_types.proofs.MainScopes.{StandsWhole}
 use Rattle.legal_literals.specs.Literals.{StandsFor}
 use Rattle.ada_value.proofs.StaticLaws.{small_word}
+use Rattle.rewritten_types.proofs.Lookups.{position-among}
 
 -- ---- meanings
 

@@ -1,5 +1,5 @@
 -- The names around a place, for both lists of rules, and what holds of them: what holds of each name in scope holds of a name that means something there.
-use Rattle.std.proofs.Common.{◌≡◌, ℕ, Bool, true, false, ◌||◌, ◌==◌, if◌then◌else◌, List, [], ◌∷◌, ◌++◌, find, Option, Some, None, option_map, is_some, refl, sym, ap, subst, ◌∙◌, true≢false}
+use Rattle.std.proofs.Common.{◌≡◌, ℕ, Bool, true, false, ◌||◌, ◌==◌, if◌then◌else◌, List, [], ◌∷◌, find, Option, Some, None, option_map, is_some, refl, sym, ap, subst, ◌∙◌, true≢false}
 use Rattle.std.specs.List.{AllByRecursion, list_any}
 use Rattle.std.proofs.lemmas.Bool.{eqb-true}
 use Rattle.std.proofs.lemmas.Option.{none-some}
@@ -174,8 +174,3 @@ module _ (Own : ℕ → Type 0) where
   pub names-one : (thing : Thing) (ws : List Word) (s : Scope) (a : CheckScope) → AllByRecursion OwnWord ws → OwnThing thing → IsOther thing → Around s a → Around (with_names thing s ws) a
   names-one thing [] s a o t p h = h
   names-one thing (w ∷ ws) s a o t p h = names-one thing ws (with_name thing s w) a o.1 t p (name-one thing w s a o.0 t p h)
-
--- names that are added together
-pub meant-joined : (m : Meant) (a : CheckScope) (xs ys : List Word) → with_meant m a (xs ++ ys) ≡ with_meant m (with_meant m a xs) ys
-meant-joined m a [] ys = refl
-meant-joined m a (x ∷ xs) ys = meant-joined m (record a { names = (x.name.0, m) ∷ a.names }) xs ys

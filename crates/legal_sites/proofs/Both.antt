@@ -37,7 +37,7 @@ rows-both : {A : Type 0} (P Q S : A → Type 0) → ((x : A) → P x → Q x →
 rows-both P Q S f [] h g = tt
 rows-both P Q S f (x ∷ xs) h g = (f x h.0 g.0, rows-both P Q S f xs h.1 g.1)
 
-all-both : {A : Type 0} (P Q S : A → Type 0) → ((x : A) → P x → Q x → S x) → (xs : List A) → All P xs → All Q xs → All S xs
+pub all-both : {A : Type 0} (P Q S : A → Type 0) → ((x : A) → P x → Q x → S x) → (xs : List A) → All P xs → All Q xs → All S xs
 all-both P Q S f xs h g = All-from_recursion S xs (rows-both P Q S f xs (recursion_from_All P xs h) (recursion_from_All Q xs g))
 
 module _ (r q t : Rules) (asks : AskBoth r q t) where

@@ -4,7 +4,7 @@ use Rattle.std.specs.List.{AllByRecursion}
 use Rattle.ada_tree.specs.declared.naming.Span.{Span}
 use Rattle.ada_tree.specs.Demand.{Site}
 use Rattle.ada_tree.specs.Sites.{sites}
-use Rattle.ada_tree.specs.Refusals.{by_rule, refused_at, refused_from}
+use Rattle.ada_tree.specs.Refusals.{refused_at, refused_from}
 use Rattle.syn_event.specs.declared.numbering.Mode.{Mode}
 use Rattle.syn_event.specs.CheckScope.{CheckSite}
 use Rattle.syn_event.specs.CheckRefusals.{by_rule as check_by_rule, refused_at as check_refused_at}
@@ -12,6 +12,7 @@ use Rattle.syn_event.specs.CheckSites.{check_sites}
 use Rattle.legal_sites.specs.Met.{IsMet, IsCheckMet}
 use Rattle.legal_sites.specs.Laws.{AllMet, AllCheckMet}
 use Rattle.common_lemmas.proofs.Lists.{back_empty, front_empty, map_empty, not_empty}
+use Rattle.tree_lemmas.proofs.Spans.{no_spans}
 
 -- ---- empty lists
 
@@ -22,10 +23,6 @@ IsFilled (x ∷ xs) = Unit {0}
 -- ---- what all have
 
 -- ---- the first twelve rules
-
-pub no_spans : (n : ℕ) (spans : List Span) → by_rule n spans ≡ [] → spans ≡ []
-no_spans n [] e = refl
-no_spans n (s ∷ ss) e = absurd (not_empty _ _ e)
 
 met : (before : List Site) (s : Site) → refused_at before s ≡ [] → IsMet s
 met before s e12 =

@@ -26,9 +26,10 @@ use Rattle.syn_event.specs.CheckSites.{with_meant, formal_names, in_accept, in_l
 use Rattle.syn_event.specs.RuleReservedName.{is_reserved}
 use Rattle.syn_event.specs.RuleExitPlace.{is_left}
 use Rattle.legal_sites.specs.Met.{IsCheckMet}
-use Rattle.legal_sites.proofs.Around.{test-holds, test-fails, IsOther, OwnThing, OwnLoop, OwnWord, Around, seen, entry-somewhere, name-both, names-both, meant-joined}
+use Rattle.legal_sites.proofs.Around.{test-holds, test-fails, IsOther, OwnThing, OwnLoop, OwnWord, Around, seen, entry-somewhere, name-both, names-both}
 use Rattle.legal_sites.proofs.NamedParts.{IsFit, Q, expr-own, expr-of-own, drange-own, target-own, callee-own, call-own, text-own, choices-own, formals-own}
 use Rattle.common_lemmas.proofs.Lists.{all_back, all_front}
+use Rattle.syn_event.proofs.CheckScopes.{meant_joined}
 
 module _ (Own : ℕ → Type 0) (first : (k : ℕ) → k < 25 → Own k) (texts : List (List ℕ)) (declared : (id : NameId) → is_reserved (text_of texts id) ≡ false → Own id.0) where
   abbrev R : Rules
@@ -65,7 +66,7 @@ module _ (Own : ℕ → Type 0) (first : (k : ℕ) → k < 25 → Own k) (texts 
   formals-around (f ∷ fs) s a o h =
       let thing = formal_thing f.mode (marking s f.mark.name) in
       let t = formal-thing f.mode (marking s f.mark.name) in
-      subst (Around Own (with_formals (with_names thing s f.names) fs)) (sym (meant-joined meant.Inner a f.names (formal_names fs)))
+      subst (Around Own (with_formals (with_names thing s f.names) fs)) (sym (meant_joined meant.Inner a f.names (formal_names fs)))
       (formals-around fs (with_names thing s f.names) (with_meant meant.Inner a f.names) (all_back (OwnWord Own) f.names (formal_names fs) o)
       (names-both Own thing meant.Inner f.names s a (all_front (OwnWord Own) f.names (formal_names fs) o) t.0 t.1 h))
 

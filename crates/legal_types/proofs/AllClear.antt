@@ -22,7 +22,7 @@ use Rattle.legal_types.proofs.MainScopes.{StandsWhole}
 use Rattle.legal_types.proofs.InnerScopes.{IsApartLocal, AreApart, accept-stands}
 use Rattle.legal_types.proofs.LoopScopes.{loop-stands}
 use Rattle.legal_types.proofs.BodyScopes.{no-unclear}
-use Rattle.common_lemmas.proofs.Lists.{all_back, all_front, all_joined}
+use Rattle.common_lemmas.proofs.Lists.{all_back, all_front, all_joined, all_second, all_third}
 
 -- no name is unclear there
 abbrev pub IsClearScope : Scope → Type 0
@@ -173,15 +173,6 @@ module _ (s : Scope) (c : IsClearScope s) where
 
 -- ---- three parts of a list
 
-pub first-of : {A : Type 0} (P : A → Type 0) (xs ys zs : List A) → AllByRecursion P (xs ++ ys ++ zs) → AllByRecursion P xs
-first-of P xs ys zs h = all_front P xs ys (all_front P (xs ++ ys) zs h)
-
-pub second-of : {A : Type 0} (P : A → Type 0) (xs ys zs : List A) → AllByRecursion P (xs ++ ys ++ zs) → AllByRecursion P ys
-second-of P xs ys zs h = all_back P xs ys (all_front P (xs ++ ys) zs h)
-
-pub third-of : {A : Type 0} (P : A → Type 0) (xs ys zs : List A) → AllByRecursion P (xs ++ ys ++ zs) → AllByRecursion P zs
-third-of P xs ys zs h = all_back P (xs ++ ys) zs h
-
 pub clear-three : (xs ys zs : List Site) → AllClear xs → AllClear ys → AllClear zs → AllClear (xs ++ ys ++ zs)
 clear-three xs ys zs h k l = clear-join (xs ++ ys) zs (clear-join xs ys h k) l
 
@@ -218,9 +209,9 @@ module _ (T : TypeTable) where
     stmt-clear (SAccept a sp) s h k = accept-clear a s h k
     stmt-clear (SWait x o sp) s h k = clear-join (alts_sites s x) (maybe_sites s o) (alts-clear x s h (all_front _ (alts_sites s x) (maybe_sites s o) k)) (maybe-clear o s h (all_back _ (alts_sites s x) (maybe_sites s o) k))
     stmt-clear (SConditional x b o sp) s h k =
-        clear-three (call_sites s x) (stmts_sites s b) (stmts_sites s o) (call-clear s (clear-of s h) x) (stmts-clear b s h (second-of _ (call_sites s x) (stmts_sites s b) (stmts_sites s o) k)) (stmts-clear o s h (third-of _ (call_sites s x) (stmts_sites s b) (stmts_sites s o) k))
+        clear-three (call_sites s x) (stmts_sites s b) (stmts_sites s o) (call-clear s (clear-of s h) x) (stmts-clear b s h (all_second _ (call_sites s x) (stmts_sites s b) (stmts_sites s o) k)) (stmts-clear o s h (all_third _ (call_sites s x) (stmts_sites s b) (stmts_sites s o) k))
     stmt-clear (STimed x b d a sp) s h k =
-        clear-three (call_sites s x) (stmts_sites s b) (stmts_sites s a) (call-clear s (clear-of s h) x) (stmts-clear b s h (second-of _ (call_sites s x) (stmts_sites s b) (stmts_sites s a) k)) (stmts-clear a s h (third-of _ (call_sites s x) (stmts_sites s b) (stmts_sites s a) k))
+        clear-three (call_sites s x) (stmts_sites s b) (stmts_sites s a) (call-clear s (clear-of s h) x) (stmts-clear b s h (all_second _ (call_sites s x) (stmts_sites s b) (stmts_sites s a) k)) (stmts-clear a s h (all_third _ (call_sites s x) (stmts_sites s b) (stmts_sites s a) k))
     stmt-clear (SPut ps sp) s h k = clear-flat _ (part-clear s (clear-of s h) _) ps
     stmt-clear (SPutLine ps sp) s h k = clear-flat _ (part-clear s (clear-of s h) false) ps
     stmt-clear (SNewLine sp) s h k = tt
@@ -229,16 +220,16 @@ module _ (T : TypeTable) where
     stmt-clear (SCase e x o sp) s h k =
         let arms = case_arms_sites s (kind_of s e) (selected_range s e) x in (
           clear-of s h,
-          clear-three (expr_sites s e) arms (maybe_sites s o) (expr-clear s (clear-of s h) e) (case-arms-clear x (kind_of s e) (selected_range s e) s h (second-of _ (expr_sites s e) arms (maybe_sites s o) k.1)) (maybe-clear o s h (third-of _ (expr_sites s e) arms (maybe_sites s o) k.1)),
+          clear-three (expr_sites s e) arms (maybe_sites s o) (expr-clear s (clear-of s h) e) (case-arms-clear x (kind_of s e) (selected_range s e) s h (all_second _ (expr_sites s e) arms (maybe_sites s o) k.1)) (maybe-clear o s h (all_third _ (expr_sites s e) arms (maybe_sites s o) k.1)),
         )
     stmt-clear (SBlock b sp) s h k = body-clear b s h k
     stmt-clear (SLoop w x l sp) s h k =
         let label = if_there (λ y. site s (labels y) ∷ []) w in
         let scheme = if_there (scheme_sites s) x in
         let stmts = stmts_sites (loop_scope s x) l in
-        let known = second-of (IsPlace T) label scheme stmts k in
+        let known = all_second (IsPlace T) label scheme stmts k in
         clear-three label scheme stmts (clear-if _ (λ y. (clear-of s h, tt)) w) (clear-if (scheme_sites s) (scheme-clear s (clear-of s h)) x)
-        (stmts-clear l (loop_scope s x) (loop-stands T s x h (mets T scheme known) (aparts T scheme known)) (third-of _ label scheme stmts k))
+        (stmts-clear l (loop_scope s x) (loop-stands T s x h (mets T scheme known) (aparts T scheme known)) (all_third _ label scheme stmts k))
 
     stmts-clear : (l : PStmts) (s : Scope) → StandsWhole T s → Known (stmts_sites s l) → AllClear (stmts_sites s l)
     stmts-clear no_stmt s h k = tt
@@ -259,7 +250,7 @@ module _ (T : TypeTable) where
     alts-clear no_alt s h k = tt
     alts-clear (alt_then (alternative g x sp) l) s h k =
         let guard = if_there (condition s) g in
-        clear-three guard (alt_sites s x) (alts_sites s l) (clear-if (condition s) (of-clear s (clear-of s h) (Some truth_kind)) g) (alt-clear x s h (second-of _ guard (alt_sites s x) (alts_sites s l) k)) (alts-clear l s h (third-of _ guard (alt_sites s x) (alts_sites s l) k))
+        clear-three guard (alt_sites s x) (alts_sites s l) (clear-if (condition s) (of-clear s (clear-of s h) (Some truth_kind)) g) (alt-clear x s h (all_second _ guard (alt_sites s x) (alts_sites s l) k)) (alts-clear l s h (all_third _ guard (alt_sites s x) (alts_sites s l) k))
 
     alt-clear : (x : PAltKind) (s : Scope) → StandsWhole T s → Known (alt_sites s x) → AllClear (alt_sites s x)
     alt-clear (AAccept a l) s h k = clear-join (accept_sites s a) (stmts_sites s l) (accept-clear a s h (all_front _ (accept_sites s a) (stmts_sites s l) k)) (stmts-clear l s h (all_back _ (accept_sites s a) (stmts_sites s l) k))
@@ -269,13 +260,13 @@ module _ (T : TypeTable) where
     arms-clear : (l : PArms) (s : Scope) → StandsWhole T s → Known (arms_sites s l) → AllClear (arms_sites s l)
     arms-clear no_arm s h k = tt
     arms-clear (arm_then (arm e l) rest) s h k =
-        clear-three (condition s e) (stmts_sites s l) (arms_sites s rest) (of-clear s (clear-of s h) (Some truth_kind) e) (stmts-clear l s h (second-of _ (condition s e) (stmts_sites s l) (arms_sites s rest) k)) (arms-clear rest s h (third-of _ (condition s e) (stmts_sites s l) (arms_sites s rest) k))
+        clear-three (condition s e) (stmts_sites s l) (arms_sites s rest) (of-clear s (clear-of s h) (Some truth_kind) e) (stmts-clear l s h (all_second _ (condition s e) (stmts_sites s l) (arms_sites s rest) k)) (arms-clear rest s h (all_third _ (condition s e) (stmts_sites s l) (arms_sites s rest) k))
 
     case-arms-clear : (l : PCaseArms) (n : Option ℕ) (r : Option Range) (s : Scope) → StandsWhole T s → Known (case_arms_sites s n r l) → AllClear (case_arms_sites s n r l)
     case-arms-clear no_case_arm n r s h k = tt
     case-arms-clear (case_arm_then (case_arm cs l) rest) n r s h k =
         let choices = flat_map (choice_sites s n r) cs in
-        clear-three choices (stmts_sites s l) (case_arms_sites s n r rest) (clear-flat (choice_sites s n r) (choice-clear s (clear-of s h) n r) cs) (stmts-clear l s h (second-of _ choices (stmts_sites s l) (case_arms_sites s n r rest) k)) (case-arms-clear rest n r s h (third-of _ choices (stmts_sites s l) (case_arms_sites s n r rest) k))
+        clear-three choices (stmts_sites s l) (case_arms_sites s n r rest) (clear-flat (choice_sites s n r) (choice-clear s (clear-of s h) n r) cs) (stmts-clear l s h (all_second _ choices (stmts_sites s l) (case_arms_sites s n r rest) k)) (case-arms-clear rest n r s h (all_third _ choices (stmts_sites s l) (case_arms_sites s n r rest) k))
 
     pub body-clear : (b : PBody) (s : Scope) → StandsWhole T s → Known (body_sites s b) → AllClear (body_sites s b)
     body-clear (body l hs) s h k = clear-join (stmts_sites s l) (handlers_sites s [] hs) (stmts-clear l s h (all_front _ (stmts_sites s l) (handlers_sites s [] hs) k)) (handlers-clear hs [] s h (all_back _ (stmts_sites s l) (handlers_sites s [] hs) k))
@@ -285,4 +276,4 @@ module _ (T : TypeTable) where
     handlers-clear (handler_then (handler ws l sp) rest) ns s h k =
         let names = handler_names_sites s ns ws in
         let more = handlers_sites s (with_words ns ws) rest in
-        clear-three names (stmts_sites s l) more (handler-clear s (clear-of s h) ns ws) (stmts-clear l s h (second-of _ names (stmts_sites s l) more k)) (handlers-clear rest (with_words ns ws) s h (third-of _ names (stmts_sites s l) more k))
+        clear-three names (stmts_sites s l) more (handler-clear s (clear-of s h) ns ws) (stmts-clear l s h (all_second _ names (stmts_sites s l) more k)) (handlers-clear rest (with_words ns ws) s h (all_third _ names (stmts_sites s l) more k))

@@ -23,7 +23,7 @@ use Rattle.legal_types.proofs.GoodScopes.{News, IsIn, names-told, names-kept}
 use Rattle.legal_types.proofs.LaterScopes.{over-more}
 use Rattle.legal_types.proofs.MainScopes.{StandsWhole}
 use Rattle.legal_types.proofs.TaskTypes.{name-here}
-use Rattle.common_lemmas.proofs.Lists.{all_back, all_flat, all_front}
+use Rattle.common_lemmas.proofs.Lists.{all_back, all_unflat, all_front}
 use Rattle.legal_sites.proofs.Around.{test-holds}
 
 -- the name is that of no type and of no value
@@ -137,7 +137,7 @@ module _ (T : TypeTable) where
       (scalar-mark s h.stands.over.clear f.mark.name (test-holds (is_some (meaning s f.mark.name)) f.mark.span m.known) (test-holds (is_allowed scalar_only (marking s f.mark.name)) f.mark.span m.matched), formal-marks s h fs met.1)
 
   all-split : (P : Word → Type 0) (fs : List PFormal) → AllByRecursion P (all_names fs) → AllByRecursion (λ (f : PFormal). AllByRecursion P f.names) fs
-  all-split P fs h = all_flat P (λ f. f.names) fs h
+  all-split P fs h = all_unflat P (λ f. f.names) fs h
 
   pub inside-stands : (s : Scope) → StandsWhole T s → StandsWhole T (inside s)
   inside-stands s h = same-stands T s (inside s) refl (λ id. refl) h
@@ -154,4 +154,4 @@ module _ (T : TypeTable) where
       let apart2 : AreApart T (names ++ marks) = all_back _ index (formals_sites s h.formals) apart1 in
       formals-stand s stands h.formals (inside s) refl (λ id v. refl) (inside-stands s stands)
       (all-split _ h.formals (names-apart T (all_names h.formals) (inside s) (all_front _ names marks apart2)))
-      (formal-marks s stands h.formals (all_flat IsMet (λ f. mark_sites scalar_only s f.mark) h.formals (all_back IsMet names marks met2)))
+      (formal-marks s stands h.formals (all_unflat IsMet (λ f. mark_sites scalar_only s f.mark) h.formals (all_back IsMet names marks met2)))

@@ -1,8 +1,7 @@
 -- The parameter of a loop has the first mark of its range's kind, so the loop's scope stands over the same table.
-use Rattle.std.proofs.Common.{◌≡◌, ℕ, suc, ◌+◌, Bool, true, false, ◌==◌, if◌then◌else◌, cond, List, [], ◌∷◌, ◌++◌, find, position, is_some, option_map, slice_get, Option, Some, None, refl, sym, ap, ◌∙◌, subst, arith}
-use Rattle.std.specs.List.{AllByRecursion, position_from}
+use Rattle.std.proofs.Common.{◌≡◌, ℕ, ◌+◌, false, ◌==◌, List, [], ◌∷◌, ◌++◌, is_some, option_map, Option, Some, None, refl, sym, ap, ◌∙◌, subst}
+use Rattle.std.specs.List.{AllByRecursion}
 use Rattle.std.proofs.lemmas.Bool.{eq-eqb}
-use Rattle.std.proofs.lemmas.Iterator.Adapters.{position_from-zero}
 use Rattle.std.proofs.lemmas.Option.{none-some}
 use Rattle.ada_tree.specs.declared.naming.NameId.{NameId}
 use Rattle.ada_tree.specs.declared.expressions.UnaryOp.{UnaryOp}
@@ -30,24 +29,11 @@ use Rattle.legal_types.proofs.StaticParts.{met-kind}
 use Rattle.legal_types.proofs.TypedValues.{mark-of, kind-read, if-same, unary-given, are-taken}
 use Rattle.legal_types.proofs.MainScopes.{Stands, StandsWhole}
 use Rattle.legal_types.proofs.InnerScopes.{AreApart, one-stands, inside-stands}
-use Rattle.common_lemmas.proofs.Lists.{all_front, found_some}
+use Rattle.common_lemmas.proofs.Lists.{all_front, found_some, found_at}
 use Rattle.common_lemmas.proofs.Options.{some_same}
 use Rattle.legal_sites.proofs.Around.{test-holds}
 
 -- ---- the first mark of a kind
-
--- what is found has a first place
-find-from : {A : Type 0} (p : A → Bool) (i : ℕ) (xs : List A) (y : A) → find p xs ≡ Some y → (j : ℕ) × (position_from p i xs ≡ Some (i + j)) × (slice_get xs j ≡ Some y)
-find-from p i [] y e = absurd (none-some y e)
-find-from {A = A} p i (x ∷ xs) y e = by_test (p x) e (find-from p (i + 1) xs y)
-  where
-    by_test : (b : Bool) → (if b then Some x else find p xs) ≡ Some y → (find p xs ≡ Some y → (j : ℕ) × (position_from p (i + 1) xs ≡ Some ((i + 1) + j)) × (slice_get xs j ≡ Some y)) →
-        (j : ℕ) × (cond b (Some i) (position_from p (i + 1) xs) ≡ Some (i + j)) × (slice_get (x ∷ xs) j ≡ Some y)
-    by_test true f rest = let z : i ≡ i + 0 = omega arith in (0, ap Some z, f)
-    by_test false f rest = let h = rest f in let z : (i + 1) + h.0 ≡ i + suc h.0 = omega arith in (suc h.0, h.1 ∙ ap Some z, h.2)
-
-find-place : {A : Type 0} (p : A → Bool) (xs : List A) (y : A) → find p xs ≡ Some y → (j : ℕ) × (position p xs ≡ Some j) × (slice_get xs j ≡ Some y)
-find-place p xs y e = let h = find-from p 0 xs y e in let z : 0 + h.0 ≡ h.0 = omega arith in (h.0, position_from-zero p xs ∙ h.1 ∙ ap Some z, h.2)
 
 -- a kind has a mark
 abbrev HasMarkFor : TypeTable → ℕ → Type 0
@@ -207,7 +193,7 @@ loop-stands T s None h met apart = h
 loop-stands T s (Some (LWhile e)) h met apart = h
 loop-stands T s (Some (LFor w b r)) h met apart =
     let q = range-has-mark T s h.stands r met.1 in
-    let at = find-place (λ (m : Mark). m.kind == q.0) s.types.marks q.2.0 q.2.1 in
+    let at = found_at (λ (m : Mark). m.kind == q.0) s.types.marks q.2.0 q.2.1 in
     let kind : HasKind s.types q.2.0.kind = place-all (λ (m : Mark). HasKind s.types m.kind) s.types.marks at.0 q.2.0 h.stands.over.clear.sound.marks at.2 in
     let is : and_then (first_mark_of s.types) (drange_kind s r) ≡ Some at.0 = ap (and_then (first_mark_of s.types)) q.1 ∙ at.1 in
     subst (λ o. StandsWhole T (with_name (loop_thing o) (inside s) w)) (sym is)

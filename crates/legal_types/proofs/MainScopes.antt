@@ -1,5 +1,5 @@
 -- At each declaration of main of a legal program the scope stands over a firm table, and what is static there is static in the table of the whole program.
-use Rattle.std.proofs.Common.{int_le, ◌≡◌, ◌≤◌, ◌<◌, ℕ, zero, suc, Bool, true, false, ◌==◌, if◌then◌else◌, List, [], ◌∷◌, find, map, option_map, Option, Some, None, ◌⊎◌, inl, inr, ⊎_elim, refl, sym, ap, ◌∙◌, subst, eqb-true, arith}
+use Rattle.std.proofs.Common.{int_le, ◌≡◌, ◌≤◌, ◌<◌, ℕ, zero, suc, Bool, true, false, ◌==◌, if◌then◌else◌, List, [], ◌∷◌, find, map, option_map, Some, ◌⊎◌, inl, inr, ⊎_elim, refl, sym, ap, ◌∙◌, subst, eqb-true, arith}
 use Rattle.std.specs.List.{AllByRecursion}
 use Rattle.std.proofs.lemmas.Bool.{ltb-false, ne_eqb}
 use Rattle.std.proofs.lemmas.Option.{none-some}
@@ -41,6 +41,7 @@ use Rattle.legal_types.proofs.LaterTables.{IsLaterTable, later-self, later-on}
 use Rattle.legal_types.proofs.LaterScopes.{valued-means, over-more, keeps-later, later-decl}
 use Rattle.common_lemmas.proofs.Lists.{all_back, all_front}
 use Rattle.common_lemmas.proofs.Options.{some_same}
+use Rattle.tree_lemmas.proofs.Declared.{thing_found}
 
 -- ---- what is said of each scope
 
@@ -77,11 +78,6 @@ find-name (x ∷ xs) n y e = by_test (x.name == n) refl e (find-name xs n y)
     by_test : (b : Bool) → (x.name == n) ≡ b → (if b then Some x else find (λ (z : Seen). z.name == n) xs) ≡ Some y → (find (λ (z : Seen). z.name == n) xs ≡ Some y → y.name ≡ n) → y.name ≡ n
     by_test true p f rest = ap (λ (z : Seen). z.name) (sym (some_same f)) ∙ eqb-true x.name n p
     by_test false p f rest = rest f
-
--- what a name means is what is found
-found-thing : (o : Option Seen) (x : Thing) → option_map (λ (y : Seen). y.thing) o ≡ Some x → (y : Seen) × (o ≡ Some y) × (y.thing ≡ x)
-found-thing (Some y) x e = (y, refl, some_same e)
-found-thing None x e = absurd (none-some x e)
 
 module _ (name : Word) (unused : is_predefined name.name.0 ≡ false) where
   abbrev first : Scope
@@ -175,8 +171,8 @@ module _ (name : Word) (unused : is_predefined name.name.0 ≡ false) where
   first-over : IsOver predefined_types first
   first-over = record {
     keeps = keeps-self predefined_types;
-    clear = record { sound = sound-first name; things = λ id x e. things id x (found-thing (find (λ (y : Seen). y.name == id.0) first.names) x e) };
-    marks = λ id m e. marks id m (found-thing (find (λ (y : Seen). y.name == id.0) first.names) (TypeMark m) e);
+    clear = record { sound = sound-first name; things = λ id x e. things id x (thing_found (find (λ (y : Seen). y.name == id.0) first.names) x e) };
+    marks = λ id m e. marks id m (thing_found (find (λ (y : Seen). y.name == id.0) first.names) (TypeMark m) e);
     constants = λ id c e. absurd (none-some c e);
     literals = λ id v e. absurd (none-some v e);
     falses = λ id e. ap (meaning first) (sym (by-number id 4 e)) ∙ predefined-means 4 (omega arith);

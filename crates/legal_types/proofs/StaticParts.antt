@@ -1,5 +1,5 @@
 -- Where nothing is refused, what must be static is static and has a value of its kind; so are the bounds of ranges.
-use Rattle.std.proofs.Common.{◌≡◌, ℕ, ℤ, pos, int_le, int_lt, arith, Bool, true, false, not, ◌&&◌, ◌==◌, if◌then◌else◌, List, [], ◌∷◌, ◌++◌, map, is_some, IfSome, Option, Some, None, Result, Ok, Err, refl, sym, ap, ap₂, ◌∙◌, subst, true≢false, eqb-true}
+use Rattle.std.proofs.Common.{◌≡◌, ℕ, ℤ, pos, int_le, int_lt, arith, Bool, true, false, not, ◌&&◌, ◌==◌, if◌then◌else◌, List, [], ◌∷◌, ◌++◌, is_some, IfSome, Option, Some, None, Result, Ok, Err, refl, sym, ap, ap₂, ◌∙◌, subst, true≢false, eqb-true}
 use Rattle.std.specs.List.{AllByRecursion}
 use Rattle.std.proofs.lemmas.Bool.{eq-eqb}
 use Rattle.std.proofs.lemmas.Int.{ints}
@@ -14,13 +14,9 @@ use Rattle.ada_tree.specs.RuleMismatch.{is_allowed}
 use Rattle.ada_tree.specs.RuleRangeBad.{raised, raises, is_below, empty_range}
 use Rattle.legal_sites.specs.Met.{IsMet}
 use Rattle.legal_types.proofs.ExprKinds.{IsClear, IsScalarMark, same-kind, scalar-mark, has-kind}
-use Rattle.common_lemmas.proofs.Lists.{all_back, all_front, not_empty}
+use Rattle.common_lemmas.proofs.Lists.{all_back, all_front, not_empty, all_unmapped}
 use Rattle.common_lemmas.proofs.Options.{some_same}
 use Rattle.legal_sites.proofs.Around.{test-fails, test-holds}
-
-pub all-mapped-of : {A B : Type 0} (P : B → Type 0) (f : A → B) (xs : List A) → AllByRecursion P (map f xs) → AllByRecursion (λ x. P (f x)) xs
-all-mapped-of P f [] h = tt
-all-mapped-of P f (x ∷ xs) h = (h.0, all-mapped-of P f xs h.1)
 
 -- ---- values
 
@@ -101,7 +97,7 @@ static-of false b sp e f = absurd (true≢false (sym e))
 module _ (s : Scope) (clear : IsClear s) where
   -- an expression at which nothing is refused has a kind
   pub met-kind : (e : PExpr) → AllByRecursion IsMet (expr_sites s e) → (k : ℕ) × (kind_of s e ≡ Some k)
-  met-kind e h = has-kind s clear e (all-mapped-of IsMet (λ n. site s (node false n)) (nodes e) h.1)
+  met-kind e h = has-kind s clear e (all_unmapped IsMet (λ n. site s (node false n)) (nodes e) h.1)
 
   -- one that must be static besides has a value
   pub met-static : (e : PExpr) → AllByRecursion IsMet (expr_sites s e) → IsMet (site s (must_be_static e)) → (k : ℕ) × IsStaticIn s k e

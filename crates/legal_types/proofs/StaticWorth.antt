@@ -1,9 +1,8 @@
 -- A static expression of a kind is worth its static value, by the table over which its scope stands.
-use Rattle.std.proofs.Common.{◌≡◌, ℕ, ℤ, suc, pos, ◌+◌, ◌+ℤ◌, ◌-ℤ◌, ◌==◌, Bool, true, false, ◌&&◌, if◌then◌else◌, List, [], ◌∷◌, is_some, option_map, Option, Some, None, Result, Ok, Err, refl, sym, ap, ap₂, ◌∙◌, subst}
+use Rattle.std.proofs.Common.{◌≡◌, ℕ, ℤ, pos, ◌+◌, ◌+ℤ◌, ◌-ℤ◌, ◌==◌, Bool, true, false, ◌&&◌, if◌then◌else◌, List, [], is_some, option_map, Option, Some, None, Result, Ok, Err, refl, sym, ap, ap₂, ◌∙◌, subst}
 use Rattle.ada_tree.specs.declared.naming.NameId.{NameId}
 use Rattle.ada_tree.specs.declared.naming.Span.{Span}
 use Rattle.ada_tree.specs.declared.expressions.UnaryOp.TheVariants as unary
-use Rattle.ada_tree.specs.declared.static_types.Kind.{Kind}
 use Rattle.ada_tree.specs.declared.static_types.Mark.{Mark}
 use Rattle.ada_tree.specs.declared.static_types.Constant.{Constant}
 use Rattle.ada_tree.specs.TypeTable.{TypeTable}
@@ -12,7 +11,7 @@ use Rattle.ada_tree.specs.Attributes.{Attribute, First, Last, Pos, Val, Succ, Pr
 use Rattle.ada_tree.specs.Every.{EveryExpr}
 use Rattle.ada_tree.specs.WellPlaced.{well_placed}
 use Rattle.ada_tree.specs.Scope.{Scope, kind_at}
-use Rattle.ada_tree.specs.StaticValue.{is_integer_value, is_static, keeps_static, value_of, value_named, mark_named, literal_position, position_in, first_of_two, named, bound_of, of_base, attribute_at, then_do, operated, signed}
+use Rattle.ada_tree.specs.StaticValue.{is_integer_value, is_static, keeps_static, value_of, value_named, mark_named, first_of_two, named, bound_of, of_base, attribute_at, then_do, operated, signed}
 use Rattle.ada_value.specs.declared.values.Value.{Value}
 use Rattle.ada_value.specs.declared.values.Value.TheVariants.{Number}
 use Rattle.ada_value.specs.declared.values.Raised.{Raised}
@@ -22,25 +21,16 @@ use Rattle.ada_value.specs.Values.{position_of, value_at}
 use Rattle.ada_value.specs.Evaluating.{evaluated, signed_value}
 use Rattle.ada_value.specs.StaticLaw.{HasSmallLiterals, Agree}
 use Rattle.ada_value.proofs.StaticLaws.{static_law}
-use Rattle.rewritten_types.specs.Agreement.{Literal, literal_among, Keeps, Agrees}
+use Rattle.rewritten_types.specs.Agreement.{Literal, Keeps, Agrees}
 use Rattle.rewritten_types.proofs.Keeping.{keeps-self}
 use Rattle.rewritten_types.proofs.Rooting.{rooted_agrees}
 use Rattle.rewritten_values.proofs.Saying.{bases-alike}
 use Rattle.legal_types.proofs.StaticParts.{IsStaticIn}
 use Rattle.legal_types.specs.Typed.{HasLiteral, HasPosition}
 use Rattle.legal_types.proofs.TypedValues.{anybody, IsOf, IsTyped, IsOver, Gives, typed-gives}
+use Rattle.rewritten_types.proofs.Lookups.{position-among}
 
 -- ---- tables that agree on all names
-
--- the position of a literal
-pub position-among : (ks : List Kind) (k : ℕ) (id : NameId) → literal_position ks id ≡ option_map (λ (l : Literal). l.position) (literal_among ks k id)
-position-among [] k id = refl
-position-among (x ∷ rest) k id = by_place (position_in id x) (position-among rest (suc k) id)
-  where
-    by_place : (o : Option ℕ) → literal_position rest id ≡ option_map (λ (l : Literal). l.position) (literal_among rest (suc k) id) →
-        first_of_two o (literal_position rest id) ≡ option_map (λ (l : Literal). l.position) (first_of_two (option_map (λ n. record { kind = k; position = n }) o) (literal_among rest (suc k) id))
-    by_place (Some n) h = refl
-    by_place None h = h
 
 pub keeps-agrees : (T U : TypeTable) → IsTyped T → Keeps anybody T U → Agrees anybody T U
 keeps-agrees T U typed keeps = rooted_agrees anybody T T U (record { sound = typed.root; whole = typed.whole; left = keeps-self T; right = keeps })

@@ -43,7 +43,7 @@ use Rattle.legal_types.proofs.StaticWorth.{IsWorth, worth, worth-value, small-li
 use Rattle.legal_types.proofs.FirmTables.{scalar-grown, scalar-has, value-grown}
 use Rattle.legal_types.proofs.LaterTables.{mark-later, worth-later}
 use Rattle.legal_types.proofs.MainScopes.{Stands, AllStand, main-stands}
-use Rattle.common_lemmas.proofs.Lists.{all_back, all_flat, all_front, all_joined, all_weaker, append_last}
+use Rattle.common_lemmas.proofs.Lists.{all_back, all_unflat, all_front, all_joined, all_weaker, append_last}
 use Rattle.legal_sites.proofs.Around.{test-holds}
 
 -- ---- marks and ranges
@@ -218,7 +218,7 @@ module _ (T : TypeTable) (s : Scope) (stands : Stands T s) (names : List (List �
       let formals : AllByRecursion IsMet (formals_sites s e.formals) = all_back IsMet family (formals_sites s e.formals) rest in (
         record {
           family = family-typed e.family every.2 (all_front IsMet family (formals_sites s e.formals) rest);
-          formals = formals-typed e.formals (all_flat IsMet (λ f. mark_sites scalar_only s f.mark) e.formals (all_back IsMet (names_sites false (inside s) (all_names e.formals)) (formal_mark_sites s e.formals) formals));
+          formals = formals-typed e.formals (all_unflat IsMet (λ f. mark_sites scalar_only s f.mark) e.formals (all_back IsMet (names_sites false (inside s) (all_names e.formals)) (formal_mark_sites s e.formals) formals));
         },
         no-word (is_among before e.name.name.0) e.name h.0.once,
       )

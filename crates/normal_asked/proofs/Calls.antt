@@ -23,8 +23,9 @@ use Rattle.normal_model.specs.Aborts.{abort_of, callee_aborted, callees_aborted,
 use Rattle.normal_model.specs.Waits.{Unit}
 use Rattle.asked_stmts.specs.Asked.{Asks, AskedStmt, AskedStmts, AskedSome, AskedCaseArms}
 use Rattle.normal_asked.specs.Pieces.{IsVariable, AreVariables, member_choice, IsAmong, first_among, later_among, IsTarget, is_known, is_member, named, IsPair, first_pair, later_pair, is_read, is_written, Pieces}
-use Rattle.normal_asked.proofs.CallVariables.{kept-length, family_subtype, family_kept, callee-there, family-there, actuals-there}
+use Rattle.normal_asked.proofs.CallVariables.{family_subtype, family_kept, callee-there, family-there, actuals-there}
 use Rattle.normal_asked.proofs.Lists.{HasStmt, some-front, some-back, asked-join, asked-some, variables-front, variables-back}
+use Rattle.normal_model.proofs.Declared.{kept_length}
 
 module _ {C D : Type 0} (u : Unit) (vars : List PDecl) (b : Asks C) (a : Asks D) (R : C → D → Type 0) (P : Pieces u vars b a R) where
   abbrev g : Setting
@@ -328,7 +329,7 @@ module _ {C D : Type 0} (u : Unit) (vars : List PDecl) (b : Asks C) (a : Asks D)
         asked-join a d k (callee_aborted g s y j) (callees_aborted g s ys (j + length (callee_kept g s y)))
         (abort-one y j i.0 (variables-front g vars s first (abort_subtypes g s ys) j v))
         (aborts-asked ys (j + length (callee_kept g s y)) i.1
-        (subst (λ m. AreVariables g vars s (abort_subtypes g s ys) (j + m)) (kept-length (callee_kept g s y)) (variables-back g vars s first (abort_subtypes g s ys) j v)))
+        (subst (λ m. AreVariables g vars s (abort_subtypes g s ys) (j + m)) (kept_length (callee_kept g s y)) (variables-back g vars s first (abort_subtypes g s ys) j v)))
 
   pub abort-asked : (c : C) (d : D) (k : ℕ) (s : Span) (xs : List PCallee) (j : ℕ) → R c d → b.outer c k s → b.aborts c (k + 1) xs → AllByRecursion (b.callee c (k + 1)) xs →
       AreVariables g vars s (abort_subtypes g s xs) j → AskedStmts a d k (abort_image g s xs j)

@@ -9,10 +9,9 @@ use Rattle.ada_tree.specs.PlainStmt.{PStmts, no_stmt}
 use Rattle.task_model.specs.Setting.{Setting}
 use Rattle.task_model.specs.Frames.{in_front}
 use Rattle.normal_model.specs.Calls.{Slot, actual_before, actual_behind, actuals_before, actuals_behind}
-use Rattle.normal_pieces.proofs.Fronts.{in_front-nil}
 use Rattle.normal_calls.specs.inner.Modes.{each_actual, modes_before, modes_behind}
 use Rattle.common_lemmas.proofs.Lists.{rest_at, rest_none, rest_there}
-use Rattle.normal_model.proofs.WalkLemmas.{in_front-joined}
+use Rattle.normal_model.proofs.WalkLemmas.{in_front-joined, in_front-nil}
 
 -- ---- modes in place of formals
 

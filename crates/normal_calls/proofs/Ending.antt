@@ -13,9 +13,8 @@ use Rattle.task_model.specs.Frames.{in_front}
 use Rattle.normal_model.specs.Making.{one}
 use Rattle.normal_model.specs.Members.{callee_kept}
 use Rattle.normal_model.specs.Aborts.{abort_image, callee_aborted, callees_aborted}
-use Rattle.normal_pieces.proofs.Fronts.{in_front-nil}
 use Rattle.common_lemmas.proofs.Lists.{rest_at}
-use Rattle.normal_model.proofs.WalkLemmas.{in_front-joined}
+use Rattle.normal_model.proofs.WalkLemmas.{in_front-joined, in_front-nil}
 
 pub abort-turn :
     (g : Setting) (s : Span) (cs : List Callee) (i n next : ℕ) (c d : Callee) (before behind all : PStmts) →

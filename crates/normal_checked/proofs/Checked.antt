@@ -51,6 +51,16 @@ use Rattle.normal_checked.proofs.Stays.{expr-stays, choices-stay, loop-stays, ac
 use Rattle.normal_checked.proofs.Waits.{form-kept, IsAgreed, accepts-kept}
 use Rattle.common_lemmas.proofs.Lists.{all_back, all_front, all_joined}
 
+-- what stands at a place of a list is one of the list
+pub kind-among : (xs : List Kind) (k : ℕ) → IfSome (slice_get xs k) (λ x. IsAmong x xs)
+kind-among [] k = tt
+kind-among (x ∷ xs) zero = first_among xs
+kind-among (x ∷ xs) (suc k) = later (slice_get xs k) (kind-among xs k)
+  where
+    later : (o : Option Kind) → IfSome o (λ y. IsAmong y xs) → IfSome o (λ y. IsAmong y (x ∷ xs))
+    later None h = tt
+    later (Some y) h = later_among x xs h
+
 module _ (u : Unit) (own : ℕ → Bool) (vars : List PDecl) (names names' : List (List ℕ)) (texts : (id : NameId) → own id.0 ≡ true → text_of names' id ≡ text_of names id) where
   abbrev g : Setting
   g = u.setting
@@ -214,18 +224,9 @@ module _ (u : Unit) (own : ℕ → Bool) (vars : List PDecl) (names names' : Lis
     literal-met (Some (kind.Enumeration ids)) z s q le h = literal-used (unwrap_or (slice_get ids (unsigned_abs z)) (record { 0 = 0 })) s q (omega (arith, le)) (is_enumerated ids (unsigned_abs z) h refl)
     literal-met (Some (kind.Array index first last part)) z s q le h = number-met z s q le
 
-    there : (xs : List Kind) (k : ℕ) → IfSome (slice_get xs k) (λ x. IsAmong x xs)
-    there [] k = tt
-    there (x ∷ xs) zero = first_among xs
-    there (x ∷ xs) (suc k) = later (slice_get xs k) (there xs k)
-      where
-        later : (o : Option Kind) → IfSome o (λ y. IsAmong y xs) → IfSome o (λ y. IsAmong y (x ∷ xs))
-        later None h = tt
-        later (Some y) h = later_among x xs h
-
     kind-there : (o : Option PDrange) → IsThere (kind_of_index g.types o)
     kind-there None = tt
-    kind-there (Some x) = there g.types.kinds (kind_of_range g.types x)
+    kind-there (Some x) = kind-among g.types.kinds (kind_of_range g.types x)
 
     index-met : (k : Option Kind) (o : Option ℤ) (s : Span) (q : ℕ) → q + 1 ≤ 300 → IsThere k → At' (check.expr_sites d q (index_literal k s o))
     index-met k None s q le h = (met-deep names' d q s (omega (arith, le)), tt)

@@ -38,7 +38,7 @@ pub record IsFrameOf (c d : CheckScope) : Type 0 where
   pub loops : d.loops ≡ c.loops
   pub in_handler : d.in_handler ≡ c.in_handler
 
-frame-refl : (c : CheckScope) → IsFrameOf c c
+pub frame-refl : (c : CheckScope) → IsFrameOf c c
 frame-refl c = record { types = refl; own = refl; accepting = refl; loops = refl; in_handler = refl }
 
 pub frame-trans : (c d e : CheckScope) → IsFrameOf c d → IsFrameOf d e → IsFrameOf c e
@@ -50,7 +50,7 @@ frame-trans c d e h i = record {
   in_handler = i.in_handler ∙ h.in_handler;
 }
 
-meant-frame : (m : Meant) (c : CheckScope) (ws : List Word) → IsFrameOf c (with_meant m c ws)
+pub meant-frame : (m : Meant) (c : CheckScope) (ws : List Word) → IsFrameOf c (with_meant m c ws)
 meant-frame m c [] = frame-refl c
 meant-frame m c (w ∷ ws) = let h = meant-frame m (record c { names = (w.name.0, m) ∷ c.names }) ws in record { types = h.types; own = h.own; accepting = h.accepting; loops = h.loops; in_handler = h.in_handler }
 
@@ -73,7 +73,7 @@ shape-frame c ws constant (OArray r x) = object-frame c (meaning c x.mark.name) 
 task-frame : (c : CheckScope) (t : PTask) → IsFrameOf c (after_task c t)
 task-frame c t = record { types = refl; own = refl; accepting = refl; loops = refl; in_handler = refl }
 
-decl-frame : (d : PDecl) (c : CheckScope) → IsFrameOf c (after_decl c d)
+pub decl-frame : (d : PDecl) (c : CheckScope) → IsFrameOf c (after_decl c d)
 decl-frame (DObject ws constant x i s) c = shape-frame c ws constant x
 decl-frame (DTask t s) c = task-frame c t
 decl-frame (DNumber w e s) c = frame-refl c

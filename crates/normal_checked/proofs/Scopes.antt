@@ -14,7 +14,7 @@ use Rattle.task_model.specs.Setting.{Setting}
 use Rattle.normal_model.specs.Names.{variable_name, task_name}
 use Rattle.normal_checked.specs.Around.{IsAround}
 
-nothing-in : (o : Option Unit) → in_body_of o [] ≡ []
+pub nothing-in : (o : Option Unit) → in_body_of o [] ≡ []
 nothing-in (Some x) = refl
 nothing-in None = refl
 

@@ -25,6 +25,11 @@ use Rattle.normal_checked.specs.Around.{own_rules, IsAround}
 use Rattle.normal_checked.proofs.Places.{met-deep, met-name, met-use, met-accept, met-exit, met-raise}
 use Rattle.common_lemmas.proofs.Lists.{all_back, all_front, all_joined}
 
+-- what a rule asks of the names of formals it asks of each of them
+pub formal-words : (r : Rules) (fs : List PFormal) → AllByRecursion (EveryFormal r) fs → AllByRecursion (EveryWord r) (check.formal_names fs)
+formal-words r [] h = tt
+formal-words r (f ∷ fs) h = all_joined (EveryWord r) f.names (check.formal_names fs) (recursion_from_All (EveryWord r) f.names h.0.0.1) (formal-words r fs h.1)
+
 module _ (g : Setting) (own : ℕ → Bool) (vars : List PDecl) (names names' : List (List ℕ)) (texts : (id : NameId) → own id.0 ≡ true → text_of names' id ≡ text_of names id) (c d : CheckScope) (rel : IsAround g own vars c d) where
   abbrev r : Rules
   r = own_rules own
@@ -138,12 +143,8 @@ module _ (g : Setting) (own : ℕ → Bool) (vars : List PDecl) (names names' : 
   words-stay [] h m = tt
   words-stay (w ∷ ws) h m = (name-stays w h.0 m.0, words-stay ws h.1 m.1)
 
-  formal-words : (fs : List PFormal) → AllByRecursion (EveryFormal r) fs → AllByRecursion (EveryWord r) (check.formal_names fs)
-  formal-words [] h = tt
-  formal-words (f ∷ fs) h = all_joined (EveryWord r) f.names (check.formal_names fs) (recursion_from_All (EveryWord r) f.names h.0.0.1) (formal-words fs h.1)
-
   pub formals-stay : (fs : List PFormal) → All (EveryFormal r) fs → At (check.names_sites c (check.formal_names fs)) → At' (check.names_sites d (check.formal_names fs))
-  formals-stay fs h m = words-stay (check.formal_names fs) (formal-words fs (recursion_from_All (EveryFormal r) fs h)) m
+  formals-stay fs h m = words-stay (check.formal_names fs) (formal-words r fs (recursion_from_All (EveryFormal r) fs h)) m
 
   -- an accept with that entry and place
   pub accept-stays : (x y : PHead) → x.entry.name ≡ y.entry.name → x.span ≡ y.span → M (check.site c (accepts x)) → M' (check.site d (accepts y))

@@ -1,11 +1,11 @@
 -- Lists that grow by one more, and rows of declarations as lists.
 use Rattle.std.proofs.Common.{◌≡◌, ◌<◌, ◌+◌, ℕ, Bool, true, false, cond, List, [], ◌∷◌, ◌++◌, map, flat_map, take, drop, length, get_or, slice_get, Some, refl, sym, ap, ◌∙◌, append_assoc, arith, add-one}
 use Rattle.std.specs.List.{filter}
-use Rattle.std.proofs.lemmas.List.{take_more, drop_more, map_more, map-append, append-nil}
+use Rattle.std.proofs.lemmas.List.{take_more, map_more, map-append, append-nil}
 use Rattle.std.proofs.lemmas.Grind.{flat_map-append}
 use Rattle.std.proofs.lemmas.List.Elements.{filter_more}
 use Rattle.std.proofs.lemmas.Option.{slice_get-get_or}
-use Rattle.ada_tree.specs.PlainDecl.{PDecl, PDecls, no_decl, decl_then, decls_of}
+use Rattle.ada_tree.specs.PlainDecl.{PDecl, decl_then, decls_of}
 use Rattle.ada_tree.specs.PlainProgram.{PProgram}
 use Rattle.syn_event.specs.Units.{decl_list}
 use Rattle.task_model.specs.Setting.{Setting}
@@ -23,16 +23,7 @@ pub front_rows : (xs ys : List PDecl) → decls_front (decls_of xs) (decls_of ys
 front_rows [] ys = refl
 front_rows (x ∷ xs) ys = ap (decl_then x) (front_rows xs ys)
 
--- a row in front of the row of a list
-pub row_front : (front : PDecls) (ds : List PDecl) → decls_of (decl_list front ++ ds) ≡ decls_front front (decls_of ds)
-row_front no_decl ds = refl
-row_front (decl_then d front) ds = ap (decl_then d) (row_front front ds)
-
 -- ---- one more
-
--- what stands from a place on
-pub cut : {X : Type 0} (xs : List X) (i : ℕ) (x : X) → i < length xs → x ≡ get_or xs i x → drop i xs ≡ x ∷ drop (i + 1) xs
-cut xs i x lt is = drop_more xs i x lt ∙ ap (λ y. y ∷ drop (i + 1) xs) (sym is)
 
 -- what is made of each element so far, behind what was there
 pub flat_more : {X Y : Type 0} (f : X → List Y) (xs : List X) (i : ℕ) (x : X) (start so_far grown : List Y) → i < length xs → x ≡ get_or xs i x →

@@ -63,7 +63,7 @@ body_ids [] = []
 body_ids (DTaskBody w objects its s ∷ ds) = w.name.0 ∷ body_ids ds
 body_ids (_ ∷ ds) = body_ids ds
 
-ids-joined : (xs zs : List PDecl) → body_ids (xs ++ zs) ≡ body_ids xs ++ body_ids zs
+pub ids-joined : (xs zs : List PDecl) → body_ids (xs ++ zs) ≡ body_ids xs ++ body_ids zs
 ids-joined [] zs = refl
 ids-joined (DTaskBody w objects its s ∷ xs) zs = ap (λ (l : List ℕ). w.name.0 ∷ l) (ids-joined xs zs)
 ids-joined (d ∷ xs) zs = ids-joined xs zs

@@ -1,5 +1,5 @@
 -- Each name in a legal program is one of its texts that is left to no rewriter.
-use Rattle.std.proofs.Common.{◌≡◌, ℕ, Bool, true, false, not, List, slice_get, refl, sym, ap, true≢false}
+use Rattle.std.proofs.Common.{◌≡◌, ℕ, true, not, List, slice_get, ap}
 use Rattle.std.specs.Option.{IsSomeAnd}
 use Rattle.ada_tree.specs.declared.naming.NameId.{NameId}
 use Rattle.ada_tree.specs.Lexical.{IsIdentifier}
@@ -15,6 +15,7 @@ use Rattle.normal_legal_units.proofs.Apart.{all-addressed}
 use Rattle.normal_legal_units.proofs.DeclaredNames.{IsGood}
 use Rattle.normal_legal.specs.Laws.{IsLegal}
 use Rattle.normal_declares_once.proofs.Ids.{first-free}
+use Rattle.common_lemmas.proofs.Truth.{not_true}
 
 -- each name is a good one
 abbrev pub good_names : List (List ℕ) → Rules
@@ -24,12 +25,8 @@ good_names names = record no_rules { name = λ id. IsGood names id }
 abbrev free_names : List (List ℕ) → Rules
 free_names names = record no_rules { name = λ id. not (is_reserved (text_of names record { 0 = id.0 })) ≡ true }
 
-not-true : (b : Bool) → not b ≡ true → b ≡ false
-not-true true e = absurd (true≢false (sym e))
-not-true false e = refl
-
 both-good : (names : List (List ℕ)) (id : NameId) → not (is_reserved (text_of names record { 0 = id.0 })) ≡ true → IsSomeAnd (slice_get names id.0) IsIdentifier → IsGood names id
-both-good names id e h = record { there = h; free = not-true (is_reserved (text_of names id)) e }
+both-good names id e h = record { there = h; free = not_true (is_reserved (text_of names id)) e }
 
 pub program-good : (p : PProgram) → IsLegal p → EveryProgram (good_names p.names) p
 program-good p h =

@@ -10,6 +10,7 @@ use Rattle.ada_tree.specs.Every.{Rules, EveryWord, EveryFormal, EveryScheme, Eve
 use Rattle.ada_tree.specs.Sites.{all_names, with_words}
 use Rattle.ada_duplicates.specs.declared.namings_in_order.Naming.{Naming}
 use Rattle.ada_duplicates.specs.NamingsInOrder.{declared, named_once}
+use Rattle.normal_legal_walk.proofs.Walk.{words-all}
 use Rattle.normal_once.specs.Apart.{fixed_name, loose_name, fixed_names}
 use Rattle.normal_once.specs.Names.{label_names, scheme_names, stmt_names, stmts_names, maybe_names, accept_names, alts_names, kind_names, arms_names, case_arms_names, body_names, handlers_names, entries_names}
 use Rattle.normal_declares_once.proofs.Ids.{IsGoodId}
@@ -35,12 +36,8 @@ module _ (names : List (List ℕ)) where
   once-inner here [] = tt
   once-inner here (w ∷ ws) = ((refl, tt), once-inner (w.name.0 ∷ here) ws)
 
-  all-words : (fs : List PFormal) → AllByRecursion (EveryFormal r) fs → AllByRecursion (EveryWord r) (all_names fs)
-  all-words [] h = tt
-  all-words (f ∷ fs) h = all_joined (EveryWord r) f.names (all_names fs) (recursion_from_All (EveryWord r) f.names h.0.0.1) (all-words fs h.1)
-
   formals-inner : (fs : List PFormal) → All (EveryFormal r) fs → AllByRecursion IsInner (declared false [] (all_names fs))
-  formals-inner fs h = declared-inner [] (all_names fs) (all-words fs (recursion_from_All (EveryFormal r) fs h))
+  formals-inner fs h = declared-inner [] (all_names fs) (words-all r fs (recursion_from_All (EveryFormal r) fs h))
 
   label-inner : (o : Option Word) → IfSome o (EveryWord r) → AllByRecursion IsInner (label_names o)
   label-inner (Some w) h = ((refl, (h, tt)), tt)

@@ -1,7 +1,7 @@
 -- The names of the tasks of a normal form: no two are one, and none is another name of it.
 use Rattle.std.proofs.Common.{◌≡◌, ℕ, ℤ, zero, suc, Bool, true, false, ◌==◌, List, [], ◌∷◌, map, flat_map, slice_get, Option, Some, None, refl, sym, ap, ◌∙◌, subst, true≢false}
 use Rattle.std.specs.List.{AllByRecursion}
-use Rattle.common_lemmas.proofs.Lists.{all_joined, all_front, all_weaker}
+use Rattle.common_lemmas.proofs.Lists.{all_joined, all_front, all_weaker, all_unmapped}
 use Rattle.common_lemmas.proofs.Options.{some_same, not_missing}
 use Rattle.std.proofs.lemmas.Bool.{eqb-true}
 use Rattle.std.proofs.lemmas.List.{append-nil}
@@ -62,10 +62,6 @@ map-place : {A B : Type 0} (f : A → B) (xs : List A) (k : ℕ) (x : A) → sli
 map-place f [] k x e = absurd (not_missing x e)
 map-place f (y ∷ xs) zero x e = ap (λ z. Some (f z)) (some_same e)
 map-place f (y ∷ xs) (suc k) x e = map-place f xs k x e
-
-unmapped : {A B : Type 0} (P : B → Type 0) (f : A → B) (xs : List A) → AllByRecursion P (map f xs) → AllByRecursion (λ x. P (f x)) xs
-unmapped P f [] h = tt
-unmapped P f (x ∷ xs) h = (h.0, unmapped P f xs h.1)
 
 -- a name that differs from one of which the others are free
 free-differs : (F : List ℕ) (x z : ℕ) → is_among F x ≡ true → IsFreeOf F z → (x == z) ≡ false
@@ -239,4 +235,4 @@ module _ (p : PProgram) (h : IsLegal p) where
   each-name (y ∷ zs) a b c = (one-name y a.0 b.0 c.0, each-name zs a.1 b.1 c.1)
 
   pub tasks-named : AllByRecursion IsTaskName (map task_id ys)
-  tasks-named = each-name ys all-single (unmapped (IsNamed g) info ys all-are-named) (unmapped (λ (i : TaskInfo). IsGood p.names i.name) info ys all-good)
+  tasks-named = each-name ys all-single (all_unmapped (IsNamed g) info ys all-are-named) (all_unmapped (λ (i : TaskInfo). IsGood p.names i.name) info ys all-good)

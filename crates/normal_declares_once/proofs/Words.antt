@@ -1,7 +1,7 @@
 -- The names that main's declarations give to main: those of tasks are none of those that the first declarations of a normal form give.
 use Rattle.std.proofs.Common.{◌≡◌, ℕ, Bool, true, false, ◌==◌, List, [], ◌∷◌, ◌++◌, map, is_some, Option, Some, None, refl, sym, ap, ◌∙◌, subst, true≢false}
 use Rattle.std.specs.List.{AllByRecursion}
-use Rattle.std.proofs.lemmas.Bool.{or_parts, or_from, or_left, or_right, eqb-true, eq-eqb}
+use Rattle.std.proofs.lemmas.Bool.{or_parts, or_from, or_left, eqb-true, eq-eqb}
 use Rattle.common_lemmas.proofs.Lists.{all_joined, all_weaker}
 use Rattle.ada_tree.specs.declared.naming.Span.{Span}
 use Rattle.ada_tree.specs.declared.naming.Word.{Word}
@@ -17,6 +17,7 @@ use Rattle.rewritten_types.specs.Rewriting.{names_declared, IsUnused, DeclareOnc
 use Rattle.normal_once.specs.Apart.{IsFreeOf, AreApart}
 use Rattle.normal_once.proofs.Once.{free-front, free-back, free-both}
 use Rattle.normal_once.proofs.FirstDecls.{here-after}
+use Rattle.normal_once.proofs.TaskNames.{among-words}
 
 -- ---- ids
 
@@ -39,14 +40,10 @@ pub free-words : (here : List ℕ) (ws : List Word) (x : ℕ) → IsFreeOf here 
 free-words here [] x h k = h
 free-words here (w ∷ ws) x h k = let q = or_parts (w.name.0 == x) (is_among (word_ids ws) x) k in free-words (w.name.0 ∷ here) ws x (or_from (w.name.0 == x) (is_among here x) q.0 h) q.1
 
-among-later : (here : List ℕ) (ws : List Word) (x : ℕ) → is_among here x ≡ true → is_among (with_words here ws) x ≡ true
-among-later here [] x h = h
-among-later here (w ∷ ws) x h = among-later (w.name.0 ∷ here) ws x (or_right (w.name.0 == x) (is_among here x) h)
-
 words-in : (here : List ℕ) (ws : List Word) → AllByRecursion (λ (w : Word). is_among (with_words here ws) w.name.0 ≡ true) ws
 words-in here [] = tt
 words-in here (w ∷ ws) =
-    (among-later (w.name.0 ∷ here) ws w.name.0 (or_left (w.name.0 == w.name.0) (is_among here w.name.0) (eq-eqb w.name.0 w.name.0 refl)), words-in (w.name.0 ∷ here) ws)
+    (among-words (w.name.0 ∷ here) ws w.name.0 (or_left (w.name.0 == w.name.0) (is_among here w.name.0) (eq-eqb w.name.0 w.name.0 refl)), words-in (w.name.0 ∷ here) ws)
 
 -- a name that is one of some is free of names that are apart from them
 pub member-free : (here ys : List ℕ) (x : ℕ) → is_among here x ≡ true → AreApart here ys → IsFreeOf ys x

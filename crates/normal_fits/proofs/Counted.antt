@@ -1,5 +1,5 @@
 -- An original has at most 200 tasks beside main and 1000 entries (rule 23), so their numbers have literals.
-use Rattle.std.proofs.Common.{◌≡◌, ℕ, zero, suc, ◌+◌, ◌*◌, ◌≤◌, ◌==◌, nat_le, nat_lt, Bool, true, false, ◌&&◌, if◌then◌else◌, ℤ, pos, ◌+ℤ◌, List, [], ◌∷◌, ◌++◌, length, map, flat_map, Option, Some, None, refl, sym, ap, subst, ◌∙◌, true≢false, arith, length-append}
+use Rattle.std.proofs.Common.{◌≡◌, ℕ, suc, ◌+◌, ◌*◌, ◌≤◌, ◌==◌, nat_le, nat_lt, Bool, true, false, ◌&&◌, if◌then◌else◌, ℤ, List, [], ◌∷◌, ◌++◌, length, map, flat_map, Option, Some, None, refl, sym, ap, subst, ◌∙◌, true≢false, arith, length-append}
 use Rattle.std.specs.List.{AllByRecursion}
 use Rattle.std.proofs.lemmas.Bool.{ltb-false}
 use Rattle.std.proofs.lemmas.List.{length-map}
@@ -17,14 +17,15 @@ use Rattle.syn_event.specs.AllNumbers.{entry_of_task, entries_of_tasks, all_numb
 use Rattle.syn_event.specs.CheckRefusals.{MeetsCheckRules}
 use Rattle.syn_event.specs.CheckScope.{CheckScope, CheckSite, counts}
 use Rattle.syn_event.specs.CheckSites as check
-use Rattle.syn_event.specs.Extents.{Extent, size_of, known_size, extent}
-use Rattle.syn_event.specs.NamedTasks.{NamedTasks, named_tasks, type_named, task_names_of_type, with_type, single_task_name, task_names_in, task_names_of, count_of_range, task_count, NumberedTask, numbered_task, numbers_on, indices, tasks_of_range, tasks_of_name, numbered_tasks}
+use Rattle.syn_event.specs.Extents.{extent}
+use Rattle.syn_event.specs.NamedTasks.{NamedTasks, named_tasks, type_named, task_names_of_type, with_type, single_task_name, task_names_in, task_names_of, count_of_range, task_count, NumberedTask, numbered_task, indices, tasks_of_range, tasks_of_name, numbered_tasks}
 use Rattle.syn_event.proofs.Nothing.{test_fails}
 use Rattle.legal_sites.specs.Met.{IsCheckMet}
 use Rattle.legal_sites.proofs.Meeting.{all_check_met}
 use Rattle.common_lemmas.proofs.Lists.{all_back, all_front, all_joined}
 use Rattle.common_lemmas.proofs.Numbers.{le_true}
 use Rattle.rewritten_types.proofs.Lookups.{find-all}
+use Rattle.syn_event.proofs.Counts.{indices_length}
 
 -- ---- limits
 
@@ -38,20 +39,12 @@ within limit n k le e = ltb-false limit (n + k) (right (nat_le n limit) (nat_lt 
 
 -- ---- how many tasks a name stands for
 
-numbers-length : (z : ℤ) (n : ℕ) → length (numbers_on z n) ≡ n
-numbers-length z zero = refl
-numbers-length z (suc n) = ap (λ k. suc k) (numbers-length (z +ℤ pos 1) n)
-
-indices-length : (o : Option Extent) → length (indices o) ≡ known_size o
-indices-length (Some x) = numbers-length x.first (size_of x)
-indices-length None = refl
-
 count-is : (T : TypeTable) (x : NamedTasks) → length (tasks_of_name T x) ≡ task_count T x
 count-is T x = by_range x.index_range
   where
     by_range : (o : Option PDrange) → length (tasks_of_range T x o) ≡ count_of_range T o
     by_range None = refl
-    by_range (Some r) = length-map (indices (extent T r)) (λ i. numbered_task x (Some i)) ∙ indices-length (extent T r)
+    by_range (Some r) = length-map (indices (extent T r)) (λ i. numbered_task x (Some i)) ∙ indices_length (extent T r)
 
 -- ---- entries of tasks
 
@@ -90,7 +83,7 @@ name-weight T x = by_range x.index_range
 
     by_range : (o : Option PDrange) → weight (tasks_of_range T x o) ≡ count_of_range T o * length x.unit.entries
     by_range None = one (length x.unit.entries)
-    by_range (Some r) = members-weight x (indices (extent T r)) ∙ ap (λ n. n * length x.unit.entries) (indices-length (extent T r))
+    by_range (Some r) = members-weight x (indices (extent T r)) ∙ ap (λ n. n * length x.unit.entries) (indices_length (extent T r))
 
 -- ---- what is counted
 

@@ -14,10 +14,9 @@ use Rattle.syn_event.specs.CheckScope.{CheckScope, CheckSite}
 use Rattle.syn_event.specs.CheckSites as check
 use Rattle.syn_event.specs.Units.{text_of, decl_list}
 use Rattle.legal_sites.specs.Met.{IsCheckMet}
-use Rattle.common_lemmas.proofs.Lists.{all_back, all_front}
+use Rattle.common_lemmas.proofs.Lists.{all_back, all_front, all_unflat}
 use Rattle.common_lemmas.proofs.Numbers.{le_is, unequal}
 use Rattle.common_lemmas.proofs.Truth.{and_left, and_right}
-use Rattle.asked_stmts.proofs.Lists.{all_unflat}
 use Rattle.rewritten_values.proofs.Saying.{place-within}
 use Rattle.normal_model.proofs.VariablesLemmas.{Begins}
 use Rattle.normal_placed.proofs.Tasks.{IsShortName, declared-short}

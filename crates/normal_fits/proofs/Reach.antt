@@ -10,8 +10,7 @@ use Rattle.syn_event.specs.declared.numbering.Mode.TheVariants.{Original}
 use Rattle.syn_event.specs.CheckScope.{CheckScope, CheckSite}
 use Rattle.syn_event.specs.CheckSites as check
 use Rattle.legal_sites.specs.Met.{IsCheckMet}
-use Rattle.common_lemmas.proofs.Lists.{all_back, all_front}
-use Rattle.asked_stmts.proofs.Lists.{all_unflat}
+use Rattle.common_lemmas.proofs.Lists.{all_back, all_front, all_unflat}
 use Rattle.normal_asked.specs.Pieces.{IsPlain}
 use Rattle.normal_placed.proofs.Depth.{depth-of, expr-depth}
 use Rattle.replay_placed.specs.Fitting.{reach}

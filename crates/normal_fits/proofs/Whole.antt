@@ -17,7 +17,7 @@ use Rattle.syn_event.specs.Numbered.{task_info}
 use Rattle.syn_event.specs.Units.{decl_list, tasks_in}
 use Rattle.legal_sites.specs.Met.{IsCheckMet}
 use Rattle.legal_sites.proofs.Meeting.{all_check_met}
-use Rattle.common_lemmas.proofs.Lists.{all_back, all_front, all_joined}
+use Rattle.common_lemmas.proofs.Lists.{all_back, all_front, all_joined, all_through}
 use Rattle.task_model.specs.Setting.{Setting}
 use Rattle.normal_model.specs.Names.{task_name}
 use Rattle.normal_model.specs.Waits.{Unit}
@@ -30,7 +30,6 @@ use Rattle.asked_stmts.specs.Kinds.{place_asks, check_asks, both}
 use Rattle.asked_stmts.proofs.Placed.{placed_asked}
 use Rattle.asked_stmts.proofs.Checked.{checked_asked}
 use Rattle.asked_stmts.proofs.Together.{both_asked}
-use Rattle.asked_stmts.proofs.Lists.{all_flat}
 use Rattle.normal_asked.specs.Pieces.{IsAmong, first_among, later_among}
 use Rattle.normal_asked.proofs.Walk.{body-keeps}
 use Rattle.normal_placed.specs.Placeable.{IsName, MarksHaveNames, IsPlaceable}
@@ -42,6 +41,7 @@ use Rattle.replay_placed.specs.Placeable.{FitsDecl, IsReplayPlaceable}
 use Rattle.normal_fits.specs.Ready.{normal_of, ready_asks, ReadyBody, IsReady}
 use Rattle.normal_fits.proofs.Fitted.{pieces}
 use Rattle.normal_fits.proofs.Doubles.{HasDoubles, decls-doubled}
+use Rattle.syn_event.proofs.DeclLists.{every_listed}
 
 -- ---- lists
 
@@ -53,13 +53,6 @@ front-all P (decl_then d xs) ys h i = (h.0, front-all P xs ys h.1 i)
 list-all : (P : PDecl → Type 0) (ds : List PDecl) → AllByRecursion P ds → AllByRecursion P (decl_list (decls_of ds))
 list-all P [] h = tt
 list-all P (d ∷ ds) h = (h.0, list-all P ds h.1)
-
-flat-every : {A B : Type 0} (P : A → Type 0) (Q : B → Type 0) (f : A → List B) → ((x : A) → P x → AllByRecursion Q (f x)) → (xs : List A) → AllByRecursion P xs → AllByRecursion Q (flat_map f xs)
-flat-every {A = A} P Q f each xs h = all_flat Q f xs (go xs h)
-  where
-    go : (ys : List A) → AllByRecursion P ys → AllByRecursion (λ x. AllByRecursion Q (f x)) ys
-    go [] i = tt
-    go (y ∷ ys) i = (each y i.0, go ys i.1)
 
 -- nothing is asked
 none-asked : {A : Type 0} (xs : List A) → AllByRecursion (λ (x : A). Prim.Unit {0}) xs
@@ -78,10 +71,6 @@ tasks-named names (DSubtype w x s ∷ ds) h = tasks-named names ds h.1
 tasks-named names (DException ws s ∷ ds) h = tasks-named names ds h.1
 tasks-named names (DIntIo w s ∷ ds) h = tasks-named names ds h.1
 tasks-named names (DPragma e s ∷ ds) h = tasks-named names ds h.1
-
-placed-list : (r : Rules) (ds : PDecls) → EveryDecls r ds → AllByRecursion (EveryDecl r) (decl_list ds)
-placed-list r no_decl h = tt
-placed-list r (decl_then d ds) h = (h.0, placed-list r ds h.1)
 
 module _ (g : Setting) (h : IsPlaceable g) (q : IsReady g) where
   abbrev p : PProgram
@@ -198,8 +187,8 @@ module _ (g : Setting) (h : IsPlaceable g) (q : IsReady g) where
 
   tasks-fit : AllByRecursion (HasDoubles n.program.names) (decl_list p.decls) → AllByRecursion (FitsDecl n) (flat_map (task_declared g) (tasks_beside g))
   tasks-fit i =
-      flat-every (λ (info : TaskInfo). Prim.Unit {0}) (FitsDecl n) (task_declared g)
-      (λ info j. flat-every (HasDoubles n.program.names) (FitsDecl n) (declared_under info.unit (task_name g info)) (λ d k. under-fits info.unit (task_name g info) d k) (decl_list p.decls) i)
+      all_through (λ (info : TaskInfo). Prim.Unit {0}) (FitsDecl n) (task_declared g)
+      (λ info j. all_through (HasDoubles n.program.names) (FitsDecl n) (declared_under info.unit (task_name g info)) (λ d k. under-fits info.unit (task_name g info) d k) (decl_list p.decls) i)
       (tasks_beside g) (none-asked (tasks_beside g))
 
   -- ---- the whole
@@ -246,7 +235,7 @@ module _ (g : Setting) (h : IsPlaceable g) (q : IsReady g) where
     main = body-fits 0 0 p.body (check.after_decls around p.decls) h.placed.3 (all_back M main its two-met) q.main;
     decls = decls-fit;
     marks = marks;
-    tasks = (normal-placed.0, infos-named _ (tasks-named n.program.names (decl_list n.program.decls) (placed-list (well_placed n.program.names) n.program.decls normal-placed.2)));
+    tasks = (normal-placed.0, infos-named _ (tasks-named n.program.names (decl_list n.program.decls) (every_listed (well_placed n.program.names) n.program.decls normal-placed.2)));
     few_tasks = q.few_tasks;
     few_entries = q.few_entries;
   }

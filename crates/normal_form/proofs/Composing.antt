@@ -16,12 +16,12 @@ use Rattle.normal_model.specs.NormalStmts.{normal_body}
 use Rattle.normal_model.specs.NormalTree.{bodies_of, first_decls, greatest, main_unit, main_variables, normal_decls, normal_tree, task_declared, tasks_beside, variables_needed, variables_of_body}
 use Rattle.normal_names.specs.declared.names.NormalNames.{NormalNames}
 use Rattle.normal_names.specs.SoFar.{AreNamesOf}
-use Rattle.normal_declarations.proofs.Listing.{row_front}
 use Rattle.normal_form.specs.inner.Whole.{all_decls, named_behind}
 use Rattle.syn_event.proofs.DeclLists.{listed_back}
+use Rattle.normal_model.proofs.WalkLemmas.{listed-front}
 
 decls_are : (g : Setting) → decls_of (all_decls g (main_variables g)) ≡ normal_decls g
-decls_are g = row_front (first_decls [] g.program.decls) _
+decls_are g = listed-front (first_decls [] g.program.decls) _
 
 pub whole_is : (g : Setting) (names : List (List ℕ)) (named : ℕ) (decls : List PDecl) (its : PBody) (vars : List PDecl) →
     names ≡ normal_names g named → named ≡ named_behind g (length vars) → decls ≡ all_decls g vars → vars ≡ main_variables g → its ≡ normal_body (main_unit g) g.program.body →

@@ -71,7 +71,7 @@ n29 : Named 29
 n29 = (refl, omega arith, refl)
 
 -- a declaration's only name, and the formal
-one-name : (k : ℕ) → Named k → All (EveryWord rules) (word k ∷ [])
+pub one-name : (k : ℕ) → Named k → All (EveryWord rules) (word k ∷ [])
 one-name k h = All-cons (EveryWord rules) (word k) [] h (All-nil (EveryWord rules))
 
 formals-named : All (EveryFormal rules) (formal ∷ [])

@@ -9,7 +9,7 @@ use Rattle.rewritten_values.proofs.Saying.{place-within}
 use Rattle.normal_types.proofs.Names.{variable-there, interned-begins}
 
 -- names of more variables begin with those of fewer
-more-begin : (ts : List (List ℕ)) (n d : ℕ) → Begins (with_variables ts n) (with_variables ts (n + d))
+pub more-begin : (ts : List (List ℕ)) (n d : ℕ) → Begins (with_variables ts n) (with_variables ts (n + d))
 more-begin ts n zero = let e : n + 0 ≡ n = omega arith in subst (λ k. Begins (with_variables ts n) (with_variables ts k)) (sym e) (begins-refl (with_variables ts n))
 more-begin ts n (suc d) =
     let e : n + suc d ≡ suc (n + d) = omega arith in

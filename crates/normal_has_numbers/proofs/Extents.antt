@@ -1,29 +1,19 @@
 -- Static expressions and ranges in which all names are old have the same values by tables that agree on old names.
-use Rattle.std.proofs.Common.{◌≡◌, ℕ, suc, ℤ, pos, ◌+ℤ◌, ◌-ℤ◌, ◌==◌, Bool, true, ◌&&◌, if◌then◌else◌, List, [], ◌∷◌, is_some, option_map, Option, Some, None, Result, Ok, Err, IfSome, refl, sym, ap, ap₂, ◌∙◌}
+use Rattle.std.proofs.Common.{◌≡◌, ℕ, ℤ, pos, ◌+ℤ◌, ◌-ℤ◌, ◌==◌, Bool, true, ◌&&◌, if◌then◌else◌, is_some, option_map, Option, Some, None, Result, Ok, Err, IfSome, refl, sym, ap, ap₂, ◌∙◌}
 use Rattle.ada_tree.specs.declared.naming.NameId.{NameId}
 use Rattle.ada_tree.specs.declared.naming.Span.{Span}
-use Rattle.ada_tree.specs.declared.static_types.Kind.{Kind}
 use Rattle.ada_tree.specs.declared.static_types.Mark.{Mark}
 use Rattle.ada_tree.specs.declared.static_types.Constant.{Constant}
 use Rattle.ada_tree.specs.TypeTable.{TypeTable}
 use Rattle.ada_tree.specs.Attributes.{Attribute, First, Last, Pos, Val, Succ, Pred, Image, NoAttribute, attribute_of, is_bound, false_name, true_name}
 use Rattle.ada_tree.specs.PlainExpr.{PExpr, EInteger, EName, EIndex, EAttribute, EAttributeOf, EParen, EUnary, EBinary, PBounds, PDrange, RGiven, RMarked}
-use Rattle.ada_tree.specs.StaticValue.{position_in, first_of_two, literal_position, value_named, keeps_static, is_static, signed, bound_of, of_base, attribute_at, then_do, operated, named, value_of}
+use Rattle.ada_tree.specs.StaticValue.{first_of_two, value_named, keeps_static, is_static, signed, bound_of, of_base, attribute_at, then_do, operated, named, value_of}
 use Rattle.ada_tree.specs.Every.{EveryExpr, EveryBounds, EveryDrange}
 use Rattle.syn_event.specs.Extents.{value_there, fixed, between, bounds_extent, marked_extent, extent}
-use Rattle.rewritten_types.specs.Agreement.{Literal, literal_among, Agrees}
+use Rattle.rewritten_types.specs.Agreement.{Literal, Agrees}
 use Rattle.rewritten_values.specs.Values.{old_names}
 use Rattle.rewritten_values.proofs.Saying.{bases-alike}
-
--- the position of a literal is that of the literal that a table tells
-position-among : (ks : List Kind) (k : ℕ) (id : NameId) → literal_position ks id ≡ option_map (λ (l : Literal). l.position) (literal_among ks k id)
-position-among [] k id = refl
-position-among (x ∷ rest) k id = by_place (position_in id x) (position-among rest (suc k) id)
-  where
-    by_place : (o : Option ℕ) → literal_position rest id ≡ option_map (λ (l : Literal). l.position) (literal_among rest (suc k) id) →
-        first_of_two o (literal_position rest id) ≡ option_map (λ (l : Literal). l.position) (first_of_two (option_map (λ n. record { kind = k; position = n }) o) (literal_among rest (suc k) id))
-    by_place (Some n) e = refl
-    by_place None e = e
+use Rattle.rewritten_types.proofs.Lookups.{position-among}
 
 -- what is done with a value
 then-alike : (f g : ℤ → Result ℤ Span) (r : Result ℤ Span) → ((z : ℤ) → f z ≡ g z) → then_do f r ≡ then_do g r

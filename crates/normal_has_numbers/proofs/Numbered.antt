@@ -21,8 +21,9 @@ use Rattle.normal_types.specs.Laws.{IsOrdered, setting_of, AreOwn}
 use Rattle.normal_types.proofs.Normal.{normal_agrees}
 use Rattle.normal_units.specs.Laws.{numbers_made}
 use Rattle.normal_has_numbers.specs.Laws.{NoneIsDed, NormalHasNumbers}
+use Rattle.normal_has_numbers.specs.Single.{IsSingle}
 use Rattle.normal_has_numbers.proofs.Named.{added-longer, own-within}
-use Rattle.normal_has_numbers.proofs.TasksNumbered.{IsSingle, single_task, numbers-single}
+use Rattle.normal_has_numbers.proofs.TasksNumbered.{single_task, numbers-single}
 use Rattle.normal_has_numbers.proofs.Listed.{IsPlain, IsOneTask, IsOneBody, first-plain, firsts, vars, tasks, vars-plain, tasks-all, bodies-all, normal-list}
 use Rattle.normal_has_numbers.proofs.Tasked.{under, normal-tasks-of}
 use Rattle.normal_has_numbers.proofs.TaskNames.{IsNamed, normal-begins, all-named, entries-own, family-kept}

@@ -6,25 +6,21 @@ use Rattle.ada_tree.specs.declared.naming.Span.{Span}
 use Rattle.ada_tree.specs.declared.naming.NameId.{NameId}
 use Rattle.ada_tree.specs.declared.naming.Word.{Word}
 use Rattle.ada_tree.specs.TypeTable.{TypeTable}
-use Rattle.ada_tree.specs.PlainDecl.{PShape, OPlain, OArray, PTask, PDecl, DNumber, DObject, DEnumeration, DArray, DSubtype, DException, DIntIo, DPragma, DTask, DTaskBody, PDecls, no_decl, decl_then}
+use Rattle.ada_tree.specs.PlainDecl.{PShape, OPlain, OArray, PTask, DNumber, DObject, DEnumeration, DArray, DSubtype, DException, DIntIo, DPragma, DTask, DTaskBody, PDecls, no_decl, decl_then}
 use Rattle.ada_tree.specs.PlainProgram.{PProgram}
 use Rattle.syn_event.specs.Numbering.{Numbering}
 use Rattle.syn_event.specs.Numbered.{task_info, with_origins}
 use Rattle.syn_event.specs.NamedTasks.{with_type, single_task_name, object_task_names, task_names_in, NumberedTask, tasks_of_name}
 use Rattle.syn_event.specs.AllNumbers.{info_of_task, entry_of_task, entries_of_tasks, all_numbers}
 use Rattle.syn_event.specs.Units.{decl_list, tasks_in, tasks_of}
-
--- no task type
-abbrev pub IsSingle : PDecl → Type 0
-IsSingle (DTask t s) = t.of_kind ≡ false
-IsSingle _ = Unit {0}
+use Rattle.normal_has_numbers.specs.Single.{IsSingle}
 
 -- a task that is declared as a single one
 abbrev pub single_task : PTask → NumberedTask
 single_task t = record { name = t.name.name; unit = t; member = None }
 
 -- without task types no object is a task
-no-parts : (names : List Word) (x : PShape) → object_task_names [] names x ≡ []
+pub no-parts : (names : List Word) (x : PShape) → object_task_names [] names x ≡ []
 no-parts names (OPlain x) = refl
 no-parts names (OArray index x) = refl
 

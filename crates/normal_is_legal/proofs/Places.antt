@@ -6,11 +6,11 @@ use Rattle.ada_tree.specs.Demand.{Site}
 use Rattle.ada_tree.specs.RuleDuplicate.{duplicate}
 use Rattle.ada_tree.specs.Refusals.{Refusal, by_rule, refused_at, refused_from}
 use Rattle.ada_tree.specs.Sites.{sites}
-use Rattle.legal_sites.proofs.Meeting.{no_spans}
 use Rattle.common_lemmas.proofs.Lists.{back_empty, front_empty}
 use Rattle.alike_scopes.specs.Laws.{IsMetBut}
 use Rattle.normal_once.specs.Once.{AllOnce}
 use Rattle.normal_is_legal.specs.Laws.{MeetsByPlaces, PlacesMeet}
+use Rattle.tree_lemmas.proofs.Spans.{no_spans}
 
 -- ---- from places
 

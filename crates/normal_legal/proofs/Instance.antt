@@ -45,11 +45,11 @@ names = AreNames-added (predefined ++ codes "P" ∷ codes "W" ∷ codes "E" ∷ 
 -- ---- sizes
 
 -- a kind that is no enumeration
-abbrev IsOther : Kind → Type 0
+abbrev pub IsOther : Kind → Type 0
 IsOther (Enumeration ids) = ⊥
 IsOther _ = Unit {0}
 
-small-other : (k : ℕ) (x : Kind) → IsOther x → IsSmallKind k x
+pub small-other : (k : ℕ) (x : Kind) → IsOther x → IsSmallKind k x
 small-other k (Enumeration ids) h = absurd h
 small-other k Integer h = tt
 small-other k Truth h = tt

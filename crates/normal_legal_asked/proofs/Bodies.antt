@@ -14,7 +14,7 @@ use Rattle.ada_tree.specs.Every.{EveryDecls, EveryProgram}
 use Rattle.ada_tree.specs.WellPlaced.{well_placed, IsWellPlaced}
 use Rattle.ada_tree.specs.Demand.{Site}
 use Rattle.ada_tree.specs.Scope.{Scope, EntryPart, meaning}
-use Rattle.ada_tree.specs.Declaring.{before_all, first_scope, inside, own_entries, in_body, after_own_object, after_objects, after_decl, after_decls}
+use Rattle.ada_tree.specs.Declaring.{before_all, first_scope, inside, own_entries, in_body, after_objects, after_decl, after_decls}
 use Rattle.ada_tree.specs.Sites.{names_sites, own_sites, decl_sites, decls_sites, body_sites, sites}
 use Rattle.syn_event.specs.declared.numbering.Mode.TheVariants.{Original}
 use Rattle.syn_event.specs.Legal.{Legal}
@@ -33,7 +33,6 @@ use Rattle.normal_types.specs.Own.{own_name}
 use Rattle.translation_law.specs.Translations.{Programs}
 use Rattle.normal_runs_law.specs.Premises.{programs_of}
 use Rattle.normal_form_law.specs.Normalisable.{setting_for, normal_rewrite}
-use Rattle.normal_legal_seen.proofs.Scopes.{names-own}
 use Rattle.legal_sites.proofs.Meeting.{all_met, all_check_met}
 use Rattle.normal_legal_seen.proofs.Parts.{AreRanged, MainSeen, ObjectsApart, types_after, decl-step}
 use Rattle.normal_legal_seen.proofs.Bodies.{first-seen, decls-step, main-seen, TaskSeen, task-seen}
@@ -44,37 +43,11 @@ use Rattle.normal_typed.specs.ScopeOf.{IsPlaceOf, task_asks}
 use Rattle.normal_legal_asked.proofs.Inner.{places-of}
 use Rattle.normal_legal_asked.proofs.Tasks.{text}
 use Rattle.normal_legal_asked.proofs.Asked.{Place, Checked, body-asked, main-heads, task-heads}
-
--- the entries of the own task behind its objects
-objects-own : (ds : PDecls) (s : Scope) → (after_objects s ds).own ≡ s.own
-objects-own no_decl s = refl
-objects-own (decl_then (DObject ws constant shape init sp) rest) s = objects-own rest (after_own_object s (DObject ws constant shape init sp)) ∙ names-own _ ws _
-objects-own (decl_then (DNumber w e sp) rest) s = objects-own rest s
-objects-own (decl_then (DEnumeration w ws sp) rest) s = objects-own rest s
-objects-own (decl_then (DArray w i x sp) rest) s = objects-own rest s
-objects-own (decl_then (DSubtype w x sp) rest) s = objects-own rest s
-objects-own (decl_then (DException ws sp) rest) s = objects-own rest s
-objects-own (decl_then (DIntIo w sp) rest) s = objects-own rest s
-objects-own (decl_then (DPragma e sp) rest) s = objects-own rest s
-objects-own (decl_then (DTask t sp) rest) s = objects-own rest s
-objects-own (decl_then (DTaskBody w objects its sp) rest) s = objects-own rest s
-
--- main has none
-decl-own : (d : PDecl) (s : Scope) → (after_decl s d).own ≡ s.own
-decl-own (DNumber w e sp) s = refl
-decl-own (DObject ws constant shape init sp) s = names-own _ ws _
-decl-own (DEnumeration w ws sp) s = names-own _ ws _
-decl-own (DArray w i x sp) s = refl
-decl-own (DSubtype w x sp) s = refl
-decl-own (DException ws sp) s = names-own _ ws s
-decl-own (DIntIo w sp) s = refl
-decl-own (DPragma e sp) s = refl
-decl-own (DTask t sp) s = refl
-decl-own (DTaskBody w objects its sp) s = refl
+use Rattle.tree_lemmas.proofs.Declared.{objects_own, decl_own}
 
 decls-own : (ds : PDecls) (s : Scope) → (after_decls s ds).own ≡ s.own
 decls-own no_decl s = refl
-decls-own (decl_then d rest) s = decls-own rest (after_decl s d) ∙ decl-own d s
+decls-own (decl_then d rest) s = decls-own rest (after_decl s d) ∙ decl_own d s
 
 -- what is asked of a body in a unit with these entries
 abbrev pub body_asks : Setting → (ℕ → Bool) → List EntryPart → Asks (Prim.Unit {0} × (Scope × Prim.Unit {0}))
@@ -143,7 +116,7 @@ module _ (p : PProgram) (types : TypeTable) (its_numbers : Numbering) (legal : L
       let checks = all_front Check (check.decl_sites c bodies d) (check.decls_sites (check.after_decl c d) bodies rest) h.checks in
       let seen : TaskSeen p T w scope around = task-seen p T kinds w objects its sp rest s c h.seen known.0.0.known in
       body-asked p types its_numbers legal placed names small (Some seen.task) (own_entries (meaning s w.name)) (task-heads p types its_numbers legal placed names small seen.task) own scope around its seen.seen h.typed.0
-      (objects-own objects (in_body s w)) h.every.0.4 h.owned.0.4
+      (objects_own objects (in_body s w)) h.every.0.4 h.owned.0.4
       (all_back Known (own_sites (in_body s w) objects) (body_sites scope its) known.1)
       (all_back P (own_sites (in_body s w) objects) (body_sites scope its) places.1)
       (all_back Check (check.own_sites (check.in_body c w) objects) (check.body_sites around 1 its) checks)

@@ -31,7 +31,7 @@ numbers-short x (suc n) f low high =
     let m : int_le ((f +ℤ pos 1) +ℤ pos n) (pos 2147483648) ≡ true = grind (arith, ints) in
     (short-of f low h, numbers-short x n (f +ℤ pos 1) l m)
 
-both-sides : (z : ℤ) → is_integer_value z ≡ true → (int_le (negsuc 2147483647) z ≡ true) × (int_le z (pos 2147483647) ≡ true)
+pub both-sides : (z : ℤ) → is_integer_value z ≡ true → (int_le (negsuc 2147483647) z ≡ true) × (int_le z (pos 2147483647) ≡ true)
 both-sides z e = by_tests (int_le (negsuc 2147483647) z) (int_le z (pos 2147483647)) e
   where
     by_tests : (a b : Bool) → (a && b) ≡ true → (a ≡ true) × (b ≡ true)

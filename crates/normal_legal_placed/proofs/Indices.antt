@@ -1,5 +1,5 @@
 -- The indices of the members of arrays of tasks are values of INTEGER: bounds of their ranges are.
-use Rattle.std.proofs.Common.{◌≡◌, ℕ, zero, suc, ℤ, pos, negsuc, ◌+ℤ◌, ◌-ℤ◌, ◌&&◌, Bool, true, false, List, [], ◌∷◌, map, flat_map, IfSome, Option, Some, None, refl, sym, subst, true≢false, arith}
+use Rattle.std.proofs.Common.{◌≡◌, ℕ, zero, suc, ℤ, pos, negsuc, ◌+ℤ◌, ◌-ℤ◌, true, List, [], ◌∷◌, map, flat_map, IfSome, Option, Some, None, refl, sym, subst, arith}
 use Rattle.std.specs.Prelude.{int_le}
 use Rattle.std.specs.List.{AllByRecursion}
 use Rattle.std.proofs.lemmas.Int.{ints}
@@ -12,19 +12,13 @@ use Rattle.syn_event.specs.NamedTasks.{NamedTasks, NumberedTask, numbered_task, 
 use Rattle.syn_event.specs.AllNumbers.{info_of_task}
 use Rattle.legal_types.specs.Typed.{HasLimits, IsTypedPart}
 use Rattle.normal_placed.specs.Placeable.{IsSmallIndex, HasSmallIndex}
+use Rattle.normal_legal_bodies.proofs.Rows.{both-sides}
 
 -- ---- numbers
 
 small-of : (z : ℤ) → int_le (negsuc 2147483647) z ≡ true → int_le z (pos 2147483647) ≡ true → IsSmallIndex z
 small-of (pos n) low high = grind (arith, ints)
 small-of (negsuc n) low high = grind (arith, ints)
-
-both-sides : (z : ℤ) → is_integer_value z ≡ true → (int_le (negsuc 2147483647) z ≡ true) × (int_le z (pos 2147483647) ≡ true)
-both-sides z e = by_tests (int_le (negsuc 2147483647) z) (int_le z (pos 2147483647)) e
-  where
-    by_tests : (a b : Bool) → (a && b) ≡ true → (a ≡ true) × (b ≡ true)
-    by_tests true b f = (refl, f)
-    by_tests false b f = absurd (true≢false (sym f))
 
 numbers-small : (n : ℕ) (f : ℤ) → int_le (negsuc 2147483647) f ≡ true → int_le (f +ℤ pos n) (pos 2147483648) ≡ true → AllByRecursion IsSmallIndex (numbers_on f n)
 numbers-small zero f low high = tt

@@ -1,6 +1,5 @@
 -- What can be seen of tasks in bodies: that of main behind all declarations, and those of tasks.
 use Rattle.std.proofs.Common.{◌≡◌, ℕ, true, false, ◌==◌, if◌then◌else◌, List, [], ◌∷◌, ◌++◌, option_map, find, unwrap_or, Option, Some, None, refl, sym, ap, ◌∙◌, subst, true≢false, ⊎_elim}
-use Rattle.std.proofs.lemmas.Option.{none-some}
 use Rattle.std.proofs.lemmas.Bool.{or_cases}
 use Rattle.ada_tree.specs.declared.naming.NameId.{NameId}
 use Rattle.ada_tree.specs.declared.naming.Span.{Span}
@@ -22,21 +21,17 @@ use Rattle.syn_event.specs.NamedTasks.{NamedTasks, task_names_in, task_names_of}
 use Rattle.rewritten_types.specs.Rewriting.{IsUnused, DeclareOnce}
 use Rattle.rewritten_types.proofs.Lookups.{find-all}
 use Rattle.rewritten_types.proofs.Fresh.{first-here}
-use Rattle.normal_legal_seen.proofs.Scopes.{is_one_of, names-all, meant-out, meant-own, names-own, IsNoTask, inner-object, formal-no-task, loop-no-task}
+use Rattle.normal_legal_seen.proofs.Scopes.{is_one_of, names-all, meant-out, meant-own, IsNoTask, inner-object, formal-no-task, loop-no-task}
 use Rattle.normal_legal_seen.proofs.Parts.{ObjectsApart, AreRanged, unit_is, IsUnitOf, Stands, IsTaskArray, Means, IsPair, MainSeen, types_after, decl-step, extended, no-task-means, no-task-pair, name-used}
 use Rattle.common_lemmas.proofs.Lists.{find_front, not_empty}
-use Rattle.common_lemmas.proofs.Options.{some_same}
+use Rattle.tree_lemmas.proofs.Declared.{names_own, thing_found}
 
 -- ---- predefined names
-
-seen-of : (o : Option Seen) (th : Thing) → option_map (λ (x : Seen). x.thing) o ≡ Some th → (x : Seen) × (o ≡ Some x) × (x.thing ≡ th)
-seen-of None th e = absurd (none-some th e)
-seen-of (Some x) th e = (x, refl, some_same e)
 
 -- no predefined name is that of a task
 first-no-task : (id : NameId) (th : Thing) → meaning before_all id ≡ Some th → IsNoTask th
 first-no-task id th e =
-    let x = seen-of (find (λ (x : Seen). x.name == id.0) predefined_names) th e in
+    let x = thing_found (find (λ (x : Seen). x.name == id.0) predefined_names) th e in
     subst IsNoTask x.2 (find-all (λ (y : Seen). IsNoTask y.thing) (λ (y : Seen). y.name == id.0) predefined_names x.0
     (tt, (tt, (tt, (tt, (tt, (tt, (tt, (tt, (tt, (tt, (tt, (tt, (tt, (tt, (tt, (tt, (tt, (tt, tt)))))))))))))))))) x.1)
 
@@ -143,7 +138,7 @@ module _ (p : PProgram) (T : TypeTable) where
   names-seen who thing ws s t c c' h same owned out own m = record {
     seen = names-all SeenAs thing ws t (λ id th o e. m.seen id th (sym (same id) ∙ e)) (λ id one. no-task-seen id thing h);
     pairs = names-all (λ id th. IsPair p T (check.meaning c' id) th) thing ws t (λ id th o e. subst (λ q. IsPair p T q th) (sym (out id o)) (m.pairs id th (sym (same id) ∙ e))) (λ id one. no-task-pair p T _ thing h);
-    own = in-it who (names-own thing ws t ∙ owned) own m.own;
+    own = in-it who (names_own thing ws t ∙ owned) own m.own;
   }
     where
       in-it : (who : Option PTask) → (with_names thing t ws).own ≡ s.own → c'.own ≡ c.own → IsIn who s c → IsIn who (with_names thing t ws) c'

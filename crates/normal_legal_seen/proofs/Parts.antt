@@ -28,9 +28,10 @@ use Rattle.rewritten_types.specs.Rewriting.{names_declared, IsUsed, IsUnused}
 use Rattle.rewritten_types.proofs.Lookups.{find-all}
 use Rattle.rewritten_types.proofs.Fresh.{InHere, here-decl, other, used-more}
 use Rattle.legal_entries.proofs.Lists.{find-behind, find-mapped}
-use Rattle.normal_legal_seen.proofs.Scopes.{has_id, is_one_of, names-all, meant-out, meant-in, meant-units, meant-own, IsNoTask, ObjectThing, no_task_object, one_object, array_of_objects, object-thing, task-type-seen}
+use Rattle.normal_legal_seen.proofs.Scopes.{has_id, is_one_of, names-all, meant-out, meant-in, meant-own, IsNoTask, ObjectThing, no_task_object, one_object, array_of_objects, object-thing, task-type-seen}
 use Rattle.common_lemmas.proofs.Lists.{all_joined, all_weaker, find_front, found_none}
 use Rattle.common_lemmas.proofs.Options.{some_same}
+use Rattle.syn_event.proofs.CheckScopes.{meant_units}
 
 -- ---- ranges
 
@@ -316,7 +317,7 @@ module _ (p : PProgram) (T : TypeTable) where
     own : c'.own ≡ c.own
 
   meant-grown : (c : CheckScope) (m : Meant) (names : List Word) → Grown c (sites.with_meant m c names) names
-  meant-grown c m names = record { out = λ id e. meant-out m names c id e; units = meant-units m names c; own = meant-own m names c }
+  meant-grown c m names = record { out = λ id e. meant-out m names c id e; units = meant_units m names c; own = meant-own m names c }
 
   value-grown : (c : CheckScope) (b : Bool) (names : List Word) → Grown c (sites.with_value b c names) names
   value-grown c true names = meant-grown c meant.Shared names

@@ -18,6 +18,7 @@ use Rattle.syn_event.specs.CheckScope.{CheckScope}
 use Rattle.syn_event.specs.CheckScope as check
 use Rattle.syn_event.specs.CheckSites.{with_meant}
 use Rattle.common_lemmas.proofs.Options.{some_same}
+use Rattle.tree_lemmas.proofs.Declared.{name_means}
 
 -- ---- names
 
@@ -34,9 +35,6 @@ through b thing n o = option_map (λ s. s.thing) (if b then Some (seen_as thing 
 meaning-other : (thing : Thing) (w : Word) (s : Scope) (id : NameId) → (w.name.0 == id.0) ≡ false → meaning (with_name thing s w) id ≡ meaning s id
 meaning-other thing w s id e = ap (λ b. through b thing w.name.0 (find (λ (x : Seen). x.name == id.0) s.names)) e
 
-meaning-here : (thing : Thing) (w : Word) (s : Scope) (id : NameId) → (w.name.0 == id.0) ≡ true → meaning (with_name thing s w) id ≡ Some thing
-meaning-here thing w s id e = ap (λ b. through b thing w.name.0 (find (λ (x : Seen). x.name == id.0) s.names)) e
-
 pub meaning-out : (thing : Thing) (ws : List Word) (s : Scope) (id : NameId) → is_one_of ws id ≡ false → meaning (with_names thing s ws) id ≡ meaning s id
 meaning-out thing [] s id e = refl
 meaning-out thing (w ∷ ws) s id e =
@@ -50,7 +48,7 @@ meaning-in thing (w ∷ ws) s id e = by_test (is_one_of ws id) refl (w.name.0 ==
     by_test : (b : Bool) → is_one_of ws id ≡ b → (a : Bool) → (w.name.0 == id.0) ≡ a → (a || b) ≡ true → (is_one_of ws id ≡ true → meaning (with_names thing s (w ∷ ws)) id ≡ Some thing) →
         meaning (with_names thing s (w ∷ ws)) id ≡ Some thing
     by_test true f a g h rest = rest f
-    by_test false f true g h rest = meaning-out thing ws (with_name thing s w) id f ∙ meaning-here thing w s id g
+    by_test false f true g h rest = meaning-out thing ws (with_name thing s w) id f ∙ name_means thing w s id g
     by_test false f false g h rest = absurd (true≢false (sym h))
 
 -- what holds of what each name means behind a declaration: the declared ones, and the others as before
@@ -84,17 +82,9 @@ meant-in m (w ∷ ws) c id e = by_test (is_one_of ws id) refl (w.name.0 == id.0)
         ∙ ap (λ b. option_map (λ (k : ℕ × Meant). k.1) (if b then Some (w.name.0, m) else find (λ (k : ℕ × Meant). k.0 == id.0) c.names)) g
     by_test false f false g h rest = absurd (true≢false (sym h))
 
-pub meant-units : (m : Meant) (ws : List Word) (c : CheckScope) → (with_meant m c ws).units ≡ c.units
-meant-units m [] c = refl
-meant-units m (w ∷ ws) c = meant-units m ws (record c { names = (w.name.0, m) ∷ c.names })
-
 pub meant-own : (m : Meant) (ws : List Word) (c : CheckScope) → (with_meant m c ws).own ≡ c.own
 meant-own m [] c = refl
 meant-own m (w ∷ ws) c = meant-own m ws (record c { names = (w.name.0, m) ∷ c.names })
-
-pub names-own : (thing : Thing) (ws : List Word) (s : Scope) → (with_names thing s ws).own ≡ s.own
-names-own thing [] s = refl
-names-own thing (w ∷ ws) s = names-own thing ws (with_name thing s w)
 
 -- ---- things that are no tasks
 

@@ -40,7 +40,7 @@ use Rattle.legal_types.proofs.TaskTypes.{part-units}
 use Rattle.normal_legal_types.specs.Ready.{IsReady}
 use Rattle.normal_legal_types.proofs.Numbers.{EntryRule, IsRuled, IsEntryOf, entry-of, formals-are, range-is}
 use Rattle.normal_legal_types.proofs.Forms.{HasForm, truth-form, integer-form, mark-form, range-form}
-use Rattle.common_lemmas.proofs.Lists.{all_joined}
+use Rattle.common_lemmas.proofs.Lists.{all_joined, all_paired}
 
 -- ---- tasks and parts, with names that are the program's own
 
@@ -86,10 +86,6 @@ parts-every rules (decl_then (DException ws sp) rest) kinds h = parts-every rule
 parts-every rules (decl_then (DIntIo name sp) rest) kinds h = parts-every rules rest kinds h.1
 parts-every rules (decl_then (DPragma e sp) rest) kinds h = parts-every rules rest kinds h.1
 parts-every rules (decl_then (DTaskBody w objects its sp) rest) kinds h = parts-every rules rest kinds h.1
-
-all-both : {A : Type 0} (P Q : A → Type 0) (xs : List A) → AllByRecursion P xs → AllByRecursion Q xs → AllByRecursion (λ x. P x × Q x) xs
-all-both P Q [] h k = tt
-all-both P Q (x ∷ xs) h k = ((h.0, k.0), all-both P Q xs h.1 k.1)
 
 -- the entry has types, and names that are the program's own
 pub record IsOwnEntry (p : PProgram) (e : PEntry) : Type 0 where
@@ -159,7 +155,7 @@ module _ (p : PProgram) (ready : IsReady p) where
   array-own id = by_part (find (λ x. x.name.name.0 == id.0) (task_names_of p)) refl
     where
       all : AllByRecursion (λ (x : NamedTasks). IsTypedPart T x × RangeEvery (old_names (own_name p)) x) (task_names_of p)
-      all = all-both (IsTypedPart T) (RangeEvery (old_names (own_name p))) (task_names_of p) ready.tasks.parts (parts-every (old_names (own_name p)) p.decls [] ready.own.2)
+      all = all_paired (IsTypedPart T) (RangeEvery (old_names (own_name p))) (task_names_of p) ready.tasks.parts (parts-every (old_names (own_name p)) p.decls [] ready.own.2)
 
       by_part : (o : Option NamedTasks) → find (λ x. x.name.name.0 == id.0) (task_names_of p) ≡ o → IsOwnRange (and_then (λ x. x.index_range) o)
       by_part (Some x) e = find-all (λ (y : NamedTasks). IsTypedPart T y × RangeEvery (old_names (own_name p)) y) (λ y. y.name.name.0 == id.0) (task_names_of p) x all e

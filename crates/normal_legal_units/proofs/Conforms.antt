@@ -7,7 +7,7 @@ use Rattle.std.proofs.lemmas.List.{append_assoc}
 use Rattle.ada_tree.specs.declared.naming.NameId.{NameId}
 use Rattle.ada_tree.specs.declared.naming.Word.{Word}
 use Rattle.ada_tree.specs.TypeTable.{TypeTable}
-use Rattle.ada_tree.specs.PlainStmt.{PFormal, PHead, PScheme, LWhile, LFor, PBody}
+use Rattle.ada_tree.specs.PlainStmt.{PHead, PScheme, LWhile, LFor, PBody}
 use Rattle.ada_tree.specs.PlainDecl.{OPlain, OArray, PEntry, PTask, PDecl, DNumber, DObject, DEnumeration, DArray, DSubtype, DException, DIntIo, DPragma, DTask, DTaskBody, PDecls, no_decl, decl_then}
 use Rattle.ada_tree.specs.PlainProgram.{PProgram}
 use Rattle.ada_tree.specs.Every.{EveryBody, EveryDecl, EveryDecls}
@@ -15,7 +15,7 @@ use Rattle.ada_tree.specs.WellPlaced.{tokens, HasTokens}
 use Rattle.ada_tree.specs.Refusals.{MeetsTypeRules, types_in}
 use Rattle.ada_tree.specs.Scope.{Scope, Thing, TypeMark, TaskType, SingleTask, TaskObject, TaskArray, Variable, ConstantObject, Parameter, LoopParameter, Literal, AnException, MainProcedure, AnotherUnit, Unclear, EntryPart, meaning, entry_named}
 use Rattle.ada_tree.specs.Sites.{head_sites, body_sites, decl_sites, decls_sites, own_sites, loop_scope}
-use Rattle.ada_tree.specs.Declaring.{first_scope, inside, with_name, with_names, with_formals, formal_parts, entry_part, own_entries, in_body, after_own_object, after_objects, after_decl, after_decls}
+use Rattle.ada_tree.specs.Declaring.{first_scope, inside, formal_parts, entry_part, own_entries, in_body, after_own_object, after_objects, after_decl, after_decls}
 use Rattle.ada_tree.specs.RuleUnknown.{no_body_of}
 use Rattle.ada_tree.specs.RuleArgCount.{written_formals, are_same, fits_accept, wrong_accept}
 use Rattle.syn_event.specs.declared.numbering.Mode.TheVariants.{Original}
@@ -52,16 +52,9 @@ use Rattle.normal_legal_units.proofs.Seen.{is_task, IsSeen, AreSeen, tasks_of_de
 use Rattle.common_lemmas.proofs.Lists.{all_back, all_front, find_front, found_none, not_empty}
 use Rattle.common_lemmas.proofs.Options.{some_same}
 use Rattle.common_lemmas.proofs.Truth.{and_both}
+use Rattle.tree_lemmas.proofs.Declared.{objects_own, formals_own}
 
 -- ---- what stays in a body
-
-names-own : (thing : Thing) (ws : List Word) (s : Scope) → (with_names thing s ws).own ≡ s.own
-names-own thing [] s = refl
-names-own thing (w ∷ ws) s = names-own thing ws (with_name thing s w)
-
-formals-own : (fs : List PFormal) (s : Scope) → (with_formals s fs).own ≡ s.own
-formals-own [] s = refl
-formals-own (f ∷ fs) s = formals-own fs _ ∙ names-own _ f.names s
 
 meant-own : (m : Meant) (ws : List Word) (c : CheckScope) → (check.with_meant m c ws).own ≡ c.own
 meant-own m [] c = refl
@@ -77,22 +70,6 @@ loop-check-own w None c = refl
 loop-check-own w (Some (LWhile e)) c = refl
 loop-check-own w (Some (LFor v r y)) c = refl
 
-object-own : (d : PDecl) (s : Scope) → (after_own_object s d).own ≡ s.own
-object-own (DObject ws k x i sp) s = names-own _ ws _
-object-own (DNumber w e sp) s = refl
-object-own (DEnumeration w ws sp) s = refl
-object-own (DArray w i x sp) s = refl
-object-own (DSubtype w x sp) s = refl
-object-own (DException ws sp) s = refl
-object-own (DIntIo w sp) s = refl
-object-own (DPragma e sp) s = refl
-object-own (DTask t sp) s = refl
-object-own (DTaskBody w ds b sp) s = refl
-
-objects-own : (ds : PDecls) (s : Scope) → (after_objects s ds).own ≡ s.own
-objects-own no_decl s = refl
-objects-own (decl_then d rest) s = objects-own rest (after_own_object s d) ∙ object-own d s
-
 object-check-own : (d : PDecl) (c : CheckScope) → (check.after_own_object c d).own ≡ c.own
 object-check-own (DObject ws k x i sp) c = meant-own meant.Inner ws c
 object-check-own (DNumber w e sp) c = refl
@@ -105,7 +82,7 @@ object-check-own (DPragma e sp) c = refl
 object-check-own (DTask t sp) c = refl
 object-check-own (DTaskBody w ds b sp) c = refl
 
-objects-check-own : (ds : PDecls) (c : CheckScope) → (check.after_own c ds).own ≡ c.own
+pub objects-check-own : (ds : PDecls) (c : CheckScope) → (check.after_own c ds).own ≡ c.own
 objects-check-own no_decl c = refl
 objects-check-own (decl_then d rest) c = objects-check-own rest (check.after_own_object c d) ∙ object-check-own d c
 
@@ -197,7 +174,7 @@ module _ (p : PProgram) where
     callee = λ s c n x k e h m. tt;
     call = λ s c n x k e o h m. tt;
     head = λ s c n h k e l m. f s c n h k l m;
-    in_accept = λ s c n h k l m. record { own = formals-own h.formals (inside s) ∙ k.own; unit_is = meant-own meant.Inner (check.formal_names h.formals) _ ∙ k.unit_is };
+    in_accept = λ s c n h k l m. record { own = formals_own h.formals (inside s) ∙ k.own; unit_is = meant-own meant.Inner (check.formal_names h.formals) _ ∙ k.unit_is };
     handling = λ s c k. record { own = k.own; unit_is = k.unit_is };
     looping = λ s c w x k h. record { own = loop-own x s ∙ k.own; unit_is = loop-check-own w x c ∙ k.unit_is };
   }
@@ -251,7 +228,7 @@ module _ (p : PProgram) where
             (gives (map (entry_part u.around) u.task.entries) (Some (check.unit_of u.task)) (HeadFits u.task) (λ s c n h k l q. head-fits p.names u.task u.around s c n h k.own k.unit_is l q))
             b (inside (after_objects (in_body s w) ds)) (check.after_own (check.in_body c w) ds) 1
             record {
-              own = objects-own ds (in_body s w) ∙ u.entries;
+              own = objects_own ds (in_body s w) ∙ u.entries;
               unit_is = objects-check-own ds (check.in_body c w) ∙ ap (λ o. Some (unwrap_or o (record { name = w.name; entries = [] }))) u.unit;
             }
             has h m;

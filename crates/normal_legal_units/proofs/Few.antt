@@ -11,7 +11,7 @@ use Rattle.syn_event.specs.declared.numbering.TaskInfo.{TaskInfo}
 use Rattle.syn_event.specs.Numbering.{task_at}
 use Rattle.task_model.specs.Setting.{Setting, entry_of, lists_in, lists_of, is_family}
 use Rattle.task_model.specs.Starting.{unit_among, unit_of_info, unit_of}
-use Rattle.normal_model.specs.Making.{Kept, kept_subtypes, kept_if, moving}
+use Rattle.normal_model.specs.Making.{kept_subtypes, kept_if, moving}
 use Rattle.normal_model.specs.Ranges.{subtype_of_range, array_range, family_range}
 use Rattle.normal_model.specs.Members.{callee_kept}
 use Rattle.normal_model.specs.Calls.{Slot, slots_called, entry_called, lists_called, actual_subtypes, indices_kept, call_subtypes, flag_subtypes, is_chosen, select_subtypes}
@@ -22,16 +22,9 @@ use Rattle.normal_model.specs.Walk.{Rewriter, after_parts, after_stmts, after_ma
 use Rattle.normal_model.specs.NormalStmts.{normal_rewriter}
 use Rattle.normal_form_law.specs.Normalisable.{numbers_of, setting_for, first_task, variables_of}
 use Rattle.normal_legal_units.specs.Weights.{row_weight, args_weight, call_weight, own_weight, parts_weight, stmts_weight, maybe_weight, accept_weight, kind_weight, alts_weight, arms_weight, case_arms_weight, body_weight, handlers_weight, AreLight, IsLight}
+use Rattle.normal_model.proofs.Declared.{declared_length, kept_length}
 
 -- ---- one statement
-
-declared-length : (g : Setting) (s : Span) (xs : List PSubind) (k : ℕ) → length (variables_declared g s xs k) ≡ length xs
-declared-length g s [] k = refl
-declared-length g s (x ∷ xs) k = ap suc (declared-length g s xs (k + 1))
-
-kept-length : (xs : List Kept) → length (kept_subtypes xs) ≡ length xs
-kept-length [] = refl
-kept-length (x ∷ xs) = ap suc (kept-length xs)
 
 kept-one : (x : PSubind) (o : Option PExpr) → length (kept_if x o) ≤ 1
 kept-one x None = omega arith
@@ -67,7 +60,7 @@ module _ (g : Setting) where
       let one = callee-length s c.task in
       let two = kept-one (subtype_of_range g.types s (family_range g (entry_called g c))) (lists_called g c).index in
       let both : length (indices_kept g s c) ≡ length (callee_kept g s c.task) + length family = length-append (callee_kept g s c.task) family in
-      let kept = kept-length (indices_kept g s c) in
+      let kept = kept_length (indices_kept g s c) in
       let actual = actual-length (slots_called g c) (lists_called g c).actuals in
       let called = called-length c in
       let all : length (call_subtypes g s c) ≡ length (kept_subtypes (indices_kept g s c)) + length (actual_subtypes (slots_called g c) (lists_called g c).actuals) =
@@ -87,14 +80,14 @@ module _ (g : Setting) where
   abort-length s [] = omega arith
   abort-length s (c ∷ cs) =
       let all : length (abort_subtypes g s (c ∷ cs)) ≡ length (kept_subtypes (callee_kept g s c)) + length (abort_subtypes g s cs) = length-append (kept_subtypes (callee_kept g s c)) (abort_subtypes g s cs) in
-      omega (arith, all, kept-length (callee_kept g s c), callee-length s c, abort-length s cs)
+      omega (arith, all, kept_length (callee_kept g s c), callee-length s c, abort-length s cs)
 
 module _ (u : RunUnit) where
   more-length : (s : Span) (xs : List PSubind) (vars : List PDecl) → length (more_variables u s xs vars) ≡ length vars + length xs
-  more-length s xs vars = length-append vars (variables_declared u.setting s xs (length vars)) ∙ ap (λ n. length vars + n) (declared-length u.setting s xs (length vars))
+  more-length s xs vars = length-append vars (variables_declared u.setting s xs (length vars)) ∙ ap (λ n. length vars + n) (declared_length u.setting s xs (length vars))
 
   accept-length : (s : Span) (h : PHead) → length (kept_subtypes (accept_kept u s h)) ≤ 1
-  accept-length s h = omega (arith, kept-length (accept_kept u s h), kept-one (subtype_of_range u.setting.types s (family_range u.setting (entry_of u.setting.numbers u.task h.entry.name))) (moving u.setting.types h.index))
+  accept-length s h = omega (arith, kept_length (accept_kept u s h), kept-one (subtype_of_range u.setting.types s (family_range u.setting (entry_of u.setting.numbers u.task h.entry.name))) (moving u.setting.types h.index))
 
   -- a statement asks for no more than it weighs
   entered-length : (vars : List PDecl) (x : PStmt) → length (statement_variables u vars x) ≤ length vars + own_weight x

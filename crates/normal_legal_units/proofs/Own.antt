@@ -37,7 +37,7 @@ predefined-plain =
     (refl, (refl, (refl, (refl, (refl, (refl, (refl, (refl, (refl, (refl, (refl, (refl, (refl, (refl, (refl, (refl, (refl, (refl, (refl, (refl, (refl, (refl, (refl, (refl, (refl, tt)))))))))))))))))))))))))
 
 -- the first names have the predefined texts
-first-text : (names : List (List ℕ)) (k : ℕ) → AreNames names → k < 25 → slice_get names k ≡ slice_get predefined k
+pub first-text : (names : List (List ℕ)) (k : ℕ) → AreNames names → k < 25 → slice_get names k ≡ slice_get predefined k
 first-text names k are l =
     ap (λ ts. slice_get ts k) (sym (ap (λ (ts : List (List ℕ)). ts ++ drop (length predefined) names) (sym are.begins) ∙ take-append-drop (length predefined) names))
     ∙ place-within predefined (drop (length predefined) names) k l
@@ -65,12 +65,13 @@ within-own p id e h = ap (λ (b : Bool). b && not (is_added_name p.names record 
     within None f k = absurd k
     within (Some t) f k = slice_get_within p.names id.0 t f
 
--- Each name in the program is its own.
-pub program-own : (p : PProgram) → MeetsTypeRules p → MeetsCheckRules p Original → IsWellPlaced p → AreNames p.names → AllByRecursion (λ x. IsAddressed x.scope x.demand) (sites p) → EveryProgram (old_names (own_name p)) p
-program-own p types checks placed are clear =
-    together (NotAdded p) (tokens p.names) (old_names (own_name p))
+-- What is told of names alone, with what is told of all parts, gives the rules that tell of names alone.
+pub names-together : (told : NameId → Type 0) (r : Rules) (own : ℕ → Bool) → ((id : NameId) → told id → r.name id → own id.0 ≡ true) →
+    (p : PProgram) → EveryProgram (record no_rules { name = told }) p → EveryProgram r p → EveryProgram (old_names own) p
+names-together told r own keeps =
+    together (record no_rules { name = told }) r (old_names own)
     record {
-      name = within-own p;
+      name = keeps;
       integer = λ n h g. tt;
       duration = λ n h g. tt;
       words = λ t h g. tt;
@@ -85,6 +86,11 @@ program-own p types checks placed are clear =
       outer = λ ds h g. tt;
       nested = λ k h g. tt;
     }
+
+-- Each name in the program is its own.
+pub program-own : (p : PProgram) → MeetsTypeRules p → MeetsCheckRules p Original → IsWellPlaced p → AreNames p.names → AllByRecursion (λ x. IsAddressed x.scope x.demand) (sites p) → EveryProgram (old_names (own_name p)) p
+program-own p types checks placed are clear =
+    names-together (NotAdded p).name (tokens p.names) (own_name p) (within-own p)
     p
     (all_are_named p types checks placed clear (λ n. not (is_added_name p.names record { 0 = n })) (first-plain p are) (free-plain p))
     (placed_tokens p placed)

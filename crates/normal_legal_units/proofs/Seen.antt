@@ -14,12 +14,13 @@ use Rattle.ada_tree.specs.Declaring.{seen_as, predefined_names, first_scope, wit
 use Rattle.syn_event.specs.declared.meanings.Meant.{Meant}
 use Rattle.syn_event.specs.declared.meanings.Meant.TheVariants as meant
 use Rattle.syn_event.specs.CheckScope.{Unit as CheckUnit, CheckScope, meaning as check_meaning}
-use Rattle.syn_event.specs.CheckSites.{with_meant, with_object, with_value, after_decl as check_after_decl, after_object as check_after_object, unit_of}
+use Rattle.syn_event.specs.CheckSites.{with_object, with_value, after_decl as check_after_decl, after_object as check_after_object, unit_of}
 use Rattle.rewritten_types.specs.Rewriting.{IsUsed, IsUnused, names_declared}
 use Rattle.rewritten_types.proofs.Lookups.{find-only}
 use Rattle.rewritten_types.proofs.Fresh.{other, used-more}
 use Rattle.common_lemmas.proofs.Lists.{all_joined, all_weaker, find_front, found_none}
 use Rattle.common_lemmas.proofs.Options.{some_same}
+use Rattle.syn_event.proofs.CheckScopes.{meant_units}
 
 abbrev pub is_task : NameId → PTask → Bool
 is_task id t = t.name.name.0 == id.0
@@ -191,17 +192,12 @@ task-seen done units t s u h = record {
 
 -- ---- declarations
 
--- names leave the units as they are
-meant-units : (m : Meant) (ws : List Word) (c : CheckScope) → (with_meant m c ws).units ≡ c.units
-meant-units m [] c = refl
-meant-units m (w ∷ ws) c = meant-units m ws (record c { names = (w.name.0, m) ∷ c.names })
-
 value-units : (b : Bool) (ws : List Word) (c : CheckScope) → (with_value b c ws).units ≡ c.units
-value-units true ws c = meant-units meant.Shared ws c
+value-units true ws c = meant_units meant.Shared ws c
 value-units false ws c = refl
 
 object-units : (o : Option Meant) (mark : Word) (shared : Bool) (ws : List Word) (c : CheckScope) → (with_object c o mark shared ws).units ≡ c.units
-object-units (Some meant.TaskType) mark shared ws c = meant-units (meant.TaskOf mark.name) ws c
+object-units (Some meant.TaskType) mark shared ws c = meant_units (meant.TaskOf mark.name) ws c
 object-units (Some meant.MainProcedure) mark shared ws c = value-units shared ws c
 object-units (Some (meant.TaskOf u)) mark shared ws c = value-units shared ws c
 object-units (Some meant.Shared) mark shared ws c = value-units shared ws c

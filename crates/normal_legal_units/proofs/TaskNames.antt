@@ -7,7 +7,7 @@ use Rattle.std.proofs.lemmas.Bool.{ne_eqb, lt-ltb, or_left, or_right}
 use Rattle.std.proofs.lemmas.Fmt.{decimal_injective}
 use Rattle.syn_event.specs.RuleReservedName.{has_mark, is_reserved}
 use Rattle.normal_model.specs.Names.{index_text, member_text}
-use Rattle.normal_runs_law.proofs.Imitating.{first-caller}
+use Rattle.common_lemmas.proofs.Lists.{rest_same, first_same}
 
 -- ---- digits
 
@@ -43,25 +43,22 @@ index-plain (negsuc n) = (refl, decimal-plain 95 (omega arith) (suc n))
 
 -- ---- the last underscore
 
-tail-same : {x y : ℕ} {xs ys : List ℕ} → x ∷ xs ≡ y ∷ ys → xs ≡ ys
-tail-same e = cc
-
 line-there : (xs j : List ℕ) → NoLine (xs ++ 95 ∷ j) → ⊥
 line-there [] j h = true≢false h.0
 line-there (x ∷ xs) j h = line-there xs j h.1
 
 last-line : (xs ys i j : List ℕ) → NoLine i → NoLine j → xs ++ 95 ∷ i ≡ ys ++ 95 ∷ j → (xs ≡ ys) × (i ≡ j)
-last-line [] [] i j h k e = (refl, tail-same e)
-last-line [] (y ∷ ys) i j h k e = absurd (line-there ys j (subst NoLine (tail-same e) h))
-last-line (x ∷ xs) [] i j h k e = absurd (line-there xs i (subst NoLine (sym (tail-same e)) k))
-last-line (x ∷ xs) (y ∷ ys) i j h k e = let r = last-line xs ys i j h k (tail-same e) in (ap (λ (z : ℕ). z ∷ xs) (first-caller e) ∙ ap (λ (zs : List ℕ). y ∷ zs) r.0, r.1)
+last-line [] [] i j h k e = (refl, rest_same e)
+last-line [] (y ∷ ys) i j h k e = absurd (line-there ys j (subst NoLine (rest_same e) h))
+last-line (x ∷ xs) [] i j h k e = absurd (line-there xs i (subst NoLine (sym (rest_same e)) k))
+last-line (x ∷ xs) (y ∷ ys) i j h k e = let r = last-line xs ys i j h k (rest_same e) in (ap (λ (z : ℕ). z ∷ xs) (first_same e) ∙ ap (λ (zs : List ℕ). y ∷ zs) r.0, r.1)
 
 -- what stands in front of the same is the same
 front-same : (xs ys zs : List ℕ) → xs ++ zs ≡ ys ++ zs → xs ≡ ys
 front-same [] [] zs e = refl
 front-same [] (y ∷ ys) zs e = absurd (omega (arith, ap (λ (l : List ℕ). length l) e, length-append (y ∷ ys) zs))
 front-same (x ∷ xs) [] zs e = absurd (omega (arith, ap (λ (l : List ℕ). length l) e, length-append (x ∷ xs) zs))
-front-same (x ∷ xs) (y ∷ ys) zs e = ap (λ (z : ℕ). z ∷ xs) (first-caller e) ∙ ap (λ (l : List ℕ). y ∷ l) (front-same xs ys zs (tail-same e))
+front-same (x ∷ xs) (y ∷ ys) zs e = ap (λ (z : ℕ). z ∷ xs) (first_same e) ∙ ap (λ (l : List ℕ). y ∷ l) (front-same xs ys zs (rest_same e))
 
 -- the mark but its last underscore
 abbrev mark : List ℕ
@@ -111,4 +108,4 @@ index-same (Some i) None k l e = absurd e
 index-same (Some (pos m)) (Some (pos n)) k l e = ap (λ (x : ℕ). Some (pos x)) (decimal_injective m n k l e)
 index-same (Some (pos m)) (Some (negsuc n)) k l e = absurd (no-letter m (suc n) e)
 index-same (Some (negsuc m)) (Some (pos n)) k l e = absurd (no-letter n (suc m) (sym e))
-index-same (Some (negsuc m)) (Some (negsuc n)) k l e = let q : suc m ≡ suc n = decimal_injective (suc m) (suc n) k l (tail-same e) in ap (λ (x : ℕ). Some (negsuc x)) (omega (arith, q))
+index-same (Some (negsuc m)) (Some (negsuc n)) k l e = let q : suc m ≡ suc n = decimal_injective (suc m) (suc n) k l (rest_same e) in ap (λ (x : ℕ). Some (negsuc x)) (omega (arith, q))

@@ -26,7 +26,7 @@ use Rattle.normal_types.proofs.Names.{fold-begins, interned-has, text-place}
 use Rattle.normal_units.proofs.Pairs.{names_tell_units}
 use Rattle.normal_legal_units.proofs.TaskNames.{IsShort, SameIndex, index-same, members-same, member-reserved}
 use Rattle.normal_legal_units.proofs.DeclaredNames.{IsGood, tasks-good}
-use Rattle.common_lemmas.proofs.Lists.{all_flat}
+use Rattle.common_lemmas.proofs.Lists.{all_unflat}
 use Rattle.common_lemmas.proofs.Options.{some_same}
 
 -- the text of a task's name in the normal form
@@ -70,7 +70,7 @@ module _ (g : Setting) where
   HasMembers info = AllByRecursion (IsIn (with_members g)) (texts_of_member (text_of names info.name) info.member)
 
   pub members-there : AllByRecursion HasMembers g.numbers.tasks
-  members-there = all_flat (IsIn (with_members g)) (λ (info : TaskInfo). texts_of_member (text_of names info.name) info.member) g.numbers.tasks (fold-has (member_texts names g.numbers.tasks) names)
+  members-there = all_unflat (IsIn (with_members g)) (λ (info : TaskInfo). texts_of_member (text_of names info.name) info.member) g.numbers.tasks (fold-has (member_texts names g.numbers.tasks) names)
 
   begins : Begins names (with_members g)
   begins = fold-begins (member_texts names g.numbers.tasks) names

@@ -22,7 +22,12 @@ use Rattle.translation_law.specs.OldNames.{OldRange, old_given, old_marked, OldS
 use Rattle.translation_law.specs.OldTexts.{Asked, OldCallees, old_no_callee, old_callee, OldWords, old_no_word, old_word, OldFormals, old_no_formal, old_formal, OldHead, OldStmt, old_null, old_assign, old_delay, old_exit, old_raise, old_abort, old_call, old_accept, old_wait, old_conditional, old_timed, old_put, old_put_line, old_new_line, old_get, old_if, old_case, old_block, old_loop, OldStmts, old_no_stmt, old_stmt, OldMaybe, old_absent, old_present, OldAlts, old_no_alt, old_alt, OldKind, old_accepts, old_delays, old_terminates, OldArms, old_no_arm, old_arm, OldCaseArms, old_no_case_arm, old_case_arm, OldHandlers, old_no_handler, old_handler, OldBody, old_body}
 use Rattle.normal_legal_walk.specs.Gives.{Known, Gives}
 use Rattle.normal_legal_walk.proofs.Names.{expr-old, option-old, bounds-old, target-old, call-old, parts-old, choices-old}
-use Rattle.common_lemmas.proofs.Lists.{all_back, all_front}
+use Rattle.common_lemmas.proofs.Lists.{all_back, all_front, all_joined}
+
+-- what a rule asks of the names of formals it asks of each of them
+pub words-all : (r : Rules) (fs : List PFormal) → AllByRecursion (EveryFormal r) fs → AllByRecursion (EveryWord r) (all_names fs)
+words-all r [] h = tt
+words-all r (f ∷ fs) h = all_joined (EveryWord r) f.names (all_names fs) (recursion_from_All (EveryWord r) f.names h.0.0.1) (words-all r fs h.1)
 
 module _ (a : Asked) (r : Rules) (k : Known) (g : Gives a r k) where
   abbrev AllAt : List Site → Type 0
@@ -74,14 +79,6 @@ module _ (a : Asked) (r : Rules) (k : Known) (g : Gives a r k) where
   words-split [] ws h = (old_no_word, h)
   words-split (v ∷ vs) ws (old_word _ _ p q rest) = let m = words-split vs ws rest in (old_word v vs p q m.0, m.1)
 
-  words-all : (fs : List PFormal) → AllByRecursion (EveryFormal r) fs → AllByRecursion (EveryWord r) (all_names fs)
-  words-all [] e = tt
-  words-all (f ∷ fs) e = joined f.names (all_names fs) (recursion_from_All (EveryWord r) f.names e.0.0.1) (words-all fs e.1)
-    where
-      joined : (vs ws : List Word) → AllByRecursion (EveryWord r) vs → AllByRecursion (EveryWord r) ws → AllByRecursion (EveryWord r) (vs ++ ws)
-      joined [] ws p q = q
-      joined (v ∷ vs) ws p q = (p.0, joined vs ws p.1 q)
-
   formals-of : (fs : List PFormal) → AllByRecursion (EveryFormal r) fs → OldWords a.programs (all_names fs) → OldFormals a.programs fs
   formals-of [] e h = old_no_formal
   formals-of (f ∷ fs) e h = let m = words-split f.names (all_names fs) h in old_formal f fs m.0 (g.old f.mark.name e.0.1) (formals-of fs e.1 m.1)
@@ -94,7 +91,7 @@ module _ (a : Asked) (r : Rules) (k : Known) (g : Gives a r k) where
       let at = back (if_there (accept_index_sites s (entry_named s.own h.entry.name)) h.index) (formals_sites s h.formals) m.1 in
       record {
         index = option-old a.programs r g.old h.index (n + 1) e.1;
-        formals = formals-of h.formals fs (words-free (all_names h.formals) (inside s) (words-all h.formals fs) (front (names_sites false (inside s) (all_names h.formals)) (formal_mark_sites s h.formals) at));
+        formals = formals-of h.formals fs (words-free (all_names h.formals) (inside s) (words-all r h.formals fs) (front (names_sites false (inside s) (all_names h.formals)) (formal_mark_sites s h.formals) at));
       }
 
   callees-old : (s : Scope) (c : CheckScope) (n : ℕ) (xs : List PCallee) → k.scopes s c → AllByRecursion (EveryCallee r n) xs →

@@ -9,7 +9,7 @@ use Rattle.ada_tree.specs.declared.static_types.Constant.{Constant}
 use Rattle.ada_tree.specs.TypeTable.{TypeTable}
 use Rattle.ada_tree.specs.Attributes.{false_name, true_name}
 use Rattle.ada_tree.specs.PlainStmt.{PBody}
-use Rattle.ada_tree.specs.PlainDecl.{DObject, DNumber, DEnumeration, DArray, DSubtype, DException, DIntIo, DPragma, DTask, DTaskBody, PDecls, no_decl, decl_then}
+use Rattle.ada_tree.specs.PlainDecl.{PDecls}
 use Rattle.ada_tree.specs.PlainProgram.{PProgram}
 use Rattle.ada_tree.specs.StaticValue.{value_named, constant_named, literal_position, position_in, first_of_two}
 use Rattle.ada_tree.specs.RuleDuplicate.{is_predefined}
@@ -26,7 +26,6 @@ use Rattle.normal_model.specs.Names.{task_name}
 use Rattle.normal_model.specs.Ranges.{word_at}
 use Rattle.normal_model.specs.NormalTree.{tasks_beside}
 use Rattle.normal_form_law.specs.Normalisable.{numbers_of, setting_for, made_for}
-use Rattle.normal_legal_seen.proofs.Scopes.{meant-own}
 use Rattle.normal_legal.specs.Laws.{IsLegal}
 use Rattle.normal_asked.specs.Pieces.{IsAmong, first_among, later_among}
 use Rattle.normal_checked.specs.Around.{IsLiteralOf, is_false, is_true, is_enumerated, IsAround}
@@ -40,6 +39,7 @@ use Rattle.normal_meets_checks.proofs.Units.{entry_names, copy-entries}
 use Rattle.normal_meets_checks.proofs.Later.{later-shared}
 use Rattle.normal_meets_checks.proofs.Fixed.{fixed-same}
 use Rattle.normal_meets_checks.proofs.Facts as facts
+use Rattle.normal_legal_units.proofs.Conforms.{objects-check-own}
 
 -- ---- names
 
@@ -51,20 +51,6 @@ not-shared (Some TaskType) s h = refl
 not-shared (Some (TaskOf x)) s h = refl
 not-shared (Some Inner) s h = refl
 not-shared None s h = refl
-
--- the objects of a body leave whose body it is
-own-still : (ds : PDecls) (c : CheckScope) → (check.after_own c ds).own ≡ c.own
-own-still no_decl c = refl
-own-still (decl_then (DObject ws constant x i s) rest) c = own-still rest (check.with_meant Inner c ws) ∙ meant-own Inner ws c
-own-still (decl_then (DNumber w e s) rest) c = own-still rest c
-own-still (decl_then (DEnumeration w ws s) rest) c = own-still rest c
-own-still (decl_then (DArray w q x s) rest) c = own-still rest c
-own-still (decl_then (DSubtype w x s) rest) c = own-still rest c
-own-still (decl_then (DException ws s) rest) c = own-still rest c
-own-still (decl_then (DIntIo w s) rest) c = own-still rest c
-own-still (decl_then (DPragma e s) rest) c = own-still rest c
-own-still (decl_then (DTask t s) rest) c = own-still rest c
-own-still (decl_then (DTaskBody w objects its s) rest) c = own-still rest c
 
 -- ---- literals
 
@@ -140,7 +126,7 @@ module _ (p : PProgram) (h : IsLegal p) where
 
       own-same : (id : NameId) → is_own_entry (check.in_body whole copy).own id ≡ is_own_entry (check.in_body at.around w).own id
       own-same id =
-          ap (λ es. is_among es id) entries-same ∙ sym (ap (λ o. is_own_entry o id) (sym (own-still objects (check.in_body at.around w)) ∙ at.seen.seen.own.1))
+          ap (λ es. is_among es id) entries-same ∙ sym (ap (λ o. is_own_entry o id) (sym (objects-check-own objects (check.in_body at.around w)) ∙ at.seen.seen.own.1))
 
       -- What stands around the copy, before its objects, is as around the body.
       pub body-around : IsAround g (facts.own p h) [] (check.in_body at.around w) (check.in_body whole copy)

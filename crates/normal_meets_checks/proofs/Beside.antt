@@ -27,7 +27,8 @@ use Rattle.normal_legal_seen.proofs.Scopes.{is_one_of, meant-out, meant-in}
 use Rattle.common_lemmas.proofs.Numbers.{equal_self}
 use Rattle.common_lemmas.proofs.Options.{some_same}
 use Rattle.normal_checked.proofs.MainScopes.{decls-frame}
-use Rattle.normal_meets_checks.proofs.Words.{one-of-all, unused-out, used-behind, declared-used, object-out, object-type, object-value}
+use Rattle.normal_meets_checks.proofs.Words.{one-of-all, unused-out, declared-used, object-out, object-type, object-value}
+use Rattle.normal_units.proofs.Pairs.{used-decl}
 
 -- ---- objects that are shared
 
@@ -121,7 +122,7 @@ module _ (own : ℕ → Bool) (T U : TypeTable) (agree : Agrees own T U) where
 
       -- names of the object, and others
       stays : (id : NameId) → meaning (check.after_object a ws constant x) id ≡ meaning a id → IsSharedName s a id → IsSharedName s' (check.after_object a ws constant x) id
-      stays id e y = record { shared = e ∙ y.shared; used = used-behind (DObject ws constant x i sp) s id y.used; free = y.free; new = y.new }
+      stays id e y = record { shared = e ∙ y.shared; used = used-decl (DObject ws constant x i sp) s id y.used; free = y.free; new = y.new }
 
       others : (id : NameId) → is_one_of ws id ≡ false → meaning b id ≡ Some Shared → IsSharedName s' (check.after_object a ws constant x) id
       others id out e = stays id (shape-out x ws constant a id out) (h.shared id e)
@@ -154,7 +155,7 @@ module _ (own : ℕ → Bool) (T U : TypeTable) (agree : Agrees own T U) where
     named = λ id e. h.named id (shape-type x ws constant a id e);
     plain = h.plain;
     shared = λ id e.
-        let y = h.shared id e in record { shared = shape-out x ws constant a id (unused-out s ws id y.used unused) ∙ y.shared; used = used-behind (DObject ws constant x i sp) s id y.used; free = y.free; new = y.new };
+        let y = h.shared id e in record { shared = shape-out x ws constant a id (unused-out s ws id y.used unused) ∙ y.shared; used = used-decl (DObject ws constant x i sp) s id y.used; free = y.free; new = y.new };
   }
 
   type-kept : (b : Bool) (kinds : List PTask) (t : PTask) (id : NameId) → is_some (type_named kinds id) ≡ true → is_some (type_named (with_type kinds b t) id) ≡ true
@@ -176,7 +177,7 @@ module _ (own : ℕ → Bool) (T U : TypeTable) (agree : Agrees own T U) where
     named = λ id e. by_test (is_one_of (t.name ∷ []) id) id e refl;
     plain = h.plain;
     shared = λ id e.
-        let y = h.shared id e in record { shared = meant-out (check.meant_by_task t) (t.name ∷ []) a' id (unused-out s (t.name ∷ []) id y.used unused) ∙ y.shared; used = used-behind (DTask t sp) s id y.used; free = y.free; new = y.new };
+        let y = h.shared id e in record { shared = meant-out (check.meant_by_task t) (t.name ∷ []) a' id (unused-out s (t.name ∷ []) id y.used unused) ∙ y.shared; used = used-decl (DTask t sp) s id y.used; free = y.free; new = y.new };
   }
     where
       a' : CheckScope

@@ -36,9 +36,9 @@ use Rattle.normal_checked.specs.Around.{own_rules}
 use Rattle.normal_checked.proofs.MainScopes.{IsFrameOf, frame-trans, decls-frame}
 use Rattle.common_lemmas.proofs.Lists.{all_front, all_back}
 use Rattle.common_lemmas.proofs.Options.{some_same, not_missing}
-use Rattle.normal_meets_checks.proofs.Words.{used-behind}
 use Rattle.normal_meets_checks.proofs.Beside.{IsSharedName, IsBeside, nothing-added, object-stays, object-left, task-left}
 use Rattle.normal_meets_checks.proofs.FreeNames.{shared-free}
+use Rattle.normal_units.proofs.Pairs.{used-decl}
 
 -- behind a body nothing is left of declarations that adds to what stands around
 later-still : (ds : PDecls) (kinds : List PTask) (b : CheckScope) → AreLater ds → check.after_decls b (first_decls kinds ds) ≡ b
@@ -145,7 +145,7 @@ module _ (p : PProgram) (own : ℕ → Bool) (T U : TypeTable) (names' : List (L
   -- a declaration that adds nothing to what stands around
   plain : (d : PDecl) (kinds : List PTask) (s : Scope) (a b : CheckScope) → kinds_after kinds d ≡ kinds → IsBeside own T U alike kinds s a b → IsBeside own T U alike kinds (after_decl s d) a b
   plain d kinds s a b e h =
-      nothing-added own T U alike d kinds s (after_decl s d) a b (after-main d s) (subst (λ l. HasTypes l (after_decl s d)) e (types-after kinds d s h.types)) (used-behind d s) h
+      nothing-added own T U alike d kinds s (after_decl s d) a b (after-main d s) (subst (λ l. HasTypes l (after_decl s d)) e (types-after kinds d s h.types)) (used-decl d s) h
 
   pub walk : (whole : CheckScope) (ds : PDecls) (kinds : List PTask) (s : Scope) (a b : CheckScope) → IsKnown s a ds → IsFrameOf (check.first_around T p.name) a → MainSeen p T kinds ds s a → IsBeside own T U alike kinds s a b →
       check.after_decls b (first_decls kinds ds) ≡ whole → AllByRecursion (BodyPlace whole) (decl_list ds)

@@ -59,10 +59,6 @@ every-list : (rules : Rules) (xs : List PDecl) → EveryDecls rules (decls_of xs
 every-list rules [] h = tt
 every-list rules (x ∷ xs) h = (h.0, every-list rules xs h.1)
 
-pub every-listed : (rules : Rules) (ds : PDecls) → EveryDecls rules ds → AllByRecursion (EveryDecl rules) (decl_list ds)
-every-listed rules no_decl h = tt
-every-listed rules (decl_then d ds) h = (h.0, every-listed rules ds h.1)
-
 module _ (p : PProgram) (h : IsLegal p) where
   abbrev g : Setting
   g = setting_for p

@@ -12,7 +12,7 @@ use Rattle.syn_event.specs.declared.numbering.Mode.TheVariants.{Original, Any}
 use Rattle.syn_event.specs.declared.limits.What.TheVariants.{Tasks, Entries}
 use Rattle.syn_event.specs.CheckScope.{CheckScope, CheckSite, counts}
 use Rattle.syn_event.specs.CheckSites as check
-use Rattle.syn_event.specs.Extents.{Extent, extent, size_of, known_size}
+use Rattle.syn_event.specs.Extents.{extent}
 use Rattle.syn_event.specs.NamedTasks.{NamedTasks, type_named, task_names_of_type, object_task_names, with_type, single_task_name, task_names_in, task_names_of, count_of_range, task_count, NumberedTask, numbered_task, numbers_on, indices, tasks_of_range, tasks_of_name, numbered_tasks}
 use Rattle.syn_event.specs.AllNumbers.{all_numbers}
 use Rattle.syn_event.specs.Units.{decl_list}
@@ -21,11 +21,13 @@ use Rattle.task_model.specs.Setting.{Setting}
 use Rattle.normal_model.specs.NormalTree.{normal_tree}
 use Rattle.rewritten_types.proofs.Lookups.{find-all}
 use Rattle.normal_types.specs.Laws.{IsOrdered, setting_of}
-use Rattle.normal_has_numbers.proofs.TasksNumbered.{IsSingle, single_task, single-numbered-tasks}
+use Rattle.normal_has_numbers.specs.Single.{IsSingle}
+use Rattle.normal_has_numbers.proofs.TasksNumbered.{single_task, single-numbered-tasks}
 use Rattle.normal_has_numbers.proofs.Tasked.{under, normal-tasks-of}
-use Rattle.common_lemmas.proofs.Lists.{all_front, all_back, all_joined}
+use Rattle.common_lemmas.proofs.Lists.{all_front, all_back, all_joined, mapped_length}
 use Rattle.normal_meets_checks.proofs.Declared.{met-count, met-copies, numbered-met}
 use Rattle.normal_meets_checks.proofs.Sizes.{within, numbered-within}
+use Rattle.syn_event.proofs.Counts.{indices_length, tasks_length}
 
 -- ---- sums
 
@@ -51,23 +53,11 @@ count-on : (n : ℕ) (z : ℤ) → length (numbers_on z n) ≡ n
 count-on zero z = refl
 count-on (suc n) z = ap (λ m. suc m) (count-on n (z +ℤ pos 1))
 
-indices-count : (o : Option Extent) → length (indices o) ≡ known_size o
-indices-count None = refl
-indices-count (Some x) = count-on (size_of x) x.first
-
-mapped-count : {A B : Type 0} (f : A → B) (xs : List A) → length (map f xs) ≡ length xs
-mapped-count f [] = refl
-mapped-count f (x ∷ xs) = ap (λ m. suc m) (mapped-count f xs)
-
-row-count : (T : TypeTable) (x : NamedTasks) (o : Option PDrange) → length (tasks_of_range T x o) ≡ count_of_range T o
-row-count T x None = refl
-row-count T x (Some r) = mapped-count (λ i. numbered_task x (Some i)) (indices (extent T r)) ∙ indices-count (extent T r)
-
 pub tasks-count : (T : TypeTable) (xs : List NamedTasks) → length (flat_map (tasks_of_name T) xs) ≡ tasks_total T xs
 tasks-count T [] = refl
 tasks-count T (x ∷ xs) =
     let e = length-append (tasks_of_name T x) (flat_map (tasks_of_name T) xs) in
-    let a = row-count T x x.index_range in
+    let a = tasks_length T x x.index_range in
     let b = tasks-count T xs in
     omega (arith, e, a, b)
 
@@ -77,7 +67,7 @@ row-of x (z ∷ zs) = let e = row-of x zs in let m = suc-mul (length zs) (length
 
 row-entries : (T : TypeTable) (x : NamedTasks) (o : Option PDrange) → entries_of (tasks_of_range T x o) ≡ count_of_range T o * length x.unit.entries
 row-entries T x None = omega arith
-row-entries T x (Some r) = row-of x (indices (extent T r)) ∙ ap (λ m. m * length x.unit.entries) (indices-count (extent T r))
+row-entries T x (Some r) = row-of x (indices (extent T r)) ∙ ap (λ m. m * length x.unit.entries) (indices_length (extent T r))
 
 pub entries-count : (T : TypeTable) (xs : List NamedTasks) → entries_of (flat_map (tasks_of_name T) xs) ≡ entries_total T xs
 entries-count T [] = refl
@@ -150,7 +140,7 @@ module _ (names : List (List ℕ)) (c : CheckScope) where
           let one : task_count c.types x ≡ 1 = ap (count_of_range c.types) (plain e) in
           let same : task_count c.types x * length x.unit.entries ≡ 1 * length x.unit.entries = ap (λ m. m * length x.unit.entries) one in
           let few : n + length (map (λ (y : PEntry). y.span) x.unit.entries) ≤ 1000 = numbered-within names Entries 1000 c (map (λ (y : PEntry). y.span) x.unit.entries) n refl le k in
-          let count : length (map (λ (y : PEntry). y.span) x.unit.entries) ≡ length x.unit.entries = mapped-count (λ (y : PEntry). y.span) x.unit.entries in
+          let count : length (map (λ (y : PEntry). y.span) x.unit.entries) ≡ length x.unit.entries = mapped_length (λ (y : PEntry). y.span) x.unit.entries in
           let alone : 1 * length x.unit.entries ≡ length x.unit.entries = omega arith in
           omega (arith, same, few, count, alone)
 
@@ -181,7 +171,7 @@ module _ (names : List (List ℕ)) (d : CheckScope) where
       by_kind false e =
           let one : task_count d.types x ≡ 1 = ap (count_of_range d.types) (plain e) in
           let same : task_count d.types x * length x.unit.entries ≡ 1 * length x.unit.entries = ap (λ m. m * length x.unit.entries) one in
-          let count : length (map (λ (y : PEntry). y.span) x.unit.entries) ≡ length x.unit.entries = mapped-count (λ (y : PEntry). y.span) x.unit.entries in
+          let count : length (map (λ (y : PEntry). y.span) x.unit.entries) ≡ length x.unit.entries = mapped_length (λ (y : PEntry). y.span) x.unit.entries in
           let alone : 1 * length x.unit.entries ≡ length x.unit.entries = omega arith in
           numbered-met names d Entries 2600 (map (λ (y : PEntry). y.span) x.unit.entries) n refl (omega (arith, le, same, count, alone))
 
@@ -216,7 +206,7 @@ module _ (p : PProgram) (T U : TypeTable) (ordered : IsOrdered p) (singles : All
   all-tasks = single-numbered-tasks U n.decls singles ∙ ap (map single_task) (normal-tasks-of p T ordered)
 
   pub same-tasks : tasks_total U (task_names_of n) ≡ tasks_total T (task_names_of p)
-  same-tasks = sym (tasks-count U (task_names_of n)) ∙ ap (λ l. length l) all-tasks ∙ mapped-count single_task (map (under g) ys) ∙ mapped-count (under g) ys ∙ tasks-count T (task_names_of p)
+  same-tasks = sym (tasks-count U (task_names_of n)) ∙ ap (λ l. length l) all-tasks ∙ mapped_length single_task (map (under g) ys) ∙ mapped_length (under g) ys ∙ tasks-count T (task_names_of p)
 
   pub same-entries : entries_total U (task_names_of n) ≡ entries_total T (task_names_of p)
   same-entries = sym (entries-count U (task_names_of n)) ∙ ap entries_of all-tasks ∙ under-count ys ∙ entries-count T (task_names_of p)

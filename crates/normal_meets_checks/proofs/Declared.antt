@@ -8,7 +8,6 @@ use Rattle.ada_tree.specs.declared.naming.Word.{Word}
 use Rattle.ada_tree.specs.Lexical.{IsIdentifier}
 use Rattle.ada_tree.specs.TypeTable.{TypeTable}
 use Rattle.ada_tree.specs.PlainExpr.{PExpr, EInteger, EName, EIndex, EAttribute, EAttributeOf, EParen, EUnary, EBinary, PBounds, PDrange, RGiven, RMarked}
-use Rattle.ada_tree.specs.PlainStmt.{PFormal}
 use Rattle.ada_tree.specs.PlainDecl.{PShape, OPlain, OArray, PInit, IOne, IList, IOthers, PPriority, PEntry, PDecl, DNumber, DObject, DEnumeration, DArray, DSubtype, DException, DIntIo, DPragma, DTask, DTaskBody}
 use Rattle.ada_tree.specs.Every.{Rules, EveryWord, EveryExpr, EveryBounds, EveryDrange, EveryNames, EveryFormal, EveryShape, EveryInit, EveryEntry, EveryPriority, EveryDecl}
 use Rattle.ada_tree.specs.WellPlaced.{well_placed}
@@ -23,8 +22,8 @@ use Rattle.syn_event.specs.RuleLimit.{passed}
 use Rattle.syn_event.specs.RuleSharedVariable.{shared_name, in_body_of, shared_variable}
 use Rattle.syn_event.specs.Units.{text_of}
 use Rattle.legal_sites.specs.Met.{IsCheckMet}
-use Rattle.asked_stmts.proofs.Lists.{all_three, all_flat}
-use Rattle.common_lemmas.proofs.Lists.{all_joined, all_weaker}
+use Rattle.common_lemmas.proofs.Lists.{all_joined, all_weaker, all_three, all_flat}
+use Rattle.normal_checked.proofs.Stays.{formal-words}
 use Rattle.normal_checked.proofs.Places.{passed-not, met-deep, met-name, met-use}
 
 -- ---- sizes
@@ -196,10 +195,6 @@ module _ (names : List (List ℕ)) (d : CheckScope) where
 
     -- ---- entries
 
-    formal-words : (fs : List PFormal) → AllByRecursion (EveryFormal r) fs → AllByRecursion (EveryWord r) (check.formal_names fs)
-    formal-words [] h = tt
-    formal-words (f ∷ fs) h = all_joined (EveryWord r) f.names (check.formal_names fs) (recursion_from_All (EveryWord r) f.names h.0.0.1) (formal-words fs h.1)
-
     places-count : (ws : List Word) → length (map (λ (w : Word). w.span) ws) ≡ length ws
     places-count [] = refl
     places-count (w ∷ ws) = let e = places-count ws in omega (arith, e)
@@ -214,7 +209,7 @@ module _ (names : List (List ℕ)) (d : CheckScope) where
         let n = places-count ws in (
           word-met e.name h.1,
           all_three M (check.if_there (check.family_sites d) e.family) (check.names_sites d ws) (check.numbered d Formals 0 (map (λ (w : Word). w.span) ws))
-              (family-met e.family h.2 f.0) (words-met ws (formal-words e.formals (recursion_from_All (EveryFormal r) e.formals h.3))) (numbered-met Formals 17 (map (λ (w : Word). w.span) ws) 0 refl (omega (arith, f.1, n))),
+              (family-met e.family h.2 f.0) (words-met ws (formal-words r e.formals (recursion_from_All (EveryFormal r) e.formals h.3))) (numbered-met Formals 17 (map (λ (w : Word). w.span) ws) 0 refl (omega (arith, f.1, n))),
         )
 
     entries-met : (es : List PEntry) → AllByRecursion (EveryEntry r) es → AllByRecursion (EntryFits d.types) es → At (flat_map (check.entry_sites d) es)

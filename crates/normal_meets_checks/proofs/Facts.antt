@@ -58,13 +58,13 @@ use Rattle.normal_legal_seen.proofs.Tasks.{PartsKnown, numbered-tasks-apart}
 use Rattle.normal_legal_bodies.proofs.Fields.{legal-ready}
 use Rattle.normal_legal.specs.Laws.{IsLegal}
 use Rattle.normal_asked.specs.Pieces.{IsAmong}
-use Rattle.normal_placed.proofs.Whole.{among-all}
 use Rattle.normal_checked.specs.Around.{own_rules}
 use Rattle.common_lemmas.proofs.Lists.{all_front, all_back}
 use Rattle.common_lemmas.proofs.Numbers.{equal_is, equal_self}
 use Rattle.normal_legal_asked.proofs.Tasks as asked
 use Rattle.normal_legal_placed.proofs.Placed.{normal_is_placed}
 use Rattle.normal_meets_checks.proofs.Bodies.{IsKnown, BodyPlace, walk, first-beside}
+use Rattle.normal_placed.proofs.Made.{among}
 
 module _ (p : PProgram) (h : IsLegal p) where
   abbrev pub T : TypeTable
@@ -192,8 +192,8 @@ module _ (p : PProgram) (h : IsLegal p) where
       by_test : (b : Bool) → ((task_name (setting_for p) info).0 == p.name.name.0) ≡ b → b ≡ false
       by_test false e = refl
       by_test true e =
-          let same = tasks-apart (setting_for p) h.names info main-info (among-all (IsNamed (setting_for p)) info (tasks_beside (setting_for p)) i named.1) named.0 (equal_is (task_name (setting_for p) info).0 p.name.name.0 e) in
-          let other = among-all (λ (y : TaskInfo). (p.name.name.0 == y.name.0) ≡ false) info (tasks_beside (setting_for p)) i (infos-apart (numbered_tasks T p) (numbered-tasks-apart p T known)) in
+          let same = tasks-apart (setting_for p) h.names info main-info (among (IsNamed (setting_for p)) info (tasks_beside (setting_for p)) i named.1) named.0 (equal_is (task_name (setting_for p) info).0 p.name.name.0 e) in
+          let other = among (λ (y : TaskInfo). (p.name.name.0 == y.name.0) ≡ false) info (tasks_beside (setting_for p)) i (infos-apart (numbered_tasks T p) (numbered-tasks-apart p T known)) in
           absurd (true≢false (sym (ap (λ n. n == info.name.0) (sym same.0) ∙ equal_self info.name.0) ∙ other))
 
   -- ---- bodies

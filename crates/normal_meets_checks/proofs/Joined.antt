@@ -20,7 +20,6 @@ use Rattle.rewritten_values.specs.Values.{old_names}
 use Rattle.normal_has_numbers.proofs.Listed.{IsPlain, bodies-all, first-plain, normal-list}
 use Rattle.normal_has_numbers.proofs.Listed as list
 use Rattle.normal_has_numbers.proofs.Numbered.{normal-single}
-use Rattle.normal_once.proofs.Parts.{list-again}
 use Rattle.normal_legal.specs.Laws.{IsLegal}
 use Rattle.normal_checked.specs.Around.{own_rules}
 use Rattle.normal_checked.proofs.Joined.{meets-checks}
@@ -33,8 +32,9 @@ use Rattle.normal_meets_checks.proofs.Lists.{after-lists, bodies-still, lists-me
 use Rattle.normal_meets_checks.proofs.Tasks.{tasks-fit}
 use Rattle.normal_meets_checks.proofs.AroundBody.{whole}
 use Rattle.normal_meets_checks.proofs.Facts as facts
-use Rattle.normal_meets_checks.proofs.Copies.{every-listed, main-met, bodies-beside, bodies-copied}
+use Rattle.normal_meets_checks.proofs.Copies.{main-met, bodies-beside, bodies-copied}
 use Rattle.normal_meets_checks.proofs.Counts.{tasks_total, entries_total, IsPlainPart, parts-plain, tasks-within, entries-within, tasks-met, entries-met, copies-met, same-tasks, same-entries}
+use Rattle.syn_event.proofs.DeclLists.{list_again, every_listed}
 
 -- ---- first declarations
 
@@ -105,10 +105,10 @@ module _ (p : PProgram) (h : IsLegal p) where
   bodies = list.bodies p T (numbers_of p)
 
   all-decls : decls_of (firsts ++ ((vars ++ tasks) ++ bodies)) ≡ n.decls
-  all-decls = sym (ap decls_of (normal-list p T (numbers_of p))) ∙ list-again n.decls
+  all-decls = sym (ap decls_of (normal-list p T (numbers_of p))) ∙ list_again n.decls
 
   all-placed : AllByRecursion (EveryDecl placed) (firsts ++ ((vars ++ tasks) ++ bodies))
-  all-placed = subst (AllByRecursion (EveryDecl placed)) (normal-list p T (numbers_of p)) (every-listed placed n.decls (facts.placed p h).2)
+  all-placed = subst (AllByRecursion (EveryDecl placed)) (normal-list p T (numbers_of p)) (every_listed placed n.decls (facts.placed p h).2)
 
   rest-placed : AllByRecursion (EveryDecl placed) ((vars ++ tasks) ++ bodies)
   rest-placed = all_back (EveryDecl placed) firsts ((vars ++ tasks) ++ bodies) all-placed
@@ -116,7 +116,7 @@ module _ (p : PProgram) (h : IsLegal p) where
   -- ---- those that are no bodies
 
   all-old : AllByRecursion (EveryDecl olds) (decl_list p.decls)
-  all-old = every-listed olds p.decls (facts.olds p h).2
+  all-old = every_listed olds p.decls (facts.olds p h).2
 
   all-sized : AllByRecursion (DeclSized T bodied) (decl_list p.decls)
   all-sized = decls-sized p.names bodied T p.decls (facts.around p h) refl (facts.decls-checked p h)
@@ -153,7 +153,7 @@ module _ (p : PProgram) (h : IsLegal p) where
   copied =
       subst (λ (c : CheckScope). At' (check.decls_sites c bodied' (decls_of bodies))) at-whole
       (bodies-met n.names bodied' bodies (whole p h) (bodies-all g)
-      (bodies-copied p h (decl_list p.decls) (facts.bodies-known p h) (bodies-beside p h) (every-listed (own_rules (facts.own p h)) p.decls (facts.owns p h).2) all-old
+      (bodies-copied p h (decl_list p.decls) (facts.bodies-known p h) (bodies-beside p h) (every_listed (own_rules (facts.own p h)) p.decls (facts.owns p h).2) all-old
       (all_back (EveryDecl placed) (vars ++ tasks) bodies rest-placed)))
 
   -- ---- all declarations

@@ -32,8 +32,7 @@ use Rattle.normal_placed.proofs.Added.{AreVariablesFrom}
 use Rattle.normal_checked.specs.Around.{own_rules, IsAround}
 use Rattle.normal_checked.proofs.Scopes.{use-under, callee-under, all-under}
 use Rattle.normal_checked.proofs.Stays.{expr-stays}
-use Rattle.asked_stmts.proofs.Lists.{all_second, all_third, all_three}
-use Rattle.common_lemmas.proofs.Lists.{all_front, all_back, all_joined}
+use Rattle.common_lemmas.proofs.Lists.{all_front, all_back, all_joined, all_three, all_second, all_third}
 use Rattle.std.proofs.lemmas.Bool.{ltb-false}
 use Rattle.common_lemmas.proofs.Numbers.{equal_self, lt_is}
 use Rattle.normal_meets_checks.proofs.Declared.{BoundsFree, met-count, words-met, subind-met}

@@ -23,8 +23,7 @@ use Rattle.rewritten_types.specs.Agreement.{Agrees}
 use Rattle.rewritten_values.specs.Values.{old_names}
 use Rattle.normal_has_numbers.proofs.Extents.{extent-alike}
 use Rattle.normal_has_numbers.proofs.Listed.{IsPlain}
-use Rattle.asked_stmts.proofs.Lists.{all_first, all_second, all_third}
-use Rattle.common_lemmas.proofs.Lists.{all_front, all_back}
+use Rattle.common_lemmas.proofs.Lists.{all_front, all_back, all_first, all_second, all_third}
 use Rattle.normal_checked.proofs.MainScopes.{decls-frame}
 use Rattle.normal_meets_checks.proofs.Declared.{EntryFits, ShapeFits, DeclFits}
 

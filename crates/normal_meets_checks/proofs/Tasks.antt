@@ -21,13 +21,13 @@ use Rattle.normal_types.specs.Laws.{setting_of}
 use Rattle.normal_units.proofs.Declared.{parts-all, numbered-tasks-all}
 use Rattle.normal_asked.specs.Pieces.{IsAmong, first_among, later_among}
 use Rattle.normal_has_numbers.proofs.Listed.{firsts, vars, tasks, bodies, normal-list}
-use Rattle.normal_placed.proofs.Whole.{each-of, among-all, among-mapped}
+use Rattle.normal_placed.proofs.Whole.{each-of, among-mapped}
 use Rattle.common_lemmas.proofs.Numbers.{equal_self}
-use Rattle.common_lemmas.proofs.Lists.{all_joined}
-use Rattle.asked_stmts.proofs.Lists.{all_flat}
+use Rattle.common_lemmas.proofs.Lists.{all_joined, all_flat}
 use Rattle.normal_meets_checks.proofs.Declared.{DeclFits}
 use Rattle.normal_meets_checks.proofs.Sizes.{DeclSized, entries-fit}
 use Rattle.normal_meets_checks.proofs.Lists.{IsBodyNamed, body-has, has-body}
+use Rattle.normal_placed.proofs.Made.{among}
 
 -- ---- what is among lists
 
@@ -108,7 +108,7 @@ module _ (p : PProgram) (T : TypeTable) where
     -- the copy of its body
     pub own-body : (info : TaskInfo) → IsAmong info (tasks_beside g) → HasBody n.decls (task_name g info).0
     own-body info i =
-        let b : IsBodyNamed info.unit.0 p.decls = has-body p.decls info.unit.0 (among-all (λ (x : TaskInfo). HasBody p.decls x.unit.0) info (tasks_beside g) i all-bodied) in
+        let b : IsBodyNamed info.unit.0 p.decls = has-body p.decls info.unit.0 (among (λ (x : TaskInfo). HasBody p.decls x.unit.0) info (tasks_beside g) i all-bodied) in
         let runs : IsAmong info (running g b.word.name) = among-kept (λ (x : TaskInfo). x.unit.0 == b.word.name.0) info (tasks_beside g) i (ap (λ k. info.unit.0 == k) b.named ∙ equal_self info.unit.0) in
         let copies = among-flat (bodies_of g) (DTaskBody b.word b.objects b.body b.place) _ (decl_list p.decls) b.among (among-mapped _ info (running g b.word.name) runs) in
         let firsts-there = among-back _ (firsts p T (all_numbers T p)) (vars p T (all_numbers T p) ++ tasks p T (all_numbers T p) ++ bodies p T (all_numbers T p))

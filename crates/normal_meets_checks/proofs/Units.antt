@@ -23,21 +23,22 @@ use Rattle.rewritten_types.proofs.Lookups.{find-all}
 use Rattle.normal_types.specs.Laws.{IsOrdered, setting_of}
 use Rattle.normal_has_numbers.proofs.Tasked.{under, normal-tasks-of}
 use Rattle.normal_asked.specs.Pieces.{IsAmong, first_among, later_among}
-use Rattle.normal_placed.proofs.Whole.{among-all, among-mapped}
+use Rattle.normal_placed.proofs.Whole.{among-mapped}
 use Rattle.legal_types.specs.Typed.{IsFirstTask}
-use Rattle.normal_legal_seen.proofs.Scopes.{meant-units}
 use Rattle.common_lemmas.proofs.Lists.{found_passes}
 use Rattle.common_lemmas.proofs.Numbers.{equal_self, equal_is}
 use Rattle.common_lemmas.proofs.Options.{some_same, some_there}
+use Rattle.normal_placed.proofs.Made.{among}
+use Rattle.syn_event.proofs.CheckScopes.{meant_units}
 
 -- ---- units behind declarations
 
 value-units : (b : Bool) (ws : List Word) (c : CheckScope) → (check.with_value b c ws).units ≡ c.units
-value-units true ws c = meant-units Shared ws c
+value-units true ws c = meant_units Shared ws c
 value-units false ws c = refl
 
 object-units : (o : Option Meant) (mark : Word) (b : Bool) (ws : List Word) (c : CheckScope) → (check.with_object c o mark b ws).units ≡ c.units
-object-units (Some TaskType) mark b ws c = meant-units (TaskOf mark.name) ws c
+object-units (Some TaskType) mark b ws c = meant_units (TaskOf mark.name) ws c
 object-units (Some MainProcedure) mark b ws c = value-units b ws c
 object-units (Some (TaskOf x)) mark b ws c = value-units b ws c
 object-units (Some Shared) mark b ws c = value-units b ws c
@@ -154,7 +155,7 @@ module _ (p : PProgram) (T : TypeTable) (ordered : IsOrdered p) where
       let y = among-back-mapped (info_of_task p.names) info (numbered_tasks T p) i in
       let here : IsAmong (under g y.0) (tasks_of n) = subst (IsAmong (under g y.0)) (sym (normal-tasks-of p T ordered)) (among-mapped (under g) y.0 (numbered_tasks T p) y.1) in
       let there : IsThere (task_name g info).0 (check.after_decls c n.decls).units = subst (λ (x : TaskInfo). IsThere (task_name g x).0 (check.after_decls c n.decls).units) (sym y.2) (units-there n.decls c (under g y.0) here) in
-      let told = one-of-name info t (numbered_tasks T p) first e firsts (among-all (λ (a : TaskInfo). AllByRecursion (λ (b : TaskInfo). (task_name g a).0 ≡ (task_name g b).0 → a.unit.0 ≡ b.unit.0) (tasks_beside g)) info (tasks_beside g) i tell) in
+      let told = one-of-name info t (numbered_tasks T p) first e firsts (among (λ (a : TaskInfo). AllByRecursion (λ (b : TaskInfo). (task_name g a).0 ≡ (task_name g b).0 → a.unit.0 ≡ b.unit.0) (tasks_beside g)) info (tasks_beside g) i tell) in
       let all = subst (AllByRecursion (λ (x : PTask). (check.unit_of x).name.0 ≡ (task_name g info).0 → (check.unit_of x).entries ≡ entry_names t)) (sym (normal-tasks-of p T ordered)) (under-entries info (entry_names t) (numbered_tasks T p) told) in
       found-entries (check.after_decls c n.decls) (record { name = task_name g info; span = s }) (entry_names t) there
       (units-all (λ (u : Unit). u.name.0 ≡ (task_name g info).0 → u.entries ≡ entry_names t) n.decls c all (subst (AllByRecursion (λ (u : Unit). u.name.0 ≡ (task_name g info).0 → u.entries ≡ entry_names t)) (sym none) tt))

@@ -19,6 +19,7 @@ use Rattle.normal_once.proofs.FirstDecls.{here-after}
 use Rattle.normal_legal_seen.proofs.Scopes.{is_one_of, meant-out, meant-in}
 use Rattle.common_lemmas.proofs.Numbers.{equal_is}
 use Rattle.common_lemmas.proofs.Options.{some_same}
+use Rattle.normal_once.proofs.TaskNames.{among-words}
 
 -- ---- words
 
@@ -38,27 +39,16 @@ unused-out s (w ∷ ws) id h u = or_from (w.name.0 == id.0) (is_one_of ws id) (o
 
 -- ---- used names
 
-among-behind : (here : List ℕ) (ws : List Word) (n : ℕ) → is_among here n ≡ true → is_among (with_words here ws) n ≡ true
-among-behind here [] n h = h
-among-behind here (w ∷ ws) n h = among-behind (w.name.0 ∷ here) ws n (or_right (w.name.0 == n) (is_among here n) h)
-
-among-words : (here : List ℕ) (ws : List Word) (id : NameId) → is_one_of ws id ≡ true → is_among (with_words here ws) id.0 ≡ true
-among-words here [] id e = cc
-among-words here (w ∷ ws) id e = by_test (w.name.0 == id.0) refl e (among-words (w.name.0 ∷ here) ws id)
+words-among : (here : List ℕ) (ws : List Word) (id : NameId) → is_one_of ws id ≡ true → is_among (with_words here ws) id.0 ≡ true
+words-among here [] id e = cc
+words-among here (w ∷ ws) id e = by_test (w.name.0 == id.0) refl e (words-among (w.name.0 ∷ here) ws id)
   where
     by_test : (b : Bool) → (w.name.0 == id.0) ≡ b → (b || is_one_of ws id) ≡ true → (is_one_of ws id ≡ true → is_among (with_words (w.name.0 ∷ here) ws) id.0 ≡ true) → is_among (with_words (w.name.0 ∷ here) ws) id.0 ≡ true
-    by_test true f g rest = among-behind (w.name.0 ∷ here) ws id.0 (or_left (w.name.0 == id.0) (is_among here id.0) f)
+    by_test true f g rest = among-words (w.name.0 ∷ here) ws id.0 (or_left (w.name.0 == id.0) (is_among here id.0) f)
     by_test false f g rest = rest g
 
-pub used-behind : (d : PDecl) (s : Scope) (id : NameId) → IsUsed s id → IsUsed (after_decl s d) id
-used-behind d s id h = ap (λ l. is_predefined id.0 || is_among l id.0) (here-after s d) ∙ by_test (is_predefined id.0) h
-  where
-    by_test : (b : Bool) → (b || is_among s.here id.0) ≡ true → (b || is_among (with_words s.here (names_declared d)) id.0) ≡ true
-    by_test true e = refl
-    by_test false e = among-behind s.here (names_declared d) id.0 e
-
 pub declared-used : (d : PDecl) (s : Scope) (id : NameId) → is_one_of (names_declared d) id ≡ true → IsUsed (after_decl s d) id
-declared-used d s id e = ap (λ l. is_predefined id.0 || is_among l id.0) (here-after s d) ∙ or_right (is_predefined id.0) (is_among (with_words s.here (names_declared d)) id.0) (among-words s.here (names_declared d) id e)
+declared-used d s id e = ap (λ l. is_predefined id.0 || is_among l id.0) (here-after s d) ∙ or_right (is_predefined id.0) (is_among (with_words s.here (names_declared d)) id.0) (words-among s.here (names_declared d) id e)
 
 -- ---- what names mean
 

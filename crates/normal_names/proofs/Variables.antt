@@ -3,12 +3,12 @@ use Rattle.std.proofs.Common.{◌≡◌, ◌<◌, ◌≤◌, ℕ, zero, suc, Lis
 use Rattle.std.proofs.lemmas.Bool.{cases_lt}
 use Rattle.ada_tree.specs.declared.naming.NameId.{NameId}
 use Rattle.ada_tree.specs.NameList.{interned, AreNames}
-use Rattle.ada_tree.proofs.Interning.{slice_get-last}
 use Rattle.task_model.specs.Setting.{Setting}
 use Rattle.normal_model.specs.Names.{id_of, normal_names, variable_name, variable_text}
 use Rattle.normal_names.specs.declared.names.NormalNames.{NormalNames}
 use Rattle.normal_names.specs.SoFar.{AreNamesOf}
 use Rattle.normal_names.proofs.Places.{place_of}
+use Rattle.common_lemmas.proofs.Lists.{last_at}
 
 -- what stands in a list stands there too where one more follows
 still : {X : Type 0} (xs : List X) (y : X) (k : ℕ) → k < length xs → slice_get (xs ++ y ∷ []) k ≡ slice_get xs k
@@ -49,4 +49,4 @@ one_more g n more id grows names at same longer so_far = record {
         by (inl h) = still n.variables.items id k h ∙ so_far.variables k h
         by (inr h) =
             let e : k ≡ length n.variables.items = omega (arith, lt, h) in
-            ap (slice_get (n.variables.items ++ id ∷ [])) e ∙ slice_get-last n.variables.items id ∙ ap Some (named ∙ ap (variable_name g) (sym e))
+            ap (slice_get (n.variables.items ++ id ∷ [])) e ∙ last_at n.variables.items id ∙ ap Some (named ∙ ap (variable_name g) (sym e))

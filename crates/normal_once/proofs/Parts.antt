@@ -4,7 +4,7 @@ use Rattle.std.specs.List.{AllByRecursion}
 use Rattle.ada_tree.specs.declared.naming.Span.{Span}
 use Rattle.ada_tree.specs.declared.naming.Word.{Word}
 use Rattle.ada_tree.specs.PlainStmt.{PBody}
-use Rattle.ada_tree.specs.PlainDecl.{PTask, PDecl, DNumber, DObject, DEnumeration, DArray, DSubtype, DException, DIntIo, DPragma, DTask, DTaskBody, PDecls, no_decl, decl_then, decls_of}
+use Rattle.ada_tree.specs.PlainDecl.{PTask, PDecl, DNumber, DObject, DEnumeration, DArray, DSubtype, DException, DIntIo, DPragma, DTask, DTaskBody, PDecls, no_decl, decl_then}
 use Rattle.ada_tree.specs.Scope.{Scope, integer_kind}
 use Rattle.ada_tree.specs.Demand.{gives_body, Site}
 use Rattle.ada_tree.specs.Declaring.{inside, in_body, after_decl, after_objects}
@@ -20,6 +20,7 @@ use Rattle.normal_once.specs.Names.{entries_names, inner_names, IsFitDecl}
 use Rattle.normal_once.proofs.Places.{entries-are, body-is}
 use Rattle.ada_duplicates.proofs.Noting.{namings_append}
 use Rattle.common_lemmas.proofs.Lists.{all_back, all_front, all_joined}
+use Rattle.syn_event.proofs.DeclLists.{list_again}
 
 -- ---- one naming beside fixed names
 
@@ -37,11 +38,6 @@ fit-in-apart fixed (n ∷ ns) h = all_joined (IsFreeOf fixed) (loose_name n) (lo
 
 -- ---- bodies
 
--- declarations from their list
-pub list-again : (ds : PDecls) → decls_of (decl_list ds) ≡ ds
-list-again no_decl = refl
-list-again (decl_then d ds) = ap (decl_then d) (list-again ds)
-
 body-named : (s : Scope) (w : Word) (rest : List Site) (l : List Naming) → namings_of rest ≡ l → namings_of (site s (gives_body w) ∷ rest) ≡ Once (is_among s.bodies w.name.0) w ∷ l
 unfolding namings_of
 body-named s w rest l e = ap (λ m. Once (is_among s.bodies w.name.0) w ∷ m) e
@@ -53,7 +49,7 @@ task-body-is s w objects its sp =
     body-named s w (own_sites (in_body s w) objects ++ body_sites (inside (after_objects (in_body s w) objects)) its) _
     (namings_append (own_sites (in_body s w) objects) (body_sites (inside (after_objects (in_body s w) objects)) its)
     ∙ ap₂ (λ (a b : List Naming). a ++ b)
-    (ap (λ (ds : PDecls). namings_of (own_sites (in_body s w) ds)) (sym (list-again objects)) ∙ own_are (in_body s w) (decl_list objects) refl)
+    (ap (λ (ds : PDecls). namings_of (own_sites (in_body s w) ds)) (sym (list_again objects)) ∙ own_are (in_body s w) (decl_list objects) refl)
     (body-is (inside (after_objects (in_body s w) objects)) its))
 
 -- ---- declarations

@@ -12,7 +12,7 @@ use Rattle.ada_tree.specs.Declaring.{inside, with_formals}
 use Rattle.ada_tree.specs.RuleDuplicate.{is_among}
 use Rattle.ada_tree.specs.RuleChoiceBad.{selected_range}
 use Rattle.ada_tree.specs.Sites.{site, if_there, expr_sites, drange_sites, call_sites, accept_index_sites, head_sites, formals_sites, formal_mark_sites, all_names, names_sites, condition, choice_sites, choices_of, is_present, handler_names_sites, with_words, scheme_sites, loop_scope, stmt_sites, stmts_sites, maybe_sites, accept_sites, alts_sites, alt_sites, arms_sites, case_arms_sites, handlers_sites, body_sites, entry_sites, entries_sites}
-use Rattle.ada_duplicates.proofs.Noting.{quiet_site, quiet_there, quiet_flat, quiet_expr, quiet_of, quiet_drange, quiet_call, quiet_index, quiet_choice, is_leaf, quiet_leaf, quiet_formal_marks, declared_are, namings_append, once_are, quiet_none}
+use Rattle.ada_duplicates.proofs.Noting.{quiet_site, quiet_there, quiet_flat, quiet_expr, quiet_of, quiet_drange, quiet_call, quiet_index, quiet_choice, quiet_leaf, quiet_formal_marks, declared_are, namings_append, once_are, quiet_none}
 use Rattle.ada_duplicates.specs.NamingsInOrder.{namings_of, declared}
 use Rattle.ada_duplicates.specs.declared.namings_in_order.Naming.{Naming}
 use Rattle.ada_duplicates.specs.declared.namings_in_order.Naming.TheVariants.{Declares, Once}
@@ -63,22 +63,19 @@ scheme-is scope None = quiet_none
 
 -- ---- statements
 
-leaf : (x : PStmt) → is_leaf x ≡ true → (scope : Scope) → namings_of (stmt_sites scope x) ≡ []
-leaf x e scope = (quiet_leaf x e scope)
-
 mutual
   stmt-is : (scope : Scope) (x : PStmt) → namings_of (stmt_sites scope x) ≡ stmt_names x
-  stmt-is scope (SNull s) = leaf (SNull s) refl scope
-  stmt-is scope (SAssign x e s) = leaf (SAssign x e s) refl scope
-  stmt-is scope (SDelay d s) = leaf (SDelay d s) refl scope
-  stmt-is scope (SExit w e s) = leaf (SExit w e s) refl scope
-  stmt-is scope (SRaise w s) = leaf (SRaise w s) refl scope
-  stmt-is scope (SAbort cs s) = leaf (SAbort cs s) refl scope
-  stmt-is scope (SCall c s) = leaf (SCall c s) refl scope
-  stmt-is scope (SPut ps s) = leaf (SPut ps s) refl scope
-  stmt-is scope (SPutLine ps s) = leaf (SPutLine ps s) refl scope
-  stmt-is scope (SNewLine s) = leaf (SNewLine s) refl scope
-  stmt-is scope (SGet x s) = leaf (SGet x s) refl scope
+  stmt-is scope (SNull s) = quiet_leaf (SNull s) refl scope
+  stmt-is scope (SAssign x e s) = quiet_leaf (SAssign x e s) refl scope
+  stmt-is scope (SDelay d s) = quiet_leaf (SDelay d s) refl scope
+  stmt-is scope (SExit w e s) = quiet_leaf (SExit w e s) refl scope
+  stmt-is scope (SRaise w s) = quiet_leaf (SRaise w s) refl scope
+  stmt-is scope (SAbort cs s) = quiet_leaf (SAbort cs s) refl scope
+  stmt-is scope (SCall c s) = quiet_leaf (SCall c s) refl scope
+  stmt-is scope (SPut ps s) = quiet_leaf (SPut ps s) refl scope
+  stmt-is scope (SPutLine ps s) = quiet_leaf (SPutLine ps s) refl scope
+  stmt-is scope (SNewLine s) = quiet_leaf (SNewLine s) refl scope
+  stmt-is scope (SGet x s) = quiet_leaf (SGet x s) refl scope
   stmt-is scope (SAccept a s) = accept-is scope a
   stmt-is scope (SWait x o s) = both (alts_sites scope x) (maybe_sites scope o) _ _ (alts-are scope x) (maybe-is scope o)
   stmt-is scope (SConditional c b o s) = three (call_sites scope c) (stmts_sites scope b) (stmts_sites scope o) [] (stmts_names b) (stmts_names o) ((quiet_call scope c)) (stmts-are scope b) (stmts-are scope o)

@@ -28,12 +28,12 @@ use Rattle.normal_once.specs.Names.{label_names, scheme_names, stmt_names, stmts
 
 -- ---- lists of statements
 
-front-names : (a b : PStmts) → stmts_names (in_front a b) ≡ stmts_names a ++ stmts_names b
+pub front-names : (a b : PStmts) → stmts_names (in_front a b) ≡ stmts_names a ++ stmts_names b
 front-names no_stmt b = refl
 front-names (stmt_then x l) b = ap (λ m. stmt_names x ++ m) (front-names l b) ∙ sym (append_assoc (stmt_names x) (stmts_names l) (stmts_names b))
 
 -- statements that name nothing in front of others, and both
-quiet-front : (a b : PStmts) (m : List Naming) → stmts_names a ≡ [] → stmts_names b ≡ m → stmts_names (in_front a b) ≡ m
+pub quiet-front : (a b : PStmts) (m : List Naming) → stmts_names a ≡ [] → stmts_names b ≡ m → stmts_names (in_front a b) ≡ m
 quiet-front a b m p q = front-names a b ∙ ap₂ (λ (k l : List Naming). k ++ l) p q
 
 null-names : (s : Span) (l : PStmts) → stmts_names (or_null s l) ≡ stmts_names l

@@ -42,7 +42,7 @@ abbrev pub TypesStand : List PTask → Scope → Type 0
 TypesStand kinds s = AllByRecursion (λ (t : PTask). StandsFor s t.name.name) kinds
 
 -- what is used stays used
-among-words : (here : List ℕ) (ws : List Word) (x : ℕ) → is_among here x ≡ true → is_among (with_words here ws) x ≡ true
+pub among-words : (here : List ℕ) (ws : List Word) (x : ℕ) → is_among here x ≡ true → is_among (with_words here ws) x ≡ true
 among-words here [] x h = h
 among-words here (w ∷ ws) x h = among-words (w.name.0 ∷ here) ws x (or_right (w.name.0 == x) (is_among here x) h)
 

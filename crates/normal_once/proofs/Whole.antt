@@ -29,7 +29,7 @@ record IsOpen (s : Scope) : Type 0 where
   types : HasTypes [] s
   bodies : s.bodies ≡ []
 
-plain-kinds : (d : PDecl) → IsPlain d → kinds_after [] d ≡ []
+pub plain-kinds : (d : PDecl) → IsPlain d → kinds_after [] d ≡ []
 plain-kinds (DTask t sp) h = absurd h
 plain-kinds (DTaskBody w objects its sp) h = absurd h
 plain-kinds (DNumber w e sp) h = refl
@@ -86,7 +86,7 @@ tasks-bodies (d ∷ ds) s h = tasks-bodies ds (after_decl s d) h.1 ∙ task-bodi
 front-named : (s : Scope) (a b : PDecls) (l m : List Naming) → namings_of (decls_sites s a) ≡ l → namings_of (decls_sites (after_decls s a) b) ≡ m → namings_of (decls_sites s (decls_front a b)) ≡ l ++ m
 front-named s a b l m p q = ap namings_of (front-sites s a b) ∙ namings_append (decls_sites s a) (decls_sites (after_decls s a) b) ∙ ap₂ (λ (x y : List Naming). x ++ y) p q
 
-list-named : (s : Scope) (xs ys : List PDecl) (l m : List Naming) → namings_of (decls_sites s (decls_of xs)) ≡ l → namings_of (decls_sites (after_decls s (decls_of xs)) (decls_of ys)) ≡ m → namings_of (decls_sites s (decls_of (xs ++ ys))) ≡ l ++ m
+pub list-named : (s : Scope) (xs ys : List PDecl) (l m : List Naming) → namings_of (decls_sites s (decls_of xs)) ≡ l → namings_of (decls_sites (after_decls s (decls_of xs)) (decls_of ys)) ≡ m → namings_of (decls_sites s (decls_of (xs ++ ys))) ≡ l ++ m
 list-named s xs ys l m p q = ap (λ (ds : PDecls). namings_of (decls_sites s ds)) (list-front xs ys) ∙ front-named s (decls_of xs) (decls_of ys) l m p q
 
 -- ---- the whole

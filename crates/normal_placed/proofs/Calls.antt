@@ -14,7 +14,6 @@ use Rattle.syn_event.specs.declared.numbering.Mode.TheVariants.{Original}
 use Rattle.syn_event.specs.CheckScope.{CheckScope, CheckSite}
 use Rattle.syn_event.specs.CheckSites as check
 use Rattle.legal_sites.specs.Met.{IsCheckMet}
-use Rattle.asked_stmts.proofs.Lists.{all_unflat}
 use Rattle.task_model.specs.Setting.{Setting, is_family, first_expr, lists_in, lists_of}
 use Rattle.task_model.specs.Calls.{variable_of}
 use Rattle.normal_model.specs.Making.{moving}
@@ -22,7 +21,7 @@ use Rattle.normal_model.specs.Calls.{Slot, actuals_passed, entry_called, lists_c
 use Rattle.normal_asked.specs.Pieces.{IsPair, first_pair, later_pair}
 use Rattle.normal_placed.specs.Placeable.{AreTaken}
 use Rattle.normal_placed.proofs.Depth.{expr-depth}
-use Rattle.common_lemmas.proofs.Lists.{all_back, all_front}
+use Rattle.common_lemmas.proofs.Lists.{all_back, all_front, all_unflat}
 
 -- ---- what moves
 

@@ -55,7 +55,7 @@ pub record AreNamed (g : Setting) (names : List (List ℕ)) : Type 0 where
   pub kinds : KindsHaveNames names g.types
   pub indices : AllByRecursion HasSmallIndex g.numbers.tasks
 
-among : {A : Type 0} (P : A → Type 0) (x : A) (xs : List A) → IsAmong x xs → AllByRecursion P xs → P x
+pub among : {A : Type 0} (P : A → Type 0) (x : A) (xs : List A) → IsAmong x xs → AllByRecursion P xs → P x
 among P x xs (first_among ys) h = h.0
 among P x xs (later_among y ys i) h = among P x ys i h.1
 

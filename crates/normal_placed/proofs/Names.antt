@@ -61,7 +61,7 @@ first-named names are k l =
 -- ---- variables
 
 -- fewer variables have the first names of more
-variables-more : (ts : List (List ℕ)) (n m : ℕ) → n ≤ m → Begins (with_variables ts n) (with_variables ts m)
+pub variables-more : (ts : List (List ℕ)) (n m : ℕ) → n ≤ m → Begins (with_variables ts n) (with_variables ts m)
 variables-more ts n zero l = let e : n ≡ zero = omega (arith, l) in subst (λ k. Begins (with_variables ts n) (with_variables ts k)) e (begins-refl (with_variables ts n))
 variables-more ts n (suc m) l = by_test (nat_le n m) refl (λ k. variables-more ts n m k)
   where
@@ -71,6 +71,18 @@ variables-more ts n (suc m) l = by_test (nat_le n m) refl (λ k. variables-more 
         let f : m < n = leb-false n m e in
         let q : n ≡ suc m = omega (arith, f, l) in
         subst (λ k. Begins (with_variables ts n) (with_variables ts k)) q (begins-refl (with_variables ts n))
+
+-- a text that is searched is found where it stands, else the first name is taken
+pub searched : (ts : List (List ℕ)) (t : List ℕ) → IsName ts (record { 0 = 0 }) → IsIdentifier t → IsName ts (id_of ts t)
+searched ts t first h = go (position (bytes_eq t) ts) refl
+  where
+    go : (o : Option ℕ) → position (bytes_eq t) ts ≡ o → IsName ts (record { 0 = unwrap_or o 0 })
+    go None e = first
+    go (Some k) e =
+        let found = position-Some (bytes_eq t) ts k [] e in
+        let same : t ≡ get_or ts k [] = (bytes_eq-Decides t (get_or ts k [])).0 found.1 in
+        let there : slice_get ts k ≡ Some t = slice_get-get_or ts k [] found.0 ∙ ap Some (sym same) in
+        subst (λ o. IsSomeAnd o IsIdentifier) (sym there) h
 
 module _ (g : Setting) where
   abbrev count : ℕ
@@ -88,18 +100,6 @@ module _ (g : Setting) where
 
   pub old-named : (id : NameId) → IsName g.program.names id → IsName made_names id
   old-named id h = begins-name g.program.names made_names (names-begin g count) id h
-
-  -- a text that is searched is found where it stands, else the first name is taken
-  searched : (ts : List (List ℕ)) (t : List ℕ) → IsName ts (record { 0 = 0 }) → IsIdentifier t → IsName ts (id_of ts t)
-  searched ts t first h = go (position (bytes_eq t) ts) refl
-    where
-      go : (o : Option ℕ) → position (bytes_eq t) ts ≡ o → IsName ts (record { 0 = unwrap_or o 0 })
-      go None e = first
-      go (Some k) e =
-          let found = position-Some (bytes_eq t) ts k [] e in
-          let same : t ≡ get_or ts k [] = (bytes_eq-Decides t (get_or ts k [])).0 found.1 in
-          let there : slice_get ts k ≡ Some t = slice_get-get_or ts k [] found.0 ∙ ap Some (sym same) in
-          subst (λ o. IsSomeAnd o IsIdentifier) (sym there) h
 
   pub task-named : IsName g.program.names (record { 0 = 0 }) → (info : TaskInfo) → IsTask g.program.names info → IsName made_names (task_name g info)
   task-named first info t = go info.member t.index

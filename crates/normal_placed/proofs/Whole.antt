@@ -37,26 +37,18 @@ use Rattle.normal_asked.specs.Pieces.{IsAmong, first_among, later_among}
 use Rattle.normal_asked.proofs.Walk.{body-keeps}
 use Rattle.normal_types.proofs.Variables.{IsTaskOrBody, tasks-only, bodies-only}
 use Rattle.normal_placed.specs.Placeable.{IsName, call_asks, MarksHaveNames, TakesCalls, IsPlaceable}
-use Rattle.normal_placed.proofs.Made.{AreNamed, pieces}
+use Rattle.normal_placed.proofs.Made.{AreNamed, pieces, among}
 use Rattle.normal_placed.proofs.Names.{made_names, old-named, are-named}
 use Rattle.normal_placed.proofs.Added.{AreSubtypes, IsVariableAt, AreVariablesFrom, unit-from}
 use Rattle.normal_placed.proofs.Subtypes.{subtypes-placed}
-use Rattle.common_lemmas.proofs.Lists.{all_back, all_front, all_joined, all_kept}
+use Rattle.common_lemmas.proofs.Lists.{all_back, all_front, all_joined, all_kept, all_through}
 
 -- ---- lists
-
-flat-all : {A B : Type 0} (P : A → Type 0) (Q : B → Type 0) (f : A → List B) → ((x : A) → P x → AllByRecursion Q (f x)) → (xs : List A) → AllByRecursion P xs → AllByRecursion Q (flat_map f xs)
-flat-all P Q f each [] h = tt
-flat-all P Q f each (x ∷ xs) h = all_joined Q (f x) (flat_map f xs) (each x h.0) (flat-all P Q f each xs h.1)
 
 -- what holds of each that is among a list
 pub each-of : {A : Type 0} (P : A → Type 0) (xs : List A) → ((x : A) → IsAmong x xs → P x) → AllByRecursion P xs
 each-of P [] h = tt
 each-of P (x ∷ xs) h = (h x (first_among xs), each-of P xs (λ y i. h y (later_among x xs i)))
-
-pub among-all : {A : Type 0} (P : A → Type 0) (x : A) (xs : List A) → IsAmong x xs → AllByRecursion P xs → P x
-among-all P x xs (first_among ys) h = h.0
-among-all P x xs (later_among y ys i) h = among-all P x ys i h.1
 
 among-greatest : (n : ℕ) (ns : List ℕ) → IsAmong n ns → n ≤ greatest ns
 among-greatest n ns (first_among ms) = omega arith
@@ -160,6 +152,25 @@ tasks-last (DException ws s ∷ ds) h = absurd h.0
 tasks-last (DIntIo w s ∷ ds) h = absurd h.0
 tasks-last (DPragma e s ∷ ds) h = absurd h.0
 
+-- What is well placed stays so with other names, where its names stay names.
+pub placed-with : (names names' : List (List ℕ)) → ((id : NameId) → IsName names id → IsName names' id) → (p : PProgram) → EveryProgram (well_placed names) p → EveryProgram (well_placed names') p
+placed-with names names' stays p h = together (well_placed names) (well_placed names) (well_placed names') (record {
+  name = λ id i j. stays id i;
+  integer = λ n i j. i;
+  duration = λ n i j. i;
+  words = λ t i j. i;
+  unary = λ op e i j. i;
+  binary = λ op x y i j. i;
+  bounds = λ x y i j. i;
+  parts = λ n k i j. i;
+  handlers = λ hs i j. i;
+  pragmas = λ n xs i j. i;
+  object = λ c o i j. i;
+  inner = λ ds i j. i;
+  outer = λ ds i j. i;
+  nested = λ k i j. i;
+}) p h h
+
 module _ (g : Setting) (h : IsPlaceable g) where
   abbrev p : PProgram
   p = g.program
@@ -175,22 +186,7 @@ module _ (g : Setting) (h : IsPlaceable g) where
 
   -- the program is well placed with the names of its normal form
   whole : EveryProgram r p
-  whole = together (well_placed p.names) (well_placed p.names) r (record {
-    name = λ id i j. old-named g id i;
-    integer = λ n i j. i;
-    duration = λ n i j. i;
-    words = λ t i j. i;
-    unary = λ op e i j. i;
-    binary = λ op x y i j. i;
-    bounds = λ x y i j. i;
-    parts = λ n k i j. i;
-    handlers = λ hs i j. i;
-    pragmas = λ n xs i j. i;
-    object = λ c o i j. i;
-    inner = λ ds i j. i;
-    outer = λ ds i j. i;
-    nested = λ k i j. i;
-  }) p h.placed h.placed
+  whole = placed-with p.names names' (old-named g) p h.placed
 
   marks : MarksHaveNames names' g.types
   marks = go g.types.marks h.marks
@@ -257,8 +253,8 @@ module _ (g : Setting) (h : IsPlaceable g) where
 
   tasks-placed : AllByRecursion (EveryDecl r) (flat_map (task_declared g) (tasks_beside g))
   tasks-placed =
-      flat-all (λ (info : TaskInfo). IsName names' (task_name g info)) (EveryDecl r) (task_declared g)
-      (λ info i. flat-all (EveryDecl r) (EveryDecl r) (declared_under info.unit (task_name g info)) (λ d j. under-placed info.unit (task_name g info) d i j) (decl_list p.decls) (placed-list r p.decls whole.2))
+      all_through (λ (info : TaskInfo). IsName names' (task_name g info)) (EveryDecl r) (task_declared g)
+      (λ info i. all_through (EveryDecl r) (EveryDecl r) (declared_under info.unit (task_name g info)) (λ d j. under-placed info.unit (task_name g info) d i j) (decl_list p.decls) (placed-list r p.decls whole.2))
       (tasks_beside g) beside-named
 
   -- ---- bodies
@@ -300,7 +296,7 @@ module _ (g : Setting) (h : IsPlaceable g) where
           omega (arith, e, l)
 
       named : (info : TaskInfo) → IsAmong info (running g w.name) → IsName names' (task_name g info)
-      named info k = among-all (λ y. IsName names' (task_name g y)) info (running g w.name) k (all_kept (λ y. IsName names' (task_name g y)) (λ y. y.unit.0 == w.name.0) (tasks_beside g) beside-named)
+      named info k = among (λ y. IsName names' (task_name g y)) info (running g w.name) k (all_kept (λ y. IsName names' (task_name g y)) (λ y. y.unit.0 == w.name.0) (tasks_beside g) beside-named)
 
       one : (info : TaskInfo) → IsAmong info (running g w.name) → EveryDecl r (DTaskBody (word_at w.span (task_name g info)) (decls_front objects (decls_of vars)) (normal_body u its) s)
       one info k =

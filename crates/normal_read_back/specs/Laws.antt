@@ -7,7 +7,7 @@ use Rattle.ada_printer.specs.ProgramText.{program_text}
 use Rattle.normal_form_law.specs.Normalisable.{made_for}
 use Rattle.normal_legal.specs.Laws.{IsLegal}
 use Rattle.read_normal.specs.Example.{calling_text, calling}
-use Rattle.read_normal.specs.Laws.{IsLegalText}
+use Rattle.read_normal.specs.Laws.{IsOriginalText}
 
 -- what is printed of a program is read, as a program that is the same
 abbrev pub IsReadAsSame : PProgram → Type 0
@@ -19,8 +19,8 @@ NormalIsReadBack = (p : PProgram) → IsLegal p → IsReadAsSame (made_for p)
 
 -- Where the program was read from a text within the limit, nothing is asked but that it meets the static rules of an original.
 abbrev pub TextIsReadBack : Type 0
-TextIsReadBack = (bytes : List ℕ) (p : PProgram) → IsLegalText bytes p → IsReadAsSame (made_for p)
+TextIsReadBack = (bytes : List ℕ) (p : PProgram) → IsOriginalText bytes p → IsReadAsSame (made_for p)
 
 -- A text with a task and a call is so.
 abbrev pub IsMet : Type 0
-IsMet = IsLegalText calling_text calling
+IsMet = IsOriginalText calling_text calling

@@ -59,6 +59,7 @@ use Rattle.normal_tasks_law.proofs.Callers.{callers-same, output-same}
 use Rattle.normal_runs_law.specs.Premises.{Rewrite, programs_of, unit_at, unit_before, objects_before, objects_after, IsNormalForm}
 use Rattle.normal_runs_law.specs.Laws.{opened, NormalFormsShowSame}
 use Rattle.normal_runs_law.proofs.Meeting.{meets-around, call-met, wait-met, wait-any, abort-met, Finishing, finish-met, conditional-form, timed-form, at-call, met-at-call, finals-back}
+use Rattle.common_lemmas.proofs.Lists.{first_same}
 
 -- the number of a task stays as an accept body is opened
 opened-number : (caller : ℕ) (a : Option Open) (values : List Value) (t : Task) → (alternative_opened caller a values t).number ≡ t.number
@@ -69,9 +70,6 @@ opened-number caller (Some Terminates) values t = refl
 
 inside-alike : (x : Translation) (σ κ : Task) → AreInside x σ κ → Alike x σ κ
 inside-alike x σ κ (are_inside n i w r r' im u) = alike n i w (control r _ _ _) (control r' _ _ _) (inside r r' im u)
-
-pub first-caller : {a c : ℕ} {xs ys : List ℕ} → a ∷ xs ≡ c ∷ ys → a ≡ c
-first-caller e = cc
 
 -- an accept body in which a task and its image stand: its formals are the latest variables
 record OpenedFrame (b : Programs) (σ : Task) : Type 0 where
@@ -357,7 +355,7 @@ module _ (r : Rewrite) (form : IsNormalForm r) where
         let q = ending a k mk h in
         let ic : IsIn g c (task c) = served-within c a false served in
         let f = opened-frame (unit_at r a) (form.added a) (task a) k q.1.within q.1.opened in
-        let same : f.caller ≡ c = first-caller (sym (ap (λ y. caller_at y ++ callers_among (outer_of (task a))) f.place) ∙ callers) in
+        let same : f.caller ≡ c = first_same (sym (ap (λ y. caller_at y ++ callers_among (outer_of (task a))) f.place) ∙ callers) in
         let linked : AreLinked g w a (openings_in (task a).control) = come.known.links a (below a (not-over (w.tasks a).standing (freely is_finish a (happened (E a) h)).0)) in
         let first : AreLinked g w a (record { caller = f.caller; formals = f.formals } ∷ openings_among (outer_of (task a))) =
         subst (λ y. AreLinked g w a (opening_at y ++ openings_among (outer_of (task a)))) f.place linked in

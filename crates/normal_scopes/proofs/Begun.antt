@@ -23,9 +23,10 @@ use Rattle.alike_scopes.specs.Alike.{SameTypes}
 use Rattle.normal_scopes.specs.Plain.{plain_name}
 use Rattle.normal_scopes.proofs.Names.{member-new, variable-task}
 use Rattle.normal_scopes.proofs.Plain.{predefined-plain}
-use Rattle.normal_scopes.proofs.Main.{among-all, g, old, first, named, tasked}
+use Rattle.normal_scopes.proofs.Main.{g, old, first, named, tasked}
 use Rattle.normal_scopes.proofs.Fixed.{predefined-there, literal-means, literal-plain, literal-there, apart-variable}
 use Rattle.normal_scopes.proofs.Outer.{IsOuter, outer-task, outer-predefined, outer-valued}
+use Rattle.normal_placed.proofs.Made.{among}
 
 module _ (p : PProgram) (legal : IsLegal p) where
   -- A scope of the normal form in which types and values are those of the program, and in which no name that is outer means another thing than behind the tasks.
@@ -36,13 +37,13 @@ module _ (p : PProgram) (legal : IsLegal p) where
 
   -- no member of an array has a plain name
   pub new-member : (info : TaskInfo) → IsAmong info (tasks_beside (g p legal)) → (z : ℤ) → info.member ≡ Some z → plain_name p (task_name (g p legal) info).0 ≡ false
-  new-member info i z e = member-new (g p legal) info (among-all _ info (tasks_beside (g p legal)) i (named p legal)) z e
+  new-member info i z e = member-new (g p legal) info (among _ info (tasks_beside (g p legal)) i (named p legal)) z e
 
   -- each task has its own name there
   pub task-in : (d : Scope) → IsOuterScope d → (info : TaskInfo) (i : IsAmong info (tasks_beside (g p legal))) → meaning d (task_name (g p legal) info) ≡ meaning (tasked p legal) (task_name (g p legal) info)
   task-in d o info i =
       o.stays (task_name (g p legal) info) (outer-task (g p legal) (old p legal) info i (new-member info i))
-      (λ k. variable-task (g p legal) info k (among-all _ info (tasks_beside (g p legal)) i (named p legal)))
+      (λ k. variable-task (g p legal) info k (among _ info (tasks_beside (g p legal)) i (named p legal)))
 
   predefined-in : (d : Scope) → IsOuterScope d → (k : ℕ) → k < 18 → meaning d (record { 0 = k }) ≡ meaning (tasked p legal) (record { 0 = k })
   predefined-in d o k l =

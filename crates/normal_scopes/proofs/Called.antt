@@ -10,12 +10,12 @@ use Rattle.ada_tree.specs.declared.naming.NameId.{NameId}
 use Rattle.ada_tree.specs.declared.naming.Word.{Word}
 use Rattle.ada_tree.specs.TypeTable.{TypeTable}
 use Rattle.ada_tree.specs.PlainExpr.{PDrange}
-use Rattle.ada_tree.specs.PlainDecl.{PEntry, PTask, PDecl, DNumber, DObject, DEnumeration, DArray, DSubtype, DException, DIntIo, DPragma, DTask, DTaskBody, PDecls, no_decl, decl_then}
+use Rattle.ada_tree.specs.PlainDecl.{PEntry, PTask, DNumber, DObject, DEnumeration, DArray, DSubtype, DException, DIntIo, DPragma, DTask, DTaskBody, PDecls, no_decl, decl_then}
 use Rattle.ada_tree.specs.PlainProgram.{PProgram}
 use Rattle.ada_tree.specs.Refusals.{types_in}
 use Rattle.ada_tree.specs.Scope.{Scope, Thing, TypeMark, TaskType, SingleTask, TaskObject, TaskArray, Variable, ConstantObject, Parameter, LoopParameter, Literal, AnException, MainProcedure, AnotherUnit, Unclear, Family, single, family, unclear, EntryPart, meaning, entry_named}
 use Rattle.ada_tree.specs.Sites.{decls_sites, body_sites}
-use Rattle.ada_tree.specs.Declaring.{first_scope, inside, with_names, declared_object, with_types, with_constants, after_object, after_own_object, after_objects, after_decl, after_decls}
+use Rattle.ada_tree.specs.Declaring.{first_scope, inside, with_names, declared_object, with_types, with_constants, after_object, after_objects, after_decl, after_decls}
 use Rattle.ada_tree.specs.RuleArgCount.{called_entry}
 use Rattle.syn_event.specs.declared.numbering.TaskInfo.{TaskInfo}
 use Rattle.syn_event.specs.Extents.{count_to}
@@ -48,7 +48,6 @@ use Rattle.normal_legal_seen.proofs.Units.{objects-apart}
 use Rattle.normal_legal_asked.proofs.Tasks as asked
 use Rattle.normal_asked.specs.Pieces.{IsAmong, first_among, later_among}
 use Rattle.normal_typed.specs.ScopeOf.{AreSlots, IsRange, IsFamilyOf, IsEntryOf}
-use Rattle.alike_scopes.proofs.Naming.{names-own}
 use Rattle.normal_scopes.proofs.Later.{decls-kept}
 use Rattle.normal_scopes.proofs.Seeing.{HasEntries, entries_in}
 use Rattle.normal_scopes.proofs.Places.{AtBodies, IsSeenOrHidden}
@@ -125,23 +124,6 @@ objects-back (decl_then (DIntIo w sp) rest) s id es x main has e = objects-back 
 objects-back (decl_then (DPragma y sp) rest) s id es x main has e = objects-back rest s id es x main has e
 objects-back (decl_then (DTask u sp) rest) s id es x main has e = objects-back rest s id es x main has e
 objects-back (decl_then (DTaskBody w os its sp) rest) s id es x main has e = objects-back rest s id es x main has e
-
--- and the entries around are the same
-own-own : (d : PDecl) (s : Scope) → (after_own_object s d).own ≡ s.own
-own-own (DObject ws c x i sp) s = names-own _ ws _
-own-own (DNumber w e sp) s = refl
-own-own (DEnumeration w ws sp) s = refl
-own-own (DArray w q x sp) s = refl
-own-own (DSubtype w x sp) s = refl
-own-own (DException ws sp) s = refl
-own-own (DIntIo w sp) s = refl
-own-own (DPragma e sp) s = refl
-own-own (DTask u sp) s = refl
-own-own (DTaskBody w os its sp) s = refl
-
-pub objects-own : (ds : PDecls) (s : Scope) → (after_objects s ds).own ≡ s.own
-objects-own no_decl s = refl
-objects-own (decl_then d rest) s = objects-own rest (after_own_object s d) ∙ own-own d s
 
 -- what a name means at a body it means behind all declarations
 abbrev pub IsKeptTo : Scope → Scope → Type 0

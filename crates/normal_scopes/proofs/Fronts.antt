@@ -1,5 +1,5 @@
 -- The scopes of a program at each body and behind all its declarations, beside the one behind the first declarations of its normal form.
-use Rattle.std.proofs.Common.{◌≡◌, Bool, true, false, ◌==◌, if◌then◌else◌, List, [], ◌∷◌, ◌++◌, find, is_some, option_map, Option, Some, None, ◌⊎◌, inl, inr, ⊎_elim, refl, sym, ap, ◌∙◌, subst, append_assoc}
+use Rattle.std.proofs.Common.{◌≡◌, Bool, true, false, ◌==◌, List, [], ◌∷◌, ◌++◌, is_some, Option, Some, None, ◌⊎◌, inl, inr, ⊎_elim, refl, sym, ap, ◌∙◌, subst, append_assoc}
 use Rattle.std.specs.List.{AllByRecursion}
 use Rattle.common_lemmas.proofs.Lists.{all_weaker, all_joined}
 use Rattle.common_lemmas.proofs.Options.{some_same, not_missing}
@@ -9,10 +9,10 @@ use Rattle.ada_tree.specs.declared.naming.Word.{Word}
 use Rattle.ada_tree.specs.TypeTable.{TypeTable}
 use Rattle.ada_tree.specs.PlainDecl.{PShape, OPlain, OArray, PInit, PTask, PDecl, DNumber, DObject, DEnumeration, DArray, DSubtype, DException, DIntIo, DPragma, DTask, DTaskBody, PDecls, no_decl, decl_then}
 use Rattle.ada_tree.specs.WellPlaced.{AreLater, BodiesLast}
-use Rattle.ada_tree.specs.Scope.{Scope, Seen, Thing, TypeMark, TaskType, SingleTask, TaskObject, TaskArray, Variable, ConstantObject, Parameter, LoopParameter, Literal, AnException, MainProcedure, AnotherUnit, Unclear, EntryPart, meaning}
+use Rattle.ada_tree.specs.Scope.{Scope, Thing, TypeMark, TaskType, SingleTask, TaskObject, TaskArray, Variable, ConstantObject, Parameter, LoopParameter, Literal, AnException, MainProcedure, AnotherUnit, Unclear, EntryPart, meaning}
 use Rattle.ada_tree.specs.PlainProgram.{PProgram}
 use Rattle.ada_tree.specs.Refusals.{types_in}
-use Rattle.ada_tree.specs.Declaring.{first_scope, seen_as, task_thing, declared_object, with_constants, with_types, with_name, in_body, after_decl, after_decls}
+use Rattle.ada_tree.specs.Declaring.{first_scope, declared_object, with_constants, with_types, with_name, in_body, after_decl, after_decls}
 use Rattle.syn_event.specs.NamedTasks.{NamedTasks, type_named, with_type, single_task_name, object_task_names, task_names_in, task_names_of}
 use Rattle.rewritten_types.specs.Agreement.{Keeps}
 use Rattle.rewritten_types.specs.Rewriting.{valued, IsFree, IsUsed, IsUnused, DeclareOnce, NamesOnce, IsFirst, names_declared}
@@ -35,10 +35,8 @@ use Rattle.normal_scopes.proofs.Later.{AllEntries}
 use Rattle.normal_scopes.proofs.Places.{AtBodies, IsSeenOrHidden, IsPlaced, IsClearly}
 use Rattle.normal_scopes.proofs.Kept.{IsKept, is_same, is_none, AreKept, none-kept, kept-name, kept-hidden, kept-all-hidden, kept-decl, IsBoth}
 use Rattle.normal_scopes.proofs.Seeing.{HasEntries, kinds_behind, parts_of, entries_in, type-mark, object-typed, Sees, sees-step, parts-hidden}
-
--- a name that is declared means that
-name-here : (th : Thing) (w : Word) (s : Scope) (id : NameId) → (w.name.0 == id.0) ≡ true → meaning (with_name th s w) id ≡ Some th
-name-here th w s id e = ap (λ (b : Bool). option_map (λ (x : Seen). x.thing) (if b then Some (seen_as th w.name.0) else find (λ (x : Seen). x.name == id.0) s.names)) e
+use Rattle.alike_scopes.proofs.Mains.{task-none}
+use Rattle.tree_lemmas.proofs.Declared.{name_means}
 
 -- ---- behind the first body
 
@@ -67,7 +65,7 @@ later-told (decl_then (DIntIo w sp) rest) kinds r id later = by_test (w.name.0 =
     last = after_decls (after_decl r (DIntIo w sp)) (first_decls kinds rest)
 
     by_test : (b : Bool) → (w.name.0 == id.0) ≡ b → (meaning last id ≡ meaning (with_name AnotherUnit r w) id) ⊎ (meaning last id ≡ Some AnotherUnit) → (meaning last id ≡ meaning r id) ⊎ (meaning last id ≡ Some AnotherUnit)
-    by_test true e h = inr (⊎_elim (λ k. k ∙ name-here AnotherUnit w r id e) (λ k. k) h)
+    by_test true e h = inr (⊎_elim (λ k. k ∙ name_means AnotherUnit w r id e) (λ k. k) h)
     by_test false e h = ⊎_elim (λ k. inl (k ∙ names-kept AnotherUnit (w ∷ []) r id (e, tt))) (λ k. inr k) h
 later-told (decl_then (DNumber w e sp) rest) kinds r id later = absurd later.0
 later-told (decl_then (DObject ws c x i sp) rest) kinds r id later = absurd later.0
@@ -91,7 +89,7 @@ later-kept (decl_then (DIntIo w sp) rest) kinds s r id a later once u h =
     by_use (inl e) = by_test (w.name.0 == id.0) refl
       where
         by_test : (b : Bool) → (w.name.0 == id.0) ≡ b → IsKept a (meaning (with_name AnotherUnit r w) id)
-        by_test true f = is_none (no_thing e) (a_unit (name-here AnotherUnit w r id f))
+        by_test true f = is_none (no_thing e) (a_unit (name_means AnotherUnit w r id f))
         by_test false f = subst (IsKept a) (sym (names-kept AnotherUnit (w ∷ []) r id (f, tt))) h
     by_use (inr k) = subst (IsKept a) (sym (names-kept AnotherUnit (w ∷ []) r id (other s.here w.name.0 id.0 once.0.0.0 once.0.0.1 k, tt))) h
 later-kept (decl_then (DNumber w e sp) rest) kinds s r id a later once u h = absurd later.0
@@ -108,10 +106,6 @@ none-or-used s id here = by_meaning (meaning s id) refl
     by_meaning : (o : Option Thing) → meaning s id ≡ o → (meaning s id ≡ None) ⊎ IsUsed s id
     by_meaning (Some x) e = inr (meaning-used s id x here e)
     by_meaning None e = inl e
-
-task-no-value : (b : Bool) (es : List EntryPart) → IsNoValue (Some (task_thing b es))
-task-no-value true es = a_task_type es refl
-task-no-value false es = a_task es refl
 
 module _ (S : Scope) (T : TypeTable) (all : List NamedTasks) where
   -- the parts so far, and those to come
@@ -137,7 +131,7 @@ module _ (S : Scope) (T : TypeTable) (all : List NamedTasks) where
       let d : PDecl = DTask t sp in
       walk-behind rest (with_type kinds t.of_kind t) (done ++ parts_of kinds d) (after_decl s d) r (e ∙ sym (append_assoc done (parts_of kinds d) (task_names_in (with_type kinds t.of_kind t) rest)))
       (sees-step S T d kinds done s once.0 es.0 ranges.0 sees) once.1 later.1 es.1 ranges.1 keeps
-      (kept-hidden _ t.name s r (task-no-value t.of_kind _) (none-kept _ _ (kept t.name.name) (sees.here.nothing t.name.name once.0.0.0 once.0.0.1)) kept)
+      (kept-hidden _ t.name s r (task-none t.of_kind _) (none-kept _ _ (kept t.name.name) (sees.here.nothing t.name.name once.0.0.0 once.0.0.1)) kept)
   walk-behind (decl_then (DTaskBody w objects its sp) rest) kinds done s r e sees once later es ranges keeps kept =
       let d : PDecl = DTaskBody w objects its sp in (
         place-here (decl_then d rest) kinds done s r e sees once later keeps kept,
@@ -262,7 +256,7 @@ module _ (S : Scope) (T : TypeTable) (all : List NamedTasks) where
   left-task t sp kinds done s r u sees b = record {
     sees = sees;
     close = hide-task t sp s r (unused-free s t.name b.sees.here u) b.close;
-    kept = kept-hidden _ t.name s r (task-no-value t.of_kind _) (none-kept _ _ (b.kept t.name.name) (b.sees.here.nothing t.name.name u.0 u.1)) b.kept;
+    kept = kept-hidden _ t.name s r (task-none t.of_kind _) (none-kept _ _ (b.kept t.name.name) (b.sees.here.nothing t.name.name u.0 u.1)) b.kept;
     types = types-after kinds (DTask t sp) s b.types;
     types' = b.types';
   }

@@ -1,21 +1,19 @@
 -- What is known of each task beside main of a legal program: its unit, its name, and how its name is seen in the scopes of the program.
-use Rattle.std.proofs.Common.{◌≡◌, ℕ, ℤ, Bool, true, false, cond, if◌then◌else◌, List, [], ◌∷◌, length, map, find, flat_map, Option, Some, None, refl, ap, ◌∙◌, arith}
+use Rattle.std.proofs.Common.{◌≡◌, ℕ, ℤ, Bool, true, false, cond, if◌then◌else◌, List, [], ◌∷◌, length, find, Option, Some, refl, ap, ◌∙◌, arith}
 use Rattle.std.specs.List.{AllByRecursion, filter}
 use Rattle.std.proofs.lemmas.List.Elements.{recursion_from_All}
-use Rattle.common_lemmas.proofs.Lists.{all_joined, all_weaker}
+use Rattle.common_lemmas.proofs.Lists.{all_weaker}
 use Rattle.common_lemmas.proofs.Options.{some_same, not_missing}
 use Rattle.ada_tree.specs.declared.naming.NameId.{NameId}
 use Rattle.ada_tree.specs.TypeTable.{TypeTable}
-use Rattle.ada_tree.specs.PlainExpr.{PDrange}
 use Rattle.ada_tree.specs.PlainDecl.{PTask}
 use Rattle.ada_tree.specs.PlainProgram.{PProgram}
 use Rattle.ada_tree.specs.Every.{EveryEntry, EveryTask, EveryDecls}
 use Rattle.ada_tree.specs.Scope.{Scope}
 use Rattle.ada_tree.specs.Declaring.{first_scope}
 use Rattle.syn_event.specs.declared.numbering.TaskInfo.{TaskInfo}
-use Rattle.syn_event.specs.Extents.{extent}
-use Rattle.syn_event.specs.NamedTasks.{NamedTasks, NumberedTask, numbered_task, indices, tasks_of_range, tasks_of_name, task_names_of}
-use Rattle.syn_event.specs.AllNumbers.{info_of_task, all_numbers}
+use Rattle.syn_event.specs.NamedTasks.{NamedTasks, task_names_of}
+use Rattle.syn_event.specs.AllNumbers.{all_numbers}
 use Rattle.syn_event.specs.Units.{tasks_of}
 use Rattle.task_model.specs.Setting.{Setting}
 use Rattle.normal_model.specs.Names.{member_name}
@@ -25,8 +23,8 @@ use Rattle.rewritten_values.specs.Values.{old_names}
 use Rattle.legal_types.specs.Typed.{IsFirstTask}
 use Rattle.legal_types.proofs.TaskTypes.{part-units}
 use Rattle.normal_types.specs.Laws.{setting_of}
-use Rattle.normal_types.proofs.Variables.{all-mapped}
 use Rattle.normal_units.proofs.Declared.{one-there, each-there}
+use Rattle.normal_units.proofs.Pairs.{part-infos}
 use Rattle.normal_legal_types.proofs.Subtypes.{tasks-every}
 use Rattle.normal_legal_units.proofs.TasksApart.{IsNamed}
 use Rattle.normal_scopes.specs.Plain.{plain_name}
@@ -59,25 +57,6 @@ both-all P Q R (x ∷ xs) f h k = (f x h.0 k.0, both-all P Q R xs f h.1 k.1)
 swapped : {A B : Type 0} (P : B → Type 0) (Q : B → A → Type 0) (xs : List A) → ((s : B) → P s → AllByRecursion (Q s) xs) → AllByRecursion (λ x. (s : B) → P s → Q s x) xs
 swapped P Q [] h = tt
 swapped P Q (x ∷ xs) h = (λ s p. (h s p).0, swapped P Q xs (λ s p. (h s p).1))
-
--- ---- from names for tasks to tasks
-
-module _ (P : NameId → NameId → Type 0) (types : TypeTable) (names : List (List ℕ)) where
-  row-tasks : (x : NamedTasks) (row : Option PDrange) → P x.name.name x.unit.name.name → AllByRecursion (λ (y : NumberedTask). P y.name y.unit.name.name) (tasks_of_range types x row)
-  row-tasks x (Some r) h = all-mapped _ (λ i. numbered_task x (Some i)) (λ i. h) (indices (extent types r))
-  row-tasks x None h = (h, tt)
-
-  part-tasks : (xs : List NamedTasks) → AllByRecursion (λ (x : NamedTasks). P x.name.name x.unit.name.name) xs → AllByRecursion (λ (y : NumberedTask). P y.name y.unit.name.name) (flat_map (tasks_of_name types) xs)
-  part-tasks [] h = tt
-  part-tasks (x ∷ xs) h = all_joined _ (tasks_of_name types x) _ (row-tasks x x.index_range h.0) (part-tasks xs h.1)
-
-  task-infos : (xs : List NumberedTask) → AllByRecursion (λ (y : NumberedTask). P y.name y.unit.name.name) xs → AllByRecursion (λ (i : TaskInfo). P i.name i.unit) (map (info_of_task names) xs)
-  task-infos [] h = tt
-  task-infos (x ∷ xs) h = (h.0, task-infos xs h.1)
-
-  -- what holds of the name and the unit of each name for tasks holds of those of each task
-  pub infos-all : (xs : List NamedTasks) → AllByRecursion (λ (x : NamedTasks). P x.name.name x.unit.name.name) xs → AllByRecursion (λ (i : TaskInfo). P i.name i.unit) (map (info_of_task names) (flat_map (tasks_of_name types) xs))
-  infos-all xs h = task-infos (flat_map (tasks_of_name types) xs) (part-tasks xs h)
 
 -- ---- the units
 
@@ -116,7 +95,7 @@ module _ (p : PProgram) (S r : Scope) where
       AllByRecursion (HasUnit old (setting_of p types (all_numbers types p)) S r (task_names_of p)) (tasks_beside (setting_of p types (all_numbers types p)))
   infos-known types once first every named =
       both-all (λ (i : TaskInfo). IsUnitSeen i.name i.unit) (IsNamed g) (HasUnit old g S r (task_names_of p)) (tasks_beside g) known
-      (infos-all IsUnitSeen types p.names (task_names_of p) (parts-seen (one-unit once first every))) named
+      (part-infos IsUnitSeen types p.names (task_names_of p) (parts-seen (one-unit once first every))) named
     where
       g : Setting
       g = setting_of p types (all_numbers types p)

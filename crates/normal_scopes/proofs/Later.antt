@@ -23,7 +23,7 @@ use Rattle.rewritten_types.specs.Agreement.{Grows}
 use Rattle.rewritten_types.specs.Rewriting.{IsUnused, DeclareOnce, names_declared}
 use Rattle.rewritten_types.proofs.Fresh.{InHere, here-decl}
 use Rattle.legal_sites.specs.Met.{IsMet}
-use Rattle.common_lemmas.proofs.Lists.{all_front, all_back, all_flat}
+use Rattle.common_lemmas.proofs.Lists.{all_front, all_back, all_unflat}
 use Rattle.common_lemmas.proofs.Truth.{and_left, and_right}
 use Rattle.common_lemmas.proofs.Options.{not_missing}
 use Rattle.legal_types.proofs.ExprKinds.{LeadsOn, IsClearThing, scalar-mark}
@@ -231,7 +231,7 @@ module _ (T : TypeTable) (s S : Scope) (b : IsBefore T s S) where
         ap₂ (λ x l. x ∷ l)
         (ap₂ (λ a c. record { name = e.name.name; family = a; formals = c })
         (family-grown e.family every.0.2 (all_front IsMet (if_there (drange_sites true s) e.family) (formals_sites s e.formals) rest))
-        (formals-grown e.formals (all_flat IsMet (λ f. mark_sites scalar_only s f.mark) e.formals (all_back IsMet (names_sites false (inside s) (all_names e.formals)) (formal_mark_sites s e.formals) formals))))
+        (formals-grown e.formals (all_unflat IsMet (λ f. mark_sites scalar_only s f.mark) e.formals (all_back IsMet (names_sites false (inside s) (all_names e.formals)) (formal_mark_sites s e.formals) formals))))
         (entries-grown (e.name.name.0 ∷ before) es every.1 (all_back IsMet (entry_sites s before e) (entries_sites s (e.name.name.0 ∷ before) es) h))
 
     task-grown : (t : PTask) → EveryTask (well_placed names) t → AllByRecursion IsMet (task_sites s t) → map (entry_part s) t.entries ≡ map (entry_part S) t.entries

@@ -1,5 +1,5 @@
 -- The scope of main's body in the normal form of a legal program is alike that of the program, and there each task has its own name.
-use Rattle.std.proofs.Common.{◌≡◌, ℕ, Bool, List, [], ◌∷◌, ◌++◌, flat_map, Some, inl, inr, ⊎_elim, refl, sym, ap, ◌∙◌, subst}
+use Rattle.std.proofs.Common.{◌≡◌, ℕ, Bool, List, [], ◌++◌, flat_map, Some, inl, inr, ⊎_elim, refl, sym, ap, ◌∙◌, subst}
 use Rattle.std.specs.List.{AllByRecursion}
 use Rattle.ada_tree.specs.declared.naming.NameId.{NameId}
 use Rattle.ada_tree.specs.declared.naming.Word.{Word}
@@ -36,7 +36,7 @@ use Rattle.normal_legal_units.proofs.TasksApart.{IsNamed, all-named, members-the
 use Rattle.normal_asked.specs.Pieces.{IsAmong, first_among, later_among}
 use Rattle.normal_typed.specs.ScopeOf.{IsSeenWith, IsTaskThere}
 use Rattle.alike_scopes.specs.Alike.{Alike}
-use Rattle.alike_scopes.proofs.Naming.{names-own, inside-alike}
+use Rattle.alike_scopes.proofs.Naming.{inside-alike}
 use Rattle.normal_scopes.specs.Plain.{plain_name}
 use Rattle.normal_scopes.proofs.Parts.{HasParts, parts-first, parts-decl}
 use Rattle.normal_scopes.proofs.Later.{AllEntries, all-entries}
@@ -51,6 +51,8 @@ use Rattle.normal_scopes.proofs.Formed.{IsSeenAs, HasUnit, IsFormed, IsTaskIn, I
 use Rattle.normal_scopes.proofs.Infos.{infos-known}
 use Rattle.normal_scopes.proofs.Rows.{IsRowSeen, rows-seen}
 use Rattle.normal_scopes.proofs.Matched.{IsTaskMatched, tasks-matched}
+use Rattle.normal_placed.proofs.Made.{among}
+use Rattle.tree_lemmas.proofs.Declared.{names_own, decls_joined}
 
 -- ---- scopes along declarations
 
@@ -63,15 +65,15 @@ same-frame : (s : Scope) → IsFrame s s
 same-frame s = record { main = refl; own = refl }
 
 names-frame : (th : Thing) (ws : List Word) (T : TypeTable) (s : Scope) → IsFrame s (with_names th (with_types T s) ws)
-names-frame th ws T s = record { main = names-main th ws (with_types T s); own = names-own th ws (with_types T s) }
+names-frame th ws T s = record { main = names-main th ws (with_types T s); own = names_own th ws (with_types T s) }
 
 pub decl-frame : (d : PDecl) (s : Scope) → IsFrame s (after_decl s d)
 decl-frame (DNumber w e sp) s = record { main = refl; own = refl }
 decl-frame (DObject ws c x i sp) s = names-frame _ ws _ s
-decl-frame (DEnumeration w ws sp) s = record { main = names-main _ ws _; own = names-own _ ws _ }
+decl-frame (DEnumeration w ws sp) s = record { main = names-main _ ws _; own = names_own _ ws _ }
 decl-frame (DArray w q x sp) s = record { main = refl; own = refl }
 decl-frame (DSubtype w x sp) s = record { main = refl; own = refl }
-decl-frame (DException ws sp) s = record { main = names-main AnException ws s; own = names-own AnException ws s }
+decl-frame (DException ws sp) s = record { main = names-main AnException ws s; own = names_own AnException ws s }
 decl-frame (DIntIo w sp) s = record { main = refl; own = refl }
 decl-frame (DPragma e sp) s = same-frame s
 decl-frame (DTask t sp) s = record { main = refl; own = refl }
@@ -84,11 +86,6 @@ decls-frame (decl_then d rest) s = let a = decl-frame d s in let b = decls-frame
 parts-decls : (ds : PDecls) (s : Scope) → HasParts s.types → HasParts (after_decls s ds).types
 parts-decls no_decl s h = h
 parts-decls (decl_then d rest) s h = parts-decls rest (after_decl s d) (parts-decl d s h)
-
--- declarations one behind the other
-pub list-after : (xs ys : List PDecl) (s : Scope) → after_decls s (decls_of (xs ++ ys)) ≡ after_decls (after_decls s (decls_of xs)) (decls_of ys)
-list-after [] ys s = refl
-list-after (x ∷ xs) ys s = list-after xs ys (after_decl s x)
 
 -- what is said of the last scope
 at-end : (P : Scope → Type 0) (ds : PDecls) (s : Scope) → AtBodies P s ds → P (after_decls s ds)
@@ -105,10 +102,6 @@ at-end P (decl_then (DPragma e sp) rest) s h = at-end P rest _ h
 at-end P (decl_then (DTask t sp) rest) s h = at-end P rest _ h
 
 -- ---- lists
-
-pub among-all : {A : Type 0} (P : A → Type 0) (x : A) (xs : List A) → IsAmong x xs → AllByRecursion P xs → P x
-among-all P x xs (first_among ys) h = h.0
-among-all P x xs (later_among y ys i) h = among-all P x ys i h.1
 
 among-names : (g : Setting) (x : TaskInfo) (xs : List TaskInfo) → IsAmong x xs → IsAmongNames g x xs
 among-names g x xs (first_among ys) = inl refl
@@ -223,12 +216,12 @@ module _ (p : PProgram) (legal : IsLegal p) where
 
   -- the unit of a task
   pub unit-of : (info : TaskInfo) → IsAmong info (tasks_beside g) → HasUnit old g last first (task_names_of p) info
-  unit-of info i = among-all (HasUnit old g last first (task_names_of p)) info (tasks_beside g) i units
+  unit-of info i = among (HasUnit old g last first (task_names_of p)) info (tasks_beside g) i units
 
   pub tasked-there : (info : TaskInfo) (i : IsAmong info (tasks_beside g)) → IsTaskIn old g last first (task_names_of p) tasked info (unit-of info i)
   tasked-there info i =
       task-there old g last first (task_names_of p) last-placed info (unit-of info i) (tasks_beside g) units
-      (among-all (λ (a : TaskInfo). AllByRecursion (λ (b : TaskInfo). (task_name g a).0 ≡ (task_name g b).0 → a.unit.0 ≡ b.unit.0) (tasks_beside g)) info (tasks_beside g) i tell)
+      (among (λ (a : TaskInfo). AllByRecursion (λ (b : TaskInfo). (task_name g a).0 ≡ (task_name g b).0 → a.unit.0 ≡ b.unit.0) (tasks_beside g)) info (tasks_beside g) i tell)
       varied varied-formed (inr (among-names g info (tasks_beside g) i))
 
   -- ---- main
@@ -242,8 +235,8 @@ module _ (p : PProgram) (legal : IsLegal p) where
   made-is : made ≡ after_decls tasked (decls_of bodies)
   made-is =
       front-after (first_decls [] p.decls) (decls_of (main_variables g ++ flat_map (task_declared g) (tasks_beside g) ++ bodies)) (first_scope p.name)
-      ∙ list-after (main_variables g ++ flat_map (task_declared g) (tasks_beside g)) bodies first
-      ∙ ap (λ s. after_decls s (decls_of bodies)) (list-after (main_variables g) (flat_map (task_declared g) (tasks_beside g)) first)
+      ∙ decls_joined (main_variables g ++ flat_map (task_declared g) (tasks_beside g)) bodies first
+      ∙ ap (λ s. after_decls s (decls_of bodies)) (decls_joined (main_variables g) (flat_map (task_declared g) (tasks_beside g)) first)
 
   pub made-formed : Formed made
   made-formed = subst Formed (sym made-is) (formed-bodies old g last first (task_names_of p) bodies (all-bodies old g last first (task_names_of p) (decl_list p.decls)) tasked tasked-formed)

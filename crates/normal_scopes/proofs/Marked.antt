@@ -1,33 +1,33 @@
 -- In a legal program each name of a type or subtype in the table means that one, behind all declarations.
-use Rattle.std.proofs.Common.{◌≡◌, ℕ, zero, suc, ◌<◌, ◌≤◌, ℤ, pos, ◌-ℤ◌, Bool, true, false, ◌||◌, ◌==◌, if◌then◌else◌, List, [], ◌∷◌, length, map, Option, Some, None, refl, sym, ap, ◌∙◌, true≢false, arith}
+use Rattle.std.proofs.Common.{◌≡◌, ℕ, zero, suc, ◌<◌, ◌≤◌, pos, ◌-ℤ◌, Bool, true, false, ◌||◌, ◌==◌, List, [], ◌∷◌, length, map, Option, Some, None, refl, sym, ap, ◌∙◌, true≢false, arith}
 use Rattle.std.specs.List.{AllByRecursion}
 use Rattle.std.proofs.lemmas.Bool.{ne_eqb, eq-eqb, ltb-false}
 use Rattle.std.proofs.lemmas.Option.{none-some}
-use Rattle.common_lemmas.proofs.Lists.{found_none}
 use Rattle.common_lemmas.proofs.Numbers.{equal_is}
 use Rattle.ada_tree.specs.declared.naming.NameId.{NameId}
 use Rattle.ada_tree.specs.declared.naming.Word.{Word}
 use Rattle.ada_tree.specs.declared.static_types.Kind.TheVariants.{Enumeration}
 use Rattle.ada_tree.specs.declared.static_types.Mark.{Mark}
 use Rattle.ada_tree.specs.TypeTable.{TypeTable}
-use Rattle.ada_tree.specs.PlainDecl.{PShape, PInit, PDecl, DNumber, DObject, DEnumeration, DArray, DSubtype, DException, DIntIo, DPragma, DTask, DTaskBody, PDecls, no_decl, decl_then}
+use Rattle.ada_tree.specs.PlainDecl.{PDecl, DNumber, DObject, DEnumeration, DArray, DSubtype, DException, DIntIo, DPragma, DTask, DTaskBody, PDecls, no_decl, decl_then}
 use Rattle.ada_tree.specs.PlainProgram.{PProgram}
 use Rattle.ada_tree.specs.Refusals.{types_in}
-use Rattle.ada_tree.specs.Scope.{Scope, Range, Thing, TypeMark, Literal, MainProcedure, meaning, mark_at, integer_kind, range_of_mark, and_then}
-use Rattle.ada_tree.specs.StaticValue.{is_named, mark_named}
+use Rattle.ada_tree.specs.Scope.{Scope, Range, TypeMark, Literal, MainProcedure, meaning, mark_at, integer_kind, range_of_mark, and_then}
+use Rattle.ada_tree.specs.StaticValue.{mark_named}
 use Rattle.ada_tree.specs.ExprTypes.{static_in}
-use Rattle.ada_tree.specs.Declaring.{predefined_types, before_all, first_scope, in_body, with_name, with_types, with_constants, add_kind, made, made_subind, drange_range, made_array, declared_object, add_constants, constant_mark, constant_value, type_of_mark, renamed, after_object, after_decl, after_decls}
+use Rattle.ada_tree.specs.Declaring.{predefined_types, before_all, first_scope, in_body, with_name, with_types, add_kind, made, made_subind, drange_range, made_array, type_of_mark, renamed, after_decl, after_decls}
 use Rattle.ada_tree.specs.RuleDuplicate.{is_predefined}
 use Rattle.rewritten_types.specs.Rewriting.{names_declared, IsUnused, DeclareOnce}
-use Rattle.rewritten_types.proofs.Adding.{names-types, keeps-subind, keeps-shape, keeps-objects}
-use Rattle.rewritten_types.proofs.Unmarked.{other-mark}
+use Rattle.rewritten_types.proofs.Adding.{names-types, keeps-subind, keeps-objects}
+use Rattle.rewritten_types.proofs.Unmarked.{other-mark, add-marks, no-type, object-marks}
 use Rattle.rewritten_types.proofs.Fresh.{InHere, first-here, here-decl}
 use Rattle.legal_literals.proofs.Apart.{IsNoneOf, names-apart}
 use Rattle.legal_types.proofs.MainScopes.{AllStand, last-stands}
 use Rattle.normal_legal.specs.Laws.{IsLegal}
-use Rattle.normal_legal_seen.proofs.Scopes.{is_one_of, meaning-out, meaning-in}
+use Rattle.normal_legal_seen.proofs.Scopes.{is_one_of, meaning-out}
 use Rattle.normal_scopes.proofs.Later.{decl-kept}
 use Rattle.normal_scopes.proofs.Main.{last, once, stand}
+use Rattle.tree_lemmas.proofs.Declared.{name_means}
 
 abbrev anybody : ℕ → Bool
 anybody n = true
@@ -41,23 +41,6 @@ MeansType s id = (k : ℕ) × (meaning s id ≡ Some (TypeMark k))
 
 -- ---- declarations that give no mark a name
 
-add-marks : (names : List Word) (m : Option ℕ) (z : Option ℤ) (T : TypeTable) (id : NameId) → mark_named (add_constants names m z T) id ≡ mark_named T id
-add-marks names (Some m) (Some z) T id = refl
-add-marks names (Some m) None T id = refl
-add-marks names None z T id = refl
-
-if-marks : (b : Bool) (T U : TypeTable) (id : NameId) → mark_named U id ≡ mark_named T id → mark_named (if b then U else T) id ≡ mark_named T id
-if-marks true T U id e = e
-if-marks false T U id e = refl
-
-object-marks : (s : Scope) (names : List Word) (constant : Bool) (shape : PShape) (init : Option PInit) (id : NameId) →
-    mark_named (after_object s names constant shape init).types id ≡ mark_named s.types id
-object-marks s names constant shape init id =
-    let d = declared_object s constant shape in
-    ap (λ T. mark_named T id) (names-types d.thing names (with_types (with_constants s names init d) s))
-    ∙ if-marks s.in_main d.types _ id (add-marks names (constant_mark d.thing) (constant_value s d.types (constant_mark d.thing) init) d.types id)
-    ∙ (keeps-shape {old = anybody} s constant shape).marks id refl
-
 -- ---- those that give one a name
 
 -- a name that is none of some
@@ -69,16 +52,13 @@ none-of (w ∷ ws) n id e h = by_test (w.name.0 == id.0) refl (none-of ws n id e
     by_test true f later = absurd (true≢false (sym (eq-eqb n w.name.0 (e ∙ sym (equal_is w.name.0 id.0 f))) ∙ h.0))
     by_test false f later = later
 
-new-means : (th : Thing) (w : Word) (s : Scope) (id : NameId) → (w.name.0 == id.0) ≡ true → meaning (with_name th s w) id ≡ Some th
-new-means th w s id e = meaning-in th (w ∷ []) s id (ap (λ b. b || false) e)
-
 renamed-meant : (w : Word) (T : TypeTable) (r : Option Range) (s : Scope) (id : NameId) (m : Mark) → mark_named (renamed w T r).types id ≡ Some m →
     (mark_named T id ≡ Some m → MeansType (with_name (type_of_mark (renamed w T r).mark) (with_types (renamed w T r).types s) w) id) → MeansType (with_name (type_of_mark (renamed w T r).mark) (with_types (renamed w T r).types s) w) id
 renamed-meant w T None s id m e before = before e
 renamed-meant w T (Some r) s id m e before = by_test (w.name.0 == id.0) refl
   where
     by_test : (b : Bool) → (w.name.0 == id.0) ≡ b → MeansType (with_name (TypeMark (length T.marks)) (with_types (renamed w T (Some r)).types s) w) id
-    by_test true f = (length T.marks, new-means (TypeMark (length T.marks)) w (with_types (renamed w T (Some r)).types s) id f)
+    by_test true f = (length T.marks, name_means (TypeMark (length T.marks)) w (with_types (renamed w T (Some r)).types s) id f)
     by_test false f = before (sym (other-mark T.marks _ id f) ∙ e)
 
 array-meant : (w : Word) (T : TypeTable) (r : Option Range) (part : Option ℕ) (s : Scope) (id : NameId) (m : Mark) → mark_named (made_array (Some w.name) T r part).types id ≡ Some m →
@@ -89,7 +69,7 @@ array-meant w T (Some r) None s id m e before = before e
 array-meant w T (Some r) (Some part) s id m e before = by_test (w.name.0 == id.0) refl
   where
     by_test : (b : Bool) → (w.name.0 == id.0) ≡ b → MeansType (with_name (TypeMark (length T.marks)) (with_types (made_array (Some w.name) T (Some r) (Some part)).types s) w) id
-    by_test true f = (length T.marks, new-means (TypeMark (length T.marks)) w (with_types (made_array (Some w.name) T (Some r) (Some part)).types s) id f)
+    by_test true f = (length T.marks, name_means (TypeMark (length T.marks)) w (with_types (made_array (Some w.name) T (Some r) (Some part)).types s) id f)
     by_test false f = before (sym (other-mark T.marks _ id f) ∙ e)
 
 -- the table behind an enumeration
@@ -113,7 +93,7 @@ module _ (T : TypeTable) where
             length s.types.marks,
             meaning-out (Literal (length s.types.kinds)) literals (with_name (TypeMark (length s.types.marks)) (with_types (enumeration_types s name literals) s) name) id
                 (none-of literals name.name.0 id (equal_is name.name.0 id.0 f) (names-apart true (name ∷ literals) s at.1).0)
-                ∙ new-means (TypeMark (length s.types.marks)) name (with_types (enumeration_types s name literals) s) id f,
+                ∙ name_means (TypeMark (length s.types.marks)) name (with_types (enumeration_types s name literals) s) id f,
           )
           by_test false f =
               before (sym (other-mark s.types.marks _ id f) ∙ sym (ap (λ U. mark_named U id) (names-types (Literal (length s.types.kinds)) literals (with_name (TypeMark (length s.types.marks)) (with_types (enumeration_types s name literals) s) name))) ∙ e)
@@ -132,13 +112,6 @@ module _ (T : TypeTable) where
   decls-meant (decl_then d rest) s here once at h = decls-meant rest (after_decl s d) (here-decl d s here) once.1 at.2 (decl-meant d rest s here once.0 at h)
 
 -- ---- before all declarations
-
--- a name that is none of the first four
-no-type : (n : ℕ) → 3 < n → mark_named predefined_types record { 0 = n } ≡ None
-no-type n l = found_none (λ (x : Mark). is_named record { 0 = n } x.name) predefined_types.marks (less 0 (omega (arith, l)), (less 1 (omega (arith, l)), (less 2 (omega (arith, l)), (less 3 l, tt))))
-  where
-    less : (k : ℕ) → k < n → (k == n) ≡ false
-    less k m = ne_eqb k n (λ same. let y : ⊥ = omega (arith, m, same) in y)
 
 first-meant : (name : Word) → is_predefined name.name.0 ≡ false → AreMeant (first_scope name)
 first-meant name u id m e = by_number id.0 e

@@ -2,7 +2,7 @@
 use Rattle.std.proofs.Common.{◌≡◌, ℕ, Bool, true, false, ◌==◌, if◌then◌else◌, List, [], ◌∷◌, ◌++◌, map, flat_map, find, IfSome, is_some, option_map, Option, Some, None, Result, Ok, refl, sym, ap, ◌∙◌, subst}
 use Rattle.std.specs.List.{AllByRecursion}
 use Rattle.std.proofs.lemmas.List.Elements.{recursion_from_All}
-use Rattle.common_lemmas.proofs.Lists.{all_front, all_back, all_flat}
+use Rattle.common_lemmas.proofs.Lists.{all_front, all_back, all_unflat}
 use Rattle.common_lemmas.proofs.Options.{some_same}
 use Rattle.std.proofs.lemmas.Option.{none-some}
 use Rattle.ada_tree.specs.declared.naming.NameId.{NameId}
@@ -102,7 +102,7 @@ module _ (T : TypeTable) (s : Scope) (stands : Stands T s) (names : List (List �
       let rest : AllByRecursion IsMet (own ++ formals_sites s e.formals) = first.1 in
       let formals : AllByRecursion IsMet (formals_sites s e.formals) = all_back IsMet own (formals_sites s e.formals) rest in (
         record {
-          formals = formals-matched e.formals (recursion_from_All _ e.formals every.0.3) (all_flat IsMet (λ f. mark_sites scalar_only s f.mark) e.formals (all_back IsMet (names_sites false (inside s) (all_names e.formals)) (formal_mark_sites s e.formals) formals));
+          formals = formals-matched e.formals (recursion_from_All _ e.formals every.0.3) (all_unflat IsMet (λ f. mark_sites scalar_only s f.mark) e.formals (all_back IsMet (names_sites false (inside s) (all_names e.formals)) (formal_mark_sites s e.formals) formals));
           family = family-matched e.family every.0.2 (all_front IsMet own (formals_sites s e.formals) rest);
         },
         entries-matched (e.name.name.0 ∷ before) es every.1 (all_back IsMet (entry_sites s before e) (entries_sites s (e.name.name.0 ∷ before) es) h),

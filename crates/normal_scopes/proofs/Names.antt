@@ -20,6 +20,7 @@ use Rattle.normal_types.proofs.Names.{variables-begin, added_names_are_new, vari
 use Rattle.normal_legal_units.proofs.TaskNames.{member-reserved}
 use Rattle.normal_legal_units.proofs.TasksApart.{full_text, IsNamed}
 use Rattle.normal_scopes.specs.Plain.{plain_name}
+use Rattle.common_lemmas.proofs.Lists.{first_same, rest_same}
 
 -- ---- plain names
 
@@ -81,27 +82,20 @@ member-new g info n z e = by_test (plain_name g.program (task_name g info).0) re
 
 -- ---- variables and tasks
 
--- the first of lists that are the same
-first-same : {x y : ℕ} {xs ys : List ℕ} → x ∷ xs ≡ y ∷ ys → x ≡ y
-first-same e = cc
-
-rest-same : {x y : ℕ} {xs ys : List ℕ} → x ∷ xs ≡ y ∷ ys → xs ≡ ys
-rest-same e = cc
-
 -- the text of a member is none of a variable
 member-other : (a : List ℕ) (i : ℤ) (k : ℕ) → is_reserved a ≡ false → member_text a i ≡ variable_text k → ⊥
-member-other [] i k free e = let q : 95 ≡ 68 = first-same e in omega (arith, q)
-member-other (x ∷ []) i k free e = let q : 95 ≡ 69 = first-same (rest-same e) in omega (arith, q)
-member-other (x ∷ y ∷ []) i k free e = let q : 95 ≡ 68 = first-same (rest-same (rest-same e)) in omega (arith, q)
+member-other [] i k free e = let q : 95 ≡ 68 = first_same e in omega (arith, q)
+member-other (x ∷ []) i k free e = let q : 95 ≡ 69 = first_same (rest_same e) in omega (arith, q)
+member-other (x ∷ y ∷ []) i k free e = let q : 95 ≡ 68 = first_same (rest_same (rest_same e)) in omega (arith, q)
 member-other (x ∷ y ∷ z ∷ []) i k free e = true≢false (sym (ap is_reserved same) ∙ free)
   where
     same : x ∷ y ∷ z ∷ [] ≡ codes "DED"
-    same = let a : x ≡ 68 = first-same e in let b : y ≡ 69 = first-same (rest-same e) in let c : z ≡ 68 = first-same (rest-same (rest-same e)) in λ j. a j ∷ b j ∷ c j ∷ []
+    same = let a : x ≡ 68 = first_same e in let b : y ≡ 69 = first_same (rest_same e) in let c : z ≡ 68 = first_same (rest_same (rest_same e)) in λ j. a j ∷ b j ∷ c j ∷ []
 member-other (x ∷ y ∷ z ∷ w ∷ a) i k free e = true≢false (sym (ap is_reserved same) ∙ free)
   where
     same : x ∷ y ∷ z ∷ w ∷ a ≡ 68 ∷ 69 ∷ 68 ∷ 95 ∷ a
     same =
-        let q : x ≡ 68 = first-same e in let b : y ≡ 69 = first-same (rest-same e) in let c : z ≡ 68 = first-same (rest-same (rest-same e)) in let d : w ≡ 95 = first-same (rest-same (rest-same (rest-same e))) in
+        let q : x ≡ 68 = first_same e in let b : y ≡ 69 = first_same (rest_same e) in let c : z ≡ 68 = first_same (rest_same (rest_same e)) in let d : w ≡ 95 = first_same (rest_same (rest_same (rest_same e))) in
         λ j. q j ∷ b j ∷ c j ∷ d j ∷ a
 
 full-other : (a : List ℕ) (o : Option ℤ) (k : ℕ) → is_reserved a ≡ false → full_text a o ≡ variable_text k → ⊥

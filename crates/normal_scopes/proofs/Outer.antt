@@ -1,10 +1,9 @@
 -- What the objects of a body and the variables behind them leave as it is: names of tasks, of the language and of literals.
 use Rattle.std.proofs.Common.{◌≡◌, ℕ, ℤ, Bool, true, false, ◌||◌, ◌&&◌, ◌==◌, List, [], ◌∷◌, ◌++◌, is_some, Option, Some, None, refl, sym, ap, ◌∙◌, subst, true≢false}
-use Rattle.std.specs.List.{AllByRecursion, list_any}
+use Rattle.std.specs.List.{AllByRecursion}
 use Rattle.std.proofs.lemmas.List.Elements.{recursion_from_All}
-use Rattle.common_lemmas.proofs.Lists.{all_front, all_back, all_weaker, not_empty}
-use Rattle.common_lemmas.proofs.Numbers.{equal_is}
-use Rattle.common_lemmas.proofs.Truth.{or_left}
+use Rattle.common_lemmas.proofs.Lists.{all_front, all_back, all_weaker}
+use Rattle.common_lemmas.proofs.Truth.{clash}
 use Rattle.ada_tree.specs.declared.naming.NameId.{NameId}
 use Rattle.ada_tree.specs.declared.naming.Span.{Span}
 use Rattle.ada_tree.specs.declared.naming.Word.{Word}
@@ -13,10 +12,10 @@ use Rattle.ada_tree.specs.PlainDecl.{PShape, PInit, PDecl, DNumber, DObject, DEn
 use Rattle.ada_tree.specs.Every.{EveryWord, EveryDecl, EveryDecls}
 use Rattle.ada_tree.specs.Scope.{Scope, Thing, TypeMark, TaskType, SingleTask, TaskObject, TaskArray, Variable, ConstantObject, Parameter, LoopParameter, Literal, AnException, MainProcedure, AnotherUnit, Unclear, EntryPart, meaning}
 use Rattle.ada_tree.specs.StaticValue.{value_named, mark_named}
-use Rattle.ada_tree.specs.Demand.{declares, Site}
+use Rattle.ada_tree.specs.Demand.{Site}
 use Rattle.ada_tree.specs.Sites.{if_there, names_sites, shape_sites, init_sites, object_marking, is_task_object, own_object_sites, own_sites}
 use Rattle.ada_tree.specs.Declaring.{with_names, with_types, with_constants, Declared, declared_object, after_object, after_own_object, after_objects}
-use Rattle.ada_tree.specs.RuleDuplicate.{is_predefined, is_among, fixes, introduces, at_word, duplicate}
+use Rattle.ada_tree.specs.RuleDuplicate.{is_predefined}
 use Rattle.syn_event.specs.declared.numbering.TaskInfo.{TaskInfo}
 use Rattle.task_model.specs.Setting.{Setting}
 use Rattle.normal_model.specs.Names.{variable_name, member_name, task_name}
@@ -30,20 +29,7 @@ use Rattle.legal_types.proofs.GoodScopes.{names-kept}
 use Rattle.legal_types.proofs.InnerScopes.{IsApartLocal, AreApart}
 use Rattle.normal_legal_seen.proofs.Scopes.{is_one_of, meaning-out, meaning-in, IsNoTask, inner-object}
 use Rattle.normal_typed.specs.ScopeOf.{IsSeenWith, IsInnerName, IsInner}
-
--- two numbers of which a test tells two things are not one
-differ : (f : ℕ → Bool) (a b : ℕ) (x y : Bool) → f a ≡ x → f b ≡ y → (x ≡ y → ⊥) → (a == b) ≡ false
-differ f a b x y p q n = by_test (a == b) refl
-  where
-    by_test : (t : Bool) → (a == b) ≡ t → t ≡ false
-    by_test false e = refl
-    by_test true e = absurd (n (sym p ∙ ap f (equal_is a b e) ∙ q))
-
-not-so : true ≡ false → ⊥
-not-so e = true≢false e
-
-so-not : false ≡ true → ⊥
-so-not e = true≢false (sym e)
+use Rattle.normal_typed.proofs.Scopes.{differ, once-new}
 
 module _ (g : Setting) (old : ℕ → Bool) where
   -- a name that an inner scope declares
@@ -58,23 +44,23 @@ module _ (g : Setting) (old : ℕ → Bool) where
   IsOuter id = (x : NameId) → IsLocal x → (x.0 == id.0) ≡ false
 
   pub outer-new : (id : NameId) → old id.0 ≡ false → IsOuter id
-  outer-new id e x i = differ old x.0 id.0 true false i.mine e not-so
+  outer-new id e x i = differ old x.0 id.0 true false i.mine e true≢false
 
   pub outer-task : (info : TaskInfo) → IsAmong info (tasks_beside g) → ((z : ℤ) → info.member ≡ Some z → old (task_name g info).0 ≡ false) → IsOuter (task_name g info)
   outer-task info among new x i = by_member info.member refl
     where
       by_member : (m : Option ℤ) → info.member ≡ m → (x.0 == (task_name g info).0) ≡ false
       by_member None e = ap (λ m. x.0 == (member_name g info.name m).0) e ∙ i.inner.tasks info among e
-      by_member (Some z) e = differ old x.0 (task_name g info).0 true false i.mine (new z e) not-so
+      by_member (Some z) e = differ old x.0 (task_name g info).0 true false i.mine (new z e) true≢false
 
   pub outer-predefined : (n : ℕ) → is_predefined n ≡ true → IsOuter (record { 0 = n })
-  outer-predefined n e x i = differ is_predefined x.0 n false true i.new e so-not
+  outer-predefined n e x i = differ is_predefined x.0 n false true i.new e clash
 
   pub outer-valued : (id : NameId) → is_some (value_named g.types id) ≡ true → IsOuter id
-  outer-valued id e x i = differ (λ m. is_some (value_named g.types (record { 0 = m }))) x.0 id.0 false true (ap is_some i.inner.value) e so-not
+  outer-valued id e x i = differ (λ m. is_some (value_named g.types (record { 0 = m }))) x.0 id.0 false true (ap is_some i.inner.value) e clash
 
   pub outer-marked : (id : NameId) → is_some (mark_named g.types id) ≡ true → IsOuter id
-  outer-marked id e x i = differ (λ m. is_some (mark_named g.types (record { 0 = m }))) x.0 id.0 false true (ap is_some i.mark) e so-not
+  outer-marked id e x i = differ (λ m. is_some (mark_named g.types (record { 0 = m }))) x.0 id.0 false true (ap is_some i.mark) e clash
 
   -- ---- objects of a body
 
@@ -100,16 +86,6 @@ module _ (g : Setting) (old : ℕ → Bool) where
   objects-stay (decl_then (DTaskBody w os its sp) rest) s id h o = objects-stay rest s id h o
 
   -- that they have such names, where nothing is refused
-  no-word : (b : Bool) (w : Word) → at_word b w ≡ [] → b ≡ false
-  no-word true w e = absurd (not_empty w.span [] e)
-  no-word false w e = refl
-
-  once-new : (before : List Site) (s : Scope) (w : Word) → duplicate before s (declares false w) ≡ [] → is_predefined w.name.0 ≡ false
-  once-new before s w e =
-      or_left (is_predefined w.name.0) (is_among s.here w.name.0)
-      (or_left (is_predefined w.name.0 || is_among s.here w.name.0) (list_any (fixes w.name.0) before)
-      (or_left (is_predefined w.name.0 || is_among s.here w.name.0 || list_any (fixes w.name.0) before) (false && list_any (introduces w.name.0) before) (no-word _ w e)))
-
   words-local : (ws : List Word) (s : Scope) → AllByRecursion (λ (w : Word). old w.name.0 ≡ true) ws → AllByRecursion IsMet (names_sites false s ws) → AllByRecursion (λ (x : Site). IsInner g x.demand) (names_sites false s ws) → AreApart g.types (names_sites false s ws) → AllByRecursion (λ (w : Word). IsLocal w.name) ws
   words-local [] s o h k a = tt
   words-local (w ∷ ws) s o h k a = (record { inner = k.0; mark = a.0.mark; mine = o.0; new = once-new h.0.before s w h.0.once }, words-local ws _ o.1 h.1 k.1 a.1)

@@ -1,12 +1,10 @@
 -- Each name in a legal original is plain.
-use Rattle.std.proofs.Common.{◌≡◌, ℕ, ◌<◌, Bool, true, false, not, ◌&&◌, ◌||◌, ◌==◌, nat_lt, List, [], ◌∷◌, ◌++◌, drop, length, slice_get, unwrap_or, Option, Some, refl, sym, ap, ◌∙◌, true≢false}
+use Rattle.std.proofs.Common.{◌≡◌, ℕ, ◌<◌, Bool, true, false, not, ◌&&◌, ◌||◌, ◌==◌, nat_lt, List, [], ◌∷◌, length, unwrap_or, Option, Some, refl, sym, ap, ◌∙◌, true≢false}
 use Rattle.std.specs.List.{AllByRecursion}
-use Rattle.std.proofs.lemmas.List.{take-append-drop}
 use Rattle.std.proofs.lemmas.List.Elements.{recursion_from_All}
 use Rattle.std.proofs.lemmas.Option.{slice_get_within}
 use Rattle.common_lemmas.proofs.Numbers.{lt_true, lt_is, equal_is}
 use Rattle.common_lemmas.proofs.Lists.{element_at}
-use Rattle.rewritten_values.proofs.Saying.{place-within}
 use Rattle.common_lemmas.proofs.Truth.{and_left}
 use Rattle.ada_tree.specs.declared.naming.NameId.{NameId}
 use Rattle.ada_tree.specs.NameList.{predefined, AreNames}
@@ -29,9 +27,8 @@ use Rattle.rewritten_types.proofs.Lookups.{place-all}
 use Rattle.rewritten_values.specs.Values.{old_names}
 use Rattle.normal_types.specs.Own.{own_name}
 use Rattle.legal_sites.specs.Met.{IsAddressed}
-use Rattle.legal_sites.proofs.Both.{together}
 use Rattle.legal_sites.proofs.NamedDecls.{all_are_named}
-use Rattle.normal_legal_units.proofs.Own.{program-own}
+use Rattle.normal_legal_units.proofs.Own.{names-together, program-own, first-text}
 use Rattle.normal_scopes.specs.Plain.{plain_name}
 
 -- the text is left to no rewriter
@@ -41,12 +38,6 @@ IsFree t = not (is_reserved t) ≡ true
 predefined-free : AllByRecursion IsFree predefined
 predefined-free =
     (refl, (refl, (refl, (refl, (refl, (refl, (refl, (refl, (refl, (refl, (refl, (refl, (refl, (refl, (refl, (refl, (refl, (refl, (refl, (refl, (refl, (refl, (refl, (refl, (refl, tt)))))))))))))))))))))))))
-
--- the first names have the predefined texts
-first-text : (names : List (List ℕ)) (k : ℕ) → AreNames names → k < 25 → slice_get names k ≡ slice_get predefined k
-first-text names k are l =
-    ap (λ ts. slice_get ts k) (sym (ap (λ (ts : List (List ℕ)). ts ++ drop (length predefined) names) (sym are.begins) ∙ take-append-drop (length predefined) names))
-    ∙ place-within predefined (drop (length predefined) names) k l
 
 first-free : (p : PProgram) → AreNames p.names → (k : ℕ) → k < 25 → not (is_reserved (text_of p.names record { 0 = k })) ≡ true
 first-free p are k l =
@@ -63,23 +54,8 @@ Unreserved p = record no_rules { name = λ id. not (is_reserved (text_of p.names
 -- Each name in such a program is plain.
 pub program-plain : (p : PProgram) → MeetsTypeRules p → MeetsCheckRules p Original → IsWellPlaced p → AreNames p.names → AllByRecursion (λ x. IsAddressed x.scope x.demand) (sites p) → EveryProgram (old_names (plain_name p)) p
 program-plain p types checks placed are clear =
-    together (Unreserved p) (old_names (own_name p)) (old_names (plain_name p))
-    record {
-      name = λ id e h. ap (λ (b : Bool). b && not (is_reserved (text_of p.names record { 0 = id.0 }))) (and_left (nat_lt id.0 (length p.names)) _ h) ∙ e;
-      integer = λ n h g. tt;
-      duration = λ n h g. tt;
-      words = λ t h g. tt;
-      unary = λ op e h g. tt;
-      binary = λ op a b h g. tt;
-      bounds = λ a b h g. tt;
-      parts = λ n k h g. tt;
-      handlers = λ hs h g. tt;
-      pragmas = λ n places h g. tt;
-      object = λ c o h g. tt;
-      inner = λ ds h g. tt;
-      outer = λ ds h g. tt;
-      nested = λ k h g. tt;
-    }
+    names-together (Unreserved p).name (old_names (own_name p)) (plain_name p)
+    (λ id e h. ap (λ (b : Bool). b && not (is_reserved (text_of p.names record { 0 = id.0 }))) (and_left (nat_lt id.0 (length p.names)) _ h) ∙ e)
     p
     (all_are_named p types checks placed clear (λ n. not (is_reserved (text_of p.names record { 0 = n }))) (first-free p are) (free-plain p))
     (program-own p types checks placed are clear)

@@ -55,10 +55,11 @@ use Rattle.normal_scopes.proofs.Formed.{HasUnit, IsFormed, formed-body}
 use Rattle.normal_scopes.proofs.Units.{IsUnitOrNot}
 use Rattle.normal_scopes.proofs.Bodies.{body-own, body-alike, objects-front}
 use Rattle.normal_scopes.proofs.Outer.{AreLocal, objects-stay, objects-local, IsVariableDecl, variable-stays, variables-stay, objects-seen}
-use Rattle.normal_scopes.proofs.Called.{IsKeptTo, kept-at, objects-back, objects-own, called-is, accepted-is}
+use Rattle.normal_scopes.proofs.Called.{IsKeptTo, kept-at, objects-back, called-is, accepted-is}
 use Rattle.normal_scopes.proofs.Arrays.{array-is}
 use Rattle.normal_scopes.proofs.Main.{g, old, once, decls-frame, last, first, every, walked, units-seen, last-placed, tasked, tasked-formed, tasked-there, unit-of, made, made-formed, made-means, main-alike, main-tasks, seen-with}
 use Rattle.normal_scopes.proofs.Begun.{IsOuterScope, new-member, task-in, falses-in, trues-in, error-in, literals-in, integer-in}
+use Rattle.tree_lemmas.proofs.Declared.{objects_own}
 
 module _ (p : PProgram) (legal : IsLegal p) where
   abbrev G : Setting
@@ -250,7 +251,7 @@ module _ (p : PProgram) (legal : IsLegal p) where
     pub body-begun : IsBegun (unit_for G w.name).task (inside (after_objects (in_body s w) objects)) (inside (after_objects (in_body t v) (decls_front objects (decls_of vars))))
     body-begun =
         begun (unit_for G w.name).task _ _ outer begins task-begun (λ id x es has e. at.kept id x (objects-back objects (in_body s w) id es x refl has e))
-        (subst (AreAccepted (unit_for G w.name).task) (sym (objects-own objects (in_body s w) ∙ own-is)) (accepted-is p legal unit.unit info.unit w.name unit.declared unit-name info among.0 among.1))
+        (subst (AreAccepted (unit_for G w.name).task) (sym (objects_own objects (in_body s w) ∙ own-is)) (accepted-is p legal unit.unit info.unit w.name unit.declared unit-name info among.0 among.1))
 
   -- ---- all bodies
 

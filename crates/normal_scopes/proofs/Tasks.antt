@@ -2,7 +2,7 @@
 use Rattle.std.proofs.Common.{◌≡◌, ℕ, Bool, true, false, ◌==◌, cond, if◌then◌else◌, List, [], ◌∷◌, ◌++◌, map, filter, flat_map, Option, Some, None, IfSome, refl, sym, ap, ap₂, ◌∙◌}
 use Rattle.std.specs.List.{AllByRecursion, filter}
 use Rattle.std.proofs.lemmas.List.Elements.{recursion_from_All}
-use Rattle.common_lemmas.proofs.Lists.{not_empty}
+use Rattle.common_lemmas.proofs.Lists.{not_empty, first_same, rest_same}
 use Rattle.ada_tree.specs.declared.naming.NameId.{NameId}
 use Rattle.ada_tree.specs.declared.naming.Span.{Span}
 use Rattle.ada_tree.specs.declared.naming.Word.{Word}
@@ -28,12 +28,6 @@ has_name id t = t.name.name.0 == id.0
 pub record IsDeclaredAs (unit name : NameId) (ds : List PDecl) (u : PTask) : Type 0 where
   pub place : Span
   pub is : flat_map (declared_under unit name) ds ≡ DTask (task_under name u) place ∷ []
-
-first-one : {A : Type 0} {x y : A} {xs ys : List A} → x ∷ xs ≡ y ∷ ys → x ≡ y
-first-one e = cc
-
-rest-one : {A : Type 0} {x y : A} {xs ys : List A} → x ∷ xs ≡ y ∷ ys → xs ≡ ys
-rest-one e = cc
 
 module _ (unit name : NameId) where
   -- where no task has the unit's name, none is declared
@@ -66,7 +60,7 @@ module _ (unit name : NameId) where
         place = s;
         is =
             ap (λ b. (if b then DTask (task_under name t) s ∷ [] else []) ++ flat_map (declared_under unit name) ds) q
-            ∙ ap₂ (λ x l. DTask (task_under name x) s ∷ l) (first-one f) (none-under ds (rest-one f));
+            ∙ ap₂ (λ x l. DTask (task_under name x) s ∷ l) (first_same f) (none-under ds (rest_same f));
       }
       by_test false q f later =
           let r = later f in

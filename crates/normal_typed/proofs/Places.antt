@@ -1,15 +1,15 @@
 -- Places at which none of the static rules 1 and 3 to 12 refuses anything, one form of demand after the other.
-use Rattle.std.proofs.Common.{◌≡◌, ℕ, Bool, List, [], ◌++◌, Option, refl}
+use Rattle.std.proofs.Common.{◌≡◌, ℕ, Bool, List, [], ◌++◌, Option, refl, Some, ap}
 use Rattle.ada_tree.specs.declared.naming.Span.{Span}
 use Rattle.ada_tree.specs.declared.naming.Word.{Word}
 use Rattle.ada_tree.specs.declared.statements.ParMode.{ParMode}
 use Rattle.ada_tree.specs.PlainExpr.{PExpr}
 use Rattle.ada_tree.specs.PlainStmt.{PTarget, PCallee, PCall, PChoice, PHead}
-use Rattle.ada_tree.specs.Scope.{Scope, Range, meaning, reading, entry_named}
+use Rattle.ada_tree.specs.Scope.{Scope, Range, meaning, reading, entry_named, SingleTask, EntryPart}
 use Rattle.ada_tree.specs.ExprTypes.{kind_of}
-use Rattle.ada_tree.specs.Demand.{declares, labels, whole, node, must_be_of, must_be_static, must_lie_in, writes, is_actual, addresses, calls, accepts, names_exception, handles, chooses}
+use Rattle.ada_tree.specs.Demand.{declares, labels, whole, node, must_be_of, must_be_static, must_lie_in, writes, is_actual, addresses, calls, accepts, names_exception, handles, chooses, gives_body}
 use Rattle.ada_tree.specs.Sites.{site}
-use Rattle.ada_tree.specs.RuleUnknown.{unseen_word, unknown_in_node, unknown_name, unknown_entry, unknown}
+use Rattle.ada_tree.specs.RuleUnknown.{unseen_word, unknown_in_node, unknown_name, unknown_entry, unknown, no_body_of}
 use Rattle.ada_tree.specs.RuleMismatch.{of_other_kind, mismatch_in_node, misfit_of_target, no_task, misfit_member}
 use Rattle.ada_tree.specs.RuleNotStatic.{not_static}
 use Rattle.ada_tree.specs.RuleRangeBad.{raises, out_of, member_range, member_out_of}
@@ -98,3 +98,19 @@ module _ (d : Scope) where
 
   pub met-chooses : (e : PExpr) (xs : List PChoice) (others : Bool) (s : Span) → bad_choices d (kind_of d e) e xs others s ≡ [] → IsMetBut (site d (chooses e xs others s))
   met-chooses e xs others s h = record { known = refl; matched = refl; static = refl; ranged = refl; variable = refl; readable = refl; counted = refl; chosen = h; arrays = refl; texts = refl; exceptions = refl }
+
+-- the body is that of a single task
+pub gives-met : (t : Scope) (w : Word) (es : List EntryPart) → meaning t w.name ≡ Some (SingleTask es) → IsMetBut (site t (gives_body w))
+gives-met t w es e = record {
+  known = ap (λ o. no_body_of o w) e;
+  matched = refl;
+  static = refl;
+  ranged = refl;
+  variable = refl;
+  readable = refl;
+  counted = refl;
+  chosen = refl;
+  arrays = refl;
+  texts = refl;
+  exceptions = refl;
+}

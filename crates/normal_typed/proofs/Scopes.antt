@@ -17,7 +17,7 @@ use Rattle.ada_tree.specs.Declaring.{seen_as, with_name, with_names, inside, for
 use Rattle.ada_tree.specs.Demand.{declares, Site}
 use Rattle.ada_tree.specs.Sites.{if_there, names_sites, all_names, formals_sites, accept_index_sites, head_sites, scheme_sites, loop_scope}
 use Rattle.ada_tree.specs.RuleArgCount.{called_entry}
-use Rattle.ada_tree.specs.RuleDuplicate.{is_predefined, is_among, fixes, introduces, at_word, duplicate}
+use Rattle.ada_tree.specs.RuleDuplicate.{is_predefined, is_among, fixes, introduces, duplicate}
 use Rattle.syn_event.specs.declared.numbering.TaskInfo.{TaskInfo}
 use Rattle.rewritten_types.specs.Agreement.{IsScalar}
 use Rattle.syn_event.specs.Numbering.{task_named}
@@ -31,6 +31,8 @@ use Rattle.alike_scopes.specs.Alike.{Alike}
 use Rattle.alike_scopes.proofs.Inner.{inside_is_alike, formals_are_alike, loop_is_alike}
 use Rattle.normal_typed.specs.ScopeOf.{IsVariableOf, IsSeenWith, IsTaskThere, MeansLiteral, MeansInteger, IsLiteralOf, IsEntryOf, IsArrayOf, IsInnerName, IsPlaceOf, IsScopeOf}
 use Rattle.normal_typed.proofs.Stays.{old-formals, old-drange}
+use Rattle.common_lemmas.proofs.Truth.{or_left, clash}
+use Rattle.rewritten_types.proofs.Refused.{no_word}
 
 -- ---- names
 
@@ -41,12 +43,6 @@ differ f a b x y p q n = by_test (a == b) refl
     by_test false e = refl
     by_test true e = absurd (n (sym p ∙ ap f (eqb-true a b e) ∙ q))
 
-not-so : true ≡ false → ⊥
-not-so e = true≢false e
-
-so-not : false ≡ true → ⊥
-so-not e = true≢false (sym e)
-
 -- what a name means where one more is declared
 pub meaning-more : (thing : Thing) (s : Scope) (w : Word) (id : NameId) → meaning (with_name thing s w) id ≡ (if w.name.0 == id.0 then Some thing else meaning s id)
 meaning-more thing s w id = by_test (w.name.0 == id.0)
@@ -54,6 +50,13 @@ meaning-more thing s w id = by_test (w.name.0 == id.0)
     by_test : (b : Bool) → option_map (λ (x : Seen). x.thing) (if b then Some (seen_as thing w.name.0) else find (λ (x : Seen). x.name == id.0) s.names) ≡ (if b then Some thing else meaning s id)
     by_test true = refl
     by_test false = refl
+
+-- what is declared is not predefined
+pub once-new : (before : List Site) (s : Scope) (w : Word) → duplicate before s (declares false w) ≡ [] → is_predefined w.name.0 ≡ false
+once-new before s w e =
+    or_left (is_predefined w.name.0) (is_among s.here w.name.0)
+    (or_left (is_predefined w.name.0 || is_among s.here w.name.0) (list_any (fixes w.name.0) before)
+    (or_left (is_predefined w.name.0 || is_among s.here w.name.0 || list_any (fixes w.name.0) before) (false && list_any (introduces w.name.0) before) (no_word _ w e)))
 
 -- ---- things that are no tasks
 
@@ -184,20 +187,20 @@ module _ (u : Unit) (own : ℕ → Bool) (vars : List PDecl) where
   -- ---- what is outer
 
   outer-variable : (k : ℕ) → own (variable_name u.setting k).0 ≡ false → IsOuter (variable_name u.setting k)
-  outer-variable k e x i = differ own x.0 (variable_name u.setting k).0 true false i.mine e not-so
+  outer-variable k e x i = differ own x.0 (variable_name u.setting k).0 true false i.mine e true≢false
 
   outer-task : (info : TaskInfo) → IsAmong info (tasks_beside u.setting) → ((z : ℤ) → info.member ≡ Some z → own (task_name u.setting info).0 ≡ false) → IsOuter (task_name u.setting info)
   outer-task info among new x i = by_member info.member refl
     where
       by_member : (m : Option ℤ) → info.member ≡ m → (x.0 == (task_name u.setting info).0) ≡ false
       by_member None e = ap (λ m. x.0 == (member_name u.setting info.name m).0) e ∙ i.inner.tasks info among e
-      by_member (Some z) e = differ own x.0 (task_name u.setting info).0 true false i.mine (new z e) not-so
+      by_member (Some z) e = differ own x.0 (task_name u.setting info).0 true false i.mine (new z e) true≢false
 
   outer-predefined : (n : ℕ) → is_predefined n ≡ true → IsOuter (record { 0 = n })
-  outer-predefined n e x i = differ is_predefined x.0 n false true i.new e so-not
+  outer-predefined n e x i = differ is_predefined x.0 n false true i.new e clash
 
   outer-literal : (id : NameId) (k n : ℕ) → IsLiteralOf u.setting.types id k n → IsOuter id
-  outer-literal id k n l x i = differ (λ m. is_some (value_named u.setting.types (record { 0 = m }))) x.0 id.0 false true (ap is_some i.inner.value) (ap is_some l.value) so-not
+  outer-literal id k n l x i = differ (λ m. is_some (value_named u.setting.types (record { 0 = m }))) x.0 id.0 false true (ap is_some i.inner.value) (ap is_some l.value) clash
 
   -- ---- what can be used stays
 
@@ -263,19 +266,6 @@ module _ (u : Unit) (own : ℕ → Bool) (vars : List PDecl) where
         by_array id range es e (inr n) = absurd (subst IsNoTask e n)
 
   -- ---- accepts and loops
-
-  no-word : (b : Bool) (w : Word) → at_word b w ≡ [] → b ≡ false
-  no-word true w e = cc
-  no-word false w e = refl
-
-  first-of-four : (a b c d : Bool) → (a || b || c || d) ≡ false → a ≡ false
-  first-of-four true b c d e = e
-  first-of-four false b c d e = refl
-
-  once-new : (before : List Site) (s : Scope) (w : Word) → duplicate before s (declares false w) ≡ [] → is_predefined w.name.0 ≡ false
-  once-new before s w e =
-      first-of-four (is_predefined w.name.0) (is_among s.here w.name.0) (list_any (fixes w.name.0) before) (false && list_any (introduces w.name.0) before)
-      (no-word (is_predefined w.name.0 || is_among s.here w.name.0 || list_any (fixes w.name.0) before || (false && list_any (introduces w.name.0) before)) w e)
 
   words-inner : (ws : List Word) (s : Scope) → AllByRecursion (λ (w : Word). own w.name.0 ≡ true) ws → AllByRecursion (IsPlaceOf u.setting) (names_sites false s ws) → AreInner ws
   words-inner [] s o h = tt

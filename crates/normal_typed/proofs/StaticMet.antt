@@ -323,19 +323,17 @@ module _ (t : Scope) (free : NoneIsOut t) where
   pub drange-is-met : (r : PDrange) → HasRange t r → AllMetBut (drange_sites true t r)
   drange-is-met (RMarked x) h = subind-is-met x h
   drange-is-met (RGiven b) h =
-      all_joined IsMetBut (bounds_sites true t b) (site t (must_be_alike b.first b.last) ∷ []) (bounds-are-met h.kind b h.first h.last h.order) (
-        record {
-          known = refl;
-          matched = ap (λ o. of_other_kind t o b.last) h.first.kind ∙ of-kind t b.last h.kind h.last.kind;
-          static = refl;
-          ranged = refl;
-          variable = refl;
-          readable = refl;
-          counted = refl;
-          chosen = refl;
-          arrays = refl;
-          texts = refl;
-          exceptions = refl;
-        },
-        tt,
-      )
+      let alike : IsMetBut (site t (must_be_alike b.first b.last)) = record {
+        known = refl;
+        matched = ap (λ o. of_other_kind t o b.last) h.first.kind ∙ of-kind t b.last h.kind h.last.kind;
+        static = refl;
+        ranged = refl;
+        variable = refl;
+        readable = refl;
+        counted = refl;
+        chosen = refl;
+        arrays = refl;
+        texts = refl;
+        exceptions = refl;
+      } in
+      all_joined IsMetBut (bounds_sites true t b) (site t (must_be_alike b.first b.last) ∷ []) (bounds-are-met h.kind b h.first h.last h.order) (alike, tt)

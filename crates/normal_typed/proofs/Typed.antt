@@ -35,7 +35,7 @@ use Rattle.normal_model.specs.NormalStmts.{normal_rewriter, normal_body}
 use Rattle.asked_stmts.specs.Asked.{Asks, AskedBody}
 use Rattle.asked_stmts.specs.Kinds.{place_asks, type_asks, both}
 use Rattle.asked_stmts.proofs.Typed.{asked_typed}
-use Rattle.normal_asked.specs.Pieces.{IsVariable, IsGuard, member_choice, IsAmong, first_among, later_among, IsPair, first_pair, later_pair, is_read, is_written, Pieces}
+use Rattle.normal_asked.specs.Pieces.{IsVariable, IsGuard, member_choice, IsAmong, IsPair, first_pair, later_pair, is_read, is_written, Pieces}
 use Rattle.normal_model.proofs.VariablesLemmas.{Begins}
 use Rattle.normal_asked.proofs.Walk.{body-keeps}
 use Rattle.normal_placed.proofs.Calls.{moves}
@@ -57,12 +57,9 @@ use Rattle.normal_typed.proofs.Stays.{old-expr, old-choices, old-formals, no-arr
 use Rattle.normal_typed.proofs.Scopes.{accept-scope, loop-scope, accept-own, loop-own}
 use Rattle.normal_typed.proofs.Heads.{family-head, head-moved}
 use Rattle.normal_typed.proofs.Actuals.{actual_target, both-read, actual-written, target-name, other-turned}
+use Rattle.normal_placed.proofs.Made.{among}
 
 -- ---- lists
-
-all-among : {A : Type 0} (P : A → Type 0) (x : A) (xs : List A) → IsAmong x xs → AllByRecursion P xs → P x
-all-among P x xs (first_among ys) h = h.0
-all-among P x xs (later_among y ys i) h = all-among P x ys i h.1
 
 pair-among : (P : PExpr → Type 0) (slot : Slot) (e : PExpr) (xs : List Slot) (es : List PExpr) → IsPair slot e xs es → AllByRecursion P es → P e
 pair-among P slot e xs es (first_pair ys fs) h = h.0
@@ -247,7 +244,7 @@ module _ (u : Unit) (own : ℕ → Bool) (vars : List PDecl) (entries : List Ent
 
         member-chosen : (info : TaskInfo) → IsAmong info (members_of g x.name.name) → a.choices d 0 (variable g s j) (member_choice g s x info ∷ [])
         member-chosen info i =
-            let q = member-choice s info (all-among (IsMemberIn range) info (members_of g x.name.name) i its-array.members) in
+            let q = member-choice s info (among (IsMemberIn range) info (members_of g x.name.name) i its-array.members) in
             let one = choice-met d range.kind (literal s info) q.value q.fixed range refl q.within in
             all_joined IsMetBut (choice_sites d (kind_of d (variable g s j)) (selected_range d (variable g s j)) (member_choice g s x info)) []
             (subst (λ k. AllMetBut (choice_sites d k (selected_range d (variable g s j)) (member_choice g s x info))) (sym selector-kind)

@@ -12,19 +12,20 @@ use Rattle.ada_tree.specs.declared.static_types.Kind.TheVariants as kind
 use Rattle.ada_tree.specs.TypeTable.{TypeTable}
 use Rattle.ada_tree.specs.PlainExpr.{PExpr, EName, PSubind}
 use Rattle.ada_tree.specs.PlainStmt.{PTarget}
-use Rattle.ada_tree.specs.Scope.{Scope, Reading, AsScalar, kind_at, meaning, reading, reading_of_kind, reading_of_mark, reading_of}
+use Rattle.ada_tree.specs.Scope.{Scope, Reading, AsScalar, kind_at, meaning, reading, reading_of_mark, reading_of}
 use Rattle.ada_tree.specs.ExprTypes.{name_kind, kind_of, is_other_kind, place_of, static_in, is_kind, ok_value}
 use Rattle.ada_tree.specs.StaticValue.{is_static, value_of}
 use Rattle.ada_tree.specs.Demand.{is_actual, Site}
-use Rattle.ada_tree.specs.Sites.{site, expr_sites, expr_of, target_sites}
+use Rattle.ada_tree.specs.Sites.{site, expr_sites, expr_of, target_sites, names_sites}
 use Rattle.ada_tree.specs.RuleMismatch.{of_other_kind, no_value, target_kind}
 use Rattle.ada_tree.specs.RuleNotVariable.{whole_written, is_variable, is_array}
 use Rattle.ada_tree.specs.RuleReadOut.{out_formal, read_out}
 use Rattle.ada_tree.specs.RuleArrayUse.{whole_array}
-use Rattle.rewritten_types.specs.Agreement.{scalar_only}
 use Rattle.alike_scopes.specs.Laws.{IsMetBut}
 use Rattle.normal_typed.specs.ScopeOf.{IsVariableOf}
-use Rattle.normal_typed.proofs.Places.{met-whole, met-node, met-of, met-writes, met-actual}
+use Rattle.normal_typed.proofs.Places.{met-whole, met-node, met-of, met-writes, met-actual, met-declares}
+use Rattle.alike_scopes.proofs.Marks.{scalar-reading}
+use Rattle.ada_tree.specs.declared.naming.Word.{Word}
 
 -- nothing is refused at places
 abbrev pub AllMetBut : List Site → Type 0
@@ -39,17 +40,9 @@ same-is-no-other k = ap (λ b. if b then false else true) (eq-eqb k k refl)
 pub of-kind : (d : Scope) (e : PExpr) (k : ℕ) → kind_of d e ≡ Some k → of_other_kind d (Some k) e ≡ []
 of-kind d e k h = ap (λ o. if is_other_kind (Some k) o then place_of e ∷ [] else []) h ∙ ap (λ b. if b then place_of e ∷ [] else []) (same-is-no-other k)
 
--- what is of a kind of values is a scalar
-pub scalar-read : (k : ℕ) (o : Option Kind) (x : Kind) → scalar_only o ≡ Some x → reading_of_kind k o ≡ AsScalar k
-scalar-read k (Some kind.Integer) x h = refl
-scalar-read k (Some kind.Truth) x h = refl
-scalar-read k (Some (kind.Enumeration names)) x h = refl
-scalar-read k (Some (kind.Array index first last part)) x h = cc
-scalar-read k None x h = cc
-
 module _ {types : TypeTable} {d : Scope} {id : NameId} {x : PSubind} (v : IsVariableOf types d id x) where
   pub variable-read : reading d id ≡ AsScalar v.mark.kind
-  variable-read = ap (reading_of d.types) v.means ∙ ap (reading_of_mark d.types) v.there ∙ scalar-read v.mark.kind (kind_at d.types v.mark.kind) v.scalar.0 v.scalar.1
+  variable-read = ap (reading_of d.types) v.means ∙ ap (reading_of_mark d.types) v.there ∙ scalar-reading v.mark.kind (kind_at d.types v.mark.kind) v.scalar.0 v.scalar.1
 
   pub variable-kind : (s : Span) → kind_of d (EName id s) ≡ Some v.mark.kind
   variable-kind s = ap name_kind variable-read
@@ -125,3 +118,8 @@ module _ {types : TypeTable} {d : Scope} {id : NameId} {x : PSubind} (v : IsVari
   assigned-met s e h i =
       all_joined IsMetBut (target_sites d (as_target s)) (expr_of d (target_kind d (as_target s)) e) (target-met s)
       (subst (λ k. AllMetBut (expr_of d k e)) (sym (target-of s)) (all_joined IsMetBut (expr_sites d e) _ h (met-of d e (Some v.mark.kind) i, tt)))
+
+-- names that are declared are met
+pub words-met : (fixed : Bool) (ws : List Word) (s : Scope) → AllMetBut (names_sites fixed s ws)
+words-met fixed [] s = tt
+words-met fixed (w ∷ ws) s = (met-declares s fixed w, words-met fixed ws _)

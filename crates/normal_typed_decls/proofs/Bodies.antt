@@ -1,15 +1,12 @@
 -- The objects and the variables of a copied body meet the static rules 1 and 3 to 12, in scopes that are alike.
-use Rattle.std.proofs.Common.{◌≡◌, ℕ, Bool, false, List, [], ◌∷◌, Some, None, refl, ap}
+use Rattle.std.proofs.Common.{◌≡◌, ℕ, Bool, false, List, [], ◌∷◌, None}
 use Rattle.std.specs.List.{AllByRecursion}
 use Rattle.common_lemmas.proofs.Lists.{all_joined, all_front, all_back}
-use Rattle.ada_tree.specs.declared.naming.Word.{Word}
 use Rattle.ada_tree.specs.PlainStmt.{PBody}
 use Rattle.ada_tree.specs.PlainDecl.{OPlain, PDecl, PDecls, no_decl, decl_then, decls_of}
 use Rattle.ada_tree.specs.Every.{EveryDecls}
-use Rattle.ada_tree.specs.Scope.{Scope, SingleTask, EntryPart, meaning}
-use Rattle.ada_tree.specs.Demand.{gives_body}
-use Rattle.ada_tree.specs.RuleUnknown.{no_body_of}
-use Rattle.ada_tree.specs.Sites.{site, own_object_sites, own_sites}
+use Rattle.ada_tree.specs.Scope.{Scope}
+use Rattle.ada_tree.specs.Sites.{own_object_sites, own_sites}
 use Rattle.ada_tree.specs.Declaring.{after_own_object, after_objects}
 use Rattle.task_model.specs.Setting.{Setting}
 use Rattle.normal_model.specs.Names.{variable_name}
@@ -29,22 +26,6 @@ use Rattle.normal_typed.proofs.Declared.{own-stays}
 use Rattle.normal_typed.proofs.StaticMet.{NoneIsOut}
 use Rattle.normal_typed_decls.proofs.Subtypes.{AreSubtypes, all-variables}
 use Rattle.normal_typed_decls.proofs.Variables.{variable-met}
-
--- the body is that of a single task
-pub gives-met : (t : Scope) (w : Word) (es : List EntryPart) → meaning t w.name ≡ Some (SingleTask es) → IsMetBut (site t (gives_body w))
-gives-met t w es e = record {
-  known = ap (λ o. no_body_of o w) e;
-  matched = refl;
-  static = refl;
-  ranged = refl;
-  variable = refl;
-  readable = refl;
-  counted = refl;
-  chosen = refl;
-  arrays = refl;
-  texts = refl;
-  exceptions = refl;
-}
 
 -- objects, and others behind them
 pub own-front : (a b : PDecls) (d : Scope) → AllMetBut (own_sites d a) → AllMetBut (own_sites (after_objects d a) b) → AllMetBut (own_sites d (decls_front a b))

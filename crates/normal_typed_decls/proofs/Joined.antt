@@ -27,10 +27,11 @@ use Rattle.normal_typed.proofs.Typed.{body-met}
 use Rattle.normal_legal_asked.proofs.KnownKinds.{known-kinds}
 use Rattle.normal_legal_asked.proofs.Bodies.{main-asked}
 use Rattle.normal_scopes.specs.Plain.{plain_name}
-use Rattle.normal_scopes.proofs.Main.{decls-frame, g, last, first, every, rules, tasked, made, list-after}
+use Rattle.normal_scopes.proofs.Main.{decls-frame, g, last, first, every, rules, tasked, made}
 use Rattle.normal_typed_decls.proofs.Fronts.{firsts-met}
 use Rattle.normal_typed_decls.proofs.Tasks.{tasks-met}
 use Rattle.normal_typed_decls.proofs.Variables.{variables-met}
+use Rattle.tree_lemmas.proofs.Declared.{decls_joined}
 
 -- ---- declarations one behind the other
 
@@ -87,7 +88,7 @@ module _ (p : PProgram) (legal : IsLegal p) where
   decls-met h =
       front-met (first_decls [] p.decls) (decls_of (main_variables G ++ tasks ++ bodies)) (first_scope p.name) (firsts-met p legal program-rules.2)
       (lists-met (main_variables G ++ tasks) bodies (first p legal) (lists-met (main_variables G) tasks (first p legal) (variables-met p legal program-rules.2) (tasks-met p legal program-rules.2))
-      (subst (λ s. AllMetBut (decls_sites s (decls_of bodies))) (sym (list-after (main_variables G) tasks (first p legal))) h))
+      (subst (λ s. AllMetBut (decls_sites s (decls_of bodies))) (sym (decls_joined (main_variables G) tasks (first p legal))) h))
 
   -- ---- main
 

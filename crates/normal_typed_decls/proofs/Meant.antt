@@ -1,9 +1,9 @@
 -- In a legal program the declared name of each kind of values means its type, behind all declarations of main.
-use Rattle.std.proofs.Common.{◌≡◌, ℕ, pos, zero, suc, ◌<◌, ◌-ℤ◌, Bool, true, false, ◌==◌, ◌||◌, if◌then◌else◌, List, [], ◌∷◌, length, map, find, option_map, unwrap_or, Option, Some, None, ⊎_elim, refl, sym, ap, ◌∙◌, subst, true≢false, arith}
+use Rattle.std.proofs.Common.{◌≡◌, ℕ, pos, zero, suc, ◌-ℤ◌, Bool, true, false, ◌==◌, ◌||◌, if◌then◌else◌, List, [], ◌∷◌, length, map, find, option_map, unwrap_or, Option, Some, None, ⊎_elim, refl, sym, ap, ◌∙◌, subst, true≢false}
 use Rattle.std.specs.List.{AllByRecursion}
-use Rattle.std.proofs.lemmas.Bool.{eq-eqb, ne_eqb, or_left as or_front, or_right as or_behind}
-use Rattle.std.proofs.lemmas.Option.{none-some, slice_get_within}
-use Rattle.common_lemmas.proofs.Lists.{found_none, found_passes, all_weaker, last_at}
+use Rattle.std.proofs.lemmas.Bool.{eq-eqb, or_left as or_front, or_right as or_behind}
+use Rattle.std.proofs.lemmas.Option.{none-some}
+use Rattle.common_lemmas.proofs.Lists.{found_passes, last_at}
 use Rattle.common_lemmas.proofs.Numbers.{equal_is, equal_self}
 use Rattle.common_lemmas.proofs.Truth.{or_left, or_right}
 use Rattle.ada_tree.specs.declared.naming.NameId.{NameId}
@@ -17,7 +17,7 @@ use Rattle.ada_tree.specs.Scope.{Scope, Seen, Thing, TypeMark, ScalarMark, marki
 use Rattle.ada_tree.specs.RuleDuplicate.{is_predefined, is_among}
 use Rattle.ada_tree.specs.Sites.{names_sites, decl_sites}
 use Rattle.ada_tree.specs.Declaring.{predefined_types, before_all, first_scope, seen_as, with_name, with_types, add_kind, made, after_decl, after_decls}
-use Rattle.rewritten_types.specs.Agreement.{scalar_only, HasKind, Grows, Keeps, IsScalar, mark_of_kind, Sound}
+use Rattle.rewritten_types.specs.Agreement.{scalar_only, Grows, Keeps, IsScalar, mark_of_kind, Sound}
 use Rattle.rewritten_types.specs.Rewriting.{names_declared, IsUnused, DeclareOnce}
 use Rattle.rewritten_types.proofs.Lookups.{find-only, earlier-or-last}
 use Rattle.rewritten_types.proofs.Keeping.{grows-on, grows-kind, grows-mark, keeps-self}
@@ -32,6 +32,7 @@ use Rattle.legal_types.proofs.GoodScopes.{names-kept}
 use Rattle.legal_types.proofs.MainScopes.{AllStand}
 use Rattle.normal_model.specs.Ranges.{kind_name}
 use Rattle.normal_scopes.proofs.Later.{decl-kept}
+use Rattle.rewritten_types.proofs.NamedKinds.{no-mark}
 
 -- The declared name of the kind in the table means its type in the scope.
 pub record IsMeantKind (T : TypeTable) (s : Scope) (k : ℕ) : Type 0 where
@@ -64,15 +65,6 @@ are-kept : (d : PDecl) (s : Scope) → InHere s → AllByRecursion (IsUnused s) 
 are-kept d s here u old U keeps h k sc = kind-kept d s here u s.types U keeps.grows k (h k (sc.0, sym (keeps.kinds k) ∙ sc.1))
 
 -- ---- an enumeration
-
--- no mark is of a kind that is not there
-no-mark : (T : TypeTable) → Sound T → mark_of_kind T (length T.kinds) ≡ None
-no-mark T sound = found_none (λ (m : Mark). m.kind == length T.kinds) T.marks (all_weaker (λ (m : Mark). HasKind T m.kind) _ T.marks another sound.marks)
-  where
-    another : (m : Mark) → HasKind T m.kind → (m.kind == length T.kinds) ≡ false
-    another m h =
-        let l : m.kind < length T.kinds = slice_get_within T.kinds m.kind h.0 h.1 in
-        ne_eqb m.kind (length T.kinds) (λ same. let y : ⊥ = omega arith in y)
 
 -- names that are declared behind a name are others
 others : (fixed : Bool) (n : ℕ) (ws : List Word) (s : Scope) (here : List ℕ) → is_among here n ≡ true → AllByRecursion IsMet (names_sites fixed (record s { here = here }) ws) → AllByRecursion (λ (w : Word). (w.name.0 == n) ≡ false) ws

@@ -5,7 +5,6 @@ use Rattle.std.proofs.lemmas.List.Elements.{recursion_from_All}
 use Rattle.common_lemmas.proofs.Lists.{all_joined, all_kept}
 use Rattle.ada_tree.specs.declared.naming.NameId.{NameId}
 use Rattle.ada_tree.specs.declared.naming.Span.{Span}
-use Rattle.ada_tree.specs.declared.naming.Word.{Word}
 use Rattle.ada_tree.specs.PlainExpr.{PDrange}
 use Rattle.ada_tree.specs.PlainStmt.{PFormal}
 use Rattle.ada_tree.specs.PlainDecl.{PPriority, PEntry, PTask, PDecl, DTask, PDecls, decls_of}
@@ -30,7 +29,7 @@ use Rattle.normal_checked.specs.Around.{own_rules}
 use Rattle.normal_legal.specs.Laws.{IsLegal}
 use Rattle.alike_scopes.specs.Alike.{Alike}
 use Rattle.alike_scopes.specs.Laws.{IsMetBut}
-use Rattle.normal_typed.proofs.Variables.{AllMetBut}
+use Rattle.normal_typed.proofs.Variables.{AllMetBut, words-met}
 use Rattle.normal_typed.proofs.Places.{met-declares}
 use Rattle.normal_typed.proofs.Stays.{old-expr, old-drange, old-formals, static-stays, drange-stays, formals-stay}
 use Rattle.normal_typed.proofs.StaticMet.{NoneIsOut, static-of-met, mark-met, drange-is-met}
@@ -44,10 +43,6 @@ use Rattle.normal_typed_decls.proofs.Known.{IsEntryKnown, IsTaskKnown, tasks-kno
 -- the name of an entry asks nothing
 entry-name-met : (s : Scope) (before : List ℕ) (e : PEntry) → IsMetBut (site s (declares_entry before e.name))
 entry-name-met s before e = record { known = refl; matched = refl; static = refl; ranged = refl; variable = refl; readable = refl; counted = refl; chosen = refl; arrays = refl; texts = refl; exceptions = refl }
-
-pub words-met : (fixed : Bool) (ws : List Word) (s : Scope) → AllMetBut (names_sites fixed s ws)
-words-met fixed [] s = tt
-words-met fixed (w ∷ ws) s = (met-declares s fixed w, words-met fixed ws _)
 
 -- the declared entries and priorities of a task at a scope that is alike one where they are known
 module _ (old : ℕ → Bool) (S t : Scope) (alike : Alike old S t) (free : NoneIsOut S) where

@@ -53,7 +53,7 @@ use Rattle.normal_legal.specs.Laws.{IsLegal}
 use Rattle.alike_scopes.specs.Alike.{Alike}
 use Rattle.alike_scopes.specs.Old.{IsOldSubind, allows_task}
 use Rattle.alike_scopes.specs.Laws.{IsMetBut}
-use Rattle.normal_typed.proofs.Variables.{AllMetBut}
+use Rattle.normal_typed.proofs.Variables.{AllMetBut, words-met}
 use Rattle.normal_typed.proofs.Stays.{old-bounds, old-subind, subind-stays}
 use Rattle.normal_typed.proofs.StaticMet.{NoneIsOut, subind-is-met}
 use Rattle.normal_scopes.specs.Plain.{plain_name}
@@ -68,13 +68,10 @@ use Rattle.normal_typed_decls.proofs.Known.{IsEntryKnown, IsTaskKnown, tasks-kno
 use Rattle.normal_typed_decls.proofs.Rows.{IsGoodRange, rows-known}
 use Rattle.normal_typed_decls.proofs.Meant.{IsKindName, kind-named}
 use Rattle.normal_typed_decls.proofs.Subtypes.{AreSubtypes, all-variables}
-use Rattle.normal_typed_decls.proofs.Tasks.{words-met, all-both, main-like}
+use Rattle.normal_typed_decls.proofs.Tasks.{all-both, main-like}
+use Rattle.common_lemmas.proofs.Truth.{or_true}
 
 -- ---- a static subtype as the mark of an object
-
-no-task : (b : Bool) → (b || true) ≡ true
-no-task true = refl
-no-task false = refl
 
 -- a scalar type may stand anywhere
 module _ (S : Scope) (free : NoneIsOut S) where
@@ -115,7 +112,7 @@ module _ (own : ℕ → Bool) (c t : Scope) (alike : Alike own c t) (free : None
       let allowed = object_marks (may_be_task t false x.bounds None) x.bounds in
       all_joined IsMetBut (names ++ subind_sites true allowed t x) []
       (all_joined IsMetBut names (subind_sites true allowed t x) (words-met _ ws t)
-      (subind-stays IsMetBut but own c t alike true allowed x o (ap (λ m. not (allows_task allowed) || is_no_task m) h.mark.marks ∙ no-task (not (allows_task allowed)))
+      (subind-stays IsMetBut but own c t alike true allowed x o (ap (λ m. not (allows_task allowed) || is_no_task m) h.mark.marks ∙ or_true (not (allows_task allowed)))
       (any-subtype-met c free allowed x h))) tt
 
 -- ---- a legal program

@@ -29,7 +29,7 @@ used-names thing [] s id h = h
 used-names thing (w ∷ ws) s id h = used-names thing ws (with_name thing s w) id (used-more s w.name.0 id h)
 
 -- what is used stays used
-used-decl : (d : PDecl) (s : Scope) (id : NameId) → IsUsed s id → IsUsed (after_decl s d) id
+pub used-decl : (d : PDecl) (s : Scope) (id : NameId) → IsUsed s id → IsUsed (after_decl s d) id
 used-decl (DNumber name e sp) s id h = used-more s name.name.0 id h
 used-decl (DObject names c x i sp) s id h = used-names _ names _ id h
 used-decl (DEnumeration name ws sp) s id h = used-names _ ws _ id (used-more s name.name.0 id h)
@@ -192,7 +192,7 @@ module _ (P : NameId → NameId → Type 0) (types : TypeTable) (names : List (L
   numbered-task-infos [] h = tt
   numbered-task-infos (x ∷ xs) h = (h.0, numbered-task-infos xs h.1)
 
-  part-infos : (xs : List NamedTasks) → AllByRecursion (λ (x : NamedTasks). P x.name.name x.unit.name.name) xs → AllByRecursion (λ (i : TaskInfo). P i.name i.unit) (map (info_of_task names) (flat_map (tasks_of_name types) xs))
+  pub part-infos : (xs : List NamedTasks) → AllByRecursion (λ (x : NamedTasks). P x.name.name x.unit.name.name) xs → AllByRecursion (λ (i : TaskInfo). P i.name i.unit) (map (info_of_task names) (flat_map (tasks_of_name types) xs))
   part-infos xs h = numbered-task-infos (flat_map (tasks_of_name types) xs) (part-numbered-tasks xs h)
 
 pub names_tell_units : NamesTellUnits

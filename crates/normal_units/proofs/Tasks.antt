@@ -20,7 +20,7 @@ use Rattle.rewritten_types.proofs.Lookups.{place-all}
 use Rattle.normal_types.proofs.Variables.{all-flat, all-mapped, unit-all}
 use Rattle.normal_units.specs.Laws.{count_named, TasksKeepNumbers, EntriesKeepFormals}
 use Rattle.common_lemmas.proofs.Options.{some_same}
-use Rattle.syn_event.proofs.DeclLists.{listed_back}
+use Rattle.syn_event.proofs.DeclLists.{listed_back, tasks_joined}
 
 -- ---- lists of declarations
 
@@ -41,19 +41,6 @@ no-tasks (DSubtype w x s ∷ xs) h = no-tasks xs h.1
 no-tasks (DException ws s ∷ xs) h = no-tasks xs h.1
 no-tasks (DIntIo w s ∷ xs) h = no-tasks xs h.1
 no-tasks (DPragma e s ∷ xs) h = no-tasks xs h.1
-
-pub tasks-joined : (xs ys : List PDecl) → tasks_in (xs ++ ys) ≡ tasks_in xs ++ tasks_in ys
-tasks-joined [] ys = refl
-tasks-joined (DTask t s ∷ xs) ys = ap (λ l. t ∷ l) (tasks-joined xs ys)
-tasks-joined (DTaskBody w ds b s ∷ xs) ys = tasks-joined xs ys
-tasks-joined (DNumber w e s ∷ xs) ys = tasks-joined xs ys
-tasks-joined (DObject ws c x i s ∷ xs) ys = tasks-joined xs ys
-tasks-joined (DEnumeration w ws s ∷ xs) ys = tasks-joined xs ys
-tasks-joined (DArray w r x s ∷ xs) ys = tasks-joined xs ys
-tasks-joined (DSubtype w x s ∷ xs) ys = tasks-joined xs ys
-tasks-joined (DException ws s ∷ xs) ys = tasks-joined xs ys
-tasks-joined (DIntIo w s ∷ xs) ys = tasks-joined xs ys
-tasks-joined (DPragma e s ∷ xs) ys = tasks-joined xs ys
 
 pub list-front : (ds rest : PDecls) → decl_list (decls_front ds rest) ≡ decl_list ds ++ decl_list rest
 list-front no_decl rest = refl
@@ -120,7 +107,7 @@ under-tasks unit name (DPragma e s ∷ ds) = under-tasks unit name ds
 pub made-tasks : (g : Setting) (infos : List TaskInfo) → tasks_in (flat_map (task_declared g) infos) ≡ flat_map (tasks_made g) infos
 made-tasks g [] = refl
 made-tasks g (info ∷ infos) =
-    tasks-joined (task_declared g info) (flat_map (task_declared g) infos)
+    tasks_joined (task_declared g info) (flat_map (task_declared g) infos)
     ∙ ap₂ (λ (a b : List PTask). a ++ b) (under-tasks info.unit (task_name g info) (decl_list g.program.decls)) (made-tasks g infos)
 
 module _ (p : PProgram) (types : TypeTable) (numbers : Numbering) where
@@ -133,12 +120,12 @@ module _ (p : PProgram) (types : TypeTable) (numbers : Numbering) where
       let bodies = flat_map (bodies_of s) (decl_list p.decls) in
       ap tasks_in (list-front (first_decls [] p.decls) (decls_of (vars ++ tasks ++ bodies)))
       ∙ ap (λ l. tasks_in (decl_list (first_decls [] p.decls) ++ l)) (listed_back (vars ++ tasks ++ bodies))
-      ∙ tasks-joined (decl_list (first_decls [] p.decls)) (vars ++ tasks ++ bodies)
+      ∙ tasks_joined (decl_list (first_decls [] p.decls)) (vars ++ tasks ++ bodies)
       ∙ ap (λ l. l ++ tasks_in (vars ++ tasks ++ bodies)) (no-tasks (decl_list (first_decls [] p.decls)) (first-no-task p.decls []))
-      ∙ tasks-joined (vars ++ tasks) bodies
+      ∙ tasks_joined (vars ++ tasks) bodies
       ∙ ap (λ l. tasks_in (vars ++ tasks) ++ l) (no-tasks bodies (all-flat IsNoTask (bodies_of s) (copies-no-task s) (decl_list p.decls)))
       ∙ append-nil (tasks_in (vars ++ tasks))
-      ∙ tasks-joined vars tasks
+      ∙ tasks_joined vars tasks
       ∙ ap (λ l. l ++ tasks_in tasks) (no-tasks vars (unit-all IsNoTask (main_unit s) (λ sp x k. tt) p.body))
       ∙ made-tasks s (tasks_beside s)
 
@@ -183,11 +170,11 @@ tasks_keep_numbers p types numbers tell t =
 -- ---- formals
 
 -- the first of a list
-abbrev first_one : {A : Type 0} → List A → Option A
+abbrev pub first_one : {A : Type 0} → List A → Option A
 first_one [] = None
 first_one (x ∷ xs) = Some x
 
-find-first : {A : Type 0} (test : A → Bool) (xs : List A) → find test xs ≡ first_one (filter test xs)
+pub find-first : {A : Type 0} (test : A → Bool) (xs : List A) → find test xs ≡ first_one (filter test xs)
 find-first test [] = refl
 find-first test (x ∷ xs) = by_test (test x) (find-first test xs)
   where
@@ -196,14 +183,14 @@ find-first test (x ∷ xs) = by_test (test x) (find-first test xs)
     by_test false e = e
 
 -- tasks of another name are passed over
-skip-made : (n m : NameId) (xs ys : List PTask) → (m.0 == n.0) ≡ false → find (has_name n) (map (task_under m) xs ++ ys) ≡ find (has_name n) ys
+pub skip-made : (n m : NameId) (xs ys : List PTask) → (m.0 == n.0) ≡ false → find (has_name n) (map (task_under m) xs ++ ys) ≡ find (has_name n) ys
 skip-made n m [] ys e = refl
 skip-made n m (x ∷ xs) ys e = ap (λ b. if b then Some (task_under m x) else find (has_name n) (map (task_under m) xs ++ ys)) e ∙ skip-made n m xs ys e
 
-abbrev entries_in : Option PTask → Option (List PEntry)
+abbrev pub entries_in : Option PTask → Option (List PEntry)
 entries_in o = option_map (λ (t : PTask). t.entries) o
 
-first-made : (n m : NameId) (xs ys : List PTask) → length xs ≡ 1 → (m.0 == n.0) ≡ true → entries_in (find (has_name n) (map (task_under m) xs ++ ys)) ≡ entries_in (first_one xs)
+pub first-made : (n m : NameId) (xs ys : List PTask) → length xs ≡ 1 → (m.0 == n.0) ≡ true → entries_in (find (has_name n) (map (task_under m) xs ++ ys)) ≡ entries_in (first_one xs)
 first-made n m [] ys l e = let y : ⊥ = omega arith in absurd y
 first-made n m (x ∷ xs) ys l e = ap (λ b. entries_in (if b then Some (task_under m x) else find (has_name n) (map (task_under m) xs ++ ys))) e
 
@@ -212,7 +199,7 @@ module _ (g : Setting) (info : TaskInfo) where
   abbrev pub Tell : List TaskInfo → Type 0
   Tell infos = AllByRecursion (λ (b : TaskInfo). (task_name g info).0 ≡ (task_name g b).0 → info.unit.0 ≡ b.unit.0) infos
 
-  unit-found : (infos : List TaskInfo) (t : ℕ) → slice_get infos t ≡ Some info → AllByRecursion (λ (b : TaskInfo). count_named g.program b.unit ≡ 1) infos → Tell infos →
+  pub unit-found : (infos : List TaskInfo) (t : ℕ) → slice_get infos t ≡ Some info → AllByRecursion (λ (b : TaskInfo). count_named g.program b.unit ≡ 1) infos → Tell infos →
       entries_in (find (has_name (task_name g info)) (flat_map (tasks_made g) infos)) ≡ entries_in (first_one (filter (has_name info.unit) (tasks_of g.program)))
   unit-found [] t at one tell = absurd (none-some info at)
   unit-found (b ∷ infos) t at one tell = by_test ((task_name g b).0 == (task_name g info).0) refl t at (λ k e. unit-found infos k e one.1 tell.1)
@@ -228,7 +215,7 @@ module _ (g : Setting) (info : TaskInfo) where
           ap entries_in (skip-made (task_name g info) (task_name g b) (filter (has_name b.unit) (tasks_of g.program)) (flat_map (tasks_made g) infos) e) ∙ rest k at
 
 -- a task of which nothing is known but its entries
-abbrev with_entries : List PEntry → PTask
+abbrev pub with_entries : List PEntry → PTask
 with_entries es = record { name = record { name = record { 0 = 0 }; span = record { start = 0; end = 0 } }; of_kind = false; entries = es; priorities = [] }
 
 formals-by : (o : Option PTask) (name : NameId) → formals_in o name ≡ formals_in (option_map with_entries (entries_in o)) name

@@ -1,5 +1,5 @@
 -- Variables that are declared behind others, step by step.
-use Rattle.std.proofs.Common.{◌≡◌, ◌≤◌, ◌<◌, ◌+◌, ℕ, suc, List, take, get_or, [], ◌∷◌, ◌++◌, Vec, length, map, max, Result, Ok, Err, IfOk, OnOk, Option, None, Some, is_some, true, false, true≢false, refl, sym, ap, ◌∙◌, arith, length-append, append_assoc, append-nil}
+use Rattle.std.proofs.Common.{◌≡◌, ◌≤◌, ◌<◌, ◌+◌, ℕ, List, take, get_or, [], ◌∷◌, ◌++◌, Vec, length, map, max, Result, Ok, Err, IfOk, OnOk, Option, None, Some, is_some, true, false, true≢false, refl, sym, ap, ◌∙◌, arith, length-append, append_assoc, append-nil}
 use Rattle.std.specs.declared.alloc.Global.{Global}
 use Rattle.std.proofs.lemmas.List.{length-map, map-append, take_more}
 use Rattle.std.proofs.lemmas.Grind.{flat_map-append}
@@ -24,21 +24,14 @@ use Rattle.normal_model.specs.Members.{callee_kept}
 use Rattle.normal_model.specs.Calls.{Slot, actual_subtypes, call_subtypes, entry_called, flag_subtypes, is_chosen, lists_called, select_subtypes, slots_called}
 use Rattle.normal_model.specs.Aborts.{abort_subtypes}
 use Rattle.normal_model.specs.Waits.{Unit}
-use Rattle.normal_model.specs.Variables.{more_variables, variable_declared, variables_declared}
+use Rattle.normal_model.specs.Variables.{more_variables, variables_declared}
 use Rattle.normal_variables.specs.declared.track.Track.{Track}
 use Rattle.normal_variables.specs.Track.{Enters, IsTrack, variables_of}
 use Rattle.normal_variables.specs.inner.Adding.{Adds, lists_subtypes}
 use Rattle.common_lemmas.proofs.Numbers.{most_of_three}
+use Rattle.normal_model.proofs.Declared.{declared_length, declared_joined}
 
 -- ---- declarations
-
-declared_joined : (g : Setting) (s : Span) (xs ys : List PSubind) (k : ℕ) → variables_declared g s (xs ++ ys) k ≡ variables_declared g s xs k ++ variables_declared g s ys (k + length xs)
-declared_joined g s [] ys k = ap (variables_declared g s ys) (omega arith)
-declared_joined g s (x ∷ xs) ys k = ap (λ l. variable_declared g s x k ∷ l) (declared_joined g s xs ys (k + 1) ∙ ap (λ n. variables_declared g s xs (k + 1) ++ variables_declared g s ys n) (omega arith))
-
-declared_length : (g : Setting) (s : Span) (xs : List PSubind) (k : ℕ) → length (variables_declared g s xs k) ≡ length xs
-declared_length g s [] k = refl
-declared_length g s (x ∷ xs) k = ap suc (declared_length g s xs (k + 1))
 
 -- ---- one after the other
 

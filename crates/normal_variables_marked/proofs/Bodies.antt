@@ -48,16 +48,18 @@ use Rattle.normal_typed.proofs.Typed.{body-met}
 use Rattle.normal_scopes.specs.Plain.{plain_name}
 use Rattle.normal_scopes.proofs.Places.{AtBodies, IsPlaced}
 use Rattle.normal_scopes.proofs.Outer.{AreLocal}
-use Rattle.normal_scopes.proofs.Called.{objects-own}
-use Rattle.normal_scopes.proofs.Main.{among-all, g, old, last, first, rules, walked, tasked, tasked-there}
+use Rattle.normal_scopes.proofs.Main.{g, old, last, first, rules, walked, tasked, tasked-there}
 use Rattle.normal_typed_decls.proofs.Outs.{none-out}
 use Rattle.normal_typed_decls.proofs.Known.{range-grown}
 use Rattle.normal_typed_decls.proofs.Variables.{variable-met}
-use Rattle.normal_typed_decls.proofs.Bodies.{gives-met, own-front}
+use Rattle.normal_typed_decls.proofs.Bodies.{own-front}
 use Rattle.normal_typed_decls.proofs.Joined.{program-rules, sites-met}
 use Rattle.normal_variables_marked.proofs.Subtypes.{fixed, IsStatic, variables-static}
 use Rattle.normal_variables_marked.proofs.Steps.{IsReady, variable-behind}
 use Rattle.normal_variables_marked.proofs.Scopes.{main-scope, IsBodyPlace, place-tasked, place-body, q-ready, BodiesScoped, bodies-scope, BodiesLocal, bodies-local}
+use Rattle.normal_placed.proofs.Made.{among}
+use Rattle.tree_lemmas.proofs.Declared.{objects_own}
+use Rattle.normal_typed.proofs.Places.{gives-met}
 
 module _ (p : PProgram) (legal : IsLegal p) where
   abbrev T : TypeTable
@@ -101,7 +103,7 @@ module _ (p : PProgram) (legal : IsLegal p) where
 
   among-beside : (w : Word) (info : TaskInfo) → IsAmong info (running G w.name) → IsAmong info (tasks_beside G)
   among-beside w info i =
-      among-all (λ (x : TaskInfo). IsAmong x (tasks_beside G)) info (running G w.name) i
+      among (λ (x : TaskInfo). IsAmong x (tasks_beside G)) info (running G w.name) i
       (all_kept (λ (x : TaskInfo). IsAmong x (tasks_beside G)) (λ x. x.unit.0 == w.name.0) (tasks_beside G) (each-of (λ (x : TaskInfo). IsAmong x (tasks_beside G)) (tasks_beside G) (λ x j. j)))
 
   module _ (s : Scope) (w : Word) (objects : PDecls) (its : PBody) (sp : Span) (met : AllByRecursion IsMet (decl_sites s (DTaskBody w objects its sp))) (placed : IsPlaced L (task_names_of p) (first p legal) s) (whole : EveryDecls (own_rules (plain_name p)) objects)
@@ -136,7 +138,7 @@ module _ (p : PProgram) (legal : IsLegal p) where
         begins : Alike (plain_name p) (in_body s w) (in_body t v)
         begins = record {
           names = record { types = (b.bodied.formed.same s placed).types; things = (b.bodied.formed.same s placed).things };
-          own = λ id o. ap (λ es. entry_named es id) (sym (objects-own objects (in_body s w))) ∙ scope.alike.own id o ∙ ap (λ es. entry_named es id) (objects-own inner (in_body t v));
+          own = λ id o. ap (λ es. entry_named es id) (sym (objects_own objects (in_body s w))) ∙ scope.alike.own id o ∙ ap (λ es. entry_named es id) (objects_own inner (in_body t v));
           main = refl;
         }
 
@@ -149,7 +151,7 @@ module _ (p : PProgram) (legal : IsLegal p) where
         stmts-met : AllMetBut (body_sites d (normal_body (unit_for G w.name) its))
         stmts-met =
             body-met (unit_for G w.name) (plain_name p) vars (own_entries (meaning s w.name)) (known-kinds p (rules p legal) legal.placed legal.small) (tt, (c, tt)) d 1 its
-            (scope, objects-own objects (in_body s w)) asked.0 (begins-refl vars)
+            (scope, objects_own objects (in_body s w)) asked.0 (begins-refl vars)
 
     -- the copies, and what stands behind them
     copies-met : (infos : List TaskInfo) → ((info : TaskInfo) → IsAmong info infos → IsAmong info (running G w.name)) → (rest : List PDecl) → ((t : Scope) → IsBodyPlace p legal t → AllMetBut (decls_sites t (decls_of rest))) →

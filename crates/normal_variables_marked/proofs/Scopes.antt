@@ -56,11 +56,12 @@ use Rattle.normal_scopes.proofs.Names.{variable-new, variable-task}
 use Rattle.normal_scopes.proofs.Formed.{tasks-other}
 use Rattle.normal_scopes.proofs.Outer.{AreLocal, IsOuter, outer-valued, outer-marked, objects-stay, objects-local}
 use Rattle.normal_scopes.proofs.Bodies.{objects-front}
-use Rattle.normal_scopes.proofs.Main.{g, old, last, first, rules, every, named, units, last-placed, first-formed, varied, tasked, made, made-means, list-after}
+use Rattle.normal_scopes.proofs.Main.{g, old, last, first, rules, every, named, units, last-placed, first-formed, varied, tasked, made, made-means}
 use Rattle.normal_scopes.proofs.Starts.{IsBegun, main-begun, IsBodied, bodied-body, bodied-tasked, BodiesBegun, bodies-begun}
 use Rattle.normal_variables_marked.proofs.Static.{names-fewer, types-fewer}
 use Rattle.normal_variables_marked.proofs.Subtypes.{fixed, variables-known}
 use Rattle.normal_variables_marked.proofs.Steps.{IsReady, IsSeenVariable, seen-later, variable-of, AreKnown, list-ready, variables-seen, objects-are-decls}
+use Rattle.tree_lemmas.proofs.Declared.{decls_joined}
 
 -- a test of two numbers, the other way round
 flip : (a b : ℕ) → (b == a) ≡ false → (a == b) ≡ false
@@ -116,8 +117,8 @@ module _ (p : PProgram) (legal : IsLegal p) where
   made-keeps : Keeps anybody (varied p legal).types (made p legal).types
   made-keeps =
       subst (λ (s : Scope). Keeps anybody (varied p legal).types s.types)
-      (sym (front-after (first_decls [] p.decls) (decls_of (main_variables G ++ tasks ++ bodies)) (first_scope p.name) ∙ list-after (main_variables G ++ tasks) bodies (first p legal)
-      ∙ ap (λ s. after_decls s (decls_of bodies)) (list-after (main_variables G) tasks (first p legal)) ∙ sym (list-after tasks bodies (varied p legal))))
+      (sym (front-after (first_decls [] p.decls) (decls_of (main_variables G ++ tasks ++ bodies)) (first_scope p.name) ∙ decls_joined (main_variables G ++ tasks) bodies (first p legal)
+      ∙ ap (λ s. after_decls s (decls_of bodies)) (decls_joined (main_variables G) tasks (first p legal)) ∙ sym (decls_joined tasks bodies (varied p legal))))
       (keeps-decls {old = anybody} (decls_of (tasks ++ bodies)) (varied p legal) (are-added anybody (tasks ++ bodies) (all_joined (IsAdded anybody) tasks bodies (all_weaker _ _ _ (task-added anybody) (tasks-only G)) (all_weaker _ _ _ (task-added anybody) (bodies-only G)))))
 
   -- the name of a variable of main means the same behind all declarations

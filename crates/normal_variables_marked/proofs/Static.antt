@@ -1,6 +1,6 @@
 -- A static subtype of plain names has only names with a value or a mark in the table, which no inner scope hides.
-use Rattle.std.proofs.Common.{◌≡◌, ℕ, Bool, true, false, ◌||◌, ◌&&◌, IfSome, is_some, Option, Some, None, refl, sym, ap, ◌∙◌, true≢false}
-use Rattle.common_lemmas.proofs.Truth.{and_left, and_right}
+use Rattle.std.proofs.Common.{◌≡◌, ℕ, Bool, true, false, ◌||◌, ◌&&◌, IfSome, is_some, Option, Some, None, sym, ap, ◌∙◌, true≢false}
+use Rattle.common_lemmas.proofs.Truth.{and_left, and_right, or_true}
 use Rattle.ada_tree.specs.declared.naming.NameId.{NameId}
 use Rattle.ada_tree.specs.TypeTable.{TypeTable}
 use Rattle.ada_tree.specs.Attributes.{attribute_of, is_bound}
@@ -11,10 +11,6 @@ use Rattle.alike_scopes.specs.Old.{IsOldExpr, IsOldBounds, IsOldSubind}
 use Rattle.alike_scopes.specs.Alike.{SameTypes, SameNames}
 use Rattle.legal_types.proofs.StaticParts.{AreBounds}
 
-or-true : (b : Bool) → (b || true) ≡ true
-or-true true = refl
-or-true false = refl
-
 module _ (T : TypeTable) (plain : ℕ → Bool) where
   -- a plain name that has a value or a mark
   abbrev pub fixed_name : ℕ → Bool
@@ -24,7 +20,7 @@ module _ (T : TypeTable) (plain : ℕ → Bool) where
   value-fixed id o v = ap (λ b. b && (is_some (value_named T id) || is_some (mark_named T id))) o ∙ ap (λ b. b || is_some (mark_named T id)) v
 
   pub mark-fixed : (id : NameId) → plain id.0 ≡ true → is_some (mark_named T id) ≡ true → fixed_name id.0 ≡ true
-  mark-fixed id o m = ap (λ b. b && (is_some (value_named T id) || is_some (mark_named T id))) o ∙ ap (λ b. is_some (value_named T id) || b) m ∙ or-true (is_some (value_named T id))
+  mark-fixed id o m = ap (λ b. b && (is_some (value_named T id) || is_some (mark_named T id))) o ∙ ap (λ b. is_some (value_named T id) || b) m ∙ or_true (is_some (value_named T id))
 
   expr-fixed : (e : PExpr) → IsOldExpr plain e → is_static T e ≡ true → IsOldExpr fixed_name e
   expr-fixed (EInteger n s) o h = tt

@@ -9,7 +9,6 @@ use Rattle.ada_tree.specs.declared.expressions.Expr.{Expr}
 use Rattle.ada_tree.specs.declared.shortage.Memory.{Memory}
 use Rattle.ada_expr_copy.specs.Parts.{OkWith}
 use Rattle.task_model.specs.Frames.{in_front}
-use Rattle.normal_pieces.proofs.Fronts.{in_front-nil}
 use Rattle.ada_tree.specs.PlainExpr.{PExpr, EBinary, plain_expr}
 use Rattle.ada_tree.specs.PlainStmt.{PStmts, SIf, SRaise, absent, alts_of, arm, arm_then, no_arm, PAlt, alternative, plain_alt, plain_stmt}
 use Rattle.normal_model.specs.Making.{one}
@@ -17,6 +16,7 @@ use Rattle.normal_model.specs.Ranges.{word_at}
 use Rattle.normal_model.specs.Waits.{all_guards, closed_test, guard_then, none_held, not_held}
 use Rattle.normal_waits.specs.inner.Closing.{closed_from, guard_or, guards_in}
 use Rattle.common_lemmas.proofs.Lists.{rest_at}
+use Rattle.normal_model.proofs.WalkLemmas.{in_front-nil}
 
 -- ---- the guards
 

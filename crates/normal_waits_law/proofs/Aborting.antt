@@ -43,13 +43,7 @@ use Rattle.normal_law.proofs.Floors.{normal-translates}
 use Rattle.normal_law.proofs.Declared.{begun-subtypes, subtypes-fit, kept-length}
 use Rattle.normal_callees_law.specs.Callees.{MeetsCallee, meets_task, meets_raise, chosen_with, the_chosen}
 use Rattle.normal_callees_law.proofs.Choosing.{callee-comes}
-use Rattle.normal_waits_law.proofs.Alternatives.{declared-length}
-
-declared-append : (g : Setting) (s : Span) (xs ys : List PSubind) (k : ℕ) → variables_declared g s (xs ++ ys) k ≡ variables_declared g s xs k ++ variables_declared g s ys (k + length xs)
-declared-append g s [] ys k = let e : k ≡ k + 0 = omega arith in ap (variables_declared g s ys) e
-declared-append g s (y ∷ xs) ys k =
-    let e : (k + 1) + length xs ≡ k + length (y ∷ xs) = omega arith in
-    ap (λ l. variables_declared g s (y ∷ []) k ++ l) (declared-append g s xs ys (k + 1) ∙ ap (λ j. variables_declared g s xs (k + 1) ++ variables_declared g s ys j) e)
+use Rattle.normal_model.proofs.Declared.{declared_length, declared_joined}
 
 module _ (w : Rewritten) (made : AreMade w.programs) (added : Added w.programs w.programs.original) (declared : AreDeclared w added) (m : ℕ) (i : List ℤ) (out : List ℕ)
     (p p' : Around) (o o' : List PFrame) (V : Variables) where
@@ -90,12 +84,12 @@ module _ (w : Rewritten) (made : AreMade w.programs) (added : Added w.programs w
     length-first = length-map (callee_kept g s c) (λ k. k.subtype)
 
     length-vars : length vars1 ≡ n + length (callee_kept g s c)
-    length-vars = length-append vars (variables_declared g s first n) ∙ ap (λ k. n + k) (declared-length g s first n ∙ length-first)
+    length-vars = length-append vars (variables_declared g s first n) ∙ ap (λ k. n + k) (declared_length g s first n ∙ length-first)
 
     -- they are those of the names that are left, where these begin behind the first
     vars-split : more_variables (unit_of w) s (abort_subtypes g s (c ∷ cs)) vars ≡ more_variables (unit_of w) s (abort_subtypes g s cs) vars1
     vars-split =
-        ap (λ l. vars ++ l) (declared-append g s first (abort_subtypes g s cs) n) ∙ sym (append_assoc vars (variables_declared g s first n) (variables_declared g s (abort_subtypes g s cs) (n + length first)))
+        ap (λ l. vars ++ l) (declared_joined g s first (abort_subtypes g s cs) n) ∙ sym (append_assoc vars (variables_declared g s first n) (variables_declared g s (abort_subtypes g s cs) (n + length first)))
         ∙ ap (λ k. vars1 ++ variables_declared g s (abort_subtypes g s cs) k) (ap (λ k. n + k) length-first ∙ sym length-vars)
 
     -- the names that are left stand in an image of their own

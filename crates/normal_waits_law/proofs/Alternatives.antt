@@ -1,5 +1,5 @@
 -- The alternatives of a selective wait, one and then all of them: guards and indexes go to their variables, alternative by alternative, and the same alternatives are open.
-use Rattle.std.proofs.Common.{◌≡◌, ℕ, ◌+◌, ◌≤◌, ℤ, Bool, true, false, if◌then◌else◌, List, [], ◌∷◌, length, Option, Some, None, option_map, Result, Ok, Err, refl, sym, ap, subst, ◌∙◌, arith, suc, ◌++◌, length-append}
+use Rattle.std.proofs.Common.{◌≡◌, ℕ, ◌+◌, ◌≤◌, ℤ, Bool, true, false, if◌then◌else◌, List, [], ◌∷◌, length, Option, Some, None, option_map, Result, Ok, Err, refl, sym, ap, subst, ◌∙◌, arith, ◌++◌, length-append}
 use Rattle.std.specs.Prelude.{is_some}
 use Rattle.std.proofs.lemmas.List.{length-map}
 use Rattle.ada_tree.specs.declared.naming.Span.{Span}
@@ -46,6 +46,7 @@ use Rattle.normal_callees_law.proofs.Choosing.{one-due, reaches-behind}
 use Rattle.normal_waits_law.proofs.Indexes.{SameBelow, RaisesAt, MeetsIndex, index_made, index_raises, index-comes, values-made}
 use Rattle.normal_model.specs.Variables.{variables_declared}
 use Rattle.normal_model.proofs.WalkLemmas.{in_front-joined}
+use Rattle.normal_model.proofs.Declared.{declared_length}
 
 -- open alternatives that go together: they accept the same member with the same formals, or are the same delay or terminate, with images of the statements
 pub data OpenAlike (w : Rewritten) : Open → Open → Type 0 where
@@ -89,10 +90,6 @@ pub data AreTold (h : Setting) (W : Variables) : List PExpr → List Open → Ty
   none_told : AreTold h W [] []
   open_told : (e : PExpr) (v : Value) (op : Open) (es : List PExpr) (ops : List Open) → evaluated h.types W e ≡ Ok v → is_true_value v ≡ true → AreTold h W es ops → AreTold h W (e ∷ es) (op ∷ ops)
   closed_told : (e : PExpr) (v : Value) (es : List PExpr) (ops : List Open) → evaluated h.types W e ≡ Ok v → is_true_value v ≡ false → AreTold h W es ops → AreTold h W (e ∷ es) ops
-
-pub declared-length : (g : Setting) (s : Span) (xs : List PSubind) (k : ℕ) → length (variables_declared g s xs k) ≡ length xs
-declared-length g s [] k = refl
-declared-length g s (y ∷ ys) k = ap suc (declared-length g s ys (k + 1))
 
 begins-length : {A : Type 0} {xs ys : List A} → Begins xs ys → length xs ≤ length ys
 begins-length {xs = xs} {ys = ys} c =
@@ -437,7 +434,7 @@ module _ (w : Rewritten) (made : AreMade w.programs) (added : Added w.programs w
   later-is : (guard : Option PExpr) (what : PAltKind) (s : Span) (t : List PDecl) → length (r.opened t (alternative guard what s)) ≡ behind_guard guard (length t) + length (kind_kept (unit_of w) s what)
   later-is guard what s t =
       length-append t (variables_declared g s (alternative_subtypes (unit_of w) (alternative guard what s)) (length t))
-      ∙ ap (λ k. length t + k) (declared-length g s (alternative_subtypes (unit_of w) (alternative guard what s)) (length t)) ∙ by guard
+      ∙ ap (λ k. length t + k) (declared_length g s (alternative_subtypes (unit_of w) (alternative guard what s)) (length t)) ∙ by guard
     where
       kept : length (kept_subtypes (kind_kept (unit_of w) s what)) ≡ length (kind_kept (unit_of w) s what)
       kept = length-map (kind_kept (unit_of w) s what) (λ a. a.subtype)

@@ -13,7 +13,7 @@ use Rattle.ada_parser.specs.Reads.{HasItems}
 use Rattle.ada_parser.specs.Exactly.{IsRead}
 use Rattle.ada_parser.proofs.Exact.{texts_exactly}
 use Rattle.read_normal.specs.Example.{calling_text, calling}
-use Rattle.read_normal.specs.Laws.{IsLegalText}
+use Rattle.read_normal.specs.Laws.{IsOriginalText}
 use Rattle.read_normal.proofs.Computing.{all_items, has-items}
 
 items : HasItems calling_text record { bytes = calling_text; names = calling.names } (all_items calling_text calling.names)
@@ -28,5 +28,5 @@ legal : Legal calling (types_in calling) (numbers_of calling) Original
 unfolding digits
 legal = record { type_rules = refl; check_rules = refl; its_types = refl; its_numbers = refl }
 
-pub calling-is-legal : IsLegalText calling_text calling
+pub calling-is-legal : IsOriginalText calling_text calling
 calling-is-legal = record { reads = read.reads; short = lit≤ tt; legal = legal }

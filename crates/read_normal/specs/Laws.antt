@@ -15,26 +15,26 @@ use Rattle.debug_files.specs.Wanting.{text_limit}
 use Rattle.read_normal.specs.Example.{calling_text, calling}
 
 -- The bytes are the text of this program, they are no more than `print` and `run` read, and the program is a legal original.
-pub record IsLegalText (bytes : List ℕ) (p : PProgram) : Type 0 where
+pub record IsOriginalText (bytes : List ℕ) (p : PProgram) : Type 0 where
   pub reads : Reads bytes p
   pub short : length bytes ≤ text_limit
   pub legal : Legal p (types_in p) (numbers_of p) Original
 
 -- Nothing more is asked of the program: it is as the law of legal programs asks.
 abbrev pub TextIsLegal : Type 0
-TextIsLegal = (bytes : List ℕ) (p : PProgram) → IsLegalText bytes p → IsLegal p
+TextIsLegal = (bytes : List ℕ) (p : PProgram) → IsOriginalText bytes p → IsLegal p
 
 -- So what is made from it is a normal form of it.
 abbrev pub TextIsNormal : Type 0
-TextIsNormal = (bytes : List ℕ) (p : PProgram) → IsLegalText bytes p → (inputs : List (List ℤ)) → IsNormalForm (normal_rewrite p inputs)
+TextIsNormal = (bytes : List ℕ) (p : PProgram) → IsOriginalText bytes p → (inputs : List (List ℤ)) → IsNormalForm (normal_rewrite p inputs)
 
 -- And it shows the same as its normal form, whatever the inputs.
 abbrev pub TextShowsSame : Type 0
 TextShowsSame =
-    (bytes : List ℕ) (p : PProgram) → IsLegalText bytes p → (inputs : List (List ℤ)) →
+    (bytes : List ℕ) (p : PProgram) → IsOriginalText bytes p → (inputs : List (List ℤ)) →
     ShowSame (opened (record { program = p; types = types_in p; inputs = inputs }) (numbers_of p))
     (opened (record { program = made_for p; types = types_in (made_for p); inputs = inputs }) (numbers_made p (types_in p) (numbers_of p)))
 
 -- A text with a task and a call is one.
 abbrev pub IsMet : Type 0
-IsMet = IsLegalText calling_text calling
+IsMet = IsOriginalText calling_text calling

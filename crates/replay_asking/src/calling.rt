@@ -17,11 +17,11 @@ use ada_stmt_copy::building::{arm_of, call_of, conditional_of, timed_of};
 use ada_tree::{Arm, Call, Expr, Memory, NameId, Span, Stmt, Word};
 use replay_making::{arms_before, before};
 use std::alloc::Global;
-use syn_event::Numbers;
+use task_links::TaskNames;
 use tree_making::{one_arm, one_stmt};
 
 /// The first task of that name.
-pub fn task_called(numbers: &Numbers, name: NameId) -> u32
+pub fn task_called(numbers: &TaskNames, name: NameId) -> u32
     ensures { result ≡ task_called numbers.now name }
 {
     match numbers.task_named(name) {
@@ -42,10 +42,10 @@ fn entry_called(x: &Speaker, call: &Call) -> u32
 }
 
 // Whether an entry is a family.
-fn is_family(numbers: &Numbers, entry: u32) -> bool
+fn is_family(numbers: &TaskNames, entry: u32) -> bool
     ensures { result ≡ is_family numbers.now entry }
 {
-    match numbers.entry(entry) {
+    match numbers.numbers().entry(entry) {
         Some(info) => info.family,
         None => false,
     }

@@ -21,7 +21,7 @@ use ada_stmt_copy::building::{accept_of, accepting_of, arm_of, block_of, body_of
 use ada_tree::{Accept, Expr, Handler, Memory, NameId, Span, Stmt};
 use replay_making::{before, joined};
 use std::alloc::Global;
-use syn_event::Numbers;
+use task_links::TaskNames;
 use tree_making::{
     handler_others, one_arm, one_handler, one_stmt, reraise_stmt, some_stmts, take_maybe,
 };
@@ -89,7 +89,7 @@ pub fn saying_so(
 }
 
 // The entry of that name that a task has.
-pub(crate) fn entry_of(numbers: &Numbers, task: u32, name: NameId) -> u32
+pub(crate) fn entry_of(numbers: &TaskNames, task: u32, name: NameId) -> u32
     ensures { result ≡ entry_of numbers.now task name }
 {
     match numbers.entry_named(task, name) {

@@ -1,7 +1,7 @@
 -- The normal form of an original has the form that the replay text asks of it.
 use Rattle.std.proofs.Common.{ℕ, ◌≤◌, List, [], ◌++◌, flat_map, sym, subst, arith}
 use Rattle.std.specs.List.{AllByRecursion}
-use Rattle.common_lemmas.proofs.Lists.{all_front, all_back, all_joined, all_weaker}
+use Rattle.common_lemmas.proofs.Lists.{all_front, all_back, all_joined, all_weaker, all_first, all_second}
 use Rattle.ada_tree.specs.TypeTable.{TypeTable}
 use Rattle.ada_tree.specs.PlainStmt.{PStmt, SNull, SAssign, SDelay, SExit, SRaise, SAbort, SCall, SAccept, SWait, SConditional, STimed, SPut, SPutLine, SNewLine, SGet, SIf, SCase, SBlock, SLoop, accepting, PBody}
 use Rattle.ada_tree.specs.PlainDecl.{PDecl, DNumber, DObject, DEnumeration, DArray, DSubtype, DException, DIntIo, DPragma, DTask, DTaskBody, PDecls, no_decl, decl_then}
@@ -19,7 +19,6 @@ use Rattle.task_model.specs.Setting.{Setting}
 use Rattle.asked_stmts.specs.Asked.{AskedBody}
 use Rattle.asked_stmts.specs.Kinds.{check_asks}
 use Rattle.asked_stmts.proofs.Checked.{checked_asked}
-use Rattle.asked_stmts.proofs.Lists.{all_first, all_second}
 use Rattle.normal_model.specs.Waits.{Unit}
 use Rattle.normal_model.specs.NormalTree.{unit_for, bodies_of, main_unit, running, normal_tree}
 use Rattle.normal_model.specs.NormalStmts.{normal_body, unit_variables}

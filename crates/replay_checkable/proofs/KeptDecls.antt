@@ -2,12 +2,13 @@
 use Rattle.std.proofs.Common.{◌≡◌, ℕ, ◌==◌, Bool, true, false, if◌then◌else◌, List, [], ◌∷◌, ◌++◌, map, flat_map, Option, Some, None, IfSome, All, is_some, arith}
 use Rattle.std.specs.List.{AllByRecursion, filter}
 use Rattle.std.proofs.lemmas.List.Elements.{recursion_from_All, All-from_recursion}
-use Rattle.common_lemmas.proofs.Lists.{all_front, all_back, all_joined}
+use Rattle.common_lemmas.proofs.Lists.{all_front, all_back, all_joined, all_first, all_second, all_third, all_unflat}
 use Rattle.ada_tree.specs.declared.naming.Span.{Span}
 use Rattle.ada_tree.specs.declared.naming.Word.{Word}
 use Rattle.ada_tree.specs.PlainExpr.{PExpr, PDrange}
 use Rattle.ada_tree.specs.PlainStmt.{PBody}
 use Rattle.ada_tree.specs.PlainDecl.{PShape, OPlain, OArray, PInit, IOne, IList, IOthers, PPriority, PEntry, PTask, PDecl, DNumber, DObject, DEnumeration, DArray, DSubtype, DException, DIntIo, DPragma, DTask, DTaskBody, PDecls, no_decl, decl_then, decls_of}
+use Rattle.ada_tree.specs.WellPlaced.{AreObjects}
 use Rattle.ada_tree.specs.Every.{Rules, EveryExpr, EveryNames, EveryShape, EveryInit, EveryDrange, EveryEntry, EveryPriority, EveryDecl, EveryDecls, EveryBody}
 use Rattle.syn_event.specs.declared.numbering.Mode.TheVariants.{Original}
 use Rattle.syn_event.specs.declared.numbering.TaskInfo.{TaskInfo}
@@ -20,7 +21,6 @@ use Rattle.legal_sites.specs.Met.{IsCheckMet}
 use Rattle.task_model.specs.Setting.{Setting}
 use Rattle.asked_stmts.specs.Asked.{AskedBody}
 use Rattle.asked_stmts.specs.Kinds.{place_asks, check_asks, both}
-use Rattle.asked_stmts.proofs.Lists.{all_first, all_second, all_third, all_unflat}
 use Rattle.asked_stmts.proofs.Placed.{placed_asked, asked_placed}
 use Rattle.asked_stmts.proofs.Checked.{checked_asked}
 use Rattle.asked_stmts.proofs.Together.{both_asked}
@@ -40,10 +40,6 @@ use Rattle.replay_checkable.proofs.Kept.{rules_of, words-kept, formals-kept, exp
 use Rattle.replay_checkable.proofs.KeptPieces.{KeepsNames, a, b, R, kept-pieces}
 
 -- ---- lists
-
-pub every-listed : (rules : Rules) (ds : PDecls) → EveryDecls rules ds → AllByRecursion (EveryDecl rules) (decl_list ds)
-every-listed rules no_decl h = tt
-every-listed rules (decl_then x ds) h = (h.0, every-listed rules ds h.1)
 
 every-of : (rules : Rules) (xs : List PDecl) → AllByRecursion (EveryDecl rules) xs → EveryDecls rules (decls_of xs)
 every-of rules [] h = tt
@@ -79,11 +75,6 @@ kept-among f x (y ∷ ys) i = go (f y) i (kept-among f x ys)
 -- a task but for its name
 abbrev pub HasRest : (ℕ → Bool) → PTask → Type 0
 HasRest kept t = All (EveryEntry (rules_of kept)) t.entries × All (EveryPriority (rules_of kept)) t.priorities
-
--- an object
-abbrev pub IsObject : PDecl → Type 0
-IsObject (DObject ws k x i s) = Prim.Unit {0}
-IsObject _ = ⊥
 
 module _ (own kept : ℕ → Bool) (old : (n : ℕ) → own n ≡ true → kept n ≡ true) (names : List (List ℕ)) where
   abbrev r : Rules
@@ -211,21 +202,21 @@ module _ (own kept : ℕ → Bool) (old : (n : ℕ) → own n ≡ true → kept 
       ((omega arith, expr-kept own kept old names c 2 2 e (omega arith) h.0.1 (all_front M (check.decl_sites c ids (DPragma e s)) (check.decls_sites c ids ds) m)), firsts-kept ids ds kinds c h.1 (all_back M (check.decl_sites c ids (DPragma e s)) (check.decls_sites c ids ds) m))
 
   -- the objects of a body
-  pub objects-kept : (ds : PDecls) (c : CheckScope) → EveryDecls r ds → AllByRecursion IsObject (decl_list ds) → At (check.own_sites c ds) → EveryDecls r' ds
+  pub objects-kept : (ds : PDecls) (c : CheckScope) → EveryDecls r ds → AreObjects ds → At (check.own_sites c ds) → EveryDecls r' ds
   objects-kept no_decl c h o m = tt
   objects-kept (decl_then (DObject ws k x i s) ds) c h o m = (
     object-kept c ws k x i s h.0 (all_front M (check.object_sites c ws x i) (check.own_sites (check.after_own_object c (DObject ws k x i s)) ds) m),
-    objects-kept ds (check.after_own_object c (DObject ws k x i s)) h.1 o.1 (all_back M (check.object_sites c ws x i) (check.own_sites (check.after_own_object c (DObject ws k x i s)) ds) m),
+    objects-kept ds (check.after_own_object c (DObject ws k x i s)) h.1 o (all_back M (check.object_sites c ws x i) (check.own_sites (check.after_own_object c (DObject ws k x i s)) ds) m),
   )
-  objects-kept (decl_then (DTask t s) ds) c h o m = absurd o.0
-  objects-kept (decl_then (DTaskBody w objects its s) ds) c h o m = absurd o.0
-  objects-kept (decl_then (DNumber w e s) ds) c h o m = absurd o.0
-  objects-kept (decl_then (DEnumeration w ws s) ds) c h o m = absurd o.0
-  objects-kept (decl_then (DArray w x y s) ds) c h o m = absurd o.0
-  objects-kept (decl_then (DSubtype w x s) ds) c h o m = absurd o.0
-  objects-kept (decl_then (DException ws s) ds) c h o m = absurd o.0
-  objects-kept (decl_then (DIntIo w s) ds) c h o m = absurd o.0
-  objects-kept (decl_then (DPragma e s) ds) c h o m = absurd o.0
+  objects-kept (decl_then (DTask t s) ds) c h o m = absurd o
+  objects-kept (decl_then (DTaskBody w objects its s) ds) c h o m = absurd o
+  objects-kept (decl_then (DNumber w e s) ds) c h o m = absurd o
+  objects-kept (decl_then (DEnumeration w ws s) ds) c h o m = absurd o
+  objects-kept (decl_then (DArray w x y s) ds) c h o m = absurd o
+  objects-kept (decl_then (DSubtype w x s) ds) c h o m = absurd o
+  objects-kept (decl_then (DException ws s) ds) c h o m = absurd o
+  objects-kept (decl_then (DIntIo w s) ds) c h o m = absurd o
+  objects-kept (decl_then (DPragma e s) ds) c h o m = absurd o
 
 -- ---- units, tasks and copies of bodies
 
@@ -265,7 +256,7 @@ module _ (g : Setting) (own kept : ℕ → Bool) (names : List (List ℕ)) where
 
   -- each copy of a body
   pub copies-kept : (ids : List ℕ) (w : Word) (objects : PDecls) (its : PBody) (s : Span) (c : CheckScope) → KeepsNames g own kept (unit_variables (unit_for g w.name) its) → AllByRecursion (EveryDecl (rules_of kept)) (unit_variables (unit_for g w.name) its) →
-      ((info : TaskInfo) → IsAmong info (running g w.name) → AskedBody (callee_asks g) tt 1 its) → EveryDecl (own_rules own) (DTaskBody w objects its s) → AllByRecursion IsObject (decl_list objects) → AllByRecursion (IsCheckMet Original names) (check.decl_sites c ids (DTaskBody w objects its s)) →
+      ((info : TaskInfo) → IsAmong info (running g w.name) → AskedBody (callee_asks g) tt 1 its) → EveryDecl (own_rules own) (DTaskBody w objects its s) → AreObjects objects → AllByRecursion (IsCheckMet Original names) (check.decl_sites c ids (DTaskBody w objects its s)) →
       AllByRecursion (EveryDecl (rules_of kept)) (bodies_of g (DTaskBody w objects its s))
   copies-kept ids w objects its s c known vars calls every objs m =
       let ci : CheckScope = check.in_body c w in

@@ -1,10 +1,10 @@
 -- The names that a normal form has are none of those to which its replay text gives a meaning.
-use Rattle.std.proofs.Common.{◌≡◌, ℕ, zero, suc, ◌<◌, ◌≤◌, ◌&&◌, ◌||◌, not, nat_le, nat_eq, Bool, true, false, List, [], ◌∷◌, length, codes, unwrap_or, refl, sym, ap, ap₂, subst, ◌∙◌, arith}
+use Rattle.std.proofs.Common.{◌≡◌, ℕ, suc, ◌<◌, ◌&&◌, ◌||◌, not, nat_eq, Bool, true, false, List, [], ◌∷◌, length, codes, unwrap_or, refl, sym, ap, ap₂, ◌∙◌, arith}
 use Rattle.std.specs.List.{AllByRecursion, list_any, starts_with}
 use Rattle.std.specs.Str.{bytes_eq}
 use Rattle.std.proofs.lemmas.Slice.Eq.{bytes_eq-Decides}
 use Rattle.common_lemmas.proofs.Truth.{clash}
-use Rattle.common_lemmas.proofs.Numbers.{lt_true, le_is, le_is_not}
+use Rattle.common_lemmas.proofs.Numbers.{lt_true}
 use Rattle.ada_tree.specs.declared.naming.NameId.{NameId}
 use Rattle.ada_tree.specs.TypeTable.{TypeTable}
 use Rattle.ada_tree.specs.PlainProgram.{PProgram}
@@ -12,15 +12,16 @@ use Rattle.syn_event.specs.Numbering.{Numbering}
 use Rattle.syn_event.specs.Numbered.{is_added_name}
 use Rattle.syn_event.specs.Units.{text_of}
 use Rattle.task_model.specs.Setting.{Setting}
-use Rattle.normal_model.specs.Names.{with_members, with_variables, variable_text, normal_names, variable_name}
+use Rattle.normal_model.specs.Names.{with_members, variable_text, normal_names, variable_name}
 use Rattle.normal_model.specs.NormalTree.{variables_needed, normal_tree}
-use Rattle.normal_model.proofs.VariablesLemmas.{Begins, begins-refl, begins-trans}
+use Rattle.normal_model.proofs.VariablesLemmas.{Begins}
 use Rattle.normal_types.specs.Own.{own_name}
 use Rattle.normal_types.specs.Laws.{setting_of}
-use Rattle.normal_types.proofs.Names.{fold-begins, variable-there}
+use Rattle.normal_types.proofs.Names.{variable-there}
 use Rattle.normal_has_numbers.proofs.Named.{text-longer, own-within, own-not-added, begins-within}
 use Rattle.normal_has_numbers.proofs.TaskNames.{normal-begins}
 use Rattle.replay_checked.specs.Around.{meant_texts, kept_name}
+use Rattle.normal_placed.proofs.Names.{variables-more}
 
 -- ---- texts
 
@@ -46,15 +47,6 @@ variable-unmeant k = refl
 pub kept-by : (q : PProgram) (id : NameId) → id.0 < length q.names → list_any (bytes_eq (text_of q.names id)) meant_texts ≡ false → kept_name q id.0 ≡ true
 kept-by q id l h = ap₂ (λ (a b : Bool). a && not b) (lt_true id.0 (length q.names) l) h
 
--- the names with more variables begin with those with fewer
-names-more : (ts : List (List ℕ)) (n m : ℕ) → n ≤ m → Begins (with_variables ts n) (with_variables ts m)
-names-more ts n zero l = let e : n ≡ zero = omega (arith, l) in subst (λ k. Begins (with_variables ts n) (with_variables ts k)) e (begins-refl (with_variables ts n))
-names-more ts n (suc m) l = by_test (nat_le n m) refl (names-more ts n m)
-  where
-    by_test : (b : Bool) → nat_le n m ≡ b → (n ≤ m → Begins (with_variables ts n) (with_variables ts m)) → Begins (with_variables ts n) (with_variables ts (suc m))
-    by_test true e before = begins-trans (before (le_is n m e)) (fold-begins (variable_text m ∷ []) (with_variables ts m))
-    by_test false e before = let over : m < n = le_is_not n m e in let last : n ≡ suc m = omega (arith, over, l) in subst (λ k. Begins (with_variables ts n) (with_variables ts k)) last (begins-refl (with_variables ts n))
-
 module _ (p : PProgram) (types : TypeTable) (numbers : Numbering) where
   abbrev n : PProgram
   n = normal_tree p types numbers
@@ -77,7 +69,7 @@ module _ (p : PProgram) (types : TypeTable) (numbers : Numbering) where
   -- the variables
   pub variable-kept : (k : ℕ) → k < variables_needed g → kept_name n (variable_name g k).0 ≡ true
   variable-kept k l =
-      let b : Begins (normal_names g (suc k)) (normal_names g (variables_needed g)) = names-more (with_members g) (suc k) (variables_needed g) (omega (arith, l)) in
+      let b : Begins (normal_names g (suc k)) (normal_names g (variables_needed g)) = variables-more (with_members g) (suc k) (variables_needed g) (omega (arith, l)) in
       let within : (variable_name g k).0 < length (normal_names g (suc k)) = (variable-there g k).1 in
       kept-by n (variable_name g k) (begins-within (normal_names g (suc k)) (normal_names g (variables_needed g)) (variable_name g k).0 b within)
       (ap (λ t. list_any (bytes_eq t) meant_texts)

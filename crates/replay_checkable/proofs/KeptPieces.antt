@@ -1,5 +1,5 @@
 -- Each piece that the normal form of an original makes has kept names, and is not too deep.
-use Rattle.std.proofs.Common.{◌≡◌, ℕ, ◌+◌, ◌≤◌, ◌<◌, ◌==◌, ℤ, pos, negsuc, unsigned_abs, Bool, true, false, if◌then◌else◌, zero, suc, List, [], ◌∷◌, length, Option, Some, None, option_map, IfSome, unwrap_or, slice_get, refl, sym, subst, arith}
+use Rattle.std.proofs.Common.{◌≡◌, ℕ, ◌+◌, ◌≤◌, ◌<◌, ◌==◌, ℤ, pos, negsuc, unsigned_abs, Bool, true, false, if◌then◌else◌, suc, List, [], ◌∷◌, length, Option, Some, None, option_map, IfSome, unwrap_or, slice_get, refl, sym, subst, arith}
 use Rattle.std.specs.List.{AllByRecursion, fold}
 use Rattle.std.specs.Ordering.{int_eq}
 use Rattle.std.proofs.lemmas.List.Elements.{recursion_from_All, All-from_recursion}
@@ -34,11 +34,12 @@ use Rattle.normal_model.specs.Making.{variable, assigned, kept_subtypes, kept_if
 use Rattle.normal_model.specs.Waits.{Unit, not_held}
 use Rattle.normal_model.specs.NormalTree.{tasks_beside}
 use Rattle.normal_model.specs.Variables.{variable_declared}
-use Rattle.normal_asked.specs.Pieces.{IsVariable, AreVariables, IsGuard, member_choice, IsAmong, first_among, later_among, IsPair, first_pair, later_pair, Pieces}
+use Rattle.normal_asked.specs.Pieces.{IsVariable, AreVariables, IsGuard, member_choice, IsAmong, IsPair, first_pair, later_pair, Pieces}
 use Rattle.normal_asked.proofs.CallVariables.{family-there, actuals-there}
 use Rattle.normal_placed.proofs.Calls.{moves}
 use Rattle.normal_placed.proofs.Depth.{depth-of, few-alternatives}
 use Rattle.normal_checked.specs.Around.{own_rules, IsBeside, callee_asks, IsLiteralOf, is_false, is_true, is_enumerated}
+use Rattle.normal_checked.proofs.Checked.{kind-among}
 use Rattle.replay_checkable.specs.inner.Depth.{depth_asks}
 use Rattle.replay_checkable.proofs.Kept.{rules_of, words-kept, formals-kept, expr-kept, choices-kept, word-kept, scheme-kept, head-kept, plain-kept}
 
@@ -173,18 +174,9 @@ module _ (u : Unit) (vars : List PDecl) (own kept : ℕ → Bool) (names : List 
   literal-kept (Some (kind.Enumeration ids)) z s n le h = (omega (arith, le), known.literals (unwrap_or (slice_get ids (unsigned_abs z)) (record { 0 = 0 })) (is_enumerated ids (unsigned_abs z) h refl))
   literal-kept (Some (kind.Array index first last part)) z s n le h = number-kept z s n le
 
-  there : (xs : List Kind) (k : ℕ) → IfSome (slice_get xs k) (λ x. IsAmong x xs)
-  there [] k = tt
-  there (x ∷ xs) zero = first_among xs
-  there (x ∷ xs) (suc k) = later (slice_get xs k) (there xs k)
-    where
-      later : (o : Option Kind) → IfSome o (λ y. IsAmong y xs) → IfSome o (λ y. IsAmong y (x ∷ xs))
-      later None h = tt
-      later (Some y) h = later_among x xs h
-
   kind-there : (o : Option PDrange) → IsThere (kind_of_index g.types o)
   kind-there None = tt
-  kind-there (Some x) = there g.types.kinds (kind_of_range g.types x)
+  kind-there (Some x) = kind-among g.types.kinds (kind_of_range g.types x)
 
   index-kept : (k : Option Kind) (o : Option ℤ) (s : Span) (n : ℕ) → n + 1 ≤ 100 → IsThere k → EveryExpr r' n (index_literal k s o)
   index-kept k None s n le h = (omega (arith, le), tt)

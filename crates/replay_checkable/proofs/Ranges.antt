@@ -31,7 +31,8 @@ use Rattle.normal_has_numbers.proofs.Extents.{extent-alike}
 use Rattle.normal_has_numbers.proofs.Listed.{IsPlain, IsOneTask, firsts, vars, tasks, bodies, first-plain, tasks-all, normal-list}
 use Rattle.replay_checked.specs.Checkable.{HasSameSize, IsSameObject, IsSameEntry, IsSameDecl}
 use Rattle.replay_checked.proofs.Along.{OnTask}
-use Rattle.replay_checkable.proofs.KeptDecls.{every-listed, flat-among}
+use Rattle.replay_checkable.proofs.KeptDecls.{flat-among}
+use Rattle.syn_event.proofs.DeclLists.{every_listed}
 
 -- ---- lists
 
@@ -176,7 +177,7 @@ ranges-same p types numbers T U form text own =
     let g : Setting = setting_of p types numbers in
     subst (AllByRecursion (IsSameDecl T U)) (sym (normal-list p types numbers))
     (all_joined (IsSameDecl T U) (firsts p types numbers) (vars p types numbers ++ tasks p types numbers ++ bodies p types numbers)
-    (plains-same old (types_in p) T U form text (firsts p types numbers) (first-plain p.decls []) (every-listed (old_names old) (first_decls [] p.decls) (first-every (old_names old) p.decls [] own)))
+    (plains-same old (types_in p) T U form text (firsts p types numbers) (first-plain p.decls []) (every_listed (old_names old) (first_decls [] p.decls) (first-every (old_names old) p.decls [] own)))
     (all_joined (IsSameDecl T U) (vars p types numbers ++ tasks p types numbers) (bodies p types numbers)
     (all_joined (IsSameDecl T U) (vars p types numbers) (tasks p types numbers) (unit-all (IsSameDecl T U) (main_unit g) (λ s x k. (tt, tt)) p.body)
     (of-tasks old (types_in p) T U form text (tasks p types numbers) (tasks-all g) (all-tasks-under g (HasSameEntries old (types_in p) T U form text) (λ name t h. h) (tasks-same old (types_in p) T U form text p.decls own))))

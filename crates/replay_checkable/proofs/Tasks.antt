@@ -3,7 +3,7 @@ use Rattle.std.proofs.Common.{◌≡◌, ℕ, ◌≤◌, ◌==◌, Bool, true, f
 use Rattle.std.specs.List.{AllByRecursion}
 use Rattle.std.proofs.lemmas.List.{length-map}
 use Rattle.std.proofs.lemmas.List.Elements.{recursion_from_All}
-use Rattle.common_lemmas.proofs.Lists.{all_front, all_back, all_joined, all_weaker}
+use Rattle.common_lemmas.proofs.Lists.{all_front, all_back, all_joined, all_weaker, all_unflat}
 use Rattle.common_lemmas.proofs.Numbers.{equal_is}
 use Rattle.event_machine.specs.declared.Event.{Event}
 use Rattle.event_machine.specs.declared.Event.TheVariants.{R, E, S, D, C, T, F, X, B, Z}
@@ -21,7 +21,6 @@ use Rattle.legal_sites.specs.Met.{IsCheckMet}
 use Rattle.control_script.specs.declared.Op.TheVariants.{Done, Join, Hold}
 use Rattle.control_script.specs.Script.{open_tasks, to_close, after_abort, operations, held, script_from, script}
 use Rattle.task_model.specs.Setting.{Setting}
-use Rattle.asked_stmts.proofs.Lists.{all_unflat}
 use Rattle.rewritten_values.specs.Values.{old_names}
 use Rattle.normal_model.specs.Names.{task_name_at}
 use Rattle.normal_model.specs.NormalTree.{normal_tree}
@@ -40,7 +39,7 @@ use Rattle.replay_checkable.proofs.Ranges.{all-tasks-under}
 
 -- ---- tasks of a normal form
 
-in-tasks : (P : PTask → Type 0) (xs : List PDecl) → AllByRecursion (OnTask P) xs → AllByRecursion P (tasks_in xs)
+pub in-tasks : (P : PTask → Type 0) (xs : List PDecl) → AllByRecursion (OnTask P) xs → AllByRecursion P (tasks_in xs)
 in-tasks P [] h = tt
 in-tasks P (DTask t s ∷ xs) h = (h.0, in-tasks P xs h.1)
 in-tasks P (DTaskBody w objects its s ∷ xs) h = in-tasks P xs h.1

@@ -9,7 +9,6 @@ use Rattle.syn_event.specs.CheckSites as check
 use Rattle.syn_event.specs.Numbering.{Numbering, owner_of}
 use Rattle.legal_sites.specs.Met.{IsCheckMet}
 use Rattle.legal_sites.proofs.Meeting.{all_check_met}
-use Rattle.asked_stmts.proofs.Lists.{all_first}
 use Rattle.normal_types.proofs.Normal.{normal_agrees}
 use Rattle.replay_model.specs.ReplayTree.{script_of}
 use Rattle.replay_texts.proofs.Rooted.{replay_agrees}
@@ -17,10 +16,12 @@ use Rattle.replay_checked.proofs.Whole.{replay_meets_checks}
 use Rattle.replay_checkable.specs.Prepared.{form_for, IsBesideMain}
 use Rattle.replay_checkable.specs.Laws.{NormalIsCheckable, ReplayTextMeets}
 use Rattle.replay_checkable.proofs.Form.{main-form, decls-form}
-use Rattle.replay_checkable.proofs.Sorted.{normal-sorted, normal-single}
+use Rattle.normal_has_numbers.proofs.Numbered.{normal-single}
+use Rattle.replay_checkable.proofs.Sorted.{normal-sorted}
 use Rattle.replay_checkable.proofs.KeptNames.{own-kept}
 use Rattle.replay_checkable.proofs.Ranges.{ranges-same}
 use Rattle.replay_checkable.proofs.Tasks.{normal-short, last-number, script-joined}
+use Rattle.common_lemmas.proofs.Lists.{all_first}
 
 pub normal_is_checkable : NormalIsCheckable
 normal_is_checkable p events h =

@@ -25,13 +25,14 @@ use Rattle.normal_model.specs.Waits.{Unit as Part}
 use Rattle.normal_model.specs.NormalTree.{unit_for}
 use Rattle.normal_has_numbers.proofs.Listed.{IsPlain, IsOneTask, IsOneBody}
 use Rattle.normal_checked.proofs.Places.{met-deep}
-use Rattle.normal_checked.proofs.MainScopes.{IsFrameOf}
+use Rattle.normal_checked.proofs.MainScopes.{IsFrameOf, frame-refl, frame-trans}
 use Rattle.replay_model.specs.Names.{kind_text, argument_text, index_text, replay_names}
 use Rattle.replay_model.specs.ReplayStmts.{replay_body}
 use Rattle.replay_model.specs.ReplayTree.{is_added_object, behind_own, permit_declared, replay_decl}
 use Rattle.replay_asked.proofs.Walk.{replay-keeps}
 use Rattle.replay_checked.specs.Around.{kept_names, form_asks, IsAsking}
-use Rattle.replay_checked.specs.Checkable.{IsSingle, IsOtherThanTruth, HasForm, IsSameObject, IsSameDecl, IsShortEntry}
+use Rattle.normal_has_numbers.specs.Single.{IsSingle}
+use Rattle.replay_checked.specs.Checkable.{IsOtherThanTruth, HasForm, IsSameObject, IsSameDecl, IsShortEntry}
 use Rattle.replay_checked.proofs.Names.{IsDoubled}
 use Rattle.replay_checked.proofs.Stays.{IsFormMet, IsTextMet, UsesStay}
 use Rattle.replay_checked.proofs.Asked.{H, R, a, b, pieces}
@@ -40,7 +41,7 @@ use Rattle.replay_checked.proofs.Alike.{AreAlike, new-alike}
 use Rattle.replay_checked.proofs.Plain.{object-stays, plain-decl}
 use Rattle.replay_checked.proofs.Tasks.{added-declared, task-met}
 use Rattle.replay_checked.proofs.Bodies.{frame-object, object-alike, permit_words, permit-new, AreBehindTasks, body-around}
-use Rattle.replay_checked.proofs.Before.{frame-same, frame-then, AreBefore, same-there, plain-before, permit-before, task-before, uses-there}
+use Rattle.replay_checked.proofs.Before.{AreBefore, same-there, plain-before, permit-before, task-before, uses-there}
 
 -- the entries of a task that is declared
 abbrev pub OnTask : (PTask → Type 0) → PDecl → Type 0
@@ -188,8 +189,8 @@ module _ (g : Setting) where
       let f : IsFrameOf d (check.after_own_object d x) = frame-object x d in
       record {
         alike = object-alike p x c d h.alike;
-        left = frame-then c0 c (check.after_own_object c x) h.left e;
-        right = frame-then d0 d (check.after_own_object d x) h.right f;
+        left = frame-trans c0 c (check.after_own_object c x) h.left e;
+        right = frame-trans d0 d (check.after_own_object d x) h.right f;
         owned = λ spans. ap (λ o. in_body_of o spans) f.own ∙ h.owned spans ∙ sym (ap (λ o. in_body_of o spans) e.own);
       }
 
@@ -199,7 +200,7 @@ module _ (g : Setting) where
       record {
         alike = new-alike p Inner c d (permit_words p at) (permit-new p at) h.alike;
         left = h.left;
-        right = frame-then d0 d (check.after_own_object d (permit_declared p at)) h.right f;
+        right = frame-trans d0 d (check.after_own_object d (permit_declared p at)) h.right f;
         owned = λ spans. ap (λ o. in_body_of o spans) f.own ∙ h.owned spans;
       }
 
@@ -234,7 +235,7 @@ module _ (g : Setting) where
       let xs : PDecls = decls_of (behind_own p.names (permit_declared p w.span) (decl_list objects)) in
       let ci : CheckScope = check.in_body c w in
       let di : CheckScope = check.in_body d w in
-      let start : AreInside ci di ci di = record { alike = rel.alike; left = frame-same ci; right = frame-same di; owned = λ spans. refl } in
+      let start : AreInside ci di ci di = record { alike = rel.alike; left = frame-refl ci; right = frame-refl di; owned = λ spans. refl } in
       all_joined M' (check.own_sites di xs) (check.body_sites (check.after_own di xs) 1 (replay_body (unit_for g w.name) w.span its))
       (behind-met w.span objects ci di ci di e.3 t start (all_front M (check.own_sites ci objects) (check.body_sites (check.after_own ci objects) 1 its) m))
       (unit-met (unit_for g w.name) (check.after_own ci objects) (check.after_own di xs) w.span its (body-around p c d w w.span objects e.1 rel) e.4 form (all_back M (check.own_sites ci objects) (check.body_sites (check.after_own ci objects) 1 its) m))

@@ -16,13 +16,14 @@ use Rattle.syn_event.specs.Extents.{is_array_type}
 use Rattle.syn_event.specs.RuleAcceptPlace.{is_among}
 use Rattle.syn_event.specs.RuleSharedVariable.{shared_name, in_body_of}
 use Rattle.normal_has_numbers.proofs.Listed.{IsPlain}
-use Rattle.normal_checked.proofs.MainScopes.{IsFrameOf, decls-frame, ArePlain, IsNoType, decls-plain, name-free}
+use Rattle.normal_checked.proofs.MainScopes.{IsFrameOf, decls-frame, ArePlain, IsNoType, decls-plain, name-free, frame-trans, decl-frame}
 use Rattle.replay_model.specs.Names.{control_text, go_text, done_text, hold_text, idle_text, stop_text, rest_text, never_text, added_id, added_word}
 use Rattle.replay_model.specs.ReplayTree.{permit_declared}
 use Rattle.replay_model.specs.Controlling.{control_declared, idle_declared}
 use Rattle.replay_texts.proofs.Listed.{more_task}
 use Rattle.replay_checked.specs.Around.{kept_name, kept_names}
-use Rattle.replay_checked.specs.Checkable.{IsSingle, IsOtherThanTruth, IsSameDecl}
+use Rattle.normal_has_numbers.specs.Single.{IsSingle}
+use Rattle.replay_checked.specs.Checkable.{IsOtherThanTruth, IsSameDecl}
 use Rattle.replay_checked.proofs.Names.{added-other}
 use Rattle.replay_checked.proofs.Scopes.{with_name, meant-beside}
 use Rattle.replay_checked.proofs.Stays.{UsesStay}
@@ -31,15 +32,6 @@ use Rattle.replay_checked.proofs.Units.{AreMore, more-unit, entries_named, own-m
 use Rattle.replay_checked.proofs.Bodies.{permit-new, AreBehindTasks}
 
 -- ---- one declaration
-
-pub frame-same : (c : CheckScope) → IsFrameOf c c
-frame-same c = record { types = refl; own = refl; accepting = refl; loops = refl; in_handler = refl }
-
-pub frame-then : (c d e : CheckScope) → IsFrameOf c d → IsFrameOf d e → IsFrameOf c e
-frame-then c d e h i = record { types = i.types ∙ h.types; own = i.own ∙ h.own; accepting = i.accepting ∙ h.accepting; loops = i.loops ∙ h.loops; in_handler = i.in_handler ∙ h.in_handler }
-
-frame-decl : (x : PDecl) (c : CheckScope) → IsFrameOf c (after_decl c x)
-frame-decl x c = decls-frame (decl_then x no_decl) c
 
 single-none : (main : ℕ) (x : PDecl) → IsSingle x → IsNoType main x
 single-none main (DTask t s) h = h
@@ -171,8 +163,8 @@ module _ (q : PProgram) (c0 d0 : CheckScope) where
   pub plain-before : (x : PDecl) (c d : CheckScope) → IsPlain x → EveryDecl (kept_names q) x → IsSingle x → IsOtherThanTruth x → IsSameDecl c0.types d0.types x → AreBefore c d → AreBefore (after_decl c x) (after_decl d x)
   plain-before x c d p e single other t h = record {
     alike = decl-alike q x c d e (same-there x c d h t) h.alike;
-    left = frame-then c0 c (after_decl c x) h.left (frame-decl x c);
-    right = frame-then d0 d (after_decl d x) h.right (frame-decl x d);
+    left = frame-trans c0 c (after_decl c x) h.left (decl-frame x c);
+    right = frame-trans d0 d (after_decl d x) h.right (decl-frame x d);
     units = units-same c.units (after_decl c x).units d.units (after_decl d x).units (units-decl x c p) (units-decl x d p) h.units;
     truth = true-decl x c other h.truth;
     plain = decls-plain q.name.name.0 (decl_then x no_decl) d (single-none q.name.name.0 x single, tt) h.plain;
@@ -182,7 +174,7 @@ module _ (q : PProgram) (c0 d0 : CheckScope) where
   permit-before s c d h = record {
     alike = new-object q (meaning d (record { 0 = 0 })) c d _ _ _ (permit-new q s) h.alike;
     left = h.left;
-    right = frame-then d0 d (after_decl d (permit_declared q s)) h.right (frame-decl (permit_declared q s) d);
+    right = frame-trans d0 d (after_decl d (permit_declared q s)) h.right (decl-frame (permit_declared q s) d);
     units = units-same c.units c.units d.units (after_decl d (permit_declared q s)).units refl (units-decl (permit_declared q s) d tt) h.units;
     truth = h.truth;
     plain = decls-plain q.name.name.0 (decl_then (permit_declared q s) no_decl) d (tt, tt) h.plain;
@@ -191,8 +183,8 @@ module _ (q : PProgram) (c0 d0 : CheckScope) where
   pub task-before : (t : PTask) (s : Span) (c d : CheckScope) → t.of_kind ≡ false → AreBefore c d → AreBefore (after_decl c (DTask t s)) (after_decl d (DTask (more_task q t) s))
   task-before t s c d single h = record {
     alike = meant-alike q (meant_by_task t) c d (t.name ∷ []) h.alike;
-    left = frame-then c0 c (after_decl c (DTask t s)) h.left (frame-decl (DTask t s) c);
-    right = frame-then d0 d (after_decl d (DTask (more_task q t) s)) h.right (frame-decl (DTask (more_task q t) s) d);
+    left = frame-trans c0 c (after_decl c (DTask t s)) h.left (decl-frame (DTask t s) c);
+    right = frame-trans d0 d (after_decl d (DTask (more_task q t) s)) h.right (decl-frame (DTask (more_task q t) s) d);
     units = (more-unit q t, h.units);
     truth = true-task t c h.truth;
     plain = decls-plain q.name.name.0 (decl_then (DTask (more_task q t) s) no_decl) d (single, tt) h.plain;
@@ -219,7 +211,7 @@ module _ (q : PProgram) (c0 d0 : CheckScope) where
       (sym (own-beside q w (idle_unit q) (control_unit q ∷ d.units) (added-other q w.name idle_text kept refl refl) ∙ own-beside q w (control_unit q) d.units (added-other q w.name control_text kept refl refl))) (own-more q w c.units d.units h id m)
 
   pub added-frame : (s : Span) (n : ℕ) (d : CheckScope) → IsFrameOf d0 d → IsFrameOf d0 (behind_added q s n d)
-  added-frame s n d h = frame-then d0 d (behind_added q s n d) h (decls-frame (decl_then (control_declared q s n) (decl_then (idle_declared q s) no_decl)) d)
+  added-frame s n d h = frame-trans d0 d (behind_added q s n d) h (decls-frame (decl_then (control_declared q s n) (decl_then (idle_declared q s) no_decl)) d)
 
   pub added-behind : (s : Span) (n : ℕ) (c d : CheckScope) → c0.own ≡ None → d0.own ≡ None → c0.accepting ≡ [] → d0.accepting ≡ [] → c0.loops ≡ [] → d0.loops ≡ [] → c0.in_handler ≡ false → d0.in_handler ≡ false →
       kept_name q q.name.name.0 ≡ true → kept_name q false_name ≡ true → AreBefore c d → AreBehindTasks q c (behind_added q s n d)

@@ -10,20 +10,19 @@ use Rattle.ada_tree.specs.declared.naming.Word.{Word}
 use Rattle.ada_tree.specs.Attributes.{false_name}
 use Rattle.ada_tree.specs.PlainDecl.{PDecl, DNumber, DObject, DEnumeration, DArray, DSubtype, DException, DIntIo, DPragma, DTask, DTaskBody, PDecls, no_decl, decl_then, decls_of}
 use Rattle.ada_tree.specs.PlainProgram.{PProgram}
-use Rattle.syn_event.specs.declared.meanings.Meant.{Meant}
 use Rattle.syn_event.specs.declared.meanings.Meant.TheVariants.{Inner}
 use Rattle.syn_event.specs.CheckScope.{Unit, CheckScope, meaning, uses, addresses}
-use Rattle.syn_event.specs.CheckSites.{with_meant, own_unit, in_body, after_own_object, after_own}
+use Rattle.syn_event.specs.CheckSites.{own_unit, in_body, after_own_object, after_own}
 use Rattle.syn_event.specs.RuleAcceptPlace.{is_among, is_own_entry}
 use Rattle.syn_event.specs.RuleMainEntry.{main_entry}
 use Rattle.syn_event.specs.RuleSharedVariable.{shared_name, in_body_of, shared_variable}
 use Rattle.syn_event.specs.Units.{decl_list}
-use Rattle.normal_checked.proofs.MainScopes.{IsFrameOf}
+use Rattle.normal_checked.proofs.MainScopes.{IsFrameOf, meant-frame}
 use Rattle.replay_model.specs.Names.{kind_text, argument_text, index_text, control_text, idle_text, never_text, added_id, added_word}
 use Rattle.replay_model.specs.ReplayTree.{is_added_object, behind_own, permit_declared}
 use Rattle.replay_checked.specs.Around.{kept_name, IsAsking}
 use Rattle.replay_checked.proofs.Names.{added-other}
-use Rattle.replay_checked.proofs.Scopes.{with_name, uses-under, callees-under, inner-use}
+use Rattle.replay_checked.proofs.Scopes.{uses-under, callees-under, inner-use}
 use Rattle.replay_checked.proofs.Alike.{AreAlike, IsNewWord, meant-alike, new-alike}
 use Rattle.replay_checked.proofs.Units.{entries_named}
 
@@ -40,10 +39,6 @@ third-there a b c = or_right (a == c) ((b == c) || ((c == c) || false)) (or_righ
 
 -- ---- what names leave as it is
 
-pub frame-meant : (m : Meant) (c : CheckScope) (ws : List Word) → IsFrameOf c (with_meant m c ws)
-frame-meant m c [] = record { types = refl; own = refl; accepting = refl; loops = refl; in_handler = refl }
-frame-meant m c (w ∷ ws) = let h = frame-meant m (with_name c w.name.0 m) ws in record { types = h.types; own = h.own; accepting = h.accepting; loops = h.loops; in_handler = h.in_handler }
-
 -- ---- the objects of a body as a list
 
 abbrev pub after_objects : CheckScope → List PDecl → CheckScope
@@ -59,19 +54,19 @@ objects-of [] c = refl
 objects-of (x ∷ xs) c = objects-of xs (after_own_object c x)
 
 pub frame-object : (x : PDecl) (c : CheckScope) → IsFrameOf c (after_own_object c x)
-frame-object (DObject ws constant shape i s) c = frame-meant Inner c ws
-frame-object (DTask t s) c = frame-meant Inner c []
-frame-object (DTaskBody w objects its s) c = frame-meant Inner c []
-frame-object (DNumber w e s) c = frame-meant Inner c []
-frame-object (DEnumeration w ws s) c = frame-meant Inner c []
-frame-object (DArray w r x s) c = frame-meant Inner c []
-frame-object (DSubtype w x s) c = frame-meant Inner c []
-frame-object (DException ws s) c = frame-meant Inner c []
-frame-object (DIntIo w s) c = frame-meant Inner c []
-frame-object (DPragma e s) c = frame-meant Inner c []
+frame-object (DObject ws constant shape i s) c = meant-frame Inner c ws
+frame-object (DTask t s) c = meant-frame Inner c []
+frame-object (DTaskBody w objects its s) c = meant-frame Inner c []
+frame-object (DNumber w e s) c = meant-frame Inner c []
+frame-object (DEnumeration w ws s) c = meant-frame Inner c []
+frame-object (DArray w r x s) c = meant-frame Inner c []
+frame-object (DSubtype w x s) c = meant-frame Inner c []
+frame-object (DException ws s) c = meant-frame Inner c []
+frame-object (DIntIo w s) c = meant-frame Inner c []
+frame-object (DPragma e s) c = meant-frame Inner c []
 
 frame-objects : (xs : List PDecl) (c : CheckScope) → IsFrameOf c (after_objects c xs)
-frame-objects [] c = frame-meant Inner c []
+frame-objects [] c = meant-frame Inner c []
 frame-objects (x ∷ xs) c =
     let h = frame-object x c in
     let i = frame-objects xs (after_own_object c x) in

@@ -4,14 +4,13 @@ use Rattle.std.specs.List.{AllByRecursion}
 use Rattle.std.proofs.lemmas.List.{length-map}
 use Rattle.common_lemmas.proofs.Lists.{all_joined}
 use Rattle.ada_tree.specs.declared.naming.Span.{Span}
-use Rattle.ada_tree.specs.declared.naming.Word.{Word}
-use Rattle.ada_tree.specs.PlainDecl.{PShape, OPlain, OArray, PEntry, PTask, PDecl, DNumber, DObject, DEnumeration, DArray, DSubtype, DException, DIntIo, DPragma, DTask, DTaskBody, PDecls, decls_of}
+use Rattle.ada_tree.specs.PlainDecl.{PEntry, PTask, PDecl, DNumber, DObject, DEnumeration, DArray, DSubtype, DException, DIntIo, DPragma, DTask, DTaskBody, PDecls, decls_of}
 use Rattle.ada_tree.specs.PlainProgram.{PProgram}
 use Rattle.syn_event.specs.declared.numbering.Mode.TheVariants.{Any}
 use Rattle.syn_event.specs.declared.limits.What.TheVariants.{Tasks, Entries, Copies}
 use Rattle.syn_event.specs.CheckScope.{CheckScope, CheckSite, counts}
 use Rattle.syn_event.specs.CheckSites.{site, numbered, tasks_sites, entries_of_part, entries_sites, copies_sites, all_copies_sites, counted_sites}
-use Rattle.syn_event.specs.NamedTasks.{NamedTasks, named_tasks, with_type, object_task_names, single_task_name, task_names_in, task_names_of, task_count}
+use Rattle.syn_event.specs.NamedTasks.{NamedTasks, named_tasks, with_type, single_task_name, task_names_in, task_names_of, task_count}
 use Rattle.syn_event.specs.Units.{tasks_in}
 use Rattle.legal_sites.specs.Met.{IsCheckMet}
 use Rattle.normal_checked.proofs.Places.{passed-not}
@@ -19,7 +18,9 @@ use Rattle.replay_model.specs.Names.{never_text, join_text}
 use Rattle.replay_model.specs.ReplayTree.{double_entry}
 use Rattle.replay_model.specs.Controlling.{added_entry}
 use Rattle.replay_texts.proofs.Listed.{more_task}
-use Rattle.replay_checked.specs.Checkable.{IsSingle, entries_count}
+use Rattle.normal_has_numbers.specs.Single.{IsSingle}
+use Rattle.replay_checked.specs.Checkable.{entries_count}
+use Rattle.normal_has_numbers.proofs.TasksNumbered.{no-parts}
 
 -- ---- the names of tasks
 
@@ -29,10 +30,6 @@ singles [] = []
 singles (DTask t s ∷ xs) = named_tasks t.name s t None ∷ singles xs
 singles (_ ∷ xs) = singles xs
 
-no-objects : (ws : List Word) (x : PShape) → object_task_names [] ws x ≡ []
-no-objects ws (OPlain x) = refl
-no-objects ws (OArray r x) = refl
-
 single-named : (b : Bool) (t : PTask) (s : Span) (rest : PDecls) (found : List NamedTasks) → b ≡ false → task_names_in [] rest ≡ found → single_task_name b t s ++ task_names_in (with_type [] b t) rest ≡ named_tasks t.name s t None ∷ found
 single-named true t s rest found e f = cc
 single-named false t s rest found e f = ap (λ l. named_tasks t.name s t None ∷ l) f
@@ -41,7 +38,7 @@ single-named false t s rest found e f = ap (λ l. named_tasks t.name s t None �
 pub singles-named : (xs : List PDecl) → AllByRecursion IsSingle xs → task_names_in [] (decls_of xs) ≡ singles xs
 singles-named [] h = refl
 singles-named (DTask t s ∷ xs) h = single-named t.of_kind t s (decls_of xs) (singles xs) h.0 (singles-named xs h.1)
-singles-named (DObject ws c x i s ∷ xs) h = ap (λ l. l ++ task_names_in [] (decls_of xs)) (no-objects ws x) ∙ singles-named xs h.1
+singles-named (DObject ws c x i s ∷ xs) h = ap (λ l. l ++ task_names_in [] (decls_of xs)) (no-parts ws x) ∙ singles-named xs h.1
 singles-named (DTaskBody w objects its s ∷ xs) h = singles-named xs h.1
 singles-named (DNumber w e s ∷ xs) h = singles-named xs h.1
 singles-named (DEnumeration w ws s ∷ xs) h = singles-named xs h.1

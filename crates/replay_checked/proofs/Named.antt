@@ -9,12 +9,7 @@ use Rattle.syn_event.specs.Units.{decl_list}
 use Rattle.task_model.specs.Setting.{Setting}
 use Rattle.normal_has_numbers.proofs.Listed.{IsPlain, IsOneTask, IsOneBody}
 use Rattle.replay_model.specs.ReplayTree.{replay_decl}
-
--- the names of the bodies among declarations
-abbrev pub body_ids : List PDecl → List ℕ
-body_ids [] = []
-body_ids (DTaskBody w objects its s ∷ xs) = w.name.0 ∷ body_ids xs
-body_ids (_ ∷ xs) = body_ids xs
+use Rattle.normal_declares_once.proofs.Bodies.{body_ids, ids-joined}
 
 pub ids-listed : (ds : PDecls) → body_names ds ≡ body_ids (decl_list ds)
 ids-listed no_decl = refl
@@ -41,19 +36,6 @@ ids-of (DSubtype w x s ∷ xs) = ids-of xs
 ids-of (DException ws s ∷ xs) = ids-of xs
 ids-of (DIntIo w s ∷ xs) = ids-of xs
 ids-of (DPragma e s ∷ xs) = ids-of xs
-
-pub ids-joined : (xs ys : List PDecl) → body_ids (xs ++ ys) ≡ body_ids xs ++ body_ids ys
-ids-joined [] ys = refl
-ids-joined (DTaskBody w objects its s ∷ xs) ys = ap (λ l. w.name.0 ∷ l) (ids-joined xs ys)
-ids-joined (DTask t s ∷ xs) ys = ids-joined xs ys
-ids-joined (DNumber w e s ∷ xs) ys = ids-joined xs ys
-ids-joined (DObject ws c x i s ∷ xs) ys = ids-joined xs ys
-ids-joined (DEnumeration w ws s ∷ xs) ys = ids-joined xs ys
-ids-joined (DArray w r x s ∷ xs) ys = ids-joined xs ys
-ids-joined (DSubtype w x s ∷ xs) ys = ids-joined xs ys
-ids-joined (DException ws s ∷ xs) ys = ids-joined xs ys
-ids-joined (DIntIo w s ∷ xs) ys = ids-joined xs ys
-ids-joined (DPragma e s ∷ xs) ys = ids-joined xs ys
 
 pub plain-ids : (xs : List PDecl) → AllByRecursion IsPlain xs → body_ids xs ≡ []
 plain-ids [] h = refl

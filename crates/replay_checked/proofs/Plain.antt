@@ -2,7 +2,7 @@
 use Rattle.std.proofs.Common.{ℕ, ◌+◌, Bool, List, [], ◌∷◌, flat_map, Option, Some, None, IfSome, All, refl, sym, subst, arith}
 use Rattle.std.specs.List.{AllByRecursion}
 use Rattle.std.proofs.lemmas.List.Elements.{recursion_from_All}
-use Rattle.common_lemmas.proofs.Lists.{all_front, all_back, all_joined}
+use Rattle.common_lemmas.proofs.Lists.{all_front, all_back, all_joined, all_three, all_first, all_second, all_third}
 use Rattle.ada_tree.specs.declared.naming.Span.{Span}
 use Rattle.ada_tree.specs.declared.naming.Word.{Word}
 use Rattle.ada_tree.specs.PlainExpr.{PSubind, PDrange}
@@ -15,7 +15,6 @@ use Rattle.syn_event.specs.declared.limits.What.TheVariants.{Members, Components
 use Rattle.syn_event.specs.CheckScope.{CheckScope, CheckSite, counts}
 use Rattle.syn_event.specs.CheckSites as check
 use Rattle.syn_event.specs.Extents.{size, range_start}
-use Rattle.asked_stmts.proofs.Lists.{all_first, all_second, all_third, all_three}
 use Rattle.normal_has_numbers.proofs.Listed.{IsPlain}
 use Rattle.replay_checked.specs.Around.{kept_names}
 use Rattle.replay_checked.specs.Checkable.{HasSameSize, IsSameShape, IsSameDecl}

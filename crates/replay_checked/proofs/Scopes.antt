@@ -8,17 +8,14 @@ use Rattle.ada_tree.specs.PlainStmt.{PScheme, LWhile, LFor, PHead}
 use Rattle.ada_tree.specs.PlainProgram.{PProgram}
 use Rattle.syn_event.specs.declared.meanings.Meant.{Meant}
 use Rattle.syn_event.specs.declared.meanings.Meant.TheVariants.{Inner}
-use Rattle.syn_event.specs.CheckScope.{Unit, CheckScope, meaning, uses, addresses}
+use Rattle.syn_event.specs.CheckScope.{CheckScope, meaning, uses, addresses}
 use Rattle.syn_event.specs.CheckSites.{with_meant, formal_names, in_accept, in_loop, handling}
 use Rattle.syn_event.specs.RuleAcceptPlace.{is_among}
 use Rattle.syn_event.specs.RuleMainEntry.{no_task, main_entry}
 use Rattle.syn_event.specs.RuleSharedVariable.{shared_name, in_body_of, shared_variable}
 use Rattle.replay_model.specs.Names.{never_text, added_id}
 use Rattle.replay_checked.specs.Around.{IsAsking}
-
-nothing-in : (o : Option Unit) → in_body_of o [] ≡ []
-nothing-in (Some x) = refl
-nothing-in None = refl
+use Rattle.normal_checked.proofs.Scopes.{nothing-in}
 
 -- ---- one name more
 
@@ -121,8 +118,9 @@ module _ (q : PProgram) where
         in_handler = rel.in_handler;
       }
 
-  named-loop : (c d : CheckScope) (w : Option Word) → IsAsking q c d → IsAsking q (record c { loops = option_map (λ x. x.name) w ∷ c.loops }) (record d { loops = option_map (λ x. x.name) w ∷ d.loops })
-  named-loop c d w rel = record {
+  -- other loops and other handlers around, the same on both sides
+  around-with : (c d : CheckScope) (k l : List (Option NameId)) (a b : Bool) → l ≡ k → (a ≡ true → b ≡ true) → IsAsking q c d → IsAsking q (record c { loops = k; in_handler = a }) (record d { loops = l; in_handler = b })
+  around-with c d k l a b same handled rel = record {
     meant = rel.meant;
     inside = rel.inside;
     kind = rel.kind;
@@ -135,9 +133,13 @@ module _ (q : PProgram) where
     never = rel.never;
     accepting = rel.accepting;
     outside = rel.outside;
-    loops = ap (λ l. option_map (λ x. x.name) w ∷ l) rel.loops;
-    in_handler = rel.in_handler;
+    loops = same;
+    in_handler = handled;
   }
+
+  named-loop : (c d : CheckScope) (w : Option Word) → IsAsking q c d → IsAsking q (record c { loops = option_map (λ x. x.name) w ∷ c.loops }) (record d { loops = option_map (λ x. x.name) w ∷ d.loops })
+  named-loop c d w rel =
+      around-with c d (option_map (λ x. x.name) w ∷ c.loops) (option_map (λ x. x.name) w ∷ d.loops) c.in_handler d.in_handler (ap (λ l. option_map (λ x. x.name) w ∷ l) rel.loops) rel.in_handler rel
 
   pub loop-around : (c d : CheckScope) (w : Option Word) (x : Option PScheme) → IsAsking q c d → IsAsking q (in_loop c w x) (in_loop d w x)
   loop-around c d w None rel = named-loop c d w rel
@@ -145,19 +147,4 @@ module _ (q : PProgram) where
   loop-around c d w (Some (LFor v backwards r)) rel = all-under (record c { loops = option_map (λ x. x.name) w ∷ c.loops }) (record d { loops = option_map (λ x. x.name) w ∷ d.loops }) (v ∷ []) (named-loop c d w rel)
 
   pub handler-around : (c d : CheckScope) → IsAsking q c d → IsAsking q (handling c) (handling d)
-  handler-around c d rel = record {
-    meant = rel.meant;
-    inside = rel.inside;
-    kind = rel.kind;
-    argument = rel.argument;
-    index = rel.index;
-    truth = rel.truth;
-    control = rel.control;
-    idle = rel.idle;
-    entries = rel.entries;
-    never = rel.never;
-    accepting = rel.accepting;
-    outside = rel.outside;
-    loops = rel.loops;
-    in_handler = λ h. refl;
-  }
+  handler-around c d rel = around-with c d c.loops d.loops true true rel.loops (λ h. refl) rel

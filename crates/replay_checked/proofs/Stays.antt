@@ -23,6 +23,7 @@ use Rattle.syn_event.specs.RuleSharedVariable.{shared_name, in_body_of, shared_v
 use Rattle.syn_event.proofs.Nothing.{test_fails}
 use Rattle.legal_sites.specs.Met.{IsCheckMet}
 use Rattle.normal_asked.specs.Pieces.{IsPlain}
+use Rattle.normal_checked.proofs.Stays.{formal-words}
 use Rattle.normal_checked.proofs.Places.{met-deep, met-name, met-use, met-callee, met-accept, met-exit, met-raise}
 use Rattle.replay_model.specs.Names.{replay_names}
 use Rattle.replay_checked.specs.Around.{kept_name, kept_names, IsAsking}
@@ -74,12 +75,8 @@ module _ (q : PProgram) (c d : CheckScope) where
   words-stay [] h m = tt
   words-stay (w ∷ ws) h m = (name-stays w h.0 m.0, words-stay ws h.1 m.1)
 
-  formal-words : (fs : List PFormal) → AllByRecursion (EveryFormal r) fs → AllByRecursion (EveryWord r) (check.formal_names fs)
-  formal-words [] h = tt
-  formal-words (f ∷ fs) h = all_joined (EveryWord r) f.names (check.formal_names fs) (recursion_from_All (EveryWord r) f.names h.0.0.1) (formal-words fs h.1)
-
   pub formals-stay : (fs : List PFormal) → All (EveryFormal r) fs → At (check.names_sites c (check.formal_names fs)) → At' (check.names_sites d (check.formal_names fs))
-  formals-stay fs h m = words-stay (check.formal_names fs) (formal-words fs (recursion_from_All (EveryFormal r) fs h)) m
+  formals-stay fs h m = words-stay (check.formal_names fs) (formal-words r fs (recursion_from_All (EveryFormal r) fs h)) m
 
   -- ---- expressions
 

@@ -2,7 +2,7 @@
 use Rattle.std.proofs.Common.{◌≡◌, ℕ, pos, ◌+ℤ◌, ◌-ℤ◌, ◌+◌, ◌≤◌, ◌==◌, true, if◌then◌else◌, List, [], ◌∷◌, ◌++◌, length, map, flat_map, codes, None, refl, ap, length-append, arith}
 use Rattle.std.specs.List.{AllByRecursion, list_any}
 use Rattle.std.proofs.lemmas.List.Elements.{recursion_from_All}
-use Rattle.common_lemmas.proofs.Lists.{all_front, all_back, all_joined}
+use Rattle.common_lemmas.proofs.Lists.{all_front, all_back, all_joined, all_three, all_first, all_second, all_third, all_unflat, all_flat}
 use Rattle.common_lemmas.proofs.Numbers.{int_more_zero}
 use Rattle.ada_tree.specs.declared.naming.Span.{Span}
 use Rattle.ada_tree.specs.declared.naming.Word.{Word}
@@ -16,7 +16,6 @@ use Rattle.syn_event.specs.CheckSites as check
 use Rattle.syn_event.specs.Extents.{size, count_to}
 use Rattle.syn_event.specs.Units.{text_of}
 use Rattle.legal_sites.proofs.Around.{test-holds}
-use Rattle.asked_stmts.proofs.Lists.{all_first, all_second, all_third, all_three, all_flat, all_unflat}
 use Rattle.normal_has_numbers.proofs.Named.{Has}
 use Rattle.normal_checked.proofs.Places.{met-deep, met-name, passed-not}
 use Rattle.replay_model.specs.Names.{kind_text, argument_text, index_text, control_text, go_text, done_text, hold_text, idle_text, stop_text, rest_text, never_text, join_text, added_texts, double_text, replay_names, added_id, added_word}

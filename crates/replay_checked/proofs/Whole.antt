@@ -3,7 +3,7 @@ use Rattle.std.proofs.Common.{◌≡◌, ℕ, ◌+◌, ◌*◌, ◌≤◌, ◌==
 use Rattle.std.specs.List.{AllByRecursion, list_any, filter}
 use Rattle.std.proofs.lemmas.Bool.{or_left, or_right}
 use Rattle.std.proofs.lemmas.List.{length-map}
-use Rattle.common_lemmas.proofs.Lists.{all_joined, all_kept}
+use Rattle.common_lemmas.proofs.Lists.{all_joined, all_kept, all_three, all_first, all_second}
 use Rattle.common_lemmas.proofs.Numbers.{equal_self}
 use Rattle.ada_tree.specs.declared.naming.Span.{Span}
 use Rattle.ada_tree.specs.Attributes.{false_name}
@@ -22,7 +22,6 @@ use Rattle.syn_event.specs.Units.{decl_list, tasks_in, tasks_of}
 use Rattle.legal_sites.proofs.Meeting.{all_check_met}
 use Rattle.task_model.specs.Setting.{Setting}
 use Rattle.control_script.specs.declared.Op.{Op}
-use Rattle.asked_stmts.proofs.Lists.{all_first, all_second, all_three}
 use Rattle.normal_model.specs.NormalTree.{main_unit}
 use Rattle.normal_has_numbers.proofs.Listed.{IsOneTask, IsOneBody}
 use Rattle.normal_checked.proofs.Joined.{meets-checks}
@@ -31,18 +30,21 @@ use Rattle.replay_model.specs.ReplayTree.{behind_own, permit_declared, replay_de
 use Rattle.replay_model.specs.Controlling.{control_declared, idle_declared, control_body, idle_body}
 use Rattle.replay_texts.proofs.Listed.{all-behind, more_task, sorted-plain, added_tasks, replay-tasks}
 use Rattle.replay_checked.specs.Around.{kept_names}
-use Rattle.replay_checked.specs.Checkable.{is_plain, IsSingle, IsOtherThanTruth, HasForm, IsSameDecl, entries_count, IsShortEntry, IsCheckable}
+use Rattle.normal_has_numbers.specs.Single.{IsSingle}
+use Rattle.replay_checked.specs.Checkable.{is_plain, IsOtherThanTruth, HasForm, IsSameDecl, entries_count, IsShortEntry, IsCheckable}
 use Rattle.replay_checked.specs.Laws.{ReplayMeetsChecks}
 use Rattle.replay_checked.proofs.Names.{IsDoubled, doubles-named}
 use Rattle.replay_checked.proofs.Stays.{IsFormMet, IsTextMet, name-stays}
 use Rattle.replay_checked.proofs.Lists.{after_all, after-listed, after-of, after-joined, AllAlong, along-listed, along-of, along-join, along-front, along-back}
 use Rattle.replay_checked.proofs.Tasks.{control-met as control-declared-met, idle-met as idle-declared-met}
 use Rattle.replay_checked.proofs.Bodies.{AreBehindTasks, main-around}
-use Rattle.replay_checked.proofs.Before.{frame-same, AreBefore, behind_added, added-frame, added-behind}
+use Rattle.replay_checked.proofs.Before.{AreBefore, behind_added, added-frame, added-behind}
 use Rattle.replay_checked.proofs.Control.{control-met, idle-met}
 use Rattle.replay_checked.proofs.Counted.{counted-met, entries-joined, entries-doubled}
-use Rattle.replay_checked.proofs.Named.{body_ids, ids-listed, ids-of, ids-joined, plain-ids, task-ids, body-ids-same, any-front, any-back}
+use Rattle.replay_checked.proofs.Named.{ids-listed, ids-of, plain-ids, task-ids, body-ids-same, any-front, any-back}
 use Rattle.replay_checked.proofs.Along.{OnTask, on-tasks, HasAlong, front-along, tasks-along, unit-met, bodies-along}
+use Rattle.normal_checked.proofs.MainScopes.{frame-refl}
+use Rattle.normal_declares_once.proofs.Bodies.{ids-joined, body_ids}
 
 -- ---- lists
 
@@ -100,7 +102,7 @@ singles-mapped g (DException ws s ∷ xs) h = (tt, singles-mapped g xs h.1)
 singles-mapped g (DIntIo w s ∷ xs) h = (tt, singles-mapped g xs h.1)
 singles-mapped g (DPragma e s ∷ xs) h = (tt, singles-mapped g xs h.1)
 
-bodies-mapped : (g : Setting) (xs : List PDecl) → AllByRecursion IsOneBody xs → AllByRecursion IsOneBody (map (replay_decl g) xs)
+pub bodies-mapped : (g : Setting) (xs : List PDecl) → AllByRecursion IsOneBody xs → AllByRecursion IsOneBody (map (replay_decl g) xs)
 bodies-mapped g [] h = tt
 bodies-mapped g (DTaskBody w objects its s ∷ xs) h = (tt, bodies-mapped g xs h.1)
 bodies-mapped g (DTask t s ∷ xs) h = absurd h.0
@@ -179,7 +181,7 @@ module _ (g : Setting) (ops : List Op) (h : IsCheckable g ops) where
   -- ---- what stands around
 
   start : AreBefore q c0 d0 c0 d0
-  start = record { alike = λ id o. refl; left = frame-same c0; right = frame-same d0; units = tt; truth = λ t. go t (q.name.name.0 == false_name); plain = (refl, tt) }
+  start = record { alike = λ id o. refl; left = frame-refl c0; right = frame-refl d0; units = tt; truth = λ t. go t (q.name.name.0 == false_name); plain = (refl, tt) }
     where
       go : (t : Span) (b : Bool) → shared_name (option_map (λ (k : ℕ × Meant). k.1) (cond b (Some (q.name.name.0, MainProcedure)) None)) t ≡ []
       go t true = refl

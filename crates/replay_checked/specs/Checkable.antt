@@ -15,6 +15,7 @@ use Rattle.control_script.specs.declared.Op.{Op}
 use Rattle.control_script.specs.declared.Op.TheVariants.{Go, Done, Join, Hold}
 use Rattle.normal_model.specs.Names.{task_name_at}
 use Rattle.asked_stmts.specs.Asked.{AskedBody}
+use Rattle.normal_has_numbers.specs.Single.{IsSingle}
 use Rattle.replay_model.specs.ReplayTree.{is_task, is_body, last_task, replay_of}
 use Rattle.replay_checked.specs.Around.{kept_name, kept_names, form_asks}
 
@@ -23,11 +24,6 @@ use Rattle.replay_checked.specs.Around.{kept_name, kept_names, form_asks}
 -- a declaration that is neither a task nor a body
 abbrev pub is_plain : PDecl → Bool
 is_plain d = not (is_task d || is_body d)
-
--- a task that is declared is a single one
-abbrev pub IsSingle : PDecl → Type 0
-IsSingle (DTask t s) = t.of_kind ≡ false
-IsSingle _ = Unit {0}
 
 -- no object is named FALSE
 abbrev pub IsOtherThanTruth : PDecl → Type 0

@@ -1,5 +1,5 @@
 -- The ids of the names that a replay text adds: they differ from each other, from the predefined names, and from those of the normal form.
-use Rattle.std.proofs.Common.{◌≡◌, ℕ, ◌<◌, Bool, true, false, ◌==◌, nat_lt, List, [], ◌∷◌, ◌++◌, length, map, flat_map, take, drop, slice_get, get_or, unwrap_or, Option, Some, None, IsSomeAnd, refl, sym, ap, ◌∙◌, subst, true≢false, arith}
+use Rattle.std.proofs.Common.{◌≡◌, ℕ, ◌<◌, Bool, true, false, ◌==◌, nat_lt, List, [], ◌∷◌, ◌++◌, length, flat_map, take, drop, slice_get, get_or, unwrap_or, Option, Some, None, IsSomeAnd, refl, sym, ap, ◌∙◌, subst, true≢false, arith}
 use Rattle.std.specs.List.{AllByRecursion, list_any}
 use Rattle.std.specs.Str.{bytes_eq}
 use Rattle.std.proofs.lemmas.Bool.{or_left, or_right, eqb-true, eq-eqb, ltb-true}
@@ -7,7 +7,7 @@ use Rattle.std.proofs.lemmas.List.{take-append-drop}
 use Rattle.std.proofs.lemmas.Option.{slice_get-get_or, slice_get_within}
 use Rattle.std.proofs.lemmas.Slice.Eq.{bytes_eq-Decides}
 use Rattle.common_lemmas.proofs.Options.{some_same}
-use Rattle.common_lemmas.proofs.Lists.{all_flat, all_weaker, holds_at}
+use Rattle.common_lemmas.proofs.Lists.{all_unflat, all_weaker, holds_at, all_unmapped}
 use Rattle.ada_tree.specs.declared.naming.Word.{Word}
 use Rattle.ada_tree.specs.NameList.{predefined}
 use Rattle.ada_tree.specs.RuleDuplicate.{is_predefined}
@@ -27,10 +27,6 @@ use Rattle.replay_declares_once.specs.Names.{is_added_text}
 has-self : (xs : List (List ℕ)) → AllByRecursion (Has xs) xs
 has-self [] = tt
 has-self (x ∷ xs) = (or_left (bytes_eq x x) (list_any (bytes_eq x) xs) ((bytes_eq-Decides x x).1 refl), all_weaker (Has xs) (Has (x ∷ xs)) xs (λ y h. or_right (bytes_eq y x) (list_any (bytes_eq y) xs) h) (has-self xs))
-
-pub unmapped : {A B : Type 0} (P : B → Type 0) (f : A → B) (xs : List A) → AllByRecursion P (map f xs) → AllByRecursion (λ x. P (f x)) xs
-unmapped P f [] h = tt
-unmapped P f (x ∷ xs) h = (h.0, unmapped P f xs h.1)
 
 -- ---- texts
 
@@ -115,8 +111,8 @@ module _ (q : PProgram) where
 
   pub doubles-there : AllByRecursion (λ (t : PTask). HasDoubles t.entries) (tasks_of q)
   doubles-there =
-      all_weaker (λ (t : PTask). AllByRecursion (Has all) (double_texts q.names t)) (λ (t : PTask). HasDoubles t.entries) (tasks_of q) (λ t h. unmapped (Has all) double t.entries h)
-      (all_flat (Has all) (double_texts q.names) (tasks_of q)
+      all_weaker (λ (t : PTask). AllByRecursion (Has all) (double_texts q.names t)) (λ (t : PTask). HasDoubles t.entries) (tasks_of q) (λ t h. all_unmapped (Has all) double t.entries h)
+      (all_unflat (Has all) (double_texts q.names) (tasks_of q)
       (all_weaker (Has (flat_map (double_texts q.names) (tasks_of q))) (Has all) (flat_map (double_texts q.names) (tasks_of q))
       (λ t h. has-folded (added_texts ++ flat_map (double_texts q.names) (tasks_of q)) q.names t (has-back added_texts (flat_map (double_texts q.names) (tasks_of q)) t h))
       (has-self (flat_map (double_texts q.names) (tasks_of q)))))

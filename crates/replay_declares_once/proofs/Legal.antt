@@ -3,7 +3,7 @@ use Rattle.std.proofs.Common.{◌≡◌, ℕ, ◌+◌, ◌≤◌, Bool, true, fa
 use Rattle.std.specs.List.{AllByRecursion}
 use Rattle.std.proofs.lemmas.Grind.{flat_map-append}
 use Rattle.std.proofs.lemmas.List.Elements.{recursion_from_All}
-use Rattle.common_lemmas.proofs.Lists.{all_front, all_back, all_joined, all_weaker, all_kept}
+use Rattle.common_lemmas.proofs.Lists.{all_front, all_back, all_joined, all_weaker, all_kept, all_unmapped}
 use Rattle.ada_tree.specs.declared.naming.Word.{Word}
 use Rattle.ada_tree.specs.PlainStmt.{PBody}
 use Rattle.ada_tree.specs.PlainDecl.{PTask, PDecl, DNumber, DObject, DEnumeration, DArray, DSubtype, DException, DIntIo, DPragma, DTask, DTaskBody, PDecls, no_decl, decl_then, decls_of}
@@ -46,7 +46,7 @@ use Rattle.normal_declares_once.proofs.Tasks.{ids-good}
 use Rattle.normal_declares_once.proofs.Whole.{normal_declares_once}
 use Rattle.replay_declares_once.specs.Names.{word_named, IsKept, LeavesNames}
 use Rattle.replay_declares_once.specs.Laws.{LegalLeavesNames, LegalReplayDeclaresOnce}
-use Rattle.replay_declares_once.proofs.Ids.{IsOwn, unmapped}
+use Rattle.replay_declares_once.proofs.Ids.{IsOwn}
 use Rattle.replay_declares_once.proofs.Plain.{plain_names, instance_behind, plains_names}
 use Rattle.replay_declares_once.proofs.Named.{declared-all, body-obeys, entries-obey}
 use Rattle.replay_declares_once.proofs.Texts.{normal-apart, front-kept, good-own, variable-own, task-own}
@@ -64,7 +64,7 @@ ids-words : (P : ℕ → Type 0) (ds : PDecls) → AllByRecursion P (ids_declare
 ids-words P no_decl h = tt
 ids-words P (decl_then d rest) h =
     all_joined (λ (w : Word). P w.name.0) (names_declared d) (flat_map names_declared (decl_list rest))
-    (unmapped P (λ (w : Word). w.name.0) (names_declared d) (all_front P (word_ids (names_declared d)) (ids_declared rest) h))
+    (all_unmapped P (λ (w : Word). w.name.0) (names_declared d) (all_front P (word_ids (names_declared d)) (ids_declared rest) h))
     (ids-words P rest (all_back P (word_ids (names_declared d)) (ids_declared rest) h))
 
 -- ---- the normal form of a legal program
@@ -182,7 +182,7 @@ module _ (p : PProgram) (h : IsLegal p) where
   tasks-are = made-tasks g (tasks_beside g) ∙ sym (tasks-of p g.types g.numbers) ∙ normal-tasks-of p g.types (legal_is_ordered p g.types (numbers_of p) h.legal h.placed)
 
   units-kept : (here : List ℕ) → AllByRecursion Kept (tasks_names here (tasks_in (tasks p g.types g.numbers)))
-  units-kept here = subst (λ (l : List PTask). AllByRecursion Kept (tasks_names here l)) (sym tasks-are) (tasks-kept here ys (unmapped (IsNamed g) info ys all-are-named) good-entries)
+  units-kept here = subst (λ (l : List PTask). AllByRecursion Kept (tasks_names here l)) (sym tasks-are) (tasks-kept here ys (all_unmapped (IsNamed g) info ys all-are-named) good-entries)
 
   -- ---- bodies
 
@@ -264,7 +264,7 @@ module _ (p : PProgram) (h : IsLegal p) where
       (all_joined Kept N (P ++ T ++ B) (own p.name.name.0 good.0, tt)
       (all_joined Kept (P ++ T) B
       (all_joined Kept P T (plains-kept (p.name.name.0 ∷ []) false plain plain-own) (units-kept (tasks_here q plain ts bs)))
-      (copies-kept [] bs (each-kept p.decls good.2 (unmapped (λ n. n ≤ count) (variables_of_body g) (decl_list p.decls) few.1)))))
+      (copies-kept [] bs (each-kept p.decls good.2 (all_unmapped (λ n. n ≤ count) (variables_of_body g) (decl_list p.decls) few.1)))))
       (body-kept (main_unit g) p.body good.3)
 
   pub leaves : LeavesNames q

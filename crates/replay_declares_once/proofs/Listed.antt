@@ -21,14 +21,9 @@ use Rattle.ada_duplicates.proofs.Behind.{with_names_is, names_are}
 use Rattle.normal_once.specs.Names.{body_names, tasks_names, bodies_names}
 use Rattle.normal_once.proofs.Places.{body-is}
 use Rattle.normal_once.proofs.TaskTypes.{first-types}
-use Rattle.normal_once.proofs.Declared.{list-front, front-sites, tasks-are, bodies-are}
+use Rattle.normal_once.proofs.Declared.{tasks-are, bodies-are}
 use Rattle.replay_declares_once.proofs.Plain.{plains_names, plains-are, here-behind}
-
-list-named : (s : Scope) (xs ys : List PDecl) (l m : List Naming) → namings_of (decls_sites s (decls_of xs)) ≡ l → namings_of (decls_sites (after_decls s (decls_of xs)) (decls_of ys)) ≡ m → namings_of (decls_sites s (decls_of (xs ++ ys))) ≡ l ++ m
-list-named s xs ys l m p q =
-    ap (λ (ds : PDecls). namings_of (decls_sites s ds)) (list-front xs ys) ∙ ap namings_of (front-sites s (decls_of xs) (decls_of ys))
-    ∙ namings_append (decls_sites s (decls_of xs)) (decls_sites (after_decls s (decls_of xs)) (decls_of ys))
-    ∙ ap₂ (λ (a b : List Naming). a ++ b) p q
+use Rattle.normal_once.proofs.Whole.{list-named}
 
 -- ---- no bodies stand before
 

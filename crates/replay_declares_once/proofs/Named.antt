@@ -11,6 +11,7 @@ use Rattle.ada_tree.specs.Sites.{all_names, with_words}
 use Rattle.ada_duplicates.specs.declared.namings_in_order.Naming.{Naming}
 use Rattle.ada_duplicates.specs.NamingsInOrder.{declared, named_once}
 use Rattle.normal_once.specs.Names.{label_names, scheme_names, stmt_names, stmts_names, maybe_names, accept_names, alts_names, kind_names, arms_names, case_arms_names, body_names, handlers_names, entries_names}
+use Rattle.normal_legal_walk.proofs.Walk.{words-all}
 use Rattle.replay_declares_once.specs.Names.{word_named}
 
 -- names that obey something, where they are declared or named
@@ -27,12 +28,8 @@ module _ (r : Rules) where
   abbrev pub Obeys : Naming → Type 0
   Obeys n = EveryWord r (word_named n)
 
-  all-words : (fs : List PFormal) → AllByRecursion (EveryFormal r) fs → AllByRecursion (EveryWord r) (all_names fs)
-  all-words [] h = tt
-  all-words (f ∷ fs) h = all_joined (EveryWord r) f.names (all_names fs) (recursion_from_All (EveryWord r) f.names h.0.0.1) (all-words fs h.1)
-
   formals-obey : (fs : List PFormal) → All (EveryFormal r) fs → AllByRecursion Obeys (declared false [] (all_names fs))
-  formals-obey fs h = declared-all (EveryWord r) false [] (all_names fs) (all-words fs (recursion_from_All (EveryFormal r) fs h))
+  formals-obey fs h = declared-all (EveryWord r) false [] (all_names fs) (words-all r fs (recursion_from_All (EveryFormal r) fs h))
 
   label-obeys : (o : Option Word) → IfSome o (EveryWord r) → AllByRecursion Obeys (label_names o)
   label-obeys (Some w) h = (h, tt)

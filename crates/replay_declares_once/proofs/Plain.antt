@@ -21,10 +21,12 @@ use Rattle.ada_duplicates.proofs.Behind.{with_names_is, still_in_main, array_is,
 use Rattle.common_lemmas.proofs.Lists.{all_front, all_back, all_joined}
 use Rattle.normal_once.specs.Apart.{IsFreeOf, AreApart, AreDistinct, fixed_names, IsFitIn}
 use Rattle.normal_once.proofs.Once.{free-front, free-back, free-both, apart-turned}
-use Rattle.normal_once.proofs.TaskTypes.{HasTypes, types-after, kinds_after, no-task}
+use Rattle.normal_once.proofs.TaskTypes.{HasTypes, types-after, no-task}
 use Rattle.normal_once.proofs.FirstDecls.{here-after}
 use Rattle.normal_declares_once.proofs.Words.{word_ids, words-free, free-words}
 use Rattle.replay_declares_once.proofs.Grown.{declared-loose, IsGood, IsGrown, grown-words, IsSame, same-joined, same-then, good-fit, declared-same, declared-clear, declared-new}
+use Rattle.common_lemmas.proofs.Truth.{or_false}
+use Rattle.normal_once.proofs.Whole.{plain-kinds}
 
 -- ---- by their text
 
@@ -48,31 +50,15 @@ pub record IsOpen (s : Scope) : Type 0 where
   pub main : s.in_main ≡ true
   pub types : HasTypes [] s
 
-plain-kinds : (d : PDecl) → IsPlain d → kinds_after [] d ≡ []
-plain-kinds (DTask t sp) h = absurd h
-plain-kinds (DTaskBody w objects its sp) h = absurd h
-plain-kinds (DNumber w e sp) h = refl
-plain-kinds (DObject ws c x i sp) h = refl
-plain-kinds (DEnumeration w ws sp) h = refl
-plain-kinds (DArray w r x sp) h = refl
-plain-kinds (DSubtype w x sp) h = refl
-plain-kinds (DException ws sp) h = refl
-plain-kinds (DIntIo w sp) h = refl
-plain-kinds (DPragma e sp) h = refl
-
 open-after : (s : Scope) (d : PDecl) → IsPlain d → IsOpen s → IsOpen (after_decl s d)
 open-after s d h o = record { main = still_in_main s d ∙ o.main; types = subst (λ (l : List PTask). HasTypes l (after_decl s d)) (plain-kinds d h) (types-after [] d s o.types) }
-
-fixed-is : (c : Bool) → (c || false) ≡ c
-fixed-is true = refl
-fixed-is false = refl
 
 plain-is : (s : Scope) (d : PDecl) → IsPlain d → IsOpen s → namings_of (decl_sites s d) ≡ plain_names s.here s.has_instance d
 plain-is s (DTask t sp) h o = absurd h
 plain-is s (DTaskBody w objects its sp) h o = absurd h
 plain-is s (DNumber w e sp) h o = number_is s w e sp
 plain-is s (DObject ws c x i sp) h o =
-    object_is s ws c x i (declared_object s c x) ∙ ap₂ (λ (a b : Bool). declared (a && (c || b)) s.here ws) o.main (no-task [] s c x o.types refl) ∙ ap (λ (a : Bool). declared a s.here ws) (fixed-is c)
+    object_is s ws c x i (declared_object s c x) ∙ ap₂ (λ (a b : Bool). declared (a && (c || b)) s.here ws) o.main (no-task [] s c x o.types refl) ∙ ap (λ (a : Bool). declared a s.here ws) (or_false c)
 plain-is s (DEnumeration w ws sp) h o = names_are true s (w ∷ ws)
 plain-is s (DArray w r x sp) h o = array_is s w r x sp
 plain-is s (DSubtype w x sp) h o = subtype_is s w x sp

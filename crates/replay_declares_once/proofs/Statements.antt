@@ -4,7 +4,6 @@ use Rattle.std.proofs.lemmas.List.{append-nil, append_assoc}
 use Rattle.ada_tree.specs.declared.naming.Span.{Span}
 use Rattle.ada_tree.specs.PlainStmt.{PCallee, PCall, PStmt, SNull, SAssign, SDelay, SExit, SRaise, SAbort, SCall, SAccept, SWait, SConditional, STimed, SPut, SPutLine, SNewLine, SGet, SIf, SCase, SBlock, SLoop, PStmts, no_stmt, stmt_then, PMaybe, absent, present, PAccept, accepting, alternative, PAltKind, AAccept, ADelay, ATerminate, PAlts, no_alt, alt_then, PArms, no_arm, arm_then, arm, PCaseArms, no_case_arm, case_arm_then, case_arm, PBody, body, PHandlers, no_handler, handler_then, handler}
 use Rattle.ada_tree.specs.Sites.{all_names, with_words}
-use Rattle.task_model.specs.Frames.{in_front}
 use Rattle.normal_model.specs.Making.{one}
 use Rattle.normal_model.specs.Waits.{Unit}
 use Rattle.normal_model.specs.Walk.{after_parts, after_stmts, after_accept, after_kind, after_alt, after_alts, after_arms, after_case_arms, alts_leads, image_of, rewritten, inside_maybe, inside_accept, inside_kind, inside_alts, inside_arms, inside_case_arms, inside_body, inside_handlers}
@@ -15,15 +14,9 @@ use Rattle.replay_model.specs.Asking.{done, is_for, ask_which, branch}
 use Rattle.replay_model.specs.Serving.{serve, accept_image}
 use Rattle.replay_model.specs.Waiting.{Pause, pauses_of, only_pause, pausing, alternative_branches, else_branch, wait_image}
 use Rattle.replay_model.specs.ReplayStmts.{task_called, replay_image, replay_rewriter, with_handlers, abort_image, replay_body}
+use Rattle.normal_once.proofs.Rewritten.{front-names, quiet-front}
 
 -- ---- lists of statements
-
-front-names : (a b : PStmts) → stmts_names (in_front a b) ≡ stmts_names a ++ stmts_names b
-front-names no_stmt b = refl
-front-names (stmt_then x l) b = ap (λ m. stmt_names x ++ m) (front-names l b) ∙ sym (append_assoc (stmt_names x) (stmts_names l) (stmts_names b))
-
-quiet-front : (a b : PStmts) (m : List Naming) → stmts_names a ≡ [] → stmts_names b ≡ m → stmts_names (in_front a b) ≡ m
-quiet-front a b m p q = front-names a b ∙ ap₂ (λ (k l : List Naming). k ++ l) p q
 
 -- what stands in a list alone
 alone : (l : List Naming) → (l ++ []) ++ [] ≡ l

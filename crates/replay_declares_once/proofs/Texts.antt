@@ -2,21 +2,21 @@
 use Rattle.std.proofs.Common.{◌≡◌, ℕ, zero, suc, ◌+◌, ◌<◌, ◌≤◌, ◌-◌, ℤ, Bool, true, false, ◌||◌, nat_lt, nat_eq, if◌then◌else◌, List, [], ◌∷◌, ◌++◌, length, take, drop, slice_get, unwrap_or, codes, Option, Some, None, IsSomeAnd, refl, sym, ap, ◌∙◌, subst, true≢false, length-append, arith}
 use Rattle.std.specs.List.{list_any, fold, starts_with}
 use Rattle.std.specs.Str.{bytes_eq}
-use Rattle.std.proofs.lemmas.Bool.{or_from, or_left, ltb-true, ltb-false}
+use Rattle.std.proofs.lemmas.Bool.{or_from, ltb-true, ltb-false}
 use Rattle.std.proofs.lemmas.List.{append_assoc, take-append-drop}
-use Rattle.std.proofs.lemmas.Option.{slice_get_within, none-some}
+use Rattle.std.proofs.lemmas.Option.{slice_get_within}
 use Rattle.std.proofs.lemmas.Slice.Eq.{bytes_eq-Decides}
 use Rattle.common_lemmas.proofs.Options.{some_same}
 use Rattle.common_lemmas.proofs.Lists.{last_at}
-use Rattle.common_lemmas.proofs.Truth.{or_right, and_false, false_behind, and_both, both_true}
+use Rattle.common_lemmas.proofs.Truth.{and_false, false_behind, and_both, both_true}
 use Rattle.ada_tree.specs.NameList.{predefined, interned}
 use Rattle.ada_tree.specs.Lexical.{IsIdentifier}
 use Rattle.syn_event.specs.RuleReservedName.{has_mark, is_reserved}
 use Rattle.syn_event.specs.declared.numbering.TaskInfo.{TaskInfo}
 use Rattle.task_model.specs.Setting.{Setting}
 use Rattle.normal_model.specs.Names.{index_text, member_texts, variable_text, with_members, with_variables, normal_names, variable_name, task_name}
-use Rattle.normal_model.proofs.VariablesLemmas.{Begins, begins-refl, begins-trans}
-use Rattle.normal_types.proofs.Names.{interned-begins, variables-begin, names-begin, variable-there}
+use Rattle.normal_model.proofs.VariablesLemmas.{Begins}
+use Rattle.normal_types.proofs.Names.{variables-begin, names-begin, variable-there}
 use Rattle.rewritten_values.proofs.Saying.{place-within}
 use Rattle.normal_legal_units.proofs.TaskNames.{mark-there}
 use Rattle.normal_legal_units.proofs.TasksApart.{full_text, IsNamed}
@@ -24,16 +24,13 @@ use Rattle.normal_declares_once.proofs.Ids.{IsGoodId}
 use Rattle.replay_model.specs.Names.{kind_text, argument_text, index_text as permit_index_text, control_text, idle_text, never_text, join_text}
 use Rattle.replay_declares_once.specs.Names.{is_added_text}
 use Rattle.replay_declares_once.proofs.Ids.{IsOwn}
+use Rattle.ada_tree.proofs.Interning.{nowhere}
+use Rattle.normal_form_law.proofs.Names.{more-begin}
 
 -- ---- no text has two ids
 
 abbrev pub IsApart : List (List ℕ) → Type 0
 IsApart ts = (t : List ℕ) (i j : ℕ) → slice_get ts i ≡ Some t → slice_get ts j ≡ Some t → i ≡ j
-
-not-there : (t : List ℕ) (ts : List (List ℕ)) (i : ℕ) → list_any (bytes_eq t) ts ≡ false → slice_get ts i ≡ Some t → ⊥
-not-there t [] i h e = none-some t e
-not-there t (u ∷ ts) zero h e = true≢false (sym (or_left (bytes_eq t u) (list_any (bytes_eq t) ts) ((bytes_eq-Decides t u).1 (sym (some_same e)))) ∙ h)
-not-there t (u ∷ ts) (suc i) h e = not-there t ts i (or_right (bytes_eq t u) (list_any (bytes_eq t) ts) h) e
 
 -- where a text stands in a list with one more
 record StandsIn (ts : List (List ℕ)) (new t : List ℕ) (i : ℕ) : Type 0 where
@@ -68,11 +65,11 @@ interned-apart ts new a = by_test (list_any (bytes_eq new) ts) refl
         places true false f g =
             let w = p.within (ltb-true i (length ts) f) in
             let l = r.last (ltb-false j (length ts) g) in
-            absurd (not-there new ts i e (w ∙ ap Some l.1))
+            absurd (nowhere new ts i e (w ∙ ap Some l.1))
         places false true f g =
             let w = r.within (ltb-true j (length ts) g) in
             let l = p.last (ltb-false i (length ts) f) in
-            absurd (not-there new ts j e (w ∙ ap Some l.1))
+            absurd (nowhere new ts j e (w ∙ ap Some l.1))
         places false false f g = (p.last (ltb-false i (length ts) f)).0 ∙ sym (r.last (ltb-false j (length ts) g)).0
 
 fold-apart : (new ts : List (List ℕ)) → IsApart ts → IsApart (fold interned ts new)
@@ -183,12 +180,6 @@ marked-text t u n =
         by_test true e = absurd (true≢false (sym (starts-front (a ∷ b ∷ c ∷ d ∷ (x ++ (codes "_DED_" ++ u))) (codes "DED_") (codes "S_") e) ∙ k))
 
 -- ---- ids in the normal form
-
-more-begin : (ts : List (List ℕ)) (n d : ℕ) → Begins (with_variables ts n) (with_variables ts (n + d))
-more-begin ts n zero = let e : n + 0 ≡ n = omega arith in subst (λ k. Begins (with_variables ts n) (with_variables ts k)) (sym e) (begins-refl (with_variables ts n))
-more-begin ts n (suc d) =
-    let e : n + suc d ≡ suc (n + d) = omega arith in
-    subst (λ k. Begins (with_variables ts n) (with_variables ts k)) (sym e) (begins-trans (more-begin ts n d) (interned-begins (with_variables ts (n + d)) (variable_text (n + d))))
 
 module _ (g : Setting) (count : ℕ) where
   abbrev names : List (List ℕ)

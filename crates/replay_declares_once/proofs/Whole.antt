@@ -4,7 +4,7 @@ use Rattle.std.specs.List.{AllByRecursion}
 use Rattle.std.proofs.lemmas.Bool.{or_from}
 use Rattle.std.proofs.lemmas.List.{append_assoc, append-nil}
 use Rattle.std.proofs.lemmas.Grind.{flat_map-append}
-use Rattle.common_lemmas.proofs.Lists.{all_front, all_back, all_joined, all_weaker}
+use Rattle.common_lemmas.proofs.Lists.{all_front, all_back, all_joined, all_weaker, all_paired}
 use Rattle.ada_tree.specs.declared.naming.Span.{Span}
 use Rattle.ada_tree.specs.declared.naming.Word.{Word}
 use Rattle.ada_tree.specs.TypeTable.{TypeTable}
@@ -18,7 +18,6 @@ use Rattle.control_script.specs.declared.Op.{Op}
 use Rattle.rewritten_types.specs.Rewriting.{names_declared}
 use Rattle.normal_model.specs.NormalTree.{main_unit, normal_tree}
 use Rattle.normal_types.specs.Laws.{setting_of}
-use Rattle.normal_units.proofs.Tasks.{tasks-joined}
 use Rattle.normal_has_numbers.proofs.Listed.{IsPlain, IsOneTask, IsOneBody, tasks-all, bodies-all, first-plain, firsts, vars, tasks, bodies, vars-plain, normal-list}
 use Rattle.replay_model.specs.Names.{kind_text, argument_text, index_text, control_text, idle_text}
 use Rattle.replay_model.specs.ReplayTree.{behind_own, permit_declared, replay_decl, last_task, replay_of, normal_setting}
@@ -33,7 +32,7 @@ use Rattle.normal_once.specs.Once.{AllOnce}
 use Rattle.normal_once.specs.Apart.{IsFreeOf, AreApart, AreDistinct, fixed_name, fixed_names, loose_names, IsFitIn, AreFit}
 use Rattle.normal_once.specs.Names.{body_names, tasks_names, bodies_names}
 use Rattle.normal_once.proofs.Once.{free-front, free-back, free-both, apart-back, apart-turned, distinct-front, distinct-back, distinct-apart, distinct-both}
-use Rattle.normal_once.proofs.Parts.{all-fit-in, fit-in-alone, fit-in-apart, list-again}
+use Rattle.normal_once.proofs.Parts.{all-fit-in, fit-in-alone, fit-in-apart}
 use Rattle.normal_once.proofs.Rules.{once-fit, fit-once}
 use Rattle.normal_declares_once.proofs.Words.{word_ids, free-words}
 use Rattle.replay_declares_once.specs.Names.{word_named, IsKept, LeavesNames}
@@ -45,6 +44,8 @@ use Rattle.replay_declares_once.proofs.Plain.{plains_names, AreFresh, words-put,
 use Rattle.replay_declares_once.proofs.Units.{task_words, body_words, tasks-same, tasks-clear, bodies-same, bodies-clear, tasks-append, more-words, bodies-append, replayed-words}
 use Rattle.replay_declares_once.proofs.Listed.{first_names, unit_names, copy_names, main_name, program-named}
 use Rattle.replay_declares_once.proofs.Added.{texts-apart, permit-distinct, added-tasks-fit, added-tasks-fixed, added-bodies-fit, added-bodies-fixed}
+use Rattle.syn_event.proofs.DeclLists.{list_again, tasks_joined}
+use Rattle.replay_checked.proofs.Whole.{bodies-mapped}
 
 -- ---- lists of names
 
@@ -61,10 +62,6 @@ put-free xs ys zs x h k = free-both xs (ys ++ zs) x (free-front xs zs x h) (free
 put-apart : (xs ys zs ws : List ℕ) → AreApart (xs ++ zs) ws → AreApart ys ws → AreApart (xs ++ (ys ++ zs)) ws
 put-apart xs ys zs [] h k = tt
 put-apart xs ys zs (w ∷ ws) h k = (put-free xs ys zs w h.0 k.0, put-apart xs ys zs ws h.1 k.1)
-
-both-all : {A : Type 0} (P Q : A → Type 0) (xs : List A) → AllByRecursion P xs → AllByRecursion Q xs → AllByRecursion (λ x. P x × Q x) xs
-both-all P Q [] h k = tt
-both-all P Q (x ∷ xs) h k = ((h.0, k.0), both-all P Q xs h.1 k.1)
 
 -- namings of no new names fix and declare none
 clear-names : (X : List ℕ) (ns : List Naming) → AllByRecursion (λ (n : Naming). IsFreeOf X (word_named n).name.0) ns → AreApart X (fixed_names ns) × AreApart X (loose_names ns)
@@ -98,11 +95,6 @@ replayed g (DSubtype w x s ∷ ts) h = absurd h.0
 replayed g (DException ws s ∷ ts) h = absurd h.0
 replayed g (DIntIo w s ∷ ts) h = absurd h.0
 replayed g (DPragma e s ∷ ts) h = absurd h.0
-
-replayed-bodies : (g : Setting) (ds : List PDecl) → AllByRecursion IsOneBody ds → AllByRecursion IsOneBody (map (replay_decl g) ds)
-replayed-bodies g [] h = tt
-replayed-bodies g (DTaskBody w objects its s ∷ ds) h = (tt, replayed-bodies g ds h.1)
-replayed-bodies g (d ∷ ds) h = absurd h.0
 
 -- ---- the whole
 
@@ -157,7 +149,7 @@ module _ (p : PProgram) (types : TypeTable) (numbers : Numbering) (ops : List Op
       ∙ sym (ap (λ (l : List PDecl). l ++ bs) (append_assoc (firsts p types numbers) (vars p types numbers) ts) ∙ append_assoc (firsts p types numbers) (vars p types numbers ++ ts) bs)
 
   normal-decls : q.decls ≡ decls_of (plain ++ ts ++ bs)
-  normal-decls = sym (list-again q.decls) ∙ ap decls_of listed
+  normal-decls = sym (list_again q.decls) ∙ ap decls_of listed
 
   replay-listed : r.decls ≡ decls_of (put ++ more_ts ++ more_bs)
   replay-listed =
@@ -266,7 +258,7 @@ module _ (p : PProgram) (types : TypeTable) (numbers : Numbering) (ops : List Op
         (fixed-clear.1.1.1.0, (fixed-clear.1.1.1.1.0, tt))
 
     good : AllByRecursion (IsGood F X) A
-    good = both-all (IsFitIn F) (λ (n : Naming). IsFreeOf X (word_named n).name.0) A (all-fit-in F A fit.alone F-apart) clear
+    good = all_paired (IsFitIn F) (λ (n : Naming). IsFreeOf X (word_named n).name.0) A (all-fit-in F A fit.alone F-apart) clear
 
     -- ---- what is known of the parts
 
@@ -356,7 +348,7 @@ module _ (p : PProgram) (types : TypeTable) (numbers : Numbering) (ops : List Op
     has-doubles =
         let H : PTask → Type 0 = λ (t : PTask). HasDoubles q t.entries in
         let whole : AllByRecursion H ((tasks_in plain ++ units) ++ tasks_in bs) =
-        subst (AllByRecursion H) (ap tasks_in listed ∙ tasks-joined (plain ++ ts) bs ∙ ap (λ (l : List PTask). l ++ tasks_in bs) (tasks-joined plain ts)) (doubles-there q) in
+        subst (AllByRecursion H) (ap tasks_in listed ∙ tasks_joined (plain ++ ts) bs ∙ ap (λ (l : List PTask). l ++ tasks_in bs) (tasks_joined plain ts)) (doubles-there q) in
         all_back H (tasks_in plain) units (all_front H (tasks_in plain ++ units) (tasks_in bs) whole)
 
     abbrev added : List PTask
@@ -379,7 +371,7 @@ module _ (p : PProgram) (types : TypeTable) (numbers : Numbering) (ops : List Op
 
     tasks-parts : tasks_names more (tasks_in more_ts) ≡ T1 ++ T2
     tasks-parts =
-        ap (tasks_names more) (tasks-joined (map (replay_decl g) ts) (control_declared q s (last_task g.numbers) ∷ idle_declared q s ∷ []) ∙ ap (λ (l : List PTask). l ++ added) (replayed g ts all-tasks).0)
+        ap (tasks_names more) (tasks_joined (map (replay_decl g) ts) (control_declared q s (last_task g.numbers) ∷ idle_declared q s ∷ []) ∙ ap (λ (l : List PTask). l ++ added) (replayed g ts all-tasks).0)
         ∙ tasks-append more (map (more_task q) units) added
 
     T-same : IsSame F X T T1
@@ -428,7 +420,7 @@ module _ (p : PProgram) (types : TypeTable) (numbers : Numbering) (ops : List Op
     replay-named =
         program-named r put more_ts more_bs replay-listed (all-behind IsPlain q.names permit plain tt all-plain)
         (all_joined IsOneTask (map (replay_decl g) ts) (control_declared q s (last_task g.numbers) ∷ idle_declared q s ∷ []) (replayed g ts all-tasks).1 (refl, (refl, tt)))
-        (all_joined IsOneBody (map (replay_decl g) bs) (control_body g s ops ∷ idle_body q s ∷ []) (replayed-bodies g bs all-bodies) (tt, (tt, tt)))
+        (all_joined IsOneBody (map (replay_decl g) bs) (control_body g s ops ∷ idle_body q s ∷ []) (bodies-mapped g bs all-bodies) (tt, (tt, tt)))
         ∙ (λ i. (N ++ (P1 ++ tasks-parts i ++ bodies-parts i)) ++ body-same (main_unit g) s q.body i)
 
     replay-fixed : names R ≡ F

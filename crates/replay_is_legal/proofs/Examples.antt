@@ -1,19 +1,18 @@
 -- A program and a whole run of it are as the laws ask.
-use Rattle.std.proofs.Common.{ℕ, refl, lit≤, lit<}
+use Rattle.std.proofs.Common.{refl, lit≤, lit<}
 use Rattle.std.specs.List.{AllByRecursion}
 use Rattle.std.specs.Fmt.{digits}
-use Rattle.ada_tree.specs.declared.static_types.Kind.{Kind}
-use Rattle.ada_tree.specs.declared.static_types.Kind.TheVariants.{Integer, Truth, Enumeration, Array}
 use Rattle.ada_tree.specs.Refusals.{types_in, MeetsTypeRules}
 use Rattle.syn_event.specs.declared.numbering.Mode.TheVariants.{Original}
 use Rattle.syn_event.specs.Legal.{Legal}
 use Rattle.rewritten_types.proofs.Lookups.{place-all}
-use Rattle.legal_types.specs.Typed.{IsSmall, IsSmallKind}
+use Rattle.legal_types.specs.Typed.{IsSmall}
 use Rattle.normal_placed.specs.Example.{passing}
 use Rattle.normal_placed.proofs.Instance.{example_is_placeable}
 use Rattle.normal_legal_units.specs.Weights.{IsLight}
 use Rattle.normal_form_law.specs.Normalisable.{numbers_of}
 use Rattle.normal_legal.specs.Laws.{IsLegal}
+use Rattle.normal_legal.proofs.Instance.{IsOther, small-other}
 use Rattle.normal_is_legal.proofs.Places.{places_meet}
 use Rattle.replay_checked.specs.Example.{example_events}
 use Rattle.replay_checkable.proofs.Instance.{example_is_prepared}
@@ -24,17 +23,6 @@ use Rattle.replay_is_legal.specs.Laws.{text_for, MeetsAtPlaces, IsHeld, IsMet}
 legal : Legal passing (types_in passing) (numbers_of passing) Original
 unfolding digits
 legal = record { type_rules = refl; check_rules = refl; its_types = refl; its_numbers = refl }
-
--- a kind that is no enumeration
-abbrev IsOther : Kind → Type 0
-IsOther (Enumeration ids) = ⊥
-IsOther _ = Unit {0}
-
-small-other : (k : ℕ) (x : Kind) → IsOther x → IsSmallKind k x
-small-other k (Enumeration ids) h = absurd h
-small-other k Integer h = tt
-small-other k Truth h = tt
-small-other k (Array index first last part) h = tt
 
 others : AllByRecursion IsOther (types_in passing).kinds
 others = (tt, (tt, tt))

@@ -1,4 +1,4 @@
--- The names in the normal form of a legal program are kept in its replay texts, and it is not too deep, where the subtypes of its variables are so.
+-- The names in the statements of main and in the first declarations of the normal form of a legal program are kept in its replay texts, and nothing is too deep there; so with its variables, where their subtypes are so.
 use Rattle.std.proofs.Common.{◌≡◌, ℕ, ◌+◌, ◌<◌, ◌≤◌, Bool, true, false, ◌||◌, nat_eq, codes, List, [], ◌∷◌, ◌++◌, length, map, max, slice_get, unwrap_or, Option, Some, None, IsSomeAnd, refl, sym, ap, subst, ◌∙◌, arith}
 use Rattle.std.specs.List.{AllByRecursion, list_any, starts_with}
 use Rattle.std.specs.Str.{bytes_eq}
@@ -18,8 +18,8 @@ use Rattle.normal_model.specs.Names.{variable_name, task_name}
 use Rattle.normal_model.specs.NormalTree.{first_decls, main_unit, main_variables, tasks_beside, variables_needed, variables_of_body, greatest}
 use Rattle.normal_model.specs.Ranges.{word_at}
 use Rattle.normal_legal_units.proofs.TasksApart.{IsNamed}
+use Rattle.normal_types.specs.Own.{own_name}
 use Rattle.normal_form_law.specs.Normalisable.{numbers_of, setting_for, made_for}
-use Rattle.normal_placed.proofs.Whole.{among-all}
 use Rattle.normal_placed.proofs.Names.{first-named}
 use Rattle.normal_placed.proofs.Added.{AreSubtypes, AreVariablesFrom, unit-from}
 use Rattle.normal_checked.specs.Around.{IsLiteralOf, is_false, is_true, is_enumerated}
@@ -32,17 +32,32 @@ use Rattle.normal_meets_checks.proofs.AroundBody.{place-there, kinds-there, has-
 use Rattle.normal_meets_checks.proofs.Facts as facts
 use Rattle.replay_model.specs.Names.{join_text}
 use Rattle.replay_declares_once.proofs.Ids.{IsOwn}
-use Rattle.replay_declares_once.proofs.Texts.{good-own, task-own}
-use Rattle.replay_checked.specs.Around.{meant_texts, kept_name, kept_names}
-use Rattle.replay_checkable.proofs.KeptNames.{kept-by, own-kept, variable-kept}
+use Rattle.replay_declares_once.proofs.Texts.{good-own, variable-own, task-own}
+use Rattle.replay_checked.specs.Around.{meant_texts, kept_name}
+use Rattle.replay_checkable.proofs.Kept.{rules_of}
+use Rattle.replay_checkable.proofs.KeptNames.{kept-by}
 use Rattle.replay_checkable.proofs.KeptPieces.{KeepsNames}
 use Rattle.replay_checkable.proofs.KeptDecls.{unit-kept, firsts-kept}
+use Rattle.normal_placed.proofs.Made.{among}
 
 shorter : (f : List ℕ → Bool) (xs ys : List (List ℕ)) → list_any f (xs ++ ys) ≡ false → list_any f xs ≡ false
 shorter f [] ys h = refl
 shorter f (x ∷ xs) ys h = let r = or_parts (f x) (list_any f (xs ++ ys)) h in or_from (f x) (list_any f xs) r.0 (shorter f xs ys r.1)
 
-module _ (p : PProgram) (h : IsLegal p) where
+-- ---- names of a normal form
+
+-- a name that no replay text adds is kept
+pub new-kept : (p : PProgram) (x : ℕ) → IsOwn (made_for p).names x → kept_name (made_for p) x ≡ true
+new-kept p x o = by_place (slice_get (made_for p).names x) refl o
+  where
+    by_place : (s : Option (List ℕ)) → slice_get (made_for p).names x ≡ s → IsSomeAnd s (λ t. (list_any (bytes_eq t) (meant_texts ++ join_text ∷ []) || starts_with nat_eq t (codes "DED_S_")) ≡ false) → kept_name (made_for p) x ≡ true
+    by_place None e k = absurd k
+    by_place (Some t) e k =
+        kept-by (made_for p) (record { 0 = x }) (slice_get_within (made_for p).names x t e)
+        (ap (λ (s : Option (List ℕ)). list_any (bytes_eq (unwrap_or s [])) meant_texts) e ∙ shorter (bytes_eq t) meant_texts (join_text ∷ []) (or_parts (list_any (bytes_eq t) (meant_texts ++ join_text ∷ [])) (starts_with nat_eq t (codes "DED_S_")) k).0)
+
+-- Of a test that holds of the program's own names, and of those names of the normal form of which no replay text has one of its own.
+module _ (p : PProgram) (h : IsLegal p) (kept : ℕ → Bool) (old : (k : ℕ) → own_name p k ≡ true → kept k ≡ true) (new : (x : ℕ) → IsOwn (made_for p).names x → kept x ≡ true) where
   abbrev g : Setting
   g = setting_for p
 
@@ -52,30 +67,20 @@ module _ (p : PProgram) (h : IsLegal p) where
   abbrev T : TypeTable
   T = facts.T p h
 
-  abbrev kept : ℕ → Bool
-  kept = kept_name n
-
   abbrev r' : Rules
-  r' = kept_names n
+  r' = rules_of kept
 
-  -- a name that no replay text adds is kept
-  kept-own : (x : ℕ) → IsOwn n.names x → kept x ≡ true
-  kept-own x o = by_place (slice_get n.names x) refl o
-    where
-      by_place : (s : Option (List ℕ)) → slice_get n.names x ≡ s → IsSomeAnd s (λ t. (list_any (bytes_eq t) (meant_texts ++ join_text ∷ []) || starts_with nat_eq t (codes "DED_S_")) ≡ false) → kept x ≡ true
-      by_place None e k = absurd k
-      by_place (Some t) e k =
-          kept-by n (record { 0 = x }) (slice_get_within n.names x t e)
-          (ap (λ (s : Option (List ℕ)). list_any (bytes_eq (unwrap_or s [])) meant_texts) e ∙ shorter (bytes_eq t) meant_texts (join_text ∷ []) (or_parts (list_any (bytes_eq t) (meant_texts ++ join_text ∷ [])) (starts_with nat_eq t (codes "DED_S_")) k).0)
-
-  first-kept : (k : ℕ) → k < 25 → kept k ≡ true
-  first-kept k l = kept-own k (good-own g (variables_needed g) k (record { there = first-named p.names h.names k l; free = first-free p.names h.names k l }))
+  pub first-kept : (k : ℕ) → k < 25 → kept k ≡ true
+  first-kept k l = new k (good-own g (variables_needed g) k (record { there = first-named p.names h.names k l; free = first-free p.names h.names k l }))
 
   main-few : length (main_variables g) ≤ variables_needed g
   main-few = at-most (length (main_variables g)) (greatest (map (variables_of_body g) (decl_list p.decls)))
     where
       at-most : (a b : ℕ) → a ≤ max a b
       at-most a b = omega arith
+
+  variable-kept : (k : ℕ) → k < variables_needed g → kept (variable_name g k).0 ≡ true
+  variable-kept k l = new (variable_name g k).0 (variable-own g (variables_needed g) k l)
 
   -- the literals of indices are names that the program declares, or predefined ones
   literal-kept : (id : NameId) → IsLiteralOf g id → kept id.0 ≡ true
@@ -85,14 +90,14 @@ module _ (p : PProgram) (h : IsLegal p) where
     where
       go : (o : Option NameId) → slice_get ids k ≡ o → kept (unwrap_or o (record { 0 = 0 })).0 ≡ true
       go None f = first-kept 0 (omega arith)
-      go (Some x) f = own-kept p T (numbers_of p) x.0 (facts.valued-own p h x (has-value T x (kinds-there ids x T.kinds i (place-there ids k x f))))
+      go (Some x) f = old x.0 (facts.valued-own p h x (has-value T x (kinds-there ids x T.kinds i (place-there ids k x f))))
 
-  names-kept : (vars : List PDecl) → length vars ≤ variables_needed g → KeepsNames g (facts.own p h) kept vars
+  pub names-kept : (vars : List PDecl) → length vars ≤ variables_needed g → KeepsNames g (facts.own p h) kept vars
   names-kept vars few = record {
-    old = own-kept p T (numbers_of p);
+    old = old;
     first = first-kept;
-    variables = λ k l. variable-kept p T (numbers_of p) k (omega (arith, l, few));
-    tasks = λ info i. kept-own (task_name g info).0 (task-own g (variables_needed g) info (among-all (IsNamed g) info (tasks_beside g) i (named p h)));
+    variables = λ k l. variable-kept k (omega (arith, l, few));
+    tasks = λ info i. new (task_name g info).0 (task-own g (variables_needed g) info (among (IsNamed g) info (tasks_beside g) i (named p h)));
     literals = literal-kept;
   }
 
@@ -105,12 +110,12 @@ module _ (p : PProgram) (h : IsLegal p) where
 
   -- the first declarations, the variables of main, and the tasks
   pub firsts-all : EveryDecls r' (first_decls [] p.decls)
-  firsts-all = firsts-kept (facts.own p h) kept (own-kept p T (numbers_of p)) p.names (check.body_names p.decls) p.decls [] (facts.around p h) (facts.owns p h).2 (facts.decls-checked p h)
+  firsts-all = firsts-kept (facts.own p h) kept old p.names (check.body_names p.decls) p.decls [] (facts.around p h) (facts.owns p h).2 (facts.decls-checked p h)
 
-  vars-kept : (vs : List PDecl) (k : ℕ) → AreVariablesFrom g (EverySubind r' 2) k vs → k + length vs ≤ variables_needed g → AllByRecursion (EveryDecl r') vs
+  pub vars-kept : (vs : List PDecl) (k : ℕ) → AreVariablesFrom g (EverySubind r' 2) k vs → k + length vs ≤ variables_needed g → AllByRecursion (EveryDecl r') vs
   vars-kept [] k v l = tt
   vars-kept (d ∷ ds) k v l = (
-    subst (EveryDecl r') (sym v.0.is) (omega arith, (tt, All-from_recursion (EveryWord r') (word_at v.0.place (variable_name g k) ∷ []) (variable-kept p T (numbers_of p) k (omega (arith, l)), tt)), v.0.fits, tt, tt),
+    subst (EveryDecl r') (sym v.0.is) (omega arith, (tt, All-from_recursion (EveryWord r') (word_at v.0.place (variable_name g k) ∷ []) (variable-kept k (omega (arith, l)), tt)), v.0.fits, tt, tt),
     vars-kept ds (k + 1) v.1 (omega (arith, l)),
   )
 

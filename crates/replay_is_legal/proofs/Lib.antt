@@ -1,4 +1,6 @@
 pub mod Kept
+pub mod Subtypes
+pub mod Declared
 pub mod Prepared
 pub mod Legal
 pub mod Examples

@@ -11,6 +11,7 @@ use Rattle.ada_tree.specs.PlainDecl.{PDecl, DNumber, DObject, DEnumeration, DArr
 use Rattle.ada_tree.specs.PlainProgram.{PProgram}
 use Rattle.ada_tree.specs.RuleDuplicate.{is_predefined}
 use Rattle.ada_tree.specs.Scope.{Scope}
+use Rattle.ada_tree.specs.Refusals.{types_in}
 use Rattle.ada_tree.specs.Declaring.{after_decl, first_scope}
 use Rattle.syn_event.specs.CheckScope.{CheckScope}
 use Rattle.syn_event.specs.CheckSites as check
@@ -34,9 +35,11 @@ use Rattle.normal_declares_once.proofs.Ids.{variable-new, new-not-predefined}
 use Rattle.normal_fits.proofs.Counted.{tasks-within}
 use Rattle.normal_meets_checks.proofs.Facts as facts
 use Rattle.normal_meets_checks.proofs.Counts as counts
+use Rattle.replay_checked.specs.Around.{kept_name}
 use Rattle.replay_checked.specs.Checkable.{IsOtherThanTruth, entries_count}
 use Rattle.replay_checkable.specs.Prepared.{form_for, IsBesideMain}
-use Rattle.replay_is_legal.proofs.Kept.{main-kept}
+use Rattle.replay_checkable.proofs.KeptNames.{own-kept}
+use Rattle.replay_is_legal.proofs.Kept.{new-kept, main-kept}
 use Rattle.replay_is_legal.specs.Laws.{LegalIsPrepared}
 
 -- ---- no object is named FALSE
@@ -180,7 +183,7 @@ legal_is_prepared p events h kept = record {
   main = (facts.olds p h).0;
   truth = facts.first-own p h false_name (lit< tt);
   declared = kept.declared;
-  named = main-kept p h;
+  named = main-kept p h (kept_name (made_for p)) (own-kept p (types_in p) (numbers_of p)) (new-kept p);
   untrue = untrue p h;
   few_tasks = few-tasks p h;
   few_entries = few-entries p h;

@@ -9,11 +9,11 @@ use Rattle.event_machine.specs.declared.Standing.TheVariants.{Live, Waiting, Que
 use Rattle.event_machine.specs.declared.Event.{Event}
 use Rattle.event_machine.specs.declared.Event.TheVariants.{R, E, F}
 use Rattle.event_machine.specs.Offers.{Nothing, Calls, calls_in, is_any_form, waits_with, opens, is_finish, same_member}
-use Rattle.event_machine.specs.Seats.{Seat, live, is_live, is_closed, is_completed}
+use Rattle.event_machine.specs.Seats.{Seat, live, is_live, is_closed}
 use Rattle.event_machine.specs.Programs.{numbered}
 use Rattle.event_machine.specs.Worlds.{World, Move, Step, Happen, can_move, moved, acted, happened, is_last, offers, AreMoves, world_after}
 use Rattle.event_machine.proofs.Basics.{both, same_member-refl, seat_path}
-use Rattle.event_machine.proofs.Standings.{is-Live}
+use Rattle.event_machine.proofs.Standings.{is-Live, completed_closed}
 use Rattle.replay_law.specs.Permits.{Permit, permit_of, Op, Go, Done, Join}
 use Rattle.replay_law.specs.Scripts.{grants}
 use Rattle.replay_law.specs.Copies.{Copy, Based, Holding, Saying, Controlling, Handing, copy_ops, copy_steps, copy_resumed, copy_raised, op_callers, under}
@@ -30,14 +30,6 @@ use Rattle.replay_law.proofs.Failing.{joins, live_below}
 use Rattle.replay_law.proofs.Standing.{away_free}
 use Rattle.replay_law.proofs.Matching.{Steps, step_inv, step_image}
 use Rattle.common_lemmas.proofs.Numbers.{equal_self, lt_false}
-
-completed_closed : (s : Standing) → is_completed s ≡ true → is_closed s ≡ true
-completed_closed Live h = absurd (true≢false (sym h))
-completed_closed Waiting h = absurd (true≢false (sym h))
-completed_closed Queued h = absurd (true≢false (sym h))
-completed_closed (Served by abnormal) h = absurd (true≢false (sym h))
-completed_closed Completed h = refl
-completed_closed Killed h = refl
 
 module _ (x : Setting) where
   -- ---- one move that the original does not see

@@ -1,15 +1,14 @@
 -- The entries of a task have in the normal form the family ranges that they have in the program, and a unit of the normal form has the number of its task.
-use Rattle.std.proofs.Common.{◌≡◌, ℕ, zero, suc, ◌+◌, ◌-◌, ◌==◌, ◌&&◌, nat_lt, Bool, true, false, not, cond, if◌then◌else◌, List, [], ◌∷◌, ◌++◌, length, map, flat_map, slice_get, get_or, Option, Some, None, option_map, unwrap_or, position, find, refl, sym, ap, ◌∙◌, eqb-true, true≢false, arith}
-use Rattle.std.proofs.lemmas.Bool.{eq-eqb}
-use Rattle.std.specs.List.{AllByRecursion, filter, position_or_len}
+use Rattle.std.proofs.Common.{◌≡◌, ℕ, suc, ◌+◌, ◌-◌, ◌==◌, ◌&&◌, nat_lt, Bool, not, cond, if◌then◌else◌, List, [], ◌∷◌, length, map, slice_get, get_or, Option, Some, None, option_map, unwrap_or, position, find, refl, sym, ap, ◌∙◌, eqb-true, arith}
+use Rattle.std.specs.List.{position_or_len}
 use Rattle.std.proofs.lemmas.List.Quantifiers.{position-Some}
-use Rattle.std.proofs.lemmas.Option.{none-some, slice_get-get_or}
+use Rattle.std.proofs.lemmas.Option.{slice_get-get_or}
 use Rattle.common_lemmas.proofs.Truth.{and_left}
 use Rattle.common_lemmas.proofs.Options.{some_same}
 use Rattle.common_lemmas.proofs.Numbers.{unequal}
 use Rattle.ada_tree.specs.declared.naming.NameId.{NameId}
 use Rattle.ada_tree.specs.TypeTable.{TypeTable}
-use Rattle.ada_tree.specs.PlainDecl.{PEntry, PTask}
+use Rattle.ada_tree.specs.PlainDecl.{PTask}
 use Rattle.ada_tree.specs.PlainProgram.{PProgram}
 use Rattle.syn_event.specs.declared.numbering.TaskInfo.{TaskInfo}
 use Rattle.syn_event.specs.declared.numbering.EntryInfo.{EntryInfo}
@@ -20,66 +19,16 @@ use Rattle.task_model.specs.Setting.{Setting, entry_of, unit_named}
 use Rattle.normal_types.specs.Laws.{setting_of}
 use Rattle.normal_model.specs.Names.{task_name}
 use Rattle.normal_model.specs.Ranges.{range_in, range_of_unit, range_of_info, family_range}
-use Rattle.normal_model.specs.NormalTree.{task_under, unit_for, tasks_beside}
-use Rattle.normal_units.specs.Laws.{count_named, TellUnits}
-use Rattle.normal_units.proofs.Tasks.{has_name, tasks_made, tasks-of, tasks_keep_numbers, tell-at}
+use Rattle.normal_model.specs.NormalTree.{unit_for, tasks_beside}
+use Rattle.normal_units.specs.Laws.{TellUnits}
+use Rattle.normal_units.proofs.Tasks.{tasks-of, tasks_keep_numbers, tell-at, entries_in, find-first, unit-found, with_entries}
 use Rattle.normal_fits.specs.Ready.{normal_of}
 
 -- ---- ranges by entries
 
-abbrev entries_in : Option PTask → Option (List PEntry)
-entries_in o = option_map (λ (t : PTask). t.entries) o
-
-abbrev with_entries : List PEntry → PTask
-with_entries es = record { name = record { name = record { 0 = 0 }; span = record { start = 0; end = 0 } }; of_kind = false; entries = es; priorities = [] }
-
 range-by : (o : Option PTask) (name : NameId) → range_in o name ≡ range_in (option_map with_entries (entries_in o)) name
 range-by (Some t) name = refl
 range-by None name = refl
-
--- the first of a list
-abbrev first_one : {A : Type 0} → List A → Option A
-first_one [] = None
-first_one (x ∷ xs) = Some x
-
-first-found : {A : Type 0} (test : A → Bool) (xs : List A) → find test xs ≡ first_one (filter test xs)
-first-found test [] = refl
-first-found test (x ∷ xs) = by_test (test x) (first-found test xs)
-  where
-    by_test : (b : Bool) → find test xs ≡ first_one (filter test xs) → cond b (Some x) (find test xs) ≡ first_one (cond b (x ∷ filter test xs) (filter test xs))
-    by_test true e = refl
-    by_test false e = e
-
--- ---- units of tasks
-
--- tasks of another name are passed over
-skip-made : (n m : NameId) (xs ys : List PTask) → (m.0 == n.0) ≡ false → find (has_name n) (map (task_under m) xs ++ ys) ≡ find (has_name n) ys
-skip-made n m [] ys e = refl
-skip-made n m (x ∷ xs) ys e = ap (λ b. if b then Some (task_under m x) else find (has_name n) (map (task_under m) xs ++ ys)) e ∙ skip-made n m xs ys e
-
-first-made : (n m : NameId) (xs ys : List PTask) → length xs ≡ 1 → (m.0 == n.0) ≡ true → entries_in (find (has_name n) (map (task_under m) xs ++ ys)) ≡ entries_in (first_one xs)
-first-made n m [] ys l e = let y : ⊥ = omega arith in absurd y
-first-made n m (x ∷ xs) ys l e = ap (λ b. entries_in (if b then Some (task_under m x) else find (has_name n) (map (task_under m) xs ++ ys))) e
-
-module _ (g : Setting) (info : TaskInfo) where
-  -- tasks of one name have one unit
-  abbrev Tell : List TaskInfo → Type 0
-  Tell infos = AllByRecursion (λ (b : TaskInfo). (task_name g info).0 ≡ (task_name g b).0 → info.unit.0 ≡ b.unit.0) infos
-
-  unit-found : (infos : List TaskInfo) (t : ℕ) → slice_get infos t ≡ Some info → AllByRecursion (λ (b : TaskInfo). count_named g.program b.unit ≡ 1) infos → Tell infos →
-      entries_in (find (has_name (task_name g info)) (flat_map (tasks_made g) infos)) ≡ entries_in (first_one (filter (has_name info.unit) (tasks_of g.program)))
-  unit-found [] t at one tell = absurd (none-some info at)
-  unit-found (b ∷ infos) t at one tell = by_test ((task_name g b).0 == (task_name g info).0) refl t at (λ k e. unit-found infos k e one.1 tell.1)
-    where
-      by_test : (test : Bool) → ((task_name g b).0 == (task_name g info).0) ≡ test → (t : ℕ) → slice_get (b ∷ infos) t ≡ Some info →
-          ((k : ℕ) → slice_get infos k ≡ Some info → entries_in (find (has_name (task_name g info)) (flat_map (tasks_made g) infos)) ≡ entries_in (first_one (filter (has_name info.unit) (tasks_of g.program)))) →
-          entries_in (find (has_name (task_name g info)) (tasks_made g b ++ flat_map (tasks_made g) infos)) ≡ entries_in (first_one (filter (has_name info.unit) (tasks_of g.program)))
-      by_test true e t at rest =
-          first-made (task_name g info) (task_name g b) (filter (has_name b.unit) (tasks_of g.program)) (flat_map (tasks_made g) infos) one.0 e
-          ∙ ap (λ n. entries_in (first_one (filter (λ (x : PTask). x.name.name.0 == n) (tasks_of g.program)))) (sym (tell.0 (sym (eqb-true _ _ e))))
-      by_test false e zero at rest = absurd (true≢false (sym (eq-eqb _ _ refl) ∙ ap (λ (i : TaskInfo). (task_name g b).0 == (task_name g i).0) (some_same at) ∙ e))
-      by_test false e (suc k) at rest =
-          ap entries_in (skip-made (task_name g info) (task_name g b) (filter (has_name b.unit) (tasks_of g.program)) (flat_map (tasks_made g) infos) e) ∙ rest k at
 
 -- ---- the owner of an entry
 
@@ -120,7 +69,7 @@ module _ (p : PProgram) (T : TypeTable) (numbers : Numbering) (tell : TellUnits 
       ∙ ap (λ o. range_in (option_map with_entries o) name)
       (ap (λ l. entries_in (find (λ (t : PTask). t.name.name.0 == (task_name g info).0) l)) (tasks-of p T numbers)
       ∙ unit-found g info (tasks_beside g) k at tell.declared (tell-at g info (tasks_beside g) (tasks_beside g) k at tell.named)
-      ∙ ap entries_in (sym (first-found (λ (t : PTask). t.name.name.0 == info.unit.0) (tasks_of p))))
+      ∙ ap entries_in (sym (find-first (λ (t : PTask). t.name.name.0 == info.unit.0) (tasks_of p))))
       ∙ sym (range-by (unit_named p info.unit) name)
 
   -- the range of an entry of a task beside main

@@ -58,8 +58,7 @@ use Rattle.normal_scopes.proofs.Seeing.{entries_in}
 use Rattle.normal_scopes.proofs.Places.{AtBodies}
 use Rattle.normal_scopes.proofs.Units.{IsUnitOrNot}
 use Rattle.normal_scopes.proofs.Bodies.{body-own}
-use Rattle.normal_scopes.proofs.Called.{objects-own}
-use Rattle.normal_scopes.proofs.Main.{units-seen, among-all}
+use Rattle.normal_scopes.proofs.Main.{units-seen}
 use Rattle.normal_legal_bodies.proofs.Joined as joined
 use Rattle.normal_legal_bodies.proofs.Fields as fields
 use Rattle.syn_event.specs.NamedTasks.{NumberedTask, numbered_tasks}
@@ -76,6 +75,8 @@ use Rattle.normal_fits.proofs.Counted.{tasks-within, entries-within}
 use Rattle.normal_fits.proofs.Doubles.{decls-doubled}
 use Rattle.replay_legal_placed.proofs.Tight.{S, head-operand}
 use Rattle.replay_legal_placed.proofs.Calls.{EntriesDoubled, tasks-doubled, ready-asked}
+use Rattle.normal_placed.proofs.Made.{among}
+use Rattle.tree_lemmas.proofs.Declared.{objects_own}
 
 -- ---- lists
 
@@ -248,8 +249,8 @@ module _ (p : PProgram) (h : IsLegal p) where
   runs : (w : NameId) (info : TaskInfo) → IsAmong info (running g w) → Runs w info
   runs w info i =
       let there : AllByRecursion (λ (x : TaskInfo). (k : ℕ) × (slice_get (tasks_beside g) k ≡ Some x)) (tasks_beside g) = all_by_place (λ (x : TaskInfo). (k : ℕ) × (slice_get (tasks_beside g) k ≡ Some x)) (tasks_beside g) (λ k x e. (k, e)) in
-      let one = among-all (λ (x : TaskInfo). (k : ℕ) × (slice_get (tasks_beside g) k ≡ Some x)) info (running g w) i (all_kept (λ (x : TaskInfo). (k : ℕ) × (slice_get (tasks_beside g) k ≡ Some x)) (λ (x : TaskInfo). x.unit.0 == w.0) (tasks_beside g) there) in
-      let passes : (info.unit.0 == w.0) ≡ true = among-all (λ (x : TaskInfo). (x.unit.0 == w.0) ≡ true) info (running g w) i (all-pass (λ (x : TaskInfo). x.unit.0 == w.0) (tasks_beside g)) in
+      let one = among (λ (x : TaskInfo). (k : ℕ) × (slice_get (tasks_beside g) k ≡ Some x)) info (running g w) i (all_kept (λ (x : TaskInfo). (k : ℕ) × (slice_get (tasks_beside g) k ≡ Some x)) (λ (x : TaskInfo). x.unit.0 == w.0) (tasks_beside g) there) in
+      let passes : (info.unit.0 == w.0) ≡ true = among (λ (x : TaskInfo). (x.unit.0 == w.0) ≡ true) info (running g w) i (all-pass (λ (x : TaskInfo). x.unit.0 == w.0) (tasks_beside g)) in
       record { place = one.0; at = one.1; unit = eqb-true info.unit.0 w.0 passes }
 
   met : (xs : List Site) → AllByRecursion Known xs → AllByRecursion IsMet xs
@@ -302,7 +303,7 @@ module _ (p : PProgram) (h : IsLegal p) where
       (head-operand p h seen.task e.0.0 e.0.1 y rel.0 rel.1 rel.2 j.0.1.1.0.accepts (met (head_sites e.0.0 y) j.0.0) (suc r.place) x.numbered x.is
       (one-unit p T parts x.numbered.unit seen.task x.is.unit seen.seen.own.0.unit (x.unit ∙ r.unit ∙ sym seen.named)) y.index refl (small-index k y j.1.1.1)))
       scope around its seen.seen b.here.0.0
-      (objects-own objects (in_body s w) ∙ body-own (S p h) s w seen.task seen.named unit places.0.0.known)
+      (objects_own objects (in_body s w) ∙ body-own (S p h) s w seen.task seen.named unit places.0.0.known)
       (all_back Known (own_sites (in_body s w) objects) (body_sites scope its) places.1)
       (all_back Check (check.own_sites (check.in_body c w) objects) (check.body_sites around 1 its) checks) b.every.0.4
 

@@ -141,7 +141,7 @@ fn put_added(n: &AddedNames, last: u32, out: &mut Vec<EntryInfo>) -> Result<(), 
 pub(crate) fn all_infos(alloc: Global, x: &Speaker, last: u32) -> Result<Vec<EntryInfo>, Memory>
     ensures { IfOk result (λ made. made.items ≡ all_infos (voice_of x.now) last) }
 {
-    let numbers = x.numbers;
+    let numbers = x.numbers.numbers();
     let lists = lists_of(alloc, &numbers.entries, last as usize)?;
     let mut entries = Vec::new(alloc);
     put_tasks(x, &lists, &mut entries)?;

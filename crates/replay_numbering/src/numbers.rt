@@ -28,7 +28,7 @@ fn task_info(names: &Names, name: NameId) -> TaskInfo
 fn tasks_of(alloc: Global, x: &Speaker, names: &Names) -> Result<Vec<TaskInfo>, Memory>
     ensures { IfOk result (λ made. made.items ≡ (voice_of x.now).numbers.tasks ++ task_info names.now (voice_of x.now).added.control ∷ task_info names.now (voice_of x.now).added.idle ∷ []) }
 {
-    let numbers = x.numbers;
+    let numbers = x.numbers.numbers();
     let mut tasks = Vec::new(alloc);
     for info in &numbers.tasks {
         tasks.push(*info)?;
@@ -50,7 +50,7 @@ fn last_task(numbers: &Numbers) -> u32
 pub fn numbers_by(alloc: Global, x: &Speaker, names: &Names) -> Result<Numbers, Memory>
     ensures { IfOk result (λ made. made ≡ numbers_by (voice_of x.now) names.now) }
 {
-    let numbers = x.numbers;
+    let numbers = x.numbers.numbers();
     let tasks = tasks_of(alloc, x, names)?;
     let entries = all_infos(alloc, x, last_task(numbers))?;
     let entries = with_origins(alloc, names, &entries)?;

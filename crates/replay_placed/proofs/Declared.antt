@@ -1,5 +1,5 @@
 -- The declarations of a replay text are well placed.
-use Rattle.std.proofs.Common.{◌≡◌, ℕ, zero, suc, pred, ◌==◌, ◌≤◌, ◌||◌, Bool, true, false, not, if◌then◌else◌, List, [], ◌∷◌, ◌++◌, length, map, None, All, refl, sym, subst, arith, append_assoc, length-append}
+use Rattle.std.proofs.Common.{◌≡◌, ℕ, zero, suc, pred, ◌==◌, ◌≤◌, ◌||◌, false, not, List, [], ◌∷◌, ◌++◌, length, map, None, All, refl, sym, subst, arith, append_assoc, length-append}
 use Rattle.std.specs.List.{AllByRecursion, filter}
 use Rattle.std.proofs.lemmas.List.Elements.{All-from_recursion, recursion_from_All}
 use Rattle.ada_tree.specs.declared.naming.NameId.{NameId}
@@ -12,7 +12,6 @@ use Rattle.ada_tree.specs.Lexical.{IsInteger}
 use Rattle.ada_tree.specs.WellPlaced.{GoUp, AreObjects, AreLater, BodiesLast, well_placed, IsWellPlaced}
 use Rattle.syn_event.specs.Units.{decl_list}
 use Rattle.common_lemmas.proofs.Lists.{all_joined, all_weaker, all_kept}
-use Rattle.legal_sites.proofs.Both.{together}
 use Rattle.control_script.specs.declared.Op.{Op}
 use Rattle.task_model.specs.Setting.{Setting}
 use Rattle.normal_model.specs.NormalTree.{unit_for}
@@ -22,11 +21,12 @@ use Rattle.asked_stmts.specs.Kinds.{place_asks, both}
 use Rattle.asked_stmts.proofs.Placed.{placed_asked, asked_placed}
 use Rattle.asked_stmts.proofs.Together.{both_asked}
 use Rattle.normal_placed.specs.Placeable.{IsName}
+use Rattle.normal_placed.proofs.Whole.{placed-with}
 use Rattle.normal_model.specs.Names.{task_name}
 use Rattle.replay_model.specs.Names.{kind_text, argument_text, index_text, never_text, join_text, added_word}
 use Rattle.replay_model.specs.ReplayStmts.{replay_body}
 use Rattle.replay_model.specs.Controlling.{added_entry, control_declared, idle_declared, control_body, idle_body}
-use Rattle.replay_model.specs.ReplayTree.{permit_declared, is_added_object, behind_own, double_entry, more_entries, replay_decl, is_task, is_body, last_task, replay_decls, replay_of}
+use Rattle.replay_model.specs.ReplayTree.{permit_declared, behind_own, double_entry, more_entries, replay_decl, is_task, is_body, last_task, replay_decls, replay_of}
 use Rattle.replay_asked.proofs.Walk.{replay-keeps}
 use Rattle.replay_placed.specs.Fitting.{IsShallow, fit_asks}
 use Rattle.replay_placed.specs.Placeable.{HasLiterals, HasDouble, FitsDecl, IsReplayPlaceable}
@@ -34,6 +34,7 @@ use Rattle.replay_placed.proofs.Tests.{AreAdded}
 use Rattle.replay_placed.proofs.Made.{number-few, pieces}
 use Rattle.replay_placed.proofs.Named.{names', old, are-added}
 use Rattle.replay_placed.proofs.Controlled.{plain-entry, control-declared, idle-declared, control-placed, idle-placed}
+use Rattle.replay_texts.proofs.Listed.{all-behind}
 
 -- ---- lists of declarations
 
@@ -45,15 +46,6 @@ module _ (r : Rules) where
   placed-list : (ds : PDecls) → EveryDecls r ds → AllByRecursion (EveryDecl r) (decl_list ds)
   placed-list no_decl h = tt
   placed-list (decl_then d ds) h = (h.0, placed-list ds h.1)
-
--- what holds of a declaration and of others holds where it stands behind those of the unit
-behind-all : (P : PDecl → Type 0) (names : List (List ℕ)) (d : PDecl) (xs : List PDecl) → P d → AllByRecursion P xs → AllByRecursion P (behind_own names d xs)
-behind-all P names d [] h i = (h, tt)
-behind-all P names d (x ∷ xs) h i = by_test (is_added_object names x) (behind-all P names d xs h i.1)
-  where
-    by_test : (b : Bool) → AllByRecursion P (behind_own names d xs) → AllByRecursion P (if b then d ∷ x ∷ xs else x ∷ behind_own names d xs)
-    by_test true rest = (h, (i.0, i.1))
-    by_test false rest = (i.0, rest)
 
 -- ---- the order of declarations
 
@@ -193,7 +185,7 @@ module _ (g : Setting) where
       let bodies : List PDecl = map (replay_decl g) (filter is_body ds) in
       let last : List PDecl = control_body g s ops ∷ idle_body g.program s ∷ [] in
       let front : AllByRecursion IsNoBody (first ++ tasks ++ added) =
-      all_joined IsNoBody (first ++ tasks) added (all_joined IsNoBody first tasks (behind-all IsNoBody g.program.names (permit_declared g.program s) _ refl (filtered-bodies ds)) (tasks-no-bodies ds)) (refl, (refl, tt)) in
+      all_joined IsNoBody (first ++ tasks) added (all_joined IsNoBody first tasks (all-behind IsNoBody g.program.names (permit_declared g.program s) _ refl (filtered-bodies ds)) (tasks-no-bodies ds)) (refl, (refl, tt)) in
       subst (λ ys. BodiesLast (decls_of ys)) (sym (append_assoc (first ++ tasks ++ added) bodies last))
       (bodies-front (first ++ tasks ++ added) (bodies ++ last) front (bodies-last (bodies ++ last) (all_joined IsBody bodies last (only-bodies ds) (tt, (tt, tt)))))
 
@@ -215,22 +207,7 @@ module _ (g : Setting) (h : IsReplayPlaceable g) where
 
   -- the normal form is well placed with the names of the replay text
   pub whole : EveryProgram r' g.program
-  whole = together r r r' (record {
-    name = λ id i j. old g h id i;
-    integer = λ n i j. i;
-    duration = λ n i j. i;
-    words = λ t i j. i;
-    unary = λ op e i j. i;
-    binary = λ op x y i j. i;
-    bounds = λ x y i j. i;
-    parts = λ n k i j. i;
-    handlers = λ hs i j. i;
-    pragmas = λ n xs i j. i;
-    object = λ c o i j. i;
-    inner = λ ds i j. i;
-    outer = λ ds i j. i;
-    nested = λ k i j. i;
-  }) g.program h.placed h.placed
+  whole = placed-with g.program.names (names' g h) (old g h) g.program h.placed
 
   permit-declared : (s : Span) → EveryDecl r' (permit_declared g.program s)
   permit-declared s =
@@ -291,12 +268,12 @@ module _ (g : Setting) (h : IsReplayPlaceable g) where
   objects-placed : (s : Span) (objects : PDecls) → EveryDecls r' objects → EveryDecls r' (decls_of (behind_own g.program.names (permit_declared g.program s) (decl_list objects)))
   objects-placed s objects i =
       list-placed r' (behind_own g.program.names (permit_declared g.program s) (decl_list objects))
-      (behind-all (EveryDecl r') g.program.names (permit_declared g.program s) (decl_list objects) (permit-declared s) (placed-list r' objects i))
+      (all-behind (EveryDecl r') g.program.names (permit_declared g.program s) (decl_list objects) (permit-declared s) (placed-list r' objects i))
 
   objects-kept : (s : Span) (objects : PDecls) → AreObjects objects → AreObjects (decls_of (behind_own g.program.names (permit_declared g.program s) (decl_list objects)))
   objects-kept s objects i =
       list-objects (behind_own g.program.names (permit_declared g.program s) (decl_list objects))
-      (behind-all IsObject g.program.names (permit_declared g.program s) (decl_list objects) tt (objects-list objects i))
+      (all-behind IsObject g.program.names (permit_declared g.program s) (decl_list objects) tt (objects-list objects i))
 
   bodies-placed : (ds : List PDecl) → AllByRecursion (EveryDecl r) ds → AllByRecursion (EveryDecl r') ds → AllByRecursion (FitsDecl g) ds → AllByRecursion (EveryDecl r') (map (replay_decl g) (filter is_body ds))
   bodies-placed [] i j f = tt
@@ -333,7 +310,7 @@ module _ (g : Setting) (h : IsReplayPlaceable g) where
       (all_joined P (first ++ tasks ++ added) bodies
       (all_joined P (first ++ tasks) added
       (all_joined P first tasks
-      (behind-all P g.program.names (permit_declared g.program s) (filter (λ d. not (is_task d || is_body d)) ds) (permit-declared s) (all_kept P (λ d. not (is_task d || is_body d)) ds all))
+      (all-behind P g.program.names (permit_declared g.program s) (filter (λ d. not (is_task d || is_body d)) ds) (permit-declared s) (all_kept P (λ d. not (is_task d || is_body d)) ds all))
       (tasks-placed ds all h.decls))
       (control-declared g (names' g h) known named s (last_task g.numbers) few, (idle-declared g (names' g h) known named s, tt)))
       (bodies-placed ds plain all h.decls))

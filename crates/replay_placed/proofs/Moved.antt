@@ -11,6 +11,7 @@ use Rattle.ada_tree.specs.WellPlaced.{well_placed}
 use Rattle.normal_asked.specs.Pieces.{IsPlain}
 use Rattle.normal_placed.specs.Placeable.{IsName}
 use Rattle.replay_placed.specs.Fitting.{reach}
+use Rattle.legal_sites.proofs.Both.{all-both}
 
 -- ---- lists
 
@@ -20,13 +21,6 @@ all-one {A = A} P Q f xs h = All-from_recursion Q xs (go xs (recursion_from_All 
     go : (ys : List A) → AllByRecursion P ys → AllByRecursion Q ys
     go [] i = tt
     go (y ∷ ys) i = (f y i.0, go ys i.1)
-
-pub all-two : {A : Type 0} (P Q S : A → Type 0) → ((x : A) → P x → Q x → S x) → (xs : List A) → All P xs → All Q xs → All S xs
-all-two {A = A} P Q S f xs h g = All-from_recursion S xs (go xs (recursion_from_All P xs h) (recursion_from_All Q xs g))
-  where
-    go : (ys : List A) → AllByRecursion P ys → AllByRecursion Q ys → AllByRecursion S ys
-    go [] i j = tt
-    go (y ∷ ys) i j = (f y i.0 j.0, go ys i.1 j.1)
 
 module _ (names names' : List (List ℕ)) (old : (id : NameId) → IsName names id → IsName names' id) where
   abbrev r : Rules
@@ -68,7 +62,7 @@ module _ (names names' : List (List ℕ)) (old : (id : NameId) → IsName names 
   drange-moved k j n (RMarked x) le f h = subind-moved k j n x le f h
 
   exprs-moved : (k j n : ℕ) (es : List PExpr) → n ≤ j + 3 * k + 50 → EveryExprs (reach k) j es → EveryExprs r j es → EveryExprs r' n es
-  exprs-moved k j n es le f h = (h.0, all-two (EveryExpr (reach k) j) (EveryExpr r j) (EveryExpr r' n) (λ e. expr-moved k j n e le) es f.1 h.1)
+  exprs-moved k j n es le f h = (h.0, all-both (EveryExpr (reach k) j) (EveryExpr r j) (EveryExpr r' n) (λ e. expr-moved k j n e le) es f.1 h.1)
 
   -- ---- parts of statements
 
@@ -94,14 +88,14 @@ module _ (names names' : List (List ℕ)) (old : (id : NameId) → IsName names 
       go (Some es) f h = exprs-moved k j n es le f h
 
   text-moved : (k j n : ℕ) (ps : List PPart) → n ≤ j + 3 * k + 50 → EveryText (reach k) j ps → EveryText r j ps → EveryText r' n ps
-  text-moved k j n ps le f h = (h.0, all-two (EveryPart (reach k) j) (EveryPart r j) (EveryPart r' n) part ps f.1 h.1)
+  text-moved k j n ps le f h = (h.0, all-both (EveryPart (reach k) j) (EveryPart r j) (EveryPart r' n) part ps f.1 h.1)
     where
       part : (p : PPart) → EveryPart (reach k) j p → EveryPart r j p → EveryPart r' n p
       part (PWords t s) f h = h
       part (PValue e) f h = expr-moved k j n e le f h
 
   pub choices-moved : (k j n : ℕ) (xs : List PChoice) → n ≤ j + 3 * k + 50 → All (EveryChoice (reach k) j) xs → All (EveryChoice r j) xs → All (EveryChoice r' n) xs
-  choices-moved k j n xs le f h = all-two (EveryChoice (reach k) j) (EveryChoice r j) (EveryChoice r' n) (λ x p q. (expr-moved k j n x.first le p.0 q.0, go x.first x.last p.1 q.1)) xs f h
+  choices-moved k j n xs le f h = all-both (EveryChoice (reach k) j) (EveryChoice r j) (EveryChoice r' n) (λ x p q. (expr-moved k j n x.first le p.0 q.0, go x.first x.last p.1 q.1)) xs f h
     where
       go : (e : PExpr) (o : Option PExpr) → IfSome o (λ l. (reach k).bounds e l × EveryExpr (reach k) j l) → IfSome o (λ l. r.bounds e l × EveryExpr r j l) → IfSome o (λ l. r'.bounds e l × EveryExpr r' n l)
       go e None f h = tt

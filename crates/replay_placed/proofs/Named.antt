@@ -1,9 +1,5 @@
 -- The names of a replay text are such as the source can hold.
-use Rattle.std.proofs.Common.{◌≡◌, ℕ, ◌<◌, ◌==◌, Bool, true, false, cond, List, [], ◌∷◌, ◌++◌, flat_map, Option, Some, None, IfSome, IsSomeAnd, slice_get, get_or, position, find, unwrap_or, refl, sym, ap, subst, ◌∙◌, arith}
-use Rattle.std.specs.Str.{bytes_eq}
-use Rattle.std.proofs.lemmas.List.Quantifiers.{position-Some}
-use Rattle.std.proofs.lemmas.Option.{slice_get-get_or}
-use Rattle.std.proofs.lemmas.Slice.Eq.{bytes_eq-Decides}
+use Rattle.std.proofs.Common.{ℕ, ◌<◌, ◌==◌, Bool, true, false, cond, List, [], ◌∷◌, ◌++◌, flat_map, Option, Some, None, IfSome, find, unwrap_or, refl, arith}
 use Rattle.syn_event.specs.Units.{tasks_of}
 use Rattle.std.specs.List.{AllByRecursion}
 use Rattle.ada_tree.specs.declared.naming.NameId.{NameId}
@@ -14,7 +10,7 @@ use Rattle.task_model.specs.Setting.{Setting}
 use Rattle.normal_model.specs.Names.{id_of}
 use Rattle.normal_types.proofs.Names.{fold-begins}
 use Rattle.normal_placed.specs.Placeable.{IsName}
-use Rattle.normal_placed.proofs.Names.{begins-name}
+use Rattle.normal_placed.proofs.Names.{begins-name, searched}
 use Rattle.replay_model.specs.Names.{kind_text, argument_text, index_text, control_text, go_text, done_text, hold_text, idle_text, stop_text, rest_text, never_text, join_text, double_text, added_texts, double_texts, replay_names}
 use Rattle.replay_placed.specs.Placeable.{IsReplayPlaceable}
 use Rattle.replay_placed.proofs.Tests.{AreAdded}
@@ -32,18 +28,6 @@ mark-named names k (m ∷ ms) first h = by_test (m.kind == k) (mark-named names 
         IsName names (unwrap_or (and_then (λ m. m.name) (cond b (Some m) (find (λ m. m.kind == k) ms))) (record { 0 = 0 }))
     by_test true rest = named m.name h.0
     by_test false rest = rest
-
--- a text that is searched is found where it stands, else the first name is taken
-searched : (ts : List (List ℕ)) (t : List ℕ) → IsName ts (record { 0 = 0 }) → IsIdentifier t → IsName ts (id_of ts t)
-searched ts t first h = go (position (bytes_eq t) ts) refl
-  where
-    go : (o : Option ℕ) → position (bytes_eq t) ts ≡ o → IsName ts (record { 0 = unwrap_or o 0 })
-    go None e = first
-    go (Some k) e =
-        let found = position-Some (bytes_eq t) ts k [] e in
-        let same : t ≡ get_or ts k [] = (bytes_eq-Decides t (get_or ts k [])).0 found.1 in
-        let there : slice_get ts k ≡ Some t = slice_get-get_or ts k [] found.0 ∙ ap Some (sym same) in
-        subst (λ o. IsSomeAnd o IsIdentifier) (sym there) h
 
 module _ (g : Setting) (h : IsReplayPlaceable g) where
   abbrev names : List (List ℕ)

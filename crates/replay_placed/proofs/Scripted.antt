@@ -15,6 +15,7 @@ use Rattle.control_script.specs.declared.Op.TheVariants.{Go, Done, Join, Hold}
 use Rattle.normal_placed.specs.Placeable.{IsSmallIndex}
 use Rattle.replay_model.specs.Promised.{HasLiteral}
 use Rattle.replay_placed.specs.Placeable.{HasLiterals, HasSmallIndices}
+use Rattle.control_script.proofs.Writing.{as_many}
 
 -- ---- at least one
 
@@ -55,22 +56,6 @@ part-length k a (c ∷ cs) = put-length (put k a (with_callers cs (party k a))) 
 
 fall-length : (k : Known) (x : ℕ) → length (fall k x).parties ≡ length k.parties
 fall-length k x = put-length (record { parties = map (let_go x) k.parties; ended = k.ended }) x _ ∙ length-map k.parties (let_go x)
-
-advanced-length : (owner : ℕ → ℕ) (k : Known) (e : Event) → length (advanced owner k e).parties ≡ length k.parties
-advanced-length owner k (R c e i) = put-length (put k (owner e) (with_callers (c ∷ (party k (owner e)).callers) (party k (owner e)))) c _ ∙ put-length k (owner e) _
-advanced-length owner k (E a) = part-length k a (party k a).callers
-advanced-length owner k (S a) = refl
-advanced-length owner k (D a n) = refl
-advanced-length owner k (C c e i) = refl
-advanced-length owner k (T c e i) = refl
-advanced-length owner k (F c e i) = refl
-advanced-length owner k (X a) = put-length k a _
-advanced-length owner k (B t x) = by_test (is_closed k x)
-  where
-    by_test : (b : Bool) → length (if b then k else fall k x).parties ≡ length k.parties
-    by_test true = refl
-    by_test false = fall-length k x
-advanced-length owner k Z = refl
 
 -- ---- tasks
 
@@ -138,7 +123,7 @@ held-literals k = by_test k.ended
 
 from-literals : (owner : ℕ → ℕ) (events : List Event) (k : Known) → IsInteger (length k.parties) → AllByRecursion HasSmallIndices events → AllByRecursion HasLiteral (script_from owner k events) → AllByRecursion HasLiterals (script_from owner k events)
 from-literals owner [] k few n h = held-literals k
-from-literals owner (e ∷ events) k few n h = by_test (admits owner k e) refl h (λ i. from-literals owner events (advanced owner k e) (subst IsInteger (sym (advanced-length owner k e)) few) n.1 i)
+from-literals owner (e ∷ events) k few n h = by_test (admits owner k e) refl h (λ i. from-literals owner events (advanced owner k e) (subst IsInteger (sym (as_many owner k e)) few) n.1 i)
   where
     front : List Op
     front = operations owner k e

@@ -19,7 +19,8 @@ use Rattle.event_progress.proofs.Moves.{Knows}
 use Rattle.event_progress.proofs.Runs.{knows_after, completed_after, happens_admitted}
 use Rattle.replay_law.specs.Scripts.{known, is_other, IsProgress}
 use Rattle.replay_progress.specs.ByEvents.{others, by_events}
-use Rattle.replay_progress.proofs.Listing.{listed_once, open_live, completed_closed}
+use Rattle.replay_progress.proofs.Listing.{listed_once, open_live}
+use Rattle.event_machine.proofs.Standings.{completed_closed}
 
 -- what is known after the events is the same in both words
 known_same : (owner : ℕ → ℕ) (n : ℕ) (k : Known) (events : List Event) → known (by_events owner n) k events ≡ known_from owner k events

@@ -6,7 +6,7 @@ use Rattle.std.proofs.Math.Bool.{cond}
 use Rattle.std.proofs.lemmas.Bool.{eqb-true, eqb-false, ne_eqb, and_right, cases_lt, lt-ltb, le-ltb}
 use Rattle.event_machine.specs.declared.Standing.{Standing}
 use Rattle.event_machine.specs.declared.Standing.TheVariants.{Live, Waiting, Queued, Served, Completed, Killed}
-use Rattle.event_machine.specs.Seats.{is_live, is_closed, is_completed, is_served}
+use Rattle.event_machine.specs.Seats.{is_live, is_closed, is_served}
 use Rattle.event_machine.specs.Soundness.{times}
 use Rattle.event_machine.specs.Worlds.{still}
 use Rattle.event_progress.specs.Known.{Party, Known, is_closed as known_closed}
@@ -84,11 +84,3 @@ open_live Queued s h = ap is_live (sym s)
 open_live (Served by abnormal) s h = absurd (true≢false h)
 open_live Completed s h = refl
 open_live Killed s h = refl
-
-pub completed_closed : (z : Standing) → is_completed z ≡ true → is_closed z ≡ true
-completed_closed Live h = absurd (true≢false (sym h))
-completed_closed Waiting h = absurd (true≢false (sym h))
-completed_closed Queued h = absurd (true≢false (sym h))
-completed_closed (Served by abnormal) h = absurd (true≢false (sym h))
-completed_closed Completed h = refl
-completed_closed Killed h = refl

@@ -2,13 +2,12 @@
 //! laws.
 #![tactic(auto)]
 
-ghost use Rattle.replay_read_back.specs.Laws.{IsMet, KnownHaveLiterals, KnownReplayIsPlaced, ReplayIsReadBack};
+ghost use Rattle.replay_read_back.specs.Laws.{IsMet, ReplayIsPromised, ReplayIsReadBack};
 
-/// Carries the laws: the numbers of a sequence that a file can hold have literals (`literals`), so the replay text of a legal program and of such a
-/// sequence is well placed (`placed`), and as it is printed it is read as a program that is the same (`read_back`). A text and a sequence are as asked (`met`).
+/// Carries the laws: the replay text of a legal program that was read and of a sequence that was read is legal (`promised`), and as it is printed
+/// it is read as a program that is the same (`read_back`). A text and a sequence are as asked (`met`).
 pub fn laws()
-    ensures literals { KnownHaveLiterals }
-    ensures placed { KnownReplayIsPlaced }
+    ensures promised { ReplayIsPromised }
     ensures read_back { ReplayIsReadBack }
     ensures met { IsMet }
 {}

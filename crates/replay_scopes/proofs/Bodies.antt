@@ -25,15 +25,17 @@ use Rattle.replay_model.specs.ReplayTree.{is_added_object, permit_declared, behi
 use Rattle.replay_model.specs.ReplayStmts.{replay_body}
 use Rattle.replay_typed.specs.ScopeOf.{IsControl, IsIdle, IsScopeOf}
 use Rattle.replay_typed.proofs.Declared.{permit-met}
-use Rattle.replay_typed.proofs.Control.{body-given}
 use Rattle.replay_typed.proofs.Typed.{body-met}
 use Rattle.replay_scopes.specs.More.{is_single, IsGrown, stays, doubled, IsMore, ArePermitsNew, IsReady}
 use Rattle.replay_scopes.specs.Form.{IsOtherThanPermit, AreNamesApart, HasOldInit, IsOwnObject, ReadyAlong, SelfAlong, IsBodyForm}
 use Rattle.replay_scopes.proofs.More.{in-body-more}
 use Rattle.replay_scopes.proofs.Permit.{integer-there, permit-more, only, objects-means}
-use Rattle.replay_scopes.proofs.Units.{again, own-both, owns-apart, text_objects}
-use Rattle.replay_scopes.proofs.Scopes.{HasOwn, own-own, body-own, body-scope}
+use Rattle.replay_scopes.proofs.Units.{own-both, owns-apart, text_objects}
+use Rattle.replay_scopes.proofs.Scopes.{HasOwn, body-own, body-scope}
 use Rattle.replay_scopes.proofs.Objects.{object-more}
+use Rattle.tree_lemmas.proofs.Declared.{object_own}
+use Rattle.syn_event.proofs.DeclLists.{list_again}
+use Rattle.normal_typed.proofs.Places.{gives-met}
 
 -- ---- objects
 
@@ -43,10 +45,10 @@ module _ (q : PProgram) (old : ℕ → Bool) (new : ArePermitsNew q old) (zero_o
   IsSameOwn c d = (id : NameId) → old id.0 ≡ true → entry_named c.own id ≡ entry_named d.own id
 
   own-kept : (x : PDecl) (c d : Scope) → IsSameOwn c d → IsSameOwn (after_own_object c x) (after_own_object d x)
-  own-kept x c d own id o = ap (λ l. entry_named l id) (own-own x c) ∙ own id o ∙ sym (ap (λ l. entry_named l id) (own-own x d))
+  own-kept x c d own id o = ap (λ l. entry_named l id) (object_own x c) ∙ own id o ∙ sym (ap (λ l. entry_named l id) (object_own x d))
 
   own-right : (x : PDecl) (c d : Scope) → IsSameOwn c d → IsSameOwn c (after_own_object d x)
-  own-right x c d own id o = own id o ∙ sym (ap (λ l. entry_named l id) (own-own x d))
+  own-right x c d own id o = own id o ∙ sym (ap (λ l. entry_named l id) (object_own x d))
 
   object-site : (x : PDecl) (c d : Scope) → IsMore q old c d → SameNames old c c → IsSameOwn c d → IsOwnObject old x → HasOldInit old x → AllMetBut (own_object_sites c x) → AllMetBut (own_object_sites d x)
   object-site (DObject ws constant shape init s) c d more self own o i m = object-more q old c d more self own ws constant shape init o.1 i m
@@ -128,7 +130,7 @@ module _ (g : Setting) (old inner : ℕ → Bool) (names : AreNamesApart g old i
 
       given : IsGrown q old (meaning c w.name) (meaning d w.name) → IsMetBut (site d (gives_body w))
       given (stays e n) = absurd (true≢false (sym (ap is_single form.means) ∙ n))
-      given (doubled es e t) = body-given d w t.doubles.more t.doubles.means
+      given (doubled es e t) = gives-met d w t.doubles.more t.doubles.means
 
       own : HasOwn q old (inside (after_objects (in_body c w) objects)) within
       own = body-own q old c d w objects more_objects form.entries form.named form.means more
@@ -144,7 +146,7 @@ module _ (g : Setting) (old inner : ℕ → Bool) (names : AreNamesApart g old i
       objects-met : AllMetBut (own_sites (in_body d w) more_objects)
       objects-met =
           permit-sites q old names.permits names.zero q.names w.span (decl_list objects) (in_body c w) (in_body d w) refl form.owns form.inits form.selfs begins form.ready
-          (in-body-more q old w c d more) (subst (λ ds. AllMetBut (own_sites (in_body c w) ds)) (sym (again objects)) form.sites)
+          (in-body-more q old w c d more) (subst (λ ds. AllMetBut (own_sites (in_body c w) ds)) (sym (list_again objects)) form.sites)
 
       control-in : IsControl q within
       control-in = control-moved q d within (means-inside q old names.permits names.zero (added_id q control_text) names.control names.control_other q.names w.span (decl_list objects) (in_body d w) form.owns) control

@@ -23,6 +23,7 @@ use Rattle.replay_scopes.specs.More.{AreDoubled, AreEntriesNew, IsTaskMore, IsGr
 use Rattle.replay_scopes.specs.Form.{IsOldEntry}
 use Rattle.replay_scopes.proofs.Same.{drange-same, marking-same}
 use Rattle.replay_scopes.proofs.More.{name-both}
+use Rattle.tree_lemmas.proofs.FirstOfTwo.{first_or_none}
 
 -- ---- lists of entries
 
@@ -40,10 +41,6 @@ named-joined d (x ∷ xs) ys id = by_test (x.name.name.0 == id.0) (named-joined 
 not-named : (d : Scope) (xs : List PEntry) (id : NameId) → AllByRecursion (λ (e : PEntry). (e.name.name.0 == id.0) ≡ false) xs → entry_named (map (entry_part d) xs) id ≡ None
 not-named d [] id h = refl
 not-named d (x ∷ xs) id h = ap (λ b. if b then Some (entry_part d x) else entry_named (map (entry_part d) xs) id) h.0 ∙ not-named d xs id h.1
-
-no-second : {A : Type 0} (a : Option A) → first_of_two a None ≡ a
-no-second (Some x) = refl
-no-second None = refl
 
 module _ (q : PProgram) (old : ℕ → Bool) (new : AreEntriesNew q old) where
   others : (f : PEntry → NameId) (id : NameId) (x : Bool) → old id.0 ≡ x → (xs : List PEntry) → AllByRecursion (λ (e : PEntry). old (f e).0 ≡ (if x then false else true)) xs → AllByRecursion (λ (e : PEntry). ((f e).0 == id.0) ≡ false) xs
@@ -96,7 +93,7 @@ module _ (q : PProgram) (old : ℕ → Bool) (new : AreEntriesNew q old) where
           let no_extra : entry_named (map (entry_part d) extra) id ≡ None =
           not-named d extra id (differ old (added_id q never_text).0 id.0 false true new.never o (λ p. true≢false (sym p)), (differ old (added_id q join_text).0 id.0 false true new.join o (λ p. true≢false (sym p)), tt)) in
           ap (λ l. entry_named l id) (parts-same es olds)
-          ∙ sym (split id ∙ ap₂ (λ x y. first_of_two (first_of_two first x) y) no_double no_extra ∙ no-second (first_of_two first None) ∙ no-second first)
+          ∙ sym (split id ∙ ap₂ (λ x y. first_of_two (first_of_two first x) y) no_double no_extra ∙ first_or_none (first_of_two first None) ∙ first_or_none first)
 
       -- a name that is new
       new-named : (id : NameId) → old id.0 ≡ false → entry_named all id ≡ first_of_two (entry_named (map (entry_part d) (map (double_entry q) es)) id) (entry_named (map (entry_part d) extra) id)

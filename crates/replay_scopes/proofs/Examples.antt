@@ -30,7 +30,6 @@ use Rattle.rewritten_types.specs.Agreement.{IsScalar}
 use Rattle.rewritten_types.proofs.Owning.{whole-first}
 use Rattle.normal_model.specs.Ranges.{kind_name}
 use Rattle.normal_model.specs.NormalTree.{main_unit, unit_for}
-use Rattle.normal_asked.specs.Pieces.{IsAmong, first_among, later_among}
 use Rattle.normal_checked.specs.Around.{own_rules}
 use Rattle.asked_stmts.specs.Asked.{AskedBody}
 use Rattle.alike_scopes.specs.Alike.{no_thing, a_task, no_values, SameNames}
@@ -46,6 +45,7 @@ use Rattle.replay_typed.specs.ScopeOf.{IsEntryOf, form_asks}
 use Rattle.replay_scopes.specs.More.{is_single, AreDoubled, IsReady}
 use Rattle.replay_scopes.specs.Form.{AreNamesApart, AreAddedNames, IsUnitForm, IsBodyForm, IsForm}
 use Rattle.replay_scopes.proofs.Whole.{text-met}
+use Rattle.normal_placed.proofs.Made.{among}
 
 -- ---- the program
 
@@ -237,16 +237,12 @@ plain-entry c e fam h = subst (IsEntryOf g inner c e) (sym h) (no-family e)
 abbrev IsMetHere : Scope → Demand → Type 0
 IsMetHere c x = IsMetBut (site c x)
 
-among-all : (P : PEntry → Type 0) (x : PEntry) (xs : List PEntry) → IsAmong x xs → AllByRecursion P xs → P x
-among-all P x xs (first_among ys) h = h.0
-among-all P x xs (later_among y ys i) h = among-all P x ys i h.1
-
 entries-named : AreDoubled q old (the_entry ∷ [])
 entries-named = record {
   named = (refl, tt);
   added = (refl, tt);
   apart = λ x y i j e.
-      among-all (λ (z : PEntry). z.name.name.0 ≡ y.name.name.0) x (the_entry ∷ []) i (among-all (λ (z : PEntry). 27 ≡ z.name.name.0) y (the_entry ∷ []) j (refl, tt), tt);
+      among (λ (z : PEntry). z.name.name.0 ≡ y.name.name.0) x (the_entry ∷ []) i (among (λ (z : PEntry). 27 ≡ z.name.name.0) y (the_entry ∷ []) j (refl, tt), tt);
   never = (refl, tt);
   join = (refl, tt);
 }

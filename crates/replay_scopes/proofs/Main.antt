@@ -1,5 +1,5 @@
 -- Declarations of main, one behind the other, in both texts.
-use Rattle.std.proofs.Common.{◌≡◌, ℕ, Bool, true, false, if◌then◌else◌, List, [], ◌∷◌, ◌++◌, map, Some, None, refl, sym, ap, ◌∙◌, true≢false}
+use Rattle.std.proofs.Common.{◌≡◌, ℕ, Bool, true, false, if◌then◌else◌, List, [], ◌∷◌, ◌++◌, map, None, refl, sym, ap, ◌∙◌, true≢false}
 use Rattle.std.specs.List.{AllByRecursion}
 use Rattle.common_lemmas.proofs.Lists.{all_joined}
 use Rattle.ada_tree.specs.declared.naming.NameId.{NameId}
@@ -7,7 +7,7 @@ use Rattle.ada_tree.specs.declared.naming.Span.{Span}
 use Rattle.ada_tree.specs.declared.naming.Word.{Word}
 use Rattle.ada_tree.specs.PlainDecl.{OPlain, PDecl, DNumber, DObject, DEnumeration, DArray, DSubtype, DException, DIntIo, DPragma, DTask, DTaskBody, decls_of}
 use Rattle.ada_tree.specs.PlainProgram.{PProgram}
-use Rattle.ada_tree.specs.Scope.{Scope, EntryPart, Thing, meaning, entry_named}
+use Rattle.ada_tree.specs.Scope.{Scope, Thing, meaning, entry_named}
 use Rattle.ada_tree.specs.Declaring.{entry_part, task_thing, after_decl, after_decls}
 use Rattle.ada_tree.specs.Sites.{decl_sites, decls_sites}
 use Rattle.task_model.specs.Setting.{Setting}
@@ -15,10 +15,9 @@ use Rattle.control_script.specs.declared.Op.{Op}
 use Rattle.control_script.specs.declared.Op.TheVariants.{Go, Done, Join, Hold}
 use Rattle.normal_model.specs.Names.{task_name_at}
 use Rattle.rewritten_types.specs.Rewriting.{IsNew}
-use Rattle.alike_scopes.specs.Alike.{IsNoValue, a_task, a_task_type, no_values, SameNames}
+use Rattle.alike_scopes.specs.Alike.{no_values, SameNames}
 use Rattle.alike_scopes.specs.Laws.{IsMetBut}
 use Rattle.alike_scopes.proofs.Naming as naming
-use Rattle.alike_scopes.proofs.Inner.{object-own}
 use Rattle.normal_typed.proofs.Scopes.{differ}
 use Rattle.normal_typed.proofs.Variables.{AllMetBut}
 use Rattle.replay_model.specs.Names.{kind_text, argument_text, index_text, added_id}
@@ -34,6 +33,8 @@ use Rattle.replay_scopes.proofs.Permit.{integer-there, permit-more, permit-there
 use Rattle.replay_scopes.proofs.Units.{BodiesReady, IsUnit, variable-both, variables-both, body-both}
 use Rattle.replay_scopes.proofs.Objects.{object-more}
 use Rattle.replay_scopes.proofs.Bodies.{control-moved, idle-moved, body-sites-met}
+use Rattle.alike_scopes.proofs.Mains.{task-none}
+use Rattle.tree_lemmas.proofs.Declared.{decl_own}
 
 -- ---- lists of declarations
 
@@ -41,40 +42,15 @@ pub along-of : (xs : List PDecl) (d : Scope) → AllAlong d xs → AllMetBut (de
 along-of [] d h = tt
 along-of (x ∷ xs) d h = all_joined IsMetBut (decl_sites d x) (decls_sites (after_decl d x) (decls_of xs)) h.0 (along-of xs (after_decl d x) h.1)
 
-pub after-join : (xs ys : List PDecl) (d : Scope) → after_decls d (decls_of (xs ++ ys)) ≡ after_decls (after_decls d (decls_of xs)) (decls_of ys)
-after-join [] ys d = refl
-after-join (x ∷ xs) ys d = after-join xs ys (after_decl d x)
-
 pub along-join : (xs ys : List PDecl) (d : Scope) → AllAlong d xs → AllAlong (after_decls d (decls_of xs)) ys → AllAlong d (xs ++ ys)
 along-join [] ys d h i = i
 along-join (x ∷ xs) ys d h i = (h.0, along-join xs ys (after_decl d x) h.1 i)
 
-pub behind-front : (names : List (List ℕ)) (p : PDecl) (xs ys : List PDecl) → AllByRecursion (λ x. is_added_object names x ≡ false) xs → behind_own names p (xs ++ ys) ≡ xs ++ behind_own names p ys
-behind-front names p [] ys h = refl
-behind-front names p (x ∷ xs) ys h = ap (λ b. if b then p ∷ x ∷ xs ++ ys else x ∷ behind_own names p (xs ++ ys)) h.0 ∙ ap (λ (l : List PDecl). x ∷ l) (behind-front names p xs ys h.1)
-
 -- ---- what no declaration of main changes
-
-pub decl-own : (x : PDecl) (s : Scope) → (after_decl s x).own ≡ s.own
-decl-own (DNumber w e sp) s = refl
-decl-own (DObject ws k x i sp) s = object-own s ws k x i
-decl-own (DEnumeration w ws sp) s = naming.names-own _ ws _
-decl-own (DArray w r x sp) s = refl
-decl-own (DSubtype w x sp) s = refl
-decl-own (DException ws sp) s = naming.names-own _ ws s
-decl-own (DIntIo w sp) s = refl
-decl-own (DPragma e sp) s = refl
-decl-own (DTask t sp) s = refl
-decl-own (DTaskBody w objects its sp) s = refl
 
 pub decls-own : (xs : List PDecl) (s : Scope) → (after_decls s (decls_of xs)).own ≡ s.own
 decls-own [] s = refl
-decls-own (x ∷ xs) s = decls-own xs (after_decl s x) ∙ decl-own x s
-
--- a task is no value
-task-none : (b : Bool) (entries : List EntryPart) → IsNoValue (Some (task_thing b entries))
-task-none true entries = a_task_type entries refl
-task-none false entries = a_task entries refl
+decls-own (x ∷ xs) s = decls-own xs (after_decl s x) ∙ decl_own x s
 
 module _ (g : Setting) (old inner : ℕ → Bool) (names : AreNamesApart g old inner) where
   abbrev q : PProgram
@@ -84,10 +60,10 @@ module _ (g : Setting) (old inner : ℕ → Bool) (names : AreNamesApart g old i
   IsSameOwn c d = (id : NameId) → old id.0 ≡ true → entry_named c.own id ≡ entry_named d.own id
 
   own-kept : (x : PDecl) (c d : Scope) → IsSameOwn c d → IsSameOwn (after_decl c x) (after_decl d x)
-  own-kept x c d own id o = ap (λ l. entry_named l id) (decl-own x c) ∙ own id o ∙ sym (ap (λ l. entry_named l id) (decl-own x d))
+  own-kept x c d own id o = ap (λ l. entry_named l id) (decl_own x c) ∙ own id o ∙ sym (ap (λ l. entry_named l id) (decl_own x d))
 
   own-right : (x : PDecl) (c d : Scope) → IsSameOwn c d → IsSameOwn c (after_decl d x)
-  own-right x c d own id o = own id o ∙ sym (ap (λ l. entry_named l id) (decl-own x d))
+  own-right x c d own id o = own id o ∙ sym (ap (λ l. entry_named l id) (decl_own x d))
 
   -- ---- variables
 

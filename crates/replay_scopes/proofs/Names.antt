@@ -6,12 +6,11 @@ use Rattle.std.proofs.lemmas.Bool.{ltb-true, lt-ltb}
 use Rattle.std.proofs.lemmas.Slice.Eq.{bytes_eq-Decides}
 use Rattle.common_lemmas.proofs.Truth.{and_left}
 use Rattle.common_lemmas.proofs.Numbers.{equal_is}
-use Rattle.common_lemmas.proofs.Lists.{element_at, all_joined}
+use Rattle.common_lemmas.proofs.Lists.{element_at, all_joined, texts_differ}
 use Rattle.ada_tree.specs.declared.naming.NameId.{NameId}
 use Rattle.ada_tree.specs.PlainDecl.{PEntry, PTask}
 use Rattle.ada_tree.specs.PlainProgram.{PProgram}
 use Rattle.syn_event.specs.Units.{text_of, tasks_of}
-use Rattle.normal_asked.specs.Pieces.{IsAmong, first_among, later_among}
 use Rattle.normal_has_numbers.proofs.Named.{Has, has-folded, has-back, text-there, text-longer}
 use Rattle.replay_model.specs.Names.{kind_text, argument_text, index_text, control_text, go_text, done_text, hold_text, idle_text, stop_text, rest_text, never_text, join_text, added_texts, double_text, double_texts, replay_names, added_id}
 use Rattle.replay_texts.proofs.Rooted.{replay-begins, replay-has, ids-apart}
@@ -20,10 +19,7 @@ use Rattle.replay_typed.specs.ScopeOf.{double_id}
 use Rattle.replay_scopes.specs.More.{AreDoubled, AreEntriesNew, ArePermitsNew}
 use Rattle.replay_scopes.specs.Form.{IsOtherThanPermit, AreEntriesApart}
 use Rattle.replay_scopes.specs.Names.{new_texts, old_name}
-
--- texts that are compared as different are
-other-texts : (a b : List ℕ) → bytes_eq a b ≡ false → a ≡ b → ⊥
-other-texts a b h e = true≢false (sym ((bytes_eq-Decides a b).1 e) ∙ h)
+use Rattle.normal_placed.proofs.Made.{among}
 
 module _ (q : PProgram) where
   -- a new text has a new id
@@ -40,7 +36,7 @@ module _ (q : PProgram) where
   entries-new = record {
     never = new-id never_text refl (replay-has q never_text refl);
     join = new-id join_text refl (replay-has q join_text refl);
-    other = ids-apart q never_text join_text refl refl (other-texts never_text join_text refl);
+    other = ids-apart q never_text join_text refl refl (texts_differ never_text join_text refl);
   }
 
   pub permits-new : ArePermitsNew q (old_name q)
@@ -58,27 +54,27 @@ module _ (q : PProgram) where
 
   pub control-other : IsOtherThanPermit q (added_id q control_text)
   control-other = record {
-    kind = ids-apart q kind_text control_text refl refl (other-texts kind_text control_text refl);
-    argument = ids-apart q argument_text control_text refl refl (other-texts argument_text control_text refl);
-    index = ids-apart q index_text control_text refl refl (other-texts index_text control_text refl);
+    kind = ids-apart q kind_text control_text refl refl (texts_differ kind_text control_text refl);
+    argument = ids-apart q argument_text control_text refl refl (texts_differ argument_text control_text refl);
+    index = ids-apart q index_text control_text refl refl (texts_differ index_text control_text refl);
   }
 
   pub idle-other : IsOtherThanPermit q (added_id q idle_text)
   idle-other = record {
-    kind = ids-apart q kind_text idle_text refl refl (other-texts kind_text idle_text refl);
-    argument = ids-apart q argument_text idle_text refl refl (other-texts argument_text idle_text refl);
-    index = ids-apart q index_text idle_text refl refl (other-texts index_text idle_text refl);
+    kind = ids-apart q kind_text idle_text refl refl (texts_differ kind_text idle_text refl);
+    argument = ids-apart q argument_text idle_text refl refl (texts_differ argument_text idle_text refl);
+    index = ids-apart q index_text idle_text refl refl (texts_differ index_text idle_text refl);
   }
 
   pub tasks-apart : ((added_id q control_text).0 == (added_id q idle_text).0) ≡ false
-  tasks-apart = ids-apart q control_text idle_text refl refl (other-texts control_text idle_text refl)
+  tasks-apart = ids-apart q control_text idle_text refl refl (texts_differ control_text idle_text refl)
 
   pub entries-apart : AreEntriesApart q
   entries-apart = record {
-    go_done = ids-apart q go_text done_text refl refl (other-texts go_text done_text refl);
-    go_hold = ids-apart q go_text hold_text refl refl (other-texts go_text hold_text refl);
-    done_hold = ids-apart q done_text hold_text refl refl (other-texts done_text hold_text refl);
-    stop_rest = ids-apart q stop_text rest_text refl refl (other-texts stop_text rest_text refl);
+    go_done = ids-apart q go_text done_text refl refl (texts_differ go_text done_text refl);
+    go_hold = ids-apart q go_text hold_text refl refl (texts_differ go_text hold_text refl);
+    done_hold = ids-apart q done_text hold_text refl refl (texts_differ done_text hold_text refl);
+    stop_rest = ids-apart q stop_text rest_text refl refl (texts_differ stop_text rest_text refl);
   }
 
   -- ---- doubles
@@ -101,10 +97,6 @@ module _ (q : PProgram) where
   double-told : (a b : List ℕ) → double_text a ≡ double_text b → a ≡ b
   double-told a b e = ap (λ l. rest-of (rest-of (rest-of (rest-of (rest-of (rest-of l)))))) e
 
-  among-all : (P : PEntry → Type 0) (x : PEntry) (xs : List PEntry) → IsAmong x xs → AllByRecursion P xs → P x
-  among-all P x xs (first_among ys) h = h.0
-  among-all P x xs (later_among y ys i) h = among-all P x ys i h.1
-
   same-text : (a b : NameId) → a.0 ≡ b.0 → text_of (replay_names q) a ≡ text_of (replay_names q) b
   same-text a b e = ap (λ n. text_of (replay_names q) record { 0 = n }) e
 
@@ -125,7 +117,7 @@ module _ (q : PProgram) where
         by_test false e = refl
         by_test true e =
             absurd
-            (other-texts (double_text (text_of q.names x.name.name)) t (n (text_of q.names x.name.name))
+            (texts_differ (double_text (text_of q.names x.name.name)) t (n (text_of q.names x.name.name))
             (sym d ∙ same-text (double_id q x.name.name) (added_id q t) (equal_is _ _ e) ∙ text-there (replay_names q) t (replay-has q t h)))
 
     others : (t : List ℕ) → Has added_texts t → ((a : List ℕ) → bytes_eq (double_text a) t ≡ false) → (xs : List PEntry) → AllByRecursion (IsDoubled q) xs → AllByRecursion (λ (e : PEntry). ((double_id q e.name.name).0 == (added_id q t).0) ≡ false) xs
@@ -137,9 +129,9 @@ module _ (q : PProgram) where
       named = named;
       added = added;
       apart = λ x y i j e.
-          name-told x.name.name y.name.name (among-all (λ (z : PEntry). old_name q z.name.name.0 ≡ true) x es i named) (among-all (λ (z : PEntry). old_name q z.name.name.0 ≡ true) y es j named)
+          name-told x.name.name y.name.name (among (λ (z : PEntry). old_name q z.name.name.0 ≡ true) x es i named) (among (λ (z : PEntry). old_name q z.name.name.0 ≡ true) y es j named)
           (double-told (text_of q.names x.name.name) (text_of q.names y.name.name)
-          (sym (among-all (IsDoubled q) x es i texts) ∙ same-text (double_id q x.name.name) (double_id q y.name.name) e ∙ among-all (IsDoubled q) y es j texts));
+          (sym (among (IsDoubled q) x es i texts) ∙ same-text (double_id q x.name.name) (double_id q y.name.name) e ∙ among (IsDoubled q) y es j texts));
       never = others never_text refl (λ a. refl) es texts;
       join = others join_text refl (λ a. refl) es texts;
     }
@@ -181,56 +173,17 @@ module _ (q : PProgram) where
       by_test false k = refl
       by_test true k = absurd (true≢false (sym f ∙ ap (λ v. starts_with nat_eq v (codes "DED_")) (sym ((bytes_eq-Decides t u).0 k)) ∙ e))
 
+  -- a name is old whose text is none that P holds of, where it holds of each new text
+  old-by : (id : NameId) → id.0 < length q.names → (P : List ℕ → Type 0) → ((u : List ℕ) → P u → bytes_eq (text_of q.names id) u ≡ false) →
+      P kind_text → P argument_text → P index_text → P control_text → P idle_text → P never_text → P join_text → ((a : List ℕ) → P (double_text a)) → old_name q id.0 ≡ true
+  old-by id within P o kind argument index control idle never join double =
+      is-old id within
+      (o kind_text kind, (o argument_text argument, (o index_text index, (o control_text control, (o idle_text idle, (o never_text never, (o join_text join, of-doubles (λ u. bytes_eq (text_of q.names id) u ≡ false) (λ a. o (double_text a) (double a)) (tasks_of q))))))))
+
   -- A name that does not begin with DED_ is old.
   pub plain-old : (id : NameId) → id.0 < length q.names → starts_with nat_eq (text_of q.names id) (codes "DED_") ≡ false → old_name q id.0 ≡ true
-  plain-old id within e =
-      let o : (u : List ℕ) → starts_with nat_eq u (codes "DED_") ≡ true → bytes_eq (text_of q.names id) u ≡ false = λ u f. otherwise (text_of q.names id) u e f in
-      is-old id within (
-        o kind_text refl,
-        (
-          o argument_text refl,
-          (
-            o index_text refl,
-            (
-              o control_text refl,
-              (
-                o idle_text refl,
-                (
-                  o never_text refl,
-                  (
-                    o join_text refl,
-                    of-doubles (λ u. bytes_eq (text_of q.names id) u ≡ false) (λ a. o (double_text a) refl) (tasks_of q),
-                  ),
-                ),
-              ),
-            ),
-          ),
-        ),
-      )
+  plain-old id within e = old-by id within (λ u. starts_with nat_eq u (codes "DED_") ≡ true) (λ u f. otherwise (text_of q.names id) u e f) refl refl refl refl refl refl refl (λ a. refl)
 
   -- So is that of a variable of the normal form, DED_V and a number.
   pub variable-old : (id : NameId) (x : List ℕ) → id.0 < length q.names → text_of q.names id ≡ codes "DED_V" ++ x → old_name q id.0 ≡ true
-  variable-old id x within e =
-      let o : (u : List ℕ) → bytes_eq (codes "DED_V" ++ x) u ≡ false → bytes_eq (text_of q.names id) u ≡ false = λ u f. ap (λ v. bytes_eq v u) e ∙ f in
-      is-old id within (
-        o kind_text refl,
-        (
-          o argument_text refl,
-          (
-            o index_text refl,
-            (
-              o control_text refl,
-              (
-                o idle_text refl,
-                (
-                  o never_text refl,
-                  (
-                    o join_text refl,
-                    of-doubles (λ u. bytes_eq (text_of q.names id) u ≡ false) (λ a. o (double_text a) refl) (tasks_of q),
-                  ),
-                ),
-              ),
-            ),
-          ),
-        ),
-      )
+  variable-old id x within e = old-by id within (λ u. bytes_eq (codes "DED_V" ++ x) u ≡ false) (λ u f. ap (λ v. bytes_eq v u) e ∙ f) refl refl refl refl refl refl refl (λ a. refl)

@@ -10,22 +10,19 @@ use Rattle.ada_tree.specs.PlainDecl.{PShape, OPlain, OArray, PInit, IOne, IList,
 use Rattle.ada_tree.specs.PlainProgram.{PProgram}
 use Rattle.ada_tree.specs.Scope.{Scope, Range, Marking, ScalarMark, ArrayMark, TaskMark, NoMark, UnknownMark, UnclearMark, marking, scalar_kind, meaning, range_of_mark, entry_named}
 use Rattle.ada_tree.specs.Declaring.{Declared, declared_object}
-use Rattle.ada_tree.specs.Demand.{MarkUse, stands_as_mark, must_be_static, must_lie_in, initializes, for_scalar, for_array, Site}
+use Rattle.ada_tree.specs.Demand.{MarkUse, stands_as_mark, must_be_static, must_lie_in, initializes, for_scalar, for_array}
 use Rattle.ada_tree.specs.Sites.{site, if_there, names_sites, expr_sites, static_of, constraint_sites, subind_sites, drange_sites, object_marks, component_marks, shape_sites, value_sites, free_value_sites, all_init_sites, array_init_sites, scalar_init_sites, is_task_object, object_marking, init_sites, object_sites}
 use Rattle.ada_tree.specs.RuleMismatch.{is_allowed}
 use Rattle.alike_scopes.specs.Alike.{SameNames, Alike}
 use Rattle.alike_scopes.specs.Old.{IsOldExpr, IsOldBounds, IsOldSubind, IsOldShape}
 use Rattle.alike_scopes.specs.Laws.{IsMetBut}
-use Rattle.normal_typed.proofs.Variables.{AllMetBut}
+use Rattle.normal_typed.proofs.Variables.{AllMetBut, words-met}
 use Rattle.normal_typed.proofs.Stays.{stays, expr-stays, static-stays, constraint-stays, drange-stays}
-use Rattle.replay_typed.proofs.Declared.{names-met}
 use Rattle.replay_scopes.specs.More.{IsGrown, stays as same_thing, doubled, IsMore}
 use Rattle.replay_scopes.specs.Form.{IsOldInit}
 use Rattle.replay_scopes.proofs.Same.{marking-same, declared-same}
 use Rattle.replay_scopes.proofs.More.{more-alike}
-
-same : (s : Site) → IsMetBut s → IsMetBut s
-same s m = m
+use Rattle.replay_typed.proofs.Typed.{same}
 
 module _ (q : PProgram) (old : ℕ → Bool) (c d : Scope) (more : IsMore q old c d) (self : SameNames old c c) (own : (id : NameId) → old id.0 ≡ true → entry_named c.own id ≡ entry_named d.own id) where
   abbrev alike : Alike old c d
@@ -134,7 +131,7 @@ module _ (q : PProgram) (old : ℕ → Bool) (c d : Scope) (more : IsMore q old 
   object-more ws constant shape init o i m =
       subst (λ (x : Declared). AllMetBut (object_sites d ws constant shape init x)) (declared-same q old c d more constant shape o)
       (all_joined IsMetBut (names_sites (d.in_main && (constant || is_task_object its.thing)) d ws ++ shape_sites d constant shape init) (if_there (init_sites d its.types (object_marking its)) init)
-      (all_joined IsMetBut (names_sites (d.in_main && (constant || is_task_object its.thing)) d ws) (shape_sites d constant shape init) (names-met (d.in_main && (constant || is_task_object its.thing)) ws d)
+      (all_joined IsMetBut (names_sites (d.in_main && (constant || is_task_object its.thing)) d ws) (shape_sites d constant shape init) (words-met (d.in_main && (constant || is_task_object its.thing)) ws d)
       (shape-more constant shape init o (all_back IsMetBut (names_sites (c.in_main && (constant || is_task_object its.thing)) c ws) (shape_sites c constant shape init) front)))
       (by_init init i (all_back IsMetBut (names_sites (c.in_main && (constant || is_task_object its.thing)) c ws ++ shape_sites c constant shape init) (if_there (init_sites c its.types (object_marking its)) init) m)))
     where

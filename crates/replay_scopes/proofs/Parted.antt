@@ -15,8 +15,8 @@ use Rattle.alike_scopes.specs.Laws.{IsMetBut}
 use Rattle.normal_typed.proofs.Variables.{AllMetBut}
 use Rattle.replay_model.specs.ReplayTree.{is_task, is_body}
 use Rattle.replay_scopes.specs.Form.{AllAlong, first, varied, tasked, last}
-use Rattle.replay_scopes.proofs.Units.{again}
-use Rattle.replay_scopes.proofs.Main.{after-join}
+use Rattle.tree_lemmas.proofs.Declared.{decls_joined}
+use Rattle.syn_event.proofs.DeclLists.{list_again}
 
 along-told : (xs : List PDecl) (d : Scope) → AllMetBut (decls_sites d (decls_of xs)) → AllAlong d xs
 along-told [] d h = tt
@@ -49,9 +49,9 @@ module _ (q : PProgram) (before vars : List PDecl) where
   -- the scope behind all declarations, where these are sorted
   sorted-last : decl_list q.decls ≡ before ++ vars ++ tasks ++ bodies → after_decls (first_scope q.name) q.decls ≡ last q before vars
   sorted-last e =
-      ap (λ ds. after_decls (first_scope q.name) ds) (sym (again q.decls) ∙ ap decls_of e)
-      ∙ after-join (before ++ vars ++ tasks) bodies (first_scope q.name)
-      ∙ ap (λ s. after_decls s (decls_of bodies)) (after-join (before ++ vars) tasks (first_scope q.name) ∙ ap (λ s. after_decls s (decls_of tasks)) (after-join before vars (first_scope q.name)))
+      ap (λ ds. after_decls (first_scope q.name) ds) (sym (list_again q.decls) ∙ ap decls_of e)
+      ∙ decls_joined (before ++ vars ++ tasks) bodies (first_scope q.name)
+      ∙ ap (λ s. after_decls s (decls_of bodies)) (decls_joined (before ++ vars) tasks (first_scope q.name) ∙ ap (λ s. after_decls s (decls_of tasks)) (decls_joined before vars (first_scope q.name)))
 
   -- Of a normal form whose declarations are sorted, nothing is refused at the places of each list, where nothing is refused at all places.
   pub parted : decl_list q.decls ≡ before ++ vars ++ tasks ++ bodies → AllMetBut (sites q) → IsParted
@@ -61,11 +61,11 @@ module _ (q : PProgram) (before vars : List PDecl) where
       all_front IsMetBut (names_sites true before_all (q.name ∷ []) ++ decls_sites c q.decls) (body_sites (inside (after_decls c q.decls)) q.body) h in
       let decls : AllMetBut (decls_sites c q.decls) = all_back IsMetBut (names_sites true before_all (q.name ∷ [])) (decls_sites c q.decls) front in
       let all : AllAlong c (before ++ vars ++ tasks ++ bodies) =
-      along-told (before ++ vars ++ tasks ++ bodies) c (subst (λ ds. AllMetBut (decls_sites c ds)) (sym (again q.decls) ∙ ap decls_of e) decls) in
+      along-told (before ++ vars ++ tasks ++ bodies) c (subst (λ ds. AllMetBut (decls_sites c ds)) (sym (list_again q.decls) ∙ ap decls_of e) decls) in
       let three : AllAlong c (before ++ vars ++ tasks) = along-front (before ++ vars ++ tasks) bodies c all in
       let two : AllAlong c (before ++ vars) = along-front (before ++ vars) tasks c three in
-      let varied-is : after_decls c (decls_of (before ++ vars)) ≡ varied q before vars = after-join before vars c in
-      let tasked-is : after_decls c (decls_of (before ++ vars ++ tasks)) ≡ tasked q before vars = after-join (before ++ vars) tasks c ∙ ap (λ s. after_decls s (decls_of tasks)) varied-is in
+      let varied-is : after_decls c (decls_of (before ++ vars)) ≡ varied q before vars = decls_joined before vars c in
+      let tasked-is : after_decls c (decls_of (before ++ vars ++ tasks)) ≡ tasked q before vars = decls_joined (before ++ vars) tasks c ∙ ap (λ s. after_decls s (decls_of tasks)) varied-is in
       let body : AllMetBut (body_sites (inside (last q before vars)) q.body) =
       subst (λ s. AllMetBut (body_sites (inside s) q.body)) (sorted-last e) (all_back IsMetBut (names_sites true before_all (q.name ∷ []) ++ decls_sites c q.decls) (body_sites (inside (after_decls c q.decls)) q.body) h) in
       record {

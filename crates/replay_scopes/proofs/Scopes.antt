@@ -1,19 +1,18 @@
 -- So at main's body and at each body of a task a replay text has what its statements ask for.
-use Rattle.std.proofs.Common.{◌≡◌, ℕ, Bool, true, List, [], Option, Some, is_some, refl, sym, ap, subst, ◌∙◌, true≢false}
+use Rattle.std.proofs.Common.{◌≡◌, ℕ, Bool, true, List, [], Option, Some, is_some, sym, ap, subst, ◌∙◌, true≢false}
 use Rattle.std.specs.List.{AllByRecursion}
 use Rattle.ada_tree.specs.declared.naming.NameId.{NameId}
 use Rattle.ada_tree.specs.declared.naming.Word.{Word}
 use Rattle.ada_tree.specs.Attributes.{false_name}
 use Rattle.ada_tree.specs.TypeTable.{TypeTable}
-use Rattle.ada_tree.specs.PlainDecl.{PDecl, DNumber, DObject, DEnumeration, DArray, DSubtype, DException, DIntIo, DPragma, DTask, DTaskBody, PDecls, no_decl, decl_then}
+use Rattle.ada_tree.specs.PlainDecl.{PDecls}
 use Rattle.ada_tree.specs.PlainProgram.{PProgram}
 use Rattle.ada_tree.specs.Scope.{Scope, Family, single, family, unclear, EntryPart, Thing, SingleTask, Literal, truth_kind, scalar_kind, meaning, entry_named}
-use Rattle.ada_tree.specs.Declaring.{inside, in_body, own_entries, after_own_object, after_objects}
+use Rattle.ada_tree.specs.Declaring.{inside, in_body, own_entries, after_objects}
 use Rattle.syn_event.specs.Units.{decl_list}
 use Rattle.task_model.specs.Setting.{Setting}
 use Rattle.normal_model.specs.Ranges.{kind_name}
 use Rattle.normal_model.specs.Waits.{Unit}
-use Rattle.alike_scopes.proofs.Inner.{object-own}
 use Rattle.replay_model.specs.Names.{never_text, added_id}
 use Rattle.replay_typed.specs.ScopeOf.{HasLists, IsCountedBy, as_itself, by_position, IsEntryOf, HasDoubles, IsControl, IsIdle, IsScopeOf}
 use Rattle.replay_scopes.specs.More.{is_single, IsGrown, stays, doubled, IsMore, AreEntriesNew, ArePermitsNew, HasPermit}
@@ -21,6 +20,7 @@ use Rattle.replay_scopes.specs.Form.{IsOwnObject, ReadyAlong, IsUnitForm}
 use Rattle.replay_scopes.proofs.Same.{marking-same}
 use Rattle.replay_scopes.proofs.More.{more-alike}
 use Rattle.replay_scopes.proofs.Units.{text_objects, body-unit}
+use Rattle.tree_lemmas.proofs.Declared.{objects_own}
 
 -- the entries of the own task, on both sides
 pub record HasOwn (q : PProgram) (old : ℕ → Bool) (c d : Scope) : Type 0 where
@@ -80,22 +80,6 @@ module _ (u : Unit) (old inner : ℕ → Bool) (kinds_old : (j : ℕ) → old (k
 
 -- ---- the own entries in a body
 
-pub own-own : (x : PDecl) (s : Scope) → (after_own_object s x).own ≡ s.own
-own-own (DObject ws constant shape init sp) s = object-own s ws constant shape init
-own-own (DNumber w e sp) s = refl
-own-own (DEnumeration w ws sp) s = refl
-own-own (DArray w r x sp) s = refl
-own-own (DSubtype w x sp) s = refl
-own-own (DException ws sp) s = refl
-own-own (DIntIo w sp) s = refl
-own-own (DPragma e sp) s = refl
-own-own (DTask t sp) s = refl
-own-own (DTaskBody w objects its sp) s = refl
-
-pub objects-own : (ds : PDecls) (s : Scope) → (after_objects s ds).own ≡ s.own
-objects-own no_decl s = refl
-objects-own (decl_then x ds) s = objects-own ds (after_own_object s x) ∙ own-own x s
-
 -- in main there are none
 pub no-own : (q : PProgram) (old : ℕ → Bool) (c d : Scope) → c.own ≡ [] → d.own ≡ [] → HasOwn q old c d
 no-own q old c d e f = record {
@@ -109,10 +93,10 @@ pub body-own : (q : PProgram) (old : ℕ → Bool) (c d : Scope) (w : Word) (xs 
 body-own q old c d w xs ys entries o h more = by_grown (more.things w.name o)
   where
     left : (after_objects (in_body c w) xs).own ≡ own_entries (meaning c w.name)
-    left = objects-own xs (in_body c w)
+    left = objects_own xs (in_body c w)
 
     right : (after_objects (in_body d w) ys).own ≡ own_entries (meaning d w.name)
-    right = objects-own ys (in_body d w)
+    right = objects_own ys (in_body d w)
 
     by_grown : IsGrown q old (meaning c w.name) (meaning d w.name) → HasOwn q old (inside (after_objects (in_body c w) xs)) (inside (after_objects (in_body d w) ys))
     by_grown (stays e n) = absurd (true≢false (sym (ap is_single h) ∙ n))

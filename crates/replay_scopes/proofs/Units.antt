@@ -5,7 +5,7 @@ use Rattle.ada_tree.specs.declared.naming.NameId.{NameId}
 use Rattle.ada_tree.specs.declared.naming.Span.{Span}
 use Rattle.ada_tree.specs.declared.naming.Word.{Word}
 use Rattle.ada_tree.specs.PlainStmt.{PBody}
-use Rattle.ada_tree.specs.PlainDecl.{OPlain, PInit, PTask, PDecl, DNumber, DObject, DEnumeration, DArray, DSubtype, DException, DIntIo, DPragma, DTask, DTaskBody, PDecls, no_decl, decl_then, decls_of}
+use Rattle.ada_tree.specs.PlainDecl.{OPlain, PInit, PTask, PDecl, DNumber, DObject, DEnumeration, DArray, DSubtype, DException, DIntIo, DPragma, DTask, DTaskBody, PDecls, no_decl, decls_of}
 use Rattle.ada_tree.specs.PlainProgram.{PProgram}
 use Rattle.ada_tree.specs.Scope.{Scope}
 use Rattle.ada_tree.specs.Declaring.{inside, in_body, Declared, constant_mark, add_constants, constant_value, declared_object, with_constants, after_own_object, after_objects, after_decl, after_decls}
@@ -23,11 +23,7 @@ use Rattle.replay_scopes.proofs.Same.{declared-same}
 use Rattle.replay_scopes.proofs.More.{name-added, object-both, inside-more, in-body-more}
 use Rattle.replay_scopes.proofs.Doubles.{task-both}
 use Rattle.replay_scopes.proofs.Permit.{permit-more, permit-there, only, number-step, number-objects}
-
--- declarations as a list
-pub again : (ds : PDecls) → decls_of (decl_list ds) ≡ ds
-again no_decl = refl
-again (decl_then d ds) = ap (decl_then d) (again ds)
+use Rattle.syn_event.proofs.DeclLists.{list_again}
 
 module _ (q : PProgram) (old : ℕ → Bool) where
   -- so it is in each of these bodies, whose objects are as asked
@@ -180,7 +176,7 @@ module _ (g : Setting) (old : ℕ → Bool) (entries_new : AreEntriesNew g.progr
       IsUnit q old (inside (after_objects (in_body c w) objects)) (inside (after_objects (in_body d w) (text_objects w objects)))
   body-unit w objects c d ready o m =
       inside-unit q old (after_objects (in_body c w) objects) (after_objects (in_body d w) (text_objects w objects))
-      (subst (λ ds. IsUnit q old (after_objects (in_body c w) ds) (after_objects (in_body d w) (text_objects w objects))) (again objects)
+      (subst (λ ds. IsUnit q old (after_objects (in_body c w) ds) (after_objects (in_body d w) (text_objects w objects))) (list_again objects)
       (with-permit q old new zero_old q.names w.span (decl_list objects) (in_body c w) (in_body d w) refl o ready (in-body-more q old w c d m)))
 
   pub body-both : (w : Word) (objects : PDecls) (its : PBody) (s : Span) (c d : Scope) → ReadyAlong q old (in_body c w) (decl_list objects) → AllByRecursion (IsOwnObject old) (decl_list objects) → IsMore q old c d →

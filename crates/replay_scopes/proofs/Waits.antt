@@ -1,5 +1,5 @@
 -- Each wait of a body that meets the rules 13 to 23 has an accept (9.7.1).
-use Rattle.std.proofs.Common.{◌≡◌, ℕ, ◌==◌, Bool, true, false, ◌||◌, nat_lt, if◌then◌else◌, [], ◌∷◌, count_by, refl, true≢false}
+use Rattle.std.proofs.Common.{◌≡◌, ℕ, ◌==◌, Bool, true, false, ◌||◌, nat_lt, [], count_by, refl, true≢false}
 use Rattle.ada_tree.specs.declared.naming.Span.{Span}
 use Rattle.ada_tree.specs.PlainStmt.{PAlts, no_alt, alt_then, alternative, AAccept, ADelay, ATerminate, PBody}
 use Rattle.syn_event.specs.CheckScope.{CheckScope, CheckSite, waits}
@@ -10,6 +10,7 @@ use Rattle.asked_stmts.specs.Kinds.{check_asks}
 use Rattle.replay_typed.specs.ScopeOf.{has_accept}
 use Rattle.replay_scopes.proofs.Weaker.{AsksLess, asked_less}
 use Rattle.replay_scopes.proofs.Asked.{wait_asks}
+use Rattle.legal_sites.proofs.Around.{test-fails}
 
 some-accept : (x : PAlts) → (count_by is_accept (alt_kinds x) == 0) ≡ false → has_accept x ≡ true
 some-accept no_alt e = absurd (true≢false e)
@@ -21,15 +22,11 @@ first-of : (a b c : Bool) → (a || b || c) ≡ false → a ≡ false
 first-of true b c e = e
 first-of false b c e = refl
 
-no-place : (b : Bool) (s : Span) → (if b then s ∷ [] else []) ≡ [] → b ≡ false
-no-place true s e = cc
-no-place false s e = refl
-
 -- a wait that is not malformed has an accept
 pub wait-accepts : (c : CheckScope) (x : PAlts) (others : Bool) (s : Span) → select_form c (waits x others s) ≡ [] → has_accept x ≡ true
 wait-accepts c x others s h =
     some-accept x
-    (first-of (count_by is_accept (alt_kinds x) == 0) (nat_lt 1 (count_by is_terminate (alt_kinds x))) (nat_lt 1 (kinds_count (alt_kinds x) others)) (no-place (is_malformed (alt_kinds x) others) s h))
+    (first-of (count_by is_accept (alt_kinds x) == 0) (nat_lt 1 (count_by is_terminate (alt_kinds x))) (nat_lt 1 (kinds_count (alt_kinds x) others)) (test-fails (is_malformed (alt_kinds x) others) s h))
 
 module _ (P : CheckSite → Type 0) (told : (c : CheckScope) (x : PAlts) (others : Bool) (s : Span) → P (check.site c (waits x others s)) → select_form c (waits x others s) ≡ []) where
   abbrev R : CheckScope → Prim.Unit {0} → Type 0

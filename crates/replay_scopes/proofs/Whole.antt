@@ -18,14 +18,14 @@ use Rattle.alike_scopes.specs.Laws.{IsMetBut}
 use Rattle.rewritten_types.specs.Rewriting.{IsNew}
 use Rattle.rewritten_types.proofs.Keeping.{keeps-self}
 use Rattle.normal_typed.proofs.Scopes.{differ}
-use Rattle.normal_typed.proofs.Variables.{AllMetBut}
+use Rattle.normal_typed.proofs.Variables.{AllMetBut, words-met}
 use Rattle.replay_model.specs.Names.{kind_text, argument_text, index_text, control_text, idle_text, added_id}
 use Rattle.replay_model.specs.ReplayTree.{permit_declared, behind_own, is_task, is_body, last_task, replay_decl, replay_decls, replay_of}
 use Rattle.replay_model.specs.ReplayStmts.{replay_body}
 use Rattle.replay_model.specs.Controlling.{control_declared, idle_declared, control_body, idle_body}
 use Rattle.replay_typed.specs.ScopeOf.{IsNumber}
 use Rattle.replay_typed.specs.Controller.{AreOthers, IsController, IsIdler}
-use Rattle.replay_typed.proofs.Declared.{names-met, control-declared, idle-declared}
+use Rattle.replay_typed.proofs.Declared.{control-declared, idle-declared}
 use Rattle.replay_typed.proofs.Control.{control-met, idle-met}
 use Rattle.replay_typed.proofs.Typed.{body-met}
 use Rattle.replay_scopes.specs.More.{IsGrown, stays, doubled, IsMore, HasPermit}
@@ -37,6 +37,8 @@ use Rattle.replay_scopes.proofs.Scopes.{scope-of, no-own}
 use Rattle.replay_scopes.proofs.Bodies.{control-moved, idle-moved}
 use Rattle.replay_scopes.proofs.Added.{IsControlling, controlling-moved, idler-moved, control-seen, idle-seen}
 use Rattle.replay_scopes.proofs.Main as main
+use Rattle.replay_texts.proofs.Listed.{behind-front}
+use Rattle.tree_lemmas.proofs.Declared.{decls_joined}
 
 -- a declaration that is added behind the variables: a task with a new name, or a body without objects
 abbrev IsMoreDecl : (ℕ → Bool) → PDecl → Type 0
@@ -262,19 +264,19 @@ module _ (g : Setting) (old inner : ℕ → Bool) (names : AreNamesApart g old i
   x5 = x4 ++ two_bodies
 
   after1 : after_decls c0 (decls_of x1) ≡ d2
-  after1 = main.after-join before more_vars c0
+  after1 = decls_joined before more_vars c0
 
   after2 : after_decls c0 (decls_of x2) ≡ d3
-  after2 = main.after-join x1 tasks_more c0 ∙ ap (λ x. after_decls x (decls_of tasks_more)) after1
+  after2 = decls_joined x1 tasks_more c0 ∙ ap (λ x. after_decls x (decls_of tasks_more)) after1
 
   after3 : after_decls c0 (decls_of x3) ≡ di
-  after3 = main.after-join x2 two_tasks c0 ∙ ap (λ x. after_decls x (decls_of two_tasks)) after2
+  after3 = decls_joined x2 two_tasks c0 ∙ ap (λ x. after_decls x (decls_of two_tasks)) after2
 
   after4 : after_decls c0 (decls_of x4) ≡ d4
-  after4 = main.after-join x3 bodies_more c0 ∙ ap (λ x. after_decls x (decls_of bodies_more)) after3
+  after4 = decls_joined x3 bodies_more c0 ∙ ap (λ x. after_decls x (decls_of bodies_more)) after3
 
   after5 : after_decls c0 (decls_of x5) ≡ dy
-  after5 = main.after-join x4 two_bodies c0 ∙ ap (λ x. after_decls x (decls_of two_bodies)) after4
+  after5 = decls_joined x4 two_bodies c0 ∙ ap (λ x. after_decls x (decls_of two_bodies)) after4
 
   all1 : AllAlong c0 x1
   all1 = main.along-join before more_vars c0 h.firsts_met variables-met
@@ -294,12 +296,12 @@ module _ (g : Setting) (old inner : ℕ → Bool) (names : AreNamesApart g old i
   list-is : replay_decls g s ops ≡ x5
   list-is =
       ap (λ l. l ++ tasks_more ++ two_tasks ++ bodies_more ++ two_bodies)
-      (ap (behind_own q.names (permit_declared q s)) h.plain ∙ main.behind-front q.names (permit_declared q s) before vars h.front)
+      (ap (behind_own q.names (permit_declared q s)) h.plain ∙ behind-front q.names (permit_declared q s) before vars h.front)
 
   -- Nothing is refused at the places of the replay text by the rules 1 and 3 to 12.
   pub text-met : AllMetBut (sites (replay_of g ops))
   text-met =
       all_joined IsMetBut (names_sites true before_all (q.name ∷ []) ++ decls_sites c0 (decls_of (replay_decls g s ops))) (body_sites (inside (after_decls c0 (decls_of (replay_decls g s ops)))) (replay_body (main_unit g) s q.body))
-      (all_joined IsMetBut (names_sites true before_all (q.name ∷ [])) (decls_sites c0 (decls_of (replay_decls g s ops))) (names-met true (q.name ∷ []) before_all)
+      (all_joined IsMetBut (names_sites true before_all (q.name ∷ [])) (decls_sites c0 (decls_of (replay_decls g s ops))) (words-met true (q.name ∷ []) before_all)
       (subst (λ l. AllMetBut (decls_sites c0 (decls_of l))) (sym list-is) (main.along-of x5 c0 all5)))
       (subst (λ x. AllMetBut (body_sites (inside x) (replay_body (main_unit g) s q.body))) (sym (ap (λ l. after_decls c0 (decls_of l)) list-is ∙ after5)) main-met)

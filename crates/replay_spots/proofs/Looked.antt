@@ -1,10 +1,8 @@
 -- What a look-up by a task and a name finds among the entries of a replay text.
-use Rattle.std.proofs.Common.{◌≡◌, ℕ, zero, suc, ◌+◌, ◌-◌, ◌<◌, ◌≤◌, ◌==◌, ◌&&◌, nat_lt, Bool, true, false, not, cond, List, [], ◌∷◌, ◌++◌, length, map, position, option_map, Option, Some, None, refl, sym, ap, ap₂, ◌∙◌, subst, length-append, true≢false, arith}
+use Rattle.std.proofs.Common.{◌≡◌, ℕ, zero, suc, ◌+◌, ◌-◌, ◌<◌, ◌≤◌, ◌==◌, ◌&&◌, nat_lt, Bool, true, false, not, cond, List, [], ◌∷◌, ◌++◌, length, map, position, option_map, Option, Some, None, refl, sym, ap, ap₂, ◌∙◌, subst, length-append, arith}
 use Rattle.std.specs.List.{filter, position_or_len}
 use Rattle.std.proofs.lemmas.Bool.{eqb-true, ltb-true, eq-eqb}
 use Rattle.std.proofs.lemmas.Bool.Decides.{nat_tests}
-use Rattle.std.specs.Str.{bytes_eq}
-use Rattle.std.proofs.lemmas.Slice.Eq.{bytes_eq-Decides}
 use Rattle.std.proofs.lemmas.List.{length-map}
 use Rattle.std.proofs.lemmas.Option.{none-some}
 use Rattle.ada_tree.specs.declared.naming.NameId.{NameId}
@@ -25,6 +23,7 @@ use Rattle.replay_spots.proofs.Placed.{end-is, total-is}
 use Rattle.common_lemmas.proofs.Numbers.{lt_false, lt_true}
 use Rattle.common_lemmas.proofs.Options.{some_same}
 use Rattle.common_lemmas.proofs.Truth.{if_false, if_true}
+use Rattle.common_lemmas.proofs.Lists.{texts_differ}
 
 -- ---- the first place that passes
 
@@ -239,10 +238,6 @@ entries_are_found far g order u id e named = by_place (position (looks u id) g.n
 
 -- ---- the last entries
 
--- texts that a test tells apart
-unequal : (a b : List ℕ) → bytes_eq a b ≡ false → a ≡ b → ⊥
-unequal a b e same = true≢false (sym ((bytes_eq-Decides a b).1 same) ∙ e)
-
 module _ (far : Spots) (g : Setting) where
   abbrev last : ℕ
   last = last_task g.numbers
@@ -283,15 +278,15 @@ module _ (far : Spots) (g : Setting) where
     go = late (last + 1) (id go_text) 0 (omega arith) (omega arith) (hit (last + 1) (id go_text) go (done ∷ hold ∷ stop ∷ rest ∷ []) refl refl);
     done =
         late (last + 1) (id done_text) 1 (omega arith) (omega arith)
-        (miss (last + 1) (id done_text) go (done ∷ hold ∷ stop ∷ rest ∷ []) 0 (other-name (last + 1) (id done_text) go (ids-apart g.program go_text done_text refl refl (unequal go_text done_text refl))) (hit (last + 1) (id done_text) done (hold ∷ stop ∷ rest ∷ []) refl refl));
+        (miss (last + 1) (id done_text) go (done ∷ hold ∷ stop ∷ rest ∷ []) 0 (other-name (last + 1) (id done_text) go (ids-apart g.program go_text done_text refl refl (texts_differ go_text done_text refl))) (hit (last + 1) (id done_text) done (hold ∷ stop ∷ rest ∷ []) refl refl));
     hold =
         late (last + 1) (id hold_text) 2 (omega arith) (omega arith)
-        (miss (last + 1) (id hold_text) go (done ∷ hold ∷ stop ∷ rest ∷ []) 1 (other-name (last + 1) (id hold_text) go (ids-apart g.program go_text hold_text refl refl (unequal go_text hold_text refl)))
-        (miss (last + 1) (id hold_text) done (hold ∷ stop ∷ rest ∷ []) 0 (other-name (last + 1) (id hold_text) done (ids-apart g.program done_text hold_text refl refl (unequal done_text hold_text refl))) (hit (last + 1) (id hold_text) hold (stop ∷ rest ∷ []) refl refl)));
+        (miss (last + 1) (id hold_text) go (done ∷ hold ∷ stop ∷ rest ∷ []) 1 (other-name (last + 1) (id hold_text) go (ids-apart g.program go_text hold_text refl refl (texts_differ go_text hold_text refl)))
+        (miss (last + 1) (id hold_text) done (hold ∷ stop ∷ rest ∷ []) 0 (other-name (last + 1) (id hold_text) done (ids-apart g.program done_text hold_text refl refl (texts_differ done_text hold_text refl))) (hit (last + 1) (id hold_text) hold (stop ∷ rest ∷ []) refl refl)));
     stop = late (last + 2) (id stop_text) 3 (omega arith) (omega arith) (of_idle (id stop_text) 0 (hit (last + 2) (id stop_text) stop (rest ∷ []) refl refl));
     rest =
         late (last + 2) (id rest_text) 4 (omega arith) (omega arith)
-        (of_idle (id rest_text) 1 (miss (last + 2) (id rest_text) stop (rest ∷ []) 0 (other-name (last + 2) (id rest_text) stop (ids-apart g.program stop_text rest_text refl refl (unequal stop_text rest_text refl))) (hit (last + 2) (id rest_text) rest [] refl refl)));
+        (of_idle (id rest_text) 1 (miss (last + 2) (id rest_text) stop (rest ∷ []) 0 (other-name (last + 2) (id rest_text) stop (ids-apart g.program stop_text rest_text refl refl (texts_differ stop_text rest_text refl))) (hit (last + 2) (id rest_text) rest [] refl refl)));
   }
     where
       id : List ℕ → NameId

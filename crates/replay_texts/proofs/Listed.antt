@@ -4,19 +4,19 @@ use Rattle.std.specs.List.{AllByRecursion, filter}
 use Rattle.std.proofs.lemmas.List.Elements.{filter-append}
 use Rattle.ada_tree.specs.declared.naming.Span.{Span}
 use Rattle.ada_tree.specs.TypeTable.{TypeTable}
-use Rattle.ada_tree.specs.PlainDecl.{PTask, PDecl, DNumber, DObject, DEnumeration, DArray, DSubtype, DException, DIntIo, DPragma, DTask, DTaskBody, PDecls, no_decl, decl_then, decls_of}
+use Rattle.ada_tree.specs.PlainDecl.{PTask, PDecl, DNumber, DObject, DEnumeration, DArray, DSubtype, DException, DIntIo, DPragma, DTask, DTaskBody}
 use Rattle.ada_tree.specs.PlainProgram.{PProgram}
 use Rattle.syn_event.specs.Numbering.{Numbering}
 use Rattle.syn_event.specs.Units.{decl_list, tasks_in, tasks_of}
 use Rattle.control_script.specs.declared.Op.{Op}
 use Rattle.task_model.specs.Setting.{Setting}
-use Rattle.normal_model.specs.NormalTree.{decls_front, normal_tree}
+use Rattle.normal_model.specs.NormalTree.{normal_tree}
 use Rattle.replay_model.specs.ReplayTree.{is_added_object, behind_own, permit_declared, more_entries, replay_decl, is_task, is_body, last_task, replay_decls}
 use Rattle.replay_model.specs.Controlling.{control_declared, idle_declared, control_body, idle_body}
 use Rattle.normal_types.specs.Laws.{setting_of}
-use Rattle.normal_units.proofs.Tasks.{tasks-joined}
 use Rattle.normal_has_numbers.proofs.Listed.{IsPlain, IsOneTask, IsOneBody, tasks-all, bodies-all, first-plain, firsts, vars, tasks, bodies, vars-plain, normal-list}
 use Rattle.common_lemmas.proofs.Lists.{all_weaker}
+use Rattle.syn_event.proofs.DeclLists.{tasks_joined}
 
 -- ---- what declarations are
 
@@ -80,10 +80,6 @@ all-behind P names d (x ∷ xs) e h = by_test (is_added_object names x) (all-beh
 pub behind-front : (names : List (List ℕ)) (d : PDecl) (xs ys : List PDecl) → AllByRecursion (λ x. is_added_object names x ≡ false) xs → behind_own names d (xs ++ ys) ≡ xs ++ behind_own names d ys
 behind-front names d [] ys h = refl
 behind-front names d (x ∷ xs) ys h = ap₂ (λ (b : Bool) l. if b then d ∷ x ∷ xs ++ ys else x ∷ l) h.0 (behind-front names d xs ys h.1)
-
-pub front-of : (ds : PDecls) (xs : List PDecl) → decls_of (decl_list ds ++ xs) ≡ decls_front ds (decls_of xs)
-front-of no_decl xs = refl
-front-of (decl_then d ds) xs = ap (decl_then d) (front-of ds xs)
 
 -- ---- the tasks of a replay text
 
@@ -176,14 +172,14 @@ module _ (g : Setting) (s : Span) (ops : List Op) where
       let tasks = map (replay_decl g) (filter is_task ds) in
       let control = control_declared q s (last_task g.numbers) ∷ idle_declared q s ∷ [] in
       let bodies = map (replay_decl g) (filter is_body ds) in
-      tasks-joined (first ++ tasks ++ control ++ bodies) (control_body g s ops ∷ idle_body q s ∷ [])
+      tasks_joined (first ++ tasks ++ control ++ bodies) (control_body g s ops ∷ idle_body q s ∷ [])
       ∙ append-nil (tasks_in (first ++ tasks ++ control ++ bodies))
-      ∙ tasks-joined (first ++ tasks ++ control) bodies
+      ∙ tasks_joined (first ++ tasks ++ control) bodies
       ∙ ap (λ l. tasks_in (first ++ tasks ++ control) ++ l) (replayed-tasks g (filter is_body ds) ∙ ap (map (more_task q)) (sorted-bodies ds))
       ∙ append-nil (tasks_in (first ++ tasks ++ control))
-      ∙ tasks-joined (first ++ tasks) control
+      ∙ tasks_joined (first ++ tasks) control
       ∙ ap (λ l. l ++ tasks_in control)
-      (tasks-joined first tasks
+      (tasks_joined first tasks
       ∙ ap₂ (λ (a b : List PTask). a ++ b) (plain-tasks first (all-behind IsPlain q.names permit plain tt (sorted-plain ds))) (replayed-tasks g (filter is_task ds) ∙ ap (map (more_task q)) (sorted-tasks ds)))
 
 -- ---- the declarations of a normal form

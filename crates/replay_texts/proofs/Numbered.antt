@@ -28,7 +28,8 @@ use Rattle.normal_types.specs.Laws.{IsOrdered, setting_of, AreOwn}
 use Rattle.normal_has_numbers.specs.Laws.{NoneIsDed}
 use Rattle.replay_texts.specs.Laws.{ReplayNumbered}
 use Rattle.normal_has_numbers.proofs.Named.{added-longer, own-within, begins-within}
-use Rattle.normal_has_numbers.proofs.TasksNumbered.{IsSingle, single_task, single_numbers, numbers-single, entries-joined}
+use Rattle.normal_has_numbers.specs.Single.{IsSingle}
+use Rattle.normal_has_numbers.proofs.TasksNumbered.{single_task, single_numbers, numbers-single, entries-joined}
 use Rattle.normal_has_numbers.proofs.Listed.{IsPlain, IsOneTask, IsOneBody, first-plain, firsts, vars, tasks, bodies, vars-plain, tasks-all, bodies-all}
 use Rattle.replay_texts.proofs.Listed.{all-behind, more_task, added_tasks, replay-tasks}
 use Rattle.replay_texts.proofs.Rooted.{replay-begins, replay-list, replay_agrees}

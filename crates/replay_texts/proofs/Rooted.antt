@@ -34,8 +34,9 @@ use Rattle.replay_texts.specs.Laws.{ReplayIsRooted, ReplayAgrees}
 use Rattle.normal_has_numbers.proofs.Named.{text-there, Has, has-folded, has-front, added-longer, reserved-new, own-within, own-not-added}
 use Rattle.normal_has_numbers.proofs.Listed.{firsts, vars, tasks, bodies}
 use Rattle.normal_has_numbers.proofs.TaskNames.{normal-begins}
-use Rattle.replay_texts.proofs.Listed.{all-behind, behind-front, front-of, normal-plain, normal-tasks, normal-bodies}
+use Rattle.replay_texts.proofs.Listed.{all-behind, behind-front, normal-plain, normal-tasks, normal-bodies}
 use Rattle.common_lemmas.proofs.Lists.{all_joined, all_weaker}
+use Rattle.normal_model.proofs.WalkLemmas.{listed-front}
 
 -- ---- names
 
@@ -163,7 +164,7 @@ replay_is_rooted p types numbers events ordered own =
     let ops = script_of numbers events in
     let s = p.name.span in
     subst (λ (l : PDecls). Rooted (own_name p) (behind p.name (first_decls [] p.decls)).types (types_in p) (after_decls (first_scope p.name) l).types)
-    (sym (ap decls_of (replay-list p types numbers ops own s) ∙ front-of (first_decls [] p.decls) (added_of p types numbers ops own s)))
+    (sym (ap decls_of (replay-list p types numbers ops own s) ∙ listed-front (first_decls [] p.decls) (added_of p types numbers ops own s)))
     (subst (λ (c : Scope). Rooted (own_name p) (behind p.name (first_decls [] p.decls)).types (types_in p) c.types)
     (sym (front-after (first_decls [] p.decls) (decls_of (added_of p types numbers ops own s)) (first_scope p.name)))
     (rewritten_is_rooted (own_name p) p.name p.decls (first_decls [] p.decls) (decls_of (added_of p types numbers ops own s)) (first_decls_are_front p ordered) (added-new p types numbers ops own s)))

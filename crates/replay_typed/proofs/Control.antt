@@ -12,13 +12,12 @@ use Rattle.ada_tree.specs.PlainExpr.{PExpr, EInteger}
 use Rattle.ada_tree.specs.PlainStmt.{PCall, PFormal, PHead, PTarget}
 use Rattle.ada_tree.specs.PlainDecl.{no_decl}
 use Rattle.ada_tree.specs.PlainProgram.{PProgram}
-use Rattle.ada_tree.specs.Scope.{Scope, Range, FormalPart, Family, single, family, unclear, EntryPart, Thing, SingleTask, Parameter, ScalarMark, Reading, AsScalar, integer_kind, kind_at, marking, meaning, reading, reading_of, reading_of_mark, entry_named, is_entry_somewhere}
+use Rattle.ada_tree.specs.Scope.{Scope, Range, FormalPart, Family, single, family, unclear, Thing, Parameter, ScalarMark, Reading, AsScalar, integer_kind, kind_at, marking, meaning, reading, reading_of, reading_of_mark, entry_named, is_entry_somewhere}
 use Rattle.ada_tree.specs.ExprTypes.{kind_of, static_in}
 use Rattle.ada_tree.specs.StaticValue.{is_integer_value}
 use Rattle.ada_tree.specs.Declaring.{formal_thing, with_formals, inside, in_body, own_entries, after_objects}
-use Rattle.ada_tree.specs.Demand.{MarkUse, scalar_only, stands_as_mark, must_be_of, must_lie_in, gives_body, Site}
+use Rattle.ada_tree.specs.Demand.{MarkUse, scalar_only, stands_as_mark, must_be_of, must_lie_in, Site}
 use Rattle.ada_tree.specs.Sites.{site, if_there, expr_sites, expr_of, formals_sites, accept_index_sites, head_sites, handler_names_sites, target_sites, stmt_sites, stmts_sites, call_sites, decl_sites}
-use Rattle.ada_tree.specs.RuleUnknown.{no_body_of}
 use Rattle.ada_tree.specs.RuleMismatch.{is_allowed, target_kind}
 use Rattle.ada_tree.specs.RuleNotException.{no_exception}
 use Rattle.ada_tree.specs.RuleNotVariable.{whole_written, is_array, is_variable}
@@ -36,12 +35,13 @@ use Rattle.replay_model.specs.Names.{kind_text, argument_text, index_text, contr
 use Rattle.replay_model.specs.Controlling.{permit_formals, part_given, given, op_statement, op_statements, control_body, idle_body}
 use Rattle.alike_scopes.specs.Laws.{IsMetBut}
 use Rattle.normal_typed.specs.ScopeOf.{MeansInteger}
-use Rattle.normal_typed.proofs.Places.{met-declares, met-handles, met-in, met-of, met-writes, met-accepts, met-exception}
-use Rattle.normal_typed.proofs.Variables.{AllMetBut, of-kind, scalar-read}
+use Rattle.normal_typed.proofs.Places.{met-declares, met-handles, met-in, met-of, met-writes, met-accepts, met-exception, gives-met}
+use Rattle.normal_typed.proofs.Variables.{AllMetBut, of-kind}
 use Rattle.normal_typed.proofs.Literals.{integer-marked, plain-fixed, number-fixed}
 use Rattle.replay_typed.specs.ScopeOf.{HasLists, permit_parts}
 use Rattle.replay_typed.specs.Controller.{AreOthers, IsController, IsIdler, IsWritable}
 use Rattle.replay_typed.proofs.Calls.{listed, single-met, listed-call, number-met}
+use Rattle.alike_scopes.proofs.Marks.{scalar-reading}
 
 -- ---- INTEGER
 
@@ -135,22 +135,6 @@ out-assigned d id s e v m k =
     its-kind : target_kind d target ≡ Some integer_kind
     its-kind = ap kind_read v.read
 
--- a body of a task that is declared
-pub body-given : (d : Scope) (w : Word) (entries : List EntryPart) → meaning d w.name ≡ Some (SingleTask entries) → IsMetBut (site d (gives_body w))
-body-given d w entries h = record {
-  known = ap (λ o. no_body_of o w) h;
-  matched = refl;
-  static = refl;
-  ranged = refl;
-  variable = refl;
-  readable = refl;
-  counted = refl;
-  chosen = refl;
-  arrays = refl;
-  texts = refl;
-  exceptions = refl;
-}
-
 module _ (g : Setting) (others : AreOthers g.program) where
   abbrev q : PProgram
   q = g.program
@@ -193,7 +177,7 @@ module _ (g : Setting) (others : AreOthers g.program) where
         record {
           place = int.place;
           means = means;
-          read = ap (reading_of behind.types) means ∙ ap (reading_of_mark d.types) int.there ∙ scalar-read int.mark.kind (kind_at d.types int.mark.kind) int.scalar.0 int.scalar.1 ∙ ap AsScalar int.kind;
+          read = ap (reading_of behind.types) means ∙ ap (reading_of_mark d.types) int.there ∙ scalar-reading int.mark.kind (kind_at d.types int.mark.kind) int.scalar.0 int.scalar.1 ∙ ap AsScalar int.kind;
         }
 
     kind-in : IsIn (words s) (added_id q kind_text)
@@ -288,7 +272,7 @@ module _ (g : Setting) (others : AreOthers g.program) where
     -- The body of the controller meets the rules.
     pub control-met : (ops : List Op) → AllByRecursion (IsWritable g n d) ops → AllMetBut (decl_sites d (control_body g s ops))
     control-met ops h = (
-      body-given d (added_word q s control_text) control.seen.entries control.seen.means,
+      gives-met d (added_word q s control_text) control.seen.entries control.seen.means,
       all_joined IsMetBut (stmts_sites within (op_statements g s ops)) [] (ops-met ops h) tt,
     )
 
@@ -298,6 +282,6 @@ module _ (g : Setting) (others : AreOthers g.program) where
       let within : Scope = inside (after_objects (in_body d (added_word q s idle_text)) no_decl) in
       let h : PHead = record { entry = added_word q s rest_text; index = None; formals = []; span = s } in
       let own : HasLists (entry_named within.own (added_id q rest_text)) single [] = subst (λ l. HasLists (entry_named l (added_id q rest_text)) single []) (sym (ap own_entries idle.seen.means)) idle.rest in (
-        body-given d (added_word q s idle_text) idle.seen.entries idle.seen.means,
+        gives-met d (added_word q s idle_text) idle.seen.entries idle.seen.means,
         listed-accept within h single [] own refl refl tt tt,
       )

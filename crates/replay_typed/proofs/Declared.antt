@@ -24,7 +24,7 @@ use Rattle.alike_scopes.specs.Alike.{Alike}
 use Rattle.alike_scopes.specs.Laws.{IsMetBut}
 use Rattle.normal_typed.specs.ScopeOf.{MeansInteger}
 use Rattle.normal_typed.proofs.Places.{met-declares, met-static, met-in}
-use Rattle.normal_typed.proofs.Variables.{AllMetBut}
+use Rattle.normal_typed.proofs.Variables.{AllMetBut, words-met}
 use Rattle.normal_typed.proofs.Literals.{integer-marked}
 use Rattle.normal_typed.proofs.Stays.{old-expr, old-drange, old-formals, static-stays, drange-stays, formals-stay}
 use Rattle.replay_typed.specs.Controller.{IsInteger}
@@ -32,10 +32,6 @@ use Rattle.replay_typed.proofs.Calls.{number-met}
 use Rattle.replay_typed.proofs.Control.{integer-mark}
 
 -- ---- names
-
-pub names-met : (fixed : Bool) (ws : List Word) (d : Scope) → AllMetBut (names_sites fixed d ws)
-names-met fixed [] d = tt
-names-met fixed (w ∷ ws) d = (met-declares d fixed w, names-met fixed ws _)
 
 -- ---- entries
 
@@ -98,7 +94,7 @@ module _ (q : PProgram) (old : ℕ → Bool) (c d : Scope) (alike : Alike old c 
       let all : AllByRecursion (IsMetEntry d) (more_entries q t) =
       all_joined (IsMetEntry d) (t.entries ++ map (double_entry q) t.entries) added (all_joined (IsMetEntry d) t.entries (map (double_entry q) t.entries) kept (doubles-met t.entries kept)) (tt, (tt, tt)) in
       all_joined IsMetBut (names_sites true d (t.name ∷ []) ++ entries_sites d [] (more_entries q t)) (flat_map (λ (p : PPriority). static_of d (Some integer_kind) p.value) t.priorities)
-      (all_joined IsMetBut (names_sites true d (t.name ∷ [])) (entries_sites d [] (more_entries q t)) (names-met true (t.name ∷ []) d) (entries-met d (more_entries q t) [] all))
+      (all_joined IsMetBut (names_sites true d (t.name ∷ [])) (entries_sites d [] (more_entries q t)) (words-met true (t.name ∷ []) d) (entries-met d (more_entries q t) [] all))
       (priorities-stay t.priorities (recursion_from_All (EveryPriority (own_rules old)) t.priorities h.2) back)
 
 -- ---- tasks that are added
@@ -160,7 +156,7 @@ module _ (q : PProgram) (d : Scope) (int : MeansInteger d) (s : Span) where
       let hold : PEntry = added_entry q s hold_text None [] in
       let entries : List PEntry = go ∷ done ∷ hold ∷ [] in
       all_joined IsMetBut (names_sites true d (_ ∷ []) ++ entries_sites d [] entries) []
-      (all_joined IsMetBut (names_sites true d (_ ∷ [])) (entries_sites d [] entries) (names-met true (_ ∷ []) d)
+      (all_joined IsMetBut (names_sites true d (_ ∷ [])) (entries_sites d [] entries) (words-met true (_ ∷ []) d)
       (entries-met d entries [] (
         all_joined IsMetBut (if_there (drange_sites true d) (all_tasks s n)) (formals_sites d (permit_formals q s)) (tasks-range n) permit-formals,
         (all_joined IsMetBut (if_there (drange_sites true d) (all_tasks s n)) [] (tasks-range n) tt, (tt, tt)),
@@ -172,7 +168,7 @@ module _ (q : PProgram) (d : Scope) (int : MeansInteger d) (s : Span) where
   idle-declared =
       let entries : List PEntry = added_entry q s stop_text None [] ∷ added_entry q s rest_text None [] ∷ [] in
       all_joined IsMetBut (names_sites true d (_ ∷ []) ++ entries_sites d [] entries) []
-      (all_joined IsMetBut (names_sites true d (_ ∷ [])) (entries_sites d [] entries) (names-met true (_ ∷ []) d) (entries-met d entries [] (tt, (tt, tt))))
+      (all_joined IsMetBut (names_sites true d (_ ∷ [])) (entries_sites d [] entries) (words-met true (_ ∷ []) d) (entries-met d entries [] (tt, (tt, tt))))
       tt
 
 -- ---- the variables of a permit
@@ -223,4 +219,4 @@ module _ (q : PProgram) (d : Scope) (int : IsInteger d) (s : Span) where
       let names : List Site = names_sites (d.in_main && is_task_object x.thing) d words in
       let shape : List Site = shape_sites d false (OPlain of_integer) (Some nothing_yet) in
       all_joined IsMetBut (names ++ shape) (init_sites d x.types (object_marking x) nothing_yet)
-      (all_joined IsMetBut names shape (names-met (d.in_main && is_task_object x.thing) words d) (integer-mark d int.its _ s, tt)) init-met
+      (all_joined IsMetBut names shape (words-met (d.in_main && is_task_object x.thing) words d) (integer-mark d int.its _ s, tt)) init-met

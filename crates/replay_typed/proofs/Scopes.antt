@@ -27,9 +27,6 @@ use Rattle.normal_typed.proofs.Scopes.{IsNoTask, differ, meaning-more, not-calle
 use Rattle.replay_model.specs.Names.{control_text, idle_text, never_text, added_id}
 use Rattle.replay_typed.specs.ScopeOf.{AreOuter, IsNumber, HasLists, IsCountedBy, as_itself, by_position, IsEntryOf, HasDoubles, IsControl, IsIdle, IsScopeOf, AreInner, IsInnerScheme}
 
-not-so : true ≡ false → ⊥
-not-so e = true≢false e
-
 module _ (inner : ℕ → Bool) where
   -- what two scopes become where inner names are declared in both
   pub record IsStep (c d c' d' : Scope) : Type 0 where
@@ -70,7 +67,7 @@ module _ (inner : ℕ → Bool) where
     owned_there = refl;
     types = refl;
     means = λ id. by_test id (w.name.0 == id.0) (meaning-more thing c w id) (meaning-more thing' d w id);
-    outer = λ id o. meaning-more thing' d w id ∙ ap (λ b. if b then Some thing' else meaning d id) (differ inner w.name.0 id.0 true false i o not-so);
+    outer = λ id o. meaning-more thing' d w id ∙ ap (λ b. if b then Some thing' else meaning d id) (differ inner w.name.0 id.0 true false i o true≢false);
   }
     where
       by_test : (id : NameId) (b : Bool) → meaning (with_name thing c w) id ≡ (if b then Some thing else meaning c id) → meaning (with_name thing' d w) id ≡ (if b then Some thing' else meaning d id) →

@@ -26,13 +26,10 @@ use Rattle.normal_typed.proofs.Places.{met-whole, met-node, met-of}
 use Rattle.normal_typed.proofs.Variables.{AllMetBut, variable-kind, variable-changes, variable-met}
 use Rattle.normal_typed.proofs.Tests.{IsMetNode, nodes-met, met-nodes, loose}
 use Rattle.replay_typed.specs.ScopeOf.{IsNumber}
+use Rattle.common_lemmas.proofs.Truth.{and_both}
+use Rattle.legal_sites.proofs.Around.{test-fails}
 
 -- ---- kinds
-
--- no place where a test fails
-no-place : (b : Bool) (s : Span) → (if b then s ∷ [] else []) ≡ [] → b ≡ false
-no-place true s e = cc
-no-place false s e = refl
 
 if-so : {A : Type 0} (b : Bool) (x y z : A) → b ≡ true → (if b then x else y) ≡ z → x ≡ z
 if-so true x y z e f = f
@@ -87,10 +84,6 @@ unary-some : (a : Option ℕ) → is_some (unary_kind (of_kind truth_kind) a) �
 unary-some None e = e
 unary-some (Some k) e = refl
 
-both-true : (a b : Bool) → (a && b) ≡ true → (a ≡ true) × (b ≡ true)
-both-true true b e = (refl, e)
-both-true false b e = cc
-
 -- ---- static expressions that raise nothing
 
 name-raises : (o : Option _) → raised (named o) ≡ []
@@ -130,7 +123,7 @@ module _ (d : Scope) where
   fit-of k e m =
       let front = all_front IsMetBut (expr_sites d e) (site d (must_be_of e (Some k)) ∷ []) m in
       record {
-        kind = no-place (is_other_kind (Some k) (kind_of d e)) (place_of e) (all_back IsMetBut (expr_sites d e) (site d (must_be_of e (Some k)) ∷ []) m).0.matched;
+        kind = test-fails (is_other_kind (Some k) (kind_of d e)) (place_of e) (all_back IsMetBut (expr_sites d e) (site d (must_be_of e (Some k)) ∷ []) m).0.matched;
         raised = front.0.ranged;
         parts = met-nodes d (nodes e) front.1;
       }
@@ -173,7 +166,7 @@ module _ (d : Scope) where
       by_fixed : (b : Bool) → is_fixed d (EUnary unary.Not e s) ≡ b → (if b then raised (value_of d.types (EUnary unary.Not e s)) else raises d e) ≡ []
       by_fixed false f = h.raised
       by_fixed true f =
-          let q = both-true (is_some (unary_kind (of_kind truth_kind) (kind_of d e))) (is_static d.types e) f in
+          let q = and_both (is_some (unary_kind (of_kind truth_kind) (kind_of d e))) (is_static d.types e) f in
           let some : is_some (kind_of d e) ≡ true = unary-some (kind_of d e) q.0 in
           not-raises s (value_of d.types e) (fixed-raises d e (ap₂ (λ a b. a && b) some q.1) h.raised)
 
@@ -307,7 +300,7 @@ module _ (d : Scope) where
       by_fixed : (b : Bool) → is_fixed d whole ≡ b → (if b then raised (value_of d.types whole) else raises d e) ≡ []
       by_fixed false g = h.raised
       by_fixed true g =
-          let q = both-true (is_some (kind_of d whole)) (is_static d.types whole) g in
+          let q = and_both (is_some (kind_of d whole)) (is_static d.types whole) g in
           let some : is_some (kind_of d e) ≡ true = position-some k (kind_of d e) (sym (ap (λ o. is_some (attribute_kind Pos o (kind_of d e))) f) ∙ q.0) in
-          let static : is_static d.types e ≡ true = (both-true (is_some (mark_named d.types m)) (is_static d.types e) q.1).1 in
+          let static : is_static d.types e ≡ true = (and_both (is_some (mark_named d.types m)) (is_static d.types e) q.1).1 in
           position-raises (mark_named d.types m) s (value_of d.types e) (fixed-raises d e (ap₂ (λ a b. a && b) some static) h.raised)

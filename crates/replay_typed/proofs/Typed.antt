@@ -37,7 +37,7 @@ use Rattle.replay_typed.proofs.Calls.{AreOldArgs, old-args, single-met, callee-s
 use Rattle.replay_typed.proofs.Accepts.{head-kept, served-loose, never-met}
 use Rattle.replay_typed.proofs.Scopes.{accept-scope, scheme-scope}
 
-same : (s : Site) → IsMetBut s → IsMetBut s
+pub same : (s : Site) → IsMetBut s → IsMetBut s
 same s m = m
 
 module _ (u : Unit) (old inner : ℕ → Bool) (outer : AreOuter u.setting.program inner) where

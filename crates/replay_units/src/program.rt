@@ -99,7 +99,7 @@ fn put_control(alloc: Global, x: &Speaker, head: &Head, out: &mut Vec<Decl>) -> 
 fn control_body_of(alloc: Global, x: &Speaker, head: &Head) -> Result<Decl, Memory>
     ensures { IfOk result (λ made. plain_decl made ≡ control_body (voice_of x.now).added (voice_of x.now).numbers.tasks head.now.place head.now.ops.now) }
 {
-    let numbers = x.numbers;
+    let numbers = x.numbers.numbers();
     control_body(alloc, &x.tables.added, &numbers.tasks, head.ops, head.place)
 }
 
@@ -185,7 +185,7 @@ fn put_decls(
     let mut tasks = Vec::new(alloc);
     let mut bodies = Vec::new(alloc);
     sort_decls(decls, objects, &mut tasks, &mut bodies)?;
-    let units = by_units(alloc, x.numbers)?;
+    let units = by_units(alloc, x.numbers.numbers())?;
     let runners = TaskNames::new(alloc, &units)?;
     put_units(alloc, x, head, &runners, objects, &mut tasks, &mut bodies)
 }

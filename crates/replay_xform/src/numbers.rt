@@ -12,6 +12,7 @@ use replay_asking::Speaker;
 use replay_numbering::numbers_by;
 use std::alloc::Global;
 use syn_event::Numbers;
+use task_links::TaskNames;
 
 /// The numbers of the replay text of a normal form, whose names these are, by what is looked up of the normal form. They hang on no sequence. The only error is want of memory.
 pub fn replay_numbers(alloc: Global, lookups: &Lookups, names: &Names) -> Result<Numbers, Memory>
@@ -19,10 +20,12 @@ pub fn replay_numbers(alloc: Global, lookups: &Lookups, names: &Names) -> Result
     ensures { IfOk result (λ made. made ≡ numbers_replayed lookups.now) }
 {
     let q = lookups.links().program();
+    let numbers = lookups.links().numbers();
     let tables = tables_of(alloc, lookups, &q.names, names)?;
+    let tasks = TaskNames::new(alloc, numbers)?;
     let speaker = Speaker {
         tables: &tables,
-        numbers: lookups.links().numbers(),
+        numbers: &tasks,
         task: 0,
     };
     numbers_by(alloc, &speaker, names)

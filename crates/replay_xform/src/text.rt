@@ -23,6 +23,7 @@ use replay_rules::replay_body;
 use replay_units::{Head, replay_decls};
 use std::alloc::Global;
 use syn_event::Numbers;
+use task_links::TaskNames;
 
 // The number of the last task.
 fn last_task(numbers: &Numbers) -> u32
@@ -62,9 +63,10 @@ fn put_text(alloc: Global, lookups: &Lookups, ops: &[Op], text: &mut Program) ->
     let numbers = lookups.links().numbers();
     put_names(alloc, q, &mut text.names)?;
     let tables = tables_of(alloc, lookups, &q.names, &text.names)?;
+    let tasks = TaskNames::new(alloc, numbers)?;
     let speaker = Speaker {
         tables: &tables,
-        numbers,
+        numbers: &tasks,
         task: 0,
     };
     let head = Head {

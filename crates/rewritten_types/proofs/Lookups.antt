@@ -1,8 +1,13 @@
 -- What is found in a list that got more behind it.
-use Rattle.std.proofs.Common.{◌≡◌, ℕ, zero, suc, Bool, true, false, if◌then◌else◌, List, [], ◌∷◌, ◌++◌, length, find, slice_get, Some, None, ◌⊎◌, inl, inr, ⊎_elim, refl, sym, ap, subst}
+use Rattle.std.proofs.Common.{◌≡◌, ℕ, zero, suc, Bool, true, false, if◌then◌else◌, List, [], ◌∷◌, ◌++◌, length, find, slice_get, Some, None, ◌⊎◌, inl, inr, ⊎_elim, refl, sym, ap, subst, ℤ, Option, option_map}
 use Rattle.std.proofs.lemmas.Option.{none-some}
 use Rattle.std.specs.List.{AllByRecursion}
 use Rattle.common_lemmas.proofs.Options.{some_same}
+use Rattle.ada_tree.specs.declared.naming.NameId.{NameId}
+use Rattle.ada_tree.specs.declared.static_types.Kind.{Kind}
+use Rattle.ada_tree.specs.declared.static_types.Kind.TheVariants.{Integer, Truth, Enumeration, Array}
+use Rattle.ada_tree.specs.StaticValue.{position_in, first_of_two, literal_position, is_of_kind}
+use Rattle.rewritten_types.specs.Agreement.{Literal, literal_among, scalar_only}
 
 -- what stood at a place stands there still
 pub place-more : {A : Type 0} (xs ys : List A) (k : ℕ) (x : A) → slice_get xs k ≡ Some x → slice_get (xs ++ ys) k ≡ Some x
@@ -65,3 +70,22 @@ find-only {A = A} p (x ∷ xs) y n e = by_test (p x) n (find-only p xs y)
     by_test : (b : Bool) → (if b then Some x else find p xs) ≡ None → (find p xs ≡ None → p y ≡ true → find p (xs ++ y ∷ []) ≡ Some y) → (if b then Some x else find p (xs ++ y ∷ [])) ≡ Some y
     by_test true f rest = absurd (none-some x (sym f))
     by_test false f rest = rest f e
+
+-- the position of a literal is that of the literal with its kind
+pub position-among : (ks : List Kind) (k : ℕ) (id : NameId) → literal_position ks id ≡ option_map (λ (l : Literal). l.position) (literal_among ks k id)
+position-among [] k id = refl
+position-among (x ∷ ks) k id = by_position (position_in id x) (position-among ks (suc k) id)
+  where
+    by_position : (o : Option ℕ) → literal_position ks id ≡ option_map (λ (l : Literal). l.position) (literal_among ks (suc k) id) →
+        first_of_two o (literal_position ks id)
+        ≡ option_map (λ (l : Literal). l.position) (first_of_two (option_map (λ n. record { kind = k; position = n }) o) (literal_among ks (suc k) id))
+    by_position (Some n) e = refl
+    by_position None e = e
+
+-- whether a value is one of a kind hangs on kinds of values alone
+pub of-kind-only : (o : Option Kind) (z : ℤ) → is_of_kind o z ≡ is_of_kind (scalar_only o) z
+of-kind-only (Some Integer) z = refl
+of-kind-only (Some Truth) z = refl
+of-kind-only (Some (Enumeration names)) z = refl
+of-kind-only (Some (Array index first last part)) z = refl
+of-kind-only None z = refl

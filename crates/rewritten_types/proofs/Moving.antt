@@ -96,7 +96,7 @@ no_array_value true None entries = refl
 no_array_value false (Some r) entries = refl
 no_array_value false None entries = refl
 
-no_array : (T : TypeTable) (r : Option Range) → made_array None T r None ≡ made_none T
+pub no_array : (T : TypeTable) (r : Option Range) → made_array None T r None ≡ made_none T
 no_array T (Some r) = refl
 no_array T None = refl
 

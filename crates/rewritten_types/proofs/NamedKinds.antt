@@ -46,7 +46,7 @@ are-kept : (old : ℕ → Bool) (T U : TypeTable) → Keeps old T U → AreNamed
 are-kept old T U keeps h k s = kind-kept T U keeps.grows k (h k (s.0, sym (keeps.kinds k) ∙ s.1))
 
 -- no mark is of a kind that is not there
-no-mark : (T : TypeTable) → Sound T → mark_of_kind T (length T.kinds) ≡ None
+pub no-mark : (T : TypeTable) → Sound T → mark_of_kind T (length T.kinds) ≡ None
 no-mark T sound = found_none (λ (m : Mark). m.kind == length T.kinds) T.marks (all_weaker (λ (m : Mark). HasKind T m.kind) _ T.marks another sound.marks)
   where
     another : (m : Mark) → HasKind T m.kind → (m.kind == length T.kinds) ≡ false

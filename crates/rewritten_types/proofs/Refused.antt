@@ -2,7 +2,6 @@
 use Rattle.std.proofs.Common.{◌≡◌, ℕ, Bool, true, false, ◌&&◌, ◌||◌, ◌==◌, List, [], ◌∷◌, refl}
 use Rattle.std.specs.List.{AllByRecursion, list_any}
 use Rattle.std.proofs.lemmas.Bool.{or_parts}
-use Rattle.ada_tree.specs.declared.naming.Span.{Span}
 use Rattle.ada_tree.specs.declared.naming.Word.{Word}
 use Rattle.ada_tree.specs.PlainDecl.{PDecl, DNumber, DObject, DEnumeration, DArray, DSubtype, DException, DIntIo, DPragma, DTask, DTaskBody, PDecls, no_decl, decl_then}
 use Rattle.ada_tree.specs.Scope.{Scope}
@@ -10,10 +9,11 @@ use Rattle.ada_tree.specs.Demand.{Demand, declares, Site}
 use Rattle.ada_tree.specs.Sites.{names_sites, decl_sites, decls_sites, body_sites, sites}
 use Rattle.ada_tree.specs.Declaring.{first_scope, after_decl, inside, after_decls}
 use Rattle.ada_tree.specs.RuleDuplicate.{is_predefined, is_among, fixes, introduces, at_word, duplicate}
-use Rattle.ada_tree.specs.Refusals.{by_rule, refused_at, refused_from}
+use Rattle.ada_tree.specs.Refusals.{refused_at, refused_from}
 use Rattle.rewritten_types.specs.Rewriting.{names_declared, IsUnused, DeclareOnce}
 use Rattle.rewritten_types.specs.Laws.{DeclaredOnce}
 use Rattle.common_lemmas.proofs.Lists.{all_back, all_front, all_weaker, back_empty, front_empty, not_empty}
+use Rattle.tree_lemmas.proofs.Spans.{no_spans}
 
 -- ---- empty lists
 
@@ -30,10 +30,6 @@ DeclaresUnused scope _ = Unit {0}
 
 abbrev IsOnce : Site → Type 0
 IsOnce s = DeclaresUnused s.scope s.demand
-
-no_spans : (n : ℕ) (spans : List Span) → by_rule n spans ≡ [] → spans ≡ []
-no_spans n [] e = refl
-no_spans n (s ∷ ss) e = absurd (not_empty _ _ e)
 
 pub no_word : (test : Bool) (w : Word) → at_word test w ≡ [] → test ≡ false
 no_word true w e = absurd (not_empty _ _ e)

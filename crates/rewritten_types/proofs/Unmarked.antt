@@ -67,16 +67,16 @@ module _ (s0 : Scope) (here : InHere s0) where
 abbrev anybody : ℕ → Bool
 anybody n = true
 
-add-marks : (names : List Word) (m : Option ℕ) (z : Option ℤ) (T : TypeTable) (id : NameId) → mark_named (add_constants names m z T) id ≡ mark_named T id
+pub add-marks : (names : List Word) (m : Option ℕ) (z : Option ℤ) (T : TypeTable) (id : NameId) → mark_named (add_constants names m z T) id ≡ mark_named T id
 add-marks names (Some m) (Some z) T id = refl
 add-marks names (Some m) None T id = refl
 add-marks names None z T id = refl
 
-if-marks : (b : Bool) (T U : TypeTable) (id : NameId) → mark_named U id ≡ mark_named T id → mark_named (if b then U else T) id ≡ mark_named T id
+pub if-marks : (b : Bool) (T U : TypeTable) (id : NameId) → mark_named U id ≡ mark_named T id → mark_named (if b then U else T) id ≡ mark_named T id
 if-marks true T U id e = e
 if-marks false T U id e = refl
 
-object-marks : (s : Scope) (names : List Word) (constant : Bool) (shape : PShape) (init : Option PInit) (id : NameId) →
+pub object-marks : (s : Scope) (names : List Word) (constant : Bool) (shape : PShape) (init : Option PInit) (id : NameId) →
     mark_named (after_object s names constant shape init).types id ≡ mark_named s.types id
 object-marks s names constant shape init id =
     let d = declared_object s constant shape in
@@ -145,7 +145,7 @@ decls-unmarked (decl_then d rest) s here once h =
     decls-unmarked rest (after_decl s d) (here-decl d s here) once.1 (λ id f. decl-marks d s id f ∙ h id (decl-before s here d once.0 id f))
 
 -- a name that is none of the first four
-no-type : (n : ℕ) → 3 < n → mark_named predefined_types record { 0 = n } ≡ None
+pub no-type : (n : ℕ) → 3 < n → mark_named predefined_types record { 0 = n } ≡ None
 no-type n l = found_none (λ (x : Mark). is_named record { 0 = n } x.name) predefined_types.marks (less 0 (omega arith), (less 1 (omega arith), (less 2 (omega arith), (less 3 l, tt))))
   where
     less : (k : ℕ) → k < n → (k == n) ≡ false

@@ -21,6 +21,7 @@ use Rattle.rewritten_types.specs.Agreement.{scalar_only, Literal, literal_among,
 use Rattle.rewritten_values.specs.Values.{is_known, LiteralsWithin}
 use Rattle.rewritten_values.specs.Laws.{TablesAgreeOnValues}
 use Rattle.common_lemmas.proofs.Options.{some_same}
+use Rattle.rewritten_types.proofs.Lookups.{of-kind-only}
 
 -- ---- what hangs on the kinds of values alone
 
@@ -30,13 +31,6 @@ value-scalar k (Some kind.Integer) z = refl
 value-scalar k (Some kind.Truth) z = refl
 value-scalar k (Some (kind.Enumeration names)) z = refl
 value-scalar k None z = refl
-
-base-scalar : (o : Option Kind) (z : ℤ) → is_of_kind o z ≡ is_of_kind (scalar_only o) z
-base-scalar (Some (kind.Array index first last part)) z = refl
-base-scalar (Some kind.Integer) z = refl
-base-scalar (Some kind.Truth) z = refl
-base-scalar (Some (kind.Enumeration names)) z = refl
-base-scalar None z = refl
 
 text-scalar : (names : List (List ℕ)) (o : Option Kind) (n : ℕ) → literal_text names o n ≡ literal_text names (scalar_only o) n
 text-scalar names (Some (kind.Array index first last part)) n = refl
@@ -148,7 +142,7 @@ module _ (old : ℕ → Bool) (T U : TypeTable) (h : Agrees old T U) where
   values-alike k z = value-scalar k (kind_at T k) z ∙ ap (λ o. value_in k o z) (h.kinds k) ∙ sym (value-scalar k (kind_at U k) z)
 
   pub bases-alike : (k : ℕ) (z : ℤ) → is_of_kind (slice_get T.kinds k) z ≡ is_of_kind (slice_get U.kinds k) z
-  bases-alike k z = base-scalar (kind_at T k) z ∙ ap (λ o. is_of_kind o z) (h.kinds k) ∙ sym (base-scalar (kind_at U k) z)
+  bases-alike k z = of-kind-only (kind_at T k) z ∙ ap (λ o. is_of_kind o z) (h.kinds k) ∙ sym (of-kind-only (kind_at U k) z)
 
   pub limits-alike : (id : NameId) → old id.0 ≡ true → limits_named T id ≡ limits_named U id
   limits-alike id o = ap limits_or (h.marks id o)

@@ -13,7 +13,7 @@ use Rattle.seq_file.specs.Lines.{with_three}
 use Rattle.seq_file.specs.inner.Verdicts.{verdict_of}
 use Rattle.text_lines.proofs.Capping.{some-is, capped-le}
 use Rattle.seq_file.proofs.Indexing.{index-same, index-exact, index-fits, member-test}
-use Rattle.seq_file.proofs.Knowing.{IsTest, task-test, low-same}
+use Rattle.seq_file.proofs.Knowing.{IsTest, task-test, low-is}
 use Rattle.common_lemmas.proofs.Truth.{clash}
 use Rattle.text_lines.proofs.Narrowing.{integer-is}
 
@@ -41,8 +41,8 @@ three-read numbers make ht he is (Some x) (Some y) (Some z) m n j a b i k hc h' 
           let index : is_index j ≡ true = small (kk ∙ e) in
           let whole : is_index z ≡ true = sym (index-same z) ∙ ap is_index (sym ej) ∙ index in
           ap (λ t. cond t (Known (make a b i)) BadNumber) (kk ∙ e)
-          ∙ ap (λ t. Known (make t b i)) (low-same x m a em (tasks.small x (and_parts (is_task numbers x) (is_member numbers y z) e).0) ea)
-          ∙ ap (λ t. Known (make x t i)) (low-same y n b en (members.small y (and_parts (is_task numbers x) (is_member numbers y z) e).1) eb)
+          ∙ ap (λ t. Known (make t b i)) (low-is x m a em (tasks.small x (and_parts (is_task numbers x) (is_member numbers y z) e).0) ea)
+          ∙ ap (λ t. Known (make x t i)) (low-is y n b en (members.small y (and_parts (is_task numbers x) (is_member numbers y z) e).1) eb)
           ∙ ap (λ t. Known (make x y t)) (ei (index-fits j index) ∙ ej ∙ index-exact z whole)
           ∙ sym (ap (λ t. cond t (Known (make x y z)) BadNumber) (is x y z ∙ e))
       | inr e ↦

@@ -41,7 +41,7 @@ beside-test numbers h = test_by (is_task_beside_main numbers)
 pub alternative-test : IsTest is_alternative
 alternative-test = test_by is_alternative (λ m ge. and_right (nat_le 1 m) (nat_le m 32) (le_false m 32 (omega (arith, ge))))
 
-low-is : (m n a : ℕ) → n ≡ capped m → m < 2 ^ 32 → (n < 2 ^ 32 → a ≡ n) → a ≡ m
+pub low-is : (m n a : ℕ) → n ≡ capped m → m < 2 ^ 32 → (n < 2 ^ 32 → a ≡ n) → a ≡ m
 low-is m n a e lt h = let same : n ≡ m = e ∙ capped-small m (omega (arith, lt)) in h (omega (arith, same, lt)) ∙ same
 
 pub one-read : (numbers : Numbering) (P : ℕ → Bool) (make : ℕ → Event) → IsTest P → ((m : ℕ) → is_known numbers (make m) ≡ P m) → (o : Option ℕ) (n a : ℕ) (k : Bool) → Some n ≡ option_map capped o → k ≡ P n → (n < 2 ^ 32 → a ≡ n) → cond k (Known (make a)) BadNumber ≡ verdict_of numbers (option_map make o)
@@ -72,6 +72,3 @@ two-read numbers P Q make tp tq is (Some x) (Some y) m n a b k h g ek ea eb =
       | inr e ↦ ap (λ t. cond t (Known (make a b)) BadNumber) (kk ∙ e)
           ∙ sym (ap (λ t. cond t (Known (make x y)) BadNumber) (is x y ∙ e))
     ]
-
-pub low-same : (m n a : ℕ) → n ≡ capped m → m < 2 ^ 32 → (n < 2 ^ 32 → a ≡ n) → a ≡ m
-low-same m n a e lt h = low-is m n a e lt h

@@ -4,3 +4,5 @@ pub mod Kept
 pub mod NameTexts
 pub mod Weaker
 pub mod DeclLists
+pub mod Counts
+pub mod CheckScopes

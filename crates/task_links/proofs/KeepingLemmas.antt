@@ -1,5 +1,5 @@
 -- Maps in which the first that comes for a key is kept: what they have after one more.
-use Rattle.std.specs.Prelude.{◌≡◌, ◌==◌, ◌<◌, ◌≤◌, ◌+◌, ℕ, ℤ, pos, suc, nat_eq, nat_lt, Bool, true, false, cond, if◌then◌else◌, ◌&&◌, List, [], ◌∷◌, ◌++◌, length, take, find, position, Option, Some, None, option_map, is_some, refl}
+use Rattle.std.specs.Prelude.{◌≡◌, ◌==◌, ◌<◌, ◌+◌, ℕ, ℤ, pos, suc, nat_eq, nat_lt, Bool, true, false, cond, if◌then◌else◌, ◌&&◌, List, [], ◌∷◌, ◌++◌, length, take, find, position, Option, Some, None, option_map, is_some, refl}
 use Rattle.std.proofs.Common.{sym, ap, ◌∙◌, get_or, arith}
 use Rattle.std.specs.Cmp.{IsEquivalence}
 use Rattle.std.specs.Ordering.{int_eq}
@@ -7,7 +7,6 @@ use Rattle.std.proofs.lemmas.Cmp.{nat_eq_equiv, int_eq_equiv, on_equiv, and_equi
 use Rattle.std.specs.HashMap.{HashMap, get}
 use Rattle.std.specs.Map.{lookup}
 use Rattle.std.proofs.lemmas.List.{take_more, length-take-le}
-use Rattle.std.proofs.lemmas.Bool.Decides.{nat_tests}
 use Rattle.ada_tree.specs.declared.naming.NameId.{NameId}
 use Rattle.ada_tree.specs.declared.static_types.Kind.{Kind}
 use Rattle.ada_tree.specs.declared.static_types.Mark.{Mark}
@@ -42,10 +41,6 @@ more start so_far grown done all here kept grows longer =
 
 -- ---- what is found in a list that is one longer
 
-found_test : {X : Type 0} (x : X) (o r q : Option X) (b : Bool) → o ≡ first_of_two r q → (if b then Some x else o) ≡ first_of_two (if b then Some x else r) q
-found_test x o r q true h = refl
-found_test x o r q false h = h
-
 pub find_more : {X : Type 0} (p : X → Bool) (xs : List X) (i : ℕ) (d : X) → i < length xs → find p (take (i + 1) xs) ≡ first_of_two (find p (take i xs)) (if p (get_or xs i d) then Some (get_or xs i d) else None)
 find_more p xs i d h = ap (find p) (take_more xs i d h) ∙ find_push p (take i xs) (get_or xs i d)
 
@@ -64,10 +59,6 @@ made_push f p xs y =
 
 abbrev place_in : ℕ → ℕ → Option ℕ
 place_in place count = if nat_lt place count then Some place else None
-
-at_end : (place count : ℕ) (b : Bool) → place ≤ count → place_in (if place == count then count + (if b then 0 else 1) else place) (count + 1) ≡ first_of_two (place_in place count) (if b then Some count else None)
-at_end place count true h = grind (arith, nat_tests)
-at_end place count false h = grind (arith, nat_tests)
 
 -- the same, where something is made of the place
 pub placed_more : {X A : Type 0} (f : ℕ → A) (p : X → Bool) (xs : List X) (i : ℕ) (d : X) → i < length xs → option_map f (position p (take (i + 1) xs)) ≡ first_of_two (option_map f (position p (take i xs))) (if p (get_or xs i d) then Some (f i) else None)

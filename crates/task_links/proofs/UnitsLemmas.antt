@@ -21,6 +21,7 @@ use Rattle.common_lemmas.proofs.Numbers.{equal_is}
 use Rattle.common_lemmas.proofs.Options.{mapped_there, none_there}
 use Rattle.syn_event.proofs.DeclLists.{listed_back}
 use Rattle.tree_lemmas.proofs.FirstOfTwo.{find_push, first_or_none}
+use Rattle.common_lemmas.proofs.Truth.{clash}
 
 abbrev name_of : PTask → ℕ
 name_of t = t.name.name.0
@@ -28,16 +29,13 @@ name_of t = t.name.name.0
 abbrev named : ℕ → PTask → Bool
 named k t = t.name.name.0 == k
 
-false_true : false ≡ true → ⊥
-false_true h = cc
-
 some_not_none : {X : Type 0} (o : Option X) (x : X) → o ≡ Some x → o ≡ None → ⊥
 some_not_none o x h e = cc
 
 already : {X : Type 0} (b : Bool) (o : Option X) (x : X) → (b ≡ true → is_some o ≡ true) → first_of_two o (if b then Some x else None) ≡ o
 already b (Some y) x h = refl
 already false None x h = refl
-already true None x h = absurd (false_true (h refl))
+already true None x h = absurd (clash (h refl))
 
 -- a task whose name came before is not found
 found_before : (ts : List PTask) (t : PTask) (k : ℕ) → is_some (find (named (name_of t)) ts) ≡ true → find (named k) (ts ++ t ∷ []) ≡ find (named k) ts

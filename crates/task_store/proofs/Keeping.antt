@@ -13,13 +13,11 @@ use Rattle.scoped_names.specs.Meaning.{meaning_in}
 use Rattle.task_store.specs.declared.objects.Extent.{Extent}
 use Rattle.task_store.specs.Latest.{with_latest}
 use Rattle.task_store.specs.inner.Kept.{object_at, objects_kept, IsKept, AreKept, IsWithin, slot_of, latest_of, set_there}
+use Rattle.common_lemmas.proofs.Options.{some_same}
 
 pub on_both : {A E P Q R : Type 0} (r : Result A E) → (P → Q → R) → OnOk r P → OnOk r Q → OnOk r R
 on_both (Ok x) f p q = f p q
 on_both (Err e) f p q = p
-
-some_is : {X : Type 0} (a b : X) → Some a ≡ Some b → a ≡ b
-some_is a b h = cc
 
 -- ---- what a name means
 
@@ -53,7 +51,7 @@ at_past values names k h = sym (at_kept values names k ∙ ap (λ o. option_map 
 -- ---- what is kept lies within the list
 
 within_first : (s : ℕ × Extent) (x : Extent) (n : ℕ) → IsKept s n → Some x ≡ Some s.1 → IsWithin x n
-within_first s x n h e = subst (λ y. IsWithin y n) (sym (some_is x s.1 e)) (record { start_within = h.start_within; end_within = omega (arith, h.end_is) })
+within_first s x n h e = subst (λ y. IsWithin y n) (sym (some_same e)) (record { start_within = h.start_within; end_within = omega (arith, h.end_is) })
 
 within_later : (s : ℕ × Extent) (x : Extent) (n : ℕ) → IsKept s n → IsWithin x s.1.start → IsWithin x n
 within_later s x n h w = record { start_within = w.start_within; end_within = omega (arith, h.end_is, h.start_within, w.end_within) }
@@ -203,7 +201,7 @@ cut_back values more = take-append_seam values more
 
 -- what the place of the latest variable holds
 start_of : (s : ℕ × Extent) (x : Extent) → Some x ≡ Some s.1 → x.start ≡ s.1.start
-start_of s x e = ap (λ y. y.start) (some_is x s.1 e)
+start_of s x e = ap (λ y. y.start) (some_same e)
 
 start_below : (s : ℕ × Extent) (n : ℕ) → IsKept s n → s.1.start ≤ n
 start_below s n h = omega (arith, h.end_is, h.start_within)

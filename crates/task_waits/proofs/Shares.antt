@@ -16,7 +16,7 @@ use Rattle.task_waits.specs.declared.choosing.Sort.{Sort}
 use Rattle.task_waits.specs.declared.choosing.Sort.TheVariants as sort
 use Rattle.task_waits.specs.inner.Choosing.{duration_of, lesser, least_among, is_longer, chosen}
 use Rattle.task_waits.proofs.Opens.{lesser_none}
-use Rattle.common_lemmas.proofs.Truth.{or_grouped}
+use Rattle.common_lemmas.proofs.Truth.{or_grouped, or_none}
 
 -- ---- the choices of each sort
 
@@ -33,10 +33,6 @@ terminates_chosen : (o : Open) → chosen sort.Terminates o ≡ terminate_choice
 terminates_chosen (Accepts e i head stmts behind) = refl
 terminates_chosen (Delays k d stmts) = refl
 terminates_chosen Terminates = refl
-
-or_none : (b : Bool) → b ≡ (b || false)
-or_none true = refl
-or_none false = refl
 
 lesser_longer : (m d n : ℕ) → is_longer (lesser (Some m) (Some d)) n ≡ (nat_lt m n || nat_lt d n)
 lesser_longer m d n = grind (arith, nat_tests)

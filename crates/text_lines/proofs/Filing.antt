@@ -1,6 +1,6 @@
 -- A file read line by line: what was read so far, and that a file has one list of lines or one first fault.
 use Rattle.std.proofs.Common.{◌≡◌, ◌≢◌, ℕ, true, false, List, [], ◌∷◌, ◌++◌, length, drop, Option, None, Some, refl, ap, ◌∙◌, sym, subst, arith, ◌⊎◌, inl, inr, append_assoc, append-nil, length-append, All}
-use Rattle.std.specs.Prelude.{◌==◌, is_some, unwrap_or, option_and_then, bytes_eq}
+use Rattle.std.specs.Prelude.{◌==◌, is_some, option_and_then, bytes_eq}
 use Rattle.std.specs.Option.{option_map_or}
 use Rattle.std.proofs.lemmas.Bool.{eqb-false}
 use Rattle.std.proofs.lemmas.List.Elements.{All-head, All-tail}
@@ -11,6 +11,7 @@ use Rattle.text_lines.specs.LineFiles.{Format, lines_text, file_text, IsFile, be
 use Rattle.text_lines.proofs.Marking.{IsFreeOf, left_of, right_of, cut-at_mark, cut-parts, first-line_cut}
 use Rattle.common_lemmas.proofs.Lists.{never_empty}
 use Rattle.common_lemmas.proofs.Truth.{clash}
+use Rattle.common_lemmas.proofs.Options.{some_same}
 
 -- What a format has to keep: its tests and its texts fit together on the lines that may stand in a file, which are all good.
 pub record Laws {L E : Type 0} (format : Format L E) (Good : L → Type 0) : Type 0 where
@@ -23,9 +24,6 @@ pub record Laws {L E : Type 0} (format : Format L E) (Good : L → Type 0) : Typ
   pub free : (y : L) → Good y → IsFreeOf 10 (format.text y)
   pub written : (y : L) → Good y → format.read (format.text y) ≡ Some y
   pub spelled : (line : List ℕ) (y : L) → format.read line ≡ Some y → Good y → line ≡ format.text y
-
-some-same : {X : Type 0} (x y : X) → Some x ≡ Some y → x ≡ y
-some-same x y h = ap (λ o. unwrap_or o x) h
 
 no-some : {X A : Type 0} (o : Option X) (y : X) → o ≡ None → o ≡ Some y → A
 no-some o y h k = clash (ap is_some (sym h ∙ k))
@@ -85,7 +83,7 @@ compare format Good laws (x ∷ xs) (y ∷ ys) r s gx gy h =
     let good' : Good y = All-head Good y ys gy in
     let same : Some (format.text x, lines_text format.text xs ++ r) ≡ Some (format.text y, lines_text format.text ys ++ s) =
     sym (line-cut format Good laws x xs r good) ∙ ap (cut is_line_end) h ∙ line-cut format Good laws y ys s good' in
-    let equal : x ≡ y = some-same x y (sym (laws.written x good) ∙ ap format.read (ap left_of same) ∙ laws.written y good') in
+    let equal : x ≡ y = some_same (sym (laws.written x good) ∙ ap format.read (ap left_of same) ∙ laws.written y good') in
     elim (compare format Good laws xs ys r s (All-tail Good x xs gx) (All-tail Good y ys gy) (ap right_of same)) [
       | inl on ↦ inl record { more = on.more; lines = ap (λ t. t ∷ ys) (sym equal) ∙ ap (λ t. x ∷ t) on.lines; left = on.left }
       | inr on ↦ inr record { more = on.more; lines = ap (λ t. t ∷ xs) equal ∙ ap (λ t. y ∷ t) on.lines; left = on.left }
@@ -146,7 +144,7 @@ failure-by format Good laws bytes d e a b on =
     elim (goes-on_sound format Good laws a.lines b.lines a.rest b.rest b.fit on) [
       | inl same ↦
           let rests : a.rest ≡ b.rest = on.left ∙ ap (λ t. lines_text format.text t ++ b.rest) (more-nil a.lines b.lines on.more on.lines same) in
-          some-same d e (sym a.fault ∙ ap (λ t. format.fault a.lines (option_and_then format.read (first_line t))) rests ∙ ap (λ t. format.fault t (option_and_then format.read (first_line b.rest))) (sym same) ∙ b.fault)
+          some_same (sym a.fault ∙ ap (λ t. format.fault a.lines (option_and_then format.read (first_line t))) rests ∙ ap (λ t. format.fault t (option_and_then format.read (first_line b.rest))) (sym same) ∙ b.fault)
       | inr sound ↦ no-some (format.fault a.lines (option_and_then format.read (first_line a.rest))) d sound a.fault
     ]
 

@@ -15,7 +15,7 @@ pub first_or_none : {A : Type 0} (a : Option A) → first_of_two a None ≡ a
 first_or_none None = refl
 first_or_none (Some x) = refl
 
-found_test : {X : Type 0} (x : X) (o r q : Option X) (b : Bool) → o ≡ first_of_two r q → (if b then Some x else o) ≡ first_of_two (if b then Some x else r) q
+pub found_test : {X : Type 0} (x : X) (o r q : Option X) (b : Bool) → o ≡ first_of_two r q → (if b then Some x else o) ≡ first_of_two (if b then Some x else r) q
 found_test x o r q true h = refl
 found_test x o r q false h = h
 
@@ -26,7 +26,7 @@ find_push p (x ∷ xs) y = found_test x (find p (xs ++ y ∷ [])) (find p xs) (i
 abbrev place_in : ℕ → ℕ → Option ℕ
 place_in place count = if nat_lt place count then Some place else None
 
-behind_all : (place count : ℕ) (b : Bool) → place ≤ count → place_in (if place == count then count + (if b then 0 else 1) else place) (count + 1) ≡ first_of_two (place_in place count) (if b then Some count else None)
+pub behind_all : (place count : ℕ) (b : Bool) → place ≤ count → place_in (if place == count then count + (if b then 0 else 1) else place) (count + 1) ≡ first_of_two (place_in place count) (if b then Some count else None)
 behind_all place count true h = grind (arith, nat_tests)
 behind_all place count false h = grind (arith, nat_tests)
 

@@ -1,1 +1,3 @@
 pub mod FirstOfTwo
+pub mod Declared
+pub mod Spans

@@ -1,17 +1,13 @@
 -- Rows that are rewritten: what a loop adds to them in one turn, and the rows of lists.
 use Rattle.std.proofs.Common.{◌≡◌, List, [], ◌∷◌, ◌++◌, Result, Ok, Err, OnOk, refl, sym, ap, ◌∙◌}
 use Rattle.ada_tree.specs.declared.statements.Stmt.{Stmt}
-use Rattle.ada_tree.specs.PlainStmt.{PStmt, PStmts, no_stmt, stmt_then, PAlt, alternative, PAlts, no_alt, alt_then, PArm, arm, PArms, no_arm, arm_then, PCaseArm, case_arm, PCaseArms, no_case_arm, case_arm_then, PHandler, handler, PHandlers, no_handler, handler_then, stmts_of, alts_of, arms_of, case_arms_of, handlers_of, plain_stmt, seen}
+use Rattle.ada_tree.specs.PlainStmt.{PStmt, no_stmt, stmt_then, PAlt, alternative, PAlts, no_alt, alt_then, PArm, arm, PArms, no_arm, arm_then, PCaseArm, case_arm, PCaseArms, no_case_arm, case_arm_then, PHandler, handler, PHandlers, no_handler, handler_then, stmts_of, alts_of, arms_of, case_arms_of, handlers_of, plain_stmt, seen}
 use Rattle.task_model.specs.Frames.{in_front}
 use Rattle.normal_model.specs.Walk.{Rewriter, after_parts, after_stmts, after_alts, after_alt, after_arms, after_case_arms, after_handlers, alts_leads, rewritten, image_of, inside_alts, inside_arms, inside_case_arms, inside_handlers}
 use Rattle.tree_walk.specs.Rules.{after_arm, inside_arm, after_case_arm, inside_case_arm, after_handler, inside_handler, behind_alt, inside_alt}
-use Rattle.normal_model.proofs.WalkLemmas.{in_front-joined}
+use Rattle.normal_model.proofs.WalkLemmas.{in_front-joined, in_front-nil}
 
 -- ---- rows in front of others
-
-pub in_front-nil : (a : PStmts) → in_front a no_stmt ≡ a
-in_front-nil no_stmt = refl
-in_front-nil (stmt_then x l) = ap (stmt_then x) (in_front-nil l)
 
 -- one more behind a row
 pub row-more : (xs : List PStmt) (x : PStmt) → stmts_of (xs ++ x ∷ []) ≡ in_front (stmts_of xs) (stmt_then x no_stmt)

@@ -8,7 +8,7 @@ returns c =
     let numbers = c.numbers-numbers.ensures ∙ ap (λ g. g.numbers) c.links-2.ensures in
     let program = c.program-q.ensures ∙ ap (λ g. g.program) c.links.ensures in
     finished c.args.lookups.now c.args.ops.now
-    (record { tables = record { ref_ptr = (0, 0); now = c.in_ok-tables.tables }; numbers = c.numbers-numbers.result; task = 0 })
+    (record { tables = record { ref_ptr = (0, 0); now = c.in_ok-tables.tables }; numbers = record { ref_ptr = (0, 0); now = c.in_ok-tasks.tasks }; task = 0 })
     c.program-q.result.now c.args.text.now c.rewrite.new.text c.put_names.new.names c.last_task.result c.rewrite.result
-    c.requires.single c.in_ok-tables.ensures numbers refl program c.requires.copied c.in_ok-put_names.ensures (c.last_task.ensures ∙ ap last_task numbers)
+    c.requires.single c.in_ok-tables.ensures (c.in_ok-tasks.ensures ∙ numbers) refl program c.requires.copied c.in_ok-put_names.ensures (c.last_task.ensures ∙ ap last_task numbers)
     c.rewrite.ensures.names c.rewrite.ensures.text_io c.rewrite.ensures.name c.rewrite.ensures.decls c.rewrite.ensures.body

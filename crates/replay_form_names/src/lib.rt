@@ -1,0 +1,11 @@
+//! That the names and the declarations of the normal form of a legal program are as its replay text asks. The crate has no functions of its
+//! own but the one that carries the law.
+#![tactic(auto)]
+
+ghost use Rattle.replay_form_names.specs.Laws.{LegalHasFormNames};
+
+/// Carries the law that the names of the normal form of each legal program are as its replay text asks, and so are its declarations, as far
+/// as they hang on names (`named`).
+pub fn laws()
+    ensures named { LegalHasFormNames }
+{}

@@ -1,0 +1,12 @@
+pub mod InnerNames
+pub mod Seen
+pub mod KindNames
+pub mod Entries
+pub mod Callees
+pub mod Asked
+pub mod Waits
+pub mod Outer
+pub mod Called
+pub mod Bodies
+pub mod Ops
+pub mod OpForms

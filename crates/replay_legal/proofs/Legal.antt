@@ -1,0 +1,26 @@
+-- The replay text of each legal program and of known events is legal.
+use Rattle.std.proofs.Common.{[]}
+use Rattle.ada_tree.specs.PlainProgram.{PProgram}
+use Rattle.syn_event.specs.Units.{decl_list}
+use Rattle.normal_model.specs.NormalTree.{first_decls, main_variables}
+use Rattle.normal_form_law.specs.Normalisable.{numbers_of, setting_for, made_for}
+use Rattle.replay_model.specs.ReplayTree.{script_of}
+use Rattle.replay_checkable.specs.Prepared.{form_for}
+use Rattle.replay_scopes.specs.Names.{old_name}
+use Rattle.replay_scopes.proofs.Whole.{text-met}
+use Rattle.replay_is_legal.proofs.Legal.{replay_is_legal}
+use Rattle.replay_kept.proofs.Known.{legal_is_kept, known_replay_is_as_promised}
+use Rattle.replay_form_names.proofs.Whole.{legal_has_form_names}
+use Rattle.replay_form_units.specs.Inner.{inner_name}
+use Rattle.replay_legal.specs.Laws.{KnownReplayMeetsAtPlaces, KnownReplayIsLegal, KnownReplayIsAsPromised}
+use Rattle.replay_legal.proofs.Form.{apart, legal_normal_is_form}
+
+pub known_replay_meets_at_places : KnownReplayMeetsAtPlaces
+known_replay_meets_at_places p events legal known =
+    text-met (form_for p) (old_name (made_for p)) (inner_name p) (apart p legal) (legal_has_form_names p legal).added (script_of (numbers_of p) events) (decl_list (first_decls [] p.decls)) (main_variables (setting_for p)) (legal_normal_is_form p events legal known)
+
+pub known_replay_is_legal : KnownReplayIsLegal
+known_replay_is_legal p events legal known = replay_is_legal p events legal record { kept = legal_is_kept p events legal known; places = known_replay_meets_at_places p events legal known }
+
+pub replay_is_as_promised : KnownReplayIsAsPromised
+replay_is_as_promised p events legal known = known_replay_is_as_promised p events legal known (known_replay_meets_at_places p events legal known)
