@@ -1,6 +1,6 @@
 // The values that the choices of a case have had.
 
-ghost use Rattle.std.specs.Prelude.{◌≡◌, ◌↔◌, ◌⊎◌, IsTrue, OnOk, Some, MatchOption, ◌≤ℤ◌, ◌<ℤ◌};
+ghost use Rattle.std.specs.Prelude.{◌≡◌, ◌↔◌, OnOk, Some, MatchOption, ◌≤ℤ◌};
 ghost use Rattle.ada_choices.specs.Covers.{first_of, Covers, Reaches, IsFree};
 
 use std::alloc::{AllocError, Global};

@@ -1,7 +1,6 @@
 //! What begins a statement or a loop, and what stands in front of the statements of loops and alternatives (5.1, 5.5, 9.7.1).
 
 ghost use Rattle.std.specs.Prelude.{◌≡◌, ◌<◌, ◌≤◌, IfOk, option_map, length};
-ghost use Rattle.ada_tree.specs.PlainExpr.{plain_expr};
 ghost use Rattle.ada_tree.specs.PlainStmt.{plain_scheme, plain_alt_kind};
 ghost use Rattle.ada_expr_parser.specs.Gives.{Gives};
 ghost use Rattle.ada_compound_parts.specs.inner.ReadingHeads as front;

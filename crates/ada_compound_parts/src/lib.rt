@@ -7,7 +7,7 @@ mod choices;
 mod compound_ends;
 mod compound_heads;
 mod handlers;
-mod places;
+mod spans;
 mod waits;
 
 pub use accepts::read_end_of;
@@ -15,5 +15,5 @@ pub use choices::read_choices;
 pub use compound_ends::{block_end, case_end, if_end, loop_end};
 pub use compound_heads::{begins_loop, begins_stmt, loop_scheme, read_guard, terminate_kind};
 pub use handlers::add_others;
-pub use places::last_span;
+pub use spans::last_span;
 pub use waits::{end_select, first_of_alt, or_delay, selected, selected_call, wait_end};

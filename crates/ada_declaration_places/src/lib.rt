@@ -2,9 +2,9 @@
 #![tactic(auto)]
 
 mod adding;
+mod declaration_rules;
 mod objects;
-mod places;
 mod tasks;
 
 pub use adding::declare;
-pub use places::{walk_own, walk_places};
+pub use declaration_rules::{walk_own, walk_places};

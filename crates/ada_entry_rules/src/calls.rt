@@ -5,7 +5,7 @@ ghost use Rattle.ada_tree.specs.PlainStmt.{plain_args, plain_call};
 ghost use Rattle.ada_tree.specs.RuleUnknown.{unknown_entry};
 ghost use Rattle.ada_tree.specs.RuleArgCount.{called_entry, fits_single, fits_family, fits_call, wrong_call};
 ghost use Rattle.ada_tree.specs.Sites.{if_there, args_sites, call_sites};
-ghost use Rattle.ada_refusals.specs.Sooner.{found, sooner};
+ghost use Rattle.ada_refusals.specs.Sooner.{found};
 ghost use Rattle.ada_refusals.specs.RefusedFirst.{refused_first};
 ghost use Rattle.ada_scopes.specs.Entries.{plain_family, plain_entry};
 ghost use Rattle.ada_scopes.specs.Denotations.{plain_thing};

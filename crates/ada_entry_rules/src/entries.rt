@@ -7,7 +7,6 @@ ghost use Rattle.ada_tree.specs.PlainDecl as decl;
 ghost use Rattle.ada_tree.specs.Scope.{scalar_kind, marking};
 ghost use Rattle.ada_tree.specs.Declaring.{family_of, entry_family, formal_parts, entry_part};
 ghost use Rattle.ada_tree.specs.Sites.{if_there, drange_sites, entry_sites, entries_sites};
-ghost use Rattle.ada_refusals.specs.RefusedFirst.{refused_first};
 ghost use Rattle.ada_scopes.specs.Entries.{plain_range, plain_family, plain_part, plain_entry};
 ghost use Rattle.ada_entry_rules.specs.EntryDecls.{part_of, IsFamily, IsEntry, AreEntries};
 

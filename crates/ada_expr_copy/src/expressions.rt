@@ -21,7 +21,8 @@ fn index_of(name: Word, arg: Result<Box<Expr>, Memory>, span: Span) -> Result<Ex
     }
 }
 
-fn attribute_of(
+/// An attribute with an argument, which comes in a box of its own.
+pub fn boxed_attribute(
     mark: Word,
     word: Word,
     arg: Result<Box<Expr>, Memory>,
@@ -116,7 +117,7 @@ impl ExprCopy for Expr {
                 mark,
                 word,
                 arg: Some(arg),
-            } => attribute_of(*mark, *word, copy_boxed(alloc, arg), span),
+            } => boxed_attribute(*mark, *word, copy_boxed(alloc, arg), span),
             ExprKind::Paren(inner) => paren_of(copy_boxed(alloc, inner), span),
             ExprKind::Unary { op, part } => unary_of(*op, copy_boxed(alloc, part), span),
             ExprKind::Binary { op, left, right } => {

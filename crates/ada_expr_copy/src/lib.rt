@@ -8,5 +8,5 @@ mod joining;
 
 pub use calls::{copy_callees, copy_choices, copy_formals, copy_parts, copy_scheme};
 pub use copying::ExprCopy;
-pub use expressions::{copy_exprs, copy_option, copy_words};
+pub use expressions::{boxed_attribute, copy_exprs, copy_option, copy_words};
 pub use joining::{all, both, put, there};

@@ -10,7 +10,8 @@ use Rattle.ada_lexer.specs.declared.symbols.Symbol.{Symbol}
 use Rattle.ada_lexer.specs.declared.verdicts.Verdict.{Verdict}
 use Rattle.ada_lexer.specs.declared.verdicts.Verdict.TheVariants.{Gap, Kind, Fault}
 use Rattle.ada_lexer.specs.declared.errors.LexError.TheVariants.{BadByte, OpenString, BadNumber, TooLong}
-use Rattle.ada_lexer.specs.Bytes.{is_letter, is_digit, is_letter_or_digit, is_white, is_printable, begins, every}
+use Rattle.ada_lexer.specs.Bytes.{is_letter, is_digit, is_letter_or_digit, is_white, is_printable}
+use Rattle.common_lemmas.specs.Following.{begins, every}
 use Rattle.ada_lexer.specs.Words.{delimiter_symbol}
 use Rattle.ada_lexer.specs.Numbers.{number_kind, kind_by_point, integer_value, duration_value, is_point}
 use Rattle.ada_lexer.specs.Pieces.{opens_comment, is_piece, word_goes_on}

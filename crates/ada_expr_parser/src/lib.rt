@@ -6,7 +6,7 @@ mod items;
 mod levels;
 mod nodes;
 mod operators;
-mod parts;
+mod ranges_and_calls;
 mod reading;
 
 pub use ada_lexer::Symbol;
@@ -14,7 +14,7 @@ pub use errors::ParseError;
 pub use items::{Item, ItemKind, Items, read_items};
 pub use levels::Level;
 pub use operators::{begins_expr, expect, expect_word, symbol_in};
-pub use parts::{
+pub use ranges_and_calls::{
     read_behind, read_bounds, read_call, read_call_behind, read_choice, read_drange, read_expr,
     read_subind, read_target,
 };

@@ -7,7 +7,6 @@ ghost use Rattle.ada_tree.specs.Attributes.{attribute_of, is_bound};
 ghost use Rattle.ada_tree.specs.Scope.{and_then, marking, scalar_kind};
 ghost use Rattle.ada_tree.specs.ExprTypes.{component_kind, bound_kind};
 ghost use Rattle.ada_tree.specs.RuleRangeBad.{raised};
-ghost use Rattle.ada_refusals.specs.Sooner.{found};
 ghost use Rattle.ada_scopes.specs.Readings.{plain_reading};
 ghost use Rattle.ada_expr_rules.specs.Judged.{IsJudged, raised_where, both};
 

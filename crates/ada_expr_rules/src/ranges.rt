@@ -1,7 +1,7 @@
 // Ranges, subtype indications and discrete ranges.
 
 ghost use Rattle.std.specs.Prelude.{◌≡◌, ◌++◌, Some, None, option_map};
-ghost use Rattle.ada_tree.specs.PlainExpr.{PBounds, plain_expr, plain_bounds, plain_subind, plain_drange};
+ghost use Rattle.ada_tree.specs.PlainExpr.{plain_expr, plain_bounds, plain_subind, plain_drange};
 ghost use Rattle.ada_tree.specs.Scope as scope;
 ghost use Rattle.ada_tree.specs.Demand.{must_not_be_empty, must_lie_in};
 ghost use Rattle.ada_tree.specs.Declaring.{subind_made, marked_range};

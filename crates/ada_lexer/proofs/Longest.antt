@@ -3,7 +3,8 @@ use Rattle.std.proofs.Common.{◌≡◌, ℕ, zero, suc, ◌+◌, ◌<◌, ◌�
 use Rattle.std.proofs.lemmas.List.{length-take-le}
 use Rattle.std.proofs.lemmas.Bool.{and_parts, and_from, or_left, or_right, or_cases, cond-true, cond-false, false≢true, cases_Bool}
 use Rattle.std.specs.Prelude.{◌&&◌, ◌||◌, ◌==◌, is_some, IsTrue}
-use Rattle.ada_lexer.specs.Bytes.{is_letter, is_digit, is_letter_or_digit, is_white, begins, every, run_len}
+use Rattle.ada_lexer.specs.Bytes.{is_letter, is_digit, is_letter_or_digit, is_white, run_len}
+use Rattle.common_lemmas.specs.Following.{begins, every}
 use Rattle.ada_lexer.specs.Words.{symbol_in, simple_delimiters, compound_delimiters, delimiter_symbol}
 use Rattle.ada_lexer.specs.Strings.{string_goes_on, inside_after, is_string_run, string_len}
 use Rattle.ada_lexer.specs.Pieces.{word_goes_on, number_goes_on, comment_goes_on, is_comment, is_empty, is_piece, IsLongest}

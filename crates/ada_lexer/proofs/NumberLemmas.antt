@@ -1,17 +1,12 @@
 -- Integer literals, by a walk over their bytes.
-use Rattle.std.proofs.Common.{◌≡◌, ℕ, ◌+◌, ◌<◌, ◌≤◌, Bool, true, false, cond, List, [], ◌∷◌, length, get_or, drop, refl, ap, ◌∙◌, sym, arith, None, Some, leb, inl, inr}
+use Rattle.std.proofs.Common.{◌≡◌, ℕ, ◌+◌, ◌<◌, ◌≤◌, true, false, cond, List, [], ◌∷◌, length, get_or, drop, refl, ap, ◌∙◌, sym, arith, None, Some, leb, inl, inr}
 use Rattle.std.proofs.lemmas.List.{at_drop_more}
 use Rattle.std.proofs.lemmas.Bool.{and_parts, and_from, and_right, lt-leb, le-leb, cases_Bool}
 use Rattle.std.specs.Prelude.{◌&&◌, ◌||◌, ◌==◌, ◌⊎◌}
-use Rattle.ada_lexer.specs.Bytes.{every, is_digit, begins}
+use Rattle.ada_lexer.specs.Bytes.{is_digit}
+use Rattle.common_lemmas.specs.Following.{begins, every}
+use Rattle.common_lemmas.proofs.Lists.{every-more, every-no}
 use Rattle.ada_lexer.specs.Numbers.{numeral_goes_on, value_behind, decimal_from, is_numeral, integer_value, max_integer}
-
-pub every-more : (go : ℕ → List ℕ → Bool) (xs : List ℕ) (n : ℕ) → n < length xs → go (get_or xs n 0) (drop (n + 1) xs) ≡ true → every go (drop (n + 1) xs) ≡ every go (drop n xs)
-every-more go xs n lt h =
-    sym (at_drop_more (every go) xs n 0 lt ∙ ap (λ b. b && every go (drop (n + 1) xs)) h)
-
-pub every-no : (go : ℕ → List ℕ → Bool) (xs : List ℕ) (n : ℕ) → n < length xs → go (get_or xs n 0) (drop (n + 1) xs) ≡ false → every go (drop n xs) ≡ false
-every-no go xs n lt h = at_drop_more (every go) xs n 0 lt ∙ ap (λ b. b && every go (drop (n + 1) xs)) h
 
 pub decimal_from-more : (v : ℕ) (xs : List ℕ) (n : ℕ) → n < length xs → decimal_from (value_behind v (get_or xs n 0)) (drop (n + 1) xs) ≡ decimal_from v (drop n xs)
 decimal_from-more v xs n lt = sym (at_drop_more (decimal_from v) xs n 0 lt)

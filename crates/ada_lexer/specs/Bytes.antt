@@ -1,5 +1,5 @@
 -- The classes of bytes, and the runs of bytes that go on.
-use Rattle.std.specs.Prelude.{ℕ, Bool, true, false, ◌+◌, ◌&&◌, ◌||◌, List, [], ◌∷◌, nat_le, ◌==◌, if◌then◌else◌}
+use Rattle.std.specs.Prelude.{ℕ, Bool, ◌+◌, ◌&&◌, ◌||◌, List, [], ◌∷◌, nat_le, ◌==◌, if◌then◌else◌}
 
 -- an upper or lower case letter (2.1)
 abbrev pub is_letter : ℕ → Bool
@@ -29,17 +29,7 @@ is_line_end b = b == 10
 abbrev pub lower : ℕ → ℕ
 lower b = if nat_le 65 b && nat_le b 90 then b + 32 else b
 
--- the text begins with a byte of the class
-abbrev pub begins : (ℕ → Bool) → List ℕ → Bool
-begins class [] = false
-begins class (b ∷ rest) = class b
-
--- each byte goes on, given the bytes behind it
-abbrev pub every : (ℕ → List ℕ → Bool) → List ℕ → Bool
-every goes_on [] = true
-every goes_on (b ∷ rest) = goes_on b rest && every goes_on rest
-
--- how many bytes from the front on go on: what the code counts, and by proof the longest front at which `every` is true
+-- how many bytes from the first on go on: what the code counts, and by proof the longest prefix at which `every` is true
 abbrev pub run_len : (ℕ → List ℕ → Bool) → List ℕ → ℕ
 run_len goes_on [] = 0
 run_len goes_on (b ∷ rest) = if goes_on b rest then 1 + run_len goes_on rest else 0

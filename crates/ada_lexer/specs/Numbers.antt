@@ -3,7 +3,8 @@ use Rattle.std.specs.Prelude.{ℕ, Bool, false, ◌+◌, ◌-◌, ◌*◌, ◌&&
 use Rattle.std.specs.Option.{option_map}
 use Rattle.ada_lexer.specs.declared.kinds.TokenKind.{TokenKind}
 use Rattle.ada_lexer.specs.declared.kinds.TokenKind.TheVariants.{Integer, Duration}
-use Rattle.ada_lexer.specs.Bytes.{is_digit, begins, every}
+use Rattle.ada_lexer.specs.Bytes.{is_digit}
+use Rattle.common_lemmas.specs.Following.{begins, every}
 
 -- the largest integer literal (this project's limit)
 abbrev pub max_integer : ℕ

@@ -1,6 +1,7 @@
 -- The pieces that a text can fall into by their form: white space, comments, words, numbers, strings and delimiters.
 use Rattle.std.specs.Prelude.{◌≡◌, ℕ, Bool, true, false, ◌≤◌, ◌&&◌, ◌||◌, not, List, [], ◌∷◌, length, take, is_some, ◌==◌, if◌then◌else◌, IsTrue}
-use Rattle.ada_lexer.specs.Bytes.{is_letter, is_digit, is_letter_or_digit, is_white, is_line_end, begins, every}
+use Rattle.ada_lexer.specs.Bytes.{is_letter, is_digit, is_letter_or_digit, is_white, is_line_end}
+use Rattle.common_lemmas.specs.Following.{begins, every}
 use Rattle.ada_lexer.specs.Words.{delimiter_symbol}
 use Rattle.ada_lexer.specs.Strings.{is_string_run}
 

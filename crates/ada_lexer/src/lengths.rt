@@ -1,8 +1,8 @@
 //! How long the piece at the front of a text is.
 
-ghost use Rattle.std.specs.Prelude.{◌≡◌, ◌<◌, ◌≤◌, ◌+◌, true, length, take, drop, slice_index, ◌∷◌};
-ghost use Rattle.ada_lexer.specs.Bytes.{is_letter, is_digit, is_letter_or_digit, is_white, is_printable, run_len};
-ghost use Rattle.ada_lexer.specs.Strings.{string_goes_on, inside_after, string_len};
+ghost use Rattle.std.specs.Prelude.{◌≡◌, ◌<◌, ◌≤◌, ◌+◌, length, drop, slice_index};
+ghost use Rattle.ada_lexer.specs.Bytes.{is_letter, is_digit, is_letter_or_digit, is_white, run_len};
+ghost use Rattle.ada_lexer.specs.Strings.{string_len};
 ghost use Rattle.ada_lexer.specs.Pieces.{word_goes_on, number_goes_on, comment_goes_on};
 ghost use Rattle.ada_lexer.specs.Lengths.{piece_len, mark_len, IsMeasured};
 

@@ -1,6 +1,6 @@
 //! The numbers.
 
-ghost use Rattle.std.specs.Prelude.{◌≡◌, ◌<◌, ◌≤◌, ◌+◌, ◌-◌, length, drop, take, slice_index, position, IfSome};
+ghost use Rattle.std.specs.Prelude.{◌≡◌, ◌<◌, ◌≤◌, ◌+◌, ◌-◌, length, drop, slice_index, position, IfSome};
 ghost use Rattle.ada_lexer.specs.Numbers.{is_point, value_behind, numeral_goes_on, integer_value, decimals_value, duration_value, number_kind};
 
 use super::bytes::{behind, front, is_digit};

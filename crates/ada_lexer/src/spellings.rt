@@ -1,6 +1,6 @@
 //! The reserved words and the delimiters.
 
-ghost use Rattle.std.specs.Prelude.{◌≡◌, ◌∷◌, [], map, IsTrue};
+ghost use Rattle.std.specs.Prelude.{◌≡◌, ◌∷◌, [], map};
 ghost use Rattle.ada_lexer.specs.Bytes.{lower};
 ghost use Rattle.ada_lexer.specs.Words.{same_text, symbol_in, reserved_symbol, two_letters, three_letters, four_letters, five_letters, six_letters, seven_letters, eight_letters, nine_letters, simple_delimiters, compound_delimiters, delimiter_symbol};
 

@@ -1,6 +1,6 @@
 //! What a piece of a text is.
 
-ghost use Rattle.std.specs.Prelude.{◌≡◌, ◌<◌, ◌≤◌, ◌+◌, ◌^◌, length};
+ghost use Rattle.std.specs.Prelude.{◌≡◌, ◌<◌, ◌+◌, ◌^◌, length};
 ghost use Rattle.ada_lexer.specs.Verdicts.{verdict, word_verdict, number_verdict, string_verdict, mark_verdict};
 
 use super::bytes::{is_digit, is_letter, is_white};

@@ -1,6 +1,6 @@
 // Initial values.
 
-ghost use Rattle.std.specs.Prelude.{◌≡◌, ℕ, pos, ◌+ℤ◌, ◌-ℤ◌, map, flat_map, option_map};
+ghost use Rattle.std.specs.Prelude.{◌≡◌, pos, ◌+ℤ◌, ◌-ℤ◌, map, flat_map, option_map};
 ghost use Rattle.std.specs.Ordering.{int_eq};
 ghost use Rattle.ada_tree.specs.PlainExpr.{plain_expr};
 ghost use Rattle.ada_tree.specs.PlainDecl.{plain_init};

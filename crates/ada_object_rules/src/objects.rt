@@ -1,6 +1,6 @@
 // Declarations of objects.
 
-ghost use Rattle.std.specs.Prelude.{◌≡◌, ℕ, if◌then◌else◌, option_map, IfOk, OnOk, Some};
+ghost use Rattle.std.specs.Prelude.{◌≡◌, ℕ, option_map, IfOk, OnOk, Some};
 ghost use Rattle.ada_tree.specs.PlainDecl.{plain_init, plain_shape};
 ghost use Rattle.ada_tree.specs.Declaring.{declared_object, after_object, object_of, task_object, task_array, constant_mark, kind_at_mark, initial_value, add_constants, with_names, with_types};
 ghost use Rattle.ada_tree.specs.Sites.{if_there, is_task_object, object_sites};

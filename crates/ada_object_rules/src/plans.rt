@@ -7,7 +7,6 @@ ghost use Rattle.ada_tree.specs.Scope as scope;
 ghost use Rattle.ada_tree.specs.Scope.{marking};
 ghost use Rattle.ada_tree.specs.Declaring.{made_subind, marked_range, drange_range};
 ghost use Rattle.ada_tree.specs.Sites.{shape_sites};
-ghost use Rattle.ada_refusals.specs.RefusedFirst.{refused_first};
 ghost use Rattle.ada_scopes.specs.Entries.{plain_range};
 ghost use Rattle.ada_object_rules.specs.inner.Initials.{holder_sites};
 ghost use Rattle.ada_expr_rules.specs.Ranges.{made_as, range_as};

@@ -14,6 +14,7 @@ use Rattle.ada_lexer.specs.declared.verdicts.Verdict.{Verdict}
 use Rattle.ada_lexer.specs.declared.verdicts.Verdict.TheVariants.{Gap, Kind, Fault}
 use Rattle.ada_lexer.specs.declared.errors.LexError.TheVariants as fault
 use Rattle.ada_lexer.specs.Bytes as lex
+use Rattle.common_lemmas.specs.Following.{begins, every}
 use Rattle.ada_lexer.specs.declared.symbols.Symbol.{Symbol}
 use Rattle.ada_lexer.specs.Words.{symbol_in, two_letters, three_letters, four_letters, five_letters, six_letters, seven_letters, eight_letters, nine_letters, reserved_words, reserved_symbol, delimiter_symbol}
 use Rattle.ada_lexer.specs.Numbers.{max_integer, max_thousandths, is_numeral, decimal_from, integer_value, decimals_value, thousandths_of, duration_value, is_point, kind_by_point, number_kind}
@@ -141,13 +142,13 @@ an_underscore b e = grind (arith, nat_tests)
 
 -- what goes on in a word goes on in its upper case, and where a letter or digit stands first, behind an underscore too
 goes_on_upper :
-    (text : List ℕ) → lex.every word_goes_on text ≡ true →
-    (goes_on false (map to_ascii_uppercase text) ≡ true) × (lex.begins lex.is_letter_or_digit text ≡ true → goes_on true (map to_ascii_uppercase text) ≡ true)
+    (text : List ℕ) → every word_goes_on text ≡ true →
+    (goes_on false (map to_ascii_uppercase text) ≡ true) × (begins lex.is_letter_or_digit text ≡ true → goes_on true (map to_ascii_uppercase text) ≡ true)
 goes_on_upper [] h = (refl, λ e. e)
 goes_on_upper (b ∷ text) h =
     let upper : List ℕ = map to_ascii_uppercase text in
     let c : ℕ = to_ascii_uppercase b in
-    let both = and_parts (word_goes_on b text) (lex.every word_goes_on text) h in
+    let both = and_parts (word_goes_on b text) (every word_goes_on text) h in
     let rest = goes_on_upper text both.1 in
     elim (cases_Bool (lex.is_letter_or_digit b)) [
       | inl e ↦
@@ -156,9 +157,9 @@ goes_on_upper (b ∷ text) h =
             λ _. ap (λ (x : Bool). cond x false ((is_upper_letter c || is_digit c) && goes_on false upper)) (no_underscore b e) ∙ here,
           ))
       | inr e ↦
-          (let under : ((b == 95) && lex.begins lex.is_letter_or_digit text) ≡ true
-          = sym (ap (λ (x : Bool). x || ((b == 95) && lex.begins lex.is_letter_or_digit text)) e) ∙ both.0 in
-          let parts = and_parts (b == 95) (lex.begins lex.is_letter_or_digit text) under in (
+          (let under : ((b == 95) && begins lex.is_letter_or_digit text) ≡ true
+          = sym (ap (λ (x : Bool). x || ((b == 95) && begins lex.is_letter_or_digit text)) e) ∙ both.0 in
+          let parts = and_parts (b == 95) (begins lex.is_letter_or_digit text) under in (
             ap (λ (x : Bool). cond x (goes_on true upper) ((is_upper_letter c || is_digit c) && goes_on false upper)) (an_underscore b parts.0) ∙ rest.1 parts.1,
             λ f. absurd (true≢false (sym f ∙ e)),
           ))
@@ -196,7 +197,7 @@ no_reserved text none = by (list_any (bytes_eq (map to_ascii_uppercase text)) re
         ap (λ (o : Option Symbol). is_some o) none
         ))
 
-word_holds : (b : ℕ) (rest : List ℕ) (k : TokenKind) → lex.is_letter b ≡ true → lex.every word_goes_on rest ≡ true → word_verdict 0 (b ∷ rest) ≡ Kind k → Holds (b ∷ rest) k
+word_holds : (b : ℕ) (rest : List ℕ) (k : TokenKind) → lex.is_letter b ≡ true → every word_goes_on rest ≡ true → word_verdict 0 (b ∷ rest) ≡ Kind k → Holds (b ∷ rest) k
 unfolding word_verdict
 word_holds b rest k letter goes e =
     found (cond (nat_le (length (b ∷ rest)) max_name) (Kind kinds.Name) (Fault (fault.TooLong 0))) (option_map kinds.Symbol (reserved_symbol (b ∷ rest))) k (Holds (b ∷ rest) k) e
@@ -234,5 +235,5 @@ unfolding is_piece verdict
 token_holds [] k (piece, is) = absurd (let none : ⊥ = cc in none)
 token_holds (b ∷ rest) k (piece, is) =
     by_class (lex.is_white b) (lex.is_letter b) (lex.is_digit b) (b == 34) (word_verdict 0 (b ∷ rest)) (number_verdict 0 (b ∷ rest)) (string_verdict 0 rest) (mark_verdict 0 (b ∷ rest)) k (Holds (b ∷ rest) k) is
-    (λ white letter e. word_holds b rest k letter (word_goes (lex.is_white b) (lex.is_letter b) _ (lex.every word_goes_on rest) _ white letter piece) e)
+    (λ white letter e. word_holds b rest k letter (word_goes (lex.is_white b) (lex.is_letter b) _ (every word_goes_on rest) _ white letter piece) e)
     (number_holds (b ∷ rest) k) (string_holds b rest k) (mark_holds (b ∷ rest) k)

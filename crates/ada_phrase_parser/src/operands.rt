@@ -15,7 +15,7 @@ use crate::tokens::{is_symbol, word_in};
 use ada_expr_parser::{
     Item, ItemKind, ParseError, Symbol, begins_expr, expect, expect_word, read_expr,
 };
-use ada_tree::{Expr, Formal, Word};
+use ada_tree::{Expr, Formal};
 use std::alloc::Global;
 
 /// An index, formals, both or nothing.

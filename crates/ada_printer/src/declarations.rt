@@ -3,20 +3,19 @@
 
 ghost use Rattle.std.specs.Prelude.{◌≡◌, ◌≤◌, ◌+◌, true, false, codes, length, map, option_map};
 ghost use Rattle.ada_tree.specs.PlainExpr.{plain_expr, plain_subind, plain_drange};
-ghost use Rattle.ada_tree.specs.PlainStmt.{plain_formal, plain_body};
+ghost use Rattle.ada_tree.specs.PlainStmt.{plain_body};
 ghost use Rattle.ada_tree.specs.PlainDecl.{plain_shape, plain_init, plain_priority, plain_entry, plain_task, plain_decl, decls_of};
 ghost use Rattle.ded_io.specs.Written.{◌⧺◌};
 ghost use Rattle.ada_printer.specs.Layout.{indent, word_text, words_text};
-ghost use Rattle.ada_printer.specs.ExprText.{expr_text, exprs_text, subind_text, drange_text, array_text};
-ghost use Rattle.ada_printer.specs.StmtText.{formals_text};
+ghost use Rattle.ada_printer.specs.ExprText.{expr_text, subind_text, array_text};
 ghost use Rattle.ada_printer.specs.DeclText.{constant_text, task_word, task_rest, unit_text, standing as standing_behind, shape_text, init_text, value_text, pragma_text, priorities_text, family_text, entry_text, items_text, task_text, decl_text, decls_text};
 ghost use Rattle.paged_output.specs.Pages.{Drew, over};
 
 use crate::calls::put_formals;
 use crate::expressions::{put_array, put_drange, put_expr, put_exprs, put_subind};
-use crate::lines::{deeper, put_end};
+use crate::names_and_literals::{put_indent, put_word, put_words};
 use crate::nesting::put_body;
-use crate::pieces::{put_indent, put_word, put_words};
+use crate::statement_lines::{deeper, put_end};
 use ada_tree::{
     Body, Decl, DeclKind, Drange, EntryDecl, Expr, Init, Names, Priority, Shape, Subind, TaskUnit,
     Word,

@@ -8,7 +8,7 @@ ghost use Rattle.ada_printer.specs.ExprText.{unary_text, binary_text, expr_text,
 ghost use Rattle.ada_printer.specs.Layout.{separated};
 ghost use Rattle.paged_output.specs.Pages.{Drew, over};
 
-use crate::pieces::{put_name, put_number, put_word};
+use crate::names_and_literals::{put_name, put_number, put_word};
 use ada_tree::{BinaryOp, Bounds, Drange, Expr, ExprKind, Names, Subind, UnaryOp};
 use ded_io::Sink;
 use paged_output::Page;

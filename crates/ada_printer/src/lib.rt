@@ -4,10 +4,10 @@
 mod calls;
 mod declarations;
 mod expressions;
-mod lines;
+mod names_and_literals;
 mod nesting;
-mod pieces;
 mod printing;
+mod statement_lines;
 mod whole;
 
 pub use printing::{expr_len, print, print_expr, text_len};

@@ -1,20 +1,19 @@
 // Statements and what holds them. Lists are gone through by loops, so recursion follows nesting alone.
 #![tactic(auto, using(ada_tree::proofs::Rows::rows))]
 
-ghost use Rattle.std.specs.Prelude.{◌≡◌, codes, map};
+ghost use Rattle.std.specs.Prelude.{◌≡◌, map};
 ghost use Rattle.ada_tree.specs.PlainStmt.{plain_accept, plain_alt, plain_alt_kind, plain_arm, plain_body, plain_stmt, seen, alts_of, arms_of, case_arms_of, handlers_of, plain_case_arm, plain_handler};
-ghost use Rattle.ded_io.specs.Written.{◌⧺◌};
 ghost use Rattle.ada_printer.specs.StmtText.{stmt_text, stmts_text, accept_text, alt_text, alt_kind_text, alts_text, arm_text, arms_text, case_arms_text, handlers_text, body_text};
 ghost use Rattle.paged_output.specs.Pages.{Drew, over};
 
 use crate::calls::{put_call, put_head};
 use crate::expressions::put_expr;
-use crate::lines::{
+use crate::names_and_literals::put_indent;
+use crate::statement_lines::{
     deeper, put_abort, put_assign, put_call_line, put_case_line, put_delay, put_delay_line,
     put_end, put_exit, put_get, put_guard, put_handler_line, put_line, put_loop_end, put_loop_head,
     put_printed, put_raise, put_selector,
 };
-use crate::pieces::put_indent;
 use ada_tree::{Accept, Alt, AltKind, Arm, Body, CaseArm, Handler, Names, Stmt, StmtKind};
 use ded_io::Sink;
 use paged_output::Page;

@@ -1,13 +1,12 @@
 // Whole programs.
 #![tactic(auto, using(crate::proofs::Listed::listed))]
 
-ghost use Rattle.std.specs.Prelude.{codes};
 ghost use Rattle.ada_tree.specs.PlainProgram.{plain_program};
 ghost use Rattle.ada_printer.specs.ProgramText.{context_text, program_text};
 ghost use Rattle.paged_output.specs.Pages.{Drew, over};
 
 use crate::declarations::{put_decls, put_unit};
-use crate::pieces::put_word;
+use crate::names_and_literals::put_word;
 use ada_tree::Program;
 use ded_io::Sink;
 use paged_output::Page;

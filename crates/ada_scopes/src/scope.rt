@@ -223,80 +223,23 @@ impl Scope {
     pub fn with_mark(self, mark: Mark) -> Result<Scope, AllocError>
         ensures { IfOk result (λ scope. scope ≡ with_types (add_mark self.types mark) self) }
     {
-        let Scope {
-            table,
-            names,
-            hints,
-            base,
-            in_main,
-            own,
-            bodies,
-            has_instance,
-        } = self;
-        let table = table.with_mark(mark)?;
-        Ok(Scope {
-            table,
-            names,
-            hints,
-            base,
-            in_main,
-            own,
-            bodies,
-            has_instance,
-        })
+        let table = self.table.with_mark(mark)?;
+        Ok(Scope { table, ..self })
     }
 
     /// The scope with a kind more in its table.
     pub fn with_kind(self, kind: Kind) -> Result<Scope, AllocError>
         ensures { IfOk result (λ scope. scope ≡ with_types (add_kind self.types kind) self) }
     {
-        let Scope {
-            table,
-            names,
-            hints,
-            base,
-            in_main,
-            own,
-            bodies,
-            has_instance,
-        } = self;
-        let table = table.with_kind(kind)?;
-        Ok(Scope {
-            table,
-            names,
-            hints,
-            base,
-            in_main,
-            own,
-            bodies,
-            has_instance,
-        })
+        let table = self.table.with_kind(kind)?;
+        Ok(Scope { table, ..self })
     }
 
     /// The scope with a named number or constant more in its table.
     pub fn with_constant(self, constant: Constant) -> Result<Scope, AllocError>
         ensures { IfOk result (λ scope. scope ≡ with_types (add_constant self.types constant) self) }
     {
-        let Scope {
-            table,
-            names,
-            hints,
-            base,
-            in_main,
-            own,
-            bodies,
-            has_instance,
-        } = self;
-        let table = table.with_constant(constant)?;
-        Ok(Scope {
-            table,
-            names,
-            hints,
-            base,
-            in_main,
-            own,
-            bodies,
-            has_instance,
-        })
+        let table = self.table.with_constant(constant)?;
+        Ok(Scope { table, ..self })
     }
 }

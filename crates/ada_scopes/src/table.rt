@@ -1,6 +1,6 @@
 // The table of types, marks and constants as it grows, in which a name is looked up in one step.
 
-ghost use Rattle.std.specs.Prelude.{◌≡◌, ◌==◌, [], ℕ, nat_eq, length, position, option_map, slice_get, Some, None, if◌then◌else◌, IfOk, OnOk};
+ghost use Rattle.std.specs.Prelude.{◌≡◌, ◌==◌, [], ℕ, nat_eq, length, position, option_map, Some, None, if◌then◌else◌, IfOk, OnOk};
 ghost use Rattle.std.specs.HashMap.{get};
 ghost use Rattle.ada_tree.specs.declared.naming.NameId.{NameId};
 ghost use Rattle.ada_tree.specs.StaticValue.{mark_named, value_named, position_in, first_of_two};

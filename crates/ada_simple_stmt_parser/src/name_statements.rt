@@ -1,9 +1,9 @@
 //! Simple statements that begin with a name: assignments, entry calls, PUT, PUT_LINE, NEW_LINE and GET.
 
-ghost use Rattle.std.specs.Prelude.{◌≡◌, ◌<◌, ◌≤◌, ◌-◌, ◌+◌, ◌∷◌, [], codes, Some, None, IfOk, IfErr, map, option_map, length};
+ghost use Rattle.std.specs.Prelude.{◌≡◌, ◌<◌, ◌≤◌, ◌-◌, ◌+◌, ◌∷◌, [], Some, None, IfOk, IfErr, map, option_map, length};
 ghost use Rattle.lawful_reader.specs.Readers.{on, bind, pure, token, fronted};
 ghost use Rattle.ada_tree.specs.PlainExpr.{plain_expr};
-ghost use Rattle.ada_tree.specs.PlainStmt.{plain_stmt, plain_part, plain_target, plain_callee, PValue, SAssign, SCall, SNewLine};
+ghost use Rattle.ada_tree.specs.PlainStmt.{plain_stmt, plain_part, plain_target, PValue, SAssign, SCall, SNewLine};
 ghost use Rattle.ada_lexer.specs.declared.symbols.Symbol.TheVariants as key;
 ghost use Rattle.ada_expr_parser.specs.Tests as tests;
 ghost use Rattle.ada_expr_parser.specs.Trees.{from_to, levels, indexed};
@@ -22,7 +22,7 @@ use ada_expr_parser::{
 use ada_phrase_parser::{
     Source, add, from_to, goes_on_name, is_operator, is_symbol, read_operand, said, word_in,
 };
-use ada_tree::{Callee, Expr, ExprKind, NameId, Part, Span, Stmt, StmtKind, Target, Word};
+use ada_tree::{Callee, Expr, ExprKind, Part, Span, Stmt, StmtKind, Target, Word};
 use std::alloc::Global;
 
 // The ids of the predefined names that begin a statement of their own.

@@ -1,6 +1,6 @@
 //! Static expressions of Ada, and their values.
 #![tactic(auto)]
 
-pub mod names;
+pub mod named_values;
 pub mod operations;
 pub mod static_values;

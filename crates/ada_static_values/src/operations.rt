@@ -1,7 +1,7 @@
 // The operations on the values of static expressions (4.5). Values of BOOLEAN and of enumerations are positions, so that FALSE is 0 and TRUE is 1.
 
-ghost use Rattle.std.specs.Prelude.{◌≡◌, ◌+ℤ◌, ◌-ℤ◌, ◌*ℤ◌, neg_ℤ, pos, int_div, int_rem, int_lt, ◌≢◌, Ok, if◌then◌else◌};
-ghost use Rattle.ada_tree.specs.StaticValue.{fitted, truth, is_true, moved, modulus, unless_zero, applied, signed};
+ghost use Rattle.std.specs.Prelude.{◌≡◌, ◌+ℤ◌, ◌-ℤ◌, ◌*ℤ◌, neg_ℤ, pos, int_div, int_rem, ◌≢◌, Ok};
+ghost use Rattle.ada_tree.specs.StaticValue.{fitted, truth, moved, modulus, unless_zero, applied, signed};
 ghost use Rattle.ada_static_values.specs.ModulusLaw.{ModulusLaw};
 
 use ada_tree::{BinaryOp, Span, UnaryOp};

@@ -8,7 +8,7 @@ ghost use Rattle.ada_tree.specs.Attributes.{attribute_of, is_bound};
 ghost use Rattle.ada_tree.specs.StaticValue.{is_static, value_of, keeps_static, is_of_kind, of_base, attribute_at, bound_of};
 ghost use Rattle.ada_static_values.specs.StaticAnswer.{static_answer};
 
-use crate::names::{mark_of, value_of_name};
+use crate::named_values::{mark_of, value_of_name};
 use crate::operations::{apply, apply_one};
 use ada_refusals::errors::TypeError;
 use ada_tree::{BinaryOp, Expr, ExprKind, Kind, Mark, NameId, Span, Types};

@@ -6,7 +6,7 @@ ghost use Rattle.syn_event.specs.Extents.{fixed, bounds_extent, mark_extent, mar
 ghost use Rattle.ada_rules.specs.Amounts.{capped};
 ghost use Rattle.ada_task_objects.specs.PlainNames.{plain_extent};
 
-use ada_static_values::names::mark_of;
+use ada_static_values::named_values::mark_of;
 use ada_static_values::static_values::static_value;
 use ada_tree::{Bounds, Drange, Expr, Kind, NameId, Span, Types};
 

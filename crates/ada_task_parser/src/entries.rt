@@ -1,6 +1,6 @@
 //! Entries and families of entries (9.5).
 
-ghost use Rattle.std.specs.Prelude.{◌<◌, ◌≤◌, IfOk, length};
+ghost use Rattle.std.specs.Prelude.{◌≡◌, ◌<◌, ◌≤◌, [], None, IfOk, length};
 ghost use Rattle.lawful_reader.specs.Readers.{bind, token};
 ghost use Rattle.ada_tree.specs.PlainExpr.{plain_drange};
 ghost use Rattle.ada_tree.specs.PlainDecl.{plain_entry};
@@ -20,6 +20,17 @@ use std::alloc::Global;
 struct FamilyBehind {
     family: Option<Drange>,
     formals: Vec<Formal>,
+}
+
+// No family and no formals.
+fn nothing_behind(alloc: Global) -> FamilyBehind
+    ensures family { result.family ≡ None }
+    ensures formals { result.formals.items ≡ [] }
+{
+    FamilyBehind {
+        family: None,
+        formals: Vec::new(alloc),
+    }
 }
 
 // A range has been read: its parenthesis closes, and formals may follow.
@@ -85,14 +96,7 @@ fn family_behind<'a>(
         return Err(ParseError::Syntax { at: 0 });
     };
     if !is_symbol(Symbol::LeftParen, *next) {
-        let formals = Vec::new(alloc);
-        return Ok((
-            FamilyBehind {
-                family: None,
-                formals,
-            },
-            items,
-        ));
+        return Ok((nothing_behind(alloc), items));
     }
     let [first, ..] = rest else {
         return Err(ParseError::Syntax { at: 0 });

@@ -1,6 +1,6 @@
 // Names, and where they stand in the source.
 
-ghost use Rattle.std.specs.Prelude.{◌≡◌, ◌≤◌, ◌↔◌, Some, None, IsNone, IfOk, OnOk, OnErr, option_map, length, slice_get, map, fold, string_bytes, []};
+ghost use Rattle.std.specs.Prelude.{◌≡◌, ◌≤◌, ◌↔◌, Some, IsNone, IfOk, OnOk, OnErr, option_map, length, slice_get, map, fold, string_bytes, []};
 ghost use Rattle.ada_tree.specs.NameList.{predefined, interned, AreNames};
 
 use crate::Memory;

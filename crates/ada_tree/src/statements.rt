@@ -1,6 +1,6 @@
 // Statements.
 
-use crate::{Bounds, Drange, Expr, Span, Word};
+use crate::{Drange, Expr, Span, Word};
 
 /// The statements and the exception handlers of a unit or a block.
 #[cycle(stmt)]

@@ -8,7 +8,7 @@ use crate::building::{
     array_of, enumeration_of, exception_of, number_of, object_of, pragma_of, subtype_of,
     task_body_of, task_of,
 };
-use crate::parts::copy_init;
+use crate::declaration_parts::copy_init;
 use ada_expr_copy::{ExprCopy, copy_words, put};
 use ada_stmt_copy::StmtCopy;
 use ada_tree::{Decl, DeclKind, Memory};

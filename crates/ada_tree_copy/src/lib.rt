@@ -3,8 +3,8 @@
 
 pub mod building;
 mod copying;
+mod declaration_parts;
 mod declarations;
-mod parts;
 mod whole;
 
 pub use ada_expr_copy::ExprCopy;

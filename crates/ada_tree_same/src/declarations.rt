@@ -4,7 +4,7 @@ ghost use Rattle.std.specs.Prelude.{◌≡◌, ◌↔◌, IsTrue, map};
 ghost use Rattle.ada_tree.specs.PlainDecl.{plain_decl, decls_of};
 ghost use Rattle.ada_tree.specs.Same.{SameDecl, SameDecls};
 
-use crate::parts::{same_inits, same_shape, same_task};
+use crate::declaration_parts::{same_inits, same_shape, same_task};
 use ada_expr_same::{same_drange, same_expr, same_subind, same_word, same_words};
 use ada_stmt_same::same_body;
 use ada_tree::{Decl, DeclKind, Names};

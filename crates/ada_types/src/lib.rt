@@ -4,15 +4,15 @@
 mod declarations;
 mod enumerations;
 mod named_types;
-mod parts;
 mod statements;
 mod task_bodies;
 mod tasks;
 mod types;
 mod walked_decls;
+mod written_parts;
 
 pub use ada_refusals::errors::TypeError;
-pub use ada_static_values::names::mark_of;
+pub use ada_static_values::named_values::mark_of;
 pub use ada_static_values::operations::law_of_mod;
 pub use ada_static_values::static_values::{is_static, static_value};
 pub use types::types_of;

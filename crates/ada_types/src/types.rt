@@ -1,14 +1,9 @@
 // The types of a program, and whether it meets the static rules.
 
-ghost use Rattle.std.specs.Prelude.{◌≡◌, ◌∷◌, [], map, IfOk, IfErr};
-ghost use Rattle.ada_tree.specs.PlainStmt.{plain_body};
-ghost use Rattle.ada_tree.specs.PlainDecl.{plain_decl, decls_of};
+ghost use Rattle.std.specs.Prelude.{◌≡◌, IfOk, IfErr};
 ghost use Rattle.ada_tree.specs.PlainProgram.{plain_program};
-ghost use Rattle.ada_tree.specs.Declaring.{first_scope, inside};
+ghost use Rattle.ada_tree.specs.Declaring.{first_scope};
 ghost use Rattle.ada_tree.specs.Refusals.{MeetsTypeRules, types_in};
-ghost use Rattle.ada_tree.specs.Sites.{body_sites, sites};
-ghost use Rattle.ada_refusals.specs.RefusedFirst.{refused_first};
-ghost use Rattle.ada_refusals.specs.Repeated.{repeated_from};
 ghost use Rattle.ada_refusals.specs.Telling.{TellsFirst};
 ghost use Rattle.ada_types.specs.inner.Decls.{IsProgram};
 

@@ -1,6 +1,6 @@
 // The operators, at the values of their operands (4.5).
 
-ghost use Rattle.std.specs.Prelude.{◌≡◌, ◌+ℤ◌, ◌-ℤ◌, ◌*ℤ◌, neg_ℤ, pos, int_div, int_rem, int_lt, ◌≢◌, if◌then◌else◌};
+ghost use Rattle.std.specs.Prelude.{◌≡◌, ◌+ℤ◌, ◌-ℤ◌, ◌*ℤ◌, neg_ℤ, pos, int_div, int_rem, ◌≢◌, if◌then◌else◌};
 ghost use Rattle.ada_tree.specs.StaticValue.{moved, modulus};
 ghost use Rattle.ada_value.specs.Values.{and_then, fitted};
 ghost use Rattle.ada_value.specs.Evaluating.{unless_zero, combined, signed_value};

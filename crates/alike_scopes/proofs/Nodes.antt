@@ -11,8 +11,12 @@ use Rattle.ada_tree.specs.StaticValue.{value_of}
 use Rattle.ada_tree.specs.ExprTypes.{place_of, takes, takes_one, argument_kind, is_other_kind}
 use Rattle.ada_tree.specs.Demand.{scalar_only, node, whole}
 use Rattle.ada_tree.specs.Sites.{site}
-use Rattle.ada_tree.specs.RuleUnknown.{no_attribute}
-use Rattle.ada_tree.specs.RuleMismatch.{of_other_kind, no_value, misfit_index, wrong_mark, misfit_argument, is_misfit, misfit_operand}
+use Rattle.ada_tree.specs.RuleUnknown.{unknown, no_attribute}
+use Rattle.ada_tree.specs.RuleMismatch.{mismatch, of_other_kind, no_value, misfit_index, wrong_mark, misfit_argument, is_misfit, misfit_operand}
+use Rattle.ada_tree.specs.RuleReadOut.{read_out}
+use Rattle.ada_tree.specs.RuleArgCount.{arg_count}
+use Rattle.ada_tree.specs.RuleArrayUse.{array_use}
+use Rattle.ada_tree.specs.RuleTextUse.{text_use}
 use Rattle.ada_tree.specs.RuleRangeBad.{is_fixed, raised, raises}
 use Rattle.alike_scopes.specs.Alike.{SameNames}
 use Rattle.alike_scopes.specs.Old.{IsOldExpr}
@@ -53,22 +57,32 @@ module _ (old : ℕ → Bool) (s t : Scope) (n : SameNames old s t) where
 
   -- ---- parts of expressions
 
+  -- of a part six rules ask something of the scope
+  noded : (b : Bool) (e : PExpr) → unknown t (node b e) ≡ [] → mismatch t (node b e) ≡ [] → read_out t (node b e) ≡ [] → arg_count t (node b e) ≡ [] → array_use t (node b e) ≡ [] → text_use t (node b e) ≡ [] →
+      IsMetBut (site t (node b e))
+  noded b e known matched readable counted arrays texts = record {
+    known = known;
+    matched = matched;
+    static = refl;
+    ranged = refl;
+    variable = refl;
+    readable = readable;
+    counted = counted;
+    chosen = refl;
+    arrays = arrays;
+    texts = texts;
+    exceptions = refl;
+  }
+
   name-met : (b : Bool) (id : NameId) (sp : Span) → old id.0 ≡ true → IsMetBut (site s (node b (EName id sp))) → IsMetBut (site t (node b (EName id sp)))
   name-met b id sp o h =
       ⊎_elim
-      (λ (f : SameFace s.types t.types (meaning s id) (meaning t id)). record {
-        known = ap (λ x. if x then [] else sp ∷ []) (sym f.seen) ∙ h.known;
-        matched = empty-too (f.value sp) h.matched;
-        static = refl;
-        ranged = refl;
-        variable = refl;
-        readable = empty-too (f.out sp) h.readable;
-        counted = refl;
-        chosen = refl;
-        arrays = empty-too (whole-same s.types t.types (reading s id) (reading t id) sp (read-same old s t n id o)) h.arrays;
-        texts = h.texts;
-        exceptions = refl;
-      })
+      (λ (f : SameFace s.types t.types (meaning s id) (meaning t id)). noded b (EName id sp)
+      (ap (λ x. if x then [] else sp ∷ []) (sym f.seen) ∙ h.known)
+      (empty-too (f.value sp) h.matched) (empty-too (f.out sp) h.readable)
+      refl
+      (empty-too (whole-same s.types t.types (reading s id) (reading t id) sp (read-same old s t n id o)) h.arrays)
+      h.texts)
       (λ (x : AreNoValues (meaning s id) (meaning t id)). no-value-there s.types (meaning s id) sp sp x.left h.known h.matched)
       (face id o)
 
@@ -76,19 +90,12 @@ module _ (old : ℕ → Bool) (s t : Scope) (n : SameNames old s t) where
   index-met b w e sp o p h =
       let r = read-same old s t n w.name o in
       ⊎_elim
-      (λ (f : SameFace s.types t.types (meaning s w.name) (meaning t w.name)). record {
-        known = ap (λ x. if x then [] else w.span ∷ []) (sym f.seen) ∙ h.known;
-        matched = empty-too (ap₂ (λ x y. x ++ y) (f.value w.span) (misfit-same (reading s w.name) (reading t w.name) e p r)) h.matched;
-        static = refl;
-        ranged = refl;
-        variable = refl;
-        readable = refl;
-        counted = empty-too (index-same s.types t.types (reading s w.name) (reading t w.name) w.span r) h.counted;
-        chosen = refl;
-        arrays = refl;
-        texts = h.texts;
-        exceptions = refl;
-      })
+      (λ (f : SameFace s.types t.types (meaning s w.name) (meaning t w.name)). noded b (EIndex w e sp)
+      (ap (λ x. if x then [] else w.span ∷ []) (sym f.seen) ∙ h.known)
+      (empty-too (ap₂ (λ x y. x ++ y) (f.value w.span) (misfit-same (reading s w.name) (reading t w.name) e p r)) h.matched)
+      refl
+      (empty-too (index-same s.types t.types (reading s w.name) (reading t w.name) w.span r) h.counted)
+      refl h.texts)
       (λ (x : AreNoValues (meaning s w.name) (meaning t w.name)).
       no-value-there s.types (meaning s w.name) w.span w.span x.left h.known (front_empty (no_value (reading s w.name) w.span) (misfit_index s (reading s w.name) e) h.matched))
       (face w.name o)
@@ -96,19 +103,10 @@ module _ (old : ℕ → Bool) (s t : Scope) (n : SameNames old s t) where
   attribute-met : (b : Bool) (m w : Word) (sp : Span) → old m.name.0 ≡ true → IsMetBut (site s (node b (EAttribute m w sp))) → IsMetBut (site t (node b (EAttribute m w sp)))
   attribute-met b m w sp o h =
       ⊎_elim
-      (λ (f : SameFace s.types t.types (meaning s m.name) (meaning t m.name)). record {
-        known = empty-too (ap (λ x. (if x then [] else m.span ∷ []) ++ no_attribute (attribute_of w.name) w.span) f.seen) h.known;
-        matched = empty-too (ap (λ x. marked_wrong x m.span) (f.allowed scalar_only)) h.matched;
-        static = refl;
-        ranged = refl;
-        variable = refl;
-        readable = refl;
-        counted = h.counted;
-        chosen = refl;
-        arrays = refl;
-        texts = h.texts;
-        exceptions = refl;
-      })
+      (λ (f : SameFace s.types t.types (meaning s m.name) (meaning t m.name)). noded b (EAttribute m w sp)
+      (empty-too (ap (λ x. (if x then [] else m.span ∷ []) ++ no_attribute (attribute_of w.name) w.span) f.seen) h.known)
+      (empty-too (ap (λ x. marked_wrong x m.span) (f.allowed scalar_only)) h.matched)
+      refl h.counted refl h.texts)
       (λ (x : AreNoValues (meaning s m.name) (meaning t m.name)).
       no-type-there s.types (meaning s m.name) m.span m.span scalar_only x.left refl (front_empty (unless_seen (meaning s m.name) m.span) (no_attribute (attribute_of w.name) w.span) h.known) h.matched)
       (face m.name o)
@@ -119,19 +117,10 @@ module _ (old : ℕ → Bool) (s t : Scope) (n : SameNames old s t) where
       let argument =
       ap (λ k. misfit_argument s (attribute_of w.name) k e) (mark-kind-same old s t n m.name o) ∙ argument-same (attribute_of w.name) (scalar_kind (marking t m.name)) e p in
       ⊎_elim
-      (λ (f : SameFace s.types t.types (meaning s m.name) (meaning t m.name)). record {
-        known = empty-too (ap (λ x. (if x then [] else m.span ∷ []) ++ no_attribute (attribute_of w.name) w.span) f.seen) h.known;
-        matched = empty-too (ap₂ (λ x y. marked_wrong x m.span ++ y) (f.allowed scalar_only) argument) h.matched;
-        static = refl;
-        ranged = refl;
-        variable = refl;
-        readable = refl;
-        counted = h.counted;
-        chosen = refl;
-        arrays = refl;
-        texts = h.texts;
-        exceptions = refl;
-      })
+      (λ (f : SameFace s.types t.types (meaning s m.name) (meaning t m.name)). noded b (EAttributeOf m w e sp)
+      (empty-too (ap (λ x. (if x then [] else m.span ∷ []) ++ no_attribute (attribute_of w.name) w.span) f.seen) h.known)
+      (empty-too (ap₂ (λ x y. marked_wrong x m.span ++ y) (f.allowed scalar_only) argument) h.matched)
+      refl h.counted refl h.texts)
       (λ (x : AreNoValues (meaning s m.name) (meaning t m.name)).
       no-type-there s.types (meaning s m.name) m.span m.span scalar_only x.left refl
       (front_empty (unless_seen (meaning s m.name) m.span) (no_attribute (attribute_of w.name) w.span) h.known)
@@ -143,34 +132,16 @@ module _ (old : ℕ → Bool) (s t : Scope) (n : SameNames old s t) where
   node-met b (EIndex w e sp) o h = index-met b w e sp o.0 o.1 h
   node-met b (EAttribute m w sp) o h = attribute-met b m w sp o h
   node-met b (EAttributeOf m w e sp) o h = function-met b m w e sp o.0 o.1 h
-  node-met b (EInteger z sp) o h = record { known = refl; matched = refl; static = refl; ranged = refl; variable = refl; readable = refl; counted = refl; chosen = refl; arrays = refl; texts = h.texts; exceptions = refl }
-  node-met b (EParen e sp) o h = record { known = refl; matched = refl; static = refl; ranged = refl; variable = refl; readable = refl; counted = refl; chosen = refl; arrays = refl; texts = h.texts; exceptions = refl }
-  node-met b (EUnary op e sp) o h = record {
-    known = refl;
-    matched = empty-too (ap (λ k. if is_misfit (takes_one op) k then place_of e ∷ [] else []) (kind-same old s t n e o)) h.matched;
-    static = refl;
-    ranged = refl;
-    variable = refl;
-    readable = refl;
-    counted = refl;
-    chosen = refl;
-    arrays = refl;
-    texts = h.texts;
-    exceptions = refl;
-  }
-  node-met b (EBinary op l r sp) o h = record {
-    known = refl;
-    matched = empty-too (ap₂ (λ j k. misfit_operand (takes op) j k l r) (kind-same old s t n l o.0) (kind-same old s t n r o.1)) h.matched;
-    static = refl;
-    ranged = refl;
-    variable = refl;
-    readable = refl;
-    counted = refl;
-    chosen = refl;
-    arrays = refl;
-    texts = h.texts;
-    exceptions = refl;
-  }
+  node-met b (EInteger z sp) o h = noded b (EInteger z sp) refl refl refl refl refl h.texts
+  node-met b (EParen e sp) o h = noded b (EParen e sp) refl refl refl refl refl h.texts
+  node-met b (EUnary op e sp) o h = noded b (EUnary op e sp)
+      refl
+      (empty-too (ap (λ k. if is_misfit (takes_one op) k then place_of e ∷ [] else []) (kind-same old s t n e o)) h.matched)
+      refl refl refl h.texts
+  node-met b (EBinary op l r sp) o h = noded b (EBinary op l r sp)
+      refl
+      (empty-too (ap₂ (λ j k. misfit_operand (takes op) j k l r) (kind-same old s t n l o.0) (kind-same old s t n r o.1)) h.matched)
+      refl refl refl h.texts
 
   -- ---- whole expressions
 

@@ -1,6 +1,6 @@
 //! Normal forms: the whole text, or the body of one unit in a line.
 
-use crate::keeping::kept;
+use crate::normal_forms_kept::kept;
 use ada_check::{CheckError, Checked, check};
 use ada_printer::{print, text_len};
 use ada_tree::{Memory, Program};

@@ -4,9 +4,11 @@ use Rattle.std.specs.List.{AllByRecursion, filter, position_from}
 use Rattle.std.specs.Slice.{IsItemAt}
 use Rattle.std.proofs.lemmas.Option.{none-some, slice_get_within, slice_get_past, slice_get_read, get_or_from_slice_get}
 use Rattle.std.proofs.lemmas.Bool.{eqb-true}
-use Rattle.std.proofs.lemmas.List.{drop_more}
+use Rattle.std.proofs.lemmas.List.{drop_more, at_drop_more}
 use Rattle.common_lemmas.proofs.Options.{some_same}
+use Rattle.common_lemmas.specs.Following.{every}
 use Rattle.std.proofs.lemmas.Iterator.Adapters.{position_from-zero}
+use Rattle.std.specs.Prelude.{◌&&◌}
 use Rattle.std.specs.Str.{bytes_eq}
 use Rattle.std.proofs.lemmas.Slice.Eq.{bytes_eq-Decides}
 
@@ -197,3 +199,11 @@ found_at p xs y e = let h = found_at_from p 0 xs y e in let z : 0 + h.0 ≡ h.0 
 
 pub texts_differ : (a b : List ℕ) → bytes_eq a b ≡ false → a ≡ b → ⊥
 texts_differ a b h e = true≢false (sym ((bytes_eq-Decides a b).1 e) ∙ h)
+
+-- a byte is tested with those after it
+pub every-more : (go : ℕ → List ℕ → Bool) (xs : List ℕ) (n : ℕ) → n < length xs → go (get_or xs n 0) (drop (n + 1) xs) ≡ true → every go (drop (n + 1) xs) ≡ every go (drop n xs)
+every-more go xs n lt h =
+    sym (at_drop_more (every go) xs n 0 lt ∙ ap (λ b. b && every go (drop (n + 1) xs)) h)
+
+pub every-no : (go : ℕ → List ℕ → Bool) (xs : List ℕ) (n : ℕ) → n < length xs → go (get_or xs n 0) (drop (n + 1) xs) ≡ false → every go (drop n xs) ≡ false
+every-no go xs n lt h = at_drop_more (every go) xs n 0 lt ∙ ap (λ b. b && every go (drop (n + 1) xs)) h

@@ -1,2 +1,2 @@
-//! Short lemmas on truth values, numbers, options, results and lists, for every crate. The crate has lemmas alone.
+//! Short lemmas on truth values, numbers, options, results and lists, for every crate. The crate has no code.
 #![tactic(auto)]

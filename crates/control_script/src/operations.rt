@@ -1,6 +1,6 @@
 // The operations of the events, one after the other.
 
-ghost use Rattle.std.specs.Prelude.{◌≡◌, ◌++◌, [], ◌∷◌, map, length, IfOk, OnOk, true, if◌then◌else◌};
+ghost use Rattle.std.specs.Prelude.{◌≡◌, ◌++◌, [], ◌∷◌, map, length, IfOk, OnOk, if◌then◌else◌};
 ghost use Rattle.control_script.specs.declared.Op.TheVariants.{Go, Hold};
 ghost use Rattle.control_script.specs.Script.{open_tasks, to_close, after_abort, operations, script as script_of};
 ghost use Rattle.event_machine.specs.Worlds.{is_last};

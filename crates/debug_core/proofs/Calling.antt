@@ -2,7 +2,7 @@
 use Rattle.std.proofs.Common.{◌≡◌, ℕ, List, [], ◌∷◌, ◌++◌, Option, Some, None, is_some, option_map, Result, Err, inl, inr, refl, sym, subst, true≢false}
 use Rattle.std.specs.Prelude.{option_to_list}
 use Rattle.ded_io.specs.Told.{ToldFile}
-use Rattle.debug_words.specs.Words.{Asked, AsksRun, AsksJudge, Source, NoChoices, ChoicesIn, ChoicesBy}
+use Rattle.debug_words.specs.Words.{Asked, AsksRun, AsksJudge, ChoiceSource, NoChoices, ChoicesIn, ChoicesBy}
 use Rattle.debug_words.specs.declared.command.NoWords.{NoWords}
 use Rattle.debug_words.specs.declared.command.NoWords.TheVariants.{NotText, Memory}
 use Rattle.debug_outcome.specs.Coming.{Never, Stops, Comes}
@@ -67,7 +67,7 @@ both_there f g (Some x) None h = absurd (true≢false h)
 both_there f g None (Some y) h = absurd (true≢false (sym h))
 
 module _ (name text : List ℕ) (turns : ℕ) (o : Outcome) where
-  run_means : (inputs bytes : Option (List ℕ)) (source : Source) (given : Given) → is_some bytes ≡ is_some inputs → IsGivenBy source given → RunMeans text bytes given turns o →
+  run_means : (inputs bytes : Option (List ℕ)) (source : ChoiceSource) (given : Given) → is_some bytes ≡ is_some inputs → IsGivenBy source given → RunMeans text bytes given turns o →
       Means (AsksRun name inputs source turns) ((text ∷ option_to_list bytes) ++ given_bytes given) o
   run_means None None NoChoices given there by means =
       subst (λ (x : Given). Means (AsksRun name None NoChoices turns) ((text ∷ []) ++ given_bytes x) o) (sym by) (subst (λ (x : Given). RunMeans text None x turns o) by means)
@@ -92,7 +92,7 @@ judge_means name sequence text lines bound o None (Some bytes) there means = abs
 judge_means name sequence text lines bound o (Some list) None there means = absurd (true≢false (sym there))
 
 module _ {F : Type 0} (leads : F → Load → F → Type 0) (old new : F) (told : Option (List ToldFile)) (file_faults file_faults' : ℕ) (name text : List ℕ) (inputs bytes : Option (List ℕ)) (there : is_some bytes ≡ is_some inputs) (out out' : Option (List ℕ)) (faults faults' : ℕ) (r : Result ℕ Stop) where
-  pub run_loaded : (source : Source) (given : Given) (turns : ℕ) → IsGivenBy source given →
+  pub run_loaded : (source : ChoiceSource) (given : Given) (turns : ℕ) → IsGivenBy source given →
       HasLoads leads old new (WereLoaded told (wanted_by (AsksRun name inputs source turns)) ((text ∷ option_to_list bytes) ++ given_bytes given)) →
       Comes (RunMeans text bytes given turns) (RunMeans text bytes given turns) out out' faults faults' r →
       HasLoads leads old new (λ loads. Comes (CallsFor (AsksRun name inputs source turns) told file_faults file_faults' loads) (GrowsFor (AsksRun name inputs source turns) told file_faults file_faults' loads) out out' faults faults' r)

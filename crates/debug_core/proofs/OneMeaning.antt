@@ -14,7 +14,7 @@ use Rattle.debug_replay.specs.ReplayOutcomes.{ReplaysLines}
 use Rattle.debug_replay.proofs.OneReplay.{one_replay}
 use Rattle.debug_core.specs.Answers.{Means}
 use Rattle.debug_core.specs.CheckMeaning.{CheckMeans}
-use Rattle.debug_core.specs.ChoiceTexts.{RunsUnder}
+use Rattle.debug_core.specs.ChosenRuns.{RunsUnder}
 use Rattle.debug_core.specs.JudgeMeaning.{JudgeMeans}
 use Rattle.debug_core.specs.PrintMeaning.{PrintMeans}
 use Rattle.debug_core.specs.ReplayMeaning.{ReplayMeans}

@@ -8,7 +8,7 @@ use Rattle.debug_files.specs.Giving.{Given, NothingGiven, BytesGiven, SeedGiven}
 use Rattle.debug_outcome.specs.Coming.{IsRefusal}
 use Rattle.debug_outcome.specs.Outcomes.{Outcome}
 use Rattle.debug_outcome.proofs.Comings.{one_refusal}
-use Rattle.debug_core.specs.ChoiceTexts.{IsListedRun, IsBadChoices, RunsByFile, RunsUnder, refusal_of_choices}
+use Rattle.debug_core.specs.ChosenRuns.{IsListedRun, IsBadChoices, RunsByFile, RunsUnder, refusal_of_choices}
 
 one_bad_choices : (bytes : List ℕ) (o q : Outcome) → IsBadChoices bytes o → IsBadChoices bytes q → o ≡ q
 one_bad_choices bytes o q h k =

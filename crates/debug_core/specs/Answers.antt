@@ -66,13 +66,13 @@ sides told_files file_faults told_out out_faults told_err err_faults files files
   err_faults' = err_faults err';
 }
 
--- The status answers what the words ask for: it ends a call that delivers an outcome for which words and files call. Words that are no row are refused, and that needs no memory.
+-- The status answers what the words ask for: it ends a call that delivers an outcome for which words and files call. Words that are no usage are refused, and that needs no memory.
 abbrev pub Answers : Option Asked → Sides → ℕ → Type 0
 Answers None sides status = IsDelivered (refuses Usage) sides status
 Answers (Some asked) sides status =
     Ends (CallsFor asked sides.files sides.file_faults sides.file_faults' sides.loads) (GrowsFor asked sides.files sides.file_faults sides.file_faults' sides.loads) sides status
 
--- Why there are no words: one that is no text stands in no row, and without memory for them there is nothing but the line that says so.
+-- Why there are no words: one that is no text stands in no usage, and without memory for them there is nothing but the line that says so.
 abbrev pub AnswersNoWords : NoWords → Sides → ℕ → Type 0
 AnswersNoWords NotText sides status = Answers None sides status
 AnswersNoWords Memory sides status = Ends Never Never sides status

@@ -2,7 +2,7 @@ pub mod TextFaults
 pub mod RuleFaults
 pub mod LegalTexts
 pub mod InputTexts
-pub mod ChoiceTexts
+pub mod ChosenRuns
 pub mod Starts
 pub mod PrintMeaning
 pub mod CheckMeaning

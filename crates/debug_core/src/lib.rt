@@ -2,7 +2,7 @@
 #![tactic(auto)]
 
 mod check_command;
-mod choosing;
+mod chosen_runs;
 mod judge_command;
 mod laws;
 mod print_command;

@@ -8,7 +8,7 @@ ghost use Rattle.debug_outcome.specs.Traces.{HasLoads};
 ghost use Rattle.debug_core.specs.Answers.{CallsFor, GrowsFor};
 ghost use Rattle.debug_core.specs.RunMeaning.{RunMeans};
 
-use crate::choosing::run_under;
+use crate::chosen_runs::run_under;
 use crate::starting::read_start;
 use debug_files::{RunFiles, load_run};
 use debug_outcome::{Stop, TracedFiles};

@@ -21,9 +21,9 @@ use std::alloc::Global;
 /// All that the program does: takes its words without the program's own name, reads from `files`, writes to `out` and `err`, and answers the
 /// status with which it ends.
 ///
-/// The rows of words are `print FILE`, `check FILE`, `replay FILE SEQUENCE`, `run FILE IN CHOICES TURNS` and `judge FILE IN SEQUENCE STEPS`. The
+/// The usages are `print FILE`, `check FILE`, `replay FILE SEQUENCE`, `run FILE IN CHOICES TURNS` and `judge FILE IN SEQUENCE STEPS`. The
 /// statuses are 0 done; 10 no action applied any more and 11 all turns were made, of a run; 4 the sequence is infeasible and 5 it is not settled,
-/// of a judgement; 1 the program's text is refused, 2 the words are no row, 3 the sequence is refused, 6 a file cannot be read, 7 an output cannot
+/// of a judgement; 1 the program's text is refused, 2 the words are none of these, 3 the sequence is refused, 6 a file cannot be read, 7 an output cannot
 /// be written, 8 a limit is passed, 9 out of memory, 12 the inputs or the choices are refused. With 1, 2, 3, 6, 8, 9 and 12 a line stands on `err`,
 /// and with these but 9 nothing on `out`. After a write that failed nothing is put.
 pub fn debug_main<F: TracedFiles, O: Sink, E: Sink>(
@@ -45,7 +45,7 @@ pub fn debug_main<F: TracedFiles, O: Sink, E: Sink>(
     }
 }
 
-/// All that the program does, given what came of its words: what `debug_main` does with them, and the same as for words that are no row
+/// All that the program does, given what came of its words: what `debug_main` does with them, and the same as for words that are no usage
 /// where one of them is no text. Where there was no memory for them the status is 9, with its line, or 7 where that cannot be written.
 pub fn debug_program<F: TracedFiles, O: Sink, E: Sink>(
     alloc: Global,

@@ -1,6 +1,6 @@
 -- What the files of a run, of a judgement or of a replaying give: their bytes in order, and the choices of a run (this project's rules).
 use Rattle.std.specs.Prelude.{◌≡◌, ◌<◌, ◌-◌, ◌^◌, ℕ, List, [], ◌∷◌, ◌++◌, length, Option, option_map, option_to_list, IfSome, ⊤}
-use Rattle.debug_words.specs.Words.{Source, NoChoices, ChoicesIn, ChoicesBy}
+use Rattle.debug_words.specs.Words.{ChoiceSource, NoChoices, ChoicesIn, ChoicesBy}
 use Rattle.debug_files.specs.declared.loading.ChoiceBytes.{ChoiceBytes}
 use Rattle.debug_files.specs.declared.loading.ChoiceBytes.TheVariants.{Empty, In, Seeded}
 use Rattle.debug_files.specs.declared.loading.StartFiles.{StartFiles}
@@ -18,7 +18,7 @@ pub data Given : Type 0 where
   SeedGiven : ℕ → Given
 
 -- choices that the words name come from where they say
-abbrev pub IsGivenBy : Source → Given → Type 0
+abbrev pub IsGivenBy : ChoiceSource → Given → Type 0
 IsGivenBy NoChoices given = given ≡ NothingGiven
 IsGivenBy (ChoicesIn name) given = (bytes : List ℕ) × (given ≡ BytesGiven bytes)
 IsGivenBy (ChoicesBy seed) given = given ≡ SeedGiven seed

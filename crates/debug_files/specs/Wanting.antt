@@ -1,18 +1,18 @@
 -- Which files are loaded for what is asked, and how many bytes each may have (this project's rules).
 use Rattle.std.specs.Prelude.{ℕ, List, [], ◌∷◌, ◌++◌, Option}
-use Rattle.debug_words.specs.Words.{Asked, AsksPrint, AsksCheck, AsksRun, AsksJudge, AsksReplay, Source, NoChoices, ChoicesIn, ChoicesBy}
+use Rattle.debug_words.specs.Words.{Asked, AsksPrint, AsksCheck, AsksRun, AsksJudge, AsksReplay, ChoiceSource, NoChoices, ChoicesIn, ChoicesBy}
 use Rattle.debug_outcome.specs.Loads.{file_named, files_named}
 use Rattle.debug_outcome.specs.Traces.{Wanted}
 
--- a program that is printed or run has at most so many bytes, and one that is checked, judged or replayed, an original, so many; a program that is written has at most as many as one that is run
+-- a program that is printed or run has at most so many bytes, and so has a replay text that is written (this project's limit)
 abbrev pub text_limit : ℕ
 text_limit = 33554432
 
--- a program that is checked or judged, an original, has at most so many bytes (this project's limit)
+-- a program that is checked, judged or replayed, an original, has at most so many bytes (this project's limit)
 abbrev pub original_limit : ℕ
 original_limit = 1048576
 
--- a file of inputs, one of a sequence, and one of choices
+-- a file of inputs has at most so many bytes (this project's limit)
 abbrev pub inputs_limit : ℕ
 inputs_limit = 4194304
 
@@ -25,7 +25,7 @@ abbrev pub choices_limit : ℕ
 choices_limit = 16777216
 
 -- choices may stand in a file
-abbrev pub choice_files : Source → List Wanted
+abbrev pub choice_files : ChoiceSource → List Wanted
 choice_files NoChoices = []
 choice_files (ChoicesIn name) = file_named name choices_limit ∷ []
 choice_files (ChoicesBy seed) = []
@@ -35,7 +35,7 @@ abbrev pub start_files : List ℕ → ℕ → Option (List ℕ) → List Wanted
 start_files file limit inputs = file_named file limit ∷ files_named inputs inputs_limit
 
 -- the files of a run: the program, the inputs of its tasks where they are named, and the choices where they stand in a file
-abbrev pub run_files : List ℕ → Option (List ℕ) → Source → List Wanted
+abbrev pub run_files : List ℕ → Option (List ℕ) → ChoiceSource → List Wanted
 run_files file inputs choices = start_files file text_limit inputs ++ choice_files choices
 
 -- the files of a judgement: the original, the inputs of its tasks where they are named, and the sequence

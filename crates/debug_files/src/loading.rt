@@ -1,11 +1,11 @@
 //! Loading the files of a run, of a judgement and of a replaying.
 
-ghost use Rattle.std.specs.Prelude.{◌≡◌, ◌≤◌, ◌<◌, ◌-◌, ◌^◌, is_some, option_map, IfOk};
+ghost use Rattle.std.specs.Prelude.{◌≡◌, ◌≤◌, ◌<◌, ◌-◌, ◌^◌, is_some, IfOk};
 ghost use Rattle.debug_words.specs.Commands.{name_as, source_as};
 ghost use Rattle.debug_outcome.specs.Loads.{CameOf};
 ghost use Rattle.debug_outcome.specs.Traces.{HasLoads};
 ghost use Rattle.debug_files.specs.Giving.{IsGivenBy, given_as, given_bytes, start_contents, run_contents, judge_contents, replay_contents, IsShortStart, AreShortChoices, IsShortRun, IsShortJudge, IsShortReplay};
-ghost use Rattle.debug_files.specs.Wanting.{choice_files, start_files, run_files, judge_files, replay_files, text_limit, original_limit};
+ghost use Rattle.debug_files.specs.Wanting.{choice_files, start_files, run_files, judge_files, replay_files};
 
 use debug_outcome::{Stop, TracedFiles, load_file, load_named};
 use debug_words::{Choices, JudgeWords, ReplayWords, RunWords};

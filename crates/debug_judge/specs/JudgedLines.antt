@@ -11,9 +11,9 @@ use Rattle.task_machine.specs.Judging.{VerdictIs}
 use Rattle.feasible.specs.Keeping.{StandsFor, is_feasible}
 use Rattle.divergence.specs.JudgeText.{event_of}
 use Rattle.divergence.specs.Seen.{AreSettled}
-use Rattle.debug_judge.specs.declared.lines.LinesVerdict.{LinesVerdict}
-use Rattle.debug_judge.specs.declared.lines.LinesError.{LinesError}
-use Rattle.debug_judge.specs.declared.lines.LinesError.TheVariants as error
+use Rattle.debug_judge.specs.declared.judged_lines.LinesVerdict.{LinesVerdict}
+use Rattle.debug_judge.specs.declared.judged_lines.LinesError.{LinesError}
+use Rattle.debug_judge.specs.declared.judged_lines.LinesError.TheVariants as error
 
 -- Found of these events: their verdict, their number, the event at the place of a verdict that is not feasible, and a judge that stands for them
 -- and shows each task that an infeasible event needs.

@@ -14,7 +14,7 @@ pub enum Refusal<'w> {
     BadText(TextFault),
     /// The program is read, and breaks a static rule or passes a limit.
     BadProgram(RuleFault),
-    /// The words are no row of words.
+    /// The words are no usage.
     Usage,
     /// The sequence is refused, at a line.
     BadSequence { fault: SequenceFault, line: u32 },

@@ -6,14 +6,14 @@ ghost use Rattle.ded_io.specs.Counts.{HasCause};
 ghost use Rattle.ded_io.specs.Written.{◌⧺◌, Wrote};
 ghost use Rattle.debug_text.specs.OutputText.{output_text};
 ghost use Rattle.debug_text.specs.RunText.{header, counts, end_line, end_word, task_line, task_lines};
-ghost use Rattle.syn_event.specs.Numbering.{is_original_task, is_original_entry, original_tasks, original_entries};
+ghost use Rattle.syn_event.specs.Numbering.{original_tasks, original_entries};
 
 use crate::output_text::put_output;
 use ada_tree::Names;
 use decimal_text::put_number;
 use ded_io::{Sink, SinkError};
 use run_model::{RunEnd, RunReport};
-use syn_event::{EntryInfo, Numbers, TaskInfo, name_of, show_task};
+use syn_event::{Numbers, TaskInfo, name_of, show_task};
 
 // Writes the first line of a run: the program's name and how many tasks and entries the original has.
 #[tactic(auto, using(ded_io::proofs::Writes::writes))]

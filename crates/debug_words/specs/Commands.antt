@@ -5,13 +5,13 @@ use Rattle.debug_words.specs.declared.command.Command.{Command}
 use Rattle.debug_words.specs.declared.command.Command.TheVariants.{Print, Check, Run, Judge, Replay}
 use Rattle.debug_words.specs.declared.command.Choices.{Choices}
 use Rattle.debug_words.specs.declared.command.Choices.TheVariants.{Empty, In, Seeded}
-use Rattle.debug_words.specs.Words.{Asked, AsksPrint, AsksCheck, AsksRun, AsksJudge, AsksReplay, Source, NoChoices, ChoicesIn, ChoicesBy}
+use Rattle.debug_words.specs.Words.{Asked, AsksPrint, AsksCheck, AsksRun, AsksJudge, AsksReplay, ChoiceSource, NoChoices, ChoicesIn, ChoicesBy}
 
 -- the bytes of a name, if there is one
 abbrev pub name_as : Option (Bor (List ℕ)) → Option (List ℕ)
 name_as name = option_map (λ word. word.now) name
 
-abbrev pub source_as : Choices → Source
+abbrev pub source_as : Choices → ChoiceSource
 source_as Empty = NoChoices
 source_as (In file) = ChoicesIn file.now
 source_as (Seeded seed) = ChoicesBy seed

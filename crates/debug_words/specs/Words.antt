@@ -3,13 +3,13 @@ use Rattle.std.specs.Prelude.{ℕ, ◌+◌, ◌-◌, ◌*◌, Bool, false, not, 
 use Rattle.std.specs.List.{starts_with}
 
 -- Where the choices of a run come from.
-pub data Source : Type 0 where
+pub data ChoiceSource : Type 0 where
   -- nowhere: an empty list of choices
-  NoChoices : Source
+  NoChoices : ChoiceSource
   -- a file of this name
-  ChoicesIn : List ℕ → Source
+  ChoicesIn : List ℕ → ChoiceSource
   -- the generator of this seed
-  ChoicesBy : ℕ → Source
+  ChoicesBy : ℕ → ChoiceSource
 
 -- What is asked for.
 pub data Asked : Type 0 where
@@ -18,7 +18,7 @@ pub data Asked : Type 0 where
   -- checking the program in a file
   AsksCheck : List ℕ → Asked
   -- a run of the program in a file, with the name of a file of inputs if there is one, with choices, and with a number of turns
-  AsksRun : List ℕ → Option (List ℕ) → Source → ℕ → Asked
+  AsksRun : List ℕ → Option (List ℕ) → ChoiceSource → ℕ → Asked
   -- judging the sequence in the last file for the program in the first, with the name of a file of inputs if there is one, and with a number of local steps
   AsksJudge : List ℕ → Option (List ℕ) → List ℕ → ℕ → Asked
   -- the replay text of the program in the first file and the sequence in the second
@@ -62,7 +62,7 @@ abbrev pub inputs_of : List ℕ → Option (List ℕ)
 inputs_of word = if bytes_eq word (codes "-") then None else Some word
 
 -- a word for choices is `-` for none, `seed:` and a number, or the name of a file; a word that begins with `seed:` is no file's name
-abbrev pub choices_of : List ℕ → Option Source
+abbrev pub choices_of : List ℕ → Option ChoiceSource
 choices_of word =
     if bytes_eq word (codes "-")
     then Some NoChoices

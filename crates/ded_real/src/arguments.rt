@@ -5,7 +5,7 @@ use std::alloc::AllocGlobal;
 use std::io::ErrorKind;
 use std::{env, rt};
 
-/// The words behind the program's name. A word that is not UTF-8 stands in no row of words, so that then there are none.
+/// The words after the program's name. A word that is not UTF-8 stands in no usage, so that then there are none.
 pub fn real_words<R: rt::Env + AllocGlobal>(system: &R) -> Result<Vec<String>, NoWords> {
     let mut words = Vec::new(system.alloc());
     match env::args(system) {

@@ -1,4 +1,4 @@
-//! The program `ded` again, for a stored run of words that are no row, with status 2.
+//! The program `ded` again, for a stored run of words that are no usage, with status 2.
 #![tactic(auto)]
 
 use ded_program::run_program;

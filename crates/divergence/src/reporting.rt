@@ -1,17 +1,16 @@
 // The lines of a verdict.
 
-ghost use Rattle.std.specs.Prelude.{◌≡◌, ◌≤◌, ◌<◌, ◌∷◌, [], pred, length, All, Some, option_copied};
-ghost use Rattle.std.specs.Option.{option_map_or};
+ghost use Rattle.std.specs.Prelude.{◌≡◌, ◌<◌, ◌∷◌, [], pred, length, All, Some, option_copied};
 ghost use Rattle.ded_io.specs.Counts.{HasCause};
 ghost use Rattle.ded_io.specs.Written.{Wrote, ◌⧺◌};
 ghost use Rattle.syn_event.specs.Numbering.{task_at};
 ghost use Rattle.task_machine.specs.Conditions.{tasks_to, needed_of};
 ghost use Rattle.feasible.specs.Failing.{view_at};
 ghost use Rattle.feasible.specs.Keeping.{IsSettled};
-ghost use Rattle.divergence.specs.JudgeText.{report_text, refused_word, refused_text, held_text, cause_word, cause_line, event_line, title, title_of, task_part, parts_of, task_parts, once};
+ghost use Rattle.divergence.specs.JudgeText.{report_text, refused_word, refused_text, held_text, cause_word, cause_line, event_line, title_of, task_part, parts_of, task_parts, once};
 ghost use Rattle.divergence.specs.Seen.{AreSettled};
 ghost use Rattle.divergence.specs.inner.Below.{tasks_below};
-ghost use Rattle.divergence.specs.ViewText.{number_line, view_lines};
+ghost use Rattle.divergence.specs.ViewText.{view_lines};
 
 use crate::views::{put_line, put_view};
 use ada_tree::Names;

@@ -6,7 +6,7 @@ use Rattle.event_machine.specs.declared.Standing.TheVariants.{Live, Waiting, Que
 use Rattle.event_machine.specs.declared.Event.{Event}
 use Rattle.event_machine.specs.declared.Event.TheVariants.{R, E, S, D, C, T, F, X, B, Z}
 use Rattle.event_machine.specs.Offers.{calls_in, is_any_form, waits_with, opens, is_end, is_terminate}
-use Rattle.event_machine.specs.Seats.{Seat, is_live, is_closed, is_completed, is_served, is_served_by}
+use Rattle.event_machine.specs.States.{Seat, is_live, is_closed, is_completed, is_served, is_served_by}
 use Rattle.event_machine.specs.Lawful.{IsLawful}
 use Rattle.event_machine.specs.Programs.{Program}
 use Rattle.event_machine.specs.Worlds.{happens, offers, others_end}

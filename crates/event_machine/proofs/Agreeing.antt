@@ -6,7 +6,7 @@ use Rattle.event_machine.specs.declared.Standing.TheVariants.{Live}
 use Rattle.event_machine.specs.declared.Event.{Event}
 use Rattle.event_machine.specs.declared.Event.TheVariants.{R, E, S, D, C, T, F, X, B, Z}
 use Rattle.event_machine.specs.Offers.{Offer, calls_in, is_any_form, is_conditional, is_timed, waits_with, opens, is_else, is_delay, is_finish, is_end, is_terminate}
-use Rattle.event_machine.specs.Seats.{Seat, is_live, is_closed, is_completed, is_served}
+use Rattle.event_machine.specs.States.{Seat, is_live, is_closed, is_completed, is_served}
 use Rattle.event_machine.specs.Programs.{Program}
 use Rattle.event_machine.specs.Worlds.{happens, offers, aborts, needs, others_end}
 use Rattle.event_machine.proofs.Basics.{split}

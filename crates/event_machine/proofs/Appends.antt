@@ -1,7 +1,7 @@
 -- Runs and moves one after the other.
 use Rattle.std.proofs.Common.{◌≡◌, ℕ, List, [], ◌∷◌, ◌++◌, option_to_list, refl, sym, ap, ◌∙◌, append_assoc}
 use Rattle.event_machine.specs.declared.Action.{Action}
-use Rattle.event_machine.specs.Seats.{State, Rules}
+use Rattle.event_machine.specs.States.{State, Rules}
 use Rattle.event_machine.specs.Effects.{after, event_of}
 use Rattle.event_machine.specs.Runs.{IsRun, end_of, events_of}
 use Rattle.event_machine.specs.Programs.{Program}

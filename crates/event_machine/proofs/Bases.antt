@@ -5,7 +5,7 @@ use Rattle.std.proofs.lemmas.Bool.{and_left, cases_Bool, false_from_ne_true}
 use Rattle.event_machine.specs.declared.Standing.TheVariants.{Live, Killed}
 use Rattle.event_machine.specs.declared.Event.{Event}
 use Rattle.event_machine.specs.declared.Event.TheVariants.{R, E, S, D, C, T, F, X, B, Z}
-use Rattle.event_machine.specs.Seats.{Seat, is_live, is_closed, is_completed}
+use Rattle.event_machine.specs.States.{Seat, is_live, is_closed, is_completed}
 use Rattle.event_machine.specs.Lawful.{IsLawful, Keeps}
 use Rattle.event_machine.specs.Programs.{Program, numbered}
 use Rattle.event_machine.specs.Worlds.{World, IsStill, acted, needs, changes, is_last}

@@ -5,7 +5,7 @@ use Rattle.std.specs.Prelude.{ℤ}
 use Rattle.std.proofs.lemmas.Bool.{eqb-true, and_parts, and_from}
 use Rattle.std.proofs.lemmas.Bool.Decides.{Decides-int_eq}
 use Rattle.event_machine.specs.Offers.{same_member}
-use Rattle.event_machine.specs.Seats.{Seat}
+use Rattle.event_machine.specs.States.{Seat}
 use Rattle.common_lemmas.proofs.Numbers.{equal_self}
 
 -- a function of an `if`

@@ -5,7 +5,7 @@ use Rattle.std.proofs.lemmas.Bool.{and_parts, ne_eqb}
 use Rattle.event_machine.specs.declared.Standing.TheVariants.{Live, Killed}
 use Rattle.event_machine.specs.declared.Event.{Event}
 use Rattle.event_machine.specs.declared.Event.TheVariants.{B}
-use Rattle.event_machine.specs.Seats.{Seat, State, is_live, is_completed}
+use Rattle.event_machine.specs.States.{Seat, State, is_live, is_completed}
 use Rattle.event_machine.specs.Lawful.{IsLawful}
 use Rattle.event_machine.specs.Runs.{Feasible}
 use Rattle.event_machine.specs.Programs.{Program, numbered, IsOpening}

@@ -5,7 +5,7 @@ use Rattle.event_machine.specs.declared.Standing.{Standing}
 use Rattle.event_machine.specs.declared.Standing.TheVariants.{Live, Waiting, Queued, Served, Completed, Killed}
 use Rattle.event_machine.specs.declared.Event.{Event}
 use Rattle.event_machine.specs.declared.Event.TheVariants.{R, E, S, D, C, T, F, X, B, Z}
-use Rattle.event_machine.specs.Seats.{Seat, State, is_live, is_completed, is_served}
+use Rattle.event_machine.specs.States.{Seat, State, is_live, is_completed, is_served}
 use Rattle.event_machine.specs.Lawful.{IsLawful}
 use Rattle.event_machine.specs.Runs.{end_of}
 use Rattle.event_machine.specs.Programs.{Program, numbered, IsOpening}

@@ -7,8 +7,8 @@ use Rattle.event_machine.specs.declared.Standing.TheVariants.{Live, Waiting, Que
 use Rattle.event_machine.specs.declared.Event.{Event}
 use Rattle.event_machine.specs.declared.Event.TheVariants.{R, E, S, D, C, T, F, X, B, Z}
 use Rattle.event_machine.specs.Offers.{calls_in, is_any_form}
-use Rattle.event_machine.specs.Seats.{Seat, live, completed, is_live, is_closed, is_served, is_served_by, is_abnormal}
-use Rattle.event_machine.specs.Rows.{is_first}
+use Rattle.event_machine.specs.States.{Seat, live, completed, is_live, is_closed, is_served, is_served_by, is_abnormal}
+use Rattle.event_machine.specs.Applying.{is_first}
 use Rattle.event_machine.specs.Effects.{freed, met_at, parted, released_first, parted_both, released, fallen, aborted, went_on, abort_seats}
 use Rattle.event_machine.specs.Programs.{Program, numbered}
 use Rattle.event_machine.specs.Worlds.{happens, acted, offers, needs, changes}

@@ -10,8 +10,8 @@ use Rattle.event_machine.specs.declared.Action.TheVariants.{Local, Arrive, Start
 use Rattle.event_machine.specs.declared.Event.{Event}
 use Rattle.event_machine.specs.declared.Event.TheVariants.{R, E, S, D, C, T, F, X, B, Z}
 use Rattle.event_machine.specs.Offers.{Offer, Nothing, Calls, Waits, Finishes, Ends, Aborts, aborted_by, is_any_form, is_conditional, is_timed, calls_in, is_end}
-use Rattle.event_machine.specs.Seats.{Seat, State, seen, is_live, is_closed}
-use Rattle.event_machine.specs.Rows.{can, row, starts, queue_of, queues_at, is_first, is_empty, calls_owner, same, others_can_end}
+use Rattle.event_machine.specs.States.{Seat, State, seen, is_live, is_closed}
+use Rattle.event_machine.specs.Applying.{can, action_applies, starts, queue_of, queues_at, is_first, is_empty, calls_owner, same, others_can_end}
 use Rattle.event_machine.specs.Effects.{after, event_of, met, call_event, after_abort, abort_event, stand, arrived_standing}
 use Rattle.event_machine.specs.Programs.{Program, numbered}
 use Rattle.event_machine.specs.Worlds.{still, still_seat, world_of, acted, happens, offers, others_end, aborts, is_last, Move, Step, Happen, moved, AreMoves, world_after, happened, counts_after, recount}
@@ -56,7 +56,7 @@ module _ {L : Type 0} (p : Program L) where
     pub ends : world_after p (world_of s) moves ≡ world_of (after (numbered p) s action)
     pub counts : (count : ℕ → ℕ) → counts_after p (world_of s) moves count ≡ tallied (numbered p) s action count
 
-  -- the call of a row that asks for the call's form, and for its owner's being closed
+  -- the call of an action that asks for the call's form, and for its owner's being closed
   record IsCallAt (form_test : CallForm → Bool) (closed_test : Bool → Bool) (s : State (ℕ → Seat L)) (o : Offer) : Type 0 where
     form : CallForm
     entry : ℕ
@@ -82,11 +82,11 @@ module _ {L : Type 0} (p : Program L) where
   call_offers form_test closed_test s c k free =
       both free (ap (calls_in form_test k.entry k.index) k.is ∙ both k.form_passes (same_member-refl k.entry k.index))
 
-  -- ---- rows with an event
+  -- ---- actions with an event
 
-  start_row : (s : State (ℕ → Seat L)) (c : ℕ) → starts p.ops p.owner (seen (numbered p) s) c (p.ops.offer (s.seats c).local) ≡ true →
+  start_applies : (s : State (ℕ → Seat L)) (c : ℕ) → starts p.ops p.owner (seen (numbered p) s) c (p.ops.offer (s.seats c).local) ≡ true →
       (e : Event) × IsEvent s (Start c) e
-  start_row s c h = go (p.ops.offer (s.seats c).local) refl h
+  start_applies s c h = go (p.ops.offer (s.seats c).local) refl h
     where
       free : (form : CallForm) (e : ℕ) (i : ℤ) →
           (is_first c (queue_of p.ops (seen (numbered p) s) e i) || ((is_live (s.seats c).standing && is_conditional form) && is_empty (queue_of p.ops (seen (numbered p) s) e i))) ≡ true →
@@ -115,8 +115,8 @@ module _ {L : Type 0} (p : Program L) where
       go Ends q k = absurd (true≢false (sym k))
       go (Aborts x) q k = absurd (true≢false (sym k))
 
-  else_row : (s : State (ℕ → Seat L)) (c : ℕ) → row p.ops p.owner (seen (numbered p) s) (CallElse c) ≡ true → (e : Event) × IsEvent s (CallElse c) e
-  else_row s c h =
+  else_applies : (s : State (ℕ → Seat L)) (c : ℕ) → action_applies p.ops p.owner (seen (numbered p) s) (CallElse c) ≡ true → (e : Event) × IsEvent s (CallElse c) e
+  else_applies s c h =
       let k = call_parts is_conditional not s (p.ops.offer (s.seats c).local) (split (split h).1).0 in (
         C c k.entry k.index,
         record {
@@ -129,8 +129,8 @@ module _ {L : Type 0} (p : Program L) where
         },
       )
 
-  expire_row : (s : State (ℕ → Seat L)) (c : ℕ) → row p.ops p.owner (seen (numbered p) s) (Expire c) ≡ true → (e : Event) × IsEvent s (Expire c) e
-  expire_row s c h =
+  expire_applies : (s : State (ℕ → Seat L)) (c : ℕ) → action_applies p.ops p.owner (seen (numbered p) s) (Expire c) ≡ true → (e : Event) × IsEvent s (Expire c) e
+  expire_applies s c h =
       let k = call_parts is_timed not s (p.ops.offer (s.seats c).local) (split h).1 in (
         T c k.entry k.index,
         record {
@@ -143,8 +143,8 @@ module _ {L : Type 0} (p : Program L) where
         },
       )
 
-  fail_row : (s : State (ℕ → Seat L)) (c : ℕ) → row p.ops p.owner (seen (numbered p) s) (Fail c) ≡ true → (e : Event) × IsEvent s (Fail c) e
-  fail_row s c h =
+  fail_applies : (s : State (ℕ → Seat L)) (c : ℕ) → action_applies p.ops p.owner (seen (numbered p) s) (Fail c) ≡ true → (e : Event) × IsEvent s (Fail c) e
+  fail_applies s c h =
       let k = call_parts is_any_form same s (p.ops.offer (s.seats c).local) (split h).1 in
       let free : is_live (still (s.seats c).standing) ≡ true =
       ⊎_elim (still_live (s.seats c).standing) (still_queued (s.seats c).standing) (or_cases _ _ (split h).0) in (
@@ -159,8 +159,8 @@ module _ {L : Type 0} (p : Program L) where
         },
       )
 
-  abort_row : (s : State (ℕ → Seat L)) (t : ℕ) → row p.ops p.owner (seen (numbered p) s) (Abort t) ≡ true → (e : Event) × IsEvent s (Abort t) e
-  abort_row s t h = go (p.ops.offer (s.seats t).local) refl (split h).1
+  abort_applies : (s : State (ℕ → Seat L)) (t : ℕ) → action_applies p.ops p.owner (seen (numbered p) s) (Abort t) ≡ true → (e : Event) × IsEvent s (Abort t) e
+  abort_applies s t h = go (p.ops.offer (s.seats t).local) refl (split h).1
     where
       go : (o : Offer) → p.ops.offer (s.seats t).local ≡ o → is_some (aborted_by o) ≡ true → (e : Event) × IsEvent s (Abort t) e
       go Nothing q k = absurd (true≢false (sym k))
@@ -179,9 +179,9 @@ module _ {L : Type 0} (p : Program L) where
         },
       )
 
-  others_row : (s : State (ℕ → Seat L)) (n : ℕ) → others_can_end p.ops (seen (numbered p) s) n ≡ true → others_end p.ops (λ t. still_seat (s.seats t)) n ≡ true
-  others_row s zero h = refl
-  others_row s (suc n) h = both (others_row s n (split h).0) (⊎_elim
+  others_apply : (s : State (ℕ → Seat L)) (n : ℕ) → others_can_end p.ops (seen (numbered p) s) n ≡ true → others_end p.ops (λ t. still_seat (s.seats t)) n ≡ true
+  others_apply s zero h = refl
+  others_apply s (suc n) h = both (others_apply s n (split h).0) (⊎_elim
       (λ k. or_left _ _ (still_completed (s.seats (suc n)).standing ∙ k))
       (λ k. or_right _ _ (both (still_waiting (s.seats (suc n)).standing (split k).0) (split k).1))
       (or_cases _ _ (split h).1))
@@ -268,49 +268,49 @@ module _ {L : Type 0} (p : Program L) where
   arrive_step : (s : State (ℕ → Seat L)) (t : ℕ) → can (numbered p) s (Arrive t) ≡ true → IsErasedStep s (Arrive t)
   arrive_step s t h = record { moves = []; made = tt; events = refl; ends = arrive_world s t h; counts = λ count. refl }
 
-  finish_row : (s : State (ℕ → Seat L)) (a : ℕ) → row p.ops p.owner (seen (numbered p) s) (Finish a) ≡ true → (e : Event) × IsEvent s (Finish a) e
-  finish_row s a h = simple s (Finish a) (E a) refl refl refl (both (still_live (s.seats a).standing (split h).0) (split h).1) (λ t. refl)
+  finish_applies : (s : State (ℕ → Seat L)) (a : ℕ) → action_applies p.ops p.owner (seen (numbered p) s) (Finish a) ≡ true → (e : Event) × IsEvent s (Finish a) e
+  finish_applies s a h = simple s (Finish a) (E a) refl refl refl (both (still_live (s.seats a).standing (split h).0) (split h).1) (λ t. refl)
 
-  take_else_row : (s : State (ℕ → Seat L)) (a : ℕ) → row p.ops p.owner (seen (numbered p) s) (Else a) ≡ true → (e : Event) × IsEvent s (Else a) e
-  take_else_row s a h =
+  take_else_applies : (s : State (ℕ → Seat L)) (a : ℕ) → action_applies p.ops p.owner (seen (numbered p) s) (Else a) ≡ true → (e : Event) × IsEvent s (Else a) e
+  take_else_applies s a h =
       simple s (Else a) (S a) refl refl refl (both (still_waiting (s.seats a).standing (split h).0) (split (split h).1).0) (λ t. refl)
 
-  delay_row : (s : State (ℕ → Seat L)) (a k : ℕ) → row p.ops p.owner (seen (numbered p) s) (Delay a k) ≡ true → (e : Event) × IsEvent s (Delay a k) e
-  delay_row s a k h =
+  delay_applies : (s : State (ℕ → Seat L)) (a k : ℕ) → action_applies p.ops p.owner (seen (numbered p) s) (Delay a k) ≡ true → (e : Event) × IsEvent s (Delay a k) e
+  delay_applies s a k h =
       simple s (Delay a k) (D a k) refl refl refl (both (still_waiting (s.seats a).standing (split h).0) (split (split h).1).0) (λ t. refl)
 
-  complete_row : (s : State (ℕ → Seat L)) (a : ℕ) → row p.ops p.owner (seen (numbered p) s) (Complete a) ≡ true → (e : Event) × IsEvent s (Complete a) e
-  complete_row s a h =
+  complete_applies : (s : State (ℕ → Seat L)) (a : ℕ) → action_applies p.ops p.owner (seen (numbered p) s) (Complete a) ≡ true → (e : Event) × IsEvent s (Complete a) e
+  complete_applies s a h =
       let k = and_parts (not (a == 0)) _ h in
       let l = and_parts (is_live (s.seats a).standing) _ k.1 in
       simple s (Complete a) (X a) refl refl refl (both k.0 (both (still_live (s.seats a).standing l.0) l.1)) (λ t. refl)
 
-  end_row : (s : State (ℕ → Seat L)) → row p.ops p.owner (seen (numbered p) s) End ≡ true → (e : Event) × IsEvent s End e
-  end_row s h =
+  end_applies : (s : State (ℕ → Seat L)) → action_applies p.ops p.owner (seen (numbered p) s) End ≡ true → (e : Event) × IsEvent s End e
+  end_applies s h =
       let k = and_parts (is_live (s.seats 0).standing) _ h in
       let l = and_parts (is_end (p.ops.offer (s.seats 0).local)) _ k.1 in
-      simple s End Z refl refl refl (both (both (still_live (s.seats 0).standing k.0) l.0) (others_row s (pred p.size) l.1)) (λ t. refl)
+      simple s End Z refl refl refl (both (both (still_live (s.seats 0).standing k.0) l.0) (others_apply s (pred p.size) l.1)) (λ t. refl)
 
   -- each action but a local step and an arrival has an event
-  pub event_or_silent : (s : State (ℕ → Seat L)) (action : Action) → row p.ops p.owner (seen (numbered p) s) action ≡ true →
+  pub event_or_silent : (s : State (ℕ → Seat L)) (action : Action) → action_applies p.ops p.owner (seen (numbered p) s) action ≡ true →
       ((e : Event) × IsEvent s action e) ⊎ (is_silent action ≡ true)
   event_or_silent s (Local t) h = inr refl
   event_or_silent s (Arrive t) h = inr refl
-  event_or_silent s (Start c) h = inl (start_row s c h)
-  event_or_silent s (Finish a) h = inl (finish_row s a h)
-  event_or_silent s (Else a) h = inl (take_else_row s a h)
-  event_or_silent s (Delay a k) h = inl (delay_row s a k h)
-  event_or_silent s (CallElse c) h = inl (else_row s c h)
-  event_or_silent s (Expire c) h = inl (expire_row s c h)
-  event_or_silent s (Fail c) h = inl (fail_row s c h)
-  event_or_silent s (Complete a) h = inl (complete_row s a h)
-  event_or_silent s (Abort t) h = inl (abort_row s t h)
-  event_or_silent s End h = inl (end_row s h)
+  event_or_silent s (Start c) h = inl (start_applies s c h)
+  event_or_silent s (Finish a) h = inl (finish_applies s a h)
+  event_or_silent s (Else a) h = inl (take_else_applies s a h)
+  event_or_silent s (Delay a k) h = inl (delay_applies s a k h)
+  event_or_silent s (CallElse c) h = inl (else_applies s c h)
+  event_or_silent s (Expire c) h = inl (expire_applies s c h)
+  event_or_silent s (Fail c) h = inl (fail_applies s c h)
+  event_or_silent s (Complete a) h = inl (complete_applies s a h)
+  event_or_silent s (Abort t) h = inl (abort_applies s t h)
+  event_or_silent s End h = inl (end_applies s h)
 
   -- the events of the actions that have one
-  pub event_row : (s : State (ℕ → Seat L)) (action : Action) (e : Event) → can (numbered p) s action ≡ true → event_of (numbered p) s action ≡ Some e →
+  pub event_applies : (s : State (ℕ → Seat L)) (action : Action) (e : Event) → can (numbered p) s action ≡ true → event_of (numbered p) s action ≡ Some e →
       IsEvent s action e
-  event_row s action e h q = ⊎_elim the_same (λ k. absurd (none_some (sym (silent_event s action k) ∙ q))) (event_or_silent s action (split h).1)
+  event_applies s action e h q = ⊎_elim the_same (λ k. absurd (none_some (sym (silent_event s action k) ∙ q))) (event_or_silent s action (split h).1)
     where
       the_same : (f : Event) × IsEvent s action f → IsEvent s action e
       the_same (f, k) = let r : f ≡ e = some_path (sym k.event ∙ q) in subst (IsEvent s action) r k
@@ -318,16 +318,16 @@ module _ {L : Type 0} (p : Program L) where
   pub erased_step : (s : State (ℕ → Seat L)) (action : Action) → can (numbered p) s action ≡ true → IsErasedStep s action
   erased_step s (Local t) h = local_step s t h
   erased_step s (Arrive t) h = arrive_step s t h
-  erased_step s (Start c) h = event_step s (Start c) (not_true _ (split h).0) (start_row s c (split h).1)
-  erased_step s (Finish a) h = event_step s (Finish a) (not_true _ (split h).0) (finish_row s a (split h).1)
-  erased_step s (Else a) h = event_step s (Else a) (not_true _ (split h).0) (take_else_row s a (split h).1)
-  erased_step s (Delay a k) h = event_step s (Delay a k) (not_true _ (split h).0) (delay_row s a k (split h).1)
-  erased_step s (CallElse c) h = event_step s (CallElse c) (not_true _ (split h).0) (else_row s c (split h).1)
-  erased_step s (Expire c) h = event_step s (Expire c) (not_true _ (split h).0) (expire_row s c (split h).1)
-  erased_step s (Fail c) h = event_step s (Fail c) (not_true _ (split h).0) (fail_row s c (split h).1)
-  erased_step s (Complete a) h = event_step s (Complete a) (not_true _ (split h).0) (complete_row s a (split h).1)
-  erased_step s (Abort t) h = event_step s (Abort t) (not_true _ (split h).0) (abort_row s t (split h).1)
-  erased_step s End h = event_step s End (not_true _ (split h).0) (end_row s (split h).1)
+  erased_step s (Start c) h = event_step s (Start c) (not_true _ (split h).0) (start_applies s c (split h).1)
+  erased_step s (Finish a) h = event_step s (Finish a) (not_true _ (split h).0) (finish_applies s a (split h).1)
+  erased_step s (Else a) h = event_step s (Else a) (not_true _ (split h).0) (take_else_applies s a (split h).1)
+  erased_step s (Delay a k) h = event_step s (Delay a k) (not_true _ (split h).0) (delay_applies s a k (split h).1)
+  erased_step s (CallElse c) h = event_step s (CallElse c) (not_true _ (split h).0) (else_applies s c (split h).1)
+  erased_step s (Expire c) h = event_step s (Expire c) (not_true _ (split h).0) (expire_applies s c (split h).1)
+  erased_step s (Fail c) h = event_step s (Fail c) (not_true _ (split h).0) (fail_applies s c (split h).1)
+  erased_step s (Complete a) h = event_step s (Complete a) (not_true _ (split h).0) (complete_applies s a (split h).1)
+  erased_step s (Abort t) h = event_step s (Abort t) (not_true _ (split h).0) (abort_applies s t (split h).1)
+  erased_step s End h = event_step s End (not_true _ (split h).0) (end_applies s (split h).1)
 
   -- ---- the moves of a run
 

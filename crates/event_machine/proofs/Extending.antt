@@ -6,7 +6,7 @@ use Rattle.event_machine.specs.declared.Standing.{Standing}
 use Rattle.event_machine.specs.declared.Standing.TheVariants.{Live, Waiting, Queued, Served, Completed, Killed}
 use Rattle.event_machine.specs.declared.Action.{Action}
 use Rattle.event_machine.specs.declared.Event.{Event}
-use Rattle.event_machine.specs.Seats.{Ops, Seat, State, is_live, is_closed, is_completed, is_served_by}
+use Rattle.event_machine.specs.States.{Ops, Seat, State, is_live, is_closed, is_completed, is_served_by}
 use Rattle.event_machine.specs.Lawful.{IsLawful}
 use Rattle.event_machine.specs.Runs.{IsRun, end_of, Feasible}
 use Rattle.event_machine.specs.Programs.{Program, numbered, IsOpening}

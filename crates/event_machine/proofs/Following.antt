@@ -5,8 +5,8 @@ use Rattle.std.proofs.lemmas.Bool.{eqb-true, and_parts, and_right}
 use Rattle.event_machine.specs.declared.Standing.{Standing}
 use Rattle.event_machine.specs.declared.Standing.TheVariants.{Live, Waiting, Queued, Served, Completed, Killed}
 use Rattle.event_machine.specs.declared.Event.{Event}
-use Rattle.event_machine.specs.Seats.{Seat, live, is_live, is_closed, is_served, is_served_by}
-use Rattle.event_machine.specs.Rows.{is_first}
+use Rattle.event_machine.specs.States.{Seat, live, is_live, is_closed, is_served, is_served_by}
+use Rattle.event_machine.specs.Applying.{is_first}
 use Rattle.event_machine.specs.Lawful.{IsLawful}
 use Rattle.event_machine.specs.Programs.{Program, numbered}
 use Rattle.event_machine.specs.Worlds.{World, Step, Happen, happens, acted, needs, changes, is_last, can_move, moved, recount}

@@ -10,8 +10,8 @@ use Rattle.event_machine.specs.declared.Action.TheVariants.{Local, Arrive, Start
 use Rattle.event_machine.specs.declared.Event.{Event}
 use Rattle.event_machine.specs.declared.Event.TheVariants.{R, E, S, D, C, T, F, X, B, Z}
 use Rattle.event_machine.specs.Offers.{Offer, Nothing, Calls, Waits, Finishes, Ends, Aborts, aborted_by, calls_in, is_any_form}
-use Rattle.event_machine.specs.Seats.{Seat, State, Rules, live, is_live, is_completed, is_closed}
-use Rattle.event_machine.specs.Rows.{can, row}
+use Rattle.event_machine.specs.States.{Seat, State, Rules, live, is_live, is_completed, is_closed}
+use Rattle.event_machine.specs.Applying.{can, action_applies}
 use Rattle.event_machine.specs.Effects.{after, event_of, met, call_event, after_abort, abort_event, offer_of_task, arrived_standing, freed, stand, parted, released_first, released, fallen, aborted, went_on}
 use Rattle.event_machine.specs.Runs.{IsRun, end_of, events_of}
 use Rattle.event_machine.specs.Programs.{Program, numbered, listed, by_number}
@@ -124,7 +124,7 @@ module _ {L : Type 0} (p : Program L) where
 
   -- the action applies to both
   pub same_can : (s : State (List (Seat L))) → length s.seats ≡ p.size → (action : Action) → can (listed p) s action ≡ can (numbered p) (by_number p s) action
-  same_can s e action = λ i. not s.ended && row p.ops p.owner (record { tasks = view p s.seats; size = e i; line = s.line }) action
+  same_can s e action = λ i. not s.ended && action_applies p.ops p.owner (record { tasks = view p s.seats; size = e i; line = s.line }) action
 
   silent_seats : (s : State (List (Seat L))) (action : Action) → is_silent action ≡ true → can (numbered p) (by_number p s) action ≡ true →
       view p (after (listed p) s action).seats ≡ (after (numbered p) (by_number p s) action).seats

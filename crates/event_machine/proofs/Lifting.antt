@@ -10,8 +10,8 @@ use Rattle.event_machine.specs.declared.Action.TheVariants.{Local, Arrive, Start
 use Rattle.event_machine.specs.declared.Event.{Event}
 use Rattle.event_machine.specs.declared.Event.TheVariants.{R, E, S, D, C, T, F, X, B, Z}
 use Rattle.event_machine.specs.Offers.{Calls, Waits, aborted_by, is_any_form, is_conditional, is_timed, queues_up, waits_with, is_terminate, opens, calls_in, is_end, is_else, is_delay}
-use Rattle.event_machine.specs.Seats.{Seat, State, seen, live, is_live, is_waiting, is_queued, is_completed, is_closed}
-use Rattle.event_machine.specs.Rows.{can, starts, queue_of, queues_at, is_first, is_empty, calls_owner, same, arrives, can_end, others_can_end}
+use Rattle.event_machine.specs.States.{Seat, State, seen, live, is_live, is_waiting, is_queued, is_completed, is_closed}
+use Rattle.event_machine.specs.Applying.{can, starts, queue_of, queues_at, is_first, is_empty, calls_owner, same, arrives, can_end, others_can_end}
 use Rattle.event_machine.specs.Effects.{after, event_of, met, met_at, call_event, after_abort, abort_event, stand, freed, without, arrived_standing, arrived_line}
 use Rattle.event_machine.specs.Runs.{IsRun, end_of, events_of}
 use Rattle.event_machine.specs.Programs.{Program, numbered}
@@ -23,7 +23,7 @@ use Rattle.event_machine.proofs.Standings.{is-Live}
 use Rattle.event_machine.proofs.Stills.{still_acted, still_freed}
 use Rattle.event_machine.proofs.Updates.{stand_self, stand_local, stand_other}
 use Rattle.event_machine.proofs.Offering.{calls_is, waits_is, aborts_is, timed_queues, else_conditional, no_caller, calls_waits}
-use Rattle.event_machine.proofs.Erasing.{IsEvent, event_row, event_world, event_counts, arrive_world}
+use Rattle.event_machine.proofs.Erasing.{IsEvent, event_applies, event_world, event_counts, arrive_world}
 use Rattle.event_machine.proofs.Appends.{run_append, end_append, events_append, tallies_append, happened_append}
 use Rattle.common_lemmas.proofs.Numbers.{equal_self}
 use Rattle.common_lemmas.proofs.Truth.{not_true}
@@ -58,7 +58,7 @@ module _ {L : Type 0} (p : Program L) where
       IsLifted p w (Happen e ∷ [])
   lift_event w e ts action still' run h q exact =
       let s : State (ℕ → Seat L) = end_of (numbered p) (state_of w) (arrive_all ts) in
-      let k : IsEvent p s action e = event_row p s action e h q in
+      let k : IsEvent p s action e = event_applies p s action e h q in
       let back : world_of s ≡ w = arrivals_world (state_of w) ts run ∙ still_world w still' in
       record {
         actions = arrive_all ts ++ action ∷ [];

@@ -3,7 +3,7 @@ use Rattle.std.proofs.Common.{sym, subst, ◌≡◌, ℕ, ◌<◌, false, List, 
 use Rattle.event_machine.specs.declared.Standing.{Standing}
 use Rattle.event_machine.specs.declared.Standing.TheVariants.{Live}
 use Rattle.event_machine.specs.declared.Event.{Event}
-use Rattle.event_machine.specs.Seats.{Ops, Seat, State, completed}
+use Rattle.event_machine.specs.States.{Ops, Seat, State, completed}
 use Rattle.event_machine.specs.Lawful.{IsLawful}
 use Rattle.event_machine.specs.Runs.{IsRun, Feasible, end_of}
 use Rattle.event_machine.specs.Programs.{Program, numbered, listed, by_number, IsOpening}

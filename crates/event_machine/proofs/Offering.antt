@@ -8,8 +8,8 @@ use Rattle.event_machine.specs.declared.CallForm.TheVariants.{Plain, Conditional
 use Rattle.event_machine.specs.declared.Choice.{Choice}
 use Rattle.event_machine.specs.declared.Choice.TheVariants.{Accept, Else, Delay, Terminate}
 use Rattle.event_machine.specs.Offers.{Offer, Nothing, Calls, Waits, Finishes, Ends, Aborts, calls_in, queues_up, is_conditional, is_timed, waits_with, is_finish, is_end}
-use Rattle.event_machine.specs.Seats.{Ops, Seen}
-use Rattle.event_machine.specs.Rows.{has_caller, has_no_caller}
+use Rattle.event_machine.specs.States.{Ops, Seen}
+use Rattle.event_machine.specs.Applying.{has_caller, has_no_caller}
 use Rattle.event_machine.specs.Worlds.{aborts}
 use Rattle.event_machine.proofs.Basics.{split, same_member-true}
 

@@ -8,8 +8,8 @@ use Rattle.event_machine.specs.declared.Action.TheVariants.{Local, Arrive, Start
 use Rattle.event_machine.specs.declared.Event.{Event}
 use Rattle.event_machine.specs.declared.Event.TheVariants.{R, E, S, D, C, T, F, X, B, Z}
 use Rattle.event_machine.specs.Offers.{Offer, Nothing, Calls, Waits, Finishes, Ends, Aborts, aborted_by}
-use Rattle.event_machine.specs.Seats.{Seat, State, live, completed, seen, is_live, is_waiting, is_queued, is_closed, is_served_by, is_abnormal}
-use Rattle.event_machine.specs.Rows.{can, row, arrives, starts}
+use Rattle.event_machine.specs.States.{Seat, State, live, completed, seen, is_live, is_waiting, is_queued, is_closed, is_served_by, is_abnormal}
+use Rattle.event_machine.specs.Applying.{can, action_applies, arrives, starts}
 use Rattle.event_machine.specs.Effects.{after, freed, stand, without, arrived_standing, arrived_line, met, parted, released_first, released, fallen, aborted, went_on, abort_seats, after_abort}
 use Rattle.event_machine.specs.Runs.{IsRun, end_of}
 use Rattle.event_machine.specs.Programs.{Program, numbered}
@@ -346,7 +346,7 @@ module _ {L : Type 0} (p : Program L) where
       go true = went_lined s t x h free
       go false = aborted_lined went s.line x (if x == t then Completed else Killed) (closing_unqueued (x == t)) (went_lined s t x h free)
 
-  action_lined : (s : State (ℕ → Seat L)) (action : Action) → row p.ops p.owner (seen (numbered p) s) action ≡ true → IsLined s → IsLined (after (numbered p) s action)
+  action_lined : (s : State (ℕ → Seat L)) (action : Action) → action_applies p.ops p.owner (seen (numbered p) s) action ≡ true → IsLined s → IsLined (after (numbered p) s action)
   action_lined s (Local t) c h = freed_lined p.ops.stepped s t h (live_unqueued (s.seats t).standing (split c).0)
   action_lined s (Arrive t) c h = arrive_lined s t h (split c).0 (p.ops.offer (s.seats t).local) (split c).1
   action_lined s (Start d) c h = start_lined s d h (p.ops.offer (s.seats d).local) c

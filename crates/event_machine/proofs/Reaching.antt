@@ -4,7 +4,7 @@ use Rattle.std.proofs.lemmas.Bool.{cases_lt, cases_Bool}
 use Rattle.event_machine.specs.declared.Standing.{Standing}
 use Rattle.event_machine.specs.declared.Standing.TheVariants.{Live, Waiting, Queued, Served, Completed, Killed}
 use Rattle.event_machine.specs.declared.Event.{Event}
-use Rattle.event_machine.specs.Seats.{Seat, State, is_live, is_closed, is_completed, is_served_by, is_queued}
+use Rattle.event_machine.specs.States.{Seat, State, is_live, is_closed, is_completed, is_served_by, is_queued}
 use Rattle.event_machine.specs.Lawful.{IsLawful}
 use Rattle.event_machine.specs.Runs.{IsRun, end_of, events_of, Feasible}
 use Rattle.event_machine.specs.Programs.{Program, numbered, IsOpening}

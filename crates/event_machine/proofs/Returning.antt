@@ -4,7 +4,7 @@ use Rattle.std.proofs.lemmas.Bool.{and_parts, and_right, and_left, cases_Bool, f
 use Rattle.event_machine.specs.declared.Standing.{Standing}
 use Rattle.event_machine.specs.declared.Standing.TheVariants.{Live, Waiting, Queued, Served, Completed, Killed}
 use Rattle.event_machine.specs.declared.Event.{Event}
-use Rattle.event_machine.specs.Seats.{Seat, is_live, is_closed, is_completed, is_served}
+use Rattle.event_machine.specs.States.{Seat, is_live, is_closed, is_completed, is_served}
 use Rattle.event_machine.specs.Lawful.{IsLawful}
 use Rattle.event_machine.specs.Programs.{Program}
 use Rattle.event_machine.specs.Worlds.{World, Move, Happen, still, happens, needs, changes, is_last, can_move, moved, AreMoves, world_after, happened, counts_after, recount}

@@ -5,9 +5,9 @@ use Rattle.event_machine.specs.declared.Standing.TheVariants.{Live, Waiting, Que
 use Rattle.event_machine.specs.declared.Action.{Action}
 use Rattle.event_machine.specs.declared.Action.TheVariants.{Local, Arrive, Start, Finish, Else, Delay, CallElse, Expire, Fail, Complete, Abort, End}
 use Rattle.event_machine.specs.declared.Event.{Event}
-use Rattle.event_machine.specs.Seats.{Seat, State}
+use Rattle.event_machine.specs.States.{Seat, State}
 use Rattle.event_machine.specs.Lawful.{IsLawful}
-use Rattle.event_machine.specs.Rows.{can}
+use Rattle.event_machine.specs.Applying.{can}
 use Rattle.event_machine.specs.Effects.{after, event_of}
 use Rattle.event_machine.specs.Runs.{end_of}
 use Rattle.event_machine.specs.Programs.{Program, numbered}

@@ -7,7 +7,7 @@ use Rattle.event_machine.specs.declared.Standing.TheVariants.{Live, Served, Comp
 use Rattle.event_machine.specs.declared.Event.{Event}
 use Rattle.event_machine.specs.declared.Event.TheVariants.{R, E, S, D, C, T, F, X, B, Z}
 use Rattle.event_machine.specs.Offers.{calls_in, is_any_form, waits_with, opens, is_end}
-use Rattle.event_machine.specs.Seats.{Seat, live, completed, is_live, is_closed, is_served_by, is_abnormal}
+use Rattle.event_machine.specs.States.{Seat, live, completed, is_live, is_closed, is_served_by, is_abnormal}
 use Rattle.event_machine.specs.Effects.{freed, stand, met_at, parted, released_first, parted_both, released, fallen, aborted, went_on, abort_seats}
 use Rattle.event_machine.specs.Lawful.{IsLawful, Keeps}
 use Rattle.event_machine.specs.Programs.{Program, numbered}

@@ -3,9 +3,9 @@ use Rattle.std.proofs.Common.{◌≡◌, ℕ, Bool, true, false, ◌==◌, cond,
 use Rattle.std.proofs.lemmas.Bool.{eqb-true}
 use Rattle.event_machine.specs.declared.Standing.{Standing}
 use Rattle.event_machine.specs.declared.Standing.TheVariants.{Live, Waiting, Queued, Served, Completed, Killed}
-use Rattle.event_machine.specs.Seats.{is_live, is_waiting, is_queued, is_closed, is_served, is_served_by, is_abnormal, is_completed}
+use Rattle.event_machine.specs.States.{is_live, is_waiting, is_queued, is_closed, is_served, is_served_by, is_abnormal, is_completed}
 use Rattle.event_machine.specs.Effects.{fallen}
-use Rattle.event_machine.specs.Rows.{is_first}
+use Rattle.event_machine.specs.Applying.{is_first}
 use Rattle.event_machine.specs.Worlds.{still}
 
 -- ---- standings

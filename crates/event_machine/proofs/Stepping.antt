@@ -1,7 +1,7 @@
 -- Local steps one after the other: after how many a task rests is a function of where it began.
 use Rattle.std.proofs.Common.{◌≡◌, ℕ, zero, suc, ◌<◌, ◌≤◌, true, sym, ◌∙◌, subst, ⊎_elim, true≢false, arith}
 use Rattle.std.proofs.lemmas.Bool.{cases_order, cases_lt}
-use Rattle.event_machine.specs.Seats.{Ops}
+use Rattle.event_machine.specs.States.{Ops}
 use Rattle.event_machine.specs.Settling.{ran, HasSteps, Settles}
 
 module _ {L : Type 0} (ops : Ops L) where

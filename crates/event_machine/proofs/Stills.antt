@@ -5,7 +5,7 @@ use Rattle.event_machine.specs.declared.Standing.{Standing}
 use Rattle.event_machine.specs.declared.Standing.TheVariants.{Live, Waiting, Queued, Served, Completed, Killed}
 use Rattle.event_machine.specs.declared.Event.{Event}
 use Rattle.event_machine.specs.declared.Event.TheVariants.{R, E, S, D, C, T, F, X, B, Z}
-use Rattle.event_machine.specs.Seats.{Ops, Seat, live, is_closed, is_completed, is_served_by}
+use Rattle.event_machine.specs.States.{Ops, Seat, live, is_closed, is_completed, is_served_by}
 use Rattle.event_machine.specs.Effects.{freed, stand, met_at, parted, released_first, parted_both, released, fallen, aborted, went_on, abort_seats}
 use Rattle.event_machine.specs.Programs.{Program, numbered}
 use Rattle.event_machine.specs.Worlds.{still, still_seat, acted, changes}

@@ -3,7 +3,7 @@ use Rattle.std.proofs.Common.{◌≡◌, ℕ, Bool, true, false, ◌==◌, if◌
 use Rattle.std.proofs.lemmas.Bool.{eqb-true}
 use Rattle.event_machine.specs.declared.Standing.{Standing}
 use Rattle.event_machine.specs.declared.Standing.TheVariants.{Live}
-use Rattle.event_machine.specs.Seats.{Seat, live}
+use Rattle.event_machine.specs.States.{Seat, live}
 use Rattle.event_machine.specs.Effects.{freed, stand}
 use Rattle.event_machine.specs.Programs.{Program, numbered}
 use Rattle.common_lemmas.proofs.Numbers.{equal_self}

@@ -4,7 +4,7 @@ use Rattle.std.specs.Prelude.{nat_lt}
 use Rattle.std.proofs.lemmas.Bool.{eqb-true, eqb-false, lt-ltb, le-ltb, ltb-false, cases_lt}
 use Rattle.event_machine.specs.declared.Standing.TheVariants.{Live}
 use Rattle.event_machine.specs.declared.Event.{Event}
-use Rattle.event_machine.specs.Seats.{Seat, live, is_live}
+use Rattle.event_machine.specs.States.{Seat, live, is_live}
 use Rattle.event_machine.specs.Lawful.{IsLawful}
 use Rattle.event_machine.specs.Programs.{Program}
 use Rattle.event_machine.specs.Worlds.{World, Move, Step, Happen, can_move, moved, AreMoves, world_after, happened, counts_after, recount}

@@ -3,7 +3,7 @@ use Rattle.std.specs.Prelude.{◌≡◌, ℕ, true, false}
 use Rattle.event_machine.specs.declared.Standing.TheVariants.{Live}
 use Rattle.event_machine.specs.declared.Event.{Event}
 use Rattle.event_machine.specs.declared.Event.TheVariants.{R, E, S, D, C, T, F, X, B, Z}
-use Rattle.event_machine.specs.Seats.{Seat, is_closed, is_served, is_served_by}
+use Rattle.event_machine.specs.States.{Seat, is_closed, is_served, is_served_by}
 
 -- The parties are free, and serve somebody or nobody, as the event asks; before the end of the program nobody is served.
 abbrev pub IsAdmitted : {L : Type 0} → (ℕ → ℕ) → (ℕ → Seat L) → Event → Type 0

@@ -7,7 +7,7 @@ use Rattle.event_machine.specs.declared.Action.TheVariants.{Local, Arrive, Start
 use Rattle.event_machine.specs.declared.Event.{Event}
 use Rattle.event_machine.specs.declared.Event.TheVariants.{R, E, S, D, C as CallElseEvent, T as ExpireEvent, F, X, B, Z}
 use Rattle.event_machine.specs.Offers.{Offer, Nothing, Calls, Waits, Finishes, Ends, Aborts, aborted_by}
-use Rattle.event_machine.specs.Seats.{Ops, Seat, State, Store, Rules, live, completed, is_closed, is_abnormal, is_served_by}
+use Rattle.event_machine.specs.States.{Ops, Seat, State, Store, Rules, live, completed, is_closed, is_abnormal, is_served_by}
 
 -- the line without c
 abbrev pub without : ℕ → List ℕ → List ℕ

@@ -1,7 +1,7 @@
 -- What the laws use of one task: that a task with a local step offers nothing, and how its callers come and go (9.5).
 use Rattle.std.specs.Prelude.{◌≡◌, ℕ, ℤ, true, [], ◌∷◌}
 use Rattle.event_machine.specs.Offers.{Nothing, Finishes, Ends, waits_with, opens}
-use Rattle.event_machine.specs.Seats.{Ops}
+use Rattle.event_machine.specs.States.{Ops}
 
 -- The state is proper still, with the same callers.
 abbrev pub Keeps : {L : Type 0} → Ops L → (L → Type 0) → L → L → Type 0

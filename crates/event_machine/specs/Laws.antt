@@ -4,8 +4,8 @@ use Rattle.event_machine.specs.declared.Standing.TheVariants.{Live, Completed, K
 use Rattle.event_machine.specs.declared.Action.{Action}
 use Rattle.event_machine.specs.declared.Event.{Event}
 use Rattle.event_machine.specs.declared.Event.TheVariants.{B}
-use Rattle.event_machine.specs.Seats.{Ops, Seat, State, Rules, is_live, is_served, is_completed}
-use Rattle.event_machine.specs.Rows.{can}
+use Rattle.event_machine.specs.States.{Ops, Seat, State, Rules, is_live, is_served, is_completed}
+use Rattle.event_machine.specs.Applying.{can}
 use Rattle.event_machine.specs.Effects.{event_of, after}
 use Rattle.event_machine.specs.Runs.{IsRun, end_of, events_of, Feasible}
 use Rattle.event_machine.specs.Programs.{Program, numbered, listed, by_number}

@@ -1,6 +1,6 @@
 pub mod Offers
-pub mod Seats
-pub mod Rows
+pub mod States
+pub mod Applying
 pub mod Effects
 pub mod Runs
 pub mod Lawful

@@ -1,7 +1,7 @@
 -- One program with its tasks in a list or by their numbers, and each state of the one as a state of the other.
 use Rattle.std.specs.Prelude.{◌≡◌, ℕ, ◌<◌, ◌≤◌, false, List, [], slice_index_or}
 use Rattle.event_machine.specs.declared.Standing.TheVariants.{Live, Completed}
-use Rattle.event_machine.specs.Seats.{Ops, Seat, State, Rules, on_list, on_numbers, completed}
+use Rattle.event_machine.specs.States.{Ops, Seat, State, Rules, on_list, on_numbers, completed}
 
 -- A program: what its tasks do, which task owns each entry, and how many tasks there are.
 pub record Program (L : Type 0) : Type 0 where

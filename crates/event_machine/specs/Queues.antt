@@ -3,7 +3,7 @@ use Rattle.std.specs.Prelude.{◌≡◌, ℕ, Bool, true, false, if◌then◌els
 use Rattle.event_machine.specs.declared.Standing.{Standing}
 use Rattle.event_machine.specs.declared.Standing.TheVariants.{Live, Waiting, Queued, Served, Completed, Killed}
 use Rattle.event_machine.specs.Offers.{Offer, Nothing, Calls, Waits, Finishes, Ends, Aborts, queues_up}
-use Rattle.event_machine.specs.Seats.{Ops, Seat, State, is_queued}
+use Rattle.event_machine.specs.States.{Ops, Seat, State, is_queued}
 use Rattle.event_machine.specs.Soundness.{times}
 
 abbrev pub is_wait : Offer → Bool

@@ -2,8 +2,8 @@
 use Rattle.std.specs.Prelude.{◌≡◌, true, List, [], ◌∷◌, ◌++◌, option_to_list}
 use Rattle.event_machine.specs.declared.Action.{Action}
 use Rattle.event_machine.specs.declared.Event.{Event}
-use Rattle.event_machine.specs.Seats.{Rules, State}
-use Rattle.event_machine.specs.Rows.{can}
+use Rattle.event_machine.specs.States.{Rules, State}
+use Rattle.event_machine.specs.Applying.{can}
 use Rattle.event_machine.specs.Effects.{after, event_of}
 
 -- All actions apply, one after the other, from the state.

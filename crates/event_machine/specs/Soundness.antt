@@ -1,6 +1,6 @@
 -- Who serves whom: the callers of a task that is not closed are the tasks that it serves, each once, and a closed task serves nobody (9.5).
 use Rattle.std.specs.Prelude.{◌≡◌, ℕ, ◌+◌, true, false, ◌==◌, if◌then◌else◌, List, [], ◌∷◌}
-use Rattle.event_machine.specs.Seats.{Ops, Seat, is_closed, is_served_by}
+use Rattle.event_machine.specs.States.{Ops, Seat, is_closed, is_served_by}
 
 -- how often c stands in the list
 abbrev pub times : ℕ → List ℕ → ℕ

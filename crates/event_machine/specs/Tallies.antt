@@ -6,7 +6,7 @@ use Rattle.event_machine.specs.declared.Action.{Action}
 use Rattle.event_machine.specs.declared.Action.TheVariants.{Local, Arrive, Start, Finish, Else, Delay, CallElse, Expire, Fail, Complete, Abort, End}
 use Rattle.event_machine.specs.declared.Event.{Event}
 use Rattle.event_machine.specs.declared.Event.TheVariants.{R, E, S, D, C, T, F, X, B, Z}
-use Rattle.event_machine.specs.Seats.{Ops, Seat, State, Rules, live}
+use Rattle.event_machine.specs.States.{Ops, Seat, State, Rules, live}
 use Rattle.event_machine.specs.Effects.{event_of, after}
 use Rattle.event_machine.specs.Runs.{IsRun, end_of, events_of}
 use Rattle.event_machine.specs.Programs.{task_of}

@@ -6,8 +6,8 @@ use Rattle.event_machine.specs.declared.Standing.TheVariants.{Live, Waiting, Que
 use Rattle.event_machine.specs.declared.Event.{Event}
 use Rattle.event_machine.specs.declared.Event.TheVariants.{R, E, S, D, C, T, F, X, B, Z}
 use Rattle.event_machine.specs.Offers.{Offer, Nothing, Calls, Waits, Finishes, Ends, Aborts, calls_in, is_any_form, is_conditional, is_timed, waits_with, is_finish, is_end, opens, is_else, is_delay, is_terminate}
-use Rattle.event_machine.specs.Seats.{Ops, Seat, State, Rules, is_live, is_completed, is_closed, is_served_by}
-use Rattle.event_machine.specs.Rows.{is_first}
+use Rattle.event_machine.specs.States.{Ops, Seat, State, Rules, is_live, is_completed, is_closed, is_served_by}
+use Rattle.event_machine.specs.Applying.{is_first}
 use Rattle.event_machine.specs.Effects.{freed, stand, met_at, parted_both, abort_seats}
 use Rattle.event_machine.specs.Programs.{Program, numbered}
 

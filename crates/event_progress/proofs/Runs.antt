@@ -5,7 +5,7 @@ use Rattle.std.proofs.lemmas.List.{get_or_past}
 use Rattle.event_machine.specs.declared.Standing.{Standing}
 use Rattle.event_machine.specs.declared.Standing.TheVariants.{Live, Completed}
 use Rattle.event_machine.specs.declared.Event.{Event}
-use Rattle.event_machine.specs.Seats.{Ops, Seat, State, completed, is_completed}
+use Rattle.event_machine.specs.States.{Ops, Seat, State, completed, is_completed}
 use Rattle.event_machine.specs.Lawful.{IsLawful}
 use Rattle.event_machine.specs.Runs.{Feasible, end_of}
 use Rattle.event_machine.specs.Programs.{Program, numbered, listed, by_number, IsOpening}

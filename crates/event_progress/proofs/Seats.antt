@@ -2,7 +2,7 @@
 use Rattle.std.proofs.Common.{◌≡◌, ℕ, Bool, true, false, ◌==◌, if◌then◌else◌, List, [], None, refl, sym, ap, ◌∙◌, true≢false}
 use Rattle.event_machine.specs.declared.Standing.{Standing}
 use Rattle.event_machine.specs.declared.Standing.TheVariants.{Live, Waiting, Queued, Served, Completed, Killed}
-use Rattle.event_machine.specs.Seats.{Ops, Seat, live, completed, is_closed, is_served_by}
+use Rattle.event_machine.specs.States.{Ops, Seat, live, completed, is_closed, is_served_by}
 use Rattle.event_machine.specs.Effects.{parted, released, fallen}
 use Rattle.event_machine.specs.Worlds.{still}
 use Rattle.event_progress.specs.Known.{Party, with_server, let_go}

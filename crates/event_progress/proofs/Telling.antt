@@ -8,7 +8,7 @@ use Rattle.event_machine.specs.declared.Standing.TheVariants.{Live, Waiting, Que
 use Rattle.event_machine.specs.declared.Event.{Event}
 use Rattle.event_machine.specs.declared.Event.TheVariants.{R, E, S, D, C, T, F, X, B, Z}
 use Rattle.event_machine.specs.Offers.{calls_in, is_any_form, is_conditional, is_timed, waits_with, opens, is_finish, is_else, is_delay, is_end}
-use Rattle.event_machine.specs.Seats.{Ops, Seat, live, is_live, is_closed, is_served_by}
+use Rattle.event_machine.specs.States.{Ops, Seat, live, is_live, is_closed, is_served_by}
 use Rattle.event_machine.specs.Effects.{freed, parted, released_first, released, fallen, aborted, went_on}
 use Rattle.event_machine.specs.Lawful.{IsLawful}
 use Rattle.event_machine.specs.Programs.{Program, numbered}

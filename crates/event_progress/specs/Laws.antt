@@ -3,7 +3,7 @@ use Rattle.std.specs.Prelude.{◌≡◌, ℕ, ◌<◌, Bool, true, if◌then◌e
 use Rattle.event_machine.specs.declared.Standing.{Standing}
 use Rattle.event_machine.specs.declared.Standing.TheVariants.{Live, Waiting, Queued, Served, Completed, Killed}
 use Rattle.event_machine.specs.declared.Event.{Event}
-use Rattle.event_machine.specs.Seats.{Ops, Seat, State, completed, is_closed}
+use Rattle.event_machine.specs.States.{Ops, Seat, State, completed, is_closed}
 use Rattle.event_machine.specs.Lawful.{IsLawful}
 use Rattle.event_machine.specs.Programs.{Program, listed, IsOpening}
 use Rattle.event_machine.specs.Runs.{Feasible}

@@ -7,7 +7,7 @@ use Rattle.std.proofs.lemmas.List.Elements.{All-weaker}
 use Rattle.std.proofs.Math.Seq.{take-length, take-append_seam}
 use Rattle.ada_tree.specs.declared.shortage.Memory.{Memory}
 use Rattle.event_machine.specs.declared.Event.{Event}
-use Rattle.event_machine.specs.Seats.{is_live}
+use Rattle.event_machine.specs.States.{is_live}
 use Rattle.event_machine.specs.Tallies.{HasNoEnd}
 use Rattle.event_machine.specs.Worlds.{is_last}
 use Rattle.syn_event.specs.Numbering.{Numbering}

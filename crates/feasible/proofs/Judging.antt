@@ -5,7 +5,7 @@ use Rattle.std.proofs.lemmas.List.Elements.{All-weaker}
 use Rattle.event_machine.specs.declared.Event.{Event}
 use Rattle.event_machine.specs.declared.Standing.{Standing}
 use Rattle.event_machine.specs.declared.Standing.TheVariants.{Live, Waiting, Queued, Served, Completed, Killed}
-use Rattle.event_machine.specs.Seats.{Seat, is_live, is_closed}
+use Rattle.event_machine.specs.States.{Seat, is_live, is_closed}
 use Rattle.event_machine.specs.Programs.{Program, numbered, by_number}
 use Rattle.event_machine.specs.Settling.{ran, HasSteps, CountsFor, IsRunOn, Follows, Fires}
 use Rattle.event_machine.specs.Soundness.{IsSound}

@@ -3,7 +3,7 @@ use Rattle.std.proofs.Common.{◌≡◌, ℕ, Bool, true, false, ◌||◌, ◌==
 use Rattle.std.specs.Prelude.{slice_index}
 use Rattle.std.proofs.lemmas.Bool.{eqb-true, eqb-false, eq-eqb, ne_eqb, cases_lt}
 use Rattle.std.proofs.lemmas.List.{get_or-set_same, get_or-set_other, get_or_past, length-set}
-use Rattle.event_machine.specs.Rows.{is_first}
+use Rattle.event_machine.specs.Applying.{is_first}
 use Rattle.feasible.specs.inner.Recounts.{BeginAnew}
 
 -- one count begins anew

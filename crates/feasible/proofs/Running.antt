@@ -4,7 +4,7 @@ use Rattle.std.specs.Prelude.{All, slice_index}
 use Rattle.std.proofs.lemmas.Bool.{eqb-true, eqb-false, cases_lt}
 use Rattle.std.proofs.lemmas.List.{get_or-set_same, get_or-set_other, get_or_past, length-set}
 use Rattle.std.proofs.lemmas.List.Elements.{All-nil, All-cons, All-push, All-weaker}
-use Rattle.event_machine.specs.Seats.{Seat, is_live, completed}
+use Rattle.event_machine.specs.States.{Seat, is_live, completed}
 use Rattle.event_machine.specs.Settling.{ran, HasSteps}
 use Rattle.event_machine.proofs.Basics.{seat_path}
 use Rattle.event_machine.proofs.Stepping.{settles_most}

@@ -5,7 +5,7 @@ use Rattle.event_machine.specs.declared.Event.TheVariants.{Z}
 use Rattle.event_machine.specs.declared.Standing.{Standing}
 use Rattle.event_machine.specs.declared.Standing.TheVariants as z
 use Rattle.event_machine.specs.Programs.{Program, numbered}
-use Rattle.event_machine.specs.Seats.{Ops, Seat, is_closed, is_abnormal}
+use Rattle.event_machine.specs.States.{Ops, Seat, is_closed, is_abnormal}
 use Rattle.event_machine.specs.Settling.{Fires, Leads, IsRunOn, run_on}
 use Rattle.event_machine.specs.Tallies.{RestIs, StandsAfter, before_end}
 use Rattle.event_machine.specs.Worlds.{World, acted, changes, is_last}

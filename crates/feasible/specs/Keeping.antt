@@ -1,7 +1,7 @@
 -- For which list of events what a judge keeps stands (this project's rule).
 use Rattle.std.specs.Prelude.{◌≡◌, ℕ, ◌+◌, ◌<◌, ◌≤◌, Bool, true, false, List, [], ◌∷◌, length, take, slice_index, ⊤}
 use Rattle.event_machine.specs.declared.Event.{Event}
-use Rattle.event_machine.specs.Seats.{is_live}
+use Rattle.event_machine.specs.States.{is_live}
 use Rattle.event_machine.specs.Settling.{Leads, Follows}
 use Rattle.event_machine.specs.Worlds.{World, is_last}
 use Rattle.syn_event.specs.Numbering.{Numbering}

@@ -1,7 +1,7 @@
 -- What a judge shows of a task.
 use Rattle.std.specs.Prelude.{◌≡◌, ℕ, List}
 use Rattle.event_machine.specs.declared.Event.{Event}
-use Rattle.event_machine.specs.Seats.{is_closed}
+use Rattle.event_machine.specs.States.{is_closed}
 use Rattle.syn_event.specs.Numbering.{Numbering}
 use Rattle.task_model.specs.Machine.{Setup}
 use Rattle.task_local.specs.OfferView.{offer_as}

@@ -10,7 +10,7 @@ ghost use Rattle.feasible.specs.Failing.{why, first_of, act_fails, closed_fails,
 use event_machine::{CallForm, Event, Standing};
 use syn_event::Numbers;
 use task_local::Offer;
-use task_machine::rows::{
+use task_machine::applying::{
     calls_member, ends, finishes, has_delay, has_else, has_terminate, opens_member,
 };
 use task_machine::seats::{Seat, offer_at, standing_at};

@@ -1,8 +1,8 @@
 // What an event does to the tasks and to their counts.
 
-ghost use Rattle.std.specs.Prelude.{◌≡◌, ℕ, slice_set, slice_index, length, if◌then◌else◌, None, OnOk};
+ghost use Rattle.std.specs.Prelude.{◌≡◌, slice_set, length, None, OnOk};
 ghost use Rattle.event_machine.specs.Worlds.{acted};
-ghost use Rattle.event_machine.specs.Seats.{is_served_by};
+ghost use Rattle.event_machine.specs.States.{is_served_by};
 ghost use Rattle.task_model.specs.Machine.{rules_of};
 ghost use Rattle.task_machine.specs.Table.{seat_of};
 ghost use Rattle.feasible.specs.Failing.{asked};

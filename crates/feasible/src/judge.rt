@@ -1,6 +1,6 @@
 // The judge.
 
-ghost use Rattle.std.specs.Prelude.{◌≡◌, ◌≢◌, ◌≤◌, ◌<◌, ◌+◌, ◌^◌, ◌++◌, ◌∷◌, [], ℕ, List, true, false, ◌||◌, length, take, slice_index, All, IsErr, IfOk, OnOk, OnErr};
+ghost use Rattle.std.specs.Prelude.{◌≡◌, ◌≤◌, ◌<◌, ◌+◌, ◌^◌, ◌++◌, ◌∷◌, [], ℕ, List, true, false, ◌||◌, length, take, slice_index, All, IsErr, IfOk, OnOk, OnErr};
 ghost use Rattle.ada_tree.specs.PlainProgram.{plain_program};
 ghost use Rattle.event_machine.specs.declared.Event as event;
 ghost use Rattle.event_machine.specs.Tallies.{HasNoEnd};
@@ -45,7 +45,7 @@ pub struct Judge<'p> {
 }
 
 impl<'p> Model for Judge<'p> {
-    ghost use Rattle.std.specs.Prelude.{◌≡◌, ◌<◌, length, vec_len};
+    ghost use Rattle.std.specs.Prelude.{◌≡◌, ◌<◌, length};
     ghost use Rattle.std.specs.Coded.{codes};
     ghost use Rattle.ada_tree.proofs.Codes.{tree_codes};
     ghost use Rattle.task_links.specs.inner.SettingCode.{coded_setting};

@@ -1,6 +1,6 @@
 // Running tasks on to where they can do something with others.
 
-ghost use Rattle.std.specs.Prelude.{◌≡◌, ◌≤◌, ◌<◌, ◌^◌, ◌∷◌, [], pred, not, true, false, length, slice_index, IfOk, OnOk};
+ghost use Rattle.std.specs.Prelude.{◌≡◌, ◌≤◌, ◌<◌, ◌^◌, ◌∷◌, [], pred, not, true, false, length, IfOk, OnOk};
 ghost use Rattle.task_model.specs.Stands.{can_step};
 ghost use Rattle.task_machine.specs.Conditions.{needed_of, tasks_to};
 ghost use Rattle.feasible.specs.Keeping.{IsSettled};

@@ -1,7 +1,7 @@
 -- The law as it is told, and that its premises are met.
 use Rattle.std.proofs.Common.{not, ◌&&◌, refl, ap, ap₂, ◌∙◌}
 use Rattle.std.proofs.lemmas.Bool.{and_parts}
-use Rattle.event_machine.specs.Seats.{is_live}
+use Rattle.event_machine.specs.States.{is_live}
 use Rattle.imitation_law.specs.Imitations.{local_at}
 use Rattle.imitation_law.specs.Told.{LawOfImitation, MetByAll, Meeting, original}
 use Rattle.imitation_law.proofs.Showing.{all_forth, all_back}

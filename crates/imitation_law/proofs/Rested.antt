@@ -5,7 +5,7 @@ use Rattle.std.proofs.lemmas.Bool.{eqb-true, and_parts, le-leb}
 use Rattle.event_machine.specs.declared.Standing.TheVariants.{Live}
 use Rattle.event_machine.specs.declared.Event.TheVariants.{R, E, S, D, C, T, F, X, B, Z}
 use Rattle.event_machine.specs.Offers.{Nothing}
-use Rattle.event_machine.specs.Seats.{Seat, live, is_live, is_completed}
+use Rattle.event_machine.specs.States.{Seat, live, is_live, is_completed}
 use Rattle.event_machine.specs.Programs.{Program}
 use Rattle.event_machine.specs.Queues.{IsSuited}
 use Rattle.event_machine.specs.Laws.{IsQuiet}

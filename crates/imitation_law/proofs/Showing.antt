@@ -5,7 +5,7 @@ use Rattle.event_machine.specs.declared.Standing.{Standing}
 use Rattle.event_machine.specs.declared.Standing.TheVariants.{Live, Completed}
 use Rattle.event_machine.specs.declared.Action.{Action}
 use Rattle.event_machine.specs.declared.Event.{Event}
-use Rattle.event_machine.specs.Seats.{Ops, Seat, State, is_completed}
+use Rattle.event_machine.specs.States.{Ops, Seat, State, is_completed}
 use Rattle.event_machine.specs.Runs.{IsRun, end_of, events_of}
 use Rattle.event_machine.specs.Programs.{Program, numbered}
 use Rattle.event_machine.specs.Queues.{suits, IsSuited}

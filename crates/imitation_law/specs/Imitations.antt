@@ -3,7 +3,7 @@ use Rattle.std.specs.Prelude.{◌≡◌, ℕ, ℤ, ◌<◌, ◌≤◌, true, fal
 use Rattle.event_machine.specs.declared.Standing.TheVariants.{Live, Completed, Served}
 use Rattle.event_machine.specs.declared.Event.TheVariants.{R, E, S, D, C, T, F, B}
 use Rattle.event_machine.specs.Offers.{Nothing}
-use Rattle.event_machine.specs.Seats.{Ops, Seat, State}
+use Rattle.event_machine.specs.States.{Ops, Seat, State}
 use Rattle.event_machine.specs.Lawful.{IsLawful}
 use Rattle.event_machine.specs.Programs.{Program, numbered, IsOpening}
 use Rattle.event_machine.specs.Soundness.{IsSound}

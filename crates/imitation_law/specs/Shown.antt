@@ -1,7 +1,7 @@
 -- What the runs of two programs have in common (this project's rule).
 use Rattle.std.specs.Prelude.{◌≡◌, ℕ, ◌<◌, List}
 use Rattle.event_machine.specs.declared.Action.{Action}
-use Rattle.event_machine.specs.Seats.{Seat, State}
+use Rattle.event_machine.specs.States.{Seat, State}
 use Rattle.event_machine.specs.Runs.{IsRun, end_of, events_of}
 use Rattle.event_machine.specs.Programs.{Program, numbered}
 use Rattle.event_machine.specs.Laws.{IsQuiet}

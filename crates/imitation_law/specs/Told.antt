@@ -1,6 +1,6 @@
 -- The law as it is told: over all programs with states of these types (this project's rule).
 use Rattle.std.specs.Prelude.{◌≡◌, ℕ, ◌<◌, Bool, true, List}
-use Rattle.event_machine.specs.Seats.{Ops, Seat, State}
+use Rattle.event_machine.specs.States.{Ops, Seat, State}
 use Rattle.event_machine.specs.Lawful.{IsLawful}
 use Rattle.event_machine.specs.Programs.{Program, numbered, IsOpening}
 use Rattle.event_machine.specs.Soundness.{IsSound}

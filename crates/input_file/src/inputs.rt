@@ -1,6 +1,6 @@
 // Reading an input file.
 
-ghost use Rattle.std.specs.Prelude.{◌≡◌, ◌≢◌, ◌<◌, ◌≤◌, ◌+◌, ◌-◌, ◌^◌, ◌++◌, [], ◌∷◌, ℕ, ℤ, List, length, IfOk, IfErr, MatchResult, true, Option, Some, None, option_map, option_and_then, if◌then◌else◌};
+ghost use Rattle.std.specs.Prelude.{◌≡◌, ◌≢◌, ◌<◌, ◌+◌, ◌-◌, ◌^◌, ◌++◌, [], ◌∷◌, ℕ, ℤ, List, length, IfOk, IfErr, MatchResult, true, Option, Some, None, option_map, option_and_then, if◌then◌else◌};
 ghost use Rattle.syn_event.specs.Numbering.{Numbering};
 ghost use Rattle.text_lines.specs.LineFiles.{HasFirstFault};
 ghost use Rattle.text_lines.specs.Lines.{first_line, all_of, words_of, with_two};
@@ -8,7 +8,7 @@ ghost use Rattle.text_lines.specs.Numerals.{count, small_integer};
 ghost use Rattle.text_lines.specs.Capped.{capped};
 ghost use Rattle.input_file.specs.declared.errors.InputError.{InputError};
 ghost use Rattle.input_file.specs.declared.errors.InputError.TheVariants.{Memory};
-ghost use Rattle.input_file.specs.InputFiles.{InputLine, most_inputs, input_with, input_format, input_fault, input_of_line, InputsRead};
+ghost use Rattle.input_file.specs.InputFiles.{InputLine, input_with, input_format, input_fault, input_of_line, InputsRead};
 ghost use Rattle.input_file.specs.inner.NextLines.{IsNextInputs};
 ghost use Rattle.input_file.specs.inner.Tables.{IsTableOf, plain_line, capped_line};
 

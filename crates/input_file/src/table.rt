@@ -1,6 +1,6 @@
 // The inputs of all tasks, by the number of the task.
 
-ghost use Rattle.std.specs.Prelude.{◌≡◌, ◌<◌, ◌≤◌, ◌+◌, ◌^◌, ◌++◌, [], ◌∷◌, ℕ, ℤ, List, length, map, replicate, nat_le, true, false, slice_set, IfOk, IfErr, Some, None, slice_index_or};
+ghost use Rattle.std.specs.Prelude.{◌≡◌, ◌<◌, ◌≤◌, ◌+◌, ◌^◌, ◌++◌, [], ◌∷◌, List, length, map, replicate, nat_le, true, false, slice_set, IfOk, IfErr, Some, None, slice_index_or};
 ghost use Rattle.syn_event.specs.Numbering.{Numbering};
 ghost use Rattle.input_file.specs.declared.errors.InputError.TheVariants.{Memory};
 ghost use Rattle.input_file.specs.InputFiles.{InputLine, AreListsOf, most_inputs, input_fault};

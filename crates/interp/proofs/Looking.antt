@@ -13,8 +13,8 @@ use Rattle.event_machine.specs.declared.Action.TheVariants.{Local, Arrive, Start
 use Rattle.event_machine.specs.Effects.{after}
 use Rattle.event_machine.specs.Offers.{Offer, Nothing, Calls, Waits, Finishes, Ends, Aborts, is_conditional, is_timed, is_any_form, waits_with, is_else, is_delay, is_end}
 use Rattle.event_machine.specs.Programs.{Program, listed}
-use Rattle.event_machine.specs.Rows.{row, can, arrives, starts, has_caller, has_no_caller, calls_owner, same, others_can_end, can_end, rows_of, rows_below, enabled_of}
-use Rattle.event_machine.specs.Seats.{Ops, Seat, State, Rules, Seen, seen, live, completed, is_live, is_waiting, is_queued, is_completed}
+use Rattle.event_machine.specs.Applying.{action_applies, can, arrives, starts, has_caller, has_no_caller, calls_owner, same, others_can_end, can_end, actions_of, actions_below, enabled_of}
+use Rattle.event_machine.specs.States.{Ops, Seat, State, Rules, Seen, seen, live, completed, is_live, is_waiting, is_queued, is_completed}
 use Rattle.event_machine.proofs.Basics.{split}
 use Rattle.event_machine.proofs.Listing.{in_list}
 use Rattle.event_machine.proofs.Standings.{is-Live}
@@ -43,7 +43,7 @@ look_ops = record {
 
 -- the enabled list of what is looked at
 abbrev enabled_in : (ℕ → ℕ) → Seen Look → Bool → List Action
-enabled_in owner s ended = filter (λ a. not ended && row look_ops owner s a) (rows_below look_ops s s.size ++ End ∷ [])
+enabled_in owner s ended = filter (λ a. not ended && action_applies look_ops owner s a) (actions_below look_ops s s.size ++ End ∷ [])
 
 module _ {L : Type 0} (ops : Ops L) where
   abbrev pub look : Seat L → Seat Look
@@ -92,33 +92,33 @@ module _ {L : Type 0} (ops : Ops L) where
   others_looked s zero = refl
   others_looked s (suc n) = ap (λ b. b && can_end ops (s.tasks (suc n))) (others_looked s n)
 
-  row_looked : (owner : ℕ → ℕ) (s : Seen L) (action : Action) → row ops owner s action ≡ row look_ops owner (looked s) action
-  row_looked owner s (Local t) = refl
-  row_looked owner s (Arrive t) = λ i. is_live (s.tasks t).standing && arrives_looked owner s (ops.offer (s.tasks t).local) i
-  row_looked owner s (Start c) = starts_looked owner s c (ops.offer (s.tasks c).local)
-  row_looked owner s (Finish a) = refl
-  row_looked owner s (Else a) =
+  applies_looked : (owner : ℕ → ℕ) (s : Seen L) (action : Action) → action_applies ops owner s action ≡ action_applies look_ops owner (looked s) action
+  applies_looked owner s (Local t) = refl
+  applies_looked owner s (Arrive t) = λ i. is_live (s.tasks t).standing && arrives_looked owner s (ops.offer (s.tasks t).local) i
+  applies_looked owner s (Start c) = starts_looked owner s c (ops.offer (s.tasks c).local)
+  applies_looked owner s (Finish a) = refl
+  applies_looked owner s (Else a) =
       λ i. is_waiting (s.tasks a).standing && (waits_with is_else (ops.offer (s.tasks a).local) && no_caller_looked s (ops.offer (s.tasks a).local) i)
-  row_looked owner s (Delay a k) =
+  applies_looked owner s (Delay a k) =
       λ i. is_waiting (s.tasks a).standing && (waits_with (is_delay k) (ops.offer (s.tasks a).local) && no_caller_looked s (ops.offer (s.tasks a).local) i)
-  row_looked owner s (CallElse c) =
+  applies_looked owner s (CallElse c) =
       let o : Offer = ops.offer (s.tasks c).local in
       λ i. is_live (s.tasks c).standing && (owner_looked is_conditional not owner s o i && not (starts_looked owner s c o i))
-  row_looked owner s (Expire c) = λ i. is_queued (s.tasks c).standing && owner_looked is_timed not owner s (ops.offer (s.tasks c).local) i
-  row_looked owner s (Fail c) =
+  applies_looked owner s (Expire c) = λ i. is_queued (s.tasks c).standing && owner_looked is_timed not owner s (ops.offer (s.tasks c).local) i
+  applies_looked owner s (Fail c) =
       λ i. (is_live (s.tasks c).standing || is_queued (s.tasks c).standing) && owner_looked is_any_form same owner s (ops.offer (s.tasks c).local) i
-  row_looked owner s (Complete a) = refl
-  row_looked owner s (Abort t) = refl
-  row_looked owner s End = λ i. is_live (s.tasks 0).standing && (is_end (ops.offer (s.tasks 0).local) && others_looked s (pred s.size) i)
+  applies_looked owner s (Complete a) = refl
+  applies_looked owner s (Abort t) = refl
+  applies_looked owner s End = λ i. is_live (s.tasks 0).standing && (is_end (ops.offer (s.tasks 0).local) && others_looked s (pred s.size) i)
 
-  rows_looked : (s : Seen L) (n : ℕ) → rows_below ops s n ≡ rows_below look_ops (looked s) n
-  rows_looked s zero = refl
-  rows_looked s (suc n) = ap (λ actions. actions ++ rows_of ops s n) (rows_looked s n)
+  actions_looked : (s : Seen L) (n : ℕ) → actions_below ops s n ≡ actions_below look_ops (looked s) n
+  actions_looked s zero = refl
+  actions_looked s (suc n) = ap (λ actions. actions ++ actions_of ops s n) (actions_looked s n)
 
 -- The enabled list goes by what is looked at.
 enabled_looked : {L C : Type 0} (rules : Rules L C) (s : State C) → enabled_of rules s ≡ enabled_in rules.owner (looked rules.ops (seen rules s)) s.ended
 enabled_looked rules s =
-    λ i. filter (λ a. not s.ended && row_looked rules.ops rules.owner (seen rules s) a i) (rows_looked rules.ops (seen rules s) (seen rules s).size i ++ End ∷ [])
+    λ i. filter (λ a. not s.ended && applies_looked rules.ops rules.owner (seen rules s) a i) (actions_looked rules.ops (seen rules s) (seen rules s).size i ++ End ∷ [])
 
 -- Two states in which each task looks the same.
 pub record LookSame {L C : Type 0} (rules : Rules L C) (s s' : State C) : Type 0 where

@@ -8,7 +8,7 @@ use Rattle.event_machine.specs.declared.Action.{Action}
 use Rattle.event_machine.specs.declared.Action.TheVariants.{End}
 use Rattle.event_machine.specs.declared.Event.{Event}
 use Rattle.syn_event.specs.Numbering.{Numbering}
-use Rattle.event_machine.specs.Rows.{rows_below}
+use Rattle.event_machine.specs.Applying.{actions_below}
 use Rattle.task_model.specs.TaskOps.{task_ops}
 use Rattle.task_model.specs.Machine.{Whole, enabled_of, after, event_of}
 use Rattle.task_machine.specs.Table.{can, seen_in}
@@ -56,7 +56,7 @@ passes_filter p (x ∷ xs) k d h = passes_cond p (p x) x (filter p xs) k d refl 
 -- the picked action applies
 pub picked_applies : (m : Whole) (word : ℕ) → 0 < length (enabled_of m) → can m (picked_action m word) ≡ true
 picked_applies m word some =
-    passes_filter (can m) (rows_below task_ops (seen_in m.state.seats m.state.line) (length m.state.seats) ++ End ∷ []) (word % length (enabled_of m)) End
+    passes_filter (can m) (actions_below task_ops (seen_in m.state.seats m.state.line) (length m.state.seats) ++ End ∷ []) (word % length (enabled_of m)) End
     (mod-lt word some)
 
 -- the action that was picked from the list

@@ -1,6 +1,6 @@
 // The run loop.
 
-ghost use Rattle.std.specs.Prelude.{◌≡◌, ◌≤◌, IfOk, IfErr, OnOk, OnErr, IsErrOf, option_to_list, None, length, slice_index_or, ◌<◌, ◌^◌, ◌%◌, true};
+ghost use Rattle.std.specs.Prelude.{◌≡◌, IfOk, IfErr, OnOk, OnErr, IsErrOf, option_to_list, None, length, slice_index_or, ◌<◌, ◌^◌, ◌%◌, true};
 ghost use Rattle.event_machine.specs.declared.Action.TheVariants.{End};
 ghost use Rattle.ded_io.specs.Counts.{Rose, HasCause};
 ghost use Rattle.ded_io.specs.Written.{Wrote, appended};

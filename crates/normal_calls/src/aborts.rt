@@ -1,14 +1,14 @@
 // Abort statements, one for each name.
 
-ghost use Rattle.std.specs.Prelude.{◌≡◌, [], OnOk, map};
+ghost use Rattle.std.specs.Prelude.{◌≡◌, OnOk, map};
 ghost use Rattle.ada_tree.specs.PlainStmt.{plain_callee, seen};
 ghost use Rattle.task_model.specs.Frames.{in_front};
 ghost use Rattle.normal_model.specs.Aborts.{abort_image, abort_of, callee_aborted, callees_aborted};
 ghost use Rattle.normal_model.specs.Members.{chosen};
 
+use crate::call_forms::known_callee;
 use crate::calls::push_callee_index;
-use crate::forms::known_callee;
-use crate::members::abort_by_member;
+use crate::member_branches::abort_by_member;
 use crate::numbers::behind_callee;
 use ada_stmt_copy::building::abort_of;
 use ada_tree::{Callee, Memory, Span, Stmt};

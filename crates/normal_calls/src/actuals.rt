@@ -10,9 +10,10 @@ ghost use Rattle.normal_calls.specs.inner.Modes.{modes_before, modes_behind};
 
 use crate::called::{actuals_called, modes_called};
 use crate::numbers::{actual_number, number_at};
-use ada_tree::{Call, Expr, ExprKind, Memory, NameId, ParMode, Span, Stmt, Word};
+use ada_tree::{Call, Expr, Memory, ParMode, Span, Stmt, Word};
 use normal_pieces::{Meanings, push_copy, push_made, variable_expr};
 use std::alloc::Global;
+use task_links::variable_of;
 use tree_making::assignment;
 
 // The assignment of an actual to its variable.
@@ -58,16 +59,6 @@ pub(crate) fn push_actuals<M: Meanings>(
         }
     }
     Ok(())
-}
-
-// The variable that an actual is.
-fn variable_of(actual: &Expr) -> Option<NameId>
-    ensures { result ≡ variable_of (plain_expr actual.now) }
-{
-    match &actual.kind {
-        ExprKind::Name(name) => Some(*name),
-        _ => None,
-    }
 }
 
 // The assignment of a variable to an actual that is one.

@@ -9,9 +9,9 @@ ghost use Rattle.normal_model.specs.Members.{callee_kept, chosen};
 ghost use Rattle.normal_model.specs.Ranges.{family_range, subtype_of_range};
 
 use crate::actuals::{push_actuals, push_behind};
+use crate::call_forms::{Form, branch, known_callee};
 use crate::called::{actuals_called, index_called, modes_called};
-use crate::forms::{Form, branch, known_callee};
-use crate::members::call_by_member;
+use crate::member_branches::call_by_member;
 use crate::numbers::{actual_number, index_number};
 use ada_tree::{Call, Callee, Memory, Span, Stmt};
 use normal_pieces::{Meanings, moving_index, push_copy, push_made};

@@ -3,10 +3,10 @@
 
 mod aborts;
 mod actuals;
+mod call_forms;
 mod called;
 mod calls;
-mod forms;
-mod members;
+mod member_branches;
 mod numbers;
 mod passed;
 mod selects;

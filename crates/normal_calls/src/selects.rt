@@ -10,9 +10,9 @@ ghost use Rattle.normal_model.specs.Calls.{call_behind, conditional_image, is_ch
 ghost use Rattle.normal_calls.specs.inner.Forms.{formed};
 
 use crate::actuals::push_behind;
+use crate::call_forms::{Form, known_call};
 use crate::calls::push_before;
-use crate::forms::{Form, known_call};
-use crate::members::call_by_member;
+use crate::member_branches::call_by_member;
 use crate::numbers::flag_number;
 use ada_tree::{BinaryOp, Call, Expr, Memory, Span, Stmt};
 use normal_pieces::{Meanings, append_row, fill_empty, moving_index, push_made, variable_expr};

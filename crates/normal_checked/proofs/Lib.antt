@@ -1,3 +1,4 @@
+pub mod Owned
 pub mod Places
 pub mod Stays
 pub mod Waits

@@ -1,9 +1,7 @@
 // Copies of a body, one for each task that runs it.
 
-ghost use Rattle.std.specs.Prelude.{◌≡◌, ◌++◌, ◌∷◌, [], IfOk, OnOk, map};
-ghost use Rattle.ada_tree.specs.PlainStmt.{plain_body};
-ghost use Rattle.ada_tree.specs.PlainDecl.{DTaskBody, decls_of, plain_decl};
-ghost use Rattle.normal_model.specs.Ranges.{word_at};
+ghost use Rattle.std.specs.Prelude.{◌≡◌, ◌++◌, IfOk, OnOk, map};
+ghost use Rattle.ada_tree.specs.PlainDecl.{plain_decl};
 ghost use Rattle.normal_declarations.specs.Copies.{copy_under};
 
 use ada_stmt_copy::StmtCopy;

@@ -32,10 +32,10 @@ use Rattle.syn_event.proofs.DeclLists.{listed_back}
 use Rattle.normal_units.proofs.Tasks.{list-front}
 use Rattle.normal_form_law.specs.Normalisable.{numbers_of, setting_for, NamesTell}
 use Rattle.normal_form_law.proofs.Numbered.{unit-numbered}
-use Rattle.normal_legal_units.specs.Weights.{body_weight, AreLight}
-use Rattle.normal_legal_units.proofs.Few.{body-few}
-use Rattle.normal_legal_units.proofs.Fields.{legal_names_tell}
-use Rattle.normal_legal_seen.proofs.Finding.{all-filtered}
+use Rattle.normal_legal.specs.units.Weights.{body_weight, AreLight}
+use Rattle.normal_legal.proofs.units.Few.{body-few}
+use Rattle.normal_legal.proofs.units.Fields.{legal_names_tell}
+use Rattle.normal_legal.proofs.seen_tasks.Finding.{all-filtered}
 use Rattle.normal_legal.specs.Laws.{IsLegal}
 use Rattle.ada_duplicates.specs.NamedSoFar.{object_words}
 use Rattle.ada_duplicates.proofs.Behind.{with_names_is}

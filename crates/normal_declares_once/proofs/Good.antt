@@ -11,8 +11,8 @@ use Rattle.syn_event.specs.RuleReservedName.{is_reserved}
 use Rattle.syn_event.proofs.Weaker.{placed_tokens}
 use Rattle.legal_sites.proofs.Both.{together}
 use Rattle.legal_sites.proofs.NamedDecls.{all_are_named}
-use Rattle.normal_legal_units.proofs.Apart.{all-addressed}
-use Rattle.normal_legal_units.proofs.DeclaredNames.{IsGood}
+use Rattle.normal_legal.proofs.units.Apart.{all-addressed}
+use Rattle.normal_legal.proofs.units.DeclaredNames.{IsGood}
 use Rattle.normal_legal.specs.Laws.{IsLegal}
 use Rattle.normal_declares_once.proofs.Ids.{first-free}
 use Rattle.common_lemmas.proofs.Truth.{not_true}

@@ -20,9 +20,9 @@ use Rattle.normal_model.specs.Names.{member_text, variable_text, member_texts, w
 use Rattle.normal_model.proofs.VariablesLemmas.{Begins}
 use Rattle.normal_types.proofs.Names.{fold-begins, variables-begin, names-begin, variable-there}
 use Rattle.normal_placed.proofs.Names.{first-named}
-use Rattle.normal_legal_units.proofs.TaskNames.{mark-there, member-reserved}
-use Rattle.normal_legal_units.proofs.TasksApart.{full_text, IsNamed}
-use Rattle.normal_legal_units.proofs.DeclaredNames.{IsGood}
+use Rattle.normal_legal.proofs.units.TaskNames.{mark-there, member-reserved}
+use Rattle.normal_legal.proofs.units.TasksApart.{full_text, IsNamed}
+use Rattle.normal_legal.proofs.units.DeclaredNames.{IsGood}
 
 -- ---- texts of variables
 

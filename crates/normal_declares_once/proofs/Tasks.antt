@@ -35,17 +35,17 @@ use Rattle.rewritten_types.proofs.Refused.{declared_once}
 use Rattle.normal_types.specs.Laws.{IsOrdered}
 use Rattle.normal_units.proofs.Pairs.{names_tell_units}
 use Rattle.normal_form_law.specs.Normalisable.{numbers_of, setting_for}
-use Rattle.normal_legal_units.proofs.Fields.{legal_is_ordered}
-use Rattle.normal_legal_units.proofs.TaskNames.{IsShort}
-use Rattle.normal_legal_units.proofs.TasksApart.{IsNamed, members-there, all-named, tasks-told}
-use Rattle.normal_legal_units.proofs.DeclaredNames.{IsGood, tasks-good}
-use Rattle.normal_legal_seen.proofs.Parts.{IsUnit, AtMostOnce, is_called, MainSeen}
-use Rattle.normal_legal_seen.proofs.Bodies.{first-seen, decls-step}
-use Rattle.normal_legal_seen.proofs.Tasks.{PartsKnown}
-use Rattle.normal_legal_seen.proofs.Units.{objects-apart}
-use Rattle.normal_legal_text.proofs.Alone.{numbered-tasks-alone}
-use Rattle.normal_legal_bodies.proofs.Ranges.{ranges-known}
-use Rattle.normal_legal_bodies.proofs.Rows.{members-short}
+use Rattle.normal_legal.proofs.units.Fields.{legal_is_ordered}
+use Rattle.normal_legal.proofs.units.TaskNames.{IsShort}
+use Rattle.normal_legal.proofs.units.TasksApart.{IsNamed, members-there, all-named, tasks-told}
+use Rattle.normal_legal.proofs.units.DeclaredNames.{IsGood, tasks-good}
+use Rattle.normal_legal.proofs.seen_tasks.Parts.{IsUnit, AtMostOnce, is_called, MainSeen}
+use Rattle.normal_legal.proofs.seen_tasks.Bodies.{first-seen, decls-step}
+use Rattle.normal_legal.proofs.seen_tasks.Tasks.{PartsKnown}
+use Rattle.normal_legal.proofs.seen_tasks.Units.{objects-apart}
+use Rattle.normal_legal.proofs.statement_forms.Alone.{numbered-tasks-alone}
+use Rattle.normal_legal.proofs.body_forms.Ranges.{ranges-known}
+use Rattle.normal_legal.proofs.body_forms.Rows.{members-short}
 use Rattle.normal_legal.specs.Laws.{IsLegal}
 use Rattle.ada_duplicates.specs.NamingsInOrder.{namings_of}
 use Rattle.normal_once.specs.Apart.{IsFreeOf, AreDistinct, fixed_names}

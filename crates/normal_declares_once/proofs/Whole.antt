@@ -29,9 +29,9 @@ use Rattle.normal_has_numbers.proofs.Listed.{first-plain}
 use Rattle.normal_has_numbers.proofs.Tasked.{under, normal-tasks-of}
 use Rattle.normal_form_law.specs.Normalisable.{numbers_of, setting_for, made_for}
 use Rattle.normal_form_law.proofs.Numbered.{AreNumbered, none_numbered, numbered_then, unit-numbered}
-use Rattle.normal_legal_units.specs.Weights.{body_weight}
-use Rattle.normal_legal_units.proofs.Few.{body-few}
-use Rattle.normal_legal_units.proofs.Fields.{legal_is_ordered}
+use Rattle.normal_legal.specs.units.Weights.{body_weight}
+use Rattle.normal_legal.proofs.units.Few.{body-few}
+use Rattle.normal_legal.proofs.units.Fields.{legal_is_ordered}
 use Rattle.normal_legal.specs.Laws.{IsLegal}
 use Rattle.ada_duplicates.specs.NamedSoFar.{object_words}
 use Rattle.ada_duplicates.specs.declared.namings_in_order.Naming.{Naming}

@@ -10,7 +10,7 @@ use Rattle.event_machine.specs.declared.Event.TheVariants as event
 use Rattle.event_machine.specs.declared.Choice.{Choice}
 use Rattle.event_machine.specs.declared.Choice.TheVariants as choice
 use Rattle.event_machine.specs.Offers.{Offer, Nothing, Calls, Waits, Finishes, Ends, Aborts}
-use Rattle.event_machine.specs.Seats.{Seat, completed, live}
+use Rattle.event_machine.specs.States.{Seat, completed, live}
 use Rattle.event_machine.specs.Programs.{Program}
 use Rattle.event_machine.specs.Worlds.{happens, acted}
 use Rattle.syn_event.specs.Numbering.{Numbering, owner_of}

@@ -14,7 +14,7 @@ use Rattle.normal_model.specs.Ranges.{word_at}
 use Rattle.normal_model.specs.Waits.{Unit}
 use Rattle.normal_model.specs.NormalStmts.{normal_body, unit_variables}
 use Rattle.normal_model.specs.NormalTree.{bodies_of, body_copy, decls_front, first_running, running, unit_for}
-use Rattle.normal_form.specs.declared.bodies.BodyDecl.{BodyDecl}
+use Rattle.normal_form.specs.declared.body_copies.BodyDecl.{BodyDecl}
 use Rattle.normal_form.specs.inner.Bodies.{seen_body}
 
 -- copies under the names of tasks

@@ -1,7 +1,7 @@
 //! The normal form of a program, and its numbers.
 #![tactic(auto)]
 
-mod bodies;
+mod body_copies;
 mod errors;
 mod numbers;
 mod whole;

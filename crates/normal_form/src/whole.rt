@@ -12,7 +12,7 @@ ghost use Rattle.normal_variables.specs.Track.{variables_of};
 ghost use Rattle.normal_declarations.specs.Runners.{AreRunning};
 ghost use Rattle.normal_form.specs.inner.Whole.{all_decls, named_behind};
 
-use crate::bodies::{push_bodies, take_variables};
+use crate::body_copies::{push_bodies, take_variables};
 use ada_tree::{Body, Decl, Memory, Names, Program, Types};
 use ada_tree_copy::building::program_of;
 use normal_declarations::{Running, push_firsts, push_tasks};

@@ -18,7 +18,7 @@ use Rattle.normal_form_law.specs.Choosing.{entry, member, main_body, choosing}
 use Rattle.normal_form_law.specs.Normalisable.{numbers_of}
 use Rattle.normal_form_law.proofs.Choosing.{Named, n0, n25, n26, n27, n28, n29}
 use Rattle.legal_types.specs.Typed.{IsSmall, IsSmallKind}
-use Rattle.normal_legal_units.specs.Weights.{IsLight}
+use Rattle.normal_legal.specs.units.Weights.{IsLight}
 use Rattle.normal_legal.specs.Laws.{IsLegal}
 
 legal : Legal choosing (types_in choosing) (numbers_of choosing) Original

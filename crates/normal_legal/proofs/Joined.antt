@@ -4,10 +4,10 @@ use Rattle.ada_tree.specs.Refusals.{types_in}
 use Rattle.syn_event.specs.Numbering.{Numbering}
 use Rattle.normal_form_law.specs.Normalisable.{numbers_of}
 use Rattle.normal_form_law.proofs.Making.{made_is_normal, programs_show_same}
-use Rattle.normal_legal_types.specs.Ready.{IsReady}
-use Rattle.normal_legal_types.proofs.Fields.{marks, families, truths, integers, scalar}
-use Rattle.normal_legal_units.proofs.Fields.{legal_is_ordered, legal_has_tokens, legal_names_tell, legal_is_own, legal_is_plain, legal_is_well, light_has_few}
-use Rattle.normal_legal_bodies.proofs.Fields.{legal-text, legal-ready}
+use Rattle.normal_legal.specs.variable_types.Ready.{IsReady}
+use Rattle.normal_legal.proofs.variable_types.Fields.{marks, families, truths, integers, scalar}
+use Rattle.normal_legal.proofs.units.Fields.{legal_is_ordered, legal_has_tokens, legal_names_tell, legal_is_own, legal_is_plain, legal_is_well, light_has_few}
+use Rattle.normal_legal.proofs.body_forms.Fields.{legal-text, legal-ready}
 use Rattle.normal_legal.specs.Laws.{LegalIsNormalisable, LegalIsNormal, LegalShowsSame}
 
 pub legal_is_normalisable : LegalIsNormalisable

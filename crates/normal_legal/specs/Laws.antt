@@ -13,7 +13,7 @@ use Rattle.normal_runs_law.specs.Premises.{IsNormalForm}
 use Rattle.normal_form_law.specs.Choosing.{choosing}
 use Rattle.normal_form_law.specs.Normalisable.{numbers_of, made_for, normal_rewrite, IsNormalisable}
 use Rattle.legal_types.specs.Typed.{IsSmall}
-use Rattle.normal_legal_units.specs.Weights.{IsLight}
+use Rattle.normal_legal.specs.units.Weights.{IsLight}
 use Rattle.legal_literals.specs.Colours.{coloured}
 
 -- What is asked of a program: it is a legal original, well placed, with the names of every program, small enumerations and light bodies. All but the first is so of each text that is read within the limit of `run` (`read_normal`).

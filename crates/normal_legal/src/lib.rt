@@ -1,5 +1,9 @@
-//! That every legal program has a normal form that shows the same. The crate has no functions of its own but the one that carries the laws.
+//! That every legal program has a normal form that shows the same. The crate has no functions but those that carry the laws.
 #![tactic(auto)]
+
+pub mod clear_scopes;
+pub mod units;
+pub mod variable_types;
 
 ghost use Rattle.normal_legal.specs.Laws.{LegalIsNormalisable, LegalIsNormal, LegalShowsSame, IsMet};
 

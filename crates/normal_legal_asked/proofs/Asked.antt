@@ -33,8 +33,8 @@ use Rattle.asked_stmts.proofs.Together.{both_asked}
 use Rattle.translation_law.specs.Translations.{Programs}
 use Rattle.normal_runs_law.specs.Premises.{programs_of}
 use Rattle.normal_form_law.specs.Normalisable.{setting_for, normal_rewrite}
-use Rattle.normal_legal_seen.proofs.Bodies.{PlaceSeen, accept-seen, handling-seen, loop-seen}
-use Rattle.normal_legal_text.proofs.Text.{IsKnownPlace}
+use Rattle.normal_legal.proofs.seen_tasks.Bodies.{PlaceSeen, accept-seen, handling-seen, loop-seen}
+use Rattle.normal_legal.proofs.statement_forms.Text.{IsKnownPlace}
 use Rattle.normal_checked.specs.Around.{own_rules}
 use Rattle.normal_typed.specs.ScopeOf.{IsPlaceOf, AreTasksOf, task_asks}
 use Rattle.normal_typed.proofs.Scopes.{accept-own as formals-own, loop-own}

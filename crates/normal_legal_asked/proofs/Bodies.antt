@@ -34,10 +34,10 @@ use Rattle.translation_law.specs.Translations.{Programs}
 use Rattle.normal_runs_law.specs.Premises.{programs_of}
 use Rattle.normal_form_law.specs.Normalisable.{setting_for, normal_rewrite}
 use Rattle.legal_sites.proofs.Meeting.{all_met, all_check_met}
-use Rattle.normal_legal_seen.proofs.Parts.{AreRanged, MainSeen, ObjectsApart, types_after, decl-step}
-use Rattle.normal_legal_seen.proofs.Bodies.{first-seen, decls-step, main-seen, TaskSeen, task-seen}
-use Rattle.normal_legal_seen.proofs.Units.{BodiesTyped, objects-apart}
-use Rattle.normal_legal_text.proofs.Text.{IsLocal, text_rules, TextPremises}
+use Rattle.normal_legal.proofs.seen_tasks.Parts.{AreRanged, MainSeen, ObjectsApart, types_after, decl-step}
+use Rattle.normal_legal.proofs.seen_tasks.Bodies.{first-seen, decls-step, main-seen, TaskSeen, task-seen}
+use Rattle.normal_legal.proofs.seen_tasks.Units.{BodiesTyped, objects-apart}
+use Rattle.normal_legal.proofs.statement_forms.Text.{IsLocal, text_rules, TextPremises}
 use Rattle.normal_checked.specs.Around.{own_rules}
 use Rattle.normal_typed.specs.ScopeOf.{IsPlaceOf, task_asks}
 use Rattle.normal_legal_asked.proofs.Inner.{places-of}

@@ -30,7 +30,7 @@ use Rattle.legal_types.proofs.InnerScopes.{IsApartLocal, AreApart}
 use Rattle.normal_once.specs.Apart.{AreApart as AreApartNames, fixed_name, fixed_names, loose_names}
 use Rattle.normal_once.proofs.Rules.{program-fit}
 use Rattle.normal_once.proofs.Fits.{task_names_are_fixed}
-use Rattle.normal_legal_units.proofs.Apart.{all-apart, all-addressed}
+use Rattle.normal_legal.proofs.units.Apart.{all-apart, all-addressed}
 use Rattle.legal_sites.proofs.Meeting.{all_met}
 use Rattle.normal_model.specs.NormalTree.{tasks_beside}
 use Rattle.normal_asked.specs.Pieces.{IsAmong, first_among, later_among}

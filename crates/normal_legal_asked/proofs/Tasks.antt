@@ -46,14 +46,14 @@ use Rattle.legal_types.specs.Typed.{IsSmall}
 use Rattle.legal_types.proofs.MainScopes.{StandsWhole}
 use Rattle.legal_types.proofs.StaticWorth.{small-literals}
 use Rattle.legal_entries.proofs.Entries.{mapped-at, task-there}
-use Rattle.normal_legal_seen.proofs.Bodies.{PlaceSeen}
-use Rattle.normal_legal_seen.proofs.Tasks.{PartsKnown, IsNumberedTask, part-apart, IsFirst, member-there}
-use Rattle.normal_legal_text.proofs.Heads.{own-entry}
-use Rattle.normal_legal_text.proofs.Callees.{CalleeKnown, callee-known, callee-first}
-use Rattle.normal_legal_text.proofs.CalleesAsked.{callee-asked}
-use Rattle.normal_legal_text.proofs.Text.{TextPremises, parts-known}
-use Rattle.normal_legal_bodies.proofs.Joined as joined
-use Rattle.normal_legal_bodies.proofs.Fields as fields
+use Rattle.normal_legal.proofs.seen_tasks.Bodies.{PlaceSeen}
+use Rattle.normal_legal.proofs.seen_tasks.Tasks.{PartsKnown, IsNumberedTask, part-apart, IsFirst, member-there}
+use Rattle.normal_legal.proofs.statement_forms.Heads.{own-entry}
+use Rattle.normal_legal.proofs.statement_forms.Callees.{CalleeKnown, callee-known, callee-first}
+use Rattle.normal_legal.proofs.statement_forms.CalleesAsked.{callee-asked}
+use Rattle.normal_legal.proofs.statement_forms.Text.{TextPremises, parts-known}
+use Rattle.normal_legal.proofs.body_forms.Joined as joined
+use Rattle.normal_legal.proofs.body_forms.Fields as fields
 use Rattle.normal_typed.specs.ScopeOf.{IsTaskOf, AreTasksOf}
 
 at-among : {A : Type 0} (xs : List A) (k : ℕ) (x : A) → slice_get xs k ≡ Some x → IsAmong x xs

@@ -9,8 +9,8 @@ use Rattle.syn_event.proofs.Weaker.{placed_tokens}
 use Rattle.normal_has_numbers.specs.Laws.{IsNotDed}
 use Rattle.normal_has_numbers.proofs.TaskNames.{AreNamed, task-names}
 use Rattle.normal_has_numbers.proofs.Numbered.{normal_has_numbers}
-use Rattle.normal_legal_units.proofs.DeclaredNames.{IsGood, AreGood, names-good}
-use Rattle.normal_legal_units.proofs.Fields.{legal_is_ordered, legal_is_own}
+use Rattle.normal_legal.proofs.units.DeclaredNames.{IsGood, AreGood, names-good}
+use Rattle.normal_legal.proofs.units.Fields.{legal_is_ordered, legal_is_own}
 use Rattle.normal_legal_numbers.specs.Laws.{NoneLegalIsDed, LegalHasNumbers}
 use Rattle.common_lemmas.proofs.Lists.{all_weaker}
 

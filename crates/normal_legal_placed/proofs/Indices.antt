@@ -12,7 +12,7 @@ use Rattle.syn_event.specs.NamedTasks.{NamedTasks, NumberedTask, numbered_task, 
 use Rattle.syn_event.specs.AllNumbers.{info_of_task}
 use Rattle.legal_types.specs.Typed.{HasLimits, IsTypedPart}
 use Rattle.normal_placed.specs.Placeable.{IsSmallIndex, HasSmallIndex}
-use Rattle.normal_legal_bodies.proofs.Rows.{both-sides}
+use Rattle.normal_legal.proofs.body_forms.Rows.{both-sides}
 
 -- ---- numbers
 

@@ -9,8 +9,8 @@ use Rattle.task_model.specs.Setting.{Setting}
 use Rattle.normal_model.specs.NormalStmts.{unit_variables}
 use Rattle.normal_model.specs.NormalTree.{unit_for, running, main_variables, variables_if, variables_of_body, greatest, variables_needed}
 use Rattle.normal_form_law.specs.Normalisable.{setting_for}
-use Rattle.normal_legal_units.specs.Weights.{body_weight, AreLight, IsLight}
-use Rattle.normal_legal_units.proofs.Few.{body-few, light-has-few}
+use Rattle.normal_legal.specs.units.Weights.{body_weight, AreLight, IsLight}
+use Rattle.normal_legal.proofs.units.Few.{body-few, light-has-few}
 
 greatest-below : (b : ℕ) → 0 < b → (ns : List ℕ) → AllByRecursion (λ n. n < b) ns → greatest ns < b
 greatest-below b l [] h = l

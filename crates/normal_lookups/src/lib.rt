@@ -1,10 +1,9 @@
 //! What the normal form of a program asks of it, looked up in one step: ranges of families and arrays of tasks, what the formals of entries are, and which expressions are static.
 #![tactic(auto)]
 
-mod forms;
+mod entry_forms;
 mod kinds;
 mod lookups;
-mod no_variables;
 mod ranges;
 mod static_names;
 

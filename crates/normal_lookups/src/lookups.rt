@@ -13,9 +13,8 @@ ghost use Rattle.normal_model.specs.Making.{moving};
 ghost use Rattle.normal_model.specs.Members.{kind_of_index, known_task};
 ghost use Rattle.normal_model.specs.Calls.{entry_called, slots_of};
 
-use crate::forms::{EntryForm, form_at, forms_of};
+use crate::entry_forms::{EntryForm, form_at, forms_of};
 use crate::kinds::{kind_name, kind_names};
-use crate::no_variables::NoVariables;
 use crate::ranges::{array_range, ranges_of};
 use crate::static_names::{is_static, static_names};
 use ada_expr_copy::ExprCopy;
@@ -26,7 +25,7 @@ use ada_value::{Raised, Value, evaluate, position_of, range};
 use scoped_names::ScopedNames;
 use std::alloc::Global;
 use std::marker::Model;
-use task_links::Links;
+use task_links::{Links, StaticNames};
 
 /// A program with what its normal form asks of it. A contract sees the setting of its tasks. Each look-up takes one step, and those of expressions one for each part.
 #[derive(Drop)]
@@ -81,7 +80,7 @@ fn known_task(task: Result<u32, Raised>) -> u32
 fn value(links: &Links, e: &Expr) -> Result<Value, Raised>
     ensures { result ≡ evaluated links.now.types [] (plain_expr e.now) }
 {
-    let names = NoVariables {
+    let names = StaticNames {
         names: links.types(),
     };
     evaluate(e, &names)
@@ -164,7 +163,7 @@ impl<'p> Lookups<'p> {
     pub fn kind_of_range(&self, drange: &Drange) -> u32
         ensures { result ≡ kind_of_range self.now.types (plain_drange drange.now) }
     {
-        let names = NoVariables {
+        let names = StaticNames {
             names: self.links.types(),
         };
         match range(drange, &names) {

@@ -2,7 +2,7 @@
 use Rattle.task_model.specs.Setting.{Setting}
 use Rattle.normal_names.specs.declared.names.NormalNames.{NormalNames}
 use Rattle.normal_names.specs.SoFar.{AreNamesOf}
-use Rattle.normal_meanings.specs.declared.members.Members.{Members}
+use Rattle.normal_meanings.specs.declared.array_members.Members.{Members}
 use Rattle.normal_meanings.specs.Kept.{AreMembers}
 
 -- The members of all arrays of tasks are those of this program.

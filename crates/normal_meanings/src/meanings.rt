@@ -2,7 +2,7 @@
 
 ghost use Rattle.std.specs.Prelude.{◌≡◌};
 
-use crate::members::Members;
+use crate::array_members::Members;
 use ada_tree::{Call, Callee, Expr, Memory, NameId, ParMode};
 use normal_lookups::Lookups;
 use normal_names::NormalNames;

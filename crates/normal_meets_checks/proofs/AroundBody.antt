@@ -39,7 +39,7 @@ use Rattle.normal_meets_checks.proofs.Units.{entry_names, copy-entries}
 use Rattle.normal_meets_checks.proofs.Later.{later-shared}
 use Rattle.normal_meets_checks.proofs.Fixed.{fixed-same}
 use Rattle.normal_meets_checks.proofs.Facts as facts
-use Rattle.normal_legal_units.proofs.Conforms.{objects-check-own}
+use Rattle.normal_legal.proofs.units.Conforms.{objects-check-own}
 
 -- ---- names
 

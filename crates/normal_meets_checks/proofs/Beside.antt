@@ -23,7 +23,7 @@ use Rattle.rewritten_types.specs.Rewriting.{IsUsed, IsUnused}
 use Rattle.rewritten_values.specs.Values.{old_names}
 use Rattle.normal_model.specs.NormalTree.{mark_of}
 use Rattle.normal_once.proofs.TaskTypes.{HasTypes, types-after}
-use Rattle.normal_legal_seen.proofs.Scopes.{is_one_of, meant-out, meant-in}
+use Rattle.normal_legal.proofs.seen_tasks.Scopes.{is_one_of, meant-out, meant-in}
 use Rattle.common_lemmas.proofs.Numbers.{equal_self}
 use Rattle.common_lemmas.proofs.Options.{some_same}
 use Rattle.normal_checked.proofs.MainScopes.{decls-frame}

@@ -28,9 +28,9 @@ use Rattle.legal_sites.specs.Met.{IsMet, IsCheckMet}
 use Rattle.legal_types.proofs.MainScopes.{AllStand}
 use Rattle.legal_types.proofs.InnerScopes.{AreApart}
 use Rattle.legal_types.proofs.GoodDeclarations.{after-main}
-use Rattle.normal_legal_units.proofs.Plain.{ArraysFree}
-use Rattle.normal_legal_seen.proofs.Parts.{ObjectsApart, AreRanged, MainSeen, decl-step}
-use Rattle.normal_legal_seen.proofs.Bodies.{TaskSeen, task-seen}
+use Rattle.normal_legal.proofs.units.Plain.{ArraysFree}
+use Rattle.normal_legal.proofs.seen_tasks.Parts.{ObjectsApart, AreRanged, MainSeen, decl-step}
+use Rattle.normal_legal.proofs.seen_tasks.Bodies.{TaskSeen, task-seen}
 use Rattle.normal_once.proofs.TaskTypes.{HasTypes, kinds_after, first-types, types-after}
 use Rattle.normal_checked.specs.Around.{own_rules}
 use Rattle.normal_checked.proofs.MainScopes.{IsFrameOf, frame-trans, decls-frame}

@@ -6,7 +6,7 @@ use Rattle.ada_tree.specs.TypeTable.{TypeTable}
 use Rattle.ada_tree.specs.PlainDecl.{PDecl}
 use Rattle.ada_tree.specs.PlainProgram.{PProgram}
 use Rattle.ada_tree.specs.Every.{EveryProgram}
-use Rattle.ada_tree.specs.WellPlaced.{well_placed, HasTokens, IsWellPlaced}
+use Rattle.ada_tree.specs.WellPlaced.{HasTokens, IsWellPlaced}
 use Rattle.ada_tree.specs.StaticValue.{value_named}
 use Rattle.ada_tree.specs.Declaring.{first_scope, inside, after_decls}
 use Rattle.ada_tree.specs.Sites.{decls_sites, body_sites}
@@ -36,29 +36,29 @@ use Rattle.normal_has_numbers.proofs.Named.{text-longer, own-within}
 use Rattle.normal_has_numbers.proofs.TaskNames.{normal-begins}
 use Rattle.legal_sites.specs.Met.{IsMet, IsCheckMet}
 use Rattle.legal_sites.proofs.Meeting.{all_met, all_check_met}
-use Rattle.legal_sites.proofs.Both.{together}
 use Rattle.legal_types.specs.Typed.{IsFirstTask}
 use Rattle.legal_types.proofs.MainScopes.{StandsWhole, AllStand, main-stands, last-stands}
 use Rattle.legal_types.proofs.InnerScopes.{AreApart}
 use Rattle.legal_types.proofs.StaticWorth.{named-alike, keeps-agrees}
 use Rattle.legal_types.proofs.TypedValues.{anybody}
 use Rattle.legal_types.proofs.LaterScopes.{valued-means}
-use Rattle.normal_legal_types.specs.Ready.{IsReady}
-use Rattle.normal_legal_types.proofs.Forms.{predefined-own, meant-own}
-use Rattle.normal_legal_units.proofs.Own.{program-own}
-use Rattle.normal_legal_units.proofs.Apart.{all-apart, all-addressed}
-use Rattle.normal_legal_units.proofs.ArrayConstants.{arrays-free}
-use Rattle.normal_legal_units.proofs.TypedNames.{stand-still}
-use Rattle.normal_legal_units.proofs.DeclaredNames.{IsGood, tasks-good}
-use Rattle.normal_legal_units.proofs.TasksApart.{IsNamed, members-there, all-named, tasks-apart}
-use Rattle.normal_legal_units.proofs.Fields.{legal_is_ordered, legal_names_tell}
-use Rattle.normal_legal_seen.proofs.Units.{objects-apart}
-use Rattle.normal_legal_seen.proofs.Bodies.{first-seen}
-use Rattle.normal_legal_seen.proofs.Tasks.{PartsKnown, numbered-tasks-apart}
-use Rattle.normal_legal_bodies.proofs.Fields.{legal-ready}
+use Rattle.normal_legal.specs.variable_types.Ready.{IsReady}
+use Rattle.normal_legal.proofs.variable_types.Forms.{predefined-own, meant-own}
+use Rattle.normal_legal.proofs.units.Own.{program-own}
+use Rattle.normal_legal.proofs.units.Apart.{all-apart, all-addressed}
+use Rattle.normal_legal.proofs.units.ArrayConstants.{arrays-free}
+use Rattle.normal_legal.proofs.units.TypedNames.{stand-still}
+use Rattle.normal_legal.proofs.units.DeclaredNames.{IsGood, tasks-good}
+use Rattle.normal_legal.proofs.units.TasksApart.{IsNamed, members-there, all-named, tasks-apart}
+use Rattle.normal_legal.proofs.units.Fields.{legal_is_ordered, legal_names_tell}
+use Rattle.normal_legal.proofs.seen_tasks.Units.{objects-apart}
+use Rattle.normal_legal.proofs.seen_tasks.Bodies.{first-seen}
+use Rattle.normal_legal.proofs.seen_tasks.Tasks.{PartsKnown, numbered-tasks-apart}
+use Rattle.normal_legal.proofs.body_forms.Fields.{legal-ready}
 use Rattle.normal_legal.specs.Laws.{IsLegal}
 use Rattle.normal_asked.specs.Pieces.{IsAmong}
 use Rattle.normal_checked.specs.Around.{own_rules}
+use Rattle.normal_checked.proofs.Owned.{own-together}
 use Rattle.common_lemmas.proofs.Lists.{all_front, all_back}
 use Rattle.common_lemmas.proofs.Numbers.{equal_is, equal_self}
 use Rattle.normal_legal_asked.proofs.Tasks as asked
@@ -91,25 +91,7 @@ module _ (p : PProgram) (h : IsLegal p) where
   olds = program-own p h.legal.type_rules h.legal.check_rules h.placed h.names (all-addressed p h.legal.type_rules h.placed h.small)
 
   pub owns : EveryProgram (own_rules own) p
-  owns =
-      together (old_names own) (well_placed p.names) (own_rules own)
-      record {
-        name = λ id a c. a;
-        integer = λ n a c. tt;
-        duration = λ n a c. tt;
-        words = λ t a c. tt;
-        unary = λ op e a c. tt;
-        binary = λ op l r a c. tt;
-        bounds = λ l r a c. tt;
-        parts = λ n k a c. c;
-        handlers = λ hs a c. tt;
-        pragmas = λ n l a c. tt;
-        object = λ k o a c. tt;
-        inner = λ ds a c. tt;
-        outer = λ ds a c. tt;
-        nested = λ k a c. tt;
-      }
-      p olds h.placed
+  owns = own-together own (old_names own) (λ id a. a) p.names p olds h.placed
 
   pub agree : AgreeOnValues own T U p.names (made_for p).names
   agree = normal_values p T (numbers_of p) ordered has-tokens

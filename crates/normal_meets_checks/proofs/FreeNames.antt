@@ -26,7 +26,7 @@ use Rattle.legal_types.proofs.StaticParts.{HasSubtype, subind-met}
 use Rattle.legal_types.proofs.MainScopes.{Stands}
 use Rattle.legal_types.proofs.TaskTypes.{name-here}
 use Rattle.legal_types.proofs.InnerScopes.{IsApartName, AreApart, names-apart}
-use Rattle.normal_legal_units.proofs.Plain.{ArrayFree}
+use Rattle.normal_legal.proofs.units.Plain.{ArrayFree}
 use Rattle.normal_once.proofs.TaskTypes.{HasTypes, no-task}
 use Rattle.common_lemmas.proofs.Lists.{all_front, all_back, all_weaker}
 use Rattle.common_lemmas.proofs.Truth.{and_false}

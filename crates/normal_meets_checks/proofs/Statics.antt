@@ -17,8 +17,8 @@ use Rattle.normal_model.specs.Calls.{Slot, slots_of}
 use Rattle.normal_model.specs.Ranges.{marked, subtype_of_range, range_of_info, family_range}
 use Rattle.normal_form_law.specs.Normalisable.{numbers_of, setting_for}
 use Rattle.legal_types.specs.Typed.{HasLimits}
-use Rattle.normal_legal_types.proofs.Numbers.{range-is}
-use Rattle.normal_legal_types.proofs.Subtypes.{own_rule, entry-known, array-own}
+use Rattle.normal_legal.proofs.variable_types.Numbers.{range-is}
+use Rattle.normal_legal.proofs.variable_types.Subtypes.{own_rule, entry-known, array-own}
 use Rattle.normal_legal.specs.Laws.{IsLegal}
 use Rattle.normal_placed.proofs.Added.{AreSubtypes}
 use Rattle.common_lemmas.proofs.Options.{not_missing}

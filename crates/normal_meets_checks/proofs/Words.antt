@@ -16,7 +16,7 @@ use Rattle.syn_event.specs.CheckSites.{with_meant, with_value, with_object}
 use Rattle.rewritten_types.specs.Rewriting.{names_declared, IsUsed, IsUnused}
 use Rattle.rewritten_types.proofs.Fresh.{other}
 use Rattle.normal_once.proofs.FirstDecls.{here-after}
-use Rattle.normal_legal_seen.proofs.Scopes.{is_one_of, meant-out, meant-in}
+use Rattle.normal_legal.proofs.seen_tasks.Scopes.{is_one_of, meant-out, meant-in}
 use Rattle.common_lemmas.proofs.Numbers.{equal_is}
 use Rattle.common_lemmas.proofs.Options.{some_same}
 use Rattle.normal_once.proofs.TaskNames.{among-words}

@@ -7,7 +7,7 @@ ghost use Rattle.task_model.specs.Setting.{Setting};
 ghost use Rattle.normal_model.specs.Names.{task_name_at, variable_name};
 ghost use Rattle.normal_names.specs.SoFar.{AreNamesOf};
 
-use crate::members::name_tasks;
+use crate::task_names::name_tasks;
 use crate::texts::variable_text;
 use ada_tree::{Memory, NameId, Names, Program};
 use std::alloc::Global;

@@ -1,6 +1,6 @@
 // The texts of the names that are added.
 
-ghost use Rattle.std.specs.Prelude.{◌≡◌, ℤ, IfOk, string_bytes};
+ghost use Rattle.std.specs.Prelude.{◌≡◌, IfOk, string_bytes};
 ghost use Rattle.normal_model.specs.Names.{member_text, variable_text};
 
 use ada_tree::Memory;

@@ -7,7 +7,7 @@ use Rattle.event_machine.specs.declared.Standing.TheVariants.{Live, Waiting, Que
 use Rattle.event_machine.specs.declared.Event.{Event}
 use Rattle.event_machine.specs.declared.Event.TheVariants.{R, E, S, D, C, T, F, B}
 use Rattle.event_machine.specs.Offers.{is_any_form, is_conditional, is_timed, calls_in, waits_with, is_finish, opens, is_else, is_delay}
-use Rattle.event_machine.specs.Seats.{Seat, State, is_live, is_closed, is_completed, is_served_by}
+use Rattle.event_machine.specs.States.{Seat, State, is_live, is_closed, is_completed, is_served_by}
 use Rattle.event_machine.specs.Programs.{Program, numbered, by_number, IsOpening}
 use Rattle.event_machine.specs.Worlds.{World, Step, Happen, can_move, happens, offers, aborts}
 use Rattle.ada_value.specs.declared.values.Value.{Value}

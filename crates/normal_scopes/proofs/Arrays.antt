@@ -24,10 +24,10 @@ use Rattle.legal_literals.specs.Literals.{HasIndexLiterals}
 use Rattle.legal_literals.proofs.Indices.{indices-are-literals}
 use Rattle.legal_entries.proofs.Lists.{found-place}
 use Rattle.normal_legal.specs.Laws.{IsLegal}
-use Rattle.normal_legal_seen.proofs.Parts.{is_called, IsTaskArray}
-use Rattle.normal_legal_seen.proofs.Tasks.{mapped-place}
-use Rattle.normal_legal_text.proofs.Members.{member-is}
-use Rattle.normal_legal_text.proofs.Alone.{numbered-tasks-alone}
+use Rattle.normal_legal.proofs.seen_tasks.Parts.{is_called, IsTaskArray}
+use Rattle.normal_legal.proofs.seen_tasks.Tasks.{mapped-place}
+use Rattle.normal_legal.proofs.statement_forms.Members.{member-is}
+use Rattle.normal_legal.proofs.statement_forms.Alone.{numbered-tasks-alone}
 use Rattle.normal_asked.specs.Pieces.{IsAmong, first_among, later_among}
 use Rattle.normal_typed.specs.ScopeOf.{IsRange, IsMemberIn, IsOtherMember, AreOtherMembers, IsArrayOf}
 use Rattle.normal_scopes.proofs.Rows.{IsRowSeen}

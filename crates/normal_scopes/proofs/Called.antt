@@ -40,11 +40,11 @@ use Rattle.legal_types.proofs.TaskTypes.{part-units, tasks-have-types}
 use Rattle.legal_entries.proofs.Lists.{found-place}
 use Rattle.legal_entries.proofs.Entries.{IsTaskOf, HasEntry, entry-there}
 use Rattle.normal_legal.specs.Laws.{IsLegal}
-use Rattle.normal_legal_seen.proofs.Scopes.{is_one_of, meaning-out, meaning-in, IsNoTask, inner-object}
-use Rattle.normal_legal_seen.proofs.Parts.{is_called, IsUnit, IsExtent, Stands, IsTaskArray, Means, MainSeen}
-use Rattle.normal_legal_seen.proofs.Bodies.{first-seen, decls-step}
-use Rattle.normal_legal_seen.proofs.Tasks.{PartsKnown, IsFirst, first-task, mapped-place, numbered-tasks-units, one-unit}
-use Rattle.normal_legal_seen.proofs.Units.{objects-apart}
+use Rattle.normal_legal.proofs.seen_tasks.Scopes.{is_one_of, meaning-out, meaning-in, IsNoTask, inner-object}
+use Rattle.normal_legal.proofs.seen_tasks.Parts.{is_called, IsUnit, IsExtent, Stands, IsTaskArray, Means, MainSeen}
+use Rattle.normal_legal.proofs.seen_tasks.Bodies.{first-seen, decls-step}
+use Rattle.normal_legal.proofs.seen_tasks.Tasks.{PartsKnown, IsFirst, first-task, mapped-place, numbered-tasks-units, one-unit}
+use Rattle.normal_legal.proofs.seen_tasks.Units.{objects-apart}
 use Rattle.normal_legal_asked.proofs.Tasks as asked
 use Rattle.normal_asked.specs.Pieces.{IsAmong, first_among, later_among}
 use Rattle.normal_typed.specs.ScopeOf.{AreSlots, IsRange, IsFamilyOf, IsEntryOf}

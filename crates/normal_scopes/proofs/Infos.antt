@@ -25,8 +25,8 @@ use Rattle.legal_types.proofs.TaskTypes.{part-units}
 use Rattle.normal_types.specs.Laws.{setting_of}
 use Rattle.normal_units.proofs.Declared.{one-there, each-there}
 use Rattle.normal_units.proofs.Pairs.{part-infos}
-use Rattle.normal_legal_types.proofs.Subtypes.{tasks-every}
-use Rattle.normal_legal_units.proofs.TasksApart.{IsNamed}
+use Rattle.normal_legal.proofs.variable_types.Subtypes.{tasks-every}
+use Rattle.normal_legal.proofs.units.TasksApart.{IsNamed}
 use Rattle.normal_scopes.specs.Plain.{plain_name}
 use Rattle.normal_scopes.proofs.Places.{IsSeenOrHidden, IsPlaced}
 use Rattle.normal_scopes.proofs.Names.{plain-task}

@@ -30,9 +30,9 @@ use Rattle.syn_event.proofs.Weaker.{placed_tokens}
 use Rattle.normal_types.proofs.Normal.{front-after}
 use Rattle.normal_form_law.specs.Normalisable.{setting_for}
 use Rattle.normal_legal.specs.Laws.{IsLegal}
-use Rattle.normal_legal_units.proofs.Apart.{all-addressed}
-use Rattle.normal_legal_units.proofs.DeclaredNames.{tasks-good}
-use Rattle.normal_legal_units.proofs.TasksApart.{IsNamed, all-named, members-there, units-told}
+use Rattle.normal_legal.proofs.units.Apart.{all-addressed}
+use Rattle.normal_legal.proofs.units.DeclaredNames.{tasks-good}
+use Rattle.normal_legal.proofs.units.TasksApart.{IsNamed, all-named, members-there, units-told}
 use Rattle.normal_asked.specs.Pieces.{IsAmong, first_among, later_among}
 use Rattle.normal_typed.specs.ScopeOf.{IsSeenWith, IsTaskThere}
 use Rattle.alike_scopes.specs.Alike.{Alike}

@@ -24,7 +24,7 @@ use Rattle.rewritten_types.proofs.Fresh.{InHere, first-here, here-decl}
 use Rattle.legal_literals.proofs.Apart.{IsNoneOf, names-apart}
 use Rattle.legal_types.proofs.MainScopes.{AllStand, last-stands}
 use Rattle.normal_legal.specs.Laws.{IsLegal}
-use Rattle.normal_legal_seen.proofs.Scopes.{is_one_of, meaning-out}
+use Rattle.normal_legal.proofs.seen_tasks.Scopes.{is_one_of, meaning-out}
 use Rattle.normal_scopes.proofs.Later.{decl-kept}
 use Rattle.normal_scopes.proofs.Main.{last, once, stand}
 use Rattle.tree_lemmas.proofs.Declared.{name_means}

@@ -17,8 +17,8 @@ use Rattle.normal_model.proofs.VariablesLemmas.{Begins}
 use Rattle.rewritten_values.proofs.Saying.{place-within}
 use Rattle.normal_types.specs.Own.{own_name}
 use Rattle.normal_types.proofs.Names.{variables-begin, added_names_are_new, variable-there, fold-begins}
-use Rattle.normal_legal_units.proofs.TaskNames.{member-reserved}
-use Rattle.normal_legal_units.proofs.TasksApart.{full_text, IsNamed}
+use Rattle.normal_legal.proofs.units.TaskNames.{member-reserved}
+use Rattle.normal_legal.proofs.units.TasksApart.{full_text, IsNamed}
 use Rattle.normal_scopes.specs.Plain.{plain_name}
 use Rattle.common_lemmas.proofs.Lists.{first_same, rest_same}
 

@@ -27,7 +27,7 @@ use Rattle.rewritten_values.specs.Values.{old_names}
 use Rattle.legal_sites.specs.Met.{IsMet}
 use Rattle.legal_types.proofs.GoodScopes.{names-kept}
 use Rattle.legal_types.proofs.InnerScopes.{IsApartLocal, AreApart}
-use Rattle.normal_legal_seen.proofs.Scopes.{is_one_of, meaning-out, meaning-in, IsNoTask, inner-object}
+use Rattle.normal_legal.proofs.seen_tasks.Scopes.{is_one_of, meaning-out, meaning-in, IsNoTask, inner-object}
 use Rattle.normal_typed.specs.ScopeOf.{IsSeenWith, IsInnerName, IsInner}
 use Rattle.normal_typed.proofs.Scopes.{differ, once-new}
 

@@ -28,7 +28,7 @@ use Rattle.rewritten_values.specs.Values.{old_names}
 use Rattle.normal_types.specs.Own.{own_name}
 use Rattle.legal_sites.specs.Met.{IsAddressed}
 use Rattle.legal_sites.proofs.NamedDecls.{all_are_named}
-use Rattle.normal_legal_units.proofs.Own.{names-together, program-own, first-text}
+use Rattle.normal_legal.proofs.units.Own.{names-together, program-own, first-text}
 use Rattle.normal_scopes.specs.Plain.{plain_name}
 
 -- the text is left to no rewriter

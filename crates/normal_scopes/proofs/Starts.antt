@@ -34,7 +34,7 @@ use Rattle.rewritten_types.proofs.Adding.{keeps-objects}
 use Rattle.rewritten_values.specs.Values.{old_names}
 use Rattle.legal_sites.specs.Met.{IsMet}
 use Rattle.legal_sites.proofs.Meeting.{all_met}
-use Rattle.normal_legal_units.proofs.Apart.{all-apart}
+use Rattle.normal_legal.proofs.units.Apart.{all-apart}
 use Rattle.normal_legal_asked.proofs.Inner.{inner-names}
 use Rattle.legal_types.proofs.MainScopes.{grows-decls}
 use Rattle.legal_types.proofs.InnerScopes.{IsApartLocal, AreApart}

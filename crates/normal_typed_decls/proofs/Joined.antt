@@ -4,7 +4,6 @@ use Rattle.common_lemmas.proofs.Lists.{all_joined, all_front, all_back}
 use Rattle.ada_tree.specs.PlainDecl.{PDecl, PDecls, no_decl, decl_then, decls_of}
 use Rattle.ada_tree.specs.PlainProgram.{PProgram}
 use Rattle.ada_tree.specs.Every.{EveryProgram}
-use Rattle.ada_tree.specs.WellPlaced.{well_placed}
 use Rattle.ada_tree.specs.Scope.{Scope}
 use Rattle.ada_tree.specs.Sites.{names_sites, decl_sites, decls_sites, body_sites, sites}
 use Rattle.ada_tree.specs.Declaring.{before_all, first_scope, inside, after_decl, after_decls}
@@ -15,9 +14,9 @@ use Rattle.normal_model.specs.NormalStmts.{normal_body}
 use Rattle.normal_model.specs.NormalTree.{decls_front, first_decls, tasks_beside, task_declared, bodies_of, main_unit, main_variables, normal_decls}
 use Rattle.normal_model.proofs.VariablesLemmas.{begins-refl}
 use Rattle.rewritten_values.specs.Values.{old_names}
-use Rattle.legal_sites.proofs.Both.{together}
 use Rattle.normal_form_law.specs.Normalisable.{numbers_of, made_for}
 use Rattle.normal_checked.specs.Around.{own_rules}
+use Rattle.normal_checked.proofs.Owned.{own-together}
 use Rattle.normal_legal.specs.Laws.{IsLegal}
 use Rattle.alike_scopes.specs.Laws.{IsMetBut}
 use Rattle.normal_typed.specs.ScopeOf.{IsScopeOf}
@@ -55,25 +54,7 @@ module _ (p : PProgram) (legal : IsLegal p) where
 
   -- each name of the program is plain, and each list is as long as the grammar asks
   pub program-rules : EveryProgram (own_rules (plain_name p)) p
-  program-rules =
-      together (old_names (plain_name p)) (well_placed p.names) (own_rules (plain_name p))
-      record {
-        name = λ id a c. a;
-        integer = λ n a c. tt;
-        duration = λ n a c. tt;
-        words = λ t a c. tt;
-        unary = λ op e a c. tt;
-        binary = λ op l r a c. tt;
-        bounds = λ l r a c. tt;
-        parts = λ n k a c. c;
-        handlers = λ hs a c. tt;
-        pragmas = λ n ps a c. tt;
-        object = λ b o a c. tt;
-        inner = λ ds a c. tt;
-        outer = λ ds a c. tt;
-        nested = λ k a c. tt;
-      }
-      p (every p legal) legal.placed
+  program-rules = own-together (plain_name p) (old_names (plain_name p)) (λ id a. a) p.names p (every p legal) legal.placed
 
   -- ---- declarations
 

@@ -24,7 +24,7 @@ use Rattle.normal_model.specs.NormalTree.{tasks_beside, task_under, task_declare
 use Rattle.rewritten_types.proofs.Fresh.{first-here}
 use Rattle.legal_types.proofs.ExprKinds.{IsScalarMark}
 use Rattle.legal_types.proofs.StaticParts.{IsStaticIn, HasRange}
-use Rattle.normal_legal_types.proofs.Subtypes.{tasks-every}
+use Rattle.normal_legal.proofs.variable_types.Subtypes.{tasks-every}
 use Rattle.normal_checked.specs.Around.{own_rules}
 use Rattle.normal_legal.specs.Laws.{IsLegal}
 use Rattle.alike_scopes.specs.Alike.{Alike}

@@ -46,8 +46,8 @@ use Rattle.legal_types.proofs.StaticParts.{AreBounds, HasSubtype, HasRange}
 use Rattle.legal_types.proofs.GoodScopes.{names-kept}
 use Rattle.legal_types.proofs.MainScopes.{StandsWhole, last-stands, grows-decls}
 use Rattle.legal_types.proofs.TaskTypes.{IsRangeHere, limits-here, part-units, tasks-have-types}
-use Rattle.normal_legal_types.proofs.Numbers.{EntryRule, IsRuled, IsEntryOf, entry-of, formals-are, range-is}
-use Rattle.normal_legal_types.proofs.Subtypes.{tasks-every}
+use Rattle.normal_legal.proofs.variable_types.Numbers.{EntryRule, IsRuled, IsEntryOf, entry-of, formals-are, range-is}
+use Rattle.normal_legal.proofs.variable_types.Subtypes.{tasks-every}
 use Rattle.normal_checked.specs.Around.{own_rules}
 use Rattle.normal_legal.specs.Laws.{IsLegal}
 use Rattle.alike_scopes.specs.Alike.{Alike}

@@ -42,10 +42,10 @@ use Rattle.normal_types.proofs.Normal.{front-after}
 use Rattle.normal_types.proofs.Variables.{are-added, task-added, tasks-only, bodies-only}
 use Rattle.normal_legal.specs.Laws.{IsLegal}
 use Rattle.normal_legal_asked.proofs.Inner.{inner-names}
-use Rattle.normal_legal_units.specs.Weights.{body_weight, AreLight}
-use Rattle.normal_legal_units.proofs.Few.{body-few}
-use Rattle.normal_legal_units.proofs.Apart.{all-apart}
-use Rattle.normal_legal_units.proofs.TasksApart.{IsNamed}
+use Rattle.normal_legal.specs.units.Weights.{body_weight, AreLight}
+use Rattle.normal_legal.proofs.units.Few.{body-few}
+use Rattle.normal_legal.proofs.units.Apart.{all-apart}
+use Rattle.normal_legal.proofs.units.TasksApart.{IsNamed}
 use Rattle.normal_asked.specs.Pieces.{IsAmong, IsVariable}
 use Rattle.normal_typed.specs.ScopeOf.{IsInner, IsScopeOf}
 use Rattle.alike_scopes.specs.Alike.{SameTypes, SameThing}

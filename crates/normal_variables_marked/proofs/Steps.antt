@@ -34,7 +34,7 @@ use Rattle.legal_types.proofs.MainScopes.{StandsWhole, last-stands}
 use Rattle.normal_form_law.proofs.Names.{names-apart}
 use Rattle.normal_placed.proofs.Added.{AreVariablesFrom}
 use Rattle.normal_legal.specs.Laws.{IsLegal}
-use Rattle.normal_legal_seen.proofs.Scopes.{meaning-in}
+use Rattle.normal_legal.proofs.seen_tasks.Scopes.{meaning-in}
 use Rattle.normal_asked.specs.Pieces.{IsVariable}
 use Rattle.normal_typed.specs.ScopeOf.{IsVariableOf}
 use Rattle.alike_scopes.specs.Alike.{SameTypes, SameNames}

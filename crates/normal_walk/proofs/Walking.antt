@@ -14,7 +14,7 @@ use Rattle.tree_walk.specs.Rules.{walk_of}
 use Rattle.normal_model.specs.Waits.{Unit}
 use Rattle.normal_model.specs.NormalStmts.{normal_body, normal_rewriter, unit_variables}
 use Rattle.normal_model.specs.Walk.{after_body, inside_body}
-use Rattle.normal_meanings.specs.declared.members.Members.{Members}
+use Rattle.normal_meanings.specs.declared.array_members.Members.{Members}
 use Rattle.normal_meanings.specs.Meant.{AreMeanings}
 use Rattle.normal_variables.specs.declared.track.Track.{Track}
 use Rattle.normal_variables.specs.Track.{Enters, IsTrack}

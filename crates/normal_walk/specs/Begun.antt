@@ -2,7 +2,7 @@
 use Rattle.std.specs.Prelude.{◌≡◌, []}
 use Rattle.task_model.specs.Setting.{Setting}
 use Rattle.normal_names.specs.SoFar.{AreNamesOf}
-use Rattle.normal_meanings.specs.declared.members.Members.{Members}
+use Rattle.normal_meanings.specs.declared.array_members.Members.{Members}
 use Rattle.normal_meanings.specs.Meant.{AreMembersOf}
 use Rattle.normal_variables.specs.declared.track.Track.{Track}
 

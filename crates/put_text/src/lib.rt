@@ -2,6 +2,6 @@
 #![tactic(auto)]
 
 mod images;
-mod parts;
+mod part_texts;
 
-pub use parts::put_parts;
+pub use part_texts::put_parts;

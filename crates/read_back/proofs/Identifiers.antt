@@ -10,7 +10,8 @@ use Rattle.ada_lexer.specs.declared.symbols.Symbol.{Symbol}
 use Rattle.ada_lexer.specs.declared.kinds.TokenKind.TheVariants.{Name}
 use Rattle.ada_lexer.specs.declared.kinds.TokenKind.TheVariants as kinds
 use Rattle.ada_lexer.specs.declared.verdicts.Verdict.TheVariants.{Kind}
-use Rattle.ada_lexer.specs.Bytes.{is_letter, is_letter_or_digit, is_white, begins, every, lower}
+use Rattle.ada_lexer.specs.Bytes.{is_letter, is_letter_or_digit, is_white, lower}
+use Rattle.common_lemmas.specs.Following.{begins, every}
 use Rattle.ada_lexer.specs.Words.{same_text, symbol_in, two_letters, three_letters, four_letters, five_letters, six_letters, seven_letters, eight_letters, nine_letters, reserved_words, reserved_symbol}
 use Rattle.ada_lexer.specs.Pieces.{word_goes_on}
 use Rattle.ada_lexer.specs.Verdicts.{max_name, word_verdict, verdict}

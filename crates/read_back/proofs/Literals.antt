@@ -10,7 +10,8 @@ use Rattle.std.specs.Prelude.{◌&&◌, ◌||◌, ◌==◌}
 use Rattle.ada_lexer.specs.declared.kinds.TokenKind.TheVariants.{Integer, Duration, Text}
 use Rattle.ada_lexer.specs.declared.verdicts.Verdict.TheVariants.{Kind, Fault}
 use Rattle.ada_lexer.specs.declared.errors.LexError.TheVariants.{BadNumber}
-use Rattle.ada_lexer.specs.Bytes.{is_letter, is_digit, is_letter_or_digit, is_white, is_printable, begins, every}
+use Rattle.ada_lexer.specs.Bytes.{is_letter, is_digit, is_letter_or_digit, is_white, is_printable}
+use Rattle.common_lemmas.specs.Following.{begins, every}
 use Rattle.ada_lexer.specs.Numbers.{max_integer, max_thousandths, numeral_goes_on, value_behind, decimal_from, is_numeral, integer_value, decimals_value, is_point, kind_by_point, duration_value, number_kind}
 use Rattle.ada_lexer.specs.Strings.{inside_after, is_string_run, ends_inside, content}
 use Rattle.ada_lexer.specs.Pieces.{number_goes_on}

@@ -5,7 +5,8 @@ use Rattle.std.proofs.lemmas.Bool.Decides.{nat_tests}
 use Rattle.std.proofs.lemmas.List.{length-append}
 use Rattle.std.proofs.Math.Seq.{take-append_seam}
 use Rattle.std.specs.Prelude.{◌&&◌, ◌||◌, ◌==◌}
-use Rattle.ada_lexer.specs.Bytes.{is_letter, is_digit, is_letter_or_digit, is_white, begins, every, run_len}
+use Rattle.ada_lexer.specs.Bytes.{is_letter, is_digit, is_letter_or_digit, is_white, run_len}
+use Rattle.common_lemmas.specs.Following.{begins, every}
 use Rattle.ada_lexer.specs.Strings.{string_goes_on, inside_after, is_string_run, string_len, ends_inside}
 use Rattle.ada_lexer.specs.Pieces.{word_goes_on, number_goes_on, IsLongest}
 use Rattle.ada_lexer.specs.Lengths.{piece_len}

@@ -4,7 +4,8 @@ use Rattle.std.proofs.lemmas.Bool.{and_parts, false≢true}
 use Rattle.std.proofs.lemmas.Bool.Decides.{nat_tests}
 use Rattle.std.specs.Prelude.{◌&&◌, ◌==◌}
 use Rattle.ada_lexer.specs.declared.verdicts.Verdict.TheVariants.{Kind}
-use Rattle.ada_lexer.specs.Bytes.{is_letter, every}
+use Rattle.ada_lexer.specs.Bytes.{is_letter}
+use Rattle.common_lemmas.specs.Following.{every}
 use Rattle.ada_lexer.specs.Words.{two_letters, three_letters, four_letters, five_letters, six_letters, seven_letters, eight_letters, nine_letters, reserved_words, reserved_symbol, simple_delimiters, compound_delimiters, delimiter_symbol}
 use Rattle.ada_lexer.specs.Pieces.{word_goes_on}
 use Rattle.ada_lexer.specs.Lengths.{piece_len, mark_len}

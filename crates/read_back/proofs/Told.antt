@@ -10,7 +10,8 @@ use Rattle.std.specs.Str.{bytes_eq}
 use Rattle.ada_lexer.specs.declared.kinds.TokenKind.{TokenKind}
 use Rattle.ada_lexer.specs.declared.kinds.TokenKind.TheVariants as kinds
 use Rattle.ada_lexer.specs.declared.verdicts.Verdict.TheVariants.{Gap, Kind}
-use Rattle.ada_lexer.specs.Bytes.{is_letter, is_white, begins}
+use Rattle.ada_lexer.specs.Bytes.{is_letter, is_white}
+use Rattle.common_lemmas.specs.Following.{begins}
 use Rattle.ada_lexer.specs.Verdicts.{verdict}
 use Rattle.ada_tree.specs.Lexical.{reserved, is_word, IsIdentifier}
 use Rattle.ada_tree.specs.NameList.{predefined}

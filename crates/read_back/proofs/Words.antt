@@ -7,7 +7,8 @@ use Rattle.std.proofs.Math.Seq.{take-append_seam}
 use Rattle.std.specs.Prelude.{◌==◌}
 use Rattle.std.specs.List.{AllByRecursion}
 use Rattle.ada_lexer.specs.declared.kinds.TokenKind.TheVariants as kinds
-use Rattle.ada_lexer.specs.Bytes.{is_printable, is_letter, is_digit, begins, every}
+use Rattle.ada_lexer.specs.Bytes.{is_printable, is_letter, is_digit}
+use Rattle.common_lemmas.specs.Following.{begins, every}
 use Rattle.ada_lexer.specs.Numbers.{decimals_value}
 use Rattle.ada_lexer.specs.Pieces.{number_goes_on}
 use Rattle.ada_lexer.specs.Strings.{content}

@@ -5,7 +5,7 @@ use Rattle.ada_tree.specs.Refusals.{types_in}
 use Rattle.ada_tree.specs.WellPlaced.{IsWellPlaced}
 use Rattle.ada_parser.proofs.PlacedItems.{read_is_placed}
 use Rattle.normal_form_law.specs.Normalisable.{numbers_of}
-use Rattle.normal_legal_units.proofs.Fields.{few_names_small}
+use Rattle.normal_legal.proofs.units.Fields.{few_names_small}
 use Rattle.normal_legal.proofs.Joined.{legal_is_normal, legal_shows_same}
 use Rattle.read_sizes.proofs.Read.{read_has_few_names, read_has_names, read_is_light}
 use Rattle.read_normal.specs.Laws.{TextIsLegal, TextIsNormal, TextShowsSame}

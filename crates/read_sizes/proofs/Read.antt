@@ -16,7 +16,7 @@ use Rattle.ada_expr_parser.specs.declared.items.Item.{Item}
 use Rattle.ada_expr_parser.specs.Items.{name_text, IsItemOf, interned_if, with_token, names_after}
 use Rattle.ada_phrase_parser.specs.Spelling.{Source}
 use Rattle.ada_parser.specs.Reads.{deepest, unit_of, HasItems, Reads}
-use Rattle.normal_legal_units.specs.Weights.{AreLight}
+use Rattle.normal_legal.specs.units.Weights.{AreLight}
 use Rattle.read_sizes.specs.Weight.{decls_weight, program_weight}
 use Rattle.read_sizes.specs.Laws.{ReadHasFewNames, ReadHasNames, ReadWeighsLittle, ReadIsLight}
 use Rattle.read_sizes.proofs.Takes.{unit-takes}

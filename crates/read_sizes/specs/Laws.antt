@@ -3,7 +3,7 @@ use Rattle.std.specs.Prelude.{ℕ, ◌+◌, ◌<◌, ◌≤◌, ◌^◌, List, l
 use Rattle.ada_tree.specs.NameList.{predefined, AreNames}
 use Rattle.ada_tree.specs.PlainProgram.{PProgram}
 use Rattle.ada_parser.specs.Reads.{Reads}
-use Rattle.normal_legal_units.specs.Weights.{IsLight}
+use Rattle.normal_legal.specs.units.Weights.{IsLight}
 use Rattle.read_sizes.specs.Weight.{program_weight}
 
 -- A program that is read has at most as many names as its text has bytes, besides the predefined ones.

@@ -1,9 +1,8 @@
 // Accept statements.
 
-ghost use Rattle.std.specs.Prelude.{◌≡◌, IfOk, OnOk, map};
+ghost use Rattle.std.specs.Prelude.{◌≡◌, IfOk, map};
 ghost use Rattle.ada_tree.specs.PlainExpr.{plain_expr};
 ghost use Rattle.ada_tree.specs.PlainStmt.{SAccept, accepting, present, stmt_then, plain_accept, plain_handler, plain_stmt, seen, seen_maybe, handlers_of};
-ghost use Rattle.task_model.specs.Frames.{in_front};
 ghost use Rattle.normal_model.specs.Making.{one};
 ghost use Rattle.normal_model.specs.Waits.{head_of};
 ghost use Rattle.ada_expr_copy.specs.Parts.{OkWith};

@@ -170,7 +170,7 @@ module _ (g : Setting) (name : NameId) where
 -- ---- the program
 
 -- the unit of a task that has that name
-unit-at : (p : PProgram) (numbers : Numbering) (t : ℕ) (info : TaskInfo) → task_at numbers (suc t) ≡ Some info → unit_of p numbers (suc t) ≡ unit_among p.decls info.unit
+pub unit-at : (p : PProgram) (numbers : Numbering) (t : ℕ) (info : TaskInfo) → task_at numbers (suc t) ≡ Some info → unit_of p numbers (suc t) ≡ unit_among p.decls info.unit
 unit-at p numbers t info at =
     ap (λ (b : Bool). if b then record { in_main = true; decls = p.decls; body = p.body } else unit_of_info p (task_at numbers (suc t))) (let e : (suc t == 0) ≡ false = grind (arith, nat_tests) in e)
     ∙ ap (unit_of_info p) at

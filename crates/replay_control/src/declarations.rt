@@ -1,6 +1,6 @@
 // The declarations of the controller and the idle task.
 
-ghost use Rattle.std.specs.Prelude.{◌≡◌, ◌++◌, ◌∷◌, [], Some, None, IfOk, OnOk, map, option_map};
+ghost use Rattle.std.specs.Prelude.{◌≡◌, ◌∷◌, [], Some, None, IfOk, map};
 ghost use Rattle.ada_tree.specs.PlainExpr.{plain_drange};
 ghost use Rattle.ada_tree.specs.PlainStmt.{plain_formal};
 ghost use Rattle.ada_tree.specs.PlainDecl.{plain_decl, plain_entry};

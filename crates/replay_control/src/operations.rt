@@ -7,7 +7,7 @@ ghost use Rattle.ada_expr_copy.specs.Parts.{OkWith};
 ghost use Rattle.normal_model.specs.Ranges.{word_at};
 ghost use Rattle.normal_model.specs.Making.{one};
 ghost use Rattle.normal_model.specs.Members.{integer_literal};
-ghost use Rattle.replay_control.specs.Controlled.{accept_by, part_given, given, joined, name_at, op_statement};
+ghost use Rattle.replay_control.specs.Controlled.{accept_by, given, joined, name_at, op_statement};
 
 use crate::declarations::{permit_formals, word};
 use ada_stmt_copy::building::{accept_of, accepting_of, block_of, body_of, call_of};

@@ -30,9 +30,9 @@ use Rattle.normal_has_numbers.proofs.Listed.{firsts, vars, tasks, bodies}
 use Rattle.normal_has_numbers.proofs.Tasked.{under, normal-tasks-of}
 use Rattle.normal_form_law.specs.Normalisable.{numbers_of, setting_for, made_for}
 use Rattle.normal_form_law.proofs.Numbered.{AreNumbered, none_numbered, numbered_then, unit-numbered}
-use Rattle.normal_legal_units.proofs.Fields.{legal_is_ordered}
-use Rattle.normal_legal_units.proofs.TasksApart.{IsNamed, members-there, all-named}
-use Rattle.normal_legal_units.proofs.DeclaredNames.{tasks-good}
+use Rattle.normal_legal.proofs.units.Fields.{legal_is_ordered}
+use Rattle.normal_legal.proofs.units.TasksApart.{IsNamed, members-there, all-named}
+use Rattle.normal_legal.proofs.units.DeclaredNames.{tasks-good}
 use Rattle.normal_legal.specs.Laws.{IsLegal}
 use Rattle.ada_duplicates.specs.NamedSoFar.{object_words}
 use Rattle.ada_duplicates.specs.NamingsInOrder.{declared}

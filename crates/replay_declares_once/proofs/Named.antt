@@ -11,7 +11,7 @@ use Rattle.ada_tree.specs.Sites.{all_names, with_words}
 use Rattle.ada_duplicates.specs.declared.namings_in_order.Naming.{Naming}
 use Rattle.ada_duplicates.specs.NamingsInOrder.{declared, named_once}
 use Rattle.normal_once.specs.Names.{label_names, scheme_names, stmt_names, stmts_names, maybe_names, accept_names, alts_names, kind_names, arms_names, case_arms_names, body_names, handlers_names, entries_names}
-use Rattle.normal_legal_walk.proofs.Walk.{words-all}
+use Rattle.normal_legal.proofs.walked_statements.Walk.{words-all}
 use Rattle.replay_declares_once.specs.Names.{word_named}
 
 -- names that obey something, where they are declared or named

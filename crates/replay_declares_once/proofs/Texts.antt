@@ -18,8 +18,8 @@ use Rattle.normal_model.specs.Names.{index_text, member_texts, variable_text, wi
 use Rattle.normal_model.proofs.VariablesLemmas.{Begins}
 use Rattle.normal_types.proofs.Names.{variables-begin, names-begin, variable-there}
 use Rattle.rewritten_values.proofs.Saying.{place-within}
-use Rattle.normal_legal_units.proofs.TaskNames.{mark-there}
-use Rattle.normal_legal_units.proofs.TasksApart.{full_text, IsNamed}
+use Rattle.normal_legal.proofs.units.TaskNames.{mark-there}
+use Rattle.normal_legal.proofs.units.TasksApart.{full_text, IsNamed}
 use Rattle.normal_declares_once.proofs.Ids.{IsGoodId}
 use Rattle.replay_model.specs.Names.{kind_text, argument_text, index_text as permit_index_text, control_text, idle_text, never_text, join_text}
 use Rattle.replay_declares_once.specs.Names.{is_added_text}

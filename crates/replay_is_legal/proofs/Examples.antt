@@ -9,7 +9,7 @@ use Rattle.rewritten_types.proofs.Lookups.{place-all}
 use Rattle.legal_types.specs.Typed.{IsSmall}
 use Rattle.normal_placed.specs.Example.{passing}
 use Rattle.normal_placed.proofs.Instance.{example_is_placeable}
-use Rattle.normal_legal_units.specs.Weights.{IsLight}
+use Rattle.normal_legal.specs.units.Weights.{IsLight}
 use Rattle.normal_form_law.specs.Normalisable.{numbers_of}
 use Rattle.normal_legal.specs.Laws.{IsLegal}
 use Rattle.normal_legal.proofs.Instance.{IsOther, small-other}

@@ -17,7 +17,7 @@ use Rattle.task_model.specs.Setting.{Setting}
 use Rattle.normal_model.specs.Names.{variable_name, task_name}
 use Rattle.normal_model.specs.NormalTree.{first_decls, main_unit, main_variables, tasks_beside, variables_needed, variables_of_body, greatest}
 use Rattle.normal_model.specs.Ranges.{word_at}
-use Rattle.normal_legal_units.proofs.TasksApart.{IsNamed}
+use Rattle.normal_legal.proofs.units.TasksApart.{IsNamed}
 use Rattle.normal_types.specs.Own.{own_name}
 use Rattle.normal_form_law.specs.Normalisable.{numbers_of, setting_for, made_for}
 use Rattle.normal_placed.proofs.Names.{first-named}

@@ -30,8 +30,8 @@ use Rattle.normal_model.specs.Calls.{Slot, slots_of}
 use Rattle.alike_scopes.specs.Old.{IsOldSubind}
 use Rattle.normal_types.specs.Own.{own_name}
 use Rattle.normal_placed.proofs.Added.{AreSubtypes}
-use Rattle.normal_legal_types.proofs.Numbers.{EntryRule, IsRuled, IsEntryOf, entry-of, formals-are, range-is}
-use Rattle.normal_legal_types.proofs.Subtypes.{RangeEvery}
+use Rattle.normal_legal.proofs.variable_types.Numbers.{EntryRule, IsRuled, IsEntryOf, entry-of, formals-are, range-is}
+use Rattle.normal_legal.proofs.variable_types.Subtypes.{RangeEvery}
 use Rattle.normal_checked.specs.Around.{own_rules}
 use Rattle.normal_form_law.specs.Normalisable.{numbers_of, setting_for, made_for}
 use Rattle.normal_legal.specs.Laws.{IsLegal}

@@ -5,7 +5,7 @@ use Rattle.event_machine.specs.declared.Standing.{Standing}
 use Rattle.event_machine.specs.declared.Standing.TheVariants.{Live, Waiting, Queued, Served, Completed, Killed}
 use Rattle.event_machine.specs.declared.Event.{Event}
 use Rattle.event_machine.specs.declared.Event.TheVariants.{B}
-use Rattle.event_machine.specs.Seats.{Seat, live, completed, is_closed, is_completed, is_served_by}
+use Rattle.event_machine.specs.States.{Seat, live, completed, is_closed, is_completed, is_served_by}
 use Rattle.event_machine.specs.Effects.{fallen, went_on, aborted, abort_seats}
 use Rattle.event_machine.specs.Programs.{Program, numbered}
 use Rattle.event_machine.specs.Worlds.{World, Happen, happens, acted, moved, aborts}

@@ -1,7 +1,7 @@
 -- The invariant after an event of the original.
 use Rattle.std.proofs.Common.{◌≡◌, ℕ, ◌<◌, ◌≤◌, Bool, true, false, ◌==◌, ◌||◌, if◌then◌else◌, List, [], ◌∷◌, ◌++◌, append_assoc, refl, sym, ap, ap₂, ◌∙◌, subst, ⊎_elim, arith}
 use Rattle.event_machine.specs.declared.Event.{Event}
-use Rattle.event_machine.specs.Seats.{Seat, live, is_completed}
+use Rattle.event_machine.specs.States.{Seat, live, is_completed}
 use Rattle.event_machine.specs.Programs.{numbered}
 use Rattle.event_machine.specs.Worlds.{World, happens, acted, is_last}
 use Rattle.replay_law.specs.Permits.{Permit, permit_of, Op}

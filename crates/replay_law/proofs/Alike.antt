@@ -8,7 +8,7 @@ use Rattle.event_machine.specs.declared.Standing.TheVariants.{Live, Waiting, Que
 use Rattle.event_machine.specs.declared.Event.{Event}
 use Rattle.event_machine.specs.declared.Event.TheVariants.{R, E, S, D, C, T, F, X, B, Z}
 use Rattle.event_machine.specs.Offers.{Offer, Nothing, Finishes, Calls, calls_in, is_any_form, is_conditional, is_timed, waits_with, is_finish, is_end, opens, is_else, is_delay, is_terminate}
-use Rattle.event_machine.specs.Seats.{Ops, Seat, live, completed, is_live, is_closed, is_completed, is_served_by}
+use Rattle.event_machine.specs.States.{Ops, Seat, live, completed, is_live, is_closed, is_completed, is_served_by}
 use Rattle.event_machine.specs.Effects.{fallen}
 use Rattle.event_machine.specs.Programs.{Program, numbered}
 use Rattle.event_machine.specs.Worlds.{World, happens, acted, offers, others_end, aborts}

@@ -14,8 +14,8 @@ use Rattle.event_machine.specs.declared.Action.TheVariants.{Local, Arrive, Start
 use Rattle.event_machine.specs.declared.Event.{Event}
 use Rattle.event_machine.specs.declared.Event.TheVariants.{R, E, S, D, C, T, F, X, B, Z}
 use Rattle.event_machine.specs.Offers.{Offer, Nothing, Calls, Waits, Finishes, Ends, Aborts, aborted_by, calls_in, is_any_form, is_conditional, is_timed, queues_up, waits_with, is_finish, is_end, opens, is_else, is_delay, is_terminate}
-use Rattle.event_machine.specs.Seats.{Seat, State, seen, is_live, is_waiting, is_queued, is_completed, is_closed}
-use Rattle.event_machine.specs.Rows.{can, starts, queue_of, queues_at, is_first, is_empty, has_caller, has_no_caller, calls_owner, same, arrives, can_end, others_can_end}
+use Rattle.event_machine.specs.States.{Seat, State, seen, is_live, is_waiting, is_queued, is_completed, is_closed}
+use Rattle.event_machine.specs.Applying.{can, starts, queue_of, queues_at, is_first, is_empty, has_caller, has_no_caller, calls_owner, same, arrives, can_end, others_can_end}
 use Rattle.event_machine.specs.Effects.{after, event_of, call_event, abort_event, arrived_standing}
 use Rattle.event_machine.specs.Runs.{IsRun, end_of, events_of}
 use Rattle.event_machine.specs.Programs.{Program, numbered}
@@ -27,7 +27,7 @@ use Rattle.event_machine.proofs.Standings.{is-Live}
 use Rattle.event_machine.proofs.Stills.{still_freed, still_closed, still_completed}
 use Rattle.event_machine.proofs.Updates.{stand_self, stand_other}
 use Rattle.event_machine.proofs.Offering.{calls_is, waits_is, finish_is, end_is, aborts_is, timed_queues, else_conditional, calls_waits}
-use Rattle.event_machine.proofs.Erasing.{event_row, event_world, arrive_world}
+use Rattle.event_machine.proofs.Erasing.{event_applies, event_world, arrive_world}
 use Rattle.event_machine.proofs.Appends.{run_append, end_append, events_append}
 use Rattle.event_machine.proofs.Queues.{run_suited, run_lined}
 use Rattle.common_lemmas.proofs.Numbers.{equal_self, unequal_turned}
@@ -134,7 +134,7 @@ module _ {L : Type 0} (p : Program L) (rests : (l : L) → p.ops.can_step l ≡ 
     actions = a.actions ++ (action ∷ []);
     run = run_append (numbered p) s a.actions (action ∷ []) a.run (h, tt);
     events = events_append (numbered p) s a.actions (action ∷ []) ∙ ap₂ (λ (xs : List Event) (o : Option Event). xs ++ (option_to_list o ++ [])) a.silent q;
-    world = ap world_of (end_append (numbered p) s a.actions (action ∷ [])) ∙ sym (event_world p (behind s a) action e (event_row p (behind s a) action e h q)) ∙
+    world = ap world_of (end_append (numbered p) s a.actions (action ∷ [])) ∙ sym (event_world p (behind s a) action e (event_applies p (behind s a) action e h q)) ∙
         ap (λ v. moved p v (Happen e)) a.world;
   }
 
@@ -253,13 +253,13 @@ module _ {L : Type 0} (p : Program L) (rests : (l : L) → p.ops.can_step l ≡ 
         here (DelayChoice k) h more = true≢false (sym h)
         here Terminate h more = true≢false (sym h)
 
-    -- the row of an else part or a delay
-    wait_row : (t : ℕ) (test : Choice → Bool) (choices : List Choice) → p.ops.offer (s.seats t).local ≡ Waits choices → waits_with test (p.ops.offer (s.seats t).local) ≡ true →
+    -- the condition of an else part or a delay
+    wait_applies : (t : ℕ) (test : Choice → Bool) (choices : List Choice) → p.ops.offer (s.seats t).local ≡ Waits choices → waits_with test (p.ops.offer (s.seats t).local) ≡ true →
         (w : ArrivedAs s t Waiting) →
         ((u e : ℕ) (i : ℤ) → waits_with (opens e i) (p.ops.offer (s.seats t).local) ≡ true → offers p.ops (calls_in is_any_form e i) ((world_of s).tasks u) ≡ true → ⊥) →
         (not (behind s w.arrived).ended && (is_waiting ((behind s w.arrived).seats t).standing && (waits_with test (p.ops.offer ((behind s w.arrived).seats t).local) &&
         has_no_caller p.ops (seen (numbered p) (behind s w.arrived)) (p.ops.offer ((behind s w.arrived).seats t).local)))) ≡ true
-    wait_row t test choices q h w lone = both (ap not (same_ended s w.arrived ∙ runs)) (both (ap is_waiting w.at)
+    wait_applies t test choices q h w lone = both (ap not (same_ended s w.arrived ∙ runs)) (both (ap is_waiting w.at)
         (both (ap (λ l. waits_with test (p.ops.offer l)) (same_local s w.arrived t) ∙ h) (no_caller_there w.arrived t choices q lone)))
 
     module _ (tidy : IsTidy p (world_of s)) where
@@ -268,7 +268,7 @@ module _ {L : Type 0} (p : Program L) (rests : (l : L) → p.ops.can_step l ≡ 
           let q = waits_is is_else (p.ops.offer (s.seats a).local) (test_of (waits_with is_else) a h) in
           let w : ArrivedAs s a Waiting = arrive_wait s a q.0 suited runs (free_of (waits_with is_else) a h) q.1 in
           had_by s w.arrived (Else a) (S a)
-          (wait_row a is_else q.0 q.1 (test_of (waits_with is_else) a h) w
+          (wait_applies a is_else q.0 q.1 (test_of (waits_with is_else) a h) w
           (λ u e i opened called. tidy.lone_else a u e i h (both (ap is_live (free_of (waits_with is_else) a h)) opened) called)) refl
 
       had_delay : (a k : ℕ) → happens p (world_of s).tasks (D a k) ≡ true → Had s (D a k)
@@ -276,7 +276,7 @@ module _ {L : Type 0} (p : Program L) (rests : (l : L) → p.ops.can_step l ≡ 
           let q = waits_is (is_delay k) (p.ops.offer (s.seats a).local) (test_of (waits_with (is_delay k)) a h) in
           let w : ArrivedAs s a Waiting = arrive_wait s a q.0 suited runs (free_of (waits_with (is_delay k)) a h) q.1 in
           had_by s w.arrived (Delay a k) (D a k)
-          (wait_row a (is_delay k) q.0 q.1 (test_of (waits_with (is_delay k)) a h) w
+          (wait_applies a (is_delay k) q.0 q.1 (test_of (waits_with (is_delay k)) a h) w
           (λ u e i opened called. tidy.lone_delay a k u e i h (both (ap is_live (free_of (waits_with (is_delay k)) a h)) opened) called)) refl
 
       had_end : (a : ℕ) → happens p (world_of s).tasks (E a) ≡ true → Had s (E a)
@@ -379,11 +379,11 @@ module _ {L : Type 0} (p : Program L) (rests : (l : L) → p.ops.can_step l ≡ 
             let q = waits_is (opens e i) (p.ops.offer (s.seats (p.owner e)).local) (test_of (waits_with (opens e i)) (p.owner e) waited) in
             arrive_wait s (p.owner e) q.0 suited runs (free_of (waits_with (opens e i)) (p.owner e) waited) q.1
 
-        -- the row, where the caller is first or calls at a condition
-        start_row : (a : Arrived s) (form : CallForm) → p.ops.offer (s.seats c).local ≡ Calls form e i → ((behind s a).seats (p.owner e)).standing ≡ Waiting →
+        -- the condition, where the caller is first or calls at a condition
+        start_applies : (a : Arrived s) (form : CallForm) → p.ops.offer (s.seats c).local ≡ Calls form e i → ((behind s a).seats (p.owner e)).standing ≡ Waiting →
             (is_first c (queue_of p.ops (seen (numbered p) (behind s a)) e i) || ((is_live ((behind s a).seats c).standing && is_conditional form) && is_empty (queue_of p.ops (seen (numbered p) (behind s a)) e i))) ≡ true →
             Had s (R c e i)
-        start_row a form q waits serves =
+        start_applies a form q waits serves =
             let now : p.ops.offer ((behind s a).seats c).local ≡ Calls form e i = ap p.ops.offer (same_local s a c) ∙ q in
             had_by s a (Start c) (R c e i)
             (both (ap not (same_ended s a ∙ runs)) (ap (starts p.ops p.owner (seen (numbered p) (behind s a)) c) now ∙
@@ -407,7 +407,7 @@ module _ {L : Type 0} (p : Program L) (rests : (l : L) → p.ops.can_step l ≡ 
                 let at : ((behind s b).seats c).standing ≡ Queued = ap (λ (z : State (ℕ → Seat L)). (z.seats c).standing) (then_end s a w.arrived) ∙ w.at in
                 let waits : ((behind s b).seats (p.owner e)).standing ≡ Waiting =
                 ap (λ (z : State (ℕ → Seat L)). (z.seats (p.owner e)).standing) (then_end s a w.arrived) ∙ ap (λ (y : Seat L). y.standing) (w.others (p.owner e) other') ∙ owner_waits.at in
-                start_row b form q waits (or_left _ _ (ap (is_first c) (alone (queues_at p.ops (seen (numbered p) (behind s b)) e i) (behind s b).line c (only_caller b)
+                start_applies b form q waits (or_left _ _ (ap (is_first c) (alone (queues_at p.ops (seen (numbered p) (behind s b)) e i) (behind s b).line c (only_caller b)
                 (both (ap is_queued at) (ap (λ l. calls_in is_any_form e i (p.ops.offer l)) (same_local s b c) ∙ test_of (calls_in is_any_form e i) c called))
                 (lined_behind b c ∙ ap (λ z. if is_queued z then 1 else 0) at)) ∙ equal_self c))
 
@@ -416,7 +416,7 @@ module _ {L : Type 0} (p : Program L) (rests : (l : L) → p.ops.can_step l ≡ 
                 let a : Arrived s = owner_waits.arrived in
                 let free : (s.seats c).standing ≡ Live = stands_live s c (Calls form e i) suited (free_of (calls_in is_any_form e i) c called) q refl none in
                 let at : ((behind s a).seats c).standing ≡ Live = ap (λ (y : Seat L). y.standing) (owner_waits.others c other) ∙ free in
-                start_row a form q owner_waits.at (or_right _ _ (both (both (ap is_live at) (else_conditional form none))
+                start_applies a form q owner_waits.at (or_right _ _ (both (both (ap is_live at) (else_conditional form none))
                 (ap is_empty (none_pass (queues_at p.ops (seen (numbered p) (behind s a)) e i) (behind s a).line
                 (λ u r. true≢false (sym (queued_calls a e i u r).0 ∙ ap (λ v. is_queued ((behind s a).seats v).standing) (only_caller a u r) ∙ ap is_queued at))))))
 

@@ -6,7 +6,7 @@ use Rattle.event_machine.specs.declared.Standing.TheVariants.{Live}
 use Rattle.event_machine.specs.declared.Event.{Event}
 use Rattle.event_machine.specs.declared.Event.TheVariants.{R, E, S, D, C, T, F, X, B, Z}
 use Rattle.event_machine.specs.Offers.{Offer, Nothing, calls_in, is_any_form, is_conditional, is_timed, waits_with, is_finish, is_end, opens, is_else, is_delay, is_terminate}
-use Rattle.event_machine.specs.Seats.{Ops, Seat, live, is_live, is_closed, is_completed}
+use Rattle.event_machine.specs.States.{Ops, Seat, live, is_live, is_closed, is_completed}
 use Rattle.event_machine.specs.Worlds.{World, Move, Step, Happen, can_move, moved, happens, happened, is_last, offers, others_end, aborts, AreMoves, world_after}
 use Rattle.event_machine.proofs.Basics.{both}
 use Rattle.event_machine.proofs.Standings.{is-Live}

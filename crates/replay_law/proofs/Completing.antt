@@ -5,7 +5,7 @@ use Rattle.event_machine.specs.declared.Standing.TheVariants.{Live, Completed}
 use Rattle.event_machine.specs.declared.Event.{Event}
 use Rattle.event_machine.specs.declared.Event.TheVariants.{X}
 use Rattle.event_machine.specs.Offers.{is_end}
-use Rattle.event_machine.specs.Seats.{Seat, live, is_completed}
+use Rattle.event_machine.specs.States.{Seat, live, is_completed}
 use Rattle.event_machine.specs.Worlds.{World, Happen, happens, moved, offers}
 use Rattle.event_machine.proofs.Basics.{both, false_not}
 use Rattle.replay_law.specs.Permits.{ToEnd, Op, Go, Done, Join, Hold}

@@ -5,7 +5,7 @@ use Rattle.event_machine.specs.declared.Action.{Action}
 use Rattle.event_machine.specs.declared.Action.TheVariants.{Local}
 use Rattle.event_machine.specs.declared.Event.{Event}
 use Rattle.event_machine.specs.Offers.{Offer, Nothing, calls_in, is_any_form, is_conditional, waits_with, is_else, is_delay, opens}
-use Rattle.event_machine.specs.Seats.{Ops, Seat, State}
+use Rattle.event_machine.specs.States.{Ops, Seat, State}
 use Rattle.event_machine.specs.Effects.{after}
 use Rattle.event_machine.specs.Runs.{IsRun, end_of, events_of, Feasible}
 use Rattle.event_machine.specs.Programs.{Program, numbered}
@@ -13,7 +13,7 @@ use Rattle.event_machine.specs.Queues.{IsSuited, IsLined, suits}
 use Rattle.event_machine.specs.Worlds.{World, Move, Step, Happen, world_of, moved, happens, happened, offers, AreMoves}
 use Rattle.event_machine.proofs.Appends.{run_append, events_append}
 use Rattle.event_machine.proofs.Queues.{run_suited, run_lined}
-use Rattle.event_machine.specs.Seats.{is_live, is_queued}
+use Rattle.event_machine.specs.States.{is_live, is_queued}
 use Rattle.event_machine.specs.Soundness.{times}
 use Rattle.replay_law.specs.Copies.{Copy, copy_ops}
 use Rattle.replay_law.specs.Rewritings.{Setting, twin, Imitates, OpensSo}

@@ -2,7 +2,7 @@
 use Rattle.std.proofs.Common.{◌≡◌, ℕ, ◌<◌, Bool, true, false, ◌==◌, if◌then◌else◌, refl, ap, ◌∙◌, arith}
 use Rattle.std.proofs.lemmas.Bool.{ne_eqb, and_parts}
 use Rattle.event_machine.specs.Offers.{Offer}
-use Rattle.event_machine.specs.Seats.{Ops, Seat, live, completed, is_live, is_served_by, is_abnormal}
+use Rattle.event_machine.specs.States.{Ops, Seat, live, completed, is_live, is_served_by, is_abnormal}
 use Rattle.event_machine.specs.Worlds.{offers}
 use Rattle.common_lemmas.proofs.Numbers.{equal_self}
 

@@ -6,7 +6,7 @@ use Rattle.event_machine.specs.declared.Standing.TheVariants.{Live, Completed}
 use Rattle.event_machine.specs.declared.Event.{Event}
 use Rattle.event_machine.specs.declared.Event.TheVariants.{R, E, S, D, C, T, F, X, B, Z}
 use Rattle.event_machine.specs.Offers.{calls_in, is_any_form}
-use Rattle.event_machine.specs.Seats.{Seat, live, is_closed}
+use Rattle.event_machine.specs.States.{Seat, live, is_closed}
 use Rattle.event_machine.specs.Worlds.{World, happens, offers}
 use Rattle.event_machine.specs.Admitting.{IsAdmitted}
 use Rattle.event_machine.proofs.Basics.{both, split, same_member-true}

@@ -11,7 +11,7 @@ use Rattle.event_machine.specs.declared.Standing.TheVariants.{Live, Waiting, Que
 use Rattle.event_machine.specs.declared.Event.{Event}
 use Rattle.event_machine.specs.declared.Event.TheVariants.{R, E, S, D, C, T, F, X, B, Z}
 use Rattle.event_machine.specs.Offers.{Offer, Nothing, Calls, Waits, Finishes, Ends, Aborts, calls_in, is_any_form, is_conditional, is_timed, waits_with, is_finish, is_end, opens, is_else, is_delay, is_terminate, same_member}
-use Rattle.event_machine.specs.Seats.{Seat, live, is_live, is_closed, is_completed}
+use Rattle.event_machine.specs.States.{Seat, live, is_live, is_closed, is_completed}
 use Rattle.event_machine.specs.Worlds.{World, Move, Happen, can_move, moved, happens, happened, offers, others_end, aborts, AreMoves}
 use Rattle.event_machine.proofs.Basics.{both, same_member-refl, false_not}
 use Rattle.event_machine.proofs.Standings.{is-Live}

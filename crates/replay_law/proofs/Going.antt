@@ -2,7 +2,7 @@
 use Rattle.std.proofs.Common.{◌≡◌, ℕ, ◌≤◌, true, false, not, ◌==◌, List, [], ◌∷◌, ◌++◌, append_assoc, append-nil, refl, sym, ap, ap₂, ◌∙◌, subst, true≢false}
 use Rattle.std.proofs.lemmas.Bool.{and_parts, or_right}
 use Rattle.event_machine.specs.declared.Event.{Event}
-use Rattle.event_machine.specs.Seats.{is_completed}
+use Rattle.event_machine.specs.States.{is_completed}
 use Rattle.event_machine.specs.Runs.{Feasible}
 use Rattle.event_machine.specs.Programs.{numbered}
 use Rattle.event_machine.specs.Soundness.{times}

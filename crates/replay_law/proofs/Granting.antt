@@ -6,7 +6,7 @@ use Rattle.event_machine.specs.declared.Standing.TheVariants.{Live}
 use Rattle.event_machine.specs.declared.Event.{Event}
 use Rattle.event_machine.specs.declared.Event.TheVariants.{R, E, S, D, C, T, F, X, B, Z}
 use Rattle.event_machine.specs.Offers.{is_end}
-use Rattle.event_machine.specs.Seats.{Seat, live, is_live}
+use Rattle.event_machine.specs.States.{Seat, live, is_live}
 use Rattle.event_machine.specs.Soundness.{times}
 use Rattle.event_machine.specs.Worlds.{World, Happen, happens, moved, needs, offers, others_end}
 use Rattle.event_machine.proofs.Standings.{is-Live}

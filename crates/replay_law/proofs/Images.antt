@@ -4,7 +4,7 @@ use Rattle.std.specs.Prelude.{nat_lt}
 use Rattle.std.proofs.lemmas.Bool.{eqb-true, cases_lt}
 use Rattle.event_machine.specs.declared.Standing.{Standing}
 use Rattle.event_machine.specs.declared.Standing.TheVariants.{Live, Waiting, Queued, Served, Completed, Killed}
-use Rattle.event_machine.specs.Seats.{Seat, live, completed, is_served_by, is_abnormal}
+use Rattle.event_machine.specs.States.{Seat, live, completed, is_served_by, is_abnormal}
 use Rattle.event_machine.proofs.Basics.{push_if}
 use Rattle.event_machine.specs.Worlds.{still}
 use Rattle.replay_law.specs.Copies.{Copy, under}

@@ -7,8 +7,8 @@ use Rattle.event_machine.specs.declared.Standing.TheVariants.{Live, Waiting, Que
 use Rattle.event_machine.specs.declared.Event.{Event}
 use Rattle.event_machine.specs.declared.Event.TheVariants.{R, E, S, D, C, T, F, X, B, Z}
 use Rattle.event_machine.specs.Offers.{is_finish, is_end}
-use Rattle.event_machine.specs.Seats.{Seat, live, is_live, is_closed, is_completed, is_served, is_served_by}
-use Rattle.event_machine.specs.Rows.{is_empty}
+use Rattle.event_machine.specs.States.{Seat, live, is_live, is_closed, is_completed, is_served, is_served_by}
+use Rattle.event_machine.specs.Applying.{is_empty}
 use Rattle.event_machine.specs.Lawful.{IsLawful}
 use Rattle.event_machine.specs.Programs.{Program}
 use Rattle.event_machine.specs.Soundness.{IsSound, times}

@@ -6,7 +6,7 @@ use Rattle.event_machine.specs.declared.Standing.TheVariants.{Live, Waiting, Que
 use Rattle.event_machine.specs.declared.Event.{Event}
 use Rattle.event_machine.specs.declared.Event.TheVariants.{Z}
 use Rattle.event_machine.specs.Offers.{is_end, is_terminate, waits_with}
-use Rattle.event_machine.specs.Seats.{Seat, live, is_completed}
+use Rattle.event_machine.specs.States.{Seat, live, is_completed}
 use Rattle.event_machine.specs.Worlds.{World, Happen, happens, moved, offers, others_end}
 use Rattle.event_machine.proofs.Basics.{both}
 use Rattle.replay_law.specs.Permits.{Permit, ToClose, permit_of}

@@ -5,7 +5,7 @@ use Rattle.event_machine.specs.declared.Standing.{Standing}
 use Rattle.event_machine.specs.declared.Standing.TheVariants.{Live, Waiting, Queued, Served, Completed, Killed}
 use Rattle.event_machine.specs.declared.Event.{Event}
 use Rattle.event_machine.specs.declared.Event.TheVariants.{R, E, S, D, C, T, F, X, B, Z}
-use Rattle.event_machine.specs.Seats.{Seat, live, is_live, is_completed}
+use Rattle.event_machine.specs.States.{Seat, live, is_live, is_completed}
 use Rattle.event_machine.specs.Worlds.{World, Move, Step, Happen, can_move, moved, happens, happened}
 use Rattle.event_machine.proofs.Basics.{both, seat_path}
 use Rattle.event_machine.proofs.Standings.{is-Live}

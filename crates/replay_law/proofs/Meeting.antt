@@ -6,7 +6,7 @@ use Rattle.event_machine.specs.declared.Standing.TheVariants.{Live, Served}
 use Rattle.event_machine.specs.declared.Event.{Event}
 use Rattle.event_machine.specs.declared.Event.TheVariants.{R}
 use Rattle.event_machine.specs.Offers.{calls_in, is_any_form, waits_with, opens, same_member}
-use Rattle.event_machine.specs.Seats.{Seat, live}
+use Rattle.event_machine.specs.States.{Seat, live}
 use Rattle.event_machine.specs.Programs.{numbered}
 use Rattle.event_machine.specs.Worlds.{World, happens, acted, offers}
 use Rattle.event_machine.proofs.Basics.{both, split, same_member-true}

@@ -6,7 +6,7 @@ use Rattle.event_machine.specs.declared.Standing.TheVariants.{Live, Waiting, Que
 use Rattle.event_machine.specs.declared.Event.{Event}
 use Rattle.event_machine.specs.declared.Event.TheVariants.{E}
 use Rattle.event_machine.specs.Offers.{is_finish}
-use Rattle.event_machine.specs.Seats.{Seat, live, completed, is_closed, is_served_by, is_abnormal}
+use Rattle.event_machine.specs.States.{Seat, live, completed, is_closed, is_served_by, is_abnormal}
 use Rattle.event_machine.specs.Effects.{released_first}
 use Rattle.event_machine.specs.Programs.{Program, numbered}
 use Rattle.event_machine.specs.Worlds.{World, Happen, happens, acted, moved}

@@ -7,7 +7,7 @@ use Rattle.event_machine.specs.declared.Standing.TheVariants.{Live, Waiting, Que
 use Rattle.event_machine.specs.declared.Event.{Event}
 use Rattle.event_machine.specs.declared.Event.TheVariants.{R, E, S, D, C, T, F, X, B, Z}
 use Rattle.event_machine.specs.Offers.{calls_in, is_any_form, is_conditional, is_timed, waits_with, opens, is_finish, is_else, is_delay}
-use Rattle.event_machine.specs.Seats.{Seat, live, completed, is_live, is_closed, is_served_by, is_abnormal}
+use Rattle.event_machine.specs.States.{Seat, live, completed, is_live, is_closed, is_served_by, is_abnormal}
 use Rattle.event_machine.specs.Effects.{fallen}
 use Rattle.event_machine.specs.Lawful.{IsLawful}
 use Rattle.event_machine.specs.Programs.{Program, numbered}

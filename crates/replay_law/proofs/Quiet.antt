@@ -7,8 +7,8 @@ use Rattle.event_machine.specs.declared.Action.{Action}
 use Rattle.event_machine.specs.declared.Action.TheVariants.{Local}
 use Rattle.event_machine.specs.declared.Event.{Event}
 use Rattle.event_machine.specs.declared.Event.TheVariants.{R, E, S, D, C, T, F, X, B, Z}
-use Rattle.event_machine.specs.Seats.{Ops, Seat, State, is_live}
-use Rattle.event_machine.specs.Rows.{can}
+use Rattle.event_machine.specs.States.{Ops, Seat, State, is_live}
+use Rattle.event_machine.specs.Applying.{can}
 use Rattle.event_machine.specs.Runs.{IsRun, end_of, events_of}
 use Rattle.event_machine.specs.Programs.{Program, numbered}
 use Rattle.event_machine.specs.Tallies.{tallies, ComesTo}

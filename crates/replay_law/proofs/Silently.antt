@@ -5,7 +5,7 @@ use Rattle.std.proofs.lemmas.Bool.{eqb-true}
 use Rattle.event_machine.specs.declared.Standing.TheVariants.{Live, Completed, Served}
 use Rattle.event_machine.specs.declared.Event.{Event}
 use Rattle.event_machine.specs.declared.Event.TheVariants.{R, E, S, D, C, T, F, X, B, Z}
-use Rattle.event_machine.specs.Seats.{Seat, live, is_completed}
+use Rattle.event_machine.specs.States.{Seat, live, is_completed}
 use Rattle.event_machine.specs.Worlds.{World, Happen, moved}
 use Rattle.replay_law.specs.Permits.{Permit, permit_of, Op, Go, Done, Join, Hold}
 use Rattle.replay_law.specs.Scripts.{grants}

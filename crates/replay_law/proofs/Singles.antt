@@ -11,7 +11,7 @@ use Rattle.event_machine.specs.Admitting.{IsAdmitted}
 use Rattle.event_machine.specs.declared.Event.{Event}
 use Rattle.event_machine.specs.declared.Event.TheVariants.{S, D, C, T}
 use Rattle.event_machine.specs.Offers.{calls_in, is_conditional, is_timed, waits_with, is_else, is_delay}
-use Rattle.event_machine.specs.Seats.{Seat, live}
+use Rattle.event_machine.specs.States.{Seat, live}
 use Rattle.event_machine.specs.Programs.{numbered}
 use Rattle.event_machine.specs.Worlds.{World, Happen, happens, acted, moved, is_last}
 use Rattle.event_machine.proofs.Basics.{both, split}

@@ -5,7 +5,7 @@ use Rattle.event_machine.specs.declared.Standing.TheVariants.{Served}
 use Rattle.event_machine.specs.declared.Event.{Event}
 use Rattle.event_machine.specs.declared.Event.TheVariants.{R, E, S, D, C, T, F, X, B, Z}
 use Rattle.event_machine.specs.Offers.{calls_in, is_any_form, is_conditional, is_timed, waits_with, is_finish, opens, is_else, is_delay}
-use Rattle.event_machine.specs.Seats.{live, is_served_by}
+use Rattle.event_machine.specs.States.{live, is_served_by}
 use Rattle.event_machine.specs.Worlds.{World, aborts}
 use Rattle.replay_law.specs.Permits.{Permit, ToMeet, ToFinish, ToElse, ToDelay, ToCallElse, ToExpire, ToFail, ToAbort, Op, Go, Done, Join}
 use Rattle.replay_law.specs.Copies.{Copy, Based, Holding, Saying, Controlling, Handing}

@@ -8,7 +8,7 @@ use Rattle.event_machine.specs.declared.Standing.{Standing}
 use Rattle.event_machine.specs.declared.Standing.TheVariants.{Live, Waiting, Queued, Served, Completed, Killed}
 use Rattle.event_machine.specs.declared.Event.{Event}
 use Rattle.event_machine.specs.Offers.{Offer, Nothing, Calls, Waits, Finishes}
-use Rattle.event_machine.specs.Seats.{Seat, live, is_live}
+use Rattle.event_machine.specs.States.{Seat, live, is_live}
 use Rattle.event_machine.specs.Worlds.{World, offers}
 use Rattle.event_machine.proofs.Basics.{seat_path}
 use Rattle.event_machine.proofs.Standings.{is-Live}

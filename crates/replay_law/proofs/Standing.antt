@@ -6,7 +6,7 @@ use Rattle.event_machine.specs.declared.Standing.{Standing}
 use Rattle.event_machine.specs.declared.Standing.TheVariants.{Live, Waiting, Queued, Served, Completed, Killed}
 use Rattle.event_machine.specs.declared.Event.{Event}
 use Rattle.event_machine.specs.declared.Event.TheVariants.{R, E, S, D, C, T, F, X, B, Z}
-use Rattle.event_machine.specs.Seats.{Seat, live, is_live, is_closed}
+use Rattle.event_machine.specs.States.{Seat, live, is_live, is_closed}
 use Rattle.event_machine.specs.Soundness.{times}
 use Rattle.event_machine.specs.Worlds.{World}
 use Rattle.replay_law.specs.Permits.{Permit, permit_of, Op, Go, Done, Join}

@@ -9,7 +9,7 @@ use Rattle.event_machine.specs.declared.Standing.TheVariants.{Live, Waiting, Que
 use Rattle.event_machine.specs.declared.Event.{Event}
 use Rattle.event_machine.specs.declared.Event.TheVariants.{R, E, F}
 use Rattle.event_machine.specs.Offers.{Nothing, Calls, calls_in, is_any_form, waits_with, opens, is_finish, same_member}
-use Rattle.event_machine.specs.Seats.{Seat, live, is_live, is_closed}
+use Rattle.event_machine.specs.States.{Seat, live, is_live, is_closed}
 use Rattle.event_machine.specs.Programs.{numbered}
 use Rattle.event_machine.specs.Worlds.{World, Move, Step, Happen, can_move, moved, acted, happened, is_last, offers, AreMoves, world_after}
 use Rattle.event_machine.proofs.Basics.{both, same_member-refl, seat_path}

@@ -7,7 +7,7 @@ use Rattle.event_machine.specs.declared.Event.TheVariants.{R}
 use Rattle.event_machine.specs.declared.CallForm.TheVariants.{Plain}
 use Rattle.event_machine.specs.declared.Choice.TheVariants.{Accept, Else, Delay}
 use Rattle.event_machine.specs.Offers.{Offer, Calls, calls_in, is_any_form, is_conditional, waits_with, opens}
-use Rattle.event_machine.specs.Seats.{Seat, live}
+use Rattle.event_machine.specs.States.{Seat, live}
 use Rattle.event_machine.specs.Worlds.{World, offers}
 use Rattle.event_machine.proofs.Basics.{same_member-true}
 use Rattle.event_machine.proofs.Offering.{calls_waits}

@@ -6,7 +6,7 @@ use Rattle.std.proofs.lemmas.Bool.{eqb-true, and_parts, cases_lt, ltb-true}
 use Rattle.event_machine.specs.declared.Standing.TheVariants.{Live}
 use Rattle.event_machine.specs.declared.Action.{Action}
 use Rattle.event_machine.specs.declared.Event.{Event}
-use Rattle.event_machine.specs.Seats.{Ops, Seat, State, live, completed, is_live, is_completed}
+use Rattle.event_machine.specs.States.{Ops, Seat, State, live, completed, is_live, is_completed}
 use Rattle.event_machine.specs.Runs.{IsRun, end_of, events_of}
 use Rattle.event_machine.specs.Programs.{Program, numbered}
 use Rattle.event_machine.specs.Worlds.{World, Move, Step, Happen, still, still_seat, world_of, state_of, can_move, moved, happens, happened, is_last, AreMoves, world_after}

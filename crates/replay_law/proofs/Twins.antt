@@ -5,7 +5,7 @@ use Rattle.std.specs.Prelude.{pos}
 use Rattle.event_machine.specs.declared.CallForm.TheVariants.{Plain}
 use Rattle.event_machine.specs.declared.Standing.TheVariants.{Live}
 use Rattle.event_machine.specs.Offers.{Nothing, Calls}
-use Rattle.event_machine.specs.Seats.{Seat}
+use Rattle.event_machine.specs.States.{Seat}
 use Rattle.replay_law.specs.Copies.{Sort, AtOriginal, AtShadow, AtGo, AtDone, AtHold, AtJoin, AtNever, AtStop, AtRest, AtNothing, Spots, IsNumbered, HasOwners, Copy, Based, Holding, Saying, Controlling, Handing, Idling, written, copy_ops, copy_steps, copy_stepped, copy_offer, copy_callers, copy_accepted, copy_finished, copy_resumed, copy_raised, copy_did}
 use Rattle.replay_law.specs.Rewritings.{Setting, control, idle, start_copy, opening_copy, Reaches, Imitates, OpensSo}
 use Rattle.replay_law.proofs.Tracking.{start_own, start_control, start_idle, start_past}

@@ -4,8 +4,8 @@ use Rattle.std.specs.List.{filter_map}
 use Rattle.event_machine.specs.declared.Action.{Action}
 use Rattle.event_machine.specs.declared.Event.{Event}
 use Rattle.event_machine.specs.declared.Event.TheVariants.{R, E, S, D, C, T, F, X, B, Z}
-use Rattle.event_machine.specs.Seats.{Seat, State}
-use Rattle.event_machine.specs.Rows.{can}
+use Rattle.event_machine.specs.States.{Seat, State}
+use Rattle.event_machine.specs.Applying.{can}
 use Rattle.event_machine.specs.Runs.{IsRun, end_of, events_of, Feasible}
 use Rattle.event_machine.specs.Programs.{Program, numbered}
 use Rattle.event_machine.specs.Tallies.{ComesTo, IsKilledIn}

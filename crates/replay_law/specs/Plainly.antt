@@ -3,8 +3,8 @@ use Rattle.std.specs.Prelude.{ℕ, zero, suc, Bool, true, false, not, ◌&&◌, 
 use Rattle.event_machine.specs.declared.Event.{Event}
 use Rattle.event_machine.specs.declared.Event.TheVariants.{R, E, S, D, C, T, F, X, B, Z}
 use Rattle.event_machine.specs.Offers.{Nothing}
-use Rattle.event_machine.specs.Seats.{Ops, Seat, is_live, is_closed, is_served}
-use Rattle.event_machine.specs.Rows.{is_empty}
+use Rattle.event_machine.specs.States.{Ops, Seat, is_live, is_closed, is_served}
+use Rattle.event_machine.specs.Applying.{is_empty}
 use Rattle.event_machine.specs.Programs.{Program, numbered}
 use Rattle.event_machine.specs.Worlds.{World, acted}
 use Rattle.replay_law.specs.Copies.{behind}

@@ -17,9 +17,9 @@ use Rattle.normal_checked.specs.Around.{own_rules}
 use Rattle.alike_scopes.specs.Laws.{IsMetBut}
 use Rattle.replay_typed.specs.ScopeOf.{with_scopes, form_asks}
 use Rattle.replay_scopes.specs.Form.{IsUnitForm, BodyForms}
-use Rattle.replay_form_names.specs.Laws.{IsNamedBody}
-use Rattle.replay_form_scopes.specs.Scoped.{IsUnitScoped, BodiesScoped}
-use Rattle.replay_form_units.specs.Units.{HasItsEntries, IsScopedBody, BodyUnits}
+use Rattle.replay_legal.specs.form_names.Laws.{IsNamedBody}
+use Rattle.replay_legal.specs.inner.Scoped.{IsUnitScoped, BodiesScoped}
+use Rattle.replay_legal.specs.inner.Units.{HasItsEntries, IsScopedBody, BodyUnits}
 
 module _ (old inner : ℕ → Bool) where
   -- what is asked of the statements of a unit

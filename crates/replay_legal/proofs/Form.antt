@@ -1,20 +1,19 @@
 -- The normal form of each legal program is as its replay text asks.
-use Rattle.std.proofs.Common.{◌≡◌, ℕ, ◌==◌, Bool, true, List, [], ◌∷◌, flat_map, refl, sym, ap, subst, ◌∙◌}
+use Rattle.std.proofs.Common.{◌≡◌, ℕ, Bool, true, List, [], flat_map, sym, subst}
 use Rattle.std.specs.List.{AllByRecursion, filter}
 use Rattle.std.proofs.lemmas.List.Elements.{recursion_from_All}
 use Rattle.common_lemmas.proofs.Lists.{all_unflat, all_weaker}
 use Rattle.event_machine.specs.declared.Event.{Event}
-use Rattle.ada_tree.specs.declared.naming.Span.{Span}
-use Rattle.ada_tree.specs.PlainDecl.{PDecl, DTask, DTaskBody, decls_of}
+use Rattle.ada_tree.specs.PlainDecl.{PDecl, DTaskBody}
 use Rattle.ada_tree.specs.PlainProgram.{PProgram}
 use Rattle.ada_tree.specs.Scope.{Scope}
-use Rattle.ada_tree.specs.Declaring.{inside, after_decls}
+use Rattle.ada_tree.specs.Declaring.{inside}
 use Rattle.syn_event.specs.declared.numbering.TaskInfo.{TaskInfo}
 use Rattle.syn_event.specs.Units.{decl_list}
 use Rattle.seq_file.specs.Known.{is_known}
 use Rattle.task_model.specs.Setting.{Setting}
 use Rattle.normal_model.specs.Names.{task_name}
-use Rattle.normal_model.specs.NormalTree.{first_decls, tasks_beside, task_under, task_declared, bodies_of, main_unit, main_variables}
+use Rattle.normal_model.specs.NormalTree.{first_decls, tasks_beside, task_declared, bodies_of, main_unit, main_variables}
 use Rattle.normal_form_law.specs.Normalisable.{numbers_of, made_for}
 use Rattle.normal_asked.specs.Pieces.{IsAmong}
 use Rattle.normal_legal.specs.Laws.{IsLegal}
@@ -23,18 +22,18 @@ use Rattle.normal_scopes.proofs.Main as main
 use Rattle.normal_scopes.proofs.Main.{g, unit-of}
 use Rattle.normal_scopes.proofs.Tasks.{one-under}
 use Rattle.replay_checkable.specs.Prepared.{form_for}
-use Rattle.replay_model.specs.ReplayTree.{is_task, is_body, last_task, script_of}
+use Rattle.replay_model.specs.ReplayTree.{is_body, last_task, script_of}
 use Rattle.replay_scopes.specs.Names.{old_name}
-use Rattle.replay_scopes.specs.Form.{AreNamesApart, IsEveryTask, BodyForms, IsOpForm, tasked, last}
-use Rattle.replay_form_names.specs.Laws.{IsNamedBody, HasFormNames}
-use Rattle.replay_form_names.proofs.Whole.{legal_has_form_names}
-use Rattle.replay_form_scopes.specs.Scoped.{HasOwns, AreScoped}
-use Rattle.replay_form_scopes.proofs.Joined.{tasks-are, bodies-are, tasked-is, last-is, scopes-told}
-use Rattle.replay_form_units.specs.Inner.{inner_name}
-use Rattle.replay_form_units.specs.Units.{HasItsEntries, IsScopedBody, BodyUnits}
-use Rattle.replay_form_units.proofs.Outer.{outer}
-use Rattle.replay_form_units.proofs.Bodies.{bodies-units, main-told}
-use Rattle.replay_form_units.proofs.OpForms.{ops-form}
+use Rattle.replay_scopes.specs.Form.{AreNamesApart, IsEveryTask, IsOpForm, tasked, last}
+use Rattle.replay_legal.specs.form_names.Laws.{IsNamedBody, HasFormNames}
+use Rattle.replay_legal.proofs.form_names.Whole.{legal_has_form_names}
+use Rattle.replay_legal.specs.inner.Scoped.{HasOwns, AreScoped}
+use Rattle.replay_legal.proofs.form_scopes.Joined.{tasks-are, bodies-are, tasked-is, last-is, scopes-told}
+use Rattle.replay_legal.specs.form_units.Inner.{inner_name}
+use Rattle.replay_legal.specs.inner.Units.{HasItsEntries, IsScopedBody, BodyUnits}
+use Rattle.replay_legal.proofs.form_units.Outer.{outer}
+use Rattle.replay_legal.proofs.form_units.Bodies.{bodies-units, main-told}
+use Rattle.replay_legal.proofs.form_units.OpForms.{ops-form}
 use Rattle.replay_known.specs.Laws.{AreKnown}
 use Rattle.replay_legal.specs.Laws.{LegalNormalIsForm}
 use Rattle.replay_legal.proofs.Bodies.{unit-asked, unit-form, bodies-formed}

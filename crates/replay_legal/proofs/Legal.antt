@@ -1,6 +1,5 @@
 -- The replay text of each legal program and of known events is legal.
 use Rattle.std.proofs.Common.{[]}
-use Rattle.ada_tree.specs.PlainProgram.{PProgram}
 use Rattle.syn_event.specs.Units.{decl_list}
 use Rattle.normal_model.specs.NormalTree.{first_decls, main_variables}
 use Rattle.normal_form_law.specs.Normalisable.{numbers_of, setting_for, made_for}
@@ -9,9 +8,9 @@ use Rattle.replay_checkable.specs.Prepared.{form_for}
 use Rattle.replay_scopes.specs.Names.{old_name}
 use Rattle.replay_scopes.proofs.Whole.{text-met}
 use Rattle.replay_is_legal.proofs.Legal.{replay_is_legal}
-use Rattle.replay_kept.proofs.Known.{legal_is_kept, known_replay_is_as_promised}
-use Rattle.replay_form_names.proofs.Whole.{legal_has_form_names}
-use Rattle.replay_form_units.specs.Inner.{inner_name}
+use Rattle.replay_legal.proofs.kept_names.Known.{legal_is_kept, known_replay_is_as_promised}
+use Rattle.replay_legal.proofs.form_names.Whole.{legal_has_form_names}
+use Rattle.replay_legal.specs.form_units.Inner.{inner_name}
 use Rattle.replay_legal.specs.Laws.{KnownReplayMeetsAtPlaces, KnownReplayIsLegal, KnownReplayIsAsPromised}
 use Rattle.replay_legal.proofs.Form.{apart, legal_normal_is_form}
 

@@ -19,7 +19,7 @@ use Rattle.replay_checkable.specs.Prepared.{form_for}
 use Rattle.replay_scopes.specs.Names.{old_name}
 use Rattle.replay_scopes.specs.Form.{IsForm}
 use Rattle.replay_is_legal.specs.Laws.{text_for}
-use Rattle.replay_form_units.specs.Inner.{inner_name}
+use Rattle.replay_legal.specs.form_units.Inner.{inner_name}
 use Rattle.replay_known.specs.Laws.{AreKnown}
 
 -- The normal form of a legal program, and the operations of a script of known events, are as the replay text asks.

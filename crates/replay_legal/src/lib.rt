@@ -1,5 +1,8 @@
-//! That the replay texts of each legal program are legal. The crate has no functions of its own but the one that carries the laws.
+//! That the replay texts of each legal program are legal. The crate has no functions but those that carry the laws.
 #![tactic(auto)]
+
+pub mod form_names;
+pub mod kept_names;
 
 ghost use Rattle.replay_legal.specs.Laws.{IsMet, KnownReplayIsAsPromised, KnownReplayIsLegal, KnownReplayMeetsAtPlaces, LegalNormalIsForm};
 

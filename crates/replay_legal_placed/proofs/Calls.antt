@@ -36,9 +36,9 @@ use Rattle.asked_stmts.proofs.Checked.{checked_asked}
 use Rattle.asked_stmts.proofs.Together.{both_asked}
 use Rattle.normal_model.specs.Waits.{Unit}
 use Rattle.legal_entries.proofs.Entries.{entry_in}
-use Rattle.normal_legal_seen.proofs.Bodies.{PlaceSeen, accept-seen, handling-seen, loop-seen}
-use Rattle.normal_legal_text.proofs.Heads.{entry-said}
-use Rattle.normal_legal_text.proofs.Callees.{CalleeKnown, callee-known, some-not}
+use Rattle.normal_legal.proofs.seen_tasks.Bodies.{PlaceSeen, accept-seen, handling-seen, loop-seen}
+use Rattle.normal_legal.proofs.statement_forms.Heads.{entry-said}
+use Rattle.normal_legal.proofs.statement_forms.Callees.{CalleeKnown, callee-known, some-not}
 use Rattle.normal_typed.proofs.Scopes.{accept-own, loop-own}
 use Rattle.normal_legal_asked.proofs.Steps.{Steps, steps_asked}
 use Rattle.normal_legal_asked.proofs.Tasks.{text}

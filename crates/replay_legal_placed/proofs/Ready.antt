@@ -42,13 +42,13 @@ use Rattle.normal_units.proofs.Tasks.{tasks_keep_numbers}
 use Rattle.normal_runs_law.specs.Premises.{programs_of}
 use Rattle.normal_form_law.specs.Normalisable.{numbers_of, setting_for, normal_rewrite}
 use Rattle.normal_legal.specs.Laws.{IsLegal}
-use Rattle.normal_legal_units.proofs.Fields.{legal_is_ordered, legal_names_tell}
-use Rattle.normal_legal_seen.proofs.Parts.{IsUnit, MainSeen, ObjectsApart, AreRanged, types_after, decl-step}
-use Rattle.normal_legal_seen.proofs.Bodies.{first-seen, decls-step, main-seen, TaskSeen, task-seen}
-use Rattle.normal_legal_seen.proofs.Units.{objects-apart, BodiesTyped}
-use Rattle.normal_legal_text.proofs.Text.{IsLocal, text_rules, TextPremises}
+use Rattle.normal_legal.proofs.units.Fields.{legal_is_ordered, legal_names_tell}
+use Rattle.normal_legal.proofs.seen_tasks.Parts.{IsUnit, MainSeen, ObjectsApart, AreRanged, types_after, decl-step}
+use Rattle.normal_legal.proofs.seen_tasks.Bodies.{first-seen, decls-step, main-seen, TaskSeen, task-seen}
+use Rattle.normal_legal.proofs.seen_tasks.Units.{objects-apart, BodiesTyped}
+use Rattle.normal_legal.proofs.statement_forms.Text.{IsLocal, text_rules, TextPremises}
 use Rattle.normal_legal_asked.proofs.Tasks.{text, known}
-use Rattle.normal_legal_seen.proofs.Tasks.{PartsKnown, numbered-tasks-units, mapped-place, one-unit}
+use Rattle.normal_legal.proofs.seen_tasks.Tasks.{PartsKnown, numbered-tasks-units, mapped-place, one-unit}
 use Rattle.legal_entries.proofs.Entries.{IsTaskOf}
 use Rattle.legal_types.proofs.StaticWorth.{small-literals}
 use Rattle.ada_value.specs.StaticLaw.{HasSmallLiterals}
@@ -59,8 +59,8 @@ use Rattle.normal_scopes.proofs.Places.{AtBodies}
 use Rattle.normal_scopes.proofs.Units.{IsUnitOrNot}
 use Rattle.normal_scopes.proofs.Bodies.{body-own}
 use Rattle.normal_scopes.proofs.Main.{units-seen}
-use Rattle.normal_legal_bodies.proofs.Joined as joined
-use Rattle.normal_legal_bodies.proofs.Fields as fields
+use Rattle.normal_legal.proofs.body_forms.Joined as joined
+use Rattle.normal_legal.proofs.body_forms.Fields as fields
 use Rattle.syn_event.specs.NamedTasks.{NumberedTask, numbered_tasks}
 use Rattle.syn_event.specs.Numbering.{task_named}
 use Rattle.task_model.specs.Setting.{entry_of}

@@ -30,11 +30,11 @@ use Rattle.legal_sites.specs.Met.{IsMet}
 use Rattle.legal_types.proofs.MainScopes.{StandsWhole, last-stands}
 use Rattle.legal_entries.proofs.Entries.{IsTaskOf}
 use Rattle.normal_legal.specs.Laws.{IsLegal}
-use Rattle.normal_legal_seen.proofs.Finding.{no-place}
-use Rattle.normal_legal_seen.proofs.Parts.{FamilyRanged}
-use Rattle.normal_legal_seen.proofs.Bodies.{PlaceSeen}
-use Rattle.normal_legal_text.proofs.Typed.{Typing}
-use Rattle.normal_legal_text.proofs.Heads.{same-kind, EntryKnown, own-entry, index-of-family}
+use Rattle.normal_legal.proofs.seen_tasks.Finding.{no-place}
+use Rattle.normal_legal.proofs.seen_tasks.Parts.{FamilyRanged}
+use Rattle.normal_legal.proofs.seen_tasks.Bodies.{PlaceSeen}
+use Rattle.normal_legal.proofs.statement_forms.Typed.{Typing}
+use Rattle.normal_legal.proofs.statement_forms.Heads.{same-kind, EntryKnown, own-entry, index-of-family}
 use Rattle.normal_legal_asked.proofs.Tasks.{text}
 use Rattle.normal_typed.specs.ScopeOf.{IsFamilyOf, IsEntryOf}
 use Rattle.normal_scopes.proofs.Seeing.{entries_in}

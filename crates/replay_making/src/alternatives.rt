@@ -3,7 +3,7 @@
 ghost use Rattle.std.specs.Prelude.{◌≡◌, ◌∷◌, ◌++◌, IfOk};
 ghost use Rattle.ada_expr_copy.specs.Parts.{OkWith};
 
-use crate::lists::{front, join};
+use crate::statement_lists::{front, join};
 use ada_tree::{Alt, Arm, Memory};
 use std::alloc::Global;
 

@@ -4,7 +4,7 @@ ghost use Rattle.std.specs.Prelude.{◌≡◌, ◌≤◌, ◌∷◌, ◌++◌, [
 ghost use Rattle.std.specs.List.{insert};
 ghost use Rattle.ada_expr_copy.specs.Parts.{OkWith};
 
-use crate::lists::{append, front, one};
+use crate::statement_lists::{append, front, one};
 use ada_expr_copy::put;
 use ada_tree::{Decl, DeclKind, EntryDecl, Memory, NameId, Span, Word};
 use std::alloc::Global;

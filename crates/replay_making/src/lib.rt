@@ -3,12 +3,12 @@
 
 mod alternatives;
 mod declarations;
-mod lists;
-mod parts;
+mod statement_lists;
+mod taken_parts;
 
 pub use alternatives::{alts_before, arms_before, arms_joined};
 pub use declarations::{
     append_entries, entries_before, insert_decl, move_decls, one_entry, push_taken_decl,
 };
-pub use lists::{before, joined, put_list};
-pub use parts::{take_body, there_drange, there_init};
+pub use statement_lists::{before, joined, put_list};
+pub use taken_parts::{take_body, there_drange, there_init};

@@ -1,6 +1,6 @@
 // The entries of a replay text.
 
-ghost use Rattle.std.specs.Prelude.{◌≡◌, ◌+◌, ◌++◌, ◌∷◌, [], pred, length, map, IfOk, OnOk};
+ghost use Rattle.std.specs.Prelude.{◌≡◌, ◌+◌, ◌++◌, map, IfOk, OnOk};
 ghost use Rattle.replay_asking.specs.Looked.{voice_of};
 ghost use Rattle.replay_numbering.specs.Replayed.{plain_info, family_info, double_info, infos_of, infos_from, added_infos, all_infos};
 

@@ -1,15 +1,14 @@
 // What the entries of a replay text stand for. The entries that are not added are kept by the names of their doubles, so that none is searched for.
 
-ghost use Rattle.std.specs.Prelude.{◌≡◌, List, ◌<◌, ◌^◌, ◌++◌, ◌∷◌, [], codes, nat_eq, length, map, take, IfOk, OnOk};
-ghost use Rattle.std.specs.List.{filter, starts_with};
+ghost use Rattle.std.specs.Prelude.{◌≡◌, List, ◌<◌, ◌^◌, ◌++◌, ◌∷◌, [], codes, nat_eq, length, take, IfOk, OnOk};
+ghost use Rattle.std.specs.List.{starts_with};
 ghost use Rattle.ada_tree.specs.NameList.{AreNames};
 ghost use Rattle.syn_event.specs.declared.numbering.EntryInfo.{EntryInfo};
 ghost use Rattle.syn_event.specs.Numbered.{with_origin, with_origins};
-ghost use Rattle.syn_event.specs.Numbering.{is_original_entry};
 ghost use Rattle.syn_event.specs.Units.{text_of};
 ghost use Rattle.normal_model.specs.Names.{id_of};
 ghost use Rattle.replay_model.specs.Names.{double_text};
-ghost use Rattle.replay_numbering.specs.inner.Originals.{as_double, doubled, originals, origin_in, with_number};
+ghost use Rattle.replay_numbering.specs.inner.Originals.{doubled, originals, origin_in, with_number};
 
 use ada_tree::{Memory, NameId, Names};
 use replay_names::find_double;

@@ -1,7 +1,6 @@
 // The entries of each task, sorted by their owners in one go.
 
-ghost use Rattle.std.specs.Prelude.{◌≡◌, ◌==◌, ◌+◌, ◌<◌, ◌++◌, ◌∷◌, [], ℕ, List, length, map, replicate, slice_get, Some, IfOk, OnOk, if◌then◌else◌};
-ghost use Rattle.std.specs.List.{filter};
+ghost use Rattle.std.specs.Prelude.{◌≡◌, ◌==◌, ◌+◌, ◌<◌, ◌++◌, ◌∷◌, [], List, length, map, replicate, IfOk, OnOk};
 ghost use Rattle.syn_event.specs.declared.numbering.EntryInfo.{EntryInfo};
 ghost use Rattle.replay_numbering.specs.Replayed.{lists_from};
 ghost use Rattle.replay_numbering.specs.inner.Owners.{put_at, put_for};

@@ -6,7 +6,7 @@ use Rattle.std.proofs.Math.Bool.{cond}
 use Rattle.std.proofs.lemmas.Bool.{eqb-true, eqb-false, ne_eqb, and_right, cases_lt, lt-ltb, le-ltb}
 use Rattle.event_machine.specs.declared.Standing.{Standing}
 use Rattle.event_machine.specs.declared.Standing.TheVariants.{Live, Waiting, Queued, Served, Completed, Killed}
-use Rattle.event_machine.specs.Seats.{is_live, is_closed, is_served}
+use Rattle.event_machine.specs.States.{is_live, is_closed, is_served}
 use Rattle.event_machine.specs.Soundness.{times}
 use Rattle.event_machine.specs.Worlds.{still}
 use Rattle.event_progress.specs.Known.{Party, Known, is_closed as known_closed}

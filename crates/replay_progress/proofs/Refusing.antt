@@ -4,7 +4,7 @@ use Rattle.std.specs.Prelude.{nat_lt}
 use Rattle.std.specs.List.{range_with_len}
 use Rattle.event_machine.specs.declared.Event.TheVariants.{X}
 use Rattle.event_machine.specs.Offers.{Ends}
-use Rattle.event_machine.specs.Seats.{Ops, live, completed}
+use Rattle.event_machine.specs.States.{Ops, live, completed}
 use Rattle.event_machine.specs.Programs.{Program}
 use Rattle.event_machine.specs.Worlds.{World, Happen}
 use Rattle.event_progress.specs.Known.{Known}

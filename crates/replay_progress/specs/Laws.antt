@@ -1,7 +1,7 @@
 -- The progress by events knows what the law of replaying asks of one (this project's rule).
 use Rattle.std.specs.Prelude.{◌≡◌, ℕ, ◌<◌, Bool, List}
 use Rattle.event_machine.specs.declared.Event.{Event}
-use Rattle.event_machine.specs.Seats.{Seat, State}
+use Rattle.event_machine.specs.States.{Seat, State}
 use Rattle.event_machine.specs.Lawful.{IsLawful}
 use Rattle.event_machine.specs.Programs.{Program, numbered, IsOpening}
 use Rattle.event_machine.specs.Worlds.{world_of}

@@ -1,8 +1,7 @@
 // The body of a unit.
 
 ghost use Rattle.std.specs.Prelude.{◌≡◌, IfOk, OnOk, map};
-ghost use Rattle.ada_tree.specs.PlainStmt.{plain_body, plain_handler, plain_stmt, handlers_of, seen, SBlock, SNull, body, no_stmt, no_handler};
-ghost use Rattle.normal_model.specs.Making.{one};
+ghost use Rattle.ada_tree.specs.PlainStmt.{plain_body, plain_handler, handlers_of, seen, body, no_stmt, no_handler};
 ghost use Rattle.replay_model.specs.Serving.{whatever};
 ghost use Rattle.replay_model.specs.ReplayStmts.{with_handlers, last_kind};
 ghost use Rattle.replay_rules.specs.Replayed.{has_handlers, asking_at_end, body_image};

@@ -1,6 +1,7 @@
 pub mod Sorted
 pub mod Placed
 pub mod Ordered
+pub mod First
 pub mod Looked
 pub mod Counted
 pub mod Standing

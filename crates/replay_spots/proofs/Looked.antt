@@ -1,8 +1,7 @@
 -- What a look-up by a task and a name finds among the entries of a replay text.
 use Rattle.std.proofs.Common.{◌≡◌, ℕ, zero, suc, ◌+◌, ◌-◌, ◌<◌, ◌≤◌, ◌==◌, ◌&&◌, nat_lt, Bool, true, false, not, cond, List, [], ◌∷◌, ◌++◌, length, map, position, option_map, Option, Some, None, refl, sym, ap, ap₂, ◌∙◌, subst, length-append, arith}
-use Rattle.std.specs.List.{filter, position_or_len}
+use Rattle.std.specs.List.{filter}
 use Rattle.std.proofs.lemmas.Bool.{eqb-true, ltb-true, eq-eqb}
-use Rattle.std.proofs.lemmas.Bool.Decides.{nat_tests}
 use Rattle.std.proofs.lemmas.List.{length-map}
 use Rattle.std.proofs.lemmas.Option.{none-some}
 use Rattle.ada_tree.specs.declared.naming.NameId.{NameId}
@@ -18,67 +17,23 @@ use Rattle.replay_texts.proofs.Rooted.{ids-apart}
 use Rattle.replay_texts.proofs.Stripped.{place-mapped}
 use Rattle.replay_spots.specs.Places.{total, end_place, original_place, counts, entries_from, text_spots}
 use Rattle.replay_spots.specs.Laws.{IsInOrder, EntriesAreFound, AreFound, AddedAreFound}
+use Rattle.replay_spots.proofs.First.{first, most, front, past, more, both-past, there, found}
 use Rattle.replay_spots.proofs.Sorted.{not-less, original-within}
 use Rattle.replay_spots.proofs.Placed.{end-is, total-is}
-use Rattle.common_lemmas.proofs.Numbers.{lt_false, lt_true}
+use Rattle.common_lemmas.proofs.Numbers.{lt_false, lt_true, unequal_above, unequal_turned}
 use Rattle.common_lemmas.proofs.Options.{some_same}
-use Rattle.common_lemmas.proofs.Truth.{if_false, if_true}
+use Rattle.common_lemmas.proofs.Truth.{if_false, if_true, and_false}
 use Rattle.common_lemmas.proofs.Lists.{texts_differ}
 
--- ---- the first place that passes
-
-module _ (f : EntryInfo → Bool) where
-  -- the first place, or the length
-  abbrev first : List EntryInfo → ℕ
-  first xs = position_or_len f xs
-
-  most : (xs : List EntryInfo) → first xs ≤ length xs
-  most [] = omega arith
-  most (x ∷ xs) = by_test (f x) (most xs)
-    where
-      by_test : (b : Bool) → first xs ≤ length xs → cond (not b) (1 + first xs) 0 ≤ suc (length xs)
-      by_test true h = omega arith
-      by_test false h = omega (arith, h)
-
-  front : (xs ys : List EntryInfo) → first xs < length xs → first (xs ++ ys) ≡ first xs
-  front [] ys h = absurd (omega (arith, h))
-  front (x ∷ xs) ys h = by_test (f x) h (front xs ys)
-    where
-      by_test : (b : Bool) → cond (not b) (1 + first xs) 0 < suc (length xs) → (first xs < length xs → first (xs ++ ys) ≡ first xs) → cond (not b) (1 + first (xs ++ ys)) 0 ≡ cond (not b) (1 + first xs) 0
-      by_test true h later = refl
-      by_test false h later = ap (λ n. 1 + n) (later (omega (arith, h)))
-
-  past : (xs ys : List EntryInfo) → first xs ≡ length xs → first (xs ++ ys) ≡ length xs + first ys
-  past [] ys h = let e : first ys ≡ 0 + first ys = omega arith in e
-  past (x ∷ xs) ys h = by_test (f x) h (past xs ys)
-    where
-      by_test : (b : Bool) → cond (not b) (1 + first xs) 0 ≡ suc (length xs) → (first xs ≡ length xs → first (xs ++ ys) ≡ length xs + first ys) → cond (not b) (1 + first (xs ++ ys)) 0 ≡ suc (length xs) + first ys
-      by_test true h later = absurd (let z : ⊥ = omega (arith, h) in z)
-      by_test false h later = ap (λ n. 1 + n) (later (omega (arith, h))) ∙ (let e : 1 + (length xs + first ys) ≡ suc (length xs) + first ys = omega arith in e)
-
-  -- one behind which nothing if_false
-  more : (x : EntryInfo) (xs : List EntryInfo) → f x ≡ false → first xs ≡ length xs → first (x ∷ xs) ≡ suc (length xs)
-  more x xs e h = ap (λ b. cond (not b) (1 + first xs) 0) e ∙ (let s : 1 + first xs ≡ suc (length xs) = omega (arith, h) in s)
-
-  both-past : (xs ys : List EntryInfo) → first xs ≡ length xs → first ys ≡ length ys → first (xs ++ ys) ≡ length (xs ++ ys)
-  both-past xs ys h k = past xs ys h ∙ ap (λ n. length xs + n) k ∙ sym (length-append xs ys)
-
-  pub there : (xs : List EntryInfo) → first xs < length xs → position f xs ≡ Some (first xs)
-  there xs h = ap (λ b. cond b (Some (first xs)) None) (lt_true (first xs) (length xs) h)
-
-  found-at : (xs : List EntryInfo) (i : ℕ) → position f xs ≡ Some i → (first xs ≡ i) × (first xs < length xs)
-  found-at xs i e = by_test (nat_lt (first xs) (length xs)) refl e
-    where
-      by_test : (b : Bool) → nat_lt (first xs) (length xs) ≡ b → cond b (Some (first xs)) None ≡ Some i → (first xs ≡ i) × (first xs < length xs)
-      by_test true k g = (some_same g, ltb-true _ _ k)
-      by_test false k g = absurd (none-some i g)
-
 -- the test of a look-up
-abbrev looks : ℕ → NameId → EntryInfo → Bool
+abbrev pub looks : ℕ → NameId → EntryInfo → Bool
 looks u id x = (x.owner == u) && (x.name.0 == id.0)
 
-looks-other : (u : ℕ) (id : NameId) (x : EntryInfo) → (x.owner == u) ≡ false → looks u id x ≡ false
-looks-other u id x e = ap (λ b. b && (x.name.0 == id.0)) e
+pub other-owner : (u : ℕ) (id : NameId) (x : EntryInfo) → (x.owner == u) ≡ false → looks u id x ≡ false
+other-owner u id x e = ap (λ b. b && (x.name.0 == id.0)) e
+
+pub other-name : (u : ℕ) (id : NameId) (x : EntryInfo) → (x.name.0 == id.0) ≡ false → looks u id x ≡ false
+other-name u id x e = ap (λ b. (x.owner == u) && b) e ∙ and_false (x.owner == u)
 
 -- a test that only entries of the task u pass
 module _ (g : Setting) (u : ℕ) (test : EntryInfo → Bool) (test-other : (x : EntryInfo) → (x.owner == u) ≡ false → test x ≡ false) where
@@ -114,20 +69,14 @@ module _ (g : Setting) (u : ℕ) (test : EntryInfo → Bool) (test-other : (x : 
         (more test (plain_info g.program t never_text) (plain_info g.program t join_text ∷ []) (test-other (plain_info g.program t never_text) other)
         (more test (plain_info g.program t join_text) [] (test-other (plain_info g.program t join_text) other) refl))
 
-  unlike : (t : ℕ) → t < u → (t == u) ≡ false
-  unlike t h = grind (arith, nat_tests)
-
-  unlike-more : (t : ℕ) → u < t → (t == u) ≡ false
-  unlike-more t h = grind (arith, nat_tests)
-
   -- nothing of later tasks, and nothing of earlier ones
   later-past : (n t : ℕ) → u < t → first test (entries_from g.numbers n t) ≡ length (entries_from g.numbers n t)
   later-past zero t h = refl
-  later-past (suc n) t h = both-past test (own_entries g.numbers t) (entries_from g.numbers n (t + 1)) (own-past t (unlike-more t h)) (later-past n (t + 1) (omega (arith, h)))
+  later-past (suc n) t h = both-past test (own_entries g.numbers t) (entries_from g.numbers n (t + 1)) (own-past t (unequal_above t u h)) (later-past n (t + 1) (omega (arith, h)))
 
   earlier-past : (n t : ℕ) → t + n ≤ u → first test (all_infos g n t) ≡ length (all_infos g n t)
   earlier-past zero t h = refl
-  earlier-past (suc n) t h = both-past test (more_infos g t) (all_infos g n (t + 1)) (more-past t (unlike t (omega (arith, h)))) (earlier-past n (t + 1) (omega (arith, h)))
+  earlier-past (suc n) t h = both-past test (more_infos g t) (all_infos g n (t + 1)) (more-past t (unequal_turned u t (unequal_above u t (omega (arith, h))))) (earlier-past n (t + 1) (omega (arith, h)))
 
   -- ---- an entry of the program
 
@@ -204,7 +153,7 @@ module _ (g : Setting) (u : ℕ) (test : EntryInfo → Bool) (test-other : (x : 
       (i < total (counts g.numbers (last_task g.numbers) 1)) × (first test infos ≡ original_place (counts g.numbers (last_task g.numbers) 1) i) × (original_place (counts g.numbers (last_task g.numbers) 1) i < length infos)
   first-own i order at =
       let ks = counts g.numbers (last_task g.numbers) 1 in
-      let f = found-at test (entries_from g.numbers (last_task g.numbers) 1) i (ap (position test) order.order ∙ at) in
+      let f = found test (entries_from g.numbers (last_task g.numbers) 1) i (ap (position test) order.order ∙ at) in
       let within : i < total ks = (let len = total-is g (last_task g.numbers) 1 in let a = f.0 in let b = f.1 in omega (arith, len, a, b)) in
       let place = placed (last_task g.numbers) 1 f.1 ∙ ap (original_place ks) f.0 in
       let low : original_place ks i < length (all_infos g (last_task g.numbers) 1) = (let w = original-within ks i within in let len = end-is g (last_task g.numbers) 1 in omega (arith, w, len)) in (
@@ -214,9 +163,9 @@ module _ (g : Setting) (u : ℕ) (test : EntryInfo → Bool) (test-other : (x : 
       )
 
 -- a look-up in the numbers of the replay text
-looked : (g : Setting) (u : ℕ) (id : NameId) (m : ℕ) → first (looks u id) (infos g u (looks u id) (looks-other u id)) ≡ m → m < length (infos g u (looks u id) (looks-other u id)) → entry_named (numbers_replayed g) u id ≡ Some (m + 1)
+looked : (g : Setting) (u : ℕ) (id : NameId) (m : ℕ) → first (looks u id) (infos g u (looks u id) (other-owner u id)) ≡ m → m < length (infos g u (looks u id) (other-owner u id)) → entry_named (numbers_replayed g) u id ≡ Some (m + 1)
 looked g u id m e l =
-    let xs = infos g u (looks u id) (looks-other u id) in
+    let xs = infos g u (looks u id) (other-owner u id) in
     ap (option_map (λ k. k + 1)) (place-mapped (looks u id) (with_origin (replay_names g.program) xs) xs ∙ there (looks u id) xs (subst (λ n. n < length xs) (sym e) l)) ∙ ap (λ k. Some (k + 1)) e
 
 pub entries_are_found : EntriesAreFound
@@ -231,7 +180,7 @@ entries_are_found far g order u id e named = by_place (position (looks u id) g.n
     by_place : (o : Option ℕ) → position (looks u id) g.numbers.entries ≡ o → option_map (λ k. k + 1) o ≡ Some e → entry_named (numbers_replayed g) u id ≡ Some ((text_spots far g).original e)
     by_place None at k = absurd (none-some e k)
     by_place (Some i) at k =
-        let f = first-own g u (looks u id) (looks-other u id) i order at in
+        let f = first-own g u (looks u id) (other-owner u id) i order at in
         let one : suc i ≡ e = (let s = some_same k in omega (arith, s)) in
         looked g u id (original_place ks i) f.1 f.2
         ∙ ap Some ((let s : original_place ks i + 1 ≡ suc (original_place ks i) = omega arith in s) ∙ sym (near i f.0) ∙ ap (text_spots far g).original one)
@@ -246,7 +195,7 @@ module _ (far : Spots) (g : Setting) where
   late : (u : ℕ) (id : NameId) (j : ℕ) → last < u → j < 5 → first (looks u id) (added_infos g.program last) ≡ j →
       entry_named (numbers_replayed g) u id ≡ Some (end_place (counts g.numbers last 1) + suc j)
   late u id j behind small at =
-      let none = earlier-past g u (looks u id) (looks-other u id) last 1 (omega (arith, behind)) in
+      let none = earlier-past g u (looks u id) (other-owner u id) last 1 (omega (arith, behind)) in
       let len = end-is g last 1 in
       let all = past (looks u id) (all_infos g last 1) (added_infos g.program last) none in
       let place : first (looks u id) (all_infos g last 1 ++ added_infos g.program last) ≡ end_place (counts g.numbers last 1) + j = omega (arith, all, len, at) in
@@ -259,19 +208,9 @@ module _ (far : Spots) (g : Setting) where
   miss : (u : ℕ) (id : NameId) (x : EntryInfo) (xs : List EntryInfo) (j : ℕ) → looks u id x ≡ false → first (looks u id) xs ≡ j → first (looks u id) (x ∷ xs) ≡ 1 + j
   miss u id x xs j e h = ap₂ (λ (b : Bool) n. cond (not b) (1 + n) 0) e h
 
-  other-name : (u : ℕ) (id : NameId) (x : EntryInfo) → (x.name.0 == id.0) ≡ false → looks u id x ≡ false
-  other-name u id x e = ap (λ b. (x.owner == u) && b) e ∙ none (x.owner == u)
-    where
-      none : (b : Bool) → (b && false) ≡ false
-      none true = refl
-      none false = refl
-
-  other-owner : (u : ℕ) (id : NameId) (x : EntryInfo) → (x.owner == u) ≡ false → looks u id x ≡ false
-  other-owner u id x e = ap (λ b. b && (x.name.0 == id.0)) e
-
   -- the entries of the idle task are no entries of the controller
   before-idle : (last + 1 == last + 2) ≡ false
-  before-idle = unlike g (last + 2) (looks (last + 2) (added_id g.program stop_text)) (looks-other (last + 2) (added_id g.program stop_text)) (last + 1) (omega arith)
+  before-idle = unequal_turned (last + 2) (last + 1) (unequal_above (last + 2) (last + 1) (omega arith))
 
   pub are_found : AreFound far g
   are_found = record {

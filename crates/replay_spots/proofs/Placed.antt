@@ -46,14 +46,14 @@ pub entry-suc : (numbers : Numbering) (m : ℕ) → entry_at numbers (suc m) ≡
 entry-suc numbers m = if_false (suc m == 0) _ _ (unequal_above (suc m) 0 (omega arith)) ∙ ap (slice_get numbers.entries) (let s : suc m - 1 ≡ m = omega arith in s)
 
 module _ (g : Setting) where
-  abbrev own : ℕ → List EntryInfo
+  abbrev pub own : ℕ → List EntryInfo
   own t = own_entries g.numbers t
 
-  abbrev two : ℕ → List EntryInfo
+  abbrev pub two : ℕ → List EntryInfo
   two t = plain_info g.program t never_text ∷ plain_info g.program t join_text ∷ []
 
   -- how many entries a task has
-  block-length : (t : ℕ) → length (more_infos g t) ≡ length (own t) + length (own t) + 2
+  pub block-length : (t : ℕ) → length (more_infos g t) ≡ length (own t) + length (own t) + 2
   block-length t =
       length-append (own t ++ map (double_info g.program) (own t)) (two t)
       ∙ ap (λ n. n + 2) (length-append (own t) (map (double_info g.program) (own t)) ∙ ap (λ n. length (own t) + n) (length-map (own t) (double_info g.program)))

@@ -18,7 +18,8 @@ use Rattle.replay_texts.proofs.Rooted.{replay-begins}
 use Rattle.replay_spots.specs.Places.{counts, text_spots}
 use Rattle.replay_spots.specs.Laws.{IsInOrder, AreOriginal, is_named_so, DoublesStand}
 use Rattle.replay_spots.proofs.Placed.{entry-suc, double-at}
-use Rattle.replay_spots.proofs.Looked.{there, first-own}
+use Rattle.replay_spots.proofs.First.{there}
+use Rattle.replay_spots.proofs.Looked.{first-own}
 use Rattle.replay_spots.proofs.Counted.{number-is}
 
 -- two tests that agree on a list find the same

@@ -1,11 +1,9 @@
 // The branches of a wait.
 
 ghost use Rattle.std.specs.Prelude.{◌≡◌, ◌++◌, ◌∷◌, [], IfOk, OnOk, map};
-ghost use Rattle.ada_tree.specs.PlainExpr.{plain_expr};
-ghost use Rattle.ada_tree.specs.PlainStmt.{plain_alt, plain_arm, plain_stmt, seen, seen_maybe, alts_of};
-ghost use Rattle.ada_expr_copy.specs.Parts.{OkWith};
+ghost use Rattle.ada_tree.specs.PlainStmt.{plain_alt, plain_arm, seen, seen_maybe, alts_of};
 ghost use Rattle.replay_model.specs.Waiting.{pauses_of};
-ghost use Rattle.replay_waiting.specs.Waited.{plain_pause, branch_of, next_number, number_behind, branches, else_branch, wait_image};
+ghost use Rattle.replay_waiting.specs.Waited.{plain_pause, branch_of, next_number, branches, else_branch, wait_image};
 ghost use Rattle.replay_asking.specs.Looked.{voice_of};
 
 use crate::SeenPause;

@@ -1,6 +1,6 @@
 // Waits in which one alternative can be taken.
 
-ghost use Rattle.std.specs.Prelude.{◌≡◌, ◌++◌, ◌+◌, IfOk, OnOk, map, length};
+ghost use Rattle.std.specs.Prelude.{◌≡◌, ◌++◌, ◌+◌, IfOk, OnOk, map};
 ghost use Rattle.ada_tree.specs.PlainStmt.{plain_alt, plain_stmt, alts_of, seen_maybe};
 ghost use Rattle.ada_expr_copy.specs.Parts.{OkWith};
 ghost use Rattle.replay_waiting.specs.Waited.{plain_pause, never_alt, select_of, pause_alt, pause_alts, pausing, ending, passing};

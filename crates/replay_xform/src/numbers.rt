@@ -1,7 +1,6 @@
 // The numbers of the replay text.
 
 ghost use Rattle.std.specs.Prelude.{◌≡◌, IfOk};
-ghost use Rattle.ada_tree.specs.PlainProgram.{plain_program};
 ghost use Rattle.replay_model.specs.Names.{replay_names};
 ghost use Rattle.replay_model.specs.ReplayNumbers.{numbers_replayed};
 

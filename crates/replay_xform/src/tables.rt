@@ -1,9 +1,8 @@
 // What is looked up before a text is made.
 
-ghost use Rattle.std.specs.Prelude.{◌≡◌, ◌+◌, ◌<◌, [], IfOk, option_map, slice_get, length, Some};
+ghost use Rattle.std.specs.Prelude.{◌≡◌, ◌+◌, ◌<◌, IfOk, option_map, Some};
 ghost use Rattle.ada_tree.specs.PlainExpr.{plain_drange};
-ghost use Rattle.syn_event.specs.Numbering.{entry_at};
-ghost use Rattle.normal_model.specs.Ranges.{kind_of_range, range_of_info};
+ghost use Rattle.normal_model.specs.Ranges.{kind_of_range};
 ghost use Rattle.replay_ids.specs.Looking.{mark_of_kind, mark_of_range, mark_at, marks_of, AreTables};
 
 use ada_tree::{Drange, Kind, Memory, NameId, Names};

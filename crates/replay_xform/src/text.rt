@@ -1,6 +1,6 @@
 // The replay text of a normal form.
 
-ghost use Rattle.std.specs.Prelude.{◌≡◌, IfOk, OnOk, map, length};
+ghost use Rattle.std.specs.Prelude.{◌≡◌, IfOk, OnOk, map};
 ghost use Rattle.ada_tree.specs.PlainStmt.{plain_body};
 ghost use Rattle.ada_tree.specs.PlainDecl.{plain_decl};
 ghost use Rattle.ada_tree.specs.PlainProgram.{plain_program};

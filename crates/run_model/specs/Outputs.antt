@@ -1,6 +1,6 @@
 -- What the tasks of a machine have written so far (14.3; that each task has an output of its own is this project's rule).
 use Rattle.std.specs.Prelude.{ℕ, List, slice_index_or}
-use Rattle.event_machine.specs.Seats as seats
+use Rattle.event_machine.specs.States as seats
 use Rattle.task_model.specs.Starting.{nobody}
 use Rattle.task_model.specs.Machine.{Whole}
 

@@ -1,7 +1,7 @@
 //! Choices by a seeded generator, as a run takes them.
 #![tactic(auto)]
 
-ghost use Rattle.std.specs.Prelude.{◌≡◌, ◌<◌, ◌%◌};
+ghost use Rattle.std.specs.Prelude.{◌≡◌, ◌%◌};
 ghost use Rattle.seed_chooser.specs.Seeded.{seeded};
 
 use ded_io::Chooser;

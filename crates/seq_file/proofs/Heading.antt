@@ -16,7 +16,8 @@ use Rattle.text_lines.specs.Capped.{capped}
 use Rattle.seq_file.specs.Short.{IsShort}
 use Rattle.seq_file.specs.Files.{header_line, is_header_of, fault_of_header, header_fault}
 use Rattle.text_lines.specs.Lines.{is_blank, is_line_end, words_of, cut}
-use Rattle.seq_file.specs.Lines.{Header, is_capital, is_name_part, name_goes_on, every, begins, is_upper_name, upper_name, header_with, header_of_words, header_of_line, with_three}
+use Rattle.seq_file.specs.Lines.{Header, is_capital, is_name_part, name_goes_on, is_upper_name, upper_name, header_with, header_of_words, header_of_line, with_three}
+use Rattle.common_lemmas.specs.Following.{every, begins}
 use Rattle.text_lines.specs.Numerals.{is_digit, count}
 use Rattle.text_lines.proofs.Capping.{capped-small, capped-large}
 use Rattle.text_lines.proofs.Marking.{IsFreeOf, free-cons, free-prefix, decimal-free, cut-at_mark, cut-parts, first-line_cut}

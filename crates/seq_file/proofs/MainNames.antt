@@ -6,7 +6,8 @@ use Rattle.ada_tree.specs.Lexical.{is_upper_letter, is_digit, goes_on, is_word}
 use Rattle.ada_tree.specs.PlainProgram.{PProgram}
 use Rattle.ada_tree.specs.TypeTable.{TypeTable}
 use Rattle.ada_tree.specs.WellPlaced.{IsWellPlaced}
-use Rattle.seq_file.specs.Lines.{every, begins, name_goes_on, is_name_part, is_upper_name}
+use Rattle.seq_file.specs.Lines.{name_goes_on, is_name_part, is_upper_name}
+use Rattle.common_lemmas.specs.Following.{every, begins}
 use Rattle.syn_event.specs.declared.numbering.Mode.{Mode}
 use Rattle.syn_event.specs.Numbering.{Numbering}
 use Rattle.syn_event.specs.Units.{text_of}

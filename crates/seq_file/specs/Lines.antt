@@ -1,7 +1,8 @@
 -- The lines of a sequence file: the header, and one line for each event (this project's format).
-use Rattle.std.specs.Prelude.{ℕ, ℤ, Bool, true, false, ◌&&◌, ◌||◌, ◌==◌, nat_le, bytes_eq, List, [], ◌∷◌, codes, Option, Some, None, option_map, if◌then◌else◌}
+use Rattle.std.specs.Prelude.{ℕ, ℤ, Bool, false, ◌&&◌, ◌||◌, ◌==◌, nat_le, bytes_eq, List, [], ◌∷◌, codes, Option, Some, None, option_map, if◌then◌else◌}
 use Rattle.event_machine.specs.declared.Event.{Event}
 use Rattle.event_machine.specs.declared.Event.TheVariants.{R, E, S, D, C, T, F, X, B, Z}
+use Rattle.common_lemmas.specs.Following.{begins, every}
 use Rattle.text_lines.specs.Lines.{words_of}
 use Rattle.text_lines.specs.Numerals.{is_digit, count, integer}
 
@@ -60,16 +61,6 @@ is_capital b = nat_le 65 b && nat_le b 90
 -- a letter of upper case or a digit
 abbrev pub is_name_part : ℕ → Bool
 is_name_part b = is_capital b || is_digit b
-
--- the text begins with a byte of the class
-abbrev pub begins : (ℕ → Bool) → List ℕ → Bool
-begins class [] = false
-begins class (b ∷ rest) = class b
-
--- each byte goes on, given the bytes behind it
-abbrev pub every : (ℕ → List ℕ → Bool) → List ℕ → Bool
-every goes_on [] = true
-every goes_on (b ∷ rest) = goes_on b rest && every goes_on rest
 
 -- a letter or a digit, or an underscore with one of these behind it (2.3)
 abbrev pub name_goes_on : ℕ → List ℕ → Bool

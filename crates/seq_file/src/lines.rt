@@ -1,6 +1,6 @@
 // The lines of a sequence file.
 
-ghost use Rattle.std.specs.Prelude.{◌≡◌, ◌<◌, ◌≤◌, ◌^◌, min, option_and_then, option_map, count_by, drop, length, slice_index, Some, ◌+◌, cond, ℕ, Option, bytes_eq, unwrap_or, slice_get, [], nat_eq, FitsSigned};
+ghost use Rattle.std.specs.Prelude.{◌≡◌, ◌<◌, ◌≤◌, ◌^◌, option_map, count_by, drop, length, slice_index, Some, ◌+◌, cond, ℕ, Option, unwrap_or, [], nat_eq, FitsSigned};
 ghost use Rattle.std.specs.Int.{w32};
 ghost use Rattle.text_lines.specs.Capped.{capped};
 ghost use Rattle.seq_file.specs.Short.{IsShort};
@@ -9,8 +9,8 @@ ghost use Rattle.syn_event.specs.Numbering.{original_tasks, original_entries, is
 ghost use Rattle.syn_event.specs.Units.{text_of};
 ghost use Rattle.event_machine.specs.declared.Event.{Event};
 ghost use Rattle.text_lines.specs.Numerals.{count, integer};
-ghost use Rattle.seq_file.specs.Lines.{event_of_line, header_of_line, lone_event, task_event, pair_event, call_event, with_three, header_with, upper_name, is_upper_name, every, name_goes_on, is_name_part, is_capital};
-ghost use Rattle.seq_file.specs.Known.{is_known};
+ghost use Rattle.seq_file.specs.Lines.{event_of_line, header_of_line, lone_event, task_event, pair_event, call_event, with_three, header_with, upper_name, is_upper_name, name_goes_on, is_name_part, is_capital};
+ghost use Rattle.common_lemmas.specs.Following.{every};
 ghost use Rattle.seq_file.specs.inner.Verdicts.{verdict_of};
 ghost use Rattle.seq_file.specs.Files.{fault_of_header};
 

@@ -1,11 +1,11 @@
 // Reading a sequence file.
 
-ghost use Rattle.std.specs.Prelude.{◌≡◌, ◌≢◌, ◌<◌, ◌-◌, ◌^◌, ◌++◌, [], ◌∷◌, OnOk, List, length, IfOk, IfErr, MatchResult, true, Some, None, IsSomeAnd, option_and_then};
+ghost use Rattle.std.specs.Prelude.{◌≡◌, ◌≢◌, ◌<◌, ◌-◌, ◌^◌, ◌++◌, [], ◌∷◌, OnOk, List, length, IfOk, IfErr, MatchResult, true, Some, None, option_and_then};
 ghost use Rattle.event_machine.specs.declared.Event.{Event};
 ghost use Rattle.seq_file.specs.declared.errors.SeqError.{SeqError};
 ghost use Rattle.seq_file.specs.declared.errors.SeqError.TheVariants.{Memory};
 ghost use Rattle.syn_event.specs.Units.{text_of};
-ghost use Rattle.text_lines.specs.Lines.{first_line, is_line_end, cut};
+ghost use Rattle.text_lines.specs.Lines.{first_line};
 ghost use Rattle.seq_file.specs.Lines.{is_upper_name, event_of_line};
 ghost use Rattle.seq_file.specs.Files.{SeqReads, HasFirstFault, header_fault, line_fault, fault_of_event, is_end};
 ghost use Rattle.seq_file.specs.inner.NextEvents.{IsNextEvent, IsEventLine, IsBehindHeader};

@@ -1,6 +1,6 @@
 // Writing a sequence file.
 
-ghost use Rattle.std.specs.Prelude.{◌≡◌, ◌<◌, ◌^◌, length};
+ghost use Rattle.std.specs.Prelude.{◌≡◌, ◌<◌};
 ghost use Rattle.ded_io.specs.Counts.{HasCause};
 ghost use Rattle.ded_io.specs.Written.{Wrote, each_text};
 ghost use Rattle.seq_file.specs.Files.{AreFit, SeqReads, SeqText, header_line, event_line};

@@ -17,7 +17,7 @@ pub struct Numbers {
 
 impl Model for Numbers {
     ghost use Rattle.syn_event.specs.Numbering.{Numbering};
-    ghost use Rattle.std.specs.Prelude.{◌≤◌, ◌<◌, ◌^◌, length, vec_len};
+    ghost use Rattle.std.specs.Prelude.{◌<◌, ◌^◌, length, vec_len};
 
     ghost Value = { Numbering };
 
@@ -58,7 +58,7 @@ pub enum Mode {
 
 impl Numbers {
     ghost use Rattle.std.specs.Prelude.{◌≡◌, option_copied};
-    ghost use Rattle.syn_event.specs.Numbering.{entry_at, task_at, owner_of, is_added_task, task_named, entry_named};
+    ghost use Rattle.syn_event.specs.Numbering.{entry_at, owner_of, is_added_task, task_named, entry_named};
 
     /// The entry of this number, from 1.
     pub fn entry(&self, e: u32) -> Option<&EntryInfo>

@@ -1,6 +1,6 @@
 // The text of an event.
 
-ghost use Rattle.std.specs.Prelude.{◌≡◌, ◌≤◌};
+ghost use Rattle.std.specs.Prelude.{◌≡◌};
 ghost use Rattle.ded_io.specs.Counts.{HasCause};
 ghost use Rattle.ded_io.specs.Written.{Wrote};
 ghost use Rattle.syn_event.specs.EventText.{event_text, call_text, one_text, two_text};

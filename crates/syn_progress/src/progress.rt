@@ -23,7 +23,7 @@ pub struct Progress {
 }
 
 impl Model for Progress {
-    ghost use Rattle.std.specs.Prelude.{◌<◌, ◌^◌, vec_len};
+    ghost use Rattle.std.specs.Prelude.{◌<◌, ◌^◌};
     ghost use Rattle.event_progress.specs.Known.{Known};
     ghost use Rattle.syn_progress.specs.TaskRecords.{IsLinked, known_of};
 

@@ -1,7 +1,6 @@
 // The tables of a progress: one record for each task.
 
-ghost use Rattle.std.specs.Prelude.{◌≡◌, ◌<◌, ◌≤◌, ◌+◌, ◌^◌, length, Some, None, is_some, not, ◌&&◌, false, true, OnSome};
-ghost use Rattle.event_progress.specs.Known.{is_free as known_free, is_closed as known_closed, party};
+ghost use Rattle.std.specs.Prelude.{◌≡◌, ◌<◌, ◌+◌, ◌^◌, length, Some, None, true};
 ghost use Rattle.syn_progress.specs.TaskRecords.{member_at, open_server, met, parted, shut};
 
 /// A task. A closed acceptor serves nobody, so a server that is closed counts as none, and of a closed task `depth` and what hangs on it count as nothing.

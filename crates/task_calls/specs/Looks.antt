@@ -10,7 +10,7 @@ use Rattle.task_model.specs.declared.parameters.FormalParameter.{FormalParameter
 use Rattle.task_model.specs.Setting as model
 use Rattle.task_model.specs.Calls.{Called, opening}
 use Rattle.task_calls.specs.declared.calls.Member.{Member}
-use Rattle.task_calls.specs.declared.lists.Lists.{Lists}
+use Rattle.task_calls.specs.declared.argument_lists.Lists.{Lists}
 
 -- The index and the actual parameters of a call as the definitions have them.
 abbrev pub plain_lists : Lists → model.Lists

@@ -9,8 +9,8 @@ ghost use Rattle.task_model.specs.Setting.{lists_of};
 ghost use Rattle.task_model.specs.Calls.{openings, called_with, called, values_of};
 ghost use Rattle.task_calls.specs.Looks.{raised_by, member_called, values_or_none, opening_or};
 
+use crate::argument_lists::lists_of;
 use crate::here::Here;
-use crate::lists::lists_of;
 use ada_tree::{Args, Call, Expr, Memory, ParMode};
 use ada_value::{Limits, Raised, Value, checked, lower};
 use task_model::FormalParameter;

@@ -2,14 +2,14 @@
 //! those that come back (sections 6.2, 6.4.1 and 9.5 of ANSI/MIL-STD-1815A).
 #![tactic(auto)]
 
+mod argument_lists;
 mod calls;
 mod formals;
 mod here;
-mod lists;
 mod returns;
 
+pub use argument_lists::{Lists, lists_of};
 pub use calls::Member;
 pub use formals::open_formals;
 pub use here::Here;
-pub use lists::{Lists, lists_of};
 pub use returns::{copy_back, finals};

@@ -2,14 +2,14 @@
 
 ghost use Rattle.std.specs.Prelude.{◌≡◌, ◌++◌, [], map, OnOk, OnErr};
 ghost use Rattle.ada_tree.specs.PlainExpr.{plain_expr};
-ghost use Rattle.ada_value.specs.Values.{and_then};
-ghost use Rattle.ada_value.specs.Variables.{checked_for, object_named, set_value};
+ghost use Rattle.ada_value.specs.Variables.{checked_for, object_named};
 ghost use Rattle.task_model.specs.Calls.{comes_back, finals_if, finals_in, stored_back, copied_back, variable_of};
 ghost use Rattle.task_store.specs.Plain.{plain_variable};
 ghost use Rattle.task_calls.specs.Looks.{raised_by, vars_or};
 
-use ada_tree::{Expr, ExprKind, Memory, NameId, ParMode};
+use ada_tree::{Expr, Memory, NameId, ParMode};
 use ada_value::{Raised, Value};
+use task_links::variable_of;
 use task_model::FormalParameter;
 use task_store::{Objects, Variable};
 
@@ -58,16 +58,6 @@ pub fn finals(
         }
     }
     Ok(())
-}
-
-// The variable that an actual is.
-fn variable_of(actual: &Expr) -> Option<NameId>
-    ensures { result ≡ variable_of (plain_expr actual.now) }
-{
-    match &actual.kind {
-        ExprKind::Name(name) => Some(*name),
-        _ => None,
-    }
 }
 
 // A value as it goes to the variable of a name.

@@ -6,7 +6,7 @@ use Rattle.event_machine.specs.declared.Event.{Event}
 use Rattle.event_machine.specs.declared.Event.TheVariants.{R, E, S, D, C, T, F, X, B, Z}
 use Rattle.event_machine.specs.Offers.{Offer, calls_in, is_any_form, is_conditional, is_timed, waits_with, opens, is_else, is_delay, is_terminate, is_finish, is_end}
 use Rattle.event_machine.specs.Worlds.{aborts, acted, changes}
-use Rattle.event_machine.specs.Seats.{Seat, completed, live}
+use Rattle.event_machine.specs.States.{Seat, completed, live}
 use Rattle.syn_event.specs.Numbering.{Numbering, owner_of}
 use Rattle.task_model.specs.Tasks.{Task}
 use Rattle.task_model.specs.Stands.{can_step, stepped, offer_of}

@@ -11,10 +11,10 @@ use Rattle.ada_value.specs.declared.values.Raised.{Raised}
 use Rattle.task_model.specs.declared.parameters.FormalParameter.{FormalParameter}
 use Rattle.task_model.specs.Frames as model
 use Rattle.task_model.specs.Frames.{PFrame, is_for, handler_for}
-use Rattle.task_frames.specs.declared.places.Place.{Place}
-use Rattle.task_frames.specs.declared.places.Place.TheVariants as stands
-use Rattle.task_frames.specs.declared.places.Turns.{Turns}
-use Rattle.task_frames.specs.declared.places.Frame.{Frame}
+use Rattle.task_frames.specs.declared.frame.Place.{Place}
+use Rattle.task_frames.specs.declared.frame.Place.TheVariants as stands
+use Rattle.task_frames.specs.declared.frame.Turns.{Turns}
+use Rattle.task_frames.specs.declared.frame.Frame.{Frame}
 use Rattle.task_frames.specs.declared.landing.Landing.{Landing}
 use Rattle.task_frames.specs.Stack.{Stack, control_on, with_part, passed}
 use Rattle.task_frames.specs.Seen.{seen_handlers, on_parts, all_parts, parts_of, stack_of, IsUnit, IsGrounded, is_over}

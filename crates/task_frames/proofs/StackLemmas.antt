@@ -11,9 +11,9 @@ use Rattle.ada_value.specs.declared.values.Raised.{Raised}
 use Rattle.ada_value.specs.Variables.{Variables}
 use Rattle.task_model.specs.Frames.{PFrame, Control, raised_in, exited_in, handler_for, unit_with, block_with, is_left, brought_by, or_else, handled_among, callers_among}
 use Rattle.task_model.specs.Rendezvous.{behind_in}
-use Rattle.task_frames.specs.declared.places.Place.{Place}
-use Rattle.task_frames.specs.declared.places.Place.TheVariants as stands
-use Rattle.task_frames.specs.declared.places.Frame.{Frame}
+use Rattle.task_frames.specs.declared.frame.Place.{Place}
+use Rattle.task_frames.specs.declared.frame.Place.TheVariants as stands
+use Rattle.task_frames.specs.declared.frame.Frame.{Frame}
 use Rattle.task_frames.specs.Stack.{Stack, control_on, with_part, passed}
 use Rattle.task_frames.specs.Seen.{turns_as, seen_handlers, on_parts, all_parts, parts_of, stack_of, IsUnit, IsGrounded, is_over}
 use Rattle.task_frames.specs.inner.Catching.{unit_caught, block_caught, caught_in, holds_exits, is_exited, parameters_in, handled_in, caller_in}

@@ -6,11 +6,11 @@ use Rattle.ada_tree.specs.PlainExpr.{plain_expr}
 use Rattle.ada_tree.specs.PlainStmt.{PStmts, PHandlers, no_handler, handlers_of, plain_handler, seen}
 use Rattle.task_model.specs.Frames as model
 use Rattle.task_model.specs.Frames.{PFrame, in_front}
-use Rattle.task_frames.specs.declared.places.Turns.{Turns}
-use Rattle.task_frames.specs.declared.places.Turns.TheVariants as way
-use Rattle.task_frames.specs.declared.places.Place.{Place}
-use Rattle.task_frames.specs.declared.places.Place.TheVariants as stands
-use Rattle.task_frames.specs.declared.places.Frame.{Frame}
+use Rattle.task_frames.specs.declared.frame.Turns.{Turns}
+use Rattle.task_frames.specs.declared.frame.Turns.TheVariants as way
+use Rattle.task_frames.specs.declared.frame.Place.{Place}
+use Rattle.task_frames.specs.declared.frame.Place.TheVariants as stands
+use Rattle.task_frames.specs.declared.frame.Frame.{Frame}
 use Rattle.task_frames.specs.Stack.{Stack}
 
 -- how a loop goes on, seen plainly

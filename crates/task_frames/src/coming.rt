@@ -5,7 +5,7 @@ ghost use Rattle.ada_tree.specs.PlainStmt.{no_stmt};
 ghost use Rattle.task_frames.specs.Coming.{IsNext};
 ghost use Rattle.task_frames.specs.Seen.{around, IsSettled};
 
-use crate::places::{Place, Turns};
+use crate::frame::{Place, Turns};
 use ada_tree::Stmt;
 use ada_value::Raised;
 use task_model::FormalParameter;

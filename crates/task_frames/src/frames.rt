@@ -7,8 +7,8 @@ ghost use Rattle.task_frames.specs.Stack.{control_on};
 ghost use Rattle.task_frames.specs.Moves.{GoesOn, Enters, IsPushed, Opens, Closes, Raises, Exits, BeginsTurn, LeavesLoop};
 
 use crate::coming::{Next, end_of};
+use crate::frame::{Frame, Place, Turns};
 use crate::landing::{caller_among, exit, handled_among, push, raise, raise_if, settle};
-use crate::places::{Frame, Place, Turns};
 use ada_tree::{Handler, Memory, Stmt, Word};
 use ada_value::Raised;
 use std::alloc::Global;

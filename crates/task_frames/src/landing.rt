@@ -8,7 +8,7 @@ ghost use Rattle.task_frames.specs.Seen.{stack_of, parts_of, on_parts, all_parts
 ghost use Rattle.task_frames.specs.Stack.{passed};
 ghost use Rattle.task_frames.specs.Moves.{Settles, IsRaisedTo, IsLeftWith, IsExitedTo};
 
-use crate::places::Frame;
+use crate::frame::Frame;
 use ada_tree::{Memory, Word};
 use ada_value::Raised;
 

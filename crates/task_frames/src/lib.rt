@@ -7,12 +7,12 @@
 #[tactic(auto, using(ada_tree::proofs::Rows::rows))]
 mod coming;
 #[tactic(auto, using(ada_tree::proofs::Rows::rows))]
+mod frame;
+#[tactic(auto, using(ada_tree::proofs::Rows::rows))]
 mod frames;
 #[tactic(auto, using(ada_tree::proofs::Rows::rows))]
 mod landing;
-#[tactic(auto, using(ada_tree::proofs::Rows::rows))]
-mod places;
 
 pub use coming::Next;
+pub use frame::Turns;
 pub use frames::{Frames, Left};
-pub use places::Turns;

@@ -4,7 +4,7 @@ use Rattle.std.proofs.lemmas.Bool.{cases_lt}
 use Rattle.std.proofs.lemmas.List.{get_or_append_left, get_or_push}
 use Rattle.ada_tree.specs.PlainStmt.{PHead, PBody, body}
 use Rattle.syn_event.specs.Numbering.{Numbering, owner_of}
-use Rattle.event_machine.specs.Seats.{Seat, live, completed, is_completed}
+use Rattle.event_machine.specs.States.{Seat, live, completed, is_completed}
 use Rattle.event_machine.specs.Worlds.{still}
 use Rattle.task_model.specs.Steps.{block_stmts, block_handlers}
 use Rattle.task_model.specs.Starting.{unit_of, started, nobody}

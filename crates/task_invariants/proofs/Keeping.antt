@@ -8,7 +8,7 @@ use Rattle.event_machine.specs.declared.Standing.TheVariants.{Live, Waiting, Que
 use Rattle.event_machine.specs.declared.Event.{Event}
 use Rattle.event_machine.specs.declared.Event.TheVariants.{R, E, S, D, C, T, F, X, B, Z}
 use Rattle.event_machine.specs.Offers.{calls_in, is_any_form, waits_with, opens}
-use Rattle.event_machine.specs.Seats.{Seat, live, completed, is_live, is_closed, is_completed, is_served_by, is_abnormal}
+use Rattle.event_machine.specs.States.{Seat, live, completed, is_live, is_closed, is_completed, is_served_by, is_abnormal}
 use Rattle.event_machine.specs.Effects.{fallen, released_first, aborted, went_on, abort_seats}
 use Rattle.event_machine.specs.Programs.{Program, numbered}
 use Rattle.event_machine.specs.Soundness.{IsSound, times}

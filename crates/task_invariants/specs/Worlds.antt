@@ -2,7 +2,7 @@
 use Rattle.std.specs.Prelude.{◌≡◌, ℕ, ◌<◌, ◌≤◌, true, List, [], ◌∷◌, Some, Ok}
 use Rattle.ada_tree.specs.PlainStmt.{PHead}
 use Rattle.syn_event.specs.Numbering.{Numbering}
-use Rattle.event_machine.specs.Seats.{is_completed, is_served_by}
+use Rattle.event_machine.specs.States.{is_completed, is_served_by}
 use Rattle.event_machine.specs.Soundness.{IsSound}
 use Rattle.event_machine.specs.Worlds.{World, Move, can_move, moved}
 use Rattle.task_model.specs.declared.parameters.FormalParameter.{FormalParameter}

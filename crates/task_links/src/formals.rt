@@ -1,12 +1,14 @@
 // The formal parameters of a formal part.
 
 ghost use Rattle.std.specs.Prelude.{◌≡◌, ◌++◌, map, IfOk, OnOk};
+ghost use Rattle.ada_tree.specs.PlainExpr.{plain_expr};
 ghost use Rattle.ada_tree.specs.PlainStmt.{plain_formal};
+ghost use Rattle.task_model.specs.Calls.{variable_of};
 ghost use Rattle.task_model.specs.Setting.{parameters_of};
 ghost use Rattle.task_links.specs.inner.Made.{parameter_named};
 
 use crate::type_names::TypeNames;
-use ada_tree::{Formal, Memory, ParMode, Word};
+use ada_tree::{Expr, ExprKind, Formal, Memory, NameId, ParMode, Word};
 use ada_value::Limits;
 use std::alloc::Global;
 use task_model::FormalParameter;
@@ -44,4 +46,14 @@ pub fn parameters_of(
         add_group(&mut parameters, &formal.names, formal.mode, limits)?;
     }
     Ok(parameters)
+}
+
+/// The variable that an actual is, where it is one (6.4.1).
+pub fn variable_of(actual: &Expr) -> Option<NameId>
+    ensures { result ≡ variable_of (plain_expr actual.now) }
+{
+    match &actual.kind {
+        ExprKind::Name(name) => Some(*name),
+        _ => None,
+    }
 }

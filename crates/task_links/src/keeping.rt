@@ -1,6 +1,6 @@
 // Maps in which the first that comes for a key is kept.
 
-ghost use Rattle.std.specs.Prelude.{◌≡◌, ◌==◌, ◌+◌, ℕ, ℤ, nat_eq, Some, None, if◌then◌else◌, IfOk, OnOk};
+ghost use Rattle.std.specs.Prelude.{◌≡◌, ◌==◌, ℕ, ℤ, nat_eq, Some, None, if◌then◌else◌, IfOk, OnOk};
 ghost use Rattle.std.specs.HashMap.{get};
 ghost use Rattle.ada_tree.specs.StaticValue.{first_of_two};
 ghost use Rattle.task_links.specs.inner.Keys.{entry_eq, member_eq};

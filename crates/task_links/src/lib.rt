@@ -5,13 +5,15 @@ mod entry_formals;
 mod formals;
 mod keeping;
 mod links;
+mod static_names;
 mod task_names;
 mod task_scope;
 mod type_names;
 mod values;
 
-pub use formals::parameters_of;
+pub use formals::{parameters_of, variable_of};
 pub use links::{Links, index_in};
+pub use static_names::StaticNames;
 pub use task_names::TaskNames;
 pub use task_scope::TaskScope;
 pub use type_names::TypeNames;

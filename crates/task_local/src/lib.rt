@@ -5,10 +5,10 @@
 mod meeting;
 mod offers;
 #[tactic(auto, using(ada_tree::proofs::Rows::rows))]
-mod parts;
-#[tactic(auto, using(ada_tree::proofs::Rows::rows))]
 mod standing;
 mod starting;
+#[tactic(auto, using(ada_tree::proofs::Rows::rows))]
+mod task_parts;
 mod tasks;
 
 pub use event_machine::{CallForm, Choice};

@@ -9,7 +9,7 @@ ghost use Rattle.task_model.specs.Tasks.{Task};
 ghost use Rattle.task_rendezvous.specs.Handed.{handed_back};
 ghost use Rattle.task_local.specs.inner.InOrder.{task_of, IsInOrder};
 
-use crate::parts::TaskParts;
+use crate::task_parts::TaskParts;
 use ada_tree::Memory;
 use ada_value::{Raised, Value};
 use task_calls::Member;

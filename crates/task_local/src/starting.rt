@@ -6,7 +6,7 @@ ghost use Rattle.task_start.specs.Plain.{plain_unit};
 ghost use Rattle.task_waits.specs.Room.{widest_body};
 ghost use Rattle.task_local.specs.inner.InOrder.{task_of, IsInOrder};
 
-use crate::parts::TaskParts;
+use crate::task_parts::TaskParts;
 use ada_tree::Memory;
 use std::alloc::Global;
 use task_links::Links;

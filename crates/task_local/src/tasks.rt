@@ -12,8 +12,8 @@ ghost use Rattle.task_rendezvous.specs.Handed.{handed_back};
 ghost use Rattle.task_local.specs.OfferView.{offer_as};
 
 use crate::Offer;
-use crate::parts::TaskParts;
 use crate::standing::actuals_here;
+use crate::task_parts::TaskParts;
 use ada_tree::Memory;
 use ada_value::{Raised, Value};
 use std::alloc::Global;

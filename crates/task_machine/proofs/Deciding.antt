@@ -6,7 +6,7 @@ use Rattle.std.proofs.lemmas.List.Elements.{All-nil, All-cons}
 use Rattle.std.proofs.lemmas.List.Folds.{list_all-append}
 use Rattle.event_machine.specs.declared.Standing.TheVariants.{Live}
 use Rattle.event_machine.specs.declared.Event.{Event}
-use Rattle.event_machine.specs.Seats.{Seat, is_live}
+use Rattle.event_machine.specs.States.{Seat, is_live}
 use Rattle.event_machine.specs.Worlds.{World, is_last}
 use Rattle.event_machine.specs.Settling.{HasSteps, Settles, ran, Leads}
 use Rattle.event_machine.specs.Tallies.{HasNoEnd, before_end}

@@ -1,7 +1,7 @@
 -- Whether all tasks of a range can end, step by step and by one that cannot.
 use Rattle.std.proofs.Common.{◌≡◌, ℕ, zero, suc, pred, ◌<◌, ◌≤◌, Bool, true, false, ◌&&◌, ◌⊎◌, inl, inr, ap, subst, refl, arith}
-use Rattle.event_machine.specs.Seats.{Seen}
-use Rattle.event_machine.specs.Rows.{others_can_end, can_end}
+use Rattle.event_machine.specs.States.{Seen}
+use Rattle.event_machine.specs.Applying.{others_can_end, can_end}
 use Rattle.task_model.specs.Tasks.{Task}
 use Rattle.task_model.specs.TaskOps.{task_ops}
 use Rattle.common_lemmas.proofs.Truth.{both_true, false_behind}

@@ -10,8 +10,8 @@ use Rattle.event_machine.specs.declared.Standing.TheVariants.{Live, Waiting, Que
 use Rattle.event_machine.specs.declared.Action.{Action}
 use Rattle.event_machine.specs.declared.Action.TheVariants.{Local, Arrive, Start, Finish, Else, Delay, CallElse, Expire, Fail, Complete, Abort}
 use Rattle.event_machine.specs.Offers.{Offer, Nothing, Calls, Waits, Finishes, Ends, Aborts, is_conditional, is_timed, is_any_form, waits_with, is_else, is_delay, is_end, is_finish, aborted_by}
-use Rattle.event_machine.specs.Rows.{row, arrives, starts, has_no_caller, calls_owner, same, delay_row, delay_rows, rows_of}
-use Rattle.event_machine.specs.Seats.{Ops, Seen, is_live, is_waiting, is_queued}
+use Rattle.event_machine.specs.Applying.{action_applies, arrives, starts, has_no_caller, calls_owner, same, delay_action, delay_actions, actions_of}
+use Rattle.event_machine.specs.States.{Ops, Seen, is_live, is_waiting, is_queued}
 use Rattle.event_machine.proofs.Standings.{is-Live, is-Waiting, is-Queued}
 use Rattle.common_lemmas.proofs.Truth.{and_false}
 
@@ -31,25 +31,25 @@ with_one : {A : Type 0} (p : A → Bool) (x : A) {xs ys : List A} → Sieves p x
 with_one p x {xs} {ys} e = record { same = ap (λ zs. cond (p x) (x ∷ zs) zs) e.same }
 
 -- what a list of delays of a wait leaves, where none of them passes
-no_delays : (p : Action → Bool) (t : ℕ) → ((k : ℕ) → p (Delay t k) ≡ false) → (choices : List Choice) → filter p (filter_map (delay_row t) choices) ≡ []
+no_delays : (p : Action → Bool) (t : ℕ) → ((k : ℕ) → p (Delay t k) ≡ false) → (choices : List Choice) → filter p (filter_map (delay_action t) choices) ≡ []
 no_delays p t off [] = refl
 no_delays p t off (Accept e i ∷ choices) = no_delays p t off choices
 no_delays p t off (ElseChoice ∷ choices) = no_delays p t off choices
-no_delays p t off (DelayChoice k ∷ choices) = (without_one p (Delay t k) {xs = filter_map (delay_row t) choices} {ys = []} (off k) (record { same = no_delays p t off choices })).same
+no_delays p t off (DelayChoice k ∷ choices) = (without_one p (Delay t k) {xs = filter_map (delay_action t) choices} {ys = []} (off k) (record { same = no_delays p t off choices })).same
 no_delays p t off (Terminate ∷ choices) = no_delays p t off choices
 
-no_delay_rows : (p : Action → Bool) (t : ℕ) → ((k : ℕ) → p (Delay t k) ≡ false) → (o : Offer) → filter p (delay_rows t o) ≡ []
-no_delay_rows p t off Nothing = refl
-no_delay_rows p t off (Calls form e i) = refl
-no_delay_rows p t off (Waits choices) = no_delays p t off choices
-no_delay_rows p t off Finishes = refl
-no_delay_rows p t off Ends = refl
-no_delay_rows p t off (Aborts x) = refl
+no_delay_actions : (p : Action → Bool) (t : ℕ) → ((k : ℕ) → p (Delay t k) ≡ false) → (o : Offer) → filter p (delay_actions t o) ≡ []
+no_delay_actions p t off Nothing = refl
+no_delay_actions p t off (Calls form e i) = refl
+no_delay_actions p t off (Waits choices) = no_delays p t off choices
+no_delay_actions p t off Finishes = refl
+no_delay_actions p t off Ends = refl
+no_delay_actions p t off (Aborts x) = refl
 
 module _ {L : Type 0} (ops : Ops L) (owner : ℕ → ℕ) (s : Seen L) (t : ℕ) where
   -- it applies
   abbrev p : Action → Bool
-  p action = row ops owner s action
+  p action = action_applies ops owner s action
 
   abbrev z : Standing
   z = (s.tasks t).standing
@@ -93,19 +93,19 @@ module _ {L : Type 0} (ops : Ops L) (owner : ℕ → ℕ) (s : Seen L) (t : ℕ)
   no_abort h = ap (λ b. b && is_some (aborted_by offer)) h
 
   -- the delays are passed over
-  without_delays : {xs ys : List Action} → is_waiting z ≡ false → Sieves p xs ys → Sieves p (delay_rows t offer ++ xs) ys
+  without_delays : {xs ys : List Action} → is_waiting z ≡ false → Sieves p xs ys → Sieves p (delay_actions t offer ++ xs) ys
   without_delays {xs} {ys} h e =
-      record { same = filter-append p (delay_rows t offer) xs ∙ ap (λ zs. zs ++ filter p xs) (no_delay_rows p t (no_delay h) offer) ∙ e.same }
+      record { same = filter-append p (delay_actions t offer) xs ∙ ap (λ zs. zs ++ filter p xs) (no_delay_actions p t (no_delay h) offer) ∙ e.same }
 
-  nothing_before : {xs ys : List Action} → offer ≡ Nothing → Sieves p xs ys → Sieves p (delay_rows t offer ++ xs) ys
-  nothing_before {xs} {ys} q e = subst (λ o. Sieves p (delay_rows t o ++ xs) ys) (sym q) e
+  nothing_before : {xs ys : List Action} → offer ≡ Nothing → Sieves p xs ys → Sieves p (delay_actions t offer ++ xs) ys
+  nothing_before {xs} {ys} q e = subst (λ o. Sieves p (delay_actions t o ++ xs) ys) (sym q) e
 
-  nothing_behind : is_live z ≡ false → is_queued z ≡ false → Sieves p (delay_rows t offer ++ (CallElse t ∷ Expire t ∷ Fail t ∷ Complete t ∷ Abort t ∷ [])) (delay_rows t offer)
+  nothing_behind : is_live z ≡ false → is_queued z ≡ false → Sieves p (delay_actions t offer ++ (CallElse t ∷ Expire t ∷ Fail t ∷ Complete t ∷ Abort t ∷ [])) (delay_actions t offer)
   nothing_behind l q = record {
     same =
-        filter-append p (delay_rows t offer) (CallElse t ∷ Expire t ∷ Fail t ∷ Complete t ∷ Abort t ∷ [])
-        ∙ ap (λ zs. filter p (delay_rows t offer) ++ zs) none.same
-        ∙ append-nil (filter p (delay_rows t offer));
+        filter-append p (delay_actions t offer) (CallElse t ∷ Expire t ∷ Fail t ∷ Complete t ∷ Abort t ∷ [])
+        ∙ ap (λ zs. filter p (delay_actions t offer) ++ zs) none.same
+        ∙ append-nil (filter p (delay_actions t offer));
   }
     where
       none : Sieves p (CallElse t ∷ Expire t ∷ Fail t ∷ Complete t ∷ Abort t ∷ []) []
@@ -119,7 +119,7 @@ module _ {L : Type 0} (ops : Ops L) (owner : ℕ → ℕ) (s : Seen L) (t : ℕ)
   -- ---- the actions that are left
 
   -- a task that has a local step offers nothing
-  pub of_stepping : offer ≡ Nothing → Sieves p (rows_of ops s t) (Local t ∷ [])
+  pub of_stepping : offer ≡ Nothing → Sieves p (actions_of ops s t) (Local t ∷ [])
   of_stepping q =
       with_one p (Local t)
       (without_one p (Arrive t) (ap (λ o. is_live z && arrives owner s o) q ∙ and_false (is_live z))
@@ -134,7 +134,7 @@ module _ {L : Type 0} (ops : Ops L) (owner : ℕ → ℕ) (s : Seen L) (t : ℕ)
       (without_one p (Abort t) (ap (λ o. is_live z && is_some (aborted_by o)) q ∙ and_false (is_live z)) (both_end p [])))))))))))
 
   -- a live task that has none
-  pub of_live : is_live z ≡ true → steps ≡ false → Sieves p (rows_of ops s t) (Arrive t ∷ Start t ∷ Finish t ∷ CallElse t ∷ Fail t ∷ Complete t ∷ Abort t ∷ [])
+  pub of_live : is_live z ≡ true → steps ≡ false → Sieves p (actions_of ops s t) (Arrive t ∷ Start t ∷ Finish t ∷ CallElse t ∷ Fail t ∷ Complete t ∷ Abort t ∷ [])
   of_live live n =
       let h : z ≡ Live = is-Live z live in
       without_one p (Local t) (ap (λ b. is_live z && b) n ∙ and_false (is_live z))
@@ -145,7 +145,7 @@ module _ {L : Type 0} (ops : Ops L) (owner : ℕ → ℕ) (s : Seen L) (t : ℕ)
       (without_one p (Expire t) (no_expire (ap is_queued h)) (both_end p (Fail t ∷ Complete t ∷ Abort t ∷ [])))))))))
 
   -- one that waits
-  pub of_waiting : is_waiting z ≡ true → Sieves p (rows_of ops s t) ((Start t ∷ Else t ∷ []) ++ delay_rows t offer)
+  pub of_waiting : is_waiting z ≡ true → Sieves p (actions_of ops s t) ((Start t ∷ Else t ∷ []) ++ delay_actions t offer)
   of_waiting waiting =
       let h : z ≡ Waiting = is-Waiting z waiting in
       without_one p (Local t) (no_local (ap is_live h))
@@ -156,7 +156,7 @@ module _ {L : Type 0} (ops : Ops L) (owner : ℕ → ℕ) (s : Seen L) (t : ℕ)
       (nothing_behind (ap is_live h) (ap is_queued h))))))
 
   -- one that is queued
-  pub of_queued : is_queued z ≡ true → Sieves p (rows_of ops s t) (Start t ∷ Expire t ∷ Fail t ∷ [])
+  pub of_queued : is_queued z ≡ true → Sieves p (actions_of ops s t) (Start t ∷ Expire t ∷ Fail t ∷ [])
   of_queued queued =
       let h : z ≡ Queued = is-Queued z queued in
       without_one p (Local t) (no_local (ap is_live h))
@@ -171,7 +171,7 @@ module _ {L : Type 0} (ops : Ops L) (owner : ℕ → ℕ) (s : Seen L) (t : ℕ)
       (without_one p (Abort t) (no_abort (ap is_live h)) (both_end p [])))))))))))
 
   -- any other
-  pub of_other : is_live z ≡ false → is_waiting z ≡ false → is_queued z ≡ false → Sieves p (rows_of ops s t) (Start t ∷ [])
+  pub of_other : is_live z ≡ false → is_waiting z ≡ false → is_queued z ≡ false → Sieves p (actions_of ops s t) (Start t ∷ [])
   of_other l w q =
       without_one p (Local t) (no_local l)
       (without_one p (Arrive t) (no_arrive l)

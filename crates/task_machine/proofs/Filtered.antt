@@ -4,8 +4,8 @@ use Rattle.std.specs.Prelude.{option_to_list}
 use Rattle.std.specs.List.{filter_map}
 use Rattle.std.proofs.lemmas.List.Elements.{filter-append, filter_map-append}
 use Rattle.event_machine.specs.declared.Action.{Action}
-use Rattle.event_machine.specs.Seats.{Seen}
-use Rattle.event_machine.specs.Rows.{rows_of, rows_below}
+use Rattle.event_machine.specs.States.{Seen}
+use Rattle.event_machine.specs.Applying.{actions_of, actions_below}
 use Rattle.task_model.specs.Tasks.{Task}
 use Rattle.task_model.specs.TaskOps.{task_ops}
 
@@ -38,8 +38,8 @@ filter_map_more p h old mid new xs i x t e f =
     ∙ ap (λ ys. filter_map h ys) (sym t))
 
 -- the actions of one more task
-pub rows_more : (p : Action → Bool) (s : Seen Task) (old mid new : List Action) (t : ℕ) → mid ≡ old ++ filter p (rows_below task_ops s t) → new ≡ mid ++ filter p (rows_of task_ops s t) →
-    new ≡ old ++ filter p (rows_below task_ops s (t + 1))
-rows_more p s old mid new t e f =
-    filter_two p old mid new (rows_below task_ops s t) (rows_of task_ops s t) e f
-    ∙ ap (λ n. old ++ filter p (rows_below task_ops s n)) (sym (add-one t))
+pub actions_more : (p : Action → Bool) (s : Seen Task) (old mid new : List Action) (t : ℕ) → mid ≡ old ++ filter p (actions_below task_ops s t) → new ≡ mid ++ filter p (actions_of task_ops s t) →
+    new ≡ old ++ filter p (actions_below task_ops s (t + 1))
+actions_more p s old mid new t e f =
+    filter_two p old mid new (actions_below task_ops s t) (actions_of task_ops s t) e f
+    ∙ ap (λ n. old ++ filter p (actions_below task_ops s n)) (sym (add-one t))

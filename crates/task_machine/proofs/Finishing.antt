@@ -4,7 +4,7 @@ use Rattle.std.proofs.lemmas.Bool.{eq-eqb, eqb-true, cases_lt}
 use Rattle.std.proofs.lemmas.List.{get_or-set_other, get_or-set_same, set-get_or, get_or_past, set_past}
 use Rattle.ada_value.specs.declared.values.Value.{Value}
 use Rattle.ada_value.specs.declared.values.Raised.{Raised}
-use Rattle.event_machine.specs.Seats.{Seat, completed, live, is_served_by, is_abnormal}
+use Rattle.event_machine.specs.States.{Seat, completed, live, is_served_by, is_abnormal}
 use Rattle.event_machine.specs.Effects.{freed, parted, parted_both, released_first}
 use Rattle.syn_event.specs.Numbering.{Numbering}
 use Rattle.task_model.specs.Frames.{callers_in}

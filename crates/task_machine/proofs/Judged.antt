@@ -6,7 +6,7 @@ use Rattle.event_machine.specs.declared.Standing.{Standing}
 use Rattle.event_machine.specs.declared.Standing.TheVariants.{Live, Waiting, Queued, Served, Completed, Killed}
 use Rattle.event_machine.specs.declared.Event.{Event}
 use Rattle.event_machine.specs.Offers.{Offer}
-use Rattle.event_machine.specs.Seats.{Seat, State, live, is_completed, is_abnormal, is_closed}
+use Rattle.event_machine.specs.States.{Seat, State, live, is_completed, is_abnormal, is_closed}
 use Rattle.event_machine.specs.Worlds.{World, still, is_last, needs}
 use Rattle.event_machine.specs.Settling.{Settles, ran}
 use Rattle.event_machine.specs.Tallies.{RestIs, StandsAfter, HasNoEnd, before_end}

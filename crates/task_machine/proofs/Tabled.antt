@@ -11,8 +11,8 @@ use Rattle.event_machine.specs.declared.Standing.TheVariants.{Live, Waiting, Que
 use Rattle.event_machine.specs.declared.Event.{Event}
 use Rattle.event_machine.specs.declared.Event.TheVariants.{R, E, S, D, C, T, F, X, B, Z}
 use Rattle.event_machine.specs.Offers.{Offer, calls_in, is_any_form, is_conditional, is_timed, waits_with, opens, is_else, is_delay, is_terminate, is_finish, is_end}
-use Rattle.event_machine.specs.Seats.{Seat, is_live}
-use Rattle.event_machine.specs.Seats as seats
+use Rattle.event_machine.specs.States.{Seat, is_live}
+use Rattle.event_machine.specs.States as seats
 use Rattle.event_machine.specs.Programs.{Program}
 use Rattle.event_machine.specs.Worlds.{still, aborts, happens, needs, others_end}
 use Rattle.syn_event.specs.Numbering.{Numbering, owner_of}

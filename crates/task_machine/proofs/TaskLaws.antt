@@ -1,6 +1,6 @@
 -- What follows of the laws of these tasks: of how they stand behind events, and how many they are.
 use Rattle.std.proofs.Common.{◌≡◌, ℕ, zero, suc, ◌+◌, List, [], ◌∷◌, length, refl, ap, ◌∙◌, arith, length-append}
-use Rattle.event_machine.specs.Seats.{Seat, State, live}
+use Rattle.event_machine.specs.States.{Seat, State, live}
 use Rattle.event_machine.specs.declared.Event.{Event}
 use Rattle.event_machine.specs.Programs.{task_of}
 use Rattle.event_machine.specs.Runs.{Feasible, end_of}

@@ -2,7 +2,7 @@
 use Rattle.std.specs.Prelude.{◌≡◌, ℕ, ◌+◌, List, [], ◌∷◌, ◌++◌, length, All, Some}
 use Rattle.event_machine.specs.declared.Event.{Event}
 use Rattle.event_machine.specs.declared.Standing.{Standing}
-use Rattle.event_machine.specs.Seats as seats
+use Rattle.event_machine.specs.States as seats
 use Rattle.syn_event.specs.Numbering.{Numbering}
 use Rattle.task_model.specs.Machine.{Setup}
 use Rattle.task_machine.specs.declared.verdict.Why.{Why}

@@ -3,8 +3,8 @@ use Rattle.std.specs.Prelude.{ℕ, ℤ, ◌==◌, Bool, false, List, [], ◌∷�
 use Rattle.event_machine.specs.declared.Action.{Action}
 use Rattle.event_machine.specs.declared.Event.{Event}
 use Rattle.event_machine.specs.Offers.{Offer}
-use Rattle.event_machine.specs.Seats as seats
-use Rattle.event_machine.specs.Rows as rows
+use Rattle.event_machine.specs.States as seats
+use Rattle.event_machine.specs.Applying as applying
 use Rattle.event_machine.specs.Effects as effects
 use Rattle.ada_value.specs.declared.values.Value.{Value}
 use Rattle.ada_value.specs.declared.values.Raised.{Raised}
@@ -60,8 +60,8 @@ abbrev pub seen_in : Tasks → List ℕ → seats.Seen Task
 seen_in tasks line = record { tasks = λ t. seat_of tasks t; size = length tasks; line = line }
 
 -- the condition of an action
-abbrev pub row_of : Numbering → Tasks → List ℕ → Action → Bool
-row_of numbers tasks line action = rows.row task_ops (owner_of numbers) (seen_in tasks line) action
+abbrev pub applies_in : Numbering → Tasks → List ℕ → Action → Bool
+applies_in numbers tasks line action = applying.action_applies task_ops (owner_of numbers) (seen_in tasks line) action
 
 -- the machine of these parts
 abbrev pub whole : Numbering → Tasks → List ℕ → Bool → Whole
@@ -69,7 +69,7 @@ whole numbers tasks line ended = record { numbers = numbers; state = record { se
 
 -- The action applies to the machine.
 abbrev pub can : Whole → Action → Bool
-can m action = rows.can (rules_of m.numbers) m.state action
+can m action = applying.can (rules_of m.numbers) m.state action
 
 -- the event of an action of these tasks; it depends on nothing else
 abbrev pub event_in : Tasks → Action → Option Event

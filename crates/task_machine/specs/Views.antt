@@ -5,7 +5,7 @@ use Rattle.event_machine.specs.declared.Event.{Event}
 use Rattle.event_machine.specs.declared.Standing.{Standing}
 use Rattle.event_machine.specs.declared.Standing.TheVariants as standing
 use Rattle.event_machine.specs.Offers.{Offer}
-use Rattle.event_machine.specs.Seats.{Seat, is_completed, is_served, is_abnormal}
+use Rattle.event_machine.specs.States.{Seat, is_completed, is_served, is_abnormal}
 use Rattle.event_machine.specs.Runs.{Feasible}
 use Rattle.event_machine.specs.Tallies.{RestIs, StandsAfter, before_end}
 use Rattle.syn_event.specs.Numbering.{Numbering}

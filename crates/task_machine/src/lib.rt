@@ -3,13 +3,13 @@
 #![tactic(auto)]
 
 mod aborting;
+pub mod applying;
 pub mod effects;
 mod listing;
 mod machine;
 mod moving;
 mod program_laws;
 mod rendezvous;
-pub mod rows;
 pub mod seats;
 mod starting;
 mod verdict;

@@ -2,13 +2,13 @@
 
 ghost use Rattle.std.specs.Prelude.{◌≡◌, ◌++◌, ◌<◌, ◌^◌, [], ◌∷◌, length, filter, option_to_list, OnOk, true};
 ghost use Rattle.std.specs.List.{filter_map};
-ghost use Rattle.event_machine.specs.Rows.{rows_of, rows_below, delay_rows, delay_row};
-ghost use Rattle.event_machine.specs.Seats.{is_live, is_waiting, is_queued};
+ghost use Rattle.event_machine.specs.Applying.{actions_of, actions_below, delay_actions, delay_action};
+ghost use Rattle.event_machine.specs.States.{is_live, is_waiting, is_queued};
 ghost use Rattle.task_model.specs.TaskOps.{task_ops};
-ghost use Rattle.task_machine.specs.Table.{row_of, seen_in, seat_of, offer_in_seat};
+ghost use Rattle.task_machine.specs.Table.{applies_in, seen_in, seat_of, offer_in_seat};
 
 use crate::Action;
-use crate::rows::{has_step, row};
+use crate::applying::{applies, has_step};
 use crate::seats::{Seat, is_live, is_queued, is_waiting, offer_at, standing_at};
 use ada_tree::Memory;
 use event_machine::Choice;
@@ -23,7 +23,7 @@ pub(crate) fn list_tasks(
     out: &mut Vec<Action>,
 ) -> Result<(), Memory>
     requires { length seats.now < 2 ^ 32 }
-    ensures { OnOk result (out.new.items ≡ out.old.items ++ filter (row_of numbers.now seats.now line.now) (rows_below task_ops (seen_in seats.now line.now) (length seats.now))) }
+    ensures { OnOk result (out.new.items ≡ out.old.items ++ filter (applies_in numbers.now seats.now line.now) (actions_below task_ops (seen_in seats.now line.now) (length seats.now))) }
 {
     let count = seats.len() as u32;
     for t in 0..count {
@@ -41,7 +41,7 @@ fn list_task(
     out: &mut Vec<Action>,
 ) -> Result<(), Memory>
     requires { length seats.now < 2 ^ 32 }
-    ensures { OnOk result (out.new.items ≡ out.old.items ++ filter (row_of numbers.now seats.now line.now) (rows_of task_ops (seen_in seats.now line.now) t)) }
+    ensures { OnOk result (out.new.items ≡ out.old.items ++ filter (applies_in numbers.now seats.now line.now) (actions_of task_ops (seen_in seats.now line.now) t)) }
 {
     let standing = standing_at(seats, t);
     if is_live(standing) {
@@ -67,7 +67,7 @@ fn list_live(
 ) -> Result<(), Memory>
     requires few { length seats.now < 2 ^ 32 }
     requires live { is_live (seat_of seats.now t).standing ≡ true }
-    ensures { OnOk result (out.new.items ≡ out.old.items ++ filter (row_of numbers.now seats.now line.now) (rows_of task_ops (seen_in seats.now line.now) t)) }
+    ensures { OnOk result (out.new.items ≡ out.old.items ++ filter (applies_in numbers.now seats.now line.now) (actions_of task_ops (seen_in seats.now line.now) t)) }
 {
     if has_step(seats, t) {
         push_if(seats, line, numbers, Action::Local { t }, out)?;
@@ -96,7 +96,7 @@ fn list_waiting(
 ) -> Result<(), Memory>
     requires few { length seats.now < 2 ^ 32 }
     requires waiting { is_waiting (seat_of seats.now t).standing ≡ true }
-    ensures { OnOk result (out.new.items ≡ out.old.items ++ filter (row_of numbers.now seats.now line.now) (rows_of task_ops (seen_in seats.now line.now) t)) }
+    ensures { OnOk result (out.new.items ≡ out.old.items ++ filter (applies_in numbers.now seats.now line.now) (actions_of task_ops (seen_in seats.now line.now) t)) }
 {
     let actions = [Action::Start { c: t }, Action::Else { a: t }];
     list(seats, line, numbers, &actions, out)?;
@@ -114,7 +114,7 @@ fn list_queued(
 ) -> Result<(), Memory>
     requires few { length seats.now < 2 ^ 32 }
     requires queued { is_queued (seat_of seats.now t).standing ≡ true }
-    ensures { OnOk result (out.new.items ≡ out.old.items ++ filter (row_of numbers.now seats.now line.now) (rows_of task_ops (seen_in seats.now line.now) t)) }
+    ensures { OnOk result (out.new.items ≡ out.old.items ++ filter (applies_in numbers.now seats.now line.now) (actions_of task_ops (seen_in seats.now line.now) t)) }
 {
     let actions = [
         Action::Start { c: t },
@@ -134,7 +134,7 @@ fn list_delays(
     out: &mut Vec<Action>,
 ) -> Result<(), Memory>
     requires { length seats.now < 2 ^ 32 }
-    ensures { OnOk result (out.new.items ≡ out.old.items ++ filter (row_of numbers.now seats.now line.now) (delay_rows t (offer_in_seat (seat_of seats.now t)))) }
+    ensures { OnOk result (out.new.items ≡ out.old.items ++ filter (applies_in numbers.now seats.now line.now) (delay_actions t (offer_in_seat (seat_of seats.now t)))) }
 {
     match offer_at(seats, t) {
         Offer::Wait(choices) => list_choices(seats, line, numbers, t, choices, out),
@@ -152,7 +152,7 @@ fn list_choices(
     out: &mut Vec<Action>,
 ) -> Result<(), Memory>
     requires { length seats.now < 2 ^ 32 }
-    ensures { OnOk result (out.new.items ≡ out.old.items ++ filter (row_of numbers.now seats.now line.now) (filter_map (delay_row t) choices.now)) }
+    ensures { OnOk result (out.new.items ≡ out.old.items ++ filter (applies_in numbers.now seats.now line.now) (filter_map (delay_action t) choices.now)) }
 {
     for choice in choices {
         list_choice(seats, line, numbers, t, choice, out)?;
@@ -170,7 +170,7 @@ fn list_choice(
     out: &mut Vec<Action>,
 ) -> Result<(), Memory>
     requires { length seats.now < 2 ^ 32 }
-    ensures { OnOk result (out.new.items ≡ out.old.items ++ filter (row_of numbers.now seats.now line.now) (option_to_list (delay_row t choice.now))) }
+    ensures { OnOk result (out.new.items ≡ out.old.items ++ filter (applies_in numbers.now seats.now line.now) (option_to_list (delay_action t choice.now))) }
 {
     match *choice {
         Choice::Delay { k } => push_if(seats, line, numbers, Action::Delay { a: t, k }, out),
@@ -187,7 +187,7 @@ fn list(
     out: &mut Vec<Action>,
 ) -> Result<(), Memory>
     requires { length seats.now < 2 ^ 32 }
-    ensures { OnOk result (out.new.items ≡ out.old.items ++ filter (row_of numbers.now seats.now line.now) actions.now) }
+    ensures { OnOk result (out.new.items ≡ out.old.items ++ filter (applies_in numbers.now seats.now line.now) actions.now) }
 {
     for action in actions {
         push_if(seats, line, numbers, *action, out)?;
@@ -204,9 +204,9 @@ pub(crate) fn push_if(
     out: &mut Vec<Action>,
 ) -> Result<(), Memory>
     requires { length seats.now < 2 ^ 32 }
-    ensures { OnOk result (out.new.items ≡ out.old.items ++ filter (row_of numbers.now seats.now line.now) (action ∷ [])) }
+    ensures { OnOk result (out.new.items ≡ out.old.items ++ filter (applies_in numbers.now seats.now line.now) (action ∷ [])) }
 {
-    if row(seats, line, numbers, action) {
+    if applies(seats, line, numbers, action) {
         out.push(action)?;
     }
     Ok(())

@@ -2,16 +2,16 @@
 
 ghost use Rattle.std.specs.Prelude.{◌≡◌, ◌++◌, ◌∷◌, [], ◌<◌, ◌^◌, true, IfOk, OnOk, OnErr, filter, length};
 ghost use Rattle.event_machine.specs.declared.Action.TheVariants.{End};
-ghost use Rattle.event_machine.specs.Rows.{rows_below};
+ghost use Rattle.event_machine.specs.Applying.{actions_below};
 ghost use Rattle.task_model.specs.TaskOps.{task_ops};
 ghost use Rattle.task_model.specs.Machine.{after, enabled_of, event_of};
-ghost use Rattle.task_machine.specs.Table.{can, event_in, opening_in, output_of, row_of, seat_of, seen_in, whole};
+ghost use Rattle.task_machine.specs.Table.{can, event_in, opening_in, output_of, applies_in, seen_in, whole};
 
 use crate::Action;
+use crate::applying::applies;
 use crate::effects::{fail, finish, set_standing, step, take_delay, take_else};
 use crate::listing::{list_tasks, push_if};
 use crate::moving::{abort_next, arrive, leave_line, start};
-use crate::rows::row;
 use crate::seats::{Seat, offer_at};
 use crate::starting::start_all;
 use ada_tree::Memory;
@@ -100,7 +100,7 @@ impl<'p> Machine<'p> {
     pub fn can_apply(&self, action: Action) -> bool
         ensures { result ≡ can self.now action }
     {
-        !self.ended && row(&self.seats, &self.line, self.links.numbers(), action)
+        !self.ended && applies(&self.seats, &self.line, self.links.numbers(), action)
     }
 
     /// Makes one action, which applies, and answers its event, if it has one.
@@ -166,7 +166,7 @@ fn list_all(
     out: &mut Vec<Action>,
 ) -> Result<(), Memory>
     requires { length seats.now < 2 ^ 32 }
-    ensures { OnOk result (out.new.items ≡ out.old.items ++ filter (row_of numbers.now seats.now line.now) (rows_below task_ops (seen_in seats.now line.now) (length seats.now) ++ End ∷ [])) }
+    ensures { OnOk result (out.new.items ≡ out.old.items ++ filter (applies_in numbers.now seats.now line.now) (actions_below task_ops (seen_in seats.now line.now) (length seats.now) ++ End ∷ [])) }
 {
     list_tasks(seats, line, numbers, out)?;
     push_if(seats, line, numbers, Action::End, out)?;

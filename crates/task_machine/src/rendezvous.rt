@@ -1,6 +1,6 @@
 // How a rendezvous starts and ends.
 
-ghost use Rattle.std.specs.Prelude.{◌≡◌, [], slice_set, IfOk, OnOk, OnErr};
+ghost use Rattle.std.specs.Prelude.{◌≡◌, IfOk, OnOk, OnErr};
 ghost use Rattle.event_machine.specs.Effects.{freed, met_at, parted_both};
 ghost use Rattle.event_machine.specs.Offers.{Finishes};
 ghost use Rattle.task_model.specs.Tasks.{Task};

@@ -1,7 +1,7 @@
 // A task in the machine, and what is read of it.
 
-ghost use Rattle.std.specs.Prelude.{◌≡◌, ℕ, slice_get};
-ghost use Rattle.event_machine.specs.Seats.{is_live, is_waiting, is_queued, is_completed, is_closed, is_abnormal, is_served_by};
+ghost use Rattle.std.specs.Prelude.{◌≡◌, slice_get};
+ghost use Rattle.event_machine.specs.States.{is_live, is_waiting, is_queued, is_completed, is_closed, is_abnormal, is_served_by};
 ghost use Rattle.task_model.specs.Frames.{callers_in};
 ghost use Rattle.task_local.specs.OfferView.{offer_as};
 ghost use Rattle.task_machine.specs.Table.{seat_of, offer_in_seat};
@@ -20,7 +20,7 @@ pub struct Seat<'p> {
 impl<'p> Model for Seat<'p> {
     ghost use Rattle.std.specs.Coded.{codes};
     ghost use Rattle.ada_tree.proofs.Codes.{tree_codes};
-    ghost use Rattle.event_machine.specs.Seats as seats;
+    ghost use Rattle.event_machine.specs.States as seats;
     ghost use Rattle.task_links.specs.inner.SettingCode.{coded_setting};
     ghost use Rattle.task_model.specs.Tasks.{Task};
 

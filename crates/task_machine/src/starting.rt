@@ -1,7 +1,7 @@
 // The tasks of a program as it starts.
 
 ghost use Rattle.std.specs.Prelude.{◌≡◌, ◌<◌, ◌^◌, [], length, slice_index_or, vec_len, IfOk};
-ghost use Rattle.event_machine.specs.Seats.{live};
+ghost use Rattle.event_machine.specs.States.{live};
 ghost use Rattle.task_model.specs.Starting.{started};
 ghost use Rattle.task_model.specs.Machine.{first_tasks};
 ghost use Rattle.task_machine.specs.Table.{setup_in};

@@ -3,7 +3,7 @@ use Rattle.std.proofs.Common.{◌≡◌, ℕ, zero, suc, ◌<◌, ◌≤◌, ◌
 use Rattle.std.proofs.lemmas.Bool.{cases_lt}
 use Rattle.std.proofs.lemmas.List.{get_or_append_left, get_or_push}
 use Rattle.event_machine.specs.declared.Standing.TheVariants.{Live}
-use Rattle.event_machine.specs.Seats.{Seat, State, live, completed}
+use Rattle.event_machine.specs.States.{Seat, State, live, completed}
 use Rattle.event_machine.specs.Programs.{IsOpening}
 use Rattle.event_machine.proofs.ListLaws.{determinacy_list, first_law_list, second_law_list, killed_list, admitted_list, opening_list, feasible_list, rest_list}
 use Rattle.syn_event.specs.Numbering.{Numbering, owner_of}

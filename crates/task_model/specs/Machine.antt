@@ -4,8 +4,8 @@ use Rattle.ada_tree.specs.TypeTable.{TypeTable}
 use Rattle.ada_tree.specs.PlainProgram.{PProgram}
 use Rattle.event_machine.specs.declared.Action.{Action}
 use Rattle.event_machine.specs.declared.Event.{Event}
-use Rattle.event_machine.specs.Seats as seats
-use Rattle.event_machine.specs.Rows as rows
+use Rattle.event_machine.specs.States as seats
+use Rattle.event_machine.specs.Applying as applying
 use Rattle.event_machine.specs.Effects as effects
 use Rattle.syn_event.specs.Numbering.{Numbering, owner_of}
 use Rattle.task_model.specs.Setting.{Setting}
@@ -34,7 +34,7 @@ rules_of numbers = record { ops = task_ops; store = seats.on_list task_ops; owne
 
 -- The list of the actions that apply, in their order.
 abbrev pub enabled_of : Whole → List Action
-enabled_of m = rows.enabled_of (rules_of m.numbers) m.state
+enabled_of m = applying.enabled_of (rules_of m.numbers) m.state
 
 -- The machine after an action.
 abbrev pub after : Whole → Action → Whole

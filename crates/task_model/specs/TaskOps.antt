@@ -1,5 +1,5 @@
 -- What one task does, in one record, as the table of actions asks it.
-use Rattle.event_machine.specs.Seats.{Ops}
+use Rattle.event_machine.specs.States.{Ops}
 use Rattle.task_model.specs.Frames.{callers_in}
 use Rattle.task_model.specs.Tasks.{Task}
 use Rattle.task_model.specs.Stands.{can_step, stepped, offer_of}

@@ -6,7 +6,7 @@ use Rattle.event_machine.specs.declared.Action.TheVariants.{Local, Arrive, Start
 use Rattle.event_machine.specs.declared.Event.{Event}
 use Rattle.event_machine.specs.declared.Event.TheVariants.{R, E, C as CallElseEvent, T as ExpireEvent, F, B}
 use Rattle.event_machine.specs.Offers.{Offer, Nothing, Calls, Waits, Finishes, Ends, Aborts, aborted_by}
-use Rattle.event_machine.specs.Seats.{State, Rules}
+use Rattle.event_machine.specs.States.{State, Rules}
 use Rattle.event_machine.specs.Effects.{event_of, after, call_event, abort_event, after_abort, offer_of_task}
 use Rattle.event_machine.specs.Runs.{end_of, events_of}
 use Rattle.event_machine.specs.Worlds.{is_last}

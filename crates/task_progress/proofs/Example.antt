@@ -8,7 +8,7 @@ use Rattle.event_machine.specs.declared.CallForm.TheVariants.{Plain}
 use Rattle.event_machine.specs.declared.Choice.TheVariants.{Accept}
 use Rattle.event_machine.specs.declared.Event.TheVariants.{X}
 use Rattle.event_machine.specs.Offers.{Offer, Calls, Waits}
-use Rattle.event_machine.specs.Seats.{Seat}
+use Rattle.event_machine.specs.States.{Seat}
 use Rattle.event_progress.specs.Known.{Party, idle, admits}
 use Rattle.event_progress.specs.Laws.{told}
 use Rattle.syn_event.specs.Numbering.{Numbering, owner_of}

@@ -3,7 +3,7 @@ use Rattle.std.proofs.Common.{◌≡◌, ℕ, zero, suc, ◌<◌, Bool, true, fa
 use Rattle.std.specs.Prelude.{option_to_list}
 use Rattle.event_machine.specs.declared.Action.{Action}
 use Rattle.event_machine.specs.declared.Event.{Event}
-use Rattle.event_machine.specs.Seats.{State}
+use Rattle.event_machine.specs.States.{State}
 use Rattle.event_machine.specs.Runs.{IsRun, end_of, events_of}
 use Rattle.event_machine.proofs.Appends.{run_append, end_append, events_append}
 use Rattle.syn_event.specs.Numbering.{Numbering}

@@ -1,6 +1,6 @@
 -- A test that tells the tasks that can come about.
 use Rattle.std.proofs.Common.{◌≡◌, Bool, true, false, List, [], ◌∷◌, refl, true≢false, sym}
-use Rattle.event_machine.specs.Seats.{Ops}
+use Rattle.event_machine.specs.States.{Ops}
 use Rattle.event_machine.specs.Lawful.{IsLawful, Keeps}
 use Rattle.task_model.specs.Frames.{Around, OwnBody, Block, Handling, Loop, Opened, PFrame}
 use Rattle.task_model.specs.Tasks.{Task}

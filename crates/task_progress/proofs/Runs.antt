@@ -4,7 +4,7 @@ use Rattle.event_machine.specs.declared.Action.{Action}
 use Rattle.event_machine.specs.declared.Event.{Event}
 use Rattle.event_machine.specs.declared.Standing.{Standing}
 use Rattle.event_machine.specs.declared.Standing.TheVariants.{Live, Waiting, Queued, Served, Completed, Killed}
-use Rattle.event_machine.specs.Seats as seats
+use Rattle.event_machine.specs.States as seats
 use Rattle.event_machine.specs.Runs.{IsRun, end_of, events_of}
 use Rattle.event_machine.specs.Tallies.{ComesTo, tallies}
 use Rattle.event_progress.specs.Known.{Known, Party, party, known, at_start, admits, is_by}

@@ -1,7 +1,7 @@
 -- What earlier events tell of the tasks of a program, and what it is for that to be so in a state of its machine (this project's rule).
 use Rattle.std.specs.Prelude.{◌≡◌, ℕ, if◌then◌else◌, List, [], length}
 use Rattle.event_machine.specs.declared.Event.{Event}
-use Rattle.event_machine.specs.Seats as seats
+use Rattle.event_machine.specs.States as seats
 use Rattle.event_progress.specs.Known as known
 use Rattle.event_progress.specs.Known.{Known, party}
 use Rattle.syn_event.specs.Numbering.{Numbering, owner_of}

@@ -13,7 +13,7 @@ use task_calls::{Here, Member, open_formals};
 use task_frames::Next;
 use task_model::FormalParameter;
 use task_state::TaskState;
-use task_waits::{Accepting, alternative_for};
+use task_waits::{Accepting, alternative_for, no_parts};
 
 // The parts of the accept that is taken where the task stands.
 fn accepting<'p>(task: &TaskState<'p>, member: Member) -> Accepting<'p>
@@ -31,17 +31,6 @@ fn accepting<'p>(task: &TaskState<'p>, member: Member) -> Accepting<'p>
         Next::Turn(_) => no_parts(),
         Next::EndOfBody { .. } => no_parts(),
         Next::EndOfUnit => no_parts(),
-    }
-}
-
-// Those of no accept.
-fn no_parts<'p>() -> Accepting<'p>
-    ensures { plain_parts result ≡ parts_opened None }
-{
-    Accepting {
-        formals: &[],
-        body: &[],
-        behind: &[],
     }
 }
 

@@ -7,7 +7,7 @@ use Rattle.event_machine.specs.declared.Standing.{Standing}
 use Rattle.event_machine.specs.declared.Standing.TheVariants.{Completed, Killed, Served}
 use Rattle.event_machine.specs.declared.Event.{Event}
 use Rattle.event_machine.specs.declared.Event.TheVariants.{R, E, S, D, C, T, F, X, B, Z}
-use Rattle.event_machine.specs.Seats.{Seat, live, completed, is_closed, is_abnormal, is_served_by}
+use Rattle.event_machine.specs.States.{Seat, live, completed, is_closed, is_abnormal, is_served_by}
 use Rattle.event_machine.specs.Effects.{freed, stand, parted, released_first, released, fallen, aborted, went_on}
 use Rattle.event_machine.specs.Programs.{Program, numbered}
 use Rattle.event_machine.specs.Worlds.{World, Move, Step, Happen, acted, moved, world_after}

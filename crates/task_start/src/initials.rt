@@ -5,11 +5,10 @@ ghost use Rattle.ada_tree.specs.PlainExpr.{plain_expr};
 ghost use Rattle.ada_tree.specs.PlainDecl.{plain_init};
 ghost use Rattle.task_model.specs.Starting.{initial, initials, value_count, value_or_lower};
 
-use crate::static_names::StaticNames;
 use ada_tree::{Expr, Init, Memory, Types};
 use ada_value::{Form, Limits, Raised, Value, evaluate, lies_in, lower, position_of};
 use std::alloc::Global;
-use task_links::TypeNames;
+use task_links::{StaticNames, TypeNames};
 
 // An initial value; one that raises or lies outside the subtype counts for none.
 fn value_or_lower(types: &Types, limits: Limits, given: Result<Value, Raised>) -> Value

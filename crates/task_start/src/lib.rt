@@ -7,7 +7,6 @@ mod object_forms;
 mod objects;
 #[tactic(auto, using(ada_tree::proofs::Rows::rows))]
 mod starting;
-mod static_names;
 #[tactic(auto, using(ada_tree::proofs::Rows::rows))]
 mod units;
 

@@ -7,10 +7,9 @@ ghost use Rattle.ada_tree.specs.StaticValue.{mark_named};
 ghost use Rattle.ada_value.specs.Variables.{form_of_mark};
 ghost use Rattle.task_model.specs.Starting.{form_of, indicated, known_range, marked_form, plain_form, array_form};
 
-use crate::static_names::StaticNames;
 use ada_tree::{Bounds, Drange, Mark, Shape, Subind};
 use ada_value::{Form, Limits, Raised, form_of_mark, integer_limits, limits_of, narrowed, range};
-use task_links::TypeNames;
+use task_links::{StaticNames, TypeNames};
 
 // A static range; where its bounds raise it is INTEGER.
 fn known_range(range: Result<Limits, Raised>) -> Limits

@@ -1,6 +1,6 @@
 // The ways in which a task goes on.
 
-ghost use Rattle.std.specs.Prelude.{◌≡◌, ◌∷◌, drop, map, option_map, slice_get, true, IfOk, IsOk, OnOk, OnErr};
+ghost use Rattle.std.specs.Prelude.{◌≡◌, drop, map, option_map, slice_get, true, IfOk, IsOk, OnOk, OnErr};
 ghost use Rattle.ada_tree.specs.PlainStmt.{plain_part, seen};
 ghost use Rattle.ada_value.specs.declared.values.Value.TheVariants.{Number};
 ghost use Rattle.ada_value.specs.Variables.{set_value};

@@ -1,6 +1,6 @@
 // Loop parameters, which are the latest variables of their loops (5.5).
 
-ghost use Rattle.std.specs.Prelude.{◌≡◌, ◌∷◌, pos, ◌+ℤ◌, ◌-ℤ◌, if◌then◌else◌, OnOk, OnErr};
+ghost use Rattle.std.specs.Prelude.{◌≡◌, ◌∷◌, pos, OnOk, OnErr};
 ghost use Rattle.ada_tree.specs.PlainStmt.{seen};
 ghost use Rattle.ada_value.specs.Values.{position_of};
 ghost use Rattle.task_frames.specs.Seen.{turns_as};

@@ -1,6 +1,6 @@
 // Assignments, GET and PUT (5.2, 14.3).
 
-ghost use Rattle.std.specs.Prelude.{◌≡◌, [], map, OnOk, OnErr};
+ghost use Rattle.std.specs.Prelude.{◌≡◌, map, OnOk, OnErr};
 ghost use Rattle.ada_tree.specs.PlainExpr.{plain_expr};
 ghost use Rattle.ada_tree.specs.PlainStmt.{plain_part, plain_target};
 ghost use Rattle.task_model.specs.Rendezvous.{behind_of};

@@ -1,6 +1,6 @@
 // The variables of one task.
 
-ghost use Rattle.std.specs.Prelude.{◌≡◌, ◌≤◌, ◌∷◌, [], drop, length, option_map, slice_get, take, OnOk, OnErr};
+ghost use Rattle.std.specs.Prelude.{◌≡◌, ◌∷◌, [], drop, length, option_map, slice_get, take, OnOk, OnErr};
 ghost use Rattle.ada_value.specs.Variables.{object_named, object_with, set_value};
 ghost use Rattle.task_store.specs.Plain.{plain_variable};
 ghost use Rattle.task_store.specs.Latest.{with_latest};

@@ -40,8 +40,8 @@ fn parts_behind<'p>(accept: &'p Accept, behind: &'p [Stmt]) -> Accepting<'p>
     }
 }
 
-// Those of no accept.
-fn no_parts<'p>() -> Accepting<'p>
+/// The parts of no accept: no formals and no statements.
+pub fn no_parts<'p>() -> Accepting<'p>
     ensures { plain_parts result ≡ parts_opened None }
 {
     Accepting {

@@ -13,7 +13,7 @@ mod room;
 #[tactic(auto, using(ada_tree::proofs::Rows::rows))]
 mod stands;
 
-pub use alternatives::{Accepting, alternative_for};
+pub use alternatives::{Accepting, alternative_for, no_parts};
 pub use delays::delay_stmts;
 pub use room::{room_at, widest_among, widest_wait};
 pub use stands::{Stand, stand_at};

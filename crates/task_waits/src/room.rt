@@ -1,6 +1,6 @@
 // The widest wait of a unit's body. Lists are gone through by loops, so recursion follows nesting alone.
 
-ghost use Rattle.std.specs.Prelude.{◌≡◌, suc, map, option_map, max};
+ghost use Rattle.std.specs.Prelude.{◌≡◌, suc, map, max};
 ghost use Rattle.ada_tree.specs.PlainStmt.{plain_accept, plain_alt, plain_alt_kind, plain_arm, plain_case_arm, plain_handler, plain_body, plain_stmt, alts_of, arms_of, case_arms_of, handlers_of, seen};
 ghost use Rattle.task_waits.specs.Room.{alternatives_in, room_at, widest_stmt, widest_stmts, widest_accept, widest_kind, widest_alts, widest_arms, widest_case_arms, widest_handlers, widest_body};
 ghost use Rattle.task_waits.specs.inner.Widths.{inner_width, rest_width};

@@ -1,8 +1,7 @@
 // What a task stands at with a synchronizing statement next.
 
-ghost use Rattle.std.specs.Prelude.{◌≡◌, false, ◌<◌, ◌≤◌, ◌+◌, ◌++◌, ◌^◌, ℕ, suc, List, [], ◌∷◌, Ok, map, length, IfOk, IsOk};
-ghost use Rattle.std.specs.List.{filter_map};
-ghost use Rattle.std.specs.Vec.{vec_len, vec_capacity};
+ghost use Rattle.std.specs.Prelude.{◌≡◌, false, ◌<◌, ◌≤◌, ◌+◌, ◌++◌, ◌^◌, suc, List, [], ◌∷◌, Ok, map, length, IfOk, IsOk};
+ghost use Rattle.std.specs.Vec.{vec_capacity};
 ghost use Rattle.event_machine.specs.declared.Choice.{Choice};
 ghost use Rattle.ada_tree.specs.PlainStmt.{no_stmt, plain_accept, plain_alt, plain_call, plain_callee, plain_stmt, alts_of};
 ghost use Rattle.ada_value.specs.Values.{and_then};

@@ -6,7 +6,7 @@ ghost use Rattle.ada_tree.specs.PlainStmt.{plain_case_arm, plain_choice, plain_h
 ghost use Rattle.ada_expr_copy.specs.Parts.{OkWith};
 
 use crate::leaves::callee_named;
-use crate::lists::{one, one_arm};
+use crate::node_lists::{one, one_arm};
 use ada_stmt_copy::building::{abort_of, arm_of, case_arm_of, handler_of, if_of};
 use ada_tree::{CaseArm, CaseChoice, Expr, Handler, Memory, Span, Stmt, Word};
 use std::alloc::Global;

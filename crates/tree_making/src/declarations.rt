@@ -5,7 +5,7 @@ ghost use Rattle.ada_tree.specs.PlainExpr.{plain_subind};
 ghost use Rattle.ada_tree.specs.PlainDecl.{plain_decl, DObject, OPlain};
 ghost use Rattle.ada_expr_copy.specs.Parts.{OkWith};
 
-use crate::lists::{append, keep, one};
+use crate::node_lists::{append, keep, one};
 use ada_expr_copy::{both, put};
 use ada_tree::{Decl, DeclKind, EntryDecl, Memory, Shape, Span, Subind, Word};
 use std::alloc::Global;

@@ -7,8 +7,8 @@ ghost use Rattle.ada_expr_copy.specs.Parts.{OkWith};
 ghost use Rattle.tree_making.specs.Chains.{chained};
 
 use crate::leaves::callee_named;
-use crate::lists::put_expr;
-use ada_expr_copy::both;
+use crate::node_lists::put_expr;
+use ada_expr_copy::{both, boxed_attribute};
 use ada_tree::{Args, BinaryOp, Call, Expr, ExprKind, Memory, Span, UnaryOp, Word};
 use std::alloc::Global;
 use std::mem;
@@ -52,14 +52,7 @@ pub fn attribute_of(
     ensures { IfOk result (λ made. OkWith arg (λ a. plain_expr made ≡ EAttributeOf mark word (plain_expr a) span)) }
 {
     match boxed(alloc, arg) {
-        Ok(arg) => Ok(Expr {
-            kind: ExprKind::Attribute {
-                mark,
-                word,
-                arg: Some(arg),
-            },
-            span,
-        }),
+        Ok(arg) => boxed_attribute(mark, word, Ok(arg), span),
         Err(e) => Err(e),
     }
 }

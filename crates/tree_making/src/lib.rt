@@ -6,7 +6,7 @@ mod compound;
 mod declarations;
 mod expressions;
 mod leaves;
-mod lists;
+mod node_lists;
 
 pub use assignments::{assignment, assignment_to, component_assignment};
 pub use compound::{abort_one, handler_one, handler_others, if_one, value_arm};
@@ -20,7 +20,7 @@ pub use leaves::{
     attribute_expr, callee_named, delay_stmt, exit_stmt, integer_expr, name_expr, null_stmt,
     raise_stmt, reraise_stmt,
 };
-pub use lists::{
+pub use node_lists::{
     append_stmts, keep_alts, keep_arms, keep_case_arms, keep_expr, keep_exprs, keep_formals,
     keep_stmts, one_alt, one_arm, one_expr, one_formal, one_handler, one_stmt, push_alt, push_arm,
     push_case_arm, push_expr, push_formal, push_stmt, push_taken_stmt, put_expr, some_args,

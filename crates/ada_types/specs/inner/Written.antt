@@ -6,7 +6,7 @@ use Rattle.ada_tree.specs.ExprTypes.{kind_of}
 use Rattle.ada_tree.specs.Demand.{whole, Site}
 use Rattle.ada_tree.specs.Sites.{site, part_nodes}
 use Rattle.ada_refusals.specs.RefusedFirst.{refused_first}
-use Rattle.ada_types.specs.declared.parts.Written.{Written}
+use Rattle.ada_types.specs.declared.written_parts.Written.{Written}
 
 -- the places of the expression and its parts, where it may be 'IMAGE itself
 abbrev pub written_sites : Scope → PExpr → List Site

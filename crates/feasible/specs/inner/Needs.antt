@@ -1,6 +1,6 @@
 -- What running the needed tasks on leaves.
 use Rattle.std.specs.Prelude.{◌≡◌, ℕ, zero, suc, ◌+◌, ◌≤◌, true, false, List, [], ◌∷◌, ◌++◌, length, slice_index, All, Option, Some, None}
-use Rattle.event_machine.specs.Seats.{is_live}
+use Rattle.event_machine.specs.States.{is_live}
 use Rattle.event_machine.specs.Settling.{ran, HasSteps}
 use Rattle.task_model.specs.Machine.{Tasks}
 use Rattle.task_model.specs.Stands.{can_step}

@@ -8,8 +8,8 @@ use Rattle.ada_tree.specs.PlainStmt.{PCall, PStmt, SCall, SConditional, STimed, 
 use Rattle.task_model.specs.Setting.{Setting}
 use Rattle.normal_model.specs.Ranges.{word_at}
 use Rattle.normal_model.specs.Calls.{call_to, flagged}
-use Rattle.normal_calls.specs.declared.forms.Form.{Form}
-use Rattle.normal_calls.specs.declared.forms.Form.TheVariants.{Plain, Conditional, Timed}
+use Rattle.normal_calls.specs.declared.call_forms.Form.{Form}
+use Rattle.normal_calls.specs.declared.call_forms.Form.TheVariants.{Plain, Conditional, Timed}
 
 -- a call of this form, with the statements behind it and those of its other part, of which a plain call has none
 abbrev pub formed : Form → Span → PCall → PStmts → PStmts → PStmt

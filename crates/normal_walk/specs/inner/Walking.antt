@@ -6,7 +6,7 @@ use Rattle.tree_walk.specs.Rules.{Rule}
 use Rattle.normal_model.specs.Waits.{Unit, alternative_before, alternative_left}
 use Rattle.normal_model.specs.Variables.{statement_variables, alternative_variables}
 use Rattle.normal_model.specs.NormalStmts.{normal_image}
-use Rattle.normal_meanings.specs.declared.members.Members.{Members}
+use Rattle.normal_meanings.specs.declared.array_members.Members.{Members}
 use Rattle.normal_meanings.specs.Meant.{AreMembersOf}
 use Rattle.normal_variables.specs.declared.track.Track.{Track}
 use Rattle.normal_variables.specs.Track.{IsTrack}

@@ -4,7 +4,7 @@ use Rattle.event_machine.specs.declared.Standing.{Standing}
 use Rattle.event_machine.specs.declared.Standing.TheVariants.{Live, Waiting, Queued, Served, Completed, Killed}
 use Rattle.event_machine.specs.declared.Event.{Event}
 use Rattle.event_machine.specs.Offers.{calls_in, is_any_form}
-use Rattle.event_machine.specs.Seats.{Seat, live, is_completed}
+use Rattle.event_machine.specs.States.{Seat, live, is_completed}
 use Rattle.event_machine.specs.Worlds.{World, Move, is_last, AreMoves, world_after, happened}
 use Rattle.replay_law.specs.Permits.{Permit, ToMeet, permit_of, Op, Go, Done, Join, Hold}
 use Rattle.replay_law.specs.Copies.{Copy, Based, Holding, Saying, Controlling, Handing, Idling, under, is_own}

@@ -1,4 +1,4 @@
-use Rattle.replay_kept.proofs.Instance.{is_met}
+use Rattle.replay_legal.proofs.kept_names.Instance.{is_met}
 use Rattle.replay_legal.proofs.Form.{legal_normal_is_form}
 use Rattle.replay_legal.proofs.Legal.{known_replay_meets_at_places, known_replay_is_legal, replay_is_as_promised}
 use Rattle.replay_legal.proofs.laws.Goals as goal

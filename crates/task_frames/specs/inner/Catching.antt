@@ -5,8 +5,8 @@ use Rattle.ada_tree.specs.PlainStmt.{PStmts, no_stmt, PHandlers}
 use Rattle.ada_value.specs.declared.values.Raised.{Raised}
 use Rattle.task_model.specs.Frames as model
 use Rattle.task_model.specs.Frames.{PFrame, handler_for, is_left, brought_by}
-use Rattle.task_frames.specs.declared.places.Place.{Place}
-use Rattle.task_frames.specs.declared.places.Place.TheVariants as stands
+use Rattle.task_frames.specs.declared.frame.Place.{Place}
+use Rattle.task_frames.specs.declared.frame.Place.TheVariants as stands
 use Rattle.task_frames.specs.Seen.{turns_as, seen_handlers, around}
 
 -- the unit's body as an exception comes to it, with its handler for the exception if it has one

@@ -6,7 +6,7 @@ use Rattle.task_model.specs.Stands.{stand_of}
 use Rattle.task_room.specs.Fitting.{HasRoom}
 use Rattle.task_state.specs.Plain.{plain_task}
 use Rattle.task_waits.specs.Standing.{stand_as}
-use Rattle.task_local.specs.declared.parts.TaskParts.{TaskParts}
+use Rattle.task_local.specs.declared.task_parts.TaskParts.{TaskParts}
 use Rattle.task_local.specs.inner.Local.{Local, IsWithin, behind_names}
 
 -- the task

@@ -1,6 +1,6 @@
 use Rattle.std.proofs.Common.{sym, ◌∙◌, rules}
 use Rattle.std.proofs.lemmas.List.{at_drop_all}
-use Rattle.ada_lexer.specs.Bytes.{every}
+use Rattle.common_lemmas.specs.Following.{every}
 use Rattle.ada_lexer.specs.Numbers.{numeral_goes_on, decimal_from}
 use Rattle.ada_lexer.proofs.NumberLemmas.{integer_value-some}
 use Rattle.ada_lexer.proofs.numbers.integer.Goals as goal

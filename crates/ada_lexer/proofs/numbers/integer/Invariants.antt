@@ -1,5 +1,5 @@
 use Rattle.std.proofs.Common.{◌≡◌, ◌-◌, ◌≤◌, length, drop}
-use Rattle.ada_lexer.specs.Bytes.{every}
+use Rattle.common_lemmas.specs.Following.{every}
 use Rattle.ada_lexer.specs.Numbers.{numeral_goes_on, decimal_from}
 use Rattle.ada_lexer.proofs.numbers.integer.Given as goal
 

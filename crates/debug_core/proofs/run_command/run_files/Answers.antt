@@ -1,7 +1,7 @@
 use Rattle.std.proofs.Common.{inl}
 use Rattle.debug_files.specs.Giving.{given_as, inputs_in}
 use Rattle.debug_outcome.proofs.Comings.{comes_more}
-use Rattle.debug_core.specs.ChoiceTexts.{RunsUnder}
+use Rattle.debug_core.specs.ChosenRuns.{RunsUnder}
 use Rattle.debug_core.specs.RunMeaning.{RunMeans}
 use Rattle.debug_core.specs.inner.Started.{setup_of}
 use Rattle.debug_core.proofs.run_command.run_files.Goals as goal

@@ -1,4 +1,4 @@
-use Rattle.event_machine.specs.Seats.{is_served_by}
+use Rattle.event_machine.specs.States.{is_served_by}
 use Rattle.task_machine.specs.Table.{seat_of}
 use Rattle.feasible.specs.inner.Recounts.{BeginAnew, below}
 use Rattle.feasible.proofs.happening.begin_served.Given as goal

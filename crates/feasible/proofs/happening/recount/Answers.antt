@@ -1,6 +1,6 @@
 use Rattle.std.proofs.Common.{ℕ, List, ◌||◌, ◌==◌, ◌∙◌, sym, ap, subst, slice_set}
 use Rattle.event_machine.specs.declared.Event.{Event}
-use Rattle.event_machine.specs.Rows.{is_first}
+use Rattle.event_machine.specs.Applying.{is_first}
 use Rattle.event_machine.specs.Worlds.{changes}
 use Rattle.syn_event.specs.Numbering.{owner_of}
 use Rattle.task_model.specs.Frames.{callers_in}

@@ -1,5 +1,6 @@
 use Rattle.std.proofs.Common.{◌≡◌, ◌-◌, ◌≤◌, length, drop}
-use Rattle.seq_file.specs.Lines.{every, name_goes_on}
+use Rattle.seq_file.specs.Lines.{name_goes_on}
+use Rattle.common_lemmas.specs.Following.{every}
 use Rattle.seq_file.proofs.lines.every_goes_on.Given as goal
 
 abbrev pub invariant-loop-n : goal.invariant-loop-n

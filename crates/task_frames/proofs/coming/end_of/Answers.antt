@@ -1,6 +1,6 @@
 use Rattle.std.proofs.Common.{◌≡◌, refl, ap}
 use Rattle.ada_tree.specs.PlainStmt.{seen}
-use Rattle.task_frames.specs.declared.places.Place.TheVariants as stands
+use Rattle.task_frames.specs.declared.frame.Place.TheVariants as stands
 use Rattle.task_frames.specs.Seen.{around, seen_handlers}
 use Rattle.task_frames.proofs.coming.end_of.Goals as goal
 

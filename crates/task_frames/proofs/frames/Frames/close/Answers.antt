@@ -1,5 +1,5 @@
 use Rattle.std.proofs.Common.{◌≡◌, ap, length, refl, reverse}
-use Rattle.task_frames.specs.declared.places.Place.TheVariants as stands
+use Rattle.task_frames.specs.declared.frame.Place.TheVariants as stands
 use Rattle.task_frames.specs.Seen.{stack_of}
 use Rattle.task_frames.specs.Stack.{Held}
 use Rattle.task_frames.proofs.CallLemmas.{closes_from, closes_nothing}

@@ -1,5 +1,5 @@
 use Rattle.std.proofs.Common.{None}
-use Rattle.task_frames.specs.declared.places.Place.TheVariants as stands
+use Rattle.task_frames.specs.declared.frame.Place.TheVariants as stands
 use Rattle.task_frames.proofs.StackLemmas.{opened_settled}
 use Rattle.task_frames.proofs.CallLemmas.{two_grounded}
 use Rattle.task_frames.proofs.frames.Frames.open.Goals as goal

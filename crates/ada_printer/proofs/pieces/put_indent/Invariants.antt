@@ -1,8 +1,0 @@
-use Rattle.ada_printer.specs.Layout.{indent}
-use Rattle.paged_output.specs.Pages.{Drew, over}
-use Rattle.ada_printer.proofs.pieces.put_indent.Given as goal
-
-abbrev pub invariant-loop-done : goal.invariant-loop-done
-invariant-loop-done g l =
-    Drew (over l.initial.page (g.K.Sink.told l.initial.out) (g.K.Sink.faults l.initial.out)) (over l.page (g.K.Sink.told l.out) (g.K.Sink.faults l.out))
-    (indent l.done)

@@ -1,2 +1,0 @@
-//! The bodies of legal programs, as the law of normal forms asks for them.
-#![tactic(auto)]

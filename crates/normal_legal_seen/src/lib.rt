@@ -1,2 +1,0 @@
-//! What the places of a legal program see of its tasks.
-#![tactic(auto)]

@@ -1,2 +1,0 @@
-//! Statements of legal programs, gone through with the places at which the static rules ask something.
-#![tactic(auto)]

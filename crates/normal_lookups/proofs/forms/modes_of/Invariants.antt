@@ -1,7 +1,0 @@
-use Rattle.std.proofs.Common.{◌≡◌, map, take}
-use Rattle.ada_tree.specs.PlainStmt.{plain_formal}
-use Rattle.normal_model.specs.Calls.{slots_of}
-use Rattle.normal_lookups.proofs.forms.modes_of.Given as goal
-
-abbrev pub invariant-loop-formal : goal.invariant-loop-formal
-invariant-loop-formal l = l.modes.items ≡ map (λ x. x.mode) (slots_of (map plain_formal (take l.formal-index l.formals)))

@@ -1,0 +1,3 @@
+pub mod Laws
+pub mod Formals
+pub mod Legal

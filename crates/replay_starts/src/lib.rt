@@ -1,0 +1,23 @@
+//! With which objects the units of a replay text start, and which formals its entries have. The crate has no functions of its own but the
+//! one that carries the laws.
+#![tactic(auto)]
+
+ghost use Rattle.replay_starts.specs.Formals.{FormalsStay};
+ghost use Rattle.replay_starts.specs.Legal.{LegalHasFormals, LegalStarts};
+ghost use Rattle.replay_starts.specs.Laws.{IntegerIsThere, LookUpsStay, PermitIsFound, TextsStart, UnitsStart};
+
+/// Carries the laws of the start of a replay text. INTEGER means INTEGER in each program (`integer`). So a unit starts with the objects that
+/// it has without a permit and with the permit's variables, which are 0 (`units`). Each other name means what it means without them
+/// (`names`), and the names of the permit mean these variables (`permit`). By its own types and numbers each task of a replay text
+/// starts so (`texts`), and its entries have the formals of the normal form, those of a permit, or none (`formals`). Both are so of
+/// legal programs (`legal_texts`, `legal_formals`), the first where each task has a body.
+pub fn laws()
+    ensures integer { IntegerIsThere }
+    ensures units { UnitsStart }
+    ensures names { LookUpsStay }
+    ensures permit { PermitIsFound }
+    ensures texts { TextsStart }
+    ensures formals { FormalsStay }
+    ensures legal_texts { LegalStarts }
+    ensures legal_formals { LegalHasFormals }
+{}
