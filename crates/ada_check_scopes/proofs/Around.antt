@@ -9,7 +9,7 @@ use Rattle.std.proofs.Math.Seq.{drop-append_seam}
 use Rattle.scoped_names.specs.Meaning.{meaning_in}
 use Rattle.ada_tree.specs.declared.naming.NameId.{NameId}
 use Rattle.syn_event.specs.declared.meanings.Meant.{Meant}
-use Rattle.syn_event.specs.CheckScope.{Unit}
+use Rattle.syn_event.specs.CheckScope.{EnclosingUnit}
 use Rattle.ada_check_scopes.specs.Around.{unit_of_id}
 use Rattle.common_lemmas.proofs.Numbers.{equal_is, seam_at}
 
@@ -58,14 +58,14 @@ module _ {T : Type 0} (f : T → List NameId) where
   entries_seen [] name = refl
   entries_seen (s ∷ rest) name = at_unit s rest name (s.0 == name) (equal_is s.0 name) (entries_seen rest name)
 
-  pub unit_there : (units : List (ℕ × T)) (all : List Unit) (name : ℕ) (o : Option T) (e : T) → o ≡ meaning_in units name → o ≡ Some e → map (λ x. unit_of_id x.0 (f x.1)) units ≡ all
+  pub unit_there : (units : List (ℕ × T)) (all : List EnclosingUnit) (name : ℕ) (o : Option T) (e : T) → o ≡ meaning_in units name → o ≡ Some e → map (λ x. unit_of_id x.0 (f x.1)) units ≡ all
       → unwrap_or (find (λ u. u.name.0 == name) all) (unit_of_id name []) ≡ unit_of_id name (f e)
   unit_there units all name o e h is seen =
       ap (λ l. unwrap_or (find (λ u. u.name.0 == name) l) (unit_of_id name [])) (sym seen)
       ∙ entries_seen units name
       ∙ ap (λ m. unit_of_id name (entries_at (option_map f m))) (sym h ∙ is)
 
-  pub unit_gone : (units : List (ℕ × T)) (all : List Unit) (name : ℕ) (o : Option T) → o ≡ meaning_in units name → o ≡ None → map (λ x. unit_of_id x.0 (f x.1)) units ≡ all
+  pub unit_gone : (units : List (ℕ × T)) (all : List EnclosingUnit) (name : ℕ) (o : Option T) → o ≡ meaning_in units name → o ≡ None → map (λ x. unit_of_id x.0 (f x.1)) units ≡ all
       → unwrap_or (find (λ u. u.name.0 == name) all) (unit_of_id name []) ≡ unit_of_id name []
   unit_gone units all name o h is seen =
       ap (λ l. unwrap_or (find (λ u. u.name.0 == name) l) (unit_of_id name [])) (sym seen)

@@ -16,8 +16,8 @@ use Rattle.ada_tree.proofs.Rows.{plain_case_arm-out}
 use Rattle.ada_tree.specs.Refusals.{Refusal, by_rule}
 use Rattle.ada_tree.specs.Scope.{Scope, Range}
 use Rattle.ada_tree.specs.Demand.{must_lie_in, must_not_be_empty, chooses}
-use Rattle.ada_tree.specs.RuleChoiceBad.{selected_range, bad_choices, left_out, leaves_out, no_choice_refused, choice_range, choice_span, with_range, overlaps_one, overlapping, do_overlap, is_good, integers_from, how_many, values_of, is_covered}
-use Rattle.ada_tree.specs.Sites.{site, static_of, choices_of}
+use Rattle.ada_tree.specs.RuleChoiceBad.{selected_range, bad_choices, left_out, leaves_out, no_choice_refused, choice_range, choice_span, with_range, overlaps_one, overlapping, do_overlap, is_good, integers_from, how_many, values_in, is_covered}
+use Rattle.ada_tree.specs.Sites.{site, static_of, arm_choices}
 use Rattle.ada_refusals.specs.Sooner.{sooner, found, least_of}
 use Rattle.ada_refusals.specs.RefusedFirst.{refused_first, refused_first_at}
 use Rattle.ada_choices.specs.Covers.{first_of, Covers, Reaches, IsFree}
@@ -226,7 +226,7 @@ covered_not : (p : Bool) → p ≡ true → not p ≡ false
 covered_not p h = cc
 
 -- all values are there
-pub all_there : (is_covered : ℤ → Bool) (values : Range) → ((z : ℤ) → values.first ≤ℤ z → z ≤ℤ values.last → is_covered z ≡ true) → false ≡ list_any (λ z. not (is_covered z)) (values_of values)
+pub all_there : (is_covered : ℤ → Bool) (values : Range) → ((z : ℤ) → values.first ≤ℤ z → z ≤ℤ values.last → is_covered z ≡ true) → false ≡ list_any (λ z. not (is_covered z)) (values_in values)
 all_there is_covered values h =
     sym (any_none (λ z. not (is_covered z)) values.first (how_many (values.last -ℤ values.first +ℤ pos 1))
     (λ z g l. covered_not (is_covered z) (h z g (reach_from values.first values.last z (values.last -ℤ values.first +ℤ pos 1) refl g l))))
@@ -235,7 +235,7 @@ not_covered : (p : Bool) → p ≡ false → not p ≡ true
 not_covered p h = cc
 
 -- a value is not there
-pub one_not : (is_covered : ℤ → Bool) (values : Range) (z : ℤ) → values.first ≤ℤ z → z ≤ℤ values.last → is_covered z ≡ false → true ≡ list_any (λ x. not (is_covered x)) (values_of values)
+pub one_not : (is_covered : ℤ → Bool) (values : Range) (z : ℤ) → values.first ≤ℤ z → z ≤ℤ values.last → is_covered z ≡ false → true ≡ list_any (λ x. not (is_covered x)) (values_in values)
 one_not is_covered values z g l h =
     sym (any_some (λ x. not (is_covered x)) values.first (how_many (values.last -ℤ values.first +ℤ pos 1)) z g (reach_to values.first values.last z (values.last -ℤ values.first +ℤ pos 1) refl g l) (not_covered (is_covered z) h))
 
@@ -311,24 +311,24 @@ chosen_all scope k values done xs i c end h = subst (λ l. AreChosen scope k val
 abbrev choices_in : PCaseArm → List PChoice
 choices_in (case_arm choices l) = choices
 
-choices_end : (xs : List PCaseArm) (x : PCaseArm) → choices_of (case_arms_of (xs ++ x ∷ [])) ≡ choices_of (case_arms_of xs) ++ choices_in x
+choices_end : (xs : List PCaseArm) (x : PCaseArm) → arm_choices (case_arms_of (xs ++ x ∷ [])) ≡ arm_choices (case_arms_of xs) ++ choices_in x
 choices_end [] (case_arm choices l) = append-nil choices
-choices_end (case_arm choices l ∷ xs) x = ap (λ r. choices ++ r) (choices_end xs x) ∙ sym (append_assoc choices (choices_of (case_arms_of xs)) (choices_in x))
+choices_end (case_arm choices l ∷ xs) x = ap (λ r. choices ++ r) (choices_end xs x) ∙ sym (append_assoc choices (arm_choices (case_arms_of xs)) (choices_in x))
 
 pub arms_turn : (scope : Scope) (k : ℕ) (values : Option Range) (xs : List CaseArm) (i : ℕ) (x : CaseArm) (choices : List CaseChoice) (c : Chosen) → i < length xs → x ≡ get_or xs i x → choices ≡ (out-CaseArm x).choices.items
-    → AreChosen scope k values (choices_of (case_arms_of (map plain_case_arm (take i xs))) ++ map plain_choice choices) c
-    → AreChosen scope k values (choices_of (case_arms_of (map plain_case_arm (take (i + 1) xs)))) c
+    → AreChosen scope k values (arm_choices (case_arms_of (map plain_case_arm (take i xs))) ++ map plain_choice choices) c
+    → AreChosen scope k values (arm_choices (case_arms_of (map plain_case_arm (take (i + 1) xs)))) c
 arms_turn scope k values xs i x choices c inside at is h =
     subst (λ l. AreChosen scope k values l c)
-    (ap (λ l. choices_of (case_arms_of (map plain_case_arm (take i xs))) ++ l) (ap (map plain_choice) is ∙ ap choices_in (sym (plain_case_arm-out x)))
-    ∙ ap (λ y. choices_of (case_arms_of (map plain_case_arm (take i xs))) ++ choices_in (plain_case_arm y)) at
+    (ap (λ l. arm_choices (case_arms_of (map plain_case_arm (take i xs))) ++ l) (ap (map plain_choice) is ∙ ap choices_in (sym (plain_case_arm-out x)))
+    ∙ ap (λ y. arm_choices (case_arms_of (map plain_case_arm (take i xs))) ++ choices_in (plain_case_arm y)) at
     ∙ sym (choices_end (map plain_case_arm (take i xs)) (plain_case_arm (get_or xs i x)))
-    ∙ ap (λ l. choices_of (case_arms_of l)) (sym (map_more plain_case_arm xs i x inside)))
+    ∙ ap (λ l. arm_choices (case_arms_of l)) (sym (map_more plain_case_arm xs i x inside)))
     h
 
 pub arms_all : (scope : Scope) (k : ℕ) (values : Option Range) (xs : List CaseArm) (i : ℕ) (c : Chosen) → length xs ≤ i
-    → AreChosen scope k values (choices_of (case_arms_of (map plain_case_arm (take i xs)))) c → AreChosen scope k values (choices_of (case_arms_of (map plain_case_arm xs))) c
-arms_all scope k values xs i c end h = subst (λ l. AreChosen scope k values (choices_of (case_arms_of (map plain_case_arm l))) c) (take_all i xs end) h
+    → AreChosen scope k values (arm_choices (case_arms_of (map plain_case_arm (take i xs)))) c → AreChosen scope k values (arm_choices (case_arms_of (map plain_case_arm xs))) c
+arms_all scope k values xs i c end h = subst (λ l. AreChosen scope k values (arm_choices (case_arms_of (map plain_case_arm l))) c) (take_all i xs end) h
 
 pub reached : (ranges : List (ℤ × ℤ)) (next start end z : ℤ) → first_of ranges end ≡ Some start → start ≤ℤ next → next ≤ℤ z → z ≤ℤ end → Covers ranges z
 reached ranges next start end z is s n e = record { last = end; first = start; is = is; from = (grind (arith, ints)); to = e }
@@ -336,10 +336,10 @@ reached ranges next start end z is s n e = record { last = end; first = start; i
 -- ---- a value that is left out
 
 pub left_is : (scope : Scope) (k : ℕ) (values : Range) (choices : List PChoice) (chosen : Chosen) (r : Bool) → AreChosen scope k (Some values) choices chosen → (k == 0) ≡ false → chosen.good ≡ true → is_some chosen.refusal ≡ false
-    → r ≡ list_any (λ z. not (list_any (λ c. is_covered z (choice_range scope k c)) choices)) (values_of values) → r ≡ left_out scope k (Some values) choices
+    → r ≡ list_any (λ z. not (list_any (λ c. is_covered z (choice_range scope k c)) choices)) (values_in values) → r ≡ left_out scope k (Some values) choices
 left_is scope k values choices chosen r h other good free is =
     is
-    ∙ sym (ap (λ b. b && list_any (λ z. not (list_any (λ c. is_covered z (choice_range scope k c)) choices)) (values_of values)) (both_true (list_all (λ x. is_good (Some values) (choice_range scope k x)) choices) (length (overlapping scope k [] choices) == 0) (sym h.good_is ∙ good) (sym (none_found 9 (overlapping scope k [] choices)) ∙ ap is_none (sym h.refusal_is) ∙ none_is chosen.refusal free)))
+    ∙ sym (ap (λ b. b && list_any (λ z. not (list_any (λ c. is_covered z (choice_range scope k c)) choices)) (values_in values)) (both_true (list_all (λ x. is_good (Some values) (choice_range scope k x)) choices) (length (overlapping scope k [] choices) == 0) (sym h.good_is ∙ good) (sym (none_found 9 (overlapping scope k [] choices)) ∙ ap is_none (sym h.refusal_is) ∙ none_is chosen.refusal free)))
     ∙ sym (ap (λ b. if b then true else (no_choice_refused scope k (Some values) choices && leaves_out scope k (Some values) choices)) other)
   where
     none_is : (o : Option Refusal) → is_some o ≡ false → is_none o ≡ true

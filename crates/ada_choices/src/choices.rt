@@ -7,8 +7,8 @@ ghost use Rattle.ada_tree.specs.PlainStmt.{PChoice, plain_choice, plain_case_arm
 ghost use Rattle.ada_tree.specs.Scope.{Scope as PlainScope, Range as PlainRange, kind_at, range_of_mark};
 ghost use Rattle.ada_tree.specs.ExprTypes.{kind_of, static_in, range_between};
 ghost use Rattle.ada_tree.specs.Demand.{chooses};
-ghost use Rattle.ada_tree.specs.RuleChoiceBad.{selected_range, mark_of_object, range_of_kind, choice_range, choice_span, with_range, overlaps_one, is_good, left_out, values_of};
-ghost use Rattle.ada_tree.specs.Sites.{choice_sites, choices_of};
+ghost use Rattle.ada_tree.specs.RuleChoiceBad.{selected_range, mark_of_object, range_of_kind, choice_range, choice_span, with_range, overlaps_one, is_good, left_out, values_in};
+ghost use Rattle.ada_tree.specs.Sites.{choice_sites, arm_choices};
 ghost use Rattle.ada_refusals.specs.Sooner.{found};
 ghost use Rattle.ada_refusals.specs.RefusedFirst.{refused_first, refused_first_at};
 ghost use Rattle.ada_scopes.specs.Entries.{plain_range};
@@ -313,7 +313,7 @@ fn choose_arms(
     values: Option<Range>,
     arms: &[CaseArm],
 ) -> Result<Chosen, AllocError>
-    ensures { IfOk result (AreChosen scope.now kind (option_map plain_range values) (choices_of (case_arms_of (map plain_case_arm arms.now)))) }
+    ensures { IfOk result (AreChosen scope.now kind (option_map plain_range values) (arm_choices (case_arms_of (map plain_case_arm arms.now)))) }
 {
     let mut all = Chosen {
         covered: Covered::new(alloc),
@@ -328,7 +328,7 @@ fn choose_arms(
 
 // Whether a value of a range is in none of the choices.
 fn leaves_out(covered: &Covered, values: Range) -> bool
-    ensures { (is_covered : ℤ → Bool) → ((z : ℤ) → Covers covered.now z ↔ (is_covered z ≡ true)) → result ≡ list_any (λ z. not (is_covered z)) (values_of (plain_range values)) }
+    ensures { (is_covered : ℤ → Bool) → ((z : ℤ) → Covers covered.now z ↔ (is_covered z ≡ true)) → result ≡ list_any (λ z. not (is_covered z)) (values_in (plain_range values)) }
 {
     let mut next = values.first;
     'leaves: while next <= values.last {
@@ -388,7 +388,7 @@ pub fn refuse_choices(
     others: bool,
     span: Span,
 ) -> Result<Option<Refusal>, AllocError>
-    ensures { IfOk result (λ r. r ≡ refused_first_at scope.now (chooses (plain_expr selector.now) (choices_of (case_arms_of (map plain_case_arm arms.now))) others span)) }
+    ensures { IfOk result (λ r. r ≡ refused_first_at scope.now (chooses (plain_expr selector.now) (arm_choices (case_arms_of (map plain_case_arm arms.now))) others span)) }
 {
     let walked = walk(scope, selector);
     match walked.kind {

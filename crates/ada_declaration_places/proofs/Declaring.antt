@@ -12,8 +12,8 @@ use Rattle.ada_tree.specs.PlainDecl.{OPlain, OArray, PEntry, plain_entry, PDecl,
 use Rattle.syn_event.specs.declared.meanings.Meant.{Meant}
 use Rattle.syn_event.specs.declared.meanings.Meant.TheVariants.{MainProcedure, TaskType, TaskOf, Shared, Inner}
 use Rattle.syn_event.specs.CheckRefusals.{CheckRefusal}
-use Rattle.syn_event.specs.CheckScope.{Unit as OwnUnit, CheckScope, meaning, CheckDemand, CheckSite, needs_body}
-use Rattle.syn_event.specs.CheckSites.{site, with_meant, with_value, with_object, meant_by_task, unit_of, after_decl, after_decls, in_body, after_own_object, after_own}
+use Rattle.syn_event.specs.CheckScope.{EnclosingUnit as OwnUnit, CheckScope, meaning, CheckDemand, CheckSite, needs_body}
+use Rattle.syn_event.specs.CheckSites.{site, with_meant, with_declared_object, with_object, meant_by_task, enclosing_unit, after_decl, after_decls, in_body, after_own_object, after_own}
 use Rattle.ada_rules.specs.Sooner.{sooner, found}
 use Rattle.ada_rules.specs.Rules.{refused}
 use Rattle.ada_rules.specs.declared.refusals.Rule.TheVariants.{BodyMissing}
@@ -69,7 +69,7 @@ kept_same s = record { own_is = refl; types_are = refl }
 kept_meant : (m : Meant) (s : CheckScope) (ws : List Word) → KeepsRest (with_meant m s ws) s
 kept_meant m s ws = let same = meant_only m s ws [] in record { own_is = ap (λ x. x.own) same; types_are = ap (λ x. x.types) same }
 
-kept_value : (b : Bool) (s : CheckScope) (ws : List Word) → KeepsRest (with_value b s ws) s
+kept_value : (b : Bool) (s : CheckScope) (ws : List Word) → KeepsRest (with_declared_object b s ws) s
 kept_value true s ws = kept_meant Shared s ws
 kept_value false s ws = kept_same s
 
@@ -92,7 +92,7 @@ kept_decl s (DException ws p) = kept_same s
 kept_decl s (DIntIo w p) = kept_same s
 kept_decl s (DPragma e p) = kept_same s
 kept_decl s (DTask t p) =
-    let kept = kept_meant (meant_by_task t) (record s { units = unit_of t ∷ s.units }) (t.name ∷ []) in
+    let kept = kept_meant (meant_by_task t) (record s { units = enclosing_unit t ∷ s.units }) (t.name ∷ []) in
     record { own_is = kept.own_is; types_are = kept.types_are }
 kept_decl s (DTaskBody w objects its p) = kept_same s
 

@@ -15,7 +15,7 @@ use Rattle.ada_tree.specs.PlainStmt.{PBody, plain_formal}
 use Rattle.ada_tree.specs.PlainDecl.{PShape, OPlain, OArray, PInit, IOne, IList, IOthers, PEntry, PPriority, PTask, PDecl, DNumber, DObject, DEnumeration, DArray, DSubtype, DException, DIntIo, DPragma, DTask, DTaskBody, PDecls, decls_of, plain_decl, plain_entry, plain_task}
 use Rattle.ada_tree.specs.Scope.{Scope, Range, Thing, Marking, ScalarMark, ArrayMark, TaskMark, NoMark, UnknownMark, UnclearMark, integer_kind, range_of_mark}
 use Rattle.ada_tree.specs.Demand.{declares_entry, for_scalar, for_array, gives_body, must_be_static, must_lie_in, initializes, scalar_only, Site}
-use Rattle.ada_tree.specs.Declaring.{before_all, first_scope, with_name, with_names, inside, in_body, Declared, declared_object, after_own_object, after_objects, after_decl}
+use Rattle.ada_tree.specs.Declaring.{before_all, first_scope, with_name, with_names, inner_scope, in_body, Declared, declared_object, after_own_object, after_objects, after_decl}
 use Rattle.ada_tree.specs.Sites.{site, if_there, expr_sites, static_of, drange_sites, subind_sites, object_marks, component_marks, may_be_task, value_sites, free_value_sites, all_init_sites, array_init_sites, scalar_init_sites, object_marking, init_sites, is_task_object, names_sites, shape_sites, object_sites, entry_sites, entries_sites, formals_sites, task_sites, body_sites, own_object_sites, own_sites, decl_sites, decls_sites, with_words}
 use Rattle.ada_refusals.specs.Repeated.{repeated_from}
 use Rattle.ada_duplicates.specs.NamingsInOrder.{namings_of, Named, declared, named_once, first_repeated}
@@ -270,17 +270,17 @@ unfolding namings_of
 body_is scope w rest = refl
 
 inner_at : (scope : Scope) (w : Word) (a b c : List Naming) (ds : PDecls) (its : PBody) → Named a b (λ s. own_sites (of_own s) ds) → Named b c (λ s. body_sites s its)
-    → c ≡ a ++ namings_of (own_sites (in_body scope w) ds ++ body_sites (inside (after_objects (in_body scope w) ds)) its)
+    → c ≡ a ++ namings_of (own_sites (in_body scope w) ds ++ body_sites (inner_scope (after_objects (in_body scope w) ds)) its)
 unfolding Named
 inner_at scope w a b c ds its p q =
-    named_then a b c (λ s. own_sites (of_own s) ds) (λ s. body_sites (inside (after_objects (of_own s) ds)) its) p (λ s. q (inside (after_objects (of_own s) ds))) (in_body scope w)
+    named_then a b c (λ s. own_sites (of_own s) ds) (λ s. body_sites (inner_scope (after_objects (of_own s) ds)) its) p (λ s. q (inner_scope (after_objects (of_own s) ds))) (in_body scope w)
 
 pub task_body_behind : (old : PlainNotes) (l m n : List Naming) (bodies : List ℕ) (b : Bool) (w : Word) (ds : PDecls) (its : PBody) (s : Span) → l ≡ old.namings ++ named_once old.bodies (w ∷ []) → bodies ≡ w.name.0 ∷ old.bodies
     → Named l m (λ x. own_sites (of_own x) ds) → Named m n (λ x. body_sites x its)
     → AreBehind old record { namings = n; here = old.here; bodies = bodies; has_instance = old.has_instance } b (DTaskBody w ds its s)
 unfolding AreBehind
 task_body_behind old l m n bodies b w ds its s h g p q = λ scope at tasks.
-    let rest : List Site = own_sites (in_body scope w) ds ++ body_sites (inside (after_objects (in_body scope w) ds)) its in
+    let rest : List Site = own_sites (in_body scope w) ds ++ body_sites (inner_scope (after_objects (in_body scope w) ds)) its in
     notes_are old record { namings = n; here = old.here; bodies = bodies; has_instance = old.has_instance } (decl_sites scope (DTaskBody w ds its s)) (after_decl scope (DTaskBody w ds its s))
     (inner_at scope w l m n ds its p q
     ∙ ap (λ x. x ++ namings_of rest) h

@@ -23,12 +23,12 @@ use Rattle.ada_tree.specs.PlainStmt.{PTarget, PCallee, PArgs, PCall, PFormal, PP
 use Rattle.ada_tree.specs.Scope.{Scope, Range, Family, single, family, unclear, EntryPart, FormalPart, marking, scalar_kind, meaning, entry_named}
 use Rattle.ada_tree.specs.ExprTypes.{nodes, kind_of}
 use Rattle.ada_tree.specs.Demand.{MarkUse, scalar_only, Demand, node, must_be_static, must_be_of, must_be_alike, must_not_be_empty, must_lie_in, accepts, calls, chooses, labels, is_written, Site}
-use Rattle.ada_tree.specs.Declaring.{with_formals, inside}
+use Rattle.ada_tree.specs.Declaring.{with_formals, inner_scope}
 use Rattle.ada_tree.specs.RuleTextUse.{is_image_of}
 use Rattle.ada_tree.specs.RuleDuplicate.{is_among}
 use Rattle.ada_tree.specs.RuleArgCount.{called_entry}
 use Rattle.ada_tree.specs.RuleChoiceBad.{selected_range}
-use Rattle.ada_tree.specs.Sites.{site, if_there, expr_sites, expr_of, static_of, static_if, bounds_sites, constraint_sites, mark_sites, subind_sites, drange_sites, target_sites, callee_sites, written_actual_sites, actual_sites, actuals_sites, free_args_sites, args_sites, call_sites, accept_index_sites, head_sites, formals_sites, formal_mark_sites, all_names, names_sites, part_nodes, plain_part_sites, part_sites, condition, choice_sites, choices_of, is_present, handler_names_sites, with_words, scheme_sites, loop_scope, stmt_sites, stmts_sites, maybe_sites, accept_sites, alts_sites, alt_sites, arms_sites, case_arms_sites, handlers_sites, body_sites}
+use Rattle.ada_tree.specs.Sites.{site, if_there, expr_sites, expr_of, static_of, static_if, bounds_sites, constraint_sites, mark_sites, subind_sites, drange_sites, target_sites, callee_sites, written_actual_sites, actual_sites, actuals_sites, free_args_sites, args_sites, call_sites, accept_index_sites, head_sites, formals_sites, formal_mark_sites, all_names, names_sites, part_nodes, plain_part_sites, part_sites, condition_sites, choice_sites, arm_choices, is_present, handler_names_sites, with_words, scheme_sites, loop_scope, stmt_sites, stmts_sites, maybe_sites, accept_sites, alts_sites, alt_sites, arms_sites, case_arms_sites, handlers_sites, body_sites}
 use Rattle.ada_duplicates.specs.inner.Noted.{alt_places, arm_places, case_arm_places, handler_places, handler_words}
 use Rattle.ada_duplicates.specs.NamingsInOrder.{naming_in, and_then, namings_of, Named, declared, named_once}
 use Rattle.ada_duplicates.specs.declared.namings_in_order.Naming.{Naming}
@@ -250,7 +250,7 @@ pub quiet_leaf : (x : PStmt) → is_leaf x ≡ true → (scope : Scope) → nami
 quiet_leaf (SNull s) h scope = quiet_none
 quiet_leaf (SAssign t e s) h scope = quiet_append (target_sites scope t) (expr_of scope _ e) (quiet_target scope t) (quiet_of scope _ e)
 quiet_leaf (SDelay d s) h scope = quiet_none
-quiet_leaf (SExit w e s) h scope = quiet_there (condition scope) e (quiet_of scope (Some 1))
+quiet_leaf (SExit w e s) h scope = quiet_there (condition_sites scope) e (quiet_of scope (Some 1))
 quiet_leaf (SRaise w s) h scope = quiet_there _ w (λ x. quiet_one scope _ refl)
 quiet_leaf (SAbort cs s) h scope = quiet_flat (callee_sites scope) cs (quiet_callee scope)
 quiet_leaf (SCall c s) h scope = quiet_call scope c
@@ -295,8 +295,8 @@ formals_named a b formals h = λ s.
     h
     ∙ ap (λ l. a ++ l) (sym (append-nil (declared false [] (all_names formals))))
     ∙ ap (λ l. a ++ (l ++ [])) (sym (declared_are false s [] (all_names formals)))
-    ∙ ap (λ l. a ++ (namings_of (names_sites false (inside s) (all_names formals)) ++ l)) (sym (quiet_formal_marks s formals))
-    ∙ ap (λ l. a ++ l) (sym (namings_append (names_sites false (inside s) (all_names formals)) (formal_mark_sites s formals)))
+    ∙ ap (λ l. a ++ (namings_of (names_sites false (inner_scope s) (all_names formals)) ++ l)) (sym (quiet_formal_marks s formals))
+    ∙ ap (λ l. a ++ l) (sym (namings_append (names_sites false (inner_scope s) (all_names formals)) (formal_mark_sites s formals)))
 
 pub exceptions_named : (a b : List Naming) (names : List ℕ) (ws : List Word) → b ≡ a ++ named_once names ws → Named a b (λ s. handler_names_sites s names ws)
 unfolding Named
@@ -309,13 +309,13 @@ label_named a w = λ s. refl
 pub none_named : (a : List Naming) → Named a a (λ s. [])
 none_named a = named_quiet a (λ s. []) (λ s. quiet_none)
 
-pub parameter_named : (a : List Naming) (w : Word) → Named a (a ++ Declares false false w ∷ []) (λ s. names_sites false (inside s) (w ∷ []))
+pub parameter_named : (a : List Naming) (w : Word) → Named a (a ++ Declares false false w ∷ []) (λ s. names_sites false (inner_scope s) (w ∷ []))
 unfolding Named namings_of
 parameter_named a w = λ s. refl
 
 pub counted_named : (a : List Naming) (w : Word) (r : Bool) (x : PDrange) → Named a (a ++ Declares false false w ∷ []) (λ s. scheme_sites s (LFor w r x))
 counted_named a w r x =
-    named_before a (a ++ Declares false false w ∷ []) (λ s. names_sites false (inside s) (w ∷ [])) (λ s. drange_sites false s x) (parameter_named a w) (λ s. quiet_drange false s x)
+    named_before a (a ++ Declares false false w ∷ []) (λ s. names_sites false (inner_scope s) (w ∷ [])) (λ s. drange_sites false s x) (parameter_named a w) (λ s. quiet_drange false s x)
 
 pub while_named : (a : List Naming) (e : PExpr) → Named a a (λ s. scheme_sites s (LWhile e))
 while_named a e = named_quiet a (λ s. scheme_sites s (LWhile e)) (λ s. quiet_of s (Some 1) e)
@@ -324,10 +324,10 @@ while_named a e = named_quiet a (λ s. scheme_sites s (LWhile e)) (λ s. quiet_o
 
 pub accept_named : (a b c : List Naming) (h : PHead) (o : PMaybe) → Named a b (λ s. formals_sites s h.formals) → Named b c (λ s. maybe_sites s o) → Named a c (λ s. accept_sites s (accepting h o))
 accept_named a b c h o p q =
-    named_then a b c (λ s. head_sites s h) (λ s. maybe_sites (with_formals (inside s) h.formals) o)
+    named_then a b c (λ s. head_sites s h) (λ s. maybe_sites (with_formals (inner_scope s) h.formals) o)
     (named_behind a b (λ s. site s (accepts h) ∷ if_there (accept_index_sites s (entry_named s.own h.entry.name)) h.index) (λ s. formals_sites s h.formals)
     (λ s. quiet_site s (accepts h) (if_there (accept_index_sites s (entry_named s.own h.entry.name)) h.index) refl (quiet_there (accept_index_sites s (entry_named s.own h.entry.name)) h.index (quiet_index s (entry_named s.own h.entry.name)))) p)
-    (named_in b c (λ s. maybe_sites s o) (λ s. with_formals (inside s) h.formals) q)
+    (named_in b c (λ s. maybe_sites s o) (λ s. with_formals (inner_scope s) h.formals) q)
 
 pub wait_named : (a b c : List Naming) (x : PAlts) (o : PMaybe) → Named a b (λ s. alts_sites s x) → Named b c (λ s. maybe_sites s o) → Named a c (λ s. alts_sites s x ++ maybe_sites s o)
 wait_named a b c x o p q = named_then a b c (λ s. alts_sites s x) (λ s. maybe_sites s o) p q
@@ -460,12 +460,12 @@ accept_of a b c x fs h p q =
 -- an alternative, an arm and a handler
 pub alt_of : (a b : List Naming) (x : Alt) → Named a b (λ s. alt_sites s (plain_alt_kind x.kind)) → Named a b (λ s. alt_places s (plain_alt x))
 alt_of a b x p =
-    named_behind a b (λ s. if_there (condition s) (option_map plain_expr x.guard)) (λ s. alt_sites s (plain_alt_kind x.kind)) (λ s. quiet_there (condition s) (option_map plain_expr x.guard) (quiet_of s (Some 1))) p
+    named_behind a b (λ s. if_there (condition_sites s) (option_map plain_expr x.guard)) (λ s. alt_sites s (plain_alt_kind x.kind)) (λ s. quiet_there (condition_sites s) (option_map plain_expr x.guard) (quiet_of s (Some 1))) p
 
 pub arm_of : (a b : List Naming) (x : Arm) (l : List Stmt) → l ≡ (out-Arm x).stmts.items → Named a b (λ s. stmts_sites s (seen l)) → Named a b (λ s. arm_places s (plain_arm x))
 arm_of a b x l h p =
     subst (λ y. Named a b (λ s. arm_places s y)) (sym (plain_arm-out x))
-    (named_behind a b (λ s. condition s (plain_expr (out-Arm x).test)) (λ s. stmts_sites s (seen (out-Arm x).stmts.items)) (λ s. quiet_of s (Some 1) (plain_expr (out-Arm x).test))
+    (named_behind a b (λ s. condition_sites s (plain_expr (out-Arm x).test)) (λ s. stmts_sites s (seen (out-Arm x).stmts.items)) (λ s. quiet_of s (Some 1) (plain_expr (out-Arm x).test))
     (subst (λ y. Named a b (λ s. stmts_sites s (seen y))) h p))
 
 pub case_arm_of : (a b : List Naming) (k : Option ℕ) (range : Option Range) (x : CaseArm) (l : List Stmt) → l ≡ (out-CaseArm x).stmts.items → Named a b (λ s. stmts_sites s (seen l)) → Named a b (λ s. case_arm_places k range s (plain_case_arm x))
@@ -532,4 +532,4 @@ pub case_arms_are : (a b : List Naming) (l m : List CaseArm) → l ≡ m → ((k
 case_arms_are a b l m h p k range = subst (λ y. Named a b (λ s. case_arms_sites s k range (case_arms_of (map plain_case_arm y)))) h (p k range)
 
 pub case_of : (a b c : List Naming) (e : PExpr) (x : PCaseArms) (o : PMaybe) (sp : Span) → ((k : Option ℕ) (range : Option Range) → Named a b (λ s. case_arms_sites s k range x)) → Named b c (λ s. maybe_sites s o) → Named a c (λ s. stmt_sites s (SCase e x o sp))
-case_of a b c e x o sp p q = case_named a b c e x o (chooses e (choices_of x) (is_present o) sp) (λ s. refl) p q
+case_of a b c e x o sp p q = case_named a b c e x o (chooses e (arm_choices x) (is_present o) sp) (λ s. refl) p q

@@ -6,7 +6,7 @@ use Rattle.ada_tree.specs.PlainStmt.{PFormal, PHead}
 use Rattle.ada_tree.specs.Refusals.{Refusal}
 use Rattle.ada_tree.specs.Scope.{Scope, entry_named}
 use Rattle.ada_tree.specs.Demand.{accepts}
-use Rattle.ada_tree.specs.Declaring.{inside}
+use Rattle.ada_tree.specs.Declaring.{inner_scope}
 use Rattle.ada_tree.specs.RuleArgCount.{Written, are_same}
 use Rattle.ada_tree.specs.Sites.{site, if_there, names_sites, all_names, accept_index_sites, formal_mark_sites, formals_sites, head_sites}
 use Rattle.ada_refusals.specs.Sooner.{sooner}
@@ -20,8 +20,8 @@ use Rattle.common_lemmas.proofs.Lists.{short_empty}
 pub formals_met : (scope : Scope) (formals : List PFormal) (p : Option Refusal) → p ≡ refused_first (formal_mark_sites scope formals) → p ≡ refused_first (formals_sites scope formals)
 formals_met scope formals p is_p =
     is_p
-    ∙ ap (λ o. sooner o (refused_first (formal_mark_sites scope formals))) (names_met false (inside scope) (all_names formals))
-    ∙ sym (met_append (names_sites false (inside scope) (all_names formals)) (formal_mark_sites scope formals))
+    ∙ ap (λ o. sooner o (refused_first (formal_mark_sites scope formals))) (names_met false (inner_scope scope) (all_names formals))
+    ∙ sym (met_append (names_sites false (inner_scope scope) (all_names formals)) (formal_mark_sites scope formals))
 
 -- the entry, the index and the formals of an accept
 pub head_met : (scope : Scope) (h : PHead) (p q r : Option Refusal)

@@ -8,7 +8,7 @@ use Rattle.ada_tree.specs.declared.statements.ParMode.TheVariants.{Take, Give, B
 use Rattle.ada_tree.specs.PlainExpr.{PExpr, EInteger, EName, EIndex, EAttribute, EAttributeOf, EParen, EUnary, EBinary}
 use Rattle.ada_tree.specs.Refusals.{Refusal}
 use Rattle.ada_tree.specs.Scope.{Scope, FormalPart}
-use Rattle.ada_tree.specs.ExprTypes.{place_of}
+use Rattle.ada_tree.specs.ExprTypes.{expr_place}
 use Rattle.ada_tree.specs.Demand.{is_actual, must_be_of}
 use Rattle.ada_tree.specs.RuleNotVariable.{written_actual}
 use Rattle.ada_tree.specs.RuleReadOut.{read_name, read_out}
@@ -27,7 +27,7 @@ some_is_not id h = cc
 
 -- a name alone
 pub named_actual : (scope : Scope) (mode : ParMode) (e : PExpr) (id : NameId) (p : Option Refusal) → name_of e ≡ Some id
-    → p ≡ refused_first_at scope (is_actual mode (EName id (place_of e)))
+    → p ≡ refused_first_at scope (is_actual mode (EName id (expr_place e)))
     → p ≡ refused_first (written_actual_sites scope mode e)
 named_actual scope mode (EName other s) id p h is_p =
     is_p

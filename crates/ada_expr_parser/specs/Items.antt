@@ -11,13 +11,13 @@ use Rattle.ada_expr_parser.specs.declared.items.ItemKind.TheVariants as item
 use Rattle.ada_expr_parser.specs.declared.items.Item.{Item}
 
 -- a token of this kind that is no name says this
-abbrev pub Stands : TokenKind → ItemKind → Type 0
-Stands kind (item.Symbol s) = kind ≡ kinds.Symbol s
-Stands kind (item.Integer value) = kind ≡ kinds.Integer value
-Stands kind (item.Duration thousandths) = kind ≡ kinds.Duration thousandths
-Stands kind item.Text = kind ≡ kinds.Text
-Stands kind (item.Name id) = ⊥
-Stands kind item.End = ⊥
+abbrev pub SaysItem : TokenKind → ItemKind → Type 0
+SaysItem kind (item.Symbol s) = kind ≡ kinds.Symbol s
+SaysItem kind (item.Integer value) = kind ≡ kinds.Integer value
+SaysItem kind (item.Duration thousandths) = kind ≡ kinds.Duration thousandths
+SaysItem kind item.Text = kind ≡ kinds.Text
+SaysItem kind (item.Name id) = ⊥
+SaysItem kind item.End = ⊥
 
 -- an identifier in upper case: case makes no difference (2.3)
 abbrev pub name_text : List ℕ → Token → List ℕ
@@ -26,7 +26,7 @@ name_text src token = map to_ascii_uppercase (slice_range src token.start token.
 -- among these names, the token says this: an identifier is the name of its text, anything else stands for itself
 abbrev pub Says : List ℕ → List (List ℕ) → Token → ItemKind → Type 0
 Says src names token (item.Name id) = (token.kind ≡ kinds.Name) × (slice_get names id.0 ≡ Some (name_text src token))
-Says src names token said = Stands token.kind said
+Says src names token said = SaysItem token.kind said
 
 -- the item is that of the token: it says what the token says, at its place
 pub record IsItemOf (src : List ℕ) (names : List (List ℕ)) (token : Token) (x : Item) : Type 0 where
@@ -35,12 +35,12 @@ pub record IsItemOf (src : List ℕ) (names : List (List ℕ)) (token : Token) (
   pub end : x.span.end ≡ token.end
 
 -- the end of a text, an empty piece behind its last byte
-abbrev pub end_of : List ℕ → Item
-end_of src = record { kind = item.End; span = record { start = length src; end = length src } }
+abbrev pub end_item : List ℕ → Item
+end_item src = record { kind = item.End; span = record { start = length src; end = length src } }
 
 -- the items are those of the tokens, one by one, and then the end (this project's rule)
 abbrev pub AreItems : List ℕ → List (List ℕ) → List Token → List Item → Type 0
-AreItems src names tokens items = (front : List Item) × AllZip (IsItemOf src names) tokens front × (items ≡ front ++ end_of src ∷ [])
+AreItems src names tokens items = (front : List Item) × AllZip (IsItemOf src names) tokens front × (items ≡ front ++ end_item src ∷ [])
 
 -- the names, with one more text where the token is a name
 abbrev pub interned_if : TokenKind → List (List ℕ) → List ℕ → List (List ℕ)

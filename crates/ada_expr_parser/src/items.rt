@@ -6,7 +6,7 @@ ghost use Rattle.std.specs.Str.{IsAscii};
 ghost use Rattle.ada_lexer.specs.declared.kinds.TokenKind.TheVariants as kinds;
 ghost use Rattle.ada_lexer.specs.Split.{IsTokenOf};
 ghost use Rattle.ada_tree.specs.NameList.{interned};
-ghost use Rattle.ada_expr_parser.specs.Items.{Stands, IsItemOf, AreItems, end_of, name_text, interned_if, with_token, names_after};
+ghost use Rattle.ada_expr_parser.specs.Items.{SaysItem, IsItemOf, AreItems, end_item, name_text, interned_if, with_token, names_after};
 
 use ada_lexer::{Symbol, Token, TokenKind};
 use ada_tree::{Memory, NameId, Names, Span};
@@ -62,7 +62,7 @@ pub fn read_items(alloc: Global, src: &[u8], tokens: &[Token]) -> Result<Items, 
 // The end of a text.
 fn end_of(src: &[u8]) -> Item
     requires { length src.now < 2 ^ 32 }
-    ensures { result ≡ end_of src.now }
+    ensures { result ≡ end_item src.now }
 {
     let len = src.len() as u32;
     Item {
@@ -121,7 +121,7 @@ fn upper_text(alloc: Global, bytes: &[u8]) -> Result<String, Memory>
 
 // What a token says that is no name.
 fn plain_kind(kind: TokenKind) -> Option<ItemKind>
-    ensures said { IfSome result (λ found. Stands kind found) }
+    ensures said { IfSome result (λ found. SaysItem kind found) }
     ensures names { IfSome result (λ found. (names : List (List ℕ)) (text : List ℕ) → interned_if kind names text ≡ names) }
     ensures name { IsNone result → kind ≡ kinds.Name }
 {

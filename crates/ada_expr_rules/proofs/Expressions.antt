@@ -7,7 +7,7 @@ use Rattle.ada_tree.specs.Refusals.{Refusal}
 use Rattle.ada_tree.specs.Scope.{Scope}
 use Rattle.ada_tree.specs.declared.naming.Span.{Span}
 use Rattle.ada_tree.specs.StaticValue.{is_static, value_of}
-use Rattle.ada_tree.specs.ExprTypes.{nodes, kind_of, place_of, is_other_kind}
+use Rattle.ada_tree.specs.ExprTypes.{nodes, kind_of, expr_place, is_other_kind}
 use Rattle.ada_tree.specs.Demand.{node, whole, must_be_of, must_be_static}
 use Rattle.ada_tree.specs.RuleRangeBad.{raises}
 use Rattle.ada_tree.specs.Sites.{site, expr_sites}
@@ -42,10 +42,10 @@ expr_met scope e a b p q = before scope (whole e) (map (λ n. site scope (node f
 
 -- an expression of another kind than asked
 pub kind_met : (scope : Scope) (e : PExpr) (asked kind : Option ℕ) → kind ≡ kind_of scope e
-    → found 3 (if is_other_kind asked kind then place_of e ∷ [] else []) ≡ refused_first_at scope (must_be_of e asked)
+    → found 3 (if is_other_kind asked kind then expr_place e ∷ [] else []) ≡ refused_first_at scope (must_be_of e asked)
 kind_met scope e asked kind h =
-    ap (λ k. found 3 (if is_other_kind asked k then place_of e ∷ [] else [])) h
-    ∙ sym (sooner_none (found 3 (if is_other_kind asked (kind_of scope e) then place_of e ∷ [] else [])))
+    ap (λ k. found 3 (if is_other_kind asked k then expr_place e ∷ [] else [])) h
+    ∙ sym (sooner_none (found 3 (if is_other_kind asked (kind_of scope e) then expr_place e ∷ [] else [])))
 
 is_there : (b : Bool) (v : Result ℤ Span) → is_some (if b then Some v else None) ≡ b
 is_there true v = refl
@@ -53,9 +53,9 @@ is_there false v = refl
 
 -- an expression that is not static
 pub static_met : (scope : Scope) (e : PExpr) (kind : Option ℕ) (value : Option (Result ℤ Span)) → kind ≡ kind_of scope e → value ≡ fixed_value scope.types e
-    → found 4 (if is_some kind && not (is_some value) then place_of e ∷ [] else []) ≡ refused_first_at scope (must_be_static e)
+    → found 4 (if is_some kind && not (is_some value) then expr_place e ∷ [] else []) ≡ refused_first_at scope (must_be_static e)
 static_met scope e kind value h g =
-    ap (λ k. found 4 (if is_some k && not (is_some value) then place_of e ∷ [] else [])) h
-    ∙ ap (λ v. found 4 (if is_some (kind_of scope e) && not (is_some v) then place_of e ∷ [] else [])) g
-    ∙ ap (λ b. found 4 (if is_some (kind_of scope e) && not b then place_of e ∷ [] else [])) (is_there (is_static scope.types e) (value_of scope.types e))
-    ∙ sym (sooner_none (found 4 (if is_some (kind_of scope e) && not (is_static scope.types e) then place_of e ∷ [] else [])))
+    ap (λ k. found 4 (if is_some k && not (is_some value) then expr_place e ∷ [] else [])) h
+    ∙ ap (λ v. found 4 (if is_some (kind_of scope e) && not (is_some v) then expr_place e ∷ [] else [])) g
+    ∙ ap (λ b. found 4 (if is_some (kind_of scope e) && not b then expr_place e ∷ [] else [])) (is_there (is_static scope.types e) (value_of scope.types e))
+    ∙ sym (sooner_none (found 4 (if is_some (kind_of scope e) && not (is_static scope.types e) then expr_place e ∷ [] else [])))

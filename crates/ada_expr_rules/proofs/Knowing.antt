@@ -5,7 +5,7 @@ use Rattle.ada_tree.specs.declared.naming.Span.{Span}
 use Rattle.ada_tree.specs.PlainExpr.{PExpr, PBounds}
 use Rattle.ada_tree.specs.StaticValue.{is_static, value_of}
 use Rattle.ada_tree.specs.Scope.{Scope, Range}
-use Rattle.ada_tree.specs.ExprTypes.{kind_of, is_kind, ok_value, static_in, static_range, range_between, place_of}
+use Rattle.ada_tree.specs.ExprTypes.{kind_of, is_kind, ok_value, static_in, static_range, range_between, expr_place}
 use Rattle.ada_tree.specs.Demand.{must_not_be_empty, must_lie_in, Site}
 use Rattle.ada_tree.specs.RuleRangeBad.{is_below, is_outside, empty_range, out_of}
 use Rattle.ada_refusals.specs.Sooner.{found}
@@ -38,26 +38,26 @@ range_known scope b k low high g h =
     ∙ ap (range_between k (static_in scope k b.first)) (value_known scope b.last k high h)
 
 emptied_is : (scope : Scope) (a b : PExpr) (kind : Option ℕ) (low high : Known) → IsKnown scope a low → IsKnown scope b high
-    → emptied kind low high (place_of a) ≡ empty_range scope a b kind
+    → emptied kind low high (expr_place a) ≡ empty_range scope a b kind
 emptied_is scope a b None low high g h = refl
 emptied_is scope a b (Some k) low high g h =
-    ap (λ v. if is_below v (value_in k low) then place_of a ∷ [] else []) (value_known scope b k high h)
-    ∙ ap (λ v. if is_below (static_in scope k b) v then place_of a ∷ [] else []) (value_known scope a k low g)
+    ap (λ v. if is_below v (value_in k low) then expr_place a ∷ [] else []) (value_known scope b k high h)
+    ∙ ap (λ v. if is_below (static_in scope k b) v then expr_place a ∷ [] else []) (value_known scope a k low g)
 
 -- two bounds of an empty range
 pub empty_met : (scope : Scope) (a b : PExpr) (low high : Known) → IsKnown scope a low → IsKnown scope b high
-    → found 5 (emptied low.kind low high (place_of a)) ≡ refused_first_at scope (must_not_be_empty a b)
+    → found 5 (emptied low.kind low high (expr_place a)) ≡ refused_first_at scope (must_not_be_empty a b)
 empty_met scope a b low high g h =
-    ap (λ k. found 5 (emptied k low high (place_of a))) g.kind_is
+    ap (λ k. found 5 (emptied k low high (expr_place a))) g.kind_is
     ∙ ap (found 5) (emptied_is scope a b (kind_of scope a) low high g h)
     ∙ sym (sooner_none (found 5 (empty_range scope a b (kind_of scope a))))
 
-outlying_is : (scope : Scope) (e : PExpr) (range : Option Range) (known : Known) → IsKnown scope e known → outlying range known (place_of e) ≡ out_of scope e range
+outlying_is : (scope : Scope) (e : PExpr) (range : Option Range) (known : Known) → IsKnown scope e known → outlying range known (expr_place e) ≡ out_of scope e range
 outlying_is scope e None known h = refl
-outlying_is scope e (Some range) known h = ap (λ v. if is_outside range v then place_of e ∷ [] else []) (value_known scope e range.kind known h)
+outlying_is scope e (Some range) known h = ap (λ v. if is_outside range v then expr_place e ∷ [] else []) (value_known scope e range.kind known h)
 
 -- a value outside a range
 pub outside_met : (scope : Scope) (e : PExpr) (range : Option Range) (known : Known) → IsKnown scope e known
-    → found 5 (outlying range known (place_of e)) ≡ refused_first_at scope (must_lie_in e range)
+    → found 5 (outlying range known (expr_place e)) ≡ refused_first_at scope (must_lie_in e range)
 outside_met scope e range known h =
     ap (found 5) (outlying_is scope e range known h) ∙ sym (sooner_none (found 5 (out_of scope e range)))

@@ -4,7 +4,7 @@ ghost use Rattle.std.specs.Prelude.{◌≡◌, ◌∷◌, ◌++◌, [], false, i
 ghost use Rattle.ada_tree.specs.PlainExpr.{PExpr, plain_expr, EName, EIndex, EAttribute, EAttributeOf, EUnary, EBinary};
 ghost use Rattle.ada_tree.specs.Attributes.{attribute_of};
 ghost use Rattle.ada_tree.specs.Scope.{meaning, scalar_kind};
-ghost use Rattle.ada_tree.specs.ExprTypes.{place_of, kind_of, is_other_kind};
+ghost use Rattle.ada_tree.specs.ExprTypes.{expr_place, kind_of, is_other_kind};
 ghost use Rattle.ada_tree.specs.Demand.{node};
 ghost use Rattle.ada_tree.specs.RuleUnknown.{unseen, unseen_word, no_attribute};
 ghost use Rattle.ada_tree.specs.RuleMismatch.{no_value, misfit_index, misfit_argument, is_misfit, misfit_operand};
@@ -80,7 +80,7 @@ pub fn refuse_index_on_scalar(reading: Reading, span: Span) -> Option<Refusal>
 
 /// An expression of another kind than asked.
 pub fn refuse_other(asked: Option<u32>, e: &Expr, kind: Option<u32>) -> Option<Refusal>
-    ensures { result ≡ found 3 (if is_other_kind asked kind then place_of (plain_expr e.now) ∷ [] else []) }
+    ensures { result ≡ found 3 (if is_other_kind asked kind then expr_place (plain_expr e.now) ∷ [] else []) }
 {
     refuse_if(is_other(asked, kind), Rule::Mismatch, e.span)
 }

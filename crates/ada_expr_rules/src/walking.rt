@@ -2,7 +2,7 @@
 
 ghost use Rattle.std.specs.Prelude.{◌≡◌, ◌&&◌, not, is_some};
 ghost use Rattle.ada_tree.specs.PlainExpr.{plain_expr};
-ghost use Rattle.ada_tree.specs.ExprTypes.{place_of, kind_of};
+ghost use Rattle.ada_tree.specs.ExprTypes.{expr_place, kind_of};
 ghost use Rattle.ada_tree.specs.Demand.{must_be_of, must_be_static};
 ghost use Rattle.ada_tree.specs.Sites.{expr_sites, expr_of, static_of};
 ghost use Rattle.ada_refusals.specs.RefusedFirst.{refused_first_at};
@@ -76,7 +76,7 @@ pub fn walk_of(scope: &Scope, asked: Option<u32>, e: &Expr) -> Walked
 
 /// The place of an expression.
 pub fn place(e: &Expr) -> Span
-    ensures { result ≡ place_of (plain_expr e.now) }
+    ensures { result ≡ expr_place (plain_expr e.now) }
 {
     e.span
 }

@@ -26,8 +26,8 @@ abbrev pub is_line_end : ℕ → Bool
 is_line_end b = b == 10
 
 -- a letter in lower case, any other byte as it is: case makes no difference in words (2.3, 2.9)
-abbrev pub lower : ℕ → ℕ
-lower b = if nat_le 65 b && nat_le b 90 then b + 32 else b
+abbrev pub in_lower_case : ℕ → ℕ
+in_lower_case b = if nat_le 65 b && nat_le b 90 then b + 32 else b
 
 -- how many bytes from the first on go on: what the code counts, and by proof the longest prefix at which `every` is true
 abbrev pub run_len : (ℕ → List ℕ → Bool) → List ℕ → ℕ

@@ -2,7 +2,7 @@
 use Rattle.std.specs.Prelude.{ℕ, Bool, true, false, ◌&&◌, List, [], ◌∷◌, ◌++◌, map, Option, None, Some, ◌==◌, if◌then◌else◌, codes}
 use Rattle.ada_lexer.specs.declared.symbols.Symbol.{Symbol}
 use Rattle.ada_lexer.specs.declared.symbols.Symbol.TheVariants.{Abort, Abs, Accept, Access, All, And, Array, At, Begin, Body, Case, Constant, Declare, Delay, Delta, Digits, Do, Else, Elsif, End, Entry, Exception, Exit, For, Function, Generic, Goto, If, In, Is, Limited, Loop, Mod, New, Not, Null, Of, Or, Others, Out, Package, Pragma, Private, Procedure, Raise, Range, Record, Rem, Renames, Return, Reverse, Select, Separate, Subtype, Task, Terminate, Then, «Type», Use, When, While, With, Xor, Semicolon, Comma, LeftParen, RightParen, Colon, Dot, Bar, Ampersand, Tick, Equal, Less, Greater, Plus, Minus, Star, Slash, Becomes, Arrow, DotDot, NotEqual, LessEqual, GreaterEqual}
-use Rattle.ada_lexer.specs.Bytes.{lower}
+use Rattle.ada_lexer.specs.Bytes.{in_lower_case}
 
 -- the two texts have the same bytes
 abbrev pub same_text : List ℕ → List ℕ → Bool
@@ -117,7 +117,7 @@ reserved_words = two_letters ++ (three_letters ++ (four_letters ++ (five_letters
 
 -- the reserved word that a text is, in any case (2.9)
 unfoldable pub reserved_symbol : List ℕ → Option Symbol
-reserved_symbol text = symbol_in reserved_words (map lower text)
+reserved_symbol text = symbol_in reserved_words (map in_lower_case text)
 
 -- the delimiters of one character (2.2)
 unfoldable pub simple_delimiters : List (List ℕ × Symbol)

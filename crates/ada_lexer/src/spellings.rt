@@ -1,7 +1,7 @@
 //! The reserved words and the delimiters.
 
 ghost use Rattle.std.specs.Prelude.{◌≡◌, ◌∷◌, [], map};
-ghost use Rattle.ada_lexer.specs.Bytes.{lower};
+ghost use Rattle.ada_lexer.specs.Bytes.{in_lower_case};
 ghost use Rattle.ada_lexer.specs.Words.{same_text, symbol_in, reserved_symbol, two_letters, three_letters, four_letters, five_letters, six_letters, seven_letters, eight_letters, nine_letters, simple_delimiters, compound_delimiters, delimiter_symbol};
 
 use super::symbols::Symbol;
@@ -27,7 +27,7 @@ pub fn reserved(word: &[u8]) -> Option<Symbol>
 /// Whether `word` is the word `small`, which is in lower case.
 #[tactic(auto, using(crate::proofs::WordLemmas::same_text_steps))]
 fn is_word(word: &[u8], small: &[u8]) -> bool
-    ensures { result ≡ same_text (map lower word.now) small.now }
+    ensures { result ≡ same_text (map in_lower_case word.now) small.now }
 {
     if word.len() != small.len() {
         return false;
@@ -42,14 +42,14 @@ fn is_word(word: &[u8], small: &[u8]) -> bool
 
 /// A letter in lower case, and any other byte as it is.
 fn lower(b: u8) -> u8
-    ensures { result ≡ lower b }
+    ensures { result ≡ in_lower_case b }
 {
     if b'A' <= b && b <= b'Z' { b + 32 } else { b }
 }
 
 #[tactic(auto, unfolding(crate::specs::Words::two_letters))]
 fn two(word: &[u8]) -> Option<Symbol>
-    ensures { result ≡ symbol_in two_letters (map lower word.now) }
+    ensures { result ≡ symbol_in two_letters (map in_lower_case word.now) }
 {
     if is_word(word, b"at") {
         Some(Symbol::At)
@@ -72,7 +72,7 @@ fn two(word: &[u8]) -> Option<Symbol>
 
 #[tactic(auto, unfolding(crate::specs::Words::three_letters))]
 fn three(word: &[u8]) -> Option<Symbol>
-    ensures { result ≡ symbol_in three_letters (map lower word.now) }
+    ensures { result ≡ symbol_in three_letters (map in_lower_case word.now) }
 {
     if is_word(word, b"abs") {
         Some(Symbol::Abs)
@@ -105,7 +105,7 @@ fn three(word: &[u8]) -> Option<Symbol>
 
 #[tactic(auto, unfolding(crate::specs::Words::four_letters))]
 fn four(word: &[u8]) -> Option<Symbol>
-    ensures { result ≡ symbol_in four_letters (map lower word.now) }
+    ensures { result ≡ symbol_in four_letters (map in_lower_case word.now) }
 {
     if is_word(word, b"body") {
         Some(Symbol::Body)
@@ -138,7 +138,7 @@ fn four(word: &[u8]) -> Option<Symbol>
 
 #[tactic(auto, unfolding(crate::specs::Words::five_letters))]
 fn five(word: &[u8]) -> Option<Symbol>
-    ensures { result ≡ symbol_in five_letters (map lower word.now) }
+    ensures { result ≡ symbol_in five_letters (map in_lower_case word.now) }
 {
     if is_word(word, b"abort") {
         Some(Symbol::Abort)
@@ -167,7 +167,7 @@ fn five(word: &[u8]) -> Option<Symbol>
 
 #[tactic(auto, unfolding(crate::specs::Words::six_letters))]
 fn six(word: &[u8]) -> Option<Symbol>
-    ensures { result ≡ symbol_in six_letters (map lower word.now) }
+    ensures { result ≡ symbol_in six_letters (map in_lower_case word.now) }
 {
     if is_word(word, b"accept") {
         Some(Symbol::Accept)
@@ -192,7 +192,7 @@ fn six(word: &[u8]) -> Option<Symbol>
 
 #[tactic(auto, unfolding(crate::specs::Words::seven_letters))]
 fn seven(word: &[u8]) -> Option<Symbol>
-    ensures { result ≡ symbol_in seven_letters (map lower word.now) }
+    ensures { result ≡ symbol_in seven_letters (map in_lower_case word.now) }
 {
     if is_word(word, b"declare") {
         Some(Symbol::Declare)
@@ -217,7 +217,7 @@ fn seven(word: &[u8]) -> Option<Symbol>
 
 #[tactic(auto, unfolding(crate::specs::Words::eight_letters))]
 fn eight(word: &[u8]) -> Option<Symbol>
-    ensures { result ≡ symbol_in eight_letters (map lower word.now) }
+    ensures { result ≡ symbol_in eight_letters (map in_lower_case word.now) }
 {
     if is_word(word, b"constant") {
         Some(Symbol::Constant)
@@ -232,7 +232,7 @@ fn eight(word: &[u8]) -> Option<Symbol>
 
 #[tactic(auto, unfolding(crate::specs::Words::nine_letters))]
 fn nine(word: &[u8]) -> Option<Symbol>
-    ensures { result ≡ symbol_in nine_letters (map lower word.now) }
+    ensures { result ≡ symbol_in nine_letters (map in_lower_case word.now) }
 {
     if is_word(word, b"exception") {
         Some(Symbol::Exception)

@@ -8,7 +8,7 @@ use Rattle.ada_tree.specs.TypeTable.{TypeTable}
 use Rattle.ada_tree.specs.PlainDecl.{PShape, PInit}
 use Rattle.ada_tree.specs.Refusals.{Refusal}
 use Rattle.ada_tree.specs.Scope.{Scope, Marking}
-use Rattle.ada_tree.specs.Declaring.{Declared, with_types, with_names, made_array, object_of, constant_mark, kind_at_mark, initial_value, constant_value, add_constants, declared_object, after_object}
+use Rattle.ada_tree.specs.Declaring.{Declared, with_types, with_names, made_array, object_meaning, constant_mark, kind_at_mark, initial_value, constant_value, add_constants, declared_object, after_object}
 use Rattle.ada_tree.specs.Sites.{names_sites, shape_sites, if_there, init_sites, object_marking, object_sites, is_task_object}
 use Rattle.ada_refusals.specs.Sooner.{sooner}
 use Rattle.ada_refusals.specs.RefusedFirst.{refused_first}
@@ -33,7 +33,7 @@ use Rattle.ada_refusals.proofs.Meeting.{names_met}
 pub array_declared : (scope between after : Scope) (constant : Bool) (index : Option Range) (making : Making) (part mark : Option ℕ) (thing : Thing)
     → IsMade scope (made_as scope.types making) between part
     → IsMade between (made_array None between.types (option_map plain_range index) part) after mark
-    → plain_thing thing ≡ object_of constant mark
+    → plain_thing thing ≡ object_meaning constant mark
     → IsDeclared scope (declared_as scope constant (ConstrainedArray index making)) after thing
 array_declared scope between after constant index making part mark thing h g is_thing = record {
   scope_is =
@@ -42,9 +42,9 @@ array_declared scope between after constant index making part mark thing h g is_
       ∙ ap (λ p. with_types (made_array None (made_as scope.types making).types (option_map plain_range index) p).types scope) h.mark_is;
   thing_is =
       is_thing
-      ∙ ap (object_of constant) g.mark_is
-      ∙ ap (λ s. object_of constant (made_array None s.types (option_map plain_range index) part).mark) h.scope_is
-      ∙ ap (λ p. object_of constant (made_array None (made_as scope.types making).types (option_map plain_range index) p).mark) h.mark_is;
+      ∙ ap (object_meaning constant) g.mark_is
+      ∙ ap (λ s. object_meaning constant (made_array None s.types (option_map plain_range index) part).mark) h.scope_is
+      ∙ ap (λ p. object_meaning constant (made_array None (made_as scope.types making).types (option_map plain_range index) p).mark) h.mark_is;
 }
 
 abbrev constant_for : ℕ → ℤ → Word → Constant

@@ -2,7 +2,7 @@
 
 ghost use Rattle.std.specs.Prelude.{◌≡◌, ℕ, option_map, IfOk, OnOk, Some};
 ghost use Rattle.ada_tree.specs.PlainDecl.{plain_init, plain_shape};
-ghost use Rattle.ada_tree.specs.Declaring.{declared_object, after_object, object_of, task_object, task_array, constant_mark, kind_at_mark, initial_value, add_constants, with_names, with_types};
+ghost use Rattle.ada_tree.specs.Declaring.{declared_object, after_object, object_meaning, task_object, task_array, constant_mark, kind_at_mark, initial_value, add_constants, with_names, with_types};
 ghost use Rattle.ada_tree.specs.Sites.{if_there, is_task_object, object_sites};
 ghost use Rattle.ada_refusals.specs.RefusedFirst.{refused_first};
 ghost use Rattle.ada_scopes.specs.Entries.{plain_range};
@@ -33,7 +33,7 @@ pub struct WalkedObjects {
 
 // An object of a mark.
 fn object(constant: bool, mark: Option<u32>) -> Thing
-    ensures { plain_thing result ≡ object_of constant mark }
+    ensures { plain_thing result ≡ object_meaning constant mark }
 {
     match mark {
         Some(mark) => {

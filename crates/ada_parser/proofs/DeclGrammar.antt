@@ -13,7 +13,7 @@ use Rattle.ada_expr_parser.specs.Tests.{symbol, word}
 use Rattle.ada_expr_parser.specs.Trees.{from_to}
 use Rattle.ada_expr_parser.specs.Grammar.{symbol_item, word_item}
 use Rattle.ada_expr_laws.proofs.Plainly.{after_symbol, symbol_then, after_word, word_then}
-use Rattle.ada_phrase_parser.specs.Spelling.{Source, Spelling, ◌▷◌, Key, Named, Placed, Stands}
+use Rattle.ada_phrase_parser.specs.Spelling.{Source, Spelling, ◌▷◌, Key, Named, Placed, IsPlaceOf}
 use Rattle.ada_task_parser.specs.Tasks.{Member, entries_in, priorities_in, TaskWord, TaskRest}
 use Rattle.ada_parser.specs.Declarations.{IsDecl}
 use Rattle.ada_stmt_parser.specs.inner.ReadingStatements.{readers}
@@ -122,7 +122,7 @@ module _ (source : Source) where
   task_made w k entries priorities ms s s' same also place = rw same (rw also (rw place refl))
 
   task_decl : (d : ℕ) (w : Word) (k : Bool) (entries : List PEntry) (priorities : List PPriority) (s : Span) (ms : List Member) (text : List Item) → entries ≡ entries_in ms → priorities ≡ priorities_in 0 ms →
-      (TaskWord k ▷ Named w ▷ TaskRest source d w ms) text → Stands s text → DeclTexts source d (DTask (record { name = w; of_kind = k; entries = entries; priorities = priorities }) s) text
+      (TaskWord k ▷ Named w ▷ TaskRest source d w ms) text → IsPlaceOf s text → DeclTexts source d (DTask (record { name = w; of_kind = k; entries = entries; priorities = priorities }) s) text
   task_decl d w false entries priorities s ms text same also spelled place =
       let (lead, back, from, is) = opened key.Task (Named w ▷ TaskRest source d w ms) s text (spelled, place) in
       let (close, there, (f, b, split, named, rest)) = key_placed key.Task (one_closing d w ms) s lead back is in

@@ -30,7 +30,7 @@ use Rattle.ada_expr_laws.proofs.Primaries.{no_place, close_ends}
 use Rattle.ada_expr_laws.proofs.Building.{law_subind, law_drange}
 use Rattle.ada_expr_laws.proofs.Calling.{comma_ends, a_number}
 use Rattle.ada_expr_laws.proofs.Behinds.{Behind, BehindAt, law_levels, behind_spells, spells_behind}
-use Rattle.ada_phrase_parser.specs.Spelling.{Spelling, ◌▷◌, Key, Stands, last_place}
+use Rattle.ada_phrase_parser.specs.Spelling.{Spelling, ◌▷◌, Key, IsPlaceOf, last_place}
 use Rattle.ada_phrase_parser.specs.Spelling as spelling
 use Rattle.ada_phrase_parser.specs.Phrases.{Expression, Drange}
 use Rattle.ada_parser.specs.Declarations.{Subind, IsShape, IsInit}
@@ -254,11 +254,11 @@ others_closing d e = closing_then (Key key.Others) (closing_then (Key key.Arrow)
 list_text : (lead close : Span) (f m : List Item) → List Item
 list_text lead close f m = symbol_item key.LeftParen lead ∷ (f ++ (m ++ symbol_item key.RightParen close ∷ []))
 
-list_stands : (lead close : Span) (f m : List Item) (s : Span) → s ≡ from_to lead close → Stands s (list_text lead close f m)
+list_stands : (lead close : Span) (f m : List Item) (s : Span) → s ≡ from_to lead close → IsPlaceOf s (list_text lead close f m)
 unfolding list_text
 list_stands lead close f m s place = place ∙ ap (from_to lead) (sym (last_append lead f (m ++ symbol_item key.RightParen close ∷ []) ∙ last_is (last_place lead f) m (symbol_item key.RightParen close)))
 
-stands_list : (lead close : Span) (f m : List Item) (s : Span) → Stands s (list_text lead close f m) → s ≡ from_to lead close
+stands_list : (lead close : Span) (f m : List Item) (s : Span) → IsPlaceOf s (list_text lead close f m) → s ≡ from_to lead close
 unfolding list_text
 stands_list lead close f m s place = place ∙ ap (from_to lead) (last_append lead f (m ++ symbol_item key.RightParen close ∷ []) ∙ last_is (last_place lead f) m (symbol_item key.RightParen close))
 
@@ -352,10 +352,10 @@ paren_first (EUnary op e s) items more lead text one (part, at, spelled, fits, f
 paren_first (EBinary op l r s) items more lead text one spelled is = absurd one
 
 at_list : (lead lead' close : Span) (front back : List Item) (s : Span) (text : List Item) → lead ≡ lead' → symbol_item key.LeftParen lead ∷ text ≡ symbol_item key.LeftParen lead' ∷ (front ++ (back ++ symbol_item key.RightParen close ∷ [])) →
-    Stands s (symbol_item key.LeftParen lead ∷ text) → s ≡ from_to lead close
+    IsPlaceOf s (symbol_item key.LeftParen lead ∷ text) → s ≡ from_to lead close
 unfolding list_text
 at_list lead lead' close front back s text leads from place =
-    stands_list lead' close front back s (subst (Stands s) from place) ∙ ap (λ a. from_to a close) (sym leads)
+    stands_list lead' close front back s (subst (IsPlaceOf s) from place) ∙ ap (λ a. from_to a close) (sym leads)
 
 is_list : (d : ℕ) (lead : Span) (es : List PExpr) (s : Span) (text : List Item) → ParenInits lead d (IList es s) text → OpenTexts lead d (IList es s) text
 is_list d lead [] s text ((two, never), place) = absurd never

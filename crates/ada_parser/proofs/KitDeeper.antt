@@ -17,7 +17,7 @@ use Rattle.ada_expr_parser.specs.Grammar.{symbol_item, word_item, number_item, p
 use Rattle.ada_expr_parser.specs.Trees.{from_to}
 use Rattle.ada_expr_parser.specs.Parts.{expression}
 use Rattle.ada_phrase_parser.specs.Spelling.{Spelling, ◌▷◌, May, Key, Again}
-use Rattle.ada_phrase_parser.specs.Phrases.{Expression, Operand, EndOf}
+use Rattle.ada_phrase_parser.specs.Phrases.{Expression, NestedExpr, EndOf}
 use Rattle.ada_phrase_parser.specs.Reading.{in_deeper, operand, again_if, again, end_of}
 use Rattle.lawful_reader.specs.Readers.{Reader, Fault, bind, look, refuse}
 use Rattle.lawful_reader.specs.Grammars.{Texts, Never, One, Then, Or, Below, Begins, Starts}
@@ -151,7 +151,7 @@ expression_passes k ts is = passes_kind k.kind k.span ts is
 pub law_expression : (d : ℕ) → Lawful d (expression d) (expression (suc d)) Expressions (Ends Logical)
 law_expression d = law_is_expr d Logical
 
-pub operand_careful : (d : ℕ) → Careful d (operand d) (operand (suc d)) (λ e a. Operand e a) (Ends Logical)
+pub operand_careful : (d : ℕ) → Careful d (operand d) (operand (suc d)) (λ e a. NestedExpr e a) (Ends Logical)
 operand_careful d = careful_fit (λ e deep a text is. below_inside (λ b i. Expression i b) e a text is) (λ a text is. inside_below (λ b i. Expression i b) d a text is)
     (careful_in_deeper law_expression expression_begins expression_passes refl d)
 

@@ -7,7 +7,7 @@ use Rattle.ada_lexer.specs.declared.symbols.Symbol.{Symbol}
 use Rattle.ada_expr_parser.specs.declared.items.Item.{Item}
 use Rattle.ada_expr_parser.specs.Grammar.{symbol_item, word_item}
 use Rattle.ada_expr_parser.specs.Trees.{from_to}
-use Rattle.ada_phrase_parser.specs.Spelling.{Spelling, Nothing, ◌▷◌, Key, Named, Inside, last_place, Stands, Placed}
+use Rattle.ada_phrase_parser.specs.Spelling.{Spelling, Nothing, ◌▷◌, Key, Named, Inside, last_place, IsPlaceOf, Placed}
 use Rattle.lawful_reader.specs.Grammars.{Below}
 
 abbrev pub tail_of : List Item → List Item
@@ -98,10 +98,10 @@ last_is at [] x = refl
 last_is at (y ∷ f) x = last_is y.span f x
 
 -- the place of a node whose last item has a known place
-pub stands_to : (k : Item) (back : List Item) (close : Span) → last_place k.span back ≡ close → Stands (from_to k.span close) (k ∷ back)
+pub stands_to : (k : Item) (back : List Item) (close : Span) → last_place k.span back ≡ close → IsPlaceOf (from_to k.span close) (k ∷ back)
 stands_to k back close is = ap (from_to k.span) (sym is)
 
-pub stands_is : (s : Span) (k : Item) (back : List Item) (close : Span) → last_place k.span back ≡ close → Stands s (k ∷ back) → s ≡ from_to k.span close
+pub stands_is : (s : Span) (k : Item) (back : List Item) (close : Span) → last_place k.span back ≡ close → IsPlaceOf s (k ∷ back) → s ≡ from_to k.span close
 stands_is s k back close is place = place ∙ ap (from_to k.span) is
 
 -- a symbol at this place

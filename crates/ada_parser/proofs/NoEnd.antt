@@ -15,7 +15,7 @@ use Rattle.ada_expr_parser.specs.declared.items.ItemKind.TheVariants as item
 use Rattle.ada_expr_parser.specs.declared.items.Item.{Item}
 use Rattle.ada_expr_parser.specs.Grammar.{symbol_item, word_item, number_item, SpellsSecond, SpellsOperator, Spells, IsBounds, IsRangeOf, IsIndex, AreMore, AreEnclosed, IsSecondList, AreArgs, IsChoiceOf}
 use Rattle.ada_phrase_parser.specs.Spelling.{Source, Spelling, Nothing, ◌▷◌, Either, May, IfThere, Where, Key, Named, Again, WithId, Duration, StringAt, Behind, Separated, ListOf, Inside, Placed}
-use Rattle.ada_phrase_parser.specs.Phrases.{Names, EndOf, Expression, Operand, Mode, IsFormal, Formals, AcceptHead, Guard, IsPart, PutText, Choice, WhenChoices, WhenOthers, WhenRaised, Reverse, Drange, IsScheme, DelayOf}
+use Rattle.ada_phrase_parser.specs.Phrases.{Names, EndOf, Expression, NestedExpr, Mode, IsFormal, Formals, AcceptHead, Guard, IsPart, PutText, Choice, WhenChoices, WhenOthers, WhenRaised, Reverse, Drange, IsScheme, DelayOf}
 use Rattle.ada_stmt_parser.specs.Statements.{Target, Callee, Call, IsStmt, AnyStmts, Stmts, ElsePart, OthersPart, IsAccept, IsAlt, IsAltKind, IsAlts, MoreAlts, IsArm, IsArms, MoreArms, IsCaseArm, IsCaseArms, IsBody, HandlerPart, MoreHandlers, IsHandler}
 use Rattle.ada_task_parser.specs.Tasks.{IsPriority, IsEntry, Member, MEntry, MPriority, IsMember, TaskWord, TaskRest}
 use Rattle.ada_parser.specs.Declarations.{Subind, ArrayOf, IsShape, IsInit, IsObject, IsInstance, UnitEnd, IsDecl, Decls}
@@ -144,7 +144,7 @@ spelled (EBinary op l r s) text (front, sign, back, left, is, right, fits, from,
 expression : (d : ℕ) (e : PExpr) → NoEnd (Expression d e)
 expression d e text is = spelled e text is.spells
 
-operand : (d : ℕ) (e : PExpr) → NoEnd (Operand d e)
+operand : (d : ℕ) (e : PExpr) → NoEnd (NestedExpr d e)
 operand d e = inside d (λ i. Expression i e) (λ i. expression i e)
 
 bounds : (d : ℕ) (b : PBounds) → NoEnd (IsBounds d b)
@@ -222,7 +222,7 @@ head : (d : ℕ) (x : PHead) → NoEnd (AcceptHead d x)
 head d x = then (mark key.Accept) (then (named x.entry) (then (index d x.index) (formals x.formals)))
 
 guard : (d : ℕ) (g : Option PExpr) → NoEnd (Guard d g)
-guard d g = there (λ e. Key key.When ▷ Operand d e ▷ Key key.Arrow) g (λ e. then (mark key.When) (then (operand d e) (mark key.Arrow)))
+guard d g = there (λ e. Key key.When ▷ NestedExpr d e ▷ Key key.Arrow) g (λ e. then (mark key.When) (then (operand d e) (mark key.Arrow)))
 
 part : (source : Source) (d : ℕ) (x : PPart) → NoEnd (IsPart source d x)
 part source d (PWords t at) = string source t at
@@ -260,7 +260,7 @@ module _ (source : Source) where
     stmt d (SNull s) = standing s (then (mark key.Null) (mark key.Semicolon))
     stmt d (SAssign x e s) = standing s (then (target d x) (then (mark key.Becomes) (then (operand d e) (mark key.Semicolon))))
     stmt d (SDelay n s) = standing s (delay_of n)
-    stmt d (SExit w e s) = standing s (then (mark key.Exit) (then (there Named w named) (then (there (λ test. Key key.When ▷ Operand d test) e (λ test. then (mark key.When) (operand d test))) (mark key.Semicolon))))
+    stmt d (SExit w e s) = standing s (then (mark key.Exit) (then (there Named w named) (then (there (λ test. Key key.When ▷ NestedExpr d test) e (λ test. then (mark key.When) (operand d test))) (mark key.Semicolon))))
     stmt d (SRaise w s) = standing s (then (mark key.Raise) (then (there Named w named) (mark key.Semicolon)))
     stmt d (SAbort tasks s) = standing s (then (mark key.Abort) (then (separated (Callee d) (callee d) key.Comma tasks) (mark key.Semicolon)))
     stmt d (SCall c s) = standing s (then (call d c) (mark key.Semicolon))

@@ -12,7 +12,7 @@ use Rattle.ada_lexer.specs.declared.symbols.Symbol.{Symbol}
 use Rattle.ada_expr_parser.specs.declared.items.ItemKind.{ItemKind}
 use Rattle.ada_expr_parser.specs.declared.items.ItemKind.TheVariants as item
 use Rattle.ada_expr_parser.specs.declared.items.Item.{Item}
-use Rattle.ada_expr_parser.specs.Items.{Stands, name_text, Says, IsItemOf, end_of, AreItems, interned_if, with_token, names_after}
+use Rattle.ada_expr_parser.specs.Items.{SaysItem, name_text, Says, IsItemOf, end_item, AreItems, interned_if, with_token, names_after}
 use Rattle.ada_phrase_parser.specs.Spelling.{Source}
 use Rattle.ada_parser.specs.Reads.{HasItems}
 
@@ -24,7 +24,7 @@ said (kinds.Duration n) = item.Duration n
 said kinds.Text = item.Text
 said kinds.Name = item.End
 
-stands_said : (kind : TokenKind) (x : ItemKind) → Stands kind x → said kind ≡ x
+stands_said : (kind : TokenKind) (x : ItemKind) → SaysItem kind x → said kind ≡ x
 stands_said kind (item.Symbol s) is = ap said is
 stands_said kind (item.Integer n) is = ap said is
 stands_said kind (item.Duration n) is = ap said is
@@ -33,7 +33,7 @@ stands_said kind (item.Name id) is = absurd is
 stands_said kind item.End is = absurd is
 
 -- no token that is a name stands for itself
-no_name : (kind : TokenKind) (x : ItemKind) → kind ≡ kinds.Name → Stands kind x → ⊥
+no_name : (kind : TokenKind) (x : ItemKind) → kind ≡ kinds.Name → SaysItem kind x → ⊥
 no_name kind (item.Symbol s) named is = (let same : kinds.Name ≡ kinds.Symbol s = sym named ∙ is in cc)
 no_name kind (item.Integer n) named is = (let same : kinds.Name ≡ kinds.Integer n = sym named ∙ is in cc)
 no_name kind (item.Duration n) named is = (let same : kinds.Name ≡ kinds.Duration n = sym named ∙ is in cc)
@@ -100,7 +100,7 @@ names_one bytes s t xs ys one two =
 
 items_of_one : (bytes : List ℕ) (tokens : List Token) (xs ys : List Item) → AreItems bytes (names_after bytes tokens) tokens xs → AreItems bytes (names_after bytes tokens) tokens ys → xs ≡ ys
 items_of_one bytes tokens xs ys one two =
-    one.2 ∙ ap (λ front. front ++ end_of bytes ∷ []) (items_one bytes (names_after bytes tokens) (names_differ bytes tokens) tokens one.0 two.0 one.1 two.1) ∙ sym two.2
+    one.2 ∙ ap (λ front. front ++ end_item bytes ∷ []) (items_one bytes (names_after bytes tokens) (names_differ bytes tokens) tokens one.0 two.0 one.1 two.1) ∙ sym two.2
 
 are_items : (bytes : List ℕ) (s : Source) (xs : List Item) (h : HasItems bytes s xs) (tokens : List Token) → h.tokens ≡ tokens → AreItems bytes (names_after bytes tokens) tokens xs
 are_items bytes s xs h tokens same =

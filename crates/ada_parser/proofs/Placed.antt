@@ -21,12 +21,12 @@ use Rattle.ada_expr_parser.specs.declared.levels.Level.{Level}
 use Rattle.ada_expr_parser.specs.declared.levels.Level.TheVariants.{Logical}
 use Rattle.ada_expr_parser.specs.Trees.{levels}
 use Rattle.ada_expr_parser.specs.Grammar.{Spells, IsExpr, IsBounds, IsRangeOf, IsSubind, IsIndex, AreMore, AreEnclosed, IsSecondList, AreArgs, IsChoiceOf}
-use Rattle.ada_phrase_parser.specs.Phrases.{Names, Expression, Operand, IsFormal, Formals, AcceptHead, Guard, IsPart, PutText, Choice, WhenChoices, WhenRaised, Drange, IsScheme, LoopName, DelayOf}
+use Rattle.ada_phrase_parser.specs.Phrases.{Names, Expression, NestedExpr, IsFormal, Formals, AcceptHead, Guard, IsPart, PutText, Choice, WhenChoices, WhenRaised, Drange, IsScheme, LoopName, DelayOf}
 use Rattle.ada_stmt_parser.specs.Statements.{Target, Callee, Call, IsStmt, AnyStmts, Stmts, ElsePart, OthersPart, IsAccept, IsAlt, IsAltKind, IsAlts, MoreAlts, IsArm, IsArms, MoreArms, IsCaseArm, IsCaseArms, IsBody, HandlerPart, MoreHandlers, IsHandler}
 use Rattle.ada_task_parser.specs.Tasks.{IsPriority, IsEntry, Member, MEntry, MPriority, entries_in, priorities_in, IsMember, TaskRest, IsTask}
 use Rattle.ada_parser.specs.Declarations.{Subind, ArrayOf, IsShape, IsList, IsInit, IsObject, IsDecl, Decls}
 use Rattle.ada_parser.specs.Units.{IsUnit}
-use Rattle.ada_parser.specs.Reads.{unit_of}
+use Rattle.ada_parser.specs.Reads.{program_unit}
 
 -- rules that ask no more of the shape of a tree than the grammar gives
 pub record Suits (rules : Rules) : Type 0 where
@@ -155,7 +155,7 @@ module _ (rules : Rules) (source : Source) (suits : Suits rules) where
   expression_placed e k d low text fit is = of_level Logical e k d low text fit is
 
   -- an expression one level deeper than what has the nesting k
-  pub operand_placed : (e : PExpr) (k d : ℕ) → k + d ≤ 300 → Draws (Operand d e) (EveryExpr rules (k + 1) e)
+  pub operand_placed : (e : PExpr) (k d : ℕ) → k + d ≤ 300 → Draws (NestedExpr d e) (EveryExpr rules (k + 1) e)
   operand_placed e k d low = inside k d low (λ i deep. expression_placed e (k + 1) i deep)
 
   pub bounds_placed : (b : PBounds) (k d : ℕ) → k + d ≤ 300 → Draws (λ text. IsBounds d b text) (EveryBounds rules k b)
@@ -511,7 +511,7 @@ module _ (rules : Rules) (source : Source) (suits : Suits rules) where
   -- ---- units
 
   -- a unit with at most 298 levels below the roots of its expressions
-  pub unit_placed : (p : PProgram) (d : ℕ) → 2 + d ≤ 300 → Draws (IsUnit source d (unit_of p)) (EveryProgram rules p)
+  pub unit_placed : (p : PProgram) (d : ℕ) → 2 + d ≤ 300 → Draws (IsUnit source d (program_unit p)) (EveryProgram rules p)
   unit_placed p d low text fit is =
       let (name, ((order, decls), all)) = behind (behind (both (named p.name) (behind (both (where_holds (suits.outer p.decls) (decls_placed p.decls d low)) (only (body_placed p.body 1 (suc d) (omega (arith, low)))))))) text fit is in
       (name, order, decls, all)

@@ -13,7 +13,7 @@ use Rattle.ada_tree.specs.WellPlaced.{well_placed, IsWellPlaced}
 use Rattle.ada_expr_parser.specs.declared.items.ItemKind.{ItemKind}
 use Rattle.ada_expr_parser.specs.declared.items.ItemKind.TheVariants as item
 use Rattle.ada_expr_parser.specs.declared.items.Item.{Item}
-use Rattle.ada_expr_parser.specs.Items.{Says, IsItemOf, end_of}
+use Rattle.ada_expr_parser.specs.Items.{Says, IsItemOf, end_item}
 use Rattle.ada_phrase_parser.specs.Spelling.{Source}
 use Rattle.ada_parser.specs.Reads.{deepest, HasItems, Reads}
 use Rattle.ada_parser.proofs.PlacedTokens.{Holds, token_holds}
@@ -53,7 +53,7 @@ module _ (source : Source) where
   front_fits (t ∷ tokens) (x ∷ items) slices zip =
       (kind_fits t x.kind x.span zip.0.start zip.0.end zip.0.says (token_holds _ t.kind slices.0.slice), front_fits tokens items slices.1 zip.1)
 
-  with_end : (front : List Item) → AreFit (well_placed source.names) source front → AreFit (well_placed source.names) source (front ++ end_of source.bytes ∷ [])
+  with_end : (front : List Item) → AreFit (well_placed source.names) source front → AreFit (well_placed source.names) source (front ++ end_item source.bytes ∷ [])
   with_end [] fit = (tt, tt)
   with_end (x ∷ front) fit = (fit.0, with_end front fit.1)
 

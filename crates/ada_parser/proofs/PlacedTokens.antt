@@ -166,15 +166,15 @@ goes_on_upper (b ∷ text) h =
     ]
 
 -- the reserved words are those of the lexer
-lower_upper : (b : ℕ) → lex.lower (to_ascii_uppercase b) ≡ lex.lower b
+lower_upper : (b : ℕ) → lex.in_lower_case (to_ascii_uppercase b) ≡ lex.in_lower_case b
 lower_upper b = grind (arith, nat_tests)
 
-lower_uppers : (text : List ℕ) → map lex.lower (map to_ascii_uppercase text) ≡ map lex.lower text
+lower_uppers : (text : List ℕ) → map lex.in_lower_case (map to_ascii_uppercase text) ≡ map lex.in_lower_case text
 lower_uppers [] = refl
 lower_uppers (b ∷ text) = ap₂ (λ c rest. c ∷ rest) (lower_upper b) (lower_uppers text)
 
 abbrev is_reserved : List ℕ → Bool
-is_reserved text = is_some (symbol_in reserved_words (map lex.lower text))
+is_reserved text = is_some (symbol_in reserved_words (map lex.in_lower_case text))
 
 all_reserved : list_all is_reserved reserved ≡ true
 unfolding reserved_words two_letters three_letters four_letters five_letters six_letters seven_letters eight_letters nine_letters

@@ -16,8 +16,8 @@ use Rattle.ada_expr_parser.specs.Trees.{from_to, attribute}
 use Rattle.ada_expr_parser.specs.Grammar.{symbol_item, word_item, number_item, Spells}
 use Rattle.ada_expr_parser.specs.Reading.{inner, name_rest}
 use Rattle.ada_expr_parser.specs.Parts.{expr_behind}
-use Rattle.ada_phrase_parser.specs.Spelling.{Source, Spelling, Nothing, ◌▷◌, Key, Named, Separated, Inside, Stands}
-use Rattle.ada_phrase_parser.specs.Phrases.{Expression, Operand, Mode, IsFormal, Formals, Index, AcceptHead, EndOf}
+use Rattle.ada_phrase_parser.specs.Spelling.{Source, Spelling, Nothing, ◌▷◌, Key, Named, Separated, Inside, IsPlaceOf}
+use Rattle.ada_phrase_parser.specs.Phrases.{Expression, NestedExpr, Mode, IsFormal, Formals, Index, AcceptHead, EndOf}
 use Rattle.ada_stmt_parser.specs.Statements.{Stmts, IsAccept}
 use Rattle.ada_phrase_parser.specs.Reading.{is_symbol, closed, goes_on_name, expression_from, in_deeper, operand, end_of, Behind, behind_index, is_formal_mark, accept_name, accept_behind}
 use Rattle.ada_stmt_parser.specs.inner.ReadingStatements.{Readers, accept_span, accept_at, stmts}
@@ -208,7 +208,7 @@ module _ (w : Word) where
 -- ---- behind the parenthesis
 
 abbrev IndexTexts : Texts Item Found_behind
-IndexTexts = Made (λ v. with_index v.0 v.1) (Both (λ d i. Operand d i) CloseFormals)
+IndexTexts = Made (λ v. with_index v.0 v.1) (Both (λ d i. NestedExpr d i) CloseFormals)
 
 careful_operand : (d : ℕ) → Careful d (bind (operand d) behind_index) (bind (operand (suc d)) behind_index) IndexTexts EndsFormals
 careful_operand d = careful_behind with_index CloseFormals (operand_careful d) (law_behind_index d) close_starts
@@ -283,7 +283,7 @@ abbrev BehindTexts : Texts Item Found_behind
 BehindTexts d x text = (Index d x.index ▷ Formals x.formals) text
 
 -- an index in parentheses
-enclosed_same : (d : ℕ) (i : PExpr) → Same (Key key.LeftParen ▷ (Operand d i ▷ Key key.RightParen)) (Index d (Some i))
+enclosed_same : (d : ℕ) (i : PExpr) → Same (Key key.LeftParen ▷ (NestedExpr d i ▷ Key key.RightParen)) (Index d (Some i))
 enclosed_same zero i = record {
   to = λ text (front, back, from, k, (f, b, split, never, one)). absurd never;
   back = λ text is. let low = is.nested in absurd (omega (arith, low));
@@ -306,8 +306,8 @@ enclosed_same (suc e) i = record {
   );
 }
 
-index_same : (d : ℕ) (i : PExpr) (fs : List PFormal) → Same (Key key.LeftParen ▷ (Operand d i ▷ CloseFormals i d fs)) (Index d (Some i) ▷ Formals fs)
-index_same d i fs = same_through (pushed (Key key.LeftParen) (same_grouped (Operand d i) (Key key.RightParen) (Formals fs))) (same_then (enclosed_same d i) (same_self (Formals fs)))
+index_same : (d : ℕ) (i : PExpr) (fs : List PFormal) → Same (Key key.LeftParen ▷ (NestedExpr d i ▷ CloseFormals i d fs)) (Index d (Some i) ▷ Formals fs)
+index_same d i fs = same_through (pushed (Key key.LeftParen) (same_grouped (NestedExpr d i) (Key key.RightParen) (Formals fs))) (same_then (enclosed_same d i) (same_self (Formals fs)))
 
 abbrev LeadTexts : Texts Item Found_behind
 LeadTexts = Or (Then (One (symbol key.LeftParen)) (λ lead. InTexts)) (Is (formals_alone []))
@@ -330,7 +330,7 @@ is_lead d None (x ∷ more) text (front, back, from, none, is) =
       by : Formals (x ∷ more) text → (Key key.LeftParen ▷ InTexts d (formals_alone (x ∷ more))) text
       by (f, b, split, k, rest) = (f, b, split, k, inr (x ∷ more, refl, rest))
 is_lead d (Some i) fs text is = inl (taken_key key.LeftParen InTexts d (with_index i fs) text (by ((index_same d i fs).back text is))) where
-  by : (Key key.LeftParen ▷ (Operand d i ▷ CloseFormals i d fs)) text → (Key key.LeftParen ▷ InTexts d (with_index i fs)) text
+  by : (Key key.LeftParen ▷ (NestedExpr d i ▷ CloseFormals i d fs)) text → (Key key.LeftParen ▷ InTexts d (with_index i fs)) text
   by (f, b, split, k, rest) = (f, b, split, k, inl ((i, fs), refl, rest))
 
 law_accept_behind : (d : ℕ) → Lawful d (accept_behind d) (accept_behind (suc d)) BehindTexts EndsFormals
@@ -468,11 +468,11 @@ module _ (source : Source) where
   abbrev as_stmt : PAccept → PStmt
   as_stmt a = SAccept a (accept_span a)
 
-  accept_stands : (d : ℕ) (a : PAccept) (text : List Item) → IsAccept source d a text → Stands (accept_span a) text
+  accept_stands : (d : ℕ) (a : PAccept) (text : List Item) → IsAccept source d a text → IsPlaceOf (accept_span a) text
   accept_stands d (accepting h absent) text is = is.1
   accept_stands d (accepting h (present l)) text is = is.1
 
-  one_place : (s t : Span) (text : List Item) → Stands s text → Stands t text → s ≡ t
+  one_place : (s t : Span) (text : List Item) → IsPlaceOf s text → IsPlaceOf t text → s ≡ t
   one_place s t [] never place = absurd never
   one_place s t (x ∷ more) one other = one ∙ sym other
 

@@ -11,7 +11,7 @@ use Rattle.ada_expr_parser.specs.Tests.{same, symbol}
 use Rattle.ada_expr_parser.specs.Grammar.{symbol_item, word_item}
 use Rattle.ada_expr_parser.specs.Trees.{from_to}
 use Rattle.ada_expr_parser.specs.Parts.{expression}
-use Rattle.ada_phrase_parser.specs.Spelling.{Source, Spelling, ◌▷◌, Key, Duration, last_place, Stands}
+use Rattle.ada_phrase_parser.specs.Spelling.{Source, Spelling, ◌▷◌, Key, Duration, last_place, IsPlaceOf}
 use Rattle.ada_phrase_parser.specs.Phrases.{Expression, Guard}
 use Rattle.ada_stmt_parser.specs.Statements.{AnyStmts, IsAccept, IsAlt, IsAltKind}
 use Rattle.ada_phrase_parser.specs.Reading.{Delayed}
@@ -224,11 +224,11 @@ module _ (source : Source) where
   guard_place s lead at [] never = absurd never
   guard_place s lead at (y ∷ more) place = place
 
-  stands_from : (s : Span) (text : List Item) → StandsFrom None s text → Stands s text
+  stands_from : (s : Span) (text : List Item) → StandsFrom None s text → IsPlaceOf s text
   stands_from s [] never = never
   stands_from s (y ∷ more) place = place
 
-  from_stands : (s : Span) (text : List Item) → Stands s text → StandsFrom None s text
+  from_stands : (s : Span) (text : List Item) → IsPlaceOf s text → StandsFrom None s text
   from_stands s [] never = never
   from_stands s (y ∷ more) place = place
 
@@ -277,7 +277,7 @@ module _ (source : Source) where
       subst (IsAlt source (suc e) (alternative h k s)) (sym (from ∙ ap (λ t. symbol_item key.When lead ∷ t) (split ∙ ap (λ t. front ++ t) parted)))
       (arrow_kind e test lead h k s front more at is same kind place)
 
-  guard_from : (s lead at : Span) (front more : List Item) (k : Symbol) (y : Span) (rest : List Item) → more ≡ symbol_item k y ∷ rest → Stands s (symbol_item key.When lead ∷ (front ++ (symbol_item key.Arrow at ∷ more))) → StandsFrom (Some lead) s more
+  guard_from : (s lead at : Span) (front more : List Item) (k : Symbol) (y : Span) (rest : List Item) → more ≡ symbol_item k y ∷ rest → IsPlaceOf s (symbol_item key.When lead ∷ (front ++ (symbol_item key.Arrow at ∷ more))) → StandsFrom (Some lead) s more
   guard_from s lead at front more k y rest full place =
       let here : s ≡ from_to lead (last_place at more) = place ∙ ap (from_to lead) (last_append lead front (symbol_item key.Arrow at ∷ more)) in
       subst (StandsFrom (Some lead) s) (sym full) (subst (λ t. s ≡ from_to lead (last_place at t)) full here)
@@ -295,7 +295,7 @@ module _ (source : Source) where
       let x : PAlt = alternative (Some test) k s in
       inl (subst (Then (One (symbol key.When)) (λ lead. Below (Guarded lead)) (suc e) x) (sym whole)
       (symbol_then key.When (λ lead. Below (Guarded lead)) (suc e) x lead (front ++ (symbol_item key.Arrow at ∷ more))
-      (test, front, symbol_item key.Arrow at ∷ more, refl, spelled, key_then key.Arrow (KindTexts source (Some test) (Some lead) (suc e) x) at more (refl, kind, guard_from s lead at front more y first others full (subst (Stands s) whole place)))))
+      (test, front, symbol_item key.Arrow at ∷ more, refl, spelled, key_then key.Arrow (KindTexts source (Some test) (Some lead) (suc e) x) at more (refl, kind, guard_from s lead at front more y first others full (subst (IsPlaceOf s) whole place)))))
 
   guard_starts : (d : ℕ) (lead : Span) (test : PExpr) → Starts d (GuardRest lead test) EndsStmts (Ends Logical)
   guard_starts d lead test = record { begins_with = λ x text k (front, back, from, (at, one), is) stop. rw from (rw one (arrow_ends at)) }

@@ -11,7 +11,7 @@ use Rattle.ada_expr_parser.specs.declared.items.Item.{Item}
 use Rattle.ada_expr_parser.specs.Tests.{same, symbol}
 use Rattle.ada_expr_parser.specs.Grammar.{symbol_item}
 use Rattle.ada_expr_parser.specs.Trees.{from_to}
-use Rattle.ada_phrase_parser.specs.Spelling.{Source, Spelling, ◌▷◌, Key, Named, Separated, last_place, Stands}
+use Rattle.ada_phrase_parser.specs.Spelling.{Source, Spelling, ◌▷◌, Key, Named, Separated, last_place, IsPlaceOf}
 use Rattle.ada_phrase_parser.specs.Phrases.{WhenRaised, WhenOthers}
 use Rattle.ada_stmt_parser.specs.Statements.{IsStmt, AnyStmts, Stmts, IsAccept, IsBody, HandlerPart, IsHandler, MoreHandlers}
 use Rattle.ada_phrase_parser.specs.Reading.{is_symbol}
@@ -40,7 +40,7 @@ abbrev pub end_of : Span → ℕ
 end_of s = s.end
 
 -- the end of a node is the end of its last item
-pub stands_end : (s : Span) (text : List Item) → Stands s text → (at : Span) → (last_place at text).end ≡ s.end
+pub stands_end : (s : Span) (text : List Item) → IsPlaceOf s text → (at : Span) → (last_place at text).end ≡ s.end
 stands_end s [] never at = absurd never
 stands_end s (x ∷ more) place at = sym (ap end_of place)
 
@@ -84,10 +84,10 @@ abbrev pub from_to_end : Span → ℕ → Span
 from_to_end first last = record { start = first.start; end = last }
 
 -- the place of a node by the end of its last part
-pub stands_with : (k : Item) (back : List Item) (last : Span) → (last_place k.span back).end ≡ last.end → Stands (from_to k.span last) (k ∷ back)
+pub stands_with : (k : Item) (back : List Item) (last : Span) → (last_place k.span back).end ≡ last.end → IsPlaceOf (from_to k.span last) (k ∷ back)
 stands_with k back last is = ap (from_to_end k.span) (sym is)
 
-pub with_stands : (s : Span) (k : Item) (back : List Item) (last : Span) → (last_place k.span back).end ≡ last.end → Stands s (k ∷ back) → s ≡ from_to k.span last
+pub with_stands : (s : Span) (k : Item) (back : List Item) (last : Span) → (last_place k.span back).end ≡ last.end → IsPlaceOf s (k ∷ back) → s ≡ from_to k.span last
 with_stands s k back last is place = place ∙ ap (from_to_end k.span) is
 
 -- a piece that ends with these statements
@@ -168,7 +168,7 @@ module _ (source : Source) where
   to_part : (e : ℕ) (w : Word) (more : List Word) (l : PStmts) (s : Span) (text : List Item) → IsHandler source (suc e) (handler (w ∷ more) l s) text → WhenPart HandlerRest e (handler (w ∷ more) l s) text
   to_part e w more l s text (is, place) =
       let (lead, back, from, rest) = after_key key.When (HandlerNames e (w ∷ more) ▷ ArrowStmts source e l) text ((raised_same e w more l).back text is) in
-      (lead, back, from, (with_stands s (symbol_item key.When lead) back (last_span lead l) (ends_then l (HandlerNames e (w ∷ more)) (arrow_end e l) back rest lead lead) (subst (Stands s) from place), rest))
+      (lead, back, from, (with_stands s (symbol_item key.When lead) back (last_span lead l) (ends_then l (HandlerNames e (w ∷ more)) (arrow_end e l) back rest lead lead) (subst (IsPlaceOf s) from place), rest))
 
   last_to : (e : ℕ) (l : PStmts) (s : Span) (text : List Item) → WhenLast OthersHandler e (handler [] l s) text → IsHandler source (suc e) (handler [] l s) text
   last_to e l s text (lead, at, back, from, (none, place, is)) =
@@ -186,7 +186,7 @@ module _ (source : Source) where
         at,
         back,
         from ∙ ap (λ t. symbol_item key.When lead ∷ t) split,
-        (refl, with_stands s (symbol_item key.When lead) more (last_span lead l) (ends_then l (Key key.Others) (arrow_end e l) more rest lead lead) (subst (Stands s) from place), last),
+        (refl, with_stands s (symbol_item key.When lead) more (last_span lead l) (ends_then l (Key key.Others) (arrow_end e l) more rest lead lead) (subst (IsPlaceOf s) from place), last),
       )
 
   -- all handlers

@@ -16,7 +16,7 @@ use Rattle.ada_expr_parser.specs.Grammar.{symbol_item, word_item, IsTarget}
 use Rattle.ada_expr_parser.specs.Trees.{from_to}
 use Rattle.ada_expr_parser.specs.Parts.{expression, callee_of, target}
 use Rattle.ada_phrase_parser.specs.Spelling.{Source, Spelling, ◌▷◌, IfThere, Key, Named, Duration, Behind, Separated}
-use Rattle.ada_phrase_parser.specs.Phrases.{Operand}
+use Rattle.ada_phrase_parser.specs.Phrases.{NestedExpr}
 use Rattle.ada_stmt_parser.specs.Statements.{Callee, IsStmt}
 use Rattle.ada_phrase_parser.specs.Reading.{closed, separated, duration_in, duration, Delayed, delayed}
 use Rattle.ada_simple_stmt_parser.specs.inner.ReadingSimple.{exit_rest}
@@ -180,7 +180,7 @@ abbrev exit_tree : Span → Option Word → Option PExpr × Span → PStmt
 exit_tree lead w v = SExit w v.0 (from_to lead v.1)
 
 abbrev WhenTest : ℕ → Option PExpr → Spelling
-WhenTest d e = IfThere e (λ test. Key key.When ▷ Operand d test)
+WhenTest d e = IfThere e (λ test. Key key.When ▷ NestedExpr d test)
 
 abbrev ExitSpelled : Option Word → ℕ → Option PExpr × Span → Spelling
 ExitSpelled w d v = WhenTest d v.0 ▷ KeyAt key.Semicolon v.1

@@ -14,11 +14,11 @@ use Rattle.ada_tree.specs.PlainProgram.{PProgram}
 use Rattle.ada_expr_parser.specs.declared.items.ItemKind.{ItemKind}
 use Rattle.ada_expr_parser.specs.declared.items.ItemKind.TheVariants as item
 use Rattle.ada_expr_parser.specs.declared.items.Item.{Item}
-use Rattle.ada_expr_parser.specs.Items.{Says, IsItemOf, end_of}
+use Rattle.ada_expr_parser.specs.Items.{Says, IsItemOf, end_item}
 use Rattle.ada_expr_parser.specs.Gives.{place}
 use Rattle.ada_phrase_parser.specs.Spelling.{Source}
 use Rattle.ada_parser.specs.Units.{PUnit, Units}
-use Rattle.ada_parser.specs.Reads.{deepest, is_end_kind, is_end, WholeTexts, unit_of, HasItems, Reads, BeginsSomeText, BeginsText, SyntaxAt, TooDeepAt}
+use Rattle.ada_parser.specs.Reads.{deepest, is_end_kind, is_end, WholeTexts, program_unit, HasItems, Reads, BeginsSomeText, BeginsText, SyntaxAt, TooDeepAt}
 use Rattle.ada_stmt_parser.specs.inner.ReadingStatements.{readers}
 use Rattle.ada_parser.specs.inner.ReadingUnits as reading
 use Rattle.ada_parser.specs.Laws.{HasOneText}
@@ -88,11 +88,11 @@ module _ (laws : (source : Source) (d : ℕ) → LevelLaws source d (readers sou
 
     last_item : (f more : List Item) (x : Item) → items ≡ f ++ (x ∷ more) → is_end x ≡ true → more ≡ []
     last_item f more x is yes_is =
-        let (front, zip, from) = has.items_are in end_last front f more (end_of bytes) x (tokens_free bytes names has.tokens front zip) (sym from ∙ is) yes_is
+        let (front, zip, from) = has.items_are in end_last front f more (end_item bytes) x (tokens_free bytes names has.tokens front zip) (sym from ∙ is) yes_is
 
     not_free : Free items → ⊥
     not_free free =
-        let (front, zip, from) = has.items_are in true≢false (free_item front (end_of bytes) [] (subst Free from free))
+        let (front, zip, from) = has.items_are in true≢false (free_item front (end_item bytes) [] (subst Free from free))
 
     -- an answer that is one of these: a unit before the end, or a fault at an item
     abbrev View : Answer Item PUnit → Type 0
@@ -127,10 +127,10 @@ module _ (laws : (source : Source) (d : ℕ) → LevelLaws source d (readers sou
     same_items : (s : Source) (ys : List Item) → HasItems bytes s ys → (s ≡ source) × (ys ≡ items)
     same_items s ys other = one_text bytes s source ys items other has
 
-    whole_of : (p : PProgram) → Reads bytes p → Texts_here (unit_of p) items
+    whole_of : (p : PProgram) → Reads bytes p → Texts_here (program_unit p) items
     whole_of p read =
         let (same, also) = same_items (record { bytes = bytes; names = p.names }) read.items read.are_items in
-        subst (λ s. WholeTexts s deepest (unit_of p) items) same (subst (WholeTexts (record { bytes = bytes; names = p.names }) deepest (unit_of p)) also read.spelled)
+        subst (λ s. WholeTexts s deepest (program_unit p) items) same (subst (WholeTexts (record { bytes = bytes; names = p.names }) deepest (program_unit p)) also read.spelled)
 
     -- a place where the bytes are refused, among these items
     record Place (front : List Item) (x : Item) : Type 0 where
@@ -169,7 +169,7 @@ module _ (laws : (source : Source) (d : ℕ) → LevelLaws source d (readers sou
           let (f, x, from, ends, spelled) = whole_of q read in
           let (g, y, from', ends', spelled') = is in
           let (fronts, last) = same_last f g x y (sym from ∙ from') in
-          let units : unit_of q ≡ u = (whole_laws source).one_tree deepest deepest (unit_of q) u f spelled (subst (Units source deepest u) (sym fronts) spelled') in
+          let units : program_unit q ≡ u = (whole_laws source).one_tree deepest deepest (program_unit q) u f spelled (subst (Units source deepest u) (sym fronts) spelled') in
           ap₂ program_of (ap (λ s. s.names) same) units;
       no_syntax = λ at refused.
           let (front, x, here, there, before, never) = syntax_here at refused in
@@ -192,7 +192,7 @@ module _ (laws : (source : Source) (d : ℕ) → LevelLaws source d (readers sou
           (λ (m, longer). never (deepest, fewer Texts_here (g ++ (y ∷ [])) m (subst (Begins Texts_here) longer is.before)))
           more))
           (compared is.front g x y rest here.rest (sym is.tokens ∙ here.items_are));
-      no_program = λ p read. is.never deepest (text_begins (unit_of p) is.front rest x (whole_of p read) is.tokens);
+      no_program = λ p read. is.never deepest (text_begins (program_unit p) is.front rest x (whole_of p read) is.tokens);
       not_deep = λ b refused.
           let (g, y, here, there, before, not_here, (e, deeper)) = deep_here b refused in ⊎_elim
           (λ (fronts, same). is.never e (subst (λ l. Begins (WholeTexts source e) l) (ap₂ (λ f k. f ++ (k ∷ [])) (sym fronts) (sym same)) deeper))
@@ -213,7 +213,7 @@ module _ (laws : (source : Source) (d : ℕ) → LevelLaws source d (readers sou
           (λ (m, longer). not_here (fewer Texts_here (g ++ (y ∷ [])) m (subst (Begins Texts_here) longer is.before)))
           more))
           (compared is.front g x y rest here.rest (sym is.tokens ∙ here.items_are));
-      no_program = λ p read. is.not_here (text_begins (unit_of p) is.front rest x (whole_of p read) is.tokens);
+      no_program = λ p read. is.not_here (text_begins (program_unit p) is.front rest x (whole_of p read) is.tokens);
       no_syntax = λ b refused.
           let (g, y, here, there, before, never) = syntax_here b refused in ⊎_elim
           (λ (fronts, same). let (e, deeper) = is.deeper in never (e, subst (λ l. Begins (WholeTexts source e) l) (ap₂ (λ f k. f ++ (k ∷ [])) fronts same) deeper))

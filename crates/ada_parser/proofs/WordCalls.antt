@@ -25,8 +25,8 @@ use Rattle.ada_expr_laws.proofs.Primaries.{no_place}
 use Rattle.ada_expr_laws.proofs.Plainly.{after_symbol, symbol_then, ExprTexts, law_is_expr}
 use Rattle.ada_expr_laws.proofs.Calling.{a_number, of_name, TargetRest, law_target_rest, target_is, is_target}
 use Rattle.ada_expr_laws.proofs.Entries.{CallRest, law_call_rest, call_rest_is, is_call_rest, dot_target}
-use Rattle.ada_phrase_parser.specs.Spelling.{Source, Placed, Stands, last_place, Key, ◌▷◌}
-use Rattle.ada_phrase_parser.specs.Phrases.{Operand}
+use Rattle.ada_phrase_parser.specs.Spelling.{Source, Placed, IsPlaceOf, last_place, Key, ◌▷◌}
+use Rattle.ada_phrase_parser.specs.Phrases.{NestedExpr}
 use Rattle.ada_stmt_parser.specs.Statements.{Target, Call}
 use Rattle.ada_phrase_parser.specs.Reading.{closed}
 use Rattle.ada_simple_stmt_parser.specs.inner.ReadingSimple.{assign_or_call, plain_rest}
@@ -60,10 +60,10 @@ ends_behind close front text (m, is) = (front ++ m, ap (λ t. front ++ t) is ∙
 ends_last : (at close : Span) (text : List Item) → EndsAt close text → last_place at text ≡ close
 ends_last at close text (m, is) = ap (last_place at) is ∙ last_is at m (symbol_item key.Semicolon close)
 
-pub stands_to : (w : Word) (close : Span) (text : List Item) → EndsAt close text → Stands (from_to w.span close) (word_item w ∷ text)
+pub stands_to : (w : Word) (close : Span) (text : List Item) → EndsAt close text → IsPlaceOf (from_to w.span close) (word_item w ∷ text)
 stands_to w close text ends = pieces.stands_to (word_item w) text close (ends_last w.span close text ends)
 
-pub place_is : (w : Word) (close s : Span) (text : List Item) → EndsAt close text → Stands s (word_item w ∷ text) → s ≡ from_to w.span close
+pub place_is : (w : Word) (close s : Span) (text : List Item) → EndsAt close text → IsPlaceOf s (word_item w ∷ text) → s ≡ from_to w.span close
 place_is w close s text ends stands = pieces.stands_is s (word_item w) text close (ends_last w.span close text ends) stands
 
 -- ---- assignments and calls behind a variable or a task
@@ -217,7 +217,7 @@ named_target d w t front more text split is =
     let (same, rest) = first_name w t.name text (is.back ++ more) (split ∙ ap (λ l. l ++ more) is.text_is) in
     (is.back, rest, is.index, ap (λ n. of_name n t.index) (sym same))
 
-pub spell_assign : (d : ℕ) (w : Word) (t : PTarget) (v : PExpr) (s : Span) (text : List Item) → Placed s (Target d t ▷ Key key.Becomes ▷ Operand d v ▷ Key key.Semicolon) (word_item w ∷ text) →
+pub spell_assign : (d : ℕ) (w : Word) (t : PTarget) (v : PExpr) (s : Span) (text : List Item) → Placed s (Target d t ▷ Key key.Becomes ▷ NestedExpr d v ▷ Key key.Semicolon) (word_item w ∷ text) →
     TargetThen w d (SAssign t v s) text
 spell_assign zero w t v s text ((front, more, split, target, (b, m, parted, becomes, (f, g, also, never, shut))), stands) = absurd never
 spell_assign (suc e) w t v s text ((front, more, split, target, (b, m, parted, (at, b_is), (f, g, also, expr, (close, shut)))), stands) =

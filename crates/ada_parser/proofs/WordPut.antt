@@ -30,7 +30,7 @@ use Rattle.ada_expr_laws.proofs.Primaries.{no_place, close_ends}
 use Rattle.ada_expr_laws.proofs.Plainly.{after_symbol, symbol_then}
 use Rattle.ada_expr_laws.proofs.Calling.{of_name}
 use Rattle.ada_phrase_parser.specs.Spelling.{Source, Key, ◌▷◌, Behind, Separated, said_at, is_graphic}
-use Rattle.ada_phrase_parser.specs.Phrases.{Operand, IsPart, PutText}
+use Rattle.ada_phrase_parser.specs.Phrases.{NestedExpr, IsPart, PutText}
 use Rattle.ada_phrase_parser.specs.Reading.{is_symbol, key_then, more_behind, part, string, string_in}
 use Rattle.ada_simple_stmt_parser.specs.inner.ReadingSimple.{assign_or_call, put_more, put_behind, put_rest}
 use Rattle.ada_parser.proofs.Narrowing.{Narrow, narrow_where, narrow_starts}
@@ -44,7 +44,7 @@ use Rattle.common_lemmas.proofs.Options.{some_same}
 -- ---- an expression one level deeper
 
 abbrev pub OperandTexts : Texts Item PExpr
-OperandTexts d e text = Operand d e text
+OperandTexts d e text = NestedExpr d e text
 
 -- the text begins with such an item
 abbrev pub BeginsSo : (Item → Bool) → List Item → Type 0

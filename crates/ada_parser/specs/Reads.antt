@@ -1,7 +1,7 @@
 -- What it is to read a text: its tokens, their items, and the unit that these spell (2.2, 10.1, this project's limit of nesting).
 use Rattle.std.specs.Prelude.{◌≡◌, ℕ, Bool, true, false, List, [], ◌∷◌, ◌++◌}
 use Rattle.lawful_reader.specs.Grammars.{Texts, Begins}
-use Rattle.lawful_reader.specs.Exactness.{Whole}
+use Rattle.lawful_reader.specs.Exactness.{WholeText}
 use Rattle.ada_lexer.specs.declared.kinds.Token.{Token}
 use Rattle.ada_lexer.specs.Split.{Splits}
 use Rattle.ada_tree.specs.PlainProgram.{PProgram}
@@ -27,11 +27,11 @@ is_end x = is_end_kind x.kind
 
 -- a unit and then the end of the text
 abbrev pub WholeTexts : Source → Texts Item PUnit
-WholeTexts source = Whole is_end (Units source)
+WholeTexts source = WholeText is_end (Units source)
 
 -- the unit of a program: all of it but its names
-abbrev pub unit_of : PProgram → PUnit
-unit_of p = record { text_io = p.text_io; name = p.name; decls = p.decls; body = p.body }
+abbrev pub program_unit : PProgram → PUnit
+program_unit p = record { text_io = p.text_io; name = p.name; decls = p.decls; body = p.body }
 
 -- the items of a text, and its bytes with its names
 pub record HasItems (bytes : List ℕ) (source : Source) (items : List Item) : Type 0 where
@@ -44,7 +44,7 @@ pub record HasItems (bytes : List ℕ) (source : Source) (items : List Item) : T
 pub record Reads (bytes : List ℕ) (p : PProgram) : Type 0 where
   pub items : List Item
   pub are_items : HasItems bytes record { bytes = bytes; names = p.names } items
-  pub spelled : WholeTexts record { bytes = bytes; names = p.names } deepest (unit_of p) items
+  pub spelled : WholeTexts record { bytes = bytes; names = p.names } deepest (program_unit p) items
 
 -- the items begin some text of the grammar, nested however deep
 abbrev pub BeginsSomeText : Source → List Item → Type 0

@@ -37,7 +37,7 @@ fn unit_behind<'a>(
     items: &'a [Item],
 ) -> Result<(Unit, &'a [Item]), ParseError>
     requires { depth ≤ 298 }
-    ensures tree { Gives (λ x. plain_unit x.0) (λ x. x.1.now) result (declarative.unit_end (told source.now) (suc depth) name (views.unit_of text_io name decls.items) items.now) }
+    ensures tree { Gives (λ x. plain_unit x.0) (λ x. x.1.now) result (declarative.unit_end (told source.now) (suc depth) name (views.unit_of_parts text_io name decls.items) items.now) }
     ensures shorter { IfOk result (λ x. length x.1.now < length items.now) }
 {
     let (body, _, rest) = unit_end(alloc, source, depth + 1, name, items)?;

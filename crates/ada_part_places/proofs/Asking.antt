@@ -7,7 +7,7 @@ use Rattle.ada_tree.specs.declared.naming.Span.{Span}
 use Rattle.ada_tree.specs.declared.naming.Word.{Word}
 use Rattle.syn_event.specs.declared.meanings.Meant.{Meant}
 use Rattle.syn_event.specs.declared.meanings.Meant.TheVariants.{MainProcedure, TaskType, TaskOf, Shared, Inner}
-use Rattle.syn_event.specs.CheckScope.{Unit, CheckScope, meaning, uses, addresses, aborts_before, exits, raises_again}
+use Rattle.syn_event.specs.CheckScope.{EnclosingUnit, CheckScope, meaning, uses, addresses, aborts_before, exits, raises_again}
 use Rattle.syn_event.specs.CheckSites.{site}
 use Rattle.syn_event.specs.RuleSharedVariable.{shared_name, in_body_of}
 use Rattle.syn_event.specs.RuleMainEntry.{no_task}
@@ -18,7 +18,7 @@ use Rattle.ada_rules.specs.RefusedFirst.{Standard, refused_first_at, refused_fir
 use Rattle.ada_part_places.specs.inner.Asking.{is_shared, is_no_task, is_own_task}
 use Rattle.ada_rules.proofs.Meeting.{at_uses, at_addresses, at_aborts, at_exits, at_raises, met_one}
 
-used_by : (own : Option Unit) (m : Option Meant) (s : Span) → in_body_of own (shared_name m s) ≡ (if is_some (option_map (λ u. u.name) own) && is_shared m then s ∷ [] else [])
+used_by : (own : Option EnclosingUnit) (m : Option Meant) (s : Span) → in_body_of own (shared_name m s) ≡ (if is_some (option_map (λ u. u.name) own) && is_shared m then s ∷ [] else [])
 used_by None m s = refl
 used_by (Some u) None s = refl
 used_by (Some u) (Some MainProcedure) s = refl
@@ -42,7 +42,7 @@ addressed_by (Some Inner) s = refl
 pub addresses_at : (by : Standard) (around : CheckScope) (w : Word) → refused_first_at by around (addresses w) ≡ found 18 (if is_no_task (meaning around w.name) then w.span ∷ [] else [])
 addresses_at by around w = at_addresses by around w ∙ ap (found 18) (addressed_by (meaning around w.name) w.span)
 
-aborted_by : (own : Option Unit) (m : Option Meant) (s : Span) → own_task own m s ≡ (if is_own_task (option_map (λ u. u.name) own) m then s ∷ [] else [])
+aborted_by : (own : Option EnclosingUnit) (m : Option Meant) (s : Span) → own_task own m s ≡ (if is_own_task (option_map (λ u. u.name) own) m then s ∷ [] else [])
 aborted_by None m s = refl
 aborted_by (Some u) None s = refl
 aborted_by (Some u) (Some MainProcedure) s = refl

@@ -11,9 +11,9 @@ use Rattle.ada_tree.specs.TypeTable.{TypeTable}
 use Rattle.ada_tree.specs.PlainExpr.{PExpr}
 use Rattle.ada_tree.specs.PlainStmt.{PHead, PMaybe, PStmts, accepting, PAltKind, AAccept, ADelay, ATerminate, plain_alt, plain_alt_kind, alts_of}
 use Rattle.ada_tree.specs.StaticValue.{is_static, value_of}
-use Rattle.ada_tree.specs.ExprTypes.{place_of}
+use Rattle.ada_tree.specs.ExprTypes.{expr_place}
 use Rattle.ada_static_values.specs.StaticAnswer.{if_static, static_answer}
-use Rattle.syn_event.specs.Extents.{fixed, value_there}
+use Rattle.syn_event.specs.Extents.{fixed, unraised_value}
 use Rattle.syn_event.specs.CheckRefusals.{CheckRefusal}
 use Rattle.syn_event.specs.RuleAcceptPlace.{is_among}
 use Rattle.syn_event.specs.RuleSelectForm.{alt_kinds}
@@ -29,13 +29,13 @@ use Rattle.ada_rules.proofs.Listing.{cut, gone}
 
 -- ---- the value of an index
 
-fixed_test : (b : Bool) (s : Span) (r : Result ℤ Span) → result_ok (if_static b s r) ≡ (if b then value_there r else None)
+fixed_test : (b : Bool) (s : Span) (r : Result ℤ Span) → result_ok (if_static b s r) ≡ (if b then unraised_value r else None)
 fixed_test true s (Ok z) = refl
 fixed_test true s (Err e) = refl
 fixed_test false s r = refl
 
 pub fixed_is : (types : TypeTable) (e : PExpr) → result_ok (static_answer types e) ≡ fixed types e
-fixed_is types e = fixed_test (is_static types e) (place_of e) (value_of types e)
+fixed_is types e = fixed_test (is_static types e) (expr_place e) (value_of types e)
 
 -- ---- when two accepts clash
 

@@ -23,8 +23,8 @@ abbrev pub Expression : ℕ → PExpr → Spelling
 Expression d e text = IsExpr Logical d e text
 
 -- an expression whose root is one level deeper than the statement or declaration
-abbrev pub Operand : ℕ → PExpr → Spelling
-Operand d e = Inside d (λ i. Expression i e)
+abbrev pub NestedExpr : ℕ → PExpr → Spelling
+NestedExpr d e = Inside d (λ i. Expression i e)
 
 -- `in`, `out` and `in out`; no mode is `in` (6.1)
 abbrev pub Mode : ParMode → Spelling
@@ -51,12 +51,12 @@ AcceptHead d x = Key key.Accept ▷ Named x.entry ▷ Index d x.index ▷ Formal
 
 -- `[when expr =>]` before an alternative, one level deeper than it (9.7.1)
 abbrev pub Guard : ℕ → Option PExpr → Spelling
-Guard d g = IfThere g (λ e. Key key.When ▷ Operand d e ▷ Key key.Arrow)
+Guard d g = IfThere g (λ e. Key key.When ▷ NestedExpr d e ▷ Key key.Arrow)
 
 -- a string, which has no level, or an expression one level deeper than the statement (this project's PUT, after 14.3.6)
 abbrev pub IsPart : Source → ℕ → PPart → Spelling
 IsPart source d (PWords t at) = StringAt source t at
-IsPart source d (PValue e) = Operand d e
+IsPart source d (PValue e) = NestedExpr d e
 
 -- `( part {& part} )`
 abbrev pub PutText : Source → ℕ → List PPart → Spelling

@@ -124,10 +124,10 @@ last_place at [] = at
 last_place at (x ∷ more) = last_place x.span more
 
 -- the place of a piece goes from its first item to its last
-abbrev pub Stands : Span → List Item → Type 0
-Stands at [] = ⊥
-Stands at (x ∷ more) = at ≡ from_to x.span (last_place x.span more)
+abbrev pub IsPlaceOf : Span → List Item → Type 0
+IsPlaceOf at [] = ⊥
+IsPlaceOf at (x ∷ more) = at ≡ from_to x.span (last_place x.span more)
 
 -- this, at this place
 abbrev pub Placed : Span → Spelling → Spelling
-Placed at P text = P text × Stands at text
+Placed at P text = P text × IsPlaceOf at text

@@ -14,7 +14,7 @@ use Rattle.ada_tree.specs.PlainDecl.{PEntry, PPriority, PTask, PDecl, PDecls, DT
 use Rattle.ded_io.specs.Written.{◌⧺◌}
 use Rattle.ded_io.proofs.Writes.{joined_nil, joined_assoc}
 use Rattle.ada_printer.specs.Layout.{deeper, indent, word_text}
-use Rattle.ada_printer.specs.DeclText.{standing, entry_text, priorities_text, items_text, task_rest, unit_text, form_text as decl_form, decl_text, decls_text}
+use Rattle.ada_printer.specs.DeclText.{standing, entry_text, priorities_text, items_text, task_rest, unit_text, decl_form_text as decl_form, decl_text, decls_text}
 use Rattle.ada_printer.specs.ProgramText.{context_text}
 use Rattle.paged_output.specs.Pages.{Drawing, Drew}
 use Rattle.paged_output.proofs.Drawn.{drew_none, drew_then}

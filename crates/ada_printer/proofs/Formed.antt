@@ -8,7 +8,7 @@ use Rattle.ada_tree.specs.PlainStmt.{PCall, PScheme, PChoice, PHead, PStmt, SWai
 use Rattle.ded_io.specs.Written.{◌⧺◌}
 use Rattle.ada_printer.specs.Layout.{deeper, indent, separated, word_text, later_word}
 use Rattle.ada_printer.specs.ExprText.{expr_text}
-use Rattle.ada_printer.specs.StmtText.{call_text, head_text, delay_text, choice_text, caught_text, label_text, scheme_text, form_text, stmt_text, stmts_text, else_text, others_text, accept_text, alt_kind_text, alt_text, later_alt_text, alts_text, arm_text, later_arm_text, arms_text, case_arm_text, case_arms_text, body_text, handler_text, handlers_text}
+use Rattle.ada_printer.specs.StmtText.{call_text, head_text, delay_text, choice_text, caught_text, label_text, scheme_text, stmt_form_text, stmt_text, stmts_text, else_text, others_text, accept_text, alt_kind_text, alt_text, later_alt_text, alts_text, arm_text, later_arm_text, arms_text, case_arm_text, case_arms_text, body_text, handler_text, handlers_text}
 use Rattle.paged_output.specs.Pages.{Drawing, Drew}
 use Rattle.paged_output.proofs.Drawn.{drew_none, drew_then}
 use Rattle.ada_printer.proofs.Listed.{not_below_zero, not_below_one}
@@ -19,7 +19,7 @@ module _ (names : List (List ℕ)) (level : ℕ) where
   below : (n : ℕ) (k : PStmts) (a b : Drawing) → n ≡ deeper level → Drew a b (stmts_text names n k) → Drew a b (stmts_text names (deeper level) k)
   below n k a b e = subst (λ m. Drew a b (stmts_text names m k)) e
 
-  pub simple_there : (p q : PStmt) (a b c : Drawing) → p ≡ q → Drew a b (indent level) → Drew b c (form_text names level q) → Drew a c (stmt_text names level p)
+  pub simple_there : (p q : PStmt) (a b c : Drawing) → p ≡ q → Drew a b (indent level) → Drew b c (stmt_form_text names level q) → Drew a c (stmt_text names level p)
   simple_there p q a b c is front form = subst (λ r. Drew a c (stmt_text names level r)) (sym is) (drew_then a b c _ _ front form)
 
   pub wait_there : (p : PStmt) (x : PAlts) (o : PMaybe) (s : Span) (a b c d e f : Drawing) → p ≡ SWait x o s → Drew a b (indent level) → Drew b c (codes "select\n") → Drew c d (alts_text names level x) → Drew d e (else_text names level o) → Drew e f (indent level ⧺ codes "end select;\n") → Drew a f (stmt_text names level p)

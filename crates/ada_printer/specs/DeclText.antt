@@ -84,23 +84,23 @@ module _ (names : List (List ℕ)) where
 
   abbrev mutual
     -- a declaration behind the indentation of its first line
-    pub form_text : ℕ → PDecl → List ℕ
-    form_text level (DNumber w e s) = word_text names w ⧺ (codes " : constant := " ⧺ (expr_text names e ⧺ codes ";\n"))
-    form_text level (DObject ws c x i s) = words_text names ws ⧺ (codes " : " ⧺ (constant_text c ⧺ (shape_text x ⧺ (value_text i ⧺ codes ";\n"))))
-    form_text level (DEnumeration w ws s) = codes "type " ⧺ (word_text names w ⧺ (codes " is (" ⧺ (words_text names ws ⧺ codes ");\n")))
-    form_text level (DArray w range part s) = codes "type " ⧺ (word_text names w ⧺ (codes " is " ⧺ (array_text names range part ⧺ codes ";\n")))
-    form_text level (DSubtype w x s) = codes "subtype " ⧺ (word_text names w ⧺ (codes " is " ⧺ (subind_text names x ⧺ codes ";\n")))
-    form_text level (DException ws s) = words_text names ws ⧺ codes " : exception;\n"
-    form_text level (DIntIo w s) = codes "package " ⧺ (word_text names w ⧺ (codes " is new INTEGER_IO(INTEGER);\n" ⧺ (indent level ⧺ (codes "use " ⧺ (word_text names w ⧺ codes ";\n")))))
-    form_text level (DPragma e s) = pragma_text e
-    form_text level (DTask x s) = task_text level x
-    form_text level (DTaskBody w ds b s) = codes "task body " ⧺ (word_text names w ⧺ (codes " is\n" ⧺ (decls_text (deeper level) ds ⧺ unit_text level b w)))
+    pub decl_form_text : ℕ → PDecl → List ℕ
+    decl_form_text level (DNumber w e s) = word_text names w ⧺ (codes " : constant := " ⧺ (expr_text names e ⧺ codes ";\n"))
+    decl_form_text level (DObject ws c x i s) = words_text names ws ⧺ (codes " : " ⧺ (constant_text c ⧺ (shape_text x ⧺ (value_text i ⧺ codes ";\n"))))
+    decl_form_text level (DEnumeration w ws s) = codes "type " ⧺ (word_text names w ⧺ (codes " is (" ⧺ (words_text names ws ⧺ codes ");\n")))
+    decl_form_text level (DArray w range part s) = codes "type " ⧺ (word_text names w ⧺ (codes " is " ⧺ (array_text names range part ⧺ codes ";\n")))
+    decl_form_text level (DSubtype w x s) = codes "subtype " ⧺ (word_text names w ⧺ (codes " is " ⧺ (subind_text names x ⧺ codes ";\n")))
+    decl_form_text level (DException ws s) = words_text names ws ⧺ codes " : exception;\n"
+    decl_form_text level (DIntIo w s) = codes "package " ⧺ (word_text names w ⧺ (codes " is new INTEGER_IO(INTEGER);\n" ⧺ (indent level ⧺ (codes "use " ⧺ (word_text names w ⧺ codes ";\n")))))
+    decl_form_text level (DPragma e s) = pragma_text e
+    decl_form_text level (DTask x s) = task_text level x
+    decl_form_text level (DTaskBody w ds b s) = codes "task body " ⧺ (word_text names w ⧺ (codes " is\n" ⧺ (decls_text (deeper level) ds ⧺ unit_text level b w)))
 
     -- declarations, one behind the other
     pub decls_text : ℕ → PDecls → List ℕ
     decls_text level no_decl = []
-    decls_text level (decl_then x k) = (indent level ⧺ form_text level x) ⧺ decls_text level k
+    decls_text level (decl_then x k) = (indent level ⧺ decl_form_text level x) ⧺ decls_text level k
 
   -- a declaration
   abbrev pub decl_text : ℕ → PDecl → List ℕ
-  decl_text level x = indent level ⧺ form_text level x
+  decl_text level x = indent level ⧺ decl_form_text level x

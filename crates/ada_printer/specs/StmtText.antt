@@ -114,36 +114,36 @@ module _ (names : List (List ℕ)) where
   -- the texts of the parts of the family, at a level
   abbrev mutual
     -- a statement behind the indentation of its first line
-    pub form_text : ℕ → PStmt → List ℕ
-    form_text level (SNull s) = codes "null;\n"
-    form_text level (SAssign x e s) = target_text x ⧺ (codes " := " ⧺ (expr_text names e ⧺ codes ";\n"))
-    form_text level (SDelay d s) = delay_text d
-    form_text level (SExit w e s) = codes "exit" ⧺ (later_word names w ⧺ (when_text e ⧺ codes ";\n"))
-    form_text level (SRaise w s) = codes "raise" ⧺ (later_word names w ⧺ codes ";\n")
-    form_text level (SAbort cs s) = codes "abort " ⧺ (separated (codes ", ") callee_text cs ⧺ codes ";\n")
-    form_text level (SCall c s) = call_text c
-    form_text level (SAccept a s) = accept_text level a
-    form_text level (SWait x o s) = codes "select\n" ⧺ (alts_text level x ⧺ (else_text level o ⧺ (indent level ⧺ codes "end select;\n")))
-    form_text level (SConditional c k o s) =
+    pub stmt_form_text : ℕ → PStmt → List ℕ
+    stmt_form_text level (SNull s) = codes "null;\n"
+    stmt_form_text level (SAssign x e s) = target_text x ⧺ (codes " := " ⧺ (expr_text names e ⧺ codes ";\n"))
+    stmt_form_text level (SDelay d s) = delay_text d
+    stmt_form_text level (SExit w e s) = codes "exit" ⧺ (later_word names w ⧺ (when_text e ⧺ codes ";\n"))
+    stmt_form_text level (SRaise w s) = codes "raise" ⧺ (later_word names w ⧺ codes ";\n")
+    stmt_form_text level (SAbort cs s) = codes "abort " ⧺ (separated (codes ", ") callee_text cs ⧺ codes ";\n")
+    stmt_form_text level (SCall c s) = call_text c
+    stmt_form_text level (SAccept a s) = accept_text level a
+    stmt_form_text level (SWait x o s) = codes "select\n" ⧺ (alts_text level x ⧺ (else_text level o ⧺ (indent level ⧺ codes "end select;\n")))
+    stmt_form_text level (SConditional c k o s) =
         codes "select\n"
         ⧺ (called_text (deeper level) c (stmts_text (deeper level) k) ⧺ (otherwise_text level (stmts_text (deeper level) o) ⧺ (indent level ⧺ codes "end select;\n")))
-    form_text level (STimed c k d o s) =
+    stmt_form_text level (STimed c k d o s) =
         codes "select\n"
         ⧺ (called_text (deeper level) c (stmts_text (deeper level) k)
         ⧺ (indent level ⧺ (codes "or\n" ⧺ (delayed_text (deeper level) d (stmts_text (deeper level) o) ⧺ (indent level ⧺ codes "end select;\n")))))
-    form_text level (SPut ps s) = codes "PUT(" ⧺ (parts_text ps ⧺ codes ");\n")
-    form_text level (SPutLine ps s) = codes "PUT_LINE(" ⧺ (parts_text ps ⧺ codes ");\n")
-    form_text level (SNewLine s) = codes "NEW_LINE;\n"
-    form_text level (SGet x s) = codes "GET(" ⧺ (target_text x ⧺ codes ");\n")
-    form_text level (SIf x o s) = arms_text level x ⧺ (else_text level o ⧺ (indent level ⧺ codes "end if;\n"))
-    form_text level (SCase e x o s) = codes "case " ⧺ (expr_text names e ⧺ (codes " is\n" ⧺ (case_arms_text (deeper level) x ⧺ (others_text (deeper level) o ⧺ (indent level ⧺ codes "end case;\n")))))
-    form_text level (SBlock b s) = body_text level b ⧺ (indent level ⧺ codes "end;\n")
-    form_text level (SLoop w c k s) = label_text w ⧺ (scheme_text c ⧺ (codes "loop\n" ⧺ (stmts_text (deeper level) k ⧺ (indent level ⧺ (codes "end loop" ⧺ (later_word names w ⧺ codes ";\n"))))))
+    stmt_form_text level (SPut ps s) = codes "PUT(" ⧺ (parts_text ps ⧺ codes ");\n")
+    stmt_form_text level (SPutLine ps s) = codes "PUT_LINE(" ⧺ (parts_text ps ⧺ codes ");\n")
+    stmt_form_text level (SNewLine s) = codes "NEW_LINE;\n"
+    stmt_form_text level (SGet x s) = codes "GET(" ⧺ (target_text x ⧺ codes ");\n")
+    stmt_form_text level (SIf x o s) = arms_text level x ⧺ (else_text level o ⧺ (indent level ⧺ codes "end if;\n"))
+    stmt_form_text level (SCase e x o s) = codes "case " ⧺ (expr_text names e ⧺ (codes " is\n" ⧺ (case_arms_text (deeper level) x ⧺ (others_text (deeper level) o ⧺ (indent level ⧺ codes "end case;\n")))))
+    stmt_form_text level (SBlock b s) = body_text level b ⧺ (indent level ⧺ codes "end;\n")
+    stmt_form_text level (SLoop w c k s) = label_text w ⧺ (scheme_text c ⧺ (codes "loop\n" ⧺ (stmts_text (deeper level) k ⧺ (indent level ⧺ (codes "end loop" ⧺ (later_word names w ⧺ codes ";\n"))))))
 
     -- statements, one behind the other
     pub stmts_text : ℕ → PStmts → List ℕ
     stmts_text level no_stmt = []
-    stmts_text level (stmt_then x k) = (indent level ⧺ form_text level x) ⧺ stmts_text level k
+    stmts_text level (stmt_then x k) = (indent level ⧺ stmt_form_text level x) ⧺ stmts_text level k
 
     -- the else part of a statement at this level
     pub else_text : ℕ → PMaybe → List ℕ
@@ -224,7 +224,7 @@ module _ (names : List (List ℕ)) where
 
   -- a statement
   abbrev pub stmt_text : ℕ → PStmt → List ℕ
-  stmt_text level x = indent level ⧺ form_text level x
+  stmt_text level x = indent level ⧺ stmt_form_text level x
 
   -- an alternative behind another one
   abbrev pub later_alt_text : ℕ → PAlt → List ℕ

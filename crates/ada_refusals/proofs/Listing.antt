@@ -11,7 +11,7 @@ use Rattle.ada_refusals.proofs.SoonerLaws.{sooner_assoc, sooner_none}
 use Rattle.ada_refusals.proofs.Meeting.{met_none, met_append, joined, met_cons, met_one, before}
 use Rattle.std.proofs.lemmas.Grind.{flat_map-append}
 use Rattle.ada_tree.specs.Scope.{Scope}
-use Rattle.ada_tree.specs.Declaring.{inside}
+use Rattle.ada_tree.specs.Declaring.{inner_scope}
 use Rattle.common_lemmas.proofs.Lists.{rest_at}
 
 -- what is refused so far and what is refused from there on are all
@@ -55,16 +55,16 @@ one_flat f ys x y e = ap (λ z. ys ++ flat_map f (z ∷ [])) e ∙ ap (λ zs. ys
 
 grown : {A X : Type 0} (f : X → List Site) (g : A → X) (xs : List A) (i : ℕ) (x d : A) → i < length xs → x ≡ get_or xs i d
     → flat_map f (map g (take (i + 1) xs)) ≡ flat_map f (map g (take i xs)) ++ f (g x)
-grown f g xs i x d inside at =
-    ap (flat_map f) (map_more g xs i d inside)
+grown f g xs i x d inner_scope at =
+    ap (flat_map f) (map_more g xs i d inner_scope)
     ∙ flat_map-append f (map g (take i xs)) (g (get_or xs i d) ∷ [])
     ∙ one_flat f (flat_map f (map g (take i xs))) (g (get_or xs i d)) (g x) (ap g (sym at))
 
 -- the places of one member more
 pub met_more : {A X : Type 0} (f : X → List Site) (g : A → X) (xs : List A) (i : ℕ) (x d : A) (o p : Option Refusal) → i < length xs → x ≡ get_or xs i d
     → o ≡ refused_first (flat_map f (map g (take i xs))) → p ≡ refused_first (f (g x)) → sooner o p ≡ refused_first (flat_map f (map g (take (i + 1) xs)))
-met_more f g xs i x d o p inside at before here =
-    joined (flat_map f (map g (take i xs))) (f (g x)) o p before here ∙ ap refused_first (sym (grown f g xs i x d inside at))
+met_more f g xs i x d o p inner_scope at before here =
+    joined (flat_map f (map g (take i xs))) (f (g x)) o p before here ∙ ap refused_first (sym (grown f g xs i x d inner_scope at))
 
 pub taken : {A : Type 0} (xs : List A) (i : ℕ) → length xs ≤ i → take i xs ≡ xs
 taken xs i h = take_all i xs h
@@ -76,7 +76,7 @@ met_all f g xs i o done told = told ∙ ap (λ l. refused_first (flat_map f (map
 -- one turn of a walk that leaves the scope as it was
 pub turn : {A X : Type 0} (f : Scope → X → List Site) (g : A → X) (xs : List A) (i : ℕ) (x : A) (s now : Scope) (r o p : Option Refusal) → i < length xs → x ≡ get_or xs i x → now ≡ s
     → r ≡ sooner o p → o ≡ refused_first (flat_map (f s) (map g (take i xs))) → p ≡ refused_first (f now (g x)) → r ≡ refused_first (flat_map (f s) (map g (take (i + 1) xs)))
-turn f g xs i x s now r o p inside at same is before here = is ∙ met_more (f s) g xs i x x o p inside at before (here ∙ ap (λ z. refused_first (f z (g x))) same)
+turn f g xs i x s now r o p inner_scope at same is before here = is ∙ met_more (f s) g xs i x x o p inner_scope at before (here ∙ ap (λ z. refused_first (f z (g x))) same)
 
 pub ruleset lists = (met_none, met_cons, met_one, met_append, sooner_none)
 

@@ -11,7 +11,7 @@ use Rattle.syn_event.specs.declared.numbering.Mode.TheVariants as mode
 use Rattle.syn_event.specs.declared.limits.What.{What}
 use Rattle.syn_event.specs.declared.limits.What.TheVariants.{Name, Nesting, Tasks, Entries, Members, Components, Alternatives, Formals, Copies}
 use Rattle.syn_event.specs.Limits.{limit_of}
-use Rattle.syn_event.specs.RuleLimit.{OverAt, passed}
+use Rattle.syn_event.specs.RuleLimit.{OverAt, limit_passed}
 use Rattle.syn_event.specs.CheckRefusals.{CheckRefusal}
 use Rattle.syn_event.specs.CheckScope.{CheckScope, counts, CheckSite}
 use Rattle.syn_event.specs.CheckSites.{formal_names, numbered}
@@ -52,7 +52,7 @@ limit_below mode.Any Alternatives = refl
 limit_below mode.Any Formals = refl
 limit_below mode.Any Copies = tt
 
-passed_capped : (what : What) (l : Option ℕ) (b h : ℕ) (s : Span) → IsBelow l → passed what l (capped b) (capped h) s ≡ passed what l b h s
+passed_capped : (what : What) (l : Option ℕ) (b h : ℕ) (s : Span) → IsBelow l → limit_passed what l (capped b) (capped h) s ≡ limit_passed what l b h s
 passed_capped what (Some n) b h s le =
     let told : Bool → List OverAt = λ t. if t then record { over = record { what = what; limit = n }; span = s } ∷ [] else [] in
     ap told (over_same n b h (lt_is n many le))

@@ -19,7 +19,7 @@ use Rattle.syn_event.specs.RuleAbortOrder.{abort_order}
 use Rattle.syn_event.specs.RuleBodyMissing.{body_missing}
 use Rattle.syn_event.specs.RuleExitPlace.{exit_place}
 use Rattle.syn_event.specs.RuleRaisePlace.{raise_place}
-use Rattle.syn_event.specs.RuleLimit.{over_limit, passed}
+use Rattle.syn_event.specs.RuleLimit.{over_limit, limit_passed}
 use Rattle.syn_event.specs.Limits.{limit_of}
 use Rattle.ada_rules.specs.Sooner.{sooner, found, found_over}
 use Rattle.ada_rules.specs.RefusedFirst.{Standard, refused_first_at, refused_first}
@@ -63,7 +63,7 @@ pub at_needs : (by : Standard) (around : CheckScope) (bodies : List ℕ) (w : Wo
 unfolding refused_first_at
 at_needs by around bodies w s = sooner_none _
 
-pub at_counts : (by : Standard) (around : CheckScope) (what : What) (b h : ℕ) (s : Span) → refused_first_at by around (counts what b h s) ≡ found_over (passed what (limit_of by.mode what) b h s)
+pub at_counts : (by : Standard) (around : CheckScope) (what : What) (b h : ℕ) (s : Span) → refused_first_at by around (counts what b h s) ≡ found_over (limit_passed what (limit_of by.mode what) b h s)
 unfolding refused_first_at
 at_counts by around what b h s = refl
 

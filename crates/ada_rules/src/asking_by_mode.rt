@@ -4,9 +4,9 @@
 ghost use Rattle.std.specs.Prelude.{◌≡◌};
 ghost use Rattle.syn_event.specs.CheckScope.{CheckScope, declares, counts};
 ghost use Rattle.syn_event.specs.Limits.{original_limit, any_limit, limit_of};
-ghost use Rattle.syn_event.specs.Units.{text_of};
+ghost use Rattle.syn_event.specs.DeclaredTasks.{text_of};
 ghost use Rattle.syn_event.specs.RuleReservedName.{has_mark, is_reserved, reserved_in};
-ghost use Rattle.syn_event.specs.RuleLimit.{passed};
+ghost use Rattle.syn_event.specs.RuleLimit.{limit_passed};
 ghost use Rattle.ada_rules.specs.RefusedFirst.{Standard as By, refused_first_at};
 ghost use Rattle.ada_rules.specs.Sooner.{found, found_over};
 
@@ -71,7 +71,7 @@ fn refuse_passed(
     here: u64,
     span: Span,
 ) -> Option<Refusal>
-    ensures { result ≡ found_over (passed what limit before here span) }
+    ensures { result ≡ found_over (limit_passed what limit before here span) }
 {
     match limit {
         Some(limit) => {

@@ -4,11 +4,11 @@ use Rattle.std.specs.List.{list_any}
 use Rattle.std.specs.Option.{unwrap_or}
 use Rattle.std.proofs.Common.{sym, ap, ◌∙◌, add-one}
 use Rattle.ada_tree.specs.declared.naming.NameId.{NameId}
-use Rattle.ada_tree.specs.Scope.{Seen, entry_named, entries_of}
+use Rattle.ada_tree.specs.Scope.{NameMeaning, entry_named, entries_of}
 use Rattle.ada_scopes.specs.Denotations.{plain_thing, plain_names}
 use Rattle.ada_scopes.specs.declared.denotations.Thing.{Thing}
 
-abbrev pub has_one : NameId → Seen → Bool
+abbrev pub has_one : NameId → NameMeaning → Bool
 has_one id s = is_some (entry_named (entries_of s.thing) id)
 
 none_is_not : (t : Thing) → Some t ≡ None → ⊥
@@ -24,7 +24,7 @@ any_suc id (s ∷ rest) zero t h g =
 any_suc id (s ∷ rest) (suc i) t h g = any_suc id rest i t h g
 
 -- a name that has no such entry
-pub any_more : (id : NameId) (names : List (ℕ × Thing)) (seen : List Seen) (i : ℕ) (t : Thing) (all : Bool) → plain_names names ≡ seen
+pub any_more : (id : NameId) (names : List (ℕ × Thing)) (seen : List NameMeaning) (i : ℕ) (t : Thing) (all : Bool) → plain_names names ≡ seen
     → Some t ≡ option_map (λ s. s.1) (slice_get names i)
     → is_some (entry_named (entries_of (plain_thing t)) id) ≡ false
     → list_any (has_one id) (drop i seen) ≡ all
@@ -46,7 +46,7 @@ any_here id (s ∷ rest) zero t h g =
 any_here id (s ∷ rest) (suc i) t h g = any_here id rest i t h g
 
 -- and one that has it
-pub any_found : (id : NameId) (names : List (ℕ × Thing)) (seen : List Seen) (i : ℕ) (t : Thing) (all : Bool) → plain_names names ≡ seen
+pub any_found : (id : NameId) (names : List (ℕ × Thing)) (seen : List NameMeaning) (i : ℕ) (t : Thing) (all : Bool) → plain_names names ≡ seen
     → Some t ≡ option_map (λ s. s.1) (slice_get names i)
     → is_some (entry_named (entries_of (plain_thing t)) id) ≡ true
     → list_any (has_one id) (drop i seen) ≡ all
@@ -68,7 +68,7 @@ any_in id (s ∷ rest) (suc i) t h g =
     ∙ or_true (is_some (entry_named (entries_of (plain_thing s.1)) id))
 
 -- one that has it, wherever it is looked for
-pub any_at : (id : NameId) (names : List (ℕ × Thing)) (seen : List Seen) (i : ℕ) (t : Thing) → plain_names names ≡ seen
+pub any_at : (id : NameId) (names : List (ℕ × Thing)) (seen : List NameMeaning) (i : ℕ) (t : Thing) → plain_names names ≡ seen
     → Some t ≡ option_map (λ s. s.1) (slice_get names i)
     → is_some (entry_named (entries_of (plain_thing t)) id) ≡ true
     → list_any (has_one id) seen ≡ true

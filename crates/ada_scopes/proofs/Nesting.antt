@@ -4,12 +4,12 @@ use Rattle.std.proofs.Common.{sym, ap, ◌∙◌, subst, arith, length-append}
 use Rattle.std.proofs.lemmas.List.{take-map, drop-map, length-map}
 use Rattle.std.proofs.lemmas.Simd.{map-map}
 use Rattle.std.proofs.Math.Seq.{drop-append_seam}
-use Rattle.ada_tree.specs.Scope.{Scope, Seen}
+use Rattle.ada_tree.specs.Scope.{Scope, NameMeaning}
 use Rattle.ada_tree.specs.Scope as plain
 use Rattle.ada_tree.specs.Scope.{marking}
 use Rattle.ada_tree.specs.declared.naming.Word.{Word}
 use Rattle.ada_tree.specs.PlainStmt.{PFormal}
-use Rattle.ada_tree.specs.Declaring.{seen_as, with_name, with_names, inside, with_formals, formal_thing}
+use Rattle.ada_tree.specs.Declaring.{seen_as, with_name, with_names, inner_scope, with_formals, formal_thing}
 use Rattle.ada_scopes.specs.declared.denotations.Thing.{Thing}
 use Rattle.ada_scopes.specs.declared.scope.Outer.{Outer}
 use Rattle.ada_scopes.specs.Denotations.{plain_thing, plain_names}
@@ -19,7 +19,7 @@ use Rattle.common_lemmas.proofs.Numbers.{seam_at}
 -- the numbers of the innermost names
 here_names : (names : List (ℕ × Thing)) (n : ℕ) → map (λ s. s.0) (take n names) ≡ map (λ s. s.name) (take n (plain_names names))
 here_names names n =
-    let f : ℕ × Thing → Seen = λ s. record { name = s.0; thing = plain_thing s.1 } in
+    let f : ℕ × Thing → NameMeaning = λ s. record { name = s.0; thing = plain_thing s.1 } in
     sym (map-map (λ s. s.name) f (take n names)) ∙ ap (map (λ s. s.name)) (sym (take-map f n names))
 
 pub outer_is : (s : Scope) (names : List (ℕ × Thing)) (base count : ℕ) → s.names ≡ plain_names names → s.here ≡ map (λ x. x.0) (take (length names - base) names) → count ≡ length names → base ≤ length names → IsOuter s record { base = base; count = count }
@@ -34,7 +34,7 @@ outer_is s names base count named here counted within = record {
 }
 
 -- what is behind the new names
-behind_new : (s : Scope) (new : List Seen) (names : List (ℕ × Thing)) (count : ℕ) → count ≡ length s.names → plain_names names ≡ new ++ s.names → plain_names (drop (length names - count) names) ≡ s.names
+behind_new : (s : Scope) (new : List NameMeaning) (names : List (ℕ × Thing)) (count : ℕ) → count ≡ length s.names → plain_names names ≡ new ++ s.names → plain_names (drop (length names - count) names) ≡ s.names
 behind_new s new names count counted named =
     let many : length names ≡ length new + count = sym (length-map names _) ∙ ap length named ∙ length-append new s.names ∙ ap (λ n. length new + n) (sym counted) in
     sym (drop-map _ (length names - count) names)
@@ -61,7 +61,7 @@ outer_fits s inner outer is within =
     let many : length inner.names ≡ length within.0 + length s.names = ap length within.1 ∙ length-append within.0 s.names in
     omega (arith, many, is.count_is)
 
-pub within_inside : (s : Scope) → IsWithin (inside s) s
+pub within_inside : (s : Scope) → IsWithin (inner_scope s) s
 within_inside s = ([], refl)
 
 pub within_name : (s inner : Scope) (thing : plain.Thing) (w : Word) → IsWithin inner s → IsWithin (with_name thing inner w) s

@@ -4,7 +4,7 @@ use Rattle.std.proofs.Common.{ap, sym, ◌∙◌, get_or, arith}
 use Rattle.std.proofs.lemmas.List.{map_more, reverse-append}
 use Rattle.ada_tree.specs.declared.naming.NameId.{NameId}
 use Rattle.ada_tree.specs.TypeTable.{TypeTable}
-use Rattle.ada_tree.specs.Scope.{Scope, Seen, EntryPart}
+use Rattle.ada_tree.specs.Scope.{Scope, NameMeaning, EntryPart}
 use Rattle.ada_tree.specs.Declaring.{seen_as, predefined_types, predefined_names, before_all}
 use Rattle.ada_scopes.specs.declared.predefined.Predefined.{Predefined}
 use Rattle.ada_scopes.specs.declared.denotations.Thing.{Thing}
@@ -13,7 +13,7 @@ use Rattle.ada_scopes.specs.inner.Before.{thing_of, seen_last_first}
 
 last_first_more : (xs : List (NameId × Predefined)) (i : ℕ) (d : NameId × Predefined) → i < length xs → seen_last_first (take (i + 1) xs) ≡ seen_as (thing_of (get_or xs i d).1) (get_or xs i d).0.0 ∷ seen_last_first (take i xs)
 last_first_more xs i d h =
-    let f : NameId × Predefined → Seen = λ p. seen_as (thing_of p.1) p.0.0 in
+    let f : NameId × Predefined → NameMeaning = λ p. seen_as (thing_of p.1) p.0.0 in
     ap reverse (map_more f xs i d h) ∙ reverse-append (map f (take i xs)) (f (get_or xs i d) ∷ [])
 
 pub name_more : (names grown : List (ℕ × Thing)) (thing : Thing) (xs : List (NameId × Predefined)) (i : ℕ) (d : NameId × Predefined) → i < length xs
@@ -28,7 +28,7 @@ name_more names grown thing xs i d h grows means before =
 none_here : (names : List (ℕ × Thing)) (base : ℕ) → base ≡ length names → map (λ s. s.0) (take (length names - base) names) ≡ []
 none_here names base h = let none : length names - base ≡ 0 = omega (arith, h) in ap (λ n. map (λ s. s.0) (take n names)) none
 
-abbrev made_scope : TypeTable → List Seen → List ℕ → List EntryPart → List ℕ → Scope
+abbrev made_scope : TypeTable → List NameMeaning → List ℕ → List EntryPart → List ℕ → Scope
 made_scope types names here own bodies = record { types = types; names = names; here = here; in_main = true; own = own; bodies = bodies; has_instance = false }
 
 -- what can be used before a program begins

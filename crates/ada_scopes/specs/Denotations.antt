@@ -22,5 +22,5 @@ plain_thing AnotherUnit = scope.AnotherUnit
 plain_thing Unclear = scope.Unclear
 
 -- the names with what they mean
-abbrev pub plain_names : List (ℕ × Thing) → List scope.Seen
+abbrev pub plain_names : List (ℕ × Thing) → List scope.NameMeaning
 plain_names names = map (λ s. record { name = s.0; thing = plain_thing s.1 }) names

@@ -1,6 +1,6 @@
 -- A scope within another one.
 use Rattle.std.specs.Prelude.{◌≡◌, ◌≤◌, ◌-◌, ◌++◌, List, length, map, take}
-use Rattle.ada_tree.specs.Scope.{Scope, Seen}
+use Rattle.ada_tree.specs.Scope.{Scope, NameMeaning}
 use Rattle.ada_scopes.specs.declared.scope.Outer.{Outer}
 use Rattle.ada_scopes.specs.declared.scope.Outside.{Outside}
 
@@ -12,7 +12,7 @@ pub record IsOuter (scope : Scope) (outer : Outer) : Type 0 where
 
 -- names are declared behind those of another scope
 abbrev pub IsWithin : Scope → Scope → Type 0
-IsWithin inner outer = (names : List Seen) × (inner.names ≡ names ++ outer.names)
+IsWithin inner outer = (names : List NameMeaning) × (inner.names ≡ names ++ outer.names)
 
 -- what is left for a task body: the numbers of names, whether it was in main, and the entries of the task in whose body it was
 pub record IsOutside (scope : Scope) (outside : Outside) : Type 0 where

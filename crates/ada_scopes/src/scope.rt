@@ -2,7 +2,7 @@
 
 ghost use Rattle.std.specs.Prelude.{◌≡◌, ◌≤◌, ◌∷◌, [], true, false, length, option_map, IfOk, OnOk, OnErr};
 ghost use Rattle.ada_tree.specs.Scope.{is_entry_somewhere, meaning, Scope as PlainScope};
-ghost use Rattle.ada_tree.specs.Declaring.{before_all, with_name, with_types, inside, add_mark, add_kind};
+ghost use Rattle.ada_tree.specs.Declaring.{before_all, with_name, with_types, inner_scope, add_mark, add_kind};
 ghost use Rattle.ada_scopes.specs.Denotations.{plain_thing};
 ghost use Rattle.ada_scopes.specs.Makings.{add_constant};
 ghost use Rattle.ada_scopes.specs.Nested.{IsOuter, IsOutside, IsWithin};
@@ -155,7 +155,7 @@ impl Scope {
 
     /// Enters an inner scope, in which no name is declared yet.
     pub fn enter(&mut self) -> Outer
-        ensures scope { self.new ≡ inside self.old }
+        ensures scope { self.new ≡ inner_scope self.old }
         ensures outer { IsOuter self.old result }
     {
         let outer = Outer {

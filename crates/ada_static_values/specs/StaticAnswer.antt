@@ -3,7 +3,7 @@ use Rattle.std.specs.Prelude.{ℤ, Bool, true, false, Result, Ok, Err}
 use Rattle.ada_tree.specs.declared.naming.Span.{Span}
 use Rattle.ada_tree.specs.TypeTable.{TypeTable}
 use Rattle.ada_tree.specs.PlainExpr.{PExpr}
-use Rattle.ada_tree.specs.ExprTypes.{place_of}
+use Rattle.ada_tree.specs.ExprTypes.{expr_place}
 use Rattle.ada_tree.specs.StaticValue.{is_static, value_of}
 use Rattle.ada_refusals.specs.declared.errors.TypeError.{TypeError}
 use Rattle.ada_refusals.specs.declared.errors.TypeError.TheVariants.{NotStatic, RangeBad}
@@ -20,4 +20,4 @@ if_static false s r = Err (NotStatic s)
 
 -- The answer: the value of a static expression, RangeBad at an operation in it that raises, or NotStatic.
 abbrev pub static_answer : TypeTable → PExpr → Result ℤ TypeError
-static_answer types e = if_static (is_static types e) (place_of e) (value_of types e)
+static_answer types e = if_static (is_static types e) (expr_place e) (value_of types e)

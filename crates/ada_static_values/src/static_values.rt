@@ -13,15 +13,15 @@ use crate::operations::{apply, apply_one};
 use ada_refusals::errors::TypeError;
 use ada_tree::{BinaryOp, Expr, ExprKind, Kind, Mark, NameId, Span, Types};
 
-// 'FIRST and 'LAST.
-fn is_bound_word(word: NameId) -> bool
+/// Whether a word behind a tick is FIRST or LAST, which ask for a bound (3.5).
+pub fn is_bound_word(word: NameId) -> bool
     ensures { result ≡ is_bound (attribute_of word) }
 {
     word == NameId::FIRST || word == NameId::LAST
 }
 
-// 'POS, 'VAL, 'SUCC and 'PRED.
-fn is_static_word(word: NameId) -> bool
+/// Whether a word behind a tick is POS, VAL, SUCC or PRED, which are static of a static operand (3.5.5, 4.9).
+pub fn is_static_word(word: NameId) -> bool
     ensures { result ≡ keeps_static (attribute_of word) }
 {
     word == NameId::POS || word == NameId::VAL || word == NameId::SUCC || word == NameId::PRED

@@ -5,7 +5,7 @@ use Rattle.ada_tree.specs.WellPlaced.{OthersLast}
 use Rattle.ada_lexer.specs.declared.symbols.Symbol.TheVariants as key
 use Rattle.ada_expr_parser.specs.Grammar.{IsTarget, IsCallee, IsCall}
 use Rattle.ada_phrase_parser.specs.Spelling.{Source, Spelling, Nothing, Never, ◌▷◌, IfThere, Where, Key, Named, Predefined, Separated, Inside, Placed}
-use Rattle.ada_phrase_parser.specs.Phrases.{EndOf, Operand, Expression, AcceptHead, Guard, PutText, WhenChoices, WhenOthers, WhenRaised, IsScheme, LoopName, LoopNameAgain, DelayOf}
+use Rattle.ada_phrase_parser.specs.Phrases.{EndOf, NestedExpr, Expression, AcceptHead, Guard, PutText, WhenChoices, WhenOthers, WhenRaised, IsScheme, LoopName, LoopNameAgain, DelayOf}
 
 -- a variable or component, a task, and an entry call: an index or an argument is one level deeper than the statement (5.2, 9.5)
 abbrev pub Target : ℕ → PTarget → Spelling
@@ -26,12 +26,12 @@ module _ (source : Source) where
     -- `null ;` (5.1)
     IsStmt d (SNull s) = Placed s (Key key.Null ▷ Key key.Semicolon)
     -- `target := expr ;` (5.2)
-    IsStmt d (SAssign x e s) = Placed s (Target d x ▷ Key key.Becomes ▷ Operand d e ▷ Key key.Semicolon)
+    IsStmt d (SAssign x e s) = Placed s (Target d x ▷ Key key.Becomes ▷ NestedExpr d e ▷ Key key.Semicolon)
     -- `delay DURATION ;` (9.6)
     IsStmt d (SDelay n s) = Placed s (DelayOf n)
     -- `exit [NAME] [when expr] ;` (5.7)
     IsStmt d (SExit w e s) =
-        Placed s (Key key.Exit ▷ IfThere w Named ▷ IfThere e (λ test. Key key.When ▷ Operand d test) ▷ Key key.Semicolon)
+        Placed s (Key key.Exit ▷ IfThere w Named ▷ IfThere e (λ test. Key key.When ▷ NestedExpr d test) ▷ Key key.Semicolon)
     -- `raise [NAME] ;` (11.3)
     IsStmt d (SRaise w s) = Placed s (Key key.Raise ▷ IfThere w Named ▷ Key key.Semicolon)
     -- `abort callee {, callee} ;` (9.10)

@@ -9,7 +9,7 @@ use Rattle.ada_tree.specs.PlainProgram.{PProgram}
 use Rattle.syn_event.specs.declared.numbering.EntryInfo.{EntryInfo}
 use Rattle.syn_event.specs.declared.numbering.TaskInfo.{TaskInfo}
 use Rattle.syn_event.specs.Numbering.{Numbering}
-use Rattle.syn_event.specs.Numbered.{task_info, with_origins}
+use Rattle.syn_event.specs.AddedNames.{task_info, with_origins}
 use Rattle.syn_event.specs.NamedTasks.{NamedTasks, task_names_of, NumberedTask, numbered_task, numbers_on, tasks_of_name, numbered_tasks}
 use Rattle.syn_event.specs.AllNumbers.{info_of_task, entry_of_task, entries_of_tasks, all_numbers}
 use Rattle.ada_task_numbers.specs.inner.TasksWithin.{tasks_within}

@@ -5,11 +5,11 @@ ghost use Rattle.std.specs.Cmp.Lexicographic.{pointwise};
 ghost use Rattle.ada_tree.specs.PlainExpr.{plain_drange};
 ghost use Rattle.ada_tree.specs.PlainDecl.{plain_entry};
 ghost use Rattle.ada_tree.specs.PlainProgram.{plain_program};
-ghost use Rattle.syn_event.specs.Units.{text_of};
-ghost use Rattle.syn_event.specs.Numbered.{is_added_name, task_info, speaks_of, original_number, with_origin, with_origins};
+ghost use Rattle.syn_event.specs.DeclaredTasks.{text_of};
+ghost use Rattle.syn_event.specs.AddedNames.{is_added_name, task_info, speaks_of, original_number, with_origin, with_origins};
 ghost use Rattle.syn_event.specs.Extents.{count_to, size_of};
 ghost use Rattle.syn_event.specs.NamedTasks.{numbered_task, tasks_of_name};
-ghost use Rattle.syn_event.specs.AllNumbers.{info_of_task, entry_of_task, entries_of_tasks, family_extent, first_of, last_of, all_numbers};
+ghost use Rattle.syn_event.specs.AllNumbers.{info_of_task, entry_of_task, entries_of_tasks, family_extent, first_of, last_index, all_numbers};
 ghost use Rattle.ada_task_objects.specs.PlainNames.{plain_extent, plain_named_tasks};
 ghost use Rattle.ada_task_numbers.specs.inner.TasksWithin.{tasks_within};
 
@@ -101,7 +101,7 @@ fn first_of(x: Option<Extent>) -> i64
 
 // The last index of a family.
 fn last_of(x: Option<Extent>) -> i64
-    ensures { result ≡ last_of (option_map plain_extent x) }
+    ensures { result ≡ last_index (option_map plain_extent x) }
 {
     match x {
         Some(x) => x.last,

@@ -11,7 +11,7 @@ use Rattle.ada_tree.specs.TypeTable.{TypeTable}
 use Rattle.ada_tree.specs.PlainExpr.{PBounds, PSubind, PDrange, RGiven, RMarked}
 use Rattle.ada_tree.specs.PlainStmt.{PFormal}
 use Rattle.ada_tree.specs.PlainDecl.{PShape, OPlain, OArray, PInit, IOne, PEntry, PTask, PDecl, DNumber, DObject, DEnumeration, DArray, DSubtype, DException, DIntIo, DPragma, DTask, DTaskBody, PDecls, no_decl, decl_then}
-use Rattle.ada_tree.specs.Scope.{Scope, Seen, Thing, TypeMark, TaskType, SingleTask, TaskObject, TaskArray, Variable, ConstantObject, Parameter, LoopParameter, Literal, AnException, MainProcedure, AnotherUnit, Unclear, Range, Family, single, family, unclear, EntryPart, FormalPart, integer_kind, truth_kind, Marking, ScalarMark, ArrayMark, TaskMark, marking, scalar_kind, range_of_mark, mark_at, meaning, entries_of, and_then}
+use Rattle.ada_tree.specs.Scope.{Scope, NameMeaning, Thing, TypeMark, TaskType, SingleTask, TaskObject, TaskArray, Variable, ConstantObject, Parameter, LoopParameter, Literal, AnException, MainProcedure, AnotherUnit, Unclear, Range, Family, single, family, unclear, EntryPart, FormalPart, integer_kind, truth_kind, Marking, ScalarMark, ArrayMark, TaskMark, marking, scalar_kind, range_of_mark, mark_at, meaning, entries_of, and_then}
 use Rattle.ada_tree.specs.ExprTypes.{kind_of, static_in, static_range}
 
 -- ---- before all declarations
@@ -34,11 +34,11 @@ predefined_types = record {
 }
 
 -- a name with what it means (8.3)
-abbrev pub seen_as : Thing → ℕ → Seen
+abbrev pub seen_as : Thing → ℕ → NameMeaning
 seen_as thing name = record { name = name; thing = thing }
 
 -- the predefined names: four types and subtypes, two truth values, six exceptions, two packages and four procedures
-abbrev pub predefined_names : List Seen
+abbrev pub predefined_names : List NameMeaning
 predefined_names =
     seen_as (TypeMark 0) 0 ∷ seen_as (TypeMark 1) 1 ∷ seen_as (TypeMark 2) 2 ∷ seen_as (TypeMark 3) 3
     ∷ map (seen_as (Literal truth_kind)) (4 ∷ 5 ∷ [])
@@ -69,8 +69,8 @@ abbrev pub with_types : TypeTable → Scope → Scope
 with_types types scope = record scope { types = types }
 
 -- an inner scope, in which no name is declared yet
-abbrev pub inside : Scope → Scope
-inside scope = record scope { here = [] }
+abbrev pub inner_scope : Scope → Scope
+inner_scope scope = record scope { here = [] }
 
 -- ---- the table
 
@@ -140,10 +140,10 @@ made_array name types _ _ = made_none types
 -- ---- objects
 
 -- what an object is
-abbrev pub object_of : Bool → Option ℕ → Thing
-object_of true (Some m) = ConstantObject m
-object_of false (Some m) = Variable m
-object_of constant None = Unclear
+abbrev pub object_meaning : Bool → Option ℕ → Thing
+object_meaning true (Some m) = ConstantObject m
+object_meaning false (Some m) = Variable m
+object_meaning constant None = Unclear
 
 -- task objects are declared in main alone
 abbrev pub task_object : Bool → List EntryPart → Thing
@@ -162,12 +162,12 @@ pub record Declared : Type 0 where
 
 -- an object, constant or not, with the mark that was made for it and the table that it leaves (3.2.1)
 abbrev pub of_made : Bool → Made → Declared
-of_made constant m = record { types = m.types; thing = object_of constant m.mark }
+of_made constant m = record { types = m.types; thing = object_meaning constant m.mark }
 
 -- an object of a named type
 abbrev pub plain_object : Scope → Bool → Marking → PSubind → Declared
 plain_object scope constant (TaskMark entries) x = record { types = scope.types; thing = task_object scope.in_main entries }
-plain_object scope constant (ArrayMark m range part) x = record { types = scope.types; thing = object_of constant (Some m) }
+plain_object scope constant (ArrayMark m range part) x = record { types = scope.types; thing = object_meaning constant (Some m) }
 plain_object scope constant _ x = of_made constant (made_subind scope x)
 
 -- an object of an array type of its own
@@ -352,4 +352,4 @@ drange_kind scope (RMarked x) = scalar_kind (marking scope x.mark.name)
 
 -- the inner scope of a loop over a discrete range, in which its parameter is declared (5.5, 8.1)
 abbrev pub with_loop_parameter : Scope → Word → PDrange → Scope
-with_loop_parameter scope name range = with_name (loop_thing (and_then (first_mark_of scope.types) (drange_kind scope range))) (inside scope) name
+with_loop_parameter scope name range = with_name (loop_thing (and_then (first_mark_of scope.types) (drange_kind scope range))) (inner_scope scope) name

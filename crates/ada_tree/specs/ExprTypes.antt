@@ -12,15 +12,15 @@ use Rattle.ada_tree.specs.StaticValue.{is_static, value_of}
 use Rattle.ada_tree.specs.Scope.{Scope, integer_kind, truth_kind, Range, Reading, AsScalar, AsArray, reading, marking, scalar_kind, kind_of_mark, and_then}
 
 -- the place of an expression
-abbrev pub place_of : PExpr → Span
-place_of (EInteger n s) = s
-place_of (EName id s) = s
-place_of (EIndex w e s) = s
-place_of (EAttribute m w s) = s
-place_of (EAttributeOf m w e s) = s
-place_of (EParen e s) = s
-place_of (EUnary op e s) = s
-place_of (EBinary op l r s) = s
+abbrev pub expr_place : PExpr → Span
+expr_place (EInteger n s) = s
+expr_place (EName id s) = s
+expr_place (EIndex w e s) = s
+expr_place (EAttribute m w s) = s
+expr_place (EAttributeOf m w e s) = s
+expr_place (EParen e s) = s
+expr_place (EUnary op e s) = s
+expr_place (EBinary op l r s) = s
 
 -- an expression and all its parts, an outer one before its parts, the left one before the right
 abbrev pub nodes : PExpr → List PExpr

@@ -6,7 +6,7 @@ use Rattle.ada_tree.specs.PlainExpr.{PExpr, EName}
 use Rattle.ada_tree.specs.PlainStmt.{PTarget}
 use Rattle.ada_tree.specs.PlainDecl.{PInit, IOne, IList, IOthers}
 use Rattle.ada_tree.specs.Scope.{Scope, Reading, AsArray, reading}
-use Rattle.ada_tree.specs.ExprTypes.{place_of}
+use Rattle.ada_tree.specs.ExprTypes.{expr_place}
 use Rattle.ada_tree.specs.Demand.{Initialized, for_scalar, for_array, Demand, node, writes, is_actual, initializes}
 
 -- this place, where the name that stands there is an array's (3.6)
@@ -32,7 +32,7 @@ abbrev pub wrong_initial : Initialized → PInit → List Span
 wrong_initial for_scalar (IOne e) = []
 wrong_initial for_scalar (IList es s) = s ∷ []
 wrong_initial for_scalar (IOthers e s) = s ∷ []
-wrong_initial (for_array range) (IOne e) = place_of e ∷ []
+wrong_initial (for_array range) (IOne e) = expr_place e ∷ []
 wrong_initial (for_array range) (IList es s) = if int_eq (pos (length es)) (range.last -ℤ range.first +ℤ pos 1) then [] else s ∷ []
 wrong_initial (for_array range) (IOthers e s) = []
 

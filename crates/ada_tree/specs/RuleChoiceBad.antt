@@ -7,7 +7,7 @@ use Rattle.ada_tree.specs.declared.static_types.Kind.TheVariants.{Integer, Truth
 use Rattle.ada_tree.specs.PlainExpr.{PExpr, EName, EIndex}
 use Rattle.ada_tree.specs.PlainStmt.{PChoice}
 use Rattle.ada_tree.specs.Scope.{Scope, integer_kind, Range, Thing, Variable, ConstantObject, Parameter, LoopParameter, Reading, AsArray, reading, meaning, kind_at, range_of_mark, and_then}
-use Rattle.ada_tree.specs.ExprTypes.{place_of, kind_of, static_in, range_between}
+use Rattle.ada_tree.specs.ExprTypes.{expr_place, kind_of, static_in, range_between}
 use Rattle.ada_tree.specs.Demand.{Demand, chooses}
 
 -- all values of a scalar type
@@ -46,8 +46,8 @@ selected_range scope e = of_mark (mark_of_object scope e)
     of_mark None = and_then (λ k. range_of_kind k (kind_at scope.types k)) (kind_of scope e)
 
 -- the last bound of a choice, which is the first one where it is a single value
-abbrev pub last_of : PChoice → PExpr
-last_of choice = or_first choice.last
+abbrev pub last_bound : PChoice → PExpr
+last_bound choice = or_first choice.last
   where
     or_first : Option PExpr → PExpr
     or_first (Some e) = e
@@ -55,11 +55,11 @@ last_of choice = or_first choice.last
 
 -- the values of a choice of that kind, where they are static
 abbrev pub choice_range : Scope → ℕ → PChoice → Option Range
-choice_range scope k choice = range_between k (static_in scope k choice.first) (static_in scope k (last_of choice))
+choice_range scope k choice = range_between k (static_in scope k choice.first) (static_in scope k (last_bound choice))
 
 -- the place of a choice, from its first bound to its last (3.7.3)
 abbrev pub choice_span : PChoice → Span
-choice_span choice = record { start = (place_of choice.first).start; end = (place_of (last_of choice)).end }
+choice_span choice = record { start = (expr_place choice.first).start; end = (expr_place (last_bound choice)).end }
 
 -- two ranges have a value in common
 abbrev pub do_overlap : Range → Range → Bool
@@ -103,8 +103,8 @@ how_many (pos n) = n
 how_many (negsuc n) = 0
 
 -- the values of a range, in order
-abbrev pub values_of : Range → List ℤ
-values_of range = integers_from range.first (how_many (range.last -ℤ range.first +ℤ pos 1))
+abbrev pub values_in : Range → List ℤ
+values_in range = integers_from range.first (how_many (range.last -ℤ range.first +ℤ pos 1))
 
 -- the value lies in the range of a choice, where that range is known (5.4)
 abbrev pub is_covered : ℤ → Option Range → Bool
@@ -113,7 +113,7 @@ is_covered z None = false
 
 -- some value of the selector is in no choice
 abbrev pub leaves_out : Scope → ℕ → Option Range → List PChoice → Bool
-leaves_out scope k (Some values) choices = list_any (λ z. not (list_any (λ c. is_covered z (choice_range scope k c)) choices)) (values_of values)
+leaves_out scope k (Some values) choices = list_any (λ z. not (list_any (λ c. is_covered z (choice_range scope k c)) choices)) (values_in values)
 leaves_out scope k None choices = false
 
 -- the values that are left out of a case without others

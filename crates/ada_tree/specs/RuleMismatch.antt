@@ -6,12 +6,12 @@ use Rattle.ada_tree.specs.PlainExpr.{PExpr, EInteger, EName, EIndex, EAttribute,
 use Rattle.ada_tree.specs.PlainStmt.{PTarget}
 use Rattle.ada_tree.specs.Attributes.{Attribute, attribute_of, is_function}
 use Rattle.ada_tree.specs.Scope.{Scope, integer_kind, Thing, TaskType, SingleTask, TaskObject, TaskArray, MainProcedure, Unclear, Reading, AsScalar, AsArray, AsNoValue, reading, Marking, ScalarMark, ArrayMark, TaskMark, NoMark, UnknownMark, UnclearMark, marking, scalar_kind, meaning}
-use Rattle.ada_tree.specs.ExprTypes.{Operand, place_of, kind_of, takes, takes_one, is_taken, argument_kind, is_other_kind, component_kind}
+use Rattle.ada_tree.specs.ExprTypes.{Operand, expr_place, kind_of, takes, takes_one, is_taken, argument_kind, is_other_kind, component_kind}
 use Rattle.ada_tree.specs.Demand.{MarkUse, scalar_only, or_array, or_task, or_array_or_task, Demand, stands_as_mark, node, must_be_of, must_be_alike, writes, gets, addresses}
 
 -- an expression of another kind than asked; nothing is asked of one without a kind
 abbrev pub of_other_kind : Scope → Option ℕ → PExpr → List Span
-of_other_kind scope k e = if is_other_kind k (kind_of scope e) then place_of e ∷ [] else []
+of_other_kind scope k e = if is_other_kind k (kind_of scope e) then expr_place e ∷ [] else []
 
 -- a name that stands for a value and is none: a type, a task, an exception, a package or a procedure
 abbrev pub no_value : Reading → Span → List Span
@@ -53,8 +53,8 @@ is_misfit operand None = false
 -- the first operand that fits no form of its operator, and where each alone fits but not both together, the right one
 abbrev pub misfit_operand : Operand → Option ℕ → Option ℕ → PExpr → PExpr → List Span
 misfit_operand operand k l left right =
-    if is_misfit operand k then place_of left ∷ []
-    else if is_misfit operand l || is_other_kind k l then place_of right ∷ []
+    if is_misfit operand k then expr_place left ∷ []
+    else if is_misfit operand l || is_other_kind k l then expr_place right ∷ []
     else []
 
 -- what does not fit in an expression, apart from what does not fit within its parts (3.5.5, 4.1.1, 4.5)
@@ -65,7 +65,7 @@ mismatch_in_node scope (EIndex w e s) = no_value (reading scope w.name) w.span +
 mismatch_in_node scope (EAttribute m w s) = wrong_mark scalar_only scope m
 mismatch_in_node scope (EAttributeOf m w e s) = wrong_mark scalar_only scope m ++ misfit_argument scope (attribute_of w.name) (scalar_kind (marking scope m.name)) e
 mismatch_in_node scope (EParen e s) = []
-mismatch_in_node scope (EUnary op e s) = if is_misfit (takes_one op) (kind_of scope e) then place_of e ∷ [] else []
+mismatch_in_node scope (EUnary op e s) = if is_misfit (takes_one op) (kind_of scope e) then expr_place e ∷ [] else []
 mismatch_in_node scope (EBinary op l r s) = misfit_operand (takes op) (kind_of scope l) (kind_of scope r) l r
 
 -- the index behind a name

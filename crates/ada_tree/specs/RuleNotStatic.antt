@@ -3,10 +3,10 @@ use Rattle.std.specs.Prelude.{not, ◌&&◌, if◌then◌else◌, List, [], ◌�
 use Rattle.ada_tree.specs.declared.naming.Span.{Span}
 use Rattle.ada_tree.specs.StaticValue.{is_static}
 use Rattle.ada_tree.specs.Scope.{Scope}
-use Rattle.ada_tree.specs.ExprTypes.{place_of, kind_of}
+use Rattle.ada_tree.specs.ExprTypes.{expr_place, kind_of}
 use Rattle.ada_tree.specs.Demand.{Demand, must_be_static}
 
 -- The expressions that must be static and are not.
 abbrev pub not_static : Scope → Demand → List Span
-not_static scope (must_be_static e) = if is_some (kind_of scope e) && not (is_static scope.types e) then place_of e ∷ [] else []
+not_static scope (must_be_static e) = if is_some (kind_of scope e) && not (is_static scope.types e) then expr_place e ∷ [] else []
 not_static scope _ = []

@@ -4,7 +4,7 @@ use Rattle.ada_tree.specs.declared.naming.Span.{Span}
 use Rattle.ada_tree.specs.declared.statements.ParMode.TheVariants.{Take, Give, Both}
 use Rattle.ada_tree.specs.PlainExpr.{PExpr, EName, EIndex}
 use Rattle.ada_tree.specs.Scope.{Scope, Thing, Variable, Parameter, Unclear, Reading, AsArray, reading, meaning}
-use Rattle.ada_tree.specs.ExprTypes.{place_of}
+use Rattle.ada_tree.specs.ExprTypes.{expr_place}
 use Rattle.ada_tree.specs.Demand.{Demand, writes, is_actual}
 
 -- a variable, or a formal that can be written; of a name that is not declared, or whose declaration is refused, nothing is asked
@@ -41,7 +41,7 @@ written_name scope None r thing s = whole_written (is_array r) (is_variable thin
 abbrev pub written_actual : Scope → PExpr → List Span
 written_actual scope (EName id s) = written_name scope None (reading scope id) (meaning scope id) s
 written_actual scope (EIndex w e s) = w.span ∷ []
-written_actual scope e = place_of e ∷ []
+written_actual scope e = expr_place e ∷ []
 
 -- What is written and is no variable.
 abbrev pub not_variable : Scope → Demand → List Span

@@ -4,7 +4,7 @@ use Rattle.ada_tree.specs.declared.naming.Span.{Span}
 use Rattle.ada_tree.specs.PlainExpr.{PExpr, EInteger, EName, EIndex, EAttribute, EAttributeOf, EParen, EUnary, EBinary}
 use Rattle.ada_tree.specs.StaticValue.{is_static, value_of}
 use Rattle.ada_tree.specs.Scope.{Scope, Range, Thing, TaskArray, meaning}
-use Rattle.ada_tree.specs.ExprTypes.{place_of, kind_of, static_in}
+use Rattle.ada_tree.specs.ExprTypes.{expr_place, kind_of, static_in}
 use Rattle.ada_tree.specs.Demand.{Demand, whole, must_not_be_empty, must_lie_in, addresses}
 
 -- the expression has a kind and is static
@@ -34,7 +34,7 @@ is_below _ _ = false
 
 -- two static bounds of one kind of which the second is the smaller one, at the first
 abbrev pub empty_range : Scope → PExpr → PExpr → Option ℕ → List Span
-empty_range scope a b (Some k) = if is_below (static_in scope k b) (static_in scope k a) then place_of a ∷ [] else []
+empty_range scope a b (Some k) = if is_below (static_in scope k b) (static_in scope k a) then expr_place a ∷ [] else []
 empty_range scope a b None = []
 
 -- the value is known, and it lies outside the range (3.5)
@@ -44,7 +44,7 @@ is_outside range None = false
 
 -- a static value outside a range
 abbrev pub out_of : Scope → PExpr → Option Range → List Span
-out_of scope e (Some range) = if is_outside range (static_in scope range.kind e) then place_of e ∷ [] else []
+out_of scope e (Some range) = if is_outside range (static_in scope range.kind e) then expr_place e ∷ [] else []
 out_of scope e None = []
 
 -- the index range of an array of tasks

@@ -4,7 +4,7 @@ use Rattle.ada_tree.specs.declared.naming.Span.{Span}
 use Rattle.ada_tree.specs.PlainExpr.{PExpr, EAttribute, EAttributeOf, EParen}
 use Rattle.ada_tree.specs.Attributes.{attribute_of, is_image}
 use Rattle.ada_tree.specs.Scope.{Scope}
-use Rattle.ada_tree.specs.ExprTypes.{place_of}
+use Rattle.ada_tree.specs.ExprTypes.{expr_place}
 use Rattle.ada_tree.specs.Demand.{Demand, node, is_written}
 
 -- the expression is 'IMAGE
@@ -21,7 +21,7 @@ is_closed_image _ = false
 -- 'IMAGE as a node that is no part of a text
 abbrev pub image_in_node : Bool → PExpr → List Span
 image_in_node true e = []
-image_in_node false e = if is_image_of e then place_of e ∷ [] else []
+image_in_node false e = if is_image_of e then expr_place e ∷ [] else []
 
 -- a part of a text that is an expression: 'IMAGE, or alone in PUT a plain expression without 'IMAGE in parentheses
 abbrev pub is_fit_part : Bool → PExpr → Bool
@@ -34,5 +34,5 @@ is_fit_part alone e = is_image_of e || fits_alone alone
 -- Parts of texts that may not stand there, and 'IMAGE elsewhere.
 abbrev pub text_use : Scope → Demand → List Span
 text_use scope (node written e) = image_in_node written e
-text_use scope (is_written alone e) = if is_fit_part alone e then [] else place_of e ∷ []
+text_use scope (is_written alone e) = if is_fit_part alone e then [] else expr_place e ∷ []
 text_use scope _ = []

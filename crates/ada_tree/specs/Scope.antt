@@ -66,7 +66,7 @@ pub data Thing : Type 0 where
   Unclear : Thing
 
 -- a name with what it means
-pub record Seen : Type 0 where
+pub record NameMeaning : Type 0 where
   pub name : ℕ
   pub thing : Thing
 
@@ -75,7 +75,7 @@ pub record Scope : Type 0 where
   -- the types, marks and constants that are declared before
   pub types : TypeTable
   -- the names that are declared before, the innermost and latest first
-  pub names : List Seen
+  pub names : List NameMeaning
   -- those of the innermost scope
   pub here : List ℕ
   -- whether the place is in main, outside all bodies

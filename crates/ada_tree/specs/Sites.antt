@@ -11,7 +11,7 @@ use Rattle.ada_tree.specs.TypeTable.{TypeTable}
 use Rattle.ada_tree.specs.Scope.{Scope, integer_kind, truth_kind, Range, Thing, Variable, ConstantObject, TaskObject, TaskArray, Family, single, family, unclear, EntryPart, FormalPart, Marking, ScalarMark, ArrayMark, UnclearMark, marking, marking_of_mark, mark_at, scalar_kind, range_of_mark, meaning, entry_named}
 use Rattle.ada_tree.specs.ExprTypes.{nodes, kind_of}
 use Rattle.ada_tree.specs.Demand.{MarkUse, scalar_only, or_array, or_task, or_array_or_task, for_scalar, for_array, Demand, declares, declares_entry, labels, gives_body, makes_instance, stands_as_mark, whole, node, must_be_of, must_be_alike, must_be_static, must_not_be_empty, must_lie_in, writes, gets, is_actual, addresses, calls, accepts, names_exception, handles, chooses, initializes, is_written, Site}
-use Rattle.ada_tree.specs.Declaring.{before_all, first_scope, with_formals, with_loop_parameter, inside, in_body, after_decl, after_own_object, after_decls, after_objects, declared_object, Declared}
+use Rattle.ada_tree.specs.Declaring.{before_all, first_scope, with_formals, with_loop_parameter, inner_scope, in_body, after_decl, after_own_object, after_decls, after_objects, declared_object, Declared}
 use Rattle.ada_tree.specs.RuleTextUse.{is_image_of}
 use Rattle.ada_tree.specs.RuleMismatch.{target_kind}
 use Rattle.ada_tree.specs.RuleArgCount.{called_entry}
@@ -177,7 +177,7 @@ all_names formals = flat_map (λ f. f.names) formals
 
 -- the formals of an entry or an accept are a scope of their own
 abbrev pub formals_sites : Scope → List PFormal → List Site
-formals_sites scope formals = names_sites false (inside scope) (all_names formals) ++ formal_mark_sites scope formals
+formals_sites scope formals = names_sites false (inner_scope scope) (all_names formals) ++ formal_mark_sites scope formals
 
 -- the sites of an entry declaration (9.5): its name, its range where it is a family, and its formals
 abbrev pub entry_sites : Scope → List ℕ → PEntry → List Site
@@ -281,8 +281,8 @@ abbrev pub target_sites : Scope → PTarget → List Site
 target_sites scope t = site scope (writes t) ∷ if_there (expr_sites scope) t.index
 
 -- the sites of a condition (5.3): an expression that must be of BOOLEAN
-abbrev pub condition : Scope → PExpr → List Site
-condition scope e = expr_of scope (Some truth_kind) e
+abbrev pub condition_sites : Scope → PExpr → List Site
+condition_sites scope e = expr_of scope (Some truth_kind) e
 
 -- ---- cases
 
@@ -293,9 +293,9 @@ choice_sites scope k range c =
     ∷ if_there (λ e. static_of scope k e ++ site scope (must_lie_in e range) ∷ site scope (must_not_be_empty c.first e) ∷ []) c.last
 
 -- the choices of all arms, in order
-abbrev pub choices_of : PCaseArms → List PChoice
-choices_of no_case_arm = []
-choices_of (case_arm_then (case_arm choices l) rest) = choices ++ choices_of rest
+abbrev pub arm_choices : PCaseArms → List PChoice
+arm_choices no_case_arm = []
+arm_choices (case_arm_then (case_arm choices l) rest) = choices ++ arm_choices rest
 
 -- the statements that may be left out stand there
 abbrev pub is_present : PMaybe → Bool
@@ -318,8 +318,8 @@ with_words names (w ∷ ws) = with_words (w.name.0 ∷ names) ws
 
 -- the sites of an iteration scheme (5.5): the condition of a while loop, or the parameter and the range of a for loop
 abbrev pub scheme_sites : Scope → PScheme → List Site
-scheme_sites scope (LWhile e) = condition scope e
-scheme_sites scope (LFor w r x) = names_sites false (inside scope) (w ∷ []) ++ drange_sites false scope x
+scheme_sites scope (LWhile e) = condition_sites scope e
+scheme_sites scope (LFor w r x) = names_sites false (inner_scope scope) (w ∷ []) ++ drange_sites false scope x
 
 -- the statements of a for loop see its parameter
 abbrev pub loop_scope : Scope → Option PScheme → Scope
@@ -335,7 +335,7 @@ abbrev mutual
   stmt_sites scope (SNull s) = []
   stmt_sites scope (SAssign t e s) = target_sites scope t ++ expr_of scope (target_kind scope t) e
   stmt_sites scope (SDelay d s) = []
-  stmt_sites scope (SExit w e s) = if_there (condition scope) e
+  stmt_sites scope (SExit w e s) = if_there (condition_sites scope) e
   stmt_sites scope (SRaise w s) = if_there (λ x. site scope (names_exception x) ∷ []) w
   stmt_sites scope (SAbort cs s) = flat_map (callee_sites scope) cs
   stmt_sites scope (SCall c s) = call_sites scope c
@@ -349,7 +349,7 @@ abbrev mutual
   stmt_sites scope (SGet t s) = target_sites scope t ++ site scope (gets t) ∷ []
   stmt_sites scope (SIf x o s) = arms_sites scope x ++ maybe_sites scope o
   stmt_sites scope (SCase e x o s) =
-      site scope (chooses e (choices_of x) (is_present o) s)
+      site scope (chooses e (arm_choices x) (is_present o) s)
       ∷ expr_sites scope e
       ++ case_arms_sites scope (kind_of scope e) (selected_range scope e) x
       ++ maybe_sites scope o
@@ -368,12 +368,12 @@ abbrev mutual
 
   -- an accept: its statements see its formals
   pub accept_sites : Scope → PAccept → List Site
-  accept_sites scope (accepting h o) = head_sites scope h ++ maybe_sites (with_formals (inside scope) h.formals) o
+  accept_sites scope (accepting h o) = head_sites scope h ++ maybe_sites (with_formals (inner_scope scope) h.formals) o
 
   -- the sites of the alternatives of a selective wait (9.7.1): of each its guard, where it has one, and what stands in it
   pub alts_sites : Scope → PAlts → List Site
   alts_sites scope no_alt = []
-  alts_sites scope (alt_then (alternative g x s) l) = if_there (condition scope) g ++ alt_sites scope x ++ alts_sites scope l
+  alts_sites scope (alt_then (alternative g x s) l) = if_there (condition_sites scope) g ++ alt_sites scope x ++ alts_sites scope l
 
   -- the sites of what stands in an alternative of a selective wait, without its guard (9.7.1)
   pub alt_sites : Scope → PAltKind → List Site
@@ -384,7 +384,7 @@ abbrev mutual
   -- the sites of the arms of an if statement (5.3): the condition and the statements of each
   pub arms_sites : Scope → PArms → List Site
   arms_sites scope no_arm = []
-  arms_sites scope (arm_then (arm e l) rest) = condition scope e ++ stmts_sites scope l ++ arms_sites scope rest
+  arms_sites scope (arm_then (arm e l) rest) = condition_sites scope e ++ stmts_sites scope l ++ arms_sites scope rest
 
   -- the sites of the arms of a case statement (5.4): the choices, by the selector's kind and range, and the statements of each
   pub case_arms_sites : Scope → Option ℕ → Option Range → PCaseArms → List Site
@@ -428,7 +428,7 @@ decl_sites scope (DTask t s) = task_sites scope t
 decl_sites scope (DTaskBody name objects its s) =
     site scope (gives_body name)
     ∷ own_sites (in_body scope name) objects
-    ++ body_sites (inside (after_objects (in_body scope name) objects)) its
+    ++ body_sites (inner_scope (after_objects (in_body scope name) objects)) its
 
 -- the sites of declarations of main, each in the scope after those before it (3.9)
 abbrev pub decls_sites : Scope → PDecls → List Site
@@ -440,4 +440,4 @@ abbrev pub sites : PProgram → List Site
 sites p =
     names_sites true before_all (p.name ∷ [])
     ++ decls_sites (first_scope p.name) p.decls
-    ++ body_sites (inside (after_decls (first_scope p.name) p.decls)) p.body
+    ++ body_sites (inner_scope (after_decls (first_scope p.name) p.decls)) p.body

@@ -20,9 +20,9 @@ use Rattle.ada_types.specs.declared.statements.CaseHead.{CaseHead}
 use Rattle.ada_tree.specs.PlainExpr.{PExpr, plain_expr}
 use Rattle.ada_tree.specs.PlainStmt.{PCall, PHead, SCase, accepting, absent, present, maybe_of, plain_stmt, plain_formal, plain_accept, plain_arm, plain_case_arm, plain_handler, PStmt, PAlt, alternative, PArm, arm, PCaseArm, case_arm, PHandler, handler, stmts_of, alts_of, arms_of, case_arms_of, handlers_of}
 use Rattle.ada_tree.specs.Scope.{Scope, Range}
-use Rattle.ada_tree.specs.Declaring.{inside, with_formals}
+use Rattle.ada_tree.specs.Declaring.{inner_scope, with_formals}
 use Rattle.ada_tree.specs.Demand.{Site, names_exception, handles, chooses}
-use Rattle.ada_tree.specs.Sites.{expr_sites, choices_of, head_sites, accept_sites, call_sites, site, if_there, condition, stmt_sites, stmts_sites, alt_sites, alts_sites, arms_sites, choice_sites, case_arms_sites, handler_names_sites, handlers_sites, with_words}
+use Rattle.ada_tree.specs.Sites.{expr_sites, arm_choices, head_sites, accept_sites, call_sites, site, if_there, condition_sites, stmt_sites, stmts_sites, alt_sites, alts_sites, arms_sites, choice_sites, case_arms_sites, handler_names_sites, handlers_sites, with_words}
 use Rattle.ada_refusals.specs.RefusedFirst.{refused_first, refused_first_at}
 use Rattle.ada_refusals.specs.Sooner.{sooner}
 use Rattle.ada_types.specs.inner.SitesOfMembers.{each_alt, each_arm, each_case_arm, exception_sites, each_handler, IsCaseHead}
@@ -37,11 +37,11 @@ stmts_flat scope (x ∷ xs) = ap (λ l. stmt_sites scope x ++ l) (stmts_flat sco
 
 pub alts_flat : (scope : Scope) (xs : List PAlt) → alts_sites scope (alts_of xs) ≡ flat_map (each_alt scope) xs
 alts_flat scope [] = refl
-alts_flat scope (alternative g x s ∷ xs) = ap (λ l. (if_there (condition scope) g ++ alt_sites scope x) ++ l) (alts_flat scope xs)
+alts_flat scope (alternative g x s ∷ xs) = ap (λ l. (if_there (condition_sites scope) g ++ alt_sites scope x) ++ l) (alts_flat scope xs)
 
 pub arms_flat : (scope : Scope) (xs : List PArm) → arms_sites scope (arms_of xs) ≡ flat_map (each_arm scope) xs
 arms_flat scope [] = refl
-arms_flat scope (arm e l ∷ xs) = ap (λ r. (condition scope e ++ stmts_sites scope l) ++ r) (arms_flat scope xs)
+arms_flat scope (arm e l ∷ xs) = ap (λ r. (condition_sites scope e ++ stmts_sites scope l) ++ r) (arms_flat scope xs)
 
 pub case_arms_flat : (scope : Scope) (k : Option ℕ) (range : Option Range) (xs : List PCaseArm) → case_arms_sites scope k range (case_arms_of xs) ≡ flat_map (each_case_arm scope k range) xs
 case_arms_flat scope k range [] = refl
@@ -55,8 +55,8 @@ map_same (x ∷ xs) = ap (λ l. x ∷ l) (map_same xs)
 
 pub exceptions_more : (scope : Scope) (ws : List Word) (i : ℕ) (d : Word) (o p : Option Refusal) → i < length ws → o ≡ refused_first (flat_map (exception_sites scope) (take i ws)) → p ≡ refused_first_at scope (names_exception (get_or ws i d))
     → sooner o p ≡ refused_first (flat_map (exception_sites scope) (take (i + 1) ws))
-exceptions_more scope ws i d o p inside before here =
-    met_more (exception_sites scope) (λ w. w) ws i (get_or ws i d) d o p inside refl
+exceptions_more scope ws i d o p inner_scope before here =
+    met_more (exception_sites scope) (λ w. w) ws i (get_or ws i d) d o p inner_scope refl
     (before ∙ ap (λ l. refused_first (flat_map (exception_sites scope) l)) (sym (map_same (take i ws))))
     (here ∙ sym (met_one scope (names_exception (get_or ws i d))))
     ∙ ap (λ l. refused_first (flat_map (exception_sites scope) l)) (map_same (take (i + 1) ws))
@@ -81,11 +81,11 @@ handlers_flat scope names (handler ws l s ∷ xs) =
 
 -- ---- statements that hold others, by what is told of their parts
 
-pub arm_told : (s : Scope) (x : Arm) (list : List Stmt) (r a b : Option Refusal) → r ≡ sooner a b → list ≡ (out-Arm x).stmts.items → a ≡ refused_first (condition s (plain_expr (out-Arm x).test)) → b ≡ refused_first (stmts_sites s (stmts_of (map plain_stmt list)))
+pub arm_told : (s : Scope) (x : Arm) (list : List Stmt) (r a b : Option Refusal) → r ≡ sooner a b → list ≡ (out-Arm x).stmts.items → a ≡ refused_first (condition_sites s (plain_expr (out-Arm x).test)) → b ≡ refused_first (stmts_sites s (stmts_of (map plain_stmt list)))
     → r ≡ refused_first (each_arm s (plain_arm x))
 arm_told s x list r a b is same p q =
     is
-    ∙ joined (condition s (plain_expr (out-Arm x).test)) (stmts_sites s (stmts_of (map plain_stmt (out-Arm x).stmts.items))) a b p (q ∙ ap (λ l. refused_first (stmts_sites s (stmts_of (map plain_stmt l)))) same)
+    ∙ joined (condition_sites s (plain_expr (out-Arm x).test)) (stmts_sites s (stmts_of (map plain_stmt (out-Arm x).stmts.items))) a b p (q ∙ ap (λ l. refused_first (stmts_sites s (stmts_of (map plain_stmt l)))) same)
     ∙ ap (λ y. refused_first (each_arm s y)) (sym (plain_arm-out x))
 
 pub handler_told : (s : Scope) (x : Handler) (names : List Word) (list : List Stmt) (r a b : Option Refusal) → r ≡ sooner a b → names ≡ (out-Handler x).names.items → list ≡ (out-Handler x).stmts.items
@@ -102,12 +102,12 @@ head_with x formals = record { entry = (out-Accept x).entry; index = option_map 
 
 pub accept_told : (s : Scope) (x : Accept) (v : Vec Stmt Global) (heads formals : List Formal) (list : List Stmt) (r a b : Option Refusal) → (out-Accept x).stmts ≡ Some v → r ≡ sooner a b
     → heads ≡ (out-Accept x).formals.items → formals ≡ (out-Accept x).formals.items → list ≡ v.items
-    → a ≡ refused_first (head_sites s (head_with x heads)) → b ≡ refused_first (stmts_sites (with_formals (inside s) (map plain_formal formals)) (stmts_of (map plain_stmt list))) → r ≡ refused_first (accept_sites s (plain_accept x))
+    → a ≡ refused_first (head_sites s (head_with x heads)) → b ≡ refused_first (stmts_sites (with_formals (inner_scope s) (map plain_formal formals)) (stmts_of (map plain_stmt list))) → r ≡ refused_first (accept_sites s (plain_accept x))
 accept_told s x v heads formals list r a b some is h f l p q =
     is
-    ∙ joined (head_sites s (head_with x (out-Accept x).formals.items)) (stmts_sites (with_formals (inside s) (map plain_formal (out-Accept x).formals.items)) (stmts_of (map plain_stmt v.items))) a b
+    ∙ joined (head_sites s (head_with x (out-Accept x).formals.items)) (stmts_sites (with_formals (inner_scope s) (map plain_formal (out-Accept x).formals.items)) (stmts_of (map plain_stmt v.items))) a b
     (p ∙ ap (λ y. refused_first (head_sites s (head_with x y))) h)
-    (q ∙ ap (λ y. refused_first (stmts_sites (with_formals (inside s) (map plain_formal y)) (stmts_of (map plain_stmt list)))) f ∙ ap (λ y. refused_first (stmts_sites (with_formals (inside s) (map plain_formal (out-Accept x).formals.items)) (stmts_of (map plain_stmt y)))) l)
+    (q ∙ ap (λ y. refused_first (stmts_sites (with_formals (inner_scope s) (map plain_formal y)) (stmts_of (map plain_stmt list)))) f ∙ ap (λ y. refused_first (stmts_sites (with_formals (inner_scope s) (map plain_formal (out-Accept x).formals.items)) (stmts_of (map plain_stmt y)))) l)
     ∙ ap (λ o. refused_first (accept_sites s (accepting (head_with x (out-Accept x).formals.items) (maybe_of (option_map (λ w. map plain_stmt w.items) o))))) (sym some)
     ∙ ap (λ y. refused_first (accept_sites s y)) (sym (plain_accept-out x))
 
@@ -131,26 +131,26 @@ branches_told s now x behind other vb vo r ab a b c is inner same is_b is_o p q 
 -- the places of a case before its others
 abbrev case_before : Scope → PExpr → List CaseArm → Bool → Span → List Site
 case_before s e arms others span =
-    (site s (chooses e (choices_of (case_arms_of (map plain_case_arm arms))) others span) ∷ expr_sites s e)
+    (site s (chooses e (arm_choices (case_arms_of (map plain_case_arm arms))) others span) ∷ expr_sites s e)
     ++ case_arms_sites s (kind_of s e) (selected_range s e) (case_arms_of (map plain_case_arm arms))
 
 case_told : (s : Scope) (e : PExpr) (arms va vb : List CaseArm) (given others : Bool) (span : Span) (h : CaseHead) (r inner : Option Refusal) → r ≡ sooner h.refusal inner → va ≡ arms → vb ≡ arms → given ≡ others
-    → IsCaseHead (site s (chooses e (choices_of (case_arms_of (map plain_case_arm va))) given span) ∷ expr_sites s e) s e h
+    → IsCaseHead (site s (chooses e (arm_choices (case_arms_of (map plain_case_arm va))) given span) ∷ expr_sites s e) s e h
     → inner ≡ refused_first (case_arms_sites s h.kind (option_map plain_range h.values) (case_arms_of (map plain_case_arm vb)))
     → r ≡ refused_first (case_before s e arms others span)
 case_told s e arms va vb given others span h r inner is is_a is_b is_o head q =
     is
-    ∙ joined (site s (chooses e (choices_of (case_arms_of (map plain_case_arm arms))) others span) ∷ expr_sites s e) (case_arms_sites s (kind_of s e) (selected_range s e) (case_arms_of (map plain_case_arm arms))) h.refusal inner
+    ∙ joined (site s (chooses e (arm_choices (case_arms_of (map plain_case_arm arms))) others span) ∷ expr_sites s e) (case_arms_sites s (kind_of s e) (selected_range s e) (case_arms_of (map plain_case_arm arms))) h.refusal inner
     (head.refusal_is
-    ∙ ap (λ l. refused_first (site s (chooses e (choices_of (case_arms_of (map plain_case_arm l))) given span) ∷ expr_sites s e)) is_a
-    ∙ ap (λ b. refused_first (site s (chooses e (choices_of (case_arms_of (map plain_case_arm arms))) b span) ∷ expr_sites s e)) is_o)
+    ∙ ap (λ l. refused_first (site s (chooses e (arm_choices (case_arms_of (map plain_case_arm l))) given span) ∷ expr_sites s e)) is_a
+    ∙ ap (λ b. refused_first (site s (chooses e (arm_choices (case_arms_of (map plain_case_arm arms))) b span) ∷ expr_sites s e)) is_o)
     (q
     ∙ ap (λ l. refused_first (case_arms_sites s h.kind (option_map plain_range h.values) (case_arms_of (map plain_case_arm l)))) is_b
     ∙ ap (λ k. refused_first (case_arms_sites s k (option_map plain_range h.values) (case_arms_of (map plain_case_arm arms)))) head.kind_is
     ∙ ap (λ v. refused_first (case_arms_sites s (kind_of s e) v (case_arms_of (map plain_case_arm arms)))) head.values_are)
 
 pub case_alone : (s : Scope) (e : PExpr) (arms va vb : List CaseArm) (given : Bool) (span : Span) (h : CaseHead) (r inner : Option Refusal) → r ≡ sooner h.refusal inner → va ≡ arms → vb ≡ arms → given ≡ false
-    → IsCaseHead (site s (chooses e (choices_of (case_arms_of (map plain_case_arm va))) given span) ∷ expr_sites s e) s e h
+    → IsCaseHead (site s (chooses e (arm_choices (case_arms_of (map plain_case_arm va))) given span) ∷ expr_sites s e) s e h
     → inner ≡ refused_first (case_arms_sites s h.kind (option_map plain_range h.values) (case_arms_of (map plain_case_arm vb)))
     → r ≡ refused_first (stmt_sites s (SCase e (case_arms_of (map plain_case_arm arms)) absent span))
 case_alone s e arms va vb given span h r inner is is_a is_b is_o head q =
@@ -158,7 +158,7 @@ case_alone s e arms va vb given span h r inner is is_a is_b is_o head q =
 
 pub case_others : (s now : Scope) (e : PExpr) (arms va vb : List CaseArm) (list vl : List Stmt) (given : Bool) (span : Span) (h : CaseHead) (r hi inner rest : Option Refusal) → r ≡ sooner hi rest → hi ≡ sooner h.refusal inner
     → va ≡ arms → vb ≡ arms → vl ≡ list → given ≡ true → now ≡ s
-    → IsCaseHead (site s (chooses e (choices_of (case_arms_of (map plain_case_arm va))) given span) ∷ expr_sites s e) s e h
+    → IsCaseHead (site s (chooses e (arm_choices (case_arms_of (map plain_case_arm va))) given span) ∷ expr_sites s e) s e h
     → inner ≡ refused_first (case_arms_sites s h.kind (option_map plain_range h.values) (case_arms_of (map plain_case_arm vb)))
     → rest ≡ refused_first (stmts_sites now (stmts_of (map plain_stmt vl)))
     → r ≡ refused_first (stmt_sites s (SCase e (case_arms_of (map plain_case_arm arms)) (present (stmts_of (map plain_stmt list))) span))

@@ -9,7 +9,7 @@ use Rattle.ada_tree.specs.PlainStmt.{PPart, PWords, PValue}
 use Rattle.ada_tree.specs.Attributes.{Attribute, First, Last, Pos, Val, Succ, Pred, Image, NoAttribute, attribute_of, is_image}
 use Rattle.ada_tree.specs.Refusals.{Refusal}
 use Rattle.ada_tree.specs.Scope.{Scope, integer_kind, scalar_kind, marking}
-use Rattle.ada_tree.specs.ExprTypes.{kind_of, attribute_kind, place_of, nodes}
+use Rattle.ada_tree.specs.ExprTypes.{kind_of, attribute_kind, expr_place, nodes}
 use Rattle.ada_tree.specs.Demand.{node, whole, is_written, must_be_of}
 use Rattle.ada_tree.specs.StaticValue.{is_static, value_of}
 use Rattle.ada_tree.specs.RuleUnknown.{unknown_in_node}
@@ -35,7 +35,7 @@ node_alike scope e h =
     (sooner (found 3 (mismatch_in_node scope e))
     (sooner (found 7 (read_name scope e))
     (sooner (found 8 (arg_count_in_node scope e))
-    (sooner (found 10 (array_in_node scope e)) (sooner (found 11 (if b then place_of e ∷ [] else [])) None)))))) (sym h)
+    (sooner (found 10 (array_in_node scope e)) (sooner (found 11 (if b then expr_place e ∷ [] else [])) None)))))) (sym h)
 
 nodes_alike : (scope : Scope) (e : PExpr) (rest : List PExpr) → is_image_of e ≡ false
     → refused_first (site scope (node true e) ∷ map (λ n. site scope (node false n)) rest) ≡ refused_first (map (λ n. site scope (node false n)) (e ∷ rest))
@@ -108,11 +108,11 @@ image_written scope m w e s p q r h is_p is_q is_r =
     (before scope (node true (EAttributeOf m w e s)) (map (λ n. site scope (node false n)) (nodes e)) q r is_q (is_r ∙ parts_are_met scope e))
 
 -- what may be no part of a text
-pub unfit_met : (scope : Scope) (alone : Bool) (e : PExpr) → is_fit_part alone e ≡ false → found 11 (place_of e ∷ []) ≡ refused_first_at scope (is_written alone e)
-unfit_met scope alone e h = ap (λ b. sooner (found 11 (if b then [] else place_of e ∷ [])) None) (sym h)
+pub unfit_met : (scope : Scope) (alone : Bool) (e : PExpr) → is_fit_part alone e ≡ false → found 11 (expr_place e ∷ []) ≡ refused_first_at scope (is_written alone e)
+unfit_met scope alone e h = ap (λ b. sooner (found 11 (if b then [] else expr_place e ∷ [])) None) (sym h)
 
 pub fit_met : (scope : Scope) (alone : Bool) (e : PExpr) → is_fit_part alone e ≡ true → None ≡ refused_first_at scope (is_written alone e)
-fit_met scope alone e h = ap (λ b. sooner (found 11 (if b then [] else place_of e ∷ [])) None) (sym h)
+fit_met scope alone e h = ap (λ b. sooner (found 11 (if b then [] else expr_place e ∷ [])) None) (sym h)
 
 -- a plain expression alone in PUT
 pub alone_met : (scope : Scope) (alone : Bool) (e : PExpr) (p : Option Refusal) → alone ≡ true → is_image_of e ≡ false → p ≡ refused_first_at scope (must_be_of e (Some integer_kind)) → p ≡ refused_first (plain_part_sites scope alone e)

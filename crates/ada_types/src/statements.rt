@@ -6,8 +6,8 @@ ghost use Rattle.ada_tree.specs.PlainExpr.{plain_expr, plain_drange};
 ghost use Rattle.ada_tree.specs.PlainStmt.{plain_target, plain_callee, plain_part, plain_scheme, plain_accept, plain_alt, plain_alt_kind, plain_arm, plain_case_arm, plain_handler, plain_body, plain_stmt, plain_formal, stmts_of, alts_of, arms_of, case_arms_of, handlers_of};
 ghost use Rattle.ada_tree.specs.RuleMismatch.{target_kind};
 ghost use Rattle.ada_tree.specs.Demand.{names_exception, chooses};
-ghost use Rattle.ada_tree.specs.Declaring.{with_formals, with_loop_parameter, inside};
-ghost use Rattle.ada_tree.specs.Sites.{site, expr_sites, choices_of, if_there, condition, target_sites, expr_of, callee_sites, part_sites, drange_sites, handler_names_sites, stmt_sites, stmts_sites, accept_sites, alts_sites, alt_sites, arms_sites, case_arms_sites, body_sites, handlers_sites, scheme_sites, loop_scope};
+ghost use Rattle.ada_tree.specs.Declaring.{with_formals, with_loop_parameter, inner_scope};
+ghost use Rattle.ada_tree.specs.Sites.{site, expr_sites, arm_choices, if_there, condition_sites, target_sites, expr_of, callee_sites, part_sites, drange_sites, handler_names_sites, stmt_sites, stmts_sites, accept_sites, alts_sites, alt_sites, arms_sites, case_arms_sites, body_sites, handlers_sites, scheme_sites, loop_scope};
 ghost use Rattle.ada_refusals.specs.RefusedFirst.{refused_first, refused_first_at};
 ghost use Rattle.ada_scopes.specs.Entries.{plain_range};
 ghost use Rattle.ada_types.specs.inner.SitesOfMembers.{each_alt, each_arm, each_case_arm, each_handler, IsCaseHead};
@@ -33,14 +33,14 @@ use std::alloc::{AllocError, Global};
 
 // A condition.
 fn walk_condition(scope: &Scope, test: &Expr) -> Option<Refusal>
-    ensures { result ≡ refused_first (condition scope.now (plain_expr test.now)) }
+    ensures { result ≡ refused_first (condition_sites scope.now (plain_expr test.now)) }
 {
     walk_of(scope, Some(TRUTH), test).refusal
 }
 
 // A condition that may be left out.
 fn walk_test(scope: &Scope, test: &Option<Expr>) -> Option<Refusal>
-    ensures { result ≡ refused_first (if_there (condition scope.now) (option_map plain_expr test.now)) }
+    ensures { result ≡ refused_first (if_there (condition_sites scope.now) (option_map plain_expr test.now)) }
 {
     match test {
         Some(test) => walk_condition(scope, test),
@@ -122,7 +122,7 @@ fn walk_inner(
     list: &[Stmt],
 ) -> Result<Option<Refusal>, AllocError>
     ensures kept { OnOk result (scope.new ≡ scope.old) }
-    ensures told { IfOk result (λ r. r ≡ refused_first (stmts_sites (with_formals (inside scope.old) (map plain_formal formals.now)) (stmts_of (map plain_stmt list.now)))) }
+    ensures told { IfOk result (λ r. r ≡ refused_first (stmts_sites (with_formals (inner_scope scope.old) (map plain_formal formals.now)) (stmts_of (map plain_stmt list.now)))) }
 {
     let outer = scope.enter();
     declare_formals(scope, formals)?;
@@ -271,7 +271,7 @@ fn walk_selector(
     others: bool,
     span: Span,
 ) -> Result<CaseHead, AllocError>
-    ensures { IfOk result (IsCaseHead (site scope.now (chooses (plain_expr selector.now) (choices_of (case_arms_of (map plain_case_arm arms.now))) others span) ∷ expr_sites scope.now (plain_expr selector.now)) scope.now (plain_expr selector.now)) }
+    ensures { IfOk result (IsCaseHead (site scope.now (chooses (plain_expr selector.now) (arm_choices (case_arms_of (map plain_case_arm arms.now))) others span) ∷ expr_sites scope.now (plain_expr selector.now)) scope.now (plain_expr selector.now)) }
 {
     let whole = refuse_choices(alloc, scope, selector, arms, others, span)?;
     let walked = walk(scope, selector);

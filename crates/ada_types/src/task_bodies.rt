@@ -5,7 +5,7 @@ ghost use Rattle.ada_tree.specs.PlainStmt.{plain_body};
 ghost use Rattle.ada_tree.specs.PlainDecl.{plain_decl, decls_of};
 ghost use Rattle.ada_tree.specs.Scope.{meaning, entries_of};
 ghost use Rattle.ada_tree.specs.Demand.{gives_body};
-ghost use Rattle.ada_tree.specs.Declaring.{inside, in_body, own_entries, after_own_object, after_objects};
+ghost use Rattle.ada_tree.specs.Declaring.{inner_scope, in_body, own_entries, after_own_object, after_objects};
 ghost use Rattle.ada_tree.specs.Sites.{site, own_object_sites, own_sites, body_sites};
 ghost use Rattle.ada_refusals.specs.RefusedFirst.{refused_first, refused_first_at};
 ghost use Rattle.ada_scopes.specs.Denotations.{plain_thing};
@@ -112,7 +112,7 @@ pub(crate) fn walk_inside(
     body: &Body,
 ) -> Result<Option<Refusal>, AllocError>
     ensures kept { OnOk result (scope.new ≡ scope.old) }
-    ensures told { IfOk result (λ r. r ≡ refused_first (body_sites (inside scope.old) (plain_body body.now))) }
+    ensures told { IfOk result (λ r. r ≡ refused_first (body_sites (inner_scope scope.old) (plain_body body.now))) }
 {
     let outer = scope.enter();
     let refusal = walk_body(scope, alloc, body)?;
@@ -128,7 +128,7 @@ pub(crate) fn walk_task_body(
     objects: &[Decl],
     body: &Body,
 ) -> Result<WalkedDecl, AllocError>
-    ensures { IfOk result (IsDecl (site scope (gives_body name) ∷ own_sites (in_body scope name) (decls_of (map plain_decl objects.now)) ++ body_sites (inside (after_objects (in_body scope name) (decls_of (map plain_decl objects.now)))) (plain_body body.now)) (after_body scope name (decls_of (map plain_decl objects.now))) false) }
+    ensures { IfOk result (IsDecl (site scope (gives_body name) ∷ own_sites (in_body scope name) (decls_of (map plain_decl objects.now)) ++ body_sites (inner_scope (after_objects (in_body scope name) (decls_of (map plain_decl objects.now)))) (plain_body body.now)) (after_body scope name (decls_of (map plain_decl objects.now))) false) }
 {
     let no_body = refuse_no_body(&scope, name);
     let own = own_entries(&scope, alloc, name.name)?;

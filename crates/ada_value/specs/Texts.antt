@@ -41,19 +41,19 @@ image names types (Truth b) = if b then codes "TRUE" else codes "FALSE"
 image names types (Place k n) = literal_text names (slice_get types.kinds k) n
 
 -- the text of an expression as a part: that of an 'IMAGE, and else of an integer
-abbrev pub expr_text : List (List ℕ) → TypeTable → Variables → PExpr → Result (List ℕ) Raised
-expr_text names types vars (EAttributeOf m w e s) =
+abbrev pub expr_output : List (List ℕ) → TypeTable → Variables → PExpr → Result (List ℕ) Raised
+expr_output names types vars (EAttributeOf m w e s) =
     if is_image (attribute_of w.name)
     then and_then (evaluated types vars e) (λ v. Ok (image names types v))
     else and_then (evaluated types vars (EAttributeOf m w e s)) (λ v. Ok (integer_text (position_of v)))
-expr_text names types vars e = and_then (evaluated types vars e) (λ v. Ok (integer_text (position_of v)))
+expr_output names types vars e = and_then (evaluated types vars e) (λ v. Ok (integer_text (position_of v)))
 
 -- the text of a part: its own words, or that of its value
-abbrev pub part_text : List (List ℕ) → TypeTable → Variables → PPart → Result (List ℕ) Raised
-part_text names types vars (PWords text s) = Ok text
-part_text names types vars (PValue e) = expr_text names types vars e
+abbrev pub part_output : List (List ℕ) → TypeTable → Variables → PPart → Result (List ℕ) Raised
+part_output names types vars (PWords text s) = Ok text
+part_output names types vars (PValue e) = expr_output names types vars e
 
 -- The text of the parts of a PUT, which are all evaluated, in order, before any of them is written (this project's rule).
-abbrev pub parts_text : List (List ℕ) → TypeTable → Variables → List PPart → Result (List ℕ) Raised
-parts_text names types vars [] = Ok []
-parts_text names types vars (x ∷ rest) = and_then (part_text names types vars x) (λ a. and_then (parts_text names types vars rest) (λ b. Ok (a ++ b)))
+abbrev pub parts_output : List (List ℕ) → TypeTable → Variables → List PPart → Result (List ℕ) Raised
+parts_output names types vars [] = Ok []
+parts_output names types vars (x ∷ rest) = and_then (part_output names types vars x) (λ a. and_then (parts_output names types vars rest) (λ b. Ok (a ++ b)))

@@ -107,8 +107,8 @@ abbrev pub is_empty_range : Limits → Bool
 is_empty_range limits = int_lt limits.last limits.first
 
 -- The lower bound of a subtype, as a value.
-abbrev pub lower : TypeTable → Limits → Value
-lower types limits = value_at types limits.kind limits.first
+abbrev pub lower_bound : TypeTable → Limits → Value
+lower_bound types limits = value_at types limits.kind limits.first
 
 -- A value as it goes to a variable or formal of a subtype: outside it CONSTRAINT_ERROR is raised (3.3, 5.2, 6.4.1).
 abbrev pub checked : Limits → Value → Result Value Raised

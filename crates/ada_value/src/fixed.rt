@@ -90,8 +90,8 @@ fn literal_value(types: &Types, name: NameId) -> Option<Value>
     None
 }
 
-// The value of a named number or constant.
-fn constant_value(types: &Types, constant: Constant) -> Value
+/// The value of a named number or constant of the main procedure (3.2).
+pub fn constant_value(types: &Types, constant: Constant) -> Value
     ensures { result ≡ constant_value types.now constant }
 {
     value_at(

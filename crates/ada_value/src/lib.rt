@@ -16,13 +16,13 @@ mod values;
 
 pub use bindings::{Binding, Scope, Vars};
 pub use evaluating::{bounds, condition, evaluate, narrowed, range};
-pub use fixed::{fixed_value, limits_named};
+pub use fixed::{constant_value, fixed_value, limits_named};
 pub use inputs::Inputs;
 pub use naming::NameValues;
 pub use scoped::eval;
 pub use static_law::law_of_static_values;
 pub use subtypes::{
     checked, form_of_mark, integer_limits, is_empty_range, is_true, lies_in, limits_of,
-    limits_of_kind, lower, place_among, place_in, position_of, truth_limits, value_at,
+    limits_of_kind, lower, place_among, place_in, position_of, truth_limits, value_at, word,
 };
 pub use values::{Form, Limits, Raised, Value};

@@ -5,7 +5,7 @@ ghost use Rattle.std.specs.Bool.{OnTrue};
 ghost use Rattle.std.specs.Int.{w64};
 ghost use Rattle.ada_tree.specs.Scope.{mark_at};
 ghost use Rattle.ada_tree.specs.StaticValue.{is_of_kind};
-ghost use Rattle.ada_value.specs.Values.{position_of, is_true_value, number, word, placed, value_at, based, limits_of, limits_or, integer_limits, truth_limits, limits_of_kind, lies_in, is_empty_range, lower, checked, place_in};
+ghost use Rattle.ada_value.specs.Values.{position_of, is_true_value, number, word, placed, value_at, based, limits_of, limits_or, integer_limits, truth_limits, limits_of_kind, lies_in, is_empty_range, lower_bound, checked, place_in};
 ghost use Rattle.ada_value.specs.Variables.{form_of_kind, form_of_mark, place_among};
 ghost use Rattle.ada_value.specs.inner.Bindings.{form_or};
 
@@ -41,8 +41,8 @@ fn number(position: i64) -> Value
     }
 }
 
-// A place of 32 bits; one that has more is 0.
-pub(crate) fn word(place: u64) -> u32
+/// A place or position as 32 bits; one that has more is 0.
+pub fn word(place: u64) -> u32
     ensures { result ≡ word place }
 {
     if place <= 4294967295 { place as u32 } else { 0 }
@@ -172,7 +172,7 @@ pub fn is_empty_range(limits: Limits) -> bool
 
 /// The lower bound of a subtype, as a value.
 pub fn lower(types: &Types, limits: Limits) -> Value
-    ensures { result ≡ lower types.now limits }
+    ensures { result ≡ lower_bound types.now limits }
 {
     value_at(types, limits.kind, limits.first)
 }

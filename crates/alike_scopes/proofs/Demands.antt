@@ -10,7 +10,7 @@ use Rattle.ada_tree.specs.declared.statements.ParMode.TheVariants.{Take, Give, B
 use Rattle.ada_tree.specs.PlainExpr.{PExpr, EInteger, EName, EIndex, EAttribute, EAttributeOf, EParen, EUnary, EBinary}
 use Rattle.ada_tree.specs.PlainStmt.{PTarget, PChoice, PHead}
 use Rattle.ada_tree.specs.Scope.{Scope, Range, integer_kind, reading, marking, meaning, entry_named, is_entry_somewhere}
-use Rattle.ada_tree.specs.ExprTypes.{place_of, kind_of, is_other_kind}
+use Rattle.ada_tree.specs.ExprTypes.{expr_place, kind_of, is_other_kind}
 use Rattle.ada_tree.specs.Demand.{MarkUse, declares, declares_entry, labels, gives_body, makes_instance, stands_as_mark, whole, node, must_be_of, must_be_alike, must_be_static, must_not_be_empty, must_lie_in, writes, gets, is_actual, addresses, calls, accepts, names_exception, handles, chooses, initializes, is_written}
 use Rattle.ada_tree.specs.Sites.{site}
 use Rattle.ada_tree.specs.RuleMismatch.{of_other_kind}
@@ -67,7 +67,7 @@ module _ (old : ℕ → Bool) (s t : Scope) (n : SameNames old s t) where
       record {
         known = refl;
         matched = refl;
-        static = empty-too (ap₂ (λ k b. if is_some k && not b then place_of e ∷ [] else []) x.kind x.static) h.static;
+        static = empty-too (ap₂ (λ k b. if is_some k && not b then expr_place e ∷ [] else []) x.kind x.static) h.static;
         ranged = refl;
         variable = refl;
         readable = refl;
@@ -79,7 +79,7 @@ module _ (old : ℕ → Bool) (s t : Scope) (n : SameNames old s t) where
       }
 
   empty-same : (a b : PExpr) (k : Option ℕ) → IsOldExpr old a → IsOldExpr old b → empty_range s a b k ≡ empty_range t a b k
-  empty-same a b (Some k) o p = ap₂ (λ x y. if is_below x y then place_of a ∷ [] else []) (static-in-same old s t n k b p) (static-in-same old s t n k a o)
+  empty-same a b (Some k) o p = ap₂ (λ x y. if is_below x y then expr_place a ∷ [] else []) (static-in-same old s t n k b p) (static-in-same old s t n k a o)
   empty-same a b None o p = refl
 
   empty-met : (a b : PExpr) → IsOldExpr old a → IsOldExpr old b → IsMetBut (site s (must_not_be_empty a b)) → IsMetBut (site t (must_not_be_empty a b))
@@ -98,7 +98,7 @@ module _ (old : ℕ → Bool) (s t : Scope) (n : SameNames old s t) where
   }
 
   out-same : (e : PExpr) (r : Option Range) → IsOldExpr old e → out_of s e r ≡ out_of t e r
-  out-same e (Some r) o = ap (λ z. if is_outside r z then place_of e ∷ [] else []) (static-in-same old s t n r.kind e o)
+  out-same e (Some r) o = ap (λ z. if is_outside r z then expr_place e ∷ [] else []) (static-in-same old s t n r.kind e o)
   out-same e None o = refl
 
   lie-met : (e : PExpr) (r : Option Range) → IsOldExpr old e → IsMetBut (site s (must_lie_in e r)) → IsMetBut (site t (must_lie_in e r))

@@ -7,8 +7,8 @@ use Rattle.ada_tree.specs.declared.naming.Word.{Word}
 use Rattle.ada_tree.specs.declared.static_types.Kind.TheVariants.{Integer, Truth}
 use Rattle.ada_tree.specs.PlainExpr.{PExpr, EInteger, EName, EIndex, PSubind, PBounds, RGiven}
 use Rattle.ada_tree.specs.PlainDecl.{OPlain, OArray, DObject, DTask, PDecls, decls_of}
-use Rattle.ada_tree.specs.Scope.{Scope, Range, Thing, Variable, Literal, AnException, AnotherUnit, Seen, meaning, reading, AsArray, range_of_mark}
-use Rattle.ada_tree.specs.Declaring.{predefined_types, first_scope, after_decls, in_body, inside, after_objects}
+use Rattle.ada_tree.specs.Scope.{Scope, Range, Thing, Variable, Literal, AnException, AnotherUnit, NameMeaning, meaning, reading, AsArray, range_of_mark}
+use Rattle.ada_tree.specs.Declaring.{predefined_types, first_scope, after_decls, in_body, inner_scope, after_objects}
 use Rattle.ada_tree.specs.Demand.{node}
 use Rattle.ada_tree.specs.Sites.{site}
 use Rattle.rewritten_types.specs.Agreement.{IsScalar}
@@ -47,10 +47,10 @@ abbrev added : PDecls
 added = decls_of (DObject (w 40 ∷ []) false (OPlain (ranged 1 9)) None at ∷ [])
 
 abbrev left : Scope
-left = inside (after_objects before_objects objects)
+left = inner_scope (after_objects before_objects objects)
 
 abbrev right : Scope
-right = inside (after_objects (after_objects before_objects added) objects)
+right = inner_scope (after_objects (after_objects before_objects added) objects)
 
 -- the names of the program
 abbrev old : ℕ → Bool
@@ -73,7 +73,7 @@ part_right = refl
 -- ---- the scopes are alike
 
 -- what holds of each thing that a scope has, and of none, holds of what a name means
-pub meant : (P : Option Thing → Type 0) (names : List Seen) (id : NameId) → P None → AllByRecursion (λ x. P (Some x.thing)) names → P (option_map (λ x. x.thing) (find (λ x. x.name == id.0) names))
+pub meant : (P : Option Thing → Type 0) (names : List NameMeaning) (id : NameId) → P None → AllByRecursion (λ x. P (Some x.thing)) names → P (option_map (λ x. x.thing) (find (λ x. x.name == id.0) names))
 meant P [] id none h = none
 meant P (x ∷ xs) id none h = by_test (x.name == id.0) (meant P xs id none h.1)
   where
@@ -100,7 +100,7 @@ raised = same_exception refl refl
 literal : Self (Some (Literal 1))
 literal = same_literal 1 refl refl (Truth, refl)
 
-pub all_self : AllByRecursion (λ (x : Seen). Self (Some x.thing)) before_objects.names
+pub all_self : AllByRecursion (λ (x : NameMeaning). Self (Some x.thing)) before_objects.names
 all_self = (no_values (a_task [] refl) (a_task [] refl), (no_values (the_procedure refl) (the_procedure refl), (same_type 0 0 refl refl (number_mark 0 _ refl refl), (same_type 1 1 refl refl (number_mark 1 _ refl refl), (same_type 2 2 refl refl (number_mark 2 _ refl refl), (same_type 3 3 refl refl truth_mark, (literal, (literal, (raised, (raised, (raised, (raised, (raised, (raised, (unit, (unit, (unit, (unit, (unit, (unit, tt))))))))))))))))))))
 
 start : Alike old before_objects before_objects

@@ -12,7 +12,7 @@ use Rattle.ada_tree.specs.PlainExpr.{PDrange}
 use Rattle.ada_tree.specs.PlainStmt.{PFormal}
 use Rattle.ada_tree.specs.PlainDecl.{PShape, PInit, PDecl, DNumber, DObject, DEnumeration, DArray, DSubtype, DException, DIntIo, DPragma, DTask, DTaskBody, PDecls, no_decl, decl_then}
 use Rattle.ada_tree.specs.Scope.{Scope, Range, Unclear, Marking, marking, and_then}
-use Rattle.ada_tree.specs.Declaring.{with_names, with_types, inside, Declared, declared_object, with_constants, after_object, after_own_object, after_objects, formal_thing, with_formals, first_mark_of, loop_thing, drange_kind, with_loop_parameter}
+use Rattle.ada_tree.specs.Declaring.{with_names, with_types, inner_scope, Declared, declared_object, with_constants, after_object, after_own_object, after_objects, formal_thing, with_formals, first_mark_of, loop_thing, drange_kind, with_loop_parameter}
 use Rattle.rewritten_types.specs.Agreement.{IsScalar}
 use Rattle.rewritten_types.specs.Rewriting.{IsNew, AreAdded}
 use Rattle.rewritten_types.proofs.Adding.{names-main, keeps-shape}
@@ -183,7 +183,7 @@ module _ (old : ℕ → Bool) (s t : Scope) (n : SameNames old s t) where
 
   loop-names : (w : Word) (x : PDrange) → IsOldDrange old x → SameNames old (with_loop_parameter s w x) (with_loop_parameter t w x)
   loop-names w x o =
-      name-both old (inside s) (inside t) _ _ w (record { types = n.types; things = n.things })
+      name-both old (inner_scope s) (inner_scope t) _ _ w (record { types = n.types; things = n.things })
       (loop-of (drange_kind s x) (drange_kind t x) (drange-same old s t n x o).kind (drange-scalar old s t n x o))
 
 -- ---- the laws

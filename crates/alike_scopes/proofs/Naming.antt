@@ -6,8 +6,8 @@ use Rattle.common_lemmas.proofs.Truth.{clash}
 use Rattle.ada_tree.specs.declared.naming.NameId.{NameId}
 use Rattle.ada_tree.specs.declared.naming.Word.{Word}
 use Rattle.ada_tree.specs.TypeTable.{TypeTable}
-use Rattle.ada_tree.specs.Scope.{Scope, Seen, Thing, meaning, entry_named}
-use Rattle.ada_tree.specs.Declaring.{seen_as, with_name, with_names, with_types, inside}
+use Rattle.ada_tree.specs.Scope.{Scope, NameMeaning, Thing, meaning, entry_named}
+use Rattle.ada_tree.specs.Declaring.{seen_as, with_name, with_names, with_types, inner_scope}
 use Rattle.rewritten_types.specs.Agreement.{Keeps}
 use Rattle.rewritten_types.specs.Rewriting.{IsNew}
 use Rattle.rewritten_types.proofs.Keeping.{keeps-self}
@@ -16,7 +16,7 @@ use Rattle.alike_scopes.proofs.Marks.{thing-grown}
 use Rattle.alike_scopes.proofs.Tables.{types-kept}
 
 -- what is meant by the first of two names, by the test whether it is the one asked for
-abbrev meant : Bool → Thing → ℕ → Option Seen → Option Thing
+abbrev meant : Bool → Thing → ℕ → Option NameMeaning → Option Thing
 meant b x k o = option_map (λ s. s.thing) (if b then Some (seen_as x k) else o)
 
 -- what a name means hangs on its number alone
@@ -33,7 +33,7 @@ module _ (old : ℕ → Bool) where
     things = λ id o. by_test (w.name.0 == id.0) (find (λ z. z.name == id.0) s.names) (find (λ z. z.name == id.0) t.names) (n.things id o);
   }
     where
-      by_test : (b : Bool) (p q : Option Seen) → SameThing s.types t.types (option_map (λ z. z.thing) p) (option_map (λ z. z.thing) q) →
+      by_test : (b : Bool) (p q : Option NameMeaning) → SameThing s.types t.types (option_map (λ z. z.thing) p) (option_map (λ z. z.thing) q) →
           SameThing s.types t.types (meant b x w.name.0 p) (meant b y w.name.0 q)
       by_test true p q g = h
       by_test false p q g = g
@@ -94,5 +94,5 @@ module _ (old : ℕ → Bool) where
     main = g ∙ a.main ∙ sym h;
   }
 
-  pub inside-alike : (s t : Scope) → Alike old s t → Alike old (inside s) (inside t)
+  pub inside-alike : (s t : Scope) → Alike old s t → Alike old (inner_scope s) (inner_scope t)
   inside-alike s t a = record { names = record { types = a.names.types; things = a.names.things }; own = a.own; main = a.main }

@@ -8,7 +8,7 @@ use Rattle.ada_tree.specs.PlainExpr.{PExpr, EInteger, EName, EIndex, EAttribute,
 use Rattle.ada_tree.specs.Attributes.{Attribute, attribute_of, is_function}
 use Rattle.ada_tree.specs.Scope.{Scope, Reading, reading, marking, scalar_kind, meaning}
 use Rattle.ada_tree.specs.StaticValue.{value_of}
-use Rattle.ada_tree.specs.ExprTypes.{place_of, takes, takes_one, argument_kind, is_other_kind}
+use Rattle.ada_tree.specs.ExprTypes.{expr_place, takes, takes_one, argument_kind, is_other_kind}
 use Rattle.ada_tree.specs.Demand.{scalar_only, node, whole}
 use Rattle.ada_tree.specs.Sites.{site}
 use Rattle.ada_tree.specs.RuleUnknown.{unknown, no_attribute}
@@ -43,7 +43,7 @@ module _ (old : ℕ → Bool) (s t : Scope) (n : SameNames old s t) where
   face id o = face-same s.types t.types n.types.kinds (meaning s id) (meaning t id) (n.things id o)
 
   pub other-same : (k : Option ℕ) (e : PExpr) → IsOldExpr old e → of_other_kind s k e ≡ of_other_kind t k e
-  other-same k e o = ap (λ j. if is_other_kind k j then place_of e ∷ [] else []) (kind-same old s t n e o)
+  other-same k e o = ap (λ j. if is_other_kind k j then expr_place e ∷ [] else []) (kind-same old s t n e o)
 
   pub misfit-same : (r q : Reading) (e : PExpr) → IsOldExpr old e → SameReading s.types t.types r q → misfit_index s r e ≡ misfit_index t q e
   misfit-same r q e o (both_scalar k h f g) = ap (λ x. misfit_index s x e) f ∙ sym (ap (λ x. misfit_index t x e) g)
@@ -136,7 +136,7 @@ module _ (old : ℕ → Bool) (s t : Scope) (n : SameNames old s t) where
   node-met b (EParen e sp) o h = noded b (EParen e sp) refl refl refl refl refl h.texts
   node-met b (EUnary op e sp) o h = noded b (EUnary op e sp)
       refl
-      (empty-too (ap (λ k. if is_misfit (takes_one op) k then place_of e ∷ [] else []) (kind-same old s t n e o)) h.matched)
+      (empty-too (ap (λ k. if is_misfit (takes_one op) k then expr_place e ∷ [] else []) (kind-same old s t n e o)) h.matched)
       refl refl refl h.texts
   node-met b (EBinary op l r sp) o h = noded b (EBinary op l r sp)
       refl

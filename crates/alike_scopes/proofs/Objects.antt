@@ -11,7 +11,7 @@ use Rattle.ada_tree.specs.PlainExpr.{PBounds, PSubind, PDrange}
 use Rattle.ada_tree.specs.PlainDecl.{PShape, OPlain, OArray}
 use Rattle.ada_tree.specs.Scope.{Scope, Range, EntryPart, Unclear, Marking, ScalarMark, marking, range_of_mark}
 use Rattle.ada_tree.specs.ExprTypes.{static_in, range_between, static_range}
-use Rattle.ada_tree.specs.Declaring.{add_mark, add_kind, mark_for, Made, made_none, made_range, subind_made, made_subind, drange_range, made_array, object_of, task_object, task_array, Declared, of_made, plain_object, array_object, declared_object}
+use Rattle.ada_tree.specs.Declaring.{add_mark, add_kind, mark_for, Made, made_none, made_range, subind_made, made_subind, drange_range, made_array, object_meaning, task_object, task_array, Declared, of_made, plain_object, array_object, declared_object}
 use Rattle.rewritten_types.specs.Agreement.{Grows, IsScalar}
 use Rattle.rewritten_types.proofs.Keeping.{grows-on, grows-mark, grows-kind}
 use Rattle.alike_scopes.specs.Alike.{SameScalar, SameMark, of_values, of_arrays, SameThing, same_variable, same_constant, same_unclear, SameNames}
@@ -83,26 +83,26 @@ both-declared : (a b a' b' : Declared) → SameDeclared a' b' → a ≡ a' → b
 both-declared a b a' b' h e f = subst (λ x. SameDeclared x b) (sym e) (subst (SameDeclared a') (sym f) h)
 
 -- an object without a mark
-unclear-object : (constant : Bool) → object_of constant None ≡ Unclear
+unclear-object : (constant : Bool) → object_meaning constant None ≡ Unclear
 unclear-object true = refl
 unclear-object false = refl
 
 -- an object with a mark, and one without
-marked-object : (T U : TypeTable) (constant : Bool) (m n : ℕ) → SameMark T U m n → SameThing T U (Some (object_of constant (Some m))) (Some (object_of constant (Some n)))
+marked-object : (T U : TypeTable) (constant : Bool) (m n : ℕ) → SameMark T U m n → SameThing T U (Some (object_meaning constant (Some m))) (Some (object_meaning constant (Some n)))
 marked-object T U true m n h = same_constant m n refl refl h
 marked-object T U false m n h = same_variable m n refl refl h
 
-unmarked-object : (T U : TypeTable) (constant : Bool) → SameThing T U (Some (object_of constant None)) (Some (object_of constant None))
+unmarked-object : (T U : TypeTable) (constant : Bool) → SameThing T U (Some (object_meaning constant None)) (Some (object_meaning constant None))
 unmarked-object T U constant = same_unclear (ap Some (unclear-object constant)) (ap Some (unclear-object constant))
 
 -- what comes of two marks that are the same, by what they are told by
-object-made : (T U : TypeTable) (constant : Bool) (o p : Option ℕ) (m n : ℕ) → o ≡ Some m → p ≡ Some n → SameMark T U m n → SameThing T U (Some (object_of constant o)) (Some (object_of constant p))
+object-made : (T U : TypeTable) (constant : Bool) (o p : Option ℕ) (m n : ℕ) → o ≡ Some m → p ≡ Some n → SameMark T U m n → SameThing T U (Some (object_meaning constant o)) (Some (object_meaning constant p))
 object-made T U constant o p m n e f h =
-    subst (λ x. SameThing T U (Some (object_of constant x)) (Some (object_of constant p))) (sym e)
-    (subst (λ x. SameThing T U (Some (object_of constant (Some m))) (Some (object_of constant x))) (sym f) (marked-object T U constant m n h))
+    subst (λ x. SameThing T U (Some (object_meaning constant x)) (Some (object_meaning constant p))) (sym e)
+    (subst (λ x. SameThing T U (Some (object_meaning constant (Some m))) (Some (object_meaning constant x))) (sym f) (marked-object T U constant m n h))
 
-object-unmade : (T U : TypeTable) (constant : Bool) (o p : Option ℕ) → o ≡ None → p ≡ None → SameThing T U (Some (object_of constant o)) (Some (object_of constant p))
-object-unmade T U constant o p e f = same_unclear (ap (λ x. Some (object_of constant x)) e ∙ ap Some (unclear-object constant)) (ap (λ x. Some (object_of constant x)) f ∙ ap Some (unclear-object constant))
+object-unmade : (T U : TypeTable) (constant : Bool) (o p : Option ℕ) → o ≡ None → p ≡ None → SameThing T U (Some (object_meaning constant o)) (Some (object_meaning constant p))
+object-unmade T U constant o p e f = same_unclear (ap (λ x. Some (object_meaning constant x)) e ∙ ap Some (unclear-object constant)) (ap (λ x. Some (object_meaning constant x)) f ∙ ap Some (unclear-object constant))
 
 of-made-same : (constant : Bool) (a b : Made) → SameMade a b → SameDeclared (of_made constant a) (of_made constant b)
 of-made-same constant a b (made_both m n e f h) = object-made a.types b.types constant a.mark b.mark m n e f (of_values h)

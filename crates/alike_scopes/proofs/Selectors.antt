@@ -14,7 +14,7 @@ use Rattle.ada_tree.specs.Scope.{Scope, Range, Thing, Variable, Reading, AsScala
 use Rattle.ada_tree.specs.ExprTypes.{name_kind, kind_of, range_between}
 use Rattle.ada_tree.specs.RuleMismatch.{target_kind}
 use Rattle.ada_tree.specs.RuleArrayUse.{whole_array, array_in_node}
-use Rattle.ada_tree.specs.RuleChoiceBad.{range_of_kind, mark_of_thing, mark_of_part, mark_of_object, selected_range, last_of, choice_range, choice_span, overlaps_one, with_range, overlapping, is_good, no_choice_refused, values_of, is_covered, leaves_out, left_out, bad_choices}
+use Rattle.ada_tree.specs.RuleChoiceBad.{range_of_kind, mark_of_thing, mark_of_part, mark_of_object, selected_range, last_bound, choice_range, choice_span, overlaps_one, with_range, overlapping, is_good, no_choice_refused, values_in, is_covered, leaves_out, left_out, bad_choices}
 use Rattle.rewritten_types.specs.Agreement.{scalar_only, IsScalar}
 use Rattle.alike_scopes.specs.Alike.{SameScalar, SameMark, of_values, of_arrays, IsNoValue, no_thing, a_task_type, a_task, a_task_object, a_task_array, the_procedure, a_unit, SameThing, same_type, same_variable, same_constant, same_parameter, same_loop_parameter, same_literal, same_exception, same_unclear, no_values, SameNames}
 use Rattle.alike_scopes.specs.Old.{IsOldExpr, IsOldTarget, IsOldChoice}
@@ -155,7 +155,7 @@ module _ (old : ℕ → Bool) (s t : Scope) (n : SameNames old s t) where
 -- ---- choices
 
 -- the last bound of a choice is old too
-last-old : (old : ℕ → Bool) (e : PExpr) (l : Option PExpr) → IsOldExpr old e → IfSome l (IsOldExpr old) → IsOldExpr old (last_of record { first = e; last = l })
+last-old : (old : ℕ → Bool) (e : PExpr) (l : Option PExpr) → IsOldExpr old e → IfSome l (IsOldExpr old) → IsOldExpr old (last_bound record { first = e; last = l })
 last-old old e None o p = o
 last-old old e (Some l) o p = p
 
@@ -175,7 +175,7 @@ each-same f g (x ∷ xs) h = (h x, each-same f g xs h)
 module _ (old : ℕ → Bool) (s t : Scope) (n : SameNames old s t) where
   pub choice-same : (k : ℕ) (c : PChoice) → IsOldChoice old c → choice_range s k c ≡ choice_range t k c
   choice-same k c o =
-      ap₂ (range_between k) (static-in-same old s t n k c.first o.0) (static-in-same old s t n k (last_of c) (last-old old c.first c.last o.0 o.1))
+      ap₂ (range_between k) (static-in-same old s t n k c.first o.0) (static-in-same old s t n k (last_bound c) (last-old old c.first c.last o.0 o.1))
 
   overlapping-same : (k : ℕ) (seen : List Range) (cs : List PChoice) → AllByRecursion (IsOldChoice old) cs → overlapping s k seen cs ≡ overlapping t k seen cs
   overlapping-same k seen [] o = refl
@@ -197,8 +197,8 @@ module _ (old : ℕ → Bool) (s t : Scope) (n : SameNames old s t) where
 
   leaves-same : (k : ℕ) (values : Option Range) (cs : List PChoice) → AllByRecursion (IsOldChoice old) cs → leaves_out s k values cs ≡ leaves_out t k values cs
   leaves-same k (Some values) cs o =
-      any-along _ _ (values_of values)
-      (each-same _ _ (values_of values)
+      any-along _ _ (values_in values)
+      (each-same _ _ (values_in values)
       (λ z. ap not (any-along (λ c. is_covered z (choice_range s k c)) (λ c. is_covered z (choice_range t k c)) cs (along k (is_covered z) cs o))))
   leaves-same k None cs o = refl
 

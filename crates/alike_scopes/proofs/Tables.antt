@@ -5,7 +5,7 @@ use Rattle.ada_tree.specs.declared.static_types.Constant.{Constant}
 use Rattle.ada_tree.specs.TypeTable.{TypeTable}
 use Rattle.ada_tree.specs.Attributes.{false_name, true_name}
 use Rattle.ada_tree.specs.StaticValue.{constant_named, first_of_two, value_named}
-use Rattle.rewritten_types.specs.Agreement.{Literal, literal_named, Keeps, Whole}
+use Rattle.rewritten_types.specs.Agreement.{Literal, literal_named, Keeps, WholeTable}
 use Rattle.rewritten_types.proofs.Owning.{own-kept}
 use Rattle.alike_scopes.specs.Alike.{SameTypes}
 use Rattle.alike_scopes.specs.Laws.{RootedIsSame}
@@ -31,7 +31,7 @@ module _ (old : ℕ → Bool) where
   -- ---- tables
 
   -- a table says the same of names as itself
-  pub types-self : (T : TypeTable) → Whole T → SameTypes old T T
+  pub types-self : (T : TypeTable) → WholeTable T → SameTypes old T T
   types-self T w = record {
     values = λ id o. refl;
     marks = λ id o. refl;

@@ -10,7 +10,7 @@ use Rattle.ada_tree.specs.Scope.{Scope, Thing, meaning}
 use Rattle.ada_tree.specs.Demand.{Demand, addresses, calls, Site}
 use Rattle.ada_tree.specs.ExprTypes.{kind_of}
 use Rattle.ada_tree.specs.StaticValue.{is_static, value_of}
-use Rattle.ada_tree.specs.Declaring.{inside, with_formals, with_loop_parameter, after_objects, drange_kind, drange_range}
+use Rattle.ada_tree.specs.Declaring.{inner_scope, with_formals, with_loop_parameter, after_objects, drange_kind, drange_range}
 use Rattle.ada_tree.specs.Sites.{site}
 use Rattle.ada_tree.specs.RuleUnknown.{unknown}
 use Rattle.ada_tree.specs.RuleMismatch.{mismatch, target_kind}
@@ -93,7 +93,7 @@ abbrev pub FewerAreAlike : Type 0
 FewerAreAlike = (old fewer : ℕ → Bool) → ((k : ℕ) → fewer k ≡ true → old k ≡ true) → (s t : Scope) → Alike old s t → Alike fewer s t
 
 abbrev pub InsideIsAlike : Type 0
-InsideIsAlike = (old : ℕ → Bool) (s t : Scope) → Alike old s t → Alike old (inside s) (inside t)
+InsideIsAlike = (old : ℕ → Bool) (s t : Scope) → Alike old s t → Alike old (inner_scope s) (inner_scope t)
 
 abbrev pub FormalsAreAlike : Type 0
 FormalsAreAlike = (old : ℕ → Bool) (s t : Scope) → Alike old s t → (formals : List PFormal) → AreOldFormals old formals → Alike old (with_formals s formals) (with_formals t formals)

@@ -22,11 +22,11 @@ module _ (P : Site → Type 0) where
   abbrev At : List Site → Type 0
   At xs = AllByRecursion P xs
 
-  guard : (c : Scope) (k : ℕ) (o : Option PExpr) → At (typed.if_there (typed.condition c) o) → IfSome o (a.condition c k)
+  guard : (c : Scope) (k : ℕ) (o : Option PExpr) → At (typed.if_there (typed.condition_sites c) o) → IfSome o (a.condition c k)
   guard c k None h = tt
   guard c k (Some e) h = h
 
-  guard' : (c : Scope) (k : ℕ) (o : Option PExpr) → IfSome o (a.condition c k) → At (typed.if_there (typed.condition c) o)
+  guard' : (c : Scope) (k : ℕ) (o : Option PExpr) → IfSome o (a.condition c k) → At (typed.if_there (typed.condition_sites c) o)
   guard' c k None h = tt
   guard' c k (Some e) h = h
 
@@ -89,7 +89,7 @@ module _ (P : Site → Type 0) where
     alts : (c : Scope) (k : ℕ) (x : PAlts) → At (typed.alts_sites c x) → AskedAlts a c k x
     alts c k no_alt h = tt
     alts c k (alt_then (alternative g x s) l) h =
-        (tt, guard c (k + 1) g (all_first P (typed.if_there (typed.condition c) g) (typed.alt_sites c x) (typed.alts_sites c l) h), kind c (k + 1) g s x (all_second P (typed.if_there (typed.condition c) g) (typed.alt_sites c x) (typed.alts_sites c l) h), alts c k l (all_third P (typed.if_there (typed.condition c) g) (typed.alt_sites c x) (typed.alts_sites c l) h))
+        (tt, guard c (k + 1) g (all_first P (typed.if_there (typed.condition_sites c) g) (typed.alt_sites c x) (typed.alts_sites c l) h), kind c (k + 1) g s x (all_second P (typed.if_there (typed.condition_sites c) g) (typed.alt_sites c x) (typed.alts_sites c l) h), alts c k l (all_third P (typed.if_there (typed.condition_sites c) g) (typed.alt_sites c x) (typed.alts_sites c l) h))
 
     kind : (c : Scope) (k : ℕ) (g : Option PExpr) (s : Span) (x : PAltKind) → At (typed.alt_sites c x) → AskedKind a c k g s x
     kind c k g s (AAccept x l) h = (accept c k x (all_front P (typed.accept_sites c x) (typed.stmts_sites c l) h), stmts c k l (all_back P (typed.accept_sites c x) (typed.stmts_sites c l) h))
@@ -98,7 +98,7 @@ module _ (P : Site → Type 0) where
 
     arms : (c : Scope) (k : ℕ) (x : PArms) → At (typed.arms_sites c x) → AskedArms a c k x
     arms c k no_arm h = tt
-    arms c k (arm_then (arm e l) rest) h = (all_first P (typed.condition c e) (typed.stmts_sites c l) (typed.arms_sites c rest) h, some c k l (all_second P (typed.condition c e) (typed.stmts_sites c l) (typed.arms_sites c rest) h), arms c k rest (all_third P (typed.condition c e) (typed.stmts_sites c l) (typed.arms_sites c rest) h))
+    arms c k (arm_then (arm e l) rest) h = (all_first P (typed.condition_sites c e) (typed.stmts_sites c l) (typed.arms_sites c rest) h, some c k l (all_second P (typed.condition_sites c e) (typed.stmts_sites c l) (typed.arms_sites c rest) h), arms c k rest (all_third P (typed.condition_sites c e) (typed.stmts_sites c l) (typed.arms_sites c rest) h))
 
     case_arms : (c : Scope) (k : ℕ) (e : PExpr) (x : PCaseArms) → At (typed.case_arms_sites c (kind_of c e) (selected_range c e) x) → AskedCaseArms a c k e x
     case_arms c k e no_case_arm h = tt
@@ -156,7 +156,7 @@ module _ (P : Site → Type 0) where
 
     alts' : (c : Scope) (k : ℕ) (x : PAlts) → AskedAlts a c k x → At (typed.alts_sites c x)
     alts' c k no_alt h = tt
-    alts' c k (alt_then (alternative g x s) l) h = all_three P (typed.if_there (typed.condition c) g) (typed.alt_sites c x) (typed.alts_sites c l) (guard' c (k + 1) g h.1) (kind' c (k + 1) g s x h.2) (alts' c k l h.3)
+    alts' c k (alt_then (alternative g x s) l) h = all_three P (typed.if_there (typed.condition_sites c) g) (typed.alt_sites c x) (typed.alts_sites c l) (guard' c (k + 1) g h.1) (kind' c (k + 1) g s x h.2) (alts' c k l h.3)
 
     kind' : (c : Scope) (k : ℕ) (g : Option PExpr) (s : Span) (x : PAltKind) → AskedKind a c k g s x → At (typed.alt_sites c x)
     kind' c k g s (AAccept x l) h = all_joined P (typed.accept_sites c x) (typed.stmts_sites c l) (accept' c k x h.0) (stmts' c k l h.1)
@@ -165,7 +165,7 @@ module _ (P : Site → Type 0) where
 
     arms' : (c : Scope) (k : ℕ) (x : PArms) → AskedArms a c k x → At (typed.arms_sites c x)
     arms' c k no_arm h = tt
-    arms' c k (arm_then (arm e l) rest) h = all_three P (typed.condition c e) (typed.stmts_sites c l) (typed.arms_sites c rest) h.0 (some' c k l h.1) (arms' c k rest h.2)
+    arms' c k (arm_then (arm e l) rest) h = all_three P (typed.condition_sites c e) (typed.stmts_sites c l) (typed.arms_sites c rest) h.0 (some' c k l h.1) (arms' c k rest h.2)
 
     case_arms' : (c : Scope) (k : ℕ) (e : PExpr) (x : PCaseArms) → AskedCaseArms a c k e x → At (typed.case_arms_sites c (kind_of c e) (selected_range c e) x)
     case_arms' c k e no_case_arm h = tt

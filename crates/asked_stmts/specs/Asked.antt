@@ -5,7 +5,7 @@ use Rattle.ada_tree.specs.declared.naming.Span.{Span}
 use Rattle.ada_tree.specs.declared.naming.Word.{Word}
 use Rattle.ada_tree.specs.PlainExpr.{PExpr}
 use Rattle.ada_tree.specs.PlainStmt.{PCallee, PCall, PChoice, PScheme, PHead, PStmt, SAbort, SCall, SAccept, SWait, SConditional, STimed, SIf, SCase, SBlock, SLoop, PStmts, no_stmt, stmt_then, PMaybe, absent, present, PAccept, accepting, alternative, PAltKind, AAccept, ADelay, ATerminate, PAlts, no_alt, alt_then, arm, PArms, no_arm, arm_then, case_arm, PCaseArms, no_case_arm, case_arm_then, PBody, body, handler, PHandlers, no_handler, handler_then}
-use Rattle.ada_tree.specs.Sites.{choices_of, is_present, with_words}
+use Rattle.ada_tree.specs.Sites.{arm_choices, is_present, with_words}
 use Rattle.ada_tree.specs.Every.{stmts_count, alts_count, arms_count}
 
 -- What is asked of one statement, by what stands around it and its nesting.
@@ -54,7 +54,7 @@ module _ {C : Type 0} (a : Asks C) where
     AskedStmt c k (STimed x l d o s) =
         a.outer c k s × a.outer c (k + 1) x.task.name.span × a.callee c (k + 2) x.task × a.call c (k + 2) x × a.duration d × AskedStmts c (k + 1) l × AskedStmts c (k + 1) o
     AskedStmt c k (SIf x o s) = a.outer c k s × a.many (arms_count x) × AskedArms c (k + 1) x × AskedMaybe c (k + 1) o
-    AskedStmt c k (SCase e x o s) = a.outer c k s × a.selector c (k + 1) e (choices_of x) (is_present o) s × AskedCaseArms c (k + 1) e x × AskedMaybe c (k + 1) o
+    AskedStmt c k (SCase e x o s) = a.outer c k s × a.selector c (k + 1) e (arm_choices x) (is_present o) s × AskedCaseArms c (k + 1) e x × AskedMaybe c (k + 1) o
     AskedStmt c k (SBlock b s) = a.outer c k s × AskedBody c (k + 1) b
     AskedStmt c k (SLoop w x l s) = a.outer c k s × a.loop c (k + 1) w x × AskedSome (a.looping c w x) (k + 1) l
     AskedStmt c k x = a.plain c k x

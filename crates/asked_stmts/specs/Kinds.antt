@@ -7,7 +7,7 @@ use Rattle.ada_tree.specs.Scope.{Scope, meaning}
 use Rattle.ada_tree.specs.ExprTypes.{kind_of}
 use Rattle.ada_tree.specs.RuleArgCount.{called_entry}
 use Rattle.ada_tree.specs.RuleChoiceBad.{selected_range}
-use Rattle.ada_tree.specs.Declaring.{inside, with_formals}
+use Rattle.ada_tree.specs.Declaring.{inner_scope, with_formals}
 use Rattle.ada_tree.specs.Demand.{labels, calls, chooses, Site}
 use Rattle.ada_tree.specs.Sites as typed
 use Rattle.syn_event.specs.CheckScope.{CheckScope, CheckSite, declares, aborts_before, waits, counts}
@@ -79,7 +79,7 @@ type_asks P = record {
   callee = λ c k x. AllByRecursion P (typed.callee_sites c x);
   call = λ c k x. AllByRecursion P (typed.site c (calls x) ∷ typed.if_there (typed.args_sites c (called_entry (meaning c x.task.name.name) x.entry.name)) x.args);
   aborts = λ c k xs. Unit {0};
-  condition = λ c k e. AllByRecursion P (typed.condition c e);
+  condition = λ c k e. AllByRecursion P (typed.condition_sites c e);
   selector = λ c k e xs others s. AllByRecursion P (typed.site c (chooses e xs others s) ∷ typed.expr_sites c e);
   choices = λ c k e xs. AllByRecursion P (flat_map (typed.choice_sites c (kind_of c e) (selected_range c e)) xs);
   loop = λ c k w x. AllByRecursion P (typed.if_there (λ y. typed.site c (labels y) ∷ []) w ++ typed.if_there (typed.scheme_sites c) x);
@@ -88,7 +88,7 @@ type_asks P = record {
   delay = λ c k g s. Unit {0};
   handlers = λ hs. Unit {0};
   handler = λ c k names ws. AllByRecursion P (typed.handler_names_sites c names ws);
-  accepting = λ c h. with_formals (inside c) h.formals;
+  accepting = λ c h. with_formals (inner_scope c) h.formals;
   looping = λ c w x. typed.loop_scope c x;
   handling = λ c. c;
 }

@@ -3,7 +3,7 @@ use Rattle.std.specs.Prelude.{ℕ, pos, not, ◌==◌, if◌then◌else◌, List
 use Rattle.std.specs.List.{filter, range_with_len}
 use Rattle.event_machine.specs.declared.Event.{Event}
 use Rattle.event_machine.specs.declared.Event.TheVariants.{R, E, S, D, C, T, F, X, B, Z}
-use Rattle.event_progress.specs.Known.{Known, is_closed, at_start, admits, advanced}
+use Rattle.event_progress.specs.Known.{Known, is_closed, known_at_start, admits, advanced}
 use Rattle.control_script.specs.declared.Op.{Op}
 use Rattle.control_script.specs.declared.Op.TheVariants.{Go, Done, Join, Hold}
 
@@ -45,4 +45,4 @@ script_from owner k (e ∷ events) = if admits owner k e then operations owner k
 
 -- The script of a sequence, of a program with n tasks.
 abbrev pub script : (ℕ → ℕ) → ℕ → List Event → List Op
-script owner n events = script_from owner (at_start n) events
+script owner n events = script_from owner (known_at_start n) events

@@ -22,7 +22,7 @@ use Rattle.syn_event.specs.CheckRefusals.{CheckRefusal, IsFirstCheckRefusal, Com
 use Rattle.syn_event.specs.Limits.{limit_of, what_order}
 use Rattle.syn_event.specs.Legal.{Legal}
 use Rattle.syn_event.specs.Numbering.{Numbering}
-use Rattle.syn_event.specs.RuleLimit.{OverAt, passed, over_limit}
+use Rattle.syn_event.specs.RuleLimit.{OverAt, limit_passed, over_limit}
 use Rattle.syn_event.specs.RuleSharedVariable.{shared_variable}
 use Rattle.syn_event.specs.RuleAcceptPlace.{accept_place}
 use Rattle.syn_event.specs.RuleSelectForm.{select_form}
@@ -91,7 +91,7 @@ maybe_fits : (m : Mode) (b : Bool) (o : OverAt) → IsLimit m o → All (IsLimit
 maybe_fits m true o h = All-cons (IsLimit m) o [] h (All-nil (IsLimit m))
 maybe_fits m false o h = All-nil (IsLimit m)
 
-passed_fits : (m : Mode) (what : What) (limit : Option ℕ) (before here : ℕ) (s : Span) → limit_of m what ≡ limit → All (IsLimit m) (passed what limit before here s)
+passed_fits : (m : Mode) (what : What) (limit : Option ℕ) (before here : ℕ) (s : Span) → limit_of m what ≡ limit → All (IsLimit m) (limit_passed what limit before here s)
 passed_fits m what (Some limit) before here s h = maybe_fits m _ (record { over = record { what = what; limit = limit }; span = s }) h
 passed_fits m what None before here s h = All-nil (IsLimit m)
 

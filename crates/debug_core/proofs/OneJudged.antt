@@ -12,7 +12,7 @@ use Rattle.seq_file.proofs.Filing.{reads-unique}
 use Rattle.syn_event.specs.declared.numbering.Mode.TheVariants.{Original}
 use Rattle.syn_event.specs.Legal.{Legal}
 use Rattle.syn_event.specs.Numbering.{Numbering, owner_of}
-use Rattle.syn_event.specs.Units.{text_of}
+use Rattle.syn_event.specs.DeclaredTasks.{text_of}
 use Rattle.task_model.specs.Machine.{Setup}
 use Rattle.task_machine.specs.declared.verdict.Verdict.{Verdict}
 use Rattle.task_machine.specs.declared.verdict.Verdict.TheVariants.{Feasible, Infeasible, Unsettled}
@@ -21,7 +21,7 @@ use Rattle.task_machine.specs.Conditions.{needed_of}
 use Rattle.task_machine.specs.Views.{View}
 use Rattle.task_machine.proofs.Judged.{view_unique}
 use Rattle.task_machine.proofs.OneVerdict.{verdict_unique}
-use Rattle.divergence.specs.JudgeText.{task_part, parts_of, shown_tasks, title_of, report_text, judge_text, event_of, refused_word, event_line, cause_line}
+use Rattle.divergence.specs.JudgeText.{task_part, parts_of, shown_tasks, title_of, report_text, judge_text, event_at_place, refused_word, event_line, cause_line}
 use Rattle.divergence.specs.ViewText.{number_line, view_lines}
 use Rattle.debug_outcome.specs.Outcomes.{Outcome, writes}
 use Rattle.debug_judge.specs.JudgeOutcomes.{AreSeen, ShowsWhy, IsVerdictText, JudgesLines, verdict_status}
@@ -69,8 +69,8 @@ module _ (setup : Setup) (numbers : Numbering) (bound : ℕ) (events : List Even
 
   text_same : (v : Verdict) → ShowsWhy setup numbers events views v → ShowsWhy setup numbers events others v → judge_text setup.program.names numbers bound views events v ≡ judge_text setup.program.names numbers bound others events v
   text_same Feasible h k = refl
-  text_same (Infeasible at why) h k = refused_same at why (take (at - 1) events) (event_of events (Infeasible at why)) h k
-  text_same (Unsettled at t) h k = held_same at t (event_of events (Unsettled at t))
+  text_same (Infeasible at why) h k = refused_same at why (take (at - 1) events) (event_at_place events (Infeasible at why)) h k
+  text_same (Unsettled at t) h k = held_same at t (event_at_place events (Unsettled at t))
 
 one_verdict_text : (setup : Setup) (numbers : Numbering) (bound : ℕ) (events : List Event) (o q : Outcome) → IsVerdictText setup numbers bound events o → IsVerdictText setup numbers bound events q → o ≡ q
 one_verdict_text setup numbers bound events o q h k =

@@ -20,9 +20,9 @@ use Rattle.syn_event.specs.AllNumbers.{all_numbers, info_of_task, entry_of_task,
 use Rattle.syn_event.specs.Extents.{extent}
 use Rattle.syn_event.specs.Legal.{Legal}
 use Rattle.syn_event.specs.Limits.{limit_of}
-use Rattle.syn_event.specs.Numbered.{with_origin}
+use Rattle.syn_event.specs.AddedNames.{with_origin}
 use Rattle.syn_event.specs.Numbering.{Numbering}
-use Rattle.syn_event.specs.RuleLimit.{passed}
+use Rattle.syn_event.specs.RuleLimit.{limit_passed}
 use Rattle.syn_event.specs.CheckSites.{site, check_sites, numbered, decls_sites, body_sites, body_names, after_decls, around_program, tasks_sites, entries_of_part, entries_sites, counted_sites}
 use Rattle.syn_event.specs.CheckScope.{CheckScope, counts}
 use Rattle.syn_event.specs.NamedTasks.{NamedTasks, named_tasks, type_named, task_names_of_type, object_task_names, with_type, single_task_name, task_names_in, task_names_of, count_of_range, task_count, NumberedTask, numbered_task, indices, tasks_of_range, tasks_of_name, numbered_tasks}
@@ -34,7 +34,7 @@ use Rattle.syn_event.proofs.Counts.{indices_length, tasks_length}
 
 -- ---- one count
 
-within : (what : What) (limit before here : ℕ) (s : Span) → before ≤ limit → passed what (Some limit) before here s ≡ [] → before + here ≤ limit
+within : (what : What) (limit before here : ℕ) (s : Span) → before ≤ limit → limit_passed what (Some limit) before here s ≡ [] → before + here ≤ limit
 within what limit before here s start h =
     let failed = test_fails (nat_le before limit && nat_lt limit (before + here)) _ h in
     split (nat_le before limit) (nat_lt limit (before + here)) refl refl failed
@@ -47,7 +47,7 @@ within what limit before here s start h =
 module _ (m : Mode) (names : List (List ℕ)) (around : CheckScope) where
   counted : (what : What) (limit before here : ℕ) (s : Span) → limit_of m what ≡ Some limit → before ≤ limit → Kept m names (site around (counts what before here s)) → before + here ≤ limit
   counted what limit before here s is start kept =
-      within what limit before here s start (subst (λ (o : Option ℕ). passed what o before here s ≡ []) is kept.within)
+      within what limit before here s start (subst (λ (o : Option ℕ). limit_passed what o before here s ≡ []) is kept.within)
 
   all_counted : (what : What) (limit n : ℕ) (spans : List Span) → limit_of m what ≡ Some limit → n ≤ limit → AllByRecursion (Kept m names) (numbered around what n spans) → n + length spans ≤ limit
   all_counted what limit n [] is start kept = omega (arith, start)

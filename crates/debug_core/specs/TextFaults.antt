@@ -15,9 +15,9 @@ use Rattle.debug_outcome.specs.declared.refusal.Refusal.{Refusal}
 use Rattle.debug_outcome.specs.declared.refusal.Refusal.TheVariants.{BadText}
 
 -- how many bytes a token may have, by its first byte: a quotation mark begins a string, whose content is counted, and any other byte of a token that is too long an identifier
-abbrev pub limit_of : Option ℕ → ℕ
-limit_of (Some b) = if nat_eq b 34 then max_content else max_name
-limit_of None = max_name
+abbrev pub longest_token : Option ℕ → ℕ
+longest_token (Some b) = if nat_eq b 34 then max_content else max_name
+longest_token None = max_name
 
 -- a text is nested at most this deep
 abbrev pub nesting_limit : ℕ
@@ -32,7 +32,7 @@ abbrev pub refusal_of_read : List ℕ → ReadError → Option Refusal
 refusal_of_read text (reading.Lex (lexical.BadByte at)) = misspelled_at text BadByte at
 refusal_of_read text (reading.Lex (lexical.OpenString at)) = misspelled_at text OpenString at
 refusal_of_read text (reading.Lex (lexical.BadNumber at)) = misspelled_at text BadNumber at
-refusal_of_read text (reading.Lex (lexical.TooLong at)) = Some (BadText (LongToken (limit_of (slice_get text at))))
+refusal_of_read text (reading.Lex (lexical.TooLong at)) = Some (BadText (LongToken (longest_token (slice_get text at))))
 refusal_of_read text (reading.Lex lexical.Memory) = None
 refusal_of_read text (reading.Syntax at) = misspelled_at text Syntax at
 refusal_of_read text (reading.TooDeep at) = Some (BadText (TooNested nesting_limit))

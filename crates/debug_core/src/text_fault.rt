@@ -2,7 +2,7 @@
 
 ghost use Rattle.std.specs.Prelude.{◌≡◌, ◌<◌, ◌-◌, ◌^◌, length, slice_get};
 ghost use Rattle.debug_outcome.specs.Coming.{stop_by};
-ghost use Rattle.debug_core.specs.TextFaults.{refusal_of_read, misspelled_at, limit_of};
+ghost use Rattle.debug_core.specs.TextFaults.{refusal_of_read, misspelled_at, longest_token};
 
 use ada_lexer::{LexError, line_col};
 use ada_parser::ReadError;
@@ -51,7 +51,7 @@ fn misspelled<'w>(text: &[u8], what: Misspelling, at: u32) -> Stop<'w>
 
 // How many bytes the token at a place may have: the content of a string, or an identifier.
 fn token_limit(text: &[u8], at: u32) -> u32
-    ensures { result ≡ limit_of (slice_get text.now at) }
+    ensures { result ≡ longest_token (slice_get text.now at) }
 {
     match text.get(at as usize) {
         Some(b'"') => 200,

@@ -9,8 +9,8 @@ abbrev pub text_limit : ℕ
 text_limit = 33554432
 
 -- a program that is checked, judged or replayed, an original, has at most so many bytes (this project's limit)
-abbrev pub original_limit : ℕ
-original_limit = 1048576
+abbrev pub original_bytes : ℕ
+original_bytes = 1048576
 
 -- a file of inputs has at most so many bytes (this project's limit)
 abbrev pub inputs_limit : ℕ
@@ -40,15 +40,15 @@ run_files file inputs choices = start_files file text_limit inputs ++ choice_fil
 
 -- the files of a judgement: the original, the inputs of its tasks where they are named, and the sequence
 abbrev pub judge_files : List ℕ → Option (List ℕ) → List ℕ → List Wanted
-judge_files file inputs sequence = start_files file original_limit inputs ++ (file_named sequence sequence_limit ∷ [])
+judge_files file inputs sequence = start_files file original_bytes inputs ++ (file_named sequence sequence_limit ∷ [])
 
 abbrev pub replay_files : List ℕ → List ℕ → List Wanted
-replay_files file sequence = file_named file original_limit ∷ file_named sequence sequence_limit ∷ []
+replay_files file sequence = file_named file original_bytes ∷ file_named sequence sequence_limit ∷ []
 
 -- The files that are loaded for what is asked, in the order of the words.
 abbrev pub wanted_by : Asked → List Wanted
 wanted_by (AsksPrint file) = file_named file text_limit ∷ []
-wanted_by (AsksCheck file) = file_named file original_limit ∷ []
+wanted_by (AsksCheck file) = file_named file original_bytes ∷ []
 wanted_by (AsksRun file inputs choices turns) = run_files file inputs choices
 wanted_by (AsksJudge file inputs sequence bound) = judge_files file inputs sequence
 wanted_by (AsksReplay file sequence) = replay_files file sequence

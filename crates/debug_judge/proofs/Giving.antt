@@ -20,7 +20,7 @@ use Rattle.feasible.specs.Keeping.{StandsFor, Counts, IsSettled, NothingFollows,
 use Rattle.feasible.specs.Kept.{Kept}
 use Rattle.feasible.proofs.Continuing.{views_settled}
 use Rattle.feasible.proofs.Fronts.{no_end_front}
-use Rattle.divergence.specs.JudgeText.{event_of}
+use Rattle.divergence.specs.JudgeText.{event_at_place}
 use Rattle.divergence.specs.Seen.{AreSettled}
 use Rattle.debug_judge.specs.declared.judged_lines.LinesVerdict.{LinesVerdict}
 use Rattle.debug_judge.specs.JudgeOutcomes.{AreSeen, ShowsWhy}
@@ -78,7 +78,7 @@ found_first setup numbers bound k s same_numbers same_bound =
 -- ---- the event at the place of a verdict
 
 -- that of the last event, which was the first behind which the verdict is not feasible
-placed_last : (events : List Event) (e : Event) (n : ℕ) (v : Verdict) → Counts (events ++ e ∷ []) n v → length events ≤ n → is_feasible v ≡ false → event_of (events ++ e ∷ []) v ≡ Some e
+placed_last : (events : List Event) (e : Event) (n : ℕ) (v : Verdict) → Counts (events ++ e ∷ []) n v → length events ≤ n → is_feasible v ≡ false → event_at_place (events ++ e ∷ []) v ≡ Some e
 placed_last events e n Feasible c past h = absurd (true≢false h)
 placed_last events e n (Infeasible at why) c past h =
     ap (λ (k : ℕ). slice_get (events ++ e ∷ []) k) (let k : at - 1 ≡ length events = omega (arith, c.0, c.1, length-append events (e ∷ [])) in k) ∙ last_at events e
@@ -93,13 +93,13 @@ stays_placed events e d k less =
     ∙ sym (slice_get-get_or (events ++ e ∷ []) k d (omega (arith, less, length-append events (e ∷ []))))
 
 -- an earlier event
-placed_before : (events : List Event) (e : Event) (n : ℕ) (v : Verdict) → Counts events n v → is_feasible v ≡ false → event_of events v ≡ event_of (events ++ e ∷ []) v
+placed_before : (events : List Event) (e : Event) (n : ℕ) (v : Verdict) → Counts events n v → is_feasible v ≡ false → event_at_place events v ≡ event_at_place (events ++ e ∷ []) v
 placed_before events e n Feasible c h = absurd (true≢false h)
 placed_before events e n (Infeasible at why) c h = stays_placed events e e (at - 1) (omega (arith, c.0, c.1))
 placed_before events e n (Unsettled at t) c h = stays_placed events e e (at - 1) (omega (arith, c.0, c.1))
 
 -- no event, where the verdict is feasible
-placed_nowhere : (events : List Event) (v : Verdict) → is_feasible v ≡ true → event_of events v ≡ None
+placed_nowhere : (events : List Event) (v : Verdict) → is_feasible v ≡ true → event_at_place events v ≡ None
 placed_nowhere events Feasible h = refl
 placed_nowhere events (Infeasible at why) h = absurd (true≢false (sym h))
 placed_nowhere events (Unsettled at t) h = absurd (true≢false (sym h))
@@ -125,7 +125,7 @@ module _ (setup : Setup) (numbers : Numbering) (bound : ℕ) (events : List Even
   placed = event_with old.verdict old.event v e
 
   abbrev IsPlaced : Type 0
-  IsPlaced = (event_with old.verdict old.event v e ≡ event_of (events ++ e ∷ []) v) × AreSettled new.tasks numbers v (event_with old.verdict old.event v e)
+  IsPlaced = (event_with old.verdict old.event v e ≡ event_at_place (events ++ e ∷ []) v) × AreSettled new.tasks numbers v (event_with old.verdict old.event v e)
 
   counts : Counts (events ++ e ∷ []) new.taken v
   counts = subst (Counts (events ++ e ∷ []) new.taken) (sym last) stands.counts
@@ -153,7 +153,7 @@ module _ (setup : Setup) (numbers : Numbering) (bound : ℕ) (events : List Even
       let same_verdict : v ≡ old.verdict = last ∙ ap (λ (k : Kept). k.verdict) stayed ∙ sym f.last in
       let same : event_with old.verdict old.event v e ≡ old.event = ap (λ (b : Bool). cond (b && not (is_feasible v)) (Some e) old.event) was in
       let c : Counts events old.judge.taken old.verdict = subst (Counts events old.judge.taken) (sym f.last) f.stands.counts in (
-        same ∙ f.event ∙ placed_before events e old.judge.taken old.verdict c was ∙ ap (event_of (events ++ e ∷ [])) (sym same_verdict),
+        same ∙ f.event ∙ placed_before events e old.judge.taken old.verdict c was ∙ ap (event_at_place (events ++ e ∷ [])) (sym same_verdict),
         subst (AreSettled new.tasks numbers v) (sym same)
             (subst (λ (w : Verdict). AreSettled new.tasks numbers w old.event) (sym same_verdict) (subst (λ (k : Kept). AreSettled k.tasks numbers old.verdict old.event) (sym stayed) f.settled)),
       )
@@ -190,7 +190,7 @@ few_taken setup events k s = elim (cases_Bool (is_feasible k.verdict)) [
 
 module _ (setup : Setup) (numbers : Numbering) (events : List Event) (end : NothingFollows events) (k : Kept) (s : StandsFor setup events k) (same : k.numbers ≡ numbers) where
   -- the event at place k.taken was refused
-  seen_refused : (e : Event) (at : ℕ) (why : Why) → k.verdict ≡ Infeasible at why → event_of events (Infeasible at why) ≡ Some e → All (IsSettled k.tasks) (needed_of numbers e) →
+  seen_refused : (e : Event) (at : ℕ) (why : Why) → k.verdict ≡ Infeasible at why → event_at_place events (Infeasible at why) ≡ Some e → All (IsSettled k.tasks) (needed_of numbers e) →
       AreSeen setup numbers (take (at - 1) events) (view_at k.tasks) e
   seen_refused e at why is got all =
       let counts : Counts events k.taken (Infeasible at why) = subst (Counts events k.taken) is s.counts in
@@ -201,12 +201,12 @@ module _ (setup : Setup) (numbers : Numbering) (events : List Event) (end : Noth
       subst (λ (n : Numbering). AreSeen setup n (take (at - 1) events) (view_at k.tasks) e) same
       (subst (λ (n : ℕ). AreSeen setup k.numbers (take n events) (view_at k.tasks) e) place seen)
 
-  seen_at : (at : ℕ) (why : Why) → k.verdict ≡ Infeasible at why → (o : Option Event) → event_of events (Infeasible at why) ≡ o → AreSettled k.tasks numbers (Infeasible at why) o →
+  seen_at : (at : ℕ) (why : Why) → k.verdict ≡ Infeasible at why → (o : Option Event) → event_at_place events (Infeasible at why) ≡ o → AreSettled k.tasks numbers (Infeasible at why) o →
       IfSome o (AreSeen setup numbers (take (at - 1) events) (view_at k.tasks))
   seen_at at why is None got all = tt
   seen_at at why is (Some e) got all = seen_refused e at why is got all
 
-  seen_why : (v : Verdict) → k.verdict ≡ v → (o : Option Event) → event_of events v ≡ o → AreSettled k.tasks numbers v o → ShowsWhy setup numbers events (view_at k.tasks) v
+  seen_why : (v : Verdict) → k.verdict ≡ v → (o : Option Event) → event_at_place events v ≡ o → AreSettled k.tasks numbers v o → ShowsWhy setup numbers events (view_at k.tasks) v
   seen_why Feasible is o got all = tt
   seen_why (Infeasible at why) is o got all = subst (λ (x : Option Event). IfSome x (AreSeen setup numbers (take (at - 1) events) (view_at k.tasks))) (sym got) (seen_at at why is o got all)
   seen_why (Unsettled at t) is o got all = tt

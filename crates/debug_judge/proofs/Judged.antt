@@ -9,12 +9,12 @@ use Rattle.task_machine.specs.declared.verdict.Verdict.{Verdict}
 use Rattle.task_machine.specs.Judging.{VerdictIs}
 use Rattle.feasible.specs.Failing.{view_at}
 use Rattle.feasible.specs.Kept.{Kept}
-use Rattle.divergence.specs.JudgeText.{report_text, judge_text, event_of}
+use Rattle.divergence.specs.JudgeText.{report_text, judge_text, event_at_place}
 use Rattle.debug_outcome.specs.Coming.{HasPut, HasBroken}
 use Rattle.debug_judge.specs.JudgeOutcomes.{ShowsWhy, IsVerdictText, verdict_status}
 
 module _ (setup : Setup) (names : List (List ℕ)) (numbers : Numbering) (bound bound' : ℕ) (events : List Event) (k : Kept) (v : Verdict) (count : ℕ) (e : Option Event) (old new : Option (List ℕ)) (writes writes' : ℕ)
-    (verdict_is : VerdictIs setup numbers bound events v) (seen : ShowsWhy setup numbers events (view_at k.tasks) v) (counted : count ≡ length events) (event : e ≡ event_of events v) (bounded : bound' ≡ bound) (named : names ≡ setup.program.names) where
+    (verdict_is : VerdictIs setup numbers bound events v) (seen : ShowsWhy setup numbers events (view_at k.tasks) v) (counted : count ≡ length events) (event : e ≡ event_at_place events v) (bounded : bound' ≡ bound) (named : names ≡ setup.program.names) where
   abbrev text : List ℕ
   text = judge_text setup.program.names numbers bound (view_at k.tasks) events v
 

@@ -9,7 +9,7 @@ use Rattle.task_machine.specs.declared.verdict.Verdict.TheVariants.{Feasible, In
 use Rattle.task_machine.specs.Conditions.{needed_of}
 use Rattle.task_machine.specs.Judging.{VerdictIs}
 use Rattle.task_machine.specs.Views.{View, ViewIs}
-use Rattle.divergence.specs.JudgeText.{judge_text, event_of}
+use Rattle.divergence.specs.JudgeText.{judge_text, event_at_place}
 use Rattle.debug_outcome.specs.Outcomes.{Outcome, writes}
 use Rattle.debug_sequence.specs.BadSequences.{IsBadSequence}
 
@@ -26,7 +26,7 @@ AreSeen setup numbers before views e = All (λ t. ViewIs setup numbers before t 
 -- where a verdict refuses an event, the tasks that this event needs are seen so before it
 abbrev pub ShowsWhy : Setup → Numbering → List Event → (ℕ → View) → Verdict → Type 0
 ShowsWhy setup numbers events views Feasible = ⊤
-ShowsWhy setup numbers events views (Infeasible at why) = IfSome (event_of events (Infeasible at why)) (AreSeen setup numbers (take (at - 1) events) views)
+ShowsWhy setup numbers events views (Infeasible at why) = IfSome (event_at_place events (Infeasible at why)) (AreSeen setup numbers (take (at - 1) events) views)
 ShowsWhy setup numbers events views (Unsettled at t) = ⊤
 
 -- The events of a program have this verdict, and the outcome is the text of it with its status.

@@ -9,7 +9,7 @@ use Rattle.task_model.specs.Machine.{Setup}
 use Rattle.task_machine.specs.declared.verdict.Verdict.{Verdict}
 use Rattle.task_machine.specs.Judging.{VerdictIs}
 use Rattle.feasible.specs.Keeping.{StandsFor, is_feasible}
-use Rattle.divergence.specs.JudgeText.{event_of}
+use Rattle.divergence.specs.JudgeText.{event_at_place}
 use Rattle.divergence.specs.Seen.{AreSettled}
 use Rattle.debug_judge.specs.declared.judged_lines.LinesVerdict.{LinesVerdict}
 use Rattle.debug_judge.specs.declared.judged_lines.LinesError.{LinesError}
@@ -20,7 +20,7 @@ use Rattle.debug_judge.specs.declared.judged_lines.LinesError.TheVariants as err
 pub record IsFoundOf (setup : Setup) (numbers : Numbering) (bound : ℕ) (events : List Event) (found : LinesVerdict) : Type 0 where
   pub verdict : VerdictIs setup numbers bound events found.verdict
   pub count : found.count ≡ length events
-  pub event : found.event ≡ event_of events found.verdict
+  pub event : found.event ≡ event_at_place events found.verdict
   pub stands : StandsFor setup events found.judge
   pub last : found.verdict ≡ found.judge.verdict
   pub settled : AreSettled found.judge.tasks numbers found.verdict found.event

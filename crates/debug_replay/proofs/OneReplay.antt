@@ -4,7 +4,7 @@ use Rattle.ada_tree.specs.PlainProgram.{PProgram}
 use Rattle.ada_tree.specs.TypeTable.{TypeTable}
 use Rattle.event_machine.specs.declared.Event.{Event}
 use Rattle.syn_event.specs.Numbering.{Numbering}
-use Rattle.syn_event.specs.Units.{text_of}
+use Rattle.syn_event.specs.DeclaredTasks.{text_of}
 use Rattle.seq_file.specs.Lines.{is_upper_name}
 use Rattle.seq_file.specs.Short.{IsShort}
 use Rattle.seq_file.proofs.Filing.{reads-unique}

@@ -2,7 +2,7 @@
 
 ghost use Rattle.std.specs.Prelude.{◌≡◌, ◌<◌, ◌-◌, ◌^◌, length, true};
 ghost use Rattle.ada_tree.specs.PlainProgram.{plain_program};
-ghost use Rattle.syn_event.specs.Units.{text_of};
+ghost use Rattle.syn_event.specs.DeclaredTasks.{text_of};
 ghost use Rattle.seq_file.specs.Lines.{is_upper_name};
 ghost use Rattle.debug_outcome.specs.Coming.{Comes, Never, stop_by};
 ghost use Rattle.debug_replay.specs.ReplayOutcomes.{ReplaysLines, printed_outcome, refusal_of_replay};

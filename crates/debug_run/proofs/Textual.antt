@@ -4,11 +4,11 @@ use Rattle.ded_io.specs.Counts.{Rose}
 use Rattle.ded_io.specs.Written.{appended, Began, Wrote, ◌⧺◌}
 use Rattle.ded_io.proofs.Writes.{appended-appended, began_then, joined}
 use Rattle.syn_event.specs.Numbering.{Numbering}
-use Rattle.task_model.specs.Machine.{Whole}
+use Rattle.task_model.specs.Machine.{MachineState}
 use Rattle.run_model.specs.declared.report.RunEnd.{RunEnd}
 use Rattle.run_model.specs.Lines.{lines_of}
 use Rattle.run_model.specs.Outputs.{output_of}
-use Rattle.run_model.specs.Picked.{Position, picked, ending}
+use Rattle.run_model.specs.Picked.{Position, picked, run_end}
 use Rattle.debug_text.specs.RunText.{header, rest_of_run}
 use Rattle.debug_outcome.specs.Coming.{Comes, HasPut, HasBroken, HasBegun}
 use Rattle.debug_outcome.specs.declared.stopping.Stop.{Stop}
@@ -37,13 +37,13 @@ unfolding Wrote
 begun A E e old new a h = h
 
 -- the same machine has the same run
-pub comes_from : {C : Type 0} (word : C → ℕ) (next : C → C) (names : List (List ℕ)) (numbers : Numbering) (m m' : Whole) (c : C) (turns : ℕ) (told told' : Option (List ℕ)) (count count' : ℕ) (r : Result ℕ Stop) → m ≡ m' →
+pub comes_from : {C : Type 0} (word : C → ℕ) (next : C → C) (names : List (List ℕ)) (numbers : Numbering) (m m' : MachineState) (c : C) (turns : ℕ) (told told' : Option (List ℕ)) (count count' : ℕ) (r : Result ℕ Stop) → m ≡ m' →
     Comes (IsRunFrom word next names numbers m c turns) (IsRunFrom word next names numbers m c turns) told told' count count' r →
     Comes (IsRunFrom word next names numbers m' c turns) (IsRunFrom word next names numbers m' c turns) told told' count count' r
 comes_from word next names numbers m m' c turns told told' count count' r same h =
-    subst (λ (x : Whole). Comes (IsRunFrom word next names numbers x c turns) (IsRunFrom word next names numbers x c turns) told told' count count' r) same h
+    subst (λ (x : MachineState). Comes (IsRunFrom word next names numbers x c turns) (IsRunFrom word next names numbers x c turns) told told' count count' r) same h
 
-module _ {C : Type 0} (word : C → ℕ) (next : C → C) (names : List (List ℕ)) (numbers : Numbering) (m : Whole) (c : C) (turns : ℕ) (told0 told1 : Option (List ℕ)) (count0 count1 : ℕ) where
+module _ {C : Type 0} (word : C → ℕ) (next : C → C) (names : List (List ℕ)) (numbers : Numbering) (m : MachineState) (c : C) (turns : ℕ) (told0 told1 : Option (List ℕ)) (count0 count1 : ℕ) where
   abbrev run : Position C
   run = picked word next turns m c
 
@@ -51,13 +51,13 @@ module _ {C : Type 0} (word : C → ℕ) (next : C → C) (names : List (List �
   lines = lines_of numbers run.events
 
   abbrev rest : List ℕ
-  rest = rest_of_run names numbers (ending run) run.made (output_of run.machine)
+  rest = rest_of_run names numbers (run_end run) run.made (output_of run.machine)
 
   -- the first line was not written whole
   pub header_cut : (A E : Type 0) (e : E) → Wrote {A = A} (Err e) told0 told1 (header names numbers) → Rose count0 count1 → HasBroken (IsRunFrom word next names numbers m c turns) told0 told1 count0 count1
   header_cut A E e wrote rose = record {
     text = text_at names numbers run;
-    status = run_status (ending run);
+    status = run_status (run_end run);
     called = refl;
     put = (began_front told0 told1 (header names numbers) (lines ⧺ rest) (begun A E e told0 told1 (header names numbers) wrote), rose);
   }
@@ -73,7 +73,7 @@ module _ {C : Type 0} (word : C → ℕ) (next : C → C) (names : List (List �
     pub lines_cut : Began told1 told2 (lines_of numbers (picked word next turns m c).events) → Rose count1 count2 → HasBroken (IsRunFrom word next names numbers m c turns) told0 told2 count0 count2
     lines_cut h rose = record {
       text = text_at names numbers run;
-      status = run_status (ending run);
+      status = run_status (run_end run);
       called = refl;
       put = (lines_begun h, subst (λ n. Rose n count2) still rose);
     }
@@ -82,25 +82,25 @@ module _ {C : Type 0} (word : C → ℕ) (next : C → C) (names : List (List �
     pub lines_short : Began told1 told2 (lines_of numbers (picked word next turns m c).events) → count2 ≡ count1 → HasBegun (IsRunFrom word next names numbers m c turns) told0 told2 count0 count2
     lines_short h same = record {
       text = text_at names numbers run;
-      status = run_status (ending run);
+      status = run_status (run_end run);
       called = refl;
       front = lines_begun h;
       no_fault = same ∙ still;
     }
 
-    module _ (end : RunEnd) (made : ℕ) (m' : Whole) (told3 : Option (List ℕ)) (count3 : ℕ) (lines_are : told2 ≡ appended told1 (lines_of numbers (picked word next turns m c).events))
-        (made_is : made ≡ (picked word next turns m c).made) (end_is : end ≡ ending (picked word next turns m c)) (machine_is : m' ≡ (picked word next turns m c).machine) (same : count2 ≡ count1) where
+    module _ (end : RunEnd) (made : ℕ) (m' : MachineState) (told3 : Option (List ℕ)) (count3 : ℕ) (lines_are : told2 ≡ appended told1 (lines_of numbers (picked word next turns m c).events))
+        (made_is : made ≡ (picked word next turns m c).made) (end_is : end ≡ run_end (picked word next turns m c)) (machine_is : m' ≡ (picked word next turns m c).machine) (same : count2 ≡ count1) where
       rest_is : rest_of_run names numbers end made (output_of m') ≡ rest
       rest_is =
           ap (λ n. rest_of_run names numbers end n (output_of m')) made_is
           ∙ ap (λ e. rest_of_run names numbers e run.made (output_of m')) end_is
-          ∙ ap (λ (w : Whole). rest_of_run names numbers (ending run) run.made (output_of w)) machine_is
+          ∙ ap (λ (w : MachineState). rest_of_run names numbers (run_end run) run.made (output_of w)) machine_is
 
       -- what follows the lines was not written whole
       pub rest_cut : (A E : Type 0) (e : E) → Wrote {A = A} (Err e) told2 told3 (rest_of_run names numbers end made (output_of m')) → Rose count2 count3 → HasBroken (IsRunFrom word next names numbers m c turns) told0 told3 count0 count3
       rest_cut A E e h rose = record {
         text = text_at names numbers run;
-        status = run_status (ending run);
+        status = run_status (run_end run);
         called = refl;
         put = (
           began_behind told0 told1 told3 (header names numbers) (lines ⧺ rest) first_written

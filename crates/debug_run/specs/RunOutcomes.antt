@@ -1,11 +1,11 @@
 -- What the run of a program comes to: the text of its picked run, with the status of its end (this project's rules).
 use Rattle.std.specs.Prelude.{◌≡◌, ℕ, List}
 use Rattle.syn_event.specs.Numbering.{Numbering}
-use Rattle.task_model.specs.Machine.{Setup, Whole, opening_of}
+use Rattle.task_model.specs.Machine.{Setup, MachineState, opening_of}
 use Rattle.run_model.specs.declared.report.RunEnd.{RunEnd}
 use Rattle.run_model.specs.declared.report.RunEnd.TheVariants.{Ended, Stuck, Turns}
 use Rattle.run_model.specs.Outputs.{output_of}
-use Rattle.run_model.specs.Picked.{Position, picked, ending}
+use Rattle.run_model.specs.Picked.{Position, picked, run_end}
 use Rattle.debug_text.specs.RunText.{run_text}
 use Rattle.debug_outcome.specs.Outcomes.{Outcome, writes}
 
@@ -17,14 +17,14 @@ run_status Turns = 11
 
 -- the text of a run that stands here as its turns are spent, with what each task has written
 abbrev pub text_at : {C : Type 0} → List (List ℕ) → Numbering → Position C → List ℕ
-text_at names numbers p = run_text names numbers p.events (ending p) p.made (output_of p.machine)
+text_at names numbers p = run_text names numbers p.events (run_end p) p.made (output_of p.machine)
 
 -- that text, with the status of the end
 abbrev pub outcome_at : {C : Type 0} → List (List ℕ) → Numbering → Position C → Outcome
-outcome_at names numbers p = writes (text_at names numbers p) (run_status (ending p))
+outcome_at names numbers p = writes (text_at names numbers p) (run_status (run_end p))
 
 -- the outcome is that of the run from this machine that these choices pick, of at most so many turns
-abbrev pub IsRunFrom : {C : Type 0} → (C → ℕ) → (C → C) → List (List ℕ) → Numbering → Whole → C → ℕ → Outcome → Type 0
+abbrev pub IsRunFrom : {C : Type 0} → (C → ℕ) → (C → C) → List (List ℕ) → Numbering → MachineState → C → ℕ → Outcome → Type 0
 IsRunFrom word next names numbers m choices turns o = o ≡ outcome_at names numbers (picked word next turns m choices)
 
 -- The outcome is that of the program's run with its inputs, from its start, that these choices pick, of at most so many turns.

@@ -2,7 +2,7 @@
 use Rattle.std.proofs.Common.{◌≡◌, ◌≢◌, true, ℕ, List, subst}
 use Rattle.event_machine.specs.declared.Event.{Event}
 use Rattle.syn_event.specs.Numbering.{Numbering}
-use Rattle.syn_event.specs.Units.{text_of}
+use Rattle.syn_event.specs.DeclaredTasks.{text_of}
 use Rattle.seq_file.specs.Files.{HasFirstFault, SeqReads}
 use Rattle.seq_file.specs.Lines.{is_upper_name}
 use Rattle.seq_file.specs.Short.{IsShort}

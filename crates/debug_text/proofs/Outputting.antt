@@ -10,7 +10,7 @@ use Rattle.ded_io.specs.Written.{◌⧺◌, each_text}
 use Rattle.ded_io.proofs.Writes.{joined, joined_nil, joined_assoc}
 use Rattle.text_lines.specs.Lines.{is_line_end}
 use Rattle.text_lines.proofs.Walks.{split-Some, split-None}
-use Rattle.debug_text.specs.OutputText.{pieces_of, but_last, last_of, bar_line, angle_line, output_text}
+use Rattle.debug_text.specs.OutputText.{pieces_of, but_last, last_piece, bar_line, angle_line, output_text}
 use Rattle.common_lemmas.proofs.Truth.{clash}
 
 -- an output has a piece at least
@@ -22,19 +22,19 @@ but_last-cons : (piece : List ℕ) (pieces : List (List ℕ)) → 0 < length pie
 but_last-cons piece [] some = absurd (omega arith)
 but_last-cons piece (next ∷ rest) some = refl
 
-last_of-cons : (piece : List ℕ) (pieces : List (List ℕ)) → 0 < length pieces → last_of (piece ∷ pieces) ≡ last_of pieces
+last_of-cons : (piece : List ℕ) (pieces : List (List ℕ)) → 0 < length pieces → last_piece (piece ∷ pieces) ≡ last_piece pieces
 last_of-cons piece [] some = absurd (omega arith)
 last_of-cons piece (next ∷ rest) some = refl
 
 -- the text of pieces
 abbrev text_of_pieces : List (List ℕ) → List ℕ
-text_of_pieces pieces = each_text bar_line (but_last pieces) ⧺ angle_line (last_of pieces)
+text_of_pieces pieces = each_text bar_line (but_last pieces) ⧺ angle_line (last_piece pieces)
 
 text-cons : (piece : List ℕ) (pieces : List (List ℕ)) → 0 < length pieces → text_of_pieces (piece ∷ pieces) ≡ bar_line piece ++ text_of_pieces pieces
 text-cons piece pieces some =
-    ap (λ ps. each_text bar_line ps ⧺ angle_line (last_of (piece ∷ pieces))) (but_last-cons piece pieces some)
+    ap (λ ps. each_text bar_line ps ⧺ angle_line (last_piece (piece ∷ pieces))) (but_last-cons piece pieces some)
     ∙ ap (λ p. (bar_line piece ⧺ each_text bar_line (but_last pieces)) ⧺ angle_line p) (last_of-cons piece pieces some)
-    ∙ joined_assoc (bar_line piece) (each_text bar_line (but_last pieces)) (angle_line (last_of pieces))
+    ∙ joined_assoc (bar_line piece) (each_text bar_line (but_last pieces)) (angle_line (last_piece pieces))
     ∙ joined (bar_line piece) (text_of_pieces pieces)
 
 -- the first byte of a class stands at the place of the first

@@ -5,7 +5,7 @@ use Rattle.ded_io.specs.Written.{◌⧺◌}
 use Rattle.syn_event.specs.declared.numbering.EntryInfo.{EntryInfo}
 use Rattle.syn_event.specs.declared.numbering.TaskInfo.{TaskInfo}
 use Rattle.syn_event.specs.Numbering.{Numbering}
-use Rattle.syn_event.specs.Units.{text_of}
+use Rattle.syn_event.specs.DeclaredTasks.{text_of}
 use Rattle.debug_text.specs.RunText.{counts, task_lines, lines_at}
 
 -- the first and the last index of a family; a plain entry has none

@@ -15,10 +15,10 @@ but_last (piece ∷ []) = []
 but_last (piece ∷ next ∷ rest) = piece ∷ but_last (next ∷ rest)
 
 -- the last piece
-abbrev pub last_of : List (List ℕ) → List ℕ
-last_of [] = []
-last_of (piece ∷ []) = piece
-last_of (piece ∷ next ∷ rest) = last_of (next ∷ rest)
+abbrev pub last_piece : List (List ℕ) → List ℕ
+last_piece [] = []
+last_piece (piece ∷ []) = piece
+last_piece (piece ∷ next ∷ rest) = last_piece (next ∷ rest)
 
 -- the finished lines of an output, each without the line feed that ends it
 abbrev pub finished_lines : List ℕ → List (List ℕ)
@@ -26,7 +26,7 @@ finished_lines output = but_last (pieces_of output)
 
 -- what an output has behind its last line feed
 abbrev pub unfinished_line : List ℕ → List ℕ
-unfinished_line output = last_of (pieces_of output)
+unfinished_line output = last_piece (pieces_of output)
 
 -- a finished line, behind a bar
 abbrev pub bar_line : List ℕ → List ℕ

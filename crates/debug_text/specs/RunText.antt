@@ -8,7 +8,7 @@ use Rattle.run_model.specs.Lines.{lines_of}
 use Rattle.syn_event.specs.declared.numbering.TaskInfo.{TaskInfo}
 use Rattle.syn_event.specs.Numbering.{Numbering, original_tasks, original_entries}
 use Rattle.syn_event.specs.TaskText.{task_text}
-use Rattle.syn_event.specs.Units.{text_of}
+use Rattle.syn_event.specs.DeclaredTasks.{text_of}
 use Rattle.debug_text.specs.OutputText.{output_text}
 
 -- the name of the program and how many tasks beside main and entries the original has

@@ -25,10 +25,10 @@ pub data Asked : Type 0 where
   AsksReplay : List ℕ → List ℕ → Asked
 
 -- the value of decimal digits behind a value so far
-abbrev pub value_behind : ℕ → List ℕ → Option ℕ
-value_behind value [] = Some value
-value_behind value (digit ∷ digits) =
-    if nat_le 48 digit && nat_le digit 57 then value_behind (value * 10 + (digit - 48)) digits else None
+abbrev pub digits_value : ℕ → List ℕ → Option ℕ
+digits_value value [] = Some value
+digits_value value (digit ∷ digits) =
+    if nat_le 48 digit && nat_le digit 57 then digits_value (value * 10 + (digit - 48)) digits else None
 
 -- the digits do not begin with a zero, and there is one
 abbrev pub begins_well : List ℕ → Bool
@@ -41,7 +41,7 @@ up_to most n = if nat_le n most then Some n else None
 
 -- a number from 1 to 100,000,000 in decimal without leading zeros, so of at most nine digits
 abbrev pub number_of : List ℕ → Option ℕ
-number_of word = if begins_well word && nat_le (length word) 9 then option_and_then (up_to 100000000) (value_behind 0 word) else None
+number_of word = if begins_well word && nat_le (length word) 9 then option_and_then (up_to 100000000) (digits_value 0 word) else None
 
 -- the one digit 0
 abbrev pub is_zero : List ℕ → Bool
@@ -55,15 +55,15 @@ seed_of digits =
     then Some 0
     else (if not (begins_well digits) || not (nat_le (length digits) 20)
     then None
-    else option_and_then (up_to 18446744073709551615) (value_behind 0 digits))
+    else option_and_then (up_to 18446744073709551615) (digits_value 0 digits))
 
 -- a word for inputs is the name of a file, or `-` for none
 abbrev pub inputs_of : List ℕ → Option (List ℕ)
 inputs_of word = if bytes_eq word (codes "-") then None else Some word
 
 -- a word for choices is `-` for none, `seed:` and a number, or the name of a file; a word that begins with `seed:` is no file's name
-abbrev pub choices_of : List ℕ → Option ChoiceSource
-choices_of word =
+abbrev pub choice_source : List ℕ → Option ChoiceSource
+choice_source word =
     if bytes_eq word (codes "-")
     then Some NoChoices
     else (if starts_with nat_eq word (codes "seed:")
@@ -73,7 +73,7 @@ choices_of word =
 -- a run of a file, where the words behind it are inputs, choices and a number of turns
 abbrev pub asks_run : List ℕ → List ℕ → List ℕ → List ℕ → Option Asked
 asks_run file inputs choices number =
-    option_and_then (λ source. option_map (AsksRun file (inputs_of inputs) source) (number_of number)) (choices_of choices)
+    option_and_then (λ source. option_map (AsksRun file (inputs_of inputs) source) (number_of number)) (choice_source choices)
 
 -- the judging of a file, where the words behind it are inputs, the name of a file of a sequence and a number of local steps
 abbrev pub asks_judge : List ℕ → List ℕ → List ℕ → List ℕ → Option Asked

@@ -1,7 +1,7 @@
 // The words that the program is called with.
 
 ghost use Rattle.std.specs.Prelude.{◌≡◌, ◌≤◌, map, option_map, string_bytes, length};
-ghost use Rattle.debug_words.specs.Words.{asked_by, asks_of_one, asks_of_two, asks_of_four, asks_run, asks_judge, inputs_of, choices_of, seed_of, number_of, value_behind, begins_well, is_zero};
+ghost use Rattle.debug_words.specs.Words.{asked_by, asks_of_one, asks_of_two, asks_of_four, asks_run, asks_judge, inputs_of, choice_source, seed_of, number_of, digits_value, begins_well, is_zero};
 ghost use Rattle.debug_words.specs.Commands.{asked_as, source_as, name_as};
 
 /// What the words ask for.
@@ -182,7 +182,7 @@ fn inputs_of<'w>(word: &'w str) -> Option<&'w str>
 
 // The choices that the word stands for, if it stands for any.
 fn choices_of<'w>(word: &'w str) -> Option<Choices<'w>>
-    ensures { option_map source_as result ≡ choices_of word.now }
+    ensures { option_map source_as result ≡ choice_source word.now }
 {
     if word == "-" {
         return Some(Choices::Empty);
@@ -261,7 +261,7 @@ fn begins_well(word: &[u8]) -> bool
 // The value of at most twenty decimal digits.
 fn value_of(word: &[u8]) -> Option<u128>
     requires { length word.now ≤ 20 }
-    ensures { result ≡ value_behind 0 word.now }
+    ensures { result ≡ digits_value 0 word.now }
 {
     let mut value = 0u128;
     for digit in word {

@@ -92,12 +92,12 @@ report_text names numbers bound views count (Unsettled at t) None = []
 report_text names numbers bound views count (Unsettled at t) (Some e) = held_text names numbers bound at t e
 
 -- the event at the place of a verdict, counted from 1
-abbrev pub event_of : List Event → Verdict → Option Event
-event_of events Feasible = None
-event_of events (Infeasible at why) = slice_get events (at - 1)
-event_of events (Unsettled at t) = slice_get events (at - 1)
+abbrev pub event_at_place : List Event → Verdict → Option Event
+event_at_place events Feasible = None
+event_at_place events (Infeasible at why) = slice_get events (at - 1)
+event_at_place events (Unsettled at t) = slice_get events (at - 1)
 
 -- The text that judging these events writes: what `report` gives of all of them, of the verdict, and of the event at its place.
 abbrev pub judge_text : List (List ℕ) → Numbering → ℕ → (ℕ → View) → List Event → Verdict → List ℕ
 judge_text names numbers bound views events verdict =
-    report_text names numbers bound views (length events) verdict (event_of events verdict)
+    report_text names numbers bound views (length events) verdict (event_at_place events verdict)

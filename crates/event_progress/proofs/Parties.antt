@@ -8,7 +8,7 @@ use Rattle.event_machine.specs.declared.Event.{Event}
 use Rattle.event_machine.specs.declared.Event.TheVariants.{R, E, S, D, C, T, F, X, B, Z}
 use Rattle.event_machine.specs.Worlds.{is_last}
 use Rattle.event_machine.proofs.Basics.{both}
-use Rattle.event_progress.specs.Known.{Party, Known, idle, nobody, idle_parties, at_start, party, put, part, let_go, fall, advanced}
+use Rattle.event_progress.specs.Known.{Party, Known, idle, nobody, idle_parties, known_at_start, party, put, part, let_go, fall, advanced}
 
 -- who is known otherwise than nobody is a task
 pub known_below : (test : Party → Bool) (k : Known) (t : ℕ) → test nobody ≡ false → test (party k t) ≡ true → t < length k.parties
@@ -27,7 +27,7 @@ all_let_go x k = record { parties = map (let_go x) k.parties; ended = k.ended }
 pub let_go_at : (x : ℕ) (k : Known) (t : ℕ) → party (all_let_go x k) t ≡ let_go x (party k t)
 let_go_at x k t = get_or-map (let_go x) k.parties t nobody
 
-pub idle_at : (n t : ℕ) → t < n → party (at_start n) t ≡ idle
+pub idle_at : (n t : ℕ) → t < n → party (known_at_start n) t ≡ idle
 idle_at zero t l = absurd (omega (arith, l))
 idle_at (suc n) zero l = refl
 idle_at (suc n) (suc t) l = idle_at n t (omega (arith, l))

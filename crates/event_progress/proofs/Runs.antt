@@ -18,7 +18,7 @@ use Rattle.event_machine.proofs.Walking.{follow_moves, follows_self}
 use Rattle.event_machine.proofs.Erasing.{erasing}
 use Rattle.event_machine.proofs.Joining.{joined}
 use Rattle.event_machine.proofs.Reaching.{start_base}
-use Rattle.event_progress.specs.Known.{nobody, idle_parties, party, at_start, known, admits}
+use Rattle.event_progress.specs.Known.{nobody, idle_parties, party, known_at_start, known, admits}
 use Rattle.event_progress.specs.Laws.{told, IsYes, program_with, ToldByEvents, FeasibleIsAdmitted}
 use Rattle.event_progress.proofs.Parties.{idle_at, idle_length}
 use Rattle.event_progress.proofs.Seats.{told_still}
@@ -35,25 +35,25 @@ module _ {L : Type 0} (p : Program L) (IsProper : L → Type 0) (lawful : IsLawf
   base : IsBase p IsProper lawful start
   base = start_base p IsProper lawful s opening proper
 
-  tells_start : Tells p.ops (at_start p.size) start.tasks
+  tells_start : Tells p.ops (known_at_start p.size) start.tasks
   tells_start t = ⊎_elim within past (cases_lt t p.size)
     where
       stands : (z : Standing) → (s.seats t).standing ≡ z → told p.ops (record { local = (s.seats t).local; standing = z }) ≡ told p.ops (start.tasks t)
       stands z q = ap (λ y. told p.ops (record { local = (s.seats t).local; standing = y })) (sym q) ∙ sym (told_still p.ops (s.seats t).local (s.seats t).standing)
 
-      within : t < p.size → party (at_start p.size) t ≡ told p.ops (start.tasks t)
+      within : t < p.size → party (known_at_start p.size) t ≡ told p.ops (start.tasks t)
       within l = idle_at p.size t l ∙ ap (λ (cs : List ℕ). record { closed = false; server = None; callers = cs }) (sym (opening.callers t l)) ∙ stands Live (opening.live t l)
 
-      past : p.size ≤ t → party (at_start p.size) t ≡ told p.ops (start.tasks t)
+      past : p.size ≤ t → party (known_at_start p.size) t ≡ told p.ops (start.tasks t)
       past l = get_or_past (idle_parties p.size) t nobody (subst (λ n. n ≤ t) (sym (idle_length p.size)) l) ∙ stands Completed (opening.beyond t l)
 
-  knows_start : Knows p IsProper lawful (at_start p.size) start
+  knows_start : Knows p IsProper lawful (known_at_start p.size) start
   knows_start = record { sound = base.sound; tells = tells_start; ended = sym opening.ended }
 
   module _ (moves : List Move) (made : AreMoves p start moves) where
     -- What the events of moves tell is so of the world that they lead to.
     pub knows_after : Knows p IsProper lawful (known p.owner p.size (happened moves)) (world_after p start moves)
-    knows_after = knows_moves p IsProper lawful moves (at_start p.size) start knows_start made
+    knows_after = knows_moves p IsProper lawful moves (known_at_start p.size) start knows_start made
 
     pub completed_after : (t : ℕ) → p.size ≤ t → is_completed ((world_after p start moves).tasks t).standing ≡ true
     completed_after t l =

@@ -32,8 +32,8 @@ idle_parties zero = []
 idle_parties (suc n) = idle ∷ idle_parties n
 
 -- Before the first event all n tasks are free, and serve nobody.
-abbrev pub at_start : ℕ → Known
-at_start n = record { parties = idle_parties n; ended = false }
+abbrev pub known_at_start : ℕ → Known
+known_at_start n = record { parties = idle_parties n; ended = false }
 
 -- ---- what is read off
 
@@ -140,7 +140,7 @@ known_from owner k (e ∷ events) = known_from owner (advanced owner k e) events
 
 -- What is known of a program with n tasks after the events.
 abbrev pub known : (ℕ → ℕ) → ℕ → List Event → Known
-known owner n events = known_from owner (at_start n) events
+known owner n events = known_from owner (known_at_start n) events
 
 -- ---- whom an event touches
 

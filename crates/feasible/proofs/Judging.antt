@@ -36,7 +36,7 @@ use Rattle.task_machine.specs.Conditions.{first_failing}
 use Rattle.task_machine.specs.Conditions as asked_of
 use Rattle.task_machine.specs.Judging.{NoneOpen}
 use Rattle.task_machine.specs.Table.{seat_of}
-use Rattle.task_machine.specs.Views.{IsPastBound, IsRest, Stands, view_of, view_in}
+use Rattle.task_machine.specs.Views.{IsPastBound, IsRest, StandsInSomeRun, view_of, view_in}
 use Rattle.task_machine.proofs.TaskLaws.{the_count, the_standing}
 use Rattle.task_machine.proofs.Tabled.{AreSeen, table_happens, none_failing}
 use Rattle.feasible.specs.Failing.{view_at}
@@ -127,7 +127,7 @@ module _ (setup : Setup) (numbers : Numbering) (bound : ℕ) where
     runs : ended ≡ false
     runs = k.follows.ended ∙ leads_open m IsProper lawful (λ t. 0) events (first_world setup numbers) k.bases more refl k.leads
 
-    pub stands : (t : ℕ) → Stands setup numbers events t (kept t).standing
+    pub stands : (t : ℕ) → StandsInSomeRun setup numbers events t (kept t).standing
     stands t = subst (λ es. StandsAfter (rules_of numbers) (opening_of setup numbers).state es t (kept t).standing) (sym same_end)
         (subst (StandsAfter (rules_of numbers) (opening_of setup numbers).state events t) (sym (k.follows.each t).standing) (the_standing setup numbers events k.bases k.leads t))
 

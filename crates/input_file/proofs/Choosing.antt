@@ -13,7 +13,7 @@ use Rattle.text_lines.proofs.Joining.{joined-free, joined-words, words-joined, h
 use Rattle.text_lines.proofs.Marking.{IsFreeOf, free-prefix, decimal-free}
 use Rattle.text_lines.proofs.Narrowing.{number-small, small_number-of_decimal, word-of_small_number}
 use Rattle.input_file.specs.declared.errors.InputError.TheVariants.{TooMany}
-use Rattle.input_file.specs.ChoiceFiles.{most_choices, choice_text, choices_of_line, IsChoiceLine, choice_count, AreChoices, choice_fault, choice_format}
+use Rattle.input_file.specs.ChoiceFiles.{most_choices, choices_line, choices_of_line, IsChoiceLine, choice_count, AreChoices, choice_fault, choice_format}
 use Rattle.common_lemmas.proofs.Truth.{clash}
 
 -- the count is within the limit exactly where the line has no fault
@@ -51,14 +51,14 @@ numbers-free m h (n ∷ ns) small =
     All-cons (IsFreeOf m) (decimal n) (map decimal ns) (decimal-free m n h (number-small n (All-head (λ n. is_small_number n ≡ true) n ns small)))
     (numbers-free m h ns (All-tail (λ n. is_small_number n ≡ true) n ns small))
 
-free : (y : List ℕ) → IsChoiceLine y → IsFreeOf 10 (choice_text y)
+free : (y : List ℕ) → IsChoiceLine y → IsFreeOf 10 (choices_line y)
 free y line = joined-free 10 (map decimal y) refl (numbers-free 10 (omega arith) y line.small)
 
-words-written : (y : List ℕ) → y ≢ [] → All (IsFreeOf 32) (map decimal y) → words_of (choice_text y) ≡ map decimal y
+words-written : (y : List ℕ) → y ≢ [] → All (IsFreeOf 32) (map decimal y) → words_of (choices_line y) ≡ map decimal y
 words-written [] some words = absurd (some refl)
 words-written (n ∷ ns) some words = joined-words (decimal n) (map decimal ns) words
 
-written : (y : List ℕ) → IsChoiceLine y → choices_of_line (choice_text y) ≡ Some y
+written : (y : List ℕ) → IsChoiceLine y → choices_of_line (choices_line y) ≡ Some y
 written y line =
     ap (all_of small_number) (words-written y line.some (numbers-free 32 (omega arith) y line.small))
     ∙ all-written small_number decimal (λ n. is_small_number n ≡ true) small_number-of_decimal y line.small

@@ -15,7 +15,7 @@ use Rattle.text_lines.proofs.Narrowing.{integer-small, small_integer-of_signed, 
 use Rattle.text_lines.proofs.Spelling.{count-of_decimal, word-of_count}
 use Rattle.input_file.specs.declared.errors.InputError.{InputError}
 use Rattle.input_file.specs.declared.errors.InputError.TheVariants.{BadLine, UnknownTask, TooMany}
-use Rattle.input_file.specs.InputFiles.{most_inputs, InputLine, input_with, input_text, input_of_words, input_of_line, has_line, input_count, has_task, AreApart, IsInputLine, AreInputs, input_fault, input_format}
+use Rattle.input_file.specs.InputFiles.{most_inputs, InputLine, input_with, input_text, input_of_words, input_of_line, has_line, input_count, has_task, AreApart, IsInputLine, AreInputLines, input_fault, input_format}
 use Rattle.common_lemmas.proofs.Numbers.{unequal_turned}
 use Rattle.common_lemmas.proofs.Truth.{clash, or_left, or_right}
 
@@ -75,7 +75,7 @@ known-there numbers (x ∷ xs) y ys h = known-there numbers xs y ys (All-tail (I
 abbrev values_count : InputLine → ℕ
 values_count line = length line.values
 
-there : (numbers : Numbering) (xs : List InputLine) (y : InputLine) (ys : List InputLine) → AreInputs numbers (xs ++ (y ∷ ys)) → input_fault numbers xs (Some y) ≡ None
+there : (numbers : Numbering) (xs : List InputLine) (y : InputLine) (ys : List InputLine) → AreInputLines numbers (xs ++ (y ∷ ys)) → input_fault numbers xs (Some y) ≡ None
 there numbers xs y ys fit =
     let line : IsInputLine numbers y = known-there numbers xs y ys fit.each in
     sound-from numbers xs y record {
@@ -114,7 +114,7 @@ good numbers xs y line read h =
     let is : IsSpelled (words_of line) y = spelled (words_of line) y read in
     record { known = sound.known; small = is.values.good }
 
-one_more : (numbers : Numbering) (xs : List InputLine) (y : InputLine) (line : List ℕ) → AreInputs numbers xs → input_of_line line ≡ Some y → input_fault numbers xs (Some y) ≡ None → AreInputs numbers (xs ++ (y ∷ []))
+one_more : (numbers : Numbering) (xs : List InputLine) (y : InputLine) (line : List ℕ) → AreInputLines numbers xs → input_of_line line ≡ Some y → input_fault numbers xs (Some y) ≡ None → AreInputLines numbers (xs ++ (y ∷ []))
 one_more numbers xs y line fit read h =
     let sound : IsSoundBehind numbers xs y = sound-to numbers xs y h in
     record {

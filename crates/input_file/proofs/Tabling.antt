@@ -13,7 +13,7 @@ use Rattle.input_file.specs.declared.errors.InputError.{InputError}
 use Rattle.input_file.specs.declared.errors.InputError.TheVariants.{BadLine, UnknownTask, TooMany}
 use Rattle.input_file.specs.declared.table.Table.{Table}
 use Rattle.input_file.specs.inner.Tables.{IsTableOf, capped_line}
-use Rattle.input_file.specs.InputFiles.{most_inputs, InputLine, has_line, values_of, input_count, has_task, input_fault, AreListsOf}
+use Rattle.input_file.specs.InputFiles.{most_inputs, InputLine, has_line, line_values, input_count, has_task, input_fault, AreListsOf}
 use Rattle.input_file.proofs.Inputting.{IsSoundBehind, sound-to, has-push_other}
 use Rattle.common_lemmas.proofs.Numbers.{lt_false}
 use Rattle.common_lemmas.proofs.Truth.{or_left, or_right}
@@ -50,13 +50,13 @@ has-push_same t (x ∷ xs) y h = ap (λ b. (x.task == t) || b) (has-push_same t 
     or-true true = refl
     or-true false = refl
 
-values-push_same : (t : ℕ) (xs : List InputLine) (y : InputLine) → (y.task == t) ≡ true → has_line t xs ≡ false → values_of t (xs ++ (y ∷ [])) ≡ y.values
+values-push_same : (t : ℕ) (xs : List InputLine) (y : InputLine) → (y.task == t) ≡ true → has_line t xs ≡ false → line_values t (xs ++ (y ∷ [])) ≡ y.values
 values-push_same t [] y h first = ap (λ b. cond b y.values []) h
 values-push_same t (x ∷ xs) y h first =
-    ap (λ b. cond b x.values (values_of t (xs ++ (y ∷ [])))) (or_left (x.task == t) (has_line t xs) first)
+    ap (λ b. cond b x.values (line_values t (xs ++ (y ∷ [])))) (or_left (x.task == t) (has_line t xs) first)
     ∙ values-push_same t xs y h (or_right (x.task == t) (has_line t xs) first)
 
-values-push_other : (t : ℕ) (xs : List InputLine) (y : InputLine) → (y.task == t) ≡ false → values_of t (xs ++ (y ∷ [])) ≡ values_of t xs
+values-push_other : (t : ℕ) (xs : List InputLine) (y : InputLine) → (y.task == t) ≡ false → line_values t (xs ++ (y ∷ [])) ≡ line_values t xs
 values-push_other t [] y h = ap (λ b. cond b y.values []) h
 values-push_other t (x ∷ xs) y h = ap (cond (x.task == t) x.values) (values-push_other t xs y h)
 

@@ -12,8 +12,8 @@ abbrev pub most_choices : ℕ
 most_choices = 4000000
 
 -- a line of choices: their numbers in decimal, with a blank between each two
-abbrev pub choice_text : List ℕ → List ℕ
-choice_text line = join_with_byte 32 (map decimal line)
+abbrev pub choices_line : List ℕ → List ℕ
+choices_line line = join_with_byte 32 (map decimal line)
 
 -- The choices that a line writes, numbers of 32 bits without a sign; none where the line is not in the grammar.
 abbrev pub choices_of_line : List ℕ → Option (List ℕ)
@@ -43,7 +43,7 @@ choice_fault before (Some line) =
 abbrev pub choice_format : Format (List ℕ) InputError
 choice_format = record {
   header = codes "ded-choices 1";
-  text = choice_text;
+  text = choices_line;
   read = choices_of_line;
   Fit = AreChoices;
   fault = choice_fault;

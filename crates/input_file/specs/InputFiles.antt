@@ -41,9 +41,9 @@ has_line task [] = false
 has_line task (line ∷ rest) = (line.task == task) || has_line task rest
 
 -- what the task reads: the integers of its line, and none where it has no line
-abbrev pub values_of : ℕ → List InputLine → List ℤ
-values_of task [] = []
-values_of task (line ∷ rest) = if line.task == task then line.values else values_of task rest
+abbrev pub line_values : ℕ → List InputLine → List ℤ
+line_values task [] = []
+line_values task (line ∷ rest) = if line.task == task then line.values else line_values task rest
 
 -- how many integers the lines have
 abbrev pub input_count : List InputLine → ℕ
@@ -64,7 +64,7 @@ pub record IsInputLine (numbers : Numbering) (line : InputLine) : Type 0 where
   pub small : All (λ z. is_small_integer z ≡ true) line.values
 
 -- the lines may stand in one file
-pub record AreInputs (numbers : Numbering) (lines : List InputLine) : Type 0 where
+pub record AreInputLines (numbers : Numbering) (lines : List InputLine) : Type 0 where
   pub each : All (IsInputLine numbers) lines
   pub apart : AreApart lines
   pub few : input_count lines ≤ most_inputs
@@ -84,7 +84,7 @@ input_format numbers = record {
   header = codes "ded-in 1";
   text = input_text;
   read = input_of_line;
-  Fit = AreInputs numbers;
+  Fit = AreInputLines numbers;
   fault = input_fault numbers;
   unnamed = BadLine 1;
 }
@@ -92,7 +92,7 @@ input_format numbers = record {
 -- for each of so many tasks, what it reads by these lines
 pub record AreListsOf (tasks : ℕ) (lines : List InputLine) (inputs : List (List ℤ)) : Type 0 where
   pub count : length inputs ≡ tasks
-  pub each : (task : ℕ) → task < tasks → slice_index_or inputs task [] ≡ values_of task lines
+  pub each : (task : ℕ) → task < tasks → slice_index_or inputs task [] ≡ line_values task lines
 
 -- The bytes are an input file, and these are the inputs of the program's tasks, from 0.
 pub record InputsRead (numbers : Numbering) (bytes : List ℕ) (inputs : List (List ℤ)) : Type 0 where

@@ -5,7 +5,7 @@ use Rattle.event_machine.specs.declared.Action.TheVariants.{Local, Arrive, Start
 use Rattle.event_machine.specs.Programs.{Program}
 use Rattle.syn_event.specs.Numbering.{Numbering, owner_of}
 use Rattle.task_model.proofs.Lawful.{lawful}
-use Rattle.task_model.specs.Machine.{Whole, after, enabled_of}
+use Rattle.task_model.specs.Machine.{MachineState, after, enabled_of}
 use Rattle.task_model.specs.TaskOps.{task_ops}
 use Rattle.task_model.specs.Tasks.{Task}
 use Rattle.task_machine.specs.Table.{can}
@@ -19,7 +19,7 @@ abbrev program : Numbering → Program Task
 program numbers = record { ops = task_ops; owner = owner_of numbers; size = 0 }
 
 -- a machine with the same list goes on as this one
-listed_behind : (m : Whole) (t : ℕ) (actions : List Action) → IsListed m actions → enabled_of (after m (Local t)) ≡ enabled_of m → IsListed (after m (Local t)) actions
+listed_behind : (m : MachineState) (t : ℕ) (actions : List Action) → IsListed m actions → enabled_of (after m (Local t)) ≡ enabled_of m → IsListed (after m (Local t)) actions
 listed_behind m t actions h same = record {
   goes_on = ap (λ xs. if m.state.ended then Some Ended else (if is_nil xs then Some Stuck else None)) same ∙ h.goes_on;
   listed = h.listed ∙ sym same;
@@ -28,7 +28,7 @@ listed_behind m t actions h same = record {
 }
 
 -- the list behind such a step is that before it
-pub listed_on : (m m' : Whole) (action : Action) (actions : List Action) → IsListed m actions → can m action ≡ true → m' ≡ after m action → steps_again m' action ≡ true → IsListed m' actions
+pub listed_on : (m m' : MachineState) (action : Action) (actions : List Action) → IsListed m actions → can m action ≡ true → m' ≡ after m action → steps_again m' action ≡ true → IsListed m' actions
 listed_on m m' (Local t) actions h first made again =
     subst (λ w. IsListed w actions) (sym made) (listed_behind m t actions h
     (enabled_kept (program m.numbers) lawful.rests m.state t first (ap (λ w. can w (Local t)) (sym made) ∙ again)))

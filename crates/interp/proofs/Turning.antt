@@ -10,7 +10,7 @@ use Rattle.event_machine.specs.declared.Event.{Event}
 use Rattle.syn_event.specs.Numbering.{Numbering}
 use Rattle.event_machine.specs.Applying.{actions_below}
 use Rattle.task_model.specs.TaskOps.{task_ops}
-use Rattle.task_model.specs.Machine.{Whole, enabled_of, after, event_of}
+use Rattle.task_model.specs.Machine.{MachineState, enabled_of, after, event_of}
 use Rattle.task_machine.specs.Table.{can, seen_in}
 use Rattle.run_model.specs.declared.report.RunEnd.{RunEnd}
 use Rattle.interp.specs.declared.report.RunError.TheVariants.{Sink}
@@ -29,14 +29,14 @@ unfolding Wrote
 begun A e told told' bytes h = h
 
 -- the line of the event that a step answered
-pub line_written : {A : Type 0} (E : Type 0) (numbers : Numbering) (m : Whole) (action : Action) (event : Option Event) (x : A) (told told' : Option (List ℕ)) →
+pub line_written : {A : Type 0} (E : Type 0) (numbers : Numbering) (m : MachineState) (action : Action) (event : Option Event) (x : A) (told told' : Option (List ℕ)) →
     event ≡ event_of m action → Wrote {E = E} (Ok x) told told' (lines_of numbers (option_to_list event)) →
     told' ≡ appended told (lines_of numbers (option_to_list (event_of m action)))
 line_written E numbers m action event x told told' is done =
     written E x told told' _ done ∙ ap (λ e. appended told (lines_of numbers (option_to_list e))) is
 
 -- the machine made the action, and its line could not be written whole
-pub line_broken : {E : Type 0} (A : Type 0) (numbers : Numbering) (m m' : Whole) (action : Action) (event : Option Event) (e : E) (told told' : Option (List ℕ)) (faults faults' : ℕ) →
+pub line_broken : {E : Type 0} (A : Type 0) (numbers : Numbering) (m m' : MachineState) (action : Action) (event : Option Event) (e : E) (told told' : Option (List ℕ)) (faults faults' : ℕ) →
     event ≡ event_of m action → m' ≡ after m action → Wrote {A = A} (Err e) told told' (lines_of numbers (option_to_list event)) → Rose faults faults' →
     IsBroken numbers m action m' told told' faults faults' Sink
 line_broken A numbers m m' action event e told told' faults faults' is made failed rose =
@@ -54,13 +54,13 @@ passes_filter p [] k d h = absurd (omega arith)
 passes_filter p (x ∷ xs) k d h = passes_cond p (p x) x (filter p xs) k d refl h (λ j hj. passes_filter p xs j d hj)
 
 -- the picked action applies
-pub picked_applies : (m : Whole) (word : ℕ) → 0 < length (enabled_of m) → can m (picked_action m word) ≡ true
+pub picked_applies : (m : MachineState) (word : ℕ) → 0 < length (enabled_of m) → can m (picked_action m word) ≡ true
 picked_applies m word some =
     passes_filter (can m) (actions_below task_ops (seen_in m.state.seats m.state.line) (length m.state.seats) ++ End ∷ []) (word % length (enabled_of m)) End
     (mod-lt word some)
 
 -- the action that was picked from the list
-pub is_picked : {C : Type 0} (word : C → ℕ) (next : C → C) (m : Whole) (old new : C) (xs : List Action) (action : Action) (end : Option RunEnd) → end ≡ halted m → end ≡ None → xs ≡ enabled_of m → 0 < length xs →
+pub is_picked : {C : Type 0} (word : C → ℕ) (next : C → C) (m : MachineState) (old new : C) (xs : List Action) (action : Action) (end : Option RunEnd) → end ≡ halted m → end ≡ None → xs ≡ enabled_of m → 0 < length xs →
     action ≡ slice_index_or xs (word old % length xs) End → new ≡ next old → IsPicked word next m old new action
 is_picked word next m old new xs action end is none listed some picked chooser =
     let it : action ≡ picked_action m (word old) = picked ∙ ap (λ ys. slice_index_or ys (word old % length ys) End) listed in

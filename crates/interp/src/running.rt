@@ -8,7 +8,7 @@ ghost use Rattle.interp.specs.CutOff.{IsCutOff};
 ghost use Rattle.interp.specs.inner.Chosen.{IsChosen, IsBroken};
 ghost use Rattle.interp.specs.inner.Listed.{IsListed, IsListedFor, steps_again};
 ghost use Rattle.run_model.specs.Lines.{event_line, lines_of};
-ghost use Rattle.run_model.specs.Picked.{picked, ending, halted};
+ghost use Rattle.run_model.specs.Picked.{picked, run_end, halted};
 ghost use Rattle.task_model.specs.Machine.{after, event_of, enabled_of};
 ghost use Rattle.task_machine.specs.Table.{can};
 
@@ -170,7 +170,7 @@ pub fn run<C: Chooser, K: Sink>(
     ensures machine { OnOk result (m.new ≡ (picked C.word C.next turns m.old choices.old).machine) }
     ensures chooser { OnOk result (choices.new ≡ (picked C.word C.next turns m.old choices.old).chooser) }
     ensures made { IfOk result (λ report. report.made ≡ (picked C.word C.next turns m.old choices.old).made) }
-    ensures end { IfOk result (λ report. report.end ≡ ending (picked C.word C.next turns m.old choices.old)) }
+    ensures end { IfOk result (λ report. report.end ≡ run_end (picked C.word C.next turns m.old choices.old)) }
     ensures lines { OnOk result (K.told out.new ≡ appended (K.told out.old) (lines_of numbers.now (picked C.word C.next turns m.old choices.old).events)) }
     ensures no_fault { OnOk result (K.faults out.new ≡ K.faults out.old) }
 

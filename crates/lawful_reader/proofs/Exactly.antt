@@ -6,7 +6,7 @@ use Rattle.std.proofs.lemmas.List.{append_assoc, append-nil, append_cancel_right
 use Rattle.lawful_reader.specs.Readers.{Found, Fault, Reader, left_at, go_on}
 use Rattle.lawful_reader.specs.Grammars.{Texts, Begins, first_of}
 use Rattle.lawful_reader.specs.Lawful.{IsYes}
-use Rattle.lawful_reader.specs.Exactness.{LawfulAtEach, FindsExactly, IsSyntax, IsTooDeep, FaultsExactly, Whole, whole, ReadsWhole}
+use Rattle.lawful_reader.specs.Exactness.{LawfulAtEach, FindsExactly, IsSyntax, IsTooDeep, FaultsExactly, WholeText, whole, ReadsWhole}
 use Rattle.lawful_reader.proofs.Basics.{not_both, found_tree, found_rest, fault_rest, fault_deep, not_empty, same_last, last_split, found_through, fault_through}
 use Rattle.lawful_reader.proofs.Binding.{begins_some}
 use Rattle.lawful_reader.proofs.Looking.{decided}
@@ -94,11 +94,11 @@ left_fault ends a (k ∷ ts) deep x rest e = ⊎_elim
     (decided (ends k))
 
 module _ {K A : Type 0} (ends : K → Bool) (D : Texts K A) (s : K) (stop : ends s ≡ true) where
-  begins_whole : (e : ℕ) (front : List K) → Begins (D e) front → Begins (Whole ends D e) front
+  begins_whole : (e : ℕ) (front : List K) → Begins (D e) front → Begins (WholeText ends D e) front
   begins_whole e front (a, more, text) = (a, more ++ (s ∷ []), (front ++ more, s, sym (append_assoc front more (s ∷ [])), stop, text))
 
   -- with one more token: it ends the text, or the text goes on
-  whole_begins : (e : ℕ) (front : List K) (x : K) → Begins (Whole ends D e) (front ++ (x ∷ [])) → ((a : A) × D e a front × (ends x ≡ true)) ⊎ Begins (D e) (front ++ (x ∷ []))
+  whole_begins : (e : ℕ) (front : List K) (x : K) → Begins (WholeText ends D e) (front ++ (x ∷ [])) → ((a : A) × D e a front × (ends x ≡ true)) ⊎ Begins (D e) (front ++ (x ∷ []))
   whole_begins e front x (a, more, (g, y, is, end, text)) = ⊎_elim
       (λ none.
       let (same, last) = same_last front g x y (sym (append-nil (front ++ (x ∷ []))) ∙ ap (λ l. (front ++ (x ∷ [])) ++ l) (sym none) ∙ is) in
@@ -120,7 +120,7 @@ module _ {K A : Type 0} (ends : K → Bool) (D : Texts K A) (s : K) (stop : ends
         ap (λ answer. go_on answer (left_at ends)) ((laws d).careful.complete x rest text end) ∙ ap (λ t. if t then Found a (x ∷ rest) else Fault false (x ∷ rest)) end
 
     -- what is found at a token that ends no text
-    goes_wrong : (d : ℕ) (a : A) (front : List K) (x : K) (rest : List K) → p d (front ++ (x ∷ rest)) ≡ Found a (x ∷ rest) → ends x ≡ false → (e : ℕ) → Begins (Whole ends D e) (front ++ (x ∷ [])) → ⊥
+    goes_wrong : (d : ℕ) (a : A) (front : List K) (x : K) (rest : List K) → p d (front ++ (x ∷ rest)) ≡ Found a (x ∷ rest) → ends x ≡ false → (e : ℕ) → Begins (WholeText ends D e) (front ++ (x ∷ [])) → ⊥
     goes_wrong d a front x rest one off e begins = ⊎_elim
         (λ (b, text, end). true≢false (sym end ∙ off))
         (λ (b, more, text).
@@ -132,7 +132,7 @@ module _ {K A : Type 0} (ends : K → Bool) (D : Texts K A) (s : K) (stop : ends
         not_empty [] x more (append_cancel_right [] (x ∷ more) (s ∷ []) (found_rest (sym there ∙ ap (p (e + d)) same ∙ here))))
         (whole_begins e front x begins)
 
-    whole_syntax : (d : ℕ) (ts : List K) (x : K) (rest : List K) → whole ends p d ts ≡ Fault false (x ∷ rest) → IsSyntax (Whole ends D) d ts x rest
+    whole_syntax : (d : ℕ) (ts : List K) (x : K) (rest : List K) → whole ends p d ts ≡ Fault false (x ∷ rest) → IsSyntax (WholeText ends D) d ts x rest
     whole_syntax d ts x rest e = ⊎_elim
         (λ one. let is = syntax_exactly p laws s stop d ts x rest one in record {
           front = is.front;
@@ -157,7 +157,7 @@ module _ {K A : Type 0} (ends : K → Bool) (D : Texts K A) (s : K) (stop : ends
         })
         (fault_through (p d ts) (left_at ends) e)
 
-    whole_too_deep : (d : ℕ) (ts : List K) (x : K) (rest : List K) → whole ends p d ts ≡ Fault true (x ∷ rest) → IsTooDeep (Whole ends D) d ts x rest
+    whole_too_deep : (d : ℕ) (ts : List K) (x : K) (rest : List K) → whole ends p d ts ≡ Fault true (x ∷ rest) → IsTooDeep (WholeText ends D) d ts x rest
     whole_too_deep d ts x rest e = ⊎_elim
         (λ one. let is = too_deep_exactly p laws s stop d ts x rest one in record {
           front = is.front;

@@ -34,8 +34,8 @@ pub record FaultsExactly {K A : Type 0} (p : ℕ → Reader K A) (D : Texts K A)
   pub too_deep_at : (d : ℕ) (ts : List K) (x : K) (rest : List K) → p d ts ≡ Fault true (x ∷ rest) → IsTooDeep D d ts x rest
 
 -- A whole text: a text and then a token that ends it.
-abbrev pub Whole : {K A : Type 0} → (K → Bool) → Texts K A → Texts K A
-Whole {K} ends D d a text = (front : List K) × (x : K) × (text ≡ front ++ (x ∷ [])) × (ends x ≡ true) × D d a front
+abbrev pub WholeText : {K A : Type 0} → (K → Bool) → Texts K A → Texts K A
+WholeText {K} ends D d a text = (front : List K) × (x : K) × (text ≡ front ++ (x ∷ [])) × (ends x ≡ true) × D d a front
 
 -- A reader of whole texts, which leaves the token that ends them.
 abbrev pub whole : {K A : Type 0} → (K → Bool) → (ℕ → Reader K A) → ℕ → Reader K A
@@ -46,7 +46,7 @@ pub record ReadsWhole {K A : Type 0} (ends : K → Bool) (p : ℕ → Reader K A
   pub reads : (d : ℕ) (a : A) (front : List K) (x : K) (rest : List K) → ends x ≡ true → (whole ends p d (front ++ (x ∷ rest)) ≡ Found a (x ∷ rest)) ↔ D d a front
   pub stops : (d : ℕ) (ts : List K) (a : A) (rest : List K) → whole ends p d ts ≡ Found a rest → (x : K) × (more : List K) × (rest ≡ x ∷ more) × (ends x ≡ true)
   pub one_tree : (d e : ℕ) (a b : A) (text : List K) → D d a text → D e b text → a ≡ b
-  pub faults : FaultsExactly (whole ends p) (Whole ends D)
+  pub faults : FaultsExactly (whole ends p) (WholeText ends D)
 
 -- the texts that a test tells, at each depth and for each tree
 abbrev pub Told : {K A : Type 0} → (ℕ → A → List K → Bool) → Texts K A

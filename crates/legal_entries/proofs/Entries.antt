@@ -8,9 +8,9 @@ use Rattle.ada_tree.specs.PlainDecl.{PEntry, PTask}
 use Rattle.ada_tree.specs.PlainProgram.{PProgram}
 use Rattle.syn_event.specs.declared.numbering.EntryInfo.{EntryInfo}
 use Rattle.syn_event.specs.Numbering.{Numbering, task_at, entry_at}
-use Rattle.syn_event.specs.Numbered.{with_origin}
+use Rattle.syn_event.specs.AddedNames.{with_origin}
 use Rattle.syn_event.specs.NamedTasks.{NumberedTask, numbered_tasks}
-use Rattle.syn_event.specs.AllNumbers.{info_of_task, entry_of_task, entries_of_tasks, all_numbers, family_extent, first_of, last_of}
+use Rattle.syn_event.specs.AllNumbers.{info_of_task, entry_of_task, entries_of_tasks, all_numbers, family_extent, first_of, last_index}
 use Rattle.task_model.specs.Setting.{Setting, entry_of, is_family, is_family_in, unit_named, formals_of_entry, formals_in, formals_of_unit, formals_of_info}
 use Rattle.normal_model.specs.Ranges.{range_of_entry, range_in, range_of_unit, range_of_info, family_range}
 use Rattle.legal_entries.proofs.Lists.{find-behind, find-mapped, found-place}
@@ -80,7 +80,7 @@ module _ (p : PProgram) (T : TypeTable) where
     pub range : family_range g (entry_of numbers t id) ≡ e.family
     pub formals : formals_of_info g (entry_at numbers (entry_of numbers t id)) ≡ e.formals
     pub first : info.first ≡ first_of (family_extent T e.family)
-    pub last : info.last ≡ last_of (family_extent T e.family)
+    pub last : info.last ≡ last_index (family_extent T e.family)
 
   pub mapped-at : (xs : List NumberedTask) (k : ℕ) (x : NumberedTask) → slice_get xs k ≡ Some x → slice_get (map (info_of_task p.names) xs) k ≡ Some (info_of_task p.names x)
   mapped-at [] k x e = absurd (none-some x e)

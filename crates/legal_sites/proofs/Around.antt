@@ -6,7 +6,7 @@ use Rattle.std.proofs.lemmas.Option.{none-some}
 use Rattle.ada_tree.specs.declared.naming.NameId.{NameId}
 use Rattle.ada_tree.specs.declared.naming.Span.{Span}
 use Rattle.ada_tree.specs.declared.naming.Word.{Word}
-use Rattle.ada_tree.specs.Scope.{Scope, Seen, Thing, TaskType, MainProcedure, EntryPart, meaning, entries_of, entry_named, is_entry_somewhere}
+use Rattle.ada_tree.specs.Scope.{Scope, NameMeaning, Thing, TaskType, MainProcedure, EntryPart, meaning, entries_of, entry_named, is_entry_somewhere}
 use Rattle.ada_tree.specs.Declaring.{seen_as, with_name, with_names}
 use Rattle.ada_tree.specs.RuleUnknown.{unseen}
 use Rattle.syn_event.specs.declared.meanings.Meant.{Meant}
@@ -45,7 +45,7 @@ module _ (Own : ℕ → Type 0) where
   abbrev pub OwnThing : Thing → Type 0
   OwnThing thing = AllByRecursion OwnPart (entries_of thing)
 
-  abbrev pub OwnSeen : Seen → Type 0
+  abbrev pub OwnSeen : NameMeaning → Type 0
   OwnSeen x = Own x.name × OwnThing x.thing
 
   abbrev pub OwnLoop : Option NameId → Type 0
@@ -65,18 +65,18 @@ module _ (Own : ℕ → Type 0) where
 
   -- ---- what a name means
 
-  found : (xs : List Seen) (n : ℕ) (x : Seen) → AllByRecursion OwnSeen xs → find (λ y. y.name == n) xs ≡ Some x → Own n × OwnThing x.thing
+  found : (xs : List NameMeaning) (n : ℕ) (x : NameMeaning) → AllByRecursion OwnSeen xs → find (λ y. y.name == n) xs ≡ Some x → Own n × OwnThing x.thing
   found [] n x h e = absurd (none-some x e)
   found (y ∷ ys) n x h e = by_test (y.name == n) refl e (found ys n x h.1)
     where
       by_test : (b : Bool) → (y.name == n) ≡ b → (if b then Some y else find (λ z. z.name == n) ys) ≡ Some x → (find (λ z. z.name == n) ys ≡ Some x → Own n × OwnThing x.thing) → Own n × OwnThing x.thing
-      by_test true f g rest = (subst Own (eqb-true y.name n f) h.0.0, subst (λ (z : Seen). OwnThing z.thing) (some_same g) h.0.1)
+      by_test true f g rest = (subst Own (eqb-true y.name n f) h.0.0, subst (λ (z : NameMeaning). OwnThing z.thing) (some_same g) h.0.1)
       by_test false f g rest = rest g
 
   pub means : (s : Scope) (id : NameId) (thing : Thing) → AllByRecursion OwnSeen s.names → meaning s id ≡ Some thing → Own id.0 × OwnThing thing
   means s id thing h e = by_find (find (λ x. x.name == id.0) s.names) refl e
     where
-      by_find : (o : Option Seen) → find (λ x. x.name == id.0) s.names ≡ o → option_map (λ (x : Seen). x.thing) o ≡ Some thing → Own id.0 × OwnThing thing
+      by_find : (o : Option NameMeaning) → find (λ x. x.name == id.0) s.names ≡ o → option_map (λ (x : NameMeaning). x.thing) o ≡ Some thing → Own id.0 × OwnThing thing
       by_find None f g = absurd (none-some thing g)
       by_find (Some x) f g = let r = found s.names id.0 x h f in (r.0, subst OwnThing (some_same g) r.1)
 
@@ -97,12 +97,12 @@ module _ (Own : ℕ → Type 0) where
       by_test true f g rest = subst Own (eqb-true x.name.0 id.0 f) h.0
       by_test false f g rest = rest g
 
-  somewhere : (xs : List Seen) (id : NameId) → AllByRecursion OwnSeen xs → list_any (λ (x : Seen). is_some (entry_named (entries_of x.thing) id)) xs ≡ true → Own id.0
+  somewhere : (xs : List NameMeaning) (id : NameId) → AllByRecursion OwnSeen xs → list_any (λ (x : NameMeaning). is_some (entry_named (entries_of x.thing) id)) xs ≡ true → Own id.0
   somewhere [] id h e = absurd (true≢false (sym e))
   somewhere (x ∷ xs) id h e = by_test (is_some (entry_named (entries_of x.thing) id)) refl e (somewhere xs id h.1)
     where
-      by_test : (b : Bool) → is_some (entry_named (entries_of x.thing) id) ≡ b → (b || list_any (λ (y : Seen). is_some (entry_named (entries_of y.thing) id)) xs) ≡ true →
-          (list_any (λ (y : Seen). is_some (entry_named (entries_of y.thing) id)) xs ≡ true → Own id.0) → Own id.0
+      by_test : (b : Bool) → is_some (entry_named (entries_of x.thing) id) ≡ b → (b || list_any (λ (y : NameMeaning). is_some (entry_named (entries_of y.thing) id)) xs) ≡ true →
+          (list_any (λ (y : NameMeaning). is_some (entry_named (entries_of y.thing) id)) xs ≡ true → Own id.0) → Own id.0
       by_test true f g rest = entry-own (entries_of x.thing) id h.0.1 f
       by_test false f g rest = rest g
 
@@ -122,9 +122,9 @@ module _ (Own : ℕ → Type 0) where
     own = subst (AllByRecursion OwnPart) f h.own;
     loops = subst (AllByRecursion OwnLoop) k h.loops;
     types = λ id es q. ap (λ (l : List (ℕ × Meant)). option_map (λ y. y.1) (find (λ y. y.0 == id.0) l)) (sym g)
-        ∙ h.types id es (ap (λ (l : List Seen). option_map (λ y. y.thing) (find (λ y. y.name == id.0) l)) e ∙ q);
+        ∙ h.types id es (ap (λ (l : List NameMeaning). option_map (λ y. y.thing) (find (λ y. y.name == id.0) l)) e ∙ q);
     main = λ id q. ap (λ (l : List (ℕ × Meant)). option_map (λ y. y.1) (find (λ y. y.0 == id.0) l)) (sym g)
-        ∙ h.main id (ap (λ (l : List Seen). option_map (λ y. y.thing) (find (λ y. y.name == id.0) l)) e ∙ q);
+        ∙ h.main id (ap (λ (l : List NameMeaning). option_map (λ y. y.thing) (find (λ y. y.name == id.0) l)) e ∙ q);
   }
 
   -- a name for both
@@ -137,12 +137,12 @@ module _ (Own : ℕ → Type 0) where
     main = λ id e. main id (w.name.0 == id.0) e;
   }
     where
-      types : (id : NameId) (es : List EntryPart) (b : Bool) → option_map (λ (x : Seen). x.thing) (if b then Some (seen_as thing w.name.0) else find (λ x. x.name == id.0) s.names) ≡ Some (TaskType es) →
+      types : (id : NameId) (es : List EntryPart) (b : Bool) → option_map (λ (x : NameMeaning). x.thing) (if b then Some (seen_as thing w.name.0) else find (λ x. x.name == id.0) s.names) ≡ Some (TaskType es) →
           option_map (λ (y : ℕ × Meant). y.1) (if b then Some (w.name.0, m) else find (λ y. y.0 == id.0) a.names) ≡ Some meant.TaskType
       types id es true e = absurd (other-type thing es p (some_same e))
       types id es false e = h.types id es e
 
-      main : (id : NameId) (b : Bool) → option_map (λ (x : Seen). x.thing) (if b then Some (seen_as thing w.name.0) else find (λ x. x.name == id.0) s.names) ≡ Some MainProcedure →
+      main : (id : NameId) (b : Bool) → option_map (λ (x : NameMeaning). x.thing) (if b then Some (seen_as thing w.name.0) else find (λ x. x.name == id.0) s.names) ≡ Some MainProcedure →
           option_map (λ (y : ℕ × Meant). y.1) (if b then Some (w.name.0, m) else find (λ y. y.0 == id.0) a.names) ≡ Some meant.MainProcedure
       main id true e = absurd (other-main thing p (some_same e))
       main id false e = h.main id e
@@ -161,12 +161,12 @@ module _ (Own : ℕ → Type 0) where
     main = λ id e. main id (w.name.0 == id.0) e;
   }
     where
-      types : (id : NameId) (es : List EntryPart) (b : Bool) → option_map (λ (x : Seen). x.thing) (if b then Some (seen_as thing w.name.0) else find (λ x. x.name == id.0) s.names) ≡ Some (TaskType es) →
+      types : (id : NameId) (es : List EntryPart) (b : Bool) → option_map (λ (x : NameMeaning). x.thing) (if b then Some (seen_as thing w.name.0) else find (λ x. x.name == id.0) s.names) ≡ Some (TaskType es) →
           check_meaning a id ≡ Some meant.TaskType
       types id es true e = absurd (other-type thing es p (some_same e))
       types id es false e = h.types id es e
 
-      main : (id : NameId) (b : Bool) → option_map (λ (x : Seen). x.thing) (if b then Some (seen_as thing w.name.0) else find (λ x. x.name == id.0) s.names) ≡ Some MainProcedure →
+      main : (id : NameId) (b : Bool) → option_map (λ (x : NameMeaning). x.thing) (if b then Some (seen_as thing w.name.0) else find (λ x. x.name == id.0) s.names) ≡ Some MainProcedure →
           check_meaning a id ≡ Some meant.MainProcedure
       main id true e = absurd (other-main thing p (some_same e))
       main id false e = h.main id e

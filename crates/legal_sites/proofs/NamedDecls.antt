@@ -15,9 +15,9 @@ use Rattle.ada_tree.specs.PlainDecl.{PShape, OPlain, OArray, PInit, IOne, IList,
 use Rattle.ada_tree.specs.PlainProgram.{PProgram}
 use Rattle.ada_tree.specs.Every.{Rules, EveryWord, EveryExpr, EveryDrange, EveryShape, EveryInit, EveryEntry, EveryPriority, EveryTask, EveryDecl, EveryDecls, EveryProgram}
 use Rattle.ada_tree.specs.WellPlaced.{well_placed, AreObjects, IsWellPlaced}
-use Rattle.ada_tree.specs.Scope.{Scope, Range, integer_kind, Seen, Thing, TypeMark, TaskType, SingleTask, TaskObject, TaskArray, Variable, ConstantObject, Parameter, LoopParameter, Literal, AnException, MainProcedure, AnotherUnit, Unclear, EntryPart, Marking, ScalarMark, ArrayMark, TaskMark, NoMark, UnknownMark, UnclearMark, marking_of_kind, marking_of_mark, marking_of, marking, mark_at, kind_at, range_of_mark, meaning}
+use Rattle.ada_tree.specs.Scope.{Scope, Range, integer_kind, NameMeaning, Thing, TypeMark, TaskType, SingleTask, TaskObject, TaskArray, Variable, ConstantObject, Parameter, LoopParameter, Literal, AnException, MainProcedure, AnotherUnit, Unclear, EntryPart, Marking, ScalarMark, ArrayMark, TaskMark, NoMark, UnknownMark, UnclearMark, marking_of_kind, marking_of_mark, marking_of, marking, mark_at, kind_at, range_of_mark, meaning}
 use Rattle.ada_tree.specs.Demand.{scalar_only, declares_entry, initializes, must_lie_in, for_scalar, for_array, Site}
-use Rattle.ada_tree.specs.Declaring.{seen_as, predefined_names, first_scope, with_types, with_name, with_names, inside, declared_object, plain_object, array_object, object_of, task_object, task_array, type_of_mark, task_thing, entry_part, own_entries, in_body, after_decl, after_own_object, after_objects, after_decls, with_constants}
+use Rattle.ada_tree.specs.Declaring.{seen_as, predefined_names, first_scope, with_types, with_name, with_names, inner_scope, declared_object, plain_object, array_object, object_meaning, task_object, task_array, type_of_mark, task_thing, entry_part, own_entries, in_body, after_decl, after_own_object, after_objects, after_decls, with_constants}
 use Rattle.ada_tree.specs.Sites.{site, if_there, names_sites, static_of, shape_sites, component_marks, may_be_task, subind_sites, drange_sites, value_sites, free_value_sites, all_init_sites, array_init_sites, scalar_init_sites, init_sites, object_marking, is_task_object, object_sites, formals_sites, all_names, formal_mark_sites, entry_sites, entries_sites, task_sites, body_sites, own_object_sites, own_sites, decl_sites, decls_sites, sites}
 use Rattle.ada_tree.specs.RuleUnknown.{no_body_of}
 use Rattle.ada_tree.specs.Refusals.{MeetsTypeRules, types_in}
@@ -25,10 +25,10 @@ use Rattle.syn_event.specs.declared.numbering.Mode.TheVariants.{Original}
 use Rattle.syn_event.specs.declared.limits.What.TheVariants.{Formals}
 use Rattle.syn_event.specs.declared.meanings.Meant.{Meant}
 use Rattle.syn_event.specs.declared.meanings.Meant.TheVariants as meant
-use Rattle.syn_event.specs.Units.{text_of}
+use Rattle.syn_event.specs.DeclaredTasks.{text_of}
 use Rattle.syn_event.specs.CheckRefusals.{MeetsCheckRules}
 use Rattle.syn_event.specs.CheckScope.{CheckScope, CheckSite, declares, needs_body}
-use Rattle.syn_event.specs.CheckSites.{with_object, formal_names, site as check_site, if_there as check_if_there, numbered, names_sites as check_names_sites, shape_sites as check_shape_sites, init_sites as check_init_sites, object_sites as check_object_sites, entry_sites as check_entry_sites, family_sites, task_sites as check_task_sites, expr_sites as check_expr_sites, own_sites as check_own_sites, body_sites as check_body_sites, decl_sites as check_decl_sites, decls_sites as check_decls_sites, after_object as check_after_object, after_decl as check_after_decl, after_decls as check_after_decls, after_own_object as check_after_own_object, after_own as check_after_own, in_body as check_in_body, unit_of, first_around, around_program, body_names, counted_sites, check_sites}
+use Rattle.syn_event.specs.CheckSites.{with_object, formal_names, site as check_site, if_there as check_if_there, numbered, names_sites as check_names_sites, shape_sites as check_shape_sites, init_sites as check_init_sites, object_sites as check_object_sites, entry_sites as check_entry_sites, family_sites, task_sites as check_task_sites, expr_sites as check_expr_sites, own_sites as check_own_sites, body_sites as check_body_sites, decl_sites as check_decl_sites, decls_sites as check_decls_sites, after_object as check_after_object, after_decl as check_after_decl, after_decls as check_after_decls, after_own_object as check_after_own_object, after_own as check_after_own, in_body as check_in_body, enclosing_unit, first_around, around_program, body_names, counted_sites, check_sites}
 use Rattle.syn_event.specs.RuleReservedName.{is_reserved}
 use Rattle.legal_sites.specs.Met.{IsMet, IsCheckMet, IsAddressed}
 use Rattle.legal_sites.specs.Laws.{NamesAreDeclared}
@@ -92,7 +92,7 @@ module _ (Own : ℕ → Type 0) (first : (k : ℕ) → k < 25 → Own k) (texts 
   abbrev OwnOther : Thing → Type 0
   OwnOther thing = OwnThing Own thing × IsOther thing
 
-  object-of : (constant : Bool) (o : Option ℕ) → OwnOther (object_of constant o)
+  object-of : (constant : Bool) (o : Option ℕ) → OwnOther (object_meaning constant o)
   object-of true (Some m) = (tt, tt)
   object-of false (Some m) = (tt, tt)
   object-of true None = (tt, tt)
@@ -251,7 +251,7 @@ module _ (Own : ℕ → Type 0) (first : (k : ℕ) → k < 25 → Own k) (texts 
         declared-own Own first texts declared a e.name m.0,
         if-met (drange_sites true s) e.family (EveryDrange R 2) (drange-own Own first s r.names true 2) (all_front IsFit front (formals_sites s e.formals) h).1,
         formals-own Own first s r.names e.formals (words-own Own first texts declared a (formal_names e.formals) (all_back M one two (all_front M (one ++ two) three m)))
-            (all_back IsFit (names_sites false (inside s) (all_names e.formals)) (formal_mark_sites s e.formals) (all_back IsFit front (formals_sites s e.formals) h)),
+            (all_back IsFit (names_sites false (inner_scope s) (all_names e.formals)) (formal_mark_sites s e.formals) (all_back IsFit front (formals_sites s e.formals) h)),
       )
 
   entries-list : (es : List PEntry) (before : List ℕ) (s : Scope) (a : CheckScope) → Around Own s a → AllByRecursion IsFit (entries_sites s before es) → AllByRecursion M (flat_map (check_entry_sites a) es) → AllByRecursion (EveryEntry R) es
@@ -296,12 +296,12 @@ module _ (Own : ℕ → Type 0) (first : (k : ℕ) → k < 25 → Own k) (texts 
       Around Own (with_name (task_thing b es) s w) (record a { names = (w.name.0, if b then meant.TaskType else meant.TaskOf n) ∷ a.names })
   task-around true es w n s a o p h = record { names = ((o, p), h.names); own = h.own; loops = h.loops; types = λ id fs e. types id fs (w.name.0 == id.0) e; main = λ id e. main id (w.name.0 == id.0) e }
     where
-      types : (id : NameId) (fs : List EntryPart) (b : Bool) → option_map (λ (x : Seen). x.thing) (if b then Some (seen_as (TaskType es) w.name.0) else find (λ x. x.name == id.0) s.names) ≡ Some (TaskType fs) →
+      types : (id : NameId) (fs : List EntryPart) (b : Bool) → option_map (λ (x : NameMeaning). x.thing) (if b then Some (seen_as (TaskType es) w.name.0) else find (λ x. x.name == id.0) s.names) ≡ Some (TaskType fs) →
           option_map (λ (y : ℕ × Meant). y.1) (if b then Some (w.name.0, meant.TaskType) else find (λ y. y.0 == id.0) a.names) ≡ Some meant.TaskType
       types id fs true e = refl
       types id fs false e = h.types id fs e
 
-      main : (id : NameId) (b : Bool) → option_map (λ (x : Seen). x.thing) (if b then Some (seen_as (TaskType es) w.name.0) else find (λ x. x.name == id.0) s.names) ≡ Some MainProcedure →
+      main : (id : NameId) (b : Bool) → option_map (λ (x : NameMeaning). x.thing) (if b then Some (seen_as (TaskType es) w.name.0) else find (λ x. x.name == id.0) s.names) ≡ Some MainProcedure →
           option_map (λ (y : ℕ × Meant). y.1) (if b then Some (w.name.0, meant.TaskType) else find (λ y. y.0 == id.0) a.names) ≡ Some meant.MainProcedure
       main id true e = absurd (subst NotMain (some_same e) tt)
       main id false e = h.main id e
@@ -363,23 +363,23 @@ module _ (Own : ℕ → Type 0) (first : (k : ℕ) → k < 25 → Own k) (texts 
   decl-own (DTask t sp) bodies s a p r h m =
       let k = task-own t bodies sp s a r h m in (
         (tt, k.0),
-        task-around t.of_kind _ t.name t.name.name s (record a { units = unit_of t ∷ a.units }) k.1.0 (parts-named s t.entries k.1.1)
+        task-around t.of_kind _ t.name t.name.name s (record a { units = enclosing_unit t ∷ a.units }) k.1.0 (parts-named s t.entries k.1.1)
             record { names = r.names; own = r.own; loops = r.loops; types = r.types; main = r.main },
       )
   decl-own (DTaskBody w ds b sp) bodies s a p r h m =
       let inner = in_body s w in
       let check = check_in_body a w in
       let around : Around Own inner check = record { names = r.names; own = body-entries s w.name (meaning s w.name) r.names refl; loops = r.loops; types = r.types; main = r.main } in
-      let objects = own-objects ds inner check p.2 around (all_front IsFit (own_sites inner ds) (body_sites (inside (after_objects inner ds)) b) h.1)
+      let objects = own-objects ds inner check p.2 around (all_front IsFit (own_sites inner ds) (body_sites (inner_scope (after_objects inner ds)) b) h.1)
       (all_front M (check_own_sites check ds) (check_body_sites (check_after_own check ds) 1 b) m) in (
         (
           tt,
           body-name s w (meaning s w.name) r.names refl h.0.met.known,
           tt,
           objects.0,
-          body-own Own first texts declared b (inside (after_objects inner ds)) (check_after_own check ds) 1 1
+          body-own Own first texts declared b (inner_scope (after_objects inner ds)) (check_after_own check ds) 1 1
               record { names = objects.1.names; own = objects.1.own; loops = objects.1.loops; types = objects.1.types; main = objects.1.main }
-              (all_back IsFit (own_sites inner ds) (body_sites (inside (after_objects inner ds)) b) h.1)
+              (all_back IsFit (own_sites inner ds) (body_sites (inner_scope (after_objects inner ds)) b) h.1)
               (all_back M (check_own_sites check ds) (check_body_sites (check_after_own check ds) 1 b) m),
         ),
         record { names = r.names; own = r.own; loops = r.loops; types = r.types; main = r.main },
@@ -444,15 +444,15 @@ module _ (Own : ℕ → Type 0) (first : (k : ℕ) → k < 25 → Own k) (texts 
     ),
   )
 
-  others : (xs : List Seen) (id : NameId) (thing : Thing) → AllByRecursion (λ (x : Seen). IsOther x.thing) xs → option_map (λ (x : Seen). x.thing) (find (λ x. x.name == id.0) xs) ≡ Some thing → IsOther thing
+  others : (xs : List NameMeaning) (id : NameId) (thing : Thing) → AllByRecursion (λ (x : NameMeaning). IsOther x.thing) xs → option_map (λ (x : NameMeaning). x.thing) (find (λ x. x.name == id.0) xs) ≡ Some thing → IsOther thing
   others [] id thing h e = absurd (none-some thing e)
   others (x ∷ xs) id thing h e = by_test (x.name == id.0) e (others xs id thing h.1)
     where
-      by_test : (b : Bool) → option_map (λ (y : Seen). y.thing) (if b then Some x else find (λ y. y.name == id.0) xs) ≡ Some thing → (option_map (λ (y : Seen). y.thing) (find (λ y. y.name == id.0) xs) ≡ Some thing → IsOther thing) → IsOther thing
+      by_test : (b : Bool) → option_map (λ (y : NameMeaning). y.thing) (if b then Some x else find (λ y. y.name == id.0) xs) ≡ Some thing → (option_map (λ (y : NameMeaning). y.thing) (find (λ y. y.name == id.0) xs) ≡ Some thing → IsOther thing) → IsOther thing
       by_test true f rest = subst IsOther (some_same f) h.0
       by_test false f rest = rest f
 
-  predefined-others : AllByRecursion (λ (x : Seen). IsOther x.thing) predefined_names
+  predefined-others : AllByRecursion (λ (x : NameMeaning). IsOther x.thing) predefined_names
   predefined-others = (tt, (tt, (tt, (tt, (tt, (tt, (tt, (tt, (tt, (tt, (tt, (tt, (tt, (tt, (tt, (tt, (tt, (tt, tt))))))))))))))))))
 
   first-around : (T : TypeTable) (w : Word) → Own w.name.0 → Around Own (first_scope w) (first_around T w)
@@ -464,12 +464,12 @@ module _ (Own : ℕ → Type 0) (first : (k : ℕ) → k < 25 → Own k) (texts 
     main = λ id e. main id (w.name.0 == id.0) e;
   }
     where
-      types : (id : NameId) (es : List EntryPart) (b : Bool) → option_map (λ (x : Seen). x.thing) (if b then Some (seen_as MainProcedure w.name.0) else find (λ x. x.name == id.0) predefined_names) ≡ Some (TaskType es) →
+      types : (id : NameId) (es : List EntryPart) (b : Bool) → option_map (λ (x : NameMeaning). x.thing) (if b then Some (seen_as MainProcedure w.name.0) else find (λ x. x.name == id.0) predefined_names) ≡ Some (TaskType es) →
           option_map (λ (y : ℕ × Meant). y.1) (if b then Some (w.name.0, meant.MainProcedure) else None) ≡ Some meant.TaskType
       types id es true e = absurd (subst NotMain (sym (some_same e)) tt)
       types id es false e = absurd (others predefined_names id (TaskType es) predefined-others e)
 
-      main : (id : NameId) (b : Bool) → option_map (λ (x : Seen). x.thing) (if b then Some (seen_as MainProcedure w.name.0) else find (λ x. x.name == id.0) predefined_names) ≡ Some MainProcedure →
+      main : (id : NameId) (b : Bool) → option_map (λ (x : NameMeaning). x.thing) (if b then Some (seen_as MainProcedure w.name.0) else find (λ x. x.name == id.0) predefined_names) ≡ Some MainProcedure →
           option_map (λ (y : ℕ × Meant). y.1) (if b then Some (w.name.0, meant.MainProcedure) else None) ≡ Some meant.MainProcedure
       main id true e = refl
       main id false e = absurd (others predefined_names id MainProcedure predefined-others e)
@@ -483,7 +483,7 @@ module _ (Own : ℕ → Type 0) (first : (k : ℕ) → k < 25 → Own k) (texts 
       let a = around_program p in
       let s = first_scope p.name in
       let one = decls_sites s p.decls in
-      let two = body_sites (inside (after_decls s p.decls)) p.body in
+      let two = body_sites (inner_scope (after_decls s p.decls)) p.body in
       let fit = both (sites p) (all_met p types) clear in
       let front = check_site a (declares p.name) ∷ check_decls_sites a (body_names p.decls) p.decls in
       let main = check_body_sites (check_after_decls a p.decls) 1 p.body in
@@ -495,7 +495,7 @@ module _ (Own : ℕ → Type 0) (first : (k : ℕ) → k < 25 → Own k) (texts 
         name,
         tt,
         ds.0,
-        body-own Own first texts declared p.body (inside (after_decls s p.decls)) (check_after_decls a p.decls) 1 1
+        body-own Own first texts declared p.body (inner_scope (after_decls s p.decls)) (check_after_decls a p.decls) 1 1
             record { names = ds.1.names; own = ds.1.own; loops = ds.1.loops; types = ds.1.types; main = ds.1.main }
             (all_back IsFit one two fit.1) (all_back M front main lower),
       )

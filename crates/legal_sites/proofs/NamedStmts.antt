@@ -12,15 +12,15 @@ use Rattle.ada_tree.specs.PlainStmt.{PCallee, PFormal, PScheme, LWhile, LFor, PH
 use Rattle.ada_tree.specs.Every.{Rules, EveryWord, EveryExpr, EveryCallee, EveryScheme, EveryHead, EveryStmt, EveryStmts, EverySome, EveryMaybe, EveryAccept, EveryAltKind, EveryAlts, EveryArms, EveryCaseArms, EveryBody, EveryHandlers}
 use Rattle.ada_tree.specs.ExprTypes.{kind_of}
 use Rattle.ada_tree.specs.Scope.{Scope, Range, truth_kind, Family, single, family, unclear, Marking, ScalarMark, ArrayMark, TaskMark, NoMark, UnknownMark, UnclearMark, EntryPart, entry_named, marking}
-use Rattle.ada_tree.specs.Declaring.{inside, with_names, with_formals, formal_thing, loop_thing}
+use Rattle.ada_tree.specs.Declaring.{inner_scope, with_names, with_formals, formal_thing, loop_thing}
 use Rattle.ada_tree.specs.Demand.{Site, names_exception, labels, gets, chooses}
-use Rattle.ada_tree.specs.Sites.{site, if_there, names_sites, expr_sites, expr_of, condition, accept_index_sites, formals_sites, all_names, formal_mark_sites, callee_sites, call_sites, target_sites, head_sites, choice_sites, choices_of, is_present, handler_names_sites, with_words, scheme_sites, loop_scope, stmt_sites, stmts_sites, maybe_sites, accept_sites, alts_sites, alt_sites, arms_sites, case_arms_sites, body_sites, handlers_sites}
+use Rattle.ada_tree.specs.Sites.{site, if_there, names_sites, expr_sites, expr_of, condition_sites, accept_index_sites, formals_sites, all_names, formal_mark_sites, callee_sites, call_sites, target_sites, head_sites, choice_sites, arm_choices, is_present, handler_names_sites, with_words, scheme_sites, loop_scope, stmt_sites, stmts_sites, maybe_sites, accept_sites, alts_sites, alt_sites, arms_sites, case_arms_sites, body_sites, handlers_sites}
 use Rattle.ada_tree.specs.RuleMismatch.{target_kind}
 use Rattle.ada_tree.specs.RuleChoiceBad.{selected_range}
 use Rattle.syn_event.specs.declared.numbering.Mode.TheVariants.{Original}
 use Rattle.syn_event.specs.declared.limits.What.TheVariants.{Alternatives}
 use Rattle.syn_event.specs.declared.meanings.Meant.TheVariants as meant
-use Rattle.syn_event.specs.Units.{text_of}
+use Rattle.syn_event.specs.DeclaredTasks.{text_of}
 use Rattle.syn_event.specs.CheckScope.{CheckScope, CheckSite, declares, accepts as check_accepts, waits}
 use Rattle.syn_event.specs.CheckSites.{with_meant, formal_names, in_accept, in_loop, handling, site as check_site, if_there as check_if_there, stands, numbered, names_sites as check_names_sites, expr_sites as check_expr_sites, select_sites as check_select_sites, scheme_sites as check_scheme_sites, choice_sites as check_choice_sites, head_sites as check_head_sites, delay_sites, alt_places, stmt_sites as check_stmt_sites, stmts_sites as check_stmts_sites, maybe_sites as check_maybe_sites, accept_sites as check_accept_sites, alts_sites as check_alts_sites, alt_sites as check_alt_sites, arms_sites as check_arms_sites, case_arms_sites as check_case_arms_sites, body_sites as check_body_sites, handlers_sites as check_handlers_sites}
 use Rattle.syn_event.specs.RuleReservedName.{is_reserved}
@@ -70,9 +70,9 @@ module _ (Own : ℕ → Type 0) (first : (k : ℕ) → k < 25 → Own k) (texts 
       (formals-around fs (with_names thing s f.names) (with_meant meant.Inner a f.names) (all_back (OwnWord Own) f.names (formal_names fs) o)
       (names-both Own thing meant.Inner f.names s a (all_front (OwnWord Own) f.names (formal_names fs) o) t.0 t.1 h))
 
-  accept-around : (h : PHead) (s : Scope) (a : CheckScope) → AllByRecursion (OwnWord Own) (formal_names h.formals) → Around Own s a → Around Own (with_formals (inside s) h.formals) (in_accept a h)
+  accept-around : (h : PHead) (s : Scope) (a : CheckScope) → AllByRecursion (OwnWord Own) (formal_names h.formals) → Around Own s a → Around Own (with_formals (inner_scope s) h.formals) (in_accept a h)
   accept-around h s a o r =
-      formals-around h.formals (inside s) (record a { accepting = h.entry.name ∷ a.accepting; loops = [] }) o
+      formals-around h.formals (inner_scope s) (record a { accepting = h.entry.name ∷ a.accepting; loops = [] }) o
       record { names = r.names; own = r.own; loops = tt; types = r.types; main = r.main }
 
   label-own : (w : Option Word) → IfSome w (OwnWord Own) → OwnLoop Own (option_map (λ (x : Word). x.name) w)
@@ -89,7 +89,7 @@ module _ (Own : ℕ → Type 0) (first : (k : ℕ) → k < 25 → Own k) (texts 
   loop-around w (Some (LWhile e)) s a o p h = record { names = h.names; own = h.own; loops = (label-own w o, h.loops); types = h.types; main = h.main }
   loop-around w (Some (LFor x r y)) s a o p h =
       let t = loop-thing _ in
-      name-both Own _ meant.Inner x (inside s) (record a { loops = option_map (λ (z : Word). z.name) w ∷ a.loops }) p t.0 t.1
+      name-both Own _ meant.Inner x (inner_scope s) (record a { loops = option_map (λ (z : Word). z.name) w ∷ a.loops }) p t.0 t.1
       record { names = h.names; own = h.own; loops = (label-own w o, h.loops); types = h.types; main = h.main }
 
   -- an exit names a loop around it
@@ -134,7 +134,7 @@ module _ (Own : ℕ → Type 0) (first : (k : ℕ) → k < 25 → Own k) (texts 
         let formals = all_back IsFit index (formals_sites s h.formals) f.1 in (
           entry-somewhere Own s h.entry.name around.names around.own (test-holds _ h.entry.span f.0.met.known),
           if-met (accept_index_sites s (entry_named s.own h.entry.name)) h.index (EveryExpr R (k + 1)) (λ e g. index-own (k + 1) (entry_named s.own h.entry.name) e g) (all_front IsFit index (formals_sites s h.formals) f.1),
-          formals-own Own first s around.names h.formals (head-words j h m) (all_back IsFit (names_sites false (inside s) (all_names h.formals)) (formal_mark_sites s h.formals) formals),
+          formals-own Own first s around.names h.formals (head-words j h m) (all_back IsFit (names_sites false (inner_scope s) (all_names h.formals)) (formal_mark_sites s h.formals) formals),
         )
 
     -- ---- loops and handlers
@@ -178,7 +178,7 @@ module _ (Own : ℕ → Type 0) (first : (k : ℕ) → k < 25 → Own k) (texts 
     stmt-own (SExit w e sp) s a k j r h m = (
       tt,
       exit-own w a.loops r.loops (test-holds (list_any (is_left w) a.loops) sp m.1.0.exits),
-      if-met (condition s) e (EveryExpr R (k + 1)) (λ x g. expr-of-own Own first s r.names (k + 1) (Some truth_kind) x g) h,
+      if-met (condition_sites s) e (EveryExpr R (k + 1)) (λ x g. expr-of-own Own first s r.names (k + 1) (Some truth_kind) x g) h,
     )
     stmt-own (SRaise w sp) s a k j r h m = (tt, if-met (λ x. site s (names_exception x) ∷ []) w (EveryWord R) (λ x g. seen Own s x.name x.span r.names g.0.met.known) h)
     stmt-own (SAbort cs sp) s a k j r h m = (tt, tt, All-from_recursion (EveryCallee R (k + 1)) cs (callees-list s a r (k + 1) cs h))
@@ -231,7 +231,7 @@ module _ (Own : ℕ → Type 0) (first : (k : ℕ) → k < 25 → Own k) (texts 
         let front = stands a j sp ∷ check_expr_sites a (j + 1) e in
         let arms = check_case_arms_sites a (j + 1) x in
         let maybe = check_maybe_sites a (j + 1) o in
-        let choose = site s (chooses e (choices_of x) (is_present o) sp) ∷ expr_sites s e in
+        let choose = site s (chooses e (arm_choices x) (is_present o) sp) ∷ expr_sites s e in
         let choices = case_arms_sites s (kind_of s e) (selected_range s e) x in
         let lower = all_front IsFit (choose ++ choices) (maybe_sites s o) h in (
           tt,
@@ -271,25 +271,25 @@ module _ (Own : ℕ → Type 0) (first : (k : ℕ) → k < 25 → Own k) (texts 
 
     accept-own : (x : PAccept) (s : Scope) (a : CheckScope) (k j : ℕ) → Around Own s a → AllByRecursion IsFit (accept_sites s x) → AllByRecursion M (check_accept_sites a j x) → EveryAccept R k x
     accept-own (accepting x o) s a k j r h m =
-        let inner = maybe_sites (with_formals (inside s) x.formals) o in
+        let inner = maybe_sites (with_formals (inner_scope s) x.formals) o in
         let check = check_maybe_sites (in_accept a x) (j + 1) o in
         let head = all_front M (check_head_sites a j x) check m in (
           tt,
           head-own s a r k j x (all_front IsFit (head_sites s x) inner h) head,
-          maybe-own o (with_formals (inside s) x.formals) (in_accept a x) (k + 1) (j + 1) (accept-around x s a (head-words s a r j x head) r)
+          maybe-own o (with_formals (inner_scope s) x.formals) (in_accept a x) (k + 1) (j + 1) (accept-around x s a (head-words s a r j x head) r)
               (all_back IsFit (head_sites s x) inner h) (all_back M (check_head_sites a j x) check m),
         )
 
     alts-own : (l : PAlts) (s : Scope) (a : CheckScope) (k j : ℕ) → Around Own s a → AllByRecursion IsFit (alts_sites s l) → AllByRecursion M (check_alts_sites a j l) → EveryAlts R k l
     alts-own no_alt s a k j r h m = tt
     alts-own (alt_then (alternative g x sp) l) s a k j r h m =
-        let guard = if_there (condition s) g in
+        let guard = if_there (condition_sites s) g in
         let one = stands a j sp ∷ check_if_there (check_expr_sites a (j + 1)) g in
         let two = check_alt_sites a (j + 1) g sp x in
         let lower = all_front IsFit (guard ++ alt_sites s x) (alts_sites s l) h in (
           (
             tt,
-            if-met (condition s) g (EveryExpr R (k + 1)) (λ e f. expr-of-own Own first s r.names (k + 1) (Some truth_kind) e f) (all_front IsFit guard (alt_sites s x) lower),
+            if-met (condition_sites s) g (EveryExpr R (k + 1)) (λ e f. expr-of-own Own first s r.names (k + 1) (Some truth_kind) e f) (all_front IsFit guard (alt_sites s x) lower),
             alt-own x g sp s a (k + 1) (j + 1) r (all_back IsFit guard (alt_sites s x) lower) (all_back M one two (all_front M (one ++ two) (check_alts_sites a j l) m)),
           ),
           alts-own l s a k j r (all_back IsFit (guard ++ alt_sites s x) (alts_sites s l) h) (all_back M (one ++ two) (check_alts_sites a j l) m),
@@ -306,15 +306,15 @@ module _ (Own : ℕ → Type 0) (first : (k : ℕ) → k < 25 → Own k) (texts 
     arms-own : (l : PArms) (s : Scope) (a : CheckScope) (k j : ℕ) → Around Own s a → AllByRecursion IsFit (arms_sites s l) → AllByRecursion M (check_arms_sites a j l) → EveryArms R k l
     arms-own no_arm s a k j r h m = tt
     arms-own (arm_then (arm e l) rest) s a k j r h m =
-        let lower = all_front IsFit (condition s e ++ stmts_sites s l) (arms_sites s rest) h in
+        let lower = all_front IsFit (condition_sites s e ++ stmts_sites s l) (arms_sites s rest) h in
         let check = check_expr_sites a j e in (
           (
-            expr-of-own Own first s r.names k (Some truth_kind) e (all_front IsFit (condition s e) (stmts_sites s l) lower),
+            expr-of-own Own first s r.names k (Some truth_kind) e (all_front IsFit (condition_sites s e) (stmts_sites s l) lower),
             some-of k l
-                (stmts-own l s a k j r (all_back IsFit (condition s e) (stmts_sites s l) lower)
+                (stmts-own l s a k j r (all_back IsFit (condition_sites s e) (stmts_sites s l) lower)
                 (all_back M check (check_stmts_sites a j l) (all_front M (check ++ check_stmts_sites a j l) (check_arms_sites a j rest) m))),
           ),
-          arms-own rest s a k j r (all_back IsFit (condition s e ++ stmts_sites s l) (arms_sites s rest) h) (all_back M (check ++ check_stmts_sites a j l) (check_arms_sites a j rest) m),
+          arms-own rest s a k j r (all_back IsFit (condition_sites s e ++ stmts_sites s l) (arms_sites s rest) h) (all_back M (check ++ check_stmts_sites a j l) (check_arms_sites a j rest) m),
         )
 
     case-arms-own : (l : PCaseArms) (s : Scope) (a : CheckScope) (k j : ℕ) (o : Option ℕ) (range : Option Range) → Around Own s a → AllByRecursion IsFit (case_arms_sites s o range l) → AllByRecursion M (check_case_arms_sites a j l) → EveryCaseArms R k l

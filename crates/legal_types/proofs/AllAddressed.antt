@@ -11,7 +11,7 @@ use Rattle.ada_tree.specs.Refusals.{MeetsTypeRules, types_in}
 use Rattle.ada_tree.specs.Scope.{Scope, integer_kind, Range, Unclear, Marking, ScalarMark, ArrayMark, TaskMark, NoMark, UnknownMark, UnclearMark, range_of_mark}
 use Rattle.ada_tree.specs.Demand.{MarkUse, scalar_only, Demand, addresses, Site}
 use Rattle.ada_tree.specs.Sites.{if_there, names_sites, expr_sites, static_of, subind_sites, drange_sites, may_be_task, object_marks, component_marks, shape_sites, value_sites, free_value_sites, all_init_sites, array_init_sites, scalar_init_sites, object_marking, init_sites, is_task_object, object_sites, formals_sites, entry_sites, entries_sites, task_sites, own_object_sites, own_sites, body_sites, decl_sites, decls_sites, sites}
-use Rattle.ada_tree.specs.Declaring.{first_scope, inside, in_body, with_types, declared_object, after_object, after_objects, after_decl, after_decls}
+use Rattle.ada_tree.specs.Declaring.{first_scope, inner_scope, in_body, with_types, declared_object, after_object, after_objects, after_decl, after_decls}
 use Rattle.rewritten_types.proofs.Adding.{names-main}
 use Rattle.legal_sites.specs.Met.{IsMet, IsAddressed}
 use Rattle.legal_sites.proofs.Meeting.{all_met}
@@ -119,13 +119,13 @@ module _ (T : TypeTable) where
       let one = decl_sites s (DTaskBody w objects its sp) in
       let more = decls_sites (after_decl s (DTaskBody w objects its sp)) rest in
       let own = own_sites (in_body s w) objects in
-      let inner = body_sites (inside (after_objects (in_body s w) objects)) its in
+      let inner = body_sites (inner_scope (after_objects (in_body s w) objects)) its in
       let known = all_front (IsPlace T) one more k in
       let known1 : Known (own ++ inner) = known.1 in
       clear-join one more (
         main-clear s h.0,
         clear-join own inner (own-clear objects (in_body s w) refl (same-stands T s (in_body s w) refl (λ id. refl) b.0) (all_front _ own inner known1))
-            (body-clear T its (inside (after_objects (in_body s w) objects)) (body-stands T s w objects its sp b.0 (mets T one known) (aparts T one known)) (all_back _ own inner known1)),
+            (body-clear T its (inner_scope (after_objects (in_body s w) objects)) (body-stands T s w objects its sp b.0 (mets T one known) (aparts T one known)) (all_back _ own inner known1)),
       )
       (decls-clear rest (after_decl s (DTaskBody w objects its sp)) h.2 b.1 (all_back _ one more k))
   decls-clear (decl_then (DNumber w e sp) rest) s h b k =
@@ -168,7 +168,7 @@ callees-told p rules placed small apart =
     let T = types_in p in
     let s = first_scope p.name in
     let ds = decls_sites s p.decls in
-    let last = inside (after_decls s p.decls) in
+    let last = inner_scope (after_decls s p.decls) in
     let inner = body_sites last p.body in
     let known : AllByRecursion (IsPlace T) (ds ++ inner) = (both T (sites p) (all_met p rules) apart).1 in (
       tt,

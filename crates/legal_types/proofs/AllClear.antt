@@ -15,8 +15,8 @@ use Rattle.ada_tree.specs.RuleMismatch.{target_kind}
 use Rattle.ada_tree.specs.RuleArgCount.{called_entry}
 use Rattle.ada_tree.specs.RuleChoiceBad.{selected_range}
 use Rattle.ada_tree.specs.Demand.{node, labels, must_be_of, Site}
-use Rattle.ada_tree.specs.Sites.{site, if_there, names_sites, expr_sites, part_nodes, expr_of, static_of, static_if, bounds_sites, constraint_sites, mark_sites, drange_sites, condition, all_names, formals_sites, callee_sites, written_actual_sites, actual_sites, actuals_sites, free_args_sites, args_sites, call_sites, accept_index_sites, head_sites, plain_part_sites, part_sites, target_sites, choice_sites, handler_names_sites, with_words, scheme_sites, loop_scope, stmt_sites, stmts_sites, maybe_sites, accept_sites, alts_sites, alt_sites, arms_sites, case_arms_sites, body_sites, handlers_sites}
-use Rattle.ada_tree.specs.Declaring.{inside, with_formals}
+use Rattle.ada_tree.specs.Sites.{site, if_there, names_sites, expr_sites, part_nodes, expr_of, static_of, static_if, bounds_sites, constraint_sites, mark_sites, drange_sites, condition_sites, all_names, formals_sites, callee_sites, written_actual_sites, actual_sites, actuals_sites, free_args_sites, args_sites, call_sites, accept_index_sites, head_sites, plain_part_sites, part_sites, target_sites, choice_sites, handler_names_sites, with_words, scheme_sites, loop_scope, stmt_sites, stmts_sites, maybe_sites, accept_sites, alts_sites, alt_sites, arms_sites, case_arms_sites, body_sites, handlers_sites}
+use Rattle.ada_tree.specs.Declaring.{inner_scope, with_formals}
 use Rattle.legal_sites.specs.Met.{IsMet}
 use Rattle.legal_types.proofs.MainScopes.{StandsWhole}
 use Rattle.legal_types.proofs.InnerScopes.{IsApartLocal, AreApart, accept-stands}
@@ -130,7 +130,7 @@ module _ (s : Scope) (c : IsClearScope s) where
       by_family unclear = expr-clear e
 
   pub formals-clear : (fs : List PFormal) → AllClear (formals_sites s fs)
-  formals-clear fs = clear-join (names_sites false (inside s) (all_names fs)) _ (names-clear false (all_names fs) []) (clear-flat (λ f. mark_sites _ s f.mark) (λ f. (c, tt)) fs)
+  formals-clear fs = clear-join (names_sites false (inner_scope s) (all_names fs)) _ (names-clear false (all_names fs) []) (clear-flat (λ f. mark_sites _ s f.mark) (λ f. (c, tt)) fs)
 
   head-clear : (h : PHead) → AllClear (head_sites s h)
   head-clear h = (c, clear-join (if_there (accept_index_sites s (entry_named s.own h.entry.name)) h.index) (formals_sites s h.formals) (clear-if _ (index-clear (entry_named s.own h.entry.name)) h.index) (formals-clear h.formals))
@@ -202,7 +202,7 @@ module _ (T : TypeTable) where
     stmt-clear (SNull sp) s h k = tt
     stmt-clear (SAssign t e sp) s h k = clear-join (target_sites s t) _ (target-clear s (clear-of s h) t) (of-clear s (clear-of s h) (target_kind s t) e)
     stmt-clear (SDelay d sp) s h k = tt
-    stmt-clear (SExit w e sp) s h k = clear-if (condition s) (of-clear s (clear-of s h) (Some truth_kind)) e
+    stmt-clear (SExit w e sp) s h k = clear-if (condition_sites s) (of-clear s (clear-of s h) (Some truth_kind)) e
     stmt-clear (SRaise w sp) s h k = clear-if _ (λ x. (clear-of s h, tt)) w
     stmt-clear (SAbort cs sp) s h k = clear-flat (callee_sites s) (callee-clear s (clear-of s h)) cs
     stmt-clear (SCall x sp) s h k = call-clear s (clear-of s h) x
@@ -241,7 +241,7 @@ module _ (T : TypeTable) where
 
     accept-clear : (a : PAccept) (s : Scope) → StandsWhole T s → Known (accept_sites s a) → AllClear (accept_sites s a)
     accept-clear (accepting d o) s h k =
-        let inner = with_formals (inside s) d.formals in
+        let inner = with_formals (inner_scope s) d.formals in
         let known = all_front (IsPlace T) (head_sites s d) (maybe_sites inner o) k in
         clear-join (head_sites s d) (maybe_sites inner o) (head-clear s (clear-of s h) d)
         (maybe-clear o inner (accept-stands T s d h (mets T (head_sites s d) known) (aparts T (head_sites s d) known)) (all_back _ (head_sites s d) (maybe_sites inner o) k))
@@ -249,8 +249,8 @@ module _ (T : TypeTable) where
     alts-clear : (l : PAlts) (s : Scope) → StandsWhole T s → Known (alts_sites s l) → AllClear (alts_sites s l)
     alts-clear no_alt s h k = tt
     alts-clear (alt_then (alternative g x sp) l) s h k =
-        let guard = if_there (condition s) g in
-        clear-three guard (alt_sites s x) (alts_sites s l) (clear-if (condition s) (of-clear s (clear-of s h) (Some truth_kind)) g) (alt-clear x s h (all_second _ guard (alt_sites s x) (alts_sites s l) k)) (alts-clear l s h (all_third _ guard (alt_sites s x) (alts_sites s l) k))
+        let guard = if_there (condition_sites s) g in
+        clear-three guard (alt_sites s x) (alts_sites s l) (clear-if (condition_sites s) (of-clear s (clear-of s h) (Some truth_kind)) g) (alt-clear x s h (all_second _ guard (alt_sites s x) (alts_sites s l) k)) (alts-clear l s h (all_third _ guard (alt_sites s x) (alts_sites s l) k))
 
     alt-clear : (x : PAltKind) (s : Scope) → StandsWhole T s → Known (alt_sites s x) → AllClear (alt_sites s x)
     alt-clear (AAccept a l) s h k = clear-join (accept_sites s a) (stmts_sites s l) (accept-clear a s h (all_front _ (accept_sites s a) (stmts_sites s l) k)) (stmts-clear l s h (all_back _ (accept_sites s a) (stmts_sites s l) k))
@@ -260,7 +260,7 @@ module _ (T : TypeTable) where
     arms-clear : (l : PArms) (s : Scope) → StandsWhole T s → Known (arms_sites s l) → AllClear (arms_sites s l)
     arms-clear no_arm s h k = tt
     arms-clear (arm_then (arm e l) rest) s h k =
-        clear-three (condition s e) (stmts_sites s l) (arms_sites s rest) (of-clear s (clear-of s h) (Some truth_kind) e) (stmts-clear l s h (all_second _ (condition s e) (stmts_sites s l) (arms_sites s rest) k)) (arms-clear rest s h (all_third _ (condition s e) (stmts_sites s l) (arms_sites s rest) k))
+        clear-three (condition_sites s e) (stmts_sites s l) (arms_sites s rest) (of-clear s (clear-of s h) (Some truth_kind) e) (stmts-clear l s h (all_second _ (condition_sites s e) (stmts_sites s l) (arms_sites s rest) k)) (arms-clear rest s h (all_third _ (condition_sites s e) (stmts_sites s l) (arms_sites s rest) k))
 
     case-arms-clear : (l : PCaseArms) (n : Option ℕ) (r : Option Range) (s : Scope) → StandsWhole T s → Known (case_arms_sites s n r l) → AllClear (case_arms_sites s n r l)
     case-arms-clear no_case_arm n r s h k = tt

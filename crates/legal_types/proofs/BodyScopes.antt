@@ -16,7 +16,7 @@ use Rattle.ada_tree.specs.ExprTypes.{kind_of, static_in, static_range, range_bet
 use Rattle.ada_tree.specs.Demand.{scalar_only, stands_as_mark, Site}
 use Rattle.ada_tree.specs.RuleMismatch.{is_allowed}
 use Rattle.ada_tree.specs.Sites.{site, if_there, names_sites, expr_sites, constraint_sites, subind_sites, drange_sites, may_be_task, object_marks, component_marks, shape_sites, init_sites, object_marking, is_task_object, object_sites, own_object_sites, own_sites, body_sites, decl_sites, decls_sites}
-use Rattle.ada_tree.specs.Declaring.{inside, in_body, with_types, Made, made_range, subind_made, made_subind, given_range, marked_range, drange_range, made_array, object_of, Declared, add_constants, constant_mark, constant_value, plain_object, array_object, declared_object, with_constants, after_object, after_objects, after_decl}
+use Rattle.ada_tree.specs.Declaring.{inner_scope, in_body, with_types, Made, made_range, subind_made, made_subind, given_range, marked_range, drange_range, made_array, object_meaning, Declared, add_constants, constant_mark, constant_value, plain_object, array_object, declared_object, with_constants, after_object, after_objects, after_decl}
 use Rattle.ada_value.specs.Values.{limits_or, limits_named}
 use Rattle.ada_value.specs.StaticLaw.{HasSmallLiterals}
 use Rattle.rewritten_types.specs.Agreement.{Keeps, Sound}
@@ -90,10 +90,10 @@ array-light d o range e h =
       };
     }))
 
-light-object : (constant : Bool) (d : Made) → HasLight d → IsObject d.types (object_of constant d.mark)
-light-object constant d h = subst (λ o. IsObject d.types (object_of constant o)) (sym h.made) (by_test constant)
+light-object : (constant : Bool) (d : Made) → HasLight d → IsObject d.types (object_meaning constant d.mark)
+light-object constant d h = subst (λ o. IsObject d.types (object_meaning constant o)) (sym h.made) (by_test constant)
   where
-    by_test : (b : Bool) → IsObject d.types (object_of b (Some h.place))
+    by_test : (b : Bool) → IsObject d.types (object_meaning b (Some h.place))
     by_test true = h.leads
     by_test false = h.leads
 
@@ -115,7 +115,7 @@ module _ (T : TypeTable) (s : Scope) (main : s.in_main ≡ false) (h : StandsWho
       let known = test-holds (is_some (meaning s x.mark.name)) x.mark.span m.known in
       by_marking (marking s x.mark.name) refl known (test-holds (is_allowed (object_marks false x.bounds) (marking s x.mark.name)) x.mark.span m.matched) (name-marked s h.stands.over.clear x.mark.name known)
     where
-      array-object : (b : Bool) (m : ℕ) → LeadsOn s.types m → IsObject s.types (object_of b (Some m))
+      array-object : (b : Bool) (m : ℕ) → LeadsOn s.types m → IsObject s.types (object_meaning b (Some m))
       array-object true m l = l
       array-object false m l = l
 
@@ -218,10 +218,10 @@ own-stands T (decl_then (DTaskBody w ds b sp) rest) s main h met apart = own-sta
 
 -- where the statements of a body begin
 pub body-stands : (T : TypeTable) (s : Scope) (w : Word) (objects : PDecls) (its : PBody) (sp : Span) → StandsWhole T s → AllByRecursion IsMet (decl_sites s (DTaskBody w objects its sp)) → AreApart T (decl_sites s (DTaskBody w objects its sp)) →
-    StandsWhole T (inside (after_objects (in_body s w) objects))
+    StandsWhole T (inner_scope (after_objects (in_body s w) objects))
 body-stands T s w objects its sp h met apart =
     let own = own_sites (in_body s w) objects in
-    let body = body_sites (inside (after_objects (in_body s w) objects)) its in
+    let body = body_sites (inner_scope (after_objects (in_body s w) objects)) its in
     let met1 : AllByRecursion IsMet (own ++ body) = met.1 in
     let apart1 : AreApart T (own ++ body) = apart.1 in
     inside-stands T (after_objects (in_body s w) objects)
@@ -230,7 +230,7 @@ body-stands T s w objects its sp h met apart =
 -- So it is with each body among declarations.
 abbrev pub BodiesStand : TypeTable → Scope → PDecls → Type 0
 BodiesStand T s no_decl = Unit {0}
-BodiesStand T s (decl_then (DTaskBody w objects its sp) rest) = StandsWhole T (inside (after_objects (in_body s w) objects)) × BodiesStand T (after_decl s (DTaskBody w objects its sp)) rest
+BodiesStand T s (decl_then (DTaskBody w objects its sp) rest) = StandsWhole T (inner_scope (after_objects (in_body s w) objects)) × BodiesStand T (after_decl s (DTaskBody w objects its sp)) rest
 BodiesStand T s (decl_then d rest) = BodiesStand T (after_decl s d) rest
 
 pub bodies-all : (T : TypeTable) (ds : PDecls) (s : Scope) → AllBodies T s ds → AllByRecursion IsMet (decls_sites s ds) → AreApart T (decls_sites s ds) → BodiesStand T s ds

@@ -10,7 +10,7 @@ use Rattle.ada_tree.specs.TypeTable.{TypeTable}
 use Rattle.ada_tree.specs.PlainExpr.{PExpr, EInteger, EName, EIndex, EAttribute, EAttributeOf, EParen, EUnary, EBinary}
 use Rattle.ada_tree.specs.Attributes.{Attribute, First, Last, Pos, Val, Succ, Pred, Image, NoAttribute, attribute_of, is_bound, is_function, is_image}
 use Rattle.ada_tree.specs.Scope.{Scope, integer_kind, Thing, TypeMark, TaskType, SingleTask, TaskObject, TaskArray, Variable, ConstantObject, Parameter, LoopParameter, Literal, AnException, MainProcedure, AnotherUnit, Unclear, meaning, kind_at, mark_at, and_then, Reading, AsScalar, AsArray, AsNoValue, AsUnknown, AsUnclear, reading_of_kind, reading_of_mark, reading_of, reading, ScalarMark, marking_of_kind, marking_of_mark, marking_of, marking, scalar_kind, kind_of_mark}
-use Rattle.ada_tree.specs.ExprTypes.{nodes, Operand, takes, takes_one, is_taken, given_by, unary_kind, binary_kind, argument_kind, function_kind, bound_kind, if_kind, name_kind, component_kind, attribute_kind, kind_of, is_other_kind, place_of}
+use Rattle.ada_tree.specs.ExprTypes.{nodes, Operand, takes, takes_one, is_taken, given_by, unary_kind, binary_kind, argument_kind, function_kind, bound_kind, if_kind, name_kind, component_kind, attribute_kind, kind_of, is_other_kind, expr_place}
 use Rattle.ada_tree.specs.Demand.{scalar_only, node}
 use Rattle.ada_tree.specs.Sites.{site}
 use Rattle.ada_tree.specs.RuleUnknown.{unseen_word, no_attribute}
@@ -211,7 +211,7 @@ unary-has o k e = by_test (is_taken o k) e
 binary-has : (o : Operand) (k j : ℕ) (l r : PExpr) → misfit_operand o (Some k) (Some j) l r ≡ [] → binary_kind o (Some k) (Some j) ≡ Some (given_by o)
 binary-has o k j l r e = by_tests (is_taken o k) (is_taken o j) (k == j) e
   where
-    by_tests : (a b c : Bool) → (if not a then place_of l ∷ [] else if not b || (if c then false else true) then place_of r ∷ [] else []) ≡ [] →
+    by_tests : (a b c : Bool) → (if not a then expr_place l ∷ [] else if not b || (if c then false else true) then expr_place r ∷ [] else []) ≡ [] →
         (if a && b && c then Some (given_by o) else None) ≡ Some (given_by o)
     by_tests true true true f = refl
     by_tests true true false f = absurd (not_empty _ [] f)
@@ -229,7 +229,7 @@ module _ (s : Scope) (clear : IsClear s) where
       let known = test-holds (is_some (meaning s w.name)) w.span h.0.known in
       let k = has-kind e h.1 in
       component-read s clear (reading s w.name) w.span e k.0 k.1 (name-reads s clear w.name known) (front_empty _ _ h.0.matched) h.0.counted
-      (λ index part f. test-fails (is_other_kind (Some index) (kind_of s e)) (place_of e)
+      (λ index part f. test-fails (is_other_kind (Some index) (kind_of s e)) (expr_place e)
       (ap (λ r. misfit_index s r e) (sym f) ∙ back_empty (no_value (reading s w.name) w.span) _ h.0.matched))
   has-kind (EAttribute m w sp) h =
       let known = test-holds (is_some (meaning s m.name)) m.span (front_empty _ _ h.0.known) in
@@ -249,14 +249,14 @@ module _ (s : Scope) (clear : IsClear s) where
       let fits : (if is_function a then of_other_kind s (Some (argument_kind a k)) e else []) ≡ [] =
       ap (λ x. misfit_argument s a (scalar_kind x) e) (sym mark.marks) ∙ back_empty (wrong_mark scalar_only s m) _ h.0.matched in
       let alike : of_other_kind s (Some (argument_kind a k)) e ≡ [] = ap (λ b. if b then of_other_kind s (Some (argument_kind a k)) e else []) (sym f.0) ∙ fits in
-      let same : (argument_kind a k == i.0) ≡ true = same-kind (argument_kind a k) i.0 (ap (is_other_kind (Some (argument_kind a k))) (sym i.1) ∙ test-fails (is_other_kind (Some (argument_kind a k)) (kind_of s e)) (place_of e) alike) in (
+      let same : (argument_kind a k == i.0) ≡ true = same-kind (argument_kind a k) i.0 (ap (is_other_kind (Some (argument_kind a k))) (sym i.1) ∙ test-fails (is_other_kind (Some (argument_kind a k)) (kind_of s e)) (expr_place e) alike) in (
         f.1.0,
         ap₂ (λ x o. attribute_kind a (scalar_kind x) o) mark.marks i.1 ∙ ap (λ b. if b then function_kind a k else None) same ∙ f.1.1,
       )
   has-kind (EParen e sp) h = has-kind e h.1
   has-kind (EUnary op e sp) h =
       let k = has-kind e h.1 in
-      (given_by (takes_one op), ap (unary_kind (takes_one op)) k.1 ∙ unary-has (takes_one op) k.0 (ap (is_misfit (takes_one op)) (sym k.1) ∙ test-fails (is_misfit (takes_one op) (kind_of s e)) (place_of e) h.0.matched))
+      (given_by (takes_one op), ap (unary_kind (takes_one op)) k.1 ∙ unary-has (takes_one op) k.0 (ap (is_misfit (takes_one op)) (sym k.1) ∙ test-fails (is_misfit (takes_one op) (kind_of s e)) (expr_place e) h.0.matched))
   has-kind (EBinary op l r sp) h =
       let k = has-kind l (all_front _ (nodes l) (nodes r) h.1) in
       let j = has-kind r (all_back _ (nodes l) (nodes r) h.1) in (

@@ -20,7 +20,7 @@ use Rattle.ada_tree.specs.Declaring.{add_mark, add_kind, mark_for, constants_for
 use Rattle.ada_value.specs.Values.{position_of, value_at, value_in, limits_or}
 use Rattle.ada_value.specs.declared.values.Value.TheVariants.{Number}
 use Rattle.ada_value.specs.StaticLaw.{HasValueAt, HasFewLiterals}
-use Rattle.rewritten_types.specs.Agreement.{scalar_only, HasKind, IsScalar, Grows, Sound, Whole}
+use Rattle.rewritten_types.specs.Agreement.{scalar_only, HasKind, IsScalar, Grows, Sound, WholeTable}
 use Rattle.rewritten_types.proofs.Lookups.{place-all, find-only, earlier-or-last}
 use Rattle.rewritten_types.proofs.Keeping.{grows-self, grows-on, grows-mark, grows-kind}
 use Rattle.legal_types.specs.Typed.{IsSmall, IsSmallKind, HasLiteral, HasPosition}
@@ -81,7 +81,7 @@ firm-constant T c h = subst (λ o. HasPosition T (limits_or o).kind c.value) (sy
 has-value : (T : TypeTable) (k : ℕ) (z : ℤ) → HasPosition T k z → HasValueAt T k z
 has-value T k z h = record { fits = h.fits; same = h.same }
 
-pub typed-from : (T : TypeTable) → Whole T → Sound T → IsFirm T → IsSmall T → IsTyped T
+pub typed-from : (T : TypeTable) → WholeTable T → Sound T → IsFirm T → IsSmall T → IsTyped T
 typed-from T whole root firm small = record {
   whole = whole;
   root = root;

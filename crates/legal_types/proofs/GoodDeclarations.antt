@@ -25,7 +25,7 @@ use Rattle.ada_tree.specs.Declaring.{first_mark, with_name, with_names, with_typ
 use Rattle.ada_value.specs.declared.values.Value.{Value}
 use Rattle.ada_value.specs.Values.{position_of, value_in, word, placed}
 use Rattle.ada_value.specs.Evaluating.{literal_value}
-use Rattle.rewritten_types.specs.Agreement.{Literal as LiteralAt, literal_among, literal_named, scalar_only as only_scalar, Grows, Sound, Whole}
+use Rattle.rewritten_types.specs.Agreement.{Literal as LiteralAt, literal_among, literal_named, scalar_only as only_scalar, Grows, Sound, WholeTable}
 use Rattle.rewritten_types.specs.Rewriting.{IsFirst, names_declared, IsUnused}
 use Rattle.rewritten_types.proofs.Lookups.{place-all}
 use Rattle.rewritten_types.proofs.Keeping.{grows-self, grows-on, grows-mark, grows-kind}
@@ -91,7 +91,7 @@ after-main (DTaskBody name objects its sp) s = refl
 pub record IsNext (s : Scope) : Type 0 where
   pub main : s.in_main ≡ true
   pub here : InHere s
-  pub whole : Whole s.types
+  pub whole : WholeTable s.types
   pub root : Sound s.types
   pub unmarked : AreUnmarked s
 

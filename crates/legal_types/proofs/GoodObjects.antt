@@ -18,7 +18,7 @@ use Rattle.ada_tree.specs.StaticValue.{constant_named}
 use Rattle.ada_tree.specs.Demand.{MarkUse, scalar_only}
 use Rattle.ada_tree.specs.Sites.{if_there, constraint_sites, subind_sites, drange_sites, may_be_task, object_marks, component_marks, shape_sites}
 use Rattle.ada_tree.specs.RuleMismatch.{is_allowed}
-use Rattle.ada_tree.specs.Declaring.{Made, made_subind, drange_range, object_of, task_object, task_array, Declared, of_made, plain_object, array_object, declared_object, constants_for, add_constants, kind_at_mark, constant_mark, initial_value, constant_value, with_constants}
+use Rattle.ada_tree.specs.Declaring.{Made, made_subind, drange_range, object_meaning, task_object, task_array, Declared, of_made, plain_object, array_object, declared_object, constants_for, add_constants, kind_at_mark, constant_mark, initial_value, constant_value, with_constants}
 use Rattle.rewritten_types.specs.Agreement.{HasKind, Grows}
 use Rattle.rewritten_types.proofs.Keeping.{grows-self}
 use Rattle.legal_sites.specs.Met.{IsMet}
@@ -112,9 +112,9 @@ pub record HasObject (s : Scope) (d : Declared) : Type 0 where
   pub constants : d.types.constants ≡ s.types.constants
 
 of-made : (s : Scope) (constant : Bool) (d : Made) → HasMade s d → HasObject s (of_made constant d)
-of-made s constant d h = record { object = subst (λ o. IsObject d.types (object_of constant o)) (sym h.made) (by_test constant); grows = h.grows; firm = h.firm; constants = h.constants }
+of-made s constant d h = record { object = subst (λ o. IsObject d.types (object_meaning constant o)) (sym h.made) (by_test constant); grows = h.grows; firm = h.firm; constants = h.constants }
   where
-    by_test : (b : Bool) → IsObject d.types (object_of b (Some h.place))
+    by_test : (b : Bool) → IsObject d.types (object_meaning b (Some h.place))
     by_test true = h.leads
     by_test false = h.leads
 
@@ -126,7 +126,7 @@ module _ (s : Scope) (main : s.in_main ≡ true) (firm : IsFirm s.types) (typed 
   task-object : (entries : List EntryPart) → IsObject s.types (task_object s.in_main entries)
   task-object entries = subst (λ b. IsObject s.types (task_object b entries)) (sym main) tt
 
-  array-object : (constant : Bool) (m : ℕ) → LeadsOn s.types m → IsObject s.types (object_of constant (Some m))
+  array-object : (constant : Bool) (m : ℕ) → LeadsOn s.types m → IsObject s.types (object_meaning constant (Some m))
   array-object true m h = h
   array-object false m h = h
 
@@ -144,7 +144,7 @@ module _ (s : Scope) (main : s.in_main ≡ true) (firm : IsFirm s.types) (typed 
       by_marking : (m : Marking) → marking s x.mark.name ≡ m → is_some (meaning s x.mark.name) ≡ true → is_allowed allowed m ≡ true → IsMarked s.types m → HasObject s (plain_object s constant m x)
       by_marking (ScalarMark m k) e known a marked =
           of-made s constant (made_subind s x) (subind-made s firm typed over names x every (scalar-subtype x known (ap (is_allowed scalar_only) e) h.1))
-      by_marking (ArrayMark m range part) e known a marked = untold (object_of constant (Some m)) (array-object constant m marked)
+      by_marking (ArrayMark m range part) e known a marked = untold (object_meaning constant (Some m)) (array-object constant m marked)
       by_marking (TaskMark entries) e known a marked = untold (task_object s.in_main entries) (task-object entries)
       by_marking NoMark e known a marked = absurd (true≢false (sym a))
       by_marking UnknownMark e known a marked = absurd marked

@@ -6,13 +6,13 @@ use Rattle.ada_tree.specs.declared.naming.NameId.{NameId}
 use Rattle.ada_tree.specs.declared.naming.Word.{Word}
 use Rattle.ada_tree.specs.declared.static_types.Constant.{Constant}
 use Rattle.ada_tree.specs.TypeTable.{TypeTable}
-use Rattle.ada_tree.specs.Scope.{Scope, Seen, truth_kind, Thing, TypeMark, TaskType, SingleTask, TaskObject, TaskArray, Variable, ConstantObject, Parameter, LoopParameter, Literal, AnException, MainProcedure, AnotherUnit, Unclear, meaning, kind_at, mark_at}
+use Rattle.ada_tree.specs.Scope.{Scope, NameMeaning, truth_kind, Thing, TypeMark, TaskType, SingleTask, TaskObject, TaskArray, Variable, ConstantObject, Parameter, LoopParameter, Literal, AnException, MainProcedure, AnotherUnit, Unclear, meaning, kind_at, mark_at}
 use Rattle.ada_tree.specs.StaticValue.{is_named, mark_named, constant_named}
 use Rattle.ada_tree.specs.Declaring.{predefined_types, seen_as, with_name, with_names, constants_for}
 use Rattle.ada_value.specs.declared.values.Value.{Value}
 use Rattle.ada_value.specs.Values.{value_in, position_of}
 use Rattle.ada_value.specs.Evaluating.{literal_value}
-use Rattle.rewritten_types.specs.Agreement.{Grows, Sound, Whole}
+use Rattle.rewritten_types.specs.Agreement.{Grows, Sound, WholeTable}
 use Rattle.rewritten_types.specs.Rewriting.{IsUnused}
 use Rattle.rewritten_types.proofs.Lookups.{find-grown}
 use Rattle.rewritten_types.proofs.Keeping.{keeps-self}
@@ -114,16 +114,16 @@ module _ (thing : Thing) where
   name-told : (w : Word) (s : Scope) (id : NameId) (x : Thing) → meaning (with_name thing s w) id ≡ Some x → ((w.name.0 == id.0) ≡ true) × (x ≡ thing) ⊎ (meaning s id ≡ Some x)
   name-told w s id x e = by_test (w.name.0 == id.0) refl e
     where
-      by_test : (b : Bool) → (w.name.0 == id.0) ≡ b → option_map (λ (y : Seen). y.thing) (if b then Some (seen_as thing w.name.0) else find (λ y. y.name == id.0) s.names) ≡ Some x →
+      by_test : (b : Bool) → (w.name.0 == id.0) ≡ b → option_map (λ (y : NameMeaning). y.thing) (if b then Some (seen_as thing w.name.0) else find (λ y. y.name == id.0) s.names) ≡ Some x →
           ((w.name.0 == id.0) ≡ true) × (x ≡ thing) ⊎ (meaning s id ≡ Some x)
       by_test true p f = inl (p, sym (some_same f))
       by_test false p f = inr f
 
   name-new : (w : Word) (s : Scope) (id : NameId) → (w.name.0 == id.0) ≡ true → meaning (with_name thing s w) id ≡ Some thing
-  name-new w s id e = ap (λ b. option_map (λ (y : Seen). y.thing) (if b then Some (seen_as thing w.name.0) else find (λ y. y.name == id.0) s.names)) e
+  name-new w s id e = ap (λ b. option_map (λ (y : NameMeaning). y.thing) (if b then Some (seen_as thing w.name.0) else find (λ y. y.name == id.0) s.names)) e
 
   name-other : (w : Word) (s : Scope) (id : NameId) → (w.name.0 == id.0) ≡ false → meaning (with_name thing s w) id ≡ meaning s id
-  name-other w s id e = ap (λ b. option_map (λ (y : Seen). y.thing) (if b then Some (seen_as thing w.name.0) else find (λ y. y.name == id.0) s.names)) e
+  name-other w s id e = ap (λ b. option_map (λ (y : NameMeaning). y.thing) (if b then Some (seen_as thing w.name.0) else find (λ y. y.name == id.0) s.names)) e
 
   pub names-told : (ws : List Word) (s : Scope) (id : NameId) (x : Thing) → meaning (with_names thing s ws) id ≡ Some x → (meaning s id ≡ Some x) ⊎ (IsIn ws id × (x ≡ thing))
   names-told [] s id x e = inl e
@@ -186,7 +186,7 @@ pub record IsGood (s : Scope) : Type 0 where
   pub main : s.in_main ≡ true
   pub here : InHere s
   pub begins : Grows predefined_types s.types
-  pub whole : Whole s.types
+  pub whole : WholeTable s.types
   pub root : Sound s.types
   pub firm : IsFirm s.types
   pub over : IsOver s.types s

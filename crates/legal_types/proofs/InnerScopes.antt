@@ -12,7 +12,7 @@ use Rattle.ada_tree.specs.RuleMismatch.{is_allowed}
 use Rattle.ada_tree.specs.Sites.{if_there, names_sites, mark_sites, formal_mark_sites, all_names, formals_sites, accept_index_sites, head_sites}
 use Rattle.ada_tree.specs.declared.statements.ParMode.{ParMode}
 use Rattle.ada_tree.specs.Scope.{entry_named, mark_at}
-use Rattle.ada_tree.specs.Declaring.{with_name, with_names, inside, formal_thing, with_formals}
+use Rattle.ada_tree.specs.Declaring.{with_name, with_names, inner_scope, formal_thing, with_formals}
 use Rattle.rewritten_types.specs.Agreement.{Keeps, Sound}
 use Rattle.rewritten_types.proofs.Keeping.{grows-self}
 use Rattle.rewritten_types.proofs.Adding.{names-types}
@@ -139,19 +139,19 @@ module _ (T : TypeTable) where
   all-split : (P : Word → Type 0) (fs : List PFormal) → AllByRecursion P (all_names fs) → AllByRecursion (λ (f : PFormal). AllByRecursion P f.names) fs
   all-split P fs h = all_unflat P (λ f. f.names) fs h
 
-  pub inside-stands : (s : Scope) → StandsWhole T s → StandsWhole T (inside s)
-  inside-stands s h = same-stands T s (inside s) refl (λ id. refl) h
+  pub inside-stands : (s : Scope) → StandsWhole T s → StandsWhole T (inner_scope s)
+  inside-stands s h = same-stands T s (inner_scope s) refl (λ id. refl) h
 
   -- the statements of an accept
-  pub accept-stands : (s : Scope) (h : PHead) → StandsWhole T s → AllByRecursion IsMet (head_sites s h) → AreApart T (head_sites s h) → StandsWhole T (with_formals (inside s) h.formals)
+  pub accept-stands : (s : Scope) (h : PHead) → StandsWhole T s → AllByRecursion IsMet (head_sites s h) → AreApart T (head_sites s h) → StandsWhole T (with_formals (inner_scope s) h.formals)
   accept-stands s h stands met apart =
       let index = if_there (accept_index_sites s (entry_named s.own h.entry.name)) h.index in
-      let names = names_sites false (inside s) (all_names h.formals) in
+      let names = names_sites false (inner_scope s) (all_names h.formals) in
       let marks = formal_mark_sites s h.formals in
       let met1 : AllByRecursion IsMet (index ++ formals_sites s h.formals) = met.1 in
       let met2 : AllByRecursion IsMet (names ++ marks) = all_back IsMet index (formals_sites s h.formals) met1 in
       let apart1 : AreApart T (index ++ formals_sites s h.formals) = apart.1 in
       let apart2 : AreApart T (names ++ marks) = all_back _ index (formals_sites s h.formals) apart1 in
-      formals-stand s stands h.formals (inside s) refl (λ id v. refl) (inside-stands s stands)
-      (all-split _ h.formals (names-apart T (all_names h.formals) (inside s) (all_front _ names marks apart2)))
+      formals-stand s stands h.formals (inner_scope s) refl (λ id v. refl) (inside-stands s stands)
+      (all-split _ h.formals (names-apart T (all_names h.formals) (inner_scope s) (all_front _ names marks apart2)))
       (formal-marks s stands h.formals (all_unflat IsMet (λ f. mark_sites scalar_only s f.mark) h.formals (all_back IsMet names marks met2)))

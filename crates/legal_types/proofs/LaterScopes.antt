@@ -18,7 +18,7 @@ use Rattle.ada_value.specs.declared.values.Value.{Value}
 use Rattle.ada_value.specs.declared.values.Value.TheVariants.{Number, Truth}
 use Rattle.ada_value.specs.Values.{word, placed, value_in, limits_or}
 use Rattle.ada_value.specs.Evaluating.{literal_value, constant_value, fixed_value}
-use Rattle.rewritten_types.specs.Agreement.{HasKind, HasMark, Grows, Keeps, Sound, Whole, Agrees}
+use Rattle.rewritten_types.specs.Agreement.{HasKind, HasMark, Grows, Keeps, Sound, WholeTable, Agrees}
 use Rattle.rewritten_types.specs.Rewriting.{IsFirst, names_declared, IsUnused}
 use Rattle.rewritten_types.proofs.Lookups.{find-grown, find-all, place-all}
 use Rattle.rewritten_types.proofs.Keeping.{grows-on, grows-mark, grows-kind, keeps-self}
@@ -219,7 +219,7 @@ enumeration-later T x m root = record { grows = grows; named = named; fixed = fi
 abbrev only : NameId → ℕ → Bool
 only id n = n == id.0
 
-keeps-value : (T U : TypeTable) → Sound T → Whole T → Grows T U → ((id : NameId) → is_some (value_named T id) ≡ true → Keeps (only id) T U) → IsLaterTable T U
+keeps-value : (T U : TypeTable) → Sound T → WholeTable T → Grows T U → ((id : NameId) → is_some (value_named T id) ≡ true → Keeps (only id) T U) → IsLaterTable T U
 keeps-value T U root whole grows h = record {
   grows = grows;
   named = λ id v. sym (named-alike (only id) T U (agrees id (h id v)) id (eq-eqb id.0 id.0 refl));

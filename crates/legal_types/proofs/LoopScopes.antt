@@ -19,7 +19,7 @@ use Rattle.ada_tree.specs.ExprTypes.{takes, takes_one, given_by, argument_kind, 
 use Rattle.ada_tree.specs.Demand.{scalar_only, must_be_alike, must_not_be_empty, Site}
 use Rattle.ada_tree.specs.RuleMismatch.{is_allowed}
 use Rattle.ada_tree.specs.Sites.{site, if_there, expr_sites, bounds_sites, drange_sites, scheme_sites, loop_scope}
-use Rattle.ada_tree.specs.Declaring.{inside, with_name, first_mark_of, loop_thing, drange_kind}
+use Rattle.ada_tree.specs.Declaring.{inner_scope, with_name, first_mark_of, loop_thing, drange_kind}
 use Rattle.rewritten_types.specs.Agreement.{scalar_only as only_scalar, HasKind, IsScalar, mark_of_kind}
 use Rattle.rewritten_types.proofs.Lookups.{place-all}
 use Rattle.rewritten_types.proofs.Owning.{own-kept}
@@ -196,8 +196,8 @@ loop-stands T s (Some (LFor w b r)) h met apart =
     let at = found_at (λ (m : Mark). m.kind == q.0) s.types.marks q.2.0 q.2.1 in
     let kind : HasKind s.types q.2.0.kind = place-all (λ (m : Mark). HasKind s.types m.kind) s.types.marks at.0 q.2.0 h.stands.over.clear.sound.marks at.2 in
     let is : and_then (first_mark_of s.types) (drange_kind s r) ≡ Some at.0 = ap (and_then (first_mark_of s.types)) q.1 ∙ at.1 in
-    subst (λ o. StandsWhole T (with_name (loop_thing o) (inside s) w)) (sym is)
-    (one-stands T (LoopParameter at.0) w (inside s) apart.0 (record { mark = q.2.0; there = at.2; kind = kind.0; known = kind.1 }) (λ j e. no-parameter at.0 j e) (inside-stands T s h))
+    subst (λ o. StandsWhole T (with_name (loop_thing o) (inner_scope s) w)) (sym is)
+    (one-stands T (LoopParameter at.0) w (inner_scope s) apart.0 (record { mark = q.2.0; there = at.2; kind = kind.0; known = kind.1 }) (λ j e. no-parameter at.0 j e) (inside-stands T s h))
   where
     no-parameter : (m j : ℕ) → LoopParameter m ≡ TypeMark j → ⊥
     no-parameter m j e = cc

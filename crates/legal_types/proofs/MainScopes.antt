@@ -13,10 +13,10 @@ use Rattle.ada_tree.specs.PlainDecl.{PDecl, DNumber, DObject, DEnumeration, DArr
 use Rattle.ada_tree.specs.PlainProgram.{PProgram}
 use Rattle.ada_tree.specs.Every.{EveryDecls}
 use Rattle.ada_tree.specs.WellPlaced.{well_placed, IsLater, AreLater, BodiesLast, IsWellPlaced}
-use Rattle.ada_tree.specs.Scope.{Scope, Seen, truth_kind, Thing, TypeMark, Literal, AnException, AnotherUnit, MainProcedure, EntryPart, meaning, kind_at, mark_at}
+use Rattle.ada_tree.specs.Scope.{Scope, NameMeaning, truth_kind, Thing, TypeMark, Literal, AnException, AnotherUnit, MainProcedure, EntryPart, meaning, kind_at, mark_at}
 use Rattle.ada_tree.specs.StaticValue.{mark_named}
 use Rattle.ada_tree.specs.Sites.{decl_sites, decls_sites, body_sites}
-use Rattle.ada_tree.specs.Declaring.{predefined_types, predefined_names, first_scope, with_name, inside, task_thing, entry_part, in_body, after_decl, after_decls}
+use Rattle.ada_tree.specs.Declaring.{predefined_types, predefined_names, first_scope, with_name, inner_scope, task_thing, entry_part, in_body, after_decl, after_decls}
 use Rattle.ada_tree.specs.RuleDuplicate.{is_predefined}
 use Rattle.ada_tree.specs.Refusals.{MeetsTypeRules, types_in}
 use Rattle.rewritten_types.specs.Agreement.{Keeps, Grows, Sound}
@@ -71,12 +71,12 @@ AllStand T s (decl_then d rest) = Stands T s × AllByRecursion IsMet (decl_sites
 -- ---- before all declarations
 
 -- what is found has the name
-find-name : (xs : List Seen) (n : ℕ) (y : Seen) → find (λ (x : Seen). x.name == n) xs ≡ Some y → y.name ≡ n
+find-name : (xs : List NameMeaning) (n : ℕ) (y : NameMeaning) → find (λ (x : NameMeaning). x.name == n) xs ≡ Some y → y.name ≡ n
 find-name [] n y e = absurd (none-some y e)
 find-name (x ∷ xs) n y e = by_test (x.name == n) refl e (find-name xs n y)
   where
-    by_test : (b : Bool) → (x.name == n) ≡ b → (if b then Some x else find (λ (z : Seen). z.name == n) xs) ≡ Some y → (find (λ (z : Seen). z.name == n) xs ≡ Some y → y.name ≡ n) → y.name ≡ n
-    by_test true p f rest = ap (λ (z : Seen). z.name) (sym (some_same f)) ∙ eqb-true x.name n p
+    by_test : (b : Bool) → (x.name == n) ≡ b → (if b then Some x else find (λ (z : NameMeaning). z.name == n) xs) ≡ Some y → (find (λ (z : NameMeaning). z.name == n) xs ≡ Some y → y.name ≡ n) → y.name ≡ n
+    by_test true p f rest = ap (λ (z : NameMeaning). z.name) (sym (some_same f)) ∙ eqb-true x.name n p
     by_test false p f rest = rest f
 
 module _ (name : Word) (unused : is_predefined name.name.0 ≡ false) where
@@ -86,7 +86,7 @@ module _ (name : Word) (unused : is_predefined name.name.0 ≡ false) where
   predefined-leads : (m : ℕ) (x : Mark) (k : Kind) → mark_at predefined_types m ≡ Some x → kind_at predefined_types x.kind ≡ Some k → LeadsOn predefined_types m
   predefined-leads m x k e f = record { mark = x; there = e; kind = k; known = f }
 
-  all-clear : AllByRecursion (λ (y : Seen). IsClearThing predefined_types y.thing) first.names
+  all-clear : AllByRecursion (λ (y : NameMeaning). IsClearThing predefined_types y.thing) first.names
   all-clear = (
     tt,
     (
@@ -98,7 +98,7 @@ module _ (name : Word) (unused : is_predefined name.name.0 ≡ false) where
     ),
   )
 
-  abbrev IsMarkedSo : Seen → Type 0
+  abbrev IsMarkedSo : NameMeaning → Type 0
   IsMarkedSo y = (m : ℕ) → y.thing ≡ TypeMark m → mark_named predefined_types (record { 0 = y.name }) ≡ mark_at predefined_types m
 
   no-mark : (x : Thing) (n : ℕ) → ((m : ℕ) → x ≡ TypeMark m → ⊥) → (m : ℕ) → x ≡ TypeMark m → mark_named predefined_types (record { 0 = n }) ≡ mark_at predefined_types m
@@ -159,10 +159,10 @@ module _ (name : Word) (unused : is_predefined name.name.0 ≡ false) where
   )
 
   -- a predefined name means what it means before the program
-  predefined-means : (n : ℕ) → n < 18 → meaning first (record { 0 = n }) ≡ option_map (λ (y : Seen). y.thing) (find (λ (y : Seen). y.name == n) predefined_names)
+  predefined-means : (n : ℕ) → n < 18 → meaning first (record { 0 = n }) ≡ option_map (λ (y : NameMeaning). y.thing) (find (λ (y : NameMeaning). y.name == n) predefined_names)
   predefined-means n l =
       let m : 18 ≤ name.name.0 = ltb-false name.name.0 18 unused in
-      ap (λ b. option_map (λ (y : Seen). y.thing) (if b then Some (record { name = name.name.0; thing = MainProcedure }) else find (λ (y : Seen). y.name == n) predefined_names))
+      ap (λ b. option_map (λ (y : NameMeaning). y.thing) (if b then Some (record { name = name.name.0; thing = MainProcedure }) else find (λ (y : NameMeaning). y.name == n) predefined_names))
       (ne_eqb name.name.0 n (λ same. let y : ⊥ = omega (arith, same, l, m) in y))
 
   by-number : (id : NameId) (n : ℕ) → (id.0 == n) ≡ true → record { 0 = n } ≡ id
@@ -171,21 +171,21 @@ module _ (name : Word) (unused : is_predefined name.name.0 ≡ false) where
   first-over : IsOver predefined_types first
   first-over = record {
     keeps = keeps-self predefined_types;
-    clear = record { sound = sound-first name; things = λ id x e. things id x (thing_found (find (λ (y : Seen). y.name == id.0) first.names) x e) };
-    marks = λ id m e. marks id m (thing_found (find (λ (y : Seen). y.name == id.0) first.names) (TypeMark m) e);
+    clear = record { sound = sound-first name; things = λ id x e. things id x (thing_found (find (λ (y : NameMeaning). y.name == id.0) first.names) x e) };
+    marks = λ id m e. marks id m (thing_found (find (λ (y : NameMeaning). y.name == id.0) first.names) (TypeMark m) e);
     constants = λ id c e. absurd (none-some c e);
     literals = λ id v e. absurd (none-some v e);
     falses = λ id e. ap (meaning first) (sym (by-number id 4 e)) ∙ predefined-means 4 (omega arith);
     trues = λ id e. ap (meaning first) (sym (by-number id 5 e)) ∙ predefined-means 5 (omega arith);
   }
     where
-      things : (id : NameId) (x : Thing) → (y : Seen) × (find (λ (z : Seen). z.name == id.0) first.names ≡ Some y) × (y.thing ≡ x) → IsClearThing predefined_types x
-      things id x h = subst (IsClearThing predefined_types) h.2 (find-all (λ (y : Seen). IsClearThing predefined_types y.thing) (λ (z : Seen). z.name == id.0) first.names h.0 all-clear h.1)
+      things : (id : NameId) (x : Thing) → (y : NameMeaning) × (find (λ (z : NameMeaning). z.name == id.0) first.names ≡ Some y) × (y.thing ≡ x) → IsClearThing predefined_types x
+      things id x h = subst (IsClearThing predefined_types) h.2 (find-all (λ (y : NameMeaning). IsClearThing predefined_types y.thing) (λ (z : NameMeaning). z.name == id.0) first.names h.0 all-clear h.1)
 
-      marks : (id : NameId) (m : ℕ) → (y : Seen) × (find (λ (z : Seen). z.name == id.0) first.names ≡ Some y) × (y.thing ≡ TypeMark m) → mark_named predefined_types id ≡ mark_at predefined_types m
+      marks : (id : NameId) (m : ℕ) → (y : NameMeaning) × (find (λ (z : NameMeaning). z.name == id.0) first.names ≡ Some y) × (y.thing ≡ TypeMark m) → mark_named predefined_types id ≡ mark_at predefined_types m
       marks id m h =
           ap (λ n. mark_named predefined_types (record { 0 = n })) (sym (find-name first.names id.0 h.0 h.1))
-          ∙ find-all IsMarkedSo (λ (z : Seen). z.name == id.0) first.names h.0 all-marked h.1 m h.2
+          ∙ find-all IsMarkedSo (λ (z : NameMeaning). z.name == id.0) first.names h.0 all-marked h.1 m h.2
 
   first-alone : (k : ℕ) (x : Kind) → kind_at predefined_types k ≡ Some x → IsAlone k x
   first-alone zero x e = subst (IsAlone 0) (some_same e) refl
@@ -369,7 +369,7 @@ whole-walk p rules placed small =
     let once : NamesOnce p.name p.decls = declared_once p rules in
     let met = (all_met p rules).1 in
     walk p.names p.decls (first_scope p.name) (good-first p.name once.0.0) placed.1 once.1 placed.2
-    (all_front IsMet (decls_sites (first_scope p.name) p.decls) (body_sites (inside (after_decls (first_scope p.name) p.decls)) p.body) met) small
+    (all_front IsMet (decls_sites (first_scope p.name) p.decls) (body_sites (inner_scope (after_decls (first_scope p.name) p.decls)) p.body) met) small
 
 -- At each declaration of main the scope stands over a firm table, of which the program's is a later one.
 pub main-stands : (p : PProgram) → MeetsTypeRules p → IsWellPlaced p → IsSmall (types_in p) → AllStand (types_in p) (first_scope p.name) p.decls

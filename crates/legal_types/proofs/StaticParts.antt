@@ -7,7 +7,7 @@ use Rattle.ada_tree.specs.declared.naming.Span.{Span}
 use Rattle.ada_tree.specs.PlainExpr.{PExpr, EInteger, EName, EIndex, EAttribute, EAttributeOf, EParen, EUnary, EBinary, PBounds, PSubind, PDrange, RGiven, RMarked}
 use Rattle.ada_tree.specs.Scope.{Scope, meaning, marking, scalar_kind}
 use Rattle.ada_tree.specs.StaticValue.{is_static, value_of, value_named, named}
-use Rattle.ada_tree.specs.ExprTypes.{nodes, place_of, kind_of, is_kind, ok_value, static_in, is_other_kind}
+use Rattle.ada_tree.specs.ExprTypes.{nodes, expr_place, kind_of, is_kind, ok_value, static_in, is_other_kind}
 use Rattle.ada_tree.specs.Demand.{scalar_only, node, must_be_of, must_be_alike, must_be_static, must_not_be_empty, Site}
 use Rattle.ada_tree.specs.Sites.{site, if_there, expr_sites, bounds_sites, constraint_sites, subind_sites, drange_sites}
 use Rattle.ada_tree.specs.RuleMismatch.{is_allowed}
@@ -104,14 +104,14 @@ module _ (s : Scope) (clear : IsClear s) where
   met-static e h m =
       let k = met-kind e h in
       let some : is_some (kind_of s e) ≡ true = ap is_some k.1 in
-      let static = static-of (is_some (kind_of s e)) (is_static s.types e) (place_of e) some m.static in
+      let static = static-of (is_some (kind_of s e)) (is_static s.types e) (expr_place e) some m.static in
       let z = raise-free s e some static h.0.ranged in
       (k.0, record { kind = k.1; static = static; value = z.0; worth = z.1 })
 
   -- and where it must be of a kind it is of that one
   pub of-kind : (k j : ℕ) (e : PExpr) → IsStaticIn s j e → IsMet (site s (must_be_of e (Some k))) → IsStaticIn s k e
   of-kind k j e h m =
-      let other : is_other_kind (Some k) (Some j) ≡ false = ap (is_other_kind (Some k)) (sym h.kind) ∙ test-fails (is_other_kind (Some k) (kind_of s e)) (place_of e) m.matched in
+      let other : is_other_kind (Some k) (Some j) ≡ false = ap (is_other_kind (Some k)) (sym h.kind) ∙ test-fails (is_other_kind (Some k) (kind_of s e)) (expr_place e) m.matched in
       subst (λ n. IsStaticIn s n e) (sym (eqb-true k j (same-kind k j other))) h
 
   -- both bounds
@@ -135,7 +135,7 @@ module _ (s : Scope) (clear : IsClear s) where
   in-order k b f l m =
       let e : empty_range s b.first b.last (Some k) ≡ [] = ap (empty_range s b.first b.last) (sym f.kind) ∙ m.ranged in
       let below : int_lt l.value f.value ≡ false =
-      ap₂ is_below (sym (static-told s k b.last l)) (sym (static-told s k b.first f)) ∙ test-fails (is_below (static_in s k b.last) (static_in s k b.first)) (place_of b.first) e in
+      ap₂ is_below (sym (static-told s k b.last l)) (sym (static-told s k b.first f)) ∙ test-fails (is_below (static_in s k b.last) (static_in s k b.first)) (expr_place b.first) e in
       not-below l.value f.value below
 
   -- bounds behind a mark of a kind
@@ -187,6 +187,6 @@ module _ (s : Scope) (clear : IsClear s) where
       let qs : AllByRecursion IsMet ms = all_back IsMet (bounds_sites true s b) ms h in
       let q = qs.0 in
       let other : is_other_kind (Some r.0.0) (Some r.1.0) ≡ false =
-      ap₂ is_other_kind (sym r.0.1.kind) (sym r.1.1.kind) ∙ test-fails (is_other_kind (kind_of s b.first) (kind_of s b.last)) (place_of b.last) q.matched in
+      ap₂ is_other_kind (sym r.0.1.kind) (sym r.1.1.kind) ∙ test-fails (is_other_kind (kind_of s b.first) (kind_of s b.last)) (expr_place b.last) q.matched in
       let last = subst (λ n. IsStaticIn s n b.last) (sym (eqb-true r.0.0 r.1.0 (same-kind r.0.0 r.1.0 other))) r.1.1 in
       record { kind = r.0.0; first = r.0.1; last = last; order = in-order s clear r.0.0 b r.0.1 last r.2 }

@@ -20,12 +20,12 @@ use Rattle.ada_tree.specs.Demand.{scalar_only, Site}
 use Rattle.ada_tree.specs.Sites.{decl_sites, if_there, names_sites, subind_sites, drange_sites, mark_sites, component_marks, may_be_task, shape_sites, init_sites, object_marking, is_task_object, formal_mark_sites, all_names, formals_sites, entry_sites, entries_sites, static_of, task_sites, object_sites}
 use Rattle.ada_tree.specs.ExprTypes.{static_range}
 use Rattle.ada_tree.specs.ExprTypes.{range_between as range_between_in}
-use Rattle.ada_tree.specs.Declaring.{given_range, marked_range, drange_range, inside, with_name, with_names, declared_object, first_scope, after_decl}
+use Rattle.ada_tree.specs.Declaring.{given_range, marked_range, drange_range, inner_scope, with_name, with_names, declared_object, first_scope, after_decl}
 use Rattle.ada_tree.specs.RuleDuplicate.{is_among}
 use Rattle.ada_tree.specs.RuleMismatch.{is_allowed}
 use Rattle.ada_tree.specs.Refusals.{MeetsTypeRules, types_in}
-use Rattle.syn_event.specs.Units.{decl_list, tasks_in}
-use Rattle.syn_event.specs.Extents.{between, value_there, bounds_extent, marked_extent}
+use Rattle.syn_event.specs.DeclaredTasks.{decl_list, tasks_in}
+use Rattle.syn_event.specs.Extents.{between, unraised_value, bounds_extent, marked_extent}
 use Rattle.syn_event.specs.NamedTasks.{NamedTasks, task_names_of_type, object_task_names, type_named, with_type, single_task_name, task_names_in}
 use Rattle.ada_value.specs.Values as values
 use Rattle.ada_value.specs.Values.{limits_of, limits_or}
@@ -90,8 +90,8 @@ module _ (T : TypeTable) (s : Scope) (stands : Stands T s) where
   pub worth-here : (names : List (List ℕ)) (j k : ℕ) (e : PExpr) → EveryExpr (well_placed names) j e → (h : IsStaticIn s k e) → IsWorth T k e h.value
   worth-here names j k e every h = worth-later stands.root T stands.typed.root stands.later k e h.value (worth stands.root s stands.typed stands.over k e (small-literals names j e every) h)
 
-  fixed-here : (k : ℕ) (e : PExpr) (z : ℤ) → IsWorth T k e z → (if is_static T e then value_there (value_of T e) else None) ≡ Some z
-  fixed-here k e z h = ap (λ b. if b then value_there (value_of T e) else None) h.static ∙ ap value_there h.told
+  fixed-here : (k : ℕ) (e : PExpr) (z : ℤ) → IsWorth T k e z → (if is_static T e then unraised_value (value_of T e) else None) ≡ Some z
+  fixed-here k e z h = ap (λ b. if b then unraised_value (value_of T e) else None) h.static ∙ ap unraised_value h.told
 
   bounds-worth : (k : ℕ) (b : PBounds) (f l : ℤ) → IsWorth T k b.first f → IsWorth T k b.last l → bounds_of T [] b ≡ Ok record { kind = k; first = f; last = l }
   bounds-worth k b f l x y =
@@ -218,7 +218,7 @@ module _ (T : TypeTable) (s : Scope) (stands : Stands T s) (names : List (List �
       let formals : AllByRecursion IsMet (formals_sites s e.formals) = all_back IsMet family (formals_sites s e.formals) rest in (
         record {
           family = family-typed e.family every.2 (all_front IsMet family (formals_sites s e.formals) rest);
-          formals = formals-typed e.formals (all_unflat IsMet (λ f. mark_sites scalar_only s f.mark) e.formals (all_back IsMet (names_sites false (inside s) (all_names e.formals)) (formal_mark_sites s e.formals) formals));
+          formals = formals-typed e.formals (all_unflat IsMet (λ f. mark_sites scalar_only s f.mark) e.formals (all_back IsMet (names_sites false (inner_scope s) (all_names e.formals)) (formal_mark_sites s e.formals) formals));
         },
         no-word (is_among before e.name.name.0) e.name h.0.once,
       )

@@ -30,7 +30,7 @@ use Rattle.ada_value.specs.Values.{position_of, kind_of_value, is_true_value, va
 use Rattle.ada_value.specs.Evaluating as evaluating
 use Rattle.ada_value.specs.Evaluating.{evaluated, literal_value, constant_value, fixed_value, bound_value, attribute_value, signed_value, combined}
 use Rattle.ada_value.specs.StaticLaw.{HasFewLiterals, IsSound}
-use Rattle.rewritten_types.specs.Agreement.{scalar_only, HasMark, IsScalar, Keeps, Sound, Whole}
+use Rattle.rewritten_types.specs.Agreement.{scalar_only, HasMark, IsScalar, Keeps, Sound, WholeTable}
 use Rattle.rewritten_types.proofs.Lookups.{find-all}
 use Rattle.legal_types.specs.Typed.{HasLiteral, HasPosition}
 use Rattle.legal_types.proofs.ExprKinds.{IsClear}
@@ -61,7 +61,7 @@ IsPlaced k (kind.Array index first last part) = Unit {0}
 
 -- a table whose kinds are placed so, and whose bounds and constants are values of their kinds
 pub record IsTyped (T : TypeTable) : Type 0 where
-  pub whole : Whole T
+  pub whole : WholeTable T
   pub root : Sound T
   pub sound : IsSound T
   pub places : (k : ℕ) (x : Kind) → kind_at T k ≡ Some x → IsPlaced k x

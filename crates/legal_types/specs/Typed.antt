@@ -12,7 +12,7 @@ use Rattle.ada_tree.specs.PlainProgram.{PProgram}
 use Rattle.ada_tree.specs.Scope.{kind_at}
 use Rattle.ada_tree.specs.StaticValue.{is_integer_value, mark_named}
 use Rattle.ada_tree.specs.Refusals.{types_in}
-use Rattle.syn_event.specs.Units.{tasks_of}
+use Rattle.syn_event.specs.DeclaredTasks.{tasks_of}
 use Rattle.syn_event.specs.Extents.{extent}
 use Rattle.syn_event.specs.NamedTasks.{NamedTasks, task_names_of}
 use Rattle.ada_value.specs.declared.values.Limits.{Limits}

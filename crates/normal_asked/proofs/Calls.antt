@@ -9,7 +9,7 @@ use Rattle.ada_tree.specs.declared.statements.ParMode.TheVariants.{Take, Give, B
 use Rattle.ada_tree.specs.PlainExpr.{PExpr, PSubind}
 use Rattle.ada_tree.specs.PlainStmt.{PCallee, PCall, PStmt, SNull, SCall, SConditional, STimed, PStmts, no_stmt, stmt_then, case_arms_of}
 use Rattle.ada_tree.specs.PlainDecl.{PDecl}
-use Rattle.ada_tree.specs.Sites.{choices_of}
+use Rattle.ada_tree.specs.Sites.{arm_choices}
 use Rattle.syn_event.specs.declared.numbering.TaskInfo.{TaskInfo}
 use Rattle.task_model.specs.Setting.{Setting}
 use Rattle.task_model.specs.Calls.{variable_of}
@@ -20,14 +20,14 @@ use Rattle.normal_model.specs.Making.{one, or_null, variable, Kept, kept_before,
 use Rattle.normal_model.specs.Members.{known_callee, callee_kept, members_of, member_arm, by_member, chosen_if, chosen}
 use Rattle.normal_model.specs.Calls.{lists_called, Slot, slots_called, actual_before, actuals_before, copied_to, actual_behind, actuals_behind, actual_subtypes, indices_kept, actual_number, call_before, call_behind, call_to, call_subtypes, plain_image, is_chosen, flag_number, flag_subtypes, select_subtypes, flagged, part_taken, select_if, select_image, conditional_image, timed_image}
 use Rattle.normal_model.specs.Aborts.{abort_of, callee_aborted, callees_aborted, abort_image, abort_subtypes}
-use Rattle.normal_model.specs.Waits.{Unit}
+use Rattle.normal_model.specs.RewrittenUnit.{RewrittenUnit}
 use Rattle.asked_stmts.specs.Asked.{Asks, AskedStmt, AskedStmts, AskedSome, AskedCaseArms}
 use Rattle.normal_asked.specs.Pieces.{IsVariable, AreVariables, member_choice, IsAmong, first_among, later_among, IsTarget, is_known, is_member, named, IsPair, first_pair, later_pair, is_read, is_written, Pieces}
 use Rattle.normal_asked.proofs.CallVariables.{family_subtype, family_kept, callee-there, family-there, actuals-there}
 use Rattle.normal_asked.proofs.Lists.{HasStmt, some-front, some-back, asked-join, asked-some, variables-front, variables-back}
 use Rattle.normal_model.proofs.Declared.{kept_length}
 
-module _ {C D : Type 0} (u : Unit) (vars : List PDecl) (b : Asks C) (a : Asks D) (R : C → D → Type 0) (P : Pieces u vars b a R) where
+module _ {C D : Type 0} (u : RewrittenUnit) (vars : List PDecl) (b : Asks C) (a : Asks D) (R : C → D → Type 0) (P : Pieces u vars b a R) where
   abbrev g : Setting
   g = u.setting
 
@@ -50,7 +50,7 @@ module _ {C D : Type 0} (u : Unit) (vars : List PDecl) (b : Asks C) (a : Asks D)
       go None e w = tt
       go (Some y) e w = (P.callee_index c d k n s x y j r h e w.0 le, tt)
 
-  choices-are : (s : Span) (x : PCallee) (what : Word → PStmts) (infos : List TaskInfo) → choices_of (case_arms_of (map (member_arm g s x what) infos)) ≡ map (member_choice g s x) infos
+  choices-are : (s : Span) (x : PCallee) (what : Word → PStmts) (infos : List TaskInfo) → arm_choices (case_arms_of (map (member_arm g s x what) infos)) ≡ map (member_choice g s x) infos
   choices-are s x what [] = refl
   choices-are s x what (info ∷ rest) = ap (λ l. member_choice g s x info ∷ l) (choices-are s x what rest)
 

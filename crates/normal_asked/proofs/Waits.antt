@@ -10,14 +10,15 @@ use Rattle.task_model.specs.Setting.{Setting, entry_of}
 use Rattle.normal_model.specs.Ranges.{word_at, truth_subtype, subtype_of_range, family_range}
 use Rattle.normal_model.specs.Making.{one, variable, Kept, kept_before, kept_subtypes, kept_if, moving, index_left}
 use Rattle.normal_model.specs.Walk.{Rewriter, after_alt, after_alts, after_kind, alts_leads, inside_alts}
-use Rattle.normal_model.specs.Waits.{Unit, accept_kept, head_left, accept_image, kind_kept, under_guard, alternative_before, alternative_subtypes, guard_then, all_guards, raised_unless, closed_test, wait_image}
+use Rattle.normal_model.specs.RewrittenUnit.{RewrittenUnit}
+use Rattle.normal_model.specs.Waits.{accept_kept, head_left, accept_image, kind_kept, under_guard, alternative_before, alternative_subtypes, guard_then, all_guards, raised_unless, closed_test, wait_image}
 use Rattle.normal_model.specs.NormalStmts.{normal_rewriter}
 use Rattle.normal_model.proofs.VariablesLemmas.{Begins, begins-trans, kind-begins, alts-begin, normal-adds}
 use Rattle.asked_stmts.specs.Asked.{Asks, AskedStmts, AskedMaybe, AskedAlts, AskedKind}
 use Rattle.normal_asked.specs.Pieces.{IsVariable, AreVariables, IsGuard, Pieces}
 use Rattle.normal_asked.proofs.Lists.{HasStmt, some-back, asked-join, asked-some, added-there}
 
-module _ {C D : Type 0} (u : Unit) (vars : List PDecl) (b : Asks C) (a : Asks D) (R : C → D → Type 0) (P : Pieces u vars b a R) where
+module _ {C D : Type 0} (u : RewrittenUnit) (vars : List PDecl) (b : Asks C) (a : Asks D) (R : C → D → Type 0) (P : Pieces u vars b a R) where
   abbrev g : Setting
   g = u.setting
 

@@ -5,13 +5,14 @@ use Rattle.ada_tree.specs.PlainExpr.{PExpr}
 use Rattle.ada_tree.specs.PlainStmt.{PStmt, SNull, SAssign, SDelay, SExit, SRaise, SAbort, SCall, SAccept, SWait, SConditional, STimed, SPut, SPutLine, SNewLine, SGet, SIf, SCase, SBlock, SLoop, PStmts, no_stmt, stmt_then, PMaybe, absent, present, accepting, alternative, PAltKind, AAccept, ADelay, ATerminate, PAlts, no_alt, alt_then, PArms, no_arm, arm_then, arm, PCaseArms, no_case_arm, case_arm_then, case_arm, PBody, body, PHandlers, no_handler, handler_then, handler}
 use Rattle.ada_tree.specs.PlainDecl.{PDecl}
 use Rattle.ada_tree.specs.Every.{alts_count, arms_count}
-use Rattle.ada_tree.specs.Sites.{choices_of, is_present, with_words}
+use Rattle.ada_tree.specs.Sites.{arm_choices, is_present, with_words}
 use Rattle.task_model.specs.Setting.{Setting}
 use Rattle.normal_model.specs.Making.{variable, kept_subtypes}
 use Rattle.normal_model.specs.Calls.{call_subtypes, select_subtypes}
 use Rattle.normal_model.specs.Aborts.{abort_subtypes}
-use Rattle.normal_model.specs.Walk.{Rewriter, after_parts, after_stmts, after_maybe, after_kind, after_alts, after_arms, after_case_arms, after_body, after_handlers, leads, inside, rewritten, inside_maybe, inside_kind, inside_alts, inside_arms, inside_case_arms, inside_body, inside_handlers}
-use Rattle.normal_model.specs.Waits.{Unit, accept_kept, kind_kept, head_left, kind_left, behind_guard, alternative_subtypes, all_guards, wait_image, closed_test}
+use Rattle.normal_model.specs.Walk.{Rewriter, after_parts, after_stmts, after_maybe, after_kind, after_alts, after_arms, after_case_arms, after_body, after_handlers, leads, parts_rewritten, rewritten, inside_maybe, inside_kind, inside_alts, inside_arms, inside_case_arms, inside_body, inside_handlers}
+use Rattle.normal_model.specs.RewrittenUnit.{RewrittenUnit}
+use Rattle.normal_model.specs.Waits.{accept_kept, kind_kept, head_left, kind_left, behind_guard, alternative_subtypes, all_guards, wait_image, closed_test}
 use Rattle.normal_model.specs.Variables.{statement_variables}
 use Rattle.normal_model.specs.NormalStmts.{normal_image, normal_rewriter, normal_body}
 use Rattle.task_model.specs.Frames.{in_front}
@@ -37,11 +38,11 @@ module _ {S : Type 0} (r : Rewriter S) where
   arms-same no_arm t = refl
   arms-same (arm_then (arm e l) rest) t = ap (λ n. 1 + n) (arms-same rest (after_stmts r l t))
 
-  choices-same : (x : PCaseArms) (t : S) → choices_of (inside_case_arms r x t) ≡ choices_of x
+  choices-same : (x : PCaseArms) (t : S) → arm_choices (inside_case_arms r x t) ≡ arm_choices x
   choices-same no_case_arm t = refl
   choices-same (case_arm_then (case_arm cs l) rest) t = ap (λ xs. cs ++ xs) (choices-same rest (after_stmts r l t))
 
-module _ {C D : Type 0} (u : Unit) (vars : List PDecl) (b : Asks C) (a : Asks D) (R : C → D → Type 0) (P : Pieces u vars b a R) where
+module _ {C D : Type 0} (u : RewrittenUnit) (vars : List PDecl) (b : Asks C) (a : Asks D) (R : C → D → Type 0) (P : Pieces u vars b a R) where
   abbrev g : Setting
   g = u.setting
 
@@ -72,12 +73,12 @@ module _ {C D : Type 0} (u : Unit) (vars : List PDecl) (b : Asks C) (a : Asks D)
 
   rewritten-some : (x : PStmt) (l : PStmts) (t : List PDecl) → HasStmt (rewritten r (stmt_then x l) t)
   rewritten-some x l t =
-      some-front (r.image t (leads r x (r.entered t x)) (inside r x (r.entered t x))) _
-      (some-back (leads r x (r.entered t x)) _ (image-some (length t) (inside r x (r.entered t x))))
+      some-front (r.image t (leads r x (r.entered t x)) (parts_rewritten r x (r.entered t x))) _
+      (some-back (leads r x (r.entered t x)) _ (image-some (length t) (parts_rewritten r x (r.entered t x))))
 
   mutual
     stmt : (x : PStmt) (c : C) (d : D) (k : ℕ) (t : List PDecl) → R c d → AskedStmt b c k x → Begins (after_parts r x (statement_variables u t x)) vars →
-        AskedStmts a d k (in_front (leads r x (statement_variables u t x)) (normal_image u (length t) (inside r x (statement_variables u t x))))
+        AskedStmts a d k (in_front (leads r x (statement_variables u t x)) (normal_image u (length t) (parts_rewritten r x (statement_variables u t x))))
     stmt (SNull s) c d k t rel h begins = (P.plain c d k (SNull s) tt rel h, tt)
     stmt (SAssign x e s) c d k t rel h begins = (P.plain c d k (SAssign x e s) tt rel h, tt)
     stmt (SDelay n s) c d k t rel h begins = (P.plain c d k (SDelay n s) tt rel h, tt)
@@ -143,7 +144,7 @@ module _ {C D : Type 0} (u : Unit) (vars : List PDecl) (b : Asks C) (a : Asks D)
           (
             P.outer c d k k s rel h.0 (omega arith),
             subst (λ xs. a.selector d (k + 1) e xs (is_present (inside_maybe r o t')) s) (sym (choices-same r x t))
-                (subst (λ m. a.selector d (k + 1) e (choices_of x) m s) (sym (present-same r o t')) (P.selector c d (k + 1) e (choices_of x) (is_present o) s rel h.1)),
+                (subst (λ m. a.selector d (k + 1) e (arm_choices x) m s) (sym (present-same r o t')) (P.selector c d (k + 1) e (arm_choices x) (is_present o) s rel h.1)),
             case_arms x c d (k + 1) e t rel h.2 before,
             maybe o c d (k + 1) t' rel h.3 begins,
           ),
@@ -163,7 +164,7 @@ module _ {C D : Type 0} (u : Unit) (vars : List PDecl) (b : Asks C) (a : Asks D)
     stmts no_stmt c d k t rel h begins = tt
     stmts (stmt_then x l) c d k t rel h begins =
         let t' : List PDecl = after_parts r x (r.entered t x) in
-        asked-join a d k (r.image t (leads r x (r.entered t x)) (inside r x (r.entered t x))) (rewritten r l t')
+        asked-join a d k (r.image t (leads r x (r.entered t x)) (parts_rewritten r x (r.entered t x))) (rewritten r l t')
         (stmt x c d k t rel h.0 (begins-trans (stmts-begin r (normal-adds u) l t') begins))
         (stmts l c d k t' rel h.1 begins)
 
@@ -172,7 +173,7 @@ module _ {C D : Type 0} (u : Unit) (vars : List PDecl) (b : Asks C) (a : Asks D)
     some (stmt_then x l) c d k t rel h begins =
         let t' : List PDecl = after_parts r x (r.entered t x) in
         asked-some a P.some d k (rewritten r (stmt_then x l) t) (rewritten-some x l t)
-        (asked-join a d k (r.image t (leads r x (r.entered t x)) (inside r x (r.entered t x))) (rewritten r l t')
+        (asked-join a d k (r.image t (leads r x (r.entered t x)) (parts_rewritten r x (r.entered t x))) (rewritten r l t')
         (stmt x c d k t rel h.1 (begins-trans (stmts-begin r (normal-adds u) l t') begins))
         (stmts l c d k t' rel h.2 begins))
 

@@ -7,7 +7,7 @@ use Rattle.ada_tree.specs.declared.naming.Word.{Word}
 use Rattle.ada_tree.specs.declared.statements.ParMode.{ParMode}
 use Rattle.ada_tree.specs.declared.statements.ParMode.TheVariants.{Take, Give, Both}
 use Rattle.ada_tree.specs.declared.expressions.BinaryOp.TheVariants.{Equal}
-use Rattle.ada_tree.specs.ExprTypes.{place_of}
+use Rattle.ada_tree.specs.ExprTypes.{expr_place}
 use Rattle.ada_tree.specs.PlainExpr.{PExpr, EInteger, EBinary, PSubind}
 use Rattle.ada_tree.specs.PlainStmt.{PCallee, PCall, PChoice, PScheme, PHead, PStmt, SNull, SAssign, SDelay, SExit, SRaise, SPut, SPutLine, SNewLine, SGet, PAlts, PHandlers}
 use Rattle.ada_tree.specs.PlainDecl.{PDecl}
@@ -17,10 +17,11 @@ use Rattle.task_model.specs.Setting.{Setting, entry_of}
 use Rattle.task_model.specs.Calls.{variable_of}
 use Rattle.normal_model.specs.Names.{task_name}
 use Rattle.normal_model.specs.Ranges.{word_at, marked, integer_subtype, truth_subtype, subtype_of_range, array_range, family_range}
-use Rattle.normal_model.specs.Making.{variable, assigned, moving}
+use Rattle.normal_model.specs.Making.{variable, assignment, moving}
 use Rattle.normal_model.specs.Members.{index_literal, kind_of_index, known_callee, members_of}
 use Rattle.normal_model.specs.Calls.{entry_called, lists_called, Slot, slots_called, call_to, call_subtypes}
-use Rattle.normal_model.specs.Waits.{Unit, head_left, none_held}
+use Rattle.normal_model.specs.RewrittenUnit.{RewrittenUnit}
+use Rattle.normal_model.specs.Waits.{head_left, none_held}
 use Rattle.normal_model.specs.Variables.{variable_declared}
 use Rattle.normal_model.specs.Walk.{inside_alts, inside_handlers}
 use Rattle.normal_model.specs.NormalStmts.{normal_rewriter}
@@ -100,7 +101,7 @@ is_written Both = true
 -- ---- the pieces
 
 -- The pieces of a unit with these variables, where `b` is asked of the statements of the program and `a` of those of the normal form, and what stands around them is related by R. What is added stands at most four deeper than what it is made from.
-pub record Pieces {C D : Type 0} (u : Unit) (vars : List PDecl) (b : Asks C) (a : Asks D) (R : C → D → Type 0) : Type 0 where
+pub record Pieces {C D : Type 0} (u : RewrittenUnit) (vars : List PDecl) (b : Asks C) (a : Asks D) (R : C → D → Type 0) : Type 0 where
   -- what stays
   pub outer : (c : C) (d : D) (k n : ℕ) (s : Span) → R c d → b.outer c k s → n ≤ k + 4 → a.outer d n s
   pub many : (n : ℕ) → b.many n → a.many n
@@ -121,7 +122,7 @@ pub record Pieces {C D : Type 0} (u : Unit) (vars : List PDecl) (b : Asks C) (a 
   pub program_error : (c : C) (d : D) (k n : ℕ) (s : Span) → R c d → b.outer c k s → n ≤ k + 4 → a.plain d n (SRaise (Some (word_at s record { 0 = 8 })) s)
   -- the index of a callee goes to its variable; the names that take the callee's place; the choice among them
   pub callee_index : (c : C) (d : D) (k n : ℕ) (s : Span) (x : PCallee) (e : PExpr) (j : ℕ) → R c d → b.callee c k x → moving u.setting.types x.index ≡ Some e →
-      IsVariable u.setting vars s (subtype_of_range u.setting.types s (array_range u.setting.program x.name.name)) j → n ≤ k + 4 → a.plain d n (assigned u.setting s j e)
+      IsVariable u.setting vars s (subtype_of_range u.setting.types s (array_range u.setting.program x.name.name)) j → n ≤ k + 4 → a.plain d n (assignment u.setting s j e)
   pub target : (c : C) (d : D) (k n : ℕ) (x : PCallee) (w : Word) → R c d → b.callee c k x → IsTarget u.setting x w → n ≤ k + 4 → a.callee d n (named w)
   pub chooses : (c : C) (d : D) (k n : ℕ) (s : Span) (x : PCallee) (e : PExpr) (j : ℕ) → R c d → b.callee c k x → moving u.setting.types x.index ≡ Some e →
       IsVariable u.setting vars s (subtype_of_range u.setting.types s (array_range u.setting.program x.name.name)) j → n ≤ k + 4 →
@@ -133,16 +134,16 @@ pub record Pieces {C D : Type 0} (u : Unit) (vars : List PDecl) (b : Asks C) (a 
   pub called : (c : C) (d : D) (k n : ℕ) (s : Span) (x : PCall) (j : ℕ) (w : Word) → R c d → b.callee c k x.task → b.call c k x → IsTarget u.setting x.task w →
       AreVariables u.setting vars s (call_subtypes u.setting s x) j → n ≤ k + 4 → a.call d n (call_to u.setting s x j w)
   pub family_index : (c : C) (d : D) (k n : ℕ) (s : Span) (x : PCall) (e : PExpr) (j : ℕ) → R c d → b.callee c k x.task → b.call c k x → (lists_called u.setting x).index ≡ Some e →
-      IsVariable u.setting vars s (subtype_of_range u.setting.types s (family_range u.setting (entry_called u.setting x))) j → n ≤ k + 4 → a.plain d n (assigned u.setting s j e)
+      IsVariable u.setting vars s (subtype_of_range u.setting.types s (family_range u.setting (entry_called u.setting x))) j → n ≤ k + 4 → a.plain d n (assignment u.setting s j e)
   pub actual_before : (c : C) (d : D) (k n : ℕ) (s : Span) (x : PCall) (slot : Slot) (e : PExpr) (j : ℕ) → R c d → b.callee c k x.task → b.call c k x →
       IsPair slot e (slots_called u.setting x) (lists_called u.setting x).actuals → is_read slot.mode ≡ true → IsVariable u.setting vars s (marked slot.mark) j → n ≤ k + 4 →
-      a.plain d n (assigned u.setting s j e)
+      a.plain d n (assignment u.setting s j e)
   pub actual_behind : (c : C) (d : D) (k n : ℕ) (s : Span) (x : PCall) (slot : Slot) (e : PExpr) (id : NameId) (j : ℕ) → R c d → b.callee c k x.task → b.call c k x →
       IsPair slot e (slots_called u.setting x) (lists_called u.setting x).actuals → is_written slot.mode ≡ true → variable_of e ≡ Some id → IsVariable u.setting vars s (marked slot.mark) j → n ≤ k + 4 →
-      a.plain d n (SAssign (record { name = word_at (place_of e) id; index = None }) (variable u.setting s j) s)
+      a.plain d n (SAssign (record { name = word_at (expr_place e) id; index = None }) (variable u.setting s j) s)
   -- which part of a select came: 1 or 2 goes to an INTEGER, which is asked
   pub flag : (c : C) (d : D) (k n : ℕ) (s : Span) (part j : ℕ) → R c d → b.outer c k s → part ≤ 2 → IsVariable u.setting vars s (integer_subtype s) j → n ≤ k + 4 →
-      a.plain d n (assigned u.setting s j (EInteger part s))
+      a.plain d n (assignment u.setting s j (EInteger part s))
   pub flag_test : (c : C) (d : D) (k n : ℕ) (s : Span) (j : ℕ) → R c d → b.outer c k s → IsVariable u.setting vars s (integer_subtype s) j → n ≤ k + 4 →
       a.condition d n (EBinary Equal (variable u.setting s j) (EInteger 1 s) s)
   -- an abort of one task, and one without names, which stays
@@ -153,10 +154,10 @@ pub record Pieces {C D : Type 0} (u : Unit) (vars : List PDecl) (b : Asks C) (a 
   pub head_moved : (c : C) (d : D) (k : ℕ) (s : Span) (h : PHead) (e : PExpr) (j : ℕ) → R c d → b.head c k h → moving u.setting.types h.index ≡ Some e →
       IsVariable u.setting vars s (subtype_of_range u.setting.types s (family_range u.setting (entry_of u.setting.numbers u.task h.entry.name))) j → a.head d k (head_left u s h j)
   pub accept_index : (c : C) (d : D) (k n : ℕ) (s : Span) (h : PHead) (e : PExpr) (j : ℕ) → R c d → b.head c k h → moving u.setting.types h.index ≡ Some e →
-      IsVariable u.setting vars s (subtype_of_range u.setting.types s (family_range u.setting (entry_of u.setting.numbers u.task h.entry.name))) j → n ≤ k + 4 → a.plain d n (assigned u.setting s j e)
+      IsVariable u.setting vars s (subtype_of_range u.setting.types s (family_range u.setting (entry_of u.setting.numbers u.task h.entry.name))) j → n ≤ k + 4 → a.plain d n (assignment u.setting s j e)
   pub accepting : (c : C) (d : D) (k : ℕ) (s : Span) (h : PHead) (j : ℕ) → R c d → b.head c k h → R (b.accepting c h) (a.accepting d (head_left u s h j))
   -- a guard goes to a variable, which is asked before an index is taken; the test that no guard holds; the alternatives of the new wait
-  pub guard : (c : C) (d : D) (k n : ℕ) (s : Span) (e : PExpr) (j : ℕ) → R c d → b.condition c k e → IsVariable u.setting vars s (truth_subtype s) j → n ≤ k + 4 → a.plain d n (assigned u.setting s j e)
+  pub guard : (c : C) (d : D) (k n : ℕ) (s : Span) (e : PExpr) (j : ℕ) → R c d → b.condition c k e → IsVariable u.setting vars s (truth_subtype s) j → n ≤ k + 4 → a.plain d n (assignment u.setting s j e)
   pub guard_test : (c : C) (d : D) (k n : ℕ) (s : Span) (j : ℕ) → R c d → b.outer c k s → IsVariable u.setting vars s (truth_subtype s) j → n ≤ k + 4 → a.condition d n (variable u.setting s j)
   pub closed : (c : C) (d : D) (k n : ℕ) (x : PAlts) (others : Bool) (s : Span) (e : PExpr) (es : List PExpr) → R c d → b.outer c k s → b.wait c k x others s →
       AllByRecursion (IsGuard u.setting vars) (e ∷ es) → 1 + length es ≤ alts_count x → n ≤ k + 4 → a.condition d n (none_held s e es)

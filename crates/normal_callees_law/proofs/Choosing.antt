@@ -21,7 +21,7 @@ use Rattle.ada_value.specs.declared.values.Limits.{Limits}
 use Rattle.ada_value.specs.Values.{and_then, checked, lies_in, position_of}
 use Rattle.ada_value.specs.Variables.{Variables}
 use Rattle.ada_value.specs.Evaluating.{evaluated}
-use Rattle.task_model.specs.Setting.{Setting, is_member, member_named, task_meant, task_of}
+use Rattle.task_model.specs.Setting.{Setting, is_member, member_named, task_meant, callee_task}
 use Rattle.task_model.specs.Frames.{Around, PFrame, control, in_front}
 use Rattle.task_model.specs.Tasks.{Task, entered, stmts_or_none, or_raised}
 use Rattle.task_model.specs.Steps.{lies_between, choices_fit, case_taken}
@@ -232,12 +232,12 @@ module _ (x : Translation) (laws : IsTranslation x) (made : AreMade x.text.progr
   behind_index (None ∷ ws) = the_chosen 0 ws
   behind_index (Some v ∷ ws) = the_chosen (known_task (member_named g.numbers name (position_of v))) ws
 
-  meant-of : (V : Variables) (e : PExpr) → moving g.types callee.index ≡ Some e → task_of g V callee ≡ and_then (evaluated (types_before x.text.programs) V e) (λ v. member_named g.numbers name (position_of v))
+  meant-of : (V : Variables) (e : PExpr) → moving g.types callee.index ≡ Some e → callee_task g V callee ≡ and_then (evaluated (types_before x.text.programs) V e) (λ v. member_named g.numbers name (position_of v))
   meant-of V e mv = ap (λ q. task_meant g V name q) (moving-is x.text.programs made callee.index e mv)
 
   -- a callee's index and the values behind it, by what goes to variables
   index-due : (V : Variables) (e : PExpr) → moving g.types callee.index ≡ Some e → (m : ℕ) → ((z : ℤ) → lies_in (added.bounds m) z ≡ is_ok (member_named g.numbers name z)) → (rest : Result (List (Option Value)) Raised) →
-      chosen_with the_chosen (task_of g V callee) rest
+      chosen_with the_chosen (callee_task g V callee) rest
       ≡ and_then (worth_then (as_some (and_then (evaluated (types_before x.text.programs) V e) (λ v. checked (added.bounds m) v))) rest) (λ ws. Ok (behind_index ws))
   index-due V e mv m bound rest =
       ap (λ r. chosen_with the_chosen r rest) (meant-of V e mv)
@@ -253,7 +253,7 @@ module _ (x : Translation) (laws : IsTranslation x) (made : AreMade x.text.progr
         MeetsCallee x added n i out p o V p' o' (at (in_front (due_before g s ds m) (in_front (what (known_callee g callee)) behind)) W) callee what behind m ds
     known-comes mv m ds olds l V W u there = go (prelude-row (row-front (rows (known_callee g callee))) V W olds m l u there)
       where
-        known : task_of g V callee ≡ Ok (asked.known mv).0
+        known : callee_task g V callee ≡ Ok (asked.known mv).0
         known = callee-stays x.text.programs made (sees-alike x laws u) callee old mv ∙ (asked.known mv).1
 
         go : Prelude x added n i out p o V p' o' (at (in_front (due_before g s ds m) (in_front (what (known_callee g callee)) behind)) W) (in_front (what (known_callee g callee)) behind) m W ds →

@@ -7,7 +7,7 @@ use Rattle.ada_value.specs.declared.values.Value.{Value}
 use Rattle.ada_value.specs.declared.values.Raised.{Raised}
 use Rattle.ada_value.specs.Values.{and_then}
 use Rattle.ada_value.specs.Variables.{Variables}
-use Rattle.task_model.specs.Setting.{task_of}
+use Rattle.task_model.specs.Setting.{callee_task}
 use Rattle.task_model.specs.Frames.{Around, PFrame, control, in_front}
 use Rattle.task_model.specs.Tasks.{Task, raised_there}
 use Rattle.task_model.specs.Stands.{can_step, stepped}
@@ -33,12 +33,12 @@ the_chosen t ws = record { task = t; values = ws }
 pub data MeetsCallee (x : Translation) (added : Added x.text.programs x.text.programs.original) (n : ℕ) (input : List ℤ) (output : List ℕ) (p : Around) (o : List PFrame) (V : Variables) (p' : Around) (o' : List PFrame)
     (from : Task) (callee : PCallee) (what : Word → PStmts) (behind : PStmts) (k : ℕ) (ds : List (Option PExpr)) : Type 0 where
   -- it comes before what stands for the task that is meant, with the values in their variables
-  meets_task : (t : ℕ) (w : Word) (ws : List (Option Value)) (W : Variables) → task_of x.text.programs.original V callee ≡ Ok t → IsMeant x.text.programs callee t → w.name ≡ task_name_at x.text.programs.original t →
+  meets_task : (t : ℕ) (w : Word) (ws : List (Option Value)) (W : Variables) → callee_task x.text.programs.original V callee ≡ Ok t → IsMeant x.text.programs callee t → w.name ≡ task_name_at x.text.programs.original t →
       due_worth (types_before x.text.programs) V added.bounds ds k ≡ Ok ws → Hold added W k ds ws → Under x p o V p' o' W → AreThere added W →
       Reaches from (task_in x.text.programs.made n input output (control (in_front (what w) behind) p' o' W)) → MeetsCallee x added n input output p o V p' o' from callee what behind k ds
   -- or it comes to a step that raises what the callee or the first of the expressions raises
   meets_raise : (e : Raised) (r : PStmts) (W : Variables) →
-      chosen_with the_chosen (task_of x.text.programs.original V callee) (due_worth (types_before x.text.programs) V added.bounds ds k) ≡ Err e → Under x p o V p' o' W →
+      chosen_with the_chosen (callee_task x.text.programs.original V callee) (due_worth (types_before x.text.programs) V added.bounds ds k) ≡ Err e → Under x p o V p' o' W →
       Reaches from (task_in x.text.programs.made n input output (control r p' o' W)) →
       can_step (task_in x.text.programs.made n input output (control r p' o' W)) ≡ true →
       stepped (task_in x.text.programs.made n input output (control r p' o' W)) ≡ raised_there e (task_in x.text.programs.made n input output (control r p' o' W)) →

@@ -5,7 +5,7 @@ use Rattle.ada_tree.specs.PlainExpr.{PExpr, PSubind}
 use Rattle.ada_tree.specs.PlainStmt.{PStmts, stmt_then}
 use Rattle.task_model.specs.Setting.{Setting}
 use Rattle.task_model.specs.Frames.{in_front}
-use Rattle.normal_model.specs.Making.{assigned, Kept, kept_before, kept_if}
+use Rattle.normal_model.specs.Making.{assignment, Kept, kept_before, kept_if}
 use Rattle.normal_model.proofs.WalkLemmas.{in_front-joined}
 
 -- how many values are kept
@@ -16,7 +16,7 @@ kept-length x (Some e) n = refl
 -- those of two lists, one behind the other
 pub kept-append : (g : Setting) (s : Span) (xs ys : List Kept) (k : ℕ) → kept_before g s (xs ++ ys) k ≡ in_front (kept_before g s xs k) (kept_before g s ys (k + length xs))
 kept-append g s [] ys k = ap (kept_before g s ys) (omega arith)
-kept-append g s (x ∷ xs) ys k = ap (stmt_then (assigned g s k x.value)) (kept-append g s xs ys (k + 1) ∙ ap (λ n. in_front (kept_before g s xs (k + 1)) (kept_before g s ys n)) (omega arith))
+kept-append g s (x ∷ xs) ys k = ap (stmt_then (assignment g s k x.value)) (kept-append g s xs ys (k + 1) ∙ ap (λ n. in_front (kept_before g s xs (k + 1)) (kept_before g s ys n)) (omega arith))
 
 -- ---- statements that go behind others, one after the other
 

@@ -16,7 +16,7 @@ use Rattle.ada_value.specs.declared.values.Limits.{Limits}
 use Rattle.ada_value.specs.Values.{and_then, lies_in, position_of}
 use Rattle.ada_value.specs.Variables.{Variables}
 use Rattle.ada_value.specs.Evaluating.{evaluated}
-use Rattle.task_model.specs.Setting.{Setting, member_named, task_meant, task_of, entry_of, is_family, family_limits, index_in, parameters_of, formals_of_info, entry_parameters, Lists, lists_in, lists_of}
+use Rattle.task_model.specs.Setting.{Setting, member_named, task_meant, callee_task, entry_of, is_family, family_limits, index_in, parameters_of, formals_of_info, entry_parameters, Lists, lists_in, lists_of}
 use Rattle.task_model.specs.Frames.{Around, PFrame, control, in_front}
 use Rattle.task_model.specs.Tasks.{Task}
 use Rattle.task_model.specs.Calls.{Called, called, called_with, openings}
@@ -314,7 +314,7 @@ module _ (x : Translation) (laws : IsTranslation x) (made : AreMade x.text.progr
   -- ---- the whole call
 
   -- a task to which the callee comes is one that it can come to
-  meant-there : {V W : Variables} → SeeAlike b V W → (t : ℕ) → task_of g V c.task ≡ Ok t → IsMeant b c.task t
+  meant-there : {V W : Variables} → SeeAlike b V W → (t : ℕ) → callee_task g V c.task ≡ Ok t → IsMeant b c.task t
   meant-there {V} see t e = go mv refl
     where
       at-index : (d : PExpr) → mv ≡ Some d → (r : Result Value Raised) → and_then r (λ v. member_named g.numbers c.task.name.name (position_of v)) ≡ Ok t → IsMeant b c.task t
@@ -326,7 +326,7 @@ module _ (x : Translation) (laws : IsTranslation x) (made : AreMade x.text.progr
       go (Some d) f = at-index d f (evaluated g.types V d) (sym (ap (λ q. task_meant g V c.task.name.name q) (moving-is b made c.task.index d f)) ∙ e)
 
   -- the call of the original, where the callee has come to a task
-  called-by_task : {V W : Variables} → SeeAlike b V W → (t : ℕ) → task_of g V c.task ≡ Ok t →
+  called-by_task : {V W : Variables} → SeeAlike b V W → (t : ℕ) → callee_task g V c.task ≡ Ok t →
       called g V c ≡ and_then (due_worth g.types V added.bounds (dues_of asked.index ++ ads) (index_number g s c n)) (λ ws. Ok (call_at (entry_of g.numbers t c.entry.name) asked.index ws))
   called-by_task {V} see t e =
       let facts = entry-facts t (meant-there see t e) in
@@ -335,15 +335,15 @@ module _ (x : Translation) (laws : IsTranslation x) (made : AreMade x.text.progr
       ∙ with-index (entry_of g.numbers t c.entry.name) V asked.index (index_number g s c n)
       (subst (λ k. AreSlots added.bounds (entry_parameters g (entry_of g.numbers t c.entry.name)) (slots_called g c) k) number-actual facts.slots) facts.range
 
-  called-raised : {V W : Variables} → SeeAlike b V W → (a : Raised) → chosen_with the_chosen (task_of g V c.task) (due_worth g.types V added.bounds (dues_of asked.index ++ ads) (index_number g s c n)) ≡ Err a →
+  called-raised : {V W : Variables} → SeeAlike b V W → (a : Raised) → chosen_with the_chosen (callee_task g V c.task) (due_worth g.types V added.bounds (dues_of asked.index ++ ads) (index_number g s c n)) ≡ Err a →
       called g V c ≡ Err a
-  called-raised {V} see a e = go (task_of g V c.task) refl e
+  called-raised {V} see a e = go (callee_task g V c.task) refl e
     where
       values-raise : {X Y : Type 0} (r : Result X Raised) (f : X → Y) → and_then r (λ ws. Ok (f ws)) ≡ Err a → r ≡ Err a
       values-raise (Ok u) f k = cc
       values-raise (Err u) f k = cc
 
-      go : (r : Result ℕ Raised) → task_of g V c.task ≡ r → chosen_with the_chosen r (due_worth g.types V added.bounds (dues_of asked.index ++ ads) (index_number g s c n)) ≡ Err a → called g V c ≡ Err a
+      go : (r : Result ℕ Raised) → callee_task g V c.task ≡ r → chosen_with the_chosen r (due_worth g.types V added.bounds (dues_of asked.index ++ ads) (index_number g s c n)) ≡ Err a → called g V c ≡ Err a
       go (Err d) f k = ap (λ r. and_then r (λ owner. called_with g V (entry_of g.numbers owner c.entry.name) (lists_of g.numbers (entry_of g.numbers owner c.entry.name) c.args))) (f ∙ ap (λ z. Err z) (err-is d k))
         where
           err-is : (d : Raised) → chosen_with the_chosen (Err d) (due_worth g.types V added.bounds (dues_of asked.index ++ ads) (index_number g s c n)) ≡ Err a → d ≡ a

@@ -9,7 +9,7 @@ use Rattle.ada_value.specs.Variables.{Variables}
 use Rattle.task_model.specs.Setting.{Setting, entry_parameters}
 use Rattle.task_model.specs.Frames.{Around, PFrame, control, in_front}
 use Rattle.task_model.specs.Tasks.{Task, gone_to, entered}
-use Rattle.task_model.specs.Calls.{Called, called, values_of, values_handed}
+use Rattle.task_model.specs.Calls.{Called, called, opening_values, values_handed}
 use Rattle.task_model.specs.Stands.{call_stand, stand_of}
 use Rattle.task_model.specs.Rendezvous.{returned, took_else, took_delay}
 use Rattle.normal_model.specs.Making.{or_null}
@@ -55,7 +55,7 @@ module _ (s : Span) (m : ℕ) (i : List ℤ) (out : List ℕ) where
   stands-at (timed d) t call met other q p o V = refl
 
   pub handed-at : (f : Form) (t : Setting) (call : PCall) (met other q : PStmts) (p : Around) (o : List PFrame) (V : Variables) →
-      values_handed (task_in t m i out (control (stmt_then (statement s f call met other) q) p o V)) ≡ values_of (Some (called t V call))
+      values_handed (task_in t m i out (control (stmt_then (statement s f call met other) q) p o V)) ≡ opening_values (Some (called t V call))
   handed-at conditional t call met other q p o V = refl
   handed-at (timed d) t call met other q p o V = refl
 

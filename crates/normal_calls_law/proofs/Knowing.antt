@@ -14,7 +14,7 @@ use Rattle.ada_value.specs.Values.{and_then, checked, lies_in, position_of}
 use Rattle.ada_value.specs.Variables.{Variables}
 use Rattle.ada_value.specs.Evaluating.{evaluated}
 use Rattle.task_model.specs.declared.parameters.FormalParameter.{FormalParameter}
-use Rattle.task_model.specs.Setting.{task_of, entry_of, is_family, member_index, entry_parameters, Lists, lists_in, lists_of}
+use Rattle.task_model.specs.Setting.{callee_task, entry_of, is_family, member_index, entry_parameters, Lists, lists_in, lists_of}
 use Rattle.task_model.specs.Calls.{Called, called, called_with, opening, openings}
 use Rattle.translation_law.specs.Translations.{Programs, types_before, IsKnown}
 use Rattle.translation_law.specs.OldNames.{OldExpr}
@@ -89,7 +89,7 @@ module _ (b : Programs) (types : AgreeOnTypes b) {V W : Variables} (see : SeeAli
 
   pub called-known : (c : PCall) → OldCall b c → (r : Called) → called b.original V c ≡ Ok r → AreValues b r.values
   called-known c old r h =
-      let t = comes-out (task_of b.original V c.task)
+      let t = comes-out (callee_task b.original V c.task)
       (λ owner. called_with b.original V (entry_of b.original.numbers owner c.entry.name) (lists_of b.original.numbers (entry_of b.original.numbers owner c.entry.name) c.args)) r h in
       with-known (entry_of b.original.numbers t.first c.entry.name) (lists_of b.original.numbers (entry_of b.original.numbers t.first c.entry.name) c.args)
       (actuals-old b.original.numbers (entry_of b.original.numbers t.first c.entry.name) old.args) r t.then_out

@@ -16,7 +16,7 @@ use Rattle.ada_value.specs.Evaluating.{combined}
 use Rattle.task_model.specs.Setting.{Setting, entry_parameters}
 use Rattle.task_model.specs.Frames.{Around, PFrame, control, in_front}
 use Rattle.task_model.specs.Tasks.{Task, gone_to, entered, stmts_or_none, or_raised}
-use Rattle.task_model.specs.Calls.{Called, called, values_of}
+use Rattle.task_model.specs.Calls.{Called, called, opening_values}
 use Rattle.task_model.specs.Stands.{Raises, call_stand, stand_of, stepped}
 use Rattle.normal_model.specs.Names.{variable_name}
 use Rattle.normal_model.specs.Ranges.{integer_subtype}
@@ -167,8 +167,8 @@ module _ (x : Translation) (laws : IsTranslation x) (made : AreMade x.text.progr
     chosen-met r w W u there e e' facts =
         form-met x f r (stands-at s m i out f g c l other q p o V ∙ ap (call_stand (form_of f)) e)
         (stands-at s m i out f h (call_to g s c n w) (flagged g s c n 1) (flagged g s c n 2) (stmt_then parts q') p' o' W ∙ ap (call_stand (form_of f)) e')
-        (handed-at s m i out f g c l other q p o V ∙ ap (λ a. values_of (Some a)) e)
-        (handed-at s m i out f h (call_to g s c n w) (flagged g s c n 1) (flagged g s c n 2) (stmt_then parts q') p' o' W ∙ ap (λ a. values_of (Some a)) e')
+        (handed-at s m i out f g c l other q p o V ∙ ap (λ a. opening_values (Some a)) e)
+        (handed-at s m i out f h (call_to g s c n w) (flagged g s c n 1) (flagged g s c n 2) (stmt_then parts q') p' o' W ∙ ap (λ a. opening_values (Some a)) e')
         (called-known b made.types (sees-alike x laws u) c old r e)
         (are_around m i out (stmt_then (statement s f c l other) q) (stmt_then (new_stmt w) (stmt_then parts q')) u)
         (λ values back. returns-on x laws made added s c asked old n call-subtypes m i out p p' o o' V w (has-call s f c l other) (has-call s f (call_to g s c n w) (flagged g s c n 1) (flagged g s c n 2))

@@ -11,7 +11,7 @@ use Rattle.ada_value.specs.Variables.{Variables}
 use Rattle.task_model.specs.Setting.{Setting, entry_parameters}
 use Rattle.task_model.specs.Frames.{Around, PFrame, control, in_front}
 use Rattle.task_model.specs.Tasks.{Task, gone_to}
-use Rattle.task_model.specs.Calls.{Called, called, values_of}
+use Rattle.task_model.specs.Calls.{Called, called, opening_values}
 use Rattle.task_model.specs.Stands.{call_stand}
 use Rattle.task_model.specs.Rendezvous.{returned}
 use Rattle.normal_model.specs.Making.{one, kept_subtypes}
@@ -130,8 +130,8 @@ module _ (x : Translation) (laws : IsTranslation x) (made : AreMade x.text.progr
     result = r;
     stands = ap (call_stand Plain) e;
     stands_too = ap (call_stand Plain) e';
-    handed = ap (λ a. values_of (Some a)) e;
-    handed_too = ap (λ a. values_of (Some a)) e';
+    handed = ap (λ a. opening_values (Some a)) e;
+    handed_too = ap (λ a. opening_values (Some a)) e';
     known = called-known b made.types (sees-alike x laws u) c old r e;
     around = are_around m i out (stmt_then (SCall c s) q) (stmt_then (SCall (call_to g s c n w) s) (in_front (call_behind g s c n) q')) u;
     returns = λ values back. returns-on w (has_plain c s) (has_plain (call_to g s c n w) s) q q' (in_front (call_behind g s c n) q') W r laws.images.empty im u there e e' facts values back
@@ -190,7 +190,7 @@ module _ (x : Translation) (laws : IsTranslation x) (made : AreMade x.text.progr
         IsEntryCalled b added s c n asked r.entry → CallMet x (left old_stmt q) (right (stmt_then (statement s f (call_to g s c n w) met other') q') W)
     known-met r w W u there e e' facts =
         form-met x f r (stands-at s m i out f g c l other q p o V ∙ ap (call_stand (form_of f)) e) (stands-at s m i out f h (call_to g s c n w) met other' q' p' o' W ∙ ap (call_stand (form_of f)) e')
-        (handed-at s m i out f g c l other q p o V ∙ ap (λ a. values_of (Some a)) e) (handed-at s m i out f h (call_to g s c n w) met other' q' p' o' W ∙ ap (λ a. values_of (Some a)) e')
+        (handed-at s m i out f g c l other q p o V ∙ ap (λ a. opening_values (Some a)) e) (handed-at s m i out f h (call_to g s c n w) met other' q' p' o' W ∙ ap (λ a. opening_values (Some a)) e')
         (called-known b made.types (sees-alike x laws u) c old r e)
         (are_around m i out (stmt_then old_stmt q) (stmt_then (statement s f (call_to g s c n w) met other') q') u)
         (λ values back. returns-on w (has-call s f c l other) (has-call s f (call_to g s c n w) met other') q q' q' W r iml im u there e e' facts values back

@@ -11,7 +11,7 @@ use Rattle.ada_tree.specs.declared.static_types.Kind.{Kind}
 use Rattle.ada_tree.specs.declared.static_types.Kind.TheVariants as kind
 use Rattle.ada_tree.specs.declared.expressions.UnaryOp.TheVariants as unary
 use Rattle.ada_tree.specs.declared.expressions.BinaryOp.TheVariants as binary
-use Rattle.ada_tree.specs.ExprTypes.{place_of}
+use Rattle.ada_tree.specs.ExprTypes.{expr_place}
 use Rattle.ada_tree.specs.Attributes.{false_name, true_name}
 use Rattle.ada_tree.specs.PlainExpr.{PExpr, EInteger, EName, EIndex, EAttribute, EAttributeOf, EParen, EUnary, EBinary, PSubind, PDrange}
 use Rattle.ada_tree.specs.PlainStmt.{PCallee, PArgs, PCall, PHead, accepting, alternative, AAccept, ADelay, ATerminate, PAlts, no_alt, alt_then}
@@ -23,7 +23,7 @@ use Rattle.syn_event.specs.CheckScope.{CheckScope, CheckSite, uses, addresses, c
 use Rattle.syn_event.specs.CheckSites as check
 use Rattle.syn_event.specs.RuleSelectForm.{alt_kinds}
 use Rattle.syn_event.specs.RuleSameEntryTwice.{accept_heads}
-use Rattle.syn_event.specs.Units.{text_of}
+use Rattle.syn_event.specs.DeclaredTasks.{text_of}
 use Rattle.syn_event.specs.Extents.{fixed}
 use Rattle.syn_event.specs.RuleMainEntry.{main_entry}
 use Rattle.syn_event.specs.RuleSharedVariable.{shared_variable}
@@ -33,8 +33,9 @@ use Rattle.task_model.specs.Calls.{variable_of}
 use Rattle.normal_model.specs.Ranges.{word_at, kind_of_range, subtype_of_range, array_range, family_range}
 use Rattle.normal_model.specs.Members.{integer_literal, truth_literal, literal_in, kind_of_index, index_literal}
 use Rattle.normal_model.specs.Calls.{Slot, actuals_passed, actual_subtypes, entry_called, lists_called, slots_called, lists_passed, args_passed, index_number, actual_number}
-use Rattle.normal_model.specs.Making.{variable, assigned, kept_subtypes, kept_if, moving, index_left}
-use Rattle.normal_model.specs.Waits.{Unit, head_left, not_held}
+use Rattle.normal_model.specs.Making.{variable, assignment, kept_subtypes, kept_if, moving, index_left}
+use Rattle.normal_model.specs.RewrittenUnit.{RewrittenUnit}
+use Rattle.normal_model.specs.Waits.{head_left, not_held}
 use Rattle.normal_model.specs.Variables.{variable_declared}
 use Rattle.normal_model.specs.Walk.{inside_alts}
 use Rattle.normal_model.specs.NormalStmts.{normal_rewriter}
@@ -61,7 +62,7 @@ kind-among (x ∷ xs) (suc k) = later (slice_get xs k) (kind-among xs k)
     later None h = tt
     later (Some y) h = later_among x xs h
 
-module _ (u : Unit) (own : ℕ → Bool) (vars : List PDecl) (names names' : List (List ℕ)) (texts : (id : NameId) → own id.0 ≡ true → text_of names' id ≡ text_of names id) where
+module _ (u : RewrittenUnit) (own : ℕ → Bool) (vars : List PDecl) (names names' : List (List ℕ)) (texts : (id : NameId) → own id.0 ≡ true → text_of names' id ≡ text_of names id) where
   abbrev g : Setting
   g = u.setting
 
@@ -96,7 +97,7 @@ module _ (u : Unit) (own : ℕ → Bool) (vars : List PDecl) (names names' : Lis
         (met-deep names' d n v le, (met-use names' d _ v (rel.variables j v l), tt))
 
     -- `DED_V1 := e;`
-    assigned-met : (s : Span) (x : PSubind) (j n : ℕ) (e : PExpr) → IsVariable g vars s x j → n ≤ 300 → At' (check.expr_sites d (n + 1) e) → At' (check.stmt_sites d n (assigned g s j e))
+    assigned-met : (s : Span) (x : PSubind) (j n : ℕ) (e : PExpr) → IsVariable g vars s x j → n ≤ 300 → At' (check.expr_sites d (n + 1) e) → At' (check.stmt_sites d n (assignment g s j e))
     assigned-met s x j n e i le h =
         let l : j < length vars = slice_get_within vars j (variable_declared g s x j) i in
         (met-deep names' d n s le, (met-use names' d _ s (rel.variables j s l), h))
@@ -112,7 +113,7 @@ module _ (u : Unit) (own : ℕ → Bool) (vars : List PDecl) (names names' : Lis
   name-own k (EUnary op e s) id f h = cc
   name-own k (EBinary op l y s) id f h = cc
 
-  name-used : (c : CheckScope) (k : ℕ) (e : PExpr) (id : NameId) → variable_of e ≡ Some id → AllByRecursion (IsCheckMet Original names) (check.expr_sites c k e) → shared_variable c (uses id (place_of e)) ≡ []
+  name-used : (c : CheckScope) (k : ℕ) (e : PExpr) (id : NameId) → variable_of e ≡ Some id → AllByRecursion (IsCheckMet Original names) (check.expr_sites c k e) → shared_variable c (uses id (expr_place e)) ≡ []
   name-used c k (EName x s) id f m = let q : x ≡ id = cc in subst (λ y. shared_variable c (uses y s) ≡ []) q m.1.0.shared
   name-used c k (EInteger n s) id f m = cc
   name-used c k (EIndex w e s) id f m = cc
@@ -185,7 +186,7 @@ module _ (u : Unit) (own : ℕ → Bool) (vars : List PDecl) (names names' : Lis
     moved k n e f le = expr-stays g own vars names names' texts c.1.0 d rel k n e le f.0 f.1
 
     -- an assignment to a variable of what stood elsewhere
-    kept : (k n : ℕ) (s : Span) (x : PSubind) (e : PExpr) (j : ℕ) → Fits c.1.0 k e → IsVariable g vars s x j → n ≤ k + 4 → At' (check.stmt_sites d n (assigned g s j e))
+    kept : (k n : ℕ) (s : Span) (x : PSubind) (e : PExpr) (j : ℕ) → Fits c.1.0 k e → IsVariable g vars s x j → n ≤ k + 4 → At' (check.stmt_sites d n (assignment g s j e))
     kept k n s x e j f v le =
         let i : k ≤ 40 = fits-depth c.1.0 k e f in
         assigned-met c d rel s x j n e v (omega (arith, i, le)) (moved k (n + 1) e f (omega (arith, le)))
@@ -390,7 +391,7 @@ module _ (u : Unit) (own : ℕ → Bool) (vars : List PDecl) (names names' : Lis
     actual_behind = λ c d k n s x slot e id j rel h i pair f q v le.
         let fits : Fits c.1.0 k e = pair-fits c.1.0 k slot e (slots_called g x) (lists_called g x).actuals pair (lists-fit c.1.0 k x i.0.1 i.1.0).1 in
         let deep : k ≤ 40 = fits-depth c.1.0 k e fits in
-        (met-deep names' d n s (omega (arith, deep, le)), (met-use names' d id (place_of e) (rel.hidden id (place_of e) (name-own k e id q fits.0) (name-used c.1.0 k e id q fits.1)), variable-met c d rel s s _ j (n + 1) v (omega (arith, deep, le))));
+        (met-deep names' d n s (omega (arith, deep, le)), (met-use names' d id (expr_place e) (rel.hidden id (expr_place e) (name-own k e id q fits.0) (name-used c.1.0 k e id q fits.1)), variable-met c d rel s s _ j (n + 1) v (omega (arith, deep, le))));
     flag = λ c d k n s part j rel h small v le.
         let deep : n + 40 ≤ 300 = shallow c.1.0 k n s h.1.0 le in
         assigned-met c d rel s _ j n (EInteger part s) v (omega (arith, deep)) (met-deep names' d (n + 1) s (omega (arith, deep)), tt);

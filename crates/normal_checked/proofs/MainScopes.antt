@@ -13,13 +13,13 @@ use Rattle.syn_event.specs.declared.numbering.TaskInfo.{TaskInfo}
 use Rattle.syn_event.specs.declared.meanings.Meant.{Meant}
 use Rattle.syn_event.specs.declared.meanings.Meant.TheVariants.{MainProcedure, TaskType, TaskOf, Shared, Inner}
 use Rattle.syn_event.specs.CheckScope.{CheckScope, meaning, uses}
-use Rattle.syn_event.specs.CheckSites.{with_meant, with_value, with_object, after_object, after_task, after_decl, after_decls, first_around}
+use Rattle.syn_event.specs.CheckSites.{with_meant, with_declared_object, with_object, after_object, after_task, after_decl, after_decls, first_around}
 use Rattle.syn_event.specs.Extents.{fixed, is_array_type}
 use Rattle.syn_event.specs.NamedTasks.{type_named, with_type}
 use Rattle.syn_event.specs.RuleMainEntry.{no_task}
 use Rattle.syn_event.specs.RuleSharedVariable.{shared_name, in_body_of, shared_variable}
 use Rattle.syn_event.specs.RuleAcceptPlace.{is_own_entry}
-use Rattle.syn_event.specs.Units.{decl_list}
+use Rattle.syn_event.specs.DeclaredTasks.{decl_list}
 use Rattle.task_model.specs.Setting.{Setting}
 use Rattle.normal_model.specs.Names.{variable_name, task_name}
 use Rattle.normal_model.specs.NormalTree.{decls_front, mark_of, unless_left, first_decls, tasks_beside, task_under, declared_under, task_declared, bodies_of, main_unit, main_variables, normal_decls}
@@ -54,7 +54,7 @@ pub meant-frame : (m : Meant) (c : CheckScope) (ws : List Word) → IsFrameOf c 
 meant-frame m c [] = frame-refl c
 meant-frame m c (w ∷ ws) = let h = meant-frame m (record c { names = (w.name.0, m) ∷ c.names }) ws in record { types = h.types; own = h.own; accepting = h.accepting; loops = h.loops; in_handler = h.in_handler }
 
-value-frame : (b : Bool) (c : CheckScope) (ws : List Word) → IsFrameOf c (with_value b c ws)
+value-frame : (b : Bool) (c : CheckScope) (ws : List Word) → IsFrameOf c (with_declared_object b c ws)
 value-frame true c ws = meant-frame Shared c ws
 value-frame false c ws = frame-refl c
 
@@ -107,7 +107,7 @@ module _ (main : ℕ) where
   meant-plain m f c [] h = h
   meant-plain m f c (w ∷ ws) h = meant-plain m f (record c { names = (w.name.0, m) ∷ c.names }) ws (f w.name.0, h)
 
-  value-plain : (b : Bool) (c : CheckScope) (ws : List Word) → ArePlain main c.names → ArePlain main (with_value b c ws).names
+  value-plain : (b : Bool) (c : CheckScope) (ws : List Word) → ArePlain main c.names → ArePlain main (with_declared_object b c ws).names
   value-plain true c ws h = meant-plain Shared (λ n. tt) c ws h
   value-plain false c ws h = h
 

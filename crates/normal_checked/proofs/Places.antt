@@ -10,7 +10,7 @@ use Rattle.syn_event.specs.declared.limits.What.{What}
 use Rattle.syn_event.specs.declared.limits.What.TheVariants.{Name, Nesting, Alternatives}
 use Rattle.syn_event.specs.CheckScope.{CheckScope, declares, uses, addresses, accepts, waits, exits, raises_again, counts}
 use Rattle.syn_event.specs.CheckSites.{site}
-use Rattle.syn_event.specs.Units.{text_of}
+use Rattle.syn_event.specs.DeclaredTasks.{text_of}
 use Rattle.syn_event.specs.RuleSharedVariable.{shared_variable}
 use Rattle.syn_event.specs.RuleAcceptPlace.{accept_place}
 use Rattle.syn_event.specs.RuleSelectForm.{select_form}
@@ -18,12 +18,12 @@ use Rattle.syn_event.specs.RuleSameEntryTwice.{same_entry_twice}
 use Rattle.syn_event.specs.RuleMainEntry.{main_entry}
 use Rattle.syn_event.specs.RuleExitPlace.{exit_place}
 use Rattle.syn_event.specs.RuleRaisePlace.{raise_place}
-use Rattle.syn_event.specs.RuleLimit.{passed}
+use Rattle.syn_event.specs.RuleLimit.{limit_passed}
 use Rattle.legal_sites.specs.Met.{IsCheckMet}
 use Rattle.common_lemmas.proofs.Truth.{false_behind}
 
 -- a limit that is kept to
-pub passed-not : (what : What) (limit before here : ℕ) (s : Span) → before + here ≤ limit → passed what (Some limit) before here s ≡ []
+pub passed-not : (what : What) (limit before here : ℕ) (s : Span) → before + here ≤ limit → limit_passed what (Some limit) before here s ≡ []
 passed-not what limit before here s h =
     ap (λ (t : Bool). if t then record { over = record { what = what; limit = limit }; span = s } ∷ [] else [])
     (false_behind (nat_le before limit) (nat_lt limit (before + here)) (le-ltb limit (before + here) h))

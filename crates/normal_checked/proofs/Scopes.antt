@@ -6,7 +6,7 @@ use Rattle.ada_tree.specs.declared.naming.Word.{Word}
 use Rattle.ada_tree.specs.PlainStmt.{PScheme, LWhile, LFor, PHead}
 use Rattle.ada_tree.specs.PlainDecl.{PDecl}
 use Rattle.syn_event.specs.declared.meanings.Meant.TheVariants.{Inner}
-use Rattle.syn_event.specs.CheckScope.{Unit, CheckScope, uses, addresses}
+use Rattle.syn_event.specs.CheckScope.{EnclosingUnit, CheckScope, uses, addresses}
 use Rattle.syn_event.specs.CheckSites.{with_meant, formal_names, in_accept, in_loop, handling}
 use Rattle.syn_event.specs.RuleMainEntry.{no_task, main_entry}
 use Rattle.syn_event.specs.RuleSharedVariable.{shared_name, in_body_of, shared_variable}
@@ -14,7 +14,7 @@ use Rattle.task_model.specs.Setting.{Setting}
 use Rattle.normal_model.specs.Names.{variable_name, task_name}
 use Rattle.normal_checked.specs.Around.{IsAround}
 
-pub nothing-in : (o : Option Unit) → in_body_of o [] ≡ []
+pub nothing-in : (o : Option EnclosingUnit) → in_body_of o [] ≡ []
 nothing-in (Some x) = refl
 nothing-in None = refl
 

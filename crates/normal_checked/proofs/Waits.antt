@@ -8,13 +8,14 @@ use Rattle.ada_tree.specs.StaticValue.{is_static, value_of}
 use Rattle.ada_tree.specs.PlainExpr.{PExpr}
 use Rattle.ada_tree.specs.PlainStmt.{PHead, accepting, alternative, PAltKind, AAccept, ADelay, ATerminate, PAlts, no_alt, alt_then}
 use Rattle.ada_tree.specs.PlainDecl.{PDecl}
-use Rattle.syn_event.specs.Extents.{value_there, fixed}
+use Rattle.syn_event.specs.Extents.{unraised_value, fixed}
 use Rattle.syn_event.specs.RuleSelectForm.{alt_kinds, is_accept, is_delay, is_terminate, some, one_if, is_malformed}
 use Rattle.syn_event.specs.RuleSameEntryTwice.{accept_heads, are_other_values, differ, clash, clashing}
 use Rattle.syn_event.proofs.Nothing.{append_nothing, test_fails}
 use Rattle.normal_model.specs.Making.{moving, index_left}
 use Rattle.normal_model.specs.Walk.{Rewriter, inside_alts}
-use Rattle.normal_model.specs.Waits.{Unit, head_left, behind_guard}
+use Rattle.normal_model.specs.RewrittenUnit.{RewrittenUnit}
+use Rattle.normal_model.specs.Waits.{head_left, behind_guard}
 use Rattle.normal_model.specs.NormalStmts.{normal_rewriter}
 
 -- ---- the kinds of alternatives
@@ -36,7 +37,7 @@ same-step x y xs ys e f g h = record {
   terminates = count-step is_terminate x y xs ys g h.terminates;
 }
 
-module _ (u : Unit) where
+module _ (u : RewrittenUnit) where
   abbrev r : Rewriter (List PDecl)
   r = normal_rewriter u
 
@@ -91,7 +92,7 @@ module _ (u : Unit) where
     stays : (s : Span) (j : ℕ) (e : PExpr) (z : ℤ) → fixed T e ≡ Some z → index_left u.setting s j (moving u.setting.types (Some e)) (Some e) ≡ Some e
     stays s j e z f = subst (λ V. index_left u.setting s j (moving V (Some e)) (Some e) ≡ Some e) same_types (go (is_static T e) f)
       where
-        go : (b : Bool) → (if b then value_there (value_of T e) else None) ≡ Some z → index_left u.setting s j (if b then None else Some e) (Some e) ≡ Some e
+        go : (b : Bool) → (if b then unraised_value (value_of T e) else None) ≡ Some z → index_left u.setting s j (if b then None else Some e) (Some e) ≡ Some e
         go true q = refl
         go false q = cc
 

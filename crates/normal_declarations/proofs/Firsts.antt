@@ -5,7 +5,7 @@ use Rattle.ada_tree.specs.declared.naming.NameId.{NameId}
 use Rattle.ada_tree.specs.declared.declarations.Decl.{Decl}
 use Rattle.ada_tree.specs.PlainDecl.{PTask, PDecl, DNumber, DObject, DEnumeration, DArray, DSubtype, DException, DIntIo, DPragma, DTask, DTaskBody, decls_of, plain_decl}
 use Rattle.scoped_names.specs.Meaning.{meaning_in}
-use Rattle.syn_event.specs.Units.{decl_list}
+use Rattle.syn_event.specs.DeclaredTasks.{decl_list}
 use Rattle.syn_event.specs.NamedTasks.{type_named, with_type}
 use Rattle.normal_model.specs.NormalTree.{first_decls, mark_of, unless_left}
 use Rattle.normal_declarations.specs.inner.First.{first_list, first_of, known_behind, with_name}

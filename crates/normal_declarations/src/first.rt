@@ -2,7 +2,7 @@
 
 ghost use Rattle.std.specs.Prelude.{◌≡◌, ◌++◌, ◌∷◌, [], OnOk, is_some, map};
 ghost use Rattle.ada_tree.specs.PlainDecl.{decls_of, plain_decl, plain_shape};
-ghost use Rattle.syn_event.specs.Units.{decl_list};
+ghost use Rattle.syn_event.specs.DeclaredTasks.{decl_list};
 ghost use Rattle.scoped_names.specs.Meaning.{meaning_in};
 ghost use Rattle.normal_model.specs.NormalTree.{first_decls, mark_of};
 ghost use Rattle.normal_declarations.specs.inner.First.{first_of, known_behind, with_name};

@@ -2,7 +2,7 @@
 
 ghost use Rattle.std.specs.Prelude.{◌≡◌, ◌++◌, ℕ, IfOk, OnOk, drop, flat_map, map};
 ghost use Rattle.ada_tree.specs.PlainDecl.{plain_decl, plain_task};
-ghost use Rattle.syn_event.specs.Units.{decl_list};
+ghost use Rattle.syn_event.specs.DeclaredTasks.{decl_list};
 ghost use Rattle.normal_model.specs.NormalTree.{task_declared, task_under, tasks_beside};
 ghost use Rattle.normal_names.specs.SoFar.{AreNamesOf};
 ghost use Rattle.normal_declarations.specs.Groups.{group_at};

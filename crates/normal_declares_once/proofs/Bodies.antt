@@ -19,7 +19,7 @@ use Rattle.ada_tree.specs.Sites.{with_words, decl_sites, decls_sites, sites}
 use Rattle.syn_event.specs.declared.numbering.TaskInfo.{TaskInfo}
 use Rattle.syn_event.specs.AllNumbers.{info_of_task}
 use Rattle.syn_event.specs.NamedTasks.{NumberedTask}
-use Rattle.syn_event.specs.Units.{decl_list}
+use Rattle.syn_event.specs.DeclaredTasks.{decl_list}
 use Rattle.syn_event.proofs.Nothing.{test_fails}
 use Rattle.task_model.specs.Setting.{Setting}
 use Rattle.legal_sites.specs.Met.{IsMet}
@@ -27,7 +27,7 @@ use Rattle.rewritten_types.proofs.Lookups.{place-all}
 use Rattle.normal_model.specs.Names.{variable_name, task_name}
 use Rattle.normal_model.specs.NormalStmts.{normal_body, unit_variables}
 use Rattle.normal_model.specs.NormalTree.{decls_front, tasks_beside, unit_for, first_running, running, body_copy, bodies_of}
-use Rattle.normal_model.specs.Waits.{Unit as RunUnit}
+use Rattle.normal_model.specs.RewrittenUnit.{RewrittenUnit}
 use Rattle.syn_event.proofs.DeclLists.{listed_back}
 use Rattle.normal_units.proofs.Tasks.{list-front}
 use Rattle.normal_form_law.specs.Normalisable.{numbers_of, setting_for, NamesTell}
@@ -211,7 +211,7 @@ module _ (p : PProgram) (h : IsLegal p) where
   objects-good (decl_then d rest) e = all_joined (EveryWord r) (object_words d) (flat_map object_words (decl_list rest)) (object-good d e.0) (objects-good rest e.1)
 
   -- the names of a body in the normal form: the objects, the variables, and what the statements name
-  inner-is : (u : RunUnit) (objects : PDecls) (its : PBody) →
+  inner-is : (u : RewrittenUnit) (objects : PDecls) (its : PBody) →
       inner_names (decls_front objects (decls_of (unit_variables u its))) (normal_body u its)
       ≡ (declared false [] (flat_map object_words (decl_list objects)) ++ declared false (with_words [] (flat_map object_words (decl_list objects))) (flat_map object_words (unit_variables u its))) ++ body_names its
   inner-is u objects its =
@@ -229,7 +229,7 @@ module _ (p : PProgram) (h : IsLegal p) where
   copy-covered : (t : ℕ) (objects : PDecls) (its : PBody) → EveryDecls r objects → EveryBody r 1 its → body_weight its < 2 ^ 64 → AllByRecursion (IsFitIn fixed) (inner_names objects its) →
       AllByRecursion Covered (inner_names (decls_front objects (decls_of (unit_variables (record { setting = g; task = t }) its))) (normal_body (record { setting = g; task = t }) its))
   copy-covered t objects its a b light fit =
-      let u : RunUnit = record { setting = g; task = t } in
+      let u : RewrittenUnit = record { setting = g; task = t } in
       let ws : List Word = flat_map object_words (decl_list objects) in
       let vs : List Word = flat_map object_words (unit_variables u its) in
       let few : length (unit_variables u its) ≤ 0 + body_weight its = body-few u its [] in

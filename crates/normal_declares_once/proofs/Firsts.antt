@@ -13,7 +13,7 @@ use Rattle.ada_tree.specs.Declaring.{declared_object, after_decl}
 use Rattle.ada_tree.specs.RuleDuplicate.{is_among}
 use Rattle.ada_tree.specs.Sites.{decl_sites, decls_sites}
 use Rattle.syn_event.specs.NamedTasks.{type_named, with_type}
-use Rattle.syn_event.specs.Units.{decl_list}
+use Rattle.syn_event.specs.DeclaredTasks.{decl_list}
 use Rattle.normal_model.specs.NormalTree.{mark_of, unless_left, first_decls}
 use Rattle.rewritten_types.specs.Rewriting.{names_declared}
 use Rattle.ada_duplicates.proofs.Noting.{quiet_static, namings_append, quiet_none}

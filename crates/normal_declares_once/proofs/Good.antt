@@ -6,7 +6,7 @@ use Rattle.ada_tree.specs.Lexical.{IsIdentifier}
 use Rattle.ada_tree.specs.PlainProgram.{PProgram}
 use Rattle.ada_tree.specs.Every.{Rules, no_rules, EveryProgram}
 use Rattle.ada_tree.specs.WellPlaced.{tokens}
-use Rattle.syn_event.specs.Units.{text_of}
+use Rattle.syn_event.specs.DeclaredTasks.{text_of}
 use Rattle.syn_event.specs.RuleReservedName.{is_reserved}
 use Rattle.syn_event.proofs.Weaker.{placed_tokens}
 use Rattle.legal_sites.proofs.Both.{together}

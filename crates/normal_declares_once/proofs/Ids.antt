@@ -11,12 +11,12 @@ use Rattle.ada_tree.specs.NameList.{predefined, AreNames}
 use Rattle.ada_tree.specs.Lexical.{IsIdentifier}
 use Rattle.ada_tree.specs.RuleDuplicate.{is_predefined}
 use Rattle.syn_event.specs.declared.numbering.TaskInfo.{TaskInfo}
-use Rattle.syn_event.specs.Units.{text_of}
+use Rattle.syn_event.specs.DeclaredTasks.{text_of}
 use Rattle.syn_event.specs.RuleReservedName.{has_mark, is_reserved}
 use Rattle.task_model.specs.Setting.{Setting}
 use Rattle.rewritten_types.proofs.Lookups.{place-all}
 use Rattle.rewritten_values.proofs.Saying.{place-within}
-use Rattle.normal_model.specs.Names.{member_text, variable_text, member_texts, with_members, normal_names, variable_name, task_name}
+use Rattle.normal_model.specs.Names.{name_of_member, variable_text, member_texts, with_members, normal_names, variable_name, task_name}
 use Rattle.normal_model.proofs.VariablesLemmas.{Begins}
 use Rattle.normal_types.proofs.Names.{fold-begins, variables-begin, names-begin, variable-there}
 use Rattle.normal_placed.proofs.Names.{first-named}
@@ -46,7 +46,7 @@ variable-unmarked : (k : ℕ) → has_mark (variable_text k) ≡ false
 unfolding digits
 variable-unmarked k = onto-unmarked 64 (k + 1) [] refl
 
-texts-differ : (t : List ℕ) (i : ℤ) (k : ℕ) → member_text t i ≡ variable_text k → ⊥
+texts-differ : (t : List ℕ) (i : ℤ) (k : ℕ) → name_of_member t i ≡ variable_text k → ⊥
 texts-differ t i k e = true≢false (sym (ap has_mark (append_assoc t (codes "_DED_") _) ∙ mark-there t _) ∙ ap has_mark e ∙ variable-unmarked k)
 
 -- ---- new names
@@ -124,7 +124,7 @@ module _ (g : Setting) where
   member-new info n i e = record {
     all = with_members g;
     begins = fold-begins (member_texts names g.numbers.tasks) names;
-    text = member_text n.text i;
+    text = name_of_member n.text i;
     there = n.found ∙ ap (λ (m : Option ℤ). Some (full_text n.text m)) e;
     reserved = member-reserved n.text i;
   }
@@ -133,16 +133,16 @@ module _ (g : Setting) where
   pub member-variable : (info : TaskInfo) → IsNamed g info → (i : ℤ) → info.member ≡ Some i → (k : ℕ) → ((task_name g info).0 == (variable_name g k).0) ≡ false
   member-variable info n i e k = by_test ((task_name g info).0 == (variable_name g k).0) refl
     where
-      there : slice_get (with_members g) (task_name g info).0 ≡ Some (member_text n.text i)
+      there : slice_get (with_members g) (task_name g info).0 ≡ Some (name_of_member n.text i)
       there = n.found ∙ ap (λ (m : Option ℤ). Some (full_text n.text m)) e
 
       begins : Begins (with_members g) (normal_names g (suc k))
       begins = variables-begin (with_members g) (suc k)
 
-      later : slice_get (normal_names g (suc k)) (task_name g info).0 ≡ Some (member_text n.text i)
+      later : slice_get (normal_names g (suc k)) (task_name g info).0 ≡ Some (name_of_member n.text i)
       later =
           ap (λ l. slice_get l (task_name g info).0) begins.joined
-          ∙ place-within (with_members g) begins.more (task_name g info).0 (slice_get_within (with_members g) (task_name g info).0 (member_text n.text i) there) ∙ there
+          ∙ place-within (with_members g) begins.more (task_name g info).0 (slice_get_within (with_members g) (task_name g info).0 (name_of_member n.text i) there) ∙ there
 
       by_test : (b : Bool) → ((task_name g info).0 == (variable_name g k).0) ≡ b → b ≡ false
       by_test false f = refl

@@ -11,7 +11,7 @@ use Rattle.ada_tree.specs.PlainExpr.{PDrange}
 use Rattle.ada_tree.specs.PlainDecl.{PTask, no_decl}
 use Rattle.ada_tree.specs.PlainProgram.{PProgram}
 use Rattle.ada_tree.specs.Scope.{Scope}
-use Rattle.ada_tree.specs.Declaring.{first_scope, inside, after_decls}
+use Rattle.ada_tree.specs.Declaring.{first_scope, inner_scope, after_decls}
 use Rattle.ada_tree.specs.Refusals.{types_in}
 use Rattle.ada_tree.specs.RuleDuplicate.{is_predefined, is_among}
 use Rattle.ada_tree.specs.Sites.{decls_sites, body_sites}
@@ -107,7 +107,7 @@ module _ (p : PProgram) (h : IsLegal p) where
   -- ---- tasks that differ
 
   pub decls-met : AllByRecursion IsMet (decls_sites start p.decls)
-  decls-met = all_front IsMet (decls_sites start p.decls) (body_sites (inside (after_decls start p.decls)) p.body) (all_met p h.legal.type_rules).1
+  decls-met = all_front IsMet (decls_sites start p.decls) (body_sites (inner_scope (after_decls start p.decls)) p.body) (all_met p h.legal.type_rules).1
 
   abbrev main_around : CheckScope
   main_around = checks.after_decls (checks.around_program p) p.decls

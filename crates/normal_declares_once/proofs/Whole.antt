@@ -12,11 +12,11 @@ use Rattle.ada_tree.specs.PlainProgram.{PProgram}
 use Rattle.ada_tree.specs.Every.{Rules, EveryDecls, EveryEntry, EveryProgram}
 use Rattle.ada_tree.specs.Scope.{Scope}
 use Rattle.ada_tree.specs.Demand.{Site}
-use Rattle.ada_tree.specs.Declaring.{before_all, first_scope, inside, after_decls}
+use Rattle.ada_tree.specs.Declaring.{before_all, first_scope, inner_scope, after_decls}
 use Rattle.ada_tree.specs.RuleDuplicate.{is_predefined, is_among}
 use Rattle.ada_tree.specs.Sites.{names_sites, decls_sites, body_sites, sites}
 use Rattle.syn_event.specs.NamedTasks.{NumberedTask, task_names_of, numbered_tasks}
-use Rattle.syn_event.specs.Units.{decl_list, tasks_in}
+use Rattle.syn_event.specs.DeclaredTasks.{decl_list, tasks_in}
 use Rattle.task_model.specs.Setting.{Setting}
 use Rattle.rewritten_types.specs.Rewriting.{DeclareOnce}
 use Rattle.rewritten_types.proofs.Refused.{declared_once}
@@ -146,10 +146,10 @@ module _ (p : PProgram) (h : IsLegal p) where
       ∙ ap₂ (λ (a b : List Naming). a ++ b)
       (namings_append (names_sites true before_all (p.name ∷ [])) (decls_sites s0 (made_for p).decls)
       ∙ ap (λ (l : List Naming). N0 ++ l) (normal_declares p g.types g.numbers ∙ ap (λ (l : List PTask). N1 ++ (N2 ++ tasks_names here l ++ N4)) tasks-are))
-      (body-is (inside (after_decls s0 (made_for p).decls)) (normal_body (main_unit g) p.body) ∙ body-same (main_unit g) p.body)
+      (body-is (inner_scope (after_decls s0 (made_for p).decls)) (normal_body (main_unit g) p.body) ∙ body-same (main_unit g) p.body)
     where
       last : List Site
-      last = body_sites (inside (after_decls s0 (made_for p).decls)) (made_for p).body
+      last = body_sites (inner_scope (after_decls s0 (made_for p).decls)) (made_for p).body
 
   -- ---- the first declarations
 
@@ -263,19 +263,19 @@ module _ (p : PProgram) (h : IsLegal p) where
   F-free : (x : ℕ) → IsFreeOf (name ∷ []) x → IsFreeOf (fixed_names N1) x → IsFreeOf ids x → IsFreeOf F x
   F-free x a b c = free-both (name ∷ []) (fixed_names N1 ++ ids) x a (free-both (fixed_names N1) ids x b c)
 
-  parts : fixed ≡ ((name ∷ []) ++ decls_fixed) ++ fixed_names (namings_of (body_sites (inside (after_decls s0 p.decls)) p.body))
+  parts : fixed ≡ ((name ∷ []) ++ decls_fixed) ++ fixed_names (namings_of (body_sites (inner_scope (after_decls s0 p.decls)) p.body))
   parts =
       ap fixed_names (namings_append (names_sites true before_all (p.name ∷ []) ++ decls_sites s0 p.decls) its ∙ ap (λ (l : List Naming). l ++ namings_of its) (namings_append (names_sites true before_all (p.name ∷ [])) (decls_sites s0 p.decls)))
       ∙ flat_map-append fixed_name (N0 ++ namings_of (decls_sites s0 p.decls)) (namings_of its)
       ∙ ap (λ (l : List ℕ). l ++ fixed_names (namings_of its)) (flat_map-append fixed_name N0 (namings_of (decls_sites s0 p.decls)) ∙ ap (λ (l : List ℕ). l ++ decls_fixed) (ap fixed_names first-name))
     where
       its : List Site
-      its = body_sites (inside (after_decls s0 p.decls)) p.body
+      its = body_sites (inner_scope (after_decls s0 p.decls)) p.body
 
   -- a name of the program that is none of its fixed ones
   old-free : (x : ℕ) → IsFreeOf fixed x → IsGoodId p.names x → IsFreeOf F x
   old-free x f k =
-      let front : IsFreeOf ((name ∷ []) ++ decls_fixed) x = free-front ((name ∷ []) ++ decls_fixed) (fixed_names (namings_of (body_sites (inside (after_decls s0 p.decls)) p.body))) x (subst (λ (l : List ℕ). IsFreeOf l x) parts f) in
+      let front : IsFreeOf ((name ∷ []) ++ decls_fixed) x = free-front ((name ∷ []) ++ decls_fixed) (fixed_names (namings_of (body_sites (inner_scope (after_decls s0 p.decls)) p.body))) x (subst (λ (l : List ℕ). IsFreeOf l x) parts f) in
       let declared : IsFreeOf decls_fixed x = free-back (name ∷ []) decls_fixed x front in
       F-free x (free-front (name ∷ []) decls_fixed x front)
       (leaves-fixed

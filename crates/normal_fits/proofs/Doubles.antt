@@ -12,7 +12,7 @@ use Rattle.ada_tree.specs.WellPlaced.{well_placed}
 use Rattle.syn_event.specs.declared.numbering.Mode.TheVariants.{Original}
 use Rattle.syn_event.specs.CheckScope.{CheckScope, CheckSite}
 use Rattle.syn_event.specs.CheckSites as check
-use Rattle.syn_event.specs.Units.{text_of, decl_list}
+use Rattle.syn_event.specs.DeclaredTasks.{text_of, decl_list}
 use Rattle.legal_sites.specs.Met.{IsCheckMet}
 use Rattle.common_lemmas.proofs.Lists.{all_back, all_front, all_unflat}
 use Rattle.common_lemmas.proofs.Numbers.{le_is, unequal}

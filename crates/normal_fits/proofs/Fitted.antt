@@ -21,10 +21,11 @@ use Rattle.legal_sites.specs.Met.{IsCheckMet}
 use Rattle.common_lemmas.proofs.Lists.{all_back, all_front}
 use Rattle.task_model.specs.Setting.{Setting, is_family, first_expr, lists_in, lists_of}
 use Rattle.normal_model.specs.Ranges.{word_at, kind_of_range, family_range, array_range}
-use Rattle.normal_model.specs.Making.{variable, assigned, moving, index_left}
+use Rattle.normal_model.specs.Making.{variable, assignment, moving, index_left}
 use Rattle.normal_model.specs.Members.{integer_literal, literal_in, kind_of_index, index_literal}
 use Rattle.normal_model.specs.Calls.{Slot, actuals_passed, entry_called, slots_called, lists_passed, args_passed, call_to, index_number, actual_number}
-use Rattle.normal_model.specs.Waits.{Unit, not_held, none_held}
+use Rattle.normal_model.specs.RewrittenUnit.{RewrittenUnit}
+use Rattle.normal_model.specs.Waits.{not_held, none_held}
 use Rattle.normal_model.specs.Walk.{Rewriter, after_kind, inside_alts}
 use Rattle.normal_model.specs.NormalStmts.{normal_rewriter}
 use Rattle.asked_stmts.specs.Asked.{Asks}
@@ -83,11 +84,11 @@ index-reach n s o None le = ((omega (arith, le), omega (arith, le)), tt)
 index-reach n s o (Some z) le = literal-reach n s o z le
 
 module _ (g : Setting) (t t' : ℕ) (vars : List PDecl) where
-  abbrev u : Unit
+  abbrev u : RewrittenUnit
   u = record { setting = g; task = t }
 
   -- the unit of the normal form
-  abbrev v : Unit
+  abbrev v : RewrittenUnit
   v = record { setting = normal_of g; task = t' }
 
   abbrev names : List (List ℕ)
@@ -110,11 +111,11 @@ module _ (g : Setting) (t t' : ℕ) (vars : List PDecl) where
   variable-reach : (j n k : ℕ) (s : Span) → j ≤ 46 → n ≤ 80 → EveryExpr (reach j) n (variable g s k)
   variable-reach j n k s low le = ((low, le), tt)
 
-  assigned-reach : (n k : ℕ) (s : Span) (e : PExpr) → n ≤ 44 → EveryExpr (reach n) (n + 1) e → EveryStmt (reach n) n (assigned g s k e)
+  assigned-reach : (n k : ℕ) (s : Span) (e : PExpr) → n ≤ 44 → EveryExpr (reach n) (n + 1) e → EveryStmt (reach n) n (assignment g s k e)
   assigned-reach n k s e le h = ((omega (arith, le), omega (arith, le)), (tt, tt), h)
 
   -- an assignment of what stood elsewhere
-  kept-reach : (c : CheckScope) (k n j : ℕ) (s : Span) (e : PExpr) → Fits names names c k e → n ≤ k + 4 → EveryStmt (reach n) n (assigned g s j e)
+  kept-reach : (c : CheckScope) (k n j : ℕ) (s : Span) (e : PExpr) → Fits names names c k e → n ≤ k + 4 → EveryStmt (reach n) n (assignment g s j e)
   kept-reach c k n j s e f le =
       let d : k ≤ 40 = expr-depth names c k e f.1 in
       assigned-reach n j s e (omega (arith, d, le)) (expr-reach names c k n (n + 1) e (omega (arith, d, le)) (omega (arith, le)) f.1)

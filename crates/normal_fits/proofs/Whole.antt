@@ -13,14 +13,14 @@ use Rattle.syn_event.specs.declared.numbering.TaskInfo.{TaskInfo}
 use Rattle.syn_event.specs.CheckScope.{CheckScope, CheckSite}
 use Rattle.syn_event.specs.CheckSites as check
 use Rattle.syn_event.specs.NamedTasks.{type_named, with_type}
-use Rattle.syn_event.specs.Numbered.{task_info}
-use Rattle.syn_event.specs.Units.{decl_list, tasks_in}
+use Rattle.syn_event.specs.AddedNames.{task_info}
+use Rattle.syn_event.specs.DeclaredTasks.{decl_list, tasks_in}
 use Rattle.legal_sites.specs.Met.{IsCheckMet}
 use Rattle.legal_sites.proofs.Meeting.{all_check_met}
 use Rattle.common_lemmas.proofs.Lists.{all_back, all_front, all_joined, all_through}
 use Rattle.task_model.specs.Setting.{Setting}
 use Rattle.normal_model.specs.Names.{task_name}
-use Rattle.normal_model.specs.Waits.{Unit}
+use Rattle.normal_model.specs.RewrittenUnit.{RewrittenUnit}
 use Rattle.normal_model.specs.NormalStmts.{normal_body, unit_variables}
 use Rattle.normal_model.specs.NormalTree.{decls_front, mark_of, unless_left, first_decls, tasks_beside, task_under, declared_under, task_declared, unit_for, running, body_copy, bodies_of, main_variables, variables_needed}
 use Rattle.normal_model.proofs.VariablesLemmas.{begins-refl}
@@ -107,8 +107,8 @@ module _ (g : Setting) (h : IsPlaceable g) (q : IsReady g) where
   body-fits : (t t' : ℕ) (x : PBody) (c : CheckScope) → EveryBody r 1 x → AllByRecursion M (check.body_sites c 1 x) → AskedBody (ready_asks (record { setting = n; task = t' })) tt 1 x →
       AskedBody (fit_asks (record { setting = n; task = t' })) tt 1 (normal_body (record { setting = g; task = t }) x)
   body-fits t t' x c i m ready =
-      let u : Unit = record { setting = g; task = t } in
-      let v : Unit = record { setting = n; task = t' } in
+      let u : RewrittenUnit = record { setting = g; task = t } in
+      let v : RewrittenUnit = record { setting = n; task = t' } in
       let vars : List PDecl = unit_variables u x in
       let checked : AskedBody (both (check_asks M) (ready_asks v)) (c, tt) 1 x = both_asked (check_asks M) (ready_asks v) c tt 1 x (checked_asked M c 1 x m) ready in
       let all : AskedBody (both (place_asks r) (both (check_asks M) (ready_asks v))) (tt, (c, tt)) 1 x = both_asked (place_asks r) (both (check_asks M) (ready_asks v)) tt (c, tt) 1 x (placed_asked r 1 x i) checked in

@@ -4,13 +4,13 @@ use Rattle.std.specs.List.{AllByRecursion}
 use Rattle.ada_tree.specs.declared.naming.Span.{Span}
 use Rattle.ada_tree.specs.Lexical.{IsIdentifier, IsInteger}
 use Rattle.ada_tree.specs.PlainDecl.{PDecl, DTaskBody}
-use Rattle.syn_event.specs.Units.{text_of, decl_list}
+use Rattle.syn_event.specs.DeclaredTasks.{text_of, decl_list}
 use Rattle.syn_event.specs.declared.numbering.TaskInfo.{TaskInfo}
 use Rattle.task_model.specs.Setting.{Setting, entry_of}
 use Rattle.normal_model.specs.Making.{moving}
 use Rattle.normal_model.specs.Names.{task_name}
 use Rattle.normal_model.specs.NormalTree.{unit_for, main_unit, running}
-use Rattle.normal_model.specs.Waits.{Unit}
+use Rattle.normal_model.specs.RewrittenUnit.{RewrittenUnit}
 use Rattle.asked_stmts.specs.Asked.{Asks, AskedBody}
 use Rattle.asked_stmts.specs.Kinds.{no_asks}
 use Rattle.normal_asked.specs.Pieces.{IsAmong}
@@ -24,7 +24,7 @@ abbrev pub normal_of : Setting → Setting
 normal_of g = normal_setting g.program g.types g.numbers
 
 -- What is asked of calls and accepts alone, by the unit of the normal form: the double of a called entry has a name, and an index of an accept that is static may as a number stand in a relation.
-abbrev pub ready_asks : Unit → Asks (Prim.Unit {0})
+abbrev pub ready_asks : RewrittenUnit → Asks (Prim.Unit {0})
 ready_asks v = record no_asks {
   call = λ c k x. IsIdentifier (double_text (text_of v.setting.program.names x.entry.name));
   head = λ c k h. moving v.setting.types h.index ≡ None → (s : Span) → IsOperand (member_number v.setting s (entry_of v.setting.numbers v.task h.entry.name) h.index);

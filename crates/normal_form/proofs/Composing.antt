@@ -9,7 +9,7 @@ use Rattle.ada_tree.specs.PlainDecl.{PDecl, decls_of, plain_decl}
 use Rattle.ada_tree.specs.PlainProgram.{PProgram, plain_program}
 use Rattle.ada_expr_copy.specs.Parts.{OkWith}
 use Rattle.syn_event.specs.Numbering.{Numbering}
-use Rattle.syn_event.specs.Units.{decl_list}
+use Rattle.syn_event.specs.DeclaredTasks.{decl_list}
 use Rattle.task_model.specs.Setting.{Setting}
 use Rattle.normal_model.specs.Names.{normal_names}
 use Rattle.normal_model.specs.NormalStmts.{normal_body}

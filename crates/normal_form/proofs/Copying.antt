@@ -11,7 +11,7 @@ use Rattle.syn_event.specs.declared.numbering.TaskInfo.{TaskInfo}
 use Rattle.task_model.specs.Setting.{Setting}
 use Rattle.normal_model.specs.Names.{task_name}
 use Rattle.normal_model.specs.Ranges.{word_at}
-use Rattle.normal_model.specs.Waits.{Unit}
+use Rattle.normal_model.specs.RewrittenUnit.{RewrittenUnit}
 use Rattle.normal_model.specs.NormalStmts.{normal_body, unit_variables}
 use Rattle.normal_model.specs.NormalTree.{bodies_of, body_copy, decls_front, first_running, running, unit_for}
 use Rattle.normal_form.specs.declared.body_copies.BodyDecl.{BodyDecl}
@@ -31,7 +31,7 @@ pub copies_made : (g : Setting) (x : BodyDecl) (task : ℕ) (vars : List PDecl) 
 copies_made g x task vars its names first named variables statements =
     let objects = decls_of (map plain_decl x.objects.now) in
     let infos = running g x.name.name in
-    let mine = λ (t : ℕ). let u : Unit = record { setting = g; task = t } in u in
+    let mine = λ (t : ℕ). let u : RewrittenUnit = record { setting = g; task = t } in u in
     ap (map (λ (name : NameId). DTaskBody (word_at x.name.span name) (decls_front objects (decls_of vars)) its x.span)) named
     ∙ copies_are g x.name objects vars its x.span infos
     ∙ ap (λ v. map (body_copy g x.name objects v its (λ ds b name. DTaskBody name ds b x.span)) infos) (variables ∙ ap (λ t. unit_variables (mine t) (plain_body x.body.now)) first)
@@ -42,7 +42,7 @@ pub variables_made : (g : Setting) (x : BodyDecl) (task : ℕ) (vars : List Decl
     task ≡ first_running g x.name.name → map plain_decl vars ≡ unit_variables (record { setting = g; task = task }) (plain_body x.body.now) →
     length vars ≡ length (unit_variables (unit_for g x.name.name) (plain_body x.body.now))
 variables_made g x task vars first variables =
-    let mine = λ (t : ℕ). let u : Unit = record { setting = g; task = t } in u in
+    let mine = λ (t : ℕ). let u : RewrittenUnit = record { setting = g; task = t } in u in
     sym (length-map vars plain_decl) ∙ ap length (variables ∙ ap (λ t. unit_variables (mine t) (plain_body x.body.now)) first)
 
 -- the copies that were put are those of the body

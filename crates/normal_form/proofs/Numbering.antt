@@ -6,8 +6,8 @@ use Rattle.ada_tree.specs.PlainDecl.{PDecl, PTask, decls_of, plain_decl}
 use Rattle.ada_tree.specs.PlainProgram.{PProgram}
 use Rattle.syn_event.specs.declared.numbering.TaskInfo.{TaskInfo}
 use Rattle.syn_event.specs.Numbering.{Numbering}
-use Rattle.syn_event.specs.Numbered.{task_info}
-use Rattle.syn_event.specs.Units.{decl_list, tasks_in, tasks_of}
+use Rattle.syn_event.specs.AddedNames.{task_info}
+use Rattle.syn_event.specs.DeclaredTasks.{decl_list, tasks_in, tasks_of}
 use Rattle.normal_model.specs.NormalNumbers.{normal_numbers}
 use Rattle.normal_form.specs.inner.Infos.{infos_of}
 use Rattle.syn_event.proofs.DeclLists.{listed_back}

@@ -3,8 +3,8 @@
 ghost use Rattle.std.specs.Prelude.{◌≡◌, ◌∷◌, ◌++◌, [], map, IfOk, OnOk};
 ghost use Rattle.ada_tree.specs.PlainDecl.{plain_decl};
 ghost use Rattle.ada_tree.specs.PlainProgram.{plain_program};
-ghost use Rattle.syn_event.specs.Numbered.{task_info};
-ghost use Rattle.syn_event.specs.Units.{tasks_in};
+ghost use Rattle.syn_event.specs.AddedNames.{task_info};
+ghost use Rattle.syn_event.specs.DeclaredTasks.{tasks_in};
 ghost use Rattle.normal_model.specs.NormalNumbers.{normal_numbers};
 ghost use Rattle.normal_form.specs.inner.Infos.{infos_of};
 

@@ -34,7 +34,7 @@ use Rattle.normal_model.specs.Names.{task_name_at}
 use Rattle.normal_model.specs.Ranges.{subtype_of_range, array_range, family_range}
 use Rattle.normal_model.specs.Members.{kind_of_index, members_of}
 use Rattle.normal_model.specs.Calls.{entry_called}
-use Rattle.normal_model.specs.Waits.{Unit as Running}
+use Rattle.normal_model.specs.RewrittenUnit.{RewrittenUnit}
 use Rattle.normal_model.specs.NormalStmts.{unit_variables}
 use Rattle.rewritten_values.specs.Values.{is_known}
 use Rattle.normal_types.specs.Own.{own_name}
@@ -306,7 +306,7 @@ lowers (suc zero) = tt
 lowers (suc (suc zero)) = tt
 lowers (suc (suc (suc e))) = subst (λ q. LowersFit (types_in choosing) (parameters_of (types_in choosing) (formals_of_info (setting_for choosing) q))) (sym (entry-none e)) tt
 
-abbrev at : ℕ → Running
+abbrev at : ℕ → RewrittenUnit
 at t = record { setting = setting_for choosing; task = first_task choosing (suc (suc (suc t))) }
 
 pub two_variables : length (variables_of choosing 0) ≡ 2

@@ -14,7 +14,7 @@ use Rattle.ada_value.specs.Values.{kind_of_value, integer_limits}
 use Rattle.ada_value.specs.Variables.{Object, value_there}
 use Rattle.syn_event.specs.Numbering.{task_at}
 use Rattle.task_model.specs.Starting.{no_unit, unit_of_info, unit_of, objects_of}
-use Rattle.normal_model.specs.Waits.{Unit}
+use Rattle.normal_model.specs.RewrittenUnit.{RewrittenUnit}
 use Rattle.normal_model.specs.NormalStmts.{unit_variables}
 use Rattle.rewritten_values.specs.Values.{is_known, old_names}
 use Rattle.normal_types.specs.Own.{own_name}
@@ -118,7 +118,7 @@ own = (
 nothing-runs : (t : ℕ) → unit_of example (numbers_of example) (suc (suc t)) ≡ no_unit
 nothing-runs t = ap (λ q. if q then record { in_main = true; decls = example.decls; body = example.body } else unit_of_info example (task_at (numbers_of example) (suc (suc t)))) (next_not_zero (suc t))
 
-abbrev at : ℕ → Unit
+abbrev at : ℕ → RewrittenUnit
 at t = record { setting = setting_for example; task = first_task example (suc (suc t)) }
 
 few : (t : ℕ) → length (variables_of example t) < 2 ^ 64

@@ -32,7 +32,7 @@ use Rattle.normal_units.proofs.Tasks.{tasks_keep_numbers, entries_keep_formals}
 use Rattle.normal_units.proofs.Bodies.{units_are_rewritten}
 use Rattle.translation_law.specs.Translations.{Programs}
 use Rattle.translation_law.specs.Scopes.{AgreeOnTypes}
-use Rattle.normal_law.specs.Suited.{declared_limits, AreMade, unit_of as unit_rewritten}
+use Rattle.normal_law.specs.Suited.{declared_limits, AreMade, rewritten_unit as unit_rewritten}
 use Rattle.normal_law.specs.NormalLists.{Begin}
 use Rattle.normal_law.specs.NormalFloors.{Extends}
 use Rattle.normal_law.specs.Preludes.{Added, AreThere}

@@ -5,7 +5,7 @@ use Rattle.ada_tree.specs.PlainExpr.{PSubind}
 use Rattle.ada_tree.specs.PlainStmt.{PStmt, SNull, SAssign, SDelay, SExit, SRaise, SAbort, SCall, SAccept, SWait, SConditional, STimed, SPut, SPutLine, SNewLine, SGet, SIf, SCase, SBlock, SLoop, PBody}
 use Rattle.ada_tree.specs.PlainDecl.{PDecl}
 use Rattle.task_model.specs.Setting.{Setting}
-use Rattle.normal_model.specs.Waits.{Unit}
+use Rattle.normal_model.specs.RewrittenUnit.{RewrittenUnit}
 use Rattle.normal_model.specs.Variables.{variable_declared, variables_declared, statement_variables}
 use Rattle.normal_model.specs.NormalStmts.{normal_rewriter, unit_variables}
 use Rattle.normal_types.proofs.Walking.{body-keeps}
@@ -31,7 +31,7 @@ module _ (g : Setting) where
       let e : length vars ≡ 0 + length vars = omega arith in
       joined-numbered h (variables_declared g s xs (length vars)) (subst (AreNumbered g (variables_declared g s xs (length vars))) e (declared-numbered s xs (length vars)))
 
-module _ (u : Unit) where
+module _ (u : RewrittenUnit) where
   statement-numbered : (vars : List PDecl) (x : PStmt) → AreNumbered u.setting vars 0 → AreNumbered u.setting (statement_variables u vars x) 0
   statement-numbered vars (SCall c s) h = more-numbered u.setting s _ vars h
   statement-numbered vars (SConditional c l o s) h = more-numbered u.setting s _ vars h

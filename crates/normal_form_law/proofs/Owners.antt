@@ -6,7 +6,7 @@ use Rattle.ada_tree.specs.Refusals.{types_in}
 use Rattle.ada_tree.specs.PlainProgram.{PProgram}
 use Rattle.syn_event.specs.declared.numbering.EntryInfo.{EntryInfo}
 use Rattle.syn_event.specs.Numbering.{entry_at}
-use Rattle.syn_event.specs.Numbered.{with_origin, with_origins}
+use Rattle.syn_event.specs.AddedNames.{with_origin, with_origins}
 use Rattle.syn_event.specs.AllNumbers.{entry_of_task, entries_of_tasks}
 use Rattle.syn_event.specs.NamedTasks.{NumberedTask, numbered_tasks}
 use Rattle.normal_types.proofs.Variables.{all-mapped}

@@ -8,7 +8,7 @@ use Rattle.ada_tree.specs.PlainExpr.{PSubind}
 use Rattle.ada_tree.specs.PlainDecl.{PDecl, decls_of}
 use Rattle.ada_value.specs.declared.values.Limits.{Limits}
 use Rattle.ada_value.specs.declared.values.Value.{Value}
-use Rattle.ada_value.specs.Values.{lower}
+use Rattle.ada_value.specs.Values.{lower_bound}
 use Rattle.ada_value.specs.Variables.{Variables, object_named}
 use Rattle.task_model.specs.Setting.{Setting}
 use Rattle.task_model.specs.Starting.{declared_objects, after_declaration, objects_of}
@@ -34,7 +34,7 @@ module _ (b : Programs) (added : Added b b.original) (U : TypeTable) (in_main : 
 
   -- the object of a variable
   variable-object : (in_main : Bool) (s : Span) (k : ℕ) (limits : Limits) (V : Variables) →
-      declared_objects U in_main (word_at s (variable_name g k) ∷ []) false None (Some record { limits = limits; index = None }) V ≡ cell (variable_name g k) limits (lower U limits) ∷ V
+      declared_objects U in_main (word_at s (variable_name g k) ∷ []) false None (Some record { limits = limits; index = None }) V ≡ cell (variable_name g k) limits (lower_bound U limits) ∷ V
   variable-object true s k limits V = refl
   variable-object false s k limits V = refl
 
@@ -43,15 +43,15 @@ module _ (b : Programs) (added : Added b b.original) (U : TypeTable) (in_main : 
     pub extends : Extends b V0 V
     pub there : (j : ℕ) → j < k → j < added.count → (v : Value) × IsCell V (variable_name g j) (added.bounds j) v
 
-  one-more : (V0 V : Variables) (k : ℕ) (limits : Limits) → k < added.count → added.bounds k ≡ limits → Stand V0 V k → Stand V0 (cell (variable_name g k) limits (lower U limits) ∷ V) (k + 1)
+  one-more : (V0 V : Variables) (k : ℕ) (limits : Limits) → k < added.count → added.bounds k ≡ limits → Stand V0 V k → Stand V0 (cell (variable_name g k) limits (lower_bound U limits) ∷ V) (k + 1)
   one-more V0 V k limits l e h = record {
-    extends = extends_new (cell (variable_name g k) limits (lower U limits)) V0 V (added.new k l) h.extends;
+    extends = extends_new (cell (variable_name g k) limits (lower_bound U limits)) V0 V (added.new k l) h.extends;
     there = λ j m c. ⊎_elim
         (λ (a : j < k). let q = h.there j a c in
-        (q.0, record { name = q.1.name; found = ap (λ t. cond t (Some (cell (variable_name g k) limits (lower U limits))) (object_named V (variable_name g j))) (added.apart k j l c (ne k j a)) ∙ q.1.found }))
+        (q.0, record { name = q.1.name; found = ap (λ t. cond t (Some (cell (variable_name g k) limits (lower_bound U limits))) (object_named V (variable_name g j))) (added.apart k j l c (ne k j a)) ∙ q.1.found }))
         (λ (a : k ≤ j). let q : k ≡ j = omega (arith, a, m) in
-        subst (λ n. (v : Value) × IsCell (cell (variable_name g k) limits (lower U limits) ∷ V) (variable_name g n) (added.bounds n) v) q
-        (lower U limits, record { name = variable_name g k; found = ap (λ t. cond t (Some (cell (variable_name g k) limits (lower U limits))) (object_named V (variable_name g k))) (equal_self (variable_name g k).0) ∙ ap (λ y. Some (cell (variable_name g k) y (lower U limits))) (sym e) }))
+        subst (λ n. (v : Value) × IsCell (cell (variable_name g k) limits (lower_bound U limits) ∷ V) (variable_name g n) (added.bounds n) v) q
+        (lower_bound U limits, record { name = variable_name g k; found = ap (λ t. cond t (Some (cell (variable_name g k) limits (lower_bound U limits))) (object_named V (variable_name g k))) (equal_self (variable_name g k).0) ∙ ap (λ y. Some (cell (variable_name g k) y (lower_bound U limits))) (sym e) }))
         (cases_lt j k);
   }
     where
@@ -73,10 +73,10 @@ module _ (b : Programs) (added : Added b b.original) (U : TypeTable) (in_main : 
       let limits : Limits = scalar.0.0 in
       let q = bounds k s x at in
       let f : added.bounds k ≡ limits = q.1 ∙ ap limits_of_form scalar.0.1 in
-      let object : after_declaration U in_main d V ≡ cell (variable_name g k) limits (lower U limits) ∷ V =
+      let object : after_declaration U in_main d V ≡ cell (variable_name g k) limits (lower_bound U limits) ∷ V =
       ap (λ y. declared_objects U in_main (word_at s (variable_name g k) ∷ []) false None y V) scalar.0.1 ∙ variable-object in_main s k limits V in
       let l : (k + 1) + length rest ≡ k + length (d ∷ rest) = omega arith in
       subst (λ n. Stand V0 (objects_of U in_main (decls_of rest) (after_declaration U in_main d V)) n) l
       (subst (λ W. Stand V0 (objects_of U in_main (decls_of rest) W) ((k + 1) + length rest)) (sym object)
       (variables-stand V0 vars bounds more (λ j. let m : k + suc j ≡ (k + 1) + j = omega arith in same (suc j) ∙ ap (slice_get vars) m) scalar.1
-      (cell (variable_name g k) limits (lower U limits) ∷ V) (one-more V0 V k limits q.0 f h)))
+      (cell (variable_name g k) limits (lower_bound U limits) ∷ V) (one-more V0 V k limits q.0 f h)))

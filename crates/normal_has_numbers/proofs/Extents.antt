@@ -9,7 +9,7 @@ use Rattle.ada_tree.specs.Attributes.{Attribute, First, Last, Pos, Val, Succ, Pr
 use Rattle.ada_tree.specs.PlainExpr.{PExpr, EInteger, EName, EIndex, EAttribute, EAttributeOf, EParen, EUnary, EBinary, PBounds, PDrange, RGiven, RMarked}
 use Rattle.ada_tree.specs.StaticValue.{first_of_two, value_named, keeps_static, is_static, signed, bound_of, of_base, attribute_at, then_do, operated, named, value_of}
 use Rattle.ada_tree.specs.Every.{EveryExpr, EveryBounds, EveryDrange}
-use Rattle.syn_event.specs.Extents.{value_there, fixed, between, bounds_extent, marked_extent, extent}
+use Rattle.syn_event.specs.Extents.{unraised_value, fixed, between, bounds_extent, marked_extent, extent}
 use Rattle.rewritten_types.specs.Agreement.{Literal, Agrees}
 use Rattle.rewritten_values.specs.Values.{old_names}
 use Rattle.rewritten_values.proofs.Saying.{bases-alike}
@@ -64,7 +64,7 @@ module _ (old : ℕ → Bool) (T U : TypeTable) (h : Agrees old T U) where
   worth-alike (EBinary op l r s) k p = ap₂ (operated op s) (worth-alike l _ p.2) (worth-alike r _ p.3)
 
   fixed-alike : (e : PExpr) (k : ℕ) → EveryExpr (old_names old) k e → fixed T e ≡ fixed U e
-  fixed-alike e k p = ap₂ (λ (b : Bool) (r : Result ℤ Span). if b then value_there r else None) (static-alike e k p) (worth-alike e k p)
+  fixed-alike e k p = ap₂ (λ (b : Bool) (r : Result ℤ Span). if b then unraised_value r else None) (static-alike e k p) (worth-alike e k p)
 
   bounds-alike : (b : PBounds) (k : ℕ) → EveryBounds (old_names old) k b → bounds_extent T b ≡ bounds_extent U b
   bounds-alike b k p = ap₂ between (fixed-alike b.first k p.1) (fixed-alike b.last k p.2)

@@ -8,7 +8,7 @@ use Rattle.ada_tree.specs.PlainProgram.{PProgram}
 use Rattle.syn_event.specs.declared.numbering.TaskInfo.{TaskInfo}
 use Rattle.syn_event.specs.Numbering.{Numbering}
 use Rattle.syn_event.specs.NamedTasks.{type_named, with_type}
-use Rattle.syn_event.specs.Units.{decl_list}
+use Rattle.syn_event.specs.DeclaredTasks.{decl_list}
 use Rattle.task_model.specs.Setting.{Setting}
 use Rattle.normal_model.specs.Names.{task_name}
 use Rattle.normal_model.specs.NormalTree.{mark_of, unless_left, first_decls, tasks_beside, task_under, declared_under, task_declared, bodies_of, main_unit, main_variables, normal_tree}

@@ -9,8 +9,8 @@ use Rattle.std.proofs.lemmas.Slice.Eq.{bytes_eq-Decides}
 use Rattle.ada_tree.specs.declared.naming.NameId.{NameId}
 use Rattle.ada_tree.specs.NameList.{interned}
 use Rattle.ada_tree.specs.PlainProgram.{PProgram}
-use Rattle.syn_event.specs.Units.{text_of}
-use Rattle.syn_event.specs.Numbered.{is_added_name}
+use Rattle.syn_event.specs.DeclaredTasks.{text_of}
+use Rattle.syn_event.specs.AddedNames.{is_added_name}
 use Rattle.normal_model.specs.Names.{id_of}
 use Rattle.normal_model.proofs.VariablesLemmas.{Begins}
 use Rattle.rewritten_values.proofs.Saying.{place-within}

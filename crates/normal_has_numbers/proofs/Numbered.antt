@@ -8,10 +8,10 @@ use Rattle.ada_tree.specs.Every.{EveryEntry}
 use Rattle.ada_tree.specs.Refusals.{types_in}
 use Rattle.syn_event.specs.declared.numbering.EntryInfo.{EntryInfo}
 use Rattle.syn_event.specs.Numbering.{Numbering}
-use Rattle.syn_event.specs.Numbered.{is_added_name, task_info, with_origins}
+use Rattle.syn_event.specs.AddedNames.{is_added_name, task_info, with_origins}
 use Rattle.syn_event.specs.NamedTasks.{NumberedTask, numbered_tasks}
-use Rattle.syn_event.specs.AllNumbers.{first_of, last_of, entry_of_task, entries_of_tasks, all_numbers}
-use Rattle.syn_event.specs.Units.{decl_list, tasks_of}
+use Rattle.syn_event.specs.AllNumbers.{first_of, last_index, entry_of_task, entries_of_tasks, all_numbers}
+use Rattle.syn_event.specs.DeclaredTasks.{decl_list, tasks_of}
 use Rattle.normal_model.specs.NormalTree.{normal_tree}
 use Rattle.normal_model.proofs.VariablesLemmas.{Begins}
 use Rattle.rewritten_types.specs.Agreement.{Agrees}
@@ -115,7 +115,7 @@ module _ (p : PProgram) (ordered : IsOrdered p) (own : AreOwn p p.decls) (ded : 
         owner = t;
         family = is_some e.family;
         first = first_of (family-kept (own_name p) T U agrees e.family h.0.2 i);
-        last = last_of (family-kept (own_name p) T U agrees e.family h.0.2 i);
+        last = last_index (family-kept (own_name p) T U agrees e.family h.0.2 i);
         added = same i || added-longer p.names normal.names e.name.name begins (own-within p e.name.name.0 h.0.1) i;
         stands_for = None;
       }

@@ -3,7 +3,7 @@ use Rattle.std.proofs.Common.{◌≡◌, ℕ, ◌+◌, ◌<◌, Bool, not, ◌&&
 use Rattle.std.specs.List.{AllByRecursion, prefix_len}
 use Rattle.std.specs.Cmp.Lexicographic.{pointwise}
 use Rattle.syn_event.specs.declared.numbering.EntryInfo.{EntryInfo}
-use Rattle.syn_event.specs.Numbered.{speaks_of, original_number, with_origin, with_origins}
+use Rattle.syn_event.specs.AddedNames.{speaks_of, original_number, with_origin, with_origins}
 use Rattle.normal_model.proofs.VariablesLemmas.{Begins}
 use Rattle.normal_has_numbers.proofs.Named.{text-longer}
 

@@ -16,13 +16,13 @@ use Rattle.ada_tree.specs.Every.{EveryDrange, EveryEntry, EveryTask, EveryDecl, 
 use Rattle.ada_tree.specs.Refusals.{types_in}
 use Rattle.syn_event.specs.declared.numbering.TaskInfo.{TaskInfo}
 use Rattle.syn_event.specs.Numbering.{Numbering}
-use Rattle.syn_event.specs.Numbered.{is_added_name}
+use Rattle.syn_event.specs.AddedNames.{is_added_name}
 use Rattle.syn_event.specs.Extents.{extent}
 use Rattle.syn_event.specs.NamedTasks.{NamedTasks, type_named, task_names_of_type, object_task_names, with_type, single_task_name, task_names_in, task_names_of, NumberedTask, numbered_task, indices, tasks_of_range, tasks_of_name, numbered_tasks}
 use Rattle.syn_event.specs.AllNumbers.{family_extent, info_of_task, all_numbers}
-use Rattle.syn_event.specs.Units.{text_of, decl_list, tasks_in}
+use Rattle.syn_event.specs.DeclaredTasks.{text_of, decl_list, tasks_in}
 use Rattle.task_model.specs.Setting.{Setting}
-use Rattle.normal_model.specs.Names.{member_text, texts_of_member, member_texts, with_members, id_of, member_name}
+use Rattle.normal_model.specs.Names.{name_of_member, texts_of_member, member_texts, with_members, id_of, member_name}
 use Rattle.normal_model.specs.NormalTree.{variables_needed, normal_tree}
 use Rattle.normal_model.proofs.VariablesLemmas.{Begins}
 use Rattle.rewritten_types.specs.Agreement.{Agrees}
@@ -51,7 +51,7 @@ not-three true true false h = refl
 not-three true true true h = absurd (h refl refl refl)
 
 -- the text of a member's name begins with DED_ only where the array is DED or does so itself
-member-not : (a : List ℕ) (i : ℤ) → starts_with nat_eq a (codes "DED_") ≡ false → (a ≡ codes "DED" → ⊥) → starts_with nat_eq (member_text a i) (codes "DED_") ≡ false
+member-not : (a : List ℕ) (i : ℤ) → starts_with nat_eq a (codes "DED_") ≡ false → (a ≡ codes "DED" → ⊥) → starts_with nat_eq (name_of_member a i) (codes "DED_") ≡ false
 member-not [] i e n = refl
 member-not (x ∷ []) i e n = and_false (nat_eq 68 x)
 member-not (x ∷ y ∷ []) i e n = false_behind (nat_eq 68 x) _ (and_false (nat_eq 69 y))
@@ -176,12 +176,12 @@ module _ (p : PProgram) where
     pub within : id.0 < length normal.names
     pub added : is_added_name normal.names id ≡ is_added_name p.names name
 
-  member-has : (k : ℕ) (y : NumberedTask) (i : ℤ) → slice_get (numbered_tasks types p) k ≡ Some y → y.member ≡ Some i → Has (with_members form) (member_text (text_of p.names y.name) i)
+  member-has : (k : ℕ) (y : NumberedTask) (i : ℤ) → slice_get (numbered_tasks types p) k ≡ Some y → y.member ≡ Some i → Has (with_members form) (name_of_member (text_of p.names y.name) i)
   member-has k y i at member =
-      has-folded (member_texts p.names form.numbers.tasks) p.names (member_text (text_of p.names y.name) i)
-      (has-flat (λ (info : TaskInfo). texts_of_member (text_of p.names info.name) info.member) form.numbers.tasks (suc k) (info_of_task p.names y) (member_text (text_of p.names y.name) i)
+      has-folded (member_texts p.names form.numbers.tasks) p.names (name_of_member (text_of p.names y.name) i)
+      (has-flat (λ (info : TaskInfo). texts_of_member (text_of p.names info.name) info.member) form.numbers.tasks (suc k) (info_of_task p.names y) (name_of_member (text_of p.names y.name) i)
       (slice_get-map (info_of_task p.names) (numbered_tasks types p) k ∙ ap (option_map (info_of_task p.names)) at)
-      (subst (λ o. Has (texts_of_member (text_of p.names y.name) o) (member_text (text_of p.names y.name) i)) (sym member) (has-mapped (λ (t : List ℕ). t) (member_text (text_of p.names y.name) i ∷ []) 0 (member_text (text_of p.names y.name) i) refl)))
+      (subst (λ o. Has (texts_of_member (text_of p.names y.name) o) (name_of_member (text_of p.names y.name) i)) (sym member) (has-mapped (λ (t : List ℕ). t) (name_of_member (text_of p.names y.name) i ∷ []) 0 (name_of_member (text_of p.names y.name) i) refl)))
 
   named : (k : ℕ) (y : NumberedTask) → slice_get (numbered_tasks types p) k ≡ Some y → IsFine p y → IsNamed (under form y).name.name y.name
   named k y at fine = by_member y.member refl
@@ -196,13 +196,13 @@ module _ (p : PProgram) where
       }
       by_member (Some i) e =
           let has = member-has k y i at e in
-          let id = id_of (with_members form) (member_text text i) in
-          let within = id-within (with_members form) (member_text text i) has in
+          let id = id_of (with_members form) (name_of_member text i) in
+          let within = id-within (with_members form) (name_of_member text i) has in
           record {
             within = begins-within (with_members form) normal.names id.0 members-begin within;
             added =
                 added-longer (with_members form) normal.names id members-begin within
-                ∙ ap (λ t. starts_with nat_eq t (codes "DED_")) (text-there (with_members form) (member_text text i) has)
+                ∙ ap (λ t. starts_with nat_eq t (codes "DED_")) (text-there (with_members form) (name_of_member text i) has)
                 ∙ member-not text i (own-not-added p y.name fine.0) (fine.1 (ap is_some e))
                 ∙ sym (own-not-added p y.name fine.0);
           }

@@ -9,7 +9,7 @@ use Rattle.ada_tree.specs.PlainProgram.{PProgram}
 use Rattle.ada_tree.specs.Declaring.{first_scope}
 use Rattle.syn_event.specs.NamedTasks.{task_names_of, NumberedTask, numbered_tasks}
 use Rattle.syn_event.specs.AllNumbers.{info_of_task, all_numbers}
-use Rattle.syn_event.specs.Units.{tasks_of}
+use Rattle.syn_event.specs.DeclaredTasks.{tasks_of}
 use Rattle.task_model.specs.Setting.{Setting}
 use Rattle.normal_model.specs.Names.{task_name}
 use Rattle.normal_model.specs.NormalTree.{task_under, normal_tree}

@@ -6,7 +6,7 @@ use Rattle.ada_tree.specs.PlainProgram.{PProgram}
 use Rattle.ada_tree.specs.Refusals.{types_in}
 use Rattle.syn_event.specs.NamedTasks.{NamedTasks, task_names_of}
 use Rattle.syn_event.specs.AllNumbers.{all_numbers}
-use Rattle.syn_event.specs.Units.{text_of}
+use Rattle.syn_event.specs.DeclaredTasks.{text_of}
 use Rattle.normal_model.specs.NormalTree.{normal_tree}
 use Rattle.normal_types.specs.Laws.{IsOrdered, AreOwn}
 use Rattle.normal_units.specs.Laws.{numbers_made}

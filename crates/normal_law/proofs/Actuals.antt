@@ -10,7 +10,7 @@ use Rattle.ada_value.specs.declared.values.Value.{Value}
 use Rattle.ada_value.specs.declared.values.Raised.{Raised}
 use Rattle.ada_value.specs.declared.values.Raised.TheVariants as raised
 use Rattle.ada_value.specs.declared.values.Limits.{Limits}
-use Rattle.ada_value.specs.Values.{and_then, checked, lies_in, position_of, lower}
+use Rattle.ada_value.specs.Values.{and_then, checked, lies_in, position_of, lower_bound}
 use Rattle.ada_value.specs.Variables.{Variables}
 use Rattle.ada_value.specs.Evaluating.{evaluated, name_value}
 use Rattle.task_model.specs.declared.parameters.FormalParameter.{FormalParameter}
@@ -18,7 +18,7 @@ use Rattle.task_model.specs.Setting.{Setting}
 use Rattle.task_model.specs.Frames.{in_front}
 use Rattle.task_model.specs.Calls.{opening, openings}
 use Rattle.normal_model.specs.Names.{variable_name}
-use Rattle.normal_model.specs.Making.{Kept, kept_before, assigned, variable}
+use Rattle.normal_model.specs.Making.{Kept, kept_before, assignment, variable}
 use Rattle.normal_model.specs.Calls.{Slot, actual_before, actuals_before, actuals_passed}
 use Rattle.translation_law.specs.Translations.{Programs, types_before, types_after}
 use Rattle.translation_law.specs.Scopes.{AgreeOnTypes}
@@ -29,7 +29,7 @@ use Rattle.normal_law.specs.inner.Actuals.{due_of, actual_dues, opening_value, o
 
 pub kept-due : (g : Setting) (s : Span) (xs : List Kept) (k : ℕ) → kept_before g s xs k ≡ due_before g s (map (λ x. Some x.value) xs) k
 kept-due g s [] k = refl
-kept-due g s (x ∷ xs) k = ap (stmt_then (assigned g s k x.value)) (kept-due g s xs (k + 1))
+kept-due g s (x ∷ xs) k = ap (stmt_then (assignment g s k x.value)) (kept-due g s xs (k + 1))
 
 pub actuals-due : (g : Setting) (s : Span) (xs : List Slot) (es : List PExpr) (k : ℕ) → actuals_before g s xs es k ≡ due_before g s (actual_dues xs es) k
 actuals-due g s [] es k = refl
@@ -48,7 +48,7 @@ due-append g s (None ∷ ds) es k =
     ap (λ m. in_front (due_before g s ds (k + 1)) (due_before g s es m)) e ∙ due-append g s ds es (k + 1)
 due-append g s (Some d ∷ ds) es k =
     let e : k + length (Some d ∷ ds) ≡ (k + 1) + length ds = omega arith in
-    ap (λ m. in_front (due_before g s (Some d ∷ ds) k) (due_before g s es m)) e ∙ ap (stmt_then (assigned g s k d)) (due-append g s ds es (k + 1))
+    ap (λ m. in_front (due_before g s (Some d ∷ ds) k) (due_before g s es m)) e ∙ ap (stmt_then (assignment g s k d)) (due-append g s ds es (k + 1))
 
 -- ---- what the formals open with
 
@@ -72,7 +72,7 @@ opening-is types V f Both e = some-opens types f.limits (and_then (evaluated typ
 
 lowers : (types : TypeTable) (V : Variables) (fs : List FormalParameter) → openings types V fs [] ≡ Ok (opening_values types fs [])
 lowers types V [] = refl
-lowers types V (f ∷ fs) = ap (λ r. and_then r (λ vs. Ok (lower types f.limits ∷ vs))) (lowers types V fs)
+lowers types V (f ∷ fs) = ap (λ r. and_then r (λ vs. Ok (lower_bound types f.limits ∷ vs))) (lowers types V fs)
 
 pub openings-are : (types : TypeTable) (V : Variables) (bounds : ℕ → Limits) {fs : List FormalParameter} {xs : List Slot} {k : ℕ} → AreSlots bounds fs xs k → (es : List PExpr) →
     openings types V fs es ≡ and_then (due_worth types V bounds (actual_dues xs es) k) (λ ws. Ok (opening_values types fs ws))
@@ -97,7 +97,7 @@ module _ (b : Programs) (types : AgreeOnTypes b) (g : Setting) (added : Added b 
   lowers-same : (fs : List FormalParameter) → opening_values (types_after b) fs [] ≡ opening_values (types_before b) fs []
   lowers-same [] = refl
   lowers-same (f ∷ fs) =
-      ap (λ v. v ∷ opening_values (types_after b) fs []) (sym (types.values f.limits.kind f.limits.first)) ∙ ap (λ vs. lower (types_before b) f.limits ∷ vs) (lowers-same fs)
+      ap (λ v. v ∷ opening_values (types_after b) fs []) (sym (types.values f.limits.kind f.limits.first)) ∙ ap (λ vs. lower_bound (types_before b) f.limits ∷ vs) (lowers-same fs)
 
   -- one opening value by its variable, and the others
   held-one : (f : FormalParameter) (fs : List FormalParameter) (m : ParMode) (e : PExpr) (s : Span) (k : ℕ) (W : Variables) (ds : List (Option PExpr)) (es : List PExpr) (ws : List (Option Value)) →
@@ -115,7 +115,7 @@ module _ (b : Programs) (types : AgreeOnTypes b) (g : Setting) (added : Added b 
       ∙ ap (λ r. and_then r (λ us. Ok (v ∷ us))) (rest vs h)
   held-one f fs Give e s k W ds es ws limits (hold_passed k1 ds1 vs h) rest =
       ap (λ a. and_then (openings (types_after b) W fs es) (λ us. Ok (a ∷ us))) (sym (types.values f.limits.kind f.limits.first))
-      ∙ ap (λ r. and_then r (λ us. Ok (lower (types_before b) f.limits ∷ us))) (rest vs h)
+      ∙ ap (λ r. and_then r (λ us. Ok (lower_bound (types_before b) f.limits ∷ us))) (rest vs h)
 
   -- the formals open by the variables as they open by the actuals
   pub held-openings : {fs : List FormalParameter} {xs : List Slot} {k : ℕ} → AreSlots added.bounds fs xs k → (es : List PExpr) (s : Span) (W : Variables) (ws : List (Option Value)) →

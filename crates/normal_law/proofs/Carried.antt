@@ -5,7 +5,7 @@ use Rattle.translation_law.specs.Controls.{on_floor, are_inside}
 use Rattle.translation_law.proofs.Locals.{step-alike, raises-alike}
 use Rattle.normal_model.specs.NormalStmts.{normal_rewriter}
 use Rattle.normal_model.proofs.VariablesLemmas.{handlers-begin, normal-adds}
-use Rattle.normal_law.specs.Suited.{unit_of}
+use Rattle.normal_law.specs.Suited.{rewritten_unit}
 use Rattle.normal_law.specs.NormalLists.{normal_lists}
 use Rattle.normal_law.specs.NormalFloors.{own_body, normal}
 use Rattle.normal_law.specs.Laws.{NormalTranslates, NormalSteps, NormalStarts, NormalRaises, NormalOpens, NormalEnds, NormalEnters, NormalPreludes}
@@ -22,7 +22,7 @@ normal_steps w added types σ κ both at = step-alike (normal (normal_lists w) a
 
 pub normal_starts : NormalStarts
 normal_starts w added its V V' n input (old_body l hs h k) begins ext there =
-    are_inside n input [] l _ (walked w h [] (part-begins w (handlers-begin (normal_rewriter (unit_of w)) (normal-adds (unit_of w)) hs _) begins)) (on_floor (zero, own_body hs _ None V V' (walked-handlers w k _ begins) ext there))
+    are_inside n input [] l _ (walked w h [] (part-begins w (handlers-begin (normal_rewriter (rewritten_unit w)) (normal-adds (rewritten_unit w)) hs _) begins)) (on_floor (zero, own_body hs _ None V V' (walked-handlers w k _ begins) ext there))
 
 pub normal_raises : NormalRaises
 normal_raises w added types σ κ both e = raises-alike (normal (normal_lists w) added) (normal_translates w added types) σ κ both e

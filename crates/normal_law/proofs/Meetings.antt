@@ -6,7 +6,7 @@ use Rattle.ada_tree.specs.PlainStmt.{PFormal, PHead, PStmt, PStmts, stmt_then}
 use Rattle.ada_value.specs.declared.values.Value.{Value}
 use Rattle.ada_value.specs.declared.values.Raised.{Raised}
 use Rattle.ada_value.specs.declared.values.Limits.{Limits}
-use Rattle.ada_value.specs.Values.{lower, limits_named}
+use Rattle.ada_value.specs.Values.{lower_bound, limits_named}
 use Rattle.ada_value.specs.Variables.{Object, Variables}
 use Rattle.task_model.specs.declared.parameters.FormalParameter.{FormalParameter}
 use Rattle.task_model.specs.Setting.{parameters_in, parameters_of}
@@ -67,14 +67,14 @@ module _ (x : Rewriting) (images : AreImages x) (types : AgreeOnTypes x.programs
   opened-known : {fs : List FormalParameter} → AreNamed x.programs fs → {vs : List Value} → AreValues x.programs vs → AreOpen x.programs fs (opened_objects (types_before x.programs) fs vs)
   opened-known none_named h = none_open
   opened-known (named_then f fs old free k) no_value =
-      open_then f _ fs _ old (single-known x.programs types f.name f.limits None (lower (types_before x.programs) f.limits) free (types.values_known f.limits.kind f.limits.first)) (opened-known k no_value)
+      open_then f _ fs _ old (single-known x.programs types f.name f.limits None (lower_bound (types_before x.programs) f.limits) free (types.values_known f.limits.kind f.limits.first)) (opened-known k no_value)
   opened-known (named_then f fs old free k) (value_then v vs known h) = open_then f _ fs _ old (single-known x.programs types f.name f.limits None v free known) (opened-known k h)
 
   opened-same : (fs : List FormalParameter) (vs : List Value) → opened_objects (types_before x.programs) fs vs ≡ opened_objects (types_after x.programs) fs vs
   opened-same [] vs = refl
   opened-same (f ∷ fs) [] =
       ap (λ v. opened_object f v ∷ opened_objects (types_before x.programs) fs []) (types.values f.limits.kind f.limits.first)
-      ∙ ap (λ os. opened_object f (lower (types_after x.programs) f.limits) ∷ os) (opened-same fs [])
+      ∙ ap (λ os. opened_object f (lower_bound (types_after x.programs) f.limits) ∷ os) (opened-same fs [])
   opened-same (f ∷ fs) (v ∷ vs) = ap (λ os. opened_object f v ∷ os) (opened-same fs vs)
 
   -- ---- an accept body opens

@@ -17,7 +17,7 @@ use Rattle.task_model.specs.Frames.{Around, PFrame, control, in_front, settled}
 use Rattle.task_model.specs.Tasks.{Task, with_vars, gone_to, raised_there, or_raised}
 use Rattle.task_model.specs.Stands.{can_step, stepped}
 use Rattle.normal_model.specs.Names.{variable_name}
-use Rattle.normal_model.specs.Making.{assigned}
+use Rattle.normal_model.specs.Making.{assignment}
 use Rattle.translation_law.specs.Translations.{Translation, types_before, types_after}
 use Rattle.translation_law.specs.Images.{IsSomething, something_there}
 use Rattle.translation_law.specs.Controls.{task_in, Under}
@@ -48,11 +48,11 @@ module _ (x : Translation) (laws : IsTranslation x) (g : Setting) (added : Added
 
   assign-is : (n : ℕ) (i : List ℤ) (w : List ℕ) (s : Span) (k : ℕ) (e : PExpr) (q : PStmts) (p : Around) (o : List PFrame) (W : Variables) (u : Value) → IsCell W (variable_name g k) (added.bounds k) u →
       (r : Result Value Raised) → evaluated (types_after x.text.programs) W e ≡ r →
-      stepped (at n i w (stmt_then (assigned g s k e) q) p o W) ≡ outcome q (at n i w (stmt_then (assigned g s k e) q) p o W) W (variable_name g k) (added.bounds k) r
+      stepped (at n i w (stmt_then (assignment g s k e) q) p o W) ≡ outcome q (at n i w (stmt_then (assignment g s k e) q) p o W) W (variable_name g k) (added.bounds k) r
   assign-is n i w s k e q p o W u c r f =
-      ap (λ ob. or_raised (λ vars. gone_to q (with_vars (at n i w (stmt_then (assigned g s k e) q) p o W) vars)) (at n i w (stmt_then (assigned g s k e) q) p o W)
+      ap (λ ob. or_raised (λ vars. gone_to q (with_vars (at n i w (stmt_then (assignment g s k e) q) p o W) vars)) (at n i w (stmt_then (assignment g s k e) q) p o W)
       (and_then (evaluated (types_after x.text.programs) W e) (λ v. and_then (checked_for ob v) (λ y. Ok (set_value W (variable_name g k) 0 y))))) c.found
-      ∙ ap (λ b. outcome q (at n i w (stmt_then (assigned g s k e) q) p o W) W (variable_name g k) (added.bounds k) b) f
+      ∙ ap (λ b. outcome q (at n i w (stmt_then (assignment g s k e) q) p o W) W (variable_name g k) (added.bounds k) b) f
 
   -- the row behind an assignment is there
   row-due : (s : Span) (ds : List (Option PExpr)) (k : ℕ) (t : PStmt) (r : PStmts) → IsSomething (in_front (due_before g s ds k) (stmt_then t r))

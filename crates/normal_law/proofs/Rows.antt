@@ -19,7 +19,7 @@ use Rattle.normal_model.proofs.WalkLemmas.{in_front-joined}
 use Rattle.normal_model.proofs.VariablesLemmas.{Begins, OnlyAdds, stmts-begin, maybe-begins, arms-begin, case_arms-begin, handlers-begin, normal-adds}
 use Rattle.translation_law.specs.OldTexts.{OldStmt, old_null, old_assign, old_delay, old_exit, old_raise, old_abort, old_call, old_accept, old_wait, old_conditional, old_timed, old_put, old_put_line, old_new_line, old_get, old_if, old_case, old_block, old_loop, OldStmts, old_no_stmt, old_stmt, OldMaybe, old_absent, old_present, OldArms, old_no_arm, old_arm, OldCaseArms, old_no_case_arm, old_case_arm, OldHandlers, old_no_handler, old_handler}
 use Rattle.translation_law.specs.Images.{ImageMaybe, image_absent, image_present, ImageArms, image_no_arm, image_arm, ImageCaseArms, image_no_case_arm, image_case_arm, ImageHandlers, image_no_handler, image_handler, image_null, image_assign, image_delay, image_exit, image_raise, image_no_abort, image_put, image_put_line, image_new_line, image_get, image_if, image_case, image_block, image_loop, ImageList, image_list, IsLocal, local_null, local_assign, local_delay, local_exit, local_raise, local_no_abort, local_put, local_put_line, local_new_line, local_get, local_if, local_case, local_block, local_loop, IsEmpty, nothing_there, IsSomething, something_there, AreImages}
-use Rattle.normal_law.specs.Suited.{Rewritten, unit_of, asked_of}
+use Rattle.normal_law.specs.Suited.{Rewritten, rewritten_unit, asked_of}
 use Rattle.normal_law.specs.NormalLists.{Begin, behind_stmt, Normal, normal_none, normal_then, normal_lists}
 
 -- ---- something stands in the place of each statement
@@ -49,7 +49,7 @@ row-abort g s (c ∷ cs) n =
     (callees_aborted g s cs (n + length (callee_kept g s c)))
 
 module _ (w : Rewritten) where
-  row-there : {s : PStmt} → OldStmt (asked_of w) s → (vars : List PDecl) → IsSomething (image_of (normal_rewriter (unit_of w)) s vars)
+  row-there : {s : PStmt} → OldStmt (asked_of w) s → (vars : List PDecl) → IsSomething (image_of (normal_rewriter (rewritten_unit w)) s vars)
   row-there (old_null s) vars = something_there _ _
   row-there (old_assign t e s h k) vars = something_there _ _
   row-there (old_delay d s) vars = something_there _ _
@@ -76,33 +76,33 @@ module _ (w : Rewritten) where
   pub part-begins : {xs ys : List PDecl} → Begins xs ys → Begin ys w.vars → Begin xs w.vars
   part-begins {xs} h k = (h.more ++ k.0, k.1 ∙ ap (λ l. l ++ k.0) h.joined ∙ append_assoc xs h.more k.0)
 
-  abbrev adds : OnlyAdds (normal_rewriter (unit_of w))
-  adds = normal-adds (unit_of w)
+  abbrev adds : OnlyAdds (normal_rewriter (rewritten_unit w))
+  adds = normal-adds (rewritten_unit w)
 
-  pub walked : {l : PStmts} → OldStmts (asked_of w) l → (t : List PDecl) → Begin (after_stmts (normal_rewriter (unit_of w)) l t) w.vars → Normal w l (rewritten (normal_rewriter (unit_of w)) l t)
+  pub walked : {l : PStmts} → OldStmts (asked_of w) l → (t : List PDecl) → Begin (after_stmts (normal_rewriter (rewritten_unit w)) l t) w.vars → Normal w l (rewritten (normal_rewriter (rewritten_unit w)) l t)
   walked old_no_stmt t b = normal_none
   walked (old_stmt s l h k) t b =
-      normal_then t s l (rewritten (normal_rewriter (unit_of w)) l (after_parts (normal_rewriter (unit_of w)) s ((normal_rewriter (unit_of w)).entered t s))) h
-      (part-begins (stmts-begin (normal_rewriter (unit_of w)) adds l _) b) (walked k _ b)
+      normal_then t s l (rewritten (normal_rewriter (rewritten_unit w)) l (after_parts (normal_rewriter (rewritten_unit w)) s ((normal_rewriter (rewritten_unit w)).entered t s))) h
+      (part-begins (stmts-begin (normal_rewriter (rewritten_unit w)) adds l _) b) (walked k _ b)
 
-  pub walked-maybe : {o : PMaybe} → OldMaybe (asked_of w) o → (t : List PDecl) → Begin (after_maybe (normal_rewriter (unit_of w)) o t) w.vars → ImageMaybe (normal_lists w) o (inside_maybe (normal_rewriter (unit_of w)) o t)
+  pub walked-maybe : {o : PMaybe} → OldMaybe (asked_of w) o → (t : List PDecl) → Begin (after_maybe (normal_rewriter (rewritten_unit w)) o t) w.vars → ImageMaybe (normal_lists w) o (inside_maybe (normal_rewriter (rewritten_unit w)) o t)
   walked-maybe old_absent t b = image_absent
   walked-maybe (old_present l h) t b = image_present l _ (walked h t b)
 
-  walked-arms : {a : PArms} → OldArms (asked_of w) a → (t : List PDecl) → Begin (after_arms (normal_rewriter (unit_of w)) a t) w.vars → ImageArms (normal_lists w) a (inside_arms (normal_rewriter (unit_of w)) a t)
+  walked-arms : {a : PArms} → OldArms (asked_of w) a → (t : List PDecl) → Begin (after_arms (normal_rewriter (rewritten_unit w)) a t) w.vars → ImageArms (normal_lists w) a (inside_arms (normal_rewriter (rewritten_unit w)) a t)
   walked-arms old_no_arm t b = image_no_arm
   walked-arms (old_arm e l rest h k j) t b =
-      image_arm e l _ rest _ h (walked k t (part-begins (arms-begin (normal_rewriter (unit_of w)) adds rest _) b)) (walked-arms j _ b)
+      image_arm e l _ rest _ h (walked k t (part-begins (arms-begin (normal_rewriter (rewritten_unit w)) adds rest _) b)) (walked-arms j _ b)
 
-  walked-case_arms : {a : PCaseArms} → OldCaseArms (asked_of w) a → (t : List PDecl) → Begin (after_case_arms (normal_rewriter (unit_of w)) a t) w.vars → ImageCaseArms (normal_lists w) a (inside_case_arms (normal_rewriter (unit_of w)) a t)
+  walked-case_arms : {a : PCaseArms} → OldCaseArms (asked_of w) a → (t : List PDecl) → Begin (after_case_arms (normal_rewriter (rewritten_unit w)) a t) w.vars → ImageCaseArms (normal_lists w) a (inside_case_arms (normal_rewriter (rewritten_unit w)) a t)
   walked-case_arms old_no_case_arm t b = image_no_case_arm
   walked-case_arms (old_case_arm cs l rest h k j) t b =
-      image_case_arm cs l _ rest _ h (walked k t (part-begins (case_arms-begin (normal_rewriter (unit_of w)) adds rest _) b)) (walked-case_arms j _ b)
+      image_case_arm cs l _ rest _ h (walked k t (part-begins (case_arms-begin (normal_rewriter (rewritten_unit w)) adds rest _) b)) (walked-case_arms j _ b)
 
-  pub walked-handlers : {hs : PHandlers} → OldHandlers (asked_of w) hs → (t : List PDecl) → Begin (after_handlers (normal_rewriter (unit_of w)) hs t) w.vars → ImageHandlers (normal_lists w) hs (inside_handlers (normal_rewriter (unit_of w)) hs t)
+  pub walked-handlers : {hs : PHandlers} → OldHandlers (asked_of w) hs → (t : List PDecl) → Begin (after_handlers (normal_rewriter (rewritten_unit w)) hs t) w.vars → ImageHandlers (normal_lists w) hs (inside_handlers (normal_rewriter (rewritten_unit w)) hs t)
   walked-handlers old_no_handler t b = image_no_handler
   walked-handlers (old_handler ws l s rest h k) t b =
-      image_handler ws l _ s s rest _ (walked h t (part-begins (handlers-begin (normal_rewriter (unit_of w)) adds rest _) b)) (walked-handlers k _ b)
+      image_handler ws l _ s s rest _ (walked h t (part-begins (handlers-begin (normal_rewriter (rewritten_unit w)) adds rest _) b)) (walked-handlers k _ b)
 
   -- ---- the laws of images
 
@@ -113,7 +113,7 @@ module _ (w : Rewritten) where
   image-something (normal_then vars s l r' h b k) = row-before (row-there h vars) r'
 
   -- a statement that does not synchronize, in front of an image
-  local-row : {s : PStmt} → IsLocal s → OldStmt (asked_of w) s → (vars : List PDecl) → Begin (behind_stmt w s vars) w.vars → {r r' : PStmts} → Normal w r r' → ImageList (normal_lists w) s r (in_front (image_of (normal_rewriter (unit_of w)) s vars) r')
+  local-row : {s : PStmt} → IsLocal s → OldStmt (asked_of w) s → (vars : List PDecl) → Begin (behind_stmt w s vars) w.vars → {r r' : PStmts} → Normal w r r' → ImageList (normal_lists w) s r (in_front (image_of (normal_rewriter (rewritten_unit w)) s vars) r')
   local-row (local_null s) old vars b {r} {r'} k = image_list _ _ r r' (image_null s) k
   local-row (local_assign t e s) (old_assign t1 e1 s1 h j) vars b {r} {r'} k = image_list _ _ r r' (image_assign t e s h j) k
   local-row (local_delay d s) old vars b {r} {r'} k = image_list _ _ r r' (image_delay d s) k
@@ -124,9 +124,9 @@ module _ (w : Rewritten) where
   local-row (local_put_line ps s) (old_put_line ps1 s1 h) vars b {r} {r'} k = image_list _ _ r r' (image_put_line ps s h) k
   local-row (local_new_line s) old vars b {r} {r'} k = image_list _ _ r r' (image_new_line s) k
   local-row (local_get t s) (old_get t1 s1 h) vars b {r} {r'} k = image_list _ _ r r' (image_get t s h) k
-  local-row (local_if arms o s) (old_if arms1 o1 s1 h j) vars b {r} {r'} k = image_list _ _ r r' (image_if arms _ o _ s (walked-arms h vars (part-begins (maybe-begins (normal_rewriter (unit_of w)) adds o _) b)) (walked-maybe j (after_arms (normal_rewriter (unit_of w)) arms vars) b)) k
-  local-row (local_case e arms o s) (old_case e1 arms1 o1 s1 i h j) vars b {r} {r'} k = image_list _ _ r r' (image_case e arms _ o _ s i (walked-case_arms h vars (part-begins (maybe-begins (normal_rewriter (unit_of w)) adds o _) b)) (walked-maybe j (after_case_arms (normal_rewriter (unit_of w)) arms vars) b)) k
-  local-row (local_block its s) (old_block l hs s1 h j) vars b {r} {r'} k = image_list _ _ r r' (image_block l _ hs _ s (walked h vars (part-begins (handlers-begin (normal_rewriter (unit_of w)) adds hs _) b)) (walked-handlers j (after_stmts (normal_rewriter (unit_of w)) l vars) b)) k
+  local-row (local_if arms o s) (old_if arms1 o1 s1 h j) vars b {r} {r'} k = image_list _ _ r r' (image_if arms _ o _ s (walked-arms h vars (part-begins (maybe-begins (normal_rewriter (rewritten_unit w)) adds o _) b)) (walked-maybe j (after_arms (normal_rewriter (rewritten_unit w)) arms vars) b)) k
+  local-row (local_case e arms o s) (old_case e1 arms1 o1 s1 i h j) vars b {r} {r'} k = image_list _ _ r r' (image_case e arms _ o _ s i (walked-case_arms h vars (part-begins (maybe-begins (normal_rewriter (rewritten_unit w)) adds o _) b)) (walked-maybe j (after_case_arms (normal_rewriter (rewritten_unit w)) arms vars) b)) k
+  local-row (local_block its s) (old_block l hs s1 h j) vars b {r} {r'} k = image_list _ _ r r' (image_block l _ hs _ s (walked h vars (part-begins (handlers-begin (normal_rewriter (rewritten_unit w)) adds hs _) b)) (walked-handlers j (after_stmts (normal_rewriter (rewritten_unit w)) l vars) b)) k
   local-row (local_loop w1 c l s) (old_loop w2 c1 l1 s1 h j) vars b {r} {r'} k = image_list _ _ r r' (image_loop w1 c l _ s h (walked j vars b)) k
 
   image-local : {s : PStmt} {l r : PStmts} → IsLocal s → Normal w (stmt_then s l) r → ImageList (normal_lists w) s l r
@@ -135,7 +135,7 @@ module _ (w : Rewritten) where
   image-joined : {c c' d d' : PStmts} → Normal w c c' → Normal w d d' → Normal w (in_front c d) (in_front c' d')
   image-joined normal_none k = k
   image-joined {d = d} {d' = d'} (normal_then vars s r r' h b j) k =
-      subst (Normal w (stmt_then s (in_front r d))) (sym (in_front-joined (image_of (normal_rewriter (unit_of w)) s vars) r' d')) (normal_then vars s (in_front r d) (in_front r' d') h b (image-joined j k))
+      subst (Normal w (stmt_then s (in_front r d))) (sym (in_front-joined (image_of (normal_rewriter (rewritten_unit w)) s vars) r' d')) (normal_then vars s (in_front r d) (in_front r' d') h b (image-joined j k))
 
   pub normal-images : AreImages (normal_lists w)
   normal-images = record {

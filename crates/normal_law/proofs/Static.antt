@@ -9,7 +9,7 @@ use Rattle.ada_tree.specs.PlainStmt.{PCallee}
 use Rattle.syn_event.specs.Numbering.{entry_at}
 use Rattle.ada_value.specs.Values.{and_then, position_of}
 use Rattle.ada_value.specs.Variables.{Variables}
-use Rattle.task_model.specs.Setting.{member_named, task_meant, task_of, entry_of, is_family, is_family_in, family_limits, index_in, member_index}
+use Rattle.task_model.specs.Setting.{member_named, task_meant, callee_task, entry_of, is_family, is_family_in, family_limits, index_in, member_index}
 use Rattle.normal_model.specs.Making.{moving}
 use Rattle.translation_law.specs.Translations.{Programs, types_before}
 use Rattle.translation_law.specs.OldNames.{OldExpr, old_integer, old_name, old_index, old_attribute, old_attribute_of, old_paren, old_unary, old_binary, OldOption, old_none, old_some}
@@ -57,7 +57,7 @@ module _ (b : Programs) (made : AreMade b) where
 
   -- a callee whose index stays
   pub callee-stays : {V W : Variables} → SeeAlike b V W → (callee : PCallee) → OldOption b callee.index → moving (types_before b) callee.index ≡ None →
-      task_of b.original V callee ≡ task_of b.original [] callee
+      callee_task b.original V callee ≡ callee_task b.original [] callee
   callee-stays see callee old h = meant-same callee.name.name see old h
 
   -- an accept's index that stays

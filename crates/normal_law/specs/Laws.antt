@@ -16,7 +16,7 @@ use Rattle.translation_law.specs.OldTexts.{OldFormals, OldBody}
 use Rattle.translation_law.specs.Scopes.{AgreeOnTypes}
 use Rattle.translation_law.specs.Controls.{task_in, Under, Alike, IsAtLocal, AreInside, AreAround, StepAlike}
 use Rattle.translation_law.specs.Floors.{IsTranslation}
-use Rattle.normal_law.specs.Suited.{Rewritten, unit_of, asked_of}
+use Rattle.normal_law.specs.Suited.{Rewritten, rewritten_unit, asked_of}
 use Rattle.normal_law.specs.NormalLists.{Begin, Normal, normal_lists}
 use Rattle.normal_law.specs.Meetings.{AreValues, IsOpened, EndAlike, AreBefore}
 use Rattle.normal_law.specs.NormalFloors.{Extends, normal}
@@ -33,10 +33,10 @@ NormalSteps = (w : Rewritten) (added : Added w.programs w.programs.original) →
 
 -- At the start of a unit's body in which old names alone stand, and with the unit's objects beside the added variables, the two are alike.
 abbrev pub NormalStarts : Type 0
-NormalStarts = (w : Rewritten) (added : Added w.programs w.programs.original) (its : PBody) (V V' : Variables) (n : ℕ) (input : List ℤ) → OldBody (asked_of w) its → Begin (unit_variables (unit_of w) its) w.vars → Extends w.programs V V' → AreThere added V' →
+NormalStarts = (w : Rewritten) (added : Added w.programs w.programs.original) (its : PBody) (V V' : Variables) (n : ℕ) (input : List ℤ) → OldBody (asked_of w) its → Begin (unit_variables (rewritten_unit w) its) w.vars → Extends w.programs V V' → AreThere added V' →
     AreInside (normal (normal_lists w) added)
     (task_in w.programs.original n input [] (control (block_stmts its) (OwnBody (block_handlers its) None) [] V))
-    (task_in w.programs.made n input [] (control (block_stmts (normal_body (unit_of w) its)) (OwnBody (block_handlers (normal_body (unit_of w) its)) None) [] V'))
+    (task_in w.programs.made n input [] (control (block_stmts (normal_body (rewritten_unit w) its)) (OwnBody (block_handlers (normal_body (rewritten_unit w) its)) None) [] V'))
 
 -- An exception that is raised in both, as where a call fails, leaves them alike.
 abbrev pub NormalRaises : Type 0

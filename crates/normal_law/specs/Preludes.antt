@@ -16,7 +16,7 @@ use Rattle.task_model.specs.Frames.{Around, PFrame, control}
 use Rattle.task_model.specs.Tasks.{Task, raised_there}
 use Rattle.task_model.specs.Stands.{can_step, stepped}
 use Rattle.normal_model.specs.Names.{variable_name}
-use Rattle.normal_model.specs.Making.{assigned}
+use Rattle.normal_model.specs.Making.{assignment}
 use Rattle.translation_law.specs.Translations.{Programs, Translation, types_before}
 use Rattle.translation_law.specs.OldNames.{OldExpr}
 use Rattle.translation_law.specs.Controls.{task_in, Under}
@@ -56,7 +56,7 @@ AreThere {b} {g} added W = (k : ℕ) → k < added.count → (v : Value) × IsCe
 abbrev pub due_before : Setting → Span → List (Option PExpr) → ℕ → PStmts
 due_before g s [] k = no_stmt
 due_before g s (None ∷ ds) k = due_before g s ds (k + 1)
-due_before g s (Some e ∷ ds) k = stmt_then (assigned g s k e) (due_before g s ds (k + 1))
+due_before g s (Some e ∷ ds) k = stmt_then (assignment g s k e) (due_before g s ds (k + 1))
 
 -- a value in front of others
 abbrev pub worth_then : Result (Option Value) Raised → Result (List (Option Value)) Raised → Result (List (Option Value)) Raised

@@ -18,14 +18,14 @@ use Rattle.ada_value.specs.declared.values.Limits.{Limits}
 use Rattle.ada_value.specs.declared.values.Form.{Form}
 use Rattle.ada_value.specs.Values.{integer_limits, truth_limits, limits_named, lies_in, position_of}
 use Rattle.ada_value.specs.Evaluating.{evaluated}
-use Rattle.task_model.specs.Setting.{Setting, member_named, task_of, entry_of, is_family, family_limits, member_index, formals_of_info}
+use Rattle.task_model.specs.Setting.{Setting, member_named, callee_task, entry_of, is_family, family_limits, member_index, formals_of_info}
 use Rattle.task_model.specs.Starting.{form_of}
 use Rattle.normal_model.specs.Names.{task_name_at}
 use Rattle.normal_model.specs.Ranges.{marked, integer_subtype, truth_subtype, subtype_of_range, array_range, family_range}
 use Rattle.normal_model.specs.Making.{moving}
 use Rattle.normal_model.specs.Members.{index_literal, kind_of_index, members_of}
 use Rattle.normal_model.specs.Calls.{Slot, entry_called, slots_called}
-use Rattle.normal_model.specs.Waits.{Unit}
+use Rattle.normal_model.specs.RewrittenUnit.{RewrittenUnit}
 use Rattle.translation_law.specs.Translations.{Programs, types_before, types_after, IsOld}
 use Rattle.translation_law.specs.OldTexts.{Asked}
 use Rattle.translation_law.specs.Scopes.{AgreeOnTypes}
@@ -69,7 +69,7 @@ pub record AreMade (b : Programs) : Type 0 where
 
 -- a task that a callee can come to: the one that is named, or the member at some index
 pub data IsMeant (b : Programs) (callee : PCallee) (t : ℕ) : Type 0 where
-  is_named : moving (types_before b) callee.index ≡ None → task_of b.original [] callee ≡ Ok t → IsMeant b callee t
+  is_named : moving (types_before b) callee.index ≡ None → callee_task b.original [] callee ≡ Ok t → IsMeant b callee t
   is_member : (e : PExpr) (z : ℤ) → moving (types_before b) callee.index ≡ Some e → member_named b.original.numbers callee.name.name z ≡ Ok t → IsMeant b callee t
 
 -- the literal of a member's index is worth that index
@@ -84,7 +84,7 @@ HasLiteral b k s info = (i : ℤ) → info.member ≡ Some i → IsLiteral b k s
 
 -- A callee without index or with a static one names a task; one that is chosen has a variable of its array's range. Each task that it can come to is found by its own name in the program that is made.
 pub record IsCallee (b : Programs) (callee : PCallee) : Type 0 where
-  pub known : moving (types_before b) callee.index ≡ None → (t : ℕ) × (task_of b.original [] callee ≡ Ok t)
+  pub known : moving (types_before b) callee.index ≡ None → (t : ℕ) × (callee_task b.original [] callee ≡ Ok t)
   pub named : (t : ℕ) → IsMeant b callee t → task_named b.made.numbers (task_name_at b.original t) ≡ Some t
   pub range : (e : PExpr) → moving (types_before b) callee.index ≡ Some e → (s : Span) (z : ℤ) →
       lies_in (declared_limits (types_after b) (subtype_of_range (types_before b) s (array_range b.original.program callee.name.name))) z
@@ -144,12 +144,12 @@ pub record Rewritten : Type 0 where
   pub vars : List PDecl
 
 -- the unit of a task of the original
-abbrev pub unit_in : Programs → ℕ → Unit
+abbrev pub unit_in : Programs → ℕ → RewrittenUnit
 unit_in b t = record { setting = b.original; task = t }
 
 -- the unit as the rewriter has it
-abbrev pub unit_of : Rewritten → Unit
-unit_of w = unit_in w.programs w.first
+abbrev pub rewritten_unit : Rewritten → RewrittenUnit
+rewritten_unit w = unit_in w.programs w.first
 
 -- what is asked of the calls, callees and accepts in it
 abbrev pub asked_of : Rewritten → Asked

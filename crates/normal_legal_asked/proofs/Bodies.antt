@@ -14,7 +14,7 @@ use Rattle.ada_tree.specs.Every.{EveryDecls, EveryProgram}
 use Rattle.ada_tree.specs.WellPlaced.{well_placed, IsWellPlaced}
 use Rattle.ada_tree.specs.Demand.{Site}
 use Rattle.ada_tree.specs.Scope.{Scope, EntryPart, meaning}
-use Rattle.ada_tree.specs.Declaring.{before_all, first_scope, inside, own_entries, in_body, after_objects, after_decl, after_decls}
+use Rattle.ada_tree.specs.Declaring.{before_all, first_scope, inner_scope, own_entries, in_body, after_objects, after_decl, after_decls}
 use Rattle.ada_tree.specs.Sites.{names_sites, own_sites, decl_sites, decls_sites, body_sites, sites}
 use Rattle.syn_event.specs.declared.numbering.Mode.TheVariants.{Original}
 use Rattle.syn_event.specs.Legal.{Legal}
@@ -57,7 +57,7 @@ body_asks g own entries = both (place_asks (own_rules own)) (both (type_asks (Is
 abbrev pub BodiesAsked : Setting → (ℕ → Bool) → Scope → PDecls → Type 0
 BodiesAsked g own s no_decl = Prim.Unit {0}
 BodiesAsked g own s (decl_then (DTaskBody w objects its sp) rest) =
-    AskedBody (body_asks g own (own_entries (meaning s w.name))) (tt, (inside (after_objects (in_body s w) objects), tt)) 1 its × BodiesAsked g own (after_decl s (DTaskBody w objects its sp)) rest
+    AskedBody (body_asks g own (own_entries (meaning s w.name))) (tt, (inner_scope (after_objects (in_body s w) objects), tt)) 1 its × BodiesAsked g own (after_decl s (DTaskBody w objects its sp)) rest
 BodiesAsked g own s (decl_then d rest) = BodiesAsked g own (after_decl s d) rest
 
 module _ (p : PProgram) (types : TypeTable) (its_numbers : Numbering) (legal : Legal p types its_numbers Original) (placed : IsWellPlaced p) (names : AreNames p.names) (small : IsSmall (types_in p))
@@ -106,10 +106,10 @@ module _ (p : PProgram) (types : TypeTable) (its_numbers : Numbering) (legal : L
   }
 
   one-body : (w : Word) (objects : PDecls) (its : PBody) (sp : Span) (rest : PDecls) (kinds : List PTask) (s : Scope) (c : CheckScope) (bodies : List ℕ) → IsBefore kinds (decl_then (DTaskBody w objects its sp) rest) s c bodies →
-      AskedBody (body_asks g own (own_entries (meaning s w.name))) (tt, (inside (after_objects (in_body s w) objects), tt)) 1 its
+      AskedBody (body_asks g own (own_entries (meaning s w.name))) (tt, (inner_scope (after_objects (in_body s w) objects), tt)) 1 its
   one-body w objects its sp rest kinds s c bodies h =
       let d : PDecl = DTaskBody w objects its sp in
-      let scope : Scope = inside (after_objects (in_body s w) objects) in
+      let scope : Scope = inner_scope (after_objects (in_body s w) objects) in
       let around : CheckScope = check.after_own (check.in_body c w) objects in
       let known = all_front Known (decl_sites s d) (decls_sites (after_decl s d) rest) h.known in
       let places = all_front P (decl_sites s d) (decls_sites (after_decl s d) rest) h.places in
@@ -143,7 +143,7 @@ module _ (p : PProgram) (types : TypeTable) (its_numbers : Numbering) (legal : L
   premises = text p types its_numbers legal placed names small
 
   abbrev main_scope : Scope
-  main_scope = inside (after_decls (first_scope p.name) p.decls)
+  main_scope = inner_scope (after_decls (first_scope p.name) p.decls)
 
   both-known : (xs : List Site) → AllByRecursion IsMet xs → AllByRecursion (IsLocal T programs.is_fixed) xs → AllByRecursion Known xs
   both-known [] m l = tt

@@ -13,7 +13,7 @@ use Rattle.ada_tree.specs.PlainExpr.{PDrange}
 use Rattle.ada_tree.specs.PlainProgram.{PProgram}
 use Rattle.ada_tree.specs.Refusals.{MeetsTypeRules, types_in}
 use Rattle.ada_tree.specs.WellPlaced.{IsWellPlaced}
-use Rattle.ada_tree.specs.Declaring.{inside, first_scope, before_all, after_decls}
+use Rattle.ada_tree.specs.Declaring.{inner_scope, first_scope, before_all, after_decls}
 use Rattle.ada_tree.specs.RuleDuplicate.{is_among}
 use Rattle.ada_tree.specs.Demand.{Demand, declares, labels, Site}
 use Rattle.ada_tree.specs.Scope.{Scope}
@@ -119,7 +119,7 @@ module _ (p : PProgram) (rules : MeetsTypeRules p) where
 
   inner-at : (d : Demand) → IsApartLocal T d → IsLoose (fixed_names (namings_of (sites p))) d → IsInner g d
   inner-at (declares false w) h l =
-      let first = fixed-parts (main_names ++ decls) (body_sites (inside (after_decls (first_scope p.name) p.decls)) p.body) w.name.0 l in
+      let first = fixed-parts (main_names ++ decls) (body_sites (inner_scope (after_decls (first_scope p.name) p.decls)) p.body) w.name.0 l in
       let second = fixed-parts main_names decls w.name.0 first.0 in
       record { value = h.value; tasks = λ info i e. differs w.name.0 info i e second.1 }
   inner-at _ h l = tt

@@ -5,7 +5,7 @@ use Rattle.ada_tree.specs.declared.naming.Span.{Span}
 use Rattle.ada_tree.specs.declared.naming.Word.{Word}
 use Rattle.ada_tree.specs.PlainExpr.{PExpr}
 use Rattle.ada_tree.specs.PlainStmt.{PCallee, PCall, PChoice, PScheme, PHead, PStmt, SNull, SAssign, SDelay, SExit, SRaise, SAbort, SCall, SAccept, SWait, SConditional, STimed, SPut, SPutLine, SNewLine, SGet, SIf, SCase, SBlock, SLoop, PStmts, no_stmt, stmt_then, PMaybe, absent, present, PAccept, accepting, alternative, PAltKind, AAccept, ADelay, ATerminate, PAlts, no_alt, alt_then, PArms, no_arm, arm_then, arm, PCaseArms, no_case_arm, case_arm_then, case_arm, PBody, body, PHandlers, no_handler, handler_then, handler}
-use Rattle.ada_tree.specs.Sites.{choices_of, is_present, with_words}
+use Rattle.ada_tree.specs.Sites.{arm_choices, is_present, with_words}
 use Rattle.asked_stmts.specs.Asked.{Asks, AskedStmt, AskedStmts, AskedSome, AskedMaybe, AskedAccept, AskedAlts, AskedKind, AskedArms, AskedCaseArms, AskedBody, AskedHandlers}
 
 -- what is asked of one statement by b gives what a asks of it, where what stands around it is related by R
@@ -70,7 +70,7 @@ module _ {C D : Type 0} (b : Asks C) (a : Asks D) (R : C → D → Type 0) (S : 
       stmts c d (k + 1) o r h.6,
     )
     stmt c d k (SIf x o s) r h = (S.outer c d k s r h.0, S.many _ h.1, arms c d (k + 1) x r h.2, maybe c d (k + 1) o r h.3)
-    stmt c d k (SCase e x o s) r h = (S.outer c d k s r h.0, S.selector c d (k + 1) e (choices_of x) (is_present o) s r h.1, case_arms c d (k + 1) e x r h.2, maybe c d (k + 1) o r h.3)
+    stmt c d k (SCase e x o s) r h = (S.outer c d k s r h.0, S.selector c d (k + 1) e (arm_choices x) (is_present o) s r h.1, case_arms c d (k + 1) e x r h.2, maybe c d (k + 1) o r h.3)
     stmt c d k (SBlock x s) r h = (S.outer c d k s r h.0, body-of c d (k + 1) x r h.1)
     stmt c d k (SLoop w x l s) r h = (S.outer c d k s r h.0, S.loop c d (k + 1) w x r h.1, some (b.looping c w x) (a.looping d w x) (k + 1) l (S.looping c d (k + 1) w x r h.1) h.2)
 

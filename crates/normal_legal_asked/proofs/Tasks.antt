@@ -27,7 +27,7 @@ use Rattle.syn_event.specs.Legal.{Legal}
 use Rattle.syn_event.specs.Numbering.{Numbering, task_named, task_at}
 use Rattle.syn_event.specs.NamedTasks.{numbered_tasks}
 use Rattle.syn_event.specs.AllNumbers.{info_of_task}
-use Rattle.syn_event.specs.Numbered.{task_info}
+use Rattle.syn_event.specs.AddedNames.{task_info}
 use Rattle.syn_event.specs.CheckScope.{CheckScope, accepts}
 use Rattle.syn_event.specs.CheckSites as check
 use Rattle.syn_event.specs.RuleAcceptPlace.{accept_place}

@@ -8,11 +8,11 @@ use Rattle.ada_tree.specs.declared.naming.NameId.{NameId}
 use Rattle.ada_tree.specs.PlainStmt.{PBody}
 use Rattle.ada_tree.specs.PlainDecl.{PDecl, DTaskBody}
 use Rattle.ada_tree.specs.PlainProgram.{PProgram}
-use Rattle.ada_tree.specs.Declaring.{first_scope, inside, after_decls}
+use Rattle.ada_tree.specs.Declaring.{first_scope, inner_scope, after_decls}
 use Rattle.ada_tree.specs.Sites.{decls_sites, body_sites}
 use Rattle.syn_event.specs.declared.numbering.TaskInfo.{TaskInfo}
 use Rattle.syn_event.specs.Numbering.{task_at}
-use Rattle.syn_event.specs.Units.{decl_list}
+use Rattle.syn_event.specs.DeclaredTasks.{decl_list}
 use Rattle.task_model.specs.Setting.{Setting}
 use Rattle.task_model.specs.Starting.{Unit as TaskUnit, unit_among, unit_of_info}
 use Rattle.asked_stmts.specs.Asked.{AskedBody}
@@ -75,7 +75,7 @@ module _ (p : PProgram) (h : IsLegal p) where
   the-bodies : AllByRecursion (IsTheBody p.decls) (decl_list p.decls)
   the-bodies =
       bodies-once p.decls p.decls (first_scope p.name)
-      (all_front IsMet (decls_sites (first_scope p.name) p.decls) (body_sites (inside (after_decls (first_scope p.name) p.decls)) p.body) (all_met p h.legal.type_rules).1) (λ name n. refl)
+      (all_front IsMet (decls_sites (first_scope p.name) p.decls) (body_sites (inner_scope (after_decls (first_scope p.name) p.decls)) p.body) (all_met p h.legal.type_rules).1) (λ name n. refl)
 
   pub bodies-take : AllByRecursion (TakesCalls g) (decl_list p.decls)
   bodies-take = all_weaker (IsTheBody p.decls) (TakesCalls g) (decl_list p.decls) decl-takes the-bodies

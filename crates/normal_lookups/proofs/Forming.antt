@@ -9,7 +9,7 @@ use Rattle.ada_tree.specs.declared.statements.Formal.{Formal}
 use Rattle.ada_tree.specs.PlainStmt.{PFormal, plain_formal}
 use Rattle.ada_tree.specs.PlainDecl.{PTask, PDecl, decls_of}
 use Rattle.ada_tree.specs.PlainProgram.{PProgram}
-use Rattle.syn_event.specs.Units.{decl_list, tasks_in, tasks_of}
+use Rattle.syn_event.specs.DeclaredTasks.{decl_list, tasks_in, tasks_of}
 use Rattle.scoped_names.specs.Meaning.{meaning_in}
 use Rattle.task_model.specs.Setting.{unit_named}
 use Rattle.normal_model.specs.Calls.{Slot, slots_of}

@@ -7,7 +7,7 @@ ghost use Rattle.ada_expr_copy.specs.Parts.{OkWith};
 ghost use Rattle.ada_tree.specs.PlainStmt.{plain_call, plain_callee};
 ghost use Rattle.ada_value.specs.Evaluating.{evaluated};
 ghost use Rattle.syn_event.specs.Numbering.{entry_at, task_named};
-ghost use Rattle.task_model.specs.Setting.{formals_of_info, task_meant, task_of};
+ghost use Rattle.task_model.specs.Setting.{formals_of_info, task_meant, callee_task};
 ghost use Rattle.normal_model.specs.Ranges.{array_range, family_range, kind_name, kind_of_range, range_subtype, subtype_of_range};
 ghost use Rattle.normal_model.specs.Making.{moving};
 ghost use Rattle.normal_model.specs.Members.{kind_of_index, known_task};
@@ -283,7 +283,7 @@ impl<'p> Lookups<'p> {
 
     // The task that a callee names, where no variable is seen.
     fn task_of(&self, callee: &Callee) -> Result<u32, Raised>
-        ensures { result ≡ task_of self.now [] (plain_callee callee.now) }
+        ensures { result ≡ callee_task self.now [] (plain_callee callee.now) }
     {
         match &callee.index {
             Some(index) => member_of(self.links, callee.name.name, index),
@@ -293,7 +293,7 @@ impl<'p> Lookups<'p> {
 
     /// The number of the task that a callee without index or with a static one names.
     pub fn known_task(&self, callee: &Callee) -> u32
-        ensures { result ≡ known_task (task_of self.now [] (plain_callee callee.now)) }
+        ensures { result ≡ known_task (callee_task self.now [] (plain_callee callee.now)) }
     {
         known_task(self.task_of(callee))
     }

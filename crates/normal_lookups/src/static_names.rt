@@ -3,12 +3,12 @@
 ghost use Rattle.std.specs.Prelude.{◌≡◌, ◌==◌, ◌||◌, ℕ, IfOk, OnOk, is_some};
 ghost use Rattle.std.specs.List.{list_any};
 ghost use Rattle.ada_tree.specs.TypeTable.{TypeTable};
-ghost use Rattle.ada_tree.specs.StaticValue.{is_static, keeps_static, literal_position, position_in, value_named};
-ghost use Rattle.ada_tree.specs.Attributes.{attribute_of, is_bound};
+ghost use Rattle.ada_tree.specs.StaticValue.{is_static, literal_position, position_in, value_named};
 ghost use Rattle.ada_tree.specs.PlainExpr.{plain_expr};
 ghost use Rattle.scoped_names.specs.Meaning.{meaning_in};
 ghost use Rattle.normal_lookups.specs.inner.Kept.{AreStatic};
 
+use ada_static_values::static_values::{is_bound_word, is_static_word};
 use ada_tree::{Constant, Expr, ExprKind, Kind, Memory, NameId, Types};
 use scoped_names::ScopedNames;
 use std::alloc::Global;
@@ -70,20 +70,6 @@ fn is_static_name(known: &ScopedNames<bool>, id: NameId) -> bool
     ensures { (types : TypeTable) → AreStatic types known.now → result ≡ is_some (value_named types id) }
 {
     id == NameId::FALSE || id == NameId::TRUE || known.meaning(id.0).is_some()
-}
-
-// 'FIRST and 'LAST.
-fn is_bound_word(word: NameId) -> bool
-    ensures { result ≡ is_bound (attribute_of word) }
-{
-    word == NameId::FIRST || word == NameId::LAST
-}
-
-// 'POS, 'VAL, 'SUCC and 'PRED.
-fn is_static_word(word: NameId) -> bool
-    ensures { result ≡ keeps_static (attribute_of word) }
-{
-    word == NameId::POS || word == NameId::VAL || word == NameId::SUCC || word == NameId::PRED
 }
 
 /// Whether an expression is static: built of literals, named numbers and scalar constants of the main procedure, operators, and attributes of static parts (4.9).

@@ -15,7 +15,7 @@ use Rattle.ada_tree.specs.RuleDuplicate.{is_predefined}
 use Rattle.syn_event.specs.declared.meanings.Meant.TheVariants.{TaskType, TaskOf, Shared}
 use Rattle.syn_event.specs.CheckScope.{CheckScope, meaning}
 use Rattle.syn_event.specs.CheckSites as check
-use Rattle.syn_event.specs.CheckSites.{with_meant, with_value}
+use Rattle.syn_event.specs.CheckSites.{with_meant, with_declared_object}
 use Rattle.syn_event.specs.Extents.{is_array_kind, is_array_mark, is_array_type}
 use Rattle.syn_event.specs.NamedTasks.{type_named, with_type}
 use Rattle.rewritten_types.specs.Agreement.{Agrees}
@@ -37,7 +37,7 @@ abbrev pub is_shared : TypeTable → Bool → PShape → Bool
 is_shared T constant (OPlain x) = not constant || is_array_type T x.mark.name
 is_shared T constant (OArray r x) = true
 
-pub shape-value : (x : PShape) (ws : List Word) (constant : Bool) (c : CheckScope) → (meaning c (mark_of x) ≡ Some TaskType → ⊥) → check.after_object c ws constant x ≡ with_value (is_shared c.types constant x) c ws
+pub shape-value : (x : PShape) (ws : List Word) (constant : Bool) (c : CheckScope) → (meaning c (mark_of x) ≡ Some TaskType → ⊥) → check.after_object c ws constant x ≡ with_declared_object (is_shared c.types constant x) c ws
 shape-value (OPlain x) ws constant c never = object-value (meaning c x.mark.name) x.mark (not constant || is_array_type c.types x.mark.name) ws c never
 shape-value (OArray r x) ws constant c never = object-value (meaning c x.mark.name) x.mark true ws c never
 
@@ -112,13 +112,13 @@ module _ (own : ℕ → Bool) (T U : TypeTable) (agree : Agrees own T U) where
       s' : Scope
       s' = after_decl s (DObject ws constant x i sp)
 
-      in-program : check.after_object a ws constant x ≡ with_value (is_shared T constant x) a ws
-      in-program = shape-value x ws constant a (λ e. true≢false (sym (h.named (mark_of x) e) ∙ none)) ∙ ap (λ V. with_value (is_shared V constant x) a ws) h.table
+      in-program : check.after_object a ws constant x ≡ with_declared_object (is_shared T constant x) a ws
+      in-program = shape-value x ws constant a (λ e. true≢false (sym (h.named (mark_of x) e) ∙ none)) ∙ ap (λ V. with_declared_object (is_shared V constant x) a ws) h.table
 
-      in-normal : check.after_object b ws constant x ≡ with_value (is_shared T constant x) b ws
+      in-normal : check.after_object b ws constant x ≡ with_declared_object (is_shared T constant x) b ws
       in-normal =
-          shape-value x ws constant b (h.plain (mark_of x)) ∙ ap (λ V. with_value (is_shared V constant x) b ws) h.table'
-          ∙ ap (λ t. with_value t b ws) (shared-alike x constant every)
+          shape-value x ws constant b (h.plain (mark_of x)) ∙ ap (λ V. with_declared_object (is_shared V constant x) b ws) h.table'
+          ∙ ap (λ t. with_declared_object t b ws) (shared-alike x constant every)
 
       -- names of the object, and others
       stays : (id : NameId) → meaning (check.after_object a ws constant x) id ≡ meaning a id → IsSharedName s a id → IsSharedName s' (check.after_object a ws constant x) id
@@ -129,7 +129,7 @@ module _ (own : ℕ → Bool) (T U : TypeTable) (agree : Agrees own T U) where
 
       by_word : (id : NameId) → is_shared T constant x ≡ true → (o : Bool) → is_one_of ws id ≡ o → meaning (with_meant Shared b ws) id ≡ Some Shared → IsSharedName s' (check.after_object a ws constant x) id
       by_word id t true one e = record {
-        shared = ap (λ (y : CheckScope). meaning y id) in-program ∙ ap (λ q. meaning (with_value q a ws) id) t ∙ meant-in Shared ws a id one;
+        shared = ap (λ (y : CheckScope). meaning y id) in-program ∙ ap (λ q. meaning (with_declared_object q a ws) id) t ∙ meant-in Shared ws a id one;
         used = declared-used (DObject ws constant x i sp) s id one;
         free = one-of-all (λ n. value_named T n ≡ None) ws id one (free t);
         new = one-of-all (λ n. is_predefined n.0 ≡ false) ws id one (firsts ws unused);
@@ -140,9 +140,9 @@ module _ (own : ℕ → Bool) (T U : TypeTable) (agree : Agrees own T U) where
           firsts (v ∷ vs) u = (u.0.0, firsts vs u.1)
       by_word id t false out e = others id out (sym (meant-out Shared ws b id out) ∙ e)
 
-      by_test : (t : Bool) → is_shared T constant x ≡ t → (id : NameId) → meaning (with_value t b ws) id ≡ Some Shared → IsSharedName s' (check.after_object a ws constant x) id
+      by_test : (t : Bool) → is_shared T constant x ≡ t → (id : NameId) → meaning (with_declared_object t b ws) id ≡ Some Shared → IsSharedName s' (check.after_object a ws constant x) id
       by_test true f id e = by_word id f (is_one_of ws id) refl e
-      by_test false f id e = stays id (ap (λ (y : CheckScope). meaning y id) in-program ∙ ap (λ q. meaning (with_value q a ws) id) f) (h.shared id e)
+      by_test false f id e = stays id (ap (λ (y : CheckScope). meaning y id) in-program ∙ ap (λ q. meaning (with_declared_object q a ws) id) f) (h.shared id e)
 
   -- an object that is left out
   pub object-left : (ws : List Word) (constant : Bool) (x : PShape) (i : Option PInit) (sp : Span) (kinds : List PTask) (s : Scope) (a b : CheckScope) → (after_decl s (DObject ws constant x i sp)).in_main ≡ s.in_main →
@@ -181,7 +181,7 @@ module _ (own : ℕ → Bool) (T U : TypeTable) (agree : Agrees own T U) where
   }
     where
       a' : CheckScope
-      a' = record a { units = check.unit_of t ∷ a.units }
+      a' = record a { units = check.enclosing_unit t ∷ a.units }
 
       the_type : (id : NameId) → is_one_of (t.name ∷ []) id ≡ true → (q : Bool) → t.of_kind ≡ q → (if q then TaskType else TaskOf t.name.name) ≡ TaskType → is_some (type_named (with_type kinds t.of_kind t) id) ≡ true
       the_type id one false f e = cc

@@ -12,14 +12,14 @@ use Rattle.ada_tree.specs.Every.{EveryDecls}
 use Rattle.ada_tree.specs.WellPlaced.{AreLater, BodiesLast}
 use Rattle.ada_tree.specs.Scope.{Scope}
 use Rattle.ada_tree.specs.Sites.{decl_sites, decls_sites}
-use Rattle.ada_tree.specs.Declaring.{first_scope, inside, in_body, after_objects, after_decl}
+use Rattle.ada_tree.specs.Declaring.{first_scope, inner_scope, in_body, after_objects, after_decl}
 use Rattle.syn_event.specs.declared.numbering.Mode.TheVariants.{Original}
 use Rattle.syn_event.specs.declared.meanings.Meant.{Meant}
 use Rattle.syn_event.specs.declared.meanings.Meant.TheVariants.{MainProcedure, TaskType, Shared}
 use Rattle.syn_event.specs.CheckScope.{CheckScope, CheckSite, meaning}
 use Rattle.syn_event.specs.CheckSites as check
 use Rattle.syn_event.specs.NamedTasks.{type_named, with_type}
-use Rattle.syn_event.specs.Units.{decl_list}
+use Rattle.syn_event.specs.DeclaredTasks.{decl_list}
 use Rattle.rewritten_types.specs.Agreement.{Agrees}
 use Rattle.rewritten_types.specs.Rewriting.{DeclareOnce}
 use Rattle.rewritten_values.specs.Values.{old_names, AgreeOnValues}
@@ -117,7 +117,7 @@ module _ (p : PProgram) (own : ℕ → Bool) (T U : TypeTable) (names' : List (L
     pub scope : Scope
     pub around : CheckScope
     pub frame : IsFrameOf (check.first_around T p.name) around
-    pub seen : TaskSeen p T w (inside (after_objects (in_body scope w) objects)) (check.after_own (check.in_body around w) objects)
+    pub seen : TaskSeen p T w (inner_scope (after_objects (in_body scope w) objects)) (check.after_own (check.in_body around w) objects)
     pub checked : AllByRecursion M (check.own_sites (check.in_body around w) objects ++ check.body_sites (check.after_own (check.in_body around w) objects) 1 its)
     pub shared : (id : NameId) → meaning whole id ≡ Some Shared → IsSharedName own T U alike scope around id
 

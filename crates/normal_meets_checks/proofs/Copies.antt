@@ -14,11 +14,11 @@ use Rattle.syn_event.specs.declared.numbering.Mode.TheVariants.{Any}
 use Rattle.syn_event.specs.declared.numbering.TaskInfo.{TaskInfo}
 use Rattle.syn_event.specs.CheckScope.{CheckScope, CheckSite}
 use Rattle.syn_event.specs.CheckSites as check
-use Rattle.syn_event.specs.Units.{decl_list}
+use Rattle.syn_event.specs.DeclaredTasks.{decl_list}
 use Rattle.task_model.specs.Setting.{Setting}
 use Rattle.normal_model.specs.Names.{task_name}
 use Rattle.normal_model.specs.Ranges.{word_at}
-use Rattle.normal_model.specs.Waits.{Unit}
+use Rattle.normal_model.specs.RewrittenUnit.{RewrittenUnit}
 use Rattle.normal_model.specs.NormalStmts.{normal_body, unit_variables}
 use Rattle.normal_model.specs.NormalTree.{decls_front, tasks_beside, unit_for, running, body_copy, bodies_of}
 use Rattle.normal_model.proofs.VariablesLemmas.{begins-refl}
@@ -80,7 +80,7 @@ module _ (p : PProgram) (h : IsLegal p) where
   statements-met : (t : ℕ) (b : PBody) (c d : CheckScope) → IsAround g (facts.own p h) (unit_variables (record { setting = g; task = t }) b) c d → EveryBody (own_rules (facts.own p h)) 1 b → AllByRecursion (facts.M p h) (check.body_sites c 1 b) →
       AskedBody (callee_asks g) tt 1 b → At' (check.body_sites d 1 (normal_body (record { setting = g; task = t }) b))
   statements-met t b c d rel every m beside =
-      let u : Unit = record { setting = g; task = t } in
+      let u : RewrittenUnit = record { setting = g; task = t } in
       let vars : List PDecl = unit_variables u b in
       let r : Rules = own_rules (facts.own p h) in
       let two : AskedBody (both (check_asks (facts.M p h)) (callee_asks g)) (c, tt) 1 b = both_asked (check_asks (facts.M p h)) (callee_asks g) c tt 1 b (checked_asked (facts.M p h) c 1 b m) beside in
@@ -100,7 +100,7 @@ module _ (p : PProgram) (h : IsLegal p) where
 
   module _ (w : Word) (objects : PDecls) (its : PBody) (sp : Span) (at : IsBodyAt p (facts.own p h) (facts.T p h) (facts.U p h) n.names (facts.agree p h) (facts.alike p h) (check.body_names p.decls) (facts.behind_firsts p h) w objects its)
       (beside : AskedBody (callee_asks g) tt 1 its) (every : EveryDecl (own_rules (facts.own p h)) (DTaskBody w objects its sp)) (old : EveryDecl (old_names (facts.own p h)) (DTaskBody w objects its sp)) where
-    abbrev u : Unit
+    abbrev u : RewrittenUnit
     u = unit_for g w.name
 
     abbrev vars : List PDecl

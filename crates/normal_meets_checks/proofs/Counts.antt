@@ -15,7 +15,7 @@ use Rattle.syn_event.specs.CheckSites as check
 use Rattle.syn_event.specs.Extents.{extent}
 use Rattle.syn_event.specs.NamedTasks.{NamedTasks, type_named, task_names_of_type, object_task_names, with_type, single_task_name, task_names_in, task_names_of, count_of_range, task_count, NumberedTask, numbered_task, numbers_on, indices, tasks_of_range, tasks_of_name, numbered_tasks}
 use Rattle.syn_event.specs.AllNumbers.{all_numbers}
-use Rattle.syn_event.specs.Units.{decl_list}
+use Rattle.syn_event.specs.DeclaredTasks.{decl_list}
 use Rattle.legal_sites.specs.Met.{IsCheckMet}
 use Rattle.task_model.specs.Setting.{Setting}
 use Rattle.normal_model.specs.NormalTree.{normal_tree}

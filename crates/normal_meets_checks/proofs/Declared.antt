@@ -18,9 +18,9 @@ use Rattle.syn_event.specs.Limits.{any_limit}
 use Rattle.syn_event.specs.CheckScope.{CheckScope, CheckSite, meaning, declares, uses, needs_body, counts}
 use Rattle.syn_event.specs.CheckSites as check
 use Rattle.syn_event.specs.Extents.{size, range_start}
-use Rattle.syn_event.specs.RuleLimit.{passed}
+use Rattle.syn_event.specs.RuleLimit.{limit_passed}
 use Rattle.syn_event.specs.RuleSharedVariable.{shared_name, in_body_of, shared_variable}
-use Rattle.syn_event.specs.Units.{text_of}
+use Rattle.syn_event.specs.DeclaredTasks.{text_of}
 use Rattle.legal_sites.specs.Met.{IsCheckMet}
 use Rattle.common_lemmas.proofs.Lists.{all_joined, all_weaker, all_three, all_flat}
 use Rattle.normal_checked.proofs.Stays.{formal-words}
@@ -78,7 +78,7 @@ module _ (names : List (List ℕ)) (d : CheckScope) where
     bodies = refl;
     exits = refl;
     raises = refl;
-    limits = ap (λ o. passed what o n here s) e ∙ passed-not what limit n here s h;
+    limits = ap (λ o. limit_passed what o n here s) e ∙ passed-not what limit n here s h;
   }
 
   pub met-copies : (n here : ℕ) (s : Span) → M (check.site d (counts Copies n here s))

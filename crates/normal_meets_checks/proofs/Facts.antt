@@ -8,18 +8,18 @@ use Rattle.ada_tree.specs.PlainProgram.{PProgram}
 use Rattle.ada_tree.specs.Every.{EveryProgram}
 use Rattle.ada_tree.specs.WellPlaced.{HasTokens, IsWellPlaced}
 use Rattle.ada_tree.specs.StaticValue.{value_named}
-use Rattle.ada_tree.specs.Declaring.{first_scope, inside, after_decls}
+use Rattle.ada_tree.specs.Declaring.{first_scope, inner_scope, after_decls}
 use Rattle.ada_tree.specs.Sites.{decls_sites, body_sites}
 use Rattle.ada_tree.specs.Refusals.{types_in}
 use Rattle.syn_event.specs.declared.numbering.Mode.TheVariants.{Original}
 use Rattle.syn_event.specs.declared.numbering.TaskInfo.{TaskInfo}
-use Rattle.syn_event.specs.Numbered.{task_info}
+use Rattle.syn_event.specs.AddedNames.{task_info}
 use Rattle.syn_event.specs.CheckScope.{CheckScope, CheckSite}
 use Rattle.syn_event.specs.CheckSites as check
 use Rattle.syn_event.specs.NamedTasks.{NumberedTask, numbered_tasks, task_names_of}
 use Rattle.syn_event.specs.AllNumbers.{info_of_task}
 use Rattle.syn_event.specs.RuleReservedName.{is_reserved}
-use Rattle.syn_event.specs.Units.{text_of, decl_list, tasks_of}
+use Rattle.syn_event.specs.DeclaredTasks.{text_of, decl_list, tasks_of}
 use Rattle.syn_event.proofs.Nothing.{test_fails}
 use Rattle.syn_event.proofs.Weaker.{placed_tokens}
 use Rattle.rewritten_types.specs.Agreement.{Agrees}
@@ -188,10 +188,10 @@ module _ (p : PProgram) (h : IsLegal p) where
   AtBody = BodyPlace p own T U (made_for p).names agree alike (check.body_names p.decls) behind_firsts
 
   types-met : AllByRecursion IsMet (decls_sites (first_scope p.name) p.decls)
-  types-met = all_front IsMet (decls_sites (first_scope p.name) p.decls) (body_sites (inside (after_decls (first_scope p.name) p.decls)) p.body) (all_met p h.legal.type_rules).1
+  types-met = all_front IsMet (decls_sites (first_scope p.name) p.decls) (body_sites (inner_scope (after_decls (first_scope p.name) p.decls)) p.body) (all_met p h.legal.type_rules).1
 
   types-apart : AreApart T (decls_sites (first_scope p.name) p.decls)
-  types-apart = all_front _ (decls_sites (first_scope p.name) p.decls) (body_sites (inside (after_decls (first_scope p.name) p.decls)) p.body) (all-apart p h.legal.type_rules).1
+  types-apart = all_front _ (decls_sites (first_scope p.name) p.decls) (body_sites (inner_scope (after_decls (first_scope p.name) p.decls)) p.body) (all-apart p h.legal.type_rules).1
 
   all-stand : AllStand T (first_scope p.name) p.decls
   all-stand = main-stands p h.legal.type_rules h.placed h.small

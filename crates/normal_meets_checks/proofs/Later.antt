@@ -44,7 +44,7 @@ task-other t e = by_kind t.of_kind e
     by_kind false f = cc
 
 task-hides : (id : NameId) (x : PDecl) → IsOneTask x → IsNoShared id x
-task-hides id (DTask t s) h = λ d e. meant-kept (check.meant_by_task t) Shared (t.name ∷ []) (record d { units = check.unit_of t ∷ d.units }) id (task-other t) e
+task-hides id (DTask t s) h = λ d e. meant-kept (check.meant_by_task t) Shared (t.name ∷ []) (record d { units = check.enclosing_unit t ∷ d.units }) id (task-other t) e
 task-hides id (DTaskBody w objects its s) h = absurd h
 task-hides id (DNumber w e s) h = absurd h
 task-hides id (DObject ws c x i s) h = absurd h

@@ -12,7 +12,7 @@ use Rattle.ada_tree.specs.WellPlaced.{well_placed}
 use Rattle.syn_event.specs.declared.numbering.Mode.TheVariants.{Any}
 use Rattle.syn_event.specs.CheckScope.{CheckScope, CheckSite}
 use Rattle.syn_event.specs.CheckSites as check
-use Rattle.syn_event.specs.Units.{decl_list}
+use Rattle.syn_event.specs.DeclaredTasks.{decl_list}
 use Rattle.legal_sites.specs.Met.{IsCheckMet}
 use Rattle.normal_asked.specs.Pieces.{IsAmong, first_among, later_among}
 use Rattle.normal_has_numbers.proofs.Listed.{IsOneBody}

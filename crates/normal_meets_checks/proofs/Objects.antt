@@ -15,11 +15,11 @@ use Rattle.syn_event.specs.declared.numbering.Mode.TheVariants.{Original, Any}
 use Rattle.syn_event.specs.declared.limits.What.TheVariants.{Components}
 use Rattle.syn_event.specs.declared.meanings.Meant.{Meant}
 use Rattle.syn_event.specs.declared.meanings.Meant.TheVariants.{Inner}
-use Rattle.syn_event.specs.CheckScope.{Unit, CheckScope, CheckSite, uses}
+use Rattle.syn_event.specs.CheckScope.{EnclosingUnit, CheckScope, CheckSite, uses}
 use Rattle.syn_event.specs.CheckSites as check
 use Rattle.syn_event.specs.Extents.{size, range_start}
 use Rattle.syn_event.specs.RuleSharedVariable.{shared_name, in_body_of, shared_variable}
-use Rattle.syn_event.specs.Units.{text_of}
+use Rattle.syn_event.specs.DeclaredTasks.{text_of}
 use Rattle.rewritten_types.specs.Agreement.{Agrees}
 use Rattle.rewritten_values.specs.Values.{old_names}
 use Rattle.task_model.specs.Setting.{Setting}
@@ -188,7 +188,7 @@ module _ (g : Setting) (own : ℕ → Bool) (T U : TypeTable) (names names' : Li
     values = λ id s e. use-under d w.name.0 id s (b.values id s e);
   }
 
-  in-it : (o : Option Unit) → in_body_of o [] ≡ []
+  in-it : (o : Option EnclosingUnit) → in_body_of o [] ≡ []
   in-it None = refl
   in-it (Some u) = refl
 

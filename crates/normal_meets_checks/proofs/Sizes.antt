@@ -15,8 +15,8 @@ use Rattle.syn_event.specs.Limits.{original_limit}
 use Rattle.syn_event.specs.CheckScope.{CheckScope, CheckSite, counts}
 use Rattle.syn_event.specs.CheckSites as check
 use Rattle.syn_event.specs.Extents.{known_size, size, range_start}
-use Rattle.syn_event.specs.RuleLimit.{passed}
-use Rattle.syn_event.specs.Units.{decl_list}
+use Rattle.syn_event.specs.RuleLimit.{limit_passed}
+use Rattle.syn_event.specs.DeclaredTasks.{decl_list}
 use Rattle.syn_event.proofs.Nothing.{test_fails}
 use Rattle.legal_sites.specs.Met.{IsCheckMet}
 use Rattle.rewritten_types.specs.Agreement.{Agrees}
@@ -58,7 +58,7 @@ module _ (names : List (List ℕ)) where
   -- where so many stand before and the limit is not passed, it is not with those here
   pub within : (what : What) (limit : ℕ) (c : CheckScope) (n here : ℕ) (s : Span) → original_limit what ≡ Some limit → n ≤ limit → M (check.site c (counts what n here s)) → n + here ≤ limit
   within what limit c n here s e le m =
-      let none : passed what (Some limit) n here s ≡ [] = sym (ap (λ o. passed what o n here s) e) ∙ m.limits in
+      let none : limit_passed what (Some limit) n here s ≡ [] = sym (ap (λ o. limit_passed what o n here s) e) ∙ m.limits in
       let both : (nat_le n limit && nat_lt limit (n + here)) ≡ false = test_fails (nat_le n limit && nat_lt limit (n + here)) _ none in
       ltb-false limit (n + here) (right (nat_le n limit) (nat_lt limit (n + here)) (le-leb n limit le) both)
 

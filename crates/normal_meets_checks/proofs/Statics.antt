@@ -9,7 +9,7 @@ use Rattle.ada_tree.specs.PlainExpr.{PExpr, EInteger, EName, EIndex, EAttribute,
 use Rattle.ada_tree.specs.PlainProgram.{PProgram}
 use Rattle.ada_tree.specs.StaticValue.{value_named, mark_named, keeps_static, is_static, value_of}
 use Rattle.syn_event.specs.CheckScope.{CheckScope, uses}
-use Rattle.syn_event.specs.Extents.{Extent, value_there, fixed, between, bounds_extent, marked_extent}
+use Rattle.syn_event.specs.Extents.{Extent, unraised_value, fixed, between, bounds_extent, marked_extent}
 use Rattle.syn_event.specs.declared.numbering.EntryInfo.{EntryInfo}
 use Rattle.syn_event.specs.Numbering.{entry_at}
 use Rattle.syn_event.specs.RuleSharedVariable.{shared_variable}
@@ -52,7 +52,7 @@ module _ (T : TypeTable) where
   fixed-static : (e : PExpr) (z : ℤ) → fixed T e ≡ Some z → is_static T e ≡ true
   fixed-static e z h = by_test (is_static T e) (value_of T e) h
     where
-      by_test : (b : Bool) (r : Result ℤ Span) → (if b then value_there r else None) ≡ Some z → b ≡ true
+      by_test : (b : Bool) (r : Result ℤ Span) → (if b then unraised_value r else None) ≡ Some z → b ≡ true
       by_test true r f = refl
       by_test false r f = absurd (not_missing z f)
 

@@ -11,7 +11,7 @@ use Rattle.syn_event.specs.declared.numbering.TaskInfo.{TaskInfo}
 use Rattle.syn_event.specs.CheckSites as check
 use Rattle.syn_event.specs.NamedTasks.{task_names_of, NumberedTask, numbered_tasks}
 use Rattle.syn_event.specs.AllNumbers.{info_of_task, all_numbers}
-use Rattle.syn_event.specs.Units.{decl_list, tasks_in}
+use Rattle.syn_event.specs.DeclaredTasks.{decl_list, tasks_in}
 use Rattle.rewritten_types.specs.Agreement.{Agrees}
 use Rattle.rewritten_values.specs.Values.{old_names}
 use Rattle.task_model.specs.Setting.{Setting}

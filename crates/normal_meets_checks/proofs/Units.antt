@@ -10,10 +10,10 @@ use Rattle.ada_tree.specs.PlainProgram.{PProgram}
 use Rattle.syn_event.specs.declared.numbering.TaskInfo.{TaskInfo}
 use Rattle.syn_event.specs.declared.meanings.Meant.{Meant}
 use Rattle.syn_event.specs.declared.meanings.Meant.TheVariants.{MainProcedure, TaskType, TaskOf, Shared, Inner}
-use Rattle.syn_event.specs.CheckScope.{Unit, CheckScope, meaning}
+use Rattle.syn_event.specs.CheckScope.{EnclosingUnit, CheckScope, meaning}
 use Rattle.syn_event.specs.CheckSites as check
 use Rattle.syn_event.specs.Extents.{is_array_type}
-use Rattle.syn_event.specs.Units.{decl_list, tasks_in, tasks_of}
+use Rattle.syn_event.specs.DeclaredTasks.{decl_list, tasks_in, tasks_of}
 use Rattle.syn_event.specs.NamedTasks.{NumberedTask, numbered_tasks}
 use Rattle.syn_event.specs.AllNumbers.{info_of_task, all_numbers}
 use Rattle.task_model.specs.Setting.{Setting}
@@ -33,7 +33,7 @@ use Rattle.syn_event.proofs.CheckScopes.{meant_units}
 
 -- ---- units behind declarations
 
-value-units : (b : Bool) (ws : List Word) (c : CheckScope) → (check.with_value b c ws).units ≡ c.units
+value-units : (b : Bool) (ws : List Word) (c : CheckScope) → (check.with_declared_object b c ws).units ≡ c.units
 value-units true ws c = meant_units Shared ws c
 value-units false ws c = refl
 
@@ -50,7 +50,7 @@ shape-units (OPlain x) ws constant c = object-units (meaning c x.mark.name) x.ma
 shape-units (OArray r x) ws constant c = object-units (meaning c x.mark.name) x.mark true ws c
 
 -- the unit of a task is one that is there, if the task is declared
-pub units-all : (Q : Unit → Type 0) (ds : PDecls) (c : CheckScope) → AllByRecursion (λ (t : PTask). Q (check.unit_of t)) (tasks_in (decl_list ds)) → AllByRecursion Q c.units → AllByRecursion Q (check.after_decls c ds).units
+pub units-all : (Q : EnclosingUnit → Type 0) (ds : PDecls) (c : CheckScope) → AllByRecursion (λ (t : PTask). Q (check.enclosing_unit t)) (tasks_in (decl_list ds)) → AllByRecursion Q c.units → AllByRecursion Q (check.after_decls c ds).units
 units-all Q no_decl c h k = k
 units-all Q (decl_then (DTask t s) rest) c h k = units-all Q rest (check.after_task c t) h.1 (h.0, k)
 units-all Q (decl_then (DObject ws constant x i s) rest) c h k = units-all Q rest (check.after_object c ws constant x) h (subst (AllByRecursion Q) (sym (shape-units x ws constant c)) k)
@@ -63,22 +63,22 @@ units-all Q (decl_then (DIntIo w s) rest) c h k = units-all Q rest c h k
 units-all Q (decl_then (DPragma e s) rest) c h k = units-all Q rest c h k
 units-all Q (decl_then (DTaskBody w objects its s) rest) c h k = units-all Q rest c h k
 
-abbrev IsThere : ℕ → List Unit → Type 0
+abbrev IsThere : ℕ → List EnclosingUnit → Type 0
 IsThere n us = is_some (find (λ u. u.name.0 == n) us) ≡ true
 
-there-more : (n : ℕ) (u : Unit) (us : List Unit) → IsThere n us → IsThere n (u ∷ us)
+there-more : (n : ℕ) (u : EnclosingUnit) (us : List EnclosingUnit) → IsThere n us → IsThere n (u ∷ us)
 there-more n u us h = by_test (u.name.0 == n)
   where
     by_test : (b : Bool) → is_some (if b then Some u else find (λ v. v.name.0 == n) us) ≡ true
     by_test true = refl
     by_test false = h
 
-there-first : (n : ℕ) (u : Unit) (us : List Unit) → (u.name.0 == n) ≡ true → IsThere n (u ∷ us)
+there-first : (n : ℕ) (u : EnclosingUnit) (us : List EnclosingUnit) → (u.name.0 == n) ≡ true → IsThere n (u ∷ us)
 there-first n u us e = ap (λ b. is_some (if b then Some u else find (λ v. v.name.0 == n) us)) e
 
 units-kept : (n : ℕ) (ds : PDecls) (c : CheckScope) → IsThere n c.units → IsThere n (check.after_decls c ds).units
 units-kept n no_decl c h = h
-units-kept n (decl_then (DTask t s) rest) c h = units-kept n rest (check.after_task c t) (there-more n (check.unit_of t) c.units h)
+units-kept n (decl_then (DTask t s) rest) c h = units-kept n rest (check.after_task c t) (there-more n (check.enclosing_unit t) c.units h)
 units-kept n (decl_then (DObject ws constant x i s) rest) c h = units-kept n rest (check.after_object c ws constant x) (subst (IsThere n) (sym (shape-units x ws constant c)) h)
 units-kept n (decl_then (DNumber w e s) rest) c h = units-kept n rest c h
 units-kept n (decl_then (DEnumeration w ws s) rest) c h = units-kept n rest c h
@@ -91,7 +91,7 @@ units-kept n (decl_then (DTaskBody w objects its s) rest) c h = units-kept n res
 
 pub units-there : (ds : PDecls) (c : CheckScope) (t : PTask) → IsAmong t (tasks_in (decl_list ds)) → IsThere t.name.name.0 (check.after_decls c ds).units
 units-there no_decl c t i = elim i [ ]
-units-there (decl_then (DTask t s) rest) c _ (first_among _) = units-kept t.name.name.0 rest (check.after_task c t) (there-first t.name.name.0 (check.unit_of t) c.units (equal_self t.name.name.0))
+units-there (decl_then (DTask t s) rest) c _ (first_among _) = units-kept t.name.name.0 rest (check.after_task c t) (there-first t.name.name.0 (check.enclosing_unit t) c.units (equal_self t.name.name.0))
 units-there (decl_then (DTask t s) rest) c u (later_among _ _ i) = units-there rest (check.after_task c t) u i
 units-there (decl_then (DObject ws constant x i s) rest) c t j = units-there rest (check.after_object c ws constant x) t j
 units-there (decl_then (DNumber w e s) rest) c t i = units-there rest c t i
@@ -106,12 +106,12 @@ units-there (decl_then (DTaskBody w objects its s) rest) c t i = units-there res
 -- ---- the unit of a body
 
 -- what is found has the entries that each unit of the name has
-pub found-entries : (c : CheckScope) (w : Word) (es : List NameId) → IsThere w.name.0 c.units → AllByRecursion (λ (u : Unit). u.name.0 ≡ w.name.0 → u.entries ≡ es) c.units → (check.own_unit c w).entries ≡ es
+pub found-entries : (c : CheckScope) (w : Word) (es : List NameId) → IsThere w.name.0 c.units → AllByRecursion (λ (u : EnclosingUnit). u.name.0 ≡ w.name.0 → u.entries ≡ es) c.units → (check.own_unit c w).entries ≡ es
 found-entries c w es there h =
-    let u = some_there (find (λ (v : Unit). v.name.0 == w.name.0) c.units) there in
-    let passes : (u.0.name.0 == w.name.0) ≡ true = found_passes (λ (v : Unit). v.name.0 == w.name.0) c.units u.0 u.1 in
-    ap (λ (o : Option Unit). (unwrap_or {T = Unit} o record { name = w.name; entries = [] }).entries) u.1
-    ∙ find-all (λ (v : Unit). v.name.0 ≡ w.name.0 → v.entries ≡ es) (λ (v : Unit). v.name.0 == w.name.0) c.units u.0 h u.1 (equal_is u.0.name.0 w.name.0 passes)
+    let u = some_there (find (λ (v : EnclosingUnit). v.name.0 == w.name.0) c.units) there in
+    let passes : (u.0.name.0 == w.name.0) ≡ true = found_passes (λ (v : EnclosingUnit). v.name.0 == w.name.0) c.units u.0 u.1 in
+    ap (λ (o : Option EnclosingUnit). (unwrap_or {T = EnclosingUnit} o record { name = w.name; entries = [] }).entries) u.1
+    ∙ find-all (λ (v : EnclosingUnit). v.name.0 ≡ w.name.0 → v.entries ≡ es) (λ (v : EnclosingUnit). v.name.0 == w.name.0) c.units u.0 h u.1 (equal_is u.0.name.0 w.name.0 passes)
 
 -- ---- a program and its normal form
 
@@ -137,7 +137,7 @@ module _ (p : PProgram) (T : TypeTable) (ordered : IsOrdered p) where
 
   -- the tasks of the normal form that have the name of this one have its entries
   under-entries : (info : TaskInfo) (es : List NameId) (ys : List NumberedTask) → AllByRecursion (λ (y : NumberedTask). (task_name g (info_of_task p.names y)).0 ≡ (task_name g info).0 → entry_names y.unit ≡ es) ys →
-      AllByRecursion (λ (t : PTask). (check.unit_of t).name.0 ≡ (task_name g info).0 → (check.unit_of t).entries ≡ es) (map (under g) ys)
+      AllByRecursion (λ (t : PTask). (check.enclosing_unit t).name.0 ≡ (task_name g info).0 → (check.enclosing_unit t).entries ≡ es) (map (under g) ys)
   under-entries info es [] h = tt
   under-entries info es (y ∷ ys) h = (h.0, under-entries info es ys h.1)
 
@@ -156,6 +156,6 @@ module _ (p : PProgram) (T : TypeTable) (ordered : IsOrdered p) where
       let here : IsAmong (under g y.0) (tasks_of n) = subst (IsAmong (under g y.0)) (sym (normal-tasks-of p T ordered)) (among-mapped (under g) y.0 (numbered_tasks T p) y.1) in
       let there : IsThere (task_name g info).0 (check.after_decls c n.decls).units = subst (λ (x : TaskInfo). IsThere (task_name g x).0 (check.after_decls c n.decls).units) (sym y.2) (units-there n.decls c (under g y.0) here) in
       let told = one-of-name info t (numbered_tasks T p) first e firsts (among (λ (a : TaskInfo). AllByRecursion (λ (b : TaskInfo). (task_name g a).0 ≡ (task_name g b).0 → a.unit.0 ≡ b.unit.0) (tasks_beside g)) info (tasks_beside g) i tell) in
-      let all = subst (AllByRecursion (λ (x : PTask). (check.unit_of x).name.0 ≡ (task_name g info).0 → (check.unit_of x).entries ≡ entry_names t)) (sym (normal-tasks-of p T ordered)) (under-entries info (entry_names t) (numbered_tasks T p) told) in
+      let all = subst (AllByRecursion (λ (x : PTask). (check.enclosing_unit x).name.0 ≡ (task_name g info).0 → (check.enclosing_unit x).entries ≡ entry_names t)) (sym (normal-tasks-of p T ordered)) (under-entries info (entry_names t) (numbered_tasks T p) told) in
       found-entries (check.after_decls c n.decls) (record { name = task_name g info; span = s }) (entry_names t) there
-      (units-all (λ (u : Unit). u.name.0 ≡ (task_name g info).0 → u.entries ≡ entry_names t) n.decls c all (subst (AllByRecursion (λ (u : Unit). u.name.0 ≡ (task_name g info).0 → u.entries ≡ entry_names t)) (sym none) tt))
+      (units-all (λ (u : EnclosingUnit). u.name.0 ≡ (task_name g info).0 → u.entries ≡ entry_names t) n.decls c all (subst (AllByRecursion (λ (u : EnclosingUnit). u.name.0 ≡ (task_name g info).0 → u.entries ≡ entry_names t)) (sym none) tt))

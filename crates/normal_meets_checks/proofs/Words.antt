@@ -12,7 +12,7 @@ use Rattle.ada_tree.specs.RuleDuplicate.{is_predefined, is_among}
 use Rattle.syn_event.specs.declared.meanings.Meant.{Meant}
 use Rattle.syn_event.specs.declared.meanings.Meant.TheVariants.{MainProcedure, TaskType, TaskOf, Shared, Inner}
 use Rattle.syn_event.specs.CheckScope.{CheckScope, meaning}
-use Rattle.syn_event.specs.CheckSites.{with_meant, with_value, with_object}
+use Rattle.syn_event.specs.CheckSites.{with_meant, with_declared_object, with_object}
 use Rattle.rewritten_types.specs.Rewriting.{names_declared, IsUsed, IsUnused}
 use Rattle.rewritten_types.proofs.Fresh.{other}
 use Rattle.normal_once.proofs.FirstDecls.{here-after}
@@ -66,11 +66,11 @@ shared-type e = cc
 task-type : (x : NameId) → TaskOf x ≡ TaskType → ⊥
 task-type x e = cc
 
-value-out : (b : Bool) (ws : List Word) (c : CheckScope) (id : NameId) → is_one_of ws id ≡ false → meaning (with_value b c ws) id ≡ meaning c id
+value-out : (b : Bool) (ws : List Word) (c : CheckScope) (id : NameId) → is_one_of ws id ≡ false → meaning (with_declared_object b c ws) id ≡ meaning c id
 value-out true ws c id e = meant-out Shared ws c id e
 value-out false ws c id e = refl
 
-value-type : (b : Bool) (ws : List Word) (c : CheckScope) (id : NameId) → meaning (with_value b c ws) id ≡ Some TaskType → meaning c id ≡ Some TaskType
+value-type : (b : Bool) (ws : List Word) (c : CheckScope) (id : NameId) → meaning (with_declared_object b c ws) id ≡ Some TaskType → meaning c id ≡ Some TaskType
 value-type true ws c id e = meant-kept Shared TaskType ws c id shared-type e
 value-type false ws c id e = e
 
@@ -92,7 +92,7 @@ object-type (Some Inner) mark b ws c id e = value-type b ws c id e
 object-type None mark b ws c id e = value-type b ws c id e
 
 -- an object of another mark is a shared variable, or none
-pub object-value : (o : Option Meant) (mark : Word) (b : Bool) (ws : List Word) (c : CheckScope) → (o ≡ Some TaskType → ⊥) → with_object c o mark b ws ≡ with_value b c ws
+pub object-value : (o : Option Meant) (mark : Word) (b : Bool) (ws : List Word) (c : CheckScope) → (o ≡ Some TaskType → ⊥) → with_object c o mark b ws ≡ with_declared_object b c ws
 object-value (Some TaskType) mark b ws c never = absurd (never refl)
 object-value (Some MainProcedure) mark b ws c never = refl
 object-value (Some (TaskOf x)) mark b ws c never = refl

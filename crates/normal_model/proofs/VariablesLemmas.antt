@@ -4,7 +4,7 @@ use Rattle.std.proofs.lemmas.List.{append_assoc, append-nil}
 use Rattle.ada_tree.specs.PlainStmt.{PStmt, SNull, SAssign, SDelay, SExit, SRaise, SAbort, SCall, SAccept, SWait, SConditional, STimed, SPut, SPutLine, SNewLine, SGet, SIf, SCase, SBlock, SLoop, PStmts, no_stmt, stmt_then, PMaybe, absent, present, PAccept, accepting, PAlt, alternative, PAltKind, AAccept, ADelay, ATerminate, PAlts, no_alt, alt_then, PArms, no_arm, arm_then, arm, PCaseArms, no_case_arm, case_arm_then, case_arm, PBody, body, PHandlers, no_handler, handler_then, handler}
 use Rattle.ada_tree.specs.PlainDecl.{PDecl}
 use Rattle.normal_model.specs.Walk.{Rewriter, after_parts, after_stmts, after_maybe, after_accept, after_kind, after_alts, after_arms, after_case_arms, after_body, after_handlers}
-use Rattle.normal_model.specs.Waits.{Unit}
+use Rattle.normal_model.specs.RewrittenUnit.{RewrittenUnit}
 use Rattle.normal_model.specs.Variables.{statement_variables}
 use Rattle.normal_model.specs.NormalStmts.{normal_rewriter}
 
@@ -88,7 +88,7 @@ module _ {A : Type 0} (r : Rewriter (List A)) (adds : OnlyAdds r) where
 -- ---- the normal form
 
 -- a statement adds its variables behind those that are there
-statement-adds : (u : Unit) (t : List PDecl) (x : PStmt) → Begins t (statement_variables u t x)
+statement-adds : (u : RewrittenUnit) (t : List PDecl) (x : PStmt) → Begins t (statement_variables u t x)
 statement-adds u t (SCall c s) = begins-more t _
 statement-adds u t (SConditional c b o s) = begins-more t _
 statement-adds u t (STimed c b d a s) = begins-more t _
@@ -110,8 +110,8 @@ statement-adds u t (SBlock b s) = begins-refl t
 statement-adds u t (SLoop w c l s) = begins-refl t
 
 -- an alternative does too
-alternative-adds : (u : Unit) (t : List PDecl) (x : PAlt) → Begins t ((normal_rewriter u).opened t x)
+alternative-adds : (u : RewrittenUnit) (t : List PDecl) (x : PAlt) → Begins t ((normal_rewriter u).opened t x)
 alternative-adds u t x = begins-more t _
 
-pub normal-adds : (u : Unit) → OnlyAdds (normal_rewriter u)
+pub normal-adds : (u : RewrittenUnit) → OnlyAdds (normal_rewriter u)
 normal-adds u = record { entered = statement-adds u; opened = alternative-adds u }

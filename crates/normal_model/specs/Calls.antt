@@ -6,7 +6,7 @@ use Rattle.ada_tree.specs.declared.naming.Word.{Word}
 use Rattle.ada_tree.specs.declared.statements.ParMode.{ParMode}
 use Rattle.ada_tree.specs.declared.statements.ParMode.TheVariants.{Take, Give, Both}
 use Rattle.ada_tree.specs.declared.expressions.BinaryOp.TheVariants.{Equal}
-use Rattle.ada_tree.specs.ExprTypes.{place_of}
+use Rattle.ada_tree.specs.ExprTypes.{expr_place}
 use Rattle.ada_tree.specs.PlainExpr.{PExpr, EInteger, EBinary, PSubind}
 use Rattle.ada_tree.specs.PlainStmt.{PCall, PArgs, PFormal, PStmt, SAssign, SCall, SConditional, STimed, SIf, PStmts, no_stmt, stmt_then, present, arm, no_arm, arm_then}
 use Rattle.syn_event.specs.Numbering.{task_named, entry_at}
@@ -14,7 +14,7 @@ use Rattle.task_model.specs.Setting.{Setting, entry_of, is_family, formals_of_in
 use Rattle.task_model.specs.Calls.{variable_of}
 use Rattle.task_model.specs.Frames.{in_front}
 use Rattle.normal_model.specs.Ranges.{word_at, marked, integer_subtype, subtype_of_range, family_range}
-use Rattle.normal_model.specs.Making.{one, or_null, variable, assigned, Kept, kept_before, kept_subtypes, kept_if, moving}
+use Rattle.normal_model.specs.Making.{one, or_null, variable, assignment, Kept, kept_before, kept_subtypes, kept_if, moving}
 use Rattle.normal_model.specs.Members.{callee_kept, by_member, known_callee, chosen}
 
 -- ---- what is called
@@ -47,9 +47,9 @@ slots_called g c = slots_of (formals_of_info g (entry_at g.numbers (entry_called
 
 -- the assignment in front of a call: of an `in` or `in out` actual to its variable
 abbrev pub actual_before : Setting → Span → ParMode → PExpr → ℕ → PStmts
-actual_before g s Take e k = one (assigned g s k e)
+actual_before g s Take e k = one (assignment g s k e)
 actual_before g s Give e k = no_stmt
-actual_before g s Both e k = one (assigned g s k e)
+actual_before g s Both e k = one (assignment g s k e)
 
 -- those of actuals, whose variables are numbered from k on
 abbrev pub actuals_before : Setting → Span → List Slot → List PExpr → ℕ → PStmts
@@ -66,7 +66,7 @@ actuals_passed g s (x ∷ xs) (e ∷ es) k = variable g s k ∷ actuals_passed g
 -- the assignment of a variable to an actual that is one
 abbrev pub copied_to : Setting → Span → PExpr → Option NameId → ℕ → PStmts
 copied_to g s e None k = no_stmt
-copied_to g s e (Some id) k = one (SAssign (record { name = word_at (place_of e) id; index = None }) (variable g s k) s)
+copied_to g s e (Some id) k = one (SAssign (record { name = word_at (expr_place e) id; index = None }) (variable g s k) s)
 
 -- the assignment behind a call: of the variable of an `out` or `in out` actual to that actual
 abbrev pub actual_behind : Setting → Span → ParMode → PExpr → ℕ → PStmts
@@ -156,7 +156,7 @@ select_subtypes g s c = call_subtypes g s c ++ flag_subtypes (is_chosen g c) s
 
 -- the variable tells this part
 abbrev pub flagged : Setting → Span → PCall → ℕ → ℕ → PStmts
-flagged g s c n part = one (assigned g s (flag_number g s c n) (EInteger part s))
+flagged g s c n part = one (assignment g s (flag_number g s c n) (EInteger part s))
 
 -- `if F = 1 then` these statements `else` those `end if;`
 abbrev pub part_taken : Setting → Span → PCall → ℕ → PStmts → PStmts → PStmt

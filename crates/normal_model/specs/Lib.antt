@@ -4,6 +4,7 @@ pub mod Ranges
 pub mod Making
 pub mod Members
 pub mod Calls
+pub mod RewrittenUnit
 pub mod Waits
 pub mod Aborts
 pub mod Variables

@@ -31,8 +31,8 @@ abbrev pub variable_target : Setting → Span → ℕ → PTarget
 variable_target g s k = record { name = word_at s (variable_name g k); index = None }
 
 -- `DED_V1 := e;`
-abbrev pub assigned : Setting → Span → ℕ → PExpr → PStmt
-assigned g s k e = SAssign (variable_target g s k) e s
+abbrev pub assignment : Setting → Span → ℕ → PExpr → PStmt
+assignment g s k e = SAssign (variable_target g s k) e s
 
 -- ---- values that are kept
 
@@ -44,7 +44,7 @@ pub record Kept : Type 0 where
 -- the assignments of values to variables that are numbered from k on
 abbrev pub kept_before : Setting → Span → List Kept → ℕ → PStmts
 kept_before g s [] k = no_stmt
-kept_before g s (x ∷ xs) k = stmt_then (assigned g s k x.value) (kept_before g s xs (k + 1))
+kept_before g s (x ∷ xs) k = stmt_then (assignment g s k x.value) (kept_before g s xs (k + 1))
 
 abbrev pub kept_subtypes : List Kept → List PSubind
 kept_subtypes xs = map (λ x. x.subtype) xs

@@ -14,7 +14,7 @@ use Rattle.ada_tree.specs.PlainExpr.{PExpr, EInteger, EName, EAttribute, EUnary,
 use Rattle.ada_tree.specs.PlainStmt.{PCallee, PStmt, SNull, SCase, PStmts, PCaseArm, case_arm, case_arms_of, present}
 use Rattle.syn_event.specs.declared.numbering.TaskInfo.{TaskInfo}
 use Rattle.ada_value.specs.declared.values.Raised.{Raised}
-use Rattle.task_model.specs.Setting.{Setting, task_of}
+use Rattle.task_model.specs.Setting.{Setting, callee_task}
 use Rattle.normal_model.specs.Names.{task_name, task_name_at}
 use Rattle.normal_model.specs.Ranges.{word_at, kind_of_range, array_range, subtype_of_range}
 use Rattle.normal_model.specs.Making.{one, variable, Kept, kept_if, moving}
@@ -60,7 +60,7 @@ known_task (Err x) = 0
 
 -- The name of a callee without index or with a static one.
 abbrev pub known_callee : Setting → PCallee → Word
-known_callee g callee = word_at callee.name.span (task_name_at g (known_task (task_of g [] callee)))
+known_callee g callee = word_at callee.name.span (task_name_at g (known_task (callee_task g [] callee)))
 
 -- ---- a callee that is chosen
 

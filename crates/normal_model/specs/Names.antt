@@ -5,7 +5,7 @@ use Rattle.std.specs.Str.{bytes_eq}
 use Rattle.ada_tree.specs.declared.naming.NameId.{NameId}
 use Rattle.ada_tree.specs.NameList.{interned}
 use Rattle.syn_event.specs.declared.numbering.TaskInfo.{TaskInfo}
-use Rattle.syn_event.specs.Units.{text_of}
+use Rattle.syn_event.specs.DeclaredTasks.{text_of}
 use Rattle.syn_event.specs.Numbering.{task_at}
 use Rattle.task_model.specs.Setting.{Setting}
 
@@ -17,8 +17,8 @@ index_text (pos n) = decimal n
 index_text (negsuc n) = codes "M" ++ decimal (suc n)
 
 -- The member of an array A at the index or position 2 is named A_DED_2.
-abbrev pub member_text : List ℕ → ℤ → List ℕ
-member_text array i = array ++ codes "_DED_" ++ index_text i
+abbrev pub name_of_member : List ℕ → ℤ → List ℕ
+name_of_member array i = array ++ codes "_DED_" ++ index_text i
 
 -- The variables of a unit are named DED_V1, DED_V2 and so on; counted from 0 here.
 abbrev pub variable_text : ℕ → List ℕ
@@ -29,7 +29,7 @@ variable_text k = codes "DED_V" ++ decimal (k + 1)
 -- the new name of a task, where it is a member of an array
 abbrev pub texts_of_member : List ℕ → Option ℤ → List (List ℕ)
 texts_of_member array None = []
-texts_of_member array (Some i) = member_text array i ∷ []
+texts_of_member array (Some i) = name_of_member array i ∷ []
 
 -- the new names of tasks, in order
 abbrev pub member_texts : List (List ℕ) → List TaskInfo → List (List ℕ)
@@ -61,7 +61,7 @@ variable_name g k = id_of (normal_names g (k + 1)) (variable_text k)
 -- a member's name, or the name that is there
 abbrev pub member_name : Setting → NameId → Option ℤ → NameId
 member_name g name None = name
-member_name g name (Some i) = id_of (with_members g) (member_text (text_of g.program.names name) i)
+member_name g name (Some i) = id_of (with_members g) (name_of_member (text_of g.program.names name) i)
 
 -- The name that a task has in the normal form: a member of an array has one of its own, and any other task keeps its own.
 abbrev pub task_name : Setting → TaskInfo → NameId

@@ -2,8 +2,8 @@
 use Rattle.std.specs.Prelude.{◌∷◌, map}
 use Rattle.ada_tree.specs.PlainProgram.{PProgram}
 use Rattle.syn_event.specs.Numbering.{Numbering}
-use Rattle.syn_event.specs.Numbered.{task_info}
-use Rattle.syn_event.specs.Units.{tasks_of}
+use Rattle.syn_event.specs.AddedNames.{task_info}
+use Rattle.syn_event.specs.DeclaredTasks.{tasks_of}
 
 -- The numbers of a normal form, by those of the program from which it was made.
 abbrev pub normal_numbers : PProgram → Numbering → Numbering

@@ -6,12 +6,13 @@ use Rattle.ada_tree.specs.PlainDecl.{PDecl}
 use Rattle.normal_model.specs.Walk.{Rewriter, after_body, inside_body}
 use Rattle.normal_model.specs.Making.{one}
 use Rattle.normal_model.specs.Calls.{plain_image, conditional_image, timed_image}
-use Rattle.normal_model.specs.Waits.{Unit, accept_image, alternative_before, alternative_left, wait_image}
+use Rattle.normal_model.specs.RewrittenUnit.{RewrittenUnit}
+use Rattle.normal_model.specs.Waits.{accept_image, alternative_before, alternative_left, wait_image}
 use Rattle.normal_model.specs.Aborts.{abort_image}
 use Rattle.normal_model.specs.Variables.{statement_variables, alternative_variables}
 
 -- What stands in the place of a statement whose parts are rewritten, behind what its alternatives put in front of it, where n variables were made before.
-abbrev pub normal_image : Unit → ℕ → PStmt → PStmts
+abbrev pub normal_image : RewrittenUnit → ℕ → PStmt → PStmts
 normal_image u n (SCall c s) = plain_image u.setting s c n
 normal_image u n (SConditional c behind otherwise s) = conditional_image u.setting s c n behind otherwise
 normal_image u n (STimed c behind duration after s) = timed_image u.setting s c n behind duration after
@@ -21,7 +22,7 @@ normal_image u n (SAbort callees s) = abort_image u.setting s callees n
 normal_image u n x = one x
 
 -- The rewriter of a unit. What it keeps on its way are the variables that were made so far, as declarations. What alternatives put in front of their wait stands in front of every image, which does not look at it.
-abbrev pub normal_rewriter : Unit → Rewriter (List PDecl)
+abbrev pub normal_rewriter : RewrittenUnit → Rewriter (List PDecl)
 normal_rewriter u = record {
   entered = statement_variables u;
   opened = alternative_variables u;
@@ -31,9 +32,9 @@ normal_rewriter u = record {
 }
 
 -- The body of a unit in the normal form.
-abbrev pub normal_body : Unit → PBody → PBody
+abbrev pub normal_body : RewrittenUnit → PBody → PBody
 normal_body u b = inside_body (normal_rewriter u) b []
 
 -- The variables that a unit gets, as declarations in order.
-abbrev pub unit_variables : Unit → PBody → List PDecl
+abbrev pub unit_variables : RewrittenUnit → PBody → List PDecl
 unit_variables u b = after_body (normal_rewriter u) b []

@@ -9,12 +9,12 @@ use Rattle.ada_tree.specs.PlainDecl.{PShape, OPlain, OArray, PTask, PDecl, DObje
 use Rattle.ada_tree.specs.PlainProgram.{PProgram}
 use Rattle.syn_event.specs.declared.numbering.TaskInfo.{TaskInfo}
 use Rattle.syn_event.specs.Numbering.{Numbering}
-use Rattle.syn_event.specs.Units.{decl_list}
+use Rattle.syn_event.specs.DeclaredTasks.{decl_list}
 use Rattle.syn_event.specs.NamedTasks.{type_named, with_type}
 use Rattle.task_model.specs.Setting.{Setting}
 use Rattle.normal_model.specs.Names.{normal_names, task_name}
 use Rattle.normal_model.specs.Ranges.{word_at}
-use Rattle.normal_model.specs.Waits.{Unit}
+use Rattle.normal_model.specs.RewrittenUnit.{RewrittenUnit}
 use Rattle.normal_model.specs.NormalStmts.{normal_body, unit_variables}
 
 -- declarations in front of others
@@ -69,7 +69,7 @@ abbrev pub first_running : Setting → NameId → ℕ
 first_running g name = unwrap_or (position (λ info. info.unit.0 == name.0) g.numbers.tasks) 0
 
 -- the unit of a task's or task type's body
-abbrev pub unit_for : Setting → NameId → Unit
+abbrev pub unit_for : Setting → NameId → RewrittenUnit
 unit_for g name = record { setting = g; task = first_running g name }
 
 -- the tasks that run the body of a name, ascending
@@ -91,7 +91,7 @@ bodies_of g _ = []
 -- ---- the program
 
 -- main as a unit
-abbrev pub main_unit : Setting → Unit
+abbrev pub main_unit : Setting → RewrittenUnit
 main_unit g = record { setting = g; task = 0 }
 
 -- the variables that main gets

@@ -9,7 +9,8 @@ use Rattle.normal_model.specs.Names.{variable_name}
 use Rattle.normal_model.specs.Ranges.{word_at}
 use Rattle.normal_model.specs.Making.{kept_subtypes}
 use Rattle.normal_model.specs.Calls.{call_subtypes, select_subtypes}
-use Rattle.normal_model.specs.Waits.{Unit, accept_kept, head_of, alternative_subtypes}
+use Rattle.normal_model.specs.RewrittenUnit.{RewrittenUnit}
+use Rattle.normal_model.specs.Waits.{accept_kept, head_of, alternative_subtypes}
 use Rattle.normal_model.specs.Aborts.{abort_subtypes}
 
 -- ---- declarations
@@ -26,11 +27,11 @@ variables_declared g s (x ∷ xs) k = variable_declared g s x k ∷ variables_de
 -- ---- statements
 
 -- variables, and those of these subtypes behind them
-abbrev pub more_variables : Unit → Span → List PSubind → List PDecl → List PDecl
+abbrev pub more_variables : RewrittenUnit → Span → List PSubind → List PDecl → List PDecl
 more_variables u s subtypes vars = vars ++ variables_declared u.setting s subtypes (length vars)
 
 -- The variables of a unit behind those that a statement asks for itself.
-abbrev pub statement_variables : Unit → List PDecl → PStmt → List PDecl
+abbrev pub statement_variables : RewrittenUnit → List PDecl → PStmt → List PDecl
 statement_variables u vars (SCall c s) = more_variables u s (call_subtypes u.setting s c) vars
 statement_variables u vars (SConditional c behind otherwise s) = more_variables u s (select_subtypes u.setting s c) vars
 statement_variables u vars (STimed c behind duration after s) = more_variables u s (select_subtypes u.setting s c) vars
@@ -43,5 +44,5 @@ abbrev pub alternative_place : PAlt → Span
 alternative_place (alternative guard what s) = s
 
 -- The variables of a unit behind those that an alternative asks for itself.
-abbrev pub alternative_variables : Unit → List PDecl → PAlt → List PDecl
+abbrev pub alternative_variables : RewrittenUnit → List PDecl → PAlt → List PDecl
 alternative_variables u vars x = more_variables u (alternative_place x) (alternative_subtypes u x) vars

@@ -6,25 +6,21 @@ use Rattle.ada_tree.specs.declared.expressions.UnaryOp.TheVariants as unary
 use Rattle.ada_tree.specs.declared.expressions.BinaryOp.TheVariants as binary
 use Rattle.ada_tree.specs.PlainExpr.{PExpr, EUnary, EBinary, PSubind}
 use Rattle.ada_tree.specs.PlainStmt.{PHead, SRaise, SAccept, SWait, SIf, PStmts, no_stmt, stmt_then, PMaybe, absent, present, PAccept, accepting, PAlt, alternative, PAltKind, AAccept, ADelay, ATerminate, PAlts, no_alt, alt_then, arm, no_arm, arm_then}
-use Rattle.task_model.specs.Setting.{Setting, entry_of}
+use Rattle.task_model.specs.Setting.{entry_of}
 use Rattle.task_model.specs.Frames.{in_front}
+use Rattle.normal_model.specs.RewrittenUnit.{RewrittenUnit}
 use Rattle.normal_model.specs.Ranges.{word_at, truth_subtype, subtype_of_range, family_range}
-use Rattle.normal_model.specs.Making.{one, variable, assigned, Kept, kept_before, kept_subtypes, kept_if, moving, index_left}
-
--- A unit as it is rewritten: the program with its types and numbers, and the number of a task that runs the unit.
-pub record Unit : Type 0 where
-  pub setting : Setting
-  pub task : ℕ
+use Rattle.normal_model.specs.Making.{one, variable, assignment, Kept, kept_before, kept_subtypes, kept_if, moving, index_left}
 
 -- ---- accepts
 
 -- the index that is kept in front of an accept: one that is not static, in a variable of the family's range
-abbrev pub accept_kept : Unit → Span → PHead → List Kept
+abbrev pub accept_kept : RewrittenUnit → Span → PHead → List Kept
 accept_kept u s head =
     kept_if (subtype_of_range u.setting.types s (family_range u.setting (entry_of u.setting.numbers u.task head.entry.name))) (moving u.setting.types head.index)
 
 -- the head of the new accept, whose index has the number k where it is a variable
-abbrev pub head_left : Unit → Span → PHead → ℕ → PHead
+abbrev pub head_left : RewrittenUnit → Span → PHead → ℕ → PHead
 head_left u s head k = record {
   entry = head.entry;
   index = index_left u.setting s k (moving u.setting.types head.index) head.index;
@@ -32,7 +28,7 @@ head_left u s head k = record {
   span = head.span;
 }
 
-abbrev pub accept_left : Unit → Span → PAccept → ℕ → PAccept
+abbrev pub accept_left : RewrittenUnit → Span → PAccept → ℕ → PAccept
 accept_left u s (accepting head body) k = accepting (head_left u s head k) body
 
 -- the head of an accept
@@ -40,34 +36,34 @@ abbrev pub head_of : PAccept → PHead
 head_of (accepting head body) = head
 
 -- What stands in the place of an accept statement, where n variables were made before.
-abbrev pub accept_image : Unit → Span → PAccept → ℕ → PStmts
+abbrev pub accept_image : RewrittenUnit → Span → PAccept → ℕ → PStmts
 accept_image u s accept n = in_front (kept_before u.setting s (accept_kept u s (head_of accept)) n) (one (SAccept (accept_left u s accept n) s))
 
 -- ---- alternatives
 
 -- the index that is kept for an alternative: only an accept has one
-abbrev pub kind_kept : Unit → Span → PAltKind → List Kept
+abbrev pub kind_kept : RewrittenUnit → Span → PAltKind → List Kept
 kind_kept u s (AAccept accept stmts) = accept_kept u s (head_of accept)
 kind_kept u s (ADelay duration stmts) = []
 kind_kept u s ATerminate = []
 
-abbrev pub kind_left : Unit → Span → PAltKind → ℕ → PAltKind
+abbrev pub kind_left : RewrittenUnit → Span → PAltKind → ℕ → PAltKind
 kind_left u s (AAccept accept stmts) k = AAccept (accept_left u s accept k) stmts
 kind_left u s (ADelay duration stmts) k = ADelay duration stmts
 kind_left u s ATerminate k = ATerminate
 
 -- the assignment of an index under a guard's variable
-abbrev pub under_guard : Unit → Span → ℕ → List Kept → PStmts
+abbrev pub under_guard : RewrittenUnit → Span → ℕ → List Kept → PStmts
 under_guard u s n [] = no_stmt
 under_guard u s n (x ∷ xs) = one (SIf (arm_then (arm (variable u.setting s n) (kept_before u.setting s (x ∷ xs) (n + 1))) no_arm) absent s)
 
 -- what an alternative puts in front of its wait, by its guard, where n variables were made before
-abbrev pub guarded_before : Unit → Span → Option PExpr → List Kept → ℕ → PStmts
+abbrev pub guarded_before : RewrittenUnit → Span → Option PExpr → List Kept → ℕ → PStmts
 guarded_before u s None kept n = kept_before u.setting s kept n
-guarded_before u s (Some e) kept n = stmt_then (assigned u.setting s n e) (under_guard u s n kept)
+guarded_before u s (Some e) kept n = stmt_then (assignment u.setting s n e) (under_guard u s n kept)
 
 -- What an alternative puts in front of its wait: its guard's variable gets the guard's value, and then its index's variable the index's, where the guard holds.
-abbrev pub alternative_before : Unit → PAlt → ℕ → PStmts
+abbrev pub alternative_before : RewrittenUnit → PAlt → ℕ → PStmts
 alternative_before u (alternative guard what s) n = guarded_before u s guard (kind_kept u s what) n
 
 -- the number of the variable of an alternative's index, behind that of its guard
@@ -76,7 +72,7 @@ behind_guard None n = n
 behind_guard (Some e) n = n + 1
 
 -- The alternative of the new wait.
-abbrev pub alternative_left : Unit → PAlt → ℕ → PAlt
+abbrev pub alternative_left : RewrittenUnit → PAlt → ℕ → PAlt
 alternative_left u (alternative guard what s) n = alternative (option_map (λ e. variable u.setting s n) guard) (kind_left u s what (behind_guard guard n)) s
 
 abbrev pub guard_subtypes : Span → Option PExpr → List PSubind
@@ -84,7 +80,7 @@ guard_subtypes s None = []
 guard_subtypes s (Some e) = truth_subtype s ∷ []
 
 -- the subtypes of the variables of an alternative: BOOLEAN for a guard, and the family's range for an index
-abbrev pub alternative_subtypes : Unit → PAlt → List PSubind
+abbrev pub alternative_subtypes : RewrittenUnit → PAlt → List PSubind
 alternative_subtypes u (alternative guard what s) = guard_subtypes s guard ++ kept_subtypes (kind_kept u s what)
 
 -- ---- waits

@@ -88,21 +88,21 @@ module _ {S : Type 0} (r : Rewriter S) where
   -- parts of a text as they are rewritten, by the state before them
   abbrev mutual
     -- a statement with its parts rewritten
-    pub inside : PStmt → S → PStmt
-    inside (SAccept a s) t = SAccept (inside_accept a t) s
-    inside (SWait x o s) t = SWait (inside_alts x t) (inside_maybe o (after_alts x t)) s
-    inside (SConditional c b o s) t = SConditional c (rewritten b t) (rewritten o (after_stmts b t)) s
-    inside (STimed c b d a s) t = STimed c (rewritten b t) d (rewritten a (after_stmts b t)) s
-    inside (SIf x o s) t = SIf (inside_arms x t) (inside_maybe o (after_arms x t)) s
-    inside (SCase e x o s) t = SCase e (inside_case_arms x t) (inside_maybe o (after_case_arms x t)) s
-    inside (SBlock b s) t = SBlock (inside_body b t) s
-    inside (SLoop w c l s) t = SLoop w c (rewritten l t) s
-    inside x t = x
+    pub parts_rewritten : PStmt → S → PStmt
+    parts_rewritten (SAccept a s) t = SAccept (inside_accept a t) s
+    parts_rewritten (SWait x o s) t = SWait (inside_alts x t) (inside_maybe o (after_alts x t)) s
+    parts_rewritten (SConditional c b o s) t = SConditional c (rewritten b t) (rewritten o (after_stmts b t)) s
+    parts_rewritten (STimed c b d a s) t = STimed c (rewritten b t) d (rewritten a (after_stmts b t)) s
+    parts_rewritten (SIf x o s) t = SIf (inside_arms x t) (inside_maybe o (after_arms x t)) s
+    parts_rewritten (SCase e x o s) t = SCase e (inside_case_arms x t) (inside_maybe o (after_case_arms x t)) s
+    parts_rewritten (SBlock b s) t = SBlock (inside_body b t) s
+    parts_rewritten (SLoop w c l s) t = SLoop w c (rewritten l t) s
+    parts_rewritten x t = x
 
     -- statements: what stands in the place of the first, and then of those behind it
     pub rewritten : PStmts → S → PStmts
     rewritten no_stmt t = no_stmt
-    rewritten (stmt_then x l) t = in_front (r.image t (leads x (r.entered t x)) (inside x (r.entered t x))) (rewritten l (after_parts x (r.entered t x)))
+    rewritten (stmt_then x l) t = in_front (r.image t (leads x (r.entered t x)) (parts_rewritten x (r.entered t x))) (rewritten l (after_parts x (r.entered t x)))
 
     pub inside_maybe : PMaybe → S → PMaybe
     inside_maybe absent t = absent
@@ -138,4 +138,4 @@ module _ {S : Type 0} (r : Rewriter S) where
 
   -- What stands in the place of a statement, by the state before it.
   abbrev pub image_of : PStmt → S → PStmts
-  image_of x t = r.image t (leads x (r.entered t x)) (inside x (r.entered t x))
+  image_of x t = r.image t (leads x (r.entered t x)) (parts_rewritten x (r.entered t x))

@@ -5,8 +5,8 @@ use Rattle.std.proofs.lemmas.List.Sums.{fold-append}
 use Rattle.ada_tree.specs.declared.naming.NameId.{NameId}
 use Rattle.ada_tree.specs.NameList.{interned}
 use Rattle.syn_event.specs.declared.numbering.TaskInfo.{TaskInfo}
-use Rattle.syn_event.specs.Units.{text_of}
-use Rattle.normal_model.specs.Names.{member_text, member_texts, texts_of_member}
+use Rattle.syn_event.specs.DeclaredTasks.{text_of}
+use Rattle.normal_model.specs.Names.{name_of_member, member_texts, texts_of_member}
 use Rattle.normal_names.specs.inner.Members.{IsNamed, member_behind, name_behind}
 use Rattle.normal_names.proofs.Places.{place_later}
 
@@ -17,7 +17,7 @@ named old tasks = fold interned old (member_texts old tasks)
 -- a name that is given is the task's when all others have come
 pub name_stays : (old texts rest : List (List ℕ)) (name : NameId) (member : Option ℤ) (id : NameId) → IsNamed old texts name member id → id ≡ member_behind old (fold interned texts rest) name member
 name_stays old texts rest name None id h = h
-name_stays old texts rest name (Some i) id h = sym (ap (λ o. let made : NameId = record { 0 = unwrap_or o 0 } in made) (place_later (member_text (text_of old name) i) rest texts id.0 h))
+name_stays old texts rest name (Some i) id h = sym (ap (λ o. let made : NameId = record { 0 = unwrap_or o 0 } in made) (place_later (name_of_member (text_of old name) i) rest texts id.0 h))
 
 -- the texts of the tasks from one on
 texts_from : (old : List (List ℕ)) (tasks : List TaskInfo) (i : ℕ) (d : TaskInfo) → i < length tasks →

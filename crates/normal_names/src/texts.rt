@@ -1,7 +1,7 @@
 // The texts of the names that are added.
 
 ghost use Rattle.std.specs.Prelude.{◌≡◌, IfOk, string_bytes};
-ghost use Rattle.normal_model.specs.Names.{member_text, variable_text};
+ghost use Rattle.normal_model.specs.Names.{name_of_member, variable_text};
 
 use ada_tree::Memory;
 use itoa::Buffer;
@@ -9,7 +9,7 @@ use std::alloc::Global;
 
 // The text of the member of an array at an index.
 pub(crate) fn member_text(alloc: Global, array: &str, index: i32) -> Result<String, Memory>
-    ensures { IfOk result (λ text. string_bytes text ≡ member_text array.now index) }
+    ensures { IfOk result (λ text. string_bytes text ≡ name_of_member array.now index) }
 {
     let mut buffer = Buffer::new();
     let mut text = String::from_str(alloc, array)?;

@@ -7,7 +7,7 @@ use Rattle.ada_tree.specs.Scope.{Scope}
 use Rattle.ada_tree.specs.Demand.{Site}
 use Rattle.ada_tree.specs.Declaring.{declared_object, after_decl, after_decls}
 use Rattle.ada_tree.specs.Sites.{with_words, decl_sites, decls_sites}
-use Rattle.syn_event.specs.Units.{tasks_in}
+use Rattle.syn_event.specs.DeclaredTasks.{tasks_in}
 use Rattle.normal_model.specs.NormalTree.{decls_front}
 use Rattle.ada_duplicates.specs.NamedSoFar.{object_words}
 use Rattle.ada_duplicates.proofs.Behind.{with_names_is, still_in_main, object_is}

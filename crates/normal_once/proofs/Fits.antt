@@ -5,10 +5,10 @@ use Rattle.std.proofs.lemmas.Grind.{flat_map-append}
 use Rattle.ada_tree.specs.PlainProgram.{PProgram}
 use Rattle.ada_tree.specs.Scope.{Scope}
 use Rattle.ada_tree.specs.Demand.{Site}
-use Rattle.ada_tree.specs.Declaring.{before_all, first_scope, inside, after_decls}
+use Rattle.ada_tree.specs.Declaring.{before_all, first_scope, inner_scope, after_decls}
 use Rattle.ada_tree.specs.Sites.{names_sites, decls_sites, body_sites, sites}
 use Rattle.ada_tree.specs.Refusals.{MeetsTypeRules}
-use Rattle.syn_event.specs.Units.{decl_list}
+use Rattle.syn_event.specs.DeclaredTasks.{decl_list}
 use Rattle.rewritten_types.proofs.Refused.{declared_once}
 use Rattle.ada_duplicates.specs.NamingsInOrder.{namings_of}
 use Rattle.ada_duplicates.specs.declared.namings_in_order.Naming.{Naming}
@@ -72,7 +72,7 @@ module _ (p : PProgram) (meets : MeetsTypeRules p) where
   decls = decls_sites s p.decls
 
   abbrev last : List Site
-  last = body_sites (inside (after_decls s p.decls)) p.body
+  last = body_sites (inner_scope (after_decls s p.decls)) p.body
 
   -- what is named in three parts
   parts : namings_of (sites p) ≡ (namings_of first ++ namings_of decls) ++ namings_of last
@@ -90,7 +90,7 @@ module _ (p : PProgram) (meets : MeetsTypeRules p) where
   inner : AllByRecursion (IsFitDecl fixed) (decl_list p.decls) × AllByRecursion (IsFitIn fixed) (body_names p.body)
   inner = (
     decls-fit-in fixed p.decls s (all_back (IsFitIn fixed) (namings_of first) (namings_of decls) (all_front (IsFitIn fixed) (namings_of first ++ namings_of decls) (namings_of last) all-fit)),
-    subst (AllByRecursion (IsFitIn fixed)) (body-is (inside (after_decls s p.decls)) p.body) (all_back (IsFitIn fixed) (namings_of first ++ namings_of decls) (namings_of last) all-fit),
+    subst (AllByRecursion (IsFitIn fixed)) (body-is (inner_scope (after_decls s p.decls)) p.body) (all_back (IsFitIn fixed) (namings_of first ++ namings_of decls) (namings_of last) all-fit),
   )
 
 pub inner_is_fit : InnerIsFit

@@ -7,10 +7,10 @@ use Rattle.ada_tree.specs.PlainStmt.{PBody}
 use Rattle.ada_tree.specs.PlainDecl.{PTask, PDecl, DNumber, DObject, DEnumeration, DArray, DSubtype, DException, DIntIo, DPragma, DTask, DTaskBody, PDecls, no_decl, decl_then}
 use Rattle.ada_tree.specs.Scope.{Scope, integer_kind}
 use Rattle.ada_tree.specs.Demand.{gives_body, Site}
-use Rattle.ada_tree.specs.Declaring.{inside, in_body, after_decl, after_objects}
+use Rattle.ada_tree.specs.Declaring.{inner_scope, in_body, after_decl, after_objects}
 use Rattle.ada_tree.specs.RuleDuplicate.{is_among}
 use Rattle.ada_tree.specs.Sites.{site, static_of, names_sites, entries_sites, task_sites, own_sites, body_sites, decl_sites, decls_sites}
-use Rattle.syn_event.specs.Units.{decl_list}
+use Rattle.syn_event.specs.DeclaredTasks.{decl_list}
 use Rattle.ada_duplicates.proofs.Behind.{quiet_priorities, names_are, own_are, then_quiet}
 use Rattle.ada_duplicates.specs.NamingsInOrder.{namings_of}
 use Rattle.ada_duplicates.specs.declared.namings_in_order.Naming.{Naming}
@@ -46,11 +46,11 @@ body-named s w rest l e = ap (λ m. Once (is_among s.bodies w.name.0) w ∷ m) e
 pub task-body-is : (s : Scope) (w : Word) (objects : PDecls) (its : PBody) (sp : Span) →
     namings_of (decl_sites s (DTaskBody w objects its sp)) ≡ Once (is_among s.bodies w.name.0) w ∷ inner_names objects its
 task-body-is s w objects its sp =
-    body-named s w (own_sites (in_body s w) objects ++ body_sites (inside (after_objects (in_body s w) objects)) its) _
-    (namings_append (own_sites (in_body s w) objects) (body_sites (inside (after_objects (in_body s w) objects)) its)
+    body-named s w (own_sites (in_body s w) objects ++ body_sites (inner_scope (after_objects (in_body s w) objects)) its) _
+    (namings_append (own_sites (in_body s w) objects) (body_sites (inner_scope (after_objects (in_body s w) objects)) its)
     ∙ ap₂ (λ (a b : List Naming). a ++ b)
     (ap (λ (ds : PDecls). namings_of (own_sites (in_body s w) ds)) (sym (list_again objects)) ∙ own_are (in_body s w) (decl_list objects) refl)
-    (body-is (inside (after_objects (in_body s w) objects)) its))
+    (body-is (inner_scope (after_objects (in_body s w) objects)) its))
 
 -- ---- declarations
 

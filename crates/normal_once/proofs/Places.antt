@@ -8,10 +8,10 @@ use Rattle.ada_tree.specs.PlainDecl.{PEntry}
 use Rattle.ada_tree.specs.ExprTypes.{kind_of}
 use Rattle.ada_tree.specs.Scope.{Scope, Range, entry_named}
 use Rattle.ada_tree.specs.Demand.{accepts, chooses, declares_entry, labels, Site}
-use Rattle.ada_tree.specs.Declaring.{inside, with_formals}
+use Rattle.ada_tree.specs.Declaring.{inner_scope, with_formals}
 use Rattle.ada_tree.specs.RuleDuplicate.{is_among}
 use Rattle.ada_tree.specs.RuleChoiceBad.{selected_range}
-use Rattle.ada_tree.specs.Sites.{site, if_there, expr_sites, drange_sites, call_sites, accept_index_sites, head_sites, formals_sites, formal_mark_sites, all_names, names_sites, condition, choice_sites, choices_of, is_present, handler_names_sites, with_words, scheme_sites, loop_scope, stmt_sites, stmts_sites, maybe_sites, accept_sites, alts_sites, alt_sites, arms_sites, case_arms_sites, handlers_sites, body_sites, entry_sites, entries_sites}
+use Rattle.ada_tree.specs.Sites.{site, if_there, expr_sites, drange_sites, call_sites, accept_index_sites, head_sites, formals_sites, formal_mark_sites, all_names, names_sites, condition_sites, choice_sites, arm_choices, is_present, handler_names_sites, with_words, scheme_sites, loop_scope, stmt_sites, stmts_sites, maybe_sites, accept_sites, alts_sites, alt_sites, arms_sites, case_arms_sites, handlers_sites, body_sites, entry_sites, entries_sites}
 use Rattle.ada_duplicates.proofs.Noting.{quiet_site, quiet_there, quiet_flat, quiet_expr, quiet_of, quiet_drange, quiet_call, quiet_index, quiet_choice, quiet_leaf, quiet_formal_marks, declared_are, namings_append, once_are, quiet_none}
 use Rattle.ada_duplicates.specs.NamingsInOrder.{namings_of, declared}
 use Rattle.ada_duplicates.specs.declared.namings_in_order.Naming.{Naming}
@@ -37,7 +37,7 @@ three xs ys zs a b c p q r = both (xs ++ ys) zs (a ++ b) c (both xs ys a b p q) 
 
 formals-are : (scope : Scope) (formals : List PFormal) → namings_of (formals_sites scope formals) ≡ declared false [] (all_names formals)
 formals-are scope formals =
-    then_quiet (names_sites false (inside scope) (all_names formals)) (formal_mark_sites scope formals) (declared false [] (all_names formals))
+    then_quiet (names_sites false (inner_scope scope) (all_names formals)) (formal_mark_sites scope formals) (declared false [] (all_names formals))
     (declared_are false scope [] (all_names formals)) ((quiet_formal_marks scope formals))
 
 head-is : (scope : Scope) (h : PHead) → namings_of (head_sites scope h) ≡ declared false [] (all_names h.formals)
@@ -51,13 +51,13 @@ unfolding namings_of
 label-is scope (Some w) = refl
 label-is scope None = refl
 
-parameter-is : (scope : Scope) (w : Word) → namings_of (names_sites false (inside scope) (w ∷ [])) ≡ Declares false false w ∷ []
+parameter-is : (scope : Scope) (w : Word) → namings_of (names_sites false (inner_scope scope) (w ∷ [])) ≡ Declares false false w ∷ []
 unfolding namings_of
 parameter-is scope w = refl
 
 scheme-is : (scope : Scope) (c : Option PScheme) → namings_of (if_there (scheme_sites scope) c) ≡ scheme_names c
 scheme-is scope (Some (LFor w r x)) =
-    then_quiet (names_sites false (inside scope) (w ∷ [])) (drange_sites false scope x) (Declares false false w ∷ []) (parameter-is scope w) ((quiet_drange false scope x))
+    then_quiet (names_sites false (inner_scope scope) (w ∷ [])) (drange_sites false scope x) (Declares false false w ∷ []) (parameter-is scope w) ((quiet_drange false scope x))
 scheme-is scope (Some (LWhile e)) = (quiet_of scope (Some 1) e)
 scheme-is scope None = quiet_none
 
@@ -82,9 +82,9 @@ mutual
   stmt-is scope (STimed c b d a s) = three (call_sites scope c) (stmts_sites scope b) (stmts_sites scope a) [] (stmts_names b) (stmts_names a) ((quiet_call scope c)) (stmts-are scope b) (stmts-are scope a)
   stmt-is scope (SIf x o s) = both (arms_sites scope x) (maybe_sites scope o) _ _ (arms-are scope x) (maybe-is scope o)
   stmt-is scope (SCase e x o s) =
-      both (site scope (chooses e (choices_of x) (is_present o) s) ∷ expr_sites scope e ++ case_arms_sites scope (kind_of scope e) (selected_range scope e) x) (maybe_sites scope o) (case_arms_names x) (maybe_names o)
-      (front-quiet (site scope (chooses e (choices_of x) (is_present o) s) ∷ expr_sites scope e) (case_arms_sites scope (kind_of scope e) (selected_range scope e) x) (case_arms_names x)
-      ((quiet_site scope (chooses e (choices_of x) (is_present o) s) (expr_sites scope e) refl (quiet_expr scope e)))
+      both (site scope (chooses e (arm_choices x) (is_present o) s) ∷ expr_sites scope e ++ case_arms_sites scope (kind_of scope e) (selected_range scope e) x) (maybe_sites scope o) (case_arms_names x) (maybe_names o)
+      (front-quiet (site scope (chooses e (arm_choices x) (is_present o) s) ∷ expr_sites scope e) (case_arms_sites scope (kind_of scope e) (selected_range scope e) x) (case_arms_names x)
+      ((quiet_site scope (chooses e (arm_choices x) (is_present o) s) (expr_sites scope e) refl (quiet_expr scope e)))
       (case-arms-are scope (kind_of scope e) (selected_range scope e) x))
       (maybe-is scope o)
   stmt-is scope (SBlock b s) = body-is scope b
@@ -101,12 +101,12 @@ mutual
   maybe-is scope (present l) = stmts-are scope l
 
   accept-is : (scope : Scope) (a : PAccept) → namings_of (accept_sites scope a) ≡ accept_names a
-  accept-is scope (accepting h o) = both (head_sites scope h) (maybe_sites (with_formals (inside scope) h.formals) o) (declared false [] (all_names h.formals)) (maybe_names o) (head-is scope h) (maybe-is (with_formals (inside scope) h.formals) o)
+  accept-is scope (accepting h o) = both (head_sites scope h) (maybe_sites (with_formals (inner_scope scope) h.formals) o) (declared false [] (all_names h.formals)) (maybe_names o) (head-is scope h) (maybe-is (with_formals (inner_scope scope) h.formals) o)
 
   alts-are : (scope : Scope) (x : PAlts) → namings_of (alts_sites scope x) ≡ alts_names x
   alts-are scope no_alt = quiet_none
   alts-are scope (alt_then (alternative g x s) l) =
-      three (if_there (condition scope) g) (alt_sites scope x) (alts_sites scope l) [] (kind_names x) (alts_names l) ((quiet_there (condition scope) g (quiet_of scope (Some 1)))) (kind-is scope x) (alts-are scope l)
+      three (if_there (condition_sites scope) g) (alt_sites scope x) (alts_sites scope l) [] (kind_names x) (alts_names l) ((quiet_there (condition_sites scope) g (quiet_of scope (Some 1)))) (kind-is scope x) (alts-are scope l)
 
   kind-is : (scope : Scope) (x : PAltKind) → namings_of (alt_sites scope x) ≡ kind_names x
   kind-is scope (AAccept a l) = both (accept_sites scope a) (stmts_sites scope l) (accept_names a) (stmts_names l) (accept-is scope a) (stmts-are scope l)
@@ -115,7 +115,7 @@ mutual
 
   arms-are : (scope : Scope) (x : PArms) → namings_of (arms_sites scope x) ≡ arms_names x
   arms-are scope no_arm = quiet_none
-  arms-are scope (arm_then (arm e l) rest) = three (condition scope e) (stmts_sites scope l) (arms_sites scope rest) [] (stmts_names l) (arms_names rest) ((quiet_of scope (Some 1) e)) (stmts-are scope l) (arms-are scope rest)
+  arms-are scope (arm_then (arm e l) rest) = three (condition_sites scope e) (stmts_sites scope l) (arms_sites scope rest) [] (stmts_names l) (arms_names rest) ((quiet_of scope (Some 1) e)) (stmts-are scope l) (arms-are scope rest)
 
   case-arms-are : (scope : Scope) (k : Option ℕ) (range : Option Range) (x : PCaseArms) → namings_of (case_arms_sites scope k range x) ≡ case_arms_names x
   case-arms-are scope k range no_case_arm = quiet_none

@@ -17,10 +17,11 @@ use Rattle.task_model.specs.Calls.{variable_of}
 use Rattle.normal_model.specs.Making.{one, or_null, Kept, kept_before, moving}
 use Rattle.normal_model.specs.Members.{callee_kept, member_arm, by_member, chosen_if, chosen, known_callee, members_of}
 use Rattle.normal_model.specs.Calls.{Slot, slots_called, lists_called, actual_before, actuals_before, copied_to, actual_behind, actuals_behind, indices_kept, actual_number, call_before, call_behind, call_to, plain_image, is_chosen, flagged, part_taken, select_if, select_image}
-use Rattle.normal_model.specs.Waits.{Unit, accept_kept, head_of, accept_left, accept_image, kind_kept, kind_left, under_guard, guarded_before, alternative_before, behind_guard, all_guards, raised_unless, closed_test, wait_image}
+use Rattle.normal_model.specs.RewrittenUnit.{RewrittenUnit}
+use Rattle.normal_model.specs.Waits.{accept_kept, head_of, accept_left, accept_image, kind_kept, kind_left, under_guard, guarded_before, alternative_before, behind_guard, all_guards, raised_unless, closed_test, wait_image}
 use Rattle.normal_model.specs.Aborts.{abort_of, callee_aborted, callees_aborted, abort_image}
 use Rattle.normal_model.specs.Variables.{statement_variables, alternative_variables}
-use Rattle.normal_model.specs.Walk.{Rewriter, after_parts, after_stmts, after_accept, after_kind, after_alt, after_alts, after_arms, after_case_arms, alts_leads, leads, inside, rewritten, inside_maybe, inside_accept, inside_kind, inside_alts, inside_arms, inside_case_arms, inside_body, inside_handlers}
+use Rattle.normal_model.specs.Walk.{Rewriter, after_parts, after_stmts, after_accept, after_kind, after_alt, after_alts, after_arms, after_case_arms, alts_leads, leads, parts_rewritten, rewritten, inside_maybe, inside_accept, inside_kind, inside_alts, inside_arms, inside_case_arms, inside_body, inside_handlers}
 use Rattle.normal_model.specs.NormalStmts.{normal_image, normal_rewriter, normal_body}
 use Rattle.ada_duplicates.specs.NamingsInOrder.{declared, named_once}
 use Rattle.ada_duplicates.specs.declared.namings_in_order.Naming.{Naming}
@@ -135,7 +136,7 @@ module _ (g : Setting) (s : Span) where
 
 -- ---- accepts and waits
 
-module _ (u : Unit) where
+module _ (u : RewrittenUnit) where
   abbrev r : Rewriter (List PDecl)
   r = normal_rewriter u
 
@@ -183,7 +184,7 @@ module _ (u : Unit) where
 
   mutual
     -- what stands in the place of a statement, where `t` are the variables behind those that it asks for itself
-    image-same : (x : PStmt) (n : ℕ) (t : List PDecl) → stmts_names (in_front (leads r x t) (normal_image u n (inside r x t))) ≡ stmt_names x
+    image-same : (x : PStmt) (n : ℕ) (t : List PDecl) → stmts_names (in_front (leads r x t) (normal_image u n (parts_rewritten r x t))) ≡ stmt_names x
     image-same (SNull s) n t = refl
     image-same (SAssign x e s) n t = refl
     image-same (SDelay d s) n t = refl
@@ -215,7 +216,7 @@ module _ (u : Unit) where
     stmts-same no_stmt t = refl
     stmts-same (stmt_then x l) t =
         let t' : List PDecl = statement_variables u t x in
-        front-names (in_front (leads r x t') (normal_image u (length t) (inside r x t'))) (rewritten r l (after_parts r x t'))
+        front-names (in_front (leads r x t') (normal_image u (length t) (parts_rewritten r x t'))) (rewritten r l (after_parts r x t'))
         ∙ ap₂ (λ (a b : List Naming). a ++ b) (image-same x (length t) t') (stmts-same l (after_parts r x t'))
 
     maybe-same : (o : PMaybe) (t : List PDecl) → maybe_names (inside_maybe r o t) ≡ maybe_names o

@@ -10,7 +10,7 @@ use Rattle.ada_tree.specs.declared.naming.Span.{Span}
 use Rattle.ada_tree.specs.declared.naming.Word.{Word}
 use Rattle.ada_tree.specs.PlainExpr.{PSubind, PDrange}
 use Rattle.ada_tree.specs.PlainDecl.{PShape, OPlain, OArray, PInit, PTask, PDecl, DNumber, DObject, DEnumeration, DArray, DSubtype, DException, DIntIo, DPragma, DTask, DTaskBody, PDecls, no_decl, decl_then}
-use Rattle.ada_tree.specs.Scope.{Scope, Seen, EntryPart, Thing, TaskType, Marking, TaskMark, marking_of, marking, meaning}
+use Rattle.ada_tree.specs.Scope.{Scope, NameMeaning, EntryPart, Thing, TaskType, Marking, TaskMark, marking_of, marking, meaning}
 use Rattle.ada_tree.specs.Sites.{is_task_object, with_words, decl_sites, decls_sites}
 use Rattle.ada_tree.specs.Declaring.{with_name, with_names, seen_as, task_thing, task_object, plain_object, declared_object, after_decl}
 use Rattle.ada_tree.specs.RuleDuplicate.{is_predefined, is_among}
@@ -57,16 +57,16 @@ used-after s d id h = subst (λ (l : List ℕ). (is_predefined id.0 || is_among 
 abbrev AreOthers : NameId → List Word → Type 0
 AreOthers id ws = AllByRecursion (λ (w : Word). (w.name.0 == id.0) ≡ false) ws
 
-means-name : (x : Thing) (w : Word) (names : List Seen) (id : NameId) → (w.name.0 == id.0) ≡ false → find (λ (y : Seen). y.name == id.0) (seen_as x w.name.0 ∷ names) ≡ find (λ (y : Seen). y.name == id.0) names
-means-name x w names id e = ap (λ (b : Bool). if b then Some (seen_as x w.name.0) else find (λ (y : Seen). y.name == id.0) names) e
+means-name : (x : Thing) (w : Word) (names : List NameMeaning) (id : NameId) → (w.name.0 == id.0) ≡ false → find (λ (y : NameMeaning). y.name == id.0) (seen_as x w.name.0 ∷ names) ≡ find (λ (y : NameMeaning). y.name == id.0) names
+means-name x w names id e = ap (λ (b : Bool). if b then Some (seen_as x w.name.0) else find (λ (y : NameMeaning). y.name == id.0) names) e
 
 means-names : (x : Thing) (ws : List Word) (s : Scope) (id : NameId) → AreOthers id ws → meaning (with_names x s ws) id ≡ meaning s id
 means-names x [] s id h = refl
-means-names x (w ∷ ws) s id h = means-names x ws (with_name x s w) id h.1 ∙ ap (option_map (λ (y : Seen). y.thing)) (means-name x w s.names id h.0)
+means-names x (w ∷ ws) s id h = means-names x ws (with_name x s w) id h.1 ∙ ap (option_map (λ (y : NameMeaning). y.thing)) (means-name x w s.names id h.0)
 
-means-one : (x : Thing) (w : Word) (names : List Seen) (id : NameId) → (w.name.0 == id.0) ≡ false →
-    option_map (λ (y : Seen). y.thing) (find (λ (y : Seen). y.name == id.0) (seen_as x w.name.0 ∷ names)) ≡ option_map (λ (y : Seen). y.thing) (find (λ (y : Seen). y.name == id.0) names)
-means-one x w names id e = ap (option_map (λ (y : Seen). y.thing)) (means-name x w names id e)
+means-one : (x : Thing) (w : Word) (names : List NameMeaning) (id : NameId) → (w.name.0 == id.0) ≡ false →
+    option_map (λ (y : NameMeaning). y.thing) (find (λ (y : NameMeaning). y.name == id.0) (seen_as x w.name.0 ∷ names)) ≡ option_map (λ (y : NameMeaning). y.thing) (find (λ (y : NameMeaning). y.name == id.0) names)
+means-one x w names id e = ap (option_map (λ (y : NameMeaning). y.thing)) (means-name x w names id e)
 
 means-after : (s : Scope) (d : PDecl) (id : NameId) → AreOthers id (names_declared d) → meaning (after_decl s d) id ≡ meaning s id
 means-after s (DNumber w e sp) id h = means-one _ w s.names id h.0
@@ -94,7 +94,7 @@ type-stands : (b : Bool) (s : Scope) (t : PTask) (entries : List EntryPart) (kin
 type-stands true s t entries kinds h = (
   record {
     used = or_right (is_predefined t.name.name.0) _ (or_left (t.name.name.0 == t.name.name.0) (is_among s.here t.name.name.0) (eq-eqb t.name.name.0 t.name.name.0 refl));
-    type = subst (λ (b : Bool). IsTypeThing (option_map (λ (y : Seen). y.thing) (if b then Some (seen_as (TaskType entries) t.name.name.0) else find (λ (y : Seen). y.name == t.name.name.0) s.names))) (sym (eq-eqb t.name.name.0 t.name.name.0 refl)) tt;
+    type = subst (λ (b : Bool). IsTypeThing (option_map (λ (y : NameMeaning). y.thing) (if b then Some (seen_as (TaskType entries) t.name.name.0) else find (λ (y : NameMeaning). y.name == t.name.name.0) s.names))) (sym (eq-eqb t.name.name.0 t.name.name.0 refl)) tt;
   },
   h,
 )

@@ -11,9 +11,9 @@ use Rattle.ada_tree.specs.declared.static_types.Mark.{Mark}
 use Rattle.ada_tree.specs.TypeTable.{TypeTable}
 use Rattle.ada_tree.specs.PlainExpr.{PDrange, PSubind}
 use Rattle.ada_tree.specs.PlainDecl.{PShape, OPlain, OArray, PTask, PDecl, DNumber, DObject, DEnumeration, DArray, DSubtype, DException, DIntIo, DPragma, DTask, DTaskBody}
-use Rattle.ada_tree.specs.Scope.{Scope, Seen, Range, EntryPart, Thing, TypeMark, TaskType, SingleTask, TaskObject, TaskArray, Variable, ConstantObject, Parameter, LoopParameter, Literal, AnException, MainProcedure, AnotherUnit, Unclear, Marking, ScalarMark, ArrayMark, TaskMark, NoMark, UnknownMark, UnclearMark, marking_of_kind, marking_of_mark, marking_of, marking, meaning, kind_at, mark_at}
+use Rattle.ada_tree.specs.Scope.{Scope, NameMeaning, Range, EntryPart, Thing, TypeMark, TaskType, SingleTask, TaskObject, TaskArray, Variable, ConstantObject, Parameter, LoopParameter, Literal, AnException, MainProcedure, AnotherUnit, Unclear, Marking, ScalarMark, ArrayMark, TaskMark, NoMark, UnknownMark, UnclearMark, marking_of_kind, marking_of_mark, marking_of, marking, meaning, kind_at, mark_at}
 use Rattle.ada_tree.specs.Sites.{is_task_object}
-use Rattle.ada_tree.specs.Declaring.{with_name, with_names, first_scope, object_of, task_object, task_array, plain_object, array_object, declared_object, type_of_mark, task_thing, after_decl}
+use Rattle.ada_tree.specs.Declaring.{with_name, with_names, first_scope, object_meaning, task_object, task_array, plain_object, array_object, declared_object, type_of_mark, task_thing, after_decl}
 use Rattle.syn_event.specs.NamedTasks.{type_named, with_type}
 use Rattle.normal_model.specs.NormalTree.{mark_of}
 use Rattle.rewritten_types.proofs.Lookups.{find-all}
@@ -65,7 +65,7 @@ marking-no types None h = tt
 
 -- ---- objects
 
-object-no : (constant : Bool) (o : Option ℕ) → is_task_object (object_of constant o) ≡ false
+object-no : (constant : Bool) (o : Option ℕ) → is_task_object (object_meaning constant o) ≡ false
 object-no true (Some m) = refl
 object-no false (Some m) = refl
 object-no true None = refl
@@ -92,7 +92,7 @@ shape-no s constant (OPlain x) h = plain-no s constant (marking s x.mark.name) x
 shape-no s constant (OArray index x) h = array-no s constant (marking s x.mark.name) index x h
 
 -- no object is a task type
-object-type : (constant : Bool) (o : Option ℕ) → IsNoType (object_of constant o)
+object-type : (constant : Bool) (o : Option ℕ) → IsNoType (object_meaning constant o)
 object-type true (Some m) = tt
 object-type false (Some m) = tt
 object-type true None = tt
@@ -139,8 +139,8 @@ abbrev IsTypeOf : List PTask → Thing → ℕ → Type 0
 IsTypeOf kinds (TaskType entries) n = is_some (type_named kinds record { 0 = n }) ≡ true
 IsTypeOf kinds _ n = Unit {0}
 
-abbrev TypesAre : List PTask → List Seen → Type 0
-TypesAre kinds names = AllByRecursion (λ (x : Seen). IsTypeOf kinds x.thing x.name) names
+abbrev TypesAre : List PTask → List NameMeaning → Type 0
+TypesAre kinds names = AllByRecursion (λ (x : NameMeaning). IsTypeOf kinds x.thing x.name) names
 
 -- the task types that can be used are among these
 pub record HasTypes (kinds : List PTask) (s : Scope) : Type 0 where
@@ -170,7 +170,7 @@ names-types kinds x [] s h k = k
 names-types kinds x (w ∷ ws) s h k = names-types kinds x ws (with_name x s w) h (no-type-of kinds x w.name.0 h, k)
 
 -- behind a task type there is one more
-more-types : (kinds : List PTask) (t : PTask) (names : List Seen) → TypesAre kinds names → TypesAre (t ∷ kinds) names
+more-types : (kinds : List PTask) (t : PTask) (names : List NameMeaning) → TypesAre kinds names → TypesAre (t ∷ kinds) names
 more-types kinds t [] h = tt
 more-types kinds t (x ∷ names) h = (one x.thing h.0, more-types kinds t names h.1)
   where
@@ -194,7 +194,7 @@ more-types kinds t (x ∷ names) h = (one x.thing h.0, more-types kinds t names 
     one AnotherUnit e = tt
     one Unclear e = tt
 
-task-types : (b : Bool) (kinds : List PTask) (t : PTask) (entries : List EntryPart) (names : List Seen) → TypesAre kinds names →
+task-types : (b : Bool) (kinds : List PTask) (t : PTask) (entries : List EntryPart) (names : List NameMeaning) → TypesAre kinds names →
     IsTypeOf (with_type kinds b t) (task_thing b entries) t.name.name.0 × TypesAre (with_type kinds b t) names
 task-types true kinds t entries names h =
     (ap (λ (c : Bool). is_some (if c then Some t else type_named kinds record { 0 = t.name.name.0 })) (eq-eqb t.name.name.0 t.name.name.0 refl), more-types kinds t names h)
@@ -220,17 +220,17 @@ types-after kinds (DTaskBody w objects its sp) s h = record { types = h.types }
 -- ---- objects of another mark
 
 -- what is found passes
-found-passes : (id : NameId) (names : List Seen) (x : Seen) → find (λ (y : Seen). y.name == id.0) names ≡ Some x → (x.name == id.0) ≡ true
+found-passes : (id : NameId) (names : List NameMeaning) (x : NameMeaning) → find (λ (y : NameMeaning). y.name == id.0) names ≡ Some x → (x.name == id.0) ≡ true
 found-passes id [] x f = absurd (none-some x f)
 found-passes id (y ∷ names) x f = by_test (y.name == id.0) refl f (found-passes id names x)
   where
-    by_test : (b : Bool) → (y.name == id.0) ≡ b → (if b then Some y else find (λ (z : Seen). z.name == id.0) names) ≡ Some x → (find (λ (z : Seen). z.name == id.0) names ≡ Some x → (x.name == id.0) ≡ true) → (x.name == id.0) ≡ true
-    by_test true e g rest = ap (λ (z : Seen). z.name == id.0) (sym (some_same g)) ∙ e
+    by_test : (b : Bool) → (y.name == id.0) ≡ b → (if b then Some y else find (λ (z : NameMeaning). z.name == id.0) names) ≡ Some x → (find (λ (z : NameMeaning). z.name == id.0) names ≡ Some x → (x.name == id.0) ≡ true) → (x.name == id.0) ≡ true
+    by_test true e g rest = ap (λ (z : NameMeaning). z.name == id.0) (sym (some_same g)) ∙ e
     by_test false e g rest = rest g
 
 -- a name that is none of a task type means none
 means-no-type : (kinds : List PTask) (s : Scope) (id : NameId) → HasTypes kinds s → is_some (type_named kinds id) ≡ false → IsNoneOrNoType (meaning s id)
-means-no-type kinds s id h e = by_seen (find (λ (x : Seen). x.name == id.0) s.names) refl
+means-no-type kinds s id h e = by_seen (find (λ (x : NameMeaning). x.name == id.0) s.names) refl
   where
     thing-no : (x : Thing) (n : ℕ) → (n == id.0) ≡ true → IsTypeOf kinds x n → IsNoType x
     thing-no (TaskType entries) n f k = absurd (true≢false (sym k ∙ ap (λ m. is_some (type_named kinds record { 0 = m })) (eqb-true n id.0 f) ∙ e))
@@ -248,9 +248,9 @@ means-no-type kinds s id h e = by_seen (find (λ (x : Seen). x.name == id.0) s.n
     thing-no AnotherUnit n f k = tt
     thing-no Unclear n f k = tt
 
-    by_seen : (o : Option Seen) → find (λ (x : Seen). x.name == id.0) s.names ≡ o → IsNoneOrNoType (option_map (λ (x : Seen). x.thing) o)
+    by_seen : (o : Option NameMeaning) → find (λ (x : NameMeaning). x.name == id.0) s.names ≡ o → IsNoneOrNoType (option_map (λ (x : NameMeaning). x.thing) o)
     by_seen None f = tt
-    by_seen (Some x) f = thing-no x.thing x.name (found-passes id s.names x f) (find-all (λ (y : Seen). IsTypeOf kinds y.thing y.name) (λ (y : Seen). y.name == id.0) s.names x h.types f)
+    by_seen (Some x) f = thing-no x.thing x.name (found-passes id s.names x f) (find-all (λ (y : NameMeaning). IsTypeOf kinds y.thing y.name) (λ (y : NameMeaning). y.name == id.0) s.names x h.types f)
 
 -- So an object whose mark is none of these is no task.
 pub no-task : (kinds : List PTask) (s : Scope) (constant : Bool) (x : PShape) → HasTypes kinds s → is_some (type_named kinds (mark_of x)) ≡ false → is_task_object (declared_object s constant x).thing ≡ false

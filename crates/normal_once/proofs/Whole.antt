@@ -6,7 +6,7 @@ use Rattle.ada_tree.specs.PlainDecl.{PTask, PDecl, DNumber, DObject, DEnumeratio
 use Rattle.ada_tree.specs.Scope.{Scope}
 use Rattle.ada_tree.specs.Declaring.{first_scope, after_decl, after_decls}
 use Rattle.ada_tree.specs.Sites.{decls_sites}
-use Rattle.syn_event.specs.Units.{decl_list}
+use Rattle.syn_event.specs.DeclaredTasks.{decl_list}
 use Rattle.normal_model.specs.NormalTree.{decls_front, first_decls, main_unit}
 use Rattle.normal_types.specs.Laws.{setting_of}
 use Rattle.normal_types.proofs.Normal.{front-after}

@@ -13,9 +13,9 @@ use Rattle.ada_tree.specs.Sites.{decls_sites, body_sites, sites}
 use Rattle.ada_tree.specs.Refusals.{MeetsTypeRules}
 use Rattle.syn_event.specs.Numbering.{Numbering}
 use Rattle.syn_event.specs.NamedTasks.{task_names_of}
-use Rattle.syn_event.specs.Units.{decl_list, tasks_in}
+use Rattle.syn_event.specs.DeclaredTasks.{decl_list, tasks_in}
 use Rattle.normal_model.specs.NormalTree.{first_decls, tasks_beside, task_declared, bodies_of, main_variables, normal_tree}
-use Rattle.normal_model.specs.Waits.{Unit}
+use Rattle.normal_model.specs.RewrittenUnit.{RewrittenUnit}
 use Rattle.normal_model.specs.NormalStmts.{normal_body}
 use Rattle.normal_types.specs.Laws.{setting_of}
 use Rattle.ada_duplicates.specs.NamedSoFar.{object_words}
@@ -34,7 +34,7 @@ ProgramIsFit = (p : PProgram) → MeetsTypeRules p → AreFit (namings_of (sites
 
 -- The statements of a unit in the normal form declare and name what those of the unit do, in the same order, whatever can be used at either.
 abbrev pub NormalNamesSame : Type 0
-NormalNamesSame = (u : Unit) (b : PBody) (s t : Scope) → namings_of (body_sites t (normal_body u b)) ≡ namings_of (body_sites s b)
+NormalNamesSame = (u : RewrittenUnit) (b : PBody) (s t : Scope) → namings_of (body_sites t (normal_body u b)) ≡ namings_of (body_sites s b)
 
 -- What the first declarations of a normal form name is fit, where the program meets the rules on types.
 abbrev pub FirstIsFit : Type 0

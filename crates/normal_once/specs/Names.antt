@@ -6,7 +6,7 @@ use Rattle.ada_tree.specs.PlainStmt.{PScheme, LWhile, LFor, PStmt, SAccept, SWai
 use Rattle.ada_tree.specs.PlainDecl.{PEntry, PTask, PDecl, DTask, DTaskBody, PDecls}
 use Rattle.ada_tree.specs.RuleDuplicate.{is_among}
 use Rattle.ada_tree.specs.Sites.{all_names, with_words}
-use Rattle.syn_event.specs.Units.{decl_list}
+use Rattle.syn_event.specs.DeclaredTasks.{decl_list}
 use Rattle.ada_duplicates.specs.NamedSoFar.{object_words}
 use Rattle.ada_duplicates.specs.NamingsInOrder.{declared, named_once}
 use Rattle.ada_duplicates.specs.declared.namings_in_order.Naming.{Naming}

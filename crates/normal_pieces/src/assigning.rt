@@ -5,7 +5,7 @@ ghost use Rattle.ada_tree.specs.PlainExpr.{plain_expr};
 ghost use Rattle.ada_tree.specs.PlainStmt.{plain_stmt, seen};
 ghost use Rattle.ada_expr_copy.specs.Parts.{OkWith};
 ghost use Rattle.task_model.specs.Frames.{in_front};
-ghost use Rattle.normal_model.specs.Making.{assigned, moving, one, variable};
+ghost use Rattle.normal_model.specs.Making.{assignment, moving, one, variable};
 ghost use Rattle.normal_model.specs.Names.{variable_name};
 ghost use Rattle.normal_model.specs.Ranges.{word_at};
 
@@ -56,7 +56,7 @@ pub fn assigned_stmt<M: Meanings>(
     span: Span,
 ) -> Result<Stmt, Memory>
     requires { M.fits m.now }
-    ensures { IfOk result (λ made. OkWith value (λ v. plain_stmt made ≡ assigned (M.setting m.now) span number (plain_expr v))) }
+    ensures { IfOk result (λ made. OkWith value (λ v. plain_stmt made ≡ assignment (M.setting m.now) span number (plain_expr v))) }
 {
     assignment_to(variable_word(m, number, span), value, span)
 }
@@ -70,7 +70,7 @@ pub fn push_assigned<M: Meanings>(
     out: &mut Vec<Stmt>,
 ) -> Result<(), Memory>
     requires { M.fits m.now }
-    ensures { OnOk result (OkWith value (λ v. seen out.new.items ≡ in_front (seen out.old.items) (one (assigned (M.setting m.now) span number (plain_expr v))))) }
+    ensures { OnOk result (OkWith value (λ v. seen out.new.items ≡ in_front (seen out.old.items) (one (assignment (M.setting m.now) span number (plain_expr v))))) }
 {
     push_made(out, assigned_stmt(m, number, value, span))
 }
@@ -85,7 +85,7 @@ pub fn push_copy<M: Meanings>(
     out: &mut Vec<Stmt>,
 ) -> Result<(), Memory>
     requires { M.fits m.now }
-    ensures { OnOk result (seen out.new.items ≡ in_front (seen out.old.items) (one (assigned (M.setting m.now) span number (plain_expr value.now)))) }
+    ensures { OnOk result (seen out.new.items ≡ in_front (seen out.old.items) (one (assignment (M.setting m.now) span number (plain_expr value.now)))) }
 {
     push_assigned(m, number, value.copy(alloc), span, out)
 }

@@ -6,7 +6,7 @@ ghost use Rattle.ada_tree.specs.PlainExpr.{plain_expr};
 ghost use Rattle.ada_tree.specs.PlainStmt.{plain_call, plain_callee};
 ghost use Rattle.ada_tree.specs.declared.naming.Span.{Span};
 ghost use Rattle.syn_event.specs.Numbering.{entry_at};
-ghost use Rattle.task_model.specs.Setting.{formals_of_info, is_family, task_of};
+ghost use Rattle.task_model.specs.Setting.{formals_of_info, is_family, callee_task};
 ghost use Rattle.normal_model.specs.Calls.{entry_called, slots_of};
 ghost use Rattle.normal_model.specs.Members.{known_task, members_of};
 ghost use Rattle.normal_model.specs.Names.{task_name_at, variable_name};
@@ -49,7 +49,7 @@ pub trait Meanings {
     /// The name of a callee without index or with a static one.
     fn callee_name(&self, callee: &Callee) -> NameId
         requires { fits self.now }
-        ensures { result ≡ task_name_at (setting self.now) (known_task (task_of (setting self.now) [] (plain_callee callee.now))) };
+        ensures { result ≡ task_name_at (setting self.now) (known_task (callee_task (setting self.now) [] (plain_callee callee.now))) };
 
     /// The members of an array of tasks, by ascending index.
     fn members(&self, array: NameId) -> &[Member]

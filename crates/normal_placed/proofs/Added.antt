@@ -12,7 +12,8 @@ use Rattle.normal_model.specs.Ranges.{marked, integer_subtype, truth_subtype, su
 use Rattle.normal_model.specs.Making.{Kept, kept_subtypes, kept_if, moving}
 use Rattle.normal_model.specs.Members.{callee_kept}
 use Rattle.normal_model.specs.Calls.{Slot, slots_of, slots_called, lists_called, entry_called, actual_subtypes, indices_kept, call_subtypes, is_chosen, flag_subtypes, select_subtypes}
-use Rattle.normal_model.specs.Waits.{Unit, accept_kept, kind_kept, guard_subtypes, alternative_subtypes}
+use Rattle.normal_model.specs.RewrittenUnit.{RewrittenUnit}
+use Rattle.normal_model.specs.Waits.{accept_kept, kind_kept, guard_subtypes, alternative_subtypes}
 use Rattle.normal_model.specs.Aborts.{abort_subtypes}
 use Rattle.normal_model.specs.Variables.{variable_declared, variables_declared, statement_variables, alternative_place, alternative_variables}
 use Rattle.normal_model.specs.NormalStmts.{normal_rewriter, unit_variables}
@@ -115,7 +116,7 @@ module _ (g : Setting) (Q : PSubind → Type 0) where
         from-append 0 t (variables_declared g s xs (length t)) i (subst (λ m. AreVariablesFrom m (variables_declared g s xs (length t))) e (declared-from s xs (length t) h))
 
     module _ (number : ℕ) where
-      abbrev u : Unit
+      abbrev u : RewrittenUnit
       u = record { setting = g; task = number }
 
       entered : (t : List PDecl) (x : PStmt) → AreVariablesFrom 0 t → AreVariablesFrom 0 (statement_variables u t x)

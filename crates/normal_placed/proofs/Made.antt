@@ -24,13 +24,14 @@ use Rattle.syn_event.specs.declared.limits.What.TheVariants.{Nesting}
 use Rattle.syn_event.specs.CheckSites as check
 use Rattle.syn_event.specs.Numbering.{task_at}
 use Rattle.legal_sites.specs.Met.{IsCheckMet}
-use Rattle.task_model.specs.Setting.{Setting, is_family, task_of, first_expr, lists_in, lists_of}
+use Rattle.task_model.specs.Setting.{Setting, is_family, callee_task, first_expr, lists_in, lists_of}
 use Rattle.normal_model.specs.Names.{variable_name, task_name, name_of_task}
 use Rattle.normal_model.specs.Ranges.{word_at, subtype_of_range, array_range, family_range}
-use Rattle.normal_model.specs.Making.{variable, assigned, kept_subtypes, kept_if, moving, index_left}
+use Rattle.normal_model.specs.Making.{variable, assignment, kept_subtypes, kept_if, moving, index_left}
 use Rattle.normal_model.specs.Members.{negative_literal, integer_literal, truth_literal, literal_in, kind_of_index, index_literal, known_task, members_of}
 use Rattle.normal_model.specs.Calls.{Slot, actual_subtypes, actuals_passed, entry_called, slots_called, lists_passed, args_passed, index_number, actual_number}
-use Rattle.normal_model.specs.Waits.{Unit, head_left}
+use Rattle.normal_model.specs.RewrittenUnit.{RewrittenUnit}
+use Rattle.normal_model.specs.Waits.{head_left}
 use Rattle.normal_model.specs.Variables.{variable_declared}
 use Rattle.normal_model.specs.Walk.{after_stmts, inside_handlers}
 use Rattle.normal_model.specs.NormalStmts.{normal_rewriter}
@@ -59,7 +60,7 @@ pub among : {A : Type 0} (P : A → Type 0) (x : A) (xs : List A) → IsAmong x 
 among P x xs (first_among ys) h = h.0
 among P x xs (later_among y ys i) h = among P x ys i h.1
 
-module _ (u : Unit) (vars : List PDecl) (names names' : List (List ℕ)) (known : AreNamed u.setting names') (few : length vars ≤ variables_needed u.setting) where
+module _ (u : RewrittenUnit) (vars : List PDecl) (names names' : List (List ℕ)) (known : AreNamed u.setting names') (few : length vars ≤ variables_needed u.setting) where
   abbrev g : Setting
   g = u.setting
 
@@ -99,7 +100,7 @@ module _ (u : Unit) (vars : List PDecl) (names names' : List (List ℕ)) (known 
 
   target-named : (x : PCallee) (w : Word) → IsTarget g x w → IsName names' w.name
   target-named x w (is_known e f) =
-      subst (λ v. IsName names' v.name) (sym f) (name-known (task_at g.numbers (known_task (task_of g [] x))) (known_task (task_of g [] x)) refl)
+      subst (λ v. IsName names' v.name) (sym f) (name-known (task_at g.numbers (known_task (callee_task g [] x))) (known_task (callee_task g [] x)) refl)
   target-named x w (is_member e info f i h) = subst (λ v. IsName names' v.name) (sym h) (member-named x.name.name info i)
 
   -- ---- literals
@@ -257,7 +258,7 @@ module _ (u : Unit) (vars : List PDecl) (names names' : List (List ℕ)) (known 
           same x z p = cc
 
   -- an assignment to a variable of what stood elsewhere
-  kept-placed : (c : CheckScope) (k n : ℕ) (s : Span) (x : PSubind) (e : PExpr) (j : ℕ) → Fits names names' c k e → IsVariable g vars s x j → n ≤ k + 4 → EveryStmt r n (assigned g s j e)
+  kept-placed : (c : CheckScope) (k n : ℕ) (s : Span) (x : PSubind) (e : PExpr) (j : ℕ) → Fits names names' c k e → IsVariable g vars s x j → n ≤ k + 4 → EveryStmt r n (assignment g s j e)
   kept-placed c k n s x e j f v le =
       let d : k ≤ 40 = expr-depth names c k e f.1 in
       assigned-placed s x j v n e (omega (arith, d, le)) (expr-moved names names' c k (n + 1) e (omega (arith, le)) f.0 f.1)

@@ -10,9 +10,9 @@ use Rattle.ada_tree.specs.declared.naming.NameId.{NameId}
 use Rattle.ada_tree.specs.NameList.{predefined, AreNames}
 use Rattle.ada_tree.specs.Lexical.{is_word, IsIdentifier}
 use Rattle.syn_event.specs.declared.numbering.TaskInfo.{TaskInfo}
-use Rattle.syn_event.specs.Units.{text_of}
+use Rattle.syn_event.specs.DeclaredTasks.{text_of}
 use Rattle.task_model.specs.Setting.{Setting}
-use Rattle.normal_model.specs.Names.{member_text, member_texts, variable_text, with_members, with_variables, normal_names, id_of, variable_name, member_name, task_name}
+use Rattle.normal_model.specs.Names.{name_of_member, member_texts, variable_text, with_members, with_variables, normal_names, id_of, variable_name, member_name, task_name}
 use Rattle.normal_model.specs.NormalTree.{variables_needed}
 use Rattle.normal_model.proofs.VariablesLemmas.{Begins, begins-refl, begins-trans}
 use Rattle.normal_types.proofs.Names.{interned-begins, fold-begins, variables-begin, names-begin, variable-there}
@@ -117,9 +117,9 @@ module _ (g : Setting) where
       go None i = old-named info.name here
       go (Some z) i =
           begins-name (with_members g) made_names (variables-begin (with_members g) count) (member_name g info.name (Some z))
-          (searched (with_members g) (member_text (text_of g.program.names info.name) z)
+          (searched (with_members g) (name_of_member (text_of g.program.names info.name) z)
           (begins-name g.program.names (with_members g) (fold-begins (member_texts g.program.names g.numbers.tasks) g.program.names) (record { 0 = 0 }) first)
-          (subst (λ x. IsIdentifier (member_text x z)) (sym text-is) (member-identifier t.text z word-is t.short i)))
+          (subst (λ x. IsIdentifier (name_of_member x z)) (sym text-is) (member-identifier t.text z word-is t.short i)))
 
 -- ---- all names
 

@@ -16,7 +16,7 @@ use Rattle.syn_event.specs.declared.numbering.TaskInfo.{TaskInfo}
 use Rattle.syn_event.specs.declared.numbering.EntryInfo.{EntryInfo}
 use Rattle.syn_event.specs.Numbering.{task_at, entry_at}
 use Rattle.syn_event.specs.NamedTasks.{NamedTasks, type_named, task_names_of_type, object_task_names, with_type, single_task_name, task_names_in, task_names_of}
-use Rattle.syn_event.specs.Units.{decl_list, tasks_in}
+use Rattle.syn_event.specs.DeclaredTasks.{decl_list, tasks_in}
 use Rattle.task_model.specs.Setting.{Setting, unit_named, formals_of_entry, formals_in, formals_of_unit, formals_of_info}
 use Rattle.normal_model.specs.Ranges.{marked, kind_of_range, kind_name, subtype_of_range, array_range, range_of_entry, range_in, range_of_unit, range_of_info, family_range}
 use Rattle.normal_model.specs.Calls.{Slot, slots_of}

@@ -9,7 +9,7 @@ use Rattle.std.proofs.lemmas.Bool.Decides.{nat_tests}
 use Rattle.std.proofs.lemmas.Slice.Eq.{bytes_eq-Decides}
 use Rattle.ada_tree.specs.Lexical.{reserved, is_upper_letter, is_digit, goes_on, is_word, IsIdentifier}
 use Rattle.normal_placed.specs.Placeable.{IsShortIndex}
-use Rattle.normal_model.specs.Names.{index_text, member_text, variable_text}
+use Rattle.normal_model.specs.Names.{index_text, name_of_member, variable_text}
 use Rattle.common_lemmas.proofs.Truth.{and_left, and_right, or_both}
 
 -- ---- digits
@@ -147,11 +147,11 @@ index-short : (i : ℤ) → IsShortIndex i → length (index_text i) ≤ 21
 index-short (pos n) l = let s : length (decimal n) ≤ 20 = decimal-short n l in omega (arith, s)
 index-short (negsuc n) l = let s : length (decimal (suc n)) ≤ 20 = decimal-short (suc n) l in omega (arith, s)
 
-pub member-identifier : (t : List ℕ) (i : ℤ) → is_word t ≡ true → length t ≤ 120 → IsShortIndex i → IsIdentifier (member_text t i)
+pub member-identifier : (t : List ℕ) (i : ℤ) → is_word t ≡ true → length t ≤ 120 → IsShortIndex i → IsIdentifier (name_of_member t i)
 member-identifier t i w l short =
     let e : goes_on false (codes "_DED_" ++ index_text i) ≡ true = index-follows i in
     let s : length (index_text i) ≤ 21 = index-short i short in
     let q : (t ++ codes "_DED_") ++ index_text i ≡ t ++ (codes "_DED_" ++ index_text i) = append_assoc t (codes "_DED_") (index_text i) in
-    let m : length (member_text t i) ≤ 150 = rw (length-append, length-append) (omega (arith, s, l)) in
-    identifier (member_text t i) (ap is_word q ∙ word-append t (codes "_DED_" ++ index_text i) w e) m
+    let m : length (name_of_member t i) ≤ 150 = rw (length-append, length-append) (omega (arith, s, l)) in
+    identifier (name_of_member t i) (ap is_word q ∙ word-append t (codes "_DED_" ++ index_text i) w e) m
     (ap (list_any (λ b. b == 95)) q ∙ has-line t (68 ∷ 69 ∷ 68 ∷ 95 ∷ index_text i))

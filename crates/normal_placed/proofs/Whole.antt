@@ -17,14 +17,14 @@ use Rattle.syn_event.specs.declared.numbering.TaskInfo.{TaskInfo}
 use Rattle.syn_event.specs.CheckScope.{CheckScope, CheckSite}
 use Rattle.syn_event.specs.CheckSites as check
 use Rattle.syn_event.specs.NamedTasks.{type_named, with_type}
-use Rattle.syn_event.specs.Units.{decl_list}
+use Rattle.syn_event.specs.DeclaredTasks.{decl_list}
 use Rattle.legal_sites.specs.Met.{IsCheckMet}
 use Rattle.legal_sites.proofs.Both.{together}
 use Rattle.legal_sites.proofs.Meeting.{all_check_met}
 use Rattle.task_model.specs.Setting.{Setting}
 use Rattle.normal_model.specs.Names.{variable_name, task_name}
 use Rattle.normal_model.specs.Ranges.{word_at}
-use Rattle.normal_model.specs.Waits.{Unit}
+use Rattle.normal_model.specs.RewrittenUnit.{RewrittenUnit}
 use Rattle.normal_model.specs.NormalStmts.{normal_body, unit_variables}
 use Rattle.normal_model.specs.NormalTree.{decls_front, mark_of, unless_left, first_decls, tasks_beside, task_under, declared_under, task_declared, unit_for, running, body_copy, bodies_of, main_variables, variables_if, variables_of_body, greatest, variables_needed, normal_decls, normal_tree}
 use Rattle.normal_model.proofs.VariablesLemmas.{begins-refl}
@@ -266,7 +266,7 @@ module _ (g : Setting) (h : IsPlaceable g) where
   body-placed : (t : ℕ) (b : PBody) (c : CheckScope) → length (unit_variables (record { setting = g; task = t }) b) ≤ variables_needed g → EveryBody r 1 b → AllByRecursion M (check.body_sites c 1 b) → AskedBody (call_asks g) tt 1 b →
       EveryBody r 1 (normal_body (record { setting = g; task = t }) b)
   body-placed t b c few i m calls =
-      let u : Unit = record { setting = g; task = t } in
+      let u : RewrittenUnit = record { setting = g; task = t } in
       let vars : List PDecl = unit_variables u b in
       let checked : AskedBody (both (check_asks M) (call_asks g)) (c, tt) 1 b = both_asked (check_asks M) (call_asks g) c tt 1 b (checked_asked M c 1 b m) calls in
       let all : AskedBody (both (place_asks r) (both (check_asks M) (call_asks g))) (tt, (c, tt)) 1 b = both_asked (place_asks r) (both (check_asks M) (call_asks g)) tt (c, tt) 1 b (placed_asked r 1 b i) checked in
@@ -281,7 +281,7 @@ module _ (g : Setting) (h : IsPlaceable g) where
   copies-placed (DTaskBody w objects its s) c i j calls m =
       copies-of (running g w.name) (λ info k. k)
     where
-      u : Unit
+      u : RewrittenUnit
       u = unit_for g w.name
 
       vars : List PDecl

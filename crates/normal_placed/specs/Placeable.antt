@@ -16,7 +16,7 @@ use Rattle.ada_tree.specs.NameList.{AreNames}
 use Rattle.ada_tree.specs.WellPlaced.{IsWellPlaced}
 use Rattle.syn_event.specs.declared.numbering.Mode.TheVariants.{Original}
 use Rattle.syn_event.specs.CheckRefusals.{MeetsCheckRules}
-use Rattle.syn_event.specs.Units.{decl_list}
+use Rattle.syn_event.specs.DeclaredTasks.{decl_list}
 use Rattle.asked_stmts.specs.Asked.{Asks, AskedBody}
 use Rattle.asked_stmts.specs.Kinds.{no_asks}
 use Rattle.normal_asked.specs.Pieces.{IsAmong}

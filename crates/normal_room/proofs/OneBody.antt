@@ -12,7 +12,7 @@ use Rattle.ada_tree.specs.Scope.{Scope, Thing, TypeMark, Literal, AnException}
 use Rattle.ada_tree.specs.Declaring.{with_name, with_names, with_types, made, add_kind, declared_object, with_constants, after_decl}
 use Rattle.ada_tree.specs.RuleDuplicate.{is_among}
 use Rattle.ada_tree.specs.Sites.{decl_sites, decls_sites}
-use Rattle.syn_event.specs.Units.{decl_list}
+use Rattle.syn_event.specs.DeclaredTasks.{decl_list}
 use Rattle.syn_event.proofs.Nothing.{test_fails}
 use Rattle.legal_sites.specs.Met.{IsMet}
 use Rattle.task_model.specs.Starting.{unit_among}

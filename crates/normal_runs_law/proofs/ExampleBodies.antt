@@ -6,7 +6,7 @@ use Rattle.ada_tree.specs.declared.naming.Span.{Span}
 use Rattle.ada_value.specs.Values.{and_then}
 use Rattle.syn_event.specs.Numbering.{task_named, entry_at}
 use Rattle.task_model.specs.Machine.{setting_of}
-use Rattle.task_model.specs.Setting.{task_of, entry_of, is_family, is_family_in, family_limits, formals_of_info}
+use Rattle.task_model.specs.Setting.{callee_task, entry_of, is_family, is_family_in, family_limits, formals_of_info}
 use Rattle.normal_model.specs.Names.{task_name_at}
 use Rattle.normal_model.specs.Ranges.{subtype_of_range, family_range}
 use Rattle.normal_model.specs.Calls.{entry_called}
@@ -65,7 +65,7 @@ module _ (is_old is_known : ℕ → Bool) (old0 : is_old 0 ≡ true) (old5 : is_
   yes-old = old_name record { 0 = 5 } _ old5
 
   -- the callee is the task T
-  one-task : (t : ℕ) → task_of b.original [] the_call.task ≡ Ok t → 1 ≡ t
+  one-task : (t : ℕ) → callee_task b.original [] the_call.task ≡ Ok t → 1 ≡ t
   one-task t e = ok-number 1 t e
 
   formals-old : OldFormals b (formal ∷ [])

@@ -24,7 +24,7 @@ use Rattle.task_model.specs.Tasks.{Task, place_of, outer_of, vars_of, raised_the
 use Rattle.task_model.specs.Calls.{finals_in}
 use Rattle.task_model.specs.Waits.{Open, Accepts, Delays, Terminates, alternative_for}
 use Rattle.task_model.specs.Stands.{call_stand, stand_of, offered, steps_at, stepped_by, can_step, stepped, offer_of}
-use Rattle.task_model.specs.Rendezvous.{alternative_opened, accepted, pending_of, finals_at, finals_of, finished, returned, resumed_with, resumed, call_failed, took_else, took_delay, passed}
+use Rattle.task_model.specs.Rendezvous.{alternative_opened, accepted, pending_of, finals_at, finals_of, finished, returned, resumed_with, resumed, call_failed, took_else, took_delay, past_name}
 use Rattle.task_model.specs.Starting.{started}
 use Rattle.task_model.specs.TaskOps.{task_ops}
 use Rattle.task_model.specs.Machine.{setting_of, opening_of}
@@ -328,12 +328,12 @@ module _ (r : Rewrite) (form : IsNormalForm r) where
         let f = freely (calls_in is_any_form e z) c (and_parts (offers task_ops (calls_in is_any_form e z) (w.tasks c)) (is_closed (w.tasks (owner_of r.numbers e)).standing) (happened (F c e z) h)).0 in
         raised-both raised.Tasking c k (within c f.0) m
 
-    passed-name : (t v : ℕ) (k : Task) → MeetsIn k (task t) → can_move p w (Happen (B t v)) ≡ true → ComesTo (passed k) (passed (task t))
+    passed-name : (t v : ℕ) (k : Task) → MeetsIn k (task t) → can_move p w (Happen (B t v)) ≡ true → ComesTo (past_name k) (past_name (task t))
     passed-name t v k m h =
         let f = freely (aborts v) t (happened (B t v) h) in
         let i : IsIn g t (task t) = within t f.0 in
         let am = abort-met (x t) (task t) k v (meets-at t (task t) k i.number m) f.1 in
-        caught t (passed (task t)) (passed k) ((goes_passed (Conforms g t) (task t) (stays t i)).number ∙ i.number) am.passes
+        caught t (past_name (task t)) (past_name k) ((goes_passed (Conforms g t) (task t) (stays t i)).number ∙ i.number) am.passes
 
     -- ---- values come back
 

@@ -14,7 +14,7 @@ use Rattle.normal_model.specs.Names.{variable_name}
 use Rattle.translation_law.specs.Translations.{Programs, types_before, types_after}
 use Rattle.translation_law.specs.OldTexts.{OldBody}
 use Rattle.translation_law.specs.Scopes.{AgreeOnTypes}
-use Rattle.normal_law.specs.Suited.{declared_limits, AreMade, unit_of as unit_rewritten, asked_of}
+use Rattle.normal_law.specs.Suited.{declared_limits, AreMade, rewritten_unit as unit_rewritten, asked_of}
 use Rattle.normal_model.specs.NormalStmts.{normal_body, unit_variables}
 use Rattle.normal_law.specs.NormalLists.{Begin}
 use Rattle.normal_law.specs.NormalFloors.{Extends, extends_none, extends_old, extends_new}

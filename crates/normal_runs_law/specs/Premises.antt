@@ -9,7 +9,7 @@ use Rattle.task_invariants.specs.Worlds.{IsWellMade}
 use Rattle.normal_model.specs.NormalStmts.{normal_body, unit_variables}
 use Rattle.translation_law.specs.Translations.{Programs}
 use Rattle.translation_law.specs.OldTexts.{OldBody}
-use Rattle.normal_law.specs.Suited.{AreMade, Rewritten, unit_of as unit_rewritten, asked_of}
+use Rattle.normal_law.specs.Suited.{AreMade, Rewritten, rewritten_unit as unit_rewritten, asked_of}
 use Rattle.normal_law.specs.NormalLists.{Begin}
 use Rattle.normal_law.specs.NormalFloors.{Extends}
 use Rattle.normal_law.specs.Preludes.{Added, AreThere}

@@ -12,7 +12,7 @@ use Rattle.ada_tree.specs.PlainProgram.{PProgram}
 use Rattle.ada_tree.specs.Refusals.{types_in}
 use Rattle.ada_tree.specs.Scope.{Scope, Range, TaskArray, EntryPart, and_then, meaning}
 use Rattle.syn_event.specs.declared.numbering.TaskInfo.{TaskInfo}
-use Rattle.syn_event.specs.Numbered.{task_info}
+use Rattle.syn_event.specs.AddedNames.{task_info}
 use Rattle.syn_event.specs.NamedTasks.{NamedTasks, numbered_tasks, task_names_of}
 use Rattle.ada_value.specs.declared.values.Raised.TheVariants as raised
 use Rattle.task_model.specs.Setting.{Setting, is_member}

@@ -6,7 +6,7 @@ use Rattle.ada_tree.specs.declared.static_types.Kind.TheVariants.{Integer, Truth
 use Rattle.ada_tree.specs.declared.static_types.Mark.{Mark}
 use Rattle.ada_tree.specs.TypeTable.{TypeTable}
 use Rattle.ada_tree.specs.Scope.{Scope, Range, Thing, TypeMark, TaskType, SingleTask, TaskObject, TaskArray, Variable, ConstantObject, Parameter, LoopParameter, Literal, AnException, MainProcedure, AnotherUnit, Unclear, kind_at, mark_at, meaning}
-use Rattle.rewritten_types.specs.Agreement.{scalar_only, IsScalar, Grows, Keeps, Sound, Whole}
+use Rattle.rewritten_types.specs.Agreement.{scalar_only, IsScalar, Grows, Keeps, Sound, WholeTable}
 use Rattle.rewritten_types.proofs.Keeping.{grows-self, keeps-self}
 use Rattle.legal_types.proofs.ExprKinds.{LeadsOn, IsClearThing}
 use Rattle.legal_types.proofs.FirmTables.{scalar-grown}
@@ -72,7 +72,7 @@ module _ (R T U : TypeTable) (parts : HasParts R) (g : Grows R T) (h : Grows R U
 pub fewer : (old : ℕ → Bool) (T U : TypeTable) → Keeps anybody T U → Keeps old T U
 fewer old T U k = record { grows = k.grows; marks = λ id o. k.marks id refl; constants = λ id o. k.constants id refl; literals = k.literals; kinds = k.kinds }
 
-pub base-same : (old : ℕ → Bool) (r s : Scope) → IsBeside r s → IsClearly r → Sound r.types → Whole r.types → HasParts r.types → SameNames old s r
+pub base-same : (old : ℕ → Bool) (r s : Scope) → IsBeside r s → IsClearly r → Sound r.types → WholeTable r.types → HasParts r.types → SameNames old s r
 base-same old r s b clear sound whole parts = record {
   types = rooted_is_same old r.types s.types r.types record { sound = sound; whole = whole; left = fewer old r.types s.types b.keeps; right = keeps-self r.types };
   things = λ id o. by_kept id (meaning r id) refl (b.kept id);

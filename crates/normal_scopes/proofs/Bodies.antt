@@ -5,7 +5,7 @@ use Rattle.ada_tree.specs.declared.naming.Word.{Word}
 use Rattle.ada_tree.specs.PlainDecl.{PTask, PDecl, DNumber, DObject, DEnumeration, DArray, DSubtype, DException, DIntIo, DPragma, DTask, DTaskBody, PDecls, no_decl, decl_then}
 use Rattle.ada_tree.specs.Scope.{Scope, EntryPart, meaning, entry_named}
 use Rattle.ada_tree.specs.RuleUnknown.{no_body_of}
-use Rattle.ada_tree.specs.Declaring.{task_thing, own_entries, in_body, inside, after_own_object, after_objects}
+use Rattle.ada_tree.specs.Declaring.{task_thing, own_entries, in_body, inner_scope, after_own_object, after_objects}
 use Rattle.normal_model.specs.NormalTree.{decls_front}
 use Rattle.rewritten_types.specs.Rewriting.{AreAdded}
 use Rattle.rewritten_types.proofs.Adding.{names-main}
@@ -44,7 +44,7 @@ objects-front (decl_then d ds) rest s = objects-front ds rest (after_own_object 
 
 -- the scope where the statements of a body begin, and that of its copy
 pub body-alike : (old : ℕ → Bool) (s t : Scope) (w v : Word) (objects vars : PDecls) → SameNames old s t → own_entries (meaning s w.name) ≡ own_entries (meaning t v.name) → AreOldObjects old objects → AreAdded old vars →
-    Alike old (inside (after_objects (in_body s w) objects)) (inside (after_objects (in_body t v) (decls_front objects vars)))
+    Alike old (inner_scope (after_objects (in_body s w) objects)) (inner_scope (after_objects (in_body t v) (decls_front objects vars)))
 body-alike old s t w v objects vars n own os new =
     inside-alike old (after_objects (in_body s w) objects) (after_objects (in_body t v) (decls_front objects vars))
     (subst (Alike old (after_objects (in_body s w) objects)) (sym (objects-front objects vars (in_body t v)))

@@ -15,13 +15,13 @@ use Rattle.ada_tree.specs.PlainProgram.{PProgram}
 use Rattle.ada_tree.specs.Refusals.{types_in}
 use Rattle.ada_tree.specs.Scope.{Scope, Thing, TypeMark, TaskType, SingleTask, TaskObject, TaskArray, Variable, ConstantObject, Parameter, LoopParameter, Literal, AnException, MainProcedure, AnotherUnit, Unclear, Family, single, family, unclear, EntryPart, meaning, entry_named}
 use Rattle.ada_tree.specs.Sites.{decls_sites, body_sites}
-use Rattle.ada_tree.specs.Declaring.{first_scope, inside, with_names, declared_object, with_types, with_constants, after_object, after_objects, after_decl, after_decls}
+use Rattle.ada_tree.specs.Declaring.{first_scope, inner_scope, with_names, declared_object, with_types, with_constants, after_object, after_objects, after_decl, after_decls}
 use Rattle.ada_tree.specs.RuleArgCount.{called_entry}
 use Rattle.syn_event.specs.declared.numbering.TaskInfo.{TaskInfo}
 use Rattle.syn_event.specs.Extents.{count_to}
-use Rattle.syn_event.specs.Units.{tasks_of}
+use Rattle.syn_event.specs.DeclaredTasks.{tasks_of}
 use Rattle.syn_event.specs.NamedTasks.{NamedTasks, NumberedTask, numbered_tasks, numbered_task, numbers_on, indices, tasks_of_range, tasks_of_name, task_names_of}
-use Rattle.syn_event.specs.Numbered.{task_info}
+use Rattle.syn_event.specs.AddedNames.{task_info}
 use Rattle.syn_event.specs.Numbering.{task_named}
 use Rattle.syn_event.specs.CheckScope.{CheckScope}
 use Rattle.syn_event.specs.CheckSites as check
@@ -168,7 +168,7 @@ module _ (p : PProgram) (legal : IsLegal p) where
   known = asked.known p T G.numbers legal.legal legal.placed legal.names legal.small
 
   decls-met : AllByRecursion IsMet (decls_sites (first_scope p.name) p.decls)
-  decls-met = all_front IsMet (decls_sites (first_scope p.name) p.decls) (body_sites (inside (after_decls (first_scope p.name) p.decls)) p.body) (all_met p legal.legal.type_rules).1
+  decls-met = all_front IsMet (decls_sites (first_scope p.name) p.decls) (body_sites (inner_scope (after_decls (first_scope p.name) p.decls)) p.body) (all_met p legal.legal.type_rules).1
 
   -- what is known of names behind all declarations
   pub at-last : (kinds : List PTask) × (c : CheckScope) × MainSeen p T kinds no_decl S c

@@ -10,17 +10,17 @@ use Rattle.ada_tree.specs.PlainExpr.{PSubind}
 use Rattle.ada_tree.specs.PlainStmt.{PBody}
 use Rattle.ada_tree.specs.PlainDecl.{OPlain, PTask, PDecl, DNumber, DObject, DEnumeration, DArray, DSubtype, DException, DIntIo, DPragma, DTask, DTaskBody, PDecls, decls_of}
 use Rattle.ada_tree.specs.Every.{EveryEntry}
-use Rattle.ada_tree.specs.Scope.{Scope, Seen, Thing, TypeMark, TaskType, SingleTask, TaskObject, TaskArray, Variable, ConstantObject, Parameter, LoopParameter, Literal, AnException, MainProcedure, AnotherUnit, Unclear, EntryPart, meaning}
+use Rattle.ada_tree.specs.Scope.{Scope, NameMeaning, Thing, TypeMark, TaskType, SingleTask, TaskObject, TaskArray, Variable, ConstantObject, Parameter, LoopParameter, Literal, AnException, MainProcedure, AnotherUnit, Unclear, EntryPart, meaning}
 use Rattle.ada_tree.specs.Declaring.{seen_as, entry_part, declared_object, with_constants, with_name, with_types, in_body, after_objects, after_decl, after_decls}
 use Rattle.syn_event.specs.declared.numbering.TaskInfo.{TaskInfo}
 use Rattle.syn_event.specs.NamedTasks.{NamedTasks}
-use Rattle.syn_event.specs.Units.{decl_list, tasks_of}
+use Rattle.syn_event.specs.DeclaredTasks.{decl_list, tasks_of}
 use Rattle.task_model.specs.Setting.{Setting}
 use Rattle.normal_model.specs.Names.{variable_name, task_name}
 use Rattle.normal_model.specs.Ranges.{word_at}
 use Rattle.normal_model.specs.Variables.{variable_declared}
 use Rattle.normal_model.specs.NormalStmts.{unit_variables}
-use Rattle.normal_model.specs.Waits.{Unit}
+use Rattle.normal_model.specs.RewrittenUnit.{RewrittenUnit}
 use Rattle.normal_model.specs.NormalTree.{task_under, task_declared, running, bodies_of}
 use Rattle.rewritten_types.specs.Agreement.{Keeps}
 use Rattle.rewritten_types.proofs.Adding.{keeps-decl, keeps-objects}
@@ -103,7 +103,7 @@ module _ (old : ℕ → Bool) (g : Setting) (S r : Scope) (all : List NamedTasks
   formed-list [] h t f = f
   formed-list (d ∷ xs) h t f = formed-list xs h.1 (after_decl t d) (h.0 t f)
 
-  pub formed-variables : ((k : ℕ) → old (variable_name g k).0 ≡ false) → (u : Unit) → u.setting ≡ g → (b : PBody) (t : Scope) → IsFormed t → IsFormed (after_decls t (decls_of (unit_variables u b)))
+  pub formed-variables : ((k : ℕ) → old (variable_name g k).0 ≡ false) → (u : RewrittenUnit) → u.setting ≡ g → (b : PBody) (t : Scope) → IsFormed t → IsFormed (after_decls t (decls_of (unit_variables u b)))
   formed-variables new u e b t f =
       formed-list (unit_variables u b)
       (unit-all (λ (d : PDecl). (t : Scope) → IsFormed t → IsFormed (after_decl t d)) u (λ sp x k. subst (λ q. (t : Scope) → IsFormed t → IsFormed (after_decl t (variable_declared q sp x k))) (sym e) (formed-variable new sp x k)) b) t f
@@ -144,8 +144,8 @@ module _ (old : ℕ → Bool) (g : Setting) (S r : Scope) (all : List NamedTasks
         task-behind info h.0 (flat_map (task_declared g) infos) IsFormed t (λ sp. formed-tasks infos h.1 (after_decl t (DTask (task_under (task_name g info) h.0.unit) sp)) (task-formed info h.0 sp t f))
 
     name-meant : (th : Thing) (w : Word) (t : Scope) (id : NameId) (b : Bool) → (w.name.0 == id.0) ≡ b → meaning (with_name th t w) id ≡ (if b then Some th else meaning t id)
-    name-meant th w t id true e = ap (λ c. option_map (λ (x : Seen). x.thing) (if c then Some (seen_as th w.name.0) else find (λ (x : Seen). x.name == id.0) t.names)) e
-    name-meant th w t id false e = ap (λ c. option_map (λ (x : Seen). x.thing) (if c then Some (seen_as th w.name.0) else find (λ (x : Seen). x.name == id.0) t.names)) e
+    name-meant th w t id true e = ap (λ c. option_map (λ (x : NameMeaning). x.thing) (if c then Some (seen_as th w.name.0) else find (λ (x : NameMeaning). x.name == id.0) t.names)) e
+    name-meant th w t id false e = ap (λ c. option_map (λ (x : NameMeaning). x.thing) (if c then Some (seen_as th w.name.0) else find (λ (x : NameMeaning). x.name == id.0) t.names)) e
 
     -- a name that is no task's means what it did
     pub tasks-other : (infos : List TaskInfo) → AllByRecursion HasUnit infos → (t : Scope) (id : NameId) → AllByRecursion (λ (info : TaskInfo). ((task_name g info).0 == id.0) ≡ false) infos →

@@ -9,9 +9,9 @@ use Rattle.ada_tree.specs.declared.naming.Word.{Word}
 use Rattle.ada_tree.specs.TypeTable.{TypeTable}
 use Rattle.ada_tree.specs.PlainExpr.{PSubind, PDrange}
 use Rattle.ada_tree.specs.PlainDecl.{PShape, OPlain, OArray, PDecl, DNumber, DObject, DEnumeration, DArray, DSubtype, DException, DIntIo, DPragma, DTask, DTaskBody}
-use Rattle.ada_tree.specs.Scope.{Scope, Seen, Thing, TypeMark, ConstantObject, Literal, AnException, AnotherUnit, Unclear, EntryPart, Range, Marking, ScalarMark, ArrayMark, TaskMark, NoMark, UnknownMark, UnclearMark, marking, meaning}
+use Rattle.ada_tree.specs.Scope.{Scope, NameMeaning, Thing, TypeMark, ConstantObject, Literal, AnException, AnotherUnit, Unclear, EntryPart, Range, Marking, ScalarMark, ArrayMark, TaskMark, NoMark, UnknownMark, UnclearMark, marking, meaning}
 use Rattle.ada_tree.specs.Sites.{is_task_object}
-use Rattle.ada_tree.specs.Declaring.{seen_as, with_name, with_names, with_types, made_named_array, made_subtype, object_of, type_of_mark, task_object, task_array, plain_object, array_object, declared_object, with_constants, after_decl}
+use Rattle.ada_tree.specs.Declaring.{seen_as, with_name, with_names, with_types, made_named_array, made_subtype, object_meaning, type_of_mark, task_object, task_array, plain_object, array_object, declared_object, with_constants, after_decl}
 use Rattle.rewritten_types.specs.Rewriting.{valued}
 use Rattle.rewritten_types.proofs.Closing.{Close}
 use Rattle.legal_types.proofs.GoodScopes.{IsIn, names-new}
@@ -32,13 +32,13 @@ none-kept a b (is_none h k) f = k
 
 -- ---- one name more
 
-abbrev behind_name : Bool → Thing → ℕ → Option Seen → Option Thing
-behind_name b thing n o = option_map (λ (x : Seen). x.thing) (if b then Some (seen_as thing n) else o)
+abbrev behind_name : Bool → Thing → ℕ → Option NameMeaning → Option Thing
+behind_name b thing n o = option_map (λ (x : NameMeaning). x.thing) (if b then Some (seen_as thing n) else o)
 
 pub kept-name : (th th' : Thing) (w : Word) (s r : Scope) → th ≡ th' → AreKept s r → AreKept (with_name th s w) (with_name th' r w)
 kept-name th th' w s r e h id = by_test (w.name.0 == id.0)
   where
-    by_test : (b : Bool) → IsKept (behind_name b th w.name.0 (find (λ (x : Seen). x.name == id.0) s.names)) (behind_name b th' w.name.0 (find (λ (x : Seen). x.name == id.0) r.names))
+    by_test : (b : Bool) → IsKept (behind_name b th w.name.0 (find (λ (x : NameMeaning). x.name == id.0) s.names)) (behind_name b th' w.name.0 (find (λ (x : NameMeaning). x.name == id.0) r.names))
     by_test true = is_same (ap Some e)
     by_test false = h id
 
@@ -50,7 +50,7 @@ kept-names th th' (w ∷ ws) s r e h = kept-names th th' ws (with_name th s w) (
 pub kept-hidden : (th : Thing) (w : Word) (s r : Scope) → IsNoValue (Some th) → IsNoValue (meaning r w.name) → AreKept s r → AreKept (with_name th s w) r
 kept-hidden th w s r n m h id = by_test (w.name.0 == id.0) refl
   where
-    by_test : (b : Bool) → (w.name.0 == id.0) ≡ b → IsKept (behind_name b th w.name.0 (find (λ (x : Seen). x.name == id.0) s.names)) (meaning r id)
+    by_test : (b : Bool) → (w.name.0 == id.0) ≡ b → IsKept (behind_name b th w.name.0 (find (λ (x : NameMeaning). x.name == id.0) s.names)) (meaning r id)
     by_test true e = is_none n (subst (λ k. IsNoValue (meaning r record { 0 = k })) (equal_is w.name.0 id.0 e) m)
     by_test false e = h id
 
@@ -63,9 +63,9 @@ kept-all-hidden th (w ∷ ws) s r n m h = kept-all-hidden th ws (with_name th s 
 -- a thing that an object is, if it is no task
 record IsObjectForm (constant : Bool) (th : Thing) : Type 0 where
   mark : Option ℕ
-  is : th ≡ object_of constant mark
+  is : th ≡ object_meaning constant mark
 
-form-of : (constant : Bool) (o : Option ℕ) → IsObjectForm constant (object_of constant o)
+form-of : (constant : Bool) (o : Option ℕ) → IsObjectForm constant (object_meaning constant o)
 form-of constant o = record { mark = o; is = refl }
 
 unclear-form : (constant : Bool) → IsObjectForm constant Unclear
@@ -103,7 +103,7 @@ shape-form s constant (OPlain x) e = plain-form s constant (marking s x.mark.nam
 shape-form s constant (OArray index x) e = array-form s constant (marking s x.mark.name) index x e
 
 -- two such are the same, where they are so as values
-forms-same : (constant : Bool) (o q : Option ℕ) → valued (Some (object_of constant o)) ≡ valued (Some (object_of constant q)) → object_of constant o ≡ object_of constant q
+forms-same : (constant : Bool) (o q : Option ℕ) → valued (Some (object_meaning constant o)) ≡ valued (Some (object_meaning constant q)) → object_meaning constant o ≡ object_meaning constant q
 forms-same true (Some m) (Some n) e = some_same e
 forms-same true (Some m) None e = absurd (not_missing _ (sym e))
 forms-same true None (Some n) e = absurd (not_missing _ e)

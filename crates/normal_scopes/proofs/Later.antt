@@ -18,7 +18,7 @@ use Rattle.ada_tree.specs.ExprTypes.{name_kind, bound_kind, attribute_kind, unar
 use Rattle.ada_tree.specs.Sites.{if_there, names_sites, drange_sites, mark_sites, formal_mark_sites, all_names, formals_sites, entry_sites, entries_sites, static_of, task_sites}
 use Rattle.ada_tree.specs.Demand.{scalar_only}
 use Rattle.ada_tree.specs.RuleMismatch.{is_allowed}
-use Rattle.ada_tree.specs.Declaring.{inside, given_range, marked_range, drange_range, family_of, entry_family, formal_parts, entry_part, with_name, with_types, after_decl, after_decls}
+use Rattle.ada_tree.specs.Declaring.{inner_scope, given_range, marked_range, drange_range, family_of, entry_family, formal_parts, entry_part, with_name, with_types, after_decl, after_decls}
 use Rattle.rewritten_types.specs.Agreement.{Grows}
 use Rattle.rewritten_types.specs.Rewriting.{IsUnused, DeclareOnce, names_declared}
 use Rattle.rewritten_types.proofs.Fresh.{InHere, here-decl}
@@ -231,7 +231,7 @@ module _ (T : TypeTable) (s S : Scope) (b : IsBefore T s S) where
         ap₂ (λ x l. x ∷ l)
         (ap₂ (λ a c. record { name = e.name.name; family = a; formals = c })
         (family-grown e.family every.0.2 (all_front IsMet (if_there (drange_sites true s) e.family) (formals_sites s e.formals) rest))
-        (formals-grown e.formals (all_unflat IsMet (λ f. mark_sites scalar_only s f.mark) e.formals (all_back IsMet (names_sites false (inside s) (all_names e.formals)) (formal_mark_sites s e.formals) formals))))
+        (formals-grown e.formals (all_unflat IsMet (λ f. mark_sites scalar_only s f.mark) e.formals (all_back IsMet (names_sites false (inner_scope s) (all_names e.formals)) (formal_mark_sites s e.formals) formals))))
         (entries-grown (e.name.name.0 ∷ before) es every.1 (all_back IsMet (entry_sites s before e) (entries_sites s (e.name.name.0 ∷ before) es) h))
 
     task-grown : (t : PTask) → EveryTask (well_placed names) t → AllByRecursion IsMet (task_sites s t) → map (entry_part s) t.entries ≡ map (entry_part S) t.entries

@@ -9,10 +9,10 @@ use Rattle.ada_tree.specs.PlainProgram.{PProgram}
 use Rattle.ada_tree.specs.Every.{EveryProgram}
 use Rattle.ada_tree.specs.Refusals.{MeetsTypeRules, types_in}
 use Rattle.ada_tree.specs.Scope.{Scope, Thing, TypeMark, TaskType, SingleTask, TaskObject, TaskArray, Variable, ConstantObject, Parameter, LoopParameter, Literal, AnException, MainProcedure, AnotherUnit, Unclear, EntryPart, meaning, entry_named}
-use Rattle.ada_tree.specs.Declaring.{first_scope, inside, with_names, with_types, after_decl, after_decls}
+use Rattle.ada_tree.specs.Declaring.{first_scope, inner_scope, with_names, with_types, after_decl, after_decls}
 use Rattle.syn_event.specs.declared.numbering.TaskInfo.{TaskInfo}
 use Rattle.syn_event.specs.NamedTasks.{task_names_of}
-use Rattle.syn_event.specs.Units.{decl_list, tasks_of}
+use Rattle.syn_event.specs.DeclaredTasks.{decl_list, tasks_of}
 use Rattle.task_model.specs.Setting.{Setting}
 use Rattle.normal_model.specs.Names.{task_name}
 use Rattle.normal_model.specs.NormalTree.{first_decls, tasks_beside, task_declared, bodies_of, main_unit, main_variables, normal_decls}
@@ -246,7 +246,7 @@ module _ (p : PProgram) (legal : IsLegal p) where
   made-means id = ap (λ s. meaning s id) made-is ∙ bodies-other old g last first (task_names_of p) bodies (all-bodies old g last first (task_names_of p) (decl_list p.decls)) tasked id
 
   -- The scope of main's body is alike that of the program.
-  pub main-alike : Alike old (inside last) (inside made)
+  pub main-alike : Alike old (inner_scope last) (inner_scope made)
   main-alike = inside-alike old last made record {
     names = made-formed.same last last-placed;
     own = λ id o. ap (λ es. entry_named es id) (l.own ∙ sym made-formed.own);
@@ -257,7 +257,7 @@ module _ (p : PProgram) (legal : IsLegal p) where
       l = decls-frame p.decls (first_scope p.name)
 
   -- There each task has its own name, with the entries that it is seen with in the program.
-  pub main-tasks : (info : TaskInfo) → IsAmong info (tasks_beside g) → IsTaskThere g (inside last) (inside made) info
+  pub main-tasks : (info : TaskInfo) → IsAmong info (tasks_beside g) → IsTaskThere g (inner_scope last) (inner_scope made) info
   main-tasks info i =
       let u = unit-of info i in
       record {

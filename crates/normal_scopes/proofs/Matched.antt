@@ -17,12 +17,12 @@ use Rattle.ada_tree.specs.WellPlaced.{well_placed}
 use Rattle.ada_tree.specs.Scope.{Scope, Range, range_of_mark, Family, single, family, FormalPart, EntryPart, meaning, marking, scalar_kind, entry_named}
 use Rattle.ada_tree.specs.Demand.{scalar_only, Site}
 use Rattle.ada_tree.specs.Sites.{if_there, drange_sites, mark_sites, formals_sites, formal_mark_sites, names_sites, all_names, entry_sites, entries_sites, static_of, task_sites}
-use Rattle.ada_tree.specs.Declaring.{inside, marked_range, family_of, entry_family, formal_parts, entry_part, after_decl}
+use Rattle.ada_tree.specs.Declaring.{inner_scope, marked_range, family_of, entry_family, formal_parts, entry_part, after_decl}
 use Rattle.ada_tree.specs.RuleMismatch.{is_allowed}
 use Rattle.ada_value.specs.declared.values.Limits.{Limits}
 use Rattle.ada_value.specs.declared.values.Raised.{Raised}
 use Rattle.ada_value.specs.Values.{limits_named}
-use Rattle.syn_event.specs.Units.{decl_list, tasks_in}
+use Rattle.syn_event.specs.DeclaredTasks.{decl_list, tasks_in}
 use Rattle.normal_model.specs.Calls.{Slot, slots_of}
 use Rattle.legal_sites.specs.Met.{IsMet}
 use Rattle.legal_sites.proofs.Around.{test-holds}
@@ -102,7 +102,7 @@ module _ (T : TypeTable) (s : Scope) (stands : Stands T s) (names : List (List �
       let rest : AllByRecursion IsMet (own ++ formals_sites s e.formals) = first.1 in
       let formals : AllByRecursion IsMet (formals_sites s e.formals) = all_back IsMet own (formals_sites s e.formals) rest in (
         record {
-          formals = formals-matched e.formals (recursion_from_All _ e.formals every.0.3) (all_unflat IsMet (λ f. mark_sites scalar_only s f.mark) e.formals (all_back IsMet (names_sites false (inside s) (all_names e.formals)) (formal_mark_sites s e.formals) formals));
+          formals = formals-matched e.formals (recursion_from_All _ e.formals every.0.3) (all_unflat IsMet (λ f. mark_sites scalar_only s f.mark) e.formals (all_back IsMet (names_sites false (inner_scope s) (all_names e.formals)) (formal_mark_sites s e.formals) formals));
           family = family-matched e.family every.0.2 (all_front IsMet own (formals_sites s e.formals) rest);
         },
         entries-matched (e.name.name.0 ∷ before) es every.1 (all_back IsMet (entry_sites s before e) (entries_sites s (e.name.name.0 ∷ before) es) h),

@@ -8,11 +8,11 @@ use Rattle.common_lemmas.proofs.Numbers.{unequal, lt_is}
 use Rattle.common_lemmas.proofs.Options.{some_same, not_missing}
 use Rattle.ada_tree.specs.PlainProgram.{PProgram}
 use Rattle.syn_event.specs.declared.numbering.TaskInfo.{TaskInfo}
-use Rattle.syn_event.specs.Numbered.{is_added_name}
-use Rattle.syn_event.specs.Units.{text_of}
+use Rattle.syn_event.specs.AddedNames.{is_added_name}
+use Rattle.syn_event.specs.DeclaredTasks.{text_of}
 use Rattle.syn_event.specs.RuleReservedName.{has_mark, is_reserved}
 use Rattle.task_model.specs.Setting.{Setting}
-use Rattle.normal_model.specs.Names.{member_text, member_texts, variable_text, with_members, normal_names, variable_name, task_name}
+use Rattle.normal_model.specs.Names.{name_of_member, member_texts, variable_text, with_members, normal_names, variable_name, task_name}
 use Rattle.normal_model.proofs.VariablesLemmas.{Begins}
 use Rattle.rewritten_values.proofs.Saying.{place-within}
 use Rattle.normal_types.specs.Own.{own_name}
@@ -83,7 +83,7 @@ member-new g info n z e = by_test (plain_name g.program (task_name g info).0) re
 -- ---- variables and tasks
 
 -- the text of a member is none of a variable
-member-other : (a : List ℕ) (i : ℤ) (k : ℕ) → is_reserved a ≡ false → member_text a i ≡ variable_text k → ⊥
+member-other : (a : List ℕ) (i : ℤ) (k : ℕ) → is_reserved a ≡ false → name_of_member a i ≡ variable_text k → ⊥
 member-other [] i k free e = let q : 95 ≡ 68 = first_same e in omega (arith, q)
 member-other (x ∷ []) i k free e = let q : 95 ≡ 69 = first_same (rest_same e) in omega (arith, q)
 member-other (x ∷ y ∷ []) i k free e = let q : 95 ≡ 68 = first_same (rest_same (rest_same e)) in omega (arith, q)

@@ -21,7 +21,7 @@ use Rattle.ada_tree.specs.Sites.{sites}
 use Rattle.ada_tree.specs.Refusals.{MeetsTypeRules}
 use Rattle.syn_event.specs.declared.numbering.Mode.TheVariants.{Original}
 use Rattle.syn_event.specs.CheckRefusals.{MeetsCheckRules}
-use Rattle.syn_event.specs.Units.{text_of}
+use Rattle.syn_event.specs.DeclaredTasks.{text_of}
 use Rattle.syn_event.specs.RuleReservedName.{is_reserved}
 use Rattle.rewritten_types.proofs.Lookups.{place-all}
 use Rattle.rewritten_values.specs.Values.{old_names}

@@ -10,7 +10,7 @@ use Rattle.ada_tree.specs.TypeTable.{TypeTable}
 use Rattle.ada_tree.specs.PlainExpr.{PDrange, PSubind}
 use Rattle.ada_tree.specs.PlainDecl.{PShape, OPlain, OArray, PInit, PTask, PDecl, DNumber, DObject, DEnumeration, DArray, DSubtype, DException, DIntIo, DPragma, DTask, DTaskBody, PDecls, no_decl, decl_then}
 use Rattle.ada_tree.specs.Scope.{Scope, Range, Marking, ScalarMark, ArrayMark, TaskMark, NoMark, UnknownMark, UnclearMark, Thing, TaskArray, EntryPart, meaning, marking}
-use Rattle.ada_tree.specs.Declaring.{with_types, with_constants, drange_range, task_array, made_subind, made_array, object_of, array_object, declared_object, after_decl, after_decls}
+use Rattle.ada_tree.specs.Declaring.{with_types, with_constants, drange_range, task_array, made_subind, made_array, object_meaning, array_object, declared_object, after_decl, after_decls}
 use Rattle.syn_event.specs.NamedTasks.{NamedTasks, task_names_of_type, type_named, with_type, object_task_names, single_task_name, task_names_in}
 use Rattle.rewritten_types.specs.Rewriting.{DeclareOnce}
 use Rattle.rewritten_types.proofs.Fresh.{InHere, here-decl}
@@ -24,7 +24,7 @@ abbrev pub IsRowSeen : TypeTable → Scope → NamedTasks → Type 0
 IsRowSeen T S x = (r : PDrange) (range : Range) (es : List EntryPart) → x.index_range ≡ Some r → meaning S x.name.name ≡ Some (TaskArray range es) → IsRange T (Some r) range
 
 -- an object with a mark of values is no array of tasks
-no-row : (c : Bool) (o : Option ℕ) (range : Range) (es : List EntryPart) → object_of c o ≡ TaskArray range es → ⊥
+no-row : (c : Bool) (o : Option ℕ) (range : Range) (es : List EntryPart) → object_meaning c o ≡ TaskArray range es → ⊥
 no-row true (Some m) range es e = cc
 no-row false (Some m) range es e = cc
 no-row true None range es e = cc

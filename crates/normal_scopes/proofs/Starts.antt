@@ -18,10 +18,10 @@ use Rattle.syn_event.specs.Numbering.{task_named}
 use Rattle.std.proofs.lemmas.Option.{none-some}
 use Rattle.ada_tree.specs.Demand.{Site}
 use Rattle.ada_tree.specs.Sites.{own_sites, body_sites, decl_sites, decls_sites, sites}
-use Rattle.ada_tree.specs.Declaring.{first_scope, own_entries, in_body, inside, after_objects, after_decl, after_decls}
+use Rattle.ada_tree.specs.Declaring.{first_scope, own_entries, in_body, inner_scope, after_objects, after_decl, after_decls}
 use Rattle.syn_event.specs.declared.numbering.TaskInfo.{TaskInfo}
 use Rattle.syn_event.specs.NamedTasks.{task_names_of}
-use Rattle.syn_event.specs.Units.{decl_list, tasks_of}
+use Rattle.syn_event.specs.DeclaredTasks.{decl_list, tasks_of}
 use Rattle.task_model.specs.Setting.{Setting, entry_of}
 use Rattle.normal_model.specs.Names.{variable_name, task_name}
 use Rattle.normal_model.specs.Ranges.{word_at}
@@ -99,7 +99,7 @@ module _ (p : PProgram) (legal : IsLegal p) where
 
   -- ---- main
 
-  pub main-outer : IsOuterScope p legal (inside (made p legal))
+  pub main-outer : IsOuterScope p legal (inner_scope (made p legal))
   main-outer = record {
     types = ((made-formed p legal).same (last p legal) (last-placed p legal)).types;
     grows = subst (λ (s : Scope). Grows (first p legal).types s.types) (sym (front-after (first_decls [] p.decls) rest (first_scope p.name))) (grows-decls rest (first p legal));
@@ -110,9 +110,9 @@ module _ (p : PProgram) (legal : IsLegal p) where
       rest = decls_of (main_variables G ++ flat_map (task_declared G) (tasks_beside G) ++ flat_map (bodies_of G) (decl_list p.decls))
 
   -- Where main's statements begin it is so.
-  pub main-begun : IsBegun (main_unit G).task (inside (last p legal)) (inside (made p legal))
+  pub main-begun : IsBegun (main_unit G).task (inner_scope (last p legal)) (inner_scope (made p legal))
   main-begun =
-      begun (main_unit G).task (inside (last p legal)) (inside (made p legal)) main-outer (main-alike p legal) (main-tasks p legal) (λ id x es has e. e)
+      begun (main_unit G).task (inner_scope (last p legal)) (inner_scope (made p legal)) main-outer (main-alike p legal) (main-tasks p legal) (λ id x es has e. e)
       (subst (AreAccepted (main_unit G).task) (sym (decls-frame p.decls (first_scope p.name)).own) (λ name part e. absurd (none-some part e)))
 
   -- ---- bodies
@@ -141,7 +141,7 @@ module _ (p : PProgram) (legal : IsLegal p) where
 
   module _ (t : Scope) (b : IsBodied t) (v : Word) (objects : PDecls) (vars : List PDecl) (local : AreLocal G (old p legal) objects) (named : (id : NameId) → ((k : ℕ) → ((variable_name G k).0 == id.0) ≡ false) → AllByRecursion (IsVariableDecl G (old p legal) id) vars) where
     abbrev d : Scope
-    d = inside (after_objects (in_body t v) (decls_front objects (decls_of vars)))
+    d = inner_scope (after_objects (in_body t v) (decls_front objects (decls_of vars)))
 
     pub body-outer : IsOuterScope p legal d
     body-outer = record {
@@ -220,35 +220,35 @@ module _ (p : PProgram) (legal : IsLegal p) where
 
     local : AreLocal G (old p legal) objects
     local =
-        let rest : List Site = body_sites (inside (after_objects (in_body s w) objects)) its in
+        let rest : List Site = body_sites (inner_scope (after_objects (in_body s w) objects)) its in
         objects-local G (old p legal) objects (in_body s w) refl at.every (all_front IsMet own-sites rest at.met.1) (all_front (λ (x : Site). IsInner G x.demand) own-sites rest at.inner.1)
         (all_front (λ (x : Site). IsApartLocal (types_in p) x.demand) own-sites rest at.apart.1)
 
     own-is : own_entries (meaning s w.name) ≡ entries_in (last p legal) unit.unit
     own-is = body-own (last p legal) s w unit.unit unit-name unit-seen at.met.0.known
 
-    begins : Alike (plain_name p) (inside (after_objects (in_body s w) objects)) (inside (after_objects (in_body t v) (decls_front objects (decls_of vars))))
+    begins : Alike (plain_name p) (inner_scope (after_objects (in_body s w) objects)) (inner_scope (after_objects (in_body t v) (decls_front objects (decls_of vars))))
     begins =
         body-alike (plain_name p) s t w v objects (decls_of vars) (b.formed.same s at.placed)
         (own-is ∙ sym (ap own_entries (b.means (task_name G info) ∙ tasked-there p legal info among.0)))
         (old-objects (old_names (plain_name p)) (plain_name p) (λ id o. o) objects at.every)
         (are-added (plain_name p) vars (unit-new (plain_name p) (unit_for G w.name) (variable-new G) its))
 
-    outer : IsOuterScope p legal (inside (after_objects (in_body t v) (decls_front objects (decls_of vars))))
+    outer : IsOuterScope p legal (inner_scope (after_objects (in_body t v) (decls_front objects (decls_of vars))))
     outer =
         body-outer t b v objects vars local
         (λ id apart. unit-all (IsVariableDecl G (old p legal) id) (unit_for G w.name) (λ q x k. variable-stays G (old p legal) id apart q x k) its)
 
-    task-begun : (a : TaskInfo) → IsAmong a (tasks_beside G) → IsTaskThere G (inside (after_objects (in_body s w) objects)) (inside (after_objects (in_body t v) (decls_front objects (decls_of vars)))) a
+    task-begun : (a : TaskInfo) → IsAmong a (tasks_beside G) → IsTaskThere G (inner_scope (after_objects (in_body s w) objects)) (inner_scope (after_objects (in_body t v) (decls_front objects (decls_of vars)))) a
     task-begun a j =
         let u = unit-of p legal a j in
         record {
           entries = entries_in (last p legal) u.unit;
-          means = task-in p legal (inside (after_objects (in_body t v) (decls_front objects (decls_of vars)))) outer a j ∙ tasked-there p legal a j;
+          means = task-in p legal (inner_scope (after_objects (in_body t v) (decls_front objects (decls_of vars)))) outer a j ∙ tasked-there p legal a j;
           seen = objects-seen (entries_in (last p legal) u.unit) objects (in_body s w) a.name refl (seen-with (last p legal) s a.name u.unit (u.seen s at.placed));
         }
 
-    pub body-begun : IsBegun (unit_for G w.name).task (inside (after_objects (in_body s w) objects)) (inside (after_objects (in_body t v) (decls_front objects (decls_of vars))))
+    pub body-begun : IsBegun (unit_for G w.name).task (inner_scope (after_objects (in_body s w) objects)) (inner_scope (after_objects (in_body t v) (decls_front objects (decls_of vars))))
     body-begun =
         begun (unit_for G w.name).task _ _ outer begins task-begun (λ id x es has e. at.kept id x (objects-back objects (in_body s w) id es x refl has e))
         (subst (AreAccepted (unit_for G w.name).task) (sym (objects_own objects (in_body s w) ∙ own-is)) (accepted-is p legal unit.unit info.unit w.name unit.declared unit-name info among.0 among.1))
@@ -260,8 +260,8 @@ module _ (p : PProgram) (legal : IsLegal p) where
   BodiesBegun s no_decl = Prim.Unit {0}
   BodiesBegun s (decl_then (DTaskBody w objects its sp) rest) =
       ((t : Scope) → IsBodied t → (info : TaskInfo) → IsAmong info (running G w.name) →
-      IsBegun (unit_for G w.name).task (inside (after_objects (in_body s w) objects))
-      (inside (after_objects (in_body t (word_at w.span (task_name G info))) (decls_front objects (decls_of (unit_variables (unit_for G w.name) its))))))
+      IsBegun (unit_for G w.name).task (inner_scope (after_objects (in_body s w) objects))
+      (inner_scope (after_objects (in_body t (word_at w.span (task_name G info))) (decls_front objects (decls_of (unit_variables (unit_for G w.name) its))))))
       × BodiesBegun (after_decl s (DTaskBody w objects its sp)) rest
   BodiesBegun s (decl_then d rest) = BodiesBegun (after_decl s d) rest
 
@@ -326,4 +326,4 @@ module _ (p : PProgram) (legal : IsLegal p) where
       rules = legal.legal.type_rules
 
       decl-part : (P : Site → Type 0) → AllByRecursion P (sites p) → AllByRecursion P (decls_sites (first_scope p.name) p.decls)
-      decl-part P h = all_front P (decls_sites (first_scope p.name) p.decls) (body_sites (inside (after_decls (first_scope p.name) p.decls)) p.body) h.1
+      decl-part P h = all_front P (decls_sites (first_scope p.name) p.decls) (body_sites (inner_scope (after_decls (first_scope p.name) p.decls)) p.body) h.1

@@ -11,7 +11,7 @@ use Rattle.ada_tree.specs.PlainDecl.{OPlain}
 use Rattle.ada_tree.specs.PlainProgram.{PProgram}
 use Rattle.ada_tree.specs.Refusals.{types_in}
 use Rattle.ada_tree.specs.Scope.{Scope, Range, Marking, ScalarMark, ArrayMark, TaskMark, NoMark, UnknownMark, UnclearMark, Variable, marking, marking_of, range_of_mark}
-use Rattle.ada_tree.specs.Declaring.{object_of, mark_for, made_range, marked_range, subind_made, made_subind, plain_object, declared_object, Made}
+use Rattle.ada_tree.specs.Declaring.{object_meaning, mark_for, made_range, marked_range, subind_made, made_subind, plain_object, declared_object, Made}
 use Rattle.ada_value.specs.declared.values.Limits.{Limits}
 use Rattle.ada_value.specs.Values.{and_then, limits_of, limits_or, limits_named}
 use Rattle.ada_tree.specs.ExprTypes.{static_range}
@@ -76,10 +76,10 @@ module _ (p : PProgram) (legal : IsLegal p) (old : ℕ → Bool) where
   module _ (t : Scope) (n : SameNames old S t) (x : PSubind) (h : HasMark x) where
     -- the object that a mark of values makes
     object-made : (m : Marking) (k : ℕ) → (subind_made t m x.bounds).mark ≡ Some k → (made_subind t x).mark ≡ Some k → ((plain_object t false m x).thing ≡ Variable k) × ((plain_object t false m x).types ≡ (made_subind t x).types)
-    object-made (ScalarMark m j) k e f = (ap (object_of false) f, refl)
-    object-made NoMark k e f = (ap (object_of false) f, refl)
-    object-made UnknownMark k e f = (ap (object_of false) f, refl)
-    object-made UnclearMark k e f = (ap (object_of false) f, refl)
+    object-made (ScalarMark m j) k e f = (ap (object_meaning false) f, refl)
+    object-made NoMark k e f = (ap (object_meaning false) f, refl)
+    object-made UnknownMark k e f = (ap (object_meaning false) f, refl)
+    object-made UnclearMark k e f = (ap (object_meaning false) f, refl)
     object-made (ArrayMark m r part) k e f = absurd (none-some k e)
     object-made (TaskMark es) k e f = absurd (none-some k e)
 

@@ -12,7 +12,7 @@ use Rattle.ada_tree.specs.PlainDecl.{PEntry, PTask, PDecl, DNumber, DObject, DEn
 use Rattle.ada_tree.specs.Every.{Rules, EveryDrange, EveryFormal, EveryEntry}
 use Rattle.ada_tree.specs.Scope.{Scope, FormalPart}
 use Rattle.ada_tree.specs.Declaring.{family_of, entry_family, formal_parts, entry_part}
-use Rattle.syn_event.specs.Units.{tasks_in}
+use Rattle.syn_event.specs.DeclaredTasks.{tasks_in}
 use Rattle.normal_model.specs.NormalTree.{task_under, declared_under}
 use Rattle.alike_scopes.specs.Alike.{SameNames}
 use Rattle.alike_scopes.proofs.Exprs.{mark-kind-same, drange-same}

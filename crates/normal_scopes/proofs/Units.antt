@@ -5,7 +5,7 @@ use Rattle.common_lemmas.proofs.Lists.{all_weaker, all_joined}
 use Rattle.ada_tree.specs.PlainDecl.{PTask, PDecl, DNumber, DObject, DEnumeration, DArray, DSubtype, DException, DIntIo, DPragma, DTask, DTaskBody, PDecls, no_decl, decl_then}
 use Rattle.ada_tree.specs.Scope.{Scope, EntryPart, meaning}
 use Rattle.ada_tree.specs.Declaring.{task_thing, after_decl}
-use Rattle.syn_event.specs.Units.{decl_list, tasks_in}
+use Rattle.syn_event.specs.DeclaredTasks.{decl_list, tasks_in}
 use Rattle.rewritten_types.specs.Rewriting.{IsUnused, names_declared, DeclareOnce}
 use Rattle.rewritten_types.proofs.Fresh.{InHere, here-decl}
 use Rattle.legal_types.proofs.GoodScopes.{names-new}

@@ -17,7 +17,7 @@ use Rattle.translation_law.specs.Images.{IsLocal, local_null, local_assign, loca
 use Rattle.translation_law.specs.Controls.{task_in, Under, on_floor, in_block, in_handler, in_endless, in_while, in_count, inside, behind, Alike, alike, at_statement, at_turn, are_inside, are_around}
 use Rattle.translation_law.specs.Floors.{IsTranslation}
 use Rattle.translation_law.proofs.Locals.{step-alike}
-use Rattle.normal_law.specs.Suited.{AreMade, Rewritten, unit_of, asked_of}
+use Rattle.normal_law.specs.Suited.{AreMade, Rewritten, rewritten_unit, asked_of}
 use Rattle.normal_law.specs.NormalLists.{Begin, behind_stmt, Normal, normal_none, normal_then, normal_lists}
 use Rattle.normal_law.specs.NormalFloors.{own_body, accept_body, floor_at, normal}
 use Rattle.normal_law.specs.Meetings.{is_opened}
@@ -100,7 +100,7 @@ module _ (w : Rewritten) (made : AreMade w.programs) (added : Added w.programs w
 
   statement-comes : (n : ℕ) → n ≡ w.number → (i : List ℤ) (out : List ℕ) {s : PStmt} → OldStmt (asked_of w) s → (vars : List PDecl) → Begin (behind_stmt w s vars) w.vars → (r r' : PStmts) → Normal w r r' →
       {p p' : Around} {o o' : List PFrame} {V W : Variables} → Under x p o V p' o' W →
-      Comes x (left n i out (stmt_then s r) p o V) (right n i out (in_front (image_of (normal_rewriter (unit_of w)) s vars) r') p' o' W)
+      Comes x (left n i out (stmt_then s r) p o V) (right n i out (in_front (image_of (normal_rewriter (rewritten_unit w)) s vars) r') p' o' W)
   statement-comes n e i out (old_null s) vars b r r' im u = local-comes (local_null s) n i out r _ (normal_then vars _ r r' (old_null s) b im) u
   statement-comes n e i out (old_assign t y s h k) vars b r r' im u = local-comes (local_assign t y s) n i out r _ (normal_then vars _ r r' (old_assign t y s h k) b im) u
   statement-comes n e i out (old_delay d s) vars b r r' im u = local-comes (local_delay d s) n i out r _ (normal_then vars _ r r' (old_delay d s) b im) u
@@ -125,16 +125,16 @@ module _ (w : Rewritten) (made : AreMade w.programs) (added : Added w.programs w
   statement-comes n e i out (old_wait alts a s oa om) vars b r r' im {p} {p'} {o} {o'} {V} {W} u =
       wait-comes w made added declared n e i out p p' o o' V alts a s oa om vars b r r' im W u (are-there (normal_lists w) (normal-images w) made.types added u)
   statement-comes n e i out (old_conditional c l k s h a ol ok) vars b r r' im {p} {p'} {o} {o'} {V} {W} u =
-      let re = normal_rewriter (unit_of w) in
-      let t : List PDecl = statement_variables (unit_of w) vars (SConditional c l k s) in
-      let b2 : Begin (after_stmts re l t) w.vars = part-begins w (stmts-begin re (normal-adds (unit_of w)) k (after_stmts re l t)) b in
-      select-comes x laws made added s c a h _ (begun-subtypes w added declared s (select_subtypes w.programs.original s c) vars (part-begins w (stmts-begin re (normal-adds (unit_of w)) l t) b2))
+      let re = normal_rewriter (rewritten_unit w) in
+      let t : List PDecl = statement_variables (rewritten_unit w) vars (SConditional c l k s) in
+      let b2 : Begin (after_stmts re l t) w.vars = part-begins w (stmts-begin re (normal-adds (rewritten_unit w)) k (after_stmts re l t)) b in
+      select-comes x laws made added s c a h _ (begun-subtypes w added declared s (select_subtypes w.programs.original s c) vars (part-begins w (stmts-begin re (normal-adds (rewritten_unit w)) l t) b2))
       n i out p p' o o' V conditional l _ k _ r r' (walked w ol t b2) (walked w ok (after_stmts re l t) b) im W u (are-there (normal_lists w) (normal-images w) made.types added u)
   statement-comes n e i out (old_timed c l d k s h a ol ok) vars b r r' im {p} {p'} {o} {o'} {V} {W} u =
-      let re = normal_rewriter (unit_of w) in
-      let t : List PDecl = statement_variables (unit_of w) vars (STimed c l d k s) in
-      let b2 : Begin (after_stmts re l t) w.vars = part-begins w (stmts-begin re (normal-adds (unit_of w)) k (after_stmts re l t)) b in
-      select-comes x laws made added s c a h _ (begun-subtypes w added declared s (select_subtypes w.programs.original s c) vars (part-begins w (stmts-begin re (normal-adds (unit_of w)) l t) b2))
+      let re = normal_rewriter (rewritten_unit w) in
+      let t : List PDecl = statement_variables (rewritten_unit w) vars (STimed c l d k s) in
+      let b2 : Begin (after_stmts re l t) w.vars = part-begins w (stmts-begin re (normal-adds (rewritten_unit w)) k (after_stmts re l t)) b in
+      select-comes x laws made added s c a h _ (begun-subtypes w added declared s (select_subtypes w.programs.original s c) vars (part-begins w (stmts-begin re (normal-adds (rewritten_unit w)) l t) b2))
       n i out p p' o o' V (timed d) l _ k _ r r' (walked w ol t b2) (walked w ok (after_stmts re l t) b) im W u (are-there (normal_lists w) (normal-images w) made.types added u)
 
   -- ---- wherever it stands

@@ -15,7 +15,7 @@ use Rattle.ada_tree.specs.RuleMismatch.{of_other_kind, no_task, misfit_member}
 use Rattle.ada_tree.specs.RuleArgCount.{index_of_callee, called_entry}
 use Rattle.syn_event.proofs.Nothing.{append_nothing}
 use Rattle.task_model.specs.Setting.{Setting}
-use Rattle.normal_model.specs.Waits.{Unit}
+use Rattle.normal_model.specs.RewrittenUnit.{RewrittenUnit}
 use Rattle.normal_asked.specs.Pieces.{IsTarget, named}
 use Rattle.alike_scopes.specs.Laws.{IsMetBut}
 use Rattle.normal_typed.specs.ScopeOf.{IsSeenWith, IsTaskThere, IsScopeOf, IsPlaceOf, AreTasksOf}
@@ -73,7 +73,7 @@ index-of c es o e s (single_seen xs f) k m = cc
 index-of c es o e s (object_seen xs f) k m = cc
 index-of c es o e s (array_seen range xs f) k m = record { range = range; entries = xs; means = refl; fits = m }
 
-module _ (u : Unit) (own : ℕ → Bool) (vars : List PDecl) (c d : Scope) (rel : IsScopeOf u own vars c d) where
+module _ (u : RewrittenUnit) (own : ℕ → Bool) (vars : List PDecl) (c d : Scope) (rel : IsScopeOf u own vars c d) where
   abbrev g : Setting
   g = u.setting
 

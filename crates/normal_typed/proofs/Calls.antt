@@ -22,7 +22,7 @@ use Rattle.normal_model.specs.Names.{variable_name}
 use Rattle.normal_model.specs.Ranges.{subtype_of_range, family_range}
 use Rattle.normal_model.specs.Making.{variable, kept_subtypes, kept_if}
 use Rattle.normal_model.specs.Calls.{Slot, slots_called, actuals_passed, actual_subtypes, entry_called, lists_called, lists_passed, args_passed, index_number, actual_number, call_subtypes, call_to}
-use Rattle.normal_model.specs.Waits.{Unit}
+use Rattle.normal_model.specs.RewrittenUnit.{RewrittenUnit}
 use Rattle.normal_asked.specs.Pieces.{IsVariable, AreVariables, IsTarget, IsPair, first_pair, later_pair}
 use Rattle.normal_asked.proofs.CallVariables.{family-there, actuals-there}
 use Rattle.alike_scopes.specs.Laws.{IsMetBut}
@@ -68,7 +68,7 @@ passed-length g s (x ∷ xs) (e ∷ es) k h = ap suc (passed-length g s xs es (k
     suc-same : (m n : ℕ) → suc m ≡ suc n → m ≡ n
     suc-same m n e = cc
 
-module _ (u : Unit) (own : ℕ → Bool) (vars : List PDecl) (known : HasKnownKinds u.setting.types) (c d : Scope) (rel : IsScopeOf u own vars c d) where
+module _ (u : RewrittenUnit) (own : ℕ → Bool) (vars : List PDecl) (known : HasKnownKinds u.setting.types) (c d : Scope) (rel : IsScopeOf u own vars c d) where
   abbrev g : Setting
   g = u.setting
 

@@ -5,7 +5,7 @@ use Rattle.common_lemmas.proofs.Lists.{all_joined}
 use Rattle.ada_tree.specs.declared.naming.Span.{Span}
 use Rattle.ada_tree.specs.PlainExpr.{PExpr}
 use Rattle.ada_tree.specs.PlainStmt.{PChoice, PStmt, SNull, SAssign, SDelay, SExit, SRaise, SAbort, SCall, SAccept, SWait, SConditional, STimed, SPut, SPutLine, SNewLine, SGet, SIf, SCase, SBlock, SLoop, PStmts, no_stmt, stmt_then, PMaybe, absent, present, PAccept, accepting, alternative, PAltKind, AAccept, ADelay, ATerminate, PAlts, no_alt, alt_then, PArms, no_arm, arm_then, arm, PCaseArms, no_case_arm, case_arm_then, case_arm, PBody, body, PHandlers, no_handler, handler_then, handler}
-use Rattle.ada_tree.specs.Sites.{choices_of, is_present, with_words}
+use Rattle.ada_tree.specs.Sites.{arm_choices, is_present, with_words}
 use Rattle.asked_stmts.specs.Asked.{Asks, AskedStmt, AskedStmts, AskedSome, AskedMaybe, AskedAccept, AskedAlts, AskedKind, AskedArms, AskedCaseArms, AskedBody, AskedHandlers}
 
 -- what is asked, and besides Q of the selector where choices stand, and S of all choices where the selector stands
@@ -21,9 +21,9 @@ module _ {C : Type 0} (a : Asks C) (Q : C → PExpr → Type 0) (S : PChoice →
   abbrev b : Asks C
   b = with_cases a Q S
 
-  all-choices : (c : C) (k : ℕ) (e : PExpr) (x : PCaseArms) → AskedCaseArms a c k e x → AllByRecursion S (choices_of x)
+  all-choices : (c : C) (k : ℕ) (e : PExpr) (x : PCaseArms) → AskedCaseArms a c k e x → AllByRecursion S (arm_choices x)
   all-choices c k e no_case_arm h = tt
-  all-choices c k e (case_arm_then (case_arm cs l) rest) h = all_joined S cs (choices_of rest) (each c k e cs h.0) (all-choices c k e rest h.2)
+  all-choices c k e (case_arm_then (case_arm cs l) rest) h = all_joined S cs (arm_choices rest) (each c k e cs h.0) (all-choices c k e rest h.2)
 
   mutual
     stmt : (c : C) (k : ℕ) (x : PStmt) → AskedStmt a c k x → AskedStmt b c k x
@@ -44,7 +44,7 @@ module _ {C : Type 0} (a : Asks C) (Q : C → PExpr → Type 0) (S : PChoice →
     stmt c k (STimed x l n o s) h = (h.0, h.1, h.2, h.3, h.4, stmts c (k + 1) l h.5, stmts c (k + 1) o h.6)
     stmt c k (SIf x o s) h = (h.0, h.1, arms c (k + 1) x h.2, maybe c (k + 1) o h.3)
     stmt c k (SCase e x o s) h =
-        (h.0, (h.1, all-choices c (k + 1) e x h.2), case_arms c (k + 1) e x (told c (k + 1) e (choices_of x) (is_present o) s h.1) h.2, maybe c (k + 1) o h.3)
+        (h.0, (h.1, all-choices c (k + 1) e x h.2), case_arms c (k + 1) e x (told c (k + 1) e (arm_choices x) (is_present o) s h.1) h.2, maybe c (k + 1) o h.3)
     stmt c k (SBlock x s) h = (h.0, body-of c (k + 1) x h.1)
     stmt c k (SLoop w x l s) h = (h.0, h.1, some (a.looping c w x) (k + 1) l h.2)
 

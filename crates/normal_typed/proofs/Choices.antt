@@ -9,7 +9,7 @@ use Rattle.ada_tree.specs.TypeTable.{TypeTable}
 use Rattle.ada_tree.specs.PlainExpr.{PExpr, EName, PSubind}
 use Rattle.ada_tree.specs.PlainStmt.{PChoice}
 use Rattle.ada_tree.specs.Scope.{Scope, Range, meaning}
-use Rattle.ada_tree.specs.ExprTypes.{kind_of, static_in, range_between, place_of}
+use Rattle.ada_tree.specs.ExprTypes.{kind_of, static_in, range_between, expr_place}
 use Rattle.ada_tree.specs.StaticValue.{is_static}
 use Rattle.ada_tree.specs.Sites.{expr_sites, expr_of, choice_sites}
 use Rattle.ada_tree.specs.RuleRangeBad.{is_outside}
@@ -41,8 +41,8 @@ module _ (d : Scope) (k : ℕ) (e : PExpr) (z : ℤ) (h : IsFixedAt d k e z) whe
       all_joined IsMetBut (expr_of d (Some k) e ++ _) _
       (all_joined IsMetBut (expr_of d (Some k) e) _
       (all_joined IsMetBut (expr_sites d e) _ h.met (met-of d e (Some k) (of-kind d e k h.static.kind), tt))
-      (met-static d e (ap (λ b. if b then place_of e ∷ [] else []) fixed-static), tt))
-      (met-in d e (Some range) (ap (λ b. if b then place_of e ∷ [] else []) lies), tt)
+      (met-static d e (ap (λ b. if b then expr_place e ∷ [] else []) fixed-static), tt))
+      (met-in d e (Some range) (ap (λ b. if b then expr_place e ∷ [] else []) lies), tt)
 
   pub point-is : choice_range d k (record { first = e; last = None }) ≡ Some record { kind = k; first = z; last = z }
   point-is = ap₂ (range_between k) fixed-value fixed-value

@@ -9,7 +9,7 @@ use Rattle.ada_tree.specs.PlainExpr.{PExpr}
 use Rattle.ada_tree.specs.PlainStmt.{PHead}
 use Rattle.ada_tree.specs.PlainDecl.{PDecl}
 use Rattle.ada_tree.specs.Scope.{Scope, Range, Family, single, family, unclear, EntryPart, entry_named, is_entry_somewhere}
-use Rattle.ada_tree.specs.ExprTypes.{place_of}
+use Rattle.ada_tree.specs.ExprTypes.{expr_place}
 use Rattle.ada_tree.specs.Demand.{must_be_of, must_lie_in, Site}
 use Rattle.ada_tree.specs.Sites.{site, if_there, expr_sites, expr_of, formals_sites, accept_index_sites, head_sites}
 use Rattle.ada_tree.specs.RuleArgCount.{at_place, fits_accept, are_same, written_formals, wrong_accept}
@@ -18,7 +18,8 @@ use Rattle.task_model.specs.Setting.{Setting, entry_of}
 use Rattle.normal_model.specs.Names.{variable_name}
 use Rattle.normal_model.specs.Ranges.{subtype_of_range, family_range}
 use Rattle.normal_model.specs.Making.{variable}
-use Rattle.normal_model.specs.Waits.{Unit, head_left}
+use Rattle.normal_model.specs.RewrittenUnit.{RewrittenUnit}
+use Rattle.normal_model.specs.Waits.{head_left}
 use Rattle.alike_scopes.specs.Laws.{IsMetBut}
 use Rattle.normal_typed.specs.ScopeOf.{HasKnownKinds, IsVariableOf, IsRange, IsFamilyOf, IsEntryOf, IsScopeOf, IsPlaceOf}
 use Rattle.normal_typed.proofs.Places.{met-of, met-in, met-accepts}
@@ -26,7 +27,7 @@ use Rattle.normal_typed.proofs.Variables.{AllMetBut, of-kind, variable-kind, var
 use Rattle.normal_typed.proofs.Subtypes.{range-variable}
 use Rattle.normal_typed.proofs.Calls.{fits-told, as_family}
 
-module _ (u : Unit) (own : ℕ → Bool) (vars : List PDecl) (known : HasKnownKinds u.setting.types) (c d : Scope) (rel : IsScopeOf u own vars c d) where
+module _ (u : RewrittenUnit) (own : ℕ → Bool) (vars : List PDecl) (known : HasKnownKinds u.setting.types) (c d : Scope) (rel : IsScopeOf u own vars c d) where
   abbrev g : Setting
   g = u.setting
 
@@ -87,7 +88,7 @@ module _ (u : Unit) (own : ℕ → Bool) (vars : List PDecl) (known : HasKnownKi
       new-index =
           let kind : AllMetBut (site d (must_be_of z (Some v.mark.kind)) ∷ []) = (met-of d z (Some v.mark.kind) (of-kind d z v.mark.kind (variable-kind v s)), tt) in
           let lies : AllMetBut (site d (must_lie_in z (Some family-head.range)) ∷ []) =
-          (met-in d z (Some family-head.range) (ap (λ o. if is_outside family-head.range o then place_of z ∷ [] else []) (variable-valueless v family-head.range.kind s)), tt) in
+          (met-in d z (Some family-head.range) (ap (λ o. if is_outside family-head.range o then expr_place z ∷ [] else []) (variable-valueless v family-head.range.kind s)), tt) in
           all_joined IsMetBut (expr_of d (Some family-head.range.kind) z) (site d (must_lie_in z (Some family-head.range)) ∷ [])
           (subst (λ k. AllMetBut (expr_of d (Some k) z)) same (all_joined IsMetBut (expr_sites d z) (site d (must_be_of z (Some v.mark.kind)) ∷ []) (variable-met v s) kind)) lies
 

@@ -11,9 +11,9 @@ use Rattle.ada_tree.specs.PlainExpr.{PSubind}
 use Rattle.ada_tree.specs.PlainStmt.{PFormal, PScheme, LWhile, LFor, PHead}
 use Rattle.ada_tree.specs.PlainDecl.{PDecl}
 use Rattle.ada_tree.specs.Every.{EveryFormal, EveryHead, EveryScheme, EveryWord}
-use Rattle.ada_tree.specs.Scope.{Scope, Seen, EntryPart, Thing, TypeMark, TaskType, SingleTask, TaskObject, TaskArray, Variable, ConstantObject, Parameter, LoopParameter, Literal, AnException, MainProcedure, AnotherUnit, Unclear, Range, Marking, ScalarMark, ArrayMark, TaskMark, NoMark, UnknownMark, UnclearMark, meaning, marking, mark_at, and_then}
+use Rattle.ada_tree.specs.Scope.{Scope, NameMeaning, EntryPart, Thing, TypeMark, TaskType, SingleTask, TaskObject, TaskArray, Variable, ConstantObject, Parameter, LoopParameter, Literal, AnException, MainProcedure, AnotherUnit, Unclear, Range, Marking, ScalarMark, ArrayMark, TaskMark, NoMark, UnknownMark, UnclearMark, meaning, marking, mark_at, and_then}
 use Rattle.ada_tree.specs.StaticValue.{value_named, mark_named}
-use Rattle.ada_tree.specs.Declaring.{seen_as, with_name, with_names, inside, formal_thing, with_formals, first_mark_of, loop_thing, drange_kind, with_loop_parameter}
+use Rattle.ada_tree.specs.Declaring.{seen_as, with_name, with_names, inner_scope, formal_thing, with_formals, first_mark_of, loop_thing, drange_kind, with_loop_parameter}
 use Rattle.ada_tree.specs.Demand.{declares, Site}
 use Rattle.ada_tree.specs.Sites.{if_there, names_sites, all_names, formals_sites, accept_index_sites, head_sites, scheme_sites, loop_scope}
 use Rattle.ada_tree.specs.RuleArgCount.{called_entry}
@@ -23,7 +23,7 @@ use Rattle.rewritten_types.specs.Agreement.{IsScalar}
 use Rattle.syn_event.specs.Numbering.{task_named}
 use Rattle.task_model.specs.Setting.{entry_of}
 use Rattle.normal_model.specs.Names.{variable_name, member_name, task_name}
-use Rattle.normal_model.specs.Waits.{Unit}
+use Rattle.normal_model.specs.RewrittenUnit.{RewrittenUnit}
 use Rattle.normal_model.specs.NormalTree.{tasks_beside}
 use Rattle.normal_asked.specs.Pieces.{IsAmong}
 use Rattle.normal_checked.specs.Around.{own_rules}
@@ -47,7 +47,7 @@ differ f a b x y p q n = by_test (a == b) refl
 pub meaning-more : (thing : Thing) (s : Scope) (w : Word) (id : NameId) → meaning (with_name thing s w) id ≡ (if w.name.0 == id.0 then Some thing else meaning s id)
 meaning-more thing s w id = by_test (w.name.0 == id.0)
   where
-    by_test : (b : Bool) → option_map (λ (x : Seen). x.thing) (if b then Some (seen_as thing w.name.0) else find (λ (x : Seen). x.name == id.0) s.names) ≡ (if b then Some thing else meaning s id)
+    by_test : (b : Bool) → option_map (λ (x : NameMeaning). x.thing) (if b then Some (seen_as thing w.name.0) else find (λ (x : NameMeaning). x.name == id.0) s.names) ≡ (if b then Some thing else meaning s id)
     by_test true = refl
     by_test false = refl
 
@@ -115,7 +115,7 @@ pub loop-no-task : (o : Option ℕ) → IsNoTask (Some (loop_thing o))
 loop-no-task (Some m) = tt
 loop-no-task None = tt
 
-module _ (u : Unit) (own : ℕ → Bool) (vars : List PDecl) where
+module _ (u : RewrittenUnit) (own : ℕ → Bool) (vars : List PDecl) where
   -- a name that an inner scope declares
   pub record IsInner (id : NameId) : Type 0 where
     inner : IsInnerName u.setting id
@@ -181,8 +181,8 @@ module _ (u : Unit) (own : ℕ → Bool) (vars : List PDecl) where
       (names-step thing thing' (formal-no-task f.mode (marking c f.mark.name)) f.names (all_front (λ w. IsInner w.name) f.names (all_names fs) h) c d)
       (formals-step fs (all_back (λ w. IsInner w.name) f.names (all_names fs) h) (with_names thing c f.names) (with_names thing' d f.names))
 
-  inside-step : (c d : Scope) → IsStep c d (inside c) (inside d)
-  inside-step c d = no-step c d (inside c) (inside d) refl refl (λ id. refl) (λ id. refl)
+  inside-step : (c d : Scope) → IsStep c d (inner_scope c) (inner_scope d)
+  inside-step c d = no-step c d (inner_scope c) (inner_scope d) refl refl (λ id. refl) (λ id. refl)
 
   -- ---- what is outer
 
@@ -279,8 +279,8 @@ module _ (u : Unit) (own : ℕ → Bool) (vars : List PDecl) where
   names-own (f ∷ fs) h = all_joined (λ (w : Word). own w.name.0 ≡ true) f.names (all_names fs) (recursion_from_All (EveryWord (own_rules own)) f.names h.0.0.1) (names-own fs h.1)
 
   -- the entries of the own task stay
-  pub accept-own : (c : Scope) (fs : List PFormal) → (with_formals (inside c) fs).own ≡ c.own
-  accept-own c fs = go fs (inside c)
+  pub accept-own : (c : Scope) (fs : List PFormal) → (with_formals (inner_scope c) fs).own ≡ c.own
+  accept-own c fs = go fs (inner_scope c)
     where
       one : (thing : Thing) (ws : List Word) (s : Scope) → (with_names thing s ws).own ≡ s.own
       one thing [] s = refl
@@ -296,19 +296,19 @@ module _ (u : Unit) (own : ℕ → Bool) (vars : List PDecl) where
   loop-own c (Some (LFor w backwards x)) = refl
 
   pub accept-scope : (c d : Scope) (k : ℕ) (h : PHead) → EveryHead (own_rules own) k h → AllByRecursion (IsPlaceOf u.setting) (head_sites c h) → IsScopeOf u own vars c d →
-      IsScopeOf u own vars (with_formals (inside c) h.formals) (with_formals (inside d) h.formals)
+      IsScopeOf u own vars (with_formals (inner_scope c) h.formals) (with_formals (inner_scope d) h.formals)
   accept-scope c d k h every m rel =
       let fs = recursion_from_All (EveryFormal (own_rules own)) h.formals every.2 in
-      let sites = all_front (IsPlaceOf u.setting) (names_sites false (inside c) (all_names h.formals)) _ (all_back (IsPlaceOf u.setting) (if_there (accept_index_sites c _) h.index) (formals_sites c h.formals) m.1) in
-      inner-scope c d (with_formals (inside c) h.formals) (with_formals (inside d) h.formals)
-      (two-steps c d (inside c) (inside d) _ _ (inside-step c d) (formals-step h.formals (words-inner (all_names h.formals) (inside c) (names-own h.formals fs) sites) (inside c) (inside d)))
-      (formals_are_alike own (inside c) (inside d) (inside_is_alike own c d rel.alike) h.formals (old-formals own h.formals fs)) rel
+      let sites = all_front (IsPlaceOf u.setting) (names_sites false (inner_scope c) (all_names h.formals)) _ (all_back (IsPlaceOf u.setting) (if_there (accept_index_sites c _) h.index) (formals_sites c h.formals) m.1) in
+      inner-scope c d (with_formals (inner_scope c) h.formals) (with_formals (inner_scope d) h.formals)
+      (two-steps c d (inner_scope c) (inner_scope d) _ _ (inside-step c d) (formals-step h.formals (words-inner (all_names h.formals) (inner_scope c) (names-own h.formals fs) sites) (inner_scope c) (inner_scope d)))
+      (formals_are_alike own (inner_scope c) (inner_scope d) (inside_is_alike own c d rel.alike) h.formals (old-formals own h.formals fs)) rel
 
   pub loop-scope : (c d : Scope) (k : ℕ) (x : Option PScheme) → IfSome x (EveryScheme (own_rules own) k) → AllByRecursion (IsPlaceOf u.setting) (if_there (scheme_sites c) x) → IsScopeOf u own vars c d → IsScopeOf u own vars (loop_scope c x) (loop_scope d x)
   loop-scope c d k None every m rel = rel
   loop-scope c d k (Some (LWhile e)) every m rel = rel
   loop-scope c d k (Some (LFor w backwards x)) every m rel =
-      let inner : AreInner (w ∷ []) = words-inner (w ∷ []) (inside c) (every.0, tt) (m.0, tt) in
+      let inner : AreInner (w ∷ []) = words-inner (w ∷ []) (inner_scope c) (every.0, tt) (m.0, tt) in
       inner-scope c d (with_loop_parameter c w x) (with_loop_parameter d w x)
-      (two-steps c d (inside c) (inside d) _ _ (inside-step c d) (one-step _ _ (loop-no-task (and_then (first_mark_of c.types) (drange_kind c x))) w inner.0 (inside c) (inside d)))
+      (two-steps c d (inner_scope c) (inner_scope d) _ _ (inside-step c d) (one-step _ _ (loop-no-task (and_then (first_mark_of c.types) (drange_kind c x))) w inner.0 (inner_scope c) (inner_scope d)))
       (loop_is_alike own c d rel.alike w x (old-drange own k x every.1)) rel

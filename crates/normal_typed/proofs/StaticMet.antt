@@ -12,7 +12,7 @@ use Rattle.ada_tree.specs.TypeTable.{TypeTable}
 use Rattle.ada_tree.specs.Attributes.{Attribute, First, Last, Pos, Val, Succ, Pred, Image, NoAttribute, attribute_of, is_bound, is_function, is_image}
 use Rattle.ada_tree.specs.PlainExpr.{PExpr, EInteger, EName, EIndex, EAttribute, EAttributeOf, EParen, EUnary, EBinary, PBounds, PSubind, PDrange, RGiven, RMarked}
 use Rattle.ada_tree.specs.Scope.{Scope, Thing, TypeMark, TaskType, SingleTask, TaskObject, TaskArray, Variable, ConstantObject, Parameter, LoopParameter, Literal, AnException, MainProcedure, AnotherUnit, Unclear, Reading, AsScalar, AsArray, AsNoValue, AsUnknown, AsUnclear, Marking, ScalarMark, ArrayMark, TaskMark, NoMark, UnknownMark, UnclearMark, and_then, meaning, reading, reading_of, marking, marking_of, scalar_kind}
-use Rattle.ada_tree.specs.ExprTypes.{nodes, kind_of, place_of, name_kind, Operand, takes, takes_one, is_taken, given_by, unary_kind, argument_kind, function_kind, bound_kind, if_kind, attribute_kind, is_other_kind}
+use Rattle.ada_tree.specs.ExprTypes.{nodes, kind_of, expr_place, name_kind, Operand, takes, takes_one, is_taken, given_by, unary_kind, argument_kind, function_kind, bound_kind, if_kind, attribute_kind, is_other_kind}
 use Rattle.ada_tree.specs.StaticValue.{is_static, keeps_static, value_of, mark_named}
 use Rattle.ada_tree.specs.Demand.{scalar_only, node, must_be_of, must_be_static, must_be_alike, must_not_be_empty, Site}
 use Rattle.ada_tree.specs.Sites.{site, if_there, expr_sites, expr_of, static_of, bounds_sites, constraint_sites, mark_sites, subind_sites, drange_sites}
@@ -202,7 +202,7 @@ module _ (t : Scope) (free : NoneIsOut t) where
       let static : is_static t.types e ≡ true = and_right (keeps_static (attribute_of w.name) && is_some (mark_named t.types m.name)) (is_static t.types e) st in
       let other : is_other_kind (Some (argument_kind (attribute_of w.name) b.kind)) (kind_of t e) ≡ false = ap (is_other_kind (Some (argument_kind (attribute_of w.name) b.kind))) b.is ∙ ap (λ x. if x then false else true) b.same in
       let fits : misfit_argument t (attribute_of w.name) (scalar_kind (marking t m.name)) e ≡ [] =
-      (ap (λ x. misfit_argument t (attribute_of w.name) (scalar_kind x) e) b.mark ∙ ap (λ x. if is_function (attribute_of w.name) then (if x then place_of e ∷ [] else []) else []) other ∙ both-none (is_function (attribute_of w.name))) in (
+      (ap (λ x. misfit_argument t (attribute_of w.name) (scalar_kind x) e) b.mark ∙ ap (λ x. if is_function (attribute_of w.name) then (if x then expr_place e ∷ [] else []) else []) other ∙ both-none (is_function (attribute_of w.name))) in (
         met-node t false (EAttributeOf m w e s) record {
           known = ap₂ (λ x y. x ++ y) (mark-seen m b.place b.kind b.mark) b.known;
           matched = ap₂ (λ x y. x ++ y) (mark-fits m b.place b.kind b.mark) fits;
@@ -216,7 +216,7 @@ module _ (t : Scope) (free : NoneIsOut t) where
   nodes-met (EParen e s) k h st = (met-node t false (EParen e s) record { known = refl; matched = refl; readable = refl; counted = refl; arrays = refl; texts = refl }, nodes-met e k h st)
   nodes-met (EUnary op e s) k h st =
       let u = unary-there (takes_one op) (kind_of t e) k h in (
-        met-node t false (EUnary op e s) record { known = refl; matched = ap (λ x. if x then place_of e ∷ [] else []) u.2; readable = refl; counted = refl; arrays = refl; texts = refl },
+        met-node t false (EUnary op e s) record { known = refl; matched = ap (λ x. if x then expr_place e ∷ [] else []) u.2; readable = refl; counted = refl; arrays = refl; texts = refl },
         nodes-met e u.0 u.1 st,
       )
   nodes-met (EBinary op l r s) k h st =
@@ -224,7 +224,7 @@ module _ (t : Scope) (free : NoneIsOut t) where
       let right : is_taken (takes op) b.right ≡ true = right-taken (takes op) b.left b.right b.taken b.same in
       let fits : misfit_operand (takes op) (kind_of t l) (kind_of t r) l r ≡ [] =
       (ap₂ (λ x y. misfit_operand (takes op) x y l r) b.first b.second
-      ∙ ap₂ (λ x y. if not x then place_of l ∷ [] else if not y || (if b.left == b.right then false else true) then place_of r ∷ [] else []) b.taken right ∙ ap (λ x. if (if x then false else true) then place_of r ∷ [] else []) b.same) in (
+      ∙ ap₂ (λ x y. if not x then expr_place l ∷ [] else if not y || (if b.left == b.right then false else true) then expr_place r ∷ [] else []) b.taken right ∙ ap (λ x. if (if x then false else true) then expr_place r ∷ [] else []) b.same) in (
         met-node t false (EBinary op l r s) record { known = refl; matched = fits; readable = refl; counted = refl; arrays = refl; texts = refl },
         all_joined IsMetNode (nodes l) (nodes r) (nodes-met l b.left b.first (and_left (is_static t.types l) (is_static t.types r) st)) (nodes-met r b.right b.second (and_right (is_static t.types l) (is_static t.types r) st)),
       )
@@ -252,7 +252,7 @@ module _ (t : Scope) (free : NoneIsOut t) where
   fixed-met k e h = (met-whole t e (none-raised e k h.value h.kind h.static h.worth), nodes-mapped (nodes e) (nodes-met e k h.kind h.static))
 
   must-static : (k : ℕ) (e : PExpr) → IsStaticIn t k e → IsMetBut (site t (must_be_static e))
-  must-static k e h = met-static t e (ap₂ (λ o b. if is_some o && not b then place_of e ∷ [] else []) h.kind h.static)
+  must-static k e h = met-static t e (ap₂ (λ o b. if is_some o && not b then expr_place e ∷ [] else []) h.kind h.static)
 
   must-of : (k : ℕ) (e : PExpr) → IsStaticIn t k e → IsMetBut (site t (must_be_of e (Some k)))
   must-of k e h = met-of t e (Some k) (of-kind t e k h.kind)
@@ -271,8 +271,8 @@ module _ (t : Scope) (free : NoneIsOut t) where
     known = refl;
     matched = refl;
     static = refl;
-    ranged = ap (empty_range t b.first b.last) f.kind ∙ ap₂ (λ x y. if is_below x y then place_of b.first ∷ [] else []) (static-told t k b.last l) (static-told t k b.first f)
-        ∙ ap (λ x. if x then place_of b.first ∷ [] else []) (in-order f.value l.value o);
+    ranged = ap (empty_range t b.first b.last) f.kind ∙ ap₂ (λ x y. if is_below x y then expr_place b.first ∷ [] else []) (static-told t k b.last l) (static-told t k b.first f)
+        ∙ ap (λ x. if x then expr_place b.first ∷ [] else []) (in-order f.value l.value o);
     variable = refl;
     readable = refl;
     counted = refl;

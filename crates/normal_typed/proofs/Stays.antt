@@ -10,9 +10,9 @@ use Rattle.ada_tree.specs.PlainStmt.{PTarget, PFormal, PPart, PWords, PValue, PC
 use Rattle.ada_tree.specs.Every.{Rules, EveryWord, EveryExpr, EveryBounds, EverySubind, EveryDrange, EveryTarget, EveryFormal, EveryPart, EveryChoice, EveryScheme, EveryHead, EveryStmt}
 use Rattle.ada_tree.specs.Scope.{Scope, Range, Family, single, family, unclear, EntryPart, integer_kind, truth_kind, marking, scalar_kind, entry_named}
 use Rattle.ada_tree.specs.ExprTypes.{nodes, kind_of}
-use Rattle.ada_tree.specs.Declaring.{inside}
+use Rattle.ada_tree.specs.Declaring.{inner_scope}
 use Rattle.ada_tree.specs.Demand.{MarkUse, scalar_only, Demand, labels, stands_as_mark, whole, node, must_be_of, must_be_alike, must_be_static, must_not_be_empty, must_lie_in, writes, gets, accepts, names_exception, handles, chooses, is_written, Site}
-use Rattle.ada_tree.specs.Sites.{subind_sites, site, if_there, names_sites, expr_sites, part_nodes, expr_of, static_of, static_if, bounds_sites, constraint_sites, mark_sites, drange_sites, formal_mark_sites, all_names, formals_sites, accept_index_sites, head_sites, plain_part_sites, part_sites, target_sites, condition, choice_sites, handler_names_sites, scheme_sites, stmt_sites}
+use Rattle.ada_tree.specs.Sites.{subind_sites, site, if_there, names_sites, expr_sites, part_nodes, expr_of, static_of, static_if, bounds_sites, constraint_sites, mark_sites, drange_sites, formal_mark_sites, all_names, formals_sites, accept_index_sites, head_sites, plain_part_sites, part_sites, target_sites, condition_sites, choice_sites, handler_names_sites, scheme_sites, stmt_sites}
 use Rattle.ada_tree.specs.RuleTextUse.{is_image_of}
 use Rattle.ada_tree.specs.RuleMismatch.{target_kind}
 use Rattle.ada_tree.specs.RuleChoiceBad.{selected_range}
@@ -152,7 +152,7 @@ module _ (P : Site → Type 0) (but : (s : Site) → P s → IsMetBut s) (own : 
       all_joined IsMetBut (expr_of d k e) _ (of-stays k e o (all_front P (expr_of c k e) _ m))
       (stays (must_be_static e) o (all_back P (expr_of c k e) (site c (must_be_static e) ∷ []) m).0, tt)
 
-  pub condition-stays : (e : PExpr) → IsOldExpr own e → At (condition c e) → AllMetBut (condition d e)
+  pub condition-stays : (e : PExpr) → IsOldExpr own e → At (condition_sites c e) → AllMetBut (condition_sites d e)
   condition-stays e o m = of-stays (Some truth_kind) e o m
 
   if-stays : (o : Option PExpr) → IfSome o (IsOldExpr own) → At (if_there (expr_sites c) o) → AllMetBut (if_there (expr_sites d) o)
@@ -275,14 +275,14 @@ module _ (P : Site → Type 0) (but : (s : Site) → P s → IsMetBut s) (own : 
 
   pub formals-stay : (fs : List PFormal) → AreOldFormals own fs → At (formals_sites c fs) → AllMetBut (formals_sites d fs)
   formals-stay fs o m =
-      all_joined IsMetBut (names_sites false (inside d) (all_names fs)) _ (words-stay (all_names fs) c (inside d)) (marks-stay fs o (all_back P (names_sites false (inside c) (all_names fs)) _ m))
+      all_joined IsMetBut (names_sites false (inner_scope d) (all_names fs)) _ (words-stay (all_names fs) c (inner_scope d)) (marks-stay fs o (all_back P (names_sites false (inner_scope c) (all_names fs)) _ m))
 
   -- ---- loops
 
   scheme-stays : (k : ℕ) (o : Option PScheme) → IfSome o (EveryScheme r' k) → At (if_there (scheme_sites c) o) → AllMetBut (if_there (scheme_sites d) o)
   scheme-stays k None h m = tt
   scheme-stays k (Some (LWhile e)) h m = condition-stays e (old-expr own k e h) m
-  scheme-stays k (Some (LFor w backwards x)) h m = (met-declares (inside d) false w, drange-stays false x (old-drange own k x h.1) m.1)
+  scheme-stays k (Some (LFor w backwards x)) h m = (met-declares (inner_scope d) false w, drange-stays false x (old-drange own k x h.1) m.1)
 
   label-stays : (o : Option Word) → AllMetBut (if_there (λ y. site d (labels y) ∷ []) o)
   label-stays None = tt
@@ -362,7 +362,7 @@ module _ (P : Site → Type 0) (but : (s : Site) → P s → IsMetBut s) (own : 
   exception-stays None h m = tt
   exception-stays (Some w) h m = (stays (names_exception w) h m.0, tt)
 
-  when-stays : (o : Option PExpr) → IfSome o (IsOldExpr own) → At (if_there (condition c) o) → AllMetBut (if_there (condition d) o)
+  when-stays : (o : Option PExpr) → IfSome o (IsOldExpr own) → At (if_there (condition_sites c) o) → AllMetBut (if_there (condition_sites d) o)
   when-stays None h m = tt
   when-stays (Some e) h m = condition-stays e h m
 

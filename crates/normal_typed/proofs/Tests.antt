@@ -9,10 +9,10 @@ use Rattle.ada_tree.specs.declared.expressions.BinaryOp.TheVariants as binary
 use Rattle.ada_tree.specs.PlainExpr.{PExpr, EInteger, EName, EBinary, PSubind}
 use Rattle.ada_tree.specs.TypeTable.{TypeTable}
 use Rattle.ada_tree.specs.Scope.{Scope, integer_kind, truth_kind}
-use Rattle.ada_tree.specs.ExprTypes.{nodes, kind_of, place_of, of_any_kind, takes, takes_one, unary_kind, binary_kind}
+use Rattle.ada_tree.specs.ExprTypes.{nodes, kind_of, expr_place, of_any_kind, takes, takes_one, unary_kind, binary_kind}
 use Rattle.ada_tree.specs.StaticValue.{is_static}
 use Rattle.ada_tree.specs.Demand.{node}
-use Rattle.ada_tree.specs.Sites.{site, expr_sites, condition}
+use Rattle.ada_tree.specs.Sites.{site, expr_sites, condition_sites}
 use Rattle.ada_tree.specs.RuleMismatch.{is_misfit, misfit_operand}
 use Rattle.ada_tree.specs.RuleRangeBad.{is_fixed, raises}
 use Rattle.normal_model.specs.Waits.{not_held, none_held}
@@ -40,7 +40,7 @@ module _ (d : Scope) where
     raised : raises d e ≡ []
     parts : AllByRecursion IsMetNode (nodes e)
 
-  pub test-met : (e : PExpr) → IsTest e → AllMetBut (condition d e)
+  pub test-met : (e : PExpr) → IsTest e → AllMetBut (condition_sites d e)
   test-met e h = all_joined IsMetBut (expr_sites d e) _ (met-whole d e h.raised, nodes-met (nodes e) h.parts) (met-of d e (Some truth_kind) (of-kind d e truth_kind h.kind), tt)
 
   -- what is not static raises nothing but in its parts
@@ -57,7 +57,7 @@ module _ (d : Scope) where
     static = h.static;
     raised = loose (not_held s e) _ (raises d e) h.static ∙ h.raised;
     parts = (
-      met-node d false (not_held s e) record { known = refl; matched = ap (λ o. if is_misfit (takes_one unary.Not) o then place_of e ∷ [] else []) h.kind; readable = refl; counted = refl; arrays = refl; texts = refl },
+      met-node d false (not_held s e) record { known = refl; matched = ap (λ o. if is_misfit (takes_one unary.Not) o then expr_place e ∷ [] else []) h.kind; readable = refl; counted = refl; arrays = refl; texts = refl },
       h.parts,
     );
   }

@@ -12,7 +12,7 @@ use Rattle.ada_tree.specs.PlainStmt.{PCallee, PArgs, PCall, PChoice, PHead, SAss
 use Rattle.ada_tree.specs.PlainDecl.{PDecl}
 use Rattle.ada_tree.specs.Every.{Rules, EveryWord, EveryExpr, EveryExprs, EveryArgs, EveryFormal, EveryChoice}
 use Rattle.ada_tree.specs.Scope.{Scope, Range, EntryPart, integer_kind, truth_kind, meaning, entry_named}
-use Rattle.ada_tree.specs.ExprTypes.{place_of, kind_of, is_other_kind}
+use Rattle.ada_tree.specs.ExprTypes.{expr_place, kind_of, is_other_kind}
 use Rattle.ada_tree.specs.Demand.{node, must_be_of, writes, is_actual, Site}
 use Rattle.ada_tree.specs.Sites.{site, if_there, body_sites, expr_sites, expr_of, actual_sites, formals_sites, accept_index_sites, head_sites, scheme_sites, target_sites, stmt_sites, choice_sites}
 use Rattle.ada_tree.specs.RuleMismatch.{of_other_kind, target_kind}
@@ -26,10 +26,11 @@ use Rattle.task_model.specs.Calls.{variable_of}
 use Rattle.task_model.specs.Starting.{known_range}
 use Rattle.normal_model.specs.Names.{variable_name}
 use Rattle.normal_model.specs.Ranges.{word_at, marked, integer_subtype, truth_subtype, subtype_of_range, array_range, family_range}
-use Rattle.normal_model.specs.Making.{variable, assigned, moving, index_left}
+use Rattle.normal_model.specs.Making.{variable, assignment, moving, index_left}
 use Rattle.normal_model.specs.Members.{index_literal, kind_of_index, members_of}
 use Rattle.normal_model.specs.Calls.{Slot, entry_called, lists_called, slots_called}
-use Rattle.normal_model.specs.Waits.{Unit, head_left}
+use Rattle.normal_model.specs.RewrittenUnit.{RewrittenUnit}
+use Rattle.normal_model.specs.Waits.{head_left}
 use Rattle.normal_model.specs.Walk.{after_body}
 use Rattle.normal_model.specs.NormalStmts.{normal_rewriter, normal_body}
 use Rattle.asked_stmts.specs.Asked.{Asks, AskedBody}
@@ -70,7 +71,7 @@ some-of P None e f h = cc
 some-of P (Some y) e f h = let q : y ≡ e = cc in subst P q h
 
 -- an actual that is a name
-name-is : (e : PExpr) (id : NameId) → variable_of e ≡ Some id → e ≡ EName id (place_of e)
+name-is : (e : PExpr) (id : NameId) → variable_of e ≡ Some id → e ≡ EName id (expr_place e)
 name-is (EName x s) id f = let q : x ≡ id = cc in ap (λ y. EName y s) q
 name-is (EInteger n s) id f = cc
 name-is (EIndex w e s) id f = cc
@@ -80,7 +81,7 @@ name-is (EParen e s) id f = cc
 name-is (EUnary op e s) id f = cc
 name-is (EBinary op x y s) id f = cc
 
-module _ (u : Unit) (own : ℕ → Bool) (vars : List PDecl) (entries : List EntryPart) (known : HasKnownKinds u.setting.types) where
+module _ (u : RewrittenUnit) (own : ℕ → Bool) (vars : List PDecl) (entries : List EntryPart) (known : HasKnownKinds u.setting.types) where
   abbrev g : Setting
   g = u.setting
 
@@ -161,12 +162,12 @@ module _ (u : Unit) (own : ℕ → Bool) (vars : List PDecl) (entries : List Ent
 
     -- `DED_V1 := e;`, where nothing is refused in e
     put : (s : Span) (x : PSubind) (j k : ℕ) (v : IsVariableOf g.types d (variable_name g j) x) → v.mark.kind ≡ k → (e : PExpr) → IsOldExpr own e → AllMetBut (expr_sites d e) → of_other_kind s0 (Some k) e ≡ [] →
-        AllMetBut (stmt_sites d (assigned g s j e))
+        AllMetBut (stmt_sites d (assignment g s j e))
     put s x j k v f e o m i =
         assigned-met v s e m
-        (ap (λ q. if is_other_kind (Some q) (kind_of d e) then place_of e ∷ [] else []) f ∙ ap (λ q. if is_other_kind (Some k) q then place_of e ∷ [] else []) (sym (same-kind e o)) ∙ i)
+        (ap (λ q. if is_other_kind (Some q) (kind_of d e) then expr_place e ∷ [] else []) f ∙ ap (λ q. if is_other_kind (Some k) q then expr_place e ∷ [] else []) (sym (same-kind e o)) ∙ i)
 
-    put-of : (s : Span) (x : PSubind) (j k : ℕ) (v : IsVariableOf g.types d (variable_name g j) x) → v.mark.kind ≡ k → (e : PExpr) → IsOldExpr own e → At (expr_of s0 (Some k) e) → AllMetBut (stmt_sites d (assigned g s j e))
+    put-of : (s : Span) (x : PSubind) (j k : ℕ) (v : IsVariableOf g.types d (variable_name g j) x) → v.mark.kind ≡ k → (e : PExpr) → IsOldExpr own e → At (expr_of s0 (Some k) e) → AllMetBut (stmt_sites d (assignment g s j e))
     put-of s x j k v f e o m =
         put s x j k v f e o (stay e o (all_front P (expr_sites s0 e) _ m)) (all_back P (expr_sites s0 e) (site s0 (must_be_of e (Some k)) ∷ []) m).0.0.matched
 
@@ -186,7 +187,7 @@ module _ (u : Unit) (own : ℕ → Bool) (vars : List PDecl) (entries : List Ent
       its-array : IsArrayOf g x.name.name range
       its-array = rel.arrays x.name.name range its.0.entries its.0.means
 
-      index-put : (s : Span) (j : ℕ) → IsVariable g vars s (subtype_of_range g.types s (array_range g.program x.name.name)) j → AllMetBut (stmt_sites d (assigned g s j e))
+      index-put : (s : Span) (j : ℕ) → IsVariable g vars s (subtype_of_range g.types s (array_range g.program x.name.name)) j → AllMetBut (stmt_sites d (assignment g s j e))
       index-put s j v =
           let is = there s (subtype_of_range g.types s (array_range g.program x.name.name)) j v in
           let o = old-option k x.index e (moves g.types x.index e f) h.0.1 in
@@ -273,7 +274,7 @@ module _ (u : Unit) (own : ℕ → Bool) (vars : List PDecl) (entries : List Ent
       read-stays Both (EUnary op e s) f o m = stay (EUnary op e s) o m.1
       read-stays Both (EBinary op y z s) f o m = stay (EBinary op y z s) o m.1
 
-      read-put : (s : Span) (slot : Slot) (e : PExpr) (j : ℕ) → IsPair slot e (slots_called g x) (lists_called g x).actuals → is_read slot.mode ≡ true → IsVariable g vars s (marked slot.mark) j → AllMetBut (stmt_sites d (assigned g s j e))
+      read-put : (s : Span) (slot : Slot) (e : PExpr) (j : ℕ) → IsPair slot e (slots_called g x) (lists_called g x).actuals → is_read slot.mode ≡ true → IsVariable g vars s (marked slot.mark) j → AllMetBut (stmt_sites d (assignment g s j e))
       read-put s slot e j p f v =
           let q = pair-of slot e p in
           let is = there s (marked slot.mark) j v in
@@ -305,7 +306,7 @@ module _ (u : Unit) (own : ℕ → Bool) (vars : List PDecl) (entries : List Ent
           no-place true s e = cc
           no-place false s e = refl
 
-      family-put : (s : Span) (e : PExpr) (j : ℕ) → (lists_called g x).index ≡ Some e → IsVariable g vars s (subtype_of_range g.types s (family_range g (entry_called g x))) j → AllMetBut (stmt_sites d (assigned g s j e))
+      family-put : (s : Span) (e : PExpr) (j : ℕ) → (lists_called g x).index ≡ Some e → IsVariable g vars s (subtype_of_range g.types s (family_range g (entry_called g x))) j → AllMetBut (stmt_sites d (assignment g s j e))
       family-put s e j f v =
           let q = some-of (IsIndexOf u own vars known s0 d rel x h.1.1 h.1.0 i.1.0) (lists_called g x).index e f (lists-asked u own vars known s0 d rel x h.1.1 h.1.0 i.1.0).index in
           let is = there s (subtype_of_range g.types s (family_range g (entry_called g x))) j v in
@@ -317,7 +318,7 @@ module _ (u : Unit) (own : ℕ → Bool) (vars : List PDecl) (entries : List Ent
 
     module _ (k : ℕ) (s : Span) (h : PHead) (e : PExpr) (j : ℕ) (i : b.head c k h) (f : moving g.types h.index ≡ Some e)
         (v : IsVariable g vars s (subtype_of_range g.types s (family_range g (entry_of g.numbers u.task h.entry.name))) j) (mine : is_some (entry_named s0.own h.entry.name) ≡ true) where
-      accept-put : AllMetBut (stmt_sites d (assigned g s j e))
+      accept-put : AllMetBut (stmt_sites d (assignment g s j e))
       accept-put =
           let q = family-head u own vars known s0 d rel h e (moves g.types h.index e f) i.1.0 mine in
           let is = there s (subtype_of_range g.types s (family_range g (entry_of g.numbers u.task h.entry.name))) j v in
@@ -348,7 +349,7 @@ module _ (u : Unit) (own : ℕ → Bool) (vars : List PDecl) (entries : List Ent
     guards-are-tests [] h = tt
     guards-are-tests (e ∷ es) h = (guard-is-test e h.0, guards-are-tests es h.1)
 
-    flag-put : (s : Span) (part j : ℕ) → IsVariable g vars s (integer_subtype s) j → AllMetBut (stmt_sites d (assigned g s j (EInteger part s)))
+    flag-put : (s : Span) (part j : ℕ) → IsVariable g vars s (integer_subtype s) j → AllMetBut (stmt_sites d (assignment g s j (EInteger part s)))
     flag-put s part j v =
         let is = there s (integer_subtype s) j v in
         assigned-met is s (EInteger part s) (plain-fixed d rel.integer part s).met (of-kind d (EInteger part s) is.mark.kind (ap Some (sym (integer-of s j v))))
@@ -387,7 +388,7 @@ module _ (u : Unit) (own : ℕ → Bool) (vars : List PDecl) (entries : List Ent
     family_index = λ c d k n s x e j rel h i f v le. family-put c d rel.0 x k h i s e j f v;
     actual_before = λ c d k n s x slot e j rel h i pair f v le. read-put c d rel.0 x k h i s slot e j pair f v;
     actual_behind = λ c d k n s x slot e id j rel h i pair f q v le.
-        write-put c d rel.0 x k h i s (place_of e) slot id j (subst (λ y. IsPair slot y (slots_called g x) (lists_called g x).actuals) (name-is e id q) pair) f v;
+        write-put c d rel.0 x k h i s (expr_place e) slot id j (subst (λ y. IsPair slot y (slots_called g x) (lists_called g x).actuals) (name-is e id q) pair) f v;
     flag = λ c d k n s part j rel h small v le. flag-put c d rel.0 s part j v;
     flag_test = λ c d k n s j rel h v le.
         test-met d _ (flag-is-test d g.types (variable_name g j) (integer_subtype s) (there c d rel.0 s (integer_subtype s) j v) s 1 (integer-of c d rel.0 s j v));

@@ -13,7 +13,7 @@ use Rattle.ada_tree.specs.TypeTable.{TypeTable}
 use Rattle.ada_tree.specs.PlainExpr.{PExpr, EName, PSubind}
 use Rattle.ada_tree.specs.PlainStmt.{PTarget}
 use Rattle.ada_tree.specs.Scope.{Scope, Reading, AsScalar, kind_at, meaning, reading, reading_of_mark, reading_of}
-use Rattle.ada_tree.specs.ExprTypes.{name_kind, kind_of, is_other_kind, place_of, static_in, is_kind, ok_value}
+use Rattle.ada_tree.specs.ExprTypes.{name_kind, kind_of, is_other_kind, expr_place, static_in, is_kind, ok_value}
 use Rattle.ada_tree.specs.StaticValue.{is_static, value_of}
 use Rattle.ada_tree.specs.Demand.{is_actual, Site}
 use Rattle.ada_tree.specs.Sites.{site, expr_sites, expr_of, target_sites, names_sites}
@@ -38,7 +38,7 @@ same-is-no-other k = ap (λ b. if b then false else true) (eq-eqb k k refl)
 
 -- an expression of the kind that is asked
 pub of-kind : (d : Scope) (e : PExpr) (k : ℕ) → kind_of d e ≡ Some k → of_other_kind d (Some k) e ≡ []
-of-kind d e k h = ap (λ o. if is_other_kind (Some k) o then place_of e ∷ [] else []) h ∙ ap (λ b. if b then place_of e ∷ [] else []) (same-is-no-other k)
+of-kind d e k h = ap (λ o. if is_other_kind (Some k) o then expr_place e ∷ [] else []) h ∙ ap (λ b. if b then expr_place e ∷ [] else []) (same-is-no-other k)
 
 module _ {types : TypeTable} {d : Scope} {id : NameId} {x : PSubind} (v : IsVariableOf types d id x) where
   pub variable-read : reading d id ≡ AsScalar v.mark.kind

@@ -28,7 +28,7 @@ use Rattle.normal_model.specs.Names.{variable_name, task_name}
 use Rattle.normal_model.specs.Ranges.{kind_name, array_range, family_range}
 use Rattle.normal_model.specs.Members.{members_of}
 use Rattle.normal_model.specs.Calls.{Slot, slots_of}
-use Rattle.normal_model.specs.Waits.{Unit}
+use Rattle.normal_model.specs.RewrittenUnit.{RewrittenUnit}
 use Rattle.normal_model.specs.NormalTree.{tasks_beside}
 use Rattle.asked_stmts.specs.Asked.{Asks}
 use Rattle.normal_asked.specs.Pieces.{IsVariable, IsAmong, IsTarget}
@@ -151,7 +151,7 @@ pub record MeansInteger (d : Scope) : Type 0 where
 -- ---- what can be used
 
 -- What can be used at a place of a unit with these variables, in the program and in its normal form; some ids are those of the program's own names.
-pub record IsScopeOf (u : Unit) (own : ℕ → Bool) (vars : List PDecl) (c d : Scope) : Type 0 where
+pub record IsScopeOf (u : RewrittenUnit) (own : ℕ → Bool) (vars : List PDecl) (c d : Scope) : Type 0 where
   -- the program's own names mean the same
   pub alike : Alike own c d
   -- the unit's variables have the subtypes with which they are declared, and each task its own name; those of variables and of members are none of the program's

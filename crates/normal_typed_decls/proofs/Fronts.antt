@@ -14,7 +14,7 @@ use Rattle.ada_tree.specs.Sites.{object_marking, decl_sites, decls_sites}
 use Rattle.ada_tree.specs.Refusals.{types_in}
 use Rattle.ada_tree.specs.Declaring.{Declared, first_scope, declared_object, after_decl}
 use Rattle.syn_event.specs.NamedTasks.{NamedTasks, type_named, with_type, object_task_names, task_names_in, task_names_of}
-use Rattle.rewritten_types.specs.Agreement.{Keeps, Sound, Whole}
+use Rattle.rewritten_types.specs.Agreement.{Keeps, Sound, WholeTable}
 use Rattle.rewritten_types.specs.Rewriting.{is_no_task, DeclareOnce}
 use Rattle.rewritten_types.specs.Rewriting as rewriting
 use Rattle.rewritten_types.specs.Laws.{behind}
@@ -51,7 +51,7 @@ module _ (old : ℕ → Bool) (S : Scope) (T : TypeTable) (all : List NamedTasks
   -- what else is known of the scope behind the first declarations so far
   record IsRooted (s r : Scope) : Type 0 where
     sound : Sound r.types
-    whole : Whole r.types
+    whole : WholeTable r.types
     parts : HasParts r.types
     own : s.own ≡ r.own
 

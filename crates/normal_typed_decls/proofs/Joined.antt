@@ -6,9 +6,9 @@ use Rattle.ada_tree.specs.PlainProgram.{PProgram}
 use Rattle.ada_tree.specs.Every.{EveryProgram}
 use Rattle.ada_tree.specs.Scope.{Scope}
 use Rattle.ada_tree.specs.Sites.{names_sites, decl_sites, decls_sites, body_sites, sites}
-use Rattle.ada_tree.specs.Declaring.{before_all, first_scope, inside, after_decl, after_decls}
+use Rattle.ada_tree.specs.Declaring.{before_all, first_scope, inner_scope, after_decl, after_decls}
 use Rattle.ada_tree.specs.Refusals.{types_in}
-use Rattle.syn_event.specs.Units.{decl_list}
+use Rattle.syn_event.specs.DeclaredTasks.{decl_list}
 use Rattle.task_model.specs.Setting.{Setting}
 use Rattle.normal_model.specs.NormalStmts.{normal_body}
 use Rattle.normal_model.specs.NormalTree.{decls_front, first_decls, tasks_beside, task_declared, bodies_of, main_unit, main_variables, normal_decls}
@@ -74,16 +74,16 @@ module _ (p : PProgram) (legal : IsLegal p) where
   -- ---- main
 
   -- The statements of main meet the rules, where its scope in the normal form is as it should be.
-  pub main-met : IsScopeOf (main_unit G) (plain_name p) (main_variables G) (inside (last p legal)) (inside (made p legal)) → AllMetBut (body_sites (inside (made p legal)) (normal_body (main_unit G) p.body))
+  pub main-met : IsScopeOf (main_unit G) (plain_name p) (main_variables G) (inner_scope (last p legal)) (inner_scope (made p legal)) → AllMetBut (body_sites (inner_scope (made p legal)) (normal_body (main_unit G) p.body))
   main-met h =
-      body-met (main_unit G) (plain_name p) (main_variables G) [] (known-kinds p (rules p legal) legal.placed legal.small) (tt, (inside (last p legal), tt)) (inside (made p legal)) 1 p.body
+      body-met (main_unit G) (plain_name p) (main_variables G) [] (known-kinds p (rules p legal) legal.placed legal.small) (tt, (inner_scope (last p legal), tt)) (inner_scope (made p legal)) 1 p.body
       (h, (decls-frame p.decls (first_scope p.name)).own) (main-asked p (types_in p) (numbers_of p) legal.legal legal.placed legal.names legal.small (plain_name p) program-rules) (begins-refl (main_variables G))
 
   -- ---- all places
 
   -- So each place of the normal form meets them.
-  pub sites-met : IsScopeOf (main_unit G) (plain_name p) (main_variables G) (inside (last p legal)) (inside (made p legal)) → AllMetBut (decls_sites (tasked p legal) (decls_of bodies)) → AllMetBut (sites (made_for p))
+  pub sites-met : IsScopeOf (main_unit G) (plain_name p) (main_variables G) (inner_scope (last p legal)) (inner_scope (made p legal)) → AllMetBut (decls_sites (tasked p legal) (decls_of bodies)) → AllMetBut (sites (made_for p))
   sites-met at-main at-bodies =
       let ds = decls_sites (first_scope p.name) (normal_decls G) in
       let first = names_sites true before_all (p.name ∷ []) in
-      all_joined IsMetBut (first ++ ds) (body_sites (inside (made p legal)) (normal_body (main_unit G) p.body)) (all_joined IsMetBut first ds (met-declares before_all true p.name, tt) (decls-met at-bodies)) (main-met at-main)
+      all_joined IsMetBut (first ++ ds) (body_sites (inner_scope (made p legal)) (normal_body (main_unit G) p.body)) (all_joined IsMetBut first ds (met-declares before_all true p.name, tt) (decls-met at-bodies)) (main-met at-main)

@@ -14,8 +14,8 @@ use Rattle.ada_tree.specs.Scope.{Scope, TypeMark, integer_kind, marking, meaning
 use Rattle.ada_tree.specs.Demand.{scalar_only, must_be_static}
 use Rattle.ada_tree.specs.RuleMismatch.{is_allowed}
 use Rattle.ada_tree.specs.Sites.{site, if_there, names_sites, expr_sites, expr_of, static_of, drange_sites, mark_sites, formal_mark_sites, all_names, formals_sites, entry_sites, entries_sites, task_sites}
-use Rattle.ada_tree.specs.Declaring.{inside, after_decl, after_decls}
-use Rattle.syn_event.specs.Units.{decl_list, tasks_in}
+use Rattle.ada_tree.specs.Declaring.{inner_scope, after_decl, after_decls}
+use Rattle.syn_event.specs.DeclaredTasks.{decl_list, tasks_in}
 use Rattle.rewritten_types.specs.Rewriting.{DeclareOnce}
 use Rattle.rewritten_types.proofs.Fresh.{InHere, here-decl}
 use Rattle.legal_sites.specs.Met.{IsMet}
@@ -83,7 +83,7 @@ module _ (T : TypeTable) (s S : Scope) (b : IsBefore T s S) (names : List (List 
       let formals : AllByRecursion IsMet (formals_sites s e.formals) = all_back IsMet (if_there (drange_sites true s) e.family) (formals_sites s e.formals) rest in (
         record {
           family = family-known e.family every.0.2 (all_front IsMet (if_there (drange_sites true s) e.family) (formals_sites s e.formals) rest);
-          formals = formals-known e.formals (all_unflat IsMet (λ f. mark_sites scalar_only s f.mark) e.formals (all_back IsMet (names_sites false (inside s) (all_names e.formals)) (formal_mark_sites s e.formals) formals));
+          formals = formals-known e.formals (all_unflat IsMet (λ f. mark_sites scalar_only s f.mark) e.formals (all_back IsMet (names_sites false (inner_scope s) (all_names e.formals)) (formal_mark_sites s e.formals) formals));
         },
         entries-known (e.name.name.0 ∷ before) es every.1 (all_back IsMet (entry_sites s before e) (entries_sites s (e.name.name.0 ∷ before) es) h),
       )

@@ -13,7 +13,7 @@ use Rattle.ada_tree.specs.declared.static_types.Kind.TheVariants.{Integer, Truth
 use Rattle.ada_tree.specs.declared.static_types.Mark.{Mark}
 use Rattle.ada_tree.specs.TypeTable.{TypeTable}
 use Rattle.ada_tree.specs.PlainDecl.{PDecl, DNumber, DObject, DEnumeration, DArray, DSubtype, DException, DIntIo, DPragma, DTask, DTaskBody, PDecls, no_decl, decl_then}
-use Rattle.ada_tree.specs.Scope.{Scope, Seen, Thing, TypeMark, ScalarMark, marking_of, marking_of_mark, marking_of_kind, meaning, mark_at, kind_at, and_then}
+use Rattle.ada_tree.specs.Scope.{Scope, NameMeaning, Thing, TypeMark, ScalarMark, marking_of, marking_of_mark, marking_of_kind, meaning, mark_at, kind_at, and_then}
 use Rattle.ada_tree.specs.RuleDuplicate.{is_predefined, is_among}
 use Rattle.ada_tree.specs.Sites.{names_sites, decl_sites}
 use Rattle.ada_tree.specs.Declaring.{predefined_types, before_all, first_scope, seen_as, with_name, with_types, add_kind, made, after_decl, after_decls}
@@ -79,7 +79,7 @@ others fixed n (w ∷ ws) s here a h = (by_test (w.name.0 == n) refl, others fix
     by_test true e = absurd (true≢false (sym a ∙ ap (is_among here) (sym (equal_is w.name.0 n e)) ∙ new))
 
 name-there : (th : Thing) (w : Word) (s : Scope) → meaning (with_name th s w) w.name ≡ Some th
-name-there th w s = ap (λ (b : Bool). option_map (λ (x : Seen). x.thing) (if b then Some (seen_as th w.name.0) else find (λ (x : Seen). x.name == w.name.0) s.names)) (equal_self w.name.0)
+name-there th w s = ap (λ (b : Bool). option_map (λ (x : NameMeaning). x.thing) (if b then Some (seen_as th w.name.0) else find (λ (x : NameMeaning). x.name == w.name.0) s.names)) (equal_self w.name.0)
 
 enumeration-meant : (w : Word) (ws : List Word) (sp : _) (s : Scope) → Sound s.types → InHere s → AllByRecursion (IsUnused s) (w ∷ ws) → AllByRecursion IsMet (decl_sites s (DEnumeration w ws sp)) → AreMeant s.types s →
     AreMeant (after_decl s (DEnumeration w ws sp)).types (after_decl s (DEnumeration w ws sp))

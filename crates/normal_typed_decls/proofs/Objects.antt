@@ -5,7 +5,7 @@ use Rattle.ada_tree.specs.PlainExpr.{PSubind, PDrange}
 use Rattle.ada_tree.specs.PlainDecl.{PShape, OPlain, OArray}
 use Rattle.ada_tree.specs.Scope.{Scope, Range, Marking, ScalarMark, ArrayMark, TaskMark, NoMark, UnknownMark, UnclearMark, marking, range_of_mark}
 use Rattle.ada_tree.specs.Sites.{is_task_object}
-use Rattle.ada_tree.specs.Declaring.{Made, of_made, made_array, object_of, task_object, task_array, drange_range, plain_object, array_object, declared_object}
+use Rattle.ada_tree.specs.Declaring.{Made, of_made, made_array, object_meaning, task_object, task_array, drange_range, plain_object, array_object, declared_object}
 use Rattle.rewritten_types.specs.Rewriting.{is_no_task, mark_of}
 use Rattle.rewritten_types.proofs.Closing.{Close, typed, typed-alike, made-alike, drange-alike}
 use Rattle.normal_typed.proofs.Declared.{SameInit, both_values, both_arrays, both_free}
@@ -68,7 +68,7 @@ row-typed s constant UnclearMark q x e = refl
 
 module _ (s r : Scope) (close : Close s r) where
   plain-same : (constant : Bool) (m : Marking) (x : PSubind) → plain_object s constant (typed m) x ≡ plain_object r constant (typed m) x
-  plain-same constant (ArrayMark i range part) x = ap (λ (T : TypeTable). record { types = T; thing = object_of constant (Some i) }) close.types
+  plain-same constant (ArrayMark i range part) x = ap (λ (T : TypeTable). record { types = T; thing = object_meaning constant (Some i) }) close.types
   plain-same constant (ScalarMark i k) x = ap (of_made constant) (made-alike s r close x)
   plain-same constant (TaskMark es) x = ap (of_made constant) (made-alike s r close x)
   plain-same constant NoMark x = ap (of_made constant) (made-alike s r close x)

@@ -6,8 +6,8 @@ use Rattle.ada_tree.specs.declared.naming.Word.{Word}
 use Rattle.ada_tree.specs.declared.statements.ParMode.TheVariants.{Give}
 use Rattle.ada_tree.specs.PlainExpr.{PSubind, PDrange}
 use Rattle.ada_tree.specs.PlainDecl.{PShape, OPlain, OArray, PDecl, DNumber, DObject, DEnumeration, DArray, DSubtype, DException, DIntIo, DPragma, DTask, DTaskBody, PDecls, no_decl, decl_then}
-use Rattle.ada_tree.specs.Scope.{Scope, Seen, Range, EntryPart, Thing, Parameter, AnException, Marking, ScalarMark, ArrayMark, TaskMark, NoMark, UnknownMark, UnclearMark, marking}
-use Rattle.ada_tree.specs.Declaring.{with_name, with_names, first_scope, object_of, task_object, task_array, plain_object, array_object, declared_object, type_of_mark, task_thing, after_own_object, after_objects, after_decl, after_decls}
+use Rattle.ada_tree.specs.Scope.{Scope, NameMeaning, Range, EntryPart, Thing, Parameter, AnException, Marking, ScalarMark, ArrayMark, TaskMark, NoMark, UnknownMark, UnclearMark, marking}
+use Rattle.ada_tree.specs.Declaring.{with_name, with_names, first_scope, object_meaning, task_object, task_array, plain_object, array_object, declared_object, type_of_mark, task_thing, after_own_object, after_objects, after_decl, after_decls}
 use Rattle.rewritten_types.proofs.Lookups.{find-all}
 use Rattle.normal_typed.proofs.StaticMet.{NoneIsOut}
 
@@ -16,9 +16,9 @@ IsNotOut (Parameter Give m) = ⊥
 IsNotOut _ = Prim.Unit {0}
 
 abbrev pub AreNotOut : Scope → Type 0
-AreNotOut s = AllByRecursion (λ (x : Seen). IsNotOut x.thing) s.names
+AreNotOut s = AllByRecursion (λ (x : NameMeaning). IsNotOut x.thing) s.names
 
-object-in : (constant : Bool) (o : Option ℕ) → IsNotOut (object_of constant o)
+object-in : (constant : Bool) (o : Option ℕ) → IsNotOut (object_meaning constant o)
 object-in true (Some m) = tt
 object-in false (Some m) = tt
 object-in true None = tt
@@ -105,11 +105,11 @@ first-in name = (tt, (tt, (tt, (tt, (tt, (tt, (tt, (tt, (tt, (tt, (tt, (tt, (tt,
 
 -- then no name is such a formal
 pub not-out : (s : Scope) → AreNotOut s → NoneIsOut s
-not-out s all id m e = by_seen (find (λ (x : Seen). x.name == id.0) s.names) refl e
+not-out s all id m e = by_seen (find (λ (x : NameMeaning). x.name == id.0) s.names) refl e
   where
-    by_seen : (o : Option Seen) → find (λ (x : Seen). x.name == id.0) s.names ≡ o → option_map (λ (x : Seen). x.thing) o ≡ Some (Parameter Give m) → ⊥
+    by_seen : (o : Option NameMeaning) → find (λ (x : NameMeaning). x.name == id.0) s.names ≡ o → option_map (λ (x : NameMeaning). x.thing) o ≡ Some (Parameter Give m) → ⊥
     by_seen None f g = not_missing (Parameter Give m) g
-    by_seen (Some x) f g = subst IsNotOut (some_same g) (find-all (λ (y : Seen). IsNotOut y.thing) (λ (y : Seen). y.name == id.0) s.names x all f)
+    by_seen (Some x) f g = subst IsNotOut (some_same g) (find-all (λ (y : NameMeaning). IsNotOut y.thing) (λ (y : NameMeaning). y.name == id.0) s.names x all f)
 
 -- So it is behind all declarations of main.
 pub none-out : (name : Word) (ds : PDecls) → NoneIsOut (after_decls (first_scope name) ds)

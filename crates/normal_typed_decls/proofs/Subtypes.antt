@@ -14,7 +14,8 @@ use Rattle.normal_model.specs.Ranges.{marked, integer_subtype, truth_subtype, su
 use Rattle.normal_model.specs.Making.{Kept, kept_subtypes, kept_if, moving}
 use Rattle.normal_model.specs.Members.{callee_kept}
 use Rattle.normal_model.specs.Calls.{Slot, entry_called, slots_of, slots_called, lists_called, actual_subtypes, indices_kept, call_subtypes, flag_subtypes, is_chosen, select_subtypes}
-use Rattle.normal_model.specs.Waits.{Unit, accept_kept, head_of, kind_kept, guard_subtypes, alternative_subtypes}
+use Rattle.normal_model.specs.RewrittenUnit.{RewrittenUnit}
+use Rattle.normal_model.specs.Waits.{accept_kept, head_of, kind_kept, guard_subtypes, alternative_subtypes}
 use Rattle.normal_model.specs.Aborts.{abort_subtypes}
 use Rattle.normal_model.specs.Variables.{variable_declared, variables_declared, more_variables, statement_variables}
 use Rattle.normal_model.specs.NormalStmts.{normal_rewriter, unit_variables}
@@ -78,7 +79,7 @@ module _ (g : Setting) (Q : PSubind → Type 0) (h : AreSubtypes g Q) where
 
   -- what is said of the declarations of such variables
   module _ (P : PDecl → Type 0) (declared : (s : Span) (x : PSubind) (k : ℕ) → Q x → P (variable_declared g s x k)) (task : ℕ) where
-    abbrev u : Unit
+    abbrev u : RewrittenUnit
     u = record { setting = g; task = task }
 
     all-accept : (s : Span) (x : PHead) → AreAll (kept_subtypes (accept_kept u s x))

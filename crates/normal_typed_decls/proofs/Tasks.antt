@@ -13,10 +13,10 @@ use Rattle.ada_tree.specs.Every.{EveryDrange, EveryFormal, EveryEntry, EveryPrio
 use Rattle.ada_tree.specs.Scope.{Scope, integer_kind, entry_named}
 use Rattle.ada_tree.specs.Demand.{scalar_only, declares_entry, Site}
 use Rattle.ada_tree.specs.Sites.{site, if_there, names_sites, static_of, drange_sites, mark_sites, formal_mark_sites, all_names, formals_sites, entry_sites, entries_sites, task_sites, decl_sites, decls_sites}
-use Rattle.ada_tree.specs.Declaring.{inside, first_scope, after_decl}
+use Rattle.ada_tree.specs.Declaring.{inner_scope, first_scope, after_decl}
 use Rattle.syn_event.specs.declared.numbering.TaskInfo.{TaskInfo}
 use Rattle.syn_event.specs.NamedTasks.{task_names_of}
-use Rattle.syn_event.specs.Units.{decl_list, tasks_of}
+use Rattle.syn_event.specs.DeclaredTasks.{decl_list, tasks_of}
 use Rattle.task_model.specs.Setting.{Setting}
 use Rattle.normal_model.specs.Names.{task_name}
 use Rattle.normal_model.specs.Ranges.{word_at}
@@ -60,7 +60,7 @@ module _ (old : ℕ → Bool) (S t : Scope) (alike : Alike old S t) (free : None
   formals-met : (fs : List PFormal) → AllByRecursion (EveryFormal (own_rules old)) fs → AllByRecursion (λ (f : PFormal). IsScalarMark S f.mark.name) fs → AllMetBut (formals_sites t fs)
   formals-met fs every h =
       formals-stay IsMetBut but old S t alike fs (old-formals old fs every)
-      (all_joined IsMetBut (names_sites false (inside S) (all_names fs)) (formal_mark_sites S fs) (words-met false (all_names fs) (inside S)) (marks-there fs h))
+      (all_joined IsMetBut (names_sites false (inner_scope S) (all_names fs)) (formal_mark_sites S fs) (words-met false (all_names fs) (inner_scope S)) (marks-there fs h))
 
   entries-met : (before : List ℕ) (es : List PEntry) → AllByRecursion (EveryEntry (own_rules old)) es → AllByRecursion (IsEntryKnown S) es → AllMetBut (entries_sites t before es)
   entries-met before [] every h = tt

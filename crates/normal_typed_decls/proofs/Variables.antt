@@ -29,7 +29,7 @@ use Rattle.ada_tree.specs.Refusals.{types_in}
 use Rattle.syn_event.specs.declared.numbering.EntryInfo.{EntryInfo}
 use Rattle.syn_event.specs.Numbering.{entry_at}
 use Rattle.syn_event.specs.NamedTasks.{NamedTasks, task_names_of}
-use Rattle.syn_event.specs.Units.{tasks_of}
+use Rattle.syn_event.specs.DeclaredTasks.{tasks_of}
 use Rattle.task_model.specs.Setting.{Setting, formals_of_info}
 use Rattle.task_model.specs.Starting.{known_range}
 use Rattle.normal_model.specs.Names.{variable_name}

@@ -5,7 +5,7 @@ use Rattle.std.proofs.lemmas.Bool.{or_left, or_right, eqb-true, eq-eqb}
 use Rattle.ada_tree.specs.declared.naming.NameId.{NameId}
 use Rattle.ada_tree.specs.declared.naming.Span.{Span}
 use Rattle.ada_tree.specs.PlainDecl.{PShape, OPlain, OArray, PTask, PDecl, DNumber, DObject, DEnumeration, DArray, DSubtype, DException, DIntIo, DPragma, DTask, DTaskBody, PDecls, no_decl, decl_then}
-use Rattle.ada_tree.specs.Scope.{Scope, Seen, EntryPart}
+use Rattle.ada_tree.specs.Scope.{Scope, NameMeaning, EntryPart}
 use Rattle.ada_tree.specs.WellPlaced.{AreLater, BodiesLast}
 use Rattle.ada_tree.specs.RuleDuplicate.{is_predefined, is_among}
 use Rattle.ada_tree.specs.Declaring.{seen_as, first_scope, entry_part, task_thing, after_decl}
@@ -40,7 +40,7 @@ no_task_thing false entries = refl
 pub task-taken : (t : PTask) (s : Scope) (sp : Span) → IsTaken (after_decl s (DTask t sp)) t.name.name
 task-taken t s sp = record {
   used = or_right (is_predefined n) _ (or_left (n == n) (is_among s.here n) same);
-  free = ap (λ b. valued (option_map (λ (x : Seen). x.thing) (if b then Some (seen_as (task_thing t.of_kind entries) n) else find (λ (x : Seen). x.name == n) s.names))) same ∙ no_task_thing t.of_kind entries;
+  free = ap (λ b. valued (option_map (λ (x : NameMeaning). x.thing) (if b then Some (seen_as (task_thing t.of_kind entries) n) else find (λ (x : NameMeaning). x.name == n) s.names))) same ∙ no_task_thing t.of_kind entries;
 }
   where
     n : ℕ

@@ -8,10 +8,10 @@ use Rattle.ada_tree.specs.Every.{Rules, EveryDecls}
 use Rattle.ada_tree.specs.Scope.{Scope}
 use Rattle.ada_tree.specs.Declaring.{first_scope, after_decl, after_decls}
 use Rattle.ada_tree.specs.Refusals.{types_in}
-use Rattle.syn_event.specs.Units.{decl_list}
+use Rattle.syn_event.specs.DeclaredTasks.{decl_list}
 use Rattle.syn_event.specs.NamedTasks.{type_named, with_type}
 use Rattle.ada_value.specs.declared.values.Form.{Form}
-use Rattle.ada_value.specs.Values.{lower, limits_named}
+use Rattle.ada_value.specs.Values.{lower_bound, limits_named}
 use Rattle.ada_value.specs.Variables.{Variables, object_with}
 use Rattle.task_model.specs.Setting.{Setting}
 use Rattle.task_model.specs.Starting.{value_count, declared_objects, after_declaration, objects_of}
@@ -139,9 +139,9 @@ body_objects p types numbers ordered objects vars own =
 
 -- the one object of a variable's declaration
 variable-object : (U : TypeTable) (in_main : Bool) (w : Word) (form : Form) (vars : Variables) → form.index ≡ None →
-    declared_objects U in_main (w ∷ []) false None (Some form) vars ≡ object_with w.name form (lower U form.limits ∷ []) ∷ vars
-variable-object U true w form vars e = ap (λ i. object_with w.name form (replicate (value_count i) (lower U form.limits)) ∷ vars) e
-variable-object U false w form vars e = ap (λ i. object_with w.name form (replicate (value_count i) (lower U form.limits)) ∷ vars) e
+    declared_objects U in_main (w ∷ []) false None (Some form) vars ≡ object_with w.name form (lower_bound U form.limits ∷ []) ∷ vars
+variable-object U true w form vars e = ap (λ i. object_with w.name form (replicate (value_count i) (lower_bound U form.limits)) ∷ vars) e
+variable-object U false w form vars e = ap (λ i. object_with w.name form (replicate (value_count i) (lower_bound U form.limits)) ∷ vars) e
 
 pub variable_is_object : VariableIsObject
 variable_is_object p types numbers ordered in_main s w m k own mark known vars =

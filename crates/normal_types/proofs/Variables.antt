@@ -7,10 +7,10 @@ use Rattle.ada_tree.specs.PlainExpr.{PSubind}
 use Rattle.ada_tree.specs.PlainStmt.{PStmt, SNull, SAssign, SDelay, SExit, SRaise, SAbort, SCall, SAccept, SWait, SConditional, STimed, SPut, SPutLine, SNewLine, SGet, SIf, SCase, SBlock, SLoop, PBody}
 use Rattle.ada_tree.specs.PlainDecl.{PDecl, DNumber, DObject, DEnumeration, DArray, DSubtype, DException, DIntIo, DPragma, DTask, DTaskBody, decls_of}
 use Rattle.syn_event.specs.declared.numbering.TaskInfo.{TaskInfo}
-use Rattle.syn_event.specs.Units.{decl_list}
+use Rattle.syn_event.specs.DeclaredTasks.{decl_list}
 use Rattle.task_model.specs.Setting.{Setting}
 use Rattle.normal_model.specs.Names.{variable_name, task_name}
-use Rattle.normal_model.specs.Waits.{Unit}
+use Rattle.normal_model.specs.RewrittenUnit.{RewrittenUnit}
 use Rattle.normal_model.specs.Variables.{variable_declared, variables_declared, more_variables, statement_variables}
 use Rattle.normal_model.specs.NormalStmts.{normal_rewriter, unit_variables}
 use Rattle.normal_model.specs.NormalTree.{tasks_beside, task_under, declared_under, task_declared, bodies_of}
@@ -89,7 +89,7 @@ bodies-only g = all-flat IsTaskOrBody (bodies_of g) (copies-only g) (decl_list g
 -- ---- variables
 
 -- what holds of each declaration of a variable holds of all that a unit gets
-module _ (P : PDecl → Type 0) (u : Unit) (each : (s : Span) (x : PSubind) (k : ℕ) → P (variable_declared u.setting s x k)) where
+module _ (P : PDecl → Type 0) (u : RewrittenUnit) (each : (s : Span) (x : PSubind) (k : ℕ) → P (variable_declared u.setting s x k)) where
   declared-all : (s : Span) (xs : List PSubind) (k : ℕ) → AllByRecursion P (variables_declared u.setting s xs k)
   declared-all s [] k = tt
   declared-all s (x ∷ xs) k = (each s x k, declared-all s xs (k + 1))
@@ -122,5 +122,5 @@ module _ (P : PDecl → Type 0) (u : Unit) (each : (s : Span) (x : PSubind) (k :
   unit-all b = body-keeps (normal_rewriter u) (AllByRecursion P) statement-all (λ vars x h. more-all _ _ vars h) b [] tt
 
 -- the variables of a unit have new names
-pub unit-new : (old : ℕ → Bool) (u : Unit) → ((k : ℕ) → old (variable_name u.setting k).0 ≡ false) → (b : PBody) → AllByRecursion (IsAdded old) (unit_variables u b)
+pub unit-new : (old : ℕ → Bool) (u : RewrittenUnit) → ((k : ℕ) → old (variable_name u.setting k).0 ≡ false) → (b : PBody) → AllByRecursion (IsAdded old) (unit_variables u b)
 unit-new old u new b = unit-all (IsAdded old) u (λ s x k. (new k, tt)) b

@@ -14,7 +14,7 @@ use Rattle.ada_tree.specs.Declaring.{first_scope}
 use Rattle.ada_tree.specs.Refusals.{MeetsTypeRules, types_in}
 use Rattle.syn_event.specs.Numbering.{Numbering}
 use Rattle.ada_value.specs.declared.values.Limits.{Limits}
-use Rattle.ada_value.specs.Values.{lower, limits_named}
+use Rattle.ada_value.specs.Values.{lower_bound, limits_named}
 use Rattle.ada_value.specs.Variables.{Variables}
 use Rattle.ada_value.specs.Evaluating.{range_of}
 use Rattle.task_model.specs.Setting.{Setting}
@@ -90,7 +90,7 @@ VariableIsObject =
       name = variable_name (setting_of p types numbers) k;
       limits = limits_named (types_in p) w.name;
       index = None;
-      values = lower (types_in p) (limits_named (types_in p) w.name) ∷ [];
+      values = lower_bound (types_in p) (limits_named (types_in p) w.name) ∷ [];
     } ∷ vars
 
 -- a range starts with two bounds, or with the name of a type or subtype that the table has

@@ -11,9 +11,9 @@ use Rattle.ada_tree.specs.PlainDecl.{PTask, PDecl, DNumber, DObject, DEnumeratio
 use Rattle.ada_tree.specs.PlainProgram.{PProgram}
 use Rattle.syn_event.specs.declared.numbering.TaskInfo.{TaskInfo}
 use Rattle.syn_event.specs.Numbering.{Numbering, task_at}
-use Rattle.syn_event.specs.Numbered.{task_info}
+use Rattle.syn_event.specs.AddedNames.{task_info}
 use Rattle.syn_event.specs.NamedTasks.{type_named, with_type}
-use Rattle.syn_event.specs.Units.{decl_list}
+use Rattle.syn_event.specs.DeclaredTasks.{decl_list}
 use Rattle.task_model.specs.Setting.{Setting}
 use Rattle.task_model.specs.Starting.{Unit, unit_among, unit_of_info, unit_of}
 use Rattle.normal_model.specs.Names.{task_name}

@@ -7,9 +7,9 @@ use Rattle.ada_tree.specs.PlainDecl.{decls_of}
 use Rattle.ada_tree.specs.PlainProgram.{PProgram}
 use Rattle.syn_event.specs.declared.numbering.TaskInfo.{TaskInfo}
 use Rattle.syn_event.specs.Numbering.{Numbering, task_at}
-use Rattle.syn_event.specs.Numbered.{task_info}
+use Rattle.syn_event.specs.AddedNames.{task_info}
 use Rattle.syn_event.specs.AllNumbers.{all_numbers}
-use Rattle.syn_event.specs.Units.{tasks_of}
+use Rattle.syn_event.specs.DeclaredTasks.{tasks_of}
 use Rattle.task_model.specs.Setting.{Setting, formals_of_unit}
 use Rattle.task_model.specs.Starting.{Unit, unit_of}
 use Rattle.normal_model.specs.Names.{task_name}

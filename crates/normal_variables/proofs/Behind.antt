@@ -23,7 +23,7 @@ use Rattle.normal_model.specs.Making.{kept_if, kept_subtypes}
 use Rattle.normal_model.specs.Members.{callee_kept}
 use Rattle.normal_model.specs.Calls.{Slot, actual_subtypes, call_subtypes, entry_called, flag_subtypes, is_chosen, lists_called, select_subtypes, slots_called}
 use Rattle.normal_model.specs.Aborts.{abort_subtypes}
-use Rattle.normal_model.specs.Waits.{Unit}
+use Rattle.normal_model.specs.RewrittenUnit.{RewrittenUnit}
 use Rattle.normal_model.specs.Variables.{more_variables, variables_declared}
 use Rattle.normal_variables.specs.declared.track.Track.{Track}
 use Rattle.normal_variables.specs.Track.{Enters, IsTrack, variables_of}
@@ -92,7 +92,7 @@ one_added g s old names decls name number (Ok d) (Ok t) (Ok x) is named called c
 
 -- ---- entering
 
-pub enters : (u : Unit) (s : Span) (xs : List PSubind) (old new : Track) (variables : List PDecl) → Adds u.setting s xs old new → more_variables u s xs (variables_of old) ≡ variables → Enters u.setting variables old new
+pub enters : (u : RewrittenUnit) (s : Span) (xs : List PSubind) (old new : Track) (variables : List PDecl) → Adds u.setting s xs old new → more_variables u s xs (variables_of old) ≡ variables → Enters u.setting variables old new
 enters u s xs old new variables h is = record {
   variables_are = h.decls ∙ ap (λ n. map plain_decl old.decls.items ++ variables_declared u.setting s xs n) (sym (length-map old.decls.items plain_decl)) ∙ is;
   longer = no_less (length old.decls.items) (length new.decls.items) (length xs) (grown h);

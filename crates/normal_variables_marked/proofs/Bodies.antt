@@ -13,10 +13,10 @@ use Rattle.ada_tree.specs.Every.{EveryDecls}
 use Rattle.ada_tree.specs.Refusals.{types_in}
 use Rattle.ada_tree.specs.Scope.{Scope, meaning, entry_named}
 use Rattle.ada_tree.specs.Sites.{own_object_sites, own_sites, body_sites, decl_sites, decls_sites, sites}
-use Rattle.ada_tree.specs.Declaring.{first_scope, own_entries, in_body, inside, after_own_object, after_objects, after_decl, after_decls}
+use Rattle.ada_tree.specs.Declaring.{first_scope, own_entries, in_body, inner_scope, after_own_object, after_objects, after_decl, after_decls}
 use Rattle.syn_event.specs.declared.numbering.TaskInfo.{TaskInfo}
 use Rattle.syn_event.specs.NamedTasks.{task_names_of}
-use Rattle.syn_event.specs.Units.{decl_list}
+use Rattle.syn_event.specs.DeclaredTasks.{decl_list}
 use Rattle.task_model.specs.Setting.{Setting}
 use Rattle.normal_model.specs.Names.{variable_name, task_name}
 use Rattle.normal_model.specs.Ranges.{word_at}
@@ -127,10 +127,10 @@ module _ (p : PProgram) (legal : IsLegal p) where
         v = word_at w.span (task_name G info)
 
         c : Scope
-        c = inside (after_objects (in_body s w) objects)
+        c = inner_scope (after_objects (in_body s w) objects)
 
         d : Scope
-        d = inside (after_objects (in_body t v) inner)
+        d = inner_scope (after_objects (in_body t v) inner)
 
         scope : IsScopeOf (unit_for G w.name) (plain_name p) vars c d
         scope = scoped.0 t b info i
@@ -185,7 +185,7 @@ module _ (p : PProgram) (legal : IsLegal p) where
   pub bodies-met : AllMetBut (decls_sites (tasked p legal) (decls_of (flat_map (bodies_of G) (decl_list p.decls))))
   bodies-met =
       all-copies p.decls (first_scope p.name)
-      (all_front IsMet (decls_sites (first_scope p.name) p.decls) (body_sites (inside (after_decls (first_scope p.name) p.decls)) p.body) (all_met p (rules p legal)).1)
+      (all_front IsMet (decls_sites (first_scope p.name) p.decls) (body_sites (inner_scope (after_decls (first_scope p.name) p.decls)) p.body) (all_met p (rules p legal)).1)
       (walked p legal).places (program-rules p legal).2 (bodies-local p legal)
       (bodies-asked p T (numbers_of p) legal.legal legal.placed legal.names legal.small (plain_name p) (program-rules p legal))
       (bodies-scope p legal) (tasked p legal) (place-tasked p legal)

@@ -18,10 +18,10 @@ use Rattle.ada_tree.specs.Scope.{Scope, meaning}
 use Rattle.ada_tree.specs.StaticValue.{value_named, mark_named}
 use Rattle.ada_tree.specs.Demand.{Site}
 use Rattle.ada_tree.specs.Sites.{own_sites, body_sites, decl_sites, decls_sites, sites}
-use Rattle.ada_tree.specs.Declaring.{first_scope, in_body, inside, after_objects, after_decl, after_decls}
+use Rattle.ada_tree.specs.Declaring.{first_scope, in_body, inner_scope, after_objects, after_decl, after_decls}
 use Rattle.syn_event.specs.declared.numbering.TaskInfo.{TaskInfo}
 use Rattle.syn_event.specs.NamedTasks.{task_names_of}
-use Rattle.syn_event.specs.Units.{decl_list}
+use Rattle.syn_event.specs.DeclaredTasks.{decl_list}
 use Rattle.task_model.specs.Setting.{Setting}
 use Rattle.normal_model.specs.Names.{variable_name, task_name}
 use Rattle.normal_model.specs.Ranges.{word_at}
@@ -147,11 +147,11 @@ module _ (p : PProgram) (legal : IsLegal p) where
   }
 
   -- Where main's statements begin all is as they ask.
-  pub main-scope : IsScopeOf (main_unit G) (plain_name p) (main_variables G) (inside L) (inside (made p legal))
+  pub main-scope : IsScopeOf (main_unit G) (plain_name p) (main_variables G) (inner_scope L) (inner_scope (made p legal))
   main-scope =
-      scope-of (main_unit G).task (main_variables G) (inside L) (inside (made p legal)) (main-begun p legal)
+      scope-of (main_unit G).task (main_variables G) (inner_scope L) (inner_scope (made p legal)) (main-begun p legal)
       (types-kept anybody T (varied p legal).types T (made p legal).types varied-ready.types (keeps-self T) made-keeps)
-      (λ s x k i. seen-later p legal (varied p legal) (inside (made p legal)) (variable_name G k) x (made-stays k) made-keeps.grows (variables-seen p legal (main_variables G) main-few main-known (first p legal) first-ready s x k i))
+      (λ s x k i. seen-later p legal (varied p legal) (inner_scope (made p legal)) (variable_name G k) x (made-stays k) made-keeps.grows (variables-seen p legal (main_variables G) main-few main-known (first p legal) first-ready s x k i))
 
   -- ---- bodies
 
@@ -218,12 +218,12 @@ module _ (p : PProgram) (legal : IsLegal p) where
       behind = objects-front objects (decls_of vars) (in_body t v) ∙ objects-are-decls p legal vars 0 vars-known q
 
       -- so all is as the statements ask, where all but variables is
-      pub body-scope : (c : Scope) → IsBegun p legal (unit_for G name).task c (inside (after_objects (in_body t v) (decls_front objects (decls_of vars)))) →
-          IsScopeOf (unit_for G name) (plain_name p) vars c (inside (after_objects (in_body t v) (decls_front objects (decls_of vars))))
+      pub body-scope : (c : Scope) → IsBegun p legal (unit_for G name).task c (inner_scope (after_objects (in_body t v) (decls_front objects (decls_of vars)))) →
+          IsScopeOf (unit_for G name) (plain_name p) vars c (inner_scope (after_objects (in_body t v) (decls_front objects (decls_of vars))))
       body-scope c begun =
-          scope-of (unit_for G name).task vars c (inside (after_objects (in_body t v) (decls_front objects (decls_of vars)))) begun
+          scope-of (unit_for G name).task vars c (inner_scope (after_objects (in_body t v) (decls_front objects (decls_of vars)))) begun
           (subst (λ (z : Scope). SameTypes anybody T z.types) (sym behind) (list-ready p legal vars 0 vars-known q q-ready).0.types)
-          (λ s x k i. seen-later p legal (after_objects (in_body t v) (decls_front objects (decls_of vars))) (inside (after_objects (in_body t v) (decls_front objects (decls_of vars)))) (variable_name G k) x refl (grows-self (after_objects (in_body t v) (decls_front objects (decls_of vars))).types)
+          (λ s x k i. seen-later p legal (after_objects (in_body t v) (decls_front objects (decls_of vars))) (inner_scope (after_objects (in_body t v) (decls_front objects (decls_of vars)))) (variable_name G k) x refl (grows-self (after_objects (in_body t v) (decls_front objects (decls_of vars))).types)
           (subst (λ (z : Scope). IsSeenVariable p legal z (variable_name G k) x) (sym behind) (variables-seen p legal vars vars-few vars-known q q-ready s x k i)))
 
   -- ---- all bodies
@@ -233,8 +233,8 @@ module _ (p : PProgram) (legal : IsLegal p) where
   BodiesScoped s no_decl = Prim.Unit {0}
   BodiesScoped s (decl_then (DTaskBody w objects its sp) rest) =
       ((t : Scope) → IsBodyPlace t → (info : TaskInfo) → IsAmong info (running G w.name) →
-      IsScopeOf (unit_for G w.name) (plain_name p) (unit_variables (unit_for G w.name) its) (inside (after_objects (in_body s w) objects))
-      (inside (after_objects (in_body t (word_at w.span (task_name G info))) (decls_front objects (decls_of (unit_variables (unit_for G w.name) its))))))
+      IsScopeOf (unit_for G w.name) (plain_name p) (unit_variables (unit_for G w.name) its) (inner_scope (after_objects (in_body s w) objects))
+      (inner_scope (after_objects (in_body t (word_at w.span (task_name G info))) (decls_front objects (decls_of (unit_variables (unit_for G w.name) its))))))
       × BodiesScoped (after_decl s (DTaskBody w objects its sp)) rest
   BodiesScoped s (decl_then d rest) = BodiesScoped (after_decl s d) rest
 
@@ -262,7 +262,7 @@ module _ (p : PProgram) (legal : IsLegal p) where
       let one : List Site = decl_sites s d in
       let more : List Site = decls_sites (after_decl s d) rest in
       let own : List Site = own_sites (in_body s w) objects in
-      let stmts : List Site = body_sites (inside (after_objects (in_body s w) objects)) its in
+      let stmts : List Site = body_sites (inner_scope (after_objects (in_body s w) objects)) its in
       objects-local G (old p legal) objects (in_body s w) refl every (all_front IsMet own stmts (all_front IsMet one more h.met).1) (all_front IsInnerSite own stmts (all_front IsInnerSite one more h.inner).1)
       (all_front IsApartSite own stmts (all_front IsApartSite one more h.apart).1)
 
@@ -270,7 +270,7 @@ module _ (p : PProgram) (legal : IsLegal p) where
   scoped no_decl s begun met whole light = tt
   scoped (decl_then (DTaskBody w objects its sp) rest) s begun met whole light = (
     λ t b info i.
-        body-scope t b (word_at w.span (task_name G info)) objects (objects-are-local w objects its sp rest s whole.0.3 met) w.name its light.0 (inside (after_objects (in_body s w) objects)) (begun.0 t b.bodied info i),
+        body-scope t b (word_at w.span (task_name G info)) objects (objects-are-local w objects its sp rest s whole.0.3 met) w.name its light.0 (inner_scope (after_objects (in_body s w) objects)) (begun.0 t b.bodied info i),
     scoped rest (after_decl s (DTaskBody w objects its sp)) begun.1 (further (DTaskBody w objects its sp) rest s met) whole.1 light.1,
   )
   scoped (decl_then (DNumber w e sp) rest) s begun met whole light = scoped rest (after_decl s (DNumber w e sp)) begun (further (DNumber w e sp) rest s met) whole.1 light
@@ -306,7 +306,7 @@ module _ (p : PProgram) (legal : IsLegal p) where
   places-met = record { met = decl-part IsMet (all_met p (rules p legal)); inner = decl-part IsInnerSite (inner-names p (rules p legal)); apart = decl-part IsApartSite (all-apart p (rules p legal)) }
     where
       decl-part : (P : Site → Type 0) → AllByRecursion P (sites p) → AllByRecursion P (decls_sites (first_scope p.name) p.decls)
-      decl-part P h = all_front P (decls_sites (first_scope p.name) p.decls) (body_sites (inside (after_decls (first_scope p.name) p.decls)) p.body) h.1
+      decl-part P h = all_front P (decls_sites (first_scope p.name) p.decls) (body_sites (inner_scope (after_decls (first_scope p.name) p.decls)) p.body) h.1
 
   pub bodies-local : BodiesLocal p.decls
   bodies-local = all-local p.decls (first_scope p.name) places-met (every p legal).2

@@ -4,7 +4,7 @@ ghost use Rattle.std.specs.Prelude.{◌≡◌, ◌+◌, ℕ, OnOk, option_copied
 ghost use Rattle.ada_tree.specs.PlainExpr.{plain_expr};
 ghost use Rattle.ada_tree.specs.PlainStmt.{arm, arm_then, no_arm, absent, plain_alt, plain_alt_kind, seen, SIf};
 ghost use Rattle.task_model.specs.Frames.{in_front};
-ghost use Rattle.normal_model.specs.Making.{assigned, one, variable};
+ghost use Rattle.normal_model.specs.Making.{assignment, one, variable};
 ghost use Rattle.normal_model.specs.Waits.{alternative_before, alternative_left, kind_left};
 ghost use Rattle.normal_waits.specs.inner.Moved.{guarded_front, kind_moving, moved_before};
 
@@ -36,7 +36,7 @@ fn push_under<M: Meanings>(
     out: &mut Vec<Stmt>,
 ) -> Result<(), Memory>
     requires { M.fits m.now }
-    ensures { OnOk result (seen out.new.items ≡ in_front (seen out.old.items) (one (SIf (arm_then (arm (variable (M.setting m.now) span number) (one (assigned (M.setting m.now) span (number + 1) (plain_expr index.now)))) no_arm) absent span))) }
+    ensures { OnOk result (seen out.new.items ≡ in_front (seen out.old.items) (one (SIf (arm_then (arm (variable (M.setting m.now) span number) (one (assignment (M.setting m.now) span (number + 1) (plain_expr index.now)))) no_arm) absent span))) }
 {
     let next = following(number)?;
     let assigned = assigned_stmt(m, next, index.copy(alloc), span);

@@ -12,7 +12,7 @@ use Rattle.event_machine.specs.Offers.{Aborts}
 use Rattle.ada_value.specs.declared.values.Raised.{Raised}
 use Rattle.ada_value.specs.Values.{lies_in}
 use Rattle.ada_value.specs.Variables.{Variables}
-use Rattle.task_model.specs.Setting.{Setting, member_named, task_of}
+use Rattle.task_model.specs.Setting.{Setting, member_named, callee_task}
 use Rattle.task_model.specs.Frames.{Around, PFrame, control, in_front}
 use Rattle.task_model.specs.Tasks.{Task}
 use Rattle.task_model.specs.Stands.{At, name_stand}
@@ -32,7 +32,7 @@ use Rattle.translation_law.specs.Images.{something_there}
 use Rattle.translation_law.specs.Controls.{task_in, Under, are_around}
 use Rattle.translation_law.specs.Floors.{IsTranslation}
 use Rattle.translation_law.proofs.Locals.{go-there}
-use Rattle.normal_law.specs.Suited.{declared_limits, AreMade, IsCallee, Rewritten, unit_of, asked_of}
+use Rattle.normal_law.specs.Suited.{declared_limits, AreMade, IsCallee, Rewritten, rewritten_unit, asked_of}
 use Rattle.normal_law.specs.NormalLists.{Begin, behind_stmt, Normal, normal_then, normal_lists}
 use Rattle.normal_law.specs.NormalFloors.{normal}
 use Rattle.normal_law.specs.Preludes.{Added, AreThere, due_before, old_no_due}
@@ -87,7 +87,7 @@ module _ (w : Rewritten) (made : AreMade w.programs) (added : Added w.programs w
     length-vars = length-append vars (variables_declared g s first n) ∙ ap (λ k. n + k) (declared_length g s first n ∙ length-first)
 
     -- they are those of the names that are left, where these begin behind the first
-    vars-split : more_variables (unit_of w) s (abort_subtypes g s (c ∷ cs)) vars ≡ more_variables (unit_of w) s (abort_subtypes g s cs) vars1
+    vars-split : more_variables (rewritten_unit w) s (abort_subtypes g s (c ∷ cs)) vars ≡ more_variables (rewritten_unit w) s (abort_subtypes g s cs) vars1
     vars-split =
         ap (λ l. vars ++ l) (declared_joined g s first (abort_subtypes g s cs) n) ∙ sym (append_assoc vars (variables_declared g s first n) (variables_declared g s (abort_subtypes g s cs) (n + length first)))
         ∙ ap (λ k. vars1 ++ variables_declared g s (abort_subtypes g s cs) k) (ap (λ k. n + k) length-first ∙ sym length-vars)
@@ -98,7 +98,7 @@ module _ (w : Rewritten) (made : AreMade w.programs) (added : Added w.programs w
     names-image (old_callee d ds oldd askd more) e =
         subst (λ k. Normal w (stmt_then (SAbort (d ∷ ds) s) q) (in_front (callees_aborted g s (d ∷ ds) k) q')) length-vars
         (normal_then vars1 (SAbort (d ∷ ds) s) q q' (old_abort (d ∷ ds) s (old_callee d ds oldd askd more))
-        (subst (λ l. Begin (more_variables (unit_of w) s (abort_subtypes g s l) vars1) w.vars) (sym e) (subst (λ l. Begin l w.vars) vars-split begins)) im)
+        (subst (λ l. Begin (more_variables (rewritten_unit w) s (abort_subtypes g s l) vars1) w.vars) (sym e) (subst (λ l. Begin l w.vars) vars-split begins)) im)
 
     first-subtypes : HaveSubtypes b added first n
     first-subtypes =
@@ -127,7 +127,7 @@ module _ (w : Rewritten) (made : AreMade w.programs) (added : Added w.programs w
     abbrev right : PStmts → Variables → Task
     right r W = task_in h m i out (control r p' o' W)
 
-    abort-met : (t : ℕ) (v : Word) (W : Variables) → task_of g V c ≡ Ok t → unwrap_or (task_named h.numbers v.name) 0 ≡ t → Under x p o V p' o' W → AbortMet x left (right (in_front (abort_of s v) behind) W)
+    abort-met : (t : ℕ) (v : Word) (W : Variables) → callee_task g V c ≡ Ok t → unwrap_or (task_named h.numbers v.name) 0 ≡ t → Under x p o V p' o' W → AbortMet x left (right (in_front (abort_of s v) behind) W)
     abort-met t v W e f u = record {
       task = t;
       stands = ap name_stand e;
@@ -136,7 +136,7 @@ module _ (w : Rewritten) (made : AreMade w.programs) (added : Added w.programs w
       passes = go-there x laws m i out (stmt_then (SAbort (c ∷ cs) s) q) (in_front (abort_of s v) behind) (names_left cs s q) behind (names-image rest refl) u;
     }
 
-    pub abort-comes : (W : Variables) → Under x p o V p' o' W → AreThere added W → Comes x left (right (in_front (image_of (normal_rewriter (unit_of w)) (SAbort (c ∷ cs) s) vars) q') W)
+    pub abort-comes : (W : Variables) → Under x p o V p' o' W → AreThere added W → Comes x left (right (in_front (image_of (normal_rewriter (rewritten_unit w)) (SAbort (c ∷ cs) s) vars) q') W)
     abort-comes W u still =
         subst (λ a. Comes x left (right a W)) (sym row)
         (go (callee-comes x laws made added m i out p p' o o' s c (abort_of s) (λ v. something_there _ _) behind asked old mv refl n bound [] old_no_due fit V W u still))
@@ -152,7 +152,7 @@ module _ (w : Rewritten) (made : AreMade w.programs) (added : Added w.programs w
         from : PStmts
         from = in_front (due_before g s (dues_of mv ++ []) n) (in_front (chosen g s c n (abort_of s)) behind)
 
-        row : in_front (image_of (normal_rewriter (unit_of w)) (SAbort (c ∷ cs) s) vars) q' ≡ in_front (due_before g s (dues_of mv ++ []) n) (in_front (chosen g s c n (abort_of s)) behind)
+        row : in_front (image_of (normal_rewriter (rewritten_unit w)) (SAbort (c ∷ cs) s) vars) q' ≡ in_front (due_before g s (dues_of mv ++ []) n) (in_front (chosen g s c n (abort_of s)) behind)
         row = in_front-joined (callee_aborted g s c n) (callees_aborted g s cs (n + length (callee_kept g s c))) q'
             ∙ in_front-joined (kept_before g s (callee_kept g s c) n) (chosen g s c n (abort_of s)) behind
             ∙ ap (λ a. in_front a (in_front (chosen g s c n (abort_of s)) behind)) (kept-due mv)
@@ -169,4 +169,4 @@ module _ (w : Rewritten) (made : AreMade w.programs) (added : Added w.programs w
           meets = at_abort (abort-met t v W1 of_task (ap (λ k. unwrap_or (task_named h.numbers k) 0) name ∙ ap (λ k. unwrap_or k 0) (asked.named t meant)) u1);
         }
         go (meets_raise a r W1 e u1 reach can stop) =
-            record { reached = _; reach = reach; meets = at_raise a (ap name_stand (raised-name a (task_of g V c) e)) (are_around m i out (stmt_then (SAbort (c ∷ cs) s) q) r u1) can stop }
+            record { reached = _; reach = reach; meets = at_raise a (ap name_stand (raised-name a (callee_task g V c) e)) (are_around m i out (stmt_then (SAbort (c ∷ cs) s) q) r u1) can stop }

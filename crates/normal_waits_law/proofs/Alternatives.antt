@@ -30,7 +30,7 @@ use Rattle.translation_law.specs.OldTexts.{OldFormals, OldHead, OldMaybe, old_ab
 use Rattle.translation_law.specs.Images.{IsSomething, something_there}
 use Rattle.translation_law.specs.Controls.{task_in, Under}
 use Rattle.translation_law.specs.Floors.{IsTranslation}
-use Rattle.normal_law.specs.Suited.{SameRange, declared_limits, AreMade, IsHead, Rewritten, unit_of, asked_of}
+use Rattle.normal_law.specs.Suited.{SameRange, declared_limits, AreMade, IsHead, Rewritten, rewritten_unit, asked_of}
 use Rattle.normal_law.specs.NormalLists.{Begin, Normal, normal_none, normal_lists}
 use Rattle.normal_law.specs.NormalFloors.{normal}
 use Rattle.normal_law.specs.Preludes.{Reaches, reaches_here, IsCell, Added, AreThere, due_before, due_worth, old_due, old_no_due, Hold, hold_value, Prelude, given, stopped}
@@ -134,8 +134,8 @@ module _ (w : Rewritten) (made : AreMade w.programs) (added : Added w.programs w
 
   -- ---- accepts, delays and terminates
 
-  pub maybe-image : {a : PMaybe} → OldMaybe (asked_of w) a → (t : List PDecl) → Begin (after_maybe (normal_rewriter (unit_of w)) a t) w.vars →
-      Normal w (stmts_or_none a) (stmts_or_none (inside_maybe (normal_rewriter (unit_of w)) a t))
+  pub maybe-image : {a : PMaybe} → OldMaybe (asked_of w) a → (t : List PDecl) → Begin (after_maybe (normal_rewriter (rewritten_unit w)) a t) w.vars →
+      Normal w (stmts_or_none a) (stmts_or_none (inside_maybe (normal_rewriter (rewritten_unit w)) a t))
   maybe-image old_absent t begins = normal_none
   maybe-image (old_present l old) t begins = walked w old t begins
 
@@ -153,7 +153,7 @@ module _ (w : Rewritten) (made : AreMade w.programs) (added : Added w.programs w
   opened_with e q body behind r = and_then r (λ z. Ok (Accepts e z q body behind))
 
   -- the range of the variable of an accept's index
-  index-range : (s : Span) (q : PHead) → IsHead b w.first w.number q → (k : ℕ) → HaveSubtypes b added (kept_subtypes (accept_kept (unit_of w) s q)) k → (d : PExpr) → moving g.types q.index ≡ Some d →
+  index-range : (s : Span) (q : PHead) → IsHead b w.first w.number q → (k : ℕ) → HaveSubtypes b added (kept_subtypes (accept_kept (rewritten_unit w) s q)) k → (d : PExpr) → moving g.types q.index ≡ Some d →
       SameRange (family_limits (entry_at g.numbers (entry_of g.numbers m q.entry.name))) (added.bounds k)
   index-range s q head k subtypes d mv z =
       let e : entry_of g.numbers m q.entry.name ≡ entry_of g.numbers w.number q.entry.name = ap (λ t. entry_of g.numbers t q.entry.name) number in
@@ -172,23 +172,23 @@ module _ (w : Rewritten) (made : AreMade w.programs) (added : Added w.programs w
   kept-one s y (Some d) k = refl
 
   -- the index of an accept's head
-  pub head-comes : (s : Span) {goal : PStmts} → IsSomething goal → (q : PHead) → OldHead b q → IsHead b w.first w.number q → (k : ℕ) → HaveSubtypes b added (kept_subtypes (accept_kept (unit_of w) s q)) k →
+  pub head-comes : (s : Span) {goal : PStmts} → IsSomething goal → (q : PHead) → OldHead b q → IsHead b w.first w.number q → (k : ℕ) → HaveSubtypes b added (kept_subtypes (accept_kept (rewritten_unit w) s q)) k →
       (W : Variables) → In W → AreThere added W →
-      MeetsIndex x laws made added m i out p p' o o' V (right (in_front (kept_before g s (accept_kept (unit_of w) s q) k) goal) W) goal (entry_of g.numbers m q.entry.name) q.index
-      (head_left (unit_of w) s q k).index k (k + length (dues_of (moving g.types q.index))) W
+      MeetsIndex x laws made added m i out p p' o o' V (right (in_front (kept_before g s (accept_kept (rewritten_unit w) s q) k) goal) W) goal (entry_of g.numbers m q.entry.name) q.index
+      (head_left (rewritten_unit w) s q k).index k (k + length (dues_of (moving g.types q.index))) W
   head-comes s {goal} row q old head k subtypes W u still =
       let y : PSubind = subtype_of_range g.types s (family_range g (entry_of g.numbers w.first q.entry.name)) in
       let e : entry_of g.numbers w.number q.entry.name ≡ entry_of g.numbers m q.entry.name = ap (λ t. entry_of g.numbers t q.entry.name) (sym number) in
-      let l1 : k + length (kept_subtypes (accept_kept (unit_of w) s q)) ≤ added.count = subtypes-fit b added subtypes in
-      let l2 : length (kept_subtypes (accept_kept (unit_of w) s q)) ≡ length (accept_kept (unit_of w) s q) = length-map (accept_kept (unit_of w) s q) (λ a. a.subtype) in
-      let l3 : length (accept_kept (unit_of w) s q) ≡ length (dues_of (moving g.types q.index)) = kept-length y (moving g.types q.index) in
-      subst (λ r. MeetsIndex x laws made added m i out p p' o o' V (right (in_front r goal) W) goal (entry_of g.numbers m q.entry.name) q.index (head_left (unit_of w) s q k).index k
+      let l1 : k + length (kept_subtypes (accept_kept (rewritten_unit w) s q)) ≤ added.count = subtypes-fit b added subtypes in
+      let l2 : length (kept_subtypes (accept_kept (rewritten_unit w) s q)) ≡ length (accept_kept (rewritten_unit w) s q) = length-map (accept_kept (rewritten_unit w) s q) (λ a. a.subtype) in
+      let l3 : length (accept_kept (rewritten_unit w) s q) ≡ length (dues_of (moving g.types q.index)) = kept-length y (moving g.types q.index) in
+      subst (λ r. MeetsIndex x laws made added m i out p p' o o' V (right (in_front r goal) W) goal (entry_of g.numbers m q.entry.name) q.index (head_left (rewritten_unit w) s q k).index k
       (k + length (dues_of (moving g.types q.index))) W) (sym (kept-one s y (moving g.types q.index) k))
       (index-comes x laws made added m i out p p' o o' V s row (entry_of g.numbers m q.entry.name) q.index old.index (moving g.types q.index) refl
       (λ f. let z = head.known f in (z.0, ap (λ t. member_index g [] t q.index) (sym e) ∙ z.1)) k (λ d f. index-range s q head k subtypes d f) (omega arith) W u still)
 
   abbrev walk-image : PStmts → List PDecl → PStmts
-  walk-image l t = rewritten (normal_rewriter (unit_of w)) l t
+  walk-image l t = rewritten (normal_rewriter (rewritten_unit w)) l t
 
   pub same-less : (k n : ℕ) → k ≤ n → (W W1 : Variables) → Same n W W1 → Same k W W1
   same-less k n l W W1 same j m1 = same j (omega (arith, l, m1))
@@ -196,37 +196,37 @@ module _ (w : Rewritten) (made : AreMade w.programs) (added : Added w.programs w
   pub same-then : (k n : ℕ) → k ≤ n → (W W1 W2 : Variables) → Same k W W1 → Same n W1 W2 → Same k W W2
   same-then k n l W W1 W2 a c j m1 = c j (omega (arith, l, m1)) ∙ a j m1
 
-  kind-comes : (s : Span) {goal : PStmts} → IsSomething goal → {what : PAltKind} → OldKind (asked_of w) what → (t : List PDecl) → Begin (after_kind (normal_rewriter (unit_of w)) what t) w.vars → (k n : ℕ) →
-      HaveSubtypes b added (kept_subtypes (kind_kept (unit_of w) s what)) n → (W : Variables) → In W → AreThere added W →
-      MeetsKind (right (in_front (kept_before g s (kind_kept (unit_of w) s what) n) goal) W) goal what (kind_left (unit_of w) s (inside_kind (normal_rewriter (unit_of w)) what t) n) k n
-      (n + length (kind_kept (unit_of w) s what)) W
+  kind-comes : (s : Span) {goal : PStmts} → IsSomething goal → {what : PAltKind} → OldKind (asked_of w) what → (t : List PDecl) → Begin (after_kind (normal_rewriter (rewritten_unit w)) what t) w.vars → (k n : ℕ) →
+      HaveSubtypes b added (kept_subtypes (kind_kept (rewritten_unit w) s what)) n → (W : Variables) → In W → AreThere added W →
+      MeetsKind (right (in_front (kept_before g s (kind_kept (rewritten_unit w) s what) n) goal) W) goal what (kind_left (rewritten_unit w) s (inside_kind (normal_rewriter (rewritten_unit w)) what t) n) k n
+      (n + length (kind_kept (rewritten_unit w) s what)) W
   kind-comes s {goal} row (old_accepts q a l hd ask ma ls) t begins k n subtypes W u still = go (head-comes s row q hd ask n subtypes W u still)
     where
       e : ℕ
       e = entry_of g.numbers m q.entry.name
 
       q' : PHead
-      q' = head_left (unit_of w) s q n
+      q' = head_left (rewritten_unit w) s q n
 
       body' : PStmts
-      body' = stmts_or_none (inside_maybe (normal_rewriter (unit_of w)) a t)
+      body' = stmts_or_none (inside_maybe (normal_rewriter (rewritten_unit w)) a t)
 
       behind' : PStmts
-      behind' = walk-image l (after_accept (normal_rewriter (unit_of w)) (accepting q a) t)
+      behind' = walk-image l (after_accept (normal_rewriter (rewritten_unit w)) (accepting q a) t)
 
       y : PSubind
       y = subtype_of_range g.types s (family_range g (entry_of g.numbers w.first q.entry.name))
 
-      later : n + length (accept_kept (unit_of w) s q) ≡ n + length (dues_of (moving g.types q.index))
+      later : n + length (accept_kept (rewritten_unit w) s q) ≡ n + length (dues_of (moving g.types q.index))
       later = ap (λ j. n + j) (kept-length y (moving g.types q.index))
 
       images : (z : ℤ) → OpenAlike w (Accepts e z q (stmts_or_none a) l) (Accepts e z q' body' behind')
       images z = accepts_alike e z q q' (stmts_or_none a) body' l behind' refl hd.formals
-          (maybe-image ma t (part-begins w (stmts-begin (normal_rewriter (unit_of w)) (normal-adds (unit_of w)) l _) begins)) (walked w ls _ begins)
+          (maybe-image ma t (part-begins w (stmts-begin (normal_rewriter (rewritten_unit w)) (normal-adds (rewritten_unit w)) l _) begins)) (walked w ls _ begins)
 
-      go : MeetsIndex x laws made added m i out p p' o o' V (right (in_front (kept_before g s (accept_kept (unit_of w) s q) n) goal) W) goal e q.index q'.index n (n + length (dues_of (moving g.types q.index))) W →
-          MeetsKind (right (in_front (kept_before g s (accept_kept (unit_of w) s q) n) goal) W) goal (AAccept (accepting q a) l)
-          (kind_left (unit_of w) s (inside_kind (normal_rewriter (unit_of w)) (AAccept (accepting q a) l) t) n) k n (n + length (accept_kept (unit_of w) s q)) W
+      go : MeetsIndex x laws made added m i out p p' o o' V (right (in_front (kept_before g s (accept_kept (rewritten_unit w) s q) n) goal) W) goal e q.index q'.index n (n + length (dues_of (moving g.types q.index))) W →
+          MeetsKind (right (in_front (kept_before g s (accept_kept (rewritten_unit w) s q) n) goal) W) goal (AAccept (accepting q a) l)
+          (kind_left (rewritten_unit w) s (inside_kind (normal_rewriter (rewritten_unit w)) (AAccept (accepting q a) l) t) n) k n (n + length (accept_kept (rewritten_unit w) s q)) W
       go (index_made z W1 res again u1 still1 reach same) =
           kind_made (Accepts e z q (stmts_or_none a) l) (Accepts e z q' body' behind') W1 (ap (opened_with e q (stmts_or_none a) l) res)
           (λ W2 u2 below. ap (λ e1. opened_with e1 q' body' behind' (member_index h W2 e1 q'.index)) (entry-here q)
@@ -256,7 +256,7 @@ module _ (w : Rewritten) (made : AreMade w.programs) (added : Added w.programs w
   -- ---- under a guard
 
   abbrev guard_if : Span → ℕ → List Kept → PStmts → Variables → Task
-  guard_if s n kept goal W = right (in_front (under_guard (unit_of w) s n kept) goal) W
+  guard_if s n kept goal W = right (in_front (under_guard (rewritten_unit w) s n kept) goal) W
 
   -- the index is made where the guard holds
   guard-true : (s : Span) (n : ℕ) (kept : List Kept) {goal : PStmts} → IsSomething goal → (W : Variables) (v : Value) → evaluated h.types W (variable g s n) ≡ Ok v → is_true_value v ≡ true →
@@ -281,7 +281,7 @@ module _ (w : Rewritten) (made : AreMade w.programs) (added : Added w.programs w
       (and_then (and_then r (λ a. Ok (is_true_value a))) (λ q. if q then Ok (present (kept_before g s (y ∷ ys) (n + 1))) else Ok absent))) e
       ∙ ap (λ q. or_raised (λ branch. entered (stmts_or_none branch) goal (guard_if s n (y ∷ ys) goal W)) (guard_if s n (y ∷ ys) goal W)
       (if q then Ok (present (kept_before g s (y ∷ ys) (n + 1))) else Ok absent)) t
-      ∙ gone-row row (in_front (under_guard (unit_of w) s n (y ∷ ys)) goal) W) refl (reaches_here _)
+      ∙ gone-row row (in_front (under_guard (rewritten_unit w) s n (y ∷ ys)) goal) W) refl (reaches_here _)
 
   -- ---- the whole alternative
 
@@ -311,22 +311,22 @@ module _ (w : Rewritten) (made : AreMade w.programs) (added : Added w.programs w
   first_truth (None ∷ vs) = false
   first_truth (Some v ∷ vs) = is_true_value v
 
-  module _ (s : Span) (goal : PStmts) (row : IsSomething goal) (what : PAltKind) (old : OldKind (asked_of w) what) (t : List PDecl) (begins : Begin (after_kind (normal_rewriter (unit_of w)) what t) w.vars) (k n : ℕ) where
+  module _ (s : Span) (goal : PStmts) (row : IsSomething goal) (what : PAltKind) (old : OldKind (asked_of w) what) (t : List PDecl) (begins : Begin (after_kind (normal_rewriter (rewritten_unit w)) what t) w.vars) (k n : ℕ) where
     abbrev kept : List Kept
-    kept = kind_kept (unit_of w) s what
+    kept = kind_kept (rewritten_unit w) s what
 
     abbrev what_left : ℕ → PAltKind
-    what_left j = kind_left (unit_of w) s (inside_kind (normal_rewriter (unit_of w)) what t) j
+    what_left j = kind_left (rewritten_unit w) s (inside_kind (normal_rewriter (rewritten_unit w)) what t) j
 
-    no-guard : HaveSubtypes b added (alternative_subtypes (unit_of w) (alternative None what s)) n → (W : Variables) → In W → AreThere added W →
-        MeetsAlt (right (in_front (alternative_before (unit_of w) (alternative None what s) n) goal) W) goal None None what (what_left n) s k n (n + length kept) W
+    no-guard : HaveSubtypes b added (alternative_subtypes (rewritten_unit w) (alternative None what s)) n → (W : Variables) → In W → AreThere added W →
+        MeetsAlt (right (in_front (alternative_before (rewritten_unit w) (alternative None what s) n) goal) W) goal None None what (what_left n) s k n (n + length kept) W
     no-guard subtypes W u still =
         alt-of_kind s None None what (what_left n) k n n (n + length kept) (right (in_front (kept_before g s kept n) goal) W) W W (omega arith) (omega arith) refl (λ W2 u2 below. refl) (λ op W1 below e f. absurd (let none : ⊥ = cc in none))
         (λ j m1. refl) (right (in_front (kept_before g s kept n) goal) W) (reaches_here _) (kind-comes s row old t begins k n subtypes W u still)
 
-    guarded : (e : PExpr) → OldExpr b e → HaveSubtypes b added (alternative_subtypes (unit_of w) (alternative (Some e) what s)) n → (W : Variables) → In W → AreThere added W →
-        MeetsAlt (right (in_front (alternative_before (unit_of w) (alternative (Some e) what s) n) goal) W) goal (Some e) (Some (variable g s n)) what (what_left (n + 1)) s k n ((n + 1) + length kept) W
-    guarded e olde subtypes W u still = go (values-made x laws made added m i out p p' o o' V s (row-behind (under_guard (unit_of w) s n kept) row) W (old_due e [] olde old_no_due) n below u still)
+    guarded : (e : PExpr) → OldExpr b e → HaveSubtypes b added (alternative_subtypes (rewritten_unit w) (alternative (Some e) what s)) n → (W : Variables) → In W → AreThere added W →
+        MeetsAlt (right (in_front (alternative_before (rewritten_unit w) (alternative (Some e) what s) n) goal) W) goal (Some e) (Some (variable g s n)) what (what_left (n + 1)) s k n ((n + 1) + length kept) W
+    guarded e olde subtypes W u still = go (values-made x laws made added m i out p p' o o' V s (row-behind (under_guard (rewritten_unit w) s n kept) row) W (old_due e [] olde old_no_due) n below u still)
       where
         all : HaveSubtypes b added (truth_subtype s ∷ kept_subtypes kept) n
         all = subtypes
@@ -350,7 +350,7 @@ module _ (w : Rewritten) (made : AreMade w.programs) (added : Added w.programs w
             (λ v lies. ap (λ q. and_then (if q then Ok v else Err raised.Constraint) (λ c. Ok (is_true_value c))) (bound (position_of v) ∙ lies))
 
         at-row : Task
-        at-row = right (in_front (alternative_before (unit_of w) (alternative (Some e) what s) n) goal) W
+        at-row = right (in_front (alternative_before (rewritten_unit w) (alternative (Some e) what s) n) goal) W
 
         by-truth : (W1 : Variables) (v : Value) → guard_holds left (Some e) ≡ Ok (is_true_value v) → In W1 → AreThere added W1 → Reaches at-row (guard_if s n kept goal W1) → Same n W W1 →
             IsCell W1 (variable_name g n) (added.bounds n) v → lies_in (added.bounds n) (position_of v) ≡ true → (q : Bool) → is_true_value v ≡ q →
@@ -380,7 +380,7 @@ module _ (w : Rewritten) (made : AreMade w.programs) (added : Added w.programs w
             MeetsAlt at-row goal (Some e) (Some (variable g s n)) what (what_left (n + 1)) s k n ((n + 1) + length kept) W
         held W1 ws (hold_value k1 e1 v ds vs cell lies more) holds u1 still1 reach same = by-truth W1 v holds u1 still1 reach same cell lies (is_true_value v) refl
 
-        go : Prelude x added m i out p o V p' o' at-row (in_front (under_guard (unit_of w) s n kept) goal) n W (Some e ∷ []) →
+        go : Prelude x added m i out p o V p' o' at-row (in_front (under_guard (rewritten_unit w) s n kept) goal) n W (Some e ∷ []) →
             MeetsAlt at-row goal (Some e) (Some (variable g s n)) what (what_left (n + 1)) s k n ((n + 1) + length kept) W
         go (given vs W1 res v reach still1 hold same) = held W1 vs hold (guard-due ∙ ap (λ r. and_then r (λ ws. Ok (first_truth ws))) res) v still1 reach same
         go (stopped a r W1 res v reach can stop still1) =
@@ -388,8 +388,8 @@ module _ (w : Rewritten) (made : AreMade w.programs) (added : Added w.programs w
             (record { rest = r; vars = W1; under = v; reach = reach; can = can; stop = stop })
 
     -- by whether it has a guard
-    pub alternative-comes : {guard : Option PExpr} → OldOption b guard → HaveSubtypes b added (alternative_subtypes (unit_of w) (alternative guard what s)) n → (W : Variables) → In W → AreThere added W →
-        MeetsAlt (right (in_front (alternative_before (unit_of w) (alternative guard what s) n) goal) W) goal guard (option_map (λ e. variable g s n) guard) what (what_left (behind_guard guard n)) s k n
+    pub alternative-comes : {guard : Option PExpr} → OldOption b guard → HaveSubtypes b added (alternative_subtypes (rewritten_unit w) (alternative guard what s)) n → (W : Variables) → In W → AreThere added W →
+        MeetsAlt (right (in_front (alternative_before (rewritten_unit w) (alternative guard what s) n) goal) W) goal guard (option_map (λ e. variable g s n) guard) what (what_left (behind_guard guard n)) s k n
         (behind_guard guard n + length kept) W
     alternative-comes old_none subtypes W u still = no-guard subtypes W u still
     alternative-comes (old_some e olde) subtypes W u still = guarded e olde subtypes W u still
@@ -397,7 +397,7 @@ module _ (w : Rewritten) (made : AreMade w.programs) (added : Added w.programs w
   -- ---- all alternatives, one after the other
 
   abbrev r : Rewriter (List PDecl)
-  r = normal_rewriter (unit_of w)
+  r = normal_rewriter (rewritten_unit w)
 
   pub data MeetsAlts (from : Task) (goal : PStmts) (alts alts' : PAlts) (k n later : ℕ) (W : Variables) : Type 0 where
     alts_made : (os os' : List Open) (W1 : Variables) → alternatives_open left alts k ≡ Ok os → ((W2 : Variables) → In W2 → Same later W1 W2 → alternatives_open (right there W2) alts' k ≡ Ok os') → OpensAlike w os os' →
@@ -409,7 +409,7 @@ module _ (w : Rewritten) (made : AreMade w.programs) (added : Added w.programs w
   opens-then none_open q = q
   opens-then (some_open op op' a) q = open_more op op' _ _ a q
 
-  delays-same : (s : Span) (what : PAltKind) (t : List PDecl) (n k : ℕ) → delays_with (kind_left (unit_of w) s (inside_kind r what t) n) k ≡ delays_with what k
+  delays-same : (s : Span) (what : PAltKind) (t : List PDecl) (n k : ℕ) → delays_with (kind_left (rewritten_unit w) s (inside_kind r what t) n) k ≡ delays_with what k
   delays-same s (AAccept (accepting q a) l) t n k = refl
   delays-same s (ADelay d l) t n k = refl
   delays-same s ATerminate t n k = refl
@@ -431,24 +431,24 @@ module _ (w : Rewritten) (made : AreMade w.programs) (added : Added w.programs w
           let v = one d refl in
           subst (λ l. AreTold h W2 l (open_then ro os)) (some-list (variable g s n ∷ es) gs c) (told ro v.0 v.1 v.2 es (more es f))
 
-  later-is : (guard : Option PExpr) (what : PAltKind) (s : Span) (t : List PDecl) → length (r.opened t (alternative guard what s)) ≡ behind_guard guard (length t) + length (kind_kept (unit_of w) s what)
+  later-is : (guard : Option PExpr) (what : PAltKind) (s : Span) (t : List PDecl) → length (r.opened t (alternative guard what s)) ≡ behind_guard guard (length t) + length (kind_kept (rewritten_unit w) s what)
   later-is guard what s t =
-      length-append t (variables_declared g s (alternative_subtypes (unit_of w) (alternative guard what s)) (length t))
-      ∙ ap (λ k. length t + k) (declared_length g s (alternative_subtypes (unit_of w) (alternative guard what s)) (length t)) ∙ by guard
+      length-append t (variables_declared g s (alternative_subtypes (rewritten_unit w) (alternative guard what s)) (length t))
+      ∙ ap (λ k. length t + k) (declared_length g s (alternative_subtypes (rewritten_unit w) (alternative guard what s)) (length t)) ∙ by guard
     where
-      kept : length (kept_subtypes (kind_kept (unit_of w) s what)) ≡ length (kind_kept (unit_of w) s what)
-      kept = length-map (kind_kept (unit_of w) s what) (λ a. a.subtype)
+      kept : length (kept_subtypes (kind_kept (rewritten_unit w) s what)) ≡ length (kind_kept (rewritten_unit w) s what)
+      kept = length-map (kind_kept (rewritten_unit w) s what) (λ a. a.subtype)
 
-      by : (guard : Option PExpr) → length t + length (alternative_subtypes (unit_of w) (alternative guard what s)) ≡ behind_guard guard (length t) + length (kind_kept (unit_of w) s what)
+      by : (guard : Option PExpr) → length t + length (alternative_subtypes (rewritten_unit w) (alternative guard what s)) ≡ behind_guard guard (length t) + length (kind_kept (rewritten_unit w) s what)
       by None = ap (λ k. length t + k) kept
-      by (Some e) = let c : length (kept_subtypes (kind_kept (unit_of w) s what)) ≡ length (kind_kept (unit_of w) s what) = kept in omega arith
+      by (Some e) = let c : length (kept_subtypes (kind_kept (rewritten_unit w) s what)) ≡ length (kind_kept (rewritten_unit w) s what) = kept in omega arith
 
   -- the first alternative, and what comes of the others behind it
   alts-then : (guard : Option PExpr) (what : PAltKind) (s : Span) (rest : PAlts) (t : List PDecl) (goal : PStmts) (k : ℕ) (W : Variables) →
       MeetsAlt
-      (right (in_front (alternative_before (unit_of w) (alternative guard what s) (length t)) (in_front (alts_leads r rest (after_kind r what (r.opened t (alternative guard what s)))) goal)) W)
+      (right (in_front (alternative_before (rewritten_unit w) (alternative guard what s) (length t)) (in_front (alts_leads r rest (after_kind r what (r.opened t (alternative guard what s)))) goal)) W)
       (in_front (alts_leads r rest (after_kind r what (r.opened t (alternative guard what s)))) goal) guard (option_map (λ e. variable g s (length t)) guard) what
-      (kind_left (unit_of w) s (inside_kind r what (r.opened t (alternative guard what s))) (behind_guard guard (length t))) s k (length t) (behind_guard guard (length t) + length (kind_kept (unit_of w) s what)) W →
+      (kind_left (rewritten_unit w) s (inside_kind r what (r.opened t (alternative guard what s))) (behind_guard guard (length t))) s k (length t) (behind_guard guard (length t) + length (kind_kept (rewritten_unit w) s what)) W →
       ((W1 : Variables) → In W1 → AreThere added W1 →
       MeetsAlts (right (in_front (alts_leads r rest (after_kind r what (r.opened t (alternative guard what s)))) goal) W1) goal rest (inside_alts r rest (after_kind r what (r.opened t (alternative guard what s))))
       (delays_with what k) (length (after_kind r what (r.opened t (alternative guard what s)))) (length (after_alts r rest (after_kind r what (r.opened t (alternative guard what s))))) W1) →
@@ -456,7 +456,7 @@ module _ (w : Rewritten) (made : AreMade w.programs) (added : Added w.programs w
       (length t) (length (after_alts r (alt_then (alternative guard what s) rest) t)) W
   alts-then guard what s rest t goal k W first more =
       subst (λ a. MeetsAlts (right a W) goal (alt_then (alternative guard what s) rest) (inside_alts r (alt_then (alternative guard what s) rest) t) k (length t) (length (after_alts r (alt_then (alternative guard what s) rest) t)) W)
-      (sym (in_front-joined (alternative_before (unit_of w) (alternative guard what s) (length t)) (alts_leads r rest t2) goal)) (go first)
+      (sym (in_front-joined (alternative_before (rewritten_unit w) (alternative guard what s) (length t)) (alts_leads r rest t2) goal)) (go first)
     where
       t1 : List PDecl
       t1 = r.opened t (alternative guard what s)
@@ -465,34 +465,34 @@ module _ (w : Rewritten) (made : AreMade w.programs) (added : Added w.programs w
       t2 = after_kind r what t1
 
       later : ℕ
-      later = behind_guard guard (length t) + length (kind_kept (unit_of w) s what)
+      later = behind_guard guard (length t) + length (kind_kept (rewritten_unit w) s what)
 
       last : ℕ
       last = length (after_alts r rest t2)
 
       l0 : length t ≤ length t2
       l0 =
-          let a : length t ≤ length t1 = begins-length ((normal-adds (unit_of w)).opened t (alternative guard what s)) in
-          let c : length t1 ≤ length t2 = begins-length (kind-begins r (normal-adds (unit_of w)) what t1) in
+          let a : length t ≤ length t1 = begins-length ((normal-adds (rewritten_unit w)).opened t (alternative guard what s)) in
+          let c : length t1 ≤ length t2 = begins-length (kind-begins r (normal-adds (rewritten_unit w)) what t1) in
           omega arith
 
       l1 : later ≤ length t2
       l1 =
           let a : length t1 ≡ later = later-is guard what s t in
-          let c : length t1 ≤ length t2 = begins-length (kind-begins r (normal-adds (unit_of w)) what t1) in
+          let c : length t1 ≤ length t2 = begins-length (kind-begins r (normal-adds (rewritten_unit w)) what t1) in
           omega arith
 
       l2 : length t2 ≤ last
-      l2 = begins-length (alts-begin r (normal-adds (unit_of w)) rest t2)
+      l2 = begins-length (alts-begin r (normal-adds (rewritten_unit w)) rest t2)
 
       what' : PAltKind
-      what' = kind_left (unit_of w) s (inside_kind r what t1) (behind_guard guard (length t))
+      what' = kind_left (rewritten_unit w) s (inside_kind r what t1) (behind_guard guard (length t))
 
       guard' : Option PExpr
       guard' = option_map (λ e. variable g s (length t)) guard
 
       from : Task
-      from = right (in_front (alternative_before (unit_of w) (alternative guard what s) (length t)) (in_front (alts_leads r rest t2) goal)) W
+      from = right (in_front (alternative_before (rewritten_unit w) (alternative guard what s) (length t)) (in_front (alts_leads r rest t2) goal)) W
 
       abbrev-alts : PAlts
       abbrev-alts = inside_alts r (alt_then (alternative guard what s) rest) t
@@ -536,10 +536,10 @@ module _ (w : Rewritten) (made : AreMade w.programs) (added : Added w.programs w
   alts-comes (old_alt guard what s rest og okind orest) t begins k {goal} row W u still =
       let t1 : List PDecl = r.opened t (alternative guard what s) in
       let t2 : List PDecl = after_kind r what t1 in
-      let begins2 : Begin t2 w.vars = part-begins w (alts-begin r (normal-adds (unit_of w)) rest t2) begins in
-      let begins1 : Begin t1 w.vars = part-begins w (kind-begins r (normal-adds (unit_of w)) what t1) begins2 in
+      let begins2 : Begin t2 w.vars = part-begins w (alts-begin r (normal-adds (rewritten_unit w)) rest t2) begins in
+      let begins1 : Begin t1 w.vars = part-begins w (kind-begins r (normal-adds (rewritten_unit w)) what t1) begins2 in
       alts-then guard what s rest t goal k W
       (alternative-comes s (in_front (alts_leads r rest t2) goal)
       (row-behind (alts_leads r rest t2) row) what okind t1 begins2 k (length t) og
-      (begun-subtypes w added declared s (alternative_subtypes (unit_of w) (alternative guard what s)) t begins1) W u still)
+      (begun-subtypes w added declared s (alternative_subtypes (rewritten_unit w) (alternative guard what s)) t begins1) W u still)
       (λ W1 u1 still1. alts-comes orest t2 begins (delays_with what k) row W1 u1 still1)

@@ -33,7 +33,7 @@ use Rattle.translation_law.specs.Images.{IsSomething, something_there}
 use Rattle.translation_law.specs.Controls.{task_in, Under, inside, Alike, alike, AreInside, are_inside, are_around}
 use Rattle.translation_law.specs.Floors.{IsTranslation}
 use Rattle.translation_law.proofs.Locals.{go-there}
-use Rattle.normal_law.specs.Suited.{AreMade, IsHead, Rewritten, unit_of, asked_of}
+use Rattle.normal_law.specs.Suited.{AreMade, IsHead, Rewritten, rewritten_unit, asked_of}
 use Rattle.normal_law.specs.NormalLists.{Begin, behind_stmt, Normal, normal_none, normal_lists}
 use Rattle.normal_law.specs.NormalFloors.{normal}
 use Rattle.normal_law.specs.Meetings.{none_named, AreValues, are_before}
@@ -113,13 +113,13 @@ module _ (w : Rewritten) (made : AreMade w.programs) (added : Added w.programs w
   module _ (q : PHead) (a : PMaybe) (s : Span) (hd : OldHead w.programs q) (ask : IsHead w.programs w.first w.number q) (ma : OldMaybe (asked_of w) a) (vars : List PDecl)
       (begins : Begin (behind_stmt w (SAccept (accepting q a) s) vars) w.vars) (r r' : PStmts) (im : Normal w r r') where
     abbrev t1 : List PDecl
-    t1 = statement_variables (unit_of w) vars (SAccept (accepting q a) s)
+    t1 = statement_variables (rewritten_unit w) vars (SAccept (accepting q a) s)
 
     abbrev q' : PHead
-    q' = head_left (unit_of w) s q (length vars)
+    q' = head_left (rewritten_unit w) s q (length vars)
 
     abbrev a' : PMaybe
-    a' = inside_maybe (normal_rewriter (unit_of w)) a t1
+    a' = inside_maybe (normal_rewriter (rewritten_unit w)) a t1
 
     abbrev entry : ℕ
     entry = entry_of g.numbers m q.entry.name
@@ -140,14 +140,14 @@ module _ (w : Rewritten) (made : AreMade w.programs) (added : Added w.programs w
         (maybe-image w made added declared m number i out p p' o o' V r r' ma t1 begins) normal_none) no_opens))))
         (λ f. absurd (let none : ⊥ = cc in none)) (λ k f. absurd (let none : ⊥ = cc in none))
 
-    pub accept-comes : (W : Variables) → In W → AreThere added W → Comes x (left (stmt_then (SAccept (accepting q a) s) r)) (right (in_front (image_of (normal_rewriter (unit_of w)) (SAccept (accepting q a) s) vars) r') W)
+    pub accept-comes : (W : Variables) → In W → AreThere added W → Comes x (left (stmt_then (SAccept (accepting q a) s) r)) (right (in_front (image_of (normal_rewriter (rewritten_unit w)) (SAccept (accepting q a) s) vars) r') W)
     accept-comes W u still =
-        subst (λ c. Comes x (left (stmt_then (SAccept (accepting q a) s) r)) (right c W)) (sym (in_front-joined (kept_before g s (accept_kept (unit_of w) s q) (length vars)) (one (SAccept (accepting q' a') s)) r'))
+        subst (λ c. Comes x (left (stmt_then (SAccept (accepting q a) s) r)) (right c W)) (sym (in_front-joined (kept_before g s (accept_kept (rewritten_unit w) s q) (length vars)) (one (SAccept (accepting q' a') s)) r'))
         (go (head-comes w made added declared m number i out p p' o o' V r r' s (something_there (SAccept (accepting q' a') s) r') q hd ask (length vars)
-        (begun-subtypes w added declared s (kept_subtypes (accept_kept (unit_of w) s q)) vars (part-begins w (maybe-begins (normal_rewriter (unit_of w)) (normal-adds (unit_of w)) a t1) begins)) W u still))
+        (begun-subtypes w added declared s (kept_subtypes (accept_kept (rewritten_unit w) s q)) vars (part-begins w (maybe-begins (normal_rewriter (rewritten_unit w)) (normal-adds (rewritten_unit w)) a t1) begins)) W u still))
       where
         from : Task
-        from = right (in_front (kept_before g s (accept_kept (unit_of w) s q) (length vars)) (stmt_then (SAccept (accepting q' a') s) r')) W
+        from = right (in_front (kept_before g s (accept_kept (rewritten_unit w) s q) (length vars)) (stmt_then (SAccept (accepting q' a') s) r')) W
 
         go : {later : ℕ} → MeetsIndex x laws made added m i out p p' o o' V from (stmt_then (SAccept (accepting q' a') s) r') entry q.index q'.index (length vars) later W → Comes x (left (stmt_then (SAccept (accepting q a) s) r)) from
         go (index_made z W1 res again u1 still1 reach same) = record { reached = _; reach = reach; meets = accept-met z W1 u1 res (again W1 u1 (λ j m1. refl)) }
@@ -160,37 +160,37 @@ module _ (w : Rewritten) (made : AreMade w.programs) (added : Added w.programs w
   -- ---- selective waits
 
   -- the statements behind a delay
-  delay-image : (s : Span) {what : PAltKind} → OldKind (asked_of w) what → (t : List PDecl) → Begin (after_kind (normal_rewriter (unit_of w)) what t) w.vars → (n : ℕ) (it : Bool) {l l' : PStmts} → Normal w l l' →
-      Normal w (delay_here (delay_part what) it l) (delay_here (delay_part (kind_left (unit_of w) s (inside_kind (normal_rewriter (unit_of w)) what t) n)) it l')
+  delay-image : (s : Span) {what : PAltKind} → OldKind (asked_of w) what → (t : List PDecl) → Begin (after_kind (normal_rewriter (rewritten_unit w)) what t) w.vars → (n : ℕ) (it : Bool) {l l' : PStmts} → Normal w l l' →
+      Normal w (delay_here (delay_part what) it l) (delay_here (delay_part (kind_left (rewritten_unit w) s (inside_kind (normal_rewriter (rewritten_unit w)) what t) n)) it l')
   delay-image s (old_accepts q a l hd ask ma ls) t begins n it im = im
   delay-image s (old_delays d l ls) t begins n true im = walked w ls t begins
   delay-image s (old_delays d l ls) t begins n false im = im
   delay-image s old_terminates t begins n it im = im
 
-  delays-number : (s : Span) (what : PAltKind) (t : List PDecl) (n k : ℕ) → delays_with (kind_left (unit_of w) s (inside_kind (normal_rewriter (unit_of w)) what t) n) k ≡ delays_with what k
+  delays-number : (s : Span) (what : PAltKind) (t : List PDecl) (n k : ℕ) → delays_with (kind_left (rewritten_unit w) s (inside_kind (normal_rewriter (rewritten_unit w)) what t) n) k ≡ delays_with what k
   delays-number s (AAccept (accepting q a) l) t n k = refl
   delays-number s (ADelay d l) t n k = refl
   delays-number s ATerminate t n k = refl
 
-  delays-image : {alts : PAlts} → OldAlts (asked_of w) alts → (t : List PDecl) → Begin (after_alts (normal_rewriter (unit_of w)) alts t) w.vars → (k d : ℕ) →
-      Normal w (delay_stmts alts k d) (delay_stmts (inside_alts (normal_rewriter (unit_of w)) alts t) k d)
+  delays-image : {alts : PAlts} → OldAlts (asked_of w) alts → (t : List PDecl) → Begin (after_alts (normal_rewriter (rewritten_unit w)) alts t) w.vars → (k d : ℕ) →
+      Normal w (delay_stmts alts k d) (delay_stmts (inside_alts (normal_rewriter (rewritten_unit w)) alts t) k d)
   delays-image old_no_alt t begins k d = normal_none
   delays-image (old_alt guard what s rest og okind orest) t begins k d =
-      let r = normal_rewriter (unit_of w) in
+      let r = normal_rewriter (rewritten_unit w) in
       let t1 : List PDecl = r.opened t (alternative guard what s) in
       let t2 : List PDecl = after_kind r what t1 in
       subst (λ j. Normal w (delay_here (delay_part what) (d == k + 1) (delay_stmts rest (delays_with what k) d))
-      (delay_here (delay_part (kind_left (unit_of w) s (inside_kind r what t1) (behind_guard guard (length t)))) (d == k + 1) (delay_stmts (inside_alts r rest t2) j d)))
+      (delay_here (delay_part (kind_left (rewritten_unit w) s (inside_kind r what t1) (behind_guard guard (length t)))) (d == k + 1) (delay_stmts (inside_alts r rest t2) j d)))
       (sym (delays-number s what t1 (behind_guard guard (length t)) k))
-      (delay-image s okind t1 (part-begins w (alts-begin r (normal-adds (unit_of w)) rest t2) begins) (behind_guard guard (length t)) (d == k + 1) (delays-image orest t2 begins (delays_with what k) d))
+      (delay-image s okind t1 (part-begins w (alts-begin r (normal-adds (rewritten_unit w)) rest t2) begins) (behind_guard guard (length t)) (d == k + 1) (delays-image orest t2 begins (delays_with what k) d))
 
   module _ (alts : PAlts) (oth : PMaybe) (s : Span) (oa : OldAlts (asked_of w) alts) (om : OldMaybe (asked_of w) oth) (vars : List PDecl)
       (begins : Begin (behind_stmt w (SWait alts oth s) vars) w.vars) (q q' : PStmts) (im : Normal w q q') where
     abbrev alts' : PAlts
-    alts' = inside_alts (normal_rewriter (unit_of w)) alts vars
+    alts' = inside_alts (normal_rewriter (rewritten_unit w)) alts vars
 
     abbrev oth' : PMaybe
-    oth' = inside_maybe (normal_rewriter (unit_of w)) oth (after_alts (normal_rewriter (unit_of w)) alts vars)
+    oth' = inside_maybe (normal_rewriter (rewritten_unit w)) oth (after_alts (normal_rewriter (rewritten_unit w)) alts vars)
 
     abbrev here : PStmts
     here = stmt_then (SWait alts oth s) q
@@ -198,13 +198,13 @@ module _ (w : Rewritten) (made : AreMade w.programs) (added : Added w.programs w
     abbrev there : PStmts
     there = stmt_then (SWait alts' oth' s) q'
 
-    alts-begun : Begin (after_alts (normal_rewriter (unit_of w)) alts vars) w.vars
-    alts-begun = part-begins w (maybe-begins (normal_rewriter (unit_of w)) (normal-adds (unit_of w)) oth _) begins
+    alts-begun : Begin (after_alts (normal_rewriter (rewritten_unit w)) alts vars) w.vars
+    alts-begun = part-begins w (maybe-begins (normal_rewriter (rewritten_unit w)) (normal-adds (rewritten_unit w)) oth _) begins
 
     other-image : Normal w (stmts_or_none oth) (stmts_or_none oth')
-    other-image = maybe-image w made added declared m number i out p p' o o' V here there om (after_alts (normal_rewriter (unit_of w)) alts vars) begins
+    other-image = maybe-image w made added declared m number i out p p' o o' V here there om (after_alts (normal_rewriter (rewritten_unit w)) alts vars) begins
 
-    present-same : {c : PMaybe} → OldMaybe (asked_of w) c → (t : List PDecl) → is_present (inside_maybe (normal_rewriter (unit_of w)) c t) ≡ is_present c
+    present-same : {c : PMaybe} → OldMaybe (asked_of w) c → (t : List PDecl) → is_present (inside_maybe (normal_rewriter (rewritten_unit w)) c t) ≡ is_present c
     present-same old_absent t = refl
     present-same (old_present l old) t = refl
 
@@ -212,7 +212,7 @@ module _ (w : Rewritten) (made : AreMade w.programs) (added : Added w.programs w
     wait-met : (W : Variables) → In W → (os os' : List Open) → alternatives_open (left here) alts 0 ≡ Ok os → alternatives_open (right there W) alts' 0 ≡ Ok os' → OpensAlike w os os' → Meets x (left here) (right there W)
     wait-met W u os os' e e' a =
         choices-met (SWait alts oth s) (SWait alts' oth' s) q q' im W u (choices_of (is_present oth) os) (ap (λ y. wait_stand (is_present oth) y) e)
-        (ap (λ y. wait_stand (is_present oth') y) e' ∙ ap (λ y. choices_stand (choices_of y os')) (present-same om (after_alts (normal_rewriter (unit_of w)) alts vars)) ∙ ap choices_stand (sym (choices-alike w (is_present oth) a)))
+        (ap (λ y. wait_stand (is_present oth') y) e' ∙ ap (λ y. choices_stand (choices_of y os')) (present-same om (after_alts (normal_rewriter (rewritten_unit w)) alts vars)) ∙ ap choices_stand (sym (choices-alike w (is_present oth) a)))
         (λ e1 z1. subst (λ y. MaybeOpen w y (alternative_for (right there W) e1 z1)) (sym (ap (λ y. first_accepting e1 z1 y) e))
         (subst (λ y. MaybeOpen w (find (accepts_member e1 z1) os) y) (sym (ap (λ y. first_accepting e1 z1 y) e')) (find-alike w e1 z1 a)))
         (λ f. go-there x laws m i out here there (in_front (stmts_or_none oth) q) (in_front (stmts_or_none oth') q') (laws.images.joined _ _ q q' other-image im) u)
@@ -260,7 +260,7 @@ module _ (w : Rewritten) (made : AreMade w.programs) (added : Added w.programs w
     closed-comes absent f (Some []) e W u os os' a a' pairs told = straight W u os os' a a' pairs
     closed-comes absent f (Some (d ∷ ds)) e W u os os' a a' pairs told = tested d ds (sym f) W u os os' a a' pairs (told (d ∷ ds) e)
 
-    pub wait-comes : (W : Variables) → In W → AreThere added W → Comes x (left here) (right (in_front (image_of (normal_rewriter (unit_of w)) (SWait alts oth s) vars) q') W)
+    pub wait-comes : (W : Variables) → In W → AreThere added W → Comes x (left here) (right (in_front (image_of (normal_rewriter (rewritten_unit w)) (SWait alts oth s) vars) q') W)
     wait-comes W u still =
         subst (λ c. Comes x (left here) (right c W)) (sym row)
         (go (alts-comes w made added declared m number i out p p' o o' V here there oa vars alts-begun 0 goal-row W u still))
@@ -272,15 +272,15 @@ module _ (w : Rewritten) (made : AreMade w.programs) (added : Added w.programs w
         goal-row = row-behind w made added declared m number i out p p' o o' V here there test (something_there (SWait alts' oth' s) q')
 
         leads : PStmts
-        leads = alts_leads (normal_rewriter (unit_of w)) alts vars
+        leads = alts_leads (normal_rewriter (rewritten_unit w)) alts vars
 
-        row : in_front (image_of (normal_rewriter (unit_of w)) (SWait alts oth s) vars) q' ≡ in_front leads (in_front test there)
+        row : in_front (image_of (normal_rewriter (rewritten_unit w)) (SWait alts oth s) vars) q' ≡ in_front leads (in_front test there)
         row = in_front-joined leads (in_front test (one (SWait alts' oth' s))) q' ∙ ap (in_front leads) (in_front-joined test (one (SWait alts' oth' s)) q')
 
         go : {n later : ℕ} → MeetsAlts w made added declared m number i out p p' o o' V here there (right (in_front leads (in_front test there)) W) (in_front test there) alts alts' 0 n later W →
             Comes x (left here) (right (in_front leads (in_front test there)) W)
         go (alts_made os os' W1 res again pairs told u1 still1 reach same) =
-            let c = closed-comes oth' (present-same om (after_alts (normal_rewriter (unit_of w)) alts vars)) (all_guards alts') refl W1 u1 os os' res (again W1 u1 (λ j m1. refl)) pairs (λ es e. told es e W1 (λ j m1. refl)) in
+            let c = closed-comes oth' (present-same om (after_alts (normal_rewriter (rewritten_unit w)) alts vars)) (all_guards alts') refl W1 u1 os os' res (again W1 u1 (λ j m1. refl)) pairs (λ es e. told es e W1 (λ j m1. refl)) in
             record { reached = c.reached; reach = reaches-behind reach c.reach; meets = c.meets }
         go (alts_raise e res stop) = record {
           reached = right stop.rest stop.vars;

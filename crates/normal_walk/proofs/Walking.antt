@@ -11,7 +11,7 @@ use Rattle.ada_tree.specs.PlainDecl.{PDecl, plain_decl}
 use Rattle.ada_expr_copy.specs.Parts.{OkWith}
 use Rattle.task_model.specs.Setting.{Setting}
 use Rattle.tree_walk.specs.Rules.{walk_of}
-use Rattle.normal_model.specs.Waits.{Unit}
+use Rattle.normal_model.specs.RewrittenUnit.{RewrittenUnit}
 use Rattle.normal_model.specs.NormalStmts.{normal_body, normal_rewriter, unit_variables}
 use Rattle.normal_model.specs.Walk.{after_body, inside_body}
 use Rattle.normal_meanings.specs.declared.array_members.Members.{Members}
@@ -23,7 +23,7 @@ use Rattle.normal_walk.specs.inner.Walking.{FitsUnit, normal_rule}
 use Rattle.common_lemmas.proofs.Numbers.{most_of_three}
 
 -- the walk of the rule is the rewriter of the unit
-pub rule_walks : (u : Unit) → walk_of (normal_rule u) ≡ normal_rewriter u
+pub rule_walks : (u : RewrittenUnit) → walk_of (normal_rule u) ≡ normal_rewriter u
 rule_walks u = refl
 
 -- as many variables as declarations
@@ -61,11 +61,11 @@ fits_begun g members t h = record {
 -- ---- the whole body
 
 -- a body that was gone through from no variables on is the unit's in normal form
-pub body_walked : (u : Unit) (new old its : PBody) (vars : List PDecl) → new ≡ inside_body (walk_of (normal_rule u)) old vars → old ≡ its → vars ≡ [] → new ≡ normal_body u its
+pub body_walked : (u : RewrittenUnit) (new old its : PBody) (vars : List PDecl) → new ≡ inside_body (walk_of (normal_rule u)) old vars → old ≡ its → vars ≡ [] → new ≡ normal_body u its
 body_walked u new old its vars h same none = h ∙ ap (λ b. inside_body (walk_of (normal_rule u)) b vars) same ∙ ap (inside_body (walk_of (normal_rule u)) its) none
 
 -- and the variables are the unit's
-pub variables_walked : (u : Unit) (new : List PDecl) (old its : PBody) (vars : List PDecl) → new ≡ after_body (walk_of (normal_rule u)) old vars → old ≡ its → vars ≡ [] → new ≡ unit_variables u its
+pub variables_walked : (u : RewrittenUnit) (new : List PDecl) (old its : PBody) (vars : List PDecl) → new ≡ after_body (walk_of (normal_rule u)) old vars → old ≡ its → vars ≡ [] → new ≡ unit_variables u its
 variables_walked u new old its vars h same none = h ∙ ap (λ b. after_body (walk_of (normal_rule u)) b vars) same ∙ ap (after_body (walk_of (normal_rule u)) its) none
 
 -- the body that was put together is the one that was taken apart
@@ -80,13 +80,13 @@ body_kept (Err e) (Ok k) (Ok b) list handlers its whole keeps makes = absurd kee
 body_kept (Ok d) (Ok k) (Ok b) list handlers its whole keeps makes = makes ∙ ap (λ l. body (seen l) (handlers_of (map plain_handler handlers.items))) keeps ∙ sym whole
 
 -- what became of the body, where it was kept
-pub body_done : {D M : Type 0} (u : Unit) (old its : PBody) (vars : List PDecl) (done : Result D M) (result : Result Body M) (new : PBody) → IfOk result (λ made. OkWith done (λ _. plain_body made ≡ new)) → OnOk done (new ≡ inside_body (walk_of (normal_rule u)) old vars) → old ≡ its → vars ≡ [] → IfOk result (λ made. plain_body made ≡ normal_body u its)
+pub body_done : {D M : Type 0} (u : RewrittenUnit) (old its : PBody) (vars : List PDecl) (done : Result D M) (result : Result Body M) (new : PBody) → IfOk result (λ made. OkWith done (λ _. plain_body made ≡ new)) → OnOk done (new ≡ inside_body (walk_of (normal_rule u)) old vars) → old ≡ its → vars ≡ [] → IfOk result (λ made. plain_body made ≡ normal_body u its)
 body_done u old its vars done (Err e) new keeps h same none = keeps
 body_done u old its vars (Err e) (Ok b) new keeps h same none = absurd keeps
 body_done u old its vars (Ok d) (Ok b) new keeps h same none = keeps ∙ body_walked u new old its vars h same none
 
 -- the variables then
-pub variables_done : {D M : Type 0} (u : Unit) (behind : List PDecl) (old its : PBody) (vars : List PDecl) (done : Result D M) (result : Result Body M) (new : PBody) → IfOk result (λ made. OkWith done (λ _. plain_body made ≡ new)) → OnOk done (behind ≡ after_body (walk_of (normal_rule u)) old vars) → old ≡ its → vars ≡ [] → OnOk result (behind ≡ unit_variables u its)
+pub variables_done : {D M : Type 0} (u : RewrittenUnit) (behind : List PDecl) (old its : PBody) (vars : List PDecl) (done : Result D M) (result : Result Body M) (new : PBody) → IfOk result (λ made. OkWith done (λ _. plain_body made ≡ new)) → OnOk done (behind ≡ after_body (walk_of (normal_rule u)) old vars) → old ≡ its → vars ≡ [] → OnOk result (behind ≡ unit_variables u its)
 variables_done u behind old its vars done (Err e) new keeps h same none = keeps
 variables_done u behind old its vars (Err e) (Ok b) new keeps h same none = absurd keeps
 variables_done u behind old its vars (Ok d) (Ok b) new keeps h same none = variables_walked u behind old its vars h same none

@@ -3,7 +3,7 @@
 ghost use Rattle.std.specs.Prelude.{◌≡◌, ◌++◌, length, map, option_map, take, IfNone, IfOk, OnOk, OnErr};
 ghost use Rattle.ada_tree.specs.PlainExpr.{plain_expr};
 ghost use Rattle.ada_tree.specs.PlainStmt.{plain_part};
-ghost use Rattle.ada_value.specs.Texts.{expr_text, part_text, parts_text};
+ghost use Rattle.ada_value.specs.Texts.{expr_output, part_output, parts_output};
 ghost use Rattle.put_text.specs.Written.{image_part, exception_of, text_or_none, written_with};
 
 use crate::images::{add, add_image, add_integer};
@@ -41,8 +41,8 @@ fn put_expr<N: NameValues>(
     e: &Expr,
     output: &mut Vec<u8>,
 ) -> Result<Option<Raised>, Memory>
-    ensures raised { IfOk result (λ raised. raised ≡ exception_of (expr_text names.now (N.table scope.now) (N.vars scope.now) (plain_expr e.now))) }
-    ensures ok { OnOk result (output.new.items ≡ output.old.items ++ text_or_none (expr_text names.now (N.table scope.now) (N.vars scope.now) (plain_expr e.now))) }
+    ensures raised { IfOk result (λ raised. raised ≡ exception_of (expr_output names.now (N.table scope.now) (N.vars scope.now) (plain_expr e.now))) }
+    ensures ok { OnOk result (output.new.items ≡ output.old.items ++ text_or_none (expr_output names.now (N.table scope.now) (N.vars scope.now) (plain_expr e.now))) }
     ensures err { OnErr result (output.new.items ≡ output.old.items) }
 {
     match image_part(e) {
@@ -70,8 +70,8 @@ fn put_part<N: NameValues>(
     part: &Part,
     output: &mut Vec<u8>,
 ) -> Result<Option<Raised>, Memory>
-    ensures raised { IfOk result (λ raised. raised ≡ exception_of (part_text names.now (N.table scope.now) (N.vars scope.now) (plain_part part.now))) }
-    ensures ok { OnOk result (output.new.items ≡ output.old.items ++ text_or_none (part_text names.now (N.table scope.now) (N.vars scope.now) (plain_part part.now))) }
+    ensures raised { IfOk result (λ raised. raised ≡ exception_of (part_output names.now (N.table scope.now) (N.vars scope.now) (plain_part part.now))) }
+    ensures ok { OnOk result (output.new.items ≡ output.old.items ++ text_or_none (part_output names.now (N.table scope.now) (N.vars scope.now) (plain_part part.now))) }
     ensures err { OnErr result (output.new.items ≡ output.old.items) }
 {
     match part {
@@ -90,8 +90,8 @@ fn put_all<N: NameValues>(
     parts: &[Part],
     output: &mut Vec<u8>,
 ) -> Result<Option<Raised>, Memory>
-    ensures raised { IfOk result (λ raised. raised ≡ exception_of (parts_text names.now (N.table scope.now) (N.vars scope.now) (map plain_part parts.now))) }
-    ensures ok { IfOk result (λ raised. IfNone raised (output.new.items ≡ output.old.items ++ text_or_none (parts_text names.now (N.table scope.now) (N.vars scope.now) (map plain_part parts.now)))) }
+    ensures raised { IfOk result (λ raised. raised ≡ exception_of (parts_output names.now (N.table scope.now) (N.vars scope.now) (map plain_part parts.now))) }
+    ensures ok { IfOk result (λ raised. IfNone raised (output.new.items ≡ output.old.items ++ text_or_none (parts_output names.now (N.table scope.now) (N.vars scope.now) (map plain_part parts.now)))) }
     ensures grows { take (length output.old.items) output.new.items ≡ output.old.items }
 {
     for part in parts {
@@ -113,8 +113,8 @@ pub fn put_parts<N: NameValues>(
     closing: &[u8],
     output: &mut Vec<u8>,
 ) -> Result<Option<Raised>, Memory>
-    ensures raised { IfOk result (λ raised. raised ≡ exception_of (parts_text names.now (N.table scope.now) (N.vars scope.now) (map plain_part parts.now))) }
-    ensures ok { OnOk result (output.new.items ≡ output.old.items ++ written_with closing.now (parts_text names.now (N.table scope.now) (N.vars scope.now) (map plain_part parts.now))) }
+    ensures raised { IfOk result (λ raised. raised ≡ exception_of (parts_output names.now (N.table scope.now) (N.vars scope.now) (map plain_part parts.now))) }
+    ensures ok { OnOk result (output.new.items ≡ output.old.items ++ written_with closing.now (parts_output names.now (N.table scope.now) (N.vars scope.now) (map plain_part parts.now))) }
     ensures err { OnErr result (output.new.items ≡ output.old.items) }
 {
     let start = output.len();

@@ -190,7 +190,7 @@ module _ (n m : List (List ℕ)) where
   called_alike level c d one two = behind (indent level) (beside (call_alike c d one) two)
 
   mutual
-    stmt_alike : (level : ℕ) (x y : PStmt) → SameStmt n m x y → stmt.form_text n level x ≡ stmt.form_text m level y
+    stmt_alike : (level : ℕ) (x y : PStmt) → SameStmt n m x y → stmt.stmt_form_text n level x ≡ stmt.stmt_form_text m level y
     stmt_alike level (SNull s) (SNull t) same = refl
     stmt_alike level (SAssign x e s) (SAssign y f t) same = beside (target_alike x y same.0) (behind (codes " := ") (before (codes ";\n") (expr_alike e f same.1)))
     stmt_alike level (SDelay a s) (SDelay b t) same = ap stmt.delay_text same
@@ -400,7 +400,7 @@ module _ (n m : List (List ℕ)) where
   unit_alike level b c v u one two = behind (indent level) (beside (body_alike level b c one) (task_end_alike level v u two))
 
   mutual
-    decl_alike : (level : ℕ) (x y : PDecl) → SameDecl n m x y → decl.form_text n level x ≡ decl.form_text m level y
+    decl_alike : (level : ℕ) (x y : PDecl) → SameDecl n m x y → decl.decl_form_text n level x ≡ decl.decl_form_text m level y
     decl_alike level (DNumber v e s) (DNumber u f t) same = beside (word_alike v u same.0) (behind (codes " : constant := ") (before (codes ";\n") (expr_alike e f same.1)))
     decl_alike level (DObject vs c x i s) (DObject us d y j t) same =
         beside (words_alike vs us same.0) (behind (codes " : ") (beside (ap decl.constant_text same.1) (beside (shape_alike x y same.2) (before (codes ";\n") (value_alike i j same.3)))))

@@ -15,7 +15,7 @@ use Rattle.ada_stmt_parser.specs.Statements.{Call, IsStmt, AnyStmts, Stmts, Else
 use Rattle.ded_io.specs.Written.{◌⧺◌}
 use Rattle.ada_printer.specs.Layout.{deeper, indent, separated, word_text}
 use Rattle.ada_printer.specs.ExprText.{expr_text}
-use Rattle.ada_printer.specs.StmtText.{delay_text, call_text, head_text, choice_text, caught_text, label_text, scheme_text, form_text, stmts_text, else_text, others_text, accept_text, alt_kind_text, alt_text, alts_text, more_alts_text, arm_text, arms_text, more_arms_text, case_arm_text, case_arms_text, body_text, exception_text, handler_text, handlers_text}
+use Rattle.ada_printer.specs.StmtText.{delay_text, call_text, head_text, choice_text, caught_text, label_text, scheme_text, stmt_form_text, stmts_text, else_text, others_text, accept_text, alt_kind_text, alt_text, alts_text, more_alts_text, arm_text, arms_text, more_arms_text, case_arm_text, case_arms_text, body_text, exception_text, handler_text, handlers_text}
 use Rattle.read_back.proofs.Classes.{Anything, Plain}
 use Rattle.read_back.proofs.Told.{Setting, names_of, source_of, Told, Blank, Line, Sign, Filled, told_as, told_same, told_any, told_then, told_indent, told_bits, told_last, told_closed, told_placed, filled_key, filled_then}
 use Rattle.read_back.proofs.Words.{IsOldName, new_word, told_word}
@@ -82,7 +82,7 @@ module _ (w : Setting) (n : List (List ℕ)) where
       let p = told_placed w (filled_then (filled_then filled_key)) (told_any w told) in
       (accepting (new_head w n at h y.0 y.1 p.0) (present inside.0), told_same w p.1 (λ same. (same.0, same.1.0)))
 
-  pub accept_stmt_from : (d level : ℕ) (a : PAccept) (s : Span) (at : ℕ) → Found w n (SameAccept n m a) Anything Anything (IsAccept src d) at (accept_text n level a) → Found w n (SameStmt n m (SAccept a s)) Anything Anything (IsStmt src d) at (form_text n level (SAccept a s))
+  pub accept_stmt_from : (d level : ℕ) (a : PAccept) (s : Span) (at : ℕ) → Found w n (SameAccept n m a) Anything Anything (IsAccept src d) at (accept_text n level a) → Found w n (SameStmt n m (SAccept a s)) Anything Anything (IsStmt src d) at (stmt_form_text n level (SAccept a s))
   accept_stmt_from d level a s at inside =
       let p = told_placed w (filled_accept src d inside.0) inside.1 in (SAccept inside.0 p.0, p.1)
 
@@ -123,7 +123,7 @@ module _ (w : Setting) (n : List (List ℕ)) where
       (alt_then one.0 more.0, told_as w (told_then w (told_indent w level (told_bits w (Sign key.Or ∷ Line ∷ []) one.1 refl)) more.1 refl) (λ items said same. (ungroup said, same)))
 
   pub wait_from : (d level : ℕ) (x : PAlts) (o : PMaybe) (s : Span) (at : ℕ) → Found w n (SameAlts n m x) Anything Anything (IsAlts src d) (at + 7) (alts_text n level x) →
-      Found w n (SameMaybe n m o) Anything Anything (ElsePart src d) ((at + 7) + length (alts_text n level x)) (else_text n level o) → Found w n (SameStmt n m (SWait x o s)) Anything Anything (IsStmt src (suc d)) at (form_text n level (SWait x o s))
+      Found w n (SameMaybe n m o) Anything Anything (ElsePart src d) ((at + 7) + length (alts_text n level x)) (else_text n level o) → Found w n (SameStmt n m (SWait x o s)) Anything Anything (IsStmt src (suc d)) at (stmt_form_text n level (SWait x o s))
   wait_from d level x o s at one other =
       let told = told_bits w (Sign key.Select ∷ Line ∷ []) (told_then w one.1 (told_then w other.1 (told_indent w level (told_last w (Sign key.End ∷ Blank ∷ Sign key.Select ∷ Sign key.Semicolon ∷ Line ∷ []) refl)) refl) refl) refl in
       let p = told_placed w (filled_then filled_key) (told_any w (told_as w told (λ items said same. (under_first (λ more q. group q) said, (same.0, same.1.0))))) in
@@ -140,7 +140,7 @@ module _ (w : Setting) (n : List (List ℕ)) where
   pub conditional_from : (k d level : ℕ) (c : PCall) (b o : PStmts) (s : Span) (at : ℕ) → 300 ≤ k + d → EveryCall (well_placed n) (k + 1) c →
       Found w n (SameStmts n m b) Anything Anything (AnyStmts src d) (((at + 7) + length (indent (deeper level))) + length (call_text n c)) (stmts_text n (deeper level) b) →
       Found w n (SameStmts n m o) Anything Anything (Stmts src d) ((((at + 7) + length (indent (deeper level) ⧺ (call_text n c ⧺ stmts_text n (deeper level) b))) + length (indent level)) + 5) (stmts_text n (deeper level) o) →
-      Found w n (SameStmt n m (SConditional c b o s)) Anything Anything (IsStmt src (suc d)) at (form_text n level (SConditional c b o s))
+      Found w n (SameStmt n m (SConditional c b o s)) Anything Anything (IsStmt src (suc d)) at (stmt_form_text n level (SConditional c b o s))
   conditional_from k d level c b o s at deep good one other =
       let f = called_from k d (deeper level) c b (at + 7) deep good one.0 one.1 in
       let told = told_bits w (Sign key.Select ∷ Line ∷ []) (told_then w f.1 (told_then w (told_indent w level (told_bits w (Sign key.Else ∷ Line ∷ []) other.1 refl)) (told_indent w level (told_last w (Sign key.End ∷ Blank ∷ Sign key.Select ∷ Sign key.Semicolon ∷ Line ∷ []) refl)) refl) refl) refl in
@@ -150,7 +150,7 @@ module _ (w : Setting) (n : List (List ℕ)) where
   pub timed_from : (k d level : ℕ) (c : PCall) (b : PStmts) (t : ℕ) (o : PStmts) (s : Span) (at : ℕ) → 300 ≤ k + d → EveryCall (well_placed n) (k + 1) c → IsDuration t →
       Found w n (SameStmts n m b) Anything Anything (AnyStmts src d) (((at + 7) + length (indent (deeper level))) + length (call_text n c)) (stmts_text n (deeper level) b) →
       Found w n (SameStmts n m o) Anything Anything (AnyStmts src d) ((((((at + 7) + length (indent (deeper level) ⧺ (call_text n c ⧺ stmts_text n (deeper level) b))) + length (indent level)) + 3) + length (indent (deeper level))) + length (delay_text t)) (stmts_text n (deeper level) o) →
-      Found w n (SameStmt n m (STimed c b t o s)) Anything Anything (IsStmt src (suc d)) at (form_text n level (STimed c b t o s))
+      Found w n (SameStmt n m (STimed c b t o s)) Anything Anything (IsStmt src (suc d)) at (stmt_form_text n level (STimed c b t o s))
   timed_from k d level c b t o s at deep good fine one other =
       let f = called_from k d (deeper level) c b (at + 7) deep good one.0 one.1 in
       let late = told_indent w (deeper level) (told_then w (read_delay w n t _ fine) other.1 refl) in
@@ -177,7 +177,7 @@ module _ (w : Setting) (n : List (List ℕ)) where
       (arm_then one.0 more.0, told_as w (told_then w (told_indent w level (told_bits w (Sign key.Elsif ∷ Blank ∷ []) one.1 refl)) more.1 refl) (λ items said same. (ungroup said, same)))
 
   pub if_from : (d level : ℕ) (x : PArms) (o : PMaybe) (s : Span) (at : ℕ) → Found w n (SameArms n m x) Anything Anything (λ y. Key key.If ▷ IsArms src d y) at (arms_text n level x) →
-      Found w n (SameMaybe n m o) Anything Anything (ElsePart src d) (at + length (arms_text n level x)) (else_text n level o) → Found w n (SameStmt n m (SIf x o s)) Anything Anything (IsStmt src (suc d)) at (form_text n level (SIf x o s))
+      Found w n (SameMaybe n m o) Anything Anything (ElsePart src d) (at + length (arms_text n level x)) (else_text n level o) → Found w n (SameStmt n m (SIf x o s)) Anything Anything (IsStmt src (suc d)) at (stmt_form_text n level (SIf x o s))
   if_from d level x o s at arms other =
       let told = told_then w arms.1 (told_then w other.1 (told_indent w level (told_last w (Sign key.End ∷ Blank ∷ Sign key.If ∷ Sign key.Semicolon ∷ Line ∷ []) refl)) refl) refl in
       let p = told_placed w (filled_then filled_key) (told_as w told (λ items said same. (under_first (λ more q. group q) (ungroup said), (same.0, same.1.0)))) in
@@ -196,7 +196,7 @@ module _ (w : Setting) (n : List (List ℕ)) where
   pub case_from : (k d level : ℕ) (e : PExpr) (x : PCaseArms) (o : PMaybe) (s : Span) (at : ℕ) → 300 ≤ k + d → EveryExpr (well_placed n) k e →
       Found w n (SameCaseArms n m x) Anything Anything (IsCaseArms src d) (((at + 5) + length (expr_text n e)) + 4) (case_arms_text n (deeper level) x) →
       Found w n (SameMaybe n m o) Anything Anything (OthersPart src d) ((((at + 5) + length (expr_text n e)) + 4) + length (case_arms_text n (deeper level) x)) (others_text n (deeper level) o) →
-      Found w n (SameStmt n m (SCase e x o s)) Anything Anything (IsStmt src (suc d)) at (form_text n level (SCase e x o s))
+      Found w n (SameStmt n m (SCase e x o s)) Anything Anything (IsStmt src (suc d)) at (stmt_form_text n level (SCase e x o s))
   case_from k d level e x o s at deep good arms other =
       let f = is_expression w n k d e (at + 5) deep good in
       let told = told_bits w (Sign key.Case ∷ Blank ∷ []) (told_then w f.1 (told_bits w (Blank ∷ Sign key.Is ∷ Line ∷ []) (told_then w arms.1 (told_then w other.1 (told_indent w level (told_last w (Sign key.End ∷ Blank ∷ Sign key.Case ∷ Sign key.Semicolon ∷ Line ∷ []) refl)) refl) refl) refl) refl) refl in
@@ -229,13 +229,13 @@ module _ (w : Setting) (n : List (List ℕ)) where
   filled_body : (d : ℕ) (b : PBody) → Filled (IsBody src d b)
   filled_body d (body l hs) said = filled_then filled_key said.1
 
-  pub block_from : (d level : ℕ) (b : PBody) (s : Span) (at : ℕ) → Found w n (SameBody n m b) Plain Anything (IsBody src d) at (body_text n level b) → Found w n (SameStmt n m (SBlock b s)) Anything Anything (IsStmt src (suc d)) at (form_text n level (SBlock b s))
+  pub block_from : (d level : ℕ) (b : PBody) (s : Span) (at : ℕ) → Found w n (SameBody n m b) Plain Anything (IsBody src d) at (body_text n level b) → Found w n (SameStmt n m (SBlock b s)) Anything Anything (IsStmt src (suc d)) at (stmt_form_text n level (SBlock b s))
   block_from d level b s at inside =
       let p = told_placed w (filled_then (filled_body d inside.0)) (told_any w (told_then w inside.1 (told_indent w level (told_last w (Sign key.End ∷ Sign key.Semicolon ∷ Line ∷ []) refl)) refl)) in
       (SBlock inside.0 p.0, told_same w p.1 (λ same. same.0))
 
   pub loop_from : (k d level : ℕ) (v : Option Word) (c : Option PScheme) (l : PStmts) (s : Span) (at : ℕ) → 300 ≤ k + d → IfSome v (EveryWord (well_placed n)) → IfSome c (EveryScheme (well_placed n) k) →
-      Found w n (SameStmts n m l) Anything Anything (Stmts src d) (((at + length (label_text n v)) + length (scheme_text n c)) + 5) (stmts_text n (deeper level) l) → Found w n (SameStmt n m (SLoop v c l s)) Anything Anything (IsStmt src (suc d)) at (form_text n level (SLoop v c l s))
+      Found w n (SameStmts n m l) Anything Anything (Stmts src d) (((at + length (label_text n v)) + length (scheme_text n c)) + 5) (stmts_text n (deeper level) l) → Found w n (SameStmt n m (SLoop v c l s)) Anything Anything (IsStmt src (suc d)) at (stmt_form_text n level (SLoop v c l s))
   loop_from k d level v c l s at deep good fine inside =
       let u = read_label w n v at good in
       let y = read_scheme w n k d c (at + length (label_text n v)) deep fine in

@@ -16,7 +16,7 @@ use Rattle.ada_parser.specs.Declarations.{ArrayOf, IsShape, IsList, IsInit, Unit
 use Rattle.ded_io.specs.Written.{◌⧺◌}
 use Rattle.ada_printer.specs.Layout.{deeper, indent, word_text, words_text}
 use Rattle.ada_printer.specs.ExprText.{drange_text, array_text}
-use Rattle.ada_printer.specs.DeclText.{shape_text, init_text, value_text, unit_text, form_text, decls_text}
+use Rattle.ada_printer.specs.DeclText.{shape_text, init_text, value_text, unit_text, decl_form_text, decls_text}
 use Rattle.read_back.proofs.Classes.{Anything, Plain, Stop}
 use Rattle.read_back.proofs.Told.{Setting, names_of, source_of, Told, Blank, Line, Sign, Fixed, Filled, told_as, told_same, told_any, told_nothing, told_then, told_text, told_indent, told_bits, told_closed, told_placed, filled_key, filled_then, filled_named}
 use Rattle.read_back.proofs.Words.{new_word, told_word}
@@ -120,14 +120,14 @@ module _ (w : Setting) (n : List (List ℕ)) where
 
   -- ---- declarations
 
-  number_from : (d level : ℕ) (v : Word) (e : PExpr) (s : Span) (at : ℕ) → 300 ≤ 2 + d → EveryWord (well_placed n) v → EveryExpr (well_placed n) 2 e → Found w n (SameDecl n m (DNumber v e s)) Anything Anything (IsDecl src d) at (form_text n level (DNumber v e s))
+  number_from : (d level : ℕ) (v : Word) (e : PExpr) (s : Span) (at : ℕ) → 300 ≤ 2 + d → EveryWord (well_placed n) v → EveryExpr (well_placed n) 2 e → Found w n (SameDecl n m (DNumber v e s)) Anything Anything (IsDecl src d) at (decl_form_text n level (DNumber v e s))
   number_from d level v e s at deep good fine =
       let y = is_expression w n 2 d e ((at + length (word_text n v)) + 15) deep fine in
       let p = told_placed w (filled_then filled_named) (told_any w (told_then w (told_word w n v good) (told_bits w (Blank ∷ Sign key.Colon ∷ Blank ∷ Sign key.Constant ∷ Blank ∷ Sign key.Becomes ∷ Blank ∷ []) (told_closed w (Sign key.Semicolon ∷ Line ∷ []) y.1 refl refl) refl) refl)) in
       (DNumber (new_word w n at v) y.0 p.0, p.1)
 
   object_from : (d level : ℕ) (ws : List Word) (c : Bool) (x : PShape) (i : Option PInit) (s : Span) (at : ℕ) → 300 ≤ 2 + d → EveryNames (well_placed n) ws → EveryShape (well_placed n) x → IsGiven c i → IfSome i (EveryInit (well_placed n)) →
-      Found w n (SameDecl n m (DObject ws c x i s)) Anything Anything (IsDecl src d) at (form_text n level (DObject ws c x i s))
+      Found w n (SameDecl n m (DObject ws c x i s)) Anything Anything (IsDecl src d) at (decl_form_text n level (DObject ws c x i s))
   object_from d level ws true x None s at deep good fine given init = absurd given
   object_from d level ws true x (Some i) s at deep good fine given init =
       let names = read_names w n ws at good in
@@ -147,44 +147,44 @@ module _ (w : Setting) (n : List (List ℕ)) where
       let p = told_placed w (filled_behind (filled_then filled_key)) (told_any w (told_as w told (λ items said same. (under_first (λ m1. under_first (λ m2 q. group q)) said, (same.0, refl, same.1.0, same.1.1))))) in
       (DObject names.0 false shape.0 value.0 p.0, p.1)
 
-  enumeration_from : (d level : ℕ) (v : Word) (ws : List Word) (s : Span) (at : ℕ) → EveryWord (well_placed n) v → EveryNames (well_placed n) ws → Found w n (SameDecl n m (DEnumeration v ws s)) Anything Anything (IsDecl src d) at (form_text n level (DEnumeration v ws s))
+  enumeration_from : (d level : ℕ) (v : Word) (ws : List Word) (s : Span) (at : ℕ) → EveryWord (well_placed n) v → EveryNames (well_placed n) ws → Found w n (SameDecl n m (DEnumeration v ws s)) Anything Anything (IsDecl src d) at (decl_form_text n level (DEnumeration v ws s))
   enumeration_from d level v ws s at good fine =
       let names = read_names w n ws (((at + 5) + length (word_text n v)) + 5) fine in
       let p = told_placed w (filled_then filled_key) (told_any w (told_bits w (Sign key.Type ∷ Blank ∷ []) (told_then w (told_word w n v good) (told_bits w (Blank ∷ Sign key.Is ∷ Blank ∷ Sign key.LeftParen ∷ []) (told_closed w (Sign key.RightParen ∷ Sign key.Semicolon ∷ Line ∷ []) names.1 refl refl) refl) refl) refl)) in
       (DEnumeration (new_word w n (at + 5) v) names.0 p.0, p.1)
 
-  array_from : (d level : ℕ) (v : Word) (r : PDrange) (x : PSubind) (s : Span) (at : ℕ) → 300 ≤ 2 + d → EveryWord (well_placed n) v → EveryDrange (well_placed n) 2 r → EverySubind (well_placed n) 2 x → Found w n (SameDecl n m (DArray v r x s)) Anything Anything (IsDecl src d) at (form_text n level (DArray v r x s))
+  array_from : (d level : ℕ) (v : Word) (r : PDrange) (x : PSubind) (s : Span) (at : ℕ) → 300 ≤ 2 + d → EveryWord (well_placed n) v → EveryDrange (well_placed n) 2 r → EverySubind (well_placed n) 2 x → Found w n (SameDecl n m (DArray v r x s)) Anything Anything (IsDecl src d) at (decl_form_text n level (DArray v r x s))
   array_from d level v r x s at deep good fine well =
       let y = read_array d r x (((at + 5) + length (word_text n v)) + 4) deep fine well in
       let p = told_placed w (filled_then filled_key) (told_any w (told_bits w (Sign key.Type ∷ Blank ∷ []) (told_then w (told_word w n v good) (told_bits w (Blank ∷ Sign key.Is ∷ Blank ∷ []) (told_closed w (Sign key.Semicolon ∷ Line ∷ []) y.2 refl refl) refl) refl) refl)) in
       (DArray (new_word w n (at + 5) v) y.0 y.1 p.0, told_same w p.1 (λ same. (same.0, same.1.0, same.1.1)))
 
-  subtype_from : (d level : ℕ) (v : Word) (x : PSubind) (s : Span) (at : ℕ) → 300 ≤ 2 + d → EveryWord (well_placed n) v → EverySubind (well_placed n) 2 x → Found w n (SameDecl n m (DSubtype v x s)) Anything Anything (IsDecl src d) at (form_text n level (DSubtype v x s))
+  subtype_from : (d level : ℕ) (v : Word) (x : PSubind) (s : Span) (at : ℕ) → 300 ≤ 2 + d → EveryWord (well_placed n) v → EverySubind (well_placed n) 2 x → Found w n (SameDecl n m (DSubtype v x s)) Anything Anything (IsDecl src d) at (decl_form_text n level (DSubtype v x s))
   subtype_from d level v x s at deep good fine =
       let y = read_subind w n 2 d x (((at + 8) + length (word_text n v)) + 4) deep fine in
       let p = told_placed w (filled_then filled_key) (told_any w (told_bits w (Sign key.Subtype ∷ Blank ∷ []) (told_then w (told_word w n v good) (told_bits w (Blank ∷ Sign key.Is ∷ Blank ∷ []) (told_closed w (Sign key.Semicolon ∷ Line ∷ []) y.1 refl refl) refl) refl) refl)) in
       (DSubtype (new_word w n (at + 8) v) y.0 p.0, p.1)
 
-  exception_decl_from : (d level : ℕ) (ws : List Word) (s : Span) (at : ℕ) → EveryNames (well_placed n) ws → Found w n (SameDecl n m (DException ws s)) Anything Anything (IsDecl src d) at (form_text n level (DException ws s))
+  exception_decl_from : (d level : ℕ) (ws : List Word) (s : Span) (at : ℕ) → EveryNames (well_placed n) ws → Found w n (SameDecl n m (DException ws s)) Anything Anything (IsDecl src d) at (decl_form_text n level (DException ws s))
   exception_decl_from d level ws s at good =
       let names = read_names w n ws at good in
       let p = told_placed w (filled_behind (filled_then filled_key)) (told_any w (told_closed w (Blank ∷ Sign key.Colon ∷ Blank ∷ Sign key.Exception ∷ Sign key.Semicolon ∷ Line ∷ []) names.1 refl refl)) in
       (DException names.0 p.0, p.1)
 
-  instance_from : (d level : ℕ) (v : Word) (s : Span) (at : ℕ) → EveryWord (well_placed n) v → Found w n (SameDecl n m (DIntIo v s)) Anything Anything (IsDecl src d) at (form_text n level (DIntIo v s))
+  instance_from : (d level : ℕ) (v : Word) (s : Span) (at : ℕ) → EveryWord (well_placed n) v → Found w n (SameDecl n m (DIntIo v s)) Anything Anything (IsDecl src d) at (decl_form_text n level (DIntIo v s))
   instance_from d level v s at good =
       let use_again = told_indent w level (told_bits w (Sign key.Use ∷ Blank ∷ []) (told_closed w (Sign key.Semicolon ∷ Line ∷ []) (told_word w n v good) refl refl) refl) in
       let told = told_bits w (Sign key.Package ∷ Blank ∷ []) (told_then w (told_word w n v good) (told_bits w (Blank ∷ Sign key.Is ∷ Blank ∷ Sign key.New ∷ Blank ∷ Fixed (codes "INTEGER_IO") ∷ Sign key.LeftParen ∷ Fixed (codes "INTEGER") ∷ Sign key.RightParen ∷ Sign key.Semicolon ∷ Line ∷ []) use_again refl) refl) refl in
       let p = told_placed w (filled_then filled_key) (told_any w (told_as w told (λ items said same. (under_first (λ m1. under_first (λ m2. under_first (λ m3. under_first (λ m4 q. ([], m4, refl, inl refl, under_first (λ m5. under_first (λ m6. under_first (λ m7. under_first (λ m8. under_first (λ m9. under_first (λ m10. over_first (λ front named. (_, named)))))))) q))))) said, same.0)))) in
       (DIntIo (new_word w n (at + 8) v) p.0, p.1)
 
-  pragma_from : (d level : ℕ) (e : PExpr) (s : Span) (at : ℕ) → 300 ≤ 2 + d → EveryExpr (well_placed n) 2 e → Found w n (SameDecl n m (DPragma e s)) Anything Anything (IsDecl src d) at (form_text n level (DPragma e s))
+  pragma_from : (d level : ℕ) (e : PExpr) (s : Span) (at : ℕ) → 300 ≤ 2 + d → EveryExpr (well_placed n) 2 e → Found w n (SameDecl n m (DPragma e s)) Anything Anything (IsDecl src d) at (decl_form_text n level (DPragma e s))
   pragma_from d level e s at deep good =
       let y = read_pragma w n d e at deep good in
       let p = told_placed w (filled_then filled_key) (told_any w y.1) in
       (DPragma y.0 p.0, p.1)
 
-  task_from : (d level : ℕ) (x : PTask) (s : Span) (at : ℕ) → 300 ≤ 2 + d → EveryTask (well_placed n) x → Found w n (SameDecl n m (DTask x s)) Anything Anything (IsDecl src d) at (form_text n level (DTask x s))
+  task_from : (d level : ℕ) (x : PTask) (s : Span) (at : ℕ) → 300 ≤ 2 + d → EveryTask (well_placed n) x → Found w n (SameDecl n m (DTask x s)) Anything Anything (IsDecl src d) at (decl_form_text n level (DTask x s))
   task_from d level x s at deep good =
       let y = read_task w n d level x at deep good in
       let p = told_placed w (filled_task w n d y.0) (told_any w y.1) in
@@ -197,7 +197,7 @@ module _ (w : Setting) (n : List (List ℕ)) where
       (c.0, told_same w (told_indent w level (told_then w c.1 (told_indent w level (read_end w n v _ from fine)) refl)) (λ same. same.0))
 
   task_body_from : (d level : ℕ) (v : Word) (ds : PDecls) (b : PBody) (s : Span) (at : ℕ) → 300 ≤ 2 + d → EveryWord (well_placed n) v → AreObjects ds → EveryBody (well_placed n) 1 b →
-      Found w n (SameDecls n m ds) Anything Anything (Decls src d) (((at + 10) + length (word_text n v)) + 4) (decls_text n (deeper level) ds) → Found w n (SameDecl n m (DTaskBody v ds b s)) Anything Anything (IsDecl src d) at (form_text n level (DTaskBody v ds b s))
+      Found w n (SameDecls n m ds) Anything Anything (Decls src d) (((at + 10) + length (word_text n v)) + 4) (decls_text n (deeper level) ds) → Found w n (SameDecl n m (DTaskBody v ds b s)) Anything Anything (IsDecl src d) at (decl_form_text n level (DTaskBody v ds b s))
   task_body_from d level v ds b s at deep good are fine inside =
       let end = read_unit_end (suc d) level b v (at + 10) ((((at + 10) + length (word_text n v)) + 4) + length (decls_text n (deeper level) ds)) (omega (arith, deep)) fine good in
       let within = told_as w inside.1 (λ items said same. ((objects_same n m ds inside.0 same are, said), same)) in
@@ -206,7 +206,7 @@ module _ (w : Setting) (n : List (List ℕ)) where
       (DTaskBody (new_word w n (at + 10) v) inside.0 end.0 p.0, told_same w p.1 (λ same. (same.0, same.1.0, same.1.1)))
 
   mutual
-    read_decl : (d level : ℕ) (x : PDecl) (at : ℕ) → 300 ≤ 2 + d → EveryDecl (well_placed n) x → Found w n (SameDecl n m x) Anything Anything (IsDecl src d) at (form_text n level x)
+    read_decl : (d level : ℕ) (x : PDecl) (at : ℕ) → 300 ≤ 2 + d → EveryDecl (well_placed n) x → Found w n (SameDecl n m x) Anything Anything (IsDecl src d) at (decl_form_text n level x)
     read_decl d level (DNumber v e s) at deep every = number_from d level v e s at deep every.1 every.2
     read_decl d level (DObject ws c x i s) at deep every = object_from d level ws c x i s at deep every.1 every.2 every.3 every.4
     read_decl d level (DEnumeration v ws s) at deep every = enumeration_from d level v ws s at every.1 every.2
@@ -222,5 +222,5 @@ module _ (w : Setting) (n : List (List ℕ)) where
     read_decls d level no_decl at deep every = (no_decl, told_nothing w)
     read_decls d level (decl_then x l) at deep every =
         let one = read_decl d level x (at + length (indent level)) deep every.0 in
-        let more = read_decls d level l (at + length (indent level ⧺ form_text n level x)) deep every.1 in
+        let more = read_decls d level l (at + length (indent level ⧺ decl_form_text n level x)) deep every.1 in
         (decl_then one.0 more.0, told_then w (told_indent w level one.1) more.1 refl)

@@ -10,7 +10,7 @@ use Rattle.ada_lexer.specs.declared.symbols.Symbol.{Symbol}
 use Rattle.ada_lexer.specs.declared.kinds.TokenKind.TheVariants.{Name}
 use Rattle.ada_lexer.specs.declared.kinds.TokenKind.TheVariants as kinds
 use Rattle.ada_lexer.specs.declared.verdicts.Verdict.TheVariants.{Kind}
-use Rattle.ada_lexer.specs.Bytes.{is_letter, is_letter_or_digit, is_white, lower}
+use Rattle.ada_lexer.specs.Bytes.{is_letter, is_letter_or_digit, is_white, in_lower_case}
 use Rattle.common_lemmas.specs.Following.{begins, every}
 use Rattle.ada_lexer.specs.Words.{same_text, symbol_in, two_letters, three_letters, four_letters, five_letters, six_letters, seven_letters, eight_letters, nine_letters, reserved_words, reserved_symbol}
 use Rattle.ada_lexer.specs.Pieces.{word_goes_on}
@@ -54,7 +54,7 @@ word_on u (b ∷ bs) h = elim (cases_Bool (b == 95)) [
 upper_part : (b : ℕ) → is_part b ≡ true → to_ascii_uppercase b ≡ b
 upper_part b h = grind (arith, nat_tests)
 
-back_part : (b : ℕ) → is_part b ≡ true → to_ascii_uppercase (lower b) ≡ b
+back_part : (b : ℕ) → is_part b ≡ true → to_ascii_uppercase (in_lower_case b) ≡ b
 back_part b h = grind (arith, nat_tests)
 
 upper_parts : (bs : List ℕ) → all_parts bs ≡ true → map to_ascii_uppercase bs ≡ bs
@@ -63,11 +63,11 @@ upper_parts (b ∷ bs) h =
     let both = and_parts (is_part b) (all_parts bs) h in
     ap (λ c. c ∷ map to_ascii_uppercase bs) (upper_part b both.0) ∙ ap (λ l. b ∷ l) (upper_parts bs both.1)
 
-back_parts : (bs : List ℕ) → all_parts bs ≡ true → map to_ascii_uppercase (map lower bs) ≡ bs
+back_parts : (bs : List ℕ) → all_parts bs ≡ true → map to_ascii_uppercase (map in_lower_case bs) ≡ bs
 back_parts [] h = refl
 back_parts (b ∷ bs) h =
     let both = and_parts (is_part b) (all_parts bs) h in
-    ap (λ c. c ∷ map to_ascii_uppercase (map lower bs)) (back_part b both.0) ∙ ap (λ l. b ∷ l) (back_parts bs both.1)
+    ap (λ c. c ∷ map to_ascii_uppercase (map in_lower_case bs)) (back_part b both.0) ∙ ap (λ l. b ∷ l) (back_parts bs both.1)
 
 same_text-true : (a b : List ℕ) → same_text a b ≡ true → a ≡ b
 same_text-true [] [] h = refl
@@ -93,15 +93,15 @@ all_reserved : are_reserved reserved_words ≡ true
 unfolding reserved_words two_letters three_letters four_letters five_letters six_letters seven_letters eight_letters nine_letters
 all_reserved = refl
 
-not_in : (table : List (List ℕ × Symbol)) (w : List ℕ) → all_parts w ≡ true → list_any (bytes_eq w) reserved ≡ false → are_reserved table ≡ true → symbol_in table (map lower w) ≡ None
+not_in : (table : List (List ℕ × Symbol)) (w : List ℕ) → all_parts w ≡ true → list_any (bytes_eq w) reserved ≡ false → are_reserved table ≡ true → symbol_in table (map in_lower_case w) ≡ None
 not_in [] w parts free all = refl
 not_in (entry ∷ table) w parts free all =
     let both = and_parts (list_any (bytes_eq (map to_ascii_uppercase entry.0)) reserved) (are_reserved table) all in
-    elim (cases_Bool (same_text (map lower w) entry.0)) [
+    elim (cases_Bool (same_text (map in_lower_case w) entry.0)) [
       | inl e ↦
-          (let word : w ≡ map to_ascii_uppercase entry.0 = sym (back_parts w parts) ∙ ap (map to_ascii_uppercase) (same_text-true (map lower w) entry.0 e) in
+          (let word : w ≡ map to_ascii_uppercase entry.0 = sym (back_parts w parts) ∙ ap (map to_ascii_uppercase) (same_text-true (map in_lower_case w) entry.0 e) in
           absurd (false≢true (sym free ∙ ap (λ t. list_any (bytes_eq t) reserved) word ∙ both.0)))
-      | inr e ↦ cond-false (same_text (map lower w) entry.0) _ _ e ∙ not_in table w parts free both.1
+      | inr e ↦ cond-false (same_text (map in_lower_case w) entry.0) _ _ e ∙ not_in table w parts free both.1
     ]
 
 -- a text that is a name

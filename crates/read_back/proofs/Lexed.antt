@@ -13,7 +13,7 @@ use Rattle.ada_lexer.specs.Split.{FallsInto}
 use Rattle.ada_expr_parser.specs.declared.items.ItemKind.{ItemKind}
 use Rattle.ada_expr_parser.specs.declared.items.ItemKind.TheVariants as item
 use Rattle.ada_expr_parser.specs.declared.items.Item.{Item}
-use Rattle.ada_expr_parser.specs.Items.{Stands}
+use Rattle.ada_expr_parser.specs.Items.{SaysItem}
 use Rattle.ada_phrase_parser.specs.Spelling.{id_of}
 use Rattle.read_back.proofs.Classes.{Class, Next}
 use Rattle.read_back.proofs.Pieces.{Ends}
@@ -22,7 +22,7 @@ module _ (names : List (List ℕ)) where
   -- a token of this kind with these bytes says this
   abbrev pub Tells : TokenKind → List ℕ → ItemKind → Type 0
   Tells kind piece (item.Name id) = (kind ≡ kinds.Name) × (id.0 ≡ id_of names (map to_ascii_uppercase piece))
-  Tells kind piece said = Stands kind said
+  Tells kind piece said = SaysItem kind said
 
   pub record IsTold (kind : TokenKind) (at : ℕ) (piece : List ℕ) (x : Item) : Type 0 where
     pub tells : Tells kind piece x.kind

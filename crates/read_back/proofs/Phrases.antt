@@ -19,7 +19,7 @@ use Rattle.ada_expr_parser.specs.declared.levels.Level.TheVariants.{Simple}
 use Rattle.ada_expr_parser.specs.Grammar.{symbol_item, word_item, Spells, IsExpr, IsBounds, IsRangeOf, IsSubind, IsEnclosed, IsTarget, AreMore, AreEnclosed, IsSecondList, AreArgs}
 use Rattle.ada_expr_parser.specs.Trees.{levels}
 use Rattle.ada_phrase_parser.specs.Spelling.{Spelling, Nothing, ◌▷◌, IfThere, Key, Named, Behind, Separated}
-use Rattle.ada_phrase_parser.specs.Phrases.{Names, Expression, Operand, Mode, IsFormal, Formals, Index, AcceptHead, Choice, WhenRaised, Reverse, Drange, IsScheme, LoopName, LoopNameAgain, DelayOf}
+use Rattle.ada_phrase_parser.specs.Phrases.{Names, Expression, NestedExpr, Mode, IsFormal, Formals, Index, AcceptHead, Choice, WhenRaised, Reverse, Drange, IsScheme, LoopName, LoopNameAgain, DelayOf}
 use Rattle.ada_stmt_parser.specs.Statements.{Target, Callee, Call}
 use Rattle.ded_io.specs.Written.{◌⧺◌, each_text}
 use Rattle.ada_printer.specs.Layout.{separated, word_text, words_text, later_word}
@@ -124,7 +124,7 @@ module _ (w : Setting) (n : List (List ℕ)) where
       let e = read_expr w n k x at every in
       (e.tree, told_any w (told_as w e.told (λ items spells same. (record { spells = spells; fits = omega arith; nested = omega (arith, e.low, deep) }, same))))
 
-  pub is_operand : (k d : ℕ) (x : PExpr) (at : ℕ) → 300 ≤ k + d → EveryExpr (well_placed n) (k + 1) x → Found (SameExpr n (names_of w) x) Anything Stop (Operand d) at (expr_text n x)
+  pub is_operand : (k d : ℕ) (x : PExpr) (at : ℕ) → 300 ≤ k + d → EveryExpr (well_placed n) (k + 1) x → Found (SameExpr n (names_of w) x) Anything Stop (NestedExpr d) at (expr_text n x)
   is_operand k zero x at deep every =
       let e = read_expr w n (k + 1) x at every in absurd (omega (arith, e.low, deep))
   is_operand k (suc d) x at deep every = is_expression (k + 1) d x at (omega (arith, deep)) every
@@ -356,7 +356,7 @@ module _ (w : Setting) (n : List (List ℕ)) where
       )
 
   -- the condition of an exit statement
-  pub read_when : (k d : ℕ) (x : Option PExpr) (at : ℕ) → 300 ≤ k + d → IfSome x (EveryExpr (well_placed n) (k + 1)) → Found (SameOption (SameExpr n (names_of w)) x) Stop Stop (λ y. IfThere y (λ test. Key key.When ▷ Operand d test)) at (when_text n x)
+  pub read_when : (k d : ℕ) (x : Option PExpr) (at : ℕ) → 300 ≤ k + d → IfSome x (EveryExpr (well_placed n) (k + 1)) → Found (SameOption (SameExpr n (names_of w)) x) Stop Stop (λ y. IfThere y (λ test. Key key.When ▷ NestedExpr d test)) at (when_text n x)
   read_when k d None at deep every = (None, told_nothing w)
   read_when k d (Some e) at deep every =
       let y = is_operand k d e (at + 6) deep every in

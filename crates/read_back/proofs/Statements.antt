@@ -9,7 +9,7 @@ use Rattle.ada_lexer.specs.declared.symbols.Symbol.TheVariants as key
 use Rattle.ada_phrase_parser.specs.Spelling.{Source, ◌▷◌, Key}
 use Rattle.ada_stmt_parser.specs.Statements.{IsStmt, AnyStmts, Stmts, ElsePart, OthersPart, IsAccept, IsAlt, IsAltKind, IsAlts, MoreAlts, IsArm, IsArms, MoreArms, IsCaseArm, IsCaseArms, IsBody, HandlerPart, MoreHandlers, IsHandler}
 use Rattle.ada_printer.specs.Layout.{deeper}
-use Rattle.ada_printer.specs.StmtText.{form_text, stmts_text, else_text, others_text, accept_text, alt_kind_text, alt_text, alts_text, more_alts_text, arm_text, arms_text, more_arms_text, case_arm_text, case_arms_text, body_text, exception_text, handler_text, handlers_text}
+use Rattle.ada_printer.specs.StmtText.{stmt_form_text, stmts_text, else_text, others_text, accept_text, alt_kind_text, alt_text, alts_text, more_alts_text, arm_text, arms_text, more_arms_text, case_arm_text, case_arms_text, body_text, exception_text, handler_text, handlers_text}
 use Rattle.read_back.proofs.Classes.{Anything, Plain}
 use Rattle.read_back.proofs.Told.{Setting, names_of, source_of, told_nothing}
 use Rattle.read_back.proofs.Expressions.{read_expr}
@@ -65,7 +65,7 @@ module _ (w : Setting) (n : List (List ℕ)) where
   next_nesting k c every = let same : k + 2 ≡ (k + 1) + 1 = omega arith in subst (λ j. EveryCall (well_placed n) j c) same every
 
   mutual
-    pub read_stmt : (k d level : ℕ) (x : PStmt) (at : ℕ) → 300 ≤ k + d → EveryStmt (well_placed n) k x → Found w n (SameStmt n m x) Anything Anything (IsStmt src d) at (form_text n level x)
+    pub read_stmt : (k d level : ℕ) (x : PStmt) (at : ℕ) → 300 ≤ k + d → EveryStmt (well_placed n) k x → Found w n (SameStmt n m x) Anything Anything (IsStmt src d) at (stmt_form_text n level x)
     read_stmt k d level (SNull s) at deep every = null_from w n d level at s
     read_stmt k d level (SAssign x e s) at deep every = assign_from w n k d level x e s at deep every.1 every.2
     read_stmt k d level (SDelay t s) at deep every = delay_from w n d level t s at every.1

@@ -22,7 +22,7 @@ use Rattle.ada_tree.specs.Same.{Same}
 use Rattle.ada_expr_parser.specs.declared.items.ItemKind.{ItemKind}
 use Rattle.ada_expr_parser.specs.declared.items.ItemKind.TheVariants as item
 use Rattle.ada_expr_parser.specs.declared.items.Item.{Item}
-use Rattle.ada_expr_parser.specs.Items.{name_text, Says, IsItemOf, end_of, interned_if, with_token, names_after}
+use Rattle.ada_expr_parser.specs.Items.{name_text, Says, IsItemOf, end_item, interned_if, with_token, names_after}
 use Rattle.ada_phrase_parser.specs.Spelling.{id_of}
 use Rattle.ada_parser.specs.Reads.{Reads}
 use Rattle.ada_printer.specs.ProgramText.{program_text}
@@ -188,9 +188,9 @@ read_back p well =
     let y = (read_unit w p well).0 in (
       record { names = names_of w; text_io = y.text_io; name = y.name; decls = y.decls; body = y.body },
       record {
-        items = told.items ++ end_of text ∷ [];
+        items = told.items ++ end_item text ∷ [];
         are_items = record { tokens = tokens_of 0 said.pieces; splits = splits w p told.items said; source_is = ap (λ l. record { bytes = text; names = l }) names; items_are = (told.items, zip, refl) };
-        spelled = (told.items, end_of text, refl, refl, spelled.0);
+        spelled = (told.items, end_item text, refl, refl, spelled.0);
       },
       (spelled.1.text_io, spelled.1.name, spelled.1.decls, spelled.1.body),
     )

@@ -18,7 +18,7 @@ use Rattle.ada_lexer.proofs.Longest.{piece-measured}
 use Rattle.ada_expr_parser.specs.declared.items.ItemKind.{ItemKind}
 use Rattle.ada_expr_parser.specs.declared.items.ItemKind.TheVariants as item
 use Rattle.ada_expr_parser.specs.declared.items.Item.{Item}
-use Rattle.ada_expr_parser.specs.Items.{name_text, IsItemOf, Says, end_of, names_after}
+use Rattle.ada_expr_parser.specs.Items.{name_text, IsItemOf, Says, end_item, names_after}
 use Rattle.ada_phrase_parser.specs.Spelling.{id_of}
 use Rattle.ada_parser.specs.Reads.{HasItems}
 
@@ -125,7 +125,7 @@ module _ (bytes : List ℕ) (names : List (List ℕ)) where
       (record { says = says t t.kind refl one; start = refl; end = refl }, all-said tokens more)
 
   abbrev pub all_items : List Item
-  all_items = map item_said (all_tokens bytes) ++ end_of bytes ∷ []
+  all_items = map item_said (all_tokens bytes) ++ end_item bytes ∷ []
 
   -- The items of a text that falls into sound pieces, with the names that its tokens have.
   pub has-items :

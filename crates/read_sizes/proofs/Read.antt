@@ -15,7 +15,7 @@ use Rattle.ada_tree.specs.PlainProgram.{PProgram}
 use Rattle.ada_expr_parser.specs.declared.items.Item.{Item}
 use Rattle.ada_expr_parser.specs.Items.{name_text, IsItemOf, interned_if, with_token, names_after}
 use Rattle.ada_phrase_parser.specs.Spelling.{Source}
-use Rattle.ada_parser.specs.Reads.{deepest, unit_of, HasItems, Reads}
+use Rattle.ada_parser.specs.Reads.{deepest, program_unit, HasItems, Reads}
 use Rattle.normal_legal.specs.units.Weights.{AreLight}
 use Rattle.read_sizes.specs.Weight.{decls_weight, program_weight}
 use Rattle.read_sizes.specs.Laws.{ReadHasFewNames, ReadHasNames, ReadWeighsLittle, ReadIsLight}
@@ -111,7 +111,7 @@ pub read_weighs_little : ReadWeighsLittle
 read_weighs_little bytes p reads =
     let source : Source = record { bytes = bytes; names = p.names } in
     let (front, x, is, ends, spelled) = reads.spelled in
-    let least : program_weight p ≤ length front = unit-takes source (unit_of p) deepest front spelled in
+    let least : program_weight p ≤ length front = unit-takes source (program_unit p) deepest front spelled in
     let few : length reads.items ≤ length bytes + 1 = few-items bytes source reads.items reads.are_items in
     omega (arith, ap length is, length-append front (x ∷ []), least, few)
 

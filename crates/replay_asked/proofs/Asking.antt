@@ -4,12 +4,12 @@ use Rattle.ada_tree.specs.declared.naming.Span.{Span}
 use Rattle.ada_tree.specs.PlainStmt.{PArms}
 use Rattle.ada_tree.specs.Every.{arms_count}
 use Rattle.normal_model.specs.Making.{one}
-use Rattle.normal_model.specs.Waits.{Unit}
+use Rattle.normal_model.specs.RewrittenUnit.{RewrittenUnit}
 use Rattle.asked_stmts.specs.Asked.{Asks, AskedStmt, AskedStmts, AskedSome, AskedArms}
 use Rattle.replay_model.specs.Asking.{ask, done, stop, only, ask_only, ask_which}
 use Rattle.replay_asked.specs.Pieces.{Pieces}
 
-module _ {C D : Type 0} (u : Unit) (H : ℕ → Type 0) (b : Asks C) (a : Asks D) (R : C → D → Type 0) (P : Pieces u H b a R) where
+module _ {C D : Type 0} (u : RewrittenUnit) (H : ℕ → Type 0) (b : Asks C) (a : Asks D) (R : C → D → Type 0) (P : Pieces u H b a R) where
   module _ (c : C) (d : D) (k : ℕ) (s : Span) (rel : R c d) (h : H k) where
     pub ask-asked : (n : ℕ) → n < 4 * k + 7 → AskedStmt a d n (ask u s)
     ask-asked n le = (P.outer c d k n s rel h (omega (arith, le)), P.control c d k (n + 1) s rel h (omega (arith, le)), P.asks c d k (n + 1) s rel h (omega (arith, le)))

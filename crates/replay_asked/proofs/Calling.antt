@@ -3,7 +3,7 @@ use Rattle.std.proofs.Common.{ℕ, ◌+◌, ◌*◌, ◌<◌, arith}
 use Rattle.ada_tree.specs.declared.naming.Span.{Span}
 use Rattle.ada_tree.specs.PlainStmt.{PCall, SCall, SConditional, STimed, PStmts, no_stmt, stmt_then, PArms, no_arm}
 use Rattle.normal_model.specs.Making.{one}
-use Rattle.normal_model.specs.Waits.{Unit}
+use Rattle.normal_model.specs.RewrittenUnit.{RewrittenUnit}
 use Rattle.asked_stmts.specs.Asked.{Asks, AskedStmt, AskedStmts, AskedSome, AskedArms}
 use Rattle.replay_model.specs.Asking.{done, branch}
 use Rattle.replay_model.specs.Serving.{saying_so}
@@ -12,7 +12,7 @@ use Rattle.replay_asked.specs.Pieces.{StandsAt, IsUnder, Pieces}
 use Rattle.replay_asked.proofs.Asking.{done-asked, ask-which-asked}
 use Rattle.replay_asked.proofs.Serving.{saying-so-asked}
 
-module _ {C D : Type 0} (u : Unit) (H : ℕ → Type 0) (b : Asks C) (a : Asks D) (R : C → D → Type 0) (P : Pieces u H b a R) where
+module _ {C D : Type 0} (u : RewrittenUnit) (H : ℕ → Type 0) (b : Asks C) (a : Asks D) (R : C → D → Type 0) (P : Pieces u H b a R) where
   -- a call in a statement with the nesting k, which stands j deep itself
   module _ (c : C) (d : D) (k j : ℕ) (s : Span) (x : PCall) (rel : R c d) (h : H k) (under : IsUnder k j) (t : b.callee c j x.task) (i : b.call c j x) where
     call-asked : (n : ℕ) → n < 4 * k + 3 → AskedStmt a d n (SCall x s)

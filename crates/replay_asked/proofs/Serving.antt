@@ -2,15 +2,15 @@
 use Rattle.std.proofs.Common.{ℕ, ◌+◌, ◌*◌, ◌<◌, arith}
 use Rattle.ada_tree.specs.declared.naming.Span.{Span}
 use Rattle.ada_tree.specs.PlainStmt.{PHead, PStmt, PStmts, PMaybe, absent, present, accepting, no_arm}
-use Rattle.normal_model.specs.Waits.{Unit}
+use Rattle.normal_model.specs.RewrittenUnit.{RewrittenUnit}
 use Rattle.asked_stmts.specs.Asked.{Asks, AskedStmt, AskedStmts, AskedSome, AskedMaybe}
 use Rattle.normal_asked.proofs.Lists.{HasStmt, asked-some}
 use Rattle.replay_model.specs.Asking.{branch}
-use Rattle.replay_model.specs.Serving.{body_kept, accept_asking, saying_so, serve, is_served, accept_image}
+use Rattle.replay_model.specs.Serving.{body_kept, accept_asking, saying_so, serve, permits_start, accept_image}
 use Rattle.replay_asked.specs.Pieces.{StandsAt, Pieces}
 use Rattle.replay_asked.proofs.Asking.{ask-asked, done-asked, only-asked, ask-which-asked}
 
-module _ {C D : Type 0} (u : Unit) (H : ℕ → Type 0) (b : Asks C) (a : Asks D) (R : C → D → Type 0) (P : Pieces u H b a R) where
+module _ {C D : Type 0} (u : RewrittenUnit) (H : ℕ → Type 0) (b : Asks C) (a : Asks D) (R : C → D → Type 0) (P : Pieces u H b a R) where
   module _ (c : C) (d : D) (k : ℕ) (s : Span) (rel : R c d) (h : H k) where
     abbrev again : R (b.handling c) (a.handling d)
     again = P.handling c d rel
@@ -97,7 +97,7 @@ module _ {C D : Type 0} (u : Unit) (H : ℕ → Type 0) (b : Asks C) (a : Asks D
 
     pub accept-asked : (n : ℕ) (o : PMaybe) → StandsAt k n → AskedMaybe a (a.accepting d i) ((((n + 1) + 1) + 1) + 1) o → AskedStmts a d n (accept_image u s (accepting i o))
     accept-asked n o le m =
-        ask-which-asked u H b a R P c d k s rel near n (branch (is_served u s i) (serve u s (accepting i o)) no_arm) (omega (arith, le)) (P.some 0) (
+        ask-which-asked u H b a R P c d k s rel near n (branch (permits_start u s i) (serve u s (accepting i o)) no_arm) (omega (arith, le)) (P.some 0) (
           P.served c d k (n + 1) s i rel h (omega (arith, le)),
           asked-some a P.some d (n + 1) (serve u s (accepting i o)) (serve-some n o) (serve-asked (n + 1) o (omega (arith, le)) m),
           tt,

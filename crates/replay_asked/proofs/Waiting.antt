@@ -7,9 +7,9 @@ use Rattle.ada_tree.specs.PlainStmt.{SNull, PAltKind, PMaybe, absent, present, a
 use Rattle.ada_tree.specs.Every.{alts_count}
 use Rattle.ada_tree.specs.Sites.{is_present}
 use Rattle.normal_model.specs.Making.{one}
-use Rattle.normal_model.specs.Waits.{Unit}
+use Rattle.normal_model.specs.RewrittenUnit.{RewrittenUnit}
 use Rattle.asked_stmts.specs.Asked.{Asks, AskedStmt, AskedMaybe, AskedAlts, AskedKind}
-use Rattle.replay_model.specs.Waiting.{Pause, pauses_of, never_alt, select_of, only_pause, pausing, ending, passing}
+use Rattle.replay_model.specs.Waiting.{Pause, pauses_of, never_alt, select_of, only_pause, pausing, never_or_terminate, passing}
 use Rattle.replay_asked.specs.Pieces.{pause_guard, IsAlternative, first_alternative, later_alternative, Pieces}
 
 -- ---- alternatives
@@ -41,7 +41,7 @@ few-pauses (alt_then (alternative g ATerminate s) rest) = omega (arith, few-paus
 
 -- ---- waits
 
-module _ {C D : Type 0} (u : Unit) (H : ℕ → Type 0) (b : Asks C) (a : Asks D) (R : C → D → Type 0) (P : Pieces u H b a R) where
+module _ {C D : Type 0} (u : RewrittenUnit) (H : ℕ → Type 0) (b : Asks C) (a : Asks D) (R : C → D → Type 0) (P : Pieces u H b a R) where
   -- the wait of the normal form, with the nesting k
   module _ (c : C) (d : D) (k : ℕ) (s : Span) (rel : R c d) (h : H k) (x : PAlts) (others : Bool) (t : Span) (w : b.wait c k x others t) (i : AskedAlts b c (k + 1) x) where
     select-asked : (n : ℕ) (y : PAlts) (o : PMaybe) → n < 4 * k + 4 → a.wait d n (alt_then (never_alt u s) y) (is_present o) s → AskedAlts a d (n + 1) y → AskedMaybe a d (n + 1) o → AskedStmt a d n (select_of u s y o)
@@ -71,7 +71,7 @@ module _ {C D : Type 0} (u : Unit) (H : ℕ → Type 0) (b : Asks C) (a : Asks D
         select-asked n (only_pause s place (pauses_of x) 1) absent le (P.pausing c d k n x others t s place rel h w i (omega (arith, le)))
         (only-pause-asked (n + 1) place (pauses_of x) 1 (omega (arith, le)) (pauses-asked b c (k + 1) x i)) tt
 
-    pub ending-asked : (n : ℕ) → n < 4 * k + 4 → AskedStmt a d n (ending u s)
+    pub ending-asked : (n : ℕ) → n < 4 * k + 4 → AskedStmt a d n (never_or_terminate u s)
     ending-asked n le =
         select-asked n (alt_then (alternative None ATerminate s) no_alt) absent le (P.ending c d k n x others t s rel h w i (omega (arith, le)))
         (P.outer c d k (n + 1) s rel h (omega (arith, le)), tt, tt, tt) tt

@@ -5,14 +5,14 @@ use Rattle.ada_tree.specs.declared.naming.Span.{Span}
 use Rattle.ada_tree.specs.PlainExpr.{PExpr}
 use Rattle.ada_tree.specs.PlainStmt.{PCallee, PStmt, SNull, SAssign, SDelay, SExit, SRaise, SAbort, SCall, SAccept, SWait, SConditional, STimed, SPut, SPutLine, SNewLine, SGet, SIf, SCase, SBlock, SLoop, PStmts, no_stmt, stmt_then, PMaybe, absent, present, PAccept, accepting, PAlt, alternative, AAccept, ADelay, ATerminate, PAlts, no_alt, alt_then, PArms, no_arm, arm_then, arm, PCaseArms, no_case_arm, case_arm_then, case_arm, PBody, body, PHandlers, no_handler, handler_then, handler}
 use Rattle.ada_tree.specs.Every.{alts_count, arms_count}
-use Rattle.ada_tree.specs.Sites.{choices_of, is_present, with_words}
+use Rattle.ada_tree.specs.Sites.{arm_choices, is_present, with_words}
 use Rattle.task_model.specs.Frames.{in_front}
 use Rattle.normal_model.specs.Making.{one}
-use Rattle.normal_model.specs.Walk.{Rewriter, after_parts, after_stmts, after_maybe, after_alts, after_arms, after_case_arms, leads, inside, rewritten, inside_maybe, inside_alts, inside_arms, inside_case_arms, inside_body, inside_handlers}
-use Rattle.normal_model.specs.Waits.{Unit}
+use Rattle.normal_model.specs.Walk.{Rewriter, after_parts, after_stmts, after_maybe, after_alts, after_arms, after_case_arms, leads, parts_rewritten, rewritten, inside_maybe, inside_alts, inside_arms, inside_case_arms, inside_body, inside_handlers}
+use Rattle.normal_model.specs.RewrittenUnit.{RewrittenUnit}
 use Rattle.asked_stmts.specs.Asked.{Asks, AskedStmt, AskedStmts, AskedSome, AskedMaybe, AskedAlts, AskedArms, AskedCaseArms, AskedBody, AskedHandlers}
 use Rattle.normal_asked.proofs.Lists.{HasStmt, some-front, some-back, asked-join, asked-some, asked-all}
-use Rattle.replay_model.specs.Asking.{done, is_for, ask_which, branch}
+use Rattle.replay_model.specs.Asking.{done, permit_is_for, ask_which, branch}
 use Rattle.replay_model.specs.Serving.{serve, accept_image}
 use Rattle.replay_model.specs.Waiting.{Pause, pauses_of, alternative_branches, else_branch, wait_image}
 use Rattle.replay_model.specs.Calling.{plain_image, conditional_image, timed_image}
@@ -24,8 +24,8 @@ use Rattle.replay_asked.proofs.Serving.{serve-asked, serve-some, accept-asked}
 use Rattle.replay_asked.proofs.Calling.{plain-asked, conditional-asked, timed-asked}
 use Rattle.replay_asked.proofs.Waiting.{pausing-asked, ending-asked, passing-asked}
 
-module _ {C D : Type 0} (u : Unit) (H : ℕ → Type 0) (b : Asks C) (a : Asks D) (R : C → D → Type 0) (P : Pieces u H b a R) where
-  abbrev r : Rewriter Unit
+module _ {C D : Type 0} (u : RewrittenUnit) (H : ℕ → Type 0) (b : Asks C) (a : Asks D) (R : C → D → Type 0) (P : Pieces u H b a R) where
+  abbrev r : Rewriter RewrittenUnit
   r = replay_rewriter
 
   -- ---- aborts
@@ -36,7 +36,7 @@ module _ {C D : Type 0} (u : Unit) (H : ℕ → Type 0) (b : Asks C) (a : Asks D
 
   abort-asked : (c : C) (d : D) (k n : ℕ) (s : Span) (x : PCallee) → R c d → b.outer c k s → b.aborts c (k + 1) (x ∷ []) → b.callee c (k + 1) x → StandsAt k n → AskedStmts a d n (abort_image u s x)
   abort-asked c d k n s x rel o q i le =
-      ask-which-asked u H b a R P c d k s rel h n (branch (is_for u s 9 (task_called u x)) (stmt_then (SAbort (x ∷ []) s) (if task_called u x == u.task then no_stmt else one (done u s))) no_arm) (omega (arith, le)) (P.some 0)
+      ask-which-asked u H b a R P c d k s rel h n (branch (permit_is_for u s 9 (task_called u x)) (stmt_then (SAbort (x ∷ []) s) (if task_called u x == u.task then no_stmt else one (done u s))) no_arm) (omega (arith, le)) (P.some 0)
       (P.aborted c d k (n + 1) s x rel h i (omega (arith, le)), (P.some _, gone, said (task_called u x == u.task)), tt)
     where
       h : H k
@@ -51,7 +51,7 @@ module _ {C D : Type 0} (u : Unit) (H : ℕ → Type 0) (b : Asks C) (a : Asks D
 
   -- ---- what stands for a statement is one at least
 
-  image-some : (t : Unit) (x : PStmt) → HasStmt (replay_image t x)
+  image-some : (t : RewrittenUnit) (x : PStmt) → HasStmt (replay_image t x)
   image-some t (SAbort [] s) = tt
   image-some t (SAbort (x ∷ []) s) = tt
   image-some t (SAbort (x ∷ y ∷ xs) s) = tt
@@ -77,12 +77,12 @@ module _ {C D : Type 0} (u : Unit) (H : ℕ → Type 0) (b : Asks C) (a : Asks D
   image-some t (SBlock x s) = tt
   image-some t (SLoop w c l s) = tt
 
-  rewritten-some : (x : PStmt) (l : PStmts) (t : Unit) → HasStmt (rewritten r (stmt_then x l) t)
-  rewritten-some x l t = some-front (r.image t (leads r x t) (inside r x t)) _ (some-back (leads r x t) _ (image-some t (inside r x t)))
+  rewritten-some : (x : PStmt) (l : PStmts) (t : RewrittenUnit) → HasStmt (rewritten r (stmt_then x l) t)
+  rewritten-some x l t = some-front (r.image t (leads r x t) (parts_rewritten r x t)) _ (some-back (leads r x t) _ (image-some t (parts_rewritten r x t)))
 
   -- ---- branches of a wait
 
-  branches-many : (s : Span) (ps : List Pause) (x : PAlts) (o : PMaybe) (t v : Unit) → b.many (alts_count x) → a.many (arms_count (alternative_branches u ps (else_branch u s (inside_maybe r o v)) (inside_alts r x t) 1))
+  branches-many : (s : Span) (ps : List Pause) (x : PAlts) (o : PMaybe) (t v : RewrittenUnit) → b.many (alts_count x) → a.many (arms_count (alternative_branches u ps (else_branch u s (inside_maybe r o v)) (inside_alts r x t) 1))
   branches-many s ps no_alt absent t v h = P.many 0 h
   branches-many s ps no_alt (present l) t v h = P.some 0
   branches-many s ps (alt_then (alternative g (AAccept y l) p) rest) o t v h = P.some _
@@ -90,7 +90,7 @@ module _ {C D : Type 0} (u : Unit) (H : ℕ → Type 0) (b : Asks C) (a : Asks D
   branches-many s ps (alt_then (alternative g ATerminate p) rest) o t v h = P.some _
 
   -- what stands for a wait, by its branches
-  wait-asked : (x : PAlts) (o : PMaybe) (s : Span) (c : C) (d : D) (k n : ℕ) (t v : Unit) → t ≡ u → R c d → StandsAt k n → H k → b.many (alts_count x) →
+  wait-asked : (x : PAlts) (o : PMaybe) (s : Span) (c : C) (d : D) (k n : ℕ) (t v : RewrittenUnit) → t ≡ u → R c d → StandsAt k n → H k → b.many (alts_count x) →
       AskedArms a d (n + 1) (alternative_branches u (pauses_of x) (else_branch u s (inside_maybe r o v)) (inside_alts r x t) 1) →
       AskedStmts a d n (in_front (leads r (SWait x o s) t) (wait_image t s (inside_alts r x t) (inside_maybe r o v)))
   wait-asked x o s c d k n t v e rel le near some_alts asked =
@@ -101,14 +101,14 @@ module _ {C D : Type 0} (u : Unit) (H : ℕ → Type 0) (b : Asks C) (a : Asks D
       (subst (λ ps. AskedStmts a d n (ask_which u s (alternative_branches u ps others xs 1))) (sym (pauses-kept x t))
       (ask-which-asked u H b a R P c d k s rel near n (alternative_branches u (pauses_of x) others xs 1) (omega (arith, le)) (branches-many s (pauses_of x) x o t v some_alts) asked)))
 
-  arms-many : (x : PArms) (t : Unit) → b.many (arms_count x) → a.many (arms_count (inside_arms r x t))
+  arms-many : (x : PArms) (t : RewrittenUnit) → b.many (arms_count x) → a.many (arms_count (inside_arms r x t))
   arms-many no_arm t h = P.many 0 h
   arms-many (arm_then (arm e l) rest) t h = P.some _
 
   -- ---- statements
 
   mutual
-    stmt : (x : PStmt) (c : C) (d : D) (k n : ℕ) (t : Unit) → t ≡ u → R c d → StandsAt k n → AskedStmt b c k x → AskedStmts a d n (in_front (leads r x t) (replay_image t (inside r x t)))
+    stmt : (x : PStmt) (c : C) (d : D) (k n : ℕ) (t : RewrittenUnit) → t ≡ u → R c d → StandsAt k n → AskedStmt b c k x → AskedStmts a d n (in_front (leads r x t) (replay_image t (parts_rewritten r x t)))
     stmt (SNull s) c d k n t e rel le h = (P.plain c d k n (SNull s) tt rel h le, tt)
     stmt (SAssign x y s) c d k n t e rel le h = (P.plain c d k n (SAssign x y s) tt rel h le, tt)
     stmt (SDelay m s) c d k n t e rel le h = (P.plain c d k n (SDelay m s) tt rel h le, tt)
@@ -128,7 +128,7 @@ module _ {C D : Type 0} (u : Unit) (H : ℕ → Type 0) (b : Asks C) (a : Asks D
         subst (λ v. AskedStmts a d n (accept_image v s (accepting i (inside_maybe r o t)))) (sym e)
         (accept-asked u H b a R P c d k s i rel h.0 n (inside_maybe r o t) le (maybe o (b.accepting c i) (a.accepting d i) (k + 1) ((((n + 1) + 1) + 1) + 1) t e (P.in_accept c d k i rel h.0) (omega (arith, le)) h.1))
     stmt (SWait x o s) c d k n t e rel le h =
-        let v : Unit = after_alts r x t in
+        let v : RewrittenUnit = after_alts r x t in
         let f : v ≡ u = still_alts x t ∙ e in
         let near : H k = P.here c k s h.0 in
         wait-asked x o s c d k n t v e rel le near h.1
@@ -153,11 +153,11 @@ module _ {C D : Type 0} (u : Unit) (H : ℕ → Type 0) (b : Asks C) (a : Asks D
       tt,
     )
     stmt (SCase y x o s) c d k n t e rel le h =
-        let v : Unit = after_case_arms r x t in (
+        let v : RewrittenUnit = after_case_arms r x t in (
           (
             P.outer c d k n s rel (P.here c k s h.0) (omega (arith, le)),
-            subst (λ m. a.selector d (n + 1) y (choices_of (inside_case_arms r x t)) m s) (sym (present-kept o v))
-                (subst (λ cs. a.selector d (n + 1) y cs (is_present o) s) (sym (choices-kept x t)) (P.selector c d (k + 1) (n + 1) y (choices_of x) (is_present o) s rel h.1 (omega (arith, le)))),
+            subst (λ m. a.selector d (n + 1) y (arm_choices (inside_case_arms r x t)) m s) (sym (present-kept o v))
+                (subst (λ cs. a.selector d (n + 1) y cs (is_present o) s) (sym (choices-kept x t)) (P.selector c d (k + 1) (n + 1) y (arm_choices x) (is_present o) s rel h.1 (omega (arith, le)))),
             case_arms x c d (k + 1) (n + 1) y t e rel (omega (arith, le)) h.2,
             maybe o c d (k + 1) (n + 1) v (still_case_arms x t ∙ e) rel (omega (arith, le)) h.3,
           ),
@@ -173,40 +173,40 @@ module _ {C D : Type 0} (u : Unit) (H : ℕ → Type 0) (b : Asks C) (a : Asks D
       tt,
     )
 
-    stmts : (l : PStmts) (c : C) (d : D) (k n : ℕ) (t : Unit) → t ≡ u → R c d → StandsAt k n → AskedStmts b c k l → AskedStmts a d n (rewritten r l t)
+    stmts : (l : PStmts) (c : C) (d : D) (k n : ℕ) (t : RewrittenUnit) → t ≡ u → R c d → StandsAt k n → AskedStmts b c k l → AskedStmts a d n (rewritten r l t)
     stmts no_stmt c d k n t e rel le h = tt
     stmts (stmt_then x l) c d k n t e rel le h =
-        asked-join a d n (in_front (leads r x t) (replay_image t (inside r x t))) (rewritten r l (after_parts r x t))
+        asked-join a d n (in_front (leads r x t) (replay_image t (parts_rewritten r x t))) (rewritten r l (after_parts r x t))
         (stmt x c d k n t e rel le h.0) (stmts l c d k n (after_parts r x t) (still_parts x t ∙ e) rel le h.1)
 
-    some : (l : PStmts) (c : C) (d : D) (k n : ℕ) (t : Unit) → t ≡ u → R c d → StandsAt k n → AskedSome b c k l → AskedSome a d n (rewritten r l t)
+    some : (l : PStmts) (c : C) (d : D) (k n : ℕ) (t : RewrittenUnit) → t ≡ u → R c d → StandsAt k n → AskedSome b c k l → AskedSome a d n (rewritten r l t)
     some no_stmt c d k n t e rel le h = P.many 0 h
     some (stmt_then x l) c d k n t e rel le h =
         asked-some a P.some d n (rewritten r (stmt_then x l) t) (rewritten-some x l t)
-        (asked-join a d n (in_front (leads r x t) (replay_image t (inside r x t))) (rewritten r l (after_parts r x t))
+        (asked-join a d n (in_front (leads r x t) (replay_image t (parts_rewritten r x t))) (rewritten r l (after_parts r x t))
         (stmt x c d k n t e rel le h.1) (stmts l c d k n (after_parts r x t) (still_parts x t ∙ e) rel le h.2))
 
-    maybe : (o : PMaybe) (c : C) (d : D) (k n : ℕ) (t : Unit) → t ≡ u → R c d → StandsAt k n → AskedMaybe b c k o → AskedMaybe a d n (inside_maybe r o t)
+    maybe : (o : PMaybe) (c : C) (d : D) (k n : ℕ) (t : RewrittenUnit) → t ≡ u → R c d → StandsAt k n → AskedMaybe b c k o → AskedMaybe a d n (inside_maybe r o t)
     maybe absent c d k n t e rel le h = tt
     maybe (present l) c d k n t e rel le h = some l c d k n t e rel le h
 
-    arms : (x : PArms) (c : C) (d : D) (k n : ℕ) (t : Unit) → t ≡ u → R c d → StandsAt k n → AskedArms b c k x → AskedArms a d n (inside_arms r x t)
+    arms : (x : PArms) (c : C) (d : D) (k n : ℕ) (t : RewrittenUnit) → t ≡ u → R c d → StandsAt k n → AskedArms b c k x → AskedArms a d n (inside_arms r x t)
     arms no_arm c d k n t e rel le h = tt
     arms (arm_then (arm y l) rest) c d k n t e rel le h =
         (P.condition c d k n y rel h.0 le, some l c d k n t e rel le h.1, arms rest c d k n (after_stmts r l t) (still_stmts l t ∙ e) rel le h.2)
 
-    case_arms : (x : PCaseArms) (c : C) (d : D) (k n : ℕ) (y : PExpr) (t : Unit) → t ≡ u → R c d → StandsAt k n → AskedCaseArms b c k y x → AskedCaseArms a d n y (inside_case_arms r x t)
+    case_arms : (x : PCaseArms) (c : C) (d : D) (k n : ℕ) (y : PExpr) (t : RewrittenUnit) → t ≡ u → R c d → StandsAt k n → AskedCaseArms b c k y x → AskedCaseArms a d n y (inside_case_arms r x t)
     case_arms no_case_arm c d k n y t e rel le h = tt
     case_arms (case_arm_then (case_arm cs l) rest) c d k n y t e rel le h =
         (P.choices c d k n y cs rel h.0 le, some l c d k n t e rel le h.1, case_arms rest c d k n y (after_stmts r l t) (still_stmts l t ∙ e) rel le h.2)
 
-    body-of : (x : PBody) (c : C) (d : D) (k n : ℕ) (t : Unit) → t ≡ u → R c d → StandsAt k n → AskedBody b c k x → AskedBody a d n (inside_body r x t)
+    body-of : (x : PBody) (c : C) (d : D) (k n : ℕ) (t : RewrittenUnit) → t ≡ u → R c d → StandsAt k n → AskedBody b c k x → AskedBody a d n (inside_body r x t)
     body-of (body l hs) c d k n t e rel le h =
-        let v : Unit = after_stmts r l t in
+        let v : RewrittenUnit = after_stmts r l t in
         let f : v ≡ u = still_stmts l t ∙ e in
         (some l c d k n t e rel le h.0, subst (λ x. a.handlers (inside_handlers r hs x)) (sym f) (P.handlers hs h.1), handlers hs c d k n [] v f rel le h.2)
 
-    handlers : (x : PHandlers) (c : C) (d : D) (k n : ℕ) (names : List ℕ) (t : Unit) → t ≡ u → R c d → StandsAt k n → AskedHandlers b c k names x → AskedHandlers a d n names (inside_handlers r x t)
+    handlers : (x : PHandlers) (c : C) (d : D) (k n : ℕ) (names : List ℕ) (t : RewrittenUnit) → t ≡ u → R c d → StandsAt k n → AskedHandlers b c k names x → AskedHandlers a d n names (inside_handlers r x t)
     handlers no_handler c d k n names t e rel le h = tt
     handlers (handler_then (handler ws l s) rest) c d k n names t e rel le h = (
       P.outer c d k n s rel (P.here c k s h.0) (omega (arith, le)),
@@ -216,7 +216,7 @@ module _ {C D : Type 0} (u : Unit) (H : ℕ → Type 0) (b : Asks C) (a : Asks D
     )
 
     -- the branch of the else part of a wait with these alternatives
-    else-asked : (o : PMaybe) (c : C) (d : D) (k n : ℕ) (s : Span) (t : Unit) → t ≡ u → R c d → H k → StandsAt k n → (x : PAlts) → b.wait c k x (is_present o) s → AskedAlts b c (k + 1) x → AskedMaybe b c (k + 1) o →
+    else-asked : (o : PMaybe) (c : C) (d : D) (k n : ℕ) (s : Span) (t : RewrittenUnit) → t ≡ u → R c d → H k → StandsAt k n → (x : PAlts) → b.wait c k x (is_present o) s → AskedAlts b c (k + 1) x → AskedMaybe b c (k + 1) o →
         AskedArms a d (n + 1) (else_branch u s (inside_maybe r o t))
     else-asked absent c d k n s t e rel near le x w all h = tt
     else-asked (present l) c d k n s t e rel near le x w all h = (
@@ -230,14 +230,14 @@ module _ {C D : Type 0} (u : Unit) (H : ℕ → Type 0) (b : Asks C) (a : Asks D
     )
 
     -- the branches of the last alternatives of a wait, whose delays are numbered from a number on
-    branches : (x : PAlts) (c : C) (d : D) (k n : ℕ) (t : Unit) → t ≡ u → R c d → H k → StandsAt k n →
+    branches : (x : PAlts) (c : C) (d : D) (k n : ℕ) (t : RewrittenUnit) → t ≡ u → R c d → H k → StandsAt k n →
         (whole : PAlts) (els : Bool) (place : Span) → b.wait c k whole els place → AskedAlts b c (k + 1) whole →
         (j : ℕ) → j + length (pauses_of x) ≤ 1 + length (pauses_of whole) → ((y : PAlt) → IsAlternative y x → IsAlternative y whole) →
         (others : PArms) → AskedArms a d (n + 1) others → AskedAlts b c (k + 1) x →
         AskedArms a d (n + 1) (alternative_branches u (pauses_of whole) others (inside_alts r x t) j)
     branches no_alt c d k n t e rel near le whole els place w all j few sub others q h = q
     branches (alt_then (alternative g (AAccept (accepting i o) l) s) rest) c d k n t e rel near le whole els place w all j few sub others q h =
-        let v : Unit = after_maybe r o t in
+        let v : RewrittenUnit = after_maybe r o t in
         let f : v ≡ u = still_maybe o t ∙ e in
         let l' : PStmts = rewritten r l v in
         let o' : PMaybe = inside_maybe r o t in

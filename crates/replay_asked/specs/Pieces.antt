@@ -5,13 +5,13 @@ use Rattle.ada_tree.specs.declared.naming.Word.{Word}
 use Rattle.ada_tree.specs.declared.expressions.BinaryOp.TheVariants.{NotEqual}
 use Rattle.ada_tree.specs.PlainExpr.{PExpr, EInteger, EBinary}
 use Rattle.ada_tree.specs.PlainStmt.{PCallee, PArgs, PCall, PChoice, PScheme, PHead, PStmt, SNull, PStmts, PMaybe, accepting, PAlt, alternative, AAccept, ADelay, ATerminate, PAlts, no_alt, alt_then, PHandlers, no_handler}
-use Rattle.normal_model.specs.Waits.{Unit}
+use Rattle.normal_model.specs.RewrittenUnit.{RewrittenUnit}
 use Rattle.normal_model.specs.Walk.{inside_handlers}
 use Rattle.asked_stmts.specs.Asked.{Asks, AskedAlts}
 use Rattle.normal_asked.specs.Pieces.{IsPlain, named}
 use Rattle.replay_model.specs.Names.{kind_text, argument_text, index_text, control_text, go_text, done_text, idle_text, stop_text, never_text, added_word}
-use Rattle.replay_model.specs.Asking.{permit_part, is_kind, is_for}
-use Rattle.replay_model.specs.Serving.{raise_again, whatever, is_served}
+use Rattle.replay_model.specs.Asking.{permit_part, permit_is_kind, permit_is_for}
+use Rattle.replay_model.specs.Serving.{raise_again, whatever, permits_start}
 use Rattle.replay_model.specs.Calling.{double_call, is_called}
 use Rattle.replay_model.specs.Waiting.{never_so, and_guard, pauses_of, is_due, never_alt, only_pause}
 use Rattle.replay_model.specs.ReplayStmts.{task_called, replay_rewriter}
@@ -33,11 +33,11 @@ IsUnder k j = (k + 1 ≤ j) × (j ≤ k + 2)
 -- ---- calls that are added
 
 -- the call of an added task's entry with these lists
-abbrev pub call_added : Unit → Span → List ℕ → List ℕ → Option PArgs → PCall
+abbrev pub call_added : RewrittenUnit → Span → List ℕ → List ℕ → Option PArgs → PCall
 call_added u s task entry args = record { task = named (added_word u.setting.program s task); entry = added_word u.setting.program s entry; args = args }
 
 -- `DED_CONTROL.GO(t)(DED_K, DED_A, DED_I)`
-abbrev pub asks_permit : Unit → Span → PCall
+abbrev pub asks_permit : RewrittenUnit → Span → PCall
 asks_permit u s =
     call_added u s control_text go_text
     (Some (record {
@@ -46,21 +46,21 @@ asks_permit u s =
     }))
 
 -- `DED_CONTROL.DONE(t)`
-abbrev pub says_done : Unit → Span → PCall
+abbrev pub says_done : RewrittenUnit → Span → PCall
 says_done u s = call_added u s control_text done_text (Some (record { first = EInteger u.task s ∷ []; second = None }))
 
 -- `DED_IDLE.STOP`
-abbrev pub stops : Unit → Span → PCall
+abbrev pub stops : RewrittenUnit → Span → PCall
 stops u s = call_added u s idle_text stop_text None
 
 -- ---- tests and waits that are added
 
 -- `DED_K /= k`
-abbrev pub is_other_kind : Unit → Span → ℕ → PExpr
+abbrev pub is_other_kind : RewrittenUnit → Span → ℕ → PExpr
 is_other_kind u s k = EBinary NotEqual (permit_part u s kind_text) (EInteger k s) s
 
 -- the head of `accept DED_NEVER;`
-abbrev pub never_head : Unit → Span → PHead
+abbrev pub never_head : RewrittenUnit → Span → PHead
 never_head u s = record { entry = added_word u.setting.program s never_text; index = None; formals = []; span = s }
 
 -- the guard of a delay alternative in the wait for one: none for that one, and FALSE for the others
@@ -77,7 +77,7 @@ pub data IsAlternative (y : PAlt) : PAlts → Type 0 where
 -- ---- the pieces
 
 -- The pieces of a unit, where `b` is asked of the statements of the normal form and `a` of those of the replay text, what stands around them is related by R, and H is known of the nesting in the normal form of each statement for which some are added.
-pub record Pieces {C D : Type 0} (u : Unit) (H : ℕ → Type 0) (b : Asks C) (a : Asks D) (R : C → D → Type 0) : Type 0 where
+pub record Pieces {C D : Type 0} (u : RewrittenUnit) (H : ℕ → Type 0) (b : Asks C) (a : Asks D) (R : C → D → Type 0) : Type 0 where
   -- what is known of the nesting of a statement, and of an accept
   pub here : (c : C) (k : ℕ) (s : Span) → b.outer c k s → H k
   pub here_accepted : (c : C) (k : ℕ) (h : PHead) → b.head c k h → H k
@@ -119,17 +119,17 @@ pub record Pieces {C D : Type 0} (u : Unit) (H : ℕ → Type 0) (b : Asks C) (a
   pub called : (c : C) (d : D) (k j n : ℕ) (s : Span) (kind : ℕ) (x : PCall) → R c d → H k → IsUnder k j → b.callee c j x.task → b.call c j x → kind ≤ 10 → StandsNear k n → a.condition d n (is_called u s kind x)
   pub double : (c : C) (d : D) (k j n : ℕ) (x : PCall) → R c d → H k → IsUnder k j → b.callee c j x.task → b.call c j x → StandsNear k n → a.call d n (double_call u x)
   -- the test of a permit for an abort
-  pub aborted : (c : C) (d : D) (k n : ℕ) (s : Span) (x : PCallee) → R c d → H k → b.callee c (k + 1) x → StandsNear k n → a.condition d n (is_for u s 9 (task_called u x))
+  pub aborted : (c : C) (d : D) (k n : ℕ) (s : Span) (x : PCallee) → R c d → H k → b.callee c (k + 1) x → StandsNear k n → a.condition d n (permit_is_for u s 9 (task_called u x))
   -- the test of a permit for an accept
-  pub served : (c : C) (d : D) (k n : ℕ) (s : Span) (h : PHead) → R c d → b.head c k h → StandsNear k n → a.condition d n (is_served u s h)
+  pub served : (c : C) (d : D) (k n : ℕ) (s : Span) (h : PHead) → R c d → b.head c k h → StandsNear k n → a.condition d n (permits_start u s h)
   -- the tests of a permit for the alternatives of a wait, and for its else part
   pub taken : (c : C) (d : D) (k n : ℕ) (x : PAlts) (else_part : Bool) (t : Span) (guard : Option PExpr) (h : PHead) (o : PMaybe) (l : PStmts) (s : Span) → R c d → H k → b.wait c k x else_part t → AskedAlts b c (k + 1) x →
-      IsAlternative (alternative guard (AAccept (accepting h o) l) s) x → StandsNear k n → a.condition d n (and_guard s (is_served u s h) guard)
+      IsAlternative (alternative guard (AAccept (accepting h o) l) s) x → StandsNear k n → a.condition d n (and_guard s (permits_start u s h) guard)
   pub due : (c : C) (d : D) (k n : ℕ) (x : PAlts) (else_part : Bool) (t : Span) (guard : Option PExpr) (duration : ℕ) (l : PStmts) (s : Span) (place : ℕ) → R c d → H k → b.wait c k x else_part t → AskedAlts b c (k + 1) x →
       IsAlternative (alternative guard (ADelay duration l) s) x → place ≤ length (pauses_of x) → StandsNear k n → a.condition d n (is_due u s (pauses_of x) place duration guard)
   pub ends : (c : C) (d : D) (k n : ℕ) (x : PAlts) (else_part : Bool) (t : Span) (guard : Option PExpr) (s : Span) → R c d → H k → b.wait c k x else_part t → AskedAlts b c (k + 1) x →
-      IsAlternative (alternative guard ATerminate s) x → StandsNear k n → a.condition d n (and_guard s (is_kind u s 10) guard)
-  pub passes : (c : C) (d : D) (k n : ℕ) (s : Span) → R c d → H k → StandsNear k n → a.condition d n (is_kind u s 3)
+      IsAlternative (alternative guard ATerminate s) x → StandsNear k n → a.condition d n (and_guard s (permit_is_kind u s 10) guard)
+  pub passes : (c : C) (d : D) (k n : ℕ) (s : Span) → R c d → H k → StandsNear k n → a.condition d n (permit_is_kind u s 3)
   -- the waits for one alternative: their first alternative, which nobody calls, the delays, and the wait as a whole
   pub never : (c : C) (d : D) (k n : ℕ) (x : PAlts) (else_part : Bool) (t s : Span) → R c d → H k → b.wait c k x else_part t → AskedAlts b c (k + 1) x → StandsNear k n → a.head d n (never_head u s)
   pub shut : (c : C) (d : D) (k n : ℕ) (s : Span) → R c d → H k → StandsNear k n → a.condition d n (never_so s)

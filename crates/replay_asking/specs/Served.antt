@@ -28,8 +28,8 @@ abbrev pub serve : Voice → Span → PAccept → PStmts
 serve x s (accepting head absent) = stmt_then (SAccept (accepting head (present (accept_body x s absent))) s) (one (done x s))
 serve x s (accepting head (present stmts)) = stmt_then (saying_so x s (SAccept (accepting head (present (accept_body x s (present stmts)))) s)) (one (done x s))
 
-abbrev pub is_served : Voice → Span → PHead → PExpr
-is_served x s head = is_at x s 1 (entry_of x.numbers x.task head.entry.name) head.index
+abbrev pub permits_start : Voice → Span → PHead → PExpr
+permits_start x s head = is_at x s 1 (entry_of x.numbers x.task head.entry.name) head.index
 
 abbrev pub accept_image : Voice → Span → PAccept → PStmts
-accept_image x s a = ask_which x s (arm_then (arm (is_served x s (head_of a)) (serve x s a)) no_arm)
+accept_image x s a = ask_which x s (arm_then (arm (permits_start x s (head_of a)) (serve x s a)) no_arm)

@@ -8,7 +8,7 @@ ghost use Rattle.normal_model.specs.Waits.{head_of};
 ghost use Rattle.ada_expr_copy.specs.Parts.{OkWith};
 ghost use Rattle.task_model.specs.Setting.{entry_of};
 ghost use Rattle.replay_model.specs.Serving.{raise_again, whatever};
-ghost use Rattle.replay_asking.specs.Served.{finish, body_kept, accept_body, saying_so, serve, is_served, accept_image};
+ghost use Rattle.replay_asking.specs.Served.{finish, body_kept, accept_body, saying_so, serve, permits_start, accept_image};
 ghost use Rattle.replay_asking.specs.Spoken.{done};
 ghost use Rattle.replay_asking.specs.Looked.{voice_of};
 
@@ -171,7 +171,7 @@ pub fn serve(alloc: Global, x: &Speaker, accept: &mut Accept, s: Span) -> Result
 
 /// The permit is for the begin of the rendezvous of this accept statement.
 pub fn is_served(alloc: Global, x: &Speaker, accept: &Accept, s: Span) -> Result<Expr, Memory>
-    ensures { IfOk result (λ made. plain_expr made ≡ is_served (voice_of x.now) s (head_of (plain_accept accept.now))) }
+    ensures { IfOk result (λ made. plain_expr made ≡ permits_start (voice_of x.now) s (head_of (plain_accept accept.now))) }
 {
     let entry = entry_of(x.numbers, x.task, accept.entry.name);
     is_at(alloc, x, 1, entry, accept.index.as_ref(), s)

@@ -11,8 +11,8 @@ use Rattle.ada_tree.specs.PlainDecl.{PDecl, DNumber, DObject, DEnumeration, DArr
 use Rattle.ada_tree.specs.PlainProgram.{PProgram}
 use Rattle.syn_event.specs.declared.numbering.TaskInfo.{TaskInfo}
 use Rattle.syn_event.specs.Numbering.{Numbering, task_at}
-use Rattle.syn_event.specs.Numbered.{task_info}
-use Rattle.syn_event.specs.Units.{decl_list}
+use Rattle.syn_event.specs.AddedNames.{task_info}
+use Rattle.syn_event.specs.DeclaredTasks.{decl_list}
 use Rattle.control_script.specs.declared.Op.{Op}
 use Rattle.task_model.specs.Setting.{Setting}
 use Rattle.task_model.specs.Starting.{Unit, unit_among, unit_of_info, unit_of}

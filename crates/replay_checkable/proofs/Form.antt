@@ -12,14 +12,14 @@ use Rattle.syn_event.specs.Numbering.{Numbering}
 use Rattle.syn_event.specs.CheckRefusals.{MeetsCheckRules}
 use Rattle.syn_event.specs.CheckScope.{CheckScope, CheckSite}
 use Rattle.syn_event.specs.CheckSites as check
-use Rattle.syn_event.specs.Units.{decl_list}
+use Rattle.syn_event.specs.DeclaredTasks.{decl_list}
 use Rattle.legal_sites.specs.Met.{IsCheckMet}
 use Rattle.legal_sites.proofs.Meeting.{all_check_met}
 use Rattle.task_model.specs.Setting.{Setting}
 use Rattle.asked_stmts.specs.Asked.{AskedBody}
 use Rattle.asked_stmts.specs.Kinds.{check_asks}
 use Rattle.asked_stmts.proofs.Checked.{checked_asked}
-use Rattle.normal_model.specs.Waits.{Unit}
+use Rattle.normal_model.specs.RewrittenUnit.{RewrittenUnit}
 use Rattle.normal_model.specs.NormalTree.{unit_for, bodies_of, main_unit, running, normal_tree}
 use Rattle.normal_model.specs.NormalStmts.{normal_body, unit_variables}
 use Rattle.normal_model.proofs.VariablesLemmas.{begins-refl}
@@ -37,7 +37,7 @@ use Rattle.replay_checkable.proofs.Rooted.{Tells, rooted_asked}
 -- ---- pieces
 
 -- what a normal form adds for something stands at most four deeper
-pub form-pieces : (u : Unit) (vs : List PDecl) → Pieces u vs (depth_asks 41) form_asks (λ c d. Prim.Unit {0})
+pub form-pieces : (u : RewrittenUnit) (vs : List PDecl) → Pieces u vs (depth_asks 41) form_asks (λ c d. Prim.Unit {0})
 form-pieces u vs = record {
   outer = λ c d k n s rel h le. omega (arith, h, le);
   many = λ n h. tt;
@@ -108,7 +108,7 @@ module _ (names : List (List ℕ)) where
   tells = record { outer = λ c k s h. depth-of names c k s h; plain = plain-depth; head = λ c k h i. depth-of names c k h.span i.0 }
 
   -- the statements of a unit
-  unit-form : (u : Unit) (c : CheckScope) (x : PBody) → AllByRecursion M (check.body_sites c 1 x) → AskedBody form_asks tt 1 (normal_body u x)
+  unit-form : (u : RewrittenUnit) (c : CheckScope) (x : PBody) → AllByRecursion M (check.body_sites c 1 x) → AskedBody form_asks tt 1 (normal_body u x)
   unit-form u c x m =
       body-keeps u (unit_variables u x) (depth_asks 41) form_asks (λ a b. Prim.Unit {0}) (form-pieces u (unit_variables u x)) tt tt 1 x tt
       (rooted_asked (check_asks M) 40 tells c 1 x (checked_asked M c 1 x m)) (begins-refl (unit_variables u x))

@@ -16,7 +16,7 @@ use Rattle.syn_event.specs.declared.limits.What.TheVariants.{Formals}
 use Rattle.syn_event.specs.NamedTasks.{type_named, with_type}
 use Rattle.syn_event.specs.CheckScope.{CheckScope, CheckSite}
 use Rattle.syn_event.specs.CheckSites as check
-use Rattle.syn_event.specs.Units.{decl_list}
+use Rattle.syn_event.specs.DeclaredTasks.{decl_list}
 use Rattle.legal_sites.specs.Met.{IsCheckMet}
 use Rattle.task_model.specs.Setting.{Setting}
 use Rattle.asked_stmts.specs.Asked.{AskedBody}
@@ -25,7 +25,7 @@ use Rattle.asked_stmts.proofs.Placed.{placed_asked, asked_placed}
 use Rattle.asked_stmts.proofs.Checked.{checked_asked}
 use Rattle.asked_stmts.proofs.Together.{both_asked}
 use Rattle.normal_model.specs.Names.{task_name}
-use Rattle.normal_model.specs.Waits.{Unit}
+use Rattle.normal_model.specs.RewrittenUnit.{RewrittenUnit}
 use Rattle.normal_model.specs.NormalTree.{decls_front, mark_of, unless_left, first_decls, tasks_beside, task_under, declared_under, unit_for, running, bodies_of}
 use Rattle.normal_model.specs.NormalStmts.{normal_body, unit_variables}
 use Rattle.normal_model.proofs.VariablesLemmas.{begins-refl}
@@ -222,7 +222,7 @@ module _ (own kept : ℕ → Bool) (old : (n : ℕ) → own n ≡ true → kept 
 
 module _ (g : Setting) (own kept : ℕ → Bool) (names : List (List ℕ)) where
   -- the statements of a unit
-  pub unit-kept : (u : Unit) (c : CheckScope) (x : PBody) → KeepsNames u.setting own kept (unit_variables u x) → EveryBody (own_rules own) 1 x → AskedBody (callee_asks u.setting) tt 1 x → AllByRecursion (IsCheckMet Original names) (check.body_sites c 1 x) → EveryBody (rules_of kept) 1 (normal_body u x)
+  pub unit-kept : (u : RewrittenUnit) (c : CheckScope) (x : PBody) → KeepsNames u.setting own kept (unit_variables u x) → EveryBody (own_rules own) 1 x → AskedBody (callee_asks u.setting) tt 1 x → AllByRecursion (IsCheckMet Original names) (check.body_sites c 1 x) → EveryBody (rules_of kept) 1 (normal_body u x)
   unit-kept u c x known every calls m =
       let met = checked_asked (IsCheckMet Original names) c 1 x m in
       let vars : List PDecl = unit_variables u x in
@@ -260,7 +260,7 @@ module _ (g : Setting) (own kept : ℕ → Bool) (names : List (List ℕ)) where
       AllByRecursion (EveryDecl (rules_of kept)) (bodies_of g (DTaskBody w objects its s))
   copies-kept ids w objects its s c known vars calls every objs m =
       let ci : CheckScope = check.in_body c w in
-      let u : Unit = unit_for g w.name in
+      let u : RewrittenUnit = unit_for g w.name in
       map-among (EveryDecl (rules_of kept)) _ (running g w.name)
       (λ info i. (
         omega arith,

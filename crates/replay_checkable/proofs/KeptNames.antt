@@ -9,8 +9,8 @@ use Rattle.ada_tree.specs.declared.naming.NameId.{NameId}
 use Rattle.ada_tree.specs.TypeTable.{TypeTable}
 use Rattle.ada_tree.specs.PlainProgram.{PProgram}
 use Rattle.syn_event.specs.Numbering.{Numbering}
-use Rattle.syn_event.specs.Numbered.{is_added_name}
-use Rattle.syn_event.specs.Units.{text_of}
+use Rattle.syn_event.specs.AddedNames.{is_added_name}
+use Rattle.syn_event.specs.DeclaredTasks.{text_of}
 use Rattle.task_model.specs.Setting.{Setting}
 use Rattle.normal_model.specs.Names.{with_members, variable_text, normal_names, variable_name}
 use Rattle.normal_model.specs.NormalTree.{variables_needed, normal_tree}

@@ -30,8 +30,9 @@ use Rattle.normal_model.specs.Names.{variable_name, task_name}
 use Rattle.normal_model.specs.Ranges.{word_at, kind_of_range, subtype_of_range, array_range, family_range}
 use Rattle.normal_model.specs.Members.{integer_literal, truth_literal, literal_in, kind_of_index, index_literal}
 use Rattle.normal_model.specs.Calls.{Slot, actuals_passed, actual_subtypes, entry_called, lists_called, slots_called, lists_passed, args_passed, index_number, actual_number}
-use Rattle.normal_model.specs.Making.{variable, assigned, kept_subtypes, kept_if, moving, index_left}
-use Rattle.normal_model.specs.Waits.{Unit, not_held}
+use Rattle.normal_model.specs.Making.{variable, assignment, kept_subtypes, kept_if, moving, index_left}
+use Rattle.normal_model.specs.RewrittenUnit.{RewrittenUnit}
+use Rattle.normal_model.specs.Waits.{not_held}
 use Rattle.normal_model.specs.NormalTree.{tasks_beside}
 use Rattle.normal_model.specs.Variables.{variable_declared}
 use Rattle.normal_asked.specs.Pieces.{IsVariable, AreVariables, IsGuard, member_choice, IsAmong, IsPair, first_pair, later_pair, Pieces}
@@ -51,7 +52,7 @@ pub record KeepsNames (g : Setting) (own kept : ℕ → Bool) (vars : List PDecl
   pub tasks : (info : TaskInfo) → IsAmong info (tasks_beside g) → kept (task_name g info).0 ≡ true
   pub literals : (id : NameId) → IsLiteralOf g id → kept id.0 ≡ true
 
-module _ (u : Unit) (vars : List PDecl) (own kept : ℕ → Bool) (names : List (List ℕ)) (known : KeepsNames u.setting own kept vars) where
+module _ (u : RewrittenUnit) (vars : List PDecl) (own kept : ℕ → Bool) (names : List (List ℕ)) (known : KeepsNames u.setting own kept vars) where
   abbrev g : Setting
   g = u.setting
 
@@ -81,7 +82,7 @@ module _ (u : Unit) (vars : List PDecl) (own kept : ℕ → Bool) (names : List 
   variable-kept : (s v : Span) (x : PSubind) (j n : ℕ) → IsVariable g vars s x j → n ≤ 100 → EveryExpr r' n (variable g v j)
   variable-kept s v x j n i le = (le, known.variables j (slice_get_within vars j (variable_declared g s x j) i))
 
-  assigned-kept : (s : Span) (x : PSubind) (j n : ℕ) (e : PExpr) → IsVariable g vars s x j → n ≤ 100 → EveryExpr r' (n + 1) e → EveryStmt r' n (assigned g s j e)
+  assigned-kept : (s : Span) (x : PSubind) (j n : ℕ) (e : PExpr) → IsVariable g vars s x j → n ≤ 100 → EveryExpr r' (n + 1) e → EveryStmt r' n (assignment g s j e)
   assigned-kept s x j n e i le h = (le, (known.variables j (slice_get_within vars j (variable_declared g s x j) i), tt), h)
 
   -- ---- what moves
@@ -92,7 +93,7 @@ module _ (u : Unit) (vars : List PDecl) (own kept : ℕ → Bool) (names : List 
   moved : (c : CheckScope) (k n : ℕ) (e : PExpr) → Fits c k e → n ≤ k + 5 → EveryExpr r' n e
   moved c k n e f le = expr-kept own kept known.old names c k n e le f.0 f.1
 
-  kept-there : (c : CheckScope) (k n : ℕ) (s : Span) (x : PSubind) (e : PExpr) (j : ℕ) → Fits c k e → k ≤ 41 → IsVariable g vars s x j → n ≤ k + 4 → EveryStmt r' n (assigned g s j e)
+  kept-there : (c : CheckScope) (k n : ℕ) (s : Span) (x : PSubind) (e : PExpr) (j : ℕ) → Fits c k e → k ≤ 41 → IsVariable g vars s x j → n ≤ k + 4 → EveryStmt r' n (assignment g s j e)
   kept-there c k n s x e j f small v le = assigned-kept s x j n e v (omega (arith, small, le)) (moved c k (n + 1) e f (omega (arith, le)))
 
   option-fits : (c : CheckScope) (k : ℕ) (o : Option PExpr) (e : PExpr) → o ≡ Some e → IfSome o (EveryExpr r k) → AllByRecursion M (check.if_there (check.expr_sites c k) o) → Fits c k e

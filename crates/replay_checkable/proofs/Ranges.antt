@@ -15,10 +15,10 @@ use Rattle.ada_tree.specs.Refusals.{types_in}
 use Rattle.syn_event.specs.declared.numbering.TaskInfo.{TaskInfo}
 use Rattle.syn_event.specs.Numbering.{Numbering}
 use Rattle.syn_event.specs.Extents.{known_size, is_array_kind, is_array_mark}
-use Rattle.syn_event.specs.Units.{decl_list}
+use Rattle.syn_event.specs.DeclaredTasks.{decl_list}
 use Rattle.task_model.specs.Setting.{Setting}
 use Rattle.normal_model.specs.Names.{task_name}
-use Rattle.normal_model.specs.Waits.{Unit}
+use Rattle.normal_model.specs.RewrittenUnit.{RewrittenUnit}
 use Rattle.normal_model.specs.NormalStmts.{unit_variables}
 use Rattle.normal_model.specs.NormalTree.{decls_front, first_decls, tasks_beside, task_under, declared_under, unit_for, running, bodies_of, main_unit, normal_tree}
 use Rattle.rewritten_types.specs.Agreement.{Agrees}
@@ -153,7 +153,7 @@ module _ (old : ℕ → Bool) (T0 T U : TypeTable) (form : Agrees old T0 T) (tex
 
   copies-same : (g : Setting) (x : PDecl) → EveryDecl (old_names old) x → AllByRecursion (IsSameDecl T U) (bodies_of g x)
   copies-same g (DTaskBody w objects its s) h =
-      let u : Unit = unit_for g w.name in
+      let u : RewrittenUnit = unit_for g w.name in
       let objs : AllByRecursion (IsSameObject T U) (decl_list (decls_front objects (decls_of (unit_variables u its)))) = front-same objects (decls_of (unit_variables u its)) h.3 (listed (unit_variables u its) (unit-all (IsSameObject T U) u (λ s x k. tt) its)) in
       all-mapped (IsSameDecl T U) _ (λ (info : TaskInfo). objs) (running g w.name)
   copies-same g (DTask t s) h = tt

@@ -5,7 +5,7 @@ use Rattle.ada_tree.specs.TypeTable.{TypeTable}
 use Rattle.ada_tree.specs.PlainDecl.{PDecl}
 use Rattle.ada_tree.specs.PlainProgram.{PProgram}
 use Rattle.syn_event.specs.Numbering.{Numbering}
-use Rattle.syn_event.specs.Units.{decl_list}
+use Rattle.syn_event.specs.DeclaredTasks.{decl_list}
 use Rattle.normal_model.specs.NormalTree.{normal_tree}
 use Rattle.normal_has_numbers.proofs.Listed.{firsts, vars, tasks, bodies, normal-list}
 use Rattle.replay_model.specs.ReplayTree.{is_task, is_body}

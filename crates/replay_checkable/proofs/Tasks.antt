@@ -7,7 +7,7 @@ use Rattle.common_lemmas.proofs.Lists.{all_front, all_back, all_joined, all_weak
 use Rattle.common_lemmas.proofs.Numbers.{equal_is}
 use Rattle.event_machine.specs.declared.Event.{Event}
 use Rattle.event_machine.specs.declared.Event.TheVariants.{R, E, S, D, C, T, F, X, B, Z}
-use Rattle.event_progress.specs.Known.{Known, admits, advanced, at_start}
+use Rattle.event_progress.specs.Known.{Known, admits, advanced, known_at_start}
 use Rattle.ada_tree.specs.TypeTable.{TypeTable}
 use Rattle.ada_tree.specs.PlainDecl.{PEntry, PTask, PDecl, DNumber, DObject, DEnumeration, DArray, DSubtype, DException, DIntIo, DPragma, DTask, DTaskBody, PDecls, no_decl, decl_then}
 use Rattle.ada_tree.specs.PlainProgram.{PProgram}
@@ -16,7 +16,7 @@ use Rattle.syn_event.specs.declared.numbering.Mode.TheVariants.{Original}
 use Rattle.syn_event.specs.CheckScope.{CheckScope, CheckSite}
 use Rattle.syn_event.specs.CheckSites as check
 use Rattle.syn_event.specs.Numbering.{Numbering}
-use Rattle.syn_event.specs.Units.{text_of, decl_list, tasks_in, tasks_of}
+use Rattle.syn_event.specs.DeclaredTasks.{text_of, decl_list, tasks_in, tasks_of}
 use Rattle.legal_sites.specs.Met.{IsCheckMet}
 use Rattle.control_script.specs.declared.Op.TheVariants.{Done, Join, Hold}
 use Rattle.control_script.specs.Script.{open_tasks, to_close, after_abort, operations, held, script_from, script}
@@ -173,4 +173,4 @@ module _ (g : Setting) (Beside : ℕ → Type 0) (other : (t : ℕ) → Beside t
 
   -- The controller waits for the end of tasks beside main alone.
   pub script-joined : (owner : ℕ → ℕ) (n : ℕ) (es : List Event) → AllByRecursion (EndsBeside Beside) es → AllByRecursion (IsJoinable g) (script owner n es)
-  script-joined owner n es h = events-joined owner es (at_start n) h
+  script-joined owner n es h = events-joined owner es (known_at_start n) h

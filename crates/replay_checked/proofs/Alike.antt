@@ -9,7 +9,7 @@ use Rattle.ada_tree.specs.Every.{EveryDecl}
 use Rattle.syn_event.specs.declared.meanings.Meant.{Meant}
 use Rattle.syn_event.specs.declared.meanings.Meant.TheVariants.{MainProcedure, TaskType, TaskOf, Shared, Inner}
 use Rattle.syn_event.specs.CheckScope.{CheckScope, meaning}
-use Rattle.syn_event.specs.CheckSites.{with_meant, with_value, with_object, after_decl}
+use Rattle.syn_event.specs.CheckSites.{with_meant, with_declared_object, with_object, after_decl}
 use Rattle.syn_event.specs.Extents.{is_array_type}
 use Rattle.replay_checked.specs.Around.{kept_name, kept_names}
 use Rattle.replay_checked.specs.Checkable.{IsSameDecl}
@@ -28,7 +28,7 @@ module _ (q : PProgram) where
   meant-alike m c d [] h = h
   meant-alike m c d (w ∷ ws) h = meant-alike m (with_name c w.name.0 m) (with_name d w.name.0 m) ws (λ id o. meant-under c d w.name.0 m id (h id o))
 
-  value-alike : (b : Bool) (c d : CheckScope) (ws : List Word) → AreAlike q c d → AreAlike q (with_value b c ws) (with_value b d ws)
+  value-alike : (b : Bool) (c d : CheckScope) (ws : List Word) → AreAlike q c d → AreAlike q (with_declared_object b c ws) (with_declared_object b d ws)
   value-alike true c d ws h = meant-alike Shared c d ws h
   value-alike false c d ws h = h
 
@@ -69,7 +69,7 @@ module _ (q : PProgram) where
   new-alike m c d [] n h = h
   new-alike m c d (w ∷ ws) n h = new-alike m c (with_name d w.name.0 m) ws n.1 (λ id o. meant-beside d w.name.0 m id (n.0 id o) ∙ h id o)
 
-  new-value : (b : Bool) (c d : CheckScope) (ws : List Word) → AllByRecursion (IsNewWord q) ws → AreAlike q c d → AreAlike q c (with_value b d ws)
+  new-value : (b : Bool) (c d : CheckScope) (ws : List Word) → AllByRecursion (IsNewWord q) ws → AreAlike q c d → AreAlike q c (with_declared_object b d ws)
   new-value true c d ws n h = new-alike Shared c d ws n h
   new-value false c d ws n h = h
 

@@ -13,7 +13,7 @@ use Rattle.syn_event.specs.declared.meanings.Meant.TheVariants.{Inner}
 use Rattle.syn_event.specs.CheckScope.{CheckScope, CheckSite, meaning}
 use Rattle.syn_event.specs.CheckSites as check
 use Rattle.syn_event.specs.RuleSharedVariable.{shared_name, in_body_of}
-use Rattle.syn_event.specs.Units.{decl_list, tasks_in}
+use Rattle.syn_event.specs.DeclaredTasks.{decl_list, tasks_in}
 use Rattle.task_model.specs.Setting.{Setting}
 use Rattle.asked_stmts.specs.Asked.{AskedBody}
 use Rattle.asked_stmts.specs.Kinds.{place_asks, check_asks, both}
@@ -21,7 +21,7 @@ use Rattle.asked_stmts.proofs.Placed.{placed_asked}
 use Rattle.asked_stmts.proofs.Checked.{checked_asked, asked_checked}
 use Rattle.asked_stmts.proofs.Together.{both_asked}
 use Rattle.normal_model.specs.Ranges.{integer_subtype}
-use Rattle.normal_model.specs.Waits.{Unit as Part}
+use Rattle.normal_model.specs.RewrittenUnit.{RewrittenUnit}
 use Rattle.normal_model.specs.NormalTree.{unit_for}
 use Rattle.normal_has_numbers.proofs.Listed.{IsPlain, IsOneTask, IsOneBody}
 use Rattle.normal_checked.proofs.Places.{met-deep}
@@ -149,7 +149,7 @@ module _ (g : Setting) where
   M' = IsTextMet p
 
   -- the statements of a unit
-  pub unit-met : (u : Part) (c d : CheckScope) (s : Span) (its : PBody) → IsAsking u.setting.program c d → EveryBody (kept_names u.setting.program) 1 its → AskedBody form_asks tt 1 its → AllByRecursion (IsFormMet u.setting.program) (check.body_sites c 1 its) →
+  pub unit-met : (u : RewrittenUnit) (c d : CheckScope) (s : Span) (its : PBody) → IsAsking u.setting.program c d → EveryBody (kept_names u.setting.program) 1 its → AskedBody form_asks tt 1 its → AllByRecursion (IsFormMet u.setting.program) (check.body_sites c 1 its) →
       AllByRecursion (IsTextMet u.setting.program) (check.body_sites d 1 (replay_body u s its))
   unit-met u c d s its rel every form m =
       let v : PProgram = u.setting.program in

@@ -17,12 +17,12 @@ use Rattle.syn_event.specs.RuleSameEntryTwice.{accept_heads, clashing}
 use Rattle.task_model.specs.Setting.{entry_of}
 use Rattle.asked_stmts.specs.Asked.{Asks, AskedAlts, AskedKind}
 use Rattle.asked_stmts.specs.Kinds.{check_asks, before_sites}
-use Rattle.normal_model.specs.Waits.{Unit}
+use Rattle.normal_model.specs.RewrittenUnit.{RewrittenUnit}
 use Rattle.normal_model.specs.Calls.{entry_called, lists_called}
 use Rattle.normal_checked.proofs.Places.{met-deep, met-alternative, met-callee, met-accept, met-wait, met-raise, met-use}
 use Rattle.replay_model.specs.Names.{kind_text, argument_text, index_text, control_text, idle_text, never_text, replay_names, added_id, added_word}
-use Rattle.replay_model.specs.Asking.{is_kind}
-use Rattle.replay_model.specs.Serving.{is_served}
+use Rattle.replay_model.specs.Asking.{permit_is_kind}
+use Rattle.replay_model.specs.Serving.{permits_start}
 use Rattle.replay_model.specs.Waiting.{Pause, pauses_of, never_alt, only_pause}
 use Rattle.replay_model.specs.ReplayStmts.{task_called}
 use Rattle.replay_asked.specs.Pieces.{IsAlternative, first_alternative, later_alternative, never_head, pause_guard, Pieces}
@@ -33,7 +33,7 @@ use Rattle.replay_checked.proofs.Stays.{IsFormMet, IsTextMet, uses-stay, expr-st
 use Rattle.replay_checked.proofs.Tests.{Fits, kind-met, for-met, at-met, guarded-met, shut-met, due-met, index-fits}
 use Rattle.replay_checked.proofs.Waits.{asks, pauses-fewer, some-accept, few-alternatives, HasOwn, own-entry, delays-none, delays-alone}
 
-module _ (u : Unit) where
+module _ (u : RewrittenUnit) where
   abbrev q : PProgram
   q = u.setting.program
 
@@ -72,7 +72,7 @@ module _ (u : Unit) where
     args-met k n (Some x) le h m = args-stay q c.1.0 d (uses-stay q c.1.0 d rel) k n x le h m
 
     -- the index of an accept
-    served-met : (k n : ℕ) (s : Span) (h : PHead) → b.head c k h → n ≤ 296 → n + 103 ≤ (k + 1) + 300 → At' (check.expr_sites d n (is_served u s h))
+    served-met : (k n : ℕ) (s : Span) (h : PHead) → b.head c k h → n ≤ 296 → n + 103 ≤ (k + 1) + 300 → At' (check.expr_sites d n (permits_start u s h))
     served-met k n s h i le few = at-met u c.1.0 d rel n (k + 1) s 1 (entry_of u.setting.numbers u.task h.entry.name) h.index (go h.index i.0.1.1 (all_front (IsFormMet q) (check.if_there (check.expr_sites c.1.0 (k + 1)) h.index) (check.names_sites c.1.0 (check.formal_names h.formals)) i.1.0.1.1)) le few
       where
         go : (o : Option PExpr) → IfSome o (EveryExpr r (k + 1)) → AllByRecursion (IsFormMet q) (check.if_there (check.expr_sites c.1.0 (k + 1)) o) → IfSome o (F (k + 1))
@@ -200,7 +200,7 @@ module _ (u : Unit) where
     served = λ c d k n s h rel i le. let m : k ≤ 50 = i.1.1 in served-met c d rel k n s h i (omega (arith, m, le)) (omega (arith, m, le));
     taken = λ c d k n x else_part t guard h o l s rel near w alts is le.
         let f = alternative-asked c d rel guard (AAccept (accepting h o) l) s x (k + 1) is alts in
-        guarded-met u c.1.0 d rel n ((k + 1) + 1) s (is_served u s h) guard (guard-fits c d rel ((k + 1) + 1) guard f.0)
+        guarded-met u c.1.0 d rel n ((k + 1) + 1) s (permits_start u s h) guard (guard-fits c d rel ((k + 1) + 1) guard f.0)
         (λ m at. served-met c d rel ((k + 1) + 1) m s h f.1.0.0 (omega (arith, near, at, le)) (omega (arith, near, at, le))) (omega (arith, near, le)) (omega (arith, near, le));
     due = λ c d k n x else_part t guard duration l s place rel near w alts is small le.
         let f = alternative-asked c d rel guard (ADelay duration l) s x (k + 1) is alts in
@@ -208,7 +208,7 @@ module _ (u : Unit) where
         due-met u c.1.0 d rel n ((k + 1) + 1) s (pauses_of x) place duration guard (pauses-fit c d rel x (k + 1) alts) (guard-fits c d rel ((k + 1) + 1) guard f.0) (omega (arith, near, few, le)) (omega (arith, near, few, le));
     ends = λ c d k n x else_part t guard s rel near w alts is le.
         let f = alternative-asked c d rel guard ATerminate s x (k + 1) is alts in
-        guarded-met u c.1.0 d rel n ((k + 1) + 1) s (is_kind u s 10) guard (guard-fits c d rel ((k + 1) + 1) guard f.0) (λ m at. kind-met u c.1.0 d rel m s 10 (omega (arith, near, at, le))) (omega (arith, near, le)) (omega (arith, near, le));
+        guarded-met u c.1.0 d rel n ((k + 1) + 1) s (permit_is_kind u s 10) guard (guard-fits c d rel ((k + 1) + 1) guard f.0) (λ m at. kind-met u c.1.0 d rel m s 10 (omega (arith, near, at, le))) (omega (arith, near, le)) (omega (arith, near, le));
     passes = λ c d k n s rel near le. kind-met u c.1.0 d rel n s 3 (omega (arith, near, le));
     never = λ c d k n x else_part t s rel near w alts le. never-met c d rel x k else_part t s n w alts (omega (arith, near, le));
     shut = λ c d k n s rel near le. shut-met u c.1.0 d rel n s (omega (arith, near, le));

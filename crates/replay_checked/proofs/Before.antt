@@ -10,8 +10,8 @@ use Rattle.ada_tree.specs.PlainProgram.{PProgram}
 use Rattle.ada_tree.specs.Every.{EveryDecl}
 use Rattle.syn_event.specs.declared.meanings.Meant.{Meant}
 use Rattle.syn_event.specs.declared.meanings.Meant.TheVariants.{MainProcedure, TaskType, TaskOf, Shared, Inner}
-use Rattle.syn_event.specs.CheckScope.{Unit, CheckScope, meaning}
-use Rattle.syn_event.specs.CheckSites.{with_meant, with_value, with_object, meant_by_task, after_decl}
+use Rattle.syn_event.specs.CheckScope.{EnclosingUnit, CheckScope, meaning}
+use Rattle.syn_event.specs.CheckSites.{with_meant, with_declared_object, with_object, meant_by_task, after_decl}
 use Rattle.syn_event.specs.Extents.{is_array_type}
 use Rattle.syn_event.specs.RuleAcceptPlace.{is_among}
 use Rattle.syn_event.specs.RuleSharedVariable.{shared_name, in_body_of}
@@ -51,7 +51,7 @@ units-meant : (m : Meant) (c : CheckScope) (ws : List Word) → (with_meant m c 
 units-meant m c [] = refl
 units-meant m c (w ∷ ws) = units-meant m (with_name c w.name.0 m) ws
 
-units-value : (b : Bool) (c : CheckScope) (ws : List Word) → (with_value b c ws).units ≡ c.units
+units-value : (b : Bool) (c : CheckScope) (ws : List Word) → (with_declared_object b c ws).units ≡ c.units
 units-value true c ws = units-meant Shared c ws
 units-value false c ws = refl
 
@@ -94,7 +94,7 @@ true-meant m c (w ∷ ws) n h =
     parts true b e = absurd (true≢false e)
     parts false b e = (refl, e)
 
-true-value : (b : Bool) (c : CheckScope) (ws : List Word) → list_any (λ w. w.name.0 == false_name) ws ≡ false → IsUnshared c → IsUnshared (with_value b c ws)
+true-value : (b : Bool) (c : CheckScope) (ws : List Word) → list_any (λ w. w.name.0 == false_name) ws ≡ false → IsUnshared c → IsUnshared (with_declared_object b c ws)
 true-value true c ws n h = true-meant Shared c ws n h
 true-value false c ws n h = h
 
@@ -131,10 +131,10 @@ true-decl (DTaskBody w objects its s) c n h = h
 
 module _ (q : PProgram) where
   -- their units
-  abbrev pub control_unit : Unit
+  abbrev pub control_unit : EnclosingUnit
   control_unit = record { name = added_id q control_text; entries = added_id q go_text ∷ added_id q done_text ∷ added_id q hold_text ∷ [] }
 
-  abbrev pub idle_unit : Unit
+  abbrev pub idle_unit : EnclosingUnit
   idle_unit = record { name = added_id q idle_text; entries = added_id q stop_text ∷ added_id q rest_text ∷ [] }
 
   -- the scope behind these two
@@ -153,7 +153,7 @@ module _ (q : PProgram) (c0 d0 : CheckScope) where
     pub truth : (s : Span) → shared_name (meaning c (record { 0 = false_name })) s ≡ []
     pub plain : ArePlain q.name.name.0 d.names
 
-  units-same : (us us' vs vs' : List Unit) → us' ≡ us → vs' ≡ vs → AreMore q us vs → AreMore q us' vs'
+  units-same : (us us' vs vs' : List EnclosingUnit) → us' ≡ us → vs' ≡ vs → AreMore q us vs → AreMore q us' vs'
   units-same us us' vs vs' e f h = subst (λ l. AreMore q l vs') (sym e) (subst (λ l. AreMore q us l) (sym f) h)
 
   -- what is the same by the first tables is so by those at the place
@@ -236,6 +236,6 @@ module _ (q : PProgram) (c0 d0 : CheckScope) where
         in_handler' = f.in_handler ∙ i';
       }
     where
-      nothing : (o : Option Unit) → in_body_of o [] ≡ []
+      nothing : (o : Option EnclosingUnit) → in_body_of o [] ≡ []
       nothing (Some x) = refl
       nothing None = refl

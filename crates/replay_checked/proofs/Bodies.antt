@@ -11,12 +11,12 @@ use Rattle.ada_tree.specs.Attributes.{false_name}
 use Rattle.ada_tree.specs.PlainDecl.{PDecl, DNumber, DObject, DEnumeration, DArray, DSubtype, DException, DIntIo, DPragma, DTask, DTaskBody, PDecls, no_decl, decl_then, decls_of}
 use Rattle.ada_tree.specs.PlainProgram.{PProgram}
 use Rattle.syn_event.specs.declared.meanings.Meant.TheVariants.{Inner}
-use Rattle.syn_event.specs.CheckScope.{Unit, CheckScope, meaning, uses, addresses}
+use Rattle.syn_event.specs.CheckScope.{EnclosingUnit, CheckScope, meaning, uses, addresses}
 use Rattle.syn_event.specs.CheckSites.{own_unit, in_body, after_own_object, after_own}
 use Rattle.syn_event.specs.RuleAcceptPlace.{is_among, is_own_entry}
 use Rattle.syn_event.specs.RuleMainEntry.{main_entry}
 use Rattle.syn_event.specs.RuleSharedVariable.{shared_name, in_body_of, shared_variable}
-use Rattle.syn_event.specs.Units.{decl_list}
+use Rattle.syn_event.specs.DeclaredTasks.{decl_list}
 use Rattle.normal_checked.proofs.MainScopes.{IsFrameOf, meant-frame}
 use Rattle.replay_model.specs.Names.{kind_text, argument_text, index_text, control_text, idle_text, never_text, added_id, added_word}
 use Rattle.replay_model.specs.ReplayTree.{is_added_object, behind_own, permit_declared}
@@ -158,7 +158,7 @@ module _ (q : PProgram) where
   -- What is known of the scopes behind the tasks, in the normal form and in the text.
   pub record AreBehindTasks (c d : CheckScope) : Type 0 where
     pub alike : AreAlike q c d
-    pub truth : (own : Option Unit) (s : Span) → shared_variable (record d { own = own }) (uses (record { 0 = false_name }) s) ≡ []
+    pub truth : (own : Option EnclosingUnit) (s : Span) → shared_variable (record d { own = own }) (uses (record { 0 = false_name }) s) ≡ []
     pub calls : (w : Word) → (w.name.0 == q.name.name.0) ≡ false → main_entry d (addresses w) ≡ []
     pub control : (s : Span) → main_entry d (addresses (added_word q s control_text)) ≡ []
     pub idle : (s : Span) → main_entry d (addresses (added_word q s idle_text)) ≡ []

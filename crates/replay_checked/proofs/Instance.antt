@@ -7,7 +7,7 @@ use Rattle.common_lemmas.proofs.Numbers.{le_is}
 use Rattle.ada_tree.specs.PlainExpr.{EName}
 use Rattle.ada_tree.specs.PlainProgram.{PProgram}
 use Rattle.ada_tree.specs.Every.{Rules, EveryWord, EveryExpr, EveryFormal, EveryEntry, EveryPriority, EveryDecl, EveryBody}
-use Rattle.syn_event.specs.Units.{decl_list}
+use Rattle.syn_event.specs.DeclaredTasks.{decl_list}
 use Rattle.normal_placed.specs.Example.{nowhere, word, formal, entry}
 use Rattle.replay_checked.specs.Around.{kept_names}
 use Rattle.replay_checked.specs.Checkable.{IsCheckable}

@@ -5,7 +5,7 @@ use Rattle.common_lemmas.proofs.Lists.{all_front, all_back, all_joined}
 use Rattle.ada_tree.specs.PlainDecl.{PDecl, PDecls, no_decl, decl_then, decls_of}
 use Rattle.syn_event.specs.CheckScope.{CheckScope, CheckSite}
 use Rattle.syn_event.specs.CheckSites.{after_decl, after_decls, decl_sites, decls_sites}
-use Rattle.syn_event.specs.Units.{decl_list}
+use Rattle.syn_event.specs.DeclaredTasks.{decl_list}
 
 -- ---- what stands around
 

@@ -9,7 +9,7 @@ use Rattle.common_lemmas.proofs.Numbers.{equal_is, unequal_turned}
 use Rattle.ada_tree.specs.declared.naming.NameId.{NameId}
 use Rattle.ada_tree.specs.PlainDecl.{PEntry, PTask}
 use Rattle.ada_tree.specs.PlainProgram.{PProgram}
-use Rattle.syn_event.specs.Units.{text_of, tasks_of}
+use Rattle.syn_event.specs.DeclaredTasks.{text_of, tasks_of}
 use Rattle.replay_model.specs.Names.{added_texts, double_text, double_texts, replay_names, added_id, double_word}
 use Rattle.normal_has_numbers.proofs.Named.{Has, has-folded, has-front, has-back, text-there, text-longer}
 use Rattle.replay_texts.proofs.Rooted.{replay-begins, replay-has}

@@ -15,7 +15,7 @@ use Rattle.syn_event.specs.declared.numbering.Mode.TheVariants.{Any}
 use Rattle.syn_event.specs.declared.limits.What.TheVariants.{Nesting}
 use Rattle.syn_event.specs.CheckScope.{CheckScope, CheckSite, meaning, declares, uses, accepts, exits, counts}
 use Rattle.syn_event.specs.CheckSites as check
-use Rattle.syn_event.specs.Units.{text_of}
+use Rattle.syn_event.specs.DeclaredTasks.{text_of}
 use Rattle.syn_event.specs.RuleAcceptPlace.{is_among, is_own_entry}
 use Rattle.syn_event.specs.RuleExitPlace.{is_left}
 use Rattle.syn_event.specs.RuleMainEntry.{no_task}

@@ -14,7 +14,7 @@ use Rattle.syn_event.specs.declared.limits.What.TheVariants.{Members, Formals}
 use Rattle.syn_event.specs.CheckScope.{CheckScope, CheckSite, declares, needs_body, counts}
 use Rattle.syn_event.specs.CheckSites as check
 use Rattle.syn_event.specs.Extents.{size, count_to}
-use Rattle.syn_event.specs.Units.{text_of}
+use Rattle.syn_event.specs.DeclaredTasks.{text_of}
 use Rattle.legal_sites.proofs.Around.{test-holds}
 use Rattle.normal_has_numbers.proofs.Named.{Has}
 use Rattle.normal_checked.proofs.Places.{met-deep, met-name, passed-not}

@@ -17,15 +17,15 @@ use Rattle.syn_event.specs.CheckSites as check
 use Rattle.task_model.specs.Setting.{is_family, first_expr, lists_in, lists_of}
 use Rattle.normal_model.specs.Ranges.{kind_of_range, family_range}
 use Rattle.normal_model.specs.Calls.{entry_called, lists_called}
-use Rattle.normal_model.specs.Waits.{Unit}
+use Rattle.normal_model.specs.RewrittenUnit.{RewrittenUnit}
 use Rattle.normal_checked.proofs.Places.{met-deep, met-use}
 use Rattle.replay_model.specs.Names.{kind_text, argument_text, index_text, replay_names, added_id}
-use Rattle.replay_model.specs.Asking.{permit_part, both, is_kind, is_for, as_number, number_in, member_number, is_at}
+use Rattle.replay_model.specs.Asking.{permit_part, both, permit_is_kind, permit_is_for, as_number, number_in, member_number, permit_is_at}
 use Rattle.replay_model.specs.Waiting.{never_so, and_guard, is_shut, Pause, and_later, is_due}
 use Rattle.replay_checked.specs.Around.{kept_names, IsAsking}
 use Rattle.replay_checked.proofs.Stays.{IsFormMet, IsTextMet, expr-stays, uses-stay}
 
-module _ (u : Unit) (c d : CheckScope) (rel : IsAsking u.setting.program c d) where
+module _ (u : RewrittenUnit) (c d : CheckScope) (rel : IsAsking u.setting.program c d) where
   abbrev q : PProgram
   q = u.setting.program
 
@@ -68,7 +68,7 @@ module _ (u : Unit) (c d : CheckScope) (rel : IsAsking u.setting.program c d) wh
   both-met n s x y le h i = (met-deep (replay_names q) d n s le, all_joined (IsTextMet q) (check.expr_sites d (n + 1) x) (check.expr_sites d (n + 1) y) h i)
 
   -- `DED_K = k`
-  pub kind-met : (n : ℕ) (s : Span) (k : ℕ) → n + 1 ≤ 300 → At' (check.expr_sites d n (is_kind u s k))
+  pub kind-met : (n : ℕ) (s : Span) (k : ℕ) → n + 1 ≤ 300 → At' (check.expr_sites d n (permit_is_kind u s k))
   kind-met n s k le =
       (met-deep (replay_names q) d n s (omega (arith, le)), all_joined (IsTextMet q) (check.expr_sites d (n + 1) (permit_part u s kind_text)) (check.expr_sites d (n + 1) (EInteger k s)) (kind-used (n + 1) s le) (number-met (n + 1) k s le))
 
@@ -77,8 +77,8 @@ module _ (u : Unit) (c d : CheckScope) (rel : IsAsking u.setting.program c d) wh
       (met-deep (replay_names q) d n s (omega (arith, le)), all_joined (IsTextMet q) (check.expr_sites d (n + 1) (permit_part u s argument_text)) (check.expr_sites d (n + 1) (EInteger a s)) (argument-used (n + 1) s le) (number-met (n + 1) a s le))
 
   -- `DED_K = k and DED_A = a`
-  pub for-met : (n : ℕ) (s : Span) (k a : ℕ) → n + 2 ≤ 300 → At' (check.expr_sites d n (is_for u s k a))
-  for-met n s k a le = both-met n s (is_kind u s k) (EBinary Equal (permit_part u s argument_text) (EInteger a s) s) (omega (arith, le)) (kind-met (n + 1) s k (omega (arith, le))) (argument-met (n + 1) s a (omega (arith, le)))
+  pub for-met : (n : ℕ) (s : Span) (k a : ℕ) → n + 2 ≤ 300 → At' (check.expr_sites d n (permit_is_for u s k a))
+  for-met n s k a le = both-met n s (permit_is_kind u s k) (EBinary Equal (permit_part u s argument_text) (EInteger a s) s) (omega (arith, le)) (kind-met (n + 1) s k (omega (arith, le))) (argument-met (n + 1) s a (omega (arith, le)))
 
   -- the index as a number, which may stand one deeper in `T'POS(index)`
   as-met : (n j : ℕ) (s : Span) (k : ℕ) (o : Option Kind) (x : PExpr) → Fits j x → n ≤ 299 → n + 101 ≤ j + 300 → At' (check.expr_sites d n (as_number u.setting.types s k o x))
@@ -97,9 +97,9 @@ module _ (u : Unit) (c d : CheckScope) (rel : IsAsking u.setting.program c d) wh
   member-met n j s e (Some x) f le few = in-met n j s (family_range u.setting e) x f le few
 
   -- `DED_K = k and DED_A = e and DED_I = index`
-  pub at-met : (n j : ℕ) (s : Span) (k e : ℕ) (o : Option PExpr) → IfSome o (Fits j) → n ≤ 296 → n + 103 ≤ j + 300 → At' (check.expr_sites d n (is_at u s k e o))
+  pub at-met : (n j : ℕ) (s : Span) (k e : ℕ) (o : Option PExpr) → IfSome o (Fits j) → n ≤ 296 → n + 103 ≤ j + 300 → At' (check.expr_sites d n (permit_is_at u s k e o))
   at-met n j s k e o f le few =
-      both-met n s (is_for u s k e) (EBinary Equal (permit_part u s index_text) (member_number u.setting s e o) s) (omega (arith, le)) (for-met (n + 1) s k e (omega (arith, le)))
+      both-met n s (permit_is_for u s k e) (EBinary Equal (permit_part u s index_text) (member_number u.setting s e o) s) (omega (arith, le)) (for-met (n + 1) s k e (omega (arith, le)))
       (met-deep (replay_names q) d (n + 1) s (omega (arith, le)), all_joined (IsTextMet q) (check.expr_sites d ((n + 1) + 1) (permit_part u s index_text)) (check.expr_sites d ((n + 1) + 1) (member_number u.setting s e o)) (index-used ((n + 1) + 1) s (omega (arith, le))) (member-met ((n + 1) + 1) j s e o f (omega (arith, le)) (omega (arith, few))))
 
   -- a test, and that a guard holds
@@ -134,8 +134,8 @@ module _ (u : Unit) (c d : CheckScope) (rel : IsAsking u.setting.program c d) wh
   pub due-met : (n j : ℕ) (s : Span) (pauses : List Pause) (k duration : ℕ) (guard : Option PExpr) → AllByRecursion (λ x. IfSome x.guard (Fits j)) pauses → IfSome guard (Fits j) → n + 3 + length pauses ≤ 300 → n + 3 + length pauses + 100 ≤ j + 300 →
       At' (check.expr_sites d n (is_due u s pauses k duration guard))
   due-met n j s pauses k duration guard all f le few =
-      later-met j s duration pauses (and_guard s (is_for u s 4 k) guard) 3 (omega arith) all
-      (λ m small enough. guarded-met m j s (is_for u s 4 k) guard f (λ i near. for-met i s 4 k (omega (arith, near, small))) (omega (arith, small)) (omega (arith, enough))) n (omega (arith, le)) (omega (arith, few))
+      later-met j s duration pauses (and_guard s (permit_is_for u s 4 k) guard) 3 (omega arith) all
+      (λ m small enough. guarded-met m j s (permit_is_for u s 4 k) guard f (λ i near. for-met i s 4 k (omega (arith, near, small))) (omega (arith, small)) (omega (arith, enough))) n (omega (arith, le)) (omega (arith, few))
 
   -- ---- calls
 

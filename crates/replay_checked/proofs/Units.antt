@@ -6,8 +6,8 @@ use Rattle.ada_tree.specs.declared.naming.NameId.{NameId}
 use Rattle.ada_tree.specs.declared.naming.Word.{Word}
 use Rattle.ada_tree.specs.PlainDecl.{PEntry, PTask}
 use Rattle.ada_tree.specs.PlainProgram.{PProgram}
-use Rattle.syn_event.specs.CheckScope.{Unit}
-use Rattle.syn_event.specs.CheckSites.{unit_of}
+use Rattle.syn_event.specs.CheckScope.{EnclosingUnit}
+use Rattle.syn_event.specs.CheckSites.{enclosing_unit}
 use Rattle.syn_event.specs.RuleAcceptPlace.{is_among}
 use Rattle.replay_model.specs.Names.{never_text, join_text, added_id}
 use Rattle.replay_model.specs.ReplayTree.{double_entry}
@@ -32,17 +32,17 @@ any-back f g (x ∷ xs) ys h = or_right (f (g x)) (list_any f (map g (xs ++ ys))
 
 module _ (q : PProgram) where
   -- the unit has the name of another, its entries and DED_NEVER
-  pub record IsMore (u v : Unit) : Type 0 where
+  pub record IsMore (u v : EnclosingUnit) : Type 0 where
     pub name : v.name ≡ u.name
     pub entries : (id : NameId) → is_among u.entries id ≡ true → is_among v.entries id ≡ true
     pub never : is_among v.entries (added_id q never_text) ≡ true
 
-  abbrev pub AreMore : List Unit → List Unit → Type 0
+  abbrev pub AreMore : List EnclosingUnit → List EnclosingUnit → Type 0
   AreMore [] [] = Prim.Unit {0}
   AreMore (u ∷ us) (v ∷ vs) = IsMore u v × AreMore us vs
   AreMore _ _ = ⊥
 
-  pub more-unit : (t : PTask) → IsMore (unit_of t) (unit_of (more_task q t))
+  pub more-unit : (t : PTask) → IsMore (enclosing_unit t) (enclosing_unit (more_task q t))
   more-unit t =
       let never : PEntry = added_entry q t.name.span never_text None [] in
       let join : PEntry = added_entry q t.name.span join_text None [] in
@@ -59,16 +59,16 @@ module _ (q : PProgram) where
   -- ---- the own unit
 
   -- the entries of the unit of a name
-  abbrev pub entries_named : Word → List Unit → List NameId
+  abbrev pub entries_named : Word → List EnclosingUnit → List NameId
   entries_named w us = (unwrap_or (find (λ u. u.name.0 == w.name.0) us) (record { name = w.name; entries = [] })).entries
 
-  pub own-more : (w : Word) (us vs : List Unit) → AreMore us vs → (id : NameId) → is_among (entries_named w us) id ≡ true → (is_among (entries_named w vs) id ≡ true) × (is_among (entries_named w vs) (added_id q never_text) ≡ true)
+  pub own-more : (w : Word) (us vs : List EnclosingUnit) → AreMore us vs → (id : NameId) → is_among (entries_named w us) id ≡ true → (is_among (entries_named w vs) id ≡ true) × (is_among (entries_named w vs) (added_id q never_text) ≡ true)
   own-more w [] [] m id h = absurd (true≢false (sym h))
   own-more w [] (v ∷ vs) m id h = absurd m
   own-more w (u ∷ us) [] m id h = absurd m
   own-more w (u ∷ us) (v ∷ vs) m id h = go (u.name.0 == w.name.0) (v.name.0 == w.name.0) (ap (λ (n : NameId). n.0 == w.name.0) m.0.name) h (own-more w us vs m.1 id)
     where
-      none : Unit
+      none : EnclosingUnit
       none = record { name = w.name; entries = [] }
 
       go : (a b : Bool) → b ≡ a → is_among (unwrap_or (cond a (Some u) (find (λ x. x.name.0 == w.name.0) us)) none).entries id ≡ true →
@@ -80,5 +80,5 @@ module _ (q : PProgram) where
       go false true e i later = absurd (true≢false e)
 
   -- a unit of another name is passed over
-  pub own-beside : (w : Word) (u : Unit) (us : List Unit) → (u.name.0 == w.name.0) ≡ false → entries_named w (u ∷ us) ≡ entries_named w us
+  pub own-beside : (w : Word) (u : EnclosingUnit) (us : List EnclosingUnit) → (u.name.0 == w.name.0) ≡ false → entries_named w (u ∷ us) ≡ entries_named w us
   own-beside w u us e = ap (λ b. (unwrap_or (cond b (Some u) (find (λ x. x.name.0 == w.name.0) us)) (record { name = w.name; entries = [] })).entries) e

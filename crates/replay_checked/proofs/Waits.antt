@@ -18,7 +18,7 @@ use Rattle.syn_event.specs.RuleSameEntryTwice.{accept_heads}
 use Rattle.syn_event.proofs.Nothing.{test_fails}
 use Rattle.asked_stmts.specs.Asked.{Asks, AskedAlts}
 use Rattle.asked_stmts.specs.Kinds.{place_asks, check_asks, both}
-use Rattle.normal_model.specs.Waits.{Unit}
+use Rattle.normal_model.specs.RewrittenUnit.{RewrittenUnit}
 use Rattle.replay_model.specs.Names.{never_text, added_word}
 use Rattle.replay_model.specs.Waiting.{Pause, pauses_of, never_alt, only_pause}
 use Rattle.replay_checked.specs.Around.{kept_names, form_asks}
@@ -59,7 +59,7 @@ delays-count p h s k (x ∷ xs) n =
     ∙ ap (λ m. 0 + m) (delays-count p h s k xs (n + 1))
 
 -- and one accept
-pub delays-alone : (u : Unit) (s : Span) (k : ℕ) (xs : List Pause) (n : ℕ) → is_malformed (alt_kinds (alt_then (never_alt u s) (only_pause s k xs n))) false ≡ false
+pub delays-alone : (u : RewrittenUnit) (s : Span) (k : ℕ) (xs : List Pause) (n : ℕ) → is_malformed (alt_kinds (alt_then (never_alt u s) (only_pause s k xs n))) false ≡ false
 delays-alone u s k xs n =
     let never : PAltKind = AAccept (accepting (record { entry = added_word u.setting.program s never_text; index = None; formals = []; span = s }) absent) no_stmt in
     let rest : List PAltKind = alt_kinds (only_pause s k xs n) in

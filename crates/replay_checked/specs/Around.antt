@@ -11,7 +11,7 @@ use Rattle.syn_event.specs.CheckScope.{CheckScope, meaning, uses, addresses}
 use Rattle.syn_event.specs.RuleAcceptPlace.{is_among, is_own_entry}
 use Rattle.syn_event.specs.RuleMainEntry.{main_entry}
 use Rattle.syn_event.specs.RuleSharedVariable.{in_body_of, shared_variable}
-use Rattle.syn_event.specs.Units.{text_of}
+use Rattle.syn_event.specs.DeclaredTasks.{text_of}
 use Rattle.asked_stmts.specs.Asked.{Asks}
 use Rattle.replay_model.specs.Names.{kind_text, argument_text, index_text, control_text, idle_text, never_text, added_id, added_word}
 

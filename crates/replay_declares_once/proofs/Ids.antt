@@ -13,7 +13,7 @@ use Rattle.ada_tree.specs.NameList.{predefined}
 use Rattle.ada_tree.specs.RuleDuplicate.{is_predefined}
 use Rattle.ada_tree.specs.PlainDecl.{PEntry, PTask}
 use Rattle.ada_tree.specs.PlainProgram.{PProgram}
-use Rattle.syn_event.specs.Units.{text_of, tasks_of}
+use Rattle.syn_event.specs.DeclaredTasks.{text_of, tasks_of}
 use Rattle.normal_model.proofs.VariablesLemmas.{Begins}
 use Rattle.normal_types.proofs.Names.{text-place}
 use Rattle.normal_has_numbers.proofs.Named.{Has, has-folded, has-back}

@@ -14,13 +14,13 @@ use Rattle.ada_tree.specs.Sites.{with_words}
 use Rattle.syn_event.specs.declared.numbering.TaskInfo.{TaskInfo}
 use Rattle.syn_event.specs.NamedTasks.{NumberedTask, task_names_of, numbered_tasks}
 use Rattle.syn_event.specs.AllNumbers.{info_of_task}
-use Rattle.syn_event.specs.Units.{decl_list, tasks_in}
+use Rattle.syn_event.specs.DeclaredTasks.{decl_list, tasks_in}
 use Rattle.syn_event.proofs.DeclLists.{listed_back}
 use Rattle.syn_event.proofs.Weaker.{placed_tokens}
 use Rattle.task_model.specs.Setting.{Setting}
 use Rattle.rewritten_types.specs.Rewriting.{names_declared}
 use Rattle.normal_model.specs.Names.{task_name}
-use Rattle.normal_model.specs.Waits.{Unit as RunUnit}
+use Rattle.normal_model.specs.RewrittenUnit.{RewrittenUnit}
 use Rattle.normal_model.specs.NormalStmts.{normal_body, unit_variables}
 use Rattle.normal_model.specs.NormalTree.{decls_front, first_decls, tasks_beside, unit_for, first_running, running, body_copy, bodies_of, main_unit, main_variables, variables_if, variables_of_body, greatest, variables_needed}
 use Rattle.normal_types.proofs.Names.{names-begin}
@@ -194,13 +194,13 @@ module _ (p : PProgram) (h : IsLegal p) where
   objects-good no_decl e = tt
   objects-good (decl_then d rest) e = all_joined (EveryWord r) (object_words d) (flat_map object_words (decl_list rest)) (object-good d e.0) (objects-good rest e.1)
 
-  body-kept : (u : RunUnit) (its : PBody) → EveryBody r 1 its → AllByRecursion Kept (body_names (normal_body u its))
+  body-kept : (u : RewrittenUnit) (its : PBody) → EveryBody r 1 its → AllByRecursion Kept (body_names (normal_body u its))
   body-kept u its e = subst (AllByRecursion Kept) (sym (normal.body-same u its)) (good-kept (body_names its) (body-obeys r 1 its e))
 
   inner-kept : (t : ℕ) (objects : PDecls) (its : PBody) → EveryDecls r objects → EveryBody r 1 its → length (unit_variables (record { setting = g; task = t }) its) ≤ count →
       AllByRecursion Kept (inner_names (decls_front objects (decls_of (unit_variables (record { setting = g; task = t }) its))) (normal_body (record { setting = g; task = t }) its))
   inner-kept t objects its a b l =
-      let u : RunUnit = record { setting = g; task = t } in
+      let u : RewrittenUnit = record { setting = g; task = t } in
       let vs : List PDecl = unit_variables u its in
       let ds : List PDecl = decl_list (decls_front objects (decls_of vs)) in
       let parts : flat_map object_words ds ≡ flat_map object_words (decl_list objects) ++ flat_map object_words vs =

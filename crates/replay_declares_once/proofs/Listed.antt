@@ -5,9 +5,9 @@ use Rattle.ada_tree.specs.PlainDecl.{PDecl, DNumber, DObject, DEnumeration, DArr
 use Rattle.ada_tree.specs.PlainProgram.{PProgram}
 use Rattle.ada_tree.specs.Scope.{Scope}
 use Rattle.ada_tree.specs.Demand.{Site}
-use Rattle.ada_tree.specs.Declaring.{before_all, first_scope, inside, after_decl, after_decls}
+use Rattle.ada_tree.specs.Declaring.{before_all, first_scope, inner_scope, after_decl, after_decls}
 use Rattle.ada_tree.specs.Sites.{with_words, names_sites, decls_sites, body_sites, sites}
-use Rattle.syn_event.specs.Units.{tasks_in}
+use Rattle.syn_event.specs.DeclaredTasks.{tasks_in}
 use Rattle.rewritten_types.specs.Rewriting.{names_declared}
 use Rattle.common_lemmas.proofs.Lists.{all_joined, all_weaker}
 use Rattle.replay_model.specs.ReplayTree.{is_body}
@@ -89,7 +89,7 @@ module _ (q : PProgram) (plain tasks bodies : List PDecl) where
       (list-named s0 plain tasks first_names unit_names (plains-are plain s0 are_plain record { main = refl; types = first-types q.name })
       (tasks-are tasks s1 are_tasks ∙ ap (λ (l : List ℕ). tasks_names l (tasks_in tasks)) (here-behind plain s0)))
       (bodies-are bodies s2 are_bodies ∙ ap (λ (l : List ℕ). bodies_names l bodies) none)))
-      (body-is (inside (after_decls s0 q.decls)) q.body)
+      (body-is (inner_scope (after_decls s0 q.decls)) q.body)
     where
       s0 : Scope
       s0 = first_scope q.name
@@ -101,7 +101,7 @@ module _ (q : PProgram) (plain tasks bodies : List PDecl) where
       s2 = after_decls s0 (decls_of (plain ++ tasks))
 
       last : List Site
-      last = body_sites (inside (after_decls s0 q.decls)) q.body
+      last = body_sites (inner_scope (after_decls s0 q.decls)) q.body
 
       none : s2.bodies ≡ []
       none =

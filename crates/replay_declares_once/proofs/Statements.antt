@@ -5,12 +5,12 @@ use Rattle.ada_tree.specs.declared.naming.Span.{Span}
 use Rattle.ada_tree.specs.PlainStmt.{PCallee, PCall, PStmt, SNull, SAssign, SDelay, SExit, SRaise, SAbort, SCall, SAccept, SWait, SConditional, STimed, SPut, SPutLine, SNewLine, SGet, SIf, SCase, SBlock, SLoop, PStmts, no_stmt, stmt_then, PMaybe, absent, present, PAccept, accepting, alternative, PAltKind, AAccept, ADelay, ATerminate, PAlts, no_alt, alt_then, PArms, no_arm, arm_then, arm, PCaseArms, no_case_arm, case_arm_then, case_arm, PBody, body, PHandlers, no_handler, handler_then, handler}
 use Rattle.ada_tree.specs.Sites.{all_names, with_words}
 use Rattle.normal_model.specs.Making.{one}
-use Rattle.normal_model.specs.Waits.{Unit}
+use Rattle.normal_model.specs.RewrittenUnit.{RewrittenUnit}
 use Rattle.normal_model.specs.Walk.{after_parts, after_stmts, after_accept, after_kind, after_alt, after_alts, after_arms, after_case_arms, alts_leads, image_of, rewritten, inside_maybe, inside_accept, inside_kind, inside_alts, inside_arms, inside_case_arms, inside_body, inside_handlers}
 use Rattle.ada_duplicates.specs.NamingsInOrder.{declared, named_once}
 use Rattle.ada_duplicates.specs.declared.namings_in_order.Naming.{Naming}
 use Rattle.normal_once.specs.Names.{label_names, scheme_names, stmt_names, stmts_names, maybe_names, accept_names, alts_names, kind_names, arms_names, case_arms_names, body_names, handlers_names}
-use Rattle.replay_model.specs.Asking.{done, is_for, ask_which, branch}
+use Rattle.replay_model.specs.Asking.{done, permit_is_for, ask_which, branch}
 use Rattle.replay_model.specs.Serving.{serve, accept_image}
 use Rattle.replay_model.specs.Waiting.{Pause, pauses_of, only_pause, pausing, alternative_branches, else_branch, wait_image}
 use Rattle.replay_model.specs.ReplayStmts.{task_called, replay_image, replay_rewriter, with_handlers, abort_image, replay_body}
@@ -22,7 +22,7 @@ use Rattle.normal_once.proofs.Rewritten.{front-names, quiet-front}
 alone : (l : List Naming) → (l ++ []) ++ [] ≡ l
 alone l = append-nil (l ++ []) ∙ append-nil l
 
-module _ (u : Unit) (s : Span) where
+module _ (u : RewrittenUnit) (s : Span) where
   which-names : (arms : PArms) → stmts_names (ask_which u s arms) ≡ arms_names arms
   which-names arms = alone (arms_names arms)
 
@@ -50,7 +50,7 @@ module _ (u : Unit) (s : Span) where
   abort-names : (x : PCallee) → stmts_names (abort_image u s x) ≡ []
   abort-names x = by_test (task_called u x == u.task)
     where
-      by_test : (b : Bool) → stmts_names (ask_which u s (branch (is_for u s 9 (task_called u x)) (stmt_then (SAbort (x ∷ []) s) (if b then no_stmt else one (done u s))) no_arm)) ≡ []
+      by_test : (b : Bool) → stmts_names (ask_which u s (branch (permit_is_for u s 9 (task_called u x)) (stmt_then (SAbort (x ∷ []) s) (if b then no_stmt else one (done u s))) no_arm)) ≡ []
       by_test true = refl
       by_test false = refl
 
@@ -67,7 +67,7 @@ module _ (u : Unit) (s : Span) where
   else-names absent = refl
   else-names (present l) = append-nil (stmts_names l)
 
-branches-names : (u : Unit) (pauses : List Pause) (others : PArms) (x : PAlts) (k : ℕ) → arms_names (alternative_branches u pauses others x k) ≡ alts_names x ++ arms_names others
+branches-names : (u : RewrittenUnit) (pauses : List Pause) (others : PArms) (x : PAlts) (k : ℕ) → arms_names (alternative_branches u pauses others x k) ≡ alts_names x ++ arms_names others
 branches-names u pauses others no_alt k = refl
 branches-names u pauses others (alt_then (alternative g (AAccept a l) s) rest) k =
     ap₂ (λ (b c : List Naming). b ++ c) (front-names (serve u s a) l ∙ ap (λ (b : List Naming). b ++ stmts_names l) (serve-names u s a)) (branches-names u pauses others rest k)
@@ -77,18 +77,18 @@ branches-names u pauses others (alt_then (alternative g (ADelay d l) s) rest) k 
     ∙ sym (append_assoc (stmts_names l) (alts_names rest) (arms_names others))
 branches-names u pauses others (alt_then (alternative g ATerminate s) rest) k = branches-names u pauses others rest k
 
-wait-names : (u : Unit) (s : Span) (x : PAlts) (o : PMaybe) → stmts_names (wait_image u s x o) ≡ alts_names x ++ maybe_names o
+wait-names : (u : RewrittenUnit) (s : Span) (x : PAlts) (o : PMaybe) → stmts_names (wait_image u s x o) ≡ alts_names x ++ maybe_names o
 wait-names u s x o =
     which-names u s (alternative_branches u (pauses_of x) (else_branch u s o) x 1) ∙ branches-names u (pauses_of x) (else_branch u s o) x 1 ∙ ap (λ (l : List Naming). alts_names x ++ l) (else-names u s o)
 
 -- ---- the walk
 
-leads-quiet : (x : PAlts) (u : Unit) → stmts_names (alts_leads replay_rewriter x u) ≡ []
+leads-quiet : (x : PAlts) (u : RewrittenUnit) → stmts_names (alts_leads replay_rewriter x u) ≡ []
 leads-quiet no_alt u = refl
 leads-quiet (alt_then x l) u = leads-quiet l (after_alt replay_rewriter x u)
 
 mutual
-  image-same : (x : PStmt) (u : Unit) → stmts_names (image_of replay_rewriter x u) ≡ stmt_names x
+  image-same : (x : PStmt) (u : RewrittenUnit) → stmts_names (image_of replay_rewriter x u) ≡ stmt_names x
   image-same (SNull s) u = refl
   image-same (SAssign x e s) u = refl
   image-same (SDelay d s) u = refl
@@ -123,40 +123,40 @@ mutual
   image-same (SLoop w c l s) u =
       append-nil (label_names w ++ (scheme_names c ++ stmts_names (rewritten replay_rewriter l u))) ∙ ap (λ (a : List Naming). label_names w ++ (scheme_names c ++ a)) (stmts-same l u)
 
-  stmts-same : (l : PStmts) (u : Unit) → stmts_names (rewritten replay_rewriter l u) ≡ stmts_names l
+  stmts-same : (l : PStmts) (u : RewrittenUnit) → stmts_names (rewritten replay_rewriter l u) ≡ stmts_names l
   stmts-same no_stmt u = refl
   stmts-same (stmt_then x l) u =
       front-names (image_of replay_rewriter x u) (rewritten replay_rewriter l (after_parts replay_rewriter x u))
       ∙ ap₂ (λ (a b : List Naming). a ++ b) (image-same x u) (stmts-same l (after_parts replay_rewriter x u))
 
-  maybe-same : (o : PMaybe) (u : Unit) → maybe_names (inside_maybe replay_rewriter o u) ≡ maybe_names o
+  maybe-same : (o : PMaybe) (u : RewrittenUnit) → maybe_names (inside_maybe replay_rewriter o u) ≡ maybe_names o
   maybe-same absent u = refl
   maybe-same (present l) u = stmts-same l u
 
-  accept-same : (a : PAccept) (u : Unit) → accept_names (inside_accept replay_rewriter a u) ≡ accept_names a
+  accept-same : (a : PAccept) (u : RewrittenUnit) → accept_names (inside_accept replay_rewriter a u) ≡ accept_names a
   accept-same (accepting h o) u = ap (λ (m : List Naming). declared false [] (all_names h.formals) ++ m) (maybe-same o u)
 
-  kind-same : (x : PAltKind) (u : Unit) → kind_names (inside_kind replay_rewriter x u) ≡ kind_names x
+  kind-same : (x : PAltKind) (u : RewrittenUnit) → kind_names (inside_kind replay_rewriter x u) ≡ kind_names x
   kind-same (AAccept a l) u = ap₂ (λ (a b : List Naming). a ++ b) (accept-same a u) (stmts-same l (after_accept replay_rewriter a u))
   kind-same (ADelay d l) u = stmts-same l u
   kind-same ATerminate u = refl
 
-  alts-same : (x : PAlts) (u : Unit) → alts_names (inside_alts replay_rewriter x u) ≡ alts_names x
+  alts-same : (x : PAlts) (u : RewrittenUnit) → alts_names (inside_alts replay_rewriter x u) ≡ alts_names x
   alts-same no_alt u = refl
   alts-same (alt_then (alternative g x s) l) u = ap₂ (λ (a b : List Naming). a ++ b) (kind-same x u) (alts-same l (after_kind replay_rewriter x u))
 
-  arms-same : (x : PArms) (u : Unit) → arms_names (inside_arms replay_rewriter x u) ≡ arms_names x
+  arms-same : (x : PArms) (u : RewrittenUnit) → arms_names (inside_arms replay_rewriter x u) ≡ arms_names x
   arms-same no_arm u = refl
   arms-same (arm_then (arm e l) rest) u = ap₂ (λ (a b : List Naming). a ++ b) (stmts-same l u) (arms-same rest (after_stmts replay_rewriter l u))
 
-  case-arms-same : (x : PCaseArms) (u : Unit) → case_arms_names (inside_case_arms replay_rewriter x u) ≡ case_arms_names x
+  case-arms-same : (x : PCaseArms) (u : RewrittenUnit) → case_arms_names (inside_case_arms replay_rewriter x u) ≡ case_arms_names x
   case-arms-same no_case_arm u = refl
   case-arms-same (case_arm_then (case_arm cs l) rest) u = ap₂ (λ (a b : List Naming). a ++ b) (stmts-same l u) (case-arms-same rest (after_stmts replay_rewriter l u))
 
-  inner-same : (b : PBody) (u : Unit) → body_names (inside_body replay_rewriter b u) ≡ body_names b
+  inner-same : (b : PBody) (u : RewrittenUnit) → body_names (inside_body replay_rewriter b u) ≡ body_names b
   inner-same (body l hs) u = ap₂ (λ (a b : List Naming). a ++ b) (stmts-same l u) (handlers-same [] hs (after_stmts replay_rewriter l u))
 
-  handlers-same : (names : List ℕ) (hs : PHandlers) (u : Unit) → handlers_names names (inside_handlers replay_rewriter hs u) ≡ handlers_names names hs
+  handlers-same : (names : List ℕ) (hs : PHandlers) (u : RewrittenUnit) → handlers_names names (inside_handlers replay_rewriter hs u) ≡ handlers_names names hs
   handlers-same names no_handler u = refl
   handlers-same names (handler_then (handler ws l s) rest) u =
       ap₂ (λ (a b : List Naming). named_once names ws ++ (a ++ b)) (stmts-same l u) (handlers-same (with_words names ws) rest (after_stmts replay_rewriter l u))
@@ -168,7 +168,7 @@ held-names s (body l no_handler) = sym (append-nil (stmts_names l))
 held-names s (body l (handler_then h hs)) = append-nil (body_names (body l (handler_then h hs)))
 
 -- The body of a unit in a replay text declares and names what the unit's does.
-pub body-same : (u : Unit) (s : Span) (b : PBody) → body_names (replay_body u s b) ≡ body_names b
+pub body-same : (u : RewrittenUnit) (s : Span) (b : PBody) → body_names (replay_body u s b) ≡ body_names b
 body-same u s b =
     let its : PBody = inside_body replay_rewriter b u in
     append-nil ((stmts_names (with_handlers s its) ++ []) ++ []) ∙ alone (stmts_names (with_handlers s its)) ∙ held-names s its ∙ inner-same b u

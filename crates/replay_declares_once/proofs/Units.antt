@@ -12,7 +12,7 @@ use Rattle.ada_tree.specs.PlainDecl.{PEntry, PTask, PDecl, DTaskBody, PDecls, de
 use Rattle.ada_tree.specs.PlainProgram.{PProgram}
 use Rattle.ada_tree.specs.RuleDuplicate.{is_among}
 use Rattle.ada_tree.specs.Sites.{all_names, with_words}
-use Rattle.syn_event.specs.Units.{decl_list}
+use Rattle.syn_event.specs.DeclaredTasks.{decl_list}
 use Rattle.syn_event.proofs.DeclLists.{listed_back}
 use Rattle.task_model.specs.Setting.{Setting}
 use Rattle.common_lemmas.proofs.Lists.{all_front, all_back, all_joined}

@@ -8,7 +8,7 @@ use Rattle.ada_tree.specs.Refusals.{types_in}
 use Rattle.ada_tree.specs.Sites.{sites}
 use Rattle.syn_event.specs.Numbering.{Numbering}
 use Rattle.control_script.specs.declared.Op.{Op}
-use Rattle.normal_model.specs.Waits.{Unit}
+use Rattle.normal_model.specs.RewrittenUnit.{RewrittenUnit}
 use Rattle.normal_model.specs.NormalTree.{normal_tree}
 use Rattle.normal_form_law.specs.Choosing.{choosing}
 use Rattle.normal_form_law.specs.Normalisable.{numbers_of, made_for}
@@ -22,7 +22,7 @@ use Rattle.replay_declares_once.specs.Names.{LeavesNames}
 
 -- The statements of a unit in a replay text declare and name what those of the unit do, in the same order.
 abbrev pub ReplayNamesSame : Type 0
-ReplayNamesSame = (u : Unit) (s : Span) (b : PBody) → body_names (replay_body u s b) ≡ body_names b
+ReplayNamesSame = (u : RewrittenUnit) (s : Span) (b : PBody) → body_names (replay_body u s b) ≡ body_names b
 
 -- Rule Duplicate refuses nothing in the replay text of a normal form, whatever the operations, where it refuses nothing in the normal form, and the names there are none that the text adds.
 abbrev pub ReplayDeclaresOnce : Type 0

@@ -9,10 +9,10 @@ use Rattle.ada_tree.specs.PlainDecl.{PEntry, PTask, PDecl, DTask}
 use Rattle.ada_tree.specs.PlainProgram.{PProgram}
 use Rattle.ada_tree.specs.Refusals.{types_in}
 use Rattle.syn_event.specs.declared.numbering.EntryInfo.{EntryInfo}
-use Rattle.syn_event.specs.Numbered.{task_info}
+use Rattle.syn_event.specs.AddedNames.{task_info}
 use Rattle.syn_event.specs.NamedTasks.{NumberedTask, numbered_tasks}
 use Rattle.syn_event.specs.AllNumbers.{entries_of_tasks}
-use Rattle.syn_event.specs.Units.{decl_list, tasks_in, tasks_of}
+use Rattle.syn_event.specs.DeclaredTasks.{decl_list, tasks_in, tasks_of}
 use Rattle.normal_types.specs.Laws.{IsOrdered}
 use Rattle.normal_form_law.specs.Normalisable.{numbers_of, setting_for, made_for}
 use Rattle.normal_placed.proofs.Whole.{each-of}

@@ -6,8 +6,8 @@ use Rattle.ada_tree.specs.PlainProgram.{PProgram}
 use Rattle.ada_tree.specs.TypeTable.{TypeTable}
 use Rattle.syn_event.specs.declared.numbering.TaskInfo.{TaskInfo}
 use Rattle.syn_event.specs.Numbering.{Numbering}
-use Rattle.syn_event.specs.Numbered.{task_info}
-use Rattle.syn_event.specs.Units.{tasks_of}
+use Rattle.syn_event.specs.AddedNames.{task_info}
+use Rattle.syn_event.specs.DeclaredTasks.{tasks_of}
 use Rattle.normal_model.specs.NormalNumbers.{normal_numbers}
 use Rattle.replay_model.specs.ReplayTree.{normal_setting}
 use Rattle.replay_ids.specs.Looking.{AreSingle}

@@ -7,11 +7,11 @@ use Rattle.ada_tree.specs.declared.static_types.Kind.TheVariants as kind
 use Rattle.ada_tree.specs.TypeTable.{TypeTable}
 use Rattle.ada_tree.specs.PlainExpr.{PExpr, PDrange}
 use Rattle.syn_event.specs.declared.numbering.EntryInfo.{EntryInfo}
-use Rattle.syn_event.specs.Units.{text_of}
+use Rattle.syn_event.specs.DeclaredTasks.{text_of}
 use Rattle.task_model.specs.Setting.{Setting}
 use Rattle.normal_model.specs.Names.{id_of}
 use Rattle.normal_model.specs.Ranges.{kind_of_range, family_range, range_of_info}
-use Rattle.normal_model.specs.Waits.{Unit}
+use Rattle.normal_model.specs.RewrittenUnit.{RewrittenUnit}
 use Rattle.replay_model.specs.Names.{double_text, replay_names}
 use Rattle.replay_model.specs.Asking.{as_number, number_in, member_number}
 use Rattle.replay_asking.specs.declared.speaker.Speaker.{Speaker}
@@ -67,7 +67,7 @@ doubles-is g names x are id =
 -- ---- all
 
 pub voice-is :
-    (u : Unit) (x : Speaker) →
+    (u : RewrittenUnit) (x : Speaker) →
     AreTables u.setting (replay_names u.setting.program) x.tables.now →
     x.numbers.now ≡ u.setting.numbers →
     x.task ≡ u.task →

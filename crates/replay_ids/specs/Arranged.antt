@@ -5,7 +5,7 @@ use Rattle.ada_tree.specs.declared.naming.NameId.{NameId}
 use Rattle.ada_tree.specs.declared.naming.Span.{Span}
 use Rattle.ada_tree.specs.PlainExpr.{EInteger}
 use Rattle.ada_tree.specs.PlainDecl.{OPlain, IOne, PEntry, PTask, PDecl, DObject, DTask, DTaskBody, decls_of}
-use Rattle.syn_event.specs.Units.{decl_list}
+use Rattle.syn_event.specs.DeclaredTasks.{decl_list}
 use Rattle.syn_event.specs.Numbering.{Numbering}
 use Rattle.control_script.specs.declared.Op.{Op}
 use Rattle.normal_model.specs.Ranges.{word_at, integer_subtype}

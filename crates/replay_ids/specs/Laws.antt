@@ -6,11 +6,11 @@ use Rattle.ada_tree.specs.TypeTable.{TypeTable}
 use Rattle.ada_tree.specs.PlainDecl.{decls_of}
 use Rattle.ada_tree.specs.PlainProgram.{PProgram}
 use Rattle.syn_event.specs.Numbering.{Numbering}
-use Rattle.syn_event.specs.Units.{decl_list, tasks_of}
+use Rattle.syn_event.specs.DeclaredTasks.{decl_list, tasks_of}
 use Rattle.control_script.specs.declared.Op.{Op}
 use Rattle.task_model.specs.Setting.{Setting}
 use Rattle.normal_model.specs.NormalTree.{main_unit}
-use Rattle.normal_model.specs.Waits.{Unit}
+use Rattle.normal_model.specs.RewrittenUnit.{RewrittenUnit}
 use Rattle.replay_model.specs.Names.{replay_names, double_texts}
 use Rattle.replay_model.specs.ReplayTree.{last_task, normal_setting, replay_of}
 use Rattle.replay_names.specs.Added.{with_added}
@@ -43,7 +43,7 @@ text_by v g ops = record {
 -- Tables of a program and its replay text tell each unit what the definitions tell it.
 abbrev pub TablesTell : Type 0
 TablesTell =
-    (u : Unit) (x : Speaker) → AreTables u.setting (replay_names u.setting.program) x.tables.now → x.numbers.now ≡ u.setting.numbers → x.task ≡ u.task →
+    (u : RewrittenUnit) (x : Speaker) → AreTables u.setting (replay_names u.setting.program) x.tables.now → x.numbers.now ≡ u.setting.numbers → x.task ≡ u.task →
     voice_of x ≡ voice_in u
 
 -- The text by ids is the replay text, where no task is the member of an array.

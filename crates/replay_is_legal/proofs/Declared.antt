@@ -9,7 +9,7 @@ use Rattle.ada_tree.specs.Every.{Rules, EveryDecl, EverySubind}
 use Rattle.ada_tree.specs.WellPlaced.{well_placed}
 use Rattle.syn_event.specs.declared.numbering.TaskInfo.{TaskInfo}
 use Rattle.syn_event.specs.CheckSites as check
-use Rattle.syn_event.specs.Units.{decl_list}
+use Rattle.syn_event.specs.DeclaredTasks.{decl_list}
 use Rattle.syn_event.proofs.DeclLists.{every_listed}
 use Rattle.task_model.specs.Setting.{Setting}
 use Rattle.normal_model.specs.NormalStmts.{normal_body, unit_variables}

@@ -12,7 +12,7 @@ use Rattle.ada_tree.specs.PlainDecl.{PDecl}
 use Rattle.ada_tree.specs.PlainProgram.{PProgram}
 use Rattle.ada_tree.specs.Every.{Rules, EveryWord, EverySubind, EveryDecl, EveryDecls, EveryBody}
 use Rattle.syn_event.specs.CheckSites as check
-use Rattle.syn_event.specs.Units.{decl_list}
+use Rattle.syn_event.specs.DeclaredTasks.{decl_list}
 use Rattle.task_model.specs.Setting.{Setting}
 use Rattle.normal_model.specs.Names.{variable_name, task_name}
 use Rattle.normal_model.specs.NormalTree.{first_decls, main_unit, main_variables, tasks_beside, variables_needed, variables_of_body, greatest}

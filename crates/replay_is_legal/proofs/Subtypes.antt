@@ -19,7 +19,7 @@ use Rattle.syn_event.specs.Numbering.{entry_at}
 use Rattle.syn_event.specs.NamedTasks.{NamedTasks, type_named, with_type, task_names_of_type, object_task_names, single_task_name, task_names_in, task_names_of}
 use Rattle.syn_event.specs.CheckScope.{CheckScope, CheckSite}
 use Rattle.syn_event.specs.CheckSites as check
-use Rattle.syn_event.specs.Units.{decl_list, tasks_of}
+use Rattle.syn_event.specs.DeclaredTasks.{decl_list, tasks_of}
 use Rattle.legal_sites.specs.Met.{IsCheckMet}
 use Rattle.legal_types.specs.Typed.{IsFirstTask, IsTypedTask, HasTypedTasks}
 use Rattle.legal_types.proofs.TaskTypes.{part-units}

@@ -9,7 +9,7 @@ use Rattle.syn_event.specs.declared.numbering.Mode.TheVariants.{Any}
 use Rattle.syn_event.specs.AllNumbers.{all_numbers}
 use Rattle.syn_event.specs.CheckRefusals.{MeetsCheckRules}
 use Rattle.syn_event.specs.Legal.{Legal}
-use Rattle.syn_event.specs.Units.{decl_list}
+use Rattle.syn_event.specs.DeclaredTasks.{decl_list}
 use Rattle.control_script.specs.declared.Op.{Op}
 use Rattle.normal_placed.specs.Example.{passing}
 use Rattle.normal_form_law.specs.Normalisable.{numbers_of, made_for}

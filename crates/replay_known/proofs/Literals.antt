@@ -9,13 +9,13 @@ use Rattle.common_lemmas.proofs.Lists.{all_joined, all_weaker}
 use Rattle.ada_tree.specs.Lexical.{IsInteger}
 use Rattle.event_machine.specs.declared.Event.{Event}
 use Rattle.event_machine.specs.declared.Event.TheVariants.{R, E, S, D, C, T, F, X, B, Z}
-use Rattle.event_progress.specs.Known.{Known, at_start, admits, advanced}
+use Rattle.event_progress.specs.Known.{Known, known_at_start, admits, advanced}
 use Rattle.syn_event.specs.declared.numbering.EntryInfo.{EntryInfo}
 use Rattle.syn_event.specs.Numbering.{Numbering, entry_at}
 use Rattle.control_script.specs.Script.{open_tasks, to_close, after_abort, operations, held, script_from, script}
 use Rattle.control_script.specs.declared.Op.{Op}
 use Rattle.control_script.specs.declared.Op.TheVariants.{Done, Join, Hold}
-use Rattle.seq_file.specs.Known.{is_task, is_task_beside_main, is_index, fits_entry, is_member, is_alternative, is_known}
+use Rattle.seq_file.specs.Known.{is_task, is_task_beside_main, is_index, fits_entry, is_known_member, is_alternative, is_known}
 use Rattle.normal_placed.specs.Placeable.{IsSmallIndex}
 use Rattle.replay_model.specs.Promised.{HasLiteral}
 use Rattle.replay_placed.specs.Placeable.{HasSmallIndices}
@@ -35,15 +35,15 @@ module _ (numbers : Numbering) where
       by_test true f r = omega (arith, equal_is e 0 f)
       by_test false f r = let l : e - 1 < length numbers.entries = slice_get_within numbers.entries (e - 1) info r in omega (arith, l)
 
-  member-there : (e : ℕ) (i : ℤ) → is_member numbers e i ≡ true → (e ≤ length numbers.entries) × IsSmallIndex i
+  member-there : (e : ℕ) (i : ℤ) → is_known_member numbers e i ≡ true → (e ≤ length numbers.entries) × IsSmallIndex i
   member-there e i h = by_entry (entry_at numbers e) refl h
     where
       by_entry : (o : Option EntryInfo) → entry_at numbers e ≡ o → option_map_or (fits_entry i) o false ≡ true → (e ≤ length numbers.entries) × IsSmallIndex i
       by_entry None q k = clash k
       by_entry (Some info) q k = (entry-within e info q, index-small i (and_left (is_index i) _ k))
 
-  call-there : (c e : ℕ) (i : ℤ) → (is_task numbers c && is_member numbers e i) ≡ true → (e ≤ length numbers.entries) × IsSmallIndex i
-  call-there c e i h = member-there e i (and_right (is_task numbers c) (is_member numbers e i) h)
+  call-there : (c e : ℕ) (i : ℤ) → (is_task numbers c && is_known_member numbers e i) ≡ true → (e ≤ length numbers.entries) × IsSmallIndex i
+  call-there c e i h = member-there e i (and_right (is_task numbers c) (is_known_member numbers e i) h)
 
   beside-within : (x : ℕ) → is_task_beside_main numbers x ≡ true → x < length numbers.tasks
   beside-within x h = lt_is x (length numbers.tasks) (and_left (is_task numbers x) (nat_lt 0 x) h)
@@ -68,7 +68,7 @@ module _ (numbers : Numbering) where
   -- ---- operations
 
   module _ (few_tasks : IsInteger (length numbers.tasks)) (few_entries : IsInteger (length numbers.entries)) (owner : ℕ → ℕ) where
-    entry-few : (c e : ℕ) (i : ℤ) → (is_task numbers c && is_member numbers e i) ≡ true → e ≤ 2147483647
+    entry-few : (c e : ℕ) (i : ℤ) → (is_task numbers c && is_known_member numbers e i) ≡ true → e ≤ 2147483647
     entry-few c e i h = omega (arith, few_entries, (call-there c e i h).0)
 
     closing : (ts : List ℕ) → AllByRecursion HasLiteral (map to_close ts)
@@ -116,4 +116,4 @@ module _ (numbers : Numbering) where
 
     -- the operations of a script of a program with n tasks
     pub script-literal : (n : ℕ) (events : List Event) → AllByRecursion (λ e. is_known numbers e ≡ true) events → AllByRecursion HasLiteral (script owner n events)
-    script-literal n events h = from-literal events (at_start n) h
+    script-literal n events h = from-literal events (known_at_start n) h

@@ -5,9 +5,9 @@ use Rattle.ada_tree.specs.PlainStmt.{PBody}
 use Rattle.ada_tree.specs.PlainDecl.{PDecl, DTaskBody}
 use Rattle.ada_tree.specs.Every.{EveryBody}
 use Rattle.ada_tree.specs.Scope.{Scope}
-use Rattle.ada_tree.specs.Declaring.{in_body, inside, after_objects, after_decl}
+use Rattle.ada_tree.specs.Declaring.{in_body, inner_scope, after_objects, after_decl}
 use Rattle.task_model.specs.Setting.{Setting}
-use Rattle.normal_model.specs.Waits.{Unit}
+use Rattle.normal_model.specs.RewrittenUnit.{RewrittenUnit}
 use Rattle.normal_model.specs.NormalTree.{unit_for}
 use Rattle.asked_stmts.specs.Asked.{AskedBody}
 use Rattle.asked_stmts.specs.Kinds.{place_asks, type_asks}
@@ -27,14 +27,14 @@ module _ (old inner : ℕ → Bool) where
   unit-asked c its every scoped = both_asked (place_asks (own_rules old)) (with_scopes inner (type_asks IsMetBut)) tt c 1 its (placed_asked (own_rules old) 1 its every) scoped
 
   -- and of their scope
-  pub unit-form : (u : Unit) (c : Scope) → IsUnitScoped old c → HasItsEntries u inner c → IsUnitForm u old inner c
+  pub unit-form : (u : RewrittenUnit) (c : Scope) → IsUnitScoped old c → HasItsEntries u inner c → IsUnitForm u old inner c
   unit-form u c scoped has = record { self = scoped.self; falses = scoped.falses; called = has.called; accepted = has.accepted }
 
   -- Each body is so.
   pub bodies-formed : (g : Setting) (xs : List PDecl) (c : Scope) → BodiesScoped g.program old c xs → AllByRecursion (IsNamedBody old) xs → BodyUnits g inner c xs → BodyForms g old inner c xs
   bodies-formed g [] c scoped named units = tt
   bodies-formed g (DTaskBody w objects its s ∷ xs) c scoped named units =
-      let d : Scope = inside (after_objects (in_body c w) objects) in (
+      let d : Scope = inner_scope (after_objects (in_body c w) objects) in (
         record {
           entries = scoped.0.entries;
           means = scoped.0.means;

@@ -7,9 +7,9 @@ use Rattle.event_machine.specs.declared.Event.{Event}
 use Rattle.ada_tree.specs.PlainDecl.{PDecl, DTaskBody}
 use Rattle.ada_tree.specs.PlainProgram.{PProgram}
 use Rattle.ada_tree.specs.Scope.{Scope}
-use Rattle.ada_tree.specs.Declaring.{inside}
+use Rattle.ada_tree.specs.Declaring.{inner_scope}
 use Rattle.syn_event.specs.declared.numbering.TaskInfo.{TaskInfo}
-use Rattle.syn_event.specs.Units.{decl_list}
+use Rattle.syn_event.specs.DeclaredTasks.{decl_list}
 use Rattle.seq_file.specs.Known.{is_known}
 use Rattle.task_model.specs.Setting.{Setting}
 use Rattle.normal_model.specs.Names.{task_name}
@@ -85,8 +85,8 @@ module _ (p : PProgram) (legal : IsLegal p) where
   units : BodyUnits F inner (tasked q before vars) bodies
   units = subst (λ l. BodyUnits F inner (tasked q before vars) l) (sym (bodies-are p legal)) (subst (λ c. BodyUnits F inner c made) (tasked-is p legal) (bodies-units p legal))
 
-  main-unit : HasItsEntries (main_unit F) inner (inside (last q before vars)) × IsScopedBody inner (inside (last q before vars)) q.body
-  main-unit = subst (λ c. HasItsEntries (main_unit F) inner (inside c) × IsScopedBody inner (inside c) q.body) (last-is p legal) (main-told p legal)
+  main-unit : HasItsEntries (main_unit F) inner (inner_scope (last q before vars)) × IsScopedBody inner (inner_scope (last q before vars)) q.body
+  main-unit = subst (λ c. HasItsEntries (main_unit F) inner (inner_scope c) × IsScopedBody inner (inner_scope c) q.body) (last-is p legal) (main-told p legal)
 
   -- ---- operations
 
@@ -111,7 +111,7 @@ legal_normal_is_form p events legal known =
     let u = main-unit p legal in
     let old : ℕ → Bool = old_name (made_for p) in
     let inner : ℕ → Bool = inner_name p in
-    let end : Scope = inside (last (made_for p) (before p legal) (vars p legal)) in
+    let end : Scope = inner_scope (last (made_for p) (before p legal) (vars p legal)) in
     record {
       plain = n.plain;
       front = n.front;

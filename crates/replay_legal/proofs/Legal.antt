@@ -1,6 +1,6 @@
 -- The replay text of each legal program and of known events is legal.
 use Rattle.std.proofs.Common.{[]}
-use Rattle.syn_event.specs.Units.{decl_list}
+use Rattle.syn_event.specs.DeclaredTasks.{decl_list}
 use Rattle.normal_model.specs.NormalTree.{first_decls, main_variables}
 use Rattle.normal_form_law.specs.Normalisable.{numbers_of, setting_for, made_for}
 use Rattle.replay_model.specs.ReplayTree.{script_of}

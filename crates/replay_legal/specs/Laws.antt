@@ -5,7 +5,7 @@ use Rattle.ada_tree.specs.PlainProgram.{PProgram}
 use Rattle.ada_tree.specs.Refusals.{types_in}
 use Rattle.syn_event.specs.declared.numbering.Mode.TheVariants.{Any}
 use Rattle.syn_event.specs.Legal.{Legal}
-use Rattle.syn_event.specs.Units.{decl_list}
+use Rattle.syn_event.specs.DeclaredTasks.{decl_list}
 use Rattle.normal_model.specs.NormalTree.{first_decls, main_variables}
 use Rattle.normal_placed.specs.Example.{passing}
 use Rattle.normal_form_law.specs.Normalisable.{numbers_of, setting_for, made_for}

@@ -23,7 +23,7 @@ use Rattle.syn_event.specs.Legal.{Legal}
 use Rattle.syn_event.specs.Numbering.{Numbering}
 use Rattle.syn_event.specs.CheckScope.{CheckScope, CheckSite}
 use Rattle.syn_event.specs.CheckSites as check
-use Rattle.syn_event.specs.Units.{text_of, tasks_in, tasks_of}
+use Rattle.syn_event.specs.DeclaredTasks.{text_of, tasks_in, tasks_of}
 use Rattle.legal_sites.specs.Met.{IsMet}
 use Rattle.legal_types.specs.Typed.{IsSmall}
 use Rattle.legal_types.proofs.MainScopes.{StandsWhole}
@@ -34,7 +34,7 @@ use Rattle.asked_stmts.proofs.Placed.{placed_asked}
 use Rattle.asked_stmts.proofs.Typed.{typed_asked}
 use Rattle.asked_stmts.proofs.Checked.{checked_asked}
 use Rattle.asked_stmts.proofs.Together.{both_asked}
-use Rattle.normal_model.specs.Waits.{Unit}
+use Rattle.normal_model.specs.RewrittenUnit.{RewrittenUnit}
 use Rattle.legal_entries.proofs.Entries.{entry_in}
 use Rattle.normal_legal.proofs.seen_tasks.Bodies.{PlaceSeen, accept-seen, handling-seen, loop-seen}
 use Rattle.normal_legal.proofs.statement_forms.Heads.{entry-said}
@@ -74,7 +74,7 @@ entry-doubled names t id e h f =
     let same : e.name.name.0 ≡ id.0 = eqb-true e.name.name.0 id.0 (found_passes (λ (y : PEntry). y.name.name.0 == id.0) t.entries e f) in
     subst (λ (n : ℕ). IsIdentifier (double_text (text_of names (record { 0 = n })))) same one
 
-module _ (p : PProgram) (types : TypeTable) (its_numbers : Numbering) (legal : Legal p types its_numbers Original) (placed : IsWellPlaced p) (names : AreNames p.names) (small : IsSmall (types_in p)) (v : Unit)
+module _ (p : PProgram) (types : TypeTable) (its_numbers : Numbering) (legal : Legal p types its_numbers Original) (placed : IsWellPlaced p) (names : AreNames p.names) (small : IsSmall (types_in p)) (v : RewrittenUnit)
     (doubled : AllByRecursion (EntriesDoubled v.setting.program.names) (tasks_of p)) where
   abbrev T : TypeTable
   T = types_in p

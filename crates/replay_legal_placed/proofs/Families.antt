@@ -13,8 +13,8 @@ use Rattle.ada_tree.specs.PlainProgram.{PProgram}
 use Rattle.syn_event.specs.declared.numbering.TaskInfo.{TaskInfo}
 use Rattle.syn_event.specs.declared.numbering.EntryInfo.{EntryInfo}
 use Rattle.syn_event.specs.Numbering.{Numbering, task_at, entry_at, task_named}
-use Rattle.syn_event.specs.Numbered.{task_info}
-use Rattle.syn_event.specs.Units.{tasks_of}
+use Rattle.syn_event.specs.AddedNames.{task_info}
+use Rattle.syn_event.specs.DeclaredTasks.{tasks_of}
 use Rattle.task_model.specs.Setting.{Setting, entry_of, unit_named}
 use Rattle.normal_types.specs.Laws.{setting_of}
 use Rattle.normal_model.specs.Names.{task_name}

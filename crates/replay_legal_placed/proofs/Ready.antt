@@ -13,14 +13,14 @@ use Rattle.ada_tree.specs.PlainProgram.{PProgram}
 use Rattle.ada_tree.specs.Refusals.{types_in}
 use Rattle.ada_tree.specs.Demand.{Site}
 use Rattle.ada_tree.specs.Scope.{Scope}
-use Rattle.ada_tree.specs.Declaring.{before_all, first_scope, inside, in_body, after_objects, after_decl, after_decls}
+use Rattle.ada_tree.specs.Declaring.{before_all, first_scope, inner_scope, in_body, after_objects, after_decl, after_decls}
 use Rattle.ada_tree.specs.Sites.{names_sites, own_sites, head_sites, decl_sites, decls_sites, body_sites, sites}
 use Rattle.syn_event.specs.declared.numbering.Mode.TheVariants.{Original}
 use Rattle.syn_event.specs.CheckScope.{CheckScope, CheckSite, accepts}
 use Rattle.syn_event.specs.CheckSites as check
 use Rattle.syn_event.specs.RuleAcceptPlace.{is_own_entry, is_among, accept_place}
-use Rattle.syn_event.specs.Numbered.{task_info}
-use Rattle.syn_event.specs.Units.{tasks_of, decl_list}
+use Rattle.syn_event.specs.AddedNames.{task_info}
+use Rattle.syn_event.specs.DeclaredTasks.{tasks_of, decl_list}
 use Rattle.task_model.specs.Setting.{Setting}
 use Rattle.legal_sites.specs.Met.{IsMet}
 use Rattle.normal_asked.specs.Pieces.{IsAmong}
@@ -134,7 +134,7 @@ module _ (p : PProgram) (h : IsLegal p) where
   all-known = both-known (sites p) (all_met p h.legal.type_rules) premises.local
 
   abbrev main_scope : Scope
-  main_scope = inside (after_decls (first_scope p.name) p.decls)
+  main_scope = inner_scope (after_decls (first_scope p.name) p.decls)
 
   abbrev main_around : CheckScope
   main_around = check.after_decls (check.around_program p) p.decls
@@ -290,7 +290,7 @@ module _ (p : PProgram) (h : IsLegal p) where
   one-ready : (w : Word) (objects : PDecls) (its : PBody) (sp : Span) (rest : PDecls) (kinds : List PTask) (s : Scope) (c : CheckScope) → IsBefore kinds (decl_then (DTaskBody w objects its sp) rest) s c → ReadyBody g (DTaskBody w objects its sp)
   one-ready w objects its sp rest kinds s c b = λ info i.
       let d : PDecl = DTaskBody w objects its sp in
-      let scope : Scope = inside (after_objects (in_body s w) objects) in
+      let scope : Scope = inner_scope (after_objects (in_body s w) objects) in
       let around : CheckScope = check.after_own (check.in_body c w) objects in
       let places = all_front Known (decl_sites s d) (decls_sites (after_decl s d) rest) b.known in
       let checks = all_front Check (check.decl_sites c (check.body_names p.decls) d) (check.decls_sites (check.after_decl c d) (check.body_names p.decls) rest) b.checks in

@@ -11,7 +11,7 @@ use Rattle.ada_tree.specs.PlainDecl.{PTask}
 use Rattle.ada_tree.specs.PlainProgram.{PProgram}
 use Rattle.ada_tree.specs.Refusals.{types_in}
 use Rattle.ada_tree.specs.Scope.{Scope, EntryPart, family, truth_kind, kind_at, entry_named}
-use Rattle.ada_tree.specs.ExprTypes.{place_of, kind_of, is_other_kind}
+use Rattle.ada_tree.specs.ExprTypes.{expr_place, kind_of, is_other_kind}
 use Rattle.ada_tree.specs.Demand.{must_be_of, must_lie_in, Site}
 use Rattle.ada_tree.specs.Sites.{site, if_there, expr_sites, expr_of, accept_index_sites, head_sites, formals_sites}
 use Rattle.ada_tree.specs.Declaring.{family_of, entry_family, entry_part}
@@ -19,7 +19,7 @@ use Rattle.ada_value.specs.StaticLaw.{HasSmallLiterals}
 use Rattle.syn_event.specs.CheckScope.{CheckScope, accepts}
 use Rattle.syn_event.specs.NamedTasks.{NumberedTask}
 use Rattle.syn_event.specs.RuleAcceptPlace.{accept_place}
-use Rattle.syn_event.specs.Units.{tasks_of}
+use Rattle.syn_event.specs.DeclaredTasks.{tasks_of}
 use Rattle.task_model.specs.Setting.{Setting, entry_of}
 use Rattle.task_model.specs.Starting.{known_range}
 use Rattle.normal_model.specs.Ranges.{kind_of_range}
@@ -101,7 +101,7 @@ module _ (p : PProgram) (h : IsLegal p) where
           let must : List Site = site s (must_be_of e (Some ranged.range.kind)) ∷ [] in
           let worth = typing.expr s e typed small (all_front IsMet (expr_sites s e) must kinds) in
           let kinded = (all_back IsMet (expr_sites s e) must kinds).0 in
-          let same : ranged.range.kind ≡ worth.kind = same-kind ranged.range.kind (kind_of s e) worth.kind worth.is (no-place (is_other_kind (Some ranged.range.kind) (kind_of s e)) (place_of e) kinded.matched) in
+          let same : ranged.range.kind ≡ worth.kind = same-kind ranged.range.kind (kind_of s e) worth.kind worth.is (no-place (is_other_kind (Some ranged.range.kind) (kind_of s e)) (expr_place e) kinded.matched) in
           let its : IsFamilyOf g n (family ranged.range) = subst (IsFamilyOf g n) family-is numbered.family in
           let read : kind_of_range T its.1.written ≡ worth.kind = ap (λ o. (known_range o).kind) its.1.has.range ∙ its.1.kind ∙ same in
           subst (λ o. IsOperand (number_in T sp o e)) (sym its.1.is) (kind-operand T sp e s its.1.written worth.kind worth.is read truths)

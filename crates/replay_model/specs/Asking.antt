@@ -10,24 +10,24 @@ use Rattle.ada_tree.specs.PlainStmt.{PArgs, PStmt, SCall, SIf, PStmts, stmt_then
 use Rattle.task_model.specs.Setting.{Setting}
 use Rattle.normal_model.specs.Ranges.{word_at, kind_of_range, kind_name, family_range}
 use Rattle.normal_model.specs.Making.{one}
-use Rattle.normal_model.specs.Waits.{Unit}
+use Rattle.normal_model.specs.RewrittenUnit.{RewrittenUnit}
 use Rattle.replay_model.specs.Names.{kind_text, argument_text, index_text, control_text, go_text, done_text, idle_text, stop_text, added_id, added_word}
 
 -- ---- calls of the added tasks
 
 -- a call of an added task's entry with these lists
-abbrev pub added_call : Unit → Span → List ℕ → List ℕ → Option PArgs → PStmt
+abbrev pub added_call : RewrittenUnit → Span → List ℕ → List ℕ → Option PArgs → PStmt
 added_call u s task entry args =
     SCall
     (record { task = record { name = added_word u.setting.program s task; index = None }; entry = added_word u.setting.program s entry; args = args })
     s
 
 -- a variable of the permit
-abbrev pub permit_part : Unit → Span → List ℕ → PExpr
+abbrev pub permit_part : RewrittenUnit → Span → List ℕ → PExpr
 permit_part u s text = EName (added_id u.setting.program text) s
 
 -- `DED_CONTROL.GO(t)(DED_K, DED_A, DED_I);` The task t asks for a permit.
-abbrev pub ask : Unit → Span → PStmt
+abbrev pub ask : RewrittenUnit → Span → PStmt
 ask u s =
     added_call u s control_text go_text
     (Some (record {
@@ -36,11 +36,11 @@ ask u s =
     }))
 
 -- `DED_CONTROL.DONE(t);` It says that it has done what the permit was for.
-abbrev pub done : Unit → Span → PStmt
+abbrev pub done : RewrittenUnit → Span → PStmt
 done u s = added_call u s control_text done_text (Some (record { first = EInteger u.task s ∷ []; second = None }))
 
 -- `DED_IDLE.STOP;` It has a permit that it cannot use, and stops for ever.
-abbrev pub stop : Unit → Span → PStmt
+abbrev pub stop : RewrittenUnit → Span → PStmt
 stop u s = added_call u s idle_text stop_text None
 
 -- ---- tests
@@ -50,12 +50,12 @@ abbrev pub both : Span → PExpr → PExpr → PExpr
 both s a b = EBinary And a b s
 
 -- `DED_K = k`
-abbrev pub is_kind : Unit → Span → ℕ → PExpr
-is_kind u s k = EBinary Equal (permit_part u s kind_text) (EInteger k s) s
+abbrev pub permit_is_kind : RewrittenUnit → Span → ℕ → PExpr
+permit_is_kind u s k = EBinary Equal (permit_part u s kind_text) (EInteger k s) s
 
 -- `DED_K = k and DED_A = a`
-abbrev pub is_for : Unit → Span → ℕ → ℕ → PExpr
-is_for u s k a = both s (is_kind u s k) (EBinary Equal (permit_part u s argument_text) (EInteger a s) s)
+abbrev pub permit_is_for : RewrittenUnit → Span → ℕ → ℕ → PExpr
+permit_is_for u s k a = both s (permit_is_kind u s k) (EBinary Equal (permit_part u s argument_text) (EInteger a s) s)
 
 -- an index as a number: that of an integer is itself, and that of another type its position, `T'POS(x)`, where T is the type's own name (3.5.5)
 abbrev pub as_number : TypeTable → Span → ℕ → Option Kind → PExpr → PExpr
@@ -72,21 +72,21 @@ member_number g s e None = EInteger 0 s
 member_number g s e (Some x) = number_in g.types s (family_range g e) x
 
 -- `DED_K = k and DED_A = e and DED_I = x` The permit is for an event of that kind at this member of the entry e.
-abbrev pub is_at : Unit → Span → ℕ → ℕ → Option PExpr → PExpr
-is_at u s k e index = both s (is_for u s k e) (EBinary Equal (permit_part u s index_text) (member_number u.setting s e index) s)
+abbrev pub permit_is_at : RewrittenUnit → Span → ℕ → ℕ → Option PExpr → PExpr
+permit_is_at u s k e index = both s (permit_is_for u s k e) (EBinary Equal (permit_part u s index_text) (member_number u.setting s e index) s)
 
 -- ---- statements
 
 -- `if DED_K /= k then STOP end if;`
-abbrev pub only : Unit → Span → ℕ → PStmt
+abbrev pub only : RewrittenUnit → Span → ℕ → PStmt
 only u s k = SIf (arm_then (arm (EBinary NotEqual (permit_part u s kind_text) (EInteger k s) s) (one (stop u s))) no_arm) absent s
 
 -- The task asks, and goes on only with a permit of this kind.
-abbrev pub ask_only : Unit → Span → ℕ → PStmts
+abbrev pub ask_only : RewrittenUnit → Span → ℕ → PStmts
 ask_only u s k = stmt_then (ask u s) (one (only u s k))
 
 -- The task asks, takes the first branch whose permit it has, and stops where there is none.
-abbrev pub ask_which : Unit → Span → PArms → PStmts
+abbrev pub ask_which : RewrittenUnit → Span → PArms → PStmts
 ask_which u s arms = stmt_then (ask u s) (one (SIf arms (present (one (stop u s))) s))
 
 -- a branch in front of others

@@ -6,8 +6,8 @@ use Rattle.syn_event.specs.Numbering.{task_named}
 use Rattle.task_model.specs.Frames.{in_front}
 use Rattle.normal_model.specs.Walk.{Rewriter, inside_body}
 use Rattle.normal_model.specs.Making.{one}
-use Rattle.normal_model.specs.Waits.{Unit}
-use Rattle.replay_model.specs.Asking.{done, is_for, ask_only, ask_which, branch}
+use Rattle.normal_model.specs.RewrittenUnit.{RewrittenUnit}
+use Rattle.replay_model.specs.Asking.{done, permit_is_for, ask_only, ask_which, branch}
 use Rattle.replay_model.specs.Serving.{whatever, accept_image}
 use Rattle.replay_model.specs.Calling.{plain_image, conditional_image, timed_image}
 use Rattle.replay_model.specs.Waiting.{wait_image}
@@ -15,19 +15,19 @@ use Rattle.replay_model.specs.Waiting.{wait_image}
 -- ---- aborts
 
 -- the task of a callee
-abbrev pub task_called : Unit → PCallee → ℕ
+abbrev pub task_called : RewrittenUnit → PCallee → ℕ
 task_called u callee = unwrap_or (task_named u.setting.numbers callee.name.name) 0
 
 -- What stands in the place of the abort of one task (9.10): who aborts itself says no more.
-abbrev pub abort_image : Unit → Span → PCallee → PStmts
+abbrev pub abort_image : RewrittenUnit → Span → PCallee → PStmts
 abort_image u s x =
     ask_which u s
-    (branch (is_for u s 9 (task_called u x)) (stmt_then (SAbort (x ∷ []) s) (if task_called u x == u.task then no_stmt else one (done u s))) no_arm)
+    (branch (permit_is_for u s 9 (task_called u x)) (stmt_then (SAbort (x ∷ []) s) (if task_called u x == u.task then no_stmt else one (done u s))) no_arm)
 
 -- ---- statements
 
 -- What stands in the place of a statement whose parts are rewritten. An abort statement of a normal form has one name.
-abbrev pub replay_image : Unit → PStmt → PStmts
+abbrev pub replay_image : RewrittenUnit → PStmt → PStmts
 replay_image u (SCall c s) = plain_image u s c
 replay_image u (SConditional c behind otherwise s) = conditional_image u s c behind otherwise
 replay_image u (STimed c behind duration after s) = timed_image u s c behind duration after
@@ -37,7 +37,7 @@ replay_image u (SAbort (x ∷ []) s) = abort_image u s x
 replay_image u x = one x
 
 -- The rewriter: what it keeps on its way is the unit, which stays the same.
-abbrev pub replay_rewriter : Rewriter Unit
+abbrev pub replay_rewriter : Rewriter RewrittenUnit
 replay_rewriter = record {
   entered = λ u x. u;
   opened = λ u x. u;
@@ -58,9 +58,9 @@ abbrev pub last_kind : ℕ → ℕ
 last_kind t = if t == 0 then 10 else 8
 
 -- a body whose statements are rewritten: an exception ends them and no more, and behind them the task asks for its end
-abbrev pub asking_at_end : Unit → Span → PBody → PBody
+abbrev pub asking_at_end : RewrittenUnit → Span → PBody → PBody
 asking_at_end u s b = body (stmt_then (SBlock (body (with_handlers s b) (whatever s (one (SNull s)))) s) (ask_only u s (last_kind u.task))) no_handler
 
 -- The body of a unit in a replay text.
-abbrev pub replay_body : Unit → Span → PBody → PBody
+abbrev pub replay_body : RewrittenUnit → Span → PBody → PBody
 replay_body u s b = asking_at_end u s (inside_body replay_rewriter b u)

@@ -8,8 +8,8 @@ use Rattle.ada_tree.specs.PlainExpr.{EInteger}
 use Rattle.ada_tree.specs.PlainDecl.{OPlain, IOne, PEntry, PTask, PDecl, DObject, DTask, DTaskBody, decls_of}
 use Rattle.ada_tree.specs.PlainProgram.{PProgram}
 use Rattle.syn_event.specs.Numbering.{Numbering, owner_of}
-use Rattle.syn_event.specs.Numbered.{is_added_name}
-use Rattle.syn_event.specs.Units.{decl_list}
+use Rattle.syn_event.specs.AddedNames.{is_added_name}
+use Rattle.syn_event.specs.DeclaredTasks.{decl_list}
 use Rattle.task_model.specs.Setting.{Setting}
 use Rattle.control_script.specs.declared.Op.{Op}
 use Rattle.control_script.specs.Script.{script}

@@ -6,7 +6,7 @@ use Rattle.std.proofs.lemmas.List.Sums.{fold-append}
 use Rattle.ada_tree.specs.declared.declarations.Decl.{Decl}
 use Rattle.ada_tree.specs.NameList.{interned}
 use Rattle.ada_tree.specs.PlainDecl.{PTask, plain_decl}
-use Rattle.syn_event.specs.Units.{tasks_in}
+use Rattle.syn_event.specs.DeclaredTasks.{tasks_in}
 use Rattle.syn_event.proofs.DeclLists.{tasks_joined}
 
 -- one declaration more

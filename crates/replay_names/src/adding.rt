@@ -3,7 +3,7 @@
 ghost use Rattle.std.specs.Prelude.{◌≡◌, ◌∷◌, [], fold, map, flat_map, OnOk};
 ghost use Rattle.ada_tree.specs.NameList.{interned};
 ghost use Rattle.ada_tree.specs.PlainDecl.{plain_decl, plain_task};
-ghost use Rattle.syn_event.specs.Units.{tasks_in};
+ghost use Rattle.syn_event.specs.DeclaredTasks.{tasks_in};
 ghost use Rattle.replay_model.specs.Names.{double_texts};
 ghost use Rattle.replay_names.specs.Added.{with_added};
 

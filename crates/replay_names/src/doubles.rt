@@ -1,7 +1,7 @@
 // The doubles of entries: their texts, and their ids by those of the entries.
 
 ghost use Rattle.std.specs.Prelude.{◌≡◌, map, string_bytes, length, take, IfOk, OnOk};
-ghost use Rattle.syn_event.specs.Units.{text_of};
+ghost use Rattle.syn_event.specs.DeclaredTasks.{text_of};
 ghost use Rattle.normal_model.specs.Names.{id_of};
 ghost use Rattle.replay_model.specs.Names.{double_text};
 

@@ -15,8 +15,8 @@ use Rattle.ada_tree.specs.declared.shortage.Memory.{Memory}
 use Rattle.ada_tree.specs.NameList.{AreNames, predefined}
 use Rattle.syn_event.specs.declared.numbering.EntryInfo.{EntryInfo}
 use Rattle.syn_event.specs.Numbering.{Numbering, is_original_entry, entry_named}
-use Rattle.syn_event.specs.Numbered.{speaks_of, original_number, with_origin}
-use Rattle.syn_event.specs.Units.{text_of}
+use Rattle.syn_event.specs.AddedNames.{speaks_of, original_number, with_origin}
+use Rattle.syn_event.specs.DeclaredTasks.{text_of}
 use Rattle.normal_model.specs.Names.{id_of}
 use Rattle.replay_names.proofs.Places.{id_there, slice_get-take}
 use Rattle.replay_numbering.specs.inner.Originals.{as_double, doubled, originals, origin_in, with_number}

@@ -4,7 +4,7 @@ use Rattle.std.specs.List.{filter}
 use Rattle.ada_tree.specs.declared.naming.NameId.{NameId}
 use Rattle.syn_event.specs.declared.numbering.EntryInfo.{EntryInfo}
 use Rattle.syn_event.specs.Numbering.{Numbering}
-use Rattle.syn_event.specs.Numbered.{task_info, with_origins}
+use Rattle.syn_event.specs.AddedNames.{task_info, with_origins}
 use Rattle.replay_names.specs.declared.added_names.AddedNames.{AddedNames}
 use Rattle.replay_asking.specs.Voice.{Voice}
 

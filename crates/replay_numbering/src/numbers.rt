@@ -1,7 +1,7 @@
 // All numbers of a replay text.
 
 ghost use Rattle.std.specs.Prelude.{◌≡◌, ◌++◌, ◌∷◌, [], pred, length, IfOk};
-ghost use Rattle.syn_event.specs.Numbered.{task_info};
+ghost use Rattle.syn_event.specs.AddedNames.{task_info};
 ghost use Rattle.replay_asking.specs.Looked.{voice_of};
 ghost use Rattle.replay_numbering.specs.Replayed.{numbers_by};
 

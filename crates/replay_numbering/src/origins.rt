@@ -4,8 +4,8 @@ ghost use Rattle.std.specs.Prelude.{◌≡◌, List, ◌<◌, ◌^◌, ◌++◌,
 ghost use Rattle.std.specs.List.{starts_with};
 ghost use Rattle.ada_tree.specs.NameList.{AreNames};
 ghost use Rattle.syn_event.specs.declared.numbering.EntryInfo.{EntryInfo};
-ghost use Rattle.syn_event.specs.Numbered.{with_origin, with_origins};
-ghost use Rattle.syn_event.specs.Units.{text_of};
+ghost use Rattle.syn_event.specs.AddedNames.{with_origin, with_origins};
+ghost use Rattle.syn_event.specs.DeclaredTasks.{text_of};
 ghost use Rattle.normal_model.specs.Names.{id_of};
 ghost use Rattle.replay_model.specs.Names.{double_text};
 ghost use Rattle.replay_numbering.specs.inner.Originals.{doubled, originals, origin_in, with_number};

@@ -10,12 +10,12 @@ use Rattle.ada_tree.specs.PlainDecl.{PEntry, PTask, PDecl, DNumber, DObject, DEn
 use Rattle.ada_tree.specs.Every.{Rules, EveryWord, EveryEntry, EveryTask, EveryDecl, EveryDecls, EveryBody, EveryProgram}
 use Rattle.ada_tree.specs.Lexical.{IsInteger}
 use Rattle.ada_tree.specs.WellPlaced.{GoUp, AreObjects, AreLater, BodiesLast, well_placed, IsWellPlaced}
-use Rattle.syn_event.specs.Units.{decl_list}
+use Rattle.syn_event.specs.DeclaredTasks.{decl_list}
 use Rattle.common_lemmas.proofs.Lists.{all_joined, all_weaker, all_kept}
 use Rattle.control_script.specs.declared.Op.{Op}
 use Rattle.task_model.specs.Setting.{Setting}
 use Rattle.normal_model.specs.NormalTree.{unit_for}
-use Rattle.normal_model.specs.Waits.{Unit}
+use Rattle.normal_model.specs.RewrittenUnit.{RewrittenUnit}
 use Rattle.asked_stmts.specs.Asked.{AskedBody}
 use Rattle.asked_stmts.specs.Kinds.{place_asks, both}
 use Rattle.asked_stmts.proofs.Placed.{placed_asked, asked_placed}
@@ -256,7 +256,7 @@ module _ (g : Setting) (h : IsReplayPlaceable g) where
   -- the body of a task of that number
   pub body-placed : (task : ℕ) (s : Span) (its : PBody) → IsInteger task → EveryBody r 1 its → AskedBody (fit_asks (record { setting = g; task = task })) tt 1 its → EveryBody r' 1 (replay_body (record { setting = g; task = task }) s its)
   body-placed task s its few i j =
-      let u : Unit = record { setting = g; task = task } in
+      let u : RewrittenUnit = record { setting = g; task = task } in
       asked_placed r' 1 (replay_body u s its)
       (replay-keeps u IsShallow (both (place_asks r) (fit_asks u)) (place_asks r') (λ c d. Prim.Unit {0}) (pieces u g.program.names (names' g h) (old g h) known h.few_tasks h.few_entries few) (tt, tt) tt 1 s its tt (omega arith) (omega arith)
       (both_asked (place_asks r) (fit_asks u) tt tt 1 its (placed_asked r 1 its i) j))

@@ -11,17 +11,17 @@ use Rattle.ada_tree.specs.Every.{Rules, EveryWord, EveryExpr, EveryExprs, EveryA
 use Rattle.ada_tree.specs.WellPlaced.{level, factor, OthersLast, well_placed}
 use Rattle.ada_tree.specs.Lexical.{IsInteger}
 use Rattle.syn_event.specs.Numbering.{Numbering}
-use Rattle.syn_event.specs.Units.{text_of}
+use Rattle.syn_event.specs.DeclaredTasks.{text_of}
 use Rattle.task_model.specs.Setting.{Setting, first_expr, lists_in, lists_of, is_family, entry_of}
 use Rattle.normal_model.specs.Calls.{first_named, entry_called, lists_called}
-use Rattle.normal_model.specs.Waits.{Unit}
+use Rattle.normal_model.specs.RewrittenUnit.{RewrittenUnit}
 use Rattle.normal_model.specs.Walk.{after_stmts, inside_handlers}
 use Rattle.asked_stmts.specs.Asked.{Asks}
 use Rattle.asked_stmts.specs.Kinds.{place_asks, both}
 use Rattle.normal_placed.specs.Placeable.{IsName}
 use Rattle.replay_model.specs.Names.{kind_text, argument_text, index_text}
-use Rattle.replay_model.specs.Asking.{permit_part, is_kind}
-use Rattle.replay_model.specs.Serving.{is_served}
+use Rattle.replay_model.specs.Asking.{permit_part, permit_is_kind}
+use Rattle.replay_model.specs.Serving.{permits_start}
 use Rattle.replay_model.specs.Waiting.{Pause, pauses_of}
 use Rattle.replay_model.specs.ReplayStmts.{task_called, replay_rewriter}
 use Rattle.replay_asked.specs.Pieces.{StandsNear, IsAlternative, first_alternative, later_alternative, Pieces}
@@ -60,7 +60,7 @@ entry-few numbers t name = next-few (λ info. (info.owner == t) && (info.name.0 
 
 -- ---- guards
 
-module _ (u : Unit) where
+module _ (u : RewrittenUnit) where
   pub guard-primary : (guard : Option PExpr) (y : PAltKind) (s : Span) (x : PAlts) → IsAlternative (alternative guard y s) x → HasPrimaryGuards x → IfSome guard (λ e. factor < level e)
   guard-primary guard y s x (first_alternative l) h = h.0
   guard-primary guard y s x (later_alternative (alternative f z p) l i) h = guard-primary guard y s l i h.1
@@ -73,7 +73,7 @@ module _ (u : Unit) where
 
 -- ---- the pieces
 
-module _ (u : Unit) (names names' : List (List ℕ)) (old : (id : NameId) → IsName names id → IsName names' id) (known : AreAdded u.setting names') (few_tasks : IsInteger (length u.setting.numbers.tasks)) (few_entries : IsInteger (length u.setting.numbers.entries)) (task : IsInteger u.task) where
+module _ (u : RewrittenUnit) (names names' : List (List ℕ)) (old : (id : NameId) → IsName names id → IsName names' id) (known : AreAdded u.setting names') (few_tasks : IsInteger (length u.setting.numbers.tasks)) (few_entries : IsInteger (length u.setting.numbers.entries)) (task : IsInteger u.task) where
   abbrev g : Setting
   g = u.setting
 
@@ -117,12 +117,12 @@ module _ (u : Unit) (names names' : List (List ℕ)) (old : (id : NameId) → Is
 
   -- ---- accepts
 
-  served-placed : (c : C) (k n : ℕ) (s : Span) (h : PHead) → b.head c k h → n < 4 * k + 16 → EveryExpr r' n (is_served u s h)
+  served-placed : (c : C) (k n : ℕ) (s : Span) (h : PHead) → b.head c k h → n < 4 * k + 16 → EveryExpr r' n (permits_start u s h)
   served-placed c k n s h i le =
       at-placed u names' known s 1 (entry_of g.numbers u.task h.entry.name) n h.index (omega arith) (omega (arith, entry-few g.numbers u.task h.entry.name, few_entries)) (omega (arith, le, i.1.0))
       (λ q l. option-moved names names' old k (k + 1) q h.index (omega (arith, l, le)) i.1.1 i.0.1.1) (i.1.2 s)
 
-  others-last : (hs : PHandlers) (t : Unit) → OthersLast hs → OthersLast (inside_handlers replay_rewriter hs t)
+  others-last : (hs : PHandlers) (t : RewrittenUnit) → OthersLast hs → OthersLast (inside_handlers replay_rewriter hs t)
   others-last no_handler t h = tt
   others-last (handler_then (handler [] l s) no_handler) t h = (tt, tt)
   others-last (handler_then (handler [] l s) (handler_then (handler vs m s') rest)) t h = absurd h.0
@@ -187,7 +187,7 @@ module _ (u : Unit) (names names' : List (List ℕ)) (old : (id : NameId) → Is
     served = λ c d k n s h rel i le. served-placed c k n s h i (omega (arith, le));
     taken = λ c d k n x els t guard h o l s rel near w all i le.
         let one = alternative-asked b c (k + 1) guard (AAccept (accepting h o) l) s x i all in
-        guarded u names' known s (is_served u s h) n guard (omega (arith, near, le)) (inr (refl, refl))
+        guarded u names' known s (permits_start u s h) n guard (omega (arith, near, le)) (inr (refl, refl))
         (λ q m. served-placed c ((k + 1) + 1) q s h one.2.0.0 (omega (arith, m, le)))
         (guard-primary u guard (AAccept (accepting h o) l) s x i w.1.1) (guard-placed c ((k + 1) + 1) (n + 1) guard (omega (arith, le)) one.1);
     due = λ c d k n x els t guard duration l s place rel near w all i few le.
@@ -198,7 +198,7 @@ module _ (u : Unit) (names names' : List (List ℕ)) (old : (id : NameId) → Is
         (shut-by c ((k + 1) + 1) (n + length (pauses_of x) + 4) guard (omega (arith, le, less)) one.1 (guard-primary u guard (ADelay duration l) s x i w.1.1));
     ends = λ c d k n x els t guard s rel near w all i le.
         let one = alternative-asked b c (k + 1) guard ATerminate s x i all in
-        guarded u names' known s (is_kind u s 10) n guard (omega (arith, near, le)) (inl (omega arith)) (λ q m. kind-placed u names' known s 10 q (omega arith) (omega (arith, m, near, le)))
+        guarded u names' known s (permit_is_kind u s 10) n guard (omega (arith, near, le)) (inl (omega arith)) (λ q m. kind-placed u names' known s 10 q (omega arith) (omega (arith, m, near, le)))
         (guard-primary u guard ATerminate s x i w.1.1) (guard-placed c ((k + 1) + 1) (n + 1) guard (omega (arith, le)) one.1);
     passes = λ c d k n s rel h le. kind-placed u names' known s 3 n (omega arith) (omega (arith, h, le));
     never = λ c d k n x els t s rel h w all le. (omega (arith, h, le), (known.never, tt, All-from_recursion (EveryFormal r') [] tt));

@@ -5,7 +5,7 @@ use Rattle.std.proofs.lemmas.List.{length-set, length-map}
 use Rattle.ada_tree.specs.Lexical.{IsInteger}
 use Rattle.event_machine.specs.declared.Event.{Event}
 use Rattle.event_machine.specs.declared.Event.TheVariants.{R, E, S, D, C, T, F, X, B, Z}
-use Rattle.event_progress.specs.Known.{Party, Known, at_start, party, is_closed, is_free, put, with_callers, part, let_go, fall, suits, admits, advanced}
+use Rattle.event_progress.specs.Known.{Party, Known, known_at_start, party, is_closed, is_free, put, with_callers, part, let_go, fall, suits, admits, advanced}
 use Rattle.event_progress.proofs.Parties.{known_below, idle_length}
 use Rattle.common_lemmas.proofs.Truth.{and_left, and_right}
 use Rattle.common_lemmas.proofs.Lists.{all_front, all_back, all_joined, all_kept}
@@ -33,16 +33,16 @@ operations-some owner k Z = rw (length-append (map to_close (open_tasks k)) (to_
 
 pub script-some : (owner : ℕ → ℕ) (n : ℕ) (events : List Event) → 1 ≤ length (script owner n events)
 script-some owner n [] = omega arith
-script-some owner n (e ∷ events) = by_test (admits owner (at_start n) e)
+script-some owner n (e ∷ events) = by_test (admits owner (known_at_start n) e)
   where
     front : List Op
-    front = operations owner (at_start n) e
+    front = operations owner (known_at_start n) e
 
     back : List Op
-    back = script_from owner (advanced owner (at_start n) e) events
+    back = script_from owner (advanced owner (known_at_start n) e) events
 
-    by_test : (b : Bool) → 1 ≤ length (if b then front ++ back else held (at_start n))
-    by_test true = rw (length-append front back) (omega (arith, operations-some owner (at_start n) e))
+    by_test : (b : Bool) → 1 ≤ length (if b then front ++ back else held (known_at_start n))
+    by_test true = rw (length-append front back) (omega (arith, operations-some owner (known_at_start n) e))
     by_test false = omega arith
 
 -- ---- as many parties as before
@@ -138,4 +138,4 @@ from-literals owner (e ∷ events) k few n h = by_test (admits owner k e) refl h
 
 -- the operations of a script of a program with n tasks
 pub script-literals : (owner : ℕ → ℕ) (n : ℕ) (events : List Event) → IsInteger n → AllByRecursion HasSmallIndices events → AllByRecursion HasLiteral (script owner n events) → AllByRecursion HasLiterals (script owner n events)
-script-literals owner n events few small h = from-literals owner events (at_start n) (subst IsInteger (sym (idle_length n)) few) small h
+script-literals owner n events few small h = from-literals owner events (known_at_start n) (subst IsInteger (sym (idle_length n)) few) small h

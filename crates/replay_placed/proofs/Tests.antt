@@ -11,10 +11,10 @@ use Rattle.ada_tree.specs.WellPlaced.{level, logical, factor, GoesOn, well_place
 use Rattle.ada_tree.specs.Lexical.{IsIdentifier, IsInteger}
 use Rattle.task_model.specs.Setting.{Setting}
 use Rattle.normal_model.specs.Ranges.{kind_of_range, kind_name, family_range}
-use Rattle.normal_model.specs.Waits.{Unit}
+use Rattle.normal_model.specs.RewrittenUnit.{RewrittenUnit}
 use Rattle.normal_placed.specs.Placeable.{IsName}
 use Rattle.replay_model.specs.Names.{kind_text, argument_text, index_text, control_text, go_text, done_text, hold_text, idle_text, stop_text, rest_text, never_text, join_text, double_text, added_id}
-use Rattle.replay_model.specs.Asking.{is_kind, is_for, is_at, as_number, number_in, member_number}
+use Rattle.replay_model.specs.Asking.{permit_is_kind, permit_is_for, permit_is_at, as_number, number_in, member_number}
 use Rattle.replay_model.specs.Waiting.{never_so, and_guard, is_shut, Pause, and_later, is_due}
 use Rattle.replay_placed.specs.Fitting.{IsOperand}
 use Rattle.replay_asked.specs.Pieces.{is_other_kind}
@@ -37,7 +37,7 @@ pub record AreAdded (g : Setting) (names : List (List ℕ)) : Type 0 where
   pub double : (t : List ℕ) → IsIdentifier (double_text t) → IsName names (added_id g.program (double_text t))
   pub kinds : (k : ℕ) → IsName names (kind_name g.types k)
 
-module _ (u : Unit) (names : List (List ℕ)) (known : AreAdded u.setting names) where
+module _ (u : RewrittenUnit) (names : List (List ℕ)) (known : AreAdded u.setting names) where
   abbrev g : Setting
   g = u.setting
 
@@ -46,13 +46,13 @@ module _ (u : Unit) (names : List (List ℕ)) (known : AreAdded u.setting names)
 
   -- ---- kinds of permits
 
-  pub kind-placed : (s : Span) (k n : ℕ) → IsInteger k → n + 1 ≤ 300 → EveryExpr r n (is_kind u s k)
+  pub kind-placed : (s : Span) (k n : ℕ) → IsInteger k → n + 1 ≤ 300 → EveryExpr r n (permit_is_kind u s k)
   kind-placed s k n few le = (omega (arith, le), (inl (omega arith), omega arith), (le, known.kind_part), (le, few))
 
   pub other-placed : (s : Span) (k n : ℕ) → IsInteger k → n + 1 ≤ 300 → EveryExpr r n (is_other_kind u s k)
   other-placed s k n few le = (omega (arith, le), (inl (omega arith), omega arith), (le, known.kind_part), (le, few))
 
-  pub for-placed : (s : Span) (k a n : ℕ) → IsInteger k → IsInteger a → n + 2 ≤ 300 → EveryExpr r n (is_for u s k a)
+  pub for-placed : (s : Span) (k a n : ℕ) → IsInteger k → IsInteger a → n + 2 ≤ 300 → EveryExpr r n (permit_is_for u s k a)
   for-placed s k a n few small le = (
     omega (arith, le),
     (inl (omega arith), omega arith),
@@ -75,7 +75,7 @@ module _ (u : Unit) (names : List (List ℕ)) (known : AreAdded u.setting names)
     number-placed (Some b) = as-number-placed (kind_of_range g.types b) (slice_get g.types.kinds (kind_of_range g.types b))
 
   -- the index of a member is well placed two or three deeper than the test
-  pub at-placed : (s : Span) (k e n : ℕ) (o : Option PExpr) → IsInteger k → IsInteger e → n + 3 ≤ 300 → ((q : ℕ) → q ≤ n + 3 → IfSome o (EveryExpr r q)) → IsOperand (member_number g s e o) → EveryExpr r n (is_at u s k e o)
+  pub at-placed : (s : Span) (k e n : ℕ) (o : Option PExpr) → IsInteger k → IsInteger e → n + 3 ≤ 300 → ((q : ℕ) → q ≤ n + 3 → IfSome o (EveryExpr r q)) → IsOperand (member_number g s e o) → EveryExpr r n (permit_is_at u s k e o)
   at-placed s k e n o few small le h tight = (
     omega (arith, le),
     (inr (refl, refl), omega arith),
@@ -145,7 +145,7 @@ module _ (u : Unit) (names : List (List ℕ)) (known : AreAdded u.setting names)
   -- the test for the k-th of some delay alternatives
   pub due-placed : (s : Span) (ps : List Pause) (k d n : ℕ) (guard : Option PExpr) → IsInteger k → n + length ps + 4 ≤ 300 → AllByRecursion (IsShutBy (n + length ps + 4)) ps → IsShutBy (n + length ps + 4) (record { duration = d; guard = guard }) → EveryExpr r n (is_due u s ps k d guard)
   due-placed s ps k d n guard few le all own =
-      all-later s d (n + length ps + 4) le ps 3 (and_guard s (is_for u s 4 k) guard) (omega arith) first (guarded-goes s (is_for u s 4 k) guard (inr (refl, refl))) all n (omega arith)
+      all-later s d (n + length ps + 4) le ps 3 (and_guard s (permit_is_for u s 4 k) guard) (omega arith) first (guarded-goes s (permit_is_for u s 4 k) guard (inr (refl, refl))) all n (omega arith)
     where
       primary : (o : Option PExpr) → IfSome o (λ e. (factor < level e) × ((q : ℕ) → q ≤ n + length ps + 4 → EveryExpr r q e)) → IfSome o (λ e. factor < level e)
       primary None i = tt
@@ -155,6 +155,6 @@ module _ (u : Unit) (names : List (List ℕ)) (known : AreAdded u.setting names)
       placed None q l i = tt
       placed (Some e) q l i = i.1 q l
 
-      first : (q : ℕ) → q + 3 ≤ n + length ps + 4 → EveryExpr r q (and_guard s (is_for u s 4 k) guard)
+      first : (q : ℕ) → q + 3 ≤ n + length ps + 4 → EveryExpr r q (and_guard s (permit_is_for u s 4 k) guard)
       first q l =
-          guarded s (is_for u s 4 k) q guard (omega (arith, l, le)) (inr (refl, refl)) (λ j m. for-placed s 4 k j (omega arith) few (omega (arith, m, l, le))) (primary guard own) (placed guard (q + 1) (omega (arith, l)) own)
+          guarded s (permit_is_for u s 4 k) q guard (omega (arith, l, le)) (inr (refl, refl)) (λ j m. for-placed s 4 k j (omega arith) few (omega (arith, m, l, le))) (primary guard own) (placed guard (q + 1) (omega (arith, l)) own)

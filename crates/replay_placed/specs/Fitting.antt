@@ -6,10 +6,10 @@ use Rattle.ada_tree.specs.PlainStmt.{PCall, PHead, alternative, PAlts, no_alt, a
 use Rattle.ada_tree.specs.Every.{Rules, no_rules, EveryExpr, EveryArgs, EveryChoice, EveryScheme, EveryStmt, alts_count}
 use Rattle.ada_tree.specs.WellPlaced.{level, relation, factor}
 use Rattle.ada_tree.specs.Lexical.{IsIdentifier}
-use Rattle.syn_event.specs.Units.{text_of}
+use Rattle.syn_event.specs.DeclaredTasks.{text_of}
 use Rattle.task_model.specs.Setting.{entry_of}
 use Rattle.normal_model.specs.Calls.{entry_called, lists_called}
-use Rattle.normal_model.specs.Waits.{Unit}
+use Rattle.normal_model.specs.RewrittenUnit.{RewrittenUnit}
 use Rattle.asked_stmts.specs.Asked.{Asks}
 use Rattle.replay_model.specs.Names.{double_text}
 use Rattle.replay_model.specs.Asking.{member_number}
@@ -31,14 +31,14 @@ abbrev pub IsOperand : PExpr → Type 0
 IsOperand e = relation < level e
 
 -- a call has a shallow list of actuals, its index as a number may stand in a relation, and the name of the entry's double is one
-abbrev pub FitsCall : Unit → ℕ → PCall → Type 0
+abbrev pub FitsCall : RewrittenUnit → ℕ → PCall → Type 0
 FitsCall u k x =
     IfSome x.args (EveryArgs (reach k) k)
     × ((s : Span) → IsOperand (member_number u.setting s (entry_called u.setting x) (lists_called u.setting x).index))
     × IsIdentifier (double_text (text_of u.setting.program.names x.entry.name))
 
 -- so has an accept
-abbrev pub FitsHead : Unit → ℕ → PHead → Type 0
+abbrev pub FitsHead : RewrittenUnit → ℕ → PHead → Type 0
 FitsHead u k h =
     IsShallow k
     × IfSome h.index (EveryExpr (reach k) (k + 1))
@@ -52,7 +52,7 @@ HasPrimaryGuards (alt_then (alternative guard x s) rest) = IfSome guard (λ e. f
 -- ---- the whole
 
 -- What is asked of the statements of a unit.
-abbrev pub fit_asks : Unit → Asks (Prim.Unit {0})
+abbrev pub fit_asks : RewrittenUnit → Asks (Prim.Unit {0})
 fit_asks u = record {
   outer = λ c k s. IsShallow k;
   many = λ n. Prim.Unit {0};

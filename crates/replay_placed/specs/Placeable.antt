@@ -4,7 +4,7 @@ use Rattle.std.specs.List.{AllByRecursion}
 use Rattle.ada_tree.specs.Lexical.{IsIdentifier, IsInteger}
 use Rattle.ada_tree.specs.PlainDecl.{PEntry, PDecl, DTask, DTaskBody}
 use Rattle.ada_tree.specs.WellPlaced.{IsWellPlaced}
-use Rattle.syn_event.specs.Units.{text_of, decl_list}
+use Rattle.syn_event.specs.DeclaredTasks.{text_of, decl_list}
 use Rattle.event_machine.specs.declared.Event.{Event}
 use Rattle.event_machine.specs.declared.Event.TheVariants.{R, C, T, F}
 use Rattle.control_script.specs.declared.Op.{Op}

@@ -2,7 +2,7 @@
 use Rattle.std.proofs.Common.{◌≡◌, ℕ, refl, ap}
 use Rattle.ada_tree.specs.declared.naming.Span.{Span}
 use Rattle.ada_tree.specs.PlainStmt.{PBody}
-use Rattle.normal_model.specs.Waits.{Unit}
+use Rattle.normal_model.specs.RewrittenUnit.{RewrittenUnit}
 use Rattle.replay_model.specs.ReplayStmts.{replay_rewriter, replay_body}
 use Rattle.tree_walk.specs.Rules.{walk_of}
 use Rattle.replay_rules.specs.Replayed.{rule_of, asking_at_end, body_image}
@@ -10,12 +10,12 @@ use Rattle.replay_rules.specs.Meant.{voice_in}
 use Rattle.replay_rules.proofs.Voices.{image-is}
 use Rattle.replay_rules.proofs.Still.{Keeps, alike_body}
 
-keeps_rule : (u : Unit) → Keeps ℕ (walk_of (rule_of (voice_in u))) 0
+keeps_rule : (u : RewrittenUnit) → Keeps ℕ (walk_of (rule_of (voice_in u))) 0
 keeps_rule u = record { entered = λ x. refl; opened = λ x. refl; lead = λ x. refl; face = λ x. refl }
 
-keeps_unit : (u : Unit) → Keeps Unit replay_rewriter u
+keeps_unit : (u : RewrittenUnit) → Keeps RewrittenUnit replay_rewriter u
 keeps_unit u = record { entered = λ x. refl; opened = λ x. refl; lead = λ x. refl; face = λ x. refl }
 
-pub body-is : (u : Unit) (s : Span) (b : PBody) → body_image (voice_in u) s b ≡ replay_body u s b
+pub body-is : (u : RewrittenUnit) (s : Span) (b : PBody) → body_image (voice_in u) s b ≡ replay_body u s b
 body-is u s b =
     ap (asking_at_end (voice_in u) s) (alike_body (walk_of (rule_of (voice_in u))) 0 (keeps_rule u) replay_rewriter u (keeps_unit u) (image-is u) b)

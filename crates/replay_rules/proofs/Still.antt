@@ -2,7 +2,7 @@
 use Rattle.std.proofs.Common.{◌≡◌, refl, sym, ap, ◌∙◌}
 use Rattle.ada_tree.specs.PlainStmt.{PStmt, SNull, SAssign, SDelay, SExit, SRaise, SAbort, SCall, SAccept, SWait, SConditional, STimed, SPut, SPutLine, SNewLine, SGet, SIf, SCase, SBlock, SLoop, PStmts, no_stmt, stmt_then, PMaybe, absent, present, PAccept, accepting, PAlt, alternative, PAltKind, AAccept, ADelay, ATerminate, PAlts, no_alt, alt_then, PArms, no_arm, arm_then, arm, PCaseArms, no_case_arm, case_arm_then, case_arm, PBody, body, PHandlers, no_handler, handler_then, handler}
 use Rattle.task_model.specs.Frames.{in_front}
-use Rattle.normal_model.specs.Walk.{Rewriter, after_parts, after_stmts, after_maybe, after_accept, after_kind, after_alts, after_arms, after_case_arms, after_body, after_handlers, alts_leads, leads, inside, rewritten, inside_maybe, inside_accept, inside_kind, inside_alts, inside_arms, inside_case_arms, inside_body, inside_handlers}
+use Rattle.normal_model.specs.Walk.{Rewriter, after_parts, after_stmts, after_maybe, after_accept, after_kind, after_alts, after_arms, after_case_arms, after_body, after_handlers, alts_leads, leads, parts_rewritten, rewritten, inside_maybe, inside_accept, inside_kind, inside_alts, inside_arms, inside_case_arms, inside_body, inside_handlers}
 
 -- the rewriter keeps this state, puts nothing in front of a wait, and leaves alternatives as they are
 pub record Keeps (S : Type 0) (w : Rewriter S) (t : S) : Type 0 where
@@ -110,7 +110,7 @@ module _ {S T : Type 0} (w : Rewriter S) (t : S) (k : Keeps S w t) (v : Rewriter
   maybe_behind t' u' p q o e = ap (inside_maybe w o) p ∙ e ∙ sym (ap (inside_maybe v o) q)
 
   mutual
-    alike : (x : PStmt) → inside w x t ≡ inside v x u
+    alike : (x : PStmt) → parts_rewritten w x t ≡ parts_rewritten v x u
     alike (SAccept a s) = ap (λ b. SAccept b s) (alike_accept a)
     alike (SWait x o s) = λ i. SWait (alike_alts x i) (maybe_behind (after_alts w x t) (after_alts v x u) (still_alts w t k x) (still_alts v u j x) o (alike_maybe o) i) s
     alike (SConditional c b o s) = λ i. SConditional c (alike_stmts b i) (stmts_behind (after_stmts w b t) (after_stmts v b u) (still_stmts w t k b) (still_stmts v u j b) o (alike_stmts o) i) s
@@ -134,10 +134,10 @@ module _ {S T : Type 0} (w : Rewriter S) (t : S) (k : Keeps S w t) (v : Rewriter
     alike_stmts : (l : PStmts) → rewritten w l t ≡ rewritten v l u
     alike_stmts no_stmt = refl
     alike_stmts (stmt_then x l) =
-        ap (λ a. in_front (w.image t (leads w x a) (inside w x a)) (rewritten w l (after_parts w x a))) (k.entered x)
+        ap (λ a. in_front (w.image t (leads w x a) (parts_rewritten w x a)) (rewritten w l (after_parts w x a))) (k.entered x)
         ∙ (λ i. in_front (w.image t (still_leads w t k x i) (alike x i)) (stmts_behind (after_parts w x t) (after_parts v x u) (still_parts w t k x) (still_parts v u j x) l (alike_stmts l) i))
-        ∙ ap (λ a. in_front a (rewritten v l (after_parts v x u))) (same (inside v x u) ∙ ap (λ a. v.image u a (inside v x u)) (sym (still_leads v u j x)))
-        ∙ sym (ap (λ a. in_front (v.image u (leads v x a) (inside v x a)) (rewritten v l (after_parts v x a))) (j.entered x))
+        ∙ ap (λ a. in_front a (rewritten v l (after_parts v x u))) (same (parts_rewritten v x u) ∙ ap (λ a. v.image u a (parts_rewritten v x u)) (sym (still_leads v u j x)))
+        ∙ sym (ap (λ a. in_front (v.image u (leads v x a) (parts_rewritten v x a)) (rewritten v l (after_parts v x a))) (j.entered x))
 
     alike_maybe : (o : PMaybe) → inside_maybe w o t ≡ inside_maybe v o u
     alike_maybe absent = refl

@@ -7,11 +7,11 @@ use Rattle.ada_tree.specs.PlainStmt.{PScheme, LWhile, LFor, PHead, PBody}
 use Rattle.ada_tree.specs.Every.{EveryBody}
 use Rattle.ada_tree.specs.Scope.{Scope, meaning, entry_named}
 use Rattle.ada_tree.specs.Demand.{Demand, declares, labels, addresses, calls, accepts, chooses, Site}
-use Rattle.ada_tree.specs.Sites.{site, if_there, expr_sites, callee_sites, args_sites, condition, choice_sites, handler_names_sites, stmt_sites, names_sites, all_names, formals_sites, accept_index_sites, head_sites, scheme_sites, body_sites}
+use Rattle.ada_tree.specs.Sites.{site, if_there, expr_sites, callee_sites, args_sites, condition_sites, choice_sites, handler_names_sites, stmt_sites, names_sites, all_names, formals_sites, accept_index_sites, head_sites, scheme_sites, body_sites}
 use Rattle.ada_tree.specs.ExprTypes.{kind_of}
 use Rattle.ada_tree.specs.RuleArgCount.{called_entry}
 use Rattle.ada_tree.specs.RuleChoiceBad.{selected_range}
-use Rattle.ada_tree.specs.Declaring.{inside}
+use Rattle.ada_tree.specs.Declaring.{inner_scope}
 use Rattle.asked_stmts.specs.Asked.{Asks, AskedBody}
 use Rattle.asked_stmts.specs.Kinds.{place_asks, type_asks, no_asks, both}
 use Rattle.asked_stmts.proofs.Placed.{placed_asked}
@@ -65,8 +65,8 @@ module _ (old inner : ℕ → Bool) where
 
   head-inner : (c : Scope) (h : PHead) → AllByRecursion P (head_sites c h) → AreInner inner (all_names h.formals)
   head-inner c h m =
-      words-inner (all_names h.formals) (inside c)
-      (all_front P (names_sites false (inside c) (all_names h.formals)) _ (all_back P (if_there (accept_index_sites c (entry_named c.own h.entry.name)) h.index) (formals_sites c h.formals) m.1))
+      words-inner (all_names h.formals) (inner_scope c)
+      (all_front P (names_sites false (inner_scope c) (all_names h.formals)) _ (all_back P (if_there (accept_index_sites c (entry_named c.own h.entry.name)) h.index) (formals_sites c h.formals) m.1))
 
   less : AsksLess a b R
   less = record {
@@ -77,7 +77,7 @@ module _ (old inner : ℕ → Bool) where
     callee = λ c d k x r h. subst (λ s. b.callee s k x) r (but (callee_sites c.0 x) h.0, h.0.0.1);
     call = λ c d k x r h. subst (λ s. b.call s k x) r (but (site c.0 (calls x) ∷ if_there (args_sites c.0 (called_entry (meaning c.0 x.task.name.name) x.entry.name)) x.args) h.0);
     aborts = λ c d k xs r h. tt;
-    condition = λ c d k e r h. subst (λ s. b.condition s k e) r (but (condition c.0 e) h.0);
+    condition = λ c d k e r h. subst (λ s. b.condition s k e) r (but (condition_sites c.0 e) h.0);
     selector = λ c d k e xs others s r h. subst (λ t. b.selector t k e xs others s) r (but (site c.0 (chooses e xs others s) ∷ expr_sites c.0 e) h.0);
     choices = λ c d k e xs r h. subst (λ s. b.choices s k e xs) r (but (flat_map (choice_sites c.0 (kind_of c.0 e) (selected_range c.0 e)) xs) h.0);
     loop = λ c d k w x r h. subst (λ s. b.loop s k w x) r

@@ -9,10 +9,10 @@ use Rattle.ada_tree.specs.PlainStmt.{PBody}
 use Rattle.ada_tree.specs.PlainDecl.{PDecl, DNumber, DObject, DEnumeration, DArray, DSubtype, DException, DIntIo, DPragma, DTask, DTaskBody, PDecls, decls_of}
 use Rattle.ada_tree.specs.PlainProgram.{PProgram}
 use Rattle.ada_tree.specs.Scope.{Scope, meaning, entry_named}
-use Rattle.ada_tree.specs.Declaring.{own_entries, inside, in_body, after_own_object, after_objects}
+use Rattle.ada_tree.specs.Declaring.{own_entries, inner_scope, in_body, after_own_object, after_objects}
 use Rattle.ada_tree.specs.Demand.{gives_body}
 use Rattle.ada_tree.specs.Sites.{site, own_object_sites, own_sites, body_sites, decl_sites}
-use Rattle.syn_event.specs.Units.{decl_list}
+use Rattle.syn_event.specs.DeclaredTasks.{decl_list}
 use Rattle.task_model.specs.Setting.{Setting}
 use Rattle.normal_model.specs.NormalTree.{unit_for}
 use Rattle.rewritten_types.specs.Rewriting.{IsAdded}
@@ -119,20 +119,20 @@ module _ (g : Setting) (old inner : ℕ → Bool) (names : AreNamesApart g old i
   body-sites-met c d w objects its s more form control idle = (
     given (more.things w.name form.named),
     all_joined IsMetBut (own_sites (in_body d w) more_objects) (body_sites within (replay_body (unit_for g w.name) w.span its)) objects-met
-        (body-met (unit_for g w.name) old inner names.outer (tt, inside (after_objects (in_body c w) objects)) within 1 w.span its scope (omega arith) form.asked),
+        (body-met (unit_for g w.name) old inner names.outer (tt, inner_scope (after_objects (in_body c w) objects)) within 1 w.span its scope (omega arith) form.asked),
   )
     where
       more_objects : PDecls
       more_objects = text_objects g old names.entries names.permits names.zero w objects
 
       within : Scope
-      within = inside (after_objects (in_body d w) more_objects)
+      within = inner_scope (after_objects (in_body d w) more_objects)
 
       given : IsGrown q old (meaning c w.name) (meaning d w.name) → IsMetBut (site d (gives_body w))
       given (stays e n) = absurd (true≢false (sym (ap is_single form.means) ∙ n))
       given (doubled es e t) = gives-met d w t.doubles.more t.doubles.means
 
-      own : HasOwn q old (inside (after_objects (in_body c w) objects)) within
+      own : HasOwn q old (inner_scope (after_objects (in_body c w) objects)) within
       own = body-own q old c d w objects more_objects form.entries form.named form.means more
 
       begins : IsSameOwn q old names.permits names.zero (in_body c w) (in_body d w)
@@ -154,5 +154,5 @@ module _ (g : Setting) (old inner : ℕ → Bool) (names : AreNamesApart g old i
       idle-in : IsIdle q within
       idle-in = idle-moved q d within (means-inside q old names.permits names.zero (added_id q idle_text) names.idle names.idle_other q.names w.span (decl_list objects) (in_body d w) form.owns) idle
 
-      scope : IsScopeOf (unit_for g w.name) old inner (inside (after_objects (in_body c w) objects)) within
+      scope : IsScopeOf (unit_for g w.name) old inner (inner_scope (after_objects (in_body c w) objects)) within
       scope = body-scope (unit_for g w.name) old inner names.entries names.permits names.zero names.falses names.kinds c d w objects form.entries more form.named form.means form.ready form.owns form.form control-in idle-in

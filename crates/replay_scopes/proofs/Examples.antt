@@ -15,8 +15,8 @@ use Rattle.ada_tree.specs.PlainStmt.{PCall, PHead, SCall, SAccept, no_stmt, stmt
 use Rattle.ada_tree.specs.PlainDecl.{PEntry, PTask, DTask, DTaskBody, no_decl, decls_of}
 use Rattle.ada_tree.specs.PlainProgram.{PProgram}
 use Rattle.ada_tree.specs.Every.{EveryEntry, EveryFormal, EveryPriority, EveryTask}
-use Rattle.ada_tree.specs.Scope.{Scope, Seen, Family, single, EntryPart, Thing, TypeMark, MainProcedure, mark_at, and_then, meaning, entry_named}
-use Rattle.ada_tree.specs.Declaring.{first_mark, predefined_types, predefined_names, first_scope, after_decls, in_body, inside}
+use Rattle.ada_tree.specs.Scope.{Scope, NameMeaning, Family, single, EntryPart, Thing, TypeMark, MainProcedure, mark_at, and_then, meaning, entry_named}
+use Rattle.ada_tree.specs.Declaring.{first_mark, predefined_types, predefined_names, first_scope, after_decls, in_body, inner_scope}
 use Rattle.ada_tree.specs.RuleArgCount.{called_entry}
 use Rattle.ada_tree.specs.Demand.{Demand, declares_entry, accepts, addresses, calls}
 use Rattle.ada_tree.specs.Sites.{site, sites}
@@ -207,7 +207,7 @@ IsPlainlyCalled o = (name : NameId) (part : EntryPart) → called_entry o name �
 not-a-task : (x : Thing) → IsNoTask (Some x) → IsPlainlyCalled (Some x)
 not-a-task x n name part e = absurd (not-called (Some x) name part n e)
 
-no-tasks : (xs : List Seen) → AllByRecursion (λ (x : Seen). IsNoTask (Some x.thing)) xs → AllByRecursion (λ (x : Seen). IsPlainlyCalled (Some x.thing)) xs
+no-tasks : (xs : List NameMeaning) → AllByRecursion (λ (x : NameMeaning). IsNoTask (Some x.thing)) xs → AllByRecursion (λ (x : NameMeaning). IsPlainlyCalled (Some x.thing)) xs
 no-tasks [] h = tt
 no-tasks (x ∷ xs) h = (not-a-task x.thing h.0, no-tasks xs h.1)
 
@@ -261,7 +261,7 @@ entry-met = record { known = refl; matched = refl; static = refl; ranged = refl;
 -- ---- the body of the task
 
 abbrev c_body : Scope
-c_body = inside (in_body c3 (w 26))
+c_body = inner_scope (in_body c3 (w 26))
 
 accept-met : IsMetHere c_body (accepts the_head)
 accept-met = record { known = refl; matched = refl; static = refl; ranged = refl; variable = refl; readable = refl; counted = refl; chosen = refl; arrays = refl; texts = refl; exceptions = refl }
@@ -301,13 +301,13 @@ body-form = record {
 
 -- ---- main
 
-callee-met : IsMetHere (inside c4) (addresses the_call.task)
+callee-met : IsMetHere (inner_scope c4) (addresses the_call.task)
 callee-met = record { known = refl; matched = refl; static = refl; ranged = refl; variable = refl; readable = refl; counted = refl; chosen = refl; arrays = refl; texts = refl; exceptions = refl }
 
-call-met : IsMetHere (inside c4) (calls the_call)
+call-met : IsMetHere (inner_scope c4) (calls the_call)
 call-met = record { known = refl; matched = refl; static = refl; ranged = refl; variable = refl; readable = refl; counted = refl; chosen = refl; arrays = refl; texts = refl; exceptions = refl }
 
-main-asked : AskedBody (form_asks old inner) (tt, inside c4) 1 main_body
+main-asked : AskedBody (form_asks old inner) (tt, inner_scope c4) 1 main_body
 main-asked = (
   (
     (omega arith, tt),
@@ -318,11 +318,11 @@ main-asked = (
   tt,
 )
 
-main-form : IsUnitForm (main_unit g) old inner (inside c4)
+main-form : IsUnitForm (main_unit g) old inner (inner_scope c4)
 main-form = record {
   self = record { types = self3.types; things = self3.things };
   falses = refl;
-  called = λ id name part e. plain-entry (inside c4) (entry_of the_numbers (unwrap_or (task_named the_numbers id) 0) name) part.family (plainly id name part e);
+  called = λ id name part e. plain-entry (inner_scope c4) (entry_of the_numbers (unwrap_or (task_named the_numbers id) 0) name) part.family (plainly id name part e);
   accepted = λ name part e. cc;
 }
 

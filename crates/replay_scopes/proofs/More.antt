@@ -7,7 +7,7 @@ use Rattle.ada_tree.specs.TypeTable.{TypeTable}
 use Rattle.ada_tree.specs.PlainDecl.{PShape, OPlain, OArray, PInit}
 use Rattle.ada_tree.specs.PlainProgram.{PProgram}
 use Rattle.ada_tree.specs.Scope.{Scope, Range, Thing, EntryPart, Marking, ScalarMark, ArrayMark, TaskMark, NoMark, UnknownMark, UnclearMark, marking, meaning, entry_named}
-use Rattle.ada_tree.specs.Declaring.{with_name, with_names, with_types, inside, in_body, made_array, made_subind, drange_range, object_of, task_object, task_array, plain_object, array_object, declared_object, with_constants, after_object}
+use Rattle.ada_tree.specs.Declaring.{with_name, with_names, with_types, inner_scope, in_body, made_array, made_subind, drange_range, object_meaning, task_object, task_array, plain_object, array_object, declared_object, with_constants, after_object}
 use Rattle.rewritten_types.specs.Rewriting.{IsNew}
 use Rattle.alike_scopes.specs.Alike.{a_task, SameTypes, SameThing, no_values, SameNames, Alike}
 use Rattle.alike_scopes.specs.Old.{IsOldShape}
@@ -17,7 +17,7 @@ use Rattle.replay_scopes.proofs.Same.{declared-same}
 
 -- ---- no object is a single task
 
-object-single : (b : Bool) (o : Option ℕ) → is_single (Some (object_of b o)) ≡ false
+object-single : (b : Bool) (o : Option ℕ) → is_single (Some (object_meaning b o)) ≡ false
 object-single true (Some m) = refl
 object-single false (Some m) = refl
 object-single true None = refl
@@ -109,7 +109,7 @@ module _ (q : PProgram) (old : ℕ → Bool) where
 
   -- ---- bodies
 
-  pub inside-more : (c d : Scope) → IsMore q old c d → IsMore q old (inside c) (inside d)
+  pub inside-more : (c d : Scope) → IsMore q old c d → IsMore q old (inner_scope c) (inner_scope d)
   inside-more c d m = record { types = m.types; main = m.main; things = m.things }
 
   pub in-body-more : (w : Word) (c d : Scope) → IsMore q old c d → IsMore q old (in_body c w) (in_body d w)

@@ -10,7 +10,7 @@ use Rattle.common_lemmas.proofs.Lists.{element_at, all_joined, texts_differ}
 use Rattle.ada_tree.specs.declared.naming.NameId.{NameId}
 use Rattle.ada_tree.specs.PlainDecl.{PEntry, PTask}
 use Rattle.ada_tree.specs.PlainProgram.{PProgram}
-use Rattle.syn_event.specs.Units.{text_of, tasks_of}
+use Rattle.syn_event.specs.DeclaredTasks.{text_of, tasks_of}
 use Rattle.normal_has_numbers.proofs.Named.{Has, has-folded, has-back, text-there, text-longer}
 use Rattle.replay_model.specs.Names.{kind_text, argument_text, index_text, control_text, go_text, done_text, hold_text, idle_text, stop_text, rest_text, never_text, join_text, added_texts, double_text, double_texts, replay_names, added_id}
 use Rattle.replay_texts.proofs.Rooted.{replay-begins, replay-has, ids-apart}

@@ -5,9 +5,9 @@ use Rattle.common_lemmas.proofs.Lists.{all_back, all_front}
 use Rattle.ada_tree.specs.PlainDecl.{PDecl, decls_of}
 use Rattle.ada_tree.specs.PlainProgram.{PProgram}
 use Rattle.ada_tree.specs.Scope.{Scope}
-use Rattle.ada_tree.specs.Declaring.{before_all, first_scope, inside, after_decl, after_decls}
+use Rattle.ada_tree.specs.Declaring.{before_all, first_scope, inner_scope, after_decl, after_decls}
 use Rattle.ada_tree.specs.Sites.{names_sites, decl_sites, decls_sites, body_sites, sites}
-use Rattle.syn_event.specs.Units.{decl_list}
+use Rattle.syn_event.specs.DeclaredTasks.{decl_list}
 use Rattle.asked_stmts.specs.Asked.{AskedBody}
 use Rattle.asked_stmts.specs.Kinds.{type_asks}
 use Rattle.asked_stmts.proofs.Typed.{typed_asked}
@@ -43,8 +43,8 @@ module _ (q : PProgram) (before vars : List PDecl) where
     pub variables : AllAlong (first q before vars) vars
     pub tasks_met : AllAlong (varied q before vars) tasks
     pub bodies_met : AllAlong (tasked q before vars) bodies
-    pub main : AllMetBut (body_sites (inside (last q before vars)) q.body)
-    pub asked : AskedBody (type_asks IsMetBut) (inside (last q before vars)) 1 q.body
+    pub main : AllMetBut (body_sites (inner_scope (last q before vars)) q.body)
+    pub asked : AskedBody (type_asks IsMetBut) (inner_scope (last q before vars)) 1 q.body
 
   -- the scope behind all declarations, where these are sorted
   sorted-last : decl_list q.decls ≡ before ++ vars ++ tasks ++ bodies → after_decls (first_scope q.name) q.decls ≡ last q before vars
@@ -58,7 +58,7 @@ module _ (q : PProgram) (before vars : List PDecl) where
   parted e h =
       let c : Scope = first_scope q.name in
       let front : AllMetBut (names_sites true before_all (q.name ∷ []) ++ decls_sites c q.decls) =
-      all_front IsMetBut (names_sites true before_all (q.name ∷ []) ++ decls_sites c q.decls) (body_sites (inside (after_decls c q.decls)) q.body) h in
+      all_front IsMetBut (names_sites true before_all (q.name ∷ []) ++ decls_sites c q.decls) (body_sites (inner_scope (after_decls c q.decls)) q.body) h in
       let decls : AllMetBut (decls_sites c q.decls) = all_back IsMetBut (names_sites true before_all (q.name ∷ [])) (decls_sites c q.decls) front in
       let all : AllAlong c (before ++ vars ++ tasks ++ bodies) =
       along-told (before ++ vars ++ tasks ++ bodies) c (subst (λ ds. AllMetBut (decls_sites c ds)) (sym (list_again q.decls) ∙ ap decls_of e) decls) in
@@ -66,13 +66,13 @@ module _ (q : PProgram) (before vars : List PDecl) where
       let two : AllAlong c (before ++ vars) = along-front (before ++ vars) tasks c three in
       let varied-is : after_decls c (decls_of (before ++ vars)) ≡ varied q before vars = decls_joined before vars c in
       let tasked-is : after_decls c (decls_of (before ++ vars ++ tasks)) ≡ tasked q before vars = decls_joined (before ++ vars) tasks c ∙ ap (λ s. after_decls s (decls_of tasks)) varied-is in
-      let body : AllMetBut (body_sites (inside (last q before vars)) q.body) =
-      subst (λ s. AllMetBut (body_sites (inside s) q.body)) (sorted-last e) (all_back IsMetBut (names_sites true before_all (q.name ∷ []) ++ decls_sites c q.decls) (body_sites (inside (after_decls c q.decls)) q.body) h) in
+      let body : AllMetBut (body_sites (inner_scope (last q before vars)) q.body) =
+      subst (λ s. AllMetBut (body_sites (inner_scope s) q.body)) (sorted-last e) (all_back IsMetBut (names_sites true before_all (q.name ∷ []) ++ decls_sites c q.decls) (body_sites (inner_scope (after_decls c q.decls)) q.body) h) in
       record {
         firsts = along-front before vars c two;
         variables = along-back before vars c two;
         tasks_met = subst (λ s. AllAlong s tasks) varied-is (along-back (before ++ vars) tasks c three);
         bodies_met = subst (λ s. AllAlong s bodies) tasked-is (along-back (before ++ vars ++ tasks) bodies c all);
         main = body;
-        asked = typed_asked IsMetBut (inside (last q before vars)) 1 q.body body;
+        asked = typed_asked IsMetBut (inner_scope (last q before vars)) 1 q.body body;
       }

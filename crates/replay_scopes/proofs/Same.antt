@@ -8,7 +8,7 @@ use Rattle.ada_tree.specs.Attributes.{attribute_of}
 use Rattle.ada_tree.specs.StaticValue.{is_static, value_of}
 use Rattle.ada_tree.specs.Scope.{Scope, Marking, ScalarMark, ArrayMark, TaskMark, NoMark, UnknownMark, UnclearMark, and_then, meaning, reading, reading_of, marking, marking_of, scalar_kind, range_of_mark}
 use Rattle.ada_tree.specs.ExprTypes.{kind_of, name_kind, component_kind, bound_kind, attribute_kind, unary_kind, binary_kind, takes, takes_one, is_kind, ok_value, static_in, range_between, static_range}
-use Rattle.ada_tree.specs.Declaring.{Made, made_range, made_array, made_subind, subind_made, given_range, marked_range, drange_range, object_of, of_made, task_object, task_array, plain_object, array_object, declared_object}
+use Rattle.ada_tree.specs.Declaring.{Made, made_range, made_array, made_subind, subind_made, given_range, marked_range, drange_range, object_meaning, of_made, task_object, task_array, plain_object, array_object, declared_object}
 use Rattle.alike_scopes.specs.Old.{IsOldExpr, IsOldBounds, IsOldSubind, IsOldDrange, IsOldShape}
 use Rattle.replay_scopes.specs.More.{IsGrown, stays, doubled, IsMore}
 
@@ -96,7 +96,7 @@ module _ (q : PProgram) (old : ℕ → Bool) (c d : Scope) (more : IsMore q old 
 
       by_marking : (m : Marking) → plain_object c constant m x ≡ plain_object d constant m x
       by_marking (TaskMark entries) = ap₂ (λ T b. record { types = T; thing = task_object b entries }) same-types same-main
-      by_marking (ArrayMark m range part) = ap (λ T. record { types = T; thing = object_of constant (Some m) }) same-types
+      by_marking (ArrayMark m range part) = ap (λ T. record { types = T; thing = object_meaning constant (Some m) }) same-types
       by_marking (ScalarMark m k) = made
       by_marking NoMark = made
       by_marking UnknownMark = made

@@ -8,11 +8,11 @@ use Rattle.ada_tree.specs.TypeTable.{TypeTable}
 use Rattle.ada_tree.specs.PlainDecl.{PDecls}
 use Rattle.ada_tree.specs.PlainProgram.{PProgram}
 use Rattle.ada_tree.specs.Scope.{Scope, Family, single, family, unclear, EntryPart, Thing, SingleTask, Literal, truth_kind, scalar_kind, meaning, entry_named}
-use Rattle.ada_tree.specs.Declaring.{inside, in_body, own_entries, after_objects}
-use Rattle.syn_event.specs.Units.{decl_list}
+use Rattle.ada_tree.specs.Declaring.{inner_scope, in_body, own_entries, after_objects}
+use Rattle.syn_event.specs.DeclaredTasks.{decl_list}
 use Rattle.task_model.specs.Setting.{Setting}
 use Rattle.normal_model.specs.Ranges.{kind_name}
-use Rattle.normal_model.specs.Waits.{Unit}
+use Rattle.normal_model.specs.RewrittenUnit.{RewrittenUnit}
 use Rattle.replay_model.specs.Names.{never_text, added_id}
 use Rattle.replay_typed.specs.ScopeOf.{HasLists, IsCountedBy, as_itself, by_position, IsEntryOf, HasDoubles, IsControl, IsIdle, IsScopeOf}
 use Rattle.replay_scopes.specs.More.{is_single, IsGrown, stays, doubled, IsMore, AreEntriesNew, ArePermitsNew, HasPermit}
@@ -27,7 +27,7 @@ pub record HasOwn (q : PProgram) (old : ℕ → Bool) (c d : Scope) : Type 0 whe
   pub same : (id : NameId) → old id.0 ≡ true → entry_named c.own id ≡ entry_named d.own id
   pub never : (id : NameId) → is_some (entry_named c.own id) ≡ true → HasLists (entry_named d.own (added_id q never_text)) single []
 
-module _ (u : Unit) (old inner : ℕ → Bool) (kinds_old : (j : ℕ) → old (kind_name u.setting.types j).0 ≡ true) (false_old : old false_name ≡ true) where
+module _ (u : RewrittenUnit) (old inner : ℕ → Bool) (kinds_old : (j : ℕ) → old (kind_name u.setting.types j).0 ≡ true) (false_old : old false_name ≡ true) where
   abbrev g : Setting
   g = u.setting
 
@@ -89,7 +89,7 @@ no-own q old c d e f = record {
 
 -- in the body of a task with these entries
 pub body-own : (q : PProgram) (old : ℕ → Bool) (c d : Scope) (w : Word) (xs ys : PDecls) (entries : List EntryPart) → old w.name.0 ≡ true → meaning c w.name ≡ Some (SingleTask entries) → IsMore q old c d →
-    HasOwn q old (inside (after_objects (in_body c w) xs)) (inside (after_objects (in_body d w) ys))
+    HasOwn q old (inner_scope (after_objects (in_body c w) xs)) (inner_scope (after_objects (in_body d w) ys))
 body-own q old c d w xs ys entries o h more = by_grown (more.things w.name o)
   where
     left : (after_objects (in_body c w) xs).own ≡ own_entries (meaning c w.name)
@@ -98,7 +98,7 @@ body-own q old c d w xs ys entries o h more = by_grown (more.things w.name o)
     right : (after_objects (in_body d w) ys).own ≡ own_entries (meaning d w.name)
     right = objects_own ys (in_body d w)
 
-    by_grown : IsGrown q old (meaning c w.name) (meaning d w.name) → HasOwn q old (inside (after_objects (in_body c w) xs)) (inside (after_objects (in_body d w) ys))
+    by_grown : IsGrown q old (meaning c w.name) (meaning d w.name) → HasOwn q old (inner_scope (after_objects (in_body c w) xs)) (inner_scope (after_objects (in_body d w) ys))
     by_grown (stays e n) = absurd (true≢false (sym (ap is_single h) ∙ n))
     by_grown (doubled es e t) =
         let l : (after_objects (in_body c w) xs).own ≡ es = left ∙ ap own_entries e in
@@ -110,7 +110,7 @@ body-own q old c d w xs ys entries o h more = by_grown (more.things w.name o)
 
 -- ---- bodies
 
-module _ (u : Unit) (old inner : ℕ → Bool) (entries_new : AreEntriesNew u.setting.program old) (new : ArePermitsNew u.setting.program old)
+module _ (u : RewrittenUnit) (old inner : ℕ → Bool) (entries_new : AreEntriesNew u.setting.program old) (new : ArePermitsNew u.setting.program old)
     (zero_old : old 0 ≡ true) (false_old : old false_name ≡ true) (kinds_old : (j : ℕ) → old (kind_name u.setting.types j).0 ≡ true) where
   abbrev q' : PProgram
   q' = u.setting.program
@@ -118,9 +118,9 @@ module _ (u : Unit) (old inner : ℕ → Bool) (entries_new : AreEntriesNew u.se
   -- The scope of the statements of a body.
   pub body-scope : (c d : Scope) (w : Word) (objects : PDecls) (entries : List EntryPart) → IsMore q' old c d → old w.name.0 ≡ true → meaning c w.name ≡ Some (SingleTask entries) →
       ReadyAlong q' old (in_body c w) (decl_list objects) → AllByRecursion (IsOwnObject old) (decl_list objects) →
-      IsUnitForm u old inner (inside (after_objects (in_body c w) objects)) →
-      IsControl q' (inside (after_objects (in_body d w) (text_objects u.setting old entries_new new zero_old w objects))) → IsIdle q' (inside (after_objects (in_body d w) (text_objects u.setting old entries_new new zero_old w objects))) →
-      IsScopeOf u old inner (inside (after_objects (in_body c w) objects)) (inside (after_objects (in_body d w) (text_objects u.setting old entries_new new zero_old w objects)))
+      IsUnitForm u old inner (inner_scope (after_objects (in_body c w) objects)) →
+      IsControl q' (inner_scope (after_objects (in_body d w) (text_objects u.setting old entries_new new zero_old w objects))) → IsIdle q' (inner_scope (after_objects (in_body d w) (text_objects u.setting old entries_new new zero_old w objects))) →
+      IsScopeOf u old inner (inner_scope (after_objects (in_body c w) objects)) (inner_scope (after_objects (in_body d w) (text_objects u.setting old entries_new new zero_old w objects)))
   body-scope c d w objects entries more o h ready owns form control idle =
       let unit = body-unit u.setting old entries_new new zero_old w objects c d ready owns more in
       scope-of u old inner kinds_old false_old _ _ unit.more form unit.permit

@@ -8,8 +8,8 @@ use Rattle.ada_tree.specs.PlainStmt.{PBody}
 use Rattle.ada_tree.specs.PlainDecl.{OPlain, PInit, PTask, PDecl, DNumber, DObject, DEnumeration, DArray, DSubtype, DException, DIntIo, DPragma, DTask, DTaskBody, PDecls, no_decl, decls_of}
 use Rattle.ada_tree.specs.PlainProgram.{PProgram}
 use Rattle.ada_tree.specs.Scope.{Scope}
-use Rattle.ada_tree.specs.Declaring.{inside, in_body, Declared, constant_mark, add_constants, constant_value, declared_object, with_constants, after_own_object, after_objects, after_decl, after_decls}
-use Rattle.syn_event.specs.Units.{decl_list}
+use Rattle.ada_tree.specs.Declaring.{inner_scope, in_body, Declared, constant_mark, add_constants, constant_value, declared_object, with_constants, after_own_object, after_objects, after_decl, after_decls}
+use Rattle.syn_event.specs.DeclaredTasks.{decl_list}
 use Rattle.task_model.specs.Setting.{Setting}
 use Rattle.rewritten_types.specs.Rewriting.{IsNew, IsAdded}
 use Rattle.rewritten_types.proofs.Keeping.{keeps-self}
@@ -110,13 +110,13 @@ module _ (q : PProgram) (old : ℕ → Bool) where
         by_test true later = permit-first (x ∷ xs) c d main o ready.0 m
         by_test false later = later
 
-  pub inside-unit : (c d : Scope) → IsUnit c d → IsUnit (inside c) (inside d)
+  pub inside-unit : (c d : Scope) → IsUnit c d → IsUnit (inner_scope c) (inner_scope d)
   inside-unit c d h = record {
     more = inside-more q old c d h.more;
     permit = record {
-      kind = number-step d (inside d) (added_id q kind_text) refl (keeps-self d.types) h.permit.kind;
-      argument = number-step d (inside d) (added_id q argument_text) refl (keeps-self d.types) h.permit.argument;
-      index = number-step d (inside d) (added_id q index_text) refl (keeps-self d.types) h.permit.index;
+      kind = number-step d (inner_scope d) (added_id q kind_text) refl (keeps-self d.types) h.permit.kind;
+      argument = number-step d (inner_scope d) (added_id q argument_text) refl (keeps-self d.types) h.permit.argument;
+      index = number-step d (inner_scope d) (added_id q index_text) refl (keeps-self d.types) h.permit.index;
     };
   }
 
@@ -173,7 +173,7 @@ module _ (g : Setting) (old : ℕ → Bool) (entries_new : AreEntriesNew g.progr
   text_objects w objects = decls_of (behind_own q.names (permit_declared q w.span) (decl_list objects))
 
   pub body-unit : (w : Word) (objects : PDecls) (c d : Scope) → ReadyAlong q old (in_body c w) (decl_list objects) → AllByRecursion (IsOwnObject old) (decl_list objects) → IsMore q old c d →
-      IsUnit q old (inside (after_objects (in_body c w) objects)) (inside (after_objects (in_body d w) (text_objects w objects)))
+      IsUnit q old (inner_scope (after_objects (in_body c w) objects)) (inner_scope (after_objects (in_body d w) (text_objects w objects)))
   body-unit w objects c d ready o m =
       inside-unit q old (after_objects (in_body c w) objects) (after_objects (in_body d w) (text_objects w objects))
       (subst (λ ds. IsUnit q old (after_objects (in_body c w) ds) (after_objects (in_body d w) (text_objects w objects))) (list_again objects)

@@ -8,9 +8,9 @@ use Rattle.ada_tree.specs.declared.naming.Span.{Span}
 use Rattle.ada_tree.specs.PlainDecl.{PDecl, DTask, DTaskBody, no_decl, decls_of}
 use Rattle.ada_tree.specs.PlainProgram.{PProgram}
 use Rattle.ada_tree.specs.Scope.{Scope, AnException, meaning, entry_named}
-use Rattle.ada_tree.specs.Declaring.{before_all, first_scope, inside, after_decl, after_decls}
+use Rattle.ada_tree.specs.Declaring.{before_all, first_scope, inner_scope, after_decl, after_decls}
 use Rattle.ada_tree.specs.Sites.{names_sites, decls_sites, body_sites, sites}
-use Rattle.syn_event.specs.Units.{decl_list}
+use Rattle.syn_event.specs.DeclaredTasks.{decl_list}
 use Rattle.task_model.specs.Setting.{Setting}
 use Rattle.control_script.specs.declared.Op.{Op}
 use Rattle.normal_model.specs.NormalTree.{main_unit}
@@ -174,15 +174,15 @@ module _ (g : Setting) (old inner : ℕ → Bool) (names : AreNamesApart g old i
 
   -- ---- the variables of main's permit
 
-  number-last : (id : NameId) → old id.0 ≡ false → (id.0 == (added_id q control_text).0) ≡ false → (id.0 == (added_id q idle_text).0) ≡ false → IsNumber d2 id → IsNumber (inside dy) id
+  number-last : (id : NameId) → old id.0 ≡ false → (id.0 == (added_id q control_text).0) ≡ false → (id.0 == (added_id q idle_text).0) ≡ false → IsNumber d2 id → IsNumber (inner_scope dy) id
   number-last id e control idle v =
       let in3 : IsNumber d3 id = number-decls id (map (replay_decl g) tasks) d2 (main.tasks-apart g old inner names id e tasks h.tasks h.every) v in
       let ini : IsNumber di id =
       number-decls id (control_declared q s n ∷ idle_declared q s ∷ []) d3 (unequal_turned id.0 (added_id q control_text).0 control, (unequal_turned id.0 (added_id q idle_text).0 idle, tt)) in3 in
       let in4 : IsNumber d4 id = number-decls id (map (replay_decl g) bodies) di (bodies-apart id) ini in
-      number-step d4 (inside dy) id refl (keeps-self d4.types) in4
+      number-step d4 (inner_scope dy) id refl (keeps-self d4.types) in4
 
-  permit-last : HasPermit q (inside dy)
+  permit-last : HasPermit q (inner_scope dy)
   permit-last = record {
     kind = number-last (added_id q kind_text) names.permits.kind names.control_other.kind names.idle_other.kind unit2.permit.kind;
     argument = number-last (added_id q argument_text) names.permits.argument names.control_other.argument names.idle_other.argument unit2.permit.argument;
@@ -198,11 +198,11 @@ module _ (g : Setting) (old inner : ℕ → Bool) (names : AreNamesApart g old i
   text-own =
       main.decls-own (map (replay_decl g) bodies) di ∙ main.decls-own (map (replay_decl g) tasks) d2 ∙ main.decls-own more_vars c1 ∙ main.decls-own before (first_scope q.name)
 
-  main-met : AllMetBut (body_sites (inside dy) (replay_body (main_unit g) s q.body))
+  main-met : AllMetBut (body_sites (inner_scope dy) (replay_body (main_unit g) s q.body))
   main-met =
-      body-met (main_unit g) old inner names.outer (tt, inside c4) (inside dy) 1 s q.body
-      (scope-of (main_unit g) old inner names.kinds names.falses (inside c4) (inside dy) (inside-more q old c4 dy morey) h.form permit-last (no-own q old (inside c4) (inside dy) last-own text-own)
-      (control-moved q d4 (inside dy) refl controlling4.seen) (idle-moved q d4 (inside dy) refl idler4.seen))
+      body-met (main_unit g) old inner names.outer (tt, inner_scope c4) (inner_scope dy) 1 s q.body
+      (scope-of (main_unit g) old inner names.kinds names.falses (inner_scope c4) (inner_scope dy) (inside-more q old c4 dy morey) h.form permit-last (no-own q old (inner_scope c4) (inner_scope dy) last-own text-own)
+      (control-moved q d4 (inner_scope dy) refl controlling4.seen) (idle-moved q d4 (inner_scope dy) refl idler4.seen))
       (omega arith) h.asked
 
   -- ---- all declarations
@@ -301,7 +301,7 @@ module _ (g : Setting) (old inner : ℕ → Bool) (names : AreNamesApart g old i
   -- Nothing is refused at the places of the replay text by the rules 1 and 3 to 12.
   pub text-met : AllMetBut (sites (replay_of g ops))
   text-met =
-      all_joined IsMetBut (names_sites true before_all (q.name ∷ []) ++ decls_sites c0 (decls_of (replay_decls g s ops))) (body_sites (inside (after_decls c0 (decls_of (replay_decls g s ops)))) (replay_body (main_unit g) s q.body))
+      all_joined IsMetBut (names_sites true before_all (q.name ∷ []) ++ decls_sites c0 (decls_of (replay_decls g s ops))) (body_sites (inner_scope (after_decls c0 (decls_of (replay_decls g s ops)))) (replay_body (main_unit g) s q.body))
       (all_joined IsMetBut (names_sites true before_all (q.name ∷ [])) (decls_sites c0 (decls_of (replay_decls g s ops))) (words-met true (q.name ∷ []) before_all)
       (subst (λ l. AllMetBut (decls_sites c0 (decls_of l))) (sym list-is) (main.along-of x5 c0 all5)))
-      (subst (λ x. AllMetBut (body_sites (inside x) (replay_body (main_unit g) s q.body))) (sym (ap (λ l. after_decls c0 (decls_of l)) list-is ∙ after5)) main-met)
+      (subst (λ x. AllMetBut (body_sites (inner_scope x) (replay_body (main_unit g) s q.body))) (sym (ap (λ l. after_decls c0 (decls_of l)) list-is ∙ after5)) main-met)

@@ -10,17 +10,17 @@ use Rattle.ada_tree.specs.PlainProgram.{PProgram}
 use Rattle.ada_tree.specs.Every.{EveryTask}
 use Rattle.ada_tree.specs.StaticValue.{is_integer_value}
 use Rattle.ada_tree.specs.Scope.{Scope, truth_kind, EntryPart, SingleTask, Literal, AnException, meaning, entry_named}
-use Rattle.ada_tree.specs.Declaring.{first_scope, in_body, inside, after_own_object, after_objects, after_decl, after_decls}
+use Rattle.ada_tree.specs.Declaring.{first_scope, in_body, inner_scope, after_own_object, after_objects, after_decl, after_decls}
 use Rattle.ada_tree.specs.RuleArgCount.{called_entry}
 use Rattle.ada_tree.specs.Sites.{own_sites, decl_sites}
 use Rattle.syn_event.specs.Numbering.{task_named}
-use Rattle.syn_event.specs.Units.{decl_list}
+use Rattle.syn_event.specs.DeclaredTasks.{decl_list}
 use Rattle.task_model.specs.Setting.{Setting, entry_of}
 use Rattle.control_script.specs.declared.Op.{Op}
 use Rattle.control_script.specs.declared.Op.TheVariants.{Go, Done, Join, Hold}
 use Rattle.normal_model.specs.Names.{task_name_at}
 use Rattle.normal_model.specs.Ranges.{kind_name}
-use Rattle.normal_model.specs.Waits.{Unit}
+use Rattle.normal_model.specs.RewrittenUnit.{RewrittenUnit}
 use Rattle.normal_model.specs.NormalTree.{main_unit, unit_for}
 use Rattle.asked_stmts.specs.Asked.{AskedBody}
 use Rattle.normal_checked.specs.Around.{own_rules}
@@ -122,7 +122,7 @@ SelfAlong old c [] = Prim.Unit {0}
 SelfAlong old c (x ∷ xs) = SameNames old c c × SelfAlong old (after_own_object c x) xs
 
 -- What is asked of the scope of a unit's statements: its old names mean what they themselves do, FALSE is the literal, and entries are those of their numbers.
-pub record IsUnitForm (u : Unit) (old inner : ℕ → Bool) (c : Scope) : Type 0 where
+pub record IsUnitForm (u : RewrittenUnit) (old inner : ℕ → Bool) (c : Scope) : Type 0 where
   pub self : SameNames old c c
   pub falses : meaning c (record { 0 = false_name }) ≡ Some (Literal truth_kind)
   pub called : (id name : NameId) (part : EntryPart) → called_entry (meaning c id) name ≡ Some part → IsEntryOf u.setting inner c (entry_of u.setting.numbers (unwrap_or (task_named u.setting.numbers id) 0) name) part.family
@@ -138,8 +138,8 @@ pub record IsBodyForm (g : Setting) (old inner : ℕ → Bool) (c : Scope) (w : 
   pub inits : AllByRecursion (HasOldInit old) (decl_list objects)
   pub selfs : SelfAlong old (in_body c w) (decl_list objects)
   pub sites : AllByRecursion IsMetBut (own_sites (in_body c w) objects)
-  pub form : IsUnitForm (unit_for g w.name) old inner (inside (after_objects (in_body c w) objects))
-  pub asked : AskedBody (form_asks old inner) (tt, inside (after_objects (in_body c w) objects)) 1 its
+  pub form : IsUnitForm (unit_for g w.name) old inner (inner_scope (after_objects (in_body c w) objects))
+  pub asked : AskedBody (form_asks old inner) (tt, inner_scope (after_objects (in_body c w) objects)) 1 its
 
 -- each is a body that is as asked
 abbrev pub BodyForms : Setting → (ℕ → Bool) → (ℕ → Bool) → Scope → List PDecl → Type 0
@@ -200,6 +200,6 @@ pub record IsForm (g : Setting) (old inner : ℕ → Bool) (ops : List Op) (befo
   -- main
   pub integer_last : IsInteger (last g.program before vars)
   pub tasking : meaning (last g.program before vars) (record { 0 = 9 }) ≡ Some AnException
-  pub form : IsUnitForm (main_unit g) old inner (inside (last g.program before vars))
-  pub asked : AskedBody (form_asks old inner) (tt, inside (last g.program before vars)) 1 g.program.body
+  pub form : IsUnitForm (main_unit g) old inner (inner_scope (last g.program before vars))
+  pub asked : AskedBody (form_asks old inner) (tt, inner_scope (last g.program before vars)) 1 g.program.body
   pub ops_form : AllByRecursion (IsOpForm g old (last_task g.numbers) (last g.program before vars)) ops

@@ -3,7 +3,7 @@ use Rattle.std.proofs.Common.{◌≡◌, ℕ, ℤ, pos, Bool, true, false, not, 
 use Rattle.event_machine.specs.declared.Event.{Event}
 use Rattle.event_machine.specs.declared.Event.TheVariants.{R, E, S, D, C, T, F, X, B, Z}
 use Rattle.event_machine.specs.Worlds.{is_last}
-use Rattle.event_progress.specs.Known.{Known, at_start, admits, suits, advanced}
+use Rattle.event_progress.specs.Known.{Known, known_at_start, admits, suits, advanced}
 use Rattle.replay_law.specs.Permits as law
 use Rattle.replay_law.specs.Permits.{Permit, ToMeet, ToFinish, ToElse, ToDelay, ToCallElse, ToExpire, ToFail, ToEnd, ToAbort, ToClose, permit_of}
 use Rattle.replay_law.specs.Scripts as law_script
@@ -94,7 +94,7 @@ spelled_from owner n k (e ∷ events) h = go (rest_spelled owner n k e events h 
     go rest false = sym (waits k h)
 
 pub spells : SpellsTheLaw
-spells owner n events = sym (spelled_from owner n (at_start n) events refl)
+spells owner n events = sym (spelled_from owner n (known_at_start n) events refl)
 
 -- ---- permits
 

@@ -1,7 +1,7 @@
 -- The project's script is the one that the law of replaying asks for (this project's rule).
 use Rattle.std.specs.Prelude.{◌≡◌, ℕ, List, map}
 use Rattle.event_machine.specs.declared.Event.{Event}
-use Rattle.event_progress.specs.Known.{at_start}
+use Rattle.event_progress.specs.Known.{known_at_start}
 use Rattle.replay_law.specs.Permits.{Permit}
 use Rattle.replay_law.specs.Scripts as law
 use Rattle.replay_progress.specs.ByEvents.{by_events}
@@ -12,7 +12,7 @@ use Rattle.replay_script.specs.Spelling.{kind, arg, index, spelled}
 abbrev pub SpellsTheLaw : Type 0
 SpellsTheLaw =
     (owner : ℕ → ℕ) (n : ℕ) (events : List Event) →
-    script owner n events ≡ map spelled (law.script (by_events owner n) owner (at_start n) events)
+    script owner n events ≡ map spelled (law.script (by_events owner n) owner (known_at_start n) events)
 
 -- Two permits that have the same numbers are one.
 abbrev pub PermitsDiffer : Type 0

@@ -7,7 +7,7 @@ use Rattle.std.proofs.lemmas.List.Elements.{filter-append}
 use Rattle.std.proofs.lemmas.List.Sums.{length-filter}
 use Rattle.syn_event.specs.declared.numbering.EntryInfo.{EntryInfo}
 use Rattle.syn_event.specs.Numbering.{is_original_entry}
-use Rattle.syn_event.specs.Numbered.{original_number}
+use Rattle.syn_event.specs.AddedNames.{original_number}
 use Rattle.task_model.specs.Setting.{Setting}
 use Rattle.replay_model.specs.Names.{never_text, join_text}
 use Rattle.replay_model.specs.ReplayTree.{last_task}

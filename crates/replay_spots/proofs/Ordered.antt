@@ -6,10 +6,10 @@ use Rattle.ada_tree.specs.PlainDecl.{PTask}
 use Rattle.ada_tree.specs.Refusals.{types_in}
 use Rattle.syn_event.specs.declared.numbering.EntryInfo.{EntryInfo}
 use Rattle.syn_event.specs.Numbering.{Numbering}
-use Rattle.syn_event.specs.Numbered.{task_info, with_origin}
+use Rattle.syn_event.specs.AddedNames.{task_info, with_origin}
 use Rattle.syn_event.specs.NamedTasks.{NumberedTask, numbered_tasks}
 use Rattle.syn_event.specs.AllNumbers.{entry_of_task, entries_of_tasks, all_numbers}
-use Rattle.syn_event.specs.Units.{tasks_of}
+use Rattle.syn_event.specs.DeclaredTasks.{tasks_of}
 use Rattle.normal_model.specs.NormalTree.{normal_tree}
 use Rattle.replay_model.specs.ReplayTree.{last_task, normal_setting}
 use Rattle.replay_model.specs.ReplayNumbers.{own_entries}

@@ -6,7 +6,7 @@ use Rattle.std.proofs.lemmas.List.{length-map, append_assoc}
 use Rattle.std.proofs.lemmas.Option.{none-some, slice_get-map, slice_get-get_or, slice_get_within}
 use Rattle.syn_event.specs.declared.numbering.EntryInfo.{EntryInfo}
 use Rattle.syn_event.specs.Numbering.{Numbering, entry_at, owner_of}
-use Rattle.syn_event.specs.Numbered.{with_origin}
+use Rattle.syn_event.specs.AddedNames.{with_origin}
 use Rattle.task_model.specs.Setting.{Setting}
 use Rattle.replay_model.specs.Names.{never_text, join_text, replay_names}
 use Rattle.replay_model.specs.ReplayTree.{last_task}

@@ -5,8 +5,8 @@ use Rattle.std.specs.Str.{bytes_eq}
 use Rattle.std.specs.Cmp.Lexicographic.{pointwise}
 use Rattle.syn_event.specs.declared.numbering.EntryInfo.{EntryInfo}
 use Rattle.syn_event.specs.Numbering.{entry_at}
-use Rattle.syn_event.specs.Numbered.{speaks_of, original_number, with_origin}
-use Rattle.syn_event.specs.Units.{text_of}
+use Rattle.syn_event.specs.AddedNames.{speaks_of, original_number, with_origin}
+use Rattle.syn_event.specs.DeclaredTasks.{text_of}
 use Rattle.task_model.specs.Setting.{Setting}
 use Rattle.replay_model.specs.Names.{double_text, replay_names}
 use Rattle.replay_model.specs.ReplayTree.{last_task}

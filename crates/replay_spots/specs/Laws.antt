@@ -9,7 +9,7 @@ use Rattle.ada_tree.specs.Refusals.{types_in}
 use Rattle.syn_event.specs.declared.numbering.EntryInfo.{EntryInfo}
 use Rattle.syn_event.specs.Numbering.{Numbering, entry_at, entry_named, owner_of}
 use Rattle.syn_event.specs.AllNumbers.{all_numbers}
-use Rattle.syn_event.specs.Units.{text_of}
+use Rattle.syn_event.specs.DeclaredTasks.{text_of}
 use Rattle.task_model.specs.Setting.{Setting}
 use Rattle.replay_law.specs.Copies.{Spots, IsNumbered, HasOwners}
 use Rattle.replay_model.specs.Names.{go_text, done_text, hold_text, stop_text, rest_text, never_text, join_text, double_text, replay_names, added_id}

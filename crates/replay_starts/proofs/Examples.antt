@@ -19,6 +19,8 @@ use Rattle.replay_starts.specs.Formals.{HaveFormals}
 use Rattle.replay_starts.proofs.Programs.{texts_start}
 use Rattle.replay_starts.proofs.Formals.{formals_stay}
 use Rattle.replay_starts.proofs.Legal.{legal_starts}
+use Rattle.replay_starts.specs.Legal.{FindPermits}
+use Rattle.replay_starts.proofs.Permits.{legal_finds_permits}
 
 -- both members run the body of their type
 has_bodies : HasBodies original (drop 1 (all_numbers (types_in original) original).tasks)
@@ -56,8 +58,8 @@ formals events = formals_stay original events numbering ordered own none_is_ded 
 
 -- ---- a legal program
 
-legal_bodies : HasBodies choosing (drop 1 (all_numbers (types_in choosing) choosing).tasks)
-legal_bodies = (refl, (refl, tt))
-
 legal : (events : List Event) → TextStarts choosing events
-legal events = legal_starts choosing events choosing-is-legal legal_bodies
+legal events = legal_starts choosing events choosing-is-legal
+
+permits : (events : List Event) → FindPermits choosing events
+permits events = legal_finds_permits choosing events choosing-is-legal

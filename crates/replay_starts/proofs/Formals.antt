@@ -21,10 +21,10 @@ use Rattle.ada_tree.specs.StaticValue.{mark_named}
 use Rattle.syn_event.specs.declared.numbering.TaskInfo.{TaskInfo}
 use Rattle.syn_event.specs.declared.numbering.EntryInfo.{EntryInfo}
 use Rattle.syn_event.specs.Numbering.{Numbering, task_at, entry_at}
-use Rattle.syn_event.specs.Numbered.{is_added_name, task_info, with_origin}
+use Rattle.syn_event.specs.AddedNames.{is_added_name, task_info, with_origin}
 use Rattle.syn_event.specs.NamedTasks.{NumberedTask, numbered_tasks}
 use Rattle.syn_event.specs.AllNumbers.{entry_of_task, entries_of_tasks, all_numbers}
-use Rattle.syn_event.specs.Units.{text_of, tasks_in, tasks_of}
+use Rattle.syn_event.specs.DeclaredTasks.{text_of, tasks_in, tasks_of}
 use Rattle.syn_event.proofs.DeclLists.{listed_back}
 use Rattle.control_script.specs.declared.Op.{Op}
 use Rattle.ada_value.specs.declared.values.Limits.{Limits}

@@ -18,7 +18,7 @@ use Rattle.ada_tree.specs.Refusals.{types_in}
 use Rattle.syn_event.specs.declared.numbering.EntryInfo.{EntryInfo}
 use Rattle.syn_event.specs.Numbering.{Numbering, entry_at}
 use Rattle.syn_event.specs.AllNumbers.{all_numbers}
-use Rattle.syn_event.specs.Units.{decl_list}
+use Rattle.syn_event.specs.DeclaredTasks.{decl_list}
 use Rattle.task_model.specs.Setting.{Setting, formals_of_info}
 use Rattle.task_model.specs.Starting.{known_range}
 use Rattle.normal_model.specs.Ranges.{marked, kind_of_range, kind_name, subtype_of_range, array_range, range_of_info, family_range}
@@ -44,6 +44,7 @@ use Rattle.normal_legal_numbers.proofs.Numbered.{none_legal_is_ded}
 use Rattle.normal_meets_checks.proofs.Facts as facts
 use Rattle.replay_starts.specs.Laws.{HasOwnMark, HasOwnVariables, AddsOwnMarks}
 use Rattle.replay_starts.specs.Legal.{LegalStarts, LegalHasFormals}
+use Rattle.replay_starts.proofs.Bodies.{legal_has_bodies}
 use Rattle.replay_starts.proofs.Programs.{texts_start}
 use Rattle.replay_starts.proofs.Formals.{formals_stay}
 use Rattle.common_lemmas.proofs.Lists.{all_joined}
@@ -133,7 +134,7 @@ module _ (p : PProgram) (ready : IsReady p) where
   adds-own = record { main = unit-own 0 p.body; bodies = bodies-own (decl_list p.decls) }
 
 pub legal_starts : LegalStarts
-legal_starts p events h has = texts_start p events (facts.ordered p h) (facts.olds p h).2 (none_legal_is_ded p _ _ h.legal h.placed) has (adds-own p (facts.ready p h))
+legal_starts p events h = texts_start p events (facts.ordered p h) (facts.olds p h).2 (none_legal_is_ded p _ _ h.legal h.placed) (legal_has_bodies p h) (adds-own p (facts.ready p h))
 
 pub legal_has_formals : LegalHasFormals
 legal_has_formals p events far h = formals_stay p events far (facts.ordered p h) (facts.olds p h).2 (none_legal_is_ded p _ _ h.legal h.placed) h.names

@@ -3,5 +3,7 @@ pub mod Tables
 pub mod Programs
 pub mod Found
 pub mod Formals
+pub mod Bodies
 pub mod Legal
+pub mod Permits
 pub mod Examples

@@ -14,7 +14,7 @@ use Rattle.ada_value.specs.Variables.{Object, Variables, object_named}
 use Rattle.task_model.specs.Starting.{form_of, object_of, with_objects, is_in_types, declared_objects, after_declaration, objects_of}
 use Rattle.replay_model.specs.Names.{kind_text, argument_text, index_text, added_id, added_word}
 use Rattle.replay_model.specs.ReplayTree.{permit_declared, is_added_object, behind_own}
-use Rattle.replay_starts.specs.Laws.{HasInteger, zero_object, permit_objects, own_part, added_part, objects_in, UnitsStart, IsNoPermit, LookUpsStay, PermitIsFound}
+use Rattle.replay_starts.specs.Laws.{HasInteger, zero_object, permit_objects, own_part, added_part, objects_in, HavePermit, UnitsStart, IsNoPermit, LookUpsStay, FindsPermit, PermitIsFound}
 use Rattle.replay_texts.proofs.Rooted.{ids-apart}
 use Rattle.common_lemmas.proofs.Lists.{all_weaker, texts_differ}
 use Rattle.common_lemmas.proofs.Numbers.{equal_self, unequal_turned}
@@ -133,14 +133,18 @@ no-permit q V id other =
     ∙ passed (zero_object (added_id q argument_text)) (zero_object (added_id q kind_text) ∷ V) id other.argument
     ∙ passed (zero_object (added_id q kind_text)) V id other.kind
 
-pub look_ups_stay : LookUpsStay
-look_ups_stay q T int in_main s ds id other =
+-- each other name means with the permit's variables what it means without them
+pub stays : (q : PProgram) (T : TypeTable) (in_main : Bool) (ds : List PDecl) (start more_start : Variables) → HavePermit q T in_main ds start more_start →
+    (id : NameId) → IsNoPermit q id → object_named more_start id ≡ object_named start id
+stays q T in_main ds start more_start have id other =
     let own = objects_in T in_main (own_part q.names ds) in
     let more = objects_in T in_main (added_part q.names ds) in
-    let starts = units_start q T int in_main s ds in
-    ap (λ V. object_named V id) (starts.after ∙ append_assoc more (permit_objects q) own)
+    ap (λ V. object_named V id) (have.after ∙ append_assoc more (permit_objects q) own)
     ∙ in-front more (permit_objects q ++ own) own id (no-permit q own id other)
-    ∙ ap (λ V. object_named V id) (sym starts.before)
+    ∙ ap (λ V. object_named V id) (sym have.before)
+
+pub look_ups_stay : LookUpsStay
+look_ups_stay q T int in_main s ds id other = stays q T in_main ds _ _ (units_start q T int in_main s ds) id other
 
 -- ---- the variables of a permit
 
@@ -176,8 +180,10 @@ all-passed : (X V : Variables) (id : NameId) → AllByRecursion (λ (o : Object)
 all-passed [] V id h = refl
 all-passed (o ∷ X) V id h = passed o (X ++ V) id h.0 ∙ all-passed X V id h.1
 
-pub permit_is_found : PermitIsFound
-permit_is_found q T int in_main s ds others = record {
+-- the names of the permit mean its variables, where no added variable has one of them
+pub finds : (q : PProgram) (T : TypeTable) (in_main : Bool) (ds : List PDecl) (start more_start : Variables) → HavePermit q T in_main ds start more_start →
+    AllByRecursion (λ (o : Object). IsNoPermit q o.name) (objects_in T in_main (added_part q.names ds)) → FindsPermit q more_start
+finds q T in_main ds start more_start have others = record {
   kind = found (added_id q kind_text) (λ o h. unequal_turned (added_id q kind_text).0 o.name.0 h.kind) ∙ kind-here q own;
   argument = found (added_id q argument_text) (λ o h. unequal_turned (added_id q argument_text).0 o.name.0 h.argument) ∙ argument-here q own;
   index = found (added_id q index_text) (λ o h. unequal_turned (added_id q index_text).0 o.name.0 h.index) ∙ index-here q own;
@@ -189,8 +195,10 @@ permit_is_found q T int in_main s ds others = record {
     more : Variables
     more = objects_in T in_main (added_part q.names ds)
 
-    found : (id : NameId) → ((o : Object) → IsNoPermit q o.name → (o.name.0 == id.0) ≡ false) →
-        object_named (objects_in T in_main (behind_own q.names (permit_declared q s) ds)) id ≡ object_named (permit_objects q ++ own) id
+    found : (id : NameId) → ((o : Object) → IsNoPermit q o.name → (o.name.0 == id.0) ≡ false) → object_named more_start id ≡ object_named (permit_objects q ++ own) id
     found id h =
-        ap (λ V. object_named V id) ((units_start q T int in_main s ds).after ∙ append_assoc more (permit_objects q) own)
+        ap (λ V. object_named V id) (have.after ∙ append_assoc more (permit_objects q) own)
         ∙ all-passed more (permit_objects q ++ own) id (all_weaker (λ (o : Object). IsNoPermit q o.name) (λ o. (o.name.0 == id.0) ≡ false) more h others)
+
+pub permit_is_found : PermitIsFound
+permit_is_found q T int in_main s ds others = finds q T in_main ds _ _ (units_start q T int in_main s ds) others

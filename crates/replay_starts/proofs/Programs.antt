@@ -12,14 +12,14 @@ use Rattle.ada_tree.specs.Refusals.{types_in}
 use Rattle.syn_event.specs.declared.numbering.TaskInfo.{TaskInfo}
 use Rattle.syn_event.specs.Numbering.{Numbering, task_at}
 use Rattle.syn_event.specs.AllNumbers.{all_numbers}
-use Rattle.syn_event.specs.Units.{decl_list}
+use Rattle.syn_event.specs.DeclaredTasks.{decl_list}
 use Rattle.syn_event.proofs.DeclLists.{listed_back, list_again, every_listed}
 use Rattle.control_script.specs.declared.Op.{Op}
 use Rattle.ada_value.specs.Variables.{Variables}
 use Rattle.task_model.specs.Setting.{Setting}
 use Rattle.task_model.specs.Starting.{Unit, after_declaration, objects_of, unit_among, unit_of}
 use Rattle.normal_model.specs.NormalStmts.{unit_variables}
-use Rattle.normal_model.specs.NormalTree.{decls_front, first_decls, running, unit_for, bodies_of}
+use Rattle.normal_model.specs.NormalTree.{decls_front, first_decls, running, unit_for, bodies_of, main_variables}
 use Rattle.replay_model.specs.ReplayTree.{behind_own, permit_declared, is_added_object, is_task, is_body, replay_decl, last_task, script_of}
 use Rattle.replay_model.specs.Controlling.{control_declared, idle_declared, control_body, idle_body}
 use Rattle.rewritten_types.specs.Agreement.{Agrees}
@@ -54,7 +54,7 @@ module _ (P : PDecl → Type 0) (names : List (List ℕ)) where
       by_test true k = tt
       by_test false k = (h.0, k)
 
-  all-added : (ds : List PDecl) → AllByRecursion P ds → AllByRecursion P (added_part names ds)
+  pub all-added : (ds : List PDecl) → AllByRecursion P ds → AllByRecursion P (added_part names ds)
   all-added [] h = tt
   all-added (d ∷ ds) h = by_test (is_added_object names d) (all-added ds h.1)
     where
@@ -145,12 +145,12 @@ beside-main (decl_then (DPragma e sp) ds) name = beside-main ds name
 
 module _ (P : PDecl → Type 0) where
   -- what holds of each declaration in bodies
-  abbrev InBody : PDecl → Type 0
+  abbrev pub InBody : PDecl → Type 0
   InBody (DTaskBody w objects its s) = AllByRecursion P (decl_list objects)
   InBody _ = Prim.Unit {0}
 
   -- holds of those of the unit that is found
-  in-unit : (ds : PDecls) (name : NameId) → AllByRecursion InBody (decl_list ds) → AllByRecursion P (decl_list (unit_among ds name).decls)
+  pub in-unit : (ds : PDecls) (name : NameId) → AllByRecursion InBody (decl_list ds) → AllByRecursion P (decl_list (unit_among ds name).decls)
   in-unit no_decl name h = tt
   in-unit (decl_then (DTaskBody w objects its sp) ds) name h = by_test (w.name.0 == name.0) (in-unit ds name h.1)
     where
@@ -191,6 +191,27 @@ module _ (P : PDecl → Type 0) where
   task-body (DException ws s) h = tt
   task-body (DIntIo w s) h = tt
   task-body (DPragma e s) h = tt
+
+-- ---- all declarations of a normal form
+
+module _ (p : PProgram) (P : PDecl → Type 0) where
+  abbrev made : Setting
+  made = setting_of p (types_in p) (all_numbers (types_in p) p)
+
+  -- main has the first declarations of the program and the variables that are added
+  pub of-main : AllByRecursion P (decl_list (first_decls [] p.decls)) → AllByRecursion P (main_variables made) → AllByRecursion P (plain_part (decl_list (form_in p).program.decls))
+  of-main h k = subst (AllByRecursion P) (sym (normal-plain p (types_in p) made.numbers)) (all_joined P (firsts p (types_in p) made.numbers) (vars p (types_in p) made.numbers) h k)
+
+  -- what holds in the copies of the program's bodies holds in all bodies
+  pub of-bodies : AllByRecursion (InBody P) (flat_map (bodies_of made) (decl_list p.decls)) → AllByRecursion (InBody P) (decl_list (form_in p).program.decls)
+  of-bodies h =
+      let types = types_in p in
+      let numbers = made.numbers in
+      subst (AllByRecursion (InBody P)) (sym (normal-list p types numbers))
+      (all_joined (InBody P) (firsts p types numbers) _ (all_weaker IsPlain _ _ (plain-body P) (first-plain p.decls []))
+      (all_joined (InBody P) (vars p types numbers ++ tasks p types numbers) (bodies p types numbers)
+      (all_joined (InBody P) (vars p types numbers) (tasks p types numbers) (all_weaker IsPlain _ _ (plain-body P) (vars-plain p types numbers)) (all_weaker IsOneTask _ _ (task-body P) (tasks-all made)))
+      h))
 
 -- ---- a program
 
@@ -265,10 +286,8 @@ module _ (p : PProgram) (events : List Event) (ordered : IsOrdered p) (own : Are
 
   plain-old : AllByRecursion Old (plain_part (decl_list normal.decls))
   plain-old =
-      subst (AllByRecursion Old) (sym (normal-plain p (types_in p) numbers))
-      (all_joined Old (firsts p (types_in p) numbers) (vars p (types_in p) numbers)
-      (all_weaker _ Old _ own-old (every_listed (old_names old) (first_decls [] p.decls) (first-every (old_names old) p.decls [] own)))
-      (all_weaker _ Old _ mark-old adds.main))
+      of-main p Old (all_weaker _ Old _ own-old (every_listed (old_names old) (first_decls [] p.decls) (first-every (old_names old) p.decls [] own)))
+      (all_weaker _ Old _ mark-old adds.main)
 
   main-starts : HavePermit normal T true (plain_part (decl_list normal.decls)) (start_before p 0) (start_after p events 0)
   main-starts =
@@ -313,13 +332,7 @@ module _ (p : PProgram) (events : List Event) (ordered : IsOrdered p) (own : Are
   bodies-old (decl_then (DPragma e s) ds) h k = bodies-old ds h.1 k.1
 
   all-old : AllByRecursion (InBody Old) (decl_list normal.decls)
-  all-old =
-      let types = types_in p in
-      subst (AllByRecursion (InBody Old)) (sym (normal-list p types numbers))
-      (all_joined (InBody Old) (firsts p types numbers) _ (all_weaker IsPlain _ _ (plain-body Old) (first-plain p.decls []))
-      (all_joined (InBody Old) (vars p types numbers ++ tasks p types numbers) (bodies p types numbers)
-      (all_joined (InBody Old) (vars p types numbers) (tasks p types numbers) (all_weaker IsPlain _ _ (plain-body Old) (vars-plain p types numbers)) (all_weaker IsOneTask _ _ (task-body Old) (tasks-all its)))
-      (bodies-old p.decls own adds.bodies)))
+  all-old = of-bodies p Old (bodies-old p.decls own adds.bodies)
 
   module _ (ded : NoneIsDed p) (has : HasBodies p (drop 1 numbers.tasks)) where
     runs : RunsUnits p ops

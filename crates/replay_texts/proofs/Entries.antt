@@ -9,10 +9,10 @@ use Rattle.ada_tree.specs.PlainStmt.{PFormal}
 use Rattle.ada_tree.specs.PlainDecl.{PEntry, PTask}
 use Rattle.ada_tree.specs.PlainProgram.{PProgram}
 use Rattle.syn_event.specs.declared.numbering.EntryInfo.{EntryInfo}
-use Rattle.syn_event.specs.Numbered.{is_added_name, with_origin}
+use Rattle.syn_event.specs.AddedNames.{is_added_name, with_origin}
 use Rattle.syn_event.specs.NamedTasks.{NumberedTask}
-use Rattle.syn_event.specs.AllNumbers.{first_of, last_of, family_extent, entry_of_task, entries_of_tasks}
-use Rattle.syn_event.specs.Units.{text_of}
+use Rattle.syn_event.specs.AllNumbers.{first_of, last_index, family_extent, entry_of_task, entries_of_tasks}
+use Rattle.syn_event.specs.DeclaredTasks.{text_of}
 use Rattle.task_model.specs.Setting.{Setting}
 use Rattle.replay_model.specs.Names.{control_text, go_text, done_text, hold_text, idle_text, stop_text, rest_text, never_text, join_text, double_text, added_texts, replay_names, added_id, added_word}
 use Rattle.replay_model.specs.Controlling.{added_entry, all_tasks, permit_formals}
@@ -60,7 +60,7 @@ module _ (n : PProgram) (before : List (List ℕ)) (T U : TypeTable) where
       owner = t;
       family = is_some e.family;
       first = first_of (kept.range i);
-      last = last_of (kept.range i);
+      last = last_index (kept.range i);
       added = same i || kept.added i;
       stands_for = None;
     }
@@ -71,7 +71,7 @@ module _ (n : PProgram) (before : List (List ℕ)) (T U : TypeTable) where
       owner = t;
       family = is_some e.family;
       first = first_of (kept.range i);
-      last = last_of (kept.range i);
+      last = last_index (kept.range i);
       added = or_right (is_added_name (replay_names n) x.name.name) _ (reserved-added (replay_names n) (double_text (text_of n.names e.name.name)) kept.double refl) i;
       stands_for = None;
     }

@@ -7,10 +7,10 @@ use Rattle.ada_tree.specs.PlainDecl.{PEntry}
 use Rattle.ada_tree.specs.PlainProgram.{PProgram}
 use Rattle.ada_tree.specs.Every.{EveryEntry}
 use Rattle.ada_tree.specs.Refusals.{types_in}
-use Rattle.syn_event.specs.Numbered.{is_added_name}
+use Rattle.syn_event.specs.AddedNames.{is_added_name}
 use Rattle.syn_event.specs.NamedTasks.{NumberedTask, numbered_tasks}
 use Rattle.syn_event.specs.AllNumbers.{all_numbers}
-use Rattle.syn_event.specs.Units.{text_of, tasks_of}
+use Rattle.syn_event.specs.DeclaredTasks.{text_of, tasks_of}
 use Rattle.task_model.specs.Setting.{Setting}
 use Rattle.normal_model.specs.NormalTree.{normal_tree}
 use Rattle.replay_model.specs.Names.{added_texts, double_text, double_texts, replay_names}

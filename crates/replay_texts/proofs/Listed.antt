@@ -7,7 +7,7 @@ use Rattle.ada_tree.specs.TypeTable.{TypeTable}
 use Rattle.ada_tree.specs.PlainDecl.{PTask, PDecl, DNumber, DObject, DEnumeration, DArray, DSubtype, DException, DIntIo, DPragma, DTask, DTaskBody}
 use Rattle.ada_tree.specs.PlainProgram.{PProgram}
 use Rattle.syn_event.specs.Numbering.{Numbering}
-use Rattle.syn_event.specs.Units.{decl_list, tasks_in, tasks_of}
+use Rattle.syn_event.specs.DeclaredTasks.{decl_list, tasks_in, tasks_of}
 use Rattle.control_script.specs.declared.Op.{Op}
 use Rattle.task_model.specs.Setting.{Setting}
 use Rattle.normal_model.specs.NormalTree.{normal_tree}

@@ -9,7 +9,7 @@ use Rattle.std.proofs.lemmas.Option.{none-some}
 use Rattle.ada_tree.specs.TypeTable.{TypeTable}
 use Rattle.ada_tree.specs.PlainDecl.{PEntry}
 use Rattle.syn_event.specs.declared.numbering.EntryInfo.{EntryInfo}
-use Rattle.syn_event.specs.Numbered.{with_origin}
+use Rattle.syn_event.specs.AddedNames.{with_origin}
 use Rattle.syn_event.specs.NamedTasks.{NumberedTask}
 use Rattle.syn_event.specs.AllNumbers.{entry_of_task, entries_of_tasks}
 use Rattle.common_lemmas.proofs.Options.{some_same}

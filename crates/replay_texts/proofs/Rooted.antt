@@ -11,7 +11,7 @@ use Rattle.ada_tree.specs.Scope.{Scope}
 use Rattle.ada_tree.specs.Declaring.{first_scope, after_decls}
 use Rattle.ada_tree.specs.Refusals.{types_in}
 use Rattle.syn_event.specs.Numbering.{Numbering}
-use Rattle.syn_event.specs.Units.{text_of, decl_list, tasks_of}
+use Rattle.syn_event.specs.DeclaredTasks.{text_of, decl_list, tasks_of}
 use Rattle.control_script.specs.declared.Op.{Op}
 use Rattle.task_model.specs.Setting.{Setting}
 use Rattle.normal_model.specs.NormalTree.{first_decls, main_unit, normal_tree}

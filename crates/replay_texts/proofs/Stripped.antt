@@ -5,7 +5,7 @@ use Rattle.std.proofs.lemmas.List.{take-map, length-map}
 use Rattle.std.proofs.lemmas.List.Folds.{fold-map}
 use Rattle.syn_event.specs.declared.numbering.EntryInfo.{EntryInfo}
 use Rattle.syn_event.specs.Numbering.{is_original_entry}
-use Rattle.syn_event.specs.Numbered.{speaks_of, original_number, with_origin, with_origins}
+use Rattle.syn_event.specs.AddedNames.{speaks_of, original_number, with_origin, with_origins}
 
 -- an entry, before it is known what it stands for
 abbrev pub strip : EntryInfo → EntryInfo

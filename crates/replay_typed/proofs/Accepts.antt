@@ -13,10 +13,10 @@ use Rattle.ada_tree.specs.Demand.{Site}
 use Rattle.ada_tree.specs.Sites.{if_there, expr_of, accept_index_sites, head_sites}
 use Rattle.ada_tree.specs.RuleArgCount.{at_place, fits_accept, are_same, written_formals, wrong_accept}
 use Rattle.task_model.specs.Setting.{Setting, entry_of}
-use Rattle.normal_model.specs.Waits.{Unit}
+use Rattle.normal_model.specs.RewrittenUnit.{RewrittenUnit}
 use Rattle.normal_checked.specs.Around.{own_rules}
 use Rattle.replay_model.specs.Asking.{member_number}
-use Rattle.replay_model.specs.Serving.{is_served}
+use Rattle.replay_model.specs.Serving.{permits_start}
 use Rattle.replay_asked.specs.Pieces.{never_head}
 use Rattle.alike_scopes.specs.Laws.{IsMetBut}
 use Rattle.normal_typed.proofs.Places.{met-accepts}
@@ -27,7 +27,7 @@ use Rattle.replay_typed.specs.ScopeOf.{IsEntryOf, IsScopeOf}
 use Rattle.replay_typed.proofs.Tests.{IsFit, IsLoose, fit-of, literal-fit}
 use Rattle.replay_typed.proofs.Permits.{member-fit, at-loose}
 
-module _ (u : Unit) (old inner : ℕ → Bool) (c d : Scope) (rel : IsScopeOf u old inner c d) where
+module _ (u : RewrittenUnit) (old inner : ℕ → Bool) (c d : Scope) (rel : IsScopeOf u old inner c d) where
   abbrev g : Setting
   g = u.setting
 
@@ -58,7 +58,7 @@ module _ (u : Unit) (old inner : ℕ → Bool) (c d : Scope) (rel : IsScopeOf u 
         (all_front IsMetBut (if_there (accept_index_sites d (entry_named d.own h.entry.name)) h.index) _ head-kept.1)
 
     -- the permit is for the begin of this rendezvous
-    pub served-loose : (s : Span) → IsLoose d (is_served u s h)
+    pub served-loose : (s : Span) → IsLoose d (permits_start u s h)
     served-loose s = at-loose u old inner c d rel s 1 e h.index (by_index h.index part.family fits (rel.accepted h.entry.name part found.1) index-there)
       where
         e : ℕ

@@ -20,7 +20,7 @@ use Rattle.ada_tree.specs.RuleMismatch.{no_task, misfit_member}
 use Rattle.ada_tree.specs.RuleArgCount.{at_place, index_of_callee, fits_call, wrong_call, called_entry}
 use Rattle.task_model.specs.Setting.{Setting, is_family, first_expr, lists_in, lists_of}
 use Rattle.normal_model.specs.Calls.{entry_called, lists_called}
-use Rattle.normal_model.specs.Waits.{Unit}
+use Rattle.normal_model.specs.RewrittenUnit.{RewrittenUnit}
 use Rattle.normal_asked.specs.Pieces.{named}
 use Rattle.normal_checked.specs.Around.{own_rules}
 use Rattle.replay_model.specs.Names.{kind_text, argument_text, index_text, added_id}
@@ -193,7 +193,7 @@ no-index : (d : Scope) (o : Option PExpr) (s : Span) → at_place (is_some o) s 
 no-index d None s e = tt
 no-index d (Some x) s e = cc
 
-module _ (u : Unit) (old inner : ℕ → Bool) (c d : Scope) (rel : IsScopeOf u old inner c d) where
+module _ (u : RewrittenUnit) (old inner : ℕ → Bool) (c d : Scope) (rel : IsScopeOf u old inner c d) where
   abbrev g : Setting
   g = u.setting
 

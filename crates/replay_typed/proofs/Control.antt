@@ -15,7 +15,7 @@ use Rattle.ada_tree.specs.PlainProgram.{PProgram}
 use Rattle.ada_tree.specs.Scope.{Scope, Range, FormalPart, Family, single, family, unclear, Thing, Parameter, ScalarMark, Reading, AsScalar, integer_kind, kind_at, marking, meaning, reading, reading_of, reading_of_mark, entry_named, is_entry_somewhere}
 use Rattle.ada_tree.specs.ExprTypes.{kind_of, static_in}
 use Rattle.ada_tree.specs.StaticValue.{is_integer_value}
-use Rattle.ada_tree.specs.Declaring.{formal_thing, with_formals, inside, in_body, own_entries, after_objects}
+use Rattle.ada_tree.specs.Declaring.{formal_thing, with_formals, inner_scope, in_body, own_entries, after_objects}
 use Rattle.ada_tree.specs.Demand.{MarkUse, scalar_only, stands_as_mark, must_be_of, must_lie_in, Site}
 use Rattle.ada_tree.specs.Sites.{site, if_there, expr_sites, expr_of, formals_sites, accept_index_sites, head_sites, handler_names_sites, target_sites, stmt_sites, stmts_sites, call_sites, decl_sites}
 use Rattle.ada_tree.specs.RuleMismatch.{is_allowed, target_kind}
@@ -163,7 +163,7 @@ module _ (g : Setting) (others : AreOthers g.program) where
     formals-met = (met-declares _ false _, (met-declares _ false _, (met-declares _ false _, (integer-mark d int scalar_only s, tt))))
 
     abbrev behind : Scope
-    behind = with_formals (inside d) (formals s)
+    behind = with_formals (inner_scope d) (formals s)
 
     abbrev its : Thing
     its = formal_thing Give (marking d record { 0 = 0 })
@@ -173,7 +173,7 @@ module _ (g : Setting) (others : AreOthers g.program) where
 
     out-number : (id : NameId) → IsIn (words s) id → IsOutNumber behind id
     out-number id i =
-        let means : meaning behind id ≡ Some (Parameter Give int.place) = names-new its (words s) (inside d) id i ∙ ap Some its-is in
+        let means : meaning behind id ≡ Some (Parameter Give int.place) = names-new its (words s) (inner_scope d) id i ∙ ap Some its-is in
         record {
           place = int.place;
           means = means;
@@ -198,7 +198,7 @@ module _ (g : Setting) (others : AreOthers g.program) where
     integer-behind = record {
       place = int.place;
       mark = int.mark;
-      means = names-kept its (words s) (inside d) record { 0 = 0 } (others.kind, (others.argument, (others.index, tt))) ∙ int.means;
+      means = names-kept its (words s) (inner_scope d) record { 0 = 0 } (others.kind, (others.argument, (others.index, tt))) ∙ int.means;
       there = int.there;
       kind = int.kind;
       scalar = int.scalar;
@@ -224,7 +224,7 @@ module _ (g : Setting) (others : AreOthers g.program) where
   module _ (n : ℕ) (d : Scope) (control : IsController q n d) (s : Span) where
     -- the scope of the controller's statements
     abbrev within : Scope
-    within = inside (after_objects (in_body d (added_word q s control_text)) no_decl)
+    within = inner_scope (after_objects (in_body d (added_word q s control_text)) no_decl)
 
     own-is : within.own ≡ control.seen.entries
     own-is = ap own_entries control.seen.means
@@ -279,7 +279,7 @@ module _ (g : Setting) (others : AreOthers g.program) where
   -- The body of the idle task meets the rules.
   pub idle-met : (d : Scope) → IsIdler q d → (s : Span) → AllMetBut (decl_sites d (idle_body q s))
   idle-met d idle s =
-      let within : Scope = inside (after_objects (in_body d (added_word q s idle_text)) no_decl) in
+      let within : Scope = inner_scope (after_objects (in_body d (added_word q s idle_text)) no_decl) in
       let h : PHead = record { entry = added_word q s rest_text; index = None; formals = []; span = s } in
       let own : HasLists (entry_named within.own (added_id q rest_text)) single [] = subst (λ l. HasLists (entry_named l (added_id q rest_text)) single []) (sym (ap own_entries idle.seen.means)) idle.rest in (
         gives-met d (added_word q s idle_text) idle.seen.entries idle.seen.means,

@@ -11,9 +11,9 @@ use Rattle.ada_tree.specs.PlainProgram.{PProgram}
 use Rattle.ada_tree.specs.Scope.{Scope, integer_kind, truth_kind}
 use Rattle.task_model.specs.Setting.{Setting}
 use Rattle.normal_model.specs.Ranges.{kind_of_range, kind_name}
-use Rattle.normal_model.specs.Waits.{Unit}
+use Rattle.normal_model.specs.RewrittenUnit.{RewrittenUnit}
 use Rattle.replay_model.specs.Names.{kind_text, argument_text, index_text, added_id}
-use Rattle.replay_model.specs.Asking.{permit_part, both, is_kind, is_for, is_at, as_number, number_in, member_number}
+use Rattle.replay_model.specs.Asking.{permit_part, both, permit_is_kind, permit_is_for, permit_is_at, as_number, number_in, member_number}
 use Rattle.replay_model.specs.Waiting.{and_guard, is_shut, Pause, and_later, is_due}
 use Rattle.replay_asked.specs.Pieces.{is_other_kind}
 use Rattle.replay_typed.specs.ScopeOf.{IsCountedBy, as_itself, by_position, IsFamilyOf, IsScopeOf}
@@ -36,28 +36,28 @@ pub member-fit : (g : Setting) (inner : ℕ → Bool) (d : Scope) (s : Span) (e 
 member-fit g inner d s e k x f h =
     subst (λ o. IsFit d integer_kind (number_in g.types s o x)) (sym f.is) (counted-fit g.types inner d s (kind_of_range g.types f.written) k x f.counted h)
 
-module _ (u : Unit) (old inner : ℕ → Bool) (c d : Scope) (rel : IsScopeOf u old inner c d) where
+module _ (u : RewrittenUnit) (old inner : ℕ → Bool) (c d : Scope) (rel : IsScopeOf u old inner c d) where
   abbrev q : PProgram
   q = u.setting.program
 
   -- ---- the permit
 
-  pub kind-loose : (s : Span) (k : ℕ) → IsLoose d (is_kind u s k)
+  pub kind-loose : (s : Span) (k : ℕ) → IsLoose d (permit_is_kind u s k)
   kind-loose s k = compared d (added_id q kind_text) s rel.kind binary.Equal refl (EInteger k s) (literal-fit d k s)
 
   pub other-loose : (s : Span) (k : ℕ) → IsLoose d (is_other_kind u s k)
   other-loose s k = compared d (added_id q kind_text) s rel.kind binary.NotEqual refl (EInteger k s) (literal-fit d k s)
 
-  pub for-loose : (s : Span) (k n : ℕ) → IsLoose d (is_for u s k n)
+  pub for-loose : (s : Span) (k n : ℕ) → IsLoose d (permit_is_for u s k n)
   for-loose s k n =
       let second : IsLoose d (EBinary binary.Equal (permit_part u s argument_text) (EInteger n s) s) = compared d (added_id q argument_text) s rel.argument binary.Equal refl (EInteger n s) (literal-fit d n s) in
-      and-loose d s (is_kind u s k) (EBinary binary.Equal (permit_part u s argument_text) (EInteger n s) s) (kind-loose s k) second.fit
+      and-loose d s (permit_is_kind u s k) (EBinary binary.Equal (permit_part u s argument_text) (EInteger n s) s) (kind-loose s k) second.fit
 
-  pub at-loose : (s : Span) (k e : ℕ) (index : Option PExpr) → IsFit d integer_kind (member_number u.setting s e index) → IsLoose d (is_at u s k e index)
+  pub at-loose : (s : Span) (k e : ℕ) (index : Option PExpr) → IsFit d integer_kind (member_number u.setting s e index) → IsLoose d (permit_is_at u s k e index)
   at-loose s k e index h =
       let number : PExpr = member_number u.setting s e index in
       let last : IsLoose d (EBinary binary.Equal (permit_part u s index_text) number s) = compared d (added_id q index_text) s rel.index binary.Equal refl number h in
-      and-loose d s (is_for u s k e) (EBinary binary.Equal (permit_part u s index_text) number s) (for-loose s k e) last.fit
+      and-loose d s (permit_is_for u s k e) (EBinary binary.Equal (permit_part u s index_text) number s) (for-loose s k e) last.fit
 
   -- ---- guards
 
@@ -85,4 +85,4 @@ module _ (u : Unit) (old inner : ℕ → Bool) (c d : Scope) (rel : IsScopeOf u 
       by_test false = h
 
   pub due-loose : (s : Span) (pauses : List Pause) (place n : ℕ) (guard : Option PExpr) → IsFitGuard guard → AllByRecursion (λ (x : Pause). IsFitGuard x.guard) pauses → IsLoose d (is_due u s pauses place n guard)
-  due-loose s pauses place n guard h i = later-loose s n pauses (and_guard s (is_for u s 4 place) guard) (guard-loose s (is_for u s 4 place) guard (for-loose s 4 place) h) i
+  due-loose s pauses place n guard h i = later-loose s n pauses (and_guard s (permit_is_for u s 4 place) guard) (guard-loose s (permit_is_for u s 4 place) guard (for-loose s 4 place) h) i

@@ -11,13 +11,13 @@ use Rattle.ada_tree.specs.TypeTable.{TypeTable}
 use Rattle.ada_tree.specs.Every.{EveryFormal, EveryHead, EveryScheme}
 use Rattle.ada_tree.specs.Scope.{Scope, Family, single, family, unclear, EntryPart, Thing, SingleTask, meaning, marking, marking_of, scalar_kind, mark_at, and_then, entry_named}
 use Rattle.ada_tree.specs.StaticValue.{value_named}
-use Rattle.ada_tree.specs.Declaring.{with_name, with_names, inside, formal_thing, with_formals, first_mark_of, drange_kind, with_loop_parameter}
+use Rattle.ada_tree.specs.Declaring.{with_name, with_names, inner_scope, formal_thing, with_formals, first_mark_of, drange_kind, with_loop_parameter}
 use Rattle.ada_tree.specs.Sites.{all_names, loop_scope}
 use Rattle.ada_tree.specs.RuleArgCount.{called_entry}
 use Rattle.syn_event.specs.Numbering.{task_named}
 use Rattle.task_model.specs.Setting.{Setting, entry_of}
 use Rattle.rewritten_types.specs.Agreement.{IsScalar}
-use Rattle.normal_model.specs.Waits.{Unit}
+use Rattle.normal_model.specs.RewrittenUnit.{RewrittenUnit}
 use Rattle.normal_model.specs.Ranges.{kind_name}
 use Rattle.normal_checked.specs.Around.{own_rules}
 use Rattle.alike_scopes.specs.Alike.{Alike}
@@ -39,7 +39,7 @@ module _ (inner : ℕ → Bool) where
   no-step : (c d : Scope) → IsStep c d c d
   no-step c d = record { owned = refl; owned_there = refl; types = refl; means = λ id. inl (refl, refl); outer = λ id o. refl }
 
-  inside-step : (c d : Scope) → IsStep c d (inside c) (inside d)
+  inside-step : (c d : Scope) → IsStep c d (inner_scope c) (inner_scope d)
   inside-step c d = record { owned = refl; owned_there = refl; types = refl; means = λ id. inl (refl, refl); outer = λ id o. refl }
 
   two-steps : (c d c' d' c'' d'' : Scope) → IsStep c d c' d' → IsStep c' d' c'' d'' → IsStep c d c'' d''
@@ -89,7 +89,7 @@ module _ (inner : ℕ → Bool) where
       (names-step thing thing' (formal-no-task f.mode (marking c f.mark.name)) f.names (all_front (λ (w : Word). inner w.name.0 ≡ true) f.names (all_names fs) h) c d)
       (formals-step fs (all_back (λ (w : Word). inner w.name.0 ≡ true) f.names (all_names fs) h) (with_names thing c f.names) (with_names thing' d f.names))
 
-module _ (u : Unit) (old inner : ℕ → Bool) (outer : AreOuter u.setting.program inner) where
+module _ (u : RewrittenUnit) (old inner : ℕ → Bool) (outer : AreOuter u.setting.program inner) where
   abbrev g : Setting
   g = u.setting
 
@@ -151,16 +151,16 @@ module _ (u : Unit) (old inner : ℕ → Bool) (outer : AreOuter u.setting.progr
         by_called id name part e (inr n) = absurd (not-called (meaning c' id) name part n e)
 
   pub accept-scope : (c d : Scope) (k : ℕ) (h : PHead) → EveryHead (own_rules old) k h → AreInner inner (all_names h.formals) → IsScopeOf u old inner c d →
-      IsScopeOf u old inner (with_formals (inside c) h.formals) (with_formals (inside d) h.formals)
+      IsScopeOf u old inner (with_formals (inner_scope c) h.formals) (with_formals (inner_scope d) h.formals)
   accept-scope c d k h every i rel =
-      inner-scope c d (with_formals (inside c) h.formals) (with_formals (inside d) h.formals)
-      (two-steps inner c d (inside c) (inside d) _ _ (inside-step inner c d) (formals-step inner h.formals i (inside c) (inside d)))
-      (formals_are_alike old (inside c) (inside d) (inside_is_alike old c d rel.alike) h.formals (old-formals old h.formals (recursion_from_All (EveryFormal (own_rules old)) h.formals every.2))) rel
+      inner-scope c d (with_formals (inner_scope c) h.formals) (with_formals (inner_scope d) h.formals)
+      (two-steps inner c d (inner_scope c) (inner_scope d) _ _ (inside-step inner c d) (formals-step inner h.formals i (inner_scope c) (inner_scope d)))
+      (formals_are_alike old (inner_scope c) (inner_scope d) (inside_is_alike old c d rel.alike) h.formals (old-formals old h.formals (recursion_from_All (EveryFormal (own_rules old)) h.formals every.2))) rel
 
   pub scheme-scope : (c d : Scope) (k : ℕ) (x : Option PScheme) → IfSome x (EveryScheme (own_rules old) k) → IfSome x (IsInnerScheme inner) → IsScopeOf u old inner c d → IsScopeOf u old inner (loop_scope c x) (loop_scope d x)
   scheme-scope c d k None every i rel = rel
   scheme-scope c d k (Some (LWhile e)) every i rel = rel
   scheme-scope c d k (Some (LFor w backwards x)) every i rel =
       inner-scope c d (with_loop_parameter c w x) (with_loop_parameter d w x)
-      (two-steps inner c d (inside c) (inside d) _ _ (inside-step inner c d) (one-step inner _ _ (loop-no-task (and_then (first_mark_of c.types) (drange_kind c x))) w i (inside c) (inside d)))
+      (two-steps inner c d (inner_scope c) (inner_scope d) _ _ (inside-step inner c d) (one-step inner _ _ (loop-no-task (and_then (first_mark_of c.types) (drange_kind c x))) w i (inner_scope c) (inner_scope d)))
       (loop_is_alike old c d rel.alike w x (old-drange old k x every.1)) rel

@@ -11,10 +11,10 @@ use Rattle.ada_tree.specs.PlainExpr.{PExpr, EInteger, EName, EIndex, EAttribute,
 use Rattle.ada_tree.specs.Attributes.{Pos, false_name}
 use Rattle.ada_tree.specs.Scope.{Scope, Marking, ScalarMark, ArrayMark, TaskMark, NoMark, UnknownMark, UnclearMark, Thing, Literal, integer_kind, truth_kind, marking, marking_of, scalar_kind, meaning, reading_of}
 use Rattle.ada_tree.specs.StaticValue.{is_static, value_of, value_named, named, then_do, signed, attribute_at, mark_named}
-use Rattle.ada_tree.specs.ExprTypes.{of_kind, of_any_kind, nodes, kind_of, place_of, name_kind, is_other_kind, takes, unary_kind, binary_kind, if_kind, attribute_kind}
+use Rattle.ada_tree.specs.ExprTypes.{of_kind, of_any_kind, nodes, kind_of, expr_place, name_kind, is_other_kind, takes, unary_kind, binary_kind, if_kind, attribute_kind}
 use Rattle.ada_tree.specs.Declaring.{predefined_types}
 use Rattle.ada_tree.specs.Demand.{scalar_only, must_be_of}
-use Rattle.ada_tree.specs.Sites.{site, expr_sites, expr_of, condition}
+use Rattle.ada_tree.specs.Sites.{site, expr_sites, expr_of, condition_sites}
 use Rattle.ada_tree.specs.RuleMismatch.{is_allowed, no_value, misfit_argument, misfit_operand, is_misfit}
 use Rattle.ada_tree.specs.RuleRangeBad.{is_fixed, raised, raises}
 use Rattle.ada_tree.specs.RuleReadOut.{out_formal}
@@ -54,7 +54,7 @@ compared-kind (Some k) (Some j) = no-other (k == j)
 
 compared-fits : (k : ℕ) (b : Option ℕ) (l r : PExpr) → is_other_kind (Some k) b ≡ false → misfit_operand of_any_kind (Some k) b l r ≡ []
 compared-fits k None l r e = refl
-compared-fits k (Some j) l r e = ap (λ t. if t then place_of r ∷ [] else []) e
+compared-fits k (Some j) l r e = ap (λ t. if t then expr_place r ∷ [] else []) e
 
 both-kind : (a b : Option ℕ) → is_other_kind (Some truth_kind) a ≡ false → is_other_kind (Some truth_kind) b ≡ false → is_other_kind (Some truth_kind) (binary_kind (of_kind truth_kind) a b) ≡ false
 both-kind None b e f = refl
@@ -123,7 +123,7 @@ module _ (d : Scope) where
   fit-of k e m =
       let front = all_front IsMetBut (expr_sites d e) (site d (must_be_of e (Some k)) ∷ []) m in
       record {
-        kind = test-fails (is_other_kind (Some k) (kind_of d e)) (place_of e) (all_back IsMetBut (expr_sites d e) (site d (must_be_of e (Some k)) ∷ []) m).0.matched;
+        kind = test-fails (is_other_kind (Some k) (kind_of d e)) (expr_place e) (all_back IsMetBut (expr_sites d e) (site d (must_be_of e (Some k)) ∷ []) m).0.matched;
         raised = front.0.ranged;
         parts = met-nodes d (nodes e) front.1;
       }
@@ -131,9 +131,9 @@ module _ (d : Scope) where
   pub fit-met : (k : ℕ) (e : PExpr) → IsFit k e → AllMetBut (expr_of d (Some k) e)
   fit-met k e h =
       all_joined IsMetBut (expr_sites d e) _ (met-whole d e h.raised, nodes-met d (nodes e) h.parts)
-      (met-of d e (Some k) (ap (λ b. if b then place_of e ∷ [] else []) h.kind), tt)
+      (met-of d e (Some k) (ap (λ b. if b then expr_place e ∷ [] else []) h.kind), tt)
 
-  pub loose-met : (e : PExpr) → IsLoose e → AllMetBut (condition d e)
+  pub loose-met : (e : PExpr) → IsLoose e → AllMetBut (condition_sites d e)
   loose-met e h = fit-met truth_kind e h.fit
 
   -- ---- truth values
@@ -158,7 +158,7 @@ module _ (d : Scope) where
     kind = not-kind (kind_of d e) h.kind;
     raised = by_fixed (is_fixed d (EUnary unary.Not e s)) refl;
     parts = (
-      met-node d false (EUnary unary.Not e s) record { known = refl; matched = ap (λ b. if b then place_of e ∷ [] else []) (not-fits (kind_of d e) h.kind); readable = refl; counted = refl; arrays = refl; texts = refl },
+      met-node d false (EUnary unary.Not e s) record { known = refl; matched = ap (λ b. if b then expr_place e ∷ [] else []) (not-fits (kind_of d e) h.kind); readable = refl; counted = refl; arrays = refl; texts = refl },
       h.parts,
     );
   }
@@ -284,7 +284,7 @@ module _ (d : Scope) where
         known = ap (λ b. (if b then [] else s ∷ []) ++ []) (kind-known m k f);
         matched =
             ap₂ (λ b o. (if b then [] else s ∷ []) ++ misfit_argument d Pos o e) (kind-allowed (marking d m) k f) f
-            ∙ ap (λ b. if b then place_of e ∷ [] else []) h.kind;
+            ∙ ap (λ b. if b then expr_place e ∷ [] else []) h.kind;
         readable = refl;
         counted = refl;
         arrays = refl;

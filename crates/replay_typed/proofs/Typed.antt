@@ -13,7 +13,7 @@ use Rattle.ada_tree.specs.Sites.{body_sites}
 use Rattle.ada_tree.specs.RuleArrayUse.{array_in_node}
 use Rattle.task_model.specs.Setting.{Setting}
 use Rattle.normal_model.specs.Calls.{entry_called, lists_called}
-use Rattle.normal_model.specs.Waits.{Unit}
+use Rattle.normal_model.specs.RewrittenUnit.{RewrittenUnit}
 use Rattle.asked_stmts.specs.Asked.{Asks, AskedAlts, AskedKind, AskedBody}
 use Rattle.asked_stmts.specs.Kinds.{type_asks}
 use Rattle.asked_stmts.proofs.Typed.{asked_typed}
@@ -23,8 +23,8 @@ use Rattle.alike_scopes.specs.Laws.{IsMetBut}
 use Rattle.normal_typed.proofs.Cases.{with_cases, cases_asked}
 use Rattle.normal_typed.proofs.Stays.{old-expr, old-choices, no-array, condition-stays, loop-stays, choices-stay, selector-stays, handler-stays, plain-stays}
 use Rattle.replay_model.specs.Names.{control_text, idle_text, added_word}
-use Rattle.replay_model.specs.Asking.{is_kind, is_for}
-use Rattle.replay_model.specs.Serving.{is_served}
+use Rattle.replay_model.specs.Asking.{permit_is_kind, permit_is_for}
+use Rattle.replay_model.specs.Serving.{permits_start}
 use Rattle.replay_model.specs.Calling.{is_called}
 use Rattle.replay_model.specs.Waiting.{never_so, and_guard, Pause, pauses_of, is_due}
 use Rattle.replay_model.specs.ReplayStmts.{task_called, replay_body}
@@ -40,7 +40,7 @@ use Rattle.replay_typed.proofs.Scopes.{accept-scope, scheme-scope}
 pub same : (s : Site) → IsMetBut s → IsMetBut s
 same s m = m
 
-module _ (u : Unit) (old inner : ℕ → Bool) (outer : AreOuter u.setting.program inner) where
+module _ (u : RewrittenUnit) (old inner : ℕ → Bool) (outer : AreOuter u.setting.program inner) where
   abbrev g : Setting
   g = u.setting
 
@@ -139,22 +139,22 @@ module _ (u : Unit) (old inner : ℕ → Bool) (outer : AreOuter u.setting.progr
         loose-met d (is_called u s kind x)
         (at-loose u old inner c.1 d rel s kind (entry_called g x) (lists_called g x).index (index-fit u old inner c.1 d rel x i.0.0 i.1.1 m.0.0 (if-args j x.args m.0.1) m.1 s));
     double = λ c d k j n x rel h un i m le. double-met u old inner c.1 d rel x i.0.0 i.1.1 m.0.0 (if-args j x.args m.0.1) m.1;
-    aborted = λ c d k n s x rel h i le. loose-met d (is_for u s 9 (task_called u x)) (for-loose u old inner c.1 d rel s 9 (task_called u x));
-    served = λ c d k n s h rel i le. loose-met d (is_served u s h) (served-loose u old inner c.1 d rel k h i.0.1 i.1.1 i.1.0 s);
+    aborted = λ c d k n s x rel h i le. loose-met d (permit_is_for u s 9 (task_called u x)) (for-loose u old inner c.1 d rel s 9 (task_called u x));
+    served = λ c d k n s h rel i le. loose-met d (permits_start u s h) (served-loose u old inner c.1 d rel k h i.0.1 i.1.1 i.1.0 s);
     taken = λ c d k n x else_part t guard h o l s rel near w all i le.
         let q = alternative-asked c (k + 1) guard (AAccept (accepting h o) l) s x i all in
         let head = q.1.0.0 in
-        loose-met d (and_guard s (is_served u s h) guard)
-        (guard-loose u old inner c.1 d rel s (is_served u s h) guard (served-loose u old inner c.1 d rel ((k + 1) + 1) h head.0.1 head.1.1 head.1.0 s) (guard-fit c d rel ((k + 1) + 1) guard q.0));
+        loose-met d (and_guard s (permits_start u s h) guard)
+        (guard-loose u old inner c.1 d rel s (permits_start u s h) guard (served-loose u old inner c.1 d rel ((k + 1) + 1) h head.0.1 head.1.1 head.1.0 s) (guard-fit c d rel ((k + 1) + 1) guard q.0));
     due = λ c d k n x else_part t guard duration l s place rel near w all i few le.
         let q = alternative-asked c (k + 1) guard (ADelay duration l) s x i all in
         loose-met d (is_due u s (pauses_of x) place duration guard)
         (due-loose u old inner c.1 d rel s (pauses_of x) place duration guard (guard-fit c d rel ((k + 1) + 1) guard q.0) (pauses-fit c d rel (k + 1) x all));
     ends = λ c d k n x else_part t guard s rel near w all i le.
         let q = alternative-asked c (k + 1) guard ATerminate s x i all in
-        loose-met d (and_guard s (is_kind u s 10) guard)
-        (guard-loose u old inner c.1 d rel s (is_kind u s 10) guard (kind-loose u old inner c.1 d rel s 10) (guard-fit c d rel ((k + 1) + 1) guard q.0));
-    passes = λ c d k n s rel h le. loose-met d (is_kind u s 3) (kind-loose u old inner c.1 d rel s 3);
+        loose-met d (and_guard s (permit_is_kind u s 10) guard)
+        (guard-loose u old inner c.1 d rel s (permit_is_kind u s 10) guard (kind-loose u old inner c.1 d rel s 10) (guard-fit c d rel ((k + 1) + 1) guard q.0));
+    passes = λ c d k n s rel h le. loose-met d (permit_is_kind u s 3) (kind-loose u old inner c.1 d rel s 3);
     never = λ c d k n x else_part t s rel near w all le.
         let q = own-entry c (k + 1) x w.1.1 all in
         never-met u old inner c.1 d rel s q.0 q.1;

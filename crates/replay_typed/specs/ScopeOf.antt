@@ -16,11 +16,11 @@ use Rattle.ada_tree.specs.Scope.{Scope, truth_kind, integer_kind, Range, FormalP
 use Rattle.ada_tree.specs.Sites.{all_names}
 use Rattle.ada_tree.specs.RuleArgCount.{called_entry}
 use Rattle.syn_event.specs.Numbering.{task_named}
-use Rattle.syn_event.specs.Units.{text_of}
+use Rattle.syn_event.specs.DeclaredTasks.{text_of}
 use Rattle.task_model.specs.Setting.{Setting, entry_of, is_family}
 use Rattle.rewritten_types.specs.Agreement.{IsScalar}
 use Rattle.normal_model.specs.Ranges.{kind_of_range, kind_name, family_range}
-use Rattle.normal_model.specs.Waits.{Unit}
+use Rattle.normal_model.specs.RewrittenUnit.{RewrittenUnit}
 use Rattle.asked_stmts.specs.Asked.{Asks}
 use Rattle.asked_stmts.specs.Kinds.{place_asks, type_asks, both}
 use Rattle.normal_checked.specs.Around.{own_rules}
@@ -124,7 +124,7 @@ pub record IsIdle (q : PProgram) (d : Scope) : Type 0 where
 -- ---- what can be used
 
 -- What can be used at a place of a unit in a replay text (d), where c is what can be used there in the normal form.
-pub record IsScopeOf (u : Unit) (old inner : ℕ → Bool) (c d : Scope) : Type 0 where
+pub record IsScopeOf (u : RewrittenUnit) (old inner : ℕ → Bool) (c d : Scope) : Type 0 where
   -- old names mean the same
   pub alike : Alike old c d
   -- the variables of the permit, FALSE, and the tasks that are added

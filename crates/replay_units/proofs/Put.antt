@@ -7,7 +7,7 @@ use Rattle.ada_tree.specs.declared.naming.Span.{Span}
 use Rattle.ada_tree.specs.PlainStmt.{PBody}
 use Rattle.ada_tree.specs.PlainDecl.{PDecl, decls_of, plain_decl}
 use Rattle.ada_expr_copy.specs.Parts.{OkWith}
-use Rattle.syn_event.specs.Units.{decl_list}
+use Rattle.syn_event.specs.DeclaredTasks.{decl_list}
 use Rattle.replay_model.specs.ReplayTree.{behind_own}
 use Rattle.replay_asking.specs.Voice.{Voice}
 use Rattle.replay_rules.specs.Replayed.{body_image}

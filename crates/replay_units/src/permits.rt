@@ -3,7 +3,7 @@
 ghost use Rattle.std.specs.Prelude.{◌≡◌, ◌≤◌, IfOk, OnOk, map, length, position};
 ghost use Rattle.std.specs.List.{position_or_len};
 ghost use Rattle.ada_tree.specs.PlainDecl.{plain_decl};
-ghost use Rattle.syn_event.specs.Numbered.{is_added_name};
+ghost use Rattle.syn_event.specs.AddedNames.{is_added_name};
 ghost use Rattle.replay_model.specs.ReplayTree.{is_added_object, behind_own};
 ghost use Rattle.replay_ids.specs.Arranged.{permit_declared};
 

@@ -4,7 +4,7 @@ ghost use Rattle.std.specs.Prelude.{◌≡◌, OnOk, map};
 ghost use Rattle.ada_tree.specs.PlainDecl.{plain_decl, decls_of};
 ghost use Rattle.replay_asking.specs.Looked.{voice_of};
 ghost use Rattle.ada_tree.specs.PlainStmt.{plain_body};
-ghost use Rattle.syn_event.specs.Units.{decl_list};
+ghost use Rattle.syn_event.specs.DeclaredTasks.{decl_list};
 ghost use Rattle.replay_model.specs.ReplayTree.{behind_own};
 ghost use Rattle.replay_rules.specs.Replayed.{body_image};
 ghost use Rattle.replay_ids.specs.Arranged.{decl_image, first_running, permit_declared, voice_at};

@@ -11,7 +11,7 @@ use Rattle.normal_model.specs.Ranges.{word_at}
 use Rattle.replay_model.specs.Waiting.{Pause, pauses_of, never_so, and_guard, and_later}
 use Rattle.replay_asking.specs.Voice.{Voice}
 use Rattle.replay_asking.specs.Spoken.{done, is_kind, is_for, ask_which}
-use Rattle.replay_asking.specs.Served.{is_served, serve}
+use Rattle.replay_asking.specs.Served.{permits_start, serve}
 use Rattle.replay_waiting.specs.declared.seen_pause.SeenPause.{SeenPause}
 
 -- what is seen of a delay alternative
@@ -40,17 +40,17 @@ pause_alts s k (p ∷ ps) n = pause_alt s k p n ∷ pause_alts s k ps (n + 1)
 abbrev pub pausing : Voice → Span → List Pause → ℕ → PStmt
 pausing x s pauses k = select_of x s (alts_of (pause_alts s k pauses 1)) absent
 
-abbrev pub ending : Voice → Span → PStmt
-ending x s = select_of x s (alts_of (alternative None ATerminate s ∷ [])) absent
+abbrev pub never_or_terminate : Voice → Span → PStmt
+never_or_terminate x s = select_of x s (alts_of (alternative None ATerminate s ∷ [])) absent
 
 abbrev pub passing : Voice → Span → PStmt
 passing x s = select_of x s no_alt (present (one (SNull s)))
 
 -- the branch of an alternative, which is the k-th delay alternative if it is one
 abbrev pub branch_of : Voice → List Pause → PAlt → ℕ → PArm
-branch_of x pauses (alternative guard (AAccept a l) s) k = arm (and_guard s (is_served x s (head_of a)) guard) (in_front (serve x s a) l)
+branch_of x pauses (alternative guard (AAccept a l) s) k = arm (and_guard s (permits_start x s (head_of a)) guard) (in_front (serve x s a) l)
 branch_of x pauses (alternative guard (ADelay d l) s) k = arm (is_due x s pauses k d guard) (stmt_then (pausing x s pauses k) (stmt_then (done x s) l))
-branch_of x pauses (alternative guard ATerminate s) k = arm (and_guard s (is_kind x s 10) guard) (one (ending x s))
+branch_of x pauses (alternative guard ATerminate s) k = arm (and_guard s (is_kind x s 10) guard) (one (never_or_terminate x s))
 
 -- the number of the next delay alternative
 abbrev pub next_number : PAlt → ℕ → ℕ

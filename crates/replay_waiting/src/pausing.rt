@@ -3,7 +3,7 @@
 ghost use Rattle.std.specs.Prelude.{◌≡◌, ◌++◌, ◌+◌, IfOk, OnOk, map};
 ghost use Rattle.ada_tree.specs.PlainStmt.{plain_alt, plain_stmt, alts_of, seen_maybe};
 ghost use Rattle.ada_expr_copy.specs.Parts.{OkWith};
-ghost use Rattle.replay_waiting.specs.Waited.{plain_pause, never_alt, select_of, pause_alt, pause_alts, pausing, ending, passing};
+ghost use Rattle.replay_waiting.specs.Waited.{plain_pause, never_alt, select_of, pause_alt, pause_alts, pausing, never_or_terminate, passing};
 ghost use Rattle.replay_asking.specs.Looked.{voice_of};
 
 use crate::SeenPause;
@@ -105,7 +105,7 @@ pub(crate) fn pausing(
 
 /// The wait for the end of the program.
 pub(crate) fn ending(alloc: Global, x: &Speaker, s: Span) -> Result<Stmt, Memory>
-    ensures { IfOk result (λ made. plain_stmt made ≡ ending (voice_of x.now) s) }
+    ensures { IfOk result (λ made. plain_stmt made ≡ never_or_terminate (voice_of x.now) s) }
 {
     let alts = one_alt(alloc, terminate_alternative_of(Ok(None), s));
     select_of(alloc, x, alts, Ok(None), s)

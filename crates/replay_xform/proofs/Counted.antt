@@ -1,7 +1,7 @@
 -- The numbers by ids are those of the definition.
 use Rattle.std.proofs.Common.{◌≡◌, ℕ, zero, suc, ◌+◌, List, ◌++◌, pred, length, Result, Ok, Err, IfOk, refl, ap, ◌∙◌}
 use Rattle.syn_event.specs.Numbering.{Numbering}
-use Rattle.syn_event.specs.Numbered.{with_origins}
+use Rattle.syn_event.specs.AddedNames.{with_origins}
 use Rattle.task_model.specs.Setting.{Setting}
 use Rattle.normal_model.specs.NormalTree.{main_unit}
 use Rattle.replay_model.specs.Names.{replay_names}

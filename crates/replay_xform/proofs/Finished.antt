@@ -8,7 +8,7 @@ use Rattle.ada_tree.specs.NameList.{interned}
 use Rattle.ada_tree.specs.PlainStmt.{plain_body}
 use Rattle.ada_tree.specs.PlainDecl.{PDecl, plain_decl, decls_of}
 use Rattle.ada_tree.specs.PlainProgram.{PProgram, plain_program}
-use Rattle.syn_event.specs.Units.{decl_list, tasks_in}
+use Rattle.syn_event.specs.DeclaredTasks.{decl_list, tasks_in}
 use Rattle.control_script.specs.declared.Op.{Op}
 use Rattle.task_model.specs.Setting.{Setting}
 use Rattle.replay_model.specs.Names.{replay_names, double_texts}

@@ -6,7 +6,7 @@ use Rattle.std.proofs.lemmas.Bool.{or_parts, or_from, or_right, eqb-true, ne_eqb
 use Rattle.ada_tree.specs.declared.naming.NameId.{NameId}
 use Rattle.ada_tree.specs.declared.naming.Word.{Word}
 use Rattle.ada_tree.specs.PlainDecl.{PDecl, DNumber, DObject, DEnumeration, DArray, DSubtype, DException, DIntIo, DPragma, DTask, DTaskBody}
-use Rattle.ada_tree.specs.Scope.{Scope, Seen, Thing, MainProcedure, meaning}
+use Rattle.ada_tree.specs.Scope.{Scope, NameMeaning, Thing, MainProcedure, meaning}
 use Rattle.ada_tree.specs.RuleDuplicate.{is_predefined, is_among}
 use Rattle.ada_tree.specs.Declaring.{seen_as, with_name, with_names, predefined_names, first_scope, after_decl}
 use Rattle.rewritten_types.specs.Rewriting.{valued, IsFree, AreFree, names_declared, IsUsed, IsUnused}
@@ -25,7 +25,7 @@ beyond n k e l = let m : 18 ≤ n = ltb-false n 18 e in ne_eqb k n (λ same. let
 pub first-here : (name : Word) → InHere (first_scope name)
 first-here name = record { nothing = none }
   where
-    not-first : (n : ℕ) → is_predefined n ≡ false → AllByRecursion (λ (x : Seen). (x.name == n) ≡ false) predefined_names
+    not-first : (n : ℕ) → is_predefined n ≡ false → AllByRecursion (λ (x : NameMeaning). (x.name == n) ≡ false) predefined_names
     not-first n e = (
       beyond n 0 e (omega arith),
       (
@@ -77,17 +77,17 @@ first-here name = record { nothing = none }
     )
 
     by_name : (id : NameId) (b : Bool) → b ≡ false → find (λ x. x.name == id.0) predefined_names ≡ None →
-        option_map (λ (x : Seen). x.thing) (if b then Some (seen_as MainProcedure name.name.0) else find (λ x. x.name == id.0) predefined_names) ≡ None
+        option_map (λ (x : NameMeaning). x.thing) (if b then Some (seen_as MainProcedure name.name.0) else find (λ x. x.name == id.0) predefined_names) ≡ None
     by_name id true e f = absurd (true≢false e)
-    by_name id false e f = ap (option_map (λ (x : Seen). x.thing)) f
+    by_name id false e f = ap (option_map (λ (x : NameMeaning). x.thing)) f
 
     none : (id : NameId) → is_predefined id.0 ≡ false → is_among (first_scope name).here id.0 ≡ false → meaning (first_scope name) id ≡ None
-    none id e h = by_name id (name.name.0 == id.0) (or_parts (name.name.0 == id.0) false h).0 (found_none (λ (x : Seen). x.name == id.0) predefined_names (not-first id.0 e))
+    none id e h = by_name id (name.name.0 == id.0) (or_parts (name.name.0 == id.0) false h).0 (found_none (λ (x : NameMeaning). x.name == id.0) predefined_names (not-first id.0 e))
 
 here-name : (thing : Thing) (w : Word) (s : Scope) → InHere s → InHere (with_name thing s w)
 here-name thing w s h = record { nothing = none }
   where
-    by_test : (id : NameId) (b : Bool) → b ≡ false → meaning s id ≡ None → option_map (λ (x : Seen). x.thing) (if b then Some (seen_as thing w.name.0) else find (λ x. x.name == id.0) s.names) ≡ None
+    by_test : (id : NameId) (b : Bool) → b ≡ false → meaning s id ≡ None → option_map (λ (x : NameMeaning). x.thing) (if b then Some (seen_as thing w.name.0) else find (λ x. x.name == id.0) s.names) ≡ None
     by_test id true e f = absurd (true≢false e)
     by_test id false e f = f
 
@@ -103,7 +103,7 @@ here-names thing (w ∷ ws) s h = here-names thing ws (with_name thing s w) (her
 -- names and the names of the scope are all that matters
 same-here : (s s' : Scope) → s.names ≡ s'.names → s.here ≡ s'.here → InHere s → InHere s'
 same-here s s' e f h = record {
-  nothing = λ id p n. ap (λ (l : List Seen). option_map (λ (x : Seen). x.thing) (find (λ x. x.name == id.0) l)) (sym e) ∙ h.nothing id p (ap (λ l. is_among l id.0) f ∙ n);
+  nothing = λ id p n. ap (λ (l : List NameMeaning). option_map (λ (x : NameMeaning). x.thing) (find (λ x. x.name == id.0) l)) (sym e) ∙ h.nothing id p (ap (λ l. is_among l id.0) f ∙ n);
 }
 
 pub here-decl : (d : PDecl) (s : Scope) → InHere s → InHere (after_decl s d)
@@ -151,7 +151,7 @@ used-more s n id h = by_test (is_predefined id.0) h
 taken-name : (thing : Thing) (w : Word) (s : Scope) (id : NameId) → (w.name.0 == id.0) ≡ false → IsTaken s id → IsTaken (with_name thing s w) id
 taken-name thing w s id e h = record { used = used-more s w.name.0 id h.used; free = by_test (w.name.0 == id.0) e }
   where
-    by_test : (b : Bool) → b ≡ false → valued (option_map (λ (x : Seen). x.thing) (if b then Some (seen_as thing w.name.0) else find (λ x. x.name == id.0) s.names)) ≡ None
+    by_test : (b : Bool) → b ≡ false → valued (option_map (λ (x : NameMeaning). x.thing) (if b then Some (seen_as thing w.name.0) else find (λ x. x.name == id.0) s.names)) ≡ None
     by_test true f = absurd (true≢false f)
     by_test false f = h.free
 
@@ -169,7 +169,7 @@ unused-others s (w ∷ ws) id h u = (other s.here w.name.0 id.0 u.0.0 u.0.1 h.us
 same-taken : (s s' : Scope) (id : NameId) → s.names ≡ s'.names → s.here ≡ s'.here → IsTaken s id → IsTaken s' id
 same-taken s s' id e f h = record {
   used = ap (λ l. is_predefined id.0 || is_among l id.0) (sym f) ∙ h.used;
-  free = ap (λ (l : List Seen). valued (option_map (λ (x : Seen). x.thing) (find (λ x. x.name == id.0) l))) (sym e) ∙ h.free;
+  free = ap (λ (l : List NameMeaning). valued (option_map (λ (x : NameMeaning). x.thing) (find (λ x. x.name == id.0) l))) (sym e) ∙ h.free;
 }
 
 others-taken : (d : PDecl) (s : Scope) (id : NameId) → AreOthers id (names_declared d) → IsTaken s id → IsTaken (after_decl s d) id

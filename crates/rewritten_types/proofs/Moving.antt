@@ -7,18 +7,18 @@ use Rattle.ada_tree.specs.declared.static_types.Kind.TheVariants.{Enumeration}
 use Rattle.ada_tree.specs.TypeTable.{TypeTable}
 use Rattle.ada_tree.specs.PlainExpr.{PBounds, PSubind, PDrange}
 use Rattle.ada_tree.specs.PlainDecl.{PShape, OPlain, OArray, PInit, IOne, IList, IOthers, PTask, PDecl, DNumber, DObject, DEnumeration, DArray, DSubtype, DException, DIntIo, DPragma, DTask, DTaskBody}
-use Rattle.ada_tree.specs.Scope.{Scope, Range, EntryPart, Seen, Thing, TypeMark, TaskType, SingleTask, TaskObject, TaskArray, Variable, ConstantObject, Parameter, LoopParameter, Literal, AnException, MainProcedure, AnotherUnit, Unclear, Marking, ScalarMark, ArrayMark, TaskMark, NoMark, UnknownMark, UnclearMark, marking_of, marking, range_of_mark, meaning, integer_kind, and_then}
-use Rattle.ada_tree.specs.Declaring.{seen_as, with_name, with_names, with_types, add_kind, Made, made, made_none, subind_made, made_subind, drange_range, made_array, object_of, task_object, task_array, Declared, of_made, plain_object, array_object, declared_object, add_constants, kind_at_mark, constant_mark, initial_value, constant_value, with_constants, after_object, after_enumeration, type_of_mark, after_type, made_named_array, renamed, made_subtype, task_thing, after_decl}
+use Rattle.ada_tree.specs.Scope.{Scope, Range, EntryPart, NameMeaning, Thing, TypeMark, TaskType, SingleTask, TaskObject, TaskArray, Variable, ConstantObject, Parameter, LoopParameter, Literal, AnException, MainProcedure, AnotherUnit, Unclear, Marking, ScalarMark, ArrayMark, TaskMark, NoMark, UnknownMark, UnclearMark, marking_of, marking, range_of_mark, meaning, integer_kind, and_then}
+use Rattle.ada_tree.specs.Declaring.{seen_as, with_name, with_names, with_types, add_kind, Made, made, made_none, subind_made, made_subind, drange_range, made_array, object_meaning, task_object, task_array, Declared, of_made, plain_object, array_object, declared_object, add_constants, kind_at_mark, constant_mark, initial_value, constant_value, with_constants, after_object, after_enumeration, type_of_mark, after_type, made_named_array, renamed, made_subtype, task_thing, after_decl}
 use Rattle.rewritten_types.specs.Rewriting.{valued, IsFree, AreFree, mark_of, IsFirst}
 use Rattle.rewritten_types.proofs.Closing.{Close, typed, typed-valued, typed-alike, static-alike, made-alike, drange-alike}
 
 -- ---- names
 
 -- what a name means behind a new one, by the test whether it is that one
-abbrev behind_name : Bool → Thing → ℕ → Option Seen → Option Thing
+abbrev behind_name : Bool → Thing → ℕ → Option NameMeaning → Option Thing
 behind_name b thing n o = option_map (λ s. s.thing) (if b then Some (seen_as thing n) else o)
 
-same-behind : (b : Bool) (thing thing' : Thing) (n : ℕ) (o o' : Option Seen) → valued (Some thing) ≡ valued (Some thing') →
+same-behind : (b : Bool) (thing thing' : Thing) (n : ℕ) (o o' : Option NameMeaning) → valued (Some thing) ≡ valued (Some thing') →
     valued (option_map (λ s. s.thing) o) ≡ valued (option_map (λ s. s.thing) o') →
     valued (behind_name b thing n o) ≡ valued (behind_name b thing' n o')
 same-behind true thing thing' n o o' e f = e
@@ -82,7 +82,7 @@ abbrev pub valued_of : Declared → Valued
 valued_of d = record { types = d.types; thing = valued (Some d.thing) }
 
 -- what has no mark means no value
-markless : (constant : Bool) → valued (Some (object_of constant None)) ≡ None
+markless : (constant : Bool) → valued (Some (object_meaning constant None)) ≡ None
 markless true = refl
 markless false = refl
 
@@ -209,7 +209,7 @@ enumeration_table T w literals =
 module _ (s s' : Scope) (close : Close s s') where
   plain-alike : (constant : Bool) (m : Marking) (x : PSubind) → valued_of (plain_object s constant m x) ≡ valued_of (plain_object s' constant m x)
   plain-alike constant (TaskMark entries) x = ap₂ (λ T o. record { types = T; thing = o }) close.types (no_task_value s.in_main entries ∙ sym (no_task_value s'.in_main entries))
-  plain-alike constant (ArrayMark m r part) x = ap (λ T. valued_of record { types = T; thing = object_of constant (Some m) }) close.types
+  plain-alike constant (ArrayMark m r part) x = ap (λ T. valued_of record { types = T; thing = object_meaning constant (Some m) }) close.types
   plain-alike constant (ScalarMark m k) x = ap (λ d. valued_of (of_made constant d)) (made-alike s s' close x)
   plain-alike constant NoMark x = ap (λ d. valued_of (of_made constant d)) (made-alike s s' close x)
   plain-alike constant UnknownMark x = ap (λ d. valued_of (of_made constant d)) (made-alike s s' close x)

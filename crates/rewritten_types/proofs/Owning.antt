@@ -11,7 +11,7 @@ use Rattle.ada_tree.specs.TypeTable.{TypeTable}
 use Rattle.ada_tree.specs.PlainDecl.{PDecl, DNumber, DObject, DEnumeration, DArray, DSubtype, DException, DIntIo, DPragma, DTask, DTaskBody, PDecls, no_decl, decl_then}
 use Rattle.ada_tree.specs.Scope.{Scope}
 use Rattle.ada_tree.specs.Declaring.{predefined_types, first_scope, with_name, with_types, add_kind, made, after_decl, after_decls}
-use Rattle.rewritten_types.specs.Agreement.{scalar_only, Grows, Keeps, IsScalar, mark_of_kind, Whole}
+use Rattle.rewritten_types.specs.Agreement.{scalar_only, Grows, Keeps, IsScalar, mark_of_kind, WholeTable}
 use Rattle.rewritten_types.specs.Rewriting.{IsNew}
 use Rattle.rewritten_types.proofs.Lookups.{find-grown, find-last, earlier-or-last}
 use Rattle.rewritten_types.proofs.Keeping.{grows-on, grows-kind, grows-mark}
@@ -22,7 +22,7 @@ pub own-kept : (T U : TypeTable) → Grows T U → (k : ℕ) (m : Mark) → mark
 own-kept T U g k m e = find-grown (λ x. x.kind == k) T.marks U.marks g.mark m e
 
 -- a table that keeps such a one is such a one
-whole-kept : (old : ℕ → Bool) (T U : TypeTable) → Keeps old T U → Whole T → Whole U
+whole-kept : (old : ℕ → Bool) (T U : TypeTable) → Keeps old T U → WholeTable T → WholeTable U
 whole-kept old T U keeps w = record {
   integers = keeps.grows.kind 0 _ w.integers;
   truths = keeps.grows.kind 1 _ w.truths;
@@ -38,7 +38,7 @@ all-new [] = tt
 all-new (w ∷ ws) = (refl, all-new ws)
 
 -- an enumeration comes with its mark
-enumeration-whole : (T : TypeTable) (x : Kind) (m : Mark) → m.kind ≡ length T.kinds → Whole T → Whole (made (add_kind T x) m).types
+enumeration-whole : (T : TypeTable) (x : Kind) (m : Mark) → m.kind ≡ length T.kinds → WholeTable T → WholeTable (made (add_kind T x) m).types
 enumeration-whole T x m e w = record { integers = g.kind 0 _ w.integers; truths = g.kind 1 _ w.truths; own = own }
   where
     U : TypeTable
@@ -54,9 +54,9 @@ enumeration-whole T x m e w = record { integers = g.kind 0 _ w.integers; truths 
         (λ last. find-last (λ (y : Mark). y.kind == k) T.marks m (eq-eqb m.kind k (e ∙ sym last)))
         (earlier-or-last T.kinds x k)
 
-whole-decl : (d : PDecl) (s : Scope) → Whole s.types → Whole (after_decl s d).types
+whole-decl : (d : PDecl) (s : Scope) → WholeTable s.types → WholeTable (after_decl s d).types
 whole-decl (DEnumeration name literals sp) s w =
-    subst Whole (sym (names-types _ literals (with_name _ (with_types _ s) name))) (enumeration-whole s.types (Enumeration (map (λ l. l.name) literals)) _ refl w)
+    subst WholeTable (sym (names-types _ literals (with_name _ (with_types _ s) name))) (enumeration-whole s.types (Enumeration (map (λ l. l.name) literals)) _ refl w)
 whole-decl (DNumber name e sp) s w = whole-kept nobody _ _ (keeps-decl (DNumber name e sp) s refl) w
 whole-decl (DObject names constant shape init sp) s w = whole-kept nobody _ _ (keeps-decl (DObject names constant shape init sp) s (all-new names)) w
 whole-decl (DArray name index x sp) s w = whole-kept nobody _ _ (keeps-decl (DArray name index x sp) s refl) w
@@ -67,7 +67,7 @@ whole-decl (DPragma e sp) s w = w
 whole-decl (DTask t sp) s w = w
 whole-decl (DTaskBody name objects its sp) s w = whole-kept nobody _ _ (keeps-decl (DTaskBody name objects its sp) s tt) w
 
-pub whole-decls : (ds : PDecls) (s : Scope) → Whole s.types → Whole (after_decls s ds).types
+pub whole-decls : (ds : PDecls) (s : Scope) → WholeTable s.types → WholeTable (after_decls s ds).types
 whole-decls no_decl s w = w
 whole-decls (decl_then d rest) s w = whole-decls rest (after_decl s d) (whole-decl d s w)
 
@@ -77,5 +77,5 @@ first-own zero h = (_, refl)
 first-own (suc zero) h = (_, refl)
 first-own (suc (suc k)) h = absurd (none-some h.0 h.1)
 
-pub whole-first : (name : Word) → Whole (first_scope name).types
+pub whole-first : (name : Word) → WholeTable (first_scope name).types
 whole-first name = record { integers = refl; truths = refl; own = first-own }

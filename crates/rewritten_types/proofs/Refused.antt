@@ -7,7 +7,7 @@ use Rattle.ada_tree.specs.PlainDecl.{PDecl, DNumber, DObject, DEnumeration, DArr
 use Rattle.ada_tree.specs.Scope.{Scope}
 use Rattle.ada_tree.specs.Demand.{Demand, declares, Site}
 use Rattle.ada_tree.specs.Sites.{names_sites, decl_sites, decls_sites, body_sites, sites}
-use Rattle.ada_tree.specs.Declaring.{first_scope, after_decl, inside, after_decls}
+use Rattle.ada_tree.specs.Declaring.{first_scope, after_decl, inner_scope, after_decls}
 use Rattle.ada_tree.specs.RuleDuplicate.{is_predefined, is_among, fixes, introduces, at_word, duplicate}
 use Rattle.ada_tree.specs.Refusals.{refused_at, refused_from}
 use Rattle.rewritten_types.specs.Rewriting.{names_declared, IsUnused, DeclareOnce}
@@ -91,4 +91,4 @@ decls-once (decl_then d rest) s h = (decl-once d s (all_front IsOnce (decl_sites
 pub declared_once : DeclaredOnce
 declared_once p e =
     let h : AllByRecursion IsOnce (sites p) = all-once (sites p) [] e in
-    (h.0, decls-once p.decls (first_scope p.name) (all_front IsOnce (decls_sites (first_scope p.name) p.decls) (body_sites (inside (after_decls (first_scope p.name) p.decls)) p.body) h.1))
+    (h.0, decls-once p.decls (first_scope p.name) (all_front IsOnce (decls_sites (first_scope p.name) p.decls) (body_sites (inner_scope (after_decls (first_scope p.name) p.decls)) p.body) h.1))

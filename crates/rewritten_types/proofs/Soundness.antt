@@ -12,7 +12,7 @@ use Rattle.ada_tree.specs.PlainExpr.{PBounds, PSubind, PDrange}
 use Rattle.ada_tree.specs.PlainDecl.{PShape, OPlain, OArray, PInit, PDecl, DNumber, DObject, DEnumeration, DArray, DSubtype, DException, DIntIo, DPragma, DTask, DTaskBody, PDecls, no_decl, decl_then}
 use Rattle.ada_tree.specs.Scope.{Scope, Range, EntryPart, Thing, TypeMark, TaskType, SingleTask, TaskObject, TaskArray, Variable, ConstantObject, Parameter, LoopParameter, Literal, AnException, MainProcedure, AnotherUnit, Unclear, Marking, ScalarMark, ArrayMark, TaskMark, NoMark, UnknownMark, UnclearMark, kind_at, mark_at, marking_of_kind, marking_of_mark, marking_of, marking, meaning, range_of_mark, integer_kind, and_then}
 use Rattle.ada_tree.specs.ExprTypes.{static_in, range_between}
-use Rattle.ada_tree.specs.Declaring.{first_scope, with_name, with_names, with_types, add_mark, add_kind, Made, made, made_range, subind_made, made_subind, drange_range, made_array, object_of, task_object, task_array, Declared, of_made, plain_object, array_object, declared_object, constants_for, add_constants, constant_mark, constant_value, with_constants, after_object, renamed, in_body, after_own_object, after_objects, after_decl, after_decls}
+use Rattle.ada_tree.specs.Declaring.{first_scope, with_name, with_names, with_types, add_mark, add_kind, Made, made, made_range, subind_made, made_subind, drange_range, made_array, object_meaning, task_object, task_array, Declared, of_made, plain_object, array_object, declared_object, constants_for, add_constants, constant_mark, constant_value, with_constants, after_object, renamed, in_body, after_own_object, after_objects, after_decl, after_decls}
 use Rattle.rewritten_types.specs.Agreement.{HasKind, HasMark, Grows, HasPart, Sound}
 use Rattle.rewritten_types.proofs.Lookups.{place-all}
 use Rattle.rewritten_types.proofs.Keeping.{grows-mark, grows-kind}
@@ -138,7 +138,7 @@ sound-array name T None part s h = (s, tt)
 abbrev IsDeclared : Declared → Type 0
 IsDeclared d = Sound d.types × HasIf d.types (constant_mark d.thing)
 
-object-mark : (T : TypeTable) (constant : Bool) (m : Option ℕ) → HasIf T m → HasIf T (constant_mark (object_of constant m))
+object-mark : (T : TypeTable) (constant : Bool) (m : Option ℕ) → HasIf T m → HasIf T (constant_mark (object_meaning constant m))
 object-mark T true (Some m) h = h
 object-mark T false (Some m) h = tt
 object-mark T true None h = tt

@@ -9,7 +9,7 @@ use Rattle.ada_tree.specs.declared.static_types.Kind.TheVariants.{Enumeration}
 use Rattle.ada_tree.specs.declared.static_types.Mark.{Mark}
 use Rattle.ada_tree.specs.TypeTable.{TypeTable}
 use Rattle.ada_tree.specs.PlainDecl.{PShape, PInit, PDecl, DNumber, DObject, DEnumeration, DArray, DSubtype, DException, DIntIo, DPragma, DTask, DTaskBody, PDecls, no_decl, decl_then}
-use Rattle.ada_tree.specs.Scope.{Scope, Range, Seen, Thing, TypeMark, MainProcedure, meaning, integer_kind, range_of_mark, and_then}
+use Rattle.ada_tree.specs.Scope.{Scope, Range, NameMeaning, Thing, TypeMark, MainProcedure, meaning, integer_kind, range_of_mark, and_then}
 use Rattle.ada_tree.specs.StaticValue.{is_named, mark_named}
 use Rattle.ada_tree.specs.ExprTypes.{static_in}
 use Rattle.ada_tree.specs.Declaring.{predefined_types, predefined_names, before_all, seen_as, first_scope, with_name, with_names, with_types, add_kind, made, made_subind, drange_range, made_array, declared_object, add_constants, constant_mark, constant_value, with_constants, after_object, type_of_mark, renamed, in_body, after_decl, after_decls}
@@ -24,8 +24,8 @@ use Rattle.common_lemmas.proofs.Lists.{found_none}
 -- ---- what is free was free
 
 -- what a name means behind a new one, by the test whether it is that one
-abbrev through : Bool → Thing → ℕ → Option Seen → Option Thing
-through b thing n o = valued (option_map (λ (x : Seen). x.thing) (if b then Some (seen_as thing n) else o))
+abbrev through : Bool → Thing → ℕ → Option NameMeaning → Option Thing
+through b thing n o = valued (option_map (λ (x : NameMeaning). x.thing) (if b then Some (seen_as thing n) else o))
 
 -- the table behind an enumeration
 abbrev enumeration_types : Scope → Word → List Word → TypeTable
@@ -40,7 +40,7 @@ module _ (s0 : Scope) (here : InHere s0) where
   name-before : (thing : Thing) (w : Word) (s : Scope) → IsUnused s0 w → WereFree s → WereFree (with_name thing s w)
   name-before thing w s u h id free = by_test (w.name.0 == id.0) refl free
     where
-      by_test : (b : Bool) → (w.name.0 == id.0) ≡ b → through b thing w.name.0 (find (λ (x : Seen). x.name == id.0) s.names) ≡ None → IsFree s0 id
+      by_test : (b : Bool) → (w.name.0 == id.0) ≡ b → through b thing w.name.0 (find (λ (x : NameMeaning). x.name == id.0) s.names) ≡ None → IsFree s0 id
       by_test true e f = subst (λ n. valued (meaning s0 record { 0 = n }) ≡ None) (eqb-true w.name.0 id.0 e) (unused-free s0 w here u)
       by_test false e f = h id f
 
@@ -85,7 +85,7 @@ object-marks s names constant shape init id =
     ∙ (keeps-shape {old = anybody} s constant shape).marks id refl
 
 -- a name that means no value is not that of a type
-not-type : (b : Bool) (m n : ℕ) (o : Option Seen) → through b (TypeMark m) n o ≡ None → b ≡ false
+not-type : (b : Bool) (m n : ℕ) (o : Option NameMeaning) → through b (TypeMark m) n o ≡ None → b ≡ false
 not-type true m n o e = absurd (none-some (TypeMark m) (sym e))
 not-type false m n o e = refl
 
@@ -93,13 +93,13 @@ not-type false m n o e = refl
 pub other-mark : (marks : List Mark) (m : Mark) (id : NameId) → is_named id m.name ≡ false → find (λ (x : Mark). is_named id x.name) (marks ++ m ∷ []) ≡ find (λ (x : Mark). is_named id x.name) marks
 other-mark marks m id e = find-more (λ x. is_named id x.name) marks (m ∷ []) (ap (λ b. if b then Some m else None) e)
 
-array-marks : (w : Word) (T : TypeTable) (r : Option Range) (part : Option ℕ) (o : Option Seen) (id : NameId) →
+array-marks : (w : Word) (T : TypeTable) (r : Option Range) (part : Option ℕ) (o : Option NameMeaning) (id : NameId) →
     through (w.name.0 == id.0) (type_of_mark (made_array (Some w.name) T r part).mark) w.name.0 o ≡ None → mark_named (made_array (Some w.name) T r part).types id ≡ mark_named T id
 array-marks w T (Some r) (Some part) o id e = other-mark T.marks _ id (not-type (w.name.0 == id.0) (length T.marks) w.name.0 o e)
 array-marks w T (Some r) None o id e = refl
 array-marks w T None part o id e = refl
 
-renamed-marks : (w : Word) (T : TypeTable) (r : Option Range) (o : Option Seen) (id : NameId) →
+renamed-marks : (w : Word) (T : TypeTable) (r : Option Range) (o : Option NameMeaning) (id : NameId) →
     through (w.name.0 == id.0) (type_of_mark (renamed w T r).mark) w.name.0 o ≡ None → mark_named (renamed w T r).types id ≡ mark_named T id
 renamed-marks w T (Some r) o id e = other-mark T.marks _ id (not-type (w.name.0 == id.0) (length T.marks) w.name.0 o e)
 renamed-marks w T None o id e = refl
@@ -109,7 +109,7 @@ literals-before : (thing : Thing) (ws : List Word) (s : Scope) (id : NameId) →
 literals-before thing [] s id no_value e = e
 literals-before thing (w ∷ ws) s id no_value e = by_test (w.name.0 == id.0) (literals-before thing ws (with_name thing s w) id no_value e)
   where
-    by_test : (b : Bool) → through b thing w.name.0 (find (λ (x : Seen). x.name == id.0) s.names) ≡ None → IsFree s id
+    by_test : (b : Bool) → through b thing w.name.0 (find (λ (x : NameMeaning). x.name == id.0) s.names) ≡ None → IsFree s id
     by_test true f = absurd (no_value f)
     by_test false f = f
 
@@ -119,13 +119,13 @@ decl-marks (DNumber name e sp) s id f = add-marks (name ∷ []) (Some 0) (static
 decl-marks (DObject names constant shape init sp) s id f = object-marks s names constant shape init id
 decl-marks (DEnumeration name literals sp) s id f =
     ap (λ T. mark_named T id) (names-types _ literals (with_name _ (with_types _ s) name))
-    ∙ other-mark s.types.marks _ id (not-type (name.name.0 == id.0) (length s.types.marks) name.name.0 (find (λ (x : Seen). x.name == id.0) s.names)
+    ∙ other-mark s.types.marks _ id (not-type (name.name.0 == id.0) (length s.types.marks) name.name.0 (find (λ (x : NameMeaning). x.name == id.0) s.names)
     (literals-before _ literals (with_name _ (with_types _ s) name) id (λ e. none-some _ (sym e)) f))
 decl-marks (DArray name index x sp) s id f =
-    array-marks name (made_subind s x).types (drange_range s index) (made_subind s x).mark (find (λ (x : Seen). x.name == id.0) s.names) id f
+    array-marks name (made_subind s x).types (drange_range s index) (made_subind s x).mark (find (λ (x : NameMeaning). x.name == id.0) s.names) id f
     ∙ (keeps-subind {old = anybody} s x).marks id refl
 decl-marks (DSubtype name x sp) s id f =
-    renamed-marks name (made_subind s x).types (and_then (range_of_mark (made_subind s x).types) (made_subind s x).mark) (find (λ (x : Seen). x.name == id.0) s.names) id f
+    renamed-marks name (made_subind s x).types (and_then (range_of_mark (made_subind s x).types) (made_subind s x).mark) (find (λ (x : NameMeaning). x.name == id.0) s.names) id f
     ∙ (keeps-subind {old = anybody} s x).marks id refl
 decl-marks (DException names sp) s id f = ap (λ T. mark_named T id) (names-types _ names s)
 decl-marks (DIntIo name sp) s id f = refl
@@ -162,7 +162,7 @@ types-free (suc (suc (suc (suc n)))) f = no-type (suc (suc (suc (suc n)))) (omeg
 pub first-unmarked : (name : Word) → is_predefined name.name.0 ≡ false → AreUnmarked (first_scope name)
 first-unmarked name u id f = by_test (name.name.0 == id.0) refl f
   where
-    by_test : (b : Bool) → (name.name.0 == id.0) ≡ b → through b MainProcedure name.name.0 (find (λ (x : Seen). x.name == id.0) predefined_names) ≡ None → mark_named predefined_types id ≡ None
+    by_test : (b : Bool) → (name.name.0 == id.0) ≡ b → through b MainProcedure name.name.0 (find (λ (x : NameMeaning). x.name == id.0) predefined_names) ≡ None → mark_named predefined_types id ≡ None
     by_test true e g =
         let l : 18 ≤ name.name.0 = ltb-false name.name.0 18 u in
         let same : name.name.0 ≡ id.0 = eqb-true name.name.0 id.0 e in

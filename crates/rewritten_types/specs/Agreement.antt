@@ -77,7 +77,7 @@ abbrev pub mark_of_kind : TypeTable → ℕ → Option Mark
 mark_of_kind T k = find (λ m. m.kind == k) T.marks
 
 -- The first kinds are those of INTEGER and BOOLEAN (3.5.3, 3.5.4), and each kind of values has a mark.
-pub record Whole (T : TypeTable) : Type 0 where
+pub record WholeTable (T : TypeTable) : Type 0 where
   pub integers : kind_at T integer_kind ≡ Some Integer
   pub truths : kind_at T truth_kind ≡ Some Truth
   pub own : (k : ℕ) → IsScalar T k → (m : Mark) × (mark_of_kind T k ≡ Some m)
@@ -85,7 +85,7 @@ pub record Whole (T : TypeTable) : Type 0 where
 -- Two tables have one sound table in common, from which both differ in nothing that an old name could mean.
 pub record Rooted (old : ℕ → Bool) (root T U : TypeTable) : Type 0 where
   pub sound : Sound root
-  pub whole : Whole root
+  pub whole : WholeTable root
   pub left : Keeps old root T
   pub right : Keeps old root U
 

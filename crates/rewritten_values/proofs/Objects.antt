@@ -17,7 +17,7 @@ use Rattle.ada_value.specs.declared.values.Value.{Value}
 use Rattle.ada_value.specs.declared.values.Form.{Form}
 use Rattle.ada_value.specs.declared.values.Limits.{Limits}
 use Rattle.ada_value.specs.declared.values.Raised.{Raised}
-use Rattle.ada_value.specs.Values.{position_of, lies_in, lower, limits_of, limits_or}
+use Rattle.ada_value.specs.Values.{position_of, lies_in, lower_bound, limits_of, limits_or}
 use Rattle.ada_value.specs.Variables.{Variables, form_of_kind, form_of_mark, object_with}
 use Rattle.ada_value.specs.Evaluating.{evaluated}
 use Rattle.task_model.specs.Starting.{known_range, indicated, marked_form, plain_form, array_form, form_of, value_or_lower, initial, value_count, initials, object_of, with_objects, is_in_types, declared_objects, after_declaration, objects_of}
@@ -66,7 +66,7 @@ module _ (old : ℕ → Bool) (T U : TypeTable) (h : Agrees old T U) where
 
   -- ---- initial values
 
-  lower-alike : (l : Limits) → lower T l ≡ lower U l
+  lower-alike : (l : Limits) → lower_bound T l ≡ lower_bound U l
   lower-alike l = values-alike old T U h l.kind l.first
 
   value-alike : (l : Limits) (r : Result Value Raised) → value_or_lower T l r ≡ value_or_lower U l r

@@ -2,8 +2,8 @@
 use Rattle.std.specs.Prelude.{ℕ, List, slice_index_or}
 use Rattle.event_machine.specs.States as seats
 use Rattle.task_model.specs.Starting.{nobody}
-use Rattle.task_model.specs.Machine.{Whole}
+use Rattle.task_model.specs.Machine.{MachineState}
 
 -- The bytes that the task of this number has written; a number that is no task's has none.
-abbrev pub output_of : Whole → ℕ → List ℕ
+abbrev pub output_of : MachineState → ℕ → List ℕ
 output_of m t = (slice_index_or m.state.seats t (seats.completed nobody)).local.output

@@ -8,7 +8,7 @@ use Rattle.event_machine.specs.declared.Event.{Event}
 use Rattle.syn_event.specs.Numbering.{Numbering}
 use Rattle.seq_file.specs.declared.lines.Verdict.TheVariants.{Known, BadNumber}
 use Rattle.text_lines.specs.Capped.{capped, capped_integer}
-use Rattle.seq_file.specs.Known.{is_task, is_member, is_call, is_index, is_known}
+use Rattle.seq_file.specs.Known.{is_task, is_known_member, is_call, is_index, is_known}
 use Rattle.seq_file.specs.Lines.{with_three}
 use Rattle.seq_file.specs.inner.Verdicts.{verdict_of}
 use Rattle.text_lines.proofs.Capping.{some-is, capped-le}
@@ -32,17 +32,17 @@ three-read numbers make ht he is (Some x) (Some y) (Some z) m n j a b i k hc h' 
     let en : n ≡ capped y = some-is h' in
     let ej : j ≡ capped_integer z = integer-is hi in
     let tasks : IsTest (is_task numbers) = task-test numbers ht in
-    let members : IsTest (λ e. is_member numbers e z) = member-test numbers z he in
-    let kk : k ≡ (is_task numbers x && is_member numbers y z) =
-    ek z ej ∙ ap (λ t. is_task numbers t && is_member numbers n z) em ∙ ap (λ t. is_task numbers (capped x) && is_member numbers t z) en
-    ∙ ap (λ t. t && is_member numbers (capped y) z) (tasks.same x) ∙ ap (λ t. is_task numbers x && t) (members.same y) in
-    elim (cases_Bool (is_task numbers x && is_member numbers y z)) [
+    let members : IsTest (λ e. is_known_member numbers e z) = member-test numbers z he in
+    let kk : k ≡ (is_task numbers x && is_known_member numbers y z) =
+    ek z ej ∙ ap (λ t. is_task numbers t && is_known_member numbers n z) em ∙ ap (λ t. is_task numbers (capped x) && is_known_member numbers t z) en
+    ∙ ap (λ t. t && is_known_member numbers (capped y) z) (tasks.same x) ∙ ap (λ t. is_task numbers x && t) (members.same y) in
+    elim (cases_Bool (is_task numbers x && is_known_member numbers y z)) [
       | inl e ↦
           let index : is_index j ≡ true = small (kk ∙ e) in
           let whole : is_index z ≡ true = sym (index-same z) ∙ ap is_index (sym ej) ∙ index in
           ap (λ t. cond t (Known (make a b i)) BadNumber) (kk ∙ e)
-          ∙ ap (λ t. Known (make t b i)) (low-is x m a em (tasks.small x (and_parts (is_task numbers x) (is_member numbers y z) e).0) ea)
-          ∙ ap (λ t. Known (make x t i)) (low-is y n b en (members.small y (and_parts (is_task numbers x) (is_member numbers y z) e).1) eb)
+          ∙ ap (λ t. Known (make t b i)) (low-is x m a em (tasks.small x (and_parts (is_task numbers x) (is_known_member numbers y z) e).0) ea)
+          ∙ ap (λ t. Known (make x t i)) (low-is y n b en (members.small y (and_parts (is_task numbers x) (is_known_member numbers y z) e).1) eb)
           ∙ ap (λ t. Known (make x y t)) (ei (index-fits j index) ∙ ej ∙ index-exact z whole)
           ∙ sym (ap (λ t. cond t (Known (make x y z)) BadNumber) (is x y z ∙ e))
       | inr e ↦

@@ -10,7 +10,7 @@ use Rattle.std.proofs.lemmas.List.{length-drop}
 use Rattle.std.proofs.lemmas.Slice.Eq.{bytes_eq-Decides}
 use Rattle.ded_io.specs.Written.{◌⧺◌}
 use Rattle.syn_event.specs.Numbering.{Numbering, original_tasks, original_entries, is_original_task, is_original_entry}
-use Rattle.syn_event.specs.Units.{text_of}
+use Rattle.syn_event.specs.DeclaredTasks.{text_of}
 use Rattle.seq_file.specs.declared.errors.SeqError.TheVariants.{OtherProgram}
 use Rattle.text_lines.specs.Capped.{capped}
 use Rattle.seq_file.specs.Short.{IsShort}

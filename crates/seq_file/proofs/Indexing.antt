@@ -9,7 +9,7 @@ use Rattle.std.specs.Prelude.{◌&&◌, ◌==◌, int_le, slice_get, FitsSigned}
 use Rattle.syn_event.specs.declared.numbering.EntryInfo.{EntryInfo}
 use Rattle.syn_event.specs.Numbering.{Numbering, entry_at}
 use Rattle.text_lines.specs.Capped.{capped_integer}
-use Rattle.seq_file.specs.Known.{is_index, is_member, fits_entry}
+use Rattle.seq_file.specs.Known.{is_index, is_known_member, fits_entry}
 use Rattle.text_lines.proofs.Capping.{capped-small, capped-large}
 use Rattle.seq_file.proofs.Knowing.{IsTest, test_by}
 
@@ -63,8 +63,8 @@ entry-none numbers e h = elim (cases_Bool (e == 0)) [
 ]
 
 -- the number of an entry does not see the cap either
-pub member-test : (numbers : Numbering) (z : ℤ) → length numbers.entries < 2 ^ 32 → IsTest (λ e. is_member numbers e z)
+pub member-test : (numbers : Numbering) (z : ℤ) → length numbers.entries < 2 ^ 32 → IsTest (λ e. is_known_member numbers e z)
 member-test numbers z h =
-    test_by (λ e. is_member numbers e z) (λ e ge. ap (λ o. option_map_or (fits_entry z) o false) (entry-none numbers e (omega (arith, h, ge))))
+    test_by (λ e. is_known_member numbers e z) (λ e ge. ap (λ o. option_map_or (fits_entry z) o false) (entry-none numbers e (omega (arith, h, ge))))
 
 pub ruleset indexing = (fits-index, index-exact)

@@ -10,7 +10,7 @@ use Rattle.seq_file.specs.Lines.{name_goes_on, is_name_part, is_upper_name}
 use Rattle.common_lemmas.specs.Following.{every, begins}
 use Rattle.syn_event.specs.declared.numbering.Mode.{Mode}
 use Rattle.syn_event.specs.Numbering.{Numbering}
-use Rattle.syn_event.specs.Units.{text_of}
+use Rattle.syn_event.specs.DeclaredTasks.{text_of}
 use Rattle.syn_event.specs.Legal.{Legal}
 use Rattle.syn_event.proofs.NameTexts.{word_there}
 

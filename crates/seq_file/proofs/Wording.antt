@@ -13,10 +13,10 @@ use Rattle.ded_io.specs.Written.{◌⧺◌}
 use Rattle.event_machine.specs.declared.Event.{Event}
 use Rattle.event_machine.specs.declared.Event.TheVariants.{R, E, S, D, C, T, F, X, B, Z}
 use Rattle.syn_event.specs.declared.numbering.EntryInfo.{EntryInfo}
-use Rattle.syn_event.specs.EventText.{event_text, call_text, one_text, two_text}
+use Rattle.syn_event.specs.EventText.{event_text, call_event_text, one_text, two_text}
 use Rattle.syn_event.specs.Numbering.{Numbering, entry_at}
 use Rattle.seq_file.specs.Short.{IsShort}
-use Rattle.seq_file.specs.Known.{is_task, is_task_beside_main, is_alternative, is_member, is_call, is_index, is_known, fits_entry}
+use Rattle.seq_file.specs.Known.{is_task, is_task_beside_main, is_alternative, is_known_member, is_call, is_index, is_known, fits_entry}
 use Rattle.text_lines.specs.Lines.{is_blank, words_of}
 use Rattle.seq_file.specs.Lines.{with_two, with_three, lone_event, task_event, pair_event, call_event, event_of_words, event_of_line}
 use Rattle.text_lines.specs.Numerals.{count, integer}
@@ -33,7 +33,7 @@ index-of : (o : Option EntryInfo) (i : ℤ) → option_map_or (fits_entry i) o f
 index-of None i h = clash h
 index-of (Some info) i h = fits-index i info h
 
-member-index : (numbers : Numbering) (e : ℕ) (i : ℤ) → is_member numbers e i ≡ true → is_index i ≡ true
+member-index : (numbers : Numbering) (e : ℕ) (i : ℤ) → is_known_member numbers e i ≡ true → is_index i ≡ true
 member-index numbers e i h = index-of (entry_at numbers e) i h
 
 -- the numbers of a call that the program has are small
@@ -44,9 +44,9 @@ record IsSmallCall (c e : ℕ) (i : ℤ) : Type 0 where
 
 call-small : (numbers : Numbering) → IsShort numbers → (c e : ℕ) (i : ℤ) → is_call numbers c e i ≡ true → IsSmallCall c e i
 call-small numbers short c e i h =
-    let both = and_parts (is_task numbers c) (is_member numbers e i) h in
+    let both = and_parts (is_task numbers c) (is_known_member numbers e i) h in
     let tasks : IsTest (is_task numbers) = task-test numbers short.tasks in
-    let members : IsTest (λ k. is_member numbers k i) = member-test numbers i short.entries in
+    let members : IsTest (λ k. is_known_member numbers k i) = member-test numbers i short.entries in
     record {
       caller = wide c (tasks.small c both.0);
       entry = wide e (members.small e both.1);
@@ -77,7 +77,7 @@ two-text : (l m n : ℕ) → two_text (l ∷ 32 ∷ []) m n ≡ l ∷ 32 ∷ (de
 unfolding ◌⧺◌
 two-text l m n = refl
 
-call-text : (l c e : ℕ) (i : ℤ) → call_text (l ∷ 32 ∷ []) c e i ≡ l ∷ 32 ∷ (decimal c ++ (32 ∷ (decimal e ++ (32 ∷ signed_decimal i))))
+call-text : (l c e : ℕ) (i : ℤ) → call_event_text (l ∷ 32 ∷ []) c e i ≡ l ∷ 32 ∷ (decimal c ++ (32 ∷ (decimal e ++ (32 ∷ signed_decimal i))))
 unfolding ◌⧺◌
 call-text l c e i = refl
 
@@ -95,7 +95,7 @@ two-words l m n h hm hn =
     ∙ ap (λ t. (l ∷ []) ∷ t) (slice_split_at is_blank (decimal m) 32 (decimal n) (decimal-free 32 m (omega arith) hm) refl)
     ∙ ap (λ t. (l ∷ []) ∷ decimal m ∷ t) (slice_split_none is_blank (decimal n) (decimal-free 32 n (omega arith) hn))
 
-call-words : (l c e : ℕ) (i : ℤ) → (l == 32) ≡ false → IsSmallCall c e i → words_of (call_text (l ∷ 32 ∷ []) c e i) ≡ (l ∷ []) ∷ decimal c ∷ decimal e ∷ signed_decimal i ∷ []
+call-words : (l c e : ℕ) (i : ℤ) → (l == 32) ≡ false → IsSmallCall c e i → words_of (call_event_text (l ∷ 32 ∷ []) c e i) ≡ (l ∷ []) ∷ decimal c ∷ decimal e ∷ signed_decimal i ∷ []
 call-words l c e i h small =
     ap words_of (call-text l c e i)
     ∙ slice_split_at is_blank (l ∷ []) 32 (decimal c ++ (32 ∷ (decimal e ++ (32 ∷ signed_decimal i)))) (free-one 32 l h) refl
@@ -136,7 +136,7 @@ two-free l m n h hm hn =
     let both : IsFreeOf 10 (decimal m ++ (32 ∷ decimal n)) = All-append (λ b. (b == 10) ≡ false) (decimal m) (32 ∷ decimal n) (decimal-free 10 m (omega arith) hm) last in
     subst (IsFreeOf 10) (sym (two-text l m n)) (free-cons 10 l (32 ∷ (decimal m ++ (32 ∷ decimal n))) h (free-cons 10 32 (decimal m ++ (32 ∷ decimal n)) refl both))
 
-call-free : (l c e : ℕ) (i : ℤ) → (l == 10) ≡ false → IsSmallCall c e i → IsFreeOf 10 (call_text (l ∷ 32 ∷ []) c e i)
+call-free : (l c e : ℕ) (i : ℤ) → (l == 10) ≡ false → IsSmallCall c e i → IsFreeOf 10 (call_event_text (l ∷ 32 ∷ []) c e i)
 call-free l c e i h small =
     let index : IsFreeOf 10 (32 ∷ signed_decimal i) = free-cons 10 32 (signed_decimal i) refl (signed-free 10 i (omega arith) small.index) in
     let entry : IsFreeOf 10 (decimal e ++ (32 ∷ signed_decimal i)) = All-append (λ b. (b == 10) ≡ false) (decimal e) (32 ∷ signed_decimal i) (decimal-free 10 e (omega arith) small.entry) index in
@@ -196,7 +196,7 @@ two-line numbers make l text small letter a b event hl h known =
     ∙ ap (λ t. l ∷ 32 ∷ (decimal m ++ (32 ∷ t))) (word-of_count b n other fits.1)
     ∙ sym (two-text l m n) ∙ text m n ∙ ap event_text same
 
-call-line : (numbers : Numbering) (make : ℕ → ℕ → ℤ → Event) (l : ℕ) → ((c e : ℕ) (i : ℤ) → call_text (l ∷ 32 ∷ []) c e i ≡ event_text (make c e i)) → ((c e : ℕ) (i : ℤ) → is_known numbers (make c e i) ≡ true → IsSmallCall c e i) →
+call-line : (numbers : Numbering) (make : ℕ → ℕ → ℤ → Event) (l : ℕ) → ((c e : ℕ) (i : ℤ) → call_event_text (l ∷ 32 ∷ []) c e i ≡ event_text (make c e i)) → ((c e : ℕ) (i : ℤ) → is_known numbers (make c e i) ≡ true → IsSmallCall c e i) →
     (letter a b k : List ℕ) (event : Event) → bytes_eq letter (l ∷ []) ≡ true → with_three make (count a) (count b) (integer k) ≡ Some event → is_known numbers event ≡ true → letter ++ (32 ∷ (a ++ (32 ∷ (b ++ (32 ∷ k))))) ≡ event_text event
 call-line numbers make l text small letter a b k event hl h known =
     let (c, e, i, first, second, third, same) = three-case make (count a) (count b) (integer k) event h in

@@ -6,7 +6,7 @@ use Rattle.event_machine.specs.declared.Event.{Event}
 use Rattle.event_machine.specs.declared.Event.TheVariants.{Z}
 use Rattle.syn_event.specs.EventText.{event_text}
 use Rattle.syn_event.specs.Numbering.{Numbering, original_tasks, original_entries}
-use Rattle.syn_event.specs.Units.{text_of}
+use Rattle.syn_event.specs.DeclaredTasks.{text_of}
 use Rattle.seq_file.specs.declared.errors.SeqError.{SeqError}
 use Rattle.seq_file.specs.declared.errors.SeqError.TheVariants.{BadLine, OtherProgram, BadNumber, AfterEnd, TooMany}
 use Rattle.text_lines.specs.Lines.{first_line}

@@ -24,8 +24,8 @@ fits_entry i info =
     is_index i && (if info.family then int_le info.first i && int_le i info.last else int_le (pos 0) i && int_le i (pos 0))
 
 -- the number of an entry, from 1, with the index of a member of it
-abbrev pub is_member : Numbering → ℕ → ℤ → Bool
-is_member numbers e i = option_map_or (fits_entry i) (entry_at numbers e) false
+abbrev pub is_known_member : Numbering → ℕ → ℤ → Bool
+is_known_member numbers e i = option_map_or (fits_entry i) (entry_at numbers e) false
 
 -- a selective wait has at most 32 alternatives
 abbrev pub is_alternative : ℕ → Bool
@@ -33,7 +33,7 @@ is_alternative k = nat_le 1 k && nat_le k 32
 
 -- the numbers of a caller and of an entry, with the index of a member of that entry
 abbrev pub is_call : Numbering → ℕ → ℕ → ℤ → Bool
-is_call numbers c e i = is_task numbers c && is_member numbers e i
+is_call numbers c e i = is_task numbers c && is_known_member numbers e i
 
 -- Each number of the event is one that the program has. Main accepts nothing, has no end of its own, and can't be aborted.
 abbrev pub is_known : Numbering → Event → Bool

@@ -3,7 +3,7 @@
 ghost use Rattle.std.specs.Prelude.{◌≡◌, ◌<◌, ℤ, option_copied, length, ◌^◌, ◌&&◌, true};
 ghost use Rattle.text_lines.specs.Capped.{capped_integer};
 ghost use Rattle.syn_event.specs.Numbering.{entry_at};
-ghost use Rattle.seq_file.specs.Known.{is_task, is_task_beside_main, is_alternative, is_member, is_call, is_index, fits_entry};
+ghost use Rattle.seq_file.specs.Known.{is_task, is_task_beside_main, is_alternative, is_known_member, is_call, is_index, fits_entry};
 
 use syn_event::{EntryInfo, Numbers};
 
@@ -53,7 +53,7 @@ pub(crate) fn is_call(numbers: &Numbers, c: u64, e: u64, i: i64) -> bool
 }
 
 fn is_member(numbers: &Numbers, e: u64, i: i64) -> bool
-    ensures is { (z : ℤ) → i ≡ capped_integer z → result ≡ is_member numbers.now e z }
+    ensures is { (z : ℤ) → i ≡ capped_integer z → result ≡ is_known_member numbers.now e z }
     ensures small { result ≡ true → is_index i ≡ true }
     ensures within { length numbers.now.entries < 2 ^ 32 }
 {

@@ -6,7 +6,7 @@ ghost use Rattle.text_lines.specs.Capped.{capped};
 ghost use Rattle.seq_file.specs.Short.{IsShort};
 ghost use Rattle.seq_file.specs.declared.lines.Verdict.TheVariants.{Known, BadNumber};
 ghost use Rattle.syn_event.specs.Numbering.{original_tasks, original_entries, is_original_task, is_original_entry};
-ghost use Rattle.syn_event.specs.Units.{text_of};
+ghost use Rattle.syn_event.specs.DeclaredTasks.{text_of};
 ghost use Rattle.event_machine.specs.declared.Event.{Event};
 ghost use Rattle.text_lines.specs.Numerals.{count, integer};
 ghost use Rattle.seq_file.specs.Lines.{event_of_line, header_of_line, lone_event, task_event, pair_event, call_event, with_three, header_with, upper_name, is_upper_name, name_goes_on, is_name_part, is_capital};

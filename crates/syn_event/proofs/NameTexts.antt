@@ -3,7 +3,7 @@ use Rattle.std.proofs.Common.{ℕ, List, [], slice_get, unwrap_or, Option, Some,
 use Rattle.std.specs.Option.{IsSomeAnd}
 use Rattle.ada_tree.specs.declared.naming.NameId.{NameId}
 use Rattle.ada_tree.specs.Lexical.{IsIdentifier, is_word}
-use Rattle.syn_event.specs.Units.{text_of}
+use Rattle.syn_event.specs.DeclaredTasks.{text_of}
 
 pub word_there : (names : List (List ℕ)) (id : NameId) → IsSomeAnd (slice_get names id.0) IsIdentifier → IsTrue (is_word (text_of names id))
 word_there names id h = split (slice_get names id.0) h

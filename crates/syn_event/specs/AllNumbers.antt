@@ -7,7 +7,7 @@ use Rattle.ada_tree.specs.TypeTable.{TypeTable}
 use Rattle.syn_event.specs.declared.numbering.TaskInfo.{TaskInfo}
 use Rattle.syn_event.specs.declared.numbering.EntryInfo.{EntryInfo}
 use Rattle.syn_event.specs.Numbering.{Numbering}
-use Rattle.syn_event.specs.Numbered.{is_added_name, with_origins, task_info}
+use Rattle.syn_event.specs.AddedNames.{is_added_name, with_origins, task_info}
 use Rattle.syn_event.specs.Extents.{Extent, extent}
 use Rattle.syn_event.specs.NamedTasks.{NumberedTask, numbered_tasks}
 
@@ -21,9 +21,9 @@ first_of (Some x) = x.first
 first_of None = pos 0
 
 -- the last index of a range that is known; 0 where there is none, as of a plain entry (this project's rule)
-abbrev pub last_of : Option Extent → ℤ
-last_of (Some x) = x.last
-last_of None = pos 0
+abbrev pub last_index : Option Extent → ℤ
+last_index (Some x) = x.last
+last_index None = pos 0
 
 -- the first and the last index of an entry family, where both are known (9.5); none of a plain entry
 abbrev pub family_extent : TypeTable → Option PDrange → Option Extent
@@ -37,7 +37,7 @@ entry_of_task names types owner x e = record {
   owner = owner;
   family = is_some e.family;
   first = first_of (family_extent types e.family);
-  last = last_of (family_extent types e.family);
+  last = last_index (family_extent types e.family);
   added = is_added_name names x.name || is_added_name names e.name.name;
   stands_for = None;
 }

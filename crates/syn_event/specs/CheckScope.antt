@@ -9,7 +9,7 @@ use Rattle.syn_event.specs.declared.limits.What.{What}
 use Rattle.syn_event.specs.declared.meanings.Meant.{Meant}
 
 -- the task or task type in whose body a place is: its name, and the names of its entries
-pub record Unit : Type 0 where
+pub record EnclosingUnit : Type 0 where
   pub name : NameId
   pub entries : List NameId
 
@@ -20,9 +20,9 @@ pub record CheckScope : Type 0 where
   -- what the names mean, the innermost and latest first; a name that means nothing to these rules is not listed
   pub names : List (ℕ × Meant)
   -- the tasks and task types that are declared before
-  pub units : List Unit
+  pub units : List EnclosingUnit
   -- the task or type in whose body the place is; none in main
-  pub own : Option Unit
+  pub own : Option EnclosingUnit
   -- the entries of the accepts around it
   pub accepting : List NameId
   -- the names, where they have one, of the loops around it that stand in the same accept

@@ -16,7 +16,7 @@ use Rattle.syn_event.specs.NamedTasks.{NamedTasks, task_names_of, task_count}
 use Rattle.syn_event.specs.Copying.{callees_share, part_share}
 use Rattle.syn_event.specs.declared.meanings.Meant.{Meant}
 use Rattle.syn_event.specs.declared.meanings.Meant.TheVariants.{MainProcedure, TaskType, TaskOf, Shared, Inner}
-use Rattle.syn_event.specs.CheckScope.{Unit, CheckScope, meaning, CheckDemand, declares, uses, addresses, aborts_before, accepts, waits, exits, raises_again, needs_body, counts, CheckSite}
+use Rattle.syn_event.specs.CheckScope.{EnclosingUnit, CheckScope, meaning, CheckDemand, declares, uses, addresses, aborts_before, accepts, waits, exits, raises_again, needs_body, counts, CheckSite}
 
 -- that demand in that scope, as one place
 abbrev pub site : CheckScope → CheckDemand → CheckSite
@@ -299,14 +299,14 @@ task_sites around bodies t s =
 -- ---- what declarations add
 
 -- an object of main: a task where its mark, or that of its components, is a task type, else shared where it is a variable or an array
-abbrev pub with_value : Bool → CheckScope → List Word → CheckScope
-with_value true around names = with_meant Shared around names
-with_value false around names = around
+abbrev pub with_declared_object : Bool → CheckScope → List Word → CheckScope
+with_declared_object true around names = with_meant Shared around names
+with_declared_object false around names = around
 
 -- the scope with objects of main, by the meaning of their mark: tasks of a task type (9.2), else shared where that is asked
 abbrev pub with_object : CheckScope → Option Meant → Word → Bool → List Word → CheckScope
 with_object around (Some TaskType) mark is_shared names = with_meant (TaskOf mark.name) around names
-with_object around _ mark is_shared names = with_value is_shared around names
+with_object around _ mark is_shared names = with_declared_object is_shared around names
 
 -- the scope after an object declaration of main (3.2.1): its names stand for tasks, are shared, or mean nothing new
 abbrev pub after_object : CheckScope → List Word → Bool → PShape → CheckScope
@@ -318,12 +318,12 @@ abbrev pub meant_by_task : PTask → Meant
 meant_by_task t = if t.of_kind then TaskType else TaskOf t.name.name
 
 -- the unit of a task or task type: its name, and the names of its entries (9.1)
-abbrev pub unit_of : PTask → Unit
-unit_of t = record { name = t.name.name; entries = map (λ e. e.name.name) t.entries }
+abbrev pub enclosing_unit : PTask → EnclosingUnit
+enclosing_unit t = record { name = t.name.name; entries = map (λ e. e.name.name) t.entries }
 
 -- the scope after the declaration of a task or task type (9.1): its name has a meaning, and its unit is known
 abbrev pub after_task : CheckScope → PTask → CheckScope
-after_task around t = with_meant (meant_by_task t) (record around { units = unit_of t ∷ around.units }) (t.name ∷ [])
+after_task around t = with_meant (meant_by_task t) (record around { units = enclosing_unit t ∷ around.units }) (t.name ∷ [])
 
 -- what stands around the places behind a declaration of main
 abbrev pub after_decl : CheckScope → PDecl → CheckScope
@@ -337,7 +337,7 @@ after_decls around no_decl = around
 after_decls around (decl_then d rest) = after_decls (after_decl around d) rest
 
 -- in the body of a task or task type
-abbrev pub own_unit : CheckScope → Word → Unit
+abbrev pub own_unit : CheckScope → Word → EnclosingUnit
 own_unit around w = unwrap_or (find (λ u. u.name.0 == w.name.0) around.units) record { name = w.name; entries = [] }
 
 -- the scope inside the body of the task or task type of that name (9.1)

@@ -9,16 +9,16 @@ use Rattle.ada_tree.specs.TypeTable.{TypeTable}
 use Rattle.ada_tree.specs.PlainExpr.{PExpr, PBounds, PDrange, RGiven, RMarked}
 use Rattle.ada_tree.specs.StaticValue.{is_static, value_of, mark_named}
 use Rattle.ada_tree.specs.Scope.{kind_at}
-use Rattle.ada_tree.specs.ExprTypes.{place_of}
+use Rattle.ada_tree.specs.ExprTypes.{expr_place}
 
 -- the value of a static expression in which nothing raises
-abbrev pub value_there : Result ℤ Span → Option ℤ
-value_there (Ok z) = Some z
-value_there (Err s) = None
+abbrev pub unraised_value : Result ℤ Span → Option ℤ
+unraised_value (Ok z) = Some z
+unraised_value (Err s) = None
 
 -- the value of an expression, where it is static and nothing in it raises (4.9)
 abbrev pub fixed : TypeTable → PExpr → Option ℤ
-fixed types e = if is_static types e then value_there (value_of types e) else None
+fixed types e = if is_static types e then unraised_value (value_of types e) else None
 
 -- the first and the last value of a discrete range with static bounds
 pub record Extent : Type 0 where
@@ -70,7 +70,7 @@ size types r = known_size (extent types r)
 
 -- a range starts with its first bound or with its mark
 abbrev pub range_start : PDrange → Span
-range_start (RGiven b) = place_of b.first
+range_start (RGiven b) = expr_place b.first
 range_start (RMarked x) = x.mark.span
 
 -- the kind is that of an array type (3.6)

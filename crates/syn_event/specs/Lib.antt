@@ -1,8 +1,8 @@
 pub mod Numbering
 pub mod Origin
 pub mod EventText
-pub mod Units
-pub mod Numbered
+pub mod DeclaredTasks
+pub mod AddedNames
 pub mod TaskText
 pub mod Limits
 pub mod Extents

@@ -3,10 +3,10 @@ use Rattle.std.specs.Prelude.{◌==◌, if◌then◌else◌, List, [], ◌∷◌
 use Rattle.ada_tree.specs.declared.naming.Span.{Span}
 use Rattle.syn_event.specs.declared.meanings.Meant.{Meant}
 use Rattle.syn_event.specs.declared.meanings.Meant.TheVariants.{TaskOf}
-use Rattle.syn_event.specs.CheckScope.{Unit, CheckScope, meaning, CheckDemand, aborts_before}
+use Rattle.syn_event.specs.CheckScope.{EnclosingUnit, CheckScope, meaning, CheckDemand, aborts_before}
 
 -- a task that runs the body in which the place is
-abbrev pub own_task : Option Unit → Option Meant → Span → List Span
+abbrev pub own_task : Option EnclosingUnit → Option Meant → Span → List Span
 own_task (Some own) (Some (TaskOf unit)) s = if own.name.0 == unit.0 then s ∷ [] else []
 own_task _ _ s = []
 

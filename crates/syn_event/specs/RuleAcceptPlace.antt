@@ -3,14 +3,14 @@ use Rattle.std.specs.Prelude.{Bool, false, not, ◌||◌, ◌==◌, if◌then◌
 use Rattle.std.specs.List.{list_any}
 use Rattle.ada_tree.specs.declared.naming.NameId.{NameId}
 use Rattle.ada_tree.specs.declared.naming.Span.{Span}
-use Rattle.syn_event.specs.CheckScope.{Unit, CheckScope, CheckDemand, accepts}
+use Rattle.syn_event.specs.CheckScope.{EnclosingUnit, CheckScope, CheckDemand, accepts}
 
 -- the name is one of those
 abbrev pub is_among : List NameId → NameId → Bool
 is_among names name = list_any (λ n. n.0 == name.0) names
 
 -- the task in whose body the place is has an entry of that name
-abbrev pub is_own_entry : Option Unit → NameId → Bool
+abbrev pub is_own_entry : Option EnclosingUnit → NameId → Bool
 is_own_entry (Some unit) name = is_among unit.entries name
 is_own_entry None name = false
 

@@ -3,7 +3,7 @@ use Rattle.std.specs.Prelude.{List, [], ◌∷◌, Option, Some, None}
 use Rattle.ada_tree.specs.declared.naming.Span.{Span}
 use Rattle.syn_event.specs.declared.meanings.Meant.{Meant}
 use Rattle.syn_event.specs.declared.meanings.Meant.TheVariants.{Shared}
-use Rattle.syn_event.specs.CheckScope.{Unit, CheckScope, meaning, CheckDemand, uses}
+use Rattle.syn_event.specs.CheckScope.{EnclosingUnit, CheckScope, meaning, CheckDemand, uses}
 
 -- the place of a name that means a variable or an array constant of main; none of any other name
 abbrev pub shared_name : Option Meant → Span → List Span
@@ -11,7 +11,7 @@ shared_name (Some Shared) s = s ∷ []
 shared_name _ s = []
 
 -- those places, where they stand in the body of a task; none where they stand in main
-abbrev pub in_body_of : Option Unit → List Span → List Span
+abbrev pub in_body_of : Option EnclosingUnit → List Span → List Span
 in_body_of (Some unit) spans = spans
 in_body_of None spans = []
 

@@ -3,7 +3,7 @@ use Rattle.std.specs.Prelude.{ℕ, ℤ, List, [], Option, Some, None, codes, dec
 use Rattle.std.specs.Fmt.{signed_decimal}
 use Rattle.ded_io.specs.Written.{◌⧺◌}
 use Rattle.syn_event.specs.declared.numbering.TaskInfo.{TaskInfo}
-use Rattle.syn_event.specs.Units.{text_of}
+use Rattle.syn_event.specs.DeclaredTasks.{text_of}
 
 -- the index of a member of an array of tasks
 abbrev pub member_text : Option ℤ → List ℕ

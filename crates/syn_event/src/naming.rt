@@ -5,7 +5,7 @@ ghost use Rattle.ada_tree.specs.NameList.{AreNames};
 ghost use Rattle.ded_io.specs.Counts.{HasCause};
 ghost use Rattle.ded_io.specs.Written.{Wrote};
 ghost use Rattle.syn_event.specs.TaskText.{task_text, member_text};
-ghost use Rattle.syn_event.specs.Units.{text_of};
+ghost use Rattle.syn_event.specs.DeclaredTasks.{text_of};
 
 use crate::TaskInfo;
 use ada_tree::{NameId, Names};

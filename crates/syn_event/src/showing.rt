@@ -3,7 +3,7 @@
 ghost use Rattle.std.specs.Prelude.{◌≡◌};
 ghost use Rattle.ded_io.specs.Counts.{HasCause};
 ghost use Rattle.ded_io.specs.Written.{Wrote};
-ghost use Rattle.syn_event.specs.EventText.{event_text, call_text, one_text, two_text};
+ghost use Rattle.syn_event.specs.EventText.{event_text, call_event_text, one_text, two_text};
 
 use crate::Event;
 use decimal_text::{put_number, put_signed};
@@ -33,7 +33,7 @@ pub fn show<K: Sink>(e: &Event, out: &mut K) -> Result<(), SinkError>
 // A letter with its blank, and the numbers of a call.
 #[tactic(auto, using(ded_io::proofs::Writes::writes))]
 fn put_call<K: Sink>(letter: &[u8], c: u32, e: u32, i: i32, out: &mut K) -> Result<(), SinkError>
-    ensures bytes { Wrote result (K.told out.old) (K.told out.new) (call_text letter.now c e i) }
+    ensures bytes { Wrote result (K.told out.old) (K.told out.new) (call_event_text letter.now c e i) }
     ensures cause { HasCause (K.faults out.old) (K.faults out.new) result }
 {
     out.put(letter)?;

@@ -1,7 +1,7 @@
 // The progress of a run.
 
 ghost use Rattle.std.specs.Prelude.{◌≡◌, ◌==◌, ◌<◌, ◌^◌, if◌then◌else◌, true, false, length, map, replicate, IfOk};
-ghost use Rattle.event_progress.specs.Known.{at_start, admits, suits, advanced, touches, is_closed as known_closed, is_free as known_free, is_innermost, is_served_by, has_callers as known_callers, meet as known_met, part as known_parted, complete as known_completed, fall, party};
+ghost use Rattle.event_progress.specs.Known.{known_at_start, admits, suits, advanced, touches, is_closed as known_closed, is_free as known_free, is_innermost, is_served_by, has_callers as known_callers, meet as known_met, part as known_parted, complete as known_completed, fall, party};
 ghost use Rattle.syn_event.specs.Numbering.{owner_of};
 ghost use Rattle.syn_progress.specs.TaskRecords.{IsLinked, known_of, seen, idle_member};
 ghost use Rattle.event_machine.specs.Worlds.{is_last};
@@ -37,7 +37,7 @@ impl Model for Progress {
 impl Progress {
     /// Before the first event: all tasks are free. It takes the room for all that comes.
     pub fn new(alloc: Global, numbers: &Numbers) -> Result<Progress, Memory>
-        ensures { IfOk result (λ p. p ≡ at_start (length numbers.now.tasks)) }
+        ensures { IfOk result (λ p. p ≡ known_at_start (length numbers.now.tasks)) }
     {
         let members = idle_members(alloc, numbers.tasks.as_slice().len())?;
         Ok(Progress {

@@ -15,8 +15,8 @@ use Rattle.ada_value.specs.Values.{and_then, position_of}
 use Rattle.ada_value.specs.Variables.{Variables}
 use Rattle.ada_value.specs.Evaluating.{evaluated}
 use Rattle.task_model.specs.declared.parameters.FormalParameter.{FormalParameter}
-use Rattle.task_model.specs.Setting.{Setting, member_named, task_meant, task_of, entry_of, lists_of}
-use Rattle.task_model.specs.Calls.{Called, openings, called_with, called, values_of}
+use Rattle.task_model.specs.Setting.{Setting, member_named, task_meant, callee_task, entry_of, lists_of}
+use Rattle.task_model.specs.Calls.{Called, openings, called_with, called, opening_values}
 use Rattle.task_calls.specs.declared.calls.Member.{Member}
 use Rattle.task_calls.specs.Looks.{raised_by, member_called, values_or_none, opening_or}
 use Rattle.task_calls.proofs.Walking.{first_at, behind_at}
@@ -151,38 +151,38 @@ index_raises e x (Ok j) values is = absurd (cc)
 index_raises e x (Err y) values is = cc
 
 pub call_opens : (e : ℕ) (i : ℤ) (index : Result ℤ Raised) (values : Result (List Value) Raised) → Ok i ≡ index
-    → values_or_none values ≡ values_of (Some (called_by_parts e index values))
+    → values_or_none values ≡ opening_values (Some (called_by_parts e index values))
 call_opens e i (Ok j) (Ok vs) is = refl
 call_opens e i (Ok j) (Err y) is = refl
 call_opens e i (Err y) values is = absurd (cc)
 
 pub index_opens : (e : ℕ) (x : Raised) (index : Result ℤ Raised) (values : Result (List Value) Raised) → Err x ≡ index
-    → [] ≡ values_of (Some (called_by_parts e index values))
+    → [] ≡ opening_values (Some (called_by_parts e index values))
 index_opens e x (Ok j) values is = absurd (cc)
 index_opens e x (Err y) values is = refl
 
 -- a call of an entry of the owner that was found
-pub call_by_owner : (g : Setting) (vars : Variables) (call : PCall) (owner e : ℕ) (r : Result Member Raised) → Ok owner ≡ task_of g vars call.task → e ≡ entry_of g.numbers owner call.entry.name
+pub call_by_owner : (g : Setting) (vars : Variables) (call : PCall) (owner e : ℕ) (r : Result Member Raised) → Ok owner ≡ callee_task g vars call.task → e ≡ entry_of g.numbers owner call.entry.name
     → r ≡ member_called (called_with g vars e (lists_of g.numbers e call.args)) → r ≡ member_called (called g vars call)
 call_by_owner g vars call owner e r found named is =
     is
     ∙ ap (λ n. member_called (called_with g vars n (lists_of g.numbers n call.args))) named
     ∙ ap (λ (o : Result ℕ Raised). member_called (and_then o (λ w. called_with g vars (entry_of g.numbers w call.entry.name) (lists_of g.numbers (entry_of g.numbers w call.entry.name) call.args)))) found
 
-pub call_by_none : (g : Setting) (vars : Variables) (call : PCall) (x : Raised) → Err x ≡ task_of g vars call.task → Err x ≡ member_called (called g vars call)
+pub call_by_none : (g : Setting) (vars : Variables) (call : PCall) (x : Raised) → Err x ≡ callee_task g vars call.task → Err x ≡ member_called (called g vars call)
 call_by_none g vars call x found =
     ap (λ (o : Result ℕ Raised). member_called (and_then o (λ w. called_with g vars (entry_of g.numbers w call.entry.name) (lists_of g.numbers (entry_of g.numbers w call.entry.name) call.args)))) found
 
-pub values_by_owner : (g : Setting) (vars : Variables) (call : PCall) (owner e : ℕ) (vs : List Value) → Ok owner ≡ task_of g vars call.task → e ≡ entry_of g.numbers owner call.entry.name
-    → vs ≡ values_of (Some (called_with g vars e (lists_of g.numbers e call.args))) → vs ≡ values_of (Some (called g vars call))
+pub values_by_owner : (g : Setting) (vars : Variables) (call : PCall) (owner e : ℕ) (vs : List Value) → Ok owner ≡ callee_task g vars call.task → e ≡ entry_of g.numbers owner call.entry.name
+    → vs ≡ opening_values (Some (called_with g vars e (lists_of g.numbers e call.args))) → vs ≡ opening_values (Some (called g vars call))
 values_by_owner g vars call owner e vs found named is =
     is
-    ∙ ap (λ n. values_of (Some (called_with g vars n (lists_of g.numbers n call.args)))) named
-    ∙ ap (λ (o : Result ℕ Raised). values_of (Some (and_then o (λ w. called_with g vars (entry_of g.numbers w call.entry.name) (lists_of g.numbers (entry_of g.numbers w call.entry.name) call.args))))) found
+    ∙ ap (λ n. opening_values (Some (called_with g vars n (lists_of g.numbers n call.args)))) named
+    ∙ ap (λ (o : Result ℕ Raised). opening_values (Some (and_then o (λ w. called_with g vars (entry_of g.numbers w call.entry.name) (lists_of g.numbers (entry_of g.numbers w call.entry.name) call.args))))) found
 
-pub values_by_none : (g : Setting) (vars : Variables) (call : PCall) (x : Raised) (vs : List Value) → Err x ≡ task_of g vars call.task → vs ≡ [] → vs ≡ values_of (Some (called g vars call))
+pub values_by_none : (g : Setting) (vars : Variables) (call : PCall) (x : Raised) (vs : List Value) → Err x ≡ callee_task g vars call.task → vs ≡ [] → vs ≡ opening_values (Some (called g vars call))
 values_by_none g vars call x vs found none =
-    none ∙ ap (λ (o : Result ℕ Raised). values_of (Some (and_then o (λ w. called_with g vars (entry_of g.numbers w call.entry.name) (lists_of g.numbers (entry_of g.numbers w call.entry.name) call.args))))) found
+    none ∙ ap (λ (o : Result ℕ Raised). opening_values (Some (and_then o (λ w. called_with g vars (entry_of g.numbers w call.entry.name) (lists_of g.numbers (entry_of g.numbers w call.entry.name) call.args))))) found
 
 -- a member of an array by its index
 pub task_by_index : (g : Setting) (vars : Variables) (name : NameId) (e : PExpr) (v : Value) (i : ℤ) (r : Result ℕ Raised) → Ok v ≡ evaluated g.types vars e → i ≡ position_of v

@@ -4,7 +4,7 @@ use Rattle.ada_tree.specs.PlainExpr.{PExpr, plain_expr}
 use Rattle.ada_tree.specs.TypeTable.{TypeTable}
 use Rattle.ada_value.specs.declared.values.Value.{Value}
 use Rattle.ada_value.specs.declared.values.Raised.{Raised}
-use Rattle.ada_value.specs.Values.{lower}
+use Rattle.ada_value.specs.Values.{lower_bound}
 use Rattle.ada_value.specs.Variables.{Variables}
 use Rattle.task_model.specs.declared.parameters.FormalParameter.{FormalParameter}
 use Rattle.task_model.specs.Setting as model
@@ -33,7 +33,7 @@ values_or_none (Err x) = []
 
 -- the opening value of a formal with its actual, if there is one (6.2)
 abbrev pub opening_or : TypeTable → Variables → FormalParameter → Option PExpr → Result Value Raised
-opening_or types vars formal None = Ok (lower types formal.limits)
+opening_or types vars formal None = Ok (lower_bound types formal.limits)
 opening_or types vars formal (Some e) = opening types vars formal formal.mode e
 
 -- the variables that come out, or those of before where an exception is raised
@@ -43,5 +43,5 @@ vars_or vars (Err x) = vars
 
 -- the value with which a formal opens, where one stands for it (6.2)
 abbrev pub value_or_lower : TypeTable → FormalParameter → Option Value → Value
-value_or_lower types formal None = lower types formal.limits
+value_or_lower types formal None = lower_bound types formal.limits
 value_or_lower types formal (Some v) = v

@@ -6,7 +6,7 @@ ghost use Rattle.ada_tree.specs.PlainStmt.{plain_args, plain_call};
 ghost use Rattle.ada_value.specs.Values.{and_then, checked};
 ghost use Rattle.ada_value.specs.Evaluating.{evaluated};
 ghost use Rattle.task_model.specs.Setting.{lists_of};
-ghost use Rattle.task_model.specs.Calls.{openings, called_with, called, values_of};
+ghost use Rattle.task_model.specs.Calls.{openings, called_with, called, opening_values};
 ghost use Rattle.task_calls.specs.Looks.{raised_by, member_called, values_or_none, opening_or};
 
 use crate::argument_lists::lists_of;
@@ -126,7 +126,7 @@ impl<'a> Here<'a> {
         args: &Option<Args>,
         values: &mut Vec<Value>,
     ) -> Result<(), Memory>
-        ensures ok { OnOk result (values.new.items ≡ values_of (Some (called_with self.now.links.now self.now.objects.now entry (lists_of self.now.links.now.numbers entry (option_map plain_args args.now))))) }
+        ensures ok { OnOk result (values.new.items ≡ opening_values (Some (called_with self.now.links.now self.now.objects.now entry (lists_of self.now.links.now.numbers entry (option_map plain_args args.now))))) }
         ensures err { OnErr result (values.new.items ≡ []) }
     {
         let lists = lists_of(self.links, entry, args);
@@ -146,7 +146,7 @@ impl<'a> Here<'a> {
     /// actual, of an `out` one the lower bound of its subtype (6.2, 6.4.1). A call that raises an exception has none. After an error, which
     /// comes by want of memory, the list is empty.
     pub fn actuals(&self, call: &Call, values: &mut Vec<Value>) -> Result<(), Memory>
-        ensures ok { OnOk result (values.new.items ≡ values_of (Some (called self.now.links.now self.now.objects.now (plain_call call.now)))) }
+        ensures ok { OnOk result (values.new.items ≡ opening_values (Some (called self.now.links.now self.now.objects.now (plain_call call.now)))) }
         ensures err { OnErr result (values.new.items ≡ []) }
     {
         match self.task_of(&call.task) {

@@ -5,7 +5,7 @@ ghost use Rattle.ada_tree.specs.PlainExpr.{plain_expr};
 ghost use Rattle.ada_tree.specs.PlainStmt.{plain_callee};
 ghost use Rattle.ada_value.specs.Evaluating.{evaluated};
 ghost use Rattle.syn_event.specs.Numbering.{entry_at};
-ghost use Rattle.task_model.specs.Setting.{task_meant, task_of, family_limits, index_in, member_index};
+ghost use Rattle.task_model.specs.Setting.{task_meant, callee_task, family_limits, index_in, member_index};
 
 use ada_tree::{Callee, Expr, NameId};
 use ada_value::{Raised, Value, evaluate, position_of};
@@ -82,7 +82,7 @@ impl<'a> Here<'a> {
     /// The number of the task that the callee of a call or a name of an abort statement comes to; of a member of an array its index is
     /// evaluated, and one outside the array's range raises CONSTRAINT_ERROR (9.5, 9.10).
     pub fn task_of(&self, callee: &Callee) -> Result<u32, Raised>
-        ensures { result ≡ task_of self.now.links.now self.now.objects.now (plain_callee callee.now) }
+        ensures { result ≡ callee_task self.now.links.now self.now.objects.now (plain_callee callee.now) }
     {
         self.task_meant(callee.name.name, &callee.index)
     }

@@ -3,7 +3,7 @@ use Rattle.std.specs.Prelude.{ℕ, zero, suc, ◌%◌, Bool, true, false, List, 
 use Rattle.event_machine.specs.declared.Action.{Action}
 use Rattle.event_machine.specs.declared.Action.TheVariants.{End}
 use Rattle.event_machine.specs.declared.Event.{Event}
-use Rattle.task_model.specs.Machine.{Whole, enabled_of, after, event_of}
+use Rattle.task_model.specs.Machine.{MachineState, enabled_of, after, event_of}
 
 -- How a run ends: the program has ended, no action applies, or its turns are spent.
 pub data Ending : Type 0 where
@@ -13,13 +13,13 @@ pub data Ending : Type 0 where
 
 -- A run: the machine behind it, its events, how many actions were made, and how it ends.
 pub record Run : Type 0 where
-  pub machine : Whole
+  pub machine : MachineState
   pub events : List Event
   pub made : ℕ
   pub ending : Ending
 
 -- a run of these parts
-abbrev pub run_at : Whole → List Event → ℕ → Ending → Run
+abbrev pub run_at : MachineState → List Event → ℕ → Ending → Run
 run_at m events made ending = record { machine = m; events = events; made = made; ending = ending }
 
 -- the next choice, which is 0 past the end of the list
@@ -39,7 +39,7 @@ halted false [] = Some Stuck
 halted false (action ∷ actions) = None
 
 -- how a run ends at a machine that can go on no more
-abbrev pub halted_at : Whole → Option Ending
+abbrev pub halted_at : MachineState → Option Ending
 halted_at m = halted m.state.ended (enabled_of m)
 
 -- the action that a choice names
@@ -52,7 +52,7 @@ ending_or (Some e) = e
 ending_or None = Spent
 
 -- what is left of a run of at most n turns, from a machine with these events and actions made
-abbrev pub run_on : ℕ → Whole → List ℕ → List Event → ℕ → Run
+abbrev pub run_on : ℕ → MachineState → List ℕ → List Event → ℕ → Run
 run_on zero m choices events made = run_at m events made (ending_or (halted_at m))
 run_on (suc n) m choices events made = turned (halted_at m) (λ action. run_on n (after m action) (later_choices choices) (events ++ option_to_list (event_of m action)) (suc made))
   where
@@ -61,9 +61,9 @@ run_on (suc n) m choices events made = turned (halted_at m) (λ action. run_on n
     turned None more = more (action_at (enabled_of m) (first_choice choices))
 
 -- What each task has written, in the order of their numbers.
-abbrev pub outputs_of : Whole → List (List ℕ)
+abbrev pub outputs_of : MachineState → List (List ℕ)
 outputs_of m = map (λ seat. seat.local.output) m.state.seats
 
 -- The run of at most n turns that choices pick from a machine.
-abbrev pub picked : ℕ → Whole → List ℕ → Run
+abbrev pub picked : ℕ → MachineState → List ℕ → Run
 picked n m choices = run_on n m choices [] 0

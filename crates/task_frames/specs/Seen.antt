@@ -90,5 +90,5 @@ is_over [] place = ends_silently place
 is_over (s ∷ rest) place = false
 
 -- The innermost frame is not over, so that its first statement is the next one of the task.
-abbrev pub IsSettled : List Stmt → Place → Type 0
-IsSettled rest place = is_over rest place ≡ false
+abbrev pub IsAtStatement : List Stmt → Place → Type 0
+IsAtStatement rest place = is_over rest place ≡ false

@@ -3,7 +3,7 @@
 ghost use Rattle.std.specs.Prelude.{[]};
 ghost use Rattle.ada_tree.specs.PlainStmt.{no_stmt};
 ghost use Rattle.task_frames.specs.Coming.{IsNext};
-ghost use Rattle.task_frames.specs.Seen.{around, IsSettled};
+ghost use Rattle.task_frames.specs.Seen.{around, IsAtStatement};
 
 use crate::frame::{Place, Turns};
 use ada_tree::Stmt;
@@ -29,7 +29,7 @@ pub enum Next<'p> {
 
 // What comes at the end of a frame that stands in this place and is not over.
 pub(crate) fn end_of<'p>(place: Place<'p>) -> Next<'p>
-    requires { IsSettled [] place }
+    requires { IsAtStatement [] place }
     ensures { IsNext result no_stmt (around place.entry) }
 {
     match place {

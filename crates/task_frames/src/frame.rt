@@ -73,7 +73,7 @@ impl<'p> Turns<'p> {
 }
 
 impl<'p> Frame<'p> {
-    ghost use Rattle.task_frames.specs.Seen.{is_over, stack_of, parts_of, IsGrounded, IsSettled};
+    ghost use Rattle.task_frames.specs.Seen.{is_over, stack_of, parts_of, IsGrounded, IsAtStatement};
     ghost use Rattle.task_frames.specs.inner.Catching.{caught_in, holds_exits, is_exited, parameters_in, handled_in, caller_in};
     ghost use Rattle.task_frames.specs.Stack.{with_part, passed};
 
@@ -89,7 +89,7 @@ impl<'p> Frame<'p> {
 
     // The frame behind its next statement.
     pub(crate) fn passed(self) -> Frame<'p>
-        requires { IsSettled self.rest.now self.place }
+        requires { IsAtStatement self.rest.now self.place }
         ensures rest { (fs : List Frame) → stack_of result fs ≡ passed (stack_of self.entry fs) }
         ensures place { result.place ≡ self.entry.place }
     {

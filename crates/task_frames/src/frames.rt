@@ -41,11 +41,11 @@ impl<'p> Model for Frames<'p> {
 
     ghost coded = { Prim.hlevel (codes, tree_codes) };
 
-    ghost use Rattle.task_frames.specs.Seen.{stack_of, IsSettled, IsGrounded};
+    ghost use Rattle.task_frames.specs.Seen.{stack_of, IsAtStatement, IsGrounded};
 
     ghost view = { λ a. record { stack = stack_of a.top (reverse a.outer.items); reserved = nat_lt (vec_len a.outer) (vec_capacity a.outer) } };
 
-    ghost invariant = { λ a. (IsSettled a.top.rest.now a.top.place) × (IsGrounded a.top.place (reverse a.outer.items)) };
+    ghost invariant = { λ a. (IsAtStatement a.top.rest.now a.top.place) × (IsGrounded a.top.place (reverse a.outer.items)) };
 }
 
 impl<'p> Frames<'p> {

@@ -4,7 +4,7 @@ ghost use Rattle.std.specs.Prelude.{◌≡◌, ◌≤◌, ◌<◌, ◌+◌, reve
 ghost use Rattle.std.specs.Vec.{vec_len, vec_capacity};
 ghost use Rattle.ada_tree.specs.PlainStmt.{seen};
 ghost use Rattle.task_model.specs.Frames.{handled_among, callers_among};
-ghost use Rattle.task_frames.specs.Seen.{stack_of, parts_of, on_parts, all_parts, IsSettled, IsGrounded};
+ghost use Rattle.task_frames.specs.Seen.{stack_of, parts_of, on_parts, all_parts, IsAtStatement, IsGrounded};
 ghost use Rattle.task_frames.specs.Stack.{passed};
 ghost use Rattle.task_frames.specs.Moves.{Settles, IsRaisedTo, IsLeftWith, IsExitedTo};
 
@@ -23,7 +23,7 @@ pub(crate) struct Landing<'p> {
 pub(crate) fn settle<'p>(top: Frame<'p>, outer: &mut Vec<Frame<'p>>) -> Frame<'p>
     requires { IsGrounded top.place (reverse outer.old.items) }
     ensures settles { Settles (stack_of top.entry (reverse outer.old.items)) (stack_of result (reverse outer.new.items)) }
-    ensures settled { IsSettled result.rest.now result.place }
+    ensures settled { IsAtStatement result.rest.now result.place }
     ensures grounded { IsGrounded result.place (reverse outer.new.items) }
 {
     if !top.is_over() {
@@ -118,10 +118,10 @@ pub(crate) fn push<'p>(
     top: Frame<'p>,
     outer: &mut Vec<Frame<'p>>,
 ) -> Result<Frame<'p>, Memory>
-    requires settled { IsSettled top.rest.now top.place }
+    requires settled { IsAtStatement top.rest.now top.place }
     requires grounded { IsGrounded top.place (reverse outer.old.items) }
     ensures ok { IfOk result (λ f. Settles (on_parts (seen frame.entry.rest.now) frame.entry.place (all_parts (passed (stack_of top.entry (reverse outer.old.items))))) (stack_of f (reverse outer.new.items))) }
-    ensures settled { IfOk result (λ f. IsSettled f.rest.now f.place) }
+    ensures settled { IfOk result (λ f. IsAtStatement f.rest.now f.place) }
     ensures grounded { IfOk result (λ f. IsGrounded f.place (reverse outer.new.items)) }
     ensures reserved { vec_len outer.old < vec_capacity outer.old → IsOk result }
     ensures same_frames { OnErr result (outer.new.items ≡ outer.old.items) }

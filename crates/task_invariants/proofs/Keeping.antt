@@ -23,10 +23,10 @@ use Rattle.replay_law.proofs.Facts.{put, put_each, let_go}
 use Rattle.replay_law.proofs.Silently.{met_is}
 use Rattle.replay_law.proofs.Aborting.{fell, abort_closed, abort_open, abort_self}
 use Rattle.task_model.specs.declared.parameters.FormalParameter.{FormalParameter}
-use Rattle.task_model.specs.Setting.{Setting, task_of, member_index, lists_of, entry_of, entry_parameters, parameters_of}
+use Rattle.task_model.specs.Setting.{Setting, callee_task, member_index, lists_of, entry_of, entry_parameters, parameters_of}
 use Rattle.task_model.specs.Frames.{Around, OwnBody, Block, Handling, Loop, Opened, PFrame, caller_at, callers_among, callers_in}
 use Rattle.task_model.specs.Tasks.{Task, rest_of, place_of, outer_of, vars_of}
-use Rattle.task_model.specs.Calls.{Called, called_with, call_in, called_by, values_of, values_handed, openings, opened_objects}
+use Rattle.task_model.specs.Calls.{Called, called_with, call_in, called_by, opening_values, values_handed, openings, opened_objects}
 use Rattle.task_model.specs.Waits.{Open, Accepts, Delays, Terminates, alternative_for}
 use Rattle.task_model.specs.Rendezvous as rendezvous
 use Rattle.task_model.specs.TaskOps.{task_ops}
@@ -97,7 +97,7 @@ called_fits l r h lowers = go (call_in (rest_of l)) h
     go : (o : Option PCall) → called_by l.setting (vars_of l) o ≡ Some (Ok r) → ValuesFit l.setting.types (entry_parameters l.setting r.entry) r.values
     go None q = absurd (none_some q)
     go (Some call) q =
-        let c = chain (task_of l.setting (vars_of l) call.task)
+        let c = chain (callee_task l.setting (vars_of l) call.task)
         (λ owner. called_with l.setting (vars_of l) (entry_of l.setting.numbers owner call.entry.name) (lists_of l.setting.numbers (entry_of l.setting.numbers owner call.entry.name) call.args)) r (some_path q) in
         let e : ℕ = entry_of l.setting.numbers c.value call.entry.name in
         let lists = lists_of l.setting.numbers e call.args in
@@ -296,7 +296,7 @@ module _ (g : Setting) (n : ℕ) (owner : ℕ → ℕ) (made : IsWellMade g) (w 
 
     -- the values that the caller hands over fit the entry's formals
     values_fit : ValuesFit g.types (entry_parameters g e) (values_handed (w.tasks c).local)
-    values_fit = subst (ValuesFit g.types (entry_parameters g e)) (sym (ap values_of called_at.calls))
+    values_fit = subst (ValuesFit g.types (entry_parameters g e)) (sym (ap opening_values called_at.calls))
         (subst (λ f. ValuesFit g.types (entry_parameters g f) called_at.result.values) called_at.entry
         (subst (λ (s : Setting). ValuesFit s.types (entry_parameters s called_at.result.entry) called_at.result.values) caller_in.setting
         (called_fits (w.tasks c).local called_at.result called_at.calls (subst (λ (s : Setting). (f : ℕ) → LowersFit s.types (entry_parameters s f)) (sym caller_in.setting) made.lowers))))

@@ -322,7 +322,7 @@ module _ (Head : PHead → Type 0) where
   passed_at (SBlock its s) behind t b k = goes_itself Head t k
   passed_at (SLoop name scheme stmts s) behind t b k = goes_itself Head t k
 
-  pub goes_passed : (t : Task) → Stays Head t → Goes Head t (rendezvous.passed t)
+  pub goes_passed : (t : Task) → Stays Head t → Goes Head t (rendezvous.past_name t)
   goes_passed t k = go (rest_of t) k.rest
     where
       go : (rest : PStmts) → InStmts Head rest → Goes Head t (rendezvous.passed_in rest t)

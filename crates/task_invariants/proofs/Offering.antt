@@ -11,7 +11,7 @@ use Rattle.event_machine.specs.declared.Choice.TheVariants as choice
 use Rattle.event_machine.specs.Offers.{Offer, same_member, opens, calls_in, is_any_form, waits_with}
 use Rattle.event_machine.proofs.Basics.{same_member-true}
 use Rattle.ada_value.specs.declared.values.Raised.{Raised}
-use Rattle.task_model.specs.Setting.{task_of}
+use Rattle.task_model.specs.Setting.{callee_task}
 use Rattle.task_model.specs.Frames.{Around, OwnBody, Block, Handling, Loop, Opened}
 use Rattle.task_model.specs.Tasks.{Task, rest_of, place_of, vars_of}
 use Rattle.task_model.specs.Calls.{Called, called, call_in, called_by}
@@ -64,7 +64,7 @@ call_at t (STimed call more duration after s) rest e i h = let (c, q, r) = call_
 call_at t (SAccept accept s) rest e i h = absurd (wait_call e i false (open_at t (SAccept accept s)) h)
 call_at t (SWait alts otherwise s) rest e i h = absurd (wait_call e i (is_present otherwise) (open_at t (SWait alts otherwise s)) h)
 call_at t (SAbort [] s) rest e i h = absurd (true≢false (sym h))
-call_at t (SAbort (callee ∷ callees) s) rest e i h = absurd (name_call e i (task_of t.setting (vars_of t) callee) h)
+call_at t (SAbort (callee ∷ callees) s) rest e i h = absurd (name_call e i (callee_task t.setting (vars_of t) callee) h)
 call_at t (SNull s) rest e i h = absurd (true≢false (sym h))
 call_at t (SAssign target x s) rest e i h = absurd (true≢false (sym h))
 call_at t (SDelay duration s) rest e i h = absurd (true≢false (sym h))
@@ -173,7 +173,7 @@ wait_at t (SCall call s) e i h = absurd (call_wait e i form.Plain (called t.sett
 wait_at t (SConditional call more otherwise s) e i h = absurd (call_wait e i form.Conditional (called t.setting (vars_of t) call) h)
 wait_at t (STimed call more duration after s) e i h = absurd (call_wait e i form.Timed (called t.setting (vars_of t) call) h)
 wait_at t (SAbort [] s) e i h = absurd (true≢false (sym h))
-wait_at t (SAbort (callee ∷ callees) s) e i h = absurd (name_wait e i (task_of t.setting (vars_of t) callee) h)
+wait_at t (SAbort (callee ∷ callees) s) e i h = absurd (name_wait e i (callee_task t.setting (vars_of t) callee) h)
 wait_at t (SNull s) e i h = absurd (true≢false (sym h))
 wait_at t (SAssign target x s) e i h = absurd (true≢false (sym h))
 wait_at t (SDelay duration s) e i h = absurd (true≢false (sym h))

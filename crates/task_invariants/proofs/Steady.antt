@@ -8,7 +8,7 @@ use Rattle.ada_value.specs.declared.values.Value.{Value}
 use Rattle.ada_value.specs.declared.values.Raised.{Raised}
 use Rattle.ada_value.specs.declared.values.Raised.TheVariants as raised
 use Rattle.ada_value.specs.declared.values.Limits.{Limits}
-use Rattle.ada_value.specs.Texts.{parts_text}
+use Rattle.ada_value.specs.Texts.{parts_output}
 use Rattle.ada_value.specs.Values.{and_then, is_empty_range}
 use Rattle.ada_value.specs.Variables.{Variables, checked_for, set_value}
 use Rattle.task_model.specs.Setting.{Setting}
@@ -163,7 +163,7 @@ module _ (Head : PHead → Type 0) where
 
   goes_put : (parts : List PPart) (closing : List ℕ) (behind : PStmts) (t : Task) → InStmts Head behind → Stays t → Goes t (steps.put_step parts closing behind t)
   goes_put parts closing behind t b k =
-      goes_or (λ text. gone_to behind (with_text t (text ++ closing))) t (parts_text t.setting.program.names t.setting.types (vars_of t) parts) k
+      goes_or (λ text. gone_to behind (with_text t (text ++ closing))) t (parts_output t.setting.program.names t.setting.types (vars_of t) parts) k
       (λ text q. record { good = good_settled Head (outer_of t) behind (place_of t) (vars_of t) b k.place k.outer k.held; setting = refl; number = refl })
 
   -- ---- one step

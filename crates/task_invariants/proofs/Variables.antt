@@ -9,7 +9,7 @@ use Rattle.ada_value.specs.declared.values.Value.{Value}
 use Rattle.ada_value.specs.declared.values.Raised.{Raised}
 use Rattle.ada_value.specs.declared.values.Raised.TheVariants as raised
 use Rattle.ada_value.specs.declared.values.Limits.{Limits}
-use Rattle.ada_value.specs.Values.{and_then, position_of, lies_in, lower, checked}
+use Rattle.ada_value.specs.Values.{and_then, position_of, lies_in, lower_bound, checked}
 use Rattle.ada_value.specs.Variables.{Object, Variables, object_named, value_there, checked_for, with_value, set_value}
 use Rattle.ada_value.specs.Evaluating.{evaluated}
 use Rattle.task_model.specs.declared.parameters.FormalParameter.{FormalParameter}
@@ -167,7 +167,7 @@ pub openings_fit : (types : TypeTable) (vars : Variables) (formals : List Formal
     openings types vars formals es ≡ Ok vs → ValuesFit types formals vs
 openings_fit types vars [] es vs l h = tt
 openings_fit types vars (formal ∷ formals) [] vs l h =
-    let c = chain (openings types vars formals []) (λ ws. Ok (lower types formal.limits ∷ ws)) vs h in
+    let c = chain (openings types vars formals []) (λ ws. Ok (lower_bound types formal.limits ∷ ws)) vs h in
     subst (ValuesFit types (formal ∷ formals)) (ok_path c.rest) (l.0, openings_fit types vars formals [] c.value l.1 c.first)
 openings_fit types vars (formal ∷ formals) (e ∷ es) vs l h =
     let c = chain (opening types vars formal formal.mode e) (λ v. and_then (openings types vars formals es) (λ ws. Ok (v ∷ ws))) vs h in
@@ -184,7 +184,7 @@ pub opened_held : (types : TypeTable) (fs hs : List FormalParameter) (vs : List 
     AreHeld hs (opened_objects types hs vs ++ vars)
 opened_held types [] [] vs vars a l h = tt
 opened_held types (f ∷ fs) (k ∷ hs) [] vars a l h = (
-  (refl, subst (λ (m : Limits). Fits m (lower types m)) a.0.1 h.0),
+  (refl, subst (λ (m : Limits). Fits m (lower_bound types m)) a.0.1 h.0),
   opened_held types fs hs [] vars a.1 l.1 h.1,
 )
 opened_held types (f ∷ fs) (k ∷ hs) (v ∷ vs) vars a l h = ((refl, subst (λ (m : Limits). Fits m v) a.0.1 h.0), opened_held types fs hs vs vars a.1 l.1 h.1)

@@ -3,7 +3,7 @@ use Rattle.std.specs.Prelude.{◌≡◌, ℕ, true, List, [], ◌∷◌, ◌++�
 use Rattle.ada_tree.specs.TypeTable.{TypeTable}
 use Rattle.ada_value.specs.declared.values.Value.{Value}
 use Rattle.ada_value.specs.declared.values.Limits.{Limits}
-use Rattle.ada_value.specs.Values.{position_of, lies_in, lower}
+use Rattle.ada_value.specs.Values.{position_of, lies_in, lower_bound}
 use Rattle.ada_value.specs.Variables.{Variables, value_there}
 use Rattle.task_model.specs.declared.parameters.FormalParameter.{FormalParameter}
 use Rattle.task_model.specs.Frames.{Around, OwnBody, Block, Handling, Loop, Opened, PFrame, Control, brought}
@@ -38,13 +38,13 @@ IsHeld place outer vars = Own place vars × HeldIn outer (drop (brought place) v
 -- values fit formals in order: each lies in its formal's subtype; a formal without value opens with its lower bound, which does (6.4.1)
 abbrev pub ValuesFit : TypeTable → List FormalParameter → List Value → Type 0
 ValuesFit types [] vs = Unit {0}
-ValuesFit types (formal ∷ formals) [] = Fits formal.limits (lower types formal.limits) × ValuesFit types formals []
+ValuesFit types (formal ∷ formals) [] = Fits formal.limits (lower_bound types formal.limits) × ValuesFit types formals []
 ValuesFit types (formal ∷ formals) (v ∷ vs) = Fits formal.limits v × ValuesFit types formals vs
 
 -- the lower bound of each formal lies in its subtype: no formal has an empty one
 abbrev pub LowersFit : TypeTable → List FormalParameter → Type 0
 LowersFit types [] = Unit {0}
-LowersFit types (formal ∷ formals) = Fits formal.limits (lower types formal.limits) × LowersFit types formals
+LowersFit types (formal ∷ formals) = Fits formal.limits (lower_bound types formal.limits) × LowersFit types formals
 
 -- formals of the same modes and subtypes in the same order
 abbrev pub AreAlike : List FormalParameter → List FormalParameter → Type 0

@@ -11,7 +11,7 @@ use Rattle.ada_tree.specs.PlainStmt.{plain_formal}
 use Rattle.ada_tree.specs.StaticValue.{first_of_two}
 use Rattle.ada_tree.specs.TypeTable.{TypeTable}
 use Rattle.ada_tree.specs.PlainDecl.{PEntry, PTask, PDecl, DNumber, DObject, DEnumeration, DArray, DSubtype, DException, DIntIo, DPragma, DTask, DTaskBody, decls_of, plain_decl, plain_entry}
-use Rattle.syn_event.specs.Units.{decl_list, tasks_in}
+use Rattle.syn_event.specs.DeclaredTasks.{decl_list, tasks_in}
 use Rattle.task_model.specs.Setting.{parameters_of}
 use Rattle.task_model.specs.declared.parameters.FormalParameter.{FormalParameter}
 use Rattle.task_links.specs.inner.Keys.{entry_eq}

@@ -4,7 +4,7 @@ ghost use Rattle.std.specs.Prelude.{◌≡◌, ◌==◌, ◌++◌, ◌∷◌, []
 ghost use Rattle.ada_tree.specs.StaticValue.{first_of_two};
 ghost use Rattle.ada_tree.specs.PlainStmt.{plain_formal};
 ghost use Rattle.ada_tree.specs.PlainDecl.{PTask, decls_of, plain_decl, plain_entry, plain_task};
-ghost use Rattle.syn_event.specs.Units.{decl_list, tasks_in};
+ghost use Rattle.syn_event.specs.DeclaredTasks.{decl_list, tasks_in};
 ghost use Rattle.task_model.specs.Setting.{parameters_of};
 ghost use Rattle.task_links.specs.inner.Keys.{entry_eq};
 ghost use Rattle.task_links.specs.inner.Made.{KeepsUnits, formals_among, formals_at, formals_declared, kept_for_entry, kept_for_task};

@@ -9,7 +9,6 @@ mod static_names;
 mod task_names;
 mod task_scope;
 mod type_names;
-mod values;
 
 pub use formals::{parameters_of, variable_of};
 pub use links::{Links, index_in};

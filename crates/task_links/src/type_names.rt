@@ -8,9 +8,8 @@ ghost use Rattle.ada_value.specs.Values.{limits_named, limits_of_kind, placed, w
 ghost use Rattle.ada_value.specs.Evaluating.{constant_value, fixed_value, literal_value};
 
 use crate::keeping::keep_first;
-use crate::values::{constant_value, word};
 use ada_tree::{Constant, Kind, Mark, Memory, NameId, Types};
-use ada_value::{Limits, Value, integer_limits, limits_of};
+use ada_value::{Limits, Value, constant_value, integer_limits, limits_of, word};
 use std::alloc::Global;
 use std::collections::HashMap;
 use std::marker::Model;

@@ -6,13 +6,13 @@ use Rattle.event_machine.specs.Offers.{Finishes}
 use Rattle.ada_value.specs.declared.values.Value.{Value}
 use Rattle.ada_value.specs.declared.values.Raised.{Raised}
 use Rattle.ada_value.specs.Variables.{Variables}
-use Rattle.task_model.specs.Setting.{Setting, task_of}
+use Rattle.task_model.specs.Setting.{Setting, callee_task}
 use Rattle.task_model.specs.Frames.{Around, PFrame, control}
 use Rattle.task_model.specs.Tasks.{Task, rest_of, place_of, outer_of, vars_of, gone_to, raised_there, with_control}
-use Rattle.task_model.specs.Calls.{call_in, called_by, values_of, values_handed}
+use Rattle.task_model.specs.Calls.{call_in, called_by, opening_values, values_handed}
 use Rattle.task_model.specs.Waits.{alternative_for}
 use Rattle.task_model.specs.Stands.{Steps, stand_of, abort_stand, name_stand, offer_of}
-use Rattle.task_model.specs.Rendezvous.{behind_in, behind_of, alternative_opened, returned, took_else, took_delay, else_taken_in, delay_taken_in, passed, passed_at, passed_in}
+use Rattle.task_model.specs.Rendezvous.{behind_in, behind_of, alternative_opened, returned, took_else, took_delay, else_taken_in, delay_taken_in, past_name, passed_at, passed_in}
 use Rattle.task_local.specs.inner.Local.{named_from, left_from, behind_names, names_in, IsWithin}
 use Rattle.task_rendezvous.proofs.Standing.{abort_not}
 
@@ -65,7 +65,7 @@ calls_alike k (stmt_then (SAbort cs s) rest) = refl
 calls_alike k (stmt_then s rest) = refl
 
 pub handed_alike : (k : ℕ) (t : Task) → values_handed (behind_names k t) ≡ values_handed t
-handed_alike k t = ap (λ q. values_of (called_by t.setting (vars_of t) q)) (calls_alike k (rest_of t))
+handed_alike k t = ap (λ q. opening_values (called_by t.setting (vars_of t) q)) (calls_alike k (rest_of t))
 
 pub raised_alike : (k : ℕ) (t : Task) (x : Raised) → raised_there x (behind_names k t) ≡ raised_there x t
 raised_alike k t x = refl
@@ -93,7 +93,7 @@ more_left A k xs h e = let none : length (drop k xs) ≡ 0 = ap length e in absu
 
 abort_steps : (t : Task) (cs : List PCallee) → abort_stand t cs ≡ Steps → cs ≡ []
 abort_steps t [] h = refl
-abort_steps t (c ∷ cs) h = absurd (named_steps (task_of t.setting (vars_of t) c) h)
+abort_steps t (c ∷ cs) h = absurd (named_steps (callee_task t.setting (vars_of t) c) h)
   where
     named_steps : (r : Result ℕ Raised) → name_stand r ≡ Steps → ⊥
     named_steps (Ok x) k = cc
@@ -135,7 +135,7 @@ goes_to_names k no_stmt t h = absurd (omega arith)
 goes_to_names k (stmt_then s rest) t h = refl
 
 -- Behind one name more, where it is not the last.
-pub names_on : (k : ℕ) (t : Task) → suc k < length (names_in (rest_of t)) → passed (behind_names k t) ≡ behind_names (suc k) t
+pub names_on : (k : ℕ) (t : Task) → suc k < length (names_in (rest_of t)) → past_name (behind_names k t) ≡ behind_names (suc k) t
 names_on k t h = passes_on k (rest_of t) (behind_names k t) h ∙ goes_to_names (suc k) (rest_of t) (behind_names k t) (omega arith)
 
 passes_last : (k : ℕ) (rest : PStmts) (t : Task) → suc k ≡ length (names_in rest) → passed_in (left_from k rest) t ≡ gone_to (behind_in rest) t
@@ -144,7 +144,7 @@ passes_last k (stmt_then (SAbort cs s) rest) t h = last_one k cs s rest t h
 passes_last k (stmt_then s rest) t h = absurd (omega arith)
 
 -- Behind the last name the task is behind the statement.
-pub names_end : (k : ℕ) (t : Task) → suc k ≡ length (names_in (rest_of t)) → passed (behind_names k t) ≡ gone_to (behind_of t) t
+pub names_end : (k : ℕ) (t : Task) → suc k ≡ length (names_in (rest_of t)) → past_name (behind_names k t) ≡ gone_to (behind_of t) t
 names_end k t h = passes_last k (rest_of t) (behind_names k t) h
 
 passes_none : (k : ℕ) (rest : PStmts) (t : Task) → length (names_in rest) ≡ 0 → IsWithin k rest → passed_in (left_from k rest) t ≡ t
@@ -155,7 +155,7 @@ passes_none k (stmt_then (SAbort (c ∷ cs) s) rest) t h w = absurd (omega arith
 passes_none k (stmt_then s rest) t h w = refl
 
 -- Where there is no name nothing is passed.
-pub names_none : (k : ℕ) (t : Task) → length (names_in (rest_of t)) ≡ 0 → IsWithin k (rest_of t) → passed (behind_names k t) ≡ behind_names k t
+pub names_none : (k : ℕ) (t : Task) → length (names_in (rest_of t)) ≡ 0 → IsWithin k (rest_of t) → past_name (behind_names k t) ≡ behind_names k t
 names_none k t h w = passes_none k (rest_of t) (behind_names k t) h w
 
 -- ---- other parts: an abort statement has none
@@ -179,11 +179,11 @@ no_delay m k t w = takes_no_delay m k (rest_of t) (behind_names (suc k) t) w
 -- ---- what the task stands at
 
 stands_named : (k : ℕ) (g : Setting) (n : ℕ) (input : List ℤ) (output : List ℕ) (rest : PStmts) (place : Around) (outer : List PFrame) (vars : Variables) (c : PCallee) (cs : List PCallee) → drop k (names_in rest) ≡ c ∷ cs →
-    stand_of (task_at g n input output (left_from k rest) place outer vars) ≡ name_stand (task_of g vars c)
+    stand_of (task_at g n input output (left_from k rest) place outer vars) ≡ name_stand (callee_task g vars c)
 stands_named k g n input output no_stmt place outer vars c cs h = absurd (none_behind PCallee k c cs h)
 stands_named k g n input output (stmt_then (SAbort ds s) rest) place outer vars c cs h = ap (abort_stand (task_at g n input output (left_from k (stmt_then (SAbort ds s) rest)) place outer vars)) h
 stands_named k g n input output (stmt_then s rest) place outer vars c cs h = absurd (none_behind PCallee k c cs h)
 
 -- Behind names that are not all the task stands at the next one.
-pub stands_at_name : (k : ℕ) (t : Task) (c : PCallee) (cs : List PCallee) → drop k (names_in (rest_of t)) ≡ c ∷ cs → stand_of (behind_names k t) ≡ name_stand (task_of t.setting (vars_of t) c)
+pub stands_at_name : (k : ℕ) (t : Task) (c : PCallee) (cs : List PCallee) → drop k (names_in (rest_of t)) ≡ c ∷ cs → stand_of (behind_names k t) ≡ name_stand (callee_task t.setting (vars_of t) c)
 stands_at_name k t c cs h = stands_named k t.setting t.number t.input t.output (rest_of t) (place_of t) (outer_of t) (vars_of t) c cs h

@@ -4,8 +4,8 @@ ghost use Rattle.std.specs.Prelude.{◌≡◌, ◌<◌, ◌≤◌, ◌^◌, List
 ghost use Rattle.std.specs.Vec.{vec_capacity};
 ghost use Rattle.ada_tree.specs.PlainStmt.{plain_callee, plain_stmt};
 ghost use Rattle.event_machine.specs.declared.Choice.{Choice};
-ghost use Rattle.task_model.specs.Calls.{call_of, called_by, values_handed, values_of};
-ghost use Rattle.task_model.specs.Setting.{task_of};
+ghost use Rattle.task_model.specs.Calls.{call_of, called_by, values_handed, opening_values};
+ghost use Rattle.task_model.specs.Setting.{callee_task};
 ghost use Rattle.task_model.specs.Stands.{name_stand, stand_at, stand_of};
 ghost use Rattle.task_model.specs.Tasks.{rest_of, vars_of};
 ghost use Rattle.task_room.specs.Fitting.{room_next};
@@ -57,7 +57,7 @@ pub(crate) fn stand_here(state: &TaskState, choices: &mut Vec<Choice>) -> Stand
 
 /// What a task stands at with this name of an abort statement next (9.10).
 pub(crate) fn stand_at_name(state: &TaskState, name: &Callee) -> Stand
-    ensures { (choices : List Choice) → stand_as result choices ≡ name_stand (task_of (plain_task state.now).setting (vars_of (plain_task state.now)) (plain_callee name.now)) }
+    ensures { (choices : List Choice) → stand_as result choices ≡ name_stand (callee_task (plain_task state.now).setting (vars_of (plain_task state.now)) (plain_callee name.now)) }
 {
     let here = Here {
         links: state.links,
@@ -72,7 +72,7 @@ pub(crate) fn stand_at_name(state: &TaskState, name: &Callee) -> Stand
 
 // The opening values of the call that a statement is; another one hands over none.
 fn actuals_at(state: &TaskState, stmt: &Stmt, values: &mut Vec<Value>) -> Result<(), Memory>
-    ensures ok { OnOk result (values.new.items ≡ values_of (called_by (plain_task state.now).setting (vars_of (plain_task state.now)) (call_of (plain_stmt stmt.now)))) }
+    ensures ok { OnOk result (values.new.items ≡ opening_values (called_by (plain_task state.now).setting (vars_of (plain_task state.now)) (call_of (plain_stmt stmt.now)))) }
     ensures err { OnErr result (values.new.items ≡ []) }
 {
     let here = Here {

@@ -2,7 +2,7 @@
 
 ghost use Rattle.std.specs.Prelude.{◌≡◌, map, true, IfOk, OnOk, OnErr};
 ghost use Rattle.ada_tree.specs.PlainStmt.{plain_callee, plain_stmt};
-ghost use Rattle.task_model.specs.Rendezvous.{passed};
+ghost use Rattle.task_model.specs.Rendezvous.{past_name};
 ghost use Rattle.task_model.specs.Stands.{can_step, offer_of, stepped};
 ghost use Rattle.task_model.specs.Tasks.{raised_there, rest_of};
 ghost use Rattle.task_state.specs.Plain.{plain_task};
@@ -123,7 +123,7 @@ impl<'p> TaskParts<'p> {
     /// Passes the next name of the abort statement at which the task stands; at another one nothing changes. It takes no memory.
     pub(crate) fn pass_name(&mut self)
         requires { IsInOrder self.old }
-        ensures task { task_of self.new ≡ passed (task_of self.old) }
+        ensures task { task_of self.new ≡ past_name (task_of self.old) }
         ensures in_order { IsInOrder self.new }
     {
         let names = names_in(&self.state);

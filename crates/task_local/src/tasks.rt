@@ -4,7 +4,7 @@ ghost use Rattle.std.specs.Prelude.{◌≡◌, [], slice_get, true, IfOk, OnOk, 
 ghost use Rattle.event_machine.specs.Offers.{Finishes};
 ghost use Rattle.task_model.specs.Calls.{values_handed};
 ghost use Rattle.task_model.specs.Frames.{callers_in};
-ghost use Rattle.task_model.specs.Rendezvous.{accepted, finished, passed, pending_of, returned, took_delay, took_else};
+ghost use Rattle.task_model.specs.Rendezvous.{accepted, finished, past_name, pending_of, returned, took_delay, took_else};
 ghost use Rattle.task_model.specs.Stands.{can_step, offer_of, stepped};
 ghost use Rattle.task_model.specs.Starting.{started_in, unit_of};
 ghost use Rattle.task_model.specs.Tasks.{Task, raised_there};
@@ -191,7 +191,7 @@ impl<'p> LocalTask<'p> {
 
     /// Passes the next name of the abort statement at which the task stands; elsewhere nothing changes (9.10). It takes no memory.
     pub fn pass_name(&mut self)
-        ensures { self.new.task ≡ passed self.old.task }
+        ensures { self.new.task ≡ past_name self.old.task }
     {
         self.parts.pass_name();
     }

@@ -23,7 +23,7 @@ use Rattle.task_model.specs.Laws.{program_in, first_world}
 use Rattle.task_model.proofs.Following.{feasible_exactly, rest_exactly}
 use Rattle.task_machine.specs.declared.verdict.Verdict.{Verdict}
 use Rattle.task_machine.specs.declared.verdict.Verdict.TheVariants.{Feasible, Infeasible, Unsettled}
-use Rattle.task_machine.specs.Views.{IsFeasible, IsPastBound, IsRest, Stands, View, view_of}
+use Rattle.task_machine.specs.Views.{IsFeasible, IsPastBound, IsRest, StandsInSomeRun, View, view_of}
 use Rattle.task_machine.specs.Conditions.{conditions_of, needed_of, all_hold}
 use Rattle.task_machine.specs.Judging.{AreViews, NoneOpen, AllFeasible, VerdictIs}
 use Rattle.task_machine.specs.TaskLaws.{VerdictsExist}
@@ -70,7 +70,7 @@ module _ (setup : Setup) (numbers : Numbering) (bound : ℕ) where
     abbrev base : ℕ → Seat Task
     base t = led.0.tasks t
 
-    stands_at : (t : ℕ) → Stands setup numbers events t (base t).standing
+    stands_at : (t : ℕ) → StandsInSomeRun setup numbers events t (base t).standing
     stands_at t = the_standing setup numbers (before_end events) led.0 led.1 t
 
     rest_at : (t n : ℕ) → (base t).standing ≡ Live → HasSteps task_ops n (base t).local → IsRest setup numbers events t n (ran task_ops n (base t).local)
@@ -94,7 +94,7 @@ module _ (setup : Setup) (numbers : Numbering) (bound : ℕ) where
           (λ opened. let less : suc bound ≤ k.0 = settles_most task_ops (suc bound) k.0 (base t).local (open_steps t opened) k.2 in absurd (omega (arith, less, k.1))),
           record { local = ran task_ops k.0 (base t).local; standing = Live },
           record {
-            standing = subst (λ z. Stands setup numbers events t z) free (stands_at t);
+            standing = subst (λ z. StandsInSomeRun setup numbers events t z) free (stands_at t);
             rests = λ h. (k.0, rest_at t k.0 free k.2.0, k.2.1);
           },
         ))
@@ -119,7 +119,7 @@ module _ (setup : Setup) (numbers : Numbering) (bound : ℕ) where
     seat_in t (inl opened) = base t
     seat_in t (inr k) = k.1
 
-    seat_stands : (t : ℕ) (f : Found t) → Stands setup numbers events t (seat_in t f).standing
+    seat_stands : (t : ℕ) (f : Found t) → StandsInSomeRun setup numbers events t (seat_in t f).standing
     unfolding seat_in
     seat_stands t (inl opened) = stands_at t
     seat_stands t (inr k) = k.2.standing

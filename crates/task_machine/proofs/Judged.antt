@@ -24,7 +24,7 @@ use Rattle.task_model.specs.Machine.{Setup, Tasks, rules_of, opening_of}
 use Rattle.task_model.specs.Laws.{program_in, first_world}
 use Rattle.task_model.proofs.Following.{runs_agree, feasible_by_conditions, rest_exactly}
 use Rattle.task_machine.specs.Views as views
-use Rattle.task_machine.specs.Views.{IsFeasible, IsRest, Stands, View, At, ViewIs, is_busy, view_in, view_of}
+use Rattle.task_machine.specs.Views.{IsFeasible, IsRest, StandsInSomeRun, View, At, ViewIs, is_busy, view_in, view_of}
 use Rattle.task_machine.specs.Conditions.{is_closed_view, needed_of, all_hold}
 use Rattle.task_machine.specs.Judging.{AreViews}
 use Rattle.task_machine.specs.TaskLaws.{FeasibleByTable}
@@ -89,7 +89,7 @@ module _ (setup : Setup) (numbers : Numbering) where
   -- ---- what is so of one task
 
   -- A task stands in one way.
-  pub stands_unique : (events : List Event) (t : ℕ) (z other : Standing) → Stands setup numbers events t z → Stands setup numbers events t other → z ≡ other
+  pub stands_unique : (events : List Event) (t : ℕ) (z other : Standing) → StandsInSomeRun setup numbers events t z → StandsInSomeRun setup numbers events t other → z ≡ other
   stands_unique events t z other (tasks, tally, run, is) (tasks', tally', run', is') =
       sym is ∙ (runs_agree setup numbers (before_end events) tasks tasks' tally tally' run run').standing t ∙ is'
 
@@ -113,20 +113,20 @@ module _ (setup : Setup) (numbers : Numbering) where
       let count : n ≡ m = settles_once task_ops n m (w.tasks t).local settles settles' in
       is ∙ ap (λ k. ran task_ops k (w.tasks t).local) count ∙ ap (λ (u : World Task). ran task_ops m (u.tasks t).local) (sym same) ∙ sym is'
 
-  pub stands_still : (events : List Event) (t : ℕ) (z : Standing) → Stands setup numbers events t z → still z ≡ z
+  pub stands_still : (events : List Event) (t : ℕ) (z : Standing) → StandsInSomeRun setup numbers events t z → still z ≡ z
   stands_still events t z (tasks, tally, run, is) = ap still (sym is) ∙ still_still (tasks t).standing ∙ is
 
-  pub rest_stands : (events : List Event) (t n : ℕ) (task : Task) → IsRest setup numbers events t n task → Stands setup numbers events t Live
+  pub rest_stands : (events : List Event) (t n : ℕ) (task : Task) → IsRest setup numbers events t n task → StandsInSomeRun setup numbers events t Live
   rest_stands events t n task (tasks, tally, run, is, count) = (tasks, tally, run, ap (λ (x : Seat Task). still x.standing) is)
 
   -- ---- seats and views
 
   -- The seat is a task as it stands after the events, at rest where it is free.
   pub record IsSeat (events : List Event) (t : ℕ) (seat : Seat Task) : Type 0 where
-    pub standing : Stands setup numbers events t seat.standing
+    pub standing : StandsInSomeRun setup numbers events t seat.standing
     pub rests : seat.standing ≡ Live → (n : ℕ) × IsRest setup numbers events t n seat.local × (can_step seat.local ≡ false)
 
-  view_from : (events : List Event) (t : ℕ) (z : Standing) (task : Task) → Stands setup numbers events t z → still z ≡ z →
+  view_from : (events : List Event) (t : ℕ) (z : Standing) (task : Task) → StandsInSomeRun setup numbers events t z → still z ≡ z →
       (z ≡ Live → (n : ℕ) × IsRest setup numbers events t n task × (can_step task ≡ false)) → ViewIs setup numbers events t (view_in z (offer_of task))
   view_from events t Live task stands h rests = let (n, rest, none) = rests refl in (n, task, rest, none, refl)
   view_from events t Waiting task stands h rests = absurd (cc)
@@ -140,7 +140,7 @@ module _ (setup : Setup) (numbers : Numbering) where
   pub view_kept : (events : List Event) (t : ℕ) (seat : Seat Task) → IsSeat events t seat → ViewIs setup numbers events t (view_of seat)
   view_kept events t seat is = view_from events t seat.standing seat.local is.standing (stands_still events t seat.standing is.standing) is.rests
 
-  seat_at : (events : List Event) (t : ℕ) (z : Standing) → Stands setup numbers events t z → (z ≡ Live → ⊥) → IsSeat events t (record { local = nobody; standing = z })
+  seat_at : (events : List Event) (t : ℕ) (z : Standing) → StandsInSomeRun setup numbers events t z → (z ≡ Live → ⊥) → IsSeat events t (record { local = nobody; standing = z })
   seat_at events t z stands not_free = record { standing = stands; rests = λ free. absurd (not_free free) }
 
   -- And each view is that of a seat.
@@ -171,7 +171,7 @@ module _ (setup : Setup) (numbers : Numbering) where
       e ∙ seats_alike events t seat other is is' ∙ sym e'
 
   -- Seats of all needed tasks, and standings of the others, are views.
-  pub views_kept : (events : List Event) (e : Event) (tasks : ℕ → Seat Task) → ((t : ℕ) → Stands setup numbers events t (tasks t).standing) →
+  pub views_kept : (events : List Event) (e : Event) (tasks : ℕ → Seat Task) → ((t : ℕ) → StandsInSomeRun setup numbers events t (tasks t).standing) →
       All (λ t. IsSeat events t (tasks t)) (needed_of numbers e) → AreViews setup numbers events e (λ t. view_of (tasks t))
   views_kept events e tasks stands seats = record {
     needed = λ k d less. view_kept events _ _ (seats k d less);
@@ -187,10 +187,10 @@ module _ (setup : Setup) (numbers : Numbering) where
   count = the_count setup numbers
 
   -- a standing after events without an end, as Views says it
-  stands_in : (events : List Event) → HasNoEnd events → (t : ℕ) (z : Standing) → StandsAfter (rules_of numbers) opening events t z → Stands setup numbers events t z
+  stands_in : (events : List Event) → HasNoEnd events → (t : ℕ) (z : Standing) → StandsAfter (rules_of numbers) opening events t z → StandsInSomeRun setup numbers events t z
   stands_in events more t z = subst (λ es. StandsAfter (rules_of numbers) opening es t z) (sym (before_end-same events more))
 
-  stands_out : (events : List Event) → HasNoEnd events → (t : ℕ) (z : Standing) → Stands setup numbers events t z → StandsAfter (rules_of numbers) opening events t z
+  stands_out : (events : List Event) → HasNoEnd events → (t : ℕ) (z : Standing) → StandsInSomeRun setup numbers events t z → StandsAfter (rules_of numbers) opening events t z
   stands_out events more t z = subst (λ es. StandsAfter (rules_of numbers) opening es t z) (before_end-same events more)
 
   rest_in : (events : List Event) → HasNoEnd events → (t n : ℕ) (task : Task) → RestIs (rules_of numbers) opening events t n task → IsRest setup numbers events t n task
@@ -212,17 +212,17 @@ module _ (setup : Setup) (numbers : Numbering) where
 
     -- tasks that are seen so
     seat_for : (t : ℕ) (b : Bool) → needs (sized numbers size) e t ≡ b →
-        (seat : Seat Task) × Stands setup numbers events t seat.standing × (b ≡ true → IsSeat events t seat × (vs t ≡ view_of seat))
+        (seat : Seat Task) × StandsInSomeRun setup numbers events t seat.standing × (b ≡ true → IsSeat events t seat × (vs t ≡ view_of seat))
     seat_for t true need = let (seat, is, same) = view_seat events t (vs t) (view_at t need) in (seat, is.standing, λ h. (is, same))
     seat_for t false need = let (z, stands, closed) = seen.closed t in (record { local = nobody; standing = z }, stands, λ h. absurd (true≢false (sym h)))
 
     abbrev tasks : ℕ → Seat Task
     tasks t = (seat_for t (needs (sized numbers size) e t) refl).0
 
-    tasks_stand : (t : ℕ) → Stands setup numbers events t (tasks t).standing
+    tasks_stand : (t : ℕ) → StandsInSomeRun setup numbers events t (tasks t).standing
     tasks_stand t = (seat_for t (needs (sized numbers size) e t) refl).1
 
-    closed_at : (t : ℕ) (z : Standing) → Stands setup numbers events t z → is_closed_view (vs t) ≡ is_closed z
+    closed_at : (t : ℕ) (z : Standing) → StandsInSomeRun setup numbers events t z → is_closed_view (vs t) ≡ is_closed z
     closed_at t z stands = let (y, stands', closed) = seen.closed t in sym closed ∙ ap is_closed (stands_unique events t y z stands' stands)
 
     tasks_seen : AreSeen numbers size e vs tasks

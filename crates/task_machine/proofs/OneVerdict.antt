@@ -13,7 +13,7 @@ use Rattle.task_machine.specs.declared.verdict.Why.{Why}
 use Rattle.task_machine.specs.declared.verdict.Verdict.TheVariants.{Feasible, Infeasible, Unsettled}
 use Rattle.task_machine.specs.Views.{IsFeasible, IsPastBound, View}
 use Rattle.task_machine.specs.Conditions.{is_closed_view, Condition, closed, not_closed, not_served, at_offer, acts, others_may_end, may_end, is_end_of, conditions_of, needed_of, holds, why_of, failing_in, first_failing}
-use Rattle.task_machine.specs.Judging.{AreViews, NoneOpen, AllFeasible, IsReached, IsRefused, IsHeldUp}
+use Rattle.task_machine.specs.Judging.{AreViews, NoneOpen, AllFeasible, IsReached, IsInfeasibleAt, IsHeldUp}
 use Rattle.task_machine.specs.TaskLaws.{VerdictsAgree}
 use Rattle.task_machine.proofs.Tabled.{to_all}
 use Rattle.task_machine.proofs.Judged.{view_unique, stands_unique}
@@ -118,7 +118,7 @@ module _ (setup : Setup) (numbers : Numbering) where
     GoesWrong : List Event → Event → Type 0
     GoesWrong before e = NoneOpen setup numbers bound before (needed_of numbers e) → IsFeasible setup numbers (before ++ e ∷ []) → ⊥
 
-    refused_wrong : (at : ℕ) (why : Why) (v : IsRefused setup numbers bound events at why) → GoesWrong v.before v.event
+    refused_wrong : (at : ℕ) (why : Why) (v : IsInfeasibleAt setup numbers bound events at why) → GoesWrong v.before v.event
     unfolding GoesWrong
     refused_wrong at why v none feasible = v.infeasible feasible
 
@@ -153,7 +153,7 @@ module _ (setup : Setup) (numbers : Numbering) where
     some_same : (why other : Why) → ◌≡◌ {A = Option Why} (Some why) (Some other) → why ≡ other
     some_same why other h = cc
 
-    refused_refused : (at other_at : ℕ) (why other : Why) → IsRefused setup numbers bound events at why → IsRefused setup numbers bound events other_at other → (at ≡ other_at) × (why ≡ other)
+    refused_refused : (at other_at : ℕ) (why other : Why) → IsInfeasibleAt setup numbers bound events at why → IsInfeasibleAt setup numbers bound events other_at other → (at ≡ other_at) × (why ≡ other)
     refused_refused at other_at why other v u =
         let (b, e) = same_place at other_at v.before u.before v.event u.event v.reached (refused_wrong at why v) u.reached (refused_wrong other_at other u) in (
           places at other_at v.before u.before v.event u.event v.reached u.reached b,
@@ -177,7 +177,7 @@ module _ (setup : Setup) (numbers : Numbering) where
               (two_splits v.earlier u.earlier v.later u.later task other (sym v.order ∙ ap (needed_of numbers) e ∙ u.order)),
         )
 
-    refused_held : (at other_at : ℕ) (why : Why) (task : ℕ) → IsRefused setup numbers bound events at why → IsHeldUp setup numbers bound events other_at task → ⊥
+    refused_held : (at other_at : ℕ) (why : Why) (task : ℕ) → IsInfeasibleAt setup numbers bound events at why → IsHeldUp setup numbers bound events other_at task → ⊥
     refused_held at other_at why task v u =
         let (b, e) = same_place at other_at v.before u.before v.event u.event v.reached (refused_wrong at why v) u.reached (held_wrong other_at task u) in
         open_wrong v.before v.event u.earlier u.later task (ap (needed_of numbers) e ∙ u.order) (subst (λ (es : List Event). IsPastBound setup numbers es task bound) (sym b) u.stays_open) v.none_open

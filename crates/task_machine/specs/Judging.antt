@@ -8,13 +8,13 @@ use Rattle.task_model.specs.Machine.{Setup}
 use Rattle.task_machine.specs.declared.verdict.Why.{Why}
 use Rattle.task_machine.specs.declared.verdict.Verdict.{Verdict}
 use Rattle.task_machine.specs.declared.verdict.Verdict.TheVariants.{Feasible, Infeasible, Unsettled}
-use Rattle.task_machine.specs.Views.{IsFeasible, IsPastBound, Stands, View, ViewIs}
+use Rattle.task_machine.specs.Views.{IsFeasible, IsPastBound, StandsInSomeRun, View, ViewIs}
 use Rattle.task_machine.specs.Conditions.{is_closed_view, needed_of, first_failing}
 
 -- The views of the tasks that the event needs; of any other task it counts only whether it is closed.
 pub record AreViews (setup : Setup) (numbers : Numbering) (events : List Event) (e : Event) (views : ℕ → View) : Type 0 where
   pub needed : All (λ t. ViewIs setup numbers events t (views t)) (needed_of numbers e)
-  pub closed : (t : ℕ) → (z : Standing) × Stands setup numbers events t z × (seats.is_closed z ≡ is_closed_view (views t))
+  pub closed : (t : ℕ) → (z : Standing) × StandsInSomeRun setup numbers events t z × (seats.is_closed z ≡ is_closed_view (views t))
 
 -- none of the tasks is open at the bound after the events
 abbrev pub NoneOpen : Setup → Numbering → ℕ → List Event → List ℕ → Type 0
@@ -34,7 +34,7 @@ pub record IsReached (setup : Setup) (numbers : Numbering) (bound : ℕ) (events
   pub went_well : AllFeasible setup numbers bound before
 
 -- The event at this place is not feasible though none of the tasks that it needs is open; the first of its conditions that fails is why.
-pub record IsRefused (setup : Setup) (numbers : Numbering) (bound : ℕ) (events : List Event) (at : ℕ) (why : Why) : Type 0 where
+pub record IsInfeasibleAt (setup : Setup) (numbers : Numbering) (bound : ℕ) (events : List Event) (at : ℕ) (why : Why) : Type 0 where
   pub before : List Event
   pub event : Event
   pub reached : IsReached setup numbers bound events at before event
@@ -58,5 +58,5 @@ pub record IsHeldUp (setup : Setup) (numbers : Numbering) (bound : ℕ) (events 
 -- The verdict of a list of events, where a task may make so many local steps since the last event that changed it.
 abbrev pub VerdictIs : Setup → Numbering → ℕ → List Event → Verdict → Type 0
 VerdictIs setup numbers bound events Feasible = AllFeasible setup numbers bound events
-VerdictIs setup numbers bound events (Infeasible at why) = IsRefused setup numbers bound events at why
+VerdictIs setup numbers bound events (Infeasible at why) = IsInfeasibleAt setup numbers bound events at why
 VerdictIs setup numbers bound events (Unsettled at task) = IsHeldUp setup numbers bound events at task

@@ -15,7 +15,7 @@ use Rattle.task_model.specs.Stands.{offer_of}
 use Rattle.task_model.specs.Rendezvous.{resumed_with}
 use Rattle.task_model.specs.Starting.{nobody}
 use Rattle.task_model.specs.TaskOps.{task_ops}
-use Rattle.task_model.specs.Machine.{Setup, Tasks, Whole, rules_of, opening_of}
+use Rattle.task_model.specs.Machine.{Setup, Tasks, MachineState, rules_of, opening_of}
 
 -- the tasks are kept in a list
 abbrev pub store : seats.Store Task Tasks
@@ -64,11 +64,11 @@ abbrev pub applies_in : Numbering → Tasks → List ℕ → Action → Bool
 applies_in numbers tasks line action = applying.action_applies task_ops (owner_of numbers) (seen_in tasks line) action
 
 -- the machine of these parts
-abbrev pub whole : Numbering → Tasks → List ℕ → Bool → Whole
+abbrev pub whole : Numbering → Tasks → List ℕ → Bool → MachineState
 whole numbers tasks line ended = record { numbers = numbers; state = record { seats = tasks; line = line; ended = ended } }
 
 -- The action applies to the machine.
-abbrev pub can : Whole → Action → Bool
+abbrev pub can : MachineState → Action → Bool
 can m action = applying.can (rules_of m.numbers) m.state action
 
 -- the event of an action of these tasks; it depends on nothing else
@@ -82,9 +82,9 @@ abbrev pub setup_in : Setting → List (List ℤ) → Setup
 setup_in g inputs = record { program = g.program; types = g.types; inputs = inputs }
 
 -- The machine as the program that is set so starts.
-abbrev pub opening_in : Setting → List (List ℤ) → Whole
+abbrev pub opening_in : Setting → List (List ℤ) → MachineState
 opening_in g inputs = opening_of (setup_in g inputs) g.numbers
 
 -- What the task of a number has written (14.3).
-abbrev pub output_of : Whole → ℕ → List ℕ
+abbrev pub output_of : MachineState → ℕ → List ℕ
 output_of m t = (seat_of m.state.seats t).local.output

@@ -22,12 +22,12 @@ abbrev pub IsRest : Setup → Numbering → List Event → ℕ → ℕ → Task 
 IsRest setup numbers events t n task = RestIs (rules_of numbers) (opening_of setup numbers).state (before_end events) t n task
 
 -- In some run with these events t stands so, where one that waits or is queued is called live.
-abbrev pub Stands : Setup → Numbering → List Event → ℕ → Standing → Type 0
-Stands setup numbers events t z = StandsAfter (rules_of numbers) (opening_of setup numbers).state (before_end events) t z
+abbrev pub StandsInSomeRun : Setup → Numbering → List Event → ℕ → Standing → Type 0
+StandsInSomeRun setup numbers events t z = StandsAfter (rules_of numbers) (opening_of setup numbers).state (before_end events) t z
 
 -- In some run with these events the standing of t passes the test.
 abbrev pub StandsIn : Setup → Numbering → List Event → ℕ → (Standing → Bool) → Type 0
-StandsIn setup numbers events t test = (z : Standing) × Stands setup numbers events t z × (test z ≡ true)
+StandsIn setup numbers events t test = (z : Standing) × StandsInSomeRun setup numbers events t z × (test z ≡ true)
 
 -- t is open at n: it is free, has made n local steps since the last event that changed it, and has one more.
 abbrev pub IsPastBound : Setup → Numbering → List Event → ℕ → ℕ → Type 0

@@ -3,7 +3,7 @@
 ghost use Rattle.std.specs.Prelude.{◌≡◌, OnOk, OnErr};
 ghost use Rattle.event_machine.specs.Effects.{freed, stand};
 ghost use Rattle.task_model.specs.Stands.{stepped};
-ghost use Rattle.task_model.specs.Rendezvous.{call_failed, passed, took_delay, took_else};
+ghost use Rattle.task_model.specs.Rendezvous.{call_failed, past_name, took_delay, took_else};
 ghost use Rattle.task_machine.specs.Table.{store};
 
 pub use crate::aborting::abort;
@@ -77,7 +77,7 @@ pub fn take_delay(seats: &mut [Seat], a: u32, k: u32) -> Result<(), Memory>
 
 /// The task goes on behind the next name of its abort statement, and is live.
 pub(crate) fn pass(seats: &mut [Seat], t: u32)
-    ensures { seats.new ≡ freed store passed seats.old t }
+    ensures { seats.new ≡ freed store past_name seats.old t }
 {
     if (t as usize) < seats.len() {
         let seat = &mut seats[t as usize];

@@ -41,9 +41,9 @@ impl<'p> Model for Machine<'p> {
     ghost use Rattle.std.specs.Coded.{codes};
     ghost use Rattle.ada_tree.proofs.Codes.{tree_codes};
     ghost use Rattle.task_links.specs.inner.SettingCode.{coded_setting};
-    ghost use Rattle.task_model.specs.Machine.{Whole};
+    ghost use Rattle.task_model.specs.Machine.{MachineState};
 
-    ghost Value = { Whole };
+    ghost Value = { MachineState };
 
     ghost coded = { Prim.hlevel (codes, tree_codes, coded_setting (Prim.hlevel (codes, tree_codes)) (Prim.hlevel (codes, tree_codes))) };
 

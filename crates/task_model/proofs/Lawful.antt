@@ -10,11 +10,11 @@ use Rattle.event_machine.specs.Lawful.{IsLawful, Keeps}
 use Rattle.ada_value.specs.declared.values.Value.{Value}
 use Rattle.ada_value.specs.declared.values.Raised.{Raised}
 use Rattle.ada_value.specs.declared.values.Raised.TheVariants as raised
-use Rattle.ada_value.specs.Texts.{parts_text}
+use Rattle.ada_value.specs.Texts.{parts_output}
 use Rattle.ada_value.specs.declared.values.Limits.{Limits}
 use Rattle.ada_value.specs.Values.{and_then, is_empty_range}
 use Rattle.ada_value.specs.Variables.{Variables}
-use Rattle.task_model.specs.Setting.{Setting, task_of}
+use Rattle.task_model.specs.Setting.{Setting, callee_task}
 use Rattle.task_model.specs.Frames.{Turns, Endless, While, Counting, Around, OwnBody, Block, Handling, Loop, Opened, PFrame, Control, control, in_front, settled_in, settled, unit_with, block_with, handler_for, raised_in, is_left, exited_in, without_own, caller_at, callers_among, callers_in}
 use Rattle.task_model.specs.Tasks.{Task, rest_of, place_of, outer_of, vars_of, value_of, stmts_or_none, with_vars, with_input, with_text, gone_to, entered, pushed, raised_there, or_raised}
 use Rattle.task_model.specs.Steps as steps
@@ -161,7 +161,7 @@ kept-changed rest t u p e f =
 
 kept-put : (parts : List PPart) (closing : List ℕ) (behind : PStmts) (t : Task) → IsProper t → Kept t (steps.put_step parts closing behind t)
 kept-put parts closing behind t p =
-    kept-or (λ text. gone_to behind (with_text t (text ++ closing))) t (parts_text t.setting.program.names t.setting.types (vars_of t) parts) p
+    kept-or (λ text. gone_to behind (with_text t (text ++ closing))) t (parts_output t.setting.program.names t.setting.types (vars_of t) parts) p
     (λ text. kept-changed behind t (with_text t (text ++ closing)) p refl refl)
 
 kept-entered : (branch : PMaybe) (behind : PStmts) (t : Task) → IsProper t → Kept t (entered (stmts_or_none branch) behind t)
@@ -274,7 +274,7 @@ statement-at t (STimed call more duration after s) = statement-call _ (called t.
 statement-at t (SAccept accept s) = statement-wait false (open_at t (SAccept accept s))
 statement-at t (SWait alts otherwise s) = statement-wait (is_present otherwise) (open_at t (SWait alts otherwise s))
 statement-at t (SAbort [] s) = refl
-statement-at t (SAbort (callee ∷ callees) s) = statement-name (task_of t.setting (vars_of t) callee)
+statement-at t (SAbort (callee ∷ callees) s) = statement-name (callee_task t.setting (vars_of t) callee)
 statement-at t _ = refl
 
 no-finish : (t : Task) (s : PStmt) → offered (stand_at t s) ≡ offers.Finishes → ⊥
@@ -359,7 +359,7 @@ lawful = record {
   raised = λ t p. keeps t (rendezvous.call_failed t) (kept-raised raised.Tasking t p);
   took_else = λ t p. keeps t (rendezvous.took_else t) (kept-else (rest_of t) t p);
   took_delay = λ k t p. keeps t (rendezvous.took_delay k t) (kept-delay k (rest_of t) t p);
-  passed = λ t p. keeps t (rendezvous.passed t) (kept-passed (rest_of t) t p);
+  passed = λ t p. keeps t (rendezvous.past_name t) (kept-passed (rest_of t) t p);
   accepted = λ e i c caller t other p h. accepting-opened c (alternative_for t e i) (values_handed caller) t p;
   finished = λ t p h. finishing t.setting t.number t.input t.output (rest_of t) (place_of t) (outer_of t) (vars_of t) p h;
   ended = λ t p h. ending t.setting t.number t.input t.output (rest_of t) (place_of t) (outer_of t) (vars_of t) p h;

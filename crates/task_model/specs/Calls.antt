@@ -8,11 +8,11 @@ use Rattle.ada_tree.specs.PlainStmt.{PCall, PStmt, SCall, SConditional, STimed, 
 use Rattle.ada_tree.specs.TypeTable.{TypeTable}
 use Rattle.ada_value.specs.declared.values.Value.{Value}
 use Rattle.ada_value.specs.declared.values.Raised.{Raised}
-use Rattle.ada_value.specs.Values.{and_then, lower, checked}
+use Rattle.ada_value.specs.Values.{and_then, lower_bound, checked}
 use Rattle.ada_value.specs.Variables.{Object, Variables, object_named, value_there, checked_for, set_value}
 use Rattle.ada_value.specs.Evaluating.{evaluated}
 use Rattle.task_model.specs.declared.parameters.FormalParameter.{FormalParameter}
-use Rattle.task_model.specs.Setting.{Setting, task_of, entry_of, member_index, entry_parameters, Lists, lists_of}
+use Rattle.task_model.specs.Setting.{Setting, callee_task, entry_of, member_index, entry_parameters, Lists, lists_of}
 use Rattle.task_model.specs.Tasks.{Task, rest_of, vars_of}
 
 -- ---- copying in (6.2, 6.4.1)
@@ -20,13 +20,13 @@ use Rattle.task_model.specs.Tasks.{Task, rest_of, vars_of}
 -- The opening value of a formal: of an `in` or `in out` one that of the actual, which is checked against the formal's subtype; of an `out` one the lower bound of its subtype (this project's rule).
 abbrev pub opening : TypeTable → Variables → FormalParameter → ParMode → PExpr → Result Value Raised
 opening types vars formal Take e = and_then (evaluated types vars e) (λ v. checked formal.limits v)
-opening types vars formal Give e = Ok (lower types formal.limits)
+opening types vars formal Give e = Ok (lower_bound types formal.limits)
 opening types vars formal Both e = and_then (evaluated types vars e) (λ v. checked formal.limits v)
 
 -- The opening values of formals, in order: each actual is evaluated and checked before the next. A formal without actual, as in no legal program, opens with its lower bound.
 abbrev pub openings : TypeTable → Variables → List FormalParameter → List PExpr → Result (List Value) Raised
 openings types vars [] actuals = Ok []
-openings types vars (formal ∷ formals) [] = and_then (openings types vars formals []) (λ vs. Ok (lower types formal.limits ∷ vs))
+openings types vars (formal ∷ formals) [] = and_then (openings types vars formals []) (λ vs. Ok (lower_bound types formal.limits ∷ vs))
 openings types vars (formal ∷ formals) (e ∷ actuals) =
     and_then (opening types vars formal formal.mode e) (λ v. and_then (openings types vars formals actuals) (λ vs. Ok (v ∷ vs)))
 
@@ -37,7 +37,7 @@ opened_object formal v = record { name = formal.name; limits = formal.limits; in
 -- the formals of an accept body as variables, in order; one without a value, as in no legal program, has its lower bound (6.2)
 abbrev pub opened_objects : TypeTable → List FormalParameter → List Value → List Object
 opened_objects types [] vs = []
-opened_objects types (formal ∷ formals) [] = opened_object formal (lower types formal.limits) ∷ opened_objects types formals []
+opened_objects types (formal ∷ formals) [] = opened_object formal (lower_bound types formal.limits) ∷ opened_objects types formals []
 opened_objects types (formal ∷ formals) (v ∷ vs) = opened_object formal v ∷ opened_objects types formals vs
 
 -- ---- what a call comes to
@@ -58,7 +58,7 @@ called_with g vars e lists =
 -- A call where it stands: the callee and its index first, then a family's index, then the actuals in order (9.5).
 abbrev pub called : Setting → Variables → PCall → Result Called Raised
 called g vars call =
-    and_then (task_of g vars call.task) (λ owner.
+    and_then (callee_task g vars call.task) (λ owner.
     called_with g vars (entry_of g.numbers owner call.entry.name) (lists_of g.numbers (entry_of g.numbers owner call.entry.name) call.args))
 
 -- the call of a statement, of any form
@@ -79,14 +79,14 @@ called_by g vars None = None
 called_by g vars (Some call) = Some (called g vars call)
 
 -- the opening values of a call, where it could be evaluated
-abbrev pub values_of : Option (Result Called Raised) → List Value
-values_of (Some (Ok c)) = c.values
-values_of (Some (Err x)) = []
-values_of None = []
+abbrev pub opening_values : Option (Result Called Raised) → List Value
+opening_values (Some (Ok c)) = c.values
+opening_values (Some (Err x)) = []
+opening_values None = []
 
 -- The opening values that the caller hands over, where it stands at its call.
 abbrev pub values_handed : Task → List Value
-values_handed t = values_of (called_by t.setting (vars_of t) (call_in (rest_of t)))
+values_handed t = opening_values (called_by t.setting (vars_of t) (call_in (rest_of t)))
 
 -- ---- copying back (6.2, 6.4.1)
 

@@ -24,7 +24,7 @@ abbrev pub Tasks : Type 0
 Tasks = List (seats.Seat Task)
 
 -- The machine: the program's numbers, and the state of its tasks, queues and end.
-pub record Whole : Type 0 where
+pub record MachineState : Type 0 where
   pub numbers : Numbering
   pub state : seats.State Tasks
 
@@ -33,15 +33,15 @@ abbrev pub rules_of : Numbering → seats.Rules Task Tasks
 rules_of numbers = record { ops = task_ops; store = seats.on_list task_ops; owner = owner_of numbers }
 
 -- The list of the actions that apply, in their order.
-abbrev pub enabled_of : Whole → List Action
+abbrev pub enabled_of : MachineState → List Action
 enabled_of m = applying.enabled_of (rules_of m.numbers) m.state
 
 -- The machine after an action.
-abbrev pub after : Whole → Action → Whole
+abbrev pub after : MachineState → Action → MachineState
 after m action = record { numbers = m.numbers; state = effects.after (rules_of m.numbers) m.state action }
 
 -- The event of an action, if it has one.
-abbrev pub event_of : Whole → Action → Option Event
+abbrev pub event_of : MachineState → Action → Option Event
 event_of m action = effects.event_of (rules_of m.numbers) m.state action
 
 -- ---- the start
@@ -56,7 +56,7 @@ first_tasks setup numbers zero = []
 first_tasks setup numbers (suc n) = first_tasks setup numbers n ++ (seats.live (started (setting_of setup numbers) setup.inputs n)) ∷ []
 
 -- The machine as a program starts: all tasks are live at their first statement.
-abbrev pub opening_of : Setup → Numbering → Whole
+abbrev pub opening_of : Setup → Numbering → MachineState
 opening_of setup numbers = record {
   numbers = numbers;
   state = record { seats = first_tasks setup numbers (length numbers.tasks); line = []; ended = false };

@@ -180,5 +180,5 @@ passed_in no_stmt t = t
 passed_in (stmt_then s rest) t = passed_at s rest t
 
 -- The task behind the next name of its abort statement; what is left of the statement is an abort statement again.
-abbrev pub passed : Task → Task
-passed t = passed_in (rest_of t) t
+abbrev pub past_name : Task → Task
+past_name t = passed_in (rest_of t) t

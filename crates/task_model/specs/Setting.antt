@@ -10,7 +10,7 @@ use Rattle.ada_tree.specs.PlainProgram.{PProgram}
 use Rattle.syn_event.specs.declared.numbering.TaskInfo.{TaskInfo}
 use Rattle.syn_event.specs.declared.numbering.EntryInfo.{EntryInfo}
 use Rattle.syn_event.specs.Numbering.{Numbering, task_at, entry_at, task_named, entry_named}
-use Rattle.syn_event.specs.Units.{tasks_of}
+use Rattle.syn_event.specs.DeclaredTasks.{tasks_of}
 use Rattle.ada_value.specs.declared.values.Raised.{Raised}
 use Rattle.ada_value.specs.declared.values.Raised.TheVariants as raised
 use Rattle.ada_value.specs.declared.values.Limits.{Limits}
@@ -42,8 +42,8 @@ task_meant g vars name None = Ok (unwrap_or (task_named g.numbers name) 0)
 task_meant g vars name (Some e) = and_then (evaluated g.types vars e) (λ v. member_named g.numbers name (position_of v))
 
 -- The task that a callee names: of a member of an array its index is evaluated first (9.5, 9.10).
-abbrev pub task_of : Setting → Variables → PCallee → Result ℕ Raised
-task_of g vars callee = task_meant g vars callee.name.name callee.index
+abbrev pub callee_task : Setting → Variables → PCallee → Result ℕ Raised
+callee_task g vars callee = task_meant g vars callee.name.name callee.index
 
 -- ---- entries
 

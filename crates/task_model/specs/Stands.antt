@@ -7,7 +7,7 @@ use Rattle.event_machine.specs.declared.Choice.{Choice}
 use Rattle.event_machine.specs.Offers.{Offer, Nothing, Calls, Waits, Finishes, Ends, Aborts}
 use Rattle.ada_value.specs.declared.values.Raised.{Raised}
 use Rattle.ada_value.specs.declared.values.Raised.TheVariants as raised
-use Rattle.task_model.specs.Setting.{task_of}
+use Rattle.task_model.specs.Setting.{callee_task}
 use Rattle.task_model.specs.Frames.{Around, OwnBody, Block, Handling, Loop, Opened}
 use Rattle.task_model.specs.Tasks.{Task, rest_of, place_of, vars_of, gone_to, raised_there}
 use Rattle.task_model.specs.Steps.{assign_step, get_step, put_step, line_end, if_step, case_step, block_step, exit_step, raise_step, loop_step, turn_step}
@@ -48,7 +48,7 @@ name_stand (Err x) = Raises x
 -- an abort names its tasks one by one, and evaluates an index when its name's turn has come; one of no names is a statement that is passed (9.10; this project's rule)
 abbrev pub abort_stand : Task → List PCallee → Stand
 abort_stand t [] = Steps
-abort_stand t (callee ∷ callees) = name_stand (task_of t.setting (vars_of t) callee)
+abort_stand t (callee ∷ callees) = name_stand (callee_task t.setting (vars_of t) callee)
 
 -- What a task stands at with this statement next.
 abbrev pub stand_at : Task → PStmt → Stand

@@ -16,7 +16,7 @@ use Rattle.ada_value.specs.declared.values.Value.{Value}
 use Rattle.ada_value.specs.declared.values.Raised.{Raised}
 use Rattle.ada_value.specs.declared.values.Form.{Form}
 use Rattle.ada_value.specs.declared.values.Limits.{Limits}
-use Rattle.ada_value.specs.Values.{position_of, lies_in, lower, limits_of, integer_limits}
+use Rattle.ada_value.specs.Values.{position_of, lies_in, lower_bound, limits_of, integer_limits}
 use Rattle.ada_value.specs.Variables.{Object, Variables, form_of_mark, object_with}
 use Rattle.ada_value.specs.Evaluating.{evaluated, range_of, narrowed}
 use Rattle.task_model.specs.Setting.{Setting}
@@ -60,8 +60,8 @@ form_of types (OArray index x) = array_form types index x (mark_named types x.ma
 
 -- an initial value; one that raises or lies outside the subtype, as in no legal program, counts for none
 abbrev pub value_or_lower : TypeTable → Limits → Result Value Raised → Value
-value_or_lower types limits (Ok v) = if lies_in limits (position_of v) then v else lower types limits
-value_or_lower types limits (Err x) = lower types limits
+value_or_lower types limits (Ok v) = if lies_in limits (position_of v) then v else lower_bound types limits
+value_or_lower types limits (Err x) = lower_bound types limits
 
 -- the value that an initial expression gives to an object or a component of this subtype (3.2.1)
 abbrev pub initial : TypeTable → Limits → PExpr → Value
@@ -74,7 +74,7 @@ value_count (Some index) = count_to ((index.last -ℤ index.first) +ℤ pos 1)
 
 -- The values with which an object starts: those of its initial value, which is static; without one the lower bound of its subtype, or of its components' (this project's rule).
 abbrev pub initials : TypeTable → Form → Option PInit → List Value
-initials types form None = replicate (value_count form.index) (lower types form.limits)
+initials types form None = replicate (value_count form.index) (lower_bound types form.limits)
 initials types form (Some (IOne e)) = replicate (value_count form.index) (initial types form.limits e)
 initials types form (Some (IList es s)) = map (initial types form.limits) es
 initials types form (Some (IOthers e s)) = replicate (value_count form.index) (initial types form.limits e)

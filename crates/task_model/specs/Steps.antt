@@ -11,7 +11,7 @@ use Rattle.ada_value.specs.declared.values.Limits.{Limits}
 use Rattle.ada_value.specs.Values.{and_then, position_of, value_at, limits_named, limits_of_kind, lies_in, is_empty_range}
 use Rattle.ada_value.specs.Variables.{Object, Variables, object_named, value_there, component_place, checked_for, set_value}
 use Rattle.ada_value.specs.Evaluating.{condition_of, range_of}
-use Rattle.ada_value.specs.Texts.{parts_text}
+use Rattle.ada_value.specs.Texts.{parts_output}
 use Rattle.task_model.specs.Frames.{Turns, Endless, While, Counting, Block, Loop, PFrame, settled, settled_in, raised_named, handled_by, exited_in, brought_by}
 use Rattle.task_model.specs.Tasks.{Task, place_of, outer_of, vars_of, value_of, with_control, with_input, with_text, with_vars, gone_to, stmts_or_none, entered, pushed, raised_there, or_raised}
 
@@ -69,7 +69,7 @@ line_end = 10 ∷ []
 -- the step of a PUT, PUT_LINE or NEW_LINE: the text of its parts is written, with its closing behind it (14.3)
 abbrev pub put_step : List PPart → List ℕ → PStmts → Task → Task
 put_step parts closing behind t =
-    or_raised (λ text. gone_to behind (with_text t (text ++ closing))) t (parts_text t.setting.program.names t.setting.types (vars_of t) parts)
+    or_raised (λ text. gone_to behind (with_text t (text ++ closing))) t (parts_output t.setting.program.names t.setting.types (vars_of t) parts)
 
 -- ---- if (5.3)
 

@@ -3,7 +3,7 @@ use Rattle.event_machine.specs.States.{Ops}
 use Rattle.task_model.specs.Frames.{callers_in}
 use Rattle.task_model.specs.Tasks.{Task}
 use Rattle.task_model.specs.Stands.{can_step, stepped, offer_of}
-use Rattle.task_model.specs.Rendezvous.{accepted, finished, resumed, call_failed, took_else, took_delay, passed}
+use Rattle.task_model.specs.Rendezvous.{accepted, finished, resumed, call_failed, took_else, took_delay, past_name}
 use Rattle.task_model.specs.Starting.{nobody}
 
 -- The table of what a task is asked and of what is done to it, for these tasks (9).
@@ -19,6 +19,6 @@ task_ops = record {
   raised = call_failed;
   took_else = took_else;
   took_delay = took_delay;
-  passed = passed;
+  passed = past_name;
   nobody = nobody;
 }

@@ -7,7 +7,7 @@ use Rattle.event_machine.specs.States.{State}
 use Rattle.event_machine.specs.Runs.{IsRun, end_of, events_of}
 use Rattle.event_machine.proofs.Appends.{run_append, end_append, events_append}
 use Rattle.syn_event.specs.Numbering.{Numbering}
-use Rattle.task_model.specs.Machine.{Tasks, Whole, rules_of, opening_of, enabled_of, after, event_of}
+use Rattle.task_model.specs.Machine.{Tasks, MachineState, rules_of, opening_of, enabled_of, after, event_of}
 use Rattle.task_machine.specs.Table.{can}
 use Rattle.run_model.specs.declared.report.RunEnd.{RunEnd}
 use Rattle.run_model.specs.declared.report.RunEnd.TheVariants.{Ended, Stuck}
@@ -22,7 +22,7 @@ some_applies false [] h = absurd (let k : ◌≡◌ {A = Option RunEnd} (Some St
 some_applies false (action ∷ actions) h = omega arith
 
 module _ (numbers : Numbering) (s : State Tasks) where
-  abbrev whole : State Tasks → Whole
+  abbrev whole : State Tasks → MachineState
   whole z = record { numbers = numbers; state = z }
 
   -- one action more, from the state behind these
@@ -37,7 +37,7 @@ module _ (numbers : Numbering) (s : State Tasks) where
     ends = ap whole (end_append (rules_of numbers) s actions (action ∷ []));
   }
 
-  goes_on : (m : Whole) (events : List Event) (action : Action) → IsReached numbers s m events → can m action ≡ true →
+  goes_on : (m : MachineState) (events : List Event) (action : Action) → IsReached numbers s m events → can m action ≡ true →
       IsReached numbers s (after m action) (events ++ option_to_list (event_of m action))
   goes_on m events action r =
       subst (λ x. can x action ≡ true → IsReached numbers s (after x action) (events ++ option_to_list (event_of x action))) r.ends

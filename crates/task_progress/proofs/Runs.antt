@@ -7,14 +7,14 @@ use Rattle.event_machine.specs.declared.Standing.TheVariants.{Live, Waiting, Que
 use Rattle.event_machine.specs.States as seats
 use Rattle.event_machine.specs.Runs.{IsRun, end_of, events_of}
 use Rattle.event_machine.specs.Tallies.{ComesTo, tallies}
-use Rattle.event_progress.specs.Known.{Known, Party, party, known, at_start, admits, is_by}
+use Rattle.event_progress.specs.Known.{Known, Party, party, known, known_at_start, admits, is_by}
 use Rattle.event_progress.specs.Laws.{Opened, IsYes, server_of, told}
 use Rattle.event_progress.proofs.Moves.{known_last}
 use Rattle.event_progress.proofs.Runs.{told_list, admitted_list}
 use Rattle.syn_event.specs.Numbering.{Numbering, owner_of}
 use Rattle.task_model.specs.Tasks.{Task}
 use Rattle.task_model.specs.TaskOps.{task_ops}
-use Rattle.task_model.specs.Machine.{Setup, Tasks, Whole, rules_of, opening_of}
+use Rattle.task_model.specs.Machine.{Setup, Tasks, MachineState, rules_of, opening_of}
 use Rattle.task_model.specs.Laws.{IsProper}
 use Rattle.task_model.proofs.Lawful.{lawful}
 use Rattle.task_model.proofs.Following.{opens, proper}
@@ -64,7 +64,7 @@ module _ (setup : Setup) (numbers : Numbering) where
       closed = λ t. ap (λ (p : Party). p.closed) (tells t);
       served = λ t a. ap (λ (p : Party). is_by a p.server) (tells t) ∙ served_by a (seat_of last.seats t).standing;
       callers = λ t. ap (λ (p : Party). p.callers) (tells t);
-      ended = ends_run (rules_of numbers) (owner_of numbers) actions (at_start (length numbers.tasks)) opening refl;
+      ended = ends_run (rules_of numbers) (owner_of numbers) actions (known_at_start (length numbers.tasks)) opening refl;
     }
 
   -- A feasible event is admitted.
@@ -88,7 +88,7 @@ module _ (setup : Setup) (numbers : Numbering) where
   instance = record { opened = opened; ops = refl; owner = refl; state = refl }
 
 pub known_by_event : KnownByEvent
-known_by_event numbers = (refl, λ before e. known_last (owner_of numbers) (at_start (length numbers.tasks)) before e)
+known_by_event numbers = (refl, λ before e. known_last (owner_of numbers) (known_at_start (length numbers.tasks)) before e)
 
 pub events_tell : EventsTell
 events_tell = so_after
@@ -103,10 +103,10 @@ pub never_refuses : (numbers : Numbering) (k : Known) (e : Event) → NeverRefus
 never_refuses numbers k e setup before is feasible = ap (λ (j : Known). admits (owner_of numbers) j e) is ∙ admitted setup numbers before e feasible
 
 -- what the events tell is so of a machine that a run reaches with them
-so_reached : (setup : Setup) (numbers : Numbering) (m : Whole) (reached : List Event) → IsReached numbers (opening_of setup numbers).state m reached → IsSoIn (known_in numbers reached) m.state
+so_reached : (setup : Setup) (numbers : Numbering) (m : MachineState) (reached : List Event) → IsReached numbers (opening_of setup numbers).state m reached → IsSoIn (known_in numbers reached) m.state
 so_reached setup numbers m reached r =
     subst (λ es. IsSoIn (known_in numbers es) m.state) r.has_events
-    (subst (λ (x : Whole). IsSoIn (known_in numbers (events_of (rules_of numbers) (opening_of setup numbers).state r.actions)) x.state) r.ends (so_after setup numbers r.actions r.applies))
+    (subst (λ (x : MachineState). IsSoIn (known_in numbers (events_of (rules_of numbers) (opening_of setup numbers).state r.actions)) x.state) r.ends (so_after setup numbers r.actions r.applies))
 
 module _ {C : Type 0} where
   pub picked_events_tell : PickedEventsTell C

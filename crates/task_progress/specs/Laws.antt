@@ -4,12 +4,12 @@ use Rattle.event_machine.specs.declared.Action.{Action}
 use Rattle.event_machine.specs.declared.Event.{Event}
 use Rattle.event_machine.specs.States.{State}
 use Rattle.event_machine.specs.Runs.{IsRun, end_of, events_of}
-use Rattle.event_progress.specs.Known.{Known, at_start, admits, advanced}
+use Rattle.event_progress.specs.Known.{Known, known_at_start, admits, advanced}
 use Rattle.event_progress.specs.Laws.{Opened}
 use Rattle.syn_event.specs.Numbering.{Numbering, owner_of}
 use Rattle.task_model.specs.Tasks.{Task}
 use Rattle.task_model.specs.TaskOps.{task_ops}
-use Rattle.task_model.specs.Machine.{Setup, Tasks, Whole, rules_of, opening_of}
+use Rattle.task_model.specs.Machine.{Setup, Tasks, MachineState, rules_of, opening_of}
 use Rattle.run_model.specs.Picked.{picked}
 use Rattle.task_machine.specs.declared.verdict.Verdict.TheVariants.{Feasible}
 use Rattle.task_machine.specs.Views.{IsFeasible}
@@ -20,7 +20,7 @@ use Rattle.task_progress.specs.Telling.{known_in, IsSoIn}
 -- made for the numbers, and that has gone on by some events, stands for these.
 abbrev pub KnownByEvent : Type 0
 KnownByEvent =
-    (numbers : Numbering) → (known_in numbers [] ≡ at_start (length numbers.tasks)) ×
+    (numbers : Numbering) → (known_in numbers [] ≡ known_at_start (length numbers.tasks)) ×
     ((events : List Event) (e : Event) → known_in numbers (events ++ e ∷ []) ≡ advanced (owner_of numbers) (known_in numbers events) e)
 
 -- After each run what its events tell is so.
@@ -48,7 +48,7 @@ NeverRefuses numbers k e answer =
     (setup : Setup) (events : List Event) → k ≡ known_in numbers events → IsFeasible setup numbers (events ++ e ∷ []) → answer ≡ true
 
 -- Some run from the state has these events and comes to this machine.
-pub record IsReached (numbers : Numbering) (s : State Tasks) (m : Whole) (events : List Event) : Type 0 where
+pub record IsReached (numbers : Numbering) (s : State Tasks) (m : MachineState) (events : List Event) : Type 0 where
   pub actions : List Action
   pub applies : IsRun (rules_of numbers) s actions
   pub has_events : events_of (rules_of numbers) s actions ≡ events

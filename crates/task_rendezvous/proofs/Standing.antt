@@ -10,7 +10,7 @@ use Rattle.ada_value.specs.declared.values.Raised.{Raised}
 use Rattle.ada_value.specs.Variables.{Variables}
 use Rattle.task_frames.specs.Stack.{Held}
 use Rattle.task_frames.specs.Moves.{Closes}
-use Rattle.task_model.specs.Setting.{task_of}
+use Rattle.task_model.specs.Setting.{callee_task}
 use Rattle.task_model.specs.Frames.{Around}
 use Rattle.task_model.specs.Tasks.{Task, rest_of, place_of, vars_of}
 use Rattle.task_model.specs.Calls.{Called, called}
@@ -40,7 +40,7 @@ name_not (Err x) is = cc
 
 pub abort_not : (t : Task) (callees : List PCallee) → offered (abort_stand t callees) ≡ Finishes → ⊥
 abort_not t [] is = cc
-abort_not t (callee ∷ callees) is = name_not (task_of t.setting (vars_of t) callee) is
+abort_not t (callee ∷ callees) is = name_not (callee_task t.setting (vars_of t) callee) is
 
 stmt_not : (t : Task) (s : PStmt) → offered (stand_at t s) ≡ Finishes → ⊥
 stmt_not t (SNull s) is = cc

@@ -9,7 +9,7 @@ use Rattle.task_model.specs.Frames.{Around, OwnBody, Block, Handling, Loop, Open
 use Rattle.task_model.specs.Tasks.{Task, rest_of, place_of, outer_of, stmts_or_none, with_vars, gone_to}
 use Rattle.task_model.specs.Calls.{Copies}
 use Rattle.task_model.specs.Waits.{delay_stmts}
-use Rattle.task_model.specs.Rendezvous.{behind_of, going_on, frame_left, body_closed, finished, more_at, more_in, come_back, copies_of, returned, pending_of, finals_of, resumed_with, resumed, call_failed, else_taken_at, else_taken_in, took_else, delay_taken_at, delay_taken_in, took_delay, passed_at, passed_in, passed}
+use Rattle.task_model.specs.Rendezvous.{behind_of, going_on, frame_left, body_closed, finished, more_at, more_in, come_back, copies_of, returned, pending_of, finals_of, resumed_with, resumed, call_failed, else_taken_at, else_taken_in, took_else, delay_taken_at, delay_taken_in, took_delay, passed_at, passed_in, past_name}
 use Rattle.task_waits.specs.Room.{widest_stmt}
 use Rattle.task_room.specs.Fitting.{FitsStmts, FitsParts, HasRoom}
 use Rattle.task_room.proofs.Frames.{left_fits, right_fits, none_fits}
@@ -181,5 +181,5 @@ module _ (n : ℕ) where
   passed_in_has_room (stmt_then s rest) t i k = passed_at_has_room s rest t (right_fits _ _ i) k
 
   -- The task behind the next name of its abort statement.
-  pub passed_has_room : (t : Task) → HasRoom n t → HasRoom n (passed t)
+  pub passed_has_room : (t : Task) → HasRoom n t → HasRoom n (past_name t)
   passed_has_room t k = passed_in_has_room (rest_of t) t k.0.0 k

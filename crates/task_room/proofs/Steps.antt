@@ -7,7 +7,7 @@ use Rattle.ada_value.specs.declared.values.Value.TheVariants.{Number}
 use Rattle.ada_value.specs.declared.values.Raised.{Raised}
 use Rattle.ada_value.specs.declared.values.Raised.TheVariants as raised
 use Rattle.ada_value.specs.declared.values.Limits.{Limits}
-use Rattle.ada_value.specs.Texts.{parts_text}
+use Rattle.ada_value.specs.Texts.{parts_output}
 use Rattle.ada_value.specs.Values.{and_then, is_empty_range}
 use Rattle.ada_value.specs.Variables.{Variables}
 use Rattle.task_model.specs.Frames.{Turns, Endless, While, Counting, Around, OwnBody, Block, Handling, Loop, Opened, PFrame, in_front, raised_in, exited_in, brought_by}
@@ -91,7 +91,7 @@ module _ (n : ℕ) where
 
   put_has_room : (parts : List PPart) (closing : List ℕ) (behind : PStmts) (t : Task) → FitsStmts n behind → HasRoom n t → HasRoom n (steps.put_step parts closing behind t)
   put_has_room parts closing behind t b k =
-      or_always (λ text. gone_to behind (with_text t (text ++ closing))) t (parts_text t.setting.program.names t.setting.types (vars_of t) parts) k
+      or_always (λ text. gone_to behind (with_text t (text ++ closing))) t (parts_output t.setting.program.names t.setting.types (vars_of t) parts) k
       (λ text. gone_has_room behind (with_text t (text ++ closing)) b k)
 
   -- ---- loops

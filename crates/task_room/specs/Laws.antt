@@ -8,7 +8,7 @@ use Rattle.event_machine.specs.Worlds.{World, Move, world_after}
 use Rattle.task_model.specs.Setting.{Setting}
 use Rattle.task_model.specs.Tasks.{Task, rest_of, gone_to, raised_there}
 use Rattle.task_model.specs.Waits.{alternative_for}
-use Rattle.task_model.specs.Rendezvous.{behind_of, alternative_opened, accepted, finished, returned, resumed_with, call_failed, took_else, took_delay, passed}
+use Rattle.task_model.specs.Rendezvous.{behind_of, alternative_opened, accepted, finished, returned, resumed_with, call_failed, took_else, took_delay, past_name}
 use Rattle.task_model.specs.Stands.{Stand, stepped, stepped_by}
 use Rattle.task_model.specs.Starting.{Unit, unit_of, started_in}
 use Rattle.task_model.specs.Machine.{Setup}
@@ -54,7 +54,7 @@ pub record IsKept : Type 0 where
   pub failed : IsKeptBy call_failed
   pub took_else : IsKeptBy took_else
   pub took_delay : (k : ℕ) → IsKeptBy (took_delay k)
-  pub passed : IsKeptBy passed
+  pub passed : IsKeptBy past_name
 
 -- ---- all tasks
 

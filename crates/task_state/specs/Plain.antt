@@ -8,7 +8,7 @@ use Rattle.ada_value.specs.declared.values.Raised.{Raised}
 use Rattle.ada_value.specs.declared.values.Limits.{Limits}
 use Rattle.ada_value.specs.Values.{position_of}
 use Rattle.ada_value.specs.Evaluating.{range_of}
-use Rattle.ada_value.specs.Texts.{parts_text}
+use Rattle.ada_value.specs.Texts.{parts_output}
 use Rattle.task_frames.specs.Stack.{control_on}
 use Rattle.task_model.specs.Frames.{Turns, Loop}
 use Rattle.task_model.specs.Tasks.{Task, rest_of, place_of, vars_of, gone_to}
@@ -31,7 +31,7 @@ range_in t r = range_of t.setting.types (vars_of t) r
 
 -- the text of the parts of a PUT where a task stands (14.3)
 abbrev pub text_in : Task → List PPart → Result (List ℕ) Raised
-text_in t parts = parts_text t.setting.program.names t.setting.types (vars_of t) parts
+text_in t parts = parts_output t.setting.program.names t.setting.types (vars_of t) parts
 
 -- the position behind that of a value, or before it where a loop counts backwards (5.5)
 abbrev pub counted_from : Bool → Value → ℤ

@@ -10,7 +10,7 @@ use Rattle.event_machine.specs.declared.Choice.{Choice}
 use Rattle.event_machine.specs.Offers.{Ends, Finishes}
 use Rattle.ada_value.specs.declared.values.Raised.{Raised}
 use Rattle.task_model.specs.declared.parameters.FormalParameter.{FormalParameter}
-use Rattle.task_model.specs.Setting.{task_of}
+use Rattle.task_model.specs.Setting.{callee_task}
 use Rattle.task_model.specs.Frames.{Turns, Around, OwnBody, Loop, Opened}
 use Rattle.task_model.specs.Tasks.{Task, rest_of, place_of, vars_of, gone_to}
 use Rattle.task_model.specs.Calls.{Called}
@@ -56,7 +56,7 @@ name_stays (Err x) s behind t = refl
 
 pub abort_stays : (t : Task) (callees : List PCallee) (s : Span) (behind : PStmts) → stepped_there (abort_stand t callees) (SAbort callees s) behind t ≡ aborted_none callees behind t
 abort_stays t [] s behind = refl
-abort_stays t (callee ∷ callees) s behind = name_stays (task_of t.setting (vars_of t) callee) (SAbort (callee ∷ callees) s) behind t
+abort_stays t (callee ∷ callees) s behind = name_stays (callee_task t.setting (vars_of t) callee) (SAbort (callee ∷ callees) s) behind t
 
 pub abort_steps : (t : Task) (callees : List Callee) → (length callees == 0) ≡ true → true ≡ is_step (abort_stand t (map plain_callee callees))
 abort_steps t [] h = refl
@@ -68,7 +68,7 @@ abort_passes t (callee ∷ callees) behind h = absurd (true≢false (sym h ∙ e
 
 pub abort_waits : (t : Task) (callees : List Callee) → (length callees == 0) ≡ false → false ≡ is_step (abort_stand t (map plain_callee callees))
 abort_waits t [] h = absurd (true≢false h)
-abort_waits t (callee ∷ callees) h = sym (name_is_none (task_of t.setting (vars_of t) (plain_callee callee)))
+abort_waits t (callee ∷ callees) h = sym (name_is_none (callee_task t.setting (vars_of t) (plain_callee callee)))
 
 pub abort_keeps : (t : Task) (callees : List Callee) (behind : PStmts) → (length callees == 0) ≡ false → t ≡ aborted_none (map plain_callee callees) behind t
 abort_keeps t [] behind h = absurd (true≢false h)

@@ -22,7 +22,7 @@ use Rattle.ada_value.specs.Values.{and_then, position_of, is_true_value, value_a
 use Rattle.ada_value.specs.declared.values.Limits.{Limits}
 use Rattle.ada_value.specs.Variables.{Object, Variables, with_value, value_there, component_place}
 use Rattle.ada_value.specs.Evaluating.{name_value, component_value, bound_value, attribute_value, signed_value, combined, unless_zero, operated, evaluated, condition_of, range_between, bounds_of, narrowed}
-use Rattle.ada_value.specs.Texts.{image, integer_text, expr_text, parts_text}
+use Rattle.ada_value.specs.Texts.{image, integer_text, expr_output, parts_output}
 use Rattle.translation_law.specs.Translations.{Programs, types_before, types_after, IsOld, IsFree, IsKnown}
 use Rattle.translation_law.specs.OldNames.{OldExpr, old_integer, old_name, old_index, old_attribute, old_attribute_of, old_paren, old_unary, old_binary, OldBounds, old_unbounded, old_bounded, OldParts, old_no_part, old_words, old_value}
 use Rattle.translation_law.specs.Scopes.{AgreeOnTypes, HasKnown, SameObject, no_object, same_object, SeeAlike}
@@ -266,7 +266,7 @@ module _ (x : Programs) (types : AgreeOnTypes x) where
   if-both false h k = k
 
   pub text-alike : {V V' : Variables} → SeeAlike x V V' → {e : PExpr} → OldExpr x e →
-      Both Equal (expr_text x.original.program.names (types_before x) V e) (expr_text x.made.program.names (types_after x) V' e)
+      Both Equal (expr_output x.original.program.names (types_before x) V e) (expr_output x.made.program.names (types_after x) V' e)
   text-alike see (old_attribute_of m w e s old h) =
       if-both (is_image (attribute_of w.name)) (both_then (value-alike see h) image-alike) (both_then (value-alike see (old_attribute_of m w e s old h)) number-alike)
   text-alike see (old_integer n s) = both_then (value-alike see (old_integer n s)) number-alike
@@ -281,7 +281,7 @@ module _ (x : Programs) (types : AgreeOnTypes x) where
   behind-alike a a' (equal c) b b' (equal d) = both_ok _ _ (equal (c ++ d))
 
   pub parts-alike : {V V' : Variables} → SeeAlike x V V' → {ps : List PPart} → OldParts x ps →
-      Both Equal (parts_text x.original.program.names (types_before x) V ps) (parts_text x.made.program.names (types_after x) V' ps)
+      Both Equal (parts_output x.original.program.names (types_before x) V ps) (parts_output x.made.program.names (types_after x) V' ps)
   parts-alike see old_no_part = both_ok _ _ (equal [])
   parts-alike see (old_words text s rest h) = both_then (parts-alike see h) (behind-alike text text (equal text))
   parts-alike see (old_value e rest h k) = both_then (text-alike see h) (λ a a' p. both_then (parts-alike see k) (behind-alike a a' p))

@@ -5,7 +5,7 @@ use Rattle.ada_tree.specs.declared.naming.NameId.{NameId}
 use Rattle.ada_tree.specs.declared.naming.Word.{Word}
 use Rattle.ada_tree.specs.PlainStmt.{PFormal}
 use Rattle.ada_tree.specs.PlainDecl.{PDecl, DNumber, DObject, DEnumeration, DArray, DSubtype, DException, DIntIo, DPragma, DTask, DTaskBody, PDecls, no_decl, decl_then, decls_of}
-use Rattle.ada_tree.specs.Scope.{Scope, Seen, Thing, meaning}
+use Rattle.ada_tree.specs.Scope.{Scope, NameMeaning, Thing, meaning}
 use Rattle.ada_tree.specs.Declaring.{with_name, with_names, seen_as, with_formals, after_own_object, after_objects, after_decl, after_decls}
 use Rattle.common_lemmas.proofs.Options.{some_same}
 
@@ -51,10 +51,10 @@ decl_own (DTaskBody w objects its sp) s = refl
 
 -- a name that is declared means that
 pub name_means : (thing : Thing) (w : Word) (s : Scope) (id : NameId) → (w.name.0 == id.0) ≡ true → meaning (with_name thing s w) id ≡ Some thing
-name_means thing w s id e = ap (λ (b : Bool). option_map (λ (x : Seen). x.thing) (if b then Some (seen_as thing w.name.0) else find (λ (x : Seen). x.name == id.0) s.names)) e
+name_means thing w s id e = ap (λ (b : Bool). option_map (λ (x : NameMeaning). x.thing) (if b then Some (seen_as thing w.name.0) else find (λ (x : NameMeaning). x.name == id.0) s.names)) e
 
 -- what a name means is what is found
-pub thing_found : (o : Option Seen) (x : Thing) → option_map (λ (y : Seen). y.thing) o ≡ Some x → (y : Seen) × (o ≡ Some y) × (y.thing ≡ x)
+pub thing_found : (o : Option NameMeaning) (x : Thing) → option_map (λ (y : NameMeaning). y.thing) o ≡ Some x → (y : NameMeaning) × (o ≡ Some y) × (y.thing ≡ x)
 thing_found (Some y) x e = (y, refl, some_same e)
 thing_found None x e = absurd (none-some x e)
 

@@ -3,7 +3,7 @@
 ghost use Rattle.std.specs.Prelude.{◌≡◌, OnOk, map};
 ghost use Rattle.ada_tree.specs.PlainStmt.{plain_stmt, plain_accept, plain_alt, plain_alt_kind, plain_arm, plain_case_arm, plain_handler, plain_body, alts_of, arms_of, case_arms_of, handlers_of, seen};
 ghost use Rattle.task_model.specs.Frames.{in_front};
-ghost use Rattle.normal_model.specs.Walk.{after_parts, after_stmts, after_accept, after_kind, after_alts, after_arms, after_case_arms, after_body, after_handlers, alts_leads, leads, inside, rewritten, inside_accept, inside_kind, inside_alts, inside_arms, inside_case_arms, inside_body, inside_handlers, image_of};
+ghost use Rattle.normal_model.specs.Walk.{after_parts, after_stmts, after_accept, after_kind, after_alts, after_arms, after_case_arms, after_body, after_handlers, alts_leads, leads, parts_rewritten, rewritten, inside_accept, inside_kind, inside_alts, inside_arms, inside_case_arms, inside_body, inside_handlers, image_of};
 ghost use Rattle.tree_walk.specs.Rules.{walk_of, after_arm, inside_arm, after_case_arm, inside_case_arm, after_handler, inside_handler, behind_alt, inside_alt};
 
 use crate::Rewriter;
@@ -78,7 +78,7 @@ fn inside_stmt<R: Rewriter>(
     track: &mut R::Track,
 ) -> Result<(), Memory>
     requires { R.fits r.now track.old }
-    ensures tree { OnOk result (plain_stmt stmt.new ≡ inside (walk_of (R.rule r.now)) (plain_stmt stmt.old) (R.state track.old)) }
+    ensures tree { OnOk result (plain_stmt stmt.new ≡ parts_rewritten (walk_of (R.rule r.now)) (plain_stmt stmt.old) (R.state track.old)) }
     ensures lead { OnOk result (seen out.new.items ≡ in_front (seen out.old.items) (leads (walk_of (R.rule r.now)) (plain_stmt stmt.old) (R.state track.old))) }
     ensures state { OnOk result (R.state track.new ≡ after_parts (walk_of (R.rule r.now)) (plain_stmt stmt.old) (R.state track.old)) }
     ensures fits { OnOk result (R.fits r.now track.new) }

@@ -4,13 +4,13 @@ use Rattle.ada_tree.specs.declared.naming.Word.{Word}
 use Rattle.ada_tree.specs.PlainStmt.{PAlt, alternative, PArm, arm, PCaseArm, case_arm, PHandler, handler}
 use Rattle.ada_tree.specs.Scope.{Scope, Range}
 use Rattle.ada_tree.specs.Demand.{Site}
-use Rattle.ada_tree.specs.Sites.{if_there, condition, stmts_sites, alt_sites, choice_sites, handler_names_sites}
+use Rattle.ada_tree.specs.Sites.{if_there, condition_sites, stmts_sites, alt_sites, choice_sites, handler_names_sites}
 
 abbrev pub alt_places : Scope → PAlt → List Site
-alt_places scope (alternative g x s) = if_there (condition scope) g ++ alt_sites scope x
+alt_places scope (alternative g x s) = if_there (condition_sites scope) g ++ alt_sites scope x
 
 abbrev pub arm_places : Scope → PArm → List Site
-arm_places scope (arm e l) = condition scope e ++ stmts_sites scope l
+arm_places scope (arm e l) = condition_sites scope e ++ stmts_sites scope l
 
 abbrev pub case_arm_places : Option ℕ → Option Range → Scope → PCaseArm → List Site
 case_arm_places k range scope (case_arm choices l) = flat_map (choice_sites scope k range) choices ++ stmts_sites scope l

@@ -17,8 +17,8 @@ abbrev pub plain_unit : Code → PUnit
 plain_unit u = record { text_io = u.text_io; name = u.name; decls = decls_of (map plain_decl u.decls.items); body = plain_body u.body }
 
 -- the unit with these declarations, by its body
-abbrev pub unit_of : Bool → Word → List Decl → PBody → Span → PUnit
-unit_of text_io w ds b close = record { text_io = text_io; name = w; decls = decls_of (map plain_decl ds); body = b }
+abbrev pub unit_of_parts : Bool → Word → List Decl → PBody → Span → PUnit
+unit_of_parts text_io w ds b close = record { text_io = text_io; name = w; decls = decls_of (map plain_decl ds); body = b }
 
 -- behind `procedure NAME is`
 abbrev pub behind_is : Source → ℕ → Bool → Word → Reader Item PUnit

@@ -7,16 +7,16 @@ use Rattle.ada_tree.specs.Scope.{Scope, Range}
 use Rattle.ada_tree.specs.ExprTypes.{kind_of}
 use Rattle.ada_tree.specs.RuleChoiceBad.{selected_range}
 use Rattle.ada_tree.specs.Demand.{Site, names_exception}
-use Rattle.ada_tree.specs.Sites.{site, if_there, condition, stmts_sites, alt_sites, choice_sites}
+use Rattle.ada_tree.specs.Sites.{site, if_there, condition_sites, stmts_sites, alt_sites, choice_sites}
 use Rattle.ada_refusals.specs.RefusedFirst.{refused_first}
 use Rattle.ada_scopes.specs.Entries.{plain_range}
 use Rattle.ada_types.specs.declared.statements.CaseHead.{CaseHead}
 
 abbrev pub each_alt : Scope → PAlt → List Site
-each_alt scope (alternative g x s) = if_there (condition scope) g ++ alt_sites scope x
+each_alt scope (alternative g x s) = if_there (condition_sites scope) g ++ alt_sites scope x
 
 abbrev pub each_arm : Scope → PArm → List Site
-each_arm scope (arm e l) = condition scope e ++ stmts_sites scope l
+each_arm scope (arm e l) = condition_sites scope e ++ stmts_sites scope l
 
 abbrev pub each_case_arm : Scope → Option ℕ → Option Range → PCaseArm → List Site
 each_case_arm scope k range (case_arm choices l) = flat_map (choice_sites scope k range) choices ++ stmts_sites scope l

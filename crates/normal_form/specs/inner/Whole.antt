@@ -1,7 +1,7 @@
 -- The declarations of a normal form as one list, and how many variables have names behind its bodies.
 use Rattle.std.specs.Prelude.{ℕ, max, List, [], ◌++◌, flat_map, map}
 use Rattle.ada_tree.specs.PlainDecl.{PDecl}
-use Rattle.syn_event.specs.Units.{decl_list}
+use Rattle.syn_event.specs.DeclaredTasks.{decl_list}
 use Rattle.task_model.specs.Setting.{Setting}
 use Rattle.normal_model.specs.NormalTree.{bodies_of, first_decls, greatest, task_declared, tasks_beside, variables_of_body}
 

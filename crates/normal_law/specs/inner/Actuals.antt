@@ -6,7 +6,7 @@ use Rattle.ada_tree.specs.TypeTable.{TypeTable}
 use Rattle.ada_tree.specs.PlainExpr.{PExpr}
 use Rattle.ada_value.specs.declared.values.Value.{Value}
 use Rattle.ada_value.specs.declared.values.Limits.{Limits}
-use Rattle.ada_value.specs.Values.{lower}
+use Rattle.ada_value.specs.Values.{lower_bound}
 use Rattle.task_model.specs.declared.parameters.FormalParameter.{FormalParameter}
 use Rattle.normal_model.specs.Calls.{Slot}
 
@@ -24,13 +24,13 @@ actual_dues (x ∷ xs) (e ∷ es) = due_of x.mode e ∷ actual_dues xs es
 
 -- the opening value of a formal, by what went to its variable: without a value the lower bound of its subtype
 abbrev pub opening_value : TypeTable → Limits → Option Value → Value
-opening_value types limits None = lower types limits
+opening_value types limits None = lower_bound types limits
 opening_value types limits (Some v) = v
 
 -- The opening values of formals, by what went to their variables.
 abbrev pub opening_values : TypeTable → List FormalParameter → List (Option Value) → List Value
 opening_values types [] vs = []
-opening_values types (f ∷ fs) [] = lower types f.limits ∷ opening_values types fs []
+opening_values types (f ∷ fs) [] = lower_bound types f.limits ∷ opening_values types fs []
 opening_values types (f ∷ fs) (v ∷ vs) = opening_value types f.limits v ∷ opening_values types fs vs
 
 -- formals with their modes, whose subtypes are those of the variables from number k on

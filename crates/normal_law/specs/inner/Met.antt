@@ -14,7 +14,7 @@ use Rattle.task_model.specs.Tasks.{Task, place_of, raised_there}
 use Rattle.task_model.specs.Calls.{Called, values_handed, comes_back}
 use Rattle.task_model.specs.Waits.{alternative_for}
 use Rattle.task_model.specs.Stands.{Steps, Raises, At, call_stand, stand_of, can_step, stepped}
-use Rattle.task_model.specs.Rendezvous.{alternative_opened, returned, took_else, took_delay, passed}
+use Rattle.task_model.specs.Rendezvous.{alternative_opened, returned, took_else, took_delay, past_name}
 use Rattle.translation_law.specs.Translations.{Programs, Translation, IsKnown}
 use Rattle.translation_law.specs.Controls.{Alike, AreInside, AreAround, StepAlike}
 use Rattle.normal_law.specs.Meetings.{AreValues, IsOpened}
@@ -64,7 +64,7 @@ pub record AbortMet (x : Translation) (σ κ : Task) : Type 0 where
   pub stands : stand_of σ ≡ At (Aborts task)
   pub stands_too : stand_of κ ≡ At (Aborts task)
   pub around : AreAround x σ κ
-  pub passes : Alike x (passed σ) (passed κ)
+  pub passes : Alike x (past_name σ) (past_name κ)
 
 -- Where a task stands, and its image with it.
 pub data Meets (x : Translation) (σ κ : Task) : Type 0 where

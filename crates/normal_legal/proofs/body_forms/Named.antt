@@ -13,8 +13,8 @@ use Rattle.syn_event.specs.declared.numbering.TaskInfo.{TaskInfo}
 use Rattle.syn_event.specs.CheckRefusals.{MeetsCheckRules}
 use Rattle.syn_event.specs.RuleReservedName.{is_reserved}
 use Rattle.syn_event.specs.Numbering.{Numbering, task_named}
-use Rattle.syn_event.specs.Numbered.{task_info}
-use Rattle.syn_event.specs.Units.{text_of}
+use Rattle.syn_event.specs.AddedNames.{task_info}
+use Rattle.syn_event.specs.DeclaredTasks.{text_of}
 use Rattle.syn_event.specs.NamedTasks.{NumberedTask, numbered_tasks}
 use Rattle.syn_event.specs.AllNumbers.{info_of_task, all_numbers}
 use Rattle.task_model.specs.Setting.{Setting}

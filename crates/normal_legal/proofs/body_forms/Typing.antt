@@ -12,7 +12,7 @@ use Rattle.ada_tree.specs.WellPlaced.{IsWellPlaced}
 use Rattle.ada_tree.specs.Scope.{Scope}
 use Rattle.ada_tree.specs.Demand.{Demand, declares, Site}
 use Rattle.ada_tree.specs.Sites.{if_there, scheme_sites, head_sites, expr_sites, decls_sites, body_sites}
-use Rattle.ada_tree.specs.Declaring.{first_scope, inside, after_decl, after_decls}
+use Rattle.ada_tree.specs.Declaring.{first_scope, inner_scope, after_decl, after_decls}
 use Rattle.ada_tree.specs.Refusals.{MeetsTypeRules, types_in}
 use Rattle.syn_event.specs.declared.numbering.Mode.TheVariants.{Original}
 use Rattle.syn_event.specs.CheckScope.{CheckSite}
@@ -93,7 +93,7 @@ pub are-typed : (p : PProgram) (made : Setting) (is_old : ℕ → Bool) → Meet
 are-typed p made is_old rules placed small =
     let T = types_in p in
     let first = first_scope p.name in
-    let body = body_sites (inside (after_decls first p.decls)) p.body in
+    let body = body_sites (inner_scope (after_decls first p.decls)) p.body in
     record {
       typing = typing T;
       accept = λ s h stands at. accept-stands T s h stands (places-met T (head_sites s h) at) (places-apart T (head_sites s h) at);

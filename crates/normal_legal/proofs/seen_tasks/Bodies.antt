@@ -8,10 +8,10 @@ use Rattle.ada_tree.specs.TypeTable.{TypeTable}
 use Rattle.ada_tree.specs.PlainStmt.{PFormal, PScheme, LWhile, LFor, PHead, PBody}
 use Rattle.ada_tree.specs.PlainDecl.{PTask, DNumber, DObject, DEnumeration, DArray, DSubtype, DException, DIntIo, DPragma, DTask, DTaskBody, PDecls, no_decl, decl_then}
 use Rattle.ada_tree.specs.PlainProgram.{PProgram}
-use Rattle.ada_tree.specs.Scope.{Scope, Seen, Thing, TypeMark, TaskType, SingleTask, TaskObject, TaskArray, Variable, ConstantObject, Parameter, LoopParameter, Literal, AnException, MainProcedure, AnotherUnit, Unclear, meaning, marking}
+use Rattle.ada_tree.specs.Scope.{Scope, NameMeaning, Thing, TypeMark, TaskType, SingleTask, TaskObject, TaskArray, Variable, ConstantObject, Parameter, LoopParameter, Literal, AnException, MainProcedure, AnotherUnit, Unclear, meaning, marking}
 use Rattle.ada_tree.specs.Sites.{loop_scope}
 use Rattle.ada_tree.specs.RuleUnknown.{no_body_of}
-use Rattle.ada_tree.specs.Declaring.{before_all, predefined_names, first_scope, with_name, with_names, with_types, with_constants, declared_object, inside, in_body, own_entries, after_own_object, after_objects, after_decl, after_decls, with_formals, formal_thing, loop_thing}
+use Rattle.ada_tree.specs.Declaring.{before_all, predefined_names, first_scope, with_name, with_names, with_types, with_constants, declared_object, inner_scope, in_body, own_entries, after_own_object, after_objects, after_decl, after_decls, with_formals, formal_thing, loop_thing}
 use Rattle.syn_event.specs.declared.meanings.Meant.{Meant}
 use Rattle.syn_event.specs.declared.meanings.Meant.TheVariants as meant
 use Rattle.syn_event.specs.CheckScope.{CheckScope}
@@ -31,8 +31,8 @@ use Rattle.tree_lemmas.proofs.Declared.{names_own, thing_found}
 -- no predefined name is that of a task
 first-no-task : (id : NameId) (th : Thing) → meaning before_all id ≡ Some th → IsNoTask th
 first-no-task id th e =
-    let x = thing_found (find (λ (x : Seen). x.name == id.0) predefined_names) th e in
-    subst IsNoTask x.2 (find-all (λ (y : Seen). IsNoTask y.thing) (λ (y : Seen). y.name == id.0) predefined_names x.0
+    let x = thing_found (find (λ (x : NameMeaning). x.name == id.0) predefined_names) th e in
+    subst IsNoTask x.2 (find-all (λ (y : NameMeaning). IsNoTask y.thing) (λ (y : NameMeaning). y.name == id.0) predefined_names x.0
     (tt, (tt, (tt, (tt, (tt, (tt, (tt, (tt, (tt, (tt, (tt, (tt, (tt, (tt, (tt, (tt, (tt, (tt, tt)))))))))))))))))) x.1)
 
 module _ (p : PProgram) (T : TypeTable) where
@@ -86,14 +86,14 @@ module _ (p : PProgram) (T : TypeTable) where
   -- in whose body a place is
   abbrev pub IsIn : Option PTask → Scope → CheckScope → Type 0
   IsIn None s c = c.own ≡ None
-  IsIn (Some t) s c = IsUnitOf p T t s.own × (c.own ≡ Some (sites.unit_of t))
+  IsIn (Some t) s c = IsUnitOf p T t s.own × (c.own ≡ Some (sites.enclosing_unit t))
 
   pub record PlaceSeen (who : Option PTask) (s : Scope) (c : CheckScope) : Type 0 where
     pub seen : (id : NameId) (th : Thing) → meaning s id ≡ Some th → SeenAs id th
     pub pairs : (id : NameId) (th : Thing) → meaning s id ≡ Some th → IsPair p T (check.meaning c id) th
     pub own : IsIn who s c
 
-  as-seen : (done : List NamedTasks) (rest : List NamedTasks) (kinds : List PTask) (units : List check.Unit) (id : NameId) (th : Thing) → task_names_of p ≡ done ++ rest → Means p T done kinds units id th → SeenAs id th
+  as-seen : (done : List NamedTasks) (rest : List NamedTasks) (kinds : List PTask) (units : List check.EnclosingUnit) (id : NameId) (th : Thing) → task_names_of p ≡ done ++ rest → Means p T done kinds units id th → SeenAs id th
   as-seen done rest kinds units id th e m = by_form th (extended p T done (task_names_of p) kinds kinds units units id (λ x f. ap (find _) e ∙ find_front _ done rest x f) (λ t f. f) (λ u f. f) th m)
     where
       by_form : (th : Thing) → Means p T (task_names_of p) kinds units id th → SeenAs id th
@@ -129,7 +129,7 @@ module _ (p : PProgram) (T : TypeTable) where
   no-task-seen id MainProcedure h = absurd h
 
   -- the body of main
-  pub main-seen : (kinds : List PTask) (s : Scope) (c : CheckScope) → MainSeen p T kinds no_decl s c → PlaceSeen None (inside s) c
+  pub main-seen : (kinds : List PTask) (s : Scope) (c : CheckScope) → MainSeen p T kinds no_decl s c → PlaceSeen None (inner_scope s) c
   main-seen kinds s c m = record { seen = λ id th e. as-seen m.done (task_names_in kinds no_decl) kinds c.units id th m.parts (m.means id th e); pairs = m.pairs; own = m.own }
 
   -- names of one thing that is no task, which the other rules list or not
@@ -172,9 +172,9 @@ module _ (p : PProgram) (T : TypeTable) where
       meant-joined [] ws c = refl
       meant-joined (v ∷ vs) ws c = meant-joined vs ws (record c { names = (v.name.0, meant.Inner) ∷ c.names })
 
-  pub accept-seen : (who : Option PTask) (s : Scope) (c : CheckScope) (h : PHead) → PlaceSeen who s c → PlaceSeen who (with_formals (inside s) h.formals) (sites.in_accept c h)
+  pub accept-seen : (who : Option PTask) (s : Scope) (c : CheckScope) (h : PHead) → PlaceSeen who s c → PlaceSeen who (with_formals (inner_scope s) h.formals) (sites.in_accept c h)
   accept-seen who s c h m =
-      formals-seen who h.formals (inside s) (record c { accepting = h.entry.name ∷ c.accepting; loops = [] }) (same-seen who s (inside s) c _ (λ id. refl) refl (λ id. refl) refl m)
+      formals-seen who h.formals (inner_scope s) (record c { accepting = h.entry.name ∷ c.accepting; loops = [] }) (same-seen who s (inner_scope s) c _ (λ id. refl) refl (λ id. refl) refl m)
 
   pub handling-seen : (who : Option PTask) (s : Scope) (c : CheckScope) → PlaceSeen who s c → PlaceSeen who s (sites.handling c)
   handling-seen who s c m = same-seen who s s c (sites.handling c) (λ id. refl) refl (λ id. refl) refl m
@@ -183,7 +183,7 @@ module _ (p : PProgram) (T : TypeTable) where
   loop-seen who s c w None m = same-seen who s s c (sites.in_loop c w None) (λ id. refl) refl (λ id. refl) refl m
   loop-seen who s c w (Some (LWhile e)) m = same-seen who s s c (sites.in_loop c w (Some (LWhile e))) (λ id. refl) refl (λ id. refl) refl m
   loop-seen who s c w (Some (LFor v b r)) m =
-      names-seen who (loop_thing _) (v ∷ []) s (inside s) c (sites.in_loop c w (Some (LFor v b r))) (loop-no-task _) (λ id. refl) refl
+      names-seen who (loop_thing _) (v ∷ []) s (inner_scope s) c (sites.in_loop c w (Some (LFor v b r))) (loop-no-task _) (λ id. refl) refl
       (λ id o. meant-out meant.Inner (v ∷ []) (record c { loops = option_map (λ y. y.name) w ∷ c.loops }) id o) refl m
 
   -- ---- bodies of tasks
@@ -209,11 +209,11 @@ module _ (p : PProgram) (T : TypeTable) where
   objects-seen who (decl_then (DTaskBody w objects its sp) rest) s c q m = objects-seen who rest s c q m
 
   -- the task or task type whose body is given
-  pub record IsBodyOf (units : List check.Unit) (o : Option Thing) (w : Word) : Type 0 where
+  pub record IsBodyOf (units : List check.EnclosingUnit) (o : Option Thing) (w : Word) : Type 0 where
     pub task : PTask
     pub named : task.name.name.0 ≡ w.name.0
     pub own : IsUnitOf p T task (own_entries o)
-    pub unit : find (unit_is w.name) units ≡ Some (sites.unit_of task)
+    pub unit : find (unit_is w.name) units ≡ Some (sites.enclosing_unit task)
 
   body-of : (kinds : List PTask) (ds : PDecls) (s : Scope) (c : CheckScope) (w : Word) (m : MainSeen p T kinds ds s c) → (o : Option Thing) → meaning s w.name ≡ o → no_body_of o w ≡ [] → IsBodyOf c.units o w
   body-of kinds ds s c w m (Some (SingleTask es)) e h = let d = (m.means w.name (SingleTask es) e).1 in record { task = d.task; named = d.named; own = d.own; unit = d.unit }
@@ -240,7 +240,7 @@ module _ (p : PProgram) (T : TypeTable) where
 
   pub task-seen : (kinds : List PTask) (w : Word) (objects : PDecls) (its : PBody) (sp : Span) (rest : PDecls) (s : Scope) (c : CheckScope) →
       MainSeen p T kinds (decl_then (DTaskBody w objects its sp) rest) s c → no_body_of (meaning s w.name) w ≡ [] →
-      TaskSeen w (inside (after_objects (in_body s w) objects)) (sites.after_own (sites.in_body c w) objects)
+      TaskSeen w (inner_scope (after_objects (in_body s w) objects)) (sites.after_own (sites.in_body c w) objects)
   task-seen kinds w objects its sp rest s c m h =
       let d = body-of kinds _ s c w m (meaning s w.name) refl h in
       let start : PlaceSeen (Some d.task) (in_body s w) (sites.in_body c w) = record {

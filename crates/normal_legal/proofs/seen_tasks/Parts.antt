@@ -21,7 +21,7 @@ use Rattle.syn_event.specs.CheckScope.{CheckScope}
 use Rattle.syn_event.specs.CheckScope as check
 use Rattle.syn_event.specs.CheckSites as sites
 use Rattle.syn_event.specs.Extents.{extent}
-use Rattle.syn_event.specs.Units.{tasks_of, tasks_in, decl_list}
+use Rattle.syn_event.specs.DeclaredTasks.{tasks_of, tasks_in, decl_list}
 use Rattle.syn_event.specs.NamedTasks.{NamedTasks, named_tasks, type_named, task_names_of_type, object_task_names, with_type, single_task_name, task_names_in, task_names_of}
 use Rattle.task_model.specs.Setting.{unit_named}
 use Rattle.rewritten_types.specs.Rewriting.{names_declared, IsUsed, IsUnused}
@@ -68,7 +68,7 @@ AreRanged T s (decl_then d rest) = DeclRanged T s d × AreRanged T (after_decl s
 abbrev pub is_called : NameId → NamedTasks → Bool
 is_called id x = x.name.name.0 == id.0
 
-abbrev pub unit_is : NameId → check.Unit → Bool
+abbrev pub unit_is : NameId → check.EnclosingUnit → Bool
 unit_is id u = u.name.0 == id.0
 
 -- at most one passes
@@ -127,18 +127,18 @@ module _ (p : PProgram) (T : TypeTable) where
     pub own : IsUnitOf part.unit es
 
   -- a name is that of a task or task type, which the other rules know too
-  pub record IsDeclared (units : List check.Unit) (id : NameId) (es : List EntryPart) : Type 0 where
+  pub record IsDeclared (units : List check.EnclosingUnit) (id : NameId) (es : List EntryPart) : Type 0 where
     pub task : PTask
     pub named : task.name.name.0 ≡ id.0
     pub own : IsUnitOf task es
-    pub unit : find (unit_is id) units ≡ Some (sites.unit_of task)
+    pub unit : find (unit_is id) units ≡ Some (sites.enclosing_unit task)
 
   pub record IsTaskArray (done : List NamedTasks) (id : NameId) (known : Range) (es : List EntryPart) : Type 0 where
     pub range : PDrange
     pub stands : Stands done id (Some range) es
     pub extent : IsExtent T range known
 
-  abbrev pub Means : List NamedTasks → List PTask → List check.Unit → NameId → Thing → Type 0
+  abbrev pub Means : List NamedTasks → List PTask → List check.EnclosingUnit → NameId → Thing → Type 0
   Means done kinds units id (SingleTask es) = Stands done id None es × IsDeclared units id es
   Means done kinds units id (TaskObject es) = Stands done id None es
   Means done kinds units id (TaskArray range es) = IsTaskArray done id range es
@@ -151,7 +151,7 @@ module _ (p : PProgram) (T : TypeTable) where
   IsPair o (TaskType es) = o ≡ Some meant.TaskType
   IsPair o _ = Unit {0}
 
-  pub no-task-means : (done : List NamedTasks) (kinds : List PTask) (units : List check.Unit) (id : NameId) (th : Thing) → IsNoTask th → Means done kinds units id th
+  pub no-task-means : (done : List NamedTasks) (kinds : List PTask) (units : List check.EnclosingUnit) (id : NameId) (th : Thing) → IsNoTask th → Means done kinds units id th
   no-task-means done kinds units id (TypeMark m) h = tt
   no-task-means done kinds units id (Variable m) h = tt
   no-task-means done kinds units id (ConstantObject m) h = tt
@@ -209,18 +209,18 @@ module _ (p : PProgram) (T : TypeTable) where
 
   -- ---- one name more, and several
 
-  pub extended : (done more : List NamedTasks) (kinds kinds' : List PTask) (units units' : List check.Unit) (id : NameId) →
+  pub extended : (done more : List NamedTasks) (kinds kinds' : List PTask) (units units' : List check.EnclosingUnit) (id : NameId) →
       ((x : NamedTasks) → find (is_called id) done ≡ Some x → find (is_called id) more ≡ Some x) → ((t : PTask) → type_named kinds id ≡ Some t → type_named kinds' id ≡ Some t) →
-      ((u : check.Unit) → find (unit_is id) units ≡ Some u → find (unit_is id) units' ≡ Some u) → (th : Thing) → Means done kinds units id th → Means more kinds' units' id th
+      ((u : check.EnclosingUnit) → find (unit_is id) units ≡ Some u → find (unit_is id) units' ≡ Some u) → (th : Thing) → Means done kinds units id th → Means more kinds' units' id th
   extended done more kinds kinds' units units' id f g h (SingleTask es) m = (
     record { part = m.0.part; found = f m.0.part m.0.found; index_range = m.0.index_range; own = m.0.own },
-    record { task = m.1.task; named = m.1.named; own = m.1.own; unit = h (sites.unit_of m.1.task) m.1.unit },
+    record { task = m.1.task; named = m.1.named; own = m.1.own; unit = h (sites.enclosing_unit m.1.task) m.1.unit },
   )
   extended done more kinds kinds' units units' id f g h (TaskObject es) m = record { part = m.part; found = f m.part m.found; index_range = m.index_range; own = m.own }
   extended done more kinds kinds' units units' id f g h (TaskArray range es) m =
       record { range = m.range; stands = record { part = m.stands.part; found = f m.stands.part m.stands.found; index_range = m.stands.index_range; own = m.stands.own }; extent = m.extent }
   extended done more kinds kinds' units units' id f g h (TaskType es) m =
-      (record { task = m.0.task; named = m.0.named; own = m.0.own; unit = h (sites.unit_of m.0.task) m.0.unit }, g m.0.task m.1)
+      (record { task = m.0.task; named = m.0.named; own = m.0.own; unit = h (sites.enclosing_unit m.0.task) m.0.unit }, g m.0.task m.1)
   extended done more kinds kinds' units units' id f g h (TypeMark m) x = tt
   extended done more kinds kinds' units units' id f g h (Variable m) x = tt
   extended done more kinds kinds' units units' id f g h (ConstantObject m) x = tt
@@ -319,7 +319,7 @@ module _ (p : PProgram) (T : TypeTable) where
   meant-grown : (c : CheckScope) (m : Meant) (names : List Word) → Grown c (sites.with_meant m c names) names
   meant-grown c m names = record { out = λ id e. meant-out m names c id e; units = meant_units m names c; own = meant-own m names c }
 
-  value-grown : (c : CheckScope) (b : Bool) (names : List Word) → Grown c (sites.with_value b c names) names
+  value-grown : (c : CheckScope) (b : Bool) (names : List Word) → Grown c (sites.with_declared_object b c names) names
   value-grown c true names = meant-grown c meant.Shared names
   value-grown c false names = record { out = λ id e. refl; units = refl; own = refl }
 
@@ -491,16 +491,16 @@ module _ (p : PProgram) (T : TypeTable) where
 
   -- the task or type that is declared
   declared-new : (t : PTask) (s : Scope) (c : CheckScope) (id : NameId) → (t.name.name.0 == id.0) ≡ true → AllByRecursion (EntryRanged T s) t.entries → IsUnit t →
-      IsDeclared (sites.unit_of t ∷ c.units) id (map (entry_part s) t.entries)
+      IsDeclared (sites.enclosing_unit t ∷ c.units) id (map (entry_part s) t.entries)
   declared-new t s c id e ranged unit = record {
     task = t;
     named = eqb-true t.name.name.0 id.0 e;
     own = record { around = s; entries = refl; ranged = ranged; unit = unit };
-    unit = ap (λ b. if b then Some (sites.unit_of t) else find (unit_is id) c.units) e;
+    unit = ap (λ b. if b then Some (sites.enclosing_unit t) else find (unit_is id) c.units) e;
   }
 
   task-means : (b : Bool) (done : List NamedTasks) (kinds : List PTask) (t : PTask) (sp : Span) (s : Scope) (c : CheckScope) (id : NameId) → (t.name.name.0 == id.0) ≡ true → find (is_called id) done ≡ None →
-      AllByRecursion (EntryRanged T s) t.entries → IsUnit t → Means (done ++ single_task_name b t sp) (with_type kinds b t) (sites.unit_of t ∷ c.units) id (task_thing b (map (entry_part s) t.entries))
+      AllByRecursion (EntryRanged T s) t.entries → IsUnit t → Means (done ++ single_task_name b t sp) (with_type kinds b t) (sites.enclosing_unit t ∷ c.units) id (task_thing b (map (entry_part s) t.entries))
   unfolding declared-new
   task-means true done kinds t sp s c id e none ranged unit = (declared-new t s c id e ranged unit, head-found id t kinds e)
   task-means false done kinds t sp s c id e none ranged unit = (
@@ -551,7 +551,7 @@ module _ (p : PProgram) (T : TypeTable) where
       let thing : Thing = task_thing t.of_kind (map (entry_part s) t.entries) in
       let more : List NamedTasks = single_task_name t.of_kind t sp in
       let kinds' : List PTask = with_type kinds t.of_kind t in
-      let c0 : CheckScope = record c { units = sites.unit_of t ∷ c.units } in
+      let c0 : CheckScope = record c { units = sites.enclosing_unit t ∷ c.units } in
       let unit : IsUnit t = task-is-unit kinds t sp rest s c m u in
       let only : (id : NameId) → is_one_of (t.name ∷ []) id ≡ true → (t.name.name.0 == id.0) ≡ true = λ id one. ⊎_elim (λ h. h) (λ h. absurd (true≢false (sym h))) (or_cases (t.name.name.0 == id.0) false one) in
       let no : (id : NameId) → is_one_of (t.name ∷ []) id ≡ false → (t.name.name.0 == id.0) ≡ false = λ id out. (or_parts (t.name.name.0 == id.0) false out).0 in
@@ -566,9 +566,9 @@ module _ (p : PProgram) (T : TypeTable) where
         tasks_used = all_joined _ m.before (t ∷ []) (all_weaker _ _ m.before (λ x h. used-more s t.name.name.0 x.name.name h) m.tasks_used) (name-used thing t.name s, tt);
         here = here-decl (DTask t sp) s m.here;
         main = m.main;
-        means = names-all (Means (m.done ++ more) kinds' (sites.unit_of t ∷ c.units)) thing (t.name ∷ []) s
-            (λ id th out e. extended m.done (m.done ++ more) kinds kinds' c.units (sites.unit_of t ∷ c.units) id (λ x f. find_front (is_called id) m.done more x f) (λ y f. type-kept t.of_kind kinds t y id (no id out) f)
-            (λ y f. ap (λ b. if b then Some (sites.unit_of t) else find (unit_is id) c.units) (no id out) ∙ f) th (m.means id th e))
+        means = names-all (Means (m.done ++ more) kinds' (sites.enclosing_unit t ∷ c.units)) thing (t.name ∷ []) s
+            (λ id th out e. extended m.done (m.done ++ more) kinds kinds' c.units (sites.enclosing_unit t ∷ c.units) id (λ x f. find_front (is_called id) m.done more x f) (λ y f. type-kept t.of_kind kinds t y id (no id out) f)
+            (λ y f. ap (λ b. if b then Some (sites.enclosing_unit t) else find (unit_is id) c.units) (no id out) ∙ f) th (m.means id th e))
             (λ id one. task-means t.of_kind m.done kinds t sp s c id (only id one)
             (subst (λ n. find (is_called record { 0 = n }) m.done ≡ None) (eqb-true t.name.name.0 id.0 (only id one)) (none-done s m.done t.name.name m.parts_used u.0 u.1)) ranged unit);
         pairs = names-all (λ id th. IsPair (check.meaning (sites.after_task c t) id) th) thing (t.name ∷ []) s

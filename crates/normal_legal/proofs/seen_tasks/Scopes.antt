@@ -11,8 +11,8 @@ use Rattle.ada_tree.specs.TypeTable.{TypeTable}
 use Rattle.ada_tree.specs.declared.static_types.Kind.{Kind}
 use Rattle.ada_tree.specs.declared.static_types.Kind.TheVariants.{Integer, Truth, Enumeration, Array}
 use Rattle.ada_tree.specs.declared.static_types.Mark.{Mark}
-use Rattle.ada_tree.specs.Scope.{Scope, Seen, Thing, TypeMark, TaskType, SingleTask, TaskObject, TaskArray, Variable, ConstantObject, Parameter, LoopParameter, Literal, AnException, MainProcedure, AnotherUnit, Unclear, EntryPart, Range, meaning, Marking, ScalarMark, ArrayMark, TaskMark, NoMark, UnknownMark, UnclearMark, marking_of_kind, marking_of_mark, marking_of, marking, mark_at, kind_at}
-use Rattle.ada_tree.specs.Declaring.{seen_as, with_name, with_names, object_of, plain_object, array_object, declared_object, made_subind, drange_range, task_object, task_array, formal_thing, loop_thing}
+use Rattle.ada_tree.specs.Scope.{Scope, NameMeaning, Thing, TypeMark, TaskType, SingleTask, TaskObject, TaskArray, Variable, ConstantObject, Parameter, LoopParameter, Literal, AnException, MainProcedure, AnotherUnit, Unclear, EntryPart, Range, meaning, Marking, ScalarMark, ArrayMark, TaskMark, NoMark, UnknownMark, UnclearMark, marking_of_kind, marking_of_mark, marking_of, marking, mark_at, kind_at}
+use Rattle.ada_tree.specs.Declaring.{seen_as, with_name, with_names, object_meaning, plain_object, array_object, declared_object, made_subind, drange_range, task_object, task_array, formal_thing, loop_thing}
 use Rattle.syn_event.specs.declared.meanings.Meant.{Meant}
 use Rattle.syn_event.specs.CheckScope.{CheckScope}
 use Rattle.syn_event.specs.CheckScope as check
@@ -29,11 +29,11 @@ has_id id w = w.name.0 == id.0
 abbrev pub is_one_of : List Word → NameId → Bool
 is_one_of ws id = list_any (has_id id) ws
 
-abbrev through : Bool → Thing → ℕ → Option Seen → Option Thing
+abbrev through : Bool → Thing → ℕ → Option NameMeaning → Option Thing
 through b thing n o = option_map (λ s. s.thing) (if b then Some (seen_as thing n) else o)
 
 meaning-other : (thing : Thing) (w : Word) (s : Scope) (id : NameId) → (w.name.0 == id.0) ≡ false → meaning (with_name thing s w) id ≡ meaning s id
-meaning-other thing w s id e = ap (λ b. through b thing w.name.0 (find (λ (x : Seen). x.name == id.0) s.names)) e
+meaning-other thing w s id e = ap (λ b. through b thing w.name.0 (find (λ (x : NameMeaning). x.name == id.0) s.names)) e
 
 pub meaning-out : (thing : Thing) (ws : List Word) (s : Scope) (id : NameId) → is_one_of ws id ≡ false → meaning (with_names thing s ws) id ≡ meaning s id
 meaning-out thing [] s id e = refl
@@ -97,7 +97,7 @@ IsNoTask (TaskArray range es) = ⊥
 IsNoTask MainProcedure = ⊥
 IsNoTask _ = Unit {0}
 
-object-no-task : (constant : Bool) (m : Option ℕ) → IsNoTask (object_of constant m)
+object-no-task : (constant : Bool) (m : Option ℕ) → IsNoTask (object_meaning constant m)
 object-no-task true (Some m) = tt
 object-no-task false (Some m) = tt
 object-no-task true None = tt

@@ -14,7 +14,7 @@ use Rattle.ada_tree.specs.Scope.{Scope}
 use Rattle.ada_tree.specs.Demand.{gives_body, Site}
 use Rattle.ada_tree.specs.Sites.{site, if_there, names_sites, shape_sites, init_sites, object_marking, own_sites, body_sites, decl_sites, decls_sites}
 use Rattle.ada_tree.specs.RuleDuplicate.{is_predefined, is_among, fixes, introduces, at_word}
-use Rattle.ada_tree.specs.Declaring.{declared_object, inside, in_body, after_objects, after_decl}
+use Rattle.ada_tree.specs.Declaring.{declared_object, inner_scope, in_body, after_objects, after_decl}
 use Rattle.syn_event.specs.CheckScope.{CheckScope, CheckSite}
 use Rattle.syn_event.specs.CheckSites as sites
 use Rattle.task_model.specs.Starting.{unit_among}
@@ -78,7 +78,7 @@ module _ (p : PProgram) (T : TypeTable) where
     -- the bodies of tasks begin at scopes that are typed
     abbrev pub BodiesTyped : Scope → PDecls → Type 0
     BodiesTyped s no_decl = Unit {0}
-    BodiesTyped s (decl_then (DTaskBody w objects its sp) rest) = Typed (inside (after_objects (in_body s w) objects)) × BodiesTyped (after_decl s (DTaskBody w objects its sp)) rest
+    BodiesTyped s (decl_then (DTaskBody w objects its sp) rest) = Typed (inner_scope (after_objects (in_body s w) objects)) × BodiesTyped (after_decl s (DTaskBody w objects its sp)) rest
     BodiesTyped s (decl_then d rest) = BodiesTyped (after_decl s d) rest
 
     pub record BodyPlace (name : NameId) (its : PBody) : Type 0 where
@@ -98,16 +98,16 @@ module _ (p : PProgram) (T : TypeTable) where
       body_found : (its : PBody) → BodyPlace name its → BodyFound name its
 
     one-body : (w : Word) (objects : PDecls) (its : PBody) (sp : Span) (rest : PDecls) (kinds : List PTask) (s : Scope) (c : CheckScope) (name : NameId) → (w.name.0 == name.0) ≡ true →
-        ((x : Site) → place x → IsMet x) → MainSeen p T kinds (decl_then (DTaskBody w objects its sp) rest) s c → Typed (inside (after_objects (in_body s w) objects)) → EveryBody r 1 its →
+        ((x : Site) → place x → IsMet x) → MainSeen p T kinds (decl_then (DTaskBody w objects its sp) rest) s c → Typed (inner_scope (after_objects (in_body s w) objects)) → EveryBody r 1 its →
         AllByRecursion place (decl_sites s (DTaskBody w objects its sp)) → AllByRecursion check_place (sites.own_sites (sites.in_body c w) objects ++ sites.body_sites (sites.after_own (sites.in_body c w) objects) 1 its) → BodyPlace name its
     one-body w objects its sp rest kinds s c name e met m typed every at checked = record {
       word = w;
       called = eqb-true w.name.0 name.0 e;
-      scope = inside (after_objects (in_body s w) objects);
+      scope = inner_scope (after_objects (in_body s w) objects);
       around = sites.after_own (sites.in_body c w) objects;
       seen = task-seen p T kinds w objects its sp rest s c m (met (site s (gives_body w)) at.0).known;
       typed = typed;
-      places = all_back place (own_sites (in_body s w) objects) (body_sites (inside (after_objects (in_body s w) objects)) its) at.1;
+      places = all_back place (own_sites (in_body s w) objects) (body_sites (inner_scope (after_objects (in_body s w) objects)) its) at.1;
       check_places = all_back check_place (sites.own_sites (sites.in_body c w) objects) (sites.body_sites (sites.after_own (sites.in_body c w) objects) 1 its) checked;
       every = every;
     }

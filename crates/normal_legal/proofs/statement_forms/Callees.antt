@@ -28,7 +28,7 @@ use Rattle.ada_value.specs.Values.{and_then, position_of}
 use Rattle.ada_value.specs.Evaluating.{evaluated}
 use Rattle.ada_value.specs.declared.values.Value.{Value}
 use Rattle.ada_value.specs.declared.values.Raised.{Raised}
-use Rattle.task_model.specs.Setting.{member_named, task_meant, task_of}
+use Rattle.task_model.specs.Setting.{member_named, task_meant, callee_task}
 use Rattle.legal_sites.specs.Met.{IsMet, IsCheckMet}
 use Rattle.legal_entries.proofs.Entries.{numbers, g, IsTaskOf}
 use Rattle.normal_legal.proofs.seen_tasks.Parts.{IsExtent, Stands, IsTaskArray}
@@ -201,7 +201,7 @@ module _ (p : PProgram) (T : TypeTable) where
       raised-not : (y : Raised) (t : ℕ) → and_then {A = ℕ} {B = ℕ} (Err y) (λ n. Ok n) ≡ Ok t → ⊥
       raised-not y t e = cc
 
-      pub named-one : (t : ℕ) → task_of (g p T) [] x ≡ Ok t → IsOneOf t
+      pub named-one : (t : ℕ) → callee_task (g p T) [] x ≡ Ok t → IsOneOf t
       named-one t e = by_index x.index e
         where
           by_index : (o : Option PExpr) → task_meant (g p T) [] x.name.name o ≡ Ok t → IsOneOf t

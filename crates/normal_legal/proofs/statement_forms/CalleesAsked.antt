@@ -13,7 +13,7 @@ use Rattle.ada_tree.specs.PlainExpr.{PExpr, PDrange}
 use Rattle.ada_tree.specs.PlainStmt.{PCallee}
 use Rattle.ada_tree.specs.PlainProgram.{PProgram}
 use Rattle.ada_tree.specs.Scope.{Scope, Range, and_then as and_then_some}
-use Rattle.ada_tree.specs.ExprTypes.{place_of, kind_of, static_in, is_other_kind}
+use Rattle.ada_tree.specs.ExprTypes.{expr_place, kind_of, static_in, is_other_kind}
 use Rattle.ada_tree.specs.Sites.{if_there, expr_sites, callee_sites}
 use Rattle.ada_tree.specs.RuleRangeBad.{is_outside, out_of}
 use Rattle.ada_tree.specs.RuleMismatch.{of_other_kind}
@@ -73,8 +73,8 @@ module _ (p : PProgram) (T : TypeTable) (Typed : Scope → Type 0) (typing : Typ
     static-member r range e row ext q kinded out unmoved =
         let worth = typing.expr s e typed (small e q) (index-met e q) in
         let w = worth.static (unmoved-static T e unmoved) in
-        let same : range.kind ≡ worth.kind = same-kind range.kind (kind_of s e) worth.kind worth.is (no-place (is_other_kind (Some range.kind) (kind_of s e)) (place_of e) kinded) in
-        let inside : is_outside range (static_in s range.kind e) ≡ false = no-place (is_outside range (static_in s range.kind e)) (place_of e) out in
+        let same : range.kind ≡ worth.kind = same-kind range.kind (kind_of s e) worth.kind worth.is (no-place (is_other_kind (Some range.kind) (kind_of s e)) (expr_place e) kinded) in
+        let inside : is_outside range (static_in s range.kind e) ≡ false = no-place (is_outside range (static_in s range.kind e)) (expr_place e) out in
         let there : is_outside range (Some w.number) ≡ false = sym (ap (is_outside range) (ap (λ n. static_in s n e) same ∙ w.static)) ∙ inside in
         let within : (int_le range.first w.number && int_le w.number range.last) ≡ true = inside-range range (record { kind = 0; first = range.first; last = range.last }) w.number refl refl there in
         let m = member-in p T known x.name.name k.stands.part r range k.stands.found row ext w.number within in

@@ -12,7 +12,7 @@ use Rattle.ada_tree.specs.PlainDecl.{PEntry, PTask}
 use Rattle.ada_tree.specs.PlainProgram.{PProgram}
 use Rattle.ada_tree.specs.StaticValue.{is_static}
 use Rattle.ada_tree.specs.Scope.{Scope, Range, family, EntryPart, entry_named}
-use Rattle.ada_tree.specs.ExprTypes.{place_of, kind_of, static_in, is_other_kind}
+use Rattle.ada_tree.specs.ExprTypes.{expr_place, kind_of, static_in, is_other_kind}
 use Rattle.ada_tree.specs.Demand.{must_be_of, must_lie_in, accepts}
 use Rattle.ada_tree.specs.Sites.{site, expr_sites, expr_of, accept_index_sites}
 use Rattle.ada_tree.specs.Declaring.{family_of, entry_family, entry_part}
@@ -133,8 +133,8 @@ module _ (p : PProgram) (T : TypeTable) (Typed : Scope → Type 0) (typing : Typ
       let kinded = (all_back IsMet (expr_sites s e) (site s (must_be_of e (Some ranged.range.kind)) ∷ []) of_kind).0 in
       let worth = typing.expr s e typed small exprs in
       let w = worth.static static in
-      let same : ranged.range.kind ≡ worth.kind = same-kind ranged.range.kind (kind_of s e) worth.kind worth.is (no-place (is_other_kind (Some ranged.range.kind) (kind_of s e)) (place_of e) kinded.matched) in
-      let inside : is_outside ranged.range (static_in s ranged.range.kind e) ≡ false = no-place (is_outside ranged.range (static_in s ranged.range.kind e)) (place_of e) lies.ranged in
+      let same : ranged.range.kind ≡ worth.kind = same-kind ranged.range.kind (kind_of s e) worth.kind worth.is (no-place (is_other_kind (Some ranged.range.kind) (kind_of s e)) (expr_place e) kinded.matched) in
+      let inside : is_outside ranged.range (static_in s ranged.range.kind e) ≡ false = no-place (is_outside ranged.range (static_in s ranged.range.kind e)) (expr_place e) lies.ranged in
       let there : is_outside ranged.range (Some w.number) ≡ false = sym (ap (is_outside ranged.range) (ap (λ n. static_in s n e) same ∙ w.static)) ∙ inside in
       let lies_there : lies_in limits w.number ≡ true = inside-range ranged.range limits w.number first last there in (
         w.number,

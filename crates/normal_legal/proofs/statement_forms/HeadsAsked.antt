@@ -13,7 +13,7 @@ use Rattle.ada_tree.specs.Sites.{if_there, accept_index_sites, head_sites, forma
 use Rattle.syn_event.specs.declared.numbering.Mode.TheVariants as mode
 use Rattle.syn_event.specs.CheckScope.{CheckScope}
 use Rattle.syn_event.specs.CheckSites as sites
-use Rattle.syn_event.specs.AllNumbers.{family_extent, first_of, last_of}
+use Rattle.syn_event.specs.AllNumbers.{family_extent, first_of, last_index}
 use Rattle.syn_event.specs.Numbering.{entry_at}
 use Rattle.syn_event.specs.NamedTasks.{NumberedTask}
 use Rattle.task_model.specs.Setting.{Setting, entry_of, family_limits, member_index}
@@ -68,7 +68,7 @@ module _ (p : PProgram) (T : TypeTable) (Typed : Scope → Type 0) (typing : Typ
         by_family (Some r) f ranged there =
             static-inside p T Typed typing s h t known-entry typed r f ranged e (small e q) (index-met e q) (unmoved-static T e m) (family_limits (entry_at (numbers p T) (entry_of (numbers p T) k h.entry.name)))
             (ap (λ o. (family_limits o).first) has.at ∙ has.first ∙ ap (λ o. first_of (family_extent T o)) f ∙ ap first_of ranged.is.extent)
-            (ap (λ o. (family_limits o).last) has.at ∙ has.last ∙ ap (λ o. last_of (family_extent T o)) f ∙ ap last_of ranged.is.extent)
+            (ap (λ o. (family_limits o).last) has.at ∙ has.last ∙ ap (λ o. last_index (family_extent T o)) f ∙ ap last_index ranged.is.extent)
 
     pub head-asked : (first number : ℕ) (x y : NumberedTask) → IsTaskOf p T first x → x.unit ≡ t → IsTaskOf p T number y → y.unit ≡ t → IsHead b first number h
     head-asked first number x y is unit runs runs_unit =

@@ -14,7 +14,7 @@ use Rattle.ada_tree.specs.Scope.{Scope}
 use Rattle.ada_tree.specs.StaticValue.{mark_named}
 use Rattle.ada_tree.specs.Demand.{declares, Site}
 use Rattle.ada_tree.specs.Sites.{if_there, names_sites, callee_sites, call_sites, head_sites, scheme_sites, loop_scope, body_sites, decls_sites, sites}
-use Rattle.ada_tree.specs.Declaring.{before_all, first_scope, inside, after_decls, with_formals}
+use Rattle.ada_tree.specs.Declaring.{before_all, first_scope, inner_scope, after_decls, with_formals}
 use Rattle.ada_tree.specs.Refusals.{MeetsTypeRules, types_in}
 use Rattle.syn_event.specs.declared.numbering.Mode.TheVariants as mode
 use Rattle.syn_event.specs.declared.numbering.TaskInfo.{TaskInfo}
@@ -23,7 +23,7 @@ use Rattle.syn_event.specs.CheckScope as check
 use Rattle.syn_event.specs.CheckSites as checks
 use Rattle.syn_event.specs.CheckRefusals.{MeetsCheckRules}
 use Rattle.syn_event.specs.RuleAcceptPlace.{accept_place, is_own_entry, is_among}
-use Rattle.syn_event.specs.Units.{tasks_of}
+use Rattle.syn_event.specs.DeclaredTasks.{tasks_of}
 use Rattle.syn_event.specs.NamedTasks.{NamedTasks, task_names_of, NumberedTask, numbered_tasks}
 use Rattle.syn_event.specs.AllNumbers.{info_of_task}
 use Rattle.task_model.specs.Setting.{Setting}
@@ -93,9 +93,9 @@ module _ (p : PProgram) (made : Setting) (is_old is_fixed : ℕ → Bool) (Typed
   -- The scopes in bodies are typed: where a body begins, in accepts and in loops.
   pub record AreTyped : Type 0 where
     pub typing : Typing T Typed
-    pub accept : (s : Scope) (h : PHead) → Typed s → AllByRecursion (IsKnownPlace T is_fixed) (head_sites s h) → Typed (with_formals (inside s) h.formals)
+    pub accept : (s : Scope) (h : PHead) → Typed s → AllByRecursion (IsKnownPlace T is_fixed) (head_sites s h) → Typed (with_formals (inner_scope s) h.formals)
     pub loop : (s : Scope) (x : Option PScheme) → Typed s → AllByRecursion (IsKnownPlace T is_fixed) (if_there (scheme_sites s) x) → Typed (loop_scope s x)
-    pub main : Typed (inside (after_decls (first_scope p.name) p.decls))
+    pub main : Typed (inner_scope (after_decls (first_scope p.name) p.decls))
     pub bodies : BodiesTyped p T (IsKnownPlace T is_fixed) (IsCheckMet mode.Original p.names) (text_rules is_old) Typed (first_scope p.name) p.decls
 
   -- What is asked beside the static rules.
@@ -132,7 +132,7 @@ module _ (p : PProgram) (made : Setting) (is_old is_fixed : ℕ → Bool) (Typed
     all-checked = all_check_met p mode.Original h.checks
 
     abbrev main_scope : Scope
-    main_scope = inside (after_decls (first_scope p.name) p.decls)
+    main_scope = inner_scope (after_decls (first_scope p.name) p.decls)
 
     abbrev main_around : CheckScope
     main_around = checks.after_decls (checks.around_program p) p.decls

@@ -6,7 +6,7 @@ use Rattle.ada_tree.specs.WellPlaced.{IsWellPlaced}
 use Rattle.ada_tree.specs.Refusals.{MeetsTypeRules, types_in}
 use Rattle.ada_tree.specs.Demand.{Demand, declares, Site}
 use Rattle.ada_tree.specs.Sites.{decls_sites, body_sites, sites}
-use Rattle.ada_tree.specs.Declaring.{first_scope, inside, after_decls}
+use Rattle.ada_tree.specs.Declaring.{first_scope, inner_scope, after_decls}
 use Rattle.legal_types.specs.Typed.{IsSmall}
 use Rattle.legal_types.proofs.ApartNames.{marks-lack}
 use Rattle.legal_types.proofs.InnerScopes.{IsApartLocal, AreApart}
@@ -22,7 +22,7 @@ local-apart p (declares false w) h free =
     let s = first_scope p.name in
     record {
       value = free;
-      mark = marks-lack w.name.0 p.name p.decls h.0 (all_front _ (decls_sites s p.decls) (body_sites (inside (after_decls s p.decls)) p.body) h.1.1.1);
+      mark = marks-lack w.name.0 p.name p.decls h.0 (all_front _ (decls_sites s p.decls) (body_sites (inner_scope (after_decls s p.decls)) p.body) h.1.1.1);
     }
 local-apart p _ h free = tt
 

@@ -18,7 +18,7 @@ use Rattle.ada_tree.specs.Scope.{Scope, Range, Thing, TypeMark, TaskType, Single
 use Rattle.ada_tree.specs.Demand.{declares, initializes, for_array, Site}
 use Rattle.ada_tree.specs.Sites.{site, if_there, names_sites, shape_sites, array_init_sites, init_sites, object_marking, is_task_object, decl_sites, decls_sites, body_sites}
 use Rattle.ada_tree.specs.RuleDuplicate.{is_predefined, is_among, fixes, introduces}
-use Rattle.ada_tree.specs.Declaring.{before_all, first_scope, inside, with_types, subind_made, made_subind, drange_range, made_array, object_of, Declared, plain_object, array_object, declared_object, of_made, add_constants, constant_mark, constant_value, kind_at_mark, initial_value, with_constants, after_decl, after_decls}
+use Rattle.ada_tree.specs.Declaring.{before_all, first_scope, inner_scope, with_types, subind_made, made_subind, drange_range, made_array, object_meaning, Declared, plain_object, array_object, declared_object, of_made, add_constants, constant_mark, constant_value, kind_at_mark, initial_value, with_constants, after_decl, after_decls}
 use Rattle.ada_value.specs.declared.values.Form.{Form}
 use Rattle.task_model.specs.Starting.{form_of}
 use Rattle.rewritten_types.proofs.Adding.{names-types}
@@ -105,9 +105,9 @@ plain-adds s x i (TaskMark es) e n h ws = none-added s (plain_object s true (Tas
 plain-adds s x i (ArrayMark m r p) e n h ws =
     ap (λ z. add_constants ws (Some m) z s.types) (init-none s s.types (marking_of_mark s.types m (mark_at s.types m)) (kind_at_mark s.types m) i m r p (thing-place s.types (meaning s x.mark.name) m r p e) h)
 plain-adds s x i (ScalarMark m k) e n h ws = absurd n
-plain-adds s x i NoMark e n h ws = none-added s (plain_object s true NoMark x) i (ap (λ q. constant_mark (object_of true (subind_made s q x.bounds).mark)) e) ws
-plain-adds s x i UnknownMark e n h ws = none-added s (plain_object s true UnknownMark x) i (ap (λ q. constant_mark (object_of true (subind_made s q x.bounds).mark)) e) ws
-plain-adds s x i UnclearMark e n h ws = none-added s (plain_object s true UnclearMark x) i (ap (λ q. constant_mark (object_of true (subind_made s q x.bounds).mark)) e) ws
+plain-adds s x i NoMark e n h ws = none-added s (plain_object s true NoMark x) i (ap (λ q. constant_mark (object_meaning true (subind_made s q x.bounds).mark)) e) ws
+plain-adds s x i UnknownMark e n h ws = none-added s (plain_object s true UnknownMark x) i (ap (λ q. constant_mark (object_meaning true (subind_made s q x.bounds).mark)) e) ws
+plain-adds s x i UnclearMark e n h ws = none-added s (plain_object s true UnclearMark x) i (ap (λ q. constant_mark (object_meaning true (subind_made s q x.bounds).mark)) e) ws
 
 -- an array with a type of its own
 made-adds : (s : Scope) (i : Option PInit) (T : TypeTable) (o : Option Range) (part : Option ℕ) → InitMet s (of_made true (made_array None T o part)) i → NoConstant s (of_made true (made_array None T o part)) i
@@ -265,6 +265,6 @@ module _ (old : ℕ → Bool) (T U : TypeTable) (before after : List (List ℕ))
   arrays-free p e types still =
       let s = first_scope p.name in
       let first = site before_all (declares true p.name) in
-      let tail = body_sites (inside (after_decls s p.decls)) p.body in
+      let tail = body_sites (inner_scope (after_decls s p.decls)) p.body in
       decls-free p.decls s (first ∷ []) tail (back_empty (refused_at [] first) (refused_from (first ∷ []) (decls_sites s p.decls ++ tail)) types) refl
       (all_front IsMet (decls_sites s p.decls) tail (all_met p types).1) still (λ n h. first-lacks n p.name) e

@@ -15,18 +15,18 @@ use Rattle.ada_tree.specs.WellPlaced.{tokens, HasTokens}
 use Rattle.ada_tree.specs.Refusals.{MeetsTypeRules, types_in}
 use Rattle.ada_tree.specs.Scope.{Scope, Thing, TypeMark, TaskType, SingleTask, TaskObject, TaskArray, Variable, ConstantObject, Parameter, LoopParameter, Literal, AnException, MainProcedure, AnotherUnit, Unclear, EntryPart, meaning, entry_named}
 use Rattle.ada_tree.specs.Sites.{head_sites, body_sites, decl_sites, decls_sites, own_sites, loop_scope}
-use Rattle.ada_tree.specs.Declaring.{first_scope, inside, formal_parts, entry_part, own_entries, in_body, after_own_object, after_objects, after_decl, after_decls}
+use Rattle.ada_tree.specs.Declaring.{first_scope, inner_scope, formal_parts, entry_part, own_entries, in_body, after_own_object, after_objects, after_decl, after_decls}
 use Rattle.ada_tree.specs.RuleUnknown.{no_body_of}
 use Rattle.ada_tree.specs.RuleArgCount.{written_formals, are_same, fits_accept, wrong_accept}
 use Rattle.syn_event.specs.declared.numbering.Mode.TheVariants.{Original}
 use Rattle.syn_event.specs.declared.numbering.TaskInfo.{TaskInfo}
 use Rattle.syn_event.specs.declared.meanings.Meant.{Meant}
 use Rattle.syn_event.specs.declared.meanings.Meant.TheVariants as meant
-use Rattle.syn_event.specs.CheckScope.{Unit as CheckUnit, CheckScope, CheckSite, declares, meaning as check_meaning}
+use Rattle.syn_event.specs.CheckScope.{EnclosingUnit as CheckUnit, CheckScope, CheckSite, declares, meaning as check_meaning}
 use Rattle.syn_event.specs.CheckSites as check
 use Rattle.syn_event.specs.CheckRefusals.{MeetsCheckRules}
 use Rattle.syn_event.specs.RuleAcceptPlace.{is_among, is_own_entry}
-use Rattle.syn_event.specs.Units.{tasks_of, tasks_in, decl_list}
+use Rattle.syn_event.specs.DeclaredTasks.{tasks_of, tasks_in, decl_list}
 use Rattle.syn_event.specs.Numbering.{task_at, Numbering}
 use Rattle.syn_event.specs.AllNumbers.{all_numbers, info_of_task}
 use Rattle.syn_event.specs.NamedTasks.{NumberedTask, numbered_tasks, task_names_of}
@@ -125,7 +125,7 @@ module _ (names : List (List ℕ)) where
   own-entry : (c : CheckScope) (n : ℕ) (h : PHead) → AllByRecursion M (check.head_sites c n h) → is_own_entry c.own h.entry.name ≡ true
   own-entry c n h m = not-false (is_own_entry c.own h.entry.name) (or_parts (not (is_own_entry c.own h.entry.name)) (is_among c.accepting h.entry.name) (test-fails _ h.span m.1.0.accepts)).0
 
-  head-fits : (t : PTask) (around : Scope) (s : Scope) (c : CheckScope) (n : ℕ) (h : PHead) → s.own ≡ map (entry_part around) t.entries → c.own ≡ Some (check.unit_of t) →
+  head-fits : (t : PTask) (around : Scope) (s : Scope) (c : CheckScope) (n : ℕ) (h : PHead) → s.own ≡ map (entry_part around) t.entries → c.own ≡ Some (check.enclosing_unit t) →
       AllByRecursion IsMet (head_sites s h) → AllByRecursion M (check.head_sites c n h) → HeadFits t h
   head-fits t around s c n h e f k m =
       let found = among-found t.entries h.entry.name (ap (λ o. is_own_entry o h.entry.name) (sym f) ∙ own-entry c n h m) in
@@ -174,7 +174,7 @@ module _ (p : PProgram) where
     callee = λ s c n x k e h m. tt;
     call = λ s c n x k e o h m. tt;
     head = λ s c n h k e l m. f s c n h k l m;
-    in_accept = λ s c n h k l m. record { own = formals_own h.formals (inside s) ∙ k.own; unit_is = meant-own meant.Inner (check.formal_names h.formals) _ ∙ k.unit_is };
+    in_accept = λ s c n h k l m. record { own = formals_own h.formals (inner_scope s) ∙ k.own; unit_is = meant-own meant.Inner (check.formal_names h.formals) _ ∙ k.unit_is };
     handling = λ s c k. record { own = k.own; unit_is = k.unit_is };
     looping = λ s c w x k h. record { own = loop-own x s ∙ k.own; unit_is = loop-check-own w x c ∙ k.unit_is };
   }
@@ -218,15 +218,15 @@ module _ (p : PProgram) where
       by_thing None e k = absurd (not_empty _ _ k)
 
   body-fits : (done rest : List PTask) (w : Word) (ds : PDecls) (b : PBody) (s : Scope) (c : CheckScope) → tasks_of p ≡ done ++ rest → AreSeen done c.units s → no_body_of (meaning s w.name) w ≡ [] → EveryBody (tokens p.names) 1 b →
-      AllByRecursion IsMet (body_sites (inside (after_objects (in_body s w) ds)) b) → AllByRecursion met (check.body_sites (check.after_own (check.in_body c w) ds) 1 b) → BodyFits w b
+      AllByRecursion IsMet (body_sites (inner_scope (after_objects (in_body s w) ds)) b) → AllByRecursion met (check.body_sites (check.after_own (check.in_body c w) ds) 1 b) → BodyFits w b
   body-fits done rest w ds b s c tasks seen named has h m =
       let u = unit-seen done c.units s w seen named in
       record {
         task = u.task;
         named = ap (find (is_task w.name)) tasks ∙ find_front (is_task w.name) done rest u.task u.found;
-        fits = body-as-asked (asked (HeadFits u.task)) (tokens p.names) (known (map (entry_part u.around) u.task.entries) (Some (check.unit_of u.task)))
-            (gives (map (entry_part u.around) u.task.entries) (Some (check.unit_of u.task)) (HeadFits u.task) (λ s c n h k l q. head-fits p.names u.task u.around s c n h k.own k.unit_is l q))
-            b (inside (after_objects (in_body s w) ds)) (check.after_own (check.in_body c w) ds) 1
+        fits = body-as-asked (asked (HeadFits u.task)) (tokens p.names) (known (map (entry_part u.around) u.task.entries) (Some (check.enclosing_unit u.task)))
+            (gives (map (entry_part u.around) u.task.entries) (Some (check.enclosing_unit u.task)) (HeadFits u.task) (λ s c n h k l q. head-fits p.names u.task u.around s c n h k.own k.unit_is l q))
+            b (inner_scope (after_objects (in_body s w) ds)) (check.after_own (check.in_body c w) ds) 1
             record {
               own = objects_own ds (in_body s w) ∙ u.entries;
               unit_is = objects-check-own ds (check.in_body c w) ∙ ap (λ o. Some (unwrap_or o (record { name = w.name; entries = [] }))) u.unit;
@@ -261,7 +261,7 @@ module _ (p : PProgram) where
   decl-fits (DTask t sp) rest done bodies s c e u seen has h m = last-named done (tasks_in (decl_list rest)) t s (next-tasks done (DTask t sp) rest e) u.0 seen.used
   decl-fits (DTaskBody w ds b sp) rest done bodies s c e u seen has h m =
       body-fits done (tasks_in (decl_list rest)) w ds b s c e seen h.0.known has.4
-      (all_back IsMet (own_sites (in_body s w) ds) (body_sites (inside (after_objects (in_body s w) ds)) b) h.1)
+      (all_back IsMet (own_sites (in_body s w) ds) (body_sites (inner_scope (after_objects (in_body s w) ds)) b) h.1)
       (all_back met (check.own_sites (check.in_body c w) ds) (check.body_sites (check.after_own (check.in_body c w) ds) 1 b) m)
   decl-fits (DNumber w x sp) rest done bodies s c e u seen has h m = tt
   decl-fits (DObject ws k x i sp) rest done bodies s c e u seen has h m = tt
@@ -284,7 +284,7 @@ module _ (p : PProgram) where
 
   -- ---- main
 
-  value-own : (b : Bool) (ws : List Word) (c : CheckScope) → (check.with_value b c ws).own ≡ c.own
+  value-own : (b : Bool) (ws : List Word) (c : CheckScope) → (check.with_declared_object b c ws).own ≡ c.own
   value-own true ws c = meant-own meant.Shared ws c
   value-own false ws c = refl
 
@@ -360,7 +360,7 @@ module _ (p : PProgram) where
     main : List CheckSite
     main = check.body_sites (check.after_decls c0 p.decls) 1 p.body
 
-    places : AllByRecursion IsMet (decls_sites s0 p.decls ++ body_sites (inside (after_decls s0 p.decls)) p.body)
+    places : AllByRecursion IsMet (decls_sites s0 p.decls ++ body_sites (inner_scope (after_decls s0 p.decls)) p.body)
     places = (all_met p types).1
 
     check-places : AllByRecursion met (front ++ main)
@@ -377,7 +377,7 @@ module _ (p : PProgram) where
         in-body (asked (Conforms g 0)) (Conforms g 0) (λ h k. k)
         (body-as-asked (asked (Conforms g 0)) (tokens p.names) (known (after_decls s0 p.decls).own None)
         (gives (after_decls s0 p.decls).own None (Conforms g 0) (λ s c n h k l q. absurd (true≢false (sym (ap (λ o. is_own_entry o h.entry.name) (sym k.unit_is) ∙ own-entry p.names c n h q)))))
-        p.body (inside (after_decls s0 p.decls)) (check.after_decls c0 p.decls) 1
+        p.body (inner_scope (after_decls s0 p.decls)) (check.after_decls c0 p.decls) 1
         record { own = refl; unit_is = decls-check-own p.decls c0 } has.3 (all_back IsMet (decls_sites s0 p.decls) _ places) (all_back met front main check-places))
 
     units-named : AllByRecursion (λ (x : NumberedTask). unit_named p x.unit.name.name ≡ Some x.unit) (numbered_tasks T p)

@@ -15,7 +15,7 @@ use Rattle.ada_tree.specs.Lexical.{IsIdentifier}
 use Rattle.ada_tree.specs.WellPlaced.{tokens, HasTokens}
 use Rattle.syn_event.specs.declared.numbering.Mode.TheVariants.{Original}
 use Rattle.syn_event.specs.declared.numbering.TaskInfo.{TaskInfo}
-use Rattle.syn_event.specs.Units.{text_of}
+use Rattle.syn_event.specs.DeclaredTasks.{text_of}
 use Rattle.syn_event.specs.Extents.{extent}
 use Rattle.syn_event.specs.NamedTasks.{NamedTasks, type_named, task_names_of_type, object_task_names, with_type, single_task_name, task_names_in, task_names_of, NumberedTask, numbered_task, indices, tasks_of_range, tasks_of_name, numbered_tasks}
 use Rattle.syn_event.specs.AllNumbers.{info_of_task}

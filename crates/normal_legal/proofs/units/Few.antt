@@ -15,7 +15,8 @@ use Rattle.normal_model.specs.Making.{kept_subtypes, kept_if, moving}
 use Rattle.normal_model.specs.Ranges.{subtype_of_range, array_range, family_range}
 use Rattle.normal_model.specs.Members.{callee_kept}
 use Rattle.normal_model.specs.Calls.{Slot, slots_called, entry_called, lists_called, actual_subtypes, indices_kept, call_subtypes, flag_subtypes, is_chosen, select_subtypes}
-use Rattle.normal_model.specs.Waits.{Unit as RunUnit, accept_kept, head_of, kind_kept, guard_subtypes, alternative_subtypes}
+use Rattle.normal_model.specs.RewrittenUnit.{RewrittenUnit}
+use Rattle.normal_model.specs.Waits.{accept_kept, head_of, kind_kept, guard_subtypes, alternative_subtypes}
 use Rattle.normal_model.specs.Aborts.{abort_subtypes}
 use Rattle.normal_model.specs.Variables.{variables_declared, more_variables, statement_variables, alternative_variables}
 use Rattle.normal_model.specs.Walk.{Rewriter, after_parts, after_stmts, after_maybe, after_accept, after_kind, after_alts, after_arms, after_case_arms, after_body, after_handlers}
@@ -82,7 +83,7 @@ module _ (g : Setting) where
       let all : length (abort_subtypes g s (c ∷ cs)) ≡ length (kept_subtypes (callee_kept g s c)) + length (abort_subtypes g s cs) = length-append (kept_subtypes (callee_kept g s c)) (abort_subtypes g s cs) in
       omega (arith, all, kept_length (callee_kept g s c), callee-length s c, abort-length s cs)
 
-module _ (u : RunUnit) where
+module _ (u : RewrittenUnit) where
   more-length : (s : Span) (xs : List PSubind) (vars : List PDecl) → length (more_variables u s xs vars) ≡ length vars + length xs
   more-length s xs vars = length-append vars (variables_declared u.setting s xs (length vars)) ∙ ap (λ n. length vars + n) (declared_length u.setting s xs (length vars))
 

@@ -5,7 +5,7 @@ use Rattle.std.proofs.lemmas.Bool.{ne_eqb}
 use Rattle.ada_tree.specs.TypeTable.{TypeTable}
 use Rattle.ada_tree.specs.PlainProgram.{PProgram}
 use Rattle.ada_tree.specs.WellPlaced.{IsWellPlaced}
-use Rattle.ada_tree.specs.Declaring.{first_scope, inside, after_decls}
+use Rattle.ada_tree.specs.Declaring.{first_scope, inner_scope, after_decls}
 use Rattle.ada_tree.specs.Demand.{Site}
 use Rattle.ada_tree.specs.Sites.{decls_sites, body_sites}
 use Rattle.ada_tree.specs.Refusals.{types_in}
@@ -94,7 +94,7 @@ module _ (p : PProgram) (types : TypeTable) (numbers : Numbering) (legal : Legal
   is-plain inputs (o ∷ vars) h = ((h.0.old_name, (h.0.known, ap (λ (v : Option ℤ). is_some v) h.0.free)), is-plain inputs vars h.1)
 
   places : AllByRecursion (λ (x : Site). IsFreeLocal T x.demand) (decls_sites (first_scope p.name) p.decls)
-  places = all_front (λ (x : Site). IsFreeLocal T x.demand) (decls_sites (first_scope p.name) p.decls) (body_sites (inside (after_decls (first_scope p.name) p.decls)) p.body) (locals-free p legal.type_rules).1
+  places = all_front (λ (x : Site). IsFreeLocal T x.demand) (decls_sites (first_scope p.name) p.decls) (body_sites (inner_scope (after_decls (first_scope p.name) p.decls)) p.body) (locals-free p legal.type_rules).1
 
   info-plain : (info : Option TaskInfo) → AllByRecursion Plain (objects_of T (unit_of_info p info).in_main (unit_of_info p info).decls [])
   info-plain None = tt

@@ -16,10 +16,10 @@ use Rattle.ada_tree.specs.Refusals.{MeetsTypeRules, types_in}
 use Rattle.ada_tree.specs.Scope.{Scope, Range, Marking, ScalarMark, ArrayMark, TaskMark, NoMark, UnknownMark, UnclearMark, marking, and_then, mark_at, range_of_mark, scalar_kind}
 use Rattle.ada_tree.specs.Demand.{MarkUse, scalar_only, must_not_be_empty}
 use Rattle.ada_tree.specs.Sites.{site, if_there, names_sites, expr_sites, static_if, bounds_sites, constraint_sites, subind_sites, drange_sites, object_marks, component_marks, may_be_task, shape_sites, is_task_object, init_sites, object_marking, object_sites, own_object_sites, own_sites, decl_sites, decls_sites, body_sites}
-use Rattle.ada_tree.specs.ExprTypes.{place_of, ok_value, is_kind, kind_of, static_in, range_between, static_range}
+use Rattle.ada_tree.specs.ExprTypes.{expr_place, ok_value, is_kind, kind_of, static_in, range_between, static_range}
 use Rattle.ada_tree.specs.RuleRangeBad.{is_below, empty_range}
 use Rattle.ada_tree.specs.StaticValue.{is_static, value_of}
-use Rattle.ada_tree.specs.Declaring.{first_scope, inside, with_types, with_names, made_range, subind_made, made_subind, given_range, marked_range, drange_range, made_array, renamed, plain_object, array_object, declared_object, add_constants, with_constants, constant_mark, constant_value, in_body, after_own_object, after_objects, after_decl, after_decls}
+use Rattle.ada_tree.specs.Declaring.{first_scope, inner_scope, with_types, with_names, made_range, subind_made, made_subind, given_range, marked_range, drange_range, made_array, renamed, plain_object, array_object, declared_object, add_constants, with_constants, constant_mark, constant_value, in_body, after_own_object, after_objects, after_decl, after_decls}
 use Rattle.rewritten_types.proofs.Lookups.{place-all}
 use Rattle.rewritten_types.proofs.Adding.{names-types}
 use Rattle.legal_sites.specs.Met.{IsMet}
@@ -67,7 +67,7 @@ static-full s k b h = by_kind (kind_of s b.first) refl h.ranged
 
     by_same : (j : ℕ) (t : Bool) → (k == j) ≡ t → kind_of s b.first ≡ Some j → empty_range s b.first b.last (Some j) ≡ [] → RangeFull (static_range s k b)
     by_same j false e f g = none-full k (static_in s k b.first) (static_in s k b.last) (kind-value s k b.first (Some j) f e)
-    by_same j true e f g = below j (eqb-true k j e) (test-fails (is_below (static_in s j b.last) (static_in s j b.first)) (place_of b.first) g)
+    by_same j true e f g = below j (eqb-true k j e) (test-fails (is_below (static_in s j b.last) (static_in s j b.first)) (expr_place b.first) g)
 
     by_kind : (o : Option ℕ) → kind_of s b.first ≡ o → empty_range s b.first b.last o ≡ [] → RangeFull (static_range s k b)
     by_kind None f g = none-full k (static_in s k b.first) (static_in s k b.last) (kind-value s k b.first None f refl)
@@ -235,7 +235,7 @@ decl-full names (DIntIo w sp) s p m h = h
 decl-full names (DPragma e sp) s p m h = h
 decl-full names (DTask t sp) s p m h = h
 decl-full names (DTaskBody w ds b sp) s p m h =
-    owns-full ds (in_body s w) (all_front IsMet (own_sites (in_body s w) ds) (body_sites (inside (after_objects (in_body s w) ds)) b) m.1) h
+    owns-full ds (in_body s w) (all_front IsMet (own_sites (in_body s w) ds) (body_sites (inner_scope (after_objects (in_body s w) ds)) b) m.1) h
 
 decls-full : (names : List (List ℕ)) (ds : PDecls) (s : Scope) → EveryDecls (well_placed names) ds → AllByRecursion IsMet (decls_sites s ds) → IsFull s.types → IsFull (after_decls s ds).types
 decls-full names no_decl s p m h = h
@@ -247,4 +247,4 @@ decls-full names (decl_then d rest) s p m h =
 pub types-full : (p : PProgram) → MeetsTypeRules p → IsWellPlaced p → IsFull (types_in p)
 types-full p types placed =
     decls-full p.names p.decls (first_scope p.name) placed.2
-    (all_front IsMet (decls_sites (first_scope p.name) p.decls) (body_sites (inside (after_decls (first_scope p.name) p.decls)) p.body) (all_met p types).1) (refl, (refl, (refl, (refl, tt))))
+    (all_front IsMet (decls_sites (first_scope p.name) p.decls) (body_sites (inner_scope (after_decls (first_scope p.name) p.decls)) p.body) (all_met p types).1) (refl, (refl, (refl, (refl, tt))))

@@ -19,7 +19,7 @@ use Rattle.ada_value.specs.declared.values.Raised.{Raised}
 use Rattle.ada_value.specs.declared.values.Raised.TheVariants as raised
 use Rattle.ada_value.specs.declared.values.Form.{Form}
 use Rattle.ada_value.specs.declared.values.Limits.{Limits}
-use Rattle.ada_value.specs.Values.{and_then, position_of, kind_of_value, is_true_value, value_at, based, fitted, lies_in, lower, limits_named}
+use Rattle.ada_value.specs.Values.{and_then, position_of, kind_of_value, is_true_value, value_at, based, fitted, lies_in, lower_bound, limits_named}
 use Rattle.ada_value.specs.Evaluating.{bound_value, attribute_value, signed_value, unless_zero, combined, operated, evaluated}
 use Rattle.task_model.specs.Starting.{value_or_lower, initial, value_count, initials}
 use Rattle.rewritten_values.specs.Values.{is_known, old_names, AgreeOnValues}
@@ -158,13 +158,13 @@ module _ (old : ℕ → Bool) (T U : TypeTable) (before after : List (List ℕ))
 
   -- ---- initial values
 
-  lower-known : (l : Limits) → Known (lower T l)
+  lower-known : (l : Limits) → Known (lower_bound T l)
   lower-known l = agree.values_known l.kind l.first
 
   initial-known : (l : Limits) (e : PExpr) → EveryExpr (old_names old) 2 e → Known (initial T l e)
   initial-known l e h = by_result (evaluated T [] e) (expr-comes 2 e h)
     where
-      by_test : (b : Bool) (v : Value) → Known v → Known (if b then v else lower T l)
+      by_test : (b : Bool) (v : Value) → Known v → Known (if b then v else lower_bound T l)
       by_test true v k = k
       by_test false v k = lower-known l
 

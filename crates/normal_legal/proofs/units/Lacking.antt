@@ -21,7 +21,7 @@ use Rattle.ada_tree.specs.Demand.{Demand, declares, Site}
 use Rattle.ada_tree.specs.Sites.{names_sites, decl_sites, decls_sites, is_task_object, body_sites, sites, shape_sites, init_sites, object_marking, if_there}
 use Rattle.ada_tree.specs.ExprTypes.{static_in, static_range}
 use Rattle.ada_tree.specs.RuleDuplicate.{is_predefined}
-use Rattle.ada_tree.specs.Declaring.{first_scope, inside, with_name, with_names, with_types, add_mark, add_kind, made, made_range, subind_made, made_subind, drange_range, made_array, renamed, object_of, task_object, task_array, plain_object, array_object, declared_object, constants_for, add_constants, constant_mark, constant_value, with_constants, in_body, after_own_object, after_objects, after_decl, after_decls}
+use Rattle.ada_tree.specs.Declaring.{first_scope, inner_scope, with_name, with_names, with_types, add_mark, add_kind, made, made_range, subind_made, made_subind, drange_range, made_array, renamed, object_meaning, task_object, task_array, plain_object, array_object, declared_object, constants_for, add_constants, constant_mark, constant_value, with_constants, in_body, after_own_object, after_objects, after_decl, after_decls}
 use Rattle.rewritten_types.proofs.Adding.{names-types}
 use Rattle.normal_legal.specs.units.Laws.{IsFreeLocal}
 use Rattle.normal_legal.proofs.units.Fixing.{AllDiffer, IsApart, locals-apart}
@@ -105,7 +105,7 @@ module _ (n : ℕ) where
   declared-lacks s constant (OArray index x) h = row-lacks s constant (marking s x.mark.name) index x h
 
   -- a variable is no constant
-  no-constant : (o : Option ℕ) → constant_mark (object_of false o) ≡ None
+  no-constant : (o : Option ℕ) → constant_mark (object_meaning false o) ≡ None
   no-constant (Some m) = refl
   no-constant None = refl
 
@@ -282,7 +282,7 @@ local-free : (p : PProgram) (d : Demand) → IsApart [] (sites p) d → IsFreeLo
 local-free p (declares false w) h =
     let s = first_scope p.name in
     lacks-value (types_in p) w.name h.0
-    (decls-lack w.name.0 p.decls s refl (all_front _ (decls_sites s p.decls) (body_sites (inside (after_decls s p.decls)) p.body) h.1.1.1) (first-lacks w.name.0 p.name))
+    (decls-lack w.name.0 p.decls s refl (all_front _ (decls_sites s p.decls) (body_sites (inner_scope (after_decls s p.decls)) p.body) h.1.1.1) (first-lacks w.name.0 p.name))
 local-free p _ h = tt
 
 -- What is declared as a name that is not fixed is the name of no constant and of no literal.

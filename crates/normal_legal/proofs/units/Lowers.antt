@@ -15,8 +15,8 @@ use Rattle.ada_tree.specs.WellPlaced.{IsWellPlaced}
 use Rattle.syn_event.specs.declared.numbering.TaskInfo.{TaskInfo}
 use Rattle.syn_event.specs.declared.numbering.EntryInfo.{EntryInfo}
 use Rattle.syn_event.specs.Numbering.{Numbering, task_at, entry_at}
-use Rattle.syn_event.specs.Units.{tasks_of}
-use Rattle.ada_value.specs.Values.{position_of, value_at, lies_in, lower, limits_of, limits_or, limits_named}
+use Rattle.syn_event.specs.DeclaredTasks.{tasks_of}
+use Rattle.ada_value.specs.Values.{position_of, value_at, lies_in, lower_bound, limits_of, limits_or, limits_named}
 use Rattle.task_model.specs.declared.parameters.FormalParameter.{FormalParameter}
 use Rattle.task_model.specs.Setting.{Setting, parameters_of, unit_named, formals_of_entry, formals_in, formals_of_unit, formals_of_info, entry_parameters}
 use Rattle.task_invariants.specs.Holding.{Fits, LowersFit}
@@ -44,13 +44,13 @@ same-le : (z : ℤ) → int_le z z ≡ true
 same-le z = grind (arith, ints)
 
 module _ (T : TypeTable) (full : IsFull T) where
-  named-fits : (id : NameId) → IsWorth T id → Fits (limits_named T id) (lower T (limits_named T id))
+  named-fits : (id : NameId) → IsWorth T id → Fits (limits_named T id) (lower_bound T (limits_named T id))
   named-fits id h =
       let m = h.mark in
       let whole : int_le m.first m.last ≡ true = find-all IsFullMark _ T.marks m full h.named in
       let fits : lies_in (limits_of m) (position_of (value_at T m.kind m.first)) ≡ true =
       subst (λ z. (int_le m.first z && int_le z m.last) ≡ true) (sym h.first) (both_true (int_le m.first m.first) (int_le m.first m.last) (same-le m.first) whole) in
-      subst (λ o. Fits (limits_or o) (lower T (limits_or o))) (sym h.named) fits
+      subst (λ o. Fits (limits_or o) (lower_bound T (limits_or o))) (sym h.named) fits
 
   row-fits : (f : PFormal) (ws : List Word) (rest : List FormalParameter) → IsWorth T f.mark.name → LowersFit T rest →
       LowersFit T (map (λ (w : Word). record { name = w.name; mode = f.mode; limits = limits_named T f.mark.name }) ws ++ rest)

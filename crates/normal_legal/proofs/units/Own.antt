@@ -16,8 +16,8 @@ use Rattle.ada_tree.specs.Sites.{sites}
 use Rattle.ada_tree.specs.Refusals.{MeetsTypeRules}
 use Rattle.syn_event.specs.declared.numbering.Mode.TheVariants.{Original}
 use Rattle.syn_event.specs.CheckRefusals.{MeetsCheckRules}
-use Rattle.syn_event.specs.Numbered.{is_added_name}
-use Rattle.syn_event.specs.Units.{text_of}
+use Rattle.syn_event.specs.AddedNames.{is_added_name}
+use Rattle.syn_event.specs.DeclaredTasks.{text_of}
 use Rattle.syn_event.specs.RuleReservedName.{has_mark, is_reserved}
 use Rattle.syn_event.proofs.Weaker.{placed_tokens}
 use Rattle.rewritten_types.proofs.Lookups.{place-all}

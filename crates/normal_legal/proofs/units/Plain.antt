@@ -13,7 +13,7 @@ use Rattle.ada_tree.specs.Scope.{Scope, Marking, ScalarMark, ArrayMark, TaskMark
 use Rattle.ada_tree.specs.StaticValue.{value_named}
 use Rattle.ada_tree.specs.Demand.{Site}
 use Rattle.ada_tree.specs.Sites.{names_sites, shape_sites, init_sites, object_marking, is_task_object, if_there, own_object_sites, own_sites, decl_sites, decls_sites, body_sites}
-use Rattle.ada_tree.specs.Declaring.{inside, object_of as declared_thing, made_subind, made_array, drange_range, plain_object, array_object, declared_object, in_body, after_own_object, after_objects, after_decl}
+use Rattle.ada_tree.specs.Declaring.{inner_scope, object_meaning as declared_thing, made_subind, made_array, drange_range, plain_object, array_object, declared_object, in_body, after_own_object, after_objects, after_decl}
 use Rattle.ada_value.specs.declared.values.Form.{Form}
 use Rattle.ada_value.specs.Values.{kind_of_value}
 use Rattle.ada_value.specs.Variables.{Object, Variables, value_there}
@@ -99,7 +99,7 @@ module _ (old : ℕ → Bool) (T U : TypeTable) (before after : List (List ℕ))
       by_test : (q : Bool) → AllByRecursion IsPlainObject (objects_of T (unit_among rest id).in_main (unit_among rest id).decls []) →
           AllByRecursion IsPlainObject (objects_of T (unwrap_or (if q then Some (record { in_main = false; decls = ds; body = b }) else None) (unit_among rest id)).in_main (unwrap_or (if q then Some (record { in_main = false; decls = ds; body = b }) else None) (unit_among rest id)).decls [])
       by_test false later = later
-      by_test true later = owns-plain ds (in_body s w) [] refl (all_front Free (own_sites (in_body s w) ds) (body_sites (inside (after_objects (in_body s w) ds)) b) places.1) own.0.3 tt
+      by_test true later = owns-plain ds (in_body s w) [] refl (all_front Free (own_sites (in_body s w) ds) (body_sites (inner_scope (after_objects (in_body s w) ds)) b) places.1) own.0.3 tt
   units-plain (decl_then (DObject ws c x i sp) rest) s id f own = units-plain rest (after_decl s (DObject ws c x i sp)) id (all_back Free (decl_sites s (DObject ws c x i sp)) (decls_sites (after_decl s (DObject ws c x i sp)) rest) f) own.1
   units-plain (decl_then (DNumber w e sp) rest) s id f own = units-plain rest (after_decl s (DNumber w e sp)) id (all_back Free (decl_sites s (DNumber w e sp)) (decls_sites (after_decl s (DNumber w e sp)) rest) f) own.1
   units-plain (decl_then (DEnumeration w ws sp) rest) s id f own = units-plain rest (after_decl s (DEnumeration w ws sp)) id (all_back Free (decl_sites s (DEnumeration w ws sp)) (decls_sites (after_decl s (DEnumeration w ws sp)) rest) f) own.1

@@ -8,13 +8,13 @@ use Rattle.ada_tree.specs.declared.naming.NameId.{NameId}
 use Rattle.ada_tree.specs.declared.naming.Word.{Word}
 use Rattle.ada_tree.specs.PlainExpr.{PDrange, PSubind}
 use Rattle.ada_tree.specs.PlainDecl.{PShape, OPlain, OArray, PTask, PDecl, DNumber, DObject, DEnumeration, DArray, DSubtype, DException, DIntIo, DPragma, DTask, DTaskBody}
-use Rattle.ada_tree.specs.Scope.{Scope, Range, Seen, Thing, TypeMark, TaskType, SingleTask, TaskObject, TaskArray, Variable, ConstantObject, Parameter, LoopParameter, Literal, AnException, MainProcedure, AnotherUnit, Unclear, EntryPart, Marking, ScalarMark, ArrayMark, TaskMark, NoMark, UnknownMark, UnclearMark, marking, meaning}
+use Rattle.ada_tree.specs.Scope.{Scope, Range, NameMeaning, Thing, TypeMark, TaskType, SingleTask, TaskObject, TaskArray, Variable, ConstantObject, Parameter, LoopParameter, Literal, AnException, MainProcedure, AnotherUnit, Unclear, EntryPart, Marking, ScalarMark, ArrayMark, TaskMark, NoMark, UnknownMark, UnclearMark, marking, meaning}
 use Rattle.ada_tree.specs.RuleDuplicate.{is_predefined, is_among}
-use Rattle.ada_tree.specs.Declaring.{seen_as, predefined_names, first_scope, with_name, with_names, declared_object, plain_object, array_object, object_of, task_object, task_array, type_of_mark, task_thing, entry_part, after_decl}
+use Rattle.ada_tree.specs.Declaring.{seen_as, predefined_names, first_scope, with_name, with_names, declared_object, plain_object, array_object, object_meaning, task_object, task_array, type_of_mark, task_thing, entry_part, after_decl}
 use Rattle.syn_event.specs.declared.meanings.Meant.{Meant}
 use Rattle.syn_event.specs.declared.meanings.Meant.TheVariants as meant
-use Rattle.syn_event.specs.CheckScope.{Unit as CheckUnit, CheckScope, meaning as check_meaning}
-use Rattle.syn_event.specs.CheckSites.{with_object, with_value, after_decl as check_after_decl, after_object as check_after_object, unit_of}
+use Rattle.syn_event.specs.CheckScope.{EnclosingUnit as CheckUnit, CheckScope, meaning as check_meaning}
+use Rattle.syn_event.specs.CheckSites.{with_object, with_declared_object, after_decl as check_after_decl, after_object as check_after_object, enclosing_unit}
 use Rattle.rewritten_types.specs.Rewriting.{IsUsed, IsUnused, names_declared}
 use Rattle.rewritten_types.proofs.Lookups.{find-only}
 use Rattle.rewritten_types.proofs.Fresh.{other, used-more}
@@ -34,7 +34,7 @@ pub record IsSeen (done : List PTask) (units : List CheckUnit) (id : NameId) (es
   pub around : Scope
   pub entries : es ≡ map (entry_part around) task.entries
   pub found : find (is_task id) done ≡ Some task
-  pub unit : find (is_unit id) units ≡ Some (unit_of task)
+  pub unit : find (is_unit id) units ≡ Some (enclosing_unit task)
 
 abbrev pub ThingSeen : List PTask → List CheckUnit → NameId → Thing → Type 0
 ThingSeen done units id (SingleTask es) = IsSeen done units id es
@@ -70,14 +70,14 @@ other-seen done units id Unclear h = tt
 module _ (done : List PTask) (units : List CheckUnit) where
   typed : (s s' : Scope) → s.names ≡ s'.names → s.here ≡ s'.here → AreSeen done units s → AreSeen done units s'
   typed s s' e f h = record {
-    things = λ id thing q. h.things id thing (ap (λ (l : List Seen). option_map (λ y. y.thing) (find (λ y. y.name == id.0) l)) e ∙ q);
+    things = λ id thing q. h.things id thing (ap (λ (l : List NameMeaning). option_map (λ y. y.thing) (find (λ y. y.name == id.0) l)) e ∙ q);
     used = subst (λ here. AllByRecursion (λ (t : PTask). (is_predefined t.name.name.0 || is_among here t.name.name.0) ≡ true) done) f h.used;
   }
 
   name-seen : (thing : Thing) (w : Word) (s : Scope) → IsNoUnit thing → AreSeen done units s → AreSeen done units (with_name thing s w)
   name-seen thing w s n h = record { things = λ id th e. by_test id th (w.name.0 == id.0) e; used = all_weaker _ _ done (λ t u. used-more s w.name.0 t.name.name u) h.used }
     where
-      by_test : (id : NameId) (th : Thing) (b : Bool) → option_map (λ (x : Seen). x.thing) (if b then Some (seen_as thing w.name.0) else find (λ x. x.name == id.0) s.names) ≡ Some th → ThingSeen done units id th
+      by_test : (id : NameId) (th : Thing) (b : Bool) → option_map (λ (x : NameMeaning). x.thing) (if b then Some (seen_as thing w.name.0) else find (λ x. x.name == id.0) s.names) ≡ Some th → ThingSeen done units id th
       by_test id th true e = subst (ThingSeen done units id) (some_same e) (other-seen done units id thing n)
       by_test id th false e = h.things id th e
 
@@ -87,7 +87,7 @@ module _ (done : List PTask) (units : List CheckUnit) where
 
 -- ---- objects are no tasks or types themselves
 
-object-other : (constant : Bool) (o : Option ℕ) → IsNoUnit (object_of constant o)
+object-other : (constant : Bool) (o : Option ℕ) → IsNoUnit (object_meaning constant o)
 object-other true (Some m) = tt
 object-other false (Some m) = tt
 object-other true None = tt
@@ -140,36 +140,36 @@ others-before done s w id e u h = all_weaker _ _ done one h
         by_test false f = refl
         by_test true f = absurd (true≢false (sym (eq-eqb w.name.0 t.name.name.0 (e ∙ sym (eqb-true t.name.name.0 id.0 f))) ∙ other s.here w.name.0 t.name.name.0 u.0 u.1 k))
 
-task-seen : (done : List PTask) (units : List CheckUnit) (t : PTask) (s : Scope) → IsUnused s t.name → AreSeen done units s → AreSeen (done ++ t ∷ []) (unit_of t ∷ units) (with_name (task_thing t.of_kind (map (entry_part s) t.entries)) s t.name)
+task-seen : (done : List PTask) (units : List CheckUnit) (t : PTask) (s : Scope) → IsUnused s t.name → AreSeen done units s → AreSeen (done ++ t ∷ []) (enclosing_unit t ∷ units) (with_name (task_thing t.of_kind (map (entry_part s) t.entries)) s t.name)
 task-seen done units t s u h = record {
   things = λ id th e. by_test id th (t.name.name.0 == id.0) refl e;
   used = all_joined _ done (t ∷ []) (all_weaker _ _ done (λ x k. used-more s t.name.name.0 x.name.name k) h.used)
       (or_right (is_predefined t.name.name.0) _ (or_left (t.name.name.0 == t.name.name.0) (is_among s.here t.name.name.0) (eq-eqb t.name.name.0 t.name.name.0 refl)), tt);
 }
   where
-    new : (id : NameId) → (t.name.name.0 == id.0) ≡ true → IsSeen (done ++ t ∷ []) (unit_of t ∷ units) id (map (entry_part s) t.entries)
+    new : (id : NameId) → (t.name.name.0 == id.0) ≡ true → IsSeen (done ++ t ∷ []) (enclosing_unit t ∷ units) id (map (entry_part s) t.entries)
     new id f = record {
       task = t;
       around = s;
       entries = refl;
       found = find-only (is_task id) done t (found_none (is_task id) done (others-before done s t.name id (eqb-true t.name.name.0 id.0 f) u h.used)) f;
-      unit = ap (λ b. if b then Some (unit_of t) else find (is_unit id) units) f;
+      unit = ap (λ b. if b then Some (enclosing_unit t) else find (is_unit id) units) f;
     }
 
-    new-thing : (id : NameId) (b : Bool) → (t.name.name.0 == id.0) ≡ true → ThingSeen (done ++ t ∷ []) (unit_of t ∷ units) id (task_thing b (map (entry_part s) t.entries))
+    new-thing : (id : NameId) (b : Bool) → (t.name.name.0 == id.0) ≡ true → ThingSeen (done ++ t ∷ []) (enclosing_unit t ∷ units) id (task_thing b (map (entry_part s) t.entries))
     new-thing id true f = new id f
     new-thing id false f = new id f
 
-    later : (id : NameId) (es : List EntryPart) → (t.name.name.0 == id.0) ≡ false → IsSeen done units id es → IsSeen (done ++ t ∷ []) (unit_of t ∷ units) id es
+    later : (id : NameId) (es : List EntryPart) → (t.name.name.0 == id.0) ≡ false → IsSeen done units id es → IsSeen (done ++ t ∷ []) (enclosing_unit t ∷ units) id es
     later id es f x = record {
       task = x.task;
       around = x.around;
       entries = x.entries;
       found = find_front (is_task id) done (t ∷ []) x.task x.found;
-      unit = ap (λ b. if b then Some (unit_of t) else find (is_unit id) units) f ∙ x.unit;
+      unit = ap (λ b. if b then Some (enclosing_unit t) else find (is_unit id) units) f ∙ x.unit;
     }
 
-    later-thing : (id : NameId) (th : Thing) → (t.name.name.0 == id.0) ≡ false → ThingSeen done units id th → ThingSeen (done ++ t ∷ []) (unit_of t ∷ units) id th
+    later-thing : (id : NameId) (th : Thing) → (t.name.name.0 == id.0) ≡ false → ThingSeen done units id th → ThingSeen (done ++ t ∷ []) (enclosing_unit t ∷ units) id th
     later-thing id (SingleTask es) f x = later id es f x
     later-thing id (TaskType es) f x = later id es f x
     later-thing id (TypeMark m) f x = tt
@@ -186,13 +186,13 @@ task-seen done units t s u h = record {
     later-thing id Unclear f x = tt
 
     by_test : (id : NameId) (th : Thing) (b : Bool) → (t.name.name.0 == id.0) ≡ b →
-        option_map (λ (x : Seen). x.thing) (if b then Some (seen_as (task_thing t.of_kind (map (entry_part s) t.entries)) t.name.name.0) else find (λ x. x.name == id.0) s.names) ≡ Some th → ThingSeen (done ++ t ∷ []) (unit_of t ∷ units) id th
-    by_test id th true f e = subst (ThingSeen (done ++ t ∷ []) (unit_of t ∷ units) id) (some_same e) (new-thing id t.of_kind f)
+        option_map (λ (x : NameMeaning). x.thing) (if b then Some (seen_as (task_thing t.of_kind (map (entry_part s) t.entries)) t.name.name.0) else find (λ x. x.name == id.0) s.names) ≡ Some th → ThingSeen (done ++ t ∷ []) (enclosing_unit t ∷ units) id th
+    by_test id th true f e = subst (ThingSeen (done ++ t ∷ []) (enclosing_unit t ∷ units) id) (some_same e) (new-thing id t.of_kind f)
     by_test id th false f e = later-thing id th f (h.things id th e)
 
 -- ---- declarations
 
-value-units : (b : Bool) (ws : List Word) (c : CheckScope) → (with_value b c ws).units ≡ c.units
+value-units : (b : Bool) (ws : List Word) (c : CheckScope) → (with_declared_object b c ws).units ≡ c.units
 value-units true ws c = meant_units meant.Shared ws c
 value-units false ws c = refl
 
@@ -248,11 +248,11 @@ decl-seen done (DTaskBody w ds b sp) s c u h = decl-nothing done (DTaskBody w ds
 
 -- ---- the start
 
-first-others : (xs : List Seen) (id : NameId) (thing : Thing) → AllByRecursion (λ (x : Seen). IsNoUnit x.thing) xs → option_map (λ (x : Seen). x.thing) (find (λ x. x.name == id.0) xs) ≡ Some thing → IsNoUnit thing
+first-others : (xs : List NameMeaning) (id : NameId) (thing : Thing) → AllByRecursion (λ (x : NameMeaning). IsNoUnit x.thing) xs → option_map (λ (x : NameMeaning). x.thing) (find (λ x. x.name == id.0) xs) ≡ Some thing → IsNoUnit thing
 first-others [] id thing h e = absurd (none-some thing e)
 first-others (x ∷ xs) id thing h e = by_test (x.name == id.0) e (first-others xs id thing h.1)
   where
-    by_test : (b : Bool) → option_map (λ (y : Seen). y.thing) (if b then Some x else find (λ y. y.name == id.0) xs) ≡ Some thing → (option_map (λ (y : Seen). y.thing) (find (λ y. y.name == id.0) xs) ≡ Some thing → IsNoUnit thing) → IsNoUnit thing
+    by_test : (b : Bool) → option_map (λ (y : NameMeaning). y.thing) (if b then Some x else find (λ y. y.name == id.0) xs) ≡ Some thing → (option_map (λ (y : NameMeaning). y.thing) (find (λ y. y.name == id.0) xs) ≡ Some thing → IsNoUnit thing) → IsNoUnit thing
     by_test true f rest = subst IsNoUnit (some_same f) h.0
     by_test false f rest = rest f
 

@@ -23,7 +23,7 @@ use Rattle.ada_tree.specs.Scope.{Scope, Range, Thing, TypeMark, Literal, AnExcep
 use Rattle.ada_tree.specs.Sites.{names_sites, shape_sites, init_sites, object_marking, is_task_object, if_there, decl_sites, decls_sites, body_sites}
 use Rattle.ada_tree.specs.ExprTypes.{static_in, static_range}
 use Rattle.ada_tree.specs.RuleDuplicate.{is_predefined, is_among}
-use Rattle.ada_tree.specs.Declaring.{predefined_types, first_scope, inside, with_types, with_name, with_names, add_kind, made, made_range, subind_made, made_subind, drange_range, made_array, renamed, declared_object, plain_object, array_object, add_constants, with_constants, constant_mark, constant_value, after_decl, after_decls}
+use Rattle.ada_tree.specs.Declaring.{predefined_types, first_scope, inner_scope, with_types, with_name, with_names, add_kind, made, made_range, subind_made, made_subind, drange_range, made_array, renamed, declared_object, plain_object, array_object, add_constants, with_constants, constant_mark, constant_value, after_decl, after_decls}
 use Rattle.ada_value.specs.Values.{word}
 use Rattle.rewritten_types.specs.Agreement.{scalar_only, Keeps}
 use Rattle.rewritten_types.proofs.Lookups.{earlier-or-last}
@@ -352,7 +352,7 @@ first-small (suc (suc k)) x e = absurd (none-some x e)
 pub few-names-small : (p : PProgram) → MeetsTypeRules p → IsWellPlaced p → length p.names ≤ 2 ^ 31 → IsSmall (types_in p)
 few-names-small p types placed few =
     decls-small p.names (omega (arith, few)) p.decls (first_scope p.name) placed.1 placed.2
-    (all_front IsMet (decls_sites (first_scope p.name) p.decls) (body_sites (inside (after_decls (first_scope p.name) p.decls)) p.body) (all_met p types).1)
+    (all_front IsMet (decls_sites (first_scope p.name) p.decls) (body_sites (inner_scope (after_decls (first_scope p.name) p.decls)) p.body) (all_met p types).1)
     record {
       here = record { below = (word-below p.names p.name placed.0, tt); distinct = (refl, tt) };
       kinds = omega arith;

@@ -6,7 +6,7 @@ use Rattle.std.specs.Str.{bytes_eq}
 use Rattle.std.proofs.lemmas.Bool.{ne_eqb, lt-ltb, or_left, or_right}
 use Rattle.std.proofs.lemmas.Fmt.{decimal_injective}
 use Rattle.syn_event.specs.RuleReservedName.{has_mark, is_reserved}
-use Rattle.normal_model.specs.Names.{index_text, member_text}
+use Rattle.normal_model.specs.Names.{index_text, name_of_member}
 use Rattle.common_lemmas.proofs.Lists.{rest_same, first_same}
 
 -- ---- digits
@@ -64,11 +64,11 @@ front-same (x ∷ xs) (y ∷ ys) zs e = ap (λ (z : ℕ). z ∷ xs) (first_same 
 abbrev mark : List ℕ
 mark = 95 ∷ 68 ∷ 69 ∷ 68 ∷ []
 
-member-joined : (a : List ℕ) (i : ℤ) → member_text a i ≡ (a ++ mark) ++ 95 ∷ index_text i
+member-joined : (a : List ℕ) (i : ℤ) → name_of_member a i ≡ (a ++ mark) ++ 95 ∷ index_text i
 member-joined a i = append_assoc a (codes "_DED_") (index_text i) ∙ sym (append_assoc a mark (95 ∷ index_text i))
 
 -- members' names are the same only where arrays and indices are
-pub members-same : (a b : List ℕ) (i j : ℤ) → member_text a i ≡ member_text b j → (a ≡ b) × (index_text i ≡ index_text j)
+pub members-same : (a b : List ℕ) (i j : ℤ) → name_of_member a i ≡ name_of_member b j → (a ≡ b) × (index_text i ≡ index_text j)
 members-same a b i j e =
     let r = last-line (a ++ mark) (b ++ mark) (index_text i) (index_text j) (index-plain i) (index-plain j) (sym (member-joined a i) ∙ e ∙ member-joined b j) in
     (front-same a b mark r.0, r.1)
@@ -78,10 +78,10 @@ pub mark-there : (a rest : List ℕ) → has_mark (a ++ (codes "_DED_" ++ rest))
 mark-there [] rest = refl
 mark-there (x ∷ a) rest = or_right (starts_with nat_eq (x ∷ (a ++ (codes "_DED_" ++ rest))) (codes "_DED_")) (has_mark (a ++ (codes "_DED_" ++ rest))) (mark-there a rest)
 
-pub member-reserved : (a : List ℕ) (i : ℤ) → is_reserved (member_text a i) ≡ true
+pub member-reserved : (a : List ℕ) (i : ℤ) → is_reserved (name_of_member a i) ≡ true
 member-reserved a i =
-    or_right (starts_with nat_eq (member_text a i) (codes "DED_")) (has_mark (member_text a i) || bytes_eq (member_text a i) (codes "DED"))
-    (or_left (has_mark (member_text a i)) (bytes_eq (member_text a i) (codes "DED")) (ap has_mark (append_assoc a (codes "_DED_") (index_text i)) ∙ mark-there a (index_text i)))
+    or_right (starts_with nat_eq (name_of_member a i) (codes "DED_")) (has_mark (name_of_member a i) || bytes_eq (name_of_member a i) (codes "DED"))
+    (or_left (has_mark (name_of_member a i)) (bytes_eq (name_of_member a i) (codes "DED")) (ap has_mark (append_assoc a (codes "_DED_") (index_text i)) ∙ mark-there a (index_text i)))
 
 -- ---- indices
 

@@ -14,10 +14,10 @@ use Rattle.syn_event.specs.declared.numbering.Mode.TheVariants.{Original}
 use Rattle.syn_event.specs.declared.numbering.TaskInfo.{TaskInfo}
 use Rattle.syn_event.specs.CheckRefusals.{MeetsCheckRules}
 use Rattle.syn_event.specs.AllNumbers.{all_numbers}
-use Rattle.syn_event.specs.Units.{text_of}
+use Rattle.syn_event.specs.DeclaredTasks.{text_of}
 use Rattle.syn_event.specs.RuleReservedName.{is_reserved}
 use Rattle.task_model.specs.Setting.{Setting}
-use Rattle.normal_model.specs.Names.{member_text, texts_of_member, member_texts, with_members, member_name, task_name}
+use Rattle.normal_model.specs.Names.{name_of_member, texts_of_member, member_texts, with_members, member_name, task_name}
 use Rattle.normal_model.specs.NormalTree.{tasks_beside}
 use Rattle.normal_model.proofs.VariablesLemmas.{Begins}
 use Rattle.rewritten_values.proofs.Saying.{place-within}
@@ -32,7 +32,7 @@ use Rattle.common_lemmas.proofs.Options.{some_same}
 -- the text of a task's name in the normal form
 abbrev pub full_text : List ℕ → Option ℤ → List ℕ
 full_text text None = text
-full_text text (Some i) = member_text text i
+full_text text (Some i) = name_of_member text i
 
 -- ---- the new names are there
 
@@ -79,9 +79,9 @@ module _ (g : Setting) where
       slice_get (with_members g) (member_name g id member).0 ≡ Some (full_text text member)
   name-found id None text e h = ap (λ l. slice_get l id.0) begins.joined ∙ place-within names begins.more id.0 (slice_get_within names id.0 text e) ∙ e
   name-found id (Some i) text e h =
-      let t = member_text (text_of names id) i in
+      let t = name_of_member (text_of names id) i in
       let place = text-place (with_members g) t h.0 in
-      ap (λ o. slice_get (with_members g) (unwrap_or o 0)) place.position_is ∙ place.there ∙ ap (λ o. Some (member_text (unwrap_or o []) i)) e
+      ap (λ o. slice_get (with_members g) (unwrap_or o 0)) place.position_is ∙ place.there ∙ ap (λ o. Some (name_of_member (unwrap_or o []) i)) e
 
   good-named : (info : TaskInfo) → IsGood names info.name → HasMembers info → IsNamed info
   good-named info good h = by_place (slice_get names info.name.0) refl good.there

@@ -15,7 +15,7 @@ use Rattle.ada_tree.specs.Demand.{scalar_only}
 use Rattle.ada_value.specs.declared.values.Form.{Form}
 use Rattle.ada_value.specs.declared.values.Limits.{Limits}
 use Rattle.ada_value.specs.Variables.{form_of_kind, form_of_mark}
-use Rattle.syn_event.specs.Units.{tasks_of}
+use Rattle.syn_event.specs.DeclaredTasks.{tasks_of}
 use Rattle.task_model.specs.Starting.{marked_form, plain_form, form_of}
 use Rattle.rewritten_types.specs.Agreement.{scalar_only as scalar_kind_only}
 use Rattle.legal_types.specs.Typed.{IsScalarName, HasTypedTasks}

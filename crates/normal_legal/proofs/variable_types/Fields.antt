@@ -11,7 +11,7 @@ use Rattle.ada_tree.specs.Every.{EveryDrange}
 use Rattle.ada_tree.specs.Refusals.{types_in}
 use Rattle.syn_event.specs.declared.numbering.EntryInfo.{EntryInfo}
 use Rattle.syn_event.specs.Numbering.{entry_at}
-use Rattle.syn_event.specs.AllNumbers.{first_of, last_of, family_extent}
+use Rattle.syn_event.specs.AllNumbers.{first_of, last_index, family_extent}
 use Rattle.ada_value.specs.declared.values.Limits.{Limits}
 use Rattle.ada_value.specs.Values.{lies_in, integer_limits, truth_limits, limits_named}
 use Rattle.task_model.specs.Setting.{is_family, is_family_in, family_limits, formals_of_info}
@@ -76,7 +76,7 @@ module _ (p : PProgram) where
         by_family None e g l o z = absurd (true≢false (sym g))
         by_family (Some r) e g l o z =
             let low : info.first ≡ l.limits.first = h.low ∙ ap (λ q. first_of (family_extent T q)) e ∙ ap first_of l.told in
-            let high : info.last ≡ l.limits.last = h.high ∙ ap (λ q. last_of (family_extent T q)) e ∙ ap last_of l.told in
+            let high : info.last ≡ l.limits.last = h.high ∙ ap (λ q. last_index (family_extent T q)) e ∙ ap last_index l.told in
             ap₂ (λ a b. lies_in (record { kind = 0; first = a; last = b }) z) low high
             ∙ ap (λ k. lies_in k z) (limits-of V (range_subtype T s r) l.limits (range-form p ready.names ready.ordered ready.own T (numbers_of p) s r o l))
             ∙ ap (λ q. lies_in (declared_limits V (subtype_of_range T s q)) z) (sym (range-is p (own_rule p) info h ∙ e))

@@ -10,11 +10,11 @@ use Rattle.ada_tree.specs.Refusals.{types_in}
 use Rattle.syn_event.specs.declared.numbering.TaskInfo.{TaskInfo}
 use Rattle.syn_event.specs.declared.numbering.EntryInfo.{EntryInfo}
 use Rattle.syn_event.specs.Numbering.{Numbering, entry_at}
-use Rattle.syn_event.specs.Numbered.{task_info, with_origin, with_origins}
-use Rattle.syn_event.specs.AllNumbers.{info_of_task, first_of, last_of, family_extent, entry_of_task, entries_of_tasks, all_numbers}
+use Rattle.syn_event.specs.AddedNames.{task_info, with_origin, with_origins}
+use Rattle.syn_event.specs.AllNumbers.{info_of_task, first_of, last_index, family_extent, entry_of_task, entries_of_tasks, all_numbers}
 use Rattle.syn_event.specs.NamedTasks.{NamedTasks, NumberedTask, numbered_task, indices, tasks_of_range, tasks_of_name, numbered_tasks, task_names_of}
 use Rattle.syn_event.specs.Extents.{extent}
-use Rattle.syn_event.specs.Units.{tasks_of}
+use Rattle.syn_event.specs.DeclaredTasks.{tasks_of}
 use Rattle.task_model.specs.Setting.{Setting, unit_named, formals_of_entry, formals_in, formals_of_unit, formals_of_info}
 use Rattle.normal_model.specs.Ranges.{range_of_entry, range_in, range_of_unit, range_of_info}
 use Rattle.normal_types.specs.Laws.{setting_of}
@@ -39,7 +39,7 @@ pub record IsEntryOf (p : PProgram) (Q : EntryRule) (tasks : List TaskInfo) (inf
   pub name : info.name ≡ entry.name.name
   pub family : info.family ≡ is_some entry.family
   pub low : info.first ≡ first_of (family_extent (types_in p) entry.family)
-  pub high : info.last ≡ last_of (family_extent (types_in p) entry.family)
+  pub high : info.last ≡ last_index (family_extent (types_in p) entry.family)
 
 -- a task that is declared, of whose entries that is so
 pub record IsRuled (p : PProgram) (Q : EntryRule) (t : PTask) : Type 0 where

@@ -16,7 +16,7 @@ use Rattle.ada_tree.specs.Refusals.{types_in}
 use Rattle.syn_event.specs.declared.numbering.EntryInfo.{EntryInfo}
 use Rattle.syn_event.specs.Numbering.{Numbering, entry_at}
 use Rattle.syn_event.specs.AllNumbers.{all_numbers}
-use Rattle.syn_event.specs.Units.{decl_list, tasks_in, tasks_of}
+use Rattle.syn_event.specs.DeclaredTasks.{decl_list, tasks_in, tasks_of}
 use Rattle.syn_event.specs.NamedTasks.{NamedTasks, task_names_of_type, object_task_names, type_named, with_type, single_task_name, task_names_in, task_names_of}
 use Rattle.ada_value.specs.declared.values.Limits.{Limits}
 use Rattle.ada_value.specs.Values.{integer_limits, truth_limits, limits_named}
@@ -25,7 +25,8 @@ use Rattle.normal_model.specs.Ranges.{marked, subtype_of_range, array_range, ran
 use Rattle.normal_model.specs.Making.{Kept, kept_subtypes, kept_if, moving}
 use Rattle.normal_model.specs.Members.{callee_kept}
 use Rattle.normal_model.specs.Calls.{Slot, entry_called, slots_of, slots_called, lists_called, actual_subtypes, indices_kept, call_subtypes, flag_subtypes, is_chosen, select_subtypes}
-use Rattle.normal_model.specs.Waits.{Unit, accept_kept, head_of, kind_kept, guard_subtypes, alternative_subtypes}
+use Rattle.normal_model.specs.RewrittenUnit.{RewrittenUnit}
+use Rattle.normal_model.specs.Waits.{accept_kept, head_of, kind_kept, guard_subtypes, alternative_subtypes}
 use Rattle.normal_model.specs.Aborts.{abort_subtypes}
 use Rattle.normal_model.specs.Variables.{variables_declared, more_variables, statement_variables}
 use Rattle.normal_model.specs.NormalStmts.{normal_rewriter, unit_variables}
@@ -230,7 +231,7 @@ module _ (p : PProgram) (ready : IsReady p) where
   aborts-scalar s (c ∷ cs) = all_joined (IsScalarSubtype V) (kept_subtypes (callee_kept g s c)) (abort_subtypes g s cs) (callee-scalar s c) (aborts-scalar s cs)
 
   module _ (task : ℕ) where
-    abbrev u : Unit
+    abbrev u : RewrittenUnit
     u = record { setting = g; task = task }
 
     accept-scalar : (s : Span) (h : PHead) → AreScalar (kept_subtypes (accept_kept u s h))

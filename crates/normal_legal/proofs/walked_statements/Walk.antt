@@ -11,9 +11,9 @@ use Rattle.ada_tree.specs.declared.naming.Span.{Span}
 use Rattle.ada_tree.specs.ExprTypes.{kind_of}
 use Rattle.ada_tree.specs.RuleChoiceBad.{selected_range}
 use Rattle.ada_tree.specs.Demand.{labels, Site}
-use Rattle.ada_tree.specs.Sites.{site, if_there, names_sites, drange_sites, expr_sites, formal_mark_sites, formals_sites, all_names, callee_sites, call_sites, accept_index_sites, head_sites, scheme_sites, loop_scope, stmt_sites, stmts_sites, maybe_sites, accept_sites, alts_sites, alt_sites, arms_sites, case_arms_sites, body_sites, handlers_sites, condition, choice_sites, handler_names_sites, with_words}
+use Rattle.ada_tree.specs.Sites.{site, if_there, names_sites, drange_sites, expr_sites, formal_mark_sites, formals_sites, all_names, callee_sites, call_sites, accept_index_sites, head_sites, scheme_sites, loop_scope, stmt_sites, stmts_sites, maybe_sites, accept_sites, alts_sites, alt_sites, arms_sites, case_arms_sites, body_sites, handlers_sites, condition_sites, choice_sites, handler_names_sites, with_words}
 use Rattle.ada_tree.specs.Scope.{entry_named}
-use Rattle.ada_tree.specs.Declaring.{inside, with_formals}
+use Rattle.ada_tree.specs.Declaring.{inner_scope, with_formals}
 use Rattle.syn_event.specs.CheckScope.{CheckScope, CheckSite}
 use Rattle.syn_event.specs.CheckScope as check_demand
 use Rattle.syn_event.specs.CheckSites as check
@@ -91,7 +91,7 @@ module _ (a : Asked) (r : Rules) (k : Known) (g : Gives a r k) where
       let at = back (if_there (accept_index_sites s (entry_named s.own h.entry.name)) h.index) (formals_sites s h.formals) m.1 in
       record {
         index = option-old a.programs r g.old h.index (n + 1) e.1;
-        formals = formals-of h.formals fs (words-free (all_names h.formals) (inside s) (words-all r h.formals fs) (front (names_sites false (inside s) (all_names h.formals)) (formal_mark_sites s h.formals) at));
+        formals = formals-of h.formals fs (words-free (all_names h.formals) (inner_scope s) (words-all r h.formals fs) (front (names_sites false (inner_scope s) (all_names h.formals)) (formal_mark_sites s h.formals) at));
       }
 
   callees-old : (s : Scope) (c : CheckScope) (n : ℕ) (xs : List PCallee) → k.scopes s c → AllByRecursion (EveryCallee r n) xs →
@@ -112,7 +112,7 @@ module _ (a : Asked) (r : Rules) (k : Known) (g : Gives a r k) where
   scheme-old s c n None known e h = old_endless
   scheme-old s c n (Some (LWhile x)) known e h = old_while x (expr-old a.programs r g.old x n e)
   scheme-old s c n (Some (LFor w backwards x)) known e h =
-      old_for w backwards x (g.old w.name e.0) (g.free (inside s) w h.0) (range-old s c n x known e.1 h.1)
+      old_for w backwards x (g.old w.name e.0) (g.free (inner_scope s) w h.0) (range-old s c n x known e.1 h.1)
 
   -- ---- statements
 
@@ -126,11 +126,11 @@ module _ (a : Asked) (r : Rules) (k : Known) (g : Gives a r k) where
     stmt (SAbort cs p) s c n known e h m = old_abort cs p (callees-old s c (n + 1) cs known (recursion_from_All (EveryCallee r (n + 1)) cs e.2) h m.1)
     stmt (SCall x p) s c n known e h m = old_call x p (call-old a.programs r g.old x (n + 1) e.1) (g.call s c (n + 1) x known e.1 (call-old a.programs r g.old x (n + 1) e.1) h m.1)
     stmt (SAccept (accepting d o) p) s c n known e h m =
-        let at = front (head_sites s d) (maybe_sites (with_formals (inside s) d.formals) o) h in
+        let at = front (head_sites s d) (maybe_sites (with_formals (inner_scope s) d.formals) o) h in
         let checked = check-front (check.head_sites c n d) (check.maybe_sites (check.in_accept c d) (n + 1) o) m in
         old_accept d o p (head-old s c n d e.1 at) (g.head s c n d known e.1 at checked)
-        (maybe o (with_formals (inside s) d.formals) (check.in_accept c d) (n + 1) (g.in_accept s c n d known at checked) e.2
-        (back (head_sites s d) (maybe_sites (with_formals (inside s) d.formals) o) h) (check-back (check.head_sites c n d) (check.maybe_sites (check.in_accept c d) (n + 1) o) m))
+        (maybe o (with_formals (inner_scope s) d.formals) (check.in_accept c d) (n + 1) (g.in_accept s c n d known at checked) e.2
+        (back (head_sites s d) (maybe_sites (with_formals (inner_scope s) d.formals) o) h) (check-back (check.head_sites c n d) (check.maybe_sites (check.in_accept c d) (n + 1) o) m))
     stmt (SWait x o p) s c n known e h m =
         let xs : List CheckSite = check.numbered c Alternatives 0 (check.alt_places x) in
         let ys : List CheckSite = check.alts_sites c (n + 1) x in
@@ -214,7 +214,7 @@ module _ (a : Asked) (r : Rules) (k : Known) (g : Gives a r k) where
     alts : (x : PAlts) (s : Scope) (c : CheckScope) (n : ℕ) → k.scopes s c → EveryAlts r n x → AllAt (alts_sites s x) → AllChecked (check.alts_sites c n x) → OldAlts a x
     alts no_alt s c n known e h m = old_no_alt
     alts (alt_then (alternative guard x p) l) s c n known e h m =
-        let xs : List Site = if_there (condition s) guard in
+        let xs : List Site = if_there (condition_sites s) guard in
         let ys : List Site = alt_sites s x in
         let zs : List Site = alts_sites s l in
         let us : List CheckSite = check.if_there (check.expr_sites c (n + 1)) guard in
@@ -226,14 +226,14 @@ module _ (a : Asked) (r : Rules) (k : Known) (g : Gives a r k) where
 
     alt : (x : PAltKind) (s : Scope) (c : CheckScope) (n : ℕ) (guard : Option PExpr) (p : Span) → k.scopes s c → EveryAltKind r n x → AllAt (alt_sites s x) → AllChecked (check.alt_sites c n guard p x) → OldKind a x
     alt (AAccept (accepting d o) l) s c n guard p known e h m =
-        let inner : List Site = maybe_sites (with_formals (inside s) d.formals) o in
+        let inner : List Site = maybe_sites (with_formals (inner_scope s) d.formals) o in
         let both = front (accept_sites s (accepting d o)) (stmts_sites s l) h in
         let at = front (head_sites s d) inner both in
         let deeper : List CheckSite = check.maybe_sites (check.in_accept c d) (n + 1) o in
         let two = check-front (check.accept_sites c n (accepting d o)) (check.stmts_sites c n l) m in
         let checked = check-front (check.head_sites c n d) deeper two in
         old_accepts d o l (head-old s c n d e.0.1 at) (g.head s c n d known e.0.1 at checked)
-        (maybe o (with_formals (inside s) d.formals) (check.in_accept c d) (n + 1) (g.in_accept s c n d known at checked) e.0.2 (back (head_sites s d) inner both) (check-back (check.head_sites c n d) deeper two))
+        (maybe o (with_formals (inner_scope s) d.formals) (check.in_accept c d) (n + 1) (g.in_accept s c n d known at checked) e.0.2 (back (head_sites s d) inner both) (check-back (check.head_sites c n d) deeper two))
         (stmts l s c n known e.1 (back (accept_sites s (accepting d o)) (stmts_sites s l) h) (check-back (check.accept_sites c n (accepting d o)) (check.stmts_sites c n l) m))
     alt (ADelay d l) s c n guard p known e h m = old_delays d l (stmts l s c n known e.2 h (check-back (check.delay_sites c n guard p) (check.stmts_sites c n l) m))
     alt ATerminate s c n guard p known e h m = old_terminates
@@ -241,7 +241,7 @@ module _ (a : Asked) (r : Rules) (k : Known) (g : Gives a r k) where
     arms : (x : PArms) (s : Scope) (c : CheckScope) (n : ℕ) → k.scopes s c → EveryArms r n x → AllAt (arms_sites s x) → AllChecked (check.arms_sites c n x) → OldArms a x
     arms no_arm s c n known e h m = old_no_arm
     arms (arm_then (arm y l) rest) s c n known e h m =
-        let xs : List Site = condition s y in
+        let xs : List Site = condition_sites s y in
         let ys : List Site = stmts_sites s l in
         let zs : List Site = arms_sites s rest in
         let us : List CheckSite = check.expr_sites c n y in

@@ -8,7 +8,7 @@ use Rattle.ada_tree.specs.Every.{Rules, EveryCallee, EveryCall, EveryHead}
 use Rattle.ada_tree.specs.Scope.{Scope}
 use Rattle.ada_tree.specs.Demand.{scalar_only, declares, stands_as_mark, Site}
 use Rattle.ada_tree.specs.Sites.{site, if_there, callee_sites, call_sites, head_sites, scheme_sites, loop_scope}
-use Rattle.ada_tree.specs.Declaring.{inside, with_formals}
+use Rattle.ada_tree.specs.Declaring.{inner_scope, with_formals}
 use Rattle.syn_event.specs.CheckScope.{CheckScope, CheckSite}
 use Rattle.syn_event.specs.CheckSites as check
 use Rattle.ada_value.specs.Values.{limits_named}
@@ -34,7 +34,7 @@ pub record Gives (a : Asked) (r : Rules) (k : Known) : Type 0 where
   pub head : (s : Scope) (c : CheckScope) (n : ℕ) (h : PHead) → k.scopes s c → EveryHead r n h →
       AllByRecursion k.place (head_sites s h) → AllByRecursion k.check_place (check.head_sites c n h) → a.head h
   pub in_accept : (s : Scope) (c : CheckScope) (n : ℕ) (h : PHead) → k.scopes s c →
-      AllByRecursion k.place (head_sites s h) → AllByRecursion k.check_place (check.head_sites c n h) → k.scopes (with_formals (inside s) h.formals) (check.in_accept c h)
+      AllByRecursion k.place (head_sites s h) → AllByRecursion k.check_place (check.head_sites c n h) → k.scopes (with_formals (inner_scope s) h.formals) (check.in_accept c h)
   pub handling : (s : Scope) (c : CheckScope) → k.scopes s c → k.scopes s (check.handling c)
   pub looping : (s : Scope) (c : CheckScope) (w : Option Word) (x : Option PScheme) → k.scopes s c →
       AllByRecursion k.place (if_there (scheme_sites s) x) → k.scopes (loop_scope s x) (check.in_loop c w x)

@@ -8,7 +8,7 @@ use Rattle.ada_tree.specs.StaticValue.{constant_named, literal_position}
 use Rattle.ada_tree.specs.PlainExpr.{PDrange, plain_drange}
 use Rattle.ada_tree.specs.PlainDecl.{PEntry, PTask}
 use Rattle.ada_tree.specs.PlainProgram.{PProgram}
-use Rattle.syn_event.specs.Units.{tasks_of}
+use Rattle.syn_event.specs.DeclaredTasks.{tasks_of}
 use Rattle.syn_event.specs.NamedTasks.{task_names_of}
 use Rattle.scoped_names.specs.Meaning.{meaning_in}
 use Rattle.task_model.specs.Setting.{Setting}

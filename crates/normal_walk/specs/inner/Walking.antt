@@ -3,7 +3,8 @@ use Rattle.std.specs.Prelude.{◌≡◌, ℕ, List, length, max}
 use Rattle.ada_tree.specs.PlainDecl.{PDecl}
 use Rattle.task_model.specs.Setting.{Setting}
 use Rattle.tree_walk.specs.Rules.{Rule}
-use Rattle.normal_model.specs.Waits.{Unit, alternative_before, alternative_left}
+use Rattle.normal_model.specs.RewrittenUnit.{RewrittenUnit}
+use Rattle.normal_model.specs.Waits.{alternative_before, alternative_left}
 use Rattle.normal_model.specs.Variables.{statement_variables, alternative_variables}
 use Rattle.normal_model.specs.NormalStmts.{normal_image}
 use Rattle.normal_meanings.specs.declared.array_members.Members.{Members}
@@ -12,7 +13,7 @@ use Rattle.normal_variables.specs.declared.track.Track.{Track}
 use Rattle.normal_variables.specs.Track.{IsTrack}
 
 -- The rule of a unit: what is kept of the variables is how many there are.
-abbrev pub normal_rule : Unit → Rule (List PDecl)
+abbrev pub normal_rule : RewrittenUnit → Rule (List PDecl)
 normal_rule u = record {
   number = length;
   entered = statement_variables u;

@@ -8,7 +8,7 @@ use Rattle.ada_tree.specs.PlainDecl.{PEntry, PDecl, DObject, DTask, DTaskBody, P
 use Rattle.ada_tree.specs.PlainProgram.{PProgram}
 use Rattle.ada_tree.specs.Every.{Rules, EveryWord, EveryDrange, EveryFormal, EveryEntry, EveryDecl, EveryDecls}
 use Rattle.ada_tree.specs.WellPlaced.{AreObjects, well_placed}
-use Rattle.syn_event.specs.Units.{decl_list}
+use Rattle.syn_event.specs.DeclaredTasks.{decl_list}
 use Rattle.task_model.specs.Setting.{Setting}
 use Rattle.normal_model.specs.Names.{variable_name}
 use Rattle.normal_model.specs.Ranges.{word_at}

@@ -10,7 +10,7 @@ use Rattle.ada_tree.specs.TypeTable.{TypeTable}
 use Rattle.ada_tree.specs.PlainDecl.{PEntry, PTask}
 use Rattle.ada_tree.specs.PlainProgram.{PProgram}
 use Rattle.syn_event.specs.Numbering.{Numbering}
-use Rattle.syn_event.specs.Units.{text_of, tasks_of}
+use Rattle.syn_event.specs.DeclaredTasks.{text_of, tasks_of}
 use Rattle.normal_model.specs.NormalTree.{variables_needed, normal_tree}
 use Rattle.normal_types.specs.Own.{own_name}
 use Rattle.normal_has_numbers.proofs.Named.{text-longer, own-within, own-not-added, begins-within}

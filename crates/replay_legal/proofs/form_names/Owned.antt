@@ -5,7 +5,7 @@ use Rattle.ada_tree.specs.PlainDecl.{PDecls, no_decl, decl_then}
 use Rattle.ada_tree.specs.PlainProgram.{PProgram}
 use Rattle.ada_tree.specs.Every.{Rules, EveryDecl, EveryDecls, EveryProgram}
 use Rattle.ada_tree.specs.Refusals.{types_in}
-use Rattle.syn_event.specs.Units.{decl_list}
+use Rattle.syn_event.specs.DeclaredTasks.{decl_list}
 use Rattle.normal_types.specs.Own.{own_name}
 use Rattle.normal_checked.specs.Around.{own_rules}
 use Rattle.normal_checked.proofs.Owned.{own-together}

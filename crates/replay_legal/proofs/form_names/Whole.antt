@@ -11,7 +11,7 @@ use Rattle.ada_tree.specs.WellPlaced.{well_placed}
 use Rattle.ada_tree.specs.Refusals.{types_in}
 use Rattle.syn_event.specs.CheckSites as check
 use Rattle.syn_event.specs.Numbering.{Numbering}
-use Rattle.syn_event.specs.Units.{decl_list}
+use Rattle.syn_event.specs.DeclaredTasks.{decl_list}
 use Rattle.syn_event.proofs.DeclLists.{every_listed}
 use Rattle.task_model.specs.Setting.{Setting}
 use Rattle.normal_model.specs.NormalTree.{first_decls, main_unit, variables_needed}

@@ -10,9 +10,9 @@ use Rattle.ada_tree.specs.PlainStmt.{PBody}
 use Rattle.ada_tree.specs.PlainDecl.{PDecl, DObject, DTaskBody, PDecls, decls_of}
 use Rattle.ada_tree.specs.PlainProgram.{PProgram}
 use Rattle.ada_tree.specs.Scope.{Scope, truth_kind, Literal, meaning}
-use Rattle.ada_tree.specs.Declaring.{in_body, inside, after_own_object, after_objects, after_decl, after_decls}
+use Rattle.ada_tree.specs.Declaring.{in_body, inner_scope, after_own_object, after_objects, after_decl, after_decls}
 use Rattle.ada_tree.specs.Sites.{own_sites, body_sites}
-use Rattle.syn_event.specs.Units.{decl_list}
+use Rattle.syn_event.specs.DeclaredTasks.{decl_list}
 use Rattle.syn_event.proofs.DeclLists.{list_again}
 use Rattle.rewritten_types.specs.Agreement.{Keeps}
 use Rattle.rewritten_types.specs.Rewriting.{IsAdded}
@@ -108,7 +108,7 @@ module _ (p : PProgram) (legal : IsLegal p) where
     falses : meaning (after_objects d (decls_of decls)) (record { 0 = false_name }) ≡ Some (Literal truth_kind)
     falses = objects-means (record { 0 = false_name }) decls d (own-others old 4 decls owns (told.others 4 (omega arith))) ∙ (knows-language c b).falses
 
-    unit : IsUnitScoped old (inside (after_objects d (decls_of decls)))
+    unit : IsUnitScoped old (inner_scope (after_objects d (decls_of decls)))
     unit = record { self = record { types = selfs.1.names.types; things = selfs.1.names.things }; falses = falses }
 
     body-scoped : AllByRecursion IsMetBut (own_sites d objects) → IsBodyScoped q old c w objects
@@ -118,7 +118,7 @@ module _ (p : PProgram) (legal : IsLegal p) where
       ready = ready-objects q old (permits-new q) decls d refl owns (own-others old 0 decls owns (told.others 0 (omega arith))) ready-in;
       selfs = selfs.0;
       sites = sites;
-      unit = subst (λ ds. IsUnitScoped old (inside (after_objects d ds))) (list_again objects) unit;
+      unit = subst (λ ds. IsUnitScoped old (inner_scope (after_objects d ds))) (list_again objects) unit;
     }
 
   -- Where nothing is refused at the places of the bodies their scopes are as told, and behind them all it is so too.
@@ -126,5 +126,5 @@ module _ (p : PProgram) (legal : IsLegal p) where
   bodies-scoped [] t o c m b = (tt, b)
   bodies-scoped (DTaskBody w objects its s ∷ xs) t o c m b =
       let rest = bodies-scoped xs t.1 o.1 (after_decl c (DTaskBody w objects its s)) m.1 (behind-body w objects its s c b) in
-      ((body-scoped c b w objects t.0 o.0 (all_front IsMetBut (own_sites (in_body c w) objects) (body_sites (inside (after_objects (in_body c w) objects)) its) m.0.1), rest.0), rest.1)
+      ((body-scoped c b w objects t.0 o.0 (all_front IsMetBut (own_sites (in_body c w) objects) (body_sites (inner_scope (after_objects (in_body c w) objects)) its) m.0.1), rest.0), rest.1)
   bodies-scoped (_ ∷ xs) t o c m b = absurd t.0

@@ -18,7 +18,7 @@ use Rattle.normal_model.specs.Names.{variable_name}
 use Rattle.normal_model.specs.Ranges.{word_at}
 use Rattle.normal_model.specs.Variables.{variable_declared}
 use Rattle.normal_model.specs.NormalTree.{first_decls}
-use Rattle.rewritten_types.specs.Agreement.{Keeps, Whole}
+use Rattle.rewritten_types.specs.Agreement.{Keeps, WholeTable}
 use Rattle.rewritten_types.proofs.Keeping.{keeps-self}
 use Rattle.rewritten_types.proofs.Adding.{keeps-objects}
 use Rattle.rewritten_types.proofs.Soundness.{sound-decls, sound-first}
@@ -41,7 +41,7 @@ use Rattle.normal_variables_marked.proofs.Steps.{IsReady, IsBehind, variable-beh
 
 -- Each name means what it means itself, and each kind of values has a mark.
 pub record IsSelf (c : Scope) : Type 0 where
-  pub whole : Whole c.types
+  pub whole : WholeTable c.types
   pub same : SameNames anybody c c
 
 -- so it is with fewer names
@@ -116,7 +116,7 @@ module _ (p : PProgram) (legal : IsLegal p) where
       firsts : PDecls
       firsts = first_decls [] p.decls
 
-      whole : Whole (first p legal).types
+      whole : WholeTable (first p legal).types
       whole = whole-decls firsts (first_scope p.name) (whole-first p.name)
 
   -- ---- variables
@@ -134,7 +134,7 @@ module _ (p : PProgram) (legal : IsLegal p) where
       b : IsBehind p legal q s x k
       b = variable-behind p legal q r s x k known
 
-      whole : Whole T
+      whole : WholeTable T
       whole = whole-decls (decls_of (variable_declared G s x k ∷ [])) q h.whole
 
       range_of : Mark → Range

@@ -12,7 +12,7 @@ use Rattle.ada_tree.specs.Refusals.{types_in}
 use Rattle.ada_tree.specs.Scope.{Scope, Thing, TypeMark, meaning}
 use Rattle.ada_tree.specs.StaticValue.{is_named, value_named}
 use Rattle.ada_tree.specs.Declaring.{first_mark, predefined_types, first_scope}
-use Rattle.syn_event.specs.Units.{text_of}
+use Rattle.syn_event.specs.DeclaredTasks.{text_of}
 use Rattle.syn_event.specs.RuleReservedName.{has_mark}
 use Rattle.task_model.specs.Setting.{Setting}
 use Rattle.normal_model.specs.NormalTree.{first_decls, variables_needed}

@@ -6,11 +6,11 @@ use Rattle.ada_tree.specs.declared.naming.Word.{Word}
 use Rattle.ada_tree.specs.PlainStmt.{PScheme, LWhile, LFor, PHead, PBody}
 use Rattle.ada_tree.specs.Scope.{Scope, meaning, entry_named}
 use Rattle.ada_tree.specs.Demand.{labels, calls, chooses, Site}
-use Rattle.ada_tree.specs.Sites.{site, if_there, expr_sites, callee_sites, args_sites, condition, choice_sites, handler_names_sites, stmt_sites, names_sites, all_names, formals_sites, accept_index_sites, head_sites, scheme_sites, body_sites}
+use Rattle.ada_tree.specs.Sites.{site, if_there, expr_sites, callee_sites, args_sites, condition_sites, choice_sites, handler_names_sites, stmt_sites, names_sites, all_names, formals_sites, accept_index_sites, head_sites, scheme_sites, body_sites}
 use Rattle.ada_tree.specs.ExprTypes.{kind_of}
 use Rattle.ada_tree.specs.RuleArgCount.{called_entry}
 use Rattle.ada_tree.specs.RuleChoiceBad.{selected_range}
-use Rattle.ada_tree.specs.Declaring.{inside}
+use Rattle.ada_tree.specs.Declaring.{inner_scope}
 use Rattle.asked_stmts.specs.Asked.{Asks, AskedBody}
 use Rattle.asked_stmts.specs.Kinds.{type_asks, both}
 use Rattle.asked_stmts.proofs.Typed.{typed_asked}
@@ -59,8 +59,8 @@ module _ (inner : ℕ → Bool) where
 
   formals-declared : (c : Scope) (h : PHead) → AllByRecursion P (head_sites c h) → AreInner inner (all_names h.formals)
   formals-declared c h m =
-      words-declared (all_names h.formals) (inside c)
-      (all_front P (names_sites false (inside c) (all_names h.formals)) _ (all_back P (if_there (accept_index_sites c (entry_named c.own h.entry.name)) h.index) (formals_sites c h.formals) m.1))
+      words-declared (all_names h.formals) (inner_scope c)
+      (all_front P (names_sites false (inner_scope c) (all_names h.formals)) _ (all_back P (if_there (accept_index_sites c (entry_named c.own h.entry.name)) h.index) (formals_sites c h.formals) m.1))
 
   less : AsksLess a b R
   less = record {
@@ -71,7 +71,7 @@ module _ (inner : ℕ → Bool) where
     callee = λ c d k x r h. (subst (λ s. AllMetBut (callee_sites s x)) r.0 (but (callee_sites c.0.0 x) h.0.0), subst (λ s. scope_asks.callee s k x) r.1 h.0.1);
     call = λ c d k x r h. subst (λ s. b.call s k x) r.0 (but (site c.0.0 (calls x) ∷ if_there (args_sites c.0.0 (called_entry (meaning c.0.0 x.task.name.name) x.entry.name)) x.args) h.0.0);
     aborts = λ c d k xs r h. tt;
-    condition = λ c d k e r h. subst (λ s. b.condition s k e) r.0 (but (condition c.0.0 e) h.0.0);
+    condition = λ c d k e r h. subst (λ s. b.condition s k e) r.0 (but (condition_sites c.0.0 e) h.0.0);
     selector = λ c d k e xs others s r h. subst (λ t. b.selector t k e xs others s) r.0 (but (site c.0.0 (chooses e xs others s) ∷ expr_sites c.0.0 e) h.0.0);
     choices = λ c d k e xs r h. subst (λ s. b.choices s k e xs) r.0 (but (flat_map (choice_sites c.0.0 (kind_of c.0.0 e) (selected_range c.0.0 e)) xs) h.0.0);
     loop = λ c d k w x r h. subst (λ s. b.loop s k w x) r.0 (

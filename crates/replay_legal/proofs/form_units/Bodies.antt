@@ -12,9 +12,9 @@ use Rattle.ada_tree.specs.PlainProgram.{PProgram}
 use Rattle.ada_tree.specs.Refusals.{types_in}
 use Rattle.ada_tree.specs.Scope.{Scope, EntryPart, meaning, entry_named}
 use Rattle.ada_tree.specs.Sites.{own_sites, body_sites, decl_sites, decls_sites}
-use Rattle.ada_tree.specs.Declaring.{first_scope, own_entries, in_body, inside, after_objects, after_decl, after_decls}
+use Rattle.ada_tree.specs.Declaring.{first_scope, own_entries, in_body, inner_scope, after_objects, after_decl, after_decls}
 use Rattle.syn_event.specs.declared.numbering.TaskInfo.{TaskInfo}
-use Rattle.syn_event.specs.Units.{decl_list}
+use Rattle.syn_event.specs.DeclaredTasks.{decl_list}
 use Rattle.task_model.specs.Setting.{Setting, entry_of}
 use Rattle.rewritten_types.proofs.Adding.{keeps-objects}
 use Rattle.legal_types.proofs.TypedValues.{anybody}
@@ -101,7 +101,7 @@ module _ (p : PProgram) (h : IsLegal p) where
       v = word_at w.span (task_name G info)
 
       abbrev d : Scope
-      d = inside (after_objects (in_body t v) own_decls)
+      d = inner_scope (after_objects (in_body t v) own_decls)
 
       beside : IsAmong info (tasks_beside G)
       beside = among-beside w info i
@@ -136,7 +136,7 @@ module _ (p : PProgram) (h : IsLegal p) where
 
       body : AllMetBut (decl_sites t (copy info)) → HasWaits (copy info) → IsScopedBody inner d (normal_body (unit_for G w.name) its)
       body met waits =
-          let c : Scope = inside (after_objects (in_body s w) objects) in
+          let c : Scope = inner_scope (after_objects (in_body s w) objects) in
           scopes-asked inner d (normal_body (unit_for G w.name) its)
           (all_back _ (own_sites (in_body t v) own_decls) (body_sites d (normal_body (unit_for G w.name) its)) met.1)
           (declared.0 (unit_for G w.name) d)
@@ -205,25 +205,25 @@ module _ (p : PProgram) (h : IsLegal p) where
       ∙ decls_joined (main_variables G ++ flat_map (task_declared G) (tasks_beside G)) bodies (first p h)
       ∙ ap (λ s. after_decls s (decls_of bodies)) (decls_joined (main_variables G) (flat_map (task_declared G) (tasks_beside G)) (first p h))
 
-  main-seen : AreSeenWell p h (inside (made p h))
-  main-seen = subst (λ (s : Scope). AreSeenWell p h (inside s)) (sym made-is) (bodies-well p h bodies (list.bodies-all G) (tasked p h) (tasked-well p h))
+  main-seen : AreSeenWell p h (inner_scope (made p h))
+  main-seen = subst (λ (s : Scope). AreSeenWell p h (inner_scope s)) (sym made-is) (bodies-well p h bodies (list.bodies-all G) (tasked p h) (tasked-well p h))
 
-  main-kinds : AreKindsMeant p h (inside (made p h))
+  main-kinds : AreKindsMeant p h (inner_scope (made p h))
   main-kinds = kinds-same p h (made p h) ((made-formed p h).same S (last-placed p h))
 
-  main-entries : HasItsEntries (main_unit F) inner (inside (made p h))
+  main-entries : HasItsEntries (main_unit F) inner (inner_scope (made p h))
   main-entries = record {
-    called = called-is p h (inside (made p h)) main-seen main-kinds;
+    called = called-is p h (inner_scope (made p h)) main-seen main-kinds;
     accepted = λ name part e. absurd (none-some part (ap (λ (l : List EntryPart). entry_named l name) (sym (made-formed p h).own) ∙ e));
   }
 
-  main-body : IsScopedBody inner (inside (made p h)) q.body
+  main-body : IsScopedBody inner (inner_scope (made p h)) q.body
   main-body =
-      scopes-asked inner (inside (made p h)) q.body (main-met p h (main-scope p h)) (main-inner p h (main_unit G) (inside (made p h)))
-      (callees-single (main_unit G) (plain_name p) (main_variables G) [] (inside S) (inside (made p h)) p.body (main-scope p h) (decls-frame p.decls (first_scope p.name)).own
+      scopes-asked inner (inner_scope (made p h)) q.body (main-met p h (main-scope p h)) (main-inner p h (main_unit G) (inner_scope (made p h)))
+      (callees-single (main_unit G) (plain_name p) (main_variables G) [] (inner_scope S) (inner_scope (made p h)) p.body (main-scope p h) (decls-frame p.decls (first_scope p.name)).own
       (main-asked p T (numbers_of p) h.legal h.placed h.names h.small (plain_name p) (program-rules p h)) (begins-refl (main_variables G)))
       (main-waits q (normal_meets_checks p h))
 
   -- So is main.
-  pub main-told : HasItsEntries (main_unit F) inner (inside (after_decls (tasked p h) (decls_of bodies))) × IsScopedBody inner (inside (after_decls (tasked p h) (decls_of bodies))) q.body
-  main-told = subst (λ (s : Scope). HasItsEntries (main_unit F) inner (inside s) × IsScopedBody inner (inside s) q.body) made-is (main-entries, main-body)
+  pub main-told : HasItsEntries (main_unit F) inner (inner_scope (after_decls (tasked p h) (decls_of bodies))) × IsScopedBody inner (inner_scope (after_decls (tasked p h) (decls_of bodies))) q.body
+  main-told = subst (λ (s : Scope). HasItsEntries (main_unit F) inner (inner_scope s) × IsScopedBody inner (inner_scope s) q.body) made-is (main-entries, main-body)

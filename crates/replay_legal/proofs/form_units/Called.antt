@@ -12,7 +12,7 @@ use Rattle.ada_tree.specs.PlainExpr.{PDrange}
 use Rattle.ada_tree.specs.PlainProgram.{PProgram}
 use Rattle.ada_tree.specs.Refusals.{types_in}
 use Rattle.ada_tree.specs.RuleArgCount.{called_entry}
-use Rattle.ada_tree.specs.Scope.{Scope, Seen, Family, single, family, unclear, EntryPart, Thing, TypeMark, TaskType, SingleTask, TaskObject, TaskArray, Variable, ConstantObject, Parameter, LoopParameter, Literal, AnException, MainProcedure, AnotherUnit, Unclear, meaning, entry_named}
+use Rattle.ada_tree.specs.Scope.{Scope, NameMeaning, Family, single, family, unclear, EntryPart, Thing, TypeMark, TaskType, SingleTask, TaskObject, TaskArray, Variable, ConstantObject, Parameter, LoopParameter, Literal, AnException, MainProcedure, AnotherUnit, Unclear, meaning, entry_named}
 use Rattle.syn_event.specs.declared.numbering.TaskInfo.{TaskInfo}
 use Rattle.syn_event.specs.Numbering.{task_named}
 use Rattle.ada_value.specs.declared.values.Limits.{Limits}
@@ -109,9 +109,9 @@ module _ (p : PProgram) (h : IsLegal p) where
   -- An entry that is called is that of the number.
   pub called-is : (c : Scope) → AreSeenWell p h c → AreKindsMeant p h c → (id name : NameId) (part : EntryPart) → called_entry (meaning c id) name ≡ Some part →
       IsEntryOf F inner c (entry_of F.numbers (unwrap_or (task_named F.numbers id) 0) name) part.family
-  called-is c seen meant id name part e = by_found (find (λ (x : Seen). x.name == id.0) c.names) refl e
+  called-is c seen meant id name part e = by_found (find (λ (x : NameMeaning). x.name == id.0) c.names) refl e
     where
-      by_seen : (x : Seen) → (x.name == id.0) ≡ true → IsSeenWell p h x → called_entry (Some x.thing) name ≡ Some part → IsEntryOf F inner c (entry_of F.numbers (unwrap_or (task_named F.numbers id) 0) name) part.family
+      by_seen : (x : NameMeaning) → (x.name == id.0) ≡ true → IsSeenWell p h x → called_entry (Some x.thing) name ≡ Some part → IsEntryOf F inner c (entry_of F.numbers (unwrap_or (task_named F.numbers id) 0) name) part.family
       by_seen x f (no_task n) g = absurd (not-called x.thing name part n g)
       by_seen x f (the_main m) g = absurd (none-some part (sym (ap (λ (t : Thing). called_entry (Some t) name) m) ∙ g))
       by_seen x f (a_task info i n t) g =
@@ -121,7 +121,7 @@ module _ (p : PProgram) (h : IsLegal p) where
           subst (λ (o : Option ℕ). IsEntryOf F inner c (entry_of F.numbers (unwrap_or o 0) name) part.family) (sym number)
           (entry-of-task c meant at.0 info i at.1 name part (sym (ap (λ (y : Thing). called_entry (Some y) name) t) ∙ g))
 
-      by_found : (o : Option Seen) → find (λ (x : Seen). x.name == id.0) c.names ≡ o → called_entry (option_map (λ (x : Seen). x.thing) o) name ≡ Some part →
+      by_found : (o : Option NameMeaning) → find (λ (x : NameMeaning). x.name == id.0) c.names ≡ o → called_entry (option_map (λ (x : NameMeaning). x.thing) o) name ≡ Some part →
           IsEntryOf F inner c (entry_of F.numbers (unwrap_or (task_named F.numbers id) 0) name) part.family
       by_found None f g = absurd (none-some part g)
-      by_found (Some x) f g = by_seen x (found_passes (λ (y : Seen). y.name == id.0) c.names x f) (find-all (IsSeenWell p h) (λ (y : Seen). y.name == id.0) c.names x seen f) g
+      by_found (Some x) f g = by_seen x (found_passes (λ (y : NameMeaning). y.name == id.0) c.names x f) (find-all (IsSeenWell p h) (λ (y : NameMeaning). y.name == id.0) c.names x seen f) g

@@ -4,11 +4,11 @@ use Rattle.common_lemmas.proofs.Lists.{all_back}
 use Rattle.ada_tree.specs.PlainStmt.{PHead, PBody}
 use Rattle.ada_tree.specs.PlainDecl.{PDecl}
 use Rattle.ada_tree.specs.Scope.{Scope, EntryPart, meaning, entry_named}
-use Rattle.ada_tree.specs.Declaring.{inside, with_formals}
+use Rattle.ada_tree.specs.Declaring.{inner_scope, with_formals}
 use Rattle.ada_tree.specs.Sites.{if_there, scheme_sites, loop_scope}
 use Rattle.normal_model.specs.NormalStmts.{normal_rewriter, normal_body}
 use Rattle.normal_model.specs.Walk.{after_body}
-use Rattle.normal_model.specs.Waits.{Unit}
+use Rattle.normal_model.specs.RewrittenUnit.{RewrittenUnit}
 use Rattle.normal_model.proofs.VariablesLemmas.{Begins}
 use Rattle.asked_stmts.specs.Asked.{Asks, AskedBody}
 use Rattle.normal_asked.specs.Pieces.{Pieces}
@@ -38,12 +38,12 @@ scope_asks = record {
   delay = λ c k e s. Prim.Unit {0};
   handlers = λ hs. Prim.Unit {0};
   handler = λ c k names ws. Prim.Unit {0};
-  accepting = λ c h. with_formals (inside c) h.formals;
+  accepting = λ c h. with_formals (inner_scope c) h.formals;
   looping = λ c w x. loop_scope c x;
   handling = λ c. c;
 }
 
-module _ (u : Unit) (own : ℕ → Bool) (vars : List PDecl) (entries : List EntryPart) where
+module _ (u : RewrittenUnit) (own : ℕ → Bool) (vars : List PDecl) (entries : List EntryPart) where
   abbrev C : Type 0
   C = Prim.Unit {0} × (Scope × Prim.Unit {0})
 

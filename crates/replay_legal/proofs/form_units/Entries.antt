@@ -12,7 +12,7 @@ use Rattle.ada_tree.specs.Scope.{Scope, EntryPart, entry_named}
 use Rattle.syn_event.specs.declared.numbering.TaskInfo.{TaskInfo}
 use Rattle.syn_event.specs.NamedTasks.{NumberedTask, numbered_tasks}
 use Rattle.syn_event.specs.Numbering.{task_named}
-use Rattle.syn_event.specs.Units.{tasks_of}
+use Rattle.syn_event.specs.DeclaredTasks.{tasks_of}
 use Rattle.task_model.specs.Setting.{Setting, entry_of}
 use Rattle.rewritten_types.proofs.Lookups.{place-all}
 use Rattle.normal_model.specs.Names.{task_name, name_of_task}

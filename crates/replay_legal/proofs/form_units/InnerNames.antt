@@ -12,7 +12,7 @@ use Rattle.ada_tree.specs.PlainProgram.{PProgram}
 use Rattle.ada_tree.specs.Every.{EveryDecls, EveryBody}
 use Rattle.ada_tree.specs.Scope.{Scope}
 use Rattle.ada_tree.specs.StaticValue.{mark_named}
-use Rattle.ada_tree.specs.Declaring.{first_scope, inside, after_decls}
+use Rattle.ada_tree.specs.Declaring.{first_scope, inner_scope, after_decls}
 use Rattle.ada_tree.specs.Demand.{Demand, declares, declares_entry, labels, gives_body, makes_instance, handles, Site}
 use Rattle.ada_tree.specs.RuleDuplicate.{is_predefined, is_among}
 use Rattle.ada_tree.specs.Sites.{decls_sites, body_sites, sites}
@@ -21,10 +21,10 @@ use Rattle.ada_duplicates.specs.declared.namings_in_order.Naming.{Naming}
 use Rattle.ada_duplicates.specs.declared.namings_in_order.Naming.TheVariants.{Declares, Labels, Once}
 use Rattle.ada_duplicates.specs.NamingsInOrder.{naming_in, and_then, namings_of, declared}
 use Rattle.ada_duplicates.specs.NamedSoFar.{object_words}
-use Rattle.syn_event.specs.Units.{text_of, decl_list}
+use Rattle.syn_event.specs.DeclaredTasks.{text_of, decl_list}
 use Rattle.syn_event.specs.RuleReservedName.{is_reserved}
 use Rattle.legal_types.proofs.ApartNames.{FixedDiffers, AllFixedDiffer, marks-lack}
-use Rattle.normal_model.specs.Waits.{Unit as RunUnit}
+use Rattle.normal_model.specs.RewrittenUnit.{RewrittenUnit}
 use Rattle.normal_model.specs.NormalStmts.{normal_body}
 use Rattle.normal_once.specs.Apart.{fixed_names, IsFitIn}
 use Rattle.normal_once.specs.Names.{body_names, IsFitDecl}
@@ -97,7 +97,7 @@ module _ (p : PProgram) (h : IsLegal p) where
 
   -- what main does not fix is the name of no type
   no-type : (n : ℕ) → is_predefined n ≡ false → is_among fixed n ≡ false → mark_named (types_in p) (record { 0 = n }) ≡ None
-  no-type n u e = marks-lack n p.name p.decls u (all_front _ (decls_sites s0 p.decls) (body_sites (inside (after_decls s0 p.decls)) p.body) (all-differ n (sites p) e).1)
+  no-type n u e = marks-lack n p.name p.decls u (all_front _ (decls_sites s0 p.decls) (body_sites (inner_scope (after_decls s0 p.decls)) p.body) (all-differ n (sites p) e).1)
 
   good-plain : (n : ℕ) → IsGoodId p.names n → (nat_lt n (length p.names) && not (is_reserved (text_of p.names record { 0 = n }))) ≡ true
   good-plain n g = by_place (slice_get p.names n) refl g.there
@@ -122,19 +122,19 @@ module _ (p : PProgram) (h : IsLegal p) where
   -- ---- bodies
 
   -- the statements that a unit gets for these declare inner names, whatever can be used at them
-  image-inner : (u : RunUnit) (its : PBody) (d : Scope) → EveryBody (good_names p.names) 1 its → AllByRecursion (IsFitIn fixed) (body_names its) → AllInner inner (body_sites d (normal_body u its))
+  image-inner : (u : RewrittenUnit) (its : PBody) (d : Scope) → EveryBody (good_names p.names) 1 its → AllByRecursion (IsFitIn fixed) (body_names its) → AllInner inner (body_sites d (normal_body u its))
   image-inner u its d every fit =
       sites-inner inner (body_sites d (normal_body u its))
       (subst (AllByRecursion (IsInnerNaming inner)) (sym (body-is d (normal_body u its) ∙ body-same u its)) (fit-all (body_names its) fit (body-inner p.names 1 its every)))
 
   -- So do those of main.
-  pub main-inner : (u : RunUnit) (d : Scope) → AllInner inner (body_sites d (normal_body u p.body))
+  pub main-inner : (u : RewrittenUnit) (d : Scope) → AllInner inner (body_sites d (normal_body u p.body))
   main-inner u d = image-inner u p.body d (program-good p h).3 (inner_is_fit p h.legal.type_rules).1
 
   -- the statements of each body among declarations of the program
   abbrev pub BodiesInner : PDecls → Type 0
   BodiesInner no_decl = Prim.Unit {0}
-  BodiesInner (decl_then (DTaskBody w objects its sp) rest) = ((u : RunUnit) (d : Scope) → AllInner inner (body_sites d (normal_body u its))) × BodiesInner rest
+  BodiesInner (decl_then (DTaskBody w objects its sp) rest) = ((u : RewrittenUnit) (d : Scope) → AllInner inner (body_sites d (normal_body u its))) × BodiesInner rest
   BodiesInner (decl_then d rest) = BodiesInner rest
 
   each-body : (ds : PDecls) → EveryDecls (good_names p.names) ds → AllByRecursion (IsFitDecl fixed) (decl_list ds) → BodiesInner ds

@@ -14,10 +14,10 @@ use Rattle.ada_tree.specs.Refusals.{types_in}
 use Rattle.ada_tree.specs.Scope.{Scope, meaning}
 use Rattle.ada_tree.specs.Declaring.{after_decls}
 use Rattle.syn_event.specs.declared.numbering.TaskInfo.{TaskInfo}
-use Rattle.syn_event.specs.Numbered.{task_info}
+use Rattle.syn_event.specs.AddedNames.{task_info}
 use Rattle.syn_event.specs.Numbering.{task_at}
 use Rattle.syn_event.specs.NamedTasks.{task_names_of}
-use Rattle.syn_event.specs.Units.{decl_list}
+use Rattle.syn_event.specs.DeclaredTasks.{decl_list}
 use Rattle.seq_file.specs.Known.{is_known, is_task, is_task_beside_main}
 use Rattle.control_script.specs.declared.Op.{Op}
 use Rattle.control_script.specs.declared.Op.TheVariants.{Go, Done, Join, Hold}

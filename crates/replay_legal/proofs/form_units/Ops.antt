@@ -7,7 +7,7 @@ use Rattle.common_lemmas.proofs.Numbers.{equal_is, lt_is, lt_true}
 use Rattle.common_lemmas.proofs.Lists.{all_joined, all_kept}
 use Rattle.event_machine.specs.declared.Event.{Event}
 use Rattle.event_machine.specs.declared.Event.TheVariants.{R, E, S, D, C, T, F, X, B, Z}
-use Rattle.event_progress.specs.Known.{Party, Known, nobody, is_closed, is_free, at_start, admits, advanced}
+use Rattle.event_progress.specs.Known.{Party, Known, nobody, is_closed, is_free, known_at_start, admits, advanced}
 use Rattle.syn_event.specs.declared.numbering.EntryInfo.{EntryInfo}
 use Rattle.syn_event.specs.Numbering.{Numbering, entry_at, owner_of}
 use Rattle.control_script.specs.Script.{open_tasks, to_close, after_abort, operations, held, script_from, script}
@@ -15,7 +15,7 @@ use Rattle.control_script.specs.declared.Op.{Op}
 use Rattle.control_script.specs.declared.Op.TheVariants.{Go, Done, Join, Hold}
 use Rattle.control_script.proofs.Writing.{as_many, as_many_at_start}
 use Rattle.ada_tree.specs.StaticValue.{is_integer_value}
-use Rattle.seq_file.specs.Known.{is_task, is_task_beside_main, is_index, fits_entry, is_member, is_known}
+use Rattle.seq_file.specs.Known.{is_task, is_task_beside_main, is_index, fits_entry, is_known_member, is_known}
 
 module _ (numbers : Numbering) (some : 0 < length numbers.tasks) where
   abbrev n : ℕ
@@ -57,15 +57,15 @@ module _ (numbers : Numbering) (some : 0 < length numbers.tasks) where
   index-fits : (i : ℤ) (info : EntryInfo) → fits_entry i info ≡ true → is_integer_value i ≡ true
   index-fits i info h = and_left (is_index i) _ h
 
-  member-fits : (e : ℕ) (i : ℤ) → is_member numbers e i ≡ true → is_integer_value i ≡ true
+  member-fits : (e : ℕ) (i : ℤ) → is_known_member numbers e i ≡ true → is_integer_value i ≡ true
   member-fits e i h = by_entry (entry_at numbers e) h
     where
       by_entry : (o : Option EntryInfo) → option_map_or (fits_entry i) o false ≡ true → is_integer_value i ≡ true
       by_entry None k = clash k
       by_entry (Some info) k = index-fits i info k
 
-  call-fits : (c e : ℕ) (i : ℤ) → (is_task numbers c && is_member numbers e i) ≡ true → (c < n) × (is_integer_value i ≡ true)
-  call-fits c e i h = (task-within c (and_left (is_task numbers c) (is_member numbers e i) h), member-fits e i (and_right (is_task numbers c) (is_member numbers e i) h))
+  call-fits : (c e : ℕ) (i : ℤ) → (is_task numbers c && is_known_member numbers e i) ≡ true → (c < n) × (is_integer_value i ≡ true)
+  call-fits c e i h = (task-within c (and_left (is_task numbers c) (is_known_member numbers e i) h), member-fits e i (and_right (is_task numbers c) (is_known_member numbers e i) h))
 
   -- ---- operations
 
@@ -128,4 +128,4 @@ module _ (numbers : Numbering) (some : 0 < length numbers.tasks) where
 
   -- The operations of a script of known events are so.
   pub script-bounded : (events : List Event) → AllByRecursion (λ e. is_known numbers e ≡ true) events → AllByRecursion IsBounded (script owner n events)
-  script-bounded events h = from-bounded events (at_start n) (as_many_at_start n) h
+  script-bounded events h = from-bounded events (known_at_start n) (as_many_at_start n) h

@@ -6,7 +6,7 @@ use Rattle.ada_tree.specs.PlainProgram.{PProgram}
 use Rattle.ada_tree.specs.Refusals.{types_in}
 use Rattle.ada_tree.specs.StaticValue.{mark_named}
 use Rattle.syn_event.specs.RuleReservedName.{is_reserved}
-use Rattle.syn_event.specs.Units.{text_of}
+use Rattle.syn_event.specs.DeclaredTasks.{text_of}
 use Rattle.normal_model.proofs.VariablesLemmas.{Begins, begins-trans}
 use Rattle.normal_has_numbers.proofs.Named.{Has, text-there, text-longer}
 use Rattle.normal_has_numbers.proofs.TaskNames.{normal-begins}

@@ -7,11 +7,11 @@ use Rattle.ada_tree.specs.declared.naming.NameId.{NameId}
 use Rattle.ada_tree.specs.declared.naming.Word.{Word}
 use Rattle.ada_tree.specs.PlainDecl.{PShape, PDecl, DNumber, DObject, DEnumeration, DArray, DSubtype, DException, DIntIo, DPragma, DTask, DTaskBody, PDecls, no_decl, decl_then, decls_of}
 use Rattle.ada_tree.specs.PlainProgram.{PProgram}
-use Rattle.ada_tree.specs.Scope.{Scope, Seen, EntryPart, Thing, TaskType, SingleTask, MainProcedure, AnException, meaning}
+use Rattle.ada_tree.specs.Scope.{Scope, NameMeaning, EntryPart, Thing, TaskType, SingleTask, MainProcedure, AnException, meaning}
 use Rattle.ada_tree.specs.Declaring.{first_scope, with_name, with_names, type_of_mark, declared_object, after_objects, after_decl, after_decls}
 use Rattle.syn_event.specs.declared.numbering.TaskInfo.{TaskInfo}
 use Rattle.syn_event.specs.NamedTasks.{task_names_of}
-use Rattle.syn_event.specs.Units.{decl_list}
+use Rattle.syn_event.specs.DeclaredTasks.{decl_list}
 use Rattle.task_model.specs.Setting.{Setting}
 use Rattle.rewritten_types.proofs.Lookups.{find-all}
 use Rattle.normal_model.specs.Names.{task_name}
@@ -38,7 +38,7 @@ module _ (p : PProgram) (h : IsLegal p) where
   entries_of_task info i = entries_in S (unit-of p h info i).unit
 
   -- what a name is seen as
-  pub data IsSeenWell (x : Seen) : Type 0 where
+  pub data IsSeenWell (x : NameMeaning) : Type 0 where
     no_task : IsNoTask x.thing → IsSeenWell x
     the_main : x.thing ≡ MainProcedure → IsSeenWell x
     a_task : (info : TaskInfo) (i : IsAmong info (tasks_beside G)) → x.name ≡ (task_name G info).0 → x.thing ≡ SingleTask (entries_of_task info i) → IsSeenWell x
@@ -48,16 +48,16 @@ module _ (p : PProgram) (h : IsLegal p) where
 
   -- no name is that of a task type
   no-type : (s : Scope) → AreSeenWell s → (id : NameId) (es : List EntryPart) → meaning s id ≡ Some (TaskType es) → ⊥
-  no-type s a id es e = by_found (find (λ (x : Seen). x.name == id.0) s.names) refl e
+  no-type s a id es e = by_found (find (λ (x : NameMeaning). x.name == id.0) s.names) refl e
     where
-      by_seen : (x : Seen) → IsSeenWell x → x.thing ≡ TaskType es → ⊥
+      by_seen : (x : NameMeaning) → IsSeenWell x → x.thing ≡ TaskType es → ⊥
       by_seen x (no_task n) f = subst IsNoTask f n
       by_seen x (the_main m) f = let q : MainProcedure ≡ TaskType es = sym m ∙ f in cc
       by_seen x (a_task info i n t) f = let q : SingleTask (entries_of_task info i) ≡ TaskType es = sym t ∙ f in cc
 
-      by_found : (o : Option Seen) → find (λ (x : Seen). x.name == id.0) s.names ≡ o → option_map (λ (x : Seen). x.thing) o ≡ Some (TaskType es) → ⊥
+      by_found : (o : Option NameMeaning) → find (λ (x : NameMeaning). x.name == id.0) s.names ≡ o → option_map (λ (x : NameMeaning). x.thing) o ≡ Some (TaskType es) → ⊥
       by_found None f q = none-some (TaskType es) q
-      by_found (Some x) f q = by_seen x (find-all IsSeenWell (λ (y : Seen). y.name == id.0) s.names x a f) (some_same q)
+      by_found (Some x) f q = by_seen x (find-all IsSeenWell (λ (y : NameMeaning). y.name == id.0) s.names x a f) (some_same q)
 
   -- so no object is one of tasks
   object-well : (s : Scope) → AreSeenWell s → (constant : Bool) (shape : PShape) → IsNoTask (declared_object s constant shape).thing

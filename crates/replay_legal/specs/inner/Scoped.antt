@@ -7,9 +7,9 @@ use Rattle.ada_tree.specs.Attributes.{false_name}
 use Rattle.ada_tree.specs.PlainDecl.{PDecl, DTaskBody, PDecls}
 use Rattle.ada_tree.specs.PlainProgram.{PProgram}
 use Rattle.ada_tree.specs.Scope.{Scope, truth_kind, EntryPart, SingleTask, Literal, AnException, meaning}
-use Rattle.ada_tree.specs.Declaring.{first_scope, in_body, inside, after_objects, after_decl}
+use Rattle.ada_tree.specs.Declaring.{first_scope, in_body, inner_scope, after_objects, after_decl}
 use Rattle.ada_tree.specs.Sites.{own_sites}
-use Rattle.syn_event.specs.Units.{decl_list}
+use Rattle.syn_event.specs.DeclaredTasks.{decl_list}
 use Rattle.alike_scopes.specs.Alike.{SameNames}
 use Rattle.alike_scopes.specs.Laws.{IsMetBut}
 use Rattle.replay_model.specs.ReplayTree.{is_task, is_body}
@@ -34,7 +34,7 @@ pub record IsBodyScoped (q : PProgram) (old : ℕ → Bool) (c : Scope) (w : Wor
   pub ready : ReadyAlong q old (in_body c w) (decl_list objects)
   pub selfs : SelfAlong old (in_body c w) (decl_list objects)
   pub sites : AllByRecursion IsMetBut (own_sites (in_body c w) objects)
-  pub unit : IsUnitScoped old (inside (after_objects (in_body c w) objects))
+  pub unit : IsUnitScoped old (inner_scope (after_objects (in_body c w) objects))
 
 -- so it is with each of these bodies
 abbrev pub BodiesScoped : PProgram → (ℕ → Bool) → Scope → List PDecl → Type 0
@@ -53,4 +53,4 @@ pub record AreScoped (q : PProgram) (old : ℕ → Bool) (before vars : List PDe
   pub bodies : BodiesScoped q old (tasked q before vars) (filter is_body (decl_list q.decls))
   pub integer_last : IsInteger (last q before vars)
   pub tasking : meaning (last q before vars) (record { 0 = 9 }) ≡ Some AnException
-  pub unit : IsUnitScoped old (inside (last q before vars))
+  pub unit : IsUnitScoped old (inner_scope (last q before vars))

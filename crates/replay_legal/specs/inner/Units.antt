@@ -4,11 +4,11 @@ use Rattle.ada_tree.specs.declared.naming.NameId.{NameId}
 use Rattle.ada_tree.specs.PlainStmt.{PBody}
 use Rattle.ada_tree.specs.PlainDecl.{PDecl, DTaskBody}
 use Rattle.ada_tree.specs.Scope.{Scope, EntryPart, meaning, entry_named}
-use Rattle.ada_tree.specs.Declaring.{in_body, inside, after_objects, after_decl}
+use Rattle.ada_tree.specs.Declaring.{in_body, inner_scope, after_objects, after_decl}
 use Rattle.ada_tree.specs.RuleArgCount.{called_entry}
 use Rattle.syn_event.specs.Numbering.{task_named}
 use Rattle.task_model.specs.Setting.{Setting, entry_of}
-use Rattle.normal_model.specs.Waits.{Unit}
+use Rattle.normal_model.specs.RewrittenUnit.{RewrittenUnit}
 use Rattle.normal_model.specs.NormalTree.{unit_for}
 use Rattle.asked_stmts.specs.Asked.{AskedBody}
 use Rattle.asked_stmts.specs.Kinds.{type_asks}
@@ -16,7 +16,7 @@ use Rattle.alike_scopes.specs.Laws.{IsMetBut}
 use Rattle.replay_typed.specs.ScopeOf.{IsEntryOf, with_scopes}
 
 -- Where the statements of a unit begin, the entries that are called and accepted are those of their numbers.
-pub record HasItsEntries (u : Unit) (inner : ℕ → Bool) (c : Scope) : Type 0 where
+pub record HasItsEntries (u : RewrittenUnit) (inner : ℕ → Bool) (c : Scope) : Type 0 where
   pub called : (id name : NameId) (part : EntryPart) → called_entry (meaning c id) name ≡ Some part → IsEntryOf u.setting inner c (entry_of u.setting.numbers (unwrap_or (task_named u.setting.numbers id) 0) name) part.family
   pub accepted : (name : NameId) (part : EntryPart) → entry_named c.own name ≡ Some part → IsEntryOf u.setting inner c (entry_of u.setting.numbers u.task name) part.family
 
@@ -28,6 +28,6 @@ IsScopedBody inner c its = AskedBody (with_scopes inner (type_asks IsMetBut)) c 
 abbrev pub BodyUnits : Setting → (ℕ → Bool) → Scope → List PDecl → Type 0
 BodyUnits g inner c [] = Prim.Unit {0}
 BodyUnits g inner c (DTaskBody w objects its s ∷ xs) =
-    HasItsEntries (unit_for g w.name) inner (inside (after_objects (in_body c w) objects)) × IsScopedBody inner (inside (after_objects (in_body c w) objects)) its
+    HasItsEntries (unit_for g w.name) inner (inner_scope (after_objects (in_body c w) objects)) × IsScopedBody inner (inner_scope (after_objects (in_body c w) objects)) its
     × BodyUnits g inner (after_decl c (DTaskBody w objects its s)) xs
 BodyUnits g inner c (x ∷ xs) = ⊥

@@ -3,7 +3,7 @@ use Rattle.std.specs.Prelude.{ℕ, List, [], map, Option, None, codes, nat_eq, i
 use Rattle.std.specs.List.{filter, starts_with}
 use Rattle.syn_event.specs.declared.numbering.EntryInfo.{EntryInfo}
 use Rattle.syn_event.specs.Numbering.{Numbering, is_original_entry, entry_named}
-use Rattle.syn_event.specs.Units.{text_of}
+use Rattle.syn_event.specs.DeclaredTasks.{text_of}
 use Rattle.normal_model.specs.Names.{id_of}
 use Rattle.replay_model.specs.Names.{double_text}
 

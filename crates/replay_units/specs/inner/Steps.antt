@@ -3,7 +3,7 @@ use Rattle.std.specs.Prelude.{ℕ, List, Option, Some, None}
 use Rattle.ada_tree.specs.declared.naming.Span.{Span}
 use Rattle.ada_tree.specs.declared.naming.Word.{Word}
 use Rattle.ada_tree.specs.PlainDecl.{PDecl, DTask, DTaskBody, decls_of}
-use Rattle.syn_event.specs.Units.{decl_list}
+use Rattle.syn_event.specs.DeclaredTasks.{decl_list}
 use Rattle.replay_model.specs.ReplayTree.{behind_own}
 use Rattle.replay_asking.specs.Voice.{Voice}
 use Rattle.replay_rules.specs.Replayed.{body_image}

@@ -13,7 +13,7 @@ use Rattle.ada_value.specs.declared.values.Value.{Value}
 use Rattle.ada_value.specs.Evaluating.{constant_value, literal_value}
 use Rattle.ada_tree.specs.PlainDecl.{PEntry, PTask}
 use Rattle.ada_tree.specs.PlainProgram.{PProgram}
-use Rattle.syn_event.specs.Units.{tasks_of}
+use Rattle.syn_event.specs.DeclaredTasks.{tasks_of}
 use Rattle.syn_event.specs.declared.numbering.TaskInfo.{TaskInfo}
 use Rattle.syn_event.specs.declared.numbering.EntryInfo.{EntryInfo}
 use Rattle.syn_event.specs.Numbering.{Numbering, task_at, entry_at}

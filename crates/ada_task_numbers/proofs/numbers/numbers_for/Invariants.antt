@@ -1,6 +1,6 @@
 use Rattle.std.proofs.Common.{◌≡◌, ◌∷◌, map, take}
 use Rattle.std.specs.Prelude.{flat_map}
-use Rattle.syn_event.specs.Numbered.{task_info}
+use Rattle.syn_event.specs.AddedNames.{task_info}
 use Rattle.syn_event.specs.NamedTasks.{tasks_of_name}
 use Rattle.syn_event.specs.AllNumbers.{info_of_task, entries_of_tasks}
 use Rattle.ada_task_objects.specs.PlainNames.{plain_named_tasks}

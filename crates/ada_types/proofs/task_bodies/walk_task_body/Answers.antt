@@ -1,5 +1,5 @@
 use Rattle.std.proofs.Common.{◌∙◌, ap, map, refl}
-use Rattle.ada_tree.specs.Declaring.{in_body, inside, after_objects}
+use Rattle.ada_tree.specs.Declaring.{in_body, inner_scope, after_objects}
 use Rattle.ada_tree.specs.PlainDecl.{decls_of, plain_decl}
 use Rattle.ada_tree.specs.PlainStmt.{plain_body}
 use Rattle.ada_tree.specs.Sites.{own_sites, body_sites}
@@ -25,9 +25,9 @@ returns c =
     let there = c.in_ok-walked.ensures.scope_is ∙ here in
     record {
       scope_is = body_left c.args.scope _ _ c.args.name ds _ c.enter_body-outside.ensures.outside (c.in_ok-inner.ensures.kept ∙ there) c.in_ok-leave_body.ensures;
-      refusal_is = c.first-2.ensures ∙ ap (λ o. sooner o c.in_ok-inner.inner) c.first.ensures ∙ body_met c.args.scope c.args.name (own_sites (in_body c.args.scope c.args.name) ds) (body_sites (inside (after_objects (in_body c.args.scope c.args.name) ds)) (plain_body c.args.body.now)) _ _ _
+      refusal_is = c.first-2.ensures ∙ ap (λ o. sooner o c.in_ok-inner.inner) c.first.ensures ∙ body_met c.args.scope c.args.name (own_sites (in_body c.args.scope c.args.name) ds) (body_sites (inner_scope (after_objects (in_body c.args.scope c.args.name) ds)) (plain_body c.args.body.now)) _ _ _
           c.refuse_no_body-no_body.ensures
           (c.in_ok-walked.ensures.refusal_is ∙ ap (λ s. refused_first (own_sites s ds)) (body_scope c.args.scope _ c.args.name _ c.in_ok-own.ensures c.enter_body-outside.ensures.scope))
-          (c.in_ok-inner.ensures.told ∙ ap (λ s. refused_first (body_sites (inside s) (plain_body c.args.body.now))) there);
+          (c.in_ok-inner.ensures.told ∙ ap (λ s. refused_first (body_sites (inner_scope s) (plain_body c.args.body.now))) there);
       of_tasks_is = refl;
     }

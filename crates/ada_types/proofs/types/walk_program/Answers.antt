@@ -1,7 +1,7 @@
 use Rattle.std.proofs.Common.{◌++◌, ◌∷◌, [], ◌∙◌, ap, sym, subst, map, true}
 use Rattle.ada_tree.specs.PlainStmt.{plain_body}
 use Rattle.ada_tree.specs.PlainDecl.{decls_of, plain_decl}
-use Rattle.ada_tree.specs.Declaring.{before_all, first_scope, inside, after_decls}
+use Rattle.ada_tree.specs.Declaring.{before_all, first_scope, inner_scope, after_decls}
 use Rattle.ada_tree.specs.Sites.{names_sites, decls_sites, body_sites}
 use Rattle.ada_refusals.specs.RefusedFirst.{refused_first}
 use Rattle.ada_duplicates.specs.NamingsInOrder.{namings_of}
@@ -30,10 +30,10 @@ returns c =
       types_are = c.into_types.ensures ∙ ap (λ s. s.types) (c.in_ok-inner.ensures.kept ∙ scope);
       others_are =
           c.first.ensures
-          ∙ joined places (body_sites (inside end) body) _ _
+          ∙ joined places (body_sites (inner_scope end) body) _ _
           (behind_names before_all (name ∷ []) (decls_sites start ds) _ (c.in_ok-walked.ensures.walked.refusal_is ∙ ap (λ s. refused_first (decls_sites s given)) first ∙ ap (λ l. refused_first (decls_sites start l)) same))
-          (c.in_ok-inner.ensures.told ∙ ap (λ s. refused_first (body_sites (inside s) body)) scope);
-      repeated_is = c.in_ok-repeated.ensures places (inside end)
+          (c.in_ok-inner.ensures.told ∙ ap (λ s. refused_first (body_sites (inner_scope s) body)) scope);
+      repeated_is = c.in_ok-repeated.ensures places (inner_scope end)
           (c.in_ok-walked.ensures.noted
           ∙ ap (λ s. c.in_ok-notes.notes.namings ++ namings_of (decls_sites s given)) first
           ∙ ap (λ l. c.in_ok-notes.notes.namings ++ namings_of (decls_sites start l)) same

@@ -1,5 +1,5 @@
 use Rattle.std.proofs.Common.{[], ◌∷◌}
-use Rattle.syn_event.specs.Numbered.{task_info}
+use Rattle.syn_event.specs.AddedNames.{task_info}
 use Rattle.normal_form.proofs.Numbering.{infos_more}
 use Rattle.normal_form.proofs.numbers.tasks_of.Goals as goal
 

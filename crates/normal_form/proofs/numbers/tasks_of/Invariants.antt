@@ -1,7 +1,7 @@
 use Rattle.std.proofs.Common.{◌≡◌, ◌∷◌, map, take}
 use Rattle.ada_tree.specs.PlainDecl.{plain_decl}
-use Rattle.syn_event.specs.Numbered.{task_info}
-use Rattle.syn_event.specs.Units.{tasks_in}
+use Rattle.syn_event.specs.AddedNames.{task_info}
+use Rattle.syn_event.specs.DeclaredTasks.{tasks_in}
 use Rattle.normal_form.specs.inner.Infos.{infos_of}
 use Rattle.normal_form.proofs.numbers.tasks_of.Given as goal
 

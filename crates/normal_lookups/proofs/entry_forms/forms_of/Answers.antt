@@ -1,6 +1,6 @@
 use Rattle.std.proofs.Common.{◌≡◌, ap, arith, sym, ◌∙◌, map, drop}
 use Rattle.ada_tree.specs.PlainDecl.{plain_decl}
-use Rattle.syn_event.specs.Units.{tasks_in}
+use Rattle.syn_event.specs.DeclaredTasks.{tasks_in}
 use Rattle.normal_lookups.specs.inner.Kept.{units_named}
 use Rattle.normal_lookups.proofs.Forming.{tasks_of_list}
 use Rattle.normal_lookups.proofs.entry_forms.forms_of.Goals as goal

@@ -1,6 +1,6 @@
 use Rattle.std.proofs.Common.{◌≡◌, map, drop}
 use Rattle.ada_tree.specs.PlainDecl.{plain_decl}
-use Rattle.syn_event.specs.Units.{tasks_in}
+use Rattle.syn_event.specs.DeclaredTasks.{tasks_in}
 use Rattle.normal_lookups.specs.inner.Kept.{seen_unit, units_named}
 use Rattle.normal_lookups.proofs.entry_forms.forms_of.Given as goal
 

@@ -1,6 +1,6 @@
 use Rattle.std.proofs.Common.{◌++◌, ◌<◌, length, sym, ap, ◌∙◌, append_assoc, arith}
 use Rattle.ada_tree.specs.PlainStmt.{plain_part}
-use Rattle.ada_value.specs.Texts.{part_text}
+use Rattle.ada_value.specs.Texts.{part_output}
 use Rattle.put_text.specs.Written.{text_or_none}
 use Rattle.put_text.proofs.TextLemmas.{raises_at, goes_on}
 use Rattle.put_text.proofs.part_texts.put_all.Goals as goal
@@ -25,7 +25,7 @@ returns-in-Some-clause-raised g c =
 pub loop-part-preserved : goal.loop-part-preserved
 loop-part-preserved g c =
     let within : c.loop-part.part-index < length c.args.parts.now = omega arith in
-    let text = text_or_none (part_text c.args.names.now (g.N.NameValues.table c.args.scope.now) (g.N.NameValues.vars c.args.scope.now) (plain_part c.part-item.result)) in (
+    let text = text_or_none (part_output c.args.names.now (g.N.NameValues.table c.args.scope.now) (g.N.NameValues.vars c.args.scope.now) (plain_part c.part-item.result)) in (
       c.loop-part.invariant.0 ++ text,
       c.in_ok-raised.ensures.ok ∙ ap (λ front. front ++ text) c.loop-part.invariant.1 ∙ append_assoc c.args.output.now.items c.loop-part.invariant.0 text,
       goes_on

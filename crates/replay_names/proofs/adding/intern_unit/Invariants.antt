@@ -1,6 +1,6 @@
 use Rattle.std.proofs.Common.{◌≡◌, fold, map, take}
 use Rattle.ada_tree.specs.NameList.{interned}
-use Rattle.syn_event.specs.Units.{text_of}
+use Rattle.syn_event.specs.DeclaredTasks.{text_of}
 use Rattle.replay_model.specs.Names.{double_text}
 use Rattle.replay_names.proofs.adding.intern_unit.Given as goal
 

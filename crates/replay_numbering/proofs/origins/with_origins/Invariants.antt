@@ -1,5 +1,5 @@
 use Rattle.std.proofs.Common.{◌≡◌, map, take}
-use Rattle.syn_event.specs.Numbered.{with_origin}
+use Rattle.syn_event.specs.AddedNames.{with_origin}
 use Rattle.replay_numbering.proofs.origins.with_origins.Given as goal
 
 abbrev pub invariant-loop-info : goal.invariant-loop-info

@@ -1,7 +1,7 @@
 use Rattle.std.proofs.Common.{ap, ◌∙◌, sym}
 use Rattle.std.specs.Prelude.{option_and_then}
 use Rattle.syn_event.specs.Numbering.{original_tasks, original_entries}
-use Rattle.syn_event.specs.Units.{text_of}
+use Rattle.syn_event.specs.DeclaredTasks.{text_of}
 use Rattle.seq_file.specs.Files.{fault_of_header}
 use Rattle.seq_file.specs.Lines.{header_of_line}
 use Rattle.text_lines.proofs.Marking.{first-line_cut}

@@ -1,6 +1,6 @@
 use Rattle.std.proofs.Common.{ap, ◌∙◌, ◌+◌, ◌++◌, ◌∷◌, [], map, take}
 use Rattle.ada_tree.specs.PlainDecl.{plain_decl}
-use Rattle.syn_event.specs.Units.{tasks_in}
+use Rattle.syn_event.specs.DeclaredTasks.{tasks_in}
 use Rattle.task_links.specs.inner.Made.{formals_declared}
 use Rattle.task_links.proofs.UnitsLemmas.{keeps_same, tasks_more, tasks_end}
 use Rattle.task_links.proofs.entry_formals.declared_formals.Goals as goal

@@ -1,6 +1,6 @@
 use Rattle.std.proofs.Common.{take, map}
 use Rattle.ada_tree.specs.PlainDecl.{plain_decl}
-use Rattle.syn_event.specs.Units.{tasks_in}
+use Rattle.syn_event.specs.DeclaredTasks.{tasks_in}
 use Rattle.task_links.specs.inner.Made.{KeepsUnits}
 use Rattle.task_links.proofs.entry_formals.declared_formals.Given as goal
 

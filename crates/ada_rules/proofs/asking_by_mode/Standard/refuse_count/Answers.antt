@@ -1,5 +1,5 @@
 use Rattle.std.proofs.Common.{ap, sym, ◌∙◌}
-use Rattle.syn_event.specs.RuleLimit.{passed}
+use Rattle.syn_event.specs.RuleLimit.{limit_passed}
 use Rattle.ada_rules.specs.Sooner.{found_over}
 use Rattle.ada_rules.proofs.Meeting.{at_counts}
 use Rattle.ada_rules.proofs.asking_by_mode.Standard.refuse_count.Goals as goal
@@ -7,5 +7,5 @@ use Rattle.ada_rules.proofs.asking_by_mode.Standard.refuse_count.Goals as goal
 pub returns : goal.returns
 returns c = λ around.
     c.refuse_passed.ensures
-    ∙ ap (λ l. found_over (passed c.args.what l c.args.before c.args.here c.args.span)) c.limit.ensures
+    ∙ ap (λ l. found_over (limit_passed c.args.what l c.args.before c.args.here c.args.span)) c.limit.ensures
     ∙ sym (at_counts c.args.self.now around c.args.what c.args.before c.args.here c.args.span)

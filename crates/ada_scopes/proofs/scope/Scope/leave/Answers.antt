@@ -1,5 +1,5 @@
 use Rattle.std.proofs.Common.{◌≡◌, ◌-◌, ℕ, List, ap, ◌∙◌, length, map, take, drop}
-use Rattle.ada_tree.specs.Scope.{Scope, Seen}
+use Rattle.ada_tree.specs.Scope.{Scope, NameMeaning}
 use Rattle.ada_scopes.specs.Denotations.{plain_names}
 use Rattle.ada_scopes.proofs.Nesting.{left_names, left_here}
 use Rattle.ada_scopes.proofs.scope.Scope.leave.Goals as goal
@@ -12,7 +12,7 @@ returns c = λ s is within.
     let names = left_names s now c.args.outer c.self.inside.names c.leave.new.self is within named leaves in
     let here = left_here s now c.args.outer c.self.inside.names c.leave.new.self is within named leaves in
     let behind : List ℕ = map (λ y. y.0) (take (length c.leave.new.self - c.args.outer.base) c.leave.new.self) in
-    let with_names : List Seen → List ℕ → Scope → Scope = λ all own x. record x { names = all; here = own } in
+    let with_names : List NameMeaning → List ℕ → Scope → Scope = λ all own x. record x { names = all; here = own } in
     ap (with_names (plain_names c.leave.new.self) behind) c.self.view_is
     ∙ ap (λ all. with_names all behind now) names
     ∙ ap (λ own. with_names s.names own now) here

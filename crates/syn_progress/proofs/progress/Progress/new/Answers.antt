@@ -1,6 +1,6 @@
 use Rattle.std.proofs.Common.{◌≡◌, false, length, ◌∙◌, ap}
 use Rattle.syn_event.specs.Numbering.{Numbering}
-use Rattle.event_progress.specs.Known.{at_start}
+use Rattle.event_progress.specs.Known.{known_at_start}
 use Rattle.syn_progress.specs.TaskRecords.{known_of}
 use Rattle.syn_progress.proofs.Reading.{idle_known}
 use Rattle.syn_progress.proofs.progress.Progress.new.Goals as goal
@@ -10,4 +10,4 @@ count_is : (c : goal.In_ok-members) → length c.as_slice.result.now ≡ length 
 count_is c = ap length c.as_slice.ensures.value ∙ ap (λ (n : Numbering). length n.tasks) c.numbers.view_is
 
 pub returns : goal.returns
-returns c = ap (λ ms. known_of ms false) c.in_ok-members.ensures ∙ ap (λ ps. record { parties = ps; ended = false }) (idle_known (length c.as_slice.result.now)) ∙ ap at_start (count_is c)
+returns c = ap (λ ms. known_of ms false) c.in_ok-members.ensures ∙ ap (λ ps. record { parties = ps; ended = false }) (idle_known (length c.as_slice.result.now)) ∙ ap known_at_start (count_is c)

@@ -1,7 +1,7 @@
 use Rattle.std.proofs.Common.{ap, ◌∙◌, List, map}
 use Rattle.ada_tree.specs.declared.declarations.Decl.{Decl}
 use Rattle.ada_tree.specs.PlainDecl.{decls_of, plain_decl}
-use Rattle.syn_event.specs.Units.{decl_list, tasks_in}
+use Rattle.syn_event.specs.DeclaredTasks.{decl_list, tasks_in}
 use Rattle.task_links.specs.inner.Made.{formals_declared}
 use Rattle.task_links.proofs.links.Links.new.Goals as goal
 

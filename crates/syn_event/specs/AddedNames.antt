@@ -6,7 +6,7 @@ use Rattle.ada_tree.specs.declared.naming.NameId.{NameId}
 use Rattle.syn_event.specs.declared.numbering.TaskInfo.{TaskInfo}
 use Rattle.syn_event.specs.declared.numbering.EntryInfo.{EntryInfo}
 use Rattle.syn_event.specs.Numbering.{is_original_entry}
-use Rattle.syn_event.specs.Units.{text_of}
+use Rattle.syn_event.specs.DeclaredTasks.{text_of}
 
 -- a rewriter made the name: it begins with DED_
 abbrev pub is_added_name : List (List ℕ) → NameId → Bool

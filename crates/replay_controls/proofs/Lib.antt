@@ -1,0 +1,4 @@
+pub mod Starts
+pub mod Offers
+pub mod Hearing
+pub mod Granting

@@ -1,0 +1,19 @@
+//! At what the controller and the idle task of a replay text stand. The crate has no functions of its own but the one that carries the
+//! laws.
+#![tactic(auto)]
+
+ghost use Rattle.replay_controls.specs.Laws.{IdleWaits, LegalGrantsPermits, LegalHearsTasks, LegalOffersNext, LegalStartsThere};
+
+/// Carries the laws of the two tasks that a replay text adds. In each replay text of a legal program the controller starts before the
+/// script of the sequence, and the idle task before its wait (`starts`). The idle task waits for a call that never comes, or terminates
+/// (`idle`). Before an operation the controller offers what the law of replaying asks, where the operation is none that joins a task
+/// (`offers`). When a task has called DONE the controller is at the end of the accept body at once, and goes on with its next operation
+/// behind it (`hears`). When a task has called GO the controller gives the three numbers of the permit in three local steps, hands them
+/// back, and goes on so too (`grants`).
+pub fn laws()
+    ensures starts { LegalStartsThere }
+    ensures idle { IdleWaits }
+    ensures offers { LegalOffersNext }
+    ensures hears { LegalHearsTasks }
+    ensures grants { LegalGrantsPermits }
+{}
