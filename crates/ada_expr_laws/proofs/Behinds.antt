@@ -23,7 +23,7 @@ use Rattle.lawful_reader.proofs.Chaining.{law_chain}
 use Rattle.ada_expr_laws.specs.Stopping.{Ends}
 use Rattle.ada_expr_laws.specs.Laws.{first_operand, GoesOnBehind}
 use Rattle.ada_expr_laws.proofs.Behind.{split_le}
-use Rattle.ada_expr_laws.proofs.Signs.{OperatorAt, low_binary}
+use Rattle.ada_expr_laws.proofs.Operators.{OperatorAt, low_binary}
 use Rattle.ada_expr_laws.proofs.Chains.{Sp, IsOther, chain_opened, chain_closed, lawful_operators}
 use Rattle.ada_expr_laws.proofs.Levels.{law_expr}
 

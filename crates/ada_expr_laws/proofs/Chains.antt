@@ -25,7 +25,7 @@ use Rattle.lawful_reader.proofs.Fitting.{first_append}
 use Rattle.ada_expr_laws.specs.Stopping.{Ends}
 use Rattle.ada_expr_laws.proofs.Tokens.{none_is}
 use Rattle.ada_expr_laws.proofs.Behind.{split_le, fits_follows, follows_fits, fits_level}
-use Rattle.ada_expr_laws.proofs.Signs.{OperatorAt, IsNoSecond, test_in, takes_in, operator_from, reads_operator, begins_operator, low_binary}
+use Rattle.ada_expr_laws.proofs.Operators.{OperatorAt, IsNoSecond, test_in, takes_in, operator_from, reads_operator, begins_operator, low_binary}
 use Rattle.common_lemmas.proofs.Options.{some_there}
 
 -- the texts of a level of the grammar

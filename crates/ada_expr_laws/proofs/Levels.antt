@@ -26,7 +26,7 @@ use Rattle.ada_expr_laws.proofs.Tokens.{abs_or_not_is, takes_abs_or_not, plus_or
 use Rattle.ada_expr_laws.proofs.Behind.{split_le, fits_level}
 use Rattle.ada_expr_laws.proofs.Chains.{Sp, First, IsOther, chains, lawful_operators}
 use Rattle.ada_expr_laws.proofs.Primaries.{no_place, unary_less, law_primary}
-use Rattle.ada_expr_laws.proofs.Signs.{low_binary}
+use Rattle.ada_expr_laws.proofs.Operators.{low_binary}
 
 -- an operator and its operand
 abbrev Prefixed : (Symbol → Option UnaryOp) → Level → Texts Item PExpr

@@ -3,7 +3,7 @@ pub mod Tokens
 -- which operator may stand behind which tree, by the grammar and by the tests
 pub mod Behind
 -- how an operator is read
-pub mod Signs
+pub mod Operators
 -- chains of operators: the grammar's, and what the kernel's law of chains asks
 pub mod Chains
 -- primaries and factors, and then each level of the grammar

@@ -25,7 +25,7 @@ use Rattle.lawful_reader.proofs.Fitting.{starts_is, starts_never, starts_or, sta
 use Rattle.ada_expr_laws.specs.Stopping.{EndsPrimary, Ends}
 use Rattle.ada_expr_laws.proofs.Tokens.{symbol_is, symbol_takes, word_is, number_is}
 use Rattle.ada_expr_laws.proofs.Chains.{Sp}
-use Rattle.ada_expr_laws.proofs.Signs.{low_binary}
+use Rattle.ada_expr_laws.proofs.Operators.{low_binary}
 
 pub no_place : Span
 no_place = record { start = 0; end = 0 }

@@ -31,7 +31,7 @@ use Rattle.ada_expr_laws.proofs.Chains.{lawful_operators}
 use Rattle.ada_expr_laws.proofs.Primaries.{no_place, NameRest, law_name, name_spell, spell_primary}
 use Rattle.ada_expr_laws.proofs.Behinds.{Behind, BehindAt, first_itself, law_inner, law_levels, behind_spells, spells_behind}
 use Rattle.ada_phrase_parser.specs.Reading.{expression_from}
-use Rattle.ada_expr_laws.proofs.Signs.{low_binary}
+use Rattle.ada_expr_laws.proofs.Operators.{low_binary}
 use Rattle.ada_parser.proofs.DeclInits.{first_levels}
 use Rattle.common_lemmas.proofs.Options.{some_same}
 use Rattle.common_lemmas.proofs.Truth.{or_both}

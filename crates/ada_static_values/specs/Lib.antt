@@ -1,2 +1,1 @@
-pub mod ModulusLaw
 pub mod StaticAnswer

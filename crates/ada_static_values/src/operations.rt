@@ -1,10 +1,11 @@
 // The operations on the values of static expressions (4.5). Values of BOOLEAN and of enumerations are positions, so that FALSE is 0 and TRUE is 1.
 
-ghost use Rattle.std.specs.Prelude.{◌≡◌, ◌+ℤ◌, ◌-ℤ◌, ◌*ℤ◌, neg_ℤ, pos, int_div, int_rem, ◌≢◌, Ok};
-ghost use Rattle.ada_tree.specs.StaticValue.{fitted, truth, moved, modulus, unless_zero, applied, signed};
-ghost use Rattle.ada_static_values.specs.ModulusLaw.{ModulusLaw};
+ghost use Rattle.std.specs.Prelude.{◌≡◌, ◌+ℤ◌, ◌-ℤ◌, ◌*ℤ◌, neg_ℤ, int_div, Ok};
+ghost use Rattle.ada_tree.specs.StaticValue.{fitted, truth, unless_zero, applied, signed};
+ghost use Rattle.integer_division.specs.Modulus.{modulus};
 
 use ada_tree::{BinaryOp, Span, UnaryOp};
+use integer_division::{modulus, remainder};
 
 const LEAST: i64 = -2147483648;
 
@@ -67,40 +68,6 @@ fn quotient(left: i64, right: i64, span: Span) -> Result<i64, Span>
     }
 }
 
-// The remainder, which has the sign of the left operand. The divisor -1 leaves none.
-fn remainder(left: i64, right: i64) -> i64
-    requires { right ≢ pos 0 }
-    ensures { result ≡ int_rem left right }
-{
-    if right == -1 { 0 } else { left % right }
-}
-
-// A remainder moved by the right operand where the two have different signs.
-fn move_rest(rest: i64, right: i64) -> i64
-    ensures { result ≡ moved rest right }
-{
-    if rest == 0 {
-        rest
-    } else if rest < 0 {
-        if right < 0 { rest } else { rest + right }
-    } else {
-        if right < 0 { rest + right } else { rest }
-    }
-}
-
-// `mod`, which has the sign of the right operand.
-fn modulo(left: i64, right: i64) -> i64
-    requires { right ≢ pos 0 }
-    ensures { result ≡ modulus left right }
-{
-    move_rest(remainder(left, right), right)
-}
-
-/// The law of `mod` (4.5.5), for every divisor but 0: it is 0 or has the sign of the right operand, it is smaller than that, signs apart, and it differs from the left operand by a multiple of the right one.
-pub fn law_of_mod()
-    ensures { ModulusLaw }
-{}
-
 fn negated(value: i64, span: Span) -> Result<i64, Span>
     ensures { result ≡ fitted span (neg_ℤ value) }
 {
@@ -133,7 +100,7 @@ pub fn apply(op: BinaryOp, span: Span, left: i64, right: i64) -> Result<i64, Spa
                 return Err(span);
             }
             if op == BinaryOp::Mod {
-                Ok(modulo(left, right))
+                Ok(modulus(left, right))
             } else {
                 Ok(remainder(left, right))
             }

@@ -1,6 +1,7 @@
 -- Static expressions (4.9) and their values. A static expression is built of integer literals, enumeration literals, the named numbers and scalar constants of main, operators, and attributes of static parts (this project's rule). The value of a truth value or of an enumeration literal is its position.
 use Rattle.std.specs.Prelude.{ℕ, ℤ, pos, negsuc, ◌+ℤ◌, ◌-ℤ◌, ◌*ℤ◌, neg_ℤ, int_le, int_lt, int_div, int_rem, Bool, true, false, not, ◌&&◌, ◌||◌, ◌==◌, if◌then◌else◌, List, [], ◌∷◌, length, find, position, slice_get, Option, Some, None, is_some, option_map, Result, Ok, Err}
 use Rattle.std.specs.Ordering.{int_eq}
+use Rattle.integer_division.specs.Modulus.{modulus}
 use Rattle.ada_tree.specs.declared.naming.NameId.{NameId}
 use Rattle.ada_tree.specs.declared.naming.Span.{Span}
 use Rattle.ada_tree.specs.declared.expressions.UnaryOp.{UnaryOp}
@@ -91,20 +92,6 @@ truth false = pos 0
 -- the value of BOOLEAN is not that of FALSE (3.5.3)
 abbrev pub is_true : ℤ → Bool
 is_true z = not (int_eq z (pos 0))
-
--- neither is negative, or both are
-abbrev pub have_one_sign : ℤ → ℤ → Bool
-have_one_sign (pos a) (pos b) = true
-have_one_sign (negsuc a) (negsuc b) = true
-have_one_sign _ _ = false
-
--- a remainder that has the sign of the right operand: one of the other sign is moved by that operand
-abbrev pub moved : ℤ → ℤ → ℤ
-moved r b = if int_eq r (pos 0) || have_one_sign r b then r else r +ℤ b
-
--- `mod` has the sign of its right operand, and `rem` that of the left one (4.5.5)
-abbrev pub modulus : ℤ → ℤ → ℤ
-modulus a b = moved (int_rem a b) b
 
 -- a divisor 0 raises NUMERIC_ERROR (4.5.5)
 abbrev pub unless_zero : Span → ℤ → Result ℤ Span → Result ℤ Span

@@ -21,7 +21,8 @@ use Rattle.ada_tree.specs.PlainExpr.{PExpr, EInteger, EName, EIndex, EAttribute,
 use Rattle.ada_tree.specs.Attributes.{Attribute, First, Last, Pos, Val, Succ, Pred, Image, NoAttribute, attribute_of, is_bound, false_name, true_name}
 use Rattle.ada_tree.specs.Scope.{mark_at}
 use Rattle.ada_tree.specs.StaticValue as static
-use Rattle.ada_tree.specs.StaticValue.{is_integer_value, is_of_kind, have_one_sign, modulus, is_static, keeps_static, value_of, mark_named, constant_named, literal_position, position_in, first_of_two, truth, then_do, named}
+use Rattle.integer_division.specs.Modulus.{have_one_sign, modulus}
+use Rattle.ada_tree.specs.StaticValue.{is_integer_value, is_of_kind, is_static, keeps_static, value_of, mark_named, constant_named, literal_position, position_in, first_of_two, truth, then_do, named}
 use Rattle.ada_value.specs.declared.values.Value.{Value}
 use Rattle.ada_value.specs.declared.values.Value.TheVariants.{Number, Truth}
 use Rattle.ada_value.specs.declared.values.Raised.{Raised}

@@ -1,13 +1,14 @@
 // The operators, at the values of their operands (4.5).
 
-ghost use Rattle.std.specs.Prelude.{◌≡◌, ◌+ℤ◌, ◌-ℤ◌, ◌*ℤ◌, neg_ℤ, pos, int_div, int_rem, ◌≢◌, if◌then◌else◌};
-ghost use Rattle.ada_tree.specs.StaticValue.{moved, modulus};
+ghost use Rattle.std.specs.Prelude.{◌≡◌, ◌+ℤ◌, ◌-ℤ◌, ◌*ℤ◌, neg_ℤ, int_div, if◌then◌else◌};
+ghost use Rattle.integer_division.specs.Modulus.{modulus};
 ghost use Rattle.ada_value.specs.Values.{and_then, fitted};
 ghost use Rattle.ada_value.specs.Evaluating.{unless_zero, combined, signed_value};
 
 use crate::subtypes::{is_true, position_of};
 use crate::{Raised, Value};
 use ada_tree::{BinaryOp, UnaryOp};
+use integer_division::{modulus, remainder};
 
 const LEAST: i64 = -2147483648;
 
@@ -62,35 +63,6 @@ fn quotient(left: i64, right: i64) -> Result<Value, Raised>
         Some(number) => fitted(number),
         None => Err(Raised::Numeric),
     }
-}
-
-// The remainder, which has the sign of the left operand. The divisor -1 leaves none.
-fn remainder(left: i64, right: i64) -> i64
-    requires { right ≢ pos 0 }
-    ensures { result ≡ int_rem left right }
-{
-    if right == -1 { 0 } else { left % right }
-}
-
-// A remainder moved by the right operand where the two have different signs.
-fn moved(rest: i64, right: i64) -> i64
-    ensures { result ≡ moved rest right }
-{
-    if rest == 0 {
-        rest
-    } else if rest < 0 {
-        if right < 0 { rest } else { rest + right }
-    } else {
-        if right < 0 { rest + right } else { rest }
-    }
-}
-
-// `mod`, which has the sign of the right operand.
-fn modulus(left: i64, right: i64) -> i64
-    requires { right ≢ pos 0 }
-    ensures { result ≡ modulus left right }
-{
-    moved(remainder(left, right), right)
 }
 
 fn negated(number: i64) -> Result<Value, Raised>

@@ -18,6 +18,7 @@ use Rattle.ada_tree.specs.TypeTable.{TypeTable}
 use Rattle.ada_tree.specs.PlainExpr.{PExpr, EInteger, EName, EIndex, EAttribute, EAttributeOf, EParen, EUnary, EBinary}
 use Rattle.ada_tree.specs.Attributes.{Attribute, First, Last, Pos, Val, Succ, Pred, Image, NoAttribute, attribute_of, is_bound, false_name, true_name}
 use Rattle.ada_tree.specs.Scope.{Scope, integer_kind, truth_kind, Thing, TypeMark, ConstantObject, Literal, kind_at, mark_at, and_then, TaskType, SingleTask, TaskObject, TaskArray, Variable, Parameter, LoopParameter, AnException, MainProcedure, AnotherUnit, Unclear, reading_of_kind, reading_of_mark, reading_of, reading, marking_of_kind, marking_of_mark, marking_of, marking, scalar_kind, meaning}
+use Rattle.integer_division.specs.Modulus.{modulus}
 use Rattle.ada_tree.specs.StaticValue as static
 use Rattle.ada_tree.specs.StaticValue.{is_integer_value, is_of_kind, is_static, is_named, keeps_static, value_named, mark_named, constant_named, literal_position, position_in, first_of_two}
 use Rattle.ada_tree.specs.ExprTypes.{Operand, of_kind, takes, takes_one, is_taken, given_by, unary_kind, binary_kind, argument_kind, function_kind, bound_kind, if_kind, name_kind, attribute_kind, kind_of}
@@ -410,7 +411,7 @@ module _ (T : TypeTable) (s : Scope) (typed : IsTyped T) (over : IsOver T s) whe
   combined-of Minus a b = fitted-of T typed (position_of a -ℤ position_of b)
   combined-of Times a b = fitted-of T typed (position_of a *ℤ position_of b)
   combined-of Divide a b = divided-of T typed (position_of b) (int_div (position_of a) (position_of b))
-  combined-of Mod a b = divided-of T typed (position_of b) (static.modulus (position_of a) (position_of b))
+  combined-of Mod a b = divided-of T typed (position_of b) (modulus (position_of a) (position_of b))
   combined-of Rem a b = divided-of T typed (position_of b) (int_rem (position_of a) (position_of b))
 
   both-of : (op : BinaryOp) (l r : Result Value Raised) → Gives (IsOf T (given_by (takes op))) (values.and_then l (λ a. values.and_then r (λ b. combined op a b)))

@@ -12,7 +12,7 @@ use Rattle.normal_model.specs.Making.{one, variable}
 use Rattle.normal_model.specs.Members.{by_member, member_arm, members_of}
 use Rattle.normal_pieces.specs.declared.meanings.Member.{Member}
 use Rattle.normal_pieces.specs.Seen.{member_meant, member_seen}
-use Rattle.normal_calls.specs.inner.Forms.{arm_for}
+use Rattle.normal_calls.specs.inner.CallForms.{arm_for}
 
 map-seen : {A B C : Type 0} (f : A → B) (h : B → C) (xs : List A) → map (λ x. h (f x)) xs ≡ map h (map f xs)
 map-seen f h [] = refl

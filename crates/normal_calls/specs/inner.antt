@@ -1,3 +1,3 @@
 pub mod Modes
 pub mod Passing
-pub mod Forms
+pub mod CallForms

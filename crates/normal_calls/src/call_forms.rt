@@ -4,7 +4,7 @@ ghost use Rattle.std.specs.Prelude.{◌≡◌, IfOk};
 ghost use Rattle.ada_tree.specs.PlainStmt.{plain_call, plain_callee, plain_stmt, seen};
 ghost use Rattle.normal_model.specs.Calls.{call_to, flagged};
 ghost use Rattle.normal_model.specs.Members.{known_callee};
-ghost use Rattle.normal_calls.specs.inner.Forms.{branch, formed};
+ghost use Rattle.normal_calls.specs.inner.CallForms.{branch, formed};
 
 use crate::numbers::flag_number;
 use crate::passed::call_to;

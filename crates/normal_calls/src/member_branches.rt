@@ -7,7 +7,7 @@ ghost use Rattle.normal_model.specs.Aborts.{abort_of};
 ghost use Rattle.normal_model.specs.Making.{one, variable};
 ghost use Rattle.normal_model.specs.Members.{by_member};
 ghost use Rattle.normal_pieces.specs.Seen.{literal_seen, member_seen};
-ghost use Rattle.normal_calls.specs.inner.Forms.{arm_for, branch};
+ghost use Rattle.normal_calls.specs.inner.CallForms.{arm_for, branch};
 
 use crate::call_forms::{Form, branch};
 use ada_stmt_copy::building::case_others_of;

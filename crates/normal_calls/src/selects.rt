@@ -7,7 +7,7 @@ ghost use Rattle.ada_tree.specs.PlainStmt.{plain_call, plain_stmt, seen};
 ghost use Rattle.normal_model.specs.Making.{variable};
 ghost use Rattle.task_model.specs.Frames.{in_front};
 ghost use Rattle.normal_model.specs.Calls.{call_behind, conditional_image, is_chosen, part_taken, select_if, select_image, timed_image};
-ghost use Rattle.normal_calls.specs.inner.Forms.{formed};
+ghost use Rattle.normal_calls.specs.inner.CallForms.{formed};
 
 use crate::actuals::push_behind;
 use crate::call_forms::{Form, known_call};

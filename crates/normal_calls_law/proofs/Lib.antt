@@ -3,6 +3,6 @@ pub mod Calling
 pub mod Returns
 pub mod Handing
 pub mod Knowing
-pub mod Forms
+pub mod CallForms
 pub mod Standing
 pub mod Selecting

@@ -44,7 +44,7 @@ use Rattle.normal_callees_law.proofs.Choosing.{reaches-behind}
 use Rattle.normal_calls_law.proofs.Calling.{call-comes}
 use Rattle.normal_calls_law.proofs.Handing.{hold-behind}
 use Rattle.normal_calls_law.proofs.Knowing.{called-known, ok-same}
-use Rattle.normal_calls_law.proofs.Forms.{Form, statement, form_of, has-call, stands-at, handed-at, other-at, form-met, null-row}
+use Rattle.normal_calls_law.proofs.CallForms.{Form, statement, form_of, has-call, stands-at, handed-at, other-at, form-met, null-row}
 use Rattle.normal_calls_law.proofs.Standing.{Goes, actuals-fit, returns-on, what_of, behind_of, entered-alike, known-met}
 
 module _ (x : Translation) (laws : IsTranslation x) (made : AreMade x.text.programs) (added : Added x.text.programs x.text.programs.original) (s : Span) (c : PCall) (asked : IsCall x.text.programs c)

@@ -34,7 +34,7 @@ use Rattle.normal_calls_law.specs.Calls.{IsEntryCalled, MeetsCall, meets_call, m
 use Rattle.normal_calls_law.specs.Returns.{HoldBack, HasCall, has_plain, gone_back}
 use Rattle.normal_callees_law.proofs.Choosing.{reaches-behind}
 use Rattle.normal_calls_law.proofs.Calling.{lists-are, call-comes}
-use Rattle.normal_calls_law.proofs.Forms.{Form, statement, form_of, other_of, has-call, stands-at, handed-at, other-at, form-met}
+use Rattle.normal_calls_law.proofs.CallForms.{Form, statement, form_of, other_of, has-call, stands-at, handed-at, other-at, form-met}
 use Rattle.normal_calls_law.proofs.Returns.{copies}
 use Rattle.normal_calls_law.proofs.Handing.{finals-fit, hand, copies_before, returned-before, returned-after}
 use Rattle.normal_calls_law.proofs.Knowing.{called-known}

@@ -36,7 +36,7 @@ use Rattle.normal_legal.specs.units.Weights.{body_weight, AreLight}
 use Rattle.normal_legal.proofs.units.Few.{body-few}
 use Rattle.normal_legal.proofs.units.Fields.{legal_names_tell}
 use Rattle.normal_legal.proofs.seen_tasks.Finding.{all-filtered}
-use Rattle.normal_legal.specs.Laws.{IsLegal}
+use Rattle.normal_legal.specs.Laws.{IsLegalOriginal}
 use Rattle.ada_duplicates.specs.NamedSoFar.{object_words}
 use Rattle.ada_duplicates.proofs.Behind.{with_names_is}
 use Rattle.ada_duplicates.specs.declared.namings_in_order.Naming.{Naming}
@@ -50,7 +50,7 @@ use Rattle.normal_declares_once.proofs.Apart.{all-free, distinct-kept}
 use Rattle.normal_declares_once.proofs.Ids.{IsGoodId, good-new, variable-new}
 use Rattle.normal_declares_once.proofs.Good.{good_names}
 use Rattle.normal_declares_once.proofs.Inner.{declared-inner, body-inner}
-use Rattle.normal_declares_once.proofs.Words.{word_ids, free-words}
+use Rattle.normal_declares_once.proofs.DeclaredNames.{word_ids, free-words}
 use Rattle.normal_declares_once.proofs.Firsts.{words-good}
 use Rattle.normal_declares_once.proofs.Variables.{IsCovered, covered-old, variables-covered}
 use Rattle.normal_declares_once.proofs.Tasks.{tasks-distinct, ys, task_id}
@@ -96,7 +96,7 @@ bodies-once (decl_then (DIntIo w sp) rest) s met = bodies-once rest (after_decl 
 bodies-once (decl_then (DPragma e sp) rest) s met = bodies-once rest (after_decl s (DPragma e sp)) (all_back IsMet (decl_sites s (DPragma e sp)) (decls_sites (after_decl s (DPragma e sp)) rest) met)
 bodies-once (decl_then (DTask t sp) rest) s met = bodies-once rest (after_decl s (DTask t sp)) (all_back IsMet (decl_sites s (DTask t sp)) (decls_sites (after_decl s (DTask t sp)) rest) met)
 
-module _ (p : PProgram) (h : IsLegal p) where
+module _ (p : PProgram) (h : IsLegalOriginal p) where
   abbrev g : Setting
   g = setting_for p
 

@@ -25,7 +25,7 @@ use Rattle.normal_once.proofs.Once.{free-front, free-back, free-both}
 use Rattle.ada_duplicates.proofs.Behind.{names_are, object_is, number_is, array_is, subtype_is, instance_is}
 use Rattle.normal_declares_once.proofs.Ids.{IsGoodId}
 use Rattle.normal_declares_once.proofs.Good.{good_names}
-use Rattle.normal_declares_once.proofs.Words.{word_ids, ids_declared}
+use Rattle.normal_declares_once.proofs.DeclaredNames.{word_ids, ids_declared}
 
 -- ---- namings that name nothing else
 

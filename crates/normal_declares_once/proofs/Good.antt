@@ -13,7 +13,7 @@ use Rattle.legal_sites.proofs.Both.{together}
 use Rattle.legal_sites.proofs.NamedDecls.{all_are_named}
 use Rattle.normal_legal.proofs.units.Apart.{all-addressed}
 use Rattle.normal_legal.proofs.units.DeclaredNames.{IsGood}
-use Rattle.normal_legal.specs.Laws.{IsLegal}
+use Rattle.normal_legal.specs.Laws.{IsLegalOriginal}
 use Rattle.normal_declares_once.proofs.Ids.{first-free}
 use Rattle.common_lemmas.proofs.Truth.{not_true}
 
@@ -28,7 +28,7 @@ free_names names = record no_rules { name = λ id. not (is_reserved (text_of nam
 both-good : (names : List (List ℕ)) (id : NameId) → not (is_reserved (text_of names record { 0 = id.0 })) ≡ true → IsSomeAnd (slice_get names id.0) IsIdentifier → IsGood names id
 both-good names id e h = record { there = h; free = not_true (is_reserved (text_of names id)) e }
 
-pub program-good : (p : PProgram) → IsLegal p → EveryProgram (good_names p.names) p
+pub program-good : (p : PProgram) → IsLegalOriginal p → EveryProgram (good_names p.names) p
 program-good p h =
     together (free_names p.names) (tokens p.names) (good_names p.names)
     record {

@@ -2,7 +2,7 @@ pub mod Apart
 pub mod Ids
 pub mod Good
 pub mod Inner
-pub mod Words
+pub mod DeclaredNames
 pub mod Firsts
 pub mod Tasks
 pub mod Variables

@@ -46,14 +46,14 @@ use Rattle.normal_legal.proofs.seen_tasks.Units.{objects-apart}
 use Rattle.normal_legal.proofs.statement_forms.Alone.{numbered-tasks-alone}
 use Rattle.normal_legal.proofs.body_forms.Ranges.{ranges-known}
 use Rattle.normal_legal.proofs.body_forms.Rows.{members-short}
-use Rattle.normal_legal.specs.Laws.{IsLegal}
+use Rattle.normal_legal.specs.Laws.{IsLegalOriginal}
 use Rattle.ada_duplicates.specs.NamingsInOrder.{namings_of}
 use Rattle.normal_once.specs.Apart.{IsFreeOf, AreDistinct, fixed_names}
 use Rattle.normal_once.proofs.Fits.{task_names_are_fixed}
 use Rattle.normal_declares_once.proofs.Apart.{all-free, distinct-places}
 use Rattle.normal_declares_once.proofs.Ids.{IsGoodId, IsNew, good-new, new-good, new-not-predefined, variable-new, member-new, member-variable}
 use Rattle.normal_declares_once.proofs.Good.{program-good}
-use Rattle.normal_declares_once.proofs.Words.{ids_declared, tasks-unused, tasks-apart}
+use Rattle.normal_declares_once.proofs.DeclaredNames.{ids_declared, tasks-unused, tasks-apart}
 use Rattle.normal_declares_once.proofs.Firsts.{first-good}
 
 -- ---- lists
@@ -71,7 +71,7 @@ free-differs F x z e f = by_test (x == z) refl
     by_test false q = refl
     by_test true q = absurd (true≢false (sym e ∙ ap (is_among F) (eqb-true x z q) ∙ f))
 
-module _ (p : PProgram) (h : IsLegal p) where
+module _ (p : PProgram) (h : IsLegalOriginal p) where
   abbrev pub g : Setting
   g = setting_for p
 

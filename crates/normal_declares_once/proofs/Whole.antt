@@ -32,7 +32,7 @@ use Rattle.normal_form_law.proofs.Numbered.{AreNumbered, none_numbered, numbered
 use Rattle.normal_legal.specs.units.Weights.{body_weight}
 use Rattle.normal_legal.proofs.units.Few.{body-few}
 use Rattle.normal_legal.proofs.units.Fields.{legal_is_ordered}
-use Rattle.normal_legal.specs.Laws.{IsLegal}
+use Rattle.normal_legal.specs.Laws.{IsLegalOriginal}
 use Rattle.ada_duplicates.specs.NamedSoFar.{object_words}
 use Rattle.ada_duplicates.specs.declared.namings_in_order.Naming.{Naming}
 use Rattle.ada_duplicates.specs.declared.namings_in_order.Naming.TheVariants.{Declares}
@@ -56,7 +56,7 @@ use Rattle.normal_declares_once.proofs.Apart.{all-free, loose-joined}
 use Rattle.normal_declares_once.proofs.Ids.{IsGoodId, variable-new}
 use Rattle.normal_declares_once.proofs.Good.{good_names, program-good}
 use Rattle.normal_declares_once.proofs.Inner.{body-inner, entries-inner}
-use Rattle.normal_declares_once.proofs.Words.{ids_declared, first-apart, here-free}
+use Rattle.normal_declares_once.proofs.DeclaredNames.{ids_declared, first-apart, here-free}
 use Rattle.normal_declares_once.proofs.Firsts.{IsUnnamed, decls-unnamed}
 use Rattle.normal_declares_once.proofs.Tasks.{IsTaskName, task_id, tasks-distinct, tasks-named, new-first, new-main, decls-met}
 use Rattle.normal_declares_once.proofs.Variables.{IsLoose, IsCovered, covered-old, covered-alone, covered-loose, covered-fixed, loose-apart, variables-covered}
@@ -67,7 +67,7 @@ vars-free : (g : Setting) {vars : List PDecl} {k : ℕ} → AreNumbered g vars k
 vars-free g (none_numbered k) x h = refl
 vars-free g (numbered_then s y rest k more) x h = or_from ((variable_name g k).0 == x) (is_among (ids_declared (decls_of rest)) x) (unequal_turned x (variable_name g k).0 (h k)) (vars-free g more x h)
 
-module _ (p : PProgram) (h : IsLegal p) where
+module _ (p : PProgram) (h : IsLegalOriginal p) where
   abbrev g : Setting
   g = setting_for p
 

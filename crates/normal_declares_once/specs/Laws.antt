@@ -5,12 +5,12 @@ use Rattle.ada_tree.specs.Sites.{sites}
 use Rattle.normal_form_law.specs.Choosing.{choosing}
 use Rattle.normal_form_law.specs.Normalisable.{made_for}
 use Rattle.legal_literals.specs.Colours.{coloured}
-use Rattle.normal_legal.specs.Laws.{IsLegal}
+use Rattle.normal_legal.specs.Laws.{IsLegalOriginal}
 use Rattle.normal_once.specs.Once.{AllOnce}
 
 -- Rule Duplicate refuses nothing in the normal form of a legal program.
 abbrev pub NormalDeclaresOnce : Type 0
-NormalDeclaresOnce = (p : PProgram) → IsLegal p → AllOnce [] (sites (made_for p))
+NormalDeclaresOnce = (p : PProgram) → IsLegalOriginal p → AllOnce [] (sites (made_for p))
 
 -- So it is with two programs that are as the law of legal programs asks: one in which a variable chooses a member of an array of tasks, and one with an array of tasks whose index is an enumeration.
 abbrev pub IsMet : Type 0

@@ -57,21 +57,7 @@ family_is_checked = refl
 
 -- Its normal form:
 --
--- procedure FAMILY is
---    package INT_IO is new INTEGER_IO(INTEGER); use INT_IO;
---    task T is
---       entry E(1 .. 3)(X : in INTEGER);
---    end T;
---    task A;
---    task body T is
---    begin
---       accept E(3)(X : in INTEGER) do
---          PUT(X);
---          NEW_LINE;
---       end E;
---    end T;
---    task body A is
---       I : INTEGER := 4;
+-- .. (as in the text of `family`, 15 lines: from "procedure FAMILY is" to "I : INTEGER := 4;")
 --       DED_V1 : INTEGER range 1 .. 3;
 --       DED_V2 : INTEGER;
 --       DED_V3 : INTEGER range 1 .. 3;
@@ -190,21 +176,7 @@ modes_is_checked = refl
 --    task T is
 --       entry E(X : in SMALL; Y, Z : out INTEGER; U : in out INTEGER);
 --    end T;
---    task body T is
---    begin
---       loop
---          select
---             accept E(X : in SMALL; Y, Z : out INTEGER; U : in out INTEGER) do
---                Y := X + 1;
---                Z := 10 * X;
---                U := U + 1;
---             end E;
---          or
---             terminate;
---          end select;
---       end loop;
---    end T;
--- begin
+-- ..  (as in the text of `modes`, 15 lines: from "task body T is" to "begin")
 --    DED_V1 := N - 2;
 --    DED_V4 := M;
 --    T.E(DED_V1, DED_V2, DED_V3, DED_V4);
@@ -313,25 +285,7 @@ selects_is_checked = refl
 
 -- Its normal form:
 --
--- procedure SELECTS is
---    package INT_IO is new INTEGER_IO(INTEGER); use INT_IO;
---    type COLOR is (RED, GREEN, BLUE);
---    task T is
---       entry E(COLOR)(X : out INTEGER);
---       entry F(BOOLEAN);
---       entry G(COLOR range RED .. GREEN);
---    end T;
---    task A;
---    task body T is
---    begin
---       accept E(GREEN)(X : out INTEGER) do
---          X := 5;
---       end E;
---       accept F(TRUE);
---    end T;
---    task body A is
---       N : INTEGER := 1;
---       C : COLOR := GREEN;
+-- .. (as in the text of `selects`, 19 lines: from "procedure SELECTS is" to "C : COLOR := GREEN;")
 --       DED_V1 : COLOR;
 --       DED_V2 : INTEGER;
 --       DED_V3 : BOOLEAN;
@@ -354,17 +308,7 @@ selects_is_checked = refl
 --       DED_V4 := COLOR'SUCC(C);
 --       select
 --          T.G(DED_V4);
---       or
---          delay 1.0;
---          PUT("LATE");
---       end select;
---    exception
---       when CONSTRAINT_ERROR =>
---          PUT("RANGE");
---    end A;
--- begin
---    null;
--- end SELECTS;
+-- ..     (as in the text of `selects`, 11 lines: from "or" to "end SELECTS;")
 abbrev selects_normal : PProgram
 selects_normal = record { names = (predefined ++ (codes "SELECTS" ∷ codes "INT_IO" ∷ codes "COLOR" ∷ codes "RED" ∷ codes "GREEN" ∷ codes "BLUE" ∷ codes "T" ∷ codes "E" ∷ codes "X" ∷ codes "F" ∷ codes "G" ∷ codes "A" ∷ codes "N" ∷ codes "C" ∷ codes "DED_V1" ∷ codes "DED_V2" ∷ codes "DED_V3" ∷ codes "DED_V4" ∷ [])); text_io = false; name = (w 25); decls = (decl_then (DIntIo (w 26) o) (decl_then (DEnumeration (w 27) ((w 28) ∷ (w 29) ∷ (w 30) ∷ []) o) (decl_then (DTask (record { name = (w 31); of_kind = false; entries = ((record { name = (w 32); family = (Some (RMarked (record { mark = (w 27); bounds = None }))); formals = ((record { names = ((w 33) ∷ []); mode = mode.Give; mark = (w 0) }) ∷ []); span = o }) ∷ (record { name = (w 34); family = (Some (RMarked (record { mark = (w 3); bounds = None }))); formals = []; span = o }) ∷ (record { name = (w 35); family = (Some (RMarked (record { mark = (w 27); bounds = (Some (record { first = (n 28); last = (n 29) })) }))); formals = []; span = o }) ∷ []); priorities = [] }) o) (decl_then (DTask (record { name = (w 36); of_kind = false; entries = []; priorities = [] }) o) (decl_then (DTaskBody (w 31) no_decl (body (stmt_then (SAccept (accepting (record { entry = (w 32); index = (Some (n 29)); formals = ((record { names = ((w 33) ∷ []); mode = mode.Give; mark = (w 0) }) ∷ []); span = o }) (present (stmt_then (SAssign (record { name = (w 33); index = None }) (EInteger 5 o) o) no_stmt))) o) (stmt_then (SAccept (accepting (record { entry = (w 34); index = (Some (n 5)); formals = []; span = o }) absent) o) no_stmt)) no_handler) o) (decl_then (DTaskBody (w 36) (decl_then (DObject ((w 37) ∷ []) false (OPlain (record { mark = (w 0); bounds = None })) (Some (IOne (EInteger 1 o))) o) (decl_then (DObject ((w 38) ∷ []) false (OPlain (record { mark = (w 27); bounds = None })) (Some (IOne (n 29))) o) (decl_then (DObject ((w 39) ∷ []) false (OPlain (record { mark = (w 27); bounds = None })) None o) (decl_then (DObject ((w 40) ∷ []) false (OPlain (record { mark = (w 0); bounds = None })) None o) (decl_then (DObject ((w 41) ∷ []) false (OPlain (record { mark = (w 3); bounds = None })) None o) (decl_then (DObject ((w 42) ∷ []) false (OPlain (record { mark = (w 27); bounds = (Some (record { first = (n 28); last = (n 29) })) })) None o) no_decl)))))) (body (stmt_then (SAssign (record { name = (w 39); index = None }) (n 38) o) (stmt_then (SConditional (record { task = (record { name = (w 31); index = None }); entry = (w 32); args = (Some (record { first = ((n 39) ∷ []); second = (Some ((n 40) ∷ [])) })) }) (stmt_then (SAssign (record { name = (w 37); index = None }) (n 40) o) (stmt_then (SPut ((PValue (n 37)) ∷ []) o) no_stmt)) (stmt_then (SPut ((PWords (codes "NO") o) ∷ []) o) no_stmt) o) (stmt_then (SAssign (record { name = (w 41); index = None }) (EBinary binary.Greater (n 37) (EInteger 1 o) o) o) (stmt_then (STimed (record { task = (record { name = (w 31); index = None }); entry = (w 34); args = (Some (record { first = ((n 41) ∷ []); second = None })) }) no_stmt 1000 no_stmt o) (stmt_then (SAssign (record { name = (w 42); index = None }) (EAttributeOf (w 27) (w 22) (n 38) o) o) (stmt_then (STimed (record { task = (record { name = (w 31); index = None }); entry = (w 35); args = (Some (record { first = ((n 42) ∷ []); second = None })) }) no_stmt 1000 (stmt_then (SPut ((PWords (codes "LATE") o) ∷ []) o) no_stmt) o) no_stmt)))))) (handler_then (handler ((w 6) ∷ []) (stmt_then (SPut ((PWords (codes "RANGE") o) ∷ []) o) no_stmt) o) no_handler)) o) no_decl)))))); body = (body (stmt_then (SNull o) no_stmt) no_handler) }
 

@@ -12,7 +12,7 @@ use Rattle.normal_units.specs.Laws.{numbers_made}
 use Rattle.normal_form_law.specs.Choosing.{choosing}
 use Rattle.normal_form_law.specs.Normalisable.{numbers_of, made_for}
 use Rattle.legal_literals.specs.Colours.{coloured}
-use Rattle.normal_legal.specs.Laws.{IsLegal}
+use Rattle.normal_legal.specs.Laws.{IsLegalOriginal}
 use Rattle.normal_once.specs.Once.{AllOnce}
 
 -- ---- places
@@ -33,15 +33,15 @@ PlacesMeet = (p : PProgram) → MeetsTypeRules p → MeetsButOnce p × AllOnce [
 
 -- Its names are as those of every program where there are few enough: each id fits 32 bits (this project's rule).
 abbrev pub NormalHasNames : Type 0
-NormalHasNames = (p : PProgram) → IsLegal p → length (made_for p).names ≤ 2 ^ 32 → AreNames (made_for p).names
+NormalHasNames = (p : PProgram) → IsLegalOriginal p → length (made_for p).names ≤ 2 ^ 32 → AreNames (made_for p).names
 
 -- Each of its places meets the first twelve rules but for rule Duplicate.
 abbrev pub NormalMeetsAtPlaces : Type 0
-NormalMeetsAtPlaces = (p : PProgram) → IsLegal p → MeetsButOnce (made_for p)
+NormalMeetsAtPlaces = (p : PProgram) → IsLegalOriginal p → MeetsButOnce (made_for p)
 
 -- So it meets the first twelve rules.
 abbrev pub NormalMeetsTypes : Type 0
-NormalMeetsTypes = (p : PProgram) → IsLegal p → MeetsTypeRules (made_for p)
+NormalMeetsTypes = (p : PProgram) → IsLegalOriginal p → MeetsTypeRules (made_for p)
 
 -- the normal form of a program is legal as a text of any kind, with its own types, and with the numbers that its definition tells
 abbrev pub IsLegalNormal : PProgram → Type 0
@@ -49,7 +49,7 @@ IsLegalNormal p = Legal (made_for p) (types_in (made_for p)) (numbers_made p (ty
 
 -- It is legal.
 abbrev pub NormalIsLegal : Type 0
-NormalIsLegal = (p : PProgram) → IsLegal p → IsLegalNormal p
+NormalIsLegal = (p : PProgram) → IsLegalOriginal p → IsLegalNormal p
 
 -- So it is with two programs that are as the law of legal programs asks: one in which a variable chooses a member of an array of tasks, and one with an array of tasks whose index is an enumeration.
 abbrev pub IsMet : Type 0

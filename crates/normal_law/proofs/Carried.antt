@@ -10,7 +10,7 @@ use Rattle.normal_law.specs.NormalLists.{normal_lists}
 use Rattle.normal_law.specs.NormalFloors.{own_body, normal}
 use Rattle.normal_law.specs.Laws.{NormalTranslates, NormalSteps, NormalStarts, NormalRaises, NormalOpens, NormalEnds, NormalEnters, NormalPreludes}
 use Rattle.normal_law.proofs.Rows.{part-begins, walked, walked-handlers, normal-images}
-use Rattle.normal_law.proofs.Floors.{normal-translates, are-there}
+use Rattle.normal_law.proofs.Floors.{normal-translates, normal-exits, are-there}
 use Rattle.normal_law.proofs.Preludes.{prelude}
 use Rattle.normal_law.proofs.Meetings.{accept-opens, part-entered, body-ends}
 
@@ -18,7 +18,7 @@ pub normal_translates : NormalTranslates
 normal_translates w added types = normal-translates (normal_lists w) (normal-images w) types added
 
 pub normal_steps : NormalSteps
-normal_steps w added types σ κ both at = step-alike (normal (normal_lists w) added) (normal_translates w added types) σ κ both at
+normal_steps w added types σ κ both at = step-alike (normal (normal_lists w) added) (normal_translates w added types) (normal-exits (normal_lists w) (normal-images w) types added) σ κ both at
 
 pub normal_starts : NormalStarts
 normal_starts w added its V V' n input (old_body l hs h k) begins ext there =

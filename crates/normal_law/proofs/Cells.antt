@@ -4,7 +4,7 @@ use Rattle.std.proofs.lemmas.Bool.{eqb-true}
 use Rattle.ada_tree.specs.declared.naming.NameId.{NameId}
 use Rattle.ada_value.specs.declared.values.Value.{Value}
 use Rattle.ada_value.specs.declared.values.Limits.{Limits}
-use Rattle.ada_value.specs.Variables.{Variables, object_named, with_value, set_value}
+use Rattle.ada_value.specs.Variables.{Object, Variables, object_named, with_value, set_value}
 use Rattle.task_model.specs.Setting.{Setting}
 use Rattle.normal_model.specs.Names.{variable_name}
 use Rattle.translation_law.specs.Translations.{Programs, IsOld}
@@ -53,14 +53,20 @@ cell-place : (W : Variables) (id : NameId) (limits : Limits) (v w : Value) (k : 
 cell-place W id limits v w zero c = (w, cell-set W id limits v w c)
 cell-place W id limits v w (suc k) c = (v, record { name = c.name; found = named-set_same W id (suc k) w ∙ ap (option_map (λ o. with_value o (suc k) w)) c.found })
 
+-- a variable of one value stays one, whatever is assigned to
+pub cell-any : (W : Variables) (id : NameId) (k : ℕ) (v : Value) (name : NameId) (limits : Limits) → (y : Value) × IsCell W name limits y → (y : Value) × IsCell (set_value W id k v) name limits y
+cell-any W id k v name limits h = go (id.0 == name.0) refl
+  where
+    go : (t : Bool) → (id.0 == name.0) ≡ t → (y : Value) × IsCell (set_value W id k v) name limits y
+    go true e =
+        let same : name ≡ id = ap (λ n. record { 0 = n }) (sym (eqb-true id.0 name.0 e)) in
+        subst (λ a. (y : Value) × IsCell (set_value W id k v) a limits y) (sym same) (cell-place W id limits h.0 v k (subst (λ a. IsCell W a limits h.0) same h.1))
+    go false e = (h.0, cell-kept W (set_value W id k v) name limits h.0 (named-set_other W id k v name e) h.1)
+
+-- and so with another variable in front
+pub cell-behind : (o : Object) (W : Variables) (name : NameId) (limits : Limits) → (o.name.0 == name.0) ≡ false → (y : Value) × IsCell W name limits y → (y : Value) × IsCell (o ∷ W) name limits y
+cell-behind o W name limits e h = (h.0, record { name = h.1.name; found = ap (λ t. cond t (Some o) (object_named W name)) e ∙ h.1.found })
+
 -- they are there, whatever is assigned to
 pub there-any : {b : Programs} {g : Setting} (added : Added b g) (W : Variables) (id : NameId) (k : ℕ) (v : Value) → AreThere added W → AreThere added (set_value W id k v)
-there-any {b} {g} added W id k v there j l = go (id.0 == (variable_name g j).0) refl
-  where
-    go : (t : Bool) → (id.0 == (variable_name g j).0) ≡ t → (y : Value) × IsCell (set_value W id k v) (variable_name g j) (added.bounds j) y
-    go true e =
-        let same : variable_name g j ≡ id = ap (λ n. record { 0 = n }) (sym (eqb-true id.0 (variable_name g j).0 e)) in
-        let h = there j l in
-        subst (λ a. (y : Value) × IsCell (set_value W id k v) a (added.bounds j) y) (sym same)
-        (cell-place W id (added.bounds j) h.0 v k (subst (λ a. IsCell W a (added.bounds j) h.0) same h.1))
-    go false e = let h = there j l in (h.0, cell-kept W (set_value W id k v) (variable_name g j) (added.bounds j) h.0 (named-set_other W id k v (variable_name g j) e) h.1)
+there-any {b} {g} added W id k v there j l = cell-any W id k v (variable_name g j) (added.bounds j) (there j l)

@@ -1,118 +1,30 @@
 -- The floors of the normal form: ends, exceptions and names in the unit's own body and in accept bodies.
-use Rattle.std.proofs.Common.{◌≡◌, ℕ, zero, suc, Bool, true, false, cond, ◌==◌, if◌then◌else◌, List, [], ◌∷◌, ◌++◌, Option, Some, None, refl, sym, ap, ◌∙◌, true≢false}
-use Rattle.std.proofs.lemmas.Bool.{eqb-true}
+use Rattle.std.proofs.Common.{◌≡◌, ℕ, zero, suc, false, cond, List, [], ◌∷◌, ◌++◌, Option, Some, None, refl, ap, ◌∙◌}
 use Rattle.ada_tree.specs.declared.naming.NameId.{NameId}
 use Rattle.ada_tree.specs.declared.naming.Word.{Word}
 use Rattle.ada_tree.specs.PlainStmt.{PStmt, PStmts, no_stmt, stmt_then, PHandlers}
 use Rattle.ada_value.specs.declared.values.Value.{Value}
 use Rattle.ada_value.specs.declared.values.Raised.{Raised}
-use Rattle.ada_value.specs.Variables.{Object, Variables, object_named, with_value, set_value}
+use Rattle.ada_value.specs.Variables.{Object, Variables, object_named, set_value}
 use Rattle.task_model.specs.declared.parameters.FormalParameter.{FormalParameter}
 use Rattle.task_model.specs.Frames.{Turns, Around, Loop, Opened, PFrame, Control, control, unit_with, raised_in, exited_in}
 use Rattle.translation_law.specs.Translations.{Standing, Rewriting, IsOld, IsKnown}
-use Rattle.translation_law.specs.Scopes.{AgreeOnTypes, HasKnown, SameObject, no_object, same_object, SeeAlike}
+use Rattle.translation_law.specs.Scopes.{AgreeOnTypes, SeeAlike}
 use Rattle.translation_law.specs.Images.{ImageHandlers, IsEmpty, nothing_there, IsSomething, something_there, AreImages}
 use Rattle.translation_law.specs.Controls.{frame, Under, on_floor, in_block, in_handler, in_endless, in_while, in_count, inside, Settle}
-use Rattle.translation_law.specs.Floors.{handled_around, AreScopes, AreFloors, IsTranslation}
+use Rattle.translation_law.specs.Floors.{handled_around, AreScopes, AreFloors, AreExits, IsTranslation}
 use Rattle.translation_law.specs.Itself.{Nowhere}
-use Rattle.translation_law.proofs.Evaluating.{known-with}
 use Rattle.translation_law.proofs.Handlers.{Taken, not_taken, taken, handler-alike}
 use Rattle.translation_law.proofs.Frames.{sees-alike, set-alike, add-alike, handled-alike}
 use Rattle.translation_law.proofs.Mapping.{settle-map}
-use Rattle.normal_law.specs.NormalFloors.{Extends, extends_none, extends_old, extends_new, AreOpen, none_open, open_then, NormalFloor, own_body, accept_body, no_floor, on_floors, floor_at, normal_floor, normal}
+use Rattle.normal_law.specs.NormalFloors.{Extends, AreOpen, none_open, open_then, NormalFloor, own_body, accept_body, no_floor, on_floors, floor_at, normal_floor, normal}
 use Rattle.task_model.specs.Setting.{Setting}
 use Rattle.normal_model.specs.Names.{variable_name}
 use Rattle.normal_law.specs.Preludes.{Added, AreThere}
 use Rattle.normal_law.proofs.Cells.{there-any, apart-old}
+use Rattle.normal_law.proofs.Extending.{extends-sees, extends-set, extends-add, own-sees, own-set, own-add, Fronts, fronts}
 
 module _ (x : Rewriting) (images : AreImages x) (types : AgreeOnTypes x.programs) {g : Setting} (added : Added x.programs g) where
-  -- ---- names
-
-  sees-more : (o : Object) → HasKnown x.programs o → {V V' : Variables} → SeeAlike x.programs V V' → SeeAlike x.programs (o ∷ V) (o ∷ V')
-  sees-more o known {V} {V'} see = record { named = λ id old. go id (o.name.0 == id.0) (see.named id old) }
-    where
-      go : (id : NameId) (t : Bool) → SameObject x.programs (object_named V id) (object_named V' id) → SameObject x.programs (cond t (Some o) (object_named V id)) (cond t (Some o) (object_named V' id))
-      go id true h = same_object o known
-      go id false h = h
-
-  sees-added : (o : Object) → x.programs.is_old o.name.0 ≡ false → {V V' : Variables} → SeeAlike x.programs V V' → SeeAlike x.programs V (o ∷ V')
-  sees-added o new {V} {V'} see = record { named = λ id old. go id old (o.name.0 == id.0) refl (see.named id old) }
-    where
-      go : (id : NameId) → IsOld x.programs id → (t : Bool) → (o.name.0 == id.0) ≡ t → SameObject x.programs (object_named V id) (object_named V' id) →
-          SameObject x.programs (object_named V id) (cond t (Some o) (object_named V' id))
-      go id old true e h = absurd (true≢false (sym old ∙ ap x.programs.is_old (sym (eqb-true o.name.0 id.0 e)) ∙ new))
-      go id old false e h = h
-
-  pub extends-sees : {V V' : Variables} → Extends x.programs V V' → SeeAlike x.programs V V'
-  extends-sees extends_none = record { named = λ id old. no_object }
-  extends-sees (extends_old o V V' old known h) = sees-more o known (extends-sees h)
-  extends-sees (extends_new o V V' new h) = sees-added o new (extends-sees h)
-
-  own-sees : {fs : List FormalParameter} {bs : List Object} → AreOpen x.programs fs bs → {V V' : Variables} → SeeAlike x.programs V V' → SeeAlike x.programs (bs ++ V) (bs ++ V')
-  own-sees none_open see = see
-  own-sees (open_then f o fs rest old known h) see = sees-more o known (own-sees h see)
-
-  -- ---- an assignment to an old name
-
-  pub extends-set : (id : NameId) (k : ℕ) (v : Value) → IsOld x.programs id → IsKnown x.programs v → {V V' : Variables} → Extends x.programs V V' → Extends x.programs (set_value V id k v) (set_value V' id k v)
-  extends-set id k v old known extends_none = extends_none
-  extends-set id k v old known (extends_old o V V' was has h) = go (o.name.0 == id.0) (extends-set id k v old known h)
-    where
-      go : (t : Bool) → Extends x.programs (set_value V id k v) (set_value V' id k v) →
-          Extends x.programs (if t then with_value o k v ∷ V else o ∷ set_value V id k v) (if t then with_value o k v ∷ V' else o ∷ set_value V' id k v)
-      go true ih = extends_old (with_value o k v) V V' was (known-with x.programs types o k v known has) h
-      go false ih = extends_old o _ _ was has ih
-  extends-set id k v old known (extends_new o V V' new h) = go (o.name.0 == id.0) refl (extends-set id k v old known h)
-    where
-      go : (t : Bool) → (o.name.0 == id.0) ≡ t → Extends x.programs (set_value V id k v) (set_value V' id k v) →
-          Extends x.programs (set_value V id k v) (if t then with_value o k v ∷ V' else o ∷ set_value V' id k v)
-      go true e ih = absurd (true≢false (sym old ∙ ap x.programs.is_old (sym (eqb-true o.name.0 id.0 e)) ∙ new))
-      go false e ih = extends_new o _ _ new ih
-
-  -- an assignment of the image to an added name
-  pub extends-add : (id : NameId) (k : ℕ) (v : Value) → x.programs.is_old id.0 ≡ false → {V V' : Variables} → Extends x.programs V V' → Extends x.programs V (set_value V' id k v)
-  extends-add id k v fresh extends_none = extends_none
-  extends-add id k v fresh (extends_old o V V' was has h) = go (o.name.0 == id.0) refl (extends-add id k v fresh h)
-    where
-      go : (t : Bool) → (o.name.0 == id.0) ≡ t → Extends x.programs V (set_value V' id k v) → Extends x.programs (o ∷ V) (if t then with_value o k v ∷ V' else o ∷ set_value V' id k v)
-      go true e ih = absurd (true≢false (sym was ∙ ap x.programs.is_old (eqb-true o.name.0 id.0 e) ∙ fresh))
-      go false e ih = extends_old o V _ was has ih
-  extends-add id k v fresh (extends_new o V V' new h) = go (o.name.0 == id.0) (extends-add id k v fresh h)
-    where
-      go : (t : Bool) → Extends x.programs V (set_value V' id k v) → Extends x.programs V (if t then with_value o k v ∷ V' else o ∷ set_value V' id k v)
-      go true ih = extends_new (with_value o k v) V V' new h
-      go false ih = extends_new o V _ new ih
-
-  -- ---- the formals of an accept body in front
-
-  -- variables with the same formals in front, of which the rest goes together
-  data Fronts (B : Variables → Variables → Type 0) (fs : List FormalParameter) : Variables → Variables → Type 0 where
-    fronts : (bs : List Object) (W W' : Variables) → AreOpen x.programs fs bs → B W W' → Fronts B fs (bs ++ W) (bs ++ W')
-
-  front-more : {B : Variables → Variables → Type 0} (f : FormalParameter) (o : Object) (fs : List FormalParameter) → IsOld x.programs o.name → HasKnown x.programs o → {V V' : Variables} →
-      Fronts B fs V V' → Fronts B (f ∷ fs) (o ∷ V) (o ∷ V')
-  front-more f o fs old known (fronts bs W W' own h) = fronts (o ∷ bs) W W' (open_then f o fs bs old known own) h
-
-  own-set : {B : Variables → Variables → Type 0} (id : NameId) (k : ℕ) (v : Value) → IsKnown x.programs v → {fs : List FormalParameter} {bs : List Object} → AreOpen x.programs fs bs →
-      (V V' : Variables) → B V V' → B (set_value V id k v) (set_value V' id k v) → Fronts B fs (set_value (bs ++ V) id k v) (set_value (bs ++ V') id k v)
-  own-set id k v known none_open V V' h j = fronts [] _ _ none_open j
-  own-set {B} id k v known (open_then f o fs rest was has own) V V' h j = go (o.name.0 == id.0) (own-set id k v known own V V' h j)
-    where
-      go : (t : Bool) → Fronts B fs (set_value (rest ++ V) id k v) (set_value (rest ++ V') id k v) →
-          Fronts B (f ∷ fs) (if t then with_value o k v ∷ (rest ++ V) else o ∷ set_value (rest ++ V) id k v) (if t then with_value o k v ∷ (rest ++ V') else o ∷ set_value (rest ++ V') id k v)
-      go true ih = front-more f (with_value o k v) fs was (known-with x.programs types o k v known has) (fronts rest V V' own h)
-      go false ih = front-more f o fs was has ih
-
-  own-add : {B : Variables → Variables → Type 0} (id : NameId) (k : ℕ) (v : Value) → x.programs.is_old id.0 ≡ false → {fs : List FormalParameter} {bs : List Object} → AreOpen x.programs fs bs →
-      (V V' : Variables) → B V (set_value V' id k v) → Fronts B fs (bs ++ V) (set_value (bs ++ V') id k v)
-  own-add id k v fresh none_open V V' j = fronts [] _ _ none_open j
-  own-add {B} id k v fresh (open_then f o fs rest was has own) V V' j = go (o.name.0 == id.0) refl (own-add id k v fresh own V V' j)
-    where
-      go : (t : Bool) → (o.name.0 == id.0) ≡ t → Fronts B fs (rest ++ V) (set_value (rest ++ V') id k v) →
-          Fronts B (f ∷ fs) (o ∷ (rest ++ V)) (if t then with_value o k v ∷ (rest ++ V') else o ∷ set_value (rest ++ V') id k v)
-      go true e ih = absurd (true≢false (sym was ∙ ap x.programs.is_old (eqb-true o.name.0 id.0 e) ∙ fresh))
-      go false e ih = front-more f o fs was has ih
-
   -- ---- floors over what may stand below
 
   module _ (B : Standing) where
@@ -156,29 +68,31 @@ module _ (x : Rewriting) (images : AreImages x) (types : AgreeOnTypes x.programs
       apart = λ name turns l p' o o' V V' f. floor-apart f;
       over = λ p p' o o' V V' f. floor-over f;
       raised = λ e p p' o o' V V' f. floor-raised e f;
-      exited = λ w p p' o o' V V' f. floor-exited w f;
     }
+
+    floor-exits : AreExits (on_floors x (NormalFloor x added B))
+    floor-exits = record { exited = λ w p p' o o' V V' f. floor-exited w f }
 
     module _ (below : AreScopes (on_floors x B)) where
       floor-sees : {p p' : Around} {o o' : List PFrame} {V V' : Variables} → NormalFloor x added B p o V p' o' V' → SeeAlike x.programs V V'
-      floor-sees (own_body hs hs' handling V V' h ext c) = extends-sees ext
-      floor-sees (accept_body p p' o o' V V' caller formals pending r r' bs own im u) = own-sees own (below.sees p p' o o' V V' u)
+      floor-sees (own_body hs hs' handling V V' h ext c) = extends-sees x.programs types ext
+      floor-sees (accept_body p p' o o' V V' caller formals pending r r' bs own im u) = own-sees x.programs types own (below.sees p p' o o' V V' u)
 
       from-fronts : {p p' : Around} {o o' : List PFrame} (caller : ℕ) (formals : List FormalParameter) (pending : Option Raised) (r r' : PStmts) → x.image r r' → {W W' : Variables} →
-          Fronts (λ V V'. B p o V p' o' V') formals W W' → NormalFloor x added B (Opened caller formals pending) (frame r p ∷ o) W (Opened caller formals pending) (frame r' p' ∷ o') W'
+          Fronts x.programs (λ V V'. B p o V p' o' V') formals W W' → NormalFloor x added B (Opened caller formals pending) (frame r p ∷ o) W (Opened caller formals pending) (frame r' p' ∷ o') W'
       from-fronts {p} {p'} {o} {o'} caller formals pending r r' im (fronts bs W W' own u) = accept_body p p' o o' W W' caller formals pending r r' bs own im u
 
       floor-set : (id : NameId) (k : ℕ) (v : Value) → IsOld x.programs id → IsKnown x.programs v → {p p' : Around} {o o' : List PFrame} {V V' : Variables} → NormalFloor x added B p o V p' o' V' →
           NormalFloor x added B p o (set_value V id k v) p' o' (set_value V' id k v)
-      floor-set id k v old known (own_body hs hs' handling V V' h ext c) = own_body hs hs' handling _ _ h (extends-set id k v old known ext) (there-any added V' id k v c)
+      floor-set id k v old known (own_body hs hs' handling V V' h ext c) = own_body hs hs' handling _ _ h (extends-set x.programs types id k v old known ext) (there-any added V' id k v c)
       floor-set id k v old known (accept_body p p' o o' V V' caller formals pending r r' bs own im u) =
-          from-fronts caller formals pending r r' im (own-set {B = λ W W'. B p o W p' o' W'} id k v known own V V' u (below.set p p' o o' V V' id k v old known u))
+          from-fronts caller formals pending r r' im (own-set x.programs types {B = λ W W'. B p o W p' o' W'} id k v known own V V' u (below.set p p' o o' V V' id k v old known u))
 
       floor-add : (id : NameId) (k : ℕ) (v : Value) → x.programs.is_old id.0 ≡ false → {p p' : Around} {o o' : List PFrame} {V V' : Variables} → NormalFloor x added B p o V p' o' V' →
           NormalFloor x added B p o V p' o' (set_value V' id k v)
-      floor-add id k v fresh (own_body hs hs' handling V V' h ext c) = own_body hs hs' handling _ _ h (extends-add id k v fresh ext) (there-any added V' id k v c)
+      floor-add id k v fresh (own_body hs hs' handling V V' h ext c) = own_body hs hs' handling _ _ h (extends-add x.programs types id k v fresh ext) (there-any added V' id k v c)
       floor-add id k v fresh (accept_body p p' o o' V V' caller formals pending r r' bs own im u) =
-          from-fronts caller formals pending r r' im (own-add {B = λ W W'. B p o W p' o' W'} id k v fresh own V V' (below.add p p' o o' V V' id k v fresh u))
+          from-fronts caller formals pending r r' im (own-add x.programs types {B = λ W W'. B p o W p' o' W'} id k v fresh own V V' (below.add p p' o o' V V' id k v fresh u))
 
       floor-handled : {p p' : Around} {o o' : List PFrame} {V V' : Variables} → NormalFloor x added B p o V p' o' V' → handled_around p o ≡ handled_around p' o'
       floor-handled (own_body hs hs' handling V V' h ext c) = refl
@@ -220,7 +134,7 @@ module _ (x : Rewriting) (images : AreImages x) (types : AgreeOnTypes x.programs
   }
 
   up : (k : ℕ) {c d : Control} → Settle (on_floors x (floor_at x added k)) c d → Settle (normal x added) c d
-  up k h = settle-map x (floor_at x added k) (normal_floor x added) Nowhere (λ p p' o o' V V' f. (k, f)) h
+  up k h = settle-map x (floor_at x added k) (normal_floor x added) Nowhere Nowhere (λ p p' o o' V V' f. (k, f)) (λ c d b. b) h
 
   pub normal-translates : IsTranslation (normal x added)
   normal-translates = record {
@@ -236,9 +150,15 @@ module _ (x : Rewriting) (images : AreImages x) (types : AgreeOnTypes x.programs
       apart = λ name turns l p' o o' V V' f. (levels f.0).floors.apart name turns l p' o o' V V' f.1;
       over = λ p p' o o' V V' f. up f.0 ((levels f.0).floors.over p p' o o' V V' f.1);
       raised = λ e p p' o o' V V' f. up f.0 ((levels f.0).floors.raised e p p' o o' V V' f.1);
-      exited = λ w p p' o o' V V' f. up f.0 ((levels f.0).floors.exited w p p' o o' V V' f.1);
     };
   }
+
+  exits-at : (k : ℕ) → AreExits (on_floors x (floor_at x added k))
+  exits-at zero = floor-exits no_floor
+  exits-at (suc k) = floor-exits (Under (on_floors x (floor_at x added k)))
+
+  pub normal-exits : AreExits (normal x added)
+  normal-exits = record { exited = λ w p p' o o' V V' f. up f.0 ((exits-at f.0).exited w p p' o o' V V' f.1) }
 
   -- ---- the added variables are there
 

@@ -1,4 +1,5 @@
 pub mod Rows
+pub mod Extending
 pub mod Floors
 pub mod Meetings
 pub mod Cells

@@ -42,7 +42,7 @@ module _ (x : Rewriting) (images : AreImages x) (types : AgreeOnTypes x.programs
   lowered (in_count name backwards last l l' r r' b old known h im u) = let m = lowered u in (m.0, in_count name backwards last l l' r r' b old known h im m.1)
 
   lifted : (k : ℕ) {p p' : Around} {o o' : List PFrame} {V V' : Variables} → Under (on_floors x (floor_at x added k)) p o V p' o' V' → Under (normal x added) p o V p' o' V'
-  lifted k u = under-map x (floor_at x added k) (normal_floor x added) Nowhere (λ p p' o o' V V' f. (k, f)) u
+  lifted k u = under-map x (floor_at x added k) (normal_floor x added) Nowhere Nowhere (λ p p' o o' V V' f. (k, f)) (λ c d b. b) u
 
   -- ---- formals
 

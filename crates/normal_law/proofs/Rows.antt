@@ -24,11 +24,11 @@ use Rattle.normal_law.specs.NormalLists.{Begin, behind_stmt, Normal, normal_none
 
 -- ---- something stands in the place of each statement
 
-row-behind : (a : PStmts) {r : PStmts} → IsSomething r → IsSomething (in_front a r)
+pub row-behind : (a : PStmts) {r : PStmts} → IsSomething r → IsSomething (in_front a r)
 row-behind no_stmt h = h
 row-behind (stmt_then s l) h = something_there s _
 
-row-before : {a : PStmts} → IsSomething a → (r : PStmts) → IsSomething (in_front a r)
+pub row-before : {a : PStmts} → IsSomething a → (r : PStmts) → IsSomething (in_front a r)
 row-before (something_there s l) r = something_there s _
 
 row-chosen : (o : Option PExpr) (g : Setting) (s : Span) (callee : PCallee) (k : ℕ) (what : Word → PStmts) → ((w : Word) → IsSomething (what w)) → IsSomething (chosen_if o g s callee k what)

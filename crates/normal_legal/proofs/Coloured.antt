@@ -10,7 +10,7 @@ use Rattle.normal_form_law.specs.Normalisable.{numbers_of}
 use Rattle.legal_literals.specs.Laws.{HasRules}
 use Rattle.legal_literals.specs.Colours.{coloured}
 use Rattle.legal_literals.proofs.Coloured.{coloured-is-met}
-use Rattle.normal_legal.specs.Laws.{IsLegal}
+use Rattle.normal_legal.specs.Laws.{IsLegalOriginal}
 use Rattle.normal_legal.proofs.Instance.{with_p}
 
 legal : Legal coloured (types_in coloured) (numbers_of coloured) Original
@@ -35,7 +35,7 @@ names : AreNames coloured.names
 names = AreNames-added (predefined ++ codes "P" ∷ codes "C" ∷ codes "R" ∷ codes "G" ∷ codes "W" ∷ []) (codes "A") with_w refl (lit< tt)
 
 -- So it is as the laws ask.
-pub coloured-is-legal : IsLegal coloured
+pub coloured-is-legal : IsLegalOriginal coloured
 coloured-is-legal =
     let h : HasRules coloured = coloured-is-met in
     record { legal = legal; placed = h.placed; names = names; small = h.small; light = (lit< tt, (lit< tt, tt)) }

@@ -19,7 +19,7 @@ use Rattle.normal_form_law.specs.Normalisable.{numbers_of}
 use Rattle.normal_form_law.proofs.Choosing.{Named, n0, n25, n26, n27, n28, n29}
 use Rattle.legal_types.specs.Typed.{IsSmall, IsSmallKind}
 use Rattle.normal_legal.specs.units.Weights.{IsLight}
-use Rattle.normal_legal.specs.Laws.{IsLegal}
+use Rattle.normal_legal.specs.Laws.{IsLegalOriginal}
 
 legal : Legal choosing (types_in choosing) (numbers_of choosing) Original
 unfolding digits
@@ -95,5 +95,5 @@ placed : IsWellPlaced choosing
 placed = (n25, tt, in-decls, in-body)
 
 -- So it is as the laws ask.
-pub choosing-is-legal : IsLegal choosing
+pub choosing-is-legal : IsLegalOriginal choosing
 choosing-is-legal = record { legal = legal; placed = placed; names = names; small = small; light = light }

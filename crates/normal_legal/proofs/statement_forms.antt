@@ -1,8 +1,8 @@
-pub mod Members
+pub mod MemberNumbers
 pub mod Alone
 pub mod Typed
-pub mod Heads
-pub mod HeadsAsked
+pub mod OwnEntries
+pub mod AcceptsAsked
 pub mod Callees
 pub mod CalleesAsked
 pub mod Calls

@@ -1,4 +1,4 @@
 pub mod Numbers
-pub mod Forms
+pub mod SubtypeForms
 pub mod Subtypes
 pub mod Fields

@@ -16,8 +16,8 @@ use Rattle.legal_types.specs.Typed.{IsSmall}
 use Rattle.normal_legal.specs.units.Weights.{IsLight}
 use Rattle.legal_literals.specs.Colours.{coloured}
 
--- What is asked of a program: it is a legal original, well placed, with the names of every program, small enumerations and light bodies. All but the first is so of each text that is read within the limit of `run` (`read_normal`).
-pub record IsLegal (p : PProgram) : Type 0 where
+-- The program is a legal original that the rewriters take: it is well placed, with the names of every program, small enumerations and light bodies. All of this but that it is legal is so of each text that is read within the limit of `run` (`read_normal`).
+pub record IsLegalOriginal (p : PProgram) : Type 0 where
   pub legal : Legal p (types_in p) (numbers_of p) Original
   pub placed : IsWellPlaced p
   pub names : AreNames p.names
@@ -26,19 +26,19 @@ pub record IsLegal (p : PProgram) : Type 0 where
 
 -- Such a program is as the law of normal forms asks, with all inputs.
 abbrev pub LegalIsNormalisable : Type 0
-LegalIsNormalisable = (p : PProgram) → IsLegal p → (inputs : List (List ℤ)) → IsNormalisable p inputs
+LegalIsNormalisable = (p : PProgram) → IsLegalOriginal p → (inputs : List (List ℤ)) → IsNormalisable p inputs
 
 -- What is made from it is a normal form of it.
 abbrev pub LegalIsNormal : Type 0
-LegalIsNormal = (p : PProgram) → IsLegal p → (inputs : List (List ℤ)) → IsNormalForm (normal_rewrite p inputs)
+LegalIsNormal = (p : PProgram) → IsLegalOriginal p → (inputs : List (List ℤ)) → IsNormalForm (normal_rewrite p inputs)
 
 -- It shows the same as its normal form, whatever the inputs.
 abbrev pub LegalShowsSame : Type 0
 LegalShowsSame =
-    (p : PProgram) → IsLegal p → (inputs : List (List ℤ)) →
+    (p : PProgram) → IsLegalOriginal p → (inputs : List (List ℤ)) →
     ShowSame (opened (record { program = p; types = types_in p; inputs = inputs }) (numbers_of p))
     (opened (record { program = made_for p; types = types_in (made_for p); inputs = inputs }) (numbers_made p (types_in p) (numbers_of p)))
 
 -- Two programs are such ones: one in which a variable chooses a member of an array of tasks, and one with an array of tasks whose index is an enumeration.
 abbrev pub IsMet : Type 0
-IsMet = IsLegal choosing × IsLegal coloured
+IsMet = IsLegalOriginal choosing × IsLegalOriginal coloured

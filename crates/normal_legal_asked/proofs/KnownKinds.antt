@@ -19,7 +19,7 @@ use Rattle.legal_types.specs.Typed.{IsSmall}
 use Rattle.ada_tree.specs.Declaring.{first_scope, after_decls}
 use Rattle.legal_types.proofs.TypedValues.{IsTyped}
 use Rattle.legal_types.proofs.MainScopes.{StandsWhole, last-stands}
-use Rattle.normal_legal.proofs.variable_types.Forms.{predefined-mark}
+use Rattle.normal_legal.proofs.variable_types.SubtypeForms.{predefined-mark}
 use Rattle.normal_typed.specs.ScopeOf.{HasKnownKinds}
 
 integer-there : (o : Option Kind) → scalar_only o ≡ Some Integer → o ≡ Some Integer

@@ -48,7 +48,7 @@ use Rattle.legal_types.proofs.StaticWorth.{small-literals}
 use Rattle.legal_entries.proofs.Entries.{mapped-at, task-there}
 use Rattle.normal_legal.proofs.seen_tasks.Bodies.{PlaceSeen}
 use Rattle.normal_legal.proofs.seen_tasks.Tasks.{PartsKnown, IsNumberedTask, part-apart, IsFirst, member-there}
-use Rattle.normal_legal.proofs.statement_forms.Heads.{own-entry}
+use Rattle.normal_legal.proofs.statement_forms.OwnEntries.{own-entry}
 use Rattle.normal_legal.proofs.statement_forms.Callees.{CalleeKnown, callee-known, callee-first}
 use Rattle.normal_legal.proofs.statement_forms.CalleesAsked.{callee-asked}
 use Rattle.normal_legal.proofs.statement_forms.Text.{TextPremises, parts-known}

@@ -2,14 +2,14 @@
 use Rattle.ada_tree.specs.PlainProgram.{PProgram}
 use Rattle.ada_tree.specs.Refusals.{types_in}
 use Rattle.normal_form_law.specs.Normalisable.{numbers_of}
-use Rattle.normal_legal.specs.Laws.{IsLegal}
+use Rattle.normal_legal.specs.Laws.{IsLegalOriginal}
 use Rattle.normal_legal.proofs.Instance.{choosing-is-legal}
 use Rattle.normal_legal.proofs.Coloured.{coloured-is-legal}
 use Rattle.normal_legal_numbers.specs.Laws.{HasNumbers, IsMet}
 use Rattle.normal_legal_numbers.proofs.Numbered.{legal_has_numbers}
 
 -- each program that is as the law of legal programs asks
-pub of-legal : (p : PProgram) → IsLegal p → HasNumbers p
+pub of-legal : (p : PProgram) → IsLegalOriginal p → HasNumbers p
 of-legal p h = legal_has_numbers p (types_in p) (numbers_of p) h.legal h.placed h.names h.small
 
 pub is_met : IsMet

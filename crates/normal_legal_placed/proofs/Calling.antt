@@ -25,10 +25,10 @@ use Rattle.normal_runs_law.specs.Premises.{Rewrite, unit_at, unit_before}
 use Rattle.normal_form_law.specs.Normalisable.{numbers_of, setting_for, normal_rewrite, IsNormalisable}
 use Rattle.legal_sites.specs.Met.{IsMet}
 use Rattle.legal_sites.proofs.Meeting.{all_met}
-use Rattle.normal_legal.specs.Laws.{IsLegal}
+use Rattle.normal_legal.specs.Laws.{IsLegalOriginal}
 use Rattle.normal_legal.proofs.Joined.{legal_is_normalisable}
 
-module _ (p : PProgram) (h : IsLegal p) where
+module _ (p : PProgram) (h : IsLegalOriginal p) where
   abbrev g : Setting
   g = setting_for p
 

@@ -5,15 +5,15 @@ use Rattle.normal_form_law.specs.Choosing.{choosing}
 use Rattle.normal_form_law.specs.Normalisable.{setting_for, made_for}
 use Rattle.normal_placed.specs.Placeable.{HasRoom}
 use Rattle.legal_literals.specs.Colours.{coloured}
-use Rattle.normal_legal.specs.Laws.{IsLegal}
+use Rattle.normal_legal.specs.Laws.{IsLegalOriginal}
 
 -- Each legal program has room for its normal form: few variables, small indices of members, and actuals for formals alone (this project's rule).
 abbrev pub LegalHasRoom : Type 0
-LegalHasRoom = (p : PProgram) → IsLegal p → HasRoom (setting_for p)
+LegalHasRoom = (p : PProgram) → IsLegalOriginal p → HasRoom (setting_for p)
 
 -- So its normal form is well placed (this project's rule).
 abbrev pub NormalIsPlaced : Type 0
-NormalIsPlaced = (p : PProgram) → IsLegal p → IsWellPlaced (made_for p)
+NormalIsPlaced = (p : PProgram) → IsLegalOriginal p → IsWellPlaced (made_for p)
 
 -- So it is with two programs that are as the law of legal programs asks: one in which a variable chooses a member of an array of tasks, and one with an array of tasks whose index is an enumeration.
 abbrev pub IsMet : Type 0

@@ -14,7 +14,7 @@ use Rattle.scoped_names.specs.Meaning.{meaning_in}
 use Rattle.task_model.specs.Setting.{unit_named}
 use Rattle.normal_model.specs.Calls.{Slot, slots_of}
 use Rattle.normal_lookups.specs.declared.entry_forms.EntryForm.{EntryForm}
-use Rattle.normal_lookups.specs.inner.Forms.{form_in, form_of}
+use Rattle.normal_lookups.specs.inner.EntryForms.{form_in, form_of}
 use Rattle.normal_lookups.specs.inner.Kept.{entry_named, seen_entry, seen_form, seen_unit, units_named}
 use Rattle.normal_lookups.proofs.Finding.{meaning_made}
 use Rattle.syn_event.proofs.DeclLists.{listed_back}

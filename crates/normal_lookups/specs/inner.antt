@@ -1,2 +1,2 @@
-pub mod Forms
+pub mod EntryForms
 pub mod Kept

@@ -6,7 +6,7 @@ ghost use Rattle.ada_tree.specs.PlainDecl.{decls_of, plain_decl, plain_entry};
 ghost use Rattle.ada_tree.specs.PlainProgram.{PProgram};
 ghost use Rattle.syn_event.specs.DeclaredTasks.{decl_list, tasks_in, tasks_of};
 ghost use Rattle.normal_model.specs.Calls.{slots_of};
-ghost use Rattle.normal_lookups.specs.inner.Forms.{form_at, form_of, form_of_unit};
+ghost use Rattle.normal_lookups.specs.inner.EntryForms.{form_at, form_of, form_of_unit};
 ghost use Rattle.normal_lookups.specs.inner.Kept.{entry_named, seen_entry, seen_form, seen_unit, units_named};
 
 use ada_tree::{Decl, DeclKind, Drange, EntryDecl, Formal, Memory, NameId, ParMode, Word};

@@ -26,7 +26,7 @@ use Rattle.normal_model.specs.Names.{task_name}
 use Rattle.normal_model.specs.Ranges.{word_at}
 use Rattle.normal_model.specs.NormalTree.{tasks_beside}
 use Rattle.normal_form_law.specs.Normalisable.{numbers_of, setting_for, made_for}
-use Rattle.normal_legal.specs.Laws.{IsLegal}
+use Rattle.normal_legal.specs.Laws.{IsLegalOriginal}
 use Rattle.normal_asked.specs.Pieces.{IsAmong, first_among, later_among}
 use Rattle.normal_checked.specs.Around.{IsLiteralOf, is_false, is_true, is_enumerated, IsAround}
 use Rattle.normal_checked.proofs.MainScopes.{IsFrameOf, decls-frame, decls-plain, name-free, normal-types}
@@ -84,7 +84,7 @@ has-value T id h = by_tests (id.0 == false_name) (id.0 == true_name) (constant_n
     by_tests false false None (Some k) g = refl
     by_tests false false None None g = absurd (true≢false (sym g))
 
-module _ (p : PProgram) (h : IsLegal p) where
+module _ (p : PProgram) (h : IsLegalOriginal p) where
   abbrev g : Setting
   g = setting_for p
 

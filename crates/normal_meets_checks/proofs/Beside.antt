@@ -27,7 +27,7 @@ use Rattle.normal_legal.proofs.seen_tasks.Scopes.{is_one_of, meant-out, meant-in
 use Rattle.common_lemmas.proofs.Numbers.{equal_self}
 use Rattle.common_lemmas.proofs.Options.{some_same}
 use Rattle.normal_checked.proofs.MainScopes.{decls-frame}
-use Rattle.normal_meets_checks.proofs.Words.{one-of-all, unused-out, declared-used, object-out, object-type, object-value}
+use Rattle.normal_meets_checks.proofs.UsedNames.{one-of-all, unused-out, declared-used, object-out, object-type, object-value}
 use Rattle.normal_units.proofs.Pairs.{used-decl}
 
 -- ---- objects that are shared

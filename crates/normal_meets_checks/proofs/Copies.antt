@@ -27,7 +27,7 @@ use Rattle.rewritten_values.specs.Values.{old_names}
 use Rattle.legal_sites.specs.Met.{IsCheckMet}
 use Rattle.normal_legal_asked.proofs.Bodies.{BodiesAsked, main-asked, bodies-asked}
 use Rattle.normal_legal_asked.proofs.Beside.{callees-beside}
-use Rattle.normal_legal.specs.Laws.{IsLegal}
+use Rattle.normal_legal.specs.Laws.{IsLegalOriginal}
 use Rattle.asked_stmts.specs.Asked.{AskedBody}
 use Rattle.asked_stmts.specs.Kinds.{place_asks, check_asks, both}
 use Rattle.asked_stmts.proofs.Placed.{placed_asked}
@@ -59,7 +59,7 @@ every-list : (rules : Rules) (xs : List PDecl) → EveryDecls rules (decls_of xs
 every-list rules [] h = tt
 every-list rules (x ∷ xs) h = (h.0, every-list rules xs h.1)
 
-module _ (p : PProgram) (h : IsLegal p) where
+module _ (p : PProgram) (h : IsLegalOriginal p) where
   abbrev g : Setting
   g = setting_for p
 

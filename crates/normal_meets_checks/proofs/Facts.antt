@@ -43,7 +43,7 @@ use Rattle.legal_types.proofs.StaticWorth.{named-alike, keeps-agrees}
 use Rattle.legal_types.proofs.TypedValues.{anybody}
 use Rattle.legal_types.proofs.LaterScopes.{valued-means}
 use Rattle.normal_legal.specs.variable_types.Ready.{IsReady}
-use Rattle.normal_legal.proofs.variable_types.Forms.{predefined-own, meant-own}
+use Rattle.normal_legal.proofs.variable_types.SubtypeForms.{predefined-own, meant-own}
 use Rattle.normal_legal.proofs.units.Own.{program-own}
 use Rattle.normal_legal.proofs.units.Apart.{all-apart, all-addressed}
 use Rattle.normal_legal.proofs.units.ArrayConstants.{arrays-free}
@@ -55,7 +55,7 @@ use Rattle.normal_legal.proofs.seen_tasks.Units.{objects-apart}
 use Rattle.normal_legal.proofs.seen_tasks.Bodies.{first-seen}
 use Rattle.normal_legal.proofs.seen_tasks.Tasks.{PartsKnown, numbered-tasks-apart}
 use Rattle.normal_legal.proofs.body_forms.Fields.{legal-ready}
-use Rattle.normal_legal.specs.Laws.{IsLegal}
+use Rattle.normal_legal.specs.Laws.{IsLegalOriginal}
 use Rattle.normal_asked.specs.Pieces.{IsAmong}
 use Rattle.normal_checked.specs.Around.{own_rules}
 use Rattle.normal_checked.proofs.Owned.{own-together}
@@ -66,7 +66,7 @@ use Rattle.normal_legal_placed.proofs.Placed.{normal_is_placed}
 use Rattle.normal_meets_checks.proofs.Bodies.{IsKnown, BodyPlace, walk, first-beside}
 use Rattle.normal_placed.proofs.Made.{among}
 
-module _ (p : PProgram) (h : IsLegal p) where
+module _ (p : PProgram) (h : IsLegalOriginal p) where
   abbrev pub T : TypeTable
   T = types_in p
 

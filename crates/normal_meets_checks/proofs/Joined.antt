@@ -20,7 +20,7 @@ use Rattle.rewritten_values.specs.Values.{old_names}
 use Rattle.normal_has_numbers.proofs.Listed.{IsPlain, bodies-all, first-plain, normal-list}
 use Rattle.normal_has_numbers.proofs.Listed as list
 use Rattle.normal_has_numbers.proofs.Numbered.{normal-single}
-use Rattle.normal_legal.specs.Laws.{IsLegal}
+use Rattle.normal_legal.specs.Laws.{IsLegalOriginal}
 use Rattle.normal_checked.specs.Around.{own_rules}
 use Rattle.normal_checked.proofs.Joined.{meets-checks}
 use Rattle.normal_checked.proofs.MainScopes.{IsFrameOf, decls-frame}
@@ -56,7 +56,7 @@ first-all P (decl_then (DException ws s) rest) kinds h = (h.0, first-all P rest 
 first-all P (decl_then (DIntIo w s) rest) kinds h = (h.0, first-all P rest kinds h.1)
 first-all P (decl_then (DPragma e s) rest) kinds h = (h.0, first-all P rest kinds h.1)
 
-module _ (p : PProgram) (h : IsLegal p) where
+module _ (p : PProgram) (h : IsLegalOriginal p) where
   abbrev g : Setting
   g = setting_for p
 

@@ -21,7 +21,7 @@ use Rattle.normal_types.proofs.Variables.{unit-all}
 use Rattle.normal_has_numbers.proofs.Listed.{IsOneTask, IsOneBody, vars, tasks, bodies, tasks-all, bodies-all}
 use Rattle.common_lemmas.proofs.Lists.{all_joined, all_weaker}
 use Rattle.common_lemmas.proofs.Numbers.{equal_is}
-use Rattle.normal_meets_checks.proofs.Words.{meant-kept}
+use Rattle.normal_meets_checks.proofs.UsedNames.{meant-kept}
 use Rattle.normal_meets_checks.proofs.Beside.{shape-out}
 
 pub after-front : (xs ys : PDecls) (d : CheckScope) → check.after_decls d (decls_front xs ys) ≡ check.after_decls (check.after_decls d xs) ys

@@ -2,7 +2,7 @@ pub mod Declared
 pub mod Sizes
 pub mod Lists
 pub mod Tasks
-pub mod Words
+pub mod UsedNames
 pub mod Beside
 pub mod FreeNames
 pub mod Bodies

@@ -19,7 +19,7 @@ use Rattle.normal_form_law.specs.Normalisable.{numbers_of, setting_for}
 use Rattle.legal_types.specs.Typed.{HasLimits}
 use Rattle.normal_legal.proofs.variable_types.Numbers.{range-is}
 use Rattle.normal_legal.proofs.variable_types.Subtypes.{own_rule, entry-known, array-own}
-use Rattle.normal_legal.specs.Laws.{IsLegal}
+use Rattle.normal_legal.specs.Laws.{IsLegalOriginal}
 use Rattle.normal_placed.proofs.Added.{AreSubtypes}
 use Rattle.common_lemmas.proofs.Options.{not_missing}
 use Rattle.common_lemmas.proofs.Truth.{and_both}
@@ -79,7 +79,7 @@ module _ (T : TypeTable) where
 
 -- ---- a legal program
 
-module _ (p : PProgram) (h : IsLegal p) where
+module _ (p : PProgram) (h : IsLegalOriginal p) where
   family-limits : (e : ℕ) → IfSome (family_range (setting_for p) e) (HasLimits (facts.T p h))
   family-limits e = go (entry_at (numbers_of p) e) refl
     where

@@ -5,11 +5,11 @@ use Rattle.syn_event.specs.CheckRefusals.{MeetsCheckRules}
 use Rattle.normal_form_law.specs.Choosing.{choosing}
 use Rattle.normal_form_law.specs.Normalisable.{made_for}
 use Rattle.legal_literals.specs.Colours.{coloured}
-use Rattle.normal_legal.specs.Laws.{IsLegal}
+use Rattle.normal_legal.specs.Laws.{IsLegalOriginal}
 
 -- The rules 13 to 23 refuse nothing in the normal form of a legal program, as a text of any kind (this project's rule).
 abbrev pub NormalMeetsChecks : Type 0
-NormalMeetsChecks = (p : PProgram) → IsLegal p → MeetsCheckRules (made_for p) Any
+NormalMeetsChecks = (p : PProgram) → IsLegalOriginal p → MeetsCheckRules (made_for p) Any
 
 -- So it is with two programs that are as the law of legal programs asks: one in which a variable chooses a member of an array of tasks, and one with an array of tasks whose index is an enumeration.
 abbrev pub IsMet : Type 0

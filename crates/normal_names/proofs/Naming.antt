@@ -7,7 +7,7 @@ use Rattle.ada_tree.specs.NameList.{interned}
 use Rattle.syn_event.specs.declared.numbering.TaskInfo.{TaskInfo}
 use Rattle.syn_event.specs.DeclaredTasks.{text_of}
 use Rattle.normal_model.specs.Names.{name_of_member, member_texts, texts_of_member}
-use Rattle.normal_names.specs.inner.Members.{IsNamed, member_behind, name_behind}
+use Rattle.normal_names.specs.inner.MemberNames.{IsNamed, member_behind, name_behind}
 use Rattle.normal_names.proofs.Places.{place_later}
 
 -- the names once all members are named

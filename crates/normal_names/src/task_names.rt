@@ -4,7 +4,7 @@ ghost use Rattle.std.specs.Prelude.{◌≡◌, IfOk, OnOk, fold, map};
 ghost use Rattle.ada_tree.specs.NameList.{interned};
 ghost use Rattle.syn_event.specs.DeclaredTasks.{text_of};
 ghost use Rattle.normal_model.specs.Names.{member_texts, texts_of_member};
-ghost use Rattle.normal_names.specs.inner.Members.{IsNamed, name_behind};
+ghost use Rattle.normal_names.specs.inner.MemberNames.{IsNamed, name_behind};
 
 use crate::texts::member_text;
 use ada_tree::{Memory, NameId, Names};

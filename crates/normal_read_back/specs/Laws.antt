@@ -5,7 +5,7 @@ use Rattle.ada_tree.specs.Same.{Same}
 use Rattle.ada_parser.specs.Reads.{Reads}
 use Rattle.ada_printer.specs.ProgramText.{program_text}
 use Rattle.normal_form_law.specs.Normalisable.{made_for}
-use Rattle.normal_legal.specs.Laws.{IsLegal}
+use Rattle.normal_legal.specs.Laws.{IsLegalOriginal}
 use Rattle.read_normal.specs.Example.{calling_text, calling}
 use Rattle.read_normal.specs.Laws.{IsOriginalText}
 
@@ -15,7 +15,7 @@ IsReadAsSame p = (q : PProgram) × Reads (program_text p) q × Same p q
 
 -- So is the normal form of each legal program.
 abbrev pub NormalIsReadBack : Type 0
-NormalIsReadBack = (p : PProgram) → IsLegal p → IsReadAsSame (made_for p)
+NormalIsReadBack = (p : PProgram) → IsLegalOriginal p → IsReadAsSame (made_for p)
 
 -- Where the program was read from a text within the limit, nothing is asked but that it meets the static rules of an original.
 abbrev pub TextIsReadBack : Type 0

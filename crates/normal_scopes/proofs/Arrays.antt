@@ -23,10 +23,10 @@ use Rattle.rewritten_types.proofs.Lookups.{find-all}
 use Rattle.legal_literals.specs.Literals.{HasIndexLiterals}
 use Rattle.legal_literals.proofs.Indices.{indices-are-literals}
 use Rattle.legal_entries.proofs.Lists.{found-place}
-use Rattle.normal_legal.specs.Laws.{IsLegal}
+use Rattle.normal_legal.specs.Laws.{IsLegalOriginal}
 use Rattle.normal_legal.proofs.seen_tasks.Parts.{is_called, IsTaskArray}
 use Rattle.normal_legal.proofs.seen_tasks.Tasks.{mapped-place}
-use Rattle.normal_legal.proofs.statement_forms.Members.{member-is}
+use Rattle.normal_legal.proofs.statement_forms.MemberNumbers.{member-is}
 use Rattle.normal_legal.proofs.statement_forms.Alone.{numbered-tasks-alone}
 use Rattle.normal_asked.specs.Pieces.{IsAmong, first_among, later_among}
 use Rattle.normal_typed.specs.ScopeOf.{IsRange, IsMemberIn, IsOtherMember, AreOtherMembers, IsArrayOf}
@@ -68,7 +68,7 @@ others-of id q named (x ∷ xs) alone = by_test (q x) refl (others-of id q named
     by_test true e r = (filter-each (IsOtherMember x) q xs (λ y i f m. let k = among-place y xs i in no-place k.0 (alone zero (suc k.0) x y refl k.1 (named x e ∙ sym (named y f)) m)), r)
     by_test false e r = r
 
-module _ (p : PProgram) (legal : IsLegal p) where
+module _ (p : PProgram) (legal : IsLegalOriginal p) where
   abbrev T : TypeTable
   T = types_in p
 

@@ -16,7 +16,7 @@ use Rattle.rewritten_types.specs.Agreement.{scalar_only, Grows}
 use Rattle.rewritten_types.proofs.Lookups.{find-grown}
 use Rattle.rewritten_types.proofs.Keeping.{grows-on}
 use Rattle.legal_types.proofs.MainScopes.{grows-decls}
-use Rattle.normal_legal.specs.Laws.{IsLegal}
+use Rattle.normal_legal.specs.Laws.{IsLegalOriginal}
 use Rattle.normal_asked.specs.Pieces.{IsAmong}
 use Rattle.normal_typed.specs.ScopeOf.{IsLiteralOf, MeansLiteral, MeansInteger}
 use Rattle.alike_scopes.specs.Alike.{SameTypes}
@@ -28,7 +28,7 @@ use Rattle.normal_scopes.proofs.Fixed.{predefined-there, literal-means, literal-
 use Rattle.normal_scopes.proofs.Outer.{IsOuter, outer-task, outer-predefined, outer-valued}
 use Rattle.normal_placed.proofs.Made.{among}
 
-module _ (p : PProgram) (legal : IsLegal p) where
+module _ (p : PProgram) (legal : IsLegalOriginal p) where
   -- A scope of the normal form in which types and values are those of the program, and in which no name that is outer means another thing than behind the tasks.
   pub record IsOuterScope (d : Scope) : Type 0 where
     pub types : SameTypes (old p legal) (types_in p) d.types

@@ -39,7 +39,7 @@ use Rattle.legal_types.specs.Typed.{IsFirstTask}
 use Rattle.legal_types.proofs.TaskTypes.{part-units, tasks-have-types}
 use Rattle.legal_entries.proofs.Lists.{found-place}
 use Rattle.legal_entries.proofs.Entries.{IsTaskOf, HasEntry, entry-there}
-use Rattle.normal_legal.specs.Laws.{IsLegal}
+use Rattle.normal_legal.specs.Laws.{IsLegalOriginal}
 use Rattle.normal_legal.proofs.seen_tasks.Scopes.{is_one_of, meaning-out, meaning-in, IsNoTask, inner-object}
 use Rattle.normal_legal.proofs.seen_tasks.Parts.{is_called, IsUnit, IsExtent, Stands, IsTaskArray, Means, MainSeen}
 use Rattle.normal_legal.proofs.seen_tasks.Bodies.{first-seen, decls-step}
@@ -154,7 +154,7 @@ some-size f l h = by_form ((l -ℤ f) +ℤ pos 1) refl
     by_form (pos zero) e = let y : ⊥ = grind (arith, ints) in absurd y
     by_form (negsuc n) e = let y : ⊥ = grind (arith, ints) in absurd y
 
-module _ (p : PProgram) (legal : IsLegal p) where
+module _ (p : PProgram) (legal : IsLegalOriginal p) where
   abbrev T : TypeTable
   T = types_in p
 

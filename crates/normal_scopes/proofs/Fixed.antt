@@ -27,7 +27,7 @@ use Rattle.legal_types.proofs.GoodDeclarations.{literal-read}
 use Rattle.legal_types.proofs.MainScopes.{StandsWhole, main-stands, last-stands}
 use Rattle.legal_literals.proofs.Named.{AreFirst, first-decls, first-predefined}
 use Rattle.normal_types.proofs.Variables.{unit-all}
-use Rattle.normal_legal.specs.Laws.{IsLegal}
+use Rattle.normal_legal.specs.Laws.{IsLegalOriginal}
 use Rattle.alike_scopes.specs.Alike.{IsNoValue, no_thing, a_task_type, a_task, a_task_object, a_task_array, the_procedure, a_unit}
 use Rattle.normal_scopes.specs.Plain.{plain_name}
 use Rattle.normal_scopes.proofs.Later.{decls-kept}
@@ -83,7 +83,7 @@ seen-apart : (o : Option Thing) (x : Thing) (es : List EntryPart) → o ≡ Some
 seen-apart o x es e v (inl s) = no-entries es x (subst (HasEntries es) (some_same (sym s.1 ∙ e)) s.2) v
 seen-apart o x es e v (inr n) = not_missing x (sym n ∙ e)
 
-module _ (p : PProgram) (legal : IsLegal p) where
+module _ (p : PProgram) (legal : IsLegalOriginal p) where
   -- ---- variables of main
 
   pub apart-variable : (id : NameId) → plain_name p id.0 ≡ true → (k : ℕ) → ((variable_name (g p legal) k).0 == id.0) ≡ false

@@ -29,7 +29,7 @@ use Rattle.legal_types.proofs.TaskTypes.{AllRanges, all-ranges, tasks-have-types
 use Rattle.syn_event.proofs.Weaker.{placed_tokens}
 use Rattle.normal_types.proofs.Normal.{front-after}
 use Rattle.normal_form_law.specs.Normalisable.{setting_for}
-use Rattle.normal_legal.specs.Laws.{IsLegal}
+use Rattle.normal_legal.specs.Laws.{IsLegalOriginal}
 use Rattle.normal_legal.proofs.units.Apart.{all-addressed}
 use Rattle.normal_legal.proofs.units.DeclaredNames.{tasks-good}
 use Rattle.normal_legal.proofs.units.TasksApart.{IsNamed, all-named, members-there, units-told}
@@ -129,7 +129,7 @@ seen-with S s id u h = ⊎_elim (λ x. subst (IsSeenWith (entries_in S u)) (sym 
 
 -- ---- a legal program
 
-module _ (p : PProgram) (legal : IsLegal p) where
+module _ (p : PProgram) (legal : IsLegalOriginal p) where
   abbrev pub g : Setting
   g = setting_for p
 

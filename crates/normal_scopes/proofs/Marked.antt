@@ -23,7 +23,7 @@ use Rattle.rewritten_types.proofs.Unmarked.{other-mark, add-marks, no-type, obje
 use Rattle.rewritten_types.proofs.Fresh.{InHere, first-here, here-decl}
 use Rattle.legal_literals.proofs.Apart.{IsNoneOf, names-apart}
 use Rattle.legal_types.proofs.MainScopes.{AllStand, last-stands}
-use Rattle.normal_legal.specs.Laws.{IsLegal}
+use Rattle.normal_legal.specs.Laws.{IsLegalOriginal}
 use Rattle.normal_legal.proofs.seen_tasks.Scopes.{is_one_of, meaning-out}
 use Rattle.normal_scopes.proofs.Later.{decl-kept}
 use Rattle.normal_scopes.proofs.Main.{last, once, stand}
@@ -133,7 +133,7 @@ first-meant name u id m e = by_number id.0 e
 
 -- ---- a legal program
 
-module _ (p : PProgram) (legal : IsLegal p) where
+module _ (p : PProgram) (legal : IsLegalOriginal p) where
   -- a type or subtype of that mark
   pub record IsTypeOf (id : NameId) (m : Mark) : Type 0 where
     pub place : ℕ

@@ -40,7 +40,7 @@ use Rattle.legal_types.proofs.MainScopes.{grows-decls}
 use Rattle.legal_types.proofs.InnerScopes.{IsApartLocal, AreApart}
 use Rattle.normal_types.proofs.Normal.{front-after}
 use Rattle.normal_types.proofs.Variables.{unit-all, unit-new, are-added}
-use Rattle.normal_legal.specs.Laws.{IsLegal}
+use Rattle.normal_legal.specs.Laws.{IsLegalOriginal}
 use Rattle.normal_asked.specs.Pieces.{IsAmong, first_among, later_among}
 use Rattle.normal_typed.specs.ScopeOf.{IsTaskThere, IsEntryOf, IsArrayOf, IsLiteralOf, MeansLiteral, MeansInteger, IsInner}
 use Rattle.alike_scopes.specs.Alike.{Alike}
@@ -61,7 +61,7 @@ use Rattle.normal_scopes.proofs.Main.{g, old, once, decls-frame, last, first, ev
 use Rattle.normal_scopes.proofs.Begun.{IsOuterScope, new-member, task-in, falses-in, trues-in, error-in, literals-in, integer-in}
 use Rattle.tree_lemmas.proofs.Declared.{objects_own}
 
-module _ (p : PProgram) (legal : IsLegal p) where
+module _ (p : PProgram) (legal : IsLegalOriginal p) where
   abbrev G : Setting
   G = g p legal
 

@@ -20,7 +20,7 @@ use Rattle.ada_value.specs.Evaluating.{range_of}
 use Rattle.normal_model.specs.Ranges.{marked}
 use Rattle.rewritten_types.specs.Agreement.{IsScalar}
 use Rattle.legal_types.specs.Typed.{IsScalarName}
-use Rattle.normal_legal.specs.Laws.{IsLegal}
+use Rattle.normal_legal.specs.Laws.{IsLegalOriginal}
 use Rattle.alike_scopes.specs.Alike.{SameNames}
 use Rattle.alike_scopes.specs.Old.{IsOldSubind}
 use Rattle.alike_scopes.proofs.Marks.{values-marking}
@@ -28,7 +28,7 @@ use Rattle.alike_scopes.proofs.Objects.{SameMade, made_both, made_neither, made-
 use Rattle.normal_scopes.proofs.Main.{last}
 use Rattle.normal_scopes.proofs.Marked.{IsTypeOf, named-means}
 
-module _ (p : PProgram) (legal : IsLegal p) (old : ℕ → Bool) where
+module _ (p : PProgram) (legal : IsLegalOriginal p) (old : ℕ → Bool) where
   abbrev T : TypeTable
   T = types_in p
 

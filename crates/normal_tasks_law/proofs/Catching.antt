@@ -15,7 +15,7 @@ use Rattle.translation_law.specs.Translations.{Translation}
 use Rattle.translation_law.specs.OldTexts.{OldStmt, old_null, old_assign, old_delay, old_exit, old_raise, old_abort, old_call, old_accept, old_wait, old_conditional, old_timed, old_put, old_put_line, old_new_line, old_get, old_if, old_case, old_block, old_loop, old_no_callee, old_callee}
 use Rattle.translation_law.specs.Images.{IsLocal, local_null, local_assign, local_delay, local_exit, local_raise, local_no_abort, local_put, local_put_line, local_new_line, local_get, local_if, local_case, local_block, local_loop}
 use Rattle.translation_law.specs.Controls.{task_in, Under, on_floor, in_block, in_handler, in_endless, in_while, in_count, inside, behind, Alike, alike, at_statement, at_turn, are_inside, are_around}
-use Rattle.translation_law.specs.Floors.{IsTranslation}
+use Rattle.translation_law.specs.Floors.{AreExits, IsTranslation}
 use Rattle.translation_law.proofs.Locals.{step-alike}
 use Rattle.normal_law.specs.Suited.{AreMade, Rewritten, rewritten_unit, asked_of}
 use Rattle.normal_law.specs.NormalLists.{Begin, behind_stmt, Normal, normal_none, normal_then, normal_lists}
@@ -25,9 +25,9 @@ use Rattle.normal_law.specs.Preludes.{reaches_here, Added}
 use Rattle.normal_law.specs.Declared.{AreDeclared}
 use Rattle.normal_law.specs.inner.Met.{Meets, in_step, at_finish, at_end, Comes}
 use Rattle.normal_law.proofs.Rows.{part-begins, walked, normal-images}
-use Rattle.normal_law.proofs.Floors.{normal-translates, are-there}
+use Rattle.normal_law.proofs.Floors.{normal-translates, normal-exits, are-there}
 use Rattle.normal_law.proofs.Declared.{begun-subtypes}
-use Rattle.normal_calls_law.proofs.Forms.{conditional, timed}
+use Rattle.normal_calls_law.proofs.CallForms.{conditional, timed}
 use Rattle.normal_calls_law.proofs.Standing.{plain-comes}
 use Rattle.normal_calls_law.proofs.Selecting.{select-comes}
 use Rattle.normal_waits_law.proofs.Waiting.{accept-comes, wait-comes}
@@ -39,6 +39,9 @@ module _ (w : Rewritten) (made : AreMade w.programs) (added : Added w.programs w
 
   abbrev laws : IsTranslation x
   laws = normal-translates (normal_lists w) (normal-images w) made.types added
+
+  abbrev exits : AreExits x
+  exits = normal-exits (normal_lists w) (normal-images w) made.types added
 
   abbrev left : ℕ → List ℤ → List ℕ → PStmts → Around → List PFrame → Variables → Task
   left n i out r p o V = task_in w.programs.original n i out (control r p o V)
@@ -67,13 +70,13 @@ module _ (w : Rewritten) (made : AreMade w.programs) (added : Added w.programs w
       in_step refl (are_around n i out no_stmt no_stmt (in_handler e r r' im u)) (record { steps = refl; steps_too = refl; after = alike n i out _ _ (inside no_stmt no_stmt normal_none (in_handler e r r' im u)) })
   frame-end n i out (in_endless name l l' r r' h im u) =
       let v : Under x _ _ _ _ _ _ = in_endless name l l' r r' h im u in
-      in_step refl (are_around n i out no_stmt no_stmt v) (step-alike x laws _ _ (are_inside n i out no_stmt no_stmt normal_none v) (at_turn _ _ _))
+      in_step refl (are_around n i out no_stmt no_stmt v) (step-alike x laws exits _ _ (are_inside n i out no_stmt no_stmt normal_none v) (at_turn _ _ _))
   frame-end n i out (in_while name e l l' r r' old h im u) =
       let v : Under x _ _ _ _ _ _ = in_while name e l l' r r' old h im u in
-      in_step refl (are_around n i out no_stmt no_stmt v) (step-alike x laws _ _ (are_inside n i out no_stmt no_stmt normal_none v) (at_turn _ _ _))
+      in_step refl (are_around n i out no_stmt no_stmt v) (step-alike x laws exits _ _ (are_inside n i out no_stmt no_stmt normal_none v) (at_turn _ _ _))
   frame-end n i out (in_count name backwards last l l' r r' b old known h im u) =
       let v : Under x _ _ _ _ _ _ = in_count name backwards last l l' r r' b old known h im u in
-      in_step refl (are_around n i out no_stmt no_stmt v) (step-alike x laws _ _ (are_inside n i out no_stmt no_stmt normal_none v) (at_turn _ _ _))
+      in_step refl (are_around n i out no_stmt no_stmt v) (step-alike x laws exits _ _ (are_inside n i out no_stmt no_stmt normal_none v) (at_turn _ _ _))
 
   -- ---- statements
 
@@ -96,7 +99,7 @@ module _ (w : Rewritten) (made : AreMade w.programs) (added : Added w.programs w
   local-comes : {s : PStmt} → IsLocal s → (n : ℕ) (i : List ℤ) (out : List ℕ) (r r' : PStmts) {p p' : Around} {o o' : List PFrame} {V W : Variables} → Normal w (stmt_then s r) r' → Under x p o V p' o' W →
       Comes x (left n i out (stmt_then s r) p o V) (right n i out r' p' o' W)
   local-comes {s} loc n i out r r' {p} {p'} {o} {o'} {V} {W} im u =
-      at-once (in_step (local-stands loc n i out r p o V) (are_around n i out (stmt_then s r) r' u) (step-alike x laws _ _ (are_inside n i out (stmt_then s r) r' im u) (at_statement s r _ loc)))
+      at-once (in_step (local-stands loc n i out r p o V) (are_around n i out (stmt_then s r) r' u) (step-alike x laws exits _ _ (are_inside n i out (stmt_then s r) r' im u) (at_statement s r _ loc)))
 
   statement-comes : (n : ℕ) → n ≡ w.number → (i : List ℤ) (out : List ℕ) {s : PStmt} → OldStmt (asked_of w) s → (vars : List PDecl) → Begin (behind_stmt w s vars) w.vars → (r r' : PStmts) → Normal w r r' →
       {p p' : Around} {o o' : List PFrame} {V W : Variables} → Under x p o V p' o' W →

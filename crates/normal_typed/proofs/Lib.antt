@@ -9,7 +9,7 @@ pub mod Callees
 pub mod Calls
 pub mod Stays
 pub mod Scopes
-pub mod Heads
+pub mod IndexedAccepts
 pub mod Actuals
 pub mod Typed
 pub mod Declared

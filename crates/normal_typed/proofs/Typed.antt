@@ -56,7 +56,7 @@ use Rattle.normal_typed.proofs.Callees.{HasIndexOf, target-met, callee-index}
 use Rattle.normal_typed.proofs.Calls.{IsIndexOf, IsActualOf, lists-asked, actual-asked, call-met}
 use Rattle.normal_typed.proofs.Stays.{old-expr, old-choices, old-formals, no-array, met-but, stays-but, expr-stays, kind-stays, condition-stays, formals-stay, loop-stays, choices-stay, selector-stays, handler-stays, head-stays, plain-stays}
 use Rattle.normal_typed.proofs.Scopes.{accept-scope, loop-scope, accept-own, loop-own}
-use Rattle.normal_typed.proofs.Heads.{family-head, head-moved}
+use Rattle.normal_typed.proofs.IndexedAccepts.{family-head, head-moved}
 use Rattle.normal_typed.proofs.Actuals.{actual_target, both-read, actual-written, target-name, other-turned}
 use Rattle.normal_placed.proofs.Made.{among}
 

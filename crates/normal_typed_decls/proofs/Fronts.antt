@@ -30,7 +30,7 @@ use Rattle.legal_types.proofs.TaskTypes.{DeclRanges, AllRanges, all-ranges}
 use Rattle.normal_model.specs.NormalTree.{mark_of, unless_left, first_decls}
 use Rattle.normal_once.proofs.TaskTypes.{first-types, no-task}
 use Rattle.normal_checked.specs.Around.{own_rules}
-use Rattle.normal_legal.specs.Laws.{IsLegal}
+use Rattle.normal_legal.specs.Laws.{IsLegalOriginal}
 use Rattle.alike_scopes.specs.Alike.{Alike}
 use Rattle.alike_scopes.specs.Laws.{IsMetBut}
 use Rattle.normal_typed.proofs.Places.{met-declares}
@@ -215,7 +215,7 @@ module _ (old : ℕ → Bool) (S : Scope) (T : TypeTable) (all : List NamedTasks
       (further S T all (DPragma e sp) kinds done rest refl h.listed) (λ b. walk rest kinds (done ++ []) (after_decl s (DPragma e sp)) (after_decl r (DPragma e sp)) last b)
 
 -- The first declarations of the normal form of a legal program meet the rules.
-pub firsts-met : (p : PProgram) → IsLegal p → EveryDecls (own_rules (plain_name p)) p.decls → AllMetBut (decls_sites (first_scope p.name) (first_decls [] p.decls))
+pub firsts-met : (p : PProgram) → IsLegalOriginal p → EveryDecls (own_rules (plain_name p)) p.decls → AllMetBut (decls_sites (first_scope p.name) (first_decls [] p.decls))
 firsts-met p legal olds =
     walk (plain_name p) (behind p.name p.decls) (types_in p) (task_names_of p) p.decls [] [] (first_scope p.name) (first_scope p.name) legal.placed.1 record {
       listed = refl;

@@ -17,7 +17,7 @@ use Rattle.rewritten_values.specs.Values.{old_names}
 use Rattle.normal_form_law.specs.Normalisable.{numbers_of, made_for}
 use Rattle.normal_checked.specs.Around.{own_rules}
 use Rattle.normal_checked.proofs.Owned.{own-together}
-use Rattle.normal_legal.specs.Laws.{IsLegal}
+use Rattle.normal_legal.specs.Laws.{IsLegalOriginal}
 use Rattle.alike_scopes.specs.Laws.{IsMetBut}
 use Rattle.normal_typed.specs.ScopeOf.{IsScopeOf}
 use Rattle.normal_typed.proofs.Places.{met-declares}
@@ -48,7 +48,7 @@ lists-met (d ∷ xs) ys s h k =
 
 -- ---- a legal program
 
-module _ (p : PProgram) (legal : IsLegal p) where
+module _ (p : PProgram) (legal : IsLegalOriginal p) where
   abbrev G : Setting
   G = g p legal
 

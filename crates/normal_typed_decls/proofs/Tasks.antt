@@ -26,7 +26,7 @@ use Rattle.legal_types.proofs.ExprKinds.{IsScalarMark}
 use Rattle.legal_types.proofs.StaticParts.{IsStaticIn, HasRange}
 use Rattle.normal_legal.proofs.variable_types.Subtypes.{tasks-every}
 use Rattle.normal_checked.specs.Around.{own_rules}
-use Rattle.normal_legal.specs.Laws.{IsLegal}
+use Rattle.normal_legal.specs.Laws.{IsLegalOriginal}
 use Rattle.alike_scopes.specs.Alike.{Alike}
 use Rattle.alike_scopes.specs.Laws.{IsMetBut}
 use Rattle.normal_typed.proofs.Variables.{AllMetBut, words-met}
@@ -93,7 +93,7 @@ pub all-both : {A : Type 0} (P Q : A → Type 0) (xs : List A) → AllByRecursio
 all-both P Q [] h k = tt
 all-both P Q (x ∷ xs) h k = ((h.0, k.0), all-both P Q xs h.1 k.1)
 
-module _ (p : PProgram) (legal : IsLegal p) (olds : EveryDecls (own_rules (plain_name p)) p.decls) where
+module _ (p : PProgram) (legal : IsLegalOriginal p) (olds : EveryDecls (own_rules (plain_name p)) p.decls) where
   abbrev G : Setting
   G = g p legal
 

@@ -49,7 +49,7 @@ use Rattle.legal_types.proofs.TaskTypes.{IsRangeHere, limits-here, part-units, t
 use Rattle.normal_legal.proofs.variable_types.Numbers.{EntryRule, IsRuled, IsEntryOf, entry-of, formals-are, range-is}
 use Rattle.normal_legal.proofs.variable_types.Subtypes.{tasks-every}
 use Rattle.normal_checked.specs.Around.{own_rules}
-use Rattle.normal_legal.specs.Laws.{IsLegal}
+use Rattle.normal_legal.specs.Laws.{IsLegalOriginal}
 use Rattle.alike_scopes.specs.Alike.{Alike}
 use Rattle.alike_scopes.specs.Old.{IsOldSubind, allows_task}
 use Rattle.alike_scopes.specs.Laws.{IsMetBut}
@@ -117,7 +117,7 @@ module _ (own : ℕ → Bool) (c t : Scope) (alike : Alike own c t) (free : None
 
 -- ---- a legal program
 
-module _ (p : PProgram) (legal : IsLegal p) (olds : EveryDecls (own_rules (plain_name p)) p.decls) where
+module _ (p : PProgram) (legal : IsLegalOriginal p) (olds : EveryDecls (own_rules (plain_name p)) p.decls) where
   abbrev G : Setting
   G = g p legal
 

@@ -33,7 +33,7 @@ use Rattle.normal_form_law.specs.Normalisable.{numbers_of, made_for}
 use Rattle.normal_placed.proofs.Added.{AreVariablesFrom}
 use Rattle.normal_placed.proofs.Whole.{each-of}
 use Rattle.normal_checked.specs.Around.{own_rules}
-use Rattle.normal_legal.specs.Laws.{IsLegal}
+use Rattle.normal_legal.specs.Laws.{IsLegalOriginal}
 use Rattle.normal_legal_asked.proofs.KnownKinds.{known-kinds}
 use Rattle.normal_legal_asked.proofs.Bodies.{BodiesAsked, bodies-asked}
 use Rattle.normal_asked.specs.Pieces.{IsAmong, first_among, later_among}
@@ -61,7 +61,7 @@ use Rattle.normal_placed.proofs.Made.{among}
 use Rattle.tree_lemmas.proofs.Declared.{objects_own}
 use Rattle.normal_typed.proofs.Places.{gives-met}
 
-module _ (p : PProgram) (legal : IsLegal p) where
+module _ (p : PProgram) (legal : IsLegalOriginal p) where
   abbrev T : TypeTable
   T = types_in p
 

@@ -40,7 +40,7 @@ use Rattle.legal_types.proofs.TypedValues.{anybody}
 use Rattle.legal_types.proofs.InnerScopes.{IsApartLocal}
 use Rattle.normal_types.proofs.Normal.{front-after}
 use Rattle.normal_types.proofs.Variables.{are-added, task-added, tasks-only, bodies-only}
-use Rattle.normal_legal.specs.Laws.{IsLegal}
+use Rattle.normal_legal.specs.Laws.{IsLegalOriginal}
 use Rattle.normal_legal_asked.proofs.Inner.{inner-names}
 use Rattle.normal_legal.specs.units.Weights.{body_weight, AreLight}
 use Rattle.normal_legal.proofs.units.Few.{body-few}
@@ -67,7 +67,7 @@ use Rattle.tree_lemmas.proofs.Declared.{decls_joined}
 flip : (a b : ℕ) → (b == a) ≡ false → (a == b) ≡ false
 flip a b e = unequal a b (λ q. true≢false (sym (equal_self a) ∙ ap (λ n. n == a) q ∙ e))
 
-module _ (p : PProgram) (legal : IsLegal p) where
+module _ (p : PProgram) (legal : IsLegalOriginal p) where
   abbrev T : TypeTable
   T = types_in p
 

@@ -33,7 +33,7 @@ use Rattle.legal_types.proofs.LaterScopes.{valued-means}
 use Rattle.legal_types.proofs.MainScopes.{StandsWhole, last-stands}
 use Rattle.normal_form_law.proofs.Names.{names-apart}
 use Rattle.normal_placed.proofs.Added.{AreVariablesFrom}
-use Rattle.normal_legal.specs.Laws.{IsLegal}
+use Rattle.normal_legal.specs.Laws.{IsLegalOriginal}
 use Rattle.normal_legal.proofs.seen_tasks.Scopes.{meaning-in}
 use Rattle.normal_asked.specs.Pieces.{IsVariable}
 use Rattle.normal_typed.specs.ScopeOf.{IsVariableOf}
@@ -75,7 +75,7 @@ mark-of U place l e = by_mark (mark_at U place) refl e
 same-subtype : (g : Setting) (s q : Span) (x y : PSubind) (k : ℕ) → variable_declared g s x k ≡ variable_declared g q y k → y ≡ x
 same-subtype g s q x y k e = cc
 
-module _ (p : PProgram) (legal : IsLegal p) where
+module _ (p : PProgram) (legal : IsLegalOriginal p) where
   abbrev T : TypeTable
   T = types_in p
 

@@ -23,7 +23,7 @@ use Rattle.normal_placed.proofs.Subtypes.{subtypes-placed}
 use Rattle.legal_types.proofs.StaticParts.{HasSubtype}
 use Rattle.legal_types.proofs.MainScopes.{StandsWhole, last-stands}
 use Rattle.legal_types.proofs.TaskTypes.{limits-here}
-use Rattle.normal_legal.specs.Laws.{IsLegal}
+use Rattle.normal_legal.specs.Laws.{IsLegalOriginal}
 use Rattle.normal_scopes.specs.Plain.{plain_name}
 use Rattle.normal_scopes.proofs.Main.{g, last, rules}
 use Rattle.normal_scopes.proofs.Subtypes.{HasMark, range-known}
@@ -55,7 +55,7 @@ module _ (G : Setting) (P Q R : PSubind → Type 0) (join : (x : PSubind) → P 
     formals = λ e. lists-both (slots_of (formals_of_info G (entry_at G.numbers e))) (slots-all P (formals_of_info G (entry_at G.numbers e)) (h.formals e)) (k.formals e);
   }
 
-module _ (p : PProgram) (legal : IsLegal p) where
+module _ (p : PProgram) (legal : IsLegalOriginal p) where
   abbrev T : TypeTable
   T = types_in p
 

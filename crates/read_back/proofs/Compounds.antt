@@ -18,7 +18,7 @@ use Rattle.ada_printer.specs.ExprText.{expr_text}
 use Rattle.ada_printer.specs.StmtText.{delay_text, call_text, head_text, choice_text, caught_text, label_text, scheme_text, stmt_form_text, stmts_text, else_text, others_text, accept_text, alt_kind_text, alt_text, alts_text, more_alts_text, arm_text, arms_text, more_arms_text, case_arm_text, case_arms_text, body_text, exception_text, handler_text, handlers_text}
 use Rattle.read_back.proofs.Classes.{Anything, Plain}
 use Rattle.read_back.proofs.Told.{Setting, names_of, source_of, Told, Blank, Line, Sign, Filled, told_as, told_same, told_any, told_then, told_indent, told_bits, told_last, told_closed, told_placed, filled_key, filled_then}
-use Rattle.read_back.proofs.Words.{IsOldName, new_word, told_word}
+use Rattle.read_back.proofs.NamesAndLiterals.{IsOldName, new_word, told_word}
 use Rattle.read_back.proofs.Phrases.{group, group3, group4, under_first, over_first, Found, read_call, read_choices, read_raised, read_label, read_again, read_scheme, read_delay, new_head, read_head, is_expression, is_operand}
 use Rattle.read_back.proofs.Productions.{ungroup, called, nothing_first, filled_behind}
 

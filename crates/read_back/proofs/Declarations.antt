@@ -19,7 +19,7 @@ use Rattle.ada_printer.specs.ExprText.{drange_text, array_text}
 use Rattle.ada_printer.specs.DeclText.{shape_text, init_text, value_text, unit_text, decl_form_text, decls_text}
 use Rattle.read_back.proofs.Classes.{Anything, Plain, Stop}
 use Rattle.read_back.proofs.Told.{Setting, names_of, source_of, Told, Blank, Line, Sign, Fixed, Filled, told_as, told_same, told_any, told_nothing, told_then, told_text, told_indent, told_bits, told_closed, told_placed, filled_key, filled_then, filled_named}
-use Rattle.read_back.proofs.Words.{new_word, told_word}
+use Rattle.read_back.proofs.NamesAndLiterals.{new_word, told_word}
 use Rattle.read_back.proofs.Phrases.{group, group3, under_first, over_first, Found, read_names, is_expression, read_exprs, read_subind, read_drange}
 use Rattle.read_back.proofs.Productions.{filled_behind}
 use Rattle.read_back.proofs.Compounds.{read_end}

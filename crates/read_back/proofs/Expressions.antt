@@ -20,7 +20,7 @@ use Rattle.ada_printer.specs.Layout.{name_text, word_text}
 use Rattle.ada_printer.specs.ExprText.{unary_text, binary_text, expr_text}
 use Rattle.read_back.proofs.Classes.{Class, Anything, Plain, Stop}
 use Rattle.read_back.proofs.Told.{Setting, names_of, Told, Blank, Sign, span_at, word_at, place_of, told_as, told_here, told_opens, told_ends, told_any, told_then, told_bits, told_closed}
-use Rattle.read_back.proofs.Words.{told_id_of, new_word, told_word, told_integer}
+use Rattle.read_back.proofs.NamesAndLiterals.{told_id_of, new_word, told_word, told_integer}
 
 -- ---- items put together
 

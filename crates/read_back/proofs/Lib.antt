@@ -3,10 +3,10 @@ pub mod Classes
 pub mod Pieces
 pub mod Literals
 pub mod Identifiers
-pub mod Signs
+pub mod Symbols
 pub mod Lexed
 pub mod Told
-pub mod Words
+pub mod NamesAndLiterals
 pub mod Expressions
 pub mod Phrases
 pub mod Productions

@@ -27,7 +27,7 @@ use Rattle.ada_printer.specs.ExprText.{expr_text, exprs_text, index_text, bounds
 use Rattle.ada_printer.specs.StmtText.{mode_text, reverse_text, delay_text, target_text, callee_text, second_text, args_text, call_text, formal_text, formals_text, head_text, choice_text, caught_text, label_text, scheme_text, when_text}
 use Rattle.read_back.proofs.Classes.{Class, Anything, Plain, WordEnd, Stop, under}
 use Rattle.read_back.proofs.Told.{Setting, names_of, Told, Blank, Line, Sign, told_as, told_same, told_opens, told_ends, told_any, told_nothing, told_then, told_text, told_bits, told_closed}
-use Rattle.read_back.proofs.Words.{IsOldName, new_word, told_word, told_duration}
+use Rattle.read_back.proofs.NamesAndLiterals.{IsOldName, new_word, told_word, told_duration}
 use Rattle.read_back.proofs.Expressions.{read_expr, led, joined}
 
 -- ---- items grouped otherwise

@@ -20,7 +20,7 @@ use Rattle.ada_printer.specs.Layout.{deeper, indent, string_text, later_word}
 use Rattle.ada_printer.specs.StmtText.{part_text, parts_text, target_text, stmt_form_text, stmts_text, else_text, others_text}
 use Rattle.read_back.proofs.Classes.{Anything, Stop}
 use Rattle.read_back.proofs.Told.{Setting, names_of, source_of, Blank, Line, Sign, Fixed, span_at, Filled, told_as, told_same, told_any, told_then, told_indent, told_bits, told_last, told_closed, told_placed, filled_key, filled_then}
-use Rattle.read_back.proofs.Words.{told_string}
+use Rattle.read_back.proofs.NamesAndLiterals.{told_string}
 use Rattle.read_back.proofs.Phrases.{group3, group4, under_first, Found, read_target, read_callees, read_call, read_later, read_when, read_delay, read_separated, behind_ampersand, is_operand}
 
 pub ungroup : {P Q R : Spelling} {items : List Item} → ((P ▷ Q) ▷ R) items → (P ▷ Q ▷ R) items

@@ -21,7 +21,7 @@ use Rattle.ada_printer.specs.Layout.{deeper, indent, word_text}
 use Rattle.ada_printer.specs.DeclText.{task_word, standing, pragma_text, priority_text, family_text, entry_text, priorities_text, items_text, task_rest, task_text}
 use Rattle.read_back.proofs.Classes.{Class, Anything, Plain, Stop}
 use Rattle.read_back.proofs.Told.{Setting, names_of, source_of, Told, Blank, Line, Sign, Own, Filled, told_as, told_same, told_nothing, told_then, told_at, told_text, told_indent, told_bits, told_last, told_closed, told_placed, filled_key, filled_then, filled_named}
-use Rattle.read_back.proofs.Words.{new_word, told_word}
+use Rattle.read_back.proofs.NamesAndLiterals.{new_word, told_word}
 use Rattle.read_back.proofs.Phrases.{group, Found, assoc_shut, nil_shut, is_expression, read_drange, read_formals}
 use Rattle.read_back.proofs.Productions.{filled_behind}
 use Rattle.read_back.proofs.Compounds.{read_end}

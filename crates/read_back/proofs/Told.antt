@@ -29,7 +29,7 @@ use Rattle.ada_printer.specs.Layout.{indent}
 use Rattle.read_back.proofs.Classes.{Class, Anything, Plain, WordEnd, Stop, Next, under, weaken}
 use Rattle.read_back.proofs.Pieces.{Ends, white_ends}
 use Rattle.read_back.proofs.Identifiers.{IsName, identifier_is}
-use Rattle.read_back.proofs.Signs.{sign_bytes, sign_class, sign_opening, sign_opens, sign_ends, sign_verdict}
+use Rattle.read_back.proofs.Symbols.{sign_bytes, sign_class, sign_opening, sign_opens, sign_ends, sign_verdict}
 use Rattle.read_back.proofs.Lexed.{Tells, Chunk, chunk_gap, chunk_token, chunk_nothing, chunk_then}
 
 -- A bit of a literal text: a blank, a line feed, a reserved word or delimiter, a predefined name, or another name.

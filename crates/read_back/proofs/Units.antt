@@ -12,7 +12,7 @@ use Rattle.ada_printer.specs.DeclText.{decls_text}
 use Rattle.ada_printer.specs.ProgramText.{context_text, program_text}
 use Rattle.read_back.proofs.Classes.{Class, Anything}
 use Rattle.read_back.proofs.Told.{Setting, names_of, source_of, Told, Blank, Line, Sign, Fixed, told_as, told_same, told_any, told_nothing, told_then, told_bits, told_last}
-use Rattle.read_back.proofs.Words.{new_word, told_word}
+use Rattle.read_back.proofs.NamesAndLiterals.{new_word, told_word}
 use Rattle.read_back.proofs.Declarations.{bodies_same, read_unit_end, read_decls}
 
 -- the unit is that of the program, but for places and ids

@@ -10,7 +10,7 @@ use Rattle.normal_units.specs.Laws.{numbers_made}
 use Rattle.normal_runs_law.specs.Laws.{opened}
 use Rattle.normal_runs_law.specs.Premises.{IsNormalForm}
 use Rattle.normal_form_law.specs.Normalisable.{numbers_of, made_for, normal_rewrite}
-use Rattle.normal_legal.specs.Laws.{IsLegal}
+use Rattle.normal_legal.specs.Laws.{IsLegalOriginal}
 use Rattle.debug_files.specs.Wanting.{text_limit}
 use Rattle.read_normal.specs.Example.{calling_text, calling}
 
@@ -22,7 +22,7 @@ pub record IsOriginalText (bytes : List ℕ) (p : PProgram) : Type 0 where
 
 -- Nothing more is asked of the program: it is as the law of legal programs asks.
 abbrev pub TextIsLegal : Type 0
-TextIsLegal = (bytes : List ℕ) (p : PProgram) → IsOriginalText bytes p → IsLegal p
+TextIsLegal = (bytes : List ℕ) (p : PProgram) → IsOriginalText bytes p → IsLegalOriginal p
 
 -- So what is made from it is a normal form of it.
 abbrev pub TextIsNormal : Type 0

@@ -35,7 +35,7 @@ use Rattle.control_script.specs.declared.Op.{Op}
 use Rattle.control_script.specs.declared.Op.TheVariants.{Go}
 use Rattle.normal_model.specs.Members.{integer_literal}
 use Rattle.normal_model.specs.Ranges.{word_at}
-use Rattle.normal_legal.proofs.variable_types.Forms.{begins, predefined-mark}
+use Rattle.normal_legal.proofs.variable_types.SubtypeForms.{begins, predefined-mark}
 use Rattle.replay_model.specs.Names.{go_text, kind_text, argument_text, index_text, added_id}
 use Rattle.replay_model.specs.Controlling.{given}
 use Rattle.replay_texts.proofs.Rooted.{ids-apart}

@@ -1,5 +1,5 @@
 -- What the controller and the idle task offer.
-use Rattle.std.proofs.Common.{◌≡◌, ℕ, ◌+◌, ◌≤◌, Bool, false, if◌then◌else◌, List, [], ◌∷◌, length, Some, unwrap_or, refl, ap, ◌∙◌, subst, arith}
+use Rattle.std.proofs.Common.{◌≡◌, ℕ, ◌+◌, ◌≤◌, Bool, false, if◌then◌else◌, List, [], ◌∷◌, length, Some, unwrap_or, refl, sym, ap, ◌∙◌, subst, arith}
 use Rattle.std.specs.Prelude.{ℤ, pos, suc, ◌&&◌, int_le, Result, Ok, Err}
 use Rattle.std.proofs.lemmas.Bool.{le-leb}
 use Rattle.std.proofs.lemmas.List.{length-map}
@@ -22,14 +22,14 @@ use Rattle.syn_event.specs.declared.numbering.EntryInfo.{EntryInfo}
 use Rattle.syn_event.specs.Numbering.{entry_at, entry_named}
 use Rattle.syn_event.specs.AllNumbers.{all_numbers}
 use Rattle.syn_event.specs.AddedNames.{task_info}
-use Rattle.syn_event.specs.NamedTasks.{NumberedTask, numbered_tasks}
+use Rattle.syn_event.specs.NamedTasks.{numbered_tasks}
 use Rattle.syn_event.specs.DeclaredTasks.{tasks_of}
 use Rattle.task_model.specs.Setting.{Setting, entry_of, family_limits, index_in, member_index}
 use Rattle.task_model.specs.Stands.{Stand, wait_stand, steps_at, offered}
 use Rattle.task_model.specs.Waits.{Open, Accepts}
 use Rattle.normal_form_law.specs.Normalisable.{setting_for, made_for}
 use Rattle.normal_has_numbers.proofs.Tasked.{under, normal-tasks-of}
-use Rattle.normal_legal.specs.Laws.{IsLegal}
+use Rattle.normal_legal.specs.Laws.{IsLegalOriginal}
 use Rattle.normal_meets_checks.proofs.Facts as facts
 use Rattle.normal_fits.proofs.Counted.{tasks-within}
 use Rattle.replay_law.specs.Copies.{Spots}
@@ -52,7 +52,7 @@ number-is : (types : _) (vars : Variables) (n : ℕ) (s : Span) → n ≤ 214748
 number-is types vars n s h = ap (λ (b : Bool). if b then Ok (Number (pos n)) else Err raised.Numeric) (le-leb n 2147483647 h)
 
 -- one that a family has is its index
-index-is : (g : Setting) (vars : Variables) (e n last : ℕ) (s : Span) (x : EntryInfo) → entry_at g.numbers e ≡ Some x → x.first ≡ pos 0 → x.last ≡ pos last → n ≤ last → n ≤ 2147483647 →
+pub index-is : (g : Setting) (vars : Variables) (e n last : ℕ) (s : Span) (x : EntryInfo) → entry_at g.numbers e ≡ Some x → x.first ≡ pos 0 → x.last ≡ pos last → n ≤ last → n ≤ 2147483647 →
     member_index g vars e (Some (EInteger n s)) ≡ Ok (pos n)
 index-is g vars e n last s x at first its_last l h =
     ap (λ r. and_then r (λ v. index_in (family_limits (entry_at g.numbers e)) (position_of v))) (number-is g.types vars n s h)
@@ -78,9 +78,22 @@ idle_waits far p events input =
     subst (λ n. entry_named (numbers_replayed g) n (added_id g.program rest_text) ≡ Some (text_spots far g).rest) e (added_are_found far g).rest in
     record { rests = refl; offers = ap (λ o. Waits (Accept (unwrap_or o 0) (pos 0) ∷ Terminate ∷ [])) found }
 
+-- ---- how many tasks there are
+
+module _ (p : PProgram) (h : IsLegalOriginal p) where
+  -- the last task of the normal form has the number of the program's last task
+  pub as-many-tasks : last_task (form_in p).numbers ≡ length (numbered_tasks (types_in p) p)
+  as-many-tasks =
+      length-map (tasks_of (made_for p)) (λ (t : PTask). task_info (made_for p).names t.name.name)
+      ∙ ap length (normal-tasks-of p (types_in p) (facts.ordered p h))
+      ∙ length-map (numbered_tasks (types_in p) p) (under (setting_for p))
+
+  pub as-many-numbers : length (all_numbers (types_in p) p).tasks ≡ suc (last_task (form_in p).numbers)
+  as-many-numbers = ap (λ n. suc n) (length-map (numbered_tasks (types_in p) p) _ ∙ sym as-many-tasks)
+
 -- ---- the controller of a legal program
 
-module _ (far : Spots) (p : PProgram) (events : List Event) (h : IsLegal p) where
+module _ (far : Spots) (p : PProgram) (events : List Event) (h : IsLegalOriginal p) where
   abbrev pub g : Setting
   g = form_in p
 
@@ -94,14 +107,10 @@ module _ (far : Spots) (p : PProgram) (events : List Event) (h : IsLegal p) wher
   spots = text_spots far g
 
   -- a legal program has few tasks
-  few : last ≤ 200
+  pub few : last ≤ 200
   few =
-      let ys : List NumberedTask = numbered_tasks (types_in p) p in
-      let one : last ≡ length (tasks_of (made_for p)) = length-map (tasks_of (made_for p)) (λ (t : PTask). task_info (made_for p).names t.name.name) in
-      let two : length (tasks_of (made_for p)) ≡ length ys = ap length (normal-tasks-of p (types_in p) (facts.ordered p h)) ∙ length-map ys (under (setting_for p)) in
       let three : length (all_numbers (types_in p) p).tasks ≤ 201 = tasks-within p h.legal.check_rules in
-      let four : length (all_numbers (types_in p) p).tasks ≡ suc (length ys) = ap (λ n. suc n) (length-map ys _) in
-      omega (arith, one, two, three, four)
+      omega (arith, as-many-numbers p h, three)
 
   pub there : AreThere far g
   there = spots_are_there far g (normal_is_in_order p (facts.ordered p h))

@@ -1,9 +1,10 @@
 -- At what the controller and the idle task of a replay text stand (this project's rule).
-use Rattle.std.specs.Prelude.{◌≡◌, ℕ, ℤ, pos, zero, suc, ◌≤◌, true, false, List, [], ◌∷◌, None, slice_index_or}
+use Rattle.std.specs.Prelude.{◌≡◌, ℕ, ℤ, pos, zero, suc, ◌<◌, ◌≤◌, true, false, List, [], ◌∷◌, None, slice_index_or}
 use Rattle.event_machine.specs.declared.Choice.TheVariants.{Accept, Terminate}
 use Rattle.event_machine.specs.declared.Event.{Event}
-use Rattle.event_machine.specs.Offers.{Offer, Waits, Finishes, Ends}
-use Rattle.ada_tree.specs.PlainStmt.{PStmts, no_stmt, no_handler}
+use Rattle.event_machine.specs.declared.CallForm.TheVariants.{Plain}
+use Rattle.event_machine.specs.Offers.{Offer, Calls, Waits, Finishes, Ends}
+use Rattle.ada_tree.specs.PlainStmt.{PStmt, SBlock, PStmts, no_stmt, PBody, body, no_handler}
 use Rattle.ada_tree.specs.PlainProgram.{PProgram}
 use Rattle.ada_tree.specs.Refusals.{types_in}
 use Rattle.ada_tree.specs.StaticValue.{is_integer_value}
@@ -14,18 +15,18 @@ use Rattle.ada_value.specs.Variables.{Object, Variables}
 use Rattle.syn_event.specs.AllNumbers.{all_numbers}
 use Rattle.task_model.specs.declared.parameters.FormalParameter.{FormalParameter}
 use Rattle.task_model.specs.Setting.{Setting, parameters_of}
-use Rattle.task_model.specs.Frames.{OwnBody, Opened, control, callers_in}
+use Rattle.task_model.specs.Frames.{OwnBody, Block, Opened, control, callers_in}
 use Rattle.task_model.specs.Tasks.{Task}
-use Rattle.task_model.specs.Steps.{block_stmts}
+use Rattle.task_model.specs.Steps.{block_stmts, block_handlers}
 use Rattle.task_model.specs.Stands.{can_step, stepped, offer_of}
-use Rattle.task_model.specs.Rendezvous.{accepted, finished, pending_of, finals_of}
+use Rattle.task_model.specs.Rendezvous.{accepted, finished, call_failed, pending_of, finals_of}
 use Rattle.task_model.specs.Starting.{started}
 use Rattle.control_script.specs.declared.Op.{Op}
-use Rattle.control_script.specs.declared.Op.TheVariants.{Go, Done, Hold}
-use Rattle.normal_legal.specs.Laws.{IsLegal}
+use Rattle.control_script.specs.declared.Op.TheVariants.{Go, Done, Join, Hold}
+use Rattle.normal_legal.specs.Laws.{IsLegalOriginal}
 use Rattle.replay_law.specs.Copies.{Spots}
 use Rattle.replay_model.specs.Names.{kind_text, argument_text, index_text, added_id}
-use Rattle.replay_model.specs.Controlling.{permit_formals, op_statements, idle_body}
+use Rattle.replay_model.specs.Controlling.{permit_formals, joined, op_statements, idle_body}
 use Rattle.replay_model.specs.ReplayTree.{last_task, script_of}
 use Rattle.replay_spots.specs.Places.{text_spots}
 use Rattle.replay_bodies.specs.Laws.{unit_in}
@@ -81,6 +82,29 @@ granted p events caller kind arg index ops input =
     granting p events caller no_stmt
     (permit_object p events kind_text (Number (pos kind)) ∷ permit_object p events argument_text (Number (pos arg)) ∷ permit_object p events index_text (Number index) ∷ []) ops input
 
+-- ---- joining a task
+
+-- the body of a statement that is a block (5.6)
+abbrev pub block_of : PStmt → PBody
+block_of (SBlock b s) = b
+block_of _ = body no_stmt no_handler
+
+-- the block of an operation that joins a task
+abbrev pub join_block : PProgram → ℕ → PBody
+join_block p task = block_of (joined (form_in p) (form_in p).program.name.span task)
+
+-- The controller in the block of an operation that joins a task, before the call in it, with the statements of these operations behind the block.
+abbrev pub joining : PProgram → List Event → ℕ → List Op → List ℤ → Task
+joining p events task ops input = record {
+  setting = text_setting p events;
+  number = control_number p;
+  control =
+      control (block_stmts (join_block p task)) (Block (block_handlers (join_block p task)))
+      (record { rest = op_statements (form_in p) (form_in p).program.name.span ops; place = OwnBody no_handler None } ∷ []) [];
+  input = input;
+  output = [];
+}
+
 -- After so many local steps that write nothing a task stands like another one.
 abbrev pub LeadsTo : ℕ → Task → Task → Type 0
 LeadsTo zero t u = t ≡ u
@@ -99,7 +123,7 @@ pub record StartsThere (p : PProgram) (events : List Event) (inputs : List (List
   pub idle : started (text_setting p events) inputs (suc (control_number p)) ≡ idler p events (slice_index_or inputs (suc (control_number p)) [])
 
 abbrev pub LegalStartsThere : Type 0
-LegalStartsThere = (p : PProgram) (events : List Event) (inputs : List (List ℤ)) → IsLegal p → StartsThere p events inputs
+LegalStartsThere = (p : PProgram) (events : List Event) (inputs : List (List ℤ)) → IsLegalOriginal p → StartsThere p events inputs
 
 -- the task has no local step and offers this
 pub record Offers (t : Task) (offer : Offer) : Type 0 where
@@ -110,7 +134,7 @@ pub record Offers (t : Task) (offer : Offer) : Type 0 where
 abbrev pub IdleWaits : Type 0
 IdleWaits = (far : Spots) (p : PProgram) (events : List Event) (input : List ℤ) → Offers (idler p events input) (Waits (Accept (text_spots far (form_in p)).rest (pos 0) ∷ Terminate ∷ []))
 
--- What the controller offers before an operation: it accepts GO or DONE of the operation's task, or HOLD; behind its last operation it is at the end of its body. Before it joins a task it offers nothing: that statement is a block.
+-- What the controller offers before an operation: it accepts GO or DONE of the operation's task, or HOLD; behind its last operation it is at the end of its body. Before it joins a task it has a local step: that statement is a block.
 pub record OffersNext (far : Spots) (p : PProgram) (events : List Event) (input : List ℤ) : Type 0 where
   pub ended : Offers (controller p events [] input) Ends
   pub go : (task kind arg : ℕ) (index : ℤ) (ops : List Op) → task ≤ last_task (form_in p).numbers →
@@ -120,7 +144,7 @@ pub record OffersNext (far : Spots) (p : PProgram) (events : List Event) (input 
 
 -- So it is in each replay text of a legal program, for operations of its tasks.
 abbrev pub LegalOffersNext : Type 0
-LegalOffersNext = (far : Spots) (p : PProgram) (events : List Event) (input : List ℤ) → IsLegal p → OffersNext far p events input
+LegalOffersNext = (far : Spots) (p : PProgram) (events : List Event) (input : List ℤ) → IsLegalOriginal p → OffersNext far p events input
 
 -- How the controller hears of a task that it is done: it accepts the task's call, whatever stands behind that, and is at the end of the accept body at once. There it has this caller, hands back nothing, and goes on with its next operation (9.5).
 pub record HearsTasks (far : Spots) (p : PProgram) (events : List Event) (input : List ℤ) : Type 0 where
@@ -133,7 +157,7 @@ pub record HearsTasks (far : Spots) (p : PProgram) (events : List Event) (input 
 
 -- So it is in each replay text of a legal program.
 abbrev pub LegalHearsTasks : Type 0
-LegalHearsTasks = (far : Spots) (p : PProgram) (events : List Event) (input : List ℤ) → IsLegal p → HearsTasks far p events input
+LegalHearsTasks = (far : Spots) (p : PProgram) (events : List Event) (input : List ℤ) → IsLegalOriginal p → HearsTasks far p events input
 
 -- How the controller hands out a permit: it accepts the task's call, whatever stands behind that, gives the three formals their numbers in three local steps, and is at the end of the accept body. There it has this caller, hands back the three numbers, and goes on with its next operation (9.5, 6.2).
 pub record GrantsPermits (far : Spots) (p : PProgram) (events : List Event) (input : List ℤ) : Type 0 where
@@ -147,4 +171,14 @@ pub record GrantsPermits (far : Spots) (p : PProgram) (events : List Event) (inp
 
 -- So it is in each replay text of a legal program.
 abbrev pub LegalGrantsPermits : Type 0
-LegalGrantsPermits = (far : Spots) (p : PProgram) (events : List Event) (input : List ℤ) → IsLegal p → GrantsPermits far p events input
+LegalGrantsPermits = (far : Spots) (p : PProgram) (events : List Event) (input : List ℤ) → IsLegalOriginal p → GrantsPermits far p events input
+
+-- How the controller joins a task: in one local step it is in a block, and calls there an entry of the task that nobody accepts. As that call fails, since the task is closed, the block's handler takes it in one more local step to its next operation (9.5, 11.4.1, 11.5).
+pub record JoinsTasks (far : Spots) (p : PProgram) (events : List Event) (input : List ℤ) : Type 0 where
+  pub enters : (task : ℕ) (ops : List Op) → LeadsTo 1 (controller p events (Join task ∷ ops) input) (joining p events task ops input)
+  pub calls : (task : ℕ) (ops : List Op) → task < last_task (form_in p).numbers → Offers (joining p events (suc task) ops input) (Calls Plain ((text_spots far (form_in p)).join (suc task)) (pos 0))
+  pub goes_on : (task : ℕ) (ops : List Op) → LeadsTo 1 (call_failed (joining p events task ops input)) (controller p events ops input)
+
+-- So it is in each replay text of a legal program.
+abbrev pub LegalJoinsTasks : Type 0
+LegalJoinsTasks = (far : Spots) (p : PProgram) (events : List Event) (input : List ℤ) → IsLegalOriginal p → JoinsTasks far p events input

@@ -26,7 +26,7 @@ use Rattle.ada_duplicates.specs.declared.namings_in_order.Naming.TheVariants.{De
 use Rattle.normal_once.specs.Apart.{IsFreeOf, AreDistinct, fixed_name, fixed_names, IsFitIn}
 use Rattle.normal_once.specs.Names.{stmt_names, stmts_names, entries_names, tasks_names, bodies_names}
 use Rattle.normal_once.proofs.Once.{apart-none}
-use Rattle.normal_declares_once.proofs.Words.{word_ids}
+use Rattle.normal_declares_once.proofs.DeclaredNames.{word_ids}
 use Rattle.replay_declares_once.proofs.Ids.{apart-by, id, added-apart}
 use Rattle.replay_declares_once.proofs.Grown.{alone-from, declared-new}
 use Rattle.replay_declares_once.proofs.Plain.{AreFresh}

@@ -12,7 +12,7 @@ use Rattle.ada_duplicates.specs.declared.namings_in_order.Naming.TheVariants.{De
 use Rattle.common_lemmas.proofs.Lists.{all_joined, all_weaker}
 use Rattle.normal_once.specs.Apart.{IsFreeOf, AreApart, AreDistinct, IsAlone, fixed_name, loose_name, fixed_names, IsFitIn}
 use Rattle.normal_once.proofs.Once.{one-apart, apart-both}
-use Rattle.normal_declares_once.proofs.Words.{word_ids}
+use Rattle.normal_declares_once.proofs.DeclaredNames.{word_ids}
 use Rattle.replay_declares_once.specs.Names.{word_named}
 
 -- ---- one naming

@@ -33,7 +33,7 @@ use Rattle.normal_form_law.proofs.Numbered.{AreNumbered, none_numbered, numbered
 use Rattle.normal_legal.proofs.units.Fields.{legal_is_ordered}
 use Rattle.normal_legal.proofs.units.TasksApart.{IsNamed, members-there, all-named}
 use Rattle.normal_legal.proofs.units.DeclaredNames.{tasks-good}
-use Rattle.normal_legal.specs.Laws.{IsLegal}
+use Rattle.normal_legal.specs.Laws.{IsLegalOriginal}
 use Rattle.ada_duplicates.specs.NamedSoFar.{object_words}
 use Rattle.ada_duplicates.specs.NamingsInOrder.{declared}
 use Rattle.ada_duplicates.specs.declared.namings_in_order.Naming.{Naming}
@@ -41,7 +41,7 @@ use Rattle.normal_once.specs.Names.{body_names, entries_names, tasks_names, inne
 use Rattle.normal_once.proofs.Rewritten as normal
 use Rattle.normal_declares_once.proofs.Ids.{IsGoodId}
 use Rattle.normal_declares_once.proofs.Good.{good_names, program-good}
-use Rattle.normal_declares_once.proofs.Words.{word_ids, ids_declared}
+use Rattle.normal_declares_once.proofs.DeclaredNames.{word_ids, ids_declared}
 use Rattle.normal_declares_once.proofs.Tasks.{ids-good}
 use Rattle.normal_declares_once.proofs.Whole.{normal_declares_once}
 use Rattle.replay_declares_once.specs.Names.{word_named, IsKept, LeavesNames}
@@ -69,7 +69,7 @@ ids-words P (decl_then d rest) h =
 
 -- ---- the normal form of a legal program
 
-module _ (p : PProgram) (h : IsLegal p) where
+module _ (p : PProgram) (h : IsLegalOriginal p) where
   abbrev g : Setting
   g = setting_for p
 

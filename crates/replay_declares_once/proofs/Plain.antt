@@ -23,7 +23,7 @@ use Rattle.normal_once.specs.Apart.{IsFreeOf, AreApart, AreDistinct, fixed_names
 use Rattle.normal_once.proofs.Once.{free-front, free-back, free-both, apart-turned}
 use Rattle.normal_once.proofs.TaskTypes.{HasTypes, types-after, no-task}
 use Rattle.normal_once.proofs.FirstDecls.{here-after}
-use Rattle.normal_declares_once.proofs.Words.{word_ids, words-free, free-words}
+use Rattle.normal_declares_once.proofs.DeclaredNames.{word_ids, words-free, free-words}
 use Rattle.replay_declares_once.proofs.Grown.{declared-loose, IsGood, IsGrown, grown-words, IsSame, same-joined, same-then, good-fit, declared-same, declared-clear, declared-new}
 use Rattle.common_lemmas.proofs.Truth.{or_false}
 use Rattle.normal_once.proofs.Whole.{plain-kinds}

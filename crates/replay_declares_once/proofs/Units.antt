@@ -30,7 +30,7 @@ use Rattle.ada_duplicates.specs.declared.namings_in_order.Naming.TheVariants.{De
 use Rattle.normal_once.specs.Apart.{IsFreeOf, AreApart, AreDistinct, fixed_name, fixed_names, IsFitIn}
 use Rattle.normal_once.specs.Names.{body_names, entries_names, tasks_names, inner_names, bodies_names}
 use Rattle.normal_once.proofs.Once.{one-apart, one-free, apart-front, apart-back, apart-both, apart-turned, free-both, distinct-both}
-use Rattle.normal_declares_once.proofs.Words.{word_ids, free-words}
+use Rattle.normal_declares_once.proofs.DeclaredNames.{word_ids, free-words}
 use Rattle.replay_texts.proofs.Rooted.{replay-has}
 use Rattle.normal_has_numbers.proofs.Named.{Has}
 use Rattle.replay_declares_once.specs.Names.{IsKept}

@@ -34,7 +34,7 @@ use Rattle.normal_once.specs.Names.{body_names, tasks_names, bodies_names}
 use Rattle.normal_once.proofs.Once.{free-front, free-back, free-both, apart-back, apart-turned, distinct-front, distinct-back, distinct-apart, distinct-both}
 use Rattle.normal_once.proofs.Parts.{all-fit-in, fit-in-alone, fit-in-apart}
 use Rattle.normal_once.proofs.Rules.{once-fit, fit-once}
-use Rattle.normal_declares_once.proofs.Words.{word_ids, free-words}
+use Rattle.normal_declares_once.proofs.DeclaredNames.{word_ids, free-words}
 use Rattle.replay_declares_once.specs.Names.{word_named, IsKept, LeavesNames}
 use Rattle.replay_declares_once.specs.Laws.{ReplayDeclaresOnce}
 use Rattle.replay_declares_once.proofs.Statements.{body-same}

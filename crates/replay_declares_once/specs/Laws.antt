@@ -13,7 +13,7 @@ use Rattle.normal_model.specs.NormalTree.{normal_tree}
 use Rattle.normal_form_law.specs.Choosing.{choosing}
 use Rattle.normal_form_law.specs.Normalisable.{numbers_of, made_for}
 use Rattle.legal_literals.specs.Colours.{coloured}
-use Rattle.normal_legal.specs.Laws.{IsLegal}
+use Rattle.normal_legal.specs.Laws.{IsLegalOriginal}
 use Rattle.normal_once.specs.Once.{AllOnce}
 use Rattle.normal_once.specs.Names.{body_names}
 use Rattle.replay_model.specs.ReplayStmts.{replay_body}
@@ -32,11 +32,11 @@ ReplayDeclaresOnce =
 
 -- The names of the normal form of a legal program leave room for its replay text.
 abbrev pub LegalLeavesNames : Type 0
-LegalLeavesNames = (p : PProgram) → IsLegal p → LeavesNames (made_for p)
+LegalLeavesNames = (p : PProgram) → IsLegalOriginal p → LeavesNames (made_for p)
 
 -- So rule Duplicate refuses nothing in the replay text of a legal program, whatever the operations.
 abbrev pub LegalReplayDeclaresOnce : Type 0
-LegalReplayDeclaresOnce = (p : PProgram) → IsLegal p → (ops : List Op) → AllOnce [] (sites (replay_of (normal_setting p (types_in p) (numbers_of p)) ops))
+LegalReplayDeclaresOnce = (p : PProgram) → IsLegalOriginal p → (ops : List Op) → AllOnce [] (sites (replay_of (normal_setting p (types_in p) (numbers_of p)) ops))
 
 -- So it is with two programs that are as the law of legal programs asks: one in which a variable chooses a member of an array of tasks, and one with an array of tasks whose index is an enumeration. Their names leave room.
 abbrev pub IsMet : Type 0

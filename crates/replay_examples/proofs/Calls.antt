@@ -136,18 +136,7 @@ calls_events = event.C 2 1 (pos 1) ∷ event.T 2 2 (pos 0) ∷ event.X 2 ∷ []
 --                   DED_IDLE.STOP;
 --                end if;
 --             end F;
---             DED_CONTROL.DONE(1);
---          else
---             DED_IDLE.STOP;
---          end if;
---       exception
---          when others =>
---             null;
---       end;
---       DED_CONTROL.GO(1)(DED_K, DED_A, DED_I);
---       if DED_K /= 8 then
---          DED_IDLE.STOP;
---       end if;
+-- ..           (as in the text of `p1_replay`, 12 lines: from "DED_CONTROL.DONE(1);" to "end if;")
 --    end T;
 --    task body A is
 --       C : COLOR := GREEN;
@@ -242,17 +231,7 @@ calls_events = event.C 2 1 (pos 1) ∷ event.T 2 2 (pos 0) ∷ event.X 2 ∷ []
 --             null;
 --       end;
 --       accept HOLD;
---    end DED_CONTROL;
---    task body DED_IDLE is
---    begin
---       select
---          accept NEVER;
---       or
---          terminate;
---       end select;
---    end DED_IDLE;
--- begin
---    begin
+-- ..  (as in the text of `p1_replay`, 11 lines: from "end DED_CONTROL;" to "begin")
 --       null;
 --    exception
 --       when others =>

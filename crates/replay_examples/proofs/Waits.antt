@@ -88,16 +88,7 @@ waits_events = event.R 0 1 (negsuc 1) ∷ event.E 1 ∷ event.S 1 ∷ event.B 2 
 --       entry DED_NEVER;
 --       entry DED_JOIN;
 --    end K;
---    task DED_CONTROL is
---       entry GO(0 .. 2)(DED_K, DED_A, DED_I : out INTEGER);
---       entry DONE(0 .. 2);
---       entry HOLD;
---    end DED_CONTROL;
---    task DED_IDLE is
---       entry STOP;
---       entry NEVER;
---    end DED_IDLE;
---    task body T is
+-- ..  (as in the text of `calls_replay`, 10 lines: from "task DED_CONTROL is" to "task body T is")
 --       N : INTEGER := -2;
 --       DED_K, DED_A, DED_I : INTEGER := 0;
 --       DED_V1 : BOOLEAN;
@@ -203,17 +194,7 @@ waits_events = event.R 0 1 (negsuc 1) ∷ event.E 1 ∷ event.S 1 ∷ event.B 2 
 --             or
 --                terminate;
 --             end select;
---          else
---             DED_IDLE.STOP;
---          end if;
---       exception
---          when others =>
---             null;
---       end;
---       DED_CONTROL.GO(1)(DED_K, DED_A, DED_I);
---       if DED_K /= 8 then
---          DED_IDLE.STOP;
---       end if;
+-- ..        (as in the text of `p1_replay`, 11 lines: from "else" to "end if;")
 --    end T;
 --    task body K is
 --       DED_K, DED_A, DED_I : INTEGER := 0;
@@ -279,26 +260,7 @@ waits_events = event.R 0 1 (negsuc 1) ∷ event.E 1 ∷ event.S 1 ∷ event.B 2 
 --       end GO;
 --       begin
 --          K.DED_JOIN;
---       exception
---          when TASKING_ERROR =>
---             null;
---       end;
---       accept GO(0)(DED_K, DED_A, DED_I : out INTEGER) do
---          DED_K := 10;
---          DED_A := 0;
---          DED_I := 0;
---       end GO;
---    end DED_CONTROL;
---    task body DED_IDLE is
---    begin
---       select
---          accept NEVER;
---       or
---          terminate;
---       end select;
---    end DED_IDLE;
--- begin
---    begin
+-- ..     (as in the text of `p1_replay`, 20 lines: from "exception" to "begin")
 --       DED_V1 := -2;
 --       DED_CONTROL.GO(0)(DED_K, DED_A, DED_I);
 --       if DED_K = 1 and DED_A = 1 and DED_I = DED_V1 then
@@ -306,22 +268,7 @@ waits_events = event.R 0 1 (negsuc 1) ∷ event.E 1 ∷ event.S 1 ∷ event.B 2 
 --       elsif DED_K = 7 and DED_A = 1 and DED_I = DED_V1 then
 --          begin
 --             T.DED_S_E(DED_V1);
---          exception
---             when others =>
---                DED_CONTROL.DONE(0);
---                raise;
---          end;
---       else
---          DED_IDLE.STOP;
---       end if;
---    exception
---       when others =>
---          null;
---    end;
---    DED_CONTROL.GO(0)(DED_K, DED_A, DED_I);
---    if DED_K /= 10 then
---       DED_IDLE.STOP;
---    end if;
+-- ..        (as in the text of `p1_replay`, 16 lines: from "exception" to "end if;")
 -- end WAITS;
 abbrev waits_replay : PProgram
 waits_replay = record { names = (predefined ++ (codes "WAITS" ∷ codes "T" ∷ codes "E" ∷ codes "K" ∷ codes "N" ∷ codes "DED_V1" ∷ codes "DED_V2" ∷ codes "DED_V3" ∷ codes "DED_V4" ∷ codes "DED_K" ∷ codes "DED_A" ∷ codes "DED_I" ∷ codes "DED_CONTROL" ∷ codes "GO" ∷ codes "DONE" ∷ codes "HOLD" ∷ codes "DED_IDLE" ∷ codes "STOP" ∷ codes "NEVER" ∷ codes "DED_NEVER" ∷ codes "DED_JOIN" ∷ codes "DED_S_E" ∷ [])); text_io = false; name = (w 25); decls = (decl_then (DObject ((w 34) ∷ (w 35) ∷ (w 36) ∷ []) false (OPlain (record { mark = (w 0); bounds = None })) (Some (IOne (EInteger 0 o))) o) (decl_then (DObject ((w 30) ∷ []) false (OPlain (record { mark = (w 0); bounds = (Some (record { first = (EUnary unary.Minus (EInteger 2 o) o); last = (EInteger 2 o) })) })) None o) (decl_then (DTask (record { name = (w 26); of_kind = false; entries = ((record { name = (w 27); family = (Some (RGiven (record { first = (EUnary unary.Minus (EInteger 2 o) o); last = (EInteger 2 o) }))); formals = ([]); span = o }) ∷ (record { name = (w 46); family = (Some (RGiven (record { first = (EUnary unary.Minus (EInteger 2 o) o); last = (EInteger 2 o) }))); formals = ([]); span = o }) ∷ (record { name = (w 44); family = None; formals = ([]); span = o }) ∷ (record { name = (w 45); family = None; formals = ([]); span = o }) ∷ []); priorities = ([]) }) o) (decl_then (DTask (record { name = (w 28); of_kind = false; entries = ((record { name = (w 44); family = None; formals = ([]); span = o }) ∷ (record { name = (w 45); family = None; formals = ([]); span = o }) ∷ []); priorities = ([]) }) o) (decl_then (DTask (record { name = (w 37); of_kind = false; entries = ((record { name = (w 38); family = (Some (RGiven (record { first = (EInteger 0 o); last = (EInteger 2 o) }))); formals = ((record { names = ((w 34) ∷ (w 35) ∷ (w 36) ∷ []); mode = mode.Give; mark = (w 0) }) ∷ []); span = o }) ∷ (record { name = (w 39); family = (Some (RGiven (record { first = (EInteger 0 o); last = (EInteger 2 o) }))); formals = ([]); span = o }) ∷ (record { name = (w 40); family = None; formals = ([]); span = o }) ∷ []); priorities = ([]) }) o) (decl_then (DTask (record { name = (w 41); of_kind = false; entries = ((record { name = (w 42); family = None; formals = ([]); span = o }) ∷ (record { name = (w 43); family = None; formals = ([]); span = o }) ∷ []); priorities = ([]) }) o) (decl_then (DTaskBody (w 26) (decl_then (DObject ((w 29) ∷ []) false (OPlain (record { mark = (w 0); bounds = None })) (Some (IOne (EUnary unary.Minus (EInteger 2 o) o))) o) (decl_then (DObject ((w 34) ∷ (w 35) ∷ (w 36) ∷ []) false (OPlain (record { mark = (w 0); bounds = None })) (Some (IOne (EInteger 0 o))) o) (decl_then (DObject ((w 30) ∷ []) false (OPlain (record { mark = (w 3); bounds = None })) None o) (decl_then (DObject ((w 31) ∷ []) false (OPlain (record { mark = (w 0); bounds = (Some (record { first = (EUnary unary.Minus (EInteger 2 o) o); last = (EInteger 2 o) })) })) None o) (decl_then (DObject ((w 32) ∷ []) false (OPlain (record { mark = (w 3); bounds = None })) None o) (decl_then (DObject ((w 33) ∷ []) false (OPlain (record { mark = (w 3); bounds = None })) None o) no_decl)))))) (body (stmt_then (SBlock (body (stmt_then (SAssign (record { name = (w 30); index = None }) (EBinary binary.Less (n 29) (EInteger 0 o) o) o) (stmt_then (SIf (arm_then (arm (n 30) (stmt_then (SAssign (record { name = (w 31); index = None }) (n 29) o) no_stmt)) no_arm) absent o) (stmt_then (SAssign (record { name = (w 32); index = None }) (EBinary binary.Greater (n 29) (EInteger 0 o) o) o) (stmt_then (SCall (record { task = (record { name = (w 37); index = None }); entry = (w 38); args = (Some (record { first = ((EInteger 1 o) ∷ []); second = (Some ((n 34) ∷ (n 35) ∷ (n 36) ∷ [])) })) }) o) (stmt_then (SIf (arm_then (arm (EBinary binary.And (EBinary binary.And (EBinary binary.And (EBinary binary.Equal (n 34) (EInteger 1 o) o) (EBinary binary.Equal (n 35) (EInteger 1 o) o) o) (EBinary binary.Equal (n 36) (n 31) o) o) (n 30) o) (stmt_then (SAccept (accepting (record { entry = (w 27); index = (Some (n 31)); formals = ([]); span = o }) (present (stmt_then (SCall (record { task = (record { name = (w 37); index = None }); entry = (w 39); args = (Some (record { first = ((EInteger 1 o) ∷ []); second = None })) }) o) (stmt_then (SCall (record { task = (record { name = (w 37); index = None }); entry = (w 38); args = (Some (record { first = ((EInteger 1 o) ∷ []); second = (Some ((n 34) ∷ (n 35) ∷ (n 36) ∷ [])) })) }) o) (stmt_then (SIf (arm_then (arm (EBinary binary.NotEqual (n 34) (EInteger 2 o) o) (stmt_then (SCall (record { task = (record { name = (w 41); index = None }); entry = (w 42); args = None }) o) no_stmt)) no_arm) absent o) no_stmt))))) o) (stmt_then (SCall (record { task = (record { name = (w 37); index = None }); entry = (w 39); args = (Some (record { first = ((EInteger 1 o) ∷ []); second = None })) }) o) (stmt_then (SPutLine ((PWords (codes "E") o) ∷ []) o) no_stmt)))) (arm_then (arm (EBinary binary.And (EBinary binary.And (EBinary binary.Equal (n 34) (EInteger 4 o) o) (EBinary binary.Equal (n 35) (EInteger 1 o) o) o) (n 32) o) (stmt_then (SWait (alt_then (alternative None (AAccept (accepting (record { entry = (w 44); index = None; formals = ([]); span = o }) absent) no_stmt) o) (alt_then (alternative None (ADelay 500 no_stmt) o) (alt_then (alternative (Some (n 4)) (ADelay 1000 no_stmt) o) (alt_then (alternative (Some (n 4)) (ADelay 2000 no_stmt) o) no_alt)))) absent o) (stmt_then (SCall (record { task = (record { name = (w 37); index = None }); entry = (w 39); args = (Some (record { first = ((EInteger 1 o) ∷ []); second = None })) }) o) no_stmt))) (arm_then (arm (EBinary binary.And (EBinary binary.And (EBinary binary.Equal (n 34) (EInteger 4 o) o) (EBinary binary.Equal (n 35) (EInteger 2 o) o) o) (EUnary unary.Not (n 32) o) o) (stmt_then (SWait (alt_then (alternative None (AAccept (accepting (record { entry = (w 44); index = None; formals = ([]); span = o }) absent) no_stmt) o) (alt_then (alternative (Some (n 4)) (ADelay 500 no_stmt) o) (alt_then (alternative None (ADelay 1000 no_stmt) o) (alt_then (alternative (Some (n 4)) (ADelay 2000 no_stmt) o) no_alt)))) absent o) (stmt_then (SCall (record { task = (record { name = (w 37); index = None }); entry = (w 39); args = (Some (record { first = ((EInteger 1 o) ∷ []); second = None })) }) o) (stmt_then (SPutLine ((PWords (codes "LATE") o) ∷ []) o) no_stmt)))) (arm_then (arm (EBinary binary.And (EBinary binary.And (EBinary binary.And (EBinary binary.Equal (n 34) (EInteger 4 o) o) (EBinary binary.Equal (n 35) (EInteger 3 o) o) o) (EUnary unary.Not (n 32) o) o) (n 4) o) (stmt_then (SWait (alt_then (alternative None (AAccept (accepting (record { entry = (w 44); index = None; formals = ([]); span = o }) absent) no_stmt) o) (alt_then (alternative (Some (n 4)) (ADelay 500 no_stmt) o) (alt_then (alternative (Some (n 4)) (ADelay 1000 no_stmt) o) (alt_then (alternative None (ADelay 2000 no_stmt) o) no_alt)))) absent o) (stmt_then (SCall (record { task = (record { name = (w 37); index = None }); entry = (w 39); args = (Some (record { first = ((EInteger 1 o) ∷ []); second = None })) }) o) no_stmt))) no_arm)))) (present (stmt_then (SCall (record { task = (record { name = (w 41); index = None }); entry = (w 42); args = None }) o) no_stmt)) o) (stmt_then (SCall (record { task = (record { name = (w 37); index = None }); entry = (w 38); args = (Some (record { first = ((EInteger 1 o) ∷ []); second = (Some ((n 34) ∷ (n 35) ∷ (n 36) ∷ [])) })) }) o) (stmt_then (SIf (arm_then (arm (EBinary binary.And (EBinary binary.And (EBinary binary.Equal (n 34) (EInteger 1 o) o) (EBinary binary.Equal (n 35) (EInteger 1 o) o) o) (EBinary binary.Equal (n 36) (EInteger 1 o) o) o) (stmt_then (SAccept (accepting (record { entry = (w 27); index = (Some (EInteger 1 o)); formals = ([]); span = o }) (present (stmt_then (SCall (record { task = (record { name = (w 37); index = None }); entry = (w 39); args = (Some (record { first = ((EInteger 1 o) ∷ []); second = None })) }) o) (stmt_then (SCall (record { task = (record { name = (w 37); index = None }); entry = (w 38); args = (Some (record { first = ((EInteger 1 o) ∷ []); second = (Some ((n 34) ∷ (n 35) ∷ (n 36) ∷ [])) })) }) o) (stmt_then (SIf (arm_then (arm (EBinary binary.NotEqual (n 34) (EInteger 2 o) o) (stmt_then (SCall (record { task = (record { name = (w 41); index = None }); entry = (w 42); args = None }) o) no_stmt)) no_arm) absent o) no_stmt))))) o) (stmt_then (SCall (record { task = (record { name = (w 37); index = None }); entry = (w 39); args = (Some (record { first = ((EInteger 1 o) ∷ []); second = None })) }) o) no_stmt))) (arm_then (arm (EBinary binary.Equal (n 34) (EInteger 3 o) o) (stmt_then (SWait (alt_then (alternative None (AAccept (accepting (record { entry = (w 44); index = None; formals = ([]); span = o }) absent) no_stmt) o) no_alt) (present (stmt_then (SNull o) no_stmt)) o) (stmt_then (SCall (record { task = (record { name = (w 37); index = None }); entry = (w 39); args = (Some (record { first = ((EInteger 1 o) ∷ []); second = None })) }) o) (stmt_then (SPutLine ((PWords (codes "ELSE") o) ∷ []) o) no_stmt)))) no_arm)) (present (stmt_then (SCall (record { task = (record { name = (w 41); index = None }); entry = (w 42); args = None }) o) no_stmt)) o) (stmt_then (SAssign (record { name = (w 33); index = None }) (EBinary binary.Less (n 29) (EInteger 2 o) o) o) (stmt_then (SCall (record { task = (record { name = (w 37); index = None }); entry = (w 38); args = (Some (record { first = ((EInteger 1 o) ∷ []); second = (Some ((n 34) ∷ (n 35) ∷ (n 36) ∷ [])) })) }) o) (stmt_then (SIf (arm_then (arm (EBinary binary.And (EBinary binary.And (EBinary binary.Equal (n 34) (EInteger 1 o) o) (EBinary binary.Equal (n 35) (EInteger 1 o) o) o) (EBinary binary.Equal (n 36) (EInteger 2 o) o) o) (stmt_then (SAccept (accepting (record { entry = (w 27); index = (Some (EInteger 2 o)); formals = ([]); span = o }) (present (stmt_then (SCall (record { task = (record { name = (w 37); index = None }); entry = (w 39); args = (Some (record { first = ((EInteger 1 o) ∷ []); second = None })) }) o) (stmt_then (SCall (record { task = (record { name = (w 37); index = None }); entry = (w 38); args = (Some (record { first = ((EInteger 1 o) ∷ []); second = (Some ((n 34) ∷ (n 35) ∷ (n 36) ∷ [])) })) }) o) (stmt_then (SIf (arm_then (arm (EBinary binary.NotEqual (n 34) (EInteger 2 o) o) (stmt_then (SCall (record { task = (record { name = (w 41); index = None }); entry = (w 42); args = None }) o) no_stmt)) no_arm) absent o) no_stmt))))) o) (stmt_then (SCall (record { task = (record { name = (w 37); index = None }); entry = (w 39); args = (Some (record { first = ((EInteger 1 o) ∷ []); second = None })) }) o) no_stmt))) (arm_then (arm (EBinary binary.And (EBinary binary.Equal (n 34) (EInteger 10 o) o) (n 33) o) (stmt_then (SWait (alt_then (alternative None (AAccept (accepting (record { entry = (w 44); index = None; formals = ([]); span = o }) absent) no_stmt) o) (alt_then (alternative None ATerminate o) no_alt)) absent o) no_stmt)) no_arm)) (present (stmt_then (SCall (record { task = (record { name = (w 41); index = None }); entry = (w 42); args = None }) o) no_stmt)) o) no_stmt)))))))))) (handler_then (handler ([]) (stmt_then (SNull o) no_stmt) o) no_handler)) o) (stmt_then (SCall (record { task = (record { name = (w 37); index = None }); entry = (w 38); args = (Some (record { first = ((EInteger 1 o) ∷ []); second = (Some ((n 34) ∷ (n 35) ∷ (n 36) ∷ [])) })) }) o) (stmt_then (SIf (arm_then (arm (EBinary binary.NotEqual (n 34) (EInteger 8 o) o) (stmt_then (SCall (record { task = (record { name = (w 41); index = None }); entry = (w 42); args = None }) o) no_stmt)) no_arm) absent o) no_stmt))) no_handler) o) (decl_then (DTaskBody (w 28) (decl_then (DObject ((w 34) ∷ (w 35) ∷ (w 36) ∷ []) false (OPlain (record { mark = (w 0); bounds = None })) (Some (IOne (EInteger 0 o))) o) no_decl) (body (stmt_then (SBlock (body (stmt_then (SCall (record { task = (record { name = (w 37); index = None }); entry = (w 38); args = (Some (record { first = ((EInteger 2 o) ∷ []); second = (Some ((n 34) ∷ (n 35) ∷ (n 36) ∷ [])) })) }) o) (stmt_then (SIf (arm_then (arm (EBinary binary.And (EBinary binary.Equal (n 34) (EInteger 9 o) o) (EBinary binary.Equal (n 35) (EInteger 1 o) o) o) (stmt_then (SAbort ((record { name = (w 26); index = None }) ∷ []) o) (stmt_then (SCall (record { task = (record { name = (w 37); index = None }); entry = (w 39); args = (Some (record { first = ((EInteger 2 o) ∷ []); second = None })) }) o) no_stmt))) no_arm) (present (stmt_then (SCall (record { task = (record { name = (w 41); index = None }); entry = (w 42); args = None }) o) no_stmt)) o) (stmt_then (SCall (record { task = (record { name = (w 37); index = None }); entry = (w 38); args = (Some (record { first = ((EInteger 2 o) ∷ []); second = (Some ((n 34) ∷ (n 35) ∷ (n 36) ∷ [])) })) }) o) (stmt_then (SIf (arm_then (arm (EBinary binary.And (EBinary binary.Equal (n 34) (EInteger 9 o) o) (EBinary binary.Equal (n 35) (EInteger 2 o) o) o) (stmt_then (SAbort ((record { name = (w 28); index = None }) ∷ []) o) no_stmt)) no_arm) (present (stmt_then (SCall (record { task = (record { name = (w 41); index = None }); entry = (w 42); args = None }) o) no_stmt)) o) no_stmt)))) (handler_then (handler ([]) (stmt_then (SNull o) no_stmt) o) no_handler)) o) (stmt_then (SCall (record { task = (record { name = (w 37); index = None }); entry = (w 38); args = (Some (record { first = ((EInteger 2 o) ∷ []); second = (Some ((n 34) ∷ (n 35) ∷ (n 36) ∷ [])) })) }) o) (stmt_then (SIf (arm_then (arm (EBinary binary.NotEqual (n 34) (EInteger 8 o) o) (stmt_then (SCall (record { task = (record { name = (w 41); index = None }); entry = (w 42); args = None }) o) no_stmt)) no_arm) absent o) no_stmt))) no_handler) o) (decl_then (DTaskBody (w 37) no_decl (body (stmt_then (SAccept (accepting (record { entry = (w 38); index = (Some (EInteger 0 o)); formals = ((record { names = ((w 34) ∷ (w 35) ∷ (w 36) ∷ []); mode = mode.Give; mark = (w 0) }) ∷ []); span = o }) (present (stmt_then (SAssign (record { name = (w 34); index = None }) (EInteger 1 o) o) (stmt_then (SAssign (record { name = (w 35); index = None }) (EInteger 1 o) o) (stmt_then (SAssign (record { name = (w 36); index = None }) (EUnary unary.Minus (EInteger 2 o) o) o) no_stmt))))) o) (stmt_then (SAccept (accepting (record { entry = (w 38); index = (Some (EInteger 1 o)); formals = ((record { names = ((w 34) ∷ (w 35) ∷ (w 36) ∷ []); mode = mode.Give; mark = (w 0) }) ∷ []); span = o }) (present (stmt_then (SAssign (record { name = (w 34); index = None }) (EInteger 1 o) o) (stmt_then (SAssign (record { name = (w 35); index = None }) (EInteger 1 o) o) (stmt_then (SAssign (record { name = (w 36); index = None }) (EUnary unary.Minus (EInteger 2 o) o) o) no_stmt))))) o) (stmt_then (SAccept (accepting (record { entry = (w 39); index = (Some (EInteger 1 o)); formals = ([]); span = o }) absent) o) (stmt_then (SAccept (accepting (record { entry = (w 38); index = (Some (EInteger 1 o)); formals = ((record { names = ((w 34) ∷ (w 35) ∷ (w 36) ∷ []); mode = mode.Give; mark = (w 0) }) ∷ []); span = o }) (present (stmt_then (SAssign (record { name = (w 34); index = None }) (EInteger 2 o) o) (stmt_then (SAssign (record { name = (w 35); index = None }) (EInteger 0 o) o) (stmt_then (SAssign (record { name = (w 36); index = None }) (EInteger 0 o) o) no_stmt))))) o) (stmt_then (SAccept (accepting (record { entry = (w 39); index = (Some (EInteger 1 o)); formals = ([]); span = o }) absent) o) (stmt_then (SAccept (accepting (record { entry = (w 38); index = (Some (EInteger 1 o)); formals = ((record { names = ((w 34) ∷ (w 35) ∷ (w 36) ∷ []); mode = mode.Give; mark = (w 0) }) ∷ []); span = o }) (present (stmt_then (SAssign (record { name = (w 34); index = None }) (EInteger 3 o) o) (stmt_then (SAssign (record { name = (w 35); index = None }) (EInteger 0 o) o) (stmt_then (SAssign (record { name = (w 36); index = None }) (EInteger 0 o) o) no_stmt))))) o) (stmt_then (SAccept (accepting (record { entry = (w 39); index = (Some (EInteger 1 o)); formals = ([]); span = o }) absent) o) (stmt_then (SAccept (accepting (record { entry = (w 38); index = (Some (EInteger 2 o)); formals = ((record { names = ((w 34) ∷ (w 35) ∷ (w 36) ∷ []); mode = mode.Give; mark = (w 0) }) ∷ []); span = o }) (present (stmt_then (SAssign (record { name = (w 34); index = None }) (EInteger 9 o) o) (stmt_then (SAssign (record { name = (w 35); index = None }) (EInteger 1 o) o) (stmt_then (SAssign (record { name = (w 36); index = None }) (EInteger 0 o) o) no_stmt))))) o) (stmt_then (SAccept (accepting (record { entry = (w 39); index = (Some (EInteger 2 o)); formals = ([]); span = o }) absent) o) (stmt_then (SAccept (accepting (record { entry = (w 38); index = (Some (EInteger 2 o)); formals = ((record { names = ((w 34) ∷ (w 35) ∷ (w 36) ∷ []); mode = mode.Give; mark = (w 0) }) ∷ []); span = o }) (present (stmt_then (SAssign (record { name = (w 34); index = None }) (EInteger 9 o) o) (stmt_then (SAssign (record { name = (w 35); index = None }) (EInteger 2 o) o) (stmt_then (SAssign (record { name = (w 36); index = None }) (EInteger 0 o) o) no_stmt))))) o) (stmt_then (SBlock (body (stmt_then (SCall (record { task = (record { name = (w 28); index = None }); entry = (w 45); args = None }) o) no_stmt) (handler_then (handler ((w 9) ∷ []) (stmt_then (SNull o) no_stmt) o) no_handler)) o) (stmt_then (SAccept (accepting (record { entry = (w 38); index = (Some (EInteger 0 o)); formals = ((record { names = ((w 34) ∷ (w 35) ∷ (w 36) ∷ []); mode = mode.Give; mark = (w 0) }) ∷ []); span = o }) (present (stmt_then (SAssign (record { name = (w 34); index = None }) (EInteger 10 o) o) (stmt_then (SAssign (record { name = (w 35); index = None }) (EInteger 0 o) o) (stmt_then (SAssign (record { name = (w 36); index = None }) (EInteger 0 o) o) no_stmt))))) o) no_stmt)))))))))))) no_handler) o) (decl_then (DTaskBody (w 41) no_decl (body (stmt_then (SWait (alt_then (alternative None (AAccept (accepting (record { entry = (w 43); index = None; formals = ([]); span = o }) absent) no_stmt) o) (alt_then (alternative None ATerminate o) no_alt)) absent o) no_stmt) no_handler) o) no_decl)))))))))); body = (body (stmt_then (SBlock (body (stmt_then (SAssign (record { name = (w 30); index = None }) (EUnary unary.Minus (EInteger 2 o) o) o) (stmt_then (SCall (record { task = (record { name = (w 37); index = None }); entry = (w 38); args = (Some (record { first = ((EInteger 0 o) ∷ []); second = (Some ((n 34) ∷ (n 35) ∷ (n 36) ∷ [])) })) }) o) (stmt_then (SIf (arm_then (arm (EBinary binary.And (EBinary binary.And (EBinary binary.Equal (n 34) (EInteger 1 o) o) (EBinary binary.Equal (n 35) (EInteger 1 o) o) o) (EBinary binary.Equal (n 36) (n 30) o) o) (stmt_then (SCall (record { task = (record { name = (w 26); index = None }); entry = (w 27); args = (Some (record { first = ((n 30) ∷ []); second = None })) }) o) no_stmt)) (arm_then (arm (EBinary binary.And (EBinary binary.And (EBinary binary.Equal (n 34) (EInteger 7 o) o) (EBinary binary.Equal (n 35) (EInteger 1 o) o) o) (EBinary binary.Equal (n 36) (n 30) o) o) (stmt_then (SBlock (body (stmt_then (SCall (record { task = (record { name = (w 26); index = None }); entry = (w 46); args = (Some (record { first = ((n 30) ∷ []); second = None })) }) o) no_stmt) (handler_then (handler ([]) (stmt_then (SCall (record { task = (record { name = (w 37); index = None }); entry = (w 39); args = (Some (record { first = ((EInteger 0 o) ∷ []); second = None })) }) o) (stmt_then (SRaise None o) no_stmt)) o) no_handler)) o) no_stmt)) no_arm)) (present (stmt_then (SCall (record { task = (record { name = (w 41); index = None }); entry = (w 42); args = None }) o) no_stmt)) o) no_stmt))) (handler_then (handler ([]) (stmt_then (SNull o) no_stmt) o) no_handler)) o) (stmt_then (SCall (record { task = (record { name = (w 37); index = None }); entry = (w 38); args = (Some (record { first = ((EInteger 0 o) ∷ []); second = (Some ((n 34) ∷ (n 35) ∷ (n 36) ∷ [])) })) }) o) (stmt_then (SIf (arm_then (arm (EBinary binary.NotEqual (n 34) (EInteger 10 o) o) (stmt_then (SCall (record { task = (record { name = (w 41); index = None }); entry = (w 42); args = None }) o) no_stmt)) no_arm) absent o) no_stmt))) no_handler) }

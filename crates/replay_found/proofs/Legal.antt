@@ -16,7 +16,7 @@ use Rattle.syn_event.specs.DeclaredTasks.{decl_list, tasks_in, tasks_of}
 use Rattle.normal_types.specs.Laws.{IsOrdered}
 use Rattle.normal_form_law.specs.Normalisable.{numbers_of, setting_for, made_for}
 use Rattle.normal_placed.proofs.Whole.{each-of}
-use Rattle.normal_legal.specs.Laws.{IsLegal}
+use Rattle.normal_legal.specs.Laws.{IsLegalOriginal}
 use Rattle.normal_legal.proofs.units.Fields.{legal_is_ordered}
 use Rattle.normal_has_numbers.proofs.Tasked.{under, normal-tasks-of}
 use Rattle.replay_model.specs.Names.{never_text, join_text, added_id}
@@ -66,7 +66,7 @@ module _ (q : PProgram) (old : ℕ → Bool) (names : List (List ℕ)) (types : 
 
 -- ---- legal programs
 
-module _ (p : PProgram) (h : IsLegal p) where
+module _ (p : PProgram) (h : IsLegalOriginal p) where
   abbrev q : PProgram
   q = made_for p
 

@@ -8,7 +8,7 @@ use Rattle.syn_event.specs.Numbering.{entry_named}
 use Rattle.task_model.specs.Setting.{Setting}
 use Rattle.normal_form_law.specs.Choosing.{choosing}
 use Rattle.normal_form_law.specs.Normalisable.{made_for}
-use Rattle.normal_legal.specs.Laws.{IsLegal}
+use Rattle.normal_legal.specs.Laws.{IsLegalOriginal}
 use Rattle.replay_law.specs.Copies.{Spots}
 use Rattle.replay_model.specs.Names.{never_text, join_text, added_id}
 use Rattle.replay_model.specs.ReplayTree.{last_task}
@@ -59,16 +59,16 @@ MoreAreFound = (far : Spots) (g : Setting) (old : ℕ → Bool) → HasNamesApar
 
 -- In the normal form of each legal program names are so.
 abbrev pub LegalHasNamesApart : Type 0
-LegalHasNamesApart = (p : PProgram) → IsLegal p → HasNamesApart (form_for p) (old_name (made_for p))
+LegalHasNamesApart = (p : PProgram) → IsLegalOriginal p → HasNamesApart (form_for p) (old_name (made_for p))
 
 -- So the doubles are found in the replay text of each legal program,
 abbrev pub LegalDoublesAreFound : Type 0
-LegalDoublesAreFound = (far : Spots) (p : PProgram) → IsLegal p → FindsDoubles far (form_for p)
+LegalDoublesAreFound = (far : Spots) (p : PProgram) → IsLegalOriginal p → FindsDoubles far (form_for p)
 
 -- and the two more entries of each task.
 abbrev pub LegalMoreAreFound : Type 0
-LegalMoreAreFound = (far : Spots) (p : PProgram) → IsLegal p → FindsMore far (form_for p)
+LegalMoreAreFound = (far : Spots) (p : PProgram) → IsLegalOriginal p → FindsMore far (form_for p)
 
 -- A program with an array of tasks is such a one.
 abbrev pub IsMet : Type 0
-IsMet = IsLegal choosing
+IsMet = IsLegalOriginal choosing

@@ -19,7 +19,7 @@ use Rattle.normal_types.specs.Own.{own_name}
 use Rattle.normal_placed.proofs.Added.{unit-from}
 use Rattle.normal_checked.specs.Around.{own_rules}
 use Rattle.normal_form_law.specs.Normalisable.{numbers_of, setting_for, made_for}
-use Rattle.normal_legal.specs.Laws.{IsLegal}
+use Rattle.normal_legal.specs.Laws.{IsLegalOriginal}
 use Rattle.normal_meets_checks.proofs.Facts as facts
 use Rattle.normal_meets_checks.proofs.Copies.{CalleesBeside, bodies-beside}
 use Rattle.replay_declares_once.proofs.Ids.{IsOwn}
@@ -40,7 +40,7 @@ least : (n : ℕ) → 0 ≤ n
 least n = omega arith
 
 -- Of a test that holds of the program's own names, and of those names of the normal form of which no replay text has one of its own.
-module _ (p : PProgram) (h : IsLegal p) (kept : ℕ → Bool) (old : (k : ℕ) → own_name p k ≡ true → kept k ≡ true) (new : (x : ℕ) → IsOwn (made_for p).names x → kept x ≡ true) where
+module _ (p : PProgram) (h : IsLegalOriginal p) (kept : ℕ → Bool) (old : (k : ℕ) → own_name p k ≡ true → kept k ≡ true) (new : (x : ℕ) → IsOwn (made_for p).names x → kept x ≡ true) where
   abbrev g : Setting
   g = setting_for p
 

@@ -11,7 +11,7 @@ use Rattle.normal_placed.specs.Example.{passing}
 use Rattle.normal_placed.proofs.Instance.{example_is_placeable}
 use Rattle.normal_legal.specs.units.Weights.{IsLight}
 use Rattle.normal_form_law.specs.Normalisable.{numbers_of}
-use Rattle.normal_legal.specs.Laws.{IsLegal}
+use Rattle.normal_legal.specs.Laws.{IsLegalOriginal}
 use Rattle.normal_legal.proofs.Instance.{IsOther, small-other}
 use Rattle.normal_is_legal.proofs.Places.{places_meet}
 use Rattle.replay_checked.specs.Example.{example_events}
@@ -33,7 +33,7 @@ small = record { kinds = λ k x e. small-other k x (place-all IsOther (types_in 
 light : IsLight passing
 light = (lit< tt, (lit< tt, tt))
 
-passing-is-legal : IsLegal passing
+passing-is-legal : IsLegalOriginal passing
 passing-is-legal = record { legal = legal; placed = example_is_placeable.placed; names = example_is_placeable.names; small = small; light = light }
 
 -- ---- its replay text

@@ -26,7 +26,7 @@ use Rattle.normal_checked.specs.Around.{IsLiteralOf, is_false, is_true, is_enume
 use Rattle.normal_legal_asked.proofs.Bodies.{main-asked}
 use Rattle.normal_legal_asked.proofs.Beside.{callees-beside}
 use Rattle.normal_declares_once.proofs.Ids.{first-free}
-use Rattle.normal_legal.specs.Laws.{IsLegal}
+use Rattle.normal_legal.specs.Laws.{IsLegalOriginal}
 use Rattle.normal_scopes.proofs.Main.{named}
 use Rattle.normal_meets_checks.proofs.AroundBody.{place-there, kinds-there, has-value}
 use Rattle.normal_meets_checks.proofs.Facts as facts
@@ -57,7 +57,7 @@ new-kept p x o = by_place (slice_get (made_for p).names x) refl o
         (ap (λ (s : Option (List ℕ)). list_any (bytes_eq (unwrap_or s [])) meant_texts) e ∙ shorter (bytes_eq t) meant_texts (join_text ∷ []) (or_parts (list_any (bytes_eq t) (meant_texts ++ join_text ∷ [])) (starts_with nat_eq t (codes "DED_S_")) k).0)
 
 -- Of a test that holds of the program's own names, and of those names of the normal form of which no replay text has one of its own.
-module _ (p : PProgram) (h : IsLegal p) (kept : ℕ → Bool) (old : (k : ℕ) → own_name p k ≡ true → kept k ≡ true) (new : (x : ℕ) → IsOwn (made_for p).names x → kept x ≡ true) where
+module _ (p : PProgram) (h : IsLegalOriginal p) (kept : ℕ → Bool) (old : (k : ℕ) → own_name p k ≡ true → kept k ≡ true) (new : (x : ℕ) → IsOwn (made_for p).names x → kept x ≡ true) where
   abbrev g : Setting
   g = setting_for p
 

@@ -29,7 +29,7 @@ use Rattle.normal_types.proofs.Variables.{unit-all}
 use Rattle.normal_has_numbers.proofs.Listed as list
 use Rattle.normal_has_numbers.proofs.Tasked.{under, normal-tasks-of}
 use Rattle.normal_form_law.specs.Normalisable.{numbers_of, setting_for, made_for}
-use Rattle.normal_legal.specs.Laws.{IsLegal}
+use Rattle.normal_legal.specs.Laws.{IsLegalOriginal}
 use Rattle.normal_asked.specs.Pieces.{IsAmong, first_among, later_among}
 use Rattle.normal_declares_once.proofs.Ids.{variable-new, new-not-predefined}
 use Rattle.normal_fits.proofs.Counted.{tasks-within}
@@ -105,7 +105,7 @@ under-entries : (g : Setting) (ys : List NumberedTask) → entries_count (map (u
 under-entries g [] = refl
 under-entries g (y ∷ ys) = ap (λ m. length y.unit.entries + m) (under-entries g ys)
 
-module _ (p : PProgram) (h : IsLegal p) where
+module _ (p : PProgram) (h : IsLegalOriginal p) where
   abbrev g : Setting
   g = setting_for p
 

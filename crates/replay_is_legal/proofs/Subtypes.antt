@@ -34,7 +34,7 @@ use Rattle.normal_legal.proofs.variable_types.Numbers.{EntryRule, IsRuled, IsEnt
 use Rattle.normal_legal.proofs.variable_types.Subtypes.{RangeEvery}
 use Rattle.normal_checked.specs.Around.{own_rules}
 use Rattle.normal_form_law.specs.Normalisable.{numbers_of, setting_for, made_for}
-use Rattle.normal_legal.specs.Laws.{IsLegal}
+use Rattle.normal_legal.specs.Laws.{IsLegalOriginal}
 use Rattle.normal_scopes.specs.Plain.{plain_name}
 use Rattle.normal_scopes.proofs.Names.{plain-own}
 use Rattle.normal_typed_decls.proofs.Variables.{subtypes-good}
@@ -101,7 +101,7 @@ module _ (own kept : ℕ → Bool) (old : (n : ℕ) → own n ≡ true → kept 
 
 -- ---- a legal program
 
-module _ (p : PProgram) (h : IsLegal p) (kept : ℕ → Bool) (old : (k : ℕ) → own_name p k ≡ true → kept k ≡ true) (new : (x : ℕ) → IsOwn (made_for p).names x → kept x ≡ true) where
+module _ (p : PProgram) (h : IsLegalOriginal p) (kept : ℕ → Bool) (old : (k : ℕ) → own_name p k ≡ true → kept k ≡ true) (new : (x : ℕ) → IsOwn (made_for p).names x → kept x ≡ true) where
   abbrev g : Setting
   g = setting_for p
 

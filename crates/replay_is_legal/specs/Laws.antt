@@ -13,7 +13,7 @@ use Rattle.syn_event.specs.DeclaredTasks.{decl_list}
 use Rattle.control_script.specs.declared.Op.{Op}
 use Rattle.normal_placed.specs.Example.{passing}
 use Rattle.normal_form_law.specs.Normalisable.{numbers_of, made_for}
-use Rattle.normal_legal.specs.Laws.{IsLegal}
+use Rattle.normal_legal.specs.Laws.{IsLegalOriginal}
 use Rattle.normal_is_legal.specs.Laws.{MeetsButOnce}
 use Rattle.replay_model.specs.Promised.{HasLiteral, IsReplayText}
 use Rattle.replay_model.specs.ReplayNumbers.{replay_numbers}
@@ -30,15 +30,15 @@ text_for p events = replay_tree p (types_in p) (numbers_of p) events
 
 -- The replay text of a legal program has the numbers of the definition, whatever the sequence (this project's rule).
 abbrev pub LegalReplayHasNumbers : Type 0
-LegalReplayHasNumbers = (p : PProgram) (events : List Event) → IsLegal p → all_numbers (types_in (text_for p events)) (text_for p events) ≡ replay_numbers p (types_in p) (numbers_of p)
+LegalReplayHasNumbers = (p : PProgram) (events : List Event) → IsLegalOriginal p → all_numbers (types_in (text_for p events)) (text_for p events) ≡ replay_numbers p (types_in p) (numbers_of p)
 
 -- With any operations it meets the first twelve rules where its places meet all of them but rule Duplicate.
 abbrev pub LegalReplayMeetsTypes : Type 0
-LegalReplayMeetsTypes = (p : PProgram) (ops : List Op) → IsLegal p → MeetsButOnce (replay_of (form_for p) ops) → MeetsTypeRules (replay_of (form_for p) ops)
+LegalReplayMeetsTypes = (p : PProgram) (ops : List Op) → IsLegalOriginal p → MeetsButOnce (replay_of (form_for p) ops) → MeetsTypeRules (replay_of (form_for p) ops)
 
 -- With any operations it meets the rules 13 to 23 where the normal form is as these rules ask of it.
 abbrev pub LegalReplayMeetsChecks : Type 0
-LegalReplayMeetsChecks = (p : PProgram) (ops : List Op) → IsLegal p → IsCheckable (form_for p) ops → MeetsCheckRules (replay_of (form_for p) ops) Any
+LegalReplayMeetsChecks = (p : PProgram) (ops : List Op) → IsLegalOriginal p → IsCheckable (form_for p) ops → MeetsCheckRules (replay_of (form_for p) ops) Any
 
 -- What is left of what the rules 13 to 23 ask: the names in the declarations of the normal form are kept in the text, nothing is nested deeper than 100 there, and the events tell of the ends of tasks beside main alone.
 pub record AreKept (p : PProgram) (events : List Event) : Type 0 where
@@ -47,7 +47,7 @@ pub record AreKept (p : PProgram) (events : List Event) : Type 0 where
 
 -- A legal program with such events is prepared as `replay_checkable` asks.
 abbrev pub LegalIsPrepared : Type 0
-LegalIsPrepared = (p : PProgram) (events : List Event) → IsLegal p → AreKept p events → IsPrepared p events
+LegalIsPrepared = (p : PProgram) (events : List Event) → IsLegalOriginal p → AreKept p events → IsPrepared p events
 
 -- What is asked of a program and a sequence for the static rules: that, and that the places of the replay text meet the first twelve but for rule Duplicate.
 pub record MeetsAtPlaces (p : PProgram) (events : List Event) : Type 0 where
@@ -57,7 +57,7 @@ pub record MeetsAtPlaces (p : PProgram) (events : List Event) : Type 0 where
 -- So the replay text of a legal program is legal as a text of any kind.
 abbrev pub ReplayIsLegal : Type 0
 ReplayIsLegal =
-    (p : PProgram) (events : List Event) → IsLegal p → MeetsAtPlaces p events →
+    (p : PProgram) (events : List Event) → IsLegalOriginal p → MeetsAtPlaces p events →
     Legal (text_for p events) (types_in (text_for p events)) (replay_numbers p (types_in p) (numbers_of p)) Any
 
 -- What is asked beside, so that it is well placed: a text can hold the numbers of the sequence.
@@ -67,8 +67,8 @@ pub record IsHeld (p : PProgram) (events : List Event) : Type 0 where
 
 -- Then it is as it is promised of replay texts.
 abbrev pub ReplayIsAsPromised : Type 0
-ReplayIsAsPromised = (p : PProgram) (events : List Event) → IsLegal p → MeetsAtPlaces p events → IsHeld p events → IsReplayText p (types_in p) (numbers_of p) events (text_for p events)
+ReplayIsAsPromised = (p : PProgram) (events : List Event) → IsLegalOriginal p → MeetsAtPlaces p events → IsHeld p events → IsReplayText p (types_in p) (numbers_of p) events (text_for p events)
 
 -- A program is legal and, with a whole run of it, as asked: its main procedure calls an entry of a task.
 abbrev pub IsMet : Type 0
-IsMet = IsLegal passing × MeetsAtPlaces passing example_events × IsHeld passing example_events
+IsMet = IsLegalOriginal passing × MeetsAtPlaces passing example_events × IsHeld passing example_events

@@ -13,7 +13,7 @@ use Rattle.replay_model.specs.ReplayTree.{script_of, replay_tree}
 use Rattle.replay_placed.specs.Placeable.{HasSmallIndices}
 use Rattle.normal_placed.specs.Example.{passing}
 use Rattle.normal_form_law.specs.Normalisable.{numbers_of}
-use Rattle.normal_legal.specs.Laws.{IsLegal}
+use Rattle.normal_legal.specs.Laws.{IsLegalOriginal}
 use Rattle.replay_checked.specs.Example.{example_events}
 
 -- each number of these events is one that the program has
@@ -28,7 +28,7 @@ KnownHaveLiterals =
 
 -- So the replay text of a legal program and of such events is well placed.
 abbrev pub KnownReplayIsPlaced : Type 0
-KnownReplayIsPlaced = (p : PProgram) (events : List Event) → IsLegal p → AreKnown p events → IsWellPlaced (replay_tree p (types_in p) (numbers_of p) events)
+KnownReplayIsPlaced = (p : PProgram) (events : List Event) → IsLegalOriginal p → AreKnown p events → IsWellPlaced (replay_tree p (types_in p) (numbers_of p) events)
 
 -- The numbers of a whole run of a program with a task and a call are known, and the program meets the rules.
 abbrev pub IsMet : Type 0

@@ -16,7 +16,7 @@ use Rattle.normal_model.specs.Names.{task_name}
 use Rattle.normal_model.specs.NormalTree.{first_decls, tasks_beside, task_declared, bodies_of, main_unit, main_variables}
 use Rattle.normal_form_law.specs.Normalisable.{numbers_of, made_for}
 use Rattle.normal_asked.specs.Pieces.{IsAmong}
-use Rattle.normal_legal.specs.Laws.{IsLegal}
+use Rattle.normal_legal.specs.Laws.{IsLegalOriginal}
 use Rattle.normal_placed.proofs.Made.{among}
 use Rattle.normal_scopes.proofs.Main as main
 use Rattle.normal_scopes.proofs.Main.{g, unit-of}
@@ -43,7 +43,7 @@ named-owns : (old : ℕ → Bool) (d : PDecl) → IsNamedBody old d → HasOwns 
 named-owns old (DTaskBody w objects its s) h = h.owns
 named-owns old _ h = absurd h
 
-module _ (p : PProgram) (legal : IsLegal p) where
+module _ (p : PProgram) (legal : IsLegalOriginal p) where
   abbrev F : Setting
   F = form_for p
 

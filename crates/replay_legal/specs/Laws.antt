@@ -9,7 +9,7 @@ use Rattle.syn_event.specs.DeclaredTasks.{decl_list}
 use Rattle.normal_model.specs.NormalTree.{first_decls, main_variables}
 use Rattle.normal_placed.specs.Example.{passing}
 use Rattle.normal_form_law.specs.Normalisable.{numbers_of, setting_for, made_for}
-use Rattle.normal_legal.specs.Laws.{IsLegal}
+use Rattle.normal_legal.specs.Laws.{IsLegalOriginal}
 use Rattle.normal_is_legal.specs.Laws.{MeetsButOnce}
 use Rattle.replay_model.specs.Promised.{IsReplayText}
 use Rattle.replay_model.specs.ReplayNumbers.{replay_numbers}
@@ -25,22 +25,22 @@ use Rattle.replay_known.specs.Laws.{AreKnown}
 -- The normal form of a legal program, and the operations of a script of known events, are as the replay text asks.
 abbrev pub LegalNormalIsForm : Type 0
 LegalNormalIsForm =
-    (p : PProgram) (events : List Event) → IsLegal p → AreKnown p events →
+    (p : PProgram) (events : List Event) → IsLegalOriginal p → AreKnown p events →
     IsForm (form_for p) (old_name (made_for p)) (inner_name p) (script_of (numbers_of p) events) (decl_list (first_decls [] p.decls)) (main_variables (setting_for p))
 
 -- So each place of the replay text meets the first twelve rules but for rule Duplicate.
 abbrev pub KnownReplayMeetsAtPlaces : Type 0
-KnownReplayMeetsAtPlaces = (p : PProgram) (events : List Event) → IsLegal p → AreKnown p events → MeetsButOnce (text_for p events)
+KnownReplayMeetsAtPlaces = (p : PProgram) (events : List Event) → IsLegalOriginal p → AreKnown p events → MeetsButOnce (text_for p events)
 
 -- The replay text is legal as a text of any kind, with its own types and the numbers of the definition.
 abbrev pub KnownReplayIsLegal : Type 0
 KnownReplayIsLegal =
-    (p : PProgram) (events : List Event) → IsLegal p → AreKnown p events → Legal (text_for p events) (types_in (text_for p events)) (replay_numbers p (types_in p) (numbers_of p)) Any
+    (p : PProgram) (events : List Event) → IsLegalOriginal p → AreKnown p events → Legal (text_for p events) (types_in (text_for p events)) (replay_numbers p (types_in p) (numbers_of p)) Any
 
 -- It is all that is promised of replay texts.
 abbrev pub KnownReplayIsAsPromised : Type 0
-KnownReplayIsAsPromised = (p : PProgram) (events : List Event) → IsLegal p → AreKnown p events → IsReplayText p (types_in p) (numbers_of p) events (text_for p events)
+KnownReplayIsAsPromised = (p : PProgram) (events : List Event) → IsLegalOriginal p → AreKnown p events → IsReplayText p (types_in p) (numbers_of p) events (text_for p events)
 
 -- A program is legal and, with a whole run of it, as asked: its main procedure calls an entry of a task.
 abbrev pub IsMet : Type 0
-IsMet = IsLegal passing × AreKnown passing example_events
+IsMet = IsLegalOriginal passing × AreKnown passing example_events

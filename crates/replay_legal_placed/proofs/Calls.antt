@@ -37,7 +37,7 @@ use Rattle.asked_stmts.proofs.Together.{both_asked}
 use Rattle.normal_model.specs.RewrittenUnit.{RewrittenUnit}
 use Rattle.legal_entries.proofs.Entries.{entry_in}
 use Rattle.normal_legal.proofs.seen_tasks.Bodies.{PlaceSeen, accept-seen, handling-seen, loop-seen}
-use Rattle.normal_legal.proofs.statement_forms.Heads.{entry-said}
+use Rattle.normal_legal.proofs.statement_forms.OwnEntries.{entry-said}
 use Rattle.normal_legal.proofs.statement_forms.Callees.{CalleeKnown, callee-known, some-not}
 use Rattle.normal_typed.proofs.Scopes.{accept-own, loop-own}
 use Rattle.normal_legal_asked.proofs.Steps.{Steps, steps_asked}

@@ -41,7 +41,7 @@ use Rattle.normal_units.proofs.Declared.{units_are_declared}
 use Rattle.normal_units.proofs.Tasks.{tasks_keep_numbers}
 use Rattle.normal_runs_law.specs.Premises.{programs_of}
 use Rattle.normal_form_law.specs.Normalisable.{numbers_of, setting_for, normal_rewrite}
-use Rattle.normal_legal.specs.Laws.{IsLegal}
+use Rattle.normal_legal.specs.Laws.{IsLegalOriginal}
 use Rattle.normal_legal.proofs.units.Fields.{legal_is_ordered, legal_names_tell}
 use Rattle.normal_legal.proofs.seen_tasks.Parts.{IsUnit, MainSeen, ObjectsApart, AreRanged, types_after, decl-step}
 use Rattle.normal_legal.proofs.seen_tasks.Bodies.{first-seen, decls-step, main-seen, TaskSeen, task-seen}
@@ -102,7 +102,7 @@ all-pass q (x ∷ xs) = by_test (q x) refl (all-pass q xs)
     by_test true e rest = (e, rest)
     by_test false e rest = rest
 
-module _ (p : PProgram) (h : IsLegal p) where
+module _ (p : PProgram) (h : IsLegalOriginal p) where
   abbrev T : TypeTable
   T = types_in p
 

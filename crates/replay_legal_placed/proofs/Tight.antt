@@ -29,12 +29,12 @@ use Rattle.rewritten_types.proofs.Lookups.{find-all}
 use Rattle.legal_sites.specs.Met.{IsMet}
 use Rattle.legal_types.proofs.MainScopes.{StandsWhole, last-stands}
 use Rattle.legal_entries.proofs.Entries.{IsTaskOf}
-use Rattle.normal_legal.specs.Laws.{IsLegal}
+use Rattle.normal_legal.specs.Laws.{IsLegalOriginal}
 use Rattle.normal_legal.proofs.seen_tasks.Finding.{no-place}
 use Rattle.normal_legal.proofs.seen_tasks.Parts.{FamilyRanged}
 use Rattle.normal_legal.proofs.seen_tasks.Bodies.{PlaceSeen}
 use Rattle.normal_legal.proofs.statement_forms.Typed.{Typing}
-use Rattle.normal_legal.proofs.statement_forms.Heads.{same-kind, EntryKnown, own-entry, index-of-family}
+use Rattle.normal_legal.proofs.statement_forms.OwnEntries.{same-kind, EntryKnown, own-entry, index-of-family}
 use Rattle.normal_legal_asked.proofs.Tasks.{text}
 use Rattle.normal_typed.specs.ScopeOf.{IsFamilyOf, IsEntryOf}
 use Rattle.normal_scopes.proofs.Seeing.{entries_in}
@@ -45,7 +45,7 @@ use Rattle.replay_model.specs.Asking.{number_in, member_number}
 use Rattle.replay_placed.specs.Fitting.{IsOperand}
 use Rattle.replay_legal_placed.proofs.IndexKinds.{kind-operand}
 
-module _ (p : PProgram) (h : IsLegal p) where
+module _ (p : PProgram) (h : IsLegalOriginal p) where
   abbrev T : TypeTable
   T = types_in p
 

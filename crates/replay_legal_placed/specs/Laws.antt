@@ -7,7 +7,7 @@ use Rattle.ada_tree.specs.Refusals.{types_in}
 use Rattle.ada_tree.specs.WellPlaced.{IsWellPlaced}
 use Rattle.normal_form_law.specs.Choosing.{choosing}
 use Rattle.normal_form_law.specs.Normalisable.{numbers_of}
-use Rattle.normal_legal.specs.Laws.{IsLegal}
+use Rattle.normal_legal.specs.Laws.{IsLegalOriginal}
 use Rattle.replay_model.specs.Promised.{HasLiteral}
 use Rattle.replay_model.specs.ReplayTree.{script_of, replay_tree}
 use Rattle.replay_placed.specs.Placeable.{HasSmallIndices}
@@ -15,9 +15,9 @@ use Rattle.replay_placed.specs.Placeable.{HasSmallIndices}
 -- The replay text of a legal program and a sequence is well placed, where a text can hold the numbers of the sequence.
 abbrev pub LegalReplayIsPlaced : Type 0
 LegalReplayIsPlaced =
-    (p : PProgram) (events : List Event) → IsLegal p → AllByRecursion HasSmallIndices events → AllByRecursion HasLiteral (script_of (numbers_of p) events) →
+    (p : PProgram) (events : List Event) → IsLegalOriginal p → AllByRecursion HasSmallIndices events → AllByRecursion HasLiteral (script_of (numbers_of p) events) →
     IsWellPlaced (replay_tree p (types_in p) (numbers_of p) events)
 
 -- A legal program is so.
 abbrev pub IsMet : Type 0
-IsMet = IsLegal choosing
+IsMet = IsLegalOriginal choosing

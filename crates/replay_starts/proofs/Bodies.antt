@@ -1,5 +1,5 @@
 -- Each task of a legal program has a body, so the tasks of its replay text run the units that they should.
-use Rattle.std.proofs.Common.{◌≡◌, ℕ, Bool, true, ◌==◌, ◌||◌, List, [], ◌∷◌, map, ap, ◌∙◌, refl, sym}
+use Rattle.std.proofs.Common.{◌≡◌, true, ◌==◌, ◌||◌, List, [], ◌∷◌, map, ap, ◌∙◌, refl}
 use Rattle.std.specs.List.{AllByRecursion, list_any}
 use Rattle.ada_tree.specs.declared.naming.NameId.{NameId}
 use Rattle.ada_tree.specs.declared.naming.Span.{Span}
@@ -10,10 +10,10 @@ use Rattle.ada_tree.specs.Refusals.{types_in}
 use Rattle.syn_event.specs.declared.numbering.TaskInfo.{TaskInfo}
 use Rattle.syn_event.specs.CheckSites as check
 use Rattle.syn_event.specs.NamedTasks.{NumberedTask, task_names_of, numbered_tasks}
-use Rattle.syn_event.specs.AllNumbers.{info_of_task, all_numbers}
+use Rattle.syn_event.specs.AllNumbers.{info_of_task}
 use Rattle.syn_event.specs.DeclaredTasks.{decl_list, tasks_in}
 use Rattle.normal_units.proofs.Declared.{parts-all, numbered-tasks-all}
-use Rattle.normal_legal.specs.Laws.{IsLegal}
+use Rattle.normal_legal.specs.Laws.{IsLegalOriginal}
 use Rattle.normal_legal_numbers.proofs.Numbered.{none_legal_is_ded}
 use Rattle.normal_meets_checks.proofs.Facts as facts
 use Rattle.normal_meets_checks.proofs.Sizes.{DeclSized, decls-sized}
@@ -49,7 +49,7 @@ body-there (decl_then (DException ws s) rest) id = body-there rest id
 body-there (decl_then (DIntIo w s) rest) id = body-there rest id
 body-there (decl_then (DPragma e s) rest) id = body-there rest id
 
-module _ (p : PProgram) (h : IsLegal p) where
+module _ (p : PProgram) (h : IsLegalOriginal p) where
   abbrev HasBody : NameId → Type 0
   HasBody id = has_body (decl_list p.decls) id ≡ true
 

@@ -136,7 +136,7 @@ module _ (p : PProgram) (events : List Event) (ordered : IsOrdered p) (own : Are
   reserved-apart : (t : List ℕ) (id : NameId) → Has (replay_names normal) t → IsReserved t → old id.0 ≡ true → ((added_id normal t).0 == id.0) ≡ false
   reserved-apart t id h k o = apart old (added_id normal t).0 id.0 (reserved-new p (replay_names normal) t (text-begins p (types_in p) numbers) h k) o
 
-  reserved-turned : (t : List ℕ) (id : NameId) → Has (replay_names normal) t → IsReserved t → old id.0 ≡ true → (id.0 == (added_id normal t).0) ≡ false
+  pub reserved-turned : (t : List ℕ) (id : NameId) → Has (replay_names normal) t → IsReserved t → old id.0 ≡ true → (id.0 == (added_id normal t).0) ≡ false
   reserved-turned t id h k o = unequal_turned (added_id normal t).0 id.0 (reserved-apart t id h k o)
 
   -- the text of a double's name
@@ -390,7 +390,8 @@ module _ (p : PProgram) (events : List Event) (ordered : IsOrdered p) (own : Are
 
   -- ---- the controller and the idle task
 
-  none-named : (t : List ℕ) → is_added_name (replay_names normal) (added_id normal t) ≡ true → AllByRecursion (λ (x : PTask). (x.name.name.0 == (added_id normal t).0) ≡ false) (tasks_of normal)
+  -- no task of the program has the name of one that is added
+  pub none-named : (t : List ℕ) → is_added_name (replay_names normal) (added_id normal t) ≡ true → AllByRecursion (λ (x : PTask). (x.name.name.0 == (added_id normal t).0) ≡ false) (tasks_of normal)
   none-named t a = subst (AllByRecursion (λ (x : PTask). (x.name.name.0 == (added_id normal t).0) ≡ false)) (sym tasks-are) (go ys (all-not-added p ordered own ded))
     where
       unlike : (id : NameId) → is_added_name (replay_names normal) id ≡ false → (b : Bool) → (id.0 == (added_id normal t).0) ≡ b → b ≡ false

@@ -37,7 +37,7 @@ use Rattle.normal_types.specs.Own.{own_name}
 use Rattle.normal_types.specs.Laws.{setting_of}
 use Rattle.normal_placed.proofs.Added.{AreSubtypes, AreVariablesFrom, unit-from}
 use Rattle.normal_legal.specs.variable_types.Ready.{IsReady}
-use Rattle.normal_legal.proofs.variable_types.Forms.{predefined-own, meant-own}
+use Rattle.normal_legal.proofs.variable_types.SubtypeForms.{predefined-own, meant-own}
 use Rattle.normal_legal.proofs.variable_types.Numbers.{range-is}
 use Rattle.normal_legal.proofs.variable_types.Subtypes.{own_rule, entry-known, array-own, IsScalarFormal, formals-known}
 use Rattle.normal_legal_numbers.proofs.Numbered.{none_legal_is_ded}

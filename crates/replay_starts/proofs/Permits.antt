@@ -1,9 +1,8 @@
 -- No object of a normal form of a legal program has a name of the permit, so these names mean the permit's variables at the start.
-use Rattle.std.proofs.Common.{◌≡◌, ℕ, suc, ◌+◌, ◌≤◌, Bool, true, false, max, if◌then◌else◌, List, [], ◌∷◌, ◌++◌, length, map, flat_map, Option, Some, None, refl, sym, ap, ◌∙◌, subst, arith}
+use Rattle.std.proofs.Common.{◌≡◌, ℕ, suc, ◌+◌, ◌≤◌, Bool, true, false, if◌then◌else◌, List, [], ◌∷◌, ◌++◌, length, map, flat_map, Option, Some, None, refl, sym, ap, ◌∙◌, subst, arith}
 use Rattle.std.specs.List.{AllByRecursion}
 use Rattle.std.proofs.lemmas.List.Elements.{recursion_from_All}
 use Rattle.common_lemmas.proofs.Lists.{all_joined, all_weaker, all_unmapped}
-use Rattle.event_machine.specs.declared.Event.{Event}
 use Rattle.ada_tree.specs.declared.naming.NameId.{NameId}
 use Rattle.ada_tree.specs.declared.naming.Word.{Word}
 use Rattle.ada_tree.specs.TypeTable.{TypeTable}
@@ -29,14 +28,14 @@ use Rattle.normal_types.proofs.Variables.{all-mapped}
 use Rattle.normal_units.proofs.Tasks.{list-front}
 use Rattle.normal_form_law.specs.Normalisable.{setting_for, made_for}
 use Rattle.normal_form_law.proofs.Numbered.{AreNumbered, none_numbered, numbered_then, unit-numbered}
-use Rattle.normal_legal.specs.Laws.{IsLegal}
+use Rattle.normal_legal.specs.Laws.{IsLegalOriginal}
 use Rattle.normal_declares_once.proofs.Good.{good_names, program-good}
 use Rattle.replay_model.specs.Names.{kind_text, argument_text, index_text}
 use Rattle.replay_texts.proofs.Rooted.{replay-has}
 use Rattle.replay_bodies.proofs.Bodies.{unit-at}
 use Rattle.replay_declares_once.proofs.Ids.{IsOwn, own-apart}
 use Rattle.replay_declares_once.proofs.Texts.{good-own, variable-own}
-use Rattle.replay_starts.specs.Laws.{IsNoPermit, objects_in, added_part, plain_part, HavePermit, form_in}
+use Rattle.replay_starts.specs.Laws.{IsNoPermit, added_part, plain_part, HavePermit, form_in}
 use Rattle.replay_starts.specs.Legal.{FindsAtStart, LegalFindsPermits}
 use Rattle.replay_starts.proofs.Objects.{stays, finds}
 use Rattle.replay_starts.proofs.Programs.{all-added, InBody, in-unit, of-main, of-bodies}
@@ -82,7 +81,7 @@ within bound (n ∷ ns) h = (omega (arith, h), within bound ns (omega (arith, h)
 
 -- ---- the normal form of a legal program
 
-module _ (p : PProgram) (h : IsLegal p) where
+module _ (p : PProgram) (h : IsLegalOriginal p) where
   abbrev g : Setting
   g = setting_for p
 

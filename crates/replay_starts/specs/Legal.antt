@@ -10,22 +10,22 @@ use Rattle.syn_event.specs.Numbering.{task_at}
 use Rattle.syn_event.specs.AllNumbers.{all_numbers}
 use Rattle.control_script.specs.declared.Op.{Op}
 use Rattle.replay_law.specs.Copies.{Spots}
-use Rattle.normal_legal.specs.Laws.{IsLegal}
+use Rattle.normal_legal.specs.Laws.{IsLegalOriginal}
 use Rattle.replay_bodies.specs.Laws.{HasBodies, RunsUnits}
 use Rattle.replay_starts.specs.Laws.{IsNoPermit, FindsPermit, form_in, start_before, start_after, TextStarts}
 use Rattle.replay_starts.specs.Formals.{HaveFormals}
 
 -- Each task of a legal program runs a body that is declared (9.1).
 abbrev pub LegalHasBodies : Type 0
-LegalHasBodies = (p : PProgram) → IsLegal p → HasBodies p (drop 1 (all_numbers (types_in p) p).tasks)
+LegalHasBodies = (p : PProgram) → IsLegalOriginal p → HasBodies p (drop 1 (all_numbers (types_in p) p).tasks)
 
 -- So each task of its replay text runs the unit that it runs in the normal form, with the permit's variables and a body that asks, and the two tasks that are added run theirs.
 abbrev pub LegalRuns : Type 0
-LegalRuns = (p : PProgram) (ops : List Op) → IsLegal p → RunsUnits p ops
+LegalRuns = (p : PProgram) (ops : List Op) → IsLegalOriginal p → RunsUnits p ops
 
 -- The tasks of a replay text of a legal program start with the objects of the normal form and the permit's variables.
 abbrev pub LegalStarts : Type 0
-LegalStarts = (p : PProgram) (events : List Event) → IsLegal p → TextStarts p events
+LegalStarts = (p : PProgram) (events : List Event) → IsLegalOriginal p → TextStarts p events
 
 -- At the start of a task the names of the permit mean its variables, and each other name means what it means in the normal form.
 pub record FindsAtStart (p : PProgram) (before after : Variables) : Type 0 where
@@ -39,8 +39,8 @@ pub record FindPermits (p : PProgram) (events : List Event) : Type 0 where
 
 -- So it is in each replay text of a legal program.
 abbrev pub LegalFindsPermits : Type 0
-LegalFindsPermits = (p : PProgram) (events : List Event) → IsLegal p → FindPermits p events
+LegalFindsPermits = (p : PProgram) (events : List Event) → IsLegalOriginal p → FindPermits p events
 
 -- Its entries have the formals of the normal form, those of a permit, or none.
 abbrev pub LegalHasFormals : Type 0
-LegalHasFormals = (p : PProgram) (events : List Event) (far : Spots) → IsLegal p → HaveFormals p events far
+LegalHasFormals = (p : PProgram) (events : List Event) (far : Spots) → IsLegalOriginal p → HaveFormals p events far

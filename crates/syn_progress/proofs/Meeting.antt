@@ -9,7 +9,7 @@ use Rattle.event_progress.specs.Known.{Party, Known, party, put, meet, with_serv
 use Rattle.event_progress.proofs.Parties.{put_self, put_other}
 use Rattle.syn_progress.specs.declared.task_records.Member.{Member}
 use Rattle.syn_progress.specs.TaskRecords.{member_at, chain, open_server, seen, known_of, IsLinked, called, met}
-use Rattle.syn_progress.proofs.Tables.{at_known, at_self, at_other, set_keeps, count_set, count_keeps, count_same, open_same, open_some, open_none, free_parts, open_below, chain_apart, known_by}
+use Rattle.syn_progress.proofs.Tables.{at_known, at_self, at_other, set_keeps, both_length, second_below, both_keep, first_keeps, count_set, count_keeps, count_same, open_same, open_some, open_none, free_parts, open_below, chain_apart, known_by}
 use Rattle.common_lemmas.proofs.Numbers.{equal_self}
 
 module _ (ms : List Member) (served : ℕ) (linked : IsLinked ms served) (c a : ℕ) (caller_free : is_free (known_of ms false) c ≡ true) (acceptor_free : is_free (known_of ms false) a ≡ true)
@@ -35,28 +35,25 @@ module _ (ms : List Member) (served : ℕ) (linked : IsLinked ms served) (c a : 
   abbrev ns : List Member
   ns = met ms c a
 
-  mid_length : length mid ≡ length ms
-  mid_length = length-set ms a _
-
   ns_length : length ns ≡ length ms
-  ns_length = length-set mid c _ ∙ mid_length
+  ns_length = both_length ms a c _ _
 
   below_mid : c < length mid
-  below_mid = subst (λ n. c < n) (sym mid_length) caller_below
+  below_mid = second_below ms a c _ caller_below
 
   -- ---- what is read after it
 
   closed_is : (u : ℕ) → (member_at ns u).closed ≡ (member_at ms u).closed
-  closed_is u = set_keeps (λ m. m.closed) mid c _ below_mid refl u ∙ set_keeps (λ m. m.closed) ms a _ acceptor_below refl u
+  closed_is = both_keep (λ m. m.closed) ms a c _ _ acceptor_below caller_below refl refl
 
   server_other : (u : ℕ) → (u == c) ≡ false → (member_at ns u).server ≡ (member_at ms u).server
-  server_other u q = ap (λ (m : Member). m.server) (at_other mid c u _ q) ∙ set_keeps (λ m. m.server) ms a _ acceptor_below refl u
+  server_other = first_keeps (λ m. m.server) ms a c _ _ acceptor_below refl
 
   server_caller : (member_at ns c).server ≡ Some a
   server_caller = ap (λ (m : Member). m.server) (at_self mid c _ below_mid)
 
   outer_other : (u : ℕ) → (u == c) ≡ false → (member_at ns u).outer ≡ (member_at ms u).outer
-  outer_other u q = ap (λ (m : Member). m.outer) (at_other mid c u _ q) ∙ set_keeps (λ m. m.outer) ms a _ acceptor_below refl u
+  outer_other = first_keeps (λ m. m.outer) ms a c _ _ acceptor_below refl
 
   outer_caller : (member_at ns c).outer ≡ (member_at ms a).innermost
   outer_caller = ap (λ (m : Member). m.outer) (at_self mid c _ below_mid)

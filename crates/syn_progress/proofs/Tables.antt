@@ -1,9 +1,9 @@
 -- Reading and writing the tables.
-use Rattle.std.proofs.Common.{◌≡◌, ℕ, zero, suc, ◌+◌, ◌<◌, Bool, true, false, not, ◌&&◌, ◌==◌, if◌then◌else◌, List, [], ◌∷◌, length, get_or, set, map, Option, Some, None, is_some, refl, sym, ap, ap₂, ◌∙◌, ⊎_elim, true≢false, arith}
+use Rattle.std.proofs.Common.{◌≡◌, ℕ, zero, suc, ◌+◌, ◌<◌, Bool, true, false, not, ◌&&◌, ◌==◌, if◌then◌else◌, List, [], ◌∷◌, length, get_or, set, map, Option, Some, None, is_some, refl, sym, ap, ap₂, ◌∙◌, subst, ⊎_elim, true≢false, arith}
 use Rattle.std.specs.Prelude.{count_by}
 use Rattle.std.proofs.Math.ListN.{get_or-map}
 use Rattle.std.proofs.lemmas.Bool.{cases_lt, eqb-true, eqb-false, and_parts}
-use Rattle.std.proofs.lemmas.List.{get_or-set_same, get_or-set_other, get_or_past, length-map, ext_get_or}
+use Rattle.std.proofs.lemmas.List.{get_or-set_same, get_or-set_other, get_or_past, length-map, length-set, ext_get_or}
 use Rattle.std.proofs.lemmas.List.Sums.{sum_by-set, sum_by-cons}
 use Rattle.event_machine.specs.Soundness.{times}
 use Rattle.event_progress.specs.Known.{Party, nobody, party, is_by, is_free}
@@ -31,6 +31,24 @@ set_keeps f ms t m l h u = go (u == t) refl
     go : (b : Bool) → (u == t) ≡ b → f (member_at (set ms t m) u) ≡ f (member_at ms u)
     go true q = ap (λ v. f (member_at (set ms t m) v)) (eqb-true u t q) ∙ ap f (at_self ms t m l) ∙ h ∙ ap (λ v. f (member_at ms v)) (sym (eqb-true u t q))
     go false q = ap f (at_other ms t u m q)
+
+-- ---- two tasks that are written one after the other
+
+pub both_length : (ms : List Member) (a c : ℕ) (x y : Member) → length (set (set ms a x) c y) ≡ length ms
+both_length ms a c x y = length-set (set ms a x) c y ∙ length-set ms a x
+
+pub second_below : (ms : List Member) (a c : ℕ) (x : Member) → c < length ms → c < length (set ms a x)
+second_below ms a c x l = subst (λ n. c < n) (sym (length-set ms a x)) l
+
+-- what both writes leave of the written tasks they leave of all
+pub both_keep : {A : Type 0} (f : Member → A) (ms : List Member) (a c : ℕ) (x y : Member) → a < length ms → c < length ms → f x ≡ f (member_at ms a) → f y ≡ f (member_at (set ms a x) c) →
+    (u : ℕ) → f (member_at (set (set ms a x) c y) u) ≡ f (member_at ms u)
+both_keep f ms a c x y l k h g u = set_keeps f (set ms a x) c y (second_below ms a c x k) g u ∙ set_keeps f ms a x l h u
+
+-- what the first write leaves is left of all but the second task
+pub first_keeps : {A : Type 0} (f : Member → A) (ms : List Member) (a c : ℕ) (x y : Member) → a < length ms → f x ≡ f (member_at ms a) → (u : ℕ) → (u == c) ≡ false →
+    f (member_at (set (set ms a x) c y) u) ≡ f (member_at ms u)
+first_keeps f ms a c x y l h u q = ap f (at_other (set ms a x) c u y q) ∙ set_keeps f ms a x l h u
 
 -- ---- counts
 

@@ -1,9 +1,12 @@
 -- The theorem, as it is told.
-use Rattle.translation_law.specs.Laws.{translation, StepsFollow, RaisesFollow, ValuesFollow}
-use Rattle.translation_law.proofs.Locals.{step-alike, raises-alike, values-alike}
+use Rattle.translation_law.specs.Laws.{translation, StepsFollow, StepsFollowInLoops, RaisesFollow, ValuesFollow}
+use Rattle.translation_law.proofs.Locals.{step-alike, step-in-loops, raises-alike, values-alike}
 
 pub steps_follow : {I F O : Type 0} → StepsFollow I F O
-steps_follow t laws σ κ inside at = step-alike (translation t) laws σ κ inside at
+steps_follow t laws exits σ κ inside at = step-alike (translation t) laws exits σ κ inside at
+
+pub steps_follow_in_loops : {I F O : Type 0} → StepsFollowInLoops I F O
+steps_follow_in_loops t laws shut σ κ inside at stays = step-in-loops (translation t) laws shut σ κ inside at stays
 
 pub raises_follow : {I F O : Type 0} → RaisesFollow I F O
 raises_follow t laws σ κ inside e = raises-alike (translation t) laws σ κ inside e

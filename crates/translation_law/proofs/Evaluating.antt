@@ -13,7 +13,8 @@ use Rattle.ada_tree.specs.declared.expressions.BinaryOp.TheVariants.{And, Or, Xo
 use Rattle.ada_tree.specs.PlainExpr.{PExpr, PBounds}
 use Rattle.ada_tree.specs.PlainStmt.{PPart}
 use Rattle.ada_tree.specs.Attributes.{Attribute, First, Last, Pos, Val, Succ, Pred, attribute_of, is_image}
-use Rattle.ada_tree.specs.StaticValue.{is_integer_value, is_of_kind, modulus}
+use Rattle.ada_tree.specs.StaticValue.{is_integer_value, is_of_kind}
+use Rattle.integer_division.specs.Modulus.{modulus}
 use Rattle.ada_value.specs.declared.values.Value.{Value}
 use Rattle.ada_value.specs.declared.values.Value.TheVariants.{Number, Truth}
 use Rattle.ada_value.specs.declared.values.Raised.{Raised}

@@ -11,8 +11,8 @@ use Rattle.task_model.specs.Frames.{Counting, Around, Loop, PFrame, Control, con
 use Rattle.translation_law.specs.Translations.{Translation, IsOld, IsKnown}
 use Rattle.translation_law.specs.Scopes.{HasKnown, SameObject, same_object, SeeAlike}
 use Rattle.translation_law.specs.Images.{IsEmpty, nothing_there, IsSomething, something_there}
-use Rattle.translation_law.specs.Controls.{frame, Under, on_floor, in_block, in_handler, in_endless, in_while, in_count, inside, Settle}
-use Rattle.translation_law.specs.Floors.{handled_around, IsTranslation}
+use Rattle.translation_law.specs.Controls.{LeavesLoop, leaves_this, leaves_outer, leaves_from_block, leaves_from_handler, frame, Under, on_floor, in_block, in_handler, in_endless, in_while, in_count, inside, Settle}
+use Rattle.translation_law.specs.Floors.{handled_around, AreExits, AreClosed, IsTranslation}
 use Rattle.translation_law.proofs.Handlers.{Taken, not_taken, taken, handler-alike}
 use Rattle.translation_law.proofs.Evaluating.{known-with}
 
@@ -67,13 +67,30 @@ module _ (x : Translation) (laws : IsTranslation x) where
   either-settles true h k = h
   either-settles false h k = k
 
-  pub exited-alike : (w : Option Word) {p p' : Around} {o o' : List PFrame} {V V' : Variables} → Under x p o V p' o' V' → Settle x (exited_in w o p V) (exited_in w o' p' V')
-  exited-alike w (on_floor f) = laws.floors.exited w _ _ _ _ _ _ f
-  exited-alike w (in_block hs hs' r r' h im u) = exited-alike w u
-  exited-alike w (in_handler y r r' im u) = exited-alike w u
-  exited-alike w (in_endless name l l' r r' h im u) = either-settles (is_left w name) (settle r r' im u) (exited-alike w u)
-  exited-alike w (in_while name y l l' r r' old h im u) = either-settles (is_left w name) (settle r r' im u) (exited-alike w u)
-  exited-alike w (in_count name backwards last l l' r r' b old known h im u) = either-settles (is_left w name) (settle r r' im u) (exited-alike w u)
+  pub exited-alike : AreExits x → (w : Option Word) {p p' : Around} {o o' : List PFrame} {V V' : Variables} → Under x p o V p' o' V' → Settle x (exited_in w o p V) (exited_in w o' p' V')
+  exited-alike exits w (on_floor f) = exits.exited w _ _ _ _ _ _ f
+  exited-alike exits w (in_block hs hs' r r' h im u) = exited-alike exits w u
+  exited-alike exits w (in_handler y r r' im u) = exited-alike exits w u
+  exited-alike exits w (in_endless name l l' r r' h im u) = either-settles (is_left w name) (settle r r' im u) (exited-alike exits w u)
+  exited-alike exits w (in_while name y l l' r r' old h im u) = either-settles (is_left w name) (settle r r' im u) (exited-alike exits w u)
+  exited-alike exits w (in_count name backwards last l l' r r' b old known h im u) = either-settles (is_left w name) (settle r r' im u) (exited-alike exits w u)
+
+  -- an exit that leaves this loop, or goes on to one outside of it
+  loop-settles : (b : Bool) {c c' : Control} (d d' : Control) → Settle x c c' → b ≡ true → Settle x (if b then c else d) (if b then c' else d')
+  loop-settles true d d' h e = h
+  loop-settles false d d' h e = absurd (true≢false (sym e))
+
+  -- an exit that leaves a loop comes to no floor
+  pub exited-inside : AreClosed x → (w : Option Word) {p p' : Around} {o o' : List PFrame} {V V' : Variables} → Under x p o V p' o' V' → LeavesLoop w p o → Settle x (exited_in w o p V) (exited_in w o' p' V')
+  exited-inside shut w (on_floor f) at = absurd (shut.closed w _ _ _ _ _ _ f at)
+  exited-inside shut w (in_block hs hs' r r' h im u) (leaves_from_block hs1 part parts at) = exited-inside shut w u at
+  exited-inside shut w (in_handler y r r' im u) (leaves_from_handler e part parts at) = exited-inside shut w u at
+  exited-inside shut w (in_endless name l l' r r' h im u) (leaves_this name1 turns l1 part parts e) = loop-settles (is_left w name) _ _ (settle r r' im u) e
+  exited-inside shut w (in_endless name l l' r r' h im u) (leaves_outer name1 turns l1 part parts at) = either-settles (is_left w name) (settle r r' im u) (exited-inside shut w u at)
+  exited-inside shut w (in_while name y l l' r r' old h im u) (leaves_this name1 turns l1 part parts e) = loop-settles (is_left w name) _ _ (settle r r' im u) e
+  exited-inside shut w (in_while name y l l' r r' old h im u) (leaves_outer name1 turns l1 part parts at) = either-settles (is_left w name) (settle r r' im u) (exited-inside shut w u at)
+  exited-inside shut w (in_count name backwards last l l' r r' b old known h im u) (leaves_this name1 turns l1 part parts e) = loop-settles (is_left w name) _ _ (settle r r' im u) e
+  exited-inside shut w (in_count name backwards last l l' r r' b old known h im u) (leaves_outer name1 turns l1 part parts at) = either-settles (is_left w name) (settle r r' im u) (exited-inside shut w u at)
 
   -- ---- the innermost handler
 

@@ -13,18 +13,18 @@ use Rattle.ada_value.specs.Values.{position_of, value_at, limits_of_kind, lies_i
 use Rattle.ada_value.specs.declared.values.Limits.{Limits}
 use Rattle.ada_value.specs.Variables.{Object, Variables, value_there, component_place, checked_for, set_value}
 use Rattle.ada_tree.specs.TypeTable.{TypeTable}
-use Rattle.task_model.specs.Frames.{While, Counting, Around, Loop, PFrame, Control, control, settled, raised_named}
+use Rattle.task_model.specs.Frames.{While, Counting, Around, Loop, PFrame, Control, control, settled, raised_named, exited_in}
 use Rattle.task_model.specs.Tasks.{Task, rest_of, place_of, value_of, with_text, gone_to, stmts_or_none, entered, pushed, raised_there, or_raised}
 use Rattle.task_model.specs.Steps as steps
 use Rattle.translation_law.specs.Translations.{Translation, types_before, types_after, IsOld, IsFree, IsKnown}
 use Rattle.translation_law.specs.OldNames.{OldExpr, OldOption, old_none, old_some, OldRange, old_given, old_marked, OldTarget, OldParts, old_no_part, OldChoices, old_no_choice, old_choice, OldScheme, old_endless, old_while, old_for}
 use Rattle.translation_law.specs.Scopes.{SameObject, no_object, same_object}
 use Rattle.translation_law.specs.Images.{ImageMaybe, image_absent, image_present, ImageArms, image_no_arm, image_arm, ImageCaseArms, image_no_case_arm, image_case_arm, ImageStmt, image_null, image_assign, image_delay, image_exit, image_raise, image_no_abort, image_put, image_put_line, image_new_line, image_get, image_if, image_case, image_block, image_loop, ImageList, image_list, IsEmpty, nothing_there}
-use Rattle.translation_law.specs.Controls.{frame, Under, on_floor, in_block, in_endless, in_while, in_count, Settle, task_in, Alike, alike, IsAtLocal, at_statement, at_turn, AreInside, are_inside, AreAround, are_around, StepAlike}
-use Rattle.translation_law.specs.Floors.{handled_around, IsTranslation}
+use Rattle.translation_law.specs.Controls.{frame, Under, on_floor, in_block, in_endless, in_while, in_count, Settle, task_in, Alike, alike, IsAtLocal, at_statement, at_turn, IsExit, is_exit, ExitsLoop, AreInside, are_inside, AreAround, are_around, StepAlike}
+use Rattle.translation_law.specs.Floors.{handled_around, AreExits, AreClosed, IsTranslation}
 use Rattle.translation_law.proofs.Results.{Both, both_ok, both_err, Equal, equal, both_then}
 use Rattle.translation_law.proofs.Evaluating.{KnownValue, known_value, KnownRange, known_range, value-alike, condition-alike, bounds-alike, narrowed-alike, parts-alike, worth-same, single, single-known}
-use Rattle.translation_law.proofs.Frames.{settle, raised-alike, exited-alike, handled-alike, sees-alike, set-alike}
+use Rattle.translation_law.proofs.Frames.{settle, raised-alike, exited-alike, exited-inside, handled-alike, sees-alike, set-alike}
 
 module _ (x : Translation) (laws : IsTranslation x) where
   -- a task and its image, in frames
@@ -187,9 +187,9 @@ module _ (x : Translation) (laws : IsTranslation x) where
 
   -- ---- exits and exceptions
 
-  exit_to-alike : (n : ℕ) (i : List ℤ) (w : List ℕ) (s s' : PStmts) (name : Option Word) {p p' : Around} {o o' : List PFrame} {V V' : Variables} → Under x p o V p' o' V' →
-      Alike x (steps.exited name (left n i w s p o V)) (steps.exited name (right n i w s' p' o' V'))
-  exit_to-alike n i w s s' name u = of_settle n i w (exited-alike x laws name u)
+  -- where exits of that name lead, in frames that go together
+  abbrev Leaves : Option Word → Around → List PFrame → Variables → Around → List PFrame → Variables → Type 0
+  Leaves name p o V p' o' V' = Settle x (exited_in name o p V) (exited_in name o' p' V')
 
   test-alike : (n : ℕ) (i : List ℤ) (w : List ℕ) (s s' : PStmts) {p p' : Around} {o o' : List PFrame} {V V' : Variables} → Under x p o V p' o' V' → {e : Option PExpr} → OldOption x.text.programs e →
       Both Equal (steps.exit_test (left n i w s p o V) e) (steps.exit_test (right n i w s' p' o' V') e)
@@ -197,12 +197,12 @@ module _ (x : Translation) (laws : IsTranslation x) where
   test-alike n i w s s' u (old_some e h) = condition-alike x.text.programs laws.types (sees-alike x laws u) h
 
   exit-alike : (n : ℕ) (i : List ℤ) (w : List ℕ) (s s' q q' : PStmts) {p p' : Around} {o o' : List PFrame} {V V' : Variables} → x.text.image q q' → Under x p o V p' o' V' →
-      (name : Option Word) {e : Option PExpr} → OldOption x.text.programs e → Alike x (steps.exit_step name e q (left n i w s p o V)) (steps.exit_step name e q' (right n i w s' p' o' V'))
-  exit-alike n i w s s' q q' {p} {p'} {o} {o'} {V} {V'} im u name h = or-raise n i w s s' u (test-alike n i w s s' u h) go
+      (name : Option Word) → Leaves name p o V p' o' V' → {e : Option PExpr} → OldOption x.text.programs e → Alike x (steps.exit_step name e q (left n i w s p o V)) (steps.exit_step name e q' (right n i w s' p' o' V'))
+  exit-alike n i w s s' q q' {p} {p'} {o} {o'} {V} {V'} im u name leaves h = or-raise n i w s s' u (test-alike n i w s s' u h) go
     where
       go : (a b : Bool) → Equal a b → Alike x (if a then steps.exited name (left n i w s p o V) else gone_to q (left n i w s p o V))
           (if b then steps.exited name (right n i w s' p' o' V') else gone_to q' (right n i w s' p' o' V'))
-      go a b (equal t) = either-alike t (exit_to-alike n i w s s' name u) (go-there n i w s s' q q' im u)
+      go a b (equal t) = either-alike t (of_settle n i w leaves) (go-there n i w s s' q q' im u)
 
   raise-alike : (n : ℕ) (i : List ℤ) (w : List ℕ) (s s' : PStmts) {p p' : Around} {o o' : List PFrame} {V V' : Variables} → Under x p o V p' o' V' →
       (name : Option Word) → Alike x (steps.raise_step name (left n i w s p o V)) (steps.raise_step name (right n i w s' p' o' V'))
@@ -272,39 +272,40 @@ module _ (x : Translation) (laws : IsTranslation x) where
 
   -- ---- statements
 
-  row-alike : (n : ℕ) (i : List ℤ) (w : List ℕ) {p p' : Around} {o o' : List PFrame} {V V' : Variables} → Under x p o V p' o' V' → (q q' : PStmts) → x.text.image q q' → {s s' : PStmt} → ImageStmt x.text s s' →
+  row-alike : (n : ℕ) (i : List ℤ) (w : List ℕ) {p p' : Around} {o o' : List PFrame} {V V' : Variables} → Under x p o V p' o' V' → (q q' : PStmts) → x.text.image q q' → {s s' : PStmt} →
+      ((name : Option Word) → IsExit name (stmt_then s q) → Leaves name p o V p' o' V') → ImageStmt x.text s s' →
       StepAlike x (left n i w (stmt_then s q) p o V) (right n i w (stmt_then s' q') p' o' V')
-  row-alike n i w u q q' im (image_null s) = record { steps = refl; steps_too = refl; after = go-there n i w (stmt_then (SNull s) q) (stmt_then (SNull s) q') q q' im u }
-  row-alike n i w u q q' im (image_assign t e s ht he) = record { steps = refl; steps_too = refl; after = assign-alike n i w (stmt_then (SAssign t e s) q) (stmt_then (SAssign t e s) q') q q' im u t e ht he }
-  row-alike n i w u q q' im (image_delay d s) = record { steps = refl; steps_too = refl; after = go-there n i w (stmt_then (SDelay d s) q) (stmt_then (SDelay d s) q') q q' im u }
-  row-alike n i w u q q' im (image_exit name test s h) = record { steps = refl; steps_too = refl; after = exit-alike n i w (stmt_then (SExit name test s) q) (stmt_then (SExit name test s) q') q q' im u name h }
-  row-alike n i w u q q' im (image_raise name s) = record { steps = refl; steps_too = refl; after = raise-alike n i w (stmt_then (SRaise name s) q) (stmt_then (SRaise name s) q') u name }
-  row-alike n i w u q q' im (image_no_abort s) = record { steps = refl; steps_too = refl; after = go-there n i w (stmt_then (SAbort [] s) q) (stmt_then (SAbort [] s) q') q q' im u }
-  row-alike n i w u q q' im (image_put ps s h) = record { steps = refl; steps_too = refl; after = put-alike n i w (stmt_then (SPut ps s) q) (stmt_then (SPut ps s) q') q q' im u ps h [] }
-  row-alike n i w u q q' im (image_put_line ps s h) = record { steps = refl; steps_too = refl; after = put-alike n i w (stmt_then (SPutLine ps s) q) (stmt_then (SPutLine ps s) q') q q' im u ps h steps.line_end }
-  row-alike n i w u q q' im (image_new_line s) = record { steps = refl; steps_too = refl; after = put-alike n i w (stmt_then (SNewLine s) q) (stmt_then (SNewLine s) q') q q' im u [] old_no_part steps.line_end }
-  row-alike n i w u q q' im (image_get t s h) = record {
+  row-alike n i w u q q' im leaves (image_null s) = record { steps = refl; steps_too = refl; after = go-there n i w (stmt_then (SNull s) q) (stmt_then (SNull s) q') q q' im u }
+  row-alike n i w u q q' im leaves (image_assign t e s ht he) = record { steps = refl; steps_too = refl; after = assign-alike n i w (stmt_then (SAssign t e s) q) (stmt_then (SAssign t e s) q') q q' im u t e ht he }
+  row-alike n i w u q q' im leaves (image_delay d s) = record { steps = refl; steps_too = refl; after = go-there n i w (stmt_then (SDelay d s) q) (stmt_then (SDelay d s) q') q q' im u }
+  row-alike n i w u q q' im leaves (image_exit name test s h) = record { steps = refl; steps_too = refl; after = exit-alike n i w (stmt_then (SExit name test s) q) (stmt_then (SExit name test s) q') q q' im u name (leaves name (is_exit test s q)) h }
+  row-alike n i w u q q' im leaves (image_raise name s) = record { steps = refl; steps_too = refl; after = raise-alike n i w (stmt_then (SRaise name s) q) (stmt_then (SRaise name s) q') u name }
+  row-alike n i w u q q' im leaves (image_no_abort s) = record { steps = refl; steps_too = refl; after = go-there n i w (stmt_then (SAbort [] s) q) (stmt_then (SAbort [] s) q') q q' im u }
+  row-alike n i w u q q' im leaves (image_put ps s h) = record { steps = refl; steps_too = refl; after = put-alike n i w (stmt_then (SPut ps s) q) (stmt_then (SPut ps s) q') q q' im u ps h [] }
+  row-alike n i w u q q' im leaves (image_put_line ps s h) = record { steps = refl; steps_too = refl; after = put-alike n i w (stmt_then (SPutLine ps s) q) (stmt_then (SPutLine ps s) q') q q' im u ps h steps.line_end }
+  row-alike n i w u q q' im leaves (image_new_line s) = record { steps = refl; steps_too = refl; after = put-alike n i w (stmt_then (SNewLine s) q) (stmt_then (SNewLine s) q') q q' im u [] old_no_part steps.line_end }
+  row-alike n i w u q q' im leaves (image_get t s h) = record {
     steps = refl;
     steps_too = refl;
     after = or-raise n i w (stmt_then (SGet t s) q) (stmt_then (SGet t s) q') u (target-alike n i w (stmt_then (SGet t s) q) (stmt_then (SGet t s) q') u h) (λ k k' hk. got-alike n i w (stmt_then (SGet t s) q) (stmt_then (SGet t s) q') q q' im u t h k k' hk i);
   }
-  row-alike n i w u q q' im (image_if arms arms' c d s h k) = record {
+  row-alike n i w u q q' im leaves (image_if arms arms' c d s h k) = record {
     steps = refl;
     steps_too = refl;
     after = or-raise n i w (stmt_then (SIf arms c s) q) (stmt_then (SIf arms' d s) q') u (arms-alike n i w (stmt_then (SIf arms c s) q) (stmt_then (SIf arms' d s) q') u h k) (λ a b hb. enter-alike n i w (stmt_then (SIf arms c s) q) (stmt_then (SIf arms' d s) q') q q' im u a b hb);
   }
-  row-alike n i w u q q' im (image_case e arms arms' c d s old h k) = record {
+  row-alike n i w u q q' im leaves (image_case e arms arms' c d s old h k) = record {
     steps = refl;
     steps_too = refl;
     after = or-raise n i w (stmt_then (SCase e arms c s) q) (stmt_then (SCase e arms' d s) q') u (both_then (value-alike x.text.programs laws.types (sees-alike x laws u) old) (λ v v' hv. case-alike n i w (stmt_then (SCase e arms c s) q) (stmt_then (SCase e arms' d s) q') u v v' hv h k))
         (λ a b hb. enter-alike n i w (stmt_then (SCase e arms c s) q) (stmt_then (SCase e arms' d s) q') q q' im u a b hb);
   }
-  row-alike n i w {V = V} {V' = V'} u q q' im (image_block l l' hs hs' s iml h) = record {
+  row-alike n i w {V = V} {V' = V'} u q q' im leaves (image_block l l' hs hs' s iml h) = record {
     steps = refl;
     steps_too = refl;
     after = push-alike n i w (stmt_then (SBlock (body l hs) s) q) (stmt_then (SBlock (body l' hs') s) q') q q' l l' V V' iml (in_block hs hs' q q' h im u);
   }
-  row-alike n i w u q q' im (image_loop name c l l' s h iml) = record { steps = refl; steps_too = refl; after = loop-alike n i w (stmt_then (SLoop name c l s) q) (stmt_then (SLoop name c l' s) q') q q' l l' im iml u name h }
+  row-alike n i w u q q' im leaves (image_loop name c l l' s h iml) = record { steps = refl; steps_too = refl; after = loop-alike n i w (stmt_then (SLoop name c l s) q) (stmt_then (SLoop name c l' s) q') q q' l l' im iml u name h }
 
   -- ---- turns
 
@@ -354,21 +355,26 @@ module _ (x : Translation) (laws : IsTranslation x) where
 
   -- ---- the theorem
 
-  at-row : (n : ℕ) (i : List ℤ) (w : List ℕ) {p p' : Around} {o o' : List PFrame} {V V' : Variables} → Under x p o V p' o' V' → (s : PStmt) (q : PStmts) {r' : PStmts} → ImageList x.text s q r' →
+  at-row : (n : ℕ) (i : List ℤ) (w : List ℕ) {p p' : Around} {o o' : List PFrame} {V V' : Variables} → Under x p o V p' o' V' → (s : PStmt) (q : PStmts) {r' : PStmts} →
+      ((name : Option Word) → IsExit name (stmt_then s q) → Leaves name p o V p' o' V') → ImageList x.text s q r' →
       StepAlike x (left n i w (stmt_then s q) p o V) (right n i w r' p' o' V')
-  at-row n i w u s q (image_list t t' rest rest' h im) = row-alike n i w u rest rest' im h
+  at-row n i w u s q leaves (image_list t t' rest rest' h im) = row-alike n i w u rest rest' im leaves h
 
   at-end : (n : ℕ) (i : List ℤ) (w : List ℕ) {r' : PStmts} {p p' : Around} {o o' : List PFrame} {V V' : Variables} → IsAtLocal no_stmt p → IsEmpty r' → Under x p o V p' o' V' →
       StepAlike x (left n i w no_stmt p o V) (right n i w r' p' o' V')
   at-end n i w at nothing_there u = turn-alike n i w at u
 
   at-local : (n : ℕ) (i : List ℤ) (w : List ℕ) {r r' : PStmts} {p p' : Around} {o o' : List PFrame} {V V' : Variables} → IsAtLocal r p → x.text.image r r' → Under x p o V p' o' V' →
-      StepAlike x (left n i w r p o V) (right n i w r' p' o' V')
-  at-local n i w {r' = r'} (at_statement s q p loc) im u = at-row n i w u s q (laws.images.local s q r' loc im)
-  at-local n i w {r' = r'} (at_turn name turns l) im u = at-end n i w (at_turn name turns l) (laws.images.nothing r' im) u
+      ((name : Option Word) → IsExit name r → Leaves name p o V p' o' V') → StepAlike x (left n i w r p o V) (right n i w r' p' o' V')
+  at-local n i w {r' = r'} (at_statement s q p loc) im u leaves = at-row n i w u s q leaves (laws.images.local s q r' loc im)
+  at-local n i w {r' = r'} (at_turn name turns l) im u leaves = at-end n i w (at_turn name turns l) (laws.images.nothing r' im) u
 
-  pub step-alike : (σ κ : Task) → AreInside x σ κ → IsAtLocal (rest_of σ) (place_of σ) → StepAlike x σ κ
-  step-alike σ κ (are_inside n i w r r' im u) at = at-local n i w at im u
+  pub step-alike : AreExits x → (σ κ : Task) → AreInside x σ κ → IsAtLocal (rest_of σ) (place_of σ) → StepAlike x σ κ
+  step-alike exits σ κ (are_inside n i w r r' im u) at = at-local n i w at im u (λ name e. exited-alike x laws exits name u)
+
+  -- the same where each exit leaves a loop
+  pub step-in-loops : AreClosed x → (σ κ : Task) → AreInside x σ κ → IsAtLocal (rest_of σ) (place_of σ) → ExitsLoop σ → StepAlike x σ κ
+  step-in-loops shut σ κ (are_inside n i w r r' im u) at stays = at-local n i w at im u (λ name e. exited-inside x laws shut name u (stays name e))
 
   pub raises-alike : (σ κ : Task) → AreAround x σ κ → (e : Raised) → Alike x (raised_there e σ) (raised_there e κ)
   raises-alike σ κ (are_around n i w r r' u) e = raise-there n i w r r' u e

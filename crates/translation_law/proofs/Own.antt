@@ -13,8 +13,8 @@ use Rattle.task_model.specs.Starting.{Unit as TaskUnit, started_in, unit_of}
 use Rattle.translation_law.specs.OldNames.{OldExpr, old_integer, old_name, old_index, old_attribute, old_attribute_of, old_paren, old_unary, old_binary, OldOption, old_none, old_some, OldBounds, old_unbounded, old_bounded, OldRange, old_given, old_marked, OldTarget, OldParts, old_no_part, old_words, old_value, OldChoices, old_no_choice, old_choice, OldScheme, old_endless, old_while, old_for}
 use Rattle.translation_law.specs.Scopes.{AgreeOnTypes, SameObject, no_object, same_object, SeeAlike}
 use Rattle.translation_law.specs.Images.{ImageMaybe, image_absent, image_present, ImageArms, image_no_arm, image_arm, ImageCaseArms, image_no_case_arm, image_case_arm, ImageHandlers, image_no_handler, image_handler, ImageStmt, image_null, image_assign, image_delay, image_exit, image_raise, image_no_abort, image_put, image_put_line, image_new_line, image_get, image_if, image_case, image_block, image_loop, ImageList, image_list, IsLocal, local_null, local_assign, local_delay, local_exit, local_raise, local_no_abort, local_put, local_put_line, local_new_line, local_get, local_if, local_case, local_block, local_loop, IsEmpty, nothing_there, IsSomething, something_there, AreImages}
-use Rattle.translation_law.specs.Controls.{on_floor, inside, Settle, AreInside, are_inside}
-use Rattle.translation_law.specs.Floors.{handled_around, AreScopes, AreFloors}
+use Rattle.translation_law.specs.Controls.{on_floor, inside, Settle, LeavesLoop, AreInside, are_inside}
+use Rattle.translation_law.specs.Floors.{handled_around, AreScopes, AreFloors, AreExits, AreClosed}
 use Rattle.translation_law.specs.Itself.{SameList, same_list, SameFloor, same_whole, same_opened, itself}
 use Rattle.translation_law.specs.Laws.{MetByItself}
 
@@ -151,8 +151,17 @@ module _ (g : Setting) where
     apart = λ name turns l p' o o' V V' f. own-apart f;
     over = λ p p' o o' V V' f. own-over f;
     raised = λ e p p' o o' V V' f. own-raised e f;
-    exited = λ w p p' o o' V V' f. own-exited w f;
   }
+
+  own-exits : AreExits (itself g)
+  own-exits = record { exited = λ w p p' o o' V V' f. own-exited w f }
+
+  own-shut : (w : Option Word) {p p' : Around} {o o' : List PFrame} {V V' : Variables} → SameFloor p o V p' o' V' → LeavesLoop w p o → ⊥
+  own-shut w (same_whole hs taken o V) at = elim at [ ]
+  own-shut w (same_opened caller formals pending o V) at = elim at [ ]
+
+  own-closed : AreClosed (itself g)
+  own-closed = record { closed = λ w p p' o o' V V' f at. own-shut w f at }
 
   -- ---- names
 
@@ -200,5 +209,7 @@ module _ (g : Setting) where
 pub met_by_itself : MetByItself
 met_by_itself g = record {
   translates = record { types = own-types g; images = own-images g; scopes = own-scopes g; floors = own-floors g };
+  exits = own-exits g;
+  closed = own-closed g;
   starts = λ inputs t. own-start g t (unit_of g.program g.numbers t) _;
 }

@@ -1,13 +1,14 @@
 -- Where a task and its image stand: frame by frame alike down to a floor, on which the image may have frames of its own (this project's rule).
 use Rattle.std.specs.Prelude.{◌≡◌, ℕ, ℤ, Bool, true, List, ◌∷◌, Option}
+use Rattle.ada_tree.specs.declared.naming.Span.{Span}
 use Rattle.ada_tree.specs.declared.naming.Word.{Word}
 use Rattle.ada_tree.specs.PlainExpr.{PExpr}
-use Rattle.ada_tree.specs.PlainStmt.{PStmt, PStmts, no_stmt, stmt_then, PHandlers}
+use Rattle.ada_tree.specs.PlainStmt.{PStmt, SExit, PStmts, no_stmt, stmt_then, PHandlers}
 use Rattle.ada_value.specs.declared.values.Raised.{Raised}
 use Rattle.ada_value.specs.Variables.{Object, Variables}
 use Rattle.task_model.specs.Setting.{Setting}
-use Rattle.task_model.specs.Frames.{Turns, Endless, While, Counting, Around, Block, Handling, Loop, PFrame, Control, control, settled}
-use Rattle.task_model.specs.Tasks.{Task}
+use Rattle.task_model.specs.Frames.{Turns, Endless, While, Counting, Around, Block, Handling, Loop, PFrame, Control, control, settled, is_left}
+use Rattle.task_model.specs.Tasks.{Task, rest_of, place_of, outer_of}
 use Rattle.task_model.specs.Stands.{can_step, stepped}
 use Rattle.translation_law.specs.Translations.{Translation, IsOld}
 use Rattle.translation_law.specs.OldNames.{OldExpr}
@@ -53,6 +54,21 @@ task_in g n input output c = record { setting = g; number = n; control = c; inpu
 -- A task and its image: they have the same number, the same input left and the same output, and the image stands where it follows the task.
 pub data Alike (x : Translation) : Task → Task → Type 0 where
   alike : (n : ℕ) (input : List ℤ) (output : List ℕ) (c d : Control) → Follows x c d → Alike x (task_in x.text.programs.original n input output c) (task_in x.text.programs.made n input output d)
+
+-- an exit from there leaves a loop around it: the innermost, or the one that it names (5.7)
+pub data LeavesLoop (w : Option Word) : Around → List PFrame → Type 0 where
+  leaves_this : (name : Option Word) (turns : Turns) (l : PStmts) (part : PFrame) (parts : List PFrame) → is_left w name ≡ true → LeavesLoop w (Loop name turns l) (part ∷ parts)
+  leaves_outer : (name : Option Word) (turns : Turns) (l : PStmts) (part : PFrame) (parts : List PFrame) → LeavesLoop w part.place parts → LeavesLoop w (Loop name turns l) (part ∷ parts)
+  leaves_from_block : (hs : PHandlers) (part : PFrame) (parts : List PFrame) → LeavesLoop w part.place parts → LeavesLoop w (Block hs) (part ∷ parts)
+  leaves_from_handler : (e : Raised) (part : PFrame) (parts : List PFrame) → LeavesLoop w part.place parts → LeavesLoop w (Handling e) (part ∷ parts)
+
+-- statements that begin with an exit of that name
+pub data IsExit (w : Option Word) : PStmts → Type 0 where
+  is_exit : (test : Option PExpr) (s : Span) (rest : PStmts) → IsExit w (stmt_then (SExit w test s) rest)
+
+-- where the task stands at an exit, the exit leaves a loop
+abbrev pub ExitsLoop : Task → Type 0
+ExitsLoop σ = (w : Option Word) → IsExit w (rest_of σ) → LeavesLoop w (place_of σ) (outer_of σ)
 
 -- a task that stands at a statement that does not synchronize, or at the end of a loop's statements
 pub data IsAtLocal : PStmts → Around → Type 0 where

@@ -10,7 +10,7 @@ use Rattle.task_model.specs.Frames.{Turns, Around, Loop, PFrame, control, handle
 use Rattle.translation_law.specs.Translations.{Translation, IsOld, IsKnown}
 use Rattle.translation_law.specs.Scopes.{AgreeOnTypes, SeeAlike}
 use Rattle.translation_law.specs.Images.{AreImages}
-use Rattle.translation_law.specs.Controls.{Settle}
+use Rattle.translation_law.specs.Controls.{LeavesLoop, Settle}
 
 -- the exception of the innermost handler around, if there is one
 abbrev pub handled_around : Around → List PFrame → Option Raised
@@ -25,12 +25,19 @@ pub record AreScopes (x : Translation) : Type 0 where
       x.floor p o V p' o' V' → x.floor p o V p' o' (set_value V' id k v)
   pub handled : (p p' : Around) (o o' : List PFrame) (V V' : Variables) → x.floor p o V p' o' V' → handled_around p o ≡ handled_around p' o'
 
--- Ends on a floor, which is no loop: where the statements are over, an exception leaves them or an exit leads out of them, the image follows.
+-- Ends on a floor, which is no loop: where the statements are over or an exception leaves them, the image follows.
 pub record AreFloors (x : Translation) : Type 0 where
   pub apart : (name : Option Word) (turns : Turns) (l : PStmts) (p' : Around) (o o' : List PFrame) (V V' : Variables) → x.floor (Loop name turns l) o V p' o' V' → ⊥
   pub over : (p p' : Around) (o o' : List PFrame) (V V' : Variables) → x.floor p o V p' o' V' → Settle x (control no_stmt p o V) (control no_stmt p' o' V')
   pub raised : (e : Raised) (p p' : Around) (o o' : List PFrame) (V V' : Variables) → x.floor p o V p' o' V' → Settle x (raised_in e o p V) (raised_in e o' p' V')
+
+-- Exits on a floor: where one leads out of the statements, as in no legal program, the image follows. Not every translation is so.
+pub record AreExits (x : Translation) : Type 0 where
   pub exited : (w : Option Word) (p p' : Around) (o o' : List PFrame) (V V' : Variables) → x.floor p o V p' o' V' → Settle x (exited_in w o p V) (exited_in w o' p' V')
+
+-- No exit from a floor leaves a loop outside of it, as from a unit's body or an accept body (5.7).
+pub record AreClosed (x : Translation) : Type 0 where
+  pub closed : (w : Option Word) (p p' : Around) (o o' : List PFrame) (V V' : Variables) → x.floor p o V p' o' V' → LeavesLoop w p o → ⊥
 
 -- What is asked of a translation.
 pub record IsTranslation (x : Translation) : Type 0 where

@@ -10,8 +10,8 @@ use Rattle.task_model.specs.Tasks.{Task, rest_of, place_of, value_of, raised_the
 use Rattle.task_model.specs.Starting.{started}
 use Rattle.translation_law.specs.Translations.{Programs, Translation}
 use Rattle.translation_law.specs.OldNames.{OldExpr}
-use Rattle.translation_law.specs.Controls.{Alike, IsAtLocal, AreInside, AreAround, StepAlike}
-use Rattle.translation_law.specs.Floors.{IsTranslation}
+use Rattle.translation_law.specs.Controls.{ExitsLoop, Alike, IsAtLocal, AreInside, AreAround, StepAlike}
+use Rattle.translation_law.specs.Floors.{AreExits, AreClosed, IsTranslation}
 use Rattle.translation_law.specs.Itself.{itself}
 
 -- ---- what goes together, by members of a type
@@ -51,9 +51,14 @@ translation t = record {
 
 -- ---- the theorem
 
--- A local step of a task is one of its image: behind it they are alike again, with equal input and output.
+-- A local step of a task is one of its image: behind it they are alike again, with equal input and output. The floors are such that exits lead to places that go together.
 abbrev pub StepsFollow : Type 0 → Type 0 → Type 0 → Type 0
-StepsFollow I F O = (t : Told I F O) → IsTranslation (translation t) → (σ κ : Task) → AreInside (translation t) σ κ → IsAtLocal (rest_of σ) (place_of σ) →
+StepsFollow I F O = (t : Told I F O) → IsTranslation (translation t) → AreExits (translation t) → (σ κ : Task) → AreInside (translation t) σ κ → IsAtLocal (rest_of σ) (place_of σ) →
+    StepAlike (translation t) σ κ
+
+-- So it is whatever exits would lead to, where no exit from a floor leaves a loop outside of it, and the task stands at no exit but such as leaves a loop.
+abbrev pub StepsFollowInLoops : Type 0 → Type 0 → Type 0 → Type 0
+StepsFollowInLoops I F O = (t : Told I F O) → IsTranslation (translation t) → AreClosed (translation t) → (σ κ : Task) → AreInside (translation t) σ κ → IsAtLocal (rest_of σ) (place_of σ) → ExitsLoop σ →
     StepAlike (translation t) σ κ
 
 -- An exception that is raised in both leaves them alike, whatever is left of their statements.
@@ -69,6 +74,8 @@ ValuesFollow I F O = (t : Told I F O) → IsTranslation (translation t) → (σ 
 -- What is asked of a translation is met: each program is a translation of itself, and each of its tasks starts as its own image.
 pub record IsItsOwn (g : Setting) : Type 0 where
   pub translates : IsTranslation (itself g)
+  pub exits : AreExits (itself g)
+  pub closed : AreClosed (itself g)
   pub starts : (inputs : List (List ℤ)) (t : ℕ) → AreInside (itself g) (started g inputs t) (started g inputs t)
 
 abbrev pub MetByItself : Type 0

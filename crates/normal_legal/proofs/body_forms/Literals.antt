@@ -30,7 +30,7 @@ use Rattle.translation_law.specs.Fixed.{FixedExpr, fixed_integer, fixed_name, fi
 use Rattle.normal_law.specs.Suited.{IsLiteral}
 use Rattle.normal_runs_law.specs.Premises.{programs_of}
 use Rattle.normal_form_law.specs.Normalisable.{made_for, normal_rewrite}
-use Rattle.normal_legal.proofs.variable_types.Forms.{begins, predefined-mark, predefined-own}
+use Rattle.normal_legal.proofs.variable_types.SubtypeForms.{begins, predefined-mark, predefined-own}
 use Rattle.normal_legal.proofs.seen_tasks.Parts.{IsExtent}
 use Rattle.legal_types.specs.Typed.{HasLimits, HasPosition}
 use Rattle.normal_legal.proofs.body_forms.Ranges.{some-bounds}

@@ -92,7 +92,8 @@ module _ (p : PProgram) (ordered : IsOrdered p) (checks : MeetsCheckRules p Orig
             (place-all (λ (a : TaskInfo). AllByRecursion (λ (c : TaskInfo). (task_name g a).0 ≡ (task_name g c).0 → (a.name.0 ≡ c.name.0) × (a.member ≡ c.member)) (map (info_of_task p.names) (numbered_tasks T p))) (map (info_of_task p.names) (numbered_tasks T p)) j b apart f) there name in
             ap suc (numbered-tasks-alone p T known j k other.0 x other.1 at (ap (λ (i : TaskInfo). i.name.0) (sym other.2) ∙ both.0) (ap (λ (i : TaskInfo). i.member) (sym other.2) ∙ both.1))
 
-    beside-found : (k : ℕ) (x : NumberedTask) → slice_get (numbered_tasks T p) k ≡ Some x → task_named made (task_name g (info_of_task p.names x)) ≡ Some (suc k)
+    -- each of the tasks beside main is found by its name in the normal form
+    pub beside-found : (k : ℕ) (x : NumberedTask) → slice_get (numbered_tasks T p) k ≡ Some x → task_named made (task_name g (info_of_task p.names x)) ≡ Some (suc k)
     beside-found k x at =
         let info : TaskInfo = info_of_task p.names x in
         let q : TaskInfo → Bool = λ i. i.name.0 == (task_name g info).0 in

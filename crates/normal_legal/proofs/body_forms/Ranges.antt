@@ -24,7 +24,7 @@ use Rattle.normal_law.specs.Suited.{declared_limits, limits_of_form}
 use Rattle.legal_types.specs.Typed.{HasLimits}
 use Rattle.legal_types.proofs.TaskTypes.{IsRangeHere, AllRanges}
 use Rattle.normal_legal.specs.variable_types.Ready.{IsReady}
-use Rattle.normal_legal.proofs.variable_types.Forms.{range-form}
+use Rattle.normal_legal.proofs.variable_types.SubtypeForms.{range-form}
 use Rattle.normal_legal.proofs.variable_types.Subtypes.{array-own}
 use Rattle.normal_legal.proofs.seen_tasks.Parts.{IsExtent, IsRanged, FamilyRanged, EntryRanged, AreRanged, is_called}
 

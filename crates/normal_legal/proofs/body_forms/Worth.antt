@@ -24,7 +24,7 @@ use Rattle.legal_types.proofs.MainScopes.{StandsWhole, last-stands}
 use Rattle.legal_types.proofs.LaterScopes.{valued-means}
 use Rattle.legal_literals.specs.Literals.{StandsFor, HasIndexLiterals}
 use Rattle.normal_legal.specs.variable_types.Ready.{IsReady}
-use Rattle.normal_legal.proofs.variable_types.Forms.{meant-own}
+use Rattle.normal_legal.proofs.variable_types.SubtypeForms.{meant-own}
 
 -- a name of the program that has a fixed value, which stands at that position in the normal form
 pub record IsLiteralAt (p : PProgram) (id : NameId) (i : ℤ) : Type 0 where

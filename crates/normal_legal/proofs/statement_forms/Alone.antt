@@ -15,7 +15,7 @@ use Rattle.syn_event.specs.NamedTasks.{NamedTasks, task_names_of, NumberedTask, 
 use Rattle.legal_entries.proofs.Lists.{find-behind, find-mapped}
 use Rattle.normal_legal.proofs.seen_tasks.Parts.{is_called, AtMostOnce, once-joined}
 use Rattle.normal_legal.proofs.seen_tasks.Tasks.{PartsKnown, numbered-tasks-named}
-use Rattle.normal_legal.proofs.statement_forms.Members.{is_within, out-numbers}
+use Rattle.normal_legal.proofs.statement_forms.MemberNumbers.{is_within, out-numbers}
 use Rattle.common_lemmas.proofs.Lists.{all_weaker, found_none, found_some}
 use Rattle.common_lemmas.proofs.Options.{some_same}
 

@@ -36,11 +36,11 @@ use Rattle.normal_legal.proofs.seen_tasks.Finding.{no-place, all-filtered}
 use Rattle.legal_entries.proofs.Entries.{numbers, g, IsTaskOf}
 use Rattle.normal_legal.proofs.seen_tasks.Parts.{IsExtent, is_called}
 use Rattle.normal_legal.proofs.seen_tasks.Tasks.{PartsKnown}
-use Rattle.normal_legal.proofs.statement_forms.Members.{member-in, member-is}
+use Rattle.normal_legal.proofs.statement_forms.MemberNumbers.{member-in, member-is}
 use Rattle.normal_legal.proofs.statement_forms.Callees.{CalleeForm, one_task, one_member, CalleeKnown, IsOneOf, named-one, member-one}
 use Rattle.normal_legal.proofs.statement_forms.Typed.{Typing}
-use Rattle.normal_legal.proofs.statement_forms.Heads.{same-kind, inside-range}
-use Rattle.normal_legal.proofs.statement_forms.HeadsAsked.{unmoved-static}
+use Rattle.normal_legal.proofs.statement_forms.OwnEntries.{same-kind, inside-range}
+use Rattle.normal_legal.proofs.statement_forms.AcceptsAsked.{unmoved-static}
 use Rattle.common_lemmas.proofs.Lists.{all_by_place, found_some}
 
 -- What is to be known of the range of an array of tasks: a variable of it has just the members' indices, and each index has a literal.

@@ -33,7 +33,7 @@ use Rattle.normal_legal.proofs.seen_tasks.Parts.{FamilyRanged}
 use Rattle.normal_legal.proofs.seen_tasks.Tasks.{PartsKnown}
 use Rattle.normal_legal.proofs.statement_forms.Callees.{CalleeKnown, callee-first, IsOneOf, first-one, named-one, member-one, some-not}
 use Rattle.normal_legal.proofs.statement_forms.Typed.{Typing}
-use Rattle.normal_legal.proofs.statement_forms.Heads.{EntryKnown, entry-known, entry-said}
+use Rattle.normal_legal.proofs.statement_forms.OwnEntries.{EntryKnown, entry-known, entry-said}
 use Rattle.common_lemmas.proofs.Lists.{all_back, all_front}
 
 -- ---- formals one by one

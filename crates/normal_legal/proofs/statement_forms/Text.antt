@@ -50,7 +50,7 @@ use Rattle.normal_legal.proofs.seen_tasks.Bodies.{PlaceSeen, first-seen, decls-s
 use Rattle.normal_legal.proofs.seen_tasks.Units.{objects-apart, BodiesTyped, BodyFound, nothing_found, body_found, bodies-found}
 use Rattle.normal_legal.proofs.seen_tasks.Tasks.{PartsKnown, mapped-place, numbered-tasks-units, one-unit}
 use Rattle.normal_legal.proofs.statement_forms.Typed.{Typing}
-use Rattle.normal_legal.proofs.statement_forms.HeadsAsked.{head-asked}
+use Rattle.normal_legal.proofs.statement_forms.AcceptsAsked.{head-asked}
 use Rattle.normal_legal.proofs.statement_forms.Callees.{callee-known}
 use Rattle.normal_legal.proofs.statement_forms.CalleesAsked.{CalleesKnown, callee-asked}
 use Rattle.normal_legal.proofs.statement_forms.Calls.{call-asked}

@@ -11,7 +11,8 @@ use Rattle.ada_tree.specs.TypeTable.{TypeTable}
 use Rattle.ada_tree.specs.PlainExpr.{PExpr, EInteger, EName, EIndex, EAttribute, EAttributeOf, EParen, EUnary, EBinary}
 use Rattle.ada_tree.specs.PlainDecl.{PInit, IOne, IList, IOthers}
 use Rattle.ada_tree.specs.Attributes.{Attribute, First, Last, Pos, Val, Succ, Pred, Image, NoAttribute, attribute_of}
-use Rattle.ada_tree.specs.StaticValue.{is_integer_value, is_of_kind, modulus}
+use Rattle.ada_tree.specs.StaticValue.{is_integer_value, is_of_kind}
+use Rattle.integer_division.specs.Modulus.{modulus}
 use Rattle.ada_tree.specs.Every.{EveryExpr, EveryInit}
 use Rattle.ada_value.specs.declared.values.Value.{Value}
 use Rattle.ada_value.specs.declared.values.Value.TheVariants.{Number, Truth}

@@ -27,7 +27,7 @@ use Rattle.legal_types.proofs.TaskTypes.{tasks-have-types}
 use Rattle.normal_legal.specs.variable_types.Ready.{IsReady}
 use Rattle.normal_legal.specs.variable_types.Laws.{LegalIsReady, MarksAgree, FamiliesAgree}
 use Rattle.normal_legal.proofs.variable_types.Numbers.{IsEntryOf, range-is}
-use Rattle.normal_legal.proofs.variable_types.Forms.{HasForm, truth-form, integer-form, mark-form, range-form}
+use Rattle.normal_legal.proofs.variable_types.SubtypeForms.{HasForm, truth-form, integer-form, mark-form, range-form}
 use Rattle.normal_legal.proofs.variable_types.Subtypes.{own_rule, entry-known, IsScalarFormal, formals-known, IsScalarDecl, unit-scalar}
 use Rattle.common_lemmas.proofs.Lists.{all_weaker}
 

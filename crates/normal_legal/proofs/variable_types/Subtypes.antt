@@ -40,7 +40,7 @@ use Rattle.legal_types.specs.Typed.{HasLimits, IsFirstTask, IsScalarName, IsType
 use Rattle.legal_types.proofs.TaskTypes.{part-units}
 use Rattle.normal_legal.specs.variable_types.Ready.{IsReady}
 use Rattle.normal_legal.proofs.variable_types.Numbers.{EntryRule, IsRuled, IsEntryOf, entry-of, formals-are, range-is}
-use Rattle.normal_legal.proofs.variable_types.Forms.{HasForm, truth-form, integer-form, mark-form, range-form}
+use Rattle.normal_legal.proofs.variable_types.SubtypeForms.{HasForm, truth-form, integer-form, mark-form, range-form}
 use Rattle.common_lemmas.proofs.Lists.{all_joined, all_paired}
 
 -- ---- tasks and parts, with names that are the program's own

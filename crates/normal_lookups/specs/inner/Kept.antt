@@ -13,7 +13,7 @@ use Rattle.syn_event.specs.NamedTasks.{task_names_of}
 use Rattle.scoped_names.specs.Meaning.{meaning_in}
 use Rattle.task_model.specs.Setting.{Setting}
 use Rattle.normal_lookups.specs.declared.entry_forms.EntryForm.{EntryForm}
-use Rattle.normal_lookups.specs.inner.Forms.{Form, form_of}
+use Rattle.normal_lookups.specs.inner.EntryForms.{Form, form_of}
 
 -- ---- static names
 

@@ -5,7 +5,7 @@ use Rattle.ada_tree.specs.PlainProgram.{PProgram}
 use Rattle.ada_tree.specs.Refusals.{types_in}
 use Rattle.normal_model.specs.Ranges.{kind_name}
 use Rattle.normal_form_law.specs.Normalisable.{numbers_of, made_for}
-use Rattle.normal_legal.specs.Laws.{IsLegal}
+use Rattle.normal_legal.specs.Laws.{IsLegalOriginal}
 use Rattle.replay_typed.specs.ScopeOf.{AreOuter}
 use Rattle.replay_checkable.specs.Prepared.{form_for}
 use Rattle.replay_scopes.specs.Names.{old_name}
@@ -14,7 +14,7 @@ use Rattle.replay_scopes.proofs.Names.{entries-new, permits-new, control-new, id
 use Rattle.replay_legal.proofs.form_names.Olds.{own-old, first-old}
 use Rattle.replay_legal.proofs.form_names.TypeNames.{kinds-own}
 
-module _ (p : PProgram) (h : IsLegal p) where
+module _ (p : PProgram) (h : IsLegalOriginal p) where
   abbrev q : PProgram
   q = made_for p
 

@@ -18,7 +18,7 @@ use Rattle.normal_has_numbers.proofs.TaskNames.{normal-begins}
 use Rattle.normal_form_law.specs.Normalisable.{setting_for, made_for}
 use Rattle.normal_placed.proofs.Names.{first-named}
 use Rattle.normal_declares_once.proofs.Ids.{first-free}
-use Rattle.normal_legal.specs.Laws.{IsLegal}
+use Rattle.normal_legal.specs.Laws.{IsLegalOriginal}
 use Rattle.normal_meets_checks.proofs.Facts as facts
 use Rattle.replay_model.specs.Names.{kind_text, argument_text, index_text, control_text, idle_text, never_text, join_text, double_text, double_texts}
 use Rattle.replay_declares_once.proofs.Ids.{IsOwn}
@@ -80,7 +80,7 @@ module _ (p : PProgram) (types : TypeTable) (numbers : Numbering) where
       plain-old n id (begins-within p.names n.names k (normal-begins p types numbers) l)
       (ap (λ t. starts_with nat_eq t (codes "DED_")) (text-longer p.names n.names id (normal-begins p types numbers) l) ∙ own-not-added p id h)
 
-module _ (p : PProgram) (h : IsLegal p) where
+module _ (p : PProgram) (h : IsLegalOriginal p) where
   -- So are the predefined names of a legal program.
   pub first-old : (k : ℕ) → k < 25 → old_name (made_for p) k ≡ true
   first-old k l = new-old (made_for p) k (good-own (setting_for p) (variables_needed (setting_for p)) k (record { there = first-named p.names h.names k l; free = first-free p.names h.names k l }))

@@ -10,7 +10,7 @@ use Rattle.normal_types.specs.Own.{own_name}
 use Rattle.normal_checked.specs.Around.{own_rules}
 use Rattle.normal_checked.proofs.Owned.{own-together}
 use Rattle.normal_form_law.specs.Normalisable.{numbers_of, made_for}
-use Rattle.normal_legal.specs.Laws.{IsLegal}
+use Rattle.normal_legal.specs.Laws.{IsLegalOriginal}
 use Rattle.normal_meets_checks.proofs.Facts as facts
 use Rattle.replay_checkable.proofs.Kept.{rules_of}
 use Rattle.replay_is_legal.proofs.Kept.{main-kept}
@@ -22,7 +22,7 @@ every-unlisted : (rules : Rules) (ds : PDecls) → AllByRecursion (EveryDecl rul
 every-unlisted rules no_decl h = tt
 every-unlisted rules (decl_then d ds) h = (h.0, every-unlisted rules ds h.1)
 
-module _ (p : PProgram) (h : IsLegal p) where
+module _ (p : PProgram) (h : IsLegalOriginal p) where
   abbrev q : PProgram
   q = made_for p
 

@@ -16,11 +16,11 @@ use Rattle.rewritten_types.proofs.Refused.{declared_once}
 use Rattle.rewritten_types.proofs.Unmarked.{unvalued_has_no_mark}
 use Rattle.normal_model.specs.Ranges.{kind_name}
 use Rattle.normal_types.specs.Own.{own_name}
-use Rattle.normal_legal.proofs.variable_types.Forms.{meant-own}
-use Rattle.normal_legal.specs.Laws.{IsLegal}
+use Rattle.normal_legal.proofs.variable_types.SubtypeForms.{meant-own}
+use Rattle.normal_legal.specs.Laws.{IsLegalOriginal}
 use Rattle.normal_meets_checks.proofs.Facts as facts
 
-module _ (p : PProgram) (h : IsLegal p) where
+module _ (p : PProgram) (h : IsLegalOriginal p) where
   abbrev T : TypeTable
   T = types_in p
 

@@ -22,7 +22,7 @@ use Rattle.normal_has_numbers.proofs.Named.{added-longer, own-within, own-not-ad
 use Rattle.normal_has_numbers.proofs.TaskNames.{normal-begins}
 use Rattle.normal_checked.specs.Around.{own_rules}
 use Rattle.normal_form_law.specs.Normalisable.{numbers_of, setting_for, made_for}
-use Rattle.normal_legal.specs.Laws.{IsLegal}
+use Rattle.normal_legal.specs.Laws.{IsLegalOriginal}
 use Rattle.normal_meets_checks.proofs.Facts as facts
 use Rattle.replay_model.specs.ReplayTree.{is_added_object, is_task, is_body}
 use Rattle.replay_texts.proofs.Listed.{normal-plain, normal-tasks, normal-bodies}
@@ -48,7 +48,7 @@ own-first p (DObject (w ∷ ws) c x i s) h =
 own-first p (DObject [] c x i s) h = refl
 own-first p _ h = refl
 
-module _ (p : PProgram) (h : IsLegal p) where
+module _ (p : PProgram) (h : IsLegalOriginal p) where
   abbrev q : PProgram
   q = made_for p
 

@@ -19,7 +19,7 @@ use Rattle.rewritten_types.specs.Rewriting.{IsAdded}
 use Rattle.rewritten_types.proofs.Keeping.{keeps-self}
 use Rattle.rewritten_types.proofs.Adding.{keeps-objects}
 use Rattle.normal_form_law.specs.Normalisable.{made_for}
-use Rattle.normal_legal.specs.Laws.{IsLegal}
+use Rattle.normal_legal.specs.Laws.{IsLegalOriginal}
 use Rattle.normal_scopes.proofs.Main.{tasked}
 use Rattle.alike_scopes.specs.Alike.{SameNames, Alike}
 use Rattle.alike_scopes.specs.Old.{IsOldObject}
@@ -62,7 +62,7 @@ module _ (old : ℕ → Bool) where
 
 -- ---- bodies
 
-module _ (p : PProgram) (legal : IsLegal p) where
+module _ (p : PProgram) (legal : IsLegalOriginal p) where
   abbrev q : PProgram
   q = made_for p
 

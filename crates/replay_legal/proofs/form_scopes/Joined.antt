@@ -16,7 +16,7 @@ use Rattle.rewritten_types.proofs.Adding.{keeps-decls}
 use Rattle.legal_types.proofs.MainScopes.{grows-decls}
 use Rattle.alike_scopes.specs.Alike.{SameNames}
 use Rattle.normal_form_law.specs.Normalisable.{numbers_of, made_for}
-use Rattle.normal_legal.specs.Laws.{IsLegal}
+use Rattle.normal_legal.specs.Laws.{IsLegalOriginal}
 use Rattle.normal_has_numbers.proofs.Listed.{tasks-all, first-plain, normal-list}
 use Rattle.replay_texts.proofs.Listed.{normal-tasks, normal-bodies}
 use Rattle.normal_types.proofs.Variables.{are-added, task-added, tasks-only, unit-all}
@@ -44,7 +44,7 @@ use Rattle.replay_legal.proofs.form_scopes.Values.{integer-of, ready-on, ready-f
 use Rattle.replay_legal.proofs.form_scopes.Told.{IsToldBody, all-told}
 use Rattle.replay_legal.proofs.form_scopes.Bodies.{IsBehindTasks, knows-language, bodies-scoped}
 
-module _ (p : PProgram) (legal : IsLegal p) where
+module _ (p : PProgram) (legal : IsLegalOriginal p) where
   abbrev G : Setting
   G = g p legal
 

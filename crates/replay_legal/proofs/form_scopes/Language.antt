@@ -14,7 +14,7 @@ use Rattle.rewritten_types.proofs.Fresh.{first-here}
 use Rattle.rewritten_types.proofs.Refused.{declared_once}
 use Rattle.legal_types.proofs.GoodScopes.{names-kept}
 use Rattle.normal_form_law.specs.Normalisable.{made_for}
-use Rattle.normal_legal.specs.Laws.{IsLegal}
+use Rattle.normal_legal.specs.Laws.{IsLegalOriginal}
 use Rattle.normal_is_legal.proofs.Legal.{normal_meets_types}
 use Rattle.normal_scopes.proofs.Later.{decls-kept}
 use Rattle.normal_scopes.proofs.Main.{first, tasked, made-means}
@@ -29,7 +29,7 @@ pub record KnowsLanguage (c : Scope) : Type 0 where
 pub language-same : (c d : Scope) → ((id : NameId) → meaning d id ≡ meaning c id) → KnowsLanguage c → KnowsLanguage d
 language-same c d e h = record { integer = e (record { 0 = 0 }) ∙ h.integer; falses = e (record { 0 = false_name }) ∙ h.falses; tasking = e (record { 0 = 9 }) ∙ h.tasking }
 
-module _ (p : PProgram) (legal : IsLegal p) where
+module _ (p : PProgram) (legal : IsLegalOriginal p) where
   -- each name of the normal form is declared once
   once : NamesOnce p.name (made_for p).decls
   once = declared_once (made_for p) (normal_meets_types p legal)

@@ -25,7 +25,7 @@ use Rattle.rewritten_types.proofs.Soundness.{sound-decls, sound-first}
 use Rattle.rewritten_types.proofs.Owning.{whole-decls, whole-first}
 use Rattle.legal_types.proofs.GoodScopes.{names-kept}
 use Rattle.legal_types.proofs.TypedValues.{anybody}
-use Rattle.normal_legal.specs.Laws.{IsLegal}
+use Rattle.normal_legal.specs.Laws.{IsLegalOriginal}
 use Rattle.normal_has_numbers.proofs.Listed.{IsOneTask}
 use Rattle.alike_scopes.specs.Alike.{SameScalar, of_values, a_task, SameThing, same_variable, no_values, SameNames}
 use Rattle.alike_scopes.proofs.Tables.{types-self}
@@ -95,7 +95,7 @@ self-body w objects its s c h = record { whole = whole-decls (decls_of (DTaskBod
     n : SameNames anybody (record c { types = (after_objects (in_body c w) objects).types }) (record c { types = (after_objects (in_body c w) objects).types })
     n = tables-kept anybody c c _ _ h.same keeps keeps
 
-module _ (p : PProgram) (legal : IsLegal p) where
+module _ (p : PProgram) (legal : IsLegalOriginal p) where
   abbrev G : Setting
   G = g p legal
 

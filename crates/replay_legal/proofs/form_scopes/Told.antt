@@ -21,7 +21,7 @@ use Rattle.normal_units.proofs.Tasks.{list-front}
 use Rattle.normal_types.proofs.Variables.{unit-all}
 use Rattle.rewritten_types.specs.Rewriting.{IsNew}
 use Rattle.normal_asked.specs.Pieces.{IsAmong}
-use Rattle.normal_legal.specs.Laws.{IsLegal}
+use Rattle.normal_legal.specs.Laws.{IsLegalOriginal}
 use Rattle.normal_placed.proofs.Made.{among}
 use Rattle.normal_placed.proofs.Whole.{each-of}
 use Rattle.normal_typed.proofs.Scopes.{differ}
@@ -38,7 +38,7 @@ abbrev pub IsOtherObject : ℕ → PDecl → Type 0
 IsOtherObject k (DObject ws constant shape init s) = AllByRecursion (IsNew (only (record { 0 = k }))) ws
 IsOtherObject k _ = Unit {0}
 
-module _ (p : PProgram) (legal : IsLegal p) where
+module _ (p : PProgram) (legal : IsLegalOriginal p) where
   abbrev G : Setting
   G = g p legal
 

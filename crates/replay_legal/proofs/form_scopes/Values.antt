@@ -26,7 +26,7 @@ use Rattle.alike_scopes.proofs.Tables.{value-kept}
 use Rattle.normal_types.proofs.Names.{names-begin}
 use Rattle.normal_has_numbers.proofs.Named.{text-longer, begins-within}
 use Rattle.normal_form_law.specs.Normalisable.{made_for}
-use Rattle.normal_legal.specs.Laws.{IsLegal}
+use Rattle.normal_legal.specs.Laws.{IsLegalOriginal}
 use Rattle.normal_scopes.specs.Plain.{plain_name}
 use Rattle.normal_scopes.proofs.Names.{plain-free, plain-within}
 use Rattle.normal_scopes.proofs.Main.{g, last, first, rules, last-placed}
@@ -72,7 +72,7 @@ module _ (q : PProgram) (old : ℕ → Bool) where
       same : (id : NameId) → value_named d.types id ≡ value_named c.types id
       same id = value-kept (only id) c.types d.types (keeps id) id (eq-eqb id.0 id.0 refl)
 
-module _ (p : PProgram) (legal : IsLegal p) where
+module _ (p : PProgram) (legal : IsLegalOriginal p) where
   abbrev T : TypeTable
   T = types_in p
 

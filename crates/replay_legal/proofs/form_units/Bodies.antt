@@ -30,7 +30,7 @@ use Rattle.normal_placed.proofs.Made.{among}
 use Rattle.normal_placed.proofs.Whole.{each-of}
 use Rattle.normal_has_numbers.proofs.Listed as list
 use Rattle.normal_asked.specs.Pieces.{IsAmong, first_among, later_among}
-use Rattle.normal_legal.specs.Laws.{IsLegal}
+use Rattle.normal_legal.specs.Laws.{IsLegalOriginal}
 use Rattle.normal_legal_asked.proofs.Bodies.{BodiesAsked, main-asked, bodies-asked}
 use Rattle.normal_typed.proofs.Variables.{AllMetBut}
 use Rattle.normal_scopes.specs.Plain.{plain_name}
@@ -57,7 +57,7 @@ use Rattle.replay_legal.proofs.form_units.Waits.{HasWaits, bodies-wait, main-wai
 use Rattle.replay_legal.proofs.form_units.Called.{entry-of-task, called-is}
 use Rattle.tree_lemmas.proofs.Declared.{objects_own, decls_joined}
 
-module _ (p : PProgram) (h : IsLegal p) where
+module _ (p : PProgram) (h : IsLegalOriginal p) where
   abbrev T : TypeTable
   T = types_in p
 

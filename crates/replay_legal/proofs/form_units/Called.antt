@@ -26,7 +26,7 @@ use Rattle.normal_model.specs.Ranges.{kind_of_range}
 use Rattle.normal_model.specs.NormalTree.{tasks_beside}
 use Rattle.normal_form_law.specs.Normalisable.{setting_for}
 use Rattle.normal_asked.specs.Pieces.{IsAmong}
-use Rattle.normal_legal.specs.Laws.{IsLegal}
+use Rattle.normal_legal.specs.Laws.{IsLegalOriginal}
 use Rattle.normal_legal_asked.proofs.KnownKinds.{known-kinds}
 use Rattle.normal_legal.proofs.seen_tasks.Scopes.{IsNoTask}
 use Rattle.normal_typed.specs.ScopeOf as typed
@@ -54,7 +54,7 @@ not-called MainProcedure name part h e = h
 not-called AnotherUnit name part h e = cc
 not-called Unclear name part h e = cc
 
-module _ (p : PProgram) (h : IsLegal p) where
+module _ (p : PProgram) (h : IsLegalOriginal p) where
   abbrev T : TypeTable
   T = types_in p
 

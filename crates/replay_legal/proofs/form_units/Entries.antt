@@ -31,7 +31,7 @@ use Rattle.normal_legal.proofs.seen_tasks.Tasks.{mapped-place, numbered-tasks-un
 use Rattle.normal_legal.proofs.units.Fields.{legal_is_ordered, legal_names_tell}
 use Rattle.normal_legal.proofs.body_forms.Joined as joined
 use Rattle.normal_legal.proofs.body_forms.Fields as fields
-use Rattle.normal_legal.specs.Laws.{IsLegal}
+use Rattle.normal_legal.specs.Laws.{IsLegalOriginal}
 use Rattle.normal_asked.specs.Pieces.{IsAmong}
 use Rattle.normal_placed.proofs.Made.{among}
 use Rattle.normal_typed.specs.ScopeOf.{IsEntryOf}
@@ -45,7 +45,7 @@ use Rattle.replay_checkable.specs.Prepared.{form_for}
 use Rattle.replay_legal_placed.proofs.Families.{family-kept, unit-number}
 use Rattle.replay_legal.proofs.form_units.Seen.{entries_of_task}
 
-module _ (p : PProgram) (h : IsLegal p) where
+module _ (p : PProgram) (h : IsLegalOriginal p) where
   abbrev T : TypeTable
   T = types_in p
 

@@ -34,7 +34,7 @@ use Rattle.normal_once.proofs.Fits.{inner_is_fit}
 use Rattle.normal_declares_once.proofs.Ids.{IsGoodId}
 use Rattle.normal_declares_once.proofs.Good.{good_names, program-good}
 use Rattle.normal_declares_once.proofs.Inner.{IsInner, body-inner}
-use Rattle.normal_legal.specs.Laws.{IsLegal}
+use Rattle.normal_legal.specs.Laws.{IsLegalOriginal}
 use Rattle.replay_legal.specs.form_units.Inner.{inner_name}
 
 -- a name that is declared as no name of main, or as a variable of it, is an inner one
@@ -83,7 +83,7 @@ unfolding namings_of
 all-differ n [] e = tt
 all-differ n (x ∷ ss) e = let q = differs n x.scope x.demand (namings_of ss) e in (q.0, all-differ n ss q.1)
 
-module _ (p : PProgram) (h : IsLegal p) where
+module _ (p : PProgram) (h : IsLegalOriginal p) where
   abbrev fixed : List ℕ
   fixed = fixed_names (namings_of (sites p))
 

@@ -19,7 +19,7 @@ use Rattle.rewritten_types.proofs.Refused.{declared_once}
 use Rattle.normal_model.specs.Ranges.{kind_name}
 use Rattle.alike_scopes.specs.Alike.{SameNames}
 use Rattle.alike_scopes.proofs.Exprs.{mark-kind-same}
-use Rattle.normal_legal.specs.Laws.{IsLegal}
+use Rattle.normal_legal.specs.Laws.{IsLegalOriginal}
 use Rattle.normal_scopes.specs.Plain.{plain_name}
 use Rattle.normal_scopes.proofs.Main.{last}
 use Rattle.normal_scopes.proofs.Marked.{IsTypeOf, named-means}
@@ -64,7 +64,7 @@ module _ (T U : TypeTable) (g : Grows T U) where
 
 -- ---- kinds of a legal program
 
-module _ (p : PProgram) (h : IsLegal p) where
+module _ (p : PProgram) (h : IsLegalOriginal p) where
   abbrev T : TypeTable
   T = types_in p
 

@@ -27,7 +27,7 @@ use Rattle.normal_model.specs.NormalTree.{tasks_beside, bodies_of}
 use Rattle.normal_units.proofs.Tasks.{tasks_keep_numbers}
 use Rattle.normal_form_law.specs.Normalisable.{numbers_of}
 use Rattle.normal_asked.specs.Pieces.{IsAmong, first_among, later_among}
-use Rattle.normal_legal.specs.Laws.{IsLegal}
+use Rattle.normal_legal.specs.Laws.{IsLegalOriginal}
 use Rattle.normal_scopes.proofs.Formed.{bodies-other, all-bodies}
 use Rattle.normal_scopes.proofs.Main.{g, old, last, first, tasked, tasked-there}
 use Rattle.replay_checkable.specs.Prepared.{form_for}
@@ -44,7 +44,7 @@ at-place x [] k e = cc
 at-place x (y ∷ xs) zero e = subst (λ z. IsAmong x (z ∷ xs)) (sym (some_same e)) (first_among xs)
 at-place x (y ∷ xs) (suc k) e = later_among y xs (at-place x xs k e)
 
-module _ (p : PProgram) (h : IsLegal p) where
+module _ (p : PProgram) (h : IsLegalOriginal p) where
   abbrev G : Setting
   G = g p h
 

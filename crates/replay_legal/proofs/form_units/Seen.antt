@@ -20,13 +20,13 @@ use Rattle.normal_has_numbers.proofs.Listed as list
 use Rattle.normal_legal.proofs.seen_tasks.Scopes.{IsNoTask, ObjectThing, no_task_object, one_object, array_of_objects, object-thing, task-type-seen}
 use Rattle.normal_asked.specs.Pieces.{IsAmong, first_among, later_among}
 use Rattle.rewritten_values.specs.Values.{old_names}
-use Rattle.normal_legal.specs.Laws.{IsLegal}
+use Rattle.normal_legal.specs.Laws.{IsLegalOriginal}
 use Rattle.normal_scopes.proofs.Seeing.{entries_in}
 use Rattle.normal_scopes.proofs.Tasks.{one-under, entries-same}
 use Rattle.normal_scopes.proofs.Formed.{task-formed}
 use Rattle.normal_scopes.proofs.Main.{g, old, last, first, varied, tasked, last-placed, unit-of, varied-formed, Formed}
 
-module _ (p : PProgram) (h : IsLegal p) where
+module _ (p : PProgram) (h : IsLegalOriginal p) where
   abbrev G : Setting
   G = g p h
 

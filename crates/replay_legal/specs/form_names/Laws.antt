@@ -10,7 +10,7 @@ use Rattle.syn_event.specs.DeclaredTasks.{decl_list}
 use Rattle.normal_model.specs.NormalTree.{first_decls, main_variables}
 use Rattle.normal_checked.specs.Around.{own_rules}
 use Rattle.normal_form_law.specs.Normalisable.{setting_for, made_for}
-use Rattle.normal_legal.specs.Laws.{IsLegal}
+use Rattle.normal_legal.specs.Laws.{IsLegalOriginal}
 use Rattle.replay_model.specs.ReplayTree.{is_added_object, is_task, is_body}
 use Rattle.replay_typed.specs.ScopeOf.{AreOuter}
 use Rattle.replay_checkable.specs.Prepared.{form_for}
@@ -47,4 +47,4 @@ pub record HasFormNames (p : PProgram) : Type 0 where
 
 -- The normal form of each legal program is so (this project's rule).
 abbrev pub LegalHasFormNames : Type 0
-LegalHasFormNames = (p : PProgram) → IsLegal p → HasFormNames p
+LegalHasFormNames = (p : PProgram) → IsLegalOriginal p → HasFormNames p

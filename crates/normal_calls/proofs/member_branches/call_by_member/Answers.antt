@@ -1,6 +1,6 @@
 use Rattle.ada_tree.specs.PlainStmt.{plain_call, plain_callee}
 use Rattle.normal_model.specs.Making.{one}
-use Rattle.normal_calls.specs.inner.Forms.{branch}
+use Rattle.normal_calls.specs.inner.CallForms.{branch}
 use Rattle.normal_calls.proofs.Branches.{case-kept}
 use Rattle.normal_calls.proofs.member_branches.call_by_member.Goals as goal
 

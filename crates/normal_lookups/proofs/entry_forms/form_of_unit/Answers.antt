@@ -1,5 +1,5 @@
 use Rattle.std.proofs.Common.{ap, sym, ◌∙◌, option_copied, option_map}
-use Rattle.normal_lookups.specs.inner.Forms.{form_of_unit}
+use Rattle.normal_lookups.specs.inner.EntryForms.{form_of_unit}
 use Rattle.normal_lookups.proofs.Forming.{form_is, no_form, seen_now}
 use Rattle.normal_lookups.proofs.entry_forms.form_of_unit.Goals as goal
 

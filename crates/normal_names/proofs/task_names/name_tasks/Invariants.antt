@@ -1,7 +1,7 @@
 use Rattle.std.proofs.Common.{◌≡◌, fold, map, take, drop}
 use Rattle.ada_tree.specs.NameList.{interned}
 use Rattle.normal_model.specs.Names.{member_texts}
-use Rattle.normal_names.specs.inner.Members.{name_behind}
+use Rattle.normal_names.specs.inner.MemberNames.{name_behind}
 use Rattle.normal_names.proofs.Naming.{named}
 use Rattle.normal_names.proofs.task_names.name_tasks.Given as goal
 

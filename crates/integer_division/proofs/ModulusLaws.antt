@@ -1,11 +1,11 @@
--- `mod` of static expressions is the standard's.
+-- `mod` is the standard's.
 use Rattle.std.proofs.Common.{◌≡◌, ◌≢◌, inl, inr, ℕ, zero, suc, ◌<◌, ℤ, pos, negsuc, ◌+ℤ◌, ◌-ℤ◌, ◌*ℤ◌, ◌<ℤ◌, ◌≤ℤ◌, Bool, true, false, if◌then◌else◌, ◌||◌, refl, sym, ap, subst, ◌∙◌, arith}
 use Rattle.std.specs.Prelude.{int_div, int_rem, unsigned_abs}
 use Rattle.std.specs.Ordering.{int_eq}
 use Rattle.std.proofs.lemmas.Int.{ints, quot-rem, rem_below}
 use Rattle.std.proofs.Math.IntN.{pred_ℤ-*ℤ, pred_ℤ}
-use Rattle.ada_tree.specs.StaticValue.{have_one_sign, moved}
-use Rattle.ada_static_values.specs.ModulusLaw.{IsModulus, ModulusLaw}
+use Rattle.integer_division.specs.Modulus.{have_one_sign, moved}
+use Rattle.integer_division.specs.ModulusLaw.{IsModulus, ModulusLaw}
 
 positive_is_not_zero : (k : ℕ) → int_eq (pos (suc k)) (pos 0) ≡ false
 positive_is_not_zero k = grind (arith, ints)

@@ -1,6 +1,6 @@
 -- What the standard says of `mod` (4.5.5).
 use Rattle.std.specs.Prelude.{◌≡◌, ◌≢◌, ◌⊎◌, ◌<◌, ℤ, pos, ◌+ℤ◌, ◌*ℤ◌, unsigned_abs, true}
-use Rattle.ada_tree.specs.StaticValue.{have_one_sign, modulus}
+use Rattle.integer_division.specs.Modulus.{have_one_sign, modulus}
 
 pub record IsModulus (a b m : ℤ) : Type 0 where
   -- it is 0 or has the sign of the right operand

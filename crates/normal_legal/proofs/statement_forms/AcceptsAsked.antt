@@ -26,7 +26,7 @@ use Rattle.legal_entries.proofs.Entries.{entry_in, numbers, g, IsTaskOf, HasEntr
 use Rattle.normal_legal.proofs.seen_tasks.Parts.{FamilyRanged}
 use Rattle.normal_legal.proofs.seen_tasks.Bodies.{PlaceSeen}
 use Rattle.normal_legal.proofs.statement_forms.Typed.{Typing}
-use Rattle.normal_legal.proofs.statement_forms.Heads.{EntryKnown, own-entry, index-of-family, static-inside}
+use Rattle.normal_legal.proofs.statement_forms.OwnEntries.{EntryKnown, own-entry, index-of-family, static-inside}
 use Rattle.common_lemmas.proofs.Lists.{all_front}
 
 -- an index that does not move is static

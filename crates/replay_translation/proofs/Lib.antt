@@ -1,0 +1,4 @@
+pub mod Rows
+pub mod Floors
+pub mod Carried
+pub mod Instance

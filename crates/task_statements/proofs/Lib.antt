@@ -1,0 +1,5 @@
+pub mod Frames
+pub mod Steps
+pub mod Meetings
+pub mod Legal
+pub mod Carried
