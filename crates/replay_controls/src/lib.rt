@@ -2,6 +2,10 @@
 //! laws.
 #![tactic(auto)]
 
+pub mod images;
+pub mod permits;
+pub mod translated;
+
 ghost use Rattle.replay_controls.specs.Asking.{LegalAsksController};
 ghost use Rattle.replay_controls.specs.Imitating.{LegalImitatesController, LegalStartsWithScript};
 ghost use Rattle.replay_controls.specs.Laws.{IdleWaits, LegalGrantsPermits, LegalHearsTasks, LegalJoinsTasks, LegalOffersNext, LegalStartsThere};

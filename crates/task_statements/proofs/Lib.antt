@@ -3,3 +3,4 @@ pub mod Steps
 pub mod Meetings
 pub mod Legal
 pub mod Carried
+pub mod Blocks

@@ -28,19 +28,20 @@ LegalExitsLeave = (p : PProgram) (m : Mode) → MeetsCheckRules p m → (numbers
 abbrev pub ExitsStart : Type 0
 ExitsStart = (g : Setting) (inputs : List (List ℤ)) (t : ℕ) → InBody ExitLeaves [] (unit_of g.program g.numbers t).body → HoldsOf ExitLeaves (started g inputs t)
 
--- Whatever is done to a task leaves it so.
-pub record StaysSo (t : Task) : Type 0 where
-  pub stepped : HoldsOf ExitLeaves (stepped t)
-  pub accepted : (e : ℕ) (i : ℤ) (caller : ℕ) (calling : Task) → HoldsOf ExitLeaves (accepted e i caller calling t)
-  pub finished : HoldsOf ExitLeaves (finished t)
-  pub resumed : (acceptor : Task) → HoldsOf ExitLeaves (resumed acceptor t)
-  pub raised : HoldsOf ExitLeaves (call_failed t)
-  pub took_else : HoldsOf ExitLeaves (took_else t)
-  pub took_delay : (k : ℕ) → HoldsOf ExitLeaves (took_delay k t)
-  pub passed : HoldsOf ExitLeaves (past_name t)
+-- After a local step, and after what each event makes of the task, the property holds of each of its statements.
+pub record StaysSo (Each : Loops → PStmt → Type 0) (t : Task) : Type 0 where
+  pub stepped : HoldsOf Each (stepped t)
+  pub accepted : (e : ℕ) (i : ℤ) (caller : ℕ) (calling : Task) → HoldsOf Each (accepted e i caller calling t)
+  pub finished : HoldsOf Each (finished t)
+  pub resumed : (acceptor : Task) → HoldsOf Each (resumed acceptor t)
+  pub raised : HoldsOf Each (call_failed t)
+  pub took_else : HoldsOf Each (took_else t)
+  pub took_delay : (k : ℕ) → HoldsOf Each (took_delay k t)
+  pub passed : HoldsOf Each (past_name t)
 
+-- So it is with exits.
 abbrev pub ExitsStay : Type 0
-ExitsStay = (t : Task) → HoldsOf ExitLeaves t → StaysSo t
+ExitsStay = (t : Task) → HoldsOf ExitLeaves t → StaysSo ExitLeaves t
 
 -- A task of which it holds stands at no exit but such as leaves a loop.
 abbrev pub ExitsAreInLoops : Type 0

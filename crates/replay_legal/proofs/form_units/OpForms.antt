@@ -39,7 +39,7 @@ use Rattle.replay_legal.proofs.form_units.Entries.{tell}
 use Rattle.replay_legal.proofs.form_units.Ops.{IsBounded, script-bounded}
 
 -- what stands at a place of a list is in it
-at-place : {A : Type 0} (x : A) (xs : List A) (k : ℕ) → slice_get xs k ≡ Some x → IsAmong x xs
+pub at-place : {A : Type 0} (x : A) (xs : List A) (k : ℕ) → slice_get xs k ≡ Some x → IsAmong x xs
 at-place x [] k e = cc
 at-place x (y ∷ xs) zero e = subst (λ z. IsAmong x (z ∷ xs)) (sym (some_same e)) (first_among xs)
 at-place x (y ∷ xs) (suc k) e = later_among y xs (at-place x xs k e)

@@ -1,0 +1,4 @@
+pub mod Tables
+pub mod Bodies
+pub mod Objects
+pub mod Starting
