@@ -7,12 +7,12 @@ use Rattle.ada_tree.specs.PlainDecl.{PDecl, DNumber, DObject, DEnumeration, DArr
 use Rattle.syn_event.specs.CheckRefusals.{CheckRefusal}
 use Rattle.syn_event.specs.CheckScope.{CheckScope}
 use Rattle.syn_event.specs.CheckSites.{body_names, after_decl, decl_sites}
-use Rattle.ada_rules.specs.Sooner.{sooner}
-use Rattle.ada_rules.specs.RefusedFirst.{Standard, refused_first}
-use Rattle.ada_declaration_places.specs.Places.{places_of}
+use Rattle.ada_check_rules.specs.rules.Sooner.{sooner}
+use Rattle.ada_check_rules.specs.rules.RefusedFirst.{Standard, refused_first}
+use Rattle.ada_check.specs.declaration_places.Places.{places_of}
 use Rattle.ada_check.specs.inner.TaskBodies.{body_part, with_body}
-use Rattle.ada_rules.proofs.Meeting.{joined}
-use Rattle.ada_rules.proofs.FromBehind.{back_cut}
+use Rattle.ada_check_rules.proofs.rules.Meeting.{joined}
+use Rattle.ada_check_rules.proofs.rules.FromBehind.{back_cut}
 
 body_next : (d : PDecl) (rest : PDecls) → body_names (decl_then d rest) ≡ with_body d (body_names rest)
 body_next (DNumber w e p) rest = refl

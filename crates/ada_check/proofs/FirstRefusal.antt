@@ -4,7 +4,7 @@ use Rattle.std.proofs.Common.{sym, ap, ◌∙◌, subst, arith}
 use Rattle.std.proofs.lemmas.Bool.Decides.{nat_tests}
 use Rattle.std.proofs.lemmas.List.Elements.{All-weaker}
 use Rattle.ada_tree.specs.PlainProgram.{PProgram}
-use Rattle.ada_tree.specs.Refusals.{MeetsTypeRules}
+use Rattle.ada_static_rules.specs.Refusals.{MeetsTypeRules}
 use Rattle.syn_event.specs.declared.numbering.Mode.{Mode}
 use Rattle.syn_event.specs.CheckScope.{CheckSite}
 use Rattle.syn_event.specs.CheckSites.{check_sites}
@@ -20,15 +20,15 @@ use Rattle.syn_event.specs.RuleBodyMissing.{body_missing}
 use Rattle.syn_event.specs.RuleExitPlace.{exit_place}
 use Rattle.syn_event.specs.RuleRaisePlace.{raise_place}
 use Rattle.syn_event.specs.RuleLimit.{over_limit}
-use Rattle.ada_refusals.specs.Ranking.{is_lower}
-use Rattle.ada_refusals.proofs.RankingLaws.{spread, none_left, first_is}
-use Rattle.ada_rules.specs.Sooner.{rank_of, is_before, sooner, least_of}
-use Rattle.ada_rules.specs.RefusedFirst.{refused_first_at, refused_first}
+use Rattle.ada_static_rules.specs.Ranking.{is_lower}
+use Rattle.ada_static_rules.proofs.RankingLaws.{spread, none_left, first_is}
+use Rattle.ada_check_rules.specs.rules.Sooner.{rank_of, is_before, sooner, least_of}
+use Rattle.ada_check_rules.specs.rules.RefusedFirst.{refused_first_at, refused_first}
 use Rattle.ada_check.specs.Telling.{refusal_of}
 use Rattle.ada_check.specs.Verdicts.{TellsCheck, TellsWhy}
 use Rattle.ada_check.specs.declared.errors.CheckError.{CheckError}
 use Rattle.ada_check.specs.declared.errors.CheckError.TheVariants.{Rule, SharedVariable, AcceptPlace, SelectForm, SameEntryTwice, ReservedName, MainEntry, AbortOrder, BodyMissing, ExitPlace, RaisePlace, Limit, Memory}
-use Rattle.ada_rules.proofs.SoonerLaws.{least_append}
+use Rattle.ada_check_rules.proofs.rules.SoonerLaws.{least_append}
 
 -- ---- the first of a list
 

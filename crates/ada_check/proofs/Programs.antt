@@ -3,15 +3,15 @@ use Rattle.std.specs.Prelude.{◌≡◌, List, ◌∷◌, ◌++◌, Option}
 use Rattle.std.proofs.Common.{ap, ◌∙◌}
 use Rattle.ada_tree.specs.TypeTable.{TypeTable}
 use Rattle.ada_tree.specs.PlainProgram.{PProgram}
-use Rattle.ada_tree.specs.Refusals.{types_in}
+use Rattle.ada_static_rules.specs.Refusals.{types_in}
 use Rattle.syn_event.specs.CheckRefusals.{CheckRefusal}
 use Rattle.syn_event.specs.CheckScope.{CheckScope, declares}
 use Rattle.syn_event.specs.NamedTasks.{NamedTasks, task_names_of}
 use Rattle.syn_event.specs.CheckSites.{site, check_sites, around_program, first_around, body_names, decls_sites, after_decls, body_sites, tasks_sites, entries_sites, all_copies_sites, counted_sites}
-use Rattle.ada_rules.specs.Sooner.{sooner}
-use Rattle.ada_rules.specs.RefusedFirst.{Standard, refused_first_at, refused_first}
-use Rattle.ada_rules.proofs.Meeting.{joined, before}
-use Rattle.ada_declaration_places.proofs.Declaring.{types_after}
+use Rattle.ada_check_rules.specs.rules.Sooner.{sooner}
+use Rattle.ada_check_rules.specs.rules.RefusedFirst.{Standard, refused_first_at, refused_first}
+use Rattle.ada_check_rules.proofs.rules.Meeting.{joined, before}
+use Rattle.ada_check.proofs.declaration_places.Declaring.{types_after}
 
 -- what is counted over the whole
 pub counted_met : (by : Standard) (around : CheckScope) (parts : List NamedTasks) (p : PProgram) (a b d ab r : Option CheckRefusal) → parts ≡ task_names_of p

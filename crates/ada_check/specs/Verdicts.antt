@@ -1,14 +1,14 @@
 -- What an error tells of a program, and what is known of one that was gone through.
 use Rattle.std.specs.Prelude.{◌≡◌, Option, Some, None}
 use Rattle.ada_tree.specs.PlainProgram.{PProgram}
-use Rattle.ada_tree.specs.Refusals.{MeetsTypeRules, types_in}
-use Rattle.ada_refusals.specs.declared.errors.TypeError.{TypeError}
-use Rattle.ada_refusals.specs.declared.errors.TypeError.TheVariants as type_error
-use Rattle.ada_refusals.specs.Telling.{TellsFirst}
+use Rattle.ada_static_rules.specs.Refusals.{MeetsTypeRules, types_in}
+use Rattle.ada_static_rules.specs.declared.errors.TypeError.{TypeError}
+use Rattle.ada_static_rules.specs.declared.errors.TypeError.TheVariants as type_error
+use Rattle.ada_static_rules.specs.Telling.{TellsFirst}
 use Rattle.syn_event.specs.declared.numbering.Mode.{Mode}
 use Rattle.syn_event.specs.CheckRefusals.{CheckRefusal, IsFirstCheckRefusal}
 use Rattle.syn_event.specs.CheckSites.{check_sites}
-use Rattle.ada_rules.specs.RefusedFirst.{refused_first}
+use Rattle.ada_check_rules.specs.rules.RefusedFirst.{refused_first}
 use Rattle.ada_check.specs.Telling.{refusal_of}
 use Rattle.ada_check.specs.declared.checking.WalkedProgram.{WalkedProgram}
 use Rattle.ada_check.specs.declared.errors.CheckError.{CheckError}

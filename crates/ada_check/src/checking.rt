@@ -2,22 +2,22 @@
 
 ghost use Rattle.std.specs.Prelude.{◌≡◌, IfOk, OnOk, IfErr};
 ghost use Rattle.ada_tree.specs.PlainProgram.{plain_program};
-ghost use Rattle.ada_tree.specs.Refusals.{MeetsTypeRules, types_in};
+ghost use Rattle.ada_static_rules.specs.Refusals.{MeetsTypeRules, types_in};
 ghost use Rattle.syn_event.specs.CheckScope.{CheckScope};
 ghost use Rattle.syn_event.specs.CheckSites.{check_sites, around_program, counted_sites};
 ghost use Rattle.syn_event.specs.Legal.{Legal};
-ghost use Rattle.ada_rules.specs.RefusedFirst.{refused_first};
+ghost use Rattle.ada_check_rules.specs.rules.RefusedFirst.{refused_first};
 ghost use Rattle.ada_check.specs.Verdicts.{IsWalkedProgram, TellsWhy};
 
 use crate::declarations::walk_decls;
 use crate::errors::CheckError;
 use crate::telling::error_of;
-use ada_check_scopes::CheckScopes;
-use ada_rules::{Refusal, Standard, first};
-use ada_statement_places::walk_body;
-use ada_task_counts::{refuse_copies, refuse_entries, refuse_tasks};
+use ada_check_places::statements::walk_body;
+use ada_check_rules::rules::{Refusal, Standard, first};
+use ada_check_rules::scopes::CheckScopes;
 use ada_task_numbers::numbers_for;
-use ada_task_objects::task_names_of;
+use ada_task_numbers::task_counts::{refuse_copies, refuse_entries, refuse_tasks};
+use ada_task_numbers::task_objects::task_names_of;
 use ada_tree::{Program, Types};
 use ada_types::{TypeError, types_of};
 use std::alloc::{AllocError, Global};

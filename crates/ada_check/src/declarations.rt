@@ -1,20 +1,20 @@
 // What the rules refuse first in the declarations of the main procedure, the bodies of tasks among them.
-#![tactic(auto, using(ada_rules::proofs::Meeting::meeting))]
+#![tactic(auto, using(ada_check_rules::proofs::rules::Meeting::meeting))]
 
 ghost use Rattle.std.specs.Prelude.{◌≡◌, None, map, OnOk, IfOk};
 ghost use Rattle.ada_tree.specs.PlainDecl.{plain_decl, decls_of};
 ghost use Rattle.ada_tree.specs.PlainStmt.{plain_body};
 ghost use Rattle.syn_event.specs.CheckSites.{after_decl, after_decls, decl_sites, decls_sites, body_names};
-ghost use Rattle.ada_rules.specs.RefusedFirst.{refused_first};
-ghost use Rattle.name_sets.specs.Numbers.{numbers_in};
+ghost use Rattle.ada_check_rules.specs.rules.RefusedFirst.{refused_first};
+ghost use Rattle.scoped_names.specs.name_sets.Numbers.{numbers_in};
 ghost use Rattle.ada_check.specs.inner.TaskBodies.{task_body_sites, body_part, with_body};
 
-use ada_check_scopes::CheckScopes;
-use ada_declaration_places::{declare, walk_own, walk_places};
-use ada_rules::{Refusal, Standard, first};
-use ada_statement_places::walk_body;
+use crate::declaration_places::{declare, walk_own, walk_places};
+use ada_check_places::statements::walk_body;
+use ada_check_rules::rules::{Refusal, Standard, first};
+use ada_check_rules::scopes::CheckScopes;
 use ada_tree::{Body, Decl, DeclKind, Word};
-use name_sets::NameSet;
+use scoped_names::name_sets::NameSet;
 use std::alloc::{AllocError, Global};
 
 // The body of a task or task type.

@@ -2,6 +2,7 @@
 #![tactic(auto)]
 
 mod checking;
+pub mod declaration_places;
 mod declarations;
 mod errors;
 mod telling;

@@ -4,7 +4,7 @@ ghost use Rattle.std.specs.Prelude.{◌≡◌, Some};
 ghost use Rattle.ada_check.specs.Telling.{refusal_of};
 
 use crate::errors::CheckError;
-use ada_rules::{Refusal, Rule};
+use ada_check_rules::rules::{Refusal, Rule};
 
 /// The error that tells a refusal.
 pub(crate) fn error_of(refusal: Refusal) -> CheckError

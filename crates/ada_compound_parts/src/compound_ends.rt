@@ -9,10 +9,10 @@ ghost use Rattle.ada_expr_parser.specs.Gives.{Gives};
 ghost use Rattle.ada_phrase_parser.specs.Reading as reading;
 ghost use Rattle.ada_compound_parts.specs.inner.ReadingParts as parts;
 
+use ada_expr_parser::joining::with;
 use ada_expr_parser::{Item, ParseError, Symbol, expect};
 use ada_phrase_parser::{expect_again, from_to};
 use ada_tree::{Arm, Body, CaseArm, Expr, Scheme, Span, Stmt, StmtKind, Word};
-use joined_parts::with;
 
 /// Behind the last part of an `if`: its end.
 #[tactic(auto, using(crate::proofs::Steps::steps, ada_tree::proofs::Rows::rows))]

@@ -5,10 +5,10 @@ ghost use Rattle.ada_tree.specs.PlainStmt.{plain_scheme, plain_alt_kind};
 ghost use Rattle.ada_expr_parser.specs.Gives.{Gives};
 ghost use Rattle.ada_compound_parts.specs.inner.ReadingHeads as front;
 
+use ada_expr_parser::joining::with;
 use ada_expr_parser::{Item, ParseError, Symbol, expect, expect_word, read_drange, read_expr};
 use ada_phrase_parser::{is_symbol, stands, word_in};
 use ada_tree::{AltKind, Expr, Scheme, Span, Word};
-use joined_parts::with;
 use std::alloc::Global;
 
 /// Whether an item begins a statement.

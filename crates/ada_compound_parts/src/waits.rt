@@ -9,10 +9,10 @@ ghost use Rattle.ada_phrase_parser.specs.Reading as reading;
 ghost use Rattle.ada_compound_parts.specs.inner.ReadingHeads as front;
 ghost use Rattle.ada_compound_parts.specs.inner.ReadingParts as parts;
 
+use ada_expr_parser::joining::with;
 use ada_expr_parser::{Item, ParseError, Symbol, expect, read_call_behind, read_target};
 use ada_phrase_parser::{from_to, read_delayed};
 use ada_tree::{Alt, Call, Callee, Span, Stmt, StmtKind};
-use joined_parts::with;
 use std::alloc::Global;
 
 /// `end select ;`

@@ -13,12 +13,12 @@ ghost use Rattle.ada_expr_parser.specs.Gives.{Gives};
 ghost use Rattle.ada_phrase_parser.specs.Reading as reading;
 ghost use Rattle.ada_decl_parser.specs.inner.ReadingDeclarations as declarations;
 
+use ada_expr_parser::joining::with;
 use ada_expr_parser::{
     Item, ParseError, Symbol, expect, read_behind, read_drange, read_expr, read_subind, symbol_in,
 };
 use ada_phrase_parser::{add, from_to, is_symbol};
 use ada_tree::{Expr, ExprKind, Init, Shape, Span};
-use joined_parts::with;
 use std::alloc::Global;
 
 /// `subind | array ( drange ) of subind`

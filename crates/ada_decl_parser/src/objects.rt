@@ -14,10 +14,10 @@ ghost use Rattle.ada_decl_parser.specs.inner.ReadingDeclarations as declarations
 ghost use Rattle.ada_decl_parser.specs.inner.DeclViews as views;
 
 use crate::initials::{read_init, read_shape};
+use ada_expr_parser::joining::with;
 use ada_expr_parser::{Item, ParseError, Symbol, expect, read_expr};
 use ada_phrase_parser::{from_to, is_symbol, read_words};
 use ada_tree::{Decl, DeclKind, Expr, Init, Shape, Span, Word};
-use joined_parts::with;
 use std::alloc::Global;
 
 // The semicolon of an object.

@@ -11,10 +11,10 @@ ghost use Rattle.ada_expr_parser.specs.Gives.{Gives};
 ghost use Rattle.ada_phrase_parser.specs.Reading as reading;
 ghost use Rattle.ada_decl_parser.specs.inner.ReadingDeclarations as declarations;
 
+use ada_expr_parser::joining::with;
 use ada_expr_parser::{Item, ParseError, Symbol, expect, read_drange, read_subind};
 use ada_phrase_parser::{expect_id, from_to, is_id, is_symbol, read_words};
 use ada_tree::{Decl, DeclKind, Span, Word};
-use joined_parts::with;
 use std::alloc::Global;
 
 // The ids of the predefined names of an instance.

@@ -3,18 +3,18 @@ use Rattle.std.specs.Prelude.{◌≡◌, ℕ, zero, suc, ◌<◌, Bool, false, L
 use Rattle.std.proofs.Common.{sym, ap, ◌∙◌, arith}
 use Rattle.ada_tree.specs.declared.naming.Word.{Word}
 use Rattle.ada_tree.specs.PlainStmt.{PFormal, PHead}
-use Rattle.ada_tree.specs.Refusals.{Refusal}
-use Rattle.ada_tree.specs.Scope.{Scope, entry_named}
-use Rattle.ada_tree.specs.Demand.{accepts}
-use Rattle.ada_tree.specs.Declaring.{inner_scope}
-use Rattle.ada_tree.specs.RuleArgCount.{Written, are_same}
-use Rattle.ada_tree.specs.Sites.{site, if_there, names_sites, all_names, accept_index_sites, formal_mark_sites, formals_sites, head_sites}
-use Rattle.ada_refusals.specs.Sooner.{sooner}
-use Rattle.ada_refusals.specs.RefusedFirst.{refused_first_at, refused_first}
+use Rattle.ada_static_rules.specs.Refusals.{Refusal}
+use Rattle.ada_static_rules.specs.Scope.{Scope, entry_named}
+use Rattle.ada_static_rules.specs.Demand.{accepts}
+use Rattle.ada_static_rules.specs.Declaring.{inner_scope}
+use Rattle.ada_static_rules.specs.RuleArgCount.{Written, are_same}
+use Rattle.ada_static_rules.specs.Sites.{site, if_there, names_sites, all_names, accept_index_sites, formal_mark_sites, formals_sites, head_sites}
+use Rattle.ada_static_rules.specs.Sooner.{sooner}
+use Rattle.ada_static_rules.specs.RefusedFirst.{refused_first_at, refused_first}
 use Rattle.ada_scopes.specs.Entries.{plain_part}
 use Rattle.ada_entry_rules.specs.inner.Accepts.{written_of}
 use Rattle.ada_scopes.specs.declared.denotations.FormalPart.{FormalPart}
-use Rattle.ada_refusals.proofs.Meeting.{names_met, met_append, joined, before}
+use Rattle.ada_static_rules.proofs.Meeting.{names_met, met_append, joined, before}
 use Rattle.common_lemmas.proofs.Lists.{short_empty}
 
 pub formals_met : (scope : Scope) (formals : List PFormal) (p : Option Refusal) → p ≡ refused_first (formal_mark_sites scope formals) → p ≡ refused_first (formals_sites scope formals)

@@ -3,15 +3,15 @@ use Rattle.std.specs.Prelude.{◌≡◌, ℕ, zero, suc, ◌+◌, ◌<◌, ◌�
 use Rattle.std.proofs.Common.{sym, ap, ◌∙◌, append_assoc, add-one}
 use Rattle.std.proofs.lemmas.List.{drop_all}
 use Rattle.ada_tree.specs.PlainExpr.{PExpr}
-use Rattle.ada_tree.specs.Refusals.{Refusal}
-use Rattle.ada_tree.specs.Scope as scope
-use Rattle.ada_tree.specs.Demand.{must_be_of, Site}
-use Rattle.ada_tree.specs.Sites.{site, expr_sites, actual_sites, actuals_sites}
-use Rattle.ada_refusals.specs.Sooner.{sooner}
-use Rattle.ada_refusals.specs.RefusedFirst.{refused_first}
+use Rattle.ada_static_rules.specs.Refusals.{Refusal}
+use Rattle.ada_static_rules.specs.Scope as scope
+use Rattle.ada_static_rules.specs.Demand.{must_be_of, Site}
+use Rattle.ada_static_rules.specs.Sites.{site, expr_sites, actual_sites, actuals_sites}
+use Rattle.ada_static_rules.specs.Sooner.{sooner}
+use Rattle.ada_static_rules.specs.RefusedFirst.{refused_first}
 use Rattle.ada_entry_rules.specs.inner.Actuals.{beside}
-use Rattle.ada_refusals.proofs.Meeting.{met_append}
-use Rattle.ada_refusals.proofs.Listing.{gone, ended}
+use Rattle.ada_static_rules.proofs.Meeting.{met_append}
+use Rattle.ada_static_rules.proofs.Listing.{gone, ended}
 use Rattle.common_lemmas.proofs.Lists.{rest_at}
 
 one_more : (xs : List Site) (x : Site) (rest : List Site) → refused_first (xs ++ (x ∷ rest)) ≡ sooner (refused_first (xs ++ (x ∷ []))) (refused_first rest)

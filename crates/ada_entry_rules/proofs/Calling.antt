@@ -4,18 +4,18 @@ use Rattle.std.proofs.Common.{sym, ap, subst, ◌∙◌}
 use Rattle.ada_tree.specs.declared.naming.Word.{Word}
 use Rattle.ada_tree.specs.PlainExpr.{PExpr}
 use Rattle.ada_tree.specs.PlainStmt.{PCallee, PCall}
-use Rattle.ada_tree.specs.Refusals.{Refusal}
-use Rattle.ada_tree.specs.Scope.{Scope, Thing, TaskArray, meaning}
-use Rattle.ada_tree.specs.Demand.{addresses, calls}
-use Rattle.ada_tree.specs.RuleUnknown.{unseen, unknown_entry}
-use Rattle.ada_tree.specs.RuleMismatch.{no_task, misfit_member}
-use Rattle.ada_tree.specs.RuleRangeBad.{member_range, member_out_of}
-use Rattle.ada_tree.specs.RuleArgCount.{index_of_callee, called_entry, wrong_call}
-use Rattle.ada_tree.specs.Sites.{site, if_there, expr_sites, callee_sites, args_sites, call_sites}
-use Rattle.ada_refusals.specs.Sooner.{sooner, found}
-use Rattle.ada_refusals.specs.RefusedFirst.{refused_first_at, refused_first}
-use Rattle.ada_refusals.proofs.SoonerLaws.{sooner_none, found_append}
-use Rattle.ada_refusals.proofs.Meeting.{met_one, joined, before}
+use Rattle.ada_static_rules.specs.Refusals.{Refusal}
+use Rattle.ada_static_rules.specs.Scope.{Scope, Thing, TaskArray, meaning}
+use Rattle.ada_static_rules.specs.Demand.{addresses, calls}
+use Rattle.ada_static_rules.specs.RuleUnknown.{unseen, unknown_entry}
+use Rattle.ada_static_rules.specs.RuleMismatch.{no_task, misfit_member}
+use Rattle.ada_static_rules.specs.RuleRangeBad.{member_range, member_out_of}
+use Rattle.ada_static_rules.specs.RuleArgCount.{index_of_callee, called_entry, wrong_call}
+use Rattle.ada_static_rules.specs.Sites.{site, if_there, expr_sites, callee_sites, args_sites, call_sites}
+use Rattle.ada_static_rules.specs.Sooner.{sooner, found}
+use Rattle.ada_static_rules.specs.RefusedFirst.{refused_first_at, refused_first}
+use Rattle.ada_static_rules.proofs.SoonerLaws.{sooner_none, found_append}
+use Rattle.ada_static_rules.proofs.Meeting.{met_one, joined, before}
 
 abbrev over : Word → Option PExpr → PCallee
 over name index = record { name = name; index = index }

@@ -8,18 +8,18 @@ use Rattle.ada_tree.specs.declared.statements.Formal.{Formal}
 use Rattle.ada_tree.specs.PlainStmt.{PFormal, plain_formal}
 use Rattle.ada_tree.specs.declared.declarations.EntryDecl.{EntryDecl}
 use Rattle.ada_tree.specs.PlainDecl.{PEntry, plain_entry}
-use Rattle.ada_tree.specs.Declaring.{entry_family, formal_parts, entry_part}
-use Rattle.ada_tree.specs.Refusals.{Refusal}
-use Rattle.ada_tree.specs.Scope.{Scope, Family, FormalPart as PlainPart, EntryPart as PlainEntry, scalar_kind, marking}
-use Rattle.ada_tree.specs.Demand.{declares_entry}
-use Rattle.ada_tree.specs.Sites.{if_there, drange_sites, formals_sites, entry_sites, entries_sites}
-use Rattle.ada_refusals.specs.Sooner.{sooner}
-use Rattle.ada_refusals.specs.RefusedFirst.{refused_first}
+use Rattle.ada_static_rules.specs.Declaring.{entry_family, formal_parts, entry_part}
+use Rattle.ada_static_rules.specs.Refusals.{Refusal}
+use Rattle.ada_static_rules.specs.Scope.{Scope, Family, FormalPart as PlainPart, EntryPart as PlainEntry, scalar_kind, marking}
+use Rattle.ada_static_rules.specs.Demand.{declares_entry}
+use Rattle.ada_static_rules.specs.Sites.{if_there, drange_sites, formals_sites, entry_sites, entries_sites}
+use Rattle.ada_static_rules.specs.Sooner.{sooner}
+use Rattle.ada_static_rules.specs.RefusedFirst.{refused_first}
 use Rattle.ada_scopes.specs.Entries.{plain_entry as plain_part, plain_part as plain_formal_part}
 use Rattle.ada_entry_rules.specs.EntryDecls.{each_entry, part_of}
 use Rattle.ada_scopes.specs.declared.denotations.EntryPart.{EntryPart as Part}
 use Rattle.ada_scopes.specs.declared.denotations.FormalPart.{FormalPart as PartOf}
-use Rattle.ada_refusals.proofs.Meeting.{met_cons, met_append, joined, before}
+use Rattle.ada_static_rules.proofs.Meeting.{met_cons, met_append, joined, before}
 
 one_flat : {X Y : Type 0} (f : X → List Y) (ys : List Y) (x : X) → ys ++ flat_map f (x ∷ []) ≡ ys ++ f x
 one_flat f ys x = ap (λ zs. ys ++ zs) (append-nil (f x))

@@ -6,18 +6,18 @@ use Rattle.ada_tree.specs.declared.naming.NameId.{NameId}
 use Rattle.ada_tree.specs.declared.statements.ParMode.{ParMode}
 use Rattle.ada_tree.specs.declared.statements.ParMode.TheVariants.{Take, Give, Both}
 use Rattle.ada_tree.specs.PlainExpr.{PExpr, EInteger, EName, EIndex, EAttribute, EAttributeOf, EParen, EUnary, EBinary}
-use Rattle.ada_tree.specs.Refusals.{Refusal}
-use Rattle.ada_tree.specs.Scope.{Scope, FormalPart}
-use Rattle.ada_tree.specs.ExprTypes.{expr_place}
-use Rattle.ada_tree.specs.Demand.{is_actual, must_be_of}
-use Rattle.ada_tree.specs.RuleNotVariable.{written_actual}
-use Rattle.ada_tree.specs.RuleReadOut.{read_name, read_out}
-use Rattle.ada_tree.specs.Sites.{expr_sites, written_actual_sites, actual_sites}
-use Rattle.ada_refusals.specs.Sooner.{sooner, found}
-use Rattle.ada_refusals.specs.RefusedFirst.{refused_first_at, refused_first}
+use Rattle.ada_static_rules.specs.Refusals.{Refusal}
+use Rattle.ada_static_rules.specs.Scope.{Scope, FormalPart}
+use Rattle.ada_static_rules.specs.ExprTypes.{expr_place}
+use Rattle.ada_static_rules.specs.Demand.{is_actual, must_be_of}
+use Rattle.ada_static_rules.specs.RuleNotVariable.{written_actual}
+use Rattle.ada_static_rules.specs.RuleReadOut.{read_name, read_out}
+use Rattle.ada_static_rules.specs.Sites.{expr_sites, written_actual_sites, actual_sites}
+use Rattle.ada_static_rules.specs.Sooner.{sooner, found}
+use Rattle.ada_static_rules.specs.RefusedFirst.{refused_first_at, refused_first}
 use Rattle.ada_entry_rules.specs.inner.Actuals.{name_of, beside}
-use Rattle.ada_refusals.proofs.SoonerLaws.{sooner_none}
-use Rattle.ada_refusals.proofs.Meeting.{met_one, before, behind}
+use Rattle.ada_static_rules.proofs.SoonerLaws.{sooner_none}
+use Rattle.ada_static_rules.proofs.Meeting.{met_one, before, behind}
 
 none_is_not : (id : NameId) → None ≡ Some id → ⊥
 none_is_not id h = cc

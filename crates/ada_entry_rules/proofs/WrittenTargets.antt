@@ -4,18 +4,18 @@ use Rattle.std.proofs.Common.{sym, ap, subst, ◌∙◌}
 use Rattle.ada_tree.specs.declared.naming.Word.{Word}
 use Rattle.ada_tree.specs.PlainExpr.{PExpr}
 use Rattle.ada_tree.specs.PlainStmt.{PTarget}
-use Rattle.ada_tree.specs.Refusals.{Refusal}
-use Rattle.ada_tree.specs.Scope.{Scope, integer_kind}
-use Rattle.ada_tree.specs.ExprTypes.{is_other_kind}
-use Rattle.ada_tree.specs.Demand.{writes, gets}
-use Rattle.ada_tree.specs.RuleMismatch.{target_kind}
-use Rattle.ada_tree.specs.Sites.{expr_sites}
-use Rattle.ada_refusals.specs.Sooner.{sooner, found}
-use Rattle.ada_refusals.specs.RefusedFirst.{refused_first_at, refused_first}
+use Rattle.ada_static_rules.specs.Refusals.{Refusal}
+use Rattle.ada_static_rules.specs.Scope.{Scope, integer_kind}
+use Rattle.ada_static_rules.specs.ExprTypes.{is_other_kind}
+use Rattle.ada_static_rules.specs.Demand.{writes, gets}
+use Rattle.ada_static_rules.specs.RuleMismatch.{target_kind}
+use Rattle.ada_static_rules.specs.Sites.{expr_sites}
+use Rattle.ada_static_rules.specs.Sooner.{sooner, found}
+use Rattle.ada_static_rules.specs.RefusedFirst.{refused_first_at, refused_first}
 use Rattle.ada_entry_rules.specs.Targets.{IsTarget}
 use Rattle.ada_entry_rules.specs.declared.targets.WalkedTarget.{WalkedTarget}
-use Rattle.ada_refusals.proofs.SoonerLaws.{sooner_none}
-use Rattle.ada_refusals.proofs.Meeting.{met_one, before}
+use Rattle.ada_static_rules.proofs.SoonerLaws.{sooner_none}
+use Rattle.ada_static_rules.proofs.Meeting.{met_one, before}
 
 abbrev over : Word → Option PExpr → PTarget
 over name index = record { name = name; index = index }

@@ -3,10 +3,10 @@ use Rattle.std.specs.Prelude.{◌≡◌, ℕ, List, [], map, Option}
 use Rattle.ada_tree.specs.declared.naming.Word.{Word}
 use Rattle.ada_tree.specs.PlainStmt.{PFormal}
 use Rattle.ada_tree.specs.PlainDecl.{PEntry}
-use Rattle.ada_tree.specs.Scope.{Scope, Family, FormalPart, EntryPart}
-use Rattle.ada_tree.specs.Demand.{Site}
-use Rattle.ada_tree.specs.Sites.{entry_sites}
-use Rattle.ada_refusals.specs.RefusedFirst.{refused_first}
+use Rattle.ada_static_rules.specs.Scope.{Scope, Family, FormalPart, EntryPart}
+use Rattle.ada_static_rules.specs.Demand.{Site}
+use Rattle.ada_static_rules.specs.Sites.{entry_sites}
+use Rattle.ada_static_rules.specs.RefusedFirst.{refused_first}
 use Rattle.ada_scopes.specs.Entries.{plain_family, plain_entry}
 use Rattle.ada_entry_rules.specs.declared.entries.WalkedFamily.{WalkedFamily}
 use Rattle.ada_entry_rules.specs.declared.entries.WalkedEntry.{WalkedEntry}

@@ -1,10 +1,10 @@
 -- What is told of what is written.
 use Rattle.std.specs.Prelude.{◌≡◌}
 use Rattle.ada_tree.specs.PlainStmt.{PTarget}
-use Rattle.ada_tree.specs.Scope.{Scope}
-use Rattle.ada_tree.specs.RuleMismatch.{target_kind}
-use Rattle.ada_tree.specs.Sites.{target_sites}
-use Rattle.ada_refusals.specs.RefusedFirst.{refused_first}
+use Rattle.ada_static_rules.specs.Scope.{Scope}
+use Rattle.ada_static_rules.specs.RuleMismatch.{target_kind}
+use Rattle.ada_static_rules.specs.Sites.{target_sites}
+use Rattle.ada_static_rules.specs.RefusedFirst.{refused_first}
 use Rattle.ada_entry_rules.specs.declared.targets.WalkedTarget.{WalkedTarget}
 
 -- its kind, and the first refusal at its places

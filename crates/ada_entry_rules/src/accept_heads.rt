@@ -4,21 +4,21 @@ ghost use Rattle.std.specs.Prelude.{◌≡◌, ◌∷◌, ◌++◌, ◌||◌, []
 ghost use Rattle.ada_tree.specs.declared.naming.Span.{Span};
 ghost use Rattle.ada_tree.specs.PlainExpr.{plain_expr};
 ghost use Rattle.ada_tree.specs.PlainStmt.{plain_formal};
-ghost use Rattle.ada_tree.specs.Scope.{entry_named, is_entry_somewhere};
-ghost use Rattle.ada_tree.specs.Demand.{must_lie_in, accepts};
-ghost use Rattle.ada_tree.specs.RuleArgCount.{Written, are_same, written_formals, fits_accept, wrong_accept};
-ghost use Rattle.ada_tree.specs.Sites.{site, if_there, expr_of, accept_index_sites, formals_sites, formal_mark_sites, head_sites};
-ghost use Rattle.ada_refusals.specs.Sooner.{found};
-ghost use Rattle.ada_refusals.specs.RefusedFirst.{refused_first_at, refused_first};
+ghost use Rattle.ada_static_rules.specs.Scope.{entry_named, is_entry_somewhere};
+ghost use Rattle.ada_static_rules.specs.Demand.{must_lie_in, accepts};
+ghost use Rattle.ada_static_rules.specs.RuleArgCount.{Written, are_same, written_formals, fits_accept, wrong_accept};
+ghost use Rattle.ada_static_rules.specs.Sites.{site, if_there, expr_of, accept_index_sites, formals_sites, formal_mark_sites, head_sites};
+ghost use Rattle.ada_static_rules.specs.Sooner.{found};
+ghost use Rattle.ada_static_rules.specs.RefusedFirst.{refused_first_at, refused_first};
 ghost use Rattle.ada_scopes.specs.Entries.{plain_range, plain_family, plain_part, plain_entry};
 ghost use Rattle.ada_entry_rules.specs.inner.Accepts.{written_of, is_alike, are_same_behind};
 
 use ada_expr_rules::marks::{MarkUse, walk_mark};
 use ada_expr_rules::ranges::refuse_outside;
 use ada_expr_rules::walking::{walk, walk_of};
-use ada_refusals::refusals::{Refusal, Rule, first, refuse, refuse_if};
 use ada_scopes::denotations::{EntryPart, Family, FormalPart, Range};
 use ada_scopes::scope::Scope;
+use ada_static_rules::refusals::{Refusal, Rule, first, refuse, refuse_if};
 use ada_tree::{Expr, Formal, Word};
 
 // Whether a formal of an accept is one of its entry: in name, mode and mark.

@@ -3,22 +3,22 @@
 ghost use Rattle.std.specs.Prelude.{◌≡◌, Some, map, flat_map, option_map, slice_get};
 ghost use Rattle.ada_tree.specs.PlainExpr.{plain_expr, EName};
 ghost use Rattle.ada_tree.specs.PlainStmt.{plain_args};
-ghost use Rattle.ada_tree.specs.Demand.{is_actual};
-ghost use Rattle.ada_tree.specs.RuleNotVariable.{written_actual};
-ghost use Rattle.ada_tree.specs.RuleReadOut.{read_out};
-ghost use Rattle.ada_tree.specs.Sites.{expr_sites, expr_of, if_there, written_actual_sites, actual_sites, actuals_sites, free_args_sites, family_args_sites, single_args_sites, args_sites};
-ghost use Rattle.ada_refusals.specs.Sooner.{found};
-ghost use Rattle.ada_refusals.specs.RefusedFirst.{refused_first_at, refused_first};
+ghost use Rattle.ada_static_rules.specs.Demand.{is_actual};
+ghost use Rattle.ada_static_rules.specs.RuleNotVariable.{written_actual};
+ghost use Rattle.ada_static_rules.specs.RuleReadOut.{read_out};
+ghost use Rattle.ada_static_rules.specs.Sites.{expr_sites, expr_of, if_there, written_actual_sites, actual_sites, actuals_sites, free_args_sites, family_args_sites, single_args_sites, args_sites};
+ghost use Rattle.ada_static_rules.specs.Sooner.{found};
+ghost use Rattle.ada_static_rules.specs.RefusedFirst.{refused_first_at, refused_first};
 ghost use Rattle.ada_scopes.specs.Entries.{plain_range, plain_part, plain_entry};
 ghost use Rattle.ada_entry_rules.specs.inner.Actuals.{name_of, beside};
 
 use crate::targets::refuse_whole_constant;
 use ada_expr_rules::nodes::{refuse_array, refuse_out, refuse_unseen};
 use ada_expr_rules::walking::{place, refuse_kind, walk, walk_of};
-use ada_refusals::refusals::{Refusal, Rule, first, refuse};
 use ada_scopes::denotations::{EntryPart, Family, FormalPart, Range};
 use ada_scopes::readings::read;
 use ada_scopes::scope::Scope;
+use ada_static_rules::refusals::{Refusal, Rule, first, refuse};
 use ada_tree::{Args, Expr, ExprKind, NameId, ParMode, Span};
 
 /// Walks expressions.
@@ -64,7 +64,7 @@ fn refuse_read(scope: &Scope, mode: ParMode, id: NameId, span: Span) -> Option<R
 }
 
 // A name that is an actual of mode out or in out.
-#[tactic(auto, using(ada_refusals::proofs::SoonerLaws::sooner_laws))]
+#[tactic(auto, using(ada_static_rules::proofs::SoonerLaws::sooner_laws))]
 fn refuse_name(scope: &Scope, mode: ParMode, id: NameId, span: Span) -> Option<Refusal>
     ensures { result ≡ refused_first_at scope.now (is_actual mode (EName id span)) }
 {

@@ -3,14 +3,14 @@
 ghost use Rattle.std.specs.Prelude.{◌≡◌, Some, None, option_map};
 ghost use Rattle.ada_tree.specs.PlainExpr.{PExpr, plain_expr};
 ghost use Rattle.ada_tree.specs.PlainStmt.{plain_callee};
-ghost use Rattle.ada_tree.specs.ExprTypes.{kind_of};
-ghost use Rattle.ada_tree.specs.Demand.{addresses};
-ghost use Rattle.ada_tree.specs.RuleMismatch.{no_task, misfit_member};
-ghost use Rattle.ada_tree.specs.RuleRangeBad.{member_range};
-ghost use Rattle.ada_tree.specs.RuleArgCount.{index_of_callee};
-ghost use Rattle.ada_tree.specs.Sites.{callee_sites};
-ghost use Rattle.ada_refusals.specs.Sooner.{found};
-ghost use Rattle.ada_refusals.specs.RefusedFirst.{refused_first_at, refused_first};
+ghost use Rattle.ada_static_rules.specs.ExprTypes.{kind_of};
+ghost use Rattle.ada_static_rules.specs.Demand.{addresses};
+ghost use Rattle.ada_static_rules.specs.RuleMismatch.{no_task, misfit_member};
+ghost use Rattle.ada_static_rules.specs.RuleRangeBad.{member_range};
+ghost use Rattle.ada_static_rules.specs.RuleArgCount.{index_of_callee};
+ghost use Rattle.ada_static_rules.specs.Sites.{callee_sites};
+ghost use Rattle.ada_static_rules.specs.Sooner.{found};
+ghost use Rattle.ada_static_rules.specs.RefusedFirst.{refused_first_at, refused_first};
 ghost use Rattle.ada_scopes.specs.Entries.{plain_range};
 ghost use Rattle.ada_scopes.specs.Denotations.{plain_thing};
 ghost use Rattle.ada_expr_rules.specs.Known.{IsKnown};
@@ -19,9 +19,9 @@ use ada_expr_rules::known::Known;
 use ada_expr_rules::nodes::{refuse_other, refuse_unseen};
 use ada_expr_rules::ranges::refuse_outside;
 use ada_expr_rules::walking::walk;
-use ada_refusals::refusals::{Refusal, Rule, first, refuse};
 use ada_scopes::denotations::{Range, Thing};
 use ada_scopes::scope::Scope;
+use ada_static_rules::refusals::{Refusal, Rule, first, refuse};
 use ada_tree::{Callee, Expr, Span, Word};
 
 // What is called or aborted and is no task. The main procedure and task types are for another rule.

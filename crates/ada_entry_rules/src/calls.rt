@@ -2,20 +2,20 @@
 
 ghost use Rattle.std.specs.Prelude.{◌≡◌, option_map, is_none};
 ghost use Rattle.ada_tree.specs.PlainStmt.{plain_args, plain_call};
-ghost use Rattle.ada_tree.specs.RuleUnknown.{unknown_entry};
-ghost use Rattle.ada_tree.specs.RuleArgCount.{called_entry, fits_single, fits_family, fits_call, wrong_call};
-ghost use Rattle.ada_tree.specs.Sites.{if_there, args_sites, call_sites};
-ghost use Rattle.ada_refusals.specs.Sooner.{found};
-ghost use Rattle.ada_refusals.specs.RefusedFirst.{refused_first};
+ghost use Rattle.ada_static_rules.specs.RuleUnknown.{unknown_entry};
+ghost use Rattle.ada_static_rules.specs.RuleArgCount.{called_entry, fits_single, fits_family, fits_call, wrong_call};
+ghost use Rattle.ada_static_rules.specs.Sites.{if_there, args_sites, call_sites};
+ghost use Rattle.ada_static_rules.specs.Sooner.{found};
+ghost use Rattle.ada_static_rules.specs.RefusedFirst.{refused_first};
 ghost use Rattle.ada_scopes.specs.Entries.{plain_family, plain_entry};
 ghost use Rattle.ada_scopes.specs.Denotations.{plain_thing};
 ghost use Rattle.ada_entry_rules.specs.inner.Calls.{has_entries};
 
 use crate::actuals::walk_args;
 use crate::callees::walk_callee;
-use ada_refusals::refusals::{Refusal, Rule, first, refuse_if};
 use ada_scopes::denotations::{EntryPart, Family, Thing};
 use ada_scopes::scope::Scope;
+use ada_static_rules::refusals::{Refusal, Rule, first, refuse_if};
 use ada_tree::{Args, Call, NameId, Span, Word};
 
 // Whether an entry is looked up behind what a name means: behind a task, an object of a task type or an array of tasks.
@@ -59,7 +59,7 @@ fn refuse_missing(thing: Option<&Thing>, entry: Option<&EntryPart>, word: Word) 
 }
 
 // Whether the lists behind a plain entry are its actuals alone; no list stands for no actuals.
-#[tactic(auto, using(ada_refusals::proofs::Listing::counted))]
+#[tactic(auto, using(ada_static_rules::proofs::Listing::counted))]
 fn fits_single(args: &Option<Args>, count: usize) -> bool
     ensures { result ≡ fits_single (option_map plain_args args.now) count }
 {
@@ -70,7 +70,7 @@ fn fits_single(args: &Option<Args>, count: usize) -> bool
 }
 
 // Whether the lists behind a family are one index and the actuals.
-#[tactic(auto, using(ada_refusals::proofs::Listing::counted))]
+#[tactic(auto, using(ada_static_rules::proofs::Listing::counted))]
 fn fits_family(args: &Option<Args>, count: usize) -> bool
     ensures { result ≡ fits_family (option_map plain_args args.now) count }
 {
@@ -95,7 +95,7 @@ fn fits(family: Family, args: &Option<Args>, count: usize) -> bool
 }
 
 // Too many or too few lists or actuals.
-#[tactic(auto, using(ada_refusals::proofs::Listing::counted))]
+#[tactic(auto, using(ada_static_rules::proofs::Listing::counted))]
 fn refuse_count(entry: Option<&EntryPart>, args: &Option<Args>, span: Span) -> Option<Refusal>
     ensures { result ≡ found 8 (wrong_call (option_map (λ e. plain_entry e.now) entry.entry) (option_map plain_args args.now) span) }
 {

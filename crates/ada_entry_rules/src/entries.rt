@@ -4,19 +4,19 @@ ghost use Rattle.std.specs.Prelude.{◌≡◌, ◌++◌, true, [], map, option_m
 ghost use Rattle.ada_tree.specs.PlainExpr.{plain_drange};
 ghost use Rattle.ada_tree.specs.PlainStmt.{plain_formal};
 ghost use Rattle.ada_tree.specs.PlainDecl as decl;
-ghost use Rattle.ada_tree.specs.Scope.{scalar_kind, marking};
-ghost use Rattle.ada_tree.specs.Declaring.{family_of, entry_family, formal_parts, entry_part};
-ghost use Rattle.ada_tree.specs.Sites.{if_there, drange_sites, entry_sites, entries_sites};
+ghost use Rattle.ada_static_rules.specs.Scope.{scalar_kind, marking};
+ghost use Rattle.ada_static_rules.specs.Declaring.{family_of, entry_family, formal_parts, entry_part};
+ghost use Rattle.ada_static_rules.specs.Sites.{if_there, drange_sites, entry_sites, entries_sites};
 ghost use Rattle.ada_scopes.specs.Entries.{plain_range, plain_family, plain_part, plain_entry};
 ghost use Rattle.ada_entry_rules.specs.EntryDecls.{part_of, IsFamily, IsEntry, AreEntries};
 
 use crate::accept_heads::walk_formals;
 use ada_expr_rules::nodes::kind_of_mark;
 use ada_expr_rules::ranges::walk_range;
-use ada_refusals::refusals::{Refusal, first};
 use ada_scopes::denotations::{EntryPart, Family, FormalPart, Range};
 use ada_scopes::readings::mark_named;
 use ada_scopes::scope::Scope;
+use ada_static_rules::refusals::{Refusal, first};
 use ada_tree::{Drange, EntryDecl, Formal, NameId, Word};
 use std::alloc::{AllocError, Global};
 

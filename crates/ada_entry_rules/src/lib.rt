@@ -5,5 +5,6 @@ pub mod accept_heads;
 mod actuals;
 pub mod callees;
 pub mod calls;
+pub mod case_choices;
 pub mod entries;
 pub mod targets;

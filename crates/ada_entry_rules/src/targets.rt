@@ -3,14 +3,14 @@
 ghost use Rattle.std.specs.Prelude.{◌≡◌, ◌∷◌, ◌++◌, [], Some, None};
 ghost use Rattle.ada_tree.specs.PlainExpr.{plain_expr};
 ghost use Rattle.ada_tree.specs.PlainStmt.{plain_target};
-ghost use Rattle.ada_tree.specs.Scope.{meaning};
-ghost use Rattle.ada_tree.specs.ExprTypes.{kind_of};
-ghost use Rattle.ada_tree.specs.Demand.{writes, gets};
-ghost use Rattle.ada_tree.specs.RuleMismatch.{target_kind};
-ghost use Rattle.ada_tree.specs.RuleNotVariable.{is_variable, is_array, unless, whole_written};
-ghost use Rattle.ada_tree.specs.Sites.{site, target_sites};
-ghost use Rattle.ada_refusals.specs.Sooner.{found};
-ghost use Rattle.ada_refusals.specs.RefusedFirst.{refused_first_at, refused_first};
+ghost use Rattle.ada_static_rules.specs.Scope.{meaning};
+ghost use Rattle.ada_static_rules.specs.ExprTypes.{kind_of};
+ghost use Rattle.ada_static_rules.specs.Demand.{writes, gets};
+ghost use Rattle.ada_static_rules.specs.RuleMismatch.{target_kind};
+ghost use Rattle.ada_static_rules.specs.RuleNotVariable.{is_variable, is_array, unless, whole_written};
+ghost use Rattle.ada_static_rules.specs.Sites.{site, target_sites};
+ghost use Rattle.ada_static_rules.specs.Sooner.{found};
+ghost use Rattle.ada_static_rules.specs.RefusedFirst.{refused_first_at, refused_first};
 ghost use Rattle.ada_scopes.specs.Readings.{plain_reading};
 ghost use Rattle.ada_entry_rules.specs.Targets.{IsTarget};
 
@@ -18,10 +18,10 @@ use ada_expr_rules::judging::kind_of_component;
 use ada_expr_rules::kinds::{INTEGER, is_other};
 use ada_expr_rules::nodes::{refuse_array, refuse_index, refuse_index_on_scalar, refuse_unseen};
 use ada_expr_rules::walking::walk;
-use ada_refusals::refusals::{Refusal, Rule, first, refuse, refuse_if};
 use ada_scopes::denotations::Thing;
 use ada_scopes::readings::{Reading, read};
 use ada_scopes::scope::Scope;
+use ada_static_rules::refusals::{Refusal, Rule, first, refuse, refuse_if};
 use ada_tree::{Expr, NameId, ParMode, Span, Target, Word};
 
 /// The kind of what is written, and the first refusal at the places where it stands.
@@ -75,7 +75,7 @@ pub(crate) fn refuse_whole_constant(
 }
 
 // A name with an index that is written.
-#[tactic(auto, using(ada_refusals::proofs::SoonerLaws::sooner_laws))]
+#[tactic(auto, using(ada_static_rules::proofs::SoonerLaws::sooner_laws))]
 fn refuse_written_part(
     scope: &Scope,
     name: Word,
@@ -94,7 +94,7 @@ fn refuse_written_part(
 }
 
 // A name without an index that is written.
-#[tactic(auto, using(ada_refusals::proofs::SoonerLaws::sooner_laws))]
+#[tactic(auto, using(ada_static_rules::proofs::SoonerLaws::sooner_laws))]
 fn refuse_written_name(scope: &Scope, name: Word) -> Option<Refusal>
     ensures { result ≡ refused_first_at scope.now (writes record { name = name; index = None }) }
 {

@@ -9,7 +9,7 @@ use Rattle.ada_expr_parser.specs.declared.levels.Level.{Level}
 use Rattle.ada_expr_parser.specs.Tests.{operator_in, tighter}
 use Rattle.ada_expr_parser.specs.Trees.{levels, last_operator, joined}
 use Rattle.ada_expr_parser.specs.Reading.{operators, operator_rest, behind_operator, inner}
-use Rattle.ada_expr_parser.specs.Gives.{Gives}
+use Rattle.ada_expr_parser.specs.Gives.{Gives, FaultsAt}
 use Rattle.std.proofs.Math.Seq.{take-length}
 use Rattle.common_lemmas.proofs.Numbers.{le_false, le_true}
 
@@ -103,6 +103,17 @@ chain_to tree behind result level d turns left ts dummy last op h some last_is i
     g.2 ∙ ap (λ l. go_on (operator_rest l op (take (length ts - 1) (drop 1 ts))) (onward level d (inner d (tighter level)) g.0 left)) (sym last_is) in
     let still : d ≤ g.0 + (h + 1) = omega (arith, g.1) in
     rw goes (more g.0 still)
+
+-- a chain at an operator for which the left operand is too high
+pub chain_too_deep :
+    (level : Level) (d turns : ℕ) (left : PExpr) (ts : List Item) (dummy : Item) (last : Option BinaryOp) (op : BinaryOp) (h : ℕ) →
+    1 ≤ length ts → last ≡ last_operator left → Some op ≡ operator_in level last (get_or ts 0 dummy).kind → h ≡ levels left → d ≤ h →
+    FaultsAt true (get_or ts 0 dummy).span.start (chain_in (operators level) d (inner d (tighter level)) turns left ts)
+chain_too_deep level d turns left [] dummy last op h some last_is is high full = absurd (omega (arith, some))
+chain_too_deep level d turns left (x ∷ rest) dummy last op h some last_is is high full =
+    let now : operator_in level (last_operator left) x.kind ≡ Some op = ap (λ l. operator_in level l x.kind) (sym last_is) ∙ sym is in
+    let above : d ≤ levels left = omega (arith, high, full) in
+    rw (deep_cons level d (inner d (tighter level)) turns left x rest op now above) (refl, refl)
 
 -- behind an operator and an operand it goes on
 pub chain_further :

@@ -3,6 +3,7 @@
 
 mod errors;
 mod items;
+pub mod joining;
 mod levels;
 mod nodes;
 mod operators;

@@ -4,15 +4,15 @@ use Rattle.std.proofs.Common.{sym, ap, subst, ◌∙◌, append_assoc}
 use Rattle.std.proofs.lemmas.Bool.{false≢true}
 use Rattle.ada_tree.specs.declared.naming.Word.{Word}
 use Rattle.ada_tree.specs.PlainExpr.{PExpr, PBounds, PSubind, PDrange, RGiven}
-use Rattle.ada_tree.specs.Refusals.{Refusal}
+use Rattle.ada_static_rules.specs.Refusals.{Refusal}
 use Rattle.ada_tree.specs.TypeTable.{TypeTable}
-use Rattle.ada_tree.specs.Scope.{Scope, Marking, ScalarMark, ArrayMark, TaskMark, NoMark, UnknownMark, UnclearMark, marking, scalar_kind}
-use Rattle.ada_tree.specs.ExprTypes.{kind_of}
-use Rattle.ada_tree.specs.Demand.{MarkUse, stands_as_mark, must_be_of, must_be_alike, must_be_static, must_not_be_empty}
-use Rattle.ada_tree.specs.Declaring.{made_range, subind_made, marked_range, given_range}
-use Rattle.ada_tree.specs.Sites.{site, expr_sites, static_if, bounds_sites, constraint_sites, subind_sites, drange_sites}
-use Rattle.ada_refusals.specs.Sooner.{sooner}
-use Rattle.ada_refusals.specs.RefusedFirst.{refused_first_at, refused_first}
+use Rattle.ada_static_rules.specs.Scope.{Scope, Marking, ScalarMark, ArrayMark, TaskMark, NoMark, UnknownMark, UnclearMark, marking, scalar_kind}
+use Rattle.ada_static_rules.specs.ExprTypes.{kind_of}
+use Rattle.ada_static_rules.specs.Demand.{MarkUse, stands_as_mark, must_be_of, must_be_alike, must_be_static, must_not_be_empty}
+use Rattle.ada_static_rules.specs.Declaring.{made_range, subind_made, marked_range, given_range}
+use Rattle.ada_static_rules.specs.Sites.{site, expr_sites, static_if, bounds_sites, constraint_sites, subind_sites, drange_sites}
+use Rattle.ada_static_rules.specs.Sooner.{sooner}
+use Rattle.ada_static_rules.specs.RefusedFirst.{refused_first_at, refused_first}
 use Rattle.ada_scopes.specs.Entries.{plain_range}
 use Rattle.ada_expr_rules.specs.Known.{IsKnown}
 use Rattle.ada_expr_rules.specs.Ranges.{made_as, range_as, ranged, range_if, IsSubind, IsRange}
@@ -20,7 +20,7 @@ use Rattle.ada_expr_rules.specs.declared.known.Known.{Known}
 use Rattle.ada_scopes.specs.declared.denotations.Range.{Range}
 use Rattle.ada_expr_rules.specs.declared.ranges.WalkedSubind.{WalkedSubind}
 use Rattle.ada_expr_rules.specs.declared.ranges.WalkedRange.{WalkedRange}
-use Rattle.ada_refusals.proofs.Meeting.{met_none, met_one, joined, before, behind}
+use Rattle.ada_static_rules.proofs.Meeting.{met_none, met_one, joined, before, behind}
 use Rattle.ada_expr_rules.proofs.Knowing.{range_known}
 
 -- a bound that must be static

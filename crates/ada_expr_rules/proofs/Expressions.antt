@@ -3,19 +3,19 @@ use Rattle.std.specs.Prelude.{◌≡◌, ℕ, ℤ, Bool, true, false, not, ◌&&
 use Rattle.std.proofs.Common.{sym, ap, ◌∙◌}
 use Rattle.std.proofs.lemmas.List.{map-append}
 use Rattle.ada_tree.specs.PlainExpr.{PExpr, EInteger, EName, EIndex, EAttribute, EAttributeOf, EParen, EUnary, EBinary}
-use Rattle.ada_tree.specs.Refusals.{Refusal}
-use Rattle.ada_tree.specs.Scope.{Scope}
+use Rattle.ada_static_rules.specs.Refusals.{Refusal}
+use Rattle.ada_static_rules.specs.Scope.{Scope}
 use Rattle.ada_tree.specs.declared.naming.Span.{Span}
-use Rattle.ada_tree.specs.StaticValue.{is_static, value_of}
-use Rattle.ada_tree.specs.ExprTypes.{nodes, kind_of, expr_place, is_other_kind}
-use Rattle.ada_tree.specs.Demand.{node, whole, must_be_of, must_be_static}
-use Rattle.ada_tree.specs.RuleRangeBad.{raises}
-use Rattle.ada_tree.specs.Sites.{site, expr_sites}
-use Rattle.ada_refusals.specs.Sooner.{sooner, found}
-use Rattle.ada_refusals.specs.RefusedFirst.{refused_first_at, refused_first}
+use Rattle.ada_static_rules.specs.StaticValue.{is_static, value_of}
+use Rattle.ada_static_rules.specs.ExprTypes.{nodes, kind_of, expr_place, is_other_kind}
+use Rattle.ada_static_rules.specs.Demand.{node, whole, must_be_of, must_be_static}
+use Rattle.ada_static_rules.specs.RuleRangeBad.{raises}
+use Rattle.ada_static_rules.specs.Sites.{site, expr_sites}
+use Rattle.ada_static_rules.specs.Sooner.{sooner, found}
+use Rattle.ada_static_rules.specs.RefusedFirst.{refused_first_at, refused_first}
 use Rattle.ada_expr_rules.specs.Judged.{parts_met, fixed_value}
-use Rattle.ada_refusals.proofs.SoonerLaws.{sooner_none}
-use Rattle.ada_refusals.proofs.Meeting.{met_cons, met_one, met_append, before}
+use Rattle.ada_static_rules.proofs.SoonerLaws.{sooner_none}
+use Rattle.ada_static_rules.proofs.Meeting.{met_cons, met_one, met_append, before}
 
 one_part : (scope : Scope) (e : PExpr) (rest : List PExpr) → refused_first (map (λ n. site scope (node false n)) (e ∷ rest)) ≡ sooner (refused_first_at scope (node false e)) (refused_first (map (λ n. site scope (node false n)) rest))
 one_part scope e rest = met_cons scope (node false e) (map (λ n. site scope (node false n)) rest)

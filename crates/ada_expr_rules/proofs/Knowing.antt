@@ -3,18 +3,18 @@ use Rattle.std.specs.Prelude.{◌≡◌, ℕ, ℤ, Bool, true, false, ◌&&◌, 
 use Rattle.std.proofs.Common.{sym, ap, ◌∙◌}
 use Rattle.ada_tree.specs.declared.naming.Span.{Span}
 use Rattle.ada_tree.specs.PlainExpr.{PExpr, PBounds}
-use Rattle.ada_tree.specs.StaticValue.{is_static, value_of}
-use Rattle.ada_tree.specs.Scope.{Scope, Range}
-use Rattle.ada_tree.specs.ExprTypes.{kind_of, is_kind, ok_value, static_in, static_range, range_between, expr_place}
-use Rattle.ada_tree.specs.Demand.{must_not_be_empty, must_lie_in, Site}
-use Rattle.ada_tree.specs.RuleRangeBad.{is_below, is_outside, empty_range, out_of}
-use Rattle.ada_refusals.specs.Sooner.{found}
-use Rattle.ada_refusals.specs.RefusedFirst.{refused_first_at}
+use Rattle.ada_static_rules.specs.StaticValue.{is_static, value_of}
+use Rattle.ada_static_rules.specs.Scope.{Scope, Range}
+use Rattle.ada_static_rules.specs.ExprTypes.{kind_of, is_kind, ok_value, static_in, static_range, range_between, expr_place}
+use Rattle.ada_static_rules.specs.Demand.{must_not_be_empty, must_lie_in, Site}
+use Rattle.ada_static_rules.specs.RuleRangeBad.{is_below, is_outside, empty_range, out_of}
+use Rattle.ada_static_rules.specs.Sooner.{found}
+use Rattle.ada_static_rules.specs.RefusedFirst.{refused_first_at}
 use Rattle.ada_expr_rules.specs.Known.{IsKnown, ok_of, value_in, range_of_both, emptied, outlying}
 use Rattle.ada_expr_rules.specs.Walked.{IsWalked}
 use Rattle.ada_expr_rules.specs.declared.known.Known.{Known}
 use Rattle.ada_expr_rules.specs.declared.walking.Walked.{Walked}
-use Rattle.ada_refusals.proofs.SoonerLaws.{sooner_none}
+use Rattle.ada_static_rules.proofs.SoonerLaws.{sooner_none}
 
 both_tests : (p q : Bool) (v : Result ℤ Span) → (if p then ok_of (if q then Some v else None) else None) ≡ (if p && q then ok_value v else None)
 both_tests true true v = refl

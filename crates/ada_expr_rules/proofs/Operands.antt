@@ -6,18 +6,18 @@ use Rattle.ada_tree.specs.declared.naming.Word.{Word}
 use Rattle.ada_tree.specs.declared.expressions.UnaryOp.{UnaryOp}
 use Rattle.ada_tree.specs.declared.expressions.BinaryOp.{BinaryOp}
 use Rattle.ada_tree.specs.PlainExpr.{PExpr, EAttributeOf, EUnary, EBinary}
-use Rattle.ada_tree.specs.Refusals.{Refusal}
+use Rattle.ada_static_rules.specs.Refusals.{Refusal}
 use Rattle.ada_tree.specs.Attributes.{attribute_of}
-use Rattle.ada_tree.specs.StaticValue.{is_static, value_of, mark_named, keeps_static, attribute_at, then_do, signed, operated}
-use Rattle.ada_tree.specs.Scope.{Scope, marking, scalar_kind}
-use Rattle.ada_tree.specs.ExprTypes.{kind_of, takes, takes_one, unary_kind, binary_kind, attribute_kind}
-use Rattle.ada_tree.specs.Demand.{node}
-use Rattle.ada_tree.specs.RuleRangeBad.{raised, raises}
-use Rattle.ada_refusals.specs.Sooner.{sooner, found}
-use Rattle.ada_refusals.specs.RefusedFirst.{refused_first_at}
+use Rattle.ada_static_rules.specs.StaticValue.{is_static, value_of, mark_named, keeps_static, attribute_at, then_do, signed, operated}
+use Rattle.ada_static_rules.specs.Scope.{Scope, marking, scalar_kind}
+use Rattle.ada_static_rules.specs.ExprTypes.{kind_of, takes, takes_one, unary_kind, binary_kind, attribute_kind}
+use Rattle.ada_static_rules.specs.Demand.{node}
+use Rattle.ada_static_rules.specs.RuleRangeBad.{raised, raises}
+use Rattle.ada_static_rules.specs.Sooner.{sooner, found}
+use Rattle.ada_static_rules.specs.RefusedFirst.{refused_first_at}
 use Rattle.ada_expr_rules.specs.Judged.{fixed_value, both, raised_where, parts_met, IsJudged}
 use Rattle.ada_expr_rules.specs.declared.judging.Judged.{Judged}
-use Rattle.ada_refusals.proofs.SoonerLaws.{found_append}
+use Rattle.ada_static_rules.proofs.SoonerLaws.{found_append}
 
 -- what is raised, by the kind and by whether the whole is static
 raised_is_where : (kind : Option ℕ) (static : Bool) (v : Result ℤ Span) (parts : List Span)

@@ -2,15 +2,15 @@
 use Rattle.std.specs.Prelude.{◌≡◌, ℕ, ℤ, false, if◌then◌else◌, Option, Some, None, Result}
 use Rattle.ada_tree.specs.declared.naming.Span.{Span}
 use Rattle.ada_tree.specs.PlainExpr.{PExpr, EInteger, EName, EIndex, EAttribute, EAttributeOf, EParen, EUnary, EBinary}
-use Rattle.ada_tree.specs.Refusals.{Refusal}
+use Rattle.ada_static_rules.specs.Refusals.{Refusal}
 use Rattle.ada_tree.specs.TypeTable.{TypeTable}
-use Rattle.ada_tree.specs.StaticValue.{is_static, value_of}
-use Rattle.ada_tree.specs.Scope.{Scope}
-use Rattle.ada_tree.specs.ExprTypes.{kind_of}
-use Rattle.ada_tree.specs.Demand.{node}
-use Rattle.ada_tree.specs.RuleRangeBad.{raised, raises}
-use Rattle.ada_refusals.specs.Sooner.{sooner, found}
-use Rattle.ada_refusals.specs.RefusedFirst.{refused_first_at}
+use Rattle.ada_static_rules.specs.StaticValue.{is_static, value_of}
+use Rattle.ada_static_rules.specs.Scope.{Scope}
+use Rattle.ada_static_rules.specs.ExprTypes.{kind_of}
+use Rattle.ada_static_rules.specs.Demand.{node}
+use Rattle.ada_static_rules.specs.RuleRangeBad.{raised, raises}
+use Rattle.ada_static_rules.specs.Sooner.{sooner, found}
+use Rattle.ada_static_rules.specs.RefusedFirst.{refused_first_at}
 use Rattle.ada_expr_rules.specs.declared.judging.Judged.{Judged}
 
 -- the value of a static expression, or the place of the operation in it that raises; nothing of another expression

@@ -2,9 +2,9 @@
 use Rattle.std.specs.Prelude.{◌≡◌, ℕ, ℤ, if◌then◌else◌, List, [], ◌∷◌, Option, Some, None, Result}
 use Rattle.ada_tree.specs.declared.naming.Span.{Span}
 use Rattle.ada_tree.specs.PlainExpr.{PExpr}
-use Rattle.ada_tree.specs.Scope.{Scope, Range}
-use Rattle.ada_tree.specs.ExprTypes.{kind_of, is_kind, ok_value, range_between}
-use Rattle.ada_tree.specs.RuleRangeBad.{is_below, is_outside}
+use Rattle.ada_static_rules.specs.Scope.{Scope, Range}
+use Rattle.ada_static_rules.specs.ExprTypes.{kind_of, is_kind, ok_value, range_between}
+use Rattle.ada_static_rules.specs.RuleRangeBad.{is_below, is_outside}
 use Rattle.ada_expr_rules.specs.Judged.{fixed_value}
 use Rattle.ada_expr_rules.specs.declared.known.Known.{Known}
 

@@ -1,8 +1,8 @@
 -- What contracts see of the uses of marks, attributes and operands.
 use Rattle.std.specs.Prelude.{ℕ, Option, Some, None}
 use Rattle.ada_tree.specs.Attributes as attribute
-use Rattle.ada_tree.specs.ExprTypes.{Operand, of_kind, of_any_kind}
-use Rattle.ada_tree.specs.Demand as demand
+use Rattle.ada_static_rules.specs.ExprTypes.{Operand, of_kind, of_any_kind}
+use Rattle.ada_static_rules.specs.Demand as demand
 use Rattle.ada_expr_rules.specs.declared.marks.MarkUse.{MarkUse}
 use Rattle.ada_expr_rules.specs.declared.marks.MarkUse.TheVariants as mark_use
 use Rattle.ada_expr_rules.specs.declared.kinds.Attribute.{Attribute}

@@ -2,11 +2,11 @@
 use Rattle.std.specs.Prelude.{◌≡◌, ℕ, List, Option, Some, None, option_map}
 use Rattle.ada_tree.specs.PlainExpr.{PBounds, PSubind, PDrange}
 use Rattle.ada_tree.specs.TypeTable.{TypeTable}
-use Rattle.ada_tree.specs.Scope.{Scope, scalar_kind, marking, range_of_mark}
-use Rattle.ada_tree.specs.Scope as scope
-use Rattle.ada_tree.specs.Demand.{Site}
-use Rattle.ada_tree.specs.Declaring.{Made, made, made_none, mark_for, made_subind, marked_range, drange_kind, drange_range}
-use Rattle.ada_refusals.specs.RefusedFirst.{refused_first}
+use Rattle.ada_static_rules.specs.Scope.{Scope, scalar_kind, marking, range_of_mark}
+use Rattle.ada_static_rules.specs.Scope as scope
+use Rattle.ada_static_rules.specs.Demand.{Site}
+use Rattle.ada_static_rules.specs.Declaring.{Made, made, made_none, mark_for, made_subind, marked_range, drange_kind, drange_range}
+use Rattle.ada_static_rules.specs.RefusedFirst.{refused_first}
 use Rattle.ada_scopes.specs.Entries.{plain_range}
 use Rattle.ada_expr_rules.specs.Known.{IsKnown, range_of_both}
 use Rattle.ada_expr_rules.specs.declared.known.Known.{Known}

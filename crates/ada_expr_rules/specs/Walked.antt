@@ -1,10 +1,10 @@
 -- What is told of an expression that stands at some places.
 use Rattle.std.specs.Prelude.{◌≡◌, List}
 use Rattle.ada_tree.specs.PlainExpr.{PExpr}
-use Rattle.ada_tree.specs.Scope.{Scope}
-use Rattle.ada_tree.specs.ExprTypes.{kind_of}
-use Rattle.ada_tree.specs.Demand.{Site}
-use Rattle.ada_refusals.specs.RefusedFirst.{refused_first}
+use Rattle.ada_static_rules.specs.Scope.{Scope}
+use Rattle.ada_static_rules.specs.ExprTypes.{kind_of}
+use Rattle.ada_static_rules.specs.Demand.{Site}
+use Rattle.ada_static_rules.specs.RefusedFirst.{refused_first}
 use Rattle.ada_expr_rules.specs.Judged.{fixed_value}
 use Rattle.ada_expr_rules.specs.declared.walking.Walked.{Walked}
 

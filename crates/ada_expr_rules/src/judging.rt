@@ -2,11 +2,11 @@
 
 ghost use Rattle.std.specs.Prelude.{◌≡◌, ◌&&◌, Some, None, Ok, is_some, option_map, if◌then◌else◌};
 ghost use Rattle.ada_tree.specs.PlainExpr.{plain_expr, EName, EIndex, EAttribute, EAttributeOf, EUnary, EBinary};
-ghost use Rattle.ada_tree.specs.StaticValue.{operated, then_do, signed, mark_named, attribute_at, bound_of, keeps_static};
+ghost use Rattle.ada_static_rules.specs.StaticValue.{operated, then_do, signed, mark_named, attribute_at, bound_of, keeps_static};
 ghost use Rattle.ada_tree.specs.Attributes.{attribute_of, is_bound};
-ghost use Rattle.ada_tree.specs.Scope.{and_then, marking, scalar_kind};
-ghost use Rattle.ada_tree.specs.ExprTypes.{component_kind, bound_kind};
-ghost use Rattle.ada_tree.specs.RuleRangeBad.{raised};
+ghost use Rattle.ada_static_rules.specs.Scope.{and_then, marking, scalar_kind};
+ghost use Rattle.ada_static_rules.specs.ExprTypes.{component_kind, bound_kind};
+ghost use Rattle.ada_static_rules.specs.RuleRangeBad.{raised};
 ghost use Rattle.ada_scopes.specs.Readings.{plain_reading};
 ghost use Rattle.ada_expr_rules.specs.Judged.{IsJudged, raised_where, both};
 
@@ -18,9 +18,9 @@ use crate::nodes::{
     kind_of_mark, refuse_attribute, refuse_bound, refuse_component, refuse_name, refuse_operand,
     refuse_operands,
 };
-use ada_refusals::refusals::{Refusal, Rule, first, refuse};
 use ada_scopes::readings::{self, Reading, read};
 use ada_scopes::scope::Scope;
+use ada_static_rules::refusals::{Refusal, Rule, first, refuse};
 use ada_static_values::operations::{apply, apply_one};
 use ada_static_values::static_values::{attribute_value, bound_value};
 use ada_tree::{BinaryOp, Expr, ExprKind, NameId, Span, UnaryOp, Word};

@@ -2,8 +2,8 @@
 
 ghost use Rattle.std.specs.Prelude.{◌≡◌};
 ghost use Rattle.ada_tree.specs.Attributes.{attribute_of, is_bound, is_function, is_image};
-ghost use Rattle.ada_tree.specs.StaticValue.{keeps_static};
-ghost use Rattle.ada_tree.specs.ExprTypes.{takes, takes_one, is_taken, given_by, unary_kind, binary_kind, argument_kind, function_kind, bound_kind, if_kind, is_other_kind, attribute_kind};
+ghost use Rattle.ada_static_rules.specs.StaticValue.{keeps_static};
+ghost use Rattle.ada_static_rules.specs.ExprTypes.{takes, takes_one, is_taken, given_by, unary_kind, binary_kind, argument_kind, function_kind, bound_kind, if_kind, is_other_kind, attribute_kind};
 ghost use Rattle.ada_expr_rules.specs.Plain.{plain_attribute, plain_operand};
 
 use ada_tree::{BinaryOp, NameId, UnaryOp};

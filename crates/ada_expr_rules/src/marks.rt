@@ -1,17 +1,17 @@
 // Names that stand as marks.
 
 ghost use Rattle.std.specs.Prelude.{◌≡◌};
-ghost use Rattle.ada_tree.specs.Demand.{stands_as_mark};
-ghost use Rattle.ada_tree.specs.RuleMismatch.{is_allowed, wrong_mark};
-ghost use Rattle.ada_refusals.specs.Sooner.{found};
-ghost use Rattle.ada_refusals.specs.RefusedFirst.{refused_first_at};
+ghost use Rattle.ada_static_rules.specs.Demand.{stands_as_mark};
+ghost use Rattle.ada_static_rules.specs.RuleMismatch.{is_allowed, wrong_mark};
+ghost use Rattle.ada_static_rules.specs.Sooner.{found};
+ghost use Rattle.ada_static_rules.specs.RefusedFirst.{refused_first_at};
 ghost use Rattle.ada_scopes.specs.Readings.{plain_marking};
 ghost use Rattle.ada_expr_rules.specs.Plain.{plain_use};
 
 use crate::nodes::refuse_unseen;
-use ada_refusals::refusals::{Refusal, Rule, first, refuse};
 use ada_scopes::readings::{Marking, mark_named};
 use ada_scopes::scope::Scope;
+use ada_static_rules::refusals::{Refusal, Rule, first, refuse};
 use ada_tree::Word;
 
 /// The marks that may stand at a place: scalar ones always, and besides array types or task types.
@@ -53,7 +53,7 @@ pub(crate) fn refuse_mark(scope: &Scope, allowed: MarkUse, mark: Word) -> Option
 }
 
 /// A name that stands as a mark.
-#[tactic(auto, using(ada_refusals::proofs::SoonerLaws::sooner_laws))]
+#[tactic(auto, using(ada_static_rules::proofs::SoonerLaws::sooner_laws))]
 pub fn walk_mark(scope: &Scope, allowed: MarkUse, mark: Word) -> Option<Refusal>
     ensures { result ≡ refused_first_at scope.now (stands_as_mark (plain_use allowed) mark) }
 {

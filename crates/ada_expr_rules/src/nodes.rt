@@ -3,26 +3,26 @@
 ghost use Rattle.std.specs.Prelude.{◌≡◌, ◌∷◌, ◌++◌, [], false, if◌then◌else◌};
 ghost use Rattle.ada_tree.specs.PlainExpr.{PExpr, plain_expr, EName, EIndex, EAttribute, EAttributeOf, EUnary, EBinary};
 ghost use Rattle.ada_tree.specs.Attributes.{attribute_of};
-ghost use Rattle.ada_tree.specs.Scope.{meaning, scalar_kind};
-ghost use Rattle.ada_tree.specs.ExprTypes.{expr_place, kind_of, is_other_kind};
-ghost use Rattle.ada_tree.specs.Demand.{node};
-ghost use Rattle.ada_tree.specs.RuleUnknown.{unseen, unseen_word, no_attribute};
-ghost use Rattle.ada_tree.specs.RuleMismatch.{no_value, misfit_index, misfit_argument, is_misfit, misfit_operand};
-ghost use Rattle.ada_tree.specs.RuleReadOut.{out_formal};
-ghost use Rattle.ada_tree.specs.RuleArgCount.{index_on_scalar};
-ghost use Rattle.ada_tree.specs.RuleArrayUse.{whole_array};
-ghost use Rattle.ada_tree.specs.RuleTextUse.{image_in_node};
-ghost use Rattle.ada_refusals.specs.Sooner.{found};
-ghost use Rattle.ada_refusals.specs.RefusedFirst.{refused_first_at};
+ghost use Rattle.ada_static_rules.specs.Scope.{meaning, scalar_kind};
+ghost use Rattle.ada_static_rules.specs.ExprTypes.{expr_place, kind_of, is_other_kind};
+ghost use Rattle.ada_static_rules.specs.Demand.{node};
+ghost use Rattle.ada_static_rules.specs.RuleUnknown.{unseen, unseen_word, no_attribute};
+ghost use Rattle.ada_static_rules.specs.RuleMismatch.{no_value, misfit_index, misfit_argument, is_misfit, misfit_operand};
+ghost use Rattle.ada_static_rules.specs.RuleReadOut.{out_formal};
+ghost use Rattle.ada_static_rules.specs.RuleArgCount.{index_on_scalar};
+ghost use Rattle.ada_static_rules.specs.RuleArrayUse.{whole_array};
+ghost use Rattle.ada_static_rules.specs.RuleTextUse.{image_in_node};
+ghost use Rattle.ada_static_rules.specs.Sooner.{found};
+ghost use Rattle.ada_static_rules.specs.RefusedFirst.{refused_first_at};
 ghost use Rattle.ada_scopes.specs.Readings.{plain_reading, plain_marking};
 ghost use Rattle.ada_expr_rules.specs.Plain.{plain_attribute, plain_operand};
 
 use crate::kinds::{Attribute, attribute_named, does_take, is_other, operand_of, operand_of_one};
 use crate::marks::{MarkUse, refuse_mark};
-use ada_refusals::refusals::{Refusal, Rule, first, refuse, refuse_if};
 use ada_scopes::denotations::Thing;
 use ada_scopes::readings::{Marking, Reading, mark_named, read};
 use ada_scopes::scope::Scope;
+use ada_static_rules::refusals::{Refusal, Rule, first, refuse, refuse_if};
 use ada_tree::{BinaryOp, Expr, NameId, ParMode, Span, UnaryOp, Word};
 
 /// A name that is not declared before.
@@ -102,7 +102,7 @@ pub fn refuse_index(
 }
 
 /// A name in an expression.
-#[tactic(auto, using(ada_refusals::proofs::SoonerLaws::sooner_laws))]
+#[tactic(auto, using(ada_static_rules::proofs::SoonerLaws::sooner_laws))]
 pub(crate) fn refuse_name(scope: &Scope, id: NameId, span: Span) -> Option<Refusal>
     ensures { result ≡ refused_first_at scope.now (node false (EName id span)) }
 {
@@ -115,7 +115,7 @@ pub(crate) fn refuse_name(scope: &Scope, id: NameId, span: Span) -> Option<Refus
 }
 
 /// A component in an expression.
-#[tactic(auto, using(ada_refusals::proofs::SoonerLaws::sooner_laws))]
+#[tactic(auto, using(ada_static_rules::proofs::SoonerLaws::sooner_laws))]
 pub(crate) fn refuse_component(
     scope: &Scope,
     name: Word,
@@ -135,7 +135,7 @@ pub(crate) fn refuse_component(
 }
 
 /// A word behind a tick that is no attribute, and the name before it where that is not declared.
-#[tactic(auto, using(ada_refusals::proofs::SoonerLaws::sooner_laws))]
+#[tactic(auto, using(ada_static_rules::proofs::SoonerLaws::sooner_laws))]
 fn refuse_words(scope: &Scope, mark: Word, word: Word) -> Option<Refusal>
     ensures { result ≡ found 1 (unseen_word scope.now mark ++ no_attribute (attribute_of word.name) word.span) }
 {
@@ -170,7 +170,7 @@ fn refuse_image(written: bool, mark: Word, word: Word, span: Span) -> Option<Ref
 }
 
 /// An attribute without an argument.
-#[tactic(auto, using(ada_refusals::proofs::SoonerLaws::sooner_laws))]
+#[tactic(auto, using(ada_static_rules::proofs::SoonerLaws::sooner_laws))]
 pub fn refuse_bound(
     scope: &Scope,
     written: bool,
@@ -215,7 +215,7 @@ fn refuse_argument(
 }
 
 /// An attribute with an argument.
-#[tactic(auto, using(ada_refusals::proofs::SoonerLaws::sooner_laws))]
+#[tactic(auto, using(ada_static_rules::proofs::SoonerLaws::sooner_laws))]
 pub fn refuse_attribute(
     scope: &Scope,
     written: bool,
@@ -252,7 +252,7 @@ fn is_unfit(operand: Option<u32>, kind: Option<u32>) -> bool
 }
 
 /// The operand of a unary operator.
-#[tactic(auto, using(ada_refusals::proofs::SoonerLaws::sooner_laws))]
+#[tactic(auto, using(ada_static_rules::proofs::SoonerLaws::sooner_laws))]
 pub(crate) fn refuse_operand(
     scope: &Scope,
     op: UnaryOp,
@@ -289,7 +289,7 @@ fn refuse_misfit(
 }
 
 /// The operands of an operator.
-#[tactic(auto, using(ada_refusals::proofs::SoonerLaws::sooner_laws))]
+#[tactic(auto, using(ada_static_rules::proofs::SoonerLaws::sooner_laws))]
 pub(crate) fn refuse_operands(
     scope: &Scope,
     op: BinaryOp,

@@ -2,13 +2,13 @@
 
 ghost use Rattle.std.specs.Prelude.{◌≡◌, ◌++◌, Some, None, option_map};
 ghost use Rattle.ada_tree.specs.PlainExpr.{plain_expr, plain_bounds, plain_subind, plain_drange};
-ghost use Rattle.ada_tree.specs.Scope as scope;
-ghost use Rattle.ada_tree.specs.Demand.{must_not_be_empty, must_lie_in};
-ghost use Rattle.ada_tree.specs.Declaring.{subind_made, marked_range};
-ghost use Rattle.ada_tree.specs.RuleRangeBad.{is_below, is_outside};
-ghost use Rattle.ada_tree.specs.Sites.{expr_sites, static_if, bounds_sites, constraint_sites, subind_sites, drange_sites};
-ghost use Rattle.ada_refusals.specs.Sooner.{found};
-ghost use Rattle.ada_refusals.specs.RefusedFirst.{refused_first_at, refused_first};
+ghost use Rattle.ada_static_rules.specs.Scope as scope;
+ghost use Rattle.ada_static_rules.specs.Demand.{must_not_be_empty, must_lie_in};
+ghost use Rattle.ada_static_rules.specs.Declaring.{subind_made, marked_range};
+ghost use Rattle.ada_static_rules.specs.RuleRangeBad.{is_below, is_outside};
+ghost use Rattle.ada_static_rules.specs.Sites.{expr_sites, static_if, bounds_sites, constraint_sites, subind_sites, drange_sites};
+ghost use Rattle.ada_static_rules.specs.Sooner.{found};
+ghost use Rattle.ada_static_rules.specs.RefusedFirst.{refused_first_at, refused_first};
 ghost use Rattle.ada_scopes.specs.Readings.{plain_marking};
 ghost use Rattle.ada_expr_rules.specs.Plain.{plain_use};
 ghost use Rattle.ada_scopes.specs.Entries.{plain_range};
@@ -20,10 +20,10 @@ use crate::known::Known;
 use crate::marks::{MarkUse, walk_mark};
 use crate::nodes::kind_of_mark;
 use crate::walking::{Walked, place, refuse_kind, refuse_not_static, walk};
-use ada_refusals::refusals::{Refusal, Rule, first, refuse_if};
 use ada_scopes::denotations::Range;
 use ada_scopes::readings::{Marking, mark_named};
 use ada_scopes::scope::Scope;
+use ada_static_rules::refusals::{Refusal, Rule, first, refuse_if};
 use ada_tree::{Bounds, Drange, Expr, Span, Subind};
 
 /// What is known of two bounds, and the first refusal at the places where they stand.

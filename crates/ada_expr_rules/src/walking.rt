@@ -2,18 +2,18 @@
 
 ghost use Rattle.std.specs.Prelude.{◌≡◌, ◌&&◌, not, is_some};
 ghost use Rattle.ada_tree.specs.PlainExpr.{plain_expr};
-ghost use Rattle.ada_tree.specs.ExprTypes.{expr_place, kind_of};
-ghost use Rattle.ada_tree.specs.Demand.{must_be_of, must_be_static};
-ghost use Rattle.ada_tree.specs.Sites.{expr_sites, expr_of, static_of};
-ghost use Rattle.ada_refusals.specs.RefusedFirst.{refused_first_at};
+ghost use Rattle.ada_static_rules.specs.ExprTypes.{expr_place, kind_of};
+ghost use Rattle.ada_static_rules.specs.Demand.{must_be_of, must_be_static};
+ghost use Rattle.ada_static_rules.specs.Sites.{expr_sites, expr_of, static_of};
+ghost use Rattle.ada_static_rules.specs.RefusedFirst.{refused_first_at};
 ghost use Rattle.ada_expr_rules.specs.Judged.{fixed_value};
 ghost use Rattle.ada_expr_rules.specs.Walked.{IsWalked};
 
 use crate::judging::judge;
 use crate::known::Known;
 use crate::nodes::refuse_other;
-use ada_refusals::refusals::{Refusal, Rule, first, refuse_if};
 use ada_scopes::scope::Scope;
+use ada_static_rules::refusals::{Refusal, Rule, first, refuse_if};
 use ada_tree::{Expr, Span};
 
 /// The kind of an expression, its value where it is static (or the place of the operation that raises), and the first refusal at the places where it stands.

@@ -21,10 +21,10 @@ use Rattle.ada_expr_parser.specs.Tests.{same, symbol, word}
 use Rattle.ada_expr_parser.specs.Trees.{from_to}
 use Rattle.ada_expr_parser.specs.Grammar.{symbol_item, word_item}
 use Rattle.ada_expr_parser.specs.Parts.{drange}
-use Rattle.ada_expr_laws.specs.Stopping.{EndsRange}
-use Rattle.ada_expr_laws.proofs.Tokens.{symbol_is, symbol_takes, word_is, none_is}
-use Rattle.ada_expr_laws.proofs.Primaries.{no_place, some_word}
-use Rattle.ada_expr_laws.proofs.Building.{law_drange}
+use Rattle.ada_parser.specs.expression_laws.Stopping.{EndsRange}
+use Rattle.ada_parser.proofs.expression_laws.Tokens.{symbol_is, symbol_takes, word_is, none_is}
+use Rattle.ada_parser.proofs.expression_laws.Primaries.{no_place, some_word}
+use Rattle.ada_parser.proofs.expression_laws.Building.{law_drange}
 use Rattle.ada_phrase_parser.specs.Spelling.{Spelling, ◌▷◌, IfThere, Key, Named}
 use Rattle.ada_phrase_parser.specs.Phrases.{Drange, Formals}
 use Rattle.ada_task_parser.specs.Tasks.{IsEntry}

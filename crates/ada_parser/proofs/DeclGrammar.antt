@@ -12,7 +12,7 @@ use Rattle.ada_expr_parser.specs.declared.items.Item.{Item}
 use Rattle.ada_expr_parser.specs.Tests.{symbol, word}
 use Rattle.ada_expr_parser.specs.Trees.{from_to}
 use Rattle.ada_expr_parser.specs.Grammar.{symbol_item, word_item}
-use Rattle.ada_expr_laws.proofs.Plainly.{after_symbol, symbol_then, after_word, word_then}
+use Rattle.ada_parser.proofs.expression_laws.Plainly.{after_symbol, symbol_then, after_word, word_then}
 use Rattle.ada_phrase_parser.specs.Spelling.{Source, Spelling, ◌▷◌, Key, Named, Placed, IsPlaceOf}
 use Rattle.ada_task_parser.specs.Tasks.{Member, entries_in, priorities_in, TaskWord, TaskRest}
 use Rattle.ada_parser.specs.Declarations.{IsDecl}

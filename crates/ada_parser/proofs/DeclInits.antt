@@ -23,13 +23,13 @@ use Rattle.ada_expr_parser.specs.Tests.{same, symbol}
 use Rattle.ada_expr_parser.specs.Trees.{levels, from_to, in_parens}
 use Rattle.ada_expr_parser.specs.Grammar.{symbol_item, word_item, number_item, prefix_symbol, Spells, AreMore}
 use Rattle.ada_expr_parser.specs.Parts.{expression, expr_behind, subind}
-use Rattle.ada_expr_laws.specs.Stopping.{Ends, EndsMark, EndsRange}
-use Rattle.ada_expr_laws.specs.Laws.{first_operand}
-use Rattle.ada_expr_laws.proofs.Tokens.{symbol_is, symbol_takes}
-use Rattle.ada_expr_laws.proofs.Primaries.{no_place, close_ends}
-use Rattle.ada_expr_laws.proofs.Building.{law_subind, law_drange}
-use Rattle.ada_expr_laws.proofs.Calling.{comma_ends, a_number}
-use Rattle.ada_expr_laws.proofs.Behinds.{Behind, BehindAt, law_levels, behind_spells, spells_behind}
+use Rattle.ada_parser.specs.expression_laws.Stopping.{Ends, EndsMark, EndsRange}
+use Rattle.ada_parser.specs.expression_laws.Laws.{first_operand}
+use Rattle.ada_parser.proofs.expression_laws.Tokens.{symbol_is, symbol_takes}
+use Rattle.ada_parser.proofs.expression_laws.Primaries.{no_place, close_ends}
+use Rattle.ada_parser.proofs.expression_laws.Building.{law_subind, law_drange}
+use Rattle.ada_parser.proofs.expression_laws.Calling.{comma_ends, a_number}
+use Rattle.ada_parser.proofs.expression_laws.Behinds.{Behind, BehindAt, law_levels, behind_spells, spells_behind}
 use Rattle.ada_phrase_parser.specs.Spelling.{Spelling, ◌▷◌, Key, IsPlaceOf, last_place}
 use Rattle.ada_phrase_parser.specs.Spelling as spelling
 use Rattle.ada_phrase_parser.specs.Phrases.{Expression, Drange}
@@ -41,7 +41,7 @@ use Rattle.ada_parser.proofs.KitPieces.{KeyAt, Closing, closing_key, closing_the
 use Rattle.ada_parser.proofs.KitReading.{Made, Both, made_key, made_bind, made_then, made_pure, law_symbol, law_last, law_more, starts_key, starts_last, key_taken, taken_key}
 use Rattle.ada_parser.proofs.KitDeeper.{Expressions, law_expression}
 use Rattle.ada_parser.proofs.Narrowing.{Narrow, narrow_where, narrow_starts, passed_by, law_either, Room, careful_room}
-use Rattle.ada_expr_laws.proofs.Entries.{close_list}
+use Rattle.ada_parser.proofs.expression_laws.Entries.{close_list}
 use Rattle.common_lemmas.proofs.Options.{none_there}
 
 abbrev pub Subinds : Texts Item PSubind

@@ -21,8 +21,8 @@ use Rattle.ada_expr_parser.specs.declared.items.Item.{Item}
 use Rattle.ada_expr_parser.specs.Tests.{same, symbol, word}
 use Rattle.ada_expr_parser.specs.Trees.{from_to}
 use Rattle.ada_expr_parser.specs.Grammar.{symbol_item, word_item}
-use Rattle.ada_expr_laws.proofs.Tokens.{symbol_is, symbol_takes, word_is}
-use Rattle.ada_expr_laws.proofs.Primaries.{no_place, some_word}
+use Rattle.ada_parser.proofs.expression_laws.Tokens.{symbol_is, symbol_takes, word_is}
+use Rattle.ada_parser.proofs.expression_laws.Primaries.{no_place, some_word}
 use Rattle.ada_phrase_parser.specs.Spelling.{Source, Spelling, ◌▷◌, Where, Key, Named}
 use Rattle.ada_stmt_parser.specs.Statements.{IsBody}
 use Rattle.ada_parser.specs.Declarations.{UnitEnd, Decls}

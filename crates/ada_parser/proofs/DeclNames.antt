@@ -17,9 +17,9 @@ use Rattle.ada_expr_parser.specs.Tests.{same, symbol, word}
 use Rattle.ada_expr_parser.specs.Trees.{from_to}
 use Rattle.ada_expr_parser.specs.Grammar.{symbol_item, word_item}
 use Rattle.ada_expr_parser.specs.Parts.{expression}
-use Rattle.ada_expr_laws.specs.Stopping.{EndsMark}
-use Rattle.ada_expr_laws.proofs.Tokens.{symbol_is, symbol_takes, none_is}
-use Rattle.ada_expr_laws.proofs.Primaries.{no_place}
+use Rattle.ada_parser.specs.expression_laws.Stopping.{EndsMark}
+use Rattle.ada_parser.proofs.expression_laws.Tokens.{symbol_is, symbol_takes, none_is}
+use Rattle.ada_parser.proofs.expression_laws.Primaries.{no_place}
 use Rattle.ada_phrase_parser.specs.Spelling.{Source, Spelling, ◌▷◌, IfThere, Key, Named, Behind}
 use Rattle.ada_phrase_parser.specs.Phrases.{Expression}
 use Rattle.ada_parser.specs.Declarations.{IsShape, IsInit, IsObject, IsDecl}

@@ -16,9 +16,9 @@ use Rattle.ada_expr_parser.specs.declared.items.Item.{Item}
 use Rattle.ada_expr_parser.specs.Tests.{same, symbol}
 use Rattle.ada_expr_parser.specs.Trees.{from_to}
 use Rattle.ada_expr_parser.specs.Grammar.{symbol_item}
-use Rattle.ada_expr_laws.proofs.Tokens.{symbol_is, symbol_takes}
-use Rattle.ada_expr_laws.proofs.Primaries.{no_place}
-use Rattle.ada_expr_laws.proofs.Plainly.{after_symbol, symbol_then}
+use Rattle.ada_parser.proofs.expression_laws.Tokens.{symbol_is, symbol_takes}
+use Rattle.ada_parser.proofs.expression_laws.Primaries.{no_place}
+use Rattle.ada_parser.proofs.expression_laws.Plainly.{after_symbol, symbol_then}
 use Rattle.ada_phrase_parser.specs.Spelling.{Source, Spelling, ◌▷◌, Either, Key, ListOf}
 use Rattle.ada_task_parser.specs.Tasks.{Member, MEntry, MPriority, IsMember, TaskRest}
 use Rattle.ada_task_parser.specs.inner.ReadingTasks as tasks

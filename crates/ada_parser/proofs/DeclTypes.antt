@@ -19,9 +19,9 @@ use Rattle.ada_expr_parser.specs.declared.items.Item.{Item}
 use Rattle.ada_expr_parser.specs.Tests.{same, symbol, word}
 use Rattle.ada_expr_parser.specs.Trees.{from_to}
 use Rattle.ada_expr_parser.specs.Grammar.{symbol_item, word_item}
-use Rattle.ada_expr_laws.proofs.Tokens.{symbol_is, symbol_takes, word_is, none_is}
-use Rattle.ada_expr_laws.proofs.Primaries.{no_place, close_ends}
-use Rattle.ada_expr_laws.proofs.Building.{law_subind}
+use Rattle.ada_parser.proofs.expression_laws.Tokens.{symbol_is, symbol_takes, word_is, none_is}
+use Rattle.ada_parser.proofs.expression_laws.Primaries.{no_place, close_ends}
+use Rattle.ada_parser.proofs.expression_laws.Building.{law_subind}
 use Rattle.ada_phrase_parser.specs.Spelling.{Source, Spelling, ◌▷◌, May, Key, Named, Again, WithId, Predefined, PriorityWord, id_of}
 use Rattle.ada_phrase_parser.specs.Phrases.{Names, Expression, Drange}
 use Rattle.ada_parser.specs.Declarations.{Subind, ArrayOf}

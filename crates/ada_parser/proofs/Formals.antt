@@ -17,8 +17,8 @@ use Rattle.ada_lexer.specs.declared.symbols.Symbol.TheVariants as key
 use Rattle.ada_expr_parser.specs.declared.items.Item.{Item}
 use Rattle.ada_expr_parser.specs.Tests.{same, symbol, word}
 use Rattle.ada_expr_parser.specs.Grammar.{symbol_item, word_item}
-use Rattle.ada_expr_laws.proofs.Tokens.{symbol_is, symbol_takes}
-use Rattle.ada_expr_laws.proofs.Primaries.{no_place}
+use Rattle.ada_parser.proofs.expression_laws.Tokens.{symbol_is, symbol_takes}
+use Rattle.ada_parser.proofs.expression_laws.Primaries.{no_place}
 use Rattle.ada_phrase_parser.specs.Spelling.{Spelling, ◌▷◌, Key, Named, Behind, Separated}
 use Rattle.ada_phrase_parser.specs.Phrases.{Names, Mode, IsFormal, Formals}
 use Rattle.ada_phrase_parser.specs.Reading as reading

@@ -27,10 +27,10 @@ use Rattle.lawful_reader.proofs.Choosing.{careful_refuse, law_on}
 use Rattle.lawful_reader.proofs.Deepening.{law_shifted}
 use Rattle.lawful_reader.proofs.Looking.{decided, careful_look, too_deep_where}
 use Rattle.lawful_reader.proofs.Fitting.{starts_never, law_fit, careful_fit, careful_same}
-use Rattle.ada_expr_laws.specs.Stopping.{Ends}
-use Rattle.ada_expr_laws.proofs.Tokens.{symbol_is, word_is, none_is, abs_or_not_is, plus_or_minus_is}
-use Rattle.ada_expr_laws.proofs.Primaries.{no_place, unary_less}
-use Rattle.ada_expr_laws.proofs.Plainly.{law_is_expr}
+use Rattle.ada_parser.specs.expression_laws.Stopping.{Ends}
+use Rattle.ada_parser.proofs.expression_laws.Tokens.{symbol_is, word_is, none_is, abs_or_not_is, plus_or_minus_is}
+use Rattle.ada_parser.proofs.expression_laws.Primaries.{no_place, unary_less}
+use Rattle.ada_parser.proofs.expression_laws.Plainly.{law_is_expr}
 use Rattle.ada_parser.proofs.KitPieces.{KeyAt, Closing, closing_key, closing_then, below_inside, inside_below}
 use Rattle.ada_parser.proofs.KitReading.{Made, Both, made_key, law_closed}
 use Rattle.common_lemmas.proofs.Numbers.{equal_self}

@@ -14,7 +14,7 @@ use Rattle.lawful_reader.specs.Lawful.{Careful, Lawful, IsPassed, IsYes}
 use Rattle.lawful_reader.proofs.Choosing.{careful_refuse, careful_on}
 use Rattle.lawful_reader.proofs.Deepening.{careful_below}
 use Rattle.lawful_reader.proofs.Fitting.{starts_never, starts_or, starts_token}
-use Rattle.ada_expr_laws.proofs.Tokens.{symbol_is, symbol_takes, word_is}
+use Rattle.ada_parser.proofs.expression_laws.Tokens.{symbol_is, symbol_takes, word_is}
 use Rattle.common_lemmas.proofs.Options.{some_there}
 use Rattle.common_lemmas.proofs.Truth.{and_both}
 

@@ -16,8 +16,8 @@ use Rattle.lawful_reader.specs.Lawful.{Lawful, Anything}
 use Rattle.lawful_reader.proofs.Binding.{law_pure, law_bind, law_then}
 use Rattle.lawful_reader.proofs.Listing.{law_token, law_items}
 use Rattle.lawful_reader.proofs.Fitting.{starts_is, law_fit}
-use Rattle.ada_expr_laws.proofs.Tokens.{symbol_is, symbol_takes, word_is}
-use Rattle.ada_expr_laws.proofs.Primaries.{no_place, some_word}
+use Rattle.ada_parser.proofs.expression_laws.Tokens.{symbol_is, symbol_takes, word_is}
+use Rattle.ada_parser.proofs.expression_laws.Primaries.{no_place, some_word}
 use Rattle.ada_parser.proofs.KitPieces.{KeyAt}
 
 -- ---- what is read, made of values that a piece spells

@@ -19,9 +19,9 @@ use Rattle.lawful_reader.proofs.Choosing.{careful_refuse, law_on}
 use Rattle.lawful_reader.proofs.Basics.{not_both, found_through, found_tree, not_empty}
 use Rattle.lawful_reader.proofs.Looking.{law_look, careful_look, CarefulWhere}
 use Rattle.lawful_reader.proofs.Fitting.{starts_is, starts_never, starts_then, law_fit, careful_fit}
-use Rattle.ada_expr_laws.proofs.Plainly.{after_symbol, symbol_then}
-use Rattle.ada_expr_laws.proofs.Tokens.{symbol_takes}
-use Rattle.ada_expr_laws.proofs.Primaries.{no_place}
+use Rattle.ada_parser.proofs.expression_laws.Plainly.{after_symbol, symbol_then}
+use Rattle.ada_parser.proofs.expression_laws.Tokens.{symbol_takes}
+use Rattle.ada_parser.proofs.expression_laws.Primaries.{no_place}
 use Rattle.ada_parser.proofs.KitLeading.{symbol_at}
 
 -- `when` and a part

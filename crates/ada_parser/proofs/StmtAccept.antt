@@ -31,13 +31,13 @@ use Rattle.lawful_reader.proofs.Choosing.{law_on}
 use Rattle.lawful_reader.proofs.Looking.{decided, careful_look, careful_where}
 use Rattle.lawful_reader.proofs.Deepening.{law_below}
 use Rattle.lawful_reader.proofs.Fitting.{law_fit, careful_same, starts_is}
-use Rattle.ada_expr_laws.specs.Stopping.{Ends}
-use Rattle.ada_expr_laws.proofs.Tokens.{symbol_takes, word_is}
-use Rattle.ada_expr_laws.proofs.Primaries.{no_place, some_word, close_ends}
-use Rattle.ada_expr_laws.proofs.Plainly.{after_symbol, symbol_then}
-use Rattle.ada_expr_laws.proofs.Chains.{spells_first}
-use Rattle.ada_expr_laws.proofs.Stopper.{stopper, stopper_ends}
-use Rattle.ada_expr_laws.proofs.Behinds.{behind_spells}
+use Rattle.ada_parser.specs.expression_laws.Stopping.{Ends}
+use Rattle.ada_parser.proofs.expression_laws.Tokens.{symbol_takes, word_is}
+use Rattle.ada_parser.proofs.expression_laws.Primaries.{no_place, some_word, close_ends}
+use Rattle.ada_parser.proofs.expression_laws.Plainly.{after_symbol, symbol_then}
+use Rattle.ada_parser.proofs.expression_laws.Chains.{spells_first}
+use Rattle.ada_parser.proofs.expression_laws.Stopper.{stopper, stopper_ends}
+use Rattle.ada_parser.proofs.expression_laws.Behinds.{behind_spells}
 use Rattle.ada_parser.proofs.KitPieces.{KeyAt, Closing, closing_key, closing_then, placed_key, key_placed, key_then, after_key, Same, same_self, same_turn, same_through, same_then, same_grouped, tail_of}
 use Rattle.ada_parser.proofs.KitReading.{Made, Both, made_fit, made_bind, made_then, made_key, made_pure, law_word, law_closed, key_taken, taken_key, starts_key, starts_last}
 use Rattle.ada_parser.proofs.KitDeeper.{careful_in_deeper, careful_behind, operand_careful, NameEnd, law_end_of, closing_end}

@@ -24,9 +24,9 @@ use Rattle.lawful_reader.specs.Lawful.{Lawful, Anything, IsPassed}
 use Rattle.lawful_reader.proofs.Binding.{law_bind}
 use Rattle.lawful_reader.proofs.Deepening.{law_below, law_raised}
 use Rattle.lawful_reader.proofs.Fitting.{law_fit, careful_fit}
-use Rattle.ada_expr_laws.specs.Stopping.{Ends}
-use Rattle.ada_expr_laws.proofs.Primaries.{no_place, some_word}
-use Rattle.ada_expr_laws.proofs.Plainly.{after_symbol, symbol_then}
+use Rattle.ada_parser.specs.expression_laws.Stopping.{Ends}
+use Rattle.ada_parser.proofs.expression_laws.Primaries.{no_place, some_word}
+use Rattle.ada_parser.proofs.expression_laws.Plainly.{after_symbol, symbol_then}
 use Rattle.ada_parser.proofs.KitPieces.{KeyAt, key_then, after_key, last_append, Same, same_through, same_behind, same_grouped}
 use Rattle.ada_parser.proofs.KitReading.{Made, Both, made_then, made_pure, law_key, law_closed}
 use Rattle.ada_parser.proofs.KitDeeper.{Expressions, law_expression}

@@ -24,9 +24,9 @@ use Rattle.lawful_reader.proofs.Basics.{not_empty}
 use Rattle.lawful_reader.proofs.Binding.{law_pure, law_bind}
 use Rattle.lawful_reader.proofs.Deepening.{law_below}
 use Rattle.lawful_reader.proofs.Fitting.{law_fit, law_stops, law_same, starts_is, starts_or, starts_token}
-use Rattle.ada_expr_laws.proofs.Tokens.{symbol_is}
-use Rattle.ada_expr_laws.proofs.Primaries.{no_place}
-use Rattle.ada_expr_laws.proofs.Plainly.{after_symbol, symbol_then}
+use Rattle.ada_parser.proofs.expression_laws.Tokens.{symbol_is}
+use Rattle.ada_parser.proofs.expression_laws.Primaries.{no_place}
+use Rattle.ada_parser.proofs.expression_laws.Plainly.{after_symbol, symbol_then}
 use Rattle.ada_parser.proofs.KitPieces.{KeyAt, Closing, closing_key, closing_then, placed_key, key_placed, key_then, after_key, last_append, Same, same_self, same_turn, same_through, same_then, same_behind, same_grouped}
 use Rattle.ada_parser.proofs.KitReading.{Made, Both, made_fit, made_bind, made_key, made_pure, law_closed, law_word, law_separated, starts_key}
 use Rattle.ada_parser.proofs.KitWhens.{WhenPart, WhenLast, PartTexts, IsSomePart, SomeTexts, law_some_whens}

@@ -23,10 +23,10 @@ use Rattle.ada_compound_parts.specs.inner.ReadingParts.{maybe}
 use Rattle.lawful_reader.specs.Grammars.{Texts, Starts, first_of}
 use Rattle.lawful_reader.specs.Lawful.{Lawful, Anything, IsPassed}
 use Rattle.lawful_reader.proofs.Fitting.{law_stops, first_append}
-use Rattle.ada_expr_laws.specs.Stopping.{Ends, EndsChoice}
-use Rattle.ada_expr_laws.proofs.Primaries.{no_place}
-use Rattle.ada_expr_laws.proofs.Calling.{law_choice}
-use Rattle.ada_expr_laws.proofs.Chains.{spells_first}
+use Rattle.ada_parser.specs.expression_laws.Stopping.{Ends, EndsChoice}
+use Rattle.ada_parser.proofs.expression_laws.Primaries.{no_place}
+use Rattle.ada_parser.proofs.expression_laws.Calling.{law_choice}
+use Rattle.ada_parser.proofs.expression_laws.Chains.{spells_first}
 use Rattle.ada_parser.proofs.KitPieces.{KeyAt, Closing, closing_key, closing_then, placed_key, key_placed, key_then, Same, same_self, same_through, same_then, same_behind, same_grouped, same_begun, after_key}
 use Rattle.ada_parser.proofs.KitReading.{Made, Both, made_fit, made_bind, made_key, made_pure, law_key, law_closed, law_separated, starts_key, starts_both}
 use Rattle.ada_parser.proofs.KitDeeper.{Expressions, law_expression}

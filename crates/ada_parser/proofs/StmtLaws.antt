@@ -23,10 +23,10 @@ use Rattle.lawful_reader.specs.Exactness.{LawfulAtEach}
 use Rattle.lawful_reader.proofs.Basics.{not_both}
 use Rattle.lawful_reader.proofs.Deepening.{law_below}
 use Rattle.lawful_reader.proofs.Fitting.{law_fit, careful_fit}
-use Rattle.ada_expr_laws.proofs.Tokens.{none_is}
-use Rattle.ada_expr_laws.proofs.Primaries.{no_place}
-use Rattle.ada_expr_laws.proofs.Plainly.{after_symbol, symbol_then, after_word, word_then}
-use Rattle.ada_expr_laws.proofs.Stopper.{stopper}
+use Rattle.ada_parser.proofs.expression_laws.Tokens.{none_is}
+use Rattle.ada_parser.proofs.expression_laws.Primaries.{no_place}
+use Rattle.ada_parser.proofs.expression_laws.Plainly.{after_symbol, symbol_then, after_word, word_then}
+use Rattle.ada_parser.proofs.expression_laws.Stopper.{stopper}
 use Rattle.ada_parser.proofs.KitLeading.{among, among_hold, symbol_at, Led, led_word, led_on, led_below, opens_by}
 use Rattle.ada_parser.proofs.WordLaw.{WordTexts}
 use Rattle.ada_parser.proofs.WordRest.{word_law}

@@ -21,9 +21,9 @@ use Rattle.lawful_reader.proofs.Binding.{law_pure}
 use Rattle.lawful_reader.proofs.Choosing.{law_on}
 use Rattle.lawful_reader.proofs.Listing.{law_items, law_some_items}
 use Rattle.lawful_reader.proofs.Fitting.{starts_is, law_fit, law_stops}
-use Rattle.ada_expr_laws.proofs.Tokens.{symbol_takes}
-use Rattle.ada_expr_laws.proofs.Primaries.{no_place}
-use Rattle.ada_expr_laws.proofs.Calling.{a_number}
+use Rattle.ada_parser.proofs.expression_laws.Tokens.{symbol_takes}
+use Rattle.ada_parser.proofs.expression_laws.Primaries.{no_place}
+use Rattle.ada_parser.proofs.expression_laws.Calling.{a_number}
 use Rattle.ada_parser.proofs.KitPieces.{KeyAt, key_then}
 use Rattle.ada_parser.proofs.KitReading.{Made, made_pure, made_fit, key_taken, taken_key}
 

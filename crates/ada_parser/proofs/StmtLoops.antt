@@ -25,11 +25,11 @@ use Rattle.lawful_reader.proofs.Binding.{law_then}
 use Rattle.lawful_reader.proofs.Choosing.{law_on}
 use Rattle.lawful_reader.proofs.Listing.{law_token}
 use Rattle.lawful_reader.proofs.Fitting.{law_fit, careful_fit, first_append}
-use Rattle.ada_expr_laws.specs.Stopping.{Ends, EndsRange}
-use Rattle.ada_expr_laws.proofs.Tokens.{symbol_takes}
-use Rattle.ada_expr_laws.proofs.Primaries.{no_place, some_word}
-use Rattle.ada_expr_laws.proofs.Chains.{spells_first}
-use Rattle.ada_expr_laws.proofs.Building.{law_drange}
+use Rattle.ada_parser.specs.expression_laws.Stopping.{Ends, EndsRange}
+use Rattle.ada_parser.proofs.expression_laws.Tokens.{symbol_takes}
+use Rattle.ada_parser.proofs.expression_laws.Primaries.{no_place, some_word}
+use Rattle.ada_parser.proofs.expression_laws.Chains.{spells_first}
+use Rattle.ada_parser.proofs.expression_laws.Building.{law_drange}
 use Rattle.ada_parser.proofs.KitPieces.{KeyAt, Closing, closing_key, closing_then, placed_key, key_placed, placed_word, word_placed, key_then, behind_key, Same, same_through, same_behind, same_grouped, same_begun, same_turn, after_word}
 use Rattle.ada_parser.proofs.KitReading.{Made, Both, made_fit, made_bind, made_then, made_key, law_closed, law_word, starts_key, key_taken, taken_key}
 use Rattle.ada_parser.proofs.KitDeeper.{Expressions, law_expression, again_is, again_takes}

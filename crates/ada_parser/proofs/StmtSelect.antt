@@ -22,10 +22,10 @@ use Rattle.lawful_reader.specs.Lawful.{Lawful, Anything, IsYes, IsNo}
 use Rattle.lawful_reader.proofs.Choosing.{law_on}
 use Rattle.lawful_reader.proofs.Looking.{law_look}
 use Rattle.lawful_reader.proofs.Fitting.{law_fit, law_same}
-use Rattle.ada_expr_laws.specs.Stopping.{EndsTarget}
-use Rattle.ada_expr_laws.proofs.Tokens.{symbol_takes}
-use Rattle.ada_expr_laws.proofs.Primaries.{no_place}
-use Rattle.ada_expr_laws.proofs.Entries.{law_call}
+use Rattle.ada_parser.specs.expression_laws.Stopping.{EndsTarget}
+use Rattle.ada_parser.proofs.expression_laws.Tokens.{symbol_takes}
+use Rattle.ada_parser.proofs.expression_laws.Primaries.{no_place}
+use Rattle.ada_parser.proofs.expression_laws.Entries.{law_call}
 use Rattle.ada_parser.proofs.KitPieces.{KeyAt, placed_key, key_placed, key_then, Same, same_self, same_through, same_then, same_behind, same_grouped}
 use Rattle.ada_parser.proofs.KitReading.{Made, Both, made_fit, made_bind, made_then, made_key, law_separated, starts_key, starts_both, key_taken, taken_key}
 use Rattle.ada_parser.proofs.StmtLevels.{EndsStmts, EndsElse, StmtsTexts, AnyTexts, AltTexts, LevelLaws, law_stmts, law_any_stmts, law_else, else_starts, Has, has_then, has_nothing}

@@ -27,11 +27,11 @@ use Rattle.lawful_reader.proofs.Choosing.{law_on}
 use Rattle.lawful_reader.proofs.Listing.{law_token}
 use Rattle.lawful_reader.proofs.Deepening.{law_below}
 use Rattle.lawful_reader.proofs.Fitting.{law_fit}
-use Rattle.ada_expr_laws.specs.Stopping.{Ends, EndsTarget}
-use Rattle.ada_expr_laws.proofs.Tokens.{symbol_is, word_is, none_is}
-use Rattle.ada_expr_laws.proofs.Primaries.{no_place, some_word}
-use Rattle.ada_expr_laws.proofs.Plainly.{after_symbol, symbol_then}
-use Rattle.ada_expr_laws.proofs.Calling.{law_target}
+use Rattle.ada_parser.specs.expression_laws.Stopping.{Ends, EndsTarget}
+use Rattle.ada_parser.proofs.expression_laws.Tokens.{symbol_is, word_is, none_is}
+use Rattle.ada_parser.proofs.expression_laws.Primaries.{no_place, some_word}
+use Rattle.ada_parser.proofs.expression_laws.Plainly.{after_symbol, symbol_then}
+use Rattle.ada_parser.proofs.expression_laws.Calling.{law_target}
 use Rattle.ada_parser.proofs.KitPieces.{KeyAt, Closing, closing_key, closing_then, placed_key, key_placed}
 use Rattle.ada_parser.proofs.KitReading.{Made, Both, made_fit, made_bind, made_then, made_pure, law_closed, law_separated, starts_last}
 use Rattle.ada_parser.proofs.KitDeeper.{Expressions, law_expression}

@@ -16,8 +16,8 @@ use Rattle.ada_lexer.specs.declared.symbols.Symbol.TheVariants as key
 use Rattle.ada_expr_parser.specs.declared.items.Item.{Item}
 use Rattle.ada_expr_parser.specs.Tests.{same, symbol}
 use Rattle.ada_expr_parser.specs.Grammar.{symbol_item, word_item}
-use Rattle.ada_expr_laws.proofs.Tokens.{symbol_takes}
-use Rattle.ada_expr_laws.proofs.Primaries.{no_place}
+use Rattle.ada_parser.proofs.expression_laws.Tokens.{symbol_takes}
+use Rattle.ada_parser.proofs.expression_laws.Primaries.{no_place}
 use Rattle.ada_phrase_parser.specs.Spelling.{Source, Spelling, ◌▷◌, Where, Key, Named, Predefined, id_of}
 use Rattle.ada_stmt_parser.specs.Statements.{IsBody}
 use Rattle.ada_task_parser.specs.Tasks.{TaskWord, TaskRest}

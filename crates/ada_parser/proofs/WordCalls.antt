@@ -19,12 +19,12 @@ use Rattle.lawful_reader.specs.Lawful.{Lawful, Anything, IsPassed}
 use Rattle.lawful_reader.proofs.Binding.{law_bind}
 use Rattle.lawful_reader.proofs.Deepening.{law_below}
 use Rattle.lawful_reader.proofs.Fitting.{starts_or, starts_token, starts_then}
-use Rattle.ada_expr_laws.specs.Stopping.{EndsTarget}
-use Rattle.ada_expr_laws.proofs.Tokens.{symbol_is}
-use Rattle.ada_expr_laws.proofs.Primaries.{no_place}
-use Rattle.ada_expr_laws.proofs.Plainly.{after_symbol, symbol_then, ExprTexts, law_is_expr}
-use Rattle.ada_expr_laws.proofs.Calling.{a_number, of_name, TargetRest, law_target_rest, target_is, is_target}
-use Rattle.ada_expr_laws.proofs.Entries.{CallRest, law_call_rest, call_rest_is, is_call_rest, dot_target}
+use Rattle.ada_parser.specs.expression_laws.Stopping.{EndsTarget}
+use Rattle.ada_parser.proofs.expression_laws.Tokens.{symbol_is}
+use Rattle.ada_parser.proofs.expression_laws.Primaries.{no_place}
+use Rattle.ada_parser.proofs.expression_laws.Plainly.{after_symbol, symbol_then, ExprTexts, law_is_expr}
+use Rattle.ada_parser.proofs.expression_laws.Calling.{a_number, of_name, TargetRest, law_target_rest, target_is, is_target}
+use Rattle.ada_parser.proofs.expression_laws.Entries.{CallRest, law_call_rest, call_rest_is, is_call_rest, dot_target}
 use Rattle.ada_phrase_parser.specs.Spelling.{Source, Placed, IsPlaceOf, last_place, Key, ◌▷◌}
 use Rattle.ada_phrase_parser.specs.Phrases.{NestedExpr}
 use Rattle.ada_stmt_parser.specs.Statements.{Target, Call}

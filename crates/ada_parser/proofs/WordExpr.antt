@@ -24,14 +24,14 @@ use Rattle.lawful_reader.proofs.Basics.{not_empty}
 use Rattle.lawful_reader.proofs.Binding.{careful_bind}
 use Rattle.lawful_reader.proofs.Fitting.{first_append, law_fit}
 use Rattle.lawful_reader.proofs.Turning.{chain_deep, chain_end}
-use Rattle.ada_expr_laws.specs.Stopping.{Ends, EndsPrimary}
-use Rattle.ada_expr_laws.specs.Laws.{first_operand}
-use Rattle.ada_expr_laws.proofs.Tokens.{none_is}
-use Rattle.ada_expr_laws.proofs.Chains.{lawful_operators}
-use Rattle.ada_expr_laws.proofs.Primaries.{no_place, NameRest, law_name, name_spell, spell_primary}
-use Rattle.ada_expr_laws.proofs.Behinds.{Behind, BehindAt, first_itself, law_inner, law_levels, behind_spells, spells_behind}
+use Rattle.ada_parser.specs.expression_laws.Stopping.{Ends, EndsPrimary}
+use Rattle.ada_parser.specs.expression_laws.Laws.{first_operand}
+use Rattle.ada_parser.proofs.expression_laws.Tokens.{none_is}
+use Rattle.ada_parser.proofs.expression_laws.Chains.{lawful_operators}
+use Rattle.ada_parser.proofs.expression_laws.Primaries.{no_place, NameRest, law_name, name_spell, spell_primary}
+use Rattle.ada_parser.proofs.expression_laws.Behinds.{Behind, BehindAt, first_itself, law_inner, law_levels, behind_spells, spells_behind}
 use Rattle.ada_phrase_parser.specs.Reading.{expression_from}
-use Rattle.ada_expr_laws.proofs.Operators.{low_binary}
+use Rattle.ada_parser.proofs.expression_laws.Operators.{low_binary}
 use Rattle.ada_parser.proofs.DeclInits.{first_levels}
 use Rattle.common_lemmas.proofs.Options.{some_same}
 use Rattle.common_lemmas.proofs.Truth.{or_both}

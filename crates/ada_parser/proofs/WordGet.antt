@@ -24,11 +24,11 @@ use Rattle.ada_expr_parser.specs.Trees.{levels, from_to, indexed, attribute}
 use Rattle.ada_expr_parser.specs.Reading.{inner, name_rest}
 use Rattle.ada_expr_parser.specs.Parts.{expression, expr_behind}
 use Rattle.ada_expr_parser.specs.Grammar.{symbol_item, word_item, number_item, IsExpr}
-use Rattle.ada_expr_laws.proofs.Tokens.{symbol_is, symbol_takes}
-use Rattle.ada_expr_laws.proofs.Primaries.{no_place, some_word, close_ends}
-use Rattle.ada_expr_laws.proofs.Plainly.{ExprTexts, law_is_expr}
-use Rattle.ada_expr_laws.proofs.Calling.{a_number, of_name}
-use Rattle.ada_expr_laws.proofs.Behinds.{BehindAt, law_levels, behind_spells}
+use Rattle.ada_parser.proofs.expression_laws.Tokens.{symbol_is, symbol_takes}
+use Rattle.ada_parser.proofs.expression_laws.Primaries.{no_place, some_word, close_ends}
+use Rattle.ada_parser.proofs.expression_laws.Plainly.{ExprTexts, law_is_expr}
+use Rattle.ada_parser.proofs.expression_laws.Calling.{a_number, of_name}
+use Rattle.ada_parser.proofs.expression_laws.Behinds.{BehindAt, law_levels, behind_spells}
 use Rattle.ada_phrase_parser.specs.Spelling.{Key, ◌▷◌}
 use Rattle.ada_phrase_parser.specs.Reading.{is_symbol, key_then, in_deeper, goes_on_name, expression_from}
 use Rattle.ada_simple_stmt_parser.specs.inner.ReadingSimple.{assign_or_call, is_close, goes_on_target, get_index, get_or_index, get_indexed, get_name, get_rest}

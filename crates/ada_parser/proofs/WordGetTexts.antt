@@ -14,11 +14,11 @@ use Rattle.ada_expr_parser.specs.declared.levels.Level.TheVariants.{Logical}
 use Rattle.ada_expr_parser.specs.Tests.{same, symbol, word}
 use Rattle.ada_expr_parser.specs.Trees.{levels, from_to, indexed}
 use Rattle.ada_expr_parser.specs.Grammar.{symbol_item, word_item, Spells, IsExpr, IsIndex}
-use Rattle.ada_expr_laws.proofs.Tokens.{word_is}
-use Rattle.ada_expr_laws.proofs.Primaries.{Content, content_is, InParens, AttributeRest, NameRest}
-use Rattle.ada_expr_laws.proofs.Plainly.{after_symbol, symbol_then, after_word, word_then}
-use Rattle.ada_expr_laws.proofs.Calling.{of_name}
-use Rattle.ada_expr_laws.proofs.Behinds.{Behind, behind_spells}
+use Rattle.ada_parser.proofs.expression_laws.Tokens.{word_is}
+use Rattle.ada_parser.proofs.expression_laws.Primaries.{Content, content_is, InParens, AttributeRest, NameRest}
+use Rattle.ada_parser.proofs.expression_laws.Plainly.{after_symbol, symbol_then, after_word, word_then}
+use Rattle.ada_parser.proofs.expression_laws.Calling.{of_name}
+use Rattle.ada_parser.proofs.expression_laws.Behinds.{Behind, behind_spells}
 use Rattle.ada_phrase_parser.specs.Spelling.{Key, ◌▷◌}
 use Rattle.ada_stmt_parser.specs.Statements.{Target}
 use Rattle.ada_parser.proofs.KitPieces.{after_key}

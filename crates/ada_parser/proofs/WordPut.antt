@@ -24,11 +24,11 @@ use Rattle.lawful_reader.proofs.Binding.{law_pure, careful_bind}
 use Rattle.lawful_reader.proofs.Choosing.{law_on}
 use Rattle.lawful_reader.proofs.Looking.{careful_look}
 use Rattle.lawful_reader.proofs.Fitting.{starts_is, starts_or, starts_then, law_fit}
-use Rattle.ada_expr_laws.specs.Stopping.{Ends}
-use Rattle.ada_expr_laws.proofs.Tokens.{symbol_takes, none_is}
-use Rattle.ada_expr_laws.proofs.Primaries.{no_place, close_ends}
-use Rattle.ada_expr_laws.proofs.Plainly.{after_symbol, symbol_then}
-use Rattle.ada_expr_laws.proofs.Calling.{of_name}
+use Rattle.ada_parser.specs.expression_laws.Stopping.{Ends}
+use Rattle.ada_parser.proofs.expression_laws.Tokens.{symbol_takes, none_is}
+use Rattle.ada_parser.proofs.expression_laws.Primaries.{no_place, close_ends}
+use Rattle.ada_parser.proofs.expression_laws.Plainly.{after_symbol, symbol_then}
+use Rattle.ada_parser.proofs.expression_laws.Calling.{of_name}
 use Rattle.ada_phrase_parser.specs.Spelling.{Source, Key, ◌▷◌, Behind, Separated, said_at, is_graphic}
 use Rattle.ada_phrase_parser.specs.Phrases.{NestedExpr, IsPart, PutText}
 use Rattle.ada_phrase_parser.specs.Reading.{is_symbol, key_then, more_behind, part, string, string_in}

@@ -17,10 +17,10 @@ use Rattle.ada_expr_parser.specs.declared.items.Item.{Item}
 use Rattle.ada_expr_parser.specs.Tests.{same, symbol, word}
 use Rattle.ada_expr_parser.specs.Trees.{from_to}
 use Rattle.ada_expr_parser.specs.Grammar.{symbol_item, word_item}
-use Rattle.ada_expr_laws.proofs.Tokens.{symbol_takes, none_is}
-use Rattle.ada_expr_laws.proofs.Primaries.{no_place}
-use Rattle.ada_expr_laws.proofs.Plainly.{after_symbol, symbol_then}
-use Rattle.ada_expr_laws.proofs.Calling.{of_name}
+use Rattle.ada_parser.proofs.expression_laws.Tokens.{symbol_takes, none_is}
+use Rattle.ada_parser.proofs.expression_laws.Primaries.{no_place}
+use Rattle.ada_parser.proofs.expression_laws.Plainly.{after_symbol, symbol_then}
+use Rattle.ada_parser.proofs.expression_laws.Calling.{of_name}
 use Rattle.ada_phrase_parser.specs.Spelling.{Source, Spelling, ◌▷◌, Key, Predefined, Placed, id_of}
 use Rattle.ada_phrase_parser.specs.Phrases.{PutText}
 use Rattle.ada_stmt_parser.specs.Statements.{Target}

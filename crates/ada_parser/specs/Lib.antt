@@ -5,3 +5,4 @@ pub mod Laws
 pub mod Exactly
 pub mod Refusals
 pub mod inner
+pub mod expression_laws

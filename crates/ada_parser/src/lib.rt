@@ -5,6 +5,7 @@
 
 mod declarations;
 mod errors;
+pub mod expression_laws;
 mod laws;
 mod objects;
 mod reading;

@@ -16,8 +16,8 @@ use Rattle.ded_io.proofs.Writes.{joined_nil, joined_assoc}
 use Rattle.ada_printer.specs.Layout.{deeper, indent, word_text}
 use Rattle.ada_printer.specs.DeclText.{standing, entry_text, priorities_text, items_text, task_rest, unit_text, decl_form_text as decl_form, decl_text, decls_text}
 use Rattle.ada_printer.specs.ProgramText.{context_text}
-use Rattle.paged_output.specs.Pages.{Drawing, Drew}
-use Rattle.paged_output.proofs.Drawn.{drew_none, drew_then}
+use Rattle.ded_io.specs.pages.Pages.{Drawing, Drew}
+use Rattle.ded_io.proofs.pages.Drawn.{drew_none, drew_then}
 use Rattle.ada_printer.proofs.Listed.{not_below_zero}
 use Rattle.ada_printer.proofs.Rowed.{drew_as, drew_three}
 

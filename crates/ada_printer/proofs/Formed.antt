@@ -9,8 +9,8 @@ use Rattle.ded_io.specs.Written.{◌⧺◌}
 use Rattle.ada_printer.specs.Layout.{deeper, indent, separated, word_text, later_word}
 use Rattle.ada_printer.specs.ExprText.{expr_text}
 use Rattle.ada_printer.specs.StmtText.{call_text, head_text, delay_text, choice_text, caught_text, label_text, scheme_text, stmt_form_text, stmt_text, stmts_text, else_text, others_text, accept_text, alt_kind_text, alt_text, later_alt_text, alts_text, arm_text, later_arm_text, arms_text, case_arm_text, case_arms_text, body_text, handler_text, handlers_text}
-use Rattle.paged_output.specs.Pages.{Drawing, Drew}
-use Rattle.paged_output.proofs.Drawn.{drew_none, drew_then}
+use Rattle.ded_io.specs.pages.Pages.{Drawing, Drew}
+use Rattle.ded_io.proofs.pages.Drawn.{drew_none, drew_then}
 use Rattle.ada_printer.proofs.Listed.{not_below_zero, not_below_one}
 use Rattle.ada_printer.proofs.Rowed.{drew_line, drew_three, drew_four, drew_nothing}
 

@@ -7,8 +7,8 @@ use Rattle.ded_io.specs.Written.{◌⧺◌, each_text}
 use Rattle.ded_io.proofs.Writes.{joined, joined_nil, joined_assoc}
 use Rattle.ded_io.proofs.Members.{each_text-append, each_text-one}
 use Rattle.ada_printer.specs.Layout.{indent, separated}
-use Rattle.paged_output.specs.Pages.{Drawing, Drew}
-use Rattle.paged_output.proofs.Drawn.{drew_none, drew_then}
+use Rattle.ded_io.specs.pages.Pages.{Drawing, Drew}
+use Rattle.ded_io.proofs.pages.Drawn.{drew_none, drew_then}
 
 -- the texts of a front with one member more
 each_text-more : (X : Type 0) (text : X → List ℕ) (xs : List X) (i : ℕ) (d : X) → i < length xs → each_text text (take (i + 1) xs) ≡ each_text text (take i xs) ⧺ text (get_or xs i d)

@@ -9,8 +9,8 @@ use Rattle.ded_io.proofs.Writes.{joined, joined_assoc}
 use Rattle.ada_printer.specs.StmtText.{formal_text, formals_text, stmt_text, stmts_text, alt_text, alts_text, later_alt_text, more_alts_text, arm_text, arms_text, later_arm_text, more_arms_text, case_arm_text, case_arms_text, handler_text, handlers_text}
 use Rattle.ada_printer.specs.Layout.{deeper, separated}
 use Rattle.ada_printer.specs.DeclText.{decl_text, decls_text}
-use Rattle.paged_output.specs.Pages.{Drawing, Drew}
-use Rattle.paged_output.proofs.Drawn.{drew_none, drew_then}
+use Rattle.ded_io.specs.pages.Pages.{Drawing, Drew}
+use Rattle.ded_io.proofs.pages.Drawn.{drew_none, drew_then}
 use Rattle.ada_printer.proofs.Listed.{not_below_zero, not_below_one, rest_is}
 
 module _ (names : List (List ℕ)) (level : ℕ) where

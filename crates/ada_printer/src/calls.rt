@@ -6,7 +6,7 @@ ghost use Rattle.ada_tree.specs.PlainExpr.{plain_expr};
 ghost use Rattle.ada_tree.specs.PlainStmt.{plain_target, plain_callee, plain_args, plain_call, plain_formal, plain_part, plain_choice, plain_scheme};
 ghost use Rattle.ada_printer.specs.Layout.{separated};
 ghost use Rattle.ada_printer.specs.StmtText.{mode_text, reverse_text, target_text, callee_text, second_text, args_text, call_text, formal_text, formals_text, head_text, part_text, parts_text, last_text, choice_text, caught_text, label_text, scheme_text, when_text};
-ghost use Rattle.paged_output.specs.Pages.{Drew, over};
+ghost use Rattle.ded_io.specs.pages.Pages.{Drew, over};
 
 use crate::expressions::{put_drange, put_expr, put_exprs, put_index};
 use crate::names_and_literals::{put_separated_words, put_string, put_word, put_words};
@@ -14,7 +14,7 @@ use ada_tree::{
     Args, Call, Callee, CaseChoice, Expr, Formal, Names, ParMode, Part, Scheme, Target, Word,
 };
 use ded_io::Sink;
-use paged_output::Page;
+use ded_io::pages::Page;
 
 pub(crate) fn put_target<K: Sink>(names: &Names, target: &Target, page: &mut Page, out: &mut K)
     ensures { Drew (over page.old (K.told out.old) (K.faults out.old)) (over page.new (K.told out.new) (K.faults out.new)) (target_text names.now (plain_target target.now)) }

@@ -9,7 +9,7 @@ ghost use Rattle.ded_io.specs.Written.{◌⧺◌};
 ghost use Rattle.ada_printer.specs.Layout.{indent, word_text, words_text};
 ghost use Rattle.ada_printer.specs.ExprText.{expr_text, subind_text, array_text};
 ghost use Rattle.ada_printer.specs.DeclText.{constant_text, task_word, task_rest, unit_text, standing as standing_behind, shape_text, init_text, value_text, pragma_text, priorities_text, family_text, entry_text, items_text, task_text, decl_text, decls_text};
-ghost use Rattle.paged_output.specs.Pages.{Drew, over};
+ghost use Rattle.ded_io.specs.pages.Pages.{Drew, over};
 
 use crate::calls::put_formals;
 use crate::expressions::{put_array, put_drange, put_expr, put_exprs, put_subind};
@@ -21,7 +21,7 @@ use ada_tree::{
     Word,
 };
 use ded_io::Sink;
-use paged_output::Page;
+use ded_io::pages::Page;
 
 fn put_shape<K: Sink>(names: &Names, shape: &Shape, page: &mut Page, out: &mut K)
     ensures { Drew (over page.old (K.told out.old) (K.faults out.old)) (over page.new (K.told out.new) (K.faults out.new)) (shape_text names.now (plain_shape shape.now)) }

@@ -6,12 +6,12 @@ ghost use Rattle.ada_tree.specs.PlainExpr.{plain_expr, plain_bounds, plain_subin
 ghost use Rattle.ded_io.specs.Written.{◌⧺◌, each_text};
 ghost use Rattle.ada_printer.specs.ExprText.{unary_text, binary_text, expr_text, exprs_text, index_text, bounds_text, range_text, subind_text, drange_text, array_text};
 ghost use Rattle.ada_printer.specs.Layout.{separated};
-ghost use Rattle.paged_output.specs.Pages.{Drew, over};
+ghost use Rattle.ded_io.specs.pages.Pages.{Drew, over};
 
 use crate::names_and_literals::{put_name, put_number, put_word};
 use ada_tree::{BinaryOp, Bounds, Drange, Expr, ExprKind, Names, Subind, UnaryOp};
 use ded_io::Sink;
-use paged_output::Page;
+use ded_io::pages::Page;
 
 // An operator before its operand, with the blank behind a word.
 fn unary_word(op: UnaryOp) -> &'static [u8]

@@ -4,12 +4,12 @@
 ghost use Rattle.std.specs.Prelude.{◌≡◌, ◌<◌, ◌/◌, ◌%◌, decimal};
 ghost use Rattle.ded_io.specs.Written.{◌⧺◌, each_text};
 ghost use Rattle.ada_printer.specs.Layout.{indent, separated, digit, decimals, duration_text, character_text, string_text, name_text, word_text, words_text, later_word};
-ghost use Rattle.paged_output.specs.Pages.{Drew, over};
+ghost use Rattle.ded_io.specs.pages.Pages.{Drew, over};
 
 use ada_tree::{NameId, Names, Word};
 use ded_io::Sink;
+use ded_io::pages::Page;
 use itoa::Buffer;
-use paged_output::Page;
 
 // The indentation of a line at a level.
 pub(crate) fn put_indent<K: Sink>(level: u32, page: &mut Page, out: &mut K)

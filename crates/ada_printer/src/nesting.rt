@@ -4,7 +4,7 @@
 ghost use Rattle.std.specs.Prelude.{◌≡◌, map};
 ghost use Rattle.ada_tree.specs.PlainStmt.{plain_accept, plain_alt, plain_alt_kind, plain_arm, plain_body, plain_stmt, seen, alts_of, arms_of, case_arms_of, handlers_of, plain_case_arm, plain_handler};
 ghost use Rattle.ada_printer.specs.StmtText.{stmt_text, stmts_text, accept_text, alt_text, alt_kind_text, alts_text, arm_text, arms_text, case_arms_text, handlers_text, body_text};
-ghost use Rattle.paged_output.specs.Pages.{Drew, over};
+ghost use Rattle.ded_io.specs.pages.Pages.{Drew, over};
 
 use crate::calls::{put_call, put_head};
 use crate::expressions::put_expr;
@@ -16,7 +16,7 @@ use crate::statement_lines::{
 };
 use ada_tree::{Accept, Alt, AltKind, Arm, Body, CaseArm, Handler, Names, Stmt, StmtKind};
 use ded_io::Sink;
-use paged_output::Page;
+use ded_io::pages::Page;
 
 // An accept statement behind its indentation.
 #[cycle(put)]

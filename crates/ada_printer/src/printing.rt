@@ -11,8 +11,8 @@ ghost use Rattle.ada_printer.specs.ProgramText.{program_text};
 use crate::expressions::put_expr;
 use crate::whole::put_program;
 use ada_tree::{Expr, Names, Program};
+use ded_io::pages::Page;
 use ded_io::{Sink, SinkError};
-use paged_output::Page;
 
 /// Appends the text of a program in few writes. It takes no memory. After an error, which comes only where a write failed, a front of the text was appended.
 pub fn print<K: Sink>(p: &Program, out: &mut K) -> Result<(), SinkError>

@@ -8,7 +8,7 @@ ghost use Rattle.ded_io.specs.Written.{◌⧺◌};
 ghost use Rattle.ada_printer.specs.Layout.{deeper as level_below, indent, separated, later_word, word_text};
 ghost use Rattle.ada_printer.specs.ExprText.{expr_text};
 ghost use Rattle.ada_printer.specs.StmtText.{target_text, callee_text, call_text, delay_text, parts_text, choice_text, caught_text, when_text, label_text, scheme_text};
-ghost use Rattle.paged_output.specs.Pages.{Drew, over};
+ghost use Rattle.ded_io.specs.pages.Pages.{Drew, over};
 
 use crate::calls::{
     put_call, put_callees, put_caught, put_choices, put_label, put_parts, put_scheme, put_target,
@@ -18,7 +18,7 @@ use crate::expressions::put_expr;
 use crate::names_and_literals::{put_duration, put_indent, put_later_word, put_word};
 use ada_tree::{Call, Callee, CaseChoice, Expr, Names, Part, Scheme, Target, Word};
 use ded_io::Sink;
-use paged_output::Page;
+use ded_io::pages::Page;
 
 // The level of what stands inside.
 pub(crate) fn deeper(level: u32) -> u32

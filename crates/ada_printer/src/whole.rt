@@ -3,13 +3,13 @@
 
 ghost use Rattle.ada_tree.specs.PlainProgram.{plain_program};
 ghost use Rattle.ada_printer.specs.ProgramText.{context_text, program_text};
-ghost use Rattle.paged_output.specs.Pages.{Drew, over};
+ghost use Rattle.ded_io.specs.pages.Pages.{Drew, over};
 
 use crate::declarations::{put_decls, put_unit};
 use crate::names_and_literals::put_word;
 use ada_tree::Program;
 use ded_io::Sink;
-use paged_output::Page;
+use ded_io::pages::Page;
 
 // The two context clauses, where they stand.
 fn put_context<K: Sink>(text_io: bool, page: &mut Page, out: &mut K)

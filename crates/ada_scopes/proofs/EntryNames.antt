@@ -4,7 +4,7 @@ use Rattle.std.specs.List.{list_any}
 use Rattle.std.specs.Option.{unwrap_or}
 use Rattle.std.proofs.Common.{sym, ap, ◌∙◌, add-one}
 use Rattle.ada_tree.specs.declared.naming.NameId.{NameId}
-use Rattle.ada_tree.specs.Scope.{NameMeaning, entry_named, entries_of}
+use Rattle.ada_static_rules.specs.Scope.{NameMeaning, entry_named, entries_of}
 use Rattle.ada_scopes.specs.Denotations.{plain_thing, plain_names}
 use Rattle.ada_scopes.specs.declared.denotations.Thing.{Thing}
 

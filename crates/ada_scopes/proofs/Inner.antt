@@ -6,8 +6,8 @@ use Rattle.std.proofs.lemmas.Grind.{take_at_read}
 use Rattle.ada_tree.specs.declared.naming.Word.{Word}
 use Rattle.ada_tree.specs.declared.statements.Formal.{Formal}
 use Rattle.ada_tree.specs.PlainStmt.{PFormal, plain_formal}
-use Rattle.ada_tree.specs.Scope.{Scope, Thing, marking}
-use Rattle.ada_tree.specs.Declaring.{with_name, with_names, with_formals, formal_thing, inner_scope, seen_as}
+use Rattle.ada_static_rules.specs.Scope.{Scope, Thing, marking}
+use Rattle.ada_static_rules.specs.Declaring.{with_name, with_names, with_formals, formal_thing, inner_scope, seen_as}
 use Rattle.ada_scopes.specs.declared.scope.Outer.{Outer}
 use Rattle.ada_scopes.specs.Nested.{IsOuter, IsWithin}
 use Rattle.ada_scopes.specs.inner.Inner.{IsInner}

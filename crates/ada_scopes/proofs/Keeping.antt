@@ -4,8 +4,8 @@ use Rattle.std.proofs.Common.{sym, ap, ◌∙◌, get_or}
 use Rattle.std.specs.HashMap.{HashMap, get}
 use Rattle.ada_tree.specs.declared.naming.NameId.{NameId}
 use Rattle.ada_tree.specs.declared.static_types.Kind.{Kind}
-use Rattle.ada_tree.specs.StaticValue.{first_of_two, position_in, literal_position}
-use Rattle.tree_lemmas.proofs.FirstOfTwo.{find_push, first_of_three, first_or_none, position_more, position_push}
+use Rattle.ada_static_rules.specs.StaticValue.{first_of_two, position_in, literal_position}
+use Rattle.ada_static_rules.proofs.found_twice.FirstOfTwo.{find_push, first_of_three, first_or_none, position_more, position_push}
 
 abbrev place_in : ℕ → ℕ → Option ℕ
 place_in place count = if nat_lt place count then Some place else None

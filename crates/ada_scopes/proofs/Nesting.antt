@@ -4,12 +4,12 @@ use Rattle.std.proofs.Common.{sym, ap, ◌∙◌, subst, arith, length-append}
 use Rattle.std.proofs.lemmas.List.{take-map, drop-map, length-map}
 use Rattle.std.proofs.lemmas.Simd.{map-map}
 use Rattle.std.proofs.Math.Seq.{drop-append_seam}
-use Rattle.ada_tree.specs.Scope.{Scope, NameMeaning}
-use Rattle.ada_tree.specs.Scope as plain
-use Rattle.ada_tree.specs.Scope.{marking}
+use Rattle.ada_static_rules.specs.Scope.{Scope, NameMeaning}
+use Rattle.ada_static_rules.specs.Scope as plain
+use Rattle.ada_static_rules.specs.Scope.{marking}
 use Rattle.ada_tree.specs.declared.naming.Word.{Word}
 use Rattle.ada_tree.specs.PlainStmt.{PFormal}
-use Rattle.ada_tree.specs.Declaring.{seen_as, with_name, with_names, inner_scope, with_formals, formal_thing}
+use Rattle.ada_static_rules.specs.Declaring.{seen_as, with_name, with_names, inner_scope, with_formals, formal_thing}
 use Rattle.ada_scopes.specs.declared.denotations.Thing.{Thing}
 use Rattle.ada_scopes.specs.declared.scope.Outer.{Outer}
 use Rattle.ada_scopes.specs.Denotations.{plain_thing, plain_names}

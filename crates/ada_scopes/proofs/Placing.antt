@@ -5,7 +5,7 @@ use Rattle.std.proofs.Common.{sym, ap, ◌∙◌, arith, Bor}
 use Rattle.std.proofs.lemmas.List.Folds.{find_at}
 use Rattle.std.proofs.lemmas.Option.{slice_get_past}
 use Rattle.std.proofs.lemmas.Bool.Decides.{nat_tests}
-use Rattle.ada_tree.specs.Scope.{entry_named}
+use Rattle.ada_static_rules.specs.Scope.{entry_named}
 use Rattle.ada_tree.specs.declared.naming.NameId.{NameId}
 use Rattle.ada_scopes.specs.declared.denotations.EntryPart.{EntryPart}
 use Rattle.ada_scopes.specs.Entries.{plain_entry}

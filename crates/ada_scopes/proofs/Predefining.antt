@@ -4,8 +4,8 @@ use Rattle.std.proofs.Common.{ap, sym, ◌∙◌, get_or, arith}
 use Rattle.std.proofs.lemmas.List.{map_more, reverse-append}
 use Rattle.ada_tree.specs.declared.naming.NameId.{NameId}
 use Rattle.ada_tree.specs.TypeTable.{TypeTable}
-use Rattle.ada_tree.specs.Scope.{Scope, NameMeaning, EntryPart}
-use Rattle.ada_tree.specs.Declaring.{seen_as, predefined_types, predefined_names, before_all}
+use Rattle.ada_static_rules.specs.Scope.{Scope, NameMeaning, EntryPart}
+use Rattle.ada_static_rules.specs.Declaring.{seen_as, predefined_types, predefined_names, before_all}
 use Rattle.ada_scopes.specs.declared.predefined.Predefined.{Predefined}
 use Rattle.ada_scopes.specs.declared.denotations.Thing.{Thing}
 use Rattle.ada_scopes.specs.Denotations.{plain_thing, plain_names}

@@ -1,6 +1,6 @@
 -- What contracts see of what names mean, and of the names that can be used at a place.
 use Rattle.std.specs.Prelude.{ℕ, List, map}
-use Rattle.ada_tree.specs.Scope as scope
+use Rattle.ada_static_rules.specs.Scope as scope
 use Rattle.ada_scopes.specs.declared.denotations.Thing.{Thing}
 use Rattle.ada_scopes.specs.declared.denotations.Thing.TheVariants.{TypeMark, TaskType, SingleTask, TaskObject, TaskArray, Variable, ConstantObject, Parameter, LoopParameter, Literal, AnException, MainProcedure, AnotherUnit, Unclear}
 use Rattle.ada_scopes.specs.Entries.{plain_range}

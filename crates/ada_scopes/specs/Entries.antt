@@ -1,7 +1,7 @@
 -- What contracts see of entries and ranges.
 use Rattle.std.specs.Prelude.{◌≡◌, ◌==◌, ℕ, nat_eq, position, List, map}
 use Rattle.std.specs.HashMap.{HashMap, get}
-use Rattle.ada_tree.specs.Scope as scope
+use Rattle.ada_static_rules.specs.Scope as scope
 use Rattle.ada_scopes.specs.declared.denotations.Range.{Range}
 use Rattle.ada_scopes.specs.declared.denotations.Family.{Family}
 use Rattle.ada_scopes.specs.declared.denotations.Family.TheVariants.{Single, Over, Unclear}

@@ -2,8 +2,8 @@
 use Rattle.std.specs.Prelude.{◌≡◌, ℕ, [], ◌∷◌, ◌++◌, Option}
 use Rattle.ada_tree.specs.declared.static_types.Constant.{Constant}
 use Rattle.ada_tree.specs.TypeTable.{TypeTable}
-use Rattle.ada_tree.specs.Scope.{Scope}
-use Rattle.ada_tree.specs.Declaring.{Made, with_types}
+use Rattle.ada_static_rules.specs.Scope.{Scope}
+use Rattle.ada_static_rules.specs.Declaring.{Made, with_types}
 
 -- the scope with the new table, and the place of the mark
 pub record IsMade (scope : Scope) (m : Made) (after : Scope) (mark : Option ℕ) : Type 0 where

@@ -1,6 +1,6 @@
 -- A scope within another one.
 use Rattle.std.specs.Prelude.{◌≡◌, ◌≤◌, ◌-◌, ◌++◌, List, length, map, take}
-use Rattle.ada_tree.specs.Scope.{Scope, NameMeaning}
+use Rattle.ada_static_rules.specs.Scope.{Scope, NameMeaning}
 use Rattle.ada_scopes.specs.declared.scope.Outer.{Outer}
 use Rattle.ada_scopes.specs.declared.scope.Outside.{Outside}
 

@@ -1,5 +1,5 @@
 -- What contracts see of what a name stands for as a value or as a mark.
-use Rattle.ada_tree.specs.Scope as scope
+use Rattle.ada_static_rules.specs.Scope as scope
 use Rattle.ada_scopes.specs.Entries.{plain_range}
 use Rattle.ada_scopes.specs.declared.readings.Reading.{Reading}
 use Rattle.ada_scopes.specs.declared.readings.Reading.TheVariants.{Scalar, Array, NoValue, Unknown, Unclear}

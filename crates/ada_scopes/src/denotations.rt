@@ -3,10 +3,10 @@
 ghost use Rattle.std.specs.Prelude.{◌≡◌, ◌==◌, [], ℕ, nat_eq, position, map, option_map, slice_get, is_some, IfOk, OnOk};
 ghost use Rattle.std.specs.HashMap.{get};
 ghost use Rattle.std.specs.Option.{unwrap_or};
-ghost use Rattle.ada_tree.specs.StaticValue.{first_of_two};
-ghost use Rattle.ada_tree.specs.Scope.{entry_named, entries_of};
-ghost use Rattle.ada_tree.specs.Declaring.{constant_mark};
-ghost use Rattle.ada_tree.specs.Sites.{is_task_object};
+ghost use Rattle.ada_static_rules.specs.StaticValue.{first_of_two};
+ghost use Rattle.ada_static_rules.specs.Scope.{entry_named, entries_of};
+ghost use Rattle.ada_static_rules.specs.Declaring.{constant_mark};
+ghost use Rattle.ada_static_rules.specs.Sites.{is_task_object};
 ghost use Rattle.ada_scopes.specs.Denotations.{plain_thing};
 ghost use Rattle.ada_scopes.specs.Entries.{plain_entry};
 
@@ -58,7 +58,7 @@ pub struct Entries {
 
 impl Model for Entries {
     ghost use Rattle.std.specs.Prelude.{List, map};
-    ghost use Rattle.ada_tree.specs.Scope.{EntryPart};
+    ghost use Rattle.ada_static_rules.specs.Scope.{EntryPart};
     ghost use Rattle.ada_scopes.specs.Entries.{plain_entry, ArePlaced};
 
     ghost Value = { List EntryPart };

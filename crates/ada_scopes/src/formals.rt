@@ -3,8 +3,8 @@
 ghost use Rattle.std.specs.Prelude.{◌≡◌, OnOk, map};
 ghost use Rattle.ada_tree.specs.declared.statements.ParMode.{ParMode as Mode};
 ghost use Rattle.ada_tree.specs.PlainStmt.{plain_formal};
-ghost use Rattle.ada_tree.specs.Scope.{marking, and_then};
-ghost use Rattle.ada_tree.specs.Declaring.{with_names, with_formals, formal_thing, first_mark_of, loop_thing};
+ghost use Rattle.ada_static_rules.specs.Scope.{marking, and_then};
+ghost use Rattle.ada_static_rules.specs.Declaring.{with_names, with_formals, formal_thing, first_mark_of, loop_thing};
 ghost use Rattle.ada_scopes.specs.Denotations.{plain_thing};
 ghost use Rattle.ada_scopes.specs.inner.Inner.{formal_at};
 

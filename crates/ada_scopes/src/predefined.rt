@@ -1,7 +1,7 @@
 // The predefined types and names.
 
 ghost use Rattle.std.specs.Prelude.{◌≡◌, IfOk};
-ghost use Rattle.ada_tree.specs.Declaring.{predefined_types, predefined_names, first_mark};
+ghost use Rattle.ada_static_rules.specs.Declaring.{predefined_types, predefined_names, first_mark};
 ghost use Rattle.ada_scopes.specs.Denotations.{plain_thing, plain_names};
 ghost use Rattle.ada_scopes.specs.inner.Before.{thing_of};
 

@@ -1,7 +1,7 @@
 // What a name is in an expression, and what it is as a mark.
 
 ghost use Rattle.std.specs.Prelude.{◌≡◌};
-ghost use Rattle.ada_tree.specs.Scope.{mark_at, reading, reading_of_mark, marking, marking_of_mark};
+ghost use Rattle.ada_static_rules.specs.Scope.{mark_at, reading, reading_of_mark, marking, marking_of_mark};
 ghost use Rattle.ada_scopes.specs.Readings.{plain_reading, plain_marking};
 
 use crate::denotations::{Entries, Range, Thing};

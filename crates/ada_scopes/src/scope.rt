@@ -1,8 +1,8 @@
 // What can be used at a place of a program.
 
 ghost use Rattle.std.specs.Prelude.{◌≡◌, ◌≤◌, ◌∷◌, [], true, false, length, option_map, IfOk, OnOk, OnErr};
-ghost use Rattle.ada_tree.specs.Scope.{is_entry_somewhere, meaning, Scope as PlainScope};
-ghost use Rattle.ada_tree.specs.Declaring.{before_all, with_name, with_types, inner_scope, add_mark, add_kind};
+ghost use Rattle.ada_static_rules.specs.Scope.{is_entry_somewhere, meaning, Scope as PlainScope};
+ghost use Rattle.ada_static_rules.specs.Declaring.{before_all, with_name, with_types, inner_scope, add_mark, add_kind};
 ghost use Rattle.ada_scopes.specs.Denotations.{plain_thing};
 ghost use Rattle.ada_scopes.specs.Makings.{add_constant};
 ghost use Rattle.ada_scopes.specs.Nested.{IsOuter, IsOutside, IsWithin};
@@ -33,7 +33,7 @@ pub struct Scope {
 
 impl Model for Scope {
     ghost use Rattle.std.specs.Prelude.{map, take, reverse, length, ◌-◌, ◌≤◌};
-    ghost use Rattle.ada_tree.specs.Scope.{Scope};
+    ghost use Rattle.ada_static_rules.specs.Scope.{Scope};
     ghost use Rattle.ada_scopes.specs.Denotations.{plain_names};
 
     ghost Value = { Scope };

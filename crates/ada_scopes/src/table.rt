@@ -3,9 +3,9 @@
 ghost use Rattle.std.specs.Prelude.{◌≡◌, ◌==◌, [], ℕ, nat_eq, length, position, option_map, Some, None, if◌then◌else◌, IfOk, OnOk};
 ghost use Rattle.std.specs.HashMap.{get};
 ghost use Rattle.ada_tree.specs.declared.naming.NameId.{NameId};
-ghost use Rattle.ada_tree.specs.StaticValue.{mark_named, value_named, position_in, first_of_two};
-ghost use Rattle.ada_tree.specs.Scope.{kind_at, mark_at};
-ghost use Rattle.ada_tree.specs.Declaring.{add_mark, add_kind, first_mark_of};
+ghost use Rattle.ada_static_rules.specs.StaticValue.{mark_named, value_named, position_in, first_of_two};
+ghost use Rattle.ada_static_rules.specs.Scope.{kind_at, mark_at};
+ghost use Rattle.ada_static_rules.specs.Declaring.{add_mark, add_kind, first_mark_of};
 ghost use Rattle.ada_scopes.specs.Makings.{add_constant};
 
 use ada_tree::{Constant, Kind, Mark, NameId, Types};

@@ -3,10 +3,10 @@ use Rattle.std.specs.Prelude.{ℤ, Bool, true, false, Result, Ok, Err}
 use Rattle.ada_tree.specs.declared.naming.Span.{Span}
 use Rattle.ada_tree.specs.TypeTable.{TypeTable}
 use Rattle.ada_tree.specs.PlainExpr.{PExpr}
-use Rattle.ada_tree.specs.ExprTypes.{expr_place}
-use Rattle.ada_tree.specs.StaticValue.{is_static, value_of}
-use Rattle.ada_refusals.specs.declared.errors.TypeError.{TypeError}
-use Rattle.ada_refusals.specs.declared.errors.TypeError.TheVariants.{NotStatic, RangeBad}
+use Rattle.ada_static_rules.specs.ExprTypes.{expr_place}
+use Rattle.ada_static_rules.specs.StaticValue.{is_static, value_of}
+use Rattle.ada_static_rules.specs.declared.errors.TypeError.{TypeError}
+use Rattle.ada_static_rules.specs.declared.errors.TypeError.TheVariants.{NotStatic, RangeBad}
 
 -- the value, or RangeBad at the operation that raises
 abbrev pub answered : Result ℤ Span → Result ℤ TypeError

@@ -1,7 +1,7 @@
 // What names mean in the table of types.
 
 ghost use Rattle.std.specs.Prelude.{◌≡◌, ◌==◌, ◌<◌, ◌^◌, position, IfSome};
-ghost use Rattle.ada_tree.specs.StaticValue.{mark_named, constant_named, position_in, literal_position, value_named};
+ghost use Rattle.ada_static_rules.specs.StaticValue.{mark_named, constant_named, position_in, literal_position, value_named};
 
 use crate::operations::position_of;
 use ada_tree::{Constant, Kind, Mark, NameId, Types};

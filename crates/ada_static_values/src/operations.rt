@@ -1,11 +1,11 @@
 // The operations on the values of static expressions (4.5). Values of BOOLEAN and of enumerations are positions, so that FALSE is 0 and TRUE is 1.
 
 ghost use Rattle.std.specs.Prelude.{◌≡◌, ◌+ℤ◌, ◌-ℤ◌, ◌*ℤ◌, neg_ℤ, int_div, Ok};
-ghost use Rattle.ada_tree.specs.StaticValue.{fitted, truth, unless_zero, applied, signed};
-ghost use Rattle.integer_division.specs.Modulus.{modulus};
+ghost use Rattle.ada_static_rules.specs.StaticValue.{fitted, truth, unless_zero, applied, signed};
+ghost use Rattle.common_lemmas.specs.division.Modulus.{modulus};
 
 use ada_tree::{BinaryOp, Span, UnaryOp};
-use integer_division::{modulus, remainder};
+use common_lemmas::division::{modulus, remainder};
 
 const LEAST: i64 = -2147483648;
 

@@ -5,12 +5,12 @@ ghost use Rattle.std.specs.Bool.{OnTrue};
 ghost use Rattle.std.specs.Int.{w64};
 ghost use Rattle.ada_tree.specs.PlainExpr.{plain_expr};
 ghost use Rattle.ada_tree.specs.Attributes.{attribute_of, is_bound};
-ghost use Rattle.ada_tree.specs.StaticValue.{is_static, value_of, keeps_static, is_of_kind, of_base, attribute_at, bound_of};
+ghost use Rattle.ada_static_rules.specs.StaticValue.{is_static, value_of, keeps_static, is_of_kind, of_base, attribute_at, bound_of};
 ghost use Rattle.ada_static_values.specs.StaticAnswer.{static_answer};
 
 use crate::named_values::{mark_of, value_of_name};
 use crate::operations::{apply, apply_one};
-use ada_refusals::errors::TypeError;
+use ada_static_rules::errors::TypeError;
 use ada_tree::{BinaryOp, Expr, ExprKind, Kind, Mark, NameId, Span, Types};
 
 /// Whether a word behind a tick is FIRST or LAST, which ask for a bound (3.5).

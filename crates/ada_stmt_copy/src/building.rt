@@ -3,9 +3,9 @@
 ghost use Rattle.std.specs.Prelude.{◌≡◌, IfOk, map, option_map};
 ghost use Rattle.ada_tree.specs.PlainExpr.{plain_expr};
 ghost use Rattle.ada_tree.specs.PlainStmt.{plain_target, plain_callee, plain_call, plain_formal, plain_part, plain_choice, plain_scheme, plain_accept, plain_alt, plain_arm, plain_case_arm, plain_handler, plain_body, plain_stmt, alts_of, arms_of, case_arms_of, handlers_of, seen, seen_maybe, absent, present, SAssign, SExit, SAbort, SCall, SAccept, SWait, SConditional, STimed, SPut, SPutLine, SGet, SIf, SCase, SBlock, SLoop, accepting, alternative, AAccept, ADelay, ATerminate, arm, case_arm, body, handler};
-ghost use Rattle.ada_expr_copy.specs.Parts.{OkWith};
+ghost use Rattle.ada_stmt_copy.specs.expressions.Parts.{OkWith};
 
-use ada_expr_copy::{all, both};
+use crate::expressions::{all, both};
 use ada_tree::{
     Accept, Alt, AltKind, Arm, Body, Call, Callee, CaseArm, CaseChoice, Expr, Formal, Handler,
     Memory, Part, Scheme, Span, Stmt, StmtKind, Target, Word,

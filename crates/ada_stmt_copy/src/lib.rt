@@ -3,6 +3,7 @@
 
 pub mod building;
 mod copying;
+pub mod expressions;
 mod simple;
 mod statements;
 

@@ -5,7 +5,7 @@ ghost use Rattle.ada_tree.specs.PlainStmt.{plain_stmt};
 ghost use Rattle.ada_tree.specs.inner.SimpleStmt.{IsSimple};
 
 use crate::building::{abort_of, assign_of, call_of, exit_of, get_of, put_line_of, put_of};
-use ada_expr_copy::{ExprCopy, copy_callees, copy_option, copy_parts};
+use crate::expressions::{ExprCopy, copy_callees, copy_option, copy_parts};
 use ada_tree::{Memory, Stmt, StmtKind};
 use std::alloc::Global;
 

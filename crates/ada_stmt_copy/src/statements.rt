@@ -9,10 +9,10 @@ use crate::building::{
     case_of, case_others_of, conditional_of, delay_alternative_of, handler_of, if_of, loop_of,
     terminate_alternative_of, timed_of, wait_of,
 };
-use crate::simple::copy_simple;
-use ada_expr_copy::{
+use crate::expressions::{
     ExprCopy, copy_choices, copy_formals, copy_option, copy_scheme, copy_words, put, there,
 };
+use crate::simple::copy_simple;
 use ada_tree::{Accept, Alt, AltKind, Arm, Body, CaseArm, Handler, Memory, Stmt, StmtKind};
 use std::alloc::Global;
 

@@ -5,7 +5,7 @@ use Rattle.ada_tree.specs.declared.naming.Span.{Span}
 use Rattle.ada_expr_parser.specs.declared.items.Item.{Item}
 use Rattle.ada_expr_parser.specs.declared.errors.ParseError.{ParseError}
 use Rattle.ada_expr_parser.specs.Gives.{Gives, Fails}
-use Rattle.joined_parts.specs.Joining.{Joined}
+use Rattle.ada_expr_parser.specs.joining.Joining.{Joined}
 
 -- readers that agree behind each answer
 pub agree : {A C : Type 0} (x : Answer Item A) (f g : A → Reader Item C) → ((a : A) (rest : List Item) → f a rest ≡ g a rest) → go_on x f ≡ go_on x g

@@ -12,10 +12,10 @@ ghost use Rattle.ada_stmt_parser.specs.inner.StmtViews.{case_whens};
 
 use crate::sequences::{else_part, stmts};
 use ada_compound_parts::{case_end, if_end, read_choices};
+use ada_expr_parser::joining::with;
 use ada_expr_parser::{Item, ParseError, Symbol, expect, read_expr};
 use ada_phrase_parser::{Source, add, stands};
 use ada_tree::{Arm, CaseArm, Span, Stmt};
-use joined_parts::with;
 use std::alloc::Global;
 
 /// Behind `if`.

@@ -9,10 +9,10 @@ ghost use Rattle.ada_phrase_parser.specs.Views.{told};
 
 use crate::sequences::stmts;
 use ada_compound_parts::{loop_end, loop_scheme};
+use ada_expr_parser::joining::with;
 use ada_expr_parser::{Item, ParseError};
 use ada_phrase_parser::Source;
 use ada_tree::{Span, Stmt, Word};
-use joined_parts::with;
 use std::alloc::Global;
 
 /// A loop from its first word on.

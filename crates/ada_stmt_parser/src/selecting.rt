@@ -16,10 +16,10 @@ use ada_compound_parts::{
     end_select, first_of_alt, last_span, or_delay, read_end_of, read_guard, selected,
     selected_call, terminate_kind, wait_end,
 };
+use ada_expr_parser::joining::with;
 use ada_expr_parser::{Item, ParseError, Symbol, expect, expect_word};
 use ada_phrase_parser::{Source, add, entry_behind, from_to, read_delayed, stands, word_in};
 use ada_tree::{Accept, Alt, AltKind, Span, Stmt, Word};
-use joined_parts::with;
 use std::alloc::Global;
 
 /// Behind `select`.

@@ -2,5 +2,7 @@
 #![tactic(auto)]
 
 mod numbers;
+pub mod task_counts;
+pub mod task_objects;
 
 pub use numbers::numbers_for;

@@ -10,10 +10,10 @@ ghost use Rattle.syn_event.specs.AddedNames.{is_added_name, task_info, speaks_of
 ghost use Rattle.syn_event.specs.Extents.{count_to, size_of};
 ghost use Rattle.syn_event.specs.NamedTasks.{numbered_task, tasks_of_name};
 ghost use Rattle.syn_event.specs.AllNumbers.{info_of_task, entry_of_task, entries_of_tasks, family_extent, first_of, last_index, all_numbers};
-ghost use Rattle.ada_task_objects.specs.PlainNames.{plain_extent, plain_named_tasks};
+ghost use Rattle.ada_task_numbers.specs.task_objects.PlainNames.{plain_extent, plain_named_tasks};
 ghost use Rattle.ada_task_numbers.specs.inner.TasksWithin.{tasks_within};
 
-use ada_task_objects::{Extent, NamedTasks, extent_of, task_names_of, width};
+use crate::task_objects::{Extent, NamedTasks, extent_of, task_names_of, width};
 use ada_tree::{Drange, EntryDecl, NameId, Names, Program, Types};
 use std::alloc::{AllocError, Global};
 use syn_event::{EntryInfo, Numbers, TaskInfo};
@@ -195,7 +195,7 @@ fn member_index(first: i64, step: u64) -> Result<Option<i32>, AllocError>
 }
 
 // How many values there are, for which there is no room beyond 64 bits; none below 0.
-#[tactic(auto, using(ada_task_objects::proofs::Reaching::counting))]
+#[tactic(auto, using(crate::proofs::task_objects::Reaching::counting))]
 fn count_to(width: i128) -> Result<u64, AllocError>
     ensures { IfOk result (λ n. n ≡ count_to width) }
 {

@@ -4,14 +4,22 @@ use crate::{NameId, Span, Word};
 
 /// An expression. A chain of operators is nested to the left, and a pair of parentheses is a node of its own.
 #[cycle(expr)]
-#[derive(Drop)]
 pub struct Expr {
     pub kind: ExprKind,
     pub span: Span,
 }
 
+impl Drop for Expr {
+    #[cycle(expr)]
+    fn drop(self) {
+        let Expr {
+            kind: _kind,
+            span: _span,
+        } = self;
+    }
+}
+
 #[cycle(expr)]
-#[derive(Drop)]
 pub enum ExprKind {
     Integer(u32),
     Name(NameId),
@@ -36,6 +44,35 @@ pub enum ExprKind {
         left: Box<Expr>,
         right: Box<Expr>,
     },
+}
+
+impl Drop for ExprKind {
+    #[cycle(expr)]
+    fn drop(self) {
+        match self {
+            ExprKind::Integer(_part) => {}
+            ExprKind::Name(_part) => {}
+            ExprKind::Index {
+                name: _name,
+                arg: _arg,
+            } => {}
+            ExprKind::Attribute {
+                mark: _mark,
+                word: _word,
+                arg: _arg,
+            } => {}
+            ExprKind::Paren(_part) => {}
+            ExprKind::Unary {
+                op: _op,
+                part: _part,
+            } => {}
+            ExprKind::Binary {
+                op: _op,
+                left: _left,
+                right: _right,
+            } => {}
+        }
+    }
 }
 
 #[derive(Clone, Copy, Debug, PartialEq, Eq)]
@@ -68,8 +105,16 @@ pub enum BinaryOp {
 }
 
 /// `first .. last`.
-#[derive(Drop)]
 pub struct Bounds {
     pub first: Expr,
     pub last: Expr,
+}
+
+impl Drop for Bounds {
+    fn drop(self) {
+        let Bounds {
+            first: _first,
+            last: _last,
+        } = self;
+    }
 }

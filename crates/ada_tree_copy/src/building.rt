@@ -5,9 +5,9 @@ ghost use Rattle.ada_tree.specs.PlainExpr.{plain_expr, plain_subind, plain_drang
 ghost use Rattle.ada_tree.specs.PlainStmt.{plain_formal, plain_body};
 ghost use Rattle.ada_tree.specs.PlainDecl.{plain_shape, plain_init, plain_priority, plain_entry, plain_task, plain_decl, decls_of, OPlain, OArray, IOne, IList, IOthers, DNumber, DObject, DEnumeration, DArray, DSubtype, DException, DPragma, DTask, DTaskBody};
 ghost use Rattle.ada_tree.specs.PlainProgram.{plain_program};
-ghost use Rattle.ada_expr_copy.specs.Parts.{OkWith};
+ghost use Rattle.ada_stmt_copy.specs.expressions.Parts.{OkWith};
 
-use ada_expr_copy::{all, both};
+use ada_stmt_copy::expressions::{all, both};
 use ada_tree::{
     Body, Decl, DeclKind, Drange, EntryDecl, Expr, Formal, Init, Memory, Names, Priority, Program,
     Shape, Span, Subind, TaskUnit, Word,

@@ -8,7 +8,7 @@ use crate::TreeCopy;
 use crate::building::{
     array_shape_of, entry_of, list_of, one_of, others_of, plain_of, priority_of, unit_of,
 };
-use ada_expr_copy::{ExprCopy, copy_exprs, copy_formals, put, there};
+use ada_stmt_copy::expressions::{ExprCopy, copy_exprs, copy_formals, put, there};
 use ada_tree::{Drange, EntryDecl, Init, Memory, Priority, Shape, TaskUnit};
 use std::alloc::Global;
 

@@ -9,8 +9,8 @@ use crate::building::{
     task_body_of, task_of,
 };
 use crate::declaration_parts::copy_init;
-use ada_expr_copy::{ExprCopy, copy_words, put};
 use ada_stmt_copy::StmtCopy;
+use ada_stmt_copy::expressions::{ExprCopy, copy_words, put};
 use ada_tree::{Decl, DeclKind, Memory};
 use std::alloc::Global;
 

@@ -7,7 +7,7 @@ mod declaration_parts;
 mod declarations;
 mod whole;
 
-pub use ada_expr_copy::ExprCopy;
+pub use ada_stmt_copy::expressions::ExprCopy;
 pub use ada_stmt_copy::{StmtCopy, copy_stmts};
 pub use copying::TreeCopy;
 pub use declarations::copy_decls;

@@ -2,7 +2,7 @@
 use Rattle.std.proofs.Common.{ℕ, List, [], ◌∷◌}
 use Rattle.ada_tree.specs.PlainDecl.{decls_of, plain_decl}
 use Rattle.ada_tree.specs.Same.{SameDecl, SameDecls}
-use Rattle.ada_stmt_same.proofs.SameRows.{Zipped, More, AtPlace, AsLong, more, at_place, as_long}
+use Rattle.ada_tree_same.proofs.statements.SameRows.{Zipped, More, AtPlace, AsLong, more, at_place, as_long}
 
 decls_zipped : (n m : List (List ℕ)) → Zipped (SameDecl n m) decls_of (SameDecls n m)
 decls_zipped n m [] [] = (λ h. h, λ h. h)

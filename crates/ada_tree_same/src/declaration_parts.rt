@@ -5,7 +5,9 @@ ghost use Rattle.std.specs.List.{AllZip};
 ghost use Rattle.ada_tree.specs.PlainDecl.{plain_shape, plain_init, plain_priority, plain_entry, plain_task};
 ghost use Rattle.ada_tree.specs.Same.{SameOption, SameShape, SameInit, SamePriority, SameEntry, SameTask};
 
-use ada_expr_same::{same_drange, same_expr, same_exprs, same_formals, same_subind, same_word};
+use crate::expressions::{
+    same_drange, same_expr, same_exprs, same_formals, same_subind, same_word,
+};
 use ada_tree::{EntryDecl, Init, Names, Priority, Shape, TaskUnit};
 
 pub(crate) fn same_shape(left: &Names, right: &Names, a: &Shape, b: &Shape) -> bool

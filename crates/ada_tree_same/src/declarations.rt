@@ -5,11 +5,11 @@ ghost use Rattle.ada_tree.specs.PlainDecl.{plain_decl, decls_of};
 ghost use Rattle.ada_tree.specs.Same.{SameDecl, SameDecls};
 
 use crate::declaration_parts::{same_inits, same_shape, same_task};
-use ada_expr_same::{same_drange, same_expr, same_subind, same_word, same_words};
-use ada_stmt_same::same_body;
+use crate::expressions::{same_drange, same_expr, same_subind, same_word, same_words};
+use crate::statements::same_body;
 use ada_tree::{Decl, DeclKind, Names};
 
-#[cycle(same)]
+#[cycle(same_decl)]
 fn same_decl(left: &Names, right: &Names, a: &Decl, b: &Decl) -> bool
     ensures { IsTrue result ↔ SameDecl left.now right.now (plain_decl a.now) (plain_decl b.now) }
 {
@@ -99,7 +99,7 @@ fn same_decl(left: &Names, right: &Names, a: &Decl, b: &Decl) -> bool
     }
 }
 
-#[cycle(same)]
+#[cycle(same_decl)]
 #[tactic(auto, using(crate::proofs::SameRows::same_decls))]
 pub(crate) fn same_decls(left: &Names, right: &Names, a: &[Decl], b: &[Decl]) -> bool
     ensures { IsTrue result ↔ SameDecls left.now right.now (decls_of (map plain_decl a.now)) (decls_of (map plain_decl b.now)) }

@@ -1,8 +1,10 @@
 // Whether two programs are the same: equal but for places, names compared by their texts. It takes no memory.
-#![tactic(auto, using(ada_expr_same::proofs::SameLemmas::places, ada_tree::proofs::Rows::rows))]
+#![tactic(auto, using(crate::proofs::expressions::SameLemmas::places, ada_tree::proofs::Rows::rows))]
 
 mod declaration_parts;
 mod declarations;
+pub mod expressions;
+pub mod statements;
 mod whole;
 
 pub use whole::TreeSame;

@@ -5,8 +5,8 @@ ghost use Rattle.ada_tree.specs.PlainProgram.{plain_program};
 ghost use Rattle.ada_tree.specs.Same.{Same};
 
 use crate::declarations::same_decls;
-use ada_expr_same::same_word;
-use ada_stmt_same::same_body;
+use crate::expressions::same_word;
+use crate::statements::same_body;
 use ada_tree::Program;
 
 /// Programs that are compared.

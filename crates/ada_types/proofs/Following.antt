@@ -7,23 +7,23 @@ use Rattle.ada_tree.specs.declared.naming.Word.{Word}
 use Rattle.ada_tree.specs.declared.declarations.Decl.{Decl}
 use Rattle.ada_tree.specs.declared.declarations.DeclKind.{DeclKind, Number, Object, Enumeration, Array, Subtype, Exception, IntIo, Pragma, Task, TaskBody'}
 use Rattle.ada_tree.specs.PlainDecl.{PDecl, DNumber, DObject, DEnumeration, DArray, DSubtype, DException, DIntIo, DPragma, DTask, DTaskBody, PDecls, no_decl, decl_then, decls_of, decl_at, plain_decl}
-use Rattle.ada_tree.specs.Refusals.{Refusal}
-use Rattle.ada_tree.specs.Scope.{Scope, Thing, EntryPart, meaning}
-use Rattle.ada_tree.specs.Demand.{Site}
-use Rattle.ada_tree.specs.Declaring.{with_name, with_names, seen_as, in_body, own_entries, after_own_object, after_objects, after_decl, after_decls}
-use Rattle.ada_tree.specs.Sites.{own_object_sites, own_sites, decl_sites, decls_sites}
-use Rattle.ada_refusals.specs.Sooner.{sooner}
-use Rattle.ada_refusals.specs.RefusedFirst.{refused_first}
+use Rattle.ada_static_rules.specs.Refusals.{Refusal}
+use Rattle.ada_static_rules.specs.Scope.{Scope, Thing, EntryPart, meaning}
+use Rattle.ada_static_rules.specs.Demand.{Site}
+use Rattle.ada_static_rules.specs.Declaring.{with_name, with_names, seen_as, in_body, own_entries, after_own_object, after_objects, after_decl, after_decls}
+use Rattle.ada_static_rules.specs.Sites.{own_object_sites, own_sites, decl_sites, decls_sites}
+use Rattle.ada_static_rules.specs.Sooner.{sooner}
+use Rattle.ada_static_rules.specs.RefusedFirst.{refused_first}
 use Rattle.ada_scopes.specs.Nested.{IsOuter, IsOutside, IsWithin}
-use Rattle.ada_duplicates.specs.NamedSoFar.{is_of_tasks}
+use Rattle.ada_decl_rules.specs.duplicates.NamedSoFar.{is_of_tasks}
 use Rattle.ada_types.specs.inner.Decls.{IsDecl, AreDecls, after_body}
 use Rattle.ada_scopes.specs.declared.scope.Outer.{Outer}
 use Rattle.ada_scopes.specs.declared.scope.Outside.{Outside}
 use Rattle.ada_types.specs.declared.walked_decls.WalkedDecl.{WalkedDecl}
 use Rattle.ada_types.specs.declared.walked_decls.WalkedDecls.{WalkedDecls}
-use Rattle.ada_refusals.proofs.SoonerLaws.{sooner_assoc}
-use Rattle.ada_refusals.proofs.Meeting.{met_none, met_append}
-use Rattle.ada_refusals.proofs.Listing.{ended}
+use Rattle.ada_static_rules.proofs.SoonerLaws.{sooner_assoc}
+use Rattle.ada_static_rules.proofs.Meeting.{met_none, met_append}
+use Rattle.ada_static_rules.proofs.Listing.{ended}
 use Rattle.common_lemmas.proofs.Numbers.{within_sum}
 use Rattle.common_lemmas.proofs.Lists.{rest_at}
 

@@ -3,7 +3,7 @@ use Rattle.std.specs.Prelude.{◌≡◌, ℕ, ◌+◌, ◌≤◌, List, [], ◌�
 use Rattle.std.specs.declared.alloc.Global.{Global}
 use Rattle.std.proofs.Common.{sym, ap, ◌∙◌, get_or}
 use Rattle.std.proofs.lemmas.List.{append-nil}
-use Rattle.ada_tree.specs.Refusals.{Refusal}
+use Rattle.ada_static_rules.specs.Refusals.{Refusal}
 use Rattle.ada_tree.specs.declared.naming.Word.{Word}
 use Rattle.ada_tree.specs.declared.naming.Span.{Span}
 use Rattle.ada_tree.specs.declared.statements.Stmt.{Stmt}
@@ -13,21 +13,21 @@ use Rattle.ada_tree.specs.declared.statements.Arm.{Arm, out-Arm}
 use Rattle.ada_tree.specs.declared.statements.Handler.{Handler, out-Handler}
 use Rattle.ada_tree.specs.declared.statements.Accept.{Accept, out-Accept}
 use Rattle.ada_tree.proofs.Rows.{plain_arm-out, plain_handler-out, plain_accept-out}
-use Rattle.ada_tree.specs.ExprTypes.{kind_of}
-use Rattle.ada_tree.specs.RuleChoiceBad.{selected_range}
+use Rattle.ada_static_rules.specs.ExprTypes.{kind_of}
+use Rattle.ada_static_rules.specs.RuleChoiceBad.{selected_range}
 use Rattle.ada_scopes.specs.Entries.{plain_range}
 use Rattle.ada_types.specs.declared.statements.CaseHead.{CaseHead}
 use Rattle.ada_tree.specs.PlainExpr.{PExpr, plain_expr}
 use Rattle.ada_tree.specs.PlainStmt.{PCall, PHead, SCase, accepting, absent, present, maybe_of, plain_stmt, plain_formal, plain_accept, plain_arm, plain_case_arm, plain_handler, PStmt, PAlt, alternative, PArm, arm, PCaseArm, case_arm, PHandler, handler, stmts_of, alts_of, arms_of, case_arms_of, handlers_of}
-use Rattle.ada_tree.specs.Scope.{Scope, Range}
-use Rattle.ada_tree.specs.Declaring.{inner_scope, with_formals}
-use Rattle.ada_tree.specs.Demand.{Site, names_exception, handles, chooses}
-use Rattle.ada_tree.specs.Sites.{expr_sites, arm_choices, head_sites, accept_sites, call_sites, site, if_there, condition_sites, stmt_sites, stmts_sites, alt_sites, alts_sites, arms_sites, choice_sites, case_arms_sites, handler_names_sites, handlers_sites, with_words}
-use Rattle.ada_refusals.specs.RefusedFirst.{refused_first, refused_first_at}
-use Rattle.ada_refusals.specs.Sooner.{sooner}
+use Rattle.ada_static_rules.specs.Scope.{Scope, Range}
+use Rattle.ada_static_rules.specs.Declaring.{inner_scope, with_formals}
+use Rattle.ada_static_rules.specs.Demand.{Site, names_exception, handles, chooses}
+use Rattle.ada_static_rules.specs.Sites.{expr_sites, arm_choices, head_sites, accept_sites, call_sites, site, if_there, condition_sites, stmt_sites, stmts_sites, alt_sites, alts_sites, arms_sites, choice_sites, case_arms_sites, handler_names_sites, handlers_sites, with_words}
+use Rattle.ada_static_rules.specs.RefusedFirst.{refused_first, refused_first_at}
+use Rattle.ada_static_rules.specs.Sooner.{sooner}
 use Rattle.ada_types.specs.inner.SitesOfMembers.{each_alt, each_arm, each_case_arm, exception_sites, each_handler, IsCaseHead}
-use Rattle.ada_refusals.proofs.Meeting.{joined, met_cons, met_one, met_append}
-use Rattle.ada_refusals.proofs.Listing.{met_more, taken}
+use Rattle.ada_static_rules.proofs.Meeting.{joined, met_cons, met_one, met_append}
+use Rattle.ada_static_rules.proofs.Listing.{met_more, taken}
 
 -- ---- lists of the tree, by the places of each member
 

@@ -5,14 +5,14 @@ use Rattle.std.proofs.lemmas.List.{map_more}
 use Rattle.ada_tree.specs.declared.naming.NameId.{NameId}
 use Rattle.ada_tree.specs.declared.naming.Word.{Word}
 use Rattle.ada_tree.specs.PlainDecl.{PTask}
-use Rattle.ada_tree.specs.Declaring.{with_name, entry_part, task_thing, after_task}
-use Rattle.ada_tree.specs.Refusals.{Refusal}
-use Rattle.ada_tree.specs.Scope.{Scope, Thing, EntryPart as PlainEntry, integer_kind}
-use Rattle.ada_tree.specs.Demand.{gives_body, makes_instance, Site}
-use Rattle.ada_tree.specs.Sites.{site, static_of, names_sites, entries_sites, task_sites}
-use Rattle.ada_refusals.specs.Sooner.{sooner}
-use Rattle.ada_refusals.specs.RefusedFirst.{refused_first_at, refused_first}
-use Rattle.ada_refusals.proofs.Meeting.{met_cons, joined, before}
+use Rattle.ada_static_rules.specs.Declaring.{with_name, entry_part, task_thing, after_task}
+use Rattle.ada_static_rules.specs.Refusals.{Refusal}
+use Rattle.ada_static_rules.specs.Scope.{Scope, Thing, EntryPart as PlainEntry, integer_kind}
+use Rattle.ada_static_rules.specs.Demand.{gives_body, makes_instance, Site}
+use Rattle.ada_static_rules.specs.Sites.{site, static_of, names_sites, entries_sites, task_sites}
+use Rattle.ada_static_rules.specs.Sooner.{sooner}
+use Rattle.ada_static_rules.specs.RefusedFirst.{refused_first_at, refused_first}
+use Rattle.ada_static_rules.proofs.Meeting.{met_cons, joined, before}
 use Rattle.ada_types.proofs.TypeDecls.{behind_names}
 
 pub task_met : (scope : Scope) (t : PTask) (p q : Option Refusal) → p ≡ refused_first (entries_sites scope [] t.entries) → q ≡ refused_first (flat_map (λ x. static_of scope (Some integer_kind) x.value) t.priorities)

@@ -4,20 +4,20 @@ use Rattle.std.proofs.Common.{ap, ◌∙◌}
 use Rattle.ada_tree.specs.declared.naming.Word.{Word}
 use Rattle.ada_tree.specs.PlainExpr.{PExpr, PDrange, PSubind}
 use Rattle.ada_tree.specs.TypeTable.{TypeTable}
-use Rattle.ada_tree.specs.Refusals.{Refusal}
-use Rattle.ada_tree.specs.Scope.{Scope, Thing, ConstantObject, Range, integer_kind, range_of_mark, and_then}
-use Rattle.ada_tree.specs.Demand.{Site}
-use Rattle.ada_tree.specs.Declaring.{Made, with_name, with_types, add_constants, type_of_mark, after_type, made_array, made_named_array, made_subind, made_subtype, renamed, drange_range}
-use Rattle.ada_tree.specs.Sites.{names_sites}
-use Rattle.ada_refusals.specs.RefusedFirst.{refused_first}
+use Rattle.ada_static_rules.specs.Refusals.{Refusal}
+use Rattle.ada_static_rules.specs.Scope.{Scope, Thing, ConstantObject, Range, integer_kind, range_of_mark, and_then}
+use Rattle.ada_static_rules.specs.Demand.{Site}
+use Rattle.ada_static_rules.specs.Declaring.{Made, with_name, with_types, add_constants, type_of_mark, after_type, made_array, made_named_array, made_subind, made_subtype, renamed, drange_range}
+use Rattle.ada_static_rules.specs.Sites.{names_sites}
+use Rattle.ada_static_rules.specs.RefusedFirst.{refused_first}
 use Rattle.ada_expr_rules.specs.Known.{value_in}
 use Rattle.ada_expr_rules.specs.Walked.{IsWalked}
 use Rattle.ada_scopes.specs.Makings.{IsMade}
 use Rattle.ada_types.specs.inner.Decls.{after_number}
 use Rattle.ada_expr_rules.specs.declared.known.Known.{Known}
 use Rattle.ada_expr_rules.specs.declared.walking.Walked.{Walked}
-use Rattle.ada_refusals.proofs.Meeting.{joined}
-use Rattle.ada_refusals.proofs.Meeting.{names_met}
+use Rattle.ada_static_rules.proofs.Meeting.{joined}
+use Rattle.ada_static_rules.proofs.Meeting.{names_met}
 use Rattle.ada_expr_rules.proofs.Knowing.{value_known, known_walked}
 
 -- what is made behind what was made

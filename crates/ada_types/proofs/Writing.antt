@@ -7,25 +7,25 @@ use Rattle.ada_tree.specs.declared.naming.Span.{Span}
 use Rattle.ada_tree.specs.PlainExpr.{PExpr, EInteger, EName, EIndex, EAttribute, EAttributeOf, EParen, EUnary, EBinary}
 use Rattle.ada_tree.specs.PlainStmt.{PPart, PWords, PValue}
 use Rattle.ada_tree.specs.Attributes.{Attribute, First, Last, Pos, Val, Succ, Pred, Image, NoAttribute, attribute_of, is_image}
-use Rattle.ada_tree.specs.Refusals.{Refusal}
-use Rattle.ada_tree.specs.Scope.{Scope, integer_kind, scalar_kind, marking}
-use Rattle.ada_tree.specs.ExprTypes.{kind_of, attribute_kind, expr_place, nodes}
-use Rattle.ada_tree.specs.Demand.{node, whole, is_written, must_be_of}
-use Rattle.ada_tree.specs.StaticValue.{is_static, value_of}
-use Rattle.ada_tree.specs.RuleUnknown.{unknown_in_node}
-use Rattle.ada_tree.specs.RuleMismatch.{mismatch_in_node}
-use Rattle.ada_tree.specs.RuleReadOut.{read_name}
-use Rattle.ada_tree.specs.RuleArgCount.{arg_count_in_node}
-use Rattle.ada_tree.specs.RuleArrayUse.{array_in_node}
-use Rattle.ada_tree.specs.RuleRangeBad.{raised, raises}
-use Rattle.ada_tree.specs.RuleTextUse.{is_image_of, is_fit_part}
-use Rattle.ada_tree.specs.Sites.{site, expr_sites, part_nodes, plain_part_sites, part_sites}
-use Rattle.ada_refusals.specs.Sooner.{sooner, found}
-use Rattle.ada_refusals.specs.RefusedFirst.{refused_first_at, refused_first}
+use Rattle.ada_static_rules.specs.Refusals.{Refusal}
+use Rattle.ada_static_rules.specs.Scope.{Scope, integer_kind, scalar_kind, marking}
+use Rattle.ada_static_rules.specs.ExprTypes.{kind_of, attribute_kind, expr_place, nodes}
+use Rattle.ada_static_rules.specs.Demand.{node, whole, is_written, must_be_of}
+use Rattle.ada_static_rules.specs.StaticValue.{is_static, value_of}
+use Rattle.ada_static_rules.specs.RuleUnknown.{unknown_in_node}
+use Rattle.ada_static_rules.specs.RuleMismatch.{mismatch_in_node}
+use Rattle.ada_static_rules.specs.RuleReadOut.{read_name}
+use Rattle.ada_static_rules.specs.RuleArgCount.{arg_count_in_node}
+use Rattle.ada_static_rules.specs.RuleArrayUse.{array_in_node}
+use Rattle.ada_static_rules.specs.RuleRangeBad.{raised, raises}
+use Rattle.ada_static_rules.specs.RuleTextUse.{is_image_of, is_fit_part}
+use Rattle.ada_static_rules.specs.Sites.{site, expr_sites, part_nodes, plain_part_sites, part_sites}
+use Rattle.ada_static_rules.specs.Sooner.{sooner, found}
+use Rattle.ada_static_rules.specs.RefusedFirst.{refused_first_at, refused_first}
 use Rattle.ada_expr_rules.specs.Judged.{parts_met}
 use Rattle.ada_types.specs.inner.Written.{written_sites}
-use Rattle.ada_refusals.proofs.SoonerLaws.{sooner_none}
-use Rattle.ada_refusals.proofs.Meeting.{met_none, met_one, met_cons, joined, before}
+use Rattle.ada_static_rules.proofs.SoonerLaws.{sooner_none}
+use Rattle.ada_static_rules.proofs.Meeting.{met_none, met_one, met_cons, joined, before}
 use Rattle.ada_expr_rules.proofs.Expressions.{parts_are_met}
 
 -- a node that is not 'IMAGE is refused in a text for what it is refused for elsewhere

@@ -3,12 +3,12 @@
 ghost use Rattle.std.specs.Prelude.{◌≡◌, ◌++◌, false, map, Some, OnOk, IfOk};
 ghost use Rattle.ada_tree.specs.PlainExpr.{plain_expr};
 ghost use Rattle.ada_tree.specs.PlainDecl.{plain_decl, decls_of};
-ghost use Rattle.ada_tree.specs.Scope.{AnException, integer_kind};
-ghost use Rattle.ada_tree.specs.Declaring.{with_names, after_decl, after_decls};
-ghost use Rattle.ada_tree.specs.Sites.{static_of, decl_sites, decls_sites};
-ghost use Rattle.ada_refusals.specs.RefusedFirst.{refused_first};
-ghost use Rattle.ada_duplicates.specs.NamingsInOrder.{namings_of};
-ghost use Rattle.ada_duplicates.specs.NamedSoFar.{AreAt, is_of_tasks};
+ghost use Rattle.ada_static_rules.specs.Scope.{AnException, integer_kind};
+ghost use Rattle.ada_static_rules.specs.Declaring.{with_names, after_decl, after_decls};
+ghost use Rattle.ada_static_rules.specs.Sites.{static_of, decl_sites, decls_sites};
+ghost use Rattle.ada_static_rules.specs.RefusedFirst.{refused_first};
+ghost use Rattle.ada_decl_rules.specs.duplicates.NamingsInOrder.{namings_of};
+ghost use Rattle.ada_decl_rules.specs.duplicates.NamedSoFar.{AreAt, is_of_tasks};
 ghost use Rattle.ada_types.specs.inner.Decls.{IsDecl, AreDecls, instance_made};
 
 use crate::enumerations::declare_enumeration;
@@ -16,13 +16,13 @@ use crate::named_types::{walk_array_type, walk_number, walk_subtype};
 use crate::task_bodies::walk_task_body;
 use crate::tasks::walk_task;
 use crate::walked_decls::{WalkedDecl, WalkedDecls};
-use ada_duplicates::named_so_far::Notes;
+use ada_decl_rules::duplicates::named_so_far::Notes;
+use ada_decl_rules::objects::objects::{declare_all, walk_objects};
 use ada_expr_rules::kinds::INTEGER;
 use ada_expr_rules::walking::walk_static;
-use ada_object_rules::objects::{declare_all, walk_objects};
-use ada_refusals::refusals::{Refusal, first};
 use ada_scopes::denotations::Thing;
 use ada_scopes::scope::Scope;
+use ada_static_rules::refusals::{Refusal, first};
 use ada_tree::{Decl, DeclKind, Expr, Word};
 use std::alloc::{AllocError, Global};
 

@@ -2,10 +2,10 @@
 
 ghost use Rattle.std.specs.Prelude.{◌≡◌, ◌-ℤ◌, pos, length, map, Some, IfOk, OnOk};
 ghost use Rattle.ada_tree.specs.declared.static_types.Kind.TheVariants.{Enumeration};
-ghost use Rattle.ada_tree.specs.Scope.{Literal, TypeMark};
-ghost use Rattle.ada_tree.specs.Declaring.{add_kind, add_mark, after_enumeration, with_name, with_names, with_types};
+ghost use Rattle.ada_static_rules.specs.Scope.{Literal, TypeMark};
+ghost use Rattle.ada_static_rules.specs.Declaring.{add_kind, add_mark, after_enumeration, with_name, with_names, with_types};
 
-use ada_object_rules::objects::declare_all;
+use ada_decl_rules::objects::objects::declare_all;
 use ada_scopes::denotations::Thing;
 use ada_scopes::scope::Scope;
 use ada_tree::{Kind, Literals, Mark, NameId, Word};

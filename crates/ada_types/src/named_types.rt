@@ -2,23 +2,23 @@
 
 ghost use Rattle.std.specs.Prelude.{◌≡◌, ◌++◌, ◌∷◌, [], true, false, Some, option_map, IfOk};
 ghost use Rattle.ada_tree.specs.PlainExpr.{plain_expr, plain_drange, plain_subind};
-ghost use Rattle.ada_tree.specs.Scope.{integer_kind, and_then, range_of_mark};
-ghost use Rattle.ada_tree.specs.Demand.{scalar_only};
-ghost use Rattle.ada_tree.specs.Declaring.{with_types, type_of_mark, add_constants, after_type, made_named_array, made_subtype};
-ghost use Rattle.ada_tree.specs.Sites.{names_sites, static_of, drange_sites, subind_sites};
+ghost use Rattle.ada_static_rules.specs.Scope.{integer_kind, and_then, range_of_mark};
+ghost use Rattle.ada_static_rules.specs.Demand.{scalar_only};
+ghost use Rattle.ada_static_rules.specs.Declaring.{with_types, type_of_mark, add_constants, after_type, made_named_array, made_subtype};
+ghost use Rattle.ada_static_rules.specs.Sites.{names_sites, static_of, drange_sites, subind_sites};
 ghost use Rattle.ada_scopes.specs.Denotations.{plain_thing};
 ghost use Rattle.ada_scopes.specs.Entries.{plain_range};
 ghost use Rattle.ada_types.specs.inner.Decls.{IsDecl, after_number};
 
 use crate::walked_decls::WalkedDecl;
+use ada_decl_rules::objects::making::{bound, make, make_array, make_subtype};
 use ada_expr_rules::kinds::INTEGER;
 use ada_expr_rules::marks::MarkUse;
 use ada_expr_rules::ranges::{walk_range, walk_subind};
 use ada_expr_rules::walking::walk_static;
-use ada_object_rules::making::{bound, make, make_array, make_subtype};
-use ada_refusals::refusals::first;
 use ada_scopes::denotations::{Range, Thing};
 use ada_scopes::scope::Scope;
+use ada_static_rules::refusals::first;
 use ada_tree::{Constant, Drange, Expr, Subind, Word};
 use std::alloc::AllocError;
 

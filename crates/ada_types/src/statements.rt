@@ -1,30 +1,30 @@
 // What the rules but Duplicate refuse first in statements. Lists are gone through by loops, so recursion follows nesting alone.
-#![tactic(auto, using(ada_refusals::proofs::Listing::lists, ada_tree::proofs::Rows::rows))]
+#![tactic(auto, using(ada_static_rules::proofs::Listing::lists, ada_tree::proofs::Rows::rows))]
 
 ghost use Rattle.std.specs.Prelude.{◌≡◌, ◌++◌, ◌∷◌, [], ℕ, false, List, OnOk, IfOk, map, flat_map, option_map};
 ghost use Rattle.ada_tree.specs.PlainExpr.{plain_expr, plain_drange};
 ghost use Rattle.ada_tree.specs.PlainStmt.{plain_target, plain_callee, plain_part, plain_scheme, plain_accept, plain_alt, plain_alt_kind, plain_arm, plain_case_arm, plain_handler, plain_body, plain_stmt, plain_formal, stmts_of, alts_of, arms_of, case_arms_of, handlers_of};
-ghost use Rattle.ada_tree.specs.RuleMismatch.{target_kind};
-ghost use Rattle.ada_tree.specs.Demand.{names_exception, chooses};
-ghost use Rattle.ada_tree.specs.Declaring.{with_formals, with_loop_parameter, inner_scope};
-ghost use Rattle.ada_tree.specs.Sites.{site, expr_sites, arm_choices, if_there, condition_sites, target_sites, expr_of, callee_sites, part_sites, drange_sites, handler_names_sites, stmt_sites, stmts_sites, accept_sites, alts_sites, alt_sites, arms_sites, case_arms_sites, body_sites, handlers_sites, scheme_sites, loop_scope};
-ghost use Rattle.ada_refusals.specs.RefusedFirst.{refused_first, refused_first_at};
+ghost use Rattle.ada_static_rules.specs.RuleMismatch.{target_kind};
+ghost use Rattle.ada_static_rules.specs.Demand.{names_exception, chooses};
+ghost use Rattle.ada_static_rules.specs.Declaring.{with_formals, with_loop_parameter, inner_scope};
+ghost use Rattle.ada_static_rules.specs.Sites.{site, expr_sites, arm_choices, if_there, condition_sites, target_sites, expr_of, callee_sites, part_sites, drange_sites, handler_names_sites, stmt_sites, stmts_sites, accept_sites, alts_sites, alt_sites, arms_sites, case_arms_sites, body_sites, handlers_sites, scheme_sites, loop_scope};
+ghost use Rattle.ada_static_rules.specs.RefusedFirst.{refused_first, refused_first_at};
 ghost use Rattle.ada_scopes.specs.Entries.{plain_range};
 ghost use Rattle.ada_types.specs.inner.SitesOfMembers.{each_alt, each_arm, each_case_arm, each_handler, IsCaseHead};
 
 use crate::written_parts::walk_part;
-use ada_choices::choices::{refuse_choices, selected_values, walk_choices};
 use ada_entry_rules::accept_heads::walk_head;
 use ada_entry_rules::callees::walk_callee;
 use ada_entry_rules::calls::walk_call;
+use ada_entry_rules::case_choices::choices::{refuse_choices, selected_values, walk_choices};
 use ada_entry_rules::targets::{walk_get, walk_target};
 use ada_expr_rules::kinds::TRUTH;
 use ada_expr_rules::ranges::walk_range;
 use ada_expr_rules::walking::{walk, walk_of};
-use ada_refusals::refusals::{Refusal, Rule, first, refuse};
 use ada_scopes::denotations::{Range, Thing};
 use ada_scopes::formals::{declare_formals, parameter};
 use ada_scopes::scope::Scope;
+use ada_static_rules::refusals::{Refusal, Rule, first, refuse};
 use ada_tree::{
     Accept, Alt, AltKind, Arm, Body, Call, Callee, CaseArm, Drange, Expr, Formal, Handler, Part,
     Scheme, Span, Stmt, StmtKind, Target, Word,

@@ -3,20 +3,20 @@
 ghost use Rattle.std.specs.Prelude.{◌≡◌, ◌∷◌, ◌++◌, [], false, map, OnOk, IfOk};
 ghost use Rattle.ada_tree.specs.PlainStmt.{plain_body};
 ghost use Rattle.ada_tree.specs.PlainDecl.{plain_decl, decls_of};
-ghost use Rattle.ada_tree.specs.Scope.{meaning, entries_of};
-ghost use Rattle.ada_tree.specs.Demand.{gives_body};
-ghost use Rattle.ada_tree.specs.Declaring.{inner_scope, in_body, own_entries, after_own_object, after_objects};
-ghost use Rattle.ada_tree.specs.Sites.{site, own_object_sites, own_sites, body_sites};
-ghost use Rattle.ada_refusals.specs.RefusedFirst.{refused_first, refused_first_at};
+ghost use Rattle.ada_static_rules.specs.Scope.{meaning, entries_of};
+ghost use Rattle.ada_static_rules.specs.Demand.{gives_body};
+ghost use Rattle.ada_static_rules.specs.Declaring.{inner_scope, in_body, own_entries, after_own_object, after_objects};
+ghost use Rattle.ada_static_rules.specs.Sites.{site, own_object_sites, own_sites, body_sites};
+ghost use Rattle.ada_static_rules.specs.RefusedFirst.{refused_first, refused_first_at};
 ghost use Rattle.ada_scopes.specs.Denotations.{plain_thing};
 ghost use Rattle.ada_types.specs.inner.Decls.{IsDecl, AreDecls, after_body};
 
 use crate::statements::walk_body;
 use crate::walked_decls::{WalkedDecl, WalkedDecls};
-use ada_object_rules::objects::walk_objects;
-use ada_refusals::refusals::{Refusal, Rule, first, refuse};
+use ada_decl_rules::objects::objects::walk_objects;
 use ada_scopes::denotations::{Entries, Thing};
 use ada_scopes::scope::Scope;
+use ada_static_rules::refusals::{Refusal, Rule, first, refuse};
 use ada_tree::{Body, Decl, DeclKind, NameId, Word};
 use std::alloc::{AllocError, Global};
 use std::rc::Rc;

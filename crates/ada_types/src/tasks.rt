@@ -2,10 +2,10 @@
 
 ghost use Rattle.std.specs.Prelude.{◌≡◌, false, map, flat_map, Some, IfOk, OnOk};
 ghost use Rattle.ada_tree.specs.PlainDecl.{plain_priority, plain_task};
-ghost use Rattle.ada_tree.specs.Scope.{integer_kind};
-ghost use Rattle.ada_tree.specs.Declaring.{task_thing, with_name, after_task};
-ghost use Rattle.ada_tree.specs.Sites.{static_of, task_sites};
-ghost use Rattle.ada_refusals.specs.RefusedFirst.{refused_first};
+ghost use Rattle.ada_static_rules.specs.Scope.{integer_kind};
+ghost use Rattle.ada_static_rules.specs.Declaring.{task_thing, with_name, after_task};
+ghost use Rattle.ada_static_rules.specs.Sites.{static_of, task_sites};
+ghost use Rattle.ada_static_rules.specs.RefusedFirst.{refused_first};
 ghost use Rattle.ada_scopes.specs.Entries.{plain_entry};
 ghost use Rattle.ada_scopes.specs.Denotations.{plain_thing};
 ghost use Rattle.ada_types.specs.inner.Decls.{IsDecl};
@@ -14,9 +14,9 @@ use crate::walked_decls::WalkedDecl;
 use ada_entry_rules::entries::walk_entries;
 use ada_expr_rules::kinds::INTEGER;
 use ada_expr_rules::walking::walk_static;
-use ada_refusals::refusals::{Refusal, first};
 use ada_scopes::denotations::{Entries, EntryPart, Thing};
 use ada_scopes::scope::Scope;
+use ada_static_rules::refusals::{Refusal, first};
 use ada_tree::{EntryDecl, Priority, TaskUnit};
 use std::alloc::{AllocError, Global};
 use std::rc::Rc;

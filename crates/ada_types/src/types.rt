@@ -2,19 +2,19 @@
 
 ghost use Rattle.std.specs.Prelude.{◌≡◌, IfOk, IfErr};
 ghost use Rattle.ada_tree.specs.PlainProgram.{plain_program};
-ghost use Rattle.ada_tree.specs.Declaring.{first_scope};
-ghost use Rattle.ada_tree.specs.Refusals.{MeetsTypeRules, types_in};
-ghost use Rattle.ada_refusals.specs.Telling.{TellsFirst};
+ghost use Rattle.ada_static_rules.specs.Declaring.{first_scope};
+ghost use Rattle.ada_static_rules.specs.Refusals.{MeetsTypeRules, types_in};
+ghost use Rattle.ada_static_rules.specs.Telling.{TellsFirst};
 ghost use Rattle.ada_types.specs.inner.Decls.{IsProgram};
 
 use crate::declarations::walk_decls;
 use crate::task_bodies::walk_inside;
-use ada_duplicates::named_so_far::Notes;
-use ada_refusals::errors::TypeError;
-use ada_refusals::refusals::{Refusal, first};
-use ada_refusals::verdicts::verdict;
+use ada_decl_rules::duplicates::named_so_far::Notes;
 use ada_scopes::denotations::Thing;
 use ada_scopes::scope::Scope;
+use ada_static_rules::errors::TypeError;
+use ada_static_rules::refusals::{Refusal, first};
+use ada_static_rules::verdicts::verdict;
 use ada_tree::{Program, Types, Word};
 use std::alloc::{AllocError, Global};
 

@@ -1,7 +1,7 @@
 // What is left behind declarations that were walked.
 
-use ada_refusals::refusals::Refusal;
 use ada_scopes::scope::Scope;
+use ada_static_rules::refusals::Refusal;
 
 /// What can be used behind a declaration, the first refusal at its places, and whether it is one of objects that are tasks.
 #[derive(Drop)]

@@ -4,11 +4,11 @@ ghost use Rattle.std.specs.Prelude.{◌≡◌, false, true};
 ghost use Rattle.ada_tree.specs.PlainExpr.{plain_expr, EAttribute, EAttributeOf};
 ghost use Rattle.ada_tree.specs.PlainStmt.{plain_part};
 ghost use Rattle.ada_tree.specs.Attributes.{attribute_of, is_image};
-ghost use Rattle.ada_tree.specs.ExprTypes.{kind_of};
-ghost use Rattle.ada_tree.specs.Demand.{is_written};
-ghost use Rattle.ada_tree.specs.RuleTextUse.{is_image_of, is_closed_image, is_fit_part};
-ghost use Rattle.ada_tree.specs.Sites.{part_sites, plain_part_sites};
-ghost use Rattle.ada_refusals.specs.RefusedFirst.{refused_first_at, refused_first};
+ghost use Rattle.ada_static_rules.specs.ExprTypes.{kind_of};
+ghost use Rattle.ada_static_rules.specs.Demand.{is_written};
+ghost use Rattle.ada_static_rules.specs.RuleTextUse.{is_image_of, is_closed_image, is_fit_part};
+ghost use Rattle.ada_static_rules.specs.Sites.{part_sites, plain_part_sites};
+ghost use Rattle.ada_static_rules.specs.RefusedFirst.{refused_first_at, refused_first};
 ghost use Rattle.ada_expr_rules.specs.Judged.{IsJudged};
 ghost use Rattle.ada_types.specs.inner.Written.{IsWritten};
 
@@ -16,8 +16,8 @@ use ada_expr_rules::judging::{Judged, judge, kind_of_bound};
 use ada_expr_rules::kinds::{INTEGER, attribute_named};
 use ada_expr_rules::nodes::{refuse_attribute, refuse_bound};
 use ada_expr_rules::walking::{place, refuse_kind, walk};
-use ada_refusals::refusals::{Refusal, Rule, first, refuse};
 use ada_scopes::scope::Scope;
+use ada_static_rules::refusals::{Refusal, Rule, first, refuse};
 use ada_tree::{Expr, ExprKind, Part, Span, Word};
 
 /// The kind of an expression that is a part of a text, and the first refusal of the whole and its parts.

@@ -8,7 +8,7 @@ use Rattle.std.proofs.lemmas.List.Concat.{flat_map-append}
 use Rattle.std.proofs.lemmas.List.Folds.{find-append}
 use Rattle.ada_tree.specs.declared.naming.NameId.{NameId}
 use Rattle.ada_tree.specs.declared.static_types.Kind.{Kind}
-use Rattle.ada_tree.specs.StaticValue.{first_of_two, position_in}
+use Rattle.ada_static_rules.specs.StaticValue.{first_of_two, position_in}
 use Rattle.ada_value.specs.Values.{placed, word}
 use Rattle.ada_value.specs.Evaluating.{literal_value}
 use Rattle.ada_tree.specs.TypeTable.{TypeTable}

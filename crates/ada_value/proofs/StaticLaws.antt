@@ -19,10 +19,10 @@ use Rattle.ada_tree.specs.declared.static_types.Constant.{Constant}
 use Rattle.ada_tree.specs.TypeTable.{TypeTable}
 use Rattle.ada_tree.specs.PlainExpr.{PExpr, EInteger, EName, EIndex, EAttribute, EAttributeOf, EParen, EUnary, EBinary}
 use Rattle.ada_tree.specs.Attributes.{Attribute, First, Last, Pos, Val, Succ, Pred, Image, NoAttribute, attribute_of, is_bound, false_name, true_name}
-use Rattle.ada_tree.specs.Scope.{mark_at}
-use Rattle.ada_tree.specs.StaticValue as static
-use Rattle.integer_division.specs.Modulus.{have_one_sign, modulus}
-use Rattle.ada_tree.specs.StaticValue.{is_integer_value, is_of_kind, is_static, keeps_static, value_of, mark_named, constant_named, literal_position, position_in, first_of_two, truth, then_do, named}
+use Rattle.ada_static_rules.specs.Scope.{mark_at}
+use Rattle.ada_static_rules.specs.StaticValue as static
+use Rattle.common_lemmas.specs.division.Modulus.{have_one_sign, modulus}
+use Rattle.ada_static_rules.specs.StaticValue.{is_integer_value, is_of_kind, is_static, keeps_static, value_of, mark_named, constant_named, literal_position, position_in, first_of_two, truth, then_do, named}
 use Rattle.ada_value.specs.declared.values.Value.{Value}
 use Rattle.ada_value.specs.declared.values.Value.TheVariants.{Number, Truth}
 use Rattle.ada_value.specs.declared.values.Raised.{Raised}

@@ -11,9 +11,9 @@ use Rattle.ada_tree.specs.declared.static_types.Constant.{Constant}
 use Rattle.ada_tree.specs.TypeTable.{TypeTable}
 use Rattle.ada_tree.specs.PlainExpr.{PExpr, EInteger, EName, EIndex, EAttribute, EAttributeOf, EParen, EUnary, EBinary, PBounds, PDrange, RGiven, RMarked}
 use Rattle.ada_tree.specs.Attributes.{Attribute, First, Last, Pos, Val, Succ, Pred, attribute_of, false_name, true_name}
-use Rattle.ada_tree.specs.Scope.{mark_at}
-use Rattle.ada_tree.specs.StaticValue.{constant_named, position_in, first_of_two}
-use Rattle.integer_division.specs.Modulus.{modulus}
+use Rattle.ada_static_rules.specs.Scope.{mark_at}
+use Rattle.ada_static_rules.specs.StaticValue.{constant_named, position_in, first_of_two}
+use Rattle.common_lemmas.specs.division.Modulus.{modulus}
 use Rattle.ada_value.specs.declared.values.Value.{Value}
 use Rattle.ada_value.specs.declared.values.Value.TheVariants.{Number, Truth}
 use Rattle.ada_value.specs.declared.values.Raised.{Raised}

@@ -4,3 +4,4 @@ pub mod Evaluating
 pub mod Texts
 pub mod StaticLaw
 pub mod inner
+pub mod put_text

@@ -5,8 +5,8 @@ use Rattle.ada_tree.specs.declared.static_types.Kind.{Kind}
 use Rattle.ada_tree.specs.declared.static_types.Kind.TheVariants as kind
 use Rattle.ada_tree.specs.TypeTable.{TypeTable}
 use Rattle.ada_tree.specs.PlainExpr.{PExpr, EInteger, EName, EIndex, EAttribute, EAttributeOf, EParen, EUnary, EBinary}
-use Rattle.ada_tree.specs.Scope.{mark_at}
-use Rattle.ada_tree.specs.StaticValue.{is_integer_value, is_static, value_of}
+use Rattle.ada_static_rules.specs.Scope.{mark_at}
+use Rattle.ada_static_rules.specs.StaticValue.{is_integer_value, is_static, value_of}
 use Rattle.ada_value.specs.declared.values.Value.{Value}
 use Rattle.ada_value.specs.declared.values.Raised.{Raised}
 use Rattle.ada_value.specs.Values.{position_of, value_at, limits_or}

@@ -6,8 +6,8 @@ use Rattle.ada_tree.specs.declared.static_types.Kind.{Kind}
 use Rattle.ada_tree.specs.declared.static_types.Kind.TheVariants as kind
 use Rattle.ada_tree.specs.declared.static_types.Mark.{Mark}
 use Rattle.ada_tree.specs.TypeTable.{TypeTable}
-use Rattle.ada_tree.specs.StaticValue.{is_integer_value, is_of_kind, mark_named}
-use Rattle.ada_tree.specs.Scope.{integer_kind, truth_kind}
+use Rattle.ada_static_rules.specs.StaticValue.{is_integer_value, is_of_kind, mark_named}
+use Rattle.ada_static_rules.specs.Scope.{integer_kind, truth_kind}
 pub use Rattle.ada_value.specs.declared.values.Limits.{Limits}
 use Rattle.ada_value.specs.declared.values.Value.{Value}
 use Rattle.ada_value.specs.declared.values.Value.TheVariants.{Number, Truth, Place}

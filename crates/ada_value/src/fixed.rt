@@ -1,7 +1,7 @@
 // What names mean that are no variables: literals, named numbers, constants, types and subtypes (3.2, 3.3, 3.5.1).
 
 ghost use Rattle.std.specs.Prelude.{◌≡◌, ◌==◌, ◌<◌, ◌^◌, pos, position, option_map, IfSome};
-ghost use Rattle.ada_tree.specs.StaticValue.{mark_named, constant_named, position_in};
+ghost use Rattle.ada_static_rules.specs.StaticValue.{mark_named, constant_named, position_in};
 ghost use Rattle.ada_value.specs.Values.{placed, word, limits_named};
 ghost use Rattle.ada_value.specs.Evaluating.{literal_value, constant_value, fixed_value};
 

@@ -9,6 +9,7 @@ mod fixed;
 mod inputs;
 mod naming;
 mod operators;
+pub mod put_text;
 mod scoped;
 mod static_law;
 mod subtypes;

@@ -1,14 +1,14 @@
 // The operators, at the values of their operands (4.5).
 
 ghost use Rattle.std.specs.Prelude.{◌≡◌, ◌+ℤ◌, ◌-ℤ◌, ◌*ℤ◌, neg_ℤ, int_div, if◌then◌else◌};
-ghost use Rattle.integer_division.specs.Modulus.{modulus};
+ghost use Rattle.common_lemmas.specs.division.Modulus.{modulus};
 ghost use Rattle.ada_value.specs.Values.{and_then, fitted};
 ghost use Rattle.ada_value.specs.Evaluating.{unless_zero, combined, signed_value};
 
 use crate::subtypes::{is_true, position_of};
 use crate::{Raised, Value};
 use ada_tree::{BinaryOp, UnaryOp};
-use integer_division::{modulus, remainder};
+use common_lemmas::division::{modulus, remainder};
 
 const LEAST: i64 = -2147483648;
 

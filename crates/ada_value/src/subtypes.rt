@@ -3,8 +3,8 @@
 ghost use Rattle.std.specs.Prelude.{◌≡◌, ◌==◌, pos, Some, None, slice_get, FitsSigned};
 ghost use Rattle.std.specs.Bool.{OnTrue};
 ghost use Rattle.std.specs.Int.{w64};
-ghost use Rattle.ada_tree.specs.Scope.{mark_at};
-ghost use Rattle.ada_tree.specs.StaticValue.{is_of_kind};
+ghost use Rattle.ada_static_rules.specs.Scope.{mark_at};
+ghost use Rattle.ada_static_rules.specs.StaticValue.{is_of_kind};
 ghost use Rattle.ada_value.specs.Values.{position_of, is_true_value, number, word, placed, value_at, based, limits_of, limits_or, integer_limits, truth_limits, limits_of_kind, lies_in, is_empty_range, lower_bound, checked, place_in};
 ghost use Rattle.ada_value.specs.Variables.{form_of_kind, form_of_mark, place_among};
 ghost use Rattle.ada_value.specs.inner.Bindings.{form_or};

@@ -2,6 +2,7 @@
 #![tactic(auto)]
 
 mod escapes;
+pub mod outside;
 mod questions;
 mod stage;
 mod texts;

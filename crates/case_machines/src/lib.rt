@@ -2,6 +2,7 @@
 #![tactic(auto)]
 
 mod judging;
+pub mod rewritings;
 mod running;
 mod valuing;
 

@@ -5,9 +5,9 @@ use ada_tree::{
     Constant, Expr, Kind, Literals, Mark, Memory, Names, Program, Span, Stmt, StmtKind, Types,
 };
 use ada_types::{TypeError, static_value, types_of};
-use case_expressions::{place_of, put_name};
 use case_form::{Question, Text, put_comma};
-use case_programs::program_of;
+use case_texts::expressions::{place_of, put_name};
+use case_texts::programs::program_of;
 use std::alloc::Global;
 
 /// How the place of a refusal is told.

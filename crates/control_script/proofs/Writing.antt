@@ -6,7 +6,7 @@ use Rattle.std.proofs.lemmas.List.Elements.{filter-append}
 use Rattle.event_machine.specs.declared.Event.{Event}
 use Rattle.event_machine.specs.declared.Event.TheVariants.{R, E, S, D, C, T, F, X, B, Z}
 use Rattle.event_machine.specs.Worlds.{is_last}
-use Rattle.event_progress.specs.Known.{Known, party, put, part, let_go, fall, with_callers, with_server, is_closed, idle_parties, known_at_start, admits, suits, advanced}
+use Rattle.event_machine.specs.progress.Known.{Known, party, put, part, let_go, fall, with_callers, with_server, is_closed, idle_parties, known_at_start, admits, suits, advanced}
 use Rattle.control_script.specs.declared.Op.{Op}
 use Rattle.control_script.specs.declared.Op.TheVariants.{Hold}
 use Rattle.control_script.specs.Script.{open_tasks, to_close, operations, held, script_from, script}

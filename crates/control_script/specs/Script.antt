@@ -3,7 +3,7 @@ use Rattle.std.specs.Prelude.{ℕ, pos, not, ◌==◌, if◌then◌else◌, List
 use Rattle.std.specs.List.{filter, range_with_len}
 use Rattle.event_machine.specs.declared.Event.{Event}
 use Rattle.event_machine.specs.declared.Event.TheVariants.{R, E, S, D, C, T, F, X, B, Z}
-use Rattle.event_progress.specs.Known.{Known, is_closed, known_at_start, admits, advanced}
+use Rattle.event_machine.specs.progress.Known.{Known, is_closed, known_at_start, admits, advanced}
 use Rattle.control_script.specs.declared.Op.{Op}
 use Rattle.control_script.specs.declared.Op.TheVariants.{Go, Done, Join, Hold}
 

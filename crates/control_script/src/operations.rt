@@ -4,15 +4,19 @@ ghost use Rattle.std.specs.Prelude.{◌≡◌, ◌++◌, [], ◌∷◌, map, len
 ghost use Rattle.control_script.specs.declared.Op.TheVariants.{Go, Hold};
 ghost use Rattle.control_script.specs.Script.{open_tasks, to_close, after_abort, operations, script as script_of};
 ghost use Rattle.event_machine.specs.Worlds.{is_last};
-ghost use Rattle.event_progress.specs.Known.{is_closed};
+ghost use Rattle.event_machine.specs.progress.Known.{is_closed};
 ghost use Rattle.syn_event.specs.Numbering.{owner_of};
 
 use super::Op;
+use crate::kinds::{
+    KIND_ABORT, KIND_CALL_ELSE, KIND_COMPLETE, KIND_DELAY, KIND_ELSE, KIND_END, KIND_EXPIRE,
+    KIND_FAIL, KIND_FINISH, KIND_START,
+};
+use crate::progress::Progress;
 use ada_tree::Memory;
 use event_machine::Event;
 use std::alloc::Global;
 use syn_event::Numbers;
-use syn_progress::Progress;
 
 /// The script of a sequence: the operations of its events, in order, up to the first event that cannot come next by what the earlier ones tell. There, and
 /// where the sequence ends before the program does, `Hold` follows. It takes time linear in the events. The only error is want of memory.
@@ -63,16 +67,21 @@ fn put_operations(
     match *e {
         Event::R { c, e, i } => {
             let a = numbers.owner(e);
-            put_three(ops, go(c, 1, e, i), go(a, 1, e, i), Op::Done { task: a })
+            put_three(
+                ops,
+                go(c, KIND_START, e, i),
+                go(a, KIND_START, e, i),
+                Op::Done { task: a },
+            )
         }
-        Event::E { a } => put_two(ops, go(a, 2, 0, 0), Op::Done { task: a }),
-        Event::S { a } => put_two(ops, go(a, 3, 0, 0), Op::Done { task: a }),
-        Event::D { a, k } => put_two(ops, go(a, 4, k, 0), Op::Done { task: a }),
-        Event::C { c, e, i } => put_two(ops, go(c, 5, e, i), Op::Done { task: c }),
-        Event::T { c, e, i } => put_two(ops, go(c, 6, e, i), Op::Done { task: c }),
-        Event::F { c, e, i } => put_two(ops, go(c, 7, e, i), Op::Done { task: c }),
-        Event::X { a } => put_two(ops, go(a, 8, 0, 0), Op::Join { task: a }),
-        Event::B { t, x } => put_two(ops, go(t, 9, x, 0), after_abort(t, x)),
+        Event::E { a } => put_two(ops, go(a, KIND_FINISH, 0, 0), Op::Done { task: a }),
+        Event::S { a } => put_two(ops, go(a, KIND_ELSE, 0, 0), Op::Done { task: a }),
+        Event::D { a, k } => put_two(ops, go(a, KIND_DELAY, k, 0), Op::Done { task: a }),
+        Event::C { c, e, i } => put_two(ops, go(c, KIND_CALL_ELSE, e, i), Op::Done { task: c }),
+        Event::T { c, e, i } => put_two(ops, go(c, KIND_EXPIRE, e, i), Op::Done { task: c }),
+        Event::F { c, e, i } => put_two(ops, go(c, KIND_FAIL, e, i), Op::Done { task: c }),
+        Event::X { a } => put_two(ops, go(a, KIND_COMPLETE, 0, 0), Op::Join { task: a }),
+        Event::B { t, x } => put_two(ops, go(t, KIND_ABORT, x, 0), after_abort(t, x)),
         Event::Z => put_closing(ops, progress, numbers),
     }
 }
@@ -128,7 +137,7 @@ fn put_closing(ops: &mut Vec<Op>, progress: &Progress, numbers: &Numbers) -> Res
     for t in 1..count {
         put_close(ops, progress, t)?;
     }
-    ops.push(go(0, 10, 0, 0))?;
+    ops.push(go(0, KIND_END, 0, 0))?;
     Ok(())
 }
 
@@ -137,7 +146,7 @@ fn put_close(ops: &mut Vec<Op>, progress: &Progress, t: u32) -> Result<(), Memor
     ensures { OnOk result (ops.new.items ≡ ops.old.items ++ (if is_closed progress.now t then [] else to_close t ∷ [])) }
 {
     if !progress.closed(t) {
-        ops.push(go(t, 10, 0, 0))?;
+        ops.push(go(t, KIND_END, 0, 0))?;
     }
     Ok(())
 }

@@ -2,9 +2,9 @@
 use Rattle.std.proofs.Common.{◌≡◌, ℕ, List, [], ◌∷◌, ◌++◌, Option, Some, None, is_some, option_map, Result, Err, inl, inr, refl, sym, subst, true≢false}
 use Rattle.std.specs.Prelude.{option_to_list}
 use Rattle.ded_io.specs.Told.{ToldFile}
-use Rattle.debug_words.specs.Words.{Asked, AsksRun, AsksJudge, ChoiceSource, NoChoices, ChoicesIn, ChoicesBy}
-use Rattle.debug_words.specs.declared.command.NoWords.{NoWords}
-use Rattle.debug_words.specs.declared.command.NoWords.TheVariants.{NotText, Memory}
+use Rattle.debug_outcome.specs.words.Words.{Asked, AsksRun, AsksJudge, ChoiceSource, NoChoices, ChoicesIn, ChoicesBy}
+use Rattle.debug_outcome.specs.declared.words.command.NoWords.{NoWords}
+use Rattle.debug_outcome.specs.declared.words.command.NoWords.TheVariants.{NotText, Memory}
 use Rattle.debug_outcome.specs.Coming.{Never, Stops, Comes}
 use Rattle.debug_outcome.specs.Delivery.{Sides}
 use Rattle.debug_outcome.specs.Loads.{WereLoaded, AreUnloaded}
@@ -14,8 +14,8 @@ use Rattle.debug_outcome.specs.declared.refusal.Refusal.TheVariants.{Usage}
 use Rattle.debug_outcome.specs.declared.stopping.Stop.{Stop}
 use Rattle.debug_outcome.specs.declared.stopping.Stop.TheVariants as stop
 use Rattle.debug_outcome.proofs.Comings.{stops_more, stops_come, comes_more, ends_stopped, told_alone}
-use Rattle.debug_files.specs.Giving.{Given, IsGivenBy, given_bytes}
-use Rattle.debug_files.specs.Wanting.{wanted_by}
+use Rattle.debug_outcome.specs.files.Giving.{Given, IsGivenBy, given_bytes}
+use Rattle.debug_outcome.specs.files.Wanting.{wanted_by}
 use Rattle.debug_core.specs.Answers.{Means, CallsFor, GrowsFor, AnswersNoWords, TellsNoWords}
 use Rattle.debug_core.specs.JudgeMeaning.{JudgeMeans}
 use Rattle.debug_core.specs.RunMeaning.{RunMeans}

@@ -4,12 +4,12 @@ use Rattle.std.specs.Prelude.{◌⊎◌}
 use Rattle.ded_io.specs.Counts.{Rose}
 use Rattle.ded_io.specs.Told.{ToldFile}
 use Rattle.ded_io.specs.Written.{appended}
-use Rattle.debug_words.specs.Words.{Asked}
+use Rattle.debug_outcome.specs.words.Words.{Asked}
 use Rattle.debug_outcome.specs.Delivery.{Sides, IsWhole, IsDelivered, Ends}
 use Rattle.debug_outcome.specs.Outcomes.{Outcome, refuses}
 use Rattle.debug_outcome.specs.Traces.{Load}
 use Rattle.debug_outcome.specs.declared.refusal.Refusal.TheVariants.{Usage}
-use Rattle.debug_files.specs.Wanting.{wanted_by}
+use Rattle.debug_outcome.specs.files.Wanting.{wanted_by}
 use Rattle.debug_core.specs.Answers.{Means, CallsFor, GrowsFor}
 use Rattle.debug_core.specs.OneAnswer.{IsUnfailed, AreAlike, EndAlike, OneAnswer}
 use Rattle.debug_core.proofs.OneLoad.{one_contents, none_refused, one_unloaded}

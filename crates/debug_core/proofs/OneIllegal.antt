@@ -6,11 +6,11 @@ use Rattle.ada_lexer.specs.Places.{line_at, column_at}
 use Rattle.ada_tree.specs.declared.naming.Span.{Span}
 use Rattle.ada_tree.specs.PlainProgram.{PProgram}
 use Rattle.ada_tree.specs.TypeTable.{TypeTable}
-use Rattle.ada_tree.specs.Refusals as typing
-use Rattle.ada_refusals.specs.declared.errors.TypeError.TheVariants as types
-use Rattle.ada_refusals.specs.declared.refusals.Rule.TheVariants as typed
-use Rattle.ada_rules.specs.declared.refusals.Rule.TheVariants as checked
-use Rattle.ada_refusals.specs.Telling as telling
+use Rattle.ada_static_rules.specs.Refusals as typing
+use Rattle.ada_static_rules.specs.declared.errors.TypeError.TheVariants as types
+use Rattle.ada_static_rules.specs.declared.refusals.Rule.TheVariants as typed
+use Rattle.ada_check_rules.specs.declared.rules.refusals.Rule.TheVariants as checked
+use Rattle.ada_static_rules.specs.Telling as telling
 use Rattle.ada_check.specs.declared.errors.CheckError.{CheckError}
 use Rattle.ada_check.specs.declared.errors.CheckError.TheVariants as check
 use Rattle.ada_check.specs.Telling as tells

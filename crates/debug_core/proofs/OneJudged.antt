@@ -13,7 +13,7 @@ use Rattle.syn_event.specs.declared.numbering.Mode.TheVariants.{Original}
 use Rattle.syn_event.specs.Legal.{Legal}
 use Rattle.syn_event.specs.Numbering.{Numbering, owner_of}
 use Rattle.syn_event.specs.DeclaredTasks.{text_of}
-use Rattle.task_model.specs.Machine.{Setup}
+use Rattle.task_model.specs.Machine.{ProgramWithInputs}
 use Rattle.task_machine.specs.declared.verdict.Verdict.{Verdict}
 use Rattle.task_machine.specs.declared.verdict.Verdict.TheVariants.{Feasible, Infeasible, Unsettled}
 use Rattle.task_machine.specs.declared.verdict.Why.{Why}
@@ -24,9 +24,9 @@ use Rattle.task_machine.proofs.OneVerdict.{verdict_unique}
 use Rattle.divergence.specs.JudgeText.{task_part, parts_of, shown_tasks, title_of, report_text, judge_text, event_at_place, refused_word, event_line, cause_line}
 use Rattle.divergence.specs.ViewText.{number_line, view_lines}
 use Rattle.debug_outcome.specs.Outcomes.{Outcome, writes}
-use Rattle.debug_judge.specs.JudgeOutcomes.{AreSeen, ShowsWhy, IsVerdictText, JudgesLines, verdict_status}
+use Rattle.debug_judge.specs.JudgeOutcomes.{AreSeen, ShowsWhy, IsVerdictText, SequenceMeans, verdict_status}
 use Rattle.seq_file.proofs.MainNames.{main_is_upper}
-use Rattle.debug_sequence.proofs.Telling.{one_bad_sequence, read_or_bad}
+use Rattle.debug_outcome.proofs.sequences.Telling.{one_bad_sequence, read_or_bad}
 use Rattle.debug_core.proofs.ShortNumbers.{are_short}
 
 -- ---- the text of a verdict, by what is seen of the tasks that its event needs
@@ -54,7 +54,7 @@ module _ (names : List (List ℕ)) (numbers : Numbering) (views others : ℕ →
   shown_all (B t x) h = h
   shown_all Z h = h
 
-module _ (setup : Setup) (numbers : Numbering) (bound : ℕ) (events : List Event) (views others : ℕ → View) where
+module _ (setup : ProgramWithInputs) (numbers : Numbering) (bound : ℕ) (events : List Event) (views others : ℕ → View) where
   refused_same : (at : ℕ) (why : Why) (before : List Event) (e : Option Event) → IfSome e (AreSeen setup numbers before views) → IfSome e (AreSeen setup numbers before others) →
       report_text setup.program.names numbers bound views (length events) (Infeasible at why) e ≡ report_text setup.program.names numbers bound others (length events) (Infeasible at why) e
   refused_same at why before None seen seen' = refl
@@ -72,7 +72,7 @@ module _ (setup : Setup) (numbers : Numbering) (bound : ℕ) (events : List Even
   text_same (Infeasible at why) h k = refused_same at why (take (at - 1) events) (event_at_place events (Infeasible at why)) h k
   text_same (Unsettled at t) h k = held_same at t (event_at_place events (Unsettled at t))
 
-one_verdict_text : (setup : Setup) (numbers : Numbering) (bound : ℕ) (events : List Event) (o q : Outcome) → IsVerdictText setup numbers bound events o → IsVerdictText setup numbers bound events q → o ≡ q
+one_verdict_text : (setup : ProgramWithInputs) (numbers : Numbering) (bound : ℕ) (events : List Event) (o q : Outcome) → IsVerdictText setup numbers bound events o → IsVerdictText setup numbers bound events q → o ≡ q
 one_verdict_text setup numbers bound events o q h k =
     let same : h.verdict ≡ k.verdict = verdict_unique setup numbers bound events h.verdict k.verdict h.verdict_is k.verdict_is in
     let seen : ShowsWhy setup numbers events h.views k.verdict = subst (λ (v : Verdict). ShowsWhy setup numbers events h.views v) same h.seen in
@@ -83,14 +83,14 @@ one_verdict_text setup numbers bound events o q h k =
 
 -- ---- of a legal program that was read
 
-module _ (setup : Setup) (numbers : Numbering) (placed : IsWellPlaced setup.program) (legal : Legal setup.program setup.types numbers Original) (lines : List ℕ) (bound : ℕ) where
+module _ (setup : ProgramWithInputs) (numbers : Numbering) (placed : IsWellPlaced setup.program) (legal : Legal setup.program setup.types numbers Original) (lines : List ℕ) (bound : ℕ) where
   short : IsShort numbers
   short = are_short setup.program setup.types numbers Original legal
 
   upper : is_upper_name (text_of setup.program.names numbers.main) ≡ true
   upper = main_is_upper setup.program setup.types numbers Original placed legal
 
-  pub one_judged : (o q : Outcome) → JudgesLines setup numbers lines bound o → JudgesLines setup numbers lines bound q → o ≡ q
+  pub one_judged : (o q : Outcome) → SequenceMeans setup numbers lines bound o → SequenceMeans setup numbers lines bound q → o ≡ q
   one_judged o q (inl h) (inl k) =
       let same : h.events ≡ k.events = reads-unique setup.program.names numbers short lines h.events k.events h.reads k.reads in
       one_verdict_text setup numbers bound k.events o q (subst (λ (es : List Event). IsVerdictText setup numbers bound es o) same h.judged) k.judged

@@ -5,11 +5,11 @@ use Rattle.ada_parser.proofs.PlacedItems.{read_is_placed}
 use Rattle.ada_printer.specs.ProgramText.{program_text}
 use Rattle.syn_event.specs.declared.numbering.Mode.TheVariants.{Original, Any}
 use Rattle.syn_event.specs.Numbering.{Numbering}
-use Rattle.debug_text.specs.CheckText.{check_text}
-use Rattle.debug_words.specs.Words.{Asked, AsksPrint, AsksCheck, AsksRun, AsksJudge, AsksReplay, NoChoices, ChoicesIn, ChoicesBy}
-use Rattle.debug_files.specs.Giving.{Given, NothingGiven, BytesGiven, SeedGiven}
+use Rattle.debug_run.specs.texts.CheckText.{check_text}
+use Rattle.debug_outcome.specs.words.Words.{Asked, AsksPrint, AsksCheck, AsksRun, AsksJudge, AsksReplay, NoChoices, ChoicesIn, ChoicesBy}
+use Rattle.debug_outcome.specs.files.Giving.{Given, NothingGiven, BytesGiven, SeedGiven}
 use Rattle.debug_outcome.specs.Outcomes.{Outcome, writes}
-use Rattle.debug_judge.specs.JudgeOutcomes.{JudgesLines}
+use Rattle.debug_judge.specs.JudgeOutcomes.{SequenceMeans}
 use Rattle.debug_replay.specs.ReplayOutcomes.{ReplaysLines}
 use Rattle.debug_replay.proofs.OneReplay.{one_replay}
 use Rattle.debug_core.specs.Answers.{Means}
@@ -21,16 +21,16 @@ use Rattle.debug_core.specs.ReplayMeaning.{ReplayMeans}
 use Rattle.debug_core.specs.RunMeaning.{RunMeans}
 use Rattle.debug_core.proofs.OneJudged.{one_judged}
 use Rattle.debug_core.proofs.OneRun.{one_under}
-use Rattle.debug_core.proofs.OneStart.{one_no_legal, legal_or_not, same_program, same_numbers, legal_carries, one_no_start, start_or_not, start_carries}
-use Rattle.debug_core.proofs.OneText.{one_program, read_or_no_text, one_no_text}
+use Rattle.debug_core.proofs.OneStart.{one_refused_text, legal_or_not, same_program, same_numbers, legal_carries, one_refused_start, start_or_not, start_carries}
+use Rattle.debug_core.proofs.OneText.{one_program, read_or_unreadable, one_unreadable_text}
 use Rattle.debug_core.proofs.ShortNumbers.{are_short}
 use Rattle.seq_file.proofs.MainNames.{main_is_upper}
 
 one_printed : (text : List ℕ) (o q : Outcome) → PrintMeans text o → PrintMeans text q → o ≡ q
 one_printed text o q (inl h) (inl k) = h.is ∙ ap (λ (p : PProgram). writes (program_text p) 0) (one_program text k.program h.program k.is_read h.is_read) ∙ sym k.is
-one_printed text o q (inl h) (inr k) = absurd (read_or_no_text text h.program q h.is_read k)
-one_printed text o q (inr h) (inl k) = absurd (read_or_no_text text k.program o k.is_read h)
-one_printed text o q (inr h) (inr k) = one_no_text text o q h k
+one_printed text o q (inl h) (inr k) = absurd (read_or_unreadable text h.program q h.is_read k)
+one_printed text o q (inr h) (inl k) = absurd (read_or_unreadable text k.program o k.is_read h)
+one_printed text o q (inr h) (inr k) = one_unreadable_text text o q h k
 
 one_checked : (text : List ℕ) (o q : Outcome) → CheckMeans text o → CheckMeans text q → o ≡ q
 one_checked text o q (inl h) (inl k) =
@@ -40,7 +40,7 @@ one_checked text o q (inl h) (inl k) =
     ∙ sym k.is
 one_checked text o q (inl h) (inr k) = absurd (legal_or_not text Original h.program h.types h.numbers q h.is_legal k)
 one_checked text o q (inr h) (inl k) = absurd (legal_or_not text Original k.program k.types k.numbers o k.is_legal h)
-one_checked text o q (inr h) (inr k) = one_no_legal text Original o q h k
+one_checked text o q (inr h) (inr k) = one_refused_text text Original o q h k
 
 one_ran : (text : List ℕ) (inputs : Option (List ℕ)) (choices : Given) (turns : ℕ) (o q : Outcome) → RunMeans text inputs choices turns o → RunMeans text inputs choices turns q → o ≡ q
 one_ran text inputs choices turns o q (inl h) (inl k) =
@@ -48,15 +48,15 @@ one_ran text inputs choices turns o q (inl h) (inl k) =
     (start_carries text Any inputs h.setup k.setup h.numbers k.numbers h.is_start k.is_start (λ setup numbers. RunsUnder setup numbers choices turns o) h.runs) k.runs
 one_ran text inputs choices turns o q (inl h) (inr k) = absurd (start_or_not text Any inputs h.setup h.numbers q h.is_start k)
 one_ran text inputs choices turns o q (inr h) (inl k) = absurd (start_or_not text Any inputs k.setup k.numbers o k.is_start h)
-one_ran text inputs choices turns o q (inr h) (inr k) = one_no_start text Any inputs o q h k
+one_ran text inputs choices turns o q (inr h) (inr k) = one_refused_start text Any inputs o q h k
 
 one_verdict : (text : List ℕ) (inputs : Option (List ℕ)) (lines : List ℕ) (bound : ℕ) (o q : Outcome) → JudgeMeans text inputs lines bound o → JudgeMeans text inputs lines bound q → o ≡ q
 one_verdict text inputs lines bound o q (inl h) (inl k) =
     one_judged k.setup k.numbers (read_is_placed text k.setup.program k.is_start.is_legal.is_read.reads) k.is_start.is_legal.legal lines bound o q
-    (start_carries text Original inputs h.setup k.setup h.numbers k.numbers h.is_start k.is_start (λ setup numbers. JudgesLines setup numbers lines bound o) h.judged) k.judged
+    (start_carries text Original inputs h.setup k.setup h.numbers k.numbers h.is_start k.is_start (λ setup numbers. SequenceMeans setup numbers lines bound o) h.judged) k.judged
 one_verdict text inputs lines bound o q (inl h) (inr k) = absurd (start_or_not text Original inputs h.setup h.numbers q h.is_start k)
 one_verdict text inputs lines bound o q (inr h) (inl k) = absurd (start_or_not text Original inputs k.setup k.numbers o k.is_start h)
-one_verdict text inputs lines bound o q (inr h) (inr k) = one_no_start text Original inputs o q h k
+one_verdict text inputs lines bound o q (inr h) (inr k) = one_refused_start text Original inputs o q h k
 
 one_replayed : (text lines : List ℕ) (o q : Outcome) → ReplayMeans text lines o → ReplayMeans text lines q → o ≡ q
 one_replayed text lines o q (inl h) (inl k) =
@@ -65,7 +65,7 @@ one_replayed text lines o q (inl h) (inl k) =
     (legal_carries text Original h.program k.program h.types k.types h.numbers k.numbers h.is_legal k.is_legal (λ p types numbers. ReplaysLines p types numbers lines o) h.replayed) k.replayed
 one_replayed text lines o q (inl h) (inr k) = absurd (legal_or_not text Original h.program h.types h.numbers q h.is_legal k)
 one_replayed text lines o q (inr h) (inl k) = absurd (legal_or_not text Original k.program k.types k.numbers o k.is_legal h)
-one_replayed text lines o q (inr h) (inr k) = one_no_legal text Original o q h k
+one_replayed text lines o q (inr h) (inr k) = one_refused_text text Original o q h k
 
 pub one_meant : (asked : Asked) (contents : List (List ℕ)) (o q : Outcome) → Means asked contents o → Means asked contents q → o ≡ q
 one_meant (AsksPrint file) (text ∷ []) o q h k = one_printed text o q h k

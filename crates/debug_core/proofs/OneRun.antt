@@ -3,8 +3,8 @@ use Rattle.std.proofs.Common.{◌≡◌, ℕ, List, inl, inr, sym, subst, ◌∙
 use Rattle.input_file.specs.declared.errors.InputError.{InputError}
 use Rattle.input_file.proofs.Reading.{choices-unique, choices-no_fault, choices-one_fault}
 use Rattle.syn_event.specs.Numbering.{Numbering}
-use Rattle.task_model.specs.Machine.{Setup}
-use Rattle.debug_files.specs.Giving.{Given, NothingGiven, BytesGiven, SeedGiven}
+use Rattle.task_model.specs.Machine.{ProgramWithInputs}
+use Rattle.debug_outcome.specs.files.Giving.{Given, NothingGiven, BytesGiven, SeedGiven}
 use Rattle.debug_outcome.specs.Coming.{IsRefusal}
 use Rattle.debug_outcome.specs.Outcomes.{Outcome}
 use Rattle.debug_outcome.proofs.Comings.{one_refusal}
@@ -15,7 +15,7 @@ one_bad_choices bytes o q h k =
     let same : h.error ≡ k.error = choices-one_fault bytes h.error k.error h.fault k.fault in
     one_refusal (refusal_of_choices k.error) o q (subst (λ (e : InputError). IsRefusal (refusal_of_choices e) o) same h.told) k.told
 
-module _ (setup : Setup) (numbers : Numbering) (turns : ℕ) (o q : Outcome) where
+module _ (setup : ProgramWithInputs) (numbers : Numbering) (turns : ℕ) (o q : Outcome) where
   one_by_file : (bytes : List ℕ) → RunsByFile setup numbers bytes turns o → RunsByFile setup numbers bytes turns q → o ≡ q
   one_by_file bytes (inl h) (inl k) =
       let same : h.choices ≡ k.choices = choices-unique bytes h.choices k.choices h.reads k.reads in

@@ -2,36 +2,36 @@
 use Rattle.std.proofs.Common.{◌≡◌, ◌<◌, ◌^◌, ℕ, ℤ, List, length, Option, Some, None, inl, inr, sym, ap, subst, ◌∙◌}
 use Rattle.ada_tree.specs.PlainProgram.{PProgram}
 use Rattle.ada_tree.specs.TypeTable.{TypeTable}
-use Rattle.ada_tree.specs.Refusals.{types_in}
+use Rattle.ada_static_rules.specs.Refusals.{types_in}
 use Rattle.input_file.specs.declared.errors.InputError.{InputError}
 use Rattle.input_file.proofs.Reading.{inputs-unique, inputs-no_fault, inputs-one_fault}
 use Rattle.syn_event.specs.declared.numbering.Mode.{Mode}
 use Rattle.syn_event.specs.AllNumbers.{all_numbers}
 use Rattle.syn_event.specs.Numbering.{Numbering}
-use Rattle.task_model.specs.Machine.{Setup}
+use Rattle.task_model.specs.Machine.{ProgramWithInputs}
 use Rattle.debug_outcome.specs.Coming.{IsRefusal}
 use Rattle.debug_outcome.specs.Outcomes.{Outcome}
 use Rattle.debug_outcome.proofs.Comings.{one_refusal}
 use Rattle.debug_core.specs.InputTexts.{AreInputs, AreBadInputs, refusal_of_inputs}
-use Rattle.debug_core.specs.LegalTexts.{IsLegalText, IsNoLegalText}
+use Rattle.debug_core.specs.LegalTexts.{IsLegalText, IsRefusedText}
 use Rattle.debug_core.specs.RuleFaults.{IsIllegal}
-use Rattle.debug_core.specs.Starts.{IsStart, IsNoStart}
-use Rattle.debug_core.proofs.OneText.{one_program, read_or_no_text, one_no_text}
+use Rattle.debug_core.specs.Starts.{IsStart, IsRefusedStart}
+use Rattle.debug_core.proofs.OneText.{one_program, read_or_unreadable, one_unreadable_text}
 use Rattle.debug_core.proofs.OneIllegal.{one_illegal, legal_or_illegal}
 use Rattle.debug_core.proofs.ShortNumbers.{short_tasks}
 
 -- ---- by the static rules
 
 module _ (text : List ℕ) (m : Mode) where
-  pub one_no_legal : (o q : Outcome) → IsNoLegalText text m o → IsNoLegalText text m q → o ≡ q
-  one_no_legal o q (inl h) (inl k) = one_no_text text o q h k
-  one_no_legal o q (inl h) (inr k) = absurd (read_or_no_text text k.program o k.is_read h)
-  one_no_legal o q (inr h) (inl k) = absurd (read_or_no_text text h.program q h.is_read k)
-  one_no_legal o q (inr h) (inr k) =
+  pub one_refused_text : (o q : Outcome) → IsRefusedText text m o → IsRefusedText text m q → o ≡ q
+  one_refused_text o q (inl h) (inl k) = one_unreadable_text text o q h k
+  one_refused_text o q (inl h) (inr k) = absurd (read_or_unreadable text k.program o k.is_read h)
+  one_refused_text o q (inr h) (inl k) = absurd (read_or_unreadable text h.program q h.is_read k)
+  one_refused_text o q (inr h) (inr k) =
       one_illegal k.program m text o q (subst (λ (p : PProgram). IsIllegal p m text o) (one_program text k.program h.program k.is_read h.is_read) h.illegal) k.illegal
 
-  pub legal_or_not : (p : PProgram) (types : TypeTable) (numbers : Numbering) (o : Outcome) → IsLegalText text m p types numbers → IsNoLegalText text m o → ⊥
-  legal_or_not p types numbers o h (inl none) = read_or_no_text text p o h.is_read none
+  pub legal_or_not : (p : PProgram) (types : TypeTable) (numbers : Numbering) (o : Outcome) → IsLegalText text m p types numbers → IsRefusedText text m o → ⊥
+  legal_or_not p types numbers o h (inl none) = read_or_unreadable text p o h.is_read none
   legal_or_not p types numbers o h (inr bad) =
       legal_or_illegal p m text types numbers o h.legal (subst (λ (q : PProgram). IsIllegal q m text o) (one_program text p bad.program h.is_read bad.is_read) bad.illegal)
 
@@ -74,21 +74,21 @@ module _ (text : List ℕ) (m : Mode) (bytes : Option (List ℕ)) where
   few_in : (p : PProgram) (types : TypeTable) (numbers : Numbering) → IsLegalText text m p types numbers → length numbers.tasks < 2 ^ 32
   few_in p types numbers h = short_tasks p types numbers m h.legal
 
-  pub one_no_start : (o q : Outcome) → IsNoStart text m bytes o → IsNoStart text m bytes q → o ≡ q
-  one_no_start o q (inl h) (inl k) = one_no_legal text m o q h k
-  one_no_start o q (inl h) (inr k) = absurd (legal_or_not text m k.program k.types k.numbers o k.is_legal h)
-  one_no_start o q (inr h) (inl k) = absurd (legal_or_not text m h.program h.types h.numbers q h.is_legal k)
-  one_no_start o q (inr h) (inr k) =
+  pub one_refused_start : (o q : Outcome) → IsRefusedStart text m bytes o → IsRefusedStart text m bytes q → o ≡ q
+  one_refused_start o q (inl h) (inl k) = one_refused_text text m o q h k
+  one_refused_start o q (inl h) (inr k) = absurd (legal_or_not text m k.program k.types k.numbers o k.is_legal h)
+  one_refused_start o q (inr h) (inl k) = absurd (legal_or_not text m h.program h.types h.numbers q h.is_legal k)
+  one_refused_start o q (inr h) (inr k) =
       one_bad_inputs k.numbers (few_in k.program k.types k.numbers k.is_legal) bytes o q
       (subst (λ (n : Numbering). AreBadInputs n bytes o) (same_numbers text m h.program k.program h.types k.types h.numbers k.numbers h.is_legal k.is_legal) h.are_bad) k.are_bad
 
-  pub start_or_not : (setup : Setup) (numbers : Numbering) (o : Outcome) → IsStart text m bytes setup numbers → IsNoStart text m bytes o → ⊥
+  pub start_or_not : (setup : ProgramWithInputs) (numbers : Numbering) (o : Outcome) → IsStart text m bytes setup numbers → IsRefusedStart text m bytes o → ⊥
   start_or_not setup numbers o h (inl none) = legal_or_not text m setup.program setup.types numbers o h.is_legal none
   start_or_not setup numbers o h (inr bad) =
       inputs_or_bad numbers (few_in setup.program setup.types numbers h.is_legal) bytes setup.inputs o h.are_inputs
       (subst (λ (n : Numbering). AreBadInputs n bytes o) (same_numbers text m bad.program setup.program bad.types setup.types bad.numbers numbers bad.is_legal h.is_legal) bad.are_bad)
 
-  module _ (setup other : Setup) (numbers others : Numbering) (h : IsStart text m bytes setup numbers) (k : IsStart text m bytes other others) where
+  module _ (setup other : ProgramWithInputs) (numbers others : Numbering) (h : IsStart text m bytes setup numbers) (k : IsStart text m bytes other others) where
     one_numbers : numbers ≡ others
     one_numbers = same_numbers text m setup.program other.program setup.types other.types numbers others h.is_legal k.is_legal
 
@@ -104,5 +104,5 @@ module _ (text : List ℕ) (m : Mode) (bytes : Option (List ℕ)) where
         ∙ ap (λ (xs : List (List ℤ)). record { program = other.program; types = other.types; inputs = xs }) one_inputs
 
     -- what is so of the one start is so of the other
-    pub start_carries : (P : Setup → Numbering → Type 0) → P setup numbers → P other others
-    start_carries P has = subst (λ (n : Numbering). P other n) one_numbers (subst (λ (s : Setup). P s numbers) one_setup has)
+    pub start_carries : (P : ProgramWithInputs → Numbering → Type 0) → P setup numbers → P other others
+    start_carries P has = subst (λ (n : Numbering). P other n) one_numbers (subst (λ (s : ProgramWithInputs). P s numbers) one_setup has)

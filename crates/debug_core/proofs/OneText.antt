@@ -10,7 +10,7 @@ use Rattle.ada_parser.specs.Refusals.{IsRefusedFor}
 use Rattle.debug_outcome.specs.Coming.{IsRefusal}
 use Rattle.debug_outcome.specs.Outcomes.{Outcome}
 use Rattle.debug_outcome.proofs.Comings.{one_refusal}
-use Rattle.debug_core.specs.TextFaults.{IsNoText, refusal_of_read}
+use Rattle.debug_core.specs.TextFaults.{IsUnreadableText, refusal_of_read}
 
 -- the program of a text is one
 pub one_program : (text : List ℕ) (p q : PProgram) → IsRead text p → IsRead text q → q ≡ p
@@ -22,8 +22,8 @@ read_by text p o (reading.Syntax at) read h told = h.no_program p read.reads
 read_by text p o (reading.TooDeep at) read h told = h.no_program p read.reads
 read_by text p o reading.Memory read h told = told
 
-pub read_or_no_text : (text : List ℕ) (p : PProgram) (o : Outcome) → IsRead text p → IsNoText text o → ⊥
-read_or_no_text text p o read h = read_by text p o h.error read h.refused h.told
+pub read_or_unreadable : (text : List ℕ) (p : PProgram) (o : Outcome) → IsRead text p → IsUnreadableText text o → ⊥
+read_or_unreadable text p o read h = read_by text p o h.error read h.refused h.told
 
 one_by : (text : List ℕ) (o q : Outcome) (e d : ReadError) → IsRefusedFor text e → IsRefusedFor text d → IsRefusal (refusal_of_read text e) o → IsRefusal (refusal_of_read text d) q → o ≡ q
 one_by text o q (reading.Lex f) (reading.Lex g) h k t u =
@@ -42,5 +42,5 @@ one_by text o q (reading.TooDeep a) (reading.TooDeep b) h k t u = one_refusal (r
 one_by text o q (reading.TooDeep a) reading.Memory h k t u = absurd u
 one_by text o q reading.Memory d h k t u = absurd t
 
-pub one_no_text : (text : List ℕ) (o q : Outcome) → IsNoText text o → IsNoText text q → o ≡ q
-one_no_text text o q h k = one_by text o q h.error k.error h.refused k.refused h.told k.told
+pub one_unreadable_text : (text : List ℕ) (o q : Outcome) → IsUnreadableText text o → IsUnreadableText text q → o ≡ q
+one_unreadable_text text o q h k = one_by text o q h.error k.error h.refused k.refused h.told k.told

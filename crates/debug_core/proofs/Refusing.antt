@@ -10,20 +10,20 @@ use Rattle.syn_event.specs.declared.numbering.Mode.{Mode}
 use Rattle.debug_outcome.specs.Coming.{Stops, stop_by}
 use Rattle.debug_outcome.specs.declared.stopping.Stop.{Stop}
 use Rattle.debug_outcome.proofs.Comings.{stops_by, stops_more}
-use Rattle.debug_core.specs.LegalTexts.{IsNoLegalText}
+use Rattle.debug_core.specs.LegalTexts.{IsRefusedText}
 use Rattle.debug_core.specs.RuleFaults.{refusal_of_error}
-use Rattle.debug_core.specs.TextFaults.{IsNoText, refusal_of_read}
+use Rattle.debug_core.specs.TextFaults.{IsUnreadableText, refusal_of_read}
 
 -- a text that is refused calls for its refusal
-pub stops_no_text : (text : List ℕ) (e : ReadError) → IsRefusedFor text e → Stops (IsNoText text) (stop_by (refusal_of_read text e))
-stops_no_text text e h = stops_by (IsNoText text) (refusal_of_read text e) (λ o told. record { error = e; refused = h; told = told })
+pub stops_unreadable_text : (text : List ℕ) (e : ReadError) → IsRefusedFor text e → Stops (IsUnreadableText text) (stop_by (refusal_of_read text e))
+stops_unreadable_text text e h = stops_by (IsUnreadableText text) (refusal_of_read text e) (λ o told. record { error = e; refused = h; told = told })
 
 -- so it gives no program that meets the rules
-pub stops_text : (text : List ℕ) (mode : Mode) (stop : Stop) → Stops (IsNoText text) stop → Stops (IsNoLegalText text mode) stop
-stops_text text mode stop h = stops_more (IsNoText text) (IsNoLegalText text mode) stop (λ o no_text. inl no_text) h
+pub stops_text : (text : List ℕ) (mode : Mode) (stop : Stop) → Stops (IsUnreadableText text) stop → Stops (IsRefusedText text mode) stop
+stops_text text mode stop h = stops_more (IsUnreadableText text) (IsRefusedText text mode) stop (λ o unreadable. inl unreadable) h
 
 -- nor does the text of a program that is refused
-pub stops_illegal : (p : PProgram) (mode : Mode) (text : List ℕ) (e : CheckError) → IsRead text p → TellsWhy p mode e → Stops (IsNoLegalText text mode) (stop_by (refusal_of_error text e))
+pub stops_illegal : (p : PProgram) (mode : Mode) (text : List ℕ) (e : CheckError) → IsRead text p → TellsWhy p mode e → Stops (IsRefusedText text mode) (stop_by (refusal_of_error text e))
 stops_illegal p mode text e is_read h =
-    stops_by (IsNoLegalText text mode) (refusal_of_error text e)
+    stops_by (IsRefusedText text mode) (refusal_of_error text e)
     (λ o told. inr (record { program = p; is_read = is_read; illegal = record { error = e; refused = h; told = told } }))

@@ -10,7 +10,7 @@ use Rattle.ada_tree.specs.declared.naming.Word.{Word}
 use Rattle.ada_tree.specs.PlainExpr.{PDrange}
 use Rattle.ada_tree.specs.PlainDecl.{PShape, OPlain, OArray, PTask, PEntry, DObject, DTask, PDecls, no_decl, decl_then}
 use Rattle.ada_tree.specs.PlainProgram.{PProgram}
-use Rattle.ada_tree.specs.Refusals.{types_in}
+use Rattle.ada_static_rules.specs.Refusals.{types_in}
 use Rattle.ada_tree.specs.TypeTable.{TypeTable}
 use Rattle.syn_event.specs.declared.numbering.Mode.{Mode}
 use Rattle.syn_event.specs.declared.numbering.Mode.TheVariants as mode

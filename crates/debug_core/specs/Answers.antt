@@ -1,9 +1,9 @@
 -- What the words and the bytes of the files call for, and what the program answers: such an outcome, delivered (this project's rules).
 use Rattle.std.specs.Prelude.{ℕ, List, [], ◌∷◌, Option, Some, None, ◌⊎◌}
 use Rattle.ded_io.specs.Told.{ToldFile}
-use Rattle.debug_words.specs.Words.{Asked, AsksPrint, AsksCheck, AsksRun, AsksJudge, AsksReplay, NoChoices, ChoicesIn, ChoicesBy}
-use Rattle.debug_words.specs.declared.command.NoWords.{NoWords}
-use Rattle.debug_words.specs.declared.command.NoWords.TheVariants.{NotText, Memory}
+use Rattle.debug_outcome.specs.words.Words.{Asked, AsksPrint, AsksCheck, AsksRun, AsksJudge, AsksReplay, NoChoices, ChoicesIn, ChoicesBy}
+use Rattle.debug_outcome.specs.declared.words.command.NoWords.{NoWords}
+use Rattle.debug_outcome.specs.declared.words.command.NoWords.TheVariants.{NotText, Memory}
 use Rattle.debug_outcome.specs.Coming.{Never, Tells}
 use Rattle.debug_outcome.specs.Delivery.{Sides, IsDelivered, Ends}
 use Rattle.debug_outcome.specs.Loads.{WereLoaded, AreUnloaded}
@@ -11,8 +11,8 @@ use Rattle.debug_outcome.specs.Outcomes.{Outcome, refuses}
 use Rattle.debug_outcome.specs.Traces.{Load}
 use Rattle.debug_outcome.specs.declared.refusal.Refusal.TheVariants.{Usage}
 use Rattle.debug_outcome.specs.declared.stopping.Stop.TheVariants as stop
-use Rattle.debug_files.specs.Giving.{NothingGiven, BytesGiven, SeedGiven}
-use Rattle.debug_files.specs.Wanting.{wanted_by}
+use Rattle.debug_outcome.specs.files.Giving.{NothingGiven, BytesGiven, SeedGiven}
+use Rattle.debug_outcome.specs.files.Wanting.{wanted_by}
 use Rattle.debug_core.specs.PrintMeaning.{PrintMeans}
 use Rattle.debug_core.specs.CheckMeaning.{CheckMeans}
 use Rattle.debug_core.specs.RunMeaning.{RunMeans}
@@ -35,14 +35,14 @@ Means (AsksReplay file sequence) (text ∷ lines ∷ []) o = ReplayMeans text li
 Means asked contents o = ⊥
 
 -- The bytes of all files were loaded, each by one load and in the order of the words, and with the words they call for the outcome.
-pub record AreHeld (asked : Asked) (told : Option (List ToldFile)) (loads : List Load) (o : Outcome) : Type 0 where
+pub record LoadedFilesMean (asked : Asked) (told : Option (List ToldFile)) (loads : List Load) (o : Outcome) : Type 0 where
   pub contents : List (List ℕ)
   pub loaded : WereLoaded told (wanted_by asked) contents loads
   pub means : Means asked contents o
 
 -- The words and the files call for the outcome: it is what their bytes mean, or the refusal of the first file that was not loaded.
 abbrev pub CallsFor : Asked → Option (List ToldFile) → ℕ → ℕ → List Load → Outcome → Type 0
-CallsFor asked told faults faults' loads o = AreHeld asked told loads o ⊎ AreUnloaded told faults faults' (wanted_by asked) loads o
+CallsFor asked told faults faults' loads o = LoadedFilesMean asked told loads o ⊎ AreUnloaded told faults faults' (wanted_by asked) loads o
 
 -- A run writes its lines as its actions are made, so that a run out of memory may leave a prefix of its text; every other text is written once nothing more is needed for it.
 abbrev pub GrowsFor : Asked → Option (List ToldFile) → ℕ → ℕ → List Load → Outcome → Type 0

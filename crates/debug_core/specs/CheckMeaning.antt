@@ -4,9 +4,9 @@ use Rattle.ada_tree.specs.PlainProgram.{PProgram}
 use Rattle.ada_tree.specs.TypeTable.{TypeTable}
 use Rattle.syn_event.specs.declared.numbering.Mode.TheVariants.{Original}
 use Rattle.syn_event.specs.Numbering.{Numbering}
-use Rattle.debug_text.specs.CheckText.{check_text}
+use Rattle.debug_run.specs.texts.CheckText.{check_text}
 use Rattle.debug_outcome.specs.Outcomes.{Outcome, writes}
-use Rattle.debug_core.specs.LegalTexts.{IsLegalText, IsNoLegalText}
+use Rattle.debug_core.specs.LegalTexts.{IsLegalText, IsRefusedText}
 
 -- The text is that of a legal original, and the outcome is the text of its numbers.
 pub record IsChecked (text : List ℕ) (o : Outcome) : Type 0 where
@@ -18,4 +18,4 @@ pub record IsChecked (text : List ℕ) (o : Outcome) : Type 0 where
 
 -- The bytes of a file that is checked call for this outcome.
 abbrev pub CheckMeans : List ℕ → Outcome → Type 0
-CheckMeans text o = IsChecked text o ⊎ IsNoLegalText text Original o
+CheckMeans text o = IsChecked text o ⊎ IsRefusedText text Original o

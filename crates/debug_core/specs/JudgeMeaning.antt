@@ -2,18 +2,18 @@
 use Rattle.std.specs.Prelude.{ℕ, List, Option, ◌⊎◌}
 use Rattle.syn_event.specs.declared.numbering.Mode.TheVariants.{Original}
 use Rattle.syn_event.specs.Numbering.{Numbering}
-use Rattle.task_model.specs.Machine.{Setup}
-use Rattle.debug_judge.specs.JudgeOutcomes.{JudgesLines}
+use Rattle.task_model.specs.Machine.{ProgramWithInputs}
+use Rattle.debug_judge.specs.JudgeOutcomes.{SequenceMeans}
 use Rattle.debug_outcome.specs.Outcomes.{Outcome}
-use Rattle.debug_core.specs.Starts.{IsStart, IsNoStart}
+use Rattle.debug_core.specs.Starts.{IsStart, IsRefusedStart}
 
 -- The text and the inputs give a start, and the lines call for the outcome as a sequence of events from there.
-pub record AreJudged (text : List ℕ) (inputs : Option (List ℕ)) (lines : List ℕ) (bound : ℕ) (o : Outcome) : Type 0 where
-  pub setup : Setup
+pub record IsJudgedFromStart (text : List ℕ) (inputs : Option (List ℕ)) (lines : List ℕ) (bound : ℕ) (o : Outcome) : Type 0 where
+  pub setup : ProgramWithInputs
   pub numbers : Numbering
   pub is_start : IsStart text Original inputs setup numbers
-  pub judged : JudgesLines setup numbers lines bound o
+  pub judged : SequenceMeans setup numbers lines bound o
 
 -- The bytes of a program, of inputs and of a sequence call for this outcome, where a task may make so many local steps between the events that change it.
 abbrev pub JudgeMeans : List ℕ → Option (List ℕ) → List ℕ → ℕ → Outcome → Type 0
-JudgeMeans text inputs lines bound o = AreJudged text inputs lines bound o ⊎ IsNoStart text Original inputs o
+JudgeMeans text inputs lines bound o = IsJudgedFromStart text inputs lines bound o ⊎ IsRefusedStart text Original inputs o

@@ -8,7 +8,7 @@ use Rattle.syn_event.specs.Legal.{Legal}
 use Rattle.syn_event.specs.Numbering.{Numbering}
 use Rattle.debug_outcome.specs.Outcomes.{Outcome}
 use Rattle.debug_core.specs.RuleFaults.{IsIllegal}
-use Rattle.debug_core.specs.TextFaults.{IsNoText}
+use Rattle.debug_core.specs.TextFaults.{IsUnreadableText}
 
 -- The text is that of this program and of no other, and the program meets every static rule and has these types and numbers.
 pub record IsLegalText (text : List ℕ) (mode : Mode) (program : PProgram) (types : TypeTable) (numbers : Numbering) : Type 0 where
@@ -22,5 +22,5 @@ pub record IsIllegalText (text : List ℕ) (mode : Mode) (o : Outcome) : Type 0 
   pub illegal : IsIllegal program mode text o
 
 -- The text gives no program that meets every static rule: it is that of none, or of one that is refused.
-abbrev pub IsNoLegalText : List ℕ → Mode → Outcome → Type 0
-IsNoLegalText text mode o = IsNoText text o ⊎ IsIllegalText text mode o
+abbrev pub IsRefusedText : List ℕ → Mode → Outcome → Type 0
+IsRefusedText text mode o = IsUnreadableText text o ⊎ IsIllegalText text mode o

@@ -2,7 +2,7 @@
 use Rattle.std.specs.Prelude.{◌≡◌, ℕ, List, Option, Some, ◌⊎◌}
 use Rattle.ded_io.specs.Counts.{Rose}
 use Rattle.ded_io.specs.Told.{ToldFile}
-use Rattle.debug_words.specs.Words.{Asked}
+use Rattle.debug_outcome.specs.words.Words.{Asked}
 use Rattle.debug_outcome.specs.Delivery.{Sides}
 use Rattle.debug_core.specs.Answers.{Answers}
 

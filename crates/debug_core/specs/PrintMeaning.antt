@@ -5,7 +5,7 @@ use Rattle.ada_tree.specs.Same.{Same}
 use Rattle.ada_parser.specs.Exactly.{IsRead}
 use Rattle.ada_printer.specs.ProgramText.{program_text}
 use Rattle.debug_outcome.specs.Outcomes.{Outcome, writes}
-use Rattle.debug_core.specs.TextFaults.{IsNoText}
+use Rattle.debug_core.specs.TextFaults.{IsUnreadableText}
 
 -- The bytes are a text of the grammar, that of one program and of no other, and this program is the same as that one: equal but for places, names by their texts.
 pub record IsReadAsSame (bytes : List ℕ) (p : PProgram) : Type 0 where
@@ -22,4 +22,4 @@ pub record IsPrinted (text : List ℕ) (o : Outcome) : Type 0 where
 
 -- The bytes of a file that is printed call for this outcome.
 abbrev pub PrintMeans : List ℕ → Outcome → Type 0
-PrintMeans text o = IsPrinted text o ⊎ IsNoText text o
+PrintMeans text o = IsPrinted text o ⊎ IsUnreadableText text o

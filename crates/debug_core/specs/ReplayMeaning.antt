@@ -6,7 +6,7 @@ use Rattle.syn_event.specs.declared.numbering.Mode.TheVariants.{Original}
 use Rattle.syn_event.specs.Numbering.{Numbering}
 use Rattle.debug_replay.specs.ReplayOutcomes.{ReplaysLines}
 use Rattle.debug_outcome.specs.Outcomes.{Outcome}
-use Rattle.debug_core.specs.LegalTexts.{IsLegalText, IsNoLegalText}
+use Rattle.debug_core.specs.LegalTexts.{IsLegalText, IsRefusedText}
 
 -- The text is that of a legal original, and the lines call for the outcome as a sequence of its events that is replayed.
 pub record AreReplayed (text lines : List ℕ) (o : Outcome) : Type 0 where
@@ -18,4 +18,4 @@ pub record AreReplayed (text lines : List ℕ) (o : Outcome) : Type 0 where
 
 -- The bytes of a program and of a sequence call for this outcome.
 abbrev pub ReplayMeans : List ℕ → List ℕ → Outcome → Type 0
-ReplayMeans text lines o = AreReplayed text lines o ⊎ IsNoLegalText text Original o
+ReplayMeans text lines o = AreReplayed text lines o ⊎ IsRefusedText text Original o

@@ -3,10 +3,10 @@ use Rattle.std.specs.Prelude.{ℕ, List, Option, Some, None}
 use Rattle.ada_lexer.specs.Places.{line_at, column_at}
 use Rattle.ada_tree.specs.PlainProgram.{PProgram}
 use Rattle.ada_tree.specs.declared.naming.Span.{Span}
-use Rattle.ada_refusals.specs.declared.errors.TypeError.{TypeError}
-use Rattle.ada_refusals.specs.declared.errors.TypeError.TheVariants as types
-use Rattle.ada_refusals.specs.declared.refusals.Rule.TheVariants as typing
-use Rattle.ada_rules.specs.declared.refusals.Rule.TheVariants as checking
+use Rattle.ada_static_rules.specs.declared.errors.TypeError.{TypeError}
+use Rattle.ada_static_rules.specs.declared.errors.TypeError.TheVariants as types
+use Rattle.ada_static_rules.specs.declared.refusals.Rule.TheVariants as typing
+use Rattle.ada_check_rules.specs.declared.rules.refusals.Rule.TheVariants as checking
 use Rattle.ada_check.specs.declared.errors.CheckError.{CheckError}
 use Rattle.ada_check.specs.declared.errors.CheckError.TheVariants as check
 use Rattle.ada_check.specs.Verdicts.{TellsWhy}

@@ -39,7 +39,7 @@ refusal_of_read text (reading.TooDeep at) = Some (BadText (TooNested nesting_lim
 refusal_of_read text reading.Memory = None
 
 -- The text is that of no program: it is refused for this and for nothing else, and the outcome tells it.
-pub record IsNoText (text : List ℕ) (o : Outcome) : Type 0 where
+pub record IsUnreadableText (text : List ℕ) (o : Outcome) : Type 0 where
   pub error : ReadError
   pub refused : IsRefusedFor text error
   pub told : IsRefusal (refusal_of_read text error) o

@@ -1,16 +1,16 @@
 // The command that checks a program and writes the numbers of its tasks and entries.
 
 ghost use Rattle.std.specs.Prelude.{◌<◌, ◌-◌, ◌^◌, length};
-ghost use Rattle.debug_words.specs.Words.{AsksCheck};
+ghost use Rattle.debug_outcome.specs.words.Words.{AsksCheck};
 ghost use Rattle.debug_outcome.specs.Coming.{Comes, Never};
 ghost use Rattle.debug_outcome.specs.Traces.{HasLoads};
 ghost use Rattle.debug_core.specs.Answers.{CallsFor};
 ghost use Rattle.debug_core.specs.CheckMeaning.{CheckMeans};
 
 use crate::reading::read_legal;
-use debug_files::ORIGINAL_LIMIT;
+use debug_outcome::files::ORIGINAL_LIMIT;
 use debug_outcome::{Stop, TracedFiles, load_file};
-use debug_text::put_numbers;
+use debug_run::texts::put_numbers;
 use ded_io::Sink;
 use std::alloc::Global;
 use syn_event::Mode;

@@ -1,19 +1,18 @@
 // The run of a program under the choices that are given.
 
 ghost use Rattle.std.specs.Prelude.{◌≡◌};
-ghost use Rattle.debug_files.specs.Giving.{AreShortChoices, given_as, IsShort};
+ghost use Rattle.debug_outcome.specs.files.Giving.{AreShortChoices, given_as, IsShort};
 ghost use Rattle.debug_outcome.specs.Coming.{Comes, stop_by};
 ghost use Rattle.debug_run.specs.RunOutcomes.{IsRunOf};
 ghost use Rattle.debug_core.specs.ChosenRuns.{RunsUnder, RunsByFile, IsListedRun, refusal_of_choices};
 ghost use Rattle.debug_core.specs.inner.Started.{setup_of};
 
 use crate::starting::Start;
-use debug_files::ChoiceBytes;
+use debug_outcome::files::ChoiceBytes;
 use debug_outcome::{InputFault, Listed, Refusal, Stop};
 use debug_run::write_run;
-use ded_io::{Chooser, ListChooser, Sink};
+use ded_io::{Chooser, ListChooser, SeedChooser, Sink};
 use input_file::{InputError, read_choices};
-use seed_chooser::SeedChooser;
 use std::alloc::Global;
 
 // Runs a program under the choices, and writes the text of its run.

@@ -1,18 +1,18 @@
 // The command that judges a sequence of events.
 
-ghost use Rattle.debug_words.specs.Commands.{name_as};
-ghost use Rattle.debug_words.specs.Words.{AsksJudge};
-ghost use Rattle.debug_files.specs.Giving.{IsShortJudge, inputs_in};
+ghost use Rattle.debug_outcome.specs.words.Commands.{name_as};
+ghost use Rattle.debug_outcome.specs.words.Words.{AsksJudge};
+ghost use Rattle.debug_outcome.specs.files.Giving.{IsShortJudge, inputs_in};
 ghost use Rattle.debug_outcome.specs.Coming.{Comes, Never};
 ghost use Rattle.debug_outcome.specs.Traces.{HasLoads};
 ghost use Rattle.debug_core.specs.Answers.{CallsFor};
 ghost use Rattle.debug_core.specs.JudgeMeaning.{JudgeMeans};
 
 use crate::starting::read_start;
-use debug_files::{JudgeFiles, load_judge};
 use debug_judge::report_lines;
+use debug_outcome::files::{JudgeFiles, load_judge};
+use debug_outcome::words::JudgeWords;
 use debug_outcome::{Stop, TracedFiles};
-use debug_words::JudgeWords;
 use ded_io::Sink;
 use std::alloc::Global;
 use syn_event::Mode;

@@ -1,7 +1,7 @@
 // The command that prints a program.
 
 ghost use Rattle.std.specs.Prelude.{◌<◌, ◌-◌, ◌^◌, length};
-ghost use Rattle.debug_words.specs.Words.{AsksPrint};
+ghost use Rattle.debug_outcome.specs.words.Words.{AsksPrint};
 ghost use Rattle.debug_outcome.specs.Coming.{Comes, Never};
 ghost use Rattle.debug_outcome.specs.Traces.{HasLoads};
 ghost use Rattle.debug_core.specs.Answers.{CallsFor};
@@ -9,7 +9,7 @@ ghost use Rattle.debug_core.specs.PrintMeaning.{PrintMeans};
 
 use crate::reading::read_text;
 use ada_printer::print;
-use debug_files::TEXT_LIMIT;
+use debug_outcome::files::TEXT_LIMIT;
 use debug_outcome::{Stop, TracedFiles, load_file};
 use ded_io::Sink;
 use std::alloc::Global;

@@ -5,8 +5,8 @@ ghost use Rattle.ada_tree.specs.PlainProgram.{plain_program};
 ghost use Rattle.ada_tree.specs.WellPlaced.{IsWellPlaced};
 ghost use Rattle.ada_parser.specs.Exactly.{IsRead};
 ghost use Rattle.debug_outcome.specs.Coming.{Stops};
-ghost use Rattle.debug_core.specs.LegalTexts.{IsLegalText, IsNoLegalText};
-ghost use Rattle.debug_core.specs.TextFaults.{IsNoText};
+ghost use Rattle.debug_core.specs.LegalTexts.{IsLegalText, IsRefusedText};
+ghost use Rattle.debug_core.specs.TextFaults.{IsUnreadableText};
 
 use crate::rule_fault::rule_failure;
 use crate::text_fault::text_failure;
@@ -30,7 +30,7 @@ pub(crate) fn read_text<'w>(alloc: Global, text: &[u8]) -> Result<Program, Stop<
     requires { length text.now < 2 ^ 32 - 1 }
     ensures program { IfOk result (λ program. IsRead text.now (plain_program program)) }
     ensures placed { IfOk result (λ program. IsWellPlaced (plain_program program)) }
-    ensures cause { IfErr result (Stops (IsNoText text.now)) }
+    ensures cause { IfErr result (Stops (IsUnreadableText text.now)) }
 {
     match read(alloc, text) {
         Ok(program) => Ok(program),
@@ -46,7 +46,7 @@ pub(crate) fn read_legal<'w>(
 ) -> Result<LegalProgram, Stop<'w>>
     requires { length text.now < 2 ^ 32 - 1 }
     ensures program { IfOk result (λ legal. IsLegalText text.now mode (plain_program legal.program) legal.types legal.numbers) }
-    ensures cause { IfErr result (Stops (IsNoLegalText text.now mode)) }
+    ensures cause { IfErr result (Stops (IsRefusedText text.now mode)) }
 {
     let program = match read_text(alloc, text) {
         Ok(program) => program,

@@ -1,17 +1,17 @@
 // The command that writes the replay text of a program and a sequence.
 
-ghost use Rattle.debug_words.specs.Words.{AsksReplay};
-ghost use Rattle.debug_files.specs.Giving.{IsShortReplay};
+ghost use Rattle.debug_outcome.specs.words.Words.{AsksReplay};
+ghost use Rattle.debug_outcome.specs.files.Giving.{IsShortReplay};
 ghost use Rattle.debug_outcome.specs.Coming.{Comes, Never};
 ghost use Rattle.debug_outcome.specs.Traces.{HasLoads};
 ghost use Rattle.debug_core.specs.Answers.{CallsFor};
 ghost use Rattle.debug_core.specs.ReplayMeaning.{ReplayMeans};
 
 use crate::reading::read_legal;
-use debug_files::{ReplayFiles, load_replay};
+use debug_outcome::files::{ReplayFiles, load_replay};
+use debug_outcome::words::ReplayWords;
 use debug_outcome::{Stop, TracedFiles};
 use debug_replay::write_replay;
-use debug_words::ReplayWords;
 use ded_io::Sink;
 use std::alloc::Global;
 use syn_event::Mode;

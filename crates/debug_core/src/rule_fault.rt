@@ -5,9 +5,9 @@ ghost use Rattle.debug_outcome.specs.Coming.{stop_by};
 ghost use Rattle.debug_core.specs.RuleFaults.{refusal_of_error, refusal_of_types, broken_at};
 
 use ada_check::CheckError;
+use ada_check_rules::rules::Rule as CheckRule;
 use ada_lexer::line_col;
-use ada_refusals::refusals::Rule as TypeRule;
-use ada_rules::Rule as CheckRule;
+use ada_static_rules::refusals::Rule as TypeRule;
 use ada_tree::Span;
 use ada_types::TypeError;
 use debug_outcome::{Refusal, Rule, RuleFault, Stop};

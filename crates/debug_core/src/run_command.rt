@@ -1,8 +1,8 @@
 // The command that runs a program.
 
-ghost use Rattle.debug_words.specs.Commands.{name_as, source_as};
-ghost use Rattle.debug_words.specs.Words.{AsksRun};
-ghost use Rattle.debug_files.specs.Giving.{IsShortRun, given_as, inputs_in};
+ghost use Rattle.debug_outcome.specs.words.Commands.{name_as, source_as};
+ghost use Rattle.debug_outcome.specs.words.Words.{AsksRun};
+ghost use Rattle.debug_outcome.specs.files.Giving.{IsShortRun, given_as, inputs_in};
 ghost use Rattle.debug_outcome.specs.Coming.{Comes};
 ghost use Rattle.debug_outcome.specs.Traces.{HasLoads};
 ghost use Rattle.debug_core.specs.Answers.{CallsFor, GrowsFor};
@@ -10,9 +10,9 @@ ghost use Rattle.debug_core.specs.RunMeaning.{RunMeans};
 
 use crate::chosen_runs::run_under;
 use crate::starting::read_start;
-use debug_files::{RunFiles, load_run};
+use debug_outcome::files::{RunFiles, load_run};
+use debug_outcome::words::RunWords;
 use debug_outcome::{Stop, TracedFiles};
-use debug_words::RunWords;
 use ded_io::Sink;
 use std::alloc::Global;
 use syn_event::Mode;

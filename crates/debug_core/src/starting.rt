@@ -1,15 +1,15 @@
 // What a run or a judgement starts from.
 
 ghost use Rattle.std.specs.Prelude.{◌≡◌, IfOk, IfErr, IfSome, option_map};
-ghost use Rattle.debug_files.specs.Giving.{IsShort, IsShortStart, inputs_in};
+ghost use Rattle.debug_outcome.specs.files.Giving.{IsShort, IsShortStart, inputs_in};
 ghost use Rattle.debug_outcome.specs.Coming.{Stops, stop_by};
 ghost use Rattle.debug_core.specs.InputTexts.{AreInputs, AreBadInputs, refusal_of_inputs};
-ghost use Rattle.debug_core.specs.Starts.{IsStart, IsNoStart};
+ghost use Rattle.debug_core.specs.Starts.{IsStart, IsRefusedStart};
 ghost use Rattle.debug_core.specs.inner.Started.{setup_of};
 
 use crate::reading::{LegalProgram, read_legal};
 use ada_value::Inputs;
-use debug_files::StartFiles;
+use debug_outcome::files::StartFiles;
 use debug_outcome::{InputFault, Listed, Refusal, Stop};
 use input_file::{InputError, read_inputs};
 use std::alloc::Global;
@@ -30,7 +30,7 @@ pub(crate) fn read_start<'w>(
 ) -> Result<Start, Stop<'w>>
     requires { IsShortStart files.now }
     ensures start { IfOk result (λ start. IsStart files.now.text.items mode (inputs_in files.now) (setup_of start) start.legal.numbers) }
-    ensures cause { IfErr result (Stops (IsNoStart files.now.text.items mode (inputs_in files.now))) }
+    ensures cause { IfErr result (Stops (IsRefusedStart files.now.text.items mode (inputs_in files.now))) }
 {
     let legal = match read_legal(alloc, files.text.as_slice(), mode) {
         Ok(legal) => legal,

@@ -1,8 +1,8 @@
 // The program's one call.
 
 ghost use Rattle.std.specs.Prelude.{map, string_bytes, MatchResult};
-ghost use Rattle.debug_words.specs.Words.{asked_by};
-ghost use Rattle.debug_words.specs.Commands.{asked_as};
+ghost use Rattle.debug_outcome.specs.words.Words.{asked_by};
+ghost use Rattle.debug_outcome.specs.words.Commands.{asked_as};
 ghost use Rattle.debug_outcome.specs.Coming.{Comes};
 ghost use Rattle.debug_outcome.specs.Delivery.{Sides};
 ghost use Rattle.debug_outcome.specs.Traces.{HasLoads};
@@ -13,8 +13,8 @@ use crate::judge_command::judge_command;
 use crate::print_command::print_command;
 use crate::replay_command::replay_command;
 use crate::run_command::run_command;
+use debug_outcome::words::{Command, NoWords, command_of};
 use debug_outcome::{Refusal, Stop, TracedFiles, tell};
-use debug_words::{Command, NoWords, command_of};
 use ded_io::Sink;
 use std::alloc::Global;
 

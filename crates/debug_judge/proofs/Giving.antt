@@ -9,7 +9,7 @@ use Rattle.event_machine.specs.Tallies.{HasNoEnd}
 use Rattle.syn_event.specs.Numbering.{Numbering}
 use Rattle.seq_file.specs.Files.{NothingFollowsEnd}
 use Rattle.seq_file.proofs.EndLemmas.{last_is_end}
-use Rattle.task_model.specs.Machine.{Setup}
+use Rattle.task_model.specs.Machine.{ProgramWithInputs}
 use Rattle.task_machine.specs.declared.verdict.Verdict.{Verdict}
 use Rattle.task_machine.specs.declared.verdict.Verdict.TheVariants.{Feasible, Infeasible, Unsettled}
 use Rattle.task_machine.specs.declared.verdict.Why.{Why}
@@ -48,7 +48,7 @@ none_given taken (Infeasible at why) c = absurd (let less : taken < 0 = c.1 in o
 none_given taken (Unsettled at t) c = absurd (let less : taken < 0 = c.1 in omega arith)
 
 -- a first judge has found its events feasible
-pub first_feasible : (setup : Setup) (k : Kept) → StandsFor setup [] k → is_feasible k.verdict ≡ true
+pub first_feasible : (setup : ProgramWithInputs) (k : Kept) → StandsFor setup [] k → is_feasible k.verdict ≡ true
 first_feasible setup k s = none_given k.taken k.verdict s.counts
 
 is_the_feasible : (v : Verdict) → is_feasible v ≡ true → v ≡ Feasible
@@ -58,7 +58,7 @@ is_the_feasible (Unsettled at t) h = absurd (true≢false (sym h))
 
 -- ---- before any event
 
-pub found_first : (setup : Setup) (numbers : Numbering) (bound : ℕ) (k : Kept) → StandsFor setup [] k → k.numbers ≡ numbers → k.bound ≡ bound →
+pub found_first : (setup : ProgramWithInputs) (numbers : Numbering) (bound : ℕ) (k : Kept) → StandsFor setup [] k → k.numbers ≡ numbers → k.bound ≡ bound →
     IsFoundOf setup numbers bound [] (record { verdict = Feasible; count = 0; event = None; judge = k })
 found_first setup numbers bound k s same_numbers same_bound =
     let is : k.verdict ≡ Feasible = is_the_feasible k.verdict (first_feasible setup k s) in
@@ -117,7 +117,7 @@ nothing_settled numbers k (Unsettled at t) o h = absurd (true≢false (sym h))
 
 -- ---- one event more
 
-module _ (setup : Setup) (numbers : Numbering) (bound : ℕ) (events : List Event) (e : Event) (old : LinesVerdict) (new : Kept) (v : Verdict)
+module _ (setup : ProgramWithInputs) (numbers : Numbering) (bound : ℕ) (events : List Event) (e : Event) (old : LinesVerdict) (new : Kept) (v : Verdict)
     (f : IsFoundOf setup numbers bound events old) (stands : StandsFor setup (events ++ e ∷ []) new) (last : v ≡ new.verdict)
     (settled : is_feasible old.judge.verdict ≡ true → is_infeasible v ≡ true → All (IsSettled new.tasks) (needed_of old.judge.numbers e))
     (grows : old.judge.taken ≤ new.taken) (stays : is_feasible old.judge.verdict ≡ false → new ≡ old.judge) where
@@ -182,13 +182,13 @@ module _ (setup : Setup) (numbers : Numbering) (bound : ℕ) (events : List Even
 -- ---- all events
 
 -- the judge has taken no more events than it was given
-pub few_taken : (setup : Setup) (events : List Event) (k : Kept) → StandsFor setup events k → k.taken ≤ length events
+pub few_taken : (setup : ProgramWithInputs) (events : List Event) (k : Kept) → StandsFor setup events k → k.taken ≤ length events
 few_taken setup events k s = elim (cases_Bool (is_feasible k.verdict)) [
   | inl well ↦ (let same : k.taken ≡ length events = all_taken events k.taken k.verdict s.counts well in omega arith)
   | inr bad ↦ (let less : k.taken < length events = some_taken events k.taken k.verdict s.counts bad in omega arith)
 ]
 
-module _ (setup : Setup) (numbers : Numbering) (events : List Event) (end : NothingFollows events) (k : Kept) (s : StandsFor setup events k) (same : k.numbers ≡ numbers) where
+module _ (setup : ProgramWithInputs) (numbers : Numbering) (events : List Event) (end : NothingFollows events) (k : Kept) (s : StandsFor setup events k) (same : k.numbers ≡ numbers) where
   -- the event at place k.taken was refused
   seen_refused : (e : Event) (at : ℕ) (why : Why) → k.verdict ≡ Infeasible at why → event_at_place events (Infeasible at why) ≡ Some e → All (IsSettled k.tasks) (needed_of numbers e) →
       AreSeen setup numbers (take (at - 1) events) (view_at k.tasks) e
@@ -212,6 +212,6 @@ module _ (setup : Setup) (numbers : Numbering) (events : List Event) (end : Noth
   seen_why (Unsettled at t) is o got all = tt
 
 -- where an event is refused, the judge shows the tasks that it needs
-pub found_seen : (setup : Setup) (numbers : Numbering) (bound : ℕ) (events : List Event) (found : LinesVerdict) → NothingFollows events → IsFoundOf setup numbers bound events found →
+pub found_seen : (setup : ProgramWithInputs) (numbers : Numbering) (bound : ℕ) (events : List Event) (found : LinesVerdict) → NothingFollows events → IsFoundOf setup numbers bound events found →
     ShowsWhy setup numbers events (view_at found.judge.tasks) found.verdict
 found_seen setup numbers bound events found end f = seen_why setup numbers events end found.judge f.stands f.numbers_are found.verdict (sym f.last) found.event (sym f.event) f.settled

@@ -4,7 +4,7 @@ use Rattle.ded_io.specs.Counts.{Rose}
 use Rattle.ded_io.specs.Written.{appended, Began, Wrote}
 use Rattle.event_machine.specs.declared.Event.{Event}
 use Rattle.syn_event.specs.Numbering.{Numbering}
-use Rattle.task_model.specs.Machine.{Setup}
+use Rattle.task_model.specs.Machine.{ProgramWithInputs}
 use Rattle.task_machine.specs.declared.verdict.Verdict.{Verdict}
 use Rattle.task_machine.specs.Judging.{VerdictIs}
 use Rattle.feasible.specs.Failing.{view_at}
@@ -13,7 +13,7 @@ use Rattle.divergence.specs.JudgeText.{report_text, judge_text, event_at_place}
 use Rattle.debug_outcome.specs.Coming.{HasPut, HasBroken}
 use Rattle.debug_judge.specs.JudgeOutcomes.{ShowsWhy, IsVerdictText, verdict_status}
 
-module _ (setup : Setup) (names : List (List ℕ)) (numbers : Numbering) (bound bound' : ℕ) (events : List Event) (k : Kept) (v : Verdict) (count : ℕ) (e : Option Event) (old new : Option (List ℕ)) (writes writes' : ℕ)
+module _ (setup : ProgramWithInputs) (names : List (List ℕ)) (numbers : Numbering) (bound bound' : ℕ) (events : List Event) (k : Kept) (v : Verdict) (count : ℕ) (e : Option Event) (old new : Option (List ℕ)) (writes writes' : ℕ)
     (verdict_is : VerdictIs setup numbers bound events v) (seen : ShowsWhy setup numbers events (view_at k.tasks) v) (counted : count ≡ length events) (event : e ≡ event_at_place events v) (bounded : bound' ≡ bound) (named : names ≡ setup.program.names) where
   abbrev text : List ℕ
   text = judge_text setup.program.names numbers bound (view_at k.tasks) events v

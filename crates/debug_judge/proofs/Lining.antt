@@ -17,14 +17,14 @@ use Rattle.seq_file.specs.Files.{most_events, header_line, event_line, SeqText, 
 use Rattle.seq_file.specs.Known.{is_known}
 use Rattle.seq_file.specs.Lines.{event_of_line}
 use Rattle.seq_file.specs.Stepping.{StandsBehind, IsRefusedBehind}
-use Rattle.task_model.specs.Machine.{Setup}
+use Rattle.task_model.specs.Machine.{ProgramWithInputs}
 use Rattle.feasible.proofs.Fronts.{no_end_front}
 use Rattle.debug_judge.specs.declared.judged_lines.LinesVerdict.{LinesVerdict}
 use Rattle.debug_judge.specs.JudgedLines.{IsFoundOf, behind_last}
 use Rattle.debug_judge.proofs.Giving.{nothing_follows}
 
 -- so many lines were read, and this is found of their events
-pub record IsJudgedTo (setup : Setup) (numbers : Numbering) (bound : ℕ) (bytes : List ℕ) (n : ℕ) (lines : SeqLines) (found : LinesVerdict) : Type 0 where
+pub record IsJudgedTo (setup : ProgramWithInputs) (numbers : Numbering) (bound : ℕ) (bytes : List ℕ) (n : ℕ) (lines : SeqLines) (found : LinesVerdict) : Type 0 where
   pub events : List Event
   pub read : StandsBehind bytes numbers setup.program.names events lines
   pub found_of : IsFoundOf setup numbers bound events found

@@ -5,7 +5,7 @@ use Rattle.syn_event.specs.Numbering.{Numbering}
 use Rattle.seq_file.specs.declared.errors.SeqError.{SeqError}
 use Rattle.seq_file.specs.declared.errors.SeqError.TheVariants.{BadLine, OtherProgram, BadNumber, AfterEnd, TooMany, Memory}
 use Rattle.seq_file.specs.Files.{most_events, SeqReads, HasFirstFault}
-use Rattle.task_model.specs.Machine.{Setup}
+use Rattle.task_model.specs.Machine.{ProgramWithInputs}
 use Rattle.task_machine.specs.declared.verdict.Verdict.{Verdict}
 use Rattle.task_machine.specs.Judging.{VerdictIs}
 use Rattle.feasible.specs.Keeping.{StandsFor, is_feasible}
@@ -17,7 +17,7 @@ use Rattle.debug_judge.specs.declared.judged_lines.LinesError.TheVariants as err
 
 -- Found of these events: their verdict, their number, the event at the place of a verdict that is not feasible, and a judge that stands for them
 -- and shows each task that an infeasible event needs.
-pub record IsFoundOf (setup : Setup) (numbers : Numbering) (bound : ℕ) (events : List Event) (found : LinesVerdict) : Type 0 where
+pub record IsFoundOf (setup : ProgramWithInputs) (numbers : Numbering) (bound : ℕ) (events : List Event) (found : LinesVerdict) : Type 0 where
   pub verdict : VerdictIs setup numbers bound events found.verdict
   pub count : found.count ≡ length events
   pub event : found.event ≡ event_at_place events found.verdict
@@ -28,13 +28,13 @@ pub record IsFoundOf (setup : Setup) (numbers : Numbering) (bound : ℕ) (events
   pub bound_is : found.judge.bound ≡ bound
 
 -- The lines are a sequence of the program, and this is found of its events.
-pub record AreFound (setup : Setup) (numbers : Numbering) (bound : ℕ) (lines : List ℕ) (found : LinesVerdict) : Type 0 where
+pub record AreFound (setup : ProgramWithInputs) (numbers : Numbering) (bound : ℕ) (lines : List ℕ) (found : LinesVerdict) : Type 0 where
   pub events : List Event
   pub reads : SeqReads lines numbers setup.program.names events
   pub found_of : IsFoundOf setup numbers bound events found
 
 -- Why the lines have no verdict: their first bad line has this fault, or there was no memory.
-abbrev pub FailsBy : Setup → Numbering → List ℕ → LinesError → Type 0
+abbrev pub FailsBy : ProgramWithInputs → Numbering → List ℕ → LinesError → Type 0
 FailsBy setup numbers lines (error.Seq fault) = HasFirstFault lines numbers setup.program.names fault
 FailsBy setup numbers lines error.Memory = ⊤
 

@@ -6,7 +6,7 @@ ghost use Rattle.event_machine.specs.Tallies.{HasNoEnd};
 ghost use Rattle.syn_event.specs.Numbering.{Numbering};
 ghost use Rattle.seq_file.specs.Files.{most_events, SeqReads, HasFirstFault, header_fault};
 ghost use Rattle.seq_file.specs.Stepping.{StandsBehind};
-ghost use Rattle.task_model.specs.Machine.{Setup};
+ghost use Rattle.task_model.specs.Machine.{ProgramWithInputs};
 ghost use Rattle.task_machine.specs.Table.{setup_in};
 ghost use Rattle.feasible.specs.Keeping.{is_feasible};
 ghost use Rattle.debug_judge.specs.JudgedLines.{IsFoundOf, AreFound, FailsBy, event_with, behind_last};
@@ -99,7 +99,7 @@ fn open_lines<'a>(links: &'a Links<'_>, bytes: &'a [u8]) -> Result<SeqLines<'a>,
 fn give(found: &mut LinesVerdict<'_>, event: &Event) -> Result<(), LinesError>
     requires taken { found.old.judge.taken + 1 < 2 ^ 32 }
     requires count { found.old.count + 1 < 2 ^ 32 }
-    ensures more { (setup : Setup) (numbers : Numbering) (bound : ℕ) (events : List Event) → IsFoundOf setup numbers bound events found.old → HasNoEnd events
+    ensures more { (setup : ProgramWithInputs) (numbers : Numbering) (bound : ℕ) (events : List Event) → IsFoundOf setup numbers bound events found.old → HasNoEnd events
         → OnOk result (IsFoundOf setup numbers bound (events ++ event.now ∷ []) found.new) }
     ensures memory { IfErr result (λ error. error ≡ LinesError.Memory) }
 {

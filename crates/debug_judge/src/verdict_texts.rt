@@ -3,18 +3,18 @@
 ghost use Rattle.std.specs.Prelude.{◌≡◌, ◌<◌, ◌-◌, ◌^◌, ℕ, List, length};
 ghost use Rattle.ada_tree.specs.PlainProgram.{plain_program};
 ghost use Rattle.event_machine.specs.declared.Event.{Event};
-ghost use Rattle.task_model.specs.Machine.{Setup};
+ghost use Rattle.task_model.specs.Machine.{ProgramWithInputs};
 ghost use Rattle.feasible.specs.Keeping.{NothingFollows};
 ghost use Rattle.divergence.specs.Seen.{AreSettled};
 ghost use Rattle.debug_outcome.specs.Coming.{Comes, Never};
-ghost use Rattle.debug_judge.specs.JudgeOutcomes.{JudgesLines, IsVerdictText, verdict_status};
+ghost use Rattle.debug_judge.specs.JudgeOutcomes.{SequenceMeans, IsVerdictText, verdict_status};
 ghost use Rattle.debug_judge.specs.JudgedLines.{IsFoundOf};
 
 use crate::judged_lines::{LinesError, LinesVerdict, judge_lines};
 use ada_tree::{Program, Types};
 use ada_value::Inputs;
 use debug_outcome::Stop;
-use debug_sequence::sequence_failure;
+use debug_outcome::sequences::sequence_failure;
 use ded_io::Sink;
 use divergence::report;
 use feasible::Verdict;
@@ -36,7 +36,7 @@ pub fn report_lines<'w, K: Sink>(
     out: &mut K,
 ) -> Result<u8, Stop<'w>>
     requires { length lines.now < 2 ^ 32 - 1 }
-    ensures { Comes (JudgesLines (record { program = plain_program program.now; types = types.now; inputs = inputs.now }) numbers.now lines.now bound) Never (K.told out.old) (K.told out.new) (K.faults out.old) (K.faults out.new) result }
+    ensures { Comes (SequenceMeans (record { program = plain_program program.now; types = types.now; inputs = inputs.now }) numbers.now lines.now bound) Never (K.told out.old) (K.told out.new) (K.faults out.old) (K.faults out.new) result }
 {
     let links = match Links::new(alloc, program, types, numbers) {
         Ok(links) => links,
@@ -58,7 +58,7 @@ fn put_verdict<'w, K: Sink>(
 ) -> Result<u8, Stop<'w>>
     requires numbers { numbers.now ≡ found.now.judge.numbers }
     requires settled { AreSettled found.now.judge.tasks numbers.now found.now.verdict found.now.event }
-    ensures { (setup : Setup) (bound : ℕ) (events : List Event) → setup.program ≡ plain_program program.now → NothingFollows events → IsFoundOf setup numbers.now bound events found.now
+    ensures { (setup : ProgramWithInputs) (bound : ℕ) (events : List Event) → setup.program ≡ plain_program program.now → NothingFollows events → IsFoundOf setup numbers.now bound events found.now
         → Comes (IsVerdictText setup numbers.now bound events) Never (K.told out.old) (K.told out.new) (K.faults out.old) (K.faults out.new) result }
 {
     match report(

@@ -5,3 +5,6 @@ pub mod Traces
 pub mod Delivery
 pub mod Coming
 pub mod Loads
+pub mod words
+pub mod files
+pub mod sequences

@@ -1,10 +1,10 @@
 -- Why the program ends with another status than that of what it was asked for: the status of each refusal, and its line on the error output (this project's rules).
 use Rattle.std.specs.Prelude.{ℕ, List, codes, decimal}
 use Rattle.ded_io.specs.Written.{◌⧺◌}
-use Rattle.ada_refusals.specs.declared.refusals.Rule.{Rule as TypeRule}
-use Rattle.ada_refusals.specs.declared.refusals.Rule.TheVariants as typing
-use Rattle.ada_rules.specs.declared.refusals.Rule.{Rule as CheckRule}
-use Rattle.ada_rules.specs.declared.refusals.Rule.TheVariants as checking
+use Rattle.ada_static_rules.specs.declared.refusals.Rule.{Rule as TypeRule}
+use Rattle.ada_static_rules.specs.declared.refusals.Rule.TheVariants as typing
+use Rattle.ada_check_rules.specs.declared.rules.refusals.Rule.{Rule as CheckRule}
+use Rattle.ada_check_rules.specs.declared.rules.refusals.Rule.TheVariants as checking
 use Rattle.syn_event.specs.declared.limits.What.{What}
 use Rattle.syn_event.specs.declared.limits.What.TheVariants as counted
 use Rattle.debug_outcome.specs.declared.refusal.Refusal.{Refusal}

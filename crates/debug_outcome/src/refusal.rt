@@ -3,8 +3,8 @@
 ghost use Rattle.std.specs.Prelude.{◌≡◌};
 ghost use Rattle.debug_outcome.specs.Refusals.{refusal_status, text_status, rule_status};
 
-use ada_refusals::refusals::Rule as TypeRule;
-use ada_rules::Rule as CheckRule;
+use ada_check_rules::rules::Rule as CheckRule;
+use ada_static_rules::refusals::Rule as TypeRule;
 use syn_event::What;
 
 /// Why a command is refused. Lines and columns count from 1.

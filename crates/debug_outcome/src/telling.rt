@@ -8,9 +8,9 @@ ghost use Rattle.debug_outcome.specs.Refusals.{refusal_line, first_words, unread
 use crate::refusal::{
     InputFault, Listed, Misspelling, Refusal, Rule, RuleFault, SequenceFault, TextFault,
 };
-use ada_refusals::refusals::Rule as TypeRule;
-use ada_rules::Rule as CheckRule;
-use decimal_text::put_number;
+use ada_check_rules::rules::Rule as CheckRule;
+use ada_static_rules::refusals::Rule as TypeRule;
+use ded_io::decimals::put_number;
 use ded_io::{Sink, SinkError};
 use syn_event::What;
 

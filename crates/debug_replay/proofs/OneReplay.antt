@@ -10,7 +10,7 @@ use Rattle.seq_file.specs.Short.{IsShort}
 use Rattle.seq_file.proofs.Filing.{reads-unique}
 use Rattle.replay_model.specs.ReplayTree.{replayed}
 use Rattle.debug_outcome.specs.Outcomes.{Outcome}
-use Rattle.debug_sequence.proofs.Telling.{one_bad_sequence, read_or_bad}
+use Rattle.debug_outcome.proofs.sequences.Telling.{one_bad_sequence, read_or_bad}
 use Rattle.debug_replay.specs.ReplayOutcomes.{ReplaysLines, replay_outcome}
 
 module _ (p : PProgram) (types : TypeTable) (numbers : Numbering) (short : IsShort numbers) (upper : is_upper_name (text_of p.names numbers.main) ≡ true) (lines : List ℕ) where

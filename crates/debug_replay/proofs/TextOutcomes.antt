@@ -11,7 +11,7 @@ use Rattle.seq_file.specs.Files.{SeqReads}
 use Rattle.normal_form.specs.declared.errors.XformError.{XformError}
 use Rattle.normal_form.specs.declared.errors.XformError.TheVariants as error
 use Rattle.replay_model.specs.ReplayTree.{most_events, replay_tree, replayed}
-use Rattle.debug_files.specs.Wanting.{text_limit}
+use Rattle.debug_outcome.specs.files.Wanting.{text_limit}
 use Rattle.debug_outcome.specs.Coming.{Stops, stop_by}
 use Rattle.debug_outcome.specs.Outcomes.{Outcome, writes, refuses}
 use Rattle.debug_outcome.specs.declared.refusal.Refusal.TheVariants.{LongText, TooMany}

@@ -9,12 +9,12 @@ use Rattle.seq_file.specs.Files.{SeqReads}
 use Rattle.normal_form.specs.declared.errors.XformError.{XformError}
 use Rattle.normal_form.specs.declared.errors.XformError.TheVariants as error
 use Rattle.replay_model.specs.ReplayTree.{replayed}
-use Rattle.debug_files.specs.Wanting.{text_limit}
+use Rattle.debug_outcome.specs.files.Wanting.{text_limit}
 use Rattle.debug_outcome.specs.Outcomes.{Outcome, writes, refuses}
 use Rattle.debug_outcome.specs.declared.refusal.Refusal.{Refusal}
 use Rattle.debug_outcome.specs.declared.refusal.Refusal.TheVariants.{LongText, TooMany}
 use Rattle.debug_outcome.specs.declared.refusal.Listed.TheVariants.{Events}
-use Rattle.debug_sequence.specs.BadSequences.{IsBadSequence}
+use Rattle.debug_outcome.specs.sequences.BadSequences.{IsBadSequence}
 
 -- The text of a program in the layout, which has at most as many bytes as a program that is run; else that limit.
 abbrev pub printed_outcome : PProgram → Outcome

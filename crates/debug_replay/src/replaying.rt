@@ -9,9 +9,9 @@ ghost use Rattle.debug_replay.specs.ReplayOutcomes.{ReplaysLines, printed_outcom
 
 use ada_printer::{print, text_len};
 use ada_tree::{Program, Types};
-use debug_files::TEXT_LIMIT;
+use debug_outcome::files::TEXT_LIMIT;
+use debug_outcome::sequences::sequence_failure;
 use debug_outcome::{Listed, Refusal, Stop};
-use debug_sequence::sequence_failure;
 use ded_io::Sink;
 use normal_form::XformError;
 use replay_xform::replay;

@@ -5,11 +5,11 @@ use Rattle.ded_io.specs.Written.{appended, Began, Wrote, ◌⧺◌}
 use Rattle.ded_io.proofs.Writes.{appended-appended, began_then, joined}
 use Rattle.syn_event.specs.Numbering.{Numbering}
 use Rattle.task_model.specs.Machine.{MachineState}
-use Rattle.run_model.specs.declared.report.RunEnd.{RunEnd}
-use Rattle.run_model.specs.Lines.{lines_of}
-use Rattle.run_model.specs.Outputs.{output_of}
-use Rattle.run_model.specs.Picked.{Position, picked, run_end}
-use Rattle.debug_text.specs.RunText.{header, rest_of_run}
+use Rattle.task_model.specs.declared.picked_runs.report.RunEnd.{RunEnd}
+use Rattle.task_model.specs.picked_runs.Lines.{lines_of}
+use Rattle.task_model.specs.picked_runs.Outputs.{output_of}
+use Rattle.task_model.specs.picked_runs.Picked.{Position, picked, run_end}
+use Rattle.debug_run.specs.texts.RunText.{header, rest_of_run}
 use Rattle.debug_outcome.specs.Coming.{Comes, HasPut, HasBroken, HasBegun}
 use Rattle.debug_outcome.specs.declared.stopping.Stop.{Stop}
 use Rattle.debug_run.specs.RunOutcomes.{IsRunFrom, run_status, text_at}

@@ -1,1 +1,2 @@
 pub mod RunOutcomes
+pub mod texts

@@ -1,12 +1,12 @@
 -- What the run of a program comes to: the text of its picked run, with the status of its end (this project's rules).
 use Rattle.std.specs.Prelude.{◌≡◌, ℕ, List}
 use Rattle.syn_event.specs.Numbering.{Numbering}
-use Rattle.task_model.specs.Machine.{Setup, MachineState, opening_of}
-use Rattle.run_model.specs.declared.report.RunEnd.{RunEnd}
-use Rattle.run_model.specs.declared.report.RunEnd.TheVariants.{Ended, Stuck, Turns}
-use Rattle.run_model.specs.Outputs.{output_of}
-use Rattle.run_model.specs.Picked.{Position, picked, run_end}
-use Rattle.debug_text.specs.RunText.{run_text}
+use Rattle.task_model.specs.Machine.{ProgramWithInputs, MachineState, opening_of}
+use Rattle.task_model.specs.declared.picked_runs.report.RunEnd.{RunEnd}
+use Rattle.task_model.specs.declared.picked_runs.report.RunEnd.TheVariants.{Ended, Stuck, Turns}
+use Rattle.task_model.specs.picked_runs.Outputs.{output_of}
+use Rattle.task_model.specs.picked_runs.Picked.{Position, picked, run_end}
+use Rattle.debug_run.specs.texts.RunText.{run_text}
 use Rattle.debug_outcome.specs.Outcomes.{Outcome, writes}
 
 -- the status of a run by its end
@@ -28,6 +28,6 @@ abbrev pub IsRunFrom : {C : Type 0} → (C → ℕ) → (C → C) → List (List
 IsRunFrom word next names numbers m choices turns o = o ≡ outcome_at names numbers (picked word next turns m choices)
 
 -- The outcome is that of the program's run with its inputs, from its start, that these choices pick, of at most so many turns.
-abbrev pub IsRunOf : {C : Type 0} → (C → ℕ) → (C → C) → Setup → Numbering → C → ℕ → Outcome → Type 0
+abbrev pub IsRunOf : {C : Type 0} → (C → ℕ) → (C → C) → ProgramWithInputs → Numbering → C → ℕ → Outcome → Type 0
 IsRunOf word next setup numbers choices turns o =
     IsRunFrom word next setup.program.names numbers (opening_of setup numbers) choices turns o

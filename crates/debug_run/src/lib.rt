@@ -2,5 +2,6 @@
 #![tactic(auto)]
 
 mod running;
+pub mod texts;
 
 pub use running::write_run;

@@ -4,15 +4,15 @@ ghost use Rattle.std.specs.Prelude.{◌≡◌, ◌<◌, ◌^◌, length};
 ghost use Rattle.ada_tree.specs.PlainProgram.{plain_program};
 ghost use Rattle.ded_io.specs.Counts.{HasCause};
 ghost use Rattle.ded_io.specs.Written.{Wrote};
-ghost use Rattle.run_model.specs.Outputs.{output_of};
-ghost use Rattle.debug_text.specs.RunText.{rest_of_run, task_part, task_parts};
+ghost use Rattle.task_model.specs.picked_runs.Outputs.{output_of};
+ghost use Rattle.debug_run.specs.texts.RunText.{rest_of_run, task_part, task_parts};
 ghost use Rattle.debug_outcome.specs.Coming.{Comes};
 ghost use Rattle.debug_run.specs.RunOutcomes.{IsRunFrom, IsRunOf, run_status};
 
+use crate::texts::{put_end, put_header, put_part};
 use ada_tree::{Names, Program, Types};
 use ada_value::Inputs;
 use debug_outcome::Stop;
-use debug_text::{put_end, put_header, put_part};
 use ded_io::{Chooser, Sink, SinkError};
 use interp::{RunEnd, RunError, RunReport, run};
 use std::alloc::Global;

@@ -2,17 +2,17 @@
 
 use crate::calling::{call_question, put_call, text_question};
 use ada_tree::Memory;
-use case_expressions::{Wanted, expression, line_col, names, token_message, tokens};
+use case_form::outside::{choices, loads, seeded, sink};
 use case_form::{Failing, Question, Stage, Text, expand, text_named};
+use case_machines::rewritings::normal_question;
 use case_machines::{Judging, judge_question, run_question, value};
-use case_outside::{choices, loads, seeded, sink};
-use case_programs::{fronts, message, print_question, printed_len, read, text_message};
-use case_rewritings::normal_question;
 use case_rules::{
     Told, choices_file, event, inputs, known_of, number, numbers, origin, scopes, sequence,
     static_expression, type_table, types,
 };
-use case_sameness::{built, copy, outline, same};
+use case_texts::expressions::{Wanted, expression, line_col, names, token_message, tokens};
+use case_texts::programs::{fronts, message, print_question, printed_len, read, text_message};
+use case_texts::sameness::{built, copy, outline, same};
 use std::alloc::{AllocError, Global};
 use syn_event::Mode;
 

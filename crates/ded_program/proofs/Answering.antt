@@ -1,8 +1,8 @@
 -- What the program answers, from what the one call answers for what came of its words.
 use Rattle.std.proofs.Common.{ℕ, List, Result, Ok, Err}
 use Rattle.std.specs.Prelude.{MatchResult}
-use Rattle.debug_words.specs.Words.{asked_by}
-use Rattle.debug_words.specs.declared.command.NoWords.{NoWords}
+use Rattle.debug_outcome.specs.words.Words.{asked_by}
+use Rattle.debug_outcome.specs.declared.words.command.NoWords.{NoWords}
 use Rattle.debug_outcome.specs.Delivery.{Sides}
 use Rattle.debug_core.specs.Answers.{Answers, AnswersNoWords}
 use Rattle.ded_program.specs.Whole.{IsFresh, IsWholeAnswer}

@@ -1,7 +1,7 @@
 -- What the program answers over the operating system, of whose words, files and outputs nothing is told (this project's rule).
 use Rattle.std.specs.Prelude.{◌≡◌, ℕ, List, None, Result, Ok, Err}
-use Rattle.debug_words.specs.Words.{asked_by}
-use Rattle.debug_words.specs.declared.command.NoWords.{NoWords}
+use Rattle.debug_outcome.specs.words.Words.{asked_by}
+use Rattle.debug_outcome.specs.declared.words.command.NoWords.{NoWords}
 use Rattle.debug_outcome.specs.Delivery.{Sides}
 use Rattle.debug_core.specs.Answers.{Answers, AnswersNoWords}
 

@@ -2,8 +2,8 @@
 
 ghost use Rattle.ded_program.specs.Whole.{IsWholeAnswer};
 
+use crate::real::{RealFiles, StdSink, real_words};
 use debug_core::debug_program;
-use ded_real::{RealFiles, StdSink, real_words};
 use std::alloc::AllocGlobal;
 use std::io::Write;
 use std::rt::{Env, Files};

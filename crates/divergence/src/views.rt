@@ -7,7 +7,7 @@ ghost use Rattle.task_local.specs.OfferView.{offer_as};
 ghost use Rattle.divergence.specs.ViewText.{number_line, member_line, form_word, choice_line, offer_lines};
 ghost use Rattle.divergence.specs.inner.Shown.{shown_lines};
 
-use decimal_text::{put_number, put_signed};
+use ded_io::decimals::{put_number, put_signed};
 use ded_io::{Sink, SinkError};
 use event_machine::{CallForm, Choice};
 use feasible::TaskView;

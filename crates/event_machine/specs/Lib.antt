@@ -12,3 +12,4 @@ pub mod Soundness
 pub mod Queues
 pub mod Tallies
 pub mod Laws
+pub mod progress

@@ -3,6 +3,8 @@
 //! The crate has no functions of its own.
 #![tactic(auto)]
 
+pub mod progress;
+
 /// The forms of an entry call (9.5, 9.7.2, 9.7.3).
 #[derive(Clone, Copy, Debug, PartialEq, Eq)]
 pub enum CallForm {

@@ -12,7 +12,7 @@ use Rattle.event_machine.specs.Tallies.{HasNoEnd}
 use Rattle.event_machine.specs.Worlds.{is_last}
 use Rattle.syn_event.specs.Numbering.{Numbering}
 use Rattle.task_model.proofs.Following.{feasible_exactly}
-use Rattle.task_model.specs.Machine.{Setup, Tasks}
+use Rattle.task_model.specs.Machine.{ProgramWithInputs, Tasks}
 use Rattle.task_machine.specs.declared.verdict.Verdict.{Verdict}
 use Rattle.task_machine.specs.declared.verdict.Verdict.TheVariants.{Feasible, Infeasible, Unsettled}
 use Rattle.task_machine.specs.Conditions.{needed_of, first_failing}
@@ -27,7 +27,7 @@ use Rattle.feasible.specs.Kept.{Kept}
 use Rattle.feasible.proofs.Asking.{asked_all}
 use Rattle.feasible.proofs.Judging.{keeps_run, stands, rests, none_open, stuck_open, happens_here, keeps_event}
 
-module _ (setup : Setup) (numbers : Numbering) (bound : ℕ) (events : List Event) (more : HasNoEnd events) where
+module _ (setup : ProgramWithInputs) (numbers : Numbering) (bound : ℕ) (events : List Event) (more : HasNoEnd events) where
   -- ---- what is kept, seen
 
   module _ (tasks : Tasks) (steps : List ℕ) (ended : Bool) (k : AreKept setup numbers bound events tasks steps ended) where
@@ -105,7 +105,7 @@ taken_all events taken (Infeasible at why) h c = absurd (true≢false (sym h))
 taken_all events taken (Unsettled at task) h c = absurd (true≢false (sym h))
 
 -- One more event behind a feasible verdict.
-pub goes_on : (setup : Setup) (events : List Event) (j : Kept) (e : Event) (tasks' : Tasks) (steps' : List ℕ) (v : Verdict) → StandsFor setup events j → HasNoEnd events → is_feasible j.verdict ≡ true →
+pub goes_on : (setup : ProgramWithInputs) (events : List Event) (j : Kept) (e : Event) (tasks' : Tasks) (steps' : List ℕ) (v : Verdict) → StandsFor setup events j → HasNoEnd events → is_feasible j.verdict ≡ true →
     IsDecided j.numbers j.bound j.taken e j.tasks j.steps tasks' steps' v → GoesOn setup j.numbers j.bound events e j.taken j.ended tasks' steps' v
 goes_on setup events j e tasks' steps' v s more well d =
     let k = taken_all events j.taken j.verdict well s.counts in
@@ -118,7 +118,7 @@ stays_kept events more taken less = sym (take-append-le taken events more (omega
 stays_short : (events more : List Event) (taken : ℕ) → taken < length events → taken < length (events ++ more)
 stays_short events more taken less = let h : length (events ++ more) ≡ length events + length more = length-append events more in omega arith
 
-verdict_stays : (setup : Setup) (numbers : Numbering) (bound : ℕ) (events more : List Event) (taken : ℕ) (v : Verdict) → is_feasible v ≡ false → VerdictIs setup numbers bound events v → Counts events taken v →
+verdict_stays : (setup : ProgramWithInputs) (numbers : Numbering) (bound : ℕ) (events more : List Event) (taken : ℕ) (v : Verdict) → is_feasible v ≡ false → VerdictIs setup numbers bound events v → Counts events taken v →
     VerdictIs setup numbers bound (events ++ more) v × Counts (events ++ more) taken v × (take taken events ≡ take taken (events ++ more))
 verdict_stays setup numbers bound events more taken Feasible h v c = absurd (true≢false h)
 verdict_stays setup numbers bound events more taken (Infeasible at why) h v c =
@@ -127,7 +127,7 @@ verdict_stays setup numbers bound events more taken (Unsettled at task) h v c =
     (held_stays setup numbers bound events more at task v, (c.0, stays_short events more taken c.1), stays_kept events more taken c.1)
 
 -- Behind another verdict the judge stands for whatever comes.
-pub stands_still : (setup : Setup) (events more : List Event) (j : Kept) → StandsFor setup events j → is_feasible j.verdict ≡ false → StandsFor setup (events ++ more) j
+pub stands_still : (setup : ProgramWithInputs) (events more : List Event) (j : Kept) → StandsFor setup events j → is_feasible j.verdict ≡ false → StandsFor setup (events ++ more) j
 stands_still setup events more j s h =
     let k = verdict_stays setup j.numbers j.bound events more j.taken j.verdict h s.verdict s.counts in
     record {
@@ -140,7 +140,7 @@ stands_still setup events more j s h =
 -- ---- the clauses of the judge's step
 
 -- the verdict of a judge that decided
-pub verdict_next : (setup : Setup) (events : List Event) (old : Kept) (e : Event) (tasks' : Tasks) (steps' : List ℕ) (result : Result Verdict Memory) → StandsFor setup events old → HasNoEnd events →
+pub verdict_next : (setup : ProgramWithInputs) (events : List Event) (old : Kept) (e : Event) (tasks' : Tasks) (steps' : List ℕ) (result : Result Verdict Memory) → StandsFor setup events old → HasNoEnd events →
     (is_feasible old.verdict ≡ false → IfOk result (λ v. v ≡ old.verdict)) →
     (is_feasible old.verdict ≡ true → IfOk result (IsDecided old.numbers old.bound old.taken e old.tasks old.steps tasks' steps')) →
     IfOk result (VerdictIs setup old.numbers old.bound (events ++ e ∷ []))
@@ -151,7 +151,7 @@ verdict_next setup events old e tasks' steps' (Ok v) s more same d = ⊎_elim
     (cases_Bool (is_feasible old.verdict))
 
 -- and what it stands for
-pub stands_next : (setup : Setup) (events : List Event) (old new : Kept) (e : Event) (result : Result Verdict Memory) → StandsFor setup events old → HasNoEnd events →
+pub stands_next : (setup : ProgramWithInputs) (events : List Event) (old new : Kept) (e : Event) (result : Result Verdict Memory) → StandsFor setup events old → HasNoEnd events →
     (is_feasible old.verdict ≡ false → new ≡ old) →
     (is_feasible old.verdict ≡ true → IfOk result (IsDecided old.numbers old.bound old.taken e old.tasks old.steps new.tasks new.steps)) →
     (is_feasible old.verdict ≡ true → IfOk result (λ v. new.taken ≡ taken_with v old.taken)) →
@@ -198,7 +198,7 @@ settled_next old e tasks' steps' (Ok v) d well = λ h. let r = d well in
     settled_leaves old.numbers old.bound old.taken e r.found r.counted tasks' steps' v r.leaves h
 
 -- the verdict of a judge that stands for all events
-pub verdict_whole : (setup : Setup) (events : List Event) (n : ℕ) (j : Kept) (numbers : Numbering) (bound : ℕ) (v : Verdict) → StandsFor setup (take n events) j → length events ≤ n →
+pub verdict_whole : (setup : ProgramWithInputs) (events : List Event) (n : ℕ) (j : Kept) (numbers : Numbering) (bound : ℕ) (v : Verdict) → StandsFor setup (take n events) j → length events ≤ n →
     j.numbers ≡ numbers → j.bound ≡ bound → v ≡ j.verdict → VerdictIs setup numbers bound events v
 verdict_whole setup events n j numbers bound v s all same_numbers same_bound last =
     subst (λ es. VerdictIs setup numbers bound es v) (take_all n events all)

@@ -28,7 +28,7 @@ use Rattle.syn_event.specs.Numbering.{Numbering, owner_of}
 use Rattle.task_model.proofs.Following.{opens, proper, rest_exactly}
 use Rattle.task_model.proofs.Lawful.{lawful}
 use Rattle.task_model.specs.Laws.{IsProper, program_in, first_world}
-use Rattle.task_model.specs.Machine.{Setup, opening_of, Tasks, rules_of}
+use Rattle.task_model.specs.Machine.{ProgramWithInputs, opening_of, Tasks, rules_of}
 use Rattle.task_model.specs.Stands.{can_step, offer_of}
 use Rattle.task_model.specs.TaskOps.{task_ops}
 use Rattle.task_model.specs.Tasks.{Task}
@@ -36,7 +36,7 @@ use Rattle.task_machine.specs.Conditions.{first_failing}
 use Rattle.task_machine.specs.Conditions as asked_of
 use Rattle.task_machine.specs.Judging.{NoneOpen}
 use Rattle.task_machine.specs.Table.{seat_of}
-use Rattle.task_machine.specs.Views.{IsPastBound, IsRest, StandsInSomeRun, view_of, view_in}
+use Rattle.task_machine.specs.Views.{IsOpenAt, IsRest, StandsInSomeRun, view_of, view_in}
 use Rattle.task_machine.proofs.TaskLaws.{the_count, the_standing}
 use Rattle.task_machine.proofs.Tabled.{AreSeen, table_happens, none_failing}
 use Rattle.feasible.specs.Failing.{view_at}
@@ -58,7 +58,7 @@ closed_seen z seat e = ap is_closed e ∙ go seat.standing
     go Completed = refl
     go Killed = refl
 
-module _ (setup : Setup) (numbers : Numbering) (bound : ℕ) where
+module _ (setup : ProgramWithInputs) (numbers : Numbering) (bound : ℕ) where
   abbrev m : Program Task
   m = program_in setup numbers
 
@@ -147,7 +147,7 @@ module _ (setup : Setup) (numbers : Numbering) (bound : ℕ) where
         ((rest_exactly setup numbers events more t (slice_index steps t) (kept t).local).1 (k.bases, k.leads, live_base, has, is))
 
     -- a settled task is not open
-    pub settled_closed : (t : ℕ) → IsSettled tasks t → IsPastBound setup numbers events t bound → ⊥
+    pub settled_closed : (t : ℕ) → IsSettled tasks t → IsOpenAt setup numbers events t bound → ⊥
     settled_closed t settled (task, rest, can) =
         let (w, leads, free, has, is) = (rest_exactly setup numbers events more t bound task).0 (subst (λ es. RestIs (rules_of numbers) (opening_of setup numbers).state es t bound task) same_end rest) in
         let same : w ≡ k.bases = leads_once m events (first_world setup numbers) w k.bases leads k.leads in
@@ -164,10 +164,10 @@ module _ (setup : Setup) (numbers : Numbering) (bound : ℕ) where
         omega arith
 
     pub none_open : (needed : List ℕ) → All (IsSettled tasks) needed → NoneOpen setup numbers bound events needed
-    none_open needed settled = All-weaker (IsSettled tasks) (λ t. IsPastBound setup numbers events t bound → ⊥) settled_closed needed settled
+    none_open needed settled = All-weaker (IsSettled tasks) (λ t. IsOpenAt setup numbers events t bound → ⊥) settled_closed needed settled
 
     -- a stuck task is open
-    pub stuck_open : (t : ℕ) → IsStuck bound tasks steps t → IsPastBound setup numbers events t bound
+    pub stuck_open : (t : ℕ) → IsStuck bound tasks steps t → IsOpenAt setup numbers events t bound
     stuck_open t stuck =
         let free : (kept t).standing ≡ Live = is-Live (kept t).standing stuck.free in
         let few : slice_index steps t ≤ bound = k.within t in

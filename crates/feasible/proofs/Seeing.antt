@@ -12,7 +12,7 @@ use Rattle.event_machine.specs.Worlds.{World, acted, changes, is_last}
 use Rattle.event_machine.proofs.Extending.{before_end-same}
 use Rattle.syn_event.specs.Numbering.{Numbering}
 use Rattle.task_model.specs.Laws.{program_in, first_world}
-use Rattle.task_model.specs.Machine.{Setup, opening_of, Tasks, rules_of}
+use Rattle.task_model.specs.Machine.{ProgramWithInputs, opening_of, Tasks, rules_of}
 use Rattle.task_model.specs.TaskOps.{task_ops}
 use Rattle.task_model.specs.Tasks.{Task}
 use Rattle.task_machine.specs.Table.{seat_of}
@@ -35,7 +35,7 @@ closed_abnormal (z.Served by abnormal) h = h
 closed_abnormal z.Completed h = absurd (true≢false (sym h))
 closed_abnormal z.Killed h = absurd (true≢false (sym h))
 
-shown_view : (setup : Setup) (numbers : Numbering) (events : List Event) (t : ℕ) (v : View) (task : TaskView) → ViewIs setup numbers events t v → Shows v task → IsShown setup numbers events t task
+shown_view : (setup : ProgramWithInputs) (numbers : Numbering) (events : List Event) (t : ℕ) (v : View) (task : TaskView) → ViewIs setup numbers events t v → Shows v task → IsShown setup numbers events t task
 shown_view setup numbers events t Completed task (s, stands, h) e = subst (IsShown setup numbers events t) (sym e) (s, stands, completed_closed s h)
 shown_view setup numbers events t Abnormal task (s, stands, h) e = subst (IsShown setup numbers events t) (sym e) (s, stands, closed_abnormal s h)
 shown_view setup numbers events t Busy task h e = subst (IsShown setup numbers events t) (sym e) h
@@ -79,7 +79,7 @@ module _ (m : Program Task) where
   led_before w last [] leads = (w, refl, λ t. ap (λ (u : World Task). u.tasks t) leads)
   led_before w last (e ∷ events) (next, fires, leads) = by_last w next last e events fires leads (led_before next last events leads) (is_last e) refl
 
-module _ (setup : Setup) (numbers : Numbering) where
+module _ (setup : ProgramWithInputs) (numbers : Numbering) where
   -- What is kept for events is kept for those before the end.
   kept_before : (bound : ℕ) (events : List Event) (tasks : Tasks) (steps : List ℕ) (ended : Bool) → AreKept setup numbers bound events tasks steps ended →
       (runs : Bool) × AreKept setup numbers bound (before_end events) tasks steps runs
@@ -108,7 +108,7 @@ module _ (setup : Setup) (numbers : Numbering) where
   seen_before events t (shown.At lent) (n, task, rest, none, is) =
       (n, task, subst (λ es. RestIs (rules_of numbers) (opening_of setup numbers).state es t n task) (before_end-same (before_end events) (no_end_before events)) rest, none, is)
 
-pub shown_is : (setup : Setup) (events : List Event) (j : Kept) (t : ℕ) (task : TaskView) → StandsFor setup events j → IsSettled j.tasks t → Shows (view_at j.tasks t) task →
+pub shown_is : (setup : ProgramWithInputs) (events : List Event) (j : Kept) (t : ℕ) (task : TaskView) → StandsFor setup events j → IsSettled j.tasks t → Shows (view_at j.tasks t) task →
     IsShown setup j.numbers (take j.taken events) t task
 shown_is setup events j t task s settled shows =
     let happened : List Event = take j.taken events in

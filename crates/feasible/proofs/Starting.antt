@@ -11,7 +11,7 @@ use Rattle.syn_event.specs.Numbering.{Numbering, owner_of}
 use Rattle.task_model.proofs.Following.{opens, proper}
 use Rattle.task_model.proofs.Lawful.{lawful}
 use Rattle.task_model.specs.Laws.{IsProper, program_in, first_world}
-use Rattle.task_model.specs.Machine.{Setup, opening_of, first_tasks, Tasks}
+use Rattle.task_model.specs.Machine.{ProgramWithInputs, opening_of, first_tasks, Tasks}
 use Rattle.task_model.specs.TaskOps.{task_ops}
 use Rattle.task_machine.specs.declared.verdict.Verdict.TheVariants.{Feasible}
 use Rattle.task_machine.specs.Table.{seat_of}
@@ -19,7 +19,7 @@ use Rattle.task_machine.proofs.TaskLaws.{the_count}
 use Rattle.task_machine.proofs.Verdicts.{verdict_empty}
 use Rattle.feasible.specs.Keeping.{AreKept, StandsFor}
 
-module _ (setup : Setup) (numbers : Numbering) (bound : ℕ) (tasks : Tasks) (steps : List ℕ) (started : tasks ≡ first_tasks setup numbers (length numbers.tasks))
+module _ (setup : ProgramWithInputs) (numbers : Numbering) (bound : ℕ) (tasks : Tasks) (steps : List ℕ) (started : tasks ≡ first_tasks setup numbers (length numbers.tasks))
     (zero : (t : ℕ) → slice_index steps t ≡ 0) (size : length steps ≡ length tasks) where
   first_kept : AreKept setup numbers bound [] (first_tasks setup numbers (length numbers.tasks)) steps false
   first_kept = record {

@@ -6,7 +6,7 @@ use Rattle.event_machine.specs.Settling.{Leads, Follows}
 use Rattle.event_machine.specs.Worlds.{World, is_last}
 use Rattle.syn_event.specs.Numbering.{Numbering}
 use Rattle.task_model.specs.Laws.{program_in, first_world}
-use Rattle.task_model.specs.Machine.{Setup, Tasks}
+use Rattle.task_model.specs.Machine.{ProgramWithInputs, Tasks}
 use Rattle.task_model.specs.Stands.{can_step}
 use Rattle.task_model.specs.Tasks.{Task}
 use Rattle.task_machine.specs.declared.verdict.Verdict.{Verdict}
@@ -21,7 +21,7 @@ world_kept tasks ended = record { tasks = λ t. seat_of tasks t; ended = ended }
 
 -- The tasks are kept for these events: the events lead from the opening to bases, each task is its base run on by its count of local steps, and
 -- no count is above the bound.
-pub record AreKept (setup : Setup) (numbers : Numbering) (bound : ℕ) (events : List Event) (tasks : Tasks) (steps : List ℕ) (ended : Bool) : Type 0 where
+pub record AreKept (setup : ProgramWithInputs) (numbers : Numbering) (bound : ℕ) (events : List Event) (tasks : Tasks) (steps : List ℕ) (ended : Bool) : Type 0 where
   pub bases : World Task
   pub leads : Leads (program_in setup numbers) (first_world setup numbers) events bases
   pub follows : Follows (program_in setup numbers) bases (world_kept tasks ended) (λ t. slice_index steps t)
@@ -36,7 +36,7 @@ Counts events taken (Infeasible at why) = (at ≡ taken + 1) × (taken < length 
 Counts events taken (Unsettled at task) = (at ≡ taken + 1) × (taken < length events)
 
 -- The judge stands for this list of events: its verdict is that of the list, and its tasks are kept for those of the events that have happened.
-pub record StandsFor (setup : Setup) (events : List Event) (judge : Kept) : Type 0 where
+pub record StandsFor (setup : ProgramWithInputs) (events : List Event) (judge : Kept) : Type 0 where
   pub memory : judge.lost ≡ false
   pub verdict : VerdictIs setup judge.numbers judge.bound events judge.verdict
   pub counts : Counts events judge.taken judge.verdict

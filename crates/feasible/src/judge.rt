@@ -5,7 +5,7 @@ ghost use Rattle.ada_tree.specs.PlainProgram.{plain_program};
 ghost use Rattle.event_machine.specs.declared.Event as event;
 ghost use Rattle.event_machine.specs.Tallies.{HasNoEnd};
 ghost use Rattle.event_machine.specs.Worlds.{is_last};
-ghost use Rattle.task_model.specs.Machine.{Setup};
+ghost use Rattle.task_model.specs.Machine.{ProgramWithInputs};
 ghost use Rattle.task_machine.specs.Conditions.{needed_of};
 ghost use Rattle.task_machine.specs.Judging.{VerdictIs};
 ghost use Rattle.task_machine.specs.Table.{setup_in};
@@ -96,8 +96,8 @@ impl<'p> Judge<'p> {
     pub fn next(&mut self, e: &Event) -> Result<Verdict, Memory>
         requires few { self.old.taken + 1 < 2 ^ 32 }
         // for each list for which the judge stands
-        ensures verdict { (setup : Setup) (events : List event.Event) → StandsFor setup events self.old → HasNoEnd events → IfOk result (VerdictIs setup self.old.numbers self.old.bound (events ++ e.now ∷ [])) }
-        ensures stands { (setup : Setup) (events : List event.Event) → StandsFor setup events self.old → HasNoEnd events → OnOk result (StandsFor setup (events ++ e.now ∷ []) self.new) }
+        ensures verdict { (setup : ProgramWithInputs) (events : List event.Event) → StandsFor setup events self.old → HasNoEnd events → IfOk result (VerdictIs setup self.old.numbers self.old.bound (events ++ e.now ∷ [])) }
+        ensures stands { (setup : ProgramWithInputs) (events : List event.Event) → StandsFor setup events self.old → HasNoEnd events → OnOk result (StandsFor setup (events ++ e.now ∷ []) self.new) }
         ensures settled { is_feasible self.old.verdict ≡ true → IfOk result (λ v. is_infeasible v ≡ true → All (IsSettled self.new.tasks) (needed_of self.old.numbers e.now)) }
         ensures last { IfOk result (λ v. v ≡ self.new.verdict) }
         ensures taken { self.new.taken ≤ self.old.taken + 1 }
@@ -123,7 +123,7 @@ impl<'p> Judge<'p> {
     pub fn offer<'a>(&'a self, task: u32) -> TaskView<'a>
         requires { IsSettled self.now.tasks task }
         // after the events that have happened
-        ensures view { (setup : Setup) (events : List event.Event) → StandsFor setup events self.now → IsShown setup self.now.numbers (take self.now.taken events) task result }
+        ensures view { (setup : ProgramWithInputs) (events : List event.Event) → StandsFor setup events self.now → IsShown setup self.now.numbers (take self.now.taken events) task result }
         ensures shows { Shows (view_at self.now.tasks task) result }
     {
         show_at(&self.seats, task)
@@ -225,7 +225,7 @@ fn judge_with(
 pub(crate) fn judge_each(judge: &mut Judge, events: &[Event]) -> Result<Verdict, Memory>
     requires first { judge.old.taken ≡ 0 }
     requires few { length events.now < 2 ^ 32 }
-    ensures { (setup : Setup) → StandsFor setup [] judge.old → NothingFollows events.now → IfOk result (VerdictIs setup judge.old.numbers judge.old.bound events.now) }
+    ensures { (setup : ProgramWithInputs) → StandsFor setup [] judge.old → NothingFollows events.now → IfOk result (VerdictIs setup judge.old.numbers judge.old.bound events.now) }
 {
     for e in events {
         match judge.next(e) {

@@ -9,8 +9,8 @@ use Rattle.task_model.specs.Machine.{MachineState, after, enabled_of}
 use Rattle.task_model.specs.TaskOps.{task_ops}
 use Rattle.task_model.specs.Tasks.{Task}
 use Rattle.task_machine.specs.Table.{can}
-use Rattle.run_model.specs.declared.report.RunEnd.TheVariants.{Ended, Stuck}
-use Rattle.run_model.specs.Picked.{is_nil}
+use Rattle.task_model.specs.declared.picked_runs.report.RunEnd.TheVariants.{Ended, Stuck}
+use Rattle.task_model.specs.picked_runs.Picked.{is_nil}
 use Rattle.interp.specs.inner.Listed.{IsListed, steps_again}
 use Rattle.interp.proofs.Looking.{enabled_kept}
 

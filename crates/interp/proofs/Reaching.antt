@@ -9,12 +9,12 @@ use Rattle.event_machine.specs.declared.Action.{Action}
 use Rattle.event_machine.specs.declared.Event.{Event}
 use Rattle.syn_event.specs.Numbering.{Numbering}
 use Rattle.task_model.specs.Machine.{MachineState, after, event_of}
-use Rattle.run_model.specs.declared.report.RunEnd.{RunEnd}
-use Rattle.run_model.specs.declared.report.RunEnd.TheVariants.{Turns}
+use Rattle.task_model.specs.declared.picked_runs.report.RunEnd.{RunEnd}
+use Rattle.task_model.specs.declared.picked_runs.report.RunEnd.TheVariants.{Turns}
 use Rattle.interp.specs.declared.report.RunError.{RunError}
 use Rattle.interp.specs.declared.report.RunError.TheVariants.{Memory, Sink}
-use Rattle.run_model.specs.Picked.{Position, start_position, halted, picked_action, with_action, turned_by, turned, after_turns, picked, run_end}
-use Rattle.run_model.specs.Lines.{lines_of, event_line}
+use Rattle.task_model.specs.picked_runs.Picked.{Position, start_position, halted, picked_action, with_action, turned_by, turned, after_turns, picked, run_end}
+use Rattle.task_model.specs.picked_runs.Lines.{lines_of, event_line}
 use Rattle.interp.specs.inner.Chosen.{IsPicked, IsBroken}
 use Rattle.interp.specs.CutOff.{IsCutOff}
 

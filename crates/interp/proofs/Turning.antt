@@ -12,10 +12,10 @@ use Rattle.event_machine.specs.Applying.{actions_below}
 use Rattle.task_model.specs.TaskOps.{task_ops}
 use Rattle.task_model.specs.Machine.{MachineState, enabled_of, after, event_of}
 use Rattle.task_machine.specs.Table.{can, seen_in}
-use Rattle.run_model.specs.declared.report.RunEnd.{RunEnd}
+use Rattle.task_model.specs.declared.picked_runs.report.RunEnd.{RunEnd}
 use Rattle.interp.specs.declared.report.RunError.TheVariants.{Sink}
-use Rattle.run_model.specs.Lines.{lines_of}
-use Rattle.run_model.specs.Picked.{picked_action, halted}
+use Rattle.task_model.specs.picked_runs.Lines.{lines_of}
+use Rattle.task_model.specs.picked_runs.Picked.{picked_action, halted}
 use Rattle.interp.specs.inner.Chosen.{IsBroken, IsPicked}
 
 -- what a write that went well has written

@@ -6,8 +6,8 @@ use Rattle.syn_event.specs.Numbering.{Numbering}
 use Rattle.task_model.specs.Machine.{MachineState}
 use Rattle.interp.specs.declared.report.RunError.{RunError}
 use Rattle.interp.specs.declared.report.RunError.TheVariants.{Memory, Sink}
-use Rattle.run_model.specs.Picked.{picked}
-use Rattle.run_model.specs.Lines.{lines_of}
+use Rattle.task_model.specs.picked_runs.Picked.{picked}
+use Rattle.task_model.specs.picked_runs.Lines.{lines_of}
 
 -- the lines of the first k actions of the picked run
 abbrev pub lines_to : {C : Type 0} → (C → ℕ) → (C → C) → Numbering → MachineState → C → ℕ → List ℕ

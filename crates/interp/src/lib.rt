@@ -6,5 +6,5 @@ mod report;
 mod running;
 
 pub use report::RunError;
-pub use run_model::{RunEnd, RunReport};
 pub use running::run;
+pub use task_model::picked_runs::{RunEnd, RunReport};

@@ -7,8 +7,8 @@ ghost use Rattle.ded_io.specs.Written.{Wrote, appended};
 ghost use Rattle.interp.specs.CutOff.{IsCutOff};
 ghost use Rattle.interp.specs.inner.Chosen.{IsChosen, IsBroken};
 ghost use Rattle.interp.specs.inner.Listed.{IsListed, IsListedFor, steps_again};
-ghost use Rattle.run_model.specs.Lines.{event_line, lines_of};
-ghost use Rattle.run_model.specs.Picked.{picked, run_end, halted};
+ghost use Rattle.task_model.specs.picked_runs.Lines.{event_line, lines_of};
+ghost use Rattle.task_model.specs.picked_runs.Picked.{picked, run_end, halted};
 ghost use Rattle.task_model.specs.Machine.{after, event_of, enabled_of};
 ghost use Rattle.task_machine.specs.Table.{can};
 
@@ -17,10 +17,10 @@ use crate::gathering::Line;
 use ada_tree::Memory;
 use ded_io::{Chooser, Sink, SinkError};
 use event_machine::{Action, Event};
-use run_model::{RunEnd, RunReport};
 use std::alloc::Global;
 use syn_event::{Numbers, back, show};
 use task_machine::Machine;
+use task_model::picked_runs::{RunEnd, RunReport};
 
 // Writes the line of an event, in one write.
 #[tactic(auto, using(crate::proofs::WholeLine::line_gathered))]

@@ -2,7 +2,7 @@
 use Rattle.std.proofs.Common.{◌≡◌, ℕ, ◌+◌, List, [], ◌∷◌, ◌++◌, map, Result, Ok, Err, IfOk, OnOk, Vec, Global, refl, sym, ap, ◌∙◌}
 use Rattle.ada_tree.specs.declared.shortage.Memory.{Memory}
 use Rattle.ada_tree.specs.declared.statements.CaseArm.{CaseArm}
-use Rattle.ada_expr_copy.specs.Parts.{OkWith}
+use Rattle.ada_stmt_copy.specs.expressions.Parts.{OkWith}
 use Rattle.ada_tree.specs.declared.naming.Span.{Span}
 use Rattle.ada_tree.specs.declared.naming.Word.{Word}
 use Rattle.ada_tree.specs.PlainStmt.{PCallee, PStmts, SCase, SNull, PCaseArm, case_arms_of, plain_case_arm, plain_stmt, present}
@@ -10,8 +10,8 @@ use Rattle.ada_tree.specs.declared.statements.Stmt.{Stmt}
 use Rattle.task_model.specs.Setting.{Setting}
 use Rattle.normal_model.specs.Making.{one, variable}
 use Rattle.normal_model.specs.Members.{by_member, member_arm, members_of}
-use Rattle.normal_pieces.specs.declared.meanings.Member.{Member}
-use Rattle.normal_pieces.specs.Seen.{member_meant, member_seen}
+use Rattle.normal_lookups.specs.declared.pieces.meanings.Member.{Member}
+use Rattle.normal_lookups.specs.pieces.Seen.{member_meant, member_seen}
 use Rattle.normal_calls.specs.inner.CallForms.{arm_for}
 
 map-seen : {A B C : Type 0} (f : A → B) (h : B → C) (xs : List A) → map (λ x. h (f x)) xs ≡ map h (map f xs)

@@ -3,7 +3,7 @@ use Rattle.std.proofs.Common.{◌≡◌, ℕ, zero, suc, ◌+◌, min, true, fal
 use Rattle.std.proofs.lemmas.List.{length-append, length-map, map-append}
 use Rattle.ada_tree.specs.declared.expressions.Expr.{Expr}
 use Rattle.ada_tree.specs.declared.shortage.Memory.{Memory}
-use Rattle.ada_expr_copy.specs.Parts.{OkWith}
+use Rattle.ada_stmt_copy.specs.expressions.Parts.{OkWith}
 use Rattle.ada_tree.specs.declared.naming.Span.{Span}
 use Rattle.ada_tree.specs.PlainExpr.{PExpr, plain_expr}
 use Rattle.ada_tree.specs.PlainStmt.{PCall, plain_args}

@@ -7,7 +7,7 @@ use Rattle.ada_tree.specs.declared.statements.Callee.{Callee}
 use Rattle.ada_tree.specs.PlainStmt.{PStmts, SAbort, plain_callee, plain_stmt}
 use Rattle.ada_tree.specs.declared.statements.Stmt.{Stmt}
 use Rattle.ada_tree.specs.declared.shortage.Memory.{Memory}
-use Rattle.ada_expr_copy.specs.Parts.{OkWith}
+use Rattle.ada_stmt_copy.specs.expressions.Parts.{OkWith}
 use Rattle.task_model.specs.Setting.{Setting}
 use Rattle.task_model.specs.Frames.{in_front}
 use Rattle.normal_model.specs.Making.{one}

@@ -12,9 +12,9 @@ use crate::member_branches::abort_by_member;
 use crate::numbers::behind_callee;
 use ada_stmt_copy::building::abort_of;
 use ada_tree::{Callee, Memory, Span, Stmt};
-use normal_pieces::{Meanings, moving_index, push_made};
+use normal_lookups::pieces::{Meanings, moving_index, push_made};
 use std::alloc::Global;
-use tree_making::abort_one;
+use tree_rewriting::making::abort_one;
 
 // The abort of a callee, or the choice of the member.
 fn push_chosen<M: Meanings>(

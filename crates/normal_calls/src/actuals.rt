@@ -11,10 +11,10 @@ ghost use Rattle.normal_calls.specs.inner.Modes.{modes_before, modes_behind};
 use crate::called::{actuals_called, modes_called};
 use crate::numbers::{actual_number, number_at};
 use ada_tree::{Call, Expr, Memory, ParMode, Span, Stmt, Word};
-use normal_pieces::{Meanings, push_copy, push_made, variable_expr};
+use normal_lookups::pieces::{Meanings, push_copy, push_made, variable_expr};
 use std::alloc::Global;
 use task_links::variable_of;
-use tree_making::assignment;
+use tree_rewriting::making::assignment;
 
 // The assignment of an actual to its variable.
 fn push_actual<M: Meanings>(

@@ -10,9 +10,9 @@ use crate::numbers::flag_number;
 use crate::passed::call_to;
 use ada_stmt_copy::building::{call_of, conditional_of, timed_of};
 use ada_tree::{Call, Callee, Memory, Span, Stmt, Word};
-use normal_pieces::{Meanings, assigned_stmt};
+use normal_lookups::pieces::{Meanings, assigned_stmt};
 use std::alloc::Global;
-use tree_making::{integer_expr, one_stmt, take_stmts};
+use tree_rewriting::making::{integer_expr, one_stmt, take_stmts};
 
 /// The form of a call: a plain one, a conditional one, or a timed one, whose delay is in thousandths of a second.
 #[derive(Clone, Copy, Debug, PartialEq, Eq)]

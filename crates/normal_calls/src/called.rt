@@ -6,7 +6,7 @@ ghost use Rattle.ada_tree.specs.PlainStmt.{plain_call};
 ghost use Rattle.normal_model.specs.Calls.{lists_called, slots_called};
 
 use ada_tree::{Call, Expr, ParMode};
-use normal_pieces::Meanings;
+use normal_lookups::pieces::Meanings;
 
 /// The index of a family in a call.
 pub(crate) fn index_called<'a, M: Meanings>(m: &M, call: &'a Call) -> Option<&'a Expr>

@@ -14,7 +14,7 @@ use crate::called::{actuals_called, index_called, modes_called};
 use crate::member_branches::call_by_member;
 use crate::numbers::{actual_number, index_number};
 use ada_tree::{Call, Callee, Memory, Span, Stmt};
-use normal_pieces::{Meanings, moving_index, push_copy, push_made};
+use normal_lookups::pieces::{Meanings, moving_index, push_copy, push_made};
 use std::alloc::Global;
 
 /// The assignment of a callee's index to its variable, where it is not static.

@@ -1,5 +1,5 @@
 //! What stands in the place of entry calls and abort statements in the normal form.
-#![tactic(auto, using(ada_tree::proofs::Rows::rows, normal_pieces::proofs::Fronts::fronts))]
+#![tactic(auto, using(ada_tree::proofs::Rows::rows, normal_lookups::proofs::pieces::Fronts::fronts))]
 
 mod aborts;
 mod actuals;

@@ -2,19 +2,21 @@
 
 ghost use Rattle.std.specs.Prelude.{◌≡◌, ◌++◌, ◌∷◌, [], None, IfOk, OnOk, map};
 ghost use Rattle.ada_tree.specs.PlainStmt.{SCase, SNull, case_arm, case_arms_of, plain_call, plain_callee, plain_case_arm, plain_stmt, present};
-ghost use Rattle.ada_expr_copy.specs.Parts.{OkWith};
+ghost use Rattle.ada_stmt_copy.specs.expressions.Parts.{OkWith};
 ghost use Rattle.normal_model.specs.Aborts.{abort_of};
 ghost use Rattle.normal_model.specs.Making.{one, variable};
 ghost use Rattle.normal_model.specs.Members.{by_member};
-ghost use Rattle.normal_pieces.specs.Seen.{literal_seen, member_seen};
+ghost use Rattle.normal_lookups.specs.pieces.Seen.{literal_seen, member_seen};
 ghost use Rattle.normal_calls.specs.inner.CallForms.{arm_for, branch};
 
 use crate::call_forms::{Form, branch};
 use ada_stmt_copy::building::case_others_of;
 use ada_tree::{Call, Callee, CaseArm, Memory, Span, Stmt, Word};
-use normal_pieces::{Meanings, Member, literal_expr, variable_expr};
+use normal_lookups::pieces::{Meanings, Member, literal_expr, variable_expr};
 use std::alloc::Global;
-use tree_making::{abort_one, keep_case_arms, null_stmt, one_stmt, push_case_arm, value_arm};
+use tree_rewriting::making::{
+    abort_one, keep_case_arms, null_stmt, one_stmt, push_case_arm, value_arm,
+};
 
 // The branch of a member, which holds one statement.
 fn member_arm(

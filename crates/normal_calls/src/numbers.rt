@@ -7,7 +7,7 @@ ghost use Rattle.normal_model.specs.Members.{callee_kept};
 
 use crate::called::{count_called, index_called};
 use ada_tree::{Call, Callee, Memory, Span};
-use normal_pieces::{Meanings, following, moving_index};
+use normal_lookups::pieces::{Meanings, following, moving_index};
 
 // The number behind that of a variable that is there or not.
 fn behind(number: u32, is_there: bool) -> Result<u32, Memory>

@@ -9,11 +9,13 @@ ghost use Rattle.normal_calls.specs.inner.Passing.{variables_from};
 
 use crate::called::count_with_formal;
 use crate::numbers::{actual_number, index_number, number_at};
-use ada_expr_copy::copy_exprs;
+use ada_stmt_copy::expressions::copy_exprs;
 use ada_tree::{Args, Call, Expr, Memory, Span, Word};
-use normal_pieces::{Meanings, variable_expr};
+use normal_lookups::pieces::{Meanings, variable_expr};
 use std::alloc::Global;
-use tree_making::{args_of, calling_of, keep_exprs, one_expr, push_expr, some_args, some_exprs};
+use tree_rewriting::making::{
+    args_of, calling_of, keep_exprs, one_expr, push_expr, some_args, some_exprs,
+};
 
 // So many variables, from a number on, go behind other expressions.
 fn push_variables<M: Meanings>(

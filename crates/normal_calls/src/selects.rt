@@ -15,9 +15,11 @@ use crate::calls::push_before;
 use crate::member_branches::call_by_member;
 use crate::numbers::flag_number;
 use ada_tree::{BinaryOp, Call, Expr, Memory, Span, Stmt};
-use normal_pieces::{Meanings, append_row, fill_empty, moving_index, push_made, variable_expr};
+use normal_lookups::pieces::{
+    Meanings, append_row, fill_empty, moving_index, push_made, variable_expr,
+};
 use std::alloc::Global;
-use tree_making::{binary_of, if_one, integer_expr, some_stmts, take_stmts};
+use tree_rewriting::making::{binary_of, if_one, integer_expr, some_stmts, take_stmts};
 
 // The assignments to the actuals go in front of the statements behind a call.
 fn put_behind<M: Meanings>(

@@ -7,15 +7,15 @@ use Rattle.ada_tree.specs.declared.whole.Program.{Program}
 use Rattle.ada_tree.specs.PlainStmt.{PBody}
 use Rattle.ada_tree.specs.PlainDecl.{PDecl, decls_of, plain_decl}
 use Rattle.ada_tree.specs.PlainProgram.{PProgram, plain_program}
-use Rattle.ada_expr_copy.specs.Parts.{OkWith}
+use Rattle.ada_stmt_copy.specs.expressions.Parts.{OkWith}
 use Rattle.syn_event.specs.Numbering.{Numbering}
 use Rattle.syn_event.specs.DeclaredTasks.{decl_list}
 use Rattle.task_model.specs.Setting.{Setting}
 use Rattle.normal_model.specs.Names.{normal_names}
 use Rattle.normal_model.specs.NormalStmts.{normal_body}
 use Rattle.normal_model.specs.NormalTree.{bodies_of, first_decls, greatest, main_unit, main_variables, normal_decls, normal_tree, task_declared, tasks_beside, variables_needed, variables_of_body}
-use Rattle.normal_names.specs.declared.names.NormalNames.{NormalNames}
-use Rattle.normal_names.specs.SoFar.{AreNamesOf}
+use Rattle.normal_lookups.specs.declared.names.names.NormalNames.{NormalNames}
+use Rattle.normal_lookups.specs.names.SoFar.{AreNamesOf}
 use Rattle.normal_form.specs.inner.Whole.{all_decls, named_behind}
 use Rattle.syn_event.proofs.DeclLists.{listed_back}
 use Rattle.normal_model.proofs.WalkLemmas.{listed-front}

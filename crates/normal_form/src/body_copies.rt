@@ -6,15 +6,15 @@ ghost use Rattle.ada_tree.specs.PlainDecl.{plain_decl};
 ghost use Rattle.normal_model.specs.NormalTree.{bodies_of, greatest, unit_for, variables_of_body};
 ghost use Rattle.normal_model.specs.NormalStmts.{unit_variables};
 ghost use Rattle.normal_walk.specs.Begun.{Begins};
-ghost use Rattle.normal_declarations.specs.Runners.{AreRunning};
+ghost use Rattle.normal_form.specs.unit_declarations.Runners.{AreRunning};
 ghost use Rattle.normal_form.specs.inner.Bodies.{seen_body};
 
+use crate::unit_declarations::{Copied, Running, push_copies};
 use ada_tree::{Body, Decl, DeclKind, Memory, Span, Word};
-use normal_declarations::{Copied, Running, push_copies};
 use normal_lookups::Lookups;
-use normal_meanings::Members;
-use normal_variables::Track;
+use normal_lookups::meanings::Members;
 use normal_walk::rewrite_unit;
+use normal_walk::variables::Track;
 use std::alloc::Global;
 use std::mem;
 

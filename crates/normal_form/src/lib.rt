@@ -4,6 +4,7 @@
 mod body_copies;
 mod errors;
 mod numbers;
+pub mod unit_declarations;
 mod whole;
 
 pub use errors::XformError;

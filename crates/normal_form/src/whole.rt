@@ -6,25 +6,25 @@ ghost use Rattle.ada_tree.specs.PlainProgram.{plain_program};
 ghost use Rattle.ada_tree.specs.PlainStmt.{plain_body};
 ghost use Rattle.normal_model.specs.NormalStmts.{normal_body};
 ghost use Rattle.normal_model.specs.NormalTree.{main_unit, main_variables, normal_tree};
-ghost use Rattle.normal_names.specs.SoFar.{AreNamesOf};
-ghost use Rattle.normal_meanings.specs.Meant.{AreMembersOf};
-ghost use Rattle.normal_variables.specs.Track.{variables_of};
-ghost use Rattle.normal_declarations.specs.Runners.{AreRunning};
+ghost use Rattle.normal_lookups.specs.names.SoFar.{AreNamesOf};
+ghost use Rattle.normal_lookups.specs.meanings.Meant.{AreMembersOf};
+ghost use Rattle.normal_walk.specs.variables.Track.{variables_of};
+ghost use Rattle.normal_form.specs.unit_declarations.Runners.{AreRunning};
 ghost use Rattle.normal_form.specs.inner.Whole.{all_decls, named_behind};
 
 use crate::body_copies::{push_bodies, take_variables};
+use crate::unit_declarations::{Running, push_firsts, push_tasks};
 use ada_tree::{Body, Decl, Memory, Names, Program, Types};
 use ada_tree_copy::building::program_of;
-use normal_declarations::{Running, push_firsts, push_tasks};
 use normal_lookups::Lookups;
-use normal_meanings::{Members, members_of};
-use normal_names::{NormalNames, names_of};
-use normal_variables::Track;
+use normal_lookups::meanings::{Members, members_of};
+use normal_lookups::names::{NormalNames, names_of};
 use normal_walk::rewrite_unit;
+use normal_walk::variables::Track;
 use std::alloc::Global;
 use syn_event::Numbers;
 use task_links::Links;
-use tree_making::{append_decls, keep_decls};
+use tree_rewriting::making::{append_decls, keep_decls};
 
 // The declarations of the normal form go behind others, where the track has main's variables.
 fn fill_decls(

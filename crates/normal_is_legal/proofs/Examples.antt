@@ -1,6 +1,6 @@
 -- Two programs that are as the law asks.
-use Rattle.normal_legal.proofs.Instance.{choosing-is-legal}
-use Rattle.normal_legal.proofs.Coloured.{coloured-is-legal}
+use Rattle.normalisable.proofs.Instance.{choosing-is-legal}
+use Rattle.normalisable.proofs.Coloured.{coloured-is-legal}
 use Rattle.normal_is_legal.specs.Laws.{IsMet}
 use Rattle.normal_is_legal.proofs.Legal.{normal_is_legal}
 

@@ -1,18 +1,22 @@
 -- The normal form of a legal program is legal.
 use Rattle.std.proofs.Common.{refl, sym}
-use Rattle.normal_legal_numbers.proofs.Examples.{of-legal}
-use Rattle.normal_meets_checks.proofs.Joined.{normal_meets_checks}
-use Rattle.normal_variables_marked.proofs.Bodies.{normal-places-met}
-use Rattle.normal_declares_once.proofs.Whole.{normal_declares_once}
-use Rattle.replay_declares_once.proofs.Legal.{legal_leaves_names}
-use Rattle.normal_form_law.specs.Normalisable.{made_for}
+use Rattle.normal_is_legal.proofs.numbers.Examples.{of-legal}
+use Rattle.normal_is_legal.proofs.checks.Joined.{normal_meets_checks}
+use Rattle.normal_is_legal.proofs.variables_marked.Bodies.{normal-places-met}
+use Rattle.normal_is_legal.proofs.declares_once.Whole.{normal_declares_once}
+use Rattle.normal_model.specs.NormalTree.{variables_needed}
+use Rattle.normal_structure.proofs.types.Names.{names-begin}
+use Rattle.normal_structure.proofs.types.NamesApart.{normal-apart, front-kept}
+use Rattle.normal_runs.specs.forms.Normalisable.{setting_for, made_for}
 use Rattle.normal_is_legal.specs.Laws.{NormalHasNames, NormalMeetsAtPlaces, NormalMeetsTypes, NormalIsLegal}
 use Rattle.normal_is_legal.proofs.Places.{meets_by_places}
 
 pub normal_has_names : NormalHasNames
-normal_has_names p h few =
-    let leaves = legal_leaves_names p h in
-    record { begins = leaves.begins; distinct = leaves.distinct; fits = few }
+normal_has_names p h few = record {
+  begins = front-kept p.names (made_for p).names (names-begin (setting_for p) (variables_needed (setting_for p))) h.names.begins;
+  distinct = normal-apart (setting_for p) (variables_needed (setting_for p)) h.names.distinct;
+  fits = few;
+}
 
 pub normal_meets_at_places : NormalMeetsAtPlaces
 normal_meets_at_places p h = normal-places-met p h

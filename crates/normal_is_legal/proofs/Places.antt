@@ -2,15 +2,15 @@
 use Rattle.std.proofs.Common.{◌≡◌, ℕ, List, [], ◌∷◌, ◌++◌, refl, ap, ◌∙◌}
 use Rattle.std.specs.List.{AllByRecursion}
 use Rattle.ada_tree.specs.declared.naming.Span.{Span}
-use Rattle.ada_tree.specs.Demand.{Site}
-use Rattle.ada_tree.specs.RuleDuplicate.{duplicate}
-use Rattle.ada_tree.specs.Refusals.{Refusal, by_rule, refused_at, refused_from}
-use Rattle.ada_tree.specs.Sites.{sites}
+use Rattle.ada_static_rules.specs.Demand.{Site}
+use Rattle.ada_static_rules.specs.RuleDuplicate.{duplicate}
+use Rattle.ada_static_rules.specs.Refusals.{Refusal, by_rule, refused_at, refused_from}
+use Rattle.ada_static_rules.specs.Sites.{sites}
 use Rattle.common_lemmas.proofs.Lists.{back_empty, front_empty}
-use Rattle.alike_scopes.specs.Laws.{IsMetBut}
-use Rattle.normal_once.specs.Once.{AllOnce}
+use Rattle.legal_programs.specs.alike_scopes.Laws.{IsMetBut}
+use Rattle.normal_structure.specs.once.Once.{AllOnce}
 use Rattle.normal_is_legal.specs.Laws.{MeetsByPlaces, PlacesMeet}
-use Rattle.tree_lemmas.proofs.Spans.{no_spans}
+use Rattle.ada_static_rules.proofs.found_twice.Spans.{no_spans}
 
 -- ---- from places
 

@@ -3,17 +3,17 @@ use Rattle.std.specs.Prelude.{◌≤◌, ◌^◌, [], length}
 use Rattle.std.specs.List.{AllByRecursion}
 use Rattle.ada_tree.specs.NameList.{AreNames}
 use Rattle.ada_tree.specs.PlainProgram.{PProgram}
-use Rattle.ada_tree.specs.Refusals.{types_in, MeetsTypeRules}
-use Rattle.ada_tree.specs.Sites.{sites}
+use Rattle.ada_static_rules.specs.Refusals.{types_in, MeetsTypeRules}
+use Rattle.ada_static_rules.specs.Sites.{sites}
 use Rattle.syn_event.specs.declared.numbering.Mode.TheVariants.{Any}
 use Rattle.syn_event.specs.Legal.{Legal}
-use Rattle.alike_scopes.specs.Laws.{IsMetBut}
-use Rattle.normal_units.specs.Laws.{numbers_made}
-use Rattle.normal_form_law.specs.Choosing.{choosing}
-use Rattle.normal_form_law.specs.Normalisable.{numbers_of, made_for}
-use Rattle.legal_literals.specs.Colours.{coloured}
-use Rattle.normal_legal.specs.Laws.{IsLegalOriginal}
-use Rattle.normal_once.specs.Once.{AllOnce}
+use Rattle.legal_programs.specs.alike_scopes.Laws.{IsMetBut}
+use Rattle.normal_structure.specs.units.Laws.{numbers_made}
+use Rattle.normal_runs.specs.forms.Choosing.{choosing}
+use Rattle.normal_runs.specs.forms.Normalisable.{numbers_of, made_for}
+use Rattle.legal_programs.specs.literals.Colours.{coloured}
+use Rattle.normalisable.specs.Laws.{IsLegalOriginal}
+use Rattle.normal_structure.specs.once.Once.{AllOnce}
 
 -- ---- places
 
@@ -51,6 +51,7 @@ IsLegalNormal p = Legal (made_for p) (types_in (made_for p)) (numbers_made p (ty
 abbrev pub NormalIsLegal : Type 0
 NormalIsLegal = (p : PProgram) → IsLegalOriginal p → IsLegalNormal p
 
--- So it is with two programs that are as the law of legal programs asks: one in which a variable chooses a member of an array of tasks, and one with an array of tasks whose index is an enumeration.
+-- So it is with two programs that are as the law of legal programs asks: one in which a variable chooses a member of an array of tasks, and one with
+-- an array of tasks whose index is an enumeration.
 abbrev pub IsMet : Type 0
 IsMet = IsLegalNormal choosing × IsLegalNormal coloured

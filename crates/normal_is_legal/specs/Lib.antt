@@ -1,1 +1,9 @@
 pub mod Laws
+pub mod numbers
+pub mod placed
+pub mod asked
+pub mod declares_once
+pub mod checks
+pub mod scopes
+pub mod typed_declarations
+pub mod variables_marked

@@ -1,6 +1,15 @@
 //! That the normal form of each legal program is legal. The crate has no functions of its own but the one that carries the laws.
 #![tactic(auto)]
 
+pub mod asked;
+pub mod checks;
+pub mod declares_once;
+pub mod numbers;
+pub mod placed;
+pub mod scopes;
+pub mod typed_declarations;
+pub mod variables_marked;
+
 ghost use Rattle.normal_is_legal.specs.Laws.{IsMet, MeetsByPlaces, NormalHasNames, NormalIsLegal, NormalMeetsAtPlaces, NormalMeetsTypes, PlacesMeet};
 
 /// Carries the law that the normal form of a legal program is legal. A program meets the first twelve rules where its places meet them

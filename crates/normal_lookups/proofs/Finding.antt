@@ -6,12 +6,12 @@ use Rattle.ada_tree.specs.declared.naming.NameId.{NameId}
 use Rattle.ada_tree.specs.declared.declarations.Drange.{Drange}
 use Rattle.ada_tree.specs.declared.static_types.Mark.{Mark}
 use Rattle.ada_tree.specs.TypeTable.{TypeTable}
-use Rattle.ada_tree.specs.Scope.{and_then}
+use Rattle.ada_static_rules.specs.Scope.{and_then}
 use Rattle.ada_tree.specs.PlainExpr.{PDrange, plain_drange}
 use Rattle.ada_tree.specs.PlainProgram.{PProgram}
 use Rattle.syn_event.specs.NamedTasks.{NamedTasks, task_names_of}
-use Rattle.ada_task_objects.specs.declared.task_names.NamedTasks as kept
-use Rattle.ada_task_objects.specs.PlainNames.{plain_named_tasks}
+use Rattle.ada_task_numbers.specs.declared.task_objects.task_names.NamedTasks as kept
+use Rattle.ada_task_numbers.specs.task_objects.PlainNames.{plain_named_tasks}
 use Rattle.scoped_names.specs.Meaning.{meaning_in}
 use Rattle.normal_model.specs.Ranges.{array_range, kind_name}
 use Rattle.normal_lookups.specs.inner.Kept.{kinds_named, ranges_named, seen_range}

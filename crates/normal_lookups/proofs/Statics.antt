@@ -9,7 +9,7 @@ use Rattle.ada_tree.specs.declared.naming.NameId.{NameId}
 use Rattle.ada_tree.specs.declared.static_types.Constant.{Constant}
 use Rattle.ada_tree.specs.declared.static_types.Kind.{Kind}
 use Rattle.ada_tree.specs.TypeTable.{TypeTable}
-use Rattle.ada_tree.specs.StaticValue.{first_of_two, constant_named, literal_position, position_in, value_named}
+use Rattle.ada_static_rules.specs.StaticValue.{first_of_two, constant_named, literal_position, position_in, value_named}
 use Rattle.ada_tree.specs.Attributes.{false_name, true_name}
 use Rattle.scoped_names.specs.Meaning.{meaning_in}
 use Rattle.normal_lookups.specs.inner.Kept.{AreStatic}

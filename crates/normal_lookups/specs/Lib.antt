@@ -1,1 +1,4 @@
 pub mod inner
+pub mod pieces
+pub mod names
+pub mod meanings

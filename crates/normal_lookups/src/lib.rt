@@ -4,6 +4,9 @@
 mod entry_forms;
 mod kinds;
 mod lookups;
+pub mod meanings;
+pub mod names;
+pub mod pieces;
 mod ranges;
 mod static_names;
 

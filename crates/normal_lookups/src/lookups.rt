@@ -1,9 +1,9 @@
 // The look-ups of a program.
 
 ghost use Rattle.std.specs.Prelude.{◌≡◌, [], Some, IfOk, is_some, map, option_map, unwrap_or};
-ghost use Rattle.ada_tree.specs.StaticValue.{is_static};
+ghost use Rattle.ada_static_rules.specs.StaticValue.{is_static};
 ghost use Rattle.ada_tree.specs.PlainExpr.{RGiven, plain_bounds, plain_drange, plain_expr, plain_subind};
-ghost use Rattle.ada_expr_copy.specs.Parts.{OkWith};
+ghost use Rattle.ada_stmt_copy.specs.expressions.Parts.{OkWith};
 ghost use Rattle.ada_tree.specs.PlainStmt.{plain_call, plain_callee};
 ghost use Rattle.ada_value.specs.Evaluating.{evaluated};
 ghost use Rattle.syn_event.specs.Numbering.{entry_at, task_named};
@@ -17,7 +17,7 @@ use crate::entry_forms::{EntryForm, form_at, forms_of};
 use crate::kinds::{kind_name, kind_names};
 use crate::ranges::{array_range, ranges_of};
 use crate::static_names::{is_static, static_names};
-use ada_expr_copy::ExprCopy;
+use ada_stmt_copy::expressions::ExprCopy;
 use ada_tree::{
     Bounds, Call, Callee, Drange, Expr, Kind, Memory, NameId, ParMode, Span, Subind, Word,
 };

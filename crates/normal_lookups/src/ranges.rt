@@ -6,7 +6,7 @@ ghost use Rattle.ada_tree.specs.PlainProgram.{PProgram, plain_program};
 ghost use Rattle.normal_model.specs.Ranges.{array_range};
 ghost use Rattle.normal_lookups.specs.inner.Kept.{ranges_named, seen_range};
 
-use ada_task_objects::{NamedTasks, task_names_of};
+use ada_task_numbers::task_objects::{NamedTasks, task_names_of};
 use ada_tree::{Drange, Memory, NameId, Program};
 use scoped_names::ScopedNames;
 use std::alloc::Global;

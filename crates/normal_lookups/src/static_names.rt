@@ -3,7 +3,7 @@
 ghost use Rattle.std.specs.Prelude.{◌≡◌, ◌==◌, ◌||◌, ℕ, IfOk, OnOk, is_some};
 ghost use Rattle.std.specs.List.{list_any};
 ghost use Rattle.ada_tree.specs.TypeTable.{TypeTable};
-ghost use Rattle.ada_tree.specs.StaticValue.{is_static, literal_position, position_in, value_named};
+ghost use Rattle.ada_static_rules.specs.StaticValue.{is_static, literal_position, position_in, value_named};
 ghost use Rattle.ada_tree.specs.PlainExpr.{plain_expr};
 ghost use Rattle.scoped_names.specs.Meaning.{meaning_in};
 ghost use Rattle.normal_lookups.specs.inner.Kept.{AreStatic};

@@ -24,8 +24,8 @@ begins-trans {xs = xs} b c = record { more = b.more ++ c.more; joined = c.joined
 
 -- a rewriter that keeps lists and only adds to them
 pub record OnlyAdds {A : Type 0} (r : Rewriter (List A)) : Type 0 where
-  pub entered : (t : List A) (x : PStmt) → Begins t (r.entered t x)
-  pub opened : (t : List A) (x : PAlt) → Begins t (r.opened t x)
+  pub entered_stmt : (t : List A) (x : PStmt) → Begins t (r.entered_stmt t x)
+  pub entered_alternative : (t : List A) (x : PAlt) → Begins t (r.entered_alternative t x)
 
 module _ {A : Type 0} (r : Rewriter (List A)) (adds : OnlyAdds r) where
   mutual
@@ -52,7 +52,7 @@ module _ {A : Type 0} (r : Rewriter (List A)) (adds : OnlyAdds r) where
 
     pub stmts-begin : (l : PStmts) (t : List A) → Begins t (after_stmts r l t)
     stmts-begin no_stmt t = begins-refl t
-    stmts-begin (stmt_then x l) t = begins-trans (adds.entered t x) (begins-trans (parts-begin x _) (stmts-begin l _))
+    stmts-begin (stmt_then x l) t = begins-trans (adds.entered_stmt t x) (begins-trans (parts-begin x _) (stmts-begin l _))
 
     pub maybe-begins : (o : PMaybe) (t : List A) → Begins t (after_maybe r o t)
     maybe-begins absent t = begins-refl t
@@ -68,7 +68,7 @@ module _ {A : Type 0} (r : Rewriter (List A)) (adds : OnlyAdds r) where
 
     pub alts-begin : (l : PAlts) (t : List A) → Begins t (after_alts r l t)
     alts-begin no_alt t = begins-refl t
-    alts-begin (alt_then (alternative g k s) l) t = begins-trans (adds.opened t (alternative g k s)) (begins-trans (kind-begins k _) (alts-begin l _))
+    alts-begin (alt_then (alternative g k s) l) t = begins-trans (adds.entered_alternative t (alternative g k s)) (begins-trans (kind-begins k _) (alts-begin l _))
 
     pub arms-begin : (l : PArms) (t : List A) → Begins t (after_arms r l t)
     arms-begin no_arm t = begins-refl t
@@ -110,8 +110,8 @@ statement-adds u t (SBlock b s) = begins-refl t
 statement-adds u t (SLoop w c l s) = begins-refl t
 
 -- an alternative does too
-alternative-adds : (u : RewrittenUnit) (t : List PDecl) (x : PAlt) → Begins t ((normal_rewriter u).opened t x)
+alternative-adds : (u : RewrittenUnit) (t : List PDecl) (x : PAlt) → Begins t ((normal_rewriter u).entered_alternative t x)
 alternative-adds u t x = begins-more t _
 
 pub normal-adds : (u : RewrittenUnit) → OnlyAdds (normal_rewriter u)
-normal-adds u = record { entered = statement-adds u; opened = alternative-adds u }
+normal-adds u = record { entered_stmt = statement-adds u; entered_alternative = alternative-adds u }

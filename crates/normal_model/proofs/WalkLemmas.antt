@@ -31,11 +31,11 @@ module _ {S : Type 0} (r : Rewriter S) where
   -- the state behind two rows is that behind the second, begun behind the first
   pub after-joined : (a b : PStmts) (t : S) → after_stmts r (in_front a b) t ≡ after_stmts r b (after_stmts r a t)
   after-joined no_stmt b t = refl
-  after-joined (stmt_then x l) b t = after-joined l b (after_parts r x (r.entered t x))
+  after-joined (stmt_then x l) b t = after-joined l b (after_parts r x (r.entered_stmt t x))
 
   -- two rows are rewritten as the first and then the second
   pub rewritten-joined : (a b : PStmts) (t : S) → rewritten r (in_front a b) t ≡ in_front (rewritten r a t) (rewritten r b (after_stmts r a t))
   rewritten-joined no_stmt b t = refl
   rewritten-joined (stmt_then x l) b t =
-      ap (in_front (image_of r x t)) (rewritten-joined l b (after_parts r x (r.entered t x)))
-      ∙ sym (in_front-joined (image_of r x t) (rewritten r l (after_parts r x (r.entered t x))) (rewritten r b (after_stmts r l (after_parts r x (r.entered t x)))))
+      ap (in_front (image_of r x t)) (rewritten-joined l b (after_parts r x (r.entered_stmt t x)))
+      ∙ sym (in_front-joined (image_of r x t) (rewritten r l (after_parts r x (r.entered_stmt t x))) (rewritten r b (after_stmts r l (after_parts r x (r.entered_stmt t x)))))

@@ -6,7 +6,7 @@ use Rattle.ada_tree.specs.declared.naming.Word.{Word}
 use Rattle.ada_tree.specs.declared.statements.ParMode.{ParMode}
 use Rattle.ada_tree.specs.declared.statements.ParMode.TheVariants.{Take, Give, Both}
 use Rattle.ada_tree.specs.declared.expressions.BinaryOp.TheVariants.{Equal}
-use Rattle.ada_tree.specs.ExprTypes.{expr_place}
+use Rattle.ada_static_rules.specs.ExprTypes.{expr_place}
 use Rattle.ada_tree.specs.PlainExpr.{PExpr, EInteger, EBinary, PSubind}
 use Rattle.ada_tree.specs.PlainStmt.{PCall, PArgs, PFormal, PStmt, SAssign, SCall, SConditional, STimed, SIf, PStmts, no_stmt, stmt_then, present, arm, no_arm, arm_then}
 use Rattle.syn_event.specs.Numbering.{task_named, entry_at}

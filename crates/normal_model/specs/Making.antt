@@ -2,7 +2,7 @@
 use Rattle.std.specs.Prelude.{ℕ, ◌+◌, if◌then◌else◌, List, [], ◌∷◌, map, Option, None, Some}
 use Rattle.ada_tree.specs.declared.naming.Span.{Span}
 use Rattle.ada_tree.specs.TypeTable.{TypeTable}
-use Rattle.ada_tree.specs.StaticValue.{is_static}
+use Rattle.ada_static_rules.specs.StaticValue.{is_static}
 use Rattle.ada_tree.specs.PlainExpr.{PExpr, EName, PSubind}
 use Rattle.ada_tree.specs.PlainStmt.{PTarget, PStmt, SNull, SAssign, PStmts, no_stmt, stmt_then}
 use Rattle.task_model.specs.Setting.{Setting}

@@ -24,11 +24,11 @@ normal_image u n x = one x
 -- The rewriter of a unit. What it keeps on its way are the variables that were made so far, as declarations. What alternatives put in front of their wait stands in front of every image, which does not look at it.
 abbrev pub normal_rewriter : RewrittenUnit → Rewriter (List PDecl)
 normal_rewriter u = record {
-  entered = statement_variables u;
-  opened = alternative_variables u;
+  entered_stmt = statement_variables u;
+  entered_alternative = alternative_variables u;
   lead = λ vars x. alternative_before u x (length vars);
-  face = λ vars x. alternative_left u x (length vars);
-  image = λ vars before x. in_front before (normal_image u (length vars) x);
+  left_alternative = λ vars x. alternative_left u x (length vars);
+  replaced_stmt = λ vars before x. in_front before (normal_image u (length vars) x);
 }
 
 -- The body of a unit in the normal form.

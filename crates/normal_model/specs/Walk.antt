@@ -5,15 +5,15 @@ use Rattle.task_model.specs.Frames.{in_front}
 -- A rewriter of statements, with the state that it has on its way.
 pub record Rewriter (S : Type 0) : Type 0 where
   -- the state behind what a statement asks for itself, which comes before what its parts ask for
-  pub entered : S → PStmt → S
+  pub entered_stmt : S → PStmt → S
   -- the same of an alternative of a selective wait
-  pub opened : S → PAlt → S
+  pub entered_alternative : S → PAlt → S
   -- what an alternative puts in front of its wait, by the state before the alternative
   pub lead : S → PAlt → PStmts
   -- what stands in the place of an alternative, by the state before it and the alternative with its parts rewritten
-  pub face : S → PAlt → PAlt
+  pub left_alternative : S → PAlt → PAlt
   -- what stands in the place of a statement, by the state before it, what its alternatives put in front of it, and the statement with its parts rewritten
-  pub image : S → PStmts → PStmt → PStmts
+  pub replaced_stmt : S → PStmts → PStmt → PStmts
 
 module _ {S : Type 0} (r : Rewriter S) where
   -- ---- the state
@@ -34,7 +34,7 @@ module _ {S : Type 0} (r : Rewriter S) where
 
     pub after_stmts : PStmts → S → S
     after_stmts no_stmt t = t
-    after_stmts (stmt_then x l) t = after_stmts l (after_parts x (r.entered t x))
+    after_stmts (stmt_then x l) t = after_stmts l (after_parts x (r.entered_stmt t x))
 
     pub after_maybe : PMaybe → S → S
     after_maybe absent t = t
@@ -50,7 +50,7 @@ module _ {S : Type 0} (r : Rewriter S) where
 
     pub after_alts : PAlts → S → S
     after_alts no_alt t = t
-    after_alts (alt_then (alternative g k s) l) t = after_alts l (after_kind k (r.opened t (alternative g k s)))
+    after_alts (alt_then (alternative g k s) l) t = after_alts l (after_kind k (r.entered_alternative t (alternative g k s)))
 
     pub after_arms : PArms → S → S
     after_arms no_arm t = t
@@ -69,7 +69,7 @@ module _ {S : Type 0} (r : Rewriter S) where
 
   -- the state behind an alternative
   abbrev pub after_alt : PAlt → S → S
-  after_alt (alternative g k s) t = after_kind k (r.opened t (alternative g k s))
+  after_alt (alternative g k s) t = after_kind k (r.entered_alternative t (alternative g k s))
 
   -- ---- what stands in front of a wait
 
@@ -102,7 +102,7 @@ module _ {S : Type 0} (r : Rewriter S) where
     -- statements: what stands in the place of the first, and then of those behind it
     pub rewritten : PStmts → S → PStmts
     rewritten no_stmt t = no_stmt
-    rewritten (stmt_then x l) t = in_front (r.image t (leads x (r.entered t x)) (parts_rewritten x (r.entered t x))) (rewritten l (after_parts x (r.entered t x)))
+    rewritten (stmt_then x l) t = in_front (r.replaced_stmt t (leads x (r.entered_stmt t x)) (parts_rewritten x (r.entered_stmt t x))) (rewritten l (after_parts x (r.entered_stmt t x)))
 
     pub inside_maybe : PMaybe → S → PMaybe
     inside_maybe absent t = absent
@@ -119,7 +119,7 @@ module _ {S : Type 0} (r : Rewriter S) where
     pub inside_alts : PAlts → S → PAlts
     inside_alts no_alt t = no_alt
     inside_alts (alt_then (alternative g k s) l) t =
-        alt_then (r.face t (alternative g (inside_kind k (r.opened t (alternative g k s))) s)) (inside_alts l (after_kind k (r.opened t (alternative g k s))))
+        alt_then (r.left_alternative t (alternative g (inside_kind k (r.entered_alternative t (alternative g k s))) s)) (inside_alts l (after_kind k (r.entered_alternative t (alternative g k s))))
 
     pub inside_arms : PArms → S → PArms
     inside_arms no_arm t = no_arm
@@ -138,4 +138,4 @@ module _ {S : Type 0} (r : Rewriter S) where
 
   -- What stands in the place of a statement, by the state before it.
   abbrev pub image_of : PStmt → S → PStmts
-  image_of x t = r.image t (leads x (r.entered t x)) (parts_rewritten x (r.entered t x))
+  image_of x t = r.replaced_stmt t (leads x (r.entered_stmt t x)) (parts_rewritten x (r.entered_stmt t x))

@@ -8,16 +8,16 @@ use Rattle.ada_tree.specs.declared.statements.Handler.{Handler}
 use Rattle.ada_tree.specs.declared.statements.Stmt.{Stmt}
 use Rattle.ada_tree.specs.PlainStmt.{PBody, body, handlers_of, plain_body, plain_handler, seen}
 use Rattle.ada_tree.specs.PlainDecl.{PDecl, plain_decl}
-use Rattle.ada_expr_copy.specs.Parts.{OkWith}
+use Rattle.ada_stmt_copy.specs.expressions.Parts.{OkWith}
 use Rattle.task_model.specs.Setting.{Setting}
-use Rattle.tree_walk.specs.Rules.{walk_of}
+use Rattle.tree_rewriting.specs.walking.Rules.{walk_of}
 use Rattle.normal_model.specs.RewrittenUnit.{RewrittenUnit}
 use Rattle.normal_model.specs.NormalStmts.{normal_body, normal_rewriter, unit_variables}
 use Rattle.normal_model.specs.Walk.{after_body, inside_body}
-use Rattle.normal_meanings.specs.declared.array_members.Members.{Members}
-use Rattle.normal_meanings.specs.Meant.{AreMeanings}
-use Rattle.normal_variables.specs.declared.track.Track.{Track}
-use Rattle.normal_variables.specs.Track.{Enters, IsTrack}
+use Rattle.normal_lookups.specs.declared.meanings.array_members.Members.{Members}
+use Rattle.normal_lookups.specs.meanings.Meant.{AreMeanings}
+use Rattle.normal_walk.specs.declared.variables.track.Track.{Track}
+use Rattle.normal_walk.specs.variables.Track.{Enters, IsTrack}
 use Rattle.normal_walk.specs.Begun.{Begins}
 use Rattle.normal_walk.specs.inner.Walking.{FitsUnit, normal_rule}
 use Rattle.common_lemmas.proofs.Numbers.{most_of_three}

@@ -1,10 +1,10 @@
 -- A unit that is about to be gone through.
 use Rattle.std.specs.Prelude.{◌≡◌, []}
 use Rattle.task_model.specs.Setting.{Setting}
-use Rattle.normal_names.specs.SoFar.{AreNamesOf}
-use Rattle.normal_meanings.specs.declared.array_members.Members.{Members}
-use Rattle.normal_meanings.specs.Meant.{AreMembersOf}
-use Rattle.normal_variables.specs.declared.track.Track.{Track}
+use Rattle.normal_lookups.specs.names.SoFar.{AreNamesOf}
+use Rattle.normal_lookups.specs.declared.meanings.array_members.Members.{Members}
+use Rattle.normal_lookups.specs.meanings.Meant.{AreMembersOf}
+use Rattle.normal_walk.specs.declared.variables.track.Track.{Track}
 
 -- The names and members are those of the program, and the unit has no variables yet.
 pub record Begins (g : Setting) (members : Members) (t : Track) : Type 0 where

@@ -1,2 +1,4 @@
 pub mod inner
 pub mod Begun
+pub mod waits
+pub mod variables

@@ -3,5 +3,7 @@
 
 mod normalizer;
 mod units;
+pub mod variables;
+pub mod waits;
 
 pub use units::rewrite_unit;

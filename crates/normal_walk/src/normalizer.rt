@@ -2,13 +2,13 @@
 
 ghost use Rattle.std.specs.Prelude.{◌≡◌, IfOk};
 
+use crate::variables::{Track, enter_alternative, enter_statement};
+use crate::waits::{leave_alternative, push_alternative_before, put_image};
 use ada_tree::{Alt, Memory, Stmt};
 use normal_lookups::Lookups;
-use normal_meanings::{Members, NormalMeanings};
-use normal_variables::{Track, enter_alternative, enter_statement};
-use normal_waits::{leave_alternative, push_alternative_before, put_image};
+use normal_lookups::meanings::{Members, NormalMeanings};
 use std::alloc::Global;
-use tree_walk::Rewriter;
+use tree_rewriting::walking::Rewriter;
 
 /// The rewriter of a unit that the task of this number runs. `begun` is the number of variables that had names before it.
 #[derive(Drop)]
@@ -35,7 +35,7 @@ impl<'a> Rewriter for Normalizer<'a> {
 
     ghost use Rattle.std.specs.Prelude.{List};
     ghost use Rattle.ada_tree.specs.PlainDecl.{PDecl};
-    ghost use Rattle.normal_variables.specs.Track.{variables_of};
+    ghost use Rattle.normal_walk.specs.variables.Track.{variables_of};
     ghost use Rattle.normal_walk.specs.inner.Walking.{FitsUnit, normal_rule};
 
     ghost State = { List PDecl };
@@ -46,13 +46,18 @@ impl<'a> Rewriter for Normalizer<'a> {
 
     ghost fits = { λ r t. FitsUnit r.lookups.now r.members.now r.begun t };
 
-    fn enter(&self, track: &mut Track, stmt: &Stmt) -> Result<u32, Memory> {
+    fn enter_stmt(&self, track: &mut Track, stmt: &Stmt) -> Result<u32, Memory> {
         let number = number_of(track.decls.len())?;
         enter_statement(self.alloc, self.lookups, self.task, track, stmt)?;
         Ok(number)
     }
 
-    fn open(&self, track: &mut Track, alt: &Alt, out: &mut Vec<Stmt>) -> Result<u32, Memory> {
+    fn enter_alternative(
+        &self,
+        track: &mut Track,
+        alt: &Alt,
+        out: &mut Vec<Stmt>,
+    ) -> Result<u32, Memory> {
         let number = number_of(track.decls.len())?;
         enter_alternative(self.alloc, self.lookups, self.task, track, alt)?;
         let meanings = NormalMeanings {
@@ -64,7 +69,7 @@ impl<'a> Rewriter for Normalizer<'a> {
         Ok(number)
     }
 
-    fn turn(&self, track: &Track, number: u32, alt: &mut Alt) -> Result<(), Memory> {
+    fn leave_alternative(&self, track: &Track, number: u32, alt: &mut Alt) -> Result<(), Memory> {
         let meanings = NormalMeanings {
             lookups: self.lookups,
             members: self.members,
@@ -73,7 +78,7 @@ impl<'a> Rewriter for Normalizer<'a> {
         leave_alternative(&meanings, number, alt)
     }
 
-    fn put(
+    fn replace_stmt(
         &self,
         track: &Track,
         number: u32,

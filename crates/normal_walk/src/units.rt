@@ -1,29 +1,29 @@
 // One unit in normal form.
 
 ghost use Rattle.std.specs.Prelude.{◌≡◌, IfOk, OnOk, length, max};
-ghost use Rattle.ada_expr_copy.specs.Parts.{OkWith};
+ghost use Rattle.ada_stmt_copy.specs.expressions.Parts.{OkWith};
 ghost use Rattle.ada_tree.specs.PlainStmt.{plain_body};
 ghost use Rattle.normal_model.specs.NormalStmts.{normal_body, unit_variables};
-ghost use Rattle.normal_variables.specs.Track.{IsTrack, variables_of};
+ghost use Rattle.normal_walk.specs.variables.Track.{IsTrack, variables_of};
 ghost use Rattle.normal_walk.specs.Begun.{Begins};
 
 use crate::normalizer::Normalizer;
+use crate::variables::Track;
 use ada_stmt_copy::StmtCopy;
-use ada_stmt_copy::building::body_of;
 use ada_tree::{Body, Memory};
 use normal_lookups::Lookups;
-use normal_meanings::Members;
-use normal_variables::Track;
+use normal_lookups::meanings::Members;
 use std::alloc::Global;
-use tree_making::keep_stmts;
-use tree_walk::rewrite_body;
+use tree_rewriting::walking::rewrite_body;
 
 // A body that was gone through, where that went well.
 fn keep_body(copy: Body, done: Result<(), Memory>) -> Result<Body, Memory>
     ensures { IfOk result (λ made. OkWith done (λ _. plain_body made ≡ plain_body copy)) }
 {
-    let Body { stmts, handlers } = copy;
-    body_of(keep_stmts(stmts, done), Ok(handlers))
+    match done {
+        Ok(()) => Ok(copy),
+        Err(e) => Err(e),
+    }
 }
 
 /// The body of a unit in normal form; the task of this number runs the unit. Its variables are declared in the track, which has none of another unit.

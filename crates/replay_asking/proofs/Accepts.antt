@@ -6,7 +6,7 @@ use Rattle.ada_tree.specs.declared.naming.Span.{Span}
 use Rattle.ada_tree.specs.declared.shortage.Memory.{Memory}
 use Rattle.ada_tree.specs.declared.statements.Stmt.{Stmt}
 use Rattle.ada_tree.specs.PlainStmt.{PStmts, SAccept, stmt_then, PMaybe, absent, present, PAccept, accepting, plain_stmt, seen}
-use Rattle.ada_expr_copy.specs.Parts.{OkWith}
+use Rattle.ada_stmt_copy.specs.expressions.Parts.{OkWith}
 use Rattle.normal_model.specs.Making.{one}
 use Rattle.normal_model.specs.Waits.{head_of}
 use Rattle.replay_asking.specs.Voice.{Voice}

@@ -1,7 +1,7 @@
 -- What is made of parts that come as results, seen plainly, where what the parts are is known.
 use Rattle.std.proofs.Common.{◌≡◌, Result, Ok, Err, IfOk, ap, ◌∙◌}
 use Rattle.ada_tree.specs.declared.shortage.Memory.{Memory}
-use Rattle.ada_expr_copy.specs.Parts.{OkWith}
+use Rattle.ada_stmt_copy.specs.expressions.Parts.{OkWith}
 
 pub made-of_one :
     {A C P R : Type 0} (va : A → P) (vc : C → R) (f : P → R) (r : Result C Memory) (a : Result A Memory) (p : P) →

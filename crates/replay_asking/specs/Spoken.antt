@@ -7,7 +7,7 @@ use Rattle.ada_tree.specs.PlainExpr.{PExpr, EInteger, EName, EBinary}
 use Rattle.ada_tree.specs.PlainStmt.{PArgs, PStmt, SCall, SIf, PStmts, stmt_then, absent, present, arm, PArms, no_arm, arm_then}
 use Rattle.normal_model.specs.Ranges.{word_at}
 use Rattle.normal_model.specs.Making.{one}
-use Rattle.replay_names.specs.declared.added_names.AddedNames.{AddedNames}
+use Rattle.replay_asking.specs.declared.names.added_names.AddedNames.{AddedNames}
 use Rattle.replay_asking.specs.Voice.{Voice}
 
 -- ---- calls of the added tasks

@@ -4,7 +4,7 @@ use Rattle.ada_tree.specs.declared.naming.NameId.{NameId}
 use Rattle.ada_tree.specs.declared.naming.Span.{Span}
 use Rattle.ada_tree.specs.PlainExpr.{PExpr}
 use Rattle.syn_event.specs.Numbering.{Numbering}
-use Rattle.replay_names.specs.declared.added_names.AddedNames.{AddedNames}
+use Rattle.replay_asking.specs.declared.names.added_names.AddedNames.{AddedNames}
 
 -- The ids of the names that are added, and of the double of each entry's name; the member of an entry as a number, by its index if it has one; the program's numbers; and the number of a task that runs the unit.
 pub record Voice : Type 0 where

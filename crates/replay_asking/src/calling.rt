@@ -3,22 +3,23 @@
 ghost use Rattle.std.specs.Prelude.{◌≡◌, IfOk, map, option_map};
 ghost use Rattle.ada_tree.specs.PlainExpr.{plain_expr};
 ghost use Rattle.ada_tree.specs.PlainStmt.{plain_arm, plain_call, plain_stmt, seen, arms_of, SCall};
-ghost use Rattle.ada_expr_copy.specs.Parts.{OkWith};
+ghost use Rattle.ada_stmt_copy.specs.expressions.Parts.{OkWith};
 ghost use Rattle.task_model.specs.Setting.{is_family};
 ghost use Rattle.replay_asking.specs.Called.{task_called, entry_called, lists_called, double_word, double_call, is_called, failing, call_arms, plain_image, else_part, delay_part, conditional_image, timed_image};
 ghost use Rattle.replay_asking.specs.Looked.{voice_of};
 
 use crate::Speaker;
+use crate::making::{arms_before, before};
 use crate::saying::{ask_which, done};
 use crate::serving::{entry_of, saying_so};
 use crate::testing::is_at;
-use ada_expr_copy::ExprCopy;
 use ada_stmt_copy::building::{arm_of, call_of, conditional_of, timed_of};
+use ada_stmt_copy::expressions::ExprCopy;
 use ada_tree::{Arm, Call, Expr, Memory, NameId, Span, Stmt, Word};
-use replay_making::{arms_before, before};
+use control_script::{KIND_CALL_ELSE, KIND_EXPIRE, KIND_FAIL, KIND_START};
 use std::alloc::Global;
 use task_links::TaskNames;
-use tree_making::{one_arm, one_stmt};
+use tree_rewriting::making::{one_arm, one_stmt};
 
 /// The first task of that name.
 pub fn task_called(numbers: &TaskNames, name: NameId) -> u32
@@ -121,10 +122,13 @@ fn call_arms(
 ) -> Result<Vec<Arm>, Memory>
     ensures { IfOk result (λ made. OkWith met (λ m. OkWith others (λ o. arms_of (map plain_arm made.items) ≡ call_arms (voice_of x.now) s (plain_call call.now) (seen m.items) (arms_of (map plain_arm o.items))))) }
 {
-    let failed = arm_of(is_called(alloc, x, 7, call, s), failing(alloc, x, call, s));
+    let failed = arm_of(
+        is_called(alloc, x, KIND_FAIL, call, s),
+        failing(alloc, x, call, s),
+    );
     arms_before(
         alloc,
-        arm_of(is_called(alloc, x, 1, call, s), met),
+        arm_of(is_called(alloc, x, KIND_START, call, s), met),
         arms_before(alloc, failed, others),
     )
 }
@@ -198,7 +202,7 @@ pub fn conditional_image(
 {
     let met = before(alloc, call_stmt(alloc, call, s), Ok(behind));
     let part = arm_of(
-        is_called(alloc, x, 5, call, s),
+        is_called(alloc, x, KIND_CALL_ELSE, call, s),
         else_part(alloc, x, call, otherwise, s),
     );
     let arms = call_arms(alloc, x, call, met, one_arm(alloc, part), s);
@@ -219,7 +223,7 @@ pub fn timed_image(
 {
     let met = before(alloc, call_stmt(alloc, call, s), Ok(behind));
     let part = arm_of(
-        is_called(alloc, x, 6, call, s),
+        is_called(alloc, x, KIND_EXPIRE, call, s),
         delay_part(alloc, x, call, thousandths, after, s),
     );
     let arms = call_arms(alloc, x, call, met, one_arm(alloc, part), s);

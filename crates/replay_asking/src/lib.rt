@@ -2,6 +2,8 @@
 #![tactic(auto, using(ada_tree::proofs::Rows::rows))]
 
 mod calling;
+pub mod making;
+pub mod names;
 mod saying;
 mod serving;
 mod speaker;

@@ -4,17 +4,17 @@ ghost use Rattle.std.specs.Prelude.{◌≡◌, IfOk, OnOk, map};
 ghost use Rattle.ada_tree.specs.PlainExpr.{plain_expr};
 ghost use Rattle.ada_tree.specs.PlainStmt.{plain_arm, plain_stmt, seen, arms_of};
 ghost use Rattle.normal_model.specs.Ranges.{word_at};
-ghost use Rattle.ada_expr_copy.specs.Parts.{OkWith};
+ghost use Rattle.ada_stmt_copy.specs.expressions.Parts.{OkWith};
 ghost use Rattle.replay_asking.specs.Spoken.{own_number, permit_parts, ask, done, stop, only, ask_only, ask_which};
 ghost use Rattle.replay_asking.specs.Looked.{voice_of};
 
 use crate::Speaker;
+use crate::making::before;
+use crate::names::AddedNames;
 use ada_stmt_copy::building::{call_of, if_of};
 use ada_tree::{Arm, BinaryOp, Expr, Memory, NameId, Span, Stmt, Word};
-use replay_making::before;
-use replay_names::AddedNames;
 use std::alloc::Global;
-use tree_making::{
+use tree_rewriting::making::{
     args_of, binary_of, calling_of, if_one, integer_expr, keep_exprs, name_expr, one_expr,
     one_stmt, push_expr, some_args, some_exprs, some_stmts,
 };

@@ -5,7 +5,7 @@ ghost use Rattle.ada_tree.specs.PlainExpr.{plain_expr};
 ghost use Rattle.ada_tree.specs.PlainStmt.{SAccept, accepting, present, stmt_then, plain_accept, plain_handler, plain_stmt, seen, seen_maybe, handlers_of};
 ghost use Rattle.normal_model.specs.Making.{one};
 ghost use Rattle.normal_model.specs.Waits.{head_of};
-ghost use Rattle.ada_expr_copy.specs.Parts.{OkWith};
+ghost use Rattle.ada_stmt_copy.specs.expressions.Parts.{OkWith};
 ghost use Rattle.task_model.specs.Setting.{entry_of};
 ghost use Rattle.replay_model.specs.Serving.{raise_again, whatever};
 ghost use Rattle.replay_asking.specs.Served.{finish, body_kept, accept_body, saying_so, serve, permits_start, accept_image};
@@ -13,15 +13,16 @@ ghost use Rattle.replay_asking.specs.Spoken.{done};
 ghost use Rattle.replay_asking.specs.Looked.{voice_of};
 
 use crate::Speaker;
+use crate::making::{before, joined};
 use crate::saying::{ask_only, ask_which, done};
 use crate::testing::is_at;
-use ada_expr_copy::{copy_formals, copy_option};
 use ada_stmt_copy::building::{accept_of, accepting_of, arm_of, block_of, body_of};
+use ada_stmt_copy::expressions::{copy_formals, copy_option};
 use ada_tree::{Accept, Expr, Handler, Memory, NameId, Span, Stmt};
-use replay_making::{before, joined};
+use control_script::{KIND_FINISH, KIND_START};
 use std::alloc::Global;
 use task_links::TaskNames;
-use tree_making::{
+use tree_rewriting::making::{
     handler_others, one_arm, one_handler, one_stmt, reraise_stmt, some_stmts, take_maybe,
 };
 
@@ -47,7 +48,7 @@ fn raising(alloc: Global, s: Span) -> Result<Vec<Stmt>, Memory>
 fn body_kept(alloc: Global, x: &Speaker, stmts: Vec<Stmt>, s: Span) -> Result<Stmt, Memory>
     ensures { IfOk result (λ made. plain_stmt made ≡ body_kept (voice_of x.now) s (seen stmts.items)) }
 {
-    let ending = joined(ask_only(alloc, x, 2, s), raising(alloc, s));
+    let ending = joined(ask_only(alloc, x, KIND_FINISH, s), raising(alloc, s));
     block_of(body_of(Ok(stmts), whatever(alloc, ending, s)), s)
 }
 
@@ -60,7 +61,7 @@ fn accept_body(
 ) -> Result<Vec<Stmt>, Memory>
     ensures { IfOk result (λ made. seen made.items ≡ accept_body (voice_of x.now) s (seen_maybe stmts)) }
 {
-    let finish = ask_only(alloc, x, 2, s);
+    let finish = ask_only(alloc, x, KIND_FINISH, s);
     match stmts {
         None => before(alloc, done(alloc, x, s), finish),
         Some(stmts) => before(
@@ -174,7 +175,7 @@ pub fn is_served(alloc: Global, x: &Speaker, accept: &Accept, s: Span) -> Result
     ensures { IfOk result (λ made. plain_expr made ≡ permits_start (voice_of x.now) s (head_of (plain_accept accept.now))) }
 {
     let entry = entry_of(x.numbers, x.task, accept.entry.name);
-    is_at(alloc, x, 1, entry, accept.index.as_ref(), s)
+    is_at(alloc, x, KIND_START, entry, accept.index.as_ref(), s)
 }
 
 /// What stands in the place of an accept statement, whose statements are taken from where they stand.

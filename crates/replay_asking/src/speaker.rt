@@ -1,7 +1,7 @@
 // What is looked up before a text is rewritten.
 
+use crate::names::AddedNames;
 use ada_tree::NameId;
-use replay_names::AddedNames;
 use task_links::TaskNames;
 
 /// Ids of a replay text that are looked up once: those of the names that are added; those of the doubles of entries, by the entries' ids, and the one of any other id; and of each entry, from 1, the type whose positions stand for the indices of the family, where the indices are no integers.

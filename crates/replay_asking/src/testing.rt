@@ -2,16 +2,16 @@
 
 ghost use Rattle.std.specs.Prelude.{◌≡◌, IfOk, option_map};
 ghost use Rattle.ada_tree.specs.PlainExpr.{plain_expr};
-ghost use Rattle.ada_expr_copy.specs.Parts.{OkWith};
+ghost use Rattle.ada_stmt_copy.specs.expressions.Parts.{OkWith};
 ghost use Rattle.replay_asking.specs.Spoken.{both, is_value, is_kind, is_for, is_at};
 ghost use Rattle.replay_asking.specs.Looked.{voice_of, mark_of, number_by};
 
 use crate::Speaker;
 use crate::saying::word;
-use ada_expr_copy::ExprCopy;
+use ada_stmt_copy::expressions::ExprCopy;
 use ada_tree::{BinaryOp, Expr, Memory, NameId, Span};
 use std::alloc::Global;
-use tree_making::{attribute_of, binary_of, integer_expr, name_expr};
+use tree_rewriting::making::{attribute_of, binary_of, integer_expr, name_expr};
 
 /// Two tests, of which both are to hold.
 pub fn both_of(

@@ -2,20 +2,20 @@
 use Rattle.std.proofs.Common.{refl, lit≤, lit<}
 use Rattle.std.specs.List.{AllByRecursion}
 use Rattle.std.specs.Fmt.{digits}
-use Rattle.ada_tree.specs.Refusals.{types_in, MeetsTypeRules}
+use Rattle.ada_static_rules.specs.Refusals.{types_in, MeetsTypeRules}
 use Rattle.syn_event.specs.declared.numbering.Mode.TheVariants.{Original}
 use Rattle.syn_event.specs.Legal.{Legal}
-use Rattle.rewritten_types.proofs.Lookups.{place-all}
-use Rattle.legal_types.specs.Typed.{IsSmall}
-use Rattle.normal_placed.specs.Example.{passing}
-use Rattle.normal_placed.proofs.Instance.{example_is_placeable}
-use Rattle.normal_legal.specs.units.Weights.{IsLight}
-use Rattle.normal_form_law.specs.Normalisable.{numbers_of}
-use Rattle.normal_legal.specs.Laws.{IsLegalOriginal}
-use Rattle.normal_legal.proofs.Instance.{IsOther, small-other}
+use Rattle.legal_programs.proofs.rewritten_types.Lookups.{place-all}
+use Rattle.legal_programs.specs.types.Typed.{IsSmall}
+use Rattle.normal_structure.specs.placed.Example.{passing}
+use Rattle.normal_structure.proofs.placed.Instance.{example_is_placeable}
+use Rattle.normalisable.specs.units.Weights.{IsLight}
+use Rattle.normal_runs.specs.forms.Normalisable.{numbers_of}
+use Rattle.normalisable.specs.Laws.{IsLegalOriginal}
+use Rattle.normalisable.proofs.Instance.{IsOther, small-other}
 use Rattle.normal_is_legal.proofs.Places.{places_meet}
-use Rattle.replay_checked.specs.Example.{example_events}
-use Rattle.replay_checkable.proofs.Instance.{example_is_prepared}
+use Rattle.replay_structure.specs.checked.Example.{example_events}
+use Rattle.replay_structure.proofs.checkable.Instance.{example_is_prepared}
 use Rattle.replay_is_legal.specs.Laws.{text_for, MeetsAtPlaces, IsHeld, IsMet}
 
 -- ---- the program

@@ -1,4 +1,5 @@
--- The names in the statements of main and in the first declarations of the normal form of a legal program are kept in its replay texts, and nothing is too deep there; so with its variables, where their subtypes are so.
+-- The names in the statements of main and in the first declarations of the normal form of a legal program are kept in its replay texts, and nothing
+-- is too deep there; so with its variables, where their subtypes are so.
 use Rattle.std.proofs.Common.{◌≡◌, ℕ, ◌+◌, ◌<◌, ◌≤◌, Bool, true, false, ◌||◌, nat_eq, codes, List, [], ◌∷◌, ◌++◌, length, map, max, slice_get, unwrap_or, Option, Some, None, IsSomeAnd, refl, sym, ap, subst, ◌∙◌, arith}
 use Rattle.std.specs.List.{AllByRecursion, list_any, starts_with}
 use Rattle.std.specs.Str.{bytes_eq}
@@ -17,28 +18,28 @@ use Rattle.task_model.specs.Setting.{Setting}
 use Rattle.normal_model.specs.Names.{variable_name, task_name}
 use Rattle.normal_model.specs.NormalTree.{first_decls, main_unit, main_variables, tasks_beside, variables_needed, variables_of_body, greatest}
 use Rattle.normal_model.specs.Ranges.{word_at}
-use Rattle.normal_legal.proofs.units.TasksApart.{IsNamed}
-use Rattle.normal_types.specs.Own.{own_name}
-use Rattle.normal_form_law.specs.Normalisable.{numbers_of, setting_for, made_for}
-use Rattle.normal_placed.proofs.Names.{first-named}
-use Rattle.normal_placed.proofs.Added.{AreSubtypes, AreVariablesFrom, unit-from}
-use Rattle.normal_checked.specs.Around.{IsLiteralOf, is_false, is_true, is_enumerated}
-use Rattle.normal_legal_asked.proofs.Bodies.{main-asked}
-use Rattle.normal_legal_asked.proofs.Beside.{callees-beside}
-use Rattle.normal_declares_once.proofs.Ids.{first-free}
-use Rattle.normal_legal.specs.Laws.{IsLegalOriginal}
-use Rattle.normal_scopes.proofs.Main.{named}
-use Rattle.normal_meets_checks.proofs.AroundBody.{place-there, kinds-there, has-value}
-use Rattle.normal_meets_checks.proofs.Facts as facts
+use Rattle.normalisable.proofs.units.TasksApart.{IsNamed}
+use Rattle.normal_structure.specs.types.Own.{own_name}
+use Rattle.normal_runs.specs.forms.Normalisable.{numbers_of, setting_for, made_for}
+use Rattle.normal_structure.proofs.placed.Names.{first-named}
+use Rattle.normal_structure.proofs.placed.Added.{AreSubtypes, AreVariablesFrom, unit-from}
+use Rattle.normal_structure.specs.checked.Around.{IsLiteralOf, is_false, is_true, is_enumerated}
+use Rattle.normal_is_legal.proofs.asked.Bodies.{main-asked}
+use Rattle.normal_is_legal.proofs.asked.Beside.{callees-beside}
+use Rattle.normal_is_legal.proofs.declares_once.Ids.{first-free}
+use Rattle.normalisable.specs.Laws.{IsLegalOriginal}
+use Rattle.normal_is_legal.proofs.scopes.Main.{named}
+use Rattle.normal_is_legal.proofs.checks.AroundBody.{place-there, kinds-there, has-value}
+use Rattle.normal_is_legal.proofs.checks.Facts as facts
 use Rattle.replay_model.specs.Names.{join_text}
-use Rattle.replay_declares_once.proofs.Ids.{IsOwn}
-use Rattle.replay_declares_once.proofs.Texts.{good-own, variable-own, task-own}
-use Rattle.replay_checked.specs.Around.{meant_texts, kept_name}
-use Rattle.replay_checkable.proofs.Kept.{rules_of}
-use Rattle.replay_checkable.proofs.KeptNames.{kept-by}
-use Rattle.replay_checkable.proofs.KeptPieces.{KeepsNames}
-use Rattle.replay_checkable.proofs.KeptDecls.{unit-kept, firsts-kept}
-use Rattle.normal_placed.proofs.Made.{among}
+use Rattle.replay_structure.proofs.declares_once.Ids.{IsOwn}
+use Rattle.replay_structure.proofs.declares_once.Texts.{good-own, variable-own, task-own}
+use Rattle.replay_structure.specs.checked.Around.{meant_texts, kept_name}
+use Rattle.replay_structure.proofs.checkable.Kept.{rules_of}
+use Rattle.replay_structure.proofs.checkable.KeptNames.{kept-by}
+use Rattle.replay_structure.proofs.checkable.KeptPieces.{KeepsNames}
+use Rattle.replay_structure.proofs.checkable.KeptDecls.{unit-kept, firsts-kept}
+use Rattle.normal_structure.proofs.placed.Made.{among}
 
 shorter : (f : List ℕ → Bool) (xs ys : List (List ℕ)) → list_any f (xs ++ ys) ≡ false → list_any f xs ≡ false
 shorter f [] ys h = refl

@@ -1,18 +1,18 @@
 -- The replay text of a legal program is legal, where its places meet the rules.
 use Rattle.std.proofs.Common.{refl, sym}
-use Rattle.ada_tree.specs.Refusals.{types_in}
-use Rattle.normal_form_law.specs.Normalisable.{numbers_of}
-use Rattle.normal_legal_numbers.proofs.Numbered.{none_legal_is_ded}
-use Rattle.normal_meets_checks.proofs.Facts as facts
-use Rattle.normal_meets_checks.proofs.Joined.{normal_meets_checks}
+use Rattle.ada_static_rules.specs.Refusals.{types_in}
+use Rattle.normal_runs.specs.forms.Normalisable.{numbers_of}
+use Rattle.normal_is_legal.proofs.numbers.Numbered.{none_legal_is_ded}
+use Rattle.normal_is_legal.proofs.checks.Facts as facts
+use Rattle.normal_is_legal.proofs.checks.Joined.{normal_meets_checks}
 use Rattle.normal_is_legal.proofs.Places.{meets_by_places}
 use Rattle.replay_model.specs.ReplayTree.{script_of, replay_of}
-use Rattle.replay_texts.proofs.Numbered.{replay_numbered}
-use Rattle.replay_checked.proofs.Whole.{replay_meets_checks}
-use Rattle.replay_declares_once.proofs.Legal.{legal_replay_declares_once}
-use Rattle.replay_legal_placed.proofs.Carried.{all_legal_placed}
-use Rattle.replay_checkable.specs.Prepared.{form_for}
-use Rattle.replay_checkable.proofs.Whole.{normal_is_checkable}
+use Rattle.replay_structure.proofs.texts.Numbered.{replay_numbered}
+use Rattle.replay_structure.proofs.checked.Whole.{replay_meets_checks}
+use Rattle.replay_structure.proofs.declares_once.Legal.{legal_replay_declares_once}
+use Rattle.replay_is_legal.proofs.placed.Carried.{all_legal_placed}
+use Rattle.replay_structure.specs.checkable.Prepared.{form_for}
+use Rattle.replay_structure.proofs.checkable.Whole.{normal_is_checkable}
 use Rattle.replay_is_legal.proofs.Prepared.{legal_is_prepared}
 use Rattle.replay_is_legal.specs.Laws.{LegalReplayHasNumbers, LegalReplayMeetsTypes, LegalReplayMeetsChecks, ReplayIsLegal, ReplayIsAsPromised}
 

@@ -9,10 +9,10 @@ use Rattle.ada_tree.specs.Attributes.{false_name}
 use Rattle.ada_tree.specs.TypeTable.{TypeTable}
 use Rattle.ada_tree.specs.PlainDecl.{PDecl, DNumber, DObject, DEnumeration, DArray, DSubtype, DException, DIntIo, DPragma, PTask, DTask, DTaskBody, PDecls, no_decl, decl_then}
 use Rattle.ada_tree.specs.PlainProgram.{PProgram}
-use Rattle.ada_tree.specs.RuleDuplicate.{is_predefined}
-use Rattle.ada_tree.specs.Scope.{Scope}
-use Rattle.ada_tree.specs.Refusals.{types_in}
-use Rattle.ada_tree.specs.Declaring.{after_decl, first_scope}
+use Rattle.ada_static_rules.specs.RuleDuplicate.{is_predefined}
+use Rattle.ada_static_rules.specs.Scope.{Scope}
+use Rattle.ada_static_rules.specs.Refusals.{types_in}
+use Rattle.ada_static_rules.specs.Declaring.{after_decl, first_scope}
 use Rattle.syn_event.specs.CheckScope.{CheckScope}
 use Rattle.syn_event.specs.CheckSites as check
 use Rattle.syn_event.specs.NamedTasks.{NamedTasks, type_named, with_type, task_names_of, NumberedTask, numbered_tasks}
@@ -21,24 +21,24 @@ use Rattle.syn_event.specs.AddedNames.{task_info}
 use Rattle.syn_event.specs.DeclaredTasks.{decl_list, tasks_of}
 use Rattle.syn_event.specs.declared.numbering.TaskInfo.{TaskInfo}
 use Rattle.task_model.specs.Setting.{Setting}
-use Rattle.rewritten_types.specs.Rewriting.{IsUnused, DeclareOnce}
-use Rattle.rewritten_types.proofs.Refused.{declared_once}
+use Rattle.legal_programs.specs.rewritten_types.Rewriting.{IsUnused, DeclareOnce}
+use Rattle.legal_programs.proofs.rewritten_types.Refused.{declared_once}
 use Rattle.normal_model.specs.Names.{variable_name, task_name, task_name_at, name_of_task}
 use Rattle.normal_model.specs.NormalTree.{first_decls, unless_left, mark_of, main_unit}
-use Rattle.normal_types.proofs.Variables.{unit-all}
-use Rattle.normal_has_numbers.proofs.Listed as list
-use Rattle.normal_has_numbers.proofs.Tasked.{under, normal-tasks-of}
-use Rattle.normal_form_law.specs.Normalisable.{numbers_of, setting_for, made_for}
-use Rattle.normal_legal.specs.Laws.{IsLegalOriginal}
-use Rattle.normal_asked.specs.Pieces.{IsAmong, first_among, later_among}
-use Rattle.normal_declares_once.proofs.Ids.{variable-new, new-not-predefined}
-use Rattle.normal_fits.proofs.Counted.{tasks-within}
-use Rattle.normal_meets_checks.proofs.Facts as facts
-use Rattle.normal_meets_checks.proofs.Counts as counts
-use Rattle.replay_checked.specs.Around.{kept_name}
-use Rattle.replay_checked.specs.Checkable.{IsOtherThanTruth, entries_count}
-use Rattle.replay_checkable.specs.Prepared.{form_for, IsBesideMain}
-use Rattle.replay_checkable.proofs.KeptNames.{own-kept}
+use Rattle.normal_structure.proofs.types.Variables.{unit-all}
+use Rattle.normal_structure.proofs.numbers.Listed as list
+use Rattle.normal_structure.proofs.numbers.Tasked.{under, normal-tasks-of}
+use Rattle.normal_runs.specs.forms.Normalisable.{numbers_of, setting_for, made_for}
+use Rattle.normalisable.specs.Laws.{IsLegalOriginal}
+use Rattle.normal_structure.specs.asked.Pieces.{IsAmong, first_among, later_among}
+use Rattle.normal_is_legal.proofs.declares_once.Ids.{variable-new, new-not-predefined}
+use Rattle.replay_is_legal.proofs.fits.Counted.{tasks-within}
+use Rattle.normal_is_legal.proofs.checks.Facts as facts
+use Rattle.normal_is_legal.proofs.checks.Counts as counts
+use Rattle.replay_structure.specs.checked.Around.{kept_name}
+use Rattle.replay_structure.specs.checked.Checkable.{IsOtherThanTruth, entries_count}
+use Rattle.replay_structure.specs.checkable.Prepared.{form_for, IsBesideMain}
+use Rattle.replay_structure.proofs.checkable.KeptNames.{own-kept}
 use Rattle.replay_is_legal.proofs.Kept.{new-kept, main-kept}
 use Rattle.replay_is_legal.specs.Laws.{LegalIsPrepared}
 

@@ -11,7 +11,7 @@ use Rattle.ada_tree.specs.PlainExpr.{PDrange, RGiven, RMarked}
 use Rattle.ada_tree.specs.PlainStmt.{PFormal}
 use Rattle.ada_tree.specs.PlainDecl.{PShape, OPlain, OArray, PTask, PDecl, DNumber, DObject, DEnumeration, DArray, DSubtype, DException, DIntIo, DPragma, DTask, DTaskBody, PDecls, no_decl, decl_then}
 use Rattle.ada_tree.specs.PlainProgram.{PProgram}
-use Rattle.ada_tree.specs.Scope.{and_then}
+use Rattle.ada_static_rules.specs.Scope.{and_then}
 use Rattle.ada_tree.specs.Every.{Rules, EveryDrange, EverySubind, EveryFormal, EveryEntry, EveryShape, EveryDecl, EveryDecls}
 use Rattle.syn_event.specs.declared.numbering.Mode.TheVariants.{Original}
 use Rattle.syn_event.specs.declared.numbering.EntryInfo.{EntryInfo}
@@ -20,30 +20,30 @@ use Rattle.syn_event.specs.NamedTasks.{NamedTasks, type_named, with_type, task_n
 use Rattle.syn_event.specs.CheckScope.{CheckScope, CheckSite}
 use Rattle.syn_event.specs.CheckSites as check
 use Rattle.syn_event.specs.DeclaredTasks.{decl_list, tasks_of}
-use Rattle.legal_sites.specs.Met.{IsCheckMet}
-use Rattle.legal_types.specs.Typed.{IsFirstTask, IsTypedTask, HasTypedTasks}
-use Rattle.legal_types.proofs.TaskTypes.{part-units}
-use Rattle.rewritten_types.proofs.Lookups.{find-all}
+use Rattle.legal_programs.specs.sites.Met.{IsCheckMet}
+use Rattle.legal_programs.specs.types.Typed.{IsFirstTask, IsTypedTask, HasTypedTasks}
+use Rattle.legal_programs.proofs.types.TaskTypes.{part-units}
+use Rattle.legal_programs.proofs.rewritten_types.Lookups.{find-all}
 use Rattle.task_model.specs.Setting.{Setting, formals_of_info}
 use Rattle.normal_model.specs.Ranges.{marked, subtype_of_range, array_range, range_of_info, family_range}
 use Rattle.normal_model.specs.Calls.{Slot, slots_of}
-use Rattle.alike_scopes.specs.Old.{IsOldSubind}
-use Rattle.normal_types.specs.Own.{own_name}
-use Rattle.normal_placed.proofs.Added.{AreSubtypes}
-use Rattle.normal_legal.proofs.variable_types.Numbers.{EntryRule, IsRuled, IsEntryOf, entry-of, formals-are, range-is}
-use Rattle.normal_legal.proofs.variable_types.Subtypes.{RangeEvery}
-use Rattle.normal_checked.specs.Around.{own_rules}
-use Rattle.normal_form_law.specs.Normalisable.{numbers_of, setting_for, made_for}
-use Rattle.normal_legal.specs.Laws.{IsLegalOriginal}
-use Rattle.normal_scopes.specs.Plain.{plain_name}
-use Rattle.normal_scopes.proofs.Names.{plain-own}
-use Rattle.normal_typed_decls.proofs.Variables.{subtypes-good}
-use Rattle.normal_typed_decls.proofs.Joined.{program-rules}
-use Rattle.normal_meets_checks.proofs.Facts as facts
-use Rattle.replay_declares_once.proofs.Ids.{IsOwn}
-use Rattle.replay_checkable.proofs.Kept.{rules_of, drange-kept}
-use Rattle.replay_checkable.proofs.KeptDecls.{HasRest, tasks-rest}
-use Rattle.replay_checkable.proofs.Tasks.{in-tasks}
+use Rattle.legal_programs.specs.alike_scopes.Old.{IsOldSubind}
+use Rattle.normal_structure.specs.types.Own.{own_name}
+use Rattle.normal_structure.proofs.placed.Added.{AreSubtypes}
+use Rattle.normalisable.proofs.variable_types.Numbers.{EntryRule, IsRuled, IsEntryOf, entry-of, formals-are, range-is}
+use Rattle.normalisable.proofs.variable_types.Subtypes.{RangeEvery}
+use Rattle.normal_structure.specs.checked.Around.{own_rules}
+use Rattle.normal_runs.specs.forms.Normalisable.{numbers_of, setting_for, made_for}
+use Rattle.normalisable.specs.Laws.{IsLegalOriginal}
+use Rattle.normal_is_legal.specs.scopes.Plain.{plain_name}
+use Rattle.normal_is_legal.proofs.scopes.Names.{plain-own}
+use Rattle.normal_is_legal.proofs.typed_declarations.Variables.{subtypes-good}
+use Rattle.normal_is_legal.proofs.typed_declarations.Joined.{program-rules}
+use Rattle.normal_is_legal.proofs.checks.Facts as facts
+use Rattle.replay_structure.proofs.declares_once.Ids.{IsOwn}
+use Rattle.replay_structure.proofs.checkable.Kept.{rules_of, drange-kept}
+use Rattle.replay_structure.proofs.checkable.KeptDecls.{HasRest, tasks-rest}
+use Rattle.replay_structure.proofs.checkable.Tasks.{in-tasks}
 use Rattle.replay_is_legal.proofs.Kept.{first-kept}
 
 -- ---- arrays of tasks

@@ -4,25 +4,25 @@ use Rattle.std.specs.List.{AllByRecursion}
 use Rattle.event_machine.specs.declared.Event.{Event}
 use Rattle.ada_tree.specs.PlainProgram.{PProgram}
 use Rattle.ada_tree.specs.Every.{EveryDecl}
-use Rattle.ada_tree.specs.Refusals.{types_in, MeetsTypeRules}
+use Rattle.ada_static_rules.specs.Refusals.{types_in, MeetsTypeRules}
 use Rattle.syn_event.specs.declared.numbering.Mode.TheVariants.{Any}
 use Rattle.syn_event.specs.AllNumbers.{all_numbers}
 use Rattle.syn_event.specs.CheckRefusals.{MeetsCheckRules}
 use Rattle.syn_event.specs.Legal.{Legal}
 use Rattle.syn_event.specs.DeclaredTasks.{decl_list}
 use Rattle.control_script.specs.declared.Op.{Op}
-use Rattle.normal_placed.specs.Example.{passing}
-use Rattle.normal_form_law.specs.Normalisable.{numbers_of, made_for}
-use Rattle.normal_legal.specs.Laws.{IsLegalOriginal}
+use Rattle.normal_structure.specs.placed.Example.{passing}
+use Rattle.normal_runs.specs.forms.Normalisable.{numbers_of, made_for}
+use Rattle.normalisable.specs.Laws.{IsLegalOriginal}
 use Rattle.normal_is_legal.specs.Laws.{MeetsButOnce}
 use Rattle.replay_model.specs.Promised.{HasLiteral, IsReplayText}
 use Rattle.replay_model.specs.ReplayNumbers.{replay_numbers}
 use Rattle.replay_model.specs.ReplayTree.{script_of, replay_of, replay_tree}
-use Rattle.replay_placed.specs.Placeable.{HasSmallIndices}
-use Rattle.replay_checked.specs.Around.{kept_names}
-use Rattle.replay_checked.specs.Checkable.{IsCheckable}
-use Rattle.replay_checked.specs.Example.{example_events}
-use Rattle.replay_checkable.specs.Prepared.{form_for, IsBesideMain, EndsBeside, IsPrepared}
+use Rattle.replay_structure.specs.placed.Placeable.{HasSmallIndices}
+use Rattle.replay_structure.specs.checked.Around.{kept_names}
+use Rattle.replay_structure.specs.checked.Checkable.{IsCheckable}
+use Rattle.replay_structure.specs.checked.Example.{example_events}
+use Rattle.replay_structure.specs.checkable.Prepared.{form_for, IsBesideMain, EndsBeside, IsPrepared}
 
 -- the replay text of a program and a sequence
 abbrev pub text_for : PProgram → List Event → PProgram
@@ -40,12 +40,13 @@ LegalReplayMeetsTypes = (p : PProgram) (ops : List Op) → IsLegalOriginal p →
 abbrev pub LegalReplayMeetsChecks : Type 0
 LegalReplayMeetsChecks = (p : PProgram) (ops : List Op) → IsLegalOriginal p → IsCheckable (form_for p) ops → MeetsCheckRules (replay_of (form_for p) ops) Any
 
--- What is left of what the rules 13 to 23 ask: the names in the declarations of the normal form are kept in the text, nothing is nested deeper than 100 there, and the events tell of the ends of tasks beside main alone.
+-- What is left of what the rules 13 to 23 ask: the names in the declarations of the normal form are kept in the text, nothing is nested deeper than
+-- 100 there, and the events tell of the ends of tasks beside main alone.
 pub record AreKept (p : PProgram) (events : List Event) : Type 0 where
   pub declared : AllByRecursion (EveryDecl (kept_names (made_for p))) (decl_list (made_for p).decls)
   pub ends : AllByRecursion (EndsBeside (IsBesideMain p)) events
 
--- A legal program with such events is prepared as `replay_checkable` asks.
+-- A legal program with such events is prepared as `replay_structure: checkable` asks.
 abbrev pub LegalIsPrepared : Type 0
 LegalIsPrepared = (p : PProgram) (events : List Event) → IsLegalOriginal p → AreKept p events → IsPrepared p events
 

@@ -1,1 +1,5 @@
 pub mod Laws
+pub mod fits
+pub mod placed
+pub mod known
+pub mod names

@@ -3,7 +3,7 @@ use Rattle.std.specs.Prelude.{◌≡◌, ◌≤◌, ⊤, List}
 use Rattle.event_machine.specs.declared.Event.{Event}
 use Rattle.ada_tree.specs.TypeTable.{TypeTable}
 use Rattle.ada_tree.specs.WellPlaced.{IsWellPlaced}
-use Rattle.ada_tree.specs.Refusals.{types_in}
+use Rattle.ada_static_rules.specs.Refusals.{types_in}
 use Rattle.ada_tree.specs.PlainProgram.{PProgram}
 use Rattle.syn_event.specs.declared.numbering.Mode.TheVariants as mode
 use Rattle.syn_event.specs.Numbering.{Numbering}

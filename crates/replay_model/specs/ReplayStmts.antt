@@ -39,11 +39,11 @@ replay_image u x = one x
 -- The rewriter: what it keeps on its way is the unit, which stays the same.
 abbrev pub replay_rewriter : Rewriter RewrittenUnit
 replay_rewriter = record {
-  entered = λ u x. u;
-  opened = λ u x. u;
+  entered_stmt = λ u x. u;
+  entered_alternative = λ u x. u;
   lead = λ u x. no_stmt;
-  face = λ u x. x;
-  image = λ u before x. in_front before (replay_image u x);
+  left_alternative = λ u x. x;
+  replaced_stmt = λ u before x. in_front before (replay_image u x);
 }
 
 -- ---- units

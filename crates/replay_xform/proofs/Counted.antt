@@ -7,11 +7,11 @@ use Rattle.normal_model.specs.NormalTree.{main_unit}
 use Rattle.replay_model.specs.Names.{replay_names}
 use Rattle.replay_model.specs.ReplayNumbers.{all_infos, added_infos, more_infos, numbers_replayed}
 use Rattle.replay_asking.specs.Voice.{Voice}
-use Rattle.replay_rules.specs.Meant.{voice_in}
-use Rattle.replay_numbering.specs.Replayed.{lists_from, infos_from, numbers_by}
+use Rattle.replay_statements.specs.rules.Meant.{voice_in}
+use Rattle.replay_xform.specs.numbering.Replayed.{lists_from, infos_from, numbers_by}
 use Rattle.replay_asking.specs.declared.speaker.Speaker.{Speaker}
 use Rattle.replay_asking.specs.Looked.{voice_of}
-use Rattle.replay_ids.specs.Looking.{AreTables}
+use Rattle.replay_declarations.specs.ids.Looking.{AreTables}
 use Rattle.replay_xform.proofs.Spoken.{main-voice}
 
 infos-is : (g : Setting) (n t : ℕ) → infos_from (voice_in (main_unit g)) t (lists_from g.numbers.entries n t) ≡ all_infos g n t

@@ -13,13 +13,13 @@ use Rattle.control_script.specs.declared.Op.{Op}
 use Rattle.task_model.specs.Setting.{Setting}
 use Rattle.replay_model.specs.Names.{replay_names, double_texts}
 use Rattle.replay_model.specs.ReplayTree.{last_task, replay_of}
-use Rattle.replay_names.specs.Added.{with_added}
+use Rattle.replay_asking.specs.names.Added.{with_added}
 use Rattle.replay_asking.specs.declared.speaker.Speaker.{Speaker}
 use Rattle.replay_asking.specs.Looked.{voice_of}
-use Rattle.replay_rules.specs.Replayed.{body_image}
-use Rattle.replay_ids.specs.Arranged.{decls_image}
-use Rattle.replay_ids.specs.Looking.{AreTables, AreSingle}
-use Rattle.replay_ids.proofs.Composed.{composed, names-is}
+use Rattle.replay_statements.specs.rules.Replayed.{body_image}
+use Rattle.replay_declarations.specs.ids.Arranged.{decls_image}
+use Rattle.replay_declarations.specs.ids.Looking.{AreTables, AreSingle}
+use Rattle.replay_declarations.proofs.ids.Composed.{composed, names-is}
 use Rattle.replay_xform.proofs.Spoken.{main-voice}
 use Rattle.syn_event.proofs.DeclLists.{listed_back}
 

@@ -10,8 +10,8 @@ use Rattle.task_model.specs.Setting.{Setting}
 use Rattle.normal_model.specs.NormalTree.{normal_tree}
 use Rattle.normal_model.specs.NormalNumbers.{normal_numbers}
 use Rattle.replay_model.specs.ReplayTree.{most_events, normal_setting, replay_of, replay_tree, replayed}
-use Rattle.replay_ids.specs.Looking.{AreSingle}
-use Rattle.replay_ids.proofs.Single.{single}
+use Rattle.replay_declarations.specs.ids.Looking.{AreSingle}
+use Rattle.replay_declarations.proofs.ids.Single.{single}
 
 -- the text of one setting is that of another that is the same
 pub same-text :

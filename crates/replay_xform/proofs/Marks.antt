@@ -6,8 +6,8 @@ use Rattle.syn_event.specs.declared.numbering.EntryInfo.{EntryInfo}
 use Rattle.syn_event.specs.Numbering.{entry_at}
 use Rattle.task_model.specs.Setting.{Setting}
 use Rattle.normal_model.specs.Ranges.{range_of_info}
-use Rattle.replay_names.proofs.Places.{mapped_more}
-use Rattle.replay_ids.specs.Looking.{mark_of_range, mark_at}
+use Rattle.replay_asking.proofs.names.Places.{mapped_more}
+use Rattle.replay_declarations.specs.ids.Looking.{mark_of_range, mark_at}
 use Rattle.common_lemmas.proofs.Lists.{element_at}
 
 next-entry : (g : Setting) (i : ℕ) → entry_at g.numbers (i + 1) ≡ slice_get g.numbers.entries i

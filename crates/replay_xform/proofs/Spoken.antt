@@ -4,13 +4,13 @@ use Rattle.task_model.specs.Setting.{Setting}
 use Rattle.normal_model.specs.Names.{id_of}
 use Rattle.normal_model.specs.NormalTree.{main_unit}
 use Rattle.replay_model.specs.Names.{double_text, replay_names}
-use Rattle.replay_names.specs.Added.{added_in}
+use Rattle.replay_asking.specs.names.Added.{added_in}
 use Rattle.replay_asking.specs.declared.speaker.Tables.{Tables}
 use Rattle.replay_asking.specs.declared.speaker.Speaker.{Speaker}
 use Rattle.replay_asking.specs.Looked.{voice_of}
-use Rattle.replay_rules.specs.Meant.{voice_in}
-use Rattle.replay_ids.specs.Looking.{AreTables}
-use Rattle.replay_ids.proofs.Told.{voice-is}
+use Rattle.replay_statements.specs.rules.Meant.{voice_in}
+use Rattle.replay_declarations.specs.ids.Looking.{AreTables}
+use Rattle.replay_declarations.proofs.ids.Told.{voice-is}
 
 tables-are : (g : Setting) (names others : List (List ℕ)) (tables : Tables) → names ≡ others → AreTables g names tables → AreTables g others tables
 tables-are g names others tables same are = record {

@@ -1,6 +1,7 @@
 //! The replay text of a normal form and a sequence of events, and its numbers.
 #![tactic(auto, using(ada_tree::proofs::Rows::rows))]
 
+pub mod numbering;
 mod numbers;
 mod program;
 mod tables;

@@ -4,11 +4,11 @@ ghost use Rattle.std.specs.Prelude.{◌≡◌, IfOk};
 ghost use Rattle.replay_model.specs.Names.{replay_names};
 ghost use Rattle.replay_model.specs.ReplayNumbers.{numbers_replayed};
 
+use crate::numbering::numbers_by;
 use crate::tables::tables_of;
 use ada_tree::{Memory, Names};
 use normal_lookups::Lookups;
 use replay_asking::Speaker;
-use replay_numbering::numbers_by;
 use std::alloc::Global;
 use syn_event::Numbers;
 use task_links::TaskNames;

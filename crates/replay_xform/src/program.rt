@@ -3,7 +3,7 @@
 ghost use Rattle.std.specs.Prelude.{◌≡◌, ◌⊎◌, nat_lt, length, true, Err, Ok, IfOk, IfErr};
 ghost use Rattle.ada_tree.specs.PlainProgram.{plain_program};
 ghost use Rattle.normal_form.specs.declared.errors.XformError.TheVariants as errors;
-ghost use Rattle.replay_ids.specs.Looking.{AreSingle};
+ghost use Rattle.replay_declarations.specs.ids.Looking.{AreSingle};
 ghost use Rattle.replay_model.specs.ReplayTree.{most_events, replay_of, replay_tree, replayed, script_of};
 
 use crate::text::replay_sequence;

@@ -3,12 +3,12 @@
 ghost use Rattle.std.specs.Prelude.{◌≡◌, ◌+◌, ◌<◌, IfOk, option_map, Some};
 ghost use Rattle.ada_tree.specs.PlainExpr.{plain_drange};
 ghost use Rattle.normal_model.specs.Ranges.{kind_of_range};
-ghost use Rattle.replay_ids.specs.Looking.{mark_of_kind, mark_of_range, mark_at, marks_of, AreTables};
+ghost use Rattle.replay_declarations.specs.ids.Looking.{mark_of_kind, mark_of_range, mark_at, marks_of, AreTables};
 
 use ada_tree::{Drange, Kind, Memory, NameId, Names};
 use normal_lookups::Lookups;
 use replay_asking::Tables;
-use replay_names::{find_added, find_double, find_doubles};
+use replay_asking::names::{find_added, find_double, find_doubles};
 use std::alloc::Global;
 
 // The type whose positions stand for the values of a kind.

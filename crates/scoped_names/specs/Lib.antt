@@ -1,2 +1,3 @@
 pub mod Meaning
 pub mod inner
+pub mod name_sets

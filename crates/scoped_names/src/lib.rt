@@ -1,6 +1,8 @@
 //! What names mean in nested scopes. A look-up, a declaration and the end of a scope each take one step for a name.
 #![tactic(auto)]
 
+pub mod name_sets;
+
 ghost use Rattle.std.specs.Prelude.{◌≡◌, ◌<◌, ◌∷◌, [], Some, drop, length, slice_get, option_map, OnOk, OnErr};
 ghost use Rattle.scoped_names.specs.Meaning.{meaning_in};
 

@@ -7,7 +7,7 @@ ghost use Rattle.seq_file.specs.Files.{AreFit, SeqReads, SeqText, header_line, e
 
 use super::lines::{original_entries, original_tasks};
 use ada_tree::Names;
-use decimal_text::put_number;
+use ded_io::decimals::put_number;
 use ded_io::{Sink, SinkError};
 use syn_event::{Event, Numbers, name_of, show};
 

@@ -7,7 +7,7 @@ use Rattle.ada_tree.specs.PlainExpr.{PExpr, EInteger, EName, EIndex, EParen, PSu
 use Rattle.ada_tree.specs.PlainStmt.{SIf, SConditional, LFor, arm, no_arm, arm_then, PTarget, PCallee, PFormal, PHead, PStmt, SNull, SAssign, SExit, SRaise, SAbort, SCall, SAccept, SWait, SBlock, SLoop, no_stmt, PMaybe, absent, present, accepting, PAltKind, AAccept, ADelay, ATerminate, PAlts, no_alt, alt_then, alternative, no_handler, handler_then, handler, body, stmts_of}
 use Rattle.ada_tree.specs.PlainDecl.{OPlain, OArray, PEntry, PDecl, DObject, DArray, DTask, DTaskBody, decls_of}
 use Rattle.ada_tree.specs.PlainProgram.{PProgram}
-use Rattle.ada_tree.specs.Refusals.{types_in}
+use Rattle.ada_static_rules.specs.Refusals.{types_in}
 use Rattle.syn_event.specs.declared.numbering.Mode.{Mode}
 use Rattle.syn_event.specs.declared.numbering.Mode.TheVariants.{Original, Any}
 use Rattle.syn_event.specs.declared.limits.What.{What}

@@ -6,7 +6,7 @@ use Rattle.ada_tree.specs.TypeTable.{TypeTable}
 use Rattle.ada_tree.specs.PlainExpr.{PExpr}
 use Rattle.ada_tree.specs.PlainStmt.{PCallee, PBody}
 use Rattle.ada_tree.specs.PlainDecl.{DTaskBody, PDecls, no_decl, decl_then}
-use Rattle.ada_tree.specs.StaticValue.{is_static}
+use Rattle.ada_static_rules.specs.StaticValue.{is_static}
 use Rattle.syn_event.specs.NamedTasks.{NamedTasks, task_count}
 use Rattle.syn_event.specs.Callees.{body_callees}
 

@@ -7,9 +7,9 @@ use Rattle.ada_tree.specs.declared.static_types.Kind.TheVariants.{Array}
 use Rattle.ada_tree.specs.declared.static_types.Mark.{Mark}
 use Rattle.ada_tree.specs.TypeTable.{TypeTable}
 use Rattle.ada_tree.specs.PlainExpr.{PExpr, PBounds, PDrange, RGiven, RMarked}
-use Rattle.ada_tree.specs.StaticValue.{is_static, value_of, mark_named}
-use Rattle.ada_tree.specs.Scope.{kind_at}
-use Rattle.ada_tree.specs.ExprTypes.{expr_place}
+use Rattle.ada_static_rules.specs.StaticValue.{is_static, value_of, mark_named}
+use Rattle.ada_static_rules.specs.Scope.{kind_at}
+use Rattle.ada_static_rules.specs.ExprTypes.{expr_place}
 
 -- the value of a static expression in which nothing raises
 abbrev pub unraised_value : Result ℤ Span → Option ℤ

@@ -2,7 +2,7 @@
 use Rattle.std.specs.Prelude.{◌≡◌}
 use Rattle.ada_tree.specs.PlainProgram.{PProgram}
 use Rattle.ada_tree.specs.TypeTable.{TypeTable}
-use Rattle.ada_tree.specs.Refusals.{MeetsTypeRules, types_in}
+use Rattle.ada_static_rules.specs.Refusals.{MeetsTypeRules, types_in}
 use Rattle.syn_event.specs.declared.numbering.Mode.{Mode}
 use Rattle.syn_event.specs.Numbering.{Numbering}
 use Rattle.syn_event.specs.CheckRefusals.{MeetsCheckRules}

@@ -9,7 +9,7 @@ ghost use Rattle.syn_event.specs.DeclaredTasks.{text_of};
 
 use crate::TaskInfo;
 use ada_tree::{NameId, Names};
-use decimal_text::{put_number, put_signed};
+use ded_io::decimals::{put_number, put_signed};
 use ded_io::{Sink, SinkError};
 
 /// The bytes of a name, which are none where the names have no such id.

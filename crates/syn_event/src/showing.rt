@@ -6,7 +6,7 @@ ghost use Rattle.ded_io.specs.Written.{Wrote};
 ghost use Rattle.syn_event.specs.EventText.{event_text, call_event_text, one_text, two_text};
 
 use crate::Event;
-use decimal_text::{put_number, put_signed};
+use ded_io::decimals::{put_number, put_signed};
 use ded_io::{Sink, SinkError};
 
 /// Appends the text of an event, without the end of its line: its letter and its numbers in decimal, one blank between them.

@@ -12,7 +12,7 @@ use Rattle.ada_tree.specs.declared.static_types.Kind.{Kind}
 use Rattle.ada_tree.specs.declared.static_types.Mark.{Mark}
 use Rattle.ada_tree.specs.declared.static_types.Constant.{Constant}
 use Rattle.ada_tree.specs.TypeTable.{TypeTable}
-use Rattle.ada_tree.specs.StaticValue.{first_of_two, is_named, position_in}
+use Rattle.ada_static_rules.specs.StaticValue.{first_of_two, is_named, position_in}
 use Rattle.ada_value.specs.declared.values.Value.{Value}
 use Rattle.ada_value.specs.Values.{placed, word}
 use Rattle.ada_value.specs.declared.values.Value.TheVariants.{Place}
@@ -22,7 +22,7 @@ use Rattle.syn_event.specs.declared.numbering.EntryInfo.{EntryInfo}
 use Rattle.task_model.specs.Setting.{is_member}
 use Rattle.task_links.specs.inner.Keys.{entry_eq, member_eq}
 use Rattle.common_lemmas.proofs.Numbers.{zero_more}
-use Rattle.tree_lemmas.proofs.FirstOfTwo.{find_push, first_of_three, first_or_none, position_more}
+use Rattle.ada_static_rules.proofs.found_twice.FirstOfTwo.{find_push, first_of_three, first_or_none, position_more}
 
 -- ---- the first of two
 

@@ -8,7 +8,7 @@ use Rattle.ada_tree.specs.declared.declarations.Decl.{Decl}
 use Rattle.ada_tree.specs.declared.declarations.EntryDecl.{EntryDecl}
 use Rattle.ada_tree.specs.declared.statements.Formal.{Formal}
 use Rattle.ada_tree.specs.PlainStmt.{plain_formal}
-use Rattle.ada_tree.specs.StaticValue.{first_of_two}
+use Rattle.ada_static_rules.specs.StaticValue.{first_of_two}
 use Rattle.ada_tree.specs.TypeTable.{TypeTable}
 use Rattle.ada_tree.specs.PlainDecl.{PEntry, PTask, PDecl, DNumber, DObject, DEnumeration, DArray, DSubtype, DException, DIntIo, DPragma, DTask, DTaskBody, decls_of, plain_decl, plain_entry}
 use Rattle.syn_event.specs.DeclaredTasks.{decl_list, tasks_in}
@@ -20,7 +20,7 @@ use Rattle.task_links.proofs.KeepingLemmas.{more, map_first, map_if, made_push, 
 use Rattle.common_lemmas.proofs.Numbers.{equal_is}
 use Rattle.common_lemmas.proofs.Options.{mapped_there, none_there}
 use Rattle.syn_event.proofs.DeclLists.{listed_back}
-use Rattle.tree_lemmas.proofs.FirstOfTwo.{find_push, first_or_none}
+use Rattle.ada_static_rules.proofs.found_twice.FirstOfTwo.{find_push, first_or_none}
 use Rattle.common_lemmas.proofs.Truth.{clash}
 
 abbrev name_of : PTask → ℕ

@@ -1,7 +1,7 @@
 // The formals of all entries, by the names of their tasks or task types and their own.
 
 ghost use Rattle.std.specs.Prelude.{◌≡◌, ◌==◌, ◌++◌, ◌∷◌, [], ℕ, List, Some, None, map, option_copied, if◌then◌else◌, IfOk, OnOk};
-ghost use Rattle.ada_tree.specs.StaticValue.{first_of_two};
+ghost use Rattle.ada_static_rules.specs.StaticValue.{first_of_two};
 ghost use Rattle.ada_tree.specs.PlainStmt.{plain_formal};
 ghost use Rattle.ada_tree.specs.PlainDecl.{PTask, decls_of, plain_decl, plain_entry, plain_task};
 ghost use Rattle.syn_event.specs.DeclaredTasks.{decl_list, tasks_in};

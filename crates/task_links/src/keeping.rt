@@ -2,7 +2,7 @@
 
 ghost use Rattle.std.specs.Prelude.{◌≡◌, ◌==◌, ℕ, ℤ, nat_eq, Some, None, if◌then◌else◌, IfOk, OnOk};
 ghost use Rattle.std.specs.HashMap.{get};
-ghost use Rattle.ada_tree.specs.StaticValue.{first_of_two};
+ghost use Rattle.ada_static_rules.specs.StaticValue.{first_of_two};
 ghost use Rattle.task_links.specs.inner.Keys.{entry_eq, member_eq};
 
 use ada_tree::Memory;

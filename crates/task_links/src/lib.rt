@@ -6,6 +6,7 @@ mod formals;
 mod keeping;
 mod links;
 mod static_names;
+pub mod store;
 mod task_names;
 mod task_scope;
 mod type_names;

@@ -2,7 +2,7 @@
 
 ghost use Rattle.std.specs.Prelude.{◌≡◌, ◌==◌, ◌+◌, ◌&&◌, ℕ, ℤ, nat_eq, position, option_map, if◌then◌else◌, IfOk, OnOk};
 ghost use Rattle.std.specs.HashMap.{get};
-ghost use Rattle.ada_tree.specs.StaticValue.{first_of_two};
+ghost use Rattle.ada_static_rules.specs.StaticValue.{first_of_two};
 ghost use Rattle.syn_event.specs.Numbering.{entry_named, task_named};
 ghost use Rattle.task_model.specs.Setting.{is_member, member_named};
 ghost use Rattle.task_links.specs.inner.Keys.{entry_eq, member_eq};

@@ -2,10 +2,10 @@
 
 ghost use Rattle.std.specs.Prelude.{◌≡◌};
 
+use crate::store::Objects;
 use crate::type_names::TypeNames;
 use ada_tree::{NameId, Types};
 use ada_value::{Limits, NameValues, Raised, Value};
-use task_store::Objects;
 
 /// The variables of a task and the names of its program's types: what an expression of the task is evaluated on.
 pub struct TaskScope<'a> {

@@ -3,7 +3,7 @@
 ghost use Rattle.std.specs.Prelude.{◌≡◌, ◌==◌, ℕ, pos, nat_eq, find, position, option_map, Some, None, if◌then◌else◌, IfOk, OnOk};
 ghost use Rattle.std.specs.HashMap.{get};
 ghost use Rattle.ada_tree.specs.declared.naming.NameId.{NameId};
-ghost use Rattle.ada_tree.specs.StaticValue.{first_of_two, is_named, mark_named, position_in};
+ghost use Rattle.ada_static_rules.specs.StaticValue.{first_of_two, is_named, mark_named, position_in};
 ghost use Rattle.ada_value.specs.Values.{limits_named, limits_of_kind, placed, word};
 ghost use Rattle.ada_value.specs.Evaluating.{constant_value, fixed_value, literal_value};
 

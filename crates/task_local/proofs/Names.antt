@@ -14,7 +14,7 @@ use Rattle.task_model.specs.Waits.{alternative_for}
 use Rattle.task_model.specs.Stands.{Steps, stand_of, abort_stand, name_stand, offer_of}
 use Rattle.task_model.specs.Rendezvous.{behind_in, behind_of, alternative_opened, returned, took_else, took_delay, else_taken_in, delay_taken_in, past_name, passed_at, passed_in}
 use Rattle.task_local.specs.inner.Local.{named_from, left_from, behind_names, names_in, IsWithin}
-use Rattle.task_rendezvous.proofs.Standing.{abort_not}
+use Rattle.task_local.proofs.rendezvous.Standing.{abort_not}
 
 -- ---- none
 

@@ -1,2 +1,4 @@
 pub mod OfferView
 pub mod inner
+pub mod rendezvous
+pub mod room

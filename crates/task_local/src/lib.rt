@@ -4,6 +4,8 @@
 
 mod meeting;
 mod offers;
+pub mod rendezvous;
+pub mod room;
 #[tactic(auto, using(ada_tree::proofs::Rows::rows))]
 mod standing;
 mod starting;

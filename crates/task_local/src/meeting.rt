@@ -6,14 +6,14 @@ ghost use Rattle.task_model.specs.Calls.{values_handed};
 ghost use Rattle.task_model.specs.Rendezvous.{accepted, finished, pending_of, returned, took_delay, took_else};
 ghost use Rattle.task_model.specs.Stands.{offer_of};
 ghost use Rattle.task_model.specs.Tasks.{Task};
-ghost use Rattle.task_rendezvous.specs.Handed.{handed_back};
+ghost use Rattle.task_local.specs.rendezvous.Handed.{handed_back};
 ghost use Rattle.task_local.specs.inner.InOrder.{task_of, IsInOrder};
 
+use crate::rendezvous as rendezvous;
 use crate::task_parts::TaskParts;
 use ada_tree::Memory;
 use ada_value::{Raised, Value};
-use task_calls::Member;
-use task_rendezvous as rendezvous;
+use task_waits::calls::Member;
 
 impl<'p> TaskParts<'p> {
     /// Opens the body of the accept that is taken for a caller of this member, who hands over these values.

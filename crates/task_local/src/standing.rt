@@ -8,7 +8,7 @@ ghost use Rattle.task_model.specs.Calls.{call_of, called_by, values_handed, open
 ghost use Rattle.task_model.specs.Setting.{callee_task};
 ghost use Rattle.task_model.specs.Stands.{name_stand, stand_at, stand_of};
 ghost use Rattle.task_model.specs.Tasks.{rest_of, vars_of};
-ghost use Rattle.task_room.specs.Fitting.{room_next};
+ghost use Rattle.task_local.specs.room.Fitting.{room_next};
 ghost use Rattle.task_state.specs.Plain.{plain_task};
 ghost use Rattle.task_waits.specs.Room.{room_at};
 ghost use Rattle.task_waits.specs.Standing.{stand_as};
@@ -16,9 +16,9 @@ ghost use Rattle.task_waits.specs.Standing.{stand_as};
 use crate::Choice;
 use ada_tree::{Callee, Memory, Stmt, StmtKind};
 use ada_value::Value;
-use task_calls::Here;
-use task_frames::Next;
 use task_state::TaskState;
+use task_state::frames::Next;
+use task_waits::calls::Here;
 use task_waits::{Stand, stand_at};
 
 // What a task stands at with this statement next, for whose choices there is room in the list.

@@ -2,7 +2,7 @@
 
 ghost use Rattle.std.specs.Prelude.{◌≡◌, IfOk};
 ghost use Rattle.task_model.specs.Starting.{started_in, unit_of};
-ghost use Rattle.task_start.specs.Plain.{plain_unit};
+ghost use Rattle.task_steps.specs.start.Plain.{plain_unit};
 ghost use Rattle.task_waits.specs.Room.{widest_body};
 ghost use Rattle.task_local.specs.inner.InOrder.{task_of, IsInOrder};
 
@@ -10,7 +10,7 @@ use crate::task_parts::TaskParts;
 use ada_tree::Memory;
 use std::alloc::Global;
 use task_links::Links;
-use task_start::{Unit, start, unit_of};
+use task_steps::start::{Unit, start, unit_of};
 use task_waits::{Stand, widest_wait};
 
 // The room that the choices of the waits of a unit take at most.

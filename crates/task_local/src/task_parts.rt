@@ -14,8 +14,8 @@ use crate::standing::{stand_at_name, stand_here};
 use crate::{Choice, Offer};
 use ada_tree::{Callee, Memory, Stmt, StmtKind};
 use ada_value::Raised;
-use task_frames::Next;
 use task_state::TaskState;
+use task_state::frames::Next;
 use task_steps::step_statement;
 use task_waits::Stand;
 

@@ -8,7 +8,7 @@ ghost use Rattle.task_model.specs.Rendezvous.{accepted, finished, past_name, pen
 ghost use Rattle.task_model.specs.Stands.{can_step, offer_of, stepped};
 ghost use Rattle.task_model.specs.Starting.{started_in, unit_of};
 ghost use Rattle.task_model.specs.Tasks.{Task, raised_there};
-ghost use Rattle.task_rendezvous.specs.Handed.{handed_back};
+ghost use Rattle.task_local.specs.rendezvous.Handed.{handed_back};
 ghost use Rattle.task_local.specs.OfferView.{offer_as};
 
 use crate::Offer;
@@ -18,8 +18,8 @@ use ada_tree::Memory;
 use ada_value::{Raised, Value};
 use std::alloc::Global;
 use std::marker::Model;
-use task_calls::Member;
 use task_links::Links;
+use task_waits::calls::Member;
 
 /// One task of a program. A contract sees the task of the definitions, and whether there is room for one more frame.
 #[derive(Drop)]

@@ -18,12 +18,12 @@ use Rattle.syn_event.specs.Numbering.{Numbering}
 use Rattle.task_model.specs.Tasks.{Task}
 use Rattle.task_model.specs.Stands.{can_step}
 use Rattle.task_model.specs.TaskOps.{task_ops}
-use Rattle.task_model.specs.Machine.{Setup}
+use Rattle.task_model.specs.Machine.{ProgramWithInputs}
 use Rattle.task_model.specs.Laws.{program_in, first_world}
 use Rattle.task_model.proofs.Following.{feasible_exactly, rest_exactly}
 use Rattle.task_machine.specs.declared.verdict.Verdict.{Verdict}
 use Rattle.task_machine.specs.declared.verdict.Verdict.TheVariants.{Feasible, Infeasible, Unsettled}
-use Rattle.task_machine.specs.Views.{IsFeasible, IsPastBound, IsRest, StandsInSomeRun, View, view_of}
+use Rattle.task_machine.specs.Views.{IsFeasible, IsOpenAt, IsRest, StandsInSomeRun, View, view_of}
 use Rattle.task_machine.specs.Conditions.{conditions_of, needed_of, all_hold}
 use Rattle.task_machine.specs.Judging.{AreViews, NoneOpen, AllFeasible, VerdictIs}
 use Rattle.task_machine.specs.TaskLaws.{VerdictsExist}
@@ -53,7 +53,7 @@ has_or_settles (suc n) task = ⊎_elim
     next h true e = inl (h, e)
     next h _ e = inr (n, omega arith, (h, e))
 
-module _ (setup : Setup) (numbers : Numbering) (bound : ℕ) where
+module _ (setup : ProgramWithInputs) (numbers : Numbering) (bound : ℕ) where
   -- where each event is feasible in turn, all are
   all_feasible : (events : List Event) → AllFeasible setup numbers bound events → IsFeasible setup numbers events
   all_feasible [] well = ([], tt, refl)
@@ -76,7 +76,7 @@ module _ (setup : Setup) (numbers : Numbering) (bound : ℕ) where
     rest_at : (t n : ℕ) → (base t).standing ≡ Live → HasSteps task_ops n (base t).local → IsRest setup numbers events t n (ran task_ops n (base t).local)
     rest_at t n free steps = (rest_exactly setup numbers (before_end events) (no_end_before events) t n (ran task_ops n (base t).local)).1 (led.0, led.1, free, steps, refl)
 
-    open_steps : (t : ℕ) → IsPastBound setup numbers events t bound → HasSteps task_ops (suc bound) (base t).local
+    open_steps : (t : ℕ) → IsOpenAt setup numbers events t bound → HasSteps task_ops (suc bound) (base t).local
     open_steps t (task, rest, step) =
         let (v, leads, free, steps, is) = (rest_exactly setup numbers (before_end events) (no_end_before events) t bound task).0 rest in
         subst (λ (u : World Task). HasSteps task_ops (suc bound) (u.tasks t).local)
@@ -85,7 +85,7 @@ module _ (setup : Setup) (numbers : Numbering) (bound : ℕ) where
 
     -- What is found of a task: it is open, or it is not, and a seat of it is known.
     abbrev Found : ℕ → Type 0
-    Found t = IsPastBound setup numbers events t bound ⊎ ((IsPastBound setup numbers events t bound → ⊥) × (seat : Seat Task) × IsSeat setup numbers events t seat)
+    Found t = IsOpenAt setup numbers events t bound ⊎ ((IsOpenAt setup numbers events t bound → ⊥) × (seat : Seat Task) × IsSeat setup numbers events t seat)
 
     found_free : (t : ℕ) → (base t).standing ≡ Live → Found t
     found_free t free = ⊎_elim
@@ -124,22 +124,22 @@ module _ (setup : Setup) (numbers : Numbering) (bound : ℕ) where
     seat_stands t (inl opened) = stands_at t
     seat_stands t (inr k) = k.2.standing
 
-    seat_is : (t : ℕ) (f : Found t) → (IsPastBound setup numbers events t bound → ⊥) → IsSeat setup numbers events t (seat_in t f)
+    seat_is : (t : ℕ) (f : Found t) → (IsOpenAt setup numbers events t bound → ⊥) → IsSeat setup numbers events t (seat_in t f)
     unfolding seat_in
     seat_is t (inl opened) shut = absurd (shut opened)
     seat_is t (inr k) shut = k.2
 
     -- the first open task of a list, if one is open
     first_open : (tasks : List ℕ) →
-        ((earlier later : List ℕ) × (task : ℕ) × (tasks ≡ (earlier ++ task ∷ later)) × NoneOpen setup numbers bound events earlier × IsPastBound setup numbers events task bound)
+        ((earlier later : List ℕ) × (task : ℕ) × (tasks ≡ (earlier ++ task ∷ later)) × NoneOpen setup numbers bound events earlier × IsOpenAt setup numbers events task bound)
         ⊎ NoneOpen setup numbers bound events tasks
-    first_open [] = inr (All-nil (λ t. IsPastBound setup numbers events t bound → ⊥))
+    first_open [] = inr (All-nil (λ t. IsOpenAt setup numbers events t bound → ⊥))
     first_open (t ∷ tasks) = ⊎_elim
-        (λ (opened : IsPastBound setup numbers events t bound). inl ([], tasks, t, refl, All-nil (λ u. IsPastBound setup numbers events u bound → ⊥), opened))
-        (λ (k : (IsPastBound setup numbers events t bound → ⊥) × (seat : Seat Task) × IsSeat setup numbers events t seat). ⊎_elim
-        (λ (r : (earlier later : List ℕ) × (task : ℕ) × (tasks ≡ (earlier ++ task ∷ later)) × NoneOpen setup numbers bound events earlier × IsPastBound setup numbers events task bound).
-        inl (t ∷ r.0, r.1, r.2, ap (λ ts. t ∷ ts) r.3, All-cons (λ u. IsPastBound setup numbers events u bound → ⊥) t r.0 k.0 r.4, r.5))
-        (λ (none : NoneOpen setup numbers bound events tasks). inr (All-cons (λ u. IsPastBound setup numbers events u bound → ⊥) t tasks k.0 none))
+        (λ (opened : IsOpenAt setup numbers events t bound). inl ([], tasks, t, refl, All-nil (λ u. IsOpenAt setup numbers events u bound → ⊥), opened))
+        (λ (k : (IsOpenAt setup numbers events t bound → ⊥) × (seat : Seat Task) × IsSeat setup numbers events t seat). ⊎_elim
+        (λ (r : (earlier later : List ℕ) × (task : ℕ) × (tasks ≡ (earlier ++ task ∷ later)) × NoneOpen setup numbers bound events earlier × IsOpenAt setup numbers events task bound).
+        inl (t ∷ r.0, r.1, r.2, ap (λ ts. t ∷ ts) r.3, All-cons (λ u. IsOpenAt setup numbers events u bound → ⊥) t r.0 k.0 r.4, r.5))
+        (λ (none : NoneOpen setup numbers bound events tasks). inr (All-cons (λ u. IsOpenAt setup numbers events u bound → ⊥) t tasks k.0 none))
         (first_open tasks))
         (found t)
 
@@ -158,7 +158,7 @@ module _ (setup : Setup) (numbers : Numbering) (bound : ℕ) where
 
       one_more : (verdict : Verdict) × VerdictIs setup numbers bound (events ++ e ∷ []) verdict
       one_more = ⊎_elim
-          (λ (r : (earlier later : List ℕ) × (task : ℕ) × (needed_of numbers e ≡ (earlier ++ task ∷ later)) × NoneOpen setup numbers bound events earlier × IsPastBound setup numbers events task bound).
+          (λ (r : (earlier later : List ℕ) × (task : ℕ) × (needed_of numbers e ≡ (earlier ++ task ∷ later)) × NoneOpen setup numbers bound events earlier × IsOpenAt setup numbers events task bound).
           (Unsettled (length events + 1) r.2, verdict_held setup numbers bound events e r.2 r.0 r.1 well r.3 r.4 r.5))
           (λ (none : NoneOpen setup numbers bound events (needed_of numbers e)). settled none (all_hold numbers views e) refl)
           (first_open (needed_of numbers e))

@@ -10,7 +10,7 @@ use Rattle.syn_event.specs.Numbering.{Numbering}
 use Rattle.task_model.specs.Frames.{callers_in}
 use Rattle.task_model.specs.Tasks.{Task}
 use Rattle.task_model.specs.Rendezvous.{pending_of, finals_of, finished, resumed, resumed_with}
-use Rattle.task_rendezvous.specs.Handed.{handed_back, unless_pending}
+use Rattle.task_local.specs.rendezvous.Handed.{handed_back, unless_pending}
 use Rattle.task_model.specs.Starting.{nobody}
 use Rattle.task_model.specs.TaskOps.{task_ops}
 use Rattle.task_model.specs.Machine.{Tasks, rules_of}

@@ -20,7 +20,7 @@ use Rattle.task_model.specs.Tasks.{Task}
 use Rattle.task_model.specs.Stands.{can_step, offer_of}
 use Rattle.task_model.specs.Starting.{nobody}
 use Rattle.task_model.specs.TaskOps.{task_ops}
-use Rattle.task_model.specs.Machine.{Setup, Tasks, rules_of, opening_of}
+use Rattle.task_model.specs.Machine.{ProgramWithInputs, Tasks, rules_of, opening_of}
 use Rattle.task_model.specs.Laws.{program_in, first_world}
 use Rattle.task_model.proofs.Following.{runs_agree, feasible_by_conditions, rest_exactly}
 use Rattle.task_machine.specs.Views as views
@@ -82,7 +82,7 @@ view_closed (Served by false) o = refl
 view_closed Completed o = refl
 view_closed Killed o = refl
 
-module _ (setup : Setup) (numbers : Numbering) where
+module _ (setup : ProgramWithInputs) (numbers : Numbering) where
   abbrev opening : State Tasks
   opening = (opening_of setup numbers).state
 

@@ -8,10 +8,10 @@ use Rattle.event_machine.specs.Offers.{Offer, calls_in, is_any_form, is_conditio
 use Rattle.event_machine.specs.States.{is_closed}
 use Rattle.event_machine.specs.Worlds.{aborts}
 use Rattle.syn_event.specs.Numbering.{Numbering, owner_of}
-use Rattle.task_model.specs.Machine.{Setup}
+use Rattle.task_model.specs.Machine.{ProgramWithInputs}
 use Rattle.task_machine.specs.declared.verdict.Why.{Why}
 use Rattle.task_machine.specs.declared.verdict.Verdict.TheVariants.{Feasible, Infeasible, Unsettled}
-use Rattle.task_machine.specs.Views.{IsFeasible, IsPastBound, View}
+use Rattle.task_machine.specs.Views.{IsFeasible, IsOpenAt, View}
 use Rattle.task_machine.specs.Conditions.{is_closed_view, Condition, closed, not_closed, not_served, at_offer, acts, others_may_end, may_end, is_end_of, conditions_of, needed_of, holds, why_of, failing_in, first_failing}
 use Rattle.task_machine.specs.Judging.{AreViews, NoneOpen, AllFeasible, IsReached, IsInfeasibleAt, IsHeldUp}
 use Rattle.task_machine.specs.TaskLaws.{VerdictsAgree}
@@ -100,7 +100,7 @@ module _ (numbers : Numbering) (views others : ℕ → View) (closed_same : (t :
       let at : (t : ℕ) → t ≤ pred (length numbers.tasks) → views t ≡ others t = to_all (λ t. views t ≡ others t) (pred (length numbers.tasks)) h in
       (ap (not_served 0).test (at 0 (omega arith)), (ap (at_offer 0 is_end).test (at 0 (omega arith)), same_others (pred (length numbers.tasks)) at))
 
-module _ (setup : Setup) (numbers : Numbering) where
+module _ (setup : ProgramWithInputs) (numbers : Numbering) where
   -- The first condition that fails is the same of all views after the events.
   pub failing_unique : (events : List Event) (e : Event) (views others : ℕ → View) → AreViews setup numbers events e views → AreViews setup numbers events e others →
       first_failing numbers views e ≡ first_failing numbers others e
@@ -122,10 +122,10 @@ module _ (setup : Setup) (numbers : Numbering) where
     unfolding GoesWrong
     refused_wrong at why v none feasible = v.infeasible feasible
 
-    open_wrong : (before : List Event) (e : Event) (earlier later : List ℕ) (task : ℕ) → needed_of numbers e ≡ (earlier ++ task ∷ later) → IsPastBound setup numbers before task bound →
+    open_wrong : (before : List Event) (e : Event) (earlier later : List ℕ) (task : ℕ) → needed_of numbers e ≡ (earlier ++ task ∷ later) → IsOpenAt setup numbers before task bound →
         NoneOpen setup numbers bound before (needed_of numbers e) → ⊥
     open_wrong before e earlier later task order stays none =
-        at_split (λ t. IsPastBound setup numbers before t bound → ⊥) earlier later task (subst (λ ts. NoneOpen setup numbers bound before ts) order none) stays
+        at_split (λ t. IsOpenAt setup numbers before t bound → ⊥) earlier later task (subst (λ ts. NoneOpen setup numbers bound before ts) order none) stays
 
     held_wrong : (at task : ℕ) (v : IsHeldUp setup numbers bound events at task) → GoesWrong v.before v.event
     unfolding GoesWrong
@@ -170,17 +170,17 @@ module _ (setup : Setup) (numbers : Numbering) where
           ⊎_elim
               (λ (k : (v.earlier ≡ u.earlier) × (task ≡ other)). k.1)
               (⊎_elim
-              (λ (k : (mid : List ℕ) × (u.earlier ≡ (v.earlier ++ task ∷ mid))). absurd (at_split (λ t. IsPastBound setup numbers u.before t bound → ⊥) v.earlier k.0 task
-              (subst (λ ts. NoneOpen setup numbers bound u.before ts) k.1 u.none_open) (subst (λ (es : List Event). IsPastBound setup numbers es task bound) b v.stays_open)))
-              (λ (k : (mid : List ℕ) × (v.earlier ≡ (u.earlier ++ other ∷ mid))). absurd (at_split (λ t. IsPastBound setup numbers v.before t bound → ⊥) u.earlier k.0 other
-              (subst (λ ts. NoneOpen setup numbers bound v.before ts) k.1 v.none_open) (subst (λ (es : List Event). IsPastBound setup numbers es other bound) (sym b) u.stays_open))))
+              (λ (k : (mid : List ℕ) × (u.earlier ≡ (v.earlier ++ task ∷ mid))). absurd (at_split (λ t. IsOpenAt setup numbers u.before t bound → ⊥) v.earlier k.0 task
+              (subst (λ ts. NoneOpen setup numbers bound u.before ts) k.1 u.none_open) (subst (λ (es : List Event). IsOpenAt setup numbers es task bound) b v.stays_open)))
+              (λ (k : (mid : List ℕ) × (v.earlier ≡ (u.earlier ++ other ∷ mid))). absurd (at_split (λ t. IsOpenAt setup numbers v.before t bound → ⊥) u.earlier k.0 other
+              (subst (λ ts. NoneOpen setup numbers bound v.before ts) k.1 v.none_open) (subst (λ (es : List Event). IsOpenAt setup numbers es other bound) (sym b) u.stays_open))))
               (two_splits v.earlier u.earlier v.later u.later task other (sym v.order ∙ ap (needed_of numbers) e ∙ u.order)),
         )
 
     refused_held : (at other_at : ℕ) (why : Why) (task : ℕ) → IsInfeasibleAt setup numbers bound events at why → IsHeldUp setup numbers bound events other_at task → ⊥
     refused_held at other_at why task v u =
         let (b, e) = same_place at other_at v.before u.before v.event u.event v.reached (refused_wrong at why v) u.reached (held_wrong other_at task u) in
-        open_wrong v.before v.event u.earlier u.later task (ap (needed_of numbers) e ∙ u.order) (subst (λ (es : List Event). IsPastBound setup numbers es task bound) (sym b) u.stays_open) v.none_open
+        open_wrong v.before v.event u.earlier u.later task (ap (needed_of numbers) e ∙ u.order) (subst (λ (es : List Event). IsOpenAt setup numbers es task bound) (sym b) u.stays_open) v.none_open
 
 -- A list of events has one verdict.
 pub verdict_unique : VerdictsAgree

@@ -13,12 +13,12 @@ use Rattle.syn_event.specs.Numbering.{Numbering, owner_of}
 use Rattle.task_model.specs.Tasks.{Task}
 use Rattle.task_model.specs.Starting.{started}
 use Rattle.task_model.specs.TaskOps.{task_ops}
-use Rattle.task_model.specs.Machine.{Setup, Tasks, rules_of, setting_of, first_tasks, opening_of}
+use Rattle.task_model.specs.Machine.{ProgramWithInputs, Tasks, rules_of, setting_of, first_tasks, opening_of}
 use Rattle.task_model.specs.Laws.{IsProper, program_in, first_world}
 use Rattle.task_model.proofs.Lawful.{lawful}
 use Rattle.task_model.proofs.Following.{opens, proper, feasible_exactly}
 
-module _ (setup : Setup) (numbers : Numbering) where
+module _ (setup : ProgramWithInputs) (numbers : Numbering) where
   length_first : (n : ℕ) → length (first_tasks setup numbers n) ≡ n
   length_first zero = refl
   length_first (suc n) =

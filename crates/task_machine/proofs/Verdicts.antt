@@ -3,10 +3,10 @@ use Rattle.std.proofs.Common.{◌≡◌, ℕ, ◌+◌, List, [], ◌∷◌, ◌+
 use Rattle.event_machine.specs.declared.Event.{Event}
 use Rattle.event_machine.specs.Tallies.{HasNoEnd}
 use Rattle.syn_event.specs.Numbering.{Numbering}
-use Rattle.task_model.specs.Machine.{Setup}
+use Rattle.task_model.specs.Machine.{ProgramWithInputs}
 use Rattle.task_machine.specs.declared.verdict.Why.{Why}
 use Rattle.task_machine.specs.declared.verdict.Verdict.TheVariants.{Feasible, Infeasible, Unsettled}
-use Rattle.task_machine.specs.Views.{IsFeasible, IsPastBound, View}
+use Rattle.task_machine.specs.Views.{IsFeasible, IsOpenAt, View}
 use Rattle.task_machine.specs.Conditions.{needed_of, conditions_of, first_failing}
 use Rattle.task_machine.specs.Judging.{AreViews, NoneOpen, IsReached, VerdictIs}
 use Rattle.task_machine.proofs.Tabled.{failing_none}
@@ -35,7 +35,7 @@ split_more (y ∷ xs) (b ∷ before) rest e x h = ⊎_elim
     (λ (k : (others : List _) × (xs ≡ (before ++ x ∷ others))). inr (k.0, (λ i. cons_head h i ∷ k.1 i)))
     (split_more xs before rest e x (cons_tail h))
 
-module _ (setup : Setup) (numbers : Numbering) (bound : ℕ) where
+module _ (setup : ProgramWithInputs) (numbers : Numbering) (bound : ℕ) where
   -- No event has gone wrong in none.
   pub verdict_empty : VerdictIs setup numbers bound [] Feasible
   verdict_empty before rest e h = absurd (none_split before rest e h)
@@ -69,7 +69,7 @@ module _ (setup : Setup) (numbers : Numbering) (bound : ℕ) where
 
   -- One more event that finds a task open.
   pub verdict_held : (events : List Event) (e : Event) (task : ℕ) (earlier later : List ℕ) → VerdictIs setup numbers bound events Feasible →
-      needed_of numbers e ≡ (earlier ++ task ∷ later) → NoneOpen setup numbers bound events earlier → IsPastBound setup numbers events task bound →
+      needed_of numbers e ≡ (earlier ++ task ∷ later) → NoneOpen setup numbers bound events earlier → IsOpenAt setup numbers events task bound →
       VerdictIs setup numbers bound (events ++ e ∷ []) (Unsettled (length events + 1) task)
   verdict_held events e task earlier later well order none stays = record {
     before = events;

@@ -15,7 +15,7 @@ use Rattle.task_model.specs.Stands.{offer_of}
 use Rattle.task_model.specs.Rendezvous.{resumed_with}
 use Rattle.task_model.specs.Starting.{nobody}
 use Rattle.task_model.specs.TaskOps.{task_ops}
-use Rattle.task_model.specs.Machine.{Setup, Tasks, MachineState, rules_of, opening_of}
+use Rattle.task_model.specs.Machine.{ProgramWithInputs, Tasks, MachineState, rules_of, opening_of}
 
 -- the tasks are kept in a list
 abbrev pub store : seats.Store Task Tasks
@@ -78,7 +78,7 @@ event_in tasks action = effects.event_of (rules_of nobody.setting.numbers) (reco
 -- ---- a machine
 
 -- what a program starts from that is set so, with the input of each task
-abbrev pub setup_in : Setting → List (List ℤ) → Setup
+abbrev pub setup_in : Setting → List (List ℤ) → ProgramWithInputs
 setup_in g inputs = record { program = g.program; types = g.types; inputs = inputs }
 
 -- The machine as the program that is set so starts.

@@ -3,7 +3,7 @@ use Rattle.std.specs.Prelude.{◌≡◌, ◌↔◌, ℕ, true, List, [], ◌∷�
 use Rattle.event_machine.specs.declared.Event.{Event}
 use Rattle.event_machine.specs.Tallies.{HasNoEnd}
 use Rattle.syn_event.specs.Numbering.{Numbering}
-use Rattle.task_model.specs.Machine.{Setup}
+use Rattle.task_model.specs.Machine.{ProgramWithInputs}
 use Rattle.task_machine.specs.declared.verdict.Verdict.{Verdict}
 use Rattle.task_machine.specs.Views.{IsFeasible, View, ViewIs}
 use Rattle.task_machine.specs.Conditions.{all_hold}
@@ -12,23 +12,23 @@ use Rattle.task_machine.specs.Judging.{AreViews, VerdictIs}
 -- After a list of events a task has one view at most.
 abbrev pub ViewsAgree : Type 0
 ViewsAgree =
-    (setup : Setup) (numbers : Numbering) (events : List Event) (t : ℕ) (view other : View) →
+    (setup : ProgramWithInputs) (numbers : Numbering) (events : List Event) (t : ℕ) (view other : View) →
     ViewIs setup numbers events t view → ViewIs setup numbers events t other → view ≡ other
 
 -- Second law: an event is feasible next exactly where each task that it needs has a view, and all its conditions hold of the views.
 abbrev pub FeasibleByTable : Type 0
 FeasibleByTable =
-    (setup : Setup) (numbers : Numbering) (events : List Event) (e : Event) → HasNoEnd events →
+    (setup : ProgramWithInputs) (numbers : Numbering) (events : List Event) (e : Event) → HasNoEnd events →
     IsFeasible setup numbers (events ++ e ∷ []) ↔ ((views : ℕ → View) × AreViews setup numbers events e views × (all_hold numbers views e ≡ true))
 
 -- A list of events has one verdict at most.
 abbrev pub VerdictsAgree : Type 0
 VerdictsAgree =
-    (setup : Setup) (numbers : Numbering) (bound : ℕ) (events : List Event) (verdict other : Verdict) →
+    (setup : ProgramWithInputs) (numbers : Numbering) (bound : ℕ) (events : List Event) (verdict other : Verdict) →
     VerdictIs setup numbers bound events verdict → VerdictIs setup numbers bound events other → verdict ≡ other
 
 -- Each list of events with nothing behind the end of the program has a verdict.
 abbrev pub VerdictsExist : Type 0
 VerdictsExist =
-    (setup : Setup) (numbers : Numbering) (bound : ℕ) (events : List Event) (e : Event) → HasNoEnd events →
+    (setup : ProgramWithInputs) (numbers : Numbering) (bound : ℕ) (events : List Event) (e : Event) → HasNoEnd events →
     (verdict : Verdict) × VerdictIs setup numbers bound (events ++ e ∷ []) verdict

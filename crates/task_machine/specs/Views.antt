@@ -11,27 +11,27 @@ use Rattle.event_machine.specs.Tallies.{RestIs, StandsAfter, before_end}
 use Rattle.syn_event.specs.Numbering.{Numbering}
 use Rattle.task_model.specs.Tasks.{Task}
 use Rattle.task_model.specs.Stands.{can_step, offer_of}
-use Rattle.task_model.specs.Machine.{Setup, rules_of, opening_of}
+use Rattle.task_model.specs.Machine.{ProgramWithInputs, rules_of, opening_of}
 
 -- Some run has exactly these events.
-abbrev pub IsFeasible : Setup → Numbering → List Event → Type 0
+abbrev pub IsFeasible : ProgramWithInputs → Numbering → List Event → Type 0
 IsFeasible setup numbers events = Feasible (rules_of numbers) (opening_of setup numbers).state events
 
 -- Rest: in some run with these events t is free, has made n local steps since the last event that changed it, and is in this state.
-abbrev pub IsRest : Setup → Numbering → List Event → ℕ → ℕ → Task → Type 0
+abbrev pub IsRest : ProgramWithInputs → Numbering → List Event → ℕ → ℕ → Task → Type 0
 IsRest setup numbers events t n task = RestIs (rules_of numbers) (opening_of setup numbers).state (before_end events) t n task
 
 -- In some run with these events t stands so, where one that waits or is queued is called live.
-abbrev pub StandsInSomeRun : Setup → Numbering → List Event → ℕ → Standing → Type 0
+abbrev pub StandsInSomeRun : ProgramWithInputs → Numbering → List Event → ℕ → Standing → Type 0
 StandsInSomeRun setup numbers events t z = StandsAfter (rules_of numbers) (opening_of setup numbers).state (before_end events) t z
 
 -- In some run with these events the standing of t passes the test.
-abbrev pub StandsIn : Setup → Numbering → List Event → ℕ → (Standing → Bool) → Type 0
+abbrev pub StandsIn : ProgramWithInputs → Numbering → List Event → ℕ → (Standing → Bool) → Type 0
 StandsIn setup numbers events t test = (z : Standing) × StandsInSomeRun setup numbers events t z × (test z ≡ true)
 
--- t is open at n: it is free, has made n local steps since the last event that changed it, and has one more.
-abbrev pub IsPastBound : Setup → Numbering → List Event → ℕ → ℕ → Type 0
-IsPastBound setup numbers events t n = (task : Task) × IsRest setup numbers events t n task × (can_step task ≡ true)
+-- t is open at n: in some run with these events it is free, has made n local steps since the last event that changed it, and has one more.
+abbrev pub IsOpenAt : ProgramWithInputs → Numbering → List Event → ℕ → ℕ → Type 0
+IsOpenAt setup numbers events t n = (task : Task) × IsRest setup numbers events t n task × (can_step task ≡ true)
 
 -- What is seen of a task that is closed, in a rendezvous, or free and at rest.
 pub data View : Type 0 where
@@ -49,7 +49,7 @@ abbrev pub is_busy : Standing → Bool
 is_busy z = is_served z && not (is_abnormal z)
 
 -- The task is seen so after the events.
-abbrev pub ViewIs : Setup → Numbering → List Event → ℕ → View → Type 0
+abbrev pub ViewIs : ProgramWithInputs → Numbering → List Event → ℕ → View → Type 0
 ViewIs setup numbers events t Completed = StandsIn setup numbers events t is_completed
 ViewIs setup numbers events t Abnormal = StandsIn setup numbers events t is_abnormal
 ViewIs setup numbers events t Busy = StandsIn setup numbers events t is_busy

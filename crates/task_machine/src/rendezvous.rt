@@ -8,7 +8,7 @@ ghost use Rattle.task_model.specs.Calls.{values_handed};
 ghost use Rattle.task_model.specs.Frames.{callers_in};
 ghost use Rattle.task_model.specs.Rendezvous.{accepted, finished, pending_of};
 ghost use Rattle.task_model.specs.Machine.{rules_of};
-ghost use Rattle.task_rendezvous.specs.Handed.{handed_back};
+ghost use Rattle.task_local.specs.rendezvous.Handed.{handed_back};
 ghost use Rattle.task_machine.specs.Table.{store, seat_of, offer_in_seat, parted_with, other_parted, first_parted};
 
 use crate::effects::set_standing;

@@ -10,11 +10,11 @@ use Rattle.syn_event.specs.Numbering.{Numbering, owner_of}
 use Rattle.task_model.specs.Tasks.{Task}
 use Rattle.task_model.specs.Starting.{started, nobody}
 use Rattle.task_model.specs.TaskOps.{task_ops}
-use Rattle.task_model.specs.Machine.{Setup, Tasks, rules_of, setting_of, first_tasks, opening_of}
+use Rattle.task_model.specs.Machine.{ProgramWithInputs, Tasks, rules_of, setting_of, first_tasks, opening_of}
 use Rattle.task_model.specs.Laws.{IsProper, OpeningsOpen, RunsAgree, KilledIsAborted, RestsMeet, FeasibleByConditions, FeasibleIsAdmitted, FeasibleExactly, RestExactly}
 use Rattle.task_model.proofs.Lawful.{lawful}
 
-module _ (setup : Setup) (numbers : Numbering) where
+module _ (setup : ProgramWithInputs) (numbers : Numbering) where
   -- the task of a number, as the program starts
   abbrev first : ℕ → Seat Task
   first n = live (started (setting_of setup numbers) setup.inputs n)

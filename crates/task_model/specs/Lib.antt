@@ -10,3 +10,4 @@ pub mod Starting
 pub mod TaskOps
 pub mod Machine
 pub mod Laws
+pub mod picked_runs

@@ -14,7 +14,7 @@ use Rattle.task_model.specs.Starting.{started}
 use Rattle.task_model.specs.TaskOps.{task_ops}
 
 -- What a program starts from: its tree, its types, and the input of each task.
-pub record Setup : Type 0 where
+pub record ProgramWithInputs : Type 0 where
   pub program : PProgram
   pub types : TypeTable
   pub inputs : List (List ℤ)
@@ -47,16 +47,16 @@ event_of m action = effects.event_of (rules_of m.numbers) m.state action
 -- ---- the start
 
 -- what each task reads of a program: its tree and types, with the numbers of its tasks and entries
-abbrev pub setting_of : Setup → Numbering → Setting
+abbrev pub setting_of : ProgramWithInputs → Numbering → Setting
 setting_of setup numbers = record { program = setup.program; types = setup.types; numbers = numbers }
 
 -- the first n tasks, in order
-abbrev pub first_tasks : Setup → Numbering → ℕ → Tasks
+abbrev pub first_tasks : ProgramWithInputs → Numbering → ℕ → Tasks
 first_tasks setup numbers zero = []
 first_tasks setup numbers (suc n) = first_tasks setup numbers n ++ (seats.live (started (setting_of setup numbers) setup.inputs n)) ∷ []
 
 -- The machine as a program starts: all tasks are live at their first statement.
-abbrev pub opening_of : Setup → Numbering → MachineState
+abbrev pub opening_of : ProgramWithInputs → Numbering → MachineState
 opening_of setup numbers = record {
   numbers = numbers;
   state = record { seats = first_tasks setup numbers (length numbers.tasks); line = []; ended = false };

@@ -8,7 +8,7 @@ use Rattle.ada_tree.specs.PlainExpr.{PExpr, PBounds, PSubind, PDrange}
 use Rattle.ada_tree.specs.PlainStmt.{no_stmt, no_handler, PBody, body}
 use Rattle.ada_tree.specs.PlainDecl.{PShape, OPlain, OArray, PInit, IOne, IList, IOthers, PDecl, DObject, DTaskBody, PDecls, no_decl, decl_then}
 use Rattle.ada_tree.specs.PlainProgram.{PProgram}
-use Rattle.ada_tree.specs.StaticValue.{mark_named}
+use Rattle.ada_static_rules.specs.StaticValue.{mark_named}
 use Rattle.syn_event.specs.declared.numbering.TaskInfo.{TaskInfo}
 use Rattle.syn_event.specs.Numbering.{Numbering, task_at}
 use Rattle.syn_event.specs.Extents.{count_to}

@@ -5,6 +5,7 @@
 #![tactic(auto)]
 
 mod parameters;
+pub mod picked_runs;
 
 ghost use Rattle.task_model.specs.Laws.{TasksAreLawful, OpeningsOpen, RunsAgree, KilledIsAborted, RestsMeet, FeasibleByConditions, FeasibleIsAdmitted, FeasibleExactly, RestExactly};
 

@@ -5,8 +5,8 @@ use Rattle.ada_tree.specs.declared.naming.Word.{Word}
 use Rattle.ada_tree.specs.PlainStmt.{PStmts}
 use Rattle.ada_value.specs.declared.values.Raised.{Raised}
 use Rattle.ada_value.specs.Variables.{Variables}
-use Rattle.task_frames.specs.Stack.{Held}
-use Rattle.task_frames.specs.Moves as moves
+use Rattle.task_state.specs.frames.Stack.{Held}
+use Rattle.task_state.specs.frames.Moves as moves
 use Rattle.task_model.specs.Frames.{Around}
 use Rattle.task_model.specs.Tasks.{entered, pushed, raised_there, vars_of, with_vars}
 use Rattle.task_model.specs.Rendezvous.{behind_of}

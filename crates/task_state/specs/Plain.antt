@@ -9,7 +9,7 @@ use Rattle.ada_value.specs.declared.values.Limits.{Limits}
 use Rattle.ada_value.specs.Values.{position_of}
 use Rattle.ada_value.specs.Evaluating.{range_of}
 use Rattle.ada_value.specs.Texts.{parts_output}
-use Rattle.task_frames.specs.Stack.{control_on}
+use Rattle.task_state.specs.frames.Stack.{control_on}
 use Rattle.task_model.specs.Frames.{Turns, Loop}
 use Rattle.task_model.specs.Tasks.{Task, rest_of, place_of, vars_of, gone_to}
 use Rattle.task_model.specs.Steps.{loop_left}

@@ -3,6 +3,7 @@
 #![tactic(auto)]
 
 mod evaluating;
+pub mod frames;
 mod moves;
 mod parameters;
 mod state;

@@ -4,8 +4,8 @@ ghost use Rattle.std.specs.Prelude.{◌≡◌, drop, map, option_map, slice_get,
 ghost use Rattle.ada_tree.specs.PlainStmt.{plain_part, seen};
 ghost use Rattle.ada_value.specs.declared.values.Value.TheVariants.{Number};
 ghost use Rattle.ada_value.specs.Variables.{set_value};
-ghost use Rattle.put_text.specs.Written.{exception_of, written_with};
-ghost use Rattle.task_frames.specs.Seen.{seen_handlers, turns_as};
+ghost use Rattle.ada_value.specs.put_text.Written.{exception_of, written_with};
+ghost use Rattle.task_state.specs.frames.Seen.{seen_handlers, turns_as};
 ghost use Rattle.task_model.specs.Frames.{Block, Loop, handled_by};
 ghost use Rattle.task_model.specs.Rendezvous.{behind_of};
 ghost use Rattle.task_model.specs.Steps.{exited};
@@ -13,10 +13,10 @@ ghost use Rattle.task_model.specs.Tasks.{entered, gone_to, pushed, raised_there,
 ghost use Rattle.task_state.specs.Plain.{plain_task, text_in, BeginsTurn, LeavesLoop};
 
 use crate::TaskState;
+use crate::frames::Turns;
 use ada_tree::{Handler, Memory, NameId, Part, Stmt, Word};
+use ada_value::put_text::put_parts;
 use ada_value::{Raised, Value};
-use put_text::put_parts;
-use task_frames::Turns;
 use task_links::TaskScope;
 
 impl<'p> TaskState<'p> {

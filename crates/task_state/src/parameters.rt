@@ -3,7 +3,7 @@
 ghost use Rattle.std.specs.Prelude.{◌≡◌, ◌∷◌, pos, OnOk, OnErr};
 ghost use Rattle.ada_tree.specs.PlainStmt.{seen};
 ghost use Rattle.ada_value.specs.Values.{position_of};
-ghost use Rattle.task_frames.specs.Seen.{turns_as};
+ghost use Rattle.task_state.specs.frames.Seen.{turns_as};
 ghost use Rattle.task_model.specs.Frames.{Loop};
 ghost use Rattle.task_model.specs.Rendezvous.{behind_of};
 ghost use Rattle.task_model.specs.Steps.{counted_on, counted_so_far, loop_parameter};
@@ -11,9 +11,9 @@ ghost use Rattle.task_model.specs.Tasks.{pushed, vars_of, with_vars};
 ghost use Rattle.task_state.specs.Plain.{plain_task, counted_from};
 
 use crate::TaskState;
+use crate::frames::Turns;
 use ada_tree::{Memory, Stmt, Word};
 use ada_value::{Form, Value, position_of, value_at};
-use task_frames::Turns;
 
 // The position one on, or one back.
 fn counted_from(value: Value, backwards: bool) -> i64

@@ -1,8 +1,8 @@
 // The parts of a task.
 
-use task_frames::Frames;
+use crate::frames::Frames;
 use task_links::Links;
-use task_store::Objects;
+use task_links::store::Objects;
 
 /// One task: what the names of its program mean, its number, its frames and its variables, the integers of its input with how many of
 /// them were read, and the bytes of its output. The parts hang on nothing of each other. A contract sees the task of the definitions

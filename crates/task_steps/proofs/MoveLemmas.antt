@@ -8,7 +8,7 @@ use Rattle.ada_value.specs.declared.values.Raised.{Raised}
 use Rattle.ada_value.specs.declared.values.Raised.TheVariants as raised
 use Rattle.ada_value.specs.Values.{and_then}
 use Rattle.ada_value.specs.Variables.{checked_for, set_value}
-use Rattle.put_text.specs.Written.{exception_of, written_with}
+use Rattle.ada_value.specs.put_text.Written.{exception_of, written_with}
 use Rattle.task_model.specs.Frames.{Turns, Endless, While, Counting}
 use Rattle.task_model.specs.Tasks.{Task, rest_of, place_of, vars_of, with_text, with_vars, with_input, gone_to, raised_there, or_raised}
 use Rattle.task_model.specs.Steps.{target_object, got, counted_on, counted_so_far, loop_left}

@@ -1,3 +1,4 @@
 pub mod Turning
 pub mod Sequential
 pub mod inner
+pub mod start

@@ -7,6 +7,7 @@ mod assigning;
 mod choosing;
 mod leaving;
 mod looping;
+pub mod start;
 #[tactic(auto, using(ada_tree::proofs::Rows::rows, crate::proofs::StandLemmas::stands))]
 mod steps;
 

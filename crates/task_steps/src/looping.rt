@@ -3,7 +3,7 @@
 ghost use Rattle.std.specs.Prelude.{◌≡◌, if◌then◌else◌, option_map, true, Some, OnOk, OnErr};
 ghost use Rattle.ada_tree.specs.PlainExpr.{plain_drange, plain_expr};
 ghost use Rattle.ada_tree.specs.PlainStmt.{plain_scheme, seen, LWhile};
-ghost use Rattle.task_frames.specs.Seen.{turns_as};
+ghost use Rattle.task_state.specs.frames.Seen.{turns_as};
 ghost use Rattle.task_model.specs.Frames.{While};
 ghost use Rattle.task_model.specs.Rendezvous.{behind_of};
 ghost use Rattle.task_model.specs.Steps.{counted_range, counted_so_far, counting_begun, loop_step, range_checked};
@@ -13,8 +13,8 @@ ghost use Rattle.task_steps.specs.Turning.{TurnsBy, is_backwards, is_counting, t
 
 use ada_tree::{Drange, Expr, Memory, Scheme, Stmt, Word};
 use ada_value::{Limits, Raised, is_empty_range, lies_in};
-use task_frames::Turns;
 use task_state::TaskState;
+use task_state::frames::Turns;
 
 // A range of a mark that is not empty lies in the mark, else CONSTRAINT_ERROR is raised (3.3.2).
 fn range_checked(mark: Limits, range: Limits) -> Result<Limits, Raised>

@@ -13,8 +13,8 @@ use crate::choosing::{step_case, step_if};
 use crate::leaving::{step_exit, step_raise};
 use crate::looping::{step_loop, step_turn};
 use ada_tree::{Body, Callee, Memory, Stmt, StmtKind};
-use task_frames::Next;
 use task_state::TaskState;
+use task_state::frames::Next;
 
 /// The step of a block statement, into a frame of its own (5.6). It fails by want of memory alone.
 pub fn step_block<'p>(task: &mut TaskState<'p>, body: &'p Body) -> Result<(), Memory>

@@ -12,7 +12,7 @@ use Rattle.event_machine.specs.Offers.{Waits}
 use Rattle.ada_value.specs.declared.values.Raised.{Raised}
 use Rattle.ada_value.specs.declared.values.Raised.TheVariants as raised
 use Rattle.ada_value.specs.Values.{and_then}
-use Rattle.task_calls.specs.declared.calls.Member.{Member}
+use Rattle.task_waits.specs.declared.calls.calls.Member.{Member}
 use Rattle.task_model.specs.Setting.{entry_of, member_index}
 use Rattle.task_model.specs.Tasks.{Task, vars_of, stmts_or_none}
 use Rattle.task_model.specs.Waits.{Open, Accepts, accept_opened, alternatives_open, else_choice, choices_of}

@@ -1,3 +1,4 @@
 pub mod Room
 pub mod Standing
 pub mod inner
+pub mod calls

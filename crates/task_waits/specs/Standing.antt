@@ -4,7 +4,7 @@ use Rattle.ada_tree.specs.PlainStmt.{PFormal, PStmts, no_stmt, no_handler, PAcce
 use Rattle.event_machine.specs.declared.Choice.{Choice}
 use Rattle.event_machine.specs.Offers.{Calls, Waits, Finishes, Ends, Aborts}
 use Rattle.ada_value.specs.Variables.{Variables}
-use Rattle.task_calls.specs.declared.here.Here.{Here}
+use Rattle.task_waits.specs.declared.calls.here.Here.{Here}
 use Rattle.task_model.specs.Setting.{Setting}
 use Rattle.task_model.specs.Frames.{OwnBody, control}
 use Rattle.task_model.specs.Tasks.{Task, stmts_or_none}

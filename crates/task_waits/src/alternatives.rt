@@ -7,9 +7,9 @@ ghost use Rattle.task_model.specs.Waits.{Open, accept_opened, kind_opened, alter
 ghost use Rattle.task_waits.specs.Standing.{task_here, plain_parts, body_accepted, parts_behind, parts_in, parts_opened};
 ghost use Rattle.task_waits.specs.inner.Choosing.{alternative_open, opens_or_none, accepts_in, taken, taken_if};
 
+use crate::calls::{Here, Member};
 use crate::choosing::{guard_holds, least_duration, member_accepted};
 use ada_tree::{Accept, Alt, AltKind, Formal, Stmt, StmtKind};
-use task_calls::{Here, Member};
 
 /// An accept that is taken: its formal part, the statements of its body, and those behind it in its alternative.
 #[derive(Clone, Copy)]

@@ -10,10 +10,10 @@ ghost use Rattle.task_model.specs.Waits.{Open, guard_holds, kind_opened, delays_
 ghost use Rattle.task_waits.specs.Standing.{task_here};
 ghost use Rattle.task_waits.specs.inner.Choosing.{member_accepted, alternative_open, duration_of, duration_if, lesser, least_among, is_longer, is_of, chosen, chosen_if, with_choice, opens_or_none};
 
+use crate::calls::{Here, Member};
 use ada_tree::{Accept, Alt, AltKind, Expr};
 use ada_value::{Raised, checked, is_true, truth_limits};
 use event_machine::Choice;
-use task_calls::{Here, Member};
 
 /// A sort of choices: the open accepts, the open delays that are not longer than the least duration, or an open terminate.
 #[derive(Clone, Copy)]

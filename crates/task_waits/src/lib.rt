@@ -4,6 +4,7 @@
 
 #[tactic(auto, using(ada_tree::proofs::Rows::rows))]
 mod alternatives;
+pub mod calls;
 #[tactic(auto, using(ada_tree::proofs::Rows::rows))]
 mod choosing;
 #[tactic(auto, using(ada_tree::proofs::Rows::rows))]

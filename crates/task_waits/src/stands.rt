@@ -12,11 +12,11 @@ ghost use Rattle.task_waits.specs.Room.{alternatives_in, room_at};
 ghost use Rattle.task_waits.specs.Standing.{task_here, stand_as};
 ghost use Rattle.task_waits.specs.inner.Choosing.{least_among, opens_or_none, with_choice};
 
+use crate::calls::Here;
 use crate::choosing::{Sort, least_duration, member_accepted, put_choice, put_choices};
 use ada_tree::{Accept, Alt, Call, Callee, Memory, Stmt, StmtKind};
 use ada_value::Raised;
 use event_machine::{CallForm, Choice};
-use task_calls::Here;
 
 /// What a task stands at (9.4, 9.5, 9.7, 9.10): a local step, in which an exception may be raised, or an offer. The choices of a wait
 /// stand in a list beside.

@@ -2,8 +2,8 @@
 use Rattle.std.specs.Prelude.{Bool, false, ◌&&◌, ◌==◌, List, Option, Some, None}
 use Rattle.ada_tree.specs.declared.naming.Word.{Word}
 use Rattle.ada_tree.specs.PlainStmt.{PFormal}
-use Rattle.ada_tree.specs.Scope.{FormalPart}
-use Rattle.ada_tree.specs.RuleArgCount.{Written, same_mode, are_same}
+use Rattle.ada_static_rules.specs.Scope.{FormalPart}
+use Rattle.ada_static_rules.specs.RuleArgCount.{Written, same_mode, are_same}
 
 -- one formal of an accept
 abbrev pub written_of : PFormal → Word → Written

@@ -2,9 +2,9 @@
 use Rattle.std.specs.Prelude.{List, [], ◌∷◌, ◌++◌, Option, Some, None}
 use Rattle.ada_tree.specs.declared.naming.NameId.{NameId}
 use Rattle.ada_tree.specs.PlainExpr.{PExpr, EName}
-use Rattle.ada_tree.specs.Scope.{Scope, FormalPart}
-use Rattle.ada_tree.specs.Demand.{must_be_of, Site}
-use Rattle.ada_tree.specs.Sites.{site, expr_sites, actual_sites}
+use Rattle.ada_static_rules.specs.Scope.{Scope, FormalPart}
+use Rattle.ada_static_rules.specs.Demand.{must_be_of, Site}
+use Rattle.ada_static_rules.specs.Sites.{site, expr_sites, actual_sites}
 
 -- the name that an expression is alone
 abbrev pub name_of : PExpr → Option NameId

@@ -1,6 +1,6 @@
 -- What is called: a task, an object of a task type, or a member of an array of tasks.
 use Rattle.std.specs.Prelude.{Bool, true, false, Option, Some}
-use Rattle.ada_tree.specs.Scope.{Thing, SingleTask, TaskObject, TaskArray}
+use Rattle.ada_static_rules.specs.Scope.{Thing, SingleTask, TaskObject, TaskArray}
 
 -- the entry of a call is looked up behind these
 abbrev pub has_entries : Option Thing → Bool

@@ -1,8 +1,8 @@
 -- What contracts see of the predefined names.
 use Rattle.std.specs.Prelude.{List, map, reverse}
 use Rattle.ada_tree.specs.declared.naming.NameId.{NameId}
-use Rattle.ada_tree.specs.Scope.{Thing, NameMeaning, TypeMark, Literal, AnException, AnotherUnit, truth_kind}
-use Rattle.ada_tree.specs.Declaring.{seen_as}
+use Rattle.ada_static_rules.specs.Scope.{Thing, NameMeaning, TypeMark, Literal, AnException, AnotherUnit, truth_kind}
+use Rattle.ada_static_rules.specs.Declaring.{seen_as}
 use Rattle.ada_scopes.specs.declared.predefined.Predefined.{Predefined}
 use Rattle.ada_scopes.specs.declared.predefined.Predefined.TheVariants.{Mark, TruthValue, Exception, Library}
 

@@ -1,7 +1,7 @@
 -- An inner scope, and the formals of an accept in it.
 use Rattle.std.specs.Prelude.{◌≡◌, ℕ, Option, Some, None}
 use Rattle.ada_tree.specs.declared.statements.ParMode.{ParMode}
-use Rattle.ada_tree.specs.Scope.{Scope, Thing, Parameter, Unclear}
+use Rattle.ada_static_rules.specs.Scope.{Scope, Thing, Parameter, Unclear}
 use Rattle.ada_scopes.specs.Nested.{IsWithin}
 
 -- a formal by its mark, where that is a scalar one

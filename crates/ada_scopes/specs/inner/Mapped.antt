@@ -5,7 +5,7 @@ use Rattle.ada_tree.specs.declared.naming.NameId.{NameId}
 use Rattle.ada_tree.specs.declared.static_types.Constant.{Constant}
 use Rattle.ada_tree.specs.declared.static_types.Mark.{Mark}
 use Rattle.ada_tree.specs.TypeTable.{TypeTable}
-use Rattle.ada_tree.specs.StaticValue.{mark_named, constant_named, literal_position}
+use Rattle.ada_static_rules.specs.StaticValue.{mark_named, constant_named, literal_position}
 
 pub record Mapped {S : Type 0} (types : TypeTable) (constants : HashMap ℕ Constant S) (literals : HashMap ℕ ℕ S) (named : HashMap ℕ Mark S) (firsts : HashMap ℕ ℕ S) : Type 0 where
   -- the named number or constant of each name

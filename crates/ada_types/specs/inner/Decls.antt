@@ -4,14 +4,14 @@ use Rattle.ada_tree.specs.declared.naming.Word.{Word}
 use Rattle.ada_tree.specs.PlainExpr.{PExpr}
 use Rattle.ada_tree.specs.PlainDecl.{PDecls}
 use Rattle.ada_tree.specs.PlainProgram.{PProgram}
-use Rattle.ada_tree.specs.Scope.{Scope, ConstantObject, AnotherUnit, integer_kind}
-use Rattle.ada_tree.specs.ExprTypes.{static_in}
-use Rattle.ada_tree.specs.Demand.{Site}
-use Rattle.ada_tree.specs.Declaring.{with_name, with_types, add_constants, in_body, after_objects}
-use Rattle.ada_tree.specs.Sites.{sites}
-use Rattle.ada_tree.specs.Refusals.{types_in}
-use Rattle.ada_refusals.specs.RefusedFirst.{refused_first}
-use Rattle.ada_refusals.specs.Repeated.{repeated_from}
+use Rattle.ada_static_rules.specs.Scope.{Scope, ConstantObject, AnotherUnit, integer_kind}
+use Rattle.ada_static_rules.specs.ExprTypes.{static_in}
+use Rattle.ada_static_rules.specs.Demand.{Site}
+use Rattle.ada_static_rules.specs.Declaring.{with_name, with_types, add_constants, in_body, after_objects}
+use Rattle.ada_static_rules.specs.Sites.{sites}
+use Rattle.ada_static_rules.specs.Refusals.{types_in}
+use Rattle.ada_static_rules.specs.RefusedFirst.{refused_first}
+use Rattle.ada_static_rules.specs.Repeated.{repeated_from}
 use Rattle.ada_types.specs.declared.walked_decls.WalkedDecl.{WalkedDecl}
 use Rattle.ada_types.specs.declared.walked_decls.WalkedDecls.{WalkedDecls}
 use Rattle.ada_types.specs.declared.types.WalkedProgram.{WalkedProgram}

@@ -3,12 +3,12 @@ use Rattle.std.specs.Prelude.{◌≡◌, ℕ, List, [], ◌∷◌, ◌++◌, fla
 use Rattle.ada_tree.specs.declared.naming.Word.{Word}
 use Rattle.ada_tree.specs.PlainExpr.{PExpr}
 use Rattle.ada_tree.specs.PlainStmt.{PAlt, alternative, PArm, arm, PCaseArm, case_arm, PHandler, handler}
-use Rattle.ada_tree.specs.Scope.{Scope, Range}
-use Rattle.ada_tree.specs.ExprTypes.{kind_of}
-use Rattle.ada_tree.specs.RuleChoiceBad.{selected_range}
-use Rattle.ada_tree.specs.Demand.{Site, names_exception}
-use Rattle.ada_tree.specs.Sites.{site, if_there, condition_sites, stmts_sites, alt_sites, choice_sites}
-use Rattle.ada_refusals.specs.RefusedFirst.{refused_first}
+use Rattle.ada_static_rules.specs.Scope.{Scope, Range}
+use Rattle.ada_static_rules.specs.ExprTypes.{kind_of}
+use Rattle.ada_static_rules.specs.RuleChoiceBad.{selected_range}
+use Rattle.ada_static_rules.specs.Demand.{Site, names_exception}
+use Rattle.ada_static_rules.specs.Sites.{site, if_there, condition_sites, stmts_sites, alt_sites, choice_sites}
+use Rattle.ada_static_rules.specs.RefusedFirst.{refused_first}
 use Rattle.ada_scopes.specs.Entries.{plain_range}
 use Rattle.ada_types.specs.declared.statements.CaseHead.{CaseHead}
 

@@ -1,11 +1,11 @@
 -- What is told of an expression that is a part of a text.
 use Rattle.std.specs.Prelude.{◌≡◌, List, ◌∷◌}
 use Rattle.ada_tree.specs.PlainExpr.{PExpr}
-use Rattle.ada_tree.specs.Scope.{Scope}
-use Rattle.ada_tree.specs.ExprTypes.{kind_of}
-use Rattle.ada_tree.specs.Demand.{whole, Site}
-use Rattle.ada_tree.specs.Sites.{site, part_nodes}
-use Rattle.ada_refusals.specs.RefusedFirst.{refused_first}
+use Rattle.ada_static_rules.specs.Scope.{Scope}
+use Rattle.ada_static_rules.specs.ExprTypes.{kind_of}
+use Rattle.ada_static_rules.specs.Demand.{whole, Site}
+use Rattle.ada_static_rules.specs.Sites.{site, part_nodes}
+use Rattle.ada_static_rules.specs.RefusedFirst.{refused_first}
 use Rattle.ada_types.specs.declared.written_parts.Written.{Written}
 
 -- the places of the expression and its parts, where it may be 'IMAGE itself

@@ -3,7 +3,7 @@ use Rattle.std.specs.Prelude.{ℕ, List, map, reverse, flat_map, Option, Some, N
 use Rattle.ada_tree.specs.declared.naming.NameId.{NameId}
 use Rattle.ada_tree.specs.declared.static_types.Mark.{Mark}
 use Rattle.ada_tree.specs.TypeTable.{TypeTable}
-use Rattle.ada_tree.specs.Scope.{mark_at}
+use Rattle.ada_static_rules.specs.Scope.{mark_at}
 use Rattle.ada_value.specs.declared.values.Value.{Value}
 use Rattle.ada_value.specs.Values.{integer_limits}
 use Rattle.ada_value.specs.Variables.{Object, Variables, Form, form_of_mark, object_with}

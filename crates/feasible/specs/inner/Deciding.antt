@@ -3,7 +3,7 @@ use Rattle.std.specs.Prelude.{◌≡◌, ℕ, ◌+◌, Bool, ◌||◌, if◌then
 use Rattle.event_machine.specs.declared.Event.{Event}
 use Rattle.event_machine.specs.Worlds.{acted, is_last}
 use Rattle.syn_event.specs.Numbering.{Numbering}
-use Rattle.task_model.specs.Machine.{Setup, Tasks, rules_of}
+use Rattle.task_model.specs.Machine.{ProgramWithInputs, Tasks, rules_of}
 use Rattle.task_machine.specs.declared.verdict.Verdict.{Verdict}
 use Rattle.task_machine.specs.declared.verdict.Verdict.TheVariants.{Feasible, Infeasible, Unsettled}
 use Rattle.task_machine.specs.Conditions.{needed_of}
@@ -39,7 +39,7 @@ abbrev pub ended_with : Verdict → Event → Bool → Bool
 ended_with v e ended = if is_feasible v then is_last e || ended else ended
 
 -- With one more event the verdict is this, and what is kept stands for the events that have happened.
-pub record GoesOn (setup : Setup) (numbers : Numbering) (bound : ℕ) (events : List Event) (e : Event) (taken : ℕ) (ended : Bool) (tasks' : Tasks) (steps' : List ℕ) (v : Verdict) : Type 0 where
+pub record GoesOn (setup : ProgramWithInputs) (numbers : Numbering) (bound : ℕ) (events : List Event) (e : Event) (taken : ℕ) (ended : Bool) (tasks' : Tasks) (steps' : List ℕ) (v : Verdict) : Type 0 where
   pub verdict : VerdictIs setup numbers bound (events ++ e ∷ []) v
   pub counts : Counts (events ++ e ∷ []) (taken_with v taken) v
   pub keeps : AreKept setup numbers bound (take (taken_with v taken) (events ++ e ∷ [])) tasks' steps' (ended_with v e ended)

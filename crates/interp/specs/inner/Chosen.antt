@@ -10,8 +10,8 @@ use Rattle.interp.specs.declared.report.RunError.{RunError}
 use Rattle.interp.specs.declared.report.RunError.TheVariants.{Memory, Sink}
 use Rattle.interp.specs.declared.running.Turn.{Turn}
 use Rattle.interp.specs.declared.running.Turn.TheVariants.{Halted, Make}
-use Rattle.run_model.specs.Picked.{halted, picked_action}
-use Rattle.run_model.specs.Lines.{lines_of}
+use Rattle.task_model.specs.picked_runs.Picked.{halted, picked_action}
+use Rattle.task_model.specs.picked_runs.Lines.{lines_of}
 
 -- an action was picked, and it applies
 pub record IsPicked {C : Type 0} (word : C → ℕ) (next : C → C) (m : MachineState) (old new : C) (action : Action) : Type 0 where

@@ -6,7 +6,7 @@ use Rattle.task_model.specs.Machine.{MachineState, enabled_of}
 use Rattle.task_machine.specs.Table.{can}
 use Rattle.interp.specs.declared.running.Turn.{Turn}
 use Rattle.interp.specs.declared.running.Turn.TheVariants.{Halted, Make}
-use Rattle.run_model.specs.Picked.{halted}
+use Rattle.task_model.specs.picked_runs.Picked.{halted}
 
 -- the run goes on, and these are the actions that apply
 pub record IsListed (m : MachineState) (actions : List Action) : Type 0 where

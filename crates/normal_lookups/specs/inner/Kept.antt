@@ -4,7 +4,7 @@ use Rattle.std.specs.Borrow.{Bor}
 use Rattle.ada_tree.specs.declared.naming.NameId.{NameId}
 use Rattle.ada_tree.specs.declared.declarations.Drange.{Drange}
 use Rattle.ada_tree.specs.TypeTable.{TypeTable}
-use Rattle.ada_tree.specs.StaticValue.{constant_named, literal_position}
+use Rattle.ada_static_rules.specs.StaticValue.{constant_named, literal_position}
 use Rattle.ada_tree.specs.PlainExpr.{PDrange, plain_drange}
 use Rattle.ada_tree.specs.PlainDecl.{PEntry, PTask}
 use Rattle.ada_tree.specs.PlainProgram.{PProgram}

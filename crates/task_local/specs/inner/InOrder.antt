@@ -3,7 +3,7 @@ use Rattle.std.specs.Prelude.{◌≡◌, ◌<◌, ◌≤◌, ◌^◌}
 use Rattle.std.specs.Vec.{vec_capacity}
 use Rattle.task_model.specs.Tasks.{Task, rest_of}
 use Rattle.task_model.specs.Stands.{stand_of}
-use Rattle.task_room.specs.Fitting.{HasRoom}
+use Rattle.task_local.specs.room.Fitting.{HasRoom}
 use Rattle.task_state.specs.Plain.{plain_task}
 use Rattle.task_waits.specs.Standing.{stand_as}
 use Rattle.task_local.specs.declared.task_parts.TaskParts.{TaskParts}

@@ -8,7 +8,7 @@ use Rattle.ada_value.specs.Values.{and_then}
 use Rattle.task_model.specs.Setting.{entry_of, member_index}
 use Rattle.task_model.specs.Tasks.{Task, vars_of}
 use Rattle.task_model.specs.Waits.{Open, Accepts, Delays, Terminates, guard_holds, kind_opened, accepts_member, delay_part}
-use Rattle.task_calls.specs.declared.calls.Member.{Member}
+use Rattle.task_waits.specs.declared.calls.calls.Member.{Member}
 use Rattle.task_waits.specs.declared.choosing.Sort.{Sort}
 use Rattle.task_waits.specs.declared.choosing.Sort.TheVariants as sort
 

@@ -2,7 +2,7 @@ use Rattle.std.proofs.Common.{◌≡◌, Some, None}
 use Rattle.ada_tree.specs.PlainProgram.{plain_program}
 use Rattle.syn_event.specs.CheckSites.{check_sites}
 use Rattle.syn_event.specs.AllNumbers.{all_numbers}
-use Rattle.ada_rules.specs.RefusedFirst.{refused_first}
+use Rattle.ada_check_rules.specs.rules.RefusedFirst.{refused_first}
 use Rattle.ada_check.proofs.FirstRefusal.{meets_rules, is_told}
 use Rattle.ada_check.proofs.checking.check_on.Goals as goal
 

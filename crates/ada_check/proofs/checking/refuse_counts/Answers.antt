@@ -1,6 +1,6 @@
 use Rattle.std.proofs.Common.{map, ap, ◌∙◌}
 use Rattle.ada_tree.specs.PlainProgram.{plain_program}
-use Rattle.ada_task_objects.specs.PlainNames.{plain_named_tasks}
+use Rattle.ada_task_numbers.specs.task_objects.PlainNames.{plain_named_tasks}
 use Rattle.ada_check.proofs.Programs.{counted_met}
 use Rattle.ada_check.proofs.checking.refuse_counts.Goals as goal
 

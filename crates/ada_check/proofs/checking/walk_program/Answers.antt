@@ -3,7 +3,7 @@ use Rattle.ada_tree.specs.PlainProgram.{plain_program}
 use Rattle.ada_tree.specs.PlainDecl.{plain_decl, decls_of}
 use Rattle.syn_event.specs.CheckScope.{CheckScope}
 use Rattle.syn_event.specs.CheckSites.{body_names, decls_sites, after_decls}
-use Rattle.ada_rules.specs.RefusedFirst.{refused_first}
+use Rattle.ada_check_rules.specs.rules.RefusedFirst.{refused_first}
 use Rattle.ada_check.proofs.Programs.{program_met, types_stay}
 use Rattle.ada_check.proofs.checking.walk_program.Goals as goal
 

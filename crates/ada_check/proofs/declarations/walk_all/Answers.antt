@@ -1,9 +1,9 @@
 use Rattle.std.proofs.Common.{refl}
 use Rattle.ada_tree.specs.PlainDecl.{plain_decl}
 use Rattle.syn_event.specs.CheckSites.{decl_sites, after_decl, decls_sites, after_decls}
-use Rattle.name_sets.specs.Numbers.{numbers_in}
-use Rattle.ada_rules.proofs.Listing.{cut}
-use Rattle.ada_declaration_places.proofs.Declaring.{decl_more, decl_end, after_more, after_end, own_none}
+use Rattle.scoped_names.specs.name_sets.Numbers.{numbers_in}
+use Rattle.ada_check_rules.proofs.rules.Listing.{cut}
+use Rattle.ada_check.proofs.declaration_places.Declaring.{decl_more, decl_end, after_more, after_end, own_none}
 use Rattle.ada_check.proofs.declarations.walk_all.Goals as goal
 
 pub loop-decl-preserved : goal.loop-decl-preserved

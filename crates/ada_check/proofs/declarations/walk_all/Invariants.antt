@@ -1,9 +1,9 @@
 use Rattle.std.proofs.Common.{◌≡◌, map, drop, None}
 use Rattle.ada_tree.specs.PlainDecl.{plain_decl, decls_of}
 use Rattle.syn_event.specs.CheckSites.{decls_sites, after_decls}
-use Rattle.ada_rules.specs.Sooner.{sooner}
-use Rattle.ada_rules.specs.RefusedFirst.{refused_first}
-use Rattle.name_sets.specs.Numbers.{numbers_in}
+use Rattle.ada_check_rules.specs.rules.Sooner.{sooner}
+use Rattle.ada_check_rules.specs.rules.RefusedFirst.{refused_first}
+use Rattle.scoped_names.specs.name_sets.Numbers.{numbers_in}
 use Rattle.ada_check.proofs.declarations.walk_all.Given as goal
 
 -- what is refused so far, and of the declarations that are left; what stands around behind them is what stands around behind all

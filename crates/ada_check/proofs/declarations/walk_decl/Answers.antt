@@ -1,10 +1,10 @@
 use Rattle.std.proofs.Common.{ap, ◌∙◌}
 use Rattle.ada_tree.specs.PlainDecl.{plain_decl}
-use Rattle.ada_rules.specs.RefusedFirst.{refused_first}
-use Rattle.name_sets.specs.Numbers.{numbers_in}
+use Rattle.ada_check_rules.specs.rules.RefusedFirst.{refused_first}
+use Rattle.scoped_names.specs.name_sets.Numbers.{numbers_in}
 use Rattle.ada_check.specs.inner.TaskBodies.{body_part}
 use Rattle.ada_check.proofs.Bodies.{parted}
-use Rattle.ada_declaration_places.proofs.Declaring.{own_none}
+use Rattle.ada_check.proofs.declaration_places.Declaring.{own_none}
 use Rattle.ada_check.proofs.declarations.walk_decl.Goals as goal
 
 pub walk_if_body-requires : goal.walk_if_body-requires

@@ -2,7 +2,7 @@ use Rattle.std.proofs.Common.{◌≡◌, ap, sym, ◌∙◌, map, arith}
 use Rattle.ada_tree.specs.PlainStmt.{plain_body}
 use Rattle.ada_tree.specs.PlainDecl.{DTaskBody, plain_decl, decls_of}
 use Rattle.ada_tree.proofs.Rows.{rows}
-use Rattle.ada_rules.specs.RefusedFirst.{refused_first}
+use Rattle.ada_check_rules.specs.rules.RefusedFirst.{refused_first}
 use Rattle.ada_check.specs.inner.TaskBodies.{task_body_sites, body_part}
 use Rattle.ada_check.proofs.declarations.walk_if_body.Goals as goal
 

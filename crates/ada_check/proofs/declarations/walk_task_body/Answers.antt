@@ -2,10 +2,10 @@ use Rattle.std.proofs.Common.{◌≡◌, ap, ◌∙◌, map}
 use Rattle.ada_tree.specs.PlainStmt.{plain_body}
 use Rattle.ada_tree.specs.PlainDecl.{plain_decl, decls_of}
 use Rattle.syn_event.specs.CheckSites.{in_body, own_sites, after_own, body_sites}
-use Rattle.ada_rules.specs.RefusedFirst.{refused_first}
-use Rattle.ada_rules.proofs.Meeting.{joined}
-use Rattle.ada_check_scopes.proofs.Leaving.{room}
-use Rattle.ada_declaration_places.proofs.Declaring.{within_body, left_body}
+use Rattle.ada_check_rules.specs.rules.RefusedFirst.{refused_first}
+use Rattle.ada_check_rules.proofs.rules.Meeting.{joined}
+use Rattle.ada_check_rules.proofs.scopes.Leaving.{room}
+use Rattle.ada_check.proofs.declaration_places.Declaring.{within_body, left_body}
 use Rattle.ada_check.proofs.declarations.walk_task_body.Goals as goal
 
 pub leave_body-requires : goal.leave_body-requires

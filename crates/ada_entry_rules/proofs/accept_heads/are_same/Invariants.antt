@@ -1,6 +1,6 @@
 use Rattle.std.proofs.Common.{◌≡◌, map, drop}
 use Rattle.ada_tree.specs.PlainStmt.{plain_formal}
-use Rattle.ada_tree.specs.RuleArgCount.{are_same, written_formals}
+use Rattle.ada_static_rules.specs.RuleArgCount.{are_same, written_formals}
 use Rattle.ada_scopes.specs.Entries.{plain_part}
 use Rattle.ada_entry_rules.proofs.accept_heads.are_same.Given as goal
 

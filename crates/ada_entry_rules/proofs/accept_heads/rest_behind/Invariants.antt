@@ -1,6 +1,6 @@
 use Rattle.std.proofs.Common.{◌≡◌, List, map, drop, ◌++◌}
 use Rattle.ada_tree.specs.PlainStmt.{plain_formal}
-use Rattle.ada_tree.specs.RuleArgCount.{Written, are_same}
+use Rattle.ada_static_rules.specs.RuleArgCount.{Written, are_same}
 use Rattle.ada_scopes.specs.Entries.{plain_part}
 use Rattle.ada_entry_rules.specs.inner.Accepts.{written_of}
 use Rattle.ada_entry_rules.proofs.accept_heads.rest_behind.Given as goal

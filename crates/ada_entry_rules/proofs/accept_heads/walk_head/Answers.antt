@@ -1,10 +1,10 @@
 use Rattle.std.proofs.Common.{ap, ◌∙◌, map, option_map}
 use Rattle.ada_tree.specs.PlainExpr.{plain_expr}
 use Rattle.ada_tree.specs.PlainStmt.{plain_formal}
-use Rattle.ada_tree.specs.Scope.{entry_named}
-use Rattle.ada_tree.specs.Sites.{if_there, accept_index_sites}
-use Rattle.ada_refusals.specs.Sooner.{sooner}
-use Rattle.ada_refusals.specs.RefusedFirst.{refused_first}
+use Rattle.ada_static_rules.specs.Scope.{entry_named}
+use Rattle.ada_static_rules.specs.Sites.{if_there, accept_index_sites}
+use Rattle.ada_static_rules.specs.Sooner.{sooner}
+use Rattle.ada_static_rules.specs.RefusedFirst.{refused_first}
 use Rattle.ada_entry_rules.proofs.Accepting.{head_met}
 use Rattle.ada_entry_rules.proofs.accept_heads.walk_head.Goals as goal
 

@@ -1,8 +1,8 @@
 use Rattle.std.proofs.Common.{ap, option_map}
 use Rattle.ada_tree.specs.PlainExpr.{plain_expr}
-use Rattle.ada_tree.specs.Sites.{accept_index_sites}
+use Rattle.ada_static_rules.specs.Sites.{accept_index_sites}
 use Rattle.ada_scopes.specs.Entries.{plain_entry}
-use Rattle.ada_refusals.proofs.Listing.{not_there}
+use Rattle.ada_static_rules.proofs.Listing.{not_there}
 use Rattle.ada_entry_rules.proofs.accept_heads.walk_index_if.Goals as goal
 
 pub returns-in-None : goal.returns-in-None

@@ -1,9 +1,9 @@
 use Rattle.std.proofs.Common.{sym, ◌∙◌}
 use Rattle.ada_tree.specs.PlainStmt.{PFormal, plain_formal}
-use Rattle.ada_tree.specs.Demand.{scalar_only, stands_as_mark}
-use Rattle.ada_tree.specs.Sites.{mark_sites}
-use Rattle.ada_refusals.proofs.Meeting.{met_one}
-use Rattle.ada_refusals.proofs.Listing.{list_more, list_end}
+use Rattle.ada_static_rules.specs.Demand.{scalar_only, stands_as_mark}
+use Rattle.ada_static_rules.specs.Sites.{mark_sites}
+use Rattle.ada_static_rules.proofs.Meeting.{met_one}
+use Rattle.ada_static_rules.proofs.Listing.{list_more, list_end}
 use Rattle.ada_entry_rules.proofs.accept_heads.walk_marks.Goals as goal
 
 pub loop-formal-preserved : goal.loop-formal-preserved

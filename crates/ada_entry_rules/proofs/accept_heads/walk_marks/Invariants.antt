@@ -1,8 +1,8 @@
 use Rattle.std.proofs.Common.{◌≡◌, map, drop}
 use Rattle.ada_tree.specs.PlainStmt.{plain_formal}
-use Rattle.ada_tree.specs.Sites.{formal_mark_sites}
-use Rattle.ada_refusals.specs.Sooner.{sooner}
-use Rattle.ada_refusals.specs.RefusedFirst.{refused_first}
+use Rattle.ada_static_rules.specs.Sites.{formal_mark_sites}
+use Rattle.ada_static_rules.specs.Sooner.{sooner}
+use Rattle.ada_static_rules.specs.RefusedFirst.{refused_first}
 use Rattle.ada_entry_rules.proofs.accept_heads.walk_marks.Given as goal
 
 -- what is refused so far, and of the marks that are left

@@ -1,9 +1,9 @@
 use Rattle.std.proofs.Common.{Some, ◌∙◌}
 use Rattle.ada_tree.specs.PlainExpr.{plain_expr}
-use Rattle.ada_tree.specs.Demand.{must_lie_in}
-use Rattle.ada_tree.specs.Sites.{expr_of}
+use Rattle.ada_static_rules.specs.Demand.{must_lie_in}
+use Rattle.ada_static_rules.specs.Sites.{expr_of}
 use Rattle.ada_scopes.specs.Entries.{plain_range}
-use Rattle.ada_refusals.proofs.Meeting.{behind}
+use Rattle.ada_static_rules.proofs.Meeting.{behind}
 use Rattle.ada_entry_rules.proofs.accept_heads.walk_member.Goals as goal
 
 pub returns : goal.returns

@@ -1,7 +1,7 @@
 use Rattle.std.proofs.Common.{sym, ap, ◌∙◌}
 use Rattle.ada_tree.specs.PlainExpr.{plain_expr, EName}
-use Rattle.ada_tree.specs.Demand.{is_actual}
-use Rattle.ada_refusals.specs.RefusedFirst.{refused_first_at}
+use Rattle.ada_static_rules.specs.Demand.{is_actual}
+use Rattle.ada_static_rules.specs.RefusedFirst.{refused_first_at}
 use Rattle.ada_entry_rules.proofs.Passing.{named_actual, other_actual}
 use Rattle.ada_entry_rules.proofs.actuals.refuse_written.Goals as goal
 

@@ -1,6 +1,6 @@
 use Rattle.std.proofs.Common.{ap, ◌∙◌, option_map}
 use Rattle.ada_tree.specs.PlainExpr.{plain_expr}
-use Rattle.ada_refusals.specs.RefusedFirst.{refused_first}
+use Rattle.ada_static_rules.specs.RefusedFirst.{refused_first}
 use Rattle.ada_scopes.specs.Entries.{plain_part}
 use Rattle.ada_entry_rules.specs.inner.Actuals.{beside}
 use Rattle.ada_entry_rules.proofs.BesideFormals.{actuals_more, actuals_end}

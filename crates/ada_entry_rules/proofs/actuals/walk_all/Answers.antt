@@ -1,6 +1,6 @@
 use Rattle.ada_tree.specs.PlainExpr.{plain_expr}
-use Rattle.ada_tree.specs.Sites.{expr_sites}
-use Rattle.ada_refusals.proofs.Listing.{list_more, list_end}
+use Rattle.ada_static_rules.specs.Sites.{expr_sites}
+use Rattle.ada_static_rules.proofs.Listing.{list_more, list_end}
 use Rattle.ada_entry_rules.proofs.actuals.walk_all.Goals as goal
 
 pub loop-e-preserved : goal.loop-e-preserved

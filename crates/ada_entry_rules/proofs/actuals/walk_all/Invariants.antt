@@ -1,8 +1,8 @@
 use Rattle.std.proofs.Common.{◌≡◌, map, flat_map, drop}
 use Rattle.ada_tree.specs.PlainExpr.{plain_expr}
-use Rattle.ada_tree.specs.Sites.{expr_sites}
-use Rattle.ada_refusals.specs.Sooner.{sooner}
-use Rattle.ada_refusals.specs.RefusedFirst.{refused_first}
+use Rattle.ada_static_rules.specs.Sites.{expr_sites}
+use Rattle.ada_static_rules.specs.Sooner.{sooner}
+use Rattle.ada_static_rules.specs.RefusedFirst.{refused_first}
 use Rattle.ada_entry_rules.proofs.actuals.walk_all.Given as goal
 
 -- what is refused so far, and of the expressions that are left

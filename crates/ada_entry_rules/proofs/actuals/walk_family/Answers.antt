@@ -1,8 +1,8 @@
 use Rattle.std.proofs.Common.{ap, Some, ◌∙◌, map, flat_map}
 use Rattle.ada_tree.specs.PlainExpr.{plain_expr}
-use Rattle.ada_tree.specs.Sites.{expr_of}
-use Rattle.ada_refusals.specs.RefusedFirst.{refused_first}
-use Rattle.ada_refusals.proofs.Meeting.{joined}
+use Rattle.ada_static_rules.specs.Sites.{expr_of}
+use Rattle.ada_static_rules.specs.RefusedFirst.{refused_first}
+use Rattle.ada_static_rules.proofs.Meeting.{joined}
 use Rattle.ada_entry_rules.proofs.actuals.walk_family.Goals as goal
 
 pub returns : goal.returns

@@ -1,8 +1,8 @@
 use Rattle.std.proofs.Common.{ap, map, option_map}
 use Rattle.ada_tree.specs.PlainExpr.{plain_expr}
-use Rattle.ada_tree.specs.Sites.{actuals_sites}
+use Rattle.ada_static_rules.specs.Sites.{actuals_sites}
 use Rattle.ada_scopes.specs.Entries.{plain_part}
-use Rattle.ada_refusals.proofs.Listing.{not_there}
+use Rattle.ada_static_rules.proofs.Listing.{not_there}
 use Rattle.ada_entry_rules.proofs.actuals.walk_second_actuals.Goals as goal
 
 pub returns-in-None : goal.returns-in-None

@@ -1,9 +1,9 @@
 use Rattle.std.proofs.Common.{ap, ◌∙◌, map}
 use Rattle.ada_tree.specs.PlainExpr.{plain_expr}
-use Rattle.ada_tree.specs.Sites.{actuals_sites}
-use Rattle.ada_refusals.specs.RefusedFirst.{refused_first}
+use Rattle.ada_static_rules.specs.Sites.{actuals_sites}
+use Rattle.ada_static_rules.specs.RefusedFirst.{refused_first}
 use Rattle.ada_scopes.specs.Entries.{plain_part}
-use Rattle.ada_refusals.proofs.Meeting.{joined}
+use Rattle.ada_static_rules.proofs.Meeting.{joined}
 use Rattle.ada_entry_rules.proofs.actuals.walk_single.Goals as goal
 
 pub returns : goal.returns

@@ -1,10 +1,10 @@
 use Rattle.std.proofs.Common.{ap, Some, ◌∙◌}
 use Rattle.ada_tree.specs.PlainExpr.{plain_expr}
-use Rattle.ada_tree.specs.RuleMismatch.{no_task, misfit_member}
-use Rattle.ada_tree.specs.RuleRangeBad.{member_range, out_of}
-use Rattle.ada_tree.specs.RuleArgCount.{index_of_callee}
-use Rattle.ada_refusals.specs.Sooner.{sooner, found}
-use Rattle.ada_refusals.proofs.SoonerLaws.{sooner_none}
+use Rattle.ada_static_rules.specs.RuleMismatch.{no_task, misfit_member}
+use Rattle.ada_static_rules.specs.RuleRangeBad.{member_range, out_of}
+use Rattle.ada_static_rules.specs.RuleArgCount.{index_of_callee}
+use Rattle.ada_static_rules.specs.Sooner.{sooner, found}
+use Rattle.ada_static_rules.proofs.SoonerLaws.{sooner_none}
 use Rattle.ada_entry_rules.proofs.Calling.{addressed}
 use Rattle.ada_entry_rules.proofs.callees.refuse_member.Goals as goal
 

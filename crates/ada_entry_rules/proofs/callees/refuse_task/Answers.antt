@@ -1,7 +1,7 @@
 use Rattle.std.proofs.Common.{ap, None, ◌∙◌}
-use Rattle.ada_tree.specs.RuleMismatch.{no_task}
-use Rattle.ada_tree.specs.RuleArgCount.{index_of_callee}
-use Rattle.ada_refusals.specs.Sooner.{sooner, found}
+use Rattle.ada_static_rules.specs.RuleMismatch.{no_task}
+use Rattle.ada_static_rules.specs.RuleArgCount.{index_of_callee}
+use Rattle.ada_static_rules.specs.Sooner.{sooner, found}
 use Rattle.ada_entry_rules.proofs.Calling.{addressed_alone}
 use Rattle.ada_entry_rules.proofs.callees.refuse_task.Goals as goal
 

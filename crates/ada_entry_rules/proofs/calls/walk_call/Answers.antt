@@ -1,11 +1,11 @@
 use Rattle.std.proofs.Common.{◌≡◌, ap, ◌∙◌, option_map}
 use Rattle.ada_tree.specs.PlainStmt.{plain_args, plain_call}
-use Rattle.ada_tree.specs.Scope.{meaning}
-use Rattle.ada_tree.specs.RuleUnknown.{unknown_entry}
-use Rattle.ada_tree.specs.RuleArgCount.{called_entry, wrong_call}
-use Rattle.ada_tree.specs.Sites.{if_there, args_sites}
-use Rattle.ada_refusals.specs.Sooner.{sooner, found}
-use Rattle.ada_refusals.specs.RefusedFirst.{refused_first}
+use Rattle.ada_static_rules.specs.Scope.{meaning}
+use Rattle.ada_static_rules.specs.RuleUnknown.{unknown_entry}
+use Rattle.ada_static_rules.specs.RuleArgCount.{called_entry, wrong_call}
+use Rattle.ada_static_rules.specs.Sites.{if_there, args_sites}
+use Rattle.ada_static_rules.specs.Sooner.{sooner, found}
+use Rattle.ada_static_rules.specs.RefusedFirst.{refused_first}
 use Rattle.ada_scopes.specs.Entries.{plain_entry}
 use Rattle.ada_entry_rules.proofs.Calling.{call_met}
 use Rattle.ada_entry_rules.proofs.calls.walk_call.Goals as goal

@@ -1,7 +1,7 @@
 use Rattle.std.proofs.Common.{ap, map, ◌∙◌}
 use Rattle.std.proofs.lemmas.List.{take_all}
 use Rattle.ada_tree.specs.PlainStmt.{plain_formal}
-use Rattle.ada_tree.specs.Declaring.{formal_parts}
+use Rattle.ada_static_rules.specs.Declaring.{formal_parts}
 use Rattle.ada_entry_rules.proofs.EntryDecls.{formals_grown}
 use Rattle.ada_entry_rules.proofs.entries.formal_parts.Goals as goal
 

@@ -1,6 +1,6 @@
 use Rattle.std.proofs.Common.{◌≡◌, map, take}
 use Rattle.ada_tree.specs.PlainStmt.{plain_formal}
-use Rattle.ada_tree.specs.Declaring.{formal_parts}
+use Rattle.ada_static_rules.specs.Declaring.{formal_parts}
 use Rattle.ada_scopes.specs.Entries.{plain_part}
 use Rattle.ada_entry_rules.proofs.entries.formal_parts.Given as goal
 

@@ -1,7 +1,7 @@
 use Rattle.std.proofs.Common.{◌∙◌, sym, [], map}
 use Rattle.ada_tree.specs.PlainDecl as decl
 use Rattle.ada_entry_rules.specs.EntryDecls.{each_entry}
-use Rattle.ada_refusals.proofs.Listing.{list_more, list_end}
+use Rattle.ada_static_rules.proofs.Listing.{list_more, list_end}
 use Rattle.ada_entry_rules.proofs.EntryDecls.{entry_added, entries_all, entries_flat}
 use Rattle.ada_entry_rules.proofs.entries.walk_entries.Goals as goal
 

@@ -1,9 +1,9 @@
 use Rattle.std.proofs.Common.{◌≡◌, map, drop, take}
 use Rattle.std.specs.Prelude.{flat_map}
 use Rattle.ada_tree.specs.PlainDecl as decl
-use Rattle.ada_tree.specs.Declaring.{entry_part}
-use Rattle.ada_refusals.specs.Sooner.{sooner}
-use Rattle.ada_refusals.specs.RefusedFirst.{refused_first}
+use Rattle.ada_static_rules.specs.Declaring.{entry_part}
+use Rattle.ada_static_rules.specs.Sooner.{sooner}
+use Rattle.ada_static_rules.specs.RefusedFirst.{refused_first}
 use Rattle.ada_scopes.specs.Entries.{plain_entry}
 use Rattle.ada_entry_rules.specs.EntryDecls.{each_entry}
 use Rattle.ada_entry_rules.proofs.entries.walk_entries.Given as goal

@@ -1,9 +1,9 @@
 use Rattle.std.proofs.Common.{◌∙◌, ap, [], map}
 use Rattle.ada_tree.specs.PlainStmt.{plain_formal}
 use Rattle.ada_tree.specs.PlainDecl as decl
-use Rattle.ada_tree.specs.Declaring.{formal_parts}
-use Rattle.ada_tree.specs.Sites.{formals_sites}
-use Rattle.ada_refusals.specs.RefusedFirst.{refused_first}
+use Rattle.ada_static_rules.specs.Declaring.{formal_parts}
+use Rattle.ada_static_rules.specs.Sites.{formals_sites}
+use Rattle.ada_static_rules.specs.RefusedFirst.{refused_first}
 use Rattle.ada_entry_rules.proofs.EntryDecls.{entry_met, entry_is}
 use Rattle.ada_entry_rules.proofs.entries.walk_entry.Goals as goal
 

@@ -1,8 +1,8 @@
 use Rattle.std.proofs.Common.{ap, sym, true, option_map}
 use Rattle.ada_tree.specs.PlainExpr.{plain_drange}
-use Rattle.ada_tree.specs.Declaring.{entry_family}
-use Rattle.ada_tree.specs.Sites.{drange_sites}
-use Rattle.ada_refusals.proofs.Listing.{not_there}
+use Rattle.ada_static_rules.specs.Declaring.{entry_family}
+use Rattle.ada_static_rules.specs.Sites.{drange_sites}
+use Rattle.ada_static_rules.proofs.Listing.{not_there}
 use Rattle.ada_entry_rules.proofs.entries.walk_family.Goals as goal
 
 pub returns-in-None : goal.returns-in-None

@@ -1,7 +1,7 @@
 use Rattle.std.proofs.Common.{ap, ◌∙◌}
 use Rattle.std.specs.Prelude.{[], ◌∷◌, if◌then◌else◌}
 use Rattle.ada_tree.specs.PlainStmt.{plain_target}
-use Rattle.ada_refusals.specs.Sooner.{found}
+use Rattle.ada_static_rules.specs.Sooner.{found}
 use Rattle.ada_entry_rules.proofs.WrittenTargets.{get_met}
 use Rattle.ada_entry_rules.proofs.targets.refuse_get.Goals as goal
 

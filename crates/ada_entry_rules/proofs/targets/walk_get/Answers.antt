@@ -1,8 +1,8 @@
 use Rattle.std.proofs.Common.{◌∙◌}
 use Rattle.ada_tree.specs.PlainStmt.{plain_target}
-use Rattle.ada_tree.specs.Demand.{gets}
-use Rattle.ada_tree.specs.Sites.{target_sites}
-use Rattle.ada_refusals.proofs.Meeting.{behind}
+use Rattle.ada_static_rules.specs.Demand.{gets}
+use Rattle.ada_static_rules.specs.Sites.{target_sites}
+use Rattle.ada_static_rules.proofs.Meeting.{behind}
 use Rattle.ada_entry_rules.proofs.targets.walk_get.Goals as goal
 
 pub returns : goal.returns

@@ -2,7 +2,7 @@ use Rattle.std.proofs.Common.{arith}
 use Rattle.ada_expr_parser.specs.declared.levels.Level.TheVariants.{Logical, Relation, Simple, Term, Factor}
 use Rattle.ada_expr_parser.specs.Reading.{inner, relation_at, simple_at, signed_at, factor_at}
 use Rattle.ada_expr_parser.proofs.Steps.{chained}
-use Rattle.ada_expr_parser.proofs.Chains.{chain_further, chain_to}
+use Rattle.ada_expr_parser.proofs.Chains.{chain_further, chain_to, chain_too_deep}
 use Rattle.ada_expr_parser.proofs.reading.+expr.Goals as goal
 
 pub logical-returns-clause-tree : goal.logical-returns-clause-tree
@@ -25,6 +25,11 @@ pub more-returns-clause-tree : goal.more-returns-clause-tree
 more-returns-clause-tree m c = λ turns enough.
     chain_to _ _ c.further.result c.args.level c.args.depth turns _ c.args.items.now _ c.last_operator-last.result c.in-Some.op c.args.height
     c.in-len1-up.len_at_least c.last_operator-last.ensures c.in-Some.ensures c.requires.height c.if-depth-height.false enough c.further.ensures.tree
+
+pub more-returns-then-depth-height-clause-tree : goal.more-returns-then-depth-height-clause-tree
+more-returns-then-depth-height-clause-tree m c = λ turns enough.
+    chain_too_deep c.args.level c.args.depth turns _ c.args.items.now _ c.last_operator-last.result c.in-Some.op c.args.height
+    c.in-len1-up.len_at_least c.last_operator-last.ensures c.in-Some.ensures c.requires.height c.if-depth-height.true
 
 pub further-returns-clause-tree : goal.further-returns-clause-tree
 further-returns-clause-tree m c = λ turns enough.

@@ -1,8 +1,8 @@
 use Rattle.std.proofs.Common.{ap, ◌∙◌}
 use Rattle.ada_tree.specs.Attributes.{attribute_of}
-use Rattle.ada_tree.specs.Scope.{scalar_kind}
-use Rattle.ada_tree.specs.ExprTypes.{attribute_kind}
-use Rattle.ada_refusals.specs.Sooner.{sooner}
+use Rattle.ada_static_rules.specs.Scope.{scalar_kind}
+use Rattle.ada_static_rules.specs.ExprTypes.{attribute_kind}
+use Rattle.ada_static_rules.specs.Sooner.{sooner}
 use Rattle.ada_expr_rules.proofs.Operands.{judged_attribute}
 use Rattle.ada_expr_rules.proofs.judging.judge_attribute.Goals as goal
 

@@ -1,6 +1,6 @@
 use Rattle.std.proofs.Common.{ap, ◌∙◌}
-use Rattle.ada_tree.specs.ExprTypes.{unary_kind}
-use Rattle.ada_refusals.specs.Sooner.{sooner}
+use Rattle.ada_static_rules.specs.ExprTypes.{unary_kind}
+use Rattle.ada_static_rules.specs.Sooner.{sooner}
 use Rattle.ada_expr_rules.proofs.Operands.{judged_operand}
 use Rattle.ada_expr_rules.proofs.judging.judge_operand.Goals as goal
 

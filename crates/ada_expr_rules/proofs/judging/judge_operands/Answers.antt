@@ -1,6 +1,6 @@
 use Rattle.std.proofs.Common.{ap, ◌∙◌}
-use Rattle.ada_tree.specs.ExprTypes.{binary_kind}
-use Rattle.ada_refusals.specs.Sooner.{sooner}
+use Rattle.ada_static_rules.specs.ExprTypes.{binary_kind}
+use Rattle.ada_static_rules.specs.Sooner.{sooner}
 use Rattle.ada_expr_rules.specs.Judged.{raised_where}
 use Rattle.ada_expr_rules.proofs.Operands.{judged_operands}
 use Rattle.ada_expr_rules.proofs.judging.judge_operands.Goals as goal

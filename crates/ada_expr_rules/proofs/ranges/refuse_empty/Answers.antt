@@ -1,6 +1,6 @@
 use Rattle.std.proofs.Common.{ap, ◌∙◌}
 use Rattle.ada_tree.specs.PlainExpr.{plain_expr}
-use Rattle.ada_refusals.specs.Sooner.{found}
+use Rattle.ada_static_rules.specs.Sooner.{found}
 use Rattle.ada_expr_rules.specs.Known.{emptied}
 use Rattle.ada_expr_rules.proofs.Knowing.{empty_met}
 use Rattle.ada_expr_rules.proofs.ranges.refuse_empty.Goals as goal

@@ -1,6 +1,6 @@
 use Rattle.std.proofs.Common.{ap, ◌∙◌, option_map}
 use Rattle.ada_tree.specs.PlainExpr.{plain_expr}
-use Rattle.ada_refusals.specs.Sooner.{found}
+use Rattle.ada_static_rules.specs.Sooner.{found}
 use Rattle.ada_scopes.specs.Entries.{plain_range}
 use Rattle.ada_expr_rules.specs.Known.{outlying}
 use Rattle.ada_expr_rules.proofs.Knowing.{outside_met}

@@ -1,7 +1,7 @@
 use Rattle.std.proofs.Common.{◌∙◌}
 use Rattle.ada_tree.specs.PlainExpr.{plain_expr}
-use Rattle.ada_tree.specs.Sites.{expr_sites, static_if}
-use Rattle.ada_refusals.proofs.Meeting.{joined}
+use Rattle.ada_static_rules.specs.Sites.{expr_sites, static_if}
+use Rattle.ada_static_rules.proofs.Meeting.{joined}
 use Rattle.ada_expr_rules.proofs.Knowing.{known_walked}
 use Rattle.ada_expr_rules.proofs.ranges.walk_bound.Goals as goal
 

@@ -1,6 +1,6 @@
 use Rattle.std.proofs.Common.{ap, ◌∙◌}
 use Rattle.ada_tree.specs.PlainExpr.{plain_bounds}
-use Rattle.ada_refusals.specs.Sooner.{sooner}
+use Rattle.ada_static_rules.specs.Sooner.{sooner}
 use Rattle.ada_expr_rules.proofs.Bounding.{constraint_met}
 use Rattle.ada_expr_rules.proofs.ranges.walk_constraint.Goals as goal
 

@@ -1,7 +1,7 @@
 use Rattle.std.proofs.Common.{ap, ◌∙◌, None, option_map}
 use Rattle.ada_tree.specs.PlainExpr.{plain_bounds}
-use Rattle.ada_tree.specs.Scope.{scalar_kind}
-use Rattle.ada_tree.specs.Declaring.{subind_made, marked_range}
+use Rattle.ada_static_rules.specs.Scope.{scalar_kind}
+use Rattle.ada_static_rules.specs.Declaring.{subind_made, marked_range}
 use Rattle.ada_expr_rules.specs.Plain.{plain_use}
 use Rattle.ada_expr_rules.proofs.Bounding.{bounded_subind, marked_subind}
 use Rattle.ada_expr_rules.proofs.ranges.walk_subind.Goals as goal

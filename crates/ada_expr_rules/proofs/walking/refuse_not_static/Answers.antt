@@ -1,7 +1,7 @@
 use Rattle.std.proofs.Common.{ap, ◌∙◌}
 use Rattle.std.specs.Prelude.{[], ◌∷◌, ◌&&◌, not, is_some, if◌then◌else◌}
 use Rattle.ada_tree.specs.PlainExpr.{plain_expr}
-use Rattle.ada_refusals.specs.Sooner.{found}
+use Rattle.ada_static_rules.specs.Sooner.{found}
 use Rattle.ada_expr_rules.proofs.Expressions.{static_met}
 use Rattle.ada_expr_rules.proofs.walking.refuse_not_static.Goals as goal
 

@@ -1,8 +1,8 @@
 use Rattle.std.proofs.Common.{◌∙◌}
 use Rattle.ada_tree.specs.PlainExpr.{plain_expr}
-use Rattle.ada_tree.specs.Demand.{must_be_of}
-use Rattle.ada_tree.specs.Sites.{expr_sites}
-use Rattle.ada_refusals.proofs.Meeting.{behind}
+use Rattle.ada_static_rules.specs.Demand.{must_be_of}
+use Rattle.ada_static_rules.specs.Sites.{expr_sites}
+use Rattle.ada_static_rules.proofs.Meeting.{behind}
 use Rattle.ada_expr_rules.proofs.walking.walk_of.Goals as goal
 
 pub returns : goal.returns

@@ -2,7 +2,7 @@ use Rattle.std.proofs.Common.{refl, codes}
 use Rattle.ded_io.specs.Written.{◌⧺◌}
 use Rattle.ada_tree.specs.PlainStmt.{plain_callee}
 use Rattle.ada_printer.specs.StmtText.{callee_text}
-use Rattle.paged_output.proofs.Drawn.{drew_then}
+use Rattle.ded_io.proofs.pages.Drawn.{drew_then}
 use Rattle.ada_printer.proofs.Listed.{drew_seen_member, drew_seen_all, drew_seen_list}
 use Rattle.ada_printer.proofs.calls.put_callees.Goals as goal
 

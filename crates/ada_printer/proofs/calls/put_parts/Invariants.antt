@@ -2,7 +2,7 @@ use Rattle.std.proofs.Common.{take, map, codes}
 use Rattle.ded_io.specs.Written.{◌⧺◌, each_text}
 use Rattle.ada_tree.specs.PlainStmt.{plain_part}
 use Rattle.ada_printer.specs.StmtText.{part_text}
-use Rattle.paged_output.specs.Pages.{Drew, over}
+use Rattle.ded_io.specs.pages.Pages.{Drew, over}
 use Rattle.ada_printer.proofs.calls.put_parts.Given as goal
 
 abbrev pub invariant-loop-part : goal.invariant-loop-part

@@ -4,7 +4,7 @@ use Rattle.ada_tree.specs.PlainExpr.{plain_expr, plain_subind, plain_drange}
 use Rattle.ada_tree.specs.PlainStmt.{plain_body}
 use Rattle.ada_tree.specs.PlainDecl.{DNumber, DObject, DEnumeration, DArray, DSubtype, DException, DIntIo, DPragma, DTask, DTaskBody, decls_of, plain_shape, plain_init, plain_task, plain_decl}
 use Rattle.ada_printer.specs.DeclText.{decl_text}
-use Rattle.paged_output.proofs.Drawn.{drew_none}
+use Rattle.ded_io.proofs.pages.Drawn.{drew_none}
 use Rattle.ada_printer.proofs.Listed.{drew_seen_member, drew_seen_all}
 use Rattle.ada_printer.proofs.Declared.{decl_there, task_body_there}
 use Rattle.ada_printer.proofs.Rowed.{drew_as, decls_row}

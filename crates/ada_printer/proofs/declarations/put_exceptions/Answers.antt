@@ -1,4 +1,4 @@
-use Rattle.paged_output.proofs.Drawn.{drew_then}
+use Rattle.ded_io.proofs.pages.Drawn.{drew_then}
 use Rattle.ada_printer.proofs.declarations.put_exceptions.Goals as goal
 
 pub returns : goal.returns

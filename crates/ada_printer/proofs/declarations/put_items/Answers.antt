@@ -1,5 +1,5 @@
 use Rattle.ada_tree.specs.PlainDecl.{plain_entry, plain_priority}
-use Rattle.paged_output.proofs.Drawn.{drew_then}
+use Rattle.ded_io.proofs.pages.Drawn.{drew_then}
 use Rattle.ada_printer.proofs.Declared.{front_none, front_more, front_all, items_parted, items_end}
 use Rattle.ada_printer.proofs.declarations.put_items.Goals as goal
 

@@ -1,7 +1,7 @@
 use Rattle.std.proofs.Common.{map, drop}
 use Rattle.ada_tree.specs.PlainDecl.{plain_entry, plain_priority}
 use Rattle.ada_printer.specs.DeclText.{items_text}
-use Rattle.paged_output.specs.Pages.{over}
+use Rattle.ded_io.specs.pages.Pages.{over}
 use Rattle.ada_printer.proofs.Declared.{Front}
 use Rattle.ada_printer.proofs.declarations.put_items.Given as goal
 

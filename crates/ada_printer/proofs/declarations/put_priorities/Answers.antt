@@ -1,6 +1,6 @@
 use Rattle.ada_tree.specs.PlainDecl.{plain_priority}
 use Rattle.ada_printer.specs.DeclText.{priority_text}
-use Rattle.paged_output.proofs.Drawn.{drew_then}
+use Rattle.ded_io.proofs.pages.Drawn.{drew_then}
 use Rattle.ada_printer.proofs.Listed.{drew_seen_member}
 use Rattle.ada_printer.proofs.declarations.put_priorities.Goals as goal
 

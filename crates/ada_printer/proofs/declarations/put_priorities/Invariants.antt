@@ -2,7 +2,7 @@ use Rattle.std.proofs.Common.{take, map}
 use Rattle.ded_io.specs.Written.{each_text}
 use Rattle.ada_tree.specs.PlainDecl.{plain_priority}
 use Rattle.ada_printer.specs.DeclText.{priority_text}
-use Rattle.paged_output.specs.Pages.{Drew, over}
+use Rattle.ded_io.specs.pages.Pages.{Drew, over}
 use Rattle.ada_printer.proofs.declarations.put_priorities.Given as goal
 
 abbrev pub invariant-loop-priority : goal.invariant-loop-priority

@@ -2,7 +2,7 @@ use Rattle.std.proofs.Common.{codes}
 use Rattle.ded_io.specs.Written.{◌⧺◌}
 use Rattle.ada_tree.specs.PlainExpr.{plain_expr}
 use Rattle.ada_printer.specs.ExprText.{expr_text}
-use Rattle.paged_output.proofs.Drawn.{drew_then}
+use Rattle.ded_io.proofs.pages.Drawn.{drew_then}
 use Rattle.ada_printer.proofs.Listed.{drew_seen_member}
 use Rattle.ada_printer.proofs.expressions.put_more_exprs.Goals as goal
 

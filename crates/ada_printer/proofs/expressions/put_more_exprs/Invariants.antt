@@ -2,7 +2,7 @@ use Rattle.std.proofs.Common.{take, map, codes}
 use Rattle.ded_io.specs.Written.{◌⧺◌, each_text}
 use Rattle.ada_tree.specs.PlainExpr.{plain_expr}
 use Rattle.ada_printer.specs.ExprText.{expr_text}
-use Rattle.paged_output.specs.Pages.{Drew, over}
+use Rattle.ded_io.specs.pages.Pages.{Drew, over}
 use Rattle.ada_printer.proofs.expressions.put_more_exprs.Given as goal
 
 abbrev pub invariant-loop-expr : goal.invariant-loop-expr

@@ -1,7 +1,7 @@
 use Rattle.std.proofs.Common.{take}
 use Rattle.ded_io.specs.Written.{each_text}
 use Rattle.ada_printer.specs.Layout.{character_text}
-use Rattle.paged_output.specs.Pages.{Drew, over}
+use Rattle.ded_io.specs.pages.Pages.{Drew, over}
 use Rattle.ada_printer.proofs.names_and_literals.put_content.Given as goal
 
 abbrev pub invariant-loop-byte : goal.invariant-loop-byte

@@ -1,5 +1,5 @@
 use Rattle.ada_printer.specs.Layout.{indent}
-use Rattle.paged_output.specs.Pages.{Drew, over}
+use Rattle.ded_io.specs.pages.Pages.{Drew, over}
 use Rattle.ada_printer.proofs.names_and_literals.put_indent.Given as goal
 
 abbrev pub invariant-loop-done : goal.invariant-loop-done

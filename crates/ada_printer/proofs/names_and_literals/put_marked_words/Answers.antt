@@ -1,6 +1,6 @@
 use Rattle.ded_io.specs.Written.{◌⧺◌}
 use Rattle.ada_printer.specs.Layout.{word_text}
-use Rattle.paged_output.proofs.Drawn.{drew_then}
+use Rattle.ded_io.proofs.pages.Drawn.{drew_then}
 use Rattle.ada_printer.proofs.Listed.{drew_member}
 use Rattle.ada_printer.proofs.names_and_literals.put_marked_words.Goals as goal
 

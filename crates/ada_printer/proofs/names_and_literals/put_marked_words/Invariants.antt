@@ -1,7 +1,7 @@
 use Rattle.std.proofs.Common.{take}
 use Rattle.ded_io.specs.Written.{◌⧺◌, each_text}
 use Rattle.ada_printer.specs.Layout.{word_text}
-use Rattle.paged_output.specs.Pages.{Drew, over}
+use Rattle.ded_io.specs.pages.Pages.{Drew, over}
 use Rattle.ada_printer.proofs.names_and_literals.put_marked_words.Given as goal
 
 abbrev pub invariant-loop-word : goal.invariant-loop-word

@@ -10,7 +10,7 @@ use Rattle.ada_tree.specs.declared.statements.Handler.{out-Handler}
 use Rattle.ada_tree.specs.PlainExpr.{plain_expr}
 use Rattle.ada_tree.specs.PlainStmt.{SNull, SAssign, SDelay, SExit, SRaise, SAbort, SCall, SAccept, SWait, SConditional, STimed, SPut, SPutLine, SNewLine, SGet, SIf, SCase, SBlock, SLoop, present, absent, accepting, alternative, AAccept, ADelay, ATerminate, arm, case_arm, body, handler, alts_of, arms_of, case_arms_of, handlers_of, seen, plain_target, plain_callee, plain_call, plain_formal, plain_part, plain_choice, plain_scheme, plain_stmt, plain_accept, plain_alt, plain_alt_kind, plain_arm, plain_case_arm, plain_body, plain_handler}
 use Rattle.ada_printer.specs.StmtText.{stmt_text, later_alt_text, later_arm_text, case_arm_text, handler_text}
-use Rattle.paged_output.proofs.Drawn.{drew_none}
+use Rattle.ded_io.proofs.pages.Drawn.{drew_none}
 use Rattle.ada_printer.proofs.Listed.{drew_seen_member, drew_seen_all}
 use Rattle.ada_printer.proofs.Rowed.{drew_as, stmts_row, case_arms_row, handlers_row, alts_there, alts_none, arms_there, arms_none}
 use Rattle.ada_printer.proofs.Formed as formed

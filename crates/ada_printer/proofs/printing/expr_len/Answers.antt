@@ -1,5 +1,5 @@
 use Rattle.std.proofs.Common.{ap, ◌∙◌}
-use Rattle.paged_output.proofs.Drawn.{counted_all}
+use Rattle.ded_io.proofs.pages.Drawn.{counted_all}
 use Rattle.ada_printer.proofs.printing.expr_len.Goals as goal
 
 pub returns : goal.returns

@@ -1,5 +1,5 @@
 use Rattle.std.proofs.Common.{ap}
-use Rattle.paged_output.proofs.Drawn.{closed, drew_both}
+use Rattle.ded_io.proofs.pages.Drawn.{closed, drew_both}
 use Rattle.ada_printer.proofs.printing.print.Goals as goal
 
 pub returns-clause-bytes : goal.returns-clause-bytes

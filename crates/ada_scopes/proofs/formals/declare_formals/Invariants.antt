@@ -1,6 +1,6 @@
 use Rattle.std.proofs.Common.{◌≡◌, take, map}
 use Rattle.ada_tree.specs.PlainStmt.{plain_formal}
-use Rattle.ada_tree.specs.Declaring.{with_formals}
+use Rattle.ada_static_rules.specs.Declaring.{with_formals}
 use Rattle.ada_scopes.proofs.formals.declare_formals.Given as goal
 
 -- so many formals are declared

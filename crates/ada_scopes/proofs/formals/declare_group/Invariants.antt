@@ -1,5 +1,5 @@
 use Rattle.std.proofs.Common.{◌≡◌, take}
-use Rattle.ada_tree.specs.Declaring.{with_names}
+use Rattle.ada_static_rules.specs.Declaring.{with_names}
 use Rattle.ada_scopes.specs.inner.Inner.{formal_at}
 use Rattle.ada_scopes.proofs.formals.declare_group.Given as goal
 

@@ -2,7 +2,7 @@ use Rattle.std.proofs.Common.{◌≡◌, ap, ◌∙◌}
 use Rattle.ada_tree.specs.declared.static_types.Mark.{Mark}
 use Rattle.ada_tree.specs.declared.static_types.Kind.TheVariants.{Integer, Truth}
 use Rattle.ada_tree.specs.TypeTable.{TypeTable}
-use Rattle.ada_tree.specs.Declaring.{add_kind, add_mark}
+use Rattle.ada_static_rules.specs.Declaring.{add_kind, add_mark}
 use Rattle.common_lemmas.proofs.Results.{if_ok}
 use Rattle.ada_scopes.proofs.predefined.first_table.Goals as goal
 

@@ -1,7 +1,7 @@
 use Rattle.std.proofs.Common.{◌≡◌, ◌==◌, ℕ, nat_eq, take}
 use Rattle.std.specs.HashMap.{get}
 use Rattle.std.specs.List.{position}
-use Rattle.ada_tree.specs.StaticValue.{first_of_two}
+use Rattle.ada_static_rules.specs.StaticValue.{first_of_two}
 use Rattle.ada_scopes.proofs.table.keep_literals.Given as goal
 
 -- the positions of the literals so far are kept

@@ -1,6 +1,6 @@
 use Rattle.std.proofs.Common.{ap, sym, ◌∙◌, ◌==◌, nat_eq, position}
 use Rattle.std.specs.HashMap.{get}
-use Rattle.ada_tree.specs.StaticValue.{first_of_two, position_in}
+use Rattle.ada_static_rules.specs.StaticValue.{first_of_two, position_in}
 use Rattle.common_lemmas.proofs.Results.{on_ok}
 use Rattle.ada_scopes.proofs.table.keep_positions.Goals as goal
 

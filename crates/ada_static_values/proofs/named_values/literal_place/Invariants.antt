@@ -1,5 +1,5 @@
 use Rattle.std.proofs.Common.{◌≡◌, drop}
-use Rattle.ada_tree.specs.StaticValue.{literal_position}
+use Rattle.ada_static_rules.specs.StaticValue.{literal_position}
 use Rattle.ada_static_values.proofs.named_values.literal_place.Given as goal
 
 -- the literal that is looked for is in no kind before

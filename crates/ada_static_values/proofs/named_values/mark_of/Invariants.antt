@@ -1,6 +1,6 @@
 use Rattle.std.proofs.Common.{◌≡◌, drop}
 use Rattle.std.specs.List.{find}
-use Rattle.ada_tree.specs.StaticValue.{is_named}
+use Rattle.ada_static_rules.specs.StaticValue.{is_named}
 use Rattle.ada_static_values.proofs.named_values.mark_of.Given as goal
 
 -- the mark that is looked for is not among those before

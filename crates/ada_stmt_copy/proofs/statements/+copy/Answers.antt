@@ -4,7 +4,7 @@ use Rattle.ada_tree.specs.PlainStmt.{plain_call, plain_scheme, plain_case_arm, p
 use Rattle.ada_tree.specs.PlainExpr.{plain_expr}
 use Rattle.ada_tree.specs.declared.statements.Stmt.{Stmt}
 use Rattle.ada_tree.specs.declared.statements.CaseArm.{CaseArm}
-use Rattle.ada_expr_copy.proofs.Carried.{two, three}
+use Rattle.ada_stmt_copy.proofs.expressions.Carried.{two, three}
 use Rattle.ada_stmt_copy.proofs.statements.+copy.Goals as goal
 
 pub StmtStmtCopy::copy-returns-in-Conditional : goal.StmtStmtCopy::copy-returns-in-Conditional

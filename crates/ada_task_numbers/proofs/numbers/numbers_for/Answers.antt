@@ -1,6 +1,6 @@
 use Rattle.std.proofs.Common.{[], ◌∷◌}
 use Rattle.syn_event.specs.AddedNames.{task_info}
-use Rattle.ada_task_objects.specs.PlainNames.{plain_named_tasks}
+use Rattle.ada_task_numbers.specs.task_objects.PlainNames.{plain_named_tasks}
 use Rattle.ada_task_numbers.proofs.TasksNumbered.{part_tasks, part_entries}
 use Rattle.ada_task_numbers.proofs.numbers.numbers_for.Goals as goal
 

@@ -3,7 +3,7 @@ use Rattle.std.specs.Prelude.{flat_map}
 use Rattle.syn_event.specs.AddedNames.{task_info}
 use Rattle.syn_event.specs.NamedTasks.{tasks_of_name}
 use Rattle.syn_event.specs.AllNumbers.{info_of_task, entries_of_tasks}
-use Rattle.ada_task_objects.specs.PlainNames.{plain_named_tasks}
+use Rattle.ada_task_numbers.specs.task_objects.PlainNames.{plain_named_tasks}
 use Rattle.ada_task_numbers.proofs.numbers.numbers_for.Given as goal
 
 -- main and the tasks of so many names are numbered, with their entries

@@ -1,4 +1,4 @@
-use Rattle.ada_task_objects.specs.PlainNames.{plain_named_tasks}
+use Rattle.ada_task_numbers.specs.task_objects.PlainNames.{plain_named_tasks}
 use Rattle.ada_task_numbers.proofs.TasksNumbered.{member_tasks, member_entries}
 use Rattle.ada_task_numbers.proofs.numbers.push_members.Goals as goal
 

@@ -1,6 +1,6 @@
 use Rattle.std.proofs.Common.{◌≡◌, ◌++◌, map, length}
 use Rattle.syn_event.specs.AllNumbers.{info_of_task, entries_of_tasks}
-use Rattle.ada_task_objects.specs.PlainNames.{plain_named_tasks}
+use Rattle.ada_task_numbers.specs.task_objects.PlainNames.{plain_named_tasks}
 use Rattle.ada_task_numbers.specs.inner.TasksWithin.{tasks_within}
 use Rattle.ada_task_numbers.proofs.numbers.push_members.Given as goal
 

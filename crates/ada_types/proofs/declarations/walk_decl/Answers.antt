@@ -1,13 +1,13 @@
 use Rattle.std.proofs.Common.{◌≡◌, ◌∷◌, ◌∙◌, [], sym, ap, arith, true, map, option_map}
 use Rattle.ada_tree.specs.PlainStmt.{plain_body}
 use Rattle.ada_tree.specs.PlainDecl.{DTaskBody, decls_of, plain_decl, plain_shape, plain_init}
-use Rattle.ada_tree.specs.Scope.{AnException}
-use Rattle.ada_tree.specs.Declaring.{with_names, after_object, after_enumeration, declared_object}
-use Rattle.ada_tree.specs.Sites.{names_sites, object_sites}
+use Rattle.ada_static_rules.specs.Scope.{AnException}
+use Rattle.ada_static_rules.specs.Declaring.{with_names, after_object, after_enumeration, declared_object}
+use Rattle.ada_static_rules.specs.Sites.{names_sites, object_sites}
 use Rattle.ada_tree.proofs.Rows.{rows}
-use Rattle.ada_refusals.specs.RefusedFirst.{refused_first}
+use Rattle.ada_static_rules.specs.RefusedFirst.{refused_first}
 use Rattle.ada_types.specs.declared.walked_decls.WalkedDecl.{WalkedDecl}
-use Rattle.ada_refusals.proofs.Meeting.{names_met}
+use Rattle.ada_static_rules.proofs.Meeting.{names_met}
 use Rattle.ada_types.proofs.TaskDecls.{instance_met}
 use Rattle.ada_types.proofs.Following.{of_kind, of_plain}
 use Rattle.common_lemmas.proofs.Results.{if_ok}

@@ -1,8 +1,8 @@
 use Rattle.std.proofs.Common.{◌++◌, sym, map, refl}
 use Rattle.ada_tree.specs.PlainDecl.{decls_of, plain_decl}
-use Rattle.ada_tree.specs.Sites.{decls_sites}
-use Rattle.ada_duplicates.specs.NamingsInOrder.{namings_of}
-use Rattle.ada_duplicates.proofs.Behind.{at_next, noted_next, noted_all}
+use Rattle.ada_static_rules.specs.Sites.{decls_sites}
+use Rattle.ada_decl_rules.specs.duplicates.NamingsInOrder.{namings_of}
+use Rattle.ada_decl_rules.proofs.duplicates.Behind.{at_next, noted_next, noted_all}
 use Rattle.ada_types.proofs.Following.{decls_scope, decls_told, decls_done}
 use Rattle.ada_types.proofs.declarations.walk_decls.Goals as goal
 

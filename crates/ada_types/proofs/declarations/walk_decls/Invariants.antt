@@ -1,11 +1,11 @@
 use Rattle.std.proofs.Common.{◌≡◌, ◌++◌, map}
 use Rattle.ada_tree.specs.PlainDecl.{decls_of, plain_decl}
-use Rattle.ada_tree.specs.Declaring.{after_decls}
-use Rattle.ada_tree.specs.Sites.{decls_sites}
-use Rattle.ada_refusals.specs.Sooner.{sooner}
-use Rattle.ada_refusals.specs.RefusedFirst.{refused_first}
-use Rattle.ada_duplicates.specs.NamingsInOrder.{namings_of}
-use Rattle.ada_duplicates.specs.NamedSoFar.{AreAt}
+use Rattle.ada_static_rules.specs.Declaring.{after_decls}
+use Rattle.ada_static_rules.specs.Sites.{decls_sites}
+use Rattle.ada_static_rules.specs.Sooner.{sooner}
+use Rattle.ada_static_rules.specs.RefusedFirst.{refused_first}
+use Rattle.ada_decl_rules.specs.duplicates.NamingsInOrder.{namings_of}
+use Rattle.ada_decl_rules.specs.duplicates.NamedSoFar.{AreAt}
 use Rattle.ada_types.proofs.Following.{from}
 use Rattle.ada_types.proofs.declarations.walk_decls.Given as goal
 

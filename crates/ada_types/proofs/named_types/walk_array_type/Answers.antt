@@ -1,8 +1,8 @@
 use Rattle.std.proofs.Common.{refl, ◌++◌, ◌∷◌, ◌∙◌, [], true}
 use Rattle.ada_tree.specs.PlainExpr.{plain_drange, plain_subind}
-use Rattle.ada_tree.specs.Demand.{scalar_only}
-use Rattle.ada_tree.specs.Sites.{names_sites, drange_sites, subind_sites}
-use Rattle.ada_refusals.proofs.Meeting.{joined}
+use Rattle.ada_static_rules.specs.Demand.{scalar_only}
+use Rattle.ada_static_rules.specs.Sites.{names_sites, drange_sites, subind_sites}
+use Rattle.ada_static_rules.proofs.Meeting.{joined}
 use Rattle.ada_types.proofs.TypeDecls.{array_left, behind_names}
 use Rattle.ada_types.proofs.named_types.walk_array_type.Goals as goal
 

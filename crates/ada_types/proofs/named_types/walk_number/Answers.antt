@@ -1,7 +1,7 @@
 use Rattle.std.proofs.Common.{refl, ◌∷◌, [], Some}
 use Rattle.ada_tree.specs.PlainExpr.{plain_expr}
-use Rattle.ada_tree.specs.Scope.{integer_kind}
-use Rattle.ada_tree.specs.Sites.{static_of}
+use Rattle.ada_static_rules.specs.Scope.{integer_kind}
+use Rattle.ada_static_rules.specs.Sites.{static_of}
 use Rattle.ada_types.proofs.TypeDecls.{number_left, behind_names}
 use Rattle.ada_types.proofs.named_types.walk_number.Goals as goal
 

@@ -1,7 +1,7 @@
 use Rattle.std.proofs.Common.{refl, ◌∷◌, [], true}
 use Rattle.ada_tree.specs.PlainExpr.{plain_subind}
-use Rattle.ada_tree.specs.Demand.{scalar_only}
-use Rattle.ada_tree.specs.Sites.{subind_sites}
+use Rattle.ada_static_rules.specs.Demand.{scalar_only}
+use Rattle.ada_static_rules.specs.Sites.{subind_sites}
 use Rattle.ada_types.proofs.TypeDecls.{subtype_left, behind_names}
 use Rattle.ada_types.proofs.named_types.walk_subtype.Goals as goal
 

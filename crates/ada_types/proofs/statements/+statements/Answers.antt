@@ -2,15 +2,15 @@ use Rattle.std.proofs.Common.{◌≡◌, ◌∙◌, sym, ap, map, option_map, ar
 use Rattle.ada_tree.specs.declared.statements.Accept.{out-Accept}
 use Rattle.ada_tree.specs.PlainExpr.{plain_expr}
 use Rattle.ada_tree.specs.PlainStmt.{SConditional, STimed, SCase, absent, present, plain_stmt, plain_alt, plain_arm, plain_case_arm, plain_handler, plain_call, plain_formal, stmts_of, case_arms_of}
-use Rattle.ada_tree.specs.Declaring.{with_name, with_formals}
-use Rattle.ada_tree.specs.Sites.{stmt_sites}
+use Rattle.ada_static_rules.specs.Declaring.{with_name, with_formals}
+use Rattle.ada_static_rules.specs.Sites.{stmt_sites}
 use Rattle.ada_tree.proofs.Rows.{rows}
-use Rattle.ada_refusals.specs.RefusedFirst.{refused_first}
+use Rattle.ada_static_rules.specs.RefusedFirst.{refused_first}
 use Rattle.ada_scopes.specs.Entries.{plain_range}
 use Rattle.ada_scopes.specs.Denotations.{plain_thing}
 use Rattle.ada_types.specs.inner.SitesOfMembers.{each_alt, each_arm, each_case_arm, each_handler}
 use Rattle.ada_scopes.proofs.Inner.{left, room, inner_parameter, inner_formals}
-use Rattle.ada_refusals.proofs.Listing.{turn, met_all}
+use Rattle.ada_static_rules.proofs.Listing.{turn, met_all}
 use Rattle.ada_types.proofs.Lists.{stmts_flat, alts_flat, arms_flat, case_arms_flat, handlers_flat, arm_told, handler_told, accept_told, head_told, branches_told, case_others, case_alone}
 use Rattle.ada_types.proofs.statements.+statements.Goals as goal
 

@@ -1,7 +1,7 @@
 use Rattle.std.proofs.Common.{◌∙◌}
 use Rattle.ada_tree.specs.PlainStmt.{plain_callee}
-use Rattle.ada_tree.specs.Sites.{callee_sites}
-use Rattle.ada_refusals.proofs.Listing.{met_more}
+use Rattle.ada_static_rules.specs.Sites.{callee_sites}
+use Rattle.ada_static_rules.proofs.Listing.{met_more}
 use Rattle.ada_types.proofs.statements.walk_abort.Goals as goal
 
 pub loop-name-preserved : goal.loop-name-preserved

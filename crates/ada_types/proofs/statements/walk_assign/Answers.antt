@@ -1,10 +1,10 @@
 use Rattle.std.proofs.Common.{◌∙◌, ap}
 use Rattle.ada_tree.specs.PlainExpr.{plain_expr}
 use Rattle.ada_tree.specs.PlainStmt.{plain_target}
-use Rattle.ada_tree.specs.RuleMismatch.{target_kind}
-use Rattle.ada_tree.specs.Sites.{target_sites, expr_of}
-use Rattle.ada_refusals.specs.RefusedFirst.{refused_first}
-use Rattle.ada_refusals.proofs.Meeting.{joined}
+use Rattle.ada_static_rules.specs.RuleMismatch.{target_kind}
+use Rattle.ada_static_rules.specs.Sites.{target_sites, expr_of}
+use Rattle.ada_static_rules.specs.RefusedFirst.{refused_first}
+use Rattle.ada_static_rules.proofs.Meeting.{joined}
 use Rattle.ada_types.proofs.statements.walk_assign.Goals as goal
 
 pub returns : goal.returns

@@ -2,9 +2,9 @@ use Rattle.std.proofs.Common.{◌∙◌}
 use Rattle.std.specs.Prelude.{map}
 use Rattle.ada_tree.specs.PlainExpr.{plain_expr}
 use Rattle.ada_tree.specs.PlainStmt.{plain_case_arm, case_arms_of}
-use Rattle.ada_tree.specs.Demand.{chooses}
-use Rattle.ada_tree.specs.Sites.{expr_sites, arm_choices}
-use Rattle.ada_refusals.proofs.Meeting.{before}
+use Rattle.ada_static_rules.specs.Demand.{chooses}
+use Rattle.ada_static_rules.specs.Sites.{expr_sites, arm_choices}
+use Rattle.ada_static_rules.proofs.Meeting.{before}
 use Rattle.ada_types.proofs.statements.walk_selector.Goals as goal
 
 pub returns : goal.returns

@@ -1,7 +1,7 @@
 use Rattle.std.proofs.Common.{◌∙◌}
 use Rattle.ada_tree.specs.PlainStmt.{plain_part}
-use Rattle.ada_tree.specs.Sites.{part_sites}
-use Rattle.ada_refusals.proofs.Listing.{met_more}
+use Rattle.ada_static_rules.specs.Sites.{part_sites}
+use Rattle.ada_static_rules.proofs.Listing.{met_more}
 use Rattle.ada_types.proofs.statements.walk_text.Goals as goal
 
 pub loop-part-preserved : goal.loop-part-preserved

@@ -1,8 +1,8 @@
 use Rattle.std.proofs.Common.{◌≡◌, take, map}
 use Rattle.std.specs.Prelude.{flat_map}
 use Rattle.ada_tree.specs.PlainStmt.{plain_part}
-use Rattle.ada_tree.specs.Sites.{part_sites}
-use Rattle.ada_refusals.specs.RefusedFirst.{refused_first}
+use Rattle.ada_static_rules.specs.Sites.{part_sites}
+use Rattle.ada_static_rules.specs.RefusedFirst.{refused_first}
 use Rattle.ada_types.proofs.statements.walk_text.Given as goal
 
 abbrev pub invariant-loop-part : goal.invariant-loop-part

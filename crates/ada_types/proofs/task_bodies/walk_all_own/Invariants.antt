@@ -1,9 +1,9 @@
 use Rattle.std.proofs.Common.{◌≡◌, map}
 use Rattle.ada_tree.specs.PlainDecl.{decls_of, plain_decl}
-use Rattle.ada_tree.specs.Declaring.{after_objects}
-use Rattle.ada_tree.specs.Sites.{own_sites}
-use Rattle.ada_refusals.specs.Sooner.{sooner}
-use Rattle.ada_refusals.specs.RefusedFirst.{refused_first}
+use Rattle.ada_static_rules.specs.Declaring.{after_objects}
+use Rattle.ada_static_rules.specs.Sites.{own_sites}
+use Rattle.ada_static_rules.specs.Sooner.{sooner}
+use Rattle.ada_static_rules.specs.RefusedFirst.{refused_first}
 use Rattle.ada_types.proofs.Following.{from}
 use Rattle.ada_types.proofs.task_bodies.walk_all_own.Given as goal
 

@@ -1,8 +1,8 @@
 use Rattle.std.proofs.Common.{◌∙◌, ap, option_map}
 use Rattle.ada_tree.specs.PlainDecl.{plain_shape, plain_init}
-use Rattle.ada_tree.specs.Declaring.{after_object, declared_object}
-use Rattle.ada_tree.specs.Sites.{object_sites}
-use Rattle.ada_refusals.specs.RefusedFirst.{refused_first}
+use Rattle.ada_static_rules.specs.Declaring.{after_object, declared_object}
+use Rattle.ada_static_rules.specs.Sites.{object_sites}
+use Rattle.ada_static_rules.specs.RefusedFirst.{refused_first}
 use Rattle.ada_types.proofs.Following.{own_kind, own_other}
 use Rattle.ada_types.proofs.task_bodies.walk_own.Goals as goal
 

@@ -1,10 +1,10 @@
 use Rattle.std.proofs.Common.{◌∙◌, ap, map, refl}
-use Rattle.ada_tree.specs.Declaring.{in_body, inner_scope, after_objects}
+use Rattle.ada_static_rules.specs.Declaring.{in_body, inner_scope, after_objects}
 use Rattle.ada_tree.specs.PlainDecl.{decls_of, plain_decl}
 use Rattle.ada_tree.specs.PlainStmt.{plain_body}
-use Rattle.ada_tree.specs.Sites.{own_sites, body_sites}
-use Rattle.ada_refusals.specs.Sooner.{sooner}
-use Rattle.ada_refusals.specs.RefusedFirst.{refused_first}
+use Rattle.ada_static_rules.specs.Sites.{own_sites, body_sites}
+use Rattle.ada_static_rules.specs.Sooner.{sooner}
+use Rattle.ada_static_rules.specs.RefusedFirst.{refused_first}
 use Rattle.ada_types.proofs.Following.{body_room, body_left, body_scope, objects_in}
 use Rattle.ada_types.proofs.TaskDecls.{body_met}
 use Rattle.ada_types.proofs.task_bodies.walk_task_body.Goals as goal

@@ -1,8 +1,8 @@
 use Rattle.std.proofs.Common.{Some}
 use Rattle.ada_tree.specs.PlainDecl.{PPriority, plain_priority}
-use Rattle.ada_tree.specs.Scope.{integer_kind}
-use Rattle.ada_tree.specs.Sites.{static_of}
-use Rattle.ada_refusals.proofs.Listing.{list_more, list_end}
+use Rattle.ada_static_rules.specs.Scope.{integer_kind}
+use Rattle.ada_static_rules.specs.Sites.{static_of}
+use Rattle.ada_static_rules.proofs.Listing.{list_more, list_end}
 use Rattle.ada_types.proofs.tasks.walk_priorities.Goals as goal
 
 pub loop-priority-preserved : goal.loop-priority-preserved

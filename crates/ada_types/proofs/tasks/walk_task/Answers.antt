@@ -1,10 +1,10 @@
 use Rattle.std.proofs.Common.{◌∙◌, ap, [], map, Some, refl}
 use Rattle.std.specs.Prelude.{flat_map}
 use Rattle.ada_tree.specs.PlainDecl.{PPriority, plain_entry, plain_priority, plain_task}
-use Rattle.ada_tree.specs.Scope.{integer_kind}
-use Rattle.ada_tree.specs.Declaring.{entry_part}
-use Rattle.ada_tree.specs.Sites.{static_of, entries_sites}
-use Rattle.ada_refusals.specs.RefusedFirst.{refused_first}
+use Rattle.ada_static_rules.specs.Scope.{integer_kind}
+use Rattle.ada_static_rules.specs.Declaring.{entry_part}
+use Rattle.ada_static_rules.specs.Sites.{static_of, entries_sites}
+use Rattle.ada_static_rules.specs.RefusedFirst.{refused_first}
 use Rattle.ada_types.proofs.TaskDecls.{task_met, task_left}
 use Rattle.ada_types.proofs.tasks.walk_task.Goals as goal
 

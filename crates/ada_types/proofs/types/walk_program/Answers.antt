@@ -1,14 +1,14 @@
 use Rattle.std.proofs.Common.{◌++◌, ◌∷◌, [], ◌∙◌, ap, sym, subst, map, true}
 use Rattle.ada_tree.specs.PlainStmt.{plain_body}
 use Rattle.ada_tree.specs.PlainDecl.{decls_of, plain_decl}
-use Rattle.ada_tree.specs.Declaring.{before_all, first_scope, inner_scope, after_decls}
-use Rattle.ada_tree.specs.Sites.{names_sites, decls_sites, body_sites}
-use Rattle.ada_refusals.specs.RefusedFirst.{refused_first}
-use Rattle.ada_duplicates.specs.NamingsInOrder.{namings_of}
-use Rattle.ada_duplicates.specs.NamedSoFar.{AreAt}
-use Rattle.ada_refusals.proofs.Meeting.{joined}
+use Rattle.ada_static_rules.specs.Declaring.{before_all, first_scope, inner_scope, after_decls}
+use Rattle.ada_static_rules.specs.Sites.{names_sites, decls_sites, body_sites}
+use Rattle.ada_static_rules.specs.RefusedFirst.{refused_first}
+use Rattle.ada_decl_rules.specs.duplicates.NamingsInOrder.{namings_of}
+use Rattle.ada_decl_rules.specs.duplicates.NamedSoFar.{AreAt}
+use Rattle.ada_static_rules.proofs.Meeting.{joined}
 use Rattle.ada_types.proofs.TypeDecls.{behind_names}
-use Rattle.ada_duplicates.proofs.Behind.{at_first, noted_first}
+use Rattle.ada_decl_rules.proofs.duplicates.Behind.{at_first, noted_first}
 use Rattle.ada_types.proofs.types.walk_program.Goals as goal
 
 pub walk_decls-requires : goal.walk_decls-requires

@@ -1,6 +1,6 @@
 use Rattle.std.proofs.Common.{ap, ◌∙◌}
 use Rattle.ada_tree.specs.PlainExpr.{plain_expr}
-use Rattle.ada_refusals.specs.Sooner.{sooner}
+use Rattle.ada_static_rules.specs.Sooner.{sooner}
 use Rattle.ada_types.proofs.Writing.{kind_of_image, image_written}
 use Rattle.ada_types.proofs.written_parts.walk_image.Goals as goal
 

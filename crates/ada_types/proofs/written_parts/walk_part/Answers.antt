@@ -1,7 +1,7 @@
 use Rattle.std.proofs.Common.{ap, ◌∙◌}
 use Rattle.ada_tree.specs.PlainExpr.{plain_expr}
 use Rattle.ada_tree.specs.PlainStmt.{plain_part}
-use Rattle.ada_refusals.specs.Sooner.{sooner}
+use Rattle.ada_static_rules.specs.Sooner.{sooner}
 use Rattle.ada_types.proofs.Writing.{words_met, value_met}
 use Rattle.ada_types.proofs.written_parts.walk_part.Goals as goal
 

@@ -1,6 +1,6 @@
 use Rattle.std.proofs.Common.{◌∙◌, ap, sym}
 use Rattle.std.specs.Prelude.{◌==◌, position}
-use Rattle.ada_tree.specs.StaticValue.{position_in}
+use Rattle.ada_static_rules.specs.StaticValue.{position_in}
 use Rattle.ada_value.proofs.fixed.position_in.Goals as goal
 
 pub returns-in-Enumeration-clause-place : goal.returns-in-Enumeration-clause-place

@@ -1,6 +1,6 @@
 use Rattle.std.proofs.Common.{◌++◌, length, ap, sym, ◌∙◌}
 use Rattle.syn_event.specs.Numbering.{owner_of}
-use Rattle.event_progress.specs.Known.{Known}
+use Rattle.event_machine.specs.progress.Known.{Known}
 use Rattle.control_script.specs.Script.{script_from}
 use Rattle.control_script.proofs.Writing.{as_many, as_many_at_start, ends_last, not_ended, script_more}
 use Rattle.control_script.proofs.operations.script.Goals as goal

@@ -1,5 +1,5 @@
 use Rattle.std.proofs.Common.{List, ℕ, [], ◌∷◌, subst}
-use Rattle.debug_words.specs.Words.{AsksCheck}
+use Rattle.debug_outcome.specs.words.Words.{AsksCheck}
 use Rattle.debug_outcome.specs.Coming.{Comes, Never}
 use Rattle.debug_core.specs.CheckMeaning.{CheckMeans}
 use Rattle.debug_core.proofs.Calling.{all_loaded, not_loaded}

@@ -1,6 +1,6 @@
 use Rattle.std.proofs.Common.{refl, inl}
 use Rattle.ada_tree.specs.PlainProgram.{PProgram, plain_program}
-use Rattle.debug_text.specs.CheckText.{check_text}
+use Rattle.debug_run.specs.texts.CheckText.{check_text}
 use Rattle.debug_core.specs.CheckMeaning.{CheckMeans}
 use Rattle.debug_outcome.proofs.Comings.{has_put, has_broken}
 use Rattle.debug_core.proofs.check_command.check_text.Goals as goal

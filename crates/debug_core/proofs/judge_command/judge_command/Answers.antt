@@ -1,6 +1,6 @@
-use Rattle.debug_words.specs.Commands.{name_as}
-use Rattle.debug_words.specs.Words.{AsksJudge}
-use Rattle.debug_files.specs.Giving.{inputs_in}
+use Rattle.debug_outcome.specs.words.Commands.{name_as}
+use Rattle.debug_outcome.specs.words.Words.{AsksJudge}
+use Rattle.debug_outcome.specs.files.Giving.{inputs_in}
 use Rattle.debug_outcome.specs.Coming.{Never}
 use Rattle.debug_core.proofs.Calling.{both_there, judge_loaded, not_loaded}
 use Rattle.debug_core.proofs.judge_command.judge_command.Goals as goal

@@ -1,5 +1,5 @@
 use Rattle.std.proofs.Common.{[], ◌∷◌}
-use Rattle.debug_words.specs.Words.{AsksReplay}
+use Rattle.debug_outcome.specs.words.Words.{AsksReplay}
 use Rattle.debug_outcome.specs.Coming.{Never}
 use Rattle.debug_core.proofs.Calling.{all_loaded, not_loaded}
 use Rattle.debug_core.proofs.replay_command.replay_command.Goals as goal

@@ -1,6 +1,6 @@
-use Rattle.debug_words.specs.Commands.{name_as, source_as}
-use Rattle.debug_words.specs.Words.{AsksRun}
-use Rattle.debug_files.specs.Giving.{given_as, inputs_in}
+use Rattle.debug_outcome.specs.words.Commands.{name_as, source_as}
+use Rattle.debug_outcome.specs.words.Words.{AsksRun}
+use Rattle.debug_outcome.specs.files.Giving.{given_as, inputs_in}
 use Rattle.debug_core.specs.Answers.{GrowsFor}
 use Rattle.debug_core.proofs.Calling.{both_there, run_loaded, not_loaded}
 use Rattle.debug_core.proofs.run_command.run_command.Goals as goal

@@ -1,5 +1,5 @@
 use Rattle.std.proofs.Common.{inl}
-use Rattle.debug_files.specs.Giving.{given_as, inputs_in}
+use Rattle.debug_outcome.specs.files.Giving.{given_as, inputs_in}
 use Rattle.debug_outcome.proofs.Comings.{comes_more}
 use Rattle.debug_core.specs.ChosenRuns.{RunsUnder}
 use Rattle.debug_core.specs.RunMeaning.{RunMeans}

@@ -1,6 +1,6 @@
 use Rattle.std.proofs.Common.{Option, [], refl, subst}
-use Rattle.debug_words.specs.Words.{Asked}
-use Rattle.debug_words.specs.Commands.{asked_as}
+use Rattle.debug_outcome.specs.words.Words.{Asked}
+use Rattle.debug_outcome.specs.words.Commands.{asked_as}
 use Rattle.debug_outcome.specs.Delivery.{Sides}
 use Rattle.debug_outcome.specs.declared.refusal.Refusal.TheVariants.{Usage}
 use Rattle.debug_outcome.proofs.Comings.{ends_done, ends_stopped, told_alone}

@@ -2,7 +2,7 @@ use Rattle.std.proofs.Common.{◌≤◌, [], ◌∷◌, ◌++◌, length, Option
 use Rattle.event_machine.specs.declared.Event.{Event}
 use Rattle.seq_file.specs.Files.{most_events}
 use Rattle.seq_file.specs.Stepping.{StandsBehind, AnswersBehind, AgreesOnFile}
-use Rattle.task_model.specs.Machine.{Setup}
+use Rattle.task_model.specs.Machine.{ProgramWithInputs}
 use Rattle.task_machine.specs.Table.{setup_in}
 use Rattle.debug_judge.proofs.Giving.{found_first}
 use Rattle.debug_judge.proofs.Lining.{no_end_before}
@@ -20,7 +20,7 @@ loop-given-init c = record {
 
 pub returns-in-Ok-None-clause-found : goal.returns-in-Ok-None-clause-found
 returns-in-Ok-None-clause-found c =
-    let setup : Setup = setup_in c.args.links.now c.args.inputs.now in
+    let setup : ProgramWithInputs = setup_in c.args.links.now c.args.inputs.now in
     let at = c.loop-given.invariant in
     let few : length at.events ≤ most_events = omega (arith, at.so_far, c.loop-given-test.true) in
     record {
@@ -33,7 +33,7 @@ returns-in-Ok-None-clause-found c =
 
 pub loop-given-preserved : goal.loop-given-preserved
 loop-given-preserved c =
-    let setup : Setup = setup_in c.args.links.now c.args.inputs.now in
+    let setup : ProgramWithInputs = setup_in c.args.links.now c.args.inputs.now in
     let at = c.loop-given.invariant in
     let e : Event = c.in-Ok-Some.event in
     let behind : StandsBehind c.args.bytes.now c.args.links.now.numbers setup.program.names (at.events ++ e ∷ []) c.next.new.self =

@@ -9,8 +9,8 @@ use Rattle.debug_outcome.specs.Coming.{Comes, Never, stop_by}
 use Rattle.debug_outcome.specs.Outcomes.{Outcome}
 use Rattle.debug_outcome.specs.declared.stopping.Stop.{Stop}
 use Rattle.debug_outcome.proofs.Comings.{comes_more, stops_come, stops_more}
-use Rattle.debug_sequence.specs.BadSequences.{IsBadSequence, refusal_of_sequence}
-use Rattle.debug_sequence.proofs.Telling.{stops_unread}
+use Rattle.debug_outcome.specs.sequences.BadSequences.{IsBadSequence, refusal_of_sequence}
+use Rattle.debug_outcome.proofs.sequences.Telling.{stops_unread}
 use Rattle.debug_replay.specs.ReplayOutcomes.{ReplaysLines, printed_outcome, refusal_of_replay}
 use Rattle.debug_replay.proofs.TextOutcomes.{one_error, stops_replay, text_called}
 use Rattle.debug_replay.proofs.replaying.write_replay.Goals as goal

@@ -1,7 +1,7 @@
 use Rattle.std.proofs.Common.{◌∙◌, drop, arith}
-use Rattle.run_model.specs.Outputs.{output_of}
-use Rattle.debug_text.specs.RunText.{task_part, task_parts, lines_at}
-use Rattle.debug_text.proofs.Lining.{no_info, lines_more, lines_stop, lines_all, lines_beyond}
+use Rattle.task_model.specs.picked_runs.Outputs.{output_of}
+use Rattle.debug_run.specs.texts.RunText.{task_part, task_parts, lines_at}
+use Rattle.debug_run.proofs.texts.Lining.{no_info, lines_more, lines_stop, lines_all, lines_beyond}
 use Rattle.debug_run.proofs.running.put_tasks.Goals as goal
 
 pub loop-t-preserved : goal.loop-t-preserved

@@ -1,7 +1,7 @@
 use Rattle.std.proofs.Common.{◌≡◌, drop}
-use Rattle.run_model.specs.Outputs.{output_of}
-use Rattle.debug_text.specs.RunText.{task_part, task_parts, lines_at}
-use Rattle.debug_text.proofs.Lining.{HasLines}
+use Rattle.task_model.specs.picked_runs.Outputs.{output_of}
+use Rattle.debug_run.specs.texts.RunText.{task_part, task_parts, lines_at}
+use Rattle.debug_run.proofs.texts.Lining.{HasLines}
 use Rattle.debug_run.proofs.running.put_tasks.Given as goal
 
 -- the lines so far, and those of the tasks that are left, are all lines; no fault was met

@@ -1,7 +1,7 @@
 use Rattle.std.proofs.Common.{◌≡◌, ◌++◌, map, take}
 use Rattle.ada_tree.specs.PlainStmt.{plain_case_arm}
 use Rattle.normal_model.specs.Aborts.{abort_of}
-use Rattle.normal_pieces.specs.Seen.{member_seen}
+use Rattle.normal_lookups.specs.pieces.Seen.{member_seen}
 use Rattle.normal_calls.specs.inner.CallForms.{arm_for}
 use Rattle.normal_calls.proofs.member_branches.push_aborts.Given as goal
 

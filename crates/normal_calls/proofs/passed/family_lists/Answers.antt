@@ -2,7 +2,7 @@ use Rattle.std.proofs.Common.{[], ◌∷◌, Vec, Global, map, option_map}
 use Rattle.ada_tree.specs.declared.expressions.Expr.{Expr}
 use Rattle.ada_tree.specs.PlainExpr.{plain_expr}
 use Rattle.ada_tree.specs.PlainStmt.{plain_args, plain_call}
-use Rattle.ada_expr_copy.proofs.Carried.{two}
+use Rattle.ada_stmt_copy.proofs.expressions.Carried.{two}
 use Rattle.normal_model.specs.Making.{variable}
 use Rattle.normal_model.specs.Calls.{actuals_passed, slots_called}
 use Rattle.normal_calls.proofs.Counting.{family-listed, one-listed}

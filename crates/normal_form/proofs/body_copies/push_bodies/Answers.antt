@@ -1,6 +1,6 @@
 use Rattle.ada_tree.specs.PlainDecl.{plain_decl}
 use Rattle.normal_model.specs.NormalTree.{bodies_of, variables_of_body}
-use Rattle.normal_declarations.proofs.Listing.{flat_seen_more}
+use Rattle.normal_form.proofs.unit_declarations.Listing.{flat_seen_more}
 use Rattle.normal_form.proofs.Greatest.{greatest_turn}
 use Rattle.normal_form.proofs.body_copies.push_bodies.Goals as goal
 

@@ -1,7 +1,7 @@
 use Rattle.std.proofs.Common.{◌==◌, ◌||◌, ap, sym, ◌∙◌, is_some}
 use Rattle.std.specs.List.{list_any}
 use Rattle.ada_tree.specs.declared.naming.NameId.{NameId}
-use Rattle.ada_tree.specs.StaticValue.{position_in}
+use Rattle.ada_static_rules.specs.StaticValue.{position_in}
 use Rattle.scoped_names.specs.Meaning.{meaning_in}
 use Rattle.normal_lookups.proofs.Statics.{placed_any}
 use Rattle.common_lemmas.proofs.Results.{on_ok}

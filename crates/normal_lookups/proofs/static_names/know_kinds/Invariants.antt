@@ -1,6 +1,6 @@
 use Rattle.std.proofs.Common.{◌≡◌, ◌||◌, is_some, take}
 use Rattle.ada_tree.specs.declared.naming.NameId.{NameId}
-use Rattle.ada_tree.specs.StaticValue.{literal_position}
+use Rattle.ada_static_rules.specs.StaticValue.{literal_position}
 use Rattle.scoped_names.specs.Meaning.{meaning_in}
 use Rattle.normal_lookups.proofs.static_names.know_kinds.Given as goal
 

@@ -1,6 +1,6 @@
 use Rattle.std.proofs.Common.{◌≡◌, Some, map, take}
 use Rattle.normal_model.specs.Ranges.{range_of_info}
-use Rattle.replay_ids.specs.Looking.{mark_of_range}
+use Rattle.replay_declarations.specs.ids.Looking.{mark_of_range}
 use Rattle.replay_xform.proofs.tables.marks_of.Given as goal
 
 abbrev pub invariant-loop-info : goal.invariant-loop-info

@@ -1,5 +1,5 @@
 use Rattle.std.proofs.Common.{◌≡◌, ◌==◌, ℕ, take, map, None, if◌then◌else◌}
-use Rattle.ada_tree.specs.StaticValue.{first_of_two}
+use Rattle.ada_static_rules.specs.StaticValue.{first_of_two}
 use Rattle.ada_tree.specs.PlainDecl.{plain_entry}
 use Rattle.task_links.specs.inner.Made.{formals_at, formals_among}
 use Rattle.task_links.proofs.entry_formals.keep_entries.Given as goal

@@ -1,5 +1,5 @@
 use Rattle.std.proofs.Common.{ap, sym, ◌∙◌, ◌==◌, map, None, if◌then◌else◌}
-use Rattle.ada_tree.specs.StaticValue.{first_of_two}
+use Rattle.ada_static_rules.specs.StaticValue.{first_of_two}
 use Rattle.ada_tree.specs.PlainDecl.{plain_entry, plain_task}
 use Rattle.task_links.specs.inner.Made.{formals_at, formals_among}
 use Rattle.task_links.proofs.UnitsLemmas.{known_step, new_step}

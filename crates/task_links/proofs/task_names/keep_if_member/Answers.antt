@@ -1,7 +1,7 @@
 use Rattle.std.proofs.Common.{rules, w32, w64, FitsSigned, ap, sym, ◌∙◌, ◌==◌, ◌&&◌, if◌then◌else◌, Some, None}
 use Rattle.std.proofs.lemmas.Int.{to_z-of_z}
 use Rattle.std.specs.HashMap.{get}
-use Rattle.ada_tree.specs.StaticValue.{first_of_two}
+use Rattle.ada_static_rules.specs.StaticValue.{first_of_two}
 use Rattle.task_model.specs.Setting.{is_member}
 use Rattle.task_links.specs.inner.Keys.{member_eq}
 use Rattle.task_links.proofs.KeepingLemmas.{none_kept, same_index}

@@ -1,6 +1,6 @@
 use Rattle.std.proofs.Common.{◌≡◌, ◌==◌, ◌&&◌, ℕ, ℤ, take, position}
 use Rattle.std.specs.HashMap.{get}
-use Rattle.ada_tree.specs.StaticValue.{first_of_two}
+use Rattle.ada_static_rules.specs.StaticValue.{first_of_two}
 use Rattle.task_model.specs.Setting.{is_member}
 use Rattle.task_links.specs.inner.Keys.{member_eq}
 use Rattle.task_links.proofs.task_names.keep_members.Given as goal

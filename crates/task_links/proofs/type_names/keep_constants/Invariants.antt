@@ -1,7 +1,7 @@
 use Rattle.std.proofs.Common.{◌≡◌, ◌==◌, nat_eq, take, find, option_map}
 use Rattle.std.specs.HashMap.{get}
 use Rattle.ada_tree.specs.declared.naming.NameId.{NameId}
-use Rattle.ada_tree.specs.StaticValue.{first_of_two}
+use Rattle.ada_static_rules.specs.StaticValue.{first_of_two}
 use Rattle.ada_value.specs.Evaluating.{constant_value}
 use Rattle.task_links.proofs.type_names.keep_constants.Given as goal
 

@@ -1,6 +1,6 @@
 use Rattle.std.proofs.Common.{◌≡◌, ◌==◌, ℕ, nat_eq, take, find}
 use Rattle.std.specs.HashMap.{get}
-use Rattle.ada_tree.specs.StaticValue.{first_of_two}
+use Rattle.ada_static_rules.specs.StaticValue.{first_of_two}
 use Rattle.task_links.proofs.type_names.keep_firsts.Given as goal
 
 -- the first marks of the kinds so far are kept

@@ -1,6 +1,6 @@
 use Rattle.std.proofs.Common.{ap, sym, nat_eq}
 use Rattle.std.specs.HashMap.{get}
-use Rattle.ada_tree.specs.StaticValue.{position_in}
+use Rattle.ada_static_rules.specs.StaticValue.{position_in}
 use Rattle.task_links.proofs.KeepingLemmas.{literal_of}
 use Rattle.common_lemmas.proofs.Results.{on_ok}
 use Rattle.task_links.proofs.type_names.keep_kind.Goals as goal

@@ -1,6 +1,6 @@
 use Rattle.std.proofs.Common.{◌+◌, pos, nat_eq, take, option_map}
 use Rattle.std.specs.HashMap.{get}
-use Rattle.ada_tree.specs.StaticValue.{position_in}
+use Rattle.ada_static_rules.specs.StaticValue.{position_in}
 use Rattle.ada_value.specs.Values.{placed, word}
 use Rattle.ada_value.specs.Evaluating.{literal_value}
 use Rattle.task_links.proofs.KeepingLemmas.{more, literals_more}

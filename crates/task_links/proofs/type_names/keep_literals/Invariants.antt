@@ -1,7 +1,7 @@
 use Rattle.std.proofs.Common.{◌≡◌, ◌==◌, pos, nat_eq, take, position, option_map}
 use Rattle.std.specs.HashMap.{get}
 use Rattle.ada_tree.specs.declared.naming.NameId.{NameId}
-use Rattle.ada_tree.specs.StaticValue.{first_of_two}
+use Rattle.ada_static_rules.specs.StaticValue.{first_of_two}
 use Rattle.ada_value.specs.Values.{placed}
 use Rattle.task_links.proofs.type_names.keep_literals.Given as goal
 

@@ -1,7 +1,7 @@
 use Rattle.std.proofs.Common.{◌≡◌, nat_eq, take, find}
 use Rattle.std.specs.HashMap.{get}
 use Rattle.ada_tree.specs.declared.naming.NameId.{NameId}
-use Rattle.ada_tree.specs.StaticValue.{first_of_two, is_named}
+use Rattle.ada_static_rules.specs.StaticValue.{first_of_two, is_named}
 use Rattle.task_links.proofs.type_names.keep_marks.Given as goal
 
 -- the marks so far are kept by their names

@@ -1,5 +1,5 @@
 use Rattle.std.proofs.Common.{◌≡◌, true, rules}
-use Rattle.task_frames.specs.Seen.{turns_as}
+use Rattle.task_state.specs.frames.Seen.{turns_as}
 use Rattle.task_state.specs.Plain.{plain_task}
 use Rattle.task_steps.specs.Turning.{TurnsBy, is_counting}
 use Rattle.task_steps.proofs.MoveLemmas.{where_counting}

@@ -1,5 +1,5 @@
 use Rattle.std.proofs.Common.{sym, ap, ◌∙◌}
-use Rattle.task_frames.specs.Seen.{turns_as}
+use Rattle.task_state.specs.frames.Seen.{turns_as}
 use Rattle.task_model.specs.Steps.{counted_on}
 use Rattle.task_model.specs.Tasks.{vars_of, with_vars}
 use Rattle.task_state.specs.Plain.{plain_task}

@@ -1,7 +1,7 @@
 use Rattle.std.proofs.Common.{◌≡◌, ◌∙◌, ap, subst, sym}
 use Rattle.std.specs.Prelude.{IfOk, OnOk}
 use Rattle.ada_tree.specs.PlainStmt.{plain_stmt}
-use Rattle.task_frames.specs.Seen.{turns_as}
+use Rattle.task_state.specs.frames.Seen.{turns_as}
 use Rattle.task_state.specs.Plain.{plain_task}
 use Rattle.task_steps.specs.Sequential.{is_step, sequential_by}
 use Rattle.task_steps.proofs.StandLemmas.{stand_next, step_next, turn_stands, turn_steps, body_stands, unit_stands}

@@ -1,6 +1,6 @@
 use Rattle.std.proofs.Common.{ap, ◌∙◌}
 use Rattle.std.specs.Prelude.{slice_get}
-use Rattle.ada_tree.specs.Scope.{entry_named}
+use Rattle.ada_static_rules.specs.Scope.{entry_named}
 use Rattle.ada_scopes.proofs.Placing.{named_there, named_nowhere}
 use Rattle.ada_scopes.proofs.denotations.Entries.named.Goals as goal
 

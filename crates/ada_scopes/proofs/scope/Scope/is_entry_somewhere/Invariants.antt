@@ -1,6 +1,6 @@
 use Rattle.std.proofs.Common.{◌≡◌, drop, is_some}
 use Rattle.std.specs.List.{list_any}
-use Rattle.ada_tree.specs.Scope.{entry_named, entries_of}
+use Rattle.ada_static_rules.specs.Scope.{entry_named, entries_of}
 use Rattle.ada_scopes.proofs.scope.Scope.is_entry_somewhere.Given as goal
 
 -- none of the latest names has the entry

@@ -1,5 +1,5 @@
 use Rattle.std.proofs.Common.{◌≡◌, ◌-◌, ℕ, List, ap, ◌∙◌, length, map, take, drop}
-use Rattle.ada_tree.specs.Scope.{Scope, NameMeaning}
+use Rattle.ada_static_rules.specs.Scope.{Scope, NameMeaning}
 use Rattle.ada_scopes.specs.Denotations.{plain_names}
 use Rattle.ada_scopes.proofs.Nesting.{left_names, left_here}
 use Rattle.ada_scopes.proofs.scope.Scope.leave.Goals as goal

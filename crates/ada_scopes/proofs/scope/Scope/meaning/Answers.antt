@@ -1,5 +1,5 @@
 use Rattle.std.proofs.Common.{ap, ◌∙◌, sym, option_map}
-use Rattle.ada_tree.specs.Scope.{meaning}
+use Rattle.ada_static_rules.specs.Scope.{meaning}
 use Rattle.ada_scopes.specs.Denotations.{plain_thing}
 use Rattle.ada_scopes.proofs.Naming.{meaning_seen, map_twice}
 use Rattle.ada_scopes.proofs.scope.Scope.meaning.Goals as goal

@@ -1,5 +1,5 @@
 use Rattle.std.proofs.Common.{ap, sym, ◌∙◌, ◌==◌, ◌++◌, ◌∷◌, [], position}
-use Rattle.ada_tree.specs.StaticValue.{constant_named, mark_named}
+use Rattle.ada_static_rules.specs.StaticValue.{constant_named, mark_named}
 use Rattle.ada_scopes.proofs.Keeping.{kind_kept}
 use Rattle.ada_scopes.proofs.table.Table.with_kind.Goals as goal
 

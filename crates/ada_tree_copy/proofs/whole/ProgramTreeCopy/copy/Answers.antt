@@ -6,7 +6,7 @@ use Rattle.ada_tree.specs.PlainStmt.{plain_body}
 use Rattle.ada_tree.specs.PlainProgram.{plain_program}
 use Rattle.ada_tree.specs.Same.{Same}
 use Rattle.ada_tree.proofs.SameLaws.{Same-from_equal}
-use Rattle.ada_expr_copy.proofs.Carried.{three}
+use Rattle.ada_stmt_copy.proofs.expressions.Carried.{three}
 use Rattle.ada_tree_copy.proofs.whole.ProgramTreeCopy.copy.Goals as goal
 
 pub returns-clause-equal : goal.returns-clause-equal

@@ -1,6 +1,6 @@
 use Rattle.std.proofs.Common.{◌≡◌, ◌∙◌, [], false, sym, ap, subst, length, arith}
 use Rattle.syn_event.specs.Numbering.{Numbering}
-use Rattle.task_model.specs.Machine.{Setup}
+use Rattle.task_model.specs.Machine.{ProgramWithInputs}
 use Rattle.task_machine.specs.declared.verdict.Verdict.TheVariants.{Feasible}
 use Rattle.task_machine.specs.Table.{setup_in}
 use Rattle.task_machine.proofs.TaskLaws.{the_count}
@@ -19,7 +19,7 @@ invariant_of-result c = record {
 
 pub returns-clause-stands : goal.returns-clause-stands
 returns-clause-stands c =
-    let setup : Setup = setup_in c.args.links.now c.args.inputs.now in
+    let setup : ProgramWithInputs = setup_in c.args.links.now c.args.inputs.now in
     let tasks = c.in_ok-seats.seats.items in
     let steps = c.in_ok-steps.steps.items in
     let same : length steps ≡ length tasks = omega (arith, c.in_ok-steps.ensures.size, c.len.ensures) in

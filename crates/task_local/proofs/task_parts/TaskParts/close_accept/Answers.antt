@@ -2,8 +2,8 @@ use Rattle.std.proofs.Common.{sym, ap, subst, ◌∙◌}
 use Rattle.task_state.specs.Plain.{plain_task}
 use Rattle.task_model.specs.Rendezvous.{finished}
 use Rattle.task_model.specs.Stands.{offer_of}
-use Rattle.task_room.specs.Fitting.{HasRoom}
-use Rattle.task_room.proofs.Meetings.{finished_has_room}
+use Rattle.task_local.specs.room.Fitting.{HasRoom}
+use Rattle.task_local.proofs.room.Meetings.{finished_has_room}
 use Rattle.task_local.specs.inner.InOrder.{task_of}
 use Rattle.task_local.proofs.Names.{finish_alike}
 use Rattle.task_local.proofs.task_parts.TaskParts.close_accept.Goals as goal

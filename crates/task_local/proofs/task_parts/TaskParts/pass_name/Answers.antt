@@ -1,9 +1,9 @@
 use Rattle.std.proofs.Common.{sym, subst, ◌∙◌, ◌+◌, ◌<◌, length, arith}
 use Rattle.task_state.specs.Plain.{plain_task}
-use Rattle.task_room.specs.Fitting.{HasRoom}
+use Rattle.task_local.specs.room.Fitting.{HasRoom}
 use Rattle.task_local.specs.inner.InOrder.{task_of}
 use Rattle.task_local.proofs.Moves.{name_passed, names_within, last_passed, name_next}
-use Rattle.task_room.proofs.Meetings.{passed_has_room}
+use Rattle.task_local.proofs.room.Meetings.{passed_has_room}
 use Rattle.task_local.proofs.task_parts.TaskParts.pass_name.Goals as goal
 
 pub renew-requires : goal.renew-requires

@@ -1,7 +1,7 @@
 use Rattle.std.proofs.Common.{sym, subst}
-use Rattle.task_room.specs.Fitting.{HasRoom}
+use Rattle.task_local.specs.room.Fitting.{HasRoom}
 use Rattle.task_local.specs.inner.InOrder.{task_of}
-use Rattle.task_room.proofs.Steps.{raised_has_room}
+use Rattle.task_local.proofs.room.Steps.{raised_has_room}
 use Rattle.task_local.proofs.task_parts.TaskParts.raise.Goals as goal
 
 pub renew-requires : goal.renew-requires

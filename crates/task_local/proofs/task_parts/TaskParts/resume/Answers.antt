@@ -1,7 +1,7 @@
 use Rattle.std.proofs.Common.{sym, subst, ◌∙◌}
 use Rattle.task_state.specs.Plain.{plain_task}
-use Rattle.task_room.specs.Fitting.{HasRoom}
-use Rattle.task_room.proofs.Meetings.{returned_has_room}
+use Rattle.task_local.specs.room.Fitting.{HasRoom}
+use Rattle.task_local.proofs.room.Meetings.{returned_has_room}
 use Rattle.task_local.specs.inner.InOrder.{task_of}
 use Rattle.task_local.proofs.Names.{returned_alike}
 use Rattle.task_local.proofs.task_parts.TaskParts.resume.Goals as goal

@@ -1,7 +1,7 @@
 use Rattle.std.proofs.Common.{◌≤◌, sym, ap, subst, arith}
 use Rattle.task_model.specs.Starting.{Unit, unit_of}
-use Rattle.task_room.specs.Fitting.{HasRoom}
-use Rattle.task_room.proofs.Standing.{started_has_room}
+use Rattle.task_local.specs.room.Fitting.{HasRoom}
+use Rattle.task_local.proofs.room.Standing.{started_has_room}
 use Rattle.task_waits.specs.Room.{widest_body}
 use Rattle.task_local.proofs.task_parts.TaskParts.start.Goals as goal
 

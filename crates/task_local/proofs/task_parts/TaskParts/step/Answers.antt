@@ -1,10 +1,10 @@
 use Rattle.std.proofs.Common.{sym, subst, ap, ◌∙◌}
 use Rattle.task_state.specs.Plain.{plain_task}
 use Rattle.task_waits.specs.Standing.{stand_as}
-use Rattle.task_room.specs.Fitting.{HasRoom}
+use Rattle.task_local.specs.room.Fitting.{HasRoom}
 use Rattle.task_local.specs.inner.InOrder.{task_of}
 use Rattle.task_local.proofs.Moves.{step_made}
-use Rattle.task_room.proofs.Steps.{raised_has_room, stepped_has_room}
+use Rattle.task_local.proofs.room.Steps.{raised_has_room, stepped_has_room}
 use Rattle.task_local.proofs.task_parts.TaskParts.step.Goals as goal
 
 pub renew-requires : goal.renew-requires

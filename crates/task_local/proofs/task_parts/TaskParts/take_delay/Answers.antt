@@ -1,8 +1,8 @@
 use Rattle.std.proofs.Common.{sym, ap, subst, ◌∙◌}
 use Rattle.task_state.specs.Plain.{plain_task}
 use Rattle.task_model.specs.Rendezvous.{took_delay}
-use Rattle.task_room.specs.Fitting.{HasRoom}
-use Rattle.task_room.proofs.Meetings.{delay_has_room}
+use Rattle.task_local.specs.room.Fitting.{HasRoom}
+use Rattle.task_local.proofs.room.Meetings.{delay_has_room}
 use Rattle.task_local.specs.inner.InOrder.{task_of}
 use Rattle.task_local.proofs.Moves.{not_passed, delay_stays}
 use Rattle.task_local.proofs.task_parts.TaskParts.take_delay.Goals as goal

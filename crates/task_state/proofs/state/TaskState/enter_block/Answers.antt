@@ -1,5 +1,5 @@
 use Rattle.ada_tree.specs.PlainStmt.{seen}
-use Rattle.task_frames.specs.Seen.{seen_handlers}
+use Rattle.task_state.specs.frames.Seen.{seen_handlers}
 use Rattle.task_model.specs.Frames.{Block}
 use Rattle.task_state.proofs.Moving.{enters_frame}
 use Rattle.task_state.proofs.state.TaskState.enter_block.Goals as goal

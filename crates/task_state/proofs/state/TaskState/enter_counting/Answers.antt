@@ -1,7 +1,7 @@
 use Rattle.std.proofs.Common.{◌∷◌, ap, ◌∙◌, w64}
 use Rattle.std.proofs.lemmas.Int.{to_z-of_z}
 use Rattle.ada_tree.specs.PlainStmt.{seen}
-use Rattle.task_frames.specs.Seen.{turns_as}
+use Rattle.task_state.specs.frames.Seen.{turns_as}
 use Rattle.task_model.specs.Frames.{Loop}
 use Rattle.task_model.specs.Steps.{loop_parameter}
 use Rattle.task_model.specs.Tasks.{with_vars}

@@ -1,5 +1,5 @@
 use Rattle.ada_tree.specs.PlainStmt.{seen}
-use Rattle.task_frames.specs.Seen.{turns_as}
+use Rattle.task_state.specs.frames.Seen.{turns_as}
 use Rattle.task_model.specs.Frames.{Loop}
 use Rattle.task_state.proofs.Moving.{enters_frame}
 use Rattle.task_state.proofs.state.TaskState.enter_loop.Goals as goal

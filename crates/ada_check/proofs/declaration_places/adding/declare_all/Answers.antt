@@ -1,0 +1,5 @@
+use Rattle.ada_check_rules.proofs.scopes.Leaving.{name_more}
+use Rattle.ada_check.proofs.declaration_places.adding.declare_all.Goals as goal
+
+pub loop-name-preserved : goal.loop-name-preserved
+loop-name-preserved c = name_more c.args.meant _ _ _ c.args.names.now c.loop-name.name-index _ c.loop-name-test.true c.loop-name.invariant c.in_ok-declare.ensures

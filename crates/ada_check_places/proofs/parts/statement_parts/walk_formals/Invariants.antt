@@ -1,0 +1,12 @@
+use Rattle.std.proofs.Common.{◌≡◌, map, drop}
+use Rattle.ada_tree.specs.PlainStmt.{plain_formal}
+use Rattle.syn_event.specs.CheckScope.{CheckScope}
+use Rattle.syn_event.specs.CheckSites.{names_sites, formal_names}
+use Rattle.ada_check_rules.specs.rules.Sooner.{sooner}
+use Rattle.ada_check_rules.specs.rules.RefusedFirst.{refused_first}
+use Rattle.ada_check_places.proofs.parts.statement_parts.walk_formals.Given as goal
+
+-- what is refused so far, and of the formals that are left
+abbrev pub invariant-loop-formal : goal.invariant-loop-formal
+invariant-loop-formal l =
+    (around : CheckScope) → sooner l.refusal (refused_first l.by (names_sites around (formal_names (map plain_formal (drop l.formal-index l.formals))))) ≡ refused_first l.by (names_sites around (formal_names (map plain_formal l.formals)))

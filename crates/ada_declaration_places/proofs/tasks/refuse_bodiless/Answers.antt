@@ -1,6 +1,0 @@
-use Rattle.std.proofs.Common.{◌∙◌}
-use Rattle.ada_declaration_places.proofs.Declaring.{bodiless}
-use Rattle.ada_declaration_places.proofs.tasks.refuse_bodiless.Goals as goal
-
-pub returns : goal.returns
-returns c = λ by around. c.refuse_if.ensures ∙ bodiless by around c.args.bodies.now c.args.unit.now.name c.args.span c.has.result c.has.ensures.numbered

@@ -1,6 +1,0 @@
-//! What an Ada program declares or names again though it may not.
-#![tactic(auto)]
-
-pub mod named_so_far;
-mod namings_in_order;
-mod repeats;

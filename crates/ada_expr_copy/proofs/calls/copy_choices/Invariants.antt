@@ -1,6 +1,0 @@
-use Rattle.std.proofs.Common.{◌≡◌, map, take}
-use Rattle.ada_tree.specs.PlainStmt.{plain_choice}
-use Rattle.ada_expr_copy.proofs.calls.copy_choices.Given as goal
-
-abbrev pub invariant-loop-choice : goal.invariant-loop-choice
-invariant-loop-choice l = map plain_choice l.copies.items ≡ map plain_choice (take l.choice-index l.choices)

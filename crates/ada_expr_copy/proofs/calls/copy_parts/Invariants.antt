@@ -1,6 +1,0 @@
-use Rattle.std.proofs.Common.{◌≡◌, map, take}
-use Rattle.ada_tree.specs.PlainStmt.{plain_part}
-use Rattle.ada_expr_copy.proofs.calls.copy_parts.Given as goal
-
-abbrev pub invariant-loop-part : goal.invariant-loop-part
-invariant-loop-part l = map plain_part l.copies.items ≡ map plain_part (take l.part-index l.parts)

@@ -1,8 +1,0 @@
-use Rattle.std.proofs.Common.{ap, option_map}
-use Rattle.ada_tree.specs.PlainDecl.{plain_init}
-use Rattle.ada_object_rules.specs.inner.Initials.{holder_sites}
-use Rattle.ada_refusals.proofs.Listing.{not_there}
-use Rattle.ada_object_rules.proofs.objects.walk_init_if.Goals as goal
-
-pub returns-in-None : goal.returns-in-None
-returns-in-None c = not_there (holder_sites c.args.scope.now c.args.holder) _ (ap (option_map plain_init) c.in-None.is)

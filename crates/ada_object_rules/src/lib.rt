@@ -1,8 +1,0 @@
-//! The static rules at declarations of objects of Ada, and what these add to the types.
-#![tactic(auto)]
-
-mod initials;
-pub mod making;
-pub mod objects;
-mod plans;
-mod shapes;

@@ -1,6 +1,0 @@
-pub mod Rules
-pub mod Ranking
-pub mod Sooner
-pub mod RefusedFirst
-pub mod Repeated
-pub mod Telling

@@ -1,9 +1,0 @@
-//! What is counted over a whole Ada program: its tasks, their entries, and what the rewriters would copy.
-#![tactic(auto)]
-
-mod copies;
-mod counts;
-mod shares;
-
-pub use copies::refuse_copies;
-pub use counts::{refuse_entries, refuse_tasks};

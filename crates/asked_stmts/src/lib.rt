@@ -1,2 +1,0 @@
-//! What is asked of the statements of a body, statement by statement.
-#![tactic(auto)]

@@ -1,8 +1,0 @@
-//! The cases of programs that are the same: outlines of what is printed and read again, comparisons, and copies.
-#![tactic(auto)]
-
-mod comparing;
-mod outlining;
-
-pub use comparing::{built, copy, same};
-pub use outlining::outline;

@@ -1,0 +1,6 @@
+//! The subjects of cases on texts: tokens, expressions, names, whole programs, sameness and copies.
+#![tactic(auto)]
+
+pub mod expressions;
+pub mod programs;
+pub mod sameness;

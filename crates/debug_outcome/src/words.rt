@@ -1,0 +1,5 @@
+//! The words that the program is called with.
+
+mod command;
+
+pub use command::{Choices, Command, JudgeWords, NoWords, ReplayWords, RunWords, command_of};

@@ -1,0 +1,275 @@
+// The words that the program is called with.
+
+ghost use Rattle.std.specs.Prelude.{◌≡◌, ◌≤◌, map, option_map, string_bytes, length};
+ghost use Rattle.debug_outcome.specs.words.Words.{asked_by, asks_of_one, asks_of_two, asks_of_four, asks_run, asks_judge, inputs_of, choice_source, seed_of, number_of, digits_value, begins_well, is_zero};
+ghost use Rattle.debug_outcome.specs.words.Commands.{asked_as, source_as, name_as};
+
+/// What the words ask for.
+#[derive(Clone, Copy)]
+pub enum Command<'w> {
+    /// The text of the program in this file.
+    Print(&'w str),
+    /// The numbers of the program in this file.
+    Check(&'w str),
+    /// A run of the program in a file.
+    Run(RunWords<'w>),
+    /// The verdict on a sequence of events.
+    Judge(JudgeWords<'w>),
+    /// The replay text of a program and a sequence of events.
+    Replay(ReplayWords<'w>),
+}
+
+/// Where the choices of a run come from.
+#[derive(Clone, Copy)]
+pub enum Choices<'w> {
+    /// From nowhere: an empty list of choices.
+    Empty,
+    /// From the file of this name.
+    In(&'w str),
+    /// From the generator of this seed.
+    Seeded(u64),
+}
+
+/// A run of the program in a file, of at most so many turns, from 1 to 100,000,000. The tasks read what the file of inputs says, if one is named.
+#[derive(Clone, Copy)]
+pub struct RunWords<'w> {
+    pub file: &'w str,
+    pub inputs: Option<&'w str>,
+    pub choices: Choices<'w>,
+    pub turns: u64,
+}
+
+/// The verdict on the sequence in a file for the program in another, where a task may make so many local steps, from 1 to
+/// 100,000,000, between the events that change it. The tasks read what the file of inputs says, if one is named.
+#[derive(Clone, Copy)]
+pub struct JudgeWords<'w> {
+    pub file: &'w str,
+    pub inputs: Option<&'w str>,
+    pub sequence: &'w str,
+    pub bound: u64,
+}
+
+/// The replay text of the program in a file and of the sequence in another.
+#[derive(Clone, Copy)]
+pub struct ReplayWords<'w> {
+    pub file: &'w str,
+    pub sequence: &'w str,
+}
+
+/// Why there are no words.
+#[derive(Clone, Copy)]
+pub enum NoWords {
+    /// One of them is no text, so that they are no usage.
+    NotText,
+    /// There was no memory for them.
+    Memory,
+}
+
+/// What the words ask for; none where they are no usage. The usages are `print FILE`, `check FILE`, `replay FILE SEQUENCE`,
+/// `run FILE IN CHOICES TURNS` and `judge FILE IN SEQUENCE STEPS`, where IN is a file's name, or `-` for no inputs, and CHOICES a file's name,
+/// `-` for none, or `seed:` and a number from 0 to 18,446,744,073,709,551,615 without leading zeros. It takes no memory.
+#[tactic(auto, using(crate::proofs::words::Usages::no_usage))]
+pub fn command_of<'w>(words: &'w [String]) -> Option<Command<'w>>
+    ensures { option_map asked_as result ≡ asked_by (map string_bytes words.now) }
+{
+    match words {
+        [command, file] => of_one(command.as_str(), file.as_str()),
+        [command, file, sequence] => { of_two(command.as_str(), file.as_str(), sequence.as_str()) }
+        [command, file, inputs, other, number] => {
+            of_four(
+                command.as_str(),
+                file.as_str(),
+                inputs.as_str(),
+                other.as_str(),
+                number.as_str(),
+            )
+        }
+        [] => None,
+        [_] => None,
+        [_, _, _, _] => None,
+        [_, _, _, _, _, _, ..] => None,
+    }
+}
+
+// A command of one word.
+fn of_one<'w>(command: &str, file: &'w str) -> Option<Command<'w>>
+    ensures { option_map asked_as result ≡ asks_of_one command.now file.now }
+{
+    if command == "print" {
+        Some(Command::Print(file))
+    } else if command == "check" {
+        Some(Command::Check(file))
+    } else {
+        None
+    }
+}
+
+// A command of two words.
+fn of_two<'w>(command: &str, file: &'w str, sequence: &'w str) -> Option<Command<'w>>
+    ensures { option_map asked_as result ≡ asks_of_two command.now file.now sequence.now }
+{
+    if command == "replay" {
+        Some(Command::Replay(ReplayWords { file, sequence }))
+    } else {
+        None
+    }
+}
+
+// A command of four words.
+fn of_four<'w>(
+    command: &str,
+    file: &'w str,
+    inputs: &'w str,
+    other: &'w str,
+    number: &str,
+) -> Option<Command<'w>>
+    ensures { option_map asked_as result ≡ asks_of_four command.now file.now inputs.now other.now number.now }
+{
+    if command == "run" {
+        run_of(file, inputs, other, number)
+    } else if command == "judge" {
+        judge_of(file, inputs, other, number)
+    } else {
+        None
+    }
+}
+
+// A run of the file, where the words behind it are inputs, choices and a number of turns.
+fn run_of<'w>(file: &'w str, inputs: &'w str, choices: &'w str, word: &str) -> Option<Command<'w>>
+    ensures { option_map asked_as result ≡ asks_run file.now inputs.now choices.now word.now }
+{
+    let choices = match choices_of(choices) {
+        Some(choices) => choices,
+        None => return None,
+    };
+    match number_of(word.as_bytes()) {
+        Some(turns) => Some(Command::Run(RunWords {
+            file,
+            inputs: inputs_of(inputs),
+            choices,
+            turns,
+        })),
+        None => None,
+    }
+}
+
+// The judging of the sequence, where the last word is a number of local steps.
+fn judge_of<'w>(
+    file: &'w str,
+    inputs: &'w str,
+    sequence: &'w str,
+    word: &str,
+) -> Option<Command<'w>>
+    ensures { option_map asked_as result ≡ asks_judge file.now inputs.now sequence.now word.now }
+{
+    match number_of(word.as_bytes()) {
+        Some(bound) => Some(Command::Judge(JudgeWords {
+            file,
+            inputs: inputs_of(inputs),
+            sequence,
+            bound,
+        })),
+        None => None,
+    }
+}
+
+// The name of the file of inputs, unless the word stands for none.
+fn inputs_of<'w>(word: &'w str) -> Option<&'w str>
+    ensures { name_as result ≡ inputs_of word.now }
+{
+    if word == "-" { None } else { Some(word) }
+}
+
+// The choices that the word stands for, if it stands for any.
+fn choices_of<'w>(word: &'w str) -> Option<Choices<'w>>
+    ensures { option_map source_as result ≡ choice_source word.now }
+{
+    if word == "-" {
+        return Some(Choices::Empty);
+    }
+    if !word.as_bytes().starts_with(b"seed:") {
+        return Some(Choices::In(word));
+    }
+    match seed_of(&word.as_bytes()[5..]) {
+        Some(seed) => Some(Choices::Seeded(seed)),
+        None => None,
+    }
+}
+
+// The seed that the digits say.
+fn seed_of(digits: &[u8]) -> Option<u64>
+    ensures { result ≡ seed_of digits.now }
+{
+    if is_zero(digits) {
+        return Some(0);
+    }
+    if !begins_well(digits) || digits.len() > 20 {
+        return None;
+    }
+    match value_of(digits) {
+        Some(n) => {
+            if n <= 18_446_744_073_709_551_615 {
+                Some(n as u64)
+            } else {
+                None
+            }
+        }
+        None => None,
+    }
+}
+
+// It is the one digit 0.
+fn is_zero(digits: &[u8]) -> bool
+    ensures { result ≡ is_zero digits.now }
+{
+    match digits {
+        [digit] => *digit == b'0',
+        _ => false,
+    }
+}
+
+// The number from 1 to 100,000,000 that the word gives.
+fn number_of(word: &[u8]) -> Option<u64>
+    ensures { result ≡ number_of word.now }
+{
+    if begins_well(word) && word.len() <= 9 {
+        match value_of(word) {
+            Some(n) => {
+                if n <= 100_000_000 {
+                    Some(n as u64)
+                } else {
+                    None
+                }
+            }
+            None => None,
+        }
+    } else {
+        None
+    }
+}
+
+// The digits do not begin with a zero, and there is one.
+fn begins_well(word: &[u8]) -> bool
+    ensures { result ≡ begins_well word.now }
+{
+    match word {
+        [digit, ..] => *digit != b'0',
+        [] => false,
+    }
+}
+
+// The value of at most twenty decimal digits.
+fn value_of(word: &[u8]) -> Option<u128>
+    requires { length word.now ≤ 20 }
+    ensures { result ≡ digits_value 0 word.now }
+{
+    let mut value = 0u128;
+    for digit in word {
+        if b'0' <= *digit && *digit <= b'9' {
+            value = value * 10 + (*digit - b'0') as u128;
+        } else {
+            return None;
+        }
+    }
+    Some(value)
+}

@@ -1,6 +1,0 @@
-//! As what a file that is no sequence of a program is told.
-#![tactic(auto)]
-
-mod failing;
-
-pub use failing::sequence_failure;

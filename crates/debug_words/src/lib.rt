@@ -1,6 +1,0 @@
-//! The words that the program is called with.
-#![tactic(auto)]
-
-mod command;
-
-pub use command::{Choices, Command, JudgeWords, NoWords, ReplayWords, RunWords, command_of};

@@ -1,2 +1,0 @@
-//! The entries of a task in the numbers are those that its task or task type declares. The crate has lemmas alone.
-#![tactic(auto)]

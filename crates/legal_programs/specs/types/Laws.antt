@@ -1,0 +1,9 @@
+-- The laws of the types of legal programs.
+use Rattle.ada_tree.specs.PlainProgram.{PProgram}
+use Rattle.ada_static_rules.specs.Refusals.{MeetsTypeRules, types_in}
+use Rattle.ada_tree.specs.WellPlaced.{IsWellPlaced}
+use Rattle.legal_programs.specs.types.Typed.{IsSmall, HasTypedTasks}
+
+-- In a well placed program that meets the rules on types, whose enumerations are small, the tasks have types.
+abbrev pub TasksHaveTypes : Type 0
+TasksHaveTypes = (p : PProgram) → MeetsTypeRules p → IsWellPlaced p → IsSmall (types_in p) → HasTypedTasks p

@@ -1,0 +1,1 @@
+//! What is asked of the statements of a body, statement by statement.

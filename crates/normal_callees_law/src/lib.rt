@@ -1,2 +1,0 @@
-//! Callees in the normal form of a program.
-#![tactic(auto)]

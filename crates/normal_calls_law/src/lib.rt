@@ -1,2 +1,0 @@
-//! Calls and aborts in the normal form of a program.
-#![tactic(auto)]

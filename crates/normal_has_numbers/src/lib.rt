@@ -1,9 +1,0 @@
-//! The numbers of a program's normal form, by those of the program. The crate has no functions of its own but the one that carries the law.
-#![tactic(auto)]
-
-ghost use Rattle.normal_has_numbers.specs.Laws.{NormalHasNumbers};
-
-/// Carries the law of the numbers of a normal form: they are those of its definition (`numbered`).
-pub fn laws()
-    ensures numbered { NormalHasNumbers }
-{}

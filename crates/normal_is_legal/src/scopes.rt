@@ -1,0 +1,1 @@
+//! That the scopes of a normal form are alike those of the program.

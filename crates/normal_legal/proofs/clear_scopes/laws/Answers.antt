@@ -1,5 +1,0 @@
-use Rattle.normal_legal.proofs.clear_scopes.Apart.{callees-are-told, original-is-ready}
-use Rattle.normal_legal.proofs.clear_scopes.laws.Goals as goal
-
-pub returns : goal.returns
-returns c = record { told = callees-are-told; ready = original-is-ready }

@@ -1,5 +1,0 @@
-use Rattle.normal_legal.proofs.variable_types.Fields.{ready-legal, marks, families, truths, integers, scalar}
-use Rattle.normal_legal.proofs.variable_types.laws.Goals as goal
-
-pub returns : goal.returns
-returns c = record { legal = ready-legal; marks = marks; families = families; truths = truths; integers = integers; scalar = scalar }

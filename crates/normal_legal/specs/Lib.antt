@@ -1,5 +1,0 @@
-pub mod units
-pub mod variable_types
-pub mod clear_scopes
-pub mod Laws
-pub mod inner

@@ -1,9 +1,0 @@
-//! What the names of a program and of its normal form mean, for what puts statements in their places.
-#![tactic(auto)]
-
-mod array_members;
-mod literals;
-mod meanings;
-
-pub use array_members::{Members, members_of};
-pub use meanings::NormalMeanings;

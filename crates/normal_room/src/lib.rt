@@ -1,2 +1,0 @@
-//! That the calls in a legal program have actuals for formals, and that each task runs the one body of its name.
-#![tactic(auto)]

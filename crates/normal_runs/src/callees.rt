@@ -1,0 +1,1 @@
+//! Callees in the normal form of a program.

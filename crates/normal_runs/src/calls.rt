@@ -1,0 +1,1 @@
+//! Calls and aborts in the normal form of a program.

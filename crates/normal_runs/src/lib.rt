@@ -1,0 +1,10 @@
+//! The law of normal forms: a program and its normal form show the same events and outputs.
+#![tactic(auto)]
+
+pub mod callees;
+pub mod calls;
+pub mod floors;
+pub mod forms;
+pub mod runs;
+pub mod tasks;
+pub mod waits;

@@ -1,0 +1,1 @@
+//! Accepts, selective waits and aborts in the normal form of a program.

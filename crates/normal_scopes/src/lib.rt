@@ -1,2 +1,0 @@
-//! That the scopes of a normal form are alike those of the program.
-#![tactic(auto)]

@@ -1,0 +1,18 @@
+use Rattle.normal_structure.proofs.types.Names.{added_names_are_new}
+use Rattle.normal_structure.proofs.types.Fronts.{first_decls_are_front}
+use Rattle.normal_structure.proofs.types.Normal.{normal_is_rooted, normal_agrees, normal_values, main_objects, body_objects, variable_is_object}
+use Rattle.normal_structure.proofs.types.RangeForms.{range_forms}
+use Rattle.normal_structure.proofs.types.laws.Goals as goal
+
+pub returns : goal.returns
+returns c = record {
+  new = added_names_are_new;
+  front = first_decls_are_front;
+  rooted = normal_is_rooted;
+  agree = normal_agrees;
+  values = normal_values;
+  main = main_objects;
+  bodies = body_objects;
+  variables = variable_is_object;
+  ranges = range_forms;
+}

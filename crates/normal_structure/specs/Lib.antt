@@ -1,0 +1,9 @@
+pub mod entries
+pub mod asked
+pub mod types
+pub mod placed
+pub mod checked
+pub mod typed
+pub mod units
+pub mod numbers
+pub mod once

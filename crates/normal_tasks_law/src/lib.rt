@@ -1,2 +1,0 @@
-//! One task of the normal form of a program beside the program's task.
-#![tactic(auto)]

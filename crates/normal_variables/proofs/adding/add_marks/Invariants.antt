@@ -1,9 +1,0 @@
-use Rattle.std.proofs.Common.{map, take}
-use Rattle.normal_model.specs.Ranges.{marked}
-use Rattle.normal_variables.specs.Track.{IsTrack}
-use Rattle.normal_variables.specs.inner.Adding.{Adds}
-use Rattle.normal_variables.proofs.adding.add_marks.Given as goal
-
--- variables of the marks so far are declared
-abbrev pub invariant-loop-mark : goal.invariant-loop-mark
-invariant-loop-mark l = record { adds : Adds l.lookups l.span (map marked (take l.mark-index l.marks)) l.fn.track l.track; track : IsTrack l.lookups l.track }

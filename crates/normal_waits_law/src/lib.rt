@@ -1,2 +1,0 @@
-//! Accepts, selective waits and aborts in the normal form of a program.
-#![tactic(auto)]

@@ -1,0 +1,5 @@
+use Rattle.normalisable.proofs.variable_types.Fields.{ready-legal, marks, families, truths, integers, scalar}
+use Rattle.normalisable.proofs.variable_types.laws.Goals as goal
+
+pub returns : goal.returns
+returns c = record { legal = ready-legal; marks = marks; families = families; truths = truths; integers = integers; scalar = scalar }

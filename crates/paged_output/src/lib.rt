@@ -1,6 +1,0 @@
-//! Pages: what is written goes to its output through a buffer, in few writes.
-#![tactic(auto)]
-
-mod paging;
-
-pub use paging::Page;

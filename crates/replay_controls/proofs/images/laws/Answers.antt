@@ -1,7 +1,0 @@
-use Rattle.replay_controls.proofs.images.Asking.{images_ask, legal_asking_offers}
-use Rattle.replay_controls.proofs.images.Catching.{images_come_to_ask}
-use Rattle.replay_controls.proofs.images.Leading.{legal_permits_lead}
-use Rattle.replay_controls.proofs.images.laws.Goals as goal
-
-pub returns : goal.returns
-returns c = record { ask = images_ask; come = images_come_to_ask; offers = legal_asking_offers; lead = legal_permits_lead }

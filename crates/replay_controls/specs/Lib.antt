@@ -1,6 +1,0 @@
-pub mod Laws
-pub mod Imitating
-pub mod Asking
-pub mod translated
-pub mod permits
-pub mod images

@@ -1,2 +1,0 @@
-//! Small programs with sequences of events and their replay texts, by computation: in `proofs/`. The crate has no items of its own.
-#![tactic(auto)]

@@ -1,0 +1,32 @@
+-- The laws, from their parts, and the example.
+use Rattle.std.proofs.Common.{codes, refl, arith}
+use Rattle.ada_tree.specs.Lexical.{IsIdentifier}
+use Rattle.ada_static_rules.specs.Refusals.{types_in}
+use Rattle.syn_event.specs.AllNumbers.{all_numbers}
+use Rattle.normal_structure.proofs.placed.Originals.{original_is_placeable}
+use Rattle.normal_structure.proofs.placed.Instance.{example_is_placeable}
+use Rattle.replay_structure.proofs.placed.Carried.{all_scripts_placed}
+use Rattle.replay_is_legal.specs.fits.Laws.{NormalFits, original_set, OriginalReplayIsPlaced, IsMet}
+use Rattle.replay_is_legal.proofs.fits.Whole.{normal_fits}
+
+pub all_normal_fit : NormalFits
+all_normal_fit g h q = normal_fits g h q
+
+pub all_originals_placed : OriginalReplayIsPlaced
+all_originals_placed p events checks placed names room ready small literals =
+    all_scripts_placed p (types_in p) (all_numbers (types_in p) p) events (normal_fits (original_set p) (original_is_placeable p checks placed names room) ready) ready.few_numbers small literals
+
+double : IsIdentifier (codes "DED_S_E")
+double = (refl, omega arith, refl)
+
+pub example_is_met : IsMet
+example_is_met = (
+  example_is_placeable,
+  record {
+    main = ((tt, (tt, tt, double), tt), tt, tt);
+    bodies = (tt, ((λ info i. ((tt, ((λ m s. omega arith), tt), tt), tt, tt)), tt));
+    few_numbers = omega arith;
+    few_tasks = omega arith;
+    few_entries = omega arith;
+  },
+)

@@ -1,5 +1,0 @@
-use Rattle.replay_numbering.proofs.Spoken.{empty-double}
-use Rattle.replay_numbering.proofs.origins.double_name.Goals as goal
-
-pub returns-in-None-clause-id : goal.returns-in-None-clause-id
-returns-in-None-clause-id c = empty-double c.args.names.now c.args.name c.find_double-in-None.result c.in-None.ensures.text c.find_double-in-None.ensures.id

@@ -1,6 +1,0 @@
-use Rattle.std.proofs.Common.{◌≡◌, map, take}
-use Rattle.replay_numbering.specs.Replayed.{lists_from}
-use Rattle.replay_numbering.proofs.owners.lists_of.Given as goal
-
-abbrev pub invariant-loop-info : goal.invariant-loop-info
-invariant-loop-info l = map (λ l. l.items) l.lists.items ≡ lists_from (take l.info-index l.entries) l.count 1

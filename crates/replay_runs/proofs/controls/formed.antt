@@ -1,0 +1,5 @@
+pub mod Asked
+pub mod Units
+pub mod Made
+pub mod Bodies
+pub mod Static

@@ -1,0 +1,4 @@
+pub mod Bounded
+pub mod Objects
+pub mod Declared
+pub mod Joined

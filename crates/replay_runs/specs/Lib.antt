@@ -1,0 +1,5 @@
+pub mod script
+pub mod translation
+pub mod starts
+pub mod found
+pub mod controls

@@ -1,0 +1,9 @@
+pub mod Laws
+pub mod Imitating
+pub mod Asking
+pub mod translated
+pub mod permits
+pub mod images
+pub mod formed
+pub mod replayed
+pub mod indices

@@ -1,0 +1,31 @@
+-- The laws of replays as they are told of programs alone (this project's rule).
+use Rattle.std.specs.Prelude.{◌≡◌, ℤ, List, length, Option}
+use Rattle.event_machine.specs.declared.Event.{Event}
+use Rattle.ada_tree.specs.PlainProgram.{PProgram}
+use Rattle.ada_static_rules.specs.Refusals.{types_in}
+use Rattle.syn_event.specs.Origin.{back_of}
+use Rattle.task_model.specs.Tasks.{Task}
+use Rattle.run_laws.specs.imitation.Shown.{Opened, ShowSame}
+use Rattle.normal_structure.specs.units.Laws.{numbers_made}
+use Rattle.normal_runs.specs.runs.Laws.{opened}
+use Rattle.normal_runs.specs.forms.Normalisable.{numbers_of, made_for}
+use Rattle.normalisable.specs.Laws.{IsLegalOriginal}
+use Rattle.replay_runs.specs.controls.replayed.Replaying.{Replays, starting, AgreeBelow, ReplaysProgram}
+
+-- What replays a sequence of a program replays it of each program of as many tasks that shows the same.
+abbrev pub ReplaysCarryOver : Type 0
+ReplaysCarryOver =
+    (s : List Event) (one two other : Opened Task) (meant : Event → Option Event) → one.program.size ≡ two.program.size → ShowSame one two → Replays s two other meant → Replays s one other meant
+
+-- Of the inputs of a program those of its tasks alone count.
+abbrev pub InputsBelowCount : Type 0
+InputsBelowCount = (p : PProgram) (inputs others : List (List ℤ)) → AgreeBelow (length (numbers_of p).tasks) inputs others → starting p inputs ≡ starting p others
+
+-- the normal form of a program as it starts with these inputs
+abbrev pub starting_form : PProgram → List (List ℤ) → Opened Task
+starting_form p inputs = opened (record { program = made_for p; types = types_in (made_for p); inputs = inputs }) (numbers_made p (types_in p) (numbers_of p))
+
+-- What replays a sequence of the normal form of a legal program, whatever the inputs, replays it of the program.
+abbrev pub LegalFormsCarryOver : Type 0
+LegalFormsCarryOver =
+    (p q : PProgram) (s : List Event) → IsLegalOriginal p → ((inputs : List (List ℤ)) → Replays s (starting_form p inputs) (starting q inputs) (back_of (numbers_of q))) → ReplaysProgram p q s

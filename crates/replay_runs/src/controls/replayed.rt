@@ -1,0 +1,12 @@
+//! That a text replays a sequence of events of a program, as it is told of the two programs alone.
+
+ghost use Rattle.replay_runs.specs.controls.replayed.Laws.{InputsBelowCount, LegalFormsCarryOver, ReplaysCarryOver};
+
+/// Carries what replays are told of. Where a text replays a sequence of one program, and another program shows the same as that one, it
+/// replays the sequence of the other (`carried`). Of the inputs of a program those of its tasks alone count (`inputs`).
+/// So what replays a sequence of the normal form of a legal program replays it of the program, with all inputs (`forms`).
+pub fn laws()
+    ensures carried { ReplaysCarryOver }
+    ensures inputs { InputsBelowCount }
+    ensures forms { LegalFormsCarryOver }
+{}

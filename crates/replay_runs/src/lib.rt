@@ -1,0 +1,8 @@
+//! What the tasks of a replay text do: its controller, its idle task, and each task beside the one of the normal form.
+#![tactic(auto)]
+
+pub mod controls;
+pub mod found;
+pub mod script;
+pub mod starts;
+pub mod translation;

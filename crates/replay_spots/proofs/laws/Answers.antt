@@ -1,9 +1,0 @@
-use Rattle.replay_spots.proofs.Sorted.{spots_are_numbered}
-use Rattle.replay_spots.proofs.Placed.{spots_are_there, spots_have_owners}
-use Rattle.replay_spots.proofs.Ordered.{normal_is_in_order}
-use Rattle.replay_spots.proofs.Looked.{entries_are_found, added_are_found}
-use Rattle.replay_spots.proofs.Standing.{doubles_stand}
-use Rattle.replay_spots.proofs.laws.Goals as goal
-
-pub returns : goal.returns
-returns c = record { numbered = spots_are_numbered; owners = spots_have_owners; there = spots_are_there; order = normal_is_in_order; found = entries_are_found; added = added_are_found; doubles = doubles_stand }

@@ -1,0 +1,2 @@
+pub mod waiting
+pub mod rules

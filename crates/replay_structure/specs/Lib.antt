@@ -1,0 +1,10 @@
+pub mod asked
+pub mod texts
+pub mod placed
+pub mod typed
+pub mod checked
+pub mod scopes
+pub mod declares_once
+pub mod checkable
+pub mod spots
+pub mod bodies

@@ -1,0 +1,13 @@
+//! What a replay text has in common with the normal form that it is made from, part by part.
+#![tactic(auto)]
+
+pub mod asked;
+pub mod bodies;
+pub mod checkable;
+pub mod checked;
+pub mod declares_once;
+pub mod placed;
+pub mod scopes;
+pub mod spots;
+pub mod texts;
+pub mod typed;

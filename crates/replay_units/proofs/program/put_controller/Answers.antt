@@ -1,5 +1,0 @@
-use Rattle.replay_units.proofs.Put.{decl-put}
-use Rattle.replay_units.proofs.program.put_controller.Goals as goal
-
-pub returns : goal.returns
-returns c = decl-put c.args.out.now.items c.push_decl.new.list.items _ c.push_decl.result c.control_declared.result c.push_decl.ensures c.control_declared.ensures

@@ -1,5 +1,0 @@
-use Rattle.replay_units.proofs.Put.{decl-put}
-use Rattle.replay_units.proofs.program.put_idle_body.Goals as goal
-
-pub returns : goal.returns
-returns c = decl-put c.args.out.now.items c.push_decl.new.list.items _ c.push_decl.result c.idle_body.result c.push_decl.ensures c.idle_body.ensures

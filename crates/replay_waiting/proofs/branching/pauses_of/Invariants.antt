@@ -1,8 +1,0 @@
-use Rattle.std.proofs.Common.{◌≡◌, map, take}
-use Rattle.ada_tree.specs.PlainStmt.{plain_alt, alts_of}
-use Rattle.replay_model.specs.Waiting.{pauses_of}
-use Rattle.replay_waiting.specs.Waited.{plain_pause}
-use Rattle.replay_waiting.proofs.branching.pauses_of.Given as goal
-
-abbrev pub invariant-loop-alt : goal.invariant-loop-alt
-invariant-loop-alt l = map plain_pause l.pauses.items ≡ pauses_of (alts_of (map plain_alt (take l.alt-index l.alts)))

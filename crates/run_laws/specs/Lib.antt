@@ -1,0 +1,3 @@
+pub mod replaying
+pub mod imitation
+pub mod telling

@@ -1,5 +1,0 @@
-use Rattle.syn_progress.proofs.Reading.{none_served}
-use Rattle.syn_progress.proofs.progress.suits.Goals as goal
-
-pub returns-in-Z : goal.returns-in-Z
-returns-in-Z c = rw c.in-Z.is (none_served c.args.members.now c.args.served c.requires)

@@ -1,7 +1,0 @@
-//! Progress by events alone: which tasks are closed, which are served and by whom, and which event the earlier events let come next.
-#![tactic(auto)]
-
-mod progress;
-mod task_records;
-
-pub use progress::Progress;

@@ -1,5 +1,0 @@
-use Rattle.std.proofs.Common.{vec_len}
-use Rattle.task_frames.proofs.landing.+raise.Given as goal
-
-abbrev pub decreases-raise : goal.decreases-raise
-decreases-raise l = vec_len l.outer.now

@@ -1,0 +1,5 @@
+pub mod Kept
+pub mod Frames
+pub mod Steps
+pub mod Meetings
+pub mod Carried

@@ -1,0 +1,3 @@
+pub mod translation
+pub mod invariants
+pub mod statements

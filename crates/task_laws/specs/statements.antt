@@ -1,0 +1,4 @@
+pub mod Each
+pub mod Laws
+pub mod Blocks
+pub mod variables

@@ -1,0 +1,6 @@
+//! What stays true of a task as it goes on, and of two tasks of which one is a translation of the other.
+#![tactic(auto)]
+
+pub mod invariants;
+pub mod statements;
+pub mod translation;

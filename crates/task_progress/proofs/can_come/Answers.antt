@@ -1,6 +1,0 @@
-use Rattle.std.proofs.Common.{◌∙◌}
-use Rattle.task_progress.proofs.Runs.{never_refuses}
-use Rattle.task_progress.proofs.can_come.Goals as goal
-
-pub returns-clause-never_refuses : goal.returns-clause-never_refuses
-returns-clause-never_refuses c = λ setup events is feasible. c.admits.ensures ∙ never_refuses c.args.numbers.now c.args.progress.now c.args.e.now setup events is feasible

@@ -1,5 +1,0 @@
-use Rattle.task_progress.proofs.Runs.{known_by_event, events_tell, feasible_is_admitted, judged_is_admitted, are_instances}
-use Rattle.task_progress.proofs.laws.Goals as goal
-
-pub returns : goal.returns
-returns c = record { step_by_step = known_by_event; told = events_tell; admitted = feasible_is_admitted; judged = judged_is_admitted; instance = are_instances }

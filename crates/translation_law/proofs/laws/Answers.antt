@@ -1,6 +1,0 @@
-use Rattle.translation_law.proofs.Carried.{steps_follow, steps_follow_in_loops, raises_follow, values_follow}
-use Rattle.translation_law.proofs.Own.{met_by_itself}
-use Rattle.translation_law.proofs.laws.Goals as goal
-
-pub returns : goal.returns
-returns g c = record { steps = steps_follow; in_loops = steps_follow_in_loops; raises = raises_follow; values = values_follow; met = met_by_itself }

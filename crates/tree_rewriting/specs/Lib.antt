@@ -1,0 +1,2 @@
+pub mod making
+pub mod walking

@@ -1,0 +1,5 @@
+//! What every rewriter of programs needs: the nodes that it adds, and its walk through statements.
+#![tactic(auto)]
+
+pub mod making;
+pub mod walking;
