@@ -7,3 +7,4 @@ pub mod images
 pub mod formed
 pub mod replayed
 pub mod indices
+pub mod meanings

@@ -4,6 +4,7 @@
 pub mod formed;
 pub mod images;
 pub mod indices;
+pub mod meanings;
 pub mod permits;
 pub mod replayed;
 pub mod translated;

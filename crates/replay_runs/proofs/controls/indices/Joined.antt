@@ -1,9 +1,7 @@
 -- The laws of the variables of a normal form's tasks, from their parts.
-use Rattle.std.proofs.Common.{◌≡◌, ℕ, ◌<◌, ℤ, int_le, ◌&&◌, ◌==◌, Bool, true, false, not, nat_lt, List, [], length, is_none, Option, Some, None, Ok, refl, sym, ap, ◌∙◌, subst, arith}
+use Rattle.std.proofs.Common.{◌≡◌, ℕ, ◌<◌, ℤ, int_le, ◌&&◌, ◌==◌, Bool, true, false, not, nat_lt, [], is_none, Option, Some, Ok, refl, sym, ap, subst, arith}
 use Rattle.std.specs.List.{AllByRecursion}
 use Rattle.std.proofs.lemmas.Int.{ints}
-use Rattle.std.proofs.lemmas.Option.{none-some}
-use Rattle.common_lemmas.proofs.Options.{some_same}
 use Rattle.common_lemmas.proofs.Truth.{and_left, and_right}
 use Rattle.ada_tree.specs.declared.naming.NameId.{NameId}
 use Rattle.ada_tree.specs.declared.naming.Span.{Span}
@@ -13,20 +11,19 @@ use Rattle.ada_tree.specs.PlainProgram.{PProgram}
 use Rattle.ada_static_rules.specs.Refusals.{types_in}
 use Rattle.ada_static_rules.specs.StaticValue.{is_integer_value, mark_named}
 use Rattle.ada_static_rules.specs.Declaring.{first_scope, after_decls}
-use Rattle.ada_value.specs.declared.values.Limits.{Limits}
-use Rattle.ada_value.specs.Values.{position_of, lies_in}
-use Rattle.ada_value.specs.Variables.{Object, Variables, object_named, value_there}
+use Rattle.ada_value.specs.Values.{position_of}
+use Rattle.ada_value.specs.Variables.{Object, object_named, value_there}
 use Rattle.ada_value.specs.Evaluating.{name_value}
 use Rattle.task_model.specs.Tasks.{Task, vars_of}
 use Rattle.task_model.specs.Starting.{unit_of}
-use Rattle.task_laws.specs.statements.variables.Held.{DeclaresInner, KeepsValue, IsKept, same_value, fitting_value, MeansKept, no_variable, kept_variable}
+use Rattle.task_laws.specs.statements.variables.Held.{DeclaresInner, KeepsValue, IsKept, same_value, fitting_value, MeansKept, kept_variable}
 use Rattle.task_laws.proofs.statements.Carried.{starts-so}
 use Rattle.task_laws.proofs.statements.variables.Carried.{variables_start, variables_stay, inner_stays, names_mean_kept}
 use Rattle.legal_programs.proofs.rewritten_types.Lookups.{find-all}
 use Rattle.legal_programs.proofs.types.MainScopes.{StandsWhole, last-stands}
 use Rattle.normal_model.specs.Names.{variable_name}
 use Rattle.normal_runs.specs.floors.Preludes.{cell}
-use Rattle.normal_runs.specs.forms.Normalisable.{setting_for, made_for, variables_of}
+use Rattle.normal_runs.specs.forms.Normalisable.{setting_for, made_for}
 use Rattle.normalisable.specs.Laws.{IsLegalOriginal}
 use Rattle.normalisable.proofs.Joined.{legal_is_normal}
 use Rattle.normal_is_legal.proofs.Legal.{normal_meets_types}
@@ -39,7 +36,7 @@ use Rattle.replay_runs.specs.starts.Formals.{form_setting}
 use Rattle.replay_runs.specs.controls.permits.Laws.{IndexIs, index_is}
 use Rattle.replay_runs.specs.controls.indices.Laws.{KeepsUnit, LegalUnitsStart, UnitsStay, IsUnitVariable, LegalVariablesAreAdded, LegalIndicesEvaluate}
 use Rattle.replay_runs.proofs.controls.translated.Tables.{form-small}
-use Rattle.replay_runs.proofs.controls.indices.Bounded.{InInteger, AreInInteger}
+use Rattle.replay_runs.proofs.controls.indices.Bounded.{InInteger}
 use Rattle.replay_runs.proofs.controls.indices.Objects.{IsOfInteger, IfScalar, objects-in}
 use Rattle.replay_runs.proofs.controls.indices.Declared.{bodies-inner}
 

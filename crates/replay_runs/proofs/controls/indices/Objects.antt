@@ -1,5 +1,5 @@
 -- The objects of a legal program start with values whose positions are numbers of INTEGER, and so have their subtypes' bounds.
-use Rattle.std.proofs.Common.{◌≡◌, ℕ, Bool, true, false, ◌==◌, if◌then◌else◌, List, [], ◌∷◌, replicate, map, slice_index_or, Option, Some, None, Result, Ok, Err, pos, refl, sym, ap, ◌∙◌, subst}
+use Rattle.std.proofs.Common.{◌≡◌, Bool, true, false, if◌then◌else◌, List, [], ◌∷◌, replicate, map, slice_index_or, Option, Some, None, Result, Ok, Err, pos, refl, sym, ◌∙◌, subst}
 use Rattle.std.specs.List.{AllByRecursion}
 use Rattle.std.proofs.lemmas.Option.{none-some}
 use Rattle.common_lemmas.proofs.Options.{some_same}
@@ -15,10 +15,10 @@ use Rattle.ada_value.specs.declared.values.Value.TheVariants.{Number}
 use Rattle.ada_value.specs.declared.values.Raised.{Raised}
 use Rattle.ada_value.specs.declared.values.Form.{Form}
 use Rattle.ada_value.specs.declared.values.Limits.{Limits}
-use Rattle.ada_value.specs.Values.{position_of, lies_in, lower_bound, limits_of, limits_named, limits_or}
+use Rattle.ada_value.specs.Values.{position_of, lies_in, lower_bound, limits_of, limits_or}
 use Rattle.ada_value.specs.Variables.{Object, Variables, value_there, form_of_mark}
 use Rattle.ada_value.specs.Evaluating.{evaluated, narrowed, range_of}
-use Rattle.task_model.specs.Starting.{known_range, indicated, marked_form, plain_form, array_form, form_of, value_or_lower, initial, value_count, initials, object_of, with_objects, is_in_types, declared_objects, after_declaration, objects_of}
+use Rattle.task_model.specs.Starting.{known_range, marked_form, plain_form, array_form, form_of, value_or_lower, initial, value_count, initials, object_of, with_objects, is_in_types, declared_objects, after_declaration, objects_of}
 use Rattle.legal_programs.specs.rewritten_types.Agreement.{Keeps}
 use Rattle.legal_programs.specs.types.Typed.{IsSmall}
 use Rattle.legal_programs.proofs.types.TypedValues.{anybody, IsTyped}

@@ -7,7 +7,7 @@ use Rattle.common_lemmas.proofs.Options.{some_same}
 use Rattle.event_machine.specs.declared.Action.{Action}
 use Rattle.event_machine.specs.declared.Event.{Event}
 use Rattle.event_machine.specs.declared.Event.TheVariants.{R, E, S, D, C, T, F, X, B, Z}
-use Rattle.event_machine.specs.Runs.{IsRun, end_of, events_of}
+use Rattle.event_machine.specs.Runs.{IsRun, events_of}
 use Rattle.event_machine.specs.Programs.{numbered}
 use Rattle.event_machine.specs.Tallies.{IsKilledIn}
 use Rattle.syn_event.specs.Origin.{back_of}
@@ -17,7 +17,7 @@ use Rattle.replay_model.specs.ReplayTree.{last_task}
 use Rattle.replay_model.specs.ReplayNumbers.{numbers_replayed}
 use Rattle.run_laws.specs.replaying.Copies.{Spots}
 use Rattle.run_laws.specs.replaying.Rewritings.{Setting}
-use Rattle.run_laws.specs.replaying.Laws.{stands_for, at_entry, back}
+use Rattle.run_laws.specs.replaying.Laws.{at_entry, back}
 use Rattle.replay_structure.specs.spots.Places.{text_spots}
 use Rattle.replay_structure.specs.spots.Laws.{IsInOrder}
 use Rattle.replay_structure.specs.spots.Origins.{HasOrigins, IsPlaced, meant}

@@ -1,5 +1,5 @@
 -- A controlled program replays the sequence of its original, in the words of the two programs alone.
-use Rattle.std.proofs.Common.{ℕ, ◌<◌, List, refl, sym}
+use Rattle.std.proofs.Common.{ℕ, List, refl, sym}
 use Rattle.event_machine.specs.States.{Seat, State}
 use Rattle.event_machine.specs.Programs.{Program, numbered}
 use Rattle.event_machine.specs.Tallies.{tallies}

@@ -1,5 +1,5 @@
 -- The tasks and entries of the events that a program has are its own, or its entry is none.
-use Rattle.std.proofs.Common.{◌≡◌, ℕ, zero, suc, ℤ, ◌+◌, ◌-◌, ◌<◌, ◌≤◌, ◌==◌, ◌&&◌, nat_lt, Bool, true, false, not, cond, List, [], ◌∷◌, length, position, slice_get, Option, Some, None, option_map, unwrap_or, ok_or, Result, Ok, Err, ◌⊎◌, inl, inr, ⊎_elim, refl, sym, ap, ◌∙◌, subst, arith}
+use Rattle.std.proofs.Common.{◌≡◌, ℕ, suc, ℤ, ◌+◌, ◌-◌, ◌<◌, ◌≤◌, ◌==◌, ◌&&◌, nat_lt, Bool, true, false, not, cond, List, [], ◌∷◌, length, position, Option, Some, None, option_map, unwrap_or, ok_or, Result, Ok, Err, ◌⊎◌, inl, inr, ⊎_elim, refl, sym, ap, ◌∙◌, subst, arith}
 use Rattle.std.specs.Ordering.{int_eq}
 use Rattle.std.specs.List.{AllByRecursion, position_or_len}
 use Rattle.std.proofs.lemmas.Bool.{cases_lt, ltb-true, eqb-true}
@@ -14,7 +14,7 @@ use Rattle.event_machine.specs.declared.Event.TheVariants.{R, E, S, D, C, T, F, 
 use Rattle.event_machine.specs.declared.Standing.{Standing}
 use Rattle.event_machine.specs.declared.Standing.TheVariants.{Live, Waiting, Queued, Served, Completed, Killed}
 use Rattle.event_machine.specs.declared.Choice.{Choice}
-use Rattle.event_machine.specs.Offers.{Offer, Calls, calls_in, waits_with, same_member, is_any_form, is_conditional, is_timed, is_finish, is_end, is_else, is_delay}
+use Rattle.event_machine.specs.Offers.{Offer, calls_in, waits_with, same_member, is_any_form, is_conditional, is_timed, is_finish, is_end, is_else, is_delay}
 use Rattle.event_machine.specs.States.{Seat, State, is_live, is_closed, is_completed}
 use Rattle.event_machine.specs.Lawful.{IsLawful}
 use Rattle.event_machine.specs.Programs.{Program, numbered, IsOpening}
@@ -35,7 +35,7 @@ use Rattle.ada_value.specs.Variables.{Variables}
 use Rattle.ada_value.specs.Evaluating.{evaluated}
 use Rattle.syn_event.specs.declared.numbering.EntryInfo.{EntryInfo}
 use Rattle.syn_event.specs.declared.numbering.TaskInfo.{TaskInfo}
-use Rattle.syn_event.specs.Numbering.{Numbering, entry_at, entry_named, task_named}
+use Rattle.syn_event.specs.Numbering.{Numbering, entry_at, task_named}
 use Rattle.task_laws.proofs.invariants.Variables.{ok_path, err_ok, chain}
 use Rattle.task_model.specs.Setting.{Setting, member_named, is_member, task_meant, callee_task, entry_of, member_index, entry_parameters, Lists, lists_of}
 use Rattle.task_model.specs.Frames.{Around, OwnBody, Block, Handling, Loop, Opened}

@@ -1,5 +1,5 @@
 -- A program starts the same with inputs that are the same for its tasks.
-use Rattle.std.proofs.Common.{◌≡◌, ℕ, zero, suc, ◌<◌, ℤ, false, List, [], ◌∷◌, ◌++◌, length, slice_index_or, refl, ap, ◌∙◌, arith}
+use Rattle.std.proofs.Common.{◌≡◌, ℕ, zero, suc, ℤ, false, List, [], ◌∷◌, ◌++◌, length, slice_index_or, refl, ap, ◌∙◌, arith}
 use Rattle.event_machine.specs.States.{live, completed}
 use Rattle.ada_tree.specs.PlainProgram.{PProgram}
 use Rattle.ada_static_rules.specs.Refusals.{types_in}
@@ -10,7 +10,7 @@ use Rattle.task_model.specs.Machine.{ProgramWithInputs, Tasks, setting_of, first
 use Rattle.task_model.specs.Starting.{unit_of, started_in}
 use Rattle.run_laws.specs.imitation.Shown.{Opened}
 use Rattle.normal_runs.specs.forms.Normalisable.{numbers_of}
-use Rattle.replay_runs.specs.controls.replayed.Replaying.{starting, AgreeBelow}
+use Rattle.replay_runs.specs.controls.replayed.Replaying.{AgreeBelow}
 use Rattle.replay_runs.specs.controls.replayed.Laws.{InputsBelowCount}
 
 module _ (p : PProgram) (inputs others : List (List ℤ)) where

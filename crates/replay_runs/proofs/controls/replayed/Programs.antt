@@ -1,6 +1,5 @@
 -- What replays a sequence of the normal form of a legal program replays it of the program.
-use Rattle.std.proofs.Common.{◌≡◌, ℕ, ℤ, List, length, sym, ◌∙◌, subst}
-use Rattle.event_machine.specs.declared.Event.{Event}
+use Rattle.std.proofs.Common.{◌≡◌, ℤ, List, length, sym, ◌∙◌, subst}
 use Rattle.ada_tree.specs.PlainProgram.{PProgram}
 use Rattle.ada_static_rules.specs.Refusals.{types_in}
 use Rattle.syn_event.specs.Origin.{back_of}
@@ -10,7 +9,7 @@ use Rattle.normal_runs.specs.forms.Normalisable.{numbers_of, made_for}
 use Rattle.normal_structure.specs.units.Laws.{numbers_made}
 use Rattle.normalisable.specs.Laws.{IsLegalOriginal}
 use Rattle.normalisable.proofs.Joined.{legal_is_normal, legal_shows_same}
-use Rattle.replay_runs.specs.controls.replayed.Replaying.{Replays, starting, AgreeBelow}
+use Rattle.replay_runs.specs.controls.replayed.Replaying.{Replays, starting}
 use Rattle.replay_runs.specs.controls.replayed.Laws.{starting_form, LegalFormsCarryOver}
 use Rattle.replay_runs.proofs.controls.replayed.Carried.{replays_carry_over}
 use Rattle.replay_runs.proofs.controls.replayed.Inputs.{inputs_below_count}

@@ -1,23 +1,21 @@
 -- A controlled text replays the sequence of its original, by the text's own numbers.
-use Rattle.std.proofs.Common.{◌≡◌, ℕ, suc, ◌+◌, ◌<◌, List, [], ◌∷◌, ◌++◌, length, slice_index_or, Option, inl, inr, refl, sym, ap, ap₂, ◌∙◌, subst, length-append, arith}
+use Rattle.std.proofs.Common.{◌≡◌, ℕ, suc, ◌+◌, ◌<◌, List, [], ◌∷◌, ◌++◌, length, Option, refl, sym, ap, ap₂, ◌∙◌, subst, length-append, arith}
 use Rattle.std.specs.List.{AllByRecursion, cons_option, filter_map}
 use Rattle.common_lemmas.proofs.Lists.{all_back}
 use Rattle.event_machine.specs.declared.Action.{Action}
 use Rattle.event_machine.specs.declared.Event.{Event}
 use Rattle.event_machine.specs.declared.Event.TheVariants.{R, E, S, D, C, T, F, X, B, Z}
-use Rattle.event_machine.specs.States.{Seat, completed}
+use Rattle.event_machine.specs.States.{Seat}
 use Rattle.event_machine.specs.Runs.{IsRun, events_of}
-use Rattle.event_machine.specs.Programs.{Program, numbered, IsOpening}
+use Rattle.event_machine.specs.Programs.{numbered, IsOpening}
 use Rattle.event_machine.proofs.Appends.{run_append, events_append}
 use Rattle.syn_event.specs.Numbering.{Numbering, owner_of}
 use Rattle.syn_event.specs.Origin.{back_of}
 use Rattle.task_model.specs.Setting as task
 use Rattle.task_model.specs.Tasks.{Task}
-use Rattle.task_model.specs.TaskOps.{task_ops}
-use Rattle.task_model.specs.Machine.{ProgramWithInputs, setting_of, first_tasks}
-use Rattle.task_model.specs.Laws.{program_in}
+use Rattle.task_model.specs.Machine.{ProgramWithInputs, setting_of}
 use Rattle.task_model.proofs.Following.{opens}
-use Rattle.task_laws.proofs.invariants.Beginning.{first, length_first, first_is}
+use Rattle.task_laws.proofs.invariants.Beginning.{length_first, first_is}
 use Rattle.run_laws.specs.imitation.Shown.{Opened, end_from}
 use Rattle.normal_runs.specs.runs.Laws.{opened}
 use Rattle.replay_model.specs.ReplayTree.{last_task}

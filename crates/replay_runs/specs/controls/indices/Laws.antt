@@ -1,5 +1,5 @@
 -- What the variables of a normal form's tasks hold: values whose positions are numbers of INTEGER (3.5.4, 3.5.5; this project's rule).
-use Rattle.std.specs.Prelude.{◌≡◌, ℕ, ◌<◌, ℤ, false, List, [], length, Option, Some, None}
+use Rattle.std.specs.Prelude.{◌≡◌, ℕ, ◌<◌, ℤ, false, List, [], length, Some, None}
 use Rattle.ada_tree.specs.declared.naming.NameId.{NameId}
 use Rattle.ada_tree.specs.declared.naming.Span.{Span}
 use Rattle.ada_tree.specs.TypeTable.{TypeTable}
@@ -16,7 +16,7 @@ use Rattle.normal_model.specs.Names.{variable_name}
 use Rattle.normal_runs.specs.forms.Normalisable.{numbers_of, setting_for, variables_of}
 use Rattle.normalisable.specs.Laws.{IsLegalOriginal}
 use Rattle.replay_is_legal.specs.names.form_units.Inner.{inner_name}
-use Rattle.replay_runs.specs.starts.Laws.{form_in, start_before}
+use Rattle.replay_runs.specs.starts.Laws.{start_before}
 use Rattle.replay_runs.specs.starts.Formals.{form_setting}
 use Rattle.replay_runs.specs.controls.permits.Laws.{IndexIs}
 

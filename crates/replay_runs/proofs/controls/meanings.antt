@@ -1,0 +1,11 @@
+pub mod Numbered
+pub mod Pairs
+pub mod Parts
+pub mod Aborts
+pub mod Ends
+pub mod Serving
+pub mod Accepts
+pub mod Indices
+pub mod Accepting
+pub mod Called
+pub mod Calls

@@ -1,0 +1,9 @@
+use Rattle.replay_runs.proofs.controls.meanings.Pairs.{pairs_come, legal_pairs_step, tasks_stay}
+use Rattle.replay_runs.proofs.controls.meanings.Aborts.{aborts}
+use Rattle.replay_runs.proofs.controls.meanings.Accepting.{accepts}
+use Rattle.replay_runs.proofs.controls.meanings.Calls.{calls}
+use Rattle.replay_runs.proofs.controls.meanings.Ends.{ends}
+use Rattle.replay_runs.proofs.controls.meanings.laws.Goals as goal
+
+pub returns : goal.returns
+returns c = record { comes = pairs_come; steps = legal_pairs_step; stays = tasks_stay; aborts = aborts; calls = calls; accepts = accepts; ends = ends }

@@ -1,0 +1,4 @@
+pub mod Pairs
+pub mod Permits
+pub mod Copies
+pub mod Laws
