@@ -9,3 +9,8 @@ pub mod Indices
 pub mod Accepting
 pub mod Called
 pub mod Calls
+pub mod Choosing
+pub mod Judging
+pub mod Taking
+pub mod Waits
+pub mod Permitted

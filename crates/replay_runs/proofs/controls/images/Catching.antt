@@ -25,7 +25,7 @@ use Rattle.replay_runs.specs.controls.images.Laws.{IsSynchronizing, plain_entry_
 use Rattle.replay_runs.proofs.controls.images.Asking.{images_ask}
 
 -- no statement is left
-abbrev is_over : PStmts → Bool
+abbrev pub is_over : PStmts → Bool
 is_over no_stmt = true
 is_over (stmt_then s r) = false
 
@@ -33,7 +33,7 @@ abbrev over : Control → Bool
 over c = is_over c.top.rest
 
 -- a statement at which a task of a normal form has no local step synchronizes
-synchronizes : (s : PStmt) (loops : Loops) (n : ℕ) (g : _) (i : List ℤ) (w : List ℕ) (r : PStmts) (p : Around) (o : List PFrame) (V : Variables) → can_step (task_in g n i w (control (stmt_then s r) p o V)) ≡ false → NamesTasksSimply loops s → IsSynchronizing s
+pub synchronizes : (s : PStmt) (loops : Loops) (n : ℕ) (g : _) (i : List ℤ) (w : List ℕ) (r : PStmts) (p : Around) (o : List PFrame) (V : Variables) → can_step (task_in g n i w (control (stmt_then s r) p o V)) ≡ false → NamesTasksSimply loops s → IsSynchronizing s
 synchronizes (SCall c s) loops n g i w r p o V e h = plain_entry_call c s
 synchronizes (SConditional c l m s) loops n g i w r p o V e h = conditional_call c l m s
 synchronizes (STimed c l d m s) loops n g i w r p o V e h = timed_call c l d m s

@@ -80,7 +80,7 @@ module _ (far : Spots) (p : PProgram) (events : List Event) (h : IsLegalOriginal
   pub named-there : (name : NameId) (e : ℕ) → entry_named (form_in p).numbers t name ≡ Some e → entry_of (text_setting p events).numbers t name ≡ original e
   named-there name e named = ap (λ o. unwrap_or o 0) (entries_are_found far (form_in p) order t name e named)
 
-  limits-there : (name : NameId) (e : ℕ) → entry_named (form_in p).numbers t name ≡ Some e → family_limits (entry_at (text_setting p events).numbers (original e)) ≡ family_limits (entry_at (form_in p).numbers e)
+  pub limits-there : (name : NameId) (e : ℕ) → entry_named (form_in p).numbers t name ≡ Some e → family_limits (entry_at (text_setting p events).numbers (original e)) ≡ family_limits (entry_at (form_in p).numbers e)
   limits-there name e named =
       let here = entry-there (form_in p).numbers t name e named in
       let there = (spots_are_there far (form_in p) order).original e here.0 here.1 in

@@ -61,7 +61,7 @@ either true = refl
 either false = refl
 
 -- the permit is for the begin of a rendezvous at this member
-abbrev starts : ℕ → ℤ → Permit → Bool
+abbrev pub starts : ℕ → ℤ → Permit → Bool
 starts e z permit = (kind permit == 1) && (arg permit == e) && int_eq (index permit) z
 
 -- which permit a wait for this member alone is for
@@ -77,7 +77,7 @@ wanted t e z ToEnd = and_false (not (t == 0))
 wanted t e z (ToAbort v) = refl
 wanted t e z ToClose = either (t == 0)
 
-to-meet : (e : ℕ) (z : ℤ) (permit : Permit) → starts e z permit ≡ true → ToMeet e z ≡ permit
+pub to-meet : (e : ℕ) (z : ℤ) (permit : Permit) → starts e z permit ≡ true → ToMeet e z ≡ permit
 to-meet e z (ToMeet f j) c = let same = same_member-true f e j z c in ap (λ g. ToMeet g z) (sym same.0) ∙ ap (ToMeet f) (sym same.1)
 to-meet e z ToFinish c = absurd (true≢false (sym c))
 to-meet e z ToElse c = absurd (true≢false (sym c))
