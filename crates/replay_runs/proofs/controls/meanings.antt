@@ -14,3 +14,6 @@ pub mod Judging
 pub mod Taking
 pub mod Waits
 pub mod Permitted
+pub mod Imitating
+pub mod Naming
+pub mod Formed

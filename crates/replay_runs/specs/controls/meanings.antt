@@ -2,3 +2,4 @@ pub mod Pairs
 pub mod Permits
 pub mod Copies
 pub mod Laws
+pub mod Settings

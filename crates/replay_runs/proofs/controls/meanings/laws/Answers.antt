@@ -5,7 +5,21 @@ use Rattle.replay_runs.proofs.controls.meanings.Calls.{calls}
 use Rattle.replay_runs.proofs.controls.meanings.Waits.{waits}
 use Rattle.replay_runs.proofs.controls.meanings.Ends.{ends}
 use Rattle.replay_runs.proofs.controls.meanings.Permitted.{permits_hold}
+use Rattle.replay_runs.proofs.controls.meanings.Imitating.{legal_imitates}
+use Rattle.replay_runs.proofs.controls.meanings.Formed.{legal_form_laws}
 use Rattle.replay_runs.proofs.controls.meanings.laws.Goals as goal
 
 pub returns : goal.returns
-returns c = record { comes = pairs_come; steps = legal_pairs_step; stays = tasks_stay; aborts = aborts; calls = calls; accepts = accepts; waits = waits; ends = ends; permits = permits_hold }
+returns c = record {
+  comes = pairs_come;
+  steps = legal_pairs_step;
+  stays = tasks_stay;
+  aborts = aborts;
+  calls = calls;
+  accepts = accepts;
+  waits = waits;
+  ends = ends;
+  permits = permits_hold;
+  imitates = legal_imitates;
+  formed = legal_form_laws;
+}
