@@ -1,5 +1,5 @@
--- That one program shows a sequence of events of another, as far as it is feasible there, and nothing else, whatever the inputs and the schedule
--- (this project's rule).
+-- That one program shows nothing but a sequence of events of another, in order, can always go on to all that is feasible there, and where it ends has
+-- shown this, whatever the inputs and the schedule (this project's rule).
 use Rattle.std.specs.Prelude.{◌≡◌, ℕ, ℤ, ◌<◌, true, List, [], ◌∷◌, ◌++◌, length, slice_index_or, Option}
 use Rattle.std.specs.List.{filter_map}
 use Rattle.event_machine.specs.declared.Action.{Action}
@@ -63,7 +63,7 @@ module _ {L K : Type 0} (s : List Event) (one : Opened L) (other : Opened K) (me
 
   -- A run shows a prefix of the sequence behind which its next event is not feasible. The first program has a quiet run with exactly these events,
   -- and each of its tasks that is not killed in them has the output that it has in every such run.
-  pub record ShowsAll (actions : List Action) : Type 0 where
+  pub record ShowsAllFeasible (actions : List Action) : Type 0 where
     pub rest : List Event
     pub prefix : shown actions ++ rest ≡ s
     pub longest : (e : Event) (more : List Event) → rest ≡ e ∷ more → IsFeasible one (shown actions ++ e ∷ []) → ⊥
@@ -79,7 +79,7 @@ module _ {L K : Type 0} (s : List Event) (one : Opened L) (other : Opened K) (me
     pub shows : (actions : List Action) → IsRun (numbered other.program) other.at actions → ShowsPrefix actions
     pub goes_on : (actions : List Action) → IsRun (numbered other.program) other.at actions → (events tail : List Event) → shown actions ++ (events ++ tail) ≡ s →
         IsFeasible one (shown actions ++ events) → GoesOnWith actions events
-    pub ends : (actions : List Action) → IsRun (numbered other.program) other.at actions → IsOver other actions → ShowsAll actions
+    pub ends : (actions : List Action) → IsRun (numbered other.program) other.at actions → IsOver other actions → ShowsAllFeasible actions
 
 -- ---- programs with inputs
 
