@@ -35,6 +35,22 @@ module _ (p : PProgram) where
   pub short_by : (n : ℕ) → n ≡ min (length (program_text p)) last_count → n ≤ text_limit → writes (program_text p) 0 ≡ printed_outcome p
   short_by n counted less = short_text (lt_false text_limit (length (program_text p)) (omega (arith, counted, less)))
 
+  -- the same by the length itself
+  pub long_by_length : text_limit < length (program_text p) → refuses (LongText text_limit) ≡ printed_outcome p
+  long_by_length more = long_text (lt_true text_limit (length (program_text p)) more)
+
+  pub short_by_length : length (program_text p) ≤ text_limit → writes (program_text p) 0 ≡ printed_outcome p
+  short_by_length less = short_text (lt_false text_limit (length (program_text p)) less)
+
+-- ---- the number of events
+
+module _ (p : PProgram) (types : TypeTable) (numbers : Numbering) (events : List Event) where
+  pub outcome_beyond : most_events < length events → replay_outcome (replayed p types numbers events) ≡ refuses (TooMany Events most_events)
+  outcome_beyond more = ap (λ (b : Bool). replay_outcome (if b then Err most_events else Ok (replay_tree p types numbers events))) (lt_true most_events (length events) more)
+
+  pub outcome_within : length events ≤ most_events → replay_outcome (replayed p types numbers events) ≡ printed_outcome (replay_tree p types numbers events)
+  outcome_within few = ap (λ (b : Bool). replay_outcome (if b then Err most_events else Ok (replay_tree p types numbers events))) (lt_false most_events (length events) few)
+
 -- ---- the error of an answer
 
 abbrev error_or : {A : Type 0} → Result A XformError → XformError → XformError

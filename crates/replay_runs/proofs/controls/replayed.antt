@@ -6,3 +6,4 @@ pub mod Settings
 pub mod Events
 pub mod Backs
 pub mod Text
+pub mod Whole

@@ -9,7 +9,11 @@ use Rattle.run_laws.specs.imitation.Shown.{Opened, ShowSame}
 use Rattle.normal_structure.specs.units.Laws.{numbers_made}
 use Rattle.normal_runs.specs.runs.Laws.{opened}
 use Rattle.normal_runs.specs.forms.Normalisable.{numbers_of, made_for}
+use Rattle.normal_structure.specs.placed.Example.{passing}
 use Rattle.normalisable.specs.Laws.{IsLegalOriginal}
+use Rattle.replay_structure.specs.checked.Example.{example_events}
+use Rattle.replay_is_legal.specs.Laws.{text_for}
+use Rattle.replay_is_legal.specs.known.Laws.{AreKnown}
 use Rattle.replay_runs.specs.controls.replayed.Replaying.{Replays, starting, AgreeBelow, ReplaysProgram}
 
 -- What replays a sequence of a program replays it of each program of as many tasks that shows the same.
@@ -29,3 +33,11 @@ starting_form p inputs = opened (record { program = made_for p; types = types_in
 abbrev pub LegalFormsCarryOver : Type 0
 LegalFormsCarryOver =
     (p q : PProgram) (s : List Event) → IsLegalOriginal p → ((inputs : List (List ℤ)) → Replays s (starting_form p inputs) (starting q inputs) (back_of (numbers_of q))) → ReplaysProgram p q s
+
+-- So the replay text of a legal program and of events that a file of it can hold replays them.
+abbrev pub LegalTextsReplay : Type 0
+LegalTextsReplay = (p : PProgram) (s : List Event) → IsLegalOriginal p → AreKnown p s → ReplaysProgram p (text_for p s) s
+
+-- Nothing of this is empty: the replay text of a program with a task and a call replays a whole run of it.
+abbrev pub TextIsMet : Type 0
+TextIsMet = ReplaysProgram passing (text_for passing example_events) example_events

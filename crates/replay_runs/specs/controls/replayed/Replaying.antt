@@ -63,7 +63,7 @@ module _ {L K : Type 0} (s : List Event) (one : Opened L) (other : Opened K) (me
 
   -- A run shows a prefix of the sequence behind which its next event is not feasible. The first program has a quiet run with exactly these events,
   -- and each of its tasks that is not killed in them has the output that it has in every such run.
-  pub record ShowsAll (actions : List Action) : Type 0 where
+  pub record ShowsAllFeasible (actions : List Action) : Type 0 where
     pub rest : List Event
     pub prefix : shown actions ++ rest ≡ s
     pub longest : (e : Event) (more : List Event) → rest ≡ e ∷ more → IsFeasible one (shown actions ++ e ∷ []) → ⊥
@@ -79,7 +79,7 @@ module _ {L K : Type 0} (s : List Event) (one : Opened L) (other : Opened K) (me
     pub shows : (actions : List Action) → IsRun (numbered other.program) other.at actions → ShowsPrefix actions
     pub goes_on : (actions : List Action) → IsRun (numbered other.program) other.at actions → (events tail : List Event) → shown actions ++ (events ++ tail) ≡ s →
         IsFeasible one (shown actions ++ events) → GoesOnWith actions events
-    pub ends : (actions : List Action) → IsRun (numbered other.program) other.at actions → IsOver other actions → ShowsAll actions
+    pub ends : (actions : List Action) → IsRun (numbered other.program) other.at actions → IsOver other actions → ShowsAllFeasible actions
 
 -- ---- programs with inputs
 
