@@ -6,3 +6,6 @@ pub mod Settings
 pub mod Events
 pub mod Backs
 pub mod Text
+pub mod Originals
+pub mod Origins
+pub mod Callers
