@@ -6,4 +6,9 @@ pub mod Settings
 pub mod Events
 pub mod Backs
 pub mod Text
+pub mod Originals
+pub mod Origins
+pub mod Callers
+pub mod Numbers
+pub mod Opened
 pub mod Whole
