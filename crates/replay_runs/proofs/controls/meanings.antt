@@ -16,4 +16,5 @@ pub mod Waits
 pub mod Permitted
 pub mod Imitating
 pub mod Naming
+pub mod Reading
 pub mod Formed

@@ -1,5 +1,5 @@
 -- The normal form of a program as the law of replaying takes it: its tasks, entries and opening, and what is to be known of them (this project's rule).
-use Rattle.std.specs.Prelude.{◌≡◌, ℕ, ℤ, ◌<◌, true, false, List}
+use Rattle.std.specs.Prelude.{◌≡◌, ℕ, ℤ, ◌<◌, true, false, List, []}
 use Rattle.event_machine.specs.declared.Standing.TheVariants.{Live}
 use Rattle.event_machine.specs.declared.Event.{Event}
 use Rattle.event_machine.specs.Offers.{calls_in, is_any_form}
@@ -16,6 +16,7 @@ use Rattle.task_model.specs.Stands.{offer_of}
 use Rattle.task_model.specs.TaskOps.{task_ops}
 use Rattle.task_model.specs.Machine.{ProgramWithInputs, opening_of}
 use Rattle.task_model.specs.Laws.{IsProper, program_in}
+use Rattle.normal_structure.specs.placed.Example.{passing}
 use Rattle.normal_runs.specs.runs.Laws.{IsCalm}
 use Rattle.normalisable.specs.Laws.{IsLegalOriginal}
 use Rattle.run_laws.specs.replaying.Copies.{Spots, IsNumbered, HasOwners}
@@ -64,9 +65,21 @@ KeepsReading p inputs =
     (moves : List Move) → AreMoves (form_program p inputs) (world_of (form_opening p inputs)) moves → (t : ℕ) → t < (form_program p inputs).size →
     ((world_after (form_program p inputs) (world_of (form_opening p inputs)) moves).tasks t).local.setting ≡ form_setting p
 
--- Of a legal program all is known of the normal form where this is known, and where no two numbers that no text has are one.
+-- So it is of every program, whatever the inputs.
+abbrev pub FormsKeepReading : Type 0
+FormsKeepReading = (p : PProgram) (inputs : List (List ℤ)) → KeepsReading p inputs
+
+-- Of a legal program all is known of the normal form, whatever numbers `far` has for what no text has, where no two of them are one.
 abbrev pub LegalFormLaws : Type 0
-LegalFormLaws = (far : Spots) (p : PProgram) (inputs : List (List ℤ)) → IsNumbered far → IsLegalOriginal p → KeepsReading p inputs → FormLaws far p inputs
+LegalFormLaws = (far : Spots) (p : PProgram) (inputs : List (List ℤ)) → IsNumbered far → IsLegalOriginal p → FormLaws far p inputs
+
+-- There are such numbers, and with them all is known of the normal form of each legal program, whatever the inputs.
+abbrev pub LegalFormsAreKnown : Type 0
+LegalFormsAreKnown = (far : Spots) × IsNumbered far × ((p : PProgram) (inputs : List (List ℤ)) → IsLegalOriginal p → FormLaws far p inputs)
+
+-- A program is a legal one, and of its normal form all is known.
+abbrev pub IsMet : Type 0
+IsMet = IsLegalOriginal passing × ((far : Spots) × FormLaws far passing [])
 
 -- The normal form with a sequence of its events, as the law takes it.
 abbrev pub form_replayed : (far : Spots) (p : PProgram) (events : List Event) (inputs : List (List ℤ)) → FormLaws far p inputs → Setting
