@@ -1,5 +1,5 @@
 -- The replay text of a legal program as it starts, by the numbers that the rewriting gives it.
-use Rattle.std.proofs.Common.{◌≡◌, ℕ, suc, ◌+◌, ℤ, List, length, ap, sym, ◌∙◌, length-append, arith}
+use Rattle.std.proofs.Common.{◌≡◌, suc, ◌+◌, ℤ, List, length, ap, sym, ◌∙◌, length-append, arith}
 use Rattle.event_machine.specs.declared.Event.{Event}
 use Rattle.ada_tree.specs.PlainProgram.{PProgram}
 use Rattle.ada_static_rules.specs.Refusals.{types_in}

@@ -1,6 +1,5 @@
 -- The replay text of a legal program opens as the law of replaying asks, and so the law controls it.
-use Rattle.std.proofs.Common.{◌≡◌, ℕ, zero, suc, ℤ, ◌<◌, ◌≤◌, List, [], length, refl, sym, ap, ◌∙◌, subst, arith}
-use Rattle.event_machine.specs.declared.Standing.TheVariants.{Live, Completed}
+use Rattle.std.proofs.Common.{◌≡◌, ℕ, zero, suc, ℤ, ◌<◌, ◌≤◌, List, length, refl, sym, ap, ◌∙◌, subst, arith}
 use Rattle.event_machine.specs.declared.Event.{Event}
 use Rattle.event_machine.specs.States.{Seat, State}
 use Rattle.event_machine.specs.Programs.{Program, IsOpening}
@@ -8,12 +7,12 @@ use Rattle.event_machine.specs.progress.Known.{known_at_start}
 use Rattle.ada_tree.specs.PlainProgram.{PProgram}
 use Rattle.syn_event.specs.Numbering.{owner_of}
 use Rattle.task_model.specs.Tasks.{Task}
-use Rattle.task_model.specs.Stands.{can_step, steps_at, stepped}
+use Rattle.task_model.specs.Stands.{steps_at, stepped}
 use Rattle.task_model.specs.Starting.{started}
 use Rattle.task_model.specs.TaskOps.{task_ops}
 use Rattle.task_model.specs.Machine.{opening_of, rules_of}
 use Rattle.task_model.proofs.Following.{opens}
-use Rattle.task_laws.proofs.invariants.Beginning.{length_first, first_is}
+use Rattle.task_laws.proofs.invariants.Beginning.{first_is}
 use Rattle.task_laws.proofs.statements.Blocks.{tasks_start_outside}
 use Rattle.normal_runs.specs.floors.Preludes as prelude
 use Rattle.normal_runs.specs.forms.Normalisable.{numbers_of}
@@ -22,14 +21,13 @@ use Rattle.normalisable.proofs.statements.Normal.{legal_tasks_name_simply}
 use Rattle.run_laws.specs.imitation.Shown as shown
 use Rattle.run_laws.specs.replaying.Permits.{Op}
 use Rattle.run_laws.specs.replaying.Scripts.{script}
-use Rattle.run_laws.specs.replaying.Copies.{Spots, Copy, Based, Controlling, Idling}
+use Rattle.run_laws.specs.replaying.Copies.{Spots, Copy, Based, Controlling}
 use Rattle.run_laws.specs.replaying.Rewritings.{Setting, ReachesIn, Reaches, Imitates, OpensSo, left}
 use Rattle.run_laws.specs.replaying.Laws.{Controlled}
 use Rattle.run_laws.specs.telling.ByEvents.{by_events}
 use Rattle.run_laws.proofs.replaying.Tracking.{replays}
 use Rattle.run_laws.proofs.replaying.Continuing.{goes_far}
 use Rattle.run_laws.proofs.replaying.Quiet.{ends_whole}
-use Rattle.replay_model.specs.ReplayTree.{last_task}
 use Rattle.replay_is_legal.specs.Laws.{text_for}
 use Rattle.replay_is_legal.specs.known.Laws.{AreKnown}
 use Rattle.replay_runs.specs.starts.Laws.{form_in}
@@ -75,6 +73,7 @@ module _ (x : Setting) (Meets : Task → Copy x.L → Type 0) where
   comes-on m κ κ' (prelude.reaches_here _) r = r
   comes-on m κ κ' (prelude.reaches_by _ _ can silent more) r = let q = comes-on m (stepped κ) κ' more r in (suc q.0, (ap steps_at can, silent, q.1))
 
+  -- after so many steps of the one it meets the state
   leads-in : (m : Copy x.L) (i : ℕ) (κ κ' : Task) → LeadsTo i κ κ' → Meets κ' m → ReachesIn x task_ops (λ u. u.output) Meets i κ m
   leads-in m zero κ κ' e meets = subst (λ z. Meets z m) (sym e) meets
   leads-in m (suc i) κ κ' l meets = (l.0, l.1, leads-in m i (stepped κ) κ' l.2 meets)
@@ -101,12 +100,13 @@ module _ (far : Spots) (p : PProgram) (events : List Event) (inputs : List (List
   abbrev text : shown.Opened Task
   text = text_opened p events inputs
 
-  -- a task of the text, and one of the normal form, as it starts
+  -- a task of the text as it starts
   text-first : (t : ℕ) → t < suc (suc size) → (text.at.seats t).local ≡ started (text_setting p events) inputs t
   text-first t l =
       ap (λ (s : Seat Task). s.local) (first_is (text_setup p events inputs) (text_numbers p) (length (text_numbers p).tasks) t
       (let a = text-tasks p in let b = form-tasks p inputs in omega (arith, a, b, l)))
 
+  -- a task of the normal form as it starts
   form-first : (t : ℕ) → t < size → ((form_opening p inputs).seats t).local ≡ started (form_setting p) inputs t
   form-first t l = ap (λ (s : Seat Task). s.local) (first_is (form_setup p inputs) (form_in p).numbers (length (form_in p).numbers.tasks) t (let b = form-tasks p inputs in omega (arith, b, l)))
 
@@ -146,6 +146,7 @@ module _ (far : Spots) (p : PProgram) (events : List Event) (inputs : List (List
       ap (λ n. script (by_events (owner_of (numbers_of p)) n) (owner_of (numbers_of p)) (known_at_start n) events)
       (as-many-numbers p h ∙ sym (form-tasks p inputs))
 
+  -- the controller starts before the script that the law asks for
   starts-script : Reaches x task_ops out Meets (started (text_setting p events) inputs (control_number p)) (Controlling (left x x.progress.start events))
   starts-script =
       subst (λ (ops : List Op). Reaches x task_ops out Meets (started (text_setting p events) inputs (control_number p)) (Controlling ops)) script-left
@@ -153,6 +154,7 @@ module _ (far : Spots) (p : PProgram) (events : List Event) (inputs : List (List
 
   -- ---- the opening
 
+  -- the machine's opening of the text
   opening : IsOpening (rules_of (text_numbers p)) (opening_of (text_setup p events inputs) (text_numbers p)).state
   opening = opens (text_setup p events inputs) (text_numbers p)
 
