@@ -1,6 +1,7 @@
 -- A program that replays a sequence follows it by its verdict.
 use Rattle.std.proofs.Common.{◌≡◌, ℕ, ◌+◌, ◌<◌, List, [], ◌∷◌, ◌++◌, append_assoc, append-nil, length, Option, inl, inr, refl, sym, ap, ap₂, ◌∙◌, subst}
 use Rattle.std.specs.Prelude.{◌⊎◌}
+use Rattle.std.proofs.lemmas.List.{append_cancel_left}
 use Rattle.common_lemmas.proofs.Lists.{append_last, first_same, rest_same}
 use Rattle.event_machine.specs.declared.Action.{Action}
 use Rattle.event_machine.specs.declared.Event.{Event}
@@ -23,7 +24,7 @@ use Rattle.task_machine.specs.Views as views
 use Rattle.run_laws.specs.imitation.Shown.{Opened}
 use Rattle.normal_runs.specs.runs.Laws.{opened}
 use Rattle.replay_runs.specs.controls.replayed.Replaying.{GoesOnWith, IsFeasible, IsRunWith, Replays, ShowsAllFeasible, shown}
-use Rattle.debug_core.specs.Headline.{FollowsAll, KeepsTo, ShowsWhole, StopsAt}
+use Rattle.debug_core.specs.Headline.{FollowsAll, HasShown, KeepsTo, StopsAt}
 
 -- ---- lists
 
@@ -47,13 +48,23 @@ module _ {L K : Type 0} (s : List Event) (one : Opened L) (other : Opened K) (me
   shown_feasible : (actions : List Action) → IsRun (numbered other.program) other.at actions → IsFeasible one (shown s one other meant actions)
   shown_feasible actions run = let r = replays.shows actions run in (r.originals, r.original.applies, r.original.has)
 
+  -- a run that ends has shown these events, where it has shown them
+  has-shown : (events : List Event) (actions : List Action) → ShowsAllFeasible s one other meant actions → shown s one other meant actions ≡ events → HasShown s one other meant events actions
+  has-shown events actions a e = record {
+    whole = e;
+    originals = a.originals;
+    original = subst (λ l. IsRunWith one l a.originals) e a.original;
+    quiet = a.quiet;
+    outputs = λ others run calm t l free. a.outputs others (subst (λ z. IsRunWith one z others) (sym e) run) calm t l (λ k. free (subst (λ z. IsKilledIn z t) e k));
+  }
+
   -- where the whole sequence is feasible
   follows : IsFeasible one s → FollowsAll s one other meant
   follows feasible = record {
     goes_on = λ actions run.
         let r = replays.shows actions run in
         (r.rest, r.prefix, replays.goes_on actions run r.rest [] (ap (λ l. shown s one other meant actions ++ l) (append-nil r.rest) ∙ r.prefix) (subst (IsFeasible one) (sym r.prefix) feasible));
-    ends = λ actions run over. whole actions (replays.ends actions run over);
+    ends = λ actions run over. let a = replays.ends actions run over in has-shown s actions a (no-more actions a a.rest refl);
   }
     where
       no-more : (actions : List Action) (a : ShowsAllFeasible s one other meant actions) (rest : List Event) → a.rest ≡ rest → shown s one other meant actions ≡ s
@@ -61,18 +72,6 @@ module _ {L K : Type 0} (s : List Event) (one : Opened L) (other : Opened K) (me
       no-more actions a (x ∷ more) e =
           absurd (a.longest x more e (front (shown s one other meant actions ++ x ∷ []) more
           (subst (IsFeasible one) (sym a.prefix ∙ ap (λ l. shown s one other meant actions ++ l) e ∙ sym (append_last (shown s one other meant actions) x more)) feasible)))
-
-      whole : (actions : List Action) → ShowsAllFeasible s one other meant actions → ShowsWhole s one other meant actions
-      whole actions a =
-          let e : shown s one other meant actions ≡ s = no-more actions a a.rest refl in
-          record {
-            whole = e;
-            originals = a.originals;
-            original = subst (λ l. IsRunWith one l a.originals) e a.original;
-            quiet = a.quiet;
-            outputs = λ others run calm t l free.
-                a.outputs others (subst (λ z. IsRunWith one z others) (sym e) run) calm t l (λ k. free (subst (λ z. IsKilledIn z t) e k));
-          }
 
   -- where it is feasible up to an event
   stops : (at : ℕ) (before : List Event) (e : Event) (rest : List Event) → s ≡ before ++ e ∷ rest → at ≡ length before + 1 → IsFeasible one before → (IsFeasible one (before ++ e ∷ []) → ⊥) → StopsAt s one other meant at
@@ -85,8 +84,23 @@ module _ {L K : Type 0} (s : List Event) (one : Opened L) (other : Opened K) (me
     reached = reached;
     unreached = unreached;
     goes_on = λ actions run. let r = replays.shows actions run in on actions run (front_or_past (shown s one other meant actions) r.rest before e rest (r.prefix ∙ splits));
+    ends = λ actions run over. let a = replays.ends actions run over in has-shown before actions a (at-end actions a (front_or_past (shown s one other meant actions) a.rest before e rest (a.prefix ∙ splits)));
   }
     where
+      -- what is shown ends before the event, and where it ends earlier the next event is feasible
+      stays : (actions : List Action) (a : ShowsAllFeasible s one other meant actions) (more : List Event) → shown s one other meant actions ++ more ≡ before → shown s one other meant actions ≡ before
+      stays actions a [] k = sym (append-nil (shown s one other meant actions)) ∙ k
+      stays actions a (y ∷ more) k =
+          let rest-is : a.rest ≡ y ∷ (more ++ e ∷ rest) =
+          append_cancel_left (shown s one other meant actions) a.rest (y ∷ (more ++ e ∷ rest)) (a.prefix ∙ splits ∙ ap (λ l. l ++ e ∷ rest) (sym k) ∙ append_assoc (shown s one other meant actions) (y ∷ more) (e ∷ rest)) in
+          absurd (a.longest y (more ++ e ∷ rest) rest-is (front (shown s one other meant actions ++ y ∷ []) more (subst (IsFeasible one) (sym k ∙ sym (append_last (shown s one other meant actions) y more)) reached)))
+
+      at-end : (actions : List Action) (a : ShowsAllFeasible s one other meant actions) →
+          ((more : List Event) × (shown s one other meant actions ++ more ≡ before)) ⊎ ((tail : List Event) × (shown s one other meant actions ≡ before ++ e ∷ tail)) → shown s one other meant actions ≡ before
+      at-end actions a (inl (more, k)) = stays actions a more k
+      at-end actions a (inr (tail, k)) =
+          absurd (unreached (front (before ++ e ∷ []) tail (subst (IsFeasible one) (k ∙ sym (append_last before e tail)) (a.originals, a.original.applies, a.original.has))))
+
       on : (actions : List Action) → IsRun (numbered other.program) other.at actions →
           ((more : List Event) × (shown s one other meant actions ++ more ≡ before)) ⊎ ((tail : List Event) × (shown s one other meant actions ≡ before ++ e ∷ tail)) →
           (more : List Event) × (shown s one other meant actions ++ more ≡ before) × GoesOnWith s one other meant actions more

@@ -89,9 +89,13 @@ module _ (text : List ℕ) (inputs : Option (List ℕ)) (lines : List ℕ) (boun
     events = v.events;
     reads = v.reads;
     verdict = v.judged.verdict;
+    verdict_is = v.judged.verdict_is;
     views = v.judged.views;
+    seen = v.judged.seen;
     told = v.judged.is;
     replay = w.text;
+    is_text = w.is_text;
+    read_back = w.read_back;
     written = w.is;
     replays = both;
     keeps = λ others agree. keeps_to h.setup h.numbers bound v.events (starting w.text others) (back_of (numbers_of w.text)) (both others agree) v.judged.verdict v.judged.verdict_is;

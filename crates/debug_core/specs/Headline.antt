@@ -20,8 +20,11 @@ use Rattle.normal_runs.specs.runs.Laws.{opened}
 use Rattle.normal_runs.specs.forms.Normalisable.{numbers_of}
 use Rattle.replay_runs.specs.controls.replayed.Replaying.{AgreeBelow, GoesOnWith, IsFeasible, IsOver, IsRunWith, Replays, output_after, shown, starting}
 use Rattle.divergence.specs.JudgeText.{judge_text}
-use Rattle.debug_judge.specs.JudgeOutcomes.{verdict_status}
+use Rattle.debug_judge.specs.JudgeOutcomes.{ShowsWhy, verdict_status}
+use Rattle.task_machine.specs.Judging.{VerdictIs}
 use Rattle.task_machine.specs.Views.{View}
+use Rattle.replay_model.specs.Promised.{IsReplayText}
+use Rattle.text_laws.specs.normal_read_back.Laws.{IsReadAsSame}
 use Rattle.debug_outcome.specs.Outcomes.{Outcome, writes}
 use Rattle.debug_core.specs.JudgeMeaning.{JudgeMeans}
 use Rattle.debug_core.specs.ReplayMeaning.{ReplayMeans}
@@ -34,23 +37,27 @@ module _ {L K : Type 0} (s : List Event) (one : Opened L) (other : Opened K) (me
   CanGoOnTo events =
       (actions : List Action) → IsRun (numbered other.program) other.at actions → (more : List Event) × (shown s one other meant actions ++ more ≡ events) × GoesOnWith s one other meant actions more
 
-  -- The run has shown all of the sequence. The first program has a quiet run with exactly these events, and each of its tasks that is not killed in
-  -- them has here the output that it has in every such run.
-  pub record ShowsWhole (actions : List Action) : Type 0 where
-    pub whole : shown s one other meant actions ≡ s
+  -- The run has shown exactly these events. The first program has a quiet run with exactly these, and each of its tasks that they do not abort before it
+  -- completes has here the output that it has in every such run.
+  pub record HasShown (events : List Event) (actions : List Action) : Type 0 where
+    pub whole : shown s one other meant actions ≡ events
     pub originals : List Action
-    pub original : IsRunWith one s originals
+    pub original : IsRunWith one events originals
     pub quiet : IsQuiet one.program.ops (end_from one originals).seats
-    pub outputs : (others : List Action) → IsRunWith one s others → IsQuiet one.program.ops (end_from one others).seats →
-        (t : ℕ) → t < one.program.size → (IsKilledIn s t → ⊥) → output_after other actions t ≡ output_after one others t
+    pub outputs : (others : List Action) → IsRunWith one events others → IsQuiet one.program.ops (end_from one others).seats →
+        (t : ℕ) → t < one.program.size → (IsKilledIn events t → ⊥) → output_after other actions t ≡ output_after one others t
+
+  -- each run of the second program after which no action applies has shown exactly these events
+  abbrev pub EndsWith : List Event → Type 0
+  EndsWith events = (actions : List Action) → IsRun (numbered other.program) other.at actions → IsOver other actions → HasShown events actions
 
   -- Every run of the second program can go on to all of the sequence, and each that ends has shown all of it.
   pub record FollowsAll : Type 0 where
     pub goes_on : CanGoOnTo s
-    pub ends : (actions : List Action) → IsRun (numbered other.program) other.at actions → IsOver other actions → ShowsWhole actions
+    pub ends : EndsWith s
 
   -- The event at this place of the sequence, counted from 1, is the first that no run of the first program reaches. Every run of the second can go on
-  -- to all before it, and no further.
+  -- to all before it, and each that ends has shown these.
   pub record StopsAt (at : ℕ) : Type 0 where
     pub before : List Event
     pub event : Event
@@ -60,6 +67,7 @@ module _ {L K : Type 0} (s : List Event) (one : Opened L) (other : Opened K) (me
     pub reached : IsFeasible one before
     pub unreached : IsFeasible one (before ++ event ∷ []) → ⊥
     pub goes_on : CanGoOnTo before
+    pub ends : EndsWith before
 
   -- What the second program does by the verdict of the sequence; where that is unsettled it is not known how far it is feasible.
   abbrev pub KeepsTo : Verdict → Type 0
@@ -67,8 +75,9 @@ module _ {L K : Type 0} (s : List Event) (one : Opened L) (other : Opened K) (me
   KeepsTo (Infeasible at why) = StopsAt at
   KeepsTo (Unsettled at task) = Unit {0}
 
--- The files hold a program, inputs and a sequence of it. What is judged is the verdict of the sequence, and what is replayed is the text of another
--- program. Whatever the schedule, that replays the sequence, and does so by the verdict: where each task of the first has the same input in it.
+-- The files hold a program, inputs and a sequence of it. The verdict that is told is that of the sequence, with why it is so. The text that is written is
+-- the sequence's replay text. With the judged inputs for the first program's tasks and any for the others, it replays the sequence and keeps to the
+-- verdict, whatever the schedule.
 pub record IsPromised (text : List ℕ) (inputs : Option (List ℕ)) (lines : List ℕ) (bound : ℕ) (judged replayed : Outcome) : Type 0 where
   pub setup : ProgramWithInputs
   pub numbers : Numbering
@@ -76,9 +85,13 @@ pub record IsPromised (text : List ℕ) (inputs : Option (List ℕ)) (lines : Li
   pub events : List Event
   pub reads : SeqReads lines numbers setup.program.names events
   pub verdict : Verdict
+  pub verdict_is : VerdictIs setup numbers bound events verdict
   pub views : ℕ → View
+  pub seen : ShowsWhy setup numbers events views verdict
   pub told : judged ≡ writes (judge_text setup.program.names numbers bound views events verdict) (verdict_status verdict)
   pub replay : PProgram
+  pub is_text : IsReplayText setup.program setup.types numbers events replay
+  pub read_back : IsReadAsSame replay
   pub written : replayed ≡ writes (program_text replay) 0
   pub replays : (others : List (List ℤ)) → AgreeBelow (length numbers.tasks) setup.inputs others → Replays events (opened setup numbers) (starting replay others) (back_of (numbers_of replay))
   pub keeps : (others : List (List ℤ)) → AgreeBelow (length numbers.tasks) setup.inputs others → KeepsTo events (opened setup numbers) (starting replay others) (back_of (numbers_of replay)) verdict
@@ -87,8 +100,9 @@ pub record IsPromised (text : List ℕ) (inputs : Option (List ℕ)) (lines : Li
 abbrev pub HasWritten : Outcome → Type 0
 HasWritten o = (text : List ℕ) × (status : ℕ) × (o ≡ writes text status)
 
--- Where one call judges a sequence of a program and another replays it, and neither is refused, the text that is written follows the whole sequence
--- where it is feasible, and else goes on up to the first event that no run reaches, which the other call names, unless that is unsettled.
+-- Where the bytes of files call for an outcome of judging a sequence and for one of replaying it, and neither is a refusal, each run of the text that
+-- is written can go on to all of a feasible sequence, and each that ends has shown it; else each can go on to all before the first event that no run
+-- reaches, which the judging names, unless that is unsettled.
 abbrev pub Headline : Type 0
 Headline =
     (text : List ℕ) (inputs : Option (List ℕ)) (lines : List ℕ) (bound : ℕ) (judged replayed : Outcome) → JudgeMeans text inputs lines bound judged → ReplayMeans text lines replayed →

@@ -20,8 +20,8 @@ use Rattle.debug_outcome.specs.declared.refusal.Listed.TheVariants.{Events}
 use Rattle.debug_outcome.specs.sequences.BadSequences.{IsBadSequence}
 
 -- The lines are a sequence of the program with these types and numbers, and the outcome is the text of another program, their replay text. That is
--- legal as a text of any kind and read back as the same. Whatever the inputs and the schedule, it shows the events of the sequence, as far as they
--- are feasible, and nothing else (`Replays`). Both are within their limits.
+-- legal as a text of any kind and read back as the same. Whatever the inputs and the schedule, it shows nothing but events of the sequence, in order;
+-- it can always go on to all that are feasible; and where it ends it has shown these (`Replays`). Both are within their limits.
 pub record IsReplayWritten (p : PProgram) (types : TypeTable) (numbers : Numbering) (lines : List ℕ) (o : Outcome) : Type 0 where
   pub events : List Event
   pub reads : SeqReads lines numbers p.names events

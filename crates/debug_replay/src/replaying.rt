@@ -24,7 +24,8 @@ use std::alloc::Global;
 use syn_event::Numbers;
 
 /// Writes the replay text of a legal original with its types and numbers and of the sequence that the lines are, and answers 0. Whatever the
-/// inputs and the schedule, that text shows the events of the sequence, as far as they are feasible, and nothing else. Lines that are no
+/// inputs and the schedule, that text shows nothing but events of the sequence, in order. It can always go on to all that are feasible, and
+/// where it ends it has shown these. Lines that are no
 /// sequence of the program are refused with the fault of the first bad one; so are more events than are replayed, and a text that is longer than
 /// a program that is run. All of the text is made before any of it is put.
 pub fn write_replay<'w, K: Sink>(

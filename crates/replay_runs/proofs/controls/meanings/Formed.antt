@@ -1,5 +1,5 @@
 -- What is known of the normal form of a legal program, as the law of replaying takes it.
-use Rattle.std.proofs.Common.{◌≡◌, ℤ, suc, ◌<◌, List, [], length, refl, sym, ◌∙◌, subst, arith}
+use Rattle.std.proofs.Common.{◌≡◌, ℤ, suc, ◌<◌, List, [], length, sym, ◌∙◌, subst, arith}
 use Rattle.event_machine.specs.Programs.{numbered, IsOpening}
 use Rattle.ada_tree.specs.PlainProgram.{PProgram}
 use Rattle.syn_event.specs.Numbering.{owner_of}

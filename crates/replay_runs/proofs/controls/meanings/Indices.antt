@@ -1,5 +1,5 @@
 -- The index of an entry's member: a task of the normal form and its image evaluate it to the same number of INTEGER.
-use Rattle.std.proofs.Common.{◌≡◌, ℕ, ℤ, Bool, true, false, if◌then◌else◌, List, [], ◌∷◌, Option, Some, None, Result, Ok, Err, refl, sym, ap, ◌∙◌, true≢false, arith}
+use Rattle.std.proofs.Common.{◌≡◌, ℕ, ℤ, Bool, true, false, if◌then◌else◌, List, [], ◌∷◌, Option, Some, None, Result, Ok, Err, refl, sym, ap, ◌∙◌, true≢false}
 use Rattle.common_lemmas.proofs.Truth.{and_both}
 use Rattle.event_machine.specs.declared.Choice.TheVariants.{Accept}
 use Rattle.event_machine.specs.declared.Event.{Event}

@@ -1,5 +1,5 @@
 -- The replay text of each legal program replays each sequence that a file of it can hold.
-use Rattle.std.proofs.Common.{◌≡◌, ℤ, suc, List, length, refl, sym, ◌∙◌, subst}
+use Rattle.std.proofs.Common.{◌≡◌, ℤ, suc, List, refl, sym, ◌∙◌, subst}
 use Rattle.event_machine.specs.declared.Event.{Event}
 use Rattle.ada_tree.specs.PlainProgram.{PProgram}
 use Rattle.syn_event.specs.Numbering.{Numbering}

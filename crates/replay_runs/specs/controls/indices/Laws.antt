@@ -1,5 +1,5 @@
 -- What the variables of a normal form's tasks hold: values whose positions are numbers of INTEGER (3.5.4, 3.5.5; this project's rule).
-use Rattle.std.specs.Prelude.{◌≡◌, ℕ, ◌<◌, ℤ, false, List, [], length, Some, None}
+use Rattle.std.specs.Prelude.{◌≡◌, ℕ, ◌<◌, ℤ, false, List, length, Some, None}
 use Rattle.ada_tree.specs.declared.naming.NameId.{NameId}
 use Rattle.ada_tree.specs.declared.naming.Span.{Span}
 use Rattle.ada_tree.specs.TypeTable.{TypeTable}

@@ -1,5 +1,5 @@
--- That one program shows a sequence of events of another, as far as it is feasible there, and nothing else, whatever the inputs and the schedule
--- (this project's rule).
+-- That one program shows nothing but a sequence of events of another, in order, can always go on to all that is feasible there, and where it ends has
+-- shown this, whatever the inputs and the schedule (this project's rule).
 use Rattle.std.specs.Prelude.{◌≡◌, ℕ, ℤ, ◌<◌, true, List, [], ◌∷◌, ◌++◌, length, slice_index_or, Option}
 use Rattle.std.specs.List.{filter_map}
 use Rattle.event_machine.specs.declared.Action.{Action}
