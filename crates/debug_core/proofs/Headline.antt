@@ -1,10 +1,8 @@
 -- The promise in one statement: judging and replaying the same files.
-use Rattle.std.proofs.Common.{◌≡◌, ℕ, ℤ, true, List, [], ◌∷◌, length, Option, Some, None, inl, inr, sym, ap, ◌∙◌, subst}
+use Rattle.std.proofs.Common.{◌≡◌, ℕ, ℤ, List, length, Option, Some, None, inl, inr, sym, ap, ◌∙◌, subst}
 use Rattle.ada_tree.specs.PlainProgram.{PProgram}
 use Rattle.ada_tree.specs.TypeTable.{TypeTable}
 use Rattle.ada_static_rules.specs.Refusals.{types_in}
-use Rattle.ada_printer.specs.ProgramText.{program_text}
-use Rattle.ada_parser.proofs.PlacedItems.{read_is_placed}
 use Rattle.event_machine.specs.declared.Event.{Event}
 use Rattle.syn_event.specs.declared.numbering.Mode.TheVariants.{Original}
 use Rattle.syn_event.specs.AllNumbers.{all_numbers}
@@ -18,14 +16,13 @@ use Rattle.replay_runs.specs.controls.replayed.Replaying.{AgreeBelow, Replays, s
 use Rattle.debug_judge.specs.JudgeOutcomes.{IsVerdictOfSequence, SequenceMeans}
 use Rattle.debug_replay.specs.ReplayOutcomes.{IsReplayWritten, PassesLimit, ReplaysLines}
 use Rattle.debug_outcome.specs.Coming.{IsRefusal}
-use Rattle.debug_outcome.specs.Outcomes.{Outcome, writes, refuses}
+use Rattle.debug_outcome.specs.Outcomes.{Outcome, refuses}
 use Rattle.debug_outcome.specs.declared.refusal.Refusal.{Refusal}
 use Rattle.debug_outcome.proofs.Comings.{line_is_some}
 use Rattle.debug_core.specs.Headline.{Headline, HasWritten, IsPromised}
 use Rattle.debug_core.specs.InputTexts.{AreBadInputs}
-use Rattle.debug_core.specs.JudgeMeaning.{IsJudgedFromStart, JudgeMeans}
+use Rattle.debug_core.specs.JudgeMeaning.{IsJudgedFromStart}
 use Rattle.debug_core.specs.LegalTexts.{IsRefusedText}
-use Rattle.debug_core.specs.ReplayMeaning.{ReplayMeans}
 use Rattle.debug_core.specs.Starts.{IsRefusedStart}
 use Rattle.debug_core.proofs.Following.{keeps_to}
 use Rattle.debug_core.proofs.OneStart.{legal_carries}
@@ -73,13 +70,13 @@ module _ (text : List ℕ) (inputs : Option (List ℕ)) (lines : List ℕ) (boun
 
   -- the program as it starts with its own types and numbers
   own : h.setup ≡ record { program = p; types = types_in p; inputs = h.setup.inputs }
-  own = ap (λ t. record { program = p; types = t; inputs = h.setup.inputs }) h.is_start.is_legal.legal.its_types
+  own = ap (λ (t : TypeTable). record { program = p; types = t; inputs = h.setup.inputs }) h.is_start.is_legal.legal.its_types
 
   own-numbers : h.numbers ≡ numbers_of p
-  own-numbers = h.is_start.is_legal.legal.its_numbers ∙ ap (λ t. all_numbers t p) h.is_start.is_legal.legal.its_types
+  own-numbers = h.is_start.is_legal.legal.its_numbers ∙ ap (λ (t : TypeTable). all_numbers t p) h.is_start.is_legal.legal.its_types
 
   starts : starting p h.setup.inputs ≡ opened h.setup h.numbers
-  starts = sym (ap (λ s. opened s h.numbers) own ∙ ap (λ n. opened (record { program = p; types = types_in p; inputs = h.setup.inputs }) n) own-numbers)
+  starts = sym (ap (λ (s : ProgramWithInputs). opened s h.numbers) own ∙ ap (λ (n : Numbering). opened (record { program = p; types = types_in p; inputs = h.setup.inputs }) n) own-numbers)
 
   promised : IsVerdictOfSequence h.setup h.numbers lines bound j → IsReplayWritten p h.setup.types h.numbers lines r → IsPromised text inputs lines bound j r
   promised v w = record {

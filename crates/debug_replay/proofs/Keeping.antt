@@ -36,7 +36,7 @@ module _ (p : PProgram) (legal : IsLegalOriginal p) (lines : List ℕ) where
 
   holds : (types : TypeTable) (numbers : Numbering) → Legal p types numbers Original → (events : List Event) → SeqReads lines numbers p.names events → Holds p events types numbers
   holds types numbers own =
-      let n : numbers ≡ numbers_of p = own.its_numbers ∙ ap (λ t. all_numbers t p) own.its_types in
+      let n : numbers ≡ numbers_of p = own.its_numbers ∙ ap (λ (t : TypeTable). all_numbers t p) own.its_types in
       subst (λ t. (events : List Event) → SeqReads lines numbers p.names events → Holds p events t numbers) (sym own.its_types)
       (subst (λ m. (events : List Event) → SeqReads lines m p.names events → Holds p events (types_in p) m) (sym n) holds_own)
 

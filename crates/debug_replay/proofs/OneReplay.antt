@@ -1,18 +1,15 @@
 -- The lines of a sequence call for one outcome of replaying.
-use Rattle.std.proofs.Common.{◌≡◌, true, ℕ, Bool, List, Ok, Err, inl, inr, sym, ap, ◌∙◌}
-use Rattle.std.specs.Prelude.{if◌then◌else◌}
+use Rattle.std.proofs.Common.{◌≡◌, true, ℕ, List, Ok, inl, inr, sym, ap, ◌∙◌}
 use Rattle.ada_tree.specs.PlainProgram.{PProgram}
 use Rattle.ada_tree.specs.TypeTable.{TypeTable}
-use Rattle.ada_printer.specs.ProgramText.{program_text}
-use Rattle.common_lemmas.proofs.Numbers.{lt_false, lt_true}
 use Rattle.event_machine.specs.declared.Event.{Event}
 use Rattle.syn_event.specs.Numbering.{Numbering}
 use Rattle.syn_event.specs.DeclaredTasks.{text_of}
 use Rattle.seq_file.specs.Lines.{is_upper_name}
 use Rattle.seq_file.specs.Short.{IsShort}
 use Rattle.seq_file.proofs.Filing.{reads-unique}
-use Rattle.replay_model.specs.ReplayTree.{most_events, replay_tree, replayed}
-use Rattle.debug_outcome.specs.Outcomes.{Outcome, writes}
+use Rattle.replay_model.specs.ReplayTree.{replay_tree, replayed}
+use Rattle.debug_outcome.specs.Outcomes.{Outcome}
 use Rattle.debug_outcome.proofs.sequences.Telling.{one_bad_sequence, read_or_bad}
 use Rattle.debug_replay.specs.inner.Printing.{replay_outcome, ComeTo}
 use Rattle.debug_replay.specs.ReplayOutcomes.{IsReplayWritten, PassesLimit, ReplaysLines}
@@ -24,7 +21,7 @@ module _ (p : PProgram) (types : TypeTable) (numbers : Numbering) (lines : List 
       inl (record {
         events = h.events;
         reads = h.reads;
-        is = h.is ∙ short_by_length h.text h.short ∙ ap (λ t. replay_outcome (Ok t)) h.is_text.text ∙ sym (outcome_within p types numbers h.events h.few);
+        is = h.is ∙ short_by_length h.text h.short ∙ ap (λ (t : PProgram). replay_outcome (Ok t)) h.is_text.text ∙ sym (outcome_within p types numbers h.events h.few);
       })
 
   beyond : (events : List Event) (o : Outcome) → PassesLimit p types numbers events o → o ≡ replay_outcome (replayed p types numbers events)
