@@ -12,4 +12,4 @@ pub mod OneJudged
 pub mod OneMeaning
 pub mod OneAnswer
 pub mod Following
-pub mod Headline
+pub mod Promised

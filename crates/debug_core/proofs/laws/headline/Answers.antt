@@ -1,4 +1,4 @@
-use Rattle.debug_core.proofs.Headline as proofs
+use Rattle.debug_core.proofs.Promised as proofs
 use Rattle.debug_core.proofs.laws.headline.Goals as goal
 
 pub returns : goal.returns
