@@ -12,12 +12,17 @@ use Rattle.seq_file.proofs.Filing.{reads-unique}
 use Rattle.task_model.specs.Machine.{ProgramWithInputs}
 use Rattle.normal_runs.specs.runs.Laws.{opened}
 use Rattle.normal_runs.specs.forms.Normalisable.{numbers_of}
+use Rattle.replay_model.specs.Promised.{IsReplayText}
+use Rattle.replay_model.specs.ReplayTree.{most_events}
 use Rattle.replay_runs.specs.controls.replayed.Replaying.{AgreeBelow, Replays, starting}
 use Rattle.debug_judge.specs.JudgeOutcomes.{IsVerdictOfSequence, SequenceMeans}
 use Rattle.debug_replay.specs.ReplayOutcomes.{IsReplayWritten, PassesLimit, ReplaysLines}
 use Rattle.debug_outcome.specs.Coming.{IsRefusal}
 use Rattle.debug_outcome.specs.Outcomes.{Outcome, refuses}
+use Rattle.debug_outcome.specs.declared.refusal.Listed.TheVariants.{Events}
 use Rattle.debug_outcome.specs.declared.refusal.Refusal.{Refusal}
+use Rattle.debug_outcome.specs.declared.refusal.Refusal.TheVariants.{LongText, TooMany}
+use Rattle.debug_outcome.specs.files.Wanting.{text_limit}
 use Rattle.debug_outcome.proofs.Comings.{line_is_some}
 use Rattle.debug_core.specs.Headline.{Headline, HasWritten, IsPromised}
 use Rattle.debug_core.specs.InputTexts.{AreBadInputs}
@@ -50,8 +55,8 @@ no-start text inputs o w (inl h) = no-text text o w h
 no-start text inputs o w (inr h) = no-inputs h.numbers inputs o w h.are_bad
 
 no-limit : (p : PProgram) (types : TypeTable) (numbers : Numbering) (events : List Event) (o : Outcome) → HasWritten o → PassesLimit p types numbers events o → ⊥
-no-limit p types numbers events o w (inl h) = refused o _ w h.1
-no-limit p types numbers events o w (inr h) = refused o _ w h.2
+no-limit p types numbers events o w (inl h) = refused o (TooMany Events most_events) w h.1
+no-limit p types numbers events o w (inr h) = refused o (LongText text_limit) w h.2
 
 written : (p : PProgram) (types : TypeTable) (numbers : Numbering) (lines : List ℕ) (o : Outcome) → HasWritten o → ReplaysLines p types numbers lines o → IsReplayWritten p types numbers lines o
 written p types numbers lines o w (inl h) = h
@@ -91,7 +96,7 @@ module _ (text : List ℕ) (inputs : Option (List ℕ)) (lines : List ℕ) (boun
     seen = v.judged.seen;
     told = v.judged.is;
     replay = w.text;
-    is_text = w.is_text;
+    is_text = subst (λ (events : List Event). IsReplayText p h.setup.types h.numbers events w.text) same w.is_text;
     read_back = w.read_back;
     written = w.is;
     replays = both;
