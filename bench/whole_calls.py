@@ -51,6 +51,19 @@ def calls_of(path):
         yield call
 
 
+def programs_of(path):
+    """The texts in a transcript that look like programs, each with the name of its case; who needs a legal one asks `check`."""
+    case, texts = "", {}
+    for word, rest, body in sections_of(path):
+        if word in ("case", "text"):
+            case = rest
+        for text in [body, *(line.partition(" --> ")[0] for line in body.splitlines())]:
+            if re.match(r"(?is)\s*(with\s+TEXT_IO\b.*)?\bprocedure\s+\w+\s+is\b.*\bend\b", text):
+                yield f"{path.name}: {case}", written_out(text, texts).strip() + "\n"
+        if word == "text":
+            texts[rest] = written_out(body, texts)
+
+
 def all_calls(paths, commands):
     """The calls of run or judge, whichever are named, from all files in turn; of those alone that have all words and files."""
     files = [file for path in paths or [TRANSCRIPT] for file in (sorted(path.glob("*.cases")) if path.is_dir() else [path])]

@@ -1,5 +1,6 @@
 pub mod Refusing
 pub mod ReadingBack
+pub mod Originals
 pub mod Calling
 pub mod ShortNumbers
 pub mod OneLoad
@@ -10,3 +11,5 @@ pub mod OneRun
 pub mod OneJudged
 pub mod OneMeaning
 pub mod OneAnswer
+pub mod Following
+pub mod Promised

@@ -11,4 +11,5 @@ pub mod JudgeMeaning
 pub mod ReplayMeaning
 pub mod Answers
 pub mod OneAnswer
+pub mod Headline
 pub mod inner

@@ -15,5 +15,5 @@ mod text_fault;
 mod top;
 
 pub use debug_judge::{LinesError, LinesVerdict, judge_lines};
-pub use laws::one_answer;
+pub use laws::{headline, one_answer};
 pub use top::{debug_main, debug_program};

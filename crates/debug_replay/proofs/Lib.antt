@@ -1,2 +1,3 @@
 pub mod TextOutcomes
 pub mod OneReplay
+pub mod Keeping

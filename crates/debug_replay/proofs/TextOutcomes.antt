@@ -16,7 +16,8 @@ use Rattle.debug_outcome.specs.Coming.{Stops, stop_by}
 use Rattle.debug_outcome.specs.Outcomes.{Outcome, writes, refuses}
 use Rattle.debug_outcome.specs.declared.refusal.Refusal.TheVariants.{LongText, TooMany}
 use Rattle.debug_outcome.specs.declared.refusal.Listed.TheVariants.{Events}
-use Rattle.debug_replay.specs.ReplayOutcomes.{ReplaysLines, printed_outcome, replay_outcome, refusal_of_replay}
+use Rattle.debug_replay.specs.inner.Printing.{printed_outcome, replay_outcome, ComeTo}
+use Rattle.debug_replay.specs.ReplayOutcomes.{refusal_of_replay}
 use Rattle.common_lemmas.proofs.Numbers.{lt_false, lt_true}
 
 -- ---- the length of a text
@@ -35,6 +36,22 @@ module _ (p : PProgram) where
   pub short_by : (n : ℕ) → n ≡ min (length (program_text p)) last_count → n ≤ text_limit → writes (program_text p) 0 ≡ printed_outcome p
   short_by n counted less = short_text (lt_false text_limit (length (program_text p)) (omega (arith, counted, less)))
 
+  -- the same by the length itself
+  pub long_by_length : text_limit < length (program_text p) → refuses (LongText text_limit) ≡ printed_outcome p
+  long_by_length more = long_text (lt_true text_limit (length (program_text p)) more)
+
+  pub short_by_length : length (program_text p) ≤ text_limit → writes (program_text p) 0 ≡ printed_outcome p
+  short_by_length less = short_text (lt_false text_limit (length (program_text p)) less)
+
+-- ---- the number of events
+
+module _ (p : PProgram) (types : TypeTable) (numbers : Numbering) (events : List Event) where
+  pub outcome_beyond : most_events < length events → replay_outcome (replayed p types numbers events) ≡ refuses (TooMany Events most_events)
+  outcome_beyond more = ap (λ (b : Bool). replay_outcome (if b then Err most_events else Ok (replay_tree p types numbers events))) (lt_true most_events (length events) more)
+
+  pub outcome_within : length events ≤ most_events → replay_outcome (replayed p types numbers events) ≡ printed_outcome (replay_tree p types numbers events)
+  outcome_within few = ap (λ (b : Bool). replay_outcome (if b then Err most_events else Ok (replay_tree p types numbers events))) (lt_false most_events (length events) few)
+
 -- ---- the error of an answer
 
 abbrev error_or : {A : Type 0} → Result A XformError → XformError → XformError
@@ -47,10 +64,10 @@ one_error {A} r e d h k = ap (λ (x : Result A XformError). error_or x e) (sym h
 -- ---- the replay text of the events that the lines are
 
 module _ (p : PProgram) (types : TypeTable) (numbers : Numbering) (lines : List ℕ) (events : List Event) (reads : SeqReads lines numbers p.names events) where
-  pub text_called : (text : PProgram) (o : Outcome) → replayed p types numbers events ≡ Ok text → o ≡ printed_outcome text → ReplaysLines p types numbers lines o
+  pub text_called : (text : PProgram) (o : Outcome) → replayed p types numbers events ≡ Ok text → o ≡ printed_outcome text → ComeTo p types numbers lines o
   text_called text o made is = inl (record { events = events; reads = reads; is = is ∙ sym (ap replay_outcome made) })
 
-  too_many : nat_lt most_events (length events) ≡ true → ReplaysLines p types numbers lines (refuses (TooMany Events most_events))
+  too_many : nat_lt most_events (length events) ≡ true → ComeTo p types numbers lines (refuses (TooMany Events most_events))
   too_many h =
       inl (record {
         events = events;
@@ -59,6 +76,6 @@ module _ (p : PProgram) (types : TypeTable) (numbers : Numbering) (lines : List 
       })
 
   pub stops_replay : (e : XformError) → (nat_lt most_events (length events) ≡ true → e ≡ error.TooManyEvents most_events) → (e ≡ error.Memory) ⊎ (nat_lt most_events (length events) ≡ true) →
-      Stops (ReplaysLines p types numbers lines) (stop_by (refusal_of_replay e))
-  stops_replay e limit (inl none) = subst (λ (x : XformError). Stops (ReplaysLines p types numbers lines) (stop_by (refusal_of_replay x))) (sym none) tt
-  stops_replay e limit (inr long) = subst (λ (x : XformError). Stops (ReplaysLines p types numbers lines) (stop_by (refusal_of_replay x))) (sym (limit long)) (too_many long)
+      Stops (ComeTo p types numbers lines) (stop_by (refusal_of_replay e))
+  stops_replay e limit (inl none) = subst (λ (x : XformError). Stops (ComeTo p types numbers lines) (stop_by (refusal_of_replay x))) (sym none) tt
+  stops_replay e limit (inr long) = subst (λ (x : XformError). Stops (ComeTo p types numbers lines) (stop_by (refusal_of_replay x))) (sym (limit long)) (too_many long)

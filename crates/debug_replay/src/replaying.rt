@@ -5,7 +5,11 @@ ghost use Rattle.ada_tree.specs.PlainProgram.{plain_program};
 ghost use Rattle.syn_event.specs.DeclaredTasks.{text_of};
 ghost use Rattle.seq_file.specs.Lines.{is_upper_name};
 ghost use Rattle.debug_outcome.specs.Coming.{Comes, Never, stop_by};
-ghost use Rattle.debug_replay.specs.ReplayOutcomes.{ReplaysLines, printed_outcome, refusal_of_replay};
+ghost use Rattle.syn_event.specs.declared.numbering.Mode.TheVariants.{Original};
+ghost use Rattle.syn_event.specs.Legal.{Legal};
+ghost use Rattle.normalisable.specs.Laws.{IsLegalOriginal};
+ghost use Rattle.debug_replay.specs.inner.Printing.{printed_outcome};
+ghost use Rattle.debug_replay.specs.ReplayOutcomes.{ReplaysLines, refusal_of_replay};
 
 use ada_printer::{print, text_len};
 use ada_tree::{Program, Types};
@@ -19,7 +23,9 @@ use seq_file::read_seq;
 use std::alloc::Global;
 use syn_event::Numbers;
 
-/// Writes the replay text of a program with these types and numbers and of the sequence that the lines are, and answers 0. Lines that are no
+/// Writes the replay text of a legal original with its types and numbers and of the sequence that the lines are, and answers 0. Whatever the
+/// inputs and the schedule, that text shows nothing but events of the sequence, in order. It can always go on to all that are feasible, and
+/// where it ends it has shown these. Lines that are no
 /// sequence of the program are refused with the fault of the first bad one; so are more events than are replayed, and a text that is longer than
 /// a program that is run. All of the text is made before any of it is put.
 pub fn write_replay<'w, K: Sink>(
@@ -30,6 +36,8 @@ pub fn write_replay<'w, K: Sink>(
     lines: &[u8],
     out: &mut K,
 ) -> Result<u8, Stop<'w>>
+    requires legal { IsLegalOriginal (plain_program program.now) }
+    requires own { Legal (plain_program program.now) types.now numbers.now Original }
     requires length { length lines.now < 2 ^ 32 - 1 }
     requires name { is_upper_name (text_of program.now.names numbers.now.main) ≡ true }
     ensures { Comes (ReplaysLines (plain_program program.now) types.now numbers.now lines.now) Never (K.told out.old) (K.told out.new) (K.faults out.old) (K.faults out.new) result }

@@ -1,3 +1,4 @@
 pub mod replaying
 pub mod imitation
 pub mod telling
+pub mod collecting

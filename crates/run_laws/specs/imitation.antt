@@ -1,3 +1,4 @@
+pub mod Imitating
 pub mod Imitations
 pub mod Shown
 pub mod Told

@@ -1,5 +1,5 @@
 -- What the files of a run, of a judgement or of a replaying give: their bytes in order, and the choices of a run (this project's rules).
-use Rattle.std.specs.Prelude.{◌≡◌, ◌<◌, ◌-◌, ◌^◌, ℕ, List, [], ◌∷◌, ◌++◌, length, Option, option_map, option_to_list, IfSome, ⊤}
+use Rattle.std.specs.Prelude.{◌≡◌, ◌<◌, ◌≤◌, ◌-◌, ◌^◌, ℕ, List, [], ◌∷◌, ◌++◌, length, Option, option_map, option_to_list, IfSome, ⊤}
 use Rattle.debug_outcome.specs.words.Words.{ChoiceSource, NoChoices, ChoicesIn, ChoicesBy}
 use Rattle.debug_outcome.specs.declared.files.loading.ChoiceBytes.{ChoiceBytes}
 use Rattle.debug_outcome.specs.declared.files.loading.ChoiceBytes.TheVariants.{Empty, In, Seeded}
@@ -7,6 +7,7 @@ use Rattle.debug_outcome.specs.declared.files.loading.StartFiles.{StartFiles}
 use Rattle.debug_outcome.specs.declared.files.loading.RunFiles.{RunFiles}
 use Rattle.debug_outcome.specs.declared.files.loading.JudgeFiles.{JudgeFiles}
 use Rattle.debug_outcome.specs.declared.files.loading.ReplayFiles.{ReplayFiles}
+use Rattle.debug_outcome.specs.files.Wanting.{original_bytes}
 
 -- The choices of a run, before any of their lines is read.
 pub data Given : Type 0 where
@@ -69,5 +70,6 @@ IsShortRun files = IsShortStart files.start × AreShortChoices files.choices
 abbrev pub IsShortJudge : JudgeFiles → Type 0
 IsShortJudge files = IsShortStart files.start × IsShort files.sequence.items
 
+-- an original that is replayed has no more bytes than one may have
 abbrev pub IsShortReplay : ReplayFiles → Type 0
-IsShortReplay files = IsShort files.text.items × IsShort files.sequence.items
+IsShortReplay files = (length files.text.items ≤ original_bytes) × IsShort files.sequence.items

@@ -34,22 +34,22 @@ module _ (x : Original) {K : Type 0} (ops : Ops K) (out : K → List ℕ) (Meets
 
   -- ---- the start
 
-  base : IsBase x.p x.IsProper x.lawful (start x)
+  pub base : IsBase x.p x.IsProper x.lawful (start x)
   base = start_base x.p x.IsProper x.lawful x.opening x.opens_so x.proper
 
-  first : IsComeTo x (start x)
+  pub first : IsComeTo x (start x)
   first = record { known = x.known_first; sound = base.sound }
 
-  at_standing : (P : Standing → Type 0) → P Live → P Completed → (t : ℕ) → P (at.seats t).standing
+  pub at_standing : (P : Standing → Type 0) → P Live → P Completed → (t : ℕ) → P (at.seats t).standing
   at_standing P lives over t = ⊎_elim (λ (m : t < x.p.size). subst P (sym (opens.standing t m)) lives) (λ (m : x.p.size ≤ t). subst P (sym (opens.beyond t m)) over) (cases_lt t x.p.size)
 
   at_still : (t : ℕ) → still (at.seats t).standing ≡ (at.seats t).standing
   at_still t = at_standing (λ z. still z ≡ z) refl refl t
 
-  at_suited : IsSuited ops at.seats
+  pub at_suited : IsSuited ops at.seats
   at_suited t = at_standing (λ z. suits z (ops.offer (at.seats t).local) ≡ true) refl refl t
 
-  first_alike : Alike (world_of at).tasks (start x).tasks
+  pub first_alike : Alike (world_of at).tasks (start x).tasks
   first_alike t = ⊎_elim below beyond (cases_lt t x.p.size)
     where
       below : t < x.p.size → IsAlike x ops out Meets Fine imitates t ((world_of at).tasks t) ((start x).tasks t)
@@ -68,11 +68,11 @@ module _ (x : Original) {K : Type 0} (ops : Ops K) (out : K → List ℕ) (Meets
             locals = subst (λ s. LocalsAt x ops out Meets Fine imitates t s (at.seats t).local (x.opening.seats t).local) (sym over) (λ (l : t < x.p.size). absurd (omega (arith, l, m)));
           }
 
-  first_ended : (world_of at).ended ≡ (start x).ended
+  pub first_ended : (world_of at).ended ≡ (start x).ended
   first_ended = opens.ended ∙ sym x.opens_so.ended
 
   -- the states of these worlds
-  at_state : state_of (world_of at) ≡ at
+  pub at_state : state_of (world_of at) ≡ at
   at_state = λ i. record { seats = λ t. record { local = (at.seats t).local; standing = at_still t i }; line = sym opens.line i; ended = at.ended }
 
   opening_state : state_of (start x) ≡ x.opening
@@ -179,7 +179,7 @@ module _ (x : Original) {K : Type 0} (ops : Ops K) (out : K → List ℕ) (Meets
 
   -- ---- a run of the original is a run of the imitation
 
-  follow_moves : (moves : List Move) (v : World K) (w : World x.L) → IsComeTo x w → IsOver x w → Alike v.tasks w.tasks → v.ended ≡ w.ended → AreMoves x.p w moves →
+  pub follow_moves : (moves : List Move) (v : World K) (w : World x.L) → IsComeTo x w → IsOver x w → Alike v.tasks w.tasks → v.ended ≡ w.ended → AreMoves x.p w moves →
       Followed x ops out Meets Fine imitates v (world_after x.p w moves) (happened moves)
   follow_moves [] v w come over alike ended h = record { moves = []; made = tt; same = refl; alike = alike; ended = ended }
   follow_moves (move ∷ moves) v w come over alike ended h =

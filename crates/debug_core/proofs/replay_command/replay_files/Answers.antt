@@ -8,7 +8,20 @@ use Rattle.debug_outcome.proofs.Comings.{comes_more}
 use Rattle.debug_replay.specs.ReplayOutcomes.{ReplaysLines}
 use Rattle.debug_core.specs.LegalTexts.{IsLegalText}
 use Rattle.debug_core.specs.ReplayMeaning.{ReplayMeans}
+use Rattle.debug_core.proofs.Originals.{read_is_original}
 use Rattle.debug_core.proofs.replay_command.replay_files.Goals as goal
+
+pub write_replay-requires-clause-legal : goal.write_replay-requires-clause-legal
+write_replay-requires-clause-legal g c =
+    let p : PProgram = plain_program c.in-Ok.legal.program in
+    let legal : IsLegalText c.args.found.now.text.items Original p c.in-Ok.legal.types c.in-Ok.legal.numbers = subst (λ (text : List ℕ). IsLegalText text Original p c.in-Ok.legal.types c.in-Ok.legal.numbers) c.as_slice.ensures.value c.in-Ok.ensures.program in
+    read_is_original c.args.found.now.text.items p c.in-Ok.legal.types c.in-Ok.legal.numbers c.requires.0 legal
+
+pub write_replay-requires-clause-own : goal.write_replay-requires-clause-own
+write_replay-requires-clause-own g c =
+    let p : PProgram = plain_program c.in-Ok.legal.program in
+    let legal : IsLegalText _ Original p c.in-Ok.legal.types c.in-Ok.legal.numbers = c.in-Ok.ensures.program in
+    legal.legal
 
 pub write_replay-requires-clause-name : goal.write_replay-requires-clause-name
 write_replay-requires-clause-name g c =

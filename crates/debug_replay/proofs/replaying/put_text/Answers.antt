@@ -3,7 +3,7 @@ use Rattle.std.proofs.lemmas.Bool.Decides.{nat_tests}
 use Rattle.ada_tree.specs.PlainProgram.{PProgram, plain_program}
 use Rattle.ada_printer.specs.ProgramText.{program_text}
 use Rattle.debug_outcome.proofs.Comings.{has_put, has_broken}
-use Rattle.debug_replay.specs.ReplayOutcomes.{printed_outcome}
+use Rattle.debug_replay.specs.inner.Printing.{printed_outcome}
 use Rattle.debug_replay.proofs.TextOutcomes.{short_by}
 use Rattle.debug_replay.proofs.replaying.put_text.Goals as goal
 

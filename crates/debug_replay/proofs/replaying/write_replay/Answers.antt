@@ -11,7 +11,9 @@ use Rattle.debug_outcome.specs.declared.stopping.Stop.{Stop}
 use Rattle.debug_outcome.proofs.Comings.{comes_more, stops_come, stops_more}
 use Rattle.debug_outcome.specs.sequences.BadSequences.{IsBadSequence, refusal_of_sequence}
 use Rattle.debug_outcome.proofs.sequences.Telling.{stops_unread}
-use Rattle.debug_replay.specs.ReplayOutcomes.{ReplaysLines, printed_outcome, refusal_of_replay}
+use Rattle.debug_replay.specs.inner.Printing.{printed_outcome, ComeTo}
+use Rattle.debug_replay.specs.ReplayOutcomes.{ReplaysLines, refusal_of_replay}
+use Rattle.debug_replay.proofs.Keeping.{called}
 use Rattle.debug_replay.proofs.TextOutcomes.{one_error, stops_replay, text_called}
 use Rattle.debug_replay.proofs.replaying.write_replay.Goals as goal
 
@@ -23,7 +25,7 @@ returns-in-Err g c =
     (λ (stop : Stop). Comes A Never (g.K.Sink.told c.args.out.now) (g.K.Sink.told c.args.out.now) (g.K.Sink.faults c.args.out.now) (g.K.Sink.faults c.args.out.now) (Err stop))
     (sym c.sequence_failure.ensures)
     (stops_come A Never (g.K.Sink.told c.args.out.now) (g.K.Sink.faults c.args.out.now) (stop_by (refusal_of_sequence c.in-Err.error))
-    (stops_more (IsBadSequence p.names c.args.numbers.now c.args.lines.now) A (stop_by (refusal_of_sequence c.in-Err.error)) (λ o bad. inr bad)
+    (stops_more (IsBadSequence p.names c.args.numbers.now c.args.lines.now) A (stop_by (refusal_of_sequence c.in-Err.error)) (λ o bad. inr (inr bad))
     (stops_unread p.names c.args.numbers.now c.args.lines.now c.in-Err.error c.in-Err.ensures.first_fault)))
 
 pub returns-in-Ok-replay : goal.returns-in-Ok-replay
@@ -32,7 +34,8 @@ returns-in-Ok-replay g c =
     let made : replayed p c.args.types.now c.args.numbers.now c.in-Ok.events.items ≡ Ok (plain_program c.in-Ok-replay.text) = subst (λ (es : List Event). replayed p c.args.types.now c.args.numbers.now es ≡ Ok (plain_program c.in-Ok-replay.text)) c.deref.ensures.value c.in-Ok-replay.ensures.text in
     comes_more (λ o. o ≡ printed_outcome (plain_program c.in-Ok-replay.text)) (ReplaysLines p c.args.types.now c.args.numbers.now c.args.lines.now) Never Never
     (g.K.Sink.told c.args.out.now) (g.K.Sink.told c.put_text.new.out) (g.K.Sink.faults c.args.out.now) (g.K.Sink.faults c.put_text.new.out) c.put_text.result
-    (λ o is. text_called p c.args.types.now c.args.numbers.now c.args.lines.now c.in-Ok.events.items c.in-Ok.ensures.reads (plain_program c.in-Ok-replay.text) o made is) (λ o never. never)
+    (λ o is. called p c.requires.legal c.args.lines.now c.args.types.now c.args.numbers.now c.requires.own o
+    (text_called p c.args.types.now c.args.numbers.now c.args.lines.now c.in-Ok.events.items c.in-Ok.ensures.reads (plain_program c.in-Ok-replay.text) o made is)) (λ o never. never)
     c.put_text.ensures
 
 pub returns : goal.returns
@@ -43,6 +46,7 @@ returns g c =
     (λ (stop : Stop). Comes A Never (g.K.Sink.told c.args.out.now) (g.K.Sink.told c.args.out.now) (g.K.Sink.faults c.args.out.now) (g.K.Sink.faults c.args.out.now) (Err stop))
     (sym c.replay_failure.ensures)
     (stops_come A Never (g.K.Sink.told c.args.out.now) (g.K.Sink.faults c.args.out.now) (stop_by (refusal_of_replay c.in-Err-replay.error))
+    (stops_more (ComeTo p c.args.types.now c.args.numbers.now c.args.lines.now) A (stop_by (refusal_of_replay c.in-Err-replay.error)) (called p c.requires.legal c.args.lines.now c.args.types.now c.args.numbers.now c.requires.own)
     (stops_replay p c.args.types.now c.args.numbers.now c.args.lines.now c.in-Ok.events.items c.in-Ok.ensures.reads c.in-Err-replay.error
     (λ long. one_error {A = Program} (Err c.in-Err-replay.error) c.in-Err-replay.error (TooManyEvents most_events) refl (c.in-Err-replay.ensures.limit (subst (λ (es : List Event). nat_lt most_events (length es) ≡ true) (sym c.deref.ensures.value) long)))
-    (subst (λ (es : List Event). (c.in-Err-replay.error ≡ Memory) ⊎ (nat_lt most_events (length es) ≡ true)) c.deref.ensures.value c.in-Err-replay.ensures.cause)))
+    (subst (λ (es : List Event). (c.in-Err-replay.error ≡ Memory) ⊎ (nat_lt most_events (length es) ≡ true)) c.deref.ensures.value c.in-Err-replay.ensures.cause))))

@@ -1,0 +1,75 @@
+-- The text that is written replays the sequence, and else a limit is passed.
+use Rattle.std.proofs.Common.{◌≡◌, ◌<◌, ◌≤◌, ℕ, Bool, true, false, nat_lt, List, length, inl, inr, refl, sym, ap, ◌∙◌, subst, arith}
+use Rattle.std.proofs.lemmas.Bool.Decides.{nat_tests}
+use Rattle.ada_tree.specs.PlainProgram.{PProgram}
+use Rattle.ada_tree.specs.TypeTable.{TypeTable}
+use Rattle.ada_static_rules.specs.Refusals.{types_in}
+use Rattle.ada_printer.specs.ProgramText.{program_text}
+use Rattle.event_machine.specs.declared.Event.{Event}
+use Rattle.syn_event.specs.declared.numbering.Mode.TheVariants.{Original}
+use Rattle.syn_event.specs.AllNumbers.{all_numbers}
+use Rattle.syn_event.specs.Legal.{Legal}
+use Rattle.syn_event.specs.Numbering.{Numbering}
+use Rattle.seq_file.specs.Files.{SeqReads}
+use Rattle.normal_runs.specs.forms.Normalisable.{numbers_of}
+use Rattle.normalisable.specs.Laws.{IsLegalOriginal}
+use Rattle.read_back.proofs.Whole.{read_back}
+use Rattle.replay_is_legal.proofs.names.Legal.{replay_is_as_promised}
+use Rattle.replay_model.specs.Promised.{IsReplayText}
+use Rattle.replay_model.specs.ReplayTree.{most_events, replay_tree, replayed}
+use Rattle.replay_runs.specs.controls.replayed.Replaying.{ReplaysProgram}
+use Rattle.replay_runs.proofs.controls.replayed.Whole.{legal_texts_replay}
+use Rattle.debug_outcome.specs.files.Wanting.{text_limit}
+use Rattle.debug_outcome.specs.Outcomes.{Outcome}
+use Rattle.debug_replay.specs.inner.Printing.{printed_outcome, replay_outcome, ComeTo}
+use Rattle.debug_replay.specs.ReplayOutcomes.{ReplaysLines}
+use Rattle.debug_replay.proofs.TextOutcomes.{long_by_length, short_by_length, outcome_within, outcome_beyond}
+
+-- What is so of a replay text, with the types and numbers that were found.
+record Holds (p : PProgram) (events : List Event) (types : TypeTable) (numbers : Numbering) : Type 0 where
+  is_text : IsReplayText p types numbers events (replay_tree p types numbers events)
+  replays : ReplaysProgram p (replay_tree p types numbers events) events
+
+module _ (p : PProgram) (legal : IsLegalOriginal p) (lines : List ℕ) where
+  holds_own : (events : List Event) → SeqReads lines (numbers_of p) p.names events → Holds p events (types_in p) (numbers_of p)
+  holds_own events reads = record { is_text = replay_is_as_promised p events legal reads.fit.known; replays = legal_texts_replay p events legal reads.fit.known }
+
+  holds : (types : TypeTable) (numbers : Numbering) → Legal p types numbers Original → (events : List Event) → SeqReads lines numbers p.names events → Holds p events types numbers
+  holds types numbers own =
+      let n : numbers ≡ numbers_of p = own.its_numbers ∙ ap (λ (t : TypeTable). all_numbers t p) own.its_types in
+      subst (λ t. (events : List Event) → SeqReads lines numbers p.names events → Holds p events t numbers) (sym own.its_types)
+      (subst (λ m. (events : List Event) → SeqReads lines m p.names events → Holds p events (types_in p) m) (sym n) holds_own)
+
+  module _ (types : TypeTable) (numbers : Numbering) (own : Legal p types numbers Original) where
+    printed : (events : List Event) (o : Outcome) → SeqReads lines numbers p.names events → length events ≤ most_events → (b : Bool) →
+        nat_lt text_limit (length (program_text (replay_tree p types numbers events))) ≡ b → o ≡ printed_outcome (replay_tree p types numbers events) → ReplaysLines p types numbers lines o
+    printed events o reads few true h is =
+        let more : text_limit < length (program_text (replay_tree p types numbers events)) = grind (arith, nat_tests) in
+        inr (inl (record { events = events; reads = reads; limit = inr (few, more, is ∙ sym (long_by_length (replay_tree p types numbers events) more)) }))
+    printed events o reads few false h is =
+        let k : Holds p events types numbers = holds types numbers own events reads in
+        let short : length (program_text (replay_tree p types numbers events)) ≤ text_limit = grind (arith, nat_tests) in
+        inl (record {
+          events = events;
+          reads = reads;
+          text = replay_tree p types numbers events;
+          is_text = k.is_text;
+          read_back = read_back (replay_tree p types numbers events) k.is_text.placed;
+          replays = k.replays;
+          few = few;
+          short = short;
+          is = is ∙ sym (short_by_length (replay_tree p types numbers events) short);
+        })
+
+    within : (events : List Event) (o : Outcome) → SeqReads lines numbers p.names events → (b : Bool) → nat_lt most_events (length events) ≡ b → o ≡ replay_outcome (replayed p types numbers events) → ReplaysLines p types numbers lines o
+    within events o reads true h is =
+        let more : most_events < length events = grind (arith, nat_tests) in
+        inr (inl (record { events = events; reads = reads; limit = inl (more, is ∙ outcome_beyond p types numbers events more) }))
+    within events o reads false h is =
+        let few : length events ≤ most_events = grind (arith, nat_tests) in
+        printed events o reads few _ refl (is ∙ outcome_within p types numbers events few)
+
+    -- an outcome that the code comes to is one for which the lines call
+    pub called : (o : Outcome) → ComeTo p types numbers lines o → ReplaysLines p types numbers lines o
+    called o (inl h) = within h.events o h.reads _ refl h.is
+    called o (inr h) = inr (inr h)

@@ -1,0 +1,18 @@
+//! The law of collecting, over abstract tasks: what one task of a collecting program owes, and what all runs of such a program then show.
+//! The crate has no functions of its own but the one that carries the law.
+
+ghost use Rattle.run_laws.specs.collecting.Example.{PairIsCollected};
+ghost use Rattle.run_laws.specs.collecting.Told.{LawOfCollecting, MetByAll};
+
+/// Carries the law of collecting, for original tasks with states of the type `L`, collecting ones with states of the type `K`, and witnesses of the types
+/// `V` (of what is known of a world) and `W` (of meeting states). A collecting program has, beside the original's tasks, a recorder that they tell what
+/// they are about to do or have done. Where its tasks do what those of the copy do (`Imitates` in `specs/collecting/Rewritings`), it collects
+/// (`collects`): whatever the schedule, what the recorder has written is the text of the events of some run of the original with the same output of each
+/// task, and part of a line; where the run has ended, of one that ends, and where no action applies any more, of a quiet one, whose outputs are those of
+/// each such run; and each feasible list of events is written in some run, which ends exactly where the list ends. The premises are met by the copy of
+/// every program (`met`), and a program of two tasks with one rendezvous is collected by computation (`example`).
+pub fn laws<L, K, V, W>()
+    ensures collects { LawOfCollecting L K V W }
+    ensures met { MetByAll L V }
+    ensures example { PairIsCollected }
+{}
