@@ -1,6 +1,9 @@
 pub mod Trees
+mod Listed
+mod Named
 mod Rendezvous
 mod Calls
 mod Waits
 mod Raising
 mod Rows
+mod Runs

@@ -52,7 +52,7 @@ use Rattle.rewriting_examples.proofs.replay.Trees.{o, w, n, numbers_in, replay_i
 -- begin
 --    null;
 -- end CALLS;
-abbrev calls : PProgram
+abbrev pub calls : PProgram
 calls = record { names = (predefined ++ (codes "CALLS" ∷ codes "COLOR" ∷ codes "RED" ∷ codes "GREEN" ∷ codes "T" ∷ codes "E" ∷ codes "X" ∷ codes "F" ∷ codes "A" ∷ codes "C" ∷ [])); text_io = false; name = (w 25); decls = (decl_then (DEnumeration (w 26) ((w 27) ∷ (w 28) ∷ []) o) (decl_then (DTask (record { name = (w 29); of_kind = false; entries = ((record { name = (w 30); family = (Some (RMarked (record { mark = (w 26); bounds = None }))); formals = ((record { names = ((w 31) ∷ []); mode = mode.Take; mark = (w 0) }) ∷ []); span = o }) ∷ (record { name = (w 32); family = None; formals = ([]); span = o }) ∷ []); priorities = ([]) }) o) (decl_then (DTask (record { name = (w 33); of_kind = false; entries = ([]); priorities = ([]) }) o) (decl_then (DTaskBody (w 29) no_decl (body (stmt_then (SAccept (accepting (record { entry = (w 30); index = (Some (n 28)); formals = ((record { names = ((w 31) ∷ []); mode = mode.Take; mark = (w 0) }) ∷ []); span = o }) (present (stmt_then (SPutLine ((PWords (codes "E") o) ∷ []) o) no_stmt))) o) (stmt_then (SAccept (accepting (record { entry = (w 32); index = None; formals = ([]); span = o }) absent) o) no_stmt)) no_handler) o) (decl_then (DTaskBody (w 33) (decl_then (DObject ((w 34) ∷ []) false (OPlain (record { mark = (w 26); bounds = None })) (Some (IOne (n 28))) o) no_decl) (body (stmt_then (SConditional (record { task = (record { name = (w 29); index = None }); entry = (w 30); args = (Some (record { first = ((n 34) ∷ []); second = (Some ((EInteger 5 o) ∷ [])) })) }) (stmt_then (SPutLine ((PWords (codes "MET") o) ∷ []) o) no_stmt) (stmt_then (SPutLine ((PWords (codes "ELSE") o) ∷ []) o) no_stmt) o) (stmt_then (STimed (record { task = (record { name = (w 29); index = None }); entry = (w 32); args = None }) no_stmt 1000 (stmt_then (SPutLine ((PWords (codes "LATE") o) ∷ []) o) no_stmt) o) no_stmt)) (handler_then (handler ((w 9) ∷ []) (stmt_then (SPutLine ((PWords (codes "GONE") o) ∷ []) o) no_stmt) o) no_handler)) o) no_decl))))); body = (body (stmt_then (SNull o) no_stmt) no_handler) }
 
 -- It is legal.
@@ -65,7 +65,7 @@ unfolding digits
 calls_is_checked = refl
 
 -- The sequence: C 2 1 1, T 2 2 0, X 2.
-abbrev calls_events : List Event
+abbrev pub calls_events : List Event
 calls_events = event.C 2 1 (pos 1) ∷ event.T 2 2 (pos 0) ∷ event.X 2 ∷ []
 
 -- Its replay text:

@@ -27,7 +27,7 @@ use Rattle.rewriting_examples.proofs.replay.Trees.{o, w, n, numbers_in, replay_i
 -- begin
 --    B.PUT;
 -- end P1;
-abbrev p1 : PProgram
+abbrev pub p1 : PProgram
 p1 = record { names = (predefined ++ (codes "P1" ∷ codes "B" ∷ [])); text_io = false; name = (w 25); decls = (decl_then (DTask (record { name = (w 26); of_kind = false; entries = ((record { name = (w 14); family = None; formals = ([]); span = o }) ∷ []); priorities = ([]) }) o) (decl_then (DTaskBody (w 26) no_decl (body (stmt_then (SAccept (accepting (record { entry = (w 14); index = None; formals = ([]); span = o }) absent) o) no_stmt) no_handler) o) no_decl)); body = (body (stmt_then (SCall (record { task = (record { name = (w 26); index = None }); entry = (w 14); args = None }) o) no_stmt) no_handler) }
 
 -- It is legal.
@@ -40,7 +40,7 @@ unfolding digits
 p1_is_checked = refl
 
 -- The sequence: R 0 1 0, E 1, X 1, Z.
-abbrev p1_events : List Event
+abbrev pub p1_events : List Event
 p1_events = event.R 0 1 (pos 0) ∷ event.E 1 ∷ event.X 1 ∷ event.Z ∷ []
 
 -- Its replay text:
@@ -195,7 +195,7 @@ unfolding digits
 p1_ends_alike = refl
 
 -- A sequence that no run of the program has: the task stands at its accept statement and not at its end. The text shows none of it.
-abbrev p1_early : List Event
+abbrev pub p1_early : List Event
 p1_early = event.X 1 ∷ []
 
 p1_early_shows_fronts : shows_fronts (numbers_in (replay_in p1 p1_early)) p1_early (shown_by (replay_in p1 p1_early) [] 24) ≡ true
@@ -207,7 +207,7 @@ unfolding digits
 p1_early_shows_nothing = refl
 
 -- One whose second event cannot come next by the first: the controller holds before it, and the text shows the front alone.
-abbrev p1_held : List Event
+abbrev pub p1_held : List Event
 p1_held = event.R 0 1 (pos 0) ∷ event.X 1 ∷ []
 
 p1_held_shows_fronts : shows_fronts (numbers_in (replay_in p1 p1_held)) (event.R 0 1 (pos 0) ∷ []) (shown_by (replay_in p1 p1_held) [] 24) ≡ true
