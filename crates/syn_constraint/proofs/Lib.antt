@@ -1,0 +1,11 @@
+pub mod Windows
+pub mod Matched
+pub mod Alike
+pub mod Steps
+pub mod Noted
+pub mod Opened
+pub mod Tallied
+pub mod Worded
+pub mod Numbered
+pub mod Formatted
+pub mod Lined
