@@ -43,16 +43,16 @@ module _ {o : Original} (x : Setting o) where
     own_on t k here same callers closed (OwnBased l q at) = OwnBased l q (here ∙ at)
     own_on t k here same callers closed (OwnCalling l form e i q offers at met) = OwnCalling l form e i q offers (here ∙ at) (same ∙ met)
     own_on t k here same callers closed (OwnOwing l due q at h) = OwnOwing l due q (here ∙ at) (due_on t l due same callers closed h)
-    own_on t k here same callers closed (OwnEnding l v c outer q finishes has at h) =
-        OwnEnding l v c outer q finishes has (here ∙ at) (apart_on t c v (o.p.ops.resumed l v) true h (callers c (ap (λ (y : Seat (Copy o.L)). y.standing) h.at)))
+    own_on t k here same callers closed (OwnEnding l v c outer q finishes has at h together) =
+        OwnEnding l v c outer q finishes has (here ∙ at) (apart_on t c v (o.p.ops.resumed l v) true h (callers c (ap (λ (y : Seat (Copy o.L)). y.standing) h.at))) together
     own_on t k here same callers closed (OwnLeaving l q ends other at) = OwnLeaving l q ends other (here ∙ at)
 
     pub seat_on : (r r' : Copy o.L) (t : ℕ) → IsSame t → AreSame t → StayClosed → ((k : Copy o.L) → Hears x r t k → Hears x r' t k × (heard x r k ≡ heard x r' k)) →
         SeatAt x b w d r t → SeatAt x b' w' d' r' t
     seat_on r r' t s callers closed hears (Free k at own) = Free k (s.there ∙ at) (own_on t k s.here s.met callers closed own)
-    seat_on r r' t s callers closed hears (Telling k at h own) =
+    seat_on r r' t s callers closed hears (Telling k at h own was) =
         let g : Hears x r' t k × (heard x r k ≡ heard x r' k) = hears k h in
-        Telling k (s.there ∙ at) g.0 (subst (OwnAt x b' w' d' t) g.1 (own_on t (heard x r k) s.here s.met callers closed own))
+        Telling k (s.there ∙ at) g.0 (subst (OwnAt x b' w' d' t) g.1 (own_on t (heard x r k) s.here s.met callers closed own)) was
     seat_on r r' t s callers closed hears (Shared a v l at here met) = Shared a v l (s.there ∙ at) (s.here ∙ here) (s.met ∙ met)
     seat_on r r' t s callers closed hears (Apart a v l at free outs same) = Apart a v l (s.there ∙ at)
         (ap (λ (y : Seat o.L). y.standing) s.here ∙ free) (ap (λ (y : Seat o.L). o.out y.local) s.here ∙ outs) (ap (λ (y : Seat o.L). o.p.ops.callers y.local) s.here ∙ same)

@@ -25,25 +25,10 @@ use Rattle.run_laws.specs.collecting.Settings.{Setting, IsOfTask, recorder, twin
 use Rattle.run_laws.specs.collecting.inner.Beside.{IsReached, book_of, heard, Hears, DueAt, OwnAt, OwnBased, OwnCalling, OwnOwing, OwnEnding, OwnLeaving, SeatAt, Free, Telling, Shared, Apart, Gone, RecorderAt, Inv, IsBeside}
 use Rattle.run_laws.proofs.collecting.Reaching.{reached_come, reached_over, reach_event}
 use Rattle.run_laws.proofs.collecting.Frames.{touch_inv}
+use Rattle.run_laws.proofs.collecting.Offered.{nothing_tells, waits_tell, finish_tells, end_tells, abort_tells}
 use Rattle.run_laws.proofs.collecting.Singles.{live_unserved, at_one, of_task}
 use Rattle.run_laws.proofs.collecting.Meetings.{served_once, start_is, served_below, TellingAt, telling_at}
 use Rattle.common_lemmas.proofs.Numbers.{equal_self, unequal_above, unequal_turned}
-
--- no offer is two
-nothing_tells : (note : ℕ) → Nothing ≡ telling note → ⊥
-nothing_tells note h = let p : ◌≡◌ {A = Offer} Nothing (Calls Plain note (pos 0)) = h in cc
-
-waits_tell : {choices : List _} (note : ℕ) → Waits choices ≡ telling note → ⊥
-waits_tell {choices} note h = let p : ◌≡◌ {A = Offer} (Waits choices) (Calls Plain note (pos 0)) = h in cc
-
-finish_tells : (note : ℕ) → Finishes ≡ telling note → ⊥
-finish_tells note h = let p : ◌≡◌ {A = Offer} Finishes (Calls Plain note (pos 0)) = h in cc
-
-end_tells : (note : ℕ) → Ends ≡ telling note → ⊥
-end_tells note h = let p : ◌≡◌ {A = Offer} Ends (Calls Plain note (pos 0)) = h in cc
-
-abort_tells : (v note : ℕ) → Aborts v ≡ telling note → ⊥
-abort_tells v note h = let p : ◌≡◌ {A = Offer} (Aborts v) (Calls Plain note (pos 0)) = h in cc
 
 -- who tells of its end is not the main program
 end_other : (note t : ℕ) → based_offer note t Ends ≡ telling note → (t == 0) ≡ false
@@ -176,7 +161,7 @@ module _ {o : Original} (x : Setting o) (past : List Event) where
         P t = SeatAt x b' (ended_tasks answer b') d'.tasks (Noted c answer b') t
 
         at_c : P c
-        at_c = Telling teller.k (ended_same answer b' c below ∙ teller.at) refl m.own'
+        at_c = Telling teller.k (ended_same answer b' c below ∙ teller.at) refl m.own' teller.was
 
         at_each : (t : ℕ) → ((t == c) ≡ true) ⊎ ((t == s) ≡ true) → P t
         at_each t h = ⊎_elim (λ e. at_one P t c e at_c)
@@ -394,7 +379,7 @@ module _ {o : Original} (x : Setting o) (past : List Event) where
       own_unserved a t k (OwnBased m p at) = ap (λ (f : Seat o.L). is_served_by a f.standing) at
       own_unserved a t k (OwnCalling m form e i p offer at met) = ap (λ (f : Seat o.L). is_served_by a f.standing) at
       own_unserved a t k (OwnOwing m due p at h) = ap (λ (f : Seat o.L). is_served_by a f.standing) at
-      own_unserved a t k (OwnEnding m v u outer p offer has at h) = ap (λ (f : Seat o.L). is_served_by a f.standing) at
+      own_unserved a t k (OwnEnding m v u outer p offer has at h together) = ap (λ (f : Seat o.L). is_served_by a f.standing) at
       own_unserved a t k (OwnLeaving m p offer other at) = ap (λ (f : Seat o.L). is_served_by a f.standing) at
 
       -- The task s is served by c in both.
@@ -409,7 +394,7 @@ module _ {o : Original} (x : Setting o) (past : List Event) where
         where
           go : SeatAt x b w.tasks d.tasks (Writing c b note done []) s → SharedAt s
           go (Free j at own') = absurd (true≢false (sym h ∙ own_unserved c s j own'))
-          go (Telling j at hears own') = absurd (true≢false (sym h ∙ own_unserved c s j own'))
+          go (Telling j at hears own' was) = absurd (true≢false (sym h ∙ own_unserved c s j own'))
           go (Shared a v m at there met) =
               let n : a ≡ c = eqb-true a c (ap (λ (f : Seat o.L). is_served_by c f.standing) (sym there) ∙ h) in
               record {
@@ -443,7 +428,8 @@ module _ {o : Original} (x : Setting o) (past : List Event) where
         parts_done : Goal false (recorded b (AtFinish c))
         parts_done = pair_done s serves_s open_s (recorded b (AtFinish c)) (E c) (live (o.p.ops.finished l)) (live (o.p.ops.resumed l v))
             (offers_at o.p.ops is_finish (d.tasks c) l here (ap is_finish offer)) refl parted refl refl refl refl (λ u p. refl)
-            (λ at_c at_s. OwnEnding l v s outer (ap (answered o.p false) q ∙ ap (λ f. told c f l) offer) offer has at_c (record { at = at_then; free = at_s; is_met = met }))
+            (λ at_c at_s. OwnEnding l v s outer (ap (answered o.p false) q ∙ ap (λ f. told c f l) offer) offer has at_c (record { at = at_then; free = at_s; is_met = met })
+            (record { d = d; come = reached_come o past d inv.reached; runs = inv.runs; acceptor = here; caller = there }))
             (λ at_s. Apart c v below at_then (ap (λ (f : Seat o.L). f.standing) at_s) (ap (λ (f : Seat o.L). o.out f.local) at_s ∙ x.silent.resumed l v)
             (ap (λ (f : Seat o.L). o.p.ops.callers f.local) at_s ∙ (o.lawful.resumed l v proper proper_s).1))
 
@@ -513,7 +499,7 @@ module _ {o : Original} (x : Setting o) (past : List Event) where
             let calls : calls_in is_any_form x.note (pos 0) (o.p.ops.offer l) ≡ true = ap (calls_in is_any_form x.note (pos 0)) (tells_so (Calling c l) q) ∙ same_member-refl x.note (pos 0) in
             absurd (true≢false (sym (equal_self x.note) ∙ (of_task x past (Writing c b note done []) d w inv c l x.note (pos 0) here calls).other))
         go (OwnOwing l due q here h) = due_ends l due q here h
-        go (OwnEnding l v u outer q offer has here h) = absurd (finish_tells x.note (tells_so (Ending c l) q))
+        go (OwnEnding l v u outer q offer has here h together) = absurd (finish_tells x.note (tells_so (Ending c l) q))
         go (OwnLeaving l q offer other here) = absurd (end_tells x.note (tells_so (Leaving c l) q))
 
   -- ---- all steps of the recorder

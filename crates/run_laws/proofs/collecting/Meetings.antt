@@ -14,11 +14,11 @@ use Rattle.run_laws.proofs.replaying.Facts.{put, put_self, put_other, let_go, le
 use Rattle.run_laws.proofs.replaying.Silently.{met_is}
 use Rattle.run_laws.proofs.replaying.Parting.{parted_is}
 use Rattle.run_laws.specs.collecting.Notes.{Book, line_of, pieces}
-use Rattle.run_laws.specs.collecting.Copies.{Begun, Upset, Copy, Based, Calling, Owing, Ending, Leaving, Recording, Writing, Noted, telling, upset, note_of, copy_offer, answered, returned}
+use Rattle.run_laws.specs.collecting.Copies.{Begun, Upset, Copy, Based, Calling, Owing, Ending, Leaving, Recording, Writing, Noted, under, telling, upset, note_of, copy_offer, answered, returned}
 use Rattle.run_laws.specs.collecting.Settings.{Setting, IsOfTask, recorder, twin}
-use Rattle.run_laws.specs.collecting.inner.Beside.{book_of, heard, Hears, StandsApart, OwnAt, OwnBased, OwnOwing, SeatAt, Free, Telling, Shared, Apart, Gone, RecorderAt, Inv, IsBeside}
+use Rattle.run_laws.specs.collecting.inner.Beside.{CameFree, book_of, heard, Hears, StandsApart, OwnAt, OwnBased, OwnOwing, SeatAt, Free, Telling, Shared, Apart, Gone, RecorderAt, Inv, IsBeside}
 use Rattle.run_laws.proofs.collecting.Frames.{AreSame, own_on, touch_inv}
-use Rattle.run_laws.proofs.collecting.Offered.{BasedOn, waits_at, CallingOn, TellingOn, calls_at, EndingOn, finish_at, Offers, OffersOwn, OffersRecorder, offers_by}
+use Rattle.run_laws.proofs.collecting.Offered.{BasedOn, waits_at, CallingOn, TellingOn, calls_at, EndingOn, finish_at, Offers, OffersOwn, OffersRecorder, offers_by, came_free}
 use Rattle.run_laws.proofs.collecting.Singles.{live_unserved, at_one, records_on, RecorderOffers, IsRecording, IsNoted, recorder_offers, offers_own, of_task}
 use Rattle.common_lemmas.proofs.Numbers.{equal_self, unequal_above, unequal_turned}
 
@@ -157,7 +157,8 @@ module _ {o : Original} (x : Setting o) (past : List Event) (r : Copy o.L) (d : 
         (λ t j p f h. absurd (subst (λ s. Hears x s t j) q h))
         (λ l. Telling k (pair_last c (recorder x) apart in_c in_r y z) (refl, refl, tells)
         (own_on x (book_of r) b w.tasks heard_tasks d.tasks d.tasks c k refl (ap (λ s. (book_of s).met c) (sym q))
-        (pair_same c (recorder x) apart in_c in_r y z b (λ u. ap (λ s. (book_of s).met u) (sym q)) c (of_c c) (of_r c)) (λ u h. h) own))
+        (pair_same c (recorder x) apart in_c in_r y z b (λ u. ap (λ s. (book_of s).met u) (sym q)) c (of_c c) (of_r c)) (λ u h. h) own)
+        (came_free x past r d w inv c k own tells))
         (λ l. absurd (omega (arith, l)))
         (pair_first c (recorder x) apart in_c in_r y z)
         (subst (λ s. RecorderAt x past w.tasks s) q inv.records, below, ap (λ (s : Seat (Copy o.L)). s.standing) (pair_last c (recorder x) apart in_c in_r y z), refl)
@@ -291,6 +292,7 @@ module _ {o : Original} (x : Setting o) (past : List Event) (r : Copy o.L) (d : 
     pub at : w.tasks c ≡ record { local = k; standing = Served (recorder x) false }
     pub hears : Hears x r c k
     pub own : OwnAt x (book_of r) w.tasks d.tasks c (heard x r k)
+    pub was : CameFree o c (under o.p.ops.nobody k)
 
   pub telling_at : (c : ℕ) → c < o.p.size → (w.tasks c).standing ≡ Served (recorder x) false → TellingAt c
   telling_at c below h = go (inv.seats c below)
@@ -305,7 +307,7 @@ module _ {o : Original} (x : Setting o) (past : List Event) (r : Copy o.L) (d : 
 
       go : SeatAt x (book_of r) w.tasks d.tasks r c → TellingAt c
       go (Free k at own) = absurd (live_unserved (w.tasks c) (recorder x) (live_at c k at) h)
-      go (Telling k at hears own) = record { k = k; at = at; hears = hears; own = own }
+      go (Telling k at hears own was) = record { k = k; at = at; hears = hears; own = own; was = was }
       go (Shared a v l at here met) = by_another a v l at
       go (Apart a v l at free outs same) = by_another a v l at
       go (Gone l at here) = absurd (true≢false (ap is_completed (standing_of (completed (Leaving c l)) at)))

@@ -43,7 +43,7 @@ module _ {o : Original} (x : Setting o) where
 
             go : SeatAt x (book_of r) w.tasks d.tasks r t → is_completed (d.tasks t).standing ≡ true
             go (Free j at own) = clash (live j) at refl
-            go (Telling j at hears own) = clash (record { local = j; standing = Served (recorder x) false }) at refl
+            go (Telling j at hears own was) = clash (record { local = j; standing = Served (recorder x) false }) at refl
             go (Shared a v m at here met) = clash (record { local = Calling t v; standing = Served a false }) at refl
             go (Apart a v m at free outs same) = clash (record { local = Calling t v; standing = Served a false }) at refl
             go (Gone v at here) = ap (λ (z : Seat o.L). is_completed z.standing) here

@@ -8,21 +8,38 @@ use Rattle.event_machine.specs.declared.Choice.{Choice}
 use Rattle.event_machine.specs.declared.Standing.{Standing}
 use Rattle.event_machine.specs.declared.Standing.TheVariants.{Live, Served}
 use Rattle.event_machine.specs.declared.Event.{Event}
-use Rattle.event_machine.specs.Offers.{Offer, Calls, Finishes, Ends, same_member, calls_in, waits_with, is_finish, is_end}
+use Rattle.event_machine.specs.Offers.{Offer, Nothing, Calls, Waits, Aborts, Finishes, Ends, same_member, calls_in, waits_with, is_finish, is_end}
 use Rattle.event_machine.specs.States.{Seat, live, completed, is_live, is_completed}
 use Rattle.event_machine.specs.Worlds.{World, offers, aborts}
 use Rattle.event_machine.proofs.Basics.{same_member-true}
 use Rattle.run_laws.specs.imitation.Imitations.{Original}
 use Rattle.run_laws.proofs.replaying.Facts.{offers_live}
 use Rattle.run_laws.specs.collecting.Notes.{Book}
-use Rattle.run_laws.specs.collecting.Copies.{Copy, Based, Calling, Owing, Ending, Leaving, telling, based_offer, copy_offer}
+use Rattle.run_laws.specs.collecting.Copies.{Copy, Based, Calling, Owing, Ending, Leaving, under, telling, based_offer, copy_offer}
 use Rattle.run_laws.specs.collecting.Settings.{Setting, recorder, twin}
-use Rattle.run_laws.specs.collecting.inner.Beside.{book_of, StandsApart, OwnAt, OwnBased, OwnCalling, OwnOwing, OwnEnding, OwnLeaving, SeatAt, Free, Telling, Shared, Apart, Gone, Inv}
+use Rattle.run_laws.specs.collecting.inner.Beside.{CameFree, CameTogether, book_of, StandsApart, OwnAt, OwnBased, OwnCalling, OwnOwing, OwnEnding, OwnLeaving, SeatAt, Free, Telling, Shared, Apart, Gone, Inv}
+use Rattle.run_laws.proofs.collecting.Reaching.{reached_come}
 use Rattle.run_laws.proofs.collecting.Lawful.{based_passes, based_no_finish}
 
 -- a task that stands so is not live
 pub not_live : {L : Type 0} (seat other : Seat L) → is_live seat.standing ≡ true → seat ≡ other → is_live other.standing ≡ false → ⊥
 not_live seat other h at q = true≢false (sym h ∙ ap (λ (y : Seat _). is_live y.standing) at ∙ q)
+
+-- no offer is two
+pub nothing_tells : (note : ℕ) → Nothing ≡ telling note → ⊥
+nothing_tells note h = let p : ◌≡◌ {A = Offer} Nothing (Calls Plain note (pos 0)) = h in cc
+
+pub waits_tell : {choices : List _} (note : ℕ) → Waits choices ≡ telling note → ⊥
+waits_tell {choices} note h = let p : ◌≡◌ {A = Offer} (Waits choices) (Calls Plain note (pos 0)) = h in cc
+
+pub finish_tells : (note : ℕ) → Finishes ≡ telling note → ⊥
+finish_tells note h = let p : ◌≡◌ {A = Offer} Finishes (Calls Plain note (pos 0)) = h in cc
+
+pub end_tells : (note : ℕ) → Ends ≡ telling note → ⊥
+end_tells note h = let p : ◌≡◌ {A = Offer} Ends (Calls Plain note (pos 0)) = h in cc
+
+pub abort_tells : (v note : ℕ) → Aborts v ≡ telling note → ⊥
+abort_tells v note h = let p : ◌≡◌ {A = Offer} (Aborts v) (Calls Plain note (pos 0)) = h in cc
 
 -- a task that calls before it has told so tells
 based_calls : (note : ℕ) (test : CallForm → Bool) (e : ℕ) (i : ℤ) (t : ℕ) (offer : Offer) → calls_in test e i (based_offer note t offer) ≡ true → based_offer note t offer ≡ telling note
@@ -70,7 +87,7 @@ module _ {o : Original} (x : Setting o) where
         go (OwnBased l q at) = record { l = l; is = q; at = at; passes = based_passes x.note test t (o.p.ops.offer l) tells (passing test (Based t l) q h) }
         go (OwnCalling l form e i q offer at met) = clash (Calling t l) q (ap test offer ∙ calls form e i)
         go (OwnOwing l due q at due') = clash (Owing t due l) q tells
-        go (OwnEnding l v c outer q offer has at apart) = clash (Ending t l) q finishes
+        go (OwnEnding l v c outer q offer has at apart together) = clash (Ending t l) q finishes
         go (OwnLeaving l q offer other at) = clash (Leaving t l) q ends
 
     pub waits_at : (test : Choice → Bool) → waits_with test (copy_offer o.p x.note k) ≡ true → BasedOn (waits_with test)
@@ -107,7 +124,7 @@ module _ {o : Original} (x : Setting o) where
         go (OwnBased l q at) = told (ap (copy_offer o.p x.note) q ∙ based_calls x.note test e i t (o.p.ops.offer l) (passing (calls_in test e i) (Based t l) q h))
         go (OwnCalling l form f j q offer at met) = inl (record { l = l; is = q; at = at; met = met; calls = passing (calls_in test e i) (Calling t l) q h })
         go (OwnOwing l due q at due') = told (ap (copy_offer o.p x.note) q)
-        go (OwnEnding l v c outer q offer has at apart) = clash (Ending t l) q refl
+        go (OwnEnding l v c outer q offer has at apart together) = clash (Ending t l) q refl
         go (OwnLeaving l q offer other at) = clash (Leaving t l) q refl
 
     -- The task is at the end of an accept body, and has told so.
@@ -120,6 +137,7 @@ module _ {o : Original} (x : Setting o) where
       pub has : o.p.ops.callers l ≡ c ∷ outer
       pub at : d t ≡ live (o.p.ops.finished l)
       pub apart : StandsApart x b w d t c v (o.p.ops.resumed l v) true
+      pub together : CameTogether o t c l v
 
     pub finish_at : is_finish (copy_offer o.p x.note k) ≡ true → EndingOn
     finish_at h = go own
@@ -131,7 +149,7 @@ module _ {o : Original} (x : Setting o) where
         go (OwnBased l q at) = clash (Based t l) q (based_no_finish x.note t (o.p.ops.offer l))
         go (OwnCalling l form e i q offer at met) = clash (Calling t l) q (ap is_finish offer)
         go (OwnOwing l due q at due') = clash (Owing t due l) q refl
-        go (OwnEnding l v c outer q offer has at apart) = record { l = l; v = v; c = c; outer = outer; is = q; has = has; at = at; apart = apart }
+        go (OwnEnding l v c outer q offer has at apart together) = record { l = l; v = v; c = c; outer = outer; is = q; has = has; at = at; apart = apart; together = together }
         go (OwnLeaving l q offer other at) = clash (Leaving t l) q refl
 
     -- The task is at its end: it has told so, or is the main program.
@@ -160,7 +178,7 @@ module _ {o : Original} (x : Setting o) where
             inl (record { l = l; is = q; main = g.0; at = at; ends = g.1 })
         go (OwnCalling l form e i q offer at met) = clash (Calling t l) q (ap is_end offer)
         go (OwnOwing l due q at due') = clash (Owing t due l) q refl
-        go (OwnEnding l v c outer q offer has at apart) = clash (Ending t l) q refl
+        go (OwnEnding l v c outer q offer has at apart together) = clash (Ending t l) q refl
         go (OwnLeaving l q offer other at) = inr (record { l = l; is = q; other = other; at = at })
 
   -- ---- in a world
@@ -179,7 +197,7 @@ module _ {o : Original} (x : Setting o) where
           where
             go : SeatAt x (book_of r) w.tasks d.tasks r t → IsFree t
             go (Free k at own) = FreeOwn l k at own
-            go (Telling k at hears own) = absurd (not_live (w.tasks t) (record { local = k; standing = Served (recorder x) false }) h at refl)
+            go (Telling k at hears own was) = absurd (not_live (w.tasks t) (record { local = k; standing = Served (recorder x) false }) h at refl)
             go (Shared a v m at here met) = absurd (not_live (w.tasks t) (record { local = Calling t v; standing = Served a false }) h at refl)
             go (Apart a v m at free outs same) = absurd (not_live (w.tasks t) (record { local = Calling t v; standing = Served a false }) h at refl)
             go (Gone v at here) = absurd (not_live (w.tasks t) (completed (Leaving t v)) h at refl)
@@ -193,6 +211,20 @@ module _ {o : Original} (x : Setting o) where
             go : (s : Standing) → is_live s ≡ true → is_completed s ≡ true → ⊥
             go Live p q = true≢false (sym q)
             go s p q = true≢false (sym p)
+
+    -- who tells was free in the original, in the state where it is
+    pub came_free : (t : ℕ) (k : Copy o.L) → OwnAt x (book_of r) w.tasks d.tasks t k → copy_offer o.p x.note k ≡ telling x.note → CameFree o t (under o.p.ops.nobody k)
+    came_free t k own tells = go own
+      where
+        free : (m : Copy o.L) → k ≡ m → d.tasks t ≡ live (under o.p.ops.nobody m) → CameFree o t (under o.p.ops.nobody k)
+        free m q at = record { d = d; come = reached_come o past d inv.reached; runs = inv.runs; at = at ∙ ap (λ j. live (under o.p.ops.nobody j)) (sym q) }
+
+        go : OwnAt x (book_of r) w.tasks d.tasks t k → CameFree o t (under o.p.ops.nobody k)
+        go (OwnBased l q at) = free (Based t l) q at
+        go (OwnCalling l form e i q offer at met) = free (Calling t l) q at
+        go (OwnOwing l due q at h) = free (Owing t due l) q at
+        go (OwnEnding l v c outer q offer has at h together) = absurd (finish_tells x.note (ap (copy_offer o.p x.note) (sym q) ∙ tells))
+        go (OwnLeaving l q offer other at) = absurd (end_tells x.note (ap (copy_offer o.p x.note) (sym q) ∙ tells))
 
     -- What a test on an offer says: who offers is in such a state.
     pub data Offers (test : Offer → Bool) (t : ℕ) : Type 0 where

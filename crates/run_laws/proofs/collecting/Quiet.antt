@@ -74,7 +74,7 @@ module _ {o : Original} (x : Setting o) (past : List Event) (r : Copy o.L) (d : 
       rests true h = absurd (let p : ◌≡◌ {A = Offer} Nothing (Calls form e i) = sym (o.lawful.rests l h) ∙ offer in cc)
       rests false h = h
   free_told t k at (OwnOwing l due q here h) = absurd (no_telling t k at (ap (copy_offer o.p x.note) q))
-  free_told t k at (OwnEnding l v c outer q offer has here h) = absurd (no_finish t k at (ap (copy_offer o.p x.note) q))
+  free_told t k at (OwnEnding l v c outer q offer has here h together) = absurd (no_finish t k at (ap (copy_offer o.p x.note) q))
   free_told t k at (OwnLeaving l q offer other here) =
       absurd (calm.exit t (both (ap not (ne_eqb t 0 other)) (offers_at (twin x).ops is_end (w.tasks t) k at (ap (λ j. is_end (copy_offer o.p x.note j)) q))))
 
@@ -98,7 +98,7 @@ module _ {o : Original} (x : Setting o) (past : List Event) (r : Copy o.L) (d : 
       go (Free k at own) =
           let (m, here, same, rests) = free_told a k at own in
           alike (ap (λ (y : Seat o.L). is_closed y.standing) here) (ap (λ (y : Seat (Copy o.L)). copy_callers o.p y.local) at ∙ same ∙ ap (λ (y : Seat o.L). o.p.ops.callers y.local) (sym here))
-      go (Telling k at hears own) = hears_nobody a k hears
+      go (Telling k at hears own was) = hears_nobody a k hears
       go (Shared b v m at here met) = alike (ap (λ (y : Seat o.L). is_closed y.standing) here)
           (ap (λ (y : Seat (Copy o.L)). copy_callers o.p y.local) at ∙ ap (λ (y : Seat o.L). o.p.ops.callers y.local) (sym here))
       go (Apart b v m at lives outs same) = alike (ap is_closed lives) (ap (λ (y : Seat (Copy o.L)). copy_callers o.p y.local) at ∙ sym same)
@@ -110,7 +110,7 @@ module _ {o : Original} (x : Setting o) (past : List Event) (r : Copy o.L) (d : 
     where
       go : SeatAt x (book_of r) w.tasks d.tasks r t → o.p.ops.can_step (d.tasks t).local ≡ false
       go (Free k at own) = let (m, here, same, rests) = free_told t k at own in ap (λ (y : Seat o.L). o.p.ops.can_step y.local) here ∙ rests
-      go (Telling k at hears own) = absurd (hears_nobody t k hears)
+      go (Telling k at hears own was) = absurd (hears_nobody t k hears)
       go (Shared a v m at here met) = absurd (true≢false (ap is_live (sym free ∙ ap (λ (y : Seat o.L). y.standing) here)))
       go (Apart a v m at lives outs same) = absurd (not_apart a t m (ap (λ (y : Seat (Copy o.L)). is_served_by a y.standing) at ∙ equal_self a) free)
       go (Gone v at here) = absurd (true≢false (ap is_live (sym free ∙ ap (λ (y : Seat o.L). y.standing) here)))

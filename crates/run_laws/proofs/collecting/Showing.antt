@@ -113,7 +113,7 @@ module _ {o : Original} (x : Setting o) where
     own_output t k (OwnBased l q at) = ap (out_of x) q ∙ ap (λ (y : Seat o.L). o.out y.local) (sym at)
     own_output t k (OwnCalling l form e i q offer at met) = ap (out_of x) q ∙ ap (λ (y : Seat o.L). o.out y.local) (sym at)
     own_output t k (OwnOwing l due q at h) = ap (out_of x) q ∙ ap (λ (y : Seat o.L). o.out y.local) (sym at)
-    own_output t k (OwnEnding l v c outer q offer has at h) = ap (out_of x) q ∙ sym (x.silent.finished l) ∙ ap (λ (y : Seat o.L). o.out y.local) (sym at)
+    own_output t k (OwnEnding l v c outer q offer has at h together) = ap (out_of x) q ∙ sym (x.silent.finished l) ∙ ap (λ (y : Seat o.L). o.out y.local) (sym at)
     own_output t k (OwnLeaving l q offer other at) = ap (out_of x) q ∙ ap (λ (y : Seat o.L). o.out y.local) (sym at)
 
     -- Each task has written what the original's has.
@@ -125,7 +125,7 @@ module _ {o : Original} (x : Setting o) where
 
         go : SeatAt x (book_of r) w.tasks d.tasks r t → out_of x (w.tasks t).local ≡ o.out (d.tasks t).local
         go (Free k at own) = at_state (live k) at ∙ own_output t k own
-        go (Telling k at hears own) = at_state (record { local = k; standing = Served (recorder x) false }) at ∙ sym (out_heard r k) ∙ own_output t (heard x r k) own
+        go (Telling k at hears own was) = at_state (record { local = k; standing = Served (recorder x) false }) at ∙ sym (out_heard r k) ∙ own_output t (heard x r k) own
         go (Shared a v m at here met) = at_state (record { local = Calling t v; standing = Served a false }) at ∙ ap (λ (y : Seat o.L). o.out y.local) (sym here)
         go (Apart a v m at free outs same) = at_state (record { local = Calling t v; standing = Served a false }) at ∙ sym outs
         go (Gone v at here) = at_state (completed (Leaving t v)) at ∙ ap (λ (y : Seat o.L). o.out y.local) (sym here)

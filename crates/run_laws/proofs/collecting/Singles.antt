@@ -93,7 +93,7 @@ module _ {o : Original} (x : Setting o) where
 
         go : SeatAt x (book_of r) w.tasks d.tasks r t → is_closed (d.tasks t).standing ≡ true
         go (Free k at own) = open' (live k) at refl
-        go (Telling k at hears own) = open' (record { local = k; standing = Served (recorder x) false }) at refl
+        go (Telling k at hears own was) = open' (record { local = k; standing = Served (recorder x) false }) at refl
         go (Shared a v m at here met) = open' (record { local = Calling t v; standing = Served a false }) at refl
         go (Apart a v m at free outs same) = open' (record { local = Calling t v; standing = Served a false }) at refl
         go (Gone v at here) = ap (λ (y : Seat o.L). is_closed y.standing) here
@@ -233,5 +233,5 @@ module _ {o : Original} (x : Setting o) where
               record { past = past; r = r; d = d'; inv = inv' }
           go (OwnCalling l form e i q offer here met) = clash (Calling t l) q refl
           go (OwnOwing l due q here due') = clash (Owing t due l) q refl
-          go (OwnEnding l v c outer q offer has here apart) = clash (Ending t l) q refl
+          go (OwnEnding l v c outer q offer has here apart together) = clash (Ending t l) q refl
           go (OwnLeaving l q offer other here) = clash (Leaving t l) q refl

@@ -9,10 +9,10 @@ use Rattle.event_machine.specs.declared.Event.TheVariants.{Z}
 use Rattle.event_machine.specs.Offers.{Calls, Finishes, Ends, calls_in, is_any_form, is_conditional, is_timed, waits_with, opens, is_else, is_delay}
 use Rattle.event_machine.specs.States.{Seat, live, completed, is_closed, is_completed}
 use Rattle.event_machine.specs.Worlds.{World, Move, happens, AreMoves, world_after, happened}
-use Rattle.run_laws.specs.imitation.Imitations.{Original, start}
+use Rattle.run_laws.specs.imitation.Imitations.{Original, start, IsComeTo}
 use Rattle.run_laws.specs.imitation.Imitating.{IsFound}
 use Rattle.run_laws.specs.collecting.Notes.{Book, empty_book, line_of, pieces}
-use Rattle.run_laws.specs.collecting.Copies.{Due, Begun, TookElse, TookDelay, TookOther, Failed, Upset, Copy, Based, Calling, Owing, Ending, Leaving, Opening, Recording, Writing, Noted, telling, copy_offer, note_of, answered}
+use Rattle.run_laws.specs.collecting.Copies.{Due, Begun, TookElse, TookDelay, TookOther, Failed, Upset, Copy, Based, Calling, Owing, Ending, Leaving, Opening, Recording, Writing, Noted, under, telling, copy_offer, note_of, answered}
 use Rattle.run_laws.specs.collecting.Settings.{Setting, recorder, twin, IsProperCopy}
 
 -- Some moves of the original with these events lead to the world.
@@ -21,6 +21,21 @@ pub record IsReached (o : Original) (events : List Event) (d : World o.L) : Type
   pub made : AreMoves o.p (start o) moves
   pub happens : happened moves ≡ events
   pub ends : world_after o.p (start o) moves ≡ d
+
+-- The original came to a world before its end in which the task t was free in this state.
+pub record CameFree (o : Original) (t : ℕ) (l : o.L) : Type 0 where
+  pub d : World o.L
+  pub come : IsComeTo o d
+  pub runs : d.ended ≡ false
+  pub at : d.tasks t ≡ live l
+
+-- The original came to a world before its end in which the task a was free in the state l, and served the task c, in the state v.
+pub record CameTogether (o : Original) (a c : ℕ) (l v : o.L) : Type 0 where
+  pub d : World o.L
+  pub come : IsComeTo o d
+  pub runs : d.ended ≡ false
+  pub acceptor : d.tasks a ≡ live l
+  pub caller : d.tasks c ≡ record { local = v; standing = Served a false }
 
 -- what the recorder keeps where it is in this state
 abbrev pub book_of : {L : Type 0} → Copy L → Book
@@ -82,15 +97,15 @@ module _ {o : Original} (x : Setting o) where
       OwnOwing : (l : o.L) (due : Due o.L) → k ≡ Owing t due l → d t ≡ live l → DueAt t l due → OwnAt t k
       -- the original's rendezvous has ended
       OwnEnding : (l v : o.L) (c : ℕ) (outer : List ℕ) → k ≡ Ending t l → o.p.ops.offer l ≡ Finishes → o.p.ops.callers l ≡ c ∷ outer → d t ≡ live (o.p.ops.finished l) →
-          StandsApart t c v (o.p.ops.resumed l v) true → OwnAt t k
+          StandsApart t c v (o.p.ops.resumed l v) true → CameTogether o t c l v → OwnAt t k
       -- the original's task has completed
       OwnLeaving : (l : o.L) → k ≡ Leaving t l → o.p.ops.offer l ≡ Ends → (t ≡ 0 → ⊥) → d t ≡ completed l → OwnAt t k
 
     -- The original task t, where the recorder is in the state r.
     pub data SeatAt (r : Copy o.L) (t : ℕ) : Type 0 where
       Free : (k : Copy o.L) → w t ≡ live k → OwnAt t k → SeatAt r t
-      -- the recorder serves it
-      Telling : (k : Copy o.L) → w t ≡ record { local = k; standing = Served (recorder x) false } → Hears r t k → OwnAt t (heard r k) → SeatAt r t
+      -- the recorder serves it, and as it told the original was where it is
+      Telling : (k : Copy o.L) → w t ≡ record { local = k; standing = Served (recorder x) false } → Hears r t k → OwnAt t (heard r k) → CameFree o t (under o.p.ops.nobody k) → SeatAt r t
       -- an original task serves it in both, or here alone
       Shared : (a : ℕ) (v : o.L) → a < o.p.size → w t ≡ record { local = Calling t v; standing = Served a false } → d t ≡ record { local = v; standing = Served a false } → b.met t ≡ true → SeatAt r t
       Apart : (a : ℕ) (v : o.L) → a < o.p.size → w t ≡ record { local = Calling t v; standing = Served a false } → (d t).standing ≡ Live →
