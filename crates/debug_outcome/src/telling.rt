@@ -3,10 +3,11 @@
 ghost use Rattle.std.specs.Prelude.{◌≡◌, decimal};
 ghost use Rattle.ded_io.specs.Counts.{HasCause};
 ghost use Rattle.ded_io.specs.Written.{Wrote};
-ghost use Rattle.debug_outcome.specs.Refusals.{refusal_line, first_words, unread_words, fault_name, input_fault_name, named_line, fault_line, place_line, passed_line, text_line, rule_line, misspelling_name, rule_name, type_rule_name, check_rule_name, what_word};
+ghost use Rattle.debug_outcome.specs.Refusals.{refusal_line, first_words, unread_words, fault_name, input_fault_name, constraint_fault_name, named_line, fault_line, place_line, passed_line, text_line, rule_line, misspelling_name, rule_name, type_rule_name, check_rule_name, what_word};
 
 use crate::refusal::{
-    InputFault, Listed, Misspelling, Refusal, Rule, RuleFault, SequenceFault, TextFault,
+    ConstraintFault, InputFault, Listed, Misspelling, Refusal, Rule, RuleFault, SequenceFault,
+    TextFault,
 };
 use ada_check_rules::rules::Rule as CheckRule;
 use ada_static_rules::refusals::Rule as TypeRule;
@@ -43,6 +44,14 @@ pub(crate) fn put_refusal<K: Sink>(refusal: Refusal<'_>, err: &mut K) -> Result<
             put_fault(
                 Refusal::BadChoices { fault, line },
                 input_name_of(fault),
+                line,
+                err,
+            )
+        }
+        Refusal::BadConstraints { fault, line } => {
+            put_fault(
+                Refusal::BadConstraints { fault, line },
+                constraint_name_of(fault),
                 line,
                 err,
             )
@@ -191,6 +200,16 @@ fn input_name_of(fault: InputFault) -> &'static [u8]
     }
 }
 
+// The name of what is wrong with a line of constraints.
+fn constraint_name_of(fault: ConstraintFault) -> &'static [u8]
+    ensures { result.now ≡ constraint_fault_name fault }
+{
+    match fault {
+        ConstraintFault::BadLine => b"BadLine",
+        ConstraintFault::BadNumber => b"BadNumber",
+    }
+}
+
 // The name of what is wrong with a text.
 fn misspelling_name(what: Misspelling) -> &'static [u8]
     ensures { result.now ≡ misspelling_name what }
@@ -292,6 +311,7 @@ fn first_words(refusal: Refusal<'_>) -> &'static [u8]
         Refusal::BadSequence { .. } => b"ded: sequence refused: ",
         Refusal::BadInputs { .. } => b"ded: inputs refused: ",
         Refusal::BadChoices { .. } => b"ded: choices refused: ",
+        Refusal::BadConstraints { .. } => b"ded: constraints refused: ",
         Refusal::Unreadable(_) => unread_words(),
         Refusal::TooLong { .. } => b"ded: limit file ",
         Refusal::TooMany {
@@ -306,6 +326,10 @@ fn first_words(refusal: Refusal<'_>) -> &'static [u8]
             what: Listed::Choices,
             ..
         } => b"ded: limit choices ",
+        Refusal::TooMany {
+            what: Listed::Constraints,
+            ..
+        } => b"ded: limit constraints ",
         Refusal::LongText { .. } => b"ded: limit text ",
     }
 }
