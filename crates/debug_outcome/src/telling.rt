@@ -48,14 +48,7 @@ pub(crate) fn put_refusal<K: Sink>(refusal: Refusal<'_>, err: &mut K) -> Result<
                 err,
             )
         }
-        Refusal::BadConstraints { fault, line } => {
-            put_fault(
-                Refusal::BadConstraints { fault, line },
-                constraint_name_of(fault),
-                line,
-                err,
-            )
-        }
+        Refusal::BadConstraints { fault, line } => put_bad_constraints(fault, line, err),
         Refusal::Unreadable(name) => put_unread(name, err),
         Refusal::TooLong { limit } => put_limit(Refusal::TooLong { limit }, limit, err),
         Refusal::TooMany { what, limit } => {
@@ -63,6 +56,19 @@ pub(crate) fn put_refusal<K: Sink>(refusal: Refusal<'_>, err: &mut K) -> Result<
         }
         Refusal::LongText { limit } => put_limit(Refusal::LongText { limit }, limit, err),
     }
+}
+
+// Writes what is wrong with a line of constraints, and which line that is.
+fn put_bad_constraints<K: Sink>(
+    fault: ConstraintFault,
+    line: u32,
+    err: &mut K,
+) -> Result<(), SinkError>
+    ensures bytes { Wrote result (K.told err.old) (K.told err.new) (refusal_line (Refusal.BadConstraints fault line)) }
+    ensures cause { HasCause (K.faults err.old) (K.faults err.new) result }
+{
+    let refusal = Refusal::BadConstraints { fault, line };
+    put_fault(refusal, constraint_name_of(fault), line, err)
 }
 
 // Writes the name of what is wrong with a line of a file, and which line that is.

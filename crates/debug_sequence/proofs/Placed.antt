@@ -1,0 +1,25 @@
+-- The first event that breaks a constraint stands at its place.
+use Rattle.std.proofs.Common.{◌≡◌, ◌≢◌, ◌-◌, ℕ, ℤ, zero, suc, List, Option, Some, refl, sym, subst, arith}
+use Rattle.std.specs.Prelude.{slice_get, option_map}
+use Rattle.event_machine.specs.declared.Event.{Event}
+use Rattle.syn_constraint.specs.declared.constraints.Constraint.{Constraint}
+use Rattle.syn_constraint.specs.declared.constraints.Constraint.TheVariants.{Before, Most}
+use Rattle.syn_constraint.specs.Breaking.{event_at, BreaksWith, Breaks, IsFirstBreak}
+use Rattle.debug_sequence.specs.RequireOutcomes.{IsFirstBroken}
+use Rattle.debug_sequence.specs.inner.Placing.{broken_with, broken_at}
+
+-- an event that breaks a constraint is there
+there : (constraint : Constraint) (events : List Event) (value : Option ℤ) (k : ℕ) → BreaksWith constraint events value k → (event : Event) × (event_at events k ≡ Some event)
+there (Before early late) events value k h = (h.comes.event, h.comes.there)
+there (Most limit counted opens closes) events value k h = (h.counts.event, h.counts.there)
+
+pub first_placed : (events : List Event) (constraint : Constraint) (k : ℕ) → IsFirstBreak constraint events (Some k) → IsFirstBroken events constraint (broken_at events k)
+first_placed events constraint k first =
+    let (value, among, breaks) = first.0 in
+    let (event, at) = there constraint events value k breaks in
+    subst (λ (o : Option Event). IsFirstBroken events constraint (option_map (broken_with k) o)) (sym at) (first, at)
+
+-- the event at a place, by the index
+pub at_index : (events : List Event) (k : ℕ) → k ≢ 0 → event_at events k ≡ slice_get events (k - 1)
+at_index events zero h = absurd (h refl)
+at_index events (suc k) h = let e : suc k - 1 ≡ k = omega arith in rw e refl
