@@ -1,12 +1,12 @@
 -- What is found of constraints, and of one constraint more.
-use Rattle.std.proofs.Common.{◌≡◌, ◌≤◌, ◌+◌, ℕ, List, [], ◌∷◌, ◌++◌, length, refl, sym, ap, ◌∙◌, subst, arith, length-map}
+use Rattle.std.proofs.Common.{◌≡◌, ◌<◌, ◌+◌, ℕ, List, [], ◌∷◌, ◌++◌, length, take, get_or, Option, sym, ap, ◌∙◌, subst, arith, add-one}
+use Rattle.std.proofs.Math.Seq.{take-suc}
+use Rattle.std.proofs.lemmas.List.{length-take-le}
 use Rattle.event_machine.specs.declared.Event.{Event}
-use Rattle.syn_event.specs.Numbering.{Numbering}
 use Rattle.syn_constraint.specs.declared.constraints.Constraint.{Constraint}
-use Rattle.syn_constraint.specs.Files.{most_constraints, ConstraintsRead}
-use Rattle.syn_constraint.specs.Lines.{constraint_of}
+use Rattle.debug_sequence.specs.declared.requiring.Broken.{Broken}
 use Rattle.debug_sequence.specs.declared.requiring.Finding.{Finding}
-use Rattle.debug_sequence.specs.RequireOutcomes.{IsFinding, AreFindings}
+use Rattle.debug_sequence.specs.RequireOutcomes.{IsFirstBroken, IsFinding, AreFindings}
 
 -- one constraint more
 pub findings_more : (events : List Event) (number : ℕ) (constraints : List Constraint) (findings : List Finding) (constraint : Constraint) (finding : Finding) →
@@ -20,7 +20,12 @@ findings_more events number (c ∷ constraints) (f ∷ findings) constraint find
       (subst (λ (n : ℕ). IsFinding events n constraint finding) (let e : number + (length (c ∷ constraints)) ≡ number + 1 + length constraints = omega arith in e) one),
 )
 
--- a file has no more constraints than one may have
-pub few_constraints : (numbers : Numbering) (bytes : List ℕ) (constraints : List Constraint) → ConstraintsRead numbers bytes constraints → length constraints ≤ most_constraints
-few_constraints numbers bytes constraints h =
-    subst (λ (n : ℕ). n ≤ most_constraints) (sym (ap length h.all ∙ length-map h.lines constraint_of)) h.file.fit.few
+-- the same by the place of that one in a list of constraints
+pub findings_step : (events : List Event) (constraints : List Constraint) (i number : ℕ) (d : Constraint) (findings : List Finding) (broken : Option Broken) → i < length constraints → number ≡ i + 1 →
+    AreFindings events 1 (take i constraints) findings → IsFirstBroken events (get_or constraints i d) broken → AreFindings events 1 (take (i + 1) constraints) (findings ++ record { number = number; broken = broken } ∷ [])
+findings_step events constraints i number d findings broken within counted h first =
+    let one : Finding = record { number = number; broken = broken } in
+    let long : length (take i constraints) ≡ i = length-take-le i constraints (omega (arith, within)) in
+    let is : IsFinding events (1 + length (take i constraints)) (get_or constraints i d) one = record { numbered = omega (arith, long, counted); first = first } in
+    subst (λ (cs : List Constraint). AreFindings events 1 cs (findings ++ one ∷ [])) (sym (ap (λ (n : ℕ). take n constraints) (add-one i) ∙ take-suc constraints i d within))
+    (findings_more events 1 (take i constraints) findings (get_or constraints i d) one h is)

@@ -1,6 +1,5 @@
 -- The first event that breaks a constraint stands at its place.
-use Rattle.std.proofs.Common.{◌≡◌, ◌≢◌, ◌-◌, ℕ, ℤ, zero, suc, List, Option, Some, refl, sym, subst, arith}
-use Rattle.std.specs.Prelude.{slice_get, option_map}
+use Rattle.std.proofs.Common.{◌≡◌, ℕ, ℤ, List, Option, Some, option_map, sym, subst}
 use Rattle.event_machine.specs.declared.Event.{Event}
 use Rattle.syn_constraint.specs.declared.constraints.Constraint.{Constraint}
 use Rattle.syn_constraint.specs.declared.constraints.Constraint.TheVariants.{Before, Most}
@@ -18,8 +17,3 @@ first_placed events constraint k first =
     let (value, among, breaks) = first.0 in
     let (event, at) = there constraint events value k breaks in
     subst (λ (o : Option Event). IsFirstBroken events constraint (option_map (broken_with k) o)) (sym at) (first, at)
-
--- the event at a place, by the index
-pub at_index : (events : List Event) (k : ℕ) → k ≢ 0 → event_at events k ≡ slice_get events (k - 1)
-at_index events zero h = absurd (h refl)
-at_index events (suc k) h = let e : suc k - 1 ≡ k = omega arith in rw e refl

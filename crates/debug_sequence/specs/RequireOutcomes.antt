@@ -59,9 +59,12 @@ line_by number (Some broken) = broken_line number broken
 abbrev pub finding_line : Finding → List ℕ
 finding_line finding = line_by finding.number finding.broken
 
+abbrev pub is_broken : Finding → Bool
+is_broken finding = is_some finding.broken
+
 -- 14 where a constraint is broken, else 0
 abbrev pub findings_status : List Finding → ℕ
-findings_status findings = if list_any (λ finding. is_some finding.broken) findings then 14 else 0
+findings_status findings = if list_any is_broken findings then 14 else 0
 
 -- The outcome tells of each constraint, in order, whether and where first it is broken.
 pub record AreTold (events : List Event) (constraints : List Constraint) (o : Outcome) : Type 0 where

@@ -1,14 +1,14 @@
 //! Which of the constraints in a file the sequence in another breaks.
 
-ghost use Rattle.std.specs.Prelude.{◌≡◌, ◌<◌, ◌-◌, ◌^◌, ◌++◌, [], ◌∷◌, length, true, IfOk, IfErr, option_map, is_some};
+ghost use Rattle.std.specs.Prelude.{◌≡◌, ◌<◌, ◌-◌, ◌^◌, ◌++◌, [], ◌∷◌, length, true, IfOk};
+ghost use Rattle.std.specs.List.{list_any};
 ghost use Rattle.ded_io.specs.Counts.{HasCause};
 ghost use Rattle.ded_io.specs.Written.{Wrote, each_text};
 ghost use Rattle.syn_event.specs.DeclaredTasks.{text_of};
 ghost use Rattle.seq_file.specs.Lines.{is_upper_name};
-ghost use Rattle.syn_constraint.specs.Breaking.{event_at};
 ghost use Rattle.debug_outcome.specs.Coming.{Comes, Never, stop_by};
 ghost use Rattle.debug_outcome.specs.Outcomes.{writes};
-ghost use Rattle.debug_sequence.specs.RequireOutcomes.{RequiresLines, AreFindings, IsFirstBroken, finding_line, broken_line, whole_line, findings_status, refusal_of_constraints};
+ghost use Rattle.debug_sequence.specs.RequireOutcomes.{RequiresLines, AreFindings, IsFirstBroken, is_broken, finding_line, broken_line, whole_line, findings_status, refusal_of_constraints};
 ghost use Rattle.debug_sequence.specs.inner.Placing.{broken_at};
 
 use ada_tree::{Memory, Names};
@@ -27,14 +27,14 @@ const BROKEN: u8 = 14;
 const ALL_HOLD: u8 = 0;
 
 /// The first event that breaks a constraint, and its place in the sequence, from 1.
-#[derive(Clone, Copy, Debug, PartialEq, Eq)]
+#[derive(Clone, Copy)]
 pub struct Broken {
     pub place: u32,
     pub event: Event,
 }
 
 /// What is found of the constraint of this number, from 1: where it is broken first, or nothing.
-#[derive(Clone, Copy, Debug, PartialEq, Eq)]
+#[derive(Clone, Copy)]
 pub struct Finding {
     pub number: u32,
     pub broken: Option<Broken>,
@@ -169,11 +169,23 @@ fn put_report<'w, K: Sink>(findings: &[Finding], out: &mut K) -> Result<u8, Stop
 fn status_of(findings: &[Finding]) -> u8
     ensures { result ≡ findings_status findings.now }
 {
-    if findings.iter().any(|finding| finding.broken.is_some()) {
+    if is_any_broken(findings) {
         BROKEN
     } else {
         ALL_HOLD
     }
+}
+
+fn is_any_broken(findings: &[Finding]) -> bool
+    ensures { result ≡ list_any is_broken findings.now }
+{
+    findings.iter().any(|finding| is_broken(finding))
+}
+
+fn is_broken(finding: &Finding) -> bool
+    ensures { result ≡ is_broken finding.now }
+{
+    finding.broken.is_some()
 }
 
 // Writes a line for each finding.
