@@ -17,7 +17,7 @@ use Rattle.debug_outcome.specs.sequences.BadSequences.{IsBadSequence, refusal_of
 use Rattle.debug_outcome.proofs.Comings.{stops_by, stops_more}
 use Rattle.debug_outcome.proofs.sequences.Telling.{stops_unread}
 use Rattle.debug_sequence.specs.declared.requiring.Finding.{Finding}
-use Rattle.debug_sequence.specs.RequireOutcomes.{AreBadConstraints, AreFindings, RequiresLines, finding_line, findings_status, refusal_of_constraints}
+use Rattle.debug_sequence.specs.RequireOutcomes.{AreFindings, RequiresLines, finding_line, findings_status, refusal_of_constraints}
 
 module _ (names : List (List ℕ)) (numbers : Numbering) (lines bytes : List ℕ) where
   -- the lines are no sequence, or there was no memory for it

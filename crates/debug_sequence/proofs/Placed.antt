@@ -3,7 +3,7 @@ use Rattle.std.proofs.Common.{◌≡◌, ℕ, ℤ, List, Option, Some, option_ma
 use Rattle.event_machine.specs.declared.Event.{Event}
 use Rattle.syn_constraint.specs.declared.constraints.Constraint.{Constraint}
 use Rattle.syn_constraint.specs.declared.constraints.Constraint.TheVariants.{Before, Most}
-use Rattle.syn_constraint.specs.Breaking.{event_at, BreaksWith, Breaks, IsFirstBreak}
+use Rattle.syn_constraint.specs.Breaking.{event_at, BreaksWith, IsFirstBreak}
 use Rattle.debug_sequence.specs.RequireOutcomes.{IsFirstBroken}
 use Rattle.debug_sequence.specs.inner.Placing.{broken_with, broken_at}
 

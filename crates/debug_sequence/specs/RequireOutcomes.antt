@@ -1,5 +1,5 @@
 -- What a sequence and constraints come to: a line for each constraint, or the fault of the first bad line (this project's rules).
-use Rattle.std.specs.Prelude.{◌≡◌, ℕ, ◌+◌, Bool, true, false, List, [], ◌∷◌, codes, decimal, Option, Some, None, is_some, if◌then◌else◌, ⊤, ◌⊎◌}
+use Rattle.std.specs.Prelude.{◌≡◌, ℕ, ◌+◌, Bool, List, [], ◌∷◌, codes, decimal, Option, Some, None, is_some, if◌then◌else◌, ⊤, ◌⊎◌}
 use Rattle.std.specs.List.{list_any}
 use Rattle.ded_io.specs.Written.{◌⧺◌, each_text}
 use Rattle.event_machine.specs.declared.Event.{Event}
