@@ -6,18 +6,21 @@ use Rattle.ada_printer.specs.ProgramText.{program_text}
 use Rattle.syn_event.specs.declared.numbering.Mode.TheVariants.{Original, Any}
 use Rattle.syn_event.specs.Numbering.{Numbering}
 use Rattle.debug_run.specs.texts.CheckText.{check_text}
-use Rattle.debug_outcome.specs.words.Words.{Asked, AsksPrint, AsksCheck, AsksRun, AsksJudge, AsksReplay, NoChoices, ChoicesIn, ChoicesBy}
+use Rattle.debug_outcome.specs.words.Words.{Asked, AsksPrint, AsksCheck, AsksRun, AsksJudge, AsksReplay, AsksRequire, NoChoices, ChoicesIn, ChoicesBy}
 use Rattle.debug_outcome.specs.files.Giving.{Given, NothingGiven, BytesGiven, SeedGiven}
 use Rattle.debug_outcome.specs.Outcomes.{Outcome, writes}
 use Rattle.debug_judge.specs.JudgeOutcomes.{SequenceMeans}
 use Rattle.debug_replay.specs.ReplayOutcomes.{ReplaysLines}
 use Rattle.debug_replay.proofs.OneReplay.{one_replay}
+use Rattle.debug_sequence.specs.RequireOutcomes.{RequiresLines}
+use Rattle.debug_sequence.proofs.OneRequire.{one_require}
 use Rattle.debug_core.specs.Answers.{Means}
 use Rattle.debug_core.specs.CheckMeaning.{CheckMeans}
 use Rattle.debug_core.specs.ChosenRuns.{RunsUnder}
 use Rattle.debug_core.specs.JudgeMeaning.{JudgeMeans}
 use Rattle.debug_core.specs.PrintMeaning.{PrintMeans}
 use Rattle.debug_core.specs.ReplayMeaning.{ReplayMeans}
+use Rattle.debug_core.specs.RequireMeaning.{RequireMeans}
 use Rattle.debug_core.specs.RunMeaning.{RunMeans}
 use Rattle.debug_core.proofs.OneJudged.{one_judged}
 use Rattle.debug_core.proofs.OneRun.{one_under}
@@ -67,6 +70,15 @@ one_replayed text lines o q (inl h) (inr k) = absurd (legal_or_not text Original
 one_replayed text lines o q (inr h) (inl k) = absurd (legal_or_not text Original k.program k.types k.numbers o k.is_legal h)
 one_replayed text lines o q (inr h) (inr k) = one_refused_text text Original o q h k
 
+one_required : (text lines constraints : List ℕ) (o q : Outcome) → RequireMeans text lines constraints o → RequireMeans text lines constraints q → o ≡ q
+one_required text lines constraints o q (inl h) (inl k) =
+    one_require k.program.names k.numbers (are_short k.program k.types k.numbers Original k.is_legal.legal)
+    (main_is_upper k.program k.types k.numbers Original (read_is_placed text k.program k.is_legal.is_read.reads) k.is_legal.legal) lines constraints o q
+    (legal_carries text Original h.program k.program h.types k.types h.numbers k.numbers h.is_legal k.is_legal (λ p types numbers. RequiresLines p.names numbers lines constraints o) h.required) k.required
+one_required text lines constraints o q (inl h) (inr k) = absurd (legal_or_not text Original h.program h.types h.numbers q h.is_legal k)
+one_required text lines constraints o q (inr h) (inl k) = absurd (legal_or_not text Original k.program k.types k.numbers o k.is_legal h)
+one_required text lines constraints o q (inr h) (inr k) = one_refused_text text Original o q h k
+
 pub one_meant : (asked : Asked) (contents : List (List ℕ)) (o q : Outcome) → Means asked contents o → Means asked contents q → o ≡ q
 one_meant (AsksPrint file) (text ∷ []) o q h k = one_printed text o q h k
 one_meant (AsksCheck file) (text ∷ []) o q h k = one_checked text o q h k
@@ -79,4 +91,5 @@ one_meant (AsksRun file (Some list) (ChoicesBy seed) turns) (text ∷ inputs ∷
 one_meant (AsksJudge file None sequence bound) (text ∷ lines ∷ []) o q h k = one_verdict text None lines bound o q h k
 one_meant (AsksJudge file (Some list) sequence bound) (text ∷ inputs ∷ lines ∷ []) o q h k = one_verdict text (Some inputs) lines bound o q h k
 one_meant (AsksReplay file sequence) (text ∷ lines ∷ []) o q h k = one_replayed text lines o q h k
+one_meant (AsksRequire file sequence constraints) (text ∷ lines ∷ bytes ∷ []) o q h k = one_required text lines bytes o q h k
 one_meant asked contents o q h k = absurd h

@@ -1,7 +1,7 @@
 -- What the words and the bytes of the files call for, and what the program answers: such an outcome, delivered (this project's rules).
 use Rattle.std.specs.Prelude.{ℕ, List, [], ◌∷◌, Option, Some, None, ◌⊎◌}
 use Rattle.ded_io.specs.Told.{ToldFile}
-use Rattle.debug_outcome.specs.words.Words.{Asked, AsksPrint, AsksCheck, AsksRun, AsksJudge, AsksReplay, NoChoices, ChoicesIn, ChoicesBy}
+use Rattle.debug_outcome.specs.words.Words.{Asked, AsksPrint, AsksCheck, AsksRun, AsksJudge, AsksReplay, AsksRequire, NoChoices, ChoicesIn, ChoicesBy}
 use Rattle.debug_outcome.specs.declared.words.command.NoWords.{NoWords}
 use Rattle.debug_outcome.specs.declared.words.command.NoWords.TheVariants.{NotText, Memory}
 use Rattle.debug_outcome.specs.Coming.{Never, Tells}
@@ -18,6 +18,7 @@ use Rattle.debug_core.specs.CheckMeaning.{CheckMeans}
 use Rattle.debug_core.specs.RunMeaning.{RunMeans}
 use Rattle.debug_core.specs.JudgeMeaning.{JudgeMeans}
 use Rattle.debug_core.specs.ReplayMeaning.{ReplayMeans}
+use Rattle.debug_core.specs.RequireMeaning.{RequireMeans}
 
 -- These words and these bytes of files, in the order of the words, call for this outcome: one definition a command.
 abbrev pub Means : Asked → List (List ℕ) → Outcome → Type 0
@@ -32,6 +33,7 @@ Means (AsksRun file (Some list) (ChoicesBy seed) turns) (text ∷ inputs ∷ [])
 Means (AsksJudge file None sequence bound) (text ∷ lines ∷ []) o = JudgeMeans text None lines bound o
 Means (AsksJudge file (Some list) sequence bound) (text ∷ inputs ∷ lines ∷ []) o = JudgeMeans text (Some inputs) lines bound o
 Means (AsksReplay file sequence) (text ∷ lines ∷ []) o = ReplayMeans text lines o
+Means (AsksRequire file sequence constraints) (text ∷ lines ∷ bytes ∷ []) o = RequireMeans text lines bytes o
 Means asked contents o = ⊥
 
 -- The bytes of all files were loaded, each by one load and in the order of the words, and with the words they call for the outcome.

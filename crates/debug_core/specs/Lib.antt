@@ -9,6 +9,7 @@ pub mod CheckMeaning
 pub mod RunMeaning
 pub mod JudgeMeaning
 pub mod ReplayMeaning
+pub mod RequireMeaning
 pub mod Answers
 pub mod OneAnswer
 pub mod Headline

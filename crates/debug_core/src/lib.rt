@@ -8,6 +8,7 @@ mod laws;
 mod print_command;
 mod reading;
 mod replay_command;
+mod require_command;
 mod rule_fault;
 mod run_command;
 mod starting;

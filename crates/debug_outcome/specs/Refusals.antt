@@ -8,7 +8,7 @@ use Rattle.ada_check_rules.specs.declared.rules.refusals.Rule.TheVariants as che
 use Rattle.syn_event.specs.declared.limits.What.{What}
 use Rattle.syn_event.specs.declared.limits.What.TheVariants as counted
 use Rattle.debug_outcome.specs.declared.refusal.Refusal.{Refusal}
-use Rattle.debug_outcome.specs.declared.refusal.Refusal.TheVariants.{BadText, BadProgram, Usage, BadSequence, BadInputs, BadChoices, Unreadable, TooLong, TooMany, LongText}
+use Rattle.debug_outcome.specs.declared.refusal.Refusal.TheVariants.{BadText, BadProgram, Usage, BadSequence, BadInputs, BadChoices, BadConstraints, Unreadable, TooLong, TooMany, LongText}
 use Rattle.debug_outcome.specs.declared.refusal.TextFault.{TextFault}
 use Rattle.debug_outcome.specs.declared.refusal.TextFault.TheVariants.{Misspelled, LongToken, TooNested}
 use Rattle.debug_outcome.specs.declared.refusal.Misspelling.{Misspelling}
@@ -21,6 +21,8 @@ use Rattle.debug_outcome.specs.declared.refusal.SequenceFault.{SequenceFault}
 use Rattle.debug_outcome.specs.declared.refusal.SequenceFault.TheVariants as fault
 use Rattle.debug_outcome.specs.declared.refusal.InputFault.{InputFault}
 use Rattle.debug_outcome.specs.declared.refusal.InputFault.TheVariants as input
+use Rattle.debug_outcome.specs.declared.refusal.ConstraintFault.{ConstraintFault}
+use Rattle.debug_outcome.specs.declared.refusal.ConstraintFault.TheVariants as asked
 use Rattle.debug_outcome.specs.declared.refusal.Listed.TheVariants as listed
 
 -- a text that has a fault is refused, and one that passes a limit is told so
@@ -42,6 +44,7 @@ refusal_status Usage = 2
 refusal_status (BadSequence found line) = 3
 refusal_status (BadInputs found line) = 12
 refusal_status (BadChoices found line) = 12
+refusal_status (BadConstraints found line) = 15
 refusal_status (Unreadable name) = 6
 refusal_status (TooLong limit) = 8
 refusal_status (TooMany what limit) = 8
@@ -62,11 +65,13 @@ first_words Usage = codes "ded: usage\n"
 first_words (BadSequence found line) = codes "ded: sequence refused: "
 first_words (BadInputs found line) = codes "ded: inputs refused: "
 first_words (BadChoices found line) = codes "ded: choices refused: "
+first_words (BadConstraints found line) = codes "ded: constraints refused: "
 first_words (Unreadable name) = unread_words
 first_words (TooLong limit) = codes "ded: limit file "
 first_words (TooMany listed.Events limit) = codes "ded: limit events "
 first_words (TooMany listed.Inputs limit) = codes "ded: limit inputs "
 first_words (TooMany listed.Choices limit) = codes "ded: limit choices "
+first_words (TooMany listed.Constraints limit) = codes "ded: limit constraints "
 first_words (LongText limit) = codes "ded: limit text "
 
 -- the line where there was no memory; it stays shut too
@@ -138,6 +143,11 @@ abbrev pub input_fault_name : InputFault → List ℕ
 input_fault_name input.BadLine = codes "BadLine"
 input_fault_name input.UnknownTask = codes "UnknownTask"
 
+-- the name of what is wrong with a line of constraints
+abbrev pub constraint_fault_name : ConstraintFault → List ℕ
+constraint_fault_name asked.BadLine = codes "BadLine"
+constraint_fault_name asked.BadNumber = codes "BadNumber"
+
 -- words, a name and the end of the line
 abbrev pub named_line : List ℕ → List ℕ → List ℕ
 named_line words name = words ⧺ (name ⧺ codes "\n")
@@ -173,6 +183,7 @@ refusal_line Usage = first_words Usage
 refusal_line (BadSequence found line) = fault_line (first_words (BadSequence found line)) (fault_name found) line
 refusal_line (BadInputs found line) = fault_line (first_words (BadInputs found line)) (input_fault_name found) line
 refusal_line (BadChoices found line) = fault_line (first_words (BadChoices found line)) (input_fault_name found) line
+refusal_line (BadConstraints found line) = fault_line (first_words (BadConstraints found line)) (constraint_fault_name found) line
 refusal_line (Unreadable name) = named_line unread_words name.now
 refusal_line (TooLong limit) = named_line (first_words (TooLong limit)) (decimal limit)
 refusal_line (TooMany what limit) = named_line (first_words (TooMany what limit)) (decimal limit)

@@ -12,7 +12,8 @@ pub mod words;
 
 pub use loading::{load_file, load_named};
 pub use refusal::{
-    InputFault, Listed, Misspelling, Refusal, Rule, RuleFault, SequenceFault, TextFault,
+    ConstraintFault, InputFault, Listed, Misspelling, Refusal, Rule, RuleFault, SequenceFault,
+    TextFault,
 };
 pub use stopping::{Stop, tell};
 pub use tracing::TracedFiles;

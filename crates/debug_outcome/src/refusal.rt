@@ -22,6 +22,8 @@ pub enum Refusal<'w> {
     BadInputs { fault: InputFault, line: u32 },
     /// The choices are refused, at a line.
     BadChoices { fault: InputFault, line: u32 },
+    /// The constraints are refused, at a line.
+    BadConstraints { fault: ConstraintFault, line: u32 },
     /// The file of this name cannot be read.
     Unreadable(&'w str),
     /// A file is longer than the limit, in bytes.
@@ -94,12 +96,20 @@ pub enum InputFault {
     UnknownTask,
 }
 
+/// What is wrong with the first bad line of a file of constraints.
+#[derive(Clone, Copy)]
+pub enum ConstraintFault {
+    BadLine,
+    BadNumber,
+}
+
 /// What the files list of which they may have too much.
 #[derive(Clone, Copy)]
 pub enum Listed {
     Events,
     Inputs,
     Choices,
+    Constraints,
 }
 
 impl Refusal<'_> {
@@ -114,6 +124,7 @@ impl Refusal<'_> {
             Refusal::BadSequence { .. } => 3,
             Refusal::BadInputs { .. } => 12,
             Refusal::BadChoices { .. } => 12,
+            Refusal::BadConstraints { .. } => 15,
             Refusal::Unreadable(_) => 6,
             Refusal::TooLong { .. } => 8,
             Refusal::TooMany { .. } => 8,

@@ -3,10 +3,11 @@
 ghost use Rattle.std.specs.Prelude.{◌≡◌, decimal};
 ghost use Rattle.ded_io.specs.Counts.{HasCause};
 ghost use Rattle.ded_io.specs.Written.{Wrote};
-ghost use Rattle.debug_outcome.specs.Refusals.{refusal_line, first_words, unread_words, fault_name, input_fault_name, named_line, fault_line, place_line, passed_line, text_line, rule_line, misspelling_name, rule_name, type_rule_name, check_rule_name, what_word};
+ghost use Rattle.debug_outcome.specs.Refusals.{refusal_line, first_words, unread_words, fault_name, input_fault_name, constraint_fault_name, named_line, fault_line, place_line, passed_line, text_line, rule_line, misspelling_name, rule_name, type_rule_name, check_rule_name, what_word};
 
 use crate::refusal::{
-    InputFault, Listed, Misspelling, Refusal, Rule, RuleFault, SequenceFault, TextFault,
+    ConstraintFault, InputFault, Listed, Misspelling, Refusal, Rule, RuleFault, SequenceFault,
+    TextFault,
 };
 use ada_check_rules::rules::Rule as CheckRule;
 use ada_static_rules::refusals::Rule as TypeRule;
@@ -47,6 +48,7 @@ pub(crate) fn put_refusal<K: Sink>(refusal: Refusal<'_>, err: &mut K) -> Result<
                 err,
             )
         }
+        Refusal::BadConstraints { fault, line } => put_bad_constraints(fault, line, err),
         Refusal::Unreadable(name) => put_unread(name, err),
         Refusal::TooLong { limit } => put_limit(Refusal::TooLong { limit }, limit, err),
         Refusal::TooMany { what, limit } => {
@@ -54,6 +56,19 @@ pub(crate) fn put_refusal<K: Sink>(refusal: Refusal<'_>, err: &mut K) -> Result<
         }
         Refusal::LongText { limit } => put_limit(Refusal::LongText { limit }, limit, err),
     }
+}
+
+// Writes what is wrong with a line of constraints, and which line that is.
+fn put_bad_constraints<K: Sink>(
+    fault: ConstraintFault,
+    line: u32,
+    err: &mut K,
+) -> Result<(), SinkError>
+    ensures bytes { Wrote result (K.told err.old) (K.told err.new) (refusal_line (Refusal.BadConstraints fault line)) }
+    ensures cause { HasCause (K.faults err.old) (K.faults err.new) result }
+{
+    let refusal = Refusal::BadConstraints { fault, line };
+    put_fault(refusal, constraint_name_of(fault), line, err)
 }
 
 // Writes the name of what is wrong with a line of a file, and which line that is.
@@ -191,6 +206,16 @@ fn input_name_of(fault: InputFault) -> &'static [u8]
     }
 }
 
+// The name of what is wrong with a line of constraints.
+fn constraint_name_of(fault: ConstraintFault) -> &'static [u8]
+    ensures { result.now ≡ constraint_fault_name fault }
+{
+    match fault {
+        ConstraintFault::BadLine => b"BadLine",
+        ConstraintFault::BadNumber => b"BadNumber",
+    }
+}
+
 // The name of what is wrong with a text.
 fn misspelling_name(what: Misspelling) -> &'static [u8]
     ensures { result.now ≡ misspelling_name what }
@@ -292,6 +317,7 @@ fn first_words(refusal: Refusal<'_>) -> &'static [u8]
         Refusal::BadSequence { .. } => b"ded: sequence refused: ",
         Refusal::BadInputs { .. } => b"ded: inputs refused: ",
         Refusal::BadChoices { .. } => b"ded: choices refused: ",
+        Refusal::BadConstraints { .. } => b"ded: constraints refused: ",
         Refusal::Unreadable(_) => unread_words(),
         Refusal::TooLong { .. } => b"ded: limit file ",
         Refusal::TooMany {
@@ -306,6 +332,10 @@ fn first_words(refusal: Refusal<'_>) -> &'static [u8]
             what: Listed::Choices,
             ..
         } => b"ded: limit choices ",
+        Refusal::TooMany {
+            what: Listed::Constraints,
+            ..
+        } => b"ded: limit constraints ",
         Refusal::LongText { .. } => b"ded: limit text ",
     }
 }

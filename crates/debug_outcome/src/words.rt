@@ -2,4 +2,6 @@
 
 mod command;
 
-pub use command::{Choices, Command, JudgeWords, NoWords, ReplayWords, RunWords, command_of};
+pub use command::{
+    Choices, Command, JudgeWords, NoWords, ReplayWords, RequireWords, RunWords, command_of,
+};

@@ -1,4 +1,4 @@
--- What the files of a run, of a judgement or of a replaying give: their bytes in order, and the choices of a run (this project's rules).
+-- What the files of a command give: their bytes in order, and the choices of a run (this project's rules).
 use Rattle.std.specs.Prelude.{◌≡◌, ◌<◌, ◌≤◌, ◌-◌, ◌^◌, ℕ, List, [], ◌∷◌, ◌++◌, length, Option, option_map, option_to_list, IfSome, ⊤}
 use Rattle.debug_outcome.specs.words.Words.{ChoiceSource, NoChoices, ChoicesIn, ChoicesBy}
 use Rattle.debug_outcome.specs.declared.files.loading.ChoiceBytes.{ChoiceBytes}
@@ -7,6 +7,7 @@ use Rattle.debug_outcome.specs.declared.files.loading.StartFiles.{StartFiles}
 use Rattle.debug_outcome.specs.declared.files.loading.RunFiles.{RunFiles}
 use Rattle.debug_outcome.specs.declared.files.loading.JudgeFiles.{JudgeFiles}
 use Rattle.debug_outcome.specs.declared.files.loading.ReplayFiles.{ReplayFiles}
+use Rattle.debug_outcome.specs.declared.files.loading.RequireFiles.{RequireFiles}
 use Rattle.debug_outcome.specs.files.Wanting.{original_bytes}
 
 -- The choices of a run, before any of their lines is read.
@@ -52,6 +53,9 @@ judge_contents files = start_contents files.start ++ (files.sequence.items ∷ [
 abbrev pub replay_contents : ReplayFiles → List (List ℕ)
 replay_contents files = files.text.items ∷ files.sequence.items ∷ []
 
+abbrev pub require_contents : RequireFiles → List (List ℕ)
+require_contents files = replay_contents files.sequenced ++ (files.constraints.items ∷ [])
+
 -- there are few enough bytes that each place in them is a number of 32 bits
 abbrev pub IsShort : List ℕ → Type 0
 IsShort bytes = length bytes < 2 ^ 32 - 1
@@ -73,3 +77,6 @@ IsShortJudge files = IsShortStart files.start × IsShort files.sequence.items
 -- an original that is replayed has no more bytes than one may have
 abbrev pub IsShortReplay : ReplayFiles → Type 0
 IsShortReplay files = (length files.text.items ≤ original_bytes) × IsShort files.sequence.items
+
+abbrev pub IsShortRequire : RequireFiles → Type 0
+IsShortRequire files = IsShortReplay files.sequenced × IsShort files.constraints.items

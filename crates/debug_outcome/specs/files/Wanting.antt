@@ -1,6 +1,6 @@
 -- Which files are loaded for what is asked, and how many bytes each may have (this project's rules).
 use Rattle.std.specs.Prelude.{ℕ, List, [], ◌∷◌, ◌++◌, Option}
-use Rattle.debug_outcome.specs.words.Words.{Asked, AsksPrint, AsksCheck, AsksRun, AsksJudge, AsksReplay, ChoiceSource, NoChoices, ChoicesIn, ChoicesBy}
+use Rattle.debug_outcome.specs.words.Words.{Asked, AsksPrint, AsksCheck, AsksRun, AsksJudge, AsksReplay, AsksRequire, ChoiceSource, NoChoices, ChoicesIn, ChoicesBy}
 use Rattle.debug_outcome.specs.Loads.{file_named, files_named}
 use Rattle.debug_outcome.specs.Traces.{Wanted}
 
@@ -8,7 +8,7 @@ use Rattle.debug_outcome.specs.Traces.{Wanted}
 abbrev pub text_limit : ℕ
 text_limit = 33554432
 
--- a program that is checked, judged or replayed, an original, has at most so many bytes (this project's limit)
+-- an original, which is a program that is given to any other command, has at most so many bytes (this project's limit)
 abbrev pub original_bytes : ℕ
 original_bytes = 1048576
 
@@ -23,6 +23,10 @@ sequence_limit = 8388608
 -- a file of choices has at most so many bytes (this project's limit)
 abbrev pub choices_limit : ℕ
 choices_limit = 16777216
+
+-- a file of constraints has at most so many bytes (this project's limit)
+abbrev pub constraints_limit : ℕ
+constraints_limit = 262144
 
 -- choices may stand in a file
 abbrev pub choice_files : ChoiceSource → List Wanted
@@ -45,6 +49,10 @@ judge_files file inputs sequence = start_files file original_bytes inputs ++ (fi
 abbrev pub replay_files : List ℕ → List ℕ → List Wanted
 replay_files file sequence = file_named file original_bytes ∷ file_named sequence sequence_limit ∷ []
 
+-- the original, the sequence and the constraints
+abbrev pub require_files : List ℕ → List ℕ → List ℕ → List Wanted
+require_files file sequence constraints = replay_files file sequence ++ (file_named constraints constraints_limit ∷ [])
+
 -- The files that are loaded for what is asked, in the order of the words.
 abbrev pub wanted_by : Asked → List Wanted
 wanted_by (AsksPrint file) = file_named file text_limit ∷ []
@@ -52,3 +60,4 @@ wanted_by (AsksCheck file) = file_named file original_bytes ∷ []
 wanted_by (AsksRun file inputs choices turns) = run_files file inputs choices
 wanted_by (AsksJudge file inputs sequence bound) = judge_files file inputs sequence
 wanted_by (AsksReplay file sequence) = replay_files file sequence
+wanted_by (AsksRequire file sequence constraints) = require_files file sequence constraints

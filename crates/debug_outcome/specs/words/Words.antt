@@ -23,6 +23,8 @@ pub data Asked : Type 0 where
   AsksJudge : List ℕ → Option (List ℕ) → List ℕ → ℕ → Asked
   -- the replay text of the program in the first file and the sequence in the second
   AsksReplay : List ℕ → List ℕ → Asked
+  -- which of the constraints in the third file the sequence in the second breaks, for the program in the first
+  AsksRequire : List ℕ → List ℕ → List ℕ → Asked
 
 -- the value of decimal digits behind a value so far
 abbrev pub digits_value : ℕ → List ℕ → Option ℕ
@@ -88,6 +90,11 @@ asks_of_one command file =
 abbrev pub asks_of_two : List ℕ → List ℕ → List ℕ → Option Asked
 asks_of_two command file sequence = if bytes_eq command (codes "replay") then Some (AsksReplay file sequence) else None
 
+-- the usage of four words
+abbrev pub asks_of_three : List ℕ → List ℕ → List ℕ → List ℕ → Option Asked
+asks_of_three command file sequence constraints =
+    if bytes_eq command (codes "require") then Some (AsksRequire file sequence constraints) else None
+
 -- the usages of five words
 abbrev pub asks_of_four : List ℕ → List ℕ → List ℕ → List ℕ → List ℕ → Option Asked
 asks_of_four command file inputs other number =
@@ -97,9 +104,10 @@ asks_of_four command file inputs other number =
     then asks_judge file inputs other number
     else None)
 
--- print FILE, check FILE, replay FILE SEQUENCE, run FILE IN CHOICES TURNS, and judge FILE IN SEQUENCE STEPS
+-- print FILE, check FILE, replay FILE SEQUENCE, require FILE SEQUENCE CONSTRAINTS, run FILE IN CHOICES TURNS, and judge FILE IN SEQUENCE STEPS
 abbrev pub asked_by : List (List ℕ) → Option Asked
 asked_by (command ∷ file ∷ []) = asks_of_one command file
 asked_by (command ∷ file ∷ sequence ∷ []) = asks_of_two command file sequence
+asked_by (command ∷ file ∷ sequence ∷ constraints ∷ []) = asks_of_three command file sequence constraints
 asked_by (command ∷ file ∷ inputs ∷ other ∷ number ∷ []) = asks_of_four command file inputs other number
 asked_by _ = None

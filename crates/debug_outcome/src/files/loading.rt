@@ -1,20 +1,20 @@
-//! Loading the files of a run, of a judgement and of a replaying.
+//! Loading the files of a run, of a judgement, of a replaying and of a requiring.
 
 ghost use Rattle.std.specs.Prelude.{◌≡◌, ◌≤◌, ◌<◌, ◌-◌, ◌^◌, is_some, IfOk};
 ghost use Rattle.debug_outcome.specs.words.Commands.{name_as, source_as};
 ghost use Rattle.debug_outcome.specs.Loads.{CameOf};
 ghost use Rattle.debug_outcome.specs.Traces.{HasLoads};
-ghost use Rattle.debug_outcome.specs.files.Giving.{IsGivenBy, given_as, given_bytes, start_contents, run_contents, judge_contents, replay_contents, IsShortStart, AreShortChoices, IsShortRun, IsShortJudge, IsShortReplay};
-ghost use Rattle.debug_outcome.specs.files.Wanting.{choice_files, start_files, run_files, judge_files, replay_files};
+ghost use Rattle.debug_outcome.specs.files.Giving.{IsGivenBy, given_as, given_bytes, start_contents, run_contents, judge_contents, replay_contents, require_contents, IsShortStart, AreShortChoices, IsShortRun, IsShortJudge, IsShortReplay, IsShortRequire};
+ghost use Rattle.debug_outcome.specs.files.Wanting.{choice_files, start_files, run_files, judge_files, replay_files, require_files};
 
-use crate::words::{Choices, JudgeWords, ReplayWords, RunWords};
+use crate::words::{Choices, JudgeWords, ReplayWords, RequireWords, RunWords};
 use crate::{Stop, TracedFiles, load_file, load_named};
 use std::alloc::Global;
 
 /// A program that is printed or run has at most this many bytes, and so has one that is written.
 pub const TEXT_LIMIT: u64 = 33_554_432;
 
-/// A program that is checked, judged or replayed has at most this many bytes.
+/// A program that is given to any other command has at most this many bytes.
 pub const ORIGINAL_LIMIT: u64 = 1_048_576;
 
 /// A file of inputs has at most this many bytes.
@@ -25,6 +25,9 @@ pub const SEQUENCE_LIMIT: u64 = 8_388_608;
 
 /// A file of choices has at most this many bytes.
 pub const CHOICES_LIMIT: u64 = 16_777_216;
+
+/// A file of constraints has at most this many bytes.
+pub const CONSTRAINTS_LIMIT: u64 = 262_144;
 
 /// The bytes of a program, and of a file of inputs if one is named.
 #[derive(Drop)]
@@ -63,6 +66,13 @@ pub struct JudgeFiles {
 pub struct ReplayFiles {
     pub text: Vec<u8>,
     pub sequence: Vec<u8>,
+}
+
+/// The bytes of a program and of a sequence of its events, and of a file of constraints.
+#[derive(Drop)]
+pub struct RequireFiles {
+    pub sequenced: ReplayFiles,
+    pub constraints: Vec<u8>,
 }
 
 /// Loads the files of a run: the program's, that of inputs if it is named, and that of choices if it is.
@@ -127,6 +137,34 @@ pub fn load_replay<'w, F: TracedFiles>(
     };
     match load_file(alloc, asked.sequence, SEQUENCE_LIMIT, files) {
         Ok(sequence) => Ok(ReplayFiles { text, sequence }),
+        Err(stop) => Err(stop),
+    }
+}
+
+/// Loads the files of a requiring: the program's, the sequence's and that of the constraints.
+pub fn load_require<'w, F: TracedFiles>(
+    alloc: Global,
+    asked: RequireWords<'w>,
+    files: &mut F,
+) -> Result<RequireFiles, Stop<'w>>
+    ensures came { HasLoads F.leads files.old files.new (CameOf require_contents (F.told files.old) (F.faults files.old) (F.faults files.new) (require_files asked.entry.file.now asked.entry.sequence.now asked.entry.constraints.now) result) }
+    ensures short { IfOk result IsShortRequire }
+    ensures told_stays { F.told files.new ≡ F.told files.old }
+    ensures count_never_falls { F.faults files.old ≤ F.faults files.new }
+{
+    let words = ReplayWords {
+        file: asked.file,
+        sequence: asked.sequence,
+    };
+    let sequenced = match load_replay(alloc, words, files) {
+        Ok(sequenced) => sequenced,
+        Err(stop) => return Err(stop),
+    };
+    match load_file(alloc, asked.constraints, CONSTRAINTS_LIMIT, files) {
+        Ok(constraints) => Ok(RequireFiles {
+            sequenced,
+            constraints,
+        }),
         Err(stop) => Err(stop),
     }
 }

@@ -1,7 +1,7 @@
 // The words that the program is called with.
 
 ghost use Rattle.std.specs.Prelude.{◌≡◌, ◌≤◌, map, option_map, string_bytes, length};
-ghost use Rattle.debug_outcome.specs.words.Words.{asked_by, asks_of_one, asks_of_two, asks_of_four, asks_run, asks_judge, inputs_of, choice_source, seed_of, number_of, digits_value, begins_well, is_zero};
+ghost use Rattle.debug_outcome.specs.words.Words.{asked_by, asks_of_one, asks_of_two, asks_of_three, asks_of_four, asks_run, asks_judge, inputs_of, choice_source, seed_of, number_of, digits_value, begins_well, is_zero};
 ghost use Rattle.debug_outcome.specs.words.Commands.{asked_as, source_as, name_as};
 
 /// What the words ask for.
@@ -17,6 +17,8 @@ pub enum Command<'w> {
     Judge(JudgeWords<'w>),
     /// The replay text of a program and a sequence of events.
     Replay(ReplayWords<'w>),
+    /// Which constraints a sequence of events breaks.
+    Require(RequireWords<'w>),
 }
 
 /// Where the choices of a run come from.
@@ -56,6 +58,14 @@ pub struct ReplayWords<'w> {
     pub sequence: &'w str,
 }
 
+/// Which of the constraints in a file the sequence in another breaks, for the program in a third.
+#[derive(Clone, Copy)]
+pub struct RequireWords<'w> {
+    pub file: &'w str,
+    pub sequence: &'w str,
+    pub constraints: &'w str,
+}
+
 /// Why there are no words.
 #[derive(Clone, Copy)]
 pub enum NoWords {
@@ -66,8 +76,9 @@ pub enum NoWords {
 }
 
 /// What the words ask for; none where they are no usage. The usages are `print FILE`, `check FILE`, `replay FILE SEQUENCE`,
-/// `run FILE IN CHOICES TURNS` and `judge FILE IN SEQUENCE STEPS`, where IN is a file's name, or `-` for no inputs, and CHOICES a file's name,
-/// `-` for none, or `seed:` and a number from 0 to 18,446,744,073,709,551,615 without leading zeros. It takes no memory.
+/// `require FILE SEQUENCE CONSTRAINTS`, `run FILE IN CHOICES TURNS` and `judge FILE IN SEQUENCE STEPS`, where IN is a file's name, or `-` for no
+/// inputs, and CHOICES a file's name, `-` for none, or `seed:` and a number from 0 to 18,446,744,073,709,551,615 without leading zeros. It takes
+/// no memory.
 #[tactic(auto, using(crate::proofs::words::Usages::no_usage))]
 pub fn command_of<'w>(words: &'w [String]) -> Option<Command<'w>>
     ensures { option_map asked_as result ≡ asked_by (map string_bytes words.now) }
@@ -75,6 +86,14 @@ pub fn command_of<'w>(words: &'w [String]) -> Option<Command<'w>>
     match words {
         [command, file] => of_one(command.as_str(), file.as_str()),
         [command, file, sequence] => { of_two(command.as_str(), file.as_str(), sequence.as_str()) }
+        [command, file, sequence, constraints] => {
+            of_three(
+                command.as_str(),
+                file.as_str(),
+                sequence.as_str(),
+                constraints.as_str(),
+            )
+        }
         [command, file, inputs, other, number] => {
             of_four(
                 command.as_str(),
@@ -86,7 +105,6 @@ pub fn command_of<'w>(words: &'w [String]) -> Option<Command<'w>>
         }
         [] => None,
         [_] => None,
-        [_, _, _, _] => None,
         [_, _, _, _, _, _, ..] => None,
     }
 }
@@ -110,6 +128,26 @@ fn of_two<'w>(command: &str, file: &'w str, sequence: &'w str) -> Option<Command
 {
     if command == "replay" {
         Some(Command::Replay(ReplayWords { file, sequence }))
+    } else {
+        None
+    }
+}
+
+// A command of three words.
+fn of_three<'w>(
+    command: &str,
+    file: &'w str,
+    sequence: &'w str,
+    constraints: &'w str,
+) -> Option<Command<'w>>
+    ensures { option_map asked_as result ≡ asks_of_three command.now file.now sequence.now constraints.now }
+{
+    if command == "require" {
+        Some(Command::Require(RequireWords {
+            file,
+            sequence,
+            constraints,
+        }))
     } else {
         None
     }

@@ -11,3 +11,6 @@ returns-in-Judge g c = rw c.in-Judge.is c.judge_command.ensures
 
 pub returns-in-Replay : goal.returns-in-Replay
 returns-in-Replay g c = rw c.in-Replay.is c.replay_command.ensures
+
+pub returns-in-Require : goal.returns-in-Require
+returns-in-Require g c = rw c.in-Require.is c.require_command.ensures

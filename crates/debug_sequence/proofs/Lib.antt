@@ -1,0 +1,4 @@
+pub mod Placed
+pub mod Found
+pub mod Called
+pub mod OneRequire

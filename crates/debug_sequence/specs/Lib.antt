@@ -1,0 +1,2 @@
+pub mod RequireOutcomes
+pub mod inner
