@@ -9,9 +9,11 @@ mod line_words;
 mod lines;
 mod reading;
 mod stepping;
+mod task_lists;
 mod writing;
 
 pub use errors::SeqError;
 pub use reading::read_seq;
 pub use stepping::SeqLines;
+pub use task_lists::TaskLists;
 pub use writing::write_seq;
