@@ -1,7 +1,7 @@
 -- Sequence files by tasks: for each task the events that touch it (this project's format, number 2).
-use Rattle.std.specs.Prelude.{◌≡◌, ◌≤◌, ◌<◌, ◌+◌, ◌==◌, ℕ, Bool, true, false, not, ◌&&◌, nat_lt, bytes_eq, List, [], ◌∷◌, ◌++◌, length, take, codes, decimal, All, ◌⊎◌, Option, Some, None, is_some, option_and_then, if◌then◌else◌}
+use Rattle.std.specs.Prelude.{◌≡◌, ◌≤◌, ◌<◌, ◌+◌, ◌==◌, ℕ, Bool, true, false, not, ◌&&◌, nat_lt, nat_eq, bytes_eq, List, [], ◌∷◌, ◌++◌, length, codes, decimal, All, ◌⊎◌, Option, Some, None, is_some, option_and_then, if◌then◌else◌}
 use Rattle.std.specs.Option.{option_map_or}
-use Rattle.std.specs.List.{sum_by}
+use Rattle.std.specs.List.{sum_by, starts_with}
 use Rattle.ded_io.specs.Written.{◌⧺◌, each_text}
 use Rattle.event_machine.specs.declared.Event.{Event}
 use Rattle.syn_event.specs.Numbering.{Numbering, original_tasks, original_entries}
@@ -10,9 +10,9 @@ use Rattle.text_lines.specs.Lines.{first_line, words_of}
 use Rattle.text_lines.specs.Numerals.{natural}
 use Rattle.seq_file.specs.declared.errors.SeqError.{SeqError}
 use Rattle.seq_file.specs.declared.errors.SeqError.TheVariants.{BadLine, AfterEnd, TooMany}
-use Rattle.seq_file.specs.Lines.{Header, header_of_format, event_of_line}
+use Rattle.seq_file.specs.Lines.{header_of_format, event_of_line}
 use Rattle.seq_file.specs.Known.{is_known}
-use Rattle.seq_file.specs.Files.{event_line, has_ended, NothingFollowsEnd, fault_of_header, fault_of_event}
+use Rattle.seq_file.specs.Files.{header_end, event_line, has_ended, NothingFollowsEnd, fault_of_header, fault_of_event}
 
 -- ---- texts
 
@@ -22,12 +22,11 @@ most_listed = 700000
 
 -- the bytes begin as a file by tasks does, and are read as one
 abbrev pub is_in_lists : List ℕ → Bool
-is_in_lists bytes = bytes_eq (take 10 bytes) (codes "ded-seq 2 ")
+is_in_lists bytes = starts_with nat_eq bytes (codes "ded-seq 2 ")
 
 -- the first line: the format, the name of the program, and how many tasks beside main and entries the original has
 abbrev pub list_header_line : List (List ℕ) → Numbering → List ℕ
-list_header_line names numbers =
-    codes "ded-seq 2 " ⧺ (text_of names numbers.main ⧺ (codes " " ⧺ (decimal (original_tasks numbers) ⧺ (codes " " ⧺ (decimal (original_entries numbers) ⧺ codes "\n")))))
+list_header_line names numbers = codes "ded-seq 2 " ⧺ header_end names numbers
 
 -- the line that begins the list of a task, with the word that says how many event lines follow
 abbrev pub task_line : ℕ → List ℕ → List ℕ
@@ -105,7 +104,7 @@ abbrev pub next_list_fault : ℕ → ℕ → Bool → ℕ → List ℕ → Optio
 next_list_fault count task ended line rest =
     if nat_lt task count
     then (if begins_list task rest then None
-      else (if ended && not (length rest == 0) then Some (AfterEnd line) else Some (BadLine line)))
+    else (if ended && not (length rest == 0) then Some (AfterEnd line) else Some (BadLine line)))
     else (if length rest == 0 then None else Some (AfterEnd line))
 
 -- The fault of the rest of a file where the list of a task has fewer events than its line asks for, if it has one, given whether Z is among them,
@@ -161,7 +160,9 @@ pub record FailsInList (bytes : List ℕ) (numbers : Numbering) (names : List (L
   pub behind : IsBehindLists bytes numbers names lists list
   pub next : length lists < list_count numbers
   pub at : IsInList numbers (length lists) (listed lists) list asked events rest
-  pub fault : next_event_fault numbers (length lists) (has_ended events) (listed lists + length events) (line_behind lists + length events + 1) rest ≡ Some error
+  pub fault :
+      next_event_fault numbers (length lists) (has_ended events) (listed lists + length events) (line_behind lists + length events + 1) rest
+      ≡ Some error
 
 -- The first fault of a file is this one: its header's, or it stands behind whole lists, or within a list.
 abbrev pub HasFirstListFault : List ℕ → Numbering → List (List ℕ) → SeqError → Type 0
